@@ -1,6 +1,14 @@
-//! What the program is handed: desks, gates and words.
+//! What the program is handed from outside: a desk with its files, and a gate that is told of each block.
 #![tactic(auto)]
 
+mod desk;
+mod gate;
 mod role;
+mod tasks;
+mod word;
 
+pub use desk::{Desk, Failed};
+pub use gate::{FreeGate, Gate, Line};
 pub use role::Role;
+pub use tasks::{Reads, Task};
+pub use word::Word;
