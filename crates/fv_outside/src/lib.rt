@@ -2,13 +2,16 @@
 #![tactic(auto)]
 
 mod desk;
+mod drawer;
 mod gate;
+mod memory_desk;
 mod role;
 mod tasks;
 mod word;
 
 pub use desk::{Desk, Failed};
 pub use gate::{FreeGate, Gate, Line};
+pub use memory_desk::MemoryDesk;
 pub use role::Role;
 pub use tasks::{Reads, Task};
 pub use word::Word;
