@@ -5,10 +5,12 @@ mod desk;
 mod gate;
 mod role;
 mod tasks;
+mod transfer;
 mod word;
 
 pub use desk::{Desk, Failed};
 pub use gate::{FreeGate, Gate, Line};
 pub use role::Role;
 pub use tasks::{Reads, Task};
+pub use transfer::{ReadError, read_up_to, write_all, write_pieces};
 pub use word::Word;
