@@ -1,5 +1,7 @@
 -- What a desk means: its files, the bytes of each role, and its counts.
-use Rattle.std.specs.Prelude.{◌≡◌, ◌≢◌, ℕ, ◌+◌, ◌-◌, ◌^◌, ◌≤◌, suc, min, Bool, IsTrue, List, [], ◌∷◌, Option, Some, None, bytes_eq, if◌then◌else◌}
+use Rattle.std.specs.Prelude.{◌≡◌, ◌≢◌, ℕ, ◌-◌, ◌^◌, ◌≤◌, suc, min, Bool, IsTrue, List, [], ◌∷◌, ◌++◌, Option, Some, None, bytes_eq, if◌then◌else◌}
+use denote.Ref.{Bor}
+use Rattle.std.specs.Prelude.{flat_map}
 use Rattle.fv_outside.specs.declared.role.Role.{Role}
 
 -- a file: its name and its bytes
@@ -71,3 +73,25 @@ pub record KeepsBytes (old new : DeskState) : Type 0 where
   pub left : KeepsLeft old new
   pub written : KeepsWritten old new
   pub begins : KeepsBegins old new
+
+-- nothing was written, and no writing began
+pub record KeepsQuiet (old new : DeskState) : Type 0 where
+  pub goes_on : GoesOn old new
+  pub written : KeepsWritten old new
+  pub begins : KeepsBegins old new
+
+-- ys begins with xs
+pub record IsPrefixOf (xs ys : List ℕ) : Type 0 where
+  pub rest : List ℕ
+  pub is : ys ≡ xs ++ rest
+
+-- these bytes, or a part from their front, were appended to those written of the role, and nothing else was written
+pub record Appends (role : Role) (bytes : List ℕ) (old new : DeskState) : Type 0 where
+  pub goes_on : GoesOn old new
+  pub begins : KeepsBegins old new
+  pub others : KeepsWrittenBut role old new
+  pub appended : IsTrue old.tells → new.written role ≡ old.written role ++ bytes
+
+-- pieces of bytes, one after another
+abbrev pub joined : List (Bor (List ℕ)) → List ℕ
+joined pieces = flat_map (λ piece. piece.now) pieces

@@ -1,8 +1,8 @@
 -- What a gate is told of a block, and when the block's journal is in order.
-use Rattle.std.specs.Prelude.{◌≡◌, ◌≢◌, ◌⊎◌, ℕ, ◌+◌, ◌-◌, ◌<◌, ◌≤◌, Bool, true, ◌&&◌, ◌==◌, List, [], ◌∷◌, ◌++◌, length, Option, IsSome, Contains, AllPairs, IfSome}
+use Rattle.std.specs.Prelude.{◌≡◌, ℕ, ◌+◌, ◌-◌, ◌<◌, ◌≤◌, Bool, true, ◌&&◌, ◌==◌, List, length, Contains, AllPairs}
 use Rattle.fv_outside.specs.declared.tasks.Task.{Task}
 use Rattle.fv_outside.specs.declared.gate.Line.{Line}
-use Rattle.fv_outside.specs.Tasks.{Tasks, bit, total, times, reads_task}
+use Rattle.fv_outside.specs.Tasks.{Tasks, bit, total, reads_task}
 
 -- one block: its tasks, and the journal of who ran them when
 pub record BlockEntry : Type 0 where

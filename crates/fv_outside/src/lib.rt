@@ -7,6 +7,7 @@ mod gate;
 mod memory_desk;
 mod role;
 mod tasks;
+mod transfer;
 mod word;
 
 pub use desk::{Desk, Failed};
@@ -14,4 +15,5 @@ pub use gate::{FreeGate, Gate, Line};
 pub use memory_desk::MemoryDesk;
 pub use role::Role;
 pub use tasks::{Reads, Task};
+pub use transfer::{ReadError, read_up_to, write_all, write_pieces};
 pub use word::Word;
