@@ -1,0 +1,5 @@
+//! Reads a program text of the first form.
+#![tactic(auto)]
+
+mod lexer;
+mod token;
