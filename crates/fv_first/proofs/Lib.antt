@@ -1,2 +1,5 @@
 pub mod Nexts
 pub mod Cutting
+pub mod Reading
+pub mod Growth
+pub mod Chains

@@ -2,4 +2,5 @@
 #![tactic(auto)]
 
 mod lexer;
+mod parser;
 mod token;
