@@ -117,3 +117,11 @@ lexed_end text [] out l e =
       only = λ us c. let (more, is, cut) = l.forth us c in is ∙ ap (λ m. out ++ m) (empty_cut cut refl) ∙ append-nil out;
       short = cut_short whole;
     }
+
+-- a text has one list of tokens
+pub one_cut : {text : List ℕ} {us vs : List Token} → Cuts text us → Cuts text vs → us ≡ vs
+one_cut nothing d = sym (empty_cut d refl)
+one_cut (blank {b = b} {bs = bs} h c) d = one_cut c (cut_blank d b bs refl h)
+one_cut (token w u {rest = behind} s g c) d =
+    let (more, is, cut) = cut_token d u behind (next_is u w behind s g) in
+    ap (λ l. u ∷ l) (one_cut c cut) ∙ sym is

@@ -3,3 +3,4 @@ pub mod Cutting
 pub mod Reading
 pub mod Growth
 pub mod Chains
+pub mod Programs

@@ -138,9 +138,11 @@ anything : Passes (λ _. true) (λ _. Unit {0})
 anything = record { last = λ p k. refl; first = λ p q k. (refl, tt) }
 
 -- two diagrams of the same tokens are the same
-pub one_diagram : {a : List Token} {x y : Diagram} → Spells Sequence a x → Spells Sequence a y → x ≡ y
-one_diagram {a = a} {x = x} {y = y} p q =
-    let e = sym (sequence_is p (λ _. true) (λ _. Unit {0}) [] anything tt) ∙ sequence_is q (λ _. true) (λ _. Unit {0}) [] anything tt in
+pub one_diagram : {a b : List Token} {x y : Diagram} → Spells Sequence a x → Spells Sequence b y → a ++ Semicolon ∷ [] ≡ b ++ Semicolon ∷ [] → x ≡ y
+one_diagram p q e =
+    let first = sequence_is p (λ _. true) (λ _. Unit {0}) [] anything tt in
+    let second = sequence_is q (λ _. true) (λ _. Unit {0}) [] anything tt in
+    let both = ap (reads (λ _. true) [] same (Wants same)) e in
     cc
 
 -- a sequence that takes one stream

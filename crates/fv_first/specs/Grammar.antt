@@ -54,3 +54,18 @@ pub record IsProgram (text : List ℕ) (d : Diagram) : Type 0 where
   pub well : IsWellFormed d
   pub one_input : inputs d ≡ 1
   pub one_output : outputs d ≡ 1
+
+-- No diagram makes the text one of the first form.
+abbrev pub IsNoProgram : List ℕ → Type 0
+IsNoProgram text = (d : Diagram) → IsProgram text d → ⊥
+
+-- A text spells at most one diagram.
+abbrev pub SpelledOnce : Type 0
+SpelledOnce = (text : List ℕ) (d e : Diagram) → IsSpelled text d → IsSpelled text e → d ≡ e
+
+-- the tokens do not begin with `process =`
+abbrev pub NoHead : List Token → Type 0
+NoHead [] = Unit {0}
+NoHead (Process ∷ []) = Unit {0}
+NoHead (Process ∷ Equals ∷ ts) = ⊥
+NoHead (t ∷ ts) = Unit {0}
