@@ -1,0 +1,9 @@
+pub mod CommandWords
+pub mod Texts
+pub mod Loads
+pub mod PlainInputs
+pub mod Samples
+pub mod Sounds
+pub mod Preparing
+pub mod Ending
+pub mod Completing

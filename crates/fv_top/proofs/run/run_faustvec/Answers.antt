@@ -1,0 +1,7 @@
+use Rattle.std.proofs.Common.{map}
+use Rattle.std.specs.Prelude.{string_bytes}
+use Rattle.fv_top.proofs.Completing.{completes}
+use Rattle.fv_top.proofs.run.run_faustvec.Goals as goal
+
+pub returns-clause-complete : goal.returns-clause-complete
+returns-clause-complete g c = completes (map string_bytes c.args.words.now) (g.D.Desk.state c.args.desk.now) (g.D.Desk.state c.perform.new.desk) c.perform.result c.perform.ensures.ends.cause

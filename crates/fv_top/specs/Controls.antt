@@ -1,0 +1,19 @@
+-- The streams of the controls.
+use Rattle.std.specs.Prelude.{ℕ, ◌&&◌, ◌==◌, nat_le, List, [], ◌∷◌, ℤ, pos, if◌then◌else◌}
+use Rattle.fv_num.specs.Words.{argument}
+use Rattle.fv_num.specs.Frames.{Stream}
+
+-- from this frame on the control has this value
+pub record Change : Type 0 where
+  pub frame : ℕ
+  pub control : ℕ
+  pub value : ℤ
+
+-- the value of the last change of control k at time t or before, and this value where there is none
+abbrev pub value_after : List Change → ℤ → (k t : ℕ) → ℤ
+value_after [] value k t = value
+value_after (c ∷ cs) value k t = value_after cs (if (c.control == k) && nat_le c.frame t then c.value else value) k t
+
+-- the stream of control k, where the controls begin at these values (this project's profile)
+abbrev pub control_streams : List Change → (initial : List ℤ) → ℕ → Stream
+control_streams changes initial k t = value_after changes (argument initial k) k t

@@ -1,0 +1,34 @@
+-- Small files, which hold by computing.
+use Rattle.std.specs.Prelude.{◌≡◌, refl, ℕ, List, [], ◌∷◌, ◌++◌, take, pos, negsuc, true, Err, Ok, codes}
+use Rattle.std.specs.Int.{int_wrap, int_max, int_min}
+use Rattle.fv_diagram.specs.declared.node.Primitive.TheVariants.{Wire, Mem}
+use Rattle.fv_diagram.specs.Diagram.{Diagram, Primitive}
+use Rattle.fv_top.specs.declared.status.Cause.TheVariants.{Form, Same}
+use Rattle.fv_top.specs.Words.{command_of}
+use Rattle.fv_top.specs.Wave.{samples_in, data_in, frames_in, is_plain_head}
+use Rattle.fv_top.specs.Promise.{played}
+
+-- one channel of 16 bits at 44100 frames a second, with the samples 1, -2 and 3
+three_samples : List ℕ
+three_samples =
+    82 ∷ 73 ∷ 70 ∷ 70 ∷ 42 ∷ 0 ∷ 0 ∷ 0 ∷ 87 ∷ 65 ∷ 86 ∷ 69 ∷ 102 ∷ 109 ∷ 116 ∷ 32 ∷ 16 ∷ 0 ∷ 0 ∷ 0 ∷ 1 ∷ 0 ∷ 1 ∷ 0 ∷ 68 ∷ 172 ∷ 0 ∷ 0 ∷ 136 ∷ 88 ∷ 1 ∷ 0
+    ∷ 2 ∷ 0 ∷ 16 ∷ 0 ∷ 100 ∷ 97 ∷ 116 ∷ 97 ∷ 6 ∷ 0 ∷ 0 ∷ 0 ∷ 1 ∷ 0 ∷ 254 ∷ 255 ∷ 3 ∷ 0 ∷ []
+
+-- a wire gives the file back
+wire_plays : played (Primitive Wire) three_samples ≡ three_samples
+unfolding three_samples
+wire_plays = refl
+
+head_is_plain : is_plain_head (take 44 three_samples) ≡ true
+unfolding three_samples
+head_is_plain = refl
+
+samples_are : samples_in (data_in three_samples) ≡ pos 1 ∷ negsuc 1 ∷ pos 3 ∷ []
+unfolding three_samples
+samples_are = refl
+
+output_is_input : command_of (codes "faustvec" ∷ codes "run" ∷ codes "p.dsp" ∷ codes "in.wav" ∷ codes "in.wav" ∷ []) ≡ Err Same
+output_is_input = refl
+
+option_is_no_file : command_of (codes "faustvec" ∷ codes "run" ∷ codes "p.dsp" ∷ codes "-" ∷ codes "o.wav" ∷ []) ≡ Err Form
+option_is_no_file = refl

@@ -1,0 +1,50 @@
+-- How the parts of a run end.
+use Rattle.std.specs.Prelude.{◌≡◌, ◌⊎◌, ℕ, IsTrue, List, [], ◌++◌}
+use Rattle.fv_outside.specs.declared.role.Role.TheVariants.{Output, Report}
+use Rattle.fv_outside.specs.Desk.{DeskState, GoesOn, HasFault, IsPrefixOf, Appends}
+use Rattle.fv_top.specs.declared.status.Refusal.{Refusal}
+use Rattle.fv_top.specs.declared.status.Refusal.TheVariants.{Usage, ReadFault, WriteFault, Unsupported, NoMemory}
+use Rattle.fv_top.specs.Lines.{refused_line, done_line}
+use Rattle.fv_top.specs.Promise.{IsUnsupported, HasBegun, KeepsOutput, IfDone, IfRefused, HasPlayed, HasCause, LeavesOutput, Reports}
+use Rattle.fv_top.specs.declared.status.Status.{Status}
+
+-- why there is nothing to write
+abbrev pub StopsPreparing : (program input : List ℕ) → (old new : DeskState) → Refusal → Type 0
+StopsPreparing program input old new (Usage cause) = ⊥
+StopsPreparing program input old new (ReadFault role) = HasFault role old new
+StopsPreparing program input old new (WriteFault role) = ⊥
+StopsPreparing program input old new (Unsupported word) = IsTrue old.tells → IsUnsupported program input old.files word
+StopsPreparing program input old new NoMemory = Unit {0}
+
+-- why it was not written, or not reported
+abbrev pub StopsDelivering : (old new : DeskState) → Refusal → Type 0
+StopsDelivering old new (Usage cause) = ⊥
+StopsDelivering old new (ReadFault role) = ⊥
+StopsDelivering old new (WriteFault role) = HasFault role old new
+StopsDelivering old new (Unsupported word) = ⊥
+StopsDelivering old new NoMemory = ⊥
+
+-- the output as it was, or a part of the file from its front
+abbrev pub LeavesPart : (file : List ℕ) → (old new : DeskState) → Type 0
+LeavesPart file old new = KeepsOutput old new ⊎ (HasBegun old new × (IsTrue old.tells → IsPrefixOf (new.written Output) file))
+
+-- the report as it was, or a part of the line from its front
+pub record LeavesLine (frames : ℕ) (old new : DeskState) (refusal : Refusal) : Type 0 where
+  pub part : List ℕ
+  pub is_part : IsPrefixOf part (done_line frames)
+  pub appended : IsTrue old.tells → new.written Report ≡ old.written Report ++ part
+  pub cause : (part ≡ []) ⊎ (refusal ≡ WriteFault Report)
+
+-- a refusal's line is appended to the report, or a part of it where the report failed
+pub record ReportsLine (refusal : Refusal) (old new : DeskState) : Type 0 where
+  pub line : List ℕ
+  pub is_line : (line ≡ refused_line refusal) ⊎ (IsPrefixOf line (refused_line refusal) × HasFault Report old new)
+  pub appends : Appends Report line old new
+
+-- how a whole run ends
+pub record Ends (words : List (List ℕ)) (old new : DeskState) (status : Status) : Type 0 where
+  pub goes_on : GoesOn old new
+  pub done : IfDone status (λ tally. HasPlayed words tally.frames old new)
+  pub cause : IfRefused status (HasCause words old new)
+  pub output : IfRefused status (λ _. LeavesOutput words old new)
+  pub report : IfRefused status (λ refusal. Reports words refusal old new)

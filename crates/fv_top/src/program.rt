@@ -1,0 +1,69 @@
+// The program's text.
+
+ghost use Rattle.std.specs.Prelude.{◌≡◌, ℕ, ◌<◌, List, length, take, codes, IsTrue, IfOk, IfErr, IsErrOf};
+ghost use Rattle.fv_outside.specs.declared.role.Role.TheVariants.{Program as program_role};
+ghost use Rattle.fv_outside.specs.declared.transfer.ReadError.TheVariants as errors;
+ghost use Rattle.fv_outside.specs.Desk.{KeepsQuiet, HasFault};
+ghost use Rattle.fv_diagram.specs.Arena.{tree_of};
+ghost use Rattle.fv_diagram.specs.Diagram.{HasNoFreeSlot};
+ghost use Rattle.fv_diagram.specs.Emit.{IsPlain};
+ghost use Rattle.fv_first.specs.Grammar.{IsProgram};
+ghost use Rattle.fv_top.specs.Loading.{IsUnspelled, StopsLoading, IsFile, refusal_of_read, IsUnsupportedOrNoMemory};
+
+use crate::status::Refusal;
+use fv_first::{Program, read_program};
+use fv_outside::{Desk, ReadError, Role, Word, read_up_to};
+use std::alloc::{AllocError, Global};
+
+/// A program's text has at most so many bytes, and one byte more shows that it is too long.
+const TEXT_BYTES: usize = 4097;
+
+/// Loads the program of this name.
+#[tactic(auto, using(fv_outside::proofs::States::steps))]
+pub fn load_program<D: Desk>(alloc: Global, desk: &mut D, name: &str) -> Result<Program, Refusal>
+    ensures quiet { KeepsQuiet (D.state desk.old) (D.state desk.new) }
+    ensures spelled { IfOk result (λ p. (text : List ℕ) × IsFile name.now text (D.state desk.old) × IsProgram text (tree_of p.diagrams p.root)) }
+    ensures runs { IfOk result (λ p. (p.root < length p.diagrams) × IsPlain (tree_of p.diagrams p.root) × HasNoFreeSlot (tree_of p.diagrams p.root)) }
+    ensures err { IfErr result (StopsLoading program_role (codes "program") (IsUnspelled name.now (D.state desk.old).files) (D.state desk.old) (D.state desk.new)) }
+{
+    let text = match read_text(alloc, desk, name) {
+        Ok(text) => text,
+        Err(error) => return Err(read_refusal(Role::Program, error)),
+    };
+    match read_program(alloc, &text)? {
+        Some(program) => Ok(program),
+        None => Err(unsupported(alloc, b"program")),
+    }
+}
+
+// The bytes of the text, or its first ones where it is too long.
+#[tactic(auto, using(fv_outside::proofs::States::steps))]
+fn read_text<D: Desk>(alloc: Global, desk: &mut D, name: &str) -> Result<Vec<u8>, ReadError>
+    ensures quiet { KeepsQuiet (D.state desk.old) (D.state desk.new) }
+    ensures bytes { IfOk result (λ v. IsTrue (D.state desk.old).tells →
+        (text : List ℕ) × IsFile name.now text (D.state desk.old) × (v.items ≡ take 4097 text)) }
+    ensures failed { IsErrOf result ReadError.Failed → HasFault program_role (D.state desk.old) (D.state desk.new) }
+{
+    desk.begin_read(Role::Program, name)?;
+    read_up_to(alloc, desk, Role::Program, TEXT_BYTES)
+}
+
+/// The refusal of what could not be read.
+pub fn read_refusal(role: Role, error: ReadError) -> Refusal
+    ensures { result ≡ (refusal_of_read role error) }
+{
+    match error {
+        ReadError::Failed => Refusal::ReadFault { role },
+        ReadError::NoMemory => Refusal::NoMemory,
+    }
+}
+
+/// The refusal of a form that is not supported.
+pub fn unsupported(alloc: Global, word: &[u8]) -> Refusal
+    ensures { IsUnsupportedOrNoMemory word.now result }
+{
+    match Word::new(alloc, word) {
+        Ok(word) => Refusal::Unsupported { word },
+        Err(_) => Refusal::NoMemory,
+    }
+}

@@ -1,0 +1,132 @@
+// The lines of the report.
+
+ghost use Rattle.std.specs.Prelude.{◌≡◌, List, ℕ, ◌++◌, codes, OnOk, OnErr, option_to_list, option_copied};
+ghost use Rattle.fv_outside.specs.declared.role.Role.TheVariants.{Report};
+ghost use Rattle.fv_outside.specs.Desk.{HasFault, IsPrefixOf, Appends};
+ghost use Rattle.fv_top.specs.Lines.{role_word, cause_word, name_of, fields_of, refused_line, done_line};
+
+use crate::status::{Cause, Refusal};
+use fv_outside::{Desk, Failed, Role, write_pieces};
+use itoa::Buffer;
+
+/// Reports a run that is done. A call that fails leaves a part from the line's front.
+pub fn report_done<D: Desk>(desk: &mut D, frames: u32) -> Result<(), Failed>
+    ensures ok { OnOk result (Appends Report (done_line frames) (D.state desk.old) (D.state desk.new)) }
+    ensures err { OnErr result ((part : List ℕ) × IsPrefixOf part (done_line frames) × Appends Report part (D.state desk.old) (D.state desk.new)) }
+    ensures failed { OnErr result (HasFault Report (D.state desk.old) (D.state desk.new)) }
+{
+    let mut buffer = Buffer::new();
+    let digits = buffer.format(frames).as_bytes();
+    write_pieces(
+        desk,
+        Role::Report,
+        &[b"done ".as_slice(), digits, b" frames\n".as_slice()],
+    )
+}
+
+/// Reports a run that was refused. A call that fails leaves a part from the line's front.
+pub fn report_refusal<D: Desk>(desk: &mut D, refusal: &Refusal) -> Result<(), Failed>
+    ensures ok { OnOk result (Appends Report (refused_line refusal.now) (D.state desk.old) (D.state desk.new)) }
+    ensures err { OnErr result ((part : List ℕ) × IsPrefixOf part (refused_line refusal.now) × Appends Report part (D.state desk.old) (D.state desk.new)) }
+    ensures failed { OnErr result (HasFault Report (D.state desk.old) (D.state desk.new)) }
+{
+    let mut buffer = Buffer::new();
+    let number = buffer.format(refusal.number()).as_bytes();
+    let name = refusal_name(refusal).as_bytes();
+    match field(refusal) {
+        None => write_named(desk, number, name),
+        Some(field) => write_described(desk, number, name, field),
+    }
+}
+
+// A line of a number and a name.
+fn write_named<'a, D: Desk>(desk: &mut D, number: &'a [u8], name: &'a [u8]) -> Result<(), Failed>
+    ensures ok { OnOk result (Appends Report (codes "refused " ++ number.now ++ codes " " ++ name.now ++ codes "\n") (D.state desk.old) (D.state desk.new)) }
+    ensures err { OnErr result ((part : List ℕ) × IsPrefixOf part (codes "refused " ++ number.now ++ codes " " ++ name.now ++ codes "\n") × Appends Report part (D.state desk.old) (D.state desk.new)) }
+    ensures failed { OnErr result (HasFault Report (D.state desk.old) (D.state desk.new)) }
+{
+    write_pieces(
+        desk,
+        Role::Report,
+        &[
+            b"refused ".as_slice(),
+            number,
+            b" ".as_slice(),
+            name,
+            b"\n".as_slice(),
+        ],
+    )
+}
+
+// A line of a number, a name and a field.
+fn write_described<'a, D: Desk>(
+    desk: &mut D,
+    number: &'a [u8],
+    name: &'a [u8],
+    field: &'a [u8],
+) -> Result<(), Failed>
+    ensures ok { OnOk result (Appends Report (codes "refused " ++ number.now ++ codes " " ++ name.now ++ codes " " ++ field.now ++ codes "\n") (D.state desk.old) (D.state desk.new)) }
+    ensures err { OnErr result ((part : List ℕ) × IsPrefixOf part (codes "refused " ++ number.now ++ codes " " ++ name.now ++ codes " " ++ field.now ++ codes "\n") × Appends Report part (D.state desk.old) (D.state desk.new)) }
+    ensures failed { OnErr result (HasFault Report (D.state desk.old) (D.state desk.new)) }
+{
+    write_pieces(
+        desk,
+        Role::Report,
+        &[
+            b"refused ".as_slice(),
+            number,
+            b" ".as_slice(),
+            name,
+            b" ".as_slice(),
+            field,
+            b"\n".as_slice(),
+        ],
+    )
+}
+
+// The refusal's name.
+fn refusal_name(refusal: &Refusal) -> &'static str
+    ensures { result.now ≡ name_of refusal.now }
+{
+    match refusal {
+        Refusal::Usage { .. } => "Usage",
+        Refusal::ReadFault { .. } => "ReadFault",
+        Refusal::WriteFault { .. } => "WriteFault",
+        Refusal::Unsupported { .. } => "Unsupported",
+        Refusal::NoMemory => "NoMemory",
+    }
+}
+
+// What it tells beside its name.
+fn field(refusal: &Refusal) -> Option<&[u8]>
+    ensures { fields_of refusal.now ≡ option_to_list (option_copied result) }
+{
+    match refusal {
+        Refusal::Usage { cause } => Some(cause_name(*cause).as_bytes()),
+        Refusal::ReadFault { role } => Some(role_name(*role).as_bytes()),
+        Refusal::WriteFault { role } => Some(role_name(*role).as_bytes()),
+        Refusal::Unsupported { word } => Some(word.bytes()),
+        Refusal::NoMemory => None,
+    }
+}
+
+fn cause_name(cause: Cause) -> &'static str
+    ensures { result.now ≡ cause_word cause }
+{
+    match cause {
+        Cause::Form => "form",
+        Cause::Same => "same",
+    }
+}
+
+fn role_name(role: Role) -> &'static str
+    ensures { result.now ≡ role_word role }
+{
+    match role {
+        Role::Program => "program",
+        Role::Input => "input",
+        Role::Controls => "controls",
+        Role::Output => "output",
+        Role::Report => "report",
+    }
+}
