@@ -4,3 +4,4 @@ pub mod Journal
 pub mod Drawer
 pub mod Memory
 pub mod Stored
+pub mod Counts

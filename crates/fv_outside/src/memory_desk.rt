@@ -6,6 +6,7 @@ ghost use Rattle.fv_outside.specs.Drawer.{bytes_at};
 ghost use Rattle.fv_outside.specs.Memory.{empty_memory, memory_of, with_memory, memory_state, is_failing, after_call, after_fault};
 ghost use Rattle.fv_outside.specs.Stored.{place_of};
 
+use crate::counts::place_of;
 use crate::desk::{Desk, Failed};
 use crate::drawer::{Drawer, StoredFile};
 use crate::role::Role;
@@ -151,20 +152,6 @@ impl Desk for MemoryDesk {
         ensures err { OnErr result (self.new ≡ with_memory self.old role (after_fault (memory_of self.old role))) }
     {
         self.drawers[place_of(role)].write(piece)
-    }
-}
-
-// The place of the role's drawer.
-fn place_of(role: Role) -> usize
-    ensures place { result ≡ place_of role }
-    ensures bound { result < 5 }
-{
-    match role {
-        Role::Program => 0,
-        Role::Input => 1,
-        Role::Controls => 2,
-        Role::Output => 3,
-        Role::Report => 4,
     }
 }
 

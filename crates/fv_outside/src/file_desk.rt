@@ -1,0 +1,188 @@
+// A desk of real files.
+
+ghost use Rattle.std.specs.Prelude.{◌≡◌, ◌≤◌, ◌<◌, length, is_ok, IfOk, OnOk, OnErr};
+ghost use Rattle.fv_outside.specs.Counts.{no_counts, with_fault, with_begin, counts_state};
+
+use crate::counts::Counts;
+use crate::desk::{Desk, Failed};
+use crate::role::Role;
+use std::fs;
+use std::io::{Read, Write};
+use std::marker::Model;
+use std::rt::Files;
+
+/// Real files, and standard output for Report. It tells no bytes.
+pub struct FileDesk<'r, R: Files + Print> {
+    rt: &'r R,
+    open: OpenFiles<R::File>,
+    counts: Counts,
+}
+
+impl<'r, R: Files + Print> Model for FileDesk<'r, R> {
+    ghost use Rattle.fv_outside.specs.declared.counts.Counts.{Counts};
+
+    ghost Value = { Counts };
+
+    ghost view = { λ d. d.counts };
+}
+
+impl<R: Files + Print> Drop for FileDesk<'_, R> {
+    fn drop(self) {
+        let FileDesk {
+            rt: _,
+            open,
+            counts: _,
+        } = self;
+        drop(open);
+    }
+}
+
+impl<'r, R: Files + Print> FileDesk<'r, R> {
+    /// No file is open.
+    pub fn new(rt: &'r R) -> FileDesk<'r, R>
+        ensures { result ≡ no_counts }
+    {
+        FileDesk {
+            rt,
+            open: OpenFiles {
+                program: OpenPair::new(),
+                input: OpenPair::new(),
+                controls: OpenPair::new(),
+                output: OpenPair::new(),
+                report: OpenPair::new(),
+            },
+            counts: Counts::new(),
+        }
+    }
+}
+
+impl<R: Files + Print> Desk for FileDesk<'_, R> {
+    ghost state = { counts_state };
+
+    fn begin_read(&mut self, role: Role, name: &str) -> Result<(), Failed> {
+        match fs::open(self.rt, name) {
+            Ok(file) => {
+                self.open.of(role).reader = Some(file);
+                Ok(())
+            }
+            Err(_) => {
+                self.counts.count_fault(role);
+                Err(Failed)
+            }
+        }
+    }
+
+    fn read(&mut self, role: Role, to: &mut [u8]) -> Result<usize, Failed> {
+        match self.open.of(role).read(to) {
+            Ok(n) => Ok(n),
+            Err(failed) => {
+                self.counts.count_fault(role);
+                Err(failed)
+            }
+        }
+    }
+
+    fn begin_write(&mut self, role: Role, name: &str) -> Result<(), Failed> {
+        match fs::create(self.rt, name) {
+            Ok(file) => {
+                self.open.of(role).writer = Some(file);
+                self.counts.count_begin(role);
+                Ok(())
+            }
+            Err(_) => {
+                self.counts.count_fault(role);
+                Err(Failed)
+            }
+        }
+    }
+
+    fn write(&mut self, role: Role, piece: &[u8]) -> Result<usize, Failed> {
+        let written = match role {
+            Role::Report => print_some(self.rt, piece),
+            _ => self.open.of(role).write(piece),
+        };
+        if written.is_err() {
+            self.counts.count_fault(role);
+        }
+        written
+    }
+}
+
+// The files that are open, of each role.
+#[derive(Drop)]
+struct OpenFiles<F> {
+    program: OpenPair<F>,
+    input: OpenPair<F>,
+    controls: OpenPair<F>,
+    output: OpenPair<F>,
+    report: OpenPair<F>,
+}
+
+impl<F> OpenFiles<F> {
+    // Those of one role.
+    fn of(&mut self, role: Role) -> &mut OpenPair<F> {
+        match role {
+            Role::Program => &mut self.program,
+            Role::Input => &mut self.input,
+            Role::Controls => &mut self.controls,
+            Role::Output => &mut self.output,
+            Role::Report => &mut self.report,
+        }
+    }
+}
+
+// The file that a role reads, and the one that it writes.
+#[derive(Drop)]
+struct OpenPair<F> {
+    reader: Option<F>,
+    writer: Option<F>,
+}
+
+impl<F> OpenPair<F> {
+    fn new() -> OpenPair<F> {
+        OpenPair {
+            reader: None,
+            writer: None,
+        }
+    }
+}
+
+impl<F: Read + Write> OpenPair<F> {
+    // Reads, where the role was begun.
+    fn read(&mut self, to: &mut [u8]) -> Result<usize, Failed>
+        ensures { IfOk result (λ n. n ≤ length to.new) }
+    {
+        match &mut self.reader {
+            Some(file) => file.read(to).map_err(|_| Failed),
+            None => Err(Failed),
+        }
+    }
+
+    // Writes at least one byte, where the role was begun.
+    fn write(&mut self, piece: &[u8]) -> Result<usize, Failed>
+        ensures { IfOk result (λ n. (1 ≤ n) × (n ≤ length piece.now)) }
+    {
+        match &mut self.writer {
+            Some(file) => some_taken(file.write(piece)),
+            None => Err(Failed),
+        }
+    }
+}
+
+// Prints at least one byte.
+fn print_some(rt: &impl Print, piece: &[u8]) -> Result<usize, Failed>
+    ensures { IfOk result (λ n. (1 ≤ n) × (n ≤ length piece.now)) }
+{
+    some_taken(rt.write_some(piece))
+}
+
+// A call that takes nothing failed.
+fn some_taken(outcome: std::io::Result<usize>) -> Result<usize, Failed>
+    ensures { IfOk result (λ n. (1 ≤ n) × (outcome ≡ Ok n)) }
+{
+    match outcome {
+        Ok(0) => Err(Failed),
+        Ok(n) => Ok(n),
+        Err(_) => Err(Failed),
+    }
+}
