@@ -1,5 +1,5 @@
 -- What a desk of real files means: its counts alone.
-use Rattle.std.specs.Prelude.{ℕ, ◌+◌, ◌%◌, ◌^◌, false, List, [], ◌∷◌, slice_index, slice_set, replicate}
+use Rattle.std.specs.Prelude.{◌≡◌, ◌≢◌, ℕ, ◌+◌, ◌%◌, ◌^◌, false, List, [], ◌∷◌, slice_index, replicate}
 use Rattle.fv_outside.specs.Desk.{DeskState}
 use Rattle.fv_outside.specs.Drawer.{raised}
 use Rattle.fv_outside.specs.Stored.{place_of}
@@ -14,13 +14,17 @@ count_of counts role = slice_index counts (place_of role)
 abbrev pub no_counts : Counts
 no_counts = record { faults = replicate 5 0; begins = replicate 5 0 }
 
--- one more fault of the role, up to the last value of a count
-abbrev pub with_fault : Counts → Role → Counts
-with_fault c role = record c { faults = slice_set c.faults (place_of role) (raised (count_of c.faults role)) }
+-- a fault of the role was counted, up to the last value of a count, and nothing else
+pub record CountsFault (role : Role) (old new : Counts) : Type 0 where
+  pub raised : count_of new.faults role ≡ raised (count_of old.faults role)
+  pub others : (r : Role) → r ≢ role → count_of new.faults r ≡ count_of old.faults r
+  pub begins : (r : Role) → count_of new.begins r ≡ count_of old.begins r
 
--- the writing of the role began once more, modulo 2 ^ 64
-abbrev pub with_begin : Counts → Role → Counts
-with_begin c role = record c { begins = slice_set c.begins (place_of role) ((count_of c.begins role + 1) % 2 ^ 64) }
+-- that the writing of the role began was counted, modulo 2 ^ 64, and nothing else
+pub record CountsBegin (role : Role) (old new : Counts) : Type 0 where
+  pub raised : count_of new.begins role ≡ (count_of old.begins role + 1) % 2 ^ 64
+  pub others : (r : Role) → r ≢ role → count_of new.begins r ≡ count_of old.begins r
+  pub faults : (r : Role) → count_of new.faults r ≡ count_of old.faults r
 
 -- as a desk, it tells no bytes
 abbrev pub counts_state : Counts → DeskState

@@ -1,9 +1,8 @@
 // What a desk of real files counts.
 
-ghost use Rattle.std.specs.Prelude.{◌≡◌, ◌≢◌, ◌+◌, ◌%◌, ◌^◌, ◌<◌, ◌≤◌, slice_set};
-ghost use Rattle.fv_outside.specs.Drawer.{raised};
+ghost use Rattle.std.specs.Prelude.{◌≡◌, ◌<◌, ◌≤◌};
 ghost use Rattle.fv_outside.specs.Stored.{place_of};
-ghost use Rattle.fv_outside.specs.Counts.{count_of, no_counts, with_fault, with_begin};
+ghost use Rattle.fv_outside.specs.Counts.{count_of, no_counts, CountsFault, CountsBegin};
 
 use crate::role::Role;
 
@@ -29,8 +28,7 @@ impl Counts {
 
     /// Counts a fault of the role.
     pub fn count_fault(&mut self, role: Role)
-        ensures counted { self.new ≡ with_fault self.old role }
-        ensures raised { count_of self.new.faults role ≡ raised (count_of self.old.faults role) }
+        ensures fault { CountsFault role self.old self.new }
         ensures none_falls { (r : Role) → count_of self.old.faults r ≤ count_of self.new.faults r }
     {
         let place = place_of(role);
@@ -39,9 +37,7 @@ impl Counts {
 
     /// Counts that the writing of the role began.
     pub fn count_begin(&mut self, role: Role)
-        ensures counted { self.new ≡ with_begin self.old role }
-        ensures raised { count_of self.new.begins role ≡ (count_of self.old.begins role + 1) % 2 ^ 64 }
-        ensures others { (r : Role) → r ≢ role → count_of self.new.begins r ≡ count_of self.old.begins r }
+        ensures { CountsBegin role self.old self.new }
     {
         let place = place_of(role);
         self.begins[place] = self.begins[place].wrapping_add(1);

@@ -1,7 +1,8 @@
 // A desk of real files.
 
-ghost use Rattle.std.specs.Prelude.{◌≡◌, ◌≤◌, ◌<◌, length, is_ok, IfOk, OnOk, OnErr};
-ghost use Rattle.fv_outside.specs.Counts.{no_counts, with_fault, with_begin, counts_state};
+ghost use Rattle.std.specs.Prelude.{◌≡◌, ◌≢◌, ◌+◌, ◌%◌, ◌^◌, ◌≤◌, length, take, ◌++◌, [], Some, IsTrue, IfOk, OnOk, OnErr};
+ghost use Rattle.fv_outside.specs.Desk.{GoesOn, HasFault, KeepsBytes, KeepsBegins, file_named};
+ghost use Rattle.fv_outside.specs.Counts.{no_counts, CountsFault, CountsBegin, counts_state};
 
 use crate::counts::Counts;
 use crate::desk::{Desk, Failed};
@@ -59,7 +60,16 @@ impl<'r, R: Files + Print> FileDesk<'r, R> {
 impl<R: Files + Print> Desk for FileDesk<'_, R> {
     ghost state = { counts_state };
 
-    fn begin_read(&mut self, role: Role, name: &str) -> Result<(), Failed> {
+    fn begin_read(&mut self, role: Role, name: &str) -> Result<(), Failed>
+        ensures goes_on { GoesOn (counts_state self.old) (counts_state self.new) }
+        ensures failed { OnErr result (HasFault role (counts_state self.old) (counts_state self.new)) }
+        ensures file { OnOk result (IsTrue (counts_state self.old).tells →
+            file_named name.now (counts_state self.old).files ≡ Some ((counts_state self.new).left role)) }
+        ensures begins { KeepsBegins (counts_state self.old) (counts_state self.new) }
+        ensures err { OnErr result (KeepsBytes (counts_state self.old) (counts_state self.new)) }
+        ensures quiet { OnOk result (self.new ≡ self.old) }
+        ensures fault { OnErr result (CountsFault role self.old self.new) }
+    {
         match fs::open(self.rt, name) {
             Ok(file) => {
                 self.open.of(role).reader = Some(file);
@@ -72,7 +82,18 @@ impl<R: Files + Print> Desk for FileDesk<'_, R> {
         }
     }
 
-    fn read(&mut self, role: Role, to: &mut [u8]) -> Result<usize, Failed> {
+    fn read(&mut self, role: Role, to: &mut [u8]) -> Result<usize, Failed>
+        ensures count { IfOk result (λ n. n ≤ length to.new) }
+        ensures goes_on { GoesOn (counts_state self.old) (counts_state self.new) }
+        ensures failed { OnErr result (HasFault role (counts_state self.old) (counts_state self.new)) }
+        ensures taken { IfOk result (λ n. IsTrue (counts_state self.old).tells →
+            (counts_state self.old).left role ≡ take n to.new ++ (counts_state self.new).left role) }
+        ensures end { IfOk result (λ n. IsTrue (counts_state self.old).tells → n ≡ 0 → (counts_state self.old).left role ≡ []) }
+        ensures begins { KeepsBegins (counts_state self.old) (counts_state self.new) }
+        ensures err { OnErr result (KeepsBytes (counts_state self.old) (counts_state self.new)) }
+        ensures quiet { OnOk result (self.new ≡ self.old) }
+        ensures fault { OnErr result (CountsFault role self.old self.new) }
+    {
         match self.open.of(role).read(to) {
             Ok(n) => Ok(n),
             Err(failed) => {
@@ -82,21 +103,40 @@ impl<R: Files + Print> Desk for FileDesk<'_, R> {
         }
     }
 
-    fn begin_write(&mut self, role: Role, name: &str) -> Result<(), Failed> {
-        match fs::create(self.rt, name) {
+    fn begin_write(&mut self, role: Role, name: &str) -> Result<(), Failed>
+        ensures goes_on { GoesOn (counts_state self.old) (counts_state self.new) }
+        ensures failed { OnErr result (HasFault role (counts_state self.old) (counts_state self.new)) }
+        ensures empty { OnOk result (IsTrue (counts_state self.old).tells → (counts_state self.new).written role ≡ []) }
+        ensures counted { OnOk result ((counts_state self.new).begins role ≡ ((counts_state self.old).begins role + 1) % 2 ^ 64) }
+        ensures other_begins { (r : Role) → r ≢ role → (counts_state self.new).begins r ≡ (counts_state self.old).begins r }
+        ensures err { OnErr result (KeepsBytes (counts_state self.old) (counts_state self.new)) }
+        ensures begun { OnOk result (CountsBegin role self.old self.new) }
+        ensures fault { OnErr result (CountsFault role self.old self.new) }
+    {
+        match create(self.rt, role, name) {
             Ok(file) => {
                 self.open.of(role).writer = Some(file);
                 self.counts.count_begin(role);
                 Ok(())
             }
-            Err(_) => {
+            Err(failed) => {
                 self.counts.count_fault(role);
-                Err(Failed)
+                Err(failed)
             }
         }
     }
 
-    fn write(&mut self, role: Role, piece: &[u8]) -> Result<usize, Failed> {
+    fn write(&mut self, role: Role, piece: &[u8]) -> Result<usize, Failed>
+        ensures count { IfOk result (λ n. (1 ≤ n) × (n ≤ length piece.now)) }
+        ensures goes_on { GoesOn (counts_state self.old) (counts_state self.new) }
+        ensures failed { OnErr result (HasFault role (counts_state self.old) (counts_state self.new)) }
+        ensures appended { IfOk result (λ n. IsTrue (counts_state self.old).tells →
+            (counts_state self.new).written role ≡ (counts_state self.old).written role ++ take n piece.now) }
+        ensures begins { KeepsBegins (counts_state self.old) (counts_state self.new) }
+        ensures err { OnErr result (KeepsBytes (counts_state self.old) (counts_state self.new)) }
+        ensures quiet { OnOk result (self.new ≡ self.old) }
+        ensures fault { OnErr result (CountsFault role self.old self.new) }
+    {
         let written = match role {
             Role::Report => print_some(self.rt, piece),
             _ => self.open.of(role).write(piece),
@@ -169,6 +209,14 @@ impl<F: Read + Write> OpenPair<F> {
     }
 }
 
+// An empty file of this name. There is none for Report, since standard output does not begin anew.
+fn create<R: Files>(rt: &R, role: Role, name: &str) -> Result<R::File, Failed> {
+    match role {
+        Role::Report => Err(Failed),
+        _ => fs::create(rt, name).map_err(|_| Failed),
+    }
+}
+
 // Prints at least one byte.
 fn print_some(rt: &impl Print, piece: &[u8]) -> Result<usize, Failed>
     ensures { IfOk result (λ n. (1 ≤ n) × (n ≤ length piece.now)) }
@@ -184,5 +232,34 @@ fn some_taken(outcome: std::io::Result<usize>) -> Result<usize, Failed>
         Ok(0) => Err(Failed),
         Ok(n) => Ok(n),
         Err(_) => Err(Failed),
+    }
+}
+
+#[cfg(test)]
+mod tests {
+    use super::*;
+    use std::test::Fail;
+
+    #[test]
+    fn writes_and_reads(rt: HostRuntime) -> Result<(), Fail> {
+        let name = "fv_outside_file_desk_test.bytes";
+        let mut desk = FileDesk::new(&rt);
+        let mut to = [0; 4];
+        assert_eq!(rt; desk.begin_read(Role::Input, name), Err(Failed), "no file");
+        assert_eq!(rt; desk.read(Role::Input, &mut to), Err(Failed), "not begun");
+        assert_eq!(rt; desk.write(Role::Output, &[1]), Err(Failed), "not begun");
+        assert_eq!(rt; desk.begin_write(Role::Output, name), Ok(()));
+        assert_eq!(rt; desk.write(Role::Output, &[1, 2, 3]), Ok(3));
+        assert_eq!(rt; desk.begin_read(Role::Input, name), Ok(()));
+        assert_eq!(rt; desk.read(Role::Input, &mut to), Ok(3));
+        assert_eq!(rt; to, [1, 2, 3, 0]);
+        assert_eq!(rt; desk.read(Role::Input, &mut to), Ok(0), "its end");
+        assert_eq!(rt; desk.begin_write(Role::Output, name), Ok(()));
+        assert_eq!(rt; desk.begin_read(Role::Input, name), Ok(()));
+        assert_eq!(rt; desk.read(Role::Input, &mut to), Ok(0), "emptied");
+        assert_eq!(rt; desk.begin_write(Role::Report, name), Err(Failed));
+        assert_eq!(rt; desk.write(Role::Report, b"printed\n"), Ok(8));
+        fs::remove_file(&rt, name)?;
+        Ok(())
     }
 }
