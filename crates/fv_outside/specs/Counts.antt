@@ -1,5 +1,5 @@
 -- What a desk of real files means: its counts alone.
-use Rattle.std.specs.Prelude.{◌≡◌, ◌≢◌, ℕ, ◌+◌, ◌%◌, ◌^◌, false, List, [], ◌∷◌, slice_index, replicate}
+use Rattle.std.specs.Prelude.{◌≡◌, ◌≢◌, ℕ, ◌+◌, ◌%◌, ◌^◌, false, List, [], slice_index, replicate}
 use Rattle.fv_outside.specs.Desk.{DeskState}
 use Rattle.fv_outside.specs.Drawer.{raised}
 use Rattle.fv_outside.specs.Stored.{place_of}
