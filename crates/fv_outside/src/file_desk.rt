@@ -13,6 +13,10 @@ use std::marker::Model;
 use std::rt::Files;
 
 /// Real files, and standard output for Report. It tells no bytes.
+///
+/// `begin_read` opens the named file, and `begin_write` creates or empties it; each role has one file open to read and
+/// one to write. Faults are all that the system refuses, a write or a print that takes nothing, and a read or a write of
+/// a role that was not begun. Report is printed without a begin, and beginning to write it is a fault.
 pub struct FileDesk<'r, R: Files + Print> {
     rt: &'r R,
     open: OpenFiles<R::File>,
@@ -39,7 +43,7 @@ impl<R: Files + Print> Drop for FileDesk<'_, R> {
 }
 
 impl<'r, R: Files + Print> FileDesk<'r, R> {
-    /// No file is open.
+    /// A desk with no file open, and all its counts at 0.
     pub fn new(rt: &'r R) -> FileDesk<'r, R>
         ensures { result ≡ no_counts }
     {
@@ -57,6 +61,7 @@ impl<'r, R: Files + Print> FileDesk<'r, R> {
     }
 }
 
+// Beside what each desk ensures, the clauses say exactly what is counted.
 impl<R: Files + Print> Desk for FileDesk<'_, R> {
     ghost state = { counts_state };
 
