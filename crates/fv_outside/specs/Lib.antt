@@ -5,3 +5,4 @@ pub mod Drawer
 pub mod Memory
 pub mod Stored
 pub mod Counts
+pub mod Examples
