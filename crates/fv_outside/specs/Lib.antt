@@ -4,3 +4,5 @@ pub mod Journal
 pub mod Drawer
 pub mod Memory
 pub mod Stored
+pub mod Counts
+pub mod Examples

@@ -1,5 +1,5 @@
 -- What a desk in memory means.
-use Rattle.std.specs.Prelude.{ℕ, Bool, true, List, []}
+use Rattle.std.specs.Prelude.{ℕ, ◌+◌, ◌%◌, ◌^◌, max, nat_le, Bool, true, List, [], ◌∷◌, ◌++◌, length, drop}
 use Rattle.fv_outside.specs.Desk.{File, DeskState}
 use Rattle.fv_outside.specs.Drawer.{raised, fails_now}
 use Rattle.fv_outside.specs.declared.role.Role.{Role}
@@ -44,13 +44,17 @@ memory_of m Controls = m.controls
 memory_of m Output = m.output
 memory_of m Report = m.report
 
--- the same, but for what is kept for the role
+-- the same, but with this kept for the role
 abbrev pub with_memory : Memory → Role → RoleMemory → Memory
 with_memory m Program d = record m { program = d }
 with_memory m Input d = record m { input = d }
 with_memory m Controls d = record m { controls = d }
 with_memory m Output d = record m { output = d }
 with_memory m Report d = record m { report = d }
+
+-- the same, but for what is kept for the role, where f makes the new from the old
+abbrev pub memory_after : Memory → Role → (RoleMemory → RoleMemory) → Memory
+memory_after m role f = with_memory m role (f (memory_of m role))
 
 -- as a desk, it tells its bytes
 abbrev pub memory_state : Memory → DeskState
@@ -63,14 +67,38 @@ memory_state m = record {
   begins = λ r. (memory_of m r).begins;
 }
 
--- the call of the role that comes now stands on the list of those that fail
+-- the call that comes now stands on the list of those that fail
 abbrev pub is_failing : RoleMemory → Bool
 is_failing d = fails_now d.calls d.failing
 
--- a call of the role was counted
-abbrev pub after_call : RoleMemory → RoleMemory
-after_call d = record d { calls = raised d.calls }
+-- no byte more may be written
+abbrev pub is_full : RoleMemory → Bool
+is_full d = nat_le d.room (length d.written)
 
--- a call of the role was counted that failed
+-- so many bytes may be written, or as many as before
+abbrev pub after_room : ℕ → RoleMemory → RoleMemory
+after_room bytes d = record d { room = max d.room bytes }
+
+-- one more call will fail
+abbrev pub after_fail : ℕ → RoleMemory → RoleMemory
+after_fail call d = record d { failing = d.failing ++ call ∷ [] }
+
+-- a call was counted that failed
 abbrev pub after_fault : RoleMemory → RoleMemory
 after_fault d = record d { calls = raised d.calls; faults = raised d.faults }
+
+-- a call was counted that made these bytes the ones to read
+abbrev pub after_begin_read : List ℕ → RoleMemory → RoleMemory
+after_begin_read bytes d = record d { calls = raised d.calls; left = bytes }
+
+-- a call was counted that took n bytes
+abbrev pub after_read : ℕ → RoleMemory → RoleMemory
+after_read n d = record d { calls = raised d.calls; left = drop n d.left }
+
+-- a call was counted that began to write
+abbrev pub after_begin_write : RoleMemory → RoleMemory
+after_begin_write d = record d { calls = raised d.calls; written = []; begins = (d.begins + 1) % 2 ^ 64 }
+
+-- a call was counted that appended these bytes
+abbrev pub after_write : List ℕ → RoleMemory → RoleMemory
+after_write bytes d = record d { calls = raised d.calls; written = d.written ++ bytes }

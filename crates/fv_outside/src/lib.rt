@@ -1,8 +1,10 @@
 //! What the program is handed from outside: a desk with its files, and a gate that is told of each block.
 #![tactic(auto)]
 
+mod counts;
 mod desk;
 mod drawer;
+mod file_desk;
 mod gate;
 mod memory_desk;
 mod role;
@@ -11,6 +13,7 @@ mod transfer;
 mod word;
 
 pub use desk::{Desk, Failed};
+pub use file_desk::FileDesk;
 pub use gate::{FreeGate, Gate, Line};
 pub use memory_desk::MemoryDesk;
 pub use role::Role;

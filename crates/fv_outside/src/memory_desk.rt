@@ -1,11 +1,12 @@
 // A desk whose files are lists of bytes.
 
-ghost use Rattle.std.specs.Prelude.{◌≡◌, ◌≢◌, ℕ, List, ◌+◌, ◌-◌, ◌%◌, ◌^◌, ◌<◌, ◌≤◌, ◌||◌, min, max, length, take, drop, ◌++◌, ◌∷◌, [], Some, None, is_none, is_err, nat_le, unwrap_or, MatchOption, IsTrue, OnOk, OnErr, IfOk};
+ghost use Rattle.std.specs.Prelude.{◌≡◌, ◌≢◌, ℕ, List, ◌-◌, ◌<◌, ◌||◌, min, length, take, ◌++◌, ◌∷◌, [], Some, None, is_none, is_err, unwrap_or, MatchOption, OnOk, OnErr, IfOk};
 ghost use Rattle.fv_outside.specs.Desk.{file_named, GoesOn};
 ghost use Rattle.fv_outside.specs.Drawer.{bytes_at};
-ghost use Rattle.fv_outside.specs.Memory.{empty_memory, memory_of, with_memory, memory_state, is_failing, after_call, after_fault};
+ghost use Rattle.fv_outside.specs.Memory.{empty_memory, memory_of, memory_after, memory_state, is_failing, is_full, after_room, after_fail, after_fault, after_begin_read, after_read, after_begin_write, after_write};
 ghost use Rattle.fv_outside.specs.Stored.{place_of};
 
+use crate::counts::place_of;
 use crate::desk::{Desk, Failed};
 use crate::drawer::{Drawer, StoredFile};
 use crate::role::Role;
@@ -67,8 +68,7 @@ impl MemoryDesk {
 
     /// From now on so many bytes may be written of the role, or as many as before where that is more.
     pub fn room(&mut self, role: Role, bytes: u32) -> Result<(), AllocError>
-        ensures ok { OnOk result (self.new ≡ with_memory self.old role
-            (record (memory_of self.old role) { room = max (memory_of self.old role).room bytes })) }
+        ensures ok { OnOk result (self.new ≡ memory_after self.old role (after_room bytes)) }
         ensures err { OnErr result (self.new ≡ self.old) }
     {
         self.drawers[place_of(role)].widen(bytes)
@@ -76,8 +76,7 @@ impl MemoryDesk {
 
     /// The call of the role with this number, counted from 0 over all four methods, will fail.
     pub fn fail(&mut self, role: Role, call: u32) -> Result<(), AllocError>
-        ensures ok { OnOk result (self.new ≡ with_memory self.old role
-            (record (memory_of self.old role) { failing = (memory_of self.old role).failing ++ call ∷ [] })) }
+        ensures ok { OnOk result (self.new ≡ memory_after self.old role (after_fail call)) }
         ensures err { OnErr result (self.new ≡ self.old) }
     {
         self.drawers[place_of(role)].fail(call)
@@ -91,17 +90,17 @@ impl MemoryDesk {
     }
 }
 
+// Beside what each desk ensures, the clauses say exactly when a call fails, and all that it changes.
 impl Desk for MemoryDesk {
     ghost state = { memory_state };
 
     fn begin_read(&mut self, role: Role, name: &str) -> Result<(), Failed>
         ensures goes_on { GoesOn (memory_state self.old) (memory_state self.new) }
         ensures fails { is_err result ≡
-            (is_failing (memory_of self.old role)
-            || is_none (file_named name.now self.old.files)) }
-        ensures ok { OnOk result (self.new ≡ with_memory self.old role
-            (record (after_call (memory_of self.old role)) { left = unwrap_or (file_named name.now self.old.files) [] })) }
-        ensures err { OnErr result (self.new ≡ with_memory self.old role (after_fault (memory_of self.old role))) }
+            (is_failing (memory_of self.old role) || is_none (file_named name.now self.old.files)) }
+        ensures begun { OnOk result (self.new ≡
+            memory_after self.old role (after_begin_read (unwrap_or (file_named name.now self.old.files) []))) }
+        ensures fault { OnErr result (self.new ≡ memory_after self.old role after_fault) }
     {
         let found = place_named(&self.files, name);
         self.drawers[place_of(role)].begin_read(found)
@@ -110,28 +109,21 @@ impl Desk for MemoryDesk {
     fn read(&mut self, role: Role, to: &mut [u8]) -> Result<usize, Failed>
         requires { 0 < length to.old }
         ensures goes_on { GoesOn (memory_state self.old) (memory_state self.new) }
-        ensures fails { is_err result ≡
-            is_failing (memory_of self.old role) }
+        ensures fails { is_err result ≡ is_failing (memory_of self.old role) }
         ensures count { IfOk result (λ n. n ≡ min (length to.new) (length (memory_of self.old role).left)) }
         ensures end { IfOk result (λ n. n ≡ 0 → (memory_of self.old role).left ≡ []) }
         ensures bytes { IfOk result (λ n. take n to.new ≡ take n (memory_of self.old role).left) }
-        ensures ok { IfOk result (λ n. self.new ≡ with_memory self.old role
-            (record (after_call (memory_of self.old role)) { left = drop n (memory_of self.old role).left })) }
-        ensures err { OnErr result (self.new ≡ with_memory self.old role (after_fault (memory_of self.old role))) }
+        ensures rest { IfOk result (λ n. self.new ≡ memory_after self.old role (after_read n)) }
+        ensures fault { OnErr result (self.new ≡ memory_after self.old role after_fault) }
     {
         self.drawers[place_of(role)].read(&self.files, to)
     }
 
     fn begin_write(&mut self, role: Role, _name: &str) -> Result<(), Failed>
         ensures goes_on { GoesOn (memory_state self.old) (memory_state self.new) }
-        ensures fails { is_err result ≡
-            is_failing (memory_of self.old role) }
-        ensures ok { OnOk result (self.new ≡ with_memory self.old role
-            (record (after_call (memory_of self.old role)) {
-              written = [];
-              begins = ((memory_of self.old role).begins + 1) % 2 ^ 64;
-            })) }
-        ensures err { OnErr result (self.new ≡ with_memory self.old role (after_fault (memory_of self.old role))) }
+        ensures fails { is_err result ≡ is_failing (memory_of self.old role) }
+        ensures begun { OnOk result (self.new ≡ memory_after self.old role after_begin_write) }
+        ensures fault { OnErr result (self.new ≡ memory_after self.old role after_fault) }
     {
         self.drawers[place_of(role)].begin_write()
     }
@@ -140,31 +132,13 @@ impl Desk for MemoryDesk {
         requires { 0 < length piece.now }
         ensures goes_on { GoesOn (memory_state self.old) (memory_state self.new) }
         ensures fails { is_err result ≡
-            (is_failing (memory_of self.old role)
-            || nat_le (memory_of self.old role).room (length (memory_of self.old role).written)) }
+            (is_failing (memory_of self.old role) || is_full (memory_of self.old role)) }
         ensures count { IfOk result (λ n. n ≡
             min (length piece.now) ((memory_of self.old role).room - length (memory_of self.old role).written)) }
-        ensures ok { IfOk result (λ n. self.new ≡ with_memory self.old role
-            (record (after_call (memory_of self.old role)) {
-              written = (memory_of self.old role).written ++ take n piece.now;
-            })) }
-        ensures err { OnErr result (self.new ≡ with_memory self.old role (after_fault (memory_of self.old role))) }
+        ensures appended { IfOk result (λ n. self.new ≡ memory_after self.old role (after_write (take n piece.now))) }
+        ensures fault { OnErr result (self.new ≡ memory_after self.old role after_fault) }
     {
         self.drawers[place_of(role)].write(piece)
-    }
-}
-
-// The place of the role's drawer.
-fn place_of(role: Role) -> usize
-    ensures place { result ≡ place_of role }
-    ensures bound { result < 5 }
-{
-    match role {
-        Role::Program => 0,
-        Role::Input => 1,
-        Role::Controls => 2,
-        Role::Output => 3,
-        Role::Report => 4,
     }
 }
 

@@ -1,0 +1,38 @@
+-- What a desk of real files means: its counts alone.
+use Rattle.std.specs.Prelude.{◌≡◌, ◌≢◌, ℕ, ◌+◌, ◌%◌, ◌^◌, false, List, [], slice_index, replicate}
+use Rattle.fv_outside.specs.Desk.{DeskState}
+use Rattle.fv_outside.specs.Drawer.{raised}
+use Rattle.fv_outside.specs.Stored.{place_of}
+use Rattle.fv_outside.specs.declared.counts.Counts.{Counts}
+use Rattle.fv_outside.specs.declared.role.Role.{Role}
+
+-- the count of the role in a list of one for each
+abbrev pub count_of : List ℕ → Role → ℕ
+count_of counts role = slice_index counts (place_of role)
+
+-- nothing was counted
+abbrev pub no_counts : Counts
+no_counts = record { faults = replicate 5 0; begins = replicate 5 0 }
+
+-- a fault of the role was counted, up to the last value of a count, and nothing else
+pub record CountsFault (role : Role) (old new : Counts) : Type 0 where
+  pub raised : count_of new.faults role ≡ raised (count_of old.faults role)
+  pub others : (r : Role) → r ≢ role → count_of new.faults r ≡ count_of old.faults r
+  pub begins : (r : Role) → count_of new.begins r ≡ count_of old.begins r
+
+-- that the writing of the role began was counted, modulo 2 ^ 64, and nothing else
+pub record CountsBegin (role : Role) (old new : Counts) : Type 0 where
+  pub raised : count_of new.begins role ≡ (count_of old.begins role + 1) % 2 ^ 64
+  pub others : (r : Role) → r ≢ role → count_of new.begins r ≡ count_of old.begins r
+  pub faults : (r : Role) → count_of new.faults r ≡ count_of old.faults r
+
+-- as a desk, it tells no bytes
+abbrev pub counts_state : Counts → DeskState
+counts_state c = record {
+  tells = false;
+  files = [];
+  left = λ _. [];
+  written = λ _. [];
+  faults = λ r. count_of c.faults r;
+  begins = λ r. count_of c.begins r;
+}

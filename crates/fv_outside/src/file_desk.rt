@@ -1,0 +1,270 @@
+// A desk of real files.
+
+ghost use Rattle.std.specs.Prelude.{◌≡◌, ◌≢◌, ◌+◌, ◌%◌, ◌^◌, ◌≤◌, length, take, ◌++◌, [], Some, IsTrue, IfOk, OnOk, OnErr};
+ghost use Rattle.fv_outside.specs.Desk.{GoesOn, HasFault, KeepsBytes, KeepsBegins, file_named};
+ghost use Rattle.fv_outside.specs.Counts.{no_counts, CountsFault, CountsBegin, counts_state};
+
+use crate::counts::Counts;
+use crate::desk::{Desk, Failed};
+use crate::role::Role;
+use std::fs;
+use std::io::{Read, Write};
+use std::marker::Model;
+use std::rt::Files;
+
+/// Real files, and standard output for Report. It tells no bytes.
+///
+/// `begin_read` opens the named file, and `begin_write` creates or empties it; each role has one file open to read and
+/// one to write. Faults are all that the system refuses, a write or a print that takes nothing, and a read or a write of
+/// a role that was not begun. Report is printed without a begin, and beginning to write it is a fault.
+pub struct FileDesk<'r, R: Files + Print> {
+    rt: &'r R,
+    open: OpenFiles<R::File>,
+    counts: Counts,
+}
+
+impl<'r, R: Files + Print> Model for FileDesk<'r, R> {
+    ghost use Rattle.fv_outside.specs.declared.counts.Counts.{Counts};
+
+    ghost Value = { Counts };
+
+    ghost view = { λ d. d.counts };
+}
+
+impl<R: Files + Print> Drop for FileDesk<'_, R> {
+    fn drop(self) {
+        let FileDesk {
+            rt: _,
+            open,
+            counts: _,
+        } = self;
+        drop(open);
+    }
+}
+
+impl<'r, R: Files + Print> FileDesk<'r, R> {
+    /// A desk with no file open, and all its counts at 0.
+    pub fn new(rt: &'r R) -> FileDesk<'r, R>
+        ensures { result ≡ no_counts }
+    {
+        FileDesk {
+            rt,
+            open: OpenFiles {
+                program: OpenPair::new(),
+                input: OpenPair::new(),
+                controls: OpenPair::new(),
+                output: OpenPair::new(),
+                report: OpenPair::new(),
+            },
+            counts: Counts::new(),
+        }
+    }
+}
+
+// Beside what each desk ensures, the clauses say exactly what is counted.
+impl<R: Files + Print> Desk for FileDesk<'_, R> {
+    ghost state = { counts_state };
+
+    fn begin_read(&mut self, role: Role, name: &str) -> Result<(), Failed>
+        ensures goes_on { GoesOn (counts_state self.old) (counts_state self.new) }
+        ensures failed { OnErr result (HasFault role (counts_state self.old) (counts_state self.new)) }
+        ensures file { OnOk result (IsTrue (counts_state self.old).tells →
+            file_named name.now (counts_state self.old).files ≡ Some ((counts_state self.new).left role)) }
+        ensures begins { KeepsBegins (counts_state self.old) (counts_state self.new) }
+        ensures err { OnErr result (KeepsBytes (counts_state self.old) (counts_state self.new)) }
+        ensures quiet { OnOk result (self.new ≡ self.old) }
+        ensures fault { OnErr result (CountsFault role self.old self.new) }
+    {
+        match fs::open(self.rt, name) {
+            Ok(file) => {
+                self.open.of(role).reader = Some(file);
+                Ok(())
+            }
+            Err(_) => {
+                self.counts.count_fault(role);
+                Err(Failed)
+            }
+        }
+    }
+
+    fn read(&mut self, role: Role, to: &mut [u8]) -> Result<usize, Failed>
+        ensures count { IfOk result (λ n. n ≤ length to.new) }
+        ensures goes_on { GoesOn (counts_state self.old) (counts_state self.new) }
+        ensures failed { OnErr result (HasFault role (counts_state self.old) (counts_state self.new)) }
+        ensures taken { IfOk result (λ n. IsTrue (counts_state self.old).tells →
+            (counts_state self.old).left role ≡ take n to.new ++ (counts_state self.new).left role) }
+        ensures end { IfOk result (λ n. IsTrue (counts_state self.old).tells → n ≡ 0 → (counts_state self.old).left role ≡ []) }
+        ensures begins { KeepsBegins (counts_state self.old) (counts_state self.new) }
+        ensures err { OnErr result (KeepsBytes (counts_state self.old) (counts_state self.new)) }
+        ensures quiet { OnOk result (self.new ≡ self.old) }
+        ensures fault { OnErr result (CountsFault role self.old self.new) }
+    {
+        match self.open.of(role).read(to) {
+            Ok(n) => Ok(n),
+            Err(failed) => {
+                self.counts.count_fault(role);
+                Err(failed)
+            }
+        }
+    }
+
+    fn begin_write(&mut self, role: Role, name: &str) -> Result<(), Failed>
+        ensures goes_on { GoesOn (counts_state self.old) (counts_state self.new) }
+        ensures failed { OnErr result (HasFault role (counts_state self.old) (counts_state self.new)) }
+        ensures empty { OnOk result (IsTrue (counts_state self.old).tells → (counts_state self.new).written role ≡ []) }
+        ensures counted { OnOk result ((counts_state self.new).begins role ≡ ((counts_state self.old).begins role + 1) % 2 ^ 64) }
+        ensures other_begins { (r : Role) → r ≢ role → (counts_state self.new).begins r ≡ (counts_state self.old).begins r }
+        ensures err { OnErr result (KeepsBytes (counts_state self.old) (counts_state self.new)) }
+        ensures begun { OnOk result (CountsBegin role self.old self.new) }
+        ensures fault { OnErr result (CountsFault role self.old self.new) }
+    {
+        match create(self.rt, role, name) {
+            Ok(file) => {
+                self.open.of(role).writer = Some(file);
+                self.counts.count_begin(role);
+                Ok(())
+            }
+            Err(failed) => {
+                self.counts.count_fault(role);
+                Err(failed)
+            }
+        }
+    }
+
+    fn write(&mut self, role: Role, piece: &[u8]) -> Result<usize, Failed>
+        ensures count { IfOk result (λ n. (1 ≤ n) × (n ≤ length piece.now)) }
+        ensures goes_on { GoesOn (counts_state self.old) (counts_state self.new) }
+        ensures failed { OnErr result (HasFault role (counts_state self.old) (counts_state self.new)) }
+        ensures appended { IfOk result (λ n. IsTrue (counts_state self.old).tells →
+            (counts_state self.new).written role ≡ (counts_state self.old).written role ++ take n piece.now) }
+        ensures begins { KeepsBegins (counts_state self.old) (counts_state self.new) }
+        ensures err { OnErr result (KeepsBytes (counts_state self.old) (counts_state self.new)) }
+        ensures quiet { OnOk result (self.new ≡ self.old) }
+        ensures fault { OnErr result (CountsFault role self.old self.new) }
+    {
+        let written = match role {
+            Role::Report => print_some(self.rt, piece),
+            _ => self.open.of(role).write(piece),
+        };
+        if written.is_err() {
+            self.counts.count_fault(role);
+        }
+        written
+    }
+}
+
+// The files that are open, of each role.
+#[derive(Drop)]
+struct OpenFiles<F> {
+    program: OpenPair<F>,
+    input: OpenPair<F>,
+    controls: OpenPair<F>,
+    output: OpenPair<F>,
+    report: OpenPair<F>,
+}
+
+impl<F> OpenFiles<F> {
+    // Those of one role.
+    fn of(&mut self, role: Role) -> &mut OpenPair<F> {
+        match role {
+            Role::Program => &mut self.program,
+            Role::Input => &mut self.input,
+            Role::Controls => &mut self.controls,
+            Role::Output => &mut self.output,
+            Role::Report => &mut self.report,
+        }
+    }
+}
+
+// The file that a role reads, and the one that it writes.
+#[derive(Drop)]
+struct OpenPair<F> {
+    reader: Option<F>,
+    writer: Option<F>,
+}
+
+impl<F> OpenPair<F> {
+    fn new() -> OpenPair<F> {
+        OpenPair {
+            reader: None,
+            writer: None,
+        }
+    }
+}
+
+impl<F: Read + Write> OpenPair<F> {
+    // Reads, where the role was begun.
+    fn read(&mut self, to: &mut [u8]) -> Result<usize, Failed>
+        ensures { IfOk result (λ n. n ≤ length to.new) }
+    {
+        match &mut self.reader {
+            Some(file) => file.read(to).map_err(|_| Failed),
+            None => Err(Failed),
+        }
+    }
+
+    // Writes at least one byte, where the role was begun.
+    fn write(&mut self, piece: &[u8]) -> Result<usize, Failed>
+        ensures { IfOk result (λ n. (1 ≤ n) × (n ≤ length piece.now)) }
+    {
+        match &mut self.writer {
+            Some(file) => some_taken(file.write(piece)),
+            None => Err(Failed),
+        }
+    }
+}
+
+// An empty file of this name. There is none for Report, since standard output does not begin anew.
+fn create<R: Files>(rt: &R, role: Role, name: &str) -> Result<R::File, Failed> {
+    match role {
+        Role::Report => Err(Failed),
+        _ => fs::create(rt, name).map_err(|_| Failed),
+    }
+}
+
+// Prints at least one byte.
+fn print_some(rt: &impl Print, piece: &[u8]) -> Result<usize, Failed>
+    ensures { IfOk result (λ n. (1 ≤ n) × (n ≤ length piece.now)) }
+{
+    some_taken(rt.write_some(piece))
+}
+
+// A call that takes nothing failed.
+fn some_taken(outcome: std::io::Result<usize>) -> Result<usize, Failed>
+    ensures { IfOk result (λ n. (1 ≤ n) × (outcome ≡ Ok n)) }
+{
+    match outcome {
+        Ok(0) => Err(Failed),
+        Ok(n) => Ok(n),
+        Err(_) => Err(Failed),
+    }
+}
+
+#[cfg(test)]
+mod tests {
+    use super::*;
+    use std::test::Fail;
+
+    #[test]
+    fn writes_and_reads(rt: HostRuntime) -> Result<(), Fail> {
+        let name = "fv_outside_file_desk_test.bytes";
+        let mut desk = FileDesk::new(&rt);
+        let mut to = [0; 4];
+        assert_eq!(rt; desk.begin_read(Role::Input, name), Err(Failed), "no file");
+        assert_eq!(rt; desk.read(Role::Input, &mut to), Err(Failed), "not begun");
+        assert_eq!(rt; desk.write(Role::Output, &[1]), Err(Failed), "not begun");
+        assert_eq!(rt; desk.begin_write(Role::Output, name), Ok(()));
+        assert_eq!(rt; desk.write(Role::Output, &[1, 2, 3]), Ok(3));
+        assert_eq!(rt; desk.begin_read(Role::Input, name), Ok(()));
+        assert_eq!(rt; desk.read(Role::Input, &mut to), Ok(3));
+        assert_eq!(rt; to, [1, 2, 3, 0]);
+        assert_eq!(rt; desk.read(Role::Input, &mut to), Ok(0), "its end");
+        assert_eq!(rt; desk.begin_write(Role::Output, name), Ok(()));
+        assert_eq!(rt; desk.begin_read(Role::Input, name), Ok(()));
+        assert_eq!(rt; desk.read(Role::Input, &mut to), Ok(0), "emptied");
+        assert_eq!(rt; desk.begin_write(Role::Report, name), Err(Failed));
+        assert_eq!(rt; desk.write(Role::Report, b"printed\n"), Ok(8));
+        fs::remove_file(&rt, name)?;
+        Ok(())
+    }
+}
