@@ -1,11 +1,11 @@
 -- An operation's value on numbers within spans lies within the operation's span.
-use Rattle.std.proofs.Common.{◌≡◌, ℕ, zero, suc, ◌+◌, ◌-◌, ◌*◌, ◌/◌, ◌%◌, ◌^◌, ◌<◌, ◌≤◌, max, List, length, Bool, true, false, ◌&&◌, cond, ℤ, pos, negsuc, ◌+ℤ◌, ◌-ℤ◌, ◌*ℤ◌, neg_ℤ, ◌≤ℤ◌, ◌<ℤ◌, int_lt, int_le, refl, sym, ap, ap₂, ◌∙◌, subst, arith, w32, unsigned_abs, FitsSigned, int_div, int_rem, bit_and, bit_or, bit_xor, int_eq, inl, inr}
-use Rattle.std.specs.Int.{int_min, int_max, int_div_euclid, leading_zeros}
+use Rattle.std.proofs.Common.{◌≡◌, ℕ, zero, suc, ◌+◌, ◌-◌, ◌*◌, ◌%◌, ◌^◌, ◌<◌, ◌≤◌, List, length, Bool, true, false, ◌&&◌, cond, ℤ, pos, negsuc, ◌+ℤ◌, ◌-ℤ◌, ◌*ℤ◌, neg_ℤ, ◌≤ℤ◌, ◌<ℤ◌, int_lt, int_le, refl, sym, ap, ap₂, ◌∙◌, subst, arith, w32, unsigned_abs, FitsSigned, int_div, int_rem, bit_and, bit_or, bit_xor, int_eq, inl, inr}
+use Rattle.std.specs.Int.{int_min, int_max, leading_zeros}
 use Rattle.std.proofs.lemmas.Int.{ints, clamps, rem_below, int_wrap_fits, SFits-int_wrap, int_min_is, int_max_is}
 use Rattle.std.proofs.lemmas.Bool.{cond_both, cond-true, cond-false, and_parts, cases_lt}
 use Rattle.std.proofs.lemmas.Bool.Decides.{Decides-int_eq, not_from_Decides}
-use Rattle.std.proofs.lemmas.Nat.{and_le_l, and_le_r, or_lt, xor_lt, pow_pos, leading_length, one_shl}
-use Rattle.std.proofs.Math.Nat.{mod-eq_of_lt, mod-lt, mod-le, div-le_self, pow-suc, pow-le-pow_right}
+use Rattle.std.proofs.lemmas.Nat.{and_le_l, and_le_r, or_lt, xor_lt, leading_length, one_shl}
+use Rattle.std.proofs.Math.Nat.{mod-eq_of_lt, mod-le, div-le_self, pow-suc, pow-le-pow_right}
 use Rattle.std.proofs.Math.IntN.{*ℤ_comm}
 use Rattle.fv_num.specs.declared.op.Op.{Op}
 use Rattle.fv_num.specs.declared.op.Op.TheVariants.{Add, Sub, Mul, Div, Rem, And, Or, Xor, Shl, Shr, Lt, Le, Gt, Ge, Eq, Ne, Min, Max, Abs, Select2, Select3}

@@ -3,7 +3,7 @@ use Rattle.std.specs.Prelude.{ℕ, ◌-◌, ◌^◌, max, List, ℤ, pos, negsuc
 use Rattle.std.specs.Int.{int_min, int_max, leading_zeros}
 use Rattle.std.proofs.Common.{w32, int_eq}
 use Rattle.fv_num.specs.declared.op.Op.{Op}
-use Rattle.fv_num.specs.declared.op.Op.TheVariants.{Add, Sub, Mul, Div, Rem, And, Or, Xor, Shl, Shr, Lt, Le, Gt, Ge, Eq, Ne, Min, Max, Abs, Select2, Select3}
+use Rattle.fv_num.specs.declared.op.Op.TheVariants.{Add, Sub, Mul, Div, Rem, And, Or, Xor, Shl, Shr, Min, Max, Abs, Select2, Select3}
 use Rattle.fv_num.specs.Words.{amount, shifted_right, least}
 use Rattle.fv_num.specs.Interval.{Interval, full, point, is_point, between, hull, fit, span_at}
 
@@ -77,10 +77,14 @@ left_shifts x y =
     then fit (record { lo = x.lo *ℤ pos (2 ^ amount y.lo); hi = x.hi *ℤ pos (2 ^ amount y.lo) })
     else full
 
+-- the shifts to the right by a known amount
+abbrev pub right_shifts_by : Interval → ℤ → Interval
+right_shifts_by x by = record { lo = shifted_right x.lo by; hi = shifted_right x.hi by }
+
 abbrev pub right_shifts : Interval → Interval → Interval
 right_shifts x y =
     if is_point y
-    then record { lo = shifted_right x.lo y.lo; hi = shifted_right x.hi y.lo }
+    then right_shifts_by x y.lo
     else (if is_natural x then record { lo = pos 0; hi = x.hi }
     else (if int_lt x.hi (pos 0) then record { lo = x.lo; hi = negsuc 0 } else x))
 
