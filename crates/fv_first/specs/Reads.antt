@@ -1,5 +1,5 @@
 -- Reading from left to right: the diagram of `sequence ;`, if there is one.
-use Rattle.std.specs.Prelude.{◌≡◌, ℕ, ◌<◌, ◌≤◌, ◌*◌, ◌+◌, Bool, true, false, nat_eq, List, [], ◌∷◌, ◌++◌, length, Option, Some, None, if◌then◌else◌}
+use Rattle.std.specs.Prelude.{◌≡◌, ℕ, ◌<◌, ◌≤◌, Bool, true, false, nat_eq, List, [], ◌∷◌, ◌++◌, length, Option, Some, None, if◌then◌else◌}
 use Rattle.fv_num.specs.declared.op.Op.{Op}
 use Rattle.fv_num.specs.declared.op.Op.TheVariants.{Add, Sub, Mul}
 use Rattle.fv_diagram.specs.declared.node.Node.{Node}
@@ -8,7 +8,7 @@ use Rattle.fv_diagram.specs.declared.node.Primitive.TheVariants as prim
 use Rattle.fv_diagram.specs.Diagram.{Diagram, Primitive, Constant, Seq, inputs, IsWellFormed}
 use Rattle.fv_diagram.specs.Arena.{tree_of}
 use Rattle.fv_first.specs.declared.token.Token.{Token}
-use Rattle.fv_first.specs.declared.token.Token.TheVariants.{Process, Mem, Integer, Wire, Colon, Plus, Minus, Times, Equals, Semicolon}
+use Rattle.fv_first.specs.declared.token.Token.TheVariants.{Mem, Integer, Wire, Colon, Plus, Minus, Times, Semicolon}
 use Rattle.fv_first.specs.Grammar.{operated, Level, Sequence, Spells}
 
 -- where the reader stands: before a factor, which the function puts into its product, or behind a product

@@ -134,9 +134,10 @@ mod tests {
     #[test]
     fn reads_4096_bytes(rt: HostRuntime) -> Result<(), Fail> {
         let mut text = b"process = _;".to_vec(rt.alloc())?;
-        while text.len() < 4_096 {
+        for _ in 0..4_084 {
             text.push(b' ')?;
         }
+        assert_eq!(rt; text.len(), 4_096);
         assert!(rt; read_program(rt.alloc(), &text)?.is_some());
         text.push(b' ')?;
         assert!(rt; read_program(rt.alloc(), &text)?.is_none());
