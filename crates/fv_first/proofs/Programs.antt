@@ -8,8 +8,8 @@ use Rattle.fv_first.specs.declared.token.Token.{Token}
 use Rattle.fv_first.specs.declared.token.Token.TheVariants.{Process, Equals, Semicolon}
 use Rattle.fv_first.specs.Tokens.{Cuts}
 use Rattle.fv_first.specs.Lexed.{IsUncut, AreTokens}
-use Rattle.fv_first.specs.Grammar.{text_limit, IsProgram, IsNoProgram, SpelledOnce, NoHead}
-use Rattle.fv_first.specs.Reads.{reads, same, takes_one, Wants, IsNoSequence, Found}
+use Rattle.fv_first.specs.Grammar.{text_limit, IsProgram, IsNoProgram, SpelledOnce}
+use Rattle.fv_first.specs.Reads.{reads, same, takes_one, Wants, NoHead, IsNoSequence, Found}
 use Rattle.fv_first.proofs.Cutting.{one_cut}
 use Rattle.fv_first.proofs.Reading.{one_diagram, flowing_is, sequence_term}
 

@@ -8,7 +8,7 @@ use Rattle.fv_diagram.specs.declared.node.Primitive.TheVariants as prim
 use Rattle.fv_diagram.specs.Diagram.{Diagram, Primitive, Constant, Seq, inputs, IsWellFormed}
 use Rattle.fv_diagram.specs.Arena.{tree_of}
 use Rattle.fv_first.specs.declared.token.Token.{Token}
-use Rattle.fv_first.specs.declared.token.Token.TheVariants.{Mem, Integer, Wire, Colon, Plus, Minus, Times, Semicolon}
+use Rattle.fv_first.specs.declared.token.Token.TheVariants.{Process, Mem, Integer, Wire, Colon, Plus, Minus, Times, Equals, Semicolon}
 use Rattle.fv_first.specs.Grammar.{operated, Level, Sequence, Spells}
 
 -- where the reader stands: before a factor, which the function puts into its product, or behind a product
@@ -86,6 +86,13 @@ IsLeaf t n i = ⊥
 -- a sum does not go on with these tokens
 abbrev pub EndsSum : List Token → Type 0
 EndsSum ts = NoTimes ts × NoSign ts
+
+-- the tokens do not begin with `process =`
+abbrev pub NoHead : List Token → Type 0
+NoHead [] = Unit {0}
+NoHead (Process ∷ []) = Unit {0}
+NoHead (Process ∷ Equals ∷ ts) = ⊥
+NoHead (t ∷ ts) = Unit {0}
 
 -- no sequence of one input and a semicolon
 abbrev pub IsNoSequence : List Token → Type 0
