@@ -1,16 +1,15 @@
 -- What the loop over the sums of a sequence keeps.
-use Rattle.std.proofs.Common.{◌≡◌, ◌≢◌, ℕ, suc, ◌+◌, ◌*◌, ◌<◌, ◌≤◌, Bool, true, false, cond, List, [], ◌∷◌, ◌++◌, length, Option, Some, None, refl, sym, ap, subst, ◌∙◌, arith, append_assoc}
-use Rattle.std.specs.Prelude.{nat_eq}
+use Rattle.std.proofs.Common.{◌≡◌, ◌≢◌, ℕ, ◌≤◌, true, false, List, [], ◌∷◌, ◌++◌, length, None, refl, sym, ap, subst, ◌∙◌, arith, append_assoc}
 use Rattle.std.proofs.lemmas.Bool.{eq-eqb, ne_eqb}
-use Rattle.std.proofs.lemmas.List.{length-append, append-nil}
+use Rattle.std.proofs.lemmas.List.{length-append}
 use Rattle.fv_diagram.specs.declared.node.Node.{Node}
-use Rattle.fv_diagram.specs.Diagram.{Diagram, Seq, inputs, outputs, size, IsWellFormed}
+use Rattle.fv_diagram.specs.Diagram.{Diagram, Seq, inputs, size, IsWellFormed}
 use Rattle.fv_diagram.specs.Arena.{tree_of, size_limit}
 use Rattle.fv_first.specs.declared.token.Token.{Token}
-use Rattle.fv_first.specs.declared.token.Token.TheVariants.{Process, Mem, Integer, Wire, Colon, Plus, Minus, Times, Equals, Semicolon}
-use Rattle.fv_first.specs.Grammar.{text_limit, Level, Sum, Sequence, Spells, a_sum, then_}
-use Rattle.fv_first.specs.Reads.{Wants, Behind, same, chained, reads, takes_one, NoSum, NoTimes, NoSign, NoColon, at_end, EndsSum, IsNoSequence, Keeps, Adds, Reads, Gives, forest, AreInside, Found}
-use Rattle.fv_first.proofs.Reading.{Term, sum_term, sequence_term, sum_well, sum_is, chained_push, Flows}
+use Rattle.fv_first.specs.declared.token.Token.TheVariants.{Colon, Plus, Minus, Times, Semicolon}
+use Rattle.fv_first.specs.Grammar.{text_limit, Sum, Sequence, Spells, a_sum, then_}
+use Rattle.fv_first.specs.Reads.{Wants, Behind, same, chained, reads, takes_one, NoSum, NoTimes, NoColon, at_end, EndsSum, IsNoSequence, Keeps, Adds, Reads, Gives, forest, AreInside, Found}
+use Rattle.fv_first.proofs.Reading.{sum_term, sequence_term, sum_well, sum_is, chained_push, Flows}
 use Rattle.fv_first.proofs.Growth.{AreInside-keeps, forest_keeps, AreInside-push, forest_push}
 
 -- the tokens are the sums ds, each of one input and with its `:`, and a rest

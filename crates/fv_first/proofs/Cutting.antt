@@ -1,12 +1,12 @@
 -- What the lexer's loop keeps.
-use Rattle.std.proofs.Common.{◌≡◌, ℕ, zero, suc, ◌+◌, ◌<◌, ◌≤◌, Bool, true, false, cond, List, [], ◌∷◌, ◌++◌, length, Option, Some, None, refl, sym, ap, subst, ◌∙◌, arith, append_assoc}
+use Rattle.std.proofs.Common.{◌≡◌, ℕ, ◌<◌, ◌≤◌, Bool, true, false, cond, List, [], ◌∷◌, ◌++◌, length, Some, None, refl, sym, ap, subst, ◌∙◌, arith, append_assoc}
 use Rattle.std.proofs.lemmas.List.{length-append, append-nil}
 use Rattle.fv_first.specs.declared.token.Token.{Token}
 use Rattle.fv_first.specs.declared.token.Token.TheVariants.{Process, Mem, Integer, Wire, Colon, Plus, Minus, Times, Equals, Semicolon}
-use Rattle.fv_first.specs.Tokens.{is_blank, Spelled, goes_on, Cuts, nothing, blank, token}
+use Rattle.fv_first.specs.Tokens.{is_blank, Spelled, Cuts, nothing, blank, token}
 use Rattle.fv_first.specs.Next.{front, next, after_blank}
 use Rattle.fv_first.specs.Lexed.{IsUncut, AreTokens}
-use Rattle.fv_first.proofs.Nexts.{same_found, next_is, next_found, IsNext, blank_next}
+use Rattle.fv_first.proofs.Nexts.{same_found, next_is, next_found, blank_next}
 
 nothing_next : next [] ≡ None
 unfolding next front

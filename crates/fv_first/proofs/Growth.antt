@@ -1,17 +1,17 @@
 -- What the parser keeps while its arena grows.
-use Rattle.std.proofs.Common.{◌≡◌, ℕ, suc, ◌+◌, ◌*◌, ◌<◌, ◌≤◌, Bool, true, false, List, [], ◌∷◌, ◌++◌, length, Option, Some, None, refl, sym, ap, subst, ◌∙◌, arith, append_assoc}
-use Rattle.std.proofs.lemmas.List.{length-append, append-nil}
+use Rattle.std.proofs.Common.{◌≡◌, ℕ, suc, ◌+◌, ◌*◌, ◌<◌, ◌≤◌, List, [], ◌∷◌, ◌++◌, length, refl, sym, ap, subst, ◌∙◌, arith, append_assoc}
+use Rattle.std.proofs.lemmas.List.{length-append}
 use Rattle.fv_num.specs.Words.{inputs_of}
 use Rattle.fv_num.specs.declared.op.Op.{Op}
 use Rattle.fv_num.specs.declared.op.Op.TheVariants.{Add, Sub, Mul}
 use Rattle.fv_diagram.specs.declared.node.Node.{Node}
-use Rattle.fv_diagram.specs.Diagram.{Diagram, Seq, inputs, outputs, size, IsWellFormed}
+use Rattle.fv_diagram.specs.Diagram.{Diagram, Seq, inputs, outputs, size}
 use Rattle.fv_diagram.specs.Arena.{tree_in, tree_of, trees, ChildrenBelow, size_limit}
 use Rattle.fv_first.specs.declared.token.Token.{Token}
-use Rattle.fv_first.specs.declared.token.Token.TheVariants.{Process, Mem, Integer, Wire, Colon, Plus, Minus, Times, Equals, Semicolon}
-use Rattle.fv_first.specs.Grammar.{operated, text_limit, Level, Factor, Product, Sum, Sequence, Spells, a_wire, a_mem, an_integer, a_factor, times, a_product, plus, minus, a_sum, then_}
-use Rattle.fv_first.specs.Reads.{Wants, Behind, same, chained, reads, NoFactor, NoProduct, NoSum, NoTimes, NoSign, NoColon, IsSigned, NoLeaf, IsLeaf, Keeps, Adds, Reads, Gives, forest, AreInside, Found}
-use Rattle.fv_first.proofs.Reading.{Term, factor_term, product_term, sum_term, product_is, factor_is, sum_is, chained_push}
+use Rattle.fv_first.specs.declared.token.Token.TheVariants.{Mem, Integer, Wire, Plus, Minus, Times}
+use Rattle.fv_first.specs.Grammar.{operated, text_limit, Level, Factor, Product, Sum, Spells, a_wire, a_mem, an_integer, a_factor, times, a_product, plus, minus}
+use Rattle.fv_first.specs.Reads.{Wants, Behind, same, chained, reads, NoFactor, NoProduct, NoSum, NoTimes, IsSigned, NoLeaf, IsLeaf, Keeps, Adds, Gives, forest, AreInside}
+use Rattle.fv_first.proofs.Reading.{Term, factor_term, product_term, sum_term, product_is, sum_is, chained_push}
 
 pub Keeps-refl : (a : List Node) → Keeps a a
 Keeps-refl a = record { longer = omega arith; trees = λ i h. refl }

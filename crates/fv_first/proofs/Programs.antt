@@ -1,5 +1,5 @@
 -- What is read of a text is its diagram, and a text of which nothing is read has none.
-use Rattle.std.proofs.Common.{◌≡◌, ℕ, suc, ◌+◌, ◌<◌, ◌≤◌, List, [], ◌∷◌, ◌++◌, length, Option, Some, None, refl, sym, ap, subst, ◌∙◌, arith}
+use Rattle.std.proofs.Common.{◌≡◌, ℕ, ◌<◌, ◌≤◌, List, [], ◌∷◌, ◌++◌, length, Option, Some, None, sym, ap, subst, ◌∙◌, arith}
 use Rattle.fv_diagram.specs.declared.node.Node.{Node}
 use Rattle.fv_diagram.specs.Diagram.{Diagram, HasNoFreeSlot}
 use Rattle.fv_diagram.specs.Arena.{tree_of}
@@ -8,8 +8,8 @@ use Rattle.fv_first.specs.declared.token.Token.{Token}
 use Rattle.fv_first.specs.declared.token.Token.TheVariants.{Process, Equals, Semicolon}
 use Rattle.fv_first.specs.Tokens.{Cuts}
 use Rattle.fv_first.specs.Lexed.{IsUncut, AreTokens}
-use Rattle.fv_first.specs.Grammar.{text_limit, Sequence, Spells, IsSpelled, IsProgram, IsNoProgram, SpelledOnce, NoHead}
-use Rattle.fv_first.specs.Reads.{reads, same, takes_one, Wants, IsNoSequence, Found}
+use Rattle.fv_first.specs.Grammar.{text_limit, IsProgram, IsNoProgram, SpelledOnce}
+use Rattle.fv_first.specs.Reads.{reads, same, takes_one, Wants, NoHead, IsNoSequence, Found}
 use Rattle.fv_first.proofs.Cutting.{one_cut}
 use Rattle.fv_first.proofs.Reading.{one_diagram, flowing_is, sequence_term}
 

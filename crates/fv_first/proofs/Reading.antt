@@ -1,17 +1,16 @@
 -- What is spelled is read, whatever follows it.
-use Rattle.std.proofs.Common.{◌≡◌, ℕ, suc, ◌+◌, ◌*◌, ◌<◌, ◌≤◌, Bool, true, false, cond, List, [], ◌∷◌, ◌++◌, length, Option, Some, None, refl, sym, ap, subst, ◌∙◌, arith, append_assoc, inl, inr}
-use Rattle.std.specs.Prelude.{nat_eq}
+use Rattle.std.proofs.Common.{◌≡◌, ◌*◌, ◌≤◌, Bool, true, List, [], ◌∷◌, ◌++◌, length, Option, Some, refl, sym, ap, ◌∙◌, arith, append_assoc, inl, inr}
 use Rattle.std.proofs.lemmas.Bool.{eq-eqb}
-use Rattle.std.proofs.lemmas.List.{length-append, append-nil}
+use Rattle.std.proofs.lemmas.List.{length-append}
 use Rattle.fv_num.specs.Words.{inputs_of}
 use Rattle.fv_num.specs.declared.op.Op.{Op}
 use Rattle.fv_num.specs.declared.op.Op.TheVariants.{Add, Sub, Mul}
-use Rattle.fv_diagram.specs.Diagram.{Diagram, Primitive, Constant, Par, Seq, inputs, outputs, size, IsWellFormed, IsFree, HasNoFreeSlot}
+use Rattle.fv_diagram.specs.Diagram.{Diagram, Seq, inputs, outputs, size, IsWellFormed, HasNoFreeSlot}
 use Rattle.fv_diagram.specs.Emit.{IsPlain}
 use Rattle.fv_first.specs.declared.token.Token.{Token}
-use Rattle.fv_first.specs.declared.token.Token.TheVariants.{Process, Mem, Integer, Wire, Colon, Plus, Minus, Times, Equals, Semicolon}
-use Rattle.fv_first.specs.Grammar.{operated, Level, Factor, Product, Sum, Sequence, Spells, a_wire, a_mem, an_integer, a_factor, times, a_product, plus, minus, a_sum, then_}
-use Rattle.fv_first.specs.Reads.{Place, Wants, Behind, same, chained, reads, NoFactor, NoProduct, NoSum, takes_one, NoTimes, NoSign, NoColon, at_end}
+use Rattle.fv_first.specs.declared.token.Token.TheVariants.{Colon, Plus, Minus, Times, Semicolon}
+use Rattle.fv_first.specs.Grammar.{operated, Factor, Product, Sum, Sequence, Spells, a_wire, a_mem, an_integer, a_factor, times, a_product, plus, minus, a_sum, then_}
+use Rattle.fv_first.specs.Reads.{Wants, Behind, same, chained, reads, takes_one, NoTimes}
 
 -- ---- the form of what is spelled
 pub record Term (a : List Token) (x : Diagram) : Type 0 where

@@ -62,10 +62,3 @@ IsNoProgram text = (d : Diagram) → IsProgram text d → ⊥
 -- A text spells at most one diagram.
 abbrev pub SpelledOnce : Type 0
 SpelledOnce = (text : List ℕ) (d e : Diagram) → IsSpelled text d → IsSpelled text e → d ≡ e
-
--- the tokens do not begin with `process =`
-abbrev pub NoHead : List Token → Type 0
-NoHead [] = Unit {0}
-NoHead (Process ∷ []) = Unit {0}
-NoHead (Process ∷ Equals ∷ ts) = ⊥
-NoHead (t ∷ ts) = Unit {0}

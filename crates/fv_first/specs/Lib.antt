@@ -3,3 +3,4 @@ pub mod Grammar
 pub mod Next
 pub mod Lexed
 pub mod Reads
+pub mod Examples

@@ -1,5 +1,5 @@
 -- Reading from left to right: the diagram of `sequence ;`, if there is one.
-use Rattle.std.specs.Prelude.{◌≡◌, ℕ, ◌<◌, ◌≤◌, ◌*◌, ◌+◌, Bool, true, false, nat_eq, List, [], ◌∷◌, ◌++◌, length, Option, Some, None, if◌then◌else◌}
+use Rattle.std.specs.Prelude.{◌≡◌, ℕ, ◌<◌, ◌≤◌, Bool, true, false, nat_eq, List, [], ◌∷◌, ◌++◌, length, Option, Some, None, if◌then◌else◌}
 use Rattle.fv_num.specs.declared.op.Op.{Op}
 use Rattle.fv_num.specs.declared.op.Op.TheVariants.{Add, Sub, Mul}
 use Rattle.fv_diagram.specs.declared.node.Node.{Node}
@@ -86,6 +86,13 @@ IsLeaf t n i = ⊥
 -- a sum does not go on with these tokens
 abbrev pub EndsSum : List Token → Type 0
 EndsSum ts = NoTimes ts × NoSign ts
+
+-- the tokens do not begin with `process =`
+abbrev pub NoHead : List Token → Type 0
+NoHead [] = Unit {0}
+NoHead (Process ∷ []) = Unit {0}
+NoHead (Process ∷ Equals ∷ ts) = ⊥
+NoHead (t ∷ ts) = Unit {0}
 
 -- no sequence of one input and a semicolon
 abbrev pub IsNoSequence : List Token → Type 0

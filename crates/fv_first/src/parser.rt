@@ -1,4 +1,5 @@
-// The diagram that tokens spell.
+// The diagram that tokens spell. (A `Result` that holds a `DiagramId` beside a slice is matched, since no proof is
+// generated for a `?` on one.)
 
 ghost use Rattle.std.specs.Prelude.{◌≡◌, ◌+◌, ◌<◌, ◌≤◌, [], ◌∷◌, length, IfOk, MatchOption};
 ghost use Rattle.fv_num.specs.Words.{inputs_of};

@@ -5,7 +5,8 @@ ghost use Rattle.fv_diagram.specs.Diagram.{HasNoFreeSlot};
 ghost use Rattle.fv_diagram.specs.Arena.{tree_of};
 ghost use Rattle.fv_diagram.specs.Emit.{IsPlain};
 ghost use Rattle.fv_first.specs.declared.token.Token.TheVariants as token;
-ghost use Rattle.fv_first.specs.Grammar.{IsProgram, IsNoProgram, NoHead, SpelledOnce};
+ghost use Rattle.fv_first.specs.Grammar.{IsProgram, IsNoProgram, SpelledOnce};
+ghost use Rattle.fv_first.specs.Reads.{NoHead};
 
 use crate::lexer::tokens;
 use crate::parser::sequence;
@@ -19,7 +20,9 @@ pub const TEXT_LIMIT: usize = 4_096;
 /// The diagram that a text of the first form spells.
 #[derive(Drop)]
 pub struct Program {
+    /// The nodes.
     pub diagrams: Diagrams,
+    /// The diagram's node.
     pub root: DiagramId,
 }
 
@@ -134,9 +137,10 @@ mod tests {
     #[test]
     fn reads_4096_bytes(rt: HostRuntime) -> Result<(), Fail> {
         let mut text = b"process = _;".to_vec(rt.alloc())?;
-        while text.len() < 4_096 {
+        for _ in 0..4_084 {
             text.push(b' ')?;
         }
+        assert_eq!(rt; text.len(), 4_096);
         assert!(rt; read_program(rt.alloc(), &text)?.is_some());
         text.push(b' ')?;
         assert!(rt; read_program(rt.alloc(), &text)?.is_none());

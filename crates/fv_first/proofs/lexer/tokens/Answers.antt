@@ -1,6 +1,6 @@
 use Rattle.std.proofs.Common.{◌≡◌, ◌<◌, length, arith}
 use Rattle.std.proofs.lemmas.Bool.Decides.{nat_tests}
-use Rattle.fv_first.proofs.Cutting.{lexed_start, lexed_blank, lexed_token, lexed_uncut, lexed_end, next_shorter}
+use Rattle.fv_first.proofs.Cutting.{lexed_blank, lexed_token, lexed_uncut, lexed_end, next_shorter}
 use Rattle.fv_first.proofs.lexer.tokens.Goals as goal
 
 pub cut-preserved-in-Some : goal.cut-preserved-in-Some

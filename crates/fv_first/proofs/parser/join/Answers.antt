@@ -1,6 +1,3 @@
-use Rattle.std.proofs.Common.{◌≡◌, length, arith}
-use Rattle.fv_diagram.specs.Arena.{tree_of}
-use Rattle.fv_first.specs.Reads.{chained, forest}
 use Rattle.fv_first.proofs.Growth.{joining_inside, joining_small, joining_on}
 use Rattle.fv_first.proofs.parser.join.Goals as goal
 

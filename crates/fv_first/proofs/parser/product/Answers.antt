@@ -1,5 +1,5 @@
 use Rattle.std.proofs.lemmas.Option.{MatchOption-at_some, MatchOption-at_none}
-use Rattle.fv_first.proofs.Growth.{Ready, product_start, product_none, product_ready, product_on}
+use Rattle.fv_first.proofs.Growth.{product_start, product_none, product_ready, product_on}
 use Rattle.fv_first.proofs.parser.product.Goals as goal
 
 pub factors-init : goal.factors-init

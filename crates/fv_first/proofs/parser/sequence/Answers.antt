@@ -1,10 +1,10 @@
-use Rattle.std.proofs.Common.{◌≡◌, length, arith, ◌≢◌, ◌∙◌, sym}
-use Rattle.std.proofs.lemmas.Option.{MatchOption-at_some, MatchOption-at_none}
+use Rattle.std.proofs.Common.{◌≡◌, ◌≢◌, ◌∙◌, sym}
+use Rattle.std.proofs.lemmas.Option.{MatchOption-at_some}
 use Rattle.fv_diagram.specs.Diagram.{inputs}
 use Rattle.fv_diagram.specs.Arena.{tree_of}
-use Rattle.fv_first.specs.Reads.{chained, forest, Gives}
-use Rattle.fv_first.proofs.Growth.{AreInside-keeps, shorter}
-use Rattle.fv_first.proofs.Chains.{Chaining, chaining_start, chaining_short, chaining_on, chaining_none, chaining_wide, chaining_other, chaining_end, ended_small, ended_found}
+use Rattle.fv_first.specs.Reads.{chained, forest}
+use Rattle.fv_first.proofs.Growth.{AreInside-keeps}
+use Rattle.fv_first.proofs.Chains.{chaining_on, chaining_wide, chaining_other, chaining_end, ended_small, ended_found}
 use Rattle.fv_first.proofs.parser.sequence.Goals as goal
 
 pub returns-then-arity-ne1 : goal.returns-then-arity-ne1

@@ -1,7 +1,7 @@
 use Rattle.std.proofs.lemmas.Option.{MatchOption-at_some, MatchOption-at_none}
 use Rattle.fv_first.specs.Grammar.{Product, Sum}
-use Rattle.std.proofs.Common.{◌≤◌, length, arith}
-use Rattle.fv_first.proofs.Growth.{Ready, sum_start, sum_fails, sum_none, sum_ready, sum_on, signed_two, signed_shorter, shorter}
+use Rattle.std.proofs.Common.{arith}
+use Rattle.fv_first.proofs.Growth.{sum_start, sum_none, sum_ready, sum_on, signed_two, signed_shorter, shorter}
 use Rattle.fv_first.proofs.parser.sum.Goals as goal
 
 pub terms-init : goal.terms-init

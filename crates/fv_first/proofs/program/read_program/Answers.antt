@@ -1,4 +1,4 @@
-use Rattle.std.proofs.Common.{◌≡◌, ◌∷◌, ◌∙◌, sym, arith}
+use Rattle.std.proofs.Common.{◌∙◌, sym, arith}
 use Rattle.std.proofs.lemmas.Option.{MatchOption-at_some, MatchOption-at_none}
 use Rattle.fv_first.proofs.Programs.{is_program, is_plain, is_closed, unread_none}
 use Rattle.fv_first.proofs.program.read_program.Goals as goal
