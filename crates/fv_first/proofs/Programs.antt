@@ -1,9 +1,10 @@
 -- What is read of a text is its diagram, and a text of which nothing is read has none.
-use Rattle.std.proofs.Common.{◌≡◌, ℕ, ◌<◌, ◌≤◌, List, [], ◌∷◌, ◌++◌, length, Option, Some, None, sym, ap, subst, ◌∙◌, arith}
+use Rattle.std.proofs.Common.{◌≡◌, ℕ, ◌<◌, ◌≤◌, List, [], ◌∷◌, ◌++◌, length, Option, Some, None, sym, ap, subst, ◌∙◌, arith, refl}
 use Rattle.fv_diagram.specs.declared.node.Node.{Node}
-use Rattle.fv_diagram.specs.Diagram.{Diagram, HasNoFreeSlot}
+use Rattle.fv_diagram.specs.Diagram.{Diagram, Primitive, Constant, Control, Slot, Bind, Par, Seq, Split, Merge, Rec, control_bound, HasNoDelay, HasNoFreeSlot}
 use Rattle.fv_diagram.specs.Arena.{tree_of}
-use Rattle.fv_diagram.specs.Emit.{IsPlain}
+use Rattle.fv_diagram.specs.declared.node.Primitive.TheVariants as prim
+use Rattle.fv_first.specs.Forms.{IsPlain}
 use Rattle.fv_first.specs.declared.token.Token.{Token}
 use Rattle.fv_first.specs.declared.token.Token.TheVariants.{Process, Equals, Semicolon}
 use Rattle.fv_first.specs.Tokens.{Cuts}
@@ -35,8 +36,38 @@ is_program text ts body nodes id short a e f = record {
   one_output = (sequence_term f.spelled).one;
 }
 
-pub is_plain : (body : List Token) (nodes : List Node) (id : ℕ) → Found nodes body id → IsPlain (tree_of nodes id)
-is_plain body nodes id f = (sequence_term f.spelled).plain
+-- a plain diagram has no variable delay
+plain_has_no_delay : (d : Diagram) → IsPlain d → HasNoDelay d
+plain_has_no_delay (Primitive prim.Delay) h = absurd h
+plain_has_no_delay (Primitive p) h = tt
+plain_has_no_delay (Constant n) h = tt
+plain_has_no_delay (Control k) h = tt
+plain_has_no_delay (Slot s) h = tt
+plain_has_no_delay (Bind s a) h = absurd h
+plain_has_no_delay (Par a b) h = (plain_has_no_delay a h.0, plain_has_no_delay b h.1)
+plain_has_no_delay (Seq a b) h = (plain_has_no_delay a h.0, plain_has_no_delay b h.1)
+plain_has_no_delay (Split a b) h = absurd h
+plain_has_no_delay (Merge a b) h = absurd h
+plain_has_no_delay (Rec a b) h = absurd h
+
+-- and reads no controls
+plain_reads_none : (d : Diagram) → IsPlain d → control_bound d ≡ 0
+plain_reads_none (Primitive p) h = refl
+plain_reads_none (Constant n) h = refl
+plain_reads_none (Control k) h = absurd h
+plain_reads_none (Slot s) h = refl
+plain_reads_none (Bind s a) h = absurd h
+plain_reads_none (Par a b) h = let x = plain_reads_none a h.0 in let y = plain_reads_none b h.1 in omega arith
+plain_reads_none (Seq a b) h = let x = plain_reads_none a h.0 in let y = plain_reads_none b h.1 in omega arith
+plain_reads_none (Split a b) h = absurd h
+plain_reads_none (Merge a b) h = absurd h
+plain_reads_none (Rec a b) h = absurd h
+
+pub has_no_delay : (body : List Token) (nodes : List Node) (id : ℕ) → Found nodes body id → HasNoDelay (tree_of nodes id)
+has_no_delay body nodes id f = plain_has_no_delay _ (sequence_term f.spelled).plain
+
+pub reads_no_controls : (body : List Token) (nodes : List Node) (id : ℕ) → Found nodes body id → control_bound (tree_of nodes id) ≡ 0
+reads_no_controls body nodes id f = plain_reads_none _ (sequence_term f.spelled).plain
 
 pub is_closed : (body : List Token) (nodes : List Node) (id : ℕ) → Found nodes body id → HasNoFreeSlot (tree_of nodes id)
 is_closed body nodes id f = (sequence_term f.spelled).closed

@@ -6,7 +6,7 @@ use Rattle.fv_num.specs.Words.{inputs_of}
 use Rattle.fv_num.specs.declared.op.Op.{Op}
 use Rattle.fv_num.specs.declared.op.Op.TheVariants.{Add, Sub, Mul}
 use Rattle.fv_diagram.specs.Diagram.{Diagram, Seq, inputs, outputs, size, IsWellFormed, HasNoFreeSlot}
-use Rattle.fv_diagram.specs.Emit.{IsPlain}
+use Rattle.fv_first.specs.Forms.{IsPlain}
 use Rattle.fv_first.specs.declared.token.Token.{Token}
 use Rattle.fv_first.specs.declared.token.Token.TheVariants.{Colon, Plus, Minus, Times, Semicolon}
 use Rattle.fv_first.specs.Grammar.{operated, Factor, Product, Sum, Sequence, Spells, a_wire, a_mem, an_integer, a_factor, times, a_product, plus, minus, a_sum, then_}

@@ -4,3 +4,4 @@ pub mod Next
 pub mod Lexed
 pub mod Reads
 pub mod Examples
+pub mod Forms

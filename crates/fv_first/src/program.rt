@@ -1,9 +1,8 @@
 // Programs of the first form.
 
 ghost use Rattle.std.specs.Prelude.{◌<◌, ◌≤◌, ◌≡◌, ◌∷◌, length, IfOk, IfSome, IfNone, MatchOption};
-ghost use Rattle.fv_diagram.specs.Diagram.{HasNoFreeSlot};
+ghost use Rattle.fv_diagram.specs.Diagram.{control_bound, HasNoDelay, HasNoFreeSlot};
 ghost use Rattle.fv_diagram.specs.Arena.{tree_of};
-ghost use Rattle.fv_diagram.specs.Emit.{IsPlain};
 ghost use Rattle.fv_first.specs.declared.token.Token.TheVariants as token;
 ghost use Rattle.fv_first.specs.Grammar.{IsProgram, IsNoProgram, SpelledOnce};
 ghost use Rattle.fv_first.specs.Reads.{NoHead};
@@ -47,7 +46,8 @@ pub fn read_program(alloc: Global, text: &[u8]) -> Result<Option<Program>, Alloc
     ensures found { IfOk result (λ o. IfSome o (λ p. IsProgram text.now (tree_of p.diagrams p.root))) }
     ensures root { IfOk result (λ o. IfSome o (λ p. p.root < length p.diagrams)) }
     // A runner may be made of it.
-    ensures plain { IfOk result (λ o. IfSome o (λ p. IsPlain (tree_of p.diagrams p.root))) }
+    ensures delays { IfOk result (λ o. IfSome o (λ p. HasNoDelay (tree_of p.diagrams p.root))) }
+    ensures controls { IfOk result (λ o. IfSome o (λ p. control_bound (tree_of p.diagrams p.root) ≡ 0)) }
     ensures closed { IfOk result (λ o. IfSome o (λ p. HasNoFreeSlot (tree_of p.diagrams p.root))) }
     // Only a text of another form is refused.
     ensures refused { IfOk result (λ o. IfNone o (IsNoProgram text.now)) }

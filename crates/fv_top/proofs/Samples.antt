@@ -2,8 +2,6 @@
 use Rattle.std.proofs.Common.{◌≡◌, ℕ, zero, suc, ◌+◌, ◌*◌, ◌/◌, ◌<◌, ◌≤◌, List, [], ◌∷◌, ◌++◌, length, take, map, get_or, replicate, ℤ, pos, sym, ◌∙◌, ap, arith, subst, refl, w16, max, add-one}
 use Rattle.std.specs.Int.{cast_signed, from_le_bytes}
 use Rattle.fv_num.specs.Frames.{Frame, Stream, column, frame_at}
-use Rattle.fv_diagram.specs.Diagram.{Diagram, Primitive, Constant, Control, Slot, Bind, Par, Seq, Split, Merge, Rec, control_bound}
-use Rattle.fv_diagram.specs.Emit.{IsPlain}
 use Rattle.fv_top.specs.Controls.{control_streams}
 use Rattle.fv_top.specs.Wave.{samples_in}
 
@@ -23,19 +21,6 @@ pub length-samples : (bytes : List ℕ) → length (samples_in bytes) ≡ length
 length-samples [] = refl
 length-samples (low ∷ []) = refl
 length-samples (low ∷ high ∷ bytes) = ap suc (length-samples bytes) ∙ omega arith
-
--- a plain diagram reads no controls
-pub plain_reads_none : (d : Diagram) → IsPlain d → control_bound d ≡ 0
-plain_reads_none (Primitive p) h = refl
-plain_reads_none (Constant n) h = refl
-plain_reads_none (Control k) h = absurd h
-plain_reads_none (Slot s) h = absurd h
-plain_reads_none (Bind s a) h = absurd h
-plain_reads_none (Par a b) h = let x = plain_reads_none a h.0 in let y = plain_reads_none b h.1 in omega arith
-plain_reads_none (Seq a b) h = let x = plain_reads_none a h.0 in let y = plain_reads_none b h.1 in omega arith
-plain_reads_none (Split a b) h = let x = plain_reads_none a h.0 in let y = plain_reads_none b h.1 in omega arith
-plain_reads_none (Merge a b) h = absurd h
-plain_reads_none (Rec a b) h = let x = plain_reads_none a h.0 in let y = plain_reads_none b h.1 in omega arith
 
 -- one list of each number, up to the next one
 pub singles_more : (xs : List ℤ) (n : ℕ) (x : Frame) → n < length xs → x ≡ get_or xs n (pos 0) ∷ [] →

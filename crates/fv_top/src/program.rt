@@ -5,8 +5,7 @@ ghost use Rattle.fv_outside.specs.declared.role.Role.TheVariants.{Program as pro
 ghost use Rattle.fv_outside.specs.declared.transfer.ReadError.TheVariants as errors;
 ghost use Rattle.fv_outside.specs.Desk.{KeepsQuiet, HasFault};
 ghost use Rattle.fv_diagram.specs.Arena.{tree_of};
-ghost use Rattle.fv_diagram.specs.Diagram.{HasNoFreeSlot};
-ghost use Rattle.fv_diagram.specs.Emit.{IsPlain};
+ghost use Rattle.fv_diagram.specs.Diagram.{control_bound, HasNoDelay, HasNoFreeSlot};
 ghost use Rattle.fv_first.specs.Grammar.{IsProgram};
 ghost use Rattle.fv_top.specs.Loading.{IsUnspelled, StopsLoading, IsFile, refusal_of_read, IsUnsupportedOrNoMemory};
 
@@ -23,7 +22,8 @@ const TEXT_BYTES: usize = 4097;
 pub fn load_program<D: Desk>(alloc: Global, desk: &mut D, name: &str) -> Result<Program, Refusal>
     ensures quiet { KeepsQuiet (D.state desk.old) (D.state desk.new) }
     ensures spelled { IfOk result (λ p. (text : List ℕ) × IsFile name.now text (D.state desk.old) × IsProgram text (tree_of p.diagrams p.root)) }
-    ensures runs { IfOk result (λ p. (p.root < length p.diagrams) × IsPlain (tree_of p.diagrams p.root) × HasNoFreeSlot (tree_of p.diagrams p.root)) }
+    ensures runs { IfOk result (λ p. (p.root < length p.diagrams) × HasNoDelay (tree_of p.diagrams p.root)
+        × (control_bound (tree_of p.diagrams p.root) ≡ 0) × HasNoFreeSlot (tree_of p.diagrams p.root)) }
     ensures err { IfErr result (StopsLoading program_role (codes "program") (IsUnspelled name.now (D.state desk.old).files) (D.state desk.old) (D.state desk.new)) }
 {
     let text = match read_text(alloc, desk, name) {

@@ -3,9 +3,8 @@
 ghost use Rattle.std.specs.Prelude.{◌≡◌, ◌+◌, ◌*◌, ◌/◌, ◌%◌, ◌^◌, ◌<◌, ◌≤◌, [], ◌∷◌, ◌++◌, length, map, codes, flat_map, OnOk, IfOk, slice_index_or, pos};
 ghost use Rattle.std.specs.Int.{cast_signed, from_le_bytes};
 ghost use Rattle.std.proofs.Common.{w16};
-ghost use Rattle.fv_diagram.specs.Diagram.{inputs, outputs, control_bound, HasNoFreeSlot, IsWellFormed};
+ghost use Rattle.fv_diagram.specs.Diagram.{inputs, outputs, control_bound, HasNoDelay, HasNoFreeSlot, IsWellFormed};
 ghost use Rattle.fv_diagram.specs.Arena.{tree_of};
-ghost use Rattle.fv_diagram.specs.Emit.{IsPlain};
 ghost use Rattle.fv_diagram.specs.Streams.{run};
 ghost use Rattle.fv_top.specs.Controls.{control_streams};
 ghost use Rattle.fv_top.specs.Wave.{head_bytes, sample_bytes, frame_bytes, output_file, no_slots, samples_in, le16, le32, data_limit};
@@ -19,7 +18,7 @@ use std::alloc::{AllocError, Global};
 /// The bytes of the output file of a program on an input.
 pub fn render(alloc: Global, program: &Program, input: &Input) -> Result<Vec<u8>, AllocError>
     requires root { program.now.root < length program.now.diagrams }
-    requires plain { IsPlain (tree_of program.now.diagrams program.now.root) }
+    requires delays { HasNoDelay (tree_of program.now.diagrams program.now.root) }
     requires well { IsWellFormed (tree_of program.now.diagrams program.now.root) }
     requires closed { HasNoFreeSlot (tree_of program.now.diagrams program.now.root) }
     requires controls { control_bound (tree_of program.now.diagrams program.now.root) ≡ 0 }
@@ -86,7 +85,7 @@ fn push_frames(
     file: &mut Vec<u8>,
 ) -> Result<(), AllocError>
     requires root { program.now.root < length program.now.diagrams }
-    requires plain { IsPlain (tree_of program.now.diagrams program.now.root) }
+    requires delays { HasNoDelay (tree_of program.now.diagrams program.now.root) }
     requires well { IsWellFormed (tree_of program.now.diagrams program.now.root) }
     requires closed { HasNoFreeSlot (tree_of program.now.diagrams program.now.root) }
     requires controls { control_bound (tree_of program.now.diagrams program.now.root) ≡ 0 }

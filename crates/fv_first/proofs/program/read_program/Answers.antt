@@ -1,6 +1,6 @@
 use Rattle.std.proofs.Common.{◌∙◌, sym, arith}
 use Rattle.std.proofs.lemmas.Option.{MatchOption-at_some, MatchOption-at_none}
-use Rattle.fv_first.proofs.Programs.{is_program, is_plain, is_closed, unread_none}
+use Rattle.fv_first.proofs.Programs.{is_program, has_no_delay, reads_no_controls, is_closed, unread_none}
 use Rattle.fv_first.proofs.program.read_program.Goals as goal
 
 pub returns-in_default-2-clause-refused : goal.returns-in_default-2-clause-refused
@@ -17,10 +17,15 @@ returns-clause-found c =
     let found = MatchOption-at_some _ _ _ c.in-Some-2.is c.in_ok-root.ensures in
     is_program c.args.text.now c.in-Some.tokens.items c.in-Some-after_head.body.now c.sequence.new.diagrams c.in-Some-2.root (omega arith) cut head found
 
-pub returns-clause-plain : goal.returns-clause-plain
-returns-clause-plain c =
+pub returns-clause-delays : goal.returns-clause-delays
+returns-clause-delays c =
     let found = MatchOption-at_some _ _ _ c.in-Some-2.is c.in_ok-root.ensures in
-    is_plain c.in-Some-after_head.body.now c.sequence.new.diagrams c.in-Some-2.root found
+    has_no_delay c.in-Some-after_head.body.now c.sequence.new.diagrams c.in-Some-2.root found
+
+pub returns-clause-controls : goal.returns-clause-controls
+returns-clause-controls c =
+    let found = MatchOption-at_some _ _ _ c.in-Some-2.is c.in_ok-root.ensures in
+    reads_no_controls c.in-Some-after_head.body.now c.sequence.new.diagrams c.in-Some-2.root found
 
 pub returns-clause-closed : goal.returns-clause-closed
 returns-clause-closed c =

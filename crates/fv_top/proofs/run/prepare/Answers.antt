@@ -5,7 +5,6 @@ use Rattle.std.proofs.lemmas.Result.{err_from_is_err_and}
 use Rattle.fv_diagram.specs.Arena.{tree_of}
 use Rattle.fv_outside.proofs.States.{told_before}
 use Rattle.fv_top.specs.Promise.{HasProgram}
-use Rattle.fv_top.proofs.Samples.{plain_reads_none}
 use Rattle.fv_top.proofs.Preparing.{input_stops, is_ready}
 use Rattle.fv_top.proofs.run.prepare.Goals as goal
 
@@ -17,9 +16,6 @@ returns-in_err-input-clause-err g c =
     λ t. record { text = program.0; file = program.1 t; diagram = tree_of c.in_ok-program.program.diagrams c.in_ok-program.program.root; spelled = program.2 } in
     let p = err_from_is_err_and c.from_residual-in_err-input.result c.from_residual-in_err-input.ensures.1 in
     rw (p.1, p.2) (input_stops c.args.program.now c.args.input.now (state c.args.desk.now) (state c.load_program.new.desk) (state c.load_input.new.desk) _ c.in_ok-program.ensures.quiet has c.in_err-input.ensures.err)
-
-pub render-requires-clause-controls : goal.render-requires-clause-controls
-render-requires-clause-controls g c = plain_reads_none _ c.in_ok-program.ensures.runs.1
 
 pub returns-clause-ok : goal.returns-clause-ok
 returns-clause-ok g c = λ t.
