@@ -11,3 +11,6 @@ mod words;
 
 pub use run::run_faustvec;
 pub use status::{Cause, Refusal, Status, Tally};
+
+#[cfg(test)]
+mod tests;

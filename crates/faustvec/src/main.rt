@@ -1,0 +1,31 @@
+//! The command: hands the real files and the words to the one call that does all.
+#![tactic(auto)]
+
+use fv_outside::{FileDesk, FreeGate};
+use fv_top::run_faustvec;
+use std::env;
+use std::io;
+use std::process::ExitCode;
+
+/// The exit status where there is no memory for the words.
+const NO_MEMORY: u8 = 5;
+
+fn main(rt: HostRuntime) -> ExitCode {
+    match words(&rt) {
+        Ok(words) => {
+            let mut desk = FileDesk::new(&rt);
+            let status = run_faustvec(&rt, rt.alloc(), &words, &mut desk, &mut FreeGate);
+            ExitCode::from(status.code())
+        }
+        Err(_) => ExitCode::from(NO_MEMORY),
+    }
+}
+
+// The words of the command line, the program's own name first.
+fn words(rt: &HostRuntime) -> io::Result<Vec<String>> {
+    let mut words = Vec::new(rt.alloc());
+    for word in env::args(rt)? {
+        words.push(word)?;
+    }
+    Ok(words)
+}
