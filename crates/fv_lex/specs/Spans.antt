@@ -1,0 +1,28 @@
+-- What the fields of a token list mean.
+use Rattle.std.specs.Prelude.{◌≡◌, ℕ, ◌+◌, ◌<◌, ◌≤◌, ◌^◌, List, [], ◌∷◌, length, take, drop, All}
+use Rattle.fv_lex.specs.declared.token.Symbol.{Symbol}
+use Rattle.fv_lex.specs.declared.token.Span.{Span}
+use Rattle.fv_lex.specs.declared.token.Tokens.TheInside.{Inside}
+use Rattle.fv_lex.specs.Token.{Token, Lexed}
+
+-- the token of a symbol and a span
+abbrev pub token_in : List ℕ → Symbol → Span → Token
+token_in text symbol span = record { symbol = symbol; kind = span.kind; text = take span.length (drop span.start text); place = span.place }
+
+-- the tokens of symbols and spans, one by one
+abbrev pub tokens_in : List ℕ → List Symbol → List Span → List Token
+tokens_in text [] spans = []
+tokens_in text (s ∷ symbols) [] = []
+tokens_in text (s ∷ symbols) (p ∷ spans) = token_in text s p ∷ tokens_in text symbols spans
+
+abbrev pub lexed_in : Inside → Lexed
+lexed_in t = record { tokens = tokens_in t.text.now t.symbols.items t.spans.items; end = t.end }
+
+-- a span lies in its text
+abbrev pub IsWithin : List ℕ → Span → Type 0
+IsWithin text span = span.start + span.length ≤ length text
+
+pub record IsWhole (t : Inside) : Type 0 where
+  pub paired : length t.symbols.items ≡ length t.spans.items
+  pub few : length t.spans.items < 2 ^ 32
+  pub within : All (IsWithin t.text.now) t.spans.items

@@ -1,0 +1,40 @@
+ghost use Rattle.std.specs.Prelude.{◌≡◌};
+ghost use Rattle.fv_lex.specs.declared.refusal.LexRefusal.TheVariants.{NoMemory};
+
+use fv_outside::Role;
+use std::alloc::{AllocError, AllocFailed};
+
+/// Why a text has no tokens. Lines and columns count from 1, and a column is one byte.
+#[derive(Clone, Copy, PartialEq, Eq, Debug)]
+pub enum LexRefusal {
+    /// The text has more than 1,048,576 bytes.
+    TextTooLong { role: Role },
+    /// A byte begins no token.
+    BadByte { line: u32, column: u32 },
+    /// A comment or a string that begins there does not end.
+    Unclosed { line: u32, column: u32 },
+    /// A real literal begins there.
+    RealLiteral { line: u32, column: u32 },
+    /// An integer over 2147483647 begins there.
+    LiteralTooLarge { line: u32, column: u32 },
+    /// The 129th bracket that is open at once stands there.
+    Nesting { line: u32, column: u32 },
+    /// Memory ran out.
+    NoMemory,
+}
+
+impl From<AllocError> for LexRefusal {
+    ghost from_gives = { λ _ e. e ≡ NoMemory };
+
+    fn from(_e: AllocError) -> LexRefusal {
+        LexRefusal::NoMemory
+    }
+}
+
+impl<T: Drop> From<AllocFailed<T>> for LexRefusal {
+    ghost from_gives = { λ _ e. e ≡ NoMemory };
+
+    fn from(_e: AllocFailed<T>) -> LexRefusal {
+        LexRefusal::NoMemory
+    }
+}
