@@ -1,1 +1,3 @@
 pub mod TokenLists
+pub mod Runs
+pub mod Classes

@@ -1,2 +1,7 @@
 pub mod Token
 pub mod Spans
+pub mod Bytes
+pub mod Symbols
+pub mod Pieces
+pub mod Cuts
+pub mod Steps

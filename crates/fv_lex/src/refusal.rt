@@ -23,6 +23,16 @@ pub enum LexRefusal {
     NoMemory,
 }
 
+/// Why a text can't be cut further, apart from the place.
+#[derive(Clone, Copy, PartialEq, Eq, Debug)]
+pub(crate) enum Fault {
+    BadByte,
+    Unclosed,
+    RealLiteral,
+    LiteralTooLarge,
+    Nesting,
+}
+
 impl From<AllocError> for LexRefusal {
     ghost from_gives = { λ _ e. e ≡ NoMemory };
 
