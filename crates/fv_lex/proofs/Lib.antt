@@ -1,3 +1,4 @@
 pub mod TokenLists
 pub mod Runs
 pub mod Classes
+pub mod Sound
