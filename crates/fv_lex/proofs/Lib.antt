@@ -2,3 +2,4 @@ pub mod TokenLists
 pub mod Runs
 pub mod Classes
 pub mod Sound
+pub mod Complete
