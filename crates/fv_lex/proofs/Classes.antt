@@ -1,12 +1,11 @@
 -- What the class of a first byte says of the tokens that begin with it.
-use Rattle.std.proofs.Common.{◌≡◌, ℕ, suc, ◌+◌, ◌<◌, ◌≤◌, Bool, true, false, cond, not, ◌&&◌, ◌||◌, List, [], ◌∷◌, ◌++◌, Option, Some, None, refl, sym, ap, ◌∙◌, arith}
-use Rattle.std.specs.Prelude.{nat_eq, is_some}
+use Rattle.std.proofs.Common.{◌≡◌, ℕ, ◌<◌, ◌≤◌, Bool, true, false, ◌&&◌, ◌||◌, List, [], ◌∷◌, ◌++◌, None, refl, arith}
+use Rattle.std.specs.Prelude.{nat_eq}
 use Rattle.std.proofs.lemmas.Bool.{ne_eqb, or_parts}
 use Rattle.std.proofs.lemmas.Bool.Decides.{nat_tests}
-use Rattle.fv_lex.specs.declared.token.Kind.{Kind}
 use Rattle.fv_lex.specs.declared.token.Kind.TheVariants.{Name, Integer, Text, Sign}
 use Rattle.fv_lex.specs.Bytes.{is_blank, is_letter, is_digit, is_underscore, is_name_byte, is_quote}
-use Rattle.fv_lex.specs.Symbols.{sign, double}
+use Rattle.fv_lex.specs.Symbols.{double}
 use Rattle.fv_lex.specs.Pieces.{is_name, is_token}
 use Rattle.fv_lex.proofs.Runs.{list_all_stops}
 

@@ -1,24 +1,23 @@
 -- Each piece is what the step finds, and each fault is what it refuses.
-use Rattle.std.proofs.Common.{◌≡◌, ℕ, zero, suc, ◌+◌, ◌<◌, ◌≤◌, Bool, true, false, cond, not, ◌&&◌, ◌||◌, List, [], ◌∷◌, ◌++◌, length, take, drop, Option, Some, None, refl, sym, ap, subst, ◌∙◌, arith, ◌⊎◌, inl, inr}
+use Rattle.std.proofs.Common.{◌≡◌, ℕ, suc, ◌+◌, ◌≤◌, Bool, true, false, cond, not, ◌&&◌, ◌||◌, List, [], ◌∷◌, ◌++◌, length, take, drop, Option, Some, None, refl, sym, ap, subst, ◌∙◌, arith, ◌⊎◌, inl, inr}
 use Rattle.std.specs.Prelude.{nat_eq, nat_lt, is_some}
 use Rattle.std.specs.List.{list_all}
 use Rattle.std.specs.Option.{option_map}
-use Rattle.std.proofs.lemmas.Bool.{ne_eqb, eqb-true, cond_both, lt-ltb, le-ltb, and_parts, or_parts, or_cases, or_left, or_right, and_from, not-true}
+use Rattle.std.proofs.lemmas.Bool.{ne_eqb, eqb-true, cond_both, lt-ltb, le-ltb, and_parts, or_parts, or_left, or_right, not-true}
 use Rattle.std.proofs.lemmas.Bool.Decides.{nat_tests}
 use Rattle.std.proofs.lemmas.List.{take-append-drop}
 use Rattle.fv_lex.specs.declared.token.Kind.{Kind}
 use Rattle.fv_lex.specs.declared.token.Kind.TheVariants.{Name, Integer, Text, Sign}
 use Rattle.fv_lex.specs.declared.token.Symbol.{Symbol}
 use Rattle.fv_lex.specs.declared.refusal.Fault.{Fault}
-use Rattle.fv_lex.specs.declared.refusal.Fault.TheVariants.{BadByte, Unclosed, RealLiteral, LiteralTooLarge}
-use Rattle.fv_lex.specs.declared.next.Next.{Next}
-use Rattle.fv_lex.specs.declared.next.Next.TheVariants.{End, Found, Refused}
+use Rattle.fv_lex.specs.declared.refusal.Fault.TheVariants.{BadByte, RealLiteral, LiteralTooLarge}
+use Rattle.fv_lex.specs.declared.next.Next.TheVariants.{Found, Refused}
 use Rattle.fv_lex.specs.Bytes.{is_blank, is_letter, is_digit, is_underscore, is_name_byte, is_quote, is_in_line, begins}
-use Rattle.fv_lex.specs.Symbols.{sign, at_byte, singles, double, value}
+use Rattle.fv_lex.specs.Symbols.{at_byte, singles, double, value}
 use Rattle.fv_lex.specs.Pieces.{is_name, is_integer, is_nothing, closes, is_token, IsLongest, BeginsNoToken, is_real_tail, BeginsReal, fraction, real, begins_comment, ends_line, has_close, greatest_literal, IsPiece, blank_byte, line_comment, block_comment, longest_token, IsFault, unclosed_text, unclosed_comment, real_literal, large_literal, bad_byte}
-use Rattle.fv_lex.specs.Steps.{run, to_quote, to_close, wires, found_or, number_next, slash_next, sign_next, first_next, next_piece}
+use Rattle.fv_lex.specs.Steps.{run, to_quote, to_close, wires, number_next, slash_next, sign_next, first_next, next_piece}
 use Rattle.fv_lex.proofs.Runs.{Stops, run_is, list_all_more}
-use Rattle.fv_lex.proofs.Classes.{digit_range, letter_range, no_letter, no_digit, no_blank}
+use Rattle.fv_lex.proofs.Classes.{digit_range, no_letter, no_blank}
 use Rattle.fv_lex.proofs.Sound.{real_parts, tail_behind, front_before, integer_all, name_run, name_head, Bare}
 
 -- ---- the first byte
@@ -216,7 +215,7 @@ double_bare : (b c : ℕ) (bs : List ℕ) → is_some (double b c) ≡ true → 
 double_bare b c bs e =
     let Q : Option Symbol → Type 0 = λ o. is_some o ≡ true → Bare b bs in
     let known : (k : ℕ) → is_plain k ≡ true → is_underscore k ≡ false → nat_eq k 47 ≡ false → nat_eq k 46 ≡ false → nat_eq b k ≡ true → Bare b bs =
-        λ k plain u slash dot is. subst (λ j. Bare j bs) (sym (eqb-true b k is)) (plain_bare k bs plain u slash (rw dot refl)) in
+    λ k plain u slash dot is. subst (λ j. Bare j bs) (sym (eqb-true b k is)) (plain_bare k bs plain u slash (rw dot refl)) in
     cond_both (nat_eq b 60) _ _ Q (λ is _. known 60 refl refl refl refl is)
     (λ _. cond_both (nat_eq b 62) _ _ Q (λ is _. known 62 refl refl refl refl is)
     (λ _. cond_both (nat_eq b 61) _ _ Q (λ is _. known 61 refl refl refl refl is)
@@ -231,6 +230,7 @@ wire_found rest longest = go (begins is_letter (drop (run is_underscore rest) re
     longer : (front tail : List ℕ) → rest ≡ front ++ tail → is_name (95 ∷ front) ≡ true → ⊥
     longer [] tail e name = cc
     longer (c ∷ more) tail e name = let never = longest Name c more tail e in cc
+
     go : (v : Bool) → begins is_letter (drop (run is_underscore rest) rest) ≡ v → next_piece (95 ∷ rest) ≡ Found 1 (Some Sign)
     go true e = absurd (longer (take (run is_name_byte rest) rest) (drop (run is_name_byte rest) rest) (sym (take-append-drop (run is_name_byte rest) rest)) (name_run (95 ∷ rest) e))
     go false e =
@@ -263,8 +263,10 @@ single_found b rest e longest comment unreal = go (is_underscore b) (nat_eq b 47
   where
     plain : is_plain b ≡ true
     plain = at_byte_passes is_plain singles b refl e
+
     goal : ℕ → Type 0
     goal k = next_piece (k ∷ rest) ≡ Found 1 (Some Sign)
+
     go : (v w : Bool) → is_underscore b ≡ v → nat_eq b 47 ≡ w → next_piece (b ∷ rest) ≡ Found 1 (Some Sign)
     go true w u slash =
         let is = eqb-true b 95 u in
@@ -305,6 +307,7 @@ real_refused text h = go (real_parts text h)
     digits : (t : List ℕ) → begins is_digit t ≡ true → is_real_tail (drop (run is_digit t) t) ≡ true → next_piece t ≡ Refused RealLiteral
     digits [] d e = absurd cc
     digits (b ∷ bs) d e = digit_is b bs d ∙ rw e refl
+
     go : (((d : ℕ) × (rest : List ℕ) × (text ≡ 46 ∷ d ∷ rest) × (is_digit d ≡ true)) ⊎ ((begins is_digit text ≡ true) × (is_real_tail (drop (run is_digit text) text) ≡ true))) → next_piece text ≡ Refused RealLiteral
     go (inl (d, rest, is, digit)) = subst (λ t. next_piece t ≡ Refused RealLiteral) (sym is) (rw digit refl)
     go (inr (d, e)) = digits text d e

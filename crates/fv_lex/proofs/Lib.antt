@@ -3,3 +3,5 @@ pub mod Runs
 pub mod Classes
 pub mod Sound
 pub mod Complete
+pub mod Unique
+pub mod Loop

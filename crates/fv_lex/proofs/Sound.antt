@@ -3,20 +3,19 @@ use Rattle.std.proofs.Common.{◌≡◌, ℕ, zero, suc, ◌+◌, ◌<◌, ◌�
 use Rattle.std.specs.Prelude.{nat_eq, nat_lt, is_some}
 use Rattle.std.specs.List.{list_all}
 use Rattle.std.specs.Option.{option_map}
-use Rattle.std.proofs.lemmas.Bool.{ne_eqb, eqb-true, cond_both, ltb-true, ltb-false, and_parts, or_parts, or_cases, cases_Bool}
+use Rattle.std.proofs.lemmas.Bool.{ne_eqb, eqb-true, cond_both, ltb-true, ltb-false, and_parts, or_parts, or_cases}
 use Rattle.std.proofs.lemmas.List.{take-append-drop, take_at, drop_at}
 use Rattle.fv_lex.specs.declared.token.Kind.{Kind}
 use Rattle.fv_lex.specs.declared.token.Kind.TheVariants.{Name, Integer, Text, Sign}
-use Rattle.fv_lex.specs.declared.refusal.Fault.{Fault}
-use Rattle.fv_lex.specs.declared.refusal.Fault.TheVariants.{BadByte, Unclosed, RealLiteral, LiteralTooLarge}
+use Rattle.fv_lex.specs.declared.refusal.Fault.TheVariants.{BadByte, RealLiteral, LiteralTooLarge}
 use Rattle.fv_lex.specs.declared.next.Next.{Next}
 use Rattle.fv_lex.specs.declared.next.Next.TheVariants.{End, Found, Refused}
 use Rattle.fv_lex.specs.Bytes.{is_blank, is_letter, is_digit, is_underscore, is_name_byte, is_quote, is_in_line, begins}
-use Rattle.fv_lex.specs.Symbols.{sign, at_byte, singles, double, value}
-use Rattle.fv_lex.specs.Pieces.{is_name, is_integer, is_nothing, closes, is_token, IsLongest, BeginsNoToken, is_real_tail, BeginsReal, fraction, real, begins_comment, ends_line, has_close, greatest_literal, IsPiece, blank_byte, line_comment, block_comment, longest_token, IsFault, unclosed_text, unclosed_comment, real_literal, large_literal, bad_byte}
+use Rattle.fv_lex.specs.Symbols.{at_byte, singles, double, value}
+use Rattle.fv_lex.specs.Pieces.{is_name, is_integer, closes, is_token, IsLongest, BeginsNoToken, is_real_tail, BeginsReal, fraction, real, begins_comment, ends_line, has_close, greatest_literal, IsPiece, blank_byte, line_comment, block_comment, longest_token, IsFault, unclosed_text, unclosed_comment, real_literal, large_literal, bad_byte}
 use Rattle.fv_lex.specs.Steps.{run, to_quote, to_close, wires, found_or, number_next, slash_next, sign_next, first_next, next_piece}
 use Rattle.fv_lex.proofs.Runs.{Stops, list_all-run, run_stops, run_is, run_short, list_all_stops}
-use Rattle.fv_lex.proofs.Classes.{digit_range, letter_range, no_letter, no_digit, no_blank, no_double, no_double_high, no_name_byte, no_name, no_integer, no_text, no_sign, name_stops}
+use Rattle.fv_lex.proofs.Classes.{digit_range, letter_range, no_letter, no_digit, no_double, no_double_high, no_name, no_integer, no_text, no_sign, name_stops}
 
 -- so many bytes at the front of a text are a piece
 pub record At (text : List ℕ) (n : ℕ) (kind : Option Kind) : Type 0 where

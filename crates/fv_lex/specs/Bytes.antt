@@ -1,5 +1,5 @@
 -- Classes of bytes. Source: this project's profile.
-use Rattle.std.specs.Prelude.{ℕ, Bool, true, false, not, ◌&&◌, ◌||◌, nat_eq, nat_le, List, [], ◌∷◌}
+use Rattle.std.specs.Prelude.{ℕ, Bool, false, not, ◌&&◌, ◌||◌, nat_eq, nat_le, List, [], ◌∷◌}
 
 -- a tab, a line feed, a carriage return or a space
 abbrev pub is_blank : ℕ → Bool

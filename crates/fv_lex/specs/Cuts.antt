@@ -1,5 +1,5 @@
 -- A text is cut into pieces, and has one list of tokens or one first refusal.
-use Rattle.std.specs.Prelude.{◌≡◌, ℕ, suc, ◌+◌, ◌-◌, ◌<◌, ◌≤◌, ◌⊎◌, Bool, nat_eq, List, [], ◌∷◌, ◌++◌, length, Option, Some, None, Result, Ok, Err, if◌then◌else◌}
+use Rattle.std.specs.Prelude.{◌≡◌, ℕ, suc, ◌+◌, ◌-◌, ◌<◌, ◌≤◌, nat_eq, List, [], ◌∷◌, ◌++◌, length, Option, Some, None, Result, Ok, Err, if◌then◌else◌}
 use Rattle.fv_outside.specs.declared.role.Role.TheVariants.{Program}
 use Rattle.fv_lex.specs.declared.token.Kind.{Kind}
 use Rattle.fv_lex.specs.declared.token.Place.{Place}
@@ -102,3 +102,7 @@ HasTokens text lexed = Has text (Ok lexed)
 -- The text has no tokens, and this is the first reason.
 abbrev pub HasRefusal : List ℕ → LexRefusal → Type 0
 HasRefusal text refusal = Has text (Err refusal)
+
+-- A text has one answer at most: one list of tokens, or one refusal.
+abbrev pub HasAtMostOne : Type 0
+HasAtMostOne = (text : List ℕ) (a b : Result Lexed LexRefusal) → Has text a → Has text b → a ≡ b

@@ -1,7 +1,6 @@
 -- What a text begins with, found from its first bytes.
 use Rattle.std.specs.Prelude.{◌≡◌, ℕ, suc, ◌+◌, ◌<◌, Bool, ◌&&◌, ◌||◌, nat_eq, nat_lt, List, [], ◌∷◌, take, drop, Option, Some, None, is_some, if◌then◌else◌}
 use Rattle.std.specs.Option.{option_map}
-use Rattle.fv_lex.specs.declared.token.Kind.{Kind}
 use Rattle.fv_lex.specs.declared.token.Kind.TheVariants.{Name, Integer, Text, Sign}
 use Rattle.fv_lex.specs.declared.refusal.Fault.TheVariants.{BadByte, Unclosed, RealLiteral, LiteralTooLarge}
 use Rattle.fv_lex.specs.declared.scan.Class.{Class}

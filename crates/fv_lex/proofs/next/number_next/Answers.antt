@@ -1,4 +1,3 @@
-use Rattle.std.proofs.Common.{sym, rules}
 use Rattle.fv_lex.specs.Bytes.{is_digit}
 use Rattle.fv_lex.proofs.Runs.{list_all-run}
 use Rattle.fv_lex.proofs.next.number_next.Goals as goal
