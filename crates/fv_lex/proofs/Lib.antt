@@ -4,4 +4,6 @@ pub mod Classes
 pub mod Sound
 pub mod Complete
 pub mod Unique
+pub mod Total
+pub mod Carrying
 pub mod Loop

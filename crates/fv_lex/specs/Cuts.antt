@@ -106,3 +106,7 @@ HasRefusal text refusal = Has text (Err refusal)
 -- A text has one answer at most: one list of tokens, or one refusal.
 abbrev pub HasAtMostOne : Type 0
 HasAtMostOne = (text : List ℕ) (a b : Result Lexed LexRefusal) → Has text a → Has text b → a ≡ b
+
+-- And it has one.
+abbrev pub HasAtLeastOne : Type 0
+HasAtLeastOne = (text : List ℕ) → (answer : Result Lexed LexRefusal) × Has text answer

@@ -5,3 +5,4 @@ pub mod Symbols
 pub mod Pieces
 pub mod Cuts
 pub mod Steps
+pub mod Carried

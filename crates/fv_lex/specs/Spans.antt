@@ -8,6 +8,7 @@ use Rattle.fv_lex.specs.declared.token.Span.{Span}
 use Rattle.fv_lex.specs.declared.token.Tokens.TheInside.{Inside}
 use Rattle.fv_lex.specs.Token.{Token, Lexed}
 use Rattle.fv_lex.specs.Symbols.{symbol_of, value}
+use Rattle.fv_lex.specs.Carried.{AllCarry}
 use Rattle.fv_lex.specs.Pieces.{is_token, greatest_literal}
 
 -- the token of a symbol and a span
@@ -31,6 +32,7 @@ pub record IsWhole (t : Inside) : Type 0 where
   pub paired : length t.symbols.items ≡ length t.spans.items
   pub few : length t.spans.items < 2 ^ 32
   pub within : All (IsWithin t.text.now) t.spans.items
+  pub carried : AllCarry t.symbols.items
 
 -- the symbol of a piece, where it is a token
 abbrev pub new_symbols : ℕ → Option Kind → List ℕ → List Symbol

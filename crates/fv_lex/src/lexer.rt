@@ -3,7 +3,7 @@ ghost use Rattle.fv_lex.specs.declared.refusal.LexRefusal.{LexRefusal};
 ghost use Rattle.fv_lex.specs.declared.refusal.LexRefusal.TheVariants.{NoMemory};
 ghost use Rattle.fv_lex.specs.Token.{Lexed};
 ghost use Rattle.fv_lex.specs.Spans.{new_symbols, new_spans, HasSymbol};
-ghost use Rattle.fv_lex.specs.Cuts.{depth_after, place_after, longest_text, Has, HasTokens, HasRefusal, HasAtMostOne};
+ghost use Rattle.fv_lex.specs.Cuts.{depth_after, place_after, longest_text, Has, HasTokens, HasRefusal, HasAtMostOne, HasAtLeastOne};
 
 use crate::next::{Next, next_piece, wires};
 use crate::refusal::{Fault, LexRefusal, refusal_at};
@@ -143,7 +143,8 @@ pub fn tokens<'a>(alloc: Global, text: &'a [u8]) -> Result<Tokens<'a>, LexRefusa
     cut(alloc, text)
 }
 
-/// A text has one list of tokens at most, or one first refusal, and not both.
+/// A text has either one list of tokens or one first refusal.
 pub fn one_answer()
-    ensures { HasAtMostOne }
+    ensures at_most { HasAtMostOne }
+    ensures at_least { HasAtLeastOne }
 {}

@@ -1,4 +1,5 @@
 use Rattle.std.proofs.Common.{ℕ, ◌+◌, ◌-◌, ◌≤◌, length, sym, ap, ◌∙◌, arith, inr}
+use Rattle.fv_lex.proofs.Carrying.{carried_more}
 use Rattle.fv_lex.proofs.Loop.{reads_start, reads_end, reads_fault, reads_deep, front_of, found_fits, has_symbol, reads_more, paired_more, few_more, within_more, behind_none, behind_more, bare_next}
 use Rattle.fv_lex.proofs.lexer.cut.Goals as goal
 
@@ -11,6 +12,7 @@ loop-symbols-init c = record {
   paired = ap length c.new-symbols.ensures.items ∙ sym (ap length c.new-spans.ensures.items);
   few = omega (arith, ap length c.new-spans.ensures.items);
   within = rw c.new-spans.ensures.items (λ k d less. absurd (omega arith));
+  carried = rw c.new-symbols.ensures.items (λ i s e. absurd cc);
   behind = behind_none c.args.text.now;
   so_far = rw (c.new-symbols.ensures.items) (reads_start c.args.text.now);
 }
@@ -57,6 +59,7 @@ loop-symbols-preserved c =
       paired = rw (c.in_ok-push_piece-in-Found.ensures.symbols, c.in_ok-push_piece-in-Found.ensures.spans) (paired_more c.loop-symbols.symbols.items c.loop-symbols.spans.items _ c.in-Found.kind c.split_at.result.0.now start c.loop-symbols.place c.loop-symbols.invariant.paired);
       few = rw c.in_ok-push_piece-in-Found.ensures.spans (omega (arith, few_more c.loop-symbols.spans.items c.in-Found.kind c.split_at.result.0.now start c.loop-symbols.place some, c.split_at.ensures.front_len, c.split_at.ensures.back_len));
       within = rw c.in_ok-push_piece-in-Found.ensures.spans (within_more c.args.text.now c.loop-symbols.spans.items c.in-Found.kind c.split_at.result.0.now start c.loop-symbols.place inside c.loop-symbols.invariant.within);
+      carried = rw c.in_ok-push_piece-in-Found.ensures.symbols (carried_more c.loop-symbols.symbols.items c.loop-symbols.spans.items _ c.in-Found.kind c.split_at.result.0.now c.loop-symbols.invariant.paired c.loop-symbols.spans.ok.0 (has_symbol c.split_at.result.0.now c.split_at.result.1.now c.in-Found.kind front.piece) c.loop-symbols.invariant.carried);
       behind = behind_more c.args.text.now c.loop-symbols.rest.now c.split_at.result.1.now c.in-Found.count c.loop-symbols.invariant.behind c.split_at.ensures.back (omega arith) fits;
       so_far = reads_more c.args.text.now c.loop-symbols.rest.now c.split_at.result.0.now c.split_at.result.1.now c.loop-symbols.place c.place_after-place.result c.loop-symbols.depth c.depth_after-inside.result c.loop-symbols.symbols.items c.push_piece.new.symbols.items c.loop-symbols.spans.items c.push_piece.new.spans.items c.in-Found.kind _ start
           c.loop-symbols.invariant.so_far front c.depth_after-inside.ensures (omega arith) c.place_after-place.ensures.is c.loop-symbols.invariant.paired c.loop-symbols.spans.ok.0 c.loop-symbols.invariant.behind c.in_ok-push_piece-in-Found.ensures.symbols c.in_ok-push_piece-in-Found.ensures.spans;

@@ -1,5 +1,6 @@
 use Rattle.std.proofs.Common.{◌≡◌, ◌+◌, ◌-◌, ◌≤◌, length, drop, All}
 use Rattle.fv_lex.specs.Spans.{tokens_in, IsWithin}
+use Rattle.fv_lex.specs.Carried.{AllCarry}
 use Rattle.fv_lex.specs.Steps.{IsBare}
 use Rattle.fv_lex.specs.Cuts.{deepest}
 use Rattle.fv_lex.proofs.Loop.{Reads}
@@ -14,6 +15,7 @@ invariant-loop-symbols l = record {
   paired : length l.symbols.items ≡ length l.spans.items;
   few : length l.spans.items + length l.rest ≤ length l.text;
   within : All (IsWithin l.text) l.spans.items;
+  carried : AllCarry l.symbols.items;
   behind : l.rest ≡ drop (length l.text - length l.rest) l.text;
   so_far : Reads l.text l.rest l.place l.depth (tokens_in l.text l.symbols.items l.spans.items);
 }
