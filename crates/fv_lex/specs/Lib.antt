@@ -6,3 +6,4 @@ pub mod Pieces
 pub mod Cuts
 pub mod Steps
 pub mod Carried
+pub mod Examples

@@ -1,6 +1,6 @@
 //! The tokens of whole texts, with their places.
 
-use crate::{Kind, LexRefusal, Place, Symbol, tokens};
+use crate::{Kind, LexRefusal, Place, Symbol, one_answer, tokens};
 use fv_outside::Role;
 use std::alloc::{AllocError, Global};
 use std::process::Abort;
@@ -297,6 +297,7 @@ fn repeated(alloc: Global, text: &[u8], piece: &[u8], times: usize) -> Result<Ve
 
 #[test]
 fn limits(rt: HostRuntime) -> Result<(), Fail> {
+    one_answer();
     let alloc = rt.alloc();
     let blanks = repeated(alloc, b"", b" ", 1048576)?;
     assert_eq!(rt; tokens(alloc, blanks.as_slice())?.len(), 0);
