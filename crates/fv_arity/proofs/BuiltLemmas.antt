@@ -1,12 +1,12 @@
 -- Each diagram that the tests put can run.
-use Rattle.std.proofs.Common.{◌≡◌, ℕ, suc, ◌+◌, ◌<◌, ◌≤◌, List, [], ◌∷◌, ◌++◌, length, max, sym, ap, subst, arith, ◌⊎◌, inl, inr}
+use Rattle.std.proofs.Common.{◌≡◌, ℕ, ◌<◌, List, [], ◌∷◌, ◌++◌, length, sym, ap, subst, arith, inl, inr}
 use Rattle.std.proofs.lemmas.Bool.{cases_lt}
 use Rattle.std.proofs.lemmas.List.{length_push}
 use Rattle.fv_diagram.specs.declared.node.Node.{Node}
 use Rattle.fv_diagram.specs.declared.node.Node.TheVariants as node
 use Rattle.fv_diagram.specs.declared.node.Primitive.{Primitive as Prim}
 use Rattle.fv_diagram.specs.declared.node.Primitive.TheVariants as prim
-use Rattle.fv_diagram.specs.Diagram.{Diagram, Primitive, Constant, Control, Slot, Bind, Par, Seq, Split, Merge, Rec, control_bound, IsWellFormed, HasNoDelay, HasNoFreeSlot}
+use Rattle.fv_diagram.specs.Diagram.{IsWellFormed}
 use Rattle.fv_diagram.specs.Arena.{tree_of, tree_in, trees}
 use Rattle.fv_arity.specs.Compositions.{HasWellFormedParts}
 use Rattle.fv_arity.specs.Built.{CanRun, AllCanRun, IsAllowed}

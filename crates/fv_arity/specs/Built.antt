@@ -1,5 +1,5 @@
 -- What holds of the diagrams that the tests put.
-use Rattle.std.specs.Prelude.{◌≡◌, ℕ, ◌<◌, ◌≤◌, List, length}
+use Rattle.std.specs.Prelude.{ℕ, ◌<◌, ◌≤◌, List, length}
 use Rattle.fv_diagram.specs.declared.node.Node.{Node}
 use Rattle.fv_diagram.specs.declared.node.Node.TheVariants as node
 use Rattle.fv_diagram.specs.declared.node.Primitive.TheVariants as prim

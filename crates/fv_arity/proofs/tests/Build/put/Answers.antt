@@ -1,4 +1,4 @@
-use Rattle.std.proofs.Common.{arith, subst, ap, length, ◌∷◌, []}
+use Rattle.std.proofs.Common.{arith, subst, ap, length}
 use Rattle.std.proofs.lemmas.List.{length_push}
 use Rattle.fv_arity.specs.Built.{IsAllowed}
 use Rattle.fv_arity.proofs.BuiltLemmas.{all_can_run}
