@@ -3,6 +3,8 @@
 
 mod compose;
 mod refusal;
+#[cfg(test)]
+mod tests;
 
 pub use compose::arity_of;
 pub use refusal::{ArityKind, ArityRefusal};
