@@ -5,6 +5,8 @@ use Rattle.fv_outside.specs.declared.role.Role.TheVariants.{Program, Input, Cont
 use Rattle.fv_top.specs.declared.status.Cause.{Cause}
 use Rattle.fv_top.specs.declared.status.Cause.TheVariants.{Form, Same}
 use Rattle.fv_top.specs.declared.status.Refusal.{Refusal}
+use Rattle.fv_top.specs.declared.status.Status.{Status}
+use Rattle.fv_top.specs.declared.status.Status.TheVariants.{Done, Refused}
 use Rattle.fv_top.specs.declared.status.Refusal.TheVariants.{Usage, ReadFault, WriteFault, Unsupported, NoMemory}
 
 abbrev pub role_word : Role → List ℕ
@@ -33,6 +35,11 @@ status_of (ReadFault role) = 1
 status_of (WriteFault role) = 1
 status_of (Unsupported word) = 3
 status_of NoMemory = 5
+
+-- the exit status of a run
+abbrev pub exit_status : Status → ℕ
+exit_status (Done tally) = 0
+exit_status (Refused refusal) = status_of refusal
 
 abbrev pub name_of : Refusal → List ℕ
 name_of (Usage cause) = codes "Usage"

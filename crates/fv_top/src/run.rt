@@ -135,13 +135,14 @@ pub fn run_faustvec<R: Threads + Wait + Sync, D: Desk, G: Gate + Sync>(
     alloc: Global,
     words: &[String],
     desk: &mut D,
-    _gate: &mut G,
+    gate: &mut G,
 ) -> Status
     // The desk goes on: its files stay, and no count of faults falls.
     ensures goes_on { GoesOn (D.state desk.old) (D.state desk.new) }
     // A run that is done has written exactly the file whose samples are the stream function of the program's diagram.
     ensures done { IfDone result (λ tally. HasPlayed (map string_bytes words.now) tally.frames (D.state desk.old) (D.state desk.new)) }
-    // There are no blocks yet.
+    // There are no blocks yet, so the gate is told nothing.
+    ensures gate { G.told gate.new ≡ G.told gate.old }
     ensures tally { IfDone result (λ tally. (tally.blocks ≡ 0) × (tally.loops ≡ 0) × (tally.loop_runs ≡ 0)) }
     // Every other answer has its stated cause, or is want of memory.
     ensures cause { IfRefused result (HasCause (map string_bytes words.now) (D.state desk.old) (D.state desk.new)) }
@@ -151,5 +152,6 @@ pub fn run_faustvec<R: Threads + Wait + Sync, D: Desk, G: Gate + Sync>(
     // What can be played is played, unless a call of the desk fails or memory runs out.
     ensures complete { IsComplete (map string_bytes words.now) (D.state desk.old) (D.state desk.new) result }
 {
+    let _untold = gate;
     perform(alloc, words, desk)
 }

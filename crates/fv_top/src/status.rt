@@ -1,7 +1,7 @@
 // How a run ends.
 
 ghost use Rattle.std.specs.Prelude.{◌≡◌};
-ghost use Rattle.fv_top.specs.Lines.{number_of, status_of};
+ghost use Rattle.fv_top.specs.Lines.{number_of, status_of, exit_status};
 ghost use Rattle.fv_top.specs.declared.status.Refusal.TheVariants.{NoMemory};
 
 use fv_outside::{Role, Word};
@@ -53,7 +53,9 @@ pub enum Cause {
 
 impl Status {
     /// The exit status.
-    pub fn code(&self) -> u8 {
+    pub fn code(&self) -> u8
+        ensures { result ≡ exit_status self.now }
+    {
         match self {
             Status::Done(_) => 0,
             Status::Refused(refusal) => refusal.status(),
