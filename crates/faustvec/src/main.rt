@@ -3,9 +3,8 @@
 
 use fv_outside::{FileDesk, FreeGate};
 use fv_top::run_faustvec;
-use std::env;
-use std::io;
 use std::process::ExitCode;
+use std::{env, io};
 
 /// The exit status where there is no memory for the words.
 const NO_MEMORY: u8 = 5;
