@@ -88,65 +88,66 @@ fn plays(rt: HostRuntime) -> Result<(), Fail> {
 }
 
 #[test]
-fn refuses(rt: HostRuntime) -> Result<(), Fail> {
-    let two_channels = changed(rt.alloc(), 22, 2)?;
-    let eight_bits = changed(rt.alloc(), 34, 8)?;
-    let one_byte_more = changed(rt.alloc(), 40, 8)?;
-    let rows: [(&[&str], &[u8], &[u8], u8, &[u8]); 8] = [
+fn refuses_words(rt: HostRuntime) -> Result<(), Fail> {
+    let rows: [(&[&str], u8, &[u8]); 6] = [
         (
             &["faustvec", "run", "p.dsp", "in.wav", "in.wav"],
-            b"process = _;",
-            &THREE,
             2,
             b"refused 1 Usage same\n",
         ),
         (
             &["faustvec", "run", "p.dsp", "in.wav"],
-            b"process = _;",
-            &THREE,
             2,
             b"refused 1 Usage form\n",
         ),
         (
             &["faustvec", "run", "p.dsp", "-", "out.wav"],
-            b"process = _;",
-            &THREE,
             2,
             b"refused 1 Usage form\n",
         ),
-        (&WORDS, b"", &THREE, 3, b"refused 10 Unsupported program\n"),
         (
-            &WORDS,
-            b"process = _;",
-            &two_channels,
-            3,
-            b"refused 10 Unsupported input\n",
-        ),
-        (
-            &WORDS,
-            b"process = _;",
-            &eight_bits,
-            3,
-            b"refused 10 Unsupported input\n",
-        ),
-        (
-            &WORDS,
-            b"process = _;",
-            &one_byte_more,
-            3,
-            b"refused 10 Unsupported input\n",
+            &["faustvec", "play", "p.dsp", "in.wav", "out.wav"],
+            2,
+            b"refused 1 Usage form\n",
         ),
         (
             &["faustvec", "run", "none.dsp", "in.wav", "out.wav"],
-            b"process = _;",
-            &THREE,
             1,
             b"refused 2 ReadFault program\n",
         ),
+        (
+            &["faustvec", "run", "p.dsp", "none.wav", "out.wav"],
+            1,
+            b"refused 2 ReadFault input\n",
+        ),
     ];
-    for (words, text, input, status, line) in rows {
-        let mut desk = desk_of(rt.alloc(), text, input)?;
+    for (words, status, line) in rows {
+        let mut desk = desk_of(rt.alloc(), b"process = _;", &THREE)?;
         assert_eq!(rt; status_of(&rt, rt.alloc(), &mut desk, words)?, status);
+        assert_eq!(rt; desk.written(Role::Report), line);
+        assert!(rt; desk.written(Role::Output).is_empty());
+    }
+    Ok(())
+}
+
+#[test]
+fn refuses_files(rt: HostRuntime) -> Result<(), Fail> {
+    let two_channels = changed(rt.alloc(), 22, 2)?;
+    let eight_bits = changed(rt.alloc(), 34, 8)?;
+    let seven_bytes = changed(rt.alloc(), 40, 7)?;
+    let program = b"refused 10 Unsupported program\n";
+    let input = b"refused 10 Unsupported input\n";
+    let rows: [(&[u8], &[u8], &[u8]); 6] = [
+        (b"", &THREE, program),
+        (b"process = (_);", &THREE, program),
+        (b"process = _;", &two_channels, input),
+        (b"process = _;", &eight_bits, input),
+        (b"process = _;", &seven_bytes, input),
+        (b"process = _;", &THREE[..49], input),
+    ];
+    for (text, samples, line) in rows {
+        let mut desk = desk_of(rt.alloc(), text, samples)?;
+        assert_eq!(rt; status_of(&rt, rt.alloc(), &mut desk, &WORDS)?, 3);
         assert_eq!(rt; desk.written(Role::Report), line);
         assert!(rt; desk.written(Role::Output).is_empty());
     }
