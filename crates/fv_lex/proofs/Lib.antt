@@ -1,1 +1,9 @@
 pub mod TokenLists
+pub mod Runs
+pub mod Classes
+pub mod Sound
+pub mod Complete
+pub mod Unique
+pub mod Total
+pub mod Carrying
+pub mod Loop

@@ -1,9 +1,15 @@
 -- What the fields of a token list mean.
-use Rattle.std.specs.Prelude.{◌≡◌, ℕ, ◌+◌, ◌<◌, ◌≤◌, ◌^◌, List, [], ◌∷◌, length, take, drop, All}
+use Rattle.std.specs.Prelude.{◌≡◌, ℕ, ◌+◌, ◌<◌, ◌≤◌, ◌^◌, true, List, [], ◌∷◌, length, take, drop, Option, Some, None, All}
+use Rattle.fv_lex.specs.declared.token.Kind.{Kind}
+use Rattle.fv_lex.specs.declared.token.Kind.TheVariants.{Integer}
+use Rattle.fv_lex.specs.declared.token.Place.{Place}
 use Rattle.fv_lex.specs.declared.token.Symbol.{Symbol}
 use Rattle.fv_lex.specs.declared.token.Span.{Span}
 use Rattle.fv_lex.specs.declared.token.Tokens.TheInside.{Inside}
 use Rattle.fv_lex.specs.Token.{Token, Lexed}
+use Rattle.fv_lex.specs.Symbols.{symbol_of, value}
+use Rattle.fv_lex.specs.Carried.{AllCarry}
+use Rattle.fv_lex.specs.Pieces.{is_token, greatest_literal}
 
 -- the token of a symbol and a span
 abbrev pub token_in : List ℕ → Symbol → Span → Token
@@ -26,3 +32,19 @@ pub record IsWhole (t : Inside) : Type 0 where
   pub paired : length t.symbols.items ≡ length t.spans.items
   pub few : length t.spans.items < 2 ^ 32
   pub within : All (IsWithin t.text.now) t.spans.items
+  pub carried : AllCarry t.symbols.items
+
+-- the symbol of a piece, where it is a token
+abbrev pub new_symbols : ℕ → Option Kind → List ℕ → List Symbol
+new_symbols n None bytes = []
+new_symbols n (Some kind) bytes = symbol_of n kind bytes ∷ []
+
+-- the span of a piece, where it is a token
+abbrev pub new_spans : Option Kind → ℕ → List ℕ → Place → List Span
+new_spans None start bytes place = []
+new_spans (Some kind) start bytes place = record { kind = kind; start = start; length = length bytes; place = place } ∷ []
+
+-- a piece that is a token has a symbol
+abbrev pub HasSymbol : Option Kind → List ℕ → Type 0
+HasSymbol None bytes = Unit {0}
+HasSymbol (Some kind) bytes = (is_token kind bytes ≡ true) × (kind ≡ Integer → value bytes ≤ greatest_literal)

@@ -1,8 +1,15 @@
 //! The tokens of a Faust text: what they are, and the one list of them that a text has.
 #![tactic(auto)]
 
+mod lexer;
+mod next;
 mod refusal;
+mod scan;
+mod symbol;
+#[cfg(test)]
+mod tests;
 mod token;
 
+pub use lexer::{one_answer, tokens};
 pub use refusal::LexRefusal;
 pub use token::{Kind, Place, Symbol, Tokens};

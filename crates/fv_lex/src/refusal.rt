@@ -1,6 +1,8 @@
 ghost use Rattle.std.specs.Prelude.{◌≡◌};
 ghost use Rattle.fv_lex.specs.declared.refusal.LexRefusal.TheVariants.{NoMemory};
+ghost use Rattle.fv_lex.specs.Cuts.{refusal_at};
 
+use crate::token::Place;
 use fv_outside::Role;
 use std::alloc::{AllocError, AllocFailed};
 
@@ -23,6 +25,16 @@ pub enum LexRefusal {
     NoMemory,
 }
 
+/// Why a text can't be cut further, apart from the place.
+#[derive(Clone, Copy, PartialEq, Eq, Debug)]
+pub(crate) enum Fault {
+    BadByte,
+    Unclosed,
+    RealLiteral,
+    LiteralTooLarge,
+    Nesting,
+}
+
 impl From<AllocError> for LexRefusal {
     ghost from_gives = { λ _ e. e ≡ NoMemory };
 
@@ -36,5 +48,18 @@ impl<T: Drop> From<AllocFailed<T>> for LexRefusal {
 
     fn from(_e: AllocFailed<T>) -> LexRefusal {
         LexRefusal::NoMemory
+    }
+}
+
+pub(crate) fn refusal_at(place: Place, fault: Fault) -> LexRefusal
+    ensures { result ≡ refusal_at place fault }
+{
+    let Place { line, column } = place;
+    match fault {
+        Fault::BadByte => LexRefusal::BadByte { line, column },
+        Fault::Unclosed => LexRefusal::Unclosed { line, column },
+        Fault::RealLiteral => LexRefusal::RealLiteral { line, column },
+        Fault::LiteralTooLarge => LexRefusal::LiteralTooLarge { line, column },
+        Fault::Nesting => LexRefusal::Nesting { line, column },
     }
 }

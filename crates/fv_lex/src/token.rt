@@ -1,4 +1,5 @@
 ghost use Rattle.std.specs.Prelude.{◌≡◌, ◌+◌, ◌<◌, ◌≤◌, Some, length, slice_get, take, drop};
+ghost use Rattle.fv_lex.specs.Carried.{AllCarry};
 ghost use Rattle.fv_lex.specs.Token.{symbols_of, kinds_of, texts_of, places_of};
 
 use std::marker::Model;
@@ -200,7 +201,8 @@ impl Tokens<'_> {
 
     /// What the grammar sees: the symbol of each token.
     pub fn symbols(&self) -> &[Symbol]
-        ensures { result.now ≡ symbols_of self.now.tokens }
+        ensures symbols { result.now ≡ symbols_of self.now.tokens }
+        ensures carried { AllCarry result.now }
     {
         self.symbols.as_slice()
     }

@@ -1,0 +1,30 @@
+-- Classes of bytes. Source: this project's profile.
+use Rattle.std.specs.Prelude.{ℕ, Bool, false, not, ◌&&◌, ◌||◌, nat_eq, nat_le, List, [], ◌∷◌}
+
+-- a tab, a line feed, a carriage return or a space
+abbrev pub is_blank : ℕ → Bool
+is_blank b = nat_eq b 9 || (nat_eq b 10 || (nat_eq b 13 || nat_eq b 32))
+
+abbrev pub is_letter : ℕ → Bool
+is_letter b = (nat_le 65 b && nat_le b 90) || (nat_le 97 b && nat_le b 122)
+
+abbrev pub is_digit : ℕ → Bool
+is_digit b = nat_le 48 b && nat_le b 57
+
+abbrev pub is_underscore : ℕ → Bool
+is_underscore b = nat_eq b 95
+
+-- a letter, a digit or `_`
+abbrev pub is_name_byte : ℕ → Bool
+is_name_byte b = is_letter b || (is_digit b || is_underscore b)
+
+abbrev pub is_quote : ℕ → Bool
+is_quote b = nat_eq b 34
+
+abbrev pub is_in_line : ℕ → Bool
+is_in_line b = not (nat_eq b 10)
+
+-- whether a list begins with a byte of a class
+abbrev pub begins : (ℕ → Bool) → List ℕ → Bool
+begins class [] = false
+begins class (b ∷ bs) = class b

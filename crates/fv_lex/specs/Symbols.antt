@@ -1,0 +1,117 @@
+-- The signs, the reserved words, and what the grammar sees of a token. Source: Faust manual, cut down by this project's profile.
+use Rattle.std.specs.Prelude.{ℕ, ◌+◌, ◌-◌, ◌*◌, Bool, ◌||◌, nat_eq, codes, List, [], ◌∷◌, Option, Some, None, unwrap_or, if◌then◌else◌}
+use Rattle.std.specs.List.{list_any}
+use Rattle.std.specs.Str.{bytes_eq}
+use Rattle.fv_lex.specs.declared.token.Kind.{Kind}
+use Rattle.fv_lex.specs.declared.token.Kind.TheVariants as kinds
+use Rattle.fv_lex.specs.declared.token.Symbol.{Symbol}
+use Rattle.fv_lex.specs.declared.token.Symbol.TheVariants as symbols
+
+-- what stands beside a byte in a table
+abbrev pub at_byte : {A : Type 0} → List (ℕ × A) → ℕ → Option A
+at_byte [] b = None
+at_byte (e ∷ es) b = if nat_eq b e.0 then Some e.1 else at_byte es b
+
+-- what stands beside a text in a table
+abbrev pub at_word : {A : Type 0} → List (List ℕ × A) → List ℕ → Option A
+at_word [] word = None
+at_word (e ∷ es) word = if bytes_eq word e.0 then Some e.1 else at_word es word
+
+-- the signs of one byte: _ ! , : ~ + - * / % & | < > @ ' ( ) { } = ; . \ ^
+abbrev pub singles : List (ℕ × Symbol)
+singles =
+    (95, symbols.Underscore) ∷ (33, symbols.Exclamation) ∷ (44, symbols.Comma) ∷ (58, symbols.Colon) ∷ (126, symbols.Tilde) ∷
+    (43, symbols.Plus) ∷ (45, symbols.Minus) ∷ (42, symbols.Times) ∷ (47, symbols.Divide) ∷ (37, symbols.Percent) ∷
+    (38, symbols.Ampersand) ∷ (124, symbols.Bar) ∷ (60, symbols.Less) ∷ (62, symbols.Greater) ∷ (64, symbols.At) ∷
+    (39, symbols.Tick) ∷ (40, symbols.Open) ∷ (41, symbols.Close) ∷ (123, symbols.OpenBrace) ∷ (125, symbols.CloseBrace) ∷
+    (61, symbols.Equals) ∷ (59, symbols.Semicolon) ∷ (46, symbols.Dot) ∷ (92, symbols.Backslash) ∷ (94, symbols.Caret) ∷ []
+
+-- the second bytes of signs, by the first: <: << <=
+abbrev pub after_less : List (ℕ × Symbol)
+after_less = (58, symbols.Split) ∷ (60, symbols.ShiftLeft) ∷ (61, symbols.LessEqual) ∷ []
+
+-- >> >=
+abbrev pub after_greater : List (ℕ × Symbol)
+after_greater = (62, symbols.ShiftRight) ∷ (61, symbols.GreaterEqual) ∷ []
+
+-- == =>
+abbrev pub after_equals : List (ℕ × Symbol)
+after_equals = (61, symbols.EqualEqual) ∷ (62, symbols.Arrow) ∷ []
+
+-- :> and !=
+abbrev pub double : ℕ → ℕ → Option Symbol
+double b c =
+    if nat_eq b 60 then at_byte after_less c
+    else (if nat_eq b 62 then at_byte after_greater c
+    else (if nat_eq b 61 then at_byte after_equals c
+    else (if nat_eq b 58 then at_byte ((62, symbols.Merge) ∷ []) c
+    else (if nat_eq b 33 then at_byte ((61, symbols.NotEqual) ∷ []) c
+    else None))))
+
+-- the sign that these bytes are
+abbrev pub sign : List ℕ → Option Symbol
+sign [] = None
+sign (b ∷ []) = at_byte singles b
+sign (b ∷ c ∷ []) = double b c
+sign (b ∷ c ∷ d ∷ bs) = None
+
+-- words that stand for primitives
+abbrev pub primitive_words : List (List ℕ × Symbol)
+primitive_words =
+    (codes "xor", symbols.Xor) ∷ (codes "mem", symbols.Mem) ∷ (codes "prefix", symbols.Prefix) ∷ (codes "int", symbols.Int) ∷
+    (codes "attach", symbols.Attach) ∷ (codes "select2", symbols.Select2) ∷ (codes "select3", symbols.Select3) ∷
+    (codes "min", symbols.Min) ∷ (codes "max", symbols.Max) ∷ (codes "abs", symbols.Abs) ∷ []
+
+-- words that begin a form of the grammar
+abbrev pub form_words : List (List ℕ × Symbol)
+form_words =
+    (codes "par", symbols.Par) ∷ (codes "seq", symbols.Seq) ∷ (codes "sum", symbols.Sum) ∷ (codes "prod", symbols.Prod) ∷
+    (codes "inputs", symbols.Inputs) ∷ (codes "outputs", symbols.Outputs) ∷ (codes "case", symbols.Case) ∷
+    (codes "with", symbols.With) ∷ (codes "declare", symbols.Declare) ∷ []
+
+-- words of controls and groups
+abbrev pub control_words : List (List ℕ × Symbol)
+control_words =
+    (codes "button", symbols.Button) ∷ (codes "checkbox", symbols.Checkbox) ∷ (codes "hslider", symbols.Hslider) ∷
+    (codes "vslider", symbols.Vslider) ∷ (codes "nentry", symbols.Nentry) ∷ (codes "hgroup", symbols.Hgroup) ∷
+    (codes "vgroup", symbols.Vgroup) ∷ (codes "tgroup", symbols.Tgroup) ∷ []
+
+-- words of Faust's programs that are not supported
+abbrev pub unsupported_forms : List (List ℕ)
+unsupported_forms =
+    codes "import" ∷ codes "library" ∷ codes "component" ∷ codes "environment" ∷ codes "letrec" ∷ codes "route" ∷
+    codes "soundfile" ∷ codes "hbargraph" ∷ codes "vbargraph" ∷ codes "ffunction" ∷ codes "fconstant" ∷
+    codes "fvariable" ∷ codes "rdtable" ∷ codes "rwtable" ∷ codes "waveform" ∷ []
+
+-- words of real numbers
+abbrev pub real_words : List (List ℕ)
+real_words =
+    codes "float" ∷ codes "sin" ∷ codes "cos" ∷ codes "tan" ∷ codes "asin" ∷ codes "acos" ∷ codes "atan" ∷ codes "atan2" ∷
+    codes "exp" ∷ codes "exp10" ∷ codes "log" ∷ codes "log10" ∷ codes "pow" ∷ codes "sqrt" ∷ codes "fmod" ∷
+    codes "remainder" ∷ codes "floor" ∷ codes "ceil" ∷ codes "rint" ∷ []
+
+abbrev pub is_unsupported : List ℕ → Bool
+is_unsupported word = list_any (bytes_eq word) unsupported_forms || list_any (bytes_eq word) real_words
+
+-- the symbol of token n, which is a name with these bytes
+abbrev pub word_symbol : ℕ → List ℕ → Symbol
+word_symbol n word =
+    unwrap_or (at_word primitive_words word)
+    (unwrap_or (at_word form_words word)
+    (unwrap_or (at_word control_words word)
+    (if is_unsupported word then symbols.Unsupported n else symbols.Name n)))
+
+-- the number that decimal digits spell, behind digits that spell n
+abbrev pub value_from : ℕ → List ℕ → ℕ
+value_from n [] = n
+value_from n (d ∷ ds) = value_from (n * 10 + (d - 48)) ds
+
+abbrev pub value : List ℕ → ℕ
+value digits = value_from 0 digits
+
+-- what the grammar sees of token n, of this kind and with these bytes
+abbrev pub symbol_of : ℕ → Kind → List ℕ → Symbol
+symbol_of n kinds.Name bytes = word_symbol n bytes
+symbol_of n kinds.Integer bytes = symbols.Integer (value bytes)
+symbol_of n kinds.Text bytes = symbols.Text n
+symbol_of n kinds.Sign bytes = unwrap_or (sign bytes) (symbols.Unsupported n)

@@ -1,0 +1,240 @@
+ghost use Rattle.std.specs.Prelude.{◌≡◌, ◌≤◌, true};
+ghost use Rattle.std.specs.List.{list_any};
+ghost use Rattle.std.specs.Str.{bytes_eq};
+ghost use Rattle.fv_lex.specs.declared.token.Kind.TheVariants.{Integer};
+ghost use Rattle.fv_lex.specs.Symbols.{at_byte, at_word, singles, double, sign, primitive_words, form_words, control_words, unsupported_forms, real_words, word_symbol, symbol_of, value};
+ghost use Rattle.fv_lex.specs.Pieces.{is_token, greatest_literal};
+
+use crate::scan::number;
+use crate::token::{Kind, Symbol};
+
+/// The sign of one byte.
+pub(crate) fn single(b: u8) -> Option<Symbol>
+    ensures { result ≡ at_byte singles b }
+{
+    let symbol = match b {
+        b'_' => Symbol::Underscore,
+        b'!' => Symbol::Exclamation,
+        b',' => Symbol::Comma,
+        b':' => Symbol::Colon,
+        b'~' => Symbol::Tilde,
+        b'+' => Symbol::Plus,
+        b'-' => Symbol::Minus,
+        b'*' => Symbol::Times,
+        b'/' => Symbol::Divide,
+        b'%' => Symbol::Percent,
+        b'&' => Symbol::Ampersand,
+        b'|' => Symbol::Bar,
+        b'<' => Symbol::Less,
+        b'>' => Symbol::Greater,
+        b'@' => Symbol::At,
+        b'\'' => Symbol::Tick,
+        b'(' => Symbol::Open,
+        b')' => Symbol::Close,
+        b'{' => Symbol::OpenBrace,
+        b'}' => Symbol::CloseBrace,
+        b'=' => Symbol::Equals,
+        b';' => Symbol::Semicolon,
+        b'.' => Symbol::Dot,
+        b'\\' => Symbol::Backslash,
+        b'^' => Symbol::Caret,
+        _ => return None,
+    };
+    Some(symbol)
+}
+
+/// The sign of two bytes.
+pub(crate) fn double(b: u8, c: u8) -> Option<Symbol>
+    ensures { result ≡ double b c }
+{
+    let symbol = match (b, c) {
+        (b'<', b':') => Symbol::Split,
+        (b'<', b'<') => Symbol::ShiftLeft,
+        (b'<', b'=') => Symbol::LessEqual,
+        (b'>', b'>') => Symbol::ShiftRight,
+        (b'>', b'=') => Symbol::GreaterEqual,
+        (b'=', b'=') => Symbol::EqualEqual,
+        (b'=', b'>') => Symbol::Arrow,
+        (b':', b'>') => Symbol::Merge,
+        (b'!', b'=') => Symbol::NotEqual,
+        _ => return None,
+    };
+    Some(symbol)
+}
+
+fn sign(bytes: &[u8]) -> Option<Symbol>
+    ensures { result ≡ sign bytes.now }
+{
+    match bytes {
+        [b] => single(*b),
+        [b, c] => double(*b, *c),
+        _ => None,
+    }
+}
+
+fn is(bytes: &[u8], word: &[u8]) -> bool
+    ensures { result ≡ bytes_eq bytes.now word.now }
+{
+    bytes == word
+}
+
+/// The word of a primitive.
+fn primitive_word(word: &[u8]) -> Option<Symbol>
+    ensures { result ≡ at_word primitive_words word.now }
+{
+    if is(word, b"xor") {
+        Some(Symbol::Xor)
+    } else if is(word, b"mem") {
+        Some(Symbol::Mem)
+    } else if is(word, b"prefix") {
+        Some(Symbol::Prefix)
+    } else if is(word, b"int") {
+        Some(Symbol::Int)
+    } else if is(word, b"attach") {
+        Some(Symbol::Attach)
+    } else if is(word, b"select2") {
+        Some(Symbol::Select2)
+    } else if is(word, b"select3") {
+        Some(Symbol::Select3)
+    } else if is(word, b"min") {
+        Some(Symbol::Min)
+    } else if is(word, b"max") {
+        Some(Symbol::Max)
+    } else if is(word, b"abs") {
+        Some(Symbol::Abs)
+    } else {
+        None
+    }
+}
+
+/// The word that begins a form of the grammar.
+fn form_word(word: &[u8]) -> Option<Symbol>
+    ensures { result ≡ at_word form_words word.now }
+{
+    if is(word, b"par") {
+        Some(Symbol::Par)
+    } else if is(word, b"seq") {
+        Some(Symbol::Seq)
+    } else if is(word, b"sum") {
+        Some(Symbol::Sum)
+    } else if is(word, b"prod") {
+        Some(Symbol::Prod)
+    } else if is(word, b"inputs") {
+        Some(Symbol::Inputs)
+    } else if is(word, b"outputs") {
+        Some(Symbol::Outputs)
+    } else if is(word, b"case") {
+        Some(Symbol::Case)
+    } else if is(word, b"with") {
+        Some(Symbol::With)
+    } else if is(word, b"declare") {
+        Some(Symbol::Declare)
+    } else {
+        None
+    }
+}
+
+/// The word of a control or a group.
+fn control_word(word: &[u8]) -> Option<Symbol>
+    ensures { result ≡ at_word control_words word.now }
+{
+    if is(word, b"button") {
+        Some(Symbol::Button)
+    } else if is(word, b"checkbox") {
+        Some(Symbol::Checkbox)
+    } else if is(word, b"hslider") {
+        Some(Symbol::Hslider)
+    } else if is(word, b"vslider") {
+        Some(Symbol::Vslider)
+    } else if is(word, b"nentry") {
+        Some(Symbol::Nentry)
+    } else if is(word, b"hgroup") {
+        Some(Symbol::Hgroup)
+    } else if is(word, b"vgroup") {
+        Some(Symbol::Vgroup)
+    } else if is(word, b"tgroup") {
+        Some(Symbol::Tgroup)
+    } else {
+        None
+    }
+}
+
+/// Whether it is a word of Faust's programs that is not supported.
+fn is_unsupported_form(word: &[u8]) -> bool
+    ensures { result ≡ list_any (bytes_eq word.now) unsupported_forms }
+{
+    is(word, b"import")
+        || is(word, b"library")
+        || is(word, b"component")
+        || is(word, b"environment")
+        || is(word, b"letrec")
+        || is(word, b"route")
+        || is(word, b"soundfile")
+        || is(word, b"hbargraph")
+        || is(word, b"vbargraph")
+        || is(word, b"ffunction")
+        || is(word, b"fconstant")
+        || is(word, b"fvariable")
+        || is(word, b"rdtable")
+        || is(word, b"rwtable")
+        || is(word, b"waveform")
+}
+
+/// Whether it is a word of real numbers.
+fn is_real_word(word: &[u8]) -> bool
+    ensures { result ≡ list_any (bytes_eq word.now) real_words }
+{
+    is(word, b"float")
+        || is(word, b"sin")
+        || is(word, b"cos")
+        || is(word, b"tan")
+        || is(word, b"asin")
+        || is(word, b"acos")
+        || is(word, b"atan")
+        || is(word, b"atan2")
+        || is(word, b"exp")
+        || is(word, b"exp10")
+        || is(word, b"log")
+        || is(word, b"log10")
+        || is(word, b"pow")
+        || is(word, b"sqrt")
+        || is(word, b"fmod")
+        || is(word, b"remainder")
+        || is(word, b"floor")
+        || is(word, b"ceil")
+        || is(word, b"rint")
+}
+
+/// The symbol of token `n`, which is a name.
+fn word_symbol(n: u64, word: &[u8]) -> Symbol
+    ensures { result ≡ word_symbol n word.now }
+{
+    if let Some(symbol) = primitive_word(word) {
+        return symbol;
+    }
+    if let Some(symbol) = form_word(word) {
+        return symbol;
+    }
+    if let Some(symbol) = control_word(word) {
+        return symbol;
+    }
+    if is_unsupported_form(word) || is_real_word(word) {
+        Symbol::Unsupported(n)
+    } else {
+        Symbol::Name(n)
+    }
+}
+
+/// The symbol of token `n`, which has this kind and these bytes.
+pub(crate) fn symbol_of(n: u64, kind: Kind, bytes: &[u8]) -> Symbol
+    requires token { is_token kind bytes.now ≡ true }
+    requires small { kind ≡ Integer → value bytes.now ≤ greatest_literal }
+    ensures { result ≡ symbol_of n kind bytes.now }
+{
+    match kind {
+        Kind::Name => word_symbol(n, bytes),
+        Kind::Integer => Symbol::Integer(number(bytes).unwrap()),
+        Kind::Text => Symbol::Text(n),
+        Kind::Sign => sign(bytes).unwrap(),
+    }
+}
