@@ -1,0 +1,5 @@
+pub mod Tokens
+pub mod Grammar
+pub mod Next
+pub mod Lexed
+pub mod Reads

@@ -1,0 +1,51 @@
+-- What a drawer of a desk in memory holds: all that is kept of one role, but for the files.
+use Rattle.std.specs.Prelude.{◌≡◌, ℕ, ◌<◌, ◌==◌, suc, min, Bool, List, [], Option, Some, None, drop, slice_index_or}
+use Rattle.std.specs.List.{list_any}
+use Rattle.fv_outside.specs.Desk.{File, last_count}
+use Rattle.fv_outside.specs.declared.drawer.Reading.{Reading}
+
+pub record Kept : Type 0 where
+  -- where the role reads
+  pub reading : Option Reading
+  pub written : List ℕ
+  -- how many bytes may be written
+  pub room : ℕ
+  -- how many calls there were
+  pub calls : ℕ
+  -- the numbers of the calls that fail
+  pub failing : List ℕ
+  pub faults : ℕ
+  pub begins : ℕ
+
+-- nothing was put in
+abbrev pub nothing_kept : Kept
+nothing_kept = record { reading = None; written = []; room = 0; calls = 0; failing = []; faults = 0; begins = 0 }
+
+-- one more, up to the last value of a count
+abbrev pub raised : ℕ → ℕ
+raised n = min (suc n) last_count
+
+-- the bytes of the file at a place of the list
+abbrev pub bytes_at : List File → ℕ → List ℕ
+bytes_at files i = (slice_index_or files i (record { name = []; bytes = [] })).bytes
+
+-- the bytes that are left behind what was taken
+abbrev pub left_at : List File → Option Reading → List ℕ
+left_at files None = []
+left_at files (Some r) = drop r.taken (bytes_at files r.file)
+
+-- the call that comes now stands on the list
+abbrev pub fails_now : (calls : ℕ) (failing : List ℕ) → Bool
+fails_now calls failing = list_any (λ n. n == calls) failing
+
+-- a call was counted
+abbrev pub called : Kept → Kept
+called k = record k { calls = raised k.calls }
+
+-- a call was counted that failed
+abbrev pub faulted : Kept → Kept
+faulted k = record k { calls = raised k.calls; faults = raised k.faults }
+
+-- the drawer reads one of so many files
+abbrev pub ReadsWithin : ℕ → Kept → Type 0
+ReadsWithin n k = (r : Reading) → k.reading ≡ Some r → r.file < n

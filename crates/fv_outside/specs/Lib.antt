@@ -1,0 +1,6 @@
+pub mod Desk
+pub mod Tasks
+pub mod Journal
+pub mod Drawer
+pub mod Memory
+pub mod Stored

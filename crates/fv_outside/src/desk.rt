@@ -1,0 +1,66 @@
+// The trait of what reads and writes the files.
+
+ghost use Rattle.std.specs.Prelude.{◌≡◌, ◌≢◌, ◌+◌, ◌%◌, ◌^◌, ◌<◌, ◌≤◌, [], ◌++◌, length, take, Some, IsTrue, IfOk, OnOk, OnErr};
+ghost use Rattle.fv_outside.specs.Desk.{DeskState, GoesOn, HasFault, KeepsBytes, KeepsLeft, KeepsLeftBut, KeepsWritten, KeepsWrittenBut, KeepsBegins, file_named};
+
+use crate::role::Role;
+
+/// A call of a desk failed.
+#[derive(Clone, Copy, PartialEq, Eq, Debug)]
+pub struct Failed;
+
+/// Reads and writes the bytes of each role. A call that failed has counted a fault of its role, or the count stands at
+/// its last value, and has changed no bytes.
+pub trait Desk {
+    /// What it means: its files, the bytes of each role where it tells them, and its counts.
+    ghost state: { Self → DeskState };
+
+    /// Makes the bytes of the named file those that are left to read of the role. A file that is not there is a fault.
+    fn begin_read(&mut self, role: Role, name: &str) -> Result<(), Failed>
+        ensures goes_on { GoesOn (state self.old) (state self.new) }
+        ensures failed { OnErr result (HasFault role (state self.old) (state self.new)) }
+        ensures file { OnOk result (IsTrue (state self.old).tells →
+            file_named name.now (state self.old).files ≡ Some ((state self.new).left role)) }
+        ensures others { KeepsLeftBut role (state self.old) (state self.new) }
+        ensures written { KeepsWritten (state self.old) (state self.new) }
+        ensures begins { KeepsBegins (state self.old) (state self.new) }
+        ensures err { OnErr result (KeepsBytes (state self.old) (state self.new)) };
+
+    /// Takes bytes that are left of the role into the front of `to`, and says how many: 0 only where none is left.
+    fn read(&mut self, role: Role, to: &mut [u8]) -> Result<usize, Failed>
+        requires { 0 < length to.old }
+        ensures goes_on { GoesOn (state self.old) (state self.new) }
+        ensures failed { OnErr result (HasFault role (state self.old) (state self.new)) }
+        ensures count { IfOk result (λ n. n ≤ length to.new) }
+        ensures taken { IfOk result (λ n. IsTrue (state self.old).tells →
+            (state self.old).left role ≡ take n to.new ++ (state self.new).left role) }
+        ensures end { IfOk result (λ n. IsTrue (state self.old).tells → n ≡ 0 → (state self.old).left role ≡ []) }
+        ensures others { KeepsLeftBut role (state self.old) (state self.new) }
+        ensures written { KeepsWritten (state self.old) (state self.new) }
+        ensures begins { KeepsBegins (state self.old) (state self.new) }
+        ensures err { OnErr result (KeepsBytes (state self.old) (state self.new)) };
+
+    /// Begins to write the role, with no bytes. Report needs no such call.
+    fn begin_write(&mut self, role: Role, name: &str) -> Result<(), Failed>
+        ensures goes_on { GoesOn (state self.old) (state self.new) }
+        ensures failed { OnErr result (HasFault role (state self.old) (state self.new)) }
+        ensures empty { OnOk result (IsTrue (state self.old).tells → (state self.new).written role ≡ []) }
+        ensures others { KeepsWrittenBut role (state self.old) (state self.new) }
+        ensures left { KeepsLeft (state self.old) (state self.new) }
+        ensures counted { OnOk result ((state self.new).begins role ≡ ((state self.old).begins role + 1) % 2 ^ 64) }
+        ensures other_begins { (r : Role) → r ≢ role → (state self.new).begins r ≡ (state self.old).begins r }
+        ensures err { OnErr result (KeepsBytes (state self.old) (state self.new)) };
+
+    /// Appends bytes from the front of `piece` to those written of the role, and says how many: at least one.
+    fn write(&mut self, role: Role, piece: &[u8]) -> Result<usize, Failed>
+        requires { 0 < length piece.now }
+        ensures goes_on { GoesOn (state self.old) (state self.new) }
+        ensures failed { OnErr result (HasFault role (state self.old) (state self.new)) }
+        ensures count { IfOk result (λ n. (1 ≤ n) × (n ≤ length piece.now)) }
+        ensures appended { IfOk result (λ n. IsTrue (state self.old).tells →
+            (state self.new).written role ≡ (state self.old).written role ++ take n piece.now) }
+        ensures others { KeepsWrittenBut role (state self.old) (state self.new) }
+        ensures left { KeepsLeft (state self.old) (state self.new) }
+        ensures begins { KeepsBegins (state self.old) (state self.new) }
+        ensures err { OnErr result (KeepsBytes (state self.old) (state self.new)) };
+}

@@ -1,0 +1,273 @@
+// A desk whose files are lists of bytes.
+
+ghost use Rattle.std.specs.Prelude.{◌≡◌, ◌≢◌, ℕ, List, ◌+◌, ◌-◌, ◌%◌, ◌^◌, ◌<◌, ◌≤◌, ◌||◌, min, max, length, take, drop, ◌++◌, ◌∷◌, [], Some, None, is_none, is_err, nat_le, unwrap_or, MatchOption, IsTrue, OnOk, OnErr, IfOk};
+ghost use Rattle.fv_outside.specs.Desk.{file_named, GoesOn};
+ghost use Rattle.fv_outside.specs.Drawer.{bytes_at};
+ghost use Rattle.fv_outside.specs.Memory.{empty_memory, memory_of, with_memory, memory_state, is_failing, after_call, after_fault};
+ghost use Rattle.fv_outside.specs.Stored.{place_of};
+
+use crate::desk::{Desk, Failed};
+use crate::drawer::{Drawer, StoredFile};
+use crate::role::Role;
+use std::alloc::{AllocError, Global};
+use std::marker::Model;
+
+/// A desk without real files: what is read was put in before, and what is written can be looked at afterwards.
+/// Calls can be told to fail. None of the four calls of a desk takes memory.
+#[derive(Drop)]
+pub struct MemoryDesk {
+    alloc: Global,
+    files: Vec<StoredFile>,
+    drawers: [Drawer; 5],
+}
+
+impl Model for MemoryDesk {
+    ghost use Rattle.fv_outside.specs.Memory.{Memory};
+
+    ghost Value = { Memory };
+
+    ghost use Rattle.fv_outside.specs.Stored.{memory_with, IsStored};
+
+    ghost view = { λ m. memory_with m.files.items m.drawers };
+
+    ghost invariant = { λ m. IsStored m.files.items m.drawers };
+}
+
+impl MemoryDesk {
+    /// A desk without files, where nothing fails and no byte may be written.
+    pub fn new(alloc: Global) -> MemoryDesk
+        ensures { result ≡ empty_memory }
+    {
+        MemoryDesk {
+            alloc,
+            files: Vec::new(alloc),
+            drawers: [
+                Drawer::new(alloc),
+                Drawer::new(alloc),
+                Drawer::new(alloc),
+                Drawer::new(alloc),
+                Drawer::new(alloc),
+            ],
+        }
+    }
+
+    /// Adds a file, which stands for an earlier one of its name. Where an earlier one is being read, its bytes stay.
+    pub fn put(&mut self, name: &str, bytes: &[u8]) -> Result<(), AllocError>
+        ensures ok { OnOk result (self.new ≡
+            record self.old { files = self.old.files ++ record { name = name.now; bytes = bytes.now } ∷ [] }) }
+        ensures named { OnOk result (file_named name.now self.new.files ≡ Some bytes.now) }
+        ensures others { OnOk result ((n : List ℕ) → n ≢ name.now →
+            file_named n self.new.files ≡ file_named n self.old.files) }
+        ensures err { OnErr result (self.new ≡ self.old) }
+    {
+        let file = StoredFile::new(self.alloc, name, bytes)?;
+        self.files.push(file)?;
+        Ok(())
+    }
+
+    /// From now on so many bytes may be written of the role, or as many as before where that is more.
+    pub fn room(&mut self, role: Role, bytes: u32) -> Result<(), AllocError>
+        ensures ok { OnOk result (self.new ≡ with_memory self.old role
+            (record (memory_of self.old role) { room = max (memory_of self.old role).room bytes })) }
+        ensures err { OnErr result (self.new ≡ self.old) }
+    {
+        self.drawers[place_of(role)].widen(bytes)
+    }
+
+    /// The call of the role with this number, counted from 0 over all four methods, will fail.
+    pub fn fail(&mut self, role: Role, call: u32) -> Result<(), AllocError>
+        ensures ok { OnOk result (self.new ≡ with_memory self.old role
+            (record (memory_of self.old role) { failing = (memory_of self.old role).failing ++ call ∷ [] })) }
+        ensures err { OnErr result (self.new ≡ self.old) }
+    {
+        self.drawers[place_of(role)].fail(call)
+    }
+
+    /// The bytes that were written of the role.
+    pub fn written(&self, role: Role) -> &[u8]
+        ensures { result.now ≡ (memory_of self.now role).written }
+    {
+        self.drawers[place_of(role)].written()
+    }
+}
+
+impl Desk for MemoryDesk {
+    ghost state = { memory_state };
+
+    fn begin_read(&mut self, role: Role, name: &str) -> Result<(), Failed>
+        ensures goes_on { GoesOn (memory_state self.old) (memory_state self.new) }
+        ensures fails { is_err result ≡
+            (is_failing (memory_of self.old role)
+            || is_none (file_named name.now self.old.files)) }
+        ensures ok { OnOk result (self.new ≡ with_memory self.old role
+            (record (after_call (memory_of self.old role)) { left = unwrap_or (file_named name.now self.old.files) [] })) }
+        ensures err { OnErr result (self.new ≡ with_memory self.old role (after_fault (memory_of self.old role))) }
+    {
+        let found = place_named(&self.files, name);
+        self.drawers[place_of(role)].begin_read(found)
+    }
+
+    fn read(&mut self, role: Role, to: &mut [u8]) -> Result<usize, Failed>
+        requires { 0 < length to.old }
+        ensures goes_on { GoesOn (memory_state self.old) (memory_state self.new) }
+        ensures fails { is_err result ≡
+            is_failing (memory_of self.old role) }
+        ensures count { IfOk result (λ n. n ≡ min (length to.new) (length (memory_of self.old role).left)) }
+        ensures end { IfOk result (λ n. n ≡ 0 → (memory_of self.old role).left ≡ []) }
+        ensures bytes { IfOk result (λ n. take n to.new ≡ take n (memory_of self.old role).left) }
+        ensures ok { IfOk result (λ n. self.new ≡ with_memory self.old role
+            (record (after_call (memory_of self.old role)) { left = drop n (memory_of self.old role).left })) }
+        ensures err { OnErr result (self.new ≡ with_memory self.old role (after_fault (memory_of self.old role))) }
+    {
+        self.drawers[place_of(role)].read(&self.files, to)
+    }
+
+    fn begin_write(&mut self, role: Role, _name: &str) -> Result<(), Failed>
+        ensures goes_on { GoesOn (memory_state self.old) (memory_state self.new) }
+        ensures fails { is_err result ≡
+            is_failing (memory_of self.old role) }
+        ensures ok { OnOk result (self.new ≡ with_memory self.old role
+            (record (after_call (memory_of self.old role)) {
+              written = [];
+              begins = ((memory_of self.old role).begins + 1) % 2 ^ 64;
+            })) }
+        ensures err { OnErr result (self.new ≡ with_memory self.old role (after_fault (memory_of self.old role))) }
+    {
+        self.drawers[place_of(role)].begin_write()
+    }
+
+    fn write(&mut self, role: Role, piece: &[u8]) -> Result<usize, Failed>
+        requires { 0 < length piece.now }
+        ensures goes_on { GoesOn (memory_state self.old) (memory_state self.new) }
+        ensures fails { is_err result ≡
+            (is_failing (memory_of self.old role)
+            || nat_le (memory_of self.old role).room (length (memory_of self.old role).written)) }
+        ensures count { IfOk result (λ n. n ≡
+            min (length piece.now) ((memory_of self.old role).room - length (memory_of self.old role).written)) }
+        ensures ok { IfOk result (λ n. self.new ≡ with_memory self.old role
+            (record (after_call (memory_of self.old role)) {
+              written = (memory_of self.old role).written ++ take n piece.now;
+            })) }
+        ensures err { OnErr result (self.new ≡ with_memory self.old role (after_fault (memory_of self.old role))) }
+    {
+        self.drawers[place_of(role)].write(piece)
+    }
+}
+
+// The place of the role's drawer.
+fn place_of(role: Role) -> usize
+    ensures place { result ≡ place_of role }
+    ensures bound { result < 5 }
+{
+    match role {
+        Role::Program => 0,
+        Role::Input => 1,
+        Role::Controls => 2,
+        Role::Output => 3,
+        Role::Report => 4,
+    }
+}
+
+// The place of the last file of this name.
+fn place_named(files: &[StoredFile], name: &str) -> Option<usize>
+    ensures { MatchOption result (file_named name.now files.now ≡ None)
+        (λ i. (i < length files.now) × (file_named name.now files.now ≡ Some (bytes_at files.now i))) }
+{
+    let mut found = None;
+    for (i, file) in files.iter().enumerate() {
+        if file.name() == name.as_bytes() {
+            found = Some(i);
+        }
+    }
+    found
+}
+
+#[cfg(test)]
+mod tests {
+    use super::*;
+    use std::test::Fail;
+
+    // Takes up to two bytes, by the trait alone.
+    fn two<D: Desk>(desk: &mut D, role: Role) -> Result<(usize, [u8; 2]), Failed> {
+        let mut to = [0; 2];
+        let n = desk.read(role, &mut to)?;
+        Ok((n, to))
+    }
+
+    #[test]
+    fn reads(rt: HostRuntime) -> Result<(), Fail> {
+        let mut desk = MemoryDesk::new(rt.alloc());
+        assert_eq!(rt;
+            two(&mut desk, Role::Input),
+            Ok((0, [0, 0])),
+            "no file was begun"
+        );
+        assert_eq!(rt; desk.begin_read(Role::Input, "x"), Err(Failed), "no file");
+        desk.put("x", &[1, 2, 3])?;
+        desk.put("y", &[4])?;
+        assert_eq!(rt; desk.begin_read(Role::Input, "x"), Ok(()));
+        assert_eq!(rt; desk.begin_read(Role::Program, "y"), Ok(()));
+        assert_eq!(rt; two(&mut desk, Role::Input), Ok((2, [1, 2])));
+        desk.put("x", &[9])?;
+        assert_eq!(rt;
+            two(&mut desk, Role::Input),
+            Ok((1, [3, 0])),
+            "the older file goes on"
+        );
+        assert_eq!(rt; two(&mut desk, Role::Input), Ok((0, [0, 0])), "its end");
+        assert_eq!(rt; two(&mut desk, Role::Program), Ok((1, [4, 0])));
+        assert_eq!(rt; desk.begin_read(Role::Input, "x"), Ok(()));
+        assert_eq!(rt;
+            two(&mut desk, Role::Input),
+            Ok((1, [9, 0])),
+            "the newer one"
+        );
+        Ok(())
+    }
+
+    #[test]
+    fn writes(rt: HostRuntime) -> Result<(), Fail> {
+        let mut desk = MemoryDesk::new(rt.alloc());
+        let piece = [7; 40];
+        assert_eq!(rt;
+            desk.write(Role::Output, &piece),
+            Err(Failed),
+            "no room yet"
+        );
+        desk.room(Role::Output, 49)?;
+        desk.room(Role::Output, 3)?;
+        assert_eq!(rt; desk.begin_write(Role::Output, "o"), Ok(()));
+        for want in [Ok(40), Ok(9), Err(Failed)] {
+            assert_eq!(rt; desk.write(Role::Output, &piece), want);
+        }
+        assert_eq!(rt; desk.written(Role::Output), [7; 49].as_slice());
+        assert_eq!(rt; desk.written(Role::Report), [].as_slice());
+        assert_eq!(rt; desk.begin_write(Role::Output, "o"), Ok(()));
+        assert_eq!(rt; desk.written(Role::Output), [].as_slice());
+        Ok(())
+    }
+
+    #[test]
+    fn fails(rt: HostRuntime) -> Result<(), Fail> {
+        let mut desk = MemoryDesk::new(rt.alloc());
+        desk.put("x", &[1])?;
+        desk.room(Role::Input, 2)?;
+        for call in [3, 1, 0] {
+            desk.fail(Role::Input, call)?;
+        }
+        for (call, want) in [
+            (0, Err(Failed)),
+            (1, Err(Failed)),
+            (2, Ok(())),
+            (3, Err(Failed)),
+        ] {
+            assert_eq!(rt; desk.begin_read(Role::Input, "x"), want, "call {call}");
+        }
+        assert_eq!(rt; two(&mut desk, Role::Input), Ok((1, [1, 0])), "call 4");
+        assert_eq!(rt; desk.write(Role::Input, &[5, 6, 7]), Ok(2), "call 5");
+        desk.fail(Role::Input, 6)?;
+        assert_eq!(rt; desk.begin_write(Role::Input, "x"), Err(Failed), "call 6");
+        assert_eq!(rt; desk.written(Role::Input), [5, 6].as_slice());
+        Ok(())
+    }
+}
