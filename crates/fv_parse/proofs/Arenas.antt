@@ -27,12 +27,12 @@ length_grow done (e ∷ es) = length_grow (done ++ tree_of done e.node e.start �
 pub length_trees : (es : List Entry) → length (trees es) ≡ length es
 length_trees es = omega (arith, length_grow [] es)
 
-at_front : (xs ys : List Tree) (i : ℕ) → i < length xs → nth (xs ++ ys) i ≡ nth xs i
+pub at_front : (xs ys : List Tree) (i : ℕ) → i < length xs → nth (xs ++ ys) i ≡ nth xs i
 at_front [] ys i h = absurd (omega arith)
 at_front (x ∷ xs) ys zero h = refl
 at_front (x ∷ xs) ys (suc i) h = at_front xs ys i (omega arith)
 
-at_last : (xs : List Tree) (y : Tree) → nth (xs ++ y ∷ []) (length xs) ≡ y
+pub at_last : (xs : List Tree) (y : Tree) → nth (xs ++ y ∷ []) (length xs) ≡ y
 at_last [] y = refl
 at_last (x ∷ xs) y = at_last xs y
 

@@ -1,2 +1,5 @@
 pub mod Arenas
 pub mod Steps
+pub mod Nodes
+pub mod Lists
+pub mod Endings

@@ -1,2 +1,5 @@
 pub mod Arena
 pub mod Gives
+pub mod Trees
+pub mod Contents
+pub mod Outcomes

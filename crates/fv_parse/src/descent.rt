@@ -936,7 +936,7 @@ fn keep(parts: &mut Vec<TreeId>, found: Option<TreeId>) -> Result<(), AllocError
 
 /// A list: the part that was read, if any, and any number of further ones.
 #[cycle(parser)]
-fn further<'a>(
+pub(crate) fn further<'a>(
     arena: &mut Arena,
     alloc: Global,
     room: usize,

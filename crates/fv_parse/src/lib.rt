@@ -4,6 +4,13 @@
 mod arena;
 mod descent;
 mod node;
+mod parsed;
+mod program;
+mod refusal;
 mod single;
+mod whole;
 
 pub use node::{TreeId, TreeNode};
+pub use parsed::Tree;
+pub use refusal::ParseRefusal;
+pub use whole::parse;
