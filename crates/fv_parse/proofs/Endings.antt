@@ -1,12 +1,13 @@
 -- A whole program.
-use Rattle.std.proofs.Common.{◌≡◌, ℕ, ◌<◌, ◌≤◌, List, [], ◌∷◌, length, Option, Some, None, true, false, Result, Ok, Err, refl, sym, ap, subst, ◌∙◌, arith}
+use Rattle.std.proofs.Common.{◌≡◌, ℕ, ◌<◌, ◌≤◌, List, [], ◌∷◌, length, Option, Some, None, Result, Ok, Err, inl, inr, ◌⊎◌, refl, sym, ap, subst, ◌∙◌, arith}
+use Rattle.std.specs.Prelude.{IfOk, IfErr}
 use Rattle.fv_lex.specs.declared.token.Symbol.{Symbol}
 use Rattle.fv_lex.specs.Token.{Lexed, symbols_of}
 use Rattle.fv_grammar.specs.declared.symbol.Items.TheVariants.{Statements}
 use Rattle.fv_grammar.specs.Tree.{Tree as Spelled}
 use Rattle.fv_grammar.specs.Nesting.{Nests}
 use Rattle.fv_grammar.specs.Descent.{Step, program, further, within}
-use Rattle.fv_grammar.proofs.Complete.{program_complete}
+use Rattle.fv_grammar.proofs.Complete.{program_complete, one_program}
 use Rattle.fv_grammar.proofs.Sound.{program_sound}
 use Rattle.fv_parse.specs.declared.node.TreeId.{TreeId}
 use Rattle.fv_parse.specs.declared.single.Fault.{Fault}
@@ -14,8 +15,8 @@ use Rattle.fv_parse.specs.declared.refusal.ParseRefusal.{ParseRefusal}
 use Rattle.fv_parse.specs.declared.refusal.ParseRefusal.TheVariants as refusals
 use Rattle.fv_parse.specs.Gives.{Fails, Found, in_front}
 use Rattle.fv_parse.specs.Trees.{Parsed, program_of}
-use Rattle.fv_parse.specs.Contents.{definitions_of, has_process}
-use Rattle.fv_parse.specs.Outcomes.{IsSupported, IsSpelled, IsAnswer, Finishes}
+use Rattle.fv_parse.specs.Outcomes.{IsSupported, IsSpelled, HasTree, HasRefusal, refused_tree, Finishes}
+use Rattle.fv_parse.specs.Flaws.{refused}
 use Rattle.fv_parse.proofs.Arenas.{fails_by}
 
 -- ---- the end of the text
@@ -33,17 +34,29 @@ unfolding program
 went_on n ts [] x e h = absurd (omega arith)
 went_on n ts (t ∷ rest) x e h = rw e refl
 
--- ---- answers
-pub answered : (l : Lexed) (x : Spelled) (r : Result Parsed ParseRefusal) → IsSupported l → program 128 (symbols_of l.tokens) ≡ Ok x → Finishes l x r → IsAnswer l r
-answered l x (Ok p) supported read f =
-    let s = program_sound 128 (symbols_of l.tokens) x read in
-    (supported, f.0, subst (λ y. IsSpelled l y) (sym f.1) s, subst (λ y. has_process l (definitions_of y) ≡ true) (sym f.1) f.2)
-answered l x (Err refusals.NoMemory) supported read f = tt
-answered l x (Err refusals.NoProcess) supported read f = (supported, (x, program_sound 128 (symbols_of l.tokens) x read, f))
-answered l x (Err refusal) supported read f = absurd f
-
 pub no_tree : (l : Lexed) (at : List Symbol) → Nests 128 0 (symbols_of l.tokens) → program 128 (symbols_of l.tokens) ≡ Err at → (x : Spelled) → IsSpelled l x → ⊥
 no_tree l at nests e x s = let read = program_complete (symbols_of l.tokens) x 128 s nests in cc
+
+-- ---- answers
+pub tree_answer : (l : Lexed) (x : Spelled) (r : Result Parsed ParseRefusal) → IsSupported l → program 128 (symbols_of l.tokens) ≡ Ok x → Finishes l x r → IfOk r (HasTree l)
+tree_answer l x (Ok p) supported read f = record {
+  supported = supported;
+  tokens = f.0;
+  spelled = subst (λ y. IsSpelled l y) (sym f.1) (program_sound 128 (symbols_of l.tokens) x read);
+  accepted = subst (λ y. refused l y ≡ None) (sym f.1) f.2;
+}
+tree_answer l x (Err e) supported read f = tt
+
+pub refusal_answer : (l : Lexed) (x : Spelled) (r : Result Parsed ParseRefusal) → IsSupported l → program 128 (symbols_of l.tokens) ≡ Ok x → Finishes l x r → IfErr r (λ e. (e ≡ refusals.NoMemory) ⊎ HasRefusal l e)
+refusal_answer l x (Ok p) supported read f = tt
+refusal_answer l x (Err e) supported read f = elim f [
+  | inl memory ↦ inl memory
+  | inr was ↦ inr (refused_tree supported (program_sound 128 (symbols_of l.tokens) x read) was)
+]
+
+pub only_answer : (l : Lexed) (x : Spelled) (r : Result Parsed ParseRefusal) → program 128 (symbols_of l.tokens) ≡ Ok x → Finishes l x r → IfOk r (λ p. (y : Spelled) → IsSpelled l y → y ≡ program_of p)
+only_answer l x (Ok p) read f = λ y s. one_program (symbols_of l.tokens) y x s (program_sound 128 (symbols_of l.tokens) x read) ∙ sym f.1
+only_answer l x (Err e) read f = tt
 
 -- a list that begins with nothing
 pub front_fails : (e : Fault) (ts : List Spelled) (read : Step Spelled) → Fails e (in_front ts [] read) → Fails e read

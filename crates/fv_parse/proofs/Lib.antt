@@ -3,3 +3,4 @@ pub mod Steps
 pub mod Nodes
 pub mod Lists
 pub mod Endings
+pub mod Flawless

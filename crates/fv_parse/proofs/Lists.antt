@@ -53,15 +53,15 @@ unsupported_not_here before last ts i s text found a b is none so_far =
     sym (sym so_far ∙ unsupported_step before last ts i s text a b ∙ ap (λ o. first_of o (unsupported_from last s (drop (i + 1) ts))) (sym is ∙ none))
 
 -- ---- what a list defines
-pub among_step : (ts : List Tree) (ids : List TreeId) (i : ℕ) (d : TreeId) (list all : List Defined) (found : Option Defined) (whole : List Defined) → i < length ids → all ≡ list ++ in_list found
-    → found ≡ defined_by (tree_at ts (get_or ids i d)) → list ++ definitions_of (forest ts (drop i ids) End) ≡ whole → all ++ definitions_of (forest ts (drop (i + 1) ids) End) ≡ whole
-among_step ts ids i d list all found whole h grown is so_far =
-    let others = definitions_of (forest ts (drop (i + 1) ids) End) in
+pub among_step : (total : ℕ) (ts : List Tree) (ids : List TreeId) (i : ℕ) (d : TreeId) (list all : List Defined) (found : Option Defined) (whole : List Defined) → i < length ids → all ≡ list ++ in_list found
+    → found ≡ defined_by total (tree_at ts (get_or ids i d)) → list ++ definitions_of total (forest ts (drop i ids) End) ≡ whole → all ++ definitions_of total (forest ts (drop (i + 1) ids) End) ≡ whole
+among_step total ts ids i d list all found whole h grown is so_far =
+    let others = definitions_of total (forest ts (drop (i + 1) ids) End) in
     ap (λ l. l ++ others) grown ∙ append_assoc list (in_list found) others ∙ ap (λ f. list ++ (in_list f ++ others)) is
-    ∙ ap (λ l. list ++ definitions_of (forest ts l End)) (sym (drop_step ids i d h)) ∙ so_far
+    ∙ ap (λ l. list ++ definitions_of total (forest ts l End)) (sym (drop_step ids i d h)) ∙ so_far
 
-pub among_end : (ts : List Tree) (ids : List TreeId) (i : ℕ) (list whole : List Defined) → length ids ≤ i → list ++ definitions_of (forest ts (drop i ids) End) ≡ whole → list ≡ whole
-among_end ts ids i list whole h so_far = sym (append-nil list) ∙ ap (λ l. list ++ definitions_of (forest ts l End)) (sym (drop_end ids i h)) ∙ so_far
+pub among_end : (total : ℕ) (ts : List Tree) (ids : List TreeId) (i : ℕ) (list whole : List Defined) → length ids ≤ i → list ++ definitions_of total (forest ts (drop i ids) End) ≡ whole → list ≡ whole
+among_end total ts ids i list whole h so_far = sym (append-nil list) ∙ ap (λ l. list ++ definitions_of total (forest ts l End)) (sym (drop_end ids i h)) ∙ so_far
 
 pub process_here : (l : Lexed) (ds : List Defined) (i : ℕ) (d : Defined) (text : List ℕ) → i < length ds → text ≡ text_of l (get_or ds i d).name → true ≡ bytes_eq text (codes "process")
     → has_process l (drop i ds) ≡ has_process l ds → true ≡ has_process l ds

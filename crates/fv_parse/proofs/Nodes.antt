@@ -102,17 +102,17 @@ pub count_node : (ts : List Tree) (node : TreeNode) (start : ℕ) → count (tre
 count_node ts (nodes.List ids) start = count_forest ts ids.items
 count_node ts node start = refl
 
-pub head_node : (ts : List Tree) (node : TreeNode) (start : ℕ) → defined_by (tree_of ts node start) ≡ defined_in ts node
-head_node ts (nodes.List ids) start = of_forest ids.items
+pub head_node : (total : ℕ) (ts : List Tree) (node : TreeNode) (start : ℕ) → defined_by total (tree_of ts node start) ≡ defined_in total ts start node
+head_node total ts (nodes.List ids) start = of_forest ids.items
   where
-    of_forest : (xs : List TreeId) → defined_by (forest ts xs End) ≡ None
+    of_forest : (xs : List TreeId) → defined_by total (forest ts xs End) ≡ None
     of_forest [] = refl
     of_forest (x ∷ xs) = refl
-head_node ts node start = refl
+head_node total ts node start = refl
 
-pub definitions_node : (ts : List Tree) (node : TreeNode) (start : ℕ) → definitions_of (tree_of ts node start) ≡ definitions_in ts node
-definitions_node ts (nodes.List ids) start = refl
-definitions_node ts node start = refl
+pub definitions_node : (total : ℕ) (ts : List Tree) (node : TreeNode) (start : ℕ) → definitions_of total (tree_of ts node start) ≡ definitions_in total ts node
+definitions_node total ts (nodes.List ids) start = refl
+definitions_node total ts node start = refl
 
 -- parts below a number are below a greater one
 pub PartsBelow-mono : (m n : ℕ) (node : TreeNode) → PartsBelow m node → m ≤ n → PartsBelow n node

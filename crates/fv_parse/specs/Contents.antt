@@ -1,5 +1,5 @@
 -- What a program has besides its spelling: no unsupported token, and a definition of `process`.
-use Rattle.std.specs.Prelude.{◌≡◌, ℕ, suc, Bool, true, false, ◌&&◌, ◌||◌, nat_eq, codes, List, [], ◌∷◌, ◌++◌, length, Option, Some, None, Result, Ok, Err, IsTrue, if◌then◌else◌}
+use Rattle.std.specs.Prelude.{◌≡◌, ℕ, suc, ◌-◌, Bool, true, false, ◌&&◌, ◌||◌, nat_eq, codes, List, [], ◌∷◌, ◌++◌, length, Option, Some, None, Result, Ok, Err, IsTrue, if◌then◌else◌}
 use Rattle.std.specs.List.{list_any}
 use Rattle.std.specs.Str.{bytes_eq}
 use Rattle.fv_lex.specs.declared.token.Symbol.{Symbol}
@@ -8,7 +8,7 @@ use Rattle.fv_lex.specs.Token.{Token, Lexed, symbols_of}
 use Rattle.fv_parse.specs.declared.node.TreeNode.{TreeNode}
 use Rattle.fv_parse.specs.declared.node.TreeNode.TheVariants as nodes
 use Rattle.fv_parse.specs.declared.program.Defined.{Defined}
-use Rattle.fv_grammar.specs.Tree.{Tree, Constant, Function, End, More}
+use Rattle.fv_grammar.specs.Tree.{Tree, Constant, Function, Rule, End, More}
 use Rattle.fv_parse.specs.Arena.{tree_at, forest}
 use Rattle.fv_parse.specs.Trees.{text_of}
 
@@ -61,29 +61,32 @@ abbrev pub count_in : TreeNode → ℕ
 count_in (nodes.List ids) = length ids.items
 count_in node = 0
 
--- what a tree defines: the name, and how many patterns stand behind it
-abbrev pub defined_by : Tree → Option Defined
-defined_by (Constant s n x) = Some (record { name = n; width = 0 })
-defined_by (Function s n ps x) = Some (record { name = n; width = count ps })
-defined_by x = None
+-- What a tree defines: the number of its first token, which is a definition's name, and how many patterns stand behind it.
+-- A rule counts as a definition without a name. A text has `total` tokens.
+abbrev pub defined_by : ℕ → Tree → Option Defined
+defined_by total (Constant s n x) = Some (record { name = n; width = 0 })
+defined_by total (Function s n ps x) = Some (record { name = n; width = count ps })
+defined_by total (Rule s ps x) = Some (record { name = total - s; width = count ps })
+defined_by total x = None
 
-abbrev pub defined_in : List Tree → TreeNode → Option Defined
-defined_in trees (nodes.Constant n x) = Some (record { name = n; width = 0 })
-defined_in trees (nodes.Function n ps x) = Some (record { name = n; width = count (tree_at trees ps) })
-defined_in trees node = None
+abbrev pub defined_in : ℕ → List Tree → ℕ → TreeNode → Option Defined
+defined_in total trees start (nodes.Constant n x) = Some (record { name = n; width = 0 })
+defined_in total trees start (nodes.Function n ps x) = Some (record { name = n; width = count (tree_at trees ps) })
+defined_in total trees start (nodes.Rule ps x) = Some (record { name = total - start; width = count (tree_at trees ps) })
+defined_in total trees start node = None
 
 abbrev pub in_list : {A : Type 0} → Option A → List A
 in_list None = []
 in_list (Some a) = a ∷ []
 
 -- what the trees of a list define, in order
-abbrev pub definitions_of : Tree → List Defined
-definitions_of (More x y) = in_list (defined_by x) ++ definitions_of y
-definitions_of x = []
+abbrev pub definitions_of : ℕ → Tree → List Defined
+definitions_of total (More x y) = in_list (defined_by total x) ++ definitions_of total y
+definitions_of total x = []
 
-abbrev pub definitions_in : List Tree → TreeNode → List Defined
-definitions_in trees (nodes.List ids) = definitions_of (forest trees ids.items End)
-definitions_in trees node = []
+abbrev pub definitions_in : ℕ → List Tree → TreeNode → List Defined
+definitions_in total trees (nodes.List ids) = definitions_of total (forest trees ids.items End)
+definitions_in total trees node = []
 
 -- one of them is of `process`
 abbrev pub has_process : Lexed → List Defined → Bool

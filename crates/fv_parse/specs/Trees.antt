@@ -28,6 +28,10 @@ starts_of es = map (λ e. e.start) es
 abbrev pub place_from : Lexed → ℕ → Place
 place_from l start = unwrap_or (slice_get (places_of l.tokens) (length l.tokens - start)) l.end
 
+-- the place of a token
+abbrev pub place_at : Lexed → ℕ → Place
+place_at l n = unwrap_or (slice_get (places_of l.tokens) n) l.end
+
 -- the bytes of a token
 abbrev pub text_of : Lexed → ℕ → List ℕ
 text_of l n = unwrap_or (slice_get (texts_of l.tokens) n) []

@@ -3,6 +3,8 @@
 
 mod arena;
 mod descent;
+mod flaw;
+mod flaws;
 mod node;
 mod parsed;
 mod program;

@@ -1,6 +1,6 @@
 ghost use Rattle.std.specs.Prelude.{◌≡◌, ◌<◌, length, slice_get, Some, unwrap_or};
 ghost use Rattle.fv_parse.specs.Arena.{trees, tree_of, PartsBelow};
-ghost use Rattle.fv_parse.specs.Trees.{tree_in, starts_of, place_from, text_of};
+ghost use Rattle.fv_parse.specs.Trees.{tree_in, starts_of, place_from, place_at, text_of};
 
 use crate::arena::Entry;
 use crate::node::{TreeId, TreeNode};
@@ -70,6 +70,17 @@ pub(crate) fn place_from(tokens: &Tokens, start: u64) -> Place
     let i = count.saturating_sub(start);
     if i < count {
         tokens.place(i as u32)
+    } else {
+        tokens.end()
+    }
+}
+
+/// The place of the token with this number.
+pub(crate) fn place_at(tokens: &Tokens, n: u64) -> Place
+    ensures { result ≡ place_at tokens.now n }
+{
+    if n < u64::from(tokens.len()) {
+        tokens.place(n as u32)
     } else {
         tokens.end()
     }

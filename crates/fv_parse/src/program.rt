@@ -128,11 +128,11 @@ pub(crate) fn count(entries: &[Entry], id: TreeId) -> u64
     count_in(&entry_at(entries, id).node)
 }
 
-/// What a node defines.
-fn defined_in(entries: &[Entry], node: &TreeNode) -> Option<Defined>
+/// What a node defines. The text has `total` tokens, and from the node's first one on there are `start`.
+fn defined_in(total: u64, entries: &[Entry], start: u64, node: &TreeNode) -> Option<Defined>
     requires over { AreOver 0 entries.now }
     requires parts { PartsBelow (length entries.now) node.now }
-    ensures { result ≡ defined_in (trees entries.now) node.now }
+    ensures { result ≡ defined_in total (trees entries.now) start node.now }
 {
     match node {
         TreeNode::Constant(name, _) => Some(Defined {
@@ -143,17 +143,22 @@ fn defined_in(entries: &[Entry], node: &TreeNode) -> Option<Defined>
             name: *name,
             width: count(entries, *patterns),
         }),
+        TreeNode::Rule(patterns, _) => Some(Defined {
+            name: total.saturating_sub(start),
+            width: count(entries, *patterns),
+        }),
         _ => None,
     }
 }
 
 /// What a tree defines.
-fn defined_by(entries: &[Entry], id: TreeId) -> Option<Defined>
+fn defined_by(total: u64, entries: &[Entry], id: TreeId) -> Option<Defined>
     requires over { AreOver 0 entries.now }
     requires inside { id.0 < length entries.now }
-    ensures { result ≡ defined_by (tree_at (trees entries.now) id) }
+    ensures { result ≡ defined_by total (tree_at (trees entries.now) id) }
 {
-    defined_in(entries, &entry_at(entries, id).node)
+    let entry = entry_at(entries, id);
+    defined_in(total, entries, entry.start, &entry.node)
 }
 
 fn keep(list: &mut Vec<Defined>, found: Option<Defined>) -> Result<(), AllocError>
@@ -171,31 +176,33 @@ fn keep(list: &mut Vec<Defined>, found: Option<Defined>) -> Result<(), AllocErro
 /// What the trees with these numbers define, in order.
 fn definitions_among(
     alloc: Global,
+    total: u64,
     entries: &[Entry],
     ids: &[TreeId],
 ) -> Result<Vec<Defined>, AllocError>
     requires over { AreOver 0 entries.now }
     requires inside { AllBelow (length entries.now) ids.now }
-    ensures { IfOk result (λ v. v.items ≡ definitions_of (forest (trees entries.now) ids.now End)) }
+    ensures { IfOk result (λ v. v.items ≡ definitions_of total (forest (trees entries.now) ids.now End)) }
 {
     let mut list = Vec::new(alloc);
     for id in ids {
-        keep(&mut list, defined_by(entries, *id))?;
+        keep(&mut list, defined_by(total, entries, *id))?;
     }
     Ok(list)
 }
 
 fn definitions_in(
     alloc: Global,
+    total: u64,
     entries: &[Entry],
     node: &TreeNode,
 ) -> Result<Vec<Defined>, AllocError>
     requires over { AreOver 0 entries.now }
     requires parts { PartsBelow (length entries.now) node.now }
-    ensures { IfOk result (λ v. v.items ≡ definitions_in (trees entries.now) node.now) }
+    ensures { IfOk result (λ v. v.items ≡ definitions_in total (trees entries.now) node.now) }
 {
     match node {
-        TreeNode::List(ids) => definitions_among(alloc, entries, ids),
+        TreeNode::List(ids) => definitions_among(alloc, total, entries, ids),
         _ => Ok(Vec::new(alloc)),
     }
 }
@@ -203,14 +210,15 @@ fn definitions_in(
 /// What a list defines, in order.
 pub(crate) fn definitions_of(
     alloc: Global,
+    total: u64,
     entries: &[Entry],
     id: TreeId,
 ) -> Result<Vec<Defined>, AllocError>
     requires over { AreOver 0 entries.now }
     requires inside { id.0 < length entries.now }
-    ensures { IfOk result (λ v. v.items ≡ definitions_of (tree_at (trees entries.now) id)) }
+    ensures { IfOk result (λ v. v.items ≡ definitions_of total (tree_at (trees entries.now) id)) }
 {
-    definitions_in(alloc, entries, &entry_at(entries, id).node)
+    definitions_in(alloc, total, entries, &entry_at(entries, id).node)
 }
 
 fn is_process(text: &[u8]) -> bool
@@ -219,7 +227,7 @@ fn is_process(text: &[u8]) -> bool
     is(text, b"process")
 }
 
-fn is(text: &[u8], word: &[u8]) -> bool
+pub(crate) fn is(text: &[u8], word: &[u8]) -> bool
     ensures { result ≡ bytes_eq text.now word.now }
 {
     text == word

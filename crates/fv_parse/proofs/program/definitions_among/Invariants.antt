@@ -5,4 +5,4 @@ use Rattle.fv_parse.specs.Contents.{definitions_of}
 use Rattle.fv_parse.proofs.program.definitions_among.Given as goal
 
 abbrev pub invariant-loop-id : goal.invariant-loop-id
-invariant-loop-id l = l.list.items ++ definitions_of (forest (trees l.entries) (drop l.id-index l.ids) End) ≡ definitions_of (forest (trees l.entries) l.ids End)
+invariant-loop-id l = l.list.items ++ definitions_of l.total (forest (trees l.entries) (drop l.id-index l.ids) End) ≡ definitions_of l.total (forest (trees l.entries) l.ids End)

@@ -13,5 +13,5 @@ definitions_in-requires-clause-parts c =
 
 pub returns : goal.returns
 returns c =
-    let e = definitions_node (trees c.args.entries.now) c.entry_at.result.now.node c.entry_at.result.now.start in
+    let e = definitions_node c.args.total (trees c.args.entries.now) c.entry_at.result.now.node c.entry_at.result.now.start in
     rw (c.entry_at.ensures.tree, e) c.definitions_in.ensures
