@@ -4,3 +4,4 @@ pub mod Nodes
 pub mod Lists
 pub mod Endings
 pub mod Flawless
+pub mod Known

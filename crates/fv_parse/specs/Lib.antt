@@ -5,3 +5,4 @@ pub mod Contents
 pub mod Flaws
 pub mod Pending
 pub mod Outcomes
+pub mod Depths

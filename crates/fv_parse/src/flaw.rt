@@ -1,11 +1,13 @@
 // What refuses a program that is spelled, in a list of definitions, rules or names.
 
-ghost use Rattle.std.specs.Prelude.{◌≡◌, ◌<◌, [], length};
-ghost use Rattle.fv_parse.specs.Flaws.{kind_rank, comes_first, earlier, find, clash, clash_with, first_clash, differing, rule_widths};
+ghost use Rattle.std.specs.Prelude.{◌≡◌, ◌<◌, [], length, IfOk};
+ghost use Rattle.fv_parse.specs.Flaws.{kind_rank, comes_first, earlier, clash, clash_with, first_clash, differing, rule_widths};
 
 use crate::parsed::text_of;
-use crate::program::{Defined, is};
+use crate::program::Defined;
 use fv_lex::Tokens;
+use std::alloc::{AllocError, Global};
+use std::collections::BTreeMap;
 
 /// What is wrong.
 #[derive(Clone, Copy, Debug)]
@@ -91,30 +93,27 @@ fn clash_with(among: Among, defined: Defined, found: Option<u64>) -> Option<Flaw
     }
 }
 
-/// How many patterns the first of these definitions has that has this name.
-fn find(tokens: &Tokens, seen: &[Defined], name: &[u8]) -> Option<u64>
-    ensures { result ≡ find tokens.now seen.now name.now }
-{
-    for defined in seen {
-        if is(text_of(tokens, defined.name), name) {
-            return Some(defined.width);
-        }
-    }
-    None
-}
-
 /// The first definition that clashes with an earlier one.
-pub(crate) fn first_clash(among: Among, tokens: &Tokens, list: &[Defined]) -> Option<Flaw>
-    ensures { result ≡ first_clash among tokens.now [] list.now }
+pub(crate) fn first_clash(
+    alloc: Global,
+    among: Among,
+    tokens: &Tokens,
+    list: &[Defined],
+) -> Result<Option<Flaw>, AllocError>
+    ensures { IfOk result (λ o. o ≡ first_clash among tokens.now [] list.now) }
 {
+    let mut seen: BTreeMap<&[u8], u64> = BTreeMap::new(alloc);
     for i in 0..list.len() {
         let defined = list[i];
-        let found = find(tokens, &list[..i], text_of(tokens, defined.name));
+        let name = text_of(tokens, defined.name);
+        let found = seen.get(&name).copied();
         if let Some(flaw) = clash_with(among, defined, found) {
-            return Some(flaw);
+            return Ok(Some(flaw));
         }
+        let first = found.unwrap_or(defined.width);
+        seen.insert(name, first)?;
     }
-    None
+    Ok(None)
 }
 
 /// The first rule that has another number of patterns than this.

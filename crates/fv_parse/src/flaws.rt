@@ -114,7 +114,7 @@ fn redefined(
     ensures { IfOk result (λ o. o ≡ redefined tokens.now (tree_at (trees entries.now) id)) }
 {
     let list = definitions_of(alloc, u64::from(tokens.len()), entries, id)?;
-    Ok(first_clash(Among::Definitions, tokens, &list))
+    first_clash(alloc, Among::Definitions, tokens, &list)
 }
 
 fn rule_widths_of(
@@ -142,7 +142,7 @@ fn repeated_in(
     ensures { IfOk result (λ o. o ≡ repeated tokens.now (names_in (tree_at (trees entries.now) id))) }
 {
     let list = names_in(alloc, entries, id)?;
-    Ok(first_clash(Among::Names, tokens, &list))
+    first_clash(alloc, Among::Names, tokens, &list)
 }
 
 fn repeated_among(
@@ -153,7 +153,7 @@ fn repeated_among(
     ensures { IfOk result (λ o. o ≡ repeated tokens.now (map as_name numbers.now)) }
 {
     let list = as_names(alloc, numbers)?;
-    Ok(first_clash(Among::Names, tokens, &list))
+    first_clash(alloc, Among::Names, tokens, &list)
 }
 
 /// The first flaw of a node, by those of its parts.

@@ -10,6 +10,8 @@ mod parsed;
 mod program;
 mod refusal;
 mod single;
+#[cfg(test)]
+mod tests;
 mod whole;
 
 pub use node::{TreeId, TreeNode};
