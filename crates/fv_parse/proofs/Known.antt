@@ -68,6 +68,7 @@ known_on l list i d m n name found h named known got updated cs = btree_map_upda
   where
     all : find l (take (i + 1) list) cs ≡ first_of (find l (take i list) cs) (cond (bytes_eq (text_of l (get_or list i d).name) cs) (Some (get_or list i d).width) None)
     all = ap (λ z. find l z cs) (take_step list i d h) ∙ find_push l (take i list) (get_or list i d) cs
+
     go : (b : Bool) → bytes_eq name cs ≡ b → cond b (Some (unwrap_or found (get_or list i d).width)) (get_by (λ k. slice_cmp nat_cmp cs k.now) m) ≡ find l (take (i + 1) list) cs
     go true e1 =
         let same : name ≡ cs = (bytes_eq-Decides name cs).0 e1 in

@@ -13,13 +13,7 @@ fn next_depth(depth: usize, symbol: Symbol) -> Option<usize>
     ensures { result ≡ next_depth depth symbol }
 {
     match symbol {
-        Symbol::Open | Symbol::OpenBrace => {
-            if depth < 128 {
-                Some(depth + 1)
-            } else {
-                None
-            }
-        }
+        Symbol::Open | Symbol::OpenBrace => { if depth < 128 { Some(depth + 1) } else { None } }
         Symbol::Close | Symbol::CloseBrace => Some(depth.saturating_sub(1)),
         _ => Some(depth),
     }
@@ -50,7 +44,9 @@ fn refused(alloc: Global, refusal: ParseRefusal) -> Result<String, AllocError> {
     let mut line = String::new(alloc);
     match refusal {
         ParseRefusal::Syntax { line, column } => format!(in alloc; "9 Syntax {line} {column}"),
-        ParseRefusal::RuleWidths { line, column } => format!(in alloc; "13 RuleWidths {line} {column}"),
+        ParseRefusal::RuleWidths { line, column } => format!(in alloc;
+            "13 RuleWidths {line} {column}"
+        ),
         ParseRefusal::Unsupported { word } => {
             line.push_str("10 Unsupported ")?;
             add_word(&mut line, &word)?;
@@ -119,8 +115,14 @@ fn refusals(rt: HostRuntime) -> Result<(), Fail> {
         (b"f(x,x) = x; process = f;", "12 RepeatedName x"),
         (b"process = \\(y,z,y).(1);", "12 RepeatedName y"),
         (b"f((p:q),q) = 1; process = f;", "12 RepeatedName q"),
-        (b"f(0) = 1; f(x,y) = 2; process = f(0);", "13 RuleWidths 1 11"),
-        (b"process = case { (0) => 1; (x,y) => 2; };", "13 RuleWidths 1 28"),
+        (
+            b"f(0) = 1; f(x,y) = 2; process = f(0);",
+            "13 RuleWidths 1 11",
+        ),
+        (
+            b"process = case { (0) => 1; (x,y) => 2; };",
+            "13 RuleWidths 1 28",
+        ),
         (b"process = _ with { a = 1; a = 2; };", "11 Redefined a"),
         (b"", "14 NoProcess"),
         (b"declare name \"t\"; a = _;", "14 NoProcess"),
