@@ -1,0 +1,190 @@
+ghost use Rattle.std.specs.Prelude.{◌≡◌, IsTrue};
+ghost use Rattle.fv_grammar.specs.Nesting.{Nests};
+ghost use Rattle.fv_parse.specs.Depths.{next_depth};
+
+use crate::{ParseRefusal, TreeId, parse};
+use fv_lex::{Symbol, Tokens, tokens};
+use fv_outside::Word;
+use std::alloc::{AllocError, Global};
+use std::test::Fail;
+
+/// The depth behind a symbol, if no more than 128 brackets are open then.
+fn next_depth(depth: usize, symbol: Symbol) -> Option<usize>
+    ensures { result ≡ next_depth depth symbol }
+{
+    match symbol {
+        Symbol::Open | Symbol::OpenBrace => { if depth < 128 { Some(depth + 1) } else { None } }
+        Symbol::Close | Symbol::CloseBrace => Some(depth.saturating_sub(1)),
+        _ => Some(depth),
+    }
+}
+
+fn nests(symbols: &[Symbol]) -> bool
+    ensures { IsTrue result → Nests 128 0 symbols.now }
+{
+    let mut depth = 0;
+    for symbol in symbols {
+        match next_depth(depth, *symbol) {
+            None => return false,
+            Some(next) => depth = next,
+        }
+    }
+    true
+}
+
+fn add_word(line: &mut String, word: &Word) -> Result<(), AllocError> {
+    for b in word.bytes() {
+        line.push(*b as char)?;
+    }
+    Ok(())
+}
+
+/// The line of a refusal.
+fn refused(alloc: Global, refusal: ParseRefusal) -> Result<String, AllocError> {
+    let mut line = String::new(alloc);
+    match refusal {
+        ParseRefusal::Syntax { line, column } => format!(in alloc; "9 Syntax {line} {column}"),
+        ParseRefusal::RuleWidths { line, column } => format!(in alloc;
+            "13 RuleWidths {line} {column}"
+        ),
+        ParseRefusal::Unsupported { word } => {
+            line.push_str("10 Unsupported ")?;
+            add_word(&mut line, &word)?;
+            Ok(line)
+        }
+        ParseRefusal::Redefined { name } => {
+            line.push_str("11 Redefined ")?;
+            add_word(&mut line, &name)?;
+            Ok(line)
+        }
+        ParseRefusal::RepeatedName { name } => {
+            line.push_str("12 RepeatedName ")?;
+            add_word(&mut line, &name)?;
+            Ok(line)
+        }
+        ParseRefusal::NoProcess => String::from_str(alloc, "14 NoProcess"),
+        ParseRefusal::NoMemory => String::from_str(alloc, "40 NoMemory"),
+    }
+}
+
+/// The nodes of the tree that is parsed, in order, or the line of its refusal.
+fn answer(alloc: Global, text: &[u8]) -> Result<String, AllocError> {
+    let Ok(found) = tokens(alloc, text) else {
+        return String::from_str(alloc, "no tokens");
+    };
+    describe(alloc, &found)
+}
+
+fn describe(alloc: Global, found: &Tokens) -> Result<String, AllocError> {
+    if !nests(found.symbols()) {
+        return String::from_str(alloc, "too deep");
+    }
+    let tree = match parse(alloc, found) {
+        Ok(tree) => tree,
+        Err(refusal) => return refused(alloc, refusal),
+    };
+    let root = tree.root();
+    let mut line = String::new(alloc);
+    for i in 0..root.0 {
+        let node = tree.node(TreeId(i));
+        let shown = format!(in alloc; "{node:?} ")?;
+        line.push_str(shown.as_str())?;
+    }
+    let node = tree.node(root);
+    let shown = format!(in alloc; "{node:?}")?;
+    line.push_str(shown.as_str())?;
+    Ok(line)
+}
+
+#[test]
+fn refusals(rt: HostRuntime) -> Result<(), Fail> {
+    let table = [
+        (b"process = (1 , );".as_slice(), "9 Syntax 1 16"),
+        (b"process = _", "9 Syntax 1 12"),
+        (b"f(x = 1;", "9 Syntax 1 5"),
+        (b"par = 1;", "9 Syntax 1 1"),
+        (b"process = 1 +;", "9 Syntax 1 14"),
+        (b"process = _ : _ with { a = 1; }, _;", "9 Syntax 1 32"),
+        (b"process = f(x with { a = 1; });", "9 Syntax 1 15"),
+        (b"f(_) = 1; process = f;", "9 Syntax 1 3"),
+        (b"import(\"stdfaust.lib\");", "10 Unsupported import"),
+        (b"process = 2 ^ sin;", "10 Unsupported ^"),
+        (b"process = button(\"a%b\") ;;", "10 Unsupported %"),
+        (b"a = 1; a = 2; process = a;", "11 Redefined a"),
+        (b"f(x) = 1; f = 2; process = f;", "11 Redefined f"),
+        (b"f(x,x) = x; process = f;", "12 RepeatedName x"),
+        (b"process = \\(y,z,y).(1);", "12 RepeatedName y"),
+        (b"f((p:q),q) = 1; process = f;", "12 RepeatedName q"),
+        (
+            b"f(0) = 1; f(x,y) = 2; process = f(0);",
+            "13 RuleWidths 1 11",
+        ),
+        (
+            b"process = case { (0) => 1; (x,y) => 2; };",
+            "13 RuleWidths 1 28",
+        ),
+        (b"process = _ with { a = 1; a = 2; };", "11 Redefined a"),
+        (b"", "14 NoProcess"),
+        (b"declare name \"t\"; a = _;", "14 NoProcess"),
+    ];
+    for (text, expected) in table {
+        let found = answer(rt.alloc(), text)?;
+        assert_eq!(rt; found.as_str(), expected);
+    }
+    Ok(())
+}
+
+#[test]
+fn forms(rt: HostRuntime) -> Result<(), Fail> {
+    let table = [
+        (
+            b"process = 1 + 2 * -3;".as_slice(),
+            "Number(1) Number(2) Negative(3) Binary(Infix(Multiply), TreeId(1), TreeId(2)) Binary(Infix(Add), TreeId(0), TreeId(3)) Constant(0, TreeId(4)) List([TreeId(5)])",
+        ),
+        (
+            b"process = 1 - 2 - 3 < 4;",
+            "Number(1) Number(2) Binary(Infix(Subtract), TreeId(0), TreeId(1)) Number(3) Binary(Infix(Subtract), TreeId(2), TreeId(3)) Number(4) Binary(Infix(Less), TreeId(4), TreeId(5)) Constant(0, TreeId(6)) List([TreeId(7)])",
+        ),
+        (
+            b"process = _ : _ , ! : mem ~ _;",
+            "Wire Wire Cut Binary(Parallel, TreeId(1), TreeId(2)) Primitive(Mem) Wire Binary(Recursion, TreeId(4), TreeId(5)) Binary(Sequence, TreeId(3), TreeId(6)) Binary(Sequence, TreeId(0), TreeId(7)) Constant(0, TreeId(8)) List([TreeId(9)])",
+        ),
+        (
+            b"process = a <: b :> c;",
+            "Named(2) Named(4) Named(6) Binary(Merge, TreeId(1), TreeId(2)) Binary(Split, TreeId(0), TreeId(3)) Constant(0, TreeId(4)) List([TreeId(5)])",
+        ),
+        (
+            b"process = -f(3)';",
+            "MinusNamed(3) Number(3) List([TreeId(1)]) Apply(TreeId(0), TreeId(2)) Delayed(TreeId(3)) Constant(0, TreeId(4)) List([TreeId(5)])",
+        ),
+        (
+            b"process = \\(x,y).((x) - +);",
+            "Named(11) Group(TreeId(0)) Primitive(Add) Binary(Infix(Subtract), TreeId(1), TreeId(2)) Abstraction([4, 6], TreeId(3)) Constant(0, TreeId(4)) List([TreeId(5)])",
+        ),
+        (
+            b"process = case { (0, x : y) => +1; (((z)), w) => -2; };",
+            "Number(0) Named(7) Named(9) Binary(Sequence, TreeId(1), TreeId(2)) List([TreeId(0), TreeId(3)]) Number(1) Rule(TreeId(4), TreeId(5)) Named(18) Named(22) List([TreeId(7), TreeId(8)]) Negative(2) Rule(TreeId(9), TreeId(10)) List([TreeId(6), TreeId(11)]) Case(TreeId(12)) Constant(0, TreeId(13)) List([TreeId(14)])",
+        ),
+        (
+            b"process = par(i, 2, seq(j, 3, sum(k, 4, prod(l, 5, 6))));",
+            "Number(2) Number(3) Number(4) Number(5) Number(6) Iteration(Product, 22, TreeId(3), TreeId(4)) Iteration(Sum, 16, TreeId(2), TreeId(5)) Iteration(Sequence, 10, TreeId(1), TreeId(6)) Iteration(Parallel, 4, TreeId(0), TreeId(7)) Constant(0, TreeId(8)) List([TreeId(9)])",
+        ),
+        (
+            b"process = inputs(_), outputs(!), button(\"a\"), checkbox(\"b\");",
+            "Wire Ports(Inputs, TreeId(0)) Cut Ports(Outputs, TreeId(2)) Switch(Button, 14) Switch(Checkbox, 19) Binary(Parallel, TreeId(4), TreeId(5)) Binary(Parallel, TreeId(3), TreeId(6)) Binary(Parallel, TreeId(1), TreeId(7)) Constant(0, TreeId(8)) List([TreeId(9)])",
+        ),
+        (
+            b"process = hgroup(\"g\", vslider(\"s\", 1, 2, 3, 4));",
+            "Number(1) Number(2) Number(3) Number(4) Slider(Vertical, 8, TreeId(0), TreeId(1), TreeId(2), TreeId(3)) Panel(Horizontal, 4, TreeId(4)) Constant(0, TreeId(5)) List([TreeId(6)])",
+        ),
+        (
+            b"declare a \"b\"; declare f n \"t\"; f(x) = x @ 1; process = f with { g = 1; };",
+            "Named(11) List([TreeId(0)]) Named(14) Number(1) Binary(Infix(Delay), TreeId(2), TreeId(3)) Function(9, TreeId(1), TreeId(4)) Named(20) Number(1) Constant(23, TreeId(7)) List([TreeId(8)]) Where(TreeId(6), TreeId(9)) Constant(18, TreeId(10)) List([TreeId(5), TreeId(11)])",
+        ),
+    ];
+    for (text, expected) in table {
+        let found = answer(rt.alloc(), text)?;
+        assert_eq!(rt; found.as_str(), expected);
+    }
+    Ok(())
+}
