@@ -1,0 +1,5 @@
+pub mod Symbols
+pub mod Tree
+pub mod Grammar
+pub mod Nesting
+pub mod Descent

@@ -1,0 +1,8 @@
+//! The grammar of Faust: which tokens spell which tree, and how they are read from left to right.
+#![tactic(auto)]
+
+mod form;
+mod symbol;
+
+pub use form::{Iteration, Operator, Panel, Primitive, Side, Slider, Switch};
+pub use symbol::{Head, Inside, Items};

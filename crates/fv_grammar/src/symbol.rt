@@ -1,0 +1,48 @@
+use crate::form::{Iteration, Panel, Primitive, Side, Slider, Switch};
+
+/// What a token begins, where an operand has to stand.
+#[derive(Clone, Copy, Debug, PartialEq, Eq)]
+pub enum Head {
+    Integer(u32),
+    Name(u64),
+    Plus,
+    Minus,
+    Wire,
+    Cut,
+    Primitive(Primitive),
+    Group,
+    Abstraction,
+    Case,
+    Iteration(Iteration),
+    Ports(Side),
+    Switch(Switch),
+    Slider(Slider),
+    Panel(Panel),
+    /// It begins none.
+    Nothing,
+}
+
+/// What stands inside a pair of brackets.
+#[derive(Clone, Copy, Debug, PartialEq, Eq)]
+pub enum Inside {
+    Expression,
+    /// An expression without the composition `,`.
+    Argument,
+    /// Compositions of patterns.
+    Pattern,
+    Arguments,
+    Patterns,
+    Rules,
+    Definitions,
+}
+
+/// What a list has.
+#[derive(Clone, Copy, Debug, PartialEq, Eq)]
+pub enum Items {
+    /// Definitions and declarations.
+    Statements,
+    Definitions,
+    Rules,
+    /// Arguments, or patterns where the flag is set, with commas between.
+    Parts(bool),
+}

@@ -1,0 +1,6 @@
+pub mod Arenas
+pub mod Steps
+pub mod Nodes
+pub mod Lists
+pub mod Endings
+pub mod Flawless

@@ -1,0 +1,7 @@
+pub mod Arena
+pub mod Gives
+pub mod Trees
+pub mod Contents
+pub mod Flaws
+pub mod Pending
+pub mod Outcomes

@@ -1,0 +1,46 @@
+-- What parsing answers.
+use Rattle.std.specs.Prelude.{◌≡◌, ◌⊎◌, ℕ, ◌<◌, true, false, List, length, Option, Some, None, Result, Ok, Err}
+use Rattle.fv_lex.specs.declared.token.Symbol.{Symbol}
+use Rattle.fv_lex.specs.Token.{Lexed, symbols_of}
+use Rattle.fv_grammar.specs.Tree.{Tree as Spelled}
+use Rattle.fv_grammar.specs.Grammar.{SpellsProgram}
+use Rattle.fv_parse.specs.declared.node.TreeId.{TreeId}
+use Rattle.fv_parse.specs.declared.arena.Entry.{Entry}
+use Rattle.fv_parse.specs.declared.single.Fault.{Fault}
+use Rattle.fv_parse.specs.declared.refusal.ParseRefusal.{ParseRefusal}
+use Rattle.fv_parse.specs.declared.refusal.ParseRefusal.TheVariants as refusals
+use Rattle.fv_parse.specs.Arena.{tree_at, trees}
+use Rattle.fv_parse.specs.Gives.{Fails}
+use Rattle.fv_parse.specs.Trees.{Parsed, program_of}
+use Rattle.fv_parse.specs.Contents.{first_unsupported}
+use Rattle.fv_parse.specs.Flaws.{refused}
+
+-- no token is unsupported
+abbrev pub IsSupported : Lexed → Type 0
+IsSupported l = first_unsupported l.tokens ≡ None
+
+-- the tokens spell this program
+abbrev pub IsSpelled : Lexed → Spelled → Type 0
+IsSpelled l x = SpellsProgram (symbols_of l.tokens) x
+
+-- Why tokens are no program, in this order: the first unsupported token, that they spell no tree, what refuses the tree.
+pub data HasRefusal (l : Lexed) : ParseRefusal → Type 0 where
+  unsupported : {word : List ℕ} → first_unsupported l.tokens ≡ Some word → HasRefusal l (refusals.Unsupported word)
+  syntax_error : {line column : ℕ} → IsSupported l → ((x : Spelled) → IsSpelled l x → ⊥) → HasRefusal l (refusals.Syntax line column)
+  refused_tree : {refusal : ParseRefusal} {x : Spelled} → IsSupported l → IsSpelled l x → refused l x ≡ Some refusal → HasRefusal l refusal
+
+-- The tree is the one that the tokens spell, and nothing refuses it.
+pub record HasTree (l : Lexed) (p : Parsed) : Type 0 where
+  pub supported : IsSupported l
+  pub tokens : p.tokens ≡ l
+  pub spelled : IsSpelled l (program_of p)
+  pub accepted : refused l (program_of p) ≡ None
+
+-- what is known of a program that is spelled
+abbrev pub Finishes : Lexed → Spelled → Result Parsed ParseRefusal → Type 0
+Finishes l x (Ok p) = (p.tokens ≡ l) × (program_of p ≡ x) × (refused l x ≡ None)
+Finishes l x (Err e) = (e ≡ refusals.NoMemory) ⊎ (refused l x ≡ Some e)
+
+abbrev pub Reads : {X : Type 0} → (X → List Entry) → (X → TreeId) → Result X Fault → Result Spelled (List Symbol) → Type 0
+Reads entries root (Ok x) read = (read ≡ Ok (tree_at (trees (entries x)) (root x))) × ((root x).0 < length (trees (entries x)))
+Reads entries root (Err e) read = Fails e read

@@ -1,0 +1,143 @@
+// What refuses a program that is spelled, in a list of definitions, rules or names.
+
+ghost use Rattle.std.specs.Prelude.{◌≡◌, ◌<◌, [], length};
+ghost use Rattle.fv_parse.specs.Flaws.{kind_rank, comes_first, earlier, find, clash, clash_with, first_clash, differing, rule_widths};
+
+use crate::parsed::text_of;
+use crate::program::{Defined, is};
+use fv_lex::Tokens;
+
+/// What is wrong.
+#[derive(Clone, Copy, Debug)]
+pub(crate) enum FlawKind {
+    Redefined,
+    Repeated,
+    Widths,
+}
+
+/// What is wrong, and the number of the token where it is.
+#[derive(Clone, Copy, Debug)]
+pub(crate) struct Flaw {
+    pub(crate) token: u64,
+    pub(crate) kind: FlawKind,
+}
+
+/// What the names of a list are.
+#[derive(Clone, Copy, Debug)]
+pub(crate) enum Among {
+    /// Names of definitions.
+    Definitions,
+    /// Names of parameters.
+    Names,
+}
+
+fn kind_rank(kind: FlawKind) -> u8
+    ensures { result ≡ kind_rank kind }
+{
+    match kind {
+        FlawKind::Redefined => 0,
+        FlawKind::Repeated => 1,
+        FlawKind::Widths => 2,
+    }
+}
+
+fn comes_first(a: Flaw, b: Flaw) -> bool
+    ensures { result ≡ comes_first a b }
+{
+    a.token < b.token || (a.token == b.token && kind_rank(a.kind) <= kind_rank(b.kind))
+}
+
+/// The first of two flaws, at one token in the order of the kinds.
+pub(crate) fn earlier(a: Option<Flaw>, b: Option<Flaw>) -> Option<Flaw>
+    ensures { result ≡ earlier a b }
+{
+    match a {
+        None => b,
+        Some(x) => match b {
+            None => Some(x),
+            Some(y) => { if comes_first(x, y) { Some(x) } else { Some(y) } }
+        },
+    }
+}
+
+/// A definition, behind the first one of its name, which has so many patterns.
+fn clash(among: Among, defined: Defined, width: u64) -> Option<Flaw>
+    ensures { result ≡ clash among defined width }
+{
+    let kind = match among {
+        Among::Names => FlawKind::Repeated,
+        Among::Definitions => {
+            if defined.width == 0 || width == 0 {
+                FlawKind::Redefined
+            } else if width == defined.width {
+                return None;
+            } else {
+                FlawKind::Widths
+            }
+        }
+    };
+    Some(Flaw {
+        token: defined.name,
+        kind,
+    })
+}
+
+fn clash_with(among: Among, defined: Defined, found: Option<u64>) -> Option<Flaw>
+    ensures { result ≡ clash_with among defined found }
+{
+    match found {
+        None => None,
+        Some(width) => clash(among, defined, width),
+    }
+}
+
+/// How many patterns the first of these definitions has that has this name.
+fn find(tokens: &Tokens, seen: &[Defined], name: &[u8]) -> Option<u64>
+    ensures { result ≡ find tokens.now seen.now name.now }
+{
+    for defined in seen {
+        if is(text_of(tokens, defined.name), name) {
+            return Some(defined.width);
+        }
+    }
+    None
+}
+
+/// The first definition that clashes with an earlier one.
+pub(crate) fn first_clash(among: Among, tokens: &Tokens, list: &[Defined]) -> Option<Flaw>
+    ensures { result ≡ first_clash among tokens.now [] list.now }
+{
+    for i in 0..list.len() {
+        let defined = list[i];
+        let found = find(tokens, &list[..i], text_of(tokens, defined.name));
+        if let Some(flaw) = clash_with(among, defined, found) {
+            return Some(flaw);
+        }
+    }
+    None
+}
+
+/// The first rule that has another number of patterns than this.
+fn differing(width: u64, rules: &[Defined]) -> Option<Flaw>
+    ensures { result ≡ differing width rules.now }
+{
+    for rule in rules {
+        if rule.width != width {
+            return Some(Flaw {
+                token: rule.name,
+                kind: FlawKind::Widths,
+            });
+        }
+    }
+    None
+}
+
+/// The first rule that has another number of patterns than the first one.
+pub(crate) fn rule_widths(rules: &[Defined]) -> Option<Flaw>
+    ensures { result ≡ rule_widths rules.now }
+{
+    match rules {
+        [] => None,
+        [first, rest @ ..] => differing(first.width, rest),
+    }
+}
