@@ -1,0 +1,6 @@
+//! The small programs: the block diagram that a tree of wires, `mem`, integers, `+`, `-`, `*`, `,` and `:` is.
+#![tactic(auto)]
+
+mod program;
+
+pub use program::{Program, small_once, small_program};
