@@ -1,14 +1,14 @@
 -- Small trees with their diagrams.
-use Rattle.std.specs.Prelude.{◌≡◌, ℕ, pos, neg_ℤ, codes, List, [], ◌∷◌, Option, Some, None, refl}
+use Rattle.std.specs.Prelude.{◌≡◌, pos, neg_ℤ, codes, [], ◌∷◌, Some, None, refl}
 use Rattle.std.proofs.Common.{lit≤}
 use Rattle.fv_lex.specs.declared.token.Kind.TheVariants.{Name as a_name, Sign}
 use Rattle.fv_lex.specs.declared.token.Symbol.TheVariants as symbols
 use Rattle.fv_lex.specs.Token.{Lexed}
 use Rattle.fv_grammar.specs.declared.form.Primitive.TheVariants as primitives
 use Rattle.fv_grammar.specs.declared.form.Operator.TheVariants.{Infix, Parallel, Sequence, Split}
-use Rattle.fv_grammar.specs.Tree.{Tree, Number, Negative, Named, Wire, Primitive, Group, Delayed, Binary, Constant, End, More}
+use Rattle.fv_grammar.specs.Tree.{Number, Negative, Named, Wire, Primitive, Group, Delayed, Binary, Constant, End, More}
 use Rattle.fv_num.specs.declared.op.Op.{Op}
-use Rattle.fv_num.specs.declared.op.Op.TheVariants.{Add, Sub, Mul}
+use Rattle.fv_num.specs.declared.op.Op.TheVariants.{Add, Mul}
 use Rattle.fv_diagram.specs.declared.node.Primitive.TheVariants as prim
 use Rattle.fv_diagram.specs.Diagram.{Diagram, Par, Seq}
 use Rattle.fv_diagram.specs.Diagram.{Primitive as Leaf, Constant as Integer}

@@ -1,2 +1,4 @@
 pub mod Small
+pub mod Table
+pub mod Forms
 pub mod Examples

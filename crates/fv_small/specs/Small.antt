@@ -1,5 +1,5 @@
 -- The small trees, and the block diagram that each of them is (Faust manual; which forms are small is this project's profile).
-use Rattle.std.specs.Prelude.{◌≡◌, ℕ, ◌≤◌, nat_le, ℤ, pos, neg_ℤ, codes, List, [], ◌∷◌, Option, Some, None, if◌then◌else◌}
+use Rattle.std.specs.Prelude.{◌≡◌, ℕ, ◌≤◌, nat_le, ℤ, pos, neg_ℤ, codes, Option, Some, None, if◌then◌else◌}
 use Rattle.fv_lex.specs.Token.{Lexed}
 use Rattle.fv_lex.specs.Pieces.{greatest_literal}
 use Rattle.fv_grammar.specs.declared.form.Primitive.{Primitive as Operation}

@@ -1,6 +1,8 @@
 //! The small programs: the block diagram that a tree of wires, `mem`, integers, `+`, `-`, `*`, `,` and `:` is.
 #![tactic(auto)]
 
+mod part;
 mod program;
+mod table;
 
 pub use program::{Program, small_once, small_program};
