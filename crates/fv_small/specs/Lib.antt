@@ -2,3 +2,4 @@ pub mod Small
 pub mod Table
 pub mod Forms
 pub mod Examples
+pub mod Brackets

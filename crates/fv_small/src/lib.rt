@@ -4,5 +4,7 @@
 mod part;
 mod program;
 mod table;
+#[cfg(test)]
+mod tests;
 
 pub use program::{Program, small_once, small_program};
