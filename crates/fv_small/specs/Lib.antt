@@ -1,0 +1,5 @@
+pub mod Small
+pub mod Table
+pub mod Forms
+pub mod Examples
+pub mod Brackets
