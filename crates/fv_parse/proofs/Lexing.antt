@@ -94,12 +94,15 @@ bracket_cases P b p40 p123 p41 p125 other = first (nat_eq b 40) refl
     fourth : nat_eq b 40 ≡ false → nat_eq b 123 ≡ false → nat_eq b 41 ≡ false → (t : Bool) → nat_eq b 125 ≡ t → P b
     fourth e f g true h = subst P (sym (eqb-true b 125 h)) p125
     fourth e f g false h = other (rw (e, f, g, h) refl) (λ d. rw (e, f, g, h) refl)
+
     third : nat_eq b 40 ≡ false → nat_eq b 123 ≡ false → (t : Bool) → nat_eq b 41 ≡ t → P b
     third e f true g = subst P (sym (eqb-true b 41 g)) p41
     third e f false g = fourth e f g (nat_eq b 125) refl
+
     second : nat_eq b 40 ≡ false → (t : Bool) → nat_eq b 123 ≡ t → P b
     second e true f = subst P (sym (eqb-true b 123 f)) p123
     second e false f = third e f (nat_eq b 41) refl
+
     first : (t : Bool) → nat_eq b 40 ≡ t → P b
     first true e = subst P (sym (eqb-true b 40 e)) p40
     first false e = second e (nat_eq b 123) refl
