@@ -5,3 +5,4 @@ pub mod Lists
 pub mod Endings
 pub mod Flawless
 pub mod Known
+pub mod Lexing

@@ -5,4 +5,3 @@ pub mod Contents
 pub mod Flaws
 pub mod Pending
 pub mod Outcomes
-pub mod Depths

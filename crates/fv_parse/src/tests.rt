@@ -1,36 +1,11 @@
-ghost use Rattle.std.specs.Prelude.{◌≡◌, IsTrue};
-ghost use Rattle.fv_grammar.specs.Nesting.{Nests};
-ghost use Rattle.fv_parse.specs.Depths.{next_depth};
+ghost use Rattle.std.specs.Prelude.{ℕ, List};
+ghost use Rattle.fv_lex.specs.Cuts.{HasTokens};
 
 use crate::{ParseRefusal, TreeId, parse};
-use fv_lex::{Symbol, Tokens, tokens};
+use fv_lex::{Tokens, tokens};
 use fv_outside::Word;
 use std::alloc::{AllocError, Global};
 use std::test::Fail;
-
-/// The depth behind a symbol, if no more than 128 brackets are open then.
-fn next_depth(depth: usize, symbol: Symbol) -> Option<usize>
-    ensures { result ≡ next_depth depth symbol }
-{
-    match symbol {
-        Symbol::Open | Symbol::OpenBrace => { if depth < 128 { Some(depth + 1) } else { None } }
-        Symbol::Close | Symbol::CloseBrace => Some(depth.saturating_sub(1)),
-        _ => Some(depth),
-    }
-}
-
-fn nests(symbols: &[Symbol]) -> bool
-    ensures { IsTrue result → Nests 128 0 symbols.now }
-{
-    let mut depth = 0;
-    for symbol in symbols {
-        match next_depth(depth, *symbol) {
-            None => return false,
-            Some(next) => depth = next,
-        }
-    }
-    true
-}
 
 fn add_word(line: &mut String, word: &Word) -> Result<(), AllocError> {
     for b in word.bytes() {
@@ -75,10 +50,9 @@ fn answer(alloc: Global, text: &[u8]) -> Result<String, AllocError> {
     describe(alloc, &found)
 }
 
-fn describe(alloc: Global, found: &Tokens) -> Result<String, AllocError> {
-    if !nests(found.symbols()) {
-        return String::from_str(alloc, "too deep");
-    }
+fn describe(alloc: Global, found: &Tokens) -> Result<String, AllocError>
+    requires { (text : List ℕ) × HasTokens text found.now }
+{
     let tree = match parse(alloc, found) {
         Ok(tree) => tree,
         Err(refusal) => return refused(alloc, refusal),

@@ -1,13 +1,12 @@
 // A whole program.
 
-ghost use Rattle.std.specs.Prelude.{◌≡◌, ◌<◌, ◌⊎◌, length, Some, IfOk, IfErr};
+ghost use Rattle.std.specs.Prelude.{◌≡◌, ℕ, ◌<◌, ◌⊎◌, List, length, Some, IfOk, IfErr};
 ghost use Rattle.fv_grammar.specs.Tree.{Tree as Spelled};
 ghost use Rattle.fv_parse.specs.declared.refusal.ParseRefusal.TheVariants.{NoMemory};
 ghost use Rattle.fv_parse.specs.Arena.{AreOver};
 ghost use Rattle.fv_parse.specs.Trees.{program_of};
 ghost use Rattle.fv_parse.specs.Flaws.{flaw_refusal, refused};
-ghost use Rattle.fv_lex.specs.Token.{symbols_of};
-ghost use Rattle.fv_grammar.specs.Nesting.{Nests};
+ghost use Rattle.fv_lex.specs.Cuts.{HasTokens};
 ghost use Rattle.fv_grammar.specs.Descent.{program};
 ghost use Rattle.fv_parse.specs.Arena.{trees, tree_at};
 ghost use Rattle.fv_parse.specs.Outcomes.{Reads, Finishes, HasTree, HasRefusal, IsSpelled};
@@ -122,7 +121,7 @@ fn finish<'a>(
 /// An unsupported token is refused first, then tokens that spell no tree. Of a tree the first in the text is refused of
 /// a name that is redefined, one that is repeated, and a rule of another width; then that it has no `process`.
 pub fn parse<'a>(alloc: Global, tokens: &'a Tokens<'a>) -> Result<Tree<'a>, ParseRefusal>
-    requires { Nests 128 0 (symbols_of tokens.now.tokens) }
+    requires { (text : List ℕ) × HasTokens text tokens.now }
     // A tree that is answered is the one that the tokens spell.
     ensures tree { IfOk result (HasTree tokens.now) }
 
