@@ -2,4 +2,3 @@ pub mod Small
 pub mod Table
 pub mod Forms
 pub mod Examples
-pub mod Brackets

@@ -1,44 +1,14 @@
 // The diagrams of whole texts.
 
-ghost use Rattle.std.specs.Prelude.{◌≡◌, IsTrue};
-ghost use Rattle.fv_grammar.specs.Nesting.{Nests};
-ghost use Rattle.fv_small.specs.Brackets.{next_depth};
-
 use crate::small_program;
-use fv_lex::{Symbol, tokens};
+use fv_lex::tokens;
 use fv_parse::parse;
 use std::alloc::Global;
-use std::process::Abort;
 use std::test::Fail;
 
-/// The depth behind a symbol, if no more than 128 brackets are open then.
-fn next_depth(depth: usize, symbol: Symbol) -> Option<usize>
-    ensures { result ≡ next_depth depth symbol }
-{
-    match symbol {
-        Symbol::Open | Symbol::OpenBrace => { if depth < 128 { Some(depth + 1) } else { None } }
-        Symbol::Close | Symbol::CloseBrace => Some(depth.saturating_sub(1)),
-        _ => Some(depth),
-    }
-}
-
-fn nests(symbols: &[Symbol]) -> bool
-    ensures { IsTrue result → Nests 128 0 symbols.now }
-{
-    let mut depth = 0;
-    for symbol in symbols {
-        match next_depth(depth, *symbol) {
-            None => return false,
-            Some(next) => depth = next,
-        }
-    }
-    true
-}
-
 /// The size of the diagram of a text whose tree is small.
-fn size(rt: &impl Abort, alloc: Global, text: &[u8]) -> Result<Option<u32>, Fail> {
+fn size(alloc: Global, text: &[u8]) -> Result<Option<u32>, Fail> {
     let found = tokens(alloc, text)?;
-    assert!(rt; nests(found.symbols()));
     let tree = parse(alloc, &found)?;
     match small_program(alloc, &tree)? {
         Some(program) => Ok(Some(program.diagrams.size(program.root))),
@@ -78,10 +48,10 @@ const NOT_SMALL: [&[u8]; 12] = [
 #[test]
 fn reads_small_trees_alone(rt: HostRuntime) -> Result<(), Fail> {
     for (text, wanted) in SMALL {
-        assert_eq!(rt; size(&rt, rt.alloc(), text)?, Some(wanted));
+        assert_eq!(rt; size(rt.alloc(), text)?, Some(wanted));
     }
     for text in NOT_SMALL {
-        assert_eq!(rt; size(&rt, rt.alloc(), text)?, None);
+        assert_eq!(rt; size(rt.alloc(), text)?, None);
     }
     Ok(())
 }
@@ -94,9 +64,9 @@ fn reads_16384_nodes(rt: HostRuntime) -> Result<(), Fail> {
         text.extend_from_slice(b":_")?;
     }
     text.push(b';')?;
-    assert_eq!(rt; size(&rt, rt.alloc(), &text)?, Some(16_383));
+    assert_eq!(rt; size(rt.alloc(), &text)?, Some(16_383));
     let _ = text.pop();
     text.extend_from_slice(b":_;")?;
-    assert_eq!(rt; size(&rt, rt.alloc(), &text)?, None);
+    assert_eq!(rt; size(rt.alloc(), &text)?, None);
     Ok(())
 }
