@@ -166,7 +166,7 @@ fn changed(alloc: Global, place: usize, byte: u8) -> Result<Vec<u8>, AllocError>
 #[test]
 fn limits_the_text(rt: HostRuntime) -> Result<(), Fail> {
     let mut text = Vec::from_slice(rt.alloc(), b"process = _;")?;
-    while text.len() < 4096 {
+    for _ in text.len()..4096 {
         text.push(b' ')?;
     }
     let mut desk = desk_of(rt.alloc(), &text, &THREE)?;
