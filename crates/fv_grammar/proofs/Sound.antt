@@ -18,7 +18,7 @@ use Rattle.fv_grammar.specs.declared.symbol.Inside.TheVariants as insides
 use Rattle.fv_grammar.specs.declared.symbol.Items.{Items}
 use Rattle.fv_grammar.specs.declared.symbol.Items.TheVariants.{Statements, Definitions, Rules, Parts}
 use Rattle.fv_grammar.specs.Symbols.{head, rank, operator, is_left}
-use Rattle.fv_grammar.specs.Tree.{Tree, Number, Negative, Named, MinusNamed, Wire, Cut, Primitive, Group, Abstraction, Case, Iteration, Ports, Switch, Slider, Panel, Delayed, Apply, Binary, Where, Rule, Constant, Function, End, More}
+use Rattle.fv_grammar.specs.Tree.{Tree, Number, Negative, Named, MinusNamed, Wire, Cut, Primitive, Group, Abstraction, Case, Iteration, Ports, Switch, Slider, Panel, Delayed, Binary, Where, Rule, Constant, Function, End, More}
 use Rattle.fv_grammar.specs.Grammar.{Level, Further, Definition, Expression, Listed, OneRule, Phrase, Postfix, Primary, Atom, SpellsNames, one_name, more_names, Spells, SpellsProgram, no_more, stated, declared, declared_for, defined, ruled, parted, first_rule, first_part, constant, function, rule, plain, qualified, tighter, leftward, rightward, operand, pattern_operand, bare, delayed, applied, number, plus_number, minus_number, minus_name, named, wire, cut, plus, minus, primitive, grouped, abstracted, cased, iterated, ported, switched, slid, paneled, atom_number, atom_plus_number, atom_minus_number, atom_name, atom_grouped}
 use Rattle.fv_grammar.specs.Descent as descent
 use Rattle.fv_grammar.specs.Descent.{Step, ◌>>=◌, Turn, Done, Next, Stop, turn, after, turns, run, rights, chain, Reader, rank_at, operator_at, opening, close, open_brace, close_brace, comma, equals, arrow, semicolon, dot, a_name, a_text, at_comma, names, name_list, enclosed, argument, group, abstraction, case_of, iteration, ports, switch, label, slider, panel, by_head, primary, postfix, postfix_turn, atom_by_head, atom, phrase, left_turn, expression, with_turn, ended, function_after, constant_after, after_name, definition, one_rule, declared_text, declaration, Item, Nothing, Skip, One, Fault, one_of, item, with_item, many, further, first_item, listed, within, program, whole_text}

@@ -2,7 +2,6 @@
 use Rattle.std.specs.Prelude.{ℕ, zero, suc, Bool, true, false, nat_lt, nat_eq, List, [], ◌∷◌, length, drop, Result, Ok, Err, if◌then◌else◌}
 use Rattle.fv_lex.specs.declared.token.Symbol.{Symbol}
 use Rattle.fv_lex.specs.declared.token.Symbol.TheVariants.{Name, Text, Integer, Comma, Open, Close, OpenBrace, CloseBrace, Equals, Arrow, Semicolon, Dot, Declare, With, Tick}
-use Rattle.fv_lex.specs.declared.token.Symbol.TheVariants as symbols
 use Rattle.fv_grammar.specs.declared.form.Primitive.TheVariants as primitives
 use Rattle.fv_grammar.specs.declared.form.Operator.{Operator}
 use Rattle.fv_grammar.specs.declared.form.Operator.TheVariants as operators

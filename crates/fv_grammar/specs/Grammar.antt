@@ -132,3 +132,7 @@ SpellsProgram ts x = Spells (Further Statements) ts x []
 -- Some further tokens make a program.
 abbrev pub Begins : List Symbol → Type 0
 Begins ts = (more : List Symbol) × (x : Tree) × SpellsProgram (ts ++ more) x
+
+-- Tokens spell at most one program.
+abbrev pub SpelledOnce : Type 0
+SpelledOnce = (ts : List Symbol) (x y : Tree) → SpellsProgram ts x → SpellsProgram ts y → x ≡ y

@@ -1,5 +1,5 @@
 -- What the tokens mean to the grammar.
-use Rattle.std.specs.Prelude.{ℕ, Bool, true, false, nat_le, if◌then◌else◌}
+use Rattle.std.specs.Prelude.{ℕ, Bool, true, false, nat_le}
 use Rattle.fv_lex.specs.declared.token.Symbol.{Symbol}
 use Rattle.fv_lex.specs.declared.token.Symbol.TheVariants as symbols
 use Rattle.fv_grammar.specs.declared.form.Primitive.TheVariants as primitives

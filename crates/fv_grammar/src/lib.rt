@@ -2,7 +2,9 @@
 #![tactic(auto)]
 
 mod form;
+mod laws;
 mod symbol;
 
 pub use form::{Iteration, Operator, Panel, Primitive, Side, Slider, Switch};
+pub use laws::spelled_once;
 pub use symbol::{Head, Inside, Items};
