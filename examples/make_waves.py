@@ -1,6 +1,6 @@
 #!/usr/bin/env python3
 """Writes the sounds of the examples: `pluck.wav`, two plucks of a string, one channel of 16 bits at 8000 frames a second,
-and `louder.wav`, what `louder.dsp` makes of it, computed here apart from faustvec."""
+and `louder.wav` and `fuzz.wav`, what `louder.dsp` and `fuzz.dsp` make of it, computed here apart from faustvec."""
 import math
 import os
 import struct
@@ -23,3 +23,4 @@ pluck = [
 ]
 write("pluck.wav", pluck)
 write("louder.wav", [max(-32768, min(32767, 3 * x)) for x in pluck])
+write("fuzz.wav", [max(-32768, min(32767, 65536 * x)) for x in pluck])

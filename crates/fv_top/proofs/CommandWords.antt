@@ -1,8 +1,7 @@
 -- Five words are a command with the names of three files.
-use Rattle.std.proofs.Common.{◌≡◌, ℕ, ◌≤◌, ◌<◌, List, [], ◌∷◌, length, map, get_or, sym, ◌∙◌, ap, arith, subst, refl, Global}
-use Rattle.std.specs.Prelude.{String, string_bytes, Result}
-use Rattle.fv_top.specs.declared.status.Cause.{Cause}
-use Rattle.fv_top.specs.Words.{Names, command_of, run_of}
+use Rattle.std.proofs.Common.{◌≡◌, ℕ, ◌≤◌, ◌<◌, List, [], ◌∷◌, length, map, get_or, arith, refl, Global}
+use Rattle.std.specs.Prelude.{String, string_bytes}
+use Rattle.fv_top.specs.Words.{command_of, run_of}
 
 -- the second to the fifth word, and their bytes
 pub five_words : (ws : List (String Global)) (c p i o : String Global) (cb pb ib ob : List ℕ) → 5 ≤ length ws → length ws < 6 →

@@ -1,37 +1,53 @@
--- A run that can be done is done.
-use Rattle.std.proofs.Common.{◌≡◌, ℕ, ◌⊎◌, List, sym, ◌∙◌, ap, subst, inl, inr}
-use Rattle.std.specs.Prelude.{IsTrue, Some, Ok, Err}
-use Rattle.fv_outside.specs.Desk.{DeskState, File, file_named, HasFault}
-use Rattle.fv_first.specs.Grammar.{IsProgram}
-use Rattle.fv_top.specs.declared.status.Refusal.{Refusal}
-use Rattle.fv_top.specs.declared.status.Refusal.TheVariants.{Usage, ReadFault, WriteFault, Unsupported, NoMemory}
+-- A run that can be done is done, and one whose files are refused is refused for them.
+use Rattle.std.proofs.Common.{◌≡◌, ℕ, ◌⊎◌, List, sym, ◌∙◌, subst, refl, inl, inr}
+use Rattle.std.specs.Prelude.{IsTrue, Some}
+use Rattle.fv_outside.specs.Desk.{DeskState, File, file_named}
+use Rattle.fv_top.specs.declared.refusal.Refusal.{Refusal}
+use Rattle.fv_top.specs.declared.refusal.Refusal.TheVariants.{NoMemory}
 use Rattle.fv_top.specs.declared.status.Status.{Status}
 use Rattle.fv_top.specs.declared.status.Status.TheVariants.{Done, Refused}
-use Rattle.fv_top.specs.Words.{Names, command_of}
+use Rattle.fv_top.specs.Words.{Names}
 use Rattle.fv_top.specs.Wave.{IsPlainInput}
-use Rattle.fv_top.specs.Promise.{Asks, Plays, IsUnsupported, HasProgram, HasNoProgram, HasInput, HasNoInput, HasCause, HasNoFault, IsDoneOrNoMemory, IsComplete, IfRefused}
+use Rattle.fv_top.specs.Program.{IsProgram, IsNotBoth}
+use Rattle.fv_top.specs.Promise.{Asks, Plays, AreRefused, HasCause, bad_words, read_fault, write_fault, refused_files, want_of_memory, HasNoFault, IsComplete, IsStrict, IfDone, IfRefused, HasPlayed}
 
 -- a name has one file
 one_file : (name : List ℕ) (files : List File) (a b : List ℕ) → file_named name files ≡ Some a → file_named name files ≡ Some b → a ≡ b
 one_file name files a b h k = let e : Some a ≡ Some b = sym h ∙ k in cc
 
--- what plays is not unsupported
-plays_supported : (program input : List ℕ) (files : List File) (word : List ℕ) → Plays program input files → IsUnsupported program input files word → ⊥
-plays_supported program input files word p (inl h) =
-    h.1.none p.of.diagram (subst (λ (w : List ℕ). IsProgram w p.of.diagram) (one_file program files _ _ p.of.file h.1.file) p.of.spelled)
-plays_supported program input files word p (inr h) =
+-- what plays is not refused
+plays_accepted : (program input : List ℕ) (files : List File) (refusal : Refusal) → IsNotBoth → Plays program input files → AreRefused program input files refusal → ⊥
+plays_accepted program input files refusal apart p (inl h) =
+    apart h.text p.of.diagram refusal (subst (λ (w : List ℕ). IsProgram w p.of.diagram) (one_file program files _ _ p.of.file h.file) p.of.program) h.refused
+plays_accepted program input files refusal apart p (inr h) =
     h.2.not_plain (subst IsPlainInput (one_file input files _ _ p.on.file h.2.file) p.on.plain)
 
 -- words ask for one thing
 one_command : (words : List (List ℕ)) (a b : Names) → Asks words a → Asks words b → a ≡ b
 one_command words a b h k = let e = sym h ∙ k in cc
 
-pub completes : (words : List (List ℕ)) (old new : DeskState) (status : Status) → IfRefused status (HasCause words old new) → IsComplete words old new status
-completes words old new (Done tally) h names asks tells p none = tt
-completes words old new (Refused NoMemory) h names asks tells p none = tt
-completes words old new (Refused (Usage cause)) h names asks tells p none = let e = sym asks ∙ h in cc
-completes words old new (Refused (ReadFault role)) h names asks tells p none = none role h
-completes words old new (Refused (WriteFault role)) h names asks tells p none = none role h
-completes words old new (Refused (Unsupported word)) h names asks tells p none =
-    let same = one_command words h.0 names h.1 asks in
-    plays_supported names.program names.input old.files word p (subst (λ (n : Names). IsUnsupported n.program n.input old.files word) same (h.2 tells))
+-- where the words ask for these files and no call fails, what stopped a run is what they hold
+stopped_by : (words : List (List ℕ)) (names : Names) (old new : DeskState) (refusal : Refusal) → Asks words names → IsTrue old.tells → HasNoFault old new → HasCause words old new refusal →
+    (refusal ≡ NoMemory) ⊎ AreRefused names.program names.input old.files refusal
+stopped_by words names old new refusal asks tells none (bad_words h) = let e = sym asks ∙ h in absurd cc
+stopped_by words names old new refusal asks tells none (read_fault h) = absurd (none _ h)
+stopped_by words names old new refusal asks tells none (write_fault h) = absurd (none _ h)
+stopped_by words names old new refusal asks tells none (refused_files named of_files asked h) =
+    inr (subst (λ (n : Names). AreRefused n.program n.input old.files refusal) (one_command words named names asked asks) (h tells))
+stopped_by words names old new refusal asks tells none want_of_memory = inl refl
+
+not_refused : (program input : List ℕ) (files : List File) (refusal : Refusal) → IsNotBoth → Plays program input files → (refusal ≡ NoMemory) ⊎ AreRefused program input files refusal → refusal ≡ NoMemory
+not_refused program input files refusal apart p (inl m) = m
+not_refused program input files refusal apart p (inr h) = absurd (plays_accepted program input files refusal apart p h)
+
+pub completes : (words : List (List ℕ)) (old new : DeskState) (status : Status) → IsNotBoth → IfRefused status (HasCause words old new) → IsComplete words old new status
+completes words old new (Done tally) apart h names asks tells p none = tt
+completes words old new (Refused refusal) apart h names asks tells p none =
+    not_refused names.program names.input old.files refusal apart p (stopped_by words names old new refusal asks tells none h)
+
+pub refuses : (words : List (List ℕ)) (old new : DeskState) (status : Status) → IsNotBoth → IfDone status (λ tally. HasPlayed words tally.frames old new) →
+    IfRefused status (HasCause words old new) → IsStrict words old new status
+refuses words old new (Done tally) apart d h names refusal asks tells r none =
+    let p = (d.told tells).0 in
+    plays_accepted names.program names.input old.files refusal apart (subst (λ (n : Names). Plays n.program n.input old.files) (one_command words d.names names d.asks asks) p) r
+refuses words old new (Refused refusal) apart d h names other asks tells r none = stopped_by words names old new refusal asks tells none h

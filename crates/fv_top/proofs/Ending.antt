@@ -1,20 +1,19 @@
 -- How a run ends, from how its parts end.
-use Rattle.std.proofs.Common.{◌≡◌, ◌≢◌, ◌⊎◌, ℕ, ◌+◌, ◌%◌, ◌^◌, List, [], ◌∷◌, ◌++◌, sym, ◌∙◌, ap, arith, subst, refl, inl, inr, append_assoc}
+use Rattle.std.proofs.Common.{◌≡◌, ◌≢◌, ◌⊎◌, ℕ, ◌+◌, ◌%◌, ◌^◌, List, [], ◌++◌, sym, ◌∙◌, ap, subst, refl, inl, inr, append_assoc}
 use Rattle.std.specs.Prelude.{IsTrue, Ok, Err, OnOk, OnErr, Result}
 use Rattle.fv_outside.specs.declared.desk.Failed.{Failed}
-use Rattle.fv_outside.specs.declared.role.Role.{Role}
 use Rattle.fv_outside.specs.declared.role.Role.TheVariants.{Output, Report}
-use Rattle.fv_outside.specs.Desk.{DeskState, File, GoesOn, KeepsQuiet, HasFault, IsPrefixOf, Appends}
-use Rattle.fv_outside.proofs.States.{goes_on_then, fault_earlier, fault_later, told_before, appends_then}
-use Rattle.fv_top.specs.declared.status.Cause.{Cause}
+use Rattle.fv_outside.specs.Desk.{DeskState, GoesOn, KeepsQuiet, HasFault, IsPrefixOf, Appends}
+use Rattle.fv_outside.proofs.States.{goes_on_then, fault_earlier, fault_later, told_before}
+use Rattle.fv_top.specs.declared.refusal.Cause.{Cause}
 use Rattle.fv_top.specs.declared.status.Tally.{Tally}
-use Rattle.fv_top.specs.declared.status.Refusal.{Refusal}
-use Rattle.fv_top.specs.declared.status.Refusal.TheVariants.{Usage, ReadFault, WriteFault, Unsupported, NoMemory}
+use Rattle.fv_top.specs.declared.refusal.Refusal.{Refusal}
+use Rattle.fv_top.specs.declared.refusal.Refusal.TheVariants.{Usage, WriteFault}
 use Rattle.fv_top.specs.declared.status.Status.{Status}
 use Rattle.fv_top.specs.declared.status.Status.TheVariants.{Done, Refused}
 use Rattle.fv_top.specs.Words.{Names, command_of}
 use Rattle.fv_top.specs.Lines.{refused_line, done_line}
-use Rattle.fv_top.specs.Promise.{Asks, Plays, played_file, played_frames, IsUnsupported, HasProgram, HasInput, HasCause, HasPlayed, HasBegun, HasPlayedPart, KeepsOutput, LeavesOutput, Reports, IsBegunLine, IfDone, IfRefused}
+use Rattle.fv_top.specs.Promise.{Asks, Plays, played_file, played_frames, HasCause, bad_words, read_fault, write_fault, refused_files, want_of_memory, IsExact, LeavesOutput, Reports, IsBegunLine}
 use Rattle.fv_top.specs.Running.{StopsPreparing, StopsDelivering, LeavesPart, LeavesLine, ReportsLine, Ends}
 
 output_is_not_report : Output ≢ Report
@@ -52,19 +51,17 @@ quiet_output words line old mid new q a = inl (record {
 -- what stops a run before it writes is its cause
 preparing_cause : (words : List (List ℕ)) (names : Names) (old mid new : DeskState) (e : Refusal) → Asks words names → GoesOn mid new →
     StopsPreparing names.program names.input old mid e → HasCause words old new e
-preparing_cause words names old mid new (Usage cause) asks g h = absurd h
-preparing_cause words names old mid new (ReadFault role) asks g h = fault_later old role g h
-preparing_cause words names old mid new (WriteFault role) asks g h = absurd h
-preparing_cause words names old mid new (Unsupported word) asks g h = (names, asks, h)
-preparing_cause words names old mid new NoMemory asks g h = tt
+preparing_cause words names old mid new e asks g (inl h) = subst (HasCause words old new) (sym h.1) (read_fault (fault_later old h.0 g h.2))
+preparing_cause words names old mid new e asks g (inr (inl h)) = refused_files names h.0 asks h.1
+preparing_cause words names old mid new e asks g (inr (inr m)) = subst (HasCause words old new) (sym m) want_of_memory
 
 -- what stops it then is its cause
 delivering_cause : (words : List (List ℕ)) (old mid end new : DeskState) (e : Refusal) → GoesOn old mid → GoesOn end new → StopsDelivering mid end e → HasCause words old new e
-delivering_cause words old mid end new (Usage cause) g f h = absurd h
-delivering_cause words old mid end new (ReadFault role) g f h = absurd h
-delivering_cause words old mid end new (WriteFault role) g f h = fault_later old role f (fault_earlier end role g h)
-delivering_cause words old mid end new (Unsupported word) g f h = absurd h
-delivering_cause words old mid end new NoMemory g f h = absurd h
+delivering_cause words old mid end new e g f h = subst (HasCause words old new) (sym h.1) (write_fault (fault_later old h.0 f (fault_earlier end h.0 g h.2)))
+
+-- words that name files are not refused
+names_exact : (words : List (List ℕ)) (names : Names) (status : Status) → Asks words names → IsExact words status
+names_exact words names status asks cause h = let e = sym asks ∙ h in absurd cc
 
 -- the words are refused
 pub refused_usage : (words : List (List ℕ)) (old new : DeskState) (cause : Cause) → command_of words ≡ Err cause → KeepsQuiet old old → ReportsLine (Usage cause) old new →
@@ -72,7 +69,8 @@ pub refused_usage : (words : List (List ℕ)) (old new : DeskState) (cause : Cau
 refused_usage words old new cause is q r = record {
   goes_on = r.appends.goes_on;
   done = tt;
-  cause = is;
+  cause = bad_words is;
+  exact = λ other h. let e = sym is ∙ h in cc;
   output = quiet_output words r.line old old new q r.appends;
   report = quiet_report words (Usage cause) old old new q r;
 }
@@ -86,6 +84,7 @@ refused_preparing words names old mid new e asks q stops r = record {
   cause = preparing_cause words names old mid new e asks r.appends.goes_on stops;
   output = quiet_output words r.line old mid new q r.appends;
   report = quiet_report words e old mid new q r;
+  exact = names_exact words names (Refused e) asks;
 }
 
 -- what was computed, where the desk tells its files
@@ -135,6 +134,7 @@ refused_delivering words names old mid end new file frames e asks q ready g stop
     is_line = line_earlier e r.line old end new (goes_on_then q.goes_on g) r.is_line;
     is_begun = part_begun words names old file frames line.part e asks ready line.is_part line.cause;
   };
+  exact = names_exact words names (Refused e) asks;
 }
 
 -- it was written and reported
@@ -154,4 +154,5 @@ done_delivering words names old mid new file tally asks q ready g written report
   cause = tt;
   output = tt;
   report = tt;
+  exact = names_exact words names (Done tally) asks;
 }

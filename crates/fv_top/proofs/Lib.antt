@@ -1,5 +1,6 @@
 pub mod CommandWords
 pub mod Texts
+pub mod Programs
 pub mod Loads
 pub mod PlainInputs
 pub mod Samples
@@ -7,3 +8,4 @@ pub mod Sounds
 pub mod Preparing
 pub mod Ending
 pub mod Completing
+pub mod PlacedLines

@@ -1,31 +1,37 @@
 -- What a run reads before it writes.
-use Rattle.std.proofs.Common.{◌≡◌, ℕ, ◌/◌, ◌+◌, ◌-◌, ◌≤◌, List, [], ◌∷◌, ◌++◌, length, take, drop, map, ℤ, sym, ◌∙◌, ap, arith, subst, refl, inl, inr, min}
+use Rattle.std.proofs.Common.{◌≡◌, ℕ, ◌/◌, List, [], ◌∷◌, length, take, drop, map, ℤ, ◌∙◌, ap, arith, subst, inl, inr}
 use Rattle.std.specs.Prelude.{IsTrue, codes, Some}
 use Rattle.std.proofs.lemmas.List.{length-take, length-drop}
-use Rattle.fv_outside.specs.declared.role.Role.{Role}
-use Rattle.fv_outside.specs.declared.role.Role.TheVariants.{Input}
-use Rattle.fv_outside.specs.Desk.{DeskState, File, file_named, KeepsQuiet, HasFault}
+use Rattle.fv_outside.specs.declared.role.Role.TheVariants.{Program, Input}
+use Rattle.fv_outside.specs.Desk.{DeskState, File, file_named, KeepsQuiet}
 use Rattle.fv_outside.proofs.States.{fault_earlier, told_before}
 use Rattle.fv_num.specs.Frames.{Frame}
 use Rattle.fv_diagram.specs.Diagram.{Diagram}
-use Rattle.fv_top.specs.declared.status.Refusal.{Refusal}
-use Rattle.fv_top.specs.declared.status.Refusal.TheVariants.{Usage, ReadFault, WriteFault, Unsupported, NoMemory}
+use Rattle.fv_top.specs.declared.refusal.Refusal.{Refusal}
+use Rattle.fv_top.specs.declared.refusal.Refusal.TheVariants.{Unsupported}
 use Rattle.fv_top.specs.Controls.{control_streams}
 use Rattle.fv_top.specs.Wave.{IsPlainInput, output_file, samples_in, data_in, data_of, rate_of}
-use Rattle.fv_top.specs.Loading.{StopsLoading, IsUnplayable}
+use Rattle.fv_top.specs.Loading.{StopsLoading}
 use Rattle.fv_top.specs.Running.{StopsPreparing}
-use Rattle.fv_top.specs.Promise.{HasProgram, stated_frames, played}
+use Rattle.fv_top.specs.Promise.{HasProgram, HasNoProgram, HasNoInput, stated_frames, played}
 
--- what stops the input stops the run
+-- what stops the program stops the run
+pub program_stops : (program input : List ℕ) (old new : DeskState) (e : Refusal) → StopsLoading Program (HasNoProgram program old.files) old new e → StopsPreparing program input old new e
+program_stops program input old new e (inl h) = inl (Program, h.0, h.1)
+program_stops program input old new e (inr (inl h)) = inr (inl (h.0, λ t. inl (h.1 t)))
+program_stops program input old new e (inr (inr m)) = inr (inr m)
+
+-- and so does what stops the input
 pub input_stops : (program input : List ℕ) (old mid new : DeskState) (e : Refusal) → KeepsQuiet old mid → (IsTrue old.tells → HasProgram program old.files) →
-    StopsLoading Input (codes "input") (IsUnplayable input mid.files) mid new e → StopsPreparing program input old new e
-input_stops program input old mid new (Usage cause) q p h = absurd h
-input_stops program input old mid new (ReadFault role) q p h = fault_earlier new role q.goes_on (subst (λ (r : Role). HasFault r mid new) (sym h.0) h.1)
-input_stops program input old mid new (WriteFault role) q p h = absurd h
-input_stops program input old mid new (Unsupported word) q p h = λ t.
-    let u = h.1 (told_before q.goes_on t) in
-    inr (h.0, p t, record { bytes = u.bytes; file = subst (λ (fs : List File). file_named input fs ≡ Some u.bytes) (q.goes_on.files t) u.file; not_plain = u.not_plain })
-input_stops program input old mid new NoMemory q p h = tt
+    StopsLoading Input (λ r. (r ≡ Unsupported (codes "input")) × HasNoInput input mid.files) mid new e → StopsPreparing program input old new e
+input_stops program input old mid new e q p (inl h) = inl (Input, h.0, fault_earlier new Input q.goes_on h.1)
+input_stops program input old mid new e q p (inr (inl h)) = inr (inl (
+  h.0,
+  λ t.
+      let u = h.1 (told_before q.goes_on t) in
+      inr (u.0, p t, record { bytes = u.1.bytes; file = subst (λ (fs : List File). file_named input fs ≡ Some u.1.bytes) (q.goes_on.files t) u.1.file; not_plain = u.1.not_plain }),
+))
+input_stops program input old mid new e q p (inr (inr m)) = inr (inr m)
 
 -- all bytes that the head states are there
 pub length-data_in : (bytes : List ℕ) → IsPlainInput bytes → length (data_in bytes) ≡ data_of (take 44 bytes)

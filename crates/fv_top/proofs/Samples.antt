@@ -1,8 +1,7 @@
 -- The samples of an input, and the frames that they make.
-use Rattle.std.proofs.Common.{◌≡◌, ℕ, zero, suc, ◌+◌, ◌*◌, ◌/◌, ◌<◌, ◌≤◌, List, [], ◌∷◌, ◌++◌, length, take, map, get_or, replicate, ℤ, pos, sym, ◌∙◌, ap, arith, subst, refl, w16, max, add-one}
+use Rattle.std.proofs.Common.{◌≡◌, ℕ, zero, suc, ◌+◌, ◌*◌, ◌/◌, ◌<◌, List, [], ◌∷◌, ◌++◌, length, take, map, get_or, ℤ, pos, sym, ◌∙◌, ap, arith, refl, w16, add-one}
 use Rattle.std.specs.Int.{cast_signed, from_le_bytes}
-use Rattle.fv_num.specs.Frames.{Frame, Stream, column, frame_at}
-use Rattle.fv_top.specs.Controls.{control_streams}
+use Rattle.fv_num.specs.Frames.{Frame}
 use Rattle.fv_top.specs.Wave.{samples_in}
 
 -- sample i is in bytes 2 * i and 2 * i + 1

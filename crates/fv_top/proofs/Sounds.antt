@@ -1,7 +1,7 @@
 -- The bytes of the output grow by a frame at a time.
-use Rattle.std.proofs.Common.{◌≡◌, ℕ, zero, suc, ◌+◌, ◌*◌, ◌/◌, ◌%◌, ◌==◌, ◌<◌, ◌≤◌, List, [], ◌∷◌, ◌++◌, length, take, map, get_or, replicate, ℤ, pos, cond, Bool, true, false, sym, ◌∙◌, ap, arith, subst, refl, append_assoc}
+use Rattle.std.proofs.Common.{◌≡◌, ℕ, zero, suc, ◌+◌, ◌*◌, ◌%◌, ◌==◌, ◌<◌, List, [], ◌∷◌, ◌++◌, length, take, get_or, replicate, pos, Bool, true, false, sym, ◌∙◌, ap, arith, refl, append_assoc}
 use Rattle.std.specs.Prelude.{flat_map, if◌then◌else◌}
-use Rattle.std.proofs.lemmas.List.{append-nil, take_all, length-map, nil_from_length, take_more}
+use Rattle.std.proofs.lemmas.List.{append-nil, nil_from_length, take_more}
 use Rattle.std.proofs.lemmas.Grind.{flat_map-append}
 use Rattle.fv_num.specs.Frames.{Frame, Stream, column}
 use Rattle.fv_diagram.specs.Diagram.{Diagram, outputs, control_bound}

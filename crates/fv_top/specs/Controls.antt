@@ -1,5 +1,5 @@
 -- The streams of the controls.
-use Rattle.std.specs.Prelude.{ℕ, ◌&&◌, ◌==◌, nat_le, List, [], ◌∷◌, ℤ, pos, if◌then◌else◌}
+use Rattle.std.specs.Prelude.{ℕ, ◌&&◌, ◌==◌, nat_le, List, [], ◌∷◌, ℤ, if◌then◌else◌}
 use Rattle.fv_num.specs.Words.{argument}
 use Rattle.fv_num.specs.Frames.{Stream}
 

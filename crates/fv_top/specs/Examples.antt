@@ -1,11 +1,10 @@
 -- Small files, which hold by computing.
-use Rattle.std.specs.Prelude.{◌≡◌, refl, ℕ, List, [], ◌∷◌, ◌++◌, take, pos, negsuc, true, Err, Ok, codes}
-use Rattle.std.specs.Int.{int_wrap, int_max, int_min}
-use Rattle.fv_diagram.specs.declared.node.Primitive.TheVariants.{Wire, Mem}
-use Rattle.fv_diagram.specs.Diagram.{Diagram, Primitive}
-use Rattle.fv_top.specs.declared.status.Cause.TheVariants.{Form, Same}
+use Rattle.std.specs.Prelude.{◌≡◌, refl, ℕ, List, [], ◌∷◌, take, pos, negsuc, true, Err, codes}
+use Rattle.fv_diagram.specs.declared.node.Primitive.TheVariants.{Wire}
+use Rattle.fv_diagram.specs.Diagram.{Primitive}
+use Rattle.fv_top.specs.declared.refusal.Cause.TheVariants.{Form, Same}
 use Rattle.fv_top.specs.Words.{command_of}
-use Rattle.fv_top.specs.Wave.{samples_in, data_in, frames_in, is_plain_head}
+use Rattle.fv_top.specs.Wave.{samples_in, data_in, is_plain_head}
 use Rattle.fv_top.specs.Promise.{played}
 
 -- one channel of 16 bits at 44100 frames a second, with the samples 1, -2 and 3

@@ -2,6 +2,8 @@ pub mod Words
 pub mod Wave
 pub mod Controls
 pub mod Lines
+pub mod Fields
+pub mod Program
 pub mod Promise
 pub mod Examples
 pub mod Loading

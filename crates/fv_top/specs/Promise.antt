@@ -1,16 +1,17 @@
 -- What a run promises.
-use Rattle.std.specs.Prelude.{◌≡◌, ◌≢◌, ◌⊎◌, ℕ, ◌/◌, ◌+◌, ◌%◌, ◌^◌, IsTrue, List, [], ◌∷◌, ◌++◌, take, Some, Ok, Err, codes}
+use Rattle.std.specs.Prelude.{◌≡◌, ◌⊎◌, ℕ, ◌/◌, ◌+◌, ◌%◌, ◌^◌, IsTrue, List, [], ◌++◌, take, Some, Ok, Err, codes}
 use Rattle.fv_outside.specs.declared.role.Role.{Role}
 use Rattle.fv_outside.specs.declared.role.Role.TheVariants.{Output, Report}
 use Rattle.fv_outside.specs.Desk.{DeskState, File, file_named, HasFault, IsPrefixOf}
 use Rattle.fv_diagram.specs.Diagram.{Diagram}
-use Rattle.fv_first.specs.Grammar.{IsProgram, IsNoProgram}
 use Rattle.fv_top.specs.declared.status.Tally.{Tally}
-use Rattle.fv_top.specs.declared.status.Refusal.{Refusal}
-use Rattle.fv_top.specs.declared.status.Refusal.TheVariants.{Usage, ReadFault, WriteFault, Unsupported, NoMemory}
+use Rattle.fv_top.specs.declared.refusal.Refusal.{Refusal}
+use Rattle.fv_top.specs.declared.refusal.Cause.{Cause}
+use Rattle.fv_top.specs.declared.refusal.Refusal.TheVariants.{Usage, ReadFault, WriteFault, Unsupported, NoMemory}
 use Rattle.fv_top.specs.declared.status.Status.{Status}
 use Rattle.fv_top.specs.declared.status.Status.TheVariants.{Done, Refused}
 use Rattle.fv_top.specs.Words.{Names, command_of}
+use Rattle.fv_top.specs.Program.{IsProgram, IsRefusedText}
 use Rattle.fv_top.specs.Controls.{control_streams}
 use Rattle.fv_top.specs.Wave.{IsPlainInput, output_file, frames_in, data_of, rate_of}
 use Rattle.fv_top.specs.Lines.{refused_line, done_line}
@@ -19,18 +20,18 @@ use Rattle.fv_top.specs.Lines.{refused_line, done_line}
 abbrev pub Asks : List (List ℕ) → Names → Type 0
 Asks words names = command_of words ≡ Ok names
 
--- The file of this name is a program's text, which spells a diagram.
+-- The file of this name is a program's text, of this diagram.
 pub record HasProgram (name : List ℕ) (files : List File) : Type 0 where
   pub text : List ℕ
   pub file : file_named name files ≡ Some text
   pub diagram : Diagram
-  pub spelled : IsProgram text diagram
+  pub program : IsProgram text diagram
 
--- The file of this name is there, and spells no diagram.
-pub record HasNoProgram (name : List ℕ) (files : List File) : Type 0 where
+-- The file of this name is there, and its text is refused.
+pub record HasNoProgram (name : List ℕ) (files : List File) (refusal : Refusal) : Type 0 where
   pub text : List ℕ
   pub file : file_named name files ≡ Some text
-  pub none : IsNoProgram text
+  pub refused : IsRefusedText text refusal
 
 -- The file of this name is an input that can be played.
 pub record HasInput (name : List ℕ) (files : List File) : Type 0 where
@@ -63,18 +64,27 @@ played_file p = played p.of.diagram p.on.bytes
 abbrev pub played_frames : {program input : List ℕ} {files : List File} → Plays program input files → ℕ
 played_frames p = stated_frames p.on.bytes
 
--- which form it is that is not supported yet: that of the program's text or, where there is a program, that of the input
-abbrev pub IsUnsupported : (program input : List ℕ) → List File → (word : List ℕ) → Type 0
-IsUnsupported program input files word =
-    ((word ≡ codes "program") × HasNoProgram program files) ⊎ ((word ≡ codes "input") × HasProgram program files × HasNoInput input files)
+-- Why these files are refused: the program's text is or, where there is a program, the input has not the form that can be
+-- played.
+abbrev pub AreRefused : (program input : List ℕ) → List File → Refusal → Type 0
+AreRefused program input files refusal = HasNoProgram program files refusal ⊎ ((refusal ≡ Unsupported (codes "input")) × HasProgram program files × HasNoInput input files)
+
+-- it speaks of what the program or the input holds
+abbrev pub IsOfFiles : Refusal → Type 0
+IsOfFiles (Usage cause) = ⊥
+IsOfFiles (ReadFault role) = ⊥
+IsOfFiles (WriteFault role) = ⊥
+IsOfFiles NoMemory = ⊥
+IsOfFiles refusal = Unit {0}
 
 -- The cause of each refusal, between the states of the desk before and after. Want of memory is free.
-abbrev pub HasCause : (words : List (List ℕ)) → (old new : DeskState) → Refusal → Type 0
-HasCause words old new (Usage cause) = command_of words ≡ Err cause
-HasCause words old new (ReadFault role) = HasFault role old new
-HasCause words old new (WriteFault role) = HasFault role old new
-HasCause words old new (Unsupported word) = (names : Names) × Asks words names × (IsTrue old.tells → IsUnsupported names.program names.input old.files word)
-HasCause words old new NoMemory = Unit {0}
+pub data HasCause (words : List (List ℕ)) (old new : DeskState) : Refusal → Type 0 where
+  bad_words : {cause : Cause} → command_of words ≡ Err cause → HasCause words old new (Usage cause)
+  read_fault : {role : Role} → HasFault role old new → HasCause words old new (ReadFault role)
+  write_fault : {role : Role} → HasFault role old new → HasCause words old new (WriteFault role)
+  refused_files : {refusal : Refusal} (names : Names) → IsOfFiles refusal → Asks words names → (IsTrue old.tells → AreRefused names.program names.input old.files refusal)
+      → HasCause words old new refusal
+  want_of_memory : HasCause words old new NoMemory
 
 -- The whole output file was written, and its line reported.
 pub record HasPlayed (words : List (List ℕ)) (frames : ℕ) (old new : DeskState) : Type 0 where
@@ -126,21 +136,33 @@ abbrev pub IfRefused : Status → (Refusal → Type 0) → Type 0
 IfRefused (Done tally) P = Unit {0}
 IfRefused (Refused refusal) P = P refusal
 
--- done, or out of memory
-abbrev pub IsDoneOrNoMemory : Status → Type 0
-IsDoneOrNoMemory (Done tally) = Unit {0}
-IsDoneOrNoMemory (Refused NoMemory) = Unit {0}
-IsDoneOrNoMemory (Refused (Usage cause)) = ⊥
-IsDoneOrNoMemory (Refused (ReadFault role)) = ⊥
-IsDoneOrNoMemory (Refused (WriteFault role)) = ⊥
-IsDoneOrNoMemory (Refused (Unsupported word)) = ⊥
-
 -- no fault of any role is counted between these states
 abbrev pub HasNoFault : (old new : DeskState) → Type 0
 HasNoFault old new = (role : Role) → HasFault role old new → ⊥
+
+-- done, or out of memory
+abbrev pub IsDoneOrNoMemory : Status → Type 0
+IsDoneOrNoMemory (Done tally) = Unit {0}
+IsDoneOrNoMemory (Refused refusal) = refusal ≡ NoMemory
 
 -- Where the words name a program and an input that it can play, and no call of the desk fails, the run is done, unless
 -- memory runs out.
 abbrev pub IsComplete : (words : List (List ℕ)) → (old new : DeskState) → Status → Type 0
 IsComplete words old new status =
     (names : Names) → Asks words names → IsTrue old.tells → Plays names.program names.input old.files → HasNoFault old new → IsDoneOrNoMemory status
+
+-- refused for what these files hold, or out of memory
+abbrev pub IsRefusedOrNoMemory : (program input : List ℕ) → List File → Status → Type 0
+IsRefusedOrNoMemory program input files (Done tally) = ⊥
+IsRefusedOrNoMemory program input files (Refused refusal) = (refusal ≡ NoMemory) ⊎ AreRefused program input files refusal
+
+-- Where they name files that are refused, and no call of the desk fails, the run is refused for what they hold, unless
+-- memory runs out.
+abbrev pub IsStrict : (words : List (List ℕ)) → (old new : DeskState) → Status → Type 0
+IsStrict words old new status =
+    (names : Names) (refusal : Refusal) → Asks words names → IsTrue old.tells → AreRefused names.program names.input old.files refusal → HasNoFault old new
+    → IsRefusedOrNoMemory names.program names.input old.files status
+
+-- Words that are refused are refused for their cause.
+abbrev pub IsExact : (words : List (List ℕ)) → Status → Type 0
+IsExact words status = (cause : Cause) → command_of words ≡ Err cause → status ≡ Refused (Usage cause)

@@ -1,28 +1,23 @@
 -- How the parts of a run end.
 use Rattle.std.specs.Prelude.{◌≡◌, ◌⊎◌, ℕ, IsTrue, List, [], ◌++◌}
+use Rattle.fv_outside.specs.declared.role.Role.{Role}
 use Rattle.fv_outside.specs.declared.role.Role.TheVariants.{Output, Report}
 use Rattle.fv_outside.specs.Desk.{DeskState, GoesOn, HasFault, IsPrefixOf, Appends}
-use Rattle.fv_top.specs.declared.status.Refusal.{Refusal}
-use Rattle.fv_top.specs.declared.status.Refusal.TheVariants.{Usage, ReadFault, WriteFault, Unsupported, NoMemory}
+use Rattle.fv_top.specs.declared.refusal.Refusal.{Refusal}
+use Rattle.fv_top.specs.declared.refusal.Refusal.TheVariants.{ReadFault, WriteFault, NoMemory}
 use Rattle.fv_top.specs.Lines.{refused_line, done_line}
-use Rattle.fv_top.specs.Promise.{IsUnsupported, HasBegun, KeepsOutput, IfDone, IfRefused, HasPlayed, HasCause, LeavesOutput, Reports}
+use Rattle.fv_top.specs.Promise.{IsExact, IsOfFiles, AreRefused, HasBegun, KeepsOutput, IfDone, IfRefused, HasPlayed, HasCause, LeavesOutput, Reports}
 use Rattle.fv_top.specs.declared.status.Status.{Status}
 
--- why there is nothing to write
+-- Why there is nothing to write: a file could not be read, or the files are refused, or memory ran out.
 abbrev pub StopsPreparing : (program input : List ℕ) → (old new : DeskState) → Refusal → Type 0
-StopsPreparing program input old new (Usage cause) = ⊥
-StopsPreparing program input old new (ReadFault role) = HasFault role old new
-StopsPreparing program input old new (WriteFault role) = ⊥
-StopsPreparing program input old new (Unsupported word) = IsTrue old.tells → IsUnsupported program input old.files word
-StopsPreparing program input old new NoMemory = Unit {0}
+StopsPreparing program input old new refusal =
+    ((role : Role) × (refusal ≡ ReadFault role) × HasFault role old new)
+    ⊎ (IsOfFiles refusal × (IsTrue old.tells → AreRefused program input old.files refusal)) ⊎ (refusal ≡ NoMemory)
 
 -- why it was not written, or not reported
 abbrev pub StopsDelivering : (old new : DeskState) → Refusal → Type 0
-StopsDelivering old new (Usage cause) = ⊥
-StopsDelivering old new (ReadFault role) = ⊥
-StopsDelivering old new (WriteFault role) = HasFault role old new
-StopsDelivering old new (Unsupported word) = ⊥
-StopsDelivering old new NoMemory = ⊥
+StopsDelivering old new refusal = (role : Role) × (refusal ≡ WriteFault role) × HasFault role old new
 
 -- the output as it was, or a part of the file from its front
 abbrev pub LeavesPart : (file : List ℕ) → (old new : DeskState) → Type 0
@@ -48,3 +43,4 @@ pub record Ends (words : List (List ℕ)) (old new : DeskState) (status : Status
   pub cause : IfRefused status (HasCause words old new)
   pub output : IfRefused status (λ _. LeavesOutput words old new)
   pub report : IfRefused status (λ refusal. Reports words refusal old new)
+  pub exact : IsExact words status

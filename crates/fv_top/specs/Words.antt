@@ -1,7 +1,7 @@
 -- The words of the command line.
-use Rattle.std.specs.Prelude.{ℕ, Bool, true, false, ◌||◌, ◌==◌, List, [], ◌∷◌, Result, Ok, Err, bytes_eq, codes, if◌then◌else◌}
-use Rattle.fv_top.specs.declared.status.Cause.{Cause}
-use Rattle.fv_top.specs.declared.status.Cause.TheVariants.{Form, Same}
+use Rattle.std.specs.Prelude.{ℕ, Bool, false, ◌||◌, ◌==◌, List, [], ◌∷◌, Result, Ok, Err, bytes_eq, codes, if◌then◌else◌}
+use Rattle.fv_top.specs.declared.refusal.Cause.{Cause}
+use Rattle.fv_top.specs.declared.refusal.Cause.TheVariants.{Form, Same}
 
 -- the files that a run names
 pub record Names : Type 0 where

@@ -6,11 +6,14 @@ ghost use Rattle.std.proofs.Common.{w32};
 ghost use Rattle.fv_outside.specs.declared.role.Role.TheVariants.{Input as input_role};
 ghost use Rattle.fv_outside.specs.declared.transfer.ReadError.TheVariants as errors;
 ghost use Rattle.fv_outside.specs.Desk.{KeepsQuiet, HasFault};
-ghost use Rattle.fv_top.specs.Loading.{IsUnplayable, StopsLoading, IsFile};
+ghost use Rattle.fv_top.specs.declared.refusal.Refusal.TheVariants.{Unsupported};
+ghost use Rattle.fv_top.specs.Promise.{HasNoInput};
+ghost use Rattle.fv_top.specs.Loading.{StopsLoading, IsFile};
 ghost use Rattle.fv_top.specs.Wave.{IsPlainInput, is_plain_head, rate_of, data_in, data_limit};
 
-use crate::program::{read_refusal, unsupported};
-use crate::status::Refusal;
+use crate::program::read_refusal;
+use crate::refusal::Refusal;
+use crate::text::unsupported;
 use fv_outside::{Desk, ReadError, Role, read_up_to};
 use std::alloc::{AllocError, Global};
 
@@ -34,7 +37,7 @@ pub fn load_input<D: Desk>(alloc: Global, desk: &mut D, name: &str) -> Result<In
     ensures loaded { IfOk result (λ input. IsTrue (D.state desk.old).tells → (bytes : List ℕ) × IsFile name.now bytes (D.state desk.old)
         × IsPlainInput bytes × (input.rate ≡ rate_of (take 44 bytes)) × (input.bytes.items ≡ data_in bytes)) }
     ensures size { IfOk result (λ input. length input.bytes.items ≤ data_limit) }
-    ensures err { IfErr result (StopsLoading input_role (codes "input") (IsUnplayable name.now (D.state desk.old).files) (D.state desk.old) (D.state desk.new)) }
+    ensures err { IfErr result (StopsLoading input_role (λ e. (e ≡ Unsupported (codes "input")) × HasNoInput name.now (D.state desk.old).files) (D.state desk.old) (D.state desk.new)) }
 {
     let head = match read_head(alloc, desk, name) {
         Ok(head) => head,

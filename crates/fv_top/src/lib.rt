@@ -3,14 +3,18 @@
 
 mod input;
 mod program;
+mod refusal;
 mod report;
 mod run;
 mod sound;
 mod status;
+mod text;
 mod words;
 
+pub use refusal::{Cause, Refusal};
 pub use run::run_faustvec;
-pub use status::{Cause, Refusal, Status, Tally};
+pub use status::{Status, Tally};
+pub use text::one_program;
 
 #[cfg(test)]
 mod tests;

@@ -1,21 +1,23 @@
-// The program's text.
+// The program's file.
 
-ghost use Rattle.std.specs.Prelude.{◌≡◌, ℕ, ◌<◌, List, length, take, codes, IsTrue, IfOk, IfErr, IsErrOf};
+ghost use Rattle.std.specs.Prelude.{◌≡◌, ℕ, ◌<◌, List, length, take, IsTrue, IfOk, IfErr, IsErrOf};
 ghost use Rattle.fv_outside.specs.declared.role.Role.TheVariants.{Program as program_role};
 ghost use Rattle.fv_outside.specs.declared.transfer.ReadError.TheVariants as errors;
 ghost use Rattle.fv_outside.specs.Desk.{KeepsQuiet, HasFault};
 ghost use Rattle.fv_diagram.specs.Arena.{tree_of};
 ghost use Rattle.fv_diagram.specs.Diagram.{control_bound, HasNoDelay, HasNoFreeSlot};
-ghost use Rattle.fv_first.specs.Grammar.{IsProgram};
-ghost use Rattle.fv_top.specs.Loading.{IsUnspelled, StopsLoading, IsFile, refusal_of_read, IsUnsupportedOrNoMemory};
+ghost use Rattle.fv_top.specs.Program.{IsProgram};
+ghost use Rattle.fv_top.specs.Promise.{HasNoProgram};
+ghost use Rattle.fv_top.specs.Loading.{StopsLoading, IsFile, refusal_of_read};
 
-use crate::status::Refusal;
-use fv_first::{Program, read_program};
-use fv_outside::{Desk, ReadError, Role, Word, read_up_to};
-use std::alloc::{AllocError, Global};
+use crate::refusal::Refusal;
+use crate::text::read_program;
+use fv_outside::{Desk, ReadError, Role, read_up_to};
+use fv_small::Program;
+use std::alloc::Global;
 
-/// A program's text has at most so many bytes, and one byte more shows that it is too long.
-const TEXT_BYTES: usize = 4097;
+/// A program's text has at most 1,048,576 bytes, and one byte more shows that it is too long.
+const TEXT_BYTES: usize = 1048577;
 
 /// Loads the program of this name.
 #[tactic(auto, using(fv_outside::proofs::States::steps))]
@@ -24,16 +26,14 @@ pub fn load_program<D: Desk>(alloc: Global, desk: &mut D, name: &str) -> Result<
     ensures spelled { IfOk result (λ p. (text : List ℕ) × IsFile name.now text (D.state desk.old) × IsProgram text (tree_of p.diagrams p.root)) }
     ensures runs { IfOk result (λ p. (p.root < length p.diagrams) × HasNoDelay (tree_of p.diagrams p.root)
         × (control_bound (tree_of p.diagrams p.root) ≡ 0) × HasNoFreeSlot (tree_of p.diagrams p.root)) }
-    ensures err { IfErr result (StopsLoading program_role (codes "program") (IsUnspelled name.now (D.state desk.old).files) (D.state desk.old) (D.state desk.new)) }
+    ensures err { IfErr result (StopsLoading program_role (HasNoProgram name.now (D.state desk.old).files) (D.state desk.old) (D.state desk.new)) }
 {
     let text = match read_text(alloc, desk, name) {
         Ok(text) => text,
         Err(error) => return Err(read_refusal(Role::Program, error)),
     };
-    match read_program(alloc, &text)? {
-        Some(program) => Ok(program),
-        None => Err(unsupported(alloc, b"program")),
-    }
+    let program = read_program(alloc, &text)?;
+    Ok(program)
 }
 
 // The bytes of the text, or its first ones where it is too long.
@@ -41,7 +41,7 @@ pub fn load_program<D: Desk>(alloc: Global, desk: &mut D, name: &str) -> Result<
 fn read_text<D: Desk>(alloc: Global, desk: &mut D, name: &str) -> Result<Vec<u8>, ReadError>
     ensures quiet { KeepsQuiet (D.state desk.old) (D.state desk.new) }
     ensures bytes { IfOk result (λ v. IsTrue (D.state desk.old).tells →
-        (text : List ℕ) × IsFile name.now text (D.state desk.old) × (v.items ≡ take 4097 text)) }
+        (text : List ℕ) × IsFile name.now text (D.state desk.old) × (v.items ≡ take 1048577 text)) }
     ensures failed { IsErrOf result ReadError.Failed → HasFault program_role (D.state desk.old) (D.state desk.new) }
 {
     desk.begin_read(Role::Program, name)?;
@@ -55,15 +55,5 @@ pub fn read_refusal(role: Role, error: ReadError) -> Refusal
     match error {
         ReadError::Failed => Refusal::ReadFault { role },
         ReadError::NoMemory => Refusal::NoMemory,
-    }
-}
-
-/// The refusal of a form that is not supported.
-pub fn unsupported(alloc: Global, word: &[u8]) -> Refusal
-    ensures { IsUnsupportedOrNoMemory word.now result }
-{
-    match Word::new(alloc, word) {
-        Ok(word) => Refusal::Unsupported { word },
-        Err(_) => Refusal::NoMemory,
     }
 }

@@ -5,14 +5,16 @@ ghost use Rattle.fv_outside.specs.declared.role.Role.TheVariants.{Output, Report
 ghost use Rattle.fv_outside.specs.Desk.{GoesOn, KeepsQuiet, HasFault, IsPrefixOf};
 ghost use Rattle.fv_diagram.specs.Arena.{tree_of};
 ghost use Rattle.fv_top.specs.Lines.{done_line};
-ghost use Rattle.fv_top.specs.Promise.{Plays, played_file, played_frames, HasBegun, IfDone, IfRefused, HasPlayed, HasCause, LeavesOutput, Reports, IsComplete};
+ghost use Rattle.fv_top.specs.Promise.{Plays, played_file, played_frames, HasBegun, IfDone, IfRefused, HasPlayed, HasCause, LeavesOutput, Reports, IsComplete, IsStrict, IsExact};
 ghost use Rattle.fv_top.specs.Running.{StopsPreparing, StopsDelivering, LeavesPart, LeavesLine, ReportsLine, Ends};
 
 use crate::input::load_input;
 use crate::program::load_program;
+use crate::refusal::Refusal;
 use crate::report::{report_done, report_refusal};
 use crate::sound::render;
-use crate::status::{Refusal, Status, Tally};
+use crate::status::{Status, Tally};
+use crate::text::one_program;
 use crate::words::names_of;
 use fv_outside::{Desk, Gate, Role, write_all};
 use std::alloc::Global;
@@ -151,7 +153,11 @@ pub fn run_faustvec<R: Threads + Wait + Sync, D: Desk, G: Gate + Sync>(
     ensures report { IfRefused result (λ refusal. Reports (map string_bytes words.now) refusal (D.state desk.old) (D.state desk.new)) }
     // What can be played is played, unless a call of the desk fails or memory runs out.
     ensures complete { IsComplete (map string_bytes words.now) (D.state desk.old) (D.state desk.new) result }
+    // Words that are refused, and files that are, are refused for what they hold, with the same exceptions for files.
+    ensures exact { IsExact (map string_bytes words.now) result }
+    ensures strict { IsStrict (map string_bytes words.now) (D.state desk.old) (D.state desk.new) result }
 {
     let _untold = gate;
+    one_program();
     perform(alloc, words, desk)
 }

@@ -11,8 +11,8 @@ ghost use Rattle.fv_top.specs.Wave.{head_bytes, sample_bytes, frame_bytes, outpu
 
 use crate::input::Input;
 use fv_diagram::{Stepper, answers_alike, answers_each, answers_one_more};
-use fv_first::Program;
 use fv_num::clamp;
+use fv_small::Program;
 use std::alloc::{AllocError, Global};
 
 /// The bytes of the output file of a program on an input.

@@ -3,6 +3,7 @@
 use super::*;
 use fv_outside::{FreeGate, MemoryDesk, Role};
 use std::alloc::{AllocError, Global};
+use std::process::Abort;
 use std::sync::Wait;
 use std::test::Fail;
 use std::thread::Threads;
@@ -47,7 +48,7 @@ fn with_samples(alloc: Global, samples: &[u8]) -> Result<Vec<u8>, AllocError> {
 
 #[test]
 fn plays(rt: HostRuntime) -> Result<(), Fail> {
-    let rows: [(&[u8], [u8; 6], [u8; 6]); 5] = [
+    let rows: [(&[u8], [u8; 6], [u8; 6]); 7] = [
         (
             b"process = _;",
             [1, 0, 254, 255, 3, 0],
@@ -74,6 +75,17 @@ fn plays(rt: HostRuntime) -> Result<(), Fail> {
             b"process = 1 - _ : _ + 3 : mem\n : _ * 2;",
             [1, 0, 2, 0, 9, 0],
             [0, 0, 6, 0, 4, 0],
+        ),
+        // the same, by operators as primitives
+        (
+            b"/* by parts */ process = (1, _ : -) : (_, 3 : +) : mem : (_, 2 : *);",
+            [1, 0, 2, 0, 9, 0],
+            [0, 0, 6, 0, 4, 0],
+        ),
+        (
+            b"process = -3, _ : + ; // less three",
+            [1, 0, 254, 255, 3, 0],
+            [254, 255, 251, 255, 0, 0],
         ),
     ];
     for (text, samples, expected) in rows {
@@ -135,24 +147,61 @@ fn refuses_files(rt: HostRuntime) -> Result<(), Fail> {
     let two_channels = changed(rt.alloc(), 22, 2)?;
     let eight_bits = changed(rt.alloc(), 34, 8)?;
     let seven_bytes = changed(rt.alloc(), 40, 7)?;
-    let program = b"refused 10 Unsupported program\n";
-    let input = b"refused 10 Unsupported input\n";
-    let rows: [(&[u8], &[u8], &[u8]); 6] = [
-        (b"", &THREE, program),
-        (b"process = (_);", &THREE, program),
-        (b"process = _;", &two_channels, input),
-        (b"process = _;", &eight_bits, input),
-        (b"process = _;", &seven_bytes, input),
-        (b"process = _;", &THREE[..49], input),
-    ];
-    for (text, samples, line) in rows {
-        let mut desk = desk_of(rt.alloc(), text, samples)?;
-        assert_eq!(rt; status_of(&rt, rt.alloc(), &mut desk, &WORDS)?, 3);
-        assert_eq!(rt; desk.written(Role::Report), line);
-        assert!(rt; desk.written(Role::Output).is_empty());
+    let rows: [&[u8]; 4] = [&two_channels, &eight_bits, &seven_bytes, &THREE[..49]];
+    for samples in rows {
+        let mut desk = desk_of(rt.alloc(), b"process = _;", samples)?;
+        assert_refused(
+            &rt,
+            rt.alloc(),
+            &mut desk,
+            b"refused 10 Unsupported input\n",
+        )?;
     }
     Ok(())
 }
+
+// A run is refused with this line and status 3, and writes no output.
+fn assert_refused(
+    rt: &(impl Threads + Wait + Sync + Abort),
+    alloc: Global,
+    desk: &mut MemoryDesk,
+    line: &[u8],
+) -> Result<(), AllocError> {
+    assert_eq!(rt; status_of(rt, alloc, desk, &WORDS)?, 3);
+    assert_eq!(rt; desk.written(Role::Report), line);
+    assert!(rt; desk.written(Role::Output).is_empty());
+    Ok(())
+}
+
+// Texts that are no small program, each with its line.
+const REFUSED: [(&[u8], &[u8]); 17] = [
+    (b"process = #;", b"refused 5 BadByte 1 11\n"),
+    (b"/* ab", b"refused 6 Unclosed 1 1\n"),
+    (b"process = _ * 0.5;", b"refused 7 RealLiteral 1 15\n"),
+    (
+        b"process = 2147483648;",
+        b"refused 8 LiteralTooLarge 1 11\n",
+    ),
+    (b"process = 1 +;", b"refused 9 Syntax 1 14\n"),
+    (b"process = (1 , );", b"refused 9 Syntax 1 16\n"),
+    (b"process = _", b"refused 9 Syntax 1 12\n"),
+    (b"f(x = 1;", b"refused 9 Syntax 1 5\n"),
+    (b"par = 1;", b"refused 9 Syntax 1 1\n"),
+    (
+        b"import(\"stdfaust.lib\");",
+        b"refused 10 Unsupported import\n",
+    ),
+    (b"process = _';", b"refused 10 Unsupported program\n"),
+    (b"process = _ , _;", b"refused 10 Unsupported program\n"),
+    (b"a = 1; a = 2; process = a;", b"refused 11 Redefined a\n"),
+    (b"f(x,x) = x; process = f;", b"refused 12 RepeatedName x\n"),
+    (
+        b"f(0) = 1; f(x,y) = 2; process = f(0);",
+        b"refused 13 RuleWidths 1 11\n",
+    ),
+    (b"", b"refused 14 NoProcess\n"),
+    (b"\n// no program\nother = _;", b"refused 14 NoProcess\n"),
+];
 
 // The three-sample file with another byte at a place.
 fn changed(alloc: Global, place: usize, byte: u8) -> Result<Vec<u8>, AllocError> {
@@ -164,9 +213,44 @@ fn changed(alloc: Global, place: usize, byte: u8) -> Result<Vec<u8>, AllocError>
 }
 
 #[test]
+fn refuses_texts(rt: HostRuntime) -> Result<(), Fail> {
+    for (text, line) in REFUSED {
+        let mut desk = desk_of(rt.alloc(), text, &THREE)?;
+        assert_refused(&rt, rt.alloc(), &mut desk, line)?;
+    }
+    Ok(())
+}
+
+// `process = `, so many open brackets, and an end.
+fn bracketed(alloc: Global, count: usize, end: &[u8]) -> Result<Vec<u8>, AllocError> {
+    let mut text = Vec::from_slice(alloc, b"process = ")?;
+    for _ in 0..count {
+        text.push(b'(')?;
+    }
+    text.extend_from_slice(end)?;
+    Ok(text)
+}
+
+#[test]
+fn limits_the_brackets(rt: HostRuntime) -> Result<(), Fail> {
+    let mut text = bracketed(rt.alloc(), 128, b"_")?;
+    for _ in 0..128 {
+        text.push(b')')?;
+    }
+    text.push(b';')?;
+    let mut desk = desk_of(rt.alloc(), &text, &THREE)?;
+    assert_eq!(rt; status_of(&rt, rt.alloc(), &mut desk, &WORDS)?, 0);
+    assert_eq!(rt; desk.written(Role::Output), THREE.as_slice());
+    let text = bracketed(rt.alloc(), 129, b"")?;
+    let mut desk = desk_of(rt.alloc(), &text, &THREE)?;
+    assert_refused(&rt, rt.alloc(), &mut desk, b"refused 43 Nesting 1 139\n")?;
+    Ok(())
+}
+
+#[test]
 fn limits_the_text(rt: HostRuntime) -> Result<(), Fail> {
     let mut text = Vec::from_slice(rt.alloc(), b"process = _;")?;
-    for _ in text.len()..4096 {
+    for _ in text.len()..1_048_576 {
         text.push(b' ')?;
     }
     let mut desk = desk_of(rt.alloc(), &text, &THREE)?;
@@ -174,11 +258,12 @@ fn limits_the_text(rt: HostRuntime) -> Result<(), Fail> {
     assert_eq!(rt; desk.written(Role::Output), THREE.as_slice());
     text.push(b' ')?;
     let mut desk = desk_of(rt.alloc(), &text, &THREE)?;
-    assert_eq!(rt; status_of(&rt, rt.alloc(), &mut desk, &WORDS)?, 3);
-    assert_eq!(rt;
-        desk.written(Role::Report),
-        b"refused 10 Unsupported program\n".as_slice()
-    );
+    assert_refused(
+        &rt,
+        rt.alloc(),
+        &mut desk,
+        b"refused 4 TextTooLong program\n",
+    )?;
     Ok(())
 }
 

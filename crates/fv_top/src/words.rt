@@ -3,7 +3,7 @@
 ghost use Rattle.std.specs.Prelude.{◌≡◌, map, string_bytes, MatchResult, Ok, Err};
 ghost use Rattle.fv_top.specs.Words.{command_of, run_of, is_option};
 
-use crate::status::Cause;
+use crate::refusal::Cause;
 
 /// The files that a run names.
 #[derive(Clone, Copy)]

@@ -1,6 +1,6 @@
-use Rattle.std.proofs.Common.{◌≡◌, ◌≤◌, length, sym, ◌∙◌, ap, subst, arith, rules}
+use Rattle.std.proofs.Common.{◌≡◌, sym, ◌∙◌, ap, arith}
 use Rattle.fv_outside.proofs.States.{told_before}
-use Rattle.fv_top.specs.Loading.{IsUnplayable}
+use Rattle.fv_top.specs.Promise.{HasNoInput}
 use Rattle.fv_top.specs.Wave.{data_of, rate_of}
 use Rattle.fv_top.proofs.Loads.{stops_unsupported}
 use Rattle.fv_top.proofs.PlainInputs.{passes, passes_size, fails_plain, lacks_plain, loads_plain}
@@ -8,13 +8,13 @@ use Rattle.fv_top.proofs.input.load_input.Goals as goal
 
 pub returns-then-not-is_plain-clause-err : goal.returns-then-not-is_plain-clause-err
 returns-then-not-is_plain-clause-err g c =
-    stops_unsupported _ _ (IsUnplayable c.args.name.now (g.D.Desk.state c.args.desk.now).files) (g.D.Desk.state c.args.desk.now) (g.D.Desk.state c.read_head.new.desk) c.unsupported.result c.unsupported.ensures (λ t.
+    stops_unsupported _ _ (HasNoInput c.args.name.now (g.D.Desk.state c.args.desk.now).files) (g.D.Desk.state c.args.desk.now) (g.D.Desk.state c.read_head.new.desk) c.unsupported.result c.unsupported.ensures (λ t.
     let read = c.in-Ok.ensures.bytes t in
     record { bytes = read.0; file = read.1 t; not_plain = fails_plain read.0 _ (c.deref.ensures.value ∙ read.2) c.if-not-is_plain.ensures })
 
 pub returns-then-len-size-clause-err : goal.returns-then-len-size-clause-err
 returns-then-len-size-clause-err g c =
-    stops_unsupported _ _ (IsUnplayable c.args.name.now (g.D.Desk.state c.args.desk.now).files) (g.D.Desk.state c.args.desk.now) (g.D.Desk.state c.read_up_to.new.desk) c.unsupported-then-len-size.result c.unsupported-then-len-size.ensures (λ t.
+    stops_unsupported _ _ (HasNoInput c.args.name.now (g.D.Desk.state c.args.desk.now).files) (g.D.Desk.state c.args.desk.now) (g.D.Desk.state c.read_up_to.new.desk) c.unsupported-then-len-size.result c.unsupported-then-len-size.ensures (λ t.
     let read = c.in-Ok.ensures.bytes t in
     let taken = c.in-Ok-read_up_to.ensures.taken (told_before c.in-Ok.ensures.quiet.goes_on t) in
     record {

@@ -1,25 +1,26 @@
-use Rattle.std.proofs.Common.{sym, ◌∙◌, ap, subst, Some}
-use Rattle.fv_diagram.specs.Diagram.{Diagram}
-use Rattle.fv_first.specs.Grammar.{IsProgram}
-use Rattle.fv_top.specs.Loading.{IsUnspelled}
-use Rattle.fv_top.proofs.Texts.{whole_text, no_text}
-use Rattle.fv_top.proofs.Loads.{stops_unsupported}
+use Rattle.std.proofs.Common.{◌∙◌, ap, Some}
+use Rattle.std.proofs.lemmas.Result.{err_from_is_err_and}
+use Rattle.fv_outside.specs.declared.role.Role.TheVariants.{Program}
+use Rattle.fv_top.specs.Program.{IsRefusedText}
+use Rattle.fv_top.specs.Promise.{HasNoProgram}
+use Rattle.fv_top.proofs.Texts.{whole_text, whole_refused}
+use Rattle.fv_top.proofs.Loads.{stops_refused}
 use Rattle.fv_top.proofs.program.load_program.Goals as goal
 
-pub returns-in-Some-clause-spelled : goal.returns-in-Some-clause-spelled
-returns-in-Some-clause-spelled g c =
-    let found = rw c.in-Some.is at c.in_ok-program.ensures.found in
-    let spelled = rw c.deref.ensures.value at found in (
-      c.in-Ok.text.items,
-      λ t.
-          let read = c.in-Ok.ensures.bytes t in
-          read.1 t ∙ ap Some (whole_text read.0 c.in-Ok.text.items read.2 spelled.short),
-      spelled,
-    )
-
-pub returns-clause-err : goal.returns-clause-err
-returns-clause-err g c =
-    let none = rw c.in-None.is at c.in_ok-program.ensures.refused in
-    stops_unsupported _ _ (IsUnspelled c.args.name.now (g.D.Desk.state c.args.desk.now).files) (g.D.Desk.state c.args.desk.now) (g.D.Desk.state c.read_text.new.desk) c.unsupported.result c.unsupported.ensures (λ t.
+pub returns-in_err-program-clause-err : goal.returns-in_err-program-clause-err
+returns-in_err-program-clause-err g c =
+    let state = g.D.Desk.state in
+    let p = err_from_is_err_and c.from_residual.result c.from_residual.ensures.1 in
+    rw (p.1, p.2) (stops_refused Program (HasNoProgram c.args.name.now (state c.args.desk.now).files) (IsRefusedText c.deref.result.now) (state c.args.desk.now) (state c.read_text.new.desk) _
+    c.in_err-program.ensures.refused (λ t h.
     let read = c.in-Ok.ensures.bytes t in
-    record { text = read.0; file = read.1 t; none = no_text read.0 _ (c.deref.ensures.value ∙ read.2) none })
+    record { text = read.0; file = read.1 t; refused = whole_refused read.0 c.deref.result.now _ (c.deref.ensures.value ∙ read.2) h }))
+
+pub returns-clause-spelled : goal.returns-clause-spelled
+returns-clause-spelled g c = (
+  c.deref.result.now,
+  λ t.
+      let read = c.in-Ok.ensures.bytes t in
+      read.1 t ∙ ap Some (whole_text read.0 c.deref.result.now _ (c.deref.ensures.value ∙ read.2) c.in_ok-program.ensures.found),
+  c.in_ok-program.ensures.found,
+)

@@ -1,4 +1,4 @@
-use Rattle.std.proofs.Common.{map, refl}
+use Rattle.std.proofs.Common.{map}
 use Rattle.std.specs.Prelude.{string_bytes}
 use Rattle.fv_outside.proofs.States.{quiet_self}
 use Rattle.fv_top.specs.Words.{Names}

@@ -1,4 +1,4 @@
-use Rattle.std.proofs.Common.{rules, ◌++◌, sym, ◌∙◌, ap, append_assoc, w32, SFits}
+use Rattle.std.proofs.Common.{rules, ◌++◌, ◌∙◌, ap, w32, SFits}
 use Rattle.std.proofs.lemmas.Int.{to_z-of_z}
 use Rattle.fv_top.specs.Wave.{sample_bytes}
 use Rattle.fv_top.proofs.Sounds.{samples_more}

@@ -1,4 +1,4 @@
-use Rattle.std.proofs.Common.{◌≡◌, ℕ, ◌+◌, ◌/◌, [], ◌∷◌, ◌++◌, List, length, take, map, get_or, ℤ, pos, sym, ◌∙◌, ap, arith, rules, subst, refl, add-one, suc}
+use Rattle.std.proofs.Common.{◌≡◌, ◌+◌, [], ◌∷◌, ◌++◌, List, length, take, map, ℤ, sym, ◌∙◌, ap, arith, rules, subst, refl, add-one}
 use Rattle.std.specs.Prelude.{flat_map}
 use Rattle.std.proofs.lemmas.List.{append-nil, take_all, length-take}
 use Rattle.fv_num.specs.Frames.{Frame, column}

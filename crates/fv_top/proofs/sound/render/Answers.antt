@@ -1,4 +1,4 @@
-use Rattle.std.proofs.Common.{◌≡◌, ◌*◌, ◌/◌, [], ◌∷◌, ◌++◌, List, length, map, ℤ, sym, ◌∙◌, ap, arith, rules, subst, refl}
+use Rattle.std.proofs.Common.{◌≡◌, ◌/◌, [], ◌∷◌, ◌++◌, List, length, map, ℤ, ◌∙◌, ap, arith}
 use Rattle.fv_num.specs.Frames.{Frame}
 use Rattle.fv_diagram.specs.Arena.{tree_of}
 use Rattle.fv_top.specs.Controls.{control_streams}

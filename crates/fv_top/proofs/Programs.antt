@@ -1,0 +1,86 @@
+-- A text is a program of one diagram, or it is refused.
+use Rattle.std.proofs.Common.{◌≡◌, ◌⊎◌, ℕ, List, Ok, Err, sym, ◌∙◌, ap, subst, inl, inr}
+use Rattle.std.specs.Prelude.{codes}
+use Rattle.fv_lex.specs.declared.refusal.LexRefusal.{LexRefusal}
+use Rattle.fv_lex.specs.declared.refusal.LexRefusal.TheVariants as bytes
+use Rattle.fv_lex.specs.Token.{Lexed}
+use Rattle.fv_lex.specs.Cuts.{HasTokens, HasRefusal as HasBytesRefusal, HasAtMostOne}
+use Rattle.fv_grammar.specs.Tree.{Tree}
+use Rattle.fv_grammar.specs.Grammar.{SpelledOnce}
+use Rattle.fv_parse.specs.declared.refusal.ParseRefusal.{ParseRefusal}
+use Rattle.fv_parse.specs.declared.refusal.ParseRefusal.TheVariants as tokens
+use Rattle.fv_parse.specs.Outcomes.{IsSpelled, HasRefusal as HasTokensRefusal, unsupported, syntax_error, refused_tree}
+use Rattle.fv_diagram.specs.Diagram.{Diagram}
+use Rattle.fv_small.specs.Small.{IsSmall, IsNotSmall, SmallOnce}
+use Rattle.fv_top.specs.declared.refusal.Refusal.{Refusal}
+use Rattle.fv_top.specs.declared.refusal.Refusal.TheVariants.{Unsupported, NoMemory}
+use Rattle.fv_top.specs.Program.{IsProgram, IsAccepted, IsRefusedText, bad_bytes, bad_tokens, not_small, of_bytes, of_tokens}
+use Rattle.fv_top.specs.Promise.{IsOfFiles}
+
+-- one text has one list of tokens
+one_list : (text : List ℕ) (a b : Lexed) → HasAtMostOne → HasTokens text a → HasTokens text b → a ≡ b
+one_list text a b once p q = let e = once text (Ok a) (Ok b) p q in cc
+
+-- and these spell one tree
+one_tree : (l : Lexed) (x y : Tree) → SpelledOnce → IsSpelled l x → IsSpelled l y → x ≡ y
+one_tree l x y once p q = once _ x y p q
+
+-- two programs of one text have one list of tokens and one tree
+small_of : (text : List ℕ) (d e : Diagram) → HasAtMostOne → SpelledOnce → (p : IsProgram text d) → (q : IsProgram text e) → IsSmall p.lexed p.tree e
+small_of text d e lexed spelled p q =
+    let l = one_list text q.lexed p.lexed lexed q.cut p.cut in
+    let there : IsSpelled p.lexed q.tree = subst (λ (w : Lexed). IsSpelled w q.tree) l q.accepted.spelled in
+    let x = one_tree p.lexed q.tree p.tree spelled there p.accepted.spelled in
+    subst (λ (t : Tree). IsSmall p.lexed t e) x (subst (λ (w : Lexed). IsSmall w q.tree e) l q.small)
+
+pub one_diagram : (text : List ℕ) (d e : Diagram) → HasAtMostOne → SpelledOnce → SmallOnce → IsProgram text d → IsProgram text e → d ≡ e
+one_diagram text d e lexed spelled small p q = small p.lexed p.tree d e p.small (small_of text d e lexed spelled p q)
+
+-- accepted tokens have no refusal
+accepted_tokens : (l : Lexed) (x : Tree) (e : ParseRefusal) → SpelledOnce → IsAccepted l x → HasTokensRefusal l e → ⊥
+accepted_tokens l x e spelled a (unsupported h) = let s = a.supported in cc
+accepted_tokens l x e spelled a (syntax_error s none) = none x a.spelled
+accepted_tokens l x e spelled a (refused_tree s is some) =
+    let same = one_tree l _ x spelled is a.spelled in
+    let h = a.accepted in
+    let g = rw same at some in
+    cc
+
+pub not_both : (text : List ℕ) (d : Diagram) (refusal : Refusal) → HasAtMostOne → SpelledOnce → IsProgram text d → IsRefusedText text refusal → ⊥
+not_both text d refusal lexed spelled p (bad_bytes e h is) = let q = lexed text (Ok p.lexed) (Err e) p.cut h in cc
+not_both text d refusal lexed spelled p (bad_tokens l e h has is) =
+    accepted_tokens p.lexed p.tree e spelled p.accepted (subst (λ (w : Lexed). HasTokensRefusal w e) (one_list text l p.lexed lexed h p.cut) has)
+not_both text d refusal lexed spelled p (not_small l x h a none is) =
+    let same = one_list text p.lexed l lexed p.cut h in
+    let there : IsSpelled l p.tree = subst (λ (w : Lexed). IsSpelled w p.tree) same p.accepted.spelled in
+    let tree = one_tree l p.tree x spelled there a.spelled in
+    none d (subst (λ (t : Tree). IsSmall l t d) tree (subst (λ (w : Lexed). IsSmall w p.tree d) same p.small))
+
+-- refusals of the bytes and of the tokens speak of a file, but want of memory
+pub bytes_stop : (text : List ℕ) (e : LexRefusal) (refusal : Refusal) → refusal ≡ of_bytes e → (e ≡ bytes.NoMemory) ⊎ HasBytesRefusal text e →
+    (refusal ≡ NoMemory) ⊎ (IsOfFiles refusal × IsRefusedText text refusal)
+bytes_stop text e refusal is (inl m) = inl (is ∙ ap of_bytes m)
+bytes_stop text (bytes.TextTooLong role) refusal is (inr h) = inr (subst IsOfFiles (sym is) tt, bad_bytes _ h is)
+bytes_stop text (bytes.BadByte line column) refusal is (inr h) = inr (subst IsOfFiles (sym is) tt, bad_bytes _ h is)
+bytes_stop text (bytes.Unclosed line column) refusal is (inr h) = inr (subst IsOfFiles (sym is) tt, bad_bytes _ h is)
+bytes_stop text (bytes.RealLiteral line column) refusal is (inr h) = inr (subst IsOfFiles (sym is) tt, bad_bytes _ h is)
+bytes_stop text (bytes.LiteralTooLarge line column) refusal is (inr h) = inr (subst IsOfFiles (sym is) tt, bad_bytes _ h is)
+bytes_stop text (bytes.Nesting line column) refusal is (inr h) = inr (subst IsOfFiles (sym is) tt, bad_bytes _ h is)
+bytes_stop text bytes.NoMemory refusal is (inr h) = inl is
+
+pub tokens_stop : (text : List ℕ) (l : Lexed) (e : ParseRefusal) (refusal : Refusal) → HasTokens text l → refusal ≡ of_tokens e → (e ≡ tokens.NoMemory) ⊎ HasTokensRefusal l e →
+    (refusal ≡ NoMemory) ⊎ (IsOfFiles refusal × IsRefusedText text refusal)
+tokens_stop text l e refusal has is (inl m) = inl (is ∙ ap of_tokens m)
+tokens_stop text l (tokens.Syntax line column) refusal has is (inr h) = inr (subst IsOfFiles (sym is) tt, bad_tokens l _ has h is)
+tokens_stop text l (tokens.Unsupported word) refusal has is (inr h) = inr (subst IsOfFiles (sym is) tt, bad_tokens l _ has h is)
+tokens_stop text l (tokens.Redefined name) refusal has is (inr h) = inr (subst IsOfFiles (sym is) tt, bad_tokens l _ has h is)
+tokens_stop text l (tokens.RepeatedName name) refusal has is (inr h) = inr (subst IsOfFiles (sym is) tt, bad_tokens l _ has h is)
+tokens_stop text l (tokens.RuleWidths line column) refusal has is (inr h) = inr (subst IsOfFiles (sym is) tt, bad_tokens l _ has h is)
+tokens_stop text l tokens.NoProcess refusal has is (inr h) = inr (subst IsOfFiles (sym is) tt, bad_tokens l _ has h is)
+tokens_stop text l tokens.NoMemory refusal has is (inr h) = inl is
+
+-- and so does that of a tree that is not small
+pub tree_stops : (text : List ℕ) (l : Lexed) (x : Tree) (refusal : Refusal) → HasTokens text l → IsAccepted l x → IsNotSmall l x →
+    (refusal ≡ Unsupported (codes "program")) ⊎ (refusal ≡ NoMemory) → (refusal ≡ NoMemory) ⊎ (IsOfFiles refusal × IsRefusedText text refusal)
+tree_stops text l x refusal has a none (inl is) = inr (subst IsOfFiles (sym is) tt, not_small l x has a none is)
+tree_stops text l x refusal has a none (inr m) = inl m

@@ -1,0 +1,23 @@
+use Rattle.std.proofs.lemmas.Result.{err_from_is_err_and}
+use Rattle.fv_top.proofs.Programs.{bytes_stop, tokens_stop, tree_stops}
+use Rattle.fv_top.proofs.text.read_program.Goals as goal
+
+pub parse-requires : goal.parse-requires
+parse-requires c = (c.args.text.now, c.in_ok-tokens.ensures.tokens)
+
+pub returns-in_err-tokens-clause-refused : goal.returns-in_err-tokens-clause-refused
+returns-in_err-tokens-clause-refused c =
+    let p = err_from_is_err_and c.from_residual.result c.from_residual.ensures.1 in
+    rw p.1 (bytes_stop c.args.text.now _ _ p.2 c.in_err-tokens.ensures.refusal)
+
+pub returns-in_err-tree-clause-refused : goal.returns-in_err-tree-clause-refused
+returns-in_err-tree-clause-refused c =
+    let p = err_from_is_err_and c.from_residual-in_err-tree.result c.from_residual-in_err-tree.ensures.1 in
+    rw p.1 (tokens_stop c.args.text.now _ _ _ c.in_ok-tokens.ensures.tokens p.2 c.in_err-tree.ensures.refusal)
+
+pub returns-clause-refused : goal.returns-clause-refused
+returns-clause-refused c =
+    let tree = c.in_ok-tree.ensures.tree in
+    let none = rw c.in-None.is at c.in_ok-program.ensures.refused in
+    let none = rw tree.tokens at none in
+    tree_stops c.args.text.now _ _ _ c.in_ok-tokens.ensures.tokens (record { supported = tree.supported; spelled = tree.spelled; accepted = tree.accepted }) none c.unsupported.ensures
