@@ -1,5 +1,5 @@
 -- Each node's tree is over the trees of the whole arena.
-use Rattle.std.proofs.Common.{◌≡◌, ℕ, zero, suc, ◌+◌, ◌<◌, ◌≤◌, List, [], ◌∷◌, ◌++◌, length, Option, Some, None, refl, sym, ap, subst, ◌∙◌, arith}
+use Rattle.std.proofs.Common.{◌≡◌, ℕ, zero, suc, ◌+◌, ◌<◌, ◌≤◌, List, [], ◌∷◌, ◌++◌, length, Some, None, refl, sym, ap, subst, ◌∙◌, arith}
 use Rattle.std.specs.Prelude.{slice_get, unwrap_or, option_map}
 use Rattle.std.proofs.Common.{get_or}
 use Rattle.std.proofs.lemmas.Option.{slice_get_read, slice_get-map}
@@ -11,7 +11,7 @@ use Rattle.fv_tree.specs.declared.node.TreeId.{TreeId}
 use Rattle.fv_tree.specs.declared.node.TreeNode.{TreeNode}
 use Rattle.fv_tree.specs.declared.node.TreeNode.TheVariants as nodes
 use Rattle.fv_grammar.specs.Tree.{Tree, End, Group, Abstraction, Case, Iteration, Ports, Slider, Panel, Delayed, Apply, Binary, Where, Rule, Constant, Function}
-use Rattle.fv_tree.specs.Arena.{nth, tree_at, tree_of, grow, trees, Keeps, forest, AllBelow, PartsBelow, AreOver}
+use Rattle.fv_tree.specs.Arena.{nth, tree_at, tree_of, grow, trees, Keeps, forest, PartsBelow, AreOver}
 use Rattle.fv_tree.proofs.Arenas.{Keeps-trans, Keeps-refl, forest_keeps, AllBelow-keeps, at_front, at_last}
 
 pub grow_keeps : (done : List Tree) (es : List Entry) → Keeps done (grow done es)

@@ -1,5 +1,5 @@
 -- What refuses a program that is spelled (this project's profile).
-use Rattle.std.specs.Prelude.{◌≡◌, ℕ, suc, ◌+◌, Bool, true, false, ◌&&◌, ◌||◌, nat_eq, nat_lt, nat_le, List, [], ◌∷◌, ◌++◌, length, map, Option, Some, None, if◌then◌else◌}
+use Rattle.std.specs.Prelude.{ℕ, Bool, true, false, ◌&&◌, ◌||◌, nat_eq, nat_lt, nat_le, List, [], ◌∷◌, ◌++◌, length, map, Option, Some, None, if◌then◌else◌}
 use Rattle.std.specs.Str.{bytes_eq}
 use Rattle.fv_lex.specs.Token.{Lexed}
 use Rattle.fv_tree.specs.declared.node.TreeId.{TreeId}
@@ -13,7 +13,7 @@ use Rattle.fv_parse.specs.declared.flaw.Among.{Among}
 use Rattle.fv_parse.specs.declared.flaw.Among.TheVariants as among
 use Rattle.fv_parse.specs.declared.refusal.ParseRefusal.{ParseRefusal}
 use Rattle.fv_parse.specs.declared.refusal.ParseRefusal.TheVariants as refusals
-use Rattle.fv_grammar.specs.Tree.{Tree, Named, Group, Abstraction, Case, Iteration, Ports, Slider, Panel, Delayed, Apply, Binary, Where, Rule, Constant, Function, End, More}
+use Rattle.fv_grammar.specs.Tree.{Tree, Named, Group, Abstraction, Case, Iteration, Ports, Slider, Panel, Delayed, Apply, Binary, Where, Rule, Constant, Function, More}
 use Rattle.fv_tree.specs.Arena.{tree_at}
 use Rattle.fv_parse.specs.Trees.{text_of, place_at}
 use Rattle.fv_parse.specs.Contents.{first_of, definitions_of, has_process}

@@ -1,6 +1,5 @@
 -- What parsing answers.
-use Rattle.std.specs.Prelude.{◌≡◌, ◌⊎◌, ℕ, ◌<◌, true, false, List, length, Option, Some, None, Result, Ok, Err}
-use Rattle.fv_lex.specs.declared.token.Symbol.{Symbol}
+use Rattle.std.specs.Prelude.{◌≡◌, ◌⊎◌, ℕ, List, Some, None, Result, Ok, Err}
 use Rattle.fv_lex.specs.Token.{Lexed, symbols_of}
 use Rattle.fv_grammar.specs.Tree.{Tree as Spelled}
 use Rattle.fv_grammar.specs.Grammar.{SpellsProgram}

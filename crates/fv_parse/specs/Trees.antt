@@ -1,5 +1,5 @@
 -- A tree, as contracts see it: the tokens, the nodes and the number of the outermost list.
-use Rattle.std.specs.Prelude.{◌≡◌, ℕ, ◌-◌, List, [], ◌∷◌, length, map, slice_get, unwrap_or}
+use Rattle.std.specs.Prelude.{ℕ, ◌-◌, List, [], length, map, slice_get, unwrap_or}
 use Rattle.fv_lex.specs.declared.token.Place.{Place}
 use Rattle.fv_lex.specs.Token.{Lexed, places_of, texts_of}
 use Rattle.fv_grammar.specs.Tree.{Tree as Spelled}

@@ -102,13 +102,7 @@ fn flaw_among(flaws: &[Option<Flaw>], ids: &[TreeId]) -> Option<Flaw>
 }
 
 /// The first flaw of four parts.
-fn first_of_four(
-    flaws: &[Option<Flaw>],
-    a: TreeId,
-    b: TreeId,
-    c: TreeId,
-    d: TreeId,
-) -> Option<Flaw>
+fn first_of_four(flaws: &[Option<Flaw>], a: TreeId, b: TreeId, c: TreeId, d: TreeId) -> Option<Flaw>
     requires a { a.0 < length flaws.now }
     requires b { b.0 < length flaws.now }
     requires c { c.0 < length flaws.now }

@@ -1,4 +1,4 @@
-use Rattle.std.proofs.Common.{◌≡◌, ◌<◌, ◌∙◌, length, get_or, take, map, None, ap, sym, arith}
+use Rattle.std.proofs.Common.{◌≡◌, ◌<◌, ◌∙◌, length, get_or, map, None, ap, sym, arith}
 use Rattle.fv_tree.specs.Arena.{trees, tree_at}
 use Rattle.fv_parse.specs.Flaws.{earlier, redefined, flaw_of}
 use Rattle.fv_tree.proofs.Arenas.{length_trees}
