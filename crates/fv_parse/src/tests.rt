@@ -179,7 +179,7 @@ fn repeated(
     Ok(text)
 }
 
-/// How many nodes the tree of a text has.
+/// How many nodes the tree of a text has below its list of definitions.
 fn nodes(alloc: Global, text: &[u8]) -> Result<u64, Fail> {
     let found = tokens(alloc, text)?;
     let tree = parse(alloc, &found)?;
@@ -191,10 +191,13 @@ fn as_deep_as_may_be(rt: HostRuntime) -> Result<(), Fail> {
     let open = repeated(rt.alloc(), b"process = ", b"(", 128, b"_")?;
     let text = repeated(rt.alloc(), &open, b")", 128, b";")?;
     assert_eq!(rt; nodes(rt.alloc(), &text)?, 130);
+    let open = repeated(rt.alloc(), b"process = ", b"_ with { a = ", 128, b"_")?;
+    let text = repeated(rt.alloc(), &open, b"; }", 128, b";")?;
+    assert_eq!(rt; nodes(rt.alloc(), &text)?, 514);
     Ok(())
 }
 
-// 524,283 wires one behind another, and each of the 524,282 signs.
+// 524,283 wires, 524,282 signs that join them, and the definition.
 #[test]
 fn a_chain_as_long_as_may_be(rt: HostRuntime) -> Result<(), Fail> {
     let text = repeated(rt.alloc(), b"process = _", b":_", 524_282, b";")?;

@@ -3,12 +3,10 @@
 ghost use Rattle.std.specs.Prelude.{◌≡◌, ℕ, ◌<◌, ◌⊎◌, List, length, Some, IfOk, IfErr};
 ghost use Rattle.fv_grammar.specs.Tree.{Tree as Spelled};
 ghost use Rattle.fv_parse.specs.declared.refusal.ParseRefusal.TheVariants.{NoMemory};
-ghost use Rattle.fv_tree.specs.Arena.{AreOver};
+ghost use Rattle.fv_tree.specs.Arena.{trees, tree_at, AreOver};
 ghost use Rattle.fv_parse.specs.Trees.{program_of};
 ghost use Rattle.fv_parse.specs.Flaws.{flaw_refusal, refused};
 ghost use Rattle.fv_lex.specs.Cuts.{HasTokens};
-ghost use Rattle.fv_grammar.specs.Descent.{program};
-ghost use Rattle.fv_tree.specs.Arena.{trees, tree_at};
 ghost use Rattle.fv_parse.specs.Outcomes.{Finishes, HasTree, HasRefusal, IsSpelled};
 
 use crate::flaw::{Flaw, FlawKind};
