@@ -1,39 +1,20 @@
 -- A whole program.
-use Rattle.std.proofs.Common.{◌≡◌, ℕ, ◌<◌, ◌≤◌, List, [], ◌∷◌, length, Option, Some, None, Result, Ok, Err, inl, inr, ◌⊎◌, refl, sym, ap, subst, ◌∙◌, arith}
+use Rattle.std.proofs.Common.{◌≡◌, List, None, Result, Ok, Err, inl, inr, ◌⊎◌, sym, subst, ◌∙◌}
 use Rattle.std.specs.Prelude.{IfOk, IfErr}
 use Rattle.fv_lex.specs.declared.token.Symbol.{Symbol}
 use Rattle.fv_lex.specs.Token.{Lexed, symbols_of}
-use Rattle.fv_grammar.specs.declared.symbol.Items.TheVariants.{Statements}
 use Rattle.fv_grammar.specs.Tree.{Tree as Spelled}
 use Rattle.fv_grammar.specs.Nesting.{Nests}
-use Rattle.fv_grammar.specs.Descent.{Step, program, further, within}
+use Rattle.fv_grammar.specs.Descent.{program}
 use Rattle.fv_grammar.proofs.Complete.{program_complete, one_program}
 use Rattle.fv_grammar.proofs.Sound.{program_sound}
-use Rattle.fv_parse.specs.declared.node.TreeId.{TreeId}
-use Rattle.fv_parse.specs.declared.single.Fault.{Fault}
 use Rattle.fv_parse.specs.declared.refusal.ParseRefusal.{ParseRefusal}
 use Rattle.fv_parse.specs.declared.refusal.ParseRefusal.TheVariants as refusals
-use Rattle.fv_parse.specs.Gives.{Fails, Found, in_front}
 use Rattle.fv_parse.specs.Trees.{Parsed, program_of}
 use Rattle.fv_parse.specs.Outcomes.{IsSupported, IsSpelled, HasTree, HasRefusal, refused_tree, Finishes}
 use Rattle.fv_parse.specs.Flaws.{refused}
-use Rattle.fv_parse.proofs.Arenas.{fails_by}
 
--- ---- the end of the text
-pub stopped : (n : ℕ) (ts : List Symbol) (e : Fault) → Fails e (further (within n) Statements ts) → Fails e (program n ts)
-unfolding program
-stopped n ts e f = fails_by e (further (within n) Statements ts) (program n ts) f (λ at g. rw g refl)
-
-pub ended : (n : ℕ) (ts rest : List Symbol) (x : Spelled) → further (within n) Statements ts ≡ Ok (x, rest) → length rest < 1 → program n ts ≡ Ok x
-unfolding program
-ended n ts [] x e h = rw e refl
-ended n ts (t ∷ rest) x e h = absurd (omega arith)
-
-pub went_on : (n : ℕ) (ts rest : List Symbol) (x : Spelled) → further (within n) Statements ts ≡ Ok (x, rest) → 1 ≤ length rest → program n ts ≡ Err rest
-unfolding program
-went_on n ts [] x e h = absurd (omega arith)
-went_on n ts (t ∷ rest) x e h = rw e refl
-
+-- ---- no tree
 pub no_tree : (l : Lexed) (at : List Symbol) → Nests 128 0 (symbols_of l.tokens) → program 128 (symbols_of l.tokens) ≡ Err at → (x : Spelled) → IsSpelled l x → ⊥
 no_tree l at nests e x s = let read = program_complete (symbols_of l.tokens) x 128 s nests in cc
 
@@ -57,12 +38,3 @@ refusal_answer l x (Err e) supported read f = elim f [
 pub only_answer : (l : Lexed) (x : Spelled) (r : Result Parsed ParseRefusal) → program 128 (symbols_of l.tokens) ≡ Ok x → Finishes l x r → IfOk r (λ p. (y : Spelled) → IsSpelled l y → y ≡ program_of p)
 only_answer l x (Ok p) read f = λ y s. one_program (symbols_of l.tokens) y x s (program_sound 128 (symbols_of l.tokens) x read) ∙ sym f.1
 only_answer l x (Err e) read f = tt
-
--- a list that begins with nothing
-pub front_fails : (e : Fault) (ts : List Spelled) (read : Step Spelled) → Fails e (in_front ts [] read) → Fails e read
-front_fails e ts (Ok x) f = f
-front_fails e ts (Err at) f = f
-
-pub front_found : (old new : List Spelled) (id : TreeId) (rest : List Symbol) (ts : List Spelled) (read : Step Spelled) → Found old new id rest (in_front ts [] read) → Found old new id rest read
-front_found old new id rest ts (Ok x) f = record { keeps = f.keeps; inside = f.inside; is = f.is }
-front_found old new id rest ts (Err at) f = record { keeps = f.keeps; inside = f.inside; is = f.is }

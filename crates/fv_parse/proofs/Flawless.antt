@@ -1,18 +1,17 @@
 -- The first flaw, a step at a time.
-use Rattle.std.proofs.Common.{◌≡◌, ℕ, zero, suc, ◌+◌, ◌-◌, ◌<◌, ◌≤◌, Bool, true, false, List, [], ◌∷◌, ◌++◌, length, take, drop, map, get_or, Option, Some, None, refl, sym, ap, subst, ◌∙◌, arith, append_assoc}
-use Rattle.std.proofs.lemmas.List.{append-nil, length-append}
+use Rattle.std.proofs.Common.{◌≡◌, ℕ, zero, suc, ◌+◌, ◌-◌, ◌<◌, ◌≤◌, List, [], ◌∷◌, ◌++◌, length, take, drop, map, get_or, Option, None, refl, sym, ap, subst, ◌∙◌, arith, append_assoc}
+use Rattle.std.proofs.lemmas.List.{append-nil}
 use Rattle.fv_lex.specs.Token.{Lexed}
-use Rattle.fv_parse.specs.declared.node.TreeId.{TreeId}
-use Rattle.fv_parse.specs.declared.node.TreeNode.{TreeNode}
-use Rattle.fv_parse.specs.declared.node.TreeNode.TheVariants as nodes
-use Rattle.fv_parse.specs.declared.arena.Entry.{Entry}
+use Rattle.fv_tree.specs.declared.node.TreeId.{TreeId}
+use Rattle.fv_tree.specs.declared.node.TreeNode.{TreeNode}
+use Rattle.fv_tree.specs.declared.node.TreeNode.TheVariants as nodes
 use Rattle.fv_parse.specs.declared.program.Defined.{Defined}
 use Rattle.fv_parse.specs.declared.flaw.Flaw.{Flaw}
 use Rattle.fv_grammar.specs.Tree.{Tree, End}
-use Rattle.fv_parse.specs.Arena.{nth, tree_at, tree_of, trees, forest, AllBelow, PartsBelow, AreOver}
+use Rattle.fv_tree.specs.Arena.{nth, tree_at, tree_of, forest, AllBelow, PartsBelow}
 use Rattle.fv_parse.specs.Flaws.{earlier, names_in, flaw_of, flaw_among, flaw_in}
 use Rattle.fv_parse.specs.Pending.{pushed, under, visits, weight, visited, visited_names}
-use Rattle.fv_parse.proofs.Arenas.{AllBelow-append}
+use Rattle.fv_tree.proofs.Arenas.{AllBelow-append}
 use Rattle.fv_parse.proofs.Lists.{drop_step}
 
 pub take_step : {A : Type 0} (xs : List A) (i : ℕ) (d : A) → i < length xs → take (i + 1) xs ≡ take i xs ++ get_or xs i d ∷ []

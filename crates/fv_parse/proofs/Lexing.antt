@@ -1,5 +1,5 @@
 -- The tokens of a text nest no deeper than 128 brackets.
-use Rattle.std.proofs.Common.{◌≡◌, ℕ, zero, suc, ◌+◌, ◌-◌, ◌<◌, ◌≤◌, Bool, true, false, cond, List, [], ◌∷◌, ◌++◌, length, Option, Some, None, Result, Ok, Err, refl, sym, ap, subst, ◌∙◌, arith}
+use Rattle.std.proofs.Common.{◌≡◌, ℕ, zero, suc, ◌+◌, ◌-◌, ◌≤◌, Bool, true, false, cond, List, [], ◌∷◌, ◌++◌, length, Option, Some, None, Result, Ok, refl, sym, ap, subst, ◌∙◌, arith}
 use Rattle.std.specs.Prelude.{nat_eq, ◌&&◌, ◌||◌, unwrap_or}
 use Rattle.std.specs.List.{list_all}
 use Rattle.std.proofs.lemmas.Bool.{eqb-true}
@@ -12,9 +12,9 @@ use Rattle.fv_lex.specs.declared.token.Place.{Place}
 use Rattle.fv_lex.specs.declared.refusal.LexRefusal.{LexRefusal}
 use Rattle.fv_lex.specs.Token.{Token, Lexed, symbols_of}
 use Rattle.fv_lex.specs.Bytes.{is_blank}
-use Rattle.fv_lex.specs.Symbols.{at_byte, at_word, singles, after_less, after_greater, after_equals, double, sign, primitive_words, form_words, control_words, is_unsupported, word_symbol, symbol_of}
+use Rattle.fv_lex.specs.Symbols.{at_byte, at_word, singles, after_less, after_greater, after_equals, double, primitive_words, form_words, control_words, is_unsupported, word_symbol, symbol_of}
 use Rattle.fv_lex.specs.Pieces.{is_token, IsPiece, blank_byte, line_comment, block_comment, longest_token}
-use Rattle.fv_lex.specs.Cuts.{depth_after, Cut, Cuts, nothing_more, piece_first, tokens_of, token_of, place_after, first_place, end_of, answer_of, Has, HasTokens, too_long, cut}
+use Rattle.fv_lex.specs.Cuts.{depth_after, Cut, Cuts, nothing_more, piece_first, tokens_of, token_of, place_after, first_place, end_of, Has, HasTokens, too_long, cut}
 use Rattle.fv_grammar.specs.Nesting.{Nests, lowered}
 
 -- a symbol that is no bracket

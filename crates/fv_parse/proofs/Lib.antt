@@ -1,5 +1,3 @@
-pub mod Arenas
-pub mod Steps
 pub mod Nodes
 pub mod Lists
 pub mod Endings

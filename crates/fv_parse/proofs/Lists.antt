@@ -1,14 +1,14 @@
 -- Loops over lists, a step at a time.
-use Rattle.std.proofs.Common.{◌≡◌, ℕ, zero, suc, ◌+◌, ◌<◌, ◌≤◌, Bool, true, false, List, [], ◌∷◌, ◌++◌, length, drop, get_or, Option, Some, None, refl, sym, ap, ◌∙◌, arith, append_assoc, add-one, drop-cons}
+use Rattle.std.proofs.Common.{◌≡◌, ℕ, zero, suc, ◌+◌, ◌<◌, ◌≤◌, true, false, List, [], ◌∷◌, ◌++◌, length, drop, get_or, Option, Some, None, refl, sym, ap, ◌∙◌, arith, append_assoc, add-one, drop-cons}
 use Rattle.std.specs.Prelude.{slice_get, codes, ◌||◌}
 use Rattle.std.specs.Str.{bytes_eq}
 use Rattle.std.proofs.lemmas.List.{append-nil}
 use Rattle.fv_lex.specs.declared.token.Symbol.{Symbol}
 use Rattle.fv_lex.specs.Token.{Token, Lexed, symbols_of, texts_of}
 use Rattle.fv_grammar.specs.Tree.{Tree, End}
-use Rattle.fv_parse.specs.declared.node.TreeId.{TreeId}
+use Rattle.fv_tree.specs.declared.node.TreeId.{TreeId}
 use Rattle.fv_parse.specs.declared.program.Defined.{Defined}
-use Rattle.fv_parse.specs.Arena.{tree_at, forest, AllBelow}
+use Rattle.fv_tree.specs.Arena.{tree_at, forest, AllBelow}
 use Rattle.fv_parse.specs.Trees.{text_of}
 use Rattle.fv_parse.specs.Contents.{unsupported, first_of, unsupported_from, first_unsupported, defined_by, in_list, definitions_of, has_process}
 

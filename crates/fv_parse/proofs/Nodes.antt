@@ -1,18 +1,18 @@
 -- Each node's tree is over the trees of the whole arena.
-use Rattle.std.proofs.Common.{◌≡◌, ℕ, zero, suc, ◌+◌, ◌<◌, ◌≤◌, List, [], ◌∷◌, ◌++◌, length, Option, Some, None, refl, sym, ap, subst, ◌∙◌, arith}
+use Rattle.std.proofs.Common.{◌≡◌, ℕ, zero, suc, ◌+◌, ◌<◌, ◌≤◌, List, [], ◌∷◌, ◌++◌, length, Some, None, refl, sym, ap, subst, ◌∙◌, arith}
 use Rattle.std.specs.Prelude.{slice_get, unwrap_or, option_map}
 use Rattle.std.proofs.Common.{get_or}
 use Rattle.std.proofs.lemmas.Option.{slice_get_read, slice_get-map}
 use Rattle.fv_parse.specs.Trees.{starts_of}
 use Rattle.fv_parse.specs.Contents.{count, count_in, defined_by, defined_in, definitions_of, definitions_in}
 use Rattle.std.proofs.lemmas.List.{length-append}
-use Rattle.fv_parse.specs.declared.arena.Entry.{Entry}
-use Rattle.fv_parse.specs.declared.node.TreeId.{TreeId}
-use Rattle.fv_parse.specs.declared.node.TreeNode.{TreeNode}
-use Rattle.fv_parse.specs.declared.node.TreeNode.TheVariants as nodes
+use Rattle.fv_tree.specs.declared.arena.Entry.{Entry}
+use Rattle.fv_tree.specs.declared.node.TreeId.{TreeId}
+use Rattle.fv_tree.specs.declared.node.TreeNode.{TreeNode}
+use Rattle.fv_tree.specs.declared.node.TreeNode.TheVariants as nodes
 use Rattle.fv_grammar.specs.Tree.{Tree, End, Group, Abstraction, Case, Iteration, Ports, Slider, Panel, Delayed, Apply, Binary, Where, Rule, Constant, Function}
-use Rattle.fv_parse.specs.Arena.{nth, tree_at, tree_of, grow, trees, Keeps, forest, AllBelow, PartsBelow, AreOver}
-use Rattle.fv_parse.proofs.Arenas.{Keeps-trans, Keeps-refl, forest_keeps, AllBelow-keeps, at_front, at_last}
+use Rattle.fv_tree.specs.Arena.{nth, tree_at, tree_of, grow, trees, Keeps, forest, PartsBelow, AreOver}
+use Rattle.fv_tree.proofs.Arenas.{Keeps-trans, Keeps-refl, forest_keeps, AllBelow-keeps, at_front, at_last}
 
 pub grow_keeps : (done : List Tree) (es : List Entry) → Keeps done (grow done es)
 grow_keeps done [] = Keeps-refl done

@@ -1,15 +1,15 @@
 -- What a program has besides its spelling: no unsupported token, and a definition of `process`.
-use Rattle.std.specs.Prelude.{◌≡◌, ℕ, suc, ◌-◌, Bool, true, false, ◌&&◌, ◌||◌, nat_eq, codes, List, [], ◌∷◌, ◌++◌, length, Option, Some, None, Result, Ok, Err, IsTrue, if◌then◌else◌}
+use Rattle.std.specs.Prelude.{ℕ, suc, ◌-◌, Bool, true, false, ◌&&◌, ◌||◌, nat_eq, codes, List, [], ◌∷◌, ◌++◌, length, Option, Some, None}
 use Rattle.std.specs.List.{list_any}
 use Rattle.std.specs.Str.{bytes_eq}
 use Rattle.fv_lex.specs.declared.token.Symbol.{Symbol}
 use Rattle.fv_lex.specs.declared.token.Symbol.TheVariants as symbols
-use Rattle.fv_lex.specs.Token.{Token, Lexed, symbols_of}
-use Rattle.fv_parse.specs.declared.node.TreeNode.{TreeNode}
-use Rattle.fv_parse.specs.declared.node.TreeNode.TheVariants as nodes
+use Rattle.fv_lex.specs.Token.{Token, Lexed}
+use Rattle.fv_tree.specs.declared.node.TreeNode.{TreeNode}
+use Rattle.fv_tree.specs.declared.node.TreeNode.TheVariants as nodes
 use Rattle.fv_parse.specs.declared.program.Defined.{Defined}
 use Rattle.fv_grammar.specs.Tree.{Tree, Constant, Function, Rule, End, More}
-use Rattle.fv_parse.specs.Arena.{tree_at, forest}
+use Rattle.fv_tree.specs.Arena.{tree_at, forest}
 use Rattle.fv_parse.specs.Trees.{text_of}
 
 -- ---- unsupported tokens

@@ -1,10 +1,10 @@
 -- What refuses a program that is spelled (this project's profile).
-use Rattle.std.specs.Prelude.{◌≡◌, ℕ, suc, ◌+◌, Bool, true, false, ◌&&◌, ◌||◌, nat_eq, nat_lt, nat_le, List, [], ◌∷◌, ◌++◌, length, map, Option, Some, None, if◌then◌else◌}
+use Rattle.std.specs.Prelude.{ℕ, Bool, true, false, ◌&&◌, ◌||◌, nat_eq, nat_lt, nat_le, List, [], ◌∷◌, ◌++◌, length, map, Option, Some, None, if◌then◌else◌}
 use Rattle.std.specs.Str.{bytes_eq}
 use Rattle.fv_lex.specs.Token.{Lexed}
-use Rattle.fv_parse.specs.declared.node.TreeId.{TreeId}
-use Rattle.fv_parse.specs.declared.node.TreeNode.{TreeNode}
-use Rattle.fv_parse.specs.declared.node.TreeNode.TheVariants as nodes
+use Rattle.fv_tree.specs.declared.node.TreeId.{TreeId}
+use Rattle.fv_tree.specs.declared.node.TreeNode.{TreeNode}
+use Rattle.fv_tree.specs.declared.node.TreeNode.TheVariants as nodes
 use Rattle.fv_parse.specs.declared.program.Defined.{Defined}
 use Rattle.fv_parse.specs.declared.flaw.Flaw.{Flaw}
 use Rattle.fv_parse.specs.declared.flaw.FlawKind.{FlawKind}
@@ -13,8 +13,8 @@ use Rattle.fv_parse.specs.declared.flaw.Among.{Among}
 use Rattle.fv_parse.specs.declared.flaw.Among.TheVariants as among
 use Rattle.fv_parse.specs.declared.refusal.ParseRefusal.{ParseRefusal}
 use Rattle.fv_parse.specs.declared.refusal.ParseRefusal.TheVariants as refusals
-use Rattle.fv_grammar.specs.Tree.{Tree, Named, Group, Abstraction, Case, Iteration, Ports, Slider, Panel, Delayed, Apply, Binary, Where, Rule, Constant, Function, End, More}
-use Rattle.fv_parse.specs.Arena.{tree_at}
+use Rattle.fv_grammar.specs.Tree.{Tree, Named, Group, Abstraction, Case, Iteration, Ports, Slider, Panel, Delayed, Apply, Binary, Where, Rule, Constant, Function, More}
+use Rattle.fv_tree.specs.Arena.{tree_at}
 use Rattle.fv_parse.specs.Trees.{text_of, place_at}
 use Rattle.fv_parse.specs.Contents.{first_of, definitions_of, has_process}
 

@@ -1,5 +1,3 @@
-pub mod Arena
-pub mod Gives
 pub mod Trees
 pub mod Contents
 pub mod Flaws

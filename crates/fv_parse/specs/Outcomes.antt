@@ -1,16 +1,10 @@
 -- What parsing answers.
-use Rattle.std.specs.Prelude.{◌≡◌, ◌⊎◌, ℕ, ◌<◌, true, false, List, length, Option, Some, None, Result, Ok, Err}
-use Rattle.fv_lex.specs.declared.token.Symbol.{Symbol}
+use Rattle.std.specs.Prelude.{◌≡◌, ◌⊎◌, ℕ, List, Some, None, Result, Ok, Err}
 use Rattle.fv_lex.specs.Token.{Lexed, symbols_of}
 use Rattle.fv_grammar.specs.Tree.{Tree as Spelled}
 use Rattle.fv_grammar.specs.Grammar.{SpellsProgram}
-use Rattle.fv_parse.specs.declared.node.TreeId.{TreeId}
-use Rattle.fv_parse.specs.declared.arena.Entry.{Entry}
-use Rattle.fv_parse.specs.declared.single.Fault.{Fault}
 use Rattle.fv_parse.specs.declared.refusal.ParseRefusal.{ParseRefusal}
 use Rattle.fv_parse.specs.declared.refusal.ParseRefusal.TheVariants as refusals
-use Rattle.fv_parse.specs.Arena.{tree_at, trees}
-use Rattle.fv_parse.specs.Gives.{Fails}
 use Rattle.fv_parse.specs.Trees.{Parsed, program_of}
 use Rattle.fv_parse.specs.Contents.{first_unsupported}
 use Rattle.fv_parse.specs.Flaws.{refused}
@@ -40,7 +34,3 @@ pub record HasTree (l : Lexed) (p : Parsed) : Type 0 where
 abbrev pub Finishes : Lexed → Spelled → Result Parsed ParseRefusal → Type 0
 Finishes l x (Ok p) = (p.tokens ≡ l) × (program_of p ≡ x) × (refused l x ≡ None)
 Finishes l x (Err e) = (e ≡ refusals.NoMemory) ⊎ (refused l x ≡ Some e)
-
-abbrev pub Reads : {X : Type 0} → (X → List Entry) → (X → TreeId) → Result X Fault → Result Spelled (List Symbol) → Type 0
-Reads entries root (Ok x) read = (read ≡ Ok (tree_at (trees (entries x)) (root x))) × ((root x).0 < length (trees (entries x)))
-Reads entries root (Err e) read = Fails e read

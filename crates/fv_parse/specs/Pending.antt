@@ -1,11 +1,11 @@
 -- What is left to visit of patterns.
 use Rattle.std.specs.Prelude.{ℕ, suc, ◌+◌, List, [], ◌∷◌, ◌++◌}
-use Rattle.fv_parse.specs.declared.node.TreeId.{TreeId}
-use Rattle.fv_parse.specs.declared.node.TreeNode.{TreeNode}
-use Rattle.fv_parse.specs.declared.node.TreeNode.TheVariants as nodes
+use Rattle.fv_tree.specs.declared.node.TreeId.{TreeId}
+use Rattle.fv_tree.specs.declared.node.TreeNode.{TreeNode}
+use Rattle.fv_tree.specs.declared.node.TreeNode.TheVariants as nodes
 use Rattle.fv_parse.specs.declared.program.Defined.{Defined}
 use Rattle.fv_grammar.specs.Tree.{Tree, Binary, More}
-use Rattle.fv_parse.specs.Arena.{tree_at}
+use Rattle.fv_tree.specs.Arena.{tree_at}
 use Rattle.fv_parse.specs.Flaws.{as_name, names_in}
 
 -- a stack, with these numbers put on it so that the first is on top

@@ -1,11 +1,11 @@
 -- A tree, as contracts see it: the tokens, the nodes and the number of the outermost list.
-use Rattle.std.specs.Prelude.{◌≡◌, ℕ, ◌-◌, List, [], ◌∷◌, length, map, slice_get, unwrap_or}
+use Rattle.std.specs.Prelude.{ℕ, ◌-◌, List, [], length, map, slice_get, unwrap_or}
 use Rattle.fv_lex.specs.declared.token.Place.{Place}
 use Rattle.fv_lex.specs.Token.{Lexed, places_of, texts_of}
 use Rattle.fv_grammar.specs.Tree.{Tree as Spelled}
-use Rattle.fv_parse.specs.declared.node.TreeId.{TreeId}
-use Rattle.fv_parse.specs.declared.arena.Entry.{Entry}
-use Rattle.fv_parse.specs.Arena.{tree_at, trees}
+use Rattle.fv_tree.specs.declared.node.TreeId.{TreeId}
+use Rattle.fv_tree.specs.declared.arena.Entry.{Entry}
+use Rattle.fv_tree.specs.Arena.{tree_at, trees}
 
 pub record Parsed : Type 0 where
   pub tokens : Lexed

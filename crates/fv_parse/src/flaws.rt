@@ -1,16 +1,15 @@
 // The first flaw of a program: that of each node, by those of its parts.
 
 ghost use Rattle.std.specs.Prelude.{◌≡◌, ◌+◌, ◌<◌, [], ◌++◌, length, map, get_or, None, IfOk};
-ghost use Rattle.fv_parse.specs.Arena.{trees, tree_at, PartsBelow, AreOver, AllBelow};
-ghost use Rattle.fv_parse.specs.Flaws.{as_name, names_in, repeated, redefined, rule_widths, flaw_of, flaw_among, flaw_in, program_flaw};
+ghost use Rattle.fv_tree.specs.Arena.{trees, tree_at, PartsBelow, AreOver, AllBelow};
+ghost use Rattle.fv_parse.specs.Flaws.{earlier, as_name, names_in, repeated, redefined, rule_widths, flaw_of, flaw_among, flaw_in, program_flaw};
 ghost use Rattle.fv_parse.specs.Contents.{definitions_of};
 ghost use Rattle.fv_parse.specs.Pending.{pushed, under, weight, visited, visited_names};
 
-use crate::arena::Entry;
 use crate::flaw::{Among, Flaw, earlier, first_clash, rule_widths};
-use crate::node::{TreeId, TreeNode};
 use crate::program::{Defined, definitions_of, entry_at};
 use fv_lex::Tokens;
+use fv_tree::{Entry, TreeId, TreeNode};
 use std::alloc::{AllocError, Global};
 
 /// Puts numbers on a stack, so that the first comes off first.
@@ -102,6 +101,18 @@ fn flaw_among(flaws: &[Option<Flaw>], ids: &[TreeId]) -> Option<Flaw>
     first
 }
 
+/// The first flaw of four parts.
+fn first_of_four(flaws: &[Option<Flaw>], a: TreeId, b: TreeId, c: TreeId, d: TreeId) -> Option<Flaw>
+    requires a { a.0 < length flaws.now }
+    requires b { b.0 < length flaws.now }
+    requires c { c.0 < length flaws.now }
+    requires d { d.0 < length flaws.now }
+    ensures { result ≡ earlier (get_or flaws.now a.0 None) (earlier (get_or flaws.now b.0 None) (earlier (get_or flaws.now c.0 None) (get_or flaws.now d.0 None))) }
+{
+    let last = earlier(flaw_at(flaws, c), flaw_at(flaws, d));
+    earlier(flaw_at(flaws, a), earlier(flaw_at(flaws, b), last))
+}
+
 /// The first definition in a list that clashes with an earlier one.
 fn redefined(
     alloc: Global,
@@ -178,10 +189,7 @@ fn flaw_in(
         TreeNode::Iteration(_, _, x, y) | TreeNode::Apply(x, y) | TreeNode::Binary(_, x, y) => {
             Ok(earlier(flaw_at(flaws, *x), flaw_at(flaws, *y)))
         }
-        TreeNode::Slider(_, _, init, min, max, step) => {
-            let last = earlier(flaw_at(flaws, *max), flaw_at(flaws, *step));
-            Ok(earlier(flaw_at(flaws, *init), earlier(flaw_at(flaws, *min), last)))
-        }
+        TreeNode::Slider(_, _, a, b, c, d) => Ok(first_of_four(flaws, *a, *b, *c, *d)),
         TreeNode::Abstraction(names, x) => {
             let own = repeated_among(alloc, tokens, names)?;
             Ok(earlier(own, flaw_at(flaws, *x)))
@@ -192,10 +200,8 @@ fn flaw_in(
         }
         TreeNode::Where(x, definitions) => {
             let own = redefined(alloc, tokens, entries, *definitions)?;
-            Ok(earlier(
-                flaw_at(flaws, *x),
-                earlier(own, flaw_at(flaws, *definitions)),
-            ))
+            let inner = earlier(own, flaw_at(flaws, *definitions));
+            Ok(earlier(flaw_at(flaws, *x), inner))
         }
         TreeNode::Rule(patterns, x) | TreeNode::Function(_, patterns, x) => {
             let own = repeated_in(alloc, tokens, entries, *patterns)?;

@@ -1,10 +1,9 @@
 ghost use Rattle.std.specs.Prelude.{◌≡◌, ◌<◌, length, slice_get, Some, unwrap_or};
-ghost use Rattle.fv_parse.specs.Arena.{trees, tree_of, PartsBelow};
+ghost use Rattle.fv_tree.specs.Arena.{trees, tree_of, PartsBelow};
 ghost use Rattle.fv_parse.specs.Trees.{tree_in, starts_of, place_from, place_at, text_of};
 
-use crate::arena::Entry;
-use crate::node::{TreeId, TreeNode};
 use fv_lex::{Place, Tokens};
+use fv_tree::{Entry, TreeId, TreeNode};
 use std::marker::Model;
 
 /// The tree of a program, over its tokens.
@@ -21,7 +20,7 @@ impl<'a> Model for Tree<'a> {
 
     ghost Value = { Parsed };
 
-    ghost use Rattle.fv_parse.specs.Arena.{AreOver};
+    ghost use Rattle.fv_tree.specs.Arena.{AreOver};
 
     ghost view = { λ t. record { tokens = t.tokens.now; entries = t.entries.items; root = t.root } };
 

@@ -6,14 +6,13 @@ ghost use Rattle.std.specs.Str.{bytes_eq};
 ghost use Rattle.std.specs.Prelude.{nat_eq, [], ◌∷◌};
 ghost use Rattle.fv_grammar.specs.Tree.{End};
 ghost use Rattle.fv_lex.specs.Token.{Token, symbols_of};
-ghost use Rattle.fv_parse.specs.Arena.{trees, tree_at, tree_of, PartsBelow, AreOver, AllBelow, forest};
+ghost use Rattle.fv_tree.specs.Arena.{trees, tree_at, tree_of, PartsBelow, AreOver, AllBelow, forest};
 ghost use Rattle.fv_parse.specs.Contents.{is_control, is_open, unsupported, first_unsupported, count, count_in, defined_by, defined_in, definitions_in, some_if, definitions_of, in_list, has_process};
 
-use crate::arena::Entry;
-use crate::node::{TreeId, TreeNode};
 use crate::parsed::text_of;
 use fv_lex::{Symbol, Tokens};
 use fv_outside::Word;
+use fv_tree::{Entry, TreeId, TreeNode};
 use std::alloc::{AllocError, Global};
 
 /// A definition: the number of its name's token, and how many patterns stand behind it.

@@ -162,3 +162,54 @@ fn forms(rt: HostRuntime) -> Result<(), Fail> {
     }
     Ok(())
 }
+
+/// A text that begins with `front`, repeats `part` and ends with `back`.
+fn repeated(
+    alloc: Global,
+    front: &[u8],
+    part: &[u8],
+    count: u32,
+    back: &[u8],
+) -> Result<Vec<u8>, AllocError> {
+    let mut text = front.to_vec(alloc)?;
+    for _ in 0..count {
+        text.extend_from_slice(part)?;
+    }
+    text.extend_from_slice(back)?;
+    Ok(text)
+}
+
+/// How many nodes the tree of a text has below its list of definitions.
+fn nodes(alloc: Global, text: &[u8]) -> Result<u64, Fail> {
+    let found = tokens(alloc, text)?;
+    let tree = parse(alloc, &found)?;
+    Ok(tree.root().0)
+}
+
+#[test]
+fn as_deep_as_may_be(rt: HostRuntime) -> Result<(), Fail> {
+    let open = repeated(rt.alloc(), b"process = ", b"(", 128, b"_")?;
+    let text = repeated(rt.alloc(), &open, b")", 128, b";")?;
+    assert_eq!(rt; nodes(rt.alloc(), &text)?, 130);
+    let open = repeated(rt.alloc(), b"process = ", b"_ with { a = ", 128, b"_")?;
+    let text = repeated(rt.alloc(), &open, b"; }", 128, b";")?;
+    assert_eq!(rt; nodes(rt.alloc(), &text)?, 514);
+    Ok(())
+}
+
+// 524,283 wires, 524,282 signs that join them, and the definition.
+#[test]
+fn a_chain_as_long_as_may_be(rt: HostRuntime) -> Result<(), Fail> {
+    let text = repeated(rt.alloc(), b"process = _", b":_", 524_282, b";")?;
+    assert_eq!(rt; text.len(), 1_048_576);
+    assert_eq!(rt; nodes(rt.alloc(), &text)?, 1_048_566);
+    Ok(())
+}
+
+#[test]
+fn as_blank_as_may_be(rt: HostRuntime) -> Result<(), Fail> {
+    let text = repeated(rt.alloc(), b"process = _;", b" ", 1_048_564, b"")?;
+    assert_eq!(rt; text.len(), 1_048_576);
+    assert_eq!(rt; nodes(rt.alloc(), &text)?, 2);
+    Ok(())
+}

@@ -3,50 +3,21 @@
 ghost use Rattle.std.specs.Prelude.{◌≡◌, ℕ, ◌<◌, ◌⊎◌, List, length, Some, IfOk, IfErr};
 ghost use Rattle.fv_grammar.specs.Tree.{Tree as Spelled};
 ghost use Rattle.fv_parse.specs.declared.refusal.ParseRefusal.TheVariants.{NoMemory};
-ghost use Rattle.fv_parse.specs.Arena.{AreOver};
+ghost use Rattle.fv_tree.specs.Arena.{trees, tree_at, AreOver};
 ghost use Rattle.fv_parse.specs.Trees.{program_of};
 ghost use Rattle.fv_parse.specs.Flaws.{flaw_refusal, refused};
 ghost use Rattle.fv_lex.specs.Cuts.{HasTokens};
-ghost use Rattle.fv_grammar.specs.Descent.{program};
-ghost use Rattle.fv_parse.specs.Arena.{trees, tree_at};
-ghost use Rattle.fv_parse.specs.Outcomes.{Reads, Finishes, HasTree, HasRefusal, IsSpelled};
+ghost use Rattle.fv_parse.specs.Outcomes.{Finishes, HasTree, HasRefusal, IsSpelled};
 
-use crate::arena::{Arena, Entry};
-use crate::descent::further;
 use crate::flaw::{Flaw, FlawKind};
 use crate::flaws::program_flaw;
-use crate::node::TreeId;
 use crate::parsed::{Tree, place_at, place_from, text_of};
 use crate::program::{definitions_of, first_unsupported, has_process};
 use crate::refusal::ParseRefusal;
-use crate::single::Fault;
-use fv_grammar::Items;
-use fv_lex::{Symbol, Tokens};
+use fv_lex::Tokens;
 use fv_outside::Word;
+use fv_tree::{Arena, Entry, Fault, TreeId, read};
 use std::alloc::{AllocError, Global};
-
-/// The most brackets that may be open at once.
-const DEEPEST: usize = 128;
-
-/// The tree that the symbols spell: its nodes, and its outermost list.
-fn read<'a>(alloc: Global, symbols: &'a [Symbol]) -> Result<(Arena, TreeId), Fault<'a>>
-    ensures { Reads (λ x. x.0) (λ x. x.1) result (program 128 symbols.now) }
-{
-    let mut arena = Arena::new(alloc);
-    let (root, rest) = further(
-        &mut arena,
-        alloc,
-        DEEPEST,
-        Items::Statements,
-        symbols.len(),
-        None,
-        symbols,
-    )?;
-    match rest {
-        [] => Ok((arena, root)),
-        [_, ..] => Err(Fault::Syntax(rest)),
-    }
-}
 
 /// What refuses a program that has this flaw.
 fn flaw_refusal(alloc: Global, tokens: &Tokens, flaw: Flaw) -> ParseRefusal
@@ -106,7 +77,7 @@ fn finish<'a>(
     requires { root.0 < length (trees arena) }
     ensures { Finishes tokens.now (tree_at (trees arena) root) result }
 {
-    let Arena { entries } = arena;
+    let entries = arena.into_entries();
     match refused(alloc, tokens, &entries, root)? {
         Some(refusal) => Err(refusal),
         None => Ok(Tree {

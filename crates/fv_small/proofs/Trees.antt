@@ -1,13 +1,13 @@
 -- The one definition of a program, by its node.
 use Rattle.std.proofs.Common.{◌≡◌, ℕ, ◌<◌, Bool, true, false, List, [], ◌∷◌, Option, Some, None, refl, sym, ap, subst, ◌∙◌}
 use Rattle.std.proofs.lemmas.Option.{none-some, same_Some}
-use Rattle.fv_parse.specs.declared.node.TreeId.{TreeId}
-use Rattle.fv_parse.specs.declared.node.TreeNode.{TreeNode}
-use Rattle.fv_parse.specs.declared.node.TreeNode.TheVariants as nodes
+use Rattle.fv_tree.specs.declared.node.TreeId.{TreeId}
+use Rattle.fv_tree.specs.declared.node.TreeNode.{TreeNode}
+use Rattle.fv_tree.specs.declared.node.TreeNode.TheVariants as nodes
 use Rattle.fv_grammar.specs.Tree.{Tree, Constant, More, End}
 use Rattle.fv_grammar.specs.declared.form.Primitive.{Primitive}
 use Rattle.fv_grammar.specs.declared.form.Operator.{Operator}
-use Rattle.fv_parse.specs.Arena.{tree_at, tree_of, forest, PartsBelow, AllBelow}
+use Rattle.fv_tree.specs.Arena.{tree_at, tree_of, forest, PartsBelow, AllBelow}
 use Rattle.fv_small.specs.Small.{diagram_of}
 use Rattle.fv_small.specs.Forms.{only, only_in, constant_in}
 

@@ -5,7 +5,7 @@ use Rattle.fv_grammar.specs.Tree.{Tree}
 use Rattle.fv_diagram.specs.declared.node.Node.{Node}
 use Rattle.fv_diagram.specs.Diagram.{Diagram, size, IsWellFormed}
 use Rattle.fv_diagram.specs.Arena.{tree_of, size_limit}
-use Rattle.fv_parse.specs.Arena.{nth}
+use Rattle.fv_tree.specs.Arena.{nth}
 use Rattle.fv_small.specs.Small.{both, diagram_of}
 
 -- the arena has grown

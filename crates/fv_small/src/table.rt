@@ -1,7 +1,7 @@
 // What each node of a tree stands for.
 
 ghost use Rattle.std.specs.Prelude.{◌≡◌, ◌<◌, ◌≤◌, length, get_or, None, IfOk};
-ghost use Rattle.fv_parse.specs.Arena.{trees};
+ghost use Rattle.fv_tree.specs.Arena.{trees};
 ghost use Rattle.fv_parse.specs.Trees.{tree_in};
 ghost use Rattle.fv_small.specs.Small.{diagram_of};
 ghost use Rattle.fv_small.specs.Table.{Finds, AllStand};

@@ -1,5 +1,5 @@
 use Rattle.std.proofs.Common.{get_or, None, arith}
-use Rattle.fv_parse.specs.declared.node.TreeId.{TreeId}
+use Rattle.fv_tree.specs.declared.node.TreeId.{TreeId}
 use Rattle.fv_parse.proofs.Lists.{all_below_at}
 use Rattle.fv_parse.proofs.Flawless.{among_kept}
 use Rattle.fv_parse.proofs.flaws.flaw_among.Goals as goal

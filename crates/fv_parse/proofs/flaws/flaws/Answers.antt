@@ -1,9 +1,9 @@
-use Rattle.std.proofs.Common.{◌≡◌, ◌<◌, ◌≤◌, ◌∙◌, length, get_or, take, map, None, ap, subst, sym, arith}
-use Rattle.fv_parse.specs.declared.node.TreeId.{TreeId}
-use Rattle.fv_parse.specs.declared.arena.Entry.{Entry}
-use Rattle.fv_parse.specs.Arena.{nth, tree_of, trees, PartsBelow}
+use Rattle.std.proofs.Common.{◌≡◌, ◌<◌, ◌≤◌, ◌∙◌, length, get_or, map, None, ap, subst, sym, arith}
+use Rattle.fv_tree.specs.declared.node.TreeId.{TreeId}
+use Rattle.fv_tree.specs.declared.arena.Entry.{Entry}
+use Rattle.fv_tree.specs.Arena.{nth, tree_of, trees, PartsBelow}
 use Rattle.fv_parse.specs.Flaws.{flaw_of, flaw_in}
-use Rattle.fv_parse.proofs.Arenas.{length_trees}
+use Rattle.fv_tree.proofs.Arenas.{length_trees}
 use Rattle.fv_parse.proofs.Nodes.{entry_is}
 use Rattle.fv_parse.proofs.Flawless.{flaws_step, flaws_length, take_end}
 use Rattle.fv_parse.proofs.flaws.flaws.Goals as goal

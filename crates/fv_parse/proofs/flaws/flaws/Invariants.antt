@@ -1,5 +1,5 @@
 use Rattle.std.proofs.Common.{◌≡◌, map, take}
-use Rattle.fv_parse.specs.Arena.{trees}
+use Rattle.fv_tree.specs.Arena.{trees}
 use Rattle.fv_parse.specs.Flaws.{flaw_of}
 use Rattle.fv_parse.proofs.flaws.flaws.Given as goal
 

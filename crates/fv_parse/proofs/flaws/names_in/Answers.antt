@@ -1,5 +1,5 @@
 use Rattle.std.proofs.Common.{length}
-use Rattle.fv_parse.specs.Arena.{trees}
+use Rattle.fv_tree.specs.Arena.{trees}
 use Rattle.fv_parse.proofs.Flawless.{popped_inside, visit}
 use Rattle.fv_parse.proofs.flaws.names_in.Goals as goal
 

@@ -1,5 +1,5 @@
 use Rattle.std.proofs.Common.{◌≡◌, ◌++◌, length}
-use Rattle.fv_parse.specs.Arena.{trees, tree_at, AllBelow}
+use Rattle.fv_tree.specs.Arena.{trees, tree_at, AllBelow}
 use Rattle.fv_parse.specs.Flaws.{names_in}
 use Rattle.fv_parse.specs.Pending.{under, weight}
 use Rattle.fv_parse.proofs.flaws.names_in.Given as goal

@@ -1,7 +1,7 @@
-use Rattle.std.proofs.Common.{◌≡◌, ◌<◌, ◌∙◌, length, get_or, take, map, None, ap, sym, arith}
-use Rattle.fv_parse.specs.Arena.{trees, tree_at}
+use Rattle.std.proofs.Common.{◌≡◌, ◌<◌, ◌∙◌, length, get_or, map, None, ap, sym, arith}
+use Rattle.fv_tree.specs.Arena.{trees, tree_at}
 use Rattle.fv_parse.specs.Flaws.{earlier, redefined, flaw_of}
-use Rattle.fv_parse.proofs.Arenas.{length_trees}
+use Rattle.fv_tree.proofs.Arenas.{length_trees}
 use Rattle.fv_parse.proofs.Flawless.{flaws_length, take_end, root_flaw}
 use Rattle.fv_parse.proofs.flaws.program_flaw.Goals as goal
 

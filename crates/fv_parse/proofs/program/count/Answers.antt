@@ -1,5 +1,5 @@
 use Rattle.std.proofs.Common.{◌∙◌, ap, sym}
-use Rattle.fv_parse.specs.Arena.{trees}
+use Rattle.fv_tree.specs.Arena.{trees}
 use Rattle.fv_parse.specs.Contents.{count}
 use Rattle.fv_parse.proofs.Nodes.{count_node}
 use Rattle.fv_parse.proofs.program.count.Goals as goal

@@ -1,5 +1,5 @@
 use Rattle.std.proofs.Common.{◌∙◌, ◌≤◌, ap, sym, length, arith}
-use Rattle.fv_parse.specs.Arena.{trees}
+use Rattle.fv_tree.specs.Arena.{trees}
 use Rattle.fv_parse.specs.Contents.{defined_by}
 use Rattle.fv_parse.proofs.Nodes.{head_node, PartsBelow-mono}
 use Rattle.fv_parse.proofs.program.defined_by.Goals as goal

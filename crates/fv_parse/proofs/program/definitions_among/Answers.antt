@@ -1,4 +1,4 @@
-use Rattle.fv_parse.specs.Arena.{trees}
+use Rattle.fv_tree.specs.Arena.{trees}
 use Rattle.fv_parse.proofs.Lists.{all_below_at, among_step, among_end}
 use Rattle.fv_parse.proofs.program.definitions_among.Goals as goal
 

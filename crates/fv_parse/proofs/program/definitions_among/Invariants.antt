@@ -1,6 +1,6 @@
 use Rattle.std.proofs.Common.{◌≡◌, ◌++◌, drop}
 use Rattle.fv_grammar.specs.Tree.{End}
-use Rattle.fv_parse.specs.Arena.{trees, forest}
+use Rattle.fv_tree.specs.Arena.{trees, forest}
 use Rattle.fv_parse.specs.Contents.{definitions_of}
 use Rattle.fv_parse.proofs.program.definitions_among.Given as goal
 

@@ -1,7 +1,5 @@
-use Rattle.std.proofs.Common.{◌∙◌, ◌≤◌, ap, sym, subst, length, arith}
-use Rattle.std.specs.Prelude.{IfOk}
-use Rattle.fv_parse.specs.Arena.{trees}
-use Rattle.fv_parse.specs.Contents.{definitions_of}
+use Rattle.std.proofs.Common.{◌≤◌, length, arith}
+use Rattle.fv_tree.specs.Arena.{trees}
 use Rattle.fv_parse.proofs.Nodes.{definitions_node, PartsBelow-mono}
 use Rattle.fv_parse.proofs.program.definitions_of.Goals as goal
 

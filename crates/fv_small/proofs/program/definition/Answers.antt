@@ -2,7 +2,7 @@ use Rattle.std.proofs.Common.{◌≡◌, Some, ◌∙◌, sym, ap, arith}
 use Rattle.std.specs.Prelude.{codes}
 use Rattle.std.proofs.lemmas.Slice.Eq.{bytes_eq-Decides}
 use Rattle.fv_grammar.specs.Tree.{Tree, More, End}
-use Rattle.fv_parse.specs.Arena.{trees}
+use Rattle.fv_tree.specs.Arena.{trees}
 use Rattle.fv_parse.specs.Trees.{tree_in}
 use Rattle.fv_small.proofs.Trees.{list_one, list_same, constant_one, constant_none, only_below, constant_below}
 use Rattle.fv_small.proofs.program.definition.Goals as goal

@@ -1,5 +1,5 @@
 use Rattle.std.proofs.Common.{◌≡◌, length}
-use Rattle.fv_parse.specs.Arena.{trees}
+use Rattle.fv_tree.specs.Arena.{trees}
 use Rattle.fv_small.specs.Table.{AllStand}
 use Rattle.fv_small.proofs.table.table.Given as goal
 

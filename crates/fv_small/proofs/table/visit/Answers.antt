@@ -1,6 +1,6 @@
 use Rattle.std.proofs.Common.{◌∙◌, sym, ap}
 use Rattle.std.proofs.lemmas.Option.{none-some}
-use Rattle.fv_parse.specs.Arena.{trees}
+use Rattle.fv_tree.specs.Arena.{trees}
 use Rattle.fv_small.specs.Small.{diagram_of}
 use Rattle.fv_small.proofs.Parts.{Keeps-refl}
 use Rattle.fv_small.proofs.Trees.{other_none}

@@ -1,6 +1,6 @@
 use Rattle.std.proofs.Common.{◌≡◌, ◌<◌, ◌∙◌, ap, subst, sym, length}
 use Rattle.std.specs.Prelude.{slice_get, unwrap_or}
-use Rattle.fv_parse.specs.Arena.{tree_at, tree_of, trees}
+use Rattle.fv_tree.specs.Arena.{tree_at, tree_of, trees}
 use Rattle.fv_parse.specs.Trees.{Parsed, starts_of}
 use Rattle.fv_parse.proofs.Nodes.{entry_is}
 use Rattle.fv_parse.proofs.parsed.Tree.node.Goals as goal
