@@ -1,0 +1,6 @@
+pub mod Plans
+pub mod Pieces
+pub mod Operands
+pub mod Turns
+pub mod Phrases
+pub mod Programs
