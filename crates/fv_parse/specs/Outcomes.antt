@@ -1,11 +1,13 @@
 -- What parsing answers.
-use Rattle.std.specs.Prelude.{◌≡◌, ◌⊎◌, ℕ, List, Some, None, Result, Ok, Err}
+use Rattle.std.specs.Prelude.{◌≡◌, ◌⊎◌, ℕ, List, ◌++◌, length, Some, None, Result, Ok, Err}
+use Rattle.fv_lex.specs.declared.token.Place.{Place}
+use Rattle.fv_lex.specs.declared.token.Symbol.{Symbol}
 use Rattle.fv_lex.specs.Token.{Lexed, symbols_of}
 use Rattle.fv_grammar.specs.Tree.{Tree as Spelled}
-use Rattle.fv_grammar.specs.Grammar.{SpellsProgram}
+use Rattle.fv_grammar.specs.Grammar.{SpellsProgram, Begins}
 use Rattle.fv_parse.specs.declared.refusal.ParseRefusal.{ParseRefusal}
 use Rattle.fv_parse.specs.declared.refusal.ParseRefusal.TheVariants as refusals
-use Rattle.fv_parse.specs.Trees.{Parsed, program_of}
+use Rattle.fv_parse.specs.Trees.{Parsed, program_of, place_from}
 use Rattle.fv_parse.specs.Contents.{first_unsupported}
 use Rattle.fv_parse.specs.Flaws.{refused}
 
@@ -17,10 +19,18 @@ IsSupported l = first_unsupported l.tokens ≡ None
 abbrev pub IsSpelled : Lexed → Spelled → Type 0
 IsSpelled l x = SpellsProgram (symbols_of l.tokens) x
 
+-- The tokens before this place, which is that of a token or the end of the text, begin some program.
+pub record StopsAt (l : Lexed) (place : Place) : Type 0 where
+  pub before : List Symbol
+  pub rest : List Symbol
+  pub split : symbols_of l.tokens ≡ before ++ rest
+  pub begins : Begins before
+  pub there : place ≡ place_from l (length rest)
+
 -- Why tokens are no program, in this order: the first unsupported token, that they spell no tree, what refuses the tree.
 pub data HasRefusal (l : Lexed) : ParseRefusal → Type 0 where
   unsupported : {word : List ℕ} → first_unsupported l.tokens ≡ Some word → HasRefusal l (refusals.Unsupported word)
-  syntax_error : {line column : ℕ} → IsSupported l → ((x : Spelled) → IsSpelled l x → ⊥) → HasRefusal l (refusals.Syntax line column)
+  syntax_error : (place : Place) → IsSupported l → ((x : Spelled) → IsSpelled l x → ⊥) → StopsAt l place → HasRefusal l (refusals.Syntax place.line place.column)
   refused_tree : {refusal : ParseRefusal} {x : Spelled} → IsSupported l → IsSpelled l x → refused l x ≡ Some refusal → HasRefusal l refusal
 
 -- The tree is the one that the tokens spell, and nothing refuses it.

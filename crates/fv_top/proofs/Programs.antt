@@ -39,7 +39,7 @@ one_diagram text d e lexed spelled small p q = small p.lexed p.tree d e p.small 
 -- accepted tokens have no refusal
 accepted_tokens : (l : Lexed) (x : Tree) (e : ParseRefusal) → SpelledOnce → IsAccepted l x → HasTokensRefusal l e → ⊥
 accepted_tokens l x e spelled a (unsupported h) = let s = a.supported in cc
-accepted_tokens l x e spelled a (syntax_error s none) = none x a.spelled
+accepted_tokens l x e spelled a (syntax_error place s none stops) = none x a.spelled
 accepted_tokens l x e spelled a (refused_tree s is some) =
     let same = one_tree l _ x spelled is a.spelled in
     let h = a.accepted in

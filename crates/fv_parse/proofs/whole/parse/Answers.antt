@@ -1,4 +1,5 @@
 use Rattle.std.proofs.Common.{◌∙◌, ap, sym, inr}
+use Rattle.fv_lex.specs.Token.{symbols_of}
 use Rattle.fv_grammar.specs.Descent.{program}
 use Rattle.fv_parse.specs.Outcomes.{unsupported, syntax_error}
 use Rattle.fv_parse.proofs.Lexing.{tokens_nest}
@@ -19,5 +20,9 @@ returns-in-Ok-clause-only c = only_answer c.args.tokens.now _ c.finish.result (a
 
 pub returns-in-Err-Syntax-clause-refusal : goal.returns-in-Err-Syntax-clause-refusal
 returns-in-Err-Syntax-clause-refusal c =
-    let e = rw c.in-Err-Syntax.field-0-is at c.in-Err-Syntax.ensures in
-    inr (syntax_error (sym c.in_ok-word.ensures ∙ c.in_default.is) (no_tree c.args.tokens.now c.in-Err-Syntax.rest.now (tokens_nest c.requires.0 c.args.tokens.now c.requires.1) (ap (program 128) (sym c.symbols.ensures.symbols) ∙ e)))
+    let l = c.args.tokens.now in
+    let rest = c.in-Err-Syntax.rest.now in
+    let e = ap (program 128) (sym c.symbols.ensures.symbols) ∙ rw c.in-Err-Syntax.field-0-is at c.in-Err-Syntax.ensures in
+    let stops = c.stops_behind_a_beginning.ensures 128 (symbols_of l.tokens) rest e in
+    inr (syntax_error c.place_from-place.result (sym c.in_ok-word.ensures ∙ c.in_default.is) (no_tree l rest (tokens_nest c.requires.0 l c.requires.1) e)
+    (record { before = stops.0; rest = rest; split = stops.1; begins = stops.2; there = rw c.in-Err-Syntax.field-0-is at c.place_from-place.ensures }))
