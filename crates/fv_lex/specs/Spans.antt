@@ -10,6 +10,7 @@ use Rattle.fv_lex.specs.Token.{Token, Lexed}
 use Rattle.fv_lex.specs.Symbols.{symbol_of, value}
 use Rattle.fv_lex.specs.Carried.{AllCarry}
 use Rattle.fv_lex.specs.Pieces.{is_token, greatest_literal}
+use Rattle.fv_lex.specs.Cuts.{HasTokens}
 
 -- the token of a symbol and a span
 abbrev pub token_in : List ℕ → Symbol → Span → Token
@@ -28,7 +29,9 @@ lexed_in t = record { tokens = tokens_in t.text.now t.symbols.items t.spans.item
 abbrev pub IsWithin : List ℕ → Span → Type 0
 IsWithin text span = span.start + span.length ≤ length text
 
+-- a whole list: the fields fit, and what they mean are the tokens of the text
 pub record IsWhole (t : Inside) : Type 0 where
+  pub cut : HasTokens t.text.now (lexed_in t)
   pub paired : length t.symbols.items ≡ length t.spans.items
   pub few : length t.spans.items < 2 ^ 32
   pub within : All (IsWithin t.text.now) t.spans.items

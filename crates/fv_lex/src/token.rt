@@ -1,6 +1,7 @@
 ghost use Rattle.std.specs.Prelude.{◌≡◌, ◌+◌, ◌<◌, ◌≤◌, Some, length, slice_get, take, drop};
 ghost use Rattle.fv_lex.specs.Carried.{AllCarry};
 ghost use Rattle.fv_lex.specs.Token.{symbols_of, kinds_of, texts_of, places_of};
+ghost use Rattle.fv_lex.specs.Cuts.{HasTokens};
 
 use std::marker::Model;
 
@@ -167,6 +168,13 @@ impl<'a> Model for Tokens<'a> {
 }
 
 impl Tokens<'_> {
+    /// The text that they are the tokens of.
+    pub fn source(&self) -> &[u8]
+        ensures { HasTokens result.now self.now }
+    {
+        self.text
+    }
+
     /// How many tokens there are.
     pub fn len(&self) -> u32
         ensures { result ≡ length self.now.tokens }

@@ -1,6 +1,3 @@
-ghost use Rattle.std.specs.Prelude.{ℕ, List};
-ghost use Rattle.fv_lex.specs.Cuts.{HasTokens};
-
 use crate::{ParseRefusal, TreeId, parse};
 use fv_lex::{Tokens, tokens};
 use fv_outside::Word;
@@ -50,9 +47,7 @@ fn answer(alloc: Global, text: &[u8]) -> Result<String, AllocError> {
     describe(alloc, &found)
 }
 
-fn describe(alloc: Global, found: &Tokens) -> Result<String, AllocError>
-    requires { (text : List ℕ) × HasTokens text found.now }
-{
+fn describe(alloc: Global, found: &Tokens) -> Result<String, AllocError> {
     let tree = match parse(alloc, found) {
         Ok(tree) => tree,
         Err(refusal) => return refused(alloc, refusal),

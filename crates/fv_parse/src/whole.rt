@@ -6,7 +6,6 @@ ghost use Rattle.fv_parse.specs.declared.refusal.ParseRefusal.TheVariants.{NoMem
 ghost use Rattle.fv_tree.specs.Arena.{trees, tree_at, AreOver};
 ghost use Rattle.fv_parse.specs.Trees.{program_of};
 ghost use Rattle.fv_parse.specs.Flaws.{flaw_refusal, refused};
-ghost use Rattle.fv_lex.specs.Cuts.{HasTokens};
 ghost use Rattle.fv_parse.specs.Outcomes.{Finishes, HasTree, HasRefusal, IsSpelled};
 
 use crate::flaw::{Flaw, FlawKind};
@@ -93,7 +92,6 @@ fn finish<'a>(
 /// An unsupported token is refused first, then tokens that spell no tree, at a place before which the tokens begin one. Of a tree the first in the text is refused of
 /// a name that is redefined, one that is repeated, and a rule of another width; then that it has no `process`.
 pub fn parse<'a>(alloc: Global, tokens: &'a Tokens<'a>) -> Result<Tree<'a>, ParseRefusal>
-    requires { (text : List ℕ) × HasTokens text tokens.now }
     // A tree that is answered is the one that the tokens spell.
     ensures tree { IfOk result (HasTree tokens.now) }
 
@@ -111,6 +109,7 @@ pub fn parse<'a>(alloc: Global, tokens: &'a Tokens<'a>) -> Result<Tree<'a>, Pars
         Err(Fault::NoMemory) => Err(ParseRefusal::NoMemory),
         Err(Fault::Syntax(rest)) => {
             stops_behind_a_beginning();
+            let _source = tokens.source();
             let place = place_from(tokens, rest.len() as u64);
             Err(ParseRefusal::Syntax {
                 line: place.line,

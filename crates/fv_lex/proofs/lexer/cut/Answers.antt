@@ -17,6 +17,15 @@ loop-symbols-init c = record {
   so_far = rw (c.new-symbols.ensures.items) (reads_start c.args.text.now);
 }
 
+pub invariant_of-result : goal.invariant_of-result
+invariant_of-result c = record {
+  cut = reads_end c.args.text.now c.loop-symbols.rest.now c.loop-symbols.place c.loop-symbols.depth _ c.requires c.loop-symbols.invariant.so_far (sym c.in-End.ensures);
+  paired = c.loop-symbols.invariant.paired;
+  few = omega (arith, c.loop-symbols.invariant.few, c.requires);
+  within = c.loop-symbols.invariant.within;
+  carried = c.loop-symbols.invariant.carried;
+}
+
 pub returns-in-End-clause-tokens : goal.returns-in-End-clause-tokens
 returns-in-End-clause-tokens c = reads_end c.args.text.now c.loop-symbols.rest.now c.loop-symbols.place c.loop-symbols.depth _ c.requires c.loop-symbols.invariant.so_far (sym c.in-End.ensures)
 

@@ -24,5 +24,5 @@ returns-in-Err-Syntax-clause-refusal c =
     let rest = c.in-Err-Syntax.rest.now in
     let e = ap (program 128) (sym c.symbols.ensures.symbols) ∙ rw c.in-Err-Syntax.field-0-is at c.in-Err-Syntax.ensures in
     let stops = c.stops_behind_a_beginning.ensures 128 (symbols_of l.tokens) rest e in
-    inr (syntax_error c.place_from-place.result (sym c.in_ok-word.ensures ∙ c.in_default.is) (no_tree l rest (tokens_nest c.requires.0 l c.requires.1) e)
+    inr (syntax_error c.place_from-place.result (sym c.in_ok-word.ensures ∙ c.in_default.is) (no_tree l rest (tokens_nest c.source-source.result.now l c.source-source.ensures) e)
     (record { before = stops.0; rest = rest; split = stops.1; begins = stops.2; there = rw c.in-Err-Syntax.field-0-is at c.place_from-place.ensures }))

@@ -2,9 +2,6 @@ use Rattle.std.proofs.lemmas.Result.{err_from_is_err_and}
 use Rattle.fv_top.proofs.Programs.{bytes_stop, tokens_stop, tree_stops}
 use Rattle.fv_top.proofs.text.read_program.Goals as goal
 
-pub parse-requires : goal.parse-requires
-parse-requires c = (c.args.text.now, c.in_ok-tokens.ensures.tokens)
-
 pub returns-in_err-tokens-clause-refused : goal.returns-in_err-tokens-clause-refused
 returns-in_err-tokens-clause-refused c =
     let p = err_from_is_err_and c.from_residual.result c.from_residual.ensures.1 in
