@@ -1,6 +1,6 @@
 // What refuses a program that is spelled, in a list of definitions, rules or names.
 
-ghost use Rattle.std.specs.Prelude.{◌≡◌, ◌<◌, [], length, IfOk};
+ghost use Rattle.std.specs.Prelude.{◌≡◌, ◌<◌, [], IfOk};
 ghost use Rattle.fv_parse.specs.Flaws.{kind_rank, comes_first, earlier, clash, clash_with, first_clash, differing, rule_widths};
 
 use crate::parsed::text_of;

@@ -1,10 +1,10 @@
 // The first flaw of a program: that of each node, by those of its parts.
 
-ghost use Rattle.std.specs.Prelude.{◌≡◌, ◌+◌, ◌<◌, [], ◌++◌, length, map, get_or, None, IfOk};
+ghost use Rattle.std.specs.Prelude.{◌≡◌, ◌+◌, ◌<◌, ◌++◌, length, map, get_or, None, IfOk};
 ghost use Rattle.fv_tree.specs.Arena.{trees, tree_at, PartsBelow, AreOver, AllBelow};
 ghost use Rattle.fv_parse.specs.Flaws.{earlier, as_name, names_in, repeated, redefined, rule_widths, flaw_of, flaw_among, flaw_in, program_flaw};
 ghost use Rattle.fv_parse.specs.Contents.{definitions_of};
-ghost use Rattle.fv_parse.specs.Pending.{pushed, under, weight, visited, visited_names};
+ghost use Rattle.fv_parse.specs.Pending.{pushed, visited, visited_names};
 
 use crate::flaw::{Among, Flaw, earlier, first_clash, rule_widths};
 use crate::program::{Defined, definitions_of, entry_at};

@@ -1,4 +1,4 @@
-ghost use Rattle.std.specs.Prelude.{◌≡◌, ◌<◌, length, slice_get, Some, unwrap_or};
+ghost use Rattle.std.specs.Prelude.{◌≡◌, ◌<◌, length, slice_get, unwrap_or};
 ghost use Rattle.fv_tree.specs.Arena.{trees, tree_of, PartsBelow};
 ghost use Rattle.fv_parse.specs.Trees.{tree_in, starts_of, place_from, place_at, text_of};
 

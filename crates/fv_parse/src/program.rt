@@ -5,7 +5,7 @@ ghost use Rattle.std.specs.List.{list_any};
 ghost use Rattle.std.specs.Str.{bytes_eq};
 ghost use Rattle.std.specs.Prelude.{nat_eq, [], ◌∷◌};
 ghost use Rattle.fv_grammar.specs.Tree.{End};
-ghost use Rattle.fv_lex.specs.Token.{Token, symbols_of};
+ghost use Rattle.fv_lex.specs.Token.{symbols_of};
 ghost use Rattle.fv_tree.specs.Arena.{trees, tree_at, tree_of, PartsBelow, AreOver, AllBelow, forest};
 ghost use Rattle.fv_parse.specs.Contents.{is_control, is_open, unsupported, first_unsupported, count, count_in, defined_by, defined_in, definitions_in, some_if, definitions_of, in_list, has_process};
 

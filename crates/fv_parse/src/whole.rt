@@ -1,6 +1,6 @@
 // A whole program.
 
-ghost use Rattle.std.specs.Prelude.{◌≡◌, ℕ, ◌<◌, ◌⊎◌, List, length, Some, IfOk, IfErr};
+ghost use Rattle.std.specs.Prelude.{◌≡◌, ◌<◌, ◌⊎◌, length, Some, IfOk, IfErr};
 ghost use Rattle.fv_grammar.specs.Tree.{Tree as Spelled};
 ghost use Rattle.fv_parse.specs.declared.refusal.ParseRefusal.TheVariants.{NoMemory};
 ghost use Rattle.fv_tree.specs.Arena.{trees, tree_at, AreOver};

@@ -1,7 +1,7 @@
 // How a run ends.
 
 ghost use Rattle.std.specs.Prelude.{◌≡◌};
-ghost use Rattle.fv_top.specs.Lines.{number_of, status_of, exit_status};
+ghost use Rattle.fv_top.specs.Lines.{exit_status};
 
 use crate::refusal::Refusal;
 

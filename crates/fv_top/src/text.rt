@@ -1,6 +1,6 @@
 // A program's text: its tokens, their tree, and the tree's diagram.
 
-ghost use Rattle.std.specs.Prelude.{◌≡◌, ◌⊎◌, ◌<◌, codes, length, IfOk, IfErr};
+ghost use Rattle.std.specs.Prelude.{◌≡◌, ◌⊎◌, ◌<◌, length, IfOk, IfErr};
 ghost use Rattle.fv_diagram.specs.Arena.{tree_of};
 ghost use Rattle.fv_diagram.specs.Diagram.{control_bound, HasNoDelay, HasNoFreeSlot};
 ghost use Rattle.fv_top.specs.declared.refusal.Refusal.TheVariants.{NoMemory};

@@ -1,10 +1,10 @@
 // Reading from left to right, with one token of lookahead: what stands in an operand's place.
 // What stands in brackets is read by a call that has one bracket less to open; nothing else recurses.
 
-ghost use Rattle.std.specs.Prelude.{◌≡◌, ◌-◌, ◌<◌, ◌≤◌, [], true, false, length, IfOk, IfSome};
+ghost use Rattle.std.specs.Prelude.{◌-◌, ◌<◌, ◌≤◌, [], true, false, length, IfOk, IfSome};
 ghost use Rattle.fv_grammar.specs.declared.symbol.Inside.TheVariants as insides;
 ghost use Rattle.fv_grammar.specs.declared.symbol.Items.TheVariants.{Rules, Parts};
-ghost use Rattle.fv_grammar.specs.Descent.{within, enclosed, argument, group, abstraction, case_of, iteration, ports, slider, panel, by_head, primary, applied_to, postfix_turn, postfix, atom_by_head, atom, operand, run};
+ghost use Rattle.fv_grammar.specs.Descent.{within, enclosed, argument, group, abstraction, case_of, iteration, ports, slider, panel, by_head, primary, applied_to, postfix_turn, postfix, atom_by_head, operand, run};
 ghost use Rattle.fv_tree.specs.Arena.{tree_at, trees};
 ghost use Rattle.fv_tree.specs.Gives.{Gives, GivesTurn};
 

@@ -1,6 +1,6 @@
 // What operators join, and the definitions that stand behind it.
 
-ghost use Rattle.std.specs.Prelude.{◌≡◌, ◌+◌, ◌-◌, ◌<◌, ◌≤◌, length, IfOk, IfSome};
+ghost use Rattle.std.specs.Prelude.{◌+◌, ◌-◌, ◌<◌, ◌≤◌, length, IfOk, IfSome};
 ghost use Rattle.fv_grammar.specs.Descent.{within, left_turn, chain, phrase, with_part, with_turn, expression, run};
 ghost use Rattle.fv_tree.specs.Arena.{tree_at, trees};
 ghost use Rattle.fv_tree.specs.Gives.{Gives, GivesTurn};

@@ -1,6 +1,6 @@
 // What a single token is.
 
-ghost use Rattle.std.specs.Prelude.{◌≡◌, ◌<◌, ◌≤◌, length, None, IfOk};
+ghost use Rattle.std.specs.Prelude.{◌≡◌, ◌<◌, length, None, IfOk};
 ghost use Rattle.fv_tree.specs.declared.single.Fault.TheVariants.{NoMemory};
 ghost use Rattle.fv_grammar.specs.Symbols.{head, outside, rank, operator};
 ghost use Rattle.fv_grammar.specs.Descent.{opening, close, open_brace, close_brace, comma, equals, arrow, semicolon, dot, a_name, a_text, at_comma, at_with, label, name_list, declared_text, declared_for, declaration};

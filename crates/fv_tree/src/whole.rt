@@ -1,8 +1,7 @@
 // All symbols of a text.
 
-ghost use Rattle.std.specs.Prelude.{◌≡◌, ◌<◌, length};
+ghost use Rattle.std.specs.Prelude.{◌<◌};
 ghost use Rattle.fv_grammar.specs.Descent.{program};
-ghost use Rattle.fv_tree.specs.Arena.{trees, tree_at};
 ghost use Rattle.fv_tree.specs.Gives.{Reads};
 
 use crate::arena::Arena;
