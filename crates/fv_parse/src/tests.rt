@@ -163,6 +163,45 @@ fn forms(rt: HostRuntime) -> Result<(), Fail> {
     Ok(())
 }
 
+#[test]
+fn operators(rt: HostRuntime) -> Result<(), Fail> {
+    let table = [
+        (
+            b"process = 1 @ 2 * 3 / 4 % 5 & 6 xor 7 << 8 >> 9;".as_slice(),
+            "Number(1) Number(2) Binary(Infix(Delay), TreeId(0), TreeId(1)) Number(3) Binary(Infix(Multiply), TreeId(2), TreeId(3)) Number(4) Binary(Infix(Divide), TreeId(4), TreeId(5)) Number(5) Binary(Infix(Remainder), TreeId(6), TreeId(7)) Number(6) Binary(Infix(And), TreeId(8), TreeId(9)) Number(7) Binary(Infix(Xor), TreeId(10), TreeId(11)) Number(8) Binary(Infix(ShiftLeft), TreeId(12), TreeId(13)) Number(9) Binary(Infix(ShiftRight), TreeId(14), TreeId(15)) Constant(0, TreeId(16)) List([TreeId(17)])",
+        ),
+        (
+            b"process = 1 | 2 < 3 <= 4 > 5 >= 6 == 7 != 8;",
+            "Number(1) Number(2) Binary(Infix(Or), TreeId(0), TreeId(1)) Number(3) Binary(Infix(Less), TreeId(2), TreeId(3)) Number(4) Binary(Infix(LessEqual), TreeId(4), TreeId(5)) Number(5) Binary(Infix(Greater), TreeId(6), TreeId(7)) Number(6) Binary(Infix(GreaterEqual), TreeId(8), TreeId(9)) Number(7) Binary(Infix(Equal), TreeId(10), TreeId(11)) Number(8) Binary(Infix(NotEqual), TreeId(12), TreeId(13)) Constant(0, TreeId(14)) List([TreeId(15)])",
+        ),
+        (
+            b"process = f(*, /, %, &, |, xor, <<, >>);",
+            "Named(2) Primitive(Multiply) Primitive(Divide) Primitive(Remainder) Primitive(And) Primitive(Or) Primitive(Xor) Primitive(ShiftLeft) Primitive(ShiftRight) List([TreeId(1), TreeId(2), TreeId(3), TreeId(4), TreeId(5), TreeId(6), TreeId(7), TreeId(8)]) Apply(TreeId(0), TreeId(9)) Constant(0, TreeId(10)) List([TreeId(11)])",
+        ),
+        (
+            b"process = f(<, <=, >, >=, ==, !=, @, -);",
+            "Named(2) Primitive(Less) Primitive(LessEqual) Primitive(Greater) Primitive(GreaterEqual) Primitive(Equal) Primitive(NotEqual) Primitive(Delay) Primitive(Subtract) List([TreeId(1), TreeId(2), TreeId(3), TreeId(4), TreeId(5), TreeId(6), TreeId(7), TreeId(8)]) Apply(TreeId(0), TreeId(9)) Constant(0, TreeId(10)) List([TreeId(11)])",
+        ),
+        (
+            b"process = f(prefix, int, attach, select2, select3, min, max, abs);",
+            "Named(2) Primitive(Prefix) Primitive(Int) Primitive(Attach) Primitive(Select2) Primitive(Select3) Primitive(Min) Primitive(Max) Primitive(Abs) List([TreeId(1), TreeId(2), TreeId(3), TreeId(4), TreeId(5), TreeId(6), TreeId(7), TreeId(8)]) Apply(TreeId(0), TreeId(9)) Constant(0, TreeId(10)) List([TreeId(11)])",
+        ),
+        (
+            b"process = vgroup(\"v\", tgroup(\"t\", hslider(\"h\", 1, 2, 3, 4) + nentry(\"n\", 5, 6, 7, 8)));",
+            "Number(1) Number(2) Number(3) Number(4) Slider(Horizontal, 12, TreeId(0), TreeId(1), TreeId(2), TreeId(3)) Number(5) Number(6) Number(7) Number(8) Slider(Number, 25, TreeId(5), TreeId(6), TreeId(7), TreeId(8)) Binary(Infix(Add), TreeId(4), TreeId(9)) Panel(Tabs, 8, TreeId(10)) Panel(Vertical, 4, TreeId(11)) Constant(0, TreeId(12)) List([TreeId(13)])",
+        ),
+        (
+            b"f(-1, +2, (x, y) <: z) = x; process = f;",
+            "Negative(1) Number(2) Named(9) Named(11) Binary(Parallel, TreeId(2), TreeId(3)) Named(14) Binary(Split, TreeId(4), TreeId(5)) List([TreeId(0), TreeId(1), TreeId(6)]) Named(17) Function(0, TreeId(7), TreeId(8)) Named(21) Constant(19, TreeId(10)) List([TreeId(9), TreeId(11)])",
+        ),
+    ];
+    for (text, expected) in table {
+        let found = answer(rt.alloc(), text)?;
+        assert_eq!(rt; found.as_str(), expected);
+    }
+    Ok(())
+}
+
 /// A text that begins with `front`, repeats `part` and ends with `back`.
 fn repeated(
     alloc: Global,
