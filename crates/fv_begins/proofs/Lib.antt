@@ -4,3 +4,5 @@ pub mod Operands
 pub mod Turns
 pub mod Phrases
 pub mod Programs
+pub mod Agreement
+pub mod PiecesAgree
