@@ -6,3 +6,5 @@ pub mod Phrases
 pub mod Programs
 pub mod Agreement
 pub mod PiecesAgree
+pub mod OperandsAgree
+pub mod PhrasesAgree
