@@ -8,3 +8,4 @@ pub mod Agreement
 pub mod PiecesAgree
 pub mod OperandsAgree
 pub mod PhrasesAgree
+pub mod ProgramsAgree
