@@ -1,5 +1,5 @@
 -- Two lists of tokens that are the same up to and with one: a reader does with the one what it does with the other, until it is past that token.
-use Rattle.std.proofs.Common.{◌≡◌, ℕ, zero, suc, ◌+◌, ◌≤◌, ◌<◌, ◌⊎◌, inl, inr, Bool, true, false, cond, List, [], ◌∷◌, ◌++◌, length, Result, Ok, Err, refl, sym, ap, subst, arith}
+use Rattle.std.proofs.Common.{◌≡◌, ℕ, suc, ◌+◌, ◌≤◌, ◌<◌, ◌⊎◌, inl, inr, Bool, true, false, cond, List, [], ◌∷◌, ◌++◌, length, Result, Ok, Err, refl, sym, ap, subst, arith}
 use Rattle.std.proofs.lemmas.List.{length-append}
 use Rattle.fv_lex.specs.declared.token.Symbol.{Symbol}
 use Rattle.fv_lex.specs.declared.token.Symbol.TheVariants.{Open, Close, OpenBrace, CloseBrace}
@@ -7,7 +7,6 @@ use Rattle.fv_grammar.specs.declared.symbol.Inside.{Inside}
 use Rattle.fv_grammar.specs.declared.symbol.Head.TheVariants as heads
 use Rattle.fv_grammar.specs.Symbols.{head, rank}
 use Rattle.fv_grammar.specs.Nesting.{Nests}
-use Rattle.fv_grammar.specs.Tree.{Tree}
 use Rattle.fv_grammar.specs.Descent.{Step, ◌>>=◌, Reader}
 
 -- the token, what stands behind it in the one and in the other, and how many brackets may be open at once
@@ -33,7 +32,7 @@ pub data Alike (k : Fork) (d : ℕ) {A : Type 0} (out : A → List Symbol) : Res
   both_stopped : (p : List Symbol) → Alike k d out (Err (p ++ k.token ∷ k.one)) (Err (p ++ k.token ∷ k.other))
   beyond : {r s : Result A (List Symbol)} → length (remains out r) ≤ length k.one → Alike k d out r s
 
--- What a reader gives of these tokens, and the other of the others, are alike, and tokens don't get more.
+-- What two readers give is alike, and the one leaves no more tokens than these.
 pub record Agrees (k : Fork) (d : ℕ) {A : Type 0} (out : A → List Symbol) (ts : List Symbol) (r s : Result A (List Symbol)) : Type 0 where
   pub fewer : length (remains out r) ≤ length ts
   pub alike : Alike k d out r s
@@ -46,10 +45,10 @@ abbrev pub BothRead : {A : Type 0} → Fork → ℕ → List Symbol → Step A �
 BothRead {A = A} k d ts r s = Agrees k d {A = A × List Symbol} (λ x. x.1) ts r s
 
 -- ---- one after the other
--- what has passed the token may be beside anything
-whatever : {k : Fork} {d : ℕ} {A : Type 0} {out : A → List Symbol} {ts : List Symbol} {r s : Result A (List Symbol)} (u : Result A (List Symbol))
+-- where the token is passed, nothing is said of the other
+beside_any : {k : Fork} {d : ℕ} {A : Type 0} {out : A → List Symbol} {ts : List Symbol} {r s : Result A (List Symbol)} (u : Result A (List Symbol))
     → Agrees k d out ts r s → length ts ≤ length k.one → Agrees k d out ts r u
-whatever {out = out} {ts = ts} {r = r} u a le = let f : length (remains out r) ≤ length ts = a.fewer in record { fewer = f; alike = beyond (omega arith) }
+beside_any {out = out} {ts = ts} {r = r} u a le = let f : length (remains out r) ≤ length ts = a.fewer in record { fewer = f; alike = beyond (omega arith) }
 
 pub of_more : {k : Fork} {d : ℕ} {A : Type 0} {out : A → List Symbol} {mid ts : List Symbol} {r s : Result A (List Symbol)}
     → Agrees k d out mid r s → length mid ≤ length ts → Agrees k d out ts r s
@@ -60,7 +59,7 @@ next_by : {k : Fork} {d e : ℕ} {A B : Type 0} {from : A → List Symbol} {out 
     → Agrees k e out (remains from r) (r >>= f) (s >>= g)
 next_by ts r s fewer (both_on {x = x} {y = y} same) h = h x y fewer same
 next_by ts r s fewer (both_stopped p) h = record { fewer = omega arith; alike = both_stopped p }
-next_by ts (Ok x) s fewer (beyond le) h = whatever _ (h x x fewer (past le)) le
+next_by ts (Ok x) s fewer (beyond le) h = beside_any _ (h x x fewer (past le)) le
 next_by ts (Err at) s fewer (beyond le) h = record { fewer = omega arith; alike = beyond le }
 
 pub next_within : {k : Fork} {d e : ℕ} {A B : Type 0} {from : A → List Symbol} {out : B → List Symbol} {ts : List Symbol} {r s : Result A (List Symbol)} {f g : A → Result B (List Symbol)}
@@ -97,7 +96,7 @@ pub of_equal : {k : Fork} {d : ℕ} {A : Type 0} {out : A → List Symbol} {ts :
 of_equal {k = k} {d = d} {out = out} {ts = ts} {r = r} {v = v} p q a = subst (λ z. Agrees k d out ts z v) (sym p) (subst (λ z. Agrees k d out ts r z) (sym q) a)
 
 -- ---- what begins a loop again
--- how far the two are from each other's end
+-- the one's tokens are as many more than the other's as what stands behind the token
 apart : {k : Fork} {d : ℕ} {ts us : List Symbol} → Same k d ts us → (length ts ≤ length k.one) ⊎ (length ts + length k.other ≡ length us + length k.one)
 apart (abreast p low n) = inr (simp length-append (omega arith))
 apart (past le) = inl le
@@ -108,7 +107,7 @@ apart_after (both_on same) = apart same
 apart_after (both_stopped p) = inr (simp length-append (omega arith))
 apart_after (beyond le) = inl le
 
--- What is one reader behind the other as long as tokens don't get more.
+-- Two loops that are one reader behind the other, as long as that reader leaves no more tokens than it is given.
 pub unrolled : {k : Fork} {d e c : ℕ} {A B : Type 0} {from : A → List Symbol} {out : B → List Symbol} {ts us : List Symbol} {r s : Result A (List Symbol)} (f g : A → Result B (List Symbol)) {v w : Result B (List Symbol)}
     → Same k d ts us → Agrees k e from ts r s
     → (length (remains from r) ≤ length ts → v ≡ (r >>= f)) → (length (remains from s) ≤ length us → w ≡ (s >>= g))
@@ -118,7 +117,7 @@ unrolled {k = k} {c = c} {from = from} {out = out} {ts = ts} {us = us} {r = r} {
     let fewer : length (remains from r) ≤ length ts = a.fewer in
     let both = next_by ts r s fewer a.alike h in
     let beside_it : length (remains from r) ≤ length k.one → Agrees k c out ts v w
-        = λ le. subst (λ z. Agrees k c out ts z w) (sym (one_law fewer)) (of_more (whatever w both le) fewer) in
+    = λ le. subst (λ z. Agrees k c out ts z w) (sym (one_law fewer)) (of_more (beside_any w both le) fewer) in
     elim (apart same) [
       | inl le ↦ beside_it (omega arith)
       | inr far ↦ elim (apart_after a.alike) [
@@ -161,7 +160,7 @@ pub looked_among : (n : ℕ) {k : Fork} {d e : ℕ} {A : Type 0} {out : A → Li
 looked_among n {k = k} f g none looks few (abreast [] low nests) = look_at low (looks k.token k.one k.other few)
 looked_among n {k = k} f g none looks few (abreast (t ∷ p) low nests) = look_before p low nests (looks t (p ++ k.token ∷ k.one) (p ++ k.token ∷ k.other) few)
 looked_among n {out = out} f g none looks few (past {ts = []} le) = let z : length (remains out (f [])) ≡ 0 = ap length none in record { fewer = omega arith; alike = beyond (omega arith) }
-looked_among n f g none looks few (past {ts = t ∷ ts} {us = us} le) = whatever (g us) (look_past le (looks t ts ts few)) le
+looked_among n f g none looks few (past {ts = t ∷ ts} {us = us} le) = beside_any (g us) (look_past le (looks t ts ts few)) le
 
 pub looked : {k : Fork} {d e : ℕ} {A : Type 0} {out : A → List Symbol} (f g : List Symbol → Result A (List Symbol)) → remains out (f []) ≡ []
     → ((t : Symbol) (ts us : List Symbol) → Looks k d e out t ts us (f (t ∷ ts)) (g (t ∷ us)))

@@ -9,3 +9,4 @@ pub mod PiecesAgree
 pub mod OperandsAgree
 pub mod PhrasesAgree
 pub mod ProgramsAgree
+pub mod Places

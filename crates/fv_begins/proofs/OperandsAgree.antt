@@ -1,5 +1,5 @@
 -- What begins an operand, in two lists that are the same up to and with a token.
-use Rattle.std.proofs.Common.{◌≡◌, ℕ, suc, List, [], ◌∷◌, length, Ok, Err, refl, sym, ◌∙◌}
+use Rattle.std.proofs.Common.{◌≡◌, ℕ, suc, List, ◌∷◌, length, refl, sym, ◌∙◌}
 use Rattle.fv_lex.specs.declared.token.Symbol.{Symbol}
 use Rattle.fv_lex.specs.declared.token.Symbol.TheVariants.{Name, Integer}
 use Rattle.fv_grammar.specs.declared.form.Iteration.{Iteration as Repetition}
@@ -11,7 +11,7 @@ use Rattle.fv_grammar.specs.declared.symbol.Head.{Head}
 use Rattle.fv_grammar.specs.declared.symbol.Head.TheVariants as heads
 use Rattle.fv_grammar.specs.declared.symbol.Inside.TheVariants as insides
 use Rattle.fv_grammar.specs.Symbols.{head}
-use Rattle.fv_grammar.specs.Descent.{◌>>=◌, Reader, after_plus, after_minus, group, abstraction, case_of, iteration, ports, switch, slider, panel, by_head, primary}
+use Rattle.fv_grammar.specs.Descent.{Reader, after_plus, after_minus, group, abstraction, case_of, iteration, ports, switch, slider, panel, by_head, primary}
 use Rattle.fv_begins.proofs.Agreement.{Fork, Same, BothRead, also, given, halted, Looks, takes, stays_at, looked, Passing, no_bracket, head_passing, group_opens, AgreesInside}
 use Rattle.fv_begins.proofs.PiecesAgree.{opening_both, close_both, open_brace_both, close_brace_both, comma_both, dot_both, a_name_both, a_text_both, label_both, name_list_both, enclosed_both, argument_both}
 
@@ -21,22 +21,22 @@ group_both inside start start' same = also (enclosed_both inside insides.Express
 
 abstraction_both : {k : Fork} {d : ℕ} {inner inner' : Reader} → AgreesInside k (suc d) inner inner' → (start start' : ℕ) {ts us : List Symbol} → Same k d ts us → BothRead k d ts (abstraction inner start ts) (abstraction inner' start' us)
 unfolding abstraction
-abstraction_both inside start start' same = also (opening_both same) (λ o o' s.
+abstraction_both inside start start' same = also (opening_both same) (λ opened opened' s.
     also (name_list_both s) (λ ns ns' s.
-    also (close_both s) (λ c c' s.
-    also (dot_both s) (λ d d' s.
-    also (opening_both s) (λ a a' s.
+    also (close_both s) (λ closed closed' s.
+    also (dot_both s) (λ dotted dotted' s.
+    also (opening_both s) (λ again again' s.
     also (enclosed_both inside insides.Expression s) (λ x y s. given s))))))
 
 case_both : {k : Fork} {d : ℕ} {inner inner' : Reader} → AgreesInside k (suc d) inner inner' → (start start' : ℕ) {ts us : List Symbol} → Same k d ts us → BothRead k d ts (case_of inner start ts) (case_of inner' start' us)
 unfolding case_of
-case_both inside start start' same = also (open_brace_both same) (λ o o' s.
+case_both inside start start' same = also (open_brace_both same) (λ opened opened' s.
     also (inside.agree insides.Rules s) (λ x y s.
     also (close_brace_both s) (λ rest rest' s. given s)))
 
 iteration_both : {k : Fork} {d : ℕ} {inner inner' : Reader} → AgreesInside k (suc d) inner inner' → (start start' : ℕ) (i : Repetition) {ts us : List Symbol} → Same k d ts us → BothRead k d ts (iteration inner start i ts) (iteration inner' start' i us)
 unfolding iteration
-iteration_both inside start start' i same = also (opening_both same) (λ o o' s.
+iteration_both inside start start' i same = also (opening_both same) (λ opened opened' s.
     also (a_name_both s) (λ n n' s.
     also (comma_both s) (λ rest rest' s.
     also (argument_both inside s) (λ x x' s.
@@ -44,12 +44,12 @@ iteration_both inside start start' i same = also (opening_both same) (λ o o' s.
 
 ports_both : {k : Fork} {d : ℕ} {inner inner' : Reader} → AgreesInside k (suc d) inner inner' → (start start' : ℕ) (side : Side) {ts us : List Symbol} → Same k d ts us → BothRead k d ts (ports inner start side ts) (ports inner' start' side us)
 unfolding ports
-ports_both inside start start' side same = also (opening_both same) (λ o o' s.
+ports_both inside start start' side same = also (opening_both same) (λ opened opened' s.
     also (enclosed_both inside insides.Expression s) (λ x y s. given s))
 
 switch_both : {k : Fork} {d : ℕ} (start start' : ℕ) (kind : SwitchKind) {ts us : List Symbol} → Same k d ts us → BothRead k d ts (switch start kind ts) (switch start' kind us)
 unfolding switch
-switch_both start start' kind same = also (opening_both same) (λ o o' s.
+switch_both start start' kind same = also (opening_both same) (λ opened opened' s.
     also (a_text_both s) (λ text text' s.
     also (close_both s) (λ rest rest' s. given s)))
 

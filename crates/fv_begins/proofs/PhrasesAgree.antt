@@ -1,5 +1,5 @@
 -- Postfixes, patterns, operators and expressions, in two lists that are the same up to and with a token.
-use Rattle.std.proofs.Common.{◌≡◌, ℕ, zero, suc, ◌+◌, ◌≤◌, ◌<◌, Bool, true, false, cond, List, [], ◌∷◌, length, drop, Ok, Err, refl, sym, ap, ◌∙◌, arith}
+use Rattle.std.proofs.Common.{◌≡◌, ℕ, zero, suc, ◌≤◌, ◌<◌, Bool, true, false, cond, List, [], ◌∷◌, length, drop, Ok, Err, refl, ap, ◌∙◌, arith}
 use Rattle.std.specs.Prelude.{nat_eq}
 use Rattle.std.proofs.lemmas.Bool.{eqb-true}
 use Rattle.fv_lex.specs.declared.token.Symbol.{Symbol}
@@ -162,7 +162,7 @@ abbrev block : Reader → List Symbol → Step Tree
 block inner ts = open_brace ts >>= λ rest. (inner insides.Definitions rest >>= λ y. (close_brace y.1 >>= λ end. Ok (y.0, end)))
 
 block_both : {k : Fork} {d : ℕ} {inner inner' : Reader} → AgreesInside k (suc d) inner inner' → {ts us : List Symbol} → Same k d ts us → BothRead k d ts (block inner ts) (block inner' us)
-block_both inside same = also (open_brace_both same) (λ o o' s. also (inside.agree insides.Definitions s) (λ x y s. also (close_brace_both s) (λ rest rest' s. given s)))
+block_both inside same = also (open_brace_both same) (λ opened opened' s. also (inside.agree insides.Definitions s) (λ x y s. also (close_brace_both s) (λ rest rest' s. given s)))
 
 with_look : {k : Fork} {d : ℕ} {inner inner' : Reader} → AgreesInside k (suc d) inner inner' → (start start' : ℕ) (n : ℕ) → TurnsAgree k d (with_turn inner start) (with_turn inner' start') n
     → (x y : Tree) (t : Symbol) (ts us : List Symbol) → length (t ∷ ts) ≤ n

@@ -1,12 +1,12 @@
 -- Single tokens, names, and what stands in brackets, in two lists that are the same up to and with a token.
-use Rattle.std.proofs.Common.{◌≡◌, ℕ, zero, suc, ◌+◌, ◌≤◌, ◌<◌, Bool, true, false, cond, List, [], ◌∷◌, ◌++◌, length, drop, Result, Ok, Err, refl, sym, ap, ◌∙◌, arith}
+use Rattle.std.proofs.Common.{◌≡◌, ℕ, zero, suc, ◌≤◌, ◌<◌, cond, List, [], ◌∷◌, length, drop, Ok, refl, ap, ◌∙◌, arith}
 use Rattle.fv_lex.specs.declared.token.Symbol.{Symbol}
 use Rattle.fv_lex.specs.declared.token.Symbol.TheVariants.{Name, Text, Comma, Open, Close, OpenBrace, CloseBrace, Equals, Arrow, Semicolon, Dot}
 use Rattle.fv_grammar.specs.declared.symbol.Inside.{Inside}
 use Rattle.fv_grammar.specs.declared.symbol.Inside.TheVariants as insides
-use Rattle.fv_grammar.specs.Descent.{Step, ◌>>=◌, Reader, opening, close, open_brace, close_brace, comma, equals, arrow, semicolon, dot, a_name, a_text, at_comma, name_list, enclosed, argument, label}
+use Rattle.fv_grammar.specs.Descent.{Step, Reader, opening, close, open_brace, close_brace, comma, equals, arrow, semicolon, dot, a_name, a_text, at_comma, name_list, enclosed, argument, label}
 use Rattle.fv_grammar.proofs.Loops.{names_step, names_end, names_stop, with_name}
-use Rattle.fv_begins.proofs.Agreement.{Fork, Same, Agrees, remains, BothPass, BothRead, also, given, halted, both_test, of_more, next_within, unrolled, Looks, takes, stays_at, looked, looked_among, opens, opens_brace, closes, closes_brace, no_bracket, AgreesInside, of_test, of_equal}
+use Rattle.fv_begins.proofs.Agreement.{Fork, Same, remains, BothPass, BothRead, also, given, halted, Looks, takes, stays_at, looked, looked_among, opens, opens_brace, closes, closes_brace, no_bracket, AgreesInside, of_test, of_equal}
 
 -- ---- single tokens
 opening_look : {k : Fork} {d : ℕ} (t : Symbol) (ts us : List Symbol) → Looks k d (suc d) (λ rest. rest) t ts us (opening (t ∷ ts)) (opening (t ∷ us))

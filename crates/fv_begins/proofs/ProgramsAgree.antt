@@ -44,7 +44,7 @@ definition_both {inner = inner} {inner' = inner'} inside n {ts = ts} {us = us} s
 
 rule_both : {k : Fork} {d : ℕ} {inner inner' : Reader} → AgreesInside k (suc d) inner inner' → {ts us : List Symbol} → Same k d ts us → BothRead k d ts (one_rule inner ts) (one_rule inner' us)
 unfolding one_rule
-rule_both inside same = also (opening_both same) (λ o o' s. also (enclosed_both inside insides.Patterns s) (λ ps ps' s. also (arrow_both s) (λ side side' s. also (ended_both inside s) (λ x y s. given s))))
+rule_both inside same = also (opening_both same) (λ opened opened' s. also (enclosed_both inside insides.Patterns s) (λ ps ps' s. also (arrow_both s) (λ side side' s. also (ended_both inside s) (λ x y s. given s))))
 
 -- behind the bracket
 rule_behind : {k : Fork} {d : ℕ} {inner inner' : Reader} → AgreesInside k (suc d) inner inner' → {ts us : List Symbol} → Same k (suc d) ts us → BothRead k d ts (one_rule inner (Open ∷ ts)) (one_rule inner' (Open ∷ us))
