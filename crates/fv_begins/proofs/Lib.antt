@@ -4,3 +4,9 @@ pub mod Operands
 pub mod Turns
 pub mod Phrases
 pub mod Programs
+pub mod Agreement
+pub mod PiecesAgree
+pub mod OperandsAgree
+pub mod PhrasesAgree
+pub mod ProgramsAgree
+pub mod Places

@@ -1,7 +1,7 @@
-//! What stands before the place of a syntax error begins a program.
+//! The exact place of a syntax error: the tokens before it begin a program, and with the next one none begins.
 #![tactic(auto)]
 
-ghost use Rattle.fv_begins.specs.Beginnings.{StopsBehindABeginning, BeginningsAreClosed, ProgramsBegin};
+ghost use Rattle.fv_begins.specs.Beginnings.{StopsBehindABeginning, BeginningsAreClosed, ProgramsBegin, StopsWhereNoneGoesOn, StopsAtThePlace, OnePlace};
 
 /// Where the descent stops, the tokens before begin a program.
 pub fn stops_behind_a_beginning()
@@ -12,4 +12,15 @@ pub fn stops_behind_a_beginning()
 pub fn beginnings_are_closed()
     ensures closed { BeginningsAreClosed }
     ensures whole { ProgramsBegin }
+{}
+
+/// No program begins with the tokens up to and with the one where the descent stops.
+pub fn stops_where_none_goes_on()
+    ensures { StopsWhereNoneGoesOn }
+{}
+
+/// Where the descent stops is the place of an error, and a list of tokens has at most one such place.
+pub fn stops_at_the_place()
+    ensures place { StopsAtThePlace }
+    ensures unique { OnePlace }
 {}

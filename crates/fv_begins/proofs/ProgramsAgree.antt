@@ -1,0 +1,164 @@
+-- Definitions, rules, lists, and the inside of brackets, in two lists that are the same up to and with a token.
+use Rattle.std.proofs.Common.{◌≡◌, ℕ, zero, suc, ◌+◌, ◌≤◌, ◌<◌, Bool, true, false, List, [], ◌∷◌, length, Result, Ok, Err, refl, ap, arith}
+use Rattle.fv_lex.specs.declared.token.Symbol.{Symbol}
+use Rattle.fv_lex.specs.declared.token.Symbol.TheVariants.{Name, Comma, Open, Declare}
+use Rattle.fv_grammar.specs.declared.symbol.Inside.{Inside}
+use Rattle.fv_grammar.specs.declared.symbol.Inside.TheVariants as insides
+use Rattle.fv_grammar.specs.declared.symbol.Items.{Items}
+use Rattle.fv_grammar.specs.declared.symbol.Items.TheVariants.{Statements, Definitions, Rules, Parts}
+use Rattle.fv_grammar.specs.Tree.{Tree, End}
+use Rattle.fv_grammar.specs.Descent as descent
+use Rattle.fv_grammar.specs.Descent.{Step, ◌>>=◌, Reader, phrase, ended, function_after, constant_after, after_name, definition, one_rule, declared_text, declared_for, declaration, Item, one_of, skip_of, item, further, listed, descend, within}
+use Rattle.fv_grammar.proofs.Loops.{all_of, before, many_one, many_skip, many_done, many_stop}
+use Rattle.fv_begins.proofs.Agreement.{Fork, Same, abreast, past, beyond, remains, BothPass, BothRead, also, given, of_equal, unrolled, Looks, takes, stays_at, looked, looked_among, opens, no_bracket, AgreesInside}
+use Rattle.fv_begins.proofs.PiecesAgree.{opening_both, equals_both, arrow_both, semicolon_both, a_name_both, a_text_both, enclosed_both}
+use Rattle.fv_begins.proofs.PhrasesAgree.{phrase_both, expression_both}
+
+-- ---- definitions and rules
+ended_both : {k : Fork} {d : ℕ} {inner inner' : Reader} → AgreesInside k (suc d) inner inner' → {ts us : List Symbol} → Same k d ts us → BothRead k d ts (ended inner ts) (ended inner' us)
+unfolding ended
+ended_both inside same = also (expression_both inside same) (λ x y s. also (semicolon_both s) (λ rest rest' s. given s))
+
+function_both : {k : Fork} {d : ℕ} {inner inner' : Reader} → AgreesInside k (suc d) inner inner' → (start start' n : ℕ) {ts us : List Symbol} → Same k (suc d) ts us → BothRead k d ts (function_after inner start n ts) (function_after inner' start' n us)
+unfolding function_after
+function_both inside start start' n same = also (enclosed_both inside insides.Patterns same) (λ ps ps' s. also (equals_both s) (λ side side' s. also (ended_both inside s) (λ x y s. given s)))
+
+constant_both : {k : Fork} {d : ℕ} {inner inner' : Reader} → AgreesInside k (suc d) inner inner' → (start start' n : ℕ) {ts us : List Symbol} → Same k d ts us → BothRead k d ts (constant_after inner start n ts) (constant_after inner' start' n us)
+unfolding constant_after
+constant_both inside start start' n same = also (equals_both same) (λ side side' s. also (ended_both inside s) (λ x y s. given s))
+
+name_look : {k : Fork} {d : ℕ} {inner inner' : Reader} → AgreesInside k (suc d) inner inner' → (start start' n : ℕ) (t : Symbol) (ts us : List Symbol)
+    → Looks k d d (λ x. x.1) t ts us (after_name inner start n (t ∷ ts)) (after_name inner' start' n (t ∷ us))
+name_look inside start start' n Open ts us = takes _ opens (λ s. function_both inside start start' n s)
+name_look inside start start' n t ts us = stays_at (λ s. constant_both inside start start' n s)
+
+nothing_behind : (inner : Reader) (start n : ℕ) → remains (λ x. x.1) (after_name inner start n []) ≡ []
+unfolding constant_after
+nothing_behind inner start n = refl
+
+-- behind the name
+definition_both : {k : Fork} {d : ℕ} {inner inner' : Reader} → AgreesInside k (suc d) inner inner' → (n : ℕ) {ts us : List Symbol} → Same k d ts us → BothRead k d ts (definition inner (Name n ∷ ts)) (definition inner' (Name n ∷ us))
+unfolding definition
+definition_both {inner = inner} {inner' = inner'} inside n {ts = ts} {us = us} same =
+    looked (after_name inner (length (Name n ∷ ts)) n) (after_name inner' (length (Name n ∷ us)) n) (nothing_behind inner _ n) (name_look inside _ _ n) same
+
+rule_both : {k : Fork} {d : ℕ} {inner inner' : Reader} → AgreesInside k (suc d) inner inner' → {ts us : List Symbol} → Same k d ts us → BothRead k d ts (one_rule inner ts) (one_rule inner' us)
+unfolding one_rule
+rule_both inside same = also (opening_both same) (λ opened opened' s. also (enclosed_both inside insides.Patterns s) (λ ps ps' s. also (arrow_both s) (λ side side' s. also (ended_both inside s) (λ x y s. given s))))
+
+-- behind the bracket
+rule_behind : {k : Fork} {d : ℕ} {inner inner' : Reader} → AgreesInside k (suc d) inner inner' → {ts us : List Symbol} → Same k (suc d) ts us → BothRead k d ts (one_rule inner (Open ∷ ts)) (one_rule inner' (Open ∷ us))
+unfolding one_rule
+rule_behind inside same = also (enclosed_both inside insides.Patterns same) (λ ps ps' s. also (arrow_both s) (λ side side' s. also (ended_both inside s) (λ x y s. given s)))
+
+-- ---- declarations
+text_both : {k : Fork} {d : ℕ} {ts us : List Symbol} → Same k d ts us → BothPass k d ts (declared_text ts) (declared_text us)
+text_both same = also (a_text_both same) (λ text text' s. semicolon_both s)
+
+declared_look : {k : Fork} {d : ℕ} (t : Symbol) (ts us : List Symbol) → Looks k d d (λ rest. rest) t ts us (declared_for (t ∷ ts)) (declared_for (t ∷ us))
+declared_look (Name n) ts us = takes _ (no_bracket (λ p n. n)) (λ s. text_both s)
+declared_look t ts us = stays_at (λ s. text_both s)
+
+declaration_both : {k : Fork} {d : ℕ} {ts us : List Symbol} → Same k d ts us → BothPass k d ts (declaration ts) (declaration us)
+declaration_both same = also (a_name_both same) (λ n n' s. looked declared_for declared_for refl declared_look s)
+
+-- ---- lists
+one_law : (next : List Symbol → Item) (t : Symbol) (ts : List Symbol) (r : Step Tree) → next (t ∷ ts) ≡ one_of r → length (remains (λ x. x.1) r) ≤ length ts
+    → all_of next (t ∷ ts) ≡ (r >>= λ x. before x.0 (all_of next x.1))
+one_law next t ts (Ok x) e few = many_one next (t ∷ ts) x.0 x.1 e (omega arith)
+one_law next t ts (Err at) e few = many_stop next (t ∷ ts) at e
+
+skip_law : (next : List Symbol → Item) (t : Symbol) (ts : List Symbol) (r : Result (List Symbol) (List Symbol)) → next (t ∷ ts) ≡ skip_of r → length (remains (λ rest. rest) r) ≤ length ts
+    → all_of next (t ∷ ts) ≡ (r >>= λ rest. all_of next rest)
+skip_law next t ts (Ok rest) e few = many_skip next (t ∷ ts) rest e (omega arith)
+skip_law next t ts (Err at) e few = many_stop next (t ∷ ts) at e
+
+abbrev ItemsAgree : Fork → ℕ → (List Symbol → Item) → (List Symbol → Item) → ℕ → Type 0
+ItemsAgree k d next next' n = (ts us : List Symbol) → length ts < n → Same k d ts us → BothRead k d ts (all_of next ts) (all_of next' us)
+
+-- an item behind a token, and what is passed over behind one
+one_both : {k : Fork} {m d : ℕ} (n : ℕ) (next next' : List Symbol → Item) (t : Symbol) (ts us : List Symbol) (r s : Step Tree)
+    → ItemsAgree k d next next' n → length (t ∷ ts) ≤ n → next (t ∷ ts) ≡ one_of r → next' (t ∷ us) ≡ one_of s → Same k m ts us → BothRead k d ts r s
+    → BothRead k d ts (all_of next (t ∷ ts)) (all_of next' (t ∷ us))
+one_both n next next' t ts us r s go few p q same a = unrolled (λ x. before x.0 (all_of next x.1)) (λ x. before x.0 (all_of next' x.1)) same a
+    (λ le. one_law next t ts r p le)
+    (λ le. one_law next' t us s q le)
+    (λ x y le alike. also (go _ _ (omega arith) alike) (λ z w s. given s))
+
+skip_both : {k : Fork} {m d : ℕ} (n : ℕ) (next next' : List Symbol → Item) (t : Symbol) (ts us : List Symbol) (r s : Result (List Symbol) (List Symbol))
+    → ItemsAgree k d next next' n → length (t ∷ ts) ≤ n → next (t ∷ ts) ≡ skip_of r → next' (t ∷ us) ≡ skip_of s → Same k m ts us → BothPass k d ts r s
+    → BothRead k d ts (all_of next (t ∷ ts)) (all_of next' (t ∷ us))
+skip_both n next next' t ts us r s go few p q same a = unrolled (λ rest. all_of next rest) (λ rest. all_of next' rest) same a
+    (λ le. skip_law next t ts r p le)
+    (λ le. skip_law next' t us s q le)
+    (λ x y le alike. go _ _ (omega arith) alike)
+
+-- no item
+no_both : {k : Fork} {d : ℕ} (next next' : List Symbol → Item) {ts us : List Symbol} → all_of next ts ≡ Ok (End, ts) → all_of next' us ≡ Ok (End, us) → Same k d ts us → BothRead k d ts (all_of next ts) (all_of next' us)
+no_both next next' p q s = of_equal p q (given s)
+
+item_look : {k : Fork} {d : ℕ} {inner inner' : Reader} → AgreesInside k (suc d) inner inner' → (items : Items) (n : ℕ) → ItemsAgree k d (item inner items) (item inner' items) n
+    → (t : Symbol) (ts us : List Symbol) → length (t ∷ ts) ≤ n → Looks k d d (λ x. x.1) t ts us (all_of (item inner items) (t ∷ ts)) (all_of (item inner' items) (t ∷ us))
+item_look {inner = inner} {inner' = inner'} inside Statements n go (Name m) ts us few = takes _ (no_bracket (λ p n. n))
+    (λ s. one_both n (item inner Statements) (item inner' Statements) (Name m) ts us (definition inner (Name m ∷ ts)) (definition inner' (Name m ∷ us)) go few refl refl s (definition_both inside m s))
+item_look {inner = inner} {inner' = inner'} inside Statements n go Declare ts us few = takes _ (no_bracket (λ p n. n))
+    (λ s. skip_both n (item inner Statements) (item inner' Statements) Declare ts us (declaration ts) (declaration us) go few refl refl s (declaration_both s))
+item_look {inner = inner} {inner' = inner'} inside Statements n go t ts us few =
+    stays_at (λ s. no_both (item inner Statements) (item inner' Statements) (many_done (item inner Statements) (t ∷ ts) refl) (many_done (item inner' Statements) (t ∷ us) refl) s)
+item_look {inner = inner} {inner' = inner'} inside Definitions n go (Name m) ts us few = takes _ (no_bracket (λ p n. n))
+    (λ s. one_both n (item inner Definitions) (item inner' Definitions) (Name m) ts us (definition inner (Name m ∷ ts)) (definition inner' (Name m ∷ us)) go few refl refl s (definition_both inside m s))
+item_look {inner = inner} {inner' = inner'} inside Definitions n go t ts us few =
+    stays_at (λ s. no_both (item inner Definitions) (item inner' Definitions) (many_done (item inner Definitions) (t ∷ ts) refl) (many_done (item inner' Definitions) (t ∷ us) refl) s)
+item_look {inner = inner} {inner' = inner'} inside Rules n go Open ts us few = takes _ opens
+    (λ s. one_both n (item inner Rules) (item inner' Rules) Open ts us (one_rule inner (Open ∷ ts)) (one_rule inner' (Open ∷ us)) go few refl refl s (rule_behind inside s))
+item_look {inner = inner} {inner' = inner'} inside Rules n go t ts us few =
+    stays_at (λ s. no_both (item inner Rules) (item inner' Rules) (many_done (item inner Rules) (t ∷ ts) refl) (many_done (item inner' Rules) (t ∷ us) refl) s)
+item_look {inner = inner} {inner' = inner'} inside (Parts pattern) n go Comma ts us few = takes _ (no_bracket (λ p n. n))
+    (λ s. one_both n (item inner (Parts pattern)) (item inner' (Parts pattern)) Comma ts us (phrase inner pattern false 8 ts) (phrase inner' pattern false 8 us) go few refl refl s (phrase_both inside pattern false 8 (omega arith) ts us s))
+item_look {inner = inner} {inner' = inner'} inside (Parts pattern) n go t ts us few =
+    stays_at (λ s. no_both (item inner (Parts pattern)) (item inner' (Parts pattern)) (many_done (item inner (Parts pattern)) (t ∷ ts) refl) (many_done (item inner' (Parts pattern)) (t ∷ us) refl) s)
+
+no_item : (inner : Reader) (items : Items) → item inner items [] ≡ descent.Nothing
+no_item inner Statements = refl
+no_item inner Definitions = refl
+no_item inner Rules = refl
+no_item inner (Parts pattern) = refl
+
+items_among : {k : Fork} {d : ℕ} {inner inner' : Reader} → AgreesInside k (suc d) inner inner' → (items : Items) (n : ℕ) → ItemsAgree k d (item inner items) (item inner' items) n
+items_among inside items zero ts us few same = absurd (omega arith)
+items_among {inner = inner} {inner' = inner'} inside items (suc n) ts us few same = looked_among n (all_of (item inner items)) (all_of (item inner' items))
+    (ap (λ r. remains (λ x. x.1) r) (many_done (item inner items) [] (no_item inner items))) (item_look inside items n (items_among inside items n)) (omega arith) same
+
+pub further_both : {k : Fork} {d : ℕ} {inner inner' : Reader} → AgreesInside k (suc d) inner inner' → (items : Items) {ts us : List Symbol} → Same k d ts us → BothRead k d ts (further inner items ts) (further inner' items us)
+unfolding further
+further_both inside items {ts = ts} {us = us} same = items_among inside items (suc (length ts)) ts us (omega arith) same
+
+rules_both : {k : Fork} {d : ℕ} {inner inner' : Reader} → AgreesInside k (suc d) inner inner' → {ts us : List Symbol} → Same k d ts us → BothRead k d ts (listed inner Rules ts) (listed inner' Rules us)
+unfolding listed
+rules_both inside same = also (rule_both inside same) (λ x y s. also (further_both inside Rules s) (λ z w s. given s))
+
+parts_both : {k : Fork} {d : ℕ} {inner inner' : Reader} → AgreesInside k (suc d) inner inner' → (pattern : Bool) {ts us : List Symbol} → Same k d ts us → BothRead k d ts (listed inner (Parts pattern) ts) (listed inner' (Parts pattern) us)
+unfolding listed
+parts_both inside pattern {ts = ts} {us = us} same = also (phrase_both inside pattern false 8 (omega arith) ts us same) (λ x y s. also (further_both inside (Parts pattern) s) (λ z w s. given s))
+
+-- ---- inside brackets
+descend_both : {k : Fork} {d : ℕ} {inner inner' : Reader} → AgreesInside k (suc d) inner inner' → (what : Inside) {ts us : List Symbol} → Same k d ts us → BothRead k d ts (descend inner what ts) (descend inner' what us)
+descend_both inside insides.Expression same = expression_both inside same
+descend_both inside insides.Argument same = phrase_both inside false false 8 (omega arith) _ _ same
+descend_both inside insides.Pattern same = phrase_both inside true true 8 (omega arith) _ _ same
+descend_both inside insides.Arguments same = parts_both inside false same
+descend_both inside insides.Patterns same = parts_both inside true same
+descend_both inside insides.Rules same = rules_both inside same
+descend_both inside insides.Definitions same = further_both inside Definitions same
+
+-- where no bracket may be opened the token is passed, or more are open than may be
+no_room : {k : Fork} {d : ℕ} {ts us : List Symbol} (s : Step Tree) → d ≡ k.limit → Same k (suc d) ts us → BothRead k (suc d) ts (Err ts) s
+no_room s e (abreast p low n) = absurd (omega arith)
+no_room s e (past le) = record { fewer = omega arith; alike = beyond le }
+
+-- The one may open as many brackets as the limit leaves, and the other at least as many.
+pub within_both : (k : Fork) (room more d : ℕ) → room + d ≡ k.limit → room ≤ more → AgreesInside k (suc d) (within room) (within more)
+unfolding within
+within_both k zero more d e le = record { agree = λ what same. no_room _ (omega arith) same }
+within_both k (suc room) zero d e le = absurd (omega arith)
+within_both k (suc room) (suc more) d e le = record { agree = λ what same. descend_both (within_both k room more (suc d) (omega arith) (omega arith)) what same }
