@@ -4,3 +4,4 @@ pub mod Endings
 pub mod Flawless
 pub mod Known
 pub mod Lexing
+pub mod Outcomes

@@ -4,7 +4,8 @@ use Rattle.fv_lex.specs.declared.token.Place.{Place}
 use Rattle.fv_lex.specs.declared.token.Symbol.{Symbol}
 use Rattle.fv_lex.specs.Token.{Lexed, symbols_of}
 use Rattle.fv_grammar.specs.Tree.{Tree as Spelled}
-use Rattle.fv_grammar.specs.Grammar.{SpellsProgram, Begins}
+use Rattle.fv_grammar.specs.Grammar.{SpellsProgram}
+use Rattle.fv_begins.specs.Beginnings.{IsErrorPlace}
 use Rattle.fv_parse.specs.declared.refusal.ParseRefusal.{ParseRefusal}
 use Rattle.fv_parse.specs.declared.refusal.ParseRefusal.TheVariants as refusals
 use Rattle.fv_parse.specs.Trees.{Parsed, program_of, place_from}
@@ -19,12 +20,19 @@ IsSupported l = first_unsupported l.tokens ≡ None
 abbrev pub IsSpelled : Lexed → Spelled → Type 0
 IsSpelled l x = SpellsProgram (symbols_of l.tokens) x
 
--- The tokens before this place, which is that of a token or the end of the text, begin some program.
+-- These tokens spell this program, and nothing refuses them or it.
+pub record IsAccepted (l : Lexed) (x : Spelled) : Type 0 where
+  pub supported : IsSupported l
+  pub spelled : IsSpelled l x
+  pub accepted : refused l x ≡ None
+
+-- The place of a syntax error, which is that of a token or the end of the text: the tokens before it begin some program, and
+-- with the one there none.
 pub record StopsAt (l : Lexed) (place : Place) : Type 0 where
   pub before : List Symbol
   pub rest : List Symbol
   pub split : symbols_of l.tokens ≡ before ++ rest
-  pub begins : Begins before
+  pub error : IsErrorPlace before rest
   pub there : place ≡ place_from l (length rest)
 
 -- Why tokens are no program, in this order: the first unsupported token, that they spell no tree, what refuses the tree.
@@ -39,6 +47,14 @@ pub record HasTree (l : Lexed) (p : Parsed) : Type 0 where
   pub tokens : p.tokens ≡ l
   pub spelled : IsSpelled l (program_of p)
   pub accepted : refused l (program_of p) ≡ None
+
+-- Tokens have at most one refusal.
+abbrev pub IsOneRefusal : Type 0
+IsOneRefusal = (l : Lexed) (a b : ParseRefusal) → HasRefusal l a → HasRefusal l b → a ≡ b
+
+-- And none where they are accepted.
+abbrev pub IsNotBoth : Type 0
+IsNotBoth = (l : Lexed) (x : Spelled) (refusal : ParseRefusal) → IsAccepted l x → HasRefusal l refusal → ⊥
 
 -- what is known of a program that is spelled
 abbrev pub Finishes : Lexed → Spelled → Result Parsed ParseRefusal → Type 0

@@ -3,6 +3,7 @@
 
 mod flaw;
 mod flaws;
+mod laws;
 mod parsed;
 mod program;
 mod refusal;
@@ -11,6 +12,7 @@ mod tests;
 mod whole;
 
 pub use fv_tree::{TreeId, TreeNode};
+pub use laws::one_outcome;
 pub use parsed::Tree;
 pub use refusal::ParseRefusal;
 pub use whole::parse;

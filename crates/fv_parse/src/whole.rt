@@ -13,7 +13,7 @@ use crate::flaws::program_flaw;
 use crate::parsed::{Tree, place_at, place_from, text_of};
 use crate::program::{definitions_of, first_unsupported, has_process};
 use crate::refusal::ParseRefusal;
-use fv_begins::stops_behind_a_beginning;
+use fv_begins::stops_at_the_place;
 use fv_lex::Tokens;
 use fv_outside::Word;
 use fv_tree::{Arena, Entry, Fault, TreeId, read};
@@ -89,7 +89,7 @@ fn finish<'a>(
 }
 
 /// The one tree that the tokens spell.
-/// An unsupported token is refused first, then tokens that spell no tree, at a place before which the tokens begin one. Of a tree the first in the text is refused of
+/// An unsupported token is refused first, then tokens that spell no tree, at the place before which they begin one and behind which none. Of a tree the first in the text is refused of
 /// a name that is redefined, one that is repeated, and a rule of another width; then that it has no `process`.
 pub fn parse<'a>(alloc: Global, tokens: &'a Tokens<'a>) -> Result<Tree<'a>, ParseRefusal>
     // A tree that is answered is the one that the tokens spell.
@@ -108,7 +108,7 @@ pub fn parse<'a>(alloc: Global, tokens: &'a Tokens<'a>) -> Result<Tree<'a>, Pars
         Ok((arena, root)) => finish(alloc, tokens, arena, root),
         Err(Fault::NoMemory) => Err(ParseRefusal::NoMemory),
         Err(Fault::Syntax(rest)) => {
-            stops_behind_a_beginning();
+            stops_at_the_place();
             let _source = tokens.source();
             let place = place_from(tokens, rest.len() as u64);
             Err(ParseRefusal::Syntax {

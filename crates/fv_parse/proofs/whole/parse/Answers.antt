@@ -23,6 +23,7 @@ returns-in-Err-Syntax-clause-refusal c =
     let l = c.args.tokens.now in
     let rest = c.in-Err-Syntax.rest.now in
     let e = ap (program 128) (sym c.symbols.ensures.symbols) ∙ rw c.in-Err-Syntax.field-0-is at c.in-Err-Syntax.ensures in
-    let stops = c.stops_behind_a_beginning.ensures 128 (symbols_of l.tokens) rest e in
-    inr (syntax_error c.place_from-place.result (sym c.in_ok-word.ensures ∙ c.in_default.is) (no_tree l rest (tokens_nest c.source-source.result.now l c.source-source.ensures) e)
-    (record { before = stops.0; rest = rest; split = stops.1; begins = stops.2; there = rw c.in-Err-Syntax.field-0-is at c.place_from-place.ensures }))
+    let nests = tokens_nest c.source-source.result.now l c.source-source.ensures in
+    let stops = c.stops_at_the_place.ensures.place 128 (symbols_of l.tokens) rest nests e in
+    inr (syntax_error c.place_from-place.result (sym c.in_ok-word.ensures ∙ c.in_default.is) (no_tree l rest nests e)
+    (record { before = stops.0; rest = rest; split = stops.1; error = stops.2; there = rw c.in-Err-Syntax.field-0-is at c.place_from-place.ensures }))
