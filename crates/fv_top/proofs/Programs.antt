@@ -9,12 +9,12 @@ use Rattle.fv_grammar.specs.Tree.{Tree}
 use Rattle.fv_grammar.specs.Grammar.{SpelledOnce}
 use Rattle.fv_parse.specs.declared.refusal.ParseRefusal.{ParseRefusal}
 use Rattle.fv_parse.specs.declared.refusal.ParseRefusal.TheVariants as tokens
-use Rattle.fv_parse.specs.Outcomes.{IsSpelled, HasRefusal as HasTokensRefusal, unsupported, syntax_error, refused_tree}
+use Rattle.fv_parse.specs.Outcomes.{IsSpelled, IsAccepted, HasRefusal as HasTokensRefusal, IsOneRefusal as IsOneTokensRefusal, IsNotBoth as TokensNotBoth}
 use Rattle.fv_diagram.specs.Diagram.{Diagram}
 use Rattle.fv_small.specs.Small.{IsSmall, IsNotSmall, SmallOnce}
 use Rattle.fv_top.specs.declared.refusal.Refusal.{Refusal}
 use Rattle.fv_top.specs.declared.refusal.Refusal.TheVariants.{Unsupported, NoMemory}
-use Rattle.fv_top.specs.Program.{IsProgram, IsAccepted, IsRefusedText, bad_bytes, bad_tokens, not_small, of_bytes, of_tokens}
+use Rattle.fv_top.specs.Program.{IsProgram, IsRefusedText, bad_bytes, bad_tokens, not_small, of_bytes, of_tokens}
 use Rattle.fv_top.specs.Promise.{IsOfFiles}
 
 -- one text has one list of tokens
@@ -36,25 +36,38 @@ small_of text d e lexed spelled p q =
 pub one_diagram : (text : List ℕ) (d e : Diagram) → HasAtMostOne → SpelledOnce → SmallOnce → IsProgram text d → IsProgram text e → d ≡ e
 one_diagram text d e lexed spelled small p q = small p.lexed p.tree d e p.small (small_of text d e lexed spelled p q)
 
--- accepted tokens have no refusal
-accepted_tokens : (l : Lexed) (x : Tree) (e : ParseRefusal) → SpelledOnce → IsAccepted l x → HasTokensRefusal l e → ⊥
-accepted_tokens l x e spelled a (unsupported h) = let s = a.supported in cc
-accepted_tokens l x e spelled a (syntax_error place s none stops) = none x a.spelled
-accepted_tokens l x e spelled a (refused_tree s is some) =
-    let same = one_tree l _ x spelled is a.spelled in
-    let h = a.accepted in
-    let g = rw same at some in
-    cc
+-- tokens that are accepted are not refused
+apart_tokens : (text : List ℕ) (l m : Lexed) (x : Tree) (e : ParseRefusal) → HasAtMostOne → TokensNotBoth → HasTokens text l → IsAccepted l x → HasTokens text m → HasTokensRefusal m e → ⊥
+apart_tokens text l m x e lexed apart p a q has = apart l x e a (subst (λ (w : Lexed). HasTokensRefusal w e) (one_list text m l lexed q p) has)
 
-pub not_both : (text : List ℕ) (d : Diagram) (refusal : Refusal) → HasAtMostOne → SpelledOnce → IsProgram text d → IsRefusedText text refusal → ⊥
-not_both text d refusal lexed spelled p (bad_bytes e h is) = let q = lexed text (Ok p.lexed) (Err e) p.cut h in cc
-not_both text d refusal lexed spelled p (bad_tokens l e h has is) =
-    accepted_tokens p.lexed p.tree e spelled p.accepted (subst (λ (w : Lexed). HasTokensRefusal w e) (one_list text l p.lexed lexed h p.cut) has)
-not_both text d refusal lexed spelled p (not_small l x h a none is) =
+-- a text that has tokens is not refused for its bytes
+apart_bytes : (text : List ℕ) (l : Lexed) (e : LexRefusal) → HasAtMostOne → HasTokens text l → HasBytesRefusal text e → ⊥
+apart_bytes text l e lexed p h = let q = lexed text (Ok l) (Err e) p h in cc
+
+pub not_both : (text : List ℕ) (d : Diagram) (refusal : Refusal) → HasAtMostOne → SpelledOnce → TokensNotBoth → IsProgram text d → IsRefusedText text refusal → ⊥
+not_both text d refusal lexed spelled apart p (bad_bytes e h is) = apart_bytes text p.lexed e lexed p.cut h
+not_both text d refusal lexed spelled apart p (bad_tokens l e h has is) = apart_tokens text p.lexed l p.tree e lexed apart p.cut p.accepted h has
+not_both text d refusal lexed spelled apart p (not_small l x h a none is) =
     let same = one_list text p.lexed l lexed p.cut h in
     let there : IsSpelled l p.tree = subst (λ (w : Lexed). IsSpelled w p.tree) same p.accepted.spelled in
     let tree = one_tree l p.tree x spelled there a.spelled in
     none d (subst (λ (t : Tree). IsSmall l t d) tree (subst (λ (w : Lexed). IsSmall w p.tree d) same p.small))
+
+-- two refusals of one text are one
+pub one_refusal : (text : List ℕ) (a b : Refusal) → HasAtMostOne → IsOneTokensRefusal → TokensNotBoth → IsRefusedText text a → IsRefusedText text b → a ≡ b
+one_refusal text a b lexed once apart (bad_bytes e h is) (bad_bytes f k js) =
+    let q = lexed text (Err e) (Err f) h k in
+    let same : e ≡ f = cc in
+    is ∙ ap of_bytes same ∙ sym js
+one_refusal text a b lexed once apart (bad_bytes e h is) (bad_tokens m f k has js) = absurd (apart_bytes text m e lexed k h)
+one_refusal text a b lexed once apart (bad_bytes e h is) (not_small m y k c none js) = absurd (apart_bytes text m e lexed k h)
+one_refusal text a b lexed once apart (bad_tokens l e h has is) (bad_bytes f k js) = absurd (apart_bytes text l f lexed h k)
+one_refusal text a b lexed once apart (bad_tokens l e h has is) (bad_tokens m f k other js) =
+    is ∙ ap of_tokens (once l e f has (subst (λ (w : Lexed). HasTokensRefusal w f) (one_list text m l lexed k h) other)) ∙ sym js
+one_refusal text a b lexed once apart (bad_tokens l e h has is) (not_small m y k c none js) = absurd (apart_tokens text m l y e lexed apart k c h has)
+one_refusal text a b lexed once apart (not_small l x h c none is) (bad_bytes f k js) = absurd (apart_bytes text l f lexed h k)
+one_refusal text a b lexed once apart (not_small l x h c none is) (bad_tokens m f k has js) = absurd (apart_tokens text l m x f lexed apart h c k has)
+one_refusal text a b lexed once apart (not_small l x h c none is) (not_small m y k d others js) = is ∙ sym js
 
 -- refusals of the bytes and of the tokens speak of a file, but want of memory
 pub bytes_stop : (text : List ℕ) (e : LexRefusal) (refusal : Refusal) → refusal ≡ of_bytes e → (e ≡ bytes.NoMemory) ⊎ HasBytesRefusal text e →

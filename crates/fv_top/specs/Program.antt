@@ -1,5 +1,5 @@
 -- What a program's text is: a program of one diagram, or refused for its first fault (Faust manual, cut down by this project's profile).
-use Rattle.std.specs.Prelude.{◌≡◌, ℕ, List, None, codes}
+use Rattle.std.specs.Prelude.{◌≡◌, ℕ, List, codes}
 use Rattle.fv_lex.specs.declared.refusal.LexRefusal.{LexRefusal}
 use Rattle.fv_lex.specs.declared.refusal.LexRefusal.TheVariants as bytes
 use Rattle.fv_lex.specs.Token.{Lexed}
@@ -7,18 +7,11 @@ use Rattle.fv_lex.specs.Cuts.{HasTokens, HasRefusal as HasBytesRefusal}
 use Rattle.fv_grammar.specs.Tree.{Tree}
 use Rattle.fv_parse.specs.declared.refusal.ParseRefusal.{ParseRefusal}
 use Rattle.fv_parse.specs.declared.refusal.ParseRefusal.TheVariants as tokens
-use Rattle.fv_parse.specs.Flaws.{refused}
-use Rattle.fv_parse.specs.Outcomes.{IsSupported, IsSpelled, HasRefusal as HasTokensRefusal}
+use Rattle.fv_parse.specs.Outcomes.{IsAccepted, HasRefusal as HasTokensRefusal}
 use Rattle.fv_diagram.specs.Diagram.{Diagram}
 use Rattle.fv_small.specs.Small.{IsSmall, IsNotSmall}
 use Rattle.fv_top.specs.declared.refusal.Refusal.{Refusal}
 use Rattle.fv_top.specs.declared.refusal.Refusal.TheVariants.{TextTooLong, BadByte, Unclosed, RealLiteral, LiteralTooLarge, Syntax, Unsupported, Redefined, RepeatedName, RuleWidths, NoProcess, NoMemory, Nesting}
-
--- These tokens spell this tree, and nothing refuses them or it.
-pub record IsAccepted (lexed : Lexed) (tree : Tree) : Type 0 where
-  pub supported : IsSupported lexed
-  pub spelled : IsSpelled lexed tree
-  pub accepted : refused lexed tree ≡ None
 
 -- The text is a program of this diagram: its tokens spell a tree that is small by it.
 pub record IsProgram (text : List ℕ) (d : Diagram) : Type 0 where
@@ -57,6 +50,10 @@ pub data IsRefusedText (text : List ℕ) (refusal : Refusal) : Type 0 where
 -- A text is a program of at most one diagram.
 abbrev pub IsOneProgram : Type 0
 IsOneProgram = (text : List ℕ) (d e : Diagram) → IsProgram text d → IsProgram text e → d ≡ e
+
+-- A text is refused for one thing at most.
+abbrev pub IsOneRefusal : Type 0
+IsOneRefusal = (text : List ℕ) (a b : Refusal) → IsRefusedText text a → IsRefusedText text b → a ≡ b
 
 -- No program is refused.
 abbrev pub IsNotBoth : Type 0

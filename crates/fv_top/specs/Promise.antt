@@ -151,17 +151,16 @@ abbrev pub IsComplete : (words : List (List ℕ)) → (old new : DeskState) → 
 IsComplete words old new status =
     (names : Names) → Asks words names → IsTrue old.tells → Plays names.program names.input old.files → HasNoFault old new → IsDoneOrNoMemory status
 
--- refused for what these files hold, or out of memory
-abbrev pub IsRefusedOrNoMemory : (program input : List ℕ) → List File → Status → Type 0
-IsRefusedOrNoMemory program input files (Done tally) = ⊥
-IsRefusedOrNoMemory program input files (Refused refusal) = (refusal ≡ NoMemory) ⊎ AreRefused program input files refusal
+-- refused for this, or out of memory
+abbrev pub IsRefusedOrNoMemory : Refusal → Status → Type 0
+IsRefusedOrNoMemory refusal status = (status ≡ Refused refusal) ⊎ (status ≡ Refused NoMemory)
 
--- Where they name files that are refused, and no call of the desk fails, the run is refused for what they hold, unless
--- memory runs out.
+-- Where they name files that are refused for something, and no call of the desk fails, the run is refused for it, unless memory
+-- runs out.
 abbrev pub IsStrict : (words : List (List ℕ)) → (old new : DeskState) → Status → Type 0
 IsStrict words old new status =
     (names : Names) (refusal : Refusal) → Asks words names → IsTrue old.tells → AreRefused names.program names.input old.files refusal → HasNoFault old new
-    → IsRefusedOrNoMemory names.program names.input old.files status
+    → IsRefusedOrNoMemory refusal status
 
 -- Words that are refused are refused for their cause.
 abbrev pub IsExact : (words : List (List ℕ)) → Status → Type 0

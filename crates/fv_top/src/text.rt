@@ -5,24 +5,26 @@ ghost use Rattle.fv_diagram.specs.Arena.{tree_of};
 ghost use Rattle.fv_diagram.specs.Diagram.{control_bound, HasNoDelay, HasNoFreeSlot};
 ghost use Rattle.fv_top.specs.declared.refusal.Refusal.TheVariants.{NoMemory};
 ghost use Rattle.fv_top.specs.Loading.{IsUnsupportedOrNoMemory};
-ghost use Rattle.fv_top.specs.Program.{IsProgram, IsRefusedText, IsOneProgram, IsNotBoth};
+ghost use Rattle.fv_top.specs.Program.{IsProgram, IsRefusedText, IsOneProgram, IsOneRefusal, IsNotBoth};
 ghost use Rattle.fv_top.specs.Promise.{IsOfFiles};
 
 use crate::refusal::Refusal;
 use fv_grammar::spelled_once;
 use fv_lex::{one_answer, tokens};
 use fv_outside::Word;
-use fv_parse::parse;
+use fv_parse::{one_outcome, parse};
 use fv_small::{Program, small_once, small_program};
 use std::alloc::Global;
 
-/// A text is a program of at most one diagram, and of none where it is refused.
+/// A text is a program of at most one diagram, or it is refused for one thing at most, and never both.
 pub fn one_program()
-    ensures once { IsOneProgram }
+    ensures program { IsOneProgram }
+    ensures refusal { IsOneRefusal }
     ensures apart { IsNotBoth }
 {
     one_answer();
     spelled_once();
+    one_outcome();
     small_once();
 }
 
