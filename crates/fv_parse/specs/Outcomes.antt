@@ -3,6 +3,7 @@ use Rattle.std.specs.Prelude.{◌≡◌, ◌⊎◌, ℕ, List, ◌++◌, length,
 use Rattle.fv_lex.specs.declared.token.Place.{Place}
 use Rattle.fv_lex.specs.declared.token.Symbol.{Symbol}
 use Rattle.fv_lex.specs.Token.{Lexed, symbols_of}
+use Rattle.fv_lex.specs.Cuts.{HasTokens}
 use Rattle.fv_grammar.specs.Tree.{Tree as Spelled}
 use Rattle.fv_grammar.specs.Grammar.{SpellsProgram}
 use Rattle.fv_begins.specs.Beginnings.{IsErrorPlace}
@@ -55,6 +56,10 @@ IsOneRefusal = (l : Lexed) (a b : ParseRefusal) → HasRefusal l a → HasRefusa
 -- And none where they are accepted.
 abbrev pub IsNotBoth : Type 0
 IsNotBoth = (l : Lexed) (x : Spelled) (refusal : ParseRefusal) → IsAccepted l x → HasRefusal l refusal → ⊥
+
+-- And one of the two they have.
+abbrev pub IsOneOrOther : Type 0
+IsOneOrOther = (text : List ℕ) (l : Lexed) → HasTokens text l → ((x : Spelled) × IsAccepted l x) ⊎ ((refusal : ParseRefusal) × HasRefusal l refusal)
 
 -- what is known of a program that is spelled
 abbrev pub Finishes : Lexed → Spelled → Result Parsed ParseRefusal → Type 0

@@ -1,14 +1,15 @@
 // Laws of what tokens are.
 
-ghost use Rattle.fv_parse.specs.Outcomes.{IsOneRefusal, IsNotBoth};
+ghost use Rattle.fv_parse.specs.Outcomes.{IsOneRefusal, IsNotBoth, IsOneOrOther};
 
 use fv_begins::stops_at_the_place;
 use fv_grammar::spelled_once;
 
-/// Tokens are refused for one thing at most, and for none where they are accepted.
+/// The tokens of a text are accepted, or refused for one thing, and never both.
 pub fn one_outcome()
     ensures once { IsOneRefusal }
     ensures apart { IsNotBoth }
+    ensures either { IsOneOrOther }
 {
     spelled_once();
     stops_at_the_place();

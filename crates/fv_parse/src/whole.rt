@@ -89,8 +89,9 @@ fn finish<'a>(
 }
 
 /// The one tree that the tokens spell.
-/// An unsupported token is refused first, then tokens that spell no tree, at the place before which they begin one and behind which none. Of a tree the first in the text is refused of
-/// a name that is redefined, one that is repeated, and a rule of another width; then that it has no `process`.
+/// An unsupported token is refused first, then tokens that spell no tree: at the place before which they begin a program, and
+/// with whose token none does. Of a tree the first in the text is refused of a name that is redefined, one that is repeated,
+/// and a rule of another width; then that it has no `process`.
 pub fn parse<'a>(alloc: Global, tokens: &'a Tokens<'a>) -> Result<Tree<'a>, ParseRefusal>
     // A tree that is answered is the one that the tokens spell.
     ensures tree { IfOk result (HasTree tokens.now) }

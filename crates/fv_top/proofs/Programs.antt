@@ -1,15 +1,15 @@
 -- A text is a program of one diagram, or it is refused.
-use Rattle.std.proofs.Common.{◌≡◌, ◌⊎◌, ℕ, List, Ok, Err, sym, ◌∙◌, ap, subst, inl, inr}
-use Rattle.std.specs.Prelude.{codes}
+use Rattle.std.proofs.Common.{refl, ◌≡◌, ◌⊎◌, ℕ, List, Ok, Err, sym, ◌∙◌, ap, subst, inl, inr}
+use Rattle.std.specs.Prelude.{codes, Result}
 use Rattle.fv_lex.specs.declared.refusal.LexRefusal.{LexRefusal}
 use Rattle.fv_lex.specs.declared.refusal.LexRefusal.TheVariants as bytes
 use Rattle.fv_lex.specs.Token.{Lexed}
-use Rattle.fv_lex.specs.Cuts.{HasTokens, HasRefusal as HasBytesRefusal, HasAtMostOne}
+use Rattle.fv_lex.specs.Cuts.{HasTokens, Has, HasRefusal as HasBytesRefusal, HasAtMostOne, HasAtLeastOne}
 use Rattle.fv_grammar.specs.Tree.{Tree}
 use Rattle.fv_grammar.specs.Grammar.{SpelledOnce}
 use Rattle.fv_parse.specs.declared.refusal.ParseRefusal.{ParseRefusal}
 use Rattle.fv_parse.specs.declared.refusal.ParseRefusal.TheVariants as tokens
-use Rattle.fv_parse.specs.Outcomes.{IsSpelled, IsAccepted, HasRefusal as HasTokensRefusal, IsOneRefusal as IsOneTokensRefusal, IsNotBoth as TokensNotBoth}
+use Rattle.fv_parse.specs.Outcomes.{IsSpelled, IsAccepted, HasRefusal as HasTokensRefusal, IsOneRefusal as IsOneTokensRefusal, IsNotBoth as TokensNotBoth, IsOneOrOther as TokensOneOrOther}
 use Rattle.fv_diagram.specs.Diagram.{Diagram}
 use Rattle.fv_small.specs.Small.{IsSmall, IsNotSmall, SmallOnce}
 use Rattle.fv_top.specs.declared.refusal.Refusal.{Refusal}
@@ -68,6 +68,19 @@ one_refusal text a b lexed once apart (bad_tokens l e h has is) (not_small m y k
 one_refusal text a b lexed once apart (not_small l x h c none is) (bad_bytes f k js) = absurd (apart_bytes text l f lexed h k)
 one_refusal text a b lexed once apart (not_small l x h c none is) (bad_tokens m f k has js) = absurd (apart_tokens text l m x f lexed apart h c k has)
 one_refusal text a b lexed once apart (not_small l x h c none is) (not_small m y k d others js) = is ∙ sym js
+
+-- what is no program is refused: by its tokens, where it has some
+by_tokens : (text : List ℕ) (l : Lexed) → HasTokens text l → ((d : Diagram) → IsProgram text d → ⊥) → ((x : Tree) × IsAccepted l x) ⊎ ((e : ParseRefusal) × HasTokensRefusal l e) →
+    (refusal : Refusal) × IsRefusedText text refusal
+by_tokens text l has none (inl a) = (Unsupported (codes "program"), not_small l a.0 has a.1 (λ d small. none d (record { lexed = l; cut = has; tree = a.0; accepted = a.1; small = small })) refl)
+by_tokens text l has none (inr r) = (of_tokens r.0, bad_tokens l r.0 has r.1 refl)
+
+by_answer : (text : List ℕ) (answer : Result Lexed LexRefusal) → Has text answer → TokensOneOrOther → ((d : Diagram) → IsProgram text d → ⊥) → (refusal : Refusal) × IsRefusedText text refusal
+by_answer text (Ok l) has either none = by_tokens text l has none (either text l has)
+by_answer text (Err e) has either none = (of_bytes e, bad_bytes e has refl)
+
+pub one_or_other : (text : List ℕ) → HasAtLeastOne → TokensOneOrOther → ((d : Diagram) → IsProgram text d → ⊥) → (refusal : Refusal) × IsRefusedText text refusal
+one_or_other text some either none = by_answer text (some text).0 (some text).1 either none
 
 -- refusals of the bytes and of the tokens speak of a file, but want of memory
 pub bytes_stop : (text : List ℕ) (e : LexRefusal) (refusal : Refusal) → refusal ≡ of_bytes e → (e ≡ bytes.NoMemory) ⊎ HasBytesRefusal text e →

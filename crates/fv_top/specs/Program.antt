@@ -58,3 +58,7 @@ IsOneRefusal = (text : List ℕ) (a b : Refusal) → IsRefusedText text a → Is
 -- No program is refused.
 abbrev pub IsNotBoth : Type 0
 IsNotBoth = (text : List ℕ) (d : Diagram) (refusal : Refusal) → IsProgram text d → IsRefusedText text refusal → ⊥
+
+-- What is no program is refused for something.
+abbrev pub IsOneOrOther : Type 0
+IsOneOrOther = (text : List ℕ) → ((d : Diagram) → IsProgram text d → ⊥) → (refusal : Refusal) × IsRefusedText text refusal

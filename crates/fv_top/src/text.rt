@@ -5,7 +5,7 @@ ghost use Rattle.fv_diagram.specs.Arena.{tree_of};
 ghost use Rattle.fv_diagram.specs.Diagram.{control_bound, HasNoDelay, HasNoFreeSlot};
 ghost use Rattle.fv_top.specs.declared.refusal.Refusal.TheVariants.{NoMemory};
 ghost use Rattle.fv_top.specs.Loading.{IsUnsupportedOrNoMemory};
-ghost use Rattle.fv_top.specs.Program.{IsProgram, IsRefusedText, IsOneProgram, IsOneRefusal, IsNotBoth};
+ghost use Rattle.fv_top.specs.Program.{IsProgram, IsRefusedText, IsOneProgram, IsOneRefusal, IsNotBoth, IsOneOrOther};
 ghost use Rattle.fv_top.specs.Promise.{IsOfFiles};
 
 use crate::refusal::Refusal;
@@ -16,11 +16,12 @@ use fv_parse::{one_outcome, parse};
 use fv_small::{Program, small_once, small_program};
 use std::alloc::Global;
 
-/// A text is a program of at most one diagram, or it is refused for one thing at most, and never both.
+/// A text is a program of one diagram, or it is refused for one thing, and never both.
 pub fn one_program()
     ensures program { IsOneProgram }
     ensures refusal { IsOneRefusal }
     ensures apart { IsNotBoth }
+    ensures either { IsOneOrOther }
 {
     one_answer();
     spelled_once();

@@ -1,4 +1,4 @@
-use Rattle.fv_top.proofs.Programs.{one_diagram, one_refusal, not_both}
+use Rattle.fv_top.proofs.Programs.{one_diagram, one_refusal, not_both, one_or_other}
 use Rattle.fv_top.proofs.text.one_program.Goals as goal
 
 pub returns-clause-program : goal.returns-clause-program
@@ -9,3 +9,6 @@ returns-clause-refusal c = λ text a b. one_refusal text a b c.one_answer.ensure
 
 pub returns-clause-apart : goal.returns-clause-apart
 returns-clause-apart c = λ text d refusal. not_both text d refusal c.one_answer.ensures.at_most c.spelled_once.ensures c.one_outcome.ensures.apart
+
+pub returns-clause-either : goal.returns-clause-either
+returns-clause-either c = λ text none. one_or_other text c.one_answer.ensures.at_least c.one_outcome.ensures.either none
