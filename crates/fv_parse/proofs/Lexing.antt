@@ -1,8 +1,8 @@
 -- The tokens of a text nest no deeper than 128 brackets.
 use Rattle.std.proofs.Common.{◌≡◌, ℕ, zero, suc, ◌+◌, ◌-◌, ◌≤◌, Bool, true, false, cond, List, [], ◌∷◌, ◌++◌, length, Option, Some, None, Result, Ok, refl, sym, ap, subst, ◌∙◌, arith}
-use Rattle.std.specs.Prelude.{nat_eq, ◌&&◌, ◌||◌, unwrap_or}
+use Rattle.std.specs.Prelude.{nat_eq, ◌||◌, unwrap_or}
 use Rattle.std.specs.List.{list_all}
-use Rattle.std.proofs.lemmas.Bool.{eqb-true}
+use Rattle.std.proofs.lemmas.Bool.{eqb-true, and_parts}
 use Rattle.fv_lex.specs.declared.token.Symbol.{Symbol}
 use Rattle.fv_lex.specs.declared.token.Symbol.TheVariants.{Open, Close, OpenBrace, CloseBrace, Unsupported}
 use Rattle.fv_lex.specs.declared.token.Symbol.TheVariants as symbols
@@ -45,17 +45,13 @@ plain_if : (b : Bool) (u v : Option Symbol) → AllPlain u → AllPlain v → Al
 plain_if true u v p q = p
 plain_if false u v p q = q
 
-both : (a b : Bool) → (a && b) ≡ true → (a ≡ true) × (b ≡ true)
-both true b e = (refl, e)
-both false b e = absurd cc
-
 byte_plain : (es : List (ℕ × Symbol)) (b : ℕ) → list_all (λ (e : ℕ × Symbol). plain e.1) es ≡ true → AllPlain (at_byte es b)
 byte_plain [] b h = tt
-byte_plain (e ∷ es) b h = let p = both (plain e.1) _ h in plain_if (nat_eq b e.0) (Some e.1) (at_byte es b) p.0 (byte_plain es b p.1)
+byte_plain (e ∷ es) b h = let p = and_parts (plain e.1) _ h in plain_if (nat_eq b e.0) (Some e.1) (at_byte es b) p.0 (byte_plain es b p.1)
 
 word_plain : (es : List (List ℕ × Symbol)) (w : List ℕ) → list_all (λ (e : List ℕ × Symbol). plain e.1) es ≡ true → AllPlain (at_word es w)
 word_plain [] w h = tt
-word_plain (e ∷ es) w h = let p = both (plain e.1) _ h in plain_if _ (Some e.1) (at_word es w) p.0 (word_plain es w p.1)
+word_plain (e ∷ es) w h = let p = and_parts (plain e.1) _ h in plain_if _ (Some e.1) (at_word es w) p.0 (word_plain es w p.1)
 
 name_plain : (n : ℕ) (w : List ℕ) → plain (word_symbol n w) ≡ true
 name_plain n w =
@@ -81,7 +77,7 @@ is_bracket b = nat_eq b 40 || (nat_eq b 123 || (nat_eq b 41 || nat_eq b 125))
 
 single_plain : (es : List (ℕ × Symbol)) (b : ℕ) → is_bracket b ≡ false → list_all (λ (e : ℕ × Symbol). is_bracket e.0 || plain e.1) es ≡ true → AllPlain (at_byte es b)
 single_plain [] b no_ h = tt
-single_plain (e ∷ es) b no_ h = let p = both (is_bracket e.0 || plain e.1) _ h in go (nat_eq b e.0) refl p.0 (single_plain es b no_ p.1)
+single_plain (e ∷ es) b no_ h = let p = and_parts (is_bracket e.0 || plain e.1) _ h in go (nat_eq b e.0) refl p.0 (single_plain es b no_ p.1)
   where
     go : (t : Bool) → nat_eq b e.0 ≡ t → (is_bracket e.0 || plain e.1) ≡ true → AllPlain (at_byte es b) → AllPlain (cond t (Some e.1) (at_byte es b))
     go true is p q = let same : b ≡ e.0 = eqb-true b e.0 is in let none : is_bracket e.0 ≡ false = ap is_bracket (sym same) ∙ no_ in rw none at p

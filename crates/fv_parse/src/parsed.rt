@@ -1,7 +1,9 @@
-ghost use Rattle.std.specs.Prelude.{◌≡◌, ◌<◌, length, slice_get, unwrap_or};
+ghost use Rattle.std.specs.Prelude.{◌≡◌, ◌<◌, length, slice_get, unwrap_or, codes};
+ghost use Rattle.std.specs.Str.{bytes_eq};
 ghost use Rattle.fv_tree.specs.Arena.{trees, tree_of, PartsBelow};
 ghost use Rattle.fv_parse.specs.Trees.{tree_in, starts_of, place_from, place_at, text_of};
 
+use crate::program::is_process;
 use fv_lex::{Place, Tokens};
 use fv_tree::{Entry, TreeId, TreeNode};
 use std::marker::Model;
@@ -58,6 +60,13 @@ impl Tree<'_> {
         ensures { result.now ≡ text_of self.now.tokens n }
     {
         text_of(self.tokens, n)
+    }
+
+    /// Whether the token with this number is the name `process`.
+    pub fn is_process(&self, n: u64) -> bool
+        ensures { result ≡ bytes_eq (text_of self.now.tokens n) (codes "process") }
+    {
+        is_process(self.text(n))
     }
 }
 

@@ -220,16 +220,11 @@ pub(crate) fn definitions_of(
     definitions_in(alloc, total, entries, &entry_at(entries, id).node)
 }
 
-fn is_process(text: &[u8]) -> bool
+/// Whether the bytes are the name `process`.
+pub(crate) fn is_process(text: &[u8]) -> bool
     ensures { result ≡ bytes_eq text.now (codes "process") }
 {
-    is(text, b"process")
-}
-
-pub(crate) fn is(text: &[u8], word: &[u8]) -> bool
-    ensures { result ≡ bytes_eq text.now word.now }
-{
-    text == word
+    text == b"process".as_slice()
 }
 
 /// Whether one of them is of `process`.

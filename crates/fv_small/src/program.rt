@@ -1,7 +1,6 @@
 // Small programs.
 
-ghost use Rattle.std.specs.Prelude.{◌≡◌, ◌<◌, codes, length, IfOk, IfSome, IfNone, MatchOption};
-ghost use Rattle.std.specs.Str.{bytes_eq};
+ghost use Rattle.std.specs.Prelude.{◌≡◌, ◌<◌, length, IfOk, IfSome, IfNone, MatchOption};
 ghost use Rattle.fv_diagram.specs.Diagram.{control_bound, HasNoDelay, HasNoFreeSlot};
 ghost use Rattle.fv_diagram.specs.Arena.{tree_of};
 ghost use Rattle.fv_parse.specs.Trees.{program_of};
@@ -56,12 +55,6 @@ fn constant_in(node: &TreeNode) -> Option<(u64, TreeId)>
     }
 }
 
-fn is_process(text: &[u8]) -> bool
-    ensures { result ≡ bytes_eq text.now (codes "process") }
-{
-    text == b"process".as_slice()
-}
-
 /// The one definition of a program, if it is of `process`, and its right side.
 fn definition(tree: &Tree) -> Option<(TreeId, TreeId)>
     ensures { MatchOption result (IsNotOne tree.now) (λ x. IsOne tree.now x.0 x.1) }
@@ -72,7 +65,7 @@ fn definition(tree: &Tree) -> Option<(TreeId, TreeId)>
     let Some((name, expression)) = constant_in(tree.node(definition)) else {
         return None;
     };
-    if is_process(tree.text(name)) {
+    if tree.is_process(name) {
         Some((definition, expression))
     } else {
         None

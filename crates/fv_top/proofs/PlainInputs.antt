@@ -1,14 +1,8 @@
 -- Inputs of the first form.
-use Rattle.std.proofs.Common.{◌≡◌, ℕ, ◌+◌, ◌-◌, ◌≤◌, ◌<◌, ◌==◌, ◌&&◌, Bool, true, false, List, length, take, drop, sym, ◌∙◌, ap, arith, subst, refl, min}
-use Rattle.std.proofs.lemmas.Bool.{leb-true, eqb-true, eq-eqb}
+use Rattle.std.proofs.Common.{◌≡◌, ℕ, ◌+◌, ◌-◌, ◌≤◌, ◌<◌, ◌==◌, ◌&&◌, Bool, true, false, List, length, take, drop, sym, ◌∙◌, ap, arith, subst, min}
+use Rattle.std.proofs.lemmas.Bool.{leb-true, eqb-true, eq-eqb, and_parts}
 use Rattle.std.proofs.lemmas.List.{length-take, length-drop}
 use Rattle.fv_top.specs.Wave.{IsPlainInput, is_plain_head, data_of, data_in, data_limit}
-
--- both sides of a test that passes
-pub both : (a b : Bool) → (a && b) ≡ true → (a ≡ true) × (b ≡ true)
-both true true h = (refl, refl)
-both true false h = cc
-both false b h = cc
 
 -- the bytes are those of a plain head
 abbrev pub passes : List ℕ → Bool
@@ -23,13 +17,13 @@ plain_passes bytes p =
 -- what a head that passes states
 pub passes_size : (head : List ℕ) → passes head ≡ true → data_of head ≤ data_limit
 passes_size head h =
-    let a = both (length head == 44) (is_plain_head head) h in
-    leb-true (data_of head) data_limit (both _ _ a.1).1
+    let a = and_parts (length head == 44) (is_plain_head head) h in
+    leb-true (data_of head) data_limit (and_parts _ _ a.1).1
 
 -- an input whose head passes, and that has all its bytes, can be played
 pub passes_plain : (bytes : List ℕ) → passes (take 44 bytes) ≡ true → data_of (take 44 bytes) ≤ length (drop 44 bytes) → IsPlainInput bytes
 passes_plain bytes h m =
-    let a = both (length (take 44 bytes) == 44) (is_plain_head (take 44 bytes)) h in
+    let a = and_parts (length (take 44 bytes) == 44) (is_plain_head (take 44 bytes)) h in
     let long : 44 ≤ length bytes = omega (arith, eqb-true (length (take 44 bytes)) 44 a.0, length-take 44 bytes) in
     record { long = long; head = a.1; present = omega (arith, length-drop 44 bytes) }
 

@@ -3,7 +3,7 @@ use Rattle.std.specs.Prelude.{codes}
 use Rattle.std.proofs.lemmas.Slice.Eq.{bytes_eq-Decides}
 use Rattle.fv_grammar.specs.Tree.{Tree, More, End}
 use Rattle.fv_tree.specs.Arena.{trees}
-use Rattle.fv_parse.specs.Trees.{tree_in}
+use Rattle.fv_parse.specs.Trees.{tree_in, text_of}
 use Rattle.fv_small.proofs.Trees.{list_one, list_same, constant_one, constant_none, only_below, constant_below}
 use Rattle.fv_small.proofs.program.definition.Goals as goal
 
@@ -27,5 +27,5 @@ returns-then-is_process c =
       name = c.in-Some-constant_in.name;
       one = sym (ap (tree_in c.args.tree.now) c.root.ensures.root) ∙ c.node.ensures.tree ∙ list_one ts c.node.result.now _ c.in-Some.definition one_node
           ∙ ap (λ (t : Tree). More t End) (c.node-2.ensures.tree ∙ constant_one ts c.node-2.result.now _ c.in-Some-constant_in.name c.in-Some-constant_in.expression of_node);
-      named = sym c.text.ensures ∙ (bytes_eq-Decides c.text.result.now (codes "process")).0 (sym c.is_process.ensures ∙ c.if-is_process.true);
+      named = (bytes_eq-Decides (text_of c.args.tree.now.tokens c.in-Some-constant_in.name) (codes "process")).0 (sym c.is_process.ensures ∙ c.if-is_process.true);
     }
