@@ -1,5 +1,5 @@
 -- What begins an operand, by its first token, and what stands behind it.
-use Rattle.std.proofs.Common.{◌≡◌, ℕ, List, [], ◌∷◌, Ok, refl, sym, ap, subst}
+use Rattle.std.proofs.Common.{◌≡◌, ℕ, List, [], ◌∷◌, Ok, refl, sym, subst}
 use Rattle.fv_lex.specs.declared.token.Symbol.{Symbol}
 use Rattle.fv_lex.specs.declared.token.Symbol.TheVariants.{Name, Text, Integer, Comma, Open, Close, OpenBrace, CloseBrace, Dot, Tick}
 use Rattle.fv_lex.specs.declared.token.Symbol.TheVariants as symbols
@@ -14,6 +14,7 @@ use Rattle.fv_grammar.specs.declared.symbol.Inside.TheVariants as insides
 use Rattle.fv_grammar.specs.Symbols.{head}
 use Rattle.fv_grammar.specs.Tree.{Tree}
 use Rattle.fv_grammar.specs.Grammar.{Primary, number, plus_number, minus_number, minus_name, named, wire, cut, plus, minus, primitive, grouped, abstracted, cased, iterated, ported, switched, slid, paneled}
+use Rattle.fv_grammar.proofs.Sound.{is_integer, is_name, is_plus, is_minus, is_underscore, is_exclamation, is_open, is_backslash, is_case}
 use Rattle.fv_grammar.specs.Descent as descent
 use Rattle.fv_grammar.specs.Descent.{Step, ◌>>=◌, Reader, group, abstraction, case_of, iteration, ports, switch, slider, panel, by_head, primary}
 use Rattle.fv_begins.proofs.Plans.{called, worded, called_all, both, signed, Spelled, spelled, Plan, Sign, AName, AText, NameList, Inner, APrimary, Then, Spans, took, behind, next, made, done, as_plan, unread, one_taken, Reads}
@@ -126,43 +127,6 @@ panel_reads inner reads start t k h ts = as_plan APrimary (headed t ts
     (is_panel t k h)
 
 -- ---- by the first token
--- the token that a head is of
-pub is_integer : (t : Symbol) (n : ℕ) → head t ≡ heads.Integer n → t ≡ Integer n
-is_integer (Integer m) n e = let p : m ≡ n = cc in ap Integer p
-is_integer t n e = absurd cc
-
-pub is_name : (t : Symbol) (n : ℕ) → head t ≡ heads.Name n → t ≡ Name n
-is_name (Name m) n e = let p : m ≡ n = cc in ap Name p
-is_name t n e = absurd cc
-
-pub is_plus : (t : Symbol) → head t ≡ heads.Plus → t ≡ symbols.Plus
-is_plus symbols.Plus e = refl
-is_plus t e = absurd cc
-
-pub is_minus : (t : Symbol) → head t ≡ heads.Minus → t ≡ symbols.Minus
-is_minus symbols.Minus e = refl
-is_minus t e = absurd cc
-
-is_underscore : (t : Symbol) → head t ≡ heads.Wire → t ≡ symbols.Underscore
-is_underscore symbols.Underscore e = refl
-is_underscore t e = absurd cc
-
-is_exclamation : (t : Symbol) → head t ≡ heads.Cut → t ≡ symbols.Exclamation
-is_exclamation symbols.Exclamation e = refl
-is_exclamation t e = absurd cc
-
-pub is_open : (t : Symbol) → head t ≡ heads.Group → t ≡ Open
-is_open Open e = refl
-is_open t e = absurd cc
-
-is_backslash : (t : Symbol) → head t ≡ heads.Abstraction → t ≡ symbols.Backslash
-is_backslash symbols.Backslash e = refl
-is_backslash t e = absurd cc
-
-is_case : (t : Symbol) → head t ≡ heads.Case → t ≡ symbols.Case
-is_case symbols.Case e = refl
-is_case t e = absurd cc
-
 -- what is read from a token on, at a token that is equal
 pub begun : (p : Plan) (t u : Symbol) (ts : List Symbol) (r : Step Tree) → t ≡ u → Reads p (u ∷ ts) r → Reads p (t ∷ ts) r
 begun p t u ts r e f = subst (λ v. Reads p (v ∷ ts) r) (sym e) f

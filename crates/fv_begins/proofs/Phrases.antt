@@ -15,7 +15,8 @@ use Rattle.fv_grammar.specs.Descent as descent
 use Rattle.fv_grammar.specs.Descent.{Step, ◌>>=◌, Turn, Done, Reader, rank_at, primary, postfix, postfix_turn, atom_by_head, atom, rights, chain, phrase, left_turn, expression, with_turn}
 use Rattle.fv_begins.proofs.Plans.{both, nought, signed, Onward, stay, onward, Spelled, spelled, Nothing, Sign, Inner, Joined, APostfix, APrimary, AnAtom, GoesOn, Then, Spans, Takes, stuck, behind, next, made, done, joins, as_takes, as_plan, onward_from, unread, one_taken, by_test, Reads}
 use Rattle.fv_begins.proofs.Pieces.{open_brace_passes, close_brace_passes, ReadsInside, enclosed_reads}
-use Rattle.fv_begins.proofs.Operands.{headed, leaf, pair, begun, is_integer, is_name, is_plus, is_minus, is_open, primary_reads}
+use Rattle.fv_grammar.proofs.Sound.{is_integer, is_name, is_plus, is_minus, is_open}
+use Rattle.fv_begins.proofs.Operands.{headed, leaf, pair, begun, primary_reads}
 use Rattle.fv_begins.proofs.Turns.{Turns, no_turn, one_turn, turn_of, turn_by_test, run_reads}
 
 -- ---- postfix

@@ -1,5 +1,5 @@
 -- Where the descent stops at a token, no program goes on with it; and a list of tokens has one such place.
-use Rattle.std.proofs.Common.{◌≡◌, ℕ, zero, suc, ◌+◌, ◌≤◌, List, [], ◌∷◌, ◌++◌, length, Ok, Err, refl, sym, ap, subst, ◌∙◌, arith, append_assoc}
+use Rattle.std.proofs.Common.{◌≡◌, ℕ, suc, ◌+◌, ◌≤◌, List, [], ◌∷◌, ◌++◌, length, Ok, Err, refl, sym, ap, subst, ◌∙◌, arith, append_assoc}
 use Rattle.std.proofs.lemmas.List.{append-nil}
 use Rattle.fv_lex.specs.declared.token.Symbol.{Symbol}
 use Rattle.fv_lex.specs.declared.token.Symbol.TheVariants.{Open, Close, OpenBrace, CloseBrace}
@@ -8,24 +8,13 @@ use Rattle.fv_grammar.specs.Tree.{Tree}
 use Rattle.fv_grammar.specs.Grammar.{Begins, SpellsProgram}
 use Rattle.fv_grammar.specs.Nesting.{Nests, lowered}
 use Rattle.fv_grammar.specs.Descent.{Step, ◌>>=◌, further, within, program, whole_text}
-use Rattle.fv_grammar.proofs.Complete.{program_complete}
+use Rattle.fv_grammar.proofs.Complete.{program_complete, nests_among}
 use Rattle.fv_begins.specs.Beginnings.{IsErrorPlace, StopsWhereNoneGoesOn, StopsAtThePlace, OnePlace}
 use Rattle.fv_begins.proofs.Agreement.{Fork, Same, abreast, past, Alike, both_on, both_stopped, beyond, BothRead}
 use Rattle.fv_begins.proofs.Programs.{stops_behind_a_beginning, beginnings_are_closed}
 use Rattle.fv_begins.proofs.ProgramsAgree.{further_both, within_both}
 
 -- ---- brackets
--- they are never more than tokens
-nests_among : (limit d : ℕ) (ts : List Symbol) → d + length ts ≤ limit → Nests limit d ts
-nests_among limit d [] h = tt
-nests_among limit d (Open ∷ ts) h = (omega arith, nests_among limit (suc d) ts (omega arith))
-nests_among limit d (OpenBrace ∷ ts) h = (omega arith, nests_among limit (suc d) ts (omega arith))
-nests_among limit zero (Close ∷ ts) h = nests_among limit zero ts (omega arith)
-nests_among limit (suc d) (Close ∷ ts) h = nests_among limit d ts (omega arith)
-nests_among limit zero (CloseBrace ∷ ts) h = nests_among limit zero ts (omega arith)
-nests_among limit (suc d) (CloseBrace ∷ ts) h = nests_among limit d ts (omega arith)
-nests_among limit d (t ∷ ts) h = nests_among limit d ts (omega arith)
-
 -- what nests within a limit does so up to each place
 nests_before : (limit d : ℕ) (ts us : List Symbol) → Nests limit d (ts ++ us) → Nests limit d ts
 nests_before limit d [] us n = tt

@@ -217,7 +217,7 @@ unfolding phrase
 pattern_operand_reads inner comma ts x rest p = λ follows. p
 
 -- ---- inside brackets
-lower : (room : ℕ) (what : Inside) (ts : List Symbol) → 0 < room → within room what ts ≡ descend (within (room - 1)) what ts
+pub lower : (room : ℕ) (what : Inside) (ts : List Symbol) → 0 < room → within room what ts ≡ descend (within (room - 1)) what ts
 unfolding within
 lower room what ts h = let e : room ≡ suc (room - 1) = omega arith in ap (λ n. within n what ts) e
 
@@ -611,7 +611,7 @@ program_complete ts x limit p n =
 
 -- ---- no two trees
 -- Brackets are never more than tokens.
-nests_among : (limit d : ℕ) (ts : List Symbol) → d + length ts ≤ limit → Nests limit d ts
+pub nests_among : (limit d : ℕ) (ts : List Symbol) → d + length ts ≤ limit → Nests limit d ts
 nests_among limit d [] h = tt
 nests_among limit d (Open ∷ ts) h = (omega arith, nests_among limit (suc d) ts (omega arith))
 nests_among limit d (OpenBrace ∷ ts) h = (omega arith, nests_among limit (suc d) ts (omega arith))

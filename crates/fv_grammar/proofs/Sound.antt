@@ -295,39 +295,39 @@ panel_sound inner sound t k h ts x rest e =
     (subst (λ l. Spells Primary (t ∷ l) (Panel (length (t ∷ l)) k text.0 z.0) z.1) (sym (label_ok ts text.0 text.1 labelled)) all) done
 
 -- the token that a head is of
-is_integer : (t : Symbol) (n : ℕ) → head t ≡ heads.Integer n → t ≡ Integer n
+pub is_integer : (t : Symbol) (n : ℕ) → head t ≡ heads.Integer n → t ≡ Integer n
 is_integer (Integer m) n e = let p : m ≡ n = cc in ap Integer p
 is_integer t n e = absurd cc
 
-is_name : (t : Symbol) (n : ℕ) → head t ≡ heads.Name n → t ≡ Name n
+pub is_name : (t : Symbol) (n : ℕ) → head t ≡ heads.Name n → t ≡ Name n
 is_name (Name m) n e = let p : m ≡ n = cc in ap Name p
 is_name t n e = absurd cc
 
-is_plus : (t : Symbol) → head t ≡ heads.Plus → t ≡ symbols.Plus
+pub is_plus : (t : Symbol) → head t ≡ heads.Plus → t ≡ symbols.Plus
 is_plus symbols.Plus e = refl
 is_plus t e = absurd cc
 
-is_minus : (t : Symbol) → head t ≡ heads.Minus → t ≡ symbols.Minus
+pub is_minus : (t : Symbol) → head t ≡ heads.Minus → t ≡ symbols.Minus
 is_minus symbols.Minus e = refl
 is_minus t e = absurd cc
 
-is_underscore : (t : Symbol) → head t ≡ heads.Wire → t ≡ symbols.Underscore
+pub is_underscore : (t : Symbol) → head t ≡ heads.Wire → t ≡ symbols.Underscore
 is_underscore symbols.Underscore e = refl
 is_underscore t e = absurd cc
 
-is_exclamation : (t : Symbol) → head t ≡ heads.Cut → t ≡ symbols.Exclamation
+pub is_exclamation : (t : Symbol) → head t ≡ heads.Cut → t ≡ symbols.Exclamation
 is_exclamation symbols.Exclamation e = refl
 is_exclamation t e = absurd cc
 
-is_open : (t : Symbol) → head t ≡ heads.Group → t ≡ Open
+pub is_open : (t : Symbol) → head t ≡ heads.Group → t ≡ Open
 is_open Open e = refl
 is_open t e = absurd cc
 
-is_backslash : (t : Symbol) → head t ≡ heads.Abstraction → t ≡ symbols.Backslash
+pub is_backslash : (t : Symbol) → head t ≡ heads.Abstraction → t ≡ symbols.Backslash
 is_backslash symbols.Backslash e = refl
 is_backslash t e = absurd cc
 
-is_case : (t : Symbol) → head t ≡ heads.Case → t ≡ symbols.Case
+pub is_case : (t : Symbol) → head t ≡ heads.Case → t ≡ symbols.Case
 is_case symbols.Case e = refl
 is_case t e = absurd cc
 

@@ -12,16 +12,13 @@ use Rattle.fv_tree.specs.declared.single.Fault.{Fault}
 use Rattle.fv_grammar.specs.Tree.{Tree}
 use Rattle.fv_grammar.specs.Symbols.{is_left}
 use Rattle.fv_grammar.specs.Descent.{Step, ◌>>=◌, run, chain, Reader, rank_at, operand, phrase, left_turn, descend, within, further, item}
+use Rattle.fv_grammar.proofs.Complete.{lower}
 use Rattle.fv_grammar.proofs.Loops.{chain_next, chain_done, all_of}
 use Rattle.fv_tree.specs.Arena.{tree_at, trees}
 use Rattle.fv_tree.specs.Gives.{Fails, Gives, Found, Operates, in_front}
 use Rattle.fv_tree.proofs.Arenas.{Keeps-trans, fails_by, by_operator}
 
 -- ---- brackets
-pub lower : (room : ℕ) (what : Inside) (ts : List Symbol) → 0 < room → within room what ts ≡ descend (within (room - 1)) what ts
-unfolding within
-lower room what ts h = let e : room ≡ suc (room - 1) = omega arith in ap (λ n. within n what ts) e
-
 pub no_room : (room : ℕ) (what : Inside) (ts : List Symbol) → room ≡ 0 → within room what ts ≡ Err ts
 unfolding within
 no_room room what ts e = ap (λ n. within n what ts) e
