@@ -5,7 +5,7 @@ use Rattle.std.proofs.lemmas.List.{append-nil, take_all, drop_all}
 use Rattle.std.proofs.Math.Seq.{take-append_seam, drop-append_seam}
 use Rattle.std.specs.Prelude.{IsTrue}
 use Rattle.fv_outside.specs.Desk.{DeskState, GoesOn, KeepsQuiet, HasFault, IsPrefixOf, Appends, joined}
-use Rattle.fv_outside.specs.declared.role.Role.{Role}
+use Rattle.fv_base.specs.declared.role.Role.{Role}
 
 -- where the later state tells, the earlier one did
 pub told_before : {a b : DeskState} → GoesOn a b → IsTrue a.tells → IsTrue b.tells

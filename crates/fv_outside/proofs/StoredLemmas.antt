@@ -8,7 +8,7 @@ use Rattle.fv_outside.specs.Desk.{File, GoesOn, newest, file_named}
 use Rattle.fv_outside.specs.Drawer.{Kept, ReadsWithin, nothing_kept}
 use Rattle.fv_outside.specs.Memory.{Memory, memory_state}
 use Rattle.fv_outside.specs.Stored.{IsStored, memory_with}
-use Rattle.fv_outside.specs.declared.role.Role.TheVariants.{Program, Input, Controls, Output, Report}
+use Rattle.fv_base.specs.declared.role.Role.TheVariants.{Program, Input, Controls, Output, Report}
 
 -- the drawer at i is replaced by one that reads within the files where the old one did
 pub IsStored-set : (files : List File) (ks : List Kept) (i : ℕ) (d new : Kept) → IsStored files ks → i < 5 → (ReadsWithin (length files) (get_or ks i d) → ReadsWithin (length files) new) → IsStored files (set ks i new)

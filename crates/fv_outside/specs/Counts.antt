@@ -4,7 +4,7 @@ use Rattle.fv_outside.specs.Desk.{DeskState}
 use Rattle.fv_outside.specs.Drawer.{raised}
 use Rattle.fv_outside.specs.Stored.{place_of}
 use Rattle.fv_outside.specs.declared.counts.Counts.{Counts}
-use Rattle.fv_outside.specs.declared.role.Role.{Role}
+use Rattle.fv_base.specs.declared.role.Role.{Role}
 
 -- the count of the role in a list of one for each
 abbrev pub count_of : List ℕ → Role → ℕ

@@ -2,7 +2,7 @@
 use Rattle.std.specs.Prelude.{◌≡◌, ◌≢◌, ℕ, ◌-◌, ◌^◌, ◌≤◌, suc, min, Bool, IsTrue, List, [], ◌∷◌, ◌++◌, Option, Some, None, bytes_eq, if◌then◌else◌}
 use denote.Ref.{Bor}
 use Rattle.std.specs.Prelude.{flat_map}
-use Rattle.fv_outside.specs.declared.role.Role.{Role}
+use Rattle.fv_base.specs.declared.role.Role.{Role}
 
 -- a file: its name and its bytes
 pub record File : Type 0 where

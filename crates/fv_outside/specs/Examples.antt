@@ -3,7 +3,7 @@ use Rattle.std.specs.Prelude.{◌≡◌, true, List, [], ◌∷◌, Some, None, 
 use Rattle.fv_outside.specs.Desk.{File, file_named, last_count}
 use Rattle.fv_outside.specs.Drawer.{raised}
 use Rattle.fv_outside.specs.Memory.{no_memory, empty_memory, memory_after, memory_state, is_failing, is_full, after_fail, after_fault, after_begin_read, after_read, after_write}
-use Rattle.fv_outside.specs.declared.role.Role.TheVariants.{Output, Report}
+use Rattle.fv_base.specs.declared.role.Role.TheVariants.{Output, Report}
 
 -- three files, of two names
 abbrev files : List File

@@ -2,8 +2,8 @@
 use Rattle.std.specs.Prelude.{ℕ, ◌+◌, ◌%◌, ◌^◌, max, nat_le, Bool, true, List, [], ◌∷◌, ◌++◌, length, drop}
 use Rattle.fv_outside.specs.Desk.{File, DeskState}
 use Rattle.fv_outside.specs.Drawer.{raised, fails_now}
-use Rattle.fv_outside.specs.declared.role.Role.{Role}
-use Rattle.fv_outside.specs.declared.role.Role.TheVariants.{Program, Input, Controls, Output, Report}
+use Rattle.fv_base.specs.declared.role.Role.{Role}
+use Rattle.fv_base.specs.declared.role.Role.TheVariants.{Program, Input, Controls, Output, Report}
 
 -- all that a desk in memory means for one role
 pub record RoleMemory : Type 0 where

@@ -3,8 +3,8 @@ use Rattle.std.specs.Prelude.{◌≡◌, ℕ, List, length, All, slice_index_or}
 use Rattle.fv_outside.specs.Desk.{File}
 use Rattle.fv_outside.specs.Drawer.{Kept, nothing_kept, left_at, ReadsWithin}
 use Rattle.fv_outside.specs.Memory.{RoleMemory, Memory}
-use Rattle.fv_outside.specs.declared.role.Role.{Role}
-use Rattle.fv_outside.specs.declared.role.Role.TheVariants.{Program, Input, Controls, Output, Report}
+use Rattle.fv_base.specs.declared.role.Role.{Role}
+use Rattle.fv_base.specs.declared.role.Role.TheVariants.{Program, Input, Controls, Output, Report}
 
 -- the place of the role's drawer
 abbrev pub place_of : Role → ℕ

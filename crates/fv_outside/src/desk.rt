@@ -3,7 +3,7 @@
 ghost use Rattle.std.specs.Prelude.{◌≡◌, ◌≢◌, ◌+◌, ◌%◌, ◌^◌, ◌<◌, ◌≤◌, [], ◌++◌, length, take, Some, IsTrue, IfOk, OnOk, OnErr};
 ghost use Rattle.fv_outside.specs.Desk.{DeskState, GoesOn, HasFault, KeepsBytes, KeepsLeft, KeepsLeftBut, KeepsWritten, KeepsWrittenBut, KeepsBegins, file_named};
 
-use crate::role::Role;
+use fv_base::Role;
 
 /// A call of a desk failed.
 #[derive(Clone, Copy, PartialEq, Eq, Debug)]

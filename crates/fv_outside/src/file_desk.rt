@@ -6,7 +6,7 @@ ghost use Rattle.fv_outside.specs.Counts.{no_counts, CountsFault, CountsBegin, c
 
 use crate::counts::Counts;
 use crate::desk::{Desk, Failed};
-use crate::role::Role;
+use fv_base::Role;
 use std::fs;
 use std::io::{Read, Write};
 use std::marker::Model;

@@ -7,16 +7,13 @@ mod drawer;
 mod file_desk;
 mod gate;
 mod memory_desk;
-mod role;
 mod tasks;
 mod transfer;
-mod word;
 
 pub use desk::{Desk, Failed};
 pub use file_desk::FileDesk;
+pub use fv_base::{Role, Word};
 pub use gate::{FreeGate, Gate, Line};
 pub use memory_desk::MemoryDesk;
-pub use role::Role;
 pub use tasks::{Reads, Task};
 pub use transfer::{ReadError, read_up_to, write_all, write_pieces};
-pub use word::Word;

@@ -9,7 +9,7 @@ ghost use Rattle.fv_outside.specs.Stored.{place_of};
 use crate::counts::place_of;
 use crate::desk::{Desk, Failed};
 use crate::drawer::{Drawer, StoredFile};
-use crate::role::Role;
+use fv_base::Role;
 use std::alloc::{AllocError, Global};
 use std::marker::Model;
 

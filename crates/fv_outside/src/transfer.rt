@@ -5,7 +5,7 @@ ghost use Rattle.fv_outside.specs.Desk.{KeepsQuiet, KeepsLeftBut, HasFault, IsPr
 ghost use Rattle.fv_outside.specs.declared.transfer.ReadError.TheVariants as errors;
 
 use crate::desk::{Desk, Failed};
-use crate::role::Role;
+use fv_base::Role;
 use std::alloc::{AllocError, AllocFailed, Global};
 
 /// Why bytes could not be read.

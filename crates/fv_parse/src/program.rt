@@ -10,8 +10,8 @@ ghost use Rattle.fv_tree.specs.Arena.{trees, tree_at, tree_of, PartsBelow, AreOv
 ghost use Rattle.fv_parse.specs.Contents.{is_control, is_open, unsupported, first_unsupported, count, count_in, defined_by, defined_in, definitions_in, some_if, definitions_of, in_list, has_process};
 
 use crate::parsed::text_of;
+use fv_base::Word;
 use fv_lex::{Symbol, Tokens};
-use fv_outside::Word;
 use fv_tree::{Entry, TreeId, TreeNode};
 use std::alloc::{AllocError, Global};
 

@@ -1,6 +1,6 @@
 use crate::{ParseRefusal, TreeId, parse};
+use fv_base::Word;
 use fv_lex::{Tokens, tokens};
-use fv_outside::Word;
 use std::alloc::{AllocError, Global};
 use std::test::Fail;
 

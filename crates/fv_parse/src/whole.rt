@@ -13,9 +13,9 @@ use crate::flaws::program_flaw;
 use crate::parsed::{Tree, place_at, place_from, text_of};
 use crate::program::{definitions_of, first_unsupported, has_process};
 use crate::refusal::ParseRefusal;
+use fv_base::Word;
 use fv_begins::stops_at_the_place;
 use fv_lex::Tokens;
-use fv_outside::Word;
 use fv_tree::{Arena, Entry, Fault, TreeId, read};
 use std::alloc::{AllocError, Global};
 

@@ -1,7 +1,7 @@
 // The program's file.
 
 ghost use Rattle.std.specs.Prelude.{◌≡◌, ℕ, ◌<◌, List, length, take, IsTrue, IfOk, IfErr, IsErrOf};
-ghost use Rattle.fv_outside.specs.declared.role.Role.TheVariants.{Program as program_role};
+ghost use Rattle.fv_base.specs.declared.role.Role.TheVariants.{Program as program_role};
 ghost use Rattle.fv_outside.specs.declared.transfer.ReadError.TheVariants as errors;
 ghost use Rattle.fv_outside.specs.Desk.{KeepsQuiet, HasFault};
 ghost use Rattle.fv_diagram.specs.Arena.{tree_of};
