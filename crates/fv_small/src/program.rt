@@ -1,8 +1,8 @@
 // Small programs.
 
-ghost use Rattle.std.specs.Prelude.{◌≡◌, ◌<◌, length, IfOk, IfSome, IfNone, MatchOption};
+ghost use Rattle.std.specs.Prelude.{◌≡◌, ◌<◌, IfOk, IfSome, IfNone, MatchOption};
 ghost use Rattle.fv_diagram.specs.Diagram.{control_bound, HasNoDelay, HasNoFreeSlot};
-ghost use Rattle.fv_diagram.specs.Arena.{tree_of};
+ghost use Rattle.fv_diagram.specs.Arena.{count_of, tree_of};
 ghost use Rattle.fv_parse.specs.Trees.{program_of};
 ghost use Rattle.fv_small.specs.Small.{IsSmall, IsNotSmall, SmallOnce};
 ghost use Rattle.fv_small.specs.Forms.{only, only_in, constant_in, IsOne, IsNotOne};
@@ -76,7 +76,7 @@ fn definition(tree: &Tree) -> Option<(TreeId, TreeId)>
 pub fn small_program(alloc: Global, tree: &Tree) -> Result<Option<Program>, AllocError>
     // What is answered is the tree's diagram, a node of the arena.
     ensures found { IfOk result (λ o. IfSome o (λ p. IsSmall tree.now.tokens (program_of tree.now) (tree_of p.diagrams p.root))) }
-    ensures root { IfOk result (λ o. IfSome o (λ p. p.root < length p.diagrams)) }
+    ensures root { IfOk result (λ o. IfSome o (λ p. p.root < count_of p.diagrams)) }
     // A runner may be made of it.
     ensures delays { IfOk result (λ o. IfSome o (λ p. HasNoDelay (tree_of p.diagrams p.root))) }
     ensures controls { IfOk result (λ o. IfSome o (λ p. control_bound (tree_of p.diagrams p.root) ≡ 0)) }
