@@ -174,7 +174,7 @@ impl Search {
 /// Numbers nodes so that two have one number exactly where each reaches the other, and none leads to a greater one.
 /// A row of `links` for each node lists the nodes that it leads to. The time is linear in nodes and links, and no call nests.
 pub fn components(alloc: Global, links: &[Vec<u64>]) -> Result<Vec<u64>, AllocError>
-    requires links { AreLinks (next_of links.now) (length links.now) }
+    requires { AreLinks (next_of links.now) (length links.now) }
     ensures { IfOk result (λ numbers. AreComponents (next_of links.now) (length links.now) numbers.items) }
 {
     let mut search = Search::new(alloc, links.len())?;
