@@ -1,0 +1,9 @@
+pub mod Rows
+pub mod Walks
+pub mod Places
+pub mod Held
+pub mod Visits
+pub mod Turns
+pub mod Closes
+pub mod Weights
+pub mod Runs

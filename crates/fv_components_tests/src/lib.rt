@@ -1,0 +1,5 @@
+// Tests of the strongly connected components.
+#![tactic(auto)]
+
+#[cfg(test)]
+mod rows;

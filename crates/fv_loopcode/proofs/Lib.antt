@@ -1,0 +1,5 @@
+pub mod Registers
+pub mod Tasks
+pub mod Streams
+pub mod Named
+pub mod Blocks

@@ -1,0 +1,4 @@
+pub mod Lanes
+pub mod Code
+pub mod Obeys
+pub mod Blocks

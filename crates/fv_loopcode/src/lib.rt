@@ -1,0 +1,16 @@
+// The code of loops, the lanes that it loads and appends, and the laws of tasks that run it.
+#![tactic(auto)]
+
+mod code;
+mod laws;
+mod machine;
+mod step;
+mod store;
+
+pub use code::Code;
+pub use laws::{
+    named_alone_count, order_is_free, streams_obey, task_is_free, tasks_are_done, windows_follow,
+};
+pub use machine::run;
+pub use step::Step;
+pub use store::{NoLanes, Store};

@@ -1,0 +1,19 @@
+-- A lane in a vector, and the codes that are run.
+use Rattle.std.specs.Prelude.{◌-◌, List, [], ◌∷◌, length, take, pos}
+use Rattle.fv_num.specs.declared.op.Op.TheVariants.{Add, Sub}
+use Rattle.fv_loopcode.specs.Lanes.{Lane}
+use Rattle.fv_loopcode.specs.declared.step.Step.{Step}
+use Rattle.fv_loopcode.specs.declared.step.Step.TheVariants.{Number, Held, Input, Point, Load, Append}
+use Rattle.fv_loopcode_tests.specs.declared.line.Line.{Line}
+
+-- the lane: what is written, and room for the cells that are left
+abbrev pub lane_in : Line → Lane
+lane_in s = record { history = s.history; items = take s.written s.cells.items; room = length s.cells.items - s.written }
+
+-- the input and the last sum
+abbrev pub running_sum : List Step
+running_sum = Input 0 ∷ Number (pos 1) ∷ Load 0 1 1 ∷ Point Add (0 ∷ 2 ∷ 2 ∷ 2 ∷ []) ∷ Append 0 3 ∷ []
+
+-- one held value less another
+abbrev pub difference : List Step
+difference = Held 0 ∷ Held 1 ∷ Point Sub (0 ∷ 1 ∷ 1 ∷ 1 ∷ []) ∷ []

@@ -1,0 +1,28 @@
+// A lane in a vector.
+
+ghost use Rattle.std.specs.Prelude.{[], ◌∷◌};
+ghost use Rattle.fv_loopcode_tests.specs.Line.{lane_in};
+
+use fv_loopcode::Store;
+
+#[derive(Drop)]
+pub struct Line {
+    pub cells: Vec<i32>,
+    pub history: u32,
+    pub written: u64,
+}
+
+impl Store for Line {
+    ghost lanes = { λ s. lane_in s ∷ [] };
+
+    ghost rest = { λ _. tt };
+
+    fn load(&self, _lane: u64, index: u64, back: u64) -> i32 {
+        self.cells[(u64::from(self.history) + index - back) as usize]
+    }
+
+    fn append(&mut self, _lane: u64, value: i32) {
+        self.cells[self.written as usize] = value;
+        self.written += 1;
+    }
+}

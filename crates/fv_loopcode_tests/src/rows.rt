@@ -1,0 +1,136 @@
+// Worked examples.
+
+ghost use Rattle.std.specs.Prelude.{◌≡◌, [], length};
+ghost use Rattle.fv_loopcode_tests.specs.Line.{lane_in, running_sum, difference};
+
+use crate::line::Line;
+use fv_loopcode::{Code, NoLanes, Step, run};
+use fv_num::Op;
+use std::process::Abort;
+use std::test::Fail;
+
+const SUM: [Step; 5] = [
+    Step::Input(0),
+    Step::Number(1),
+    Step::Load {
+        lane: 0,
+        back: 1,
+        max: 1,
+    },
+    Step::Point {
+        op: Op::Add,
+        args: [0, 2, 2, 2],
+    },
+    Step::Append { lane: 0, value: 3 },
+];
+
+const DIFFERENCE: [Step; 3] = [
+    Step::Held(0),
+    Step::Held(1),
+    Step::Point {
+        op: Op::Sub,
+        args: [0, 1, 1, 1],
+    },
+];
+
+// Steps that are no code over one lane.
+static REFUSED: [(&str, &[Step]); 5] = [
+    (
+        "an operand that is no earlier step",
+        &[Step::Append { lane: 0, value: 0 }],
+    ),
+    (
+        "a lane that is not there",
+        &[
+            Step::Number(1),
+            Step::Load {
+                lane: 1,
+                back: 0,
+                max: 1,
+            },
+        ],
+    ),
+    (
+        "a lane to append that is not there",
+        &[Step::Number(1), Step::Append { lane: 1, value: 0 }],
+    ),
+    (
+        "an operation on a later step",
+        &[
+            Step::Number(1),
+            Step::Point {
+                op: Op::Add,
+                args: [0, 3, 0, 0],
+            },
+            Step::Number(2),
+        ],
+    ),
+    (
+        "a way back that is no earlier step",
+        &[Step::Load {
+            lane: 0,
+            back: 1,
+            max: 1,
+        }],
+    ),
+];
+
+#[test]
+fn code_reads_earlier_steps(rt: HostRuntime) -> Result<(), Fail> {
+    for (name, steps) in &REFUSED {
+        let code = Code::new(rt.alloc(), steps, 1)?;
+        assert!(rt; code.is_none(), "{name}");
+    }
+    Ok(())
+}
+
+// Runs the running sum over three samples.
+fn sum(code: &Code, input: &[i32], registers: &mut [i32], line: &mut Line)
+    requires code { code.now ≡ running_sum }
+    requires registers { length registers.old ≡ 5 }
+    requires input { length input.now ≡ 3 }
+    requires history { line.old.history ≡ 1 }
+    requires written { line.old.written ≡ 1 }
+    requires room { length line.old.cells.items ≡ 4 }
+{
+    run(code, &[], input, 1, 0, 3, registers, line);
+}
+
+#[test]
+fn a_running_sum(rt: HostRuntime) -> Result<(), Fail> {
+    let Some(code) = Code::new(rt.alloc(), &SUM, 1)? else {
+        return Err("no code".into());
+    };
+    assert_eq!(rt; code.len(), 5);
+    assert!(rt; !code.is_empty());
+    let mut registers = [0; 5];
+    let mut line = Line {
+        cells: vec![in rt.alloc(); 0; 4]?,
+        history: 1,
+        written: 1,
+    };
+    sum(&code, &[5, 7, 4], &mut registers, &mut line);
+    assert_eq!(rt; line.cells.as_slice(), [0, 5, 12, 16].as_slice());
+    assert_eq!(rt; registers.as_slice(), [4, 1, 12, 16, 16].as_slice());
+    Ok(())
+}
+
+// Runs code without lanes at one sample.
+fn hold(code: &Code, held: &[i32], registers: &mut [i32])
+    requires code { code.now ≡ difference }
+    requires registers { length registers.old ≡ 3 }
+    requires held { length held.now ≡ 2 }
+{
+    run(code, held, &[], 0, 0, 1, registers, &mut NoLanes);
+}
+
+#[test]
+fn held_values_are_registers(rt: HostRuntime) -> Result<(), Fail> {
+    let Some(code) = Code::new(rt.alloc(), &DIFFERENCE, 0)? else {
+        return Err("no code".into());
+    };
+    let mut registers = [0; 3];
+    hold(&code, &[7, 9], &mut registers);
+    assert_eq!(rt; registers.as_slice(), [7, 9, -2].as_slice());
+    Ok(())
+}
