@@ -1,66 +1,95 @@
 -- A run that can be done is done, and one whose files are refused is refused for them.
-use Rattle.std.proofs.Common.{◌≡◌, ℕ, ◌⊎◌, List, sym, ◌∙◌, ap, subst, refl, inl, inr}
-use Rattle.std.specs.Prelude.{IsTrue, Some}
+use Rattle.std.proofs.Common.{◌≡◌, ℕ, ◌⊎◌, List, sym, ◌∙◌, ap, subst, inl, inr}
+use Rattle.std.specs.Prelude.{Some}
+use Rattle.fv_outside.specs.Requests.{Request}
 use Rattle.fv_outside.specs.Desk.{DeskState, File, file_named}
 use Rattle.fv_top.specs.declared.refusal.Refusal.{Refusal}
 use Rattle.fv_top.specs.declared.refusal.Refusal.TheVariants.{NoMemory}
-use Rattle.fv_top.specs.declared.status.Status.{Status}
+use Rattle.fv_top.specs.declared.status.Tally.{Tally}
 use Rattle.fv_top.specs.declared.status.Status.TheVariants.{Done, Refused}
 use Rattle.fv_top.specs.Words.{Names}
 use Rattle.fv_top.specs.Wave.{IsPlainInput}
 use Rattle.fv_top.specs.Program.{IsProgram, IsRefusedText, IsOneRefusal, IsNotBoth}
-use Rattle.fv_top.specs.Promise.{Asks, Plays, AreRefused, HasCause, bad_words, read_fault, write_fault, refused_files, want_of_memory, HasNoFault, IsComplete, IsStrict, IsRefusedOrNoMemory, IfDone, IfRefused, HasPlayed}
+use Rattle.fv_top.specs.Steps.{Ends, IsJudge}
+use Rattle.fv_top.specs.Promise.{Asks, HasProgram, HasNoProgram, HasInput, HasNoInput, Step, ReadProgram, ReadInput, Render, Deliver, StepPasses, StepRefuses, run_rules, run_steps, HasCause, bad_words, of_run, HasPlayed, IsComplete, IsStrict, IsExact, IsRefusedOrNoMemory}
+use Rattle.fv_top.proofs.StepLaws.{exactly, completes, passes_apart}
 
 -- a name has one file
 one_file : (name : List ℕ) (files : List File) (a b : List ℕ) → file_named name files ≡ Some a → file_named name files ≡ Some b → a ≡ b
 one_file name files a b h k = let e : Some a ≡ Some b = sym h ∙ k in cc
 
--- what plays is not refused
-plays_accepted : (program input : List ℕ) (files : List File) (refusal : Refusal) → IsNotBoth → Plays program input files → AreRefused program input files refusal → ⊥
-plays_accepted program input files refusal apart p (inl h) =
-    apart h.text p.of.diagram refusal (subst (λ (w : List ℕ). IsProgram w p.of.diagram) (one_file program files _ _ p.of.file h.file) p.of.program) h.refused
-plays_accepted program input files refusal apart p (inr h) =
-    h.2.not_plain (subst IsPlainInput (one_file input files _ _ p.on.file h.2.file) p.on.plain)
+-- it is refused for one thing, and not where it passes
+one_text : (name : List ℕ) (files : List File) (a b : Refusal) → IsOneRefusal → HasNoProgram name files a → HasNoProgram name files b → a ≡ b
+one_text name files a b once h k = once h.text a b h.refused (subst (λ (w : List ℕ). IsRefusedText w b) (one_file name files _ _ k.file h.file) k.refused)
+
+program_apart : (name : List ℕ) (files : List File) (refusal : Refusal) → IsNotBoth → HasProgram name files → HasNoProgram name files refusal → ⊥
+program_apart name files refusal apart p h =
+    apart h.text p.diagram refusal (subst (λ (w : List ℕ). IsProgram w p.diagram) (one_file name files _ _ p.file h.file) p.program) h.refused
+
+input_apart : (name : List ℕ) (files : List File) → HasInput name files → HasNoInput name files → ⊥
+input_apart name files p h = h.not_plain (subst IsPlainInput (one_file name files _ _ p.file h.file) p.plain)
+
+once_in : (names : Names) (files : List File) → IsOneRefusal → (s : Step) (a b : Refusal) → StepRefuses names files s a → StepRefuses names files s b → a ≡ b
+once_in names files once ReadProgram a b h k = one_text names.program files a b once h k
+once_in names files once ReadInput a b h k = h.0 ∙ sym k.0
+once_in names files once Render a b h k = absurd h
+once_in names files once Deliver a b h k = absurd h
+
+apart_in : (names : Names) (files : List File) → IsNotBoth → (s : Step) (a : Refusal) → StepPasses names files s → StepRefuses names files s a → ⊥
+apart_in names files apart ReadProgram a p h = program_apart names.program files a apart p h
+apart_in names files apart ReadInput a p h = input_apart names.input files p h.1
+apart_in names files apart Render a p h = h
+apart_in names files apart Deliver a p h = h
+
+-- the steps of a run judge
+judges : (names : Names) (old : DeskState) → IsOneRefusal → IsNotBoth → IsJudge (run_rules names old)
+judges names old once apart = record { once = once_in names old.files once; apart = apart_in names old.files apart }
 
 -- words ask for one thing
 one_command : (words : List (List ℕ)) (a b : Names) → Asks words a → Asks words b → a ≡ b
 one_command words a b h k = let e = sym h ∙ k in cc
 
--- where the words ask for these files and no call fails, what stopped a run is what they hold
-stopped_by : (words : List (List ℕ)) (names : Names) (old new : DeskState) (refusal : Refusal) → Asks words names → IsTrue old.tells → HasNoFault old new → HasCause words old new refusal →
-    (refusal ≡ NoMemory) ⊎ AreRefused names.program names.input old.files refusal
-stopped_by words names old new refusal asks tells none (bad_words h) = let e = sym asks ∙ h in absurd cc
-stopped_by words names old new refusal asks tells none (read_fault h) = absurd (none _ h)
-stopped_by words names old new refusal asks tells none (write_fault h) = absurd (none _ h)
-stopped_by words names old new refusal asks tells none (refused_files named of_files asked h) =
-    inr (subst (λ (n : Names). AreRefused n.program n.input old.files refusal) (one_command words named names asked asks) (h tells))
-stopped_by words names old new refusal asks tells none want_of_memory = inl refl
+-- the steps of a run that was refused are those of its words
+ends_of : (words : List (List ℕ)) (names : Names) (old new : DeskState) (e : Refusal) (asked : List Request) → Asks words names → HasCause words old new e asked →
+    (rs : List Request) × Ends (run_rules names old) old new run_steps e rs
+ends_of words names old new e asked asks (bad_words h) = let f = sym asks ∙ h in absurd cc
+ends_of words names old new e asked asks (of_run other named h) =
+    (asked, subst (λ (n : Names). Ends (run_rules n old) old new run_steps e asked) (one_command words other names named asks) h)
 
-not_refused : (program input : List ℕ) (files : List File) (refusal : Refusal) → IsNotBoth → Plays program input files → (refusal ≡ NoMemory) ⊎ AreRefused program input files refusal → refusal ≡ NoMemory
-not_refused program input files refusal apart p (inl m) = m
-not_refused program input files refusal apart p (inr h) = absurd (plays_accepted program input files refusal apart p h)
+-- ---- a run that is done
+pub done_exact : (words : List (List ℕ)) (tally : Tally) (frames : ℕ) (old new : DeskState) → HasPlayed words frames old new → IsExact words (Done tally)
+done_exact words tally frames old new p cause h = let f = sym p.asks ∙ h in absurd cc
 
-pub completes : (words : List (List ℕ)) (old new : DeskState) (status : Status) → IsNotBoth → IfRefused status (HasCause words old new) → IsComplete words old new status
-completes words old new (Done tally) apart h names asks tells p none = tt
-completes words old new (Refused refusal) apart h names asks tells p none =
-    not_refused names.program names.input old.files refusal apart p (stopped_by words names old new refusal asks tells none h)
+passes_in : (names : Names) (files : List File) → HasProgram names.program files → HasInput names.input files → (s : Step) → StepPasses names files s
+passes_in names files p q ReadProgram = p
+passes_in names files p q ReadInput = q
+passes_in names files p q Render = tt
+passes_in names files p q Deliver = tt
 
--- files are refused for one thing
-one_cause : (program input : List ℕ) (files : List File) (a b : Refusal) → IsOneRefusal → IsNotBoth → AreRefused program input files a → AreRefused program input files b → a ≡ b
-one_cause program input files a b once apart (inl h) (inl k) = once h.text a b h.refused (subst (λ (w : List ℕ). IsRefusedText w b) (one_file program files _ _ k.file h.file) k.refused)
-one_cause program input files a b once apart (inl h) (inr k) = absurd (apart h.text k.1.diagram a (subst (λ (w : List ℕ). IsProgram w k.1.diagram) (one_file program files _ _ k.1.file h.file) k.1.program) h.refused)
-one_cause program input files a b once apart (inr h) (inl k) = absurd (apart k.text h.1.diagram b (subst (λ (w : List ℕ). IsProgram w h.1.diagram) (one_file program files _ _ h.1.file k.file) h.1.program) k.refused)
-one_cause program input files a b once apart (inr h) (inr k) = h.0 ∙ sym k.0
+pub done_strict : (words : List (List ℕ)) (tally : Tally) (frames : ℕ) (old new : DeskState) → IsOneRefusal → IsNotBoth → HasPlayed words frames old new → IsStrict words old new (Done tally)
+done_strict words tally frames old new once apart p names wanted asks told stops =
+    let same = one_command words p.names names p.asks asks in
+    let plays = (p.told told).0 in
+    let passes = subst (λ (n : Names). (s : Step) → StepPasses n old.files s) same (passes_in p.names old.files plays.of plays.on) in
+    absurd (passes_apart (run_rules names old) old new (judges names old once apart) told run_steps wanted passes stops)
 
-refused_so : (program input : List ℕ) (files : List File) (a b : Refusal) → IsOneRefusal → IsNotBoth → AreRefused program input files a → (b ≡ NoMemory) ⊎ AreRefused program input files b →
-    IsRefusedOrNoMemory a (Refused b)
-refused_so program input files a b once apart h (inl m) = inr (ap Refused m)
-refused_so program input files a b once apart h (inr k) = inl (ap Refused (one_cause program input files b a once apart k h))
+-- ---- a run that was refused
+pub refused_exact : (words : List (List ℕ)) (old new : DeskState) (e : Refusal) (asked : List Request) → HasCause words old new e asked → IsExact words (Refused e)
+refused_exact words old new e asked (bad_words h) cause k = let f = sym h ∙ k in cc
+refused_exact words old new e asked (of_run names asks h) cause k = let f = sym asks ∙ k in absurd cc
 
-pub refuses : (words : List (List ℕ)) (old new : DeskState) (status : Status) → IsOneRefusal → IsNotBoth → IfDone status (λ tally. HasPlayed words tally.frames old new) →
-    IfRefused status (HasCause words old new) → IsStrict words old new status
-refuses words old new (Done tally) once apart d h names refusal asks tells r none =
-    let p = (d.told tells).0 in
-    absurd (plays_accepted names.program names.input old.files refusal apart (subst (λ (n : Names). Plays n.program n.input old.files) (one_command words d.names names d.asks asks) p) r)
-refuses words old new (Refused refusal) once apart d h names wanted asks tells r none =
-    refused_so names.program names.input old.files wanted refusal once apart r (stopped_by words names old new refusal asks tells none h)
+as_status : (wanted got : Refusal) → (got ≡ wanted) ⊎ (got ≡ NoMemory) → IsRefusedOrNoMemory wanted (Refused got)
+as_status wanted got (inl e) = inl (ap Refused e)
+as_status wanted got (inr e) = inr (ap Refused e)
+
+pub refused_strict : (words : List (List ℕ)) (old new : DeskState) (e : Refusal) (asked : List Request) → IsOneRefusal → IsNotBoth → HasCause words old new e asked →
+    IsStrict words old new (Refused e)
+refused_strict words old new e asked once apart cause names wanted asks told stops =
+    let ends = ends_of words names old new e asked asks cause in
+    as_status wanted e (exactly (run_rules names old) old new (judges names old once apart) told run_steps wanted e ends.0 stops ends.1)
+
+pub refused_complete : (words : List (List ℕ)) (old new : DeskState) (e : Refusal) (asked : List Request) → IsOneRefusal → IsNotBoth → HasCause words old new e asked →
+    IsComplete words old new (Refused e)
+refused_complete words old new e asked once apart cause names asks told passes =
+    let ends = ends_of words names old new e asked asks cause in
+    completes (run_rules names old) old new (judges names old once apart) told run_steps e ends.0 passes ends.1

@@ -5,7 +5,8 @@ pub mod Loads
 pub mod PlainInputs
 pub mod Samples
 pub mod Sounds
-pub mod Preparing
-pub mod Ending
+pub mod StepLaws
+pub mod Reaching
+pub mod Stopping
 pub mod Completing
 pub mod PlacedLines

@@ -4,6 +4,7 @@ pub mod Controls
 pub mod Lines
 pub mod Fields
 pub mod Program
+pub mod Steps
 pub mod Promise
 pub mod Examples
 pub mod Loading

@@ -10,8 +10,16 @@ use Rattle.fv_parse.specs.declared.refusal.ParseRefusal.TheVariants as tokens
 use Rattle.fv_parse.specs.Outcomes.{IsAccepted, HasRefusal as HasTokensRefusal}
 use Rattle.fv_diagram.specs.Diagram.{Diagram}
 use Rattle.fv_small.specs.Small.{IsSmall, IsNotSmall}
+use Rattle.fv_top.specs.Lines.{status_of}
 use Rattle.fv_top.specs.declared.refusal.Refusal.{Refusal}
 use Rattle.fv_top.specs.declared.refusal.Refusal.TheVariants.{TextTooLong, BadByte, Unclosed, RealLiteral, LiteralTooLarge, Syntax, Unsupported, Redefined, RepeatedName, RuleWidths, NoProcess, NoMemory, Nesting}
+
+-- a refusal of a program's text: those have one exit status
+abbrev pub refused_text : ℕ
+refused_text = 3
+
+abbrev pub IsOfText : Refusal → Type 0
+IsOfText refusal = status_of refusal ≡ refused_text
 
 -- The text is a program of this diagram: its tokens spell a tree that is small by it.
 pub record IsProgram (text : List ℕ) (d : Diagram) : Type 0 where

@@ -4,17 +4,16 @@ ghost use Rattle.std.specs.Prelude.{◌≡◌, ℕ, ◌+◌, ◌%◌, ◌<◌, �
 ghost use Rattle.std.specs.Int.{from_le_bytes};
 ghost use Rattle.std.proofs.Common.{w32};
 ghost use Rattle.fv_base.specs.declared.role.Role.TheVariants.{Input as input_role};
-ghost use Rattle.fv_outside.specs.declared.transfer.ReadError.TheVariants as errors;
-ghost use Rattle.fv_outside.specs.Desk.{KeepsQuiet, HasFault};
-ghost use Rattle.fv_top.specs.declared.refusal.Refusal.TheVariants.{Unsupported};
+ghost use Rattle.fv_outside.specs.Desk.{KeepsFaults};
+ghost use Rattle.fv_top.specs.declared.refusal.Refusal.TheVariants.{ReadFault, Unsupported};
 ghost use Rattle.fv_top.specs.Promise.{HasNoInput};
-ghost use Rattle.fv_top.specs.Loading.{StopsLoading, IsFile};
+ghost use Rattle.fv_top.specs.Loading.{ReadsFile, StopsLoading, IsFile};
 ghost use Rattle.fv_top.specs.Wave.{IsPlainInput, is_plain_head, rate_of, data_in, data_limit};
 
-use crate::program::read_refusal;
+use crate::program::{read_front, read_refusal};
 use crate::refusal::Refusal;
 use crate::text::unsupported;
-use fv_outside::{Desk, ReadError, Role, read_up_to};
+use fv_outside::{Desk, Role, read_up_to};
 use std::alloc::{AllocError, Global};
 
 /// An input that can be played: frames a second, and the bytes of its samples, two for each.
@@ -31,15 +30,17 @@ const HEAD_BYTES: usize = 44;
 const DATA_LIMIT: u32 = 4294967258;
 
 /// Loads the input of this name.
-#[tactic(auto, using(fv_outside::proofs::States::steps))]
+#[tactic(auto, using(fv_outside::proofs::States::steps, crate::proofs::Loads::reading))]
 pub fn load_input<D: Desk>(alloc: Global, desk: &mut D, name: &str) -> Result<Input, Refusal>
-    ensures quiet { KeepsQuiet (D.state desk.old) (D.state desk.new) }
+    ensures reads { ReadsFile input_role name.now (D.state desk.old) (D.state desk.new) }
     ensures loaded { IfOk result (λ input. IsTrue (D.state desk.old).tells → (bytes : List ℕ) × IsFile name.now bytes (D.state desk.old)
         × IsPlainInput bytes × (input.rate ≡ rate_of (take 44 bytes)) × (input.bytes.items ≡ data_in bytes)) }
     ensures size { IfOk result (λ input. length input.bytes.items ≤ data_limit) }
-    ensures err { IfErr result (StopsLoading input_role (λ e. (e ≡ Unsupported (codes "input")) × HasNoInput name.now (D.state desk.old).files) (D.state desk.old) (D.state desk.new)) }
+    ensures err { IfErr result (StopsLoading input_role name.now (λ e. e ≡ Unsupported (codes "input"))
+        (λ e. (e ≡ Unsupported (codes "input")) × HasNoInput name.now (D.state desk.old).files) (D.state desk.old) (D.state desk.new)) }
+    ensures steady { (IsErrOf result (ReadFault input_role) → ⊥) → KeepsFaults (D.state desk.old) (D.state desk.new) }
 {
-    let head = match read_head(alloc, desk, name) {
+    let head = match read_front(alloc, desk, Role::Input, name, HEAD_BYTES) {
         Ok(head) => head,
         Err(error) => return Err(read_refusal(Role::Input, error)),
     };
@@ -56,18 +57,6 @@ pub fn load_input<D: Desk>(alloc: Global, desk: &mut D, name: &str) -> Result<In
         return Err(unsupported(alloc, b"input"));
     }
     Ok(Input { rate, bytes })
-}
-
-// The first bytes of the file, those of a head.
-#[tactic(auto, using(fv_outside::proofs::States::steps))]
-fn read_head<D: Desk>(alloc: Global, desk: &mut D, name: &str) -> Result<Vec<u8>, ReadError>
-    ensures quiet { KeepsQuiet (D.state desk.old) (D.state desk.new) }
-    ensures bytes { IfOk result (λ v. IsTrue (D.state desk.old).tells → (bytes : List ℕ) × IsFile name.now bytes (D.state desk.old)
-        × (v.items ≡ take 44 bytes) × ((D.state desk.new).left input_role ≡ drop 44 bytes)) }
-    ensures failed { IsErrOf result ReadError.Failed → HasFault input_role (D.state desk.old) (D.state desk.new) }
-{
-    desk.begin_read(Role::Input, name)?;
-    read_up_to(alloc, desk, Role::Input, HEAD_BYTES)
 }
 
 // Whether the bytes are a head of the first form.

@@ -15,6 +15,3 @@ pub use refusal::{Cause, Refusal};
 pub use run::run_faustvec;
 pub use status::{Status, Tally};
 pub use text::one_program;
-
-#[cfg(test)]
-mod tests;

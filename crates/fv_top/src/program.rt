@@ -1,14 +1,15 @@
 // The program's file.
 
-ghost use Rattle.std.specs.Prelude.{◌≡◌, ℕ, ◌<◌, List, length, take, IsTrue, IfOk, IfErr, IsErrOf};
+ghost use Rattle.std.specs.Prelude.{◌≡◌, ℕ, ◌<◌, List, take, drop, IsTrue, IfOk, IfErr, IsErrOf};
 ghost use Rattle.fv_base.specs.declared.role.Role.TheVariants.{Program as program_role};
 ghost use Rattle.fv_outside.specs.declared.transfer.ReadError.TheVariants as errors;
-ghost use Rattle.fv_outside.specs.Desk.{KeepsQuiet, HasFault};
+ghost use Rattle.fv_outside.specs.Desk.{KeepsFaults};
 ghost use Rattle.fv_diagram.specs.Arena.{count_of, tree_of};
 ghost use Rattle.fv_diagram.specs.Diagram.{control_bound, HasNoDelay, HasNoFreeSlot};
-ghost use Rattle.fv_top.specs.Program.{IsProgram};
+ghost use Rattle.fv_top.specs.declared.refusal.Refusal.TheVariants.{ReadFault};
+ghost use Rattle.fv_top.specs.Program.{IsProgram, IsOfText};
 ghost use Rattle.fv_top.specs.Promise.{HasNoProgram};
-ghost use Rattle.fv_top.specs.Loading.{StopsLoading, IsFile, refusal_of_read};
+ghost use Rattle.fv_top.specs.Loading.{ReadsFile, CannotRead, StopsLoading, IsFile, refusal_of_read};
 
 use crate::refusal::Refusal;
 use crate::text::read_program;
@@ -20,15 +21,16 @@ use std::alloc::Global;
 const TEXT_BYTES: usize = 1048577;
 
 /// Loads the program of this name.
-#[tactic(auto, using(fv_outside::proofs::States::steps))]
+#[tactic(auto, using(fv_outside::proofs::States::steps, crate::proofs::Loads::reading))]
 pub fn load_program<D: Desk>(alloc: Global, desk: &mut D, name: &str) -> Result<Program, Refusal>
-    ensures quiet { KeepsQuiet (D.state desk.old) (D.state desk.new) }
+    ensures reads { ReadsFile program_role name.now (D.state desk.old) (D.state desk.new) }
     ensures spelled { IfOk result (λ p. (text : List ℕ) × IsFile name.now text (D.state desk.old) × IsProgram text (tree_of p.diagrams p.root)) }
     ensures runs { IfOk result (λ p. (p.root < count_of p.diagrams) × HasNoDelay (tree_of p.diagrams p.root)
         × (control_bound (tree_of p.diagrams p.root) ≡ 0) × HasNoFreeSlot (tree_of p.diagrams p.root)) }
-    ensures err { IfErr result (StopsLoading program_role (HasNoProgram name.now (D.state desk.old).files) (D.state desk.old) (D.state desk.new)) }
+    ensures err { IfErr result (StopsLoading program_role name.now IsOfText (HasNoProgram name.now (D.state desk.old).files) (D.state desk.old) (D.state desk.new)) }
+    ensures steady { (IsErrOf result (ReadFault program_role) → ⊥) → KeepsFaults (D.state desk.old) (D.state desk.new) }
 {
-    let text = match read_text(alloc, desk, name) {
+    let text = match read_front(alloc, desk, Role::Program, name, TEXT_BYTES) {
         Ok(text) => text,
         Err(error) => return Err(read_refusal(Role::Program, error)),
     };
@@ -36,16 +38,24 @@ pub fn load_program<D: Desk>(alloc: Global, desk: &mut D, name: &str) -> Result<
     Ok(program)
 }
 
-// The bytes of the text, or its first ones where it is too long.
-#[tactic(auto, using(fv_outside::proofs::States::steps))]
-fn read_text<D: Desk>(alloc: Global, desk: &mut D, name: &str) -> Result<Vec<u8>, ReadError>
-    ensures quiet { KeepsQuiet (D.state desk.old) (D.state desk.new) }
-    ensures bytes { IfOk result (λ v. IsTrue (D.state desk.old).tells →
-        (text : List ℕ) × IsFile name.now text (D.state desk.old) × (v.items ≡ take 1048577 text)) }
-    ensures failed { IsErrOf result ReadError.Failed → HasFault program_role (D.state desk.old) (D.state desk.new) }
+/// The first bytes of the file of this name, so many or all of them.
+#[tactic(auto, using(fv_outside::proofs::States::steps, crate::proofs::Loads::reading))]
+pub fn read_front<D: Desk>(
+    alloc: Global,
+    desk: &mut D,
+    role: Role,
+    name: &str,
+    count: usize,
+) -> Result<Vec<u8>, ReadError>
+    ensures reads { ReadsFile role name.now (D.state desk.old) (D.state desk.new) }
+    ensures bytes { IfOk result (λ v. IsTrue (D.state desk.old).tells → (bytes : List ℕ) × IsFile name.now bytes (D.state desk.old)
+        × (v.items ≡ take count bytes) × ((D.state desk.new).left role ≡ drop count bytes)) }
+    ensures failed { IsErrOf result ReadError.Failed → CannotRead role name.now (D.state desk.old) (D.state desk.new) }
+    ensures steady { (IsErrOf result ReadError.Failed → ⊥) → KeepsFaults (D.state desk.old) (D.state desk.new) }
 {
-    desk.begin_read(Role::Program, name)?;
-    read_up_to(alloc, desk, Role::Program, TEXT_BYTES)
+    desk.begin_read(role, name)?;
+    let bytes = read_up_to(alloc, desk, role, count)?;
+    Ok(bytes)
 }
 
 /// The refusal of what could not be read.

@@ -3,7 +3,7 @@
 ghost use Rattle.std.specs.Prelude.{◌≡◌};
 ghost use Rattle.fv_top.specs.Lines.{number_of, status_of};
 ghost use Rattle.fv_top.specs.Program.{of_bytes, of_tokens};
-ghost use Rattle.fv_top.specs.declared.refusal.Refusal.TheVariants.{NoMemory};
+ghost use Rattle.fv_top.specs.declared.refusal.Refusal.TheVariants.{Usage, NoMemory};
 
 use fv_lex::LexRefusal;
 use fv_outside::{Role, Word};
@@ -91,6 +91,14 @@ impl Refusal {
             Refusal::NoMemory => 5,
             _ => 3,
         }
+    }
+}
+
+impl From<Cause> for Refusal {
+    ghost from_gives = { λ cause refusal. refusal ≡ Usage cause };
+
+    fn from(cause: Cause) -> Refusal {
+        Refusal::Usage { cause }
     }
 }
 

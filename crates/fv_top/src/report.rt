@@ -1,9 +1,9 @@
 // The lines of the report.
 
-ghost use Rattle.std.specs.Prelude.{◌≡◌, List, ℕ, ◌++◌, codes, decimal, OnOk, OnErr};
+ghost use Rattle.std.specs.Prelude.{◌≡◌, List, ℕ, ◌+◌, ◌≤◌, ◌++◌, length, codes, decimal, IsTrue, IsOk, OnOk, OnErr};
 ghost use Rattle.fv_base.specs.declared.role.Role.TheVariants.{Report};
 ghost use Rattle.fv_base.specs.Lists.{IsPrefixOf};
-ghost use Rattle.fv_outside.specs.Desk.{HasFault, Appends};
+ghost use Rattle.fv_outside.specs.Desk.{HasFault, KeepsFaults, IsUnfailing, Appends};
 ghost use Rattle.fv_top.specs.Lines.{role_word, cause_word, name_of, place_fields, fields_of, refused_line, done_line};
 ghost use Rattle.fv_top.specs.Fields.{listed};
 
@@ -16,6 +16,9 @@ pub fn report_done<D: Desk>(desk: &mut D, frames: u32) -> Result<(), Failed>
     ensures ok { OnOk result (Appends Report (done_line frames) (D.state desk.old) (D.state desk.new)) }
     ensures err { OnErr result ((part : List ℕ) × IsPrefixOf part (done_line frames) × Appends Report part (D.state desk.old) (D.state desk.new)) }
     ensures failed { OnErr result (HasFault Report (D.state desk.old) (D.state desk.new)) }
+    ensures steady { OnOk result (KeepsFaults (D.state desk.old) (D.state desk.new)) }
+    ensures answers { IsTrue (D.state desk.old).tells → IsUnfailing Report (D.state desk.old) →
+        length ((D.state desk.old).written Report) + length (done_line frames) ≤ (D.state desk.old).room Report → IsOk result }
 {
     let mut buffer = Buffer::new();
     let digits = buffer.format(frames).as_bytes();

@@ -5,8 +5,7 @@ ghost use Rattle.fv_diagram.specs.Arena.{count_of, tree_of};
 ghost use Rattle.fv_diagram.specs.Diagram.{control_bound, HasNoDelay, HasNoFreeSlot};
 ghost use Rattle.fv_top.specs.declared.refusal.Refusal.TheVariants.{NoMemory};
 ghost use Rattle.fv_top.specs.Loading.{IsUnsupportedOrNoMemory};
-ghost use Rattle.fv_top.specs.Program.{IsProgram, IsRefusedText, IsOneProgram, IsOneRefusal, IsNotBoth, IsOneOrOther};
-ghost use Rattle.fv_top.specs.Promise.{IsOfFiles};
+ghost use Rattle.fv_top.specs.Program.{IsProgram, IsRefusedText, IsOneProgram, IsOneRefusal, IsNotBoth, IsOneOrOther, IsOfText};
 
 use crate::refusal::Refusal;
 use fv_grammar::spelled_once;
@@ -39,7 +38,7 @@ pub fn read_program(alloc: Global, text: &[u8]) -> Result<Program, Refusal>
     ensures controls { IfOk result (λ p. control_bound (tree_of p.diagrams p.root) ≡ 0) }
     ensures closed { IfOk result (λ p. HasNoFreeSlot (tree_of p.diagrams p.root)) }
     // Only a text that is no program is refused, and for its cause.
-    ensures refused { IfErr result (λ e. (e ≡ NoMemory) ⊎ (IsOfFiles e × IsRefusedText text.now e)) }
+    ensures refused { IfErr result (λ e. (e ≡ NoMemory) ⊎ (IsOfText e × IsRefusedText text.now e)) }
 {
     let tokens = tokens(alloc, text)?;
     let tree = parse(alloc, &tokens)?;

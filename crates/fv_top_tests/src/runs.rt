@@ -1,7 +1,7 @@
 // Whole runs over a desk in memory.
 
-use super::*;
 use fv_outside::{FreeGate, MemoryDesk, Role};
+use fv_top::run_faustvec;
 use std::alloc::{AllocError, Global};
 use std::process::Abort;
 use std::sync::Wait;
@@ -210,6 +210,18 @@ fn changed(alloc: Global, place: usize, byte: u8) -> Result<Vec<u8>, AllocError>
         file[place] = byte;
     }
     Ok(file)
+}
+
+#[test]
+fn refuses_the_text_first(rt: HostRuntime) -> Result<(), Fail> {
+    let mut desk = desk_of(rt.alloc(), b"process = _;\nprocess = 1 +;", &THREE)?;
+    let words = ["faustvec", "run", "p.dsp", "none.wav", "out.wav"];
+    assert_eq!(rt; status_of(&rt, rt.alloc(), &mut desk, &words)?, 3);
+    assert_eq!(rt;
+        desk.written(Role::Report),
+        b"refused 9 Syntax 2 14\n".as_slice()
+    );
+    Ok(())
 }
 
 #[test]

@@ -1,0 +1,5 @@
+//! Tests of fv_top's public call.
+#![tactic(auto)]
+
+#[cfg(test)]
+mod runs;
