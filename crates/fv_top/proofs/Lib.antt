@@ -9,4 +9,4 @@ pub mod StepLaws
 pub mod Reaching
 pub mod Stopping
 pub mod Completing
-pub mod PlacedLines
+pub mod Parts

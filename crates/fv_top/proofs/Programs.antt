@@ -15,7 +15,6 @@ use Rattle.fv_small.specs.Small.{IsSmall, IsNotSmall, SmallOnce}
 use Rattle.fv_top.specs.declared.refusal.Refusal.{Refusal}
 use Rattle.fv_top.specs.declared.refusal.Refusal.TheVariants.{Unsupported, NoMemory}
 use Rattle.fv_top.specs.Program.{IsProgram, IsRefusedText, IsOfText, bad_bytes, bad_tokens, not_small, of_bytes, of_tokens}
-use Rattle.fv_top.specs.Lines.{status_of}
 
 -- one text has one list of tokens
 one_list : (text : List ℕ) (a b : Lexed) → HasAtMostOne → HasTokens text a → HasTokens text b → a ≡ b
@@ -86,27 +85,27 @@ one_or_other text some either none = by_answer text (some text).0 (some text).1 
 pub bytes_stop : (text : List ℕ) (e : LexRefusal) (refusal : Refusal) → refusal ≡ of_bytes e → (e ≡ bytes.NoMemory) ⊎ HasBytesRefusal text e →
     (refusal ≡ NoMemory) ⊎ (IsOfText refusal × IsRefusedText text refusal)
 bytes_stop text e refusal is (inl m) = inl (is ∙ ap of_bytes m)
-bytes_stop text (bytes.TextTooLong role) refusal is (inr h) = inr (ap status_of is, bad_bytes _ h is)
-bytes_stop text (bytes.BadByte line column) refusal is (inr h) = inr (ap status_of is, bad_bytes _ h is)
-bytes_stop text (bytes.Unclosed line column) refusal is (inr h) = inr (ap status_of is, bad_bytes _ h is)
-bytes_stop text (bytes.RealLiteral line column) refusal is (inr h) = inr (ap status_of is, bad_bytes _ h is)
-bytes_stop text (bytes.LiteralTooLarge line column) refusal is (inr h) = inr (ap status_of is, bad_bytes _ h is)
-bytes_stop text (bytes.Nesting line column) refusal is (inr h) = inr (ap status_of is, bad_bytes _ h is)
+bytes_stop text (bytes.TextTooLong role) refusal is (inr h) = inr (subst IsOfText (sym is) refl, bad_bytes _ h is)
+bytes_stop text (bytes.BadByte line column) refusal is (inr h) = inr (subst IsOfText (sym is) refl, bad_bytes _ h is)
+bytes_stop text (bytes.Unclosed line column) refusal is (inr h) = inr (subst IsOfText (sym is) refl, bad_bytes _ h is)
+bytes_stop text (bytes.RealLiteral line column) refusal is (inr h) = inr (subst IsOfText (sym is) refl, bad_bytes _ h is)
+bytes_stop text (bytes.LiteralTooLarge line column) refusal is (inr h) = inr (subst IsOfText (sym is) refl, bad_bytes _ h is)
+bytes_stop text (bytes.Nesting line column) refusal is (inr h) = inr (subst IsOfText (sym is) refl, bad_bytes _ h is)
 bytes_stop text bytes.NoMemory refusal is (inr h) = inl is
 
 pub tokens_stop : (text : List ℕ) (l : Lexed) (e : ParseRefusal) (refusal : Refusal) → HasTokens text l → refusal ≡ of_tokens e → (e ≡ tokens.NoMemory) ⊎ HasTokensRefusal l e →
     (refusal ≡ NoMemory) ⊎ (IsOfText refusal × IsRefusedText text refusal)
 tokens_stop text l e refusal has is (inl m) = inl (is ∙ ap of_tokens m)
-tokens_stop text l (tokens.Syntax line column) refusal has is (inr h) = inr (ap status_of is, bad_tokens l _ has h is)
-tokens_stop text l (tokens.Unsupported word) refusal has is (inr h) = inr (ap status_of is, bad_tokens l _ has h is)
-tokens_stop text l (tokens.Redefined name) refusal has is (inr h) = inr (ap status_of is, bad_tokens l _ has h is)
-tokens_stop text l (tokens.RepeatedName name) refusal has is (inr h) = inr (ap status_of is, bad_tokens l _ has h is)
-tokens_stop text l (tokens.RuleWidths line column) refusal has is (inr h) = inr (ap status_of is, bad_tokens l _ has h is)
-tokens_stop text l tokens.NoProcess refusal has is (inr h) = inr (ap status_of is, bad_tokens l _ has h is)
+tokens_stop text l (tokens.Syntax line column) refusal has is (inr h) = inr (subst IsOfText (sym is) refl, bad_tokens l _ has h is)
+tokens_stop text l (tokens.Unsupported word) refusal has is (inr h) = inr (subst IsOfText (sym is) refl, bad_tokens l _ has h is)
+tokens_stop text l (tokens.Redefined name) refusal has is (inr h) = inr (subst IsOfText (sym is) refl, bad_tokens l _ has h is)
+tokens_stop text l (tokens.RepeatedName name) refusal has is (inr h) = inr (subst IsOfText (sym is) refl, bad_tokens l _ has h is)
+tokens_stop text l (tokens.RuleWidths line column) refusal has is (inr h) = inr (subst IsOfText (sym is) refl, bad_tokens l _ has h is)
+tokens_stop text l tokens.NoProcess refusal has is (inr h) = inr (subst IsOfText (sym is) refl, bad_tokens l _ has h is)
 tokens_stop text l tokens.NoMemory refusal has is (inr h) = inl is
 
 -- and so does that of a tree that is not small
 pub tree_stops : (text : List ℕ) (l : Lexed) (x : Tree) (refusal : Refusal) → HasTokens text l → IsAccepted l x → IsNotSmall l x →
     (refusal ≡ Unsupported (codes "program")) ⊎ (refusal ≡ NoMemory) → (refusal ≡ NoMemory) ⊎ (IsOfText refusal × IsRefusedText text refusal)
-tree_stops text l x refusal has a none (inl is) = inr (ap status_of is, not_small l x has a none is)
+tree_stops text l x refusal has a none (inl is) = inr (subst IsOfText (sym is) refl, not_small l x has a none is)
 tree_stops text l x refusal has a none (inr m) = inl m

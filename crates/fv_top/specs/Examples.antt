@@ -1,8 +1,12 @@
 -- Small files, which hold by computing.
-use Rattle.std.specs.Prelude.{◌≡◌, refl, ℕ, List, [], ◌∷◌, take, pos, negsuc, true, Err, codes}
+use Rattle.std.specs.Prelude.{◌≡◌, refl, ℕ, List, [], ◌∷◌, take, pos, negsuc, true, Err, codes, decimal}
 use Rattle.fv_diagram.specs.declared.node.Primitive.TheVariants.{Wire}
 use Rattle.fv_diagram.specs.Diagram.{Primitive}
+use Rattle.fv_base.specs.declared.role.Role.TheVariants.{Controls}
+use Rattle.fv_arity.specs.declared.refusal.ArityKind.TheVariants.{Split}
+use Rattle.fv_top.specs.declared.refusal.Refusal.TheVariants.{TextTooLong, Arity}
 use Rattle.fv_top.specs.declared.refusal.Cause.TheVariants.{Form, Same}
+use Rattle.fv_top.specs.Lines.{row, row_of, status_of}
 use Rattle.fv_top.specs.Words.{command_of}
 use Rattle.fv_top.specs.Wave.{samples_in, data_in, is_plain_head}
 use Rattle.fv_top.specs.Promise.{played}
@@ -25,6 +29,13 @@ head_is_plain = refl
 samples_are : samples_in (data_in three_samples) ≡ pos 1 ∷ negsuc 1 ∷ pos 3 ∷ []
 unfolding three_samples
 samples_are = refl
+
+-- the row of a refusal, and a status that goes by the role
+row_of_arity : row_of (Arity Split 2 3) ≡ row 16 3 (codes "Arity") (codes "split" ∷ decimal 2 ∷ decimal 3 ∷ [])
+row_of_arity = refl
+
+script_too_long : status_of (TextTooLong Controls) ≡ 4
+script_too_long = refl
 
 output_is_input : command_of (codes "faustvec" ∷ codes "run" ∷ codes "p.dsp" ∷ codes "in.wav" ∷ codes "in.wav" ∷ []) ≡ Err Same
 output_is_input = refl

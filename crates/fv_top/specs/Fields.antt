@@ -1,10 +1,24 @@
--- The fields of a line, as the code has them.
-use Rattle.std.specs.Prelude.{ℕ, List, [], ◌∷◌}
-use Rattle.fv_top.specs.declared.report.Details.{Details}
-use Rattle.fv_top.specs.declared.report.Details.TheVariants.{None, Word, Place}
-use Rattle.fv_top.specs.Lines.{place_fields}
+-- The rows of refusals, as the code has them.
+use Rattle.std.specs.Prelude.{ℕ, List, [], ◌∷◌, decimal}
+use Rattle.std.specs.Fmt.{signed_decimal}
+use Rattle.fv_top.specs.declared.row.Field.{Field}
+use Rattle.fv_top.specs.declared.row.Field.TheVariants.{Word, Natural, Integer}
+use Rattle.fv_top.specs.declared.row.Fields.{Fields}
+use Rattle.fv_top.specs.declared.row.Fields.TheVariants.{None, One, Two, Three}
+use Rattle.fv_top.specs.declared.row.Row.{Row as Table}
+use Rattle.fv_top.specs.Lines.{Row, row}
 
-abbrev pub listed : Details → List (List ℕ)
+-- a field as it is printed
+abbrev pub printed : Field → List ℕ
+printed (Word word) = word.now
+printed (Natural n) = decimal n
+printed (Integer z) = signed_decimal z
+
+abbrev pub listed : Fields → List (List ℕ)
 listed None = []
-listed (Word word) = word.now ∷ []
-listed (Place line column) = place_fields line column
+listed (One a) = printed a ∷ []
+listed (Two a b) = printed a ∷ printed b ∷ []
+listed (Three a b c) = printed a ∷ printed b ∷ printed c ∷ []
+
+abbrev pub shown : Table → Row
+shown r = row r.number r.status r.name.now (listed r.fields)

@@ -3,6 +3,7 @@ pub mod Wave
 pub mod Controls
 pub mod Lines
 pub mod Fields
+pub mod Parts
 pub mod Program
 pub mod Steps
 pub mod Promise

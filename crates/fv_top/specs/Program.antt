@@ -1,5 +1,5 @@
 -- What a program's text is: a program of one diagram, or refused for its first fault (Faust manual, cut down by this project's profile).
-use Rattle.std.specs.Prelude.{◌≡◌, ℕ, List, codes}
+use Rattle.std.specs.Prelude.{◌≡◌, ℕ, Bool, ◌&&◌, ◌||◌, ◌==◌, nat_le, IsTrue, List, codes}
 use Rattle.fv_lex.specs.declared.refusal.LexRefusal.{LexRefusal}
 use Rattle.fv_lex.specs.declared.refusal.LexRefusal.TheVariants as bytes
 use Rattle.fv_lex.specs.Token.{Lexed}
@@ -10,16 +10,16 @@ use Rattle.fv_parse.specs.declared.refusal.ParseRefusal.TheVariants as tokens
 use Rattle.fv_parse.specs.Outcomes.{IsAccepted, HasRefusal as HasTokensRefusal}
 use Rattle.fv_diagram.specs.Diagram.{Diagram}
 use Rattle.fv_small.specs.Small.{IsSmall, IsNotSmall}
-use Rattle.fv_top.specs.Lines.{status_of}
+use Rattle.fv_top.specs.Lines.{row_of}
 use Rattle.fv_top.specs.declared.refusal.Refusal.{Refusal}
 use Rattle.fv_top.specs.declared.refusal.Refusal.TheVariants.{TextTooLong, BadByte, Unclosed, RealLiteral, LiteralTooLarge, Syntax, Unsupported, Redefined, RepeatedName, RuleWidths, NoProcess, NoMemory, Nesting}
 
--- a refusal of a program's text: those have one exit status
-abbrev pub refused_text : ℕ
-refused_text = 3
+-- the numbers of the refusals of a program: 4 to 29, and 43
+abbrev pub is_of_program : ℕ → Bool
+is_of_program n = (nat_le 4 n && nat_le n 29) || (n == 43)
 
 abbrev pub IsOfText : Refusal → Type 0
-IsOfText refusal = status_of refusal ≡ refused_text
+IsOfText refusal = IsTrue (is_of_program (row_of refusal).number)
 
 -- The text is a program of this diagram: its tokens spell a tree that is small by it.
 pub record IsProgram (text : List ℕ) (d : Diagram) : Type 0 where

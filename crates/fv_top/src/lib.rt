@@ -5,6 +5,7 @@ mod input;
 mod program;
 mod refusal;
 mod report;
+mod row;
 mod run;
 mod sound;
 mod status;

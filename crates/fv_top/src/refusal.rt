@@ -1,50 +1,190 @@
 // Why a run is refused.
 
 ghost use Rattle.std.specs.Prelude.{◌≡◌};
-ghost use Rattle.fv_top.specs.Lines.{number_of, status_of};
+ghost use Rattle.fv_top.specs.Lines.{row_of, status_of};
 ghost use Rattle.fv_top.specs.Program.{of_bytes, of_tokens};
 ghost use Rattle.fv_top.specs.declared.refusal.Refusal.TheVariants.{Usage, NoMemory};
 
+use fv_arity::ArityKind;
+use fv_diagram::Label;
 use fv_lex::LexRefusal;
 use fv_outside::{Role, Word};
 use fv_parse::ParseRefusal;
 use std::alloc::AllocError;
 
-/// Why a run was refused. Lines and columns of the program's text count from 1, and a column is one byte.
+/// Why a run was refused. Lines and columns of the program's text, and lines of a script, count from 1; a column is one byte.
 #[derive(Debug, Drop)]
 pub enum Refusal {
     /// The words are not those of a command.
-    Usage { cause: Cause },
+    Usage {
+        cause: Cause,
+    },
     /// A file of this role could not be read.
-    ReadFault { role: Role },
+    ReadFault {
+        role: Role,
+    },
     /// A file of this role could not be written.
-    WriteFault { role: Role },
+    WriteFault {
+        role: Role,
+    },
     /// The text of this role has more than 1,048,576 bytes.
-    TextTooLong { role: Role },
-    /// A byte begins no token.
-    BadByte { line: u32, column: u32 },
-    /// A comment or a string that begins there does not end.
-    Unclosed { line: u32, column: u32 },
-    /// A real literal begins there.
-    RealLiteral { line: u32, column: u32 },
-    /// An integer over 2147483647 begins there.
-    LiteralTooLarge { line: u32, column: u32 },
-    /// The tokens before this place begin some program, and with the token there none.
-    Syntax { line: u32, column: u32 },
+    TextTooLong {
+        role: Role,
+    },
+    /// No token begins with the byte there.
+    BadByte {
+        line: u32,
+        column: u32,
+    },
+    /// The comment or string that starts there never ends.
+    Unclosed {
+        line: u32,
+        column: u32,
+    },
+    /// A number with a fraction or an exponent starts there.
+    RealLiteral {
+        line: u32,
+        column: u32,
+    },
+    /// An integer above 2147483647 starts there.
+    LiteralTooLarge {
+        line: u32,
+        column: u32,
+    },
+    /// Up to this place the tokens could go on to a program; with the next token, or the end, they cannot.
+    Syntax {
+        line: u32,
+        column: u32,
+    },
     /// Something that is not supported: a word of the text, or the form of the whole program or input.
-    Unsupported { word: Word },
-    /// A name is defined twice in one list, one of them without parameters.
-    Redefined { name: Word },
-    /// A name stands twice in one parameter list, or in the patterns of one rule.
-    RepeatedName { name: Word },
-    /// The rule there has another number of patterns than the first rule of its case.
-    RuleWidths { line: u32, column: u32 },
+    Unsupported {
+        word: Word,
+    },
+    /// One list defines this name more than once, and once without parameters.
+    Redefined {
+        name: Word,
+    },
+    /// This name occurs twice among the parameters of a definition, or in a rule's patterns.
+    RepeatedName {
+        name: Word,
+    },
+    /// The rule there and the first rule of its case differ in how many patterns they have.
+    RuleWidths {
+        line: u32,
+        column: u32,
+    },
     /// No outermost definition is of `process`.
     NoProcess,
+    /// A diagram would have so many nodes, more than 16,384.
+    SizeBudget {
+        size: u32,
+    },
+    /// Two diagrams do not compose.
+    Arity {
+        kind: ArityKind,
+        left: u32,
+        right: u32,
+    },
+    /// Nothing binds this name.
+    UnknownName {
+        name: Word,
+    },
+    /// The iteration count or control parameter there is no number.
+    NotANumber {
+        line: u32,
+        column: u32,
+    },
+    /// An iteration is to be made so often, less than once.
+    IterationCount {
+        count: i32,
+    },
+    /// In the application there no rule matches.
+    NoRule {
+        line: u32,
+        column: u32,
+    },
+    /// The rules there are not applied, where a diagram is needed.
+    NotADiagram {
+        line: u32,
+        column: u32,
+    },
+    /// A diagram with so many inputs is applied to more outputs.
+    TooManyArguments {
+        given: u64,
+        inputs: u64,
+    },
+    /// Evaluation takes more than 1,000,000 visits.
+    EvalBudget,
+    /// A label has two kinds of control, or two ranges.
+    ControlClash {
+        label: Label,
+    },
+    /// The initial value of this control is not in its range.
+    ControlBounds {
+        label: Label,
+    },
+    /// A delay may be less than 0.
+    DelayNegative {
+        least: i32,
+    },
+    /// A delay may be more than 1,048,575.
+    DelayTooLong {
+        greatest: i32,
+    },
+    /// All delays together are more than 16,777,216.
+    DelayBudget {
+        sum: u64,
+    },
+    /// There are so many channels, where others are wanted.
+    Channels {
+        have: u32,
+        want: u32,
+    },
+    /// A line of the script is not of the form.
+    ControlLine {
+        line: u32,
+    },
+    /// It names no control.
+    ControlUnknown {
+        line: u32,
+    },
+    /// Its value is outside the control's range.
+    ControlRange {
+        line: u32,
+    },
+    /// Its frame is before that of an earlier line.
+    ControlOrder {
+        line: u32,
+    },
+    /// The file is no WAV file.
+    NotWave {
+        place: u64,
+    },
+    /// It ends before a byte that is needed.
+    WaveTruncated {
+        place: u64,
+    },
+    /// It is not of a form that can be read.
+    WaveFormat {
+        place: u64,
+    },
+    /// Too many chunks stand before its samples.
+    WaveChunks {
+        place: u64,
+    },
+    /// The output would have so many bytes of samples, more than a head can state.
+    OutputTooLong {
+        bytes: u64,
+    },
+    /// There is no input, and the number of frames is not given.
+    FramesNeeded,
     /// Memory ran out.
     NoMemory,
     /// The 129th bracket that is open at once stands there.
-    Nesting { line: u32, column: u32 },
+    Nesting {
+        line: u32,
+        column: u32,
+    },
 }
 
 /// What is wrong with the words.
@@ -52,6 +192,14 @@ pub enum Refusal {
 pub enum Cause {
     /// They are not of the form of a command.
     Form,
+    /// A number is not spelled as one.
+    Number,
+    /// A number is out of its range.
+    Range,
+    /// A block has too many vectors.
+    Vectors,
+    /// An option does not go together with an input file.
+    Together,
     /// The output is also the program or the input.
     Same,
 }
@@ -59,38 +207,16 @@ pub enum Cause {
 impl Refusal {
     /// The refusal's number.
     pub fn number(&self) -> u32
-        ensures { result ≡ number_of self.now }
+        ensures { result ≡ (row_of self.now).number }
     {
-        match self {
-            Refusal::Usage { .. } => 1,
-            Refusal::ReadFault { .. } => 2,
-            Refusal::WriteFault { .. } => 3,
-            Refusal::TextTooLong { .. } => 4,
-            Refusal::BadByte { .. } => 5,
-            Refusal::Unclosed { .. } => 6,
-            Refusal::RealLiteral { .. } => 7,
-            Refusal::LiteralTooLarge { .. } => 8,
-            Refusal::Syntax { .. } => 9,
-            Refusal::Unsupported { .. } => 10,
-            Refusal::Redefined { .. } => 11,
-            Refusal::RepeatedName { .. } => 12,
-            Refusal::RuleWidths { .. } => 13,
-            Refusal::NoProcess => 14,
-            Refusal::NoMemory => 40,
-            Refusal::Nesting { .. } => 43,
-        }
+        self.row().number
     }
 
     /// The exit status of a run that ends so.
     pub fn status(&self) -> u8
         ensures { result ≡ status_of self.now }
     {
-        match self {
-            Refusal::Usage { .. } => 2,
-            Refusal::ReadFault { .. } | Refusal::WriteFault { .. } => 1,
-            Refusal::NoMemory => 5,
-            _ => 3,
-        }
+        self.row().status
     }
 }
 

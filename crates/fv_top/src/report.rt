@@ -1,14 +1,17 @@
 // The lines of the report.
 
-ghost use Rattle.std.specs.Prelude.{◌≡◌, List, ℕ, ◌+◌, ◌≤◌, ◌++◌, length, codes, decimal, IsTrue, IsOk, OnOk, OnErr};
+ghost use Rattle.std.specs.Prelude.{◌≡◌, List, ℕ, ◌+◌, ◌≤◌, [], ◌∷◌, ◌++◌, length, codes, decimal, IsTrue, IsOk, OnOk, OnErr};
+ghost use Rattle.std.specs.Fmt.{signed_decimal};
 ghost use Rattle.fv_base.specs.declared.role.Role.TheVariants.{Report};
 ghost use Rattle.fv_base.specs.Lists.{IsPrefixOf};
 ghost use Rattle.fv_outside.specs.Desk.{HasFault, KeepsFaults, IsUnfailing, Appends};
-ghost use Rattle.fv_top.specs.Lines.{role_word, cause_word, name_of, place_fields, fields_of, refused_line, done_line};
-ghost use Rattle.fv_top.specs.Fields.{listed};
+ghost use Rattle.fv_top.specs.Lines.{spaced, refused_line, done_line};
+ghost use Rattle.fv_top.specs.Fields.{printed, listed};
+ghost use Rattle.fv_top.specs.Parts.{AppendsPart};
 
-use crate::refusal::{Cause, Refusal};
-use fv_outside::{Desk, Failed, Role, write_pieces};
+use crate::refusal::Refusal;
+use crate::row::{Field, Fields};
+use fv_outside::{Desk, Failed, Role, write_all, write_pieces};
 use itoa::Buffer;
 
 /// Reports a run that is done. A call that fails leaves a part from the line's front.
@@ -30,176 +33,130 @@ pub fn report_done<D: Desk>(desk: &mut D, frames: u32) -> Result<(), Failed>
 }
 
 /// Reports a run that was refused. A call that fails leaves a part from the line's front.
+#[tactic(auto, using(fv_outside::proofs::States::steps))]
 pub fn report_refusal<D: Desk>(desk: &mut D, refusal: &Refusal) -> Result<(), Failed>
     ensures ok { OnOk result (Appends Report (refused_line refusal.now) (D.state desk.old) (D.state desk.new)) }
-    ensures err { OnErr result ((part : List ℕ) × IsPrefixOf part (refused_line refusal.now) × Appends Report part (D.state desk.old) (D.state desk.new)) }
+    ensures err { OnErr result (AppendsPart Report (refused_line refusal.now) (D.state desk.old) (D.state desk.new)) }
+    ensures failed { OnErr result (HasFault Report (D.state desk.old) (D.state desk.new)) }
+{
+    let row = refusal.row();
+    write_front(desk, row.number, row.name)?;
+    write_fields(desk, &row.fields)?;
+    write_all(desk, Role::Report, b"\n")?;
+    Ok(())
+}
+
+// The line up to the name.
+#[tactic(auto, using(fv_outside::proofs::States::steps))]
+fn write_front<D: Desk>(desk: &mut D, number: u32, name: &str) -> Result<(), Failed>
+    ensures ok { OnOk result (Appends Report (codes "refused " ++ decimal number ++ codes " " ++ name.now) (D.state desk.old) (D.state desk.new)) }
+    ensures err { OnErr result (AppendsPart Report (codes "refused " ++ decimal number ++ codes " " ++ name.now) (D.state desk.old) (D.state desk.new)) }
     ensures failed { OnErr result (HasFault Report (D.state desk.old) (D.state desk.new)) }
 {
     let mut buffer = Buffer::new();
-    let number = buffer.format(refusal.number()).as_bytes();
-    let name = refusal_name(refusal).as_bytes();
-    match fields(refusal) {
-        Details::None => write_named(desk, number, name),
-        Details::Word(word) => write_described(desk, number, name, word),
-        Details::Place { line, column } => write_placed(desk, number, name, line, column),
-    }
-}
-
-/// What a refusal tells beside its name.
-#[derive(Clone, Copy)]
-enum Details<'a> {
-    None,
-    Word(&'a [u8]),
-    Place { line: u32, column: u32 },
-}
-
-// A line of a number and a name.
-fn write_named<'a, D: Desk>(desk: &mut D, number: &'a [u8], name: &'a [u8]) -> Result<(), Failed>
-    ensures ok { OnOk result (Appends Report (codes "refused " ++ number.now ++ codes " " ++ name.now ++ codes "\n") (D.state desk.old) (D.state desk.new)) }
-    ensures err { OnErr result ((part : List ℕ) × IsPrefixOf part (codes "refused " ++ number.now ++ codes " " ++ name.now ++ codes "\n") × Appends Report part (D.state desk.old) (D.state desk.new)) }
-    ensures failed { OnErr result (HasFault Report (D.state desk.old) (D.state desk.new)) }
-{
+    let digits = buffer.format(number).as_bytes();
     write_pieces(
         desk,
         Role::Report,
         &[
             b"refused ".as_slice(),
-            number,
+            digits,
             b" ".as_slice(),
-            name,
-            b"\n".as_slice(),
+            name.as_bytes(),
         ],
     )
 }
 
-// A line of a number, a name and a field.
-fn write_described<'a, D: Desk>(
+// Each field, one space before it.
+fn write_fields<D: Desk>(desk: &mut D, fields: &Fields<'_>) -> Result<(), Failed>
+    ensures ok { OnOk result (Appends Report (spaced (listed fields.now)) (D.state desk.old) (D.state desk.new)) }
+    ensures err { OnErr result (AppendsPart Report (spaced (listed fields.now)) (D.state desk.old) (D.state desk.new)) }
+    ensures failed { OnErr result (HasFault Report (D.state desk.old) (D.state desk.new)) }
+{
+    match fields {
+        Fields::None => Ok(()),
+        Fields::One(a) => write_one(desk, a),
+        Fields::Two(a, b) => write_two(desk, a, b),
+        Fields::Three(a, b, c) => write_three(desk, a, b, c),
+    }
+}
+
+#[tactic(auto, using(fv_outside::proofs::States::steps))]
+fn write_one<D: Desk>(desk: &mut D, a: &Field<'_>) -> Result<(), Failed>
+    ensures ok { OnOk result (Appends Report (spaced (printed a.now ∷ [])) (D.state desk.old) (D.state desk.new)) }
+    ensures err { OnErr result (AppendsPart Report (spaced (printed a.now ∷ [])) (D.state desk.old) (D.state desk.new)) }
+    ensures failed { OnErr result (HasFault Report (D.state desk.old) (D.state desk.new)) }
+{
+    write_field(desk, a)?;
+    Ok(())
+}
+
+#[tactic(auto, using(fv_outside::proofs::States::steps))]
+fn write_two<D: Desk>(desk: &mut D, a: &Field<'_>, b: &Field<'_>) -> Result<(), Failed>
+    ensures ok { OnOk result (Appends Report (spaced (printed a.now ∷ printed b.now ∷ [])) (D.state desk.old) (D.state desk.new)) }
+    ensures err { OnErr result (AppendsPart Report (spaced (printed a.now ∷ printed b.now ∷ [])) (D.state desk.old) (D.state desk.new)) }
+    ensures failed { OnErr result (HasFault Report (D.state desk.old) (D.state desk.new)) }
+{
+    write_field(desk, a)?;
+    write_one(desk, b)?;
+    Ok(())
+}
+
+#[tactic(auto, using(fv_outside::proofs::States::steps))]
+fn write_three<D: Desk>(
     desk: &mut D,
-    number: &'a [u8],
-    name: &'a [u8],
-    field: &'a [u8],
+    a: &Field<'_>,
+    b: &Field<'_>,
+    c: &Field<'_>,
 ) -> Result<(), Failed>
-    ensures ok { OnOk result (Appends Report (codes "refused " ++ number.now ++ codes " " ++ name.now ++ codes " " ++ field.now ++ codes "\n") (D.state desk.old) (D.state desk.new)) }
-    ensures err { OnErr result ((part : List ℕ) × IsPrefixOf part (codes "refused " ++ number.now ++ codes " " ++ name.now ++ codes " " ++ field.now ++ codes "\n") × Appends Report part (D.state desk.old) (D.state desk.new)) }
+    ensures ok { OnOk result (Appends Report (spaced (printed a.now ∷ printed b.now ∷ printed c.now ∷ [])) (D.state desk.old) (D.state desk.new)) }
+    ensures err { OnErr result (AppendsPart Report (spaced (printed a.now ∷ printed b.now ∷ printed c.now ∷ [])) (D.state desk.old) (D.state desk.new)) }
     ensures failed { OnErr result (HasFault Report (D.state desk.old) (D.state desk.new)) }
 {
-    write_pieces(
-        desk,
-        Role::Report,
-        &[
-            b"refused ".as_slice(),
-            number,
-            b" ".as_slice(),
-            name,
-            b" ".as_slice(),
-            field,
-            b"\n".as_slice(),
-        ],
-    )
+    write_field(desk, a)?;
+    write_two(desk, b, c)?;
+    Ok(())
 }
 
-// A line of a number, a name and a place.
-fn write_placed<'a, D: Desk>(
-    desk: &mut D,
-    number: &'a [u8],
-    name: &'a [u8],
-    line: u32,
-    column: u32,
-) -> Result<(), Failed>
-    ensures ok { OnOk result (Appends Report (codes "refused " ++ number.now ++ codes " " ++ name.now ++ codes " " ++ decimal line ++ codes " " ++ decimal column ++ codes "\n") (D.state desk.old) (D.state desk.new)) }
-    ensures err { OnErr result ((part : List ℕ) × IsPrefixOf part (codes "refused " ++ number.now ++ codes " " ++ name.now ++ codes " " ++ decimal line ++ codes " " ++ decimal column ++ codes "\n") × Appends Report part (D.state desk.old) (D.state desk.new)) }
+// A field, one space before it.
+fn write_field<D: Desk>(desk: &mut D, field: &Field<'_>) -> Result<(), Failed>
+    ensures ok { OnOk result (Appends Report (codes " " ++ printed field.now) (D.state desk.old) (D.state desk.new)) }
+    ensures err { OnErr result (AppendsPart Report (codes " " ++ printed field.now) (D.state desk.old) (D.state desk.new)) }
     ensures failed { OnErr result (HasFault Report (D.state desk.old) (D.state desk.new)) }
 {
-    let mut lines = Buffer::new();
-    let mut columns = Buffer::new();
-    write_pieces(
-        desk,
-        Role::Report,
-        &[
-            b"refused ".as_slice(),
-            number,
-            b" ".as_slice(),
-            name,
-            b" ".as_slice(),
-            lines.format(line).as_bytes(),
-            b" ".as_slice(),
-            columns.format(column).as_bytes(),
-            b"\n".as_slice(),
-        ],
-    )
-}
-
-// The refusal's name.
-fn refusal_name(refusal: &Refusal) -> &'static str
-    ensures { result.now ≡ name_of refusal.now }
-{
-    match refusal {
-        Refusal::Usage { .. } => "Usage",
-        Refusal::ReadFault { .. } => "ReadFault",
-        Refusal::WriteFault { .. } => "WriteFault",
-        Refusal::TextTooLong { .. } => "TextTooLong",
-        Refusal::BadByte { .. } => "BadByte",
-        Refusal::Unclosed { .. } => "Unclosed",
-        Refusal::RealLiteral { .. } => "RealLiteral",
-        Refusal::LiteralTooLarge { .. } => "LiteralTooLarge",
-        Refusal::Syntax { .. } => "Syntax",
-        Refusal::Unsupported { .. } => "Unsupported",
-        Refusal::Redefined { .. } => "Redefined",
-        Refusal::RepeatedName { .. } => "RepeatedName",
-        Refusal::RuleWidths { .. } => "RuleWidths",
-        Refusal::NoProcess => "NoProcess",
-        Refusal::NoMemory => "NoMemory",
-        Refusal::Nesting { .. } => "Nesting",
+    match field {
+        Field::Word(bytes) => write_word(desk, bytes),
+        Field::Natural(n) => write_natural(desk, *n),
+        Field::Integer(n) => write_integer(desk, *n),
     }
 }
 
-// What it tells beside its name.
-fn fields(refusal: &Refusal) -> Details
-    ensures { fields_of refusal.now ≡ listed result }
+fn write_natural<D: Desk>(desk: &mut D, n: u64) -> Result<(), Failed>
+    ensures ok { OnOk result (Appends Report (codes " " ++ decimal n) (D.state desk.old) (D.state desk.new)) }
+    ensures err { OnErr result (AppendsPart Report (codes " " ++ decimal n) (D.state desk.old) (D.state desk.new)) }
+    ensures failed { OnErr result (HasFault Report (D.state desk.old) (D.state desk.new)) }
 {
-    match refusal {
-        Refusal::Usage { cause } => Details::Word(cause_name(*cause).as_bytes()),
-        Refusal::ReadFault { role } => Details::Word(role_name(*role).as_bytes()),
-        Refusal::WriteFault { role } => Details::Word(role_name(*role).as_bytes()),
-        Refusal::TextTooLong { role } => Details::Word(role_name(*role).as_bytes()),
-        Refusal::BadByte { line, column } => place(*line, *column),
-        Refusal::Unclosed { line, column } => place(*line, *column),
-        Refusal::RealLiteral { line, column } => place(*line, *column),
-        Refusal::LiteralTooLarge { line, column } => place(*line, *column),
-        Refusal::Syntax { line, column } => place(*line, *column),
-        Refusal::Unsupported { word } => Details::Word(word.bytes()),
-        Refusal::Redefined { name } => Details::Word(name.bytes()),
-        Refusal::RepeatedName { name } => Details::Word(name.bytes()),
-        Refusal::RuleWidths { line, column } => place(*line, *column),
-        Refusal::NoProcess => Details::None,
-        Refusal::NoMemory => Details::None,
-        Refusal::Nesting { line, column } => place(*line, *column),
-    }
+    let mut buffer = Buffer::new();
+    write_word(desk, buffer.format(n).as_bytes())
 }
 
-fn place(line: u32, column: u32) -> Details<'static>
-    ensures { place_fields line column ≡ listed result }
+fn write_integer<D: Desk>(desk: &mut D, n: i32) -> Result<(), Failed>
+    ensures ok { OnOk result (Appends Report (codes " " ++ signed_decimal n) (D.state desk.old) (D.state desk.new)) }
+    ensures err { OnErr result (AppendsPart Report (codes " " ++ signed_decimal n) (D.state desk.old) (D.state desk.new)) }
+    ensures failed { OnErr result (HasFault Report (D.state desk.old) (D.state desk.new)) }
 {
-    Details::Place { line, column }
+    let mut buffer = Buffer::new();
+    write_word(desk, buffer.format(n).as_bytes())
 }
 
-fn cause_name(cause: Cause) -> &'static str
-    ensures { result.now ≡ cause_word cause }
+// Some bytes, one space before them.
+#[tactic(auto, using(fv_outside::proofs::States::steps))]
+fn write_word<D: Desk>(desk: &mut D, bytes: &[u8]) -> Result<(), Failed>
+    ensures ok { OnOk result (Appends Report (codes " " ++ bytes.now) (D.state desk.old) (D.state desk.new)) }
+    ensures err { OnErr result (AppendsPart Report (codes " " ++ bytes.now) (D.state desk.old) (D.state desk.new)) }
+    ensures failed { OnErr result (HasFault Report (D.state desk.old) (D.state desk.new)) }
 {
-    match cause {
-        Cause::Form => "form",
-        Cause::Same => "same",
-    }
-}
-
-fn role_name(role: Role) -> &'static str
-    ensures { result.now ≡ role_word role }
-{
-    match role {
-        Role::Program => "program",
-        Role::Input => "input",
-        Role::Controls => "controls",
-        Role::Output => "output",
-        Role::Report => "report",
-    }
+    write_all(desk, Role::Report, b" ")?;
+    write_all(desk, Role::Report, bytes)?;
+    Ok(())
 }

@@ -1,18 +1,31 @@
-use Rattle.std.proofs.Common.{◌≡◌, ◌∙◌, ap, subst}
-use Rattle.std.specs.Prelude.{decimal}
-use Rattle.std.proofs.lemmas.Result.{on_err_weaker}
-use Rattle.fv_base.specs.Lists.{IsPrefixOf}
-use Rattle.fv_top.specs.Fields.{listed}
-use Rattle.fv_top.specs.Lines.{number_of, name_of, fields_of, place_fields}
-use Rattle.fv_top.proofs.PlacedLines.{placed_fields}
+use Rattle.std.proofs.Common.{ℕ, List, ◌++◌, sym, ◌∙◌, ap, subst}
+use Rattle.std.specs.Prelude.{codes}
+use Rattle.std.proofs.lemmas.Result.{err_from_is_err_and}
+use Rattle.fv_base.specs.declared.role.Role.TheVariants.{Report}
+use Rattle.fv_outside.specs.Desk.{Appends}
+use Rattle.fv_outside.proofs.States.{appends_then}
+use Rattle.fv_top.specs.Lines.{spaced, row_line}
+use Rattle.fv_top.specs.Fields.{listed, shown}
+use Rattle.fv_top.specs.Parts.{AppendsPart}
+use Rattle.fv_top.proofs.Parts.{part_before, part_behind, line_pieces}
 use Rattle.fv_top.proofs.report.report_refusal.Goals as goal
 
-pub returns-in-Place-clause-err : goal.returns-in-Place-clause-err
-returns-in-Place-clause-err g c =
-    let refusal = c.args.refusal.now in
-    let number : c.as_bytes-number.result.now ≡ decimal (number_of refusal) = c.as_bytes-number.ensures.value ∙ c.format.ensures.text ∙ ap decimal c.number.ensures in
-    let name : c.as_bytes-name.result.now ≡ name_of refusal = c.as_bytes-name.ensures.value ∙ c.refusal_name.ensures in
-    let fields : fields_of refusal ≡ place_fields c.in-Place.line c.in-Place.column = c.fields.ensures ∙ ap listed c.in-Place.is in
-    on_err_weaker c.write_placed.result
-    (λ h. (h.0, subst (IsPrefixOf h.0) (rw (number, name, fields) (placed_fields (decimal (number_of refusal)) (name_of refusal) (decimal c.in-Place.line) (decimal c.in-Place.column))) h.1, h.2))
-    c.write_placed.ensures.err
+pub returns-in_err-write_front-clause-err : goal.returns-in_err-write_front-clause-err
+returns-in_err-write_front-clause-err g c =
+    let p = err_from_is_err_and c.from_residual.result c.from_residual.ensures.1 in
+    rw p.1 (subst (λ (w : List ℕ). AppendsPart Report w (g.D.Desk.state c.args.desk.now) (g.D.Desk.state c.write_front.new.desk)) (line_pieces (shown c.row-row.result) ∙ ap row_line (sym c.row-row.ensures)) (part_before (spaced (listed c.row-row.result.fields) ++ codes "\n") c.in_err-write_front.ensures.err))
+
+pub returns-in_err-write_fields-clause-err : goal.returns-in_err-write_fields-clause-err
+returns-in_err-write_fields-clause-err g c =
+    let p = err_from_is_err_and c.from_residual-in_err-write_fields.result c.from_residual-in_err-write_fields.ensures.1 in
+    rw p.1 (subst (λ (w : List ℕ). AppendsPart Report w (g.D.Desk.state c.args.desk.now) (g.D.Desk.state c.write_fields.new.desk)) (line_pieces (shown c.row-row.result) ∙ ap row_line (sym c.row-row.ensures)) (part_behind c.in_ok-write_front.ensures.ok (part_before (codes "\n") c.in_err-write_fields.ensures.err)))
+
+pub returns-in_err-write_all-clause-err : goal.returns-in_err-write_all-clause-err
+returns-in_err-write_all-clause-err g c =
+    let p = err_from_is_err_and c.from_residual-in_err-write_all.result c.from_residual-in_err-write_all.ensures.1 in
+    rw p.1 (subst (λ (w : List ℕ). AppendsPart Report w (g.D.Desk.state c.args.desk.now) (g.D.Desk.state c.write_all.new.desk)) (line_pieces (shown c.row-row.result) ∙ ap row_line (sym c.row-row.ensures)) (part_behind c.in_ok-write_front.ensures.ok (part_behind c.in_ok-write_fields.ensures.ok c.in_err-write_all.ensures.err)))
+
+pub returns-clause-ok : goal.returns-clause-ok
+returns-clause-ok g c =
+    subst (λ (w : List ℕ). Appends Report w (g.D.Desk.state c.args.desk.now) (g.D.Desk.state c.write_all.new.desk)) (line_pieces (shown c.row-row.result) ∙ ap row_line (sym c.row-row.ensures))
+    (appends_then c.in_ok-write_front.ensures.ok (appends_then c.in_ok-write_fields.ensures.ok c.in_ok-write_all.ensures.ok))

@@ -29,7 +29,7 @@ returns-in_err-program-clause-stops g c =
     let err = c.in_err-program.ensures.err in
     let p = err_from_is_err_and c.from_residual-in_err-program.result c.from_residual-in_err-program.ensures.1 in
     rw (p.1, p.2) (stopped_reading (map string_bytes c.args.words.now) names a b e _ c.in_ok-names.ensures (reaches_program c.load_program.ensures.reads) (here (program_halts names a b e err))
-    (load_faults IsOfText (HasNoProgram names.program a.files) a a b e (λ h. absurd (omega arith)) (λ r. refl) c.load_program.ensures.reads (λ other. c.in_err-program.ensures.steady (λ is. other cc)) err))
+    (load_faults IsOfText (HasNoProgram names.program a.files) a a b e (λ h. absurd cc) (λ r. refl) c.load_program.ensures.reads (λ other. c.in_err-program.ensures.steady (λ is. other cc)) err))
 
 pub returns-in_err-input-clause-stops : goal.returns-in_err-input-clause-stops
 returns-in_err-input-clause-stops g c =
