@@ -1,7 +1,7 @@
 // What a desk of real files counts.
 
 ghost use Rattle.std.specs.Prelude.{◌≡◌, ◌<◌, ◌≤◌};
-ghost use Rattle.fv_outside.specs.Stored.{place_of};
+ghost use Rattle.fv_outside.specs.Requests.{place_of};
 ghost use Rattle.fv_outside.specs.Counts.{count_of, no_counts, CountsFault, CountsBegin};
 
 use fv_base::Role;

@@ -7,6 +7,8 @@ mod drawer;
 mod file_desk;
 mod gate;
 mod memory_desk;
+mod recorder;
+mod requests;
 mod tasks;
 mod transfer;
 
@@ -15,5 +17,6 @@ pub use file_desk::FileDesk;
 pub use fv_base::{Role, Word};
 pub use gate::{FreeGate, Gate, Line};
 pub use memory_desk::MemoryDesk;
+pub use recorder::Recorder;
 pub use tasks::{Reads, Task};
-pub use transfer::{ReadError, read_up_to, write_all, write_pieces};
+pub use transfer::{ReadError, fill, read_up_to, skip, write_all, write_pieces};
