@@ -1,5 +1,5 @@
 -- Each diagram that the tests put can run.
-use Rattle.std.proofs.Common.{◌≡◌, ℕ, ◌<◌, List, [], ◌∷◌, ◌++◌, length, sym, ap, subst, arith, inl, inr}
+use Rattle.std.proofs.Common.{◌≡◌, ℕ, ◌<◌, sym, ap, subst, arith, inl, inr}
 use Rattle.std.proofs.lemmas.Bool.{cases_lt}
 use Rattle.std.proofs.lemmas.List.{length_push}
 use Rattle.fv_diagram.specs.declared.node.Node.{Node}
@@ -7,11 +7,11 @@ use Rattle.fv_diagram.specs.declared.node.Node.TheVariants as node
 use Rattle.fv_diagram.specs.declared.node.Primitive.{Primitive as Prim}
 use Rattle.fv_diagram.specs.declared.node.Primitive.TheVariants as prim
 use Rattle.fv_diagram.specs.Diagram.{IsWellFormed}
-use Rattle.fv_diagram.specs.Arena.{tree_of, tree_in, trees}
+use Rattle.fv_diagram.specs.Arena.{Arena, count_of, with_node, tree_of, tree_with}
 use Rattle.fv_arity.specs.Compositions.{HasWellFormedParts}
 use Rattle.fv_arity.specs.Built.{CanRun, AllCanRun, IsAllowed}
 
-node_can_run : (ns : List Node) (n : Node) → AllCanRun ns → IsAllowed (length ns) n → (HasWellFormedParts (tree_in (trees ns) n) → IsWellFormed (tree_in (trees ns) n)) → CanRun (tree_in (trees ns) n)
+node_can_run : (ns : Arena) (n : Node) → AllCanRun ns → IsAllowed (count_of ns) n → (HasWellFormedParts (tree_with ns n) → IsWellFormed (tree_with ns n)) → CanRun (tree_with ns n)
 node_can_run ns (node.Prim prim.Wire) h a w = record { well = tt; plain = tt; closed = λ s f. f; reads = omega arith }
 node_can_run ns (node.Prim prim.Cut) h a w = record { well = tt; plain = tt; closed = λ s f. f; reads = omega arith }
 node_can_run ns (node.Prim prim.Mem) h a w = record { well = tt; plain = tt; closed = λ s f. f; reads = omega arith }
@@ -43,11 +43,11 @@ node_can_run ns (node.Rec b c) h a w =
     record { well = w (x.well, y.well); plain = (x.plain, y.plain); closed = λ s f. elim f [ inl g ↦ x.closed s g | inr g ↦ y.closed s g ]; reads = omega (arith, x.reads, y.reads) }
 
 -- one node more
-pub all_can_run : (ns ms : List Node) (n : Node) (id : ℕ) → AllCanRun ns → IsAllowed (length ns) n → (HasWellFormedParts (tree_in (trees ns) n) → IsWellFormed (tree_in (trees ns) n)) → id ≡ length ns → ms ≡ ns ++ n ∷ [] →
-    tree_of ms id ≡ tree_in (trees ns) n → ((i : ℕ) → i < length ns → tree_of ms i ≡ tree_of ns i) → AllCanRun ms
-all_can_run ns ms n id h a w p e t keep i l = elim (cases_lt i (length ns)) [
+pub all_can_run : (ns ms : Arena) (n : Node) (id : ℕ) → AllCanRun ns → IsAllowed (count_of ns) n → (HasWellFormedParts (tree_with ns n) → IsWellFormed (tree_with ns n)) → id ≡ count_of ns → ms ≡ with_node ns n →
+    tree_of ms id ≡ tree_with ns n → ((i : ℕ) → i < count_of ns → tree_of ms i ≡ tree_of ns i) → AllCanRun ms
+all_can_run ns ms n id h a w p e t keep i l = elim (cases_lt i (count_of ns)) [
   | inl m ↦ subst CanRun (sym (keep i m)) (h i m)
   | inr m ↦
-      let at : id ≡ i = omega (arith, ap length e, length_push ns n) in
+      let at : id ≡ i = omega (arith, ap count_of e, length_push ns.nodes n) in
       subst (λ j. CanRun (tree_of ms j)) at (subst CanRun (sym t) (node_can_run ns n h a w))
 ]

@@ -1,10 +1,10 @@
 -- What holds of the diagrams that the tests put.
-use Rattle.std.specs.Prelude.{ℕ, ◌<◌, ◌≤◌, List, length}
+use Rattle.std.specs.Prelude.{ℕ, ◌<◌, ◌≤◌}
 use Rattle.fv_diagram.specs.declared.node.Node.{Node}
 use Rattle.fv_diagram.specs.declared.node.Node.TheVariants as node
 use Rattle.fv_diagram.specs.declared.node.Primitive.TheVariants as prim
 use Rattle.fv_diagram.specs.Diagram.{Diagram, control_bound, IsWellFormed, HasNoDelay, HasNoFreeSlot}
-use Rattle.fv_diagram.specs.Arena.{tree_of, ChildrenBelow}
+use Rattle.fv_diagram.specs.Arena.{Arena, count_of, tree_of, ChildrenBelow}
 
 -- a diagram that can run, with two controls at most
 pub record CanRun (d : Diagram) : Type 0 where
@@ -13,8 +13,8 @@ pub record CanRun (d : Diagram) : Type 0 where
   pub closed : HasNoFreeSlot d
   pub reads : control_bound d ≤ 2
 
-abbrev pub AllCanRun : List Node → Type 0
-AllCanRun ns = (i : ℕ) → i < length ns → CanRun (tree_of ns i)
+abbrev pub AllCanRun : Arena → Type 0
+AllCanRun a = (i : ℕ) → i < count_of a → CanRun (tree_of a i)
 
 -- a node that keeps this, over the first n diagrams
 abbrev pub IsAllowed : ℕ → Node → Type 0

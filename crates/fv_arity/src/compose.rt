@@ -1,8 +1,8 @@
 // The arity of a node over earlier diagrams.
 
-ghost use Rattle.std.specs.Prelude.{◌≡◌, ◌≢◌, ◌-◌, ◌<◌, ◌≤◌, ◌↔◌, ◌⊎◌, length, IfOk, IfErr, OnOk, MatchResult, IsTrue};
+ghost use Rattle.std.specs.Prelude.{◌≡◌, ◌≢◌, ◌-◌, ◌<◌, ◌≤◌, ◌↔◌, ◌⊎◌, IfOk, IfErr, OnOk, MatchResult, IsTrue};
 ghost use Rattle.fv_diagram.specs.Diagram.{primitive_inputs, primitive_outputs, IsWellFormed};
-ghost use Rattle.fv_diagram.specs.Arena.{tree_in, trees, ChildrenBelow, IsArity};
+ghost use Rattle.fv_diagram.specs.Arena.{count_of, tree_with, ChildrenBelow, IsArity};
 ghost use Rattle.fv_arity.specs.Compositions.{IsMultiple, Composes, HasWellFormedParts, IsRefused};
 
 use crate::refusal::{ArityKind, ArityRefusal};
@@ -11,11 +11,11 @@ use fv_diagram::{Arity, Diagrams, Node, Prim};
 /// How many streams a node over earlier diagrams takes and gives, or the condition of its composition that fails.
 /// It takes no memory.
 pub fn arity_of(diagrams: &Diagrams, node: Node) -> Result<Arity, ArityRefusal>
-    requires { ChildrenBelow (length diagrams.now) node }
-    ensures arity { IfOk result (λ a. IsArity (tree_in (trees diagrams.now) node) a) }
-    ensures composes { OnOk result (Composes (tree_in (trees diagrams.now) node)) }
-    ensures well { OnOk result (HasWellFormedParts (tree_in (trees diagrams.now) node) → IsWellFormed (tree_in (trees diagrams.now) node)) }
-    ensures refused { IfErr result (λ e. IsRefused e (tree_in (trees diagrams.now) node)) }
+    requires { ChildrenBelow (count_of diagrams.now) node }
+    ensures arity { IfOk result (λ a. IsArity (tree_with diagrams.now node) a) }
+    ensures composes { OnOk result (Composes (tree_with diagrams.now node)) }
+    ensures well { OnOk result (HasWellFormedParts (tree_with diagrams.now node) → IsWellFormed (tree_with diagrams.now node)) }
+    ensures refused { IfErr result (λ e. IsRefused e (tree_with diagrams.now node)) }
 {
     match node {
         Node::Prim(prim) => Ok(primitive(prim)),

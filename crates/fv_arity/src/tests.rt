@@ -256,15 +256,15 @@ struct Build {
 }
 
 impl Model for Build {
-    ghost use Rattle.std.specs.Prelude.{◌≡◌, List, length};
-    ghost use Rattle.fv_diagram.specs.declared.node.Node.{Node};
+    ghost use Rattle.std.specs.Prelude.{◌≡◌};
+    ghost use Rattle.fv_diagram.specs.Arena.{Arena, count_of};
     ghost use Rattle.fv_arity.specs.Built.{AllCanRun};
 
-    ghost Value = { List Node };
+    ghost Value = { Arena };
 
     ghost view = { λ a. a.diagrams };
 
-    ghost invariant = { λ a. (a.count ≡ length a.diagrams) × AllCanRun a.diagrams };
+    ghost invariant = { λ a. (a.count ≡ count_of a.diagrams) × AllCanRun a.diagrams };
 }
 
 // Whether a node may be put over the first so many diagrams.

@@ -2,7 +2,7 @@
 use Rattle.std.proofs.Common.{◌≡◌, ℕ, zero, suc, ◌<◌, ◌≤◌, List, [], ◌∷◌, ◌++◌, length, take, drop, Option, Some, None, Result, Err, refl, sym, subst, arith, ◌⊎◌, inl, inr}
 use Rattle.std.proofs.lemmas.Bool.{cases_lt}
 use Rattle.std.proofs.lemmas.List.{take-append-drop, length-drop}
-use Rattle.fv_outside.specs.declared.role.Role.TheVariants.{Program}
+use Rattle.fv_base.specs.declared.role.Role.TheVariants.{Program}
 use Rattle.fv_lex.specs.declared.token.Kind.{Kind}
 use Rattle.fv_lex.specs.declared.refusal.Fault.{Fault}
 use Rattle.fv_lex.specs.declared.refusal.Fault.TheVariants as faults

@@ -9,7 +9,7 @@ use crate::next::{Next, next_piece, wires};
 use crate::refusal::{Fault, LexRefusal, refusal_at};
 use crate::symbol::symbol_of;
 use crate::token::{Kind, Place, Span, Symbol, Tokens};
-use fv_outside::Role;
+use fv_base::Role;
 use std::alloc::Global;
 
 /// How many bytes a text may have.

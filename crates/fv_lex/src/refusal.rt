@@ -3,7 +3,7 @@ ghost use Rattle.fv_lex.specs.declared.refusal.LexRefusal.TheVariants.{NoMemory}
 ghost use Rattle.fv_lex.specs.Cuts.{refusal_at};
 
 use crate::token::Place;
-use fv_outside::Role;
+use fv_base::Role;
 use std::alloc::{AllocError, AllocFailed};
 
 /// Why a text has no tokens. Lines and columns count from 1, and a column is one byte.

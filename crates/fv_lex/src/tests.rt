@@ -1,7 +1,7 @@
 //! The tokens of whole texts, with their places.
 
 use crate::{Kind, LexRefusal, Place, Symbol, one_answer, tokens};
-use fv_outside::Role;
+use fv_base::Role;
 use std::alloc::{AllocError, Global};
 use std::process::Abort;
 use std::test::Fail;

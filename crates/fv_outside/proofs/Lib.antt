@@ -1,2 +1,4 @@
 pub mod States
 pub mod StoredLemmas
+pub mod Walks
+pub mod Recordings

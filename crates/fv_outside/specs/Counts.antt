@@ -1,10 +1,9 @@
--- What a desk of real files means: its counts alone.
-use Rattle.std.specs.Prelude.{◌≡◌, ◌≢◌, ℕ, ◌+◌, ◌%◌, ◌^◌, false, List, [], slice_index, replicate}
-use Rattle.fv_outside.specs.Desk.{DeskState}
-use Rattle.fv_outside.specs.Drawer.{raised}
-use Rattle.fv_outside.specs.Stored.{place_of}
+-- What a desk of real files means: its counts, and what it was asked for (this project's profile).
+use Rattle.std.specs.Prelude.{◌≡◌, ◌≢◌, ℕ, ◌+◌, ◌%◌, ◌^◌, false, List, [], ◌∷◌, ◌++◌, slice_index, replicate}
+use Rattle.fv_outside.specs.Requests.{Request, place_of}
+use Rattle.fv_outside.specs.Desk.{DeskState, raised}
 use Rattle.fv_outside.specs.declared.counts.Counts.{Counts}
-use Rattle.fv_outside.specs.declared.role.Role.{Role}
+use Rattle.fv_base.specs.declared.role.Role.{Role}
 
 -- the count of the role in a list of one for each
 abbrev pub count_of : List ℕ → Role → ℕ
@@ -26,13 +25,25 @@ pub record CountsBegin (role : Role) (old new : Counts) : Type 0 where
   pub others : (r : Role) → r ≢ role → count_of new.begins r ≡ count_of old.begins r
   pub faults : (r : Role) → count_of new.faults r ≡ count_of old.faults r
 
+pub record FileState : Type 0 where
+  pub counts : Counts
+  pub requests : List Request
+
+-- it was asked for this, and nothing was counted
+abbrev pub after_request : Request → FileState → FileState
+after_request request f = record f { requests = f.requests ++ request ∷ [] }
+
 -- as a desk, it tells no bytes
-abbrev pub counts_state : Counts → DeskState
-counts_state c = record {
+abbrev pub file_state : FileState → DeskState
+file_state f = record {
   tells = false;
   files = [];
   left = λ _. [];
   written = λ _. [];
-  faults = λ r. count_of c.faults r;
-  begins = λ r. count_of c.begins r;
+  room = λ _. 0;
+  calls = λ _. 0;
+  failing = λ _. [];
+  faults = λ r. count_of f.counts.faults r;
+  begins = λ r. count_of f.counts.begins r;
+  requests = f.requests;
 }

@@ -1,7 +1,6 @@
--- What a drawer of a desk in memory holds: all that is kept of one role, but for the files.
-use Rattle.std.specs.Prelude.{◌≡◌, ℕ, ◌<◌, ◌==◌, suc, min, Bool, List, [], Option, Some, None, drop, slice_index_or}
-use Rattle.std.specs.List.{list_any}
-use Rattle.fv_outside.specs.Desk.{File, last_count}
+-- What a drawer of a desk in memory holds: all that is kept of one role, but for the files (this project's profile).
+use Rattle.std.specs.Prelude.{◌≡◌, ℕ, ◌<◌, ◌≤◌, List, [], Option, Some, None, drop, slice_index_or}
+use Rattle.fv_outside.specs.Desk.{File, raised, last_count}
 use Rattle.fv_outside.specs.declared.drawer.Reading.{Reading}
 
 pub record Kept : Type 0 where
@@ -10,6 +9,8 @@ pub record Kept : Type 0 where
   pub written : List ℕ
   -- how many bytes may be written
   pub room : ℕ
+  -- the most bytes that one call reads or writes
+  pub most : ℕ
   -- how many calls there were
   pub calls : ℕ
   -- the numbers of the calls that fail
@@ -19,11 +20,7 @@ pub record Kept : Type 0 where
 
 -- nothing was put in
 abbrev pub nothing_kept : Kept
-nothing_kept = record { reading = None; written = []; room = 0; calls = 0; failing = []; faults = 0; begins = 0 }
-
--- one more, up to the last value of a count
-abbrev pub raised : ℕ → ℕ
-raised n = min (suc n) last_count
+nothing_kept = record { reading = None; written = []; room = 0; most = last_count; calls = 0; failing = []; faults = 0; begins = 0 }
 
 -- the bytes of the file at a place of the list
 abbrev pub bytes_at : List File → ℕ → List ℕ
@@ -34,10 +31,6 @@ abbrev pub left_at : List File → Option Reading → List ℕ
 left_at files None = []
 left_at files (Some r) = drop r.taken (bytes_at files r.file)
 
--- the call that comes now stands on the list
-abbrev pub fails_now : (calls : ℕ) (failing : List ℕ) → Bool
-fails_now calls failing = list_any (λ n. n == calls) failing
-
 -- a call was counted
 abbrev pub called : Kept → Kept
 called k = record k { calls = raised k.calls }
@@ -45,6 +38,13 @@ called k = record k { calls = raised k.calls }
 -- a call was counted that failed
 abbrev pub faulted : Kept → Kept
 faulted k = record k { calls = raised k.calls; faults = raised k.faults }
+
+-- a call of the role: no count falls, and its room and what will fail stay
+pub record DrawerGoesOn (old new : Kept) : Type 0 where
+  pub calls : old.calls ≤ new.calls
+  pub faults : old.faults ≤ new.faults
+  pub room : new.room ≡ old.room
+  pub failing : new.failing ≡ old.failing
 
 -- the drawer reads one of so many files
 abbrev pub ReadsWithin : ℕ → Kept → Type 0

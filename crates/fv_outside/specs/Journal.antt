@@ -1,5 +1,5 @@
--- What a gate is told of a block, and when the block's journal is in order.
-use Rattle.std.specs.Prelude.{◌≡◌, ℕ, ◌+◌, ◌-◌, ◌<◌, ◌≤◌, Bool, true, ◌&&◌, ◌==◌, List, length, Contains, AllPairs}
+-- What a gate is told of a block, and when the block's journal is in order (this project's profile).
+use Rattle.std.specs.Prelude.{◌≡◌, ℕ, ◌+◌, ◌-◌, ◌<◌, ◌≤◌, Bool, true, ◌&&◌, ◌==◌, nat_le, List, [], ◌∷◌, ◌++◌, length, Contains, AllPairs, Option, None, Some, slice_index_or, if◌then◌else◌}
 use Rattle.fv_outside.specs.declared.tasks.Task.{Task}
 use Rattle.fv_outside.specs.declared.gate.Line.{Line}
 use Rattle.fv_outside.specs.Tasks.{Tasks, bit, total, reads_task}
@@ -8,6 +8,10 @@ use Rattle.fv_outside.specs.Tasks.{Tasks, bit, total, reads_task}
 pub record BlockEntry : Type 0 where
   pub tasks : Tasks
   pub lines : List Line
+
+-- a block of no tasks
+abbrev pub no_entry : BlockEntry
+no_entry = record { tasks = record { loops = 0; vectors = 0; reads = [] }; lines = [] }
 
 -- how much a gate still keeps
 pub record Room : Type 0 where
@@ -33,6 +37,20 @@ room_after room entry = record {
   lines = room.lines - length entry.lines;
   pairs = room.pairs - length entry.tasks.reads;
 }
+
+-- the entry is within the room, as a test
+abbrev pub has_room : Room → BlockEntry → Bool
+has_room room entry = nat_le 1 room.calls && nat_le (length entry.tasks.reads) room.pairs && nat_le (length entry.lines) room.lines
+
+-- what a gate tells after one more block: its entries and that one where it fits, and else nothing any more
+abbrev pub told_after : Option Told → BlockEntry → Option Told
+told_after None entry = None
+told_after (Some t) entry = if has_room t.room entry then Some (record { entries = t.entries ++ entry ∷ []; room = room_after t.room entry }) else None
+
+-- block i of those that are told
+abbrev pub told_at : Option Told → ℕ → BlockEntry
+told_at None i = no_entry
+told_at (Some t) i = slice_index_or t.entries i no_entry
 
 -- the line speaks of this task
 abbrev pub is_line_of : Task → Line → Bool

@@ -1,8 +1,11 @@
+pub mod Requests
+pub mod Asked
 pub mod Desk
+pub mod Drawer
+pub mod Stored
+pub mod Memory
+pub mod Counts
 pub mod Tasks
 pub mod Journal
-pub mod Drawer
-pub mod Memory
-pub mod Stored
-pub mod Counts
+pub mod Recorded
 pub mod Examples

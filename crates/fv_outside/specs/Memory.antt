@@ -1,9 +1,9 @@
--- What a desk in memory means.
+-- What a desk in memory means (this project's profile).
 use Rattle.std.specs.Prelude.{ℕ, ◌+◌, ◌%◌, ◌^◌, max, nat_le, Bool, true, List, [], ◌∷◌, ◌++◌, length, drop}
-use Rattle.fv_outside.specs.Desk.{File, DeskState}
-use Rattle.fv_outside.specs.Drawer.{raised, fails_now}
-use Rattle.fv_outside.specs.declared.role.Role.{Role}
-use Rattle.fv_outside.specs.declared.role.Role.TheVariants.{Program, Input, Controls, Output, Report}
+use Rattle.fv_outside.specs.Requests.{Request}
+use Rattle.fv_outside.specs.Desk.{File, DeskState, raised, last_count, fails_now}
+use Rattle.fv_base.specs.declared.role.Role.{Role}
+use Rattle.fv_base.specs.declared.role.Role.TheVariants.{Program, Input, Controls, Output, Report}
 
 -- all that a desk in memory means for one role
 pub record RoleMemory : Type 0 where
@@ -12,6 +12,8 @@ pub record RoleMemory : Type 0 where
   pub written : List ℕ
   -- how many bytes may be written
   pub room : ℕ
+  -- the most bytes that one call reads or writes
+  pub most : ℕ
   -- how many calls there were
   pub calls : ℕ
   -- the numbers of the calls that fail
@@ -19,9 +21,10 @@ pub record RoleMemory : Type 0 where
   pub faults : ℕ
   pub begins : ℕ
 
--- the files, and what is kept for each role
+-- the files, what it was asked to begin, and what is kept for each role
 pub record Memory : Type 0 where
   pub files : List File
+  pub requests : List Request
   pub program : RoleMemory
   pub input : RoleMemory
   pub controls : RoleMemory
@@ -30,11 +33,11 @@ pub record Memory : Type 0 where
 
 -- nothing was put in, written or read
 abbrev pub no_memory : RoleMemory
-no_memory = record { left = []; written = []; room = 0; calls = 0; failing = []; faults = 0; begins = 0 }
+no_memory = record { left = []; written = []; room = 0; most = last_count; calls = 0; failing = []; faults = 0; begins = 0 }
 
 -- a desk without files
 abbrev pub empty_memory : Memory
-empty_memory = record { files = []; program = no_memory; input = no_memory; controls = no_memory; output = no_memory; report = no_memory }
+empty_memory = record { files = []; requests = []; program = no_memory; input = no_memory; controls = no_memory; output = no_memory; report = no_memory }
 
 -- what is kept for the role
 abbrev pub memory_of : Memory → Role → RoleMemory
@@ -56,6 +59,10 @@ with_memory m Report d = record m { report = d }
 abbrev pub memory_after : Memory → Role → (RoleMemory → RoleMemory) → Memory
 memory_after m role f = with_memory m role (f (memory_of m role))
 
+-- it was asked for this, and nothing else happened
+abbrev pub asked : Request → Memory → Memory
+asked request m = record m { requests = m.requests ++ request ∷ [] }
+
 -- as a desk, it tells its bytes
 abbrev pub memory_state : Memory → DeskState
 memory_state m = record {
@@ -63,8 +70,12 @@ memory_state m = record {
   files = m.files;
   left = λ r. (memory_of m r).left;
   written = λ r. (memory_of m r).written;
+  room = λ r. (memory_of m r).room;
+  calls = λ r. (memory_of m r).calls;
+  failing = λ r. (memory_of m r).failing;
   faults = λ r. (memory_of m r).faults;
   begins = λ r. (memory_of m r).begins;
+  requests = m.requests;
 }
 
 -- the call that comes now stands on the list of those that fail
@@ -78,6 +89,10 @@ is_full d = nat_le d.room (length d.written)
 -- so many bytes may be written, or as many as before
 abbrev pub after_room : ℕ → RoleMemory → RoleMemory
 after_room bytes d = record d { room = max d.room bytes }
+
+-- each call moves so many bytes at most
+abbrev pub after_pieces : ℕ → RoleMemory → RoleMemory
+after_pieces size d = record d { most = size }
 
 -- one more call will fail
 abbrev pub after_fail : ℕ → RoleMemory → RoleMemory

@@ -1,18 +1,9 @@
--- How a desk in memory is stored: its files, and a drawer for each role.
+-- How a desk in memory is stored: its files, and a drawer for each role (this project's profile).
 use Rattle.std.specs.Prelude.{◌≡◌, ℕ, List, length, All, slice_index_or}
+use Rattle.fv_outside.specs.Requests.{Request}
 use Rattle.fv_outside.specs.Desk.{File}
 use Rattle.fv_outside.specs.Drawer.{Kept, nothing_kept, left_at, ReadsWithin}
 use Rattle.fv_outside.specs.Memory.{RoleMemory, Memory}
-use Rattle.fv_outside.specs.declared.role.Role.{Role}
-use Rattle.fv_outside.specs.declared.role.Role.TheVariants.{Program, Input, Controls, Output, Report}
-
--- the place of the role's drawer
-abbrev pub place_of : Role → ℕ
-place_of Program = 0
-place_of Input = 1
-place_of Controls = 2
-place_of Output = 3
-place_of Report = 4
 
 -- what a drawer means beside the files
 abbrev pub shown : List File → Kept → RoleMemory
@@ -20,6 +11,7 @@ shown files k = record {
   left = left_at files k.reading;
   written = k.written;
   room = k.room;
+  most = k.most;
   calls = k.calls;
   failing = k.failing;
   faults = k.faults;
@@ -30,10 +22,11 @@ shown files k = record {
 abbrev pub shown_at : List File → List Kept → ℕ → RoleMemory
 shown_at files ks i = shown files (slice_index_or ks i nothing_kept)
 
--- what the files and the drawers mean
-abbrev pub memory_with : List File → List Kept → Memory
-memory_with files ks = record {
+-- what the files, the drawers and the requests mean
+abbrev pub memory_with : List File → List Kept → List Request → Memory
+memory_with files ks requests = record {
   files = files;
+  requests = requests;
   program = shown_at files ks 0;
   input = shown_at files ks 1;
   controls = shown_at files ks 2;

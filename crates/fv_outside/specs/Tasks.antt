@@ -1,4 +1,4 @@
--- The tasks of a block: one for each loop and vector, and what each of them reads.
+-- The tasks of a block: one for each loop and vector, and what each of them reads (this project's profile).
 use Rattle.std.specs.Prelude.{ℕ, ◌+◌, ◌*◌, Bool, true, false, ◌&&◌, ◌||◌, ◌==◌, List, [], ◌∷◌, refl}
 use Rattle.std.specs.Coded.{Coded, code_by, coded×, coded_ℕ, coded_list}
 use Rattle.fv_outside.specs.declared.tasks.Task.{Task}
@@ -20,7 +20,7 @@ coded_tasks =
 
 -- how many tasks there are
 abbrev pub task_count : Tasks → ℕ
-task_count ts = ts.loops * ts.vectors
+task_count ts = ts.vectors * ts.loops
 
 -- 1 where the test passes
 abbrev pub bit : Bool → ℕ

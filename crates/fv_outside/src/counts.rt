@@ -1,10 +1,10 @@
 // What a desk of real files counts.
 
 ghost use Rattle.std.specs.Prelude.{◌≡◌, ◌<◌, ◌≤◌};
-ghost use Rattle.fv_outside.specs.Stored.{place_of};
+ghost use Rattle.fv_outside.specs.Requests.{place_of};
 ghost use Rattle.fv_outside.specs.Counts.{count_of, no_counts, CountsFault, CountsBegin};
 
-use crate::role::Role;
+use fv_base::Role;
 
 /// For each role in turn, how many faults there were and how often its writing began.
 #[derive(Clone, Copy)]

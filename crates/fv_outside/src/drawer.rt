@@ -1,7 +1,8 @@
 // What a desk in memory keeps of one role.
 
 ghost use Rattle.std.specs.Prelude.{◌≡◌, ℕ, ◌+◌, ◌-◌, ◌%◌, ◌^◌, ◌<◌, ◌≤◌, ◌||◌, min, max, length, take, drop, ◌++◌, ◌∷◌, [], Some, None, is_none, is_err, nat_le, OnOk, OnErr, IfOk};
-ghost use Rattle.fv_outside.specs.Drawer.{bytes_at, left_at, nothing_kept, fails_now, called, faulted, ReadsWithin};
+ghost use Rattle.fv_outside.specs.Desk.{fails_now};
+ghost use Rattle.fv_outside.specs.Drawer.{bytes_at, left_at, nothing_kept, called, faulted, ReadsWithin, DrawerGoesOn};
 
 use crate::desk::Failed;
 use std::alloc::{AllocError, Global};
@@ -62,6 +63,7 @@ pub struct Drawer {
     reading: Option<Reading>,
     written: Vec<u8>,
     room: u32,
+    most: u64,
     calls: u64,
     failing: Vec<u32>,
     faults: u64,
@@ -78,14 +80,15 @@ impl Model for Drawer {
       reading = d.reading;
       written = d.written.items;
       room = d.room;
+      most = d.most;
       calls = d.calls;
       failing = d.failing.items;
       faults = d.faults;
       begins = d.begins;
     } };
 
-    // The room is taken before it is written.
-    ghost invariant = { λ d. (vec_len d.written ≤ d.room) × (d.room ≤ vec_capacity d.written) };
+    // The room is taken before it is written, and each call moves some bytes.
+    ghost invariant = { λ d. (vec_len d.written ≤ d.room) × (d.room ≤ vec_capacity d.written) × (1 ≤ d.most) };
 }
 
 impl Drawer {
@@ -97,6 +100,7 @@ impl Drawer {
             reading: None,
             written: Vec::new(alloc),
             room: 0,
+            most: u64::MAX,
             calls: 0,
             failing: Vec::new(alloc),
             faults: 0,
@@ -122,6 +126,15 @@ impl Drawer {
         self.written.reserve(free)?;
         self.room = wanted;
         Ok(())
+    }
+
+    /// From now on each call moves so many bytes at most.
+    pub fn pieces(&mut self, size: u32)
+        requires { 1 ≤ size }
+        ensures ok { self.new ≡ record self.old { most = size } }
+        ensures within { (n : ℕ) → ReadsWithin n self.old → ReadsWithin n self.new }
+    {
+        self.most = u64::from(size);
     }
 
     /// The call of this number will fail.
@@ -158,7 +171,7 @@ impl Drawer {
             self.new ≡ record (called self.old) { reading = Some (record { file = f; taken = 0 }) }) }
         ensures err { OnErr result (self.new ≡ faulted self.old) }
         ensures within { (n : ℕ) → ReadsWithin n self.old → ((f : ℕ) → found ≡ Some f → f < n) → ReadsWithin n self.new }
-        ensures faults { self.old.faults ≤ self.new.faults }
+        ensures goes_on { DrawerGoesOn self.old self.new }
     {
         if self.fails_now() {
             return Err(self.fault());
@@ -174,13 +187,14 @@ impl Drawer {
     /// Takes as many bytes as are left and fit into `to`.
     pub fn read(&mut self, files: &[StoredFile], to: &mut [u8]) -> Result<usize, Failed>
         ensures fails { is_err result ≡ fails_now self.old.calls self.old.failing }
-        ensures count { IfOk result (λ n. n ≡ min (length to.new) (length (left_at files.now self.old.reading))) }
+        ensures count { IfOk result (λ n. n ≡ min self.old.most (min (length to.new) (length (left_at files.now self.old.reading)))) }
+        ensures end { 0 < length to.old → IfOk result (λ n. n ≡ 0 → left_at files.now self.old.reading ≡ []) }
         ensures taken { IfOk result (λ n. take n to.new ≡ take n (left_at files.now self.old.reading)) }
         ensures left { IfOk result (λ n. left_at files.now self.new.reading ≡ drop n (left_at files.now self.old.reading)) }
         ensures ok { OnOk result (self.new ≡ record (called self.old) { reading = self.new.reading }) }
         ensures err { OnErr result (self.new ≡ faulted self.old) }
         ensures within { (n : ℕ) → ReadsWithin n self.old → ReadsWithin n self.new }
-        ensures faults { self.old.faults ≤ self.new.faults }
+        ensures goes_on { DrawerGoesOn self.old self.new }
     {
         if self.fails_now() {
             return Err(self.fault());
@@ -189,7 +203,7 @@ impl Drawer {
         match self.reading {
             None => Ok(0),
             Some(reading) => {
-                let n = take_from(bytes_of(files, reading.file), reading.taken, to);
+                let n = take_from(bytes_of(files, reading.file), reading.taken, self.most, to);
                 self.reading = Some(Reading {
                     file: reading.file,
                     taken: reading.taken + n,
@@ -206,7 +220,7 @@ impl Drawer {
             record (called self.old) { written = []; begins = (self.old.begins + 1) % 2 ^ 64 }) }
         ensures err { OnErr result (self.new ≡ faulted self.old) }
         ensures within { (n : ℕ) → ReadsWithin n self.old → ReadsWithin n self.new }
-        ensures faults { self.old.faults ≤ self.new.faults }
+        ensures goes_on { DrawerGoesOn self.old self.new }
     {
         if self.fails_now() {
             return Err(self.fault());
@@ -220,17 +234,18 @@ impl Drawer {
     /// Appends as many bytes of `piece` as there is room for.
     pub fn write(&mut self, piece: &[u8]) -> Result<usize, Failed>
         ensures fails { is_err result ≡ (fails_now self.old.calls self.old.failing || nat_le self.old.room (length self.old.written)) }
-        ensures count { IfOk result (λ n. n ≡ min (length piece.now) (self.old.room - length self.old.written)) }
+        ensures count { IfOk result (λ n. n ≡ min self.old.most (min (length piece.now) (self.old.room - length self.old.written))) }
+        ensures some { 0 < length piece.now → IfOk result (λ n. 1 ≤ n) }
         ensures ok { IfOk result (λ n. self.new ≡ record (called self.old) { written = self.old.written ++ take n piece.now }) }
         ensures err { OnErr result (self.new ≡ faulted self.old) }
         ensures within { (n : ℕ) → ReadsWithin n self.old → ReadsWithin n self.new }
-        ensures faults { self.old.faults ≤ self.new.faults }
+        ensures goes_on { DrawerGoesOn self.old self.new }
     {
         let free = self.room as usize - self.written.len();
         if self.fails_now() || free == 0 {
             return Err(self.fault());
         }
-        let n = free.min(piece.len());
+        let n = at_most(self.most, free.min(piece.len()));
         self.written.extend_from_slice(&piece[..n]).unwrap();
         self.calls = self.calls.saturating_add(1);
         Ok(n)
@@ -248,9 +263,9 @@ fn bytes_of(files: &[StoredFile], place: usize) -> &[u8]
     }
 }
 
-// Copies as many bytes as fit into `to`, behind those that were taken, and says how many.
-fn take_from(bytes: &[u8], taken: usize, to: &mut [u8]) -> usize
-    ensures count { result ≡ min (length to.new) (length bytes.now - taken) }
+// Copies as many bytes as fit into `to`, but so many at most, behind those that were taken, and says how many.
+fn take_from(bytes: &[u8], taken: usize, most: u64, to: &mut [u8]) -> usize
+    ensures count { result ≡ min most (min (length to.new) (length bytes.now - taken)) }
     ensures fits { taken + result < 2 ^ 64 }
     ensures same { take result to.new ≡ take result (drop taken bytes.now) }
 {
@@ -258,7 +273,14 @@ fn take_from(bytes: &[u8], taken: usize, to: &mut [u8]) -> usize
         return 0;
     }
     let left = &bytes[taken..];
-    let n = left.len().min(to.len());
+    let n = at_most(most, left.len().min(to.len()));
     to[..n].copy_from_slice(&left[..n]);
     n
+}
+
+// The lesser of the two.
+fn at_most(most: u64, n: usize) -> usize
+    ensures { result ≡ min most n }
+{
+    if most < n as u64 { most as usize } else { n }
 }

@@ -1,12 +1,14 @@
 // A desk of real files.
 
-ghost use Rattle.std.specs.Prelude.{◌≡◌, ◌≢◌, ◌+◌, ◌%◌, ◌^◌, ◌≤◌, length, take, ◌++◌, [], Some, IsTrue, IfOk, OnOk, OnErr};
-ghost use Rattle.fv_outside.specs.Desk.{GoesOn, HasFault, KeepsBytes, KeepsBegins, file_named};
-ghost use Rattle.fv_outside.specs.Counts.{no_counts, CountsFault, CountsBegin, counts_state};
+ghost use Rattle.std.specs.Prelude.{◌≡◌, ◌≢◌, ◌+◌, ◌%◌, ◌^◌, ◌<◌, ◌≤◌, length, take, ◌++◌, ◌∷◌, [], false, Some, IsTrue, IsSome, IsOk, IfOk, OnOk, OnErr};
+ghost use Rattle.fv_outside.specs.Requests.{to_read, to_write};
+ghost use Rattle.fv_outside.specs.Desk.{GoesOn, CountsCall, HasFault, KeepsFaults, KeepsBytes, KeepsBegins, fails_next, file_named};
+ghost use Rattle.fv_outside.specs.Counts.{no_counts, CountsFault, CountsBegin, after_request, file_state};
 
 use crate::counts::Counts;
 use crate::desk::{Desk, Failed};
-use crate::role::Role;
+use crate::requests::{Request, Requests};
+use fv_base::Role;
 use std::fs;
 use std::io::{Read, Write};
 use std::marker::Model;
@@ -21,14 +23,15 @@ pub struct FileDesk<'r, R: Files + Print> {
     rt: &'r R,
     open: OpenFiles<R::File>,
     counts: Counts,
+    requests: Requests,
 }
 
 impl<'r, R: Files + Print> Model for FileDesk<'r, R> {
-    ghost use Rattle.fv_outside.specs.declared.counts.Counts.{Counts};
+    ghost use Rattle.fv_outside.specs.Counts.{FileState};
 
-    ghost Value = { Counts };
+    ghost Value = { FileState };
 
-    ghost view = { λ d. d.counts };
+    ghost view = { λ d. record { counts = d.counts; requests = d.requests.list } };
 }
 
 impl<R: Files + Print> Drop for FileDesk<'_, R> {
@@ -37,15 +40,16 @@ impl<R: Files + Print> Drop for FileDesk<'_, R> {
             rt: _,
             open,
             counts: _,
+            requests: _,
         } = self;
         drop(open);
     }
 }
 
 impl<'r, R: Files + Print> FileDesk<'r, R> {
-    /// A desk with no file open, and all its counts at 0.
+    /// A desk with no file open, and all its counts at 0, which was asked for nothing.
     pub fn new(rt: &'r R) -> FileDesk<'r, R>
-        ensures { result ≡ no_counts }
+        ensures { result ≡ record { counts = no_counts; requests = [] } }
     {
         FileDesk {
             rt,
@@ -57,24 +61,30 @@ impl<'r, R: Files + Print> FileDesk<'r, R> {
                 report: OpenPair::new(),
             },
             counts: Counts::new(),
+            requests: Requests::new(),
         }
     }
 }
 
 // Beside what each desk ensures, the clauses say exactly what is counted.
 impl<R: Files + Print> Desk for FileDesk<'_, R> {
-    ghost state = { counts_state };
+    ghost state = { file_state };
 
     fn begin_read(&mut self, role: Role, name: &str) -> Result<(), Failed>
-        ensures goes_on { GoesOn (counts_state self.old) (counts_state self.new) }
-        ensures failed { OnErr result (HasFault role (counts_state self.old) (counts_state self.new)) }
-        ensures file { OnOk result (IsTrue (counts_state self.old).tells →
-            file_named name.now (counts_state self.old).files ≡ Some ((counts_state self.new).left role)) }
-        ensures begins { KeepsBegins (counts_state self.old) (counts_state self.new) }
-        ensures err { OnErr result (KeepsBytes (counts_state self.old) (counts_state self.new)) }
-        ensures quiet { OnOk result (self.new ≡ self.old) }
-        ensures fault { OnErr result (CountsFault role self.old self.new) }
+        ensures goes_on { GoesOn (file_state self.old) (file_state self.new) }
+        ensures failed { OnErr result (HasFault role (file_state self.old) (file_state self.new)) }
+        ensures file { OnOk result (IsTrue (file_state self.old).tells →
+            file_named name.now (file_state self.old).files ≡ Some ((file_state self.new).left role)) }
+        ensures begins { KeepsBegins (file_state self.old) (file_state self.new) }
+        ensures answers { IsTrue (file_state self.old).tells → fails_next role (file_state self.old) ≡ false → IsSome (file_named name.now (file_state self.old).files) → IsOk result }
+        ensures steady { OnOk result (KeepsFaults (file_state self.old) (file_state self.new)) }
+        ensures counts { CountsCall role (file_state self.old) (file_state self.new) }
+        ensures asked { self.new.requests ≡ self.old.requests ++ to_read role name.now ∷ [] }
+        ensures err { OnErr result (KeepsBytes (file_state self.old) (file_state self.new)) }
+        ensures quiet { OnOk result (self.new ≡ after_request (to_read role name.now) self.old) }
+        ensures fault { OnErr result (CountsFault role self.old.counts self.new.counts) }
     {
+        self.requests = self.requests.and(&Request::Read { role, name });
         match fs::open(self.rt, name) {
             Ok(file) => {
                 self.open.of(role).reader = Some(file);
@@ -89,15 +99,19 @@ impl<R: Files + Print> Desk for FileDesk<'_, R> {
 
     fn read(&mut self, role: Role, to: &mut [u8]) -> Result<usize, Failed>
         ensures count { IfOk result (λ n. n ≤ length to.new) }
-        ensures goes_on { GoesOn (counts_state self.old) (counts_state self.new) }
-        ensures failed { OnErr result (HasFault role (counts_state self.old) (counts_state self.new)) }
-        ensures taken { IfOk result (λ n. IsTrue (counts_state self.old).tells →
-            (counts_state self.old).left role ≡ take n to.new ++ (counts_state self.new).left role) }
-        ensures end { IfOk result (λ n. IsTrue (counts_state self.old).tells → n ≡ 0 → (counts_state self.old).left role ≡ []) }
-        ensures begins { KeepsBegins (counts_state self.old) (counts_state self.new) }
-        ensures err { OnErr result (KeepsBytes (counts_state self.old) (counts_state self.new)) }
+        ensures goes_on { GoesOn (file_state self.old) (file_state self.new) }
+        ensures failed { OnErr result (HasFault role (file_state self.old) (file_state self.new)) }
+        ensures taken { IfOk result (λ n. IsTrue (file_state self.old).tells →
+            (file_state self.old).left role ≡ take n to.new ++ (file_state self.new).left role) }
+        ensures end { IfOk result (λ n. IsTrue (file_state self.old).tells → n ≡ 0 → (file_state self.old).left role ≡ []) }
+        ensures begins { KeepsBegins (file_state self.old) (file_state self.new) }
+        ensures answers { IsTrue (file_state self.old).tells → fails_next role (file_state self.old) ≡ false → IsOk result }
+        ensures steady { OnOk result (KeepsFaults (file_state self.old) (file_state self.new)) }
+        ensures counts { CountsCall role (file_state self.old) (file_state self.new) }
+        ensures asked { self.new.requests ≡ self.old.requests }
+        ensures err { OnErr result (KeepsBytes (file_state self.old) (file_state self.new)) }
         ensures quiet { OnOk result (self.new ≡ self.old) }
-        ensures fault { OnErr result (CountsFault role self.old self.new) }
+        ensures fault { OnErr result (CountsFault role self.old.counts self.new.counts) }
     {
         match self.open.of(role).read(to) {
             Ok(n) => Ok(n),
@@ -109,15 +123,20 @@ impl<R: Files + Print> Desk for FileDesk<'_, R> {
     }
 
     fn begin_write(&mut self, role: Role, name: &str) -> Result<(), Failed>
-        ensures goes_on { GoesOn (counts_state self.old) (counts_state self.new) }
-        ensures failed { OnErr result (HasFault role (counts_state self.old) (counts_state self.new)) }
-        ensures empty { OnOk result (IsTrue (counts_state self.old).tells → (counts_state self.new).written role ≡ []) }
-        ensures counted { OnOk result ((counts_state self.new).begins role ≡ ((counts_state self.old).begins role + 1) % 2 ^ 64) }
-        ensures other_begins { (r : Role) → r ≢ role → (counts_state self.new).begins r ≡ (counts_state self.old).begins r }
-        ensures err { OnErr result (KeepsBytes (counts_state self.old) (counts_state self.new)) }
-        ensures begun { OnOk result (CountsBegin role self.old self.new) }
-        ensures fault { OnErr result (CountsFault role self.old self.new) }
+        ensures goes_on { GoesOn (file_state self.old) (file_state self.new) }
+        ensures failed { OnErr result (HasFault role (file_state self.old) (file_state self.new)) }
+        ensures empty { OnOk result (IsTrue (file_state self.old).tells → (file_state self.new).written role ≡ []) }
+        ensures counted { OnOk result ((file_state self.new).begins role ≡ ((file_state self.old).begins role + 1) % 2 ^ 64) }
+        ensures other_begins { (r : Role) → r ≢ role → (file_state self.new).begins r ≡ (file_state self.old).begins r }
+        ensures answers { IsTrue (file_state self.old).tells → fails_next role (file_state self.old) ≡ false → IsOk result }
+        ensures steady { OnOk result (KeepsFaults (file_state self.old) (file_state self.new)) }
+        ensures counts { CountsCall role (file_state self.old) (file_state self.new) }
+        ensures asked { self.new.requests ≡ self.old.requests ++ to_write role name.now ∷ [] }
+        ensures err { OnErr result (KeepsBytes (file_state self.old) (file_state self.new)) }
+        ensures begun { OnOk result (CountsBegin role self.old.counts self.new.counts) }
+        ensures fault { OnErr result (CountsFault role self.old.counts self.new.counts) }
     {
+        self.requests = self.requests.and(&Request::Write { role, name });
         match create(self.rt, role, name) {
             Ok(file) => {
                 self.open.of(role).writer = Some(file);
@@ -133,14 +152,18 @@ impl<R: Files + Print> Desk for FileDesk<'_, R> {
 
     fn write(&mut self, role: Role, piece: &[u8]) -> Result<usize, Failed>
         ensures count { IfOk result (λ n. (1 ≤ n) × (n ≤ length piece.now)) }
-        ensures goes_on { GoesOn (counts_state self.old) (counts_state self.new) }
-        ensures failed { OnErr result (HasFault role (counts_state self.old) (counts_state self.new)) }
-        ensures appended { IfOk result (λ n. IsTrue (counts_state self.old).tells →
-            (counts_state self.new).written role ≡ (counts_state self.old).written role ++ take n piece.now) }
-        ensures begins { KeepsBegins (counts_state self.old) (counts_state self.new) }
-        ensures err { OnErr result (KeepsBytes (counts_state self.old) (counts_state self.new)) }
+        ensures goes_on { GoesOn (file_state self.old) (file_state self.new) }
+        ensures failed { OnErr result (HasFault role (file_state self.old) (file_state self.new)) }
+        ensures appended { IfOk result (λ n. IsTrue (file_state self.old).tells →
+            (file_state self.new).written role ≡ (file_state self.old).written role ++ take n piece.now) }
+        ensures begins { KeepsBegins (file_state self.old) (file_state self.new) }
+        ensures answers { IsTrue (file_state self.old).tells → fails_next role (file_state self.old) ≡ false → length ((file_state self.old).written role) < (file_state self.old).room role → IsOk result }
+        ensures steady { OnOk result (KeepsFaults (file_state self.old) (file_state self.new)) }
+        ensures counts { CountsCall role (file_state self.old) (file_state self.new) }
+        ensures asked { self.new.requests ≡ self.old.requests }
+        ensures err { OnErr result (KeepsBytes (file_state self.old) (file_state self.new)) }
         ensures quiet { OnOk result (self.new ≡ self.old) }
-        ensures fault { OnErr result (CountsFault role self.old self.new) }
+        ensures fault { OnErr result (CountsFault role self.old.counts self.new.counts) }
     {
         let written = match role {
             Role::Report => print_some(self.rt, piece),
@@ -237,34 +260,5 @@ fn some_taken(outcome: std::io::Result<usize>) -> Result<usize, Failed>
         Ok(0) => Err(Failed),
         Ok(n) => Ok(n),
         Err(_) => Err(Failed),
-    }
-}
-
-#[cfg(test)]
-mod tests {
-    use super::*;
-    use std::test::Fail;
-
-    #[test]
-    fn writes_and_reads(rt: HostRuntime) -> Result<(), Fail> {
-        let name = "fv_outside_file_desk_test.bytes";
-        let mut desk = FileDesk::new(&rt);
-        let mut to = [0; 4];
-        assert_eq!(rt; desk.begin_read(Role::Input, name), Err(Failed), "no file");
-        assert_eq!(rt; desk.read(Role::Input, &mut to), Err(Failed), "not begun");
-        assert_eq!(rt; desk.write(Role::Output, &[1]), Err(Failed), "not begun");
-        assert_eq!(rt; desk.begin_write(Role::Output, name), Ok(()));
-        assert_eq!(rt; desk.write(Role::Output, &[1, 2, 3]), Ok(3));
-        assert_eq!(rt; desk.begin_read(Role::Input, name), Ok(()));
-        assert_eq!(rt; desk.read(Role::Input, &mut to), Ok(3));
-        assert_eq!(rt; to, [1, 2, 3, 0]);
-        assert_eq!(rt; desk.read(Role::Input, &mut to), Ok(0), "its end");
-        assert_eq!(rt; desk.begin_write(Role::Output, name), Ok(()));
-        assert_eq!(rt; desk.begin_read(Role::Input, name), Ok(()));
-        assert_eq!(rt; desk.read(Role::Input, &mut to), Ok(0), "emptied");
-        assert_eq!(rt; desk.begin_write(Role::Report, name), Err(Failed));
-        assert_eq!(rt; desk.write(Role::Report, b"printed\n"), Ok(8));
-        fs::remove_file(&rt, name)?;
-        Ok(())
     }
 }

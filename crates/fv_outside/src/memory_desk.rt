@@ -1,15 +1,16 @@
 // A desk whose files are lists of bytes.
 
-ghost use Rattle.std.specs.Prelude.{◌≡◌, ◌≢◌, ℕ, List, ◌-◌, ◌<◌, ◌||◌, min, length, take, ◌++◌, ◌∷◌, [], Some, None, is_none, is_err, unwrap_or, MatchOption, OnOk, OnErr, IfOk};
+ghost use Rattle.std.specs.Prelude.{◌≡◌, ◌≢◌, ℕ, List, ◌-◌, ◌<◌, ◌≤◌, ◌||◌, min, length, take, ◌++◌, ◌∷◌, [], Some, None, is_none, is_err, unwrap_or, MatchOption, OnOk, OnErr, IfOk};
+ghost use Rattle.fv_outside.specs.Requests.{place_of, to_read, to_write};
 ghost use Rattle.fv_outside.specs.Desk.{file_named, GoesOn};
 ghost use Rattle.fv_outside.specs.Drawer.{bytes_at};
-ghost use Rattle.fv_outside.specs.Memory.{empty_memory, memory_of, memory_after, memory_state, is_failing, is_full, after_room, after_fail, after_fault, after_begin_read, after_read, after_begin_write, after_write};
-ghost use Rattle.fv_outside.specs.Stored.{place_of};
+ghost use Rattle.fv_outside.specs.Memory.{empty_memory, memory_of, memory_after, memory_state, asked, is_failing, is_full, after_room, after_pieces, after_fail, after_fault, after_begin_read, after_read, after_begin_write, after_write};
 
 use crate::counts::place_of;
 use crate::desk::{Desk, Failed};
 use crate::drawer::{Drawer, StoredFile};
-use crate::role::Role;
+use crate::requests::{Request, Requests};
+use fv_base::Role;
 use std::alloc::{AllocError, Global};
 use std::marker::Model;
 
@@ -20,6 +21,7 @@ pub struct MemoryDesk {
     alloc: Global,
     files: Vec<StoredFile>,
     drawers: [Drawer; 5],
+    requests: Requests,
 }
 
 impl Model for MemoryDesk {
@@ -29,7 +31,7 @@ impl Model for MemoryDesk {
 
     ghost use Rattle.fv_outside.specs.Stored.{memory_with, IsStored};
 
-    ghost view = { λ m. memory_with m.files.items m.drawers };
+    ghost view = { λ m. memory_with m.files.items m.drawers m.requests.list };
 
     ghost invariant = { λ m. IsStored m.files.items m.drawers };
 }
@@ -49,6 +51,7 @@ impl MemoryDesk {
                 Drawer::new(alloc),
                 Drawer::new(alloc),
             ],
+            requests: Requests::new(),
         }
     }
 
@@ -72,6 +75,14 @@ impl MemoryDesk {
         ensures err { OnErr result (self.new ≡ self.old) }
     {
         self.drawers[place_of(role)].widen(bytes)
+    }
+
+    /// From now on each `read` and `write` of the role moves so many bytes at most.
+    pub fn pieces(&mut self, role: Role, size: u32)
+        requires { 1 ≤ size }
+        ensures { self.new ≡ memory_after self.old role (after_pieces size) }
+    {
+        self.drawers[place_of(role)].pieces(size);
     }
 
     /// The call of the role with this number, counted from 0 over all four methods, will fail.
@@ -98,10 +109,11 @@ impl Desk for MemoryDesk {
         ensures goes_on { GoesOn (memory_state self.old) (memory_state self.new) }
         ensures fails { is_err result ≡
             (is_failing (memory_of self.old role) || is_none (file_named name.now self.old.files)) }
-        ensures begun { OnOk result (self.new ≡
-            memory_after self.old role (after_begin_read (unwrap_or (file_named name.now self.old.files) []))) }
-        ensures fault { OnErr result (self.new ≡ memory_after self.old role after_fault) }
+        ensures begun { OnOk result (self.new ≡ asked (to_read role name.now)
+            (memory_after self.old role (after_begin_read (unwrap_or (file_named name.now self.old.files) [])))) }
+        ensures fault { OnErr result (self.new ≡ asked (to_read role name.now) (memory_after self.old role after_fault)) }
     {
+        self.requests = self.requests.and(&Request::Read { role, name });
         let found = place_named(&self.files, name);
         self.drawers[place_of(role)].begin_read(found)
     }
@@ -110,7 +122,7 @@ impl Desk for MemoryDesk {
         requires { 0 < length to.old }
         ensures goes_on { GoesOn (memory_state self.old) (memory_state self.new) }
         ensures fails { is_err result ≡ is_failing (memory_of self.old role) }
-        ensures count { IfOk result (λ n. n ≡ min (length to.new) (length (memory_of self.old role).left)) }
+        ensures count { IfOk result (λ n. n ≡ min (memory_of self.old role).most (min (length to.new) (length (memory_of self.old role).left))) }
         ensures end { IfOk result (λ n. n ≡ 0 → (memory_of self.old role).left ≡ []) }
         ensures bytes { IfOk result (λ n. take n to.new ≡ take n (memory_of self.old role).left) }
         ensures rest { IfOk result (λ n. self.new ≡ memory_after self.old role (after_read n)) }
@@ -119,12 +131,13 @@ impl Desk for MemoryDesk {
         self.drawers[place_of(role)].read(&self.files, to)
     }
 
-    fn begin_write(&mut self, role: Role, _name: &str) -> Result<(), Failed>
+    fn begin_write(&mut self, role: Role, name: &str) -> Result<(), Failed>
         ensures goes_on { GoesOn (memory_state self.old) (memory_state self.new) }
         ensures fails { is_err result ≡ is_failing (memory_of self.old role) }
-        ensures begun { OnOk result (self.new ≡ memory_after self.old role after_begin_write) }
-        ensures fault { OnErr result (self.new ≡ memory_after self.old role after_fault) }
+        ensures begun { OnOk result (self.new ≡ asked (to_write role name.now) (memory_after self.old role after_begin_write)) }
+        ensures fault { OnErr result (self.new ≡ asked (to_write role name.now) (memory_after self.old role after_fault)) }
     {
+        self.requests = self.requests.and(&Request::Write { role, name });
         self.drawers[place_of(role)].begin_write()
     }
 
@@ -133,8 +146,9 @@ impl Desk for MemoryDesk {
         ensures goes_on { GoesOn (memory_state self.old) (memory_state self.new) }
         ensures fails { is_err result ≡
             (is_failing (memory_of self.old role) || is_full (memory_of self.old role)) }
-        ensures count { IfOk result (λ n. n ≡
-            min (length piece.now) ((memory_of self.old role).room - length (memory_of self.old role).written)) }
+        ensures count { IfOk result (λ n. n ≡ min (memory_of self.old role).most
+            (min (length piece.now) ((memory_of self.old role).room - length (memory_of self.old role).written))) }
+        ensures some { IfOk result (λ n. 1 ≤ n) }
         ensures appended { IfOk result (λ n. self.new ≡ memory_after self.old role (after_write (take n piece.now))) }
         ensures fault { OnErr result (self.new ≡ memory_after self.old role after_fault) }
     {
@@ -154,94 +168,4 @@ fn place_named(files: &[StoredFile], name: &str) -> Option<usize>
         }
     }
     found
-}
-
-#[cfg(test)]
-mod tests {
-    use super::*;
-    use std::test::Fail;
-
-    // Takes up to two bytes, by the trait alone.
-    fn two<D: Desk>(desk: &mut D, role: Role) -> Result<(usize, [u8; 2]), Failed> {
-        let mut to = [0; 2];
-        let n = desk.read(role, &mut to)?;
-        Ok((n, to))
-    }
-
-    #[test]
-    fn reads(rt: HostRuntime) -> Result<(), Fail> {
-        let mut desk = MemoryDesk::new(rt.alloc());
-        assert_eq!(rt;
-            two(&mut desk, Role::Input),
-            Ok((0, [0, 0])),
-            "no file was begun"
-        );
-        assert_eq!(rt; desk.begin_read(Role::Input, "x"), Err(Failed), "no file");
-        desk.put("x", &[1, 2, 3])?;
-        desk.put("y", &[4])?;
-        assert_eq!(rt; desk.begin_read(Role::Input, "x"), Ok(()));
-        assert_eq!(rt; desk.begin_read(Role::Program, "y"), Ok(()));
-        assert_eq!(rt; two(&mut desk, Role::Input), Ok((2, [1, 2])));
-        desk.put("x", &[9])?;
-        assert_eq!(rt;
-            two(&mut desk, Role::Input),
-            Ok((1, [3, 0])),
-            "the older file goes on"
-        );
-        assert_eq!(rt; two(&mut desk, Role::Input), Ok((0, [0, 0])), "its end");
-        assert_eq!(rt; two(&mut desk, Role::Program), Ok((1, [4, 0])));
-        assert_eq!(rt; desk.begin_read(Role::Input, "x"), Ok(()));
-        assert_eq!(rt;
-            two(&mut desk, Role::Input),
-            Ok((1, [9, 0])),
-            "the newer one"
-        );
-        Ok(())
-    }
-
-    #[test]
-    fn writes(rt: HostRuntime) -> Result<(), Fail> {
-        let mut desk = MemoryDesk::new(rt.alloc());
-        let piece = [7; 40];
-        assert_eq!(rt;
-            desk.write(Role::Output, &piece),
-            Err(Failed),
-            "no room yet"
-        );
-        desk.room(Role::Output, 49)?;
-        desk.room(Role::Output, 3)?;
-        assert_eq!(rt; desk.begin_write(Role::Output, "o"), Ok(()));
-        for want in [Ok(40), Ok(9), Err(Failed)] {
-            assert_eq!(rt; desk.write(Role::Output, &piece), want);
-        }
-        assert_eq!(rt; desk.written(Role::Output), [7; 49].as_slice());
-        assert_eq!(rt; desk.written(Role::Report), [].as_slice());
-        assert_eq!(rt; desk.begin_write(Role::Output, "o"), Ok(()));
-        assert_eq!(rt; desk.written(Role::Output), [].as_slice());
-        Ok(())
-    }
-
-    #[test]
-    fn fails(rt: HostRuntime) -> Result<(), Fail> {
-        let mut desk = MemoryDesk::new(rt.alloc());
-        desk.put("x", &[1])?;
-        desk.room(Role::Input, 2)?;
-        for call in [3, 1, 0] {
-            desk.fail(Role::Input, call)?;
-        }
-        for (call, want) in [
-            (0, Err(Failed)),
-            (1, Err(Failed)),
-            (2, Ok(())),
-            (3, Err(Failed)),
-        ] {
-            assert_eq!(rt; desk.begin_read(Role::Input, "x"), want, "call {call}");
-        }
-        assert_eq!(rt; two(&mut desk, Role::Input), Ok((1, [1, 0])), "call 4");
-        assert_eq!(rt; desk.write(Role::Input, &[5, 6, 7]), Ok(2), "call 5");
-        desk.fail(Role::Input, 6)?;
-        assert_eq!(rt; desk.begin_write(Role::Input, "x"), Err(Failed), "call 6");
-        assert_eq!(rt; desk.written(Role::Input), [5, 6].as_slice());
-        Ok(())
-    }
 }

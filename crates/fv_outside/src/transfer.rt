@@ -1,11 +1,13 @@
-// Reading and writing many bytes by the calls of a desk, each of which may take a part of them.
+// Reading and writing many bytes by the calls of a desk, each of which may take a part of them. A call that fails ends
+// the transfer.
 
-ghost use Rattle.std.specs.Prelude.{◌≡◌, ℕ, ◌+◌, ◌<◌, ◌≤◌, List, [], ◌++◌, length, take, drop, map, IsTrue, IfOk, OnOk, OnErr, IsErrOf};
-ghost use Rattle.fv_outside.specs.Desk.{KeepsQuiet, KeepsLeftBut, HasFault, IsPrefixOf, Appends, joined};
+ghost use Rattle.std.specs.Prelude.{◌≡◌, ℕ, ◌+◌, ◌<◌, ◌≤◌, List, [], ◌++◌, length, take, drop, false, IsTrue, IsOk, IfOk, OnOk, OnErr, IsErrOf};
+ghost use Rattle.fv_base.specs.Lists.{IsPrefixOf};
+ghost use Rattle.fv_outside.specs.Desk.{KeepsQuiet, KeepsFaults, HasFault, IsUnfailing, fails_next, Appends, Takes, TakesSome, joined};
 ghost use Rattle.fv_outside.specs.declared.transfer.ReadError.TheVariants as errors;
 
 use crate::desk::{Desk, Failed};
-use crate::role::Role;
+use fv_base::Role;
 use std::alloc::{AllocError, AllocFailed, Global};
 
 /// Why bytes could not be read.
@@ -31,7 +33,94 @@ impl From<AllocError> for ReadError {
     }
 }
 
-/// The most bytes that one call is asked for.
+/// Fills `to` with the next bytes of a role, or its front with as many as are left, and says how many.
+#[tactic(auto, using(crate::proofs::States::steps))]
+pub fn fill<D: Desk>(desk: &mut D, role: Role, to: &mut [u8]) -> Result<usize, Failed>
+    ensures count { IfOk result (λ n. n ≤ length to.new) }
+    ensures taken { IfOk result (λ n. Takes role (take n to.new) (D.state desk.old) (D.state desk.new)) }
+    ensures end { IfOk result (λ n. n < length to.new → IsTrue (D.state desk.old).tells → (D.state desk.new).left role ≡ []) }
+    ensures err { OnErr result (TakesSome role (D.state desk.old) (D.state desk.new)) }
+    ensures failed { OnErr result (HasFault role (D.state desk.old) (D.state desk.new)) }
+    ensures steady { OnOk result (KeepsFaults (D.state desk.old) (D.state desk.new)) }
+    ensures answers { IsTrue (D.state desk.old).tells → IsUnfailing role (D.state desk.old) → IsOk result }
+{
+    let mut at = 0;
+    'pieces: while at < to.len() {
+        let n = fill_part(desk, role, to, at)?;
+        if n == 0 {
+            return Ok(at);
+        }
+        at += n;
+    }
+    Ok(at)
+}
+
+// Takes some bytes into `to` from place `at` on, and says how many.
+#[tactic(auto, using(crate::proofs::States::steps))]
+fn fill_part<D: Desk>(desk: &mut D, role: Role, to: &mut [u8], at: usize) -> Result<usize, Failed>
+    requires { at < length to.old }
+    ensures count { IfOk result (λ n. at + n ≤ length to.new) }
+    ensures front { take at to.new ≡ take at to.old }
+    ensures taken { IfOk result (λ n. (piece : List ℕ) × (length piece ≡ n) × (take (at + n) to.new ≡ take at to.old ++ piece)
+        × Takes role piece (D.state desk.old) (D.state desk.new)) }
+    ensures end { IfOk result (λ n. n ≡ 0 → IsTrue (D.state desk.old).tells → (D.state desk.new).left role ≡ []) }
+    ensures err { OnErr result (Takes role [] (D.state desk.old) (D.state desk.new)) }
+    ensures failed { OnErr result (HasFault role (D.state desk.old) (D.state desk.new)) }
+    ensures steady { OnOk result (KeepsFaults (D.state desk.old) (D.state desk.new)) }
+    ensures answers { IsTrue (D.state desk.old).tells → fails_next role (D.state desk.old) ≡ false → IsOk result }
+{
+    let n = desk.read(role, &mut to[at..])?;
+    Ok(n)
+}
+
+/// How many bytes are passed over by one call.
+const PIECE: usize = 4096;
+
+/// Passes over the next `count` bytes of a role, or over as many as are left, and says how many.
+#[tactic(auto, using(crate::proofs::States::steps))]
+pub fn skip<D: Desk>(desk: &mut D, role: Role, count: u64) -> Result<u64, Failed>
+    ensures count { IfOk result (λ n. n ≤ count) }
+    ensures taken { IfOk result (λ n. (bytes : List ℕ) × (length bytes ≡ n) × Takes role bytes (D.state desk.old) (D.state desk.new)) }
+    ensures end { IfOk result (λ n. n < count → IsTrue (D.state desk.old).tells → (D.state desk.new).left role ≡ []) }
+    ensures err { OnErr result (TakesSome role (D.state desk.old) (D.state desk.new)) }
+    ensures failed { OnErr result (HasFault role (D.state desk.old) (D.state desk.new)) }
+    ensures steady { OnOk result (KeepsFaults (D.state desk.old) (D.state desk.new)) }
+    ensures answers { IsTrue (D.state desk.old).tells → IsUnfailing role (D.state desk.old) → IsOk result }
+{
+    let mut piece = [0u8; PIECE];
+    let mut gone = 0;
+    'pieces: while gone < count {
+        let n = skip_part(desk, role, &mut piece, count - gone)?;
+        if n == 0 {
+            return Ok(gone);
+        }
+        gone += n;
+    }
+    Ok(gone)
+}
+
+// Passes over some of the next `most` bytes, and says how many.
+#[tactic(auto, using(crate::proofs::States::steps))]
+fn skip_part<D: Desk>(desk: &mut D, role: Role, piece: &mut [u8], most: u64) -> Result<u64, Failed>
+    requires some { 0 < most }
+    requires room { 0 < length piece.old }
+    ensures count { IfOk result (λ n. n ≤ most) }
+    ensures taken { IfOk result (λ n. (bytes : List ℕ) × (length bytes ≡ n) × Takes role bytes (D.state desk.old) (D.state desk.new)) }
+    ensures end { IfOk result (λ n. n ≡ 0 → IsTrue (D.state desk.old).tells → (D.state desk.new).left role ≡ []) }
+    ensures err { OnErr result (Takes role [] (D.state desk.old) (D.state desk.new)) }
+    ensures failed { OnErr result (HasFault role (D.state desk.old) (D.state desk.new)) }
+    ensures steady { OnOk result (KeepsFaults (D.state desk.old) (D.state desk.new)) }
+    ensures answers { IsTrue (D.state desk.old).tells → fails_next role (D.state desk.old) ≡ false → IsOk result }
+{
+    let mut want = piece.len();
+    if most < want as u64 {
+        want = most as usize;
+    }
+    let n = desk.read(role, &mut piece[..want])?;
+    Ok(n as u64)
+}
+
+/// The most bytes that are read at once into memory.
 const CHUNK: usize = 65536;
 
 /// Reads the next bytes of a role: so many, or as many as are left.
@@ -43,24 +132,28 @@ pub fn read_up_to<D: Desk>(
     count: usize,
 ) -> Result<Vec<u8>, ReadError>
     ensures quiet { KeepsQuiet (D.state desk.old) (D.state desk.new) }
+    ensures takes { IfOk result (λ v. Takes role v.items (D.state desk.old) (D.state desk.new)) }
     ensures taken { IfOk result (λ v. IsTrue (D.state desk.old).tells →
         (v.items ≡ take count ((D.state desk.old).left role)) × ((D.state desk.new).left role ≡ drop count ((D.state desk.old).left role))) }
     ensures count { IfOk result (λ v. length v.items ≤ count) }
+    ensures err { OnErr result (TakesSome role (D.state desk.old) (D.state desk.new)) }
     ensures failed { IsErrOf result ReadError.Failed → HasFault role (D.state desk.old) (D.state desk.new) }
+    ensures steady { (IsErrOf result ReadError.Failed → ⊥) → KeepsFaults (D.state desk.old) (D.state desk.new) }
+    ensures answers { IsTrue (D.state desk.old).tells → IsUnfailing role (D.state desk.old) → IsErrOf result ReadError.Failed → ⊥ }
 {
     let mut bytes = Vec::new(alloc);
     let mut chunk = vec![in alloc; 0u8; CHUNK]?;
     'chunks: while bytes.len() < count {
         let want = (count - bytes.len()).min(CHUNK);
         let n = append_next(desk, role, &mut chunk, want, &mut bytes)?;
-        if n == 0 {
+        if n < want {
             return Ok(bytes);
         }
     }
     Ok(bytes)
 }
 
-// Appends at most `want` bytes that are left to `bytes`, through the chunk, and says how many.
+// Appends the next `want` bytes to `bytes`, or as many as are left, through the chunk, and says how many.
 #[tactic(auto, using(crate::proofs::States::steps))]
 fn append_next<D: Desk>(
     desk: &mut D,
@@ -69,37 +162,18 @@ fn append_next<D: Desk>(
     want: usize,
     bytes: &mut Vec<u8>,
 ) -> Result<usize, ReadError>
-    requires some { 0 < want }
     requires room { want ≤ length chunk.old }
-    ensures quiet { KeepsQuiet (D.state desk.old) (D.state desk.new) }
     ensures count { IfOk result (λ n. (n ≤ want) × (length bytes.new.items ≡ length bytes.old.items + n)) }
-    ensures taken { IfOk result (λ n. IsTrue (D.state desk.old).tells →
-        bytes.old.items ++ (D.state desk.old).left role ≡ bytes.new.items ++ (D.state desk.new).left role) }
-    ensures end { IfOk result (λ n. IsTrue (D.state desk.old).tells → n ≡ 0 → (D.state desk.new).left role ≡ []) }
+    ensures taken { IfOk result (λ n. (piece : List ℕ) × (bytes.new.items ≡ bytes.old.items ++ piece) × Takes role piece (D.state desk.old) (D.state desk.new)) }
+    ensures end { IfOk result (λ n. n < want → IsTrue (D.state desk.old).tells → (D.state desk.new).left role ≡ []) }
+    ensures err { OnErr result (TakesSome role (D.state desk.old) (D.state desk.new)) }
     ensures failed { IsErrOf result ReadError.Failed → HasFault role (D.state desk.old) (D.state desk.new) }
+    ensures steady { (IsErrOf result ReadError.Failed → ⊥) → KeepsFaults (D.state desk.old) (D.state desk.new) }
+    ensures answers { IsTrue (D.state desk.old).tells → IsUnfailing role (D.state desk.old) → IsErrOf result ReadError.Failed → ⊥ }
 {
-    let n = read_chunk(desk, role, chunk, want)?;
+    let n = fill(desk, role, &mut chunk[..want])?;
     bytes.extend_from_slice(&chunk[..n])?;
     Ok(n)
-}
-
-// Reads at most `want` bytes into the front of the chunk.
-fn read_chunk<D: Desk>(
-    desk: &mut D,
-    role: Role,
-    chunk: &mut [u8],
-    want: usize,
-) -> Result<usize, Failed>
-    requires some { 0 < want }
-    requires room { want ≤ length chunk.old }
-    ensures quiet { KeepsQuiet (D.state desk.old) (D.state desk.new) }
-    ensures count { IfOk result (λ n. n ≤ want) }
-    ensures taken { IfOk result (λ n. IsTrue (D.state desk.old).tells →
-        (D.state desk.old).left role ≡ take n chunk.new ++ (D.state desk.new).left role) }
-    ensures end { IfOk result (λ n. IsTrue (D.state desk.old).tells → n ≡ 0 → (D.state desk.new).left role ≡ []) }
-    ensures failed { OnErr result (HasFault role (D.state desk.old) (D.state desk.new)) }
-{
-    desk.read(role, &mut chunk[..want])
 }
 
 /// Writes all the bytes, unless a call fails: then a part from their front is written.
@@ -108,6 +182,9 @@ pub fn write_all<D: Desk>(desk: &mut D, role: Role, bytes: &[u8]) -> Result<(), 
     ensures ok { OnOk result (Appends role bytes.now (D.state desk.old) (D.state desk.new)) }
     ensures err { OnErr result ((part : List ℕ) × IsPrefixOf part bytes.now × Appends role part (D.state desk.old) (D.state desk.new)) }
     ensures failed { OnErr result (HasFault role (D.state desk.old) (D.state desk.new)) }
+    ensures steady { OnOk result (KeepsFaults (D.state desk.old) (D.state desk.new)) }
+    ensures answers { IsTrue (D.state desk.old).tells → IsUnfailing role (D.state desk.old) →
+        length ((D.state desk.old).written role) + length bytes.now ≤ (D.state desk.old).room role → IsOk result }
 {
     let mut at = 0;
     'pieces: while at < bytes.len() {
@@ -123,15 +200,22 @@ fn write_part<D: Desk>(desk: &mut D, role: Role, bytes: &[u8], at: usize) -> Res
     ensures ok { IfOk result (λ n. Appends role (take n (drop at bytes.now)) (D.state desk.old) (D.state desk.new)) }
     ensures err { OnErr result (Appends role [] (D.state desk.old) (D.state desk.new)) }
     ensures failed { OnErr result (HasFault role (D.state desk.old) (D.state desk.new)) }
+    ensures steady { OnOk result (KeepsFaults (D.state desk.old) (D.state desk.new)) }
+    ensures answers { IsTrue (D.state desk.old).tells → fails_next role (D.state desk.old) ≡ false →
+        length ((D.state desk.old).written role) < (D.state desk.old).room role → IsOk result }
 {
     desk.write(role, &bytes[at..])
 }
 
 /// Writes the pieces one after another, unless a call fails: then a part from their front is written.
+#[tactic(auto, using(crate::proofs::States::steps))]
 pub fn write_pieces<D: Desk>(desk: &mut D, role: Role, pieces: &[&[u8]]) -> Result<(), Failed>
     ensures ok { OnOk result (Appends role (joined pieces.now) (D.state desk.old) (D.state desk.new)) }
     ensures err { OnErr result ((part : List ℕ) × IsPrefixOf part (joined pieces.now) × Appends role part (D.state desk.old) (D.state desk.new)) }
     ensures failed { OnErr result (HasFault role (D.state desk.old) (D.state desk.new)) }
+    ensures steady { OnOk result (KeepsFaults (D.state desk.old) (D.state desk.new)) }
+    ensures answers { IsTrue (D.state desk.old).tells → IsUnfailing role (D.state desk.old) →
+        length ((D.state desk.old).written role) + length (joined pieces.now) ≤ (D.state desk.old).room role → IsOk result }
 {
     for piece in pieces {
         write_all(desk, role, piece)?;

@@ -1,7 +1,7 @@
 ghost use Rattle.std.specs.Prelude.{◌≡◌};
 ghost use Rattle.fv_parse.specs.declared.refusal.ParseRefusal.TheVariants.{NoMemory};
 
-use fv_outside::Word;
+use fv_base::Word;
 use std::alloc::AllocError;
 
 /// Why tokens are no program. Lines and columns count from 1, and a column is one byte.

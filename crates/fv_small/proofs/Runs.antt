@@ -10,8 +10,7 @@ use Rattle.fv_grammar.specs.declared.form.Operator.{Operator}
 use Rattle.fv_grammar.specs.declared.form.Operator.TheVariants.{Infix, Parallel, Sequence}
 use Rattle.fv_grammar.specs.Tree.{Tree, Number, Negative, Wire, Primitive, Group, Binary}
 use Rattle.fv_diagram.specs.declared.node.Primitive.TheVariants as prim
-use Rattle.fv_diagram.specs.declared.node.Node.{Node}
-use Rattle.fv_diagram.specs.Arena.{tree_of}
+use Rattle.fv_diagram.specs.Arena.{Arena, tree_of}
 use Rattle.fv_small.specs.Table.{Stands}
 use Rattle.fv_diagram.specs.Diagram.{Diagram, Par, Seq, control_bound, HasNoDelay, HasNoFreeSlot}
 use Rattle.fv_diagram.specs.Diagram.{Primitive as Leaf, Constant as Integer}
@@ -72,5 +71,5 @@ small_runs (Group s x) d e = small_runs x d e
 small_runs (Binary s o x y) d e = both_runs o (diagram_of x) (diagram_of y) d (λ z h. small_runs x z h) (λ z h. small_runs y z h) e
 small_runs x d e = absurd (none-some d e)
 
-pub part_runs : (nodes : List Node) (x : Tree) (found : Option ℕ) (id : ℕ) → Stands nodes (diagram_of x) found → found ≡ Some id → Runs (tree_of nodes id)
+pub part_runs : (nodes : Arena) (x : Tree) (found : Option ℕ) (id : ℕ) → Stands nodes (diagram_of x) found → found ≡ Some id → Runs (tree_of nodes id)
 part_runs nodes x found id s e = small_runs x (tree_of nodes id) (subst (Stands nodes (diagram_of x)) e s).1

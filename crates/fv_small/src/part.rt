@@ -1,11 +1,11 @@
 // Diagrams of parts. `None` stands for one that is ill formed or too large.
 
-ghost use Rattle.std.specs.Prelude.{◌≡◌, length, Some, IfOk, neg_ℤ, pos};
+ghost use Rattle.std.specs.Prelude.{◌≡◌, Some, IfOk, neg_ℤ, pos};
 ghost use Rattle.fv_arity.specs.Compositions.{HasWellFormedParts};
 ghost use Rattle.fv_diagram.specs.declared.node.Primitive.TheVariants as prim;
 ghost use Rattle.fv_diagram.specs.Diagram.{Par, Seq};
 ghost use Rattle.fv_diagram.specs.Diagram.{Primitive as Leaf};
-ghost use Rattle.fv_diagram.specs.Arena.{tree_in, trees, tree_of, ChildrenBelow};
+ghost use Rattle.fv_diagram.specs.Arena.{count_of, tree_with, tree_of, ChildrenBelow};
 ghost use Rattle.fv_small.specs.Small.{operation, point, operated, joined, literal};
 ghost use Rattle.fv_small.specs.Small.{primitive as primitive_of};
 ghost use Rattle.fv_small.specs.Table.{IsPart, MayStand, Finds, FindsBoth};
@@ -18,9 +18,9 @@ use std::alloc::AllocError;
 
 /// Adds a node over parts.
 fn put(diagrams: &mut Diagrams, node: &Node) -> Result<Option<DiagramId>, AllocError>
-    requires children { ChildrenBelow (length diagrams.old) node.now }
-    requires parts { HasWellFormedParts (tree_in (trees diagrams.old) node.now) }
-    ensures { IfOk result (λ o. Finds diagrams.old diagrams.new (Some (tree_in (trees diagrams.old) node.now)) o) }
+    requires children { ChildrenBelow (count_of diagrams.old) node.now }
+    requires parts { HasWellFormedParts (tree_with diagrams.old node.now) }
+    ensures { IfOk result (λ o. Finds diagrams.old diagrams.new (Some (tree_with diagrams.old node.now)) o) }
 {
     match arity_of(diagrams, *node) {
         Err(_) => Ok(None),

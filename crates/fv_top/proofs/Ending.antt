@@ -2,8 +2,9 @@
 use Rattle.std.proofs.Common.{◌≡◌, ◌≢◌, ◌⊎◌, ℕ, ◌+◌, ◌%◌, ◌^◌, List, [], ◌++◌, sym, ◌∙◌, ap, subst, refl, inl, inr, append_assoc}
 use Rattle.std.specs.Prelude.{IsTrue, Ok, Err, OnOk, OnErr, Result}
 use Rattle.fv_outside.specs.declared.desk.Failed.{Failed}
-use Rattle.fv_outside.specs.declared.role.Role.TheVariants.{Output, Report}
-use Rattle.fv_outside.specs.Desk.{DeskState, GoesOn, KeepsQuiet, HasFault, IsPrefixOf, Appends}
+use Rattle.fv_base.specs.declared.role.Role.TheVariants.{Output, Report}
+use Rattle.fv_base.specs.Lists.{IsPrefixOf}
+use Rattle.fv_outside.specs.Desk.{DeskState, GoesOn, KeepsQuiet, HasFault, Appends}
 use Rattle.fv_outside.proofs.States.{goes_on_then, fault_earlier, fault_later, told_before}
 use Rattle.fv_top.specs.declared.refusal.Cause.{Cause}
 use Rattle.fv_top.specs.declared.status.Tally.{Tally}

@@ -1,7 +1,7 @@
 -- Why loading stops.
 use Rattle.std.proofs.Common.{◌≡◌, ◌⊎◌, ℕ, List, sym, subst, inl, inr}
 use Rattle.std.specs.Prelude.{IsTrue}
-use Rattle.fv_outside.specs.declared.role.Role.{Role}
+use Rattle.fv_base.specs.declared.role.Role.{Role}
 use Rattle.fv_outside.specs.Desk.{DeskState}
 use Rattle.fv_top.specs.declared.refusal.Refusal.{Refusal}
 use Rattle.fv_top.specs.declared.refusal.Refusal.TheVariants.{Unsupported, NoMemory}

@@ -2,7 +2,7 @@
 use Rattle.std.proofs.Common.{◌≡◌, ℕ, ◌/◌, List, [], ◌∷◌, length, take, drop, map, ℤ, ◌∙◌, ap, arith, subst, inl, inr}
 use Rattle.std.specs.Prelude.{IsTrue, codes, Some}
 use Rattle.std.proofs.lemmas.List.{length-take, length-drop}
-use Rattle.fv_outside.specs.declared.role.Role.TheVariants.{Program, Input}
+use Rattle.fv_base.specs.declared.role.Role.TheVariants.{Program, Input}
 use Rattle.fv_outside.specs.Desk.{DeskState, File, file_named, KeepsQuiet}
 use Rattle.fv_outside.proofs.States.{fault_earlier, told_before}
 use Rattle.fv_num.specs.Frames.{Frame}

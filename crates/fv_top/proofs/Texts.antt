@@ -4,7 +4,7 @@ use Rattle.std.specs.Prelude.{Result}
 use Rattle.std.proofs.lemmas.List.{take_all, length-take}
 use Rattle.fv_diagram.specs.Diagram.{Diagram}
 use Rattle.fv_lex.specs.declared.refusal.LexRefusal.{LexRefusal}
-use Rattle.fv_outside.specs.declared.role.Role.TheVariants.{Program}
+use Rattle.fv_base.specs.declared.role.Role.TheVariants.{Program}
 use Rattle.fv_lex.specs.declared.refusal.LexRefusal.TheVariants.{TextTooLong}
 use Rattle.fv_lex.specs.Token.{Lexed}
 use Rattle.fv_lex.specs.Cuts.{Has, too_long, cut, longest_text}

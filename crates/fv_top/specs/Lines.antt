@@ -1,7 +1,7 @@
 -- The line that a run appends to the report.
 use Rattle.std.specs.Prelude.{ℕ, List, [], ◌∷◌, ◌++◌, flat_map, codes, decimal}
-use Rattle.fv_outside.specs.declared.role.Role.{Role}
-use Rattle.fv_outside.specs.declared.role.Role.TheVariants.{Program, Input, Controls, Output, Report}
+use Rattle.fv_base.specs.declared.role.Role.{Role}
+use Rattle.fv_base.specs.declared.role.Role.TheVariants.{Program, Input, Controls, Output, Report}
 use Rattle.fv_top.specs.declared.refusal.Cause.{Cause}
 use Rattle.fv_top.specs.declared.refusal.Cause.TheVariants.{Form, Same}
 use Rattle.fv_top.specs.declared.refusal.Refusal.{Refusal}

@@ -1,6 +1,6 @@
 -- Why a program or an input could not be loaded.
 use Rattle.std.specs.Prelude.{◌≡◌, ◌⊎◌, ℕ, IsTrue, List, Some}
-use Rattle.fv_outside.specs.declared.role.Role.{Role}
+use Rattle.fv_base.specs.declared.role.Role.{Role}
 use Rattle.fv_outside.specs.Desk.{DeskState, file_named, HasFault}
 use Rattle.fv_outside.specs.declared.transfer.ReadError.{ReadError}
 use Rattle.fv_outside.specs.declared.transfer.ReadError.TheVariants.{Failed, NoMemory as OutOfMemory}

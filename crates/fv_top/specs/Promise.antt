@@ -1,8 +1,9 @@
 -- What a run promises.
 use Rattle.std.specs.Prelude.{◌≡◌, ◌⊎◌, ℕ, ◌/◌, ◌+◌, ◌%◌, ◌^◌, IsTrue, List, [], ◌++◌, take, Some, Ok, Err, codes}
-use Rattle.fv_outside.specs.declared.role.Role.{Role}
-use Rattle.fv_outside.specs.declared.role.Role.TheVariants.{Output, Report}
-use Rattle.fv_outside.specs.Desk.{DeskState, File, file_named, HasFault, IsPrefixOf}
+use Rattle.fv_base.specs.declared.role.Role.{Role}
+use Rattle.fv_base.specs.declared.role.Role.TheVariants.{Output, Report}
+use Rattle.fv_base.specs.Lists.{IsPrefixOf}
+use Rattle.fv_outside.specs.Desk.{DeskState, File, file_named, HasFault}
 use Rattle.fv_diagram.specs.Diagram.{Diagram}
 use Rattle.fv_top.specs.declared.status.Tally.{Tally}
 use Rattle.fv_top.specs.declared.refusal.Refusal.{Refusal}

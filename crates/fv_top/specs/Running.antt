@@ -1,8 +1,9 @@
 -- How the parts of a run end.
 use Rattle.std.specs.Prelude.{◌≡◌, ◌⊎◌, ℕ, IsTrue, List, [], ◌++◌}
-use Rattle.fv_outside.specs.declared.role.Role.{Role}
-use Rattle.fv_outside.specs.declared.role.Role.TheVariants.{Output, Report}
-use Rattle.fv_outside.specs.Desk.{DeskState, GoesOn, HasFault, IsPrefixOf, Appends}
+use Rattle.fv_base.specs.declared.role.Role.{Role}
+use Rattle.fv_base.specs.declared.role.Role.TheVariants.{Output, Report}
+use Rattle.fv_base.specs.Lists.{IsPrefixOf}
+use Rattle.fv_outside.specs.Desk.{DeskState, GoesOn, HasFault, Appends}
 use Rattle.fv_top.specs.declared.refusal.Refusal.{Refusal}
 use Rattle.fv_top.specs.declared.refusal.Refusal.TheVariants.{ReadFault, WriteFault, NoMemory}
 use Rattle.fv_top.specs.Lines.{refused_line, done_line}

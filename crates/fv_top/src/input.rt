@@ -3,7 +3,7 @@
 ghost use Rattle.std.specs.Prelude.{◌≡◌, ℕ, ◌+◌, ◌%◌, ◌<◌, ◌≤◌, ◌==◌, ◌&&◌, List, length, take, drop, codes, IsTrue, IfOk, IfErr, IsErrOf, slice_range};
 ghost use Rattle.std.specs.Int.{from_le_bytes};
 ghost use Rattle.std.proofs.Common.{w32};
-ghost use Rattle.fv_outside.specs.declared.role.Role.TheVariants.{Input as input_role};
+ghost use Rattle.fv_base.specs.declared.role.Role.TheVariants.{Input as input_role};
 ghost use Rattle.fv_outside.specs.declared.transfer.ReadError.TheVariants as errors;
 ghost use Rattle.fv_outside.specs.Desk.{KeepsQuiet, HasFault};
 ghost use Rattle.fv_top.specs.declared.refusal.Refusal.TheVariants.{Unsupported};

@@ -1,8 +1,9 @@
 // The lines of the report.
 
 ghost use Rattle.std.specs.Prelude.{◌≡◌, List, ℕ, ◌++◌, codes, decimal, OnOk, OnErr};
-ghost use Rattle.fv_outside.specs.declared.role.Role.TheVariants.{Report};
-ghost use Rattle.fv_outside.specs.Desk.{HasFault, IsPrefixOf, Appends};
+ghost use Rattle.fv_base.specs.declared.role.Role.TheVariants.{Report};
+ghost use Rattle.fv_base.specs.Lists.{IsPrefixOf};
+ghost use Rattle.fv_outside.specs.Desk.{HasFault, Appends};
 ghost use Rattle.fv_top.specs.Lines.{role_word, cause_word, name_of, place_fields, fields_of, refused_line, done_line};
 ghost use Rattle.fv_top.specs.Fields.{listed};
 

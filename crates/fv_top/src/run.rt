@@ -1,7 +1,7 @@
 // The one call that does all that the command does.
 
 ghost use Rattle.std.specs.Prelude.{◌≡◌, ◌++◌, map, string_bytes, IsTrue, IfOk, IfErr, OnOk, OnErr};
-ghost use Rattle.fv_outside.specs.declared.role.Role.TheVariants.{Output, Report};
+ghost use Rattle.fv_base.specs.declared.role.Role.TheVariants.{Output, Report};
 ghost use Rattle.fv_outside.specs.Desk.{GoesOn, KeepsQuiet};
 ghost use Rattle.fv_top.specs.Lines.{done_line};
 ghost use Rattle.fv_top.specs.Promise.{Plays, played_file, played_frames, HasBegun, IfDone, IfRefused, HasPlayed, HasCause, LeavesOutput, Reports, IsComplete, IsStrict, IsExact};

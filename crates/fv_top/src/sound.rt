@@ -4,7 +4,7 @@ ghost use Rattle.std.specs.Prelude.{◌≡◌, ◌+◌, ◌*◌, ◌/◌, ◌%�
 ghost use Rattle.std.specs.Int.{cast_signed, from_le_bytes};
 ghost use Rattle.std.proofs.Common.{w16};
 ghost use Rattle.fv_diagram.specs.Diagram.{inputs, outputs, control_bound, HasNoDelay, HasNoFreeSlot, IsWellFormed};
-ghost use Rattle.fv_diagram.specs.Arena.{tree_of};
+ghost use Rattle.fv_diagram.specs.Arena.{count_of, tree_of};
 ghost use Rattle.fv_diagram.specs.Streams.{run};
 ghost use Rattle.fv_top.specs.Controls.{control_streams};
 ghost use Rattle.fv_top.specs.Wave.{head_bytes, sample_bytes, frame_bytes, output_file, no_slots, samples_in, le16, le32, data_limit};
@@ -17,7 +17,7 @@ use std::alloc::{AllocError, Global};
 
 /// The bytes of the output file of a program on an input.
 pub fn render(alloc: Global, program: &Program, input: &Input) -> Result<Vec<u8>, AllocError>
-    requires root { program.now.root < length program.now.diagrams }
+    requires root { program.now.root < count_of program.now.diagrams }
     requires delays { HasNoDelay (tree_of program.now.diagrams program.now.root) }
     requires well { IsWellFormed (tree_of program.now.diagrams program.now.root) }
     requires closed { HasNoFreeSlot (tree_of program.now.diagrams program.now.root) }
@@ -84,7 +84,7 @@ fn push_frames(
     bytes: &[u8],
     file: &mut Vec<u8>,
 ) -> Result<(), AllocError>
-    requires root { program.now.root < length program.now.diagrams }
+    requires root { program.now.root < count_of program.now.diagrams }
     requires delays { HasNoDelay (tree_of program.now.diagrams program.now.root) }
     requires well { IsWellFormed (tree_of program.now.diagrams program.now.root) }
     requires closed { HasNoFreeSlot (tree_of program.now.diagrams program.now.root) }

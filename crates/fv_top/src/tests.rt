@@ -269,19 +269,20 @@ fn limits_the_text(rt: HostRuntime) -> Result<(), Fail> {
 
 #[test]
 fn names_what_failed(rt: HostRuntime) -> Result<(), Fail> {
-    let rows: [(Role, u8, &[u8]); 4] = [
-        (Role::Program, 1, b"refused 2 ReadFault program\n"),
-        (Role::Input, 1, b"refused 2 ReadFault input\n"),
-        (Role::Output, 1, b"refused 3 WriteFault output\n"),
-        (Role::Report, 1, b"refused 3 WriteFault report\n"),
+    let rows: [(Role, u32, u8, &[u8]); 4] = [
+        (Role::Program, 3, 1, b"refused 2 ReadFault program\n"),
+        (Role::Input, 3, 1, b"refused 2 ReadFault input\n"),
+        (Role::Output, 2, 1, b"refused 3 WriteFault output\n"),
+        (Role::Report, 3, 1, b"refused 3 WriteFault report\n"),
     ];
-    for (role, status, line) in rows {
+    for (role, calls, status, line) in rows {
         for call in 0..20 {
             let mut desk = desk_of(rt.alloc(), b"process = _;", &THREE)?;
             desk.fail(role, call)?;
             let ended = status_of(&rt, rt.alloc(), &mut desk, &WORDS)?;
             assert!(rt; THREE.starts_with(desk.written(Role::Output)));
             if ended == 0 {
+                assert_eq!(rt; call, calls);
                 assert_eq!(rt; desk.written(Role::Output), THREE.as_slice());
                 assert_eq!(rt; desk.written(Role::Report), b"done 3 frames\n".as_slice());
                 break;

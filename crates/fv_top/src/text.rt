@@ -1,7 +1,7 @@
 // A program's text: its tokens, their tree, and the tree's diagram.
 
 ghost use Rattle.std.specs.Prelude.{◌≡◌, ◌⊎◌, ◌<◌, length, IfOk, IfErr};
-ghost use Rattle.fv_diagram.specs.Arena.{tree_of};
+ghost use Rattle.fv_diagram.specs.Arena.{count_of, tree_of};
 ghost use Rattle.fv_diagram.specs.Diagram.{control_bound, HasNoDelay, HasNoFreeSlot};
 ghost use Rattle.fv_top.specs.declared.refusal.Refusal.TheVariants.{NoMemory};
 ghost use Rattle.fv_top.specs.Loading.{IsUnsupportedOrNoMemory};
@@ -33,7 +33,7 @@ pub fn one_program()
 pub fn read_program(alloc: Global, text: &[u8]) -> Result<Program, Refusal>
     // What is answered is the text's program, a node of the arena.
     ensures found { IfOk result (λ p. IsProgram text.now (tree_of p.diagrams p.root)) }
-    ensures root { IfOk result (λ p. p.root < length p.diagrams) }
+    ensures root { IfOk result (λ p. p.root < count_of p.diagrams) }
     // A runner may be made of it.
     ensures delays { IfOk result (λ p. HasNoDelay (tree_of p.diagrams p.root)) }
     ensures controls { IfOk result (λ p. control_bound (tree_of p.diagrams p.root) ≡ 0) }

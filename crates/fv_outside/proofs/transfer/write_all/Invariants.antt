@@ -1,5 +1,5 @@
 use Rattle.std.proofs.Common.{◌-◌, ◌≤◌, take, length}
-use Rattle.fv_outside.specs.Desk.{Appends}
+use Rattle.fv_outside.specs.Desk.{Appends, KeepsFaults}
 use Rattle.fv_outside.proofs.transfer.write_all.Given as goal
 
 -- the bytes up to here are written
@@ -9,6 +9,7 @@ invariant-pieces g l =
     record {
       within : l.at ≤ length l.bytes;
       written : Appends l.role (take l.at l.bytes) (state l.fn.desk) (state l.desk);
+      steady : KeepsFaults (state l.fn.desk) (state l.desk);
     }
 
 abbrev pub decreases-pieces : goal.decreases-pieces

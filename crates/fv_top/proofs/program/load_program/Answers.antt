@@ -1,6 +1,6 @@
 use Rattle.std.proofs.Common.{◌∙◌, ap, Some}
 use Rattle.std.proofs.lemmas.Result.{err_from_is_err_and}
-use Rattle.fv_outside.specs.declared.role.Role.TheVariants.{Program}
+use Rattle.fv_base.specs.declared.role.Role.TheVariants.{Program}
 use Rattle.fv_top.specs.Program.{IsRefusedText}
 use Rattle.fv_top.specs.Promise.{HasNoProgram}
 use Rattle.fv_top.proofs.Texts.{whole_text, whole_refused}

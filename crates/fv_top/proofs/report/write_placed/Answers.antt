@@ -1,7 +1,7 @@
 use Rattle.std.proofs.Common.{◌∙◌, subst}
 use Rattle.std.specs.Prelude.{decimal}
 use Rattle.std.proofs.lemmas.Result.{on_err_weaker}
-use Rattle.fv_outside.specs.Desk.{IsPrefixOf}
+use Rattle.fv_base.specs.Lists.{IsPrefixOf}
 use Rattle.fv_top.proofs.PlacedLines.{placed_line}
 use Rattle.fv_top.proofs.report.write_placed.Goals as goal
 

@@ -7,4 +7,4 @@ invariant_of-self c =
 
 pub returns-clause-goes_on : goal.returns-clause-goes_on
 returns-clause-goes_on c =
-    GoesOn-set _ _ _ _ c.read.new.self c.args.self.now c.self.view_is c.self.invariant c.place_of.ensures.bound c.read.ensures.faults
+    GoesOn-set _ _ _ _ c.read.new.self _ _ c.args.self.now c.self.view_is c.self.invariant c.place_of.ensures.bound c.read.ensures.goes_on
