@@ -1,6 +1,6 @@
 use Rattle.std.proofs.Common.{rules, ◌≡◌, ◌∙◌, ◌<◌, ℕ, [], List, length, ap, sym, subst}
 use Rattle.fv_num.specs.Words.{argument}
-use Rattle.fv_num.proofs.Lists.{length_table}
+use Rattle.fv_base.proofs.Lists.{length_table}
 use Rattle.fv_loopcode.specs.Lanes.{Lane}
 use Rattle.fv_loopcode.specs.Code.{ran, frame_of}
 use Rattle.fv_pool.specs.Lengths.{lengths_of}
