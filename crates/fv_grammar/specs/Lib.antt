@@ -3,3 +3,4 @@ pub mod Tree
 pub mod Grammar
 pub mod Nesting
 pub mod Descent
+pub mod Laws

@@ -45,18 +45,18 @@ fn only_in(node: &TreeNode) -> Option<TreeId>
     }
 }
 
-/// The name and the right side of a definition without parameters.
-fn constant_in(node: &TreeNode) -> Option<(u64, TreeId)>
+/// The name and the number of the right side of a definition without parameters.
+fn constant_in(node: &TreeNode) -> Option<(u64, u64)>
     ensures { result ≡ constant_in node.now }
 {
     match node {
-        TreeNode::Constant(name, x) => Some((*name, *x)),
+        TreeNode::Constant(name, x) => Some((*name, x.number())),
         _ => None,
     }
 }
 
-/// The one definition of a program, if it is of `process`, and its right side.
-fn definition(tree: &Tree) -> Option<(TreeId, TreeId)>
+/// The number of the one definition of a program, if it is of `process`, and that of its right side.
+fn definition(tree: &Tree) -> Option<(u64, u64)>
     ensures { MatchOption result (IsNotOne tree.now) (λ x. IsOne tree.now x.0 x.1) }
 {
     let Some(definition) = only_in(tree.node(tree.root())) else {
@@ -66,7 +66,7 @@ fn definition(tree: &Tree) -> Option<(TreeId, TreeId)>
         return None;
     };
     if tree.is_process(name) {
-        Some((definition, expression))
+        Some((definition.number(), expression))
     } else {
         None
     }
@@ -87,8 +87,8 @@ pub fn small_program(alloc: Global, tree: &Tree) -> Result<Option<Program>, Allo
         return Ok(None);
     };
     let mut diagrams = Diagrams::new(alloc);
-    let parts = table(alloc, tree, &mut diagrams, definition.0)?;
-    let Some(root) = part_at(&parts, expression) else {
+    let parts = table(alloc, tree, &mut diagrams, definition)?;
+    let Some(root) = part_at(&parts, TreeId::new(expression)) else {
         return Ok(None);
     };
     let arity = diagrams.arity(root);

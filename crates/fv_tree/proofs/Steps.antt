@@ -9,14 +9,15 @@ use Rattle.fv_grammar.specs.declared.symbol.Items.{Items}
 use Rattle.fv_tree.specs.declared.node.TreeId.{TreeId}
 use Rattle.fv_tree.specs.declared.arena.Entry.{Entry}
 use Rattle.fv_tree.specs.declared.single.Fault.{Fault}
-use Rattle.fv_grammar.specs.Tree.{Tree}
+use Rattle.fv_grammar.specs.Tree.{Tree, End}
 use Rattle.fv_grammar.specs.Symbols.{is_left}
 use Rattle.fv_grammar.specs.Descent.{Step, ◌>>=◌, run, chain, Reader, rank_at, operand, phrase, left_turn, descend, within, further, item}
 use Rattle.fv_grammar.proofs.Complete.{lower}
 use Rattle.fv_grammar.proofs.Loops.{chain_next, chain_done, all_of}
 use Rattle.fv_tree.specs.Arena.{tree_at, trees}
 use Rattle.fv_tree.specs.Gives.{Fails, Gives, Found, Operates, in_front}
-use Rattle.fv_tree.proofs.Arenas.{Keeps-trans, fails_by, by_operator}
+use Rattle.fv_tree.proofs.Arenas.{fails_by, by_operator}
+use Rattle.fv_base.proofs.Arena.{keeps_trans}
 
 -- ---- brackets
 pub no_room : (room : ℕ) (what : Inside) (ts : List Symbol) → room ≡ 0 → within room what ts ≡ Err ts
@@ -57,7 +58,7 @@ left_fails inner pattern comma h ts e some low f = fails_by e (phrase inner patt
 left_found : (inner : Reader) (pattern comma : Bool) (h : ℕ) (old mid new : List Tree) (ts rest end : List Symbol) (first id : TreeId) → 0 < h → h ≤ 5 → Found old mid first rest (phrase inner pattern comma (h - 1) ts)
     → Found mid new id end (run (left_turn (phrase inner pattern comma (h - 1)) pattern comma (h + 1) (length ts)) (tree_at mid first) rest) → Found old new id end (phrase inner pattern comma h ts)
 left_found inner pattern comma h old mid new ts rest end first id some low f g = record {
-  keeps = Keeps-trans old mid new f.keeps g.keeps;
+  keeps = keeps_trans End old mid new f.keeps g.keeps;
   inside = g.inside;
   is = phrase_left inner pattern comma h ts some low ∙ rw f.is g.is;
 }

@@ -18,7 +18,7 @@ Fails (faults.Syntax at) read = read ≡ Err at.now
 -- the tree was found, and those before it are still there
 pub record Found (old new : List Tree) (id : TreeId) (rest : List Symbol) (read : Step Tree) : Type 0 where
   pub keeps : Keeps old new
-  pub inside : id.0 < length new
+  pub inside : id < length new
   pub is : read ≡ Ok (tree_at new id, rest)
 
 abbrev pub Gives : {X : Type 0} → (X → TreeId) → (X → List Symbol) → List Entry → List Entry → Result X Fault → Step Tree → Type 0
@@ -33,7 +33,7 @@ Takes view (Err e) read = Fails e read
 -- one turn of a loop
 pub record Turned (old new : List Tree) (id : TreeId) (rest : List Symbol) (t : Turn) : Type 0 where
   pub keeps : Keeps old new
-  pub inside : id.0 < length new
+  pub inside : id < length new
   pub is : t ≡ Next (tree_at new id) rest
 
 abbrev pub Stays : Fault → Turn → Type 0
@@ -48,7 +48,7 @@ GivesTurn id rest old new (Err e) t = Stays e t
 -- what was found of a list's further items: a tree, or what is passed over
 abbrev pub FoundItem : List Tree → List Tree → Option TreeId → List Symbol → Item → Type 0
 FoundItem old new None rest i = i ≡ Skip rest
-FoundItem old new (Some id) rest i = (id.0 < length new) × (i ≡ One (tree_at new id) rest)
+FoundItem old new (Some id) rest i = (id < length new) × (i ≡ One (tree_at new id) rest)
 
 pub record Itemized (old new : List Tree) (found : Option TreeId) (rest : List Symbol) (i : Item) : Type 0 where
   pub keeps : Keeps old new
@@ -94,5 +94,5 @@ IsAfter rest test tokens (Some x) = Passes test tokens (rest x)
 
 -- a whole text: the root's tree is what reading gives
 abbrev pub Reads : {X : Type 0} → (X → List Entry) → (X → TreeId) → Result X Fault → Result Tree (List Symbol) → Type 0
-Reads entries root (Ok x) read = (read ≡ Ok (tree_at (trees (entries x)) (root x))) × ((root x).0 < length (trees (entries x)))
+Reads entries root (Ok x) read = (read ≡ Ok (tree_at (trees (entries x)) (root x))) × (root x < length (entries x))
 Reads entries root (Err e) read = Fails e read

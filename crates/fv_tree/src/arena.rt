@@ -1,7 +1,7 @@
 ghost use Rattle.std.specs.Prelude.{◌≡◌, [], IfOk, length};
-ghost use Rattle.fv_tree.specs.Arena.{trees, Adds, PartsBelow, AreOver};
+ghost use Rattle.fv_tree.specs.Arena.{trees, Adds, PartsBelow, AreBuilt};
 
-use crate::node::{TreeId, TreeNode};
+use crate::node::TreeNode;
 use std::alloc::{AllocError, Global};
 use std::marker::Model;
 
@@ -30,7 +30,7 @@ impl Model for Arena {
 
     ghost view = { λ a. a.entries.items };
 
-    ghost invariant = { λ a. AreOver 0 a.entries.items };
+    ghost invariant = { λ a. AreOver a.entries.items };
 }
 
 impl Arena {
@@ -42,23 +42,23 @@ impl Arena {
         }
     }
 
-    /// Adds a node.
-    pub(crate) fn push(&mut self, node: TreeNode, start: usize) -> Result<TreeId, AllocError>
+    /// Adds a node, and answers its number.
+    pub(crate) fn push(&mut self, node: TreeNode, start: usize) -> Result<u64, AllocError>
         requires { PartsBelow (length (trees self.old)) node }
         ensures { IfOk result (λ id. Adds (trees self.old) (trees self.new) id node start) }
     {
-        let id = TreeId(self.entries.len() as u64);
+        let number = self.entries.len() as u64;
         self.entries.push(Entry {
             node,
             start: start as u64,
         })?;
-        Ok(id)
+        Ok(number)
     }
 
     /// The nodes, in order.
     pub fn into_entries(self) -> Vec<Entry>
         ensures same { result.items ≡ self }
-        ensures over { AreOver 0 result.items }
+        ensures built { AreBuilt result.items }
     {
         self.entries
     }

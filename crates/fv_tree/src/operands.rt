@@ -28,7 +28,7 @@ pub(crate) fn inside<'a>(
     room: usize,
     what: Inside,
     tokens: &'a [Symbol],
-) -> Result<(TreeId, &'a [Symbol]), Fault<'a>>
+) -> Result<(u64, &'a [Symbol]), Fault<'a>>
     ensures is { Gives (λ x. x.0) (λ x. x.1.now) arena.old arena.new result (within room what tokens.now) }
     ensures shorter { IfOk result (λ x. length x.1.now ≤ length tokens.now) }
 {
@@ -62,7 +62,7 @@ pub(crate) fn enclosed<'a>(
     room: usize,
     what: Inside,
     tokens: &'a [Symbol],
-) -> Result<(TreeId, &'a [Symbol]), Fault<'a>>
+) -> Result<(u64, &'a [Symbol]), Fault<'a>>
     ensures is { Gives (λ x. x.0) (λ x. x.1.now) arena.old arena.new result (enclosed (within room) what tokens.now) }
     ensures shorter { IfOk result (λ x. length x.1.now < length tokens.now) }
 {
@@ -78,7 +78,7 @@ fn argument<'a>(
     alloc: Global,
     room: usize,
     tokens: &'a [Symbol],
-) -> Result<(TreeId, &'a [Symbol]), Fault<'a>>
+) -> Result<(u64, &'a [Symbol]), Fault<'a>>
     ensures is { Gives (λ x. x.0) (λ x. x.1.now) arena.old arena.new result (argument (within room) tokens.now) }
     ensures shorter { IfOk result (λ x. length x.1.now < length tokens.now) }
 {
@@ -94,12 +94,12 @@ fn group<'a>(
     room: usize,
     start: usize,
     tokens: &'a [Symbol],
-) -> Result<(TreeId, &'a [Symbol]), Fault<'a>>
+) -> Result<(u64, &'a [Symbol]), Fault<'a>>
     ensures is { Gives (λ x. x.0) (λ x. x.1.now) arena.old arena.new result (group (within room) start tokens.now) }
     ensures shorter { IfOk result (λ x. length x.1.now < length tokens.now) }
 {
     let (tree, rest) = enclosed(arena, alloc, room, Inside::Expression, tokens)?;
-    Ok((arena.push(TreeNode::Group(tree), start)?, rest))
+    Ok((arena.push(TreeNode::Group(TreeId::new(tree)), start)?, rest))
 }
 
 #[tactic(auto, unfolding(fv_grammar::specs::Descent::abstraction))]
@@ -110,7 +110,7 @@ fn abstraction<'a>(
     room: usize,
     start: usize,
     tokens: &'a [Symbol],
-) -> Result<(TreeId, &'a [Symbol]), Fault<'a>>
+) -> Result<(u64, &'a [Symbol]), Fault<'a>>
     ensures is { Gives (λ x. x.0) (λ x. x.1.now) arena.old arena.new result (abstraction (within room) start tokens.now) }
     ensures shorter { IfOk result (λ x. length x.1.now < length tokens.now) }
 {
@@ -121,7 +121,7 @@ fn abstraction<'a>(
     let rest = opening(rest)?;
     let (body, rest) = enclosed(arena, alloc, room, Inside::Expression, rest)?;
     Ok((
-        arena.push(TreeNode::Abstraction(parameters, body), start)?,
+        arena.push(TreeNode::Abstraction(parameters, TreeId::new(body)), start)?,
         rest,
     ))
 }
@@ -134,14 +134,14 @@ fn case_of<'a>(
     room: usize,
     start: usize,
     tokens: &'a [Symbol],
-) -> Result<(TreeId, &'a [Symbol]), Fault<'a>>
+) -> Result<(u64, &'a [Symbol]), Fault<'a>>
     ensures is { Gives (λ x. x.0) (λ x. x.1.now) arena.old arena.new result (case_of (within room) start tokens.now) }
     ensures shorter { IfOk result (λ x. length x.1.now < length tokens.now) }
 {
     let rest = open_brace(tokens)?;
     let (rules, rest) = inside(arena, alloc, room, Inside::Rules, rest)?;
     let rest = close_brace(rest)?;
-    Ok((arena.push(TreeNode::Case(rules), start)?, rest))
+    Ok((arena.push(TreeNode::Case(TreeId::new(rules)), start)?, rest))
 }
 
 #[tactic(auto, unfolding(fv_grammar::specs::Descent::iteration))]
@@ -153,7 +153,7 @@ fn iteration<'a>(
     start: usize,
     kind: Iteration,
     tokens: &'a [Symbol],
-) -> Result<(TreeId, &'a [Symbol]), Fault<'a>>
+) -> Result<(u64, &'a [Symbol]), Fault<'a>>
     ensures is { Gives (λ x. x.0) (λ x. x.1.now) arena.old arena.new result (iteration (within room) start kind tokens.now) }
     ensures shorter { IfOk result (λ x. length x.1.now < length tokens.now) }
 {
@@ -163,7 +163,10 @@ fn iteration<'a>(
     let (count, rest) = argument(arena, alloc, room, rest)?;
     let (body, rest) = enclosed(arena, alloc, room, Inside::Expression, rest)?;
     Ok((
-        arena.push(TreeNode::Iteration(kind, index, count, body), start)?,
+        arena.push(
+            TreeNode::Iteration(kind, index, TreeId::new(count), TreeId::new(body)),
+            start,
+        )?,
         rest,
     ))
 }
@@ -177,13 +180,16 @@ fn ports<'a>(
     start: usize,
     side: Side,
     tokens: &'a [Symbol],
-) -> Result<(TreeId, &'a [Symbol]), Fault<'a>>
+) -> Result<(u64, &'a [Symbol]), Fault<'a>>
     ensures is { Gives (λ x. x.0) (λ x. x.1.now) arena.old arena.new result (ports (within room) start side tokens.now) }
     ensures shorter { IfOk result (λ x. length x.1.now < length tokens.now) }
 {
     let rest = opening(tokens)?;
     let (tree, rest) = enclosed(arena, alloc, room, Inside::Expression, rest)?;
-    Ok((arena.push(TreeNode::Ports(side, tree), start)?, rest))
+    Ok((
+        arena.push(TreeNode::Ports(side, TreeId::new(tree)), start)?,
+        rest,
+    ))
 }
 
 #[tactic(auto, unfolding(fv_grammar::specs::Descent::slider))]
@@ -195,7 +201,7 @@ fn slider<'a>(
     start: usize,
     kind: Slider,
     tokens: &'a [Symbol],
-) -> Result<(TreeId, &'a [Symbol]), Fault<'a>>
+) -> Result<(u64, &'a [Symbol]), Fault<'a>>
     ensures is { Gives (λ x. x.0) (λ x. x.1.now) arena.old arena.new result (slider (within room) start kind tokens.now) }
     ensures shorter { IfOk result (λ x. length x.1.now < length tokens.now) }
 {
@@ -205,7 +211,17 @@ fn slider<'a>(
     let (max, rest) = argument(arena, alloc, room, rest)?;
     let (step, rest) = enclosed(arena, alloc, room, Inside::Argument, rest)?;
     Ok((
-        arena.push(TreeNode::Slider(kind, text, init, min, max, step), start)?,
+        arena.push(
+            TreeNode::Slider(
+                kind,
+                text,
+                TreeId::new(init),
+                TreeId::new(min),
+                TreeId::new(max),
+                TreeId::new(step),
+            ),
+            start,
+        )?,
         rest,
     ))
 }
@@ -219,13 +235,16 @@ fn panel<'a>(
     start: usize,
     kind: Panel,
     tokens: &'a [Symbol],
-) -> Result<(TreeId, &'a [Symbol]), Fault<'a>>
+) -> Result<(u64, &'a [Symbol]), Fault<'a>>
     ensures is { Gives (λ x. x.0) (λ x. x.1.now) arena.old arena.new result (panel (within room) start kind tokens.now) }
     ensures shorter { IfOk result (λ x. length x.1.now < length tokens.now) }
 {
     let (text, rest) = label(tokens)?;
     let (tree, rest) = enclosed(arena, alloc, room, Inside::Expression, rest)?;
-    Ok((arena.push(TreeNode::Panel(kind, text, tree), start)?, rest))
+    Ok((
+        arena.push(TreeNode::Panel(kind, text, TreeId::new(tree)), start)?,
+        rest,
+    ))
 }
 
 /// An operand, by what its first token begins. `rest` are the tokens after that one.
@@ -238,7 +257,7 @@ fn by_head<'a>(
     head: Head,
     rest: &'a [Symbol],
     tokens: &'a [Symbol],
-) -> Result<(TreeId, &'a [Symbol]), Fault<'a>>
+) -> Result<(u64, &'a [Symbol]), Fault<'a>>
     requires { length rest.now < length tokens.now }
     ensures is { Gives (λ x. x.0) (λ x. x.1.now) arena.old arena.new result (by_head (within room) head tokens.now rest.now) }
     ensures shorter { IfOk result (λ x. length x.1.now < length tokens.now) }
@@ -270,7 +289,7 @@ fn primary<'a>(
     alloc: Global,
     room: usize,
     tokens: &'a [Symbol],
-) -> Result<(TreeId, &'a [Symbol]), Fault<'a>>
+) -> Result<(u64, &'a [Symbol]), Fault<'a>>
     ensures is { Gives (λ x. x.0) (λ x. x.1.now) arena.old arena.new result (primary (within room) tokens.now) }
     ensures shorter { IfOk result (λ x. length x.1.now < length tokens.now) }
 {
@@ -287,7 +306,7 @@ fn postfix<'a>(
     alloc: Global,
     room: usize,
     tokens: &'a [Symbol],
-) -> Result<(TreeId, &'a [Symbol]), Fault<'a>>
+) -> Result<(u64, &'a [Symbol]), Fault<'a>>
     ensures is { Gives (λ x. x.0) (λ x. x.1.now) arena.old arena.new result (postfix (within room) tokens.now) }
     ensures shorter { IfOk result (λ x. length x.1.now < length tokens.now) }
 {
@@ -301,10 +320,10 @@ fn postfixes<'a>(
     alloc: Global,
     room: usize,
     start: usize,
-    first: TreeId,
+    first: u64,
     tokens: &'a [Symbol],
-) -> Result<(TreeId, &'a [Symbol]), Fault<'a>>
-    requires { first.0 < length (trees arena.old) }
+) -> Result<(u64, &'a [Symbol]), Fault<'a>>
+    requires { first < length (trees arena.old) }
     ensures is { Gives (λ x. x.0) (λ x. x.1.now) arena.old arena.new result (run (postfix_turn (within room) start) (tree_at (trees arena.old) first) tokens.now) }
     ensures shorter { IfOk result (λ x. length x.1.now ≤ length tokens.now) }
 {
@@ -323,15 +342,18 @@ fn next_postfix<'a>(
     alloc: Global,
     room: usize,
     start: usize,
-    tree: TreeId,
+    tree: u64,
     tokens: &'a [Symbol],
-) -> Result<Option<(TreeId, &'a [Symbol])>, Fault<'a>>
-    requires { tree.0 < length (trees arena.old) }
+) -> Result<Option<(u64, &'a [Symbol])>, Fault<'a>>
+    requires { tree < length (trees arena.old) }
     ensures is { GivesTurn (λ x. x.0) (λ x. x.1.now) arena.old arena.new result (postfix_turn (within room) start (tree_at (trees arena.old) tree) tokens.now) }
     ensures shorter { IfOk result (λ o. IfSome o (λ x. length x.1.now < length tokens.now)) }
 {
     match tokens {
-        [Symbol::Tick, rest @ ..] => Ok(Some((arena.push(TreeNode::Delayed(tree), start)?, rest))),
+        [Symbol::Tick, rest @ ..] => Ok(Some((
+            arena.push(TreeNode::Delayed(TreeId::new(tree)), start)?,
+            rest,
+        ))),
         [Symbol::Open, rest @ ..] => applied(arena, alloc, room, start, tree, rest),
         _ => Ok(None),
     }
@@ -344,15 +366,21 @@ fn applied<'a>(
     alloc: Global,
     room: usize,
     start: usize,
-    tree: TreeId,
+    tree: u64,
     tokens: &'a [Symbol],
-) -> Result<Option<(TreeId, &'a [Symbol])>, Fault<'a>>
-    requires { tree.0 < length (trees arena.old) }
+) -> Result<Option<(u64, &'a [Symbol])>, Fault<'a>>
+    requires { tree < length (trees arena.old) }
     ensures is { GivesTurn (λ x. x.0) (λ x. x.1.now) arena.old arena.new result (applied_to (within room) start (tree_at (trees arena.old) tree) tokens.now) }
     ensures shorter { IfOk result (λ o. IfSome o (λ x. length x.1.now < length tokens.now)) }
 {
     let (arguments, rest) = enclosed(arena, alloc, room, Inside::Arguments, tokens)?;
-    Ok(Some((arena.push(TreeNode::Apply(tree, arguments), start)?, rest)))
+    Ok(Some((
+        arena.push(
+            TreeNode::Apply(TreeId::new(tree), TreeId::new(arguments)),
+            start,
+        )?,
+        rest,
+    )))
 }
 
 /// What stands in a pattern, by what its first token begins. `rest` are the tokens after that one.
@@ -364,7 +392,7 @@ fn atom_by_head<'a>(
     head: Head,
     rest: &'a [Symbol],
     tokens: &'a [Symbol],
-) -> Result<(TreeId, &'a [Symbol]), Fault<'a>>
+) -> Result<(u64, &'a [Symbol]), Fault<'a>>
     requires { length rest.now < length tokens.now }
     ensures is { Gives (λ x. x.0) (λ x. x.1.now) arena.old arena.new result (atom_by_head (within room) head tokens.now rest.now) }
     ensures shorter { IfOk result (λ x. length x.1.now < length tokens.now) }
@@ -388,7 +416,7 @@ pub(crate) fn operand<'a>(
     room: usize,
     pattern: bool,
     tokens: &'a [Symbol],
-) -> Result<(TreeId, &'a [Symbol]), Fault<'a>>
+) -> Result<(u64, &'a [Symbol]), Fault<'a>>
     ensures is { Gives (λ x. x.0) (λ x. x.1.now) arena.old arena.new result (operand (within room) pattern tokens.now) }
     ensures shorter { IfOk result (λ x. length x.1.now < length tokens.now) }
 {

@@ -17,7 +17,7 @@ pub(crate) fn plus<'a>(
     arena: &mut Arena,
     start: usize,
     tokens: &'a [Symbol],
-) -> Result<(TreeId, &'a [Symbol]), Fault<'a>>
+) -> Result<(u64, &'a [Symbol]), Fault<'a>>
     ensures is { Gives (λ x. x.0) (λ x. x.1.now) arena.old arena.new result (after_plus start tokens.now) }
     ensures shorter { IfOk result (λ x. length x.1.now ≤ length tokens.now) }
 {
@@ -35,7 +35,7 @@ pub(crate) fn minus<'a>(
     arena: &mut Arena,
     start: usize,
     tokens: &'a [Symbol],
-) -> Result<(TreeId, &'a [Symbol]), Fault<'a>>
+) -> Result<(u64, &'a [Symbol]), Fault<'a>>
     ensures is { Gives (λ x. x.0) (λ x. x.1.now) arena.old arena.new result (after_minus start tokens.now) }
     ensures shorter { IfOk result (λ x. length x.1.now ≤ length tokens.now) }
 {
@@ -53,7 +53,7 @@ pub(crate) fn plus_in_pattern<'a>(
     arena: &mut Arena,
     start: usize,
     tokens: &'a [Symbol],
-) -> Result<(TreeId, &'a [Symbol]), Fault<'a>>
+) -> Result<(u64, &'a [Symbol]), Fault<'a>>
     ensures is { Gives (λ x. x.0) (λ x. x.1.now) arena.old arena.new result (plus_number start tokens.now) }
     ensures shorter { IfOk result (λ x. length x.1.now < length tokens.now) }
 {
@@ -67,7 +67,7 @@ pub(crate) fn minus_in_pattern<'a>(
     arena: &mut Arena,
     start: usize,
     tokens: &'a [Symbol],
-) -> Result<(TreeId, &'a [Symbol]), Fault<'a>>
+) -> Result<(u64, &'a [Symbol]), Fault<'a>>
     ensures is { Gives (λ x. x.0) (λ x. x.1.now) arena.old arena.new result (minus_number start tokens.now) }
     ensures shorter { IfOk result (λ x. length x.1.now < length tokens.now) }
 {
@@ -84,7 +84,7 @@ pub(crate) fn switch<'a>(
     start: usize,
     kind: Switch,
     tokens: &'a [Symbol],
-) -> Result<(TreeId, &'a [Symbol]), Fault<'a>>
+) -> Result<(u64, &'a [Symbol]), Fault<'a>>
     ensures is { Gives (λ x. x.0) (λ x. x.1.now) arena.old arena.new result (switch start kind tokens.now) }
     ensures shorter { IfOk result (λ x. length x.1.now < length tokens.now) }
 {
@@ -97,31 +97,30 @@ pub(crate) fn switch<'a>(
 /// A part that waits for what stands to the right of its operator.
 #[derive(Debug, Drop)]
 pub(crate) struct Pending {
-    pub(crate) left: TreeId,
+    pub(crate) left: u64,
     pub(crate) op: Operator,
     pub(crate) start: usize,
 }
 
 /// Joins the parts to the right.
-pub(crate) fn join(
-    arena: &mut Arena,
-    pending: Vec<Pending>,
-    last: TreeId,
-) -> Result<TreeId, AllocError>
-    requires last { last.0 < length (trees arena.old) }
+pub(crate) fn join(arena: &mut Arena, pending: Vec<Pending>, last: u64) -> Result<u64, AllocError>
+    requires last { last < length (trees arena.old) }
     requires parts { AreInside (trees arena.old) pending.items }
     ensures { IfOk result (λ id. Joins (trees arena.old) (trees arena.new) pending.items last id) }
 {
     let mut pending = pending;
     let mut tree = last;
     while let Some(part) = pending.pop() {
-        tree = arena.push(TreeNode::Binary(part.op, part.left, tree), part.start)?;
+        tree = arena.push(
+            TreeNode::Binary(part.op, TreeId::new(part.left), TreeId::new(tree)),
+            part.start,
+        )?;
     }
     Ok(tree)
 }
 
 /// The list of a first part, if there is one.
-pub(crate) fn begun(alloc: Global, first: Option<TreeId>) -> Result<Vec<TreeId>, AllocError>
+pub(crate) fn begun(alloc: Global, first: Option<u64>) -> Result<Vec<TreeId>, AllocError>
     ensures { IfOk result (λ parts. parts.items ≡ list_of first) }
 {
     let mut parts = Vec::new(alloc);
@@ -130,13 +129,13 @@ pub(crate) fn begun(alloc: Global, first: Option<TreeId>) -> Result<Vec<TreeId>,
 }
 
 /// Keeps what was found of a list.
-pub(crate) fn keep(parts: &mut Vec<TreeId>, found: Option<TreeId>) -> Result<(), AllocError>
+pub(crate) fn keep(parts: &mut Vec<TreeId>, found: Option<u64>) -> Result<(), AllocError>
     ensures { IfOk result (λ _. parts.new.items ≡ parts.old.items ++ list_of found) }
 {
     match found {
         None => Ok(()),
         Some(id) => {
-            parts.push(id)?;
+            parts.push(TreeId::new(id))?;
             Ok(())
         }
     }

@@ -24,7 +24,7 @@ pub(crate) fn phrase<'a>(
     commas: bool,
     height: usize,
     tokens: &'a [Symbol],
-) -> Result<(TreeId, &'a [Symbol]), Fault<'a>>
+) -> Result<(u64, &'a [Symbol]), Fault<'a>>
     requires { height ≤ 8 }
     ensures is { Gives (λ x. x.0) (λ x. x.1.now) arena.old arena.new result (phrase (within room) pattern commas height tokens.now) }
     ensures shorter { IfOk result (λ x. length x.1.now < length tokens.now) }
@@ -58,11 +58,11 @@ fn lefts<'a>(
     commas: bool,
     height: usize,
     start: usize,
-    first: TreeId,
+    first: u64,
     tokens: &'a [Symbol],
-) -> Result<(TreeId, &'a [Symbol]), Fault<'a>>
+) -> Result<(u64, &'a [Symbol]), Fault<'a>>
     requires height { (0 < height) × (height ≤ 5) }
-    requires inside { first.0 < length (trees arena.old) }
+    requires inside { first < length (trees arena.old) }
     ensures is { Gives (λ x. x.0) (λ x. x.1.now) arena.old arena.new result (run (left_turn (phrase (within room) pattern commas (height - 1)) pattern commas (height + 1) start) (tree_at (trees arena.old) first) tokens.now) }
     ensures shorter { IfOk result (λ x. length x.1.now ≤ length tokens.now) }
 {
@@ -86,11 +86,11 @@ fn next_left<'a>(
     commas: bool,
     height: usize,
     start: usize,
-    tree: TreeId,
+    tree: u64,
     tokens: &'a [Symbol],
-) -> Result<Option<(TreeId, &'a [Symbol])>, Fault<'a>>
+) -> Result<Option<(u64, &'a [Symbol])>, Fault<'a>>
     requires height { (0 < height) × (height ≤ 5) }
-    requires inside { tree.0 < length (trees arena.old) }
+    requires inside { tree < length (trees arena.old) }
     ensures is { GivesTurn (λ x. x.0) (λ x. x.1.now) arena.old arena.new result (left_turn (phrase (within room) pattern commas (height - 1)) pattern commas (height + 1) start (tree_at (trees arena.old) tree) tokens.now) }
     ensures shorter { IfOk result (λ o. IfSome o (λ x. length x.1.now < length tokens.now)) }
 {
@@ -98,7 +98,13 @@ fn next_left<'a>(
         None => Ok(None),
         Some((op, rest)) => {
             let (second, rest) = phrase(arena, alloc, room, pattern, commas, height - 1, rest)?;
-            Ok(Some((arena.push(TreeNode::Binary(op, tree, second), start)?, rest)))
+            Ok(Some((
+                arena.push(
+                    TreeNode::Binary(op, TreeId::new(tree), TreeId::new(second)),
+                    start,
+                )?,
+                rest,
+            )))
         }
     }
 }
@@ -112,7 +118,7 @@ fn rights<'a>(
     commas: bool,
     height: usize,
     tokens: &'a [Symbol],
-) -> Result<(TreeId, &'a [Symbol]), Fault<'a>>
+) -> Result<(u64, &'a [Symbol]), Fault<'a>>
     requires { (5 < height) × (height ≤ 8) }
     ensures is { Gives (λ x. x.0) (λ x. x.1.now) arena.old arena.new result (chain (phrase (within room) pattern commas (height - 1)) pattern commas (height + 1) tokens.now) }
     ensures shorter { IfOk result (λ x. length x.1.now < length tokens.now) }
@@ -142,7 +148,7 @@ pub(crate) fn expression<'a>(
     alloc: Global,
     room: usize,
     tokens: &'a [Symbol],
-) -> Result<(TreeId, &'a [Symbol]), Fault<'a>>
+) -> Result<(u64, &'a [Symbol]), Fault<'a>>
     ensures is { Gives (λ x. x.0) (λ x. x.1.now) arena.old arena.new result (expression (within room) tokens.now) }
     ensures shorter { IfOk result (λ x. length x.1.now < length tokens.now) }
 {
@@ -156,10 +162,10 @@ fn withs<'a>(
     alloc: Global,
     room: usize,
     start: usize,
-    first: TreeId,
+    first: u64,
     tokens: &'a [Symbol],
-) -> Result<(TreeId, &'a [Symbol]), Fault<'a>>
-    requires { first.0 < length (trees arena.old) }
+) -> Result<(u64, &'a [Symbol]), Fault<'a>>
+    requires { first < length (trees arena.old) }
     ensures is { Gives (λ x. x.0) (λ x. x.1.now) arena.old arena.new result (run (with_turn (within room) start) (tree_at (trees arena.old) first) tokens.now) }
     ensures shorter { IfOk result (λ x. length x.1.now ≤ length tokens.now) }
 {
@@ -178,10 +184,10 @@ fn next_with<'a>(
     alloc: Global,
     room: usize,
     start: usize,
-    tree: TreeId,
+    tree: u64,
     tokens: &'a [Symbol],
-) -> Result<Option<(TreeId, &'a [Symbol])>, Fault<'a>>
-    requires { tree.0 < length (trees arena.old) }
+) -> Result<Option<(u64, &'a [Symbol])>, Fault<'a>>
+    requires { tree < length (trees arena.old) }
     ensures is { GivesTurn (λ x. x.0) (λ x. x.1.now) arena.old arena.new result (with_turn (within room) start (tree_at (trees arena.old) tree) tokens.now) }
     ensures shorter { IfOk result (λ o. IfSome o (λ x. length x.1.now < length tokens.now)) }
 {
@@ -197,15 +203,21 @@ fn with_part<'a>(
     alloc: Global,
     room: usize,
     start: usize,
-    tree: TreeId,
+    tree: u64,
     tokens: &'a [Symbol],
-) -> Result<Option<(TreeId, &'a [Symbol])>, Fault<'a>>
-    requires { tree.0 < length (trees arena.old) }
+) -> Result<Option<(u64, &'a [Symbol])>, Fault<'a>>
+    requires { tree < length (trees arena.old) }
     ensures is { GivesTurn (λ x. x.0) (λ x. x.1.now) arena.old arena.new result (with_part (within room) start (tree_at (trees arena.old) tree) tokens.now) }
     ensures shorter { IfOk result (λ o. IfSome o (λ x. length x.1.now < length tokens.now)) }
 {
     let rest = open_brace(tokens)?;
     let (definitions, rest) = inside(arena, alloc, room, Inside::Definitions, rest)?;
     let rest = close_brace(rest)?;
-    Ok(Some((arena.push(TreeNode::Where(tree, definitions), start)?, rest)))
+    Ok(Some((
+        arena.push(
+            TreeNode::Where(TreeId::new(tree), TreeId::new(definitions)),
+            start,
+        )?,
+        rest,
+    )))
 }

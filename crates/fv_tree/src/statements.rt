@@ -23,7 +23,7 @@ fn ended<'a>(
     alloc: Global,
     room: usize,
     tokens: &'a [Symbol],
-) -> Result<(TreeId, &'a [Symbol]), Fault<'a>>
+) -> Result<(u64, &'a [Symbol]), Fault<'a>>
     ensures is { Gives (λ x. x.0) (λ x. x.1.now) arena.old arena.new result (ended (within room) tokens.now) }
     ensures shorter { IfOk result (λ x. length x.1.now < length tokens.now) }
 {
@@ -41,7 +41,7 @@ fn function_after<'a>(
     start: usize,
     name: u64,
     tokens: &'a [Symbol],
-) -> Result<(TreeId, &'a [Symbol]), Fault<'a>>
+) -> Result<(u64, &'a [Symbol]), Fault<'a>>
     ensures is { Gives (λ x. x.0) (λ x. x.1.now) arena.old arena.new result (function_after (within room) start name tokens.now) }
     ensures shorter { IfOk result (λ x. length x.1.now < length tokens.now) }
 {
@@ -49,7 +49,10 @@ fn function_after<'a>(
     let rest = equals(rest)?;
     let (side, rest) = ended(arena, alloc, room, rest)?;
     Ok((
-        arena.push(TreeNode::Function(name, patterns, side), start)?,
+        arena.push(
+            TreeNode::Function(name, TreeId::new(patterns), TreeId::new(side)),
+            start,
+        )?,
         rest,
     ))
 }
@@ -63,13 +66,16 @@ fn constant_after<'a>(
     start: usize,
     name: u64,
     tokens: &'a [Symbol],
-) -> Result<(TreeId, &'a [Symbol]), Fault<'a>>
+) -> Result<(u64, &'a [Symbol]), Fault<'a>>
     ensures is { Gives (λ x. x.0) (λ x. x.1.now) arena.old arena.new result (constant_after (within room) start name tokens.now) }
     ensures shorter { IfOk result (λ x. length x.1.now < length tokens.now) }
 {
     let rest = equals(tokens)?;
     let (side, rest) = ended(arena, alloc, room, rest)?;
-    Ok((arena.push(TreeNode::Constant(name, side), start)?, rest))
+    Ok((
+        arena.push(TreeNode::Constant(name, TreeId::new(side)), start)?,
+        rest,
+    ))
 }
 
 #[cycle(parser)]
@@ -80,7 +86,7 @@ fn after_name<'a>(
     start: usize,
     name: u64,
     tokens: &'a [Symbol],
-) -> Result<(TreeId, &'a [Symbol]), Fault<'a>>
+) -> Result<(u64, &'a [Symbol]), Fault<'a>>
     ensures is { Gives (λ x. x.0) (λ x. x.1.now) arena.old arena.new result (after_name (within room) start name tokens.now) }
     ensures shorter { IfOk result (λ x. length x.1.now < length tokens.now) }
 {
@@ -97,7 +103,7 @@ fn definition<'a>(
     alloc: Global,
     room: usize,
     tokens: &'a [Symbol],
-) -> Result<(TreeId, &'a [Symbol]), Fault<'a>>
+) -> Result<(u64, &'a [Symbol]), Fault<'a>>
     ensures is { Gives (λ x. x.0) (λ x. x.1.now) arena.old arena.new result (definition (within room) tokens.now) }
     ensures shorter { IfOk result (λ x. length x.1.now < length tokens.now) }
 {
@@ -112,7 +118,7 @@ fn one_rule<'a>(
     alloc: Global,
     room: usize,
     tokens: &'a [Symbol],
-) -> Result<(TreeId, &'a [Symbol]), Fault<'a>>
+) -> Result<(u64, &'a [Symbol]), Fault<'a>>
     ensures is { Gives (λ x. x.0) (λ x. x.1.now) arena.old arena.new result (one_rule (within room) tokens.now) }
     ensures shorter { IfOk result (λ x. length x.1.now < length tokens.now) }
 {
@@ -121,7 +127,10 @@ fn one_rule<'a>(
     let rest = arrow(rest)?;
     let (side, rest) = ended(arena, alloc, room, rest)?;
     Ok((
-        arena.push(TreeNode::Rule(patterns, side), tokens.len())?,
+        arena.push(
+            TreeNode::Rule(TreeId::new(patterns), TreeId::new(side)),
+            tokens.len(),
+        )?,
         rest,
     ))
 }
@@ -132,7 +141,7 @@ fn statement<'a>(
     alloc: Global,
     room: usize,
     tokens: &'a [Symbol],
-) -> Result<Option<(Option<TreeId>, &'a [Symbol])>, Fault<'a>>
+) -> Result<Option<(Option<u64>, &'a [Symbol])>, Fault<'a>>
     ensures is { GivesItem (λ x. x.0) (λ x. x.1.now) arena.old arena.new result (statement (within room) tokens.now) }
     ensures shorter { IfOk result (λ o. IfSome o (λ x. length x.1.now < length tokens.now)) }
 {
@@ -155,7 +164,7 @@ fn inner_definition<'a>(
     alloc: Global,
     room: usize,
     tokens: &'a [Symbol],
-) -> Result<Option<(Option<TreeId>, &'a [Symbol])>, Fault<'a>>
+) -> Result<Option<(Option<u64>, &'a [Symbol])>, Fault<'a>>
     ensures is { GivesItem (λ x. x.0) (λ x. x.1.now) arena.old arena.new result (inner_definition (within room) tokens.now) }
     ensures shorter { IfOk result (λ o. IfSome o (λ x. length x.1.now < length tokens.now)) }
 {
@@ -174,7 +183,7 @@ fn next_rule<'a>(
     alloc: Global,
     room: usize,
     tokens: &'a [Symbol],
-) -> Result<Option<(Option<TreeId>, &'a [Symbol])>, Fault<'a>>
+) -> Result<Option<(Option<u64>, &'a [Symbol])>, Fault<'a>>
     ensures is { GivesItem (λ x. x.0) (λ x. x.1.now) arena.old arena.new result (next_rule (within room) tokens.now) }
     ensures shorter { IfOk result (λ o. IfSome o (λ x. length x.1.now < length tokens.now)) }
 {
@@ -194,7 +203,7 @@ fn next_part<'a>(
     room: usize,
     pattern: bool,
     tokens: &'a [Symbol],
-) -> Result<Option<(Option<TreeId>, &'a [Symbol])>, Fault<'a>>
+) -> Result<Option<(Option<u64>, &'a [Symbol])>, Fault<'a>>
     ensures is { GivesItem (λ x. x.0) (λ x. x.1.now) arena.old arena.new result (next_part (within room) pattern tokens.now) }
     ensures shorter { IfOk result (λ o. IfSome o (λ x. length x.1.now < length tokens.now)) }
 {
@@ -214,7 +223,7 @@ fn next_item<'a>(
     room: usize,
     items: Items,
     tokens: &'a [Symbol],
-) -> Result<Option<(Option<TreeId>, &'a [Symbol])>, Fault<'a>>
+) -> Result<Option<(Option<u64>, &'a [Symbol])>, Fault<'a>>
     ensures is { GivesItem (λ x. x.0) (λ x. x.1.now) arena.old arena.new result (item (within room) items tokens.now) }
     ensures shorter { IfOk result (λ o. IfSome o (λ x. length x.1.now < length tokens.now)) }
 {
@@ -234,9 +243,9 @@ pub(crate) fn further<'a>(
     room: usize,
     items: Items,
     start: usize,
-    first: Option<TreeId>,
+    first: Option<u64>,
     tokens: &'a [Symbol],
-) -> Result<(TreeId, &'a [Symbol]), Fault<'a>>
+) -> Result<(u64, &'a [Symbol]), Fault<'a>>
     requires { AllBelow (length (trees arena.old)) (list_of first) }
     ensures is { Gives (λ x. x.0) (λ x. x.1.now) arena.old arena.new result (in_front (trees arena.old) (list_of first) (further (within room) items tokens.now)) }
     ensures shorter { IfOk result (λ x. length x.1.now ≤ length tokens.now) }
@@ -257,7 +266,7 @@ fn first_item<'a>(
     room: usize,
     items: Items,
     tokens: &'a [Symbol],
-) -> Result<(TreeId, &'a [Symbol]), Fault<'a>>
+) -> Result<(u64, &'a [Symbol]), Fault<'a>>
     ensures is { Gives (λ x. x.0) (λ x. x.1.now) arena.old arena.new result (first_item (within room) items tokens.now) }
     ensures shorter { IfOk result (λ x. length x.1.now < length tokens.now) }
 {
@@ -277,7 +286,7 @@ pub(crate) fn listed<'a>(
     room: usize,
     items: Items,
     tokens: &'a [Symbol],
-) -> Result<(TreeId, &'a [Symbol]), Fault<'a>>
+) -> Result<(u64, &'a [Symbol]), Fault<'a>>
     ensures is { Gives (λ x. x.0) (λ x. x.1.now) arena.old arena.new result (listed (within room) items tokens.now) }
     ensures shorter { IfOk result (λ x. length x.1.now < length tokens.now) }
 {

@@ -31,7 +31,7 @@ pub fn read<'a>(alloc: Global, symbols: &'a [Symbol]) -> Result<(Arena, TreeId),
         symbols,
     )?;
     match rest {
-        [] => Ok((arena, root)),
+        [] => Ok((arena, TreeId::new(root))),
         [_, ..] => Err(Fault::Syntax(rest)),
     }
 }

@@ -6,7 +6,7 @@ use Rattle.fv_grammar.specs.declared.symbol.Items.TheVariants.{Definitions}
 use Rattle.fv_grammar.proofs.Loops.{chain_stop, all_of}
 use Rattle.fv_tree.specs.Arena.{trees, tree_at}
 use Rattle.fv_tree.specs.Gives.{in_front, list_of}
-use Rattle.fv_tree.proofs.Arenas.{goes_on, goes_done, goes_stop, gathers_on, gathers_end, gathers_fail, leans_on, leans_finish, leans_fail, AreInside-keeps, AllBelow-keeps}
+use Rattle.fv_tree.proofs.Arenas.{goes_on, goes_done, goes_stop, gathers_on, gathers_end, gathers_fail, leans_on, leans_finish, leans_fail, inside_more, below_more}
 use Rattle.fv_tree.proofs.Steps.{no_room, descended, of_nothing, phrase_zero, phrase_right, left_fails, left_gives, right_on, right_off, further_is}
 use Rattle.fv_tree.proofs.+parser.Goals as goal
 
@@ -90,7 +90,7 @@ pub statements::further-push-requires : goal.statements::further-push-requires
 statements::further-push-requires t c =
     let done = rw c.in_default.is at c.in_ok-found.ensures.is in
     let le = done.0.longer in
-    (AllBelow-keeps _ _ c.loop-parts.parts.items c.loop-parts.invariant.inside le)
+    (below_more _ _ c.loop-parts.parts.items c.loop-parts.invariant.inside le)
 
 pub statements::further-returns-clause-is : goal.statements::further-returns-clause-is
 statements::further-returns-clause-is t c =
@@ -122,7 +122,7 @@ phrases::rights-returns-in_err-tree-clause-is t c =
 
 pub phrases::rights-join-requires-clause-parts : goal.phrases::rights-join-requires-clause-parts
 phrases::rights-join-requires-clause-parts t c =
-    AreInside-keeps (trees c.loop-pending.arena) (trees c.phrase.new.arena) c.loop-pending.pending.items c.loop-pending.invariant.inside c.in_ok-tree.ensures.is.keeps
+    inside_more (trees c.loop-pending.arena) (trees c.phrase.new.arena) c.loop-pending.pending.items c.loop-pending.invariant.inside c.in_ok-tree.ensures.is.keeps
 
 pub phrases::rights-returns-in-None-clause-is : goal.phrases::rights-returns-in-None-clause-is
 phrases::rights-returns-in-None-clause-is t c =
