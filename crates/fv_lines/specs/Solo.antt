@@ -1,7 +1,7 @@
 -- The lanes of one worker that has them all.
 use Rattle.std.specs.Prelude.{ℕ, ◌≡◌, ◌+◌, ◌-◌, ◌≤◌, ◌<◌, List, length, take, drop, map, sum, slice_index, ℤ}
 use base.Fml.{GName}
-use Rattle.fv_num.specs.Frames.{table}
+use Rattle.fv_base.specs.Lists.{table}
 use Rattle.fv_loopcode.specs.Lanes.{Lane, lane_of}
 use Rattle.fv_pool.specs.Layout.{part}
 use Rattle.fv_pool.specs.Lengths.{lengths_of}

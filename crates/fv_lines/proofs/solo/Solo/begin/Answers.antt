@@ -1,7 +1,7 @@
 use Rattle.fv_pool.specs.Lengths.{lengths_of}
 use Rattle.std.proofs.Common.{◌≡◌, ◌+◌, ◌-◌, ◌<◌, ◌≤◌, ℕ, ℤ, List, length, take, drop, set, get_or, sym, ap, ap₂, ◌∙◌, arith, subst}
 use Rattle.std.specs.Prelude.{sum, slice_index}
-use Rattle.fv_num.proofs.Lists.{table_same}
+use Rattle.fv_base.proofs.Lists.{table_same}
 use Rattle.fv_pool.specs.Layout.{part}
 use Rattle.fv_lines.specs.Hold.{from_start}
 use Rattle.fv_lines.specs.Solo.{history_at, held_at}

@@ -1,7 +1,7 @@
 use Rattle.fv_pool.specs.Lengths.{lengths_of}
 use Rattle.std.proofs.Common.{◌≡◌, ◌+◌, ◌-◌, ◌++◌, [], ◌∷◌, ℕ, ℤ, List, length, take, drop, set, get_or, sym, ap, ap₂, ◌∙◌, arith, to_z-of_z}
 use Rattle.std.specs.Prelude.{slice_index}
-use Rattle.fv_num.specs.Frames.{table}
+use Rattle.fv_base.specs.Lists.{table}
 use Rattle.fv_pool.specs.Layout.{part}
 use Rattle.fv_lines.specs.Hold.{from_start}
 use Rattle.fv_lines.specs.Solo.{history_at, start_at, held_at}
