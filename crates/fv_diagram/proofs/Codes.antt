@@ -15,7 +15,8 @@ use Rattle.fv_diagram.specs.Code.{Code, IsCode, input_code, put_cell, with_step,
 use Rattle.fv_diagram.proofs.Each.{each_table}
 
 -- one step more
-pub code_step : (p : Code) (a : Step) → IsCode p → OperandsBelow (length p.steps) a → ReadsWithin p.controls p.ins (length p.sources) (length p.changes) a → IsKept p.changes a → IsCode (with_step p a)
+pub code_step : (p : Code) (a : Step) → IsCode p → OperandsBelow (length p.steps) a → ReadsWithin p.controls p.ins (length p.sources) (length p.changes) a →
+    IsKept p.changes a → IsCode (with_step p a)
 code_step p a h o w k =
     let long = length_snoc p.steps a in record {
       ordered = λ i d l. elim (cases_lt i (length p.steps)) [
@@ -27,16 +28,19 @@ code_step p a h o w k =
       within = All-push (ReadsWithin p.controls p.ins (length p.sources) (length p.changes)) p.steps a h.within w;
       kept = All-push (IsKept p.changes) p.steps a h.kept k;
       sources = All-weaker (λ w. w < length p.steps) (λ w. w < length (p.steps ++ a ∷ [])) (λ w l. omega (arith, long)) p.sources h.sources;
-      changes = All-weaker (λ b. register_of b < length p.steps) (λ b. register_of b < length (p.steps ++ a ∷ [])) (λ b l. omega (arith, long)) p.changes h.changes;
+      changes = All-weaker (λ b. register_of b < length p.steps) (λ b. register_of b < length (p.steps ++ a ∷ [])) (λ b l. omega (arith, long))
+          p.changes h.changes;
       loops = h.loops;
       some = omega (arith, long);
     }
 
-pub code_put : (p m : Code) (a : Step) (ss : List Step) → p ≡ m → IsCode p → OperandsBelow (length m.steps) a → ReadsWithin m.controls m.ins (length m.sources) (length m.changes) a → IsKept m.changes a →
+pub code_put : (p m : Code) (a : Step) (ss : List Step) → p ≡ m → IsCode p → OperandsBelow (length m.steps) a →
+    ReadsWithin m.controls m.ins (length m.sources) (length m.changes) a → IsKept m.changes a →
     ss ≡ p.steps ++ a ∷ [] → IsCode (record p { steps = ss })
 code_put p m a ss e h o w k f =
     subst (λ ss. IsCode (record p { steps = ss })) (sym f)
-    (code_step p a h (subst (λ m. OperandsBelow (length m.steps) a) (sym e) o) (subst (λ m. ReadsWithin m.controls m.ins (length m.sources) (length m.changes) a) (sym e) w)
+    (code_step p a h (subst (λ m. OperandsBelow (length m.steps) a) (sym e) o)
+    (subst (λ m. ReadsWithin m.controls m.ins (length m.sources) (length m.changes) a) (sym e) w)
     (subst (λ m. IsKept m.changes a) (sym e) k))
 
 -- the code of the inputs
@@ -55,23 +59,28 @@ input_code_is n =
       some = omega arith;
     }
 
-pub input_code_of : (n i : ℕ) (ss : List Step) (sources : List ℕ) (changes : List Change) (loops : List Loop) → i ≡ n → ss ≡ (input_code i).steps → sources ≡ [] → changes ≡ [] → loops ≡ [] →
+pub input_code_of : (n i : ℕ) (ss : List Step) (sources : List ℕ) (changes : List Change) (loops : List Loop) → i ≡ n → ss ≡ (input_code i).steps →
+    sources ≡ [] → changes ≡ [] → loops ≡ [] →
     IsCode (record { steps = ss; sources = sources; changes = changes; loops = loops; controls = 0; ins = n })
 input_code_of n i ss sources changes loops k e f g h =
-    subst (λ ss. IsCode (record { steps = ss; sources = sources; changes = changes; loops = loops; controls = 0; ins = n })) (sym (e ∙ ap (λ i. (input_code i).steps) k))
+    subst (λ ss. IsCode (record { steps = ss; sources = sources; changes = changes; loops = loops; controls = 0; ins = n }))
+    (sym (e ∙ ap (λ i. (input_code i).steps) k))
     (subst (λ ws. IsCode (record (input_code n) { sources = ws; changes = changes; loops = loops })) (sym f)
-    (subst (λ bs. IsCode (record (input_code n) { changes = bs; loops = loops })) (sym g) (subst (λ ls. IsCode (record (input_code n) { loops = ls })) (sym h) (input_code_is n))))
+    (subst (λ bs. IsCode (record (input_code n) { changes = bs; loops = loops })) (sym g)
+    (subst (λ ls. IsCode (record (input_code n) { loops = ls })) (sym h) (input_code_is n))))
 
 -- ---- cells
 
 pub steps_long : (n : ℕ) (s : Code) → length (with_cells n s).steps ≡ length s.steps + n
-steps_long n s = length-append s.steps (table n (λ i. step.Cell (length s.sources + i))) ∙ ap (λ m. length s.steps + m) (length_table n (λ i. step.Cell (length s.sources + i)))
+steps_long n s = length-append s.steps (table n (λ i. step.Cell (length s.sources + i)))
+    ∙ ap (λ m. length s.steps + m) (length_table n (λ i. step.Cell (length s.sources + i)))
 
 sources_long : (n : ℕ) (s : Code) → length (with_cells n s).sources ≡ length s.sources + n
 sources_long n s = length-append s.sources (table n (λ i. 0)) ∙ ap (λ m. length s.sources + m) (length_table n (λ (i : ℕ). 0))
 
 -- one cell more
-pub cells_more : (s q q' : Code) (n r : ℕ) (all all' : List ℕ) → all ≡ table n (λ i. length s.steps + i) → q ≡ with_cells n s → (r, q') ≡ put_cell q 0 → all' ≡ all ++ r ∷ [] →
+pub cells_more : (s q q' : Code) (n r : ℕ) (all all' : List ℕ) → all ≡ table n (λ i. length s.steps + i) → q ≡ with_cells n s → (r, q') ≡ put_cell q 0 →
+    all' ≡ all ++ r ∷ [] →
     (all' ≡ table (n + 1) (λ i. length s.steps + i)) × (q' ≡ with_cells (n + 1) s)
 cells_more s q q' n r all all' e f g h =
     let k : (r, q') ≡ put_cell (with_cells n s) 0 = g ∙ ap (λ z. put_cell z 0) f in
@@ -90,7 +99,8 @@ late_registers n a m all e l = subst (All (λ w. w < m)) (sym e) (each_table (λ
 -- ---- feedbacks
 
 -- one that is open more
-pub code_opens : (p q : Code) (ls : List Loop) (l : Loop) → q ≡ p → IsCode q → ls ≡ l ∷ q.loops → l.first + l.count ≤ length p.sources → IsCode (record q { loops = ls })
+pub code_opens : (p q : Code) (ls : List Loop) (l : Loop) → q ≡ p → IsCode q → ls ≡ l ∷ q.loops → l.first + l.count ≤ length p.sources →
+    IsCode (record q { loops = ls })
 code_opens p q ls l e h f b = record {
   ordered = h.ordered;
   within = h.within;
@@ -108,7 +118,8 @@ written_holds P i [] xs w h = h
 written_holds P i (y ∷ ws) xs w h = written_holds P (suc i) ws (slice_set xs i y) (All-tail P y ws w) (All-set P xs i y (All-head P y ws w) h)
 
 -- and one that is closed
-pub code_shuts : (p : Code) (ls : List Loop) (l : Loop) (sources outs : List ℕ) → IsCode p → p.loops ≡ l ∷ ls → length sources ≡ length p.sources → sources ≡ written l.first outs p.sources →
+pub code_shuts : (p : Code) (ls : List Loop) (l : Loop) (sources outs : List ℕ) → IsCode p → p.loops ≡ l ∷ ls → length sources ≡ length p.sources →
+    sources ≡ written l.first outs p.sources →
     All (λ w. w < length p.steps) outs → IsCode (record p { sources = sources; loops = ls })
 code_shuts p ls l sources outs h e n f o = record {
   ordered = h.ordered;

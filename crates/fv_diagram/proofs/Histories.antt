@@ -21,7 +21,8 @@ numbers_set (x ∷ hs) zero h d l e = ap (λ ys. ys ∷ numbers_of hs) e
 numbers_set (x ∷ hs) (suc i) h d l e = ap (λ yss. x.numbers ∷ yss) (numbers_set hs i h d (omega arith) e)
 
 -- one history more has room
-pub room_more : (hs : List Numbers) (i : ℕ) (h : Numbers) → i < length hs → ((k : ℕ) (d : Numbers) → k < i → HasRoom (get_or hs k d)) → HasRoom h → (k : ℕ) (d : Numbers) → k < i + 1 → HasRoom (get_or (set hs i h) k d)
+pub room_more : (hs : List Numbers) (i : ℕ) (h : Numbers) → i < length hs → ((k : ℕ) (d : Numbers) → k < i → HasRoom (get_or hs k d)) → HasRoom h →
+    (k : ℕ) (d : Numbers) → k < i + 1 → HasRoom (get_or (set hs i h) k d)
 room_more hs i h l before here k d m = elim (cases_lt k i) [
   | inl b ↦ subst HasRoom (sym (get_or-set_other hs i k h d (λ e. absurd (omega arith)))) (before k d b)
   | inr b ↦
@@ -30,8 +31,10 @@ room_more hs i h l before here k d m = elim (cases_lt k i) [
 ]
 
 -- all lists have changed
-pub changed_all : (r : ℕ → ℤ) (changes : List Change) (hs old : List Numbers) (i : ℕ) → length hs ≡ length old → length old ≡ length changes → length changes ≤ i →
-    ((k : ℕ) (d : Numbers) → k < i → (get_or hs k d).numbers ≡ changed r (get_or changes k (change.Append 0)) (get_or (numbers_of old) k [])) → numbers_of hs ≡ lists_after r changes (numbers_of old)
+pub changed_all : (r : ℕ → ℤ) (changes : List Change) (hs old : List Numbers) (i : ℕ) → length hs ≡ length old → length old ≡ length changes →
+    length changes ≤ i →
+    ((k : ℕ) (d : Numbers) → k < i → (get_or hs k d).numbers ≡ changed r (get_or changes k (change.Append 0)) (get_or (numbers_of old) k [])) →
+    numbers_of hs ≡ lists_after r changes (numbers_of old)
 changed_all r changes hs old i n m l each =
     let none : Numbers = record { numbers = []; room = 0 } in
     let long : length (numbers_of hs) ≡ length hs = length-map hs (λ h. h.numbers) in
@@ -40,7 +43,8 @@ changed_all r changes hs old i n m l each =
     ∙ table_same (length (numbers_of old)) _ _ (λ k b. get_or-map (λ h. h.numbers) hs k none [] (omega (arith, long')) ∙ each k none (omega (arith, long')))
 
 -- what a list recalls
-pub back_value : (lists : List Numbers) (regs : List ℤ) (x d list : ℕ) (h : Numbers) (now ago : ℤ) → list < length lists → h ≡ get_or lists list h → now ≡ argument regs x → ago ≡ argument regs d →
+pub back_value : (lists : List Numbers) (regs : List ℤ) (x d list : ℕ) (h : Numbers) (now ago : ℤ) → list < length lists → h ≡ get_or lists list h →
+    now ≡ argument regs x → ago ≡ argument regs d →
     recalled h.numbers now ago ≡ in_lists (numbers_of lists) (argument regs) list x (argument regs d)
 back_value lists regs x d list h now ago l e f g =
     ap₂ (recalled h.numbers) f g

@@ -35,7 +35,8 @@ pub record AreOrderly {S : Type 0} (h : Hooks ℕ S) (Good : S → Type 0) (Onwa
   pub close_on : (n : ℕ) (outs : List ℕ) (z s : S) → Good z → n ≤ length outs → Onward (h.opened n z).1 s → Onward z (h.closed outs s).1
 
 module _ {S : Type 0} (h : Hooks ℕ S) (Good : S → Type 0) (Onward : S → S → Type 0) (laws : AreOrderly h Good Onward) where
-  primitive_goes : (p : Prim) (ins : List ℕ) (s : S) → length ins ≡ primitive_inputs p → (length (primitive h p ins s).0 ≡ primitive_outputs p) × Onward s (primitive h p ins s).1
+  primitive_goes : (p : Prim) (ins : List ℕ) (s : S) → length ins ≡ primitive_inputs p →
+      (length (primitive h p ins s).0 ≡ primitive_outputs p) × Onward s (primitive h p ins s).1
   primitive_goes prim.Wire ins s n = (length-take-le 1 ins (omega (arith, n)), laws.on_same s)
   primitive_goes prim.Int ins s n = (length-take-le 1 ins (omega (arith, n)), laws.on_same s)
   primitive_goes prim.Attach ins s n = (length-take-le 1 ins (omega (arith, n)), laws.on_same s)
@@ -56,7 +57,8 @@ module _ {S : Type 0} (h : Hooks ℕ S) (Good : S → Type 0) (Onward : S → S 
   summed_goes : (n : ℕ) (xs : List ℕ) (s : S) → n ≤ length xs → (length (summed h 0 n xs s).0 ≡ n) × Onward s (summed h 0 n xs s).1
   summed_goes n xs s l = let m = added_goes n n (drop n xs) (take n xs) s in (m.0 ∙ length-take-le n xs l, m.1)
 
-  pub walk_goes : (d : Diagram) (slots : ℕ → ℕ) (ins : List ℕ) (s : S) → IsWellFormed d → length ins ≡ inputs d → Good s → (length (walked h 0 d slots ins s).0 ≡ outputs d) × Onward s (walked h 0 d slots ins s).1
+  pub walk_goes : (d : Diagram) (slots : ℕ → ℕ) (ins : List ℕ) (s : S) → IsWellFormed d → length ins ≡ inputs d → Good s →
+      (length (walked h 0 d slots ins s).0 ≡ outputs d) × Onward s (walked h 0 d slots ins s).1
   walk_goes (Primitive p) slots ins s wf n g = primitive_goes p ins s n
   walk_goes (Constant k) slots ins s wf n g = (refl, laws.leaf_on (leaf.Number k) [] s)
   walk_goes (Control k) slots ins s wf n g = (refl, laws.leaf_on (leaf.Control k) [] s)
@@ -74,7 +76,8 @@ module _ {S : Type 0} (h : Hooks ℕ S) (Good : S → Type 0) (Onward : S → S 
   walk_goes (Split a b) slots ins s wf n g =
       let l = walked h 0 a slots ins s in
       let ma = walk_goes a slots ins s wf.0 n g in
-      let mb = walk_goes b slots (dealt 0 (inputs b) l.0) l.1 wf.1 (length_table (inputs b) (λ i. get_or l.0 (i % length l.0) 0)) (laws.stays_good _ _ ma.1 g) in (mb.0, laws.on_both _ _ _ ma.1 mb.1)
+      let mb = walk_goes b slots (dealt 0 (inputs b) l.0) l.1 wf.1 (length_table (inputs b) (λ i. get_or l.0 (i % length l.0) 0))
+      (laws.stays_good _ _ ma.1 g) in (mb.0, laws.on_both _ _ _ ma.1 mb.1)
   walk_goes (Merge a b) slots ins s wf n g =
       let l = walked h 0 a slots ins s in
       let m = summed h 0 (inputs b) l.0 l.1 in
@@ -104,8 +107,10 @@ pub record Means {S : Type 0} (Holds : S → Type 0) (v c : ℕ → Stream) (d :
 pub record AreSound {S : Type 0} (h : Hooks ℕ S) (Good : S → Type 0) (Onward : S → S → Type 0) (Holds : S → Type 0) (v c : ℕ → Stream) : Type 0 where
   pub primitives : (p : Prim) (slots : ℕ → ℕ) (ins : List ℕ) (s : S) → Good s → length ins ≡ primitive_inputs p → Holds (primitive h p ins s).1 →
       Means Holds v c (Primitive p) slots ins s (primitive h p ins s)
-  pub numbers : (n : ℤ) (slots : ℕ → ℕ) (ins : List ℕ) (s : S) → Holds (h.leaf (leaf.Number n) [] s).1 → Means Holds v c (Constant n) slots ins s (one (h.leaf (leaf.Number n) [] s))
-  pub controls : (k : ℕ) (slots : ℕ → ℕ) (ins : List ℕ) (s : S) → Holds (h.leaf (leaf.Control k) [] s).1 → Means Holds v c (Control k) slots ins s (one (h.leaf (leaf.Control k) [] s))
+  pub numbers : (n : ℤ) (slots : ℕ → ℕ) (ins : List ℕ) (s : S) → Holds (h.leaf (leaf.Number n) [] s).1 →
+      Means Holds v c (Constant n) slots ins s (one (h.leaf (leaf.Number n) [] s))
+  pub controls : (k : ℕ) (slots : ℕ → ℕ) (ins : List ℕ) (s : S) → Holds (h.leaf (leaf.Control k) [] s).1 →
+      Means Holds v c (Control k) slots ins s (one (h.leaf (leaf.Control k) [] s))
   pub opens : (n : ℕ) (s : S) → Holds (h.opened n s).1 → Holds s
   pub shuts : (outs : List ℕ) (s : S) → Holds (h.closed outs s).1 → Holds s
   -- a feedback that was opened at z and is closed at s
@@ -136,7 +141,8 @@ module _ {S : Type 0} (h : Hooks ℕ S) (Good : S → Type 0) (Onward : S → S 
       let a = get_or sums (i % n) 0 in
       let r = h.leaf (leaf.Point Add) (a ∷ x ∷ []) s in
       let next = slice_set sums (i % n) r.0 in
-      let m = added_means n (suc i) xs next r.1 some (length-set sums (i % n) r.0 ∙ w) (orderly.stays_good _ _ (orderly.leaf_on (leaf.Point Add) (a ∷ x ∷ []) s) k) g in
+      let m = added_means n (suc i) xs next r.1 some (length-set sums (i % n) r.0 ∙ w)
+      (orderly.stays_good _ _ (orderly.leaf_on (leaf.Point Add) (a ∷ x ∷ []) s) k) g in
       let e = add_means a x s k m.0 in (
         e.0,
         λ j t l.
@@ -170,7 +176,8 @@ module _ {S : Type 0} (h : Hooks ℕ S) (Good : S → Type 0) (Onward : S → S 
             ∙ ap wrapped_sum (sym (every_front n j (pos 0) X b (omega arith)))),
       )
 
-  pub walk_means : (d : Diagram) (slots : ℕ → ℕ) (ins : List ℕ) (s : S) → IsWellFormed d → length ins ≡ inputs d → Good s → Holds (walked h 0 d slots ins s).1 → Means Holds v c d slots ins s (walked h 0 d slots ins s)
+  pub walk_means : (d : Diagram) (slots : ℕ → ℕ) (ins : List ℕ) (s : S) → IsWellFormed d → length ins ≡ inputs d → Good s →
+      Holds (walked h 0 d slots ins s).1 → Means Holds v c d slots ins s (walked h 0 d slots ins s)
   walk_means (Primitive p) slots ins s wf n k g = laws.primitives p slots ins s k n g
   walk_means (Constant i) slots ins s wf n k g = laws.numbers i slots ins s g
   walk_means (Control i) slots ins s wf n k g = laws.controls i slots ins s g
@@ -182,7 +189,8 @@ module _ {S : Type 0} (h : Hooks ℕ S) (Good : S → Type 0) (Onward : S → S 
       let l = walked h 0 a slots (take (inputs a) ins) s in
       let r = walked h 0 b slots (drop (inputs a) ins) l.1 in
       let na = length-take-le (inputs a) ins (omega (arith, n)) in
-      let mb = walk_means b slots (drop (inputs a) ins) l.1 wf.1 (length-drop (inputs a) ins ∙ omega (arith, n)) (orderly.stays_good _ _ (goes a slots (take (inputs a) ins) s wf.0 na k).1 k) g in
+      let mb = walk_means b slots (drop (inputs a) ins) l.1 wf.1 (length-drop (inputs a) ins ∙ omega (arith, n))
+      (orderly.stays_good _ _ (goes a slots (take (inputs a) ins) s wf.0 na k).1 k) g in
       let ma = walk_means a slots (take (inputs a) ins) s wf.0 na k mb.holds in
       record { holds = ma.holds; wired = (l.0, r.0, ma.wired, mb.wired, λ t. map-append (λ w. v w t) l.0 r.0) }
   walk_means (Seq a b) slots ins s wf n k g =
@@ -194,7 +202,8 @@ module _ {S : Type 0} (h : Hooks ℕ S) (Good : S → Type 0) (Onward : S → S 
       let l = walked h 0 a slots ins s in
       let some : 1 ≤ outputs a = wf.2 in
       let ga = goes a slots ins s wf.0 n k in
-      let mb = walk_means b slots (dealt 0 (inputs b) l.0) l.1 wf.1 (length_table (inputs b) (λ i. get_or l.0 (i % length l.0) 0)) (orderly.stays_good _ _ ga.1 k) g in
+      let mb = walk_means b slots (dealt 0 (inputs b) l.0) l.1 wf.1 (length_table (inputs b) (λ i. get_or l.0 (i % length l.0) 0))
+      (orderly.stays_good _ _ ga.1 k) g in
       let ma = walk_means a slots ins s wf.0 n k mb.holds in record { holds = ma.holds; wired = (l.0, ma.wired, omega (arith, ga.0, some), mb.wired) }
   walk_means (Merge a b) slots ins s wf n k g =
       let l = walked h 0 a slots ins s in
@@ -221,5 +230,13 @@ module _ {S : Type 0} (h : Hooks ℕ S) (Good : S → Type 0) (Onward : S → S 
       let mb = walk_means b slots o.0 o.1 wf.1 nb ko ma.holds in
       let cl = laws.closes (inputs b) l.0 s l.1 k (omega (arith, ga.0, fed)) (orderly.on_both _ _ _ gb.1 ga.1) mb.holds g in record {
         holds = laws.opens (inputs b) s mb.holds;
-        wired = (o.0, r.0, cl.1, (λ t. cl.2 t ∙ ap (take (inputs b)) (sym (cl.0 t))), mb.wired, wired_same v c a slots (r.0 ++ ins) l.0 (h.closed l.0 l.1).0 cl.0 ma.wired);
+        wired = (
+          o.0,
+          r.0,
+          cl.1,
+          (λ t. cl.2 t ∙ ap (take (inputs b)) (sym (cl.0 t))),
+          mb.wired,
+          wired_same v c a slots (r.0 ++ ins) l.0
+              (h.closed l.0 l.1).0 cl.0 ma.wired,
+        );
       }

@@ -17,12 +17,14 @@ prefix_get xs ys i d h l = ap (λ zs. get_or zs i d) h.is ∙ get_or_append_left
 
 pub table_replicate : (n : ℕ) (z : ℤ) → table n (λ i. z) ≡ replicate n z
 table_replicate zero z = refl
-table_replicate (suc n) z = ap (λ xs. xs ++ z ∷ []) (table_replicate n z) ∙ replicate_more n z ∙ (let e : n + 1 ≡ suc n = omega arith in ap (λ k. replicate k z) e)
+table_replicate (suc n) z = ap (λ xs. xs ++ z ∷ []) (table_replicate n z) ∙ replicate_more n z
+    ∙ (let e : n + 1 ≡ suc n = omega arith in ap (λ k. replicate k z) e)
 
 take_table : {A : Type 0} (n m : ℕ) (f : ℕ → A) → n ≤ m → take n (table m f) ≡ table n f
 take_table n zero f l = let e : n ≡ 0 = omega arith in ap (λ k. take k []) e ∙ sym (ap (λ k. table k f) e)
 take_table n (suc m) f l = elim (cases_lt m n) [
-  | inl g ↦ let e : n ≡ suc m = omega arith in ap (λ k. take k (table (suc m) f)) e ∙ take_all (suc m) (table (suc m) f) (omega (arith, length_table (suc m) f)) ∙ sym (ap (λ k. table k f) e)
+  | inl g ↦ let e : n ≡ suc m = omega arith in ap (λ k. take k (table (suc m) f)) e
+      ∙ take_all (suc m) (table (suc m) f) (omega (arith, length_table (suc m) f)) ∙ sym (ap (λ k. table k f) e)
   | inr g ↦ take-append-le n (table m f) (f m ∷ []) (omega (arith, length_table m f)) ∙ take_table n m f g
 ]
 

@@ -124,7 +124,8 @@ written_at : (i j : ℕ) (ws xs : List ℕ) → j < length ws → i + length ws 
 written_at i j [] xs l h = absurd (omega arith)
 written_at i zero (w ∷ ws) xs l h =
     let e : i + 0 ≡ i = omega arith in
-    ap (λ k. get_or (written (suc i) ws (slice_set xs i w)) k 0) e ∙ written_past (suc i) i ws (slice_set xs i w) (inl (omega arith)) ∙ get_or-set_same xs i w 0 (omega arith)
+    ap (λ k. get_or (written (suc i) ws (slice_set xs i w)) k 0) e ∙ written_past (suc i) i ws (slice_set xs i w) (inl (omega arith))
+    ∙ get_or-set_same xs i w 0 (omega arith)
 written_at i (suc j) (w ∷ ws) xs l h =
     let e : i + suc j ≡ suc i + j = omega arith in
     ap (λ k. get_or (written (suc i) ws (slice_set xs i w)) k 0) e ∙ written_at (suc i) j ws (slice_set xs i w) (omega arith) (omega (arith, length-set xs i w))
@@ -153,7 +154,8 @@ takes_some op.Select3 = (omega arith, omega arith)
 takes_some _ = (omega arith, omega arith)
 
 -- the first sample of a, and then b one sample later, by a choice
-chosen_at : (a b one begun late : Stream) (x y : Stream) (t : ℕ) → ((u : ℕ) → one u ≡ pos 1) → ((u : ℕ) → begun u ≡ delayed one u) → ((u : ℕ) → late u ≡ delayed y u) →
+chosen_at : (a b one begun late : Stream) (x y : Stream) (t : ℕ) → ((u : ℕ) → one u ≡ pos 1) → ((u : ℕ) → begun u ≡ delayed one u) →
+    ((u : ℕ) → late u ≡ delayed y u) →
     x 0 ≡ a 0 → ((u : ℕ) → u < t → y u ≡ b u) → apply_of Select2 (begun t ∷ x t ∷ late t ∷ []) ≡ prefixed a b t
 chosen_at a b one begun late x y zero h g k e f = ap (λ z. apply_of Select2 (z ∷ x 0 ∷ late 0 ∷ [])) (g 0) ∙ e
 chosen_at a b one begun late x y (suc t) h g k e f =
@@ -227,7 +229,12 @@ module _ (F : Code) (ordered : AreOrdered F.steps) (c x : ℕ → Stream) where
   shows_back : (slots : ℕ → ℕ) (a b : ℕ) (s : Code) → GoesOn F (put_back s a b).1 → Shows prim.Delay slots (a ∷ b ∷ []) s
   shows_back slots a b s g =
       let ins = a ∷ b ∷ [] in record {
-        holds = record { steps = (before_step s (step.Back a b (length s.changes)) record { steps = g.steps; cells = g.cells; same = g.same }).steps; cells = g.cells; same = g.same };
+        holds = record {
+          steps = (before_step s (step.Back a b (length s.changes)) record { steps = g.steps; cells = g.cells; same = g.same }).steps;
+          cells =
+              g.cells;
+          same = g.same;
+        };
         wired = λ n t l.
             ap (λ z. z ∷ [])
             (step_gives s (step.Back a b (length s.changes)) record { steps = g.steps; cells = g.cells; same = g.same } t
@@ -235,7 +242,8 @@ module _ (F : Code) (ordered : AreOrdered F.steps) (c x : ℕ → Stream) where
             ∙ ap (back (column (carries v ins n) 0) t) (sym (column_carries v ins n 1 t l)));
       }
 
-  shows_point : (o : Op) (slots : ℕ → ℕ) (ins : List ℕ) (s : Code) → length ins ≡ inputs_of o → GoesOn F (put s (step.Point o (padded ins))).1 → Shows (prim.Point o) slots ins s
+  shows_point : (o : Op) (slots : ℕ → ℕ) (ins : List ℕ) (s : Code) → length ins ≡ inputs_of o → GoesOn F (put s (step.Point o (padded ins))).1 →
+      Shows (prim.Point o) slots ins s
   shows_point o slots ins s e g =
       let some = takes_some o in record {
         holds = before_step s (step.Point o (padded ins)) g;
@@ -250,10 +258,12 @@ module _ (F : Code) (ordered : AreOrdered F.steps) (c x : ℕ → Stream) where
   shows_mem slots w s good g = record {
     holds = before_cell s w g;
     wired = λ n t l.
-        ap (λ z. z ∷ []) (cell_gives s w good g t ∙ delayed_same (v w) (column (carries v (w ∷ []) n) 0) t (λ u m. sym (column_carries v (w ∷ []) n 0 u (omega arith))));
+        ap (λ z. z ∷ []) (cell_gives s w good g t ∙ delayed_same (v w) (column (carries v (w ∷ []) n) 0) t
+        (λ u m. sym (column_carries v (w ∷ []) n 0 u (omega arith))));
   }
 
-  shows : (p : Prim) (slots : ℕ → ℕ) (ins : List ℕ) (s : Code) → HasLoops s → length ins ≡ primitive_inputs p → GoesOn F (primitive runner_hooks p ins s).1 → Shows p slots ins s
+  shows : (p : Prim) (slots : ℕ → ℕ) (ins : List ℕ) (s : Code) → HasLoops s → length ins ≡ primitive_inputs p → GoesOn F (primitive runner_hooks p ins s).1 →
+      Shows p slots ins s
   shows prim.Wire slots [] s good e g = absurd (omega arith)
   shows prim.Wire slots (w ∷ ws) s good e g = record { holds = g; wired = λ n t l. first_at w ws n t l }
   shows prim.Int slots [] s good e g = absurd (omega arith)
@@ -292,14 +302,17 @@ module _ (F : Code) (ordered : AreOrdered F.steps) (c x : ℕ → Stream) where
         cells = omega (arith, g.cells, long);
         same = λ k m h.
             let h' = subst (λ ls. IsShut ls k) e h in
-            g.same k (omega (arith, long)) h'.1 ∙ written_past l.first k (take l.count outs) s.sources (elim h'.0 [ inl a ↦ inl a | inr a ↦ inr (omega (arith, length-take l.count outs)) ]);
+            g.same k (omega (arith, long)) h'.1 ∙ written_past l.first k (take l.count outs) s.sources
+            (elim h'.0 [ inl a ↦ inl a | inr a ↦ inr (omega (arith, length-take l.count outs)) ]);
       }
 
   before_close : (outs : List ℕ) (s : Code) → GoesOn F (closed_of outs s).1 → GoesOn F s
   before_close outs s g = shut_goes s.loops outs s refl g
 
-  closes : (n : ℕ) (outs : List ℕ) (z s : Code) → HasLoops z → n ≤ length outs → Onward (opened_of n z).1 s → GoesOn F (opened_of n z).1 → GoesOn F (closed_of outs s).1 →
-      ((t : ℕ) → carried v outs t ≡ carried v outs t) × (carried v (opened_of n z).0 0 ≡ replicate n (pos 0)) × ((t : ℕ) → carried v (opened_of n z).0 (suc t) ≡ take n (carried v outs t))
+  closes : (n : ℕ) (outs : List ℕ) (z s : Code) → HasLoops z → n ≤ length outs → Onward (opened_of n z).1 s → GoesOn F (opened_of n z).1 →
+      GoesOn F (closed_of outs s).1 →
+      ((t : ℕ) → carried v outs t ≡ carried v outs t) × (carried v (opened_of n z).0 0 ≡ replicate n (pos 0)) ×
+      ((t : ℕ) → carried v (opened_of n z).0 (suc t) ≡ take n (carried v outs t))
   unfolding v
   closes n outs z s good wide on go gc =
       let first = length z.sources in
@@ -333,7 +346,12 @@ module _ (F : Code) (ordered : AreOrdered F.steps) (c x : ℕ → Stream) where
     primitives = shows;
     numbers = λ n slots ins s g. record { holds = before_step s (step.Number n) g; wired = λ t. ap (λ z. z ∷ []) (step_gives s (step.Number n) g t) };
     controls = λ k slots ins s g. record {
-      holds = record { steps = (before_step s (step.Control k) record { steps = g.steps; cells = g.cells; same = g.same }).steps; cells = g.cells; same = g.same };
+      holds = record {
+        steps = (before_step s (step.Control k) record { steps = g.steps; cells = g.cells; same = g.same }).steps;
+        cells = g.cells;
+        same =
+            g.same;
+      };
       wired = λ t. ap (λ z. z ∷ []) (step_gives s (step.Control k) record { steps = g.steps; cells = g.cells; same = g.same } t);
     };
     opens = before_open;

@@ -27,17 +27,21 @@ module _ (sources : List ℕ) (c x : ℕ → Stream) where
         | inr g ↦ let e : t ≡ u = omega arith in subst (λ z. v w z ≡ v' w z) e (q w l)
       ]))
 
-  steps_causal : (i : ℕ) (ss : List Step) → ((j : ℕ) (d : Step) → j < length ss → OperandsBelow (i + j) (get_or ss j d)) → AreCausalFrom (step_at sources c x) i ss
+  steps_causal : (i : ℕ) (ss : List Step) → ((j : ℕ) (d : Step) → j < length ss → OperandsBelow (i + j) (get_or ss j d)) →
+      AreCausalFrom (step_at sources c x) i ss
   steps_causal i [] h = tt
   steps_causal i (s ∷ ss) h =
       let z : i + 0 ≡ i = omega arith in (
         step_causal i s (subst (λ n. OperandsBelow n s) z (h 0 s (omega arith))),
-        steps_causal (suc i) ss (λ j d l. let e : i + suc j ≡ suc i + j = omega arith in subst (λ n. OperandsBelow n (get_or ss j d)) e (h (suc j) d (omega arith))),
+        steps_causal (suc i) ss (λ j d l. let e : i + suc j ≡ suc i + j = omega arith in subst (λ n. OperandsBelow n (get_or ss j d)) e
+            (h (suc j) d (omega arith))),
       )
 
-  pub step_is : (more : List Step) (i : ℕ) (s : Step) (t : ℕ) → AreOrdered more → i < length more → get_or more i s ≡ s → wires more sources c x i t ≡ step_at sources c x (wires more sources c x) s t
+  pub step_is : (more : List Step) (i : ℕ) (s : Step) (t : ℕ) → AreOrdered more → i < length more → get_or more i s ≡ s →
+      wires more sources c x i t ≡ step_at sources c x (wires more sources c x) s t
   step_is more i s t h l e =
-      valuation_is (step_at sources c x) more (steps_causal 0 more (λ j d m. let z : j ≡ 0 + j = omega arith in subst (λ n. OperandsBelow n (get_or more j d)) z (h j d m)))
+      valuation_is (step_at sources c x) more (steps_causal 0 more
+      (λ j d m. let z : j ≡ 0 + j = omega arith in subst (λ n. OperandsBelow n (get_or more j d)) z (h j d m)))
       i s s l e (step_causal i s (subst (OperandsBelow i) e (h i s l))) t
 
   -- where more steps follow, the register of the last one has what that step gives
@@ -49,5 +53,6 @@ module _ (sources : List ℕ) (c x : ℕ → Stream) where
       (prefix_get (steps ++ s ∷ []) more (length steps) s b (omega (arith, length_push steps s)) ∙ get_or_push steps s s (length steps) refl)
 
 -- cell k holds its source one sample later
-pub cell_is : (v : ℕ → Stream) (sources : List ℕ) (k : ℕ) (t : ℕ) → k < length sources → argument (map (λ w. delayed (v w) t) sources) k ≡ delayed (v (get_or sources k 0)) t
+pub cell_is : (v : ℕ → Stream) (sources : List ℕ) (k : ℕ) (t : ℕ) → k < length sources →
+    argument (map (λ w. delayed (v w) t) sources) k ≡ delayed (v (get_or sources k 0)) t
 cell_is v sources k t l = get_or-map (λ w. delayed (v w) t) sources k 0 (pos 0) l

@@ -48,6 +48,7 @@ code_of a = record {
   ins = a.ins;
 }
 
+-- what holds of the fields
 abbrev pub IsInside : Inside → Type 0
 IsInside a = IsCode (code_of a)
 
@@ -59,6 +60,7 @@ input_code n = record { steps = (step.Number (pos 0) ∷ []) ++ table n step.Inp
 abbrev pub with_step : Code → Step → Code
 with_step s a = record s { steps = s.steps ++ a ∷ [] }
 
+-- the same, with the register that the step has
 abbrev pub put : Code → Step → ℕ × Code
 put s a = (length s.steps, with_step s a)
 
@@ -120,6 +122,7 @@ abbrev pub shut : List Loop → List ℕ → Code → Code
 shut [] outs s = s
 shut (l ∷ ls) outs s = record s { sources = written l.first (take l.count outs) s.sources; loops = ls }
 
+-- what the end of a feedback gives, and the code after it
 abbrev pub closed_of : List ℕ → Code → List ℕ × Code
 closed_of outs s = (outs, shut s.loops outs s)
 

@@ -10,5 +10,6 @@ pub record Numbers : Type 0 where
 abbrev pub numbers_of : List Numbers → List (List ℤ)
 numbers_of hs = map (λ h. h.numbers) hs
 
+-- there is room for one number more
 abbrev pub HasRoom : Numbers → Type 0
 HasRoom h = 1 ≤ h.room

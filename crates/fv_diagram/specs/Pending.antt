@@ -19,6 +19,7 @@ pub record Rules (W S : Type 0) : Type 1 where
   pub free : W
   pub arena : Arena
 
+-- such rules, by their parts
 abbrev pub rules : {W S : Type 0} → Hooks W S → (S → W → Type 0) → (S → List ℕ) → W → Arena → Rules W S
 rules hooks is_wire fed free arena = record { hooks = hooks; is_wire = is_wire; fed = fed; free = free; arena = arena }
 
@@ -83,6 +84,7 @@ pub record Stage (W S : Type 0) : Type 0 where
   pub now : List W
   pub signals : S
 
+-- such work, by its parts
 abbrev pub stage : {W S : Type 0} → List (Task W) → List (Plug W) → List W → S → Stage W S
 stage ts plugs now s = record { tasks = ts; plugs = plugs; now = now; signals = s }
 

@@ -31,6 +31,7 @@ added h free n i (x ∷ xs) sums s =
     let r = h.leaf (leaf.Point Add) (get_or sums (i % n) free ∷ x ∷ []) s in
     added h free n (suc i) xs (slice_set sums (i % n) r.0) r.1
 
+-- the sums of a merge: the first n terms, to which the others are added
 abbrev pub summed : {W S : Type 0} → Hooks W S → W → ℕ → List W → S → List W × S
 summed h free n xs s = added h free n n (drop n xs) (take n xs) s
 

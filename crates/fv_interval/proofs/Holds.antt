@@ -61,7 +61,14 @@ of_table zero f g h = tt
 of_table (suc n) f g h = of_append (table n f) (f n ∷ []) (table n g) (g n ∷ []) (of_table n f g (λ i l. h i (omega arith))) (h n (omega arith), tt)
 
 full_of : (z : ℤ) → FitsSigned w32 z → IsOf full z
-full_of z f = (record { ordered = omega (arith, ints); lo_fits = omega (arith, ints); hi_fits = omega (arith, ints) }, record { above = omega (arith, ints); below = omega (arith, ints) })
+full_of z f = (
+  record { ordered = omega (arith, ints); lo_fits = omega (arith, ints); hi_fits = omega (arith, ints) },
+  record {
+    above = omega
+        (arith, ints);
+    below = omega (arith, ints);
+  },
+)
 
 of_fits : (s : Interval) (z : ℤ) → IsOf s z → FitsSigned w32 z
 of_fits s z h = omega (arith, ints, h.0.lo_fits, h.0.hi_fits, h.1.above, h.1.below)
@@ -77,13 +84,23 @@ point_of n f = (record { ordered = omega (arith, ints); lo_fits = f; hi_fits = f
 
 left_of : (s t : Interval) (z : ℤ) → IsSpan t → IsOf s z → IsOf (hull s t) z
 left_of s t z p h = (
-  record { ordered = omega (arith, ints, clamps, h.0.ordered); lo_fits = omega (arith, ints, clamps, h.0.lo_fits, p.lo_fits); hi_fits = omega (arith, ints, clamps, h.0.hi_fits, p.hi_fits) },
+  record {
+    ordered = omega (arith, ints, clamps, h.0.ordered);
+    lo_fits = omega (arith, ints, clamps, h.0.lo_fits, p.lo_fits);
+    hi_fits = omega
+        (arith, ints, clamps, h.0.hi_fits, p.hi_fits);
+  },
   record { above = omega (arith, ints, clamps, h.1.above); below = omega (arith, ints, clamps, h.1.below) },
 )
 
 right_of : (s t : Interval) (z : ℤ) → IsSpan s → IsOf t z → IsOf (hull s t) z
 right_of s t z p h = (
-  record { ordered = omega (arith, ints, clamps, h.0.ordered); lo_fits = omega (arith, ints, clamps, h.0.lo_fits, p.lo_fits); hi_fits = omega (arith, ints, clamps, h.0.hi_fits, p.hi_fits) },
+  record {
+    ordered = omega (arith, ints, clamps, h.0.ordered);
+    lo_fits = omega (arith, ints, clamps, h.0.lo_fits, p.lo_fits);
+    hi_fits = omega
+        (arith, ints, clamps, h.0.hi_fits, p.hi_fits);
+  },
   record { above = omega (arith, ints, clamps, h.1.above); below = omega (arith, ints, clamps, h.1.below) },
 )
 
@@ -128,7 +145,8 @@ every_of n j i [] (z ∷ x) h = absurd h
 every_of n j i (s ∷ I) [] h = absurd h
 every_of n j i (s ∷ I) (z ∷ x) h =
     let g = every_of n j (suc i) I x h.1 in
-    elim (nat_eq (i % n) j) as (λ b. AreOf (if b then s ∷ every n j (suc i) I else every n j (suc i) I) (if b then z ∷ every n j (suc i) x else every n j (suc i) x)) [
+    elim (nat_eq (i % n) j) as (λ b. AreOf (if b then s ∷ every n j (suc i) I else every n j (suc i) I)
+    (if b then z ∷ every n j (suc i) x else every n j (suc i) x)) [
       | true ↦ (h.0, g)
       | false ↦ g
     ]
@@ -138,7 +156,8 @@ merged_of n I x h = of_table n _ _ (λ j l. summed_of (every n j 0 I) (every n j
 
 dealt_of : (n : ℕ) (I : List Interval) (x : Frame) → 1 ≤ length I → AreOf I x → AreOf (dealt (point (pos 0)) n I) (dealt (pos 0) n x)
 dealt_of n I x l h = of_table n _ _ (λ i k.
-    subst (λ m. IsOf (get_or I (i % length I) (point (pos 0))) (get_or x (i % m) (pos 0))) (sym (of_length I x h)) (of_get I x (i % length I) (point (pos 0)) h (mod-lt i l)))
+    subst (λ m. IsOf (get_or I (i % length I) (point (pos 0))) (get_or x (i % m) (pos 0))) (sym (of_length I x h))
+    (of_get I x (i % length I) (point (pos 0)) h (mod-lt i l)))
 
 -- ---- primitives
 
@@ -169,7 +188,8 @@ module _ (I : List Interval) (X : List Frame) (w : All (AreOf I) X) where
   primitive_of prim.Mem e t m = (late t (omega arith) m, tt)
   primitive_of prim.Prefix e t m = (first t (omega arith) m, tt)
   primitive_of prim.Delay e t m = (ago t (column X 1 t) (omega arith) m, tt)
-  primitive_of (prim.Point op) e t m = ((closed op I e (λ i l. (at i t l m).0), holds op I e (λ i l. (at i t l m).0) (frame_at X t) (λ i l. (at i t l m).1)), tt)
+  primitive_of (prim.Point op) e t m =
+      ((closed op I e (λ i l. (at i t l m).0), holds op I e (λ i l. (at i t l m).0) (frame_at X t) (λ i l. (at i t l m).1)), tt)
 
 -- ---- diagrams
 
@@ -188,7 +208,8 @@ answers_length (Slot s) c e I h l = refl
 answers_length (Bind s a) c e I h l = answers_length a c (bound_span e s (span_at I 0)) (drop 1 I) h (omega (arith, l, length-drop 1 I))
 answers_length (Par a b) c e I h l =
     length-append (spans a c e (take (inputs a) I)) (spans b c e (drop (inputs a) I))
-    ∙ ap₂ (λ m n. m + n) (answers_length a c e (take (inputs a) I) h.0 (length-take-le (inputs a) I (omega arith))) (answers_length b c e (drop (inputs a) I) h.1 (omega (arith, l, length-drop (inputs a) I)))
+    ∙ ap₂ (λ m n. m + n) (answers_length a c e (take (inputs a) I) h.0 (length-take-le (inputs a) I (omega arith)))
+    (answers_length b c e (drop (inputs a) I) h.1 (omega (arith, l, length-drop (inputs a) I)))
 answers_length (Seq a b) c e I h l = answers_length b c e (spans a c e I) h.1 (answers_length a c e I h.0 l ∙ h.2)
 answers_length (Split a b) c e I h l = answers_length b c e (dealt (point (pos 0)) (inputs b) (spans a c e I)) h.1 (length_table (inputs b) _)
 answers_length (Merge a b) c e I h l = answers_length b c e (merged_spans (inputs b) (spans a c e I)) h.1 (length_table (inputs b) _)
@@ -198,18 +219,21 @@ answers_length (Rec a b) c e I h l =
     answers_length a c e (K ++ I) h.0 (omega (arith, length-append K I, k, l, h.3))
 
 zeros_of : (n : ℕ) → AreOf (table n (λ i. full)) (replicate n (pos 0))
-zeros_of n = of_full n (replicate n (pos 0)) (length-replicate n (pos 0)) (λ i m. subst (FitsSigned w32) (sym (get_or-replicate n i (pos 0) (pos 0) m)) (omega (arith, ints)))
+zeros_of n = of_full n (replicate n (pos 0)) (length-replicate n (pos 0))
+    (λ i m. subst (FitsSigned w32) (sym (get_or-replicate n i (pos 0) (pos 0) m)) (omega (arith, ints)))
 
 cut_of : (n : ℕ) (O : List Interval) (y : Frame) → n ≤ length O → AreOf O y → AreOf (table n (λ i. full)) (take n y)
 cut_of n O y l h =
     of_full n (take n y) (length-take-le n y (omega (arith, of_length O y h)))
     (λ i m. subst (FitsSigned w32) (sym (get_or-take n y i (pos 0) m)) (of_fits (get_or O i full) (get_or y i (pos 0)) (of_get O y i full h (omega arith))))
 
-bound_of : (n : ℕ) (e : ℕ → Interval) (es : ℕ → Stream) (s : ℕ) (u : Interval) (x : Stream) → ((k t : ℕ) → t < n → IsOf (e k) (es k t)) → ((t : ℕ) → t < n → IsOf u (x t)) → (k t : ℕ) → t < n → IsOf (bound_span e s u k) (bound es s x k t)
+bound_of : (n : ℕ) (e : ℕ → Interval) (es : ℕ → Stream) (s : ℕ) (u : Interval) (x : Stream) → ((k t : ℕ) → t < n → IsOf (e k) (es k t)) →
+    ((t : ℕ) → t < n → IsOf u (x t)) → (k t : ℕ) → t < n → IsOf (bound_span e s u k) (bound es s x k t)
 bound_of n e es s u x h g k t l = elim (nat_eq k s) as (λ b. IsOf (if b then u else e k) ((if b then x else es k) t)) [ true ↦ g t l | false ↦ h k t l ]
 
 pub answers_hold : (d : Diagram) → AnswersHold d
-answers_hold (Primitive p) wf fit c e I cs es X l hc he w = each_table (AreOf (primitive_spans p I)) (length X) (primitive_at p X) (λ t m. primitive_of I X w p l t m)
+answers_hold (Primitive p) wf fit c e I cs es X l hc he w = each_table (AreOf (primitive_spans p I)) (length X) (primitive_at p X)
+    (λ t m. primitive_of I X w p l t m)
 answers_hold (Constant n) wf fit c e I cs es X l hc he w = each_table (AreOf (point n ∷ [])) (length X) _ (λ t m. (point_of n fit, tt))
 answers_hold (Control k) wf fit c e I cs es X l hc he w = each_table (AreOf (c k ∷ [])) (length X) _ (λ t m. (hc k t, tt))
 answers_hold (Slot s) wf fit c e I cs es X l hc he w = each_table (AreOf (e s ∷ [])) (length X) _ (λ t m. (he s t m, tt))
@@ -222,10 +246,13 @@ answers_hold (Par a b) wf fit c e I cs es X l hc he w =
     each_beside (AreOf (spans a c e (take n I))) (AreOf (spans b c e (drop n I))) (AreOf (spans a c e (take n I) ++ spans b c e (drop n I)))
     (run a cs es (map (take n) X)) (run b cs es (map (drop n) X))
     (λ x y h g. of_append (spans a c e (take n I)) (spans b c e (drop n I)) x y h g)
-    (answers_hold a wf.0 fit.0 c e (take n I) cs es (map (take n) X) (length-take-le n I (omega arith)) hc (λ s t m. he s t (omega (arith, length-map X (take n)))) (each_map (AreOf I) (AreOf (take n I)) (take n) X (λ x h. of_take n I x h) w))
-    (answers_hold b wf.1 fit.1 c e (drop n I) cs es (map (drop n) X) (omega (arith, l, length-drop n I)) hc (λ s t m. he s t (omega (arith, length-map X (drop n)))) (each_map (AreOf I) (AreOf (drop n I)) (drop n) X (λ x h. of_drop n I x h) w))
+    (answers_hold a wf.0 fit.0 c e (take n I) cs es (map (take n) X) (length-take-le n I (omega arith)) hc
+    (λ s t m. he s t (omega (arith, length-map X (take n)))) (each_map (AreOf I) (AreOf (take n I)) (take n) X (λ x h. of_take n I x h) w))
+    (answers_hold b wf.1 fit.1 c e (drop n I) cs es (map (drop n) X) (omega (arith, l, length-drop n I)) hc
+    (λ s t m. he s t (omega (arith, length-map X (drop n)))) (each_map (AreOf I) (AreOf (drop n I)) (drop n) X (λ x h. of_drop n I x h) w))
 answers_hold (Seq a b) wf fit c e I cs es X l hc he w =
-    answers_hold b wf.1 fit.1 c e (spans a c e I) cs es (run a cs es X) (answers_length a c e I wf.0 l ∙ wf.2) hc (λ s t m. he s t (omega (arith, length_run a cs es X)))
+    answers_hold b wf.1 fit.1 c e (spans a c e I) cs es (run a cs es X) (answers_length a c e I wf.0 l ∙ wf.2) hc
+    (λ s t m. he s t (omega (arith, length_run a cs es X)))
     (answers_hold a wf.0 fit.0 c e I cs es X l hc he w)
 answers_hold (Split a b) wf fit c e I cs es X l hc he w =
     let K = spans a c e I in
@@ -233,13 +260,15 @@ answers_hold (Split a b) wf fit c e I cs es X l hc he w =
     let some : 1 ≤ outputs a = wf.2 in
     answers_hold b wf.1 fit.1 c e (dealt (point (pos 0)) (inputs b) K) cs es (map f (run a cs es X)) (length_table (inputs b) _) hc
     (λ s t m. he s t (omega (arith, length-map (run a cs es X) f, length_run a cs es X)))
-    (each_map (AreOf K) (AreOf (dealt (point (pos 0)) (inputs b) K)) f (run a cs es X) (λ x h. dealt_of (inputs b) K x (omega (arith, some, answers_length a c e I wf.0 l)) h) (answers_hold a wf.0 fit.0 c e I cs es X l hc he w))
+    (each_map (AreOf K) (AreOf (dealt (point (pos 0)) (inputs b) K)) f (run a cs es X)
+    (λ x h. dealt_of (inputs b) K x (omega (arith, some, answers_length a c e I wf.0 l)) h) (answers_hold a wf.0 fit.0 c e I cs es X l hc he w))
 answers_hold (Merge a b) wf fit c e I cs es X l hc he w =
     let K = spans a c e I in
     let f = merged (inputs b) in
     answers_hold b wf.1 fit.1 c e (merged_spans (inputs b) K) cs es (map f (run a cs es X)) (length_table (inputs b) _) hc
     (λ s t m. he s t (omega (arith, length-map (run a cs es X) f, length_run a cs es X)))
-    (each_map (AreOf K) (AreOf (merged_spans (inputs b) K)) f (run a cs es X) (λ x h. merged_of (inputs b) K x h) (answers_hold a wf.0 fit.0 c e I cs es X l hc he w))
+    (each_map (AreOf K) (AreOf (merged_spans (inputs b) K)) f (run a cs es X) (λ x h. merged_of (inputs b) K x h)
+    (answers_hold a wf.0 fit.0 c e I cs es X l hc he w))
 answers_hold (Rec a b) wf fit c e I cs es X l hc he w =
     let n = inputs b in
     let F = table n (λ i. full) in
@@ -248,7 +277,8 @@ answers_hold (Rec a b) wf fit c e I cs es X l hc he w =
     let k : length K ≡ outputs b = answers_length b c e F wf.1 (length_table n _) in
     let wide : length (K ++ I) ≡ inputs a = omega (arith, length-append K I, k, l, wf.3) in
     let o : length O ≡ outputs a = answers_length a c e (K ++ I) wf.0 wide in
-    each_feedback (run a cs es) (run b cs es) n (length X) (AreOf I) (AreOf O) (AreOf F) (AreOf K) (AreOf (K ++ I)) (zeros_of n) (λ y h. cut_of n O y (omega (arith, o, wf.2)) h)
+    each_feedback (run a cs es) (run b cs es) n (length X) (AreOf I) (AreOf O) (AreOf F) (AreOf K) (AreOf (K ++ I)) (zeros_of n)
+    (λ y h. cut_of n O y (omega (arith, o, wf.2)) h)
     (λ x y h g. of_append K I x y h g) (length_run a cs es) (length_run b cs es)
     (λ Z m. answers_hold a wf.0 fit.0 c e (K ++ I) cs es Z wide hc (λ s t r. he s t (omega arith)))
     (λ Z m. answers_hold b wf.1 fit.1 c e F cs es Z (length_table n _) hc (λ s t r. he s t (omega arith)))
@@ -272,12 +302,15 @@ delays_hold (Bind s a) wf fit c e I cs es X l hc he w =
     (each_map (AreOf I) (AreOf (drop 1 I)) (drop 1) X (λ x h. of_drop 1 I x h) w)
 delays_hold (Par a b) wf fit c e I cs es X l hc he w =
     let n = inputs a in (
-      delays_hold a wf.0 fit.0 c e (take n I) cs es (map (take n) X) (length-take-le n I (omega arith)) hc (λ s t m. he s t (omega (arith, length-map X (take n)))) (each_map (AreOf I) (AreOf (take n I)) (take n) X (λ x h. of_take n I x h) w),
-      delays_hold b wf.1 fit.1 c e (drop n I) cs es (map (drop n) X) (omega (arith, l, length-drop n I)) hc (λ s t m. he s t (omega (arith, length-map X (drop n)))) (each_map (AreOf I) (AreOf (drop n I)) (drop n) X (λ x h. of_drop n I x h) w),
+      delays_hold a wf.0 fit.0 c e (take n I) cs es (map (take n) X) (length-take-le n I (omega arith)) hc
+          (λ s t m. he s t (omega (arith, length-map X (take n)))) (each_map (AreOf I) (AreOf (take n I)) (take n) X (λ x h. of_take n I x h) w),
+      delays_hold b wf.1 fit.1 c e (drop n I) cs es (map (drop n) X) (omega (arith, l, length-drop n I)) hc
+          (λ s t m. he s t (omega (arith, length-map X (drop n)))) (each_map (AreOf I) (AreOf (drop n I)) (drop n) X (λ x h. of_drop n I x h) w),
     )
 delays_hold (Seq a b) wf fit c e I cs es X l hc he w = (
   delays_hold a wf.0 fit.0 c e I cs es X l hc he w,
-  delays_hold b wf.1 fit.1 c e (spans a c e I) cs es (run a cs es X) (answers_length a c e I wf.0 l ∙ wf.2) hc (λ s t m. he s t (omega (arith, length_run a cs es X)))
+  delays_hold b wf.1 fit.1 c e (spans a c e I) cs es (run a cs es X) (answers_length a c e I wf.0 l ∙ wf.2) hc
+      (λ s t m. he s t (omega (arith, length_run a cs es X)))
       (answers_hold a wf.0 fit.0 c e I cs es X l hc he w),
 )
 delays_hold (Split a b) wf fit c e I cs es X l hc he w =
@@ -287,7 +320,8 @@ delays_hold (Split a b) wf fit c e I cs es X l hc he w =
       delays_hold a wf.0 fit.0 c e I cs es X l hc he w,
       delays_hold b wf.1 fit.1 c e (dealt (point (pos 0)) (inputs b) K) cs es (map f (run a cs es X)) (length_table (inputs b) _) hc
           (λ s t m. he s t (omega (arith, length-map (run a cs es X) f, length_run a cs es X)))
-          (each_map (AreOf K) (AreOf (dealt (point (pos 0)) (inputs b) K)) f (run a cs es X) (λ x h. dealt_of (inputs b) K x (omega (arith, some, answers_length a c e I wf.0 l)) h) (answers_hold a wf.0 fit.0 c e I cs es X l hc he w)),
+          (each_map (AreOf K) (AreOf (dealt (point (pos 0)) (inputs b) K)) f (run a cs es X)
+          (λ x h. dealt_of (inputs b) K x (omega (arith, some, answers_length a c e I wf.0 l)) h) (answers_hold a wf.0 fit.0 c e I cs es X l hc he w)),
     )
 delays_hold (Merge a b) wf fit c e I cs es X l hc he w =
     let K = spans a c e I in
@@ -295,7 +329,8 @@ delays_hold (Merge a b) wf fit c e I cs es X l hc he w =
       delays_hold a wf.0 fit.0 c e I cs es X l hc he w,
       delays_hold b wf.1 fit.1 c e (merged_spans (inputs b) K) cs es (map f (run a cs es X)) (length_table (inputs b) _) hc
           (λ s t m. he s t (omega (arith, length-map (run a cs es X) f, length_run a cs es X)))
-          (each_map (AreOf K) (AreOf (merged_spans (inputs b) K)) f (run a cs es X) (λ x h. merged_of (inputs b) K x h) (answers_hold a wf.0 fit.0 c e I cs es X l hc he w)),
+          (each_map (AreOf K) (AreOf (merged_spans (inputs b) K)) f (run a cs es X) (λ x h. merged_of (inputs b) K x h)
+          (answers_hold a wf.0 fit.0 c e I cs es X l hc he w)),
     )
 delays_hold (Rec a b) wf fit c e I cs es X l hc he w =
     let n = inputs b in
@@ -310,11 +345,13 @@ delays_hold (Rec a b) wf fit c e I cs es X l hc he w =
     let G = fed_back_over b Y in
     let long : length Y ≡ length X = length_run (Rec a b) cs es X in
     let g : All (AreOf F) G = All-take (AreOf F) (length Y) (fed_back n Y)
-    (All-cons (AreOf F) (replicate n (pos 0)) (map (take n) Y) (zeros_of n) (each_map (AreOf O) (AreOf F) (take n) Y (λ x h. cut_of n O x (omega (arith, o, wf.2)) h) y)) in
+    (All-cons (AreOf F) (replicate n (pos 0)) (map (take n) Y) (zeros_of n)
+    (each_map (AreOf O) (AreOf F) (take n) Y (λ x h. cut_of n O x (omega (arith, o, wf.2)) h) y)) in
     let few : length G ≡ length X = length-take-le (length Y) (fed_back n Y) (omega (arith, length-map Y (take n))) ∙ long in
     let he' : (s t : ℕ) → t < length G → IsOf (e s) (es s t) = λ s t m. he s t (omega (arith, few)) in
     let r : length (run b cs es G) ≡ length X = length_run b cs es G ∙ few in (
       delays_hold b wf.1 fit.1 c e F cs es G (length_table n _) hc he' g,
       delays_hold a wf.0 fit.0 c e (K ++ I) cs es (beside (run b cs es G) X) wide hc (λ s t m. he s t (omega (arith, length_beside (run b cs es G) X r, r)))
-          (each_beside (AreOf K) (AreOf I) (AreOf (K ++ I)) (run b cs es G) X (λ x y h g. of_append K I x y h g) (answers_hold b wf.1 fit.1 c e F cs es G (length_table n _) hc he' g) w),
+          (each_beside (AreOf K) (AreOf I) (AreOf (K ++ I)) (run b cs es G) X (λ x y h g. of_append K I x y h g)
+          (answers_hold b wf.1 fit.1 c e F cs es G (length_table n _) hc he' g) w),
     )

@@ -63,7 +63,8 @@ delays_few (Rec a b) c e I l =
 
 -- ---- their list
 
-pub listed_more : (ss : List Interval) (i : ℕ) (s : Interval) (delay more total : ℕ) (ds es : List ℕ) → i < length ss → s ≡ get_or ss i s → IsDelay s × (delay ≡ amount s) × (delay ≤ delay_limit) →
+pub listed_more : (ss : List Interval) (i : ℕ) (s : Interval) (delay more total : ℕ) (ds es : List ℕ) → i < length ss → s ≡ get_or ss i s →
+    IsDelay s × (delay ≡ amount s) × (delay ≤ delay_limit) →
     AreDelays (take i ss) × (ds ≡ amounts (take i ss)) × (total ≡ sum ds) × (total ≤ 1048575 * i) → es ≡ ds ++ delay ∷ [] → more ≡ delay →
     AreDelays (take (i + 1) ss) × (es ≡ amounts (take (i + 1) ss)) × (total + more ≡ sum es) × (total + more ≤ 1048575 * (i + 1))
 listed_more ss i s delay more total ds es l at d h e m =
@@ -76,7 +77,8 @@ listed_more ss i s delay more total ds es l at d h e m =
 
 -- ---- what the walk noted
 
-pub delays_are : (d : Diagram) (controls ins outs : List Interval) (n : ℕ) (free : Interval) (s q : Noted) → IsWellFormed d → n ≡ inputs d → ins ≡ table n (λ i. full) → free ≡ full →
+pub delays_are : (d : Diagram) (controls ins outs : List Interval) (n : ℕ) (free : Interval) (s q : Noted) → IsWellFormed d → n ≡ inputs d →
+    ins ≡ table n (λ i. full) → free ≡ full →
     s ≡ record { controls = controls; delays = []; fed = [] } → (outs, q) ≡ walked span_hooks free d (λ i. free) ins s → q.delays ≡ delays_of d controls
 delays_are d controls ins outs n free s q wf en ei ef es ew =
     let F = table (inputs d) (λ i. full) in
@@ -88,7 +90,8 @@ delays_are d controls ins outs n free s q wf en ei ef es ew =
 -- ---- which is refused
 
 -- span i is the first one that is refused
-pub first_refused : (ss : List Interval) (i : ℕ) (s : Interval) (e : DelayRefusal) → i < length ss → s ≡ get_or ss i s → AreDelays (take i ss) → IsSpanRefused s e → IsFirstRefused ss e
+pub first_refused : (ss : List Interval) (i : ℕ) (s : Interval) (e : DelayRefusal) → i < length ss → s ≡ get_or ss i s → AreDelays (take i ss) →
+    IsSpanRefused s e → IsFirstRefused ss e
 first_refused ss i s e l at before r = record {
   before = take i ss;
   span = s;
@@ -98,7 +101,8 @@ first_refused ss i s e l at before r = record {
   refused = r;
 }
 
-pub refused_by : (ss : List Interval) (i : ℕ) (s : Interval) (e : DelayRefusal) → i < length ss → s ≡ get_or ss i s → AreDelays (take i ss) → IsSpanRefused s e → IsRefused ss e
+pub refused_by : (ss : List Interval) (i : ℕ) (s : Interval) (e : DelayRefusal) → i < length ss → s ≡ get_or ss i s → AreDelays (take i ss) →
+    IsSpanRefused s e → IsRefused ss e
 refused_by ss i s refusal.NoMemory l at before r = tt
 refused_by ss i s (refusal.DelayBudget n) l at before r = absurd r
 refused_by ss i s (refusal.DelayNegative n) l at before r = first_refused ss i s (refusal.DelayNegative n) l at before r

@@ -59,7 +59,8 @@ summed_spans n I s some l =
     let r = summed span_hooks full n I s in
     let items : r.0 ≡ merged_spans n I =
     sym (table_items r.0 full) ∙ ap (λ k. table k (λ j. get_or r.0 j full)) m.0
-    ∙ table_same n _ _ (λ j b. m.2 j full b ∙ ap (λ z. added_span z (every n j n (drop n I))) (get_or-take n I j full b) ∙ ap summed_span (sym (every_front n j full I b l))) in
+    ∙ table_same n _ _ (λ j b. m.2 j full b ∙ ap (λ z. added_span z (every n j n (drop n I))) (get_or-take n I j full b)
+    ∙ ap summed_span (sym (every_front n j full I b l))) in
     ap₂ (λ x y. (x, y)) items m.1
 
 -- ---- diagrams
@@ -88,7 +89,8 @@ module _ (c : ℕ → Interval) where
   primitive_makes prim.Delay e I s l = refl
   primitive_makes (prim.Point op) e I s l = ap (λ z. (span_of op I ∷ [], z)) (none_more s)
 
-  pub spans_walked : (d : Diagram) (e : ℕ → Interval) (I : List Interval) (s : Noted) → c ≡ control_span s.controls → IsWellFormed d → length I ≡ inputs d → Makes d e I s
+  pub spans_walked : (d : Diagram) (e : ℕ → Interval) (I : List Interval) (s : Noted) → c ≡ control_span s.controls → IsWellFormed d → length I ≡ inputs d →
+      Makes d e I s
   spans_walked (Primitive p) e I s h wf l = primitive_makes p e I s l
   spans_walked (Constant n) e I s h wf l = ap (λ z. (point n ∷ [], z)) (none_more s)
   spans_walked (Control k) e I s h wf l = ap₂ (λ f z. (f k ∷ [], z)) (sym h) (none_more s)

@@ -29,6 +29,7 @@ pub record IsDelay (s : Interval) : Type 0 where
   pub natural : pos 0 ≤ℤ s.lo
   pub short : s.hi ≤ℤ pos delay_limit
 
+-- none of the spans is refused
 abbrev pub AreDelays : List Interval → Type 0
 AreDelays ss = All IsDelay ss
 
@@ -36,6 +37,7 @@ AreDelays ss = All IsDelay ss
 abbrev pub amount : Interval → ℕ
 amount s = unsigned_abs s.hi
 
+-- the greatest delay of each span
 abbrev pub amounts : List Interval → List ℕ
 amounts ss = map amount ss
 
@@ -60,6 +62,7 @@ pub record IsFirstRefused (ss : List Interval) (e : DelayRefusal) : Type 0 where
   pub none_before : AreDelays before
   pub refused : IsSpanRefused span e
 
+-- the refusal of a list of spans, before their sum is looked at
 abbrev pub IsRefused : List Interval → DelayRefusal → Type 0
 IsRefused ss refusal.NoMemory = Unit {0}
 IsRefused ss e = IsFirstRefused ss e

@@ -9,5 +9,6 @@ use Rattle.fv_diagram.proofs.step.change_lists.Given as goal
 abbrev pub invariant-loop-i : goal.invariant-loop-i
 invariant-loop-i l =
     (length l.lists ≡ length l.fn.lists)
-    × ((k : ℕ) (d : Numbers) → k < l.i → (get_or l.lists k d).numbers ≡ changed (argument l.registers) (get_or l.changes k (change.Append 0)) (get_or (numbers_of l.fn.lists) k []))
+    × ((k : ℕ) (d : Numbers) → k < l.i → (get_or l.lists k d).numbers ≡ changed (argument l.registers) (get_or l.changes k (change.Append 0))
+    (get_or (numbers_of l.fn.lists) k []))
     × ((k : ℕ) (d : Numbers) → l.i ≤ k → get_or l.lists k d ≡ get_or l.fn.lists k d)

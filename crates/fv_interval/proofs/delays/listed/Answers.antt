@@ -12,4 +12,5 @@ returns-in_err-delay-clause-refused c =
 
 pub loop-i-preserved : goal.loop-i-preserved
 loop-i-preserved c =
-    listed_more c.args.spans.now c.loop-i.i c.index-spans-i.result _ _ c.loop-i.total c.loop-i.delays.items _ c.loop-i-test.true c.index-spans-i.is c.in_ok-delay.ensures.ok c.loop-i.invariant c.in_ok-push.ensures.items c.from-total.ensures
+    listed_more c.args.spans.now c.loop-i.i c.index-spans-i.result _ _ c.loop-i.total c.loop-i.delays.items _ c.loop-i-test.true c.index-spans-i.is
+    c.in_ok-delay.ensures.ok c.loop-i.invariant c.in_ok-push.ensures.items c.from-total.ensures

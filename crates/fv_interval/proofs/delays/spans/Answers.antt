@@ -18,21 +18,24 @@ pub accepted-requires : goal.accepted-requires
 accepted-requires c =
     let d = tree_of c.args.diagrams.now c.args.root in
     let small : size d ≤ 16384 = omega (arith, c.size.ensures.size, c.size.ensures.within) in
-    let are = delays_are d c.args.controls.now c.in_ok-ins.ins.items _ c.from.result c.full.result c.in_ok-walked.walked c.walk.new.signals c.requires.well (c.from.ensures ∙ c.arity.ensures.arity.0) c.in_ok-ins.ensures
+    let are = delays_are d c.args.controls.now c.in_ok-ins.ins.items _ c.from.result c.full.result c.in_ok-walked.walked c.walk.new.signals c.requires.well
+    (c.from.ensures ∙ c.arity.ensures.arity.0) c.in_ok-ins.ensures
     c.full.ensures.value c.in_ok-walked.ensures c.in_ok-walk.ensures.walked in
     omega (arith, ap length (c.delays.ensures ∙ are), small, delays_few d (control_span c.args.controls.now) (λ i. full) (table (inputs d) (λ i. full)) small)
 
 pub returns-clause-ok : goal.returns-clause-ok
 returns-clause-ok c =
     let d = tree_of c.args.diagrams.now c.args.root in
-    let are = delays_are d c.args.controls.now c.in_ok-ins.ins.items _ c.from.result c.full.result c.in_ok-walked.walked c.walk.new.signals c.requires.well (c.from.ensures ∙ c.arity.ensures.arity.0) c.in_ok-ins.ensures
+    let are = delays_are d c.args.controls.now c.in_ok-ins.ins.items _ c.from.result c.full.result c.in_ok-walked.walked c.walk.new.signals c.requires.well
+    (c.from.ensures ∙ c.arity.ensures.arity.0) c.in_ok-ins.ensures
     c.full.ensures.value c.in_ok-walked.ensures c.in_ok-walk.ensures.walked in
     subst (λ ss. IfOk c.accepted.result (AreAccepted ss)) (c.delays.ensures ∙ are) c.accepted.ensures.ok
 
 pub returns-clause-refused : goal.returns-clause-refused
 returns-clause-refused c =
     let d = tree_of c.args.diagrams.now c.args.root in
-    let are = delays_are d c.args.controls.now c.in_ok-ins.ins.items _ c.from.result c.full.result c.in_ok-walked.walked c.walk.new.signals c.requires.well (c.from.ensures ∙ c.arity.ensures.arity.0) c.in_ok-ins.ensures
+    let are = delays_are d c.args.controls.now c.in_ok-ins.ins.items _ c.from.result c.full.result c.in_ok-walked.walked c.walk.new.signals c.requires.well
+    (c.from.ensures ∙ c.arity.ensures.arity.0) c.in_ok-ins.ensures
     c.full.ensures.value c.in_ok-walked.ensures c.in_ok-walk.ensures.walked in
     subst (λ ss. IfErr c.accepted.result (IsDelayRefusal ss)) (c.delays.ensures ∙ are) c.accepted.ensures.refused
 

@@ -13,7 +13,8 @@ invariant_of-self c =
     let outs = take l.count c.args.outs.now in
     let ws = with_items_is c.self.inside.sources c.overlay.new.to (c.overlay.auto.to ∙ c.deref_mut.ensures.len) in
     let wires = subst (λ m. All (IsRegister m) c.args.outs.now) (sym c.self.view_is) c.requires.wires in
-    code_shuts (code_of c.self.inside) _ l _ outs c.self.invariant c.in-Some.ensures.items (ap length ws ∙ c.overlay.auto.to ∙ ap length c.deref_mut.ensures.value)
+    code_shuts (code_of c.self.inside) _ l _ outs c.self.invariant c.in-Some.ensures.items
+    (ap length ws ∙ c.overlay.auto.to ∙ ap length c.deref_mut.ensures.value)
     (ws ∙ c.overlay.ensures ∙ ap (written l.first outs) c.deref_mut.ensures.value) (All-take (IsRegister (code_of c.self.inside)) l.count c.args.outs.now wires)
 
 pub returns-clause-fed : goal.returns-clause-fed

@@ -8,7 +8,8 @@ use Rattle.fv_diagram.proofs.draft.DraftSignals.open.Goals as goal
 pub invariant_of-self-2 : goal.invariant_of-self-2
 invariant_of-self-2 c =
     let s = c.args.self.now in
-    code_opens (with_cells c.args.count s) (code_of c.self-2.inside) _ record { first = c.len-first.result; count = c.args.count } (c.self-2.view_is ∙ c.in_ok-late.ensures.1) c.self-2.invariant
+    code_opens (with_cells c.args.count s) (code_of c.self-2.inside) _ record { first = c.len-first.result; count = c.args.count }
+    (c.self-2.view_is ∙ c.in_ok-late.ensures.1) c.self-2.invariant
     c.in_ok-push_front.ensures.items (omega (arith, c.len-first.ensures, ap (λ z. length z.sources) c.self.view_is, cells_long c.args.count s))
 
 pub returns-clause-width : goal.returns-clause-width
