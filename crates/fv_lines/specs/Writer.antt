@@ -1,6 +1,7 @@
 -- What the writer of a lane shows.
 use Rattle.std.specs.Prelude.{ℕ, List, ◌++◌, ℤ}
 use base.Fml.{GName}
+use Rattle.fv_pool.specs.declared.loan.Halves.{Halves}
 use Rattle.fv_lines.specs.declared.shape.LaneShape.{LaneShape}
 use Rattle.fv_lines.specs.declared.writer.LaneWriter.{LaneWriter}
 
@@ -25,3 +26,7 @@ frames_of w = w.frames
 
 abbrev pub shape_of : LaneWriter → LaneShape
 shape_of w = w.shape
+
+-- what ties its part's loan to the loan that the part was cut from
+abbrev pub outer_of : LaneWriter → Halves
+outer_of w = w.outer
