@@ -1,7 +1,7 @@
 // Small programs.
 
 ghost use Rattle.std.specs.Prelude.{◌≡◌, ◌<◌, IfOk, IfSome, IfNone, MatchOption};
-ghost use Rattle.fv_diagram.specs.Diagram.{control_bound, HasNoDelay, HasNoFreeSlot};
+ghost use Rattle.fv_diagram.specs.Diagram.{control_bound, HasNoFreeSlot};
 ghost use Rattle.fv_diagram.specs.Arena.{count_of, tree_of};
 ghost use Rattle.fv_parse.specs.Trees.{program_of};
 ghost use Rattle.fv_small.specs.Small.{IsSmall, IsNotSmall, SmallOnce};
@@ -78,7 +78,6 @@ pub fn small_program(alloc: Global, tree: &Tree) -> Result<Option<Program>, Allo
     ensures found { IfOk result (λ o. IfSome o (λ p. IsSmall tree.now.tokens (program_of tree.now) (tree_of p.diagrams p.root))) }
     ensures root { IfOk result (λ o. IfSome o (λ p. p.root < count_of p.diagrams)) }
     // A runner may be made of it.
-    ensures delays { IfOk result (λ o. IfSome o (λ p. HasNoDelay (tree_of p.diagrams p.root))) }
     ensures controls { IfOk result (λ o. IfSome o (λ p. control_bound (tree_of p.diagrams p.root) ≡ 0)) }
     ensures closed { IfOk result (λ o. IfSome o (λ p. HasNoFreeSlot (tree_of p.diagrams p.root))) }
     // Only a tree that is not small is refused.
