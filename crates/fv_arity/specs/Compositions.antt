@@ -38,5 +38,6 @@ Fails kind.RecOut left right (Rec a b) = (left ≡ outputs a) × (right ≡ inpu
 Fails kind.RecIn left right (Rec a b) = (left ≡ inputs a) × (right ≡ outputs b) × (inputs b ≤ outputs a) × (left < right)
 Fails k left right d = ⊥
 
+-- the refusal is that of the outermost composition
 abbrev pub IsRefused : ArityRefusal → Diagram → Type 0
 IsRefused (refusal.Arity k left right) d = Fails k left right d

@@ -1,2 +1,1 @@
 pub mod Compositions
-pub mod Built

@@ -3,8 +3,6 @@
 
 mod compose;
 mod refusal;
-#[cfg(test)]
-mod tests;
 
 pub use compose::arity_of;
 pub use refusal::{ArityKind, ArityRefusal};

@@ -3,6 +3,8 @@
 
 ghost use Rattle.fv_begins.specs.Beginnings.{StopsBehindABeginning, BeginningsAreClosed, ProgramsBegin, StopsWhereNoneGoesOn, StopsAtThePlace, OnePlace};
 
+use fv_grammar::reads_what_is_spelled;
+
 /// Where the descent stops, the tokens before begin a program.
 pub fn stops_behind_a_beginning()
     ensures { StopsBehindABeginning }
@@ -17,10 +19,14 @@ pub fn beginnings_are_closed()
 /// No program begins with the tokens up to and with the one where the descent stops.
 pub fn stops_where_none_goes_on()
     ensures { StopsWhereNoneGoesOn }
-{}
+{
+    reads_what_is_spelled();
+}
 
 /// Where the descent stops is the place of an error, and a list of tokens has at most one such place.
 pub fn stops_at_the_place()
     ensures place { StopsAtThePlace }
     ensures unique { OnePlace }
-{}
+{
+    reads_what_is_spelled();
+}

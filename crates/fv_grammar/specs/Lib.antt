@@ -3,3 +3,5 @@ pub mod Tree
 pub mod Grammar
 pub mod Nesting
 pub mod Descent
+pub mod Laws
+pub mod Examples

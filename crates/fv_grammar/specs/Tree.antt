@@ -1,5 +1,5 @@
 -- The trees that the grammar spells.
-use Rattle.std.specs.Prelude.{ℕ, List}
+use Rattle.std.specs.Prelude.{ℕ, List, [], ◌∷◌}
 use Rattle.fv_grammar.specs.declared.form.Primitive.{Primitive as Operation}
 use Rattle.fv_grammar.specs.declared.form.Operator.{Operator}
 use Rattle.fv_grammar.specs.declared.form.Iteration.{Iteration as Repetition}
@@ -35,3 +35,36 @@ pub data Tree : Type 0 where
   Function : ℕ → ℕ → Tree → Tree → Tree
   End : Tree
   More : Tree → Tree → Tree
+
+-- the trees of a list (this project's profile)
+abbrev pub items : Tree → List Tree
+items (More x y) = x ∷ items y
+items x = []
+
+-- How many tokens there are from a tree's first one to the end of the text. A list starts where its first item does, an empty
+-- one at the end (this project's profile).
+abbrev pub start_of : Tree → ℕ
+start_of (Number s n) = s
+start_of (Negative s n) = s
+start_of (Named s n) = s
+start_of (MinusNamed s n) = s
+start_of (Wire s) = s
+start_of (Cut s) = s
+start_of (Primitive s p) = s
+start_of (Group s x) = s
+start_of (Abstraction s ns x) = s
+start_of (Case s rs) = s
+start_of (Iteration s i n x y) = s
+start_of (Ports s k x) = s
+start_of (Switch s k n) = s
+start_of (Slider s k n x0 x1 x2 x3) = s
+start_of (Panel s k n x) = s
+start_of (Delayed s x) = s
+start_of (Apply s x ys) = s
+start_of (Binary s o x y) = s
+start_of (Where s x ds) = s
+start_of (Rule s ps x) = s
+start_of (Constant s n x) = s
+start_of (Function s n ps x) = s
+start_of (More x y) = start_of x
+start_of End = 0

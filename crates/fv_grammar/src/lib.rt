@@ -6,5 +6,5 @@ mod laws;
 mod symbol;
 
 pub use form::{Iteration, Operator, Panel, Primitive, Side, Slider, Switch};
-pub use laws::spelled_once;
-pub use symbol::{Head, Inside, Items};
+pub use laws::{reads_what_is_spelled, spelled_once};
+pub use symbol::{Head, Inside, Items, Mark};

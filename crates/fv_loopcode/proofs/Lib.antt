@@ -2,4 +2,5 @@ pub mod Registers
 pub mod Tasks
 pub mod Streams
 pub mod Named
+pub mod Still
 pub mod Blocks

@@ -9,8 +9,9 @@ mod store;
 
 pub use code::Code;
 pub use laws::{
-    named_alone_count, order_is_free, streams_obey, task_is_free, tasks_are_done, windows_follow,
+    named_alone_count, order_is_free, still_code_is_free, streams_obey, task_is_free,
+    tasks_are_done, windows_follow,
 };
 pub use machine::run;
 pub use step::Step;
-pub use store::{NoLanes, Store};
+pub use store::Store;

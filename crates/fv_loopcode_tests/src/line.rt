@@ -5,6 +5,7 @@ ghost use Rattle.fv_loopcode_tests.specs.Line.{lane_in};
 
 use fv_loopcode::Store;
 
+/// A lane: its cells, the length of its history, and how many cells are written.
 #[derive(Drop)]
 pub struct Line {
     pub cells: Vec<i32>,

@@ -4,7 +4,7 @@ ghost use Rattle.std.specs.Prelude.{◌≡◌, [], length};
 ghost use Rattle.fv_loopcode_tests.specs.Line.{lane_in, running_sum, difference};
 
 use crate::line::Line;
-use fv_loopcode::{Code, NoLanes, Step, run};
+use fv_loopcode::{Code, Step, run};
 use fv_num::Op;
 use std::process::Abort;
 use std::test::Fail;
@@ -115,13 +115,13 @@ fn a_running_sum(rt: HostRuntime) -> Result<(), Fail> {
     Ok(())
 }
 
-// Runs code without lanes at one sample.
-fn hold(code: &Code, held: &[i32], registers: &mut [i32])
+// Runs code that loads and appends nothing, over any lane.
+fn hold(code: &Code, held: &[i32], registers: &mut [i32], line: &mut Line)
     requires code { code.now ≡ difference }
     requires registers { length registers.old ≡ 3 }
     requires held { length held.now ≡ 2 }
 {
-    run(code, held, &[], 0, 0, 1, registers, &mut NoLanes);
+    run(code, held, &[], 0, 0, 1, registers, line);
 }
 
 #[test]
@@ -130,7 +130,13 @@ fn held_values_are_registers(rt: HostRuntime) -> Result<(), Fail> {
         return Err("no code".into());
     };
     let mut registers = [0; 3];
-    hold(&code, &[7, 9], &mut registers);
+    let mut line = Line {
+        cells: vec![in rt.alloc(); 4; 1]?,
+        history: 1,
+        written: 1,
+    };
+    hold(&code, &[7, 9], &mut registers, &mut line);
     assert_eq!(rt; registers.as_slice(), [7, 9, -2].as_slice());
+    assert_eq!(rt; line.cells.as_slice(), [4].as_slice());
     Ok(())
 }

@@ -1,7 +1,10 @@
 pub mod Nodes
-pub mod Lists
-pub mod Endings
-pub mod Flawless
+pub mod CanonicalNumbers
 pub mod Known
+pub mod UnsupportedTokens
+pub mod DefinitionLists
+pub mod Visiting
+pub mod Errors
 pub mod Lexing
+pub mod Endings
 pub mod Outcomes

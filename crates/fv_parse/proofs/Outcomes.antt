@@ -6,16 +6,16 @@ use Rattle.fv_lex.specs.Token.{Lexed, symbols_of}
 use Rattle.fv_grammar.specs.Tree.{Tree as Spelled}
 use Rattle.fv_grammar.specs.Grammar.{SpelledOnce}
 use Rattle.fv_grammar.specs.Descent.{program}
-use Rattle.fv_grammar.proofs.Sound.{program_sound}
+use Rattle.fv_grammar.specs.Laws.{ReadsOnlySpelled, ReadsAllSpelled}
 use Rattle.fv_lex.specs.Cuts.{HasTokens}
-use Rattle.fv_parse.specs.Contents.{first_unsupported}
+use Rattle.fv_parse.specs.Unsupported.{first_unsupported}
 use Rattle.fv_parse.proofs.Lexing.{tokens_nest}
 use Rattle.fv_parse.proofs.Endings.{no_tree}
 use Rattle.fv_begins.specs.Beginnings.{OnePlace, StopsAtThePlace}
 use Rattle.fv_parse.specs.declared.refusal.ParseRefusal.{ParseRefusal}
 use Rattle.fv_parse.specs.declared.refusal.ParseRefusal.TheVariants.{Syntax, Unsupported}
 use Rattle.fv_parse.specs.Trees.{place_from}
-use Rattle.fv_parse.specs.Flaws.{refused}
+use Rattle.fv_parse.specs.StaticErrors.{refused}
 use Rattle.fv_parse.specs.Outcomes.{IsSupported, IsSpelled, IsAccepted, StopsAt, HasRefusal, unsupported, syntax_error, refused_tree, IsOneRefusal, IsNotBoth, IsOneOrOther}
 
 -- a choice that is some value is that one alone
@@ -55,22 +55,22 @@ abbrev Outcome : Lexed → Type 0
 Outcome l = ((x : Spelled) × IsAccepted l x) ⊎ ((refusal : ParseRefusal) × HasRefusal l refusal)
 
 -- by what refuses the tree
-by_flaw : (l : Lexed) (x : Spelled) (found : Option ParseRefusal) → IsSupported l → IsSpelled l x → refused l x ≡ found → Outcome l
-by_flaw l x None s is e = inl (x, record { supported = s; spelled = is; accepted = e })
-by_flaw l x (Some refusal) s is e = inr (refusal, refused_tree s is e)
+by_error : (l : Lexed) (x : Spelled) (found : Option ParseRefusal) → IsSupported l → IsSpelled l x → refused l x ≡ found → Outcome l
+by_error l x None s is e = inl (x, record { supported = s; spelled = is; accepted = e })
+by_error l x (Some refusal) s is e = inr (refusal, refused_tree s is e)
 
 -- by what is read
-by_reading : (text : List ℕ) (l : Lexed) (read : Result Spelled (List Symbol)) → StopsAtThePlace → HasTokens text l → IsSupported l → program 128 (symbols_of l.tokens) ≡ read → Outcome l
-by_reading text l (Ok x) place has s e = by_flaw l x (refused l x) s (program_sound 128 (symbols_of l.tokens) x e) refl
-by_reading text l (Err rest) place has s e =
+by_reading : ReadsOnlySpelled → ReadsAllSpelled → (text : List ℕ) (l : Lexed) (read : Result Spelled (List Symbol)) → StopsAtThePlace → HasTokens text l → IsSupported l → program 128 (symbols_of l.tokens) ≡ read → Outcome l
+by_reading sound complete text l (Ok x) place has s e = by_error l x (refused l x) s (sound 128 (symbols_of l.tokens) x e) refl
+by_reading sound complete text l (Err rest) place has s e =
     let nests = tokens_nest text l has in
     let stops = place 128 (symbols_of l.tokens) rest nests e in
-    inr (_, syntax_error (place_from l (length rest)) s (no_tree l rest nests e) (record { before = stops.0; rest = rest; split = stops.1; error = stops.2; there = refl }))
+    inr (_, syntax_error (place_from l (length rest)) s (no_tree complete l rest nests e) (record { before = stops.0; rest = rest; split = stops.1; error = stops.2; there = refl }))
 
 -- by the first unsupported token
-by_word : (text : List ℕ) (l : Lexed) (found : Option (List ℕ)) → StopsAtThePlace → HasTokens text l → first_unsupported l.tokens ≡ found → Outcome l
-by_word text l None place has e = by_reading text l (program 128 (symbols_of l.tokens)) place has e refl
-by_word text l (Some word) place has e = inr (Unsupported word, unsupported e)
+by_word : ReadsOnlySpelled → ReadsAllSpelled → (text : List ℕ) (l : Lexed) (found : Option (List ℕ)) → StopsAtThePlace → HasTokens text l → first_unsupported l.tokens ≡ found → Outcome l
+by_word sound complete text l None place has e = by_reading sound complete text l (program 128 (symbols_of l.tokens)) place has e refl
+by_word sound complete text l (Some word) place has e = inr (Unsupported word, unsupported e)
 
-pub one_or_other : StopsAtThePlace → IsOneOrOther
-one_or_other place text l has = by_word text l (first_unsupported l.tokens) place has refl
+pub one_or_other : ReadsOnlySpelled → ReadsAllSpelled → StopsAtThePlace → IsOneOrOther
+one_or_other sound complete place text l has = by_word sound complete text l (first_unsupported l.tokens) place has refl

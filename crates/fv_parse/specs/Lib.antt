@@ -1,5 +1,7 @@
 pub mod Trees
-pub mod Contents
-pub mod Flaws
-pub mod Pending
+pub mod Unsupported
+pub mod Definitions
+pub mod Visits
+pub mod StaticErrors
 pub mod Outcomes
+pub mod Laws

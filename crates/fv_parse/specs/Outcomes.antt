@@ -10,8 +10,8 @@ use Rattle.fv_begins.specs.Beginnings.{IsErrorPlace}
 use Rattle.fv_parse.specs.declared.refusal.ParseRefusal.{ParseRefusal}
 use Rattle.fv_parse.specs.declared.refusal.ParseRefusal.TheVariants as refusals
 use Rattle.fv_parse.specs.Trees.{Parsed, program_of, place_from}
-use Rattle.fv_parse.specs.Contents.{first_unsupported}
-use Rattle.fv_parse.specs.Flaws.{refused}
+use Rattle.fv_parse.specs.Unsupported.{first_unsupported}
+use Rattle.fv_parse.specs.StaticErrors.{refused}
 
 -- no token is unsupported
 abbrev pub IsSupported : Lexed → Type 0
@@ -65,3 +65,7 @@ IsOneOrOther = (text : List ℕ) (l : Lexed) → HasTokens text l → ((x : Spel
 abbrev pub Finishes : Lexed → Spelled → Result Parsed ParseRefusal → Type 0
 Finishes l x (Ok p) = (p.tokens ≡ l) × (program_of p ≡ x) × (refused l x ≡ None)
 Finishes l x (Err e) = (e ≡ refusals.NoMemory) ⊎ (refused l x ≡ Some e)
+
+-- This refusal is answered, unless memory ran out.
+abbrev pub IsRefusedOrWants : Result Parsed ParseRefusal → ParseRefusal → Type 0
+IsRefusedOrWants result refusal = (result ≡ Err refusal) ⊎ (result ≡ Err refusals.NoMemory)

@@ -1,9 +1,10 @@
 // Laws of what tokens are.
 
 ghost use Rattle.fv_parse.specs.Outcomes.{IsOneRefusal, IsNotBoth, IsOneOrOther};
+ghost use Rattle.fv_parse.specs.Laws.{SameNumbersSameBytes, NumbersAreOfTheBytes};
 
 use fv_begins::stops_at_the_place;
-use fv_grammar::spelled_once;
+use fv_grammar::{reads_what_is_spelled, spelled_once};
 
 /// The tokens of a text are accepted, or refused for one thing, and never both.
 pub fn one_outcome()
@@ -11,6 +12,13 @@ pub fn one_outcome()
     ensures apart { IsNotBoth }
     ensures either { IsOneOrOther }
 {
+    reads_what_is_spelled();
     spelled_once();
     stops_at_the_place();
 }
+
+/// Two tokens have one canonical number just where they have the same bytes, and it is the number of a token with these bytes.
+pub fn same_names()
+    ensures same { SameNumbersSameBytes }
+    ensures of { NumbersAreOfTheBytes }
+{}

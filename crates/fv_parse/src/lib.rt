@@ -1,18 +1,18 @@
 //! The parser: the one tree that the tokens of a text spell.
 #![tactic(auto)]
 
-mod flaw;
-mod flaws;
+mod clash;
+mod definitions;
 mod laws;
+mod names;
 mod parsed;
-mod program;
+mod parser;
 mod refusal;
-#[cfg(test)]
-mod tests;
-mod whole;
+mod static_errors;
+mod unsupported;
 
 pub use fv_tree::{TreeId, TreeNode};
-pub use laws::one_outcome;
+pub use laws::{one_outcome, same_names};
 pub use parsed::Tree;
+pub use parser::parse;
 pub use refusal::ParseRefusal;
-pub use whole::parse;

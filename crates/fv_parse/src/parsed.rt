@@ -1,9 +1,11 @@
-ghost use Rattle.std.specs.Prelude.{◌≡◌, ◌<◌, length, slice_get, unwrap_or, codes};
-ghost use Rattle.std.specs.Str.{bytes_eq};
-ghost use Rattle.fv_tree.specs.Arena.{trees, tree_of, PartsBelow};
-ghost use Rattle.fv_parse.specs.Trees.{tree_in, starts_of, place_from, place_at, text_of};
+// The tree of a program, over its tokens.
 
-use crate::program::is_process;
+ghost use Rattle.std.specs.Prelude.{◌≡◌, ◌<◌, ◌-◌, length, map, codes};
+ghost use Rattle.std.specs.Str.{bytes_eq};
+ghost use Rattle.fv_grammar.specs.Tree.{items, start_of};
+ghost use Rattle.fv_parse.specs.Trees.{size_of, tree_in, node_tree, start_in, PartsBelow, AllBelow, place_from, place_at, text_of, label_of, first_named};
+
+use crate::definitions::is_process;
 use fv_lex::{Place, Tokens};
 use fv_tree::{Entry, TreeId, TreeNode};
 use std::marker::Model;
@@ -14,45 +16,96 @@ pub struct Tree<'a> {
     pub(crate) tokens: &'a Tokens<'a>,
     pub(crate) entries: Vec<Entry>,
     pub(crate) root: TreeId,
+    /// The canonical number of each token, and behind them that of no bytes.
+    pub(crate) names: Vec<u64>,
 }
 
 impl<'a> Model for Tree<'a> {
-    ghost use Rattle.std.specs.Prelude.{◌<◌, length};
-    ghost use Rattle.fv_parse.specs.Trees.{Parsed};
+    ghost use Rattle.fv_parse.specs.Trees.{Parsed, IsHeld};
 
     ghost Value = { Parsed };
 
-    ghost use Rattle.fv_tree.specs.Arena.{AreOver};
-
     ghost view = { λ t. record { tokens = t.tokens.now; entries = t.entries.items; root = t.root } };
 
-    ghost invariant = { λ t. AreOver 0 t.entries.items × (t.root.0 < length t.entries.items) };
+    ghost invariant = { λ t. IsHeld t.tokens.now t.entries.items t.root t.names.items };
 }
 
 impl Tree<'_> {
+    /// How many nodes there are. Their numbers are those below it.
+    pub fn len(&self) -> u64
+        ensures { result ≡ size_of self.now }
+    {
+        self.entries.len() as u64
+    }
+
+    /// A node with its place.
+    fn entry(&self, id: TreeId) -> &Entry
+        requires { id < size_of self.now }
+        ensures parts { PartsBelow id result.now.node }
+        ensures tree { tree_in self.now id ≡ node_tree self.now result.now.node result.now.start }
+        ensures start { result.now.start ≡ start_in self.now id }
+    {
+        &self.entries[id.number() as usize]
+    }
+
     /// A node. Its parts have lower numbers.
     pub fn node(&self, id: TreeId) -> &TreeNode
-        requires { id.0 < length self.now.entries }
-        ensures parts { PartsBelow id.0 result.now }
-        ensures tree { tree_in self.now id ≡ tree_of (trees self.now.entries) result.now (unwrap_or (slice_get (starts_of self.now.entries) id.0) 0) }
+        requires { id < size_of self.now }
+        ensures parts { PartsBelow id result.now }
+        ensures tree { tree_in self.now id ≡ node_tree self.now result.now (start_in self.now id) }
     {
-        &self.entries[id.0 as usize].node
+        &self.entry(id).node
+    }
+
+    /// The parts of a list, in order. What is no list has none.
+    pub fn items(&self, id: TreeId) -> &[TreeId]
+        requires { id < size_of self.now }
+        ensures items { map (tree_in self.now) result.now ≡ items (tree_in self.now id) }
+        ensures below { AllBelow id result.now }
+    {
+        match self.node(id) {
+            TreeNode::List(ids) => ids,
+            _ => &[],
+        }
     }
 
     /// The outermost list of definitions.
     pub fn root(&self) -> TreeId
         ensures root { result ≡ self.now.root }
-        ensures inside { result.0 < length self.now.entries }
+        ensures inside { result < size_of self.now }
     {
         self.root
     }
 
-    /// The place of a node's first token.
-    pub fn place(&self, id: TreeId) -> Place
-        requires { id.0 < length self.now.entries }
-        ensures { result ≡ place_from self.now.tokens (unwrap_or (slice_get (starts_of self.now.entries) id.0) 0) }
+    /// How many tokens there are from a node's first one on.
+    fn start(&self, id: TreeId) -> u64
+        requires { id < size_of self.now }
+        ensures { result ≡ start_of (tree_in self.now id) }
     {
-        place_from(self.tokens, self.entries[id.0 as usize].start)
+        let entry = self.entry(id);
+        match &entry.node {
+            TreeNode::List(ids) => match ids.first() {
+                Some(first) => self.start(*first),
+                None => 0,
+            },
+            _ => entry.start,
+        }
+    }
+
+    /// The place of a node's first token. A list has the place of its first item, and an empty one the end of the text.
+    pub fn place(&self, id: TreeId) -> Place
+        requires { id < size_of self.now }
+        ensures { result ≡ place_from self.now.tokens (start_of (tree_in self.now id)) }
+    {
+        place_from(self.tokens, self.start(id))
+    }
+
+    /// The number of a node's first token.
+    pub(crate) fn first_token(&self, id: TreeId) -> u64
+        requires { id < size_of self.now }
+        ensures { result ≡ length self.now.tokens.tokens - start_in self.now id }
+    {
+        u64::from(self.tokens.len()).saturating_sub(self.entry(id).start)
     }
 
     /// The bytes of the token with this number.
@@ -60,6 +113,26 @@ impl Tree<'_> {
         ensures { result.now ≡ text_of self.now.tokens n }
     {
         text_of(self.tokens, n)
+    }
+
+    /// The bytes of a string token, without its quotes.
+    pub fn label(&self, n: u64) -> &[u8]
+        ensures { result.now ≡ label_of self.now.tokens n }
+    {
+        match self.text(n) {
+            [_, inner @ .., _] => inner,
+            _ => &[],
+        }
+    }
+
+    /// The canonical number of the token with this number: that of the first token with its bytes. Names are equal where
+    /// these are.
+    pub fn name(&self, n: u64) -> u64
+        ensures { result ≡ first_named self.now.tokens n }
+    {
+        let count = u64::from(self.tokens.len());
+        let i = n.min(count);
+        self.names[i as usize]
     }
 
     /// Whether the token with this number is the name `process`.

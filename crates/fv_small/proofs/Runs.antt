@@ -12,31 +12,30 @@ use Rattle.fv_grammar.specs.Tree.{Tree, Number, Negative, Wire, Primitive, Group
 use Rattle.fv_diagram.specs.declared.node.Primitive.TheVariants as prim
 use Rattle.fv_diagram.specs.Arena.{Arena, tree_of}
 use Rattle.fv_small.specs.Table.{Stands}
-use Rattle.fv_diagram.specs.Diagram.{Diagram, Par, Seq, control_bound, HasNoDelay, HasNoFreeSlot}
+use Rattle.fv_diagram.specs.Diagram.{Diagram, Par, Seq, control_bound, HasNoFreeSlot}
 use Rattle.fv_diagram.specs.Diagram.{Primitive as Leaf, Constant as Integer}
 use Rattle.fv_small.specs.Small.{operation, point, primitive, operated, joined, both, diagram_of}
 
 -- a runner may be made of it, without controls
 pub record Runs (d : Diagram) : Type 0 where
-  pub delays : HasNoDelay d
   pub controls : control_bound d ≡ 0
   pub closed : HasNoFreeSlot d
 
 point_runs : (op : Op) → Runs (Leaf (prim.Point op))
-point_runs op = record { delays = tt; controls = refl; closed = λ s f. f }
+point_runs op = record { controls = refl; closed = λ s f. f }
 
 par_runs : (a b : Diagram) → Runs a → Runs b → Runs (Par a b)
 par_runs a b p q =
     let x = p.controls in let y = q.controls in
-    record { delays = (p.delays, q.delays); controls = omega arith; closed = λ s h. elim h as (λ _. ⊥) [ inl i ↦ p.closed s i | inr i ↦ q.closed s i ] }
+    record { controls = omega arith; closed = λ s h. elim h as (λ _. ⊥) [ inl i ↦ p.closed s i | inr i ↦ q.closed s i ] }
 
 seq_runs : (a b : Diagram) → Runs a → Runs b → Runs (Seq a b)
 seq_runs a b p q =
     let x = p.controls in let y = q.controls in
-    record { delays = (p.delays, q.delays); controls = omega arith; closed = λ s h. elim h as (λ _. ⊥) [ inl i ↦ p.closed s i | inr i ↦ q.closed s i ] }
+    record { controls = omega arith; closed = λ s h. elim h as (λ _. ⊥) [ inl i ↦ p.closed s i | inr i ↦ q.closed s i ] }
 
 literal_runs : (b : Bool) (z : ℤ) (d : Diagram) → (if b then Some (Integer z) else None) ≡ Some d → Runs d
-literal_runs true z d e = subst Runs (same_Some (Integer z) d e) (record { delays = tt; controls = refl; closed = λ s f. f })
+literal_runs true z d e = subst Runs (same_Some (Integer z) d e) (record { controls = refl; closed = λ s f. f })
 literal_runs false z d e = absurd (none-some d e)
 
 op_runs : (op : Option Op) (d : Diagram) → point op ≡ Some d → Runs d
@@ -44,7 +43,7 @@ op_runs (Some op) d e = subst Runs (same_Some (Leaf (prim.Point op)) d e) (point
 op_runs None d e = absurd (none-some d e)
 
 primitive_runs : (p : Operation) (d : Diagram) → primitive p ≡ Some d → Runs d
-primitive_runs primitives.Mem d e = subst Runs (same_Some (Leaf prim.Mem) d e) (record { delays = tt; controls = refl; closed = λ s f. f })
+primitive_runs primitives.Mem d e = subst Runs (same_Some (Leaf prim.Mem) d e) (record { controls = refl; closed = λ s f. f })
 primitive_runs p d e = op_runs (operation p) d e
 
 operated_runs : (op : Option Op) (a b d : Diagram) → Runs a → Runs b → operated op a b ≡ Some d → Runs d
@@ -65,7 +64,7 @@ both_runs o None b d f g e = absurd (none-some d e)
 pub small_runs : (x : Tree) (d : Diagram) → diagram_of x ≡ Some d → Runs d
 small_runs (Number s n) d e = literal_runs (nat_le n greatest_literal) (pos n) d e
 small_runs (Negative s n) d e = literal_runs (nat_le n greatest_literal) (neg_ℤ (pos n)) d e
-small_runs (Wire s) d e = subst Runs (same_Some (Leaf prim.Wire) d e) (record { delays = tt; controls = refl; closed = λ s f. f })
+small_runs (Wire s) d e = subst Runs (same_Some (Leaf prim.Wire) d e) (record { controls = refl; closed = λ s f. f })
 small_runs (Primitive s p) d e = primitive_runs p d e
 small_runs (Group s x) d e = small_runs x d e
 small_runs (Binary s o x y) d e = both_runs o (diagram_of x) (diagram_of y) d (λ z h. small_runs x z h) (λ z h. small_runs y z h) e

@@ -1,6 +1,7 @@
 -- The one definition of a program, by its node.
 use Rattle.std.proofs.Common.{◌≡◌, ℕ, ◌<◌, Bool, true, false, List, [], ◌∷◌, Option, Some, None, refl, sym, ap, subst, ◌∙◌}
 use Rattle.std.proofs.lemmas.Option.{none-some, same_Some}
+use Rattle.std.proofs.lemmas.List.Elements.{All-head}
 use Rattle.fv_tree.specs.declared.node.TreeId.{TreeId}
 use Rattle.fv_tree.specs.declared.node.TreeNode.{TreeNode}
 use Rattle.fv_tree.specs.declared.node.TreeNode.TheVariants as nodes
@@ -68,17 +69,17 @@ unfolding is_constant
 constant_none ts node start s n x e is = let f = sym (node_other ts node start e) ∙ ap is_constant is in cc
 
 -- ---- parts
-pub only_below : (node : TreeNode) (i : ℕ) (id : TreeId) → only_in node ≡ Some id → PartsBelow i node → id.0 < i
+pub only_below : (node : TreeNode) (i : ℕ) (id : TreeId) → only_in node ≡ Some id → PartsBelow i node → id < i
 only_below (nodes.List ids) i id e h = one ids.items e h
   where
-    one : (l : List TreeId) → only l ≡ Some id → AllBelow i l → id.0 < i
+    one : (l : List TreeId) → only l ≡ Some id → AllBelow i l → id < i
     one [] e h = absurd (none-some id e)
-    one (x ∷ []) e h = subst (λ (z : TreeId). z.0 < i) (same_Some x id e) h.0
+    one (x ∷ []) e h = subst (λ (z : TreeId). z < i) (same_Some x id e) (All-head (λ (z : TreeId). z < i) x [] h)
     one (x ∷ y ∷ l) e h = absurd (none-some id e)
 only_below node i id e h = absurd (none-some id e)
 
-pub constant_below : (node : TreeNode) (i name : ℕ) (x : TreeId) → constant_in node ≡ Some (name, x) → PartsBelow i node → x.0 < i
-constant_below (nodes.Constant n y) i name x e h = subst (λ (r : ℕ × TreeId). r.1.0 < i) (same_Some (n, y) (name, x) e) h
+pub constant_below : (node : TreeNode) (i name : ℕ) (x : TreeId) → constant_in node ≡ Some (name, x) → PartsBelow i node → x < i
+constant_below (nodes.Constant n y) i name x e h = subst (λ (r : ℕ × TreeId). r.1 < i) (same_Some (n, y) (name, x) e) h
 constant_below node i name x e h = absurd (none-some (name, x) e)
 
 -- ---- other forms

@@ -23,8 +23,8 @@ constant_in node = None
 
 -- the program is this definition of `process`, of this right side
 pub record IsOne (p : Parsed) (definition expression : TreeId) : Type 0 where
-  pub below : expression.0 < definition.0
-  pub inside : definition.0 < length p.entries
+  pub below : expression < definition
+  pub inside : definition < length p.entries
   pub start : ℕ
   pub name : ℕ
   pub one : program_of p ≡ More (Constant start name (tree_in p expression)) End

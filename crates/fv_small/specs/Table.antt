@@ -4,7 +4,7 @@ use Rattle.fv_grammar.specs.declared.form.Operator.{Operator}
 use Rattle.fv_grammar.specs.Tree.{Tree}
 use Rattle.fv_diagram.specs.Diagram.{Diagram, size, IsWellFormed}
 use Rattle.fv_diagram.specs.Arena.{Arena, count_of, tree_of, size_limit}
-use Rattle.fv_tree.specs.Arena.{nth}
+use Rattle.fv_tree.specs.Arena.{tree_at}
 use Rattle.fv_small.specs.Small.{both, diagram_of}
 
 -- the arena has grown
@@ -43,4 +43,4 @@ FindsBoth old new o left right found = (a b : Option Diagram) → Stands old a l
 
 -- each entry stands for its tree
 abbrev pub AllStand : Arena → List Tree → List (Option ℕ) → Type 0
-AllStand nodes trees parts = (k : ℕ) → k < length parts → Stands nodes (diagram_of (nth trees k)) (get_or parts k None)
+AllStand nodes trees parts = (k : ℕ) → k < length parts → Stands nodes (diagram_of (tree_at trees k)) (get_or parts k None)

@@ -1,7 +1,7 @@
 // Small programs.
 
 ghost use Rattle.std.specs.Prelude.{◌≡◌, ◌<◌, IfOk, IfSome, IfNone, MatchOption};
-ghost use Rattle.fv_diagram.specs.Diagram.{control_bound, HasNoDelay, HasNoFreeSlot};
+ghost use Rattle.fv_diagram.specs.Diagram.{control_bound, HasNoFreeSlot};
 ghost use Rattle.fv_diagram.specs.Arena.{count_of, tree_of};
 ghost use Rattle.fv_parse.specs.Trees.{program_of};
 ghost use Rattle.fv_small.specs.Small.{IsSmall, IsNotSmall, SmallOnce};
@@ -45,18 +45,18 @@ fn only_in(node: &TreeNode) -> Option<TreeId>
     }
 }
 
-/// The name and the right side of a definition without parameters.
-fn constant_in(node: &TreeNode) -> Option<(u64, TreeId)>
+/// The name and the number of the right side of a definition without parameters.
+fn constant_in(node: &TreeNode) -> Option<(u64, u64)>
     ensures { result ≡ constant_in node.now }
 {
     match node {
-        TreeNode::Constant(name, x) => Some((*name, *x)),
+        TreeNode::Constant(name, x) => Some((*name, x.number())),
         _ => None,
     }
 }
 
-/// The one definition of a program, if it is of `process`, and its right side.
-fn definition(tree: &Tree) -> Option<(TreeId, TreeId)>
+/// The number of the one definition of a program, if it is of `process`, and that of its right side.
+fn definition(tree: &Tree) -> Option<(u64, u64)>
     ensures { MatchOption result (IsNotOne tree.now) (λ x. IsOne tree.now x.0 x.1) }
 {
     let Some(definition) = only_in(tree.node(tree.root())) else {
@@ -66,7 +66,7 @@ fn definition(tree: &Tree) -> Option<(TreeId, TreeId)>
         return None;
     };
     if tree.is_process(name) {
-        Some((definition, expression))
+        Some((definition.number(), expression))
     } else {
         None
     }
@@ -78,7 +78,6 @@ pub fn small_program(alloc: Global, tree: &Tree) -> Result<Option<Program>, Allo
     ensures found { IfOk result (λ o. IfSome o (λ p. IsSmall tree.now.tokens (program_of tree.now) (tree_of p.diagrams p.root))) }
     ensures root { IfOk result (λ o. IfSome o (λ p. p.root < count_of p.diagrams)) }
     // A runner may be made of it.
-    ensures delays { IfOk result (λ o. IfSome o (λ p. HasNoDelay (tree_of p.diagrams p.root))) }
     ensures controls { IfOk result (λ o. IfSome o (λ p. control_bound (tree_of p.diagrams p.root) ≡ 0)) }
     ensures closed { IfOk result (λ o. IfSome o (λ p. HasNoFreeSlot (tree_of p.diagrams p.root))) }
     // Only a tree that is not small is refused.
@@ -88,8 +87,8 @@ pub fn small_program(alloc: Global, tree: &Tree) -> Result<Option<Program>, Allo
         return Ok(None);
     };
     let mut diagrams = Diagrams::new(alloc);
-    let parts = table(alloc, tree, &mut diagrams, definition.0)?;
-    let Some(root) = part_at(&parts, expression) else {
+    let parts = table(alloc, tree, &mut diagrams, definition)?;
+    let Some(root) = part_at(&parts, TreeId::new(expression)) else {
         return Ok(None);
     };
     let arity = diagrams.arity(root);

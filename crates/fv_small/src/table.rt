@@ -13,10 +13,10 @@ use std::alloc::{AllocError, Global};
 
 /// What a part stands for.
 pub(crate) fn part_at(parts: &[Option<DiagramId>], id: TreeId) -> Option<DiagramId>
-    requires { id.0 < length parts.now }
-    ensures { result ≡ get_or parts.now id.0 None }
+    requires { id < length parts.now }
+    ensures { result ≡ get_or parts.now id None }
 {
-    parts[id.0 as usize]
+    parts[id.number() as usize]
 }
 
 /// What a node stands for, by what its parts stand for.
@@ -26,8 +26,8 @@ fn visit(
     parts: &[Option<DiagramId>],
     id: TreeId,
 ) -> Result<Option<DiagramId>, AllocError>
-    requires inside { id.0 < length tree.now.entries }
-    requires next { id.0 ≡ length parts.now }
+    requires inside { id < length tree.now.entries }
+    requires next { id ≡ length parts.now }
     requires known { AllStand diagrams.old (trees tree.now.entries) parts.now }
     ensures { IfOk result (λ o. Finds diagrams.old diagrams.new (diagram_of (tree_in tree.now id)) o) }
 {
@@ -59,7 +59,7 @@ pub(crate) fn table(
 {
     let mut parts = Vec::new(alloc);
     for i in 0..count {
-        let found = visit(tree, diagrams, &parts, TreeId(i))?;
+        let found = visit(tree, diagrams, &parts, TreeId::new(i))?;
         parts.push(found)?;
     }
     Ok(parts)

@@ -5,7 +5,7 @@ ghost use Rattle.fv_base.specs.declared.role.Role.TheVariants.{Program as progra
 ghost use Rattle.fv_outside.specs.declared.transfer.ReadError.TheVariants as errors;
 ghost use Rattle.fv_outside.specs.Desk.{KeepsFaults};
 ghost use Rattle.fv_diagram.specs.Arena.{count_of, tree_of};
-ghost use Rattle.fv_diagram.specs.Diagram.{control_bound, HasNoDelay, HasNoFreeSlot};
+ghost use Rattle.fv_diagram.specs.Diagram.{control_bound, HasNoFreeSlot};
 ghost use Rattle.fv_top.specs.declared.refusal.Refusal.TheVariants.{ReadFault};
 ghost use Rattle.fv_top.specs.Program.{IsProgram, IsOfText};
 ghost use Rattle.fv_top.specs.Promise.{HasNoProgram};
@@ -25,7 +25,7 @@ const TEXT_BYTES: usize = 1048577;
 pub fn load_program<D: Desk>(alloc: Global, desk: &mut D, name: &str) -> Result<Program, Refusal>
     ensures reads { ReadsFile program_role name.now (D.state desk.old) (D.state desk.new) }
     ensures spelled { IfOk result (λ p. (text : List ℕ) × IsFile name.now text (D.state desk.old) × IsProgram text (tree_of p.diagrams p.root)) }
-    ensures runs { IfOk result (λ p. (p.root < count_of p.diagrams) × HasNoDelay (tree_of p.diagrams p.root)
+    ensures runs { IfOk result (λ p. (p.root < count_of p.diagrams)
         × (control_bound (tree_of p.diagrams p.root) ≡ 0) × HasNoFreeSlot (tree_of p.diagrams p.root)) }
     ensures err { IfErr result (StopsLoading program_role name.now IsOfText (HasNoProgram name.now (D.state desk.old).files) (D.state desk.old) (D.state desk.new)) }
     ensures steady { (IsErrOf result (ReadFault program_role) → ⊥) → KeepsFaults (D.state desk.old) (D.state desk.new) }

@@ -3,7 +3,7 @@
 ghost use Rattle.std.specs.Prelude.{◌≡◌, ◌+◌, ◌*◌, ◌/◌, ◌%◌, ◌^◌, ◌<◌, ◌≤◌, [], ◌∷◌, ◌++◌, length, map, codes, flat_map, OnOk, IfOk, slice_index_or, pos};
 ghost use Rattle.std.specs.Int.{cast_signed, from_le_bytes};
 ghost use Rattle.std.proofs.Common.{w16};
-ghost use Rattle.fv_diagram.specs.Diagram.{inputs, outputs, control_bound, HasNoDelay, HasNoFreeSlot, IsWellFormed};
+ghost use Rattle.fv_diagram.specs.Diagram.{inputs, outputs, control_bound, HasNoFreeSlot, IsWellFormed};
 ghost use Rattle.fv_diagram.specs.Arena.{count_of, tree_of};
 ghost use Rattle.fv_diagram.specs.Streams.{run};
 ghost use Rattle.fv_top.specs.Controls.{control_streams};
@@ -18,7 +18,6 @@ use std::alloc::{AllocError, Global};
 /// The bytes of the output file of a program on an input.
 pub fn render(alloc: Global, program: &Program, input: &Input) -> Result<Vec<u8>, AllocError>
     requires root { program.now.root < count_of program.now.diagrams }
-    requires delays { HasNoDelay (tree_of program.now.diagrams program.now.root) }
     requires well { IsWellFormed (tree_of program.now.diagrams program.now.root) }
     requires closed { HasNoFreeSlot (tree_of program.now.diagrams program.now.root) }
     requires controls { control_bound (tree_of program.now.diagrams program.now.root) ≡ 0 }
@@ -85,7 +84,6 @@ fn push_frames(
     file: &mut Vec<u8>,
 ) -> Result<(), AllocError>
     requires root { program.now.root < count_of program.now.diagrams }
-    requires delays { HasNoDelay (tree_of program.now.diagrams program.now.root) }
     requires well { IsWellFormed (tree_of program.now.diagrams program.now.root) }
     requires closed { HasNoFreeSlot (tree_of program.now.diagrams program.now.root) }
     requires controls { control_bound (tree_of program.now.diagrams program.now.root) ≡ 0 }

@@ -2,7 +2,7 @@
 
 ghost use Rattle.std.specs.Prelude.{◌≡◌, ◌⊎◌, ◌<◌, length, IfOk, IfErr};
 ghost use Rattle.fv_diagram.specs.Arena.{count_of, tree_of};
-ghost use Rattle.fv_diagram.specs.Diagram.{control_bound, HasNoDelay, HasNoFreeSlot};
+ghost use Rattle.fv_diagram.specs.Diagram.{control_bound, HasNoFreeSlot};
 ghost use Rattle.fv_top.specs.declared.refusal.Refusal.TheVariants.{NoMemory};
 ghost use Rattle.fv_top.specs.Loading.{IsUnsupportedOrNoMemory};
 ghost use Rattle.fv_top.specs.Program.{IsProgram, IsRefusedText, IsOneProgram, IsOneRefusal, IsNotBoth, IsOneOrOther, IsOfText};
@@ -34,7 +34,6 @@ pub fn read_program(alloc: Global, text: &[u8]) -> Result<Program, Refusal>
     ensures found { IfOk result (λ p. IsProgram text.now (tree_of p.diagrams p.root)) }
     ensures root { IfOk result (λ p. p.root < count_of p.diagrams) }
     // A runner may be made of it.
-    ensures delays { IfOk result (λ p. HasNoDelay (tree_of p.diagrams p.root)) }
     ensures controls { IfOk result (λ p. control_bound (tree_of p.diagrams p.root) ≡ 0) }
     ensures closed { IfOk result (λ p. HasNoFreeSlot (tree_of p.diagrams p.root)) }
     // Only a text that is no program is refused, and for its cause.

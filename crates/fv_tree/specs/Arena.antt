@@ -1,20 +1,17 @@
 -- The trees that the nodes of an arena are.
-use Rattle.std.specs.Prelude.{◌≡◌, ℕ, zero, suc, ◌<◌, ◌≤◌, List, [], ◌∷◌, ◌++◌, length}
+use Rattle.std.specs.Prelude.{◌≡◌, ℕ, ◌<◌, All, List, [], ◌∷◌, length, get_or}
+use Rattle.fv_base.specs.Arena as arena
+use Rattle.fv_base.specs.Arena.{AreBelowFrom, KeepsTrees}
 use Rattle.fv_tree.specs.declared.node.TreeId.{TreeId}
 use Rattle.fv_tree.specs.declared.node.TreeNode.{TreeNode}
 use Rattle.fv_tree.specs.declared.node.TreeNode.TheVariants as nodes
 use Rattle.fv_tree.specs.declared.arena.Entry.{Entry}
-use Rattle.fv_tree.specs.declared.parts.Pending.{Pending}
+use Rattle.fv_tree.specs.declared.pending.Pending.{Pending}
 use Rattle.fv_grammar.specs.Tree.{Tree, Number, Negative, Named, MinusNamed, Wire, Cut, Primitive, Group, Abstraction, Case, Iteration, Ports, Switch, Slider, Panel, Delayed, Apply, Binary, Where, Rule, Constant, Function, End, More}
-
-abbrev pub nth : List Tree → ℕ → Tree
-nth [] i = End
-nth (x ∷ xs) zero = x
-nth (x ∷ xs) (suc i) = nth xs i
 
 -- the tree with this number
 abbrev pub tree_at : List Tree → TreeId → Tree
-tree_at trees id = nth trees id.0
+tree_at trees id = get_or trees id End
 
 -- the trees of these numbers in front of a list
 abbrev pub forest : List Tree → List TreeId → Tree → Tree
@@ -47,52 +44,62 @@ tree_of trees (nodes.Constant n x) start = Constant start n (tree_at trees x)
 tree_of trees (nodes.Function n ps x) start = Function start n (tree_at trees ps) (tree_at trees x)
 tree_of trees (nodes.List ids) start = forest trees ids.items End
 
--- the trees of entries, behind those before them
-abbrev pub grow : List Tree → List Entry → List Tree
-grow trees [] = trees
-grow trees (e ∷ es) = grow (trees ++ tree_of trees e.node e.start ∷ []) es
+-- the tree of an entry
+abbrev pub entry_tree : List Tree → Entry → Tree
+entry_tree trees e = tree_of trees e.node e.start
 
 -- the tree of each entry
 abbrev pub trees : List Entry → List Tree
-trees es = grow [] es
+trees es = arena.trees entry_tree es
 
+-- numbers below this
 abbrev pub AllBelow : ℕ → List TreeId → Type 0
-AllBelow i [] = Unit {0}
-AllBelow i (id ∷ ids) = (id.0 < i) × AllBelow i ids
+AllBelow i ids = All (λ (id : TreeId). id < i) ids
 
 -- a node's parts have numbers below this
 abbrev pub PartsBelow : ℕ → TreeNode → Type 0
-PartsBelow i (nodes.Group x) = x.0 < i
-PartsBelow i (nodes.Abstraction ns x) = x.0 < i
-PartsBelow i (nodes.Case xs) = xs.0 < i
-PartsBelow i (nodes.Iteration k n x y) = (x.0 < i) × (y.0 < i)
-PartsBelow i (nodes.Ports s x) = x.0 < i
-PartsBelow i (nodes.Slider k s x0 x1 x2 x3) = (x0.0 < i) × (x1.0 < i) × (x2.0 < i) × (x3.0 < i)
-PartsBelow i (nodes.Panel k s x) = x.0 < i
-PartsBelow i (nodes.Delayed x) = x.0 < i
-PartsBelow i (nodes.Apply x ys) = (x.0 < i) × (ys.0 < i)
-PartsBelow i (nodes.Binary o x y) = (x.0 < i) × (y.0 < i)
-PartsBelow i (nodes.Where x ys) = (x.0 < i) × (ys.0 < i)
-PartsBelow i (nodes.Rule ps x) = (ps.0 < i) × (x.0 < i)
-PartsBelow i (nodes.Constant n x) = x.0 < i
-PartsBelow i (nodes.Function n ps x) = (ps.0 < i) × (x.0 < i)
+PartsBelow i (nodes.Group x) = x < i
+PartsBelow i (nodes.Abstraction ns x) = x < i
+PartsBelow i (nodes.Case xs) = xs < i
+PartsBelow i (nodes.Iteration k n x y) = (x < i) × (y < i)
+PartsBelow i (nodes.Ports s x) = x < i
+PartsBelow i (nodes.Slider k s x0 x1 x2 x3) = (x0 < i) × (x1 < i) × (x2 < i) × (x3 < i)
+PartsBelow i (nodes.Panel k s x) = x < i
+PartsBelow i (nodes.Delayed x) = x < i
+PartsBelow i (nodes.Apply x ys) = (x < i) × (ys < i)
+PartsBelow i (nodes.Binary o x y) = (x < i) × (y < i)
+PartsBelow i (nodes.Where x ys) = (x < i) × (ys < i)
+PartsBelow i (nodes.Rule ps x) = (ps < i) × (x < i)
+PartsBelow i (nodes.Constant n x) = x < i
+PartsBelow i (nodes.Function n ps x) = (ps < i) × (x < i)
 PartsBelow i (nodes.List ids) = AllBelow i ids.items
 PartsBelow i node = Unit {0}
 
+-- an entry's parts are earlier entries
+abbrev pub EntryBelow : ℕ → Entry → Type 0
+EntryBelow i e = PartsBelow i e.node
+
 -- each entry's parts are earlier entries
-abbrev pub AreOver : ℕ → List Entry → Type 0
-AreOver i [] = Unit {0}
-AreOver i (e ∷ es) = PartsBelow i e.node × AreOver (suc i) es
+abbrev pub AreOver : List Entry → Type 0
+AreOver es = AreBelowFrom EntryBelow 0 es
+
+-- an entry at a place: its parts stand before it, and the tree at this place is of it
+pub record IsBuilt (es : List Entry) (i : ℕ) (e : Entry) : Type 0 where
+  pub parts : PartsBelow i e.node
+  pub tree : tree_at (trees es) i ≡ entry_tree (trees es) e
+
+-- each entry is one at its place
+abbrev pub AreBuilt : List Entry → Type 0
+AreBuilt es = (i : ℕ) (d : Entry) → i < length es → IsBuilt es i (get_or es i d)
 
 -- each tree of the first list has its number in the second
-pub record Keeps (old new : List Tree) : Type 0 where
-  pub longer : length old ≤ length new
-  pub same : (i : ℕ) → i < length old → nth new i ≡ nth old i
+abbrev pub Keeps : List Tree → List Tree → Type 0
+Keeps old new = KeepsTrees End old new
 
 -- the node was added
 pub record Adds (old new : List Tree) (id : TreeId) (node : TreeNode) (start : ℕ) : Type 0 where
   pub keeps : Keeps old new
-  pub inside : id.0 < length new
+  pub inside : id < length new
   pub is : tree_at new id ≡ tree_of old node start
 
 -- parts that are joined to the right, with a tree at the end
@@ -100,11 +107,11 @@ abbrev pub lean : List Tree → List Pending → Tree → Tree
 lean trees [] y = y
 lean trees (p ∷ ps) y = Binary p.start p.op (tree_at trees p.left) (lean trees ps y)
 
+-- their left parts are there
 abbrev pub AreInside : List Tree → List Pending → Type 0
-AreInside trees [] = Unit {0}
-AreInside trees (p ∷ ps) = (p.left.0 < length trees) × AreInside trees ps
+AreInside trees ps = All (λ (p : Pending). p.left < length trees) ps
 
 pub record Joins (old new : List Tree) (ps : List Pending) (last id : TreeId) : Type 0 where
   pub keeps : Keeps old new
-  pub inside : id.0 < length new
+  pub inside : id < length new
   pub is : tree_at new id ≡ lean old ps (tree_at old last)

@@ -1,5 +1,5 @@
 ghost use Rattle.std.specs.Prelude.{◌≡◌, [], IfOk, length};
-ghost use Rattle.fv_tree.specs.Arena.{trees, Adds, PartsBelow, AreOver};
+ghost use Rattle.fv_tree.specs.Arena.{trees, Adds, PartsBelow, AreBuilt};
 
 use crate::node::{TreeId, TreeNode};
 use std::alloc::{AllocError, Global};
@@ -30,7 +30,7 @@ impl Model for Arena {
 
     ghost view = { λ a. a.entries.items };
 
-    ghost invariant = { λ a. AreOver 0 a.entries.items };
+    ghost invariant = { λ a. AreOver a.entries.items };
 }
 
 impl Arena {
@@ -42,12 +42,12 @@ impl Arena {
         }
     }
 
-    /// Adds a node.
+    /// Adds a node, and answers its number.
     pub(crate) fn push(&mut self, node: TreeNode, start: usize) -> Result<TreeId, AllocError>
         requires { PartsBelow (length (trees self.old)) node }
         ensures { IfOk result (λ id. Adds (trees self.old) (trees self.new) id node start) }
     {
-        let id = TreeId(self.entries.len() as u64);
+        let id = TreeId::new(self.entries.len() as u64);
         self.entries.push(Entry {
             node,
             start: start as u64,
@@ -58,7 +58,7 @@ impl Arena {
     /// The nodes, in order.
     pub fn into_entries(self) -> Vec<Entry>
         ensures same { result.items ≡ self }
-        ensures over { AreOver 0 result.items }
+        ensures built { AreBuilt result.items }
     {
         self.entries
     }

@@ -1,8 +1,39 @@
+// The nodes of a tree.
+
 use fv_grammar::{Iteration, Operator, Panel, Primitive, Side, Slider, Switch};
+use std::marker::Model;
 
 /// The number of a node in its tree.
 #[derive(Clone, Copy, Debug, PartialEq, Eq)]
-pub struct TreeId(pub u64);
+pub struct TreeId(u64);
+
+impl Model for TreeId {
+    ghost use Rattle.std.specs.Prelude.{ℕ};
+
+    ghost Value = { ℕ };
+
+    ghost view = { λ a. a.0 };
+
+    ghost inverse = { λ n. record { 0 = n } };
+}
+
+impl TreeId {
+    ghost use Rattle.std.specs.Prelude.{◌≡◌};
+
+    /// The id with this number.
+    pub fn new(number: u64) -> TreeId
+        ensures { result ≡ number }
+    {
+        TreeId(number)
+    }
+
+    /// Its number.
+    pub fn number(self) -> u64
+        ensures { result ≡ self }
+    {
+        self.0
+    }
+}
 
 /// A node. Its parts have lower numbers. Names and labels are numbers of tokens.
 #[derive(Debug, Drop)]

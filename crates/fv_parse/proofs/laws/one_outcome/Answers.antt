@@ -8,4 +8,4 @@ pub returns-clause-apart : goal.returns-clause-apart
 returns-clause-apart c = not_both c.spelled_once.ensures
 
 pub returns-clause-either : goal.returns-clause-either
-returns-clause-either c = one_or_other c.stops_at_the_place.ensures.place
+returns-clause-either c = one_or_other c.reads_what_is_spelled.ensures.sound c.reads_what_is_spelled.ensures.complete c.stops_at_the_place.ensures.place

@@ -19,13 +19,13 @@ returns-then-is_process c =
     let of : c.constant_in.result ≡ Some (c.in-Some-constant_in.name, c.in-Some-constant_in.expression) = c.in-Some-constant_in.is in
     let of_node = sym c.constant_in.ensures ∙ of in
     let one_node = sym c.in-Some.ensures in
-    let above = only_below c.node.result.now c.root.result.0 c.in-Some.definition one_node c.node.ensures.parts in
-    record {
-      below = constant_below c.node-2.result.now c.in-Some.definition.0 c.in-Some-constant_in.name c.in-Some-constant_in.expression of_node c.node-2.ensures.parts;
+    let above = only_below c.node.result.now c.root.result c.in-Some.definition one_node c.node.ensures.parts in
+    rw c.number.ensures (record {
+      below = constant_below c.node-2.result.now c.in-Some.definition c.in-Some-constant_in.name c.in-Some-constant_in.expression of_node c.node-2.ensures.parts;
       inside = omega (arith, above, c.root.ensures.inside);
       start = _;
       name = c.in-Some-constant_in.name;
       one = sym (ap (tree_in c.args.tree.now) c.root.ensures.root) ∙ c.node.ensures.tree ∙ list_one ts c.node.result.now _ c.in-Some.definition one_node
           ∙ ap (λ (t : Tree). More t End) (c.node-2.ensures.tree ∙ constant_one ts c.node-2.result.now _ c.in-Some-constant_in.name c.in-Some-constant_in.expression of_node);
       named = (bytes_eq-Decides (text_of c.args.tree.now.tokens c.in-Some-constant_in.name) (codes "process")).0 (sym c.is_process.ensures ∙ c.if-is_process.true);
-    }
+    })

@@ -32,9 +32,9 @@ loop-i-preserved c =
     let long : length X ≡ n = let h = c.loop-i-test.true in omega (arith, length-take n frames, length-frames c.args.bytes.now) in
     record {
       stands = subst (λ (Y : List Frame). StandsFor c.step.new.self d (silences (n + 1)) Y) (sym more)
-          (subst (λ (C : List Frame). StandsFor c.step.new.self d C (X ++ c.frame_at-frame.result ∷ [])) silent (c.step.ensures.stands d (silences n) X stands));
+          (subst (λ (C : List Frame). StandsFor c.step.new.self d C (X ++ c.frame_at-frame.result ∷ [])) silent (c.in_ok-step.ensures.stands d (silences n) X stands));
       file = played_more d n X c.frame_at-frame.result c.step.new.out c.args.file.now.items c.loop-i.file.items c.push_frame.new.file.items (c.answers_one_more.ensures d) long
-          (c.step.ensures.answer d (silences n) X no_slots stands) c.loop-i.invariant.file c.in_ok-push_frame.ensures
+          (c.in_ok-step.ensures.answer d (silences n) X no_slots stands) c.loop-i.invariant.file c.in_ok-push_frame.ensures
           ∙ ap (λ k. c.args.file.now.items ++ flat_map (frame_bytes 16) (run d (column (silences k)) no_slots (X ++ c.frame_at-frame.result ∷ []))) (sym (add-one n))
           ∙ ap (λ (Y : List Frame). c.args.file.now.items ++ flat_map (frame_bytes 16) (run d (column (silences (n + 1))) no_slots Y)) (sym more);
       out = search rules;

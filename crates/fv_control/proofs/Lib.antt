@@ -1,0 +1,5 @@
+pub mod Holding
+pub mod Places
+pub mod Lines
+pub mod Lawful
+pub mod Spelled

@@ -1,0 +1,74 @@
+-- The lines of a script, one after another.
+use Rattle.std.proofs.Common.{◌≡◌, ℕ, suc, ◌+◌, ◌<◌, ◌≤◌, ◌==◌, Bool, true, false, List, [], ◌∷◌, ◌++◌, length, drop, take, refl, ap, sym, ◌∙◌, arith, append_assoc, append-nil, Ok, Err, Result, Option, ⊎_elim}
+use Rattle.std.specs.List.{position_or_len, slice_split}
+use Rattle.std.proofs.lemmas.Bool.{cases_lt, le-leb, lt-leb}
+use Rattle.std.proofs.lemmas.List.{take_all}
+use Rattle.std.proofs.lemmas.List.Splits.{slice_split_first}
+use Rattle.fv_diagram.specs.declared.control.ControlInfo.{ControlInfo}
+use Rattle.fv_control.specs.declared.script.Change.{Change}
+use Rattle.fv_control.specs.declared.refusal.ScriptRefusal.{ScriptRefusal}
+use Rattle.fv_control.specs.Script.{◌>>=◌, script, lines_say, line_says, lines_of, listed, least_behind}
+use Rattle.fv_base.specs.declared.role.Role.TheVariants.{Controls}
+use Rattle.fv_control.specs.declared.refusal.ScriptRefusal.TheVariants.{TextTooLong}
+
+abbrev pub is_end : ℕ → Bool
+is_end b = b == 10
+
+-- without a byte 10 all is one line
+last_at : (p : ℕ → Bool) (x : ℕ) (xs : List ℕ) (b : Bool) → p x ≡ b → (position_or_len p xs ≡ length xs → slice_split p xs ≡ xs ∷ []) → position_or_len p (x ∷ xs) ≡ suc (length xs)
+    → slice_split p (x ∷ xs) ≡ (x ∷ xs) ∷ []
+last_at p x xs true t ih e = let z = rw t at e in absurd (omega arith)
+last_at p x xs false t ih e = let z = rw t at e in let r = ih (omega arith) in rw (t, r) refl
+
+pub split_last : (p : ℕ → Bool) (xs : List ℕ) → position_or_len p xs ≡ length xs → slice_split p xs ≡ xs ∷ []
+split_last p [] e = refl
+split_last p (x ∷ xs) e = last_at p x xs (p x) refl (split_last p xs) e
+
+-- the first line, and those behind it
+pub first_line : (rest : List ℕ) (e : ℕ) → e ≡ position_or_len is_end rest → e ≤ length rest → (more : List (List ℕ)) × (lines_of rest ≡ take e rest ∷ more)
+first_line rest e p h =
+    ⊎_elim (λ (w : e < length rest). (lines_of (drop (e + 1) rest), rw p (slice_split_first is_end rest 0 (omega arith))))
+    (λ (w : length rest ≤ e). ([], split_last is_end rest (omega arith) ∙ ap (λ (xs : List ℕ). xs ∷ []) (sym (take_all e rest w)))) (cases_lt e (length rest))
+
+-- changes in front of what is said, and in front of that
+fronts : (m : Result (List Change) ScriptRefusal) (a b : List Change) →
+    ((m >>= λ ys. Ok (b ++ ys)) >>= λ x. Ok (a ++ x)) ≡ (m >>= λ x. Ok ((a ++ b) ++ x))
+fronts (Ok ys) a b = ap Ok (sym (append_assoc a b ys))
+fronts (Err e) a b = refl
+
+-- a line that is refused
+pub refused : (cs : List ControlInfo) (least n : ℕ) (front : List Change) (whole : Result (List Change) ScriptRefusal) (rest : List ℕ) (e : ℕ) (r : ScriptRefusal) →
+    whole ≡ (lines_say cs least n (lines_of rest) >>= λ x. Ok (front ++ x)) → e ≡ position_or_len is_end rest → e ≤ length rest → line_says cs least n (take e rest) ≡ Err r → whole ≡ Err r
+refused cs least n front whole rest e r w p h b =
+    let f = first_line rest e p h in
+    w ∙ ap (λ ls. lines_say cs least n ls >>= λ x. Ok (front ++ x)) f.1
+    ∙ ap (λ m. (m >>= λ c. lines_say cs (least_behind least c) (n + 1) f.0 >>= λ ys. Ok (listed c ++ ys)) >>= λ x. Ok (front ++ x)) b
+
+-- the last line
+pub ended : (cs : List ControlInfo) (least n : ℕ) (front : List Change) (whole : Result (List Change) ScriptRefusal) (rest : List ℕ) (e : ℕ) (c : Option Change) →
+    whole ≡ (lines_say cs least n (lines_of rest) >>= λ x. Ok (front ++ x)) → e ≡ position_or_len is_end rest → e ≡ length rest → line_says cs least n (take e rest) ≡ Ok c
+    → whole ≡ Ok (front ++ listed c)
+ended cs least n front whole rest e c w p l b =
+    let one : lines_of rest ≡ take e rest ∷ [] = split_last is_end rest (sym p ∙ l) ∙ ap (λ (xs : List ℕ). xs ∷ []) (sym (take_all e rest (omega arith))) in
+    w ∙ ap (λ ls. lines_say cs least n ls >>= λ x. Ok (front ++ x)) one
+    ∙ ap (λ m. (m >>= λ d. lines_say cs (least_behind least d) (n + 1) [] >>= λ ys. Ok (listed d ++ ys)) >>= λ x. Ok (front ++ x)) b
+    ∙ ap (λ ys. Ok (front ++ ys)) (append-nil (listed c))
+
+-- a line, and then those behind it
+pub goes_on : (cs : List ControlInfo) (least n : ℕ) (front : List Change) (whole : Result (List Change) ScriptRefusal) (rest : List ℕ) (e : ℕ) (c : Option Change) →
+    whole ≡ (lines_say cs least n (lines_of rest) >>= λ x. Ok (front ++ x)) → e ≡ position_or_len is_end rest → e < length rest → line_says cs least n (take e rest) ≡ Ok c
+    → whole ≡ (lines_say cs (least_behind least c) (n + 1) (lines_of (drop (e + 1) rest)) >>= λ x. Ok ((front ++ listed c) ++ x))
+goes_on cs least n front whole rest e c w p l b =
+    let cut : lines_of rest ≡ take e rest ∷ lines_of (drop (e + 1) rest) = rw p (slice_split_first is_end rest 0 (omega arith)) in
+    w ∙ ap (λ ls. lines_say cs least n ls >>= λ x. Ok (front ++ x)) cut
+    ∙ ap (λ m. (m >>= λ d. lines_say cs (least_behind least d) (n + 1) (lines_of (drop (e + 1) rest)) >>= λ ys. Ok (listed d ++ ys)) >>= λ x. Ok (front ++ x)) b
+    ∙ fronts (lines_say cs (least_behind least c) (n + 1) (lines_of (drop (e + 1) rest))) front (listed c)
+
+-- a script of lawful length is its lines
+pub script_is : (cs : List ControlInfo) (bytes : List ℕ) → length bytes ≤ 1048576 → script cs bytes ≡ lines_say cs 0 1 (lines_of bytes)
+unfolding script
+script_is cs bytes h = let t = le-leb (length bytes) 1048576 h in rw t refl
+
+pub script_long : (cs : List ControlInfo) (bytes : List ℕ) → 1048576 < length bytes → script cs bytes ≡ Err (TextTooLong Controls)
+unfolding script
+script_long cs bytes h = let t = lt-leb (length bytes) 1048576 h in rw t refl

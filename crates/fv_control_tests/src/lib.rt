@@ -1,0 +1,5 @@
+//! Tests of fv_control's public calls.
+#![tactic(auto)]
+
+#[cfg(test)]
+mod scripts;

@@ -1,0 +1,58 @@
+-- The streams of a runner's steps.
+use Rattle.std.proofs.Common.{◌≡◌, ℕ, suc, ◌+◌, ◌<◌, List, [], ◌∷◌, ◌++◌, length, get_or, map, ap, ◌∙◌, subst, arith, pos, refl}
+use Rattle.std.proofs.lemmas.List.{get_or_push, length_push, get_or-map}
+use mathlib.Core.Path.{fun_ext}
+use Rattle.fv_base.specs.Lists.{IsPrefixOf}
+use Rattle.fv_num.specs.Words.{argument}
+use Rattle.fv_num.specs.Frames.{Stream, delayed, back}
+use Rattle.fv_num.specs.Valuation.{IsCausalAt, AreCausalFrom}
+use Rattle.fv_num.proofs.Valued.{valuation_is}
+use Rattle.fv_diagram.specs.declared.step.Step.{Step}
+use Rattle.fv_diagram.specs.Steps.{step_value, step_at, OperandsBelow, AreOrdered, wires}
+use Rattle.fv_diagram.proofs.Causality.{delayed_same, back_same}
+use Rattle.fv_diagram.proofs.Places.{prefix_long, prefix_get}
+use Rattle.fv_diagram.proofs.StepLists.{step_value_same}
+use Rattle.std.proofs.lemmas.Bool.{cases_lt}
+use Rattle.std.proofs.Common.{inl, inr}
+
+module _ (sources : List ℕ) (c x : ℕ → Stream) where
+  step_causal : (i : ℕ) (s : Step) → OperandsBelow i s → IsCausalAt (step_at sources c x) i s
+  step_causal i s h v v' t p q =
+      ap (λ f. step_value (λ k. c k t) (λ k. x k t) (argument (map f sources)) (λ list w. back (v w) t) (λ w. v w t) s)
+      (fun_ext (λ w. delayed_same (v w) (v' w) t (λ u l. p w u l)))
+      ∙ step_value_same (λ k. c k t) (λ k. x k t) (argument (map (λ w. delayed (v' w) t) sources)) (λ w. v w t) (λ w. v' w t)
+      (λ list w. back (v w) t) (λ list w. back (v' w) t) i s h q
+      (λ list w d l. back_same (v w) (v' w) t d (λ u b. elim (cases_lt u t) [
+        | inl g ↦ p w u g
+        | inr g ↦ let e : t ≡ u = omega arith in subst (λ z. v w z ≡ v' w z) e (q w l)
+      ]))
+
+  steps_causal : (i : ℕ) (ss : List Step) → ((j : ℕ) (d : Step) → j < length ss → OperandsBelow (i + j) (get_or ss j d)) →
+      AreCausalFrom (step_at sources c x) i ss
+  steps_causal i [] h = tt
+  steps_causal i (s ∷ ss) h =
+      let z : i + 0 ≡ i = omega arith in (
+        step_causal i s (subst (λ n. OperandsBelow n s) z (h 0 s (omega arith))),
+        steps_causal (suc i) ss (λ j d l. let e : i + suc j ≡ suc i + j = omega arith in subst (λ n. OperandsBelow n (get_or ss j d)) e
+            (h (suc j) d (omega arith))),
+      )
+
+  pub step_is : (more : List Step) (i : ℕ) (s : Step) (t : ℕ) → AreOrdered more → i < length more → get_or more i s ≡ s →
+      wires more sources c x i t ≡ step_at sources c x (wires more sources c x) s t
+  step_is more i s t h l e =
+      valuation_is (step_at sources c x) more (steps_causal 0 more
+      (λ j d m. let z : j ≡ 0 + j = omega arith in subst (λ n. OperandsBelow n (get_or more j d)) z (h j d m)))
+      i s s l e (step_causal i s (subst (OperandsBelow i) e (h i s l))) t
+
+  -- where more steps follow, the register of the last one has what that step gives
+  pub last_is : (steps more : List Step) (s : Step) (t : ℕ) → IsPrefixOf (steps ++ s ∷ []) more → AreOrdered more →
+      wires more sources c x (length steps) t ≡ step_at sources c x (wires more sources c x) s t
+  last_is steps more s t b o =
+      step_is more (length steps) s t o
+      (omega (arith, prefix_long (steps ++ s ∷ []) more b, length_push steps s))
+      (prefix_get (steps ++ s ∷ []) more (length steps) s b (omega (arith, length_push steps s)) ∙ get_or_push steps s s (length steps) refl)
+
+-- cell k holds its source one sample later
+pub cell_is : (v : ℕ → Stream) (sources : List ℕ) (k : ℕ) (t : ℕ) → k < length sources →
+    argument (map (λ w. delayed (v w) t) sources) k ≡ delayed (v (get_or sources k 0)) t
+cell_is v sources k t l = get_or-map (λ w. delayed (v w) t) sources k 0 (pos 0) l

@@ -1,0 +1,59 @@
+// What a walk over a diagram turns it into.
+
+ghost use Rattle.std.specs.Prelude.{◌≡◌, ℕ, ◌≤◌, List, [], ◌∷◌, length, All, IfOk, OnOk};
+ghost use Rattle.fv_diagram.specs.Hooks.{Hooks, takes, Keeps};
+
+use fv_num::Op;
+use std::alloc::{AllocError, Global};
+
+/// A diagram that gives one stream of its own.
+#[derive(Clone, Copy, PartialEq, Eq, Debug)]
+pub enum Leaf {
+    Number(i32),
+    Control(u32),
+    Mem,
+    Prefix,
+    Delay,
+    Point(Op),
+}
+
+/// What a diagram is turned into, one leaf and one feedback at a time.
+pub trait Signals {
+    type Wire: Copy + Drop;
+
+    /// What each call does.
+    ghost hooks: { Hooks Self.Wire Self };
+
+    /// What holds of the wires that it has made.
+    ghost is_wire: { Self → Self.Wire → Type 0 };
+
+    /// How many wires each feedback that is open feeds back, the innermost one first.
+    ghost fed: { Self → List ℕ };
+
+    /// The wire of a leaf on these wires.
+    fn leaf(&mut self, leaf: Leaf, ins: &[Self::Wire]) -> Result<Self::Wire, AllocError>
+        requires width { length ins.now ≡ takes leaf }
+        requires wires { All (is_wire self.old) ins.now }
+        ensures done { IfOk result (λ w. (w, self.new) ≡ hooks.leaf leaf ins.now self.old) }
+        ensures wire { IfOk result (λ w. is_wire self.new w) }
+        ensures keeps { OnOk result (Keeps (is_wire self.old) (is_wire self.new)) }
+        ensures fed { OnOk result (fed self.new ≡ fed self.old) };
+
+    /// Begins a feedback of so many wires.
+    fn open(&mut self, alloc: Global, count: u64) -> Result<Vec<Self::Wire>, AllocError>
+        ensures done { IfOk result (λ v. (v.items, self.new) ≡ hooks.opened count self.old) }
+        ensures width { IfOk result (λ v. length v.items ≡ count) }
+        ensures wires { IfOk result (λ v. All (is_wire self.new) v.items) }
+        ensures keeps { OnOk result (Keeps (is_wire self.old) (is_wire self.new)) }
+        ensures fed { OnOk result (fed self.new ≡ count ∷ fed self.old) };
+
+    /// Ends the innermost feedback, to which the first ones of these wires are fed back. What it gives are the wires outside.
+    fn close(&mut self, alloc: Global, outs: &[Self::Wire]) -> Result<Vec<Self::Wire>, AllocError>
+        requires fed { (n : ℕ) × (rest : List ℕ) × (fed self.old ≡ n ∷ rest) × (n ≤ length outs.now) }
+        requires wires { All (is_wire self.old) outs.now }
+        ensures done { IfOk result (λ v. (v.items, self.new) ≡ hooks.closed outs.now self.old) }
+        ensures width { IfOk result (λ v. length v.items ≡ length outs.now) }
+        ensures wires { IfOk result (λ v. All (is_wire self.new) v.items) }
+        ensures keeps { OnOk result (Keeps (is_wire self.old) (is_wire self.new)) }
+        ensures fed { OnOk result ((n : ℕ) × (fed self.old ≡ n ∷ fed self.new)) };
+}

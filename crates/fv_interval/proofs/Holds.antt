@@ -1,0 +1,357 @@
+-- The answers of a diagram lie in the spans of its outputs.
+use Rattle.std.proofs.Common.{◌≡◌, ℕ, zero, suc, ◌+◌, ◌-◌, ◌%◌, ◌<◌, ◌≤◌, List, [], ◌∷◌, ◌++◌, length, map, reverse, take, drop, get_or, replicate, refl, sym, ap, ap₂, ◌∙◌, subst, arith, All, ℤ, pos, negsuc, true, false, if◌then◌else◌, nat_eq, nat_le, w32, FitsSigned}
+use Rattle.std.proofs.lemmas.List.{length-append, length-take-le, length-drop, length-replicate, length-map, length-reverse, get_or-replicate, get_or-take}
+use Rattle.std.proofs.lemmas.List.Elements.{All-get_or, All-cons, All-take}
+use Rattle.std.proofs.lemmas.Int.{ints, clamps}
+use Rattle.std.proofs.Math.Nat.{mod-lt}
+use Rattle.fv_num.specs.declared.op.Op.TheVariants.{Add}
+use Rattle.fv_num.specs.Words.{argument, apply_of}
+use Rattle.fv_num.specs.Frames.{Frame, Stream, frame_at, column, table, delayed, prefixed, back}
+use Rattle.fv_num.specs.Interval.{Interval, IsWithin, IsSpan, full, point, hull, span_at}
+use Rattle.fv_num.specs.Spans.{span_of}
+use Rattle.fv_base.proofs.Lists.{length_table, table_items}
+use Rattle.fv_num.proofs.Closed.{holds, closed}
+use Rattle.fv_diagram.specs.declared.node.Primitive.{Primitive as Prim}
+use Rattle.fv_diagram.specs.declared.node.Primitive.TheVariants as prim
+use Rattle.fv_diagram.specs.Diagram.{Diagram, Primitive, Constant, Control, Slot, Bind, Par, Seq, Split, Merge, Rec, inputs, outputs, primitive_inputs, IsWellFormed}
+use Rattle.fv_diagram.specs.Laws.{fed_back_over}
+use Rattle.fv_diagram.specs.Streams.{primitive_at, beside, dealt, every, added, wrapped_sum, merged, bound, fed_back, run}
+use Rattle.fv_diagram.proofs.Lists.{length_beside}
+use Rattle.fv_diagram.proofs.Causality.{length_run}
+use Rattle.fv_diagram.proofs.Each.{each_table, each_map, each_beside, each_reverse, each_feedback}
+use Rattle.fv_interval.specs.WireSpans.{primitive_spans, added_span, summed_span, merged_spans, bound_span, spans}
+use Rattle.fv_interval.specs.Laws.{IsOf, AreOf, AnswersHold, AllDelaysHold}
+
+-- ---- lists of numbers and of spans
+
+of_length : (I : List Interval) (x : Frame) → AreOf I x → length x ≡ length I
+of_length [] [] h = refl
+of_length [] (z ∷ x) h = absurd h
+of_length (s ∷ I) [] h = absurd h
+of_length (s ∷ I) (z ∷ x) h = ap suc (of_length I x h.1)
+
+of_take : (n : ℕ) (I : List Interval) (x : Frame) → AreOf I x → AreOf (take n I) (take n x)
+of_take zero I x h = tt
+of_take (suc n) [] [] h = tt
+of_take (suc n) [] (z ∷ x) h = absurd h
+of_take (suc n) (s ∷ I) [] h = absurd h
+of_take (suc n) (s ∷ I) (z ∷ x) h = (h.0, of_take n I x h.1)
+
+of_drop : (n : ℕ) (I : List Interval) (x : Frame) → AreOf I x → AreOf (drop n I) (drop n x)
+of_drop zero I x h = h
+of_drop (suc n) [] [] h = tt
+of_drop (suc n) [] (z ∷ x) h = absurd h
+of_drop (suc n) (s ∷ I) [] h = absurd h
+of_drop (suc n) (s ∷ I) (z ∷ x) h = of_drop n I x h.1
+
+of_append : (I K : List Interval) (x y : Frame) → AreOf I x → AreOf K y → AreOf (I ++ K) (x ++ y)
+of_append [] K [] y h g = g
+of_append [] K (z ∷ x) y h g = absurd h
+of_append (s ∷ I) K [] y h g = absurd h
+of_append (s ∷ I) K (z ∷ x) y h g = (h.0, of_append I K x y h.1 g)
+
+of_get : (I : List Interval) (x : Frame) (i : ℕ) (d : Interval) → AreOf I x → i < length I → IsOf (get_or I i d) (get_or x i (pos 0))
+of_get [] x i d h l = absurd (omega arith)
+of_get (s ∷ I) [] i d h l = absurd h
+of_get (s ∷ I) (z ∷ x) zero d h l = h.0
+of_get (s ∷ I) (z ∷ x) (suc i) d h l = of_get I x i d h.1 (omega arith)
+
+of_table : (n : ℕ) (f : ℕ → Interval) (g : ℕ → ℤ) → ((i : ℕ) → i < n → IsOf (f i) (g i)) → AreOf (table n f) (table n g)
+of_table zero f g h = tt
+of_table (suc n) f g h = of_append (table n f) (f n ∷ []) (table n g) (g n ∷ []) (of_table n f g (λ i l. h i (omega arith))) (h n (omega arith), tt)
+
+full_of : (z : ℤ) → FitsSigned w32 z → IsOf full z
+full_of z f = (
+  record { ordered = omega (arith, ints); lo_fits = omega (arith, ints); hi_fits = omega (arith, ints) },
+  record {
+    above = omega
+        (arith, ints);
+    below = omega (arith, ints);
+  },
+)
+
+of_fits : (s : Interval) (z : ℤ) → IsOf s z → FitsSigned w32 z
+of_fits s z h = omega (arith, ints, h.0.lo_fits, h.0.hi_fits, h.1.above, h.1.below)
+
+-- numbers of 32 bits are of the full span
+of_full : (n : ℕ) (y : Frame) → length y ≡ n → ((i : ℕ) → i < n → FitsSigned w32 (get_or y i (pos 0))) → AreOf (table n (λ i. full)) y
+of_full n y e h =
+    subst (AreOf (table n (λ i. full))) (ap (λ k. table k (λ i. get_or y i (pos 0))) (sym e) ∙ table_items y (pos 0))
+    (of_table n (λ i. full) (λ i. get_or y i (pos 0)) (λ i l. full_of (get_or y i (pos 0)) (h i l)))
+
+point_of : (n : ℤ) → FitsSigned w32 n → IsOf (point n) n
+point_of n f = (record { ordered = omega (arith, ints); lo_fits = f; hi_fits = f }, record { above = omega (arith, ints); below = omega (arith, ints) })
+
+left_of : (s t : Interval) (z : ℤ) → IsSpan t → IsOf s z → IsOf (hull s t) z
+left_of s t z p h = (
+  record {
+    ordered = omega (arith, ints, clamps, h.0.ordered);
+    lo_fits = omega (arith, ints, clamps, h.0.lo_fits, p.lo_fits);
+    hi_fits = omega
+        (arith, ints, clamps, h.0.hi_fits, p.hi_fits);
+  },
+  record { above = omega (arith, ints, clamps, h.1.above); below = omega (arith, ints, clamps, h.1.below) },
+)
+
+right_of : (s t : Interval) (z : ℤ) → IsSpan s → IsOf t z → IsOf (hull s t) z
+right_of s t z p h = (
+  record {
+    ordered = omega (arith, ints, clamps, h.0.ordered);
+    lo_fits = omega (arith, ints, clamps, h.0.lo_fits, p.lo_fits);
+    hi_fits = omega
+        (arith, ints, clamps, h.0.hi_fits, p.hi_fits);
+  },
+  record { above = omega (arith, ints, clamps, h.1.above); below = omega (arith, ints, clamps, h.1.below) },
+)
+
+zero_span : IsSpan (point (pos 0))
+zero_span = (point_of (pos 0) (omega (arith, ints))).0
+
+zero_of : IsOf (point (pos 0)) (pos 0)
+zero_of = point_of (pos 0) (omega (arith, ints))
+
+-- ---- sums
+
+sum_of : (s x : Interval) (a b : ℤ) → IsOf s a → IsOf x b → IsOf (span_of Add (s ∷ x ∷ [])) (apply_of Add (a ∷ b ∷ []))
+sum_of s x a b h g =
+    let is : (i : ℕ) → i < 2 → IsSpan (span_at (s ∷ x ∷ []) i) = two_spans in
+    (closed Add (s ∷ x ∷ []) refl is, holds Add (s ∷ x ∷ []) refl is (a ∷ b ∷ []) two_within)
+  where
+    two_spans : (i : ℕ) → i < 2 → IsSpan (span_at (s ∷ x ∷ []) i)
+    two_spans zero l = h.0
+    two_spans (suc zero) l = g.0
+    two_spans (suc (suc i)) l = absurd (omega arith)
+
+    two_within : (i : ℕ) → i < 2 → IsWithin (span_at (s ∷ x ∷ []) i) (argument (a ∷ b ∷ []) i)
+    two_within zero l = h.1
+    two_within (suc zero) l = g.1
+    two_within (suc (suc i)) l = absurd (omega arith)
+
+added_of : (s : Interval) (a : ℤ) (I : List Interval) (x : Frame) → IsOf s a → AreOf I x → IsOf (added_span s I) (added a x)
+added_of s a [] [] h g = h
+added_of s a [] (z ∷ x) h g = absurd g
+added_of s a (t ∷ I) [] h g = absurd g
+added_of s a (t ∷ I) (z ∷ x) h g = added_of (span_of Add (s ∷ t ∷ [])) (apply_of Add (a ∷ z ∷ [])) I x (sum_of s t a z h g.0) g.1
+
+summed_of : (I : List Interval) (x : Frame) → AreOf I x → IsOf (summed_span I) (wrapped_sum x)
+summed_of [] [] h = zero_of
+summed_of [] (z ∷ x) h = absurd h
+summed_of (s ∷ I) [] h = absurd h
+summed_of (s ∷ I) (z ∷ x) h = added_of s z I x h.0 h.1
+
+every_of : (n j i : ℕ) (I : List Interval) (x : Frame) → AreOf I x → AreOf (every n j i I) (every n j i x)
+every_of n j i [] [] h = tt
+every_of n j i [] (z ∷ x) h = absurd h
+every_of n j i (s ∷ I) [] h = absurd h
+every_of n j i (s ∷ I) (z ∷ x) h =
+    let g = every_of n j (suc i) I x h.1 in
+    elim (nat_eq (i % n) j) as (λ b. AreOf (if b then s ∷ every n j (suc i) I else every n j (suc i) I)
+    (if b then z ∷ every n j (suc i) x else every n j (suc i) x)) [
+      | true ↦ (h.0, g)
+      | false ↦ g
+    ]
+
+merged_of : (n : ℕ) (I : List Interval) (x : Frame) → AreOf I x → AreOf (merged_spans n I) (merged n x)
+merged_of n I x h = of_table n _ _ (λ j l. summed_of (every n j 0 I) (every n j 0 x) (every_of n j 0 I x h))
+
+dealt_of : (n : ℕ) (I : List Interval) (x : Frame) → 1 ≤ length I → AreOf I x → AreOf (dealt (point (pos 0)) n I) (dealt (pos 0) n x)
+dealt_of n I x l h = of_table n _ _ (λ i k.
+    subst (λ m. IsOf (get_or I (i % length I) (point (pos 0))) (get_or x (i % m) (pos 0))) (sym (of_length I x h))
+    (of_get I x (i % length I) (point (pos 0)) h (mod-lt i l)))
+
+-- ---- primitives
+
+module _ (I : List Interval) (X : List Frame) (w : All (AreOf I) X) where
+  at : (i t : ℕ) → i < length I → t < length X → IsOf (span_at I i) (column X i t)
+  at i t l m = of_get I (frame_at X t) i (point (pos 0)) (All-get_or (AreOf I) X t [] m w) l
+
+  late : (t : ℕ) → 0 < length I → t < length X → IsOf (hull (span_at I 0) (point (pos 0))) (delayed (column X 0) t)
+  late zero l m = right_of (span_at I 0) (point (pos 0)) (pos 0) (at 0 0 l m).0 zero_of
+  late (suc t) l m = left_of (span_at I 0) (point (pos 0)) (column X 0 t) zero_span (at 0 t l (omega arith))
+
+  first : (t : ℕ) → 1 < length I → t < length X → IsOf (hull (span_at I 0) (span_at I 1)) (prefixed (column X 0) (column X 1) t)
+  first zero l m = left_of (span_at I 0) (span_at I 1) (column X 0 0) (at 1 0 l m).0 (at 0 0 (omega arith) m)
+  first (suc t) l m = right_of (span_at I 0) (span_at I 1) (column X 1 t) (at 0 (suc t) (omega arith) m).0 (at 1 t l (omega arith))
+
+  ago : (t : ℕ) (d : ℤ) → 0 < length I → t < length X → IsOf (hull (span_at I 0) (point (pos 0))) (back (column X 0) t d)
+  ago t (negsuc d) l m = right_of (span_at I 0) (point (pos 0)) (pos 0) (at 0 t l m).0 zero_of
+  ago t (pos d) l m = elim (nat_le d t) as (λ b. IsOf (hull (span_at I 0) (point (pos 0))) (if b then column X 0 (t - d) else pos 0)) [
+    | true ↦ left_of (span_at I 0) (point (pos 0)) (column X 0 (t - d)) zero_span (at 0 (t - d) l (omega arith))
+    | false ↦ right_of (span_at I 0) (point (pos 0)) (pos 0) (at 0 t l m).0 zero_of
+  ]
+
+  primitive_of : (p : Prim) → length I ≡ primitive_inputs p → (t : ℕ) → t < length X → AreOf (primitive_spans p I) (primitive_at p X t)
+  primitive_of prim.Wire e t m = (at 0 t (omega arith) m, tt)
+  primitive_of prim.Int e t m = (at 0 t (omega arith) m, tt)
+  primitive_of prim.Attach e t m = (at 0 t (omega arith) m, tt)
+  primitive_of prim.Cut e t m = tt
+  primitive_of prim.Mem e t m = (late t (omega arith) m, tt)
+  primitive_of prim.Prefix e t m = (first t (omega arith) m, tt)
+  primitive_of prim.Delay e t m = (ago t (column X 1 t) (omega arith) m, tt)
+  primitive_of (prim.Point op) e t m =
+      ((closed op I e (λ i l. (at i t l m).0), holds op I e (λ i l. (at i t l m).0) (frame_at X t) (λ i l. (at i t l m).1)), tt)
+
+-- ---- diagrams
+
+pub answers_length : (d : Diagram) (c e : ℕ → Interval) (I : List Interval) → IsWellFormed d → length I ≡ inputs d → length (spans d c e I) ≡ outputs d
+answers_length (Primitive prim.Wire) c e I h l = refl
+answers_length (Primitive prim.Int) c e I h l = refl
+answers_length (Primitive prim.Attach) c e I h l = refl
+answers_length (Primitive prim.Cut) c e I h l = refl
+answers_length (Primitive prim.Mem) c e I h l = refl
+answers_length (Primitive prim.Prefix) c e I h l = refl
+answers_length (Primitive prim.Delay) c e I h l = refl
+answers_length (Primitive (prim.Point op)) c e I h l = refl
+answers_length (Constant n) c e I h l = refl
+answers_length (Control k) c e I h l = refl
+answers_length (Slot s) c e I h l = refl
+answers_length (Bind s a) c e I h l = answers_length a c (bound_span e s (span_at I 0)) (drop 1 I) h (omega (arith, l, length-drop 1 I))
+answers_length (Par a b) c e I h l =
+    length-append (spans a c e (take (inputs a) I)) (spans b c e (drop (inputs a) I))
+    ∙ ap₂ (λ m n. m + n) (answers_length a c e (take (inputs a) I) h.0 (length-take-le (inputs a) I (omega arith)))
+    (answers_length b c e (drop (inputs a) I) h.1 (omega (arith, l, length-drop (inputs a) I)))
+answers_length (Seq a b) c e I h l = answers_length b c e (spans a c e I) h.1 (answers_length a c e I h.0 l ∙ h.2)
+answers_length (Split a b) c e I h l = answers_length b c e (dealt (point (pos 0)) (inputs b) (spans a c e I)) h.1 (length_table (inputs b) _)
+answers_length (Merge a b) c e I h l = answers_length b c e (merged_spans (inputs b) (spans a c e I)) h.1 (length_table (inputs b) _)
+answers_length (Rec a b) c e I h l =
+    let K = spans b c e (table (inputs b) (λ i. full)) in
+    let k : length K ≡ outputs b = answers_length b c e (table (inputs b) (λ i. full)) h.1 (length_table (inputs b) _) in
+    answers_length a c e (K ++ I) h.0 (omega (arith, length-append K I, k, l, h.3))
+
+zeros_of : (n : ℕ) → AreOf (table n (λ i. full)) (replicate n (pos 0))
+zeros_of n = of_full n (replicate n (pos 0)) (length-replicate n (pos 0))
+    (λ i m. subst (FitsSigned w32) (sym (get_or-replicate n i (pos 0) (pos 0) m)) (omega (arith, ints)))
+
+cut_of : (n : ℕ) (O : List Interval) (y : Frame) → n ≤ length O → AreOf O y → AreOf (table n (λ i. full)) (take n y)
+cut_of n O y l h =
+    of_full n (take n y) (length-take-le n y (omega (arith, of_length O y h)))
+    (λ i m. subst (FitsSigned w32) (sym (get_or-take n y i (pos 0) m)) (of_fits (get_or O i full) (get_or y i (pos 0)) (of_get O y i full h (omega arith))))
+
+bound_of : (n : ℕ) (e : ℕ → Interval) (es : ℕ → Stream) (s : ℕ) (u : Interval) (x : Stream) → ((k t : ℕ) → t < n → IsOf (e k) (es k t)) →
+    ((t : ℕ) → t < n → IsOf u (x t)) → (k t : ℕ) → t < n → IsOf (bound_span e s u k) (bound es s x k t)
+bound_of n e es s u x h g k t l = elim (nat_eq k s) as (λ b. IsOf (if b then u else e k) ((if b then x else es k) t)) [ true ↦ g t l | false ↦ h k t l ]
+
+pub answers_hold : (d : Diagram) → AnswersHold d
+answers_hold (Primitive p) wf fit c e I cs es X l hc he w = each_table (AreOf (primitive_spans p I)) (length X) (primitive_at p X)
+    (λ t m. primitive_of I X w p l t m)
+answers_hold (Constant n) wf fit c e I cs es X l hc he w = each_table (AreOf (point n ∷ [])) (length X) _ (λ t m. (point_of n fit, tt))
+answers_hold (Control k) wf fit c e I cs es X l hc he w = each_table (AreOf (c k ∷ [])) (length X) _ (λ t m. (hc k t, tt))
+answers_hold (Slot s) wf fit c e I cs es X l hc he w = each_table (AreOf (e s ∷ [])) (length X) _ (λ t m. (he s t m, tt))
+answers_hold (Bind s a) wf fit c e I cs es X l hc he w =
+    answers_hold a wf fit c (bound_span e s (span_at I 0)) (drop 1 I) cs (bound es s (column X 0)) (map (drop 1) X) (omega (arith, l, length-drop 1 I)) hc
+    (λ k t m. bound_of (length X) e es s (span_at I 0) (column X 0) he (λ t m. at I X w 0 t (omega arith) m) k t (omega (arith, length-map X (drop 1))))
+    (each_map (AreOf I) (AreOf (drop 1 I)) (drop 1) X (λ x h. of_drop 1 I x h) w)
+answers_hold (Par a b) wf fit c e I cs es X l hc he w =
+    let n = inputs a in
+    each_beside (AreOf (spans a c e (take n I))) (AreOf (spans b c e (drop n I))) (AreOf (spans a c e (take n I) ++ spans b c e (drop n I)))
+    (run a cs es (map (take n) X)) (run b cs es (map (drop n) X))
+    (λ x y h g. of_append (spans a c e (take n I)) (spans b c e (drop n I)) x y h g)
+    (answers_hold a wf.0 fit.0 c e (take n I) cs es (map (take n) X) (length-take-le n I (omega arith)) hc
+    (λ s t m. he s t (omega (arith, length-map X (take n)))) (each_map (AreOf I) (AreOf (take n I)) (take n) X (λ x h. of_take n I x h) w))
+    (answers_hold b wf.1 fit.1 c e (drop n I) cs es (map (drop n) X) (omega (arith, l, length-drop n I)) hc
+    (λ s t m. he s t (omega (arith, length-map X (drop n)))) (each_map (AreOf I) (AreOf (drop n I)) (drop n) X (λ x h. of_drop n I x h) w))
+answers_hold (Seq a b) wf fit c e I cs es X l hc he w =
+    answers_hold b wf.1 fit.1 c e (spans a c e I) cs es (run a cs es X) (answers_length a c e I wf.0 l ∙ wf.2) hc
+    (λ s t m. he s t (omega (arith, length_run a cs es X)))
+    (answers_hold a wf.0 fit.0 c e I cs es X l hc he w)
+answers_hold (Split a b) wf fit c e I cs es X l hc he w =
+    let K = spans a c e I in
+    let f = dealt (pos 0) (inputs b) in
+    let some : 1 ≤ outputs a = wf.2 in
+    answers_hold b wf.1 fit.1 c e (dealt (point (pos 0)) (inputs b) K) cs es (map f (run a cs es X)) (length_table (inputs b) _) hc
+    (λ s t m. he s t (omega (arith, length-map (run a cs es X) f, length_run a cs es X)))
+    (each_map (AreOf K) (AreOf (dealt (point (pos 0)) (inputs b) K)) f (run a cs es X)
+    (λ x h. dealt_of (inputs b) K x (omega (arith, some, answers_length a c e I wf.0 l)) h) (answers_hold a wf.0 fit.0 c e I cs es X l hc he w))
+answers_hold (Merge a b) wf fit c e I cs es X l hc he w =
+    let K = spans a c e I in
+    let f = merged (inputs b) in
+    answers_hold b wf.1 fit.1 c e (merged_spans (inputs b) K) cs es (map f (run a cs es X)) (length_table (inputs b) _) hc
+    (λ s t m. he s t (omega (arith, length-map (run a cs es X) f, length_run a cs es X)))
+    (each_map (AreOf K) (AreOf (merged_spans (inputs b) K)) f (run a cs es X) (λ x h. merged_of (inputs b) K x h)
+    (answers_hold a wf.0 fit.0 c e I cs es X l hc he w))
+answers_hold (Rec a b) wf fit c e I cs es X l hc he w =
+    let n = inputs b in
+    let F = table n (λ i. full) in
+    let K = spans b c e F in
+    let O = spans a c e (K ++ I) in
+    let k : length K ≡ outputs b = answers_length b c e F wf.1 (length_table n _) in
+    let wide : length (K ++ I) ≡ inputs a = omega (arith, length-append K I, k, l, wf.3) in
+    let o : length O ≡ outputs a = answers_length a c e (K ++ I) wf.0 wide in
+    each_feedback (run a cs es) (run b cs es) n (length X) (AreOf I) (AreOf O) (AreOf F) (AreOf K) (AreOf (K ++ I)) (zeros_of n)
+    (λ y h. cut_of n O y (omega (arith, o, wf.2)) h)
+    (λ x y h g. of_append K I x y h g) (length_run a cs es) (length_run b cs es)
+    (λ Z m. answers_hold a wf.0 fit.0 c e (K ++ I) cs es Z wide hc (λ s t r. he s t (omega arith)))
+    (λ Z m. answers_hold b wf.1 fit.1 c e F cs es Z (length_table n _) hc (λ s t r. he s t (omega arith)))
+    (reverse X) (omega (arith, length-reverse X)) (each_reverse (AreOf I) X w)
+
+pub delays_hold : (d : Diagram) → AllDelaysHold d
+delays_hold (Primitive prim.Delay) wf fit c e I cs es X l hc he w = λ t m. (at I X w 1 t (omega arith) m).1
+delays_hold (Primitive prim.Wire) wf fit c e I cs es X l hc he w = tt
+delays_hold (Primitive prim.Int) wf fit c e I cs es X l hc he w = tt
+delays_hold (Primitive prim.Attach) wf fit c e I cs es X l hc he w = tt
+delays_hold (Primitive prim.Cut) wf fit c e I cs es X l hc he w = tt
+delays_hold (Primitive prim.Mem) wf fit c e I cs es X l hc he w = tt
+delays_hold (Primitive prim.Prefix) wf fit c e I cs es X l hc he w = tt
+delays_hold (Primitive (prim.Point op)) wf fit c e I cs es X l hc he w = tt
+delays_hold (Constant n) wf fit c e I cs es X l hc he w = tt
+delays_hold (Control k) wf fit c e I cs es X l hc he w = tt
+delays_hold (Slot s) wf fit c e I cs es X l hc he w = tt
+delays_hold (Bind s a) wf fit c e I cs es X l hc he w =
+    delays_hold a wf fit c (bound_span e s (span_at I 0)) (drop 1 I) cs (bound es s (column X 0)) (map (drop 1) X) (omega (arith, l, length-drop 1 I)) hc
+    (λ k t m. bound_of (length X) e es s (span_at I 0) (column X 0) he (λ t m. at I X w 0 t (omega arith) m) k t (omega (arith, length-map X (drop 1))))
+    (each_map (AreOf I) (AreOf (drop 1 I)) (drop 1) X (λ x h. of_drop 1 I x h) w)
+delays_hold (Par a b) wf fit c e I cs es X l hc he w =
+    let n = inputs a in (
+      delays_hold a wf.0 fit.0 c e (take n I) cs es (map (take n) X) (length-take-le n I (omega arith)) hc
+          (λ s t m. he s t (omega (arith, length-map X (take n)))) (each_map (AreOf I) (AreOf (take n I)) (take n) X (λ x h. of_take n I x h) w),
+      delays_hold b wf.1 fit.1 c e (drop n I) cs es (map (drop n) X) (omega (arith, l, length-drop n I)) hc
+          (λ s t m. he s t (omega (arith, length-map X (drop n)))) (each_map (AreOf I) (AreOf (drop n I)) (drop n) X (λ x h. of_drop n I x h) w),
+    )
+delays_hold (Seq a b) wf fit c e I cs es X l hc he w = (
+  delays_hold a wf.0 fit.0 c e I cs es X l hc he w,
+  delays_hold b wf.1 fit.1 c e (spans a c e I) cs es (run a cs es X) (answers_length a c e I wf.0 l ∙ wf.2) hc
+      (λ s t m. he s t (omega (arith, length_run a cs es X)))
+      (answers_hold a wf.0 fit.0 c e I cs es X l hc he w),
+)
+delays_hold (Split a b) wf fit c e I cs es X l hc he w =
+    let K = spans a c e I in
+    let f = dealt (pos 0) (inputs b) in
+    let some : 1 ≤ outputs a = wf.2 in (
+      delays_hold a wf.0 fit.0 c e I cs es X l hc he w,
+      delays_hold b wf.1 fit.1 c e (dealt (point (pos 0)) (inputs b) K) cs es (map f (run a cs es X)) (length_table (inputs b) _) hc
+          (λ s t m. he s t (omega (arith, length-map (run a cs es X) f, length_run a cs es X)))
+          (each_map (AreOf K) (AreOf (dealt (point (pos 0)) (inputs b) K)) f (run a cs es X)
+          (λ x h. dealt_of (inputs b) K x (omega (arith, some, answers_length a c e I wf.0 l)) h) (answers_hold a wf.0 fit.0 c e I cs es X l hc he w)),
+    )
+delays_hold (Merge a b) wf fit c e I cs es X l hc he w =
+    let K = spans a c e I in
+    let f = merged (inputs b) in (
+      delays_hold a wf.0 fit.0 c e I cs es X l hc he w,
+      delays_hold b wf.1 fit.1 c e (merged_spans (inputs b) K) cs es (map f (run a cs es X)) (length_table (inputs b) _) hc
+          (λ s t m. he s t (omega (arith, length-map (run a cs es X) f, length_run a cs es X)))
+          (each_map (AreOf K) (AreOf (merged_spans (inputs b) K)) f (run a cs es X) (λ x h. merged_of (inputs b) K x h)
+          (answers_hold a wf.0 fit.0 c e I cs es X l hc he w)),
+    )
+delays_hold (Rec a b) wf fit c e I cs es X l hc he w =
+    let n = inputs b in
+    let F = table n (λ i. full) in
+    let K = spans b c e F in
+    let O = spans a c e (K ++ I) in
+    let k : length K ≡ outputs b = answers_length b c e F wf.1 (length_table n _) in
+    let wide : length (K ++ I) ≡ inputs a = omega (arith, length-append K I, k, l, wf.3) in
+    let o : length O ≡ outputs a = answers_length a c e (K ++ I) wf.0 wide in
+    let Y = run (Rec a b) cs es X in
+    let y : All (AreOf O) Y = answers_hold (Rec a b) wf fit c e I cs es X l hc he w in
+    let G = fed_back_over b Y in
+    let long : length Y ≡ length X = length_run (Rec a b) cs es X in
+    let g : All (AreOf F) G = All-take (AreOf F) (length Y) (fed_back n Y)
+    (All-cons (AreOf F) (replicate n (pos 0)) (map (take n) Y) (zeros_of n)
+    (each_map (AreOf O) (AreOf F) (take n) Y (λ x h. cut_of n O x (omega (arith, o, wf.2)) h) y)) in
+    let few : length G ≡ length X = length-take-le (length Y) (fed_back n Y) (omega (arith, length-map Y (take n))) ∙ long in
+    let he' : (s t : ℕ) → t < length G → IsOf (e s) (es s t) = λ s t m. he s t (omega (arith, few)) in
+    let r : length (run b cs es G) ≡ length X = length_run b cs es G ∙ few in (
+      delays_hold b wf.1 fit.1 c e F cs es G (length_table n _) hc he' g,
+      delays_hold a wf.0 fit.0 c e (K ++ I) cs es (beside (run b cs es G) X) wide hc (λ s t m. he s t (omega (arith, length_beside (run b cs es G) X r, r)))
+          (each_beside (AreOf K) (AreOf I) (AreOf (K ++ I)) (run b cs es G) X (λ x y h g. of_append K I x y h g)
+          (answers_hold b wf.1 fit.1 c e F cs es G (length_table n _) hc he' g) w),
+    )

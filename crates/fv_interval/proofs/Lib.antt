@@ -1,0 +1,3 @@
+pub mod Holds
+pub mod SpansWalked
+pub mod Refused

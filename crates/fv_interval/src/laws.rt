@@ -1,0 +1,14 @@
+// Laws on the spans of wires.
+
+ghost use Rattle.fv_diagram.specs.Diagram.{Diagram};
+ghost use Rattle.fv_interval.specs.Laws.{AnswersHold, AllDelaysHold};
+
+/// Where inputs, controls and slots lie in their spans at every sample, so do the answers.
+pub fn answers_hold()
+    ensures { (d : Diagram) → AnswersHold d }
+{}
+
+/// And at each `@` the second input lies in its span.
+pub fn delays_hold()
+    ensures { (d : Diagram) → AllDelaysHold d }
+{}

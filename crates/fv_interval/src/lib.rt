@@ -1,0 +1,11 @@
+// The spans of a diagram's wires, and its delays.
+#![tactic(auto)]
+
+mod delays;
+mod laws;
+mod refusal;
+mod walked;
+
+pub use delays::{Delays, spans};
+pub use laws::{answers_hold, delays_hold};
+pub use refusal::{DELAY_BUDGET, DELAY_LIMIT, DelayRefusal};

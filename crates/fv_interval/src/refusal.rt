@@ -1,0 +1,41 @@
+// Why the delays of a diagram are refused.
+
+ghost use Rattle.std.specs.Prelude.{◌≡◌};
+ghost use Rattle.fv_interval.specs.declared.refusal.DelayRefusal.TheVariants.{NoMemory};
+
+use std::alloc::{AllocError, AllocFailed};
+
+/// The greatest delay.
+pub const DELAY_LIMIT: i32 = 1_048_575;
+
+/// The greatest sum of the delays of a diagram.
+pub const DELAY_BUDGET: u64 = 16_777_216;
+
+/// Why the delays of a diagram are refused.
+#[derive(Clone, Copy, PartialEq, Eq, Debug)]
+pub enum DelayRefusal {
+    /// The span of an `@`'s second input goes below 0, to this number.
+    DelayNegative { least: i32 },
+    /// It goes above the greatest delay, to this number.
+    DelayTooLong { greatest: i32 },
+    /// The sum of all delays is over the limit.
+    DelayBudget { sum: u64 },
+    /// There is no memory for the walk.
+    NoMemory,
+}
+
+impl From<AllocError> for DelayRefusal {
+    ghost from_gives = { λ _ e. e ≡ NoMemory };
+
+    fn from(_error: AllocError) -> DelayRefusal {
+        DelayRefusal::NoMemory
+    }
+}
+
+impl<T: Drop> From<AllocFailed<T>> for DelayRefusal {
+    ghost from_gives = { λ _ e. e ≡ NoMemory };
+
+    fn from(_error: AllocFailed<T>) -> DelayRefusal {
+        DelayRefusal::NoMemory
+    }
+}

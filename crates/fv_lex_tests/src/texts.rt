@@ -1,0 +1,305 @@
+// The tokens of whole texts, with their places.
+
+use fv_base::Role;
+use fv_lex::{Kind, LexRefusal, Place, Symbol, Tokens, one_answer, tokens};
+use std::alloc::{AllocError, Global};
+use std::process::Abort;
+use std::test::Fail;
+
+/// A token: its symbol, its column and its bytes.
+type Row = (Symbol, u32, &'static [u8]);
+
+/// The token with this number is this one. Answers the next number.
+fn expect_token(rt: &impl Abort, found: &Tokens, i: u32, kind: Kind, line: u32, row: &Row) -> u32 {
+    let (symbol, column, bytes) = *row;
+    assert!(rt; i < found.len(), "token {i}");
+    assert_eq!(rt;
+        found.symbols().get(i as usize).copied(),
+        Some(symbol),
+        "token {i}"
+    );
+    assert_eq!(rt; found.kind(i), kind, "token {i}");
+    assert!(rt; found.text(i) == bytes, "token {i}");
+    assert_eq!(rt; found.place(i), Place { line, column }, "token {i}");
+    i + 1
+}
+
+/// The tokens of a text of one line are these, all of one kind.
+fn expect_line(
+    rt: &impl Abort,
+    alloc: Global,
+    text: &[u8],
+    kind: Kind,
+    rows: &[Row],
+) -> Result<(), LexRefusal> {
+    let found = tokens(alloc, text)?;
+    let mut i = 0;
+    for row in rows {
+        i = expect_token(rt, &found, i, kind, 1, row);
+    }
+    assert_eq!(rt; found.len(), i);
+    Ok(())
+}
+
+#[test]
+fn signs(rt: HostRuntime) -> Result<(), Fail> {
+    let text = b"_ ! , : <: :> ~ + - * / % & | << >> < <= > >= == != @ ' ( ) { } = => ; . \\ ^";
+    let rows: [Row; 34] = [
+        (Symbol::Underscore, 1, b"_"),
+        (Symbol::Exclamation, 3, b"!"),
+        (Symbol::Comma, 5, b","),
+        (Symbol::Colon, 7, b":"),
+        (Symbol::Split, 9, b"<:"),
+        (Symbol::Merge, 12, b":>"),
+        (Symbol::Tilde, 15, b"~"),
+        (Symbol::Plus, 17, b"+"),
+        (Symbol::Minus, 19, b"-"),
+        (Symbol::Times, 21, b"*"),
+        (Symbol::Divide, 23, b"/"),
+        (Symbol::Percent, 25, b"%"),
+        (Symbol::Ampersand, 27, b"&"),
+        (Symbol::Bar, 29, b"|"),
+        (Symbol::ShiftLeft, 31, b"<<"),
+        (Symbol::ShiftRight, 34, b">>"),
+        (Symbol::Less, 37, b"<"),
+        (Symbol::LessEqual, 39, b"<="),
+        (Symbol::Greater, 42, b">"),
+        (Symbol::GreaterEqual, 44, b">="),
+        (Symbol::EqualEqual, 47, b"=="),
+        (Symbol::NotEqual, 50, b"!="),
+        (Symbol::At, 53, b"@"),
+        (Symbol::Tick, 55, b"'"),
+        (Symbol::Open, 57, b"("),
+        (Symbol::Close, 59, b")"),
+        (Symbol::OpenBrace, 61, b"{"),
+        (Symbol::CloseBrace, 63, b"}"),
+        (Symbol::Equals, 65, b"="),
+        (Symbol::Arrow, 67, b"=>"),
+        (Symbol::Semicolon, 70, b";"),
+        (Symbol::Dot, 72, b"."),
+        (Symbol::Backslash, 74, b"\\"),
+        (Symbol::Caret, 76, b"^"),
+    ];
+    expect_line(&rt, rt.alloc(), text, Kind::Sign, &rows)?;
+    Ok(())
+}
+
+#[test]
+fn reserved_words(rt: HostRuntime) -> Result<(), Fail> {
+    let text =
+        b"xor mem prefix int attach select2 select3 min max abs par seq sum prod inputs outputs case with declare button checkbox hslider vslider nentry hgroup vgroup tgroup";
+    let rows: [Row; 27] = [
+        (Symbol::Xor, 1, b"xor"),
+        (Symbol::Mem, 5, b"mem"),
+        (Symbol::Prefix, 9, b"prefix"),
+        (Symbol::Int, 16, b"int"),
+        (Symbol::Attach, 20, b"attach"),
+        (Symbol::Select2, 27, b"select2"),
+        (Symbol::Select3, 35, b"select3"),
+        (Symbol::Min, 43, b"min"),
+        (Symbol::Max, 47, b"max"),
+        (Symbol::Abs, 51, b"abs"),
+        (Symbol::Par, 55, b"par"),
+        (Symbol::Seq, 59, b"seq"),
+        (Symbol::Sum, 63, b"sum"),
+        (Symbol::Prod, 67, b"prod"),
+        (Symbol::Inputs, 72, b"inputs"),
+        (Symbol::Outputs, 79, b"outputs"),
+        (Symbol::Case, 87, b"case"),
+        (Symbol::With, 92, b"with"),
+        (Symbol::Declare, 97, b"declare"),
+        (Symbol::Button, 105, b"button"),
+        (Symbol::Checkbox, 112, b"checkbox"),
+        (Symbol::Hslider, 121, b"hslider"),
+        (Symbol::Vslider, 129, b"vslider"),
+        (Symbol::Nentry, 137, b"nentry"),
+        (Symbol::Hgroup, 144, b"hgroup"),
+        (Symbol::Vgroup, 151, b"vgroup"),
+        (Symbol::Tgroup, 158, b"tgroup"),
+    ];
+    expect_line(&rt, rt.alloc(), text, Kind::Name, &rows)?;
+    Ok(())
+}
+
+#[test]
+fn unsupported_words(rt: HostRuntime) -> Result<(), Fail> {
+    let text =
+        b"import library component environment letrec route soundfile hbargraph vbargraph ffunction fconstant fvariable float sin cos tan asin acos atan atan2 exp exp10 log log10 pow sqrt fmod remainder floor ceil rint rdtable rwtable waveform";
+    let found = tokens(rt.alloc(), text)?;
+    assert_eq!(rt; found.len(), 34);
+    let mut i = 0u64;
+    for symbol in found.symbols() {
+        assert_eq!(rt; *symbol, Symbol::Unsupported(i));
+        i = i.wrapping_add(1);
+    }
+    Ok(())
+}
+
+/// A program with comments, strings and calls, behind a line of its own.
+#[test]
+fn program(rt: HostRuntime) -> Result<(), Fail> {
+    let text =
+        b"/* two\n lines */\ndeclare name \"t\"; /* c */ process = hgroup(\"m\", _ * button(\"on\")); // end";
+    let rows: [(Kind, Row); 18] = [
+        (Kind::Name, (Symbol::Declare, 1, b"declare")),
+        (Kind::Name, (Symbol::Name(1), 9, b"name")),
+        (Kind::Text, (Symbol::Text(2), 14, b"\"t\"")),
+        (Kind::Sign, (Symbol::Semicolon, 17, b";")),
+        (Kind::Name, (Symbol::Name(4), 27, b"process")),
+        (Kind::Sign, (Symbol::Equals, 35, b"=")),
+        (Kind::Name, (Symbol::Hgroup, 37, b"hgroup")),
+        (Kind::Sign, (Symbol::Open, 43, b"(")),
+        (Kind::Text, (Symbol::Text(8), 44, b"\"m\"")),
+        (Kind::Sign, (Symbol::Comma, 47, b",")),
+        (Kind::Sign, (Symbol::Underscore, 49, b"_")),
+        (Kind::Sign, (Symbol::Times, 51, b"*")),
+        (Kind::Name, (Symbol::Button, 53, b"button")),
+        (Kind::Sign, (Symbol::Open, 59, b"(")),
+        (Kind::Text, (Symbol::Text(14), 60, b"\"on\"")),
+        (Kind::Sign, (Symbol::Close, 64, b")")),
+        (Kind::Sign, (Symbol::Close, 65, b")")),
+        (Kind::Sign, (Symbol::Semicolon, 66, b";")),
+    ];
+    let found = tokens(rt.alloc(), text)?;
+    let mut i = 0;
+    for (kind, row) in &rows {
+        i = expect_token(&rt, &found, i, *kind, 3, row);
+    }
+    assert_eq!(rt; found.len(), i);
+    let end = Place {
+        line: 3,
+        column: 74,
+    };
+    assert_eq!(rt; found.end(), end);
+    Ok(())
+}
+
+#[test]
+fn longest_tokens(rt: HostRuntime) -> Result<(), Fail> {
+    let rows: [(&[u8], &[Symbol]); 20] = [
+        (
+            b"__1",
+            &[Symbol::Underscore, Symbol::Underscore, Symbol::Integer(1)],
+        ),
+        (b"___a1_", &[Symbol::Name(0)]),
+        (b"1f2", &[Symbol::Integer(1), Symbol::Name(1)]),
+        (b"1e", &[Symbol::Integer(1), Symbol::Name(1)]),
+        (
+            b"1e+x",
+            &[
+                Symbol::Integer(1),
+                Symbol::Name(1),
+                Symbol::Plus,
+                Symbol::Name(3),
+            ],
+        ),
+        (b"a.b", &[Symbol::Name(0), Symbol::Dot, Symbol::Name(2)]),
+        (b":>=", &[Symbol::Merge, Symbol::Equals]),
+        (b"<:>", &[Symbol::Split, Symbol::Greater]),
+        (b"==>", &[Symbol::EqualEqual, Symbol::Greater]),
+        (b"=>=", &[Symbol::Arrow, Symbol::Equals]),
+        (b"/***/x", &[Symbol::Name(0)]),
+        (b"/* // */1", &[Symbol::Integer(1)]),
+        (b"// \xff end", &[]),
+        (
+            b"a/b//c\n/d",
+            &[
+                Symbol::Name(0),
+                Symbol::Divide,
+                Symbol::Name(2),
+                Symbol::Divide,
+                Symbol::Name(4),
+            ],
+        ),
+        (b"2147483647", &[Symbol::Integer(2147483647)]),
+        (b"000000000000001", &[Symbol::Integer(1)]),
+        (b"minx", &[Symbol::Name(0)]),
+        (b"\"/*\x00\n\"", &[Symbol::Text(0)]),
+        (b")}(", &[Symbol::Close, Symbol::CloseBrace, Symbol::Open]),
+        (b"", &[]),
+    ];
+    for (text, symbols) in rows {
+        let found = tokens(rt.alloc(), text)?;
+        assert!(rt; found.symbols() == symbols, "{text:?}");
+    }
+    Ok(())
+}
+
+#[test]
+fn first_refusals(rt: HostRuntime) -> Result<(), Fail> {
+    let rows: [(&[u8], LexRefusal); 17] = [
+        (
+            b"process = #;",
+            LexRefusal::BadByte {
+                line: 1,
+                column: 11,
+            },
+        ),
+        (b"/* ab", LexRefusal::Unclosed { line: 1, column: 1 }),
+        (
+            b"process = _ * 0.5;",
+            LexRefusal::RealLiteral {
+                line: 1,
+                column: 15,
+            },
+        ),
+        (
+            b"process = 2147483648;",
+            LexRefusal::LiteralTooLarge {
+                line: 1,
+                column: 11,
+            },
+        ),
+        (b" \"ab", LexRefusal::Unclosed { line: 1, column: 2 }),
+        (b"/*/", LexRefusal::Unclosed { line: 1, column: 1 }),
+        (b"x .5", LexRefusal::RealLiteral { line: 1, column: 3 }),
+        (b"1.", LexRefusal::RealLiteral { line: 1, column: 1 }),
+        (b"12e-3", LexRefusal::RealLiteral { line: 1, column: 1 }),
+        (b"1E5", LexRefusal::RealLiteral { line: 1, column: 1 }),
+        (b"1f", LexRefusal::RealLiteral { line: 1, column: 1 }),
+        (b"x1.5", LexRefusal::RealLiteral { line: 1, column: 3 }),
+        (
+            b"99999999999.",
+            LexRefusal::RealLiteral { line: 1, column: 1 },
+        ),
+        (b"a\n\n \x80", LexRefusal::BadByte { line: 3, column: 2 }),
+        (b"\x7f", LexRefusal::BadByte { line: 1, column: 1 }),
+        (b"\x00", LexRefusal::BadByte { line: 1, column: 1 }),
+        (b"# /*", LexRefusal::BadByte { line: 1, column: 1 }),
+    ];
+    for (text, refusal) in rows {
+        assert_eq!(rt; tokens(rt.alloc(), text).err(), Some(refusal), "{text:?}");
+    }
+    Ok(())
+}
+
+/// A text and then so many times some bytes.
+fn repeated(alloc: Global, text: &[u8], piece: &[u8], times: usize) -> Result<Vec<u8>, AllocError> {
+    let mut all = Vec::from_slice(alloc, text)?;
+    for _ in 0..times {
+        all.extend_from_slice(piece)?;
+    }
+    Ok(all)
+}
+
+#[test]
+fn limits(rt: HostRuntime) -> Result<(), Fail> {
+    one_answer();
+    let alloc = rt.alloc();
+    let blanks = repeated(alloc, b"", b" ", 1048576)?;
+    assert_eq!(rt; tokens(alloc, blanks.as_slice())?.len(), 0);
+    let over = repeated(alloc, b" ", b" ", 1048576)?;
+    let too_long = LexRefusal::TextTooLong {
+        role: Role::Program,
+    };
+    assert_eq!(rt; tokens(alloc, over.as_slice()).err(), Some(too_long));
+    let open = repeated(alloc, b")} ", b"({", 64)?;
+    assert_eq!(rt; tokens(alloc, open.as_slice())?.len(), 130);
+    let deep = repeated(alloc, b"process = ", b"(", 129)?;
+    let nesting = LexRefusal::Nesting {
+        line: 1,
+        column: 139,
+    };
+    assert_eq!(rt; tokens(alloc, deep.as_slice()).err(), Some(nesting));
+    Ok(())
+}

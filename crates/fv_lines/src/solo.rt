@@ -1,0 +1,201 @@
+// All lanes, for one worker.
+
+use crate::flat::{advance, get, put, settle};
+use crate::shape::{LaneShape, LaneState};
+use fv_loopcode::Store;
+use fv_pool::Layout;
+
+/// All lanes of a layout, lent to one worker for a block. Each of its loans has a lifetime of its own, so that who lent them knows what they end with.
+#[derive(Drop)]
+pub struct Solo<'a, 'l, 's, 'b, 'c> {
+    cells: &'a mut [i32],
+    layout: &'l Layout,
+    shapes: &'s [LaneShape],
+    states: &'b mut [LaneState],
+    written: &'c mut [u32],
+    frames: u32,
+}
+
+impl<'a, 'l, 's, 'b, 'c> Solo<'a, 'l, 's, 'b, 'c> {
+    ghost use Rattle.std.specs.Prelude.{◌≡◌, ◌↔◌, ◌^◌, ◌<◌, ◌≤◌, length, slice_set, slice_index, IsTrue, ℕ};
+    ghost use Rattle.fv_loopcode.specs.Lanes.{lane_of, appended, sample_at, HasSample};
+    ghost use Rattle.fv_pool.specs.Lengths.{lengths_of};
+    ghost use Rattle.fv_lines.specs.Solo.{lanes_of, lane_at, lengths_in, shapes_in, cells_in, frames_in, opening_lanes, AreLists, AreHeld, AreFramed, AreFull, HoldNext, IsSolo, rest_of, rest_in};
+
+    /// Every lane begins with the history that its cells and its state hold. `written` has one number for each lane, whatever they are.
+    pub fn begin(
+        cells: &'a mut [i32],
+        layout: &'l Layout,
+        shapes: &'s [LaneShape],
+        states: &'b mut [LaneState],
+        written: &'c mut [u32],
+        frames: u32,
+    ) -> Solo<'a, 'l, 's, 'b, 'c>
+        requires lists { AreLists (lengths_of layout.now) shapes.now states.old written.old cells.old }
+        requires lanes { AreHeld (lengths_of layout.now) shapes.now states.old }
+        requires frames { AreFramed (lengths_of layout.now) shapes.now frames }
+        ensures sound { IsSolo result }
+        ensures kept { rest_of result ≡ rest_in cells.entry.ghost_name states.entry.ghost_name written.entry.ghost_name (lengths_of layout.now) shapes.now frames }
+        ensures lanes { lanes_of result ≡ opening_lanes (lengths_of layout.now) shapes.now states.old frames cells.old }
+    {
+        for lane in 0..layout.len() {
+            let i = lane as usize;
+            let place = layout.place(lane) as usize;
+            let len = layout.length(lane) as usize;
+            states[i] = settle(&mut cells[place..place + len], &shapes[i], states[i]);
+            written[i] = 0;
+        }
+        Solo {
+            cells,
+            layout,
+            shapes,
+            states,
+            written,
+            frames,
+        }
+    }
+
+    /// One more sample of a lane.
+    pub fn append(&mut self, lane: u64, value: i32)
+        requires sound { IsSolo self.old }
+        requires there { lane < length (lanes_of self.old) }
+        requires room { 1 ≤ (lane_of (lanes_of self.old) lane).room }
+        ensures lanes { lanes_of self.new ≡ slice_set (lanes_of self.old) lane (appended (lane_of (lanes_of self.old) lane) value) }
+        ensures sound { IsSolo self.new }
+        ensures kept { rest_of self.new ≡ rest_of self.old }
+    {
+        self.write(lane, value);
+    }
+
+    /// The sample of a lane that lies so far back before a sample of the block.
+    pub fn at(&self, lane: u64, index: u64, back: u64) -> i32
+        requires sound { IsSolo self.now }
+        requires there { lane < length (lanes_of self.now) }
+        requires small { index < 2 ^ 32 }
+        requires sample { HasSample (lane_of (lanes_of self.now) lane) index back }
+        ensures { result ≡ sample_at (lane_of (lanes_of self.now) lane) index back }
+    {
+        self.read(lane, index, back)
+    }
+
+    /// The number of lanes.
+    pub fn len(&self) -> u64
+        ensures { result ≡ length (lanes_of self.now) }
+    {
+        self.layout.len()
+    }
+
+    /// There are no lanes.
+    pub fn is_empty(&self) -> bool
+        ensures { IsTrue result ↔ (length (lanes_of self.now) ≡ 0) }
+    {
+        self.layout.is_empty()
+    }
+
+    /// How many samples more a lane takes.
+    pub fn room(&self, lane: u64) -> u32
+        requires sound { IsSolo self.now }
+        requires there { lane < length (lanes_of self.now) }
+        ensures { result ≡ (lane_of (lanes_of self.now) lane).room }
+    {
+        self.frames - self.written[lane as usize]
+    }
+
+    /// The sample that lies so far back before a sample of the block is there.
+    pub fn has_sample(&self, lane: u64, index: u64, back: u64) -> bool
+        requires sound { IsSolo self.now }
+        requires there { lane < length (lanes_of self.now) }
+        requires small { index < 2 ^ 32 }
+        ensures { IsTrue result ↔ HasSample (lane_of (lanes_of self.now) lane) index back }
+    {
+        let i = lane as usize;
+        let history = u64::from(self.shapes[i].history);
+        let newest = history + index;
+        back <= newest && newest - back < history + u64::from(self.written[i])
+    }
+
+    /// The block ends. The cells and the states then hold every lane's next history.
+    pub fn finish(self)
+        requires sound { IsSolo self }
+        requires full { AreFull (lanes_of self) }
+
+        // What the loans end with: `self.exit` has them in the order of the fields.
+        ensures cells { self.exit.0.now ≡ cells_in self.entry }
+        ensures count { length self.exit.1.1.1.0.now ≡ length (lengths_in self.entry) }
+        ensures states { AreHeld (lengths_in self.entry) (shapes_in self.entry) self.exit.1.1.1.0.now }
+        ensures held { HoldNext self.entry self.exit.1.1.1.0.now }
+    {
+        let shapes = self.shapes;
+        let states = self.states;
+        let frames = self.frames;
+        for i in 0..shapes.len() {
+            states[i] = advance(&shapes[i], states[i], frames);
+        }
+    }
+
+    // One more sample of a lane, by its number of written samples.
+    fn write(&mut self, lane: u64, value: i32)
+        requires sound { IsSolo self.old }
+        requires there { lane < length (lengths_in self.old) }
+        requires room { slice_index self.old.written.now lane < self.old.frames }
+        ensures sound { IsSolo self.new }
+        ensures kept { rest_of self.new ≡ rest_of self.old }
+        ensures lanes { lanes_of self.new ≡ slice_set (lanes_of self.old) lane (appended (lane_at self.old lane) value) }
+    {
+        let i = lane as usize;
+        let shape = &self.shapes[i];
+        let place = self.layout.place(lane) as usize;
+        let len = self.layout.length(lane) as usize;
+        let start = self.states[i].start;
+        let count = u64::from(shape.history) + u64::from(self.written[i]);
+        put(
+            &mut self.cells[place..place + len],
+            shape,
+            start,
+            count,
+            value,
+        );
+        self.written[i] += 1;
+    }
+
+    // A sample of a lane, in ring order from its start.
+    fn read(&self, lane: u64, index: u64, back: u64) -> i32
+        requires sound { IsSolo self.now }
+        requires there { lane < length (lengths_in self.now) }
+        requires small { index < 2 ^ 32 }
+        requires sample { HasSample (lane_at self.now lane) index back }
+        ensures { result ≡ sample_at (lane_at self.now lane) index back }
+    {
+        let i = lane as usize;
+        let shape = &self.shapes[i];
+        let place = self.layout.place(lane) as usize;
+        let len = self.layout.length(lane) as usize;
+        let n = u64::from(shape.history) + index - back;
+        get(
+            &self.cells[place..place + len],
+            shape,
+            self.states[i].start,
+            n,
+        )
+    }
+}
+
+impl<'a, 'l, 's, 'b, 'c> Store for Solo<'a, 'l, 's, 'b, 'c> {
+    ghost use Rattle.fv_lines.specs.Solo.{lanes_of, IsSolo, rest_of, SoloRest};
+
+    ghost lanes = { λ s. lanes_of s };
+
+    ghost is_sound = { λ s. IsSolo s };
+
+    ghost Rest = { SoloRest };
+
+    ghost rest = { λ s. rest_of s };
+
+    fn load(&self, lane: u64, index: u64, back: u64) -> i32 {
+        self.at(lane, index, back)
+    }
+
+    fn append(&mut self, lane: u64, value: i32) {
+        self.append(lane, value)
+    }
+}

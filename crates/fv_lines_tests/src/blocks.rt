@@ -1,0 +1,171 @@
+// All lanes, for one worker, over several blocks.
+
+ghost use Rattle.std.specs.Prelude.{◌≤◌, IsTrue};
+ghost use Rattle.fv_pool.specs.Lengths.{lengths_of};
+ghost use Rattle.fv_lines.specs.Solo.{IsHeld, AreLists, AreHeld, AreFramed, AreFull, IsSolo, lanes_of};
+
+use fv_lines::{LaneShape, LaneState, Solo};
+use fv_pool::{Layout, Region};
+use std::process::Abort;
+use std::test::Fail;
+
+const FRAMES: u32 = 4;
+
+// The lists have one entry for each lane, and there is room for all parts.
+fn are_lists(
+    layout: &Layout,
+    shapes: &[LaneShape],
+    states: &[LaneState],
+    written: &[u32],
+    cells: &[i32],
+) -> bool
+    ensures { IsTrue result → AreLists (lengths_of layout.now) shapes.now states.now written.now cells.now }
+{
+    let lanes = layout.len();
+    shapes.len() as u64 == lanes
+        && states.len() as u64 == lanes
+        && written.len() as u64 == lanes
+        && layout.total() <= cells.len() as u64
+}
+
+// A lane's part has its length, and its state names a history there.
+fn is_held(shape: LaneShape, state: LaneState, length: u64, frames: u32) -> bool
+    ensures held { IsTrue result → IsHeld shape.history shape.len length state.start }
+    ensures framed { IsTrue result → frames ≤ shape.block }
+{
+    let starts = if shape.history > 16 {
+        state.start < shape.len
+    } else {
+        state.start <= shape.len && state.start + u64::from(shape.history) <= shape.len
+    };
+    starts && length == shape.len && frames <= shape.block
+}
+
+// A block may begin.
+fn may_begin(
+    layout: &Layout,
+    shapes: &[LaneShape],
+    states: &[LaneState],
+    written: &[u32],
+    cells: &[i32],
+    frames: u32,
+) -> bool
+    ensures lists { IsTrue result → AreLists (lengths_of layout.now) shapes.now states.now written.now cells.now }
+    ensures held { IsTrue result → AreHeld (lengths_of layout.now) shapes.now states.now }
+    ensures framed { IsTrue result → AreFramed (lengths_of layout.now) shapes.now frames }
+{
+    if !are_lists(layout, shapes, states, written, cells) {
+        return false;
+    }
+    for lane in 0..layout.len() {
+        let i = lane as usize;
+        if !is_held(shapes[i], states[i], layout.length(lane), frames) {
+            return false;
+        }
+    }
+    true
+}
+
+// No lane takes one sample more.
+fn are_full(solo: &Solo<'_, '_, '_, '_, '_>) -> bool
+    requires { IsSolo solo.now }
+    ensures { IsTrue result → AreFull (lanes_of solo.now) }
+{
+    for lane in 0..solo.len() {
+        if solo.room(lane) > 0 {
+            return false;
+        }
+    }
+    true
+}
+
+fn append(solo: &mut Solo<'_, '_, '_, '_, '_>, lane: u64, value: i32) -> Result<(), &'static str>
+    requires { IsSolo solo.old }
+    ensures { IsSolo solo.new }
+{
+    if lane >= solo.len() || solo.room(lane) == 0 {
+        return Err("no room");
+    }
+    solo.append(lane, value);
+    Ok(())
+}
+
+fn at(
+    solo: &Solo<'_, '_, '_, '_, '_>,
+    lane: u64,
+    index: u64,
+    back: u64,
+) -> Result<i32, &'static str>
+    requires { IsSolo solo.now }
+{
+    if lane >= solo.len() || index > 1 << 30 || !solo.has_sample(lane, index, back) {
+        return Err("no sample");
+    }
+    Ok(solo.at(lane, index, back))
+}
+
+// The sample so far back of a lane to which 1, 2, 3, .. are appended, where `now` is the last one.
+fn counted(now: i32, back: i32) -> i32 {
+    now.saturating_sub(back).max(0)
+}
+
+// A block, in which each lane is appended and looked back into as far as its history goes.
+fn play(
+    rt: &impl Abort,
+    cells: &mut [i32],
+    layout: &Layout,
+    shapes: &[LaneShape],
+    states: &mut [LaneState],
+    written: &mut [u32],
+    first: i32,
+) -> Result<(), Fail> {
+    assert!(rt; may_begin(layout, shapes, states, written, cells, FRAMES));
+    let mut solo = Solo::begin(cells, layout, shapes, states, written, FRAMES);
+    let mut now = first;
+    for n in 0..u64::from(FRAMES) {
+        append(&mut solo, 0, now)?;
+        append(&mut solo, 1, 7)?;
+        append(&mut solo, 2, 0i32.saturating_sub(now))?;
+        assert_eq!(rt; at(&solo, 0, n, 0)?, now);
+        assert_eq!(rt; at(&solo, 0, n, 2)?, counted(now, 2));
+        assert_eq!(rt; at(&solo, 1, n, 0)?, 7);
+        assert_eq!(rt; at(&solo, 2, n, 0)?, 0i32.saturating_sub(now));
+        assert_eq!(rt;
+            at(&solo, 2, n, 17)?,
+            0i32.saturating_sub(counted(now, 17)),
+            "{now}"
+        );
+        now = now.saturating_add(1);
+    }
+    assert!(rt; !solo.is_empty() && are_full(&solo));
+    solo.finish();
+    Ok(())
+}
+
+#[test]
+fn lanes_go_on_from_block_to_block(rt: HostRuntime) -> Result<(), Fail> {
+    let shapes = [
+        LaneShape::new(2, FRAMES),
+        LaneShape::new(0, FRAMES),
+        LaneShape::new(17, FRAMES),
+    ];
+    let layout = Layout::new(
+        rt.alloc(),
+        &[shapes[0].len(), shapes[1].len(), shapes[2].len()],
+    )?;
+    let mut states = [LaneState { start: 0 }; 3];
+    let mut written = [9; 3];
+    let mut region = Region::new(rt.alloc(), layout.total())?;
+    for first in [1, 5, 9, 13, 17, 21, 25, 29] {
+        play(
+            &rt,
+            region.cells(),
+            &layout,
+            &shapes,
+            &mut states,
+            &mut written,
+            first,
+        )?;
+    }
+    Ok(())
+}

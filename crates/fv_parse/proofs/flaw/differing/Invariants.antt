@@ -1,6 +1,0 @@
-use Rattle.std.proofs.Common.{◌≡◌, drop}
-use Rattle.fv_parse.specs.Flaws.{differing}
-use Rattle.fv_parse.proofs.flaw.differing.Given as goal
-
-abbrev pub invariant-loop-rule : goal.invariant-loop-rule
-invariant-loop-rule l = differing l.width (drop l.rule-index l.rules) ≡ differing l.width l.rules

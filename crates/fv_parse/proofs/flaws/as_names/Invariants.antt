@@ -1,6 +1,0 @@
-use Rattle.std.proofs.Common.{◌≡◌, take, map}
-use Rattle.fv_parse.specs.Flaws.{as_name}
-use Rattle.fv_parse.proofs.flaws.as_names.Given as goal
-
-abbrev pub invariant-loop-n : goal.invariant-loop-n
-invariant-loop-n l = l.names.items ≡ map as_name (take l.n-index l.numbers)

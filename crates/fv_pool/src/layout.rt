@@ -1,0 +1,77 @@
+// The lengths of the parts, in order.
+
+ghost use Rattle.std.specs.Prelude.{◌≡◌, ◌↔◌, ◌<◌, ◌^◌, length, slice_index, sum, take, IfOk, IsTrue};
+ghost use Rattle.fv_pool.specs.Layout.{ArePlaces};
+
+use std::alloc::{AllocError, Global};
+
+/// The lengths of the parts of a region, and where each part begins.
+#[derive(Drop)]
+pub struct Layout {
+    lengths: Vec<u64>,
+    places: Vec<u64>,
+    total: u64,
+    ghost there: { ArePlaces lengths.items places.items },
+    ghost ends: { total ≡ sum lengths.items },
+}
+
+impl Layout {
+    ghost use Rattle.fv_pool.specs.Lengths.{lengths_of};
+
+    /// Parts of these lengths, in cells, one after another.
+    pub fn new(alloc: Global, lengths: &[u64]) -> Result<Layout, AllocError>
+        requires { sum lengths.now < 2 ^ 63 }
+        ensures { IfOk result (λ layout. lengths_of layout ≡ lengths.now) }
+    {
+        let mut kept = Vec::new(alloc);
+        let mut places = Vec::new(alloc);
+        let mut place = 0;
+        for i in 0..lengths.len() {
+            kept.push(lengths[i])?;
+            places.push(place)?;
+            place += lengths[i];
+        }
+        Ok(Layout {
+            lengths: kept,
+            places,
+            total: place,
+        })
+    }
+
+    /// The number of cells of all parts.
+    pub fn total(&self) -> u64
+        ensures { result ≡ sum (lengths_of self.now) }
+    {
+        self.total
+    }
+
+    /// The number of parts.
+    pub fn len(&self) -> u64
+        ensures { result ≡ length (lengths_of self.now) }
+    {
+        self.lengths.len() as u64
+    }
+
+    /// There are no parts.
+    pub fn is_empty(&self) -> bool
+        ensures { IsTrue result ↔ (length (lengths_of self.now) ≡ 0) }
+    {
+        self.lengths.is_empty()
+    }
+
+    /// The length of part `i`, in cells.
+    pub fn length(&self, i: u64) -> u64
+        requires { i < length (lengths_of self.now) }
+        ensures { result ≡ slice_index (lengths_of self.now) i }
+    {
+        self.lengths[i as usize]
+    }
+
+    /// The cell where part `i` begins.
+    pub fn place(&self, i: u64) -> u64
+        requires { i < length (lengths_of self.now) }
+        ensures { result ≡ sum (take i (lengths_of self.now)) }
+    {
+        self.places[i as usize]
+    }
+}

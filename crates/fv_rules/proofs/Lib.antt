@@ -1,0 +1,5 @@
+pub mod Fuel
+pub mod Sound
+pub mod Fits
+pub mod Timeless
+pub mod Nodes

@@ -1,0 +1,9 @@
+pub mod Values
+pub mod Numbers
+pub mod Timeless
+pub mod Matching
+pub mod Steps
+pub mod Rules
+pub mod Sound
+pub mod Puts
+pub mod Examples

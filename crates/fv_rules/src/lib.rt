@@ -1,0 +1,12 @@
+//! The rules of evaluation: what a program's text means as a block diagram, the laws of the rules, and the number of a diagram.
+#![tactic(auto)]
+
+mod laws;
+mod number;
+mod putting;
+mod refusal;
+
+pub use laws::{evaluates_soundly, evaluation_follows, literals_stay};
+pub use number::number_of;
+pub use putting::put;
+pub use refusal::EvalRefusal;

@@ -1,0 +1,28 @@
+// Putting a diagram.
+
+ghost use Rattle.std.specs.Prelude.{ℕ, ◌≡◌, ◌<◌, OnErr};
+ghost use Rattle.fv_diagram.specs.Arena.{count_of, tree_with, tree_of, ChildrenBelow};
+ghost use Rattle.fv_rules.specs.Puts.{Puts};
+
+use crate::refusal::EvalRefusal;
+use fv_arity::{ArityRefusal, arity_of};
+use fv_diagram::{DiagramId, Diagrams, Node, PutRefusal};
+
+/// Puts a node over diagrams: its arity is tried first, then its size.
+pub fn put(diagrams: &mut Diagrams, node: &Node) -> Result<DiagramId, EvalRefusal>
+    requires children { ChildrenBelow (count_of diagrams.old) node.now }
+    ensures put { Puts diagrams.new (tree_with diagrams.old node.now) result }
+    ensures keeps { (i : ℕ) → i < count_of diagrams.old → tree_of diagrams.new i ≡ tree_of diagrams.old i }
+    ensures err { OnErr result (diagrams.new ≡ diagrams.old) }
+{
+    match arity_of(diagrams, *node) {
+        Err(ArityRefusal::Arity { kind, left, right }) => {
+            Err(EvalRefusal::Arity { kind, left, right })
+        }
+        Ok(arity) => match diagrams.put(*node, arity) {
+            Ok(id) => Ok(id),
+            Err(PutRefusal::SizeBudget { size }) => Err(EvalRefusal::SizeBudget { size }),
+            Err(PutRefusal::NoMemory) => Err(EvalRefusal::NoMemory),
+        },
+    }
+}

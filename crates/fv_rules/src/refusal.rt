@@ -1,0 +1,60 @@
+// Why a program has no diagram.
+
+use fv_arity::ArityKind;
+use fv_base::Word;
+use fv_diagram::Label;
+
+/// Why a program has no diagram.
+#[derive(Debug, Drop)]
+pub enum EvalRefusal {
+    /// A diagram would have so many nodes, counted as a tree.
+    SizeBudget {
+        size: u32,
+    },
+    /// A composition's condition does not hold for these numbers of streams.
+    Arity {
+        kind: ArityKind,
+        left: u32,
+        right: u32,
+    },
+    /// Nothing defines or binds this name.
+    UnknownName {
+        name: Word,
+    },
+    /// What begins there has no number, and a count or a control's parameter needs one.
+    NotANumber {
+        line: u32,
+        column: u32,
+    },
+    /// An iteration of less than one turn.
+    IterationCount {
+        count: i32,
+    },
+    /// The arguments of the application that begins there fit none of the rules.
+    NoRule {
+        line: u32,
+        column: u32,
+    },
+    /// A diagram is needed, and the rules that begin there want more arguments.
+    NotADiagram {
+        line: u32,
+        column: u32,
+    },
+    /// The arguments of a diagram have more outputs than it has inputs.
+    TooManyArguments {
+        given: u64,
+        inputs: u64,
+    },
+    /// Evaluation takes too many visits.
+    EvalBudget,
+    /// One label stands for two different controls.
+    ControlClash {
+        label: Label,
+    },
+    /// A control's init, min and max do not rise in the order min, init, max.
+    ControlBounds {
+        label: Label,
+    },
+    /// Memory ran out.
+    NoMemory,
+}

@@ -1,0 +1,5 @@
+//! Tests of fv_rules' public calls.
+#![tactic(auto)]
+
+#[cfg(test)]
+mod numbers;

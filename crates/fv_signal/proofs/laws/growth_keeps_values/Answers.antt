@@ -1,0 +1,5 @@
+use Rattle.fv_signal.proofs.Solutions.{growth_keeps_values}
+use Rattle.fv_signal.proofs.laws.growth_keeps_values.Goals as goal
+
+pub returns : goal.returns
+returns c = growth_keeps_values

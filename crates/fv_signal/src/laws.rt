@@ -1,0 +1,34 @@
+// The laws of a graph's values and rates.
+
+ghost use Rattle.fv_signal.specs.Value.{Graph, ValuesAreGiven, SolutionsAreValues, ValuesLookBack, GrowthKeepsValues};
+ghost use Rattle.fv_signal.specs.Rates.{ConstantsStay, ControlsDecide};
+
+/// The value of each signal is what its node gives.
+pub fn values_are_given()
+    ensures { (g : Graph) → ValuesAreGiven g }
+{}
+
+/// There are no other streams that the nodes give.
+pub fn solutions_are_values()
+    ensures { (g : Graph) → SolutionsAreValues g }
+{}
+
+/// A constant has one value.
+pub fn constants_stay()
+    ensures { (g : Graph) → ConstantsStay g }
+{}
+
+/// A signal slower than the samples is the same wherever the controls are.
+pub fn controls_decide()
+    ensures { (g : Graph) → ControlsDecide g }
+{}
+
+/// A value at a time depends on no later frame and no later control.
+pub fn values_look_back()
+    ensures { (g : Graph) → ValuesLookBack g }
+{}
+
+/// Where a graph grows, its signals keep their values.
+pub fn growth_keeps_values()
+    ensures { (g h : Graph) → GrowthKeepsValues g h }
+{}

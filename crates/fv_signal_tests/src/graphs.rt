@@ -1,0 +1,54 @@
+// A graph that is made and read.
+
+ghost use Rattle.std.specs.Prelude.{◌≡◌, IfOk};
+ghost use Rattle.fv_signal_tests.specs.Sum.{running_sum};
+
+use fv_num::Op;
+use fv_signal::{Graph, Signal, SignalId};
+use std::alloc::{AllocError, Global};
+use std::process::Abort;
+use std::test::Fail;
+
+// The graph of a running sum.
+fn sum(alloc: Global) -> Result<Graph, AllocError>
+    ensures { IfOk result (λ g. g ≡ running_sum) }
+{
+    let input = SignalId::new(0);
+    let last = SignalId::new(1);
+    let signals = Vec::from_array(
+        alloc,
+        [
+            Signal::Input(0),
+            Signal::Back { group: 0, i: 0 },
+            Signal::Point {
+                op: Op::Add,
+                args: [last, input, input, input],
+            },
+            Signal::Member { group: 0, i: 0 },
+        ],
+    )?;
+    let sum = SignalId::new(2);
+    let output = SignalId::new(3);
+    let group = Vec::from_array(alloc, [sum])?;
+    let groups = Vec::from_array(alloc, [group])?;
+    let outputs = Vec::from_array(alloc, [output])?;
+    let graph = Graph::new(signals, groups, outputs);
+    Ok(graph)
+}
+
+#[test]
+fn a_graph_is_read(rt: HostRuntime) -> Result<(), Fail> {
+    let graph = sum(rt.alloc())?;
+    assert_eq!(rt; graph.len(), 4);
+    assert_eq!(rt; graph.groups(), 1);
+    assert!(rt; !graph.is_empty());
+    assert_eq!(rt; graph.signal(SignalId::new(0)), Signal::Input(0));
+    assert_eq!(rt;
+        graph.signal(SignalId::new(3)),
+        Signal::Member { group: 0, i: 0 }
+    );
+    assert_eq!(rt; graph.outputs(), [SignalId::new(3)].as_slice());
+    assert_eq!(rt; graph.group(0), [SignalId::new(2)].as_slice());
+    assert_eq!(rt; SignalId::new(7).number(), 7);
+    Ok(())
+}

@@ -1,0 +1,5 @@
+// Tests of graphs of signals.
+#![tactic(auto)]
+
+#[cfg(test)]
+mod graphs;

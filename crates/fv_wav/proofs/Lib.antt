@@ -1,0 +1,9 @@
+pub mod Steps
+pub mod Parts
+pub mod ChunkKinds
+pub mod Walks
+pub mod ReadBack
+pub mod Following
+pub mod SampleLemmas
+pub mod Outcomes
+pub mod Endings

@@ -1,0 +1,87 @@
+// Reading frames.
+
+ghost use Rattle.std.specs.Prelude.{◌≡◌, ◌+◌, ◌-◌, ◌*◌, ◌/◌, ◌%◌, ◌^◌, ◌<◌, ◌≤◌, length, drop, true, IfErr, OnOk};
+ghost use Rattle.fv_base.specs.declared.role.Role.TheVariants.{Input};
+ghost use Rattle.fv_num.specs.Words.{is_sample_width};
+ghost use Rattle.fv_wav.specs.declared.refusal.WaveRefusal.TheVariants.{WaveTruncated};
+ghost use Rattle.fv_wav.specs.Stopping.{Passes, Stops};
+ghost use Rattle.fv_wav.specs.Samples.{sample_of, samples_in, whole_bytes};
+
+use crate::head::Head;
+use crate::input::take_all;
+use crate::refusal::WaveRefusal;
+use byteorder::{ByteOrder, LittleEndian};
+use fv_outside::Desk;
+
+/// Fills `to` with the next whole frames of the input, through `bytes`. A place is how many bytes of the file were taken.
+pub fn read_frames<D: Desk>(
+    desk: &mut D,
+    head: &Head,
+    place: u64,
+    bytes: &mut [u8],
+    to: &mut [i32],
+) -> Result<(), WaveRefusal>
+    requires some { 1 ≤ head.now.channels }
+    requires few { head.now.channels ≤ 256 }
+    requires bits { is_sample_width head.now.bits ≡ true }
+    requires low { head.now.place ≤ place }
+    requires high { place < 2 ^ 63 }
+    requires frames { length to.old % head.now.channels ≡ 0 }
+    requires within { (place - head.now.place) + length to.old * (head.now.bits / 8) ≤ whole_bytes head.now }
+    requires room { length to.old * (head.now.bits / 8) ≤ length bytes.old }
+    ensures ok { OnOk result (Passes (length to.new * (head.now.bits / 8))
+        (to.new ≡ samples_in head.now.bits (length to.new) ((D.state desk.old).left Input)) (D.state desk.old) (D.state desk.new)) }
+    ensures err { IfErr result (λ e. Stops ((length ((D.state desk.old).left Input) < length to.new * (head.now.bits / 8))
+        × (e ≡ WaveTruncated (place + length ((D.state desk.old).left Input)))) (D.state desk.old) (D.state desk.new) e) }
+{
+    let size = (head.bits / 8) as usize;
+    let n = to.len() * size;
+    read_samples(desk, head.bits, place, &mut bytes[..n], to)
+}
+
+// Fills `to` with the next samples; `bytes` has just their length.
+fn read_samples<D: Desk>(
+    desk: &mut D,
+    bits: u32,
+    place: u64,
+    bytes: &mut [u8],
+    to: &mut [i32],
+) -> Result<(), WaveRefusal>
+    requires bits { is_sample_width bits ≡ true }
+    requires high { place < 2 ^ 63 }
+    requires room { length bytes.old ≡ length to.old * (bits / 8) }
+    ensures ok { OnOk result (Passes (length to.new * (bits / 8))
+        (to.new ≡ samples_in bits (length to.new) ((D.state desk.old).left Input)) (D.state desk.old) (D.state desk.new)) }
+    ensures err { IfErr result (λ e. Stops ((length ((D.state desk.old).left Input) < length to.new * (bits / 8))
+        × (e ≡ WaveTruncated (place + length ((D.state desk.old).left Input)))) (D.state desk.old) (D.state desk.new) e) }
+{
+    take_all(desk, place, bytes)?;
+    decode(bits, bytes, to);
+    Ok(())
+}
+
+// The samples in the bytes.
+fn decode(bits: u32, bytes: &[u8], to: &mut [i32])
+    requires bits { is_sample_width bits ≡ true }
+    requires room { length bytes.now ≡ length to.old * (bits / 8) }
+    ensures { to.new ≡ samples_in bits (length to.new) bytes.now }
+{
+    let size = (bits / 8) as usize;
+    for i in 0..to.len() {
+        to[i] = sample(bits, &bytes[i * size..]);
+    }
+}
+
+// The sample in the first bytes.
+fn sample(bits: u32, bytes: &[u8]) -> i32
+    requires bits { is_sample_width bits ≡ true }
+    requires room { bits / 8 ≤ length bytes.now }
+    ensures { result ≡ sample_of bits bytes.now }
+{
+    match bits {
+        8 => i32::from(bytes[0]) - 128,
+        16 => i32::from(LittleEndian::read_i16(bytes)),
+        24 => LittleEndian::read_i24(bytes),
+        _ => LittleEndian::read_i32(bytes),
+    }
+}

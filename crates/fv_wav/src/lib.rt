@@ -1,0 +1,18 @@
+//! WAV files: the head and the samples, read and written through a desk.
+#![tactic(auto)]
+
+mod chunks;
+mod format;
+mod frames;
+mod head;
+mod input;
+mod laws;
+mod refusal;
+mod writing;
+
+pub use chunks::read_head;
+pub use frames::read_frames;
+pub use head::Head;
+pub use laws::{ends_at_its_length, one_outcome, samples_follow, written_is_read};
+pub use refusal::{WaveRefusal, WriteRefusal};
+pub use writing::{data_length, write_frames, write_head, write_pad};
