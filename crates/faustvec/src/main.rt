@@ -3,8 +3,12 @@
 
 use fv_outside::{FileDesk, FreeGate};
 use fv_top::run_faustvec;
+use std::io::ErrorKind;
 use std::process::ExitCode;
 use std::{env, io};
+
+/// The exit status where a word is no text.
+const USAGE: u8 = 2;
 
 /// The exit status where there is no memory for the words.
 const NO_MEMORY: u8 = 5;
@@ -16,11 +20,15 @@ fn main(rt: HostRuntime) -> ExitCode {
             let status = run_faustvec(&rt, rt.alloc(), &words, &mut desk, &mut FreeGate);
             ExitCode::from(status.code())
         }
+        Err(error) if error.kind() == ErrorKind::InvalidData => {
+            let _ = println!(rt; "refused 1 Usage form");
+            ExitCode::from(USAGE)
+        }
         Err(_) => ExitCode::from(NO_MEMORY),
     }
 }
 
-// The words of the command line, the program's own name first.
+// The words of the command line, the program's own name first. One that is no UTF-8 is invalid data.
 fn words(rt: &HostRuntime) -> io::Result<Vec<String>> {
     let mut words = Vec::new(rt.alloc());
     for word in env::args(rt)? {
