@@ -16,9 +16,10 @@ use Rattle.fv_grammar.specs.Tree.{Tree}
 use Rattle.fv_grammar.specs.Grammar.{Primary, number, plus_number, minus_number, minus_name, named, wire, cut, plus, minus, primitive, grouped, abstracted, cased, iterated, ported, switched, slid, paneled}
 use Rattle.fv_grammar.proofs.Sound.{is_integer, is_name, is_plus, is_minus, is_underscore, is_exclamation, is_open, is_backslash, is_case}
 use Rattle.fv_grammar.specs.Descent as descent
+use Rattle.fv_grammar.specs.declared.symbol.Mark.TheVariants as marks
 use Rattle.fv_grammar.specs.Descent.{Step, ◌>>=◌, Reader, group, abstraction, case_of, iteration, ports, switch, slider, panel, by_head, primary}
 use Rattle.fv_begins.proofs.Plans.{called, worded, called_all, both, signed, Spelled, spelled, Plan, Sign, AName, AText, NameList, Inner, APrimary, Then, Spans, took, behind, next, made, done, as_plan, unread, one_taken, Reads}
-use Rattle.fv_begins.proofs.Pieces.{opening_passes, close_passes, open_brace_passes, close_brace_passes, comma_passes, dot_passes, a_name_reads, a_text_reads, label_reads, name_list_reads, ReadsInside, enclosed_reads, argument_reads}
+use Rattle.fv_begins.proofs.Pieces.{expect_passes, a_name_reads, a_text_reads, label_reads, name_list_reads, ReadsInside, enclosed_reads, argument_reads}
 
 -- ---- the forms that a first token begins
 -- behind a token
@@ -47,11 +48,11 @@ is_abstraction a b (both signed (both signed (both (called_all ns) (both signed 
 abstraction_reads : (inner : Reader) → ReadsInside inner → (start : ℕ) (ts : List Symbol) → Reads APrimary (symbols.Backslash ∷ ts) (abstraction inner start ts)
 unfolding abstraction
 abstraction_reads inner reads start ts = as_plan APrimary (headed symbols.Backslash ts
-    (next (opening_passes ts) (λ opened.
+    (next (expect_passes marks.Open ts) (λ opened.
     next (name_list_reads opened) (λ ns.
-    next (close_passes ns.1) (λ closed.
-    next (dot_passes closed) (λ dotted.
-    next (opening_passes dotted) (λ again.
+    next (expect_passes marks.Close ns.1) (λ closed.
+    next (expect_passes marks.Dot closed) (λ dotted.
+    next (expect_passes marks.Open dotted) (λ again.
     made (enclosed_reads inner reads insides.Expression again) (λ x. done)))))))) is_abstraction
 
 -- "case" "{" rules "}"
@@ -61,9 +62,9 @@ is_case_of a b (both signed (both signed (both (spelled x) signed))) = spelled (
 case_reads : (inner : Reader) → ReadsInside inner → (start : ℕ) (ts : List Symbol) → Reads APrimary (symbols.Case ∷ ts) (case_of inner start ts)
 unfolding case_of
 case_reads inner reads start ts = as_plan APrimary (headed symbols.Case ts
-    (next (open_brace_passes ts) (λ opened.
+    (next (expect_passes marks.OpenBrace ts) (λ opened.
     next (reads insides.Rules opened) (λ x.
-    made (close_brace_passes x.1) (λ rest. done))))) is_case_of
+    made (expect_passes marks.CloseBrace x.1) (λ rest. done))))) is_case_of
 
 -- ("par" | "seq" | "sum" | "prod") "(" name "," argument "," expression ")"
 is_iteration : (t : Symbol) (i : Repetition) → head t ≡ heads.Iteration i → (a b : List Symbol)
@@ -73,9 +74,9 @@ is_iteration t i h a b (both signed (both signed (both called (both signed (both
 iteration_reads : (inner : Reader) → ReadsInside inner → (start : ℕ) (t : Symbol) (i : Repetition) → head t ≡ heads.Iteration i → (ts : List Symbol) → Reads APrimary (t ∷ ts) (iteration inner start i ts)
 unfolding iteration
 iteration_reads inner reads start t i h ts = as_plan APrimary (headed t ts
-    (next (opening_passes ts) (λ opened.
+    (next (expect_passes marks.Open ts) (λ opened.
     next (a_name_reads opened) (λ n.
-    next (comma_passes n.1) (λ rest.
+    next (expect_passes marks.Comma n.1) (λ rest.
     next (argument_reads inner reads rest) (λ x.
     made (enclosed_reads inner reads insides.Expression x.1) (λ y. done)))))))
     (is_iteration t i h)
@@ -87,7 +88,7 @@ is_port t s h a b (both signed (both signed (both (spelled x) signed))) = spelle
 ports_reads : (inner : Reader) → ReadsInside inner → (start : ℕ) (t : Symbol) (s : Side) → head t ≡ heads.Ports s → (ts : List Symbol) → Reads APrimary (t ∷ ts) (ports inner start s ts)
 unfolding ports
 ports_reads inner reads start t s h ts = as_plan APrimary (headed t ts
-    (next (opening_passes ts) (λ opened. made (enclosed_reads inner reads insides.Expression opened) (λ x. done))))
+    (next (expect_passes marks.Open ts) (λ opened. made (enclosed_reads inner reads insides.Expression opened) (λ x. done))))
     (is_port t s h)
 
 -- ("button" | "checkbox") "(" string ")"
@@ -97,7 +98,7 @@ is_switch t k h a b (both signed (both signed (both worded signed))) = spelled (
 switch_reads : (start : ℕ) (t : Symbol) (k : SwitchKind) → head t ≡ heads.Switch k → (ts : List Symbol) → Reads APrimary (t ∷ ts) (switch start k ts)
 unfolding switch
 switch_reads start t k h ts = as_plan APrimary (headed t ts
-    (next (opening_passes ts) (λ opened. next (a_text_reads opened) (λ text. made (close_passes text.1) (λ rest. done)))))
+    (next (expect_passes marks.Open ts) (λ opened. next (a_text_reads opened) (λ text. made (expect_passes marks.Close text.1) (λ rest. done)))))
     (is_switch t k h)
 
 -- ("hslider" | "vslider" | "nentry") "(" string "," argument "," argument "," argument "," argument ")"

@@ -13,7 +13,7 @@ use Rattle.fv_grammar.specs.declared.symbol.Inside.TheVariants as insides
 use Rattle.fv_grammar.specs.Symbols.{head}
 use Rattle.fv_grammar.specs.Descent.{Reader, after_plus, after_minus, group, abstraction, case_of, iteration, ports, switch, slider, panel, by_head, primary}
 use Rattle.fv_begins.proofs.Agreement.{Fork, Same, BothRead, also, given, halted, Looks, takes, stays_at, looked, Passing, no_bracket, head_passing, group_opens, AgreesInside}
-use Rattle.fv_begins.proofs.PiecesAgree.{opening_both, close_both, open_brace_both, close_brace_both, comma_both, dot_both, a_name_both, a_text_both, label_both, name_list_both, enclosed_both, argument_both}
+use Rattle.fv_begins.proofs.PiecesAgree.{expect_both, by_open, by_close, by_open_brace, by_close_brace, by_comma, by_dot, a_name_both, a_text_both, label_both, name_list_both, enclosed_both, argument_both}
 
 -- ---- the forms that a first token begins
 group_both : {k : Fork} {d : ℕ} {inner inner' : Reader} → AgreesInside k (suc d) inner inner' → (start start' : ℕ) {ts us : List Symbol} → Same k (suc d) ts us → BothRead k d ts (group inner start ts) (group inner' start' us)
@@ -21,37 +21,37 @@ group_both inside start start' same = also (enclosed_both inside insides.Express
 
 abstraction_both : {k : Fork} {d : ℕ} {inner inner' : Reader} → AgreesInside k (suc d) inner inner' → (start start' : ℕ) {ts us : List Symbol} → Same k d ts us → BothRead k d ts (abstraction inner start ts) (abstraction inner' start' us)
 unfolding abstraction
-abstraction_both inside start start' same = also (opening_both same) (λ opened opened' s.
+abstraction_both inside start start' same = also (expect_both by_open same) (λ opened opened' s.
     also (name_list_both s) (λ ns ns' s.
-    also (close_both s) (λ closed closed' s.
-    also (dot_both s) (λ dotted dotted' s.
-    also (opening_both s) (λ again again' s.
+    also (expect_both by_close s) (λ closed closed' s.
+    also (expect_both by_dot s) (λ dotted dotted' s.
+    also (expect_both by_open s) (λ again again' s.
     also (enclosed_both inside insides.Expression s) (λ x y s. given s))))))
 
 case_both : {k : Fork} {d : ℕ} {inner inner' : Reader} → AgreesInside k (suc d) inner inner' → (start start' : ℕ) {ts us : List Symbol} → Same k d ts us → BothRead k d ts (case_of inner start ts) (case_of inner' start' us)
 unfolding case_of
-case_both inside start start' same = also (open_brace_both same) (λ opened opened' s.
+case_both inside start start' same = also (expect_both by_open_brace same) (λ opened opened' s.
     also (inside.agree insides.Rules s) (λ x y s.
-    also (close_brace_both s) (λ rest rest' s. given s)))
+    also (expect_both by_close_brace s) (λ rest rest' s. given s)))
 
 iteration_both : {k : Fork} {d : ℕ} {inner inner' : Reader} → AgreesInside k (suc d) inner inner' → (start start' : ℕ) (i : Repetition) {ts us : List Symbol} → Same k d ts us → BothRead k d ts (iteration inner start i ts) (iteration inner' start' i us)
 unfolding iteration
-iteration_both inside start start' i same = also (opening_both same) (λ opened opened' s.
+iteration_both inside start start' i same = also (expect_both by_open same) (λ opened opened' s.
     also (a_name_both s) (λ n n' s.
-    also (comma_both s) (λ rest rest' s.
+    also (expect_both by_comma s) (λ rest rest' s.
     also (argument_both inside s) (λ x x' s.
     also (enclosed_both inside insides.Expression s) (λ y y' s. given s)))))
 
 ports_both : {k : Fork} {d : ℕ} {inner inner' : Reader} → AgreesInside k (suc d) inner inner' → (start start' : ℕ) (side : Side) {ts us : List Symbol} → Same k d ts us → BothRead k d ts (ports inner start side ts) (ports inner' start' side us)
 unfolding ports
-ports_both inside start start' side same = also (opening_both same) (λ opened opened' s.
+ports_both inside start start' side same = also (expect_both by_open same) (λ opened opened' s.
     also (enclosed_both inside insides.Expression s) (λ x y s. given s))
 
 switch_both : {k : Fork} {d : ℕ} (start start' : ℕ) (kind : SwitchKind) {ts us : List Symbol} → Same k d ts us → BothRead k d ts (switch start kind ts) (switch start' kind us)
 unfolding switch
-switch_both start start' kind same = also (opening_both same) (λ opened opened' s.
+switch_both start start' kind same = also (expect_both by_open same) (λ opened opened' s.
     also (a_text_both s) (λ text text' s.
-    also (close_both s) (λ rest rest' s. given s)))
+    also (expect_both by_close s) (λ rest rest' s. given s)))
 
 slider_both : {k : Fork} {d : ℕ} {inner inner' : Reader} → AgreesInside k (suc d) inner inner' → (start start' : ℕ) (kind : SliderKind) {ts us : List Symbol} → Same k d ts us → BothRead k d ts (slider inner start kind ts) (slider inner' start' kind us)
 unfolding slider

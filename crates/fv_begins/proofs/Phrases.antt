@@ -12,9 +12,10 @@ use Rattle.fv_grammar.specs.Symbols.{head, rank, is_left}
 use Rattle.fv_grammar.specs.Tree.{Tree}
 use Rattle.fv_grammar.specs.Grammar.{Expression, Phrase, Postfix, Atom, plain, qualified, tighter, leftward, rightward, operand, pattern_operand, bare, delayed, applied, atom_number, atom_plus_number, atom_minus_number, atom_name, atom_grouped}
 use Rattle.fv_grammar.specs.Descent as descent
+use Rattle.fv_grammar.specs.declared.symbol.Mark.TheVariants as marks
 use Rattle.fv_grammar.specs.Descent.{Step, ◌>>=◌, Turn, Done, Reader, rank_at, primary, postfix, postfix_turn, atom_by_head, atom, rights, chain, phrase, left_turn, expression, with_turn}
 use Rattle.fv_begins.proofs.Plans.{both, nought, signed, Onward, stay, onward, Spelled, spelled, Nothing, Sign, Inner, Joined, APostfix, APrimary, AnAtom, GoesOn, Then, Spans, Takes, stuck, behind, next, made, done, joins, as_takes, as_plan, onward_from, unread, one_taken, by_test, Reads}
-use Rattle.fv_begins.proofs.Pieces.{open_brace_passes, close_brace_passes, ReadsInside, enclosed_reads}
+use Rattle.fv_begins.proofs.Pieces.{expect_passes, ReadsInside, enclosed_reads}
 use Rattle.fv_grammar.proofs.Sound.{is_integer, is_name, is_plus, is_minus, is_open}
 use Rattle.fv_begins.proofs.Operands.{headed, leaf, pair, begun, primary_reads}
 use Rattle.fv_begins.proofs.Turns.{Turns, no_turn, one_turn, turn_of, turn_by_test, run_reads}
@@ -142,7 +143,7 @@ is_qualified a b (both (spelled x) (both signed (both signed (both (spelled y) s
 with_turns : (inner : Reader) → ReadsInside inner → (start : ℕ) (all : List Symbol) (x : Tree) (ts : List Symbol) → Takes (Spans (Inner insides.Expression)) all ts → Turns (Inner insides.Expression) all (with_turn inner start x ts)
 with_turns inner reads start all x [] s = no_turn
 with_turns inner reads start all x (With ∷ ts) s = turn_of _ (as_plan (Inner insides.Expression) (behind (Inner insides.Expression) s (headed With ts
-    (next (open_brace_passes ts) (λ opened. next (reads insides.Definitions opened) (λ y. made (close_brace_passes y.1) (λ end. done)))))) is_qualified)
+    (next (expect_passes marks.OpenBrace ts) (λ opened. next (reads insides.Definitions opened) (λ y. made (expect_passes marks.CloseBrace y.1) (λ end. done)))))) is_qualified)
 with_turns inner reads start all x (t ∷ ts) s = no_turn
 
 pub expression_reads : (inner : Reader) → ReadsInside inner → (ts : List Symbol) → Reads (Inner insides.Expression) ts (expression inner ts)

@@ -9,10 +9,11 @@ use Rattle.fv_grammar.specs.declared.symbol.Head.TheVariants as heads
 use Rattle.fv_grammar.specs.declared.symbol.Inside.TheVariants as insides
 use Rattle.fv_grammar.specs.Symbols.{head, rank, operator, is_left}
 use Rattle.fv_grammar.specs.Tree.{Tree, Delayed, Apply, Binary, Where}
-use Rattle.fv_grammar.specs.Descent.{Step, ◌>>=◌, Turn, Done, turn, run, Reader, rank_at, open_brace, close_brace, enclosed, plus_number, minus_number, postfix, postfix_turn, atom_by_head, atom, operand, chain, phrase, left_turn, expression, with_turn}
+use Rattle.fv_grammar.specs.declared.symbol.Mark.TheVariants as marks
+use Rattle.fv_grammar.specs.Descent.{Step, ◌>>=◌, Turn, Done, turn, run, Reader, rank_at, expect, enclosed, plus_number, minus_number, postfix, postfix_turn, atom_by_head, atom, operand, chain, phrase, left_turn, expression, with_turn}
 use Rattle.fv_grammar.proofs.Loops.{run_next, run_done, run_stop, joined, chain_next, chain_done, chain_stop}
 use Rattle.fv_begins.proofs.Agreement.{Fork, Same, remains, BothRead, also, given, halted, both_test, of_test, of_equal, unrolled, Looks, takes, stays_at, looked, looked_among, opens, no_bracket, operator_passing, group_opens, AgreesInside}
-use Rattle.fv_begins.proofs.PiecesAgree.{open_brace_both, close_brace_both, enclosed_both}
+use Rattle.fv_begins.proofs.PiecesAgree.{expect_both, by_open_brace, by_close_brace, enclosed_both}
 use Rattle.fv_begins.proofs.OperandsAgree.{begins_operand, primary_both}
 
 -- ---- loops of turns
@@ -159,10 +160,10 @@ phrase_both {k = k} {d = d} {inner = inner} {inner' = inner'} inside pattern com
 
 -- ---- expression
 abbrev block : Reader → List Symbol → Step Tree
-block inner ts = open_brace ts >>= λ rest. (inner insides.Definitions rest >>= λ y. (close_brace y.1 >>= λ end. Ok (y.0, end)))
+block inner ts = expect marks.OpenBrace ts >>= λ rest. (inner insides.Definitions rest >>= λ y. (expect marks.CloseBrace y.1 >>= λ end. Ok (y.0, end)))
 
 block_both : {k : Fork} {d : ℕ} {inner inner' : Reader} → AgreesInside k (suc d) inner inner' → {ts us : List Symbol} → Same k d ts us → BothRead k d ts (block inner ts) (block inner' us)
-block_both inside same = also (open_brace_both same) (λ opened opened' s. also (inside.agree insides.Definitions s) (λ x y s. also (close_brace_both s) (λ rest rest' s. given s)))
+block_both inside same = also (expect_both by_open_brace same) (λ opened opened' s. also (inside.agree insides.Definitions s) (λ x y s. also (expect_both by_close_brace s) (λ rest rest' s. given s)))
 
 with_look : {k : Fork} {d : ℕ} {inner inner' : Reader} → AgreesInside k (suc d) inner inner' → (start start' : ℕ) (n : ℕ) → TurnsAgree k d (with_turn inner start) (with_turn inner' start') n
     → (x y : Tree) (t : Symbol) (ts us : List Symbol) → length (t ∷ ts) ≤ n

@@ -1,59 +1,26 @@
 -- Single tokens, names, and what stands in brackets.
-use Rattle.std.proofs.Common.{◌≡◌, ℕ, zero, suc, true, List, [], ◌∷◌, length, drop, refl}
+use Rattle.std.proofs.Common.{◌≡◌, ℕ, zero, suc, Bool, true, false, cond, List, [], ◌∷◌, length, drop, Ok, Err, refl, sym, subst}
 use Rattle.std.specs.Prelude.{nat_lt}
 use Rattle.fv_lex.specs.declared.token.Symbol.{Symbol}
-use Rattle.fv_lex.specs.declared.token.Symbol.TheVariants.{Name, Text, Comma, Open, Close, OpenBrace, CloseBrace, Equals, Arrow, Semicolon, Dot}
+use Rattle.fv_lex.specs.declared.token.Symbol.TheVariants.{Name, Text, Comma, Open, Close}
+use Rattle.fv_grammar.specs.declared.symbol.Mark.{Mark}
+use Rattle.fv_grammar.specs.declared.symbol.Mark.TheVariants as marks
+use Rattle.fv_grammar.specs.Symbols.{sign, is_mark}
+use Rattle.fv_grammar.proofs.Sound.{is_mark_sign}
 use Rattle.fv_grammar.specs.declared.symbol.Inside.{Inside}
 use Rattle.fv_grammar.specs.declared.symbol.Inside.TheVariants as insides
 use Rattle.fv_grammar.specs.Grammar.{one_name, more_names}
-use Rattle.fv_grammar.specs.Descent.{Reader, opening, close, open_brace, close_brace, comma, equals, arrow, semicolon, dot, a_name, a_text, at_comma, names, name_list, enclosed, argument, label}
+use Rattle.fv_grammar.specs.Descent.{Reader, expect, a_name, a_text, at_comma, names, name_list, enclosed, argument, label}
 use Rattle.fv_begins.proofs.Plans.{called, worded, CalledAll, called_all, both, this, that, nought, signed, Nothing, Sign, AName, AText, NameList, Inner, Then, Or, Spans, Takes, took, behind, next, made, done, as_plan, unread, one_taken, by_test, Passes, Reads}
 
 -- ---- single tokens
-pub opening_passes : (ts : List Symbol) → Passes (Sign Open) ts (opening ts)
-opening_passes (Open ∷ ts) = took (one_taken Open ts)
-opening_passes [] = unread (Sign Open)
-opening_passes (t ∷ ts) = unread (Sign Open)
-
-pub close_passes : (ts : List Symbol) → Passes (Sign Close) ts (close ts)
-close_passes (Close ∷ ts) = took (one_taken Close ts)
-close_passes [] = unread (Sign Close)
-close_passes (t ∷ ts) = unread (Sign Close)
-
-pub open_brace_passes : (ts : List Symbol) → Passes (Sign OpenBrace) ts (open_brace ts)
-open_brace_passes (OpenBrace ∷ ts) = took (one_taken OpenBrace ts)
-open_brace_passes [] = unread (Sign OpenBrace)
-open_brace_passes (t ∷ ts) = unread (Sign OpenBrace)
-
-pub close_brace_passes : (ts : List Symbol) → Passes (Sign CloseBrace) ts (close_brace ts)
-close_brace_passes (CloseBrace ∷ ts) = took (one_taken CloseBrace ts)
-close_brace_passes [] = unread (Sign CloseBrace)
-close_brace_passes (t ∷ ts) = unread (Sign CloseBrace)
-
-pub comma_passes : (ts : List Symbol) → Passes (Sign Comma) ts (comma ts)
-comma_passes (Comma ∷ ts) = took (one_taken Comma ts)
-comma_passes [] = unread (Sign Comma)
-comma_passes (t ∷ ts) = unread (Sign Comma)
-
-pub equals_passes : (ts : List Symbol) → Passes (Sign Equals) ts (equals ts)
-equals_passes (Equals ∷ ts) = took (one_taken Equals ts)
-equals_passes [] = unread (Sign Equals)
-equals_passes (t ∷ ts) = unread (Sign Equals)
-
-pub arrow_passes : (ts : List Symbol) → Passes (Sign Arrow) ts (arrow ts)
-arrow_passes (Arrow ∷ ts) = took (one_taken Arrow ts)
-arrow_passes [] = unread (Sign Arrow)
-arrow_passes (t ∷ ts) = unread (Sign Arrow)
-
-pub semicolon_passes : (ts : List Symbol) → Passes (Sign Semicolon) ts (semicolon ts)
-semicolon_passes (Semicolon ∷ ts) = took (one_taken Semicolon ts)
-semicolon_passes [] = unread (Sign Semicolon)
-semicolon_passes (t ∷ ts) = unread (Sign Semicolon)
-
-pub dot_passes : (ts : List Symbol) → Passes (Sign Dot) ts (dot ts)
-dot_passes (Dot ∷ ts) = took (one_taken Dot ts)
-dot_passes [] = unread (Sign Dot)
-dot_passes (t ∷ ts) = unread (Sign Dot)
+pub expect_passes : (m : Mark) (ts : List Symbol) → Passes (Sign (sign m)) ts (expect m ts)
+expect_passes m [] = unread (Sign (sign m))
+expect_passes m (t ∷ ts) = go (is_mark m t) refl
+  where
+    go : (b : Bool) → is_mark m t ≡ b → Passes (Sign (sign m)) (t ∷ ts) (cond b (Ok ts) (Err (t ∷ ts)))
+    go true is = subst (λ s. Passes (Sign (sign m)) (s ∷ ts) (Ok ts)) (sym (is_mark_sign m t is)) (took (one_taken (sign m) ts))
+    go false is = unread (Sign (sign m))
 
 name_taken : (n : ℕ) (ts : List Symbol) → Takes (Spans AName) (Name n ∷ ts) ts
 name_taken n ts = record { used = Name n ∷ []; whole = refl; spans = λ tail. called }
@@ -74,7 +41,7 @@ a_text_reads (t ∷ ts) = unread AText
 -- "(" string ","
 pub label_reads : (ts : List Symbol) → Reads (Then (Sign Open) (Then AText (Sign Comma))) ts (label ts)
 unfolding label
-label_reads ts = next (opening_passes ts) (λ opened. next (a_text_reads opened) (λ text. made (comma_passes text.1) (λ rest. done)))
+label_reads ts = next (expect_passes marks.Open ts) (λ opened. next (a_text_reads opened) (λ text. made (expect_passes marks.Comma text.1) (λ rest. done)))
 
 -- ---- names
 -- a token that stands there
@@ -105,7 +72,7 @@ abbrev pub ReadsInside : Reader → Type 0
 ReadsInside inner = (what : Inside) (ts : List Symbol) → Reads (Inner what) ts (inner what ts)
 
 pub enclosed_reads : (inner : Reader) → ReadsInside inner → (what : Inside) (ts : List Symbol) → Reads (Then (Inner what) (Sign Close)) ts (enclosed inner what ts)
-enclosed_reads inner reads what ts = next (reads what ts) (λ x. made (close_passes x.1) (λ rest. done))
+enclosed_reads inner reads what ts = next (reads what ts) (λ x. made (expect_passes marks.Close x.1) (λ rest. done))
 
 pub argument_reads : (inner : Reader) → ReadsInside inner → (ts : List Symbol) → Reads (Then (Inner insides.Argument) (Sign Comma)) ts (argument inner ts)
-argument_reads inner reads ts = next (reads insides.Argument ts) (λ x. made (comma_passes x.1) (λ rest. done))
+argument_reads inner reads ts = next (reads insides.Argument ts) (λ x. made (expect_passes marks.Comma x.1) (λ rest. done))

@@ -1,76 +1,50 @@
 -- Single tokens, names, and what stands in brackets, in two lists that are the same up to and with a token.
-use Rattle.std.proofs.Common.{◌≡◌, ℕ, zero, suc, ◌≤◌, ◌<◌, cond, List, [], ◌∷◌, length, drop, Ok, refl, ap, ◌∙◌, arith}
+use Rattle.std.proofs.Common.{◌≡◌, ℕ, zero, suc, ◌≤◌, ◌<◌, Bool, true, false, cond, List, [], ◌∷◌, length, drop, Ok, Err, refl, sym, subst, ap, ◌∙◌, arith}
 use Rattle.fv_lex.specs.declared.token.Symbol.{Symbol}
-use Rattle.fv_lex.specs.declared.token.Symbol.TheVariants.{Name, Text, Comma, Open, Close, OpenBrace, CloseBrace, Equals, Arrow, Semicolon, Dot}
+use Rattle.fv_lex.specs.declared.token.Symbol.TheVariants.{Name, Text, Comma}
+use Rattle.fv_grammar.specs.declared.symbol.Mark.{Mark}
+use Rattle.fv_grammar.specs.declared.symbol.Mark.TheVariants as marks
+use Rattle.fv_grammar.specs.Symbols.{sign, is_mark}
+use Rattle.fv_grammar.proofs.Sound.{is_mark_sign}
 use Rattle.fv_grammar.specs.declared.symbol.Inside.{Inside}
 use Rattle.fv_grammar.specs.declared.symbol.Inside.TheVariants as insides
-use Rattle.fv_grammar.specs.Descent.{Step, Reader, opening, close, open_brace, close_brace, comma, equals, arrow, semicolon, dot, a_name, a_text, at_comma, name_list, enclosed, argument, label}
+use Rattle.fv_grammar.specs.Descent.{Step, Reader, expect, a_name, a_text, at_comma, name_list, enclosed, argument, label}
 use Rattle.fv_grammar.proofs.Loops.{names_step, names_end, names_stop, with_name}
 use Rattle.fv_begins.proofs.Agreement.{Fork, Same, remains, BothPass, BothRead, also, given, halted, Looks, takes, stays_at, looked, looked_among, opens, opens_brace, closes, closes_brace, no_bracket, AgreesInside, of_test, of_equal}
 
 -- ---- single tokens
-opening_look : {k : Fork} {d : ℕ} (t : Symbol) (ts us : List Symbol) → Looks k d (suc d) (λ rest. rest) t ts us (opening (t ∷ ts)) (opening (t ∷ us))
-opening_look Open ts us = takes _ opens given
-opening_look t ts us = stays_at halted
+-- what a mark does to the depth of brackets
+pub data Deepens : Mark → ℕ → ℕ → Type 0 where
+  by_open : {d : ℕ} → Deepens marks.Open d (suc d)
+  by_close : {d : ℕ} → Deepens marks.Close (suc d) d
+  by_open_brace : {d : ℕ} → Deepens marks.OpenBrace d (suc d)
+  by_close_brace : {d : ℕ} → Deepens marks.CloseBrace (suc d) d
+  by_comma : {d : ℕ} → Deepens marks.Comma d d
+  by_equals : {d : ℕ} → Deepens marks.Equals d d
+  by_arrow : {d : ℕ} → Deepens marks.Arrow d d
+  by_semicolon : {d : ℕ} → Deepens marks.Semicolon d d
+  by_dot : {d : ℕ} → Deepens marks.Dot d d
 
-pub opening_both : {k : Fork} {d : ℕ} {ts us : List Symbol} → Same k d ts us → BothPass k (suc d) ts (opening ts) (opening us)
-opening_both same = looked opening opening refl opening_look same
+sign_look : {k : Fork} {m : Mark} {d e : ℕ} → Deepens m d e → (ts us : List Symbol) → Looks k d e (λ rest. rest) (sign m) ts us (Ok ts) (Ok us)
+sign_look by_open ts us = takes _ opens given
+sign_look by_close ts us = takes _ closes given
+sign_look by_open_brace ts us = takes _ opens_brace given
+sign_look by_close_brace ts us = takes _ closes_brace given
+sign_look by_comma ts us = takes _ (no_bracket (λ p n. n)) given
+sign_look by_equals ts us = takes _ (no_bracket (λ p n. n)) given
+sign_look by_arrow ts us = takes _ (no_bracket (λ p n. n)) given
+sign_look by_semicolon ts us = takes _ (no_bracket (λ p n. n)) given
+sign_look by_dot ts us = takes _ (no_bracket (λ p n. n)) given
 
-close_look : {k : Fork} {d : ℕ} (t : Symbol) (ts us : List Symbol) → Looks k (suc d) d (λ rest. rest) t ts us (close (t ∷ ts)) (close (t ∷ us))
-close_look Close ts us = takes _ closes given
-close_look t ts us = stays_at halted
+expect_look : {k : Fork} (m : Mark) {d e : ℕ} → Deepens m d e → (t : Symbol) (ts us : List Symbol) → Looks k d e (λ rest. rest) t ts us (expect m (t ∷ ts)) (expect m (t ∷ us))
+expect_look {k = k} m {d = d} {e = e} deepens t ts us = go (is_mark m t) refl
+  where
+    go : (b : Bool) → is_mark m t ≡ b → Looks k d e (λ rest. rest) t ts us (cond b (Ok ts) (Err (t ∷ ts))) (cond b (Ok us) (Err (t ∷ us)))
+    go true is = subst (λ s. Looks k d e (λ rest. rest) s ts us (Ok ts) (Ok us)) (sym (is_mark_sign m t is)) (sign_look deepens ts us)
+    go false is = stays_at halted
 
-pub close_both : {k : Fork} {d : ℕ} {ts us : List Symbol} → Same k (suc d) ts us → BothPass k d ts (close ts) (close us)
-close_both same = looked close close refl close_look same
-
-open_brace_look : {k : Fork} {d : ℕ} (t : Symbol) (ts us : List Symbol) → Looks k d (suc d) (λ rest. rest) t ts us (open_brace (t ∷ ts)) (open_brace (t ∷ us))
-open_brace_look OpenBrace ts us = takes _ opens_brace given
-open_brace_look t ts us = stays_at halted
-
-pub open_brace_both : {k : Fork} {d : ℕ} {ts us : List Symbol} → Same k d ts us → BothPass k (suc d) ts (open_brace ts) (open_brace us)
-open_brace_both same = looked open_brace open_brace refl open_brace_look same
-
-close_brace_look : {k : Fork} {d : ℕ} (t : Symbol) (ts us : List Symbol) → Looks k (suc d) d (λ rest. rest) t ts us (close_brace (t ∷ ts)) (close_brace (t ∷ us))
-close_brace_look CloseBrace ts us = takes _ closes_brace given
-close_brace_look t ts us = stays_at halted
-
-pub close_brace_both : {k : Fork} {d : ℕ} {ts us : List Symbol} → Same k (suc d) ts us → BothPass k d ts (close_brace ts) (close_brace us)
-close_brace_both same = looked close_brace close_brace refl close_brace_look same
-
-comma_look : {k : Fork} {d : ℕ} (t : Symbol) (ts us : List Symbol) → Looks k d d (λ rest. rest) t ts us (comma (t ∷ ts)) (comma (t ∷ us))
-comma_look Comma ts us = takes _ (no_bracket (λ p n. n)) given
-comma_look t ts us = stays_at halted
-
-pub comma_both : {k : Fork} {d : ℕ} {ts us : List Symbol} → Same k d ts us → BothPass k d ts (comma ts) (comma us)
-comma_both same = looked comma comma refl comma_look same
-
-equals_look : {k : Fork} {d : ℕ} (t : Symbol) (ts us : List Symbol) → Looks k d d (λ rest. rest) t ts us (equals (t ∷ ts)) (equals (t ∷ us))
-equals_look Equals ts us = takes _ (no_bracket (λ p n. n)) given
-equals_look t ts us = stays_at halted
-
-pub equals_both : {k : Fork} {d : ℕ} {ts us : List Symbol} → Same k d ts us → BothPass k d ts (equals ts) (equals us)
-equals_both same = looked equals equals refl equals_look same
-
-arrow_look : {k : Fork} {d : ℕ} (t : Symbol) (ts us : List Symbol) → Looks k d d (λ rest. rest) t ts us (arrow (t ∷ ts)) (arrow (t ∷ us))
-arrow_look Arrow ts us = takes _ (no_bracket (λ p n. n)) given
-arrow_look t ts us = stays_at halted
-
-pub arrow_both : {k : Fork} {d : ℕ} {ts us : List Symbol} → Same k d ts us → BothPass k d ts (arrow ts) (arrow us)
-arrow_both same = looked arrow arrow refl arrow_look same
-
-semicolon_look : {k : Fork} {d : ℕ} (t : Symbol) (ts us : List Symbol) → Looks k d d (λ rest. rest) t ts us (semicolon (t ∷ ts)) (semicolon (t ∷ us))
-semicolon_look Semicolon ts us = takes _ (no_bracket (λ p n. n)) given
-semicolon_look t ts us = stays_at halted
-
-pub semicolon_both : {k : Fork} {d : ℕ} {ts us : List Symbol} → Same k d ts us → BothPass k d ts (semicolon ts) (semicolon us)
-semicolon_both same = looked semicolon semicolon refl semicolon_look same
-
-dot_look : {k : Fork} {d : ℕ} (t : Symbol) (ts us : List Symbol) → Looks k d d (λ rest. rest) t ts us (dot (t ∷ ts)) (dot (t ∷ us))
-dot_look Dot ts us = takes _ (no_bracket (λ p n. n)) given
-dot_look t ts us = stays_at halted
-
-pub dot_both : {k : Fork} {d : ℕ} {ts us : List Symbol} → Same k d ts us → BothPass k d ts (dot ts) (dot us)
-dot_both same = looked dot dot refl dot_look same
+pub expect_both : {k : Fork} {m : Mark} {d e : ℕ} {ts us : List Symbol} → Deepens m d e → Same k d ts us → BothPass k e ts (expect m ts) (expect m us)
+expect_both {m = m} deepens same = looked (expect m) (expect m) refl (expect_look m deepens) same
 
 a_name_look : {k : Fork} {d : ℕ} (t : Symbol) (ts us : List Symbol) → Looks k d d (λ x. x.1) t ts us (a_name (t ∷ ts)) (a_name (t ∷ us))
 a_name_look (Name n) ts us = takes _ (no_bracket (λ p n. n)) given
@@ -89,7 +63,7 @@ a_text_both same = looked a_text a_text refl a_text_look same
 -- "(" string ","
 pub label_both : {k : Fork} {d : ℕ} {ts us : List Symbol} → Same k d ts us → BothRead k (suc d) ts (label ts) (label us)
 unfolding label
-label_both same = also (opening_both same) (λ opened opened' s. also (a_text_both s) (λ text text' s. also (comma_both s) (λ rest rest' s. given s)))
+label_both same = also (expect_both by_open same) (λ opened opened' s. also (a_text_both s) (λ text text' s. also (expect_both by_comma s) (λ rest rest' s. given s)))
 
 -- ---- names
 pub drop_fewer : (ts : List Symbol) → length (drop 1 ts) ≤ length ts
@@ -125,7 +99,7 @@ name_list_both {ts = ts} same = names_among _ _ (suc (length ts)) _ _ (omega ari
 
 -- ---- in brackets
 pub enclosed_both : {k : Fork} {d : ℕ} {inner inner' : Reader} → AgreesInside k (suc d) inner inner' → (what : Inside) {ts us : List Symbol} → Same k (suc d) ts us → BothRead k d ts (enclosed inner what ts) (enclosed inner' what us)
-enclosed_both inside what same = also (inside.agree what same) (λ x y s. also (close_both s) (λ rest rest' s. given s))
+enclosed_both inside what same = also (inside.agree what same) (λ x y s. also (expect_both by_close s) (λ rest rest' s. given s))
 
 pub argument_both : {k : Fork} {d : ℕ} {inner inner' : Reader} → AgreesInside k (suc d) inner inner' → {ts us : List Symbol} → Same k (suc d) ts us → BothRead k (suc d) ts (argument inner ts) (argument inner' us)
-argument_both inside same = also (inside.agree insides.Argument same) (λ x y s. also (comma_both s) (λ rest rest' s. given s))
+argument_both inside same = also (inside.agree insides.Argument same) (λ x y s. also (expect_both by_comma s) (λ rest rest' s. given s))

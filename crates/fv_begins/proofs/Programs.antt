@@ -10,10 +10,11 @@ use Rattle.fv_grammar.specs.declared.symbol.Items.TheVariants.{Statements, Defin
 use Rattle.fv_grammar.specs.Tree.{Tree}
 use Rattle.fv_grammar.specs.Grammar.{Further, Definition, Listed, OneRule, Begins, SpellsProgram, no_more, stated, declared, declared_for, defined, ruled, parted, first_rule, first_part, constant, function, rule}
 use Rattle.fv_grammar.specs.Descent as descent
+use Rattle.fv_grammar.specs.declared.symbol.Mark.TheVariants as marks
 use Rattle.fv_grammar.specs.Descent.{Step, ◌>>=◌, Reader, phrase, ended, function_after, constant_after, after_name, definition, one_rule, declared_text, declaration, Item, Skip, One, Fault, one_of, skip_of, item, with_item, many, further, listed, within, program, whole_text}
 use Rattle.fv_begins.specs.Beginnings.{StopsBehindABeginning, BeginningsAreClosed, ProgramsBegin}
 use Rattle.fv_begins.proofs.Plans.{called, worded, both, this, that, signed, Spelled, spelled, Adds, Plan, Sign, AName, AText, Inner, Joined, ADefinition, ARule, Others, Adding, Then, Or, Spans, Takes, Sticks, took, stuck, behind, next, made, done, as_plan, unread, one_taken, by_test, Passes, Reads, as_sticks, sticks_before, stays}
-use Rattle.fv_begins.proofs.Pieces.{opening_passes, equals_passes, arrow_passes, semicolon_passes, a_name_reads, a_text_reads, ReadsInside, enclosed_reads}
+use Rattle.fv_begins.proofs.Pieces.{expect_passes, a_name_reads, a_text_reads, ReadsInside, enclosed_reads}
 use Rattle.fv_begins.proofs.Operands.{headed}
 use Rattle.fv_begins.proofs.Phrases.{phrase_reads, expression_reads}
 
@@ -21,7 +22,7 @@ use Rattle.fv_begins.proofs.Phrases.{phrase_reads, expression_reads}
 -- expression ";"
 ended_reads : (inner : Reader) → ReadsInside inner → (ts : List Symbol) → Reads (Then (Inner insides.Expression) (Sign Semicolon)) ts (ended inner ts)
 unfolding ended
-ended_reads inner reads ts = next (expression_reads inner reads ts) (λ x. made (semicolon_passes x.1) (λ rest. done))
+ended_reads inner reads ts = next (expression_reads inner reads ts) (λ x. made (expect_passes marks.Semicolon x.1) (λ rest. done))
 
 -- what may follow a name: "(" patterns ")" "=" expression ";", or "=" expression ";"
 abbrev FunctionSide : Plan
@@ -33,11 +34,11 @@ ConstantSide = Then (Sign Equals) (Then (Inner insides.Expression) (Sign Semicol
 function_reads : (inner : Reader) → ReadsInside inner → (start n : ℕ) (ts : List Symbol) → Reads FunctionSide (Open ∷ ts) (function_after inner start n ts)
 unfolding function_after
 function_reads inner reads start n ts = headed Open ts
-    (next (enclosed_reads inner reads insides.Patterns ts) (λ ps. next (equals_passes ps.1) (λ side. made (ended_reads inner reads side) (λ x. done))))
+    (next (enclosed_reads inner reads insides.Patterns ts) (λ ps. next (expect_passes marks.Equals ps.1) (λ side. made (ended_reads inner reads side) (λ x. done))))
 
 constant_reads : (inner : Reader) → ReadsInside inner → (start n : ℕ) (ts : List Symbol) → Reads ConstantSide ts (constant_after inner start n ts)
 unfolding constant_after
-constant_reads inner reads start n ts = next (equals_passes ts) (λ side. made (ended_reads inner reads side) (λ x. done))
+constant_reads inner reads start n ts = next (expect_passes marks.Equals ts) (λ side. made (ended_reads inner reads side) (λ x. done))
 
 after_name_reads : (inner : Reader) → ReadsInside inner → (start n : ℕ) (ts : List Symbol) → Reads (Or FunctionSide ConstantSide) ts (after_name inner start n ts)
 after_name_reads inner reads start n (Open ∷ ts) = as_plan (Or FunctionSide ConstantSide) (function_reads inner reads start n ts) (λ a b s. this s)
@@ -59,7 +60,7 @@ is_rule a b (both signed (both (both (spelled ps) signed) (both signed (both (sp
 rule_reads : (inner : Reader) → ReadsInside inner → (ts : List Symbol) → Reads ARule ts (one_rule inner ts)
 unfolding one_rule
 rule_reads inner reads ts = as_plan ARule
-    (next (opening_passes ts) (λ opened. next (enclosed_reads inner reads insides.Patterns opened) (λ ps. next (arrow_passes ps.1) (λ side. made (ended_reads inner reads side) (λ x. done)))))
+    (next (expect_passes marks.Open ts) (λ opened. next (enclosed_reads inner reads insides.Patterns opened) (λ ps. next (expect_passes marks.Arrow ps.1) (λ side. made (ended_reads inner reads side) (λ x. done)))))
     is_rule
 
 -- ---- declarations
@@ -68,7 +69,7 @@ abbrev DeclaredText : Plan
 DeclaredText = Then AText (Sign Semicolon)
 
 declared_text_passes : (ts : List Symbol) → Passes DeclaredText ts (declared_text ts)
-declared_text_passes ts = next (a_text_reads ts) (λ text. semicolon_passes text.1)
+declared_text_passes ts = next (a_text_reads ts) (λ text. expect_passes marks.Semicolon text.1)
 
 declared_for_passes : (ts : List Symbol) → Passes (Or (Then AName DeclaredText) DeclaredText) ts (descent.declared_for ts)
 declared_for_passes (Name n ∷ ts) = as_plan (Or (Then AName DeclaredText) DeclaredText) (behind AName (record { used = Name n ∷ []; whole = refl; spans = λ tail. called }) (declared_text_passes ts)) (λ a b s. this s)

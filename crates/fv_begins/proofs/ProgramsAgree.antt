@@ -11,21 +11,21 @@ use Rattle.fv_grammar.specs.Descent as descent
 use Rattle.fv_grammar.specs.Descent.{Step, ◌>>=◌, Reader, phrase, ended, function_after, constant_after, after_name, definition, one_rule, declared_text, declared_for, declaration, Item, one_of, skip_of, item, further, listed, descend, within}
 use Rattle.fv_grammar.proofs.Loops.{all_of, before, many_one, many_skip, many_done, many_stop}
 use Rattle.fv_begins.proofs.Agreement.{Fork, Same, abreast, past, beyond, remains, BothPass, BothRead, also, given, of_equal, unrolled, Looks, takes, stays_at, looked, looked_among, opens, no_bracket, AgreesInside}
-use Rattle.fv_begins.proofs.PiecesAgree.{opening_both, equals_both, arrow_both, semicolon_both, a_name_both, a_text_both, enclosed_both}
+use Rattle.fv_begins.proofs.PiecesAgree.{expect_both, by_open, by_equals, by_arrow, by_semicolon, a_name_both, a_text_both, enclosed_both}
 use Rattle.fv_begins.proofs.PhrasesAgree.{phrase_both, expression_both}
 
 -- ---- definitions and rules
 ended_both : {k : Fork} {d : ℕ} {inner inner' : Reader} → AgreesInside k (suc d) inner inner' → {ts us : List Symbol} → Same k d ts us → BothRead k d ts (ended inner ts) (ended inner' us)
 unfolding ended
-ended_both inside same = also (expression_both inside same) (λ x y s. also (semicolon_both s) (λ rest rest' s. given s))
+ended_both inside same = also (expression_both inside same) (λ x y s. also (expect_both by_semicolon s) (λ rest rest' s. given s))
 
 function_both : {k : Fork} {d : ℕ} {inner inner' : Reader} → AgreesInside k (suc d) inner inner' → (start start' n : ℕ) {ts us : List Symbol} → Same k (suc d) ts us → BothRead k d ts (function_after inner start n ts) (function_after inner' start' n us)
 unfolding function_after
-function_both inside start start' n same = also (enclosed_both inside insides.Patterns same) (λ ps ps' s. also (equals_both s) (λ side side' s. also (ended_both inside s) (λ x y s. given s)))
+function_both inside start start' n same = also (enclosed_both inside insides.Patterns same) (λ ps ps' s. also (expect_both by_equals s) (λ side side' s. also (ended_both inside s) (λ x y s. given s)))
 
 constant_both : {k : Fork} {d : ℕ} {inner inner' : Reader} → AgreesInside k (suc d) inner inner' → (start start' n : ℕ) {ts us : List Symbol} → Same k d ts us → BothRead k d ts (constant_after inner start n ts) (constant_after inner' start' n us)
 unfolding constant_after
-constant_both inside start start' n same = also (equals_both same) (λ side side' s. also (ended_both inside s) (λ x y s. given s))
+constant_both inside start start' n same = also (expect_both by_equals same) (λ side side' s. also (ended_both inside s) (λ x y s. given s))
 
 name_look : {k : Fork} {d : ℕ} {inner inner' : Reader} → AgreesInside k (suc d) inner inner' → (start start' n : ℕ) (t : Symbol) (ts us : List Symbol)
     → Looks k d d (λ x. x.1) t ts us (after_name inner start n (t ∷ ts)) (after_name inner' start' n (t ∷ us))
@@ -44,16 +44,16 @@ definition_both {inner = inner} {inner' = inner'} inside n {ts = ts} {us = us} s
 
 rule_both : {k : Fork} {d : ℕ} {inner inner' : Reader} → AgreesInside k (suc d) inner inner' → {ts us : List Symbol} → Same k d ts us → BothRead k d ts (one_rule inner ts) (one_rule inner' us)
 unfolding one_rule
-rule_both inside same = also (opening_both same) (λ opened opened' s. also (enclosed_both inside insides.Patterns s) (λ ps ps' s. also (arrow_both s) (λ side side' s. also (ended_both inside s) (λ x y s. given s))))
+rule_both inside same = also (expect_both by_open same) (λ opened opened' s. also (enclosed_both inside insides.Patterns s) (λ ps ps' s. also (expect_both by_arrow s) (λ side side' s. also (ended_both inside s) (λ x y s. given s))))
 
 -- behind the bracket
 rule_behind : {k : Fork} {d : ℕ} {inner inner' : Reader} → AgreesInside k (suc d) inner inner' → {ts us : List Symbol} → Same k (suc d) ts us → BothRead k d ts (one_rule inner (Open ∷ ts)) (one_rule inner' (Open ∷ us))
 unfolding one_rule
-rule_behind inside same = also (enclosed_both inside insides.Patterns same) (λ ps ps' s. also (arrow_both s) (λ side side' s. also (ended_both inside s) (λ x y s. given s)))
+rule_behind inside same = also (enclosed_both inside insides.Patterns same) (λ ps ps' s. also (expect_both by_arrow s) (λ side side' s. also (ended_both inside s) (λ x y s. given s)))
 
 -- ---- declarations
 text_both : {k : Fork} {d : ℕ} {ts us : List Symbol} → Same k d ts us → BothPass k d ts (declared_text ts) (declared_text us)
-text_both same = also (a_text_both same) (λ text text' s. semicolon_both s)
+text_both same = also (a_text_both same) (λ text text' s. expect_both by_semicolon s)
 
 declared_look : {k : Fork} {d : ℕ} (t : Symbol) (ts us : List Symbol) → Looks k d d (λ rest. rest) t ts us (declared_for (t ∷ ts)) (declared_for (t ∷ us))
 declared_look (Name n) ts us = takes _ (no_bracket (λ p n. n)) (λ s. text_both s)

@@ -1,5 +1,5 @@
 -- What is read is spelled.
-use Rattle.std.proofs.Common.{◌≡◌, ℕ, zero, suc, ◌<◌, Bool, true, false, cond, List, [], ◌∷◌, length, drop, Result, Ok, Err, refl, sym, ap, subst, ◌∙◌, arith}
+use Rattle.std.proofs.Common.{◌≡◌, ℕ, zero, suc, ◌<◌, Bool, true, false, cond, List, [], ◌∷◌, length, drop, Result, Ok, Err, refl, sym, ap, ap₂, subst, ◌∙◌, arith}
 use Rattle.std.specs.Prelude.{nat_lt, nat_eq}
 use Rattle.std.proofs.lemmas.Bool.{eqb-true}
 use Rattle.fv_lex.specs.declared.token.Symbol.{Symbol}
@@ -17,11 +17,13 @@ use Rattle.fv_grammar.specs.declared.symbol.Inside.{Inside}
 use Rattle.fv_grammar.specs.declared.symbol.Inside.TheVariants as insides
 use Rattle.fv_grammar.specs.declared.symbol.Items.{Items}
 use Rattle.fv_grammar.specs.declared.symbol.Items.TheVariants.{Statements, Definitions, Rules, Parts}
-use Rattle.fv_grammar.specs.Symbols.{head, rank, operator, is_left}
+use Rattle.fv_grammar.specs.declared.symbol.Mark.{Mark}
+use Rattle.fv_grammar.specs.declared.symbol.Mark.TheVariants as marks
+use Rattle.fv_grammar.specs.Symbols.{head, rank, operator, is_left, sign, is_mark}
 use Rattle.fv_grammar.specs.Tree.{Tree, Number, Negative, Named, MinusNamed, Wire, Cut, Primitive, Group, Abstraction, Case, Iteration, Ports, Switch, Slider, Panel, Delayed, Binary, Where, Rule, Constant, Function, End, More}
 use Rattle.fv_grammar.specs.Grammar.{Level, Further, Definition, Expression, Listed, OneRule, Phrase, Postfix, Primary, Atom, SpellsNames, one_name, more_names, Spells, SpellsProgram, no_more, stated, declared, declared_for, defined, ruled, parted, first_rule, first_part, constant, function, rule, plain, qualified, tighter, leftward, rightward, operand, pattern_operand, bare, delayed, applied, number, plus_number, minus_number, minus_name, named, wire, cut, plus, minus, primitive, grouped, abstracted, cased, iterated, ported, switched, slid, paneled, atom_number, atom_plus_number, atom_minus_number, atom_name, atom_grouped}
 use Rattle.fv_grammar.specs.Descent as descent
-use Rattle.fv_grammar.specs.Descent.{Step, ◌>>=◌, Turn, Done, Next, Stop, turn, after, turns, run, rights, chain, Reader, rank_at, operator_at, opening, close, open_brace, close_brace, comma, equals, arrow, semicolon, dot, a_name, a_text, at_comma, names, name_list, enclosed, argument, group, abstraction, case_of, iteration, ports, switch, label, slider, panel, by_head, primary, postfix, postfix_turn, atom_by_head, atom, phrase, left_turn, expression, with_turn, ended, function_after, constant_after, after_name, definition, one_rule, declared_text, declaration, Item, Nothing, Skip, One, Fault, one_of, item, with_item, many, further, first_item, listed, within, program, whole_text}
+use Rattle.fv_grammar.specs.Descent.{Step, ◌>>=◌, Turn, Done, Next, Stop, turn, after, turns, run, rights, chain, Reader, rank_at, operator_at, expect, a_name, a_text, at_comma, names, name_list, enclosed, argument, group, abstraction, case_of, iteration, ports, switch, label, slider, panel, by_head, primary, postfix, postfix_turn, atom_by_head, atom, phrase, left_turn, expression, with_turn, ended, function_after, constant_after, after_name, definition, one_rule, declared_text, declaration, Item, Nothing, Skip, One, Fault, one_of, item, with_item, many, further, first_item, listed, within, program, whole_text}
 
 -- the level of what stands in brackets
 abbrev pub level_of : Inside → Level
@@ -63,50 +65,26 @@ moved : (level : Level) (ts : List Symbol) (x y : Tree) (a b : List Symbol) → 
 moved level ts x y a b t e = let p = read_as x y a b e in subst (λ r. Spells level ts y r) p.1 (subst (λ z. Spells level ts z a) p.0 t)
 
 -- ---- single tokens
-pub opening_ok : (ts rest : List Symbol) → opening ts ≡ Ok rest → ts ≡ Open ∷ rest
-opening_ok (Open ∷ ts) rest e = let p : ts ≡ rest = cc in ap (λ r. Open ∷ r) p
-opening_ok [] rest e = absurd cc
-opening_ok (t ∷ ts) rest e = absurd cc
+pub is_mark_sign : (m : Mark) (t : Symbol) → is_mark m t ≡ true → t ≡ sign m
+is_mark_sign marks.Open symbols.Open e = refl
+is_mark_sign marks.Close symbols.Close e = refl
+is_mark_sign marks.OpenBrace symbols.OpenBrace e = refl
+is_mark_sign marks.CloseBrace symbols.CloseBrace e = refl
+is_mark_sign marks.Comma symbols.Comma e = refl
+is_mark_sign marks.Equals symbols.Equals e = refl
+is_mark_sign marks.Arrow symbols.Arrow e = refl
+is_mark_sign marks.Semicolon symbols.Semicolon e = refl
+is_mark_sign marks.Dot symbols.Dot e = refl
+is_mark_sign m t e = absurd cc
 
-pub close_ok : (ts rest : List Symbol) → close ts ≡ Ok rest → ts ≡ Close ∷ rest
-close_ok (Close ∷ ts) rest e = let p : ts ≡ rest = cc in ap (λ r. Close ∷ r) p
-close_ok [] rest e = absurd cc
-close_ok (t ∷ ts) rest e = absurd cc
-
-pub open_brace_ok : (ts rest : List Symbol) → open_brace ts ≡ Ok rest → ts ≡ OpenBrace ∷ rest
-open_brace_ok (OpenBrace ∷ ts) rest e = let p : ts ≡ rest = cc in ap (λ r. OpenBrace ∷ r) p
-open_brace_ok [] rest e = absurd cc
-open_brace_ok (t ∷ ts) rest e = absurd cc
-
-pub close_brace_ok : (ts rest : List Symbol) → close_brace ts ≡ Ok rest → ts ≡ CloseBrace ∷ rest
-close_brace_ok (CloseBrace ∷ ts) rest e = let p : ts ≡ rest = cc in ap (λ r. CloseBrace ∷ r) p
-close_brace_ok [] rest e = absurd cc
-close_brace_ok (t ∷ ts) rest e = absurd cc
-
-pub comma_ok : (ts rest : List Symbol) → comma ts ≡ Ok rest → ts ≡ Comma ∷ rest
-comma_ok (Comma ∷ ts) rest e = let p : ts ≡ rest = cc in ap (λ r. Comma ∷ r) p
-comma_ok [] rest e = absurd cc
-comma_ok (t ∷ ts) rest e = absurd cc
-
-pub equals_ok : (ts rest : List Symbol) → equals ts ≡ Ok rest → ts ≡ Equals ∷ rest
-equals_ok (Equals ∷ ts) rest e = let p : ts ≡ rest = cc in ap (λ r. Equals ∷ r) p
-equals_ok [] rest e = absurd cc
-equals_ok (t ∷ ts) rest e = absurd cc
-
-pub arrow_ok : (ts rest : List Symbol) → arrow ts ≡ Ok rest → ts ≡ Arrow ∷ rest
-arrow_ok (Arrow ∷ ts) rest e = let p : ts ≡ rest = cc in ap (λ r. Arrow ∷ r) p
-arrow_ok [] rest e = absurd cc
-arrow_ok (t ∷ ts) rest e = absurd cc
-
-pub semicolon_ok : (ts rest : List Symbol) → semicolon ts ≡ Ok rest → ts ≡ Semicolon ∷ rest
-semicolon_ok (Semicolon ∷ ts) rest e = let p : ts ≡ rest = cc in ap (λ r. Semicolon ∷ r) p
-semicolon_ok [] rest e = absurd cc
-semicolon_ok (t ∷ ts) rest e = absurd cc
-
-pub dot_ok : (ts rest : List Symbol) → dot ts ≡ Ok rest → ts ≡ Dot ∷ rest
-dot_ok (Dot ∷ ts) rest e = let p : ts ≡ rest = cc in ap (λ r. Dot ∷ r) p
-dot_ok [] rest e = absurd cc
-dot_ok (t ∷ ts) rest e = absurd cc
+-- a mark is what it is
+pub expect_ok : (m : Mark) (ts rest : List Symbol) → expect m ts ≡ Ok rest → ts ≡ sign m ∷ rest
+expect_ok m [] rest e = absurd cc
+expect_ok m (t ∷ ts) rest e = go (is_mark m t) refl e
+  where
+    go : (b : Bool) → is_mark m t ≡ b → cond b (Ok ts) (Err (t ∷ ts)) ≡ Ok rest → t ∷ ts ≡ sign m ∷ rest
+    go true is e = let p : ts ≡ rest = cc in ap₂ ◌∷◌ (is_mark_sign m t is) p
+    go false is e = absurd cc
 
 pub a_name_ok : (ts : List Symbol) (n : ℕ) (rest : List Symbol) → a_name ts ≡ Ok (n, rest) → ts ≡ Name n ∷ rest
 a_name_ok (Name m ∷ ts) n rest e = let p = read_as m n ts rest e in cc (p.0, p.1)
@@ -160,7 +138,7 @@ enclosed_sound inner what sound ts x rest e =
     let (end, closed, done) = bind_ok _ _ _ then in
     let same = read_as z.0 x end rest done in
     let inside : Spells (level_of what) ts z.0 z.1 = sound what ts z.0 z.1 was in
-    subst (λ y. Spells (level_of what) ts y (Close ∷ rest)) same.0 (subst (λ r. Spells (level_of what) ts z.0 r) (close_ok z.1 end closed ∙ ap (λ r. Close ∷ r) same.1) inside)
+    subst (λ y. Spells (level_of what) ts y (Close ∷ rest)) same.0 (subst (λ r. Spells (level_of what) ts z.0 r) (expect_ok marks.Close z.1 end closed ∙ ap (λ r. Close ∷ r) same.1) inside)
 
 argument_sound : (inner : Reader) → IsSoundInside inner → (ts : List Symbol) (x : Tree) (rest : List Symbol) → argument inner ts ≡ Ok (x, rest) → Spells (Phrase false false 8) ts x (Comma ∷ rest)
 argument_sound inner sound ts x rest e =
@@ -168,7 +146,7 @@ argument_sound inner sound ts x rest e =
     let (end, closed, done) = bind_ok _ _ _ then in
     let same = read_as z.0 x end rest done in
     let inside : Spells (Phrase false false 8) ts z.0 z.1 = sound insides.Argument ts z.0 z.1 was in
-    subst (λ y. Spells (Phrase false false 8) ts y (Comma ∷ rest)) same.0 (subst (λ r. Spells (Phrase false false 8) ts z.0 r) (comma_ok z.1 end closed ∙ ap (λ r. Comma ∷ r) same.1) inside)
+    subst (λ y. Spells (Phrase false false 8) ts y (Comma ∷ rest)) same.0 (subst (λ r. Spells (Phrase false false 8) ts z.0 r) (expect_ok marks.Comma z.1 end closed ∙ ap (λ r. Comma ∷ r) same.1) inside)
 
 -- ---- names
 pub names_sound : (k : ℕ) (ts : List Symbol) (ns : List ℕ) (rest : List Symbol) → names k ts ≡ Ok (ns, rest) → SpellsNames ts ns rest
@@ -208,11 +186,11 @@ abstraction_sound inner sound ts x rest e =
     let (dotted, d, e4) = bind_ok _ _ _ e3 in
     let (again, g, e5) = bind_ok _ _ _ e4 in
     let (z, was, done) = bind_ok _ _ _ e5 in
-    let behind : ns.1 ≡ Close ∷ Dot ∷ Open ∷ again = close_ok ns.1 closed c ∙ ap (λ r. Close ∷ r) (dot_ok closed dotted d ∙ ap (λ r. Dot ∷ r) (opening_ok dotted again g)) in
+    let behind : ns.1 ≡ Close ∷ Dot ∷ Open ∷ again = expect_ok marks.Close ns.1 closed c ∙ ap (λ r. Close ∷ r) (expect_ok marks.Dot closed dotted d ∙ ap (λ r. Dot ∷ r) (expect_ok marks.Open dotted again g)) in
     let front : SpellsNames opened ns.0 (Close ∷ Dot ∷ Open ∷ again) = subst (λ r. SpellsNames opened ns.0 r) behind (names_sound (suc (length opened)) opened ns.0 ns.1 read) in
     let all : Spells Primary (symbols.Backslash ∷ Open ∷ opened) (Abstraction (length (symbols.Backslash ∷ Open ∷ opened)) ns.0 z.0) z.1 = abstracted front (enclosed_sound inner insides.Expression sound again z.0 z.1 was) in
     moved Primary (symbols.Backslash ∷ ts) (Abstraction (length (symbols.Backslash ∷ ts)) ns.0 z.0) x z.1 rest
-    (subst (λ l. Spells Primary (symbols.Backslash ∷ l) (Abstraction (length (symbols.Backslash ∷ l)) ns.0 z.0) z.1) (sym (opening_ok ts opened o)) all) done
+    (subst (λ l. Spells Primary (symbols.Backslash ∷ l) (Abstraction (length (symbols.Backslash ∷ l)) ns.0 z.0) z.1) (sym (expect_ok marks.Open ts opened o)) all) done
 
 case_sound : (inner : Reader) → IsSoundInside inner → (ts : List Symbol) (x : Tree) (rest : List Symbol) → case_of inner (length (symbols.Case ∷ ts)) ts ≡ Ok (x, rest) → Spells Primary (symbols.Case ∷ ts) x rest
 unfolding case_of
@@ -220,10 +198,10 @@ case_sound inner sound ts x rest e =
     let (opened, o, e1) = bind_ok _ _ _ e in
     let (z, was, e2) = bind_ok _ _ _ e1 in
     let (closed, c, done) = bind_ok _ _ _ e2 in
-    let inside : Spells (Listed Rules) opened z.0 (CloseBrace ∷ closed) = subst (λ r. Spells (Listed Rules) opened z.0 r) (close_brace_ok z.1 closed c) (sound insides.Rules opened z.0 z.1 was) in
+    let inside : Spells (Listed Rules) opened z.0 (CloseBrace ∷ closed) = subst (λ r. Spells (Listed Rules) opened z.0 r) (expect_ok marks.CloseBrace z.1 closed c) (sound insides.Rules opened z.0 z.1 was) in
     let all : Spells Primary (symbols.Case ∷ OpenBrace ∷ opened) (Case (length (symbols.Case ∷ OpenBrace ∷ opened)) z.0) closed = cased inside in
     moved Primary (symbols.Case ∷ ts) (Case (length (symbols.Case ∷ ts)) z.0) x closed rest
-    (subst (λ l. Spells Primary (symbols.Case ∷ l) (Case (length (symbols.Case ∷ l)) z.0) closed) (sym (open_brace_ok ts opened o)) all) done
+    (subst (λ l. Spells Primary (symbols.Case ∷ l) (Case (length (symbols.Case ∷ l)) z.0) closed) (sym (expect_ok marks.OpenBrace ts opened o)) all) done
 
 iteration_sound : (inner : Reader) → IsSoundInside inner → (t : Symbol) (i : Repetition) → head t ≡ heads.Iteration i → (ts : List Symbol) (x : Tree) (rest : List Symbol)
     → iteration inner (length (t ∷ ts)) i ts ≡ Ok (x, rest) → Spells Primary (t ∷ ts) x rest
@@ -234,7 +212,7 @@ iteration_sound inner sound t i h ts x rest e =
     let (after_comma, c, e3) = bind_ok _ _ _ e2 in
     let (count, counted, e4) = bind_ok _ _ _ e3 in
     let (body, was, done) = bind_ok _ _ _ e4 in
-    let front : ts ≡ Open ∷ Name n.0 ∷ Comma ∷ after_comma = opening_ok ts opened o ∙ ap (λ r. Open ∷ r) (a_name_ok opened n.0 n.1 named_ ∙ ap (λ r. Name n.0 ∷ r) (comma_ok n.1 after_comma c)) in
+    let front : ts ≡ Open ∷ Name n.0 ∷ Comma ∷ after_comma = expect_ok marks.Open ts opened o ∙ ap (λ r. Open ∷ r) (a_name_ok opened n.0 n.1 named_ ∙ ap (λ r. Name n.0 ∷ r) (expect_ok marks.Comma n.1 after_comma c)) in
     let all : Spells Primary (t ∷ Open ∷ Name n.0 ∷ Comma ∷ after_comma) (Iteration (length (t ∷ Open ∷ Name n.0 ∷ Comma ∷ after_comma)) i n.0 count.0 body.0) body.1 =
     iterated t i h (argument_sound inner sound after_comma count.0 count.1 counted) (enclosed_sound inner insides.Expression sound count.1 body.0 body.1 was) in
     moved Primary (t ∷ ts) (Iteration (length (t ∷ ts)) i n.0 count.0 body.0) x body.1 rest
@@ -248,7 +226,7 @@ ports_sound inner sound t s h ts x rest e =
     let (z, was, done) = bind_ok _ _ _ e1 in
     let all : Spells Primary (t ∷ Open ∷ opened) (Ports (length (t ∷ Open ∷ opened)) s z.0) z.1 = ported t s h (enclosed_sound inner insides.Expression sound opened z.0 z.1 was) in
     moved Primary (t ∷ ts) (Ports (length (t ∷ ts)) s z.0) x z.1 rest
-    (subst (λ l. Spells Primary (t ∷ l) (Ports (length (t ∷ l)) s z.0) z.1) (sym (opening_ok ts opened o)) all) done
+    (subst (λ l. Spells Primary (t ∷ l) (Ports (length (t ∷ l)) s z.0) z.1) (sym (expect_ok marks.Open ts opened o)) all) done
 
 switch_sound : (t : Symbol) (k : SwitchKind) → head t ≡ heads.Switch k → (ts : List Symbol) (x : Tree) (rest : List Symbol) → switch (length (t ∷ ts)) k ts ≡ Ok (x, rest) → Spells Primary (t ∷ ts) x rest
 unfolding switch
@@ -256,7 +234,7 @@ switch_sound t k h ts x rest e =
     let (opened, o, e1) = bind_ok _ _ _ e in
     let (text, texted, e2) = bind_ok _ _ _ e1 in
     let (closed, c, done) = bind_ok _ _ _ e2 in
-    let front : ts ≡ Open ∷ Text text.0 ∷ Close ∷ closed = opening_ok ts opened o ∙ ap (λ r. Open ∷ r) (a_text_ok opened text.0 text.1 texted ∙ ap (λ r. Text text.0 ∷ r) (close_ok text.1 closed c)) in
+    let front : ts ≡ Open ∷ Text text.0 ∷ Close ∷ closed = expect_ok marks.Open ts opened o ∙ ap (λ r. Open ∷ r) (a_text_ok opened text.0 text.1 texted ∙ ap (λ r. Text text.0 ∷ r) (expect_ok marks.Close text.1 closed c)) in
     let all : Spells Primary (t ∷ Open ∷ Text text.0 ∷ Close ∷ closed) (Switch (length (t ∷ Open ∷ Text text.0 ∷ Close ∷ closed)) k text.0) closed = switched t k h in
     moved Primary (t ∷ ts) (Switch (length (t ∷ ts)) k text.0) x closed rest
     (subst (λ l. Spells Primary (t ∷ l) (Switch (length (t ∷ l)) k text.0) closed) (sym front) all) done
@@ -268,7 +246,7 @@ label_ok ts s rest e =
     let (text, texted, e2) = bind_ok _ _ _ e1 in
     let (end, c, done) = bind_ok _ _ _ e2 in
     let same = read_as text.0 s end rest done in
-    opening_ok ts opened o ∙ ap (λ r. Open ∷ r) (a_text_ok opened text.0 text.1 texted ∙ ap (λ n. Text n ∷ text.1) same.0 ∙ ap (λ r. Text s ∷ r) (comma_ok text.1 end c ∙ ap (λ r. Comma ∷ r) same.1))
+    expect_ok marks.Open ts opened o ∙ ap (λ r. Open ∷ r) (a_text_ok opened text.0 text.1 texted ∙ ap (λ n. Text n ∷ text.1) same.0 ∙ ap (λ r. Text s ∷ r) (expect_ok marks.Comma text.1 end c ∙ ap (λ r. Comma ∷ r) same.1))
 
 slider_sound : (inner : Reader) → IsSoundInside inner → (t : Symbol) (k : SliderKind) → head t ≡ heads.Slider k → (ts : List Symbol) (x : Tree) (rest : List Symbol)
     → slider inner (length (t ∷ ts)) k ts ≡ Ok (x, rest) → Spells Primary (t ∷ ts) x rest
@@ -481,9 +459,9 @@ with_step inner sound all x (With ∷ ts) y rest p e =
     let (w, read, e2) = bind_ok _ _ _ e1 in
     let (closed, c, end) = bind_ok _ _ _ e2 in
     let same = read_as w.0 z closed rest end in
-    let inside : Spells (Further Definitions) opened w.0 (CloseBrace ∷ rest) = subst (λ r. Spells (Further Definitions) opened w.0 r) (close_brace_ok w.1 closed c ∙ ap (λ r. CloseBrace ∷ r) same.1) (sound insides.Definitions opened w.0 w.1 read) in
+    let inside : Spells (Further Definitions) opened w.0 (CloseBrace ∷ rest) = subst (λ r. Spells (Further Definitions) opened w.0 r) (expect_ok marks.CloseBrace w.1 closed c ∙ ap (λ r. CloseBrace ∷ r) same.1) (sound insides.Definitions opened w.0 w.1 read) in
     subst (λ q. Spells Expression all q rest) (ap (λ q. Where (length all) x q) same.0 ∙ tree)
-    (qualified (subst (λ r. Spells Expression all x (With ∷ r)) (open_brace_ok ts opened o) p) inside)
+    (qualified (subst (λ r. Spells Expression all x (With ∷ r)) (expect_ok marks.OpenBrace ts opened o) p) inside)
 with_step inner sound all x (t ∷ ts) y rest p e = absurd cc
 
 expression_sound : (inner : Reader) → IsSoundInside inner → IsSound Expression (expression inner)
@@ -499,7 +477,7 @@ ended_sound inner sound ts x rest e =
     let (z, was, then) = bind_ok _ _ _ e in
     let (end, c, done) = bind_ok _ _ _ then in
     let same = read_as z.0 x end rest done in
-    subst (λ y. Spells Expression ts y (Semicolon ∷ rest)) same.0 (subst (λ r. Spells Expression ts z.0 r) (semicolon_ok z.1 end c ∙ ap (λ r. Semicolon ∷ r) same.1) (expression_sound inner sound ts z.0 z.1 was))
+    subst (λ y. Spells Expression ts y (Semicolon ∷ rest)) same.0 (subst (λ r. Spells Expression ts z.0 r) (expect_ok marks.Semicolon z.1 end c ∙ ap (λ r. Semicolon ∷ r) same.1) (expression_sound inner sound ts z.0 z.1 was))
 
 -- ---- definitions and rules
 function_sound : (inner : Reader) → IsSoundInside inner → (n : ℕ) (ts : List Symbol) (x : Tree) (rest : List Symbol) → function_after inner (length (Name n ∷ Open ∷ ts)) n ts ≡ Ok (x, rest) → Spells Definition (Name n ∷ Open ∷ ts) x rest
@@ -508,7 +486,7 @@ function_sound inner sound n ts x rest e =
     let (ps, was, e1) = bind_ok _ _ _ e in
     let (side, signed, e2) = bind_ok _ _ _ e1 in
     let (z, read, done) = bind_ok _ _ _ e2 in
-    let front : Spells (Listed (Parts true)) ts ps.0 (Close ∷ Equals ∷ side) = subst (λ r. Spells (Listed (Parts true)) ts ps.0 (Close ∷ r)) (equals_ok ps.1 side signed) (enclosed_sound inner insides.Patterns sound ts ps.0 ps.1 was) in
+    let front : Spells (Listed (Parts true)) ts ps.0 (Close ∷ Equals ∷ side) = subst (λ r. Spells (Listed (Parts true)) ts ps.0 (Close ∷ r)) (expect_ok marks.Equals ps.1 side signed) (enclosed_sound inner insides.Patterns sound ts ps.0 ps.1 was) in
     moved Definition (Name n ∷ Open ∷ ts) (Function (length (Name n ∷ Open ∷ ts)) n ps.0 z.0) x z.1 rest (function front (ended_sound inner sound side z.0 z.1 read)) done
 
 constant_sound : (inner : Reader) → IsSoundInside inner → (n : ℕ) (ts : List Symbol) (x : Tree) (rest : List Symbol) → constant_after inner (length (Name n ∷ ts)) n ts ≡ Ok (x, rest) → Spells Definition (Name n ∷ ts) x rest
@@ -518,7 +496,7 @@ constant_sound inner sound n ts x rest e =
     let (z, read, done) = bind_ok _ _ _ e2 in
     let all : Spells Definition (Name n ∷ Equals ∷ side) (Constant (length (Name n ∷ Equals ∷ side)) n z.0) z.1 = constant (ended_sound inner sound side z.0 z.1 read) in
     moved Definition (Name n ∷ ts) (Constant (length (Name n ∷ ts)) n z.0) x z.1 rest
-    (subst (λ l. Spells Definition (Name n ∷ l) (Constant (length (Name n ∷ l)) n z.0) z.1) (sym (equals_ok ts side signed)) all) done
+    (subst (λ l. Spells Definition (Name n ∷ l) (Constant (length (Name n ∷ l)) n z.0) z.1) (sym (expect_ok marks.Equals ts side signed)) all) done
 
 after_name_sound : (inner : Reader) → IsSoundInside inner → (n : ℕ) (ts : List Symbol) (x : Tree) (rest : List Symbol) → after_name inner (length (Name n ∷ ts)) n ts ≡ Ok (x, rest) → Spells Definition (Name n ∷ ts) x rest
 after_name_sound inner sound n (Open ∷ ts) x rest e = function_sound inner sound n ts x rest e
@@ -540,9 +518,9 @@ rule_sound inner sound ts x rest e =
     let (ps, was, e1) = bind_ok _ _ _ e0 in
     let (side, signed, e2) = bind_ok _ _ _ e1 in
     let (z, read, done) = bind_ok _ _ _ e2 in
-    let front : Spells (Listed (Parts true)) opened ps.0 (Close ∷ Arrow ∷ side) = subst (λ r. Spells (Listed (Parts true)) opened ps.0 (Close ∷ r)) (arrow_ok ps.1 side signed) (enclosed_sound inner insides.Patterns sound opened ps.0 ps.1 was) in
+    let front : Spells (Listed (Parts true)) opened ps.0 (Close ∷ Arrow ∷ side) = subst (λ r. Spells (Listed (Parts true)) opened ps.0 (Close ∷ r)) (expect_ok marks.Arrow ps.1 side signed) (enclosed_sound inner insides.Patterns sound opened ps.0 ps.1 was) in
     let all : Spells OneRule (Open ∷ opened) (Rule (length (Open ∷ opened)) ps.0 z.0) z.1 = rule front (ended_sound inner sound side z.0 z.1 read) in
-    moved OneRule ts (Rule (length ts) ps.0 z.0) x z.1 rest (subst (λ l. Spells OneRule l (Rule (length l) ps.0 z.0) z.1) (sym (opening_ok ts opened o)) all) done
+    moved OneRule ts (Rule (length ts) ps.0 z.0) x z.1 rest (subst (λ l. Spells OneRule l (Rule (length l) ps.0 z.0) z.1) (sym (expect_ok marks.Open ts opened o)) all) done
 
 -- ---- lists
 -- What further stands in a list is what one production puts in front of the others.
@@ -589,7 +567,7 @@ item_adds inner sound (Parts pattern) (t ∷ ts) x mid e = absurd cc
 declared_text_ok : (ts rest : List Symbol) → declared_text ts ≡ Ok rest → (s : ℕ) × (ts ≡ Text s ∷ Semicolon ∷ rest)
 declared_text_ok ts rest e =
     let (text, was, then) = bind_ok _ _ _ e in
-    (text.0, a_text_ok ts text.0 text.1 was ∙ ap (λ r. Text text.0 ∷ r) (semicolon_ok text.1 rest then))
+    (text.0, a_text_ok ts text.0 text.1 was ∙ ap (λ r. Text text.0 ∷ r) (expect_ok marks.Semicolon text.1 rest then))
 
 declared_for_passes : (n : ℕ) (ts mid : List Symbol) → descent.declared_for ts ≡ Ok mid → Passes Statements (Declare ∷ Name n ∷ ts) mid
 declared_for_passes n (Name m ∷ ts) mid e =

@@ -1,7 +1,7 @@
 -- Reading from left to right, with one token of lookahead, down to a number of open brackets.
 use Rattle.std.specs.Prelude.{ℕ, zero, suc, Bool, true, false, nat_lt, nat_eq, List, [], ◌∷◌, length, drop, Result, Ok, Err, if◌then◌else◌}
 use Rattle.fv_lex.specs.declared.token.Symbol.{Symbol}
-use Rattle.fv_lex.specs.declared.token.Symbol.TheVariants.{Name, Text, Integer, Comma, Open, Close, OpenBrace, CloseBrace, Equals, Arrow, Semicolon, Dot, Declare, With, Tick}
+use Rattle.fv_lex.specs.declared.token.Symbol.TheVariants.{Name, Text, Integer, Comma, Open, Declare, With, Tick}
 use Rattle.fv_grammar.specs.declared.form.Primitive.TheVariants as primitives
 use Rattle.fv_grammar.specs.declared.form.Operator.{Operator}
 use Rattle.fv_grammar.specs.declared.form.Operator.TheVariants as operators
@@ -16,7 +16,9 @@ use Rattle.fv_grammar.specs.declared.symbol.Inside.{Inside}
 use Rattle.fv_grammar.specs.declared.symbol.Inside.TheVariants as insides
 use Rattle.fv_grammar.specs.declared.symbol.Items.{Items}
 use Rattle.fv_grammar.specs.declared.symbol.Items.TheVariants.{Statements, Definitions, Rules, Parts}
-use Rattle.fv_grammar.specs.Symbols.{head, rank, operator, is_left}
+use Rattle.fv_grammar.specs.declared.symbol.Mark.{Mark}
+use Rattle.fv_grammar.specs.declared.symbol.Mark.TheVariants as marks
+use Rattle.fv_grammar.specs.Symbols.{head, rank, operator, is_left, is_mark}
 use Rattle.fv_grammar.specs.Tree.{Tree, Number, Negative, Named, MinusNamed, Wire, Cut, Primitive, Group, Abstraction, Case, Iteration, Ports, Switch, Slider, Panel, Delayed, Apply, Binary, Where, Rule, Constant, Function, End, More}
 
 -- A step gives a value and the tokens after it, or the tokens from the first that does not fit.
@@ -41,41 +43,10 @@ operator_at [] = operators.Sequence
 operator_at (t ∷ ts) = operator t
 
 -- ---- single tokens
-abbrev pub opening : List Symbol → Result (List Symbol) (List Symbol)
-opening (Open ∷ ts) = Ok ts
-opening ts = Err ts
-
-abbrev pub close : List Symbol → Result (List Symbol) (List Symbol)
-close (Close ∷ ts) = Ok ts
-close ts = Err ts
-
-abbrev pub open_brace : List Symbol → Result (List Symbol) (List Symbol)
-open_brace (OpenBrace ∷ ts) = Ok ts
-open_brace ts = Err ts
-
-abbrev pub close_brace : List Symbol → Result (List Symbol) (List Symbol)
-close_brace (CloseBrace ∷ ts) = Ok ts
-close_brace ts = Err ts
-
-abbrev pub comma : List Symbol → Result (List Symbol) (List Symbol)
-comma (Comma ∷ ts) = Ok ts
-comma ts = Err ts
-
-abbrev pub equals : List Symbol → Result (List Symbol) (List Symbol)
-equals (Equals ∷ ts) = Ok ts
-equals ts = Err ts
-
-abbrev pub arrow : List Symbol → Result (List Symbol) (List Symbol)
-arrow (Arrow ∷ ts) = Ok ts
-arrow ts = Err ts
-
-abbrev pub semicolon : List Symbol → Result (List Symbol) (List Symbol)
-semicolon (Semicolon ∷ ts) = Ok ts
-semicolon ts = Err ts
-
-abbrev pub dot : List Symbol → Result (List Symbol) (List Symbol)
-dot (Dot ∷ ts) = Ok ts
-dot ts = Err ts
+-- this mark, and what stands behind it
+abbrev pub expect : Mark → List Symbol → Result (List Symbol) (List Symbol)
+expect m [] = Err []
+expect m (t ∷ ts) = if is_mark m t then Ok ts else Err (t ∷ ts)
 
 abbrev pub a_name : List Symbol → Step ℕ
 a_name (Name n ∷ ts) = Ok (n, ts)
@@ -130,14 +101,14 @@ name_list ts = names (suc (length ts)) ts
 abbrev pub enclosed : Reader → Inside → List Symbol → Step Tree
 enclosed inner what ts = do
   x ← inner what ts
-  rest ← close x.1
+  rest ← expect marks.Close x.1
   Ok (x.0, rest)
 
 -- an argument, with the comma behind it
 abbrev pub argument : Reader → List Symbol → Step Tree
 argument inner ts = do
   x ← inner insides.Argument ts
-  rest ← comma x.1
+  rest ← expect marks.Comma x.1
   Ok (x.0, rest)
 
 -- ---- primary
@@ -157,49 +128,49 @@ group inner start ts = do
 
 unfoldable pub abstraction : Reader → ℕ → List Symbol → Step Tree
 abstraction inner start ts = do
-  opened ← opening ts
+  opened ← expect marks.Open ts
   ns ← name_list opened
-  closed ← close ns.1
-  dotted ← dot closed
-  again ← opening dotted
+  closed ← expect marks.Close ns.1
+  dotted ← expect marks.Dot closed
+  again ← expect marks.Open dotted
   x ← enclosed inner insides.Expression again
   Ok (Abstraction start ns.0 x.0, x.1)
 
 unfoldable pub case_of : Reader → ℕ → List Symbol → Step Tree
 case_of inner start ts = do
-  opened ← open_brace ts
+  opened ← expect marks.OpenBrace ts
   x ← inner insides.Rules opened
-  rest ← close_brace x.1
+  rest ← expect marks.CloseBrace x.1
   Ok (Case start x.0, rest)
 
 unfoldable pub iteration : Reader → ℕ → Repetition → List Symbol → Step Tree
 iteration inner start i ts = do
-  opened ← opening ts
+  opened ← expect marks.Open ts
   n ← a_name opened
-  rest ← comma n.1
+  rest ← expect marks.Comma n.1
   x ← argument inner rest
   y ← enclosed inner insides.Expression x.1
   Ok (Iteration start i n.0 x.0 y.0, y.1)
 
 unfoldable pub ports : Reader → ℕ → Side → List Symbol → Step Tree
 ports inner start side ts = do
-  opened ← opening ts
+  opened ← expect marks.Open ts
   x ← enclosed inner insides.Expression opened
   Ok (Ports start side x.0, x.1)
 
 unfoldable pub switch : ℕ → SwitchKind → List Symbol → Step Tree
 switch start kind ts = do
-  opened ← opening ts
+  opened ← expect marks.Open ts
   label ← a_text opened
-  rest ← close label.1
+  rest ← expect marks.Close label.1
   Ok (Switch start kind label.0, rest)
 
 -- "(" string ","
 unfoldable pub label : List Symbol → Step ℕ
 label ts = do
-  opened ← opening ts
+  opened ← expect marks.Open ts
   text ← a_text opened
-  rest ← comma text.1
+  rest ← expect marks.Comma text.1
   Ok (text.0, rest)
 
 unfoldable pub slider : Reader → ℕ → SliderKind → List Symbol → Step Tree
@@ -309,7 +280,7 @@ at_with (With ∷ ts) = true
 at_with (t ∷ ts) = false
 
 abbrev pub with_part : Reader → ℕ → Tree → List Symbol → Turn
-with_part inner start x ts = turn (open_brace ts >>= λ rest. (inner insides.Definitions rest >>= λ y. (close_brace y.1 >>= λ end. Ok (y.0, end)))) (λ y. Where start x y)
+with_part inner start x ts = turn (expect marks.OpenBrace ts >>= λ rest. (inner insides.Definitions rest >>= λ y. (expect marks.CloseBrace y.1 >>= λ end. Ok (y.0, end)))) (λ y. Where start x y)
 
 abbrev pub with_turn : Reader → ℕ → Tree → List Symbol → Turn
 with_turn inner start x [] = Done
@@ -324,19 +295,19 @@ expression inner ts = phrase inner false true 8 ts >>= λ x. run (with_turn inne
 unfoldable pub ended : Reader → List Symbol → Step Tree
 ended inner ts = do
   x ← expression inner ts
-  rest ← semicolon x.1
+  rest ← expect marks.Semicolon x.1
   Ok (x.0, rest)
 
 unfoldable pub function_after : Reader → ℕ → ℕ → List Symbol → Step Tree
 function_after inner start n ts = do
   ps ← enclosed inner insides.Patterns ts
-  side ← equals ps.1
+  side ← expect marks.Equals ps.1
   x ← ended inner side
   Ok (Function start n ps.0 x.0, x.1)
 
 unfoldable pub constant_after : Reader → ℕ → ℕ → List Symbol → Step Tree
 constant_after inner start n ts = do
-  side ← equals ts
+  side ← expect marks.Equals ts
   x ← ended inner side
   Ok (Constant start n x.0, x.1)
 
@@ -349,15 +320,15 @@ definition inner ts = a_name ts >>= λ n. after_name inner (length ts) n.0 n.1
 
 unfoldable pub one_rule : Reader → List Symbol → Step Tree
 one_rule inner ts = do
-  opened ← opening ts
+  opened ← expect marks.Open ts
   ps ← enclosed inner insides.Patterns opened
-  side ← arrow ps.1
+  side ← expect marks.Arrow ps.1
   x ← ended inner side
   Ok (Rule (length ts) ps.0 x.0, x.1)
 
 -- what follows "declare"
 abbrev pub declared_text : List Symbol → Result (List Symbol) (List Symbol)
-declared_text ts = a_text ts >>= λ text. semicolon text.1
+declared_text ts = a_text ts >>= λ text. expect marks.Semicolon text.1
 
 abbrev pub declared_for : List Symbol → Result (List Symbol) (List Symbol)
 declared_for (Name n ∷ ts) = declared_text ts

@@ -4,3 +4,4 @@ pub mod Grammar
 pub mod Nesting
 pub mod Descent
 pub mod Laws
+pub mod Examples

@@ -12,6 +12,8 @@ use Rattle.fv_grammar.specs.declared.form.Slider.TheVariants as sliders
 use Rattle.fv_grammar.specs.declared.form.Panel.TheVariants as panels
 use Rattle.fv_grammar.specs.declared.symbol.Head.{Head}
 use Rattle.fv_grammar.specs.declared.symbol.Head.TheVariants as heads
+use Rattle.fv_grammar.specs.declared.symbol.Mark.{Mark}
+use Rattle.fv_grammar.specs.declared.symbol.Mark.TheVariants as marks
 
 -- what a token begins where an operand has to stand (Faust manual; this project's profile)
 abbrev pub head : Symbol → Head
@@ -129,3 +131,28 @@ operator t = Sequence
 -- the operators up to height 5 associate to the left, the others to the right
 abbrev pub is_left : ℕ → Bool
 is_left height = nat_le height 5
+
+-- the token of a mark (this project's profile)
+abbrev pub sign : Mark → Symbol
+sign marks.Open = symbols.Open
+sign marks.Close = symbols.Close
+sign marks.OpenBrace = symbols.OpenBrace
+sign marks.CloseBrace = symbols.CloseBrace
+sign marks.Comma = symbols.Comma
+sign marks.Equals = symbols.Equals
+sign marks.Arrow = symbols.Arrow
+sign marks.Semicolon = symbols.Semicolon
+sign marks.Dot = symbols.Dot
+
+-- the token is that of the mark (this project's profile)
+abbrev pub is_mark : Mark → Symbol → Bool
+is_mark marks.Open symbols.Open = true
+is_mark marks.Close symbols.Close = true
+is_mark marks.OpenBrace symbols.OpenBrace = true
+is_mark marks.CloseBrace symbols.CloseBrace = true
+is_mark marks.Comma symbols.Comma = true
+is_mark marks.Equals symbols.Equals = true
+is_mark marks.Arrow symbols.Arrow = true
+is_mark marks.Semicolon symbols.Semicolon = true
+is_mark marks.Dot symbols.Dot = true
+is_mark m t = false

@@ -1,3 +1,5 @@
+// What the tokens begin, and what stands in brackets and lists.
+
 use crate::form::{Iteration, Panel, Primitive, Side, Slider, Switch};
 
 /// What a token begins, where an operand has to stand.
@@ -20,6 +22,20 @@ pub enum Head {
     Panel(Panel),
     /// It begins none.
     Nothing,
+}
+
+/// A sign that a production has at a fixed place.
+#[derive(Clone, Copy, Debug, PartialEq, Eq)]
+pub enum Mark {
+    Open,
+    Close,
+    OpenBrace,
+    CloseBrace,
+    Comma,
+    Equals,
+    Arrow,
+    Semicolon,
+    Dot,
 }
 
 /// What stands inside a pair of brackets.

@@ -6,8 +6,6 @@ mod next;
 mod refusal;
 mod scan;
 mod symbol;
-#[cfg(test)]
-mod tests;
 mod token;
 
 pub use lexer::{one_answer, tokens};

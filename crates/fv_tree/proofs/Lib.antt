@@ -1,3 +1,4 @@
 pub mod Arenas
+pub mod Progress
 pub mod Steps
 pub mod Endings

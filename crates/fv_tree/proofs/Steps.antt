@@ -1,23 +1,24 @@
--- What each function of the parser adds to what it calls.
+-- What each function of the reader adds to what it calls.
 use Rattle.std.proofs.Common.{◌≡◌, ℕ, suc, ◌+◌, ◌-◌, ◌<◌, ◌≤◌, Bool, true, false, List, [], length, drop, Result, Ok, Err, refl, sym, ap, subst, ◌∙◌, arith}
 use Rattle.std.specs.Prelude.{nat_eq}
 use Rattle.std.proofs.lemmas.Bool.{lt-leb, le-leb}
+use Rattle.fv_base.proofs.Arena.{keeps_trans}
 use Rattle.fv_lex.specs.declared.token.Symbol.{Symbol}
 use Rattle.fv_grammar.specs.declared.form.Operator.{Operator}
 use Rattle.fv_grammar.specs.declared.symbol.Inside.{Inside}
 use Rattle.fv_grammar.specs.declared.symbol.Items.{Items}
 use Rattle.fv_tree.specs.declared.node.TreeId.{TreeId}
-use Rattle.fv_tree.specs.declared.arena.Entry.{Entry}
-use Rattle.fv_tree.specs.declared.single.Fault.{Fault}
+use Rattle.fv_tree.specs.declared.reader.Reader.{Reader}
+use Rattle.fv_tree.specs.declared.reader.Stop.{Stop}
 use Rattle.fv_grammar.specs.Tree.{Tree, End}
 use Rattle.fv_grammar.specs.Symbols.{is_left}
-use Rattle.fv_grammar.specs.Descent.{Step, ◌>>=◌, run, chain, Reader, rank_at, operand, phrase, left_turn, descend, within, further, item}
+use Rattle.fv_grammar.specs.Descent.{Step, ◌>>=◌, run, chain, rank_at, operand, phrase, left_turn, descend, within, further, item}
+use Rattle.fv_grammar.specs.Descent.{Reader as Descent}
 use Rattle.fv_grammar.proofs.Complete.{lower}
 use Rattle.fv_grammar.proofs.Loops.{chain_next, chain_done, all_of}
 use Rattle.fv_tree.specs.Arena.{tree_at, trees}
 use Rattle.fv_tree.specs.Gives.{Fails, Gives, Found, Operates, in_front}
-use Rattle.fv_tree.proofs.Arenas.{fails_by, by_operator}
-use Rattle.fv_base.proofs.Arena.{keeps_trans}
+use Rattle.fv_tree.proofs.Progress.{fails_by, by_operator}
 
 -- ---- brackets
 pub no_room : (room : ℕ) (what : Inside) (ts : List Symbol) → room ≡ 0 → within room what ts ≡ Err ts
@@ -25,20 +26,20 @@ unfolding within
 no_room room what ts e = ap (λ n. within n what ts) e
 
 -- ---- phrases
-left_at : (inner : Reader) (pattern comma : Bool) (k : ℕ) (ts : List Symbol) → suc k ≤ 5
+left_at : (inner : Descent) (pattern comma : Bool) (k : ℕ) (ts : List Symbol) → suc k ≤ 5
     → phrase inner pattern comma (suc k) ts ≡ (phrase inner pattern comma k ts >>= λ x. run (left_turn (phrase inner pattern comma k) pattern comma (suc (suc k)) (length ts)) x.0 x.1)
 unfolding phrase
 left_at inner pattern comma k ts h = let e : is_left (suc k) ≡ true = le-leb (suc k) 5 h in rw e refl
 
-right_at : (inner : Reader) (pattern comma : Bool) (k : ℕ) (ts : List Symbol) → 5 < suc k → phrase inner pattern comma (suc k) ts ≡ chain (phrase inner pattern comma k) pattern comma (suc (suc k)) ts
+right_at : (inner : Descent) (pattern comma : Bool) (k : ℕ) (ts : List Symbol) → 5 < suc k → phrase inner pattern comma (suc k) ts ≡ chain (phrase inner pattern comma k) pattern comma (suc (suc k)) ts
 unfolding phrase
 right_at inner pattern comma k ts h = let e : is_left (suc k) ≡ false = lt-leb (suc k) 5 h in rw e refl
 
-pub phrase_zero : (inner : Reader) (pattern comma : Bool) (h : ℕ) (ts : List Symbol) → h ≡ 0 → phrase inner pattern comma h ts ≡ operand inner pattern ts
+pub phrase_zero : (inner : Descent) (pattern comma : Bool) (h : ℕ) (ts : List Symbol) → h ≡ 0 → phrase inner pattern comma h ts ≡ operand inner pattern ts
 unfolding phrase
 phrase_zero inner pattern comma h ts e = ap (λ n. phrase inner pattern comma n ts) e
 
-pub phrase_left : (inner : Reader) (pattern comma : Bool) (h : ℕ) (ts : List Symbol) → 0 < h → h ≤ 5
+pub phrase_left : (inner : Descent) (pattern comma : Bool) (h : ℕ) (ts : List Symbol) → 0 < h → h ≤ 5
     → phrase inner pattern comma h ts ≡ (phrase inner pattern comma (h - 1) ts >>= λ x. run (left_turn (phrase inner pattern comma (h - 1)) pattern comma (h + 1) (length ts)) x.0 x.1)
 phrase_left inner pattern comma h ts some low =
     let e : suc (h - 1) ≡ h = omega arith in
@@ -46,16 +47,16 @@ phrase_left inner pattern comma h ts some low =
     let two : suc (suc (h - 1)) ≡ h + 1 = omega arith in
     ap (λ n. phrase inner pattern comma n ts) (sym e) ∙ at ∙ ap (λ n. phrase inner pattern comma (h - 1) ts >>= λ x. run (left_turn (phrase inner pattern comma (h - 1)) pattern comma n (length ts)) x.0 x.1) two
 
-pub phrase_right : (inner : Reader) (pattern comma : Bool) (h : ℕ) (ts : List Symbol) → 5 < h → phrase inner pattern comma h ts ≡ chain (phrase inner pattern comma (h - 1)) pattern comma (h + 1) ts
+pub phrase_right : (inner : Descent) (pattern comma : Bool) (h : ℕ) (ts : List Symbol) → 5 < h → phrase inner pattern comma h ts ≡ chain (phrase inner pattern comma (h - 1)) pattern comma (h + 1) ts
 phrase_right inner pattern comma h ts high =
     let e : suc (h - 1) ≡ h = omega arith in
     let two : suc (suc (h - 1)) ≡ h + 1 = omega arith in
     ap (λ n. phrase inner pattern comma n ts) (sym e) ∙ right_at inner pattern comma (h - 1) ts (omega arith) ∙ ap (λ n. chain (phrase inner pattern comma (h - 1)) pattern comma n ts) two
 
-pub left_fails : (inner : Reader) (pattern comma : Bool) (h : ℕ) (ts : List Symbol) (e : Fault) → 0 < h → h ≤ 5 → Fails e (phrase inner pattern comma (h - 1) ts) → Fails e (phrase inner pattern comma h ts)
-left_fails inner pattern comma h ts e some low f = fails_by e (phrase inner pattern comma (h - 1) ts) (phrase inner pattern comma h ts) f (λ at g. phrase_left inner pattern comma h ts some low ∙ rw g refl)
+pub left_fails : (inner : Descent) (pattern comma : Bool) (h : ℕ) (ts : List Symbol) (e : Stop) (at : List Symbol) → 0 < h → h ≤ 5 → Fails e at (phrase inner pattern comma (h - 1) ts) → Fails e at (phrase inner pattern comma h ts)
+left_fails inner pattern comma h ts e at some low f = fails_by e at (phrase inner pattern comma (h - 1) ts) (phrase inner pattern comma h ts) f (λ g. phrase_left inner pattern comma h ts some low ∙ rw g refl)
 
-left_found : (inner : Reader) (pattern comma : Bool) (h : ℕ) (old mid new : List Tree) (ts rest end : List Symbol) (first id : TreeId) → 0 < h → h ≤ 5 → Found old mid first rest (phrase inner pattern comma (h - 1) ts)
+left_found : (inner : Descent) (pattern comma : Bool) (h : ℕ) (old mid new : List Tree) (ts rest end : List Symbol) (first id : TreeId) → 0 < h → h ≤ 5 → Found old mid first rest (phrase inner pattern comma (h - 1) ts)
     → Found mid new id end (run (left_turn (phrase inner pattern comma (h - 1)) pattern comma (h + 1) (length ts)) (tree_at mid first) rest) → Found old new id end (phrase inner pattern comma h ts)
 left_found inner pattern comma h old mid new ts rest end first id some low f g = record {
   keeps = keeps_trans End old mid new f.keeps g.keeps;
@@ -63,15 +64,17 @@ left_found inner pattern comma h old mid new ts rest end first id some low f g =
   is = phrase_left inner pattern comma h ts some low ∙ rw f.is g.is;
 }
 
-pub left_gives : {X : Type 0} (id : X → TreeId) (rest : X → List Symbol) (inner : Reader) (pattern comma : Bool) (h : ℕ) (old mid new : List Entry) (ts after : List Symbol) (first : TreeId) (r : Result X Fault) → 0 < h → h ≤ 5
-    → Found (trees old) (trees mid) first after (phrase inner pattern comma (h - 1) ts)
-    → Gives id rest mid new r (run (left_turn (phrase inner pattern comma (h - 1)) pattern comma (h + 1) (length ts)) (tree_at (trees mid) first) after) → Gives id rest old new r (phrase inner pattern comma h ts)
-left_gives id rest inner pattern comma h old mid new ts after first (Ok x) some low f g = left_found inner pattern comma h (trees old) (trees mid) (trees new) ts after (rest x) first (id x) some low f g
-left_gives id rest inner pattern comma h old mid new ts after first (Err e) some low f g =
-    fails_by e (run (left_turn (phrase inner pattern comma (h - 1)) pattern comma (h + 1) (length ts)) (tree_at (trees mid) first) after) (phrase inner pattern comma h ts) g (λ at k. phrase_left inner pattern comma h ts some low ∙ rw f.is k)
+pub left_gives : (inner : Descent) (pattern comma : Bool) (h : ℕ) (old mid new : Reader) (ts : List Symbol) (first : TreeId) (r : Result TreeId Stop) → 0 < h → h ≤ 5
+    → Found (trees old.arena) (trees mid.arena) first mid.symbols.rest.now (phrase inner pattern comma (h - 1) ts)
+    → Gives mid new r (run (left_turn (phrase inner pattern comma (h - 1)) pattern comma (h + 1) (length ts)) (tree_at (trees mid.arena) first) mid.symbols.rest.now) → Gives old new r (phrase inner pattern comma h ts)
+left_gives inner pattern comma h old mid new ts first (Ok x) some low f g =
+    left_found inner pattern comma h (trees old.arena) (trees mid.arena) (trees new.arena) ts mid.symbols.rest.now new.symbols.rest.now first x some low f g
+left_gives inner pattern comma h old mid new ts first (Err e) some low f g =
+    fails_by e new.symbols.rest.now (run (left_turn (phrase inner pattern comma (h - 1)) pattern comma (h + 1) (length ts)) (tree_at (trees mid.arena) first) mid.symbols.rest.now) (phrase inner pattern comma h ts) g
+    (λ k. phrase_left inner pattern comma h ts some low ∙ rw f.is k)
 
 -- ---- chains
-pub right_on : (part : List Symbol → Step Tree) (pattern comma : Bool) (r : ℕ) (ts rest next : List Symbol) (x : Tree) (o : Operator) → part ts ≡ Ok (x, rest) → Operates o next pattern comma r rest → length next < length ts
+pub right_on : (part : List Symbol → Step Tree) (pattern comma : Bool) (r : ℕ) (ts rest next : List Symbol) (x : Tree) (o : Operator) → part ts ≡ Ok (x, rest) → Operates o pattern comma r rest next → length next < length ts
     → chain part pattern comma r ts ≡ by_operator (length ts) o x (chain part pattern comma r next)
 right_on part pattern comma r ts rest next x o e op h =
     let fewer : length (drop 1 rest) < length ts = subst (λ l. length l < length ts) op.after h in
@@ -81,20 +84,19 @@ pub right_off : (part : List Symbol → Step Tree) (pattern comma : Bool) (r : �
 right_off part pattern comma r ts rest x e off = chain_done part pattern comma r ts x rest e off
 
 -- ---- lists
-pub further_is : (inner : Reader) (items : Items) (ts : List Symbol) → further inner items ts ≡ all_of (item inner items) ts
+pub further_is : (inner : Descent) (items : Items) (ts : List Symbol) → further inner items ts ≡ all_of (item inner items) ts
 unfolding further
 further_is inner items ts = refl
 
 -- what stands in a pair of brackets is read with one bracket less to open
-pub descended : {X : Type 0} (id : X → TreeId) (rest : X → List Symbol) (old new : List Entry) (r : Result X Fault) (room : ℕ) (what w : Inside) (ts : List Symbol) → what ≡ w → 0 < room
-    → Gives id rest old new r (descend (within (room - 1)) w ts) → Gives id rest old new r (within room what ts)
-descended id rest old new r room what w ts e h g =
-    subst (λ v. Gives id rest old new r (within room v ts)) (sym e) (subst (λ s. Gives id rest old new r s) (sym (lower room w ts h)) g)
+pub descended : (old new : Reader) (r : Result TreeId Stop) (room : ℕ) (what w : Inside) (ts : List Symbol) → what ≡ w → 0 < room
+    → Gives old new r (descend (within (room - 1)) w ts) → Gives old new r (within room what ts)
+descended old new r room what w ts e h g = subst (λ v. Gives old new r (within room v ts)) (sym e) (subst (λ s. Gives old new r s) (sym (lower room w ts h)) g)
 
 -- a list that begins with nothing
-pub of_nothing : {X : Type 0} (id : X → TreeId) (rest : X → List Symbol) (old new : List Entry) (r : Result X Fault) (ts : List Tree) (read : Step Tree) → Gives id rest old new r (in_front ts [] read) → Gives id rest old new r read
-of_nothing id rest old new r ts read g = subst (λ s. Gives id rest old new r s) (plain read) g
-  where
-    plain : (s : Step Tree) → in_front ts [] s ≡ s
-    plain (Ok x) = refl
-    plain (Err e) = refl
+pub of_front : (ts : List Tree) (read : Step Tree) → in_front ts [] read ≡ read
+of_front ts (Ok x) = refl
+of_front ts (Err e) = refl
+
+pub of_nothing : (old new : Reader) (r : Result TreeId Stop) (ts : List Tree) (read : Step Tree) → Gives old new r (in_front ts [] read) → Gives old new r read
+of_nothing old new r ts read g = subst (λ s. Gives old new r s) (of_front ts read) g

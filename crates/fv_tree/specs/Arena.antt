@@ -6,7 +6,7 @@ use Rattle.fv_tree.specs.declared.node.TreeId.{TreeId}
 use Rattle.fv_tree.specs.declared.node.TreeNode.{TreeNode}
 use Rattle.fv_tree.specs.declared.node.TreeNode.TheVariants as nodes
 use Rattle.fv_tree.specs.declared.arena.Entry.{Entry}
-use Rattle.fv_tree.specs.declared.parts.Pending.{Pending}
+use Rattle.fv_tree.specs.declared.pending.Pending.{Pending}
 use Rattle.fv_grammar.specs.Tree.{Tree, Number, Negative, Named, MinusNamed, Wire, Cut, Primitive, Group, Abstraction, Case, Iteration, Ports, Switch, Slider, Panel, Delayed, Apply, Binary, Where, Rule, Constant, Function, End, More}
 
 -- the tree with this number

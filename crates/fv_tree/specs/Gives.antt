@@ -1,19 +1,46 @@
--- What a function of the parser returned, against what reading gives.
+-- What a function of the parser returned, against what the descent gives.
 use Rattle.std.specs.Prelude.{◌≡◌, ℕ, ◌<◌, Bool, true, false, nat_eq, drop, List, [], ◌∷◌, length, Option, Some, None, Result, Ok, Err}
 use Rattle.fv_lex.specs.declared.token.Symbol.{Symbol}
 use Rattle.fv_grammar.specs.declared.form.Operator.{Operator}
 use Rattle.fv_tree.specs.declared.arena.Entry.{Entry}
 use Rattle.fv_tree.specs.declared.node.TreeId.{TreeId}
-use Rattle.fv_tree.specs.declared.single.Fault.{Fault}
-use Rattle.fv_tree.specs.declared.single.Fault.TheVariants as faults
+use Rattle.fv_tree.specs.declared.reader.Reader.{Reader}
+use Rattle.fv_tree.specs.declared.reader.Symbols.{Symbols}
+use Rattle.fv_tree.specs.declared.reader.Stop.{Stop}
+use Rattle.fv_tree.specs.declared.reader.Stop.TheVariants as stops
+use Rattle.fv_tree.specs.declared.text.Fault.{Fault}
+use Rattle.fv_tree.specs.declared.text.Fault.TheVariants as faults
 use Rattle.fv_grammar.specs.Tree.{Tree}
-use Rattle.fv_grammar.specs.Descent.{Step, ◌>>=◌, Turn, Done, Next, Stop, Item, Nothing, Skip, One, rank_at, operator_at}
-use Rattle.fv_grammar.specs.Descent.{Fault as Refused}
+use Rattle.fv_grammar.specs.Descent.{Step, ◌>>=◌, Turn, Done, Next, Item, Nothing, Skip, One, rank_at, operator_at}
+use Rattle.fv_grammar.specs.Descent.{Stop as Halts, Fault as Refused}
 use Rattle.fv_tree.specs.Arena.{tree_at, trees, forest, Keeps}
 
-abbrev pub Fails : {A : Type 0} → Fault → Result A (List Symbol) → Type 0
-Fails faults.NoMemory read = Unit {0}
-Fails (faults.Syntax at) read = read ≡ Err at.now
+-- reading stops where the symbols are left, or memory ran out
+abbrev pub Fails : {A : Type 0} → Stop → List Symbol → Result A (List Symbol) → Type 0
+Fails stops.NoMemory at read = Unit {0}
+Fails stops.Syntax at read = read ≡ Err at
+
+-- what is read symbol by symbol
+abbrev pub Takes : {X A : Type 0} → (X → List Symbol → A) → Symbols → Result X Stop → Result A (List Symbol) → Type 0
+Takes view new (Ok x) read = read ≡ Ok (view x new.rest.now)
+Takes view new (Err e) read = Fails e new.rest.now read
+
+-- the first symbol was passed, if a test knows it
+abbrev pub Skips : (List Symbol → Bool) → Symbols → Symbols → Bool → Type 0
+Skips test old new true = (test old.rest.now ≡ true) × (new.rest.now ≡ drop 1 old.rest.now) × (length new.rest.now < length old.rest.now)
+Skips test old new false = (test old.rest.now ≡ false) × (new.rest.now ≡ old.rest.now)
+
+-- the operator of this rank was passed
+pub record Operates (op : Operator) (pattern comma : Bool) (wanted : ℕ) (tokens rest : List Symbol) : Type 0 where
+  pub there : nat_eq (rank_at pattern comma tokens) wanted ≡ true
+  pub is : op ≡ operator_at tokens
+  pub after : rest ≡ drop 1 tokens
+  pub shorter : length rest < length tokens
+
+-- an operator of this rank was passed, if it stood there
+abbrev pub IsOperatorAt : Bool → Bool → ℕ → Symbols → Symbols → Option Operator → Type 0
+IsOperatorAt pattern comma wanted old new None = (nat_eq (rank_at pattern comma old.rest.now) wanted ≡ false) × (new.rest.now ≡ old.rest.now)
+IsOperatorAt pattern comma wanted old new (Some op) = Operates op pattern comma wanted old.rest.now new.rest.now
 
 -- the tree was found, and those before it are still there
 pub record Found (old new : List Tree) (id : TreeId) (rest : List Symbol) (read : Step Tree) : Type 0 where
@@ -21,14 +48,10 @@ pub record Found (old new : List Tree) (id : TreeId) (rest : List Symbol) (read 
   pub inside : id < length new
   pub is : read ≡ Ok (tree_at new id, rest)
 
-abbrev pub Gives : {X : Type 0} → (X → TreeId) → (X → List Symbol) → List Entry → List Entry → Result X Fault → Step Tree → Type 0
-Gives id rest old new (Ok x) read = Found (trees old) (trees new) (id x) (rest x) read
-Gives id rest old new (Err e) read = Fails e read
-
--- a token that has to stand there
-abbrev pub Takes : {X A : Type 0} → (X → A) → Result X Fault → Result A (List Symbol) → Type 0
-Takes view (Ok x) read = read ≡ Ok (view x)
-Takes view (Err e) read = Fails e read
+-- what reads a tree
+abbrev pub Gives : Reader → Reader → Result TreeId Stop → Step Tree → Type 0
+Gives old new (Ok id) read = Found (trees old.arena) (trees new.arena) id new.symbols.rest.now read
+Gives old new (Err e) read = Fails e new.symbols.rest.now read
 
 -- one turn of a loop
 pub record Turned (old new : List Tree) (id : TreeId) (rest : List Symbol) (t : Turn) : Type 0 where
@@ -36,33 +59,45 @@ pub record Turned (old new : List Tree) (id : TreeId) (rest : List Symbol) (t : 
   pub inside : id < length new
   pub is : t ≡ Next (tree_at new id) rest
 
-abbrev pub Stays : Fault → Turn → Type 0
-Stays faults.NoMemory t = Unit {0}
-Stays (faults.Syntax at) t = t ≡ Stop at.now
+-- nothing more is read
+pub record Ended {A : Type 0} (old new : List Tree) (before rest : List Symbol) (done a : A) : Type 0 where
+  pub keeps : Keeps old new
+  pub same : rest ≡ before
+  pub is : a ≡ done
 
-abbrev pub GivesTurn : {X : Type 0} → (X → TreeId) → (X → List Symbol) → List Entry → List Entry → Result (Option X) Fault → Turn → Type 0
-GivesTurn id rest old new (Ok (Some x)) t = Turned (trees old) (trees new) (id x) (rest x) t
-GivesTurn id rest old new (Ok None) t = Keeps (trees old) (trees new) × (t ≡ Done)
-GivesTurn id rest old new (Err e) t = Stays e t
+-- a turn stops where the symbols are left
+abbrev pub Stays : Stop → List Symbol → Turn → Type 0
+Stays stops.NoMemory at t = Unit {0}
+Stays stops.Syntax at t = t ≡ Halts at
+
+-- what reads one turn
+abbrev pub GivesTurn : Reader → Reader → Result (Option TreeId) Stop → Turn → Type 0
+GivesTurn old new (Ok (Some id)) t = Turned (trees old.arena) (trees new.arena) id new.symbols.rest.now t
+GivesTurn old new (Ok None) t = Ended (trees old.arena) (trees new.arena) old.symbols.rest.now new.symbols.rest.now Done t
+GivesTurn old new (Err e) t = Stays e new.symbols.rest.now t
 
 -- what was found of a list's further items: a tree, or what is passed over
 abbrev pub FoundItem : List Tree → List Tree → Option TreeId → List Symbol → Item → Type 0
 FoundItem old new None rest i = i ≡ Skip rest
 FoundItem old new (Some id) rest i = (id < length new) × (i ≡ One (tree_at new id) rest)
 
+-- one item, or what is passed over
 pub record Itemized (old new : List Tree) (found : Option TreeId) (rest : List Symbol) (i : Item) : Type 0 where
   pub keeps : Keeps old new
   pub is : FoundItem old new found rest i
 
-abbrev pub Refuses : Fault → Item → Type 0
-Refuses faults.NoMemory i = Unit {0}
-Refuses (faults.Syntax at) i = i ≡ Refused at.now
+-- an item stops where the symbols are left
+abbrev pub Refuses : Stop → List Symbol → Item → Type 0
+Refuses stops.NoMemory at i = Unit {0}
+Refuses stops.Syntax at i = i ≡ Refused at
 
-abbrev pub GivesItem : {X : Type 0} → (X → Option TreeId) → (X → List Symbol) → List Entry → List Entry → Result (Option X) Fault → Item → Type 0
-GivesItem found rest old new (Ok (Some x)) i = Itemized (trees old) (trees new) (found x) (rest x) i
-GivesItem found rest old new (Ok None) i = Keeps (trees old) (trees new) × (i ≡ Nothing)
-GivesItem found rest old new (Err e) i = Refuses e i
+-- what reads one item
+abbrev pub GivesItem : Reader → Reader → Result (Option (Option TreeId)) Stop → Item → Type 0
+GivesItem old new (Ok (Some found)) i = Itemized (trees old.arena) (trees new.arena) found new.symbols.rest.now i
+GivesItem old new (Ok None) i = Ended (trees old.arena) (trees new.arena) old.symbols.rest.now new.symbols.rest.now Nothing i
+GivesItem old new (Err e) i = Refuses e new.symbols.rest.now i
 
+-- a first item, as a list
 abbrev pub list_of : Option TreeId → List TreeId
 list_of None = []
 list_of (Some id) = id ∷ []
@@ -71,28 +106,12 @@ list_of (Some id) = id ∷ []
 abbrev pub in_front : List Tree → List TreeId → Step Tree → Step Tree
 in_front ts ids read = read >>= λ y. Ok (forest ts ids y.0, y.1)
 
--- the operator of this rank at the front, and the tokens after it
-pub record Operates (op : Operator) (rest : List Symbol) (pattern comma : Bool) (wanted : ℕ) (tokens : List Symbol) : Type 0 where
-  pub there : nat_eq (rank_at pattern comma tokens) wanted ≡ true
-  pub is : op ≡ operator_at tokens
-  pub after : rest ≡ drop 1 tokens
-  pub shorter : length rest < length tokens
-
-abbrev pub IsOperatorAt : {X : Type 0} → (X → Operator) → (X → List Symbol) → Bool → Bool → ℕ → List Symbol → Option X → Type 0
-IsOperatorAt op rest pattern comma wanted tokens None = nat_eq (rank_at pattern comma tokens) wanted ≡ false
-IsOperatorAt op rest pattern comma wanted tokens (Some x) = Operates (op x) (rest x) pattern comma wanted tokens
-
--- the tokens after a first one that a test knows
-pub record Passes (test : List Symbol → Bool) (tokens rest : List Symbol) : Type 0 where
-  pub there : test tokens ≡ true
-  pub after : rest ≡ drop 1 tokens
-  pub shorter : length rest < length tokens
-
-abbrev pub IsAfter : {X : Type 0} → (X → List Symbol) → (List Symbol → Bool) → List Symbol → Option X → Type 0
-IsAfter rest test tokens None = test tokens ≡ false
-IsAfter rest test tokens (Some x) = Passes test tokens (rest x)
+-- why there is no tree
+abbrev pub Refuse : Fault → Result Tree (List Symbol) → Type 0
+Refuse faults.NoMemory read = Unit {0}
+Refuse (faults.Syntax at) read = read ≡ Err at.now
 
 -- a whole text: the root's tree is what reading gives
 abbrev pub Reads : {X : Type 0} → (X → List Entry) → (X → TreeId) → Result X Fault → Result Tree (List Symbol) → Type 0
 Reads entries root (Ok x) read = (read ≡ Ok (tree_at (trees (entries x)) (root x))) × (root x < length (entries x))
-Reads entries root (Err e) read = Fails e read
+Reads entries root (Err e) read = Refuse e read

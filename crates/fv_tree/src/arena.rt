@@ -1,7 +1,7 @@
 ghost use Rattle.std.specs.Prelude.{◌≡◌, [], IfOk, length};
 ghost use Rattle.fv_tree.specs.Arena.{trees, Adds, PartsBelow, AreBuilt};
 
-use crate::node::TreeNode;
+use crate::node::{TreeId, TreeNode};
 use std::alloc::{AllocError, Global};
 use std::marker::Model;
 
@@ -43,16 +43,16 @@ impl Arena {
     }
 
     /// Adds a node, and answers its number.
-    pub(crate) fn push(&mut self, node: TreeNode, start: usize) -> Result<u64, AllocError>
+    pub(crate) fn push(&mut self, node: TreeNode, start: usize) -> Result<TreeId, AllocError>
         requires { PartsBelow (length (trees self.old)) node }
         ensures { IfOk result (λ id. Adds (trees self.old) (trees self.new) id node start) }
     {
-        let number = self.entries.len() as u64;
+        let id = TreeId::new(self.entries.len() as u64);
         self.entries.push(Entry {
             node,
             start: start as u64,
         })?;
-        Ok(number)
+        Ok(id)
     }
 
     /// The nodes, in order.

@@ -2,15 +2,17 @@
 #![tactic(auto)]
 
 mod arena;
+mod leaves;
 mod node;
 mod operands;
-mod parts;
+mod pending;
 mod phrases;
-mod single;
+mod reader;
 mod statements;
-mod whole;
+mod tables;
+mod terminals;
+mod text;
 
 pub use arena::{Arena, Entry};
 pub use node::{TreeId, TreeNode};
-pub use single::Fault;
-pub use whole::read;
+pub use text::{Fault, read};

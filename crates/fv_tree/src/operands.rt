@@ -1,430 +1,301 @@
 // Reading from left to right, with one token of lookahead: what stands in an operand's place.
 // What stands in brackets is read by a call that has one bracket less to open; nothing else recurses.
 
-ghost use Rattle.std.specs.Prelude.{◌-◌, ◌<◌, ◌≤◌, [], true, false, length, IfOk, IfSome};
+ghost use Rattle.std.specs.Prelude.{◌≡◌, ◌-◌, ◌<◌, ◌≤◌, ◌∷◌, true, false, length, OnOk, IfOk, OnSome};
 ghost use Rattle.fv_grammar.specs.declared.symbol.Inside.TheVariants as insides;
 ghost use Rattle.fv_grammar.specs.declared.symbol.Items.TheVariants.{Rules, Parts};
 ghost use Rattle.fv_grammar.specs.Descent.{within, enclosed, argument, group, abstraction, case_of, iteration, ports, slider, panel, by_head, primary, applied_to, postfix_turn, postfix, atom_by_head, operand, run};
 ghost use Rattle.fv_tree.specs.Arena.{tree_at, trees};
 ghost use Rattle.fv_tree.specs.Gives.{Gives, GivesTurn};
 
-use crate::arena::Arena;
 use crate::node::{TreeId, TreeNode};
-use crate::parts::{minus, minus_in_pattern, plus, plus_in_pattern, switch};
-use crate::phrases::{expression, phrase};
-use crate::single::{
-    Fault, a_name, close, close_brace, comma, dot, head, label, names, open_brace, opening,
-};
-use crate::statements::{further, listed};
-use fv_grammar::{Head, Inside, Items, Iteration, Panel, Side, Slider};
+use crate::phrases::LOOSEST;
+use crate::reader::{Reader, Stop};
+use crate::tables::head;
+use fv_grammar::{Head, Inside, Items, Iteration, Mark, Panel, Side, Slider};
 use fv_lex::Symbol;
-use std::alloc::Global;
 
-/// What stands behind an open bracket. All recursion goes by here.
-#[cycle(parser)]
-pub(crate) fn inside<'a>(
-    arena: &mut Arena,
-    alloc: Global,
-    room: usize,
-    what: Inside,
-    tokens: &'a [Symbol],
-) -> Result<(u64, &'a [Symbol]), Fault<'a>>
-    ensures is { Gives (λ x. x.0) (λ x. x.1.now) arena.old arena.new result (within room what tokens.now) }
-    ensures shorter { IfOk result (λ x. length x.1.now ≤ length tokens.now) }
-{
-    if room == 0 {
-        return Err(Fault::Syntax(tokens));
+impl<'a> Reader<'a> {
+    /// What stands behind an open bracket. All recursion goes by here.
+    #[cycle(parser)]
+    pub(crate) fn inside(&mut self, room: usize, what: Inside) -> Result<TreeId, Stop>
+        ensures is { Gives self.old self.new result (within room what self.old.symbols.rest.now) }
+        ensures shorter { OnOk result (length self.new.symbols.rest.now ≤ length self.old.symbols.rest.now) }
+    {
+        if room == 0 {
+            return Err(Stop::Syntax);
+        }
+        match what {
+            Inside::Expression => self.expression(room - 1),
+            Inside::Argument => self.phrase(room - 1, false, false, LOOSEST),
+            Inside::Pattern => self.phrase(room - 1, true, true, LOOSEST),
+            Inside::Arguments => self.listed(room - 1, Items::Parts(false)),
+            Inside::Patterns => self.listed(room - 1, Items::Parts(true)),
+            Inside::Rules => self.listed(room - 1, Items::Rules),
+            Inside::Definitions => self.further(room - 1, Items::Definitions, None),
+        }
     }
-    match what {
-        Inside::Expression => expression(arena, alloc, room - 1, tokens),
-        Inside::Argument => phrase(arena, alloc, room - 1, false, false, 8, tokens),
-        Inside::Pattern => phrase(arena, alloc, room - 1, true, true, 8, tokens),
-        Inside::Arguments => listed(arena, alloc, room - 1, Items::Parts(false), tokens),
-        Inside::Patterns => listed(arena, alloc, room - 1, Items::Parts(true), tokens),
-        Inside::Rules => listed(arena, alloc, room - 1, Items::Rules, tokens),
-        Inside::Definitions => further(
-            arena,
-            alloc,
-            room - 1,
-            Items::Definitions,
-            tokens.len(),
-            None,
-            tokens,
-        ),
+
+    /// What stands behind an open bracket, and the bracket that closes it.
+    #[cycle(parser)]
+    pub(crate) fn enclosed(&mut self, room: usize, what: Inside) -> Result<TreeId, Stop>
+        ensures is { Gives self.old self.new result (enclosed (within room) what self.old.symbols.rest.now) }
+        ensures shorter { OnOk result (length self.new.symbols.rest.now < length self.old.symbols.rest.now) }
+    {
+        let tree = self.inside(room, what)?;
+        self.symbols.take(Mark::Close)?;
+        Ok(tree)
     }
-}
 
-/// What stands behind an open bracket, and the bracket that closes it.
-#[cycle(parser)]
-pub(crate) fn enclosed<'a>(
-    arena: &mut Arena,
-    alloc: Global,
-    room: usize,
-    what: Inside,
-    tokens: &'a [Symbol],
-) -> Result<(u64, &'a [Symbol]), Fault<'a>>
-    ensures is { Gives (λ x. x.0) (λ x. x.1.now) arena.old arena.new result (enclosed (within room) what tokens.now) }
-    ensures shorter { IfOk result (λ x. length x.1.now < length tokens.now) }
-{
-    let (tree, rest) = inside(arena, alloc, room, what, tokens)?;
-    let rest = close(rest)?;
-    Ok((tree, rest))
-}
-
-/// An argument, and the comma behind it.
-#[cycle(parser)]
-fn argument<'a>(
-    arena: &mut Arena,
-    alloc: Global,
-    room: usize,
-    tokens: &'a [Symbol],
-) -> Result<(u64, &'a [Symbol]), Fault<'a>>
-    ensures is { Gives (λ x. x.0) (λ x. x.1.now) arena.old arena.new result (argument (within room) tokens.now) }
-    ensures shorter { IfOk result (λ x. length x.1.now < length tokens.now) }
-{
-    let (tree, rest) = inside(arena, alloc, room, Inside::Argument, tokens)?;
-    let rest = comma(rest)?;
-    Ok((tree, rest))
-}
-
-#[cycle(parser)]
-fn group<'a>(
-    arena: &mut Arena,
-    alloc: Global,
-    room: usize,
-    start: usize,
-    tokens: &'a [Symbol],
-) -> Result<(u64, &'a [Symbol]), Fault<'a>>
-    ensures is { Gives (λ x. x.0) (λ x. x.1.now) arena.old arena.new result (group (within room) start tokens.now) }
-    ensures shorter { IfOk result (λ x. length x.1.now < length tokens.now) }
-{
-    let (tree, rest) = enclosed(arena, alloc, room, Inside::Expression, tokens)?;
-    Ok((arena.push(TreeNode::Group(TreeId::new(tree)), start)?, rest))
-}
-
-#[tactic(auto, unfolding(fv_grammar::specs::Descent::abstraction))]
-#[cycle(parser)]
-fn abstraction<'a>(
-    arena: &mut Arena,
-    alloc: Global,
-    room: usize,
-    start: usize,
-    tokens: &'a [Symbol],
-) -> Result<(u64, &'a [Symbol]), Fault<'a>>
-    ensures is { Gives (λ x. x.0) (λ x. x.1.now) arena.old arena.new result (abstraction (within room) start tokens.now) }
-    ensures shorter { IfOk result (λ x. length x.1.now < length tokens.now) }
-{
-    let rest = opening(tokens)?;
-    let (parameters, rest) = names(alloc, rest)?;
-    let rest = close(rest)?;
-    let rest = dot(rest)?;
-    let rest = opening(rest)?;
-    let (body, rest) = enclosed(arena, alloc, room, Inside::Expression, rest)?;
-    Ok((
-        arena.push(TreeNode::Abstraction(parameters, TreeId::new(body)), start)?,
-        rest,
-    ))
-}
-
-#[tactic(auto, unfolding(fv_grammar::specs::Descent::case_of))]
-#[cycle(parser)]
-fn case_of<'a>(
-    arena: &mut Arena,
-    alloc: Global,
-    room: usize,
-    start: usize,
-    tokens: &'a [Symbol],
-) -> Result<(u64, &'a [Symbol]), Fault<'a>>
-    ensures is { Gives (λ x. x.0) (λ x. x.1.now) arena.old arena.new result (case_of (within room) start tokens.now) }
-    ensures shorter { IfOk result (λ x. length x.1.now < length tokens.now) }
-{
-    let rest = open_brace(tokens)?;
-    let (rules, rest) = inside(arena, alloc, room, Inside::Rules, rest)?;
-    let rest = close_brace(rest)?;
-    Ok((arena.push(TreeNode::Case(TreeId::new(rules)), start)?, rest))
-}
-
-#[tactic(auto, unfolding(fv_grammar::specs::Descent::iteration))]
-#[cycle(parser)]
-fn iteration<'a>(
-    arena: &mut Arena,
-    alloc: Global,
-    room: usize,
-    start: usize,
-    kind: Iteration,
-    tokens: &'a [Symbol],
-) -> Result<(u64, &'a [Symbol]), Fault<'a>>
-    ensures is { Gives (λ x. x.0) (λ x. x.1.now) arena.old arena.new result (iteration (within room) start kind tokens.now) }
-    ensures shorter { IfOk result (λ x. length x.1.now < length tokens.now) }
-{
-    let rest = opening(tokens)?;
-    let (index, rest) = a_name(rest)?;
-    let rest = comma(rest)?;
-    let (count, rest) = argument(arena, alloc, room, rest)?;
-    let (body, rest) = enclosed(arena, alloc, room, Inside::Expression, rest)?;
-    Ok((
-        arena.push(
-            TreeNode::Iteration(kind, index, TreeId::new(count), TreeId::new(body)),
-            start,
-        )?,
-        rest,
-    ))
-}
-
-#[tactic(auto, unfolding(fv_grammar::specs::Descent::ports))]
-#[cycle(parser)]
-fn ports<'a>(
-    arena: &mut Arena,
-    alloc: Global,
-    room: usize,
-    start: usize,
-    side: Side,
-    tokens: &'a [Symbol],
-) -> Result<(u64, &'a [Symbol]), Fault<'a>>
-    ensures is { Gives (λ x. x.0) (λ x. x.1.now) arena.old arena.new result (ports (within room) start side tokens.now) }
-    ensures shorter { IfOk result (λ x. length x.1.now < length tokens.now) }
-{
-    let rest = opening(tokens)?;
-    let (tree, rest) = enclosed(arena, alloc, room, Inside::Expression, rest)?;
-    Ok((
-        arena.push(TreeNode::Ports(side, TreeId::new(tree)), start)?,
-        rest,
-    ))
-}
-
-#[tactic(auto, unfolding(fv_grammar::specs::Descent::slider))]
-#[cycle(parser)]
-fn slider<'a>(
-    arena: &mut Arena,
-    alloc: Global,
-    room: usize,
-    start: usize,
-    kind: Slider,
-    tokens: &'a [Symbol],
-) -> Result<(u64, &'a [Symbol]), Fault<'a>>
-    ensures is { Gives (λ x. x.0) (λ x. x.1.now) arena.old arena.new result (slider (within room) start kind tokens.now) }
-    ensures shorter { IfOk result (λ x. length x.1.now < length tokens.now) }
-{
-    let (text, rest) = label(tokens)?;
-    let (init, rest) = argument(arena, alloc, room, rest)?;
-    let (min, rest) = argument(arena, alloc, room, rest)?;
-    let (max, rest) = argument(arena, alloc, room, rest)?;
-    let (step, rest) = enclosed(arena, alloc, room, Inside::Argument, rest)?;
-    Ok((
-        arena.push(
-            TreeNode::Slider(
-                kind,
-                text,
-                TreeId::new(init),
-                TreeId::new(min),
-                TreeId::new(max),
-                TreeId::new(step),
-            ),
-            start,
-        )?,
-        rest,
-    ))
-}
-
-#[tactic(auto, unfolding(fv_grammar::specs::Descent::panel))]
-#[cycle(parser)]
-fn panel<'a>(
-    arena: &mut Arena,
-    alloc: Global,
-    room: usize,
-    start: usize,
-    kind: Panel,
-    tokens: &'a [Symbol],
-) -> Result<(u64, &'a [Symbol]), Fault<'a>>
-    ensures is { Gives (λ x. x.0) (λ x. x.1.now) arena.old arena.new result (panel (within room) start kind tokens.now) }
-    ensures shorter { IfOk result (λ x. length x.1.now < length tokens.now) }
-{
-    let (text, rest) = label(tokens)?;
-    let (tree, rest) = enclosed(arena, alloc, room, Inside::Expression, rest)?;
-    Ok((
-        arena.push(TreeNode::Panel(kind, text, TreeId::new(tree)), start)?,
-        rest,
-    ))
-}
-
-/// An operand, by what its first token begins. `rest` are the tokens after that one.
-#[tactic(auto, unfolding(fv_grammar::specs::Descent::by_head))]
-#[cycle(parser)]
-fn by_head<'a>(
-    arena: &mut Arena,
-    alloc: Global,
-    room: usize,
-    head: Head,
-    rest: &'a [Symbol],
-    tokens: &'a [Symbol],
-) -> Result<(u64, &'a [Symbol]), Fault<'a>>
-    requires { length rest.now < length tokens.now }
-    ensures is { Gives (λ x. x.0) (λ x. x.1.now) arena.old arena.new result (by_head (within room) head tokens.now rest.now) }
-    ensures shorter { IfOk result (λ x. length x.1.now < length tokens.now) }
-{
-    let start = tokens.len();
-    match head {
-        Head::Integer(n) => Ok((arena.push(TreeNode::Number(n), start)?, rest)),
-        Head::Name(n) => Ok((arena.push(TreeNode::Named(n), start)?, rest)),
-        Head::Plus => plus(arena, start, rest),
-        Head::Minus => minus(arena, start, rest),
-        Head::Wire => Ok((arena.push(TreeNode::Wire, start)?, rest)),
-        Head::Cut => Ok((arena.push(TreeNode::Cut, start)?, rest)),
-        Head::Primitive(p) => Ok((arena.push(TreeNode::Primitive(p), start)?, rest)),
-        Head::Group => group(arena, alloc, room, start, rest),
-        Head::Abstraction => abstraction(arena, alloc, room, start, rest),
-        Head::Case => case_of(arena, alloc, room, start, rest),
-        Head::Iteration(kind) => iteration(arena, alloc, room, start, kind, rest),
-        Head::Ports(side) => ports(arena, alloc, room, start, side, rest),
-        Head::Switch(kind) => switch(arena, start, kind, rest),
-        Head::Slider(kind) => slider(arena, alloc, room, start, kind, rest),
-        Head::Panel(kind) => panel(arena, alloc, room, start, kind, rest),
-        Head::Nothing => Err(Fault::Syntax(tokens)),
+    /// An argument, and the comma behind it.
+    #[cycle(parser)]
+    fn argument(&mut self, room: usize) -> Result<TreeId, Stop>
+        ensures is { Gives self.old self.new result (argument (within room) self.old.symbols.rest.now) }
+        ensures shorter { OnOk result (length self.new.symbols.rest.now < length self.old.symbols.rest.now) }
+    {
+        let tree = self.inside(room, Inside::Argument)?;
+        self.symbols.take(Mark::Comma)?;
+        Ok(tree)
     }
-}
 
-#[cycle(parser)]
-fn primary<'a>(
-    arena: &mut Arena,
-    alloc: Global,
-    room: usize,
-    tokens: &'a [Symbol],
-) -> Result<(u64, &'a [Symbol]), Fault<'a>>
-    ensures is { Gives (λ x. x.0) (λ x. x.1.now) arena.old arena.new result (primary (within room) tokens.now) }
-    ensures shorter { IfOk result (λ x. length x.1.now < length tokens.now) }
-{
-    match tokens {
-        [] => Err(Fault::Syntax(tokens)),
-        [token, rest @ ..] => by_head(arena, alloc, room, head(*token), rest, tokens),
+    #[cycle(parser)]
+    fn group(&mut self, room: usize, start: usize) -> Result<TreeId, Stop>
+        ensures is { Gives self.old self.new result (group (within room) start self.old.symbols.rest.now) }
+        ensures shorter { OnOk result (length self.new.symbols.rest.now < length self.old.symbols.rest.now) }
+    {
+        let tree = self.enclosed(room, Inside::Expression)?;
+        Ok(self.arena.push(TreeNode::Group(tree), start)?)
     }
-}
 
-#[tactic(auto, unfolding(fv_grammar::specs::Descent::postfix))]
-#[cycle(parser)]
-fn postfix<'a>(
-    arena: &mut Arena,
-    alloc: Global,
-    room: usize,
-    tokens: &'a [Symbol],
-) -> Result<(u64, &'a [Symbol]), Fault<'a>>
-    ensures is { Gives (λ x. x.0) (λ x. x.1.now) arena.old arena.new result (postfix (within room) tokens.now) }
-    ensures shorter { IfOk result (λ x. length x.1.now < length tokens.now) }
-{
-    let (first, rest) = primary(arena, alloc, room, tokens)?;
-    postfixes(arena, alloc, room, tokens.len(), first, rest)
-}
-
-#[cycle(parser)]
-fn postfixes<'a>(
-    arena: &mut Arena,
-    alloc: Global,
-    room: usize,
-    start: usize,
-    first: u64,
-    tokens: &'a [Symbol],
-) -> Result<(u64, &'a [Symbol]), Fault<'a>>
-    requires { first < length (trees arena.old) }
-    ensures is { Gives (λ x. x.0) (λ x. x.1.now) arena.old arena.new result (run (postfix_turn (within room) start) (tree_at (trees arena.old) first) tokens.now) }
-    ensures shorter { IfOk result (λ x. length x.1.now ≤ length tokens.now) }
-{
-    let mut tree = first;
-    let mut rest = tokens;
-    while let Some((next, after)) = next_postfix(arena, alloc, room, start, tree, rest)? {
-        tree = next;
-        rest = after;
+    #[tactic(auto, unfolding(fv_grammar::specs::Descent::abstraction))]
+    #[cycle(parser)]
+    fn abstraction(&mut self, room: usize, start: usize) -> Result<TreeId, Stop>
+        ensures is { Gives self.old self.new result (abstraction (within room) start self.old.symbols.rest.now) }
+        ensures shorter { OnOk result (length self.new.symbols.rest.now < length self.old.symbols.rest.now) }
+    {
+        self.symbols.take(Mark::Open)?;
+        let parameters = self.symbols.names(self.alloc)?;
+        self.symbols.take(Mark::Close)?;
+        self.symbols.take(Mark::Dot)?;
+        self.symbols.take(Mark::Open)?;
+        let body = self.enclosed(room, Inside::Expression)?;
+        Ok(
+            self.arena
+                .push(TreeNode::Abstraction(parameters, body), start)?,
+        )
     }
-    Ok((tree, rest))
-}
 
-#[cycle(parser)]
-fn next_postfix<'a>(
-    arena: &mut Arena,
-    alloc: Global,
-    room: usize,
-    start: usize,
-    tree: u64,
-    tokens: &'a [Symbol],
-) -> Result<Option<(u64, &'a [Symbol])>, Fault<'a>>
-    requires { tree < length (trees arena.old) }
-    ensures is { GivesTurn (λ x. x.0) (λ x. x.1.now) arena.old arena.new result (postfix_turn (within room) start (tree_at (trees arena.old) tree) tokens.now) }
-    ensures shorter { IfOk result (λ o. IfSome o (λ x. length x.1.now < length tokens.now)) }
-{
-    match tokens {
-        [Symbol::Tick, rest @ ..] => Ok(Some((
-            arena.push(TreeNode::Delayed(TreeId::new(tree)), start)?,
-            rest,
-        ))),
-        [Symbol::Open, rest @ ..] => applied(arena, alloc, room, start, tree, rest),
-        _ => Ok(None),
+    #[tactic(auto, unfolding(fv_grammar::specs::Descent::case_of))]
+    #[cycle(parser)]
+    fn case_of(&mut self, room: usize, start: usize) -> Result<TreeId, Stop>
+        ensures is { Gives self.old self.new result (case_of (within room) start self.old.symbols.rest.now) }
+        ensures shorter { OnOk result (length self.new.symbols.rest.now < length self.old.symbols.rest.now) }
+    {
+        self.symbols.take(Mark::OpenBrace)?;
+        let rules = self.inside(room, Inside::Rules)?;
+        self.symbols.take(Mark::CloseBrace)?;
+        Ok(self.arena.push(TreeNode::Case(rules), start)?)
     }
-}
 
-/// What follows the bracket of an application.
-#[cycle(parser)]
-fn applied<'a>(
-    arena: &mut Arena,
-    alloc: Global,
-    room: usize,
-    start: usize,
-    tree: u64,
-    tokens: &'a [Symbol],
-) -> Result<Option<(u64, &'a [Symbol])>, Fault<'a>>
-    requires { tree < length (trees arena.old) }
-    ensures is { GivesTurn (λ x. x.0) (λ x. x.1.now) arena.old arena.new result (applied_to (within room) start (tree_at (trees arena.old) tree) tokens.now) }
-    ensures shorter { IfOk result (λ o. IfSome o (λ x. length x.1.now < length tokens.now)) }
-{
-    let (arguments, rest) = enclosed(arena, alloc, room, Inside::Arguments, tokens)?;
-    Ok(Some((
-        arena.push(
-            TreeNode::Apply(TreeId::new(tree), TreeId::new(arguments)),
-            start,
-        )?,
-        rest,
-    )))
-}
-
-/// What stands in a pattern, by what its first token begins. `rest` are the tokens after that one.
-#[cycle(parser)]
-fn atom_by_head<'a>(
-    arena: &mut Arena,
-    alloc: Global,
-    room: usize,
-    head: Head,
-    rest: &'a [Symbol],
-    tokens: &'a [Symbol],
-) -> Result<(u64, &'a [Symbol]), Fault<'a>>
-    requires { length rest.now < length tokens.now }
-    ensures is { Gives (λ x. x.0) (λ x. x.1.now) arena.old arena.new result (atom_by_head (within room) head tokens.now rest.now) }
-    ensures shorter { IfOk result (λ x. length x.1.now < length tokens.now) }
-{
-    let start = tokens.len();
-    match head {
-        Head::Integer(n) => Ok((arena.push(TreeNode::Number(n), start)?, rest)),
-        Head::Name(n) => Ok((arena.push(TreeNode::Named(n), start)?, rest)),
-        Head::Plus => plus_in_pattern(arena, start, rest),
-        Head::Minus => minus_in_pattern(arena, start, rest),
-        Head::Group => enclosed(arena, alloc, room, Inside::Pattern, rest),
-        _ => Err(Fault::Syntax(tokens)),
+    #[tactic(auto, unfolding(fv_grammar::specs::Descent::iteration))]
+    #[cycle(parser)]
+    fn iteration(&mut self, room: usize, start: usize, kind: Iteration) -> Result<TreeId, Stop>
+        ensures is { Gives self.old self.new result (iteration (within room) start kind self.old.symbols.rest.now) }
+        ensures shorter { OnOk result (length self.new.symbols.rest.now < length self.old.symbols.rest.now) }
+    {
+        self.symbols.take(Mark::Open)?;
+        let index = self.symbols.name()?;
+        self.symbols.take(Mark::Comma)?;
+        let count = self.argument(room)?;
+        let body = self.enclosed(room, Inside::Expression)?;
+        Ok(
+            self.arena
+                .push(TreeNode::Iteration(kind, index, count, body), start)?,
+        )
     }
-}
 
-/// What the operators join.
-#[cycle(parser)]
-pub(crate) fn operand<'a>(
-    arena: &mut Arena,
-    alloc: Global,
-    room: usize,
-    pattern: bool,
-    tokens: &'a [Symbol],
-) -> Result<(u64, &'a [Symbol]), Fault<'a>>
-    ensures is { Gives (λ x. x.0) (λ x. x.1.now) arena.old arena.new result (operand (within room) pattern tokens.now) }
-    ensures shorter { IfOk result (λ x. length x.1.now < length tokens.now) }
-{
-    if !pattern {
-        return postfix(arena, alloc, room, tokens);
+    #[tactic(auto, unfolding(fv_grammar::specs::Descent::ports))]
+    #[cycle(parser)]
+    fn ports(&mut self, room: usize, start: usize, side: Side) -> Result<TreeId, Stop>
+        ensures is { Gives self.old self.new result (ports (within room) start side self.old.symbols.rest.now) }
+        ensures shorter { OnOk result (length self.new.symbols.rest.now < length self.old.symbols.rest.now) }
+    {
+        self.symbols.take(Mark::Open)?;
+        let tree = self.enclosed(room, Inside::Expression)?;
+        Ok(self.arena.push(TreeNode::Ports(side, tree), start)?)
     }
-    match tokens {
-        [] => Err(Fault::Syntax(tokens)),
-        [token, rest @ ..] => atom_by_head(arena, alloc, room, head(*token), rest, tokens),
+
+    #[tactic(auto, unfolding(fv_grammar::specs::Descent::slider))]
+    #[cycle(parser)]
+    fn slider(&mut self, room: usize, start: usize, kind: Slider) -> Result<TreeId, Stop>
+        ensures is { Gives self.old self.new result (slider (within room) start kind self.old.symbols.rest.now) }
+        ensures shorter { OnOk result (length self.new.symbols.rest.now < length self.old.symbols.rest.now) }
+    {
+        let text = self.symbols.label()?;
+        let init = self.argument(room)?;
+        let min = self.argument(room)?;
+        let max = self.argument(room)?;
+        let step = self.enclosed(room, Inside::Argument)?;
+        Ok(
+            self.arena
+                .push(TreeNode::Slider(kind, text, init, min, max, step), start)?,
+        )
+    }
+
+    #[tactic(auto, unfolding(fv_grammar::specs::Descent::panel))]
+    #[cycle(parser)]
+    fn panel(&mut self, room: usize, start: usize, kind: Panel) -> Result<TreeId, Stop>
+        ensures is { Gives self.old self.new result (panel (within room) start kind self.old.symbols.rest.now) }
+        ensures shorter { OnOk result (length self.new.symbols.rest.now < length self.old.symbols.rest.now) }
+    {
+        let text = self.symbols.label()?;
+        let tree = self.enclosed(room, Inside::Expression)?;
+        Ok(self.arena.push(TreeNode::Panel(kind, text, tree), start)?)
+    }
+
+    /// An operand, by what the first of all its symbols begins, which was passed.
+    #[tactic(auto, unfolding(fv_grammar::specs::Descent::by_head))]
+    #[cycle(parser)]
+    fn by_head(&mut self, room: usize, head: Head, all: &'a [Symbol]) -> Result<TreeId, Stop>
+        requires { length self.old.symbols.rest.now < length all.now }
+        ensures is { Gives self.old self.new result (by_head (within room) head all.now self.old.symbols.rest.now) }
+        ensures shorter { OnOk result (length self.new.symbols.rest.now < length all.now) }
+    {
+        let start = all.len();
+        match head {
+            Head::Integer(n) => Ok(self.arena.push(TreeNode::Number(n), start)?),
+            Head::Name(n) => Ok(self.arena.push(TreeNode::Named(n), start)?),
+            Head::Plus => self.plus(start),
+            Head::Minus => self.minus(start),
+            Head::Wire => Ok(self.arena.push(TreeNode::Wire, start)?),
+            Head::Cut => Ok(self.arena.push(TreeNode::Cut, start)?),
+            Head::Primitive(p) => Ok(self.arena.push(TreeNode::Primitive(p), start)?),
+            Head::Group => self.group(room, start),
+            Head::Abstraction => self.abstraction(room, start),
+            Head::Case => self.case_of(room, start),
+            Head::Iteration(kind) => self.iteration(room, start, kind),
+            Head::Ports(side) => self.ports(room, start, side),
+            Head::Switch(kind) => self.switch(start, kind),
+            Head::Slider(kind) => self.slider(room, start, kind),
+            Head::Panel(kind) => self.panel(room, start, kind),
+            Head::Nothing => {
+                self.symbols.rest = all;
+                Err(Stop::Syntax)
+            }
+        }
+    }
+
+    #[cycle(parser)]
+    fn primary(&mut self, room: usize) -> Result<TreeId, Stop>
+        ensures is { Gives self.old self.new result (primary (within room) self.old.symbols.rest.now) }
+        ensures shorter { OnOk result (length self.new.symbols.rest.now < length self.old.symbols.rest.now) }
+    {
+        let all = self.symbols.rest;
+        match all {
+            [] => Err(Stop::Syntax),
+            [symbol, after @ ..] => {
+                self.symbols.rest = after;
+                self.by_head(room, head(*symbol), all)
+            }
+        }
+    }
+
+    #[tactic(auto, unfolding(fv_grammar::specs::Descent::postfix))]
+    #[cycle(parser)]
+    fn postfix(&mut self, room: usize) -> Result<TreeId, Stop>
+        ensures is { Gives self.old self.new result (postfix (within room) self.old.symbols.rest.now) }
+        ensures shorter { OnOk result (length self.new.symbols.rest.now < length self.old.symbols.rest.now) }
+    {
+        let start = self.symbols.rest.len();
+        let first = self.primary(room)?;
+        self.postfixes(room, start, first)
+    }
+
+    #[cycle(parser)]
+    fn postfixes(&mut self, room: usize, start: usize, first: TreeId) -> Result<TreeId, Stop>
+        requires { first < length (trees self.old.arena) }
+        ensures is { Gives self.old self.new result (run (postfix_turn (within room) start) (tree_at (trees self.old.arena) first) self.old.symbols.rest.now) }
+        ensures shorter { OnOk result (length self.new.symbols.rest.now ≤ length self.old.symbols.rest.now) }
+    {
+        let mut tree = first;
+        while let Some(next) = self.next_postfix(room, start, tree)? {
+            tree = next;
+        }
+        Ok(tree)
+    }
+
+    #[cycle(parser)]
+    fn next_postfix(
+        &mut self,
+        room: usize,
+        start: usize,
+        tree: TreeId,
+    ) -> Result<Option<TreeId>, Stop>
+        requires { tree < length (trees self.old.arena) }
+        ensures is { GivesTurn self.old self.new result (postfix_turn (within room) start (tree_at (trees self.old.arena) tree) self.old.symbols.rest.now) }
+        ensures shorter { IfOk result (λ o. OnSome o (length self.new.symbols.rest.now < length self.old.symbols.rest.now)) }
+    {
+        match self.symbols.rest {
+            [Symbol::Tick, after @ ..] => {
+                self.symbols.rest = after;
+                Ok(Some(self.arena.push(TreeNode::Delayed(tree), start)?))
+            }
+            [Symbol::Open, after @ ..] => {
+                self.symbols.rest = after;
+                self.applied(room, start, tree)
+            }
+            _ => Ok(None),
+        }
+    }
+
+    /// What follows the bracket of an application.
+    #[cycle(parser)]
+    fn applied(&mut self, room: usize, start: usize, tree: TreeId) -> Result<Option<TreeId>, Stop>
+        requires { tree < length (trees self.old.arena) }
+        ensures is { GivesTurn self.old self.new result (applied_to (within room) start (tree_at (trees self.old.arena) tree) self.old.symbols.rest.now) }
+        ensures shorter { IfOk result (λ o. OnSome o (length self.new.symbols.rest.now < length self.old.symbols.rest.now)) }
+    {
+        let arguments = self.enclosed(room, Inside::Arguments)?;
+        Ok(Some(self.arena.push(TreeNode::Apply(tree, arguments), start)?))
+    }
+
+    /// What stands in a pattern, by what the first of all its symbols begins, which was passed.
+    #[cycle(parser)]
+    fn atom_by_head(&mut self, room: usize, head: Head, all: &'a [Symbol]) -> Result<TreeId, Stop>
+        requires { length self.old.symbols.rest.now < length all.now }
+        ensures is { Gives self.old self.new result (atom_by_head (within room) head all.now self.old.symbols.rest.now) }
+        ensures shorter { OnOk result (length self.new.symbols.rest.now < length all.now) }
+    {
+        let start = all.len();
+        match head {
+            Head::Integer(n) => Ok(self.arena.push(TreeNode::Number(n), start)?),
+            Head::Name(n) => Ok(self.arena.push(TreeNode::Named(n), start)?),
+            Head::Plus => self.plus_in_pattern(start),
+            Head::Minus => self.minus_in_pattern(start),
+            Head::Group => self.enclosed(room, Inside::Pattern),
+            _ => {
+                self.symbols.rest = all;
+                Err(Stop::Syntax)
+            }
+        }
+    }
+
+    /// What the operators join.
+    #[cycle(parser)]
+    pub(crate) fn operand(&mut self, room: usize, pattern: bool) -> Result<TreeId, Stop>
+        ensures is { Gives self.old self.new result (operand (within room) pattern self.old.symbols.rest.now) }
+        ensures shorter { OnOk result (length self.new.symbols.rest.now < length self.old.symbols.rest.now) }
+    {
+        if !pattern {
+            return self.postfix(room);
+        }
+        let all = self.symbols.rest;
+        match all {
+            [] => Err(Stop::Syntax),
+            [symbol, after @ ..] => {
+                self.symbols.rest = after;
+                self.atom_by_head(room, head(*symbol), all)
+            }
+        }
     }
 }

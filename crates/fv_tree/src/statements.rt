@@ -1,295 +1,221 @@
 // Definitions, rules and lists.
 
-ghost use Rattle.std.specs.Prelude.{◌<◌, ◌≤◌, length, IfOk, IfSome};
+ghost use Rattle.std.specs.Prelude.{◌≡◌, ◌<◌, ◌≤◌, ◌++◌, length, OnOk, IfOk, OnSome};
 ghost use Rattle.fv_grammar.specs.Descent.{within, ended, function_after, constant_after, after_name, definition, one_rule, statement, inner_definition, next_rule, next_part, item, further, first_item, listed};
 ghost use Rattle.fv_tree.specs.Arena.{trees, AllBelow};
 ghost use Rattle.fv_tree.specs.Gives.{Gives, GivesItem, in_front, list_of};
 
-use crate::arena::Arena;
 use crate::node::{TreeId, TreeNode};
-use crate::operands::enclosed;
-use crate::parts::{begun, keep};
-use crate::phrases::{expression, phrase};
-use crate::single::{Fault, a_name, arrow, declaration, equals, opening, semicolon};
-use fv_grammar::{Inside, Items};
+use crate::phrases::LOOSEST;
+use crate::reader::{Reader, Stop};
+use fv_grammar::{Inside, Items, Mark};
 use fv_lex::Symbol;
-use std::alloc::Global;
+use std::alloc::{AllocError, Global};
 
-/// An expression, and the semicolon behind it.
-#[tactic(auto, unfolding(fv_grammar::specs::Descent::ended))]
-#[cycle(parser)]
-fn ended<'a>(
-    arena: &mut Arena,
-    alloc: Global,
-    room: usize,
-    tokens: &'a [Symbol],
-) -> Result<(u64, &'a [Symbol]), Fault<'a>>
-    ensures is { Gives (λ x. x.0) (λ x. x.1.now) arena.old arena.new result (ended (within room) tokens.now) }
-    ensures shorter { IfOk result (λ x. length x.1.now < length tokens.now) }
+/// The list of a first part, if there is one.
+fn begun(alloc: Global, first: Option<TreeId>) -> Result<Vec<TreeId>, AllocError>
+    ensures { IfOk result (λ parts. parts.items ≡ list_of first) }
 {
-    let (tree, rest) = expression(arena, alloc, room, tokens)?;
-    let rest = semicolon(rest)?;
-    Ok((tree, rest))
+    let mut parts = Vec::new(alloc);
+    keep(&mut parts, first)?;
+    Ok(parts)
 }
 
-#[tactic(auto, unfolding(fv_grammar::specs::Descent::function_after))]
-#[cycle(parser)]
-fn function_after<'a>(
-    arena: &mut Arena,
-    alloc: Global,
-    room: usize,
-    start: usize,
-    name: u64,
-    tokens: &'a [Symbol],
-) -> Result<(u64, &'a [Symbol]), Fault<'a>>
-    ensures is { Gives (λ x. x.0) (λ x. x.1.now) arena.old arena.new result (function_after (within room) start name tokens.now) }
-    ensures shorter { IfOk result (λ x. length x.1.now < length tokens.now) }
+/// Keeps what was found of a list.
+fn keep(parts: &mut Vec<TreeId>, found: Option<TreeId>) -> Result<(), AllocError>
+    ensures { IfOk result (λ _. parts.new.items ≡ parts.old.items ++ list_of found) }
 {
-    let (patterns, rest) = enclosed(arena, alloc, room, Inside::Patterns, tokens)?;
-    let rest = equals(rest)?;
-    let (side, rest) = ended(arena, alloc, room, rest)?;
-    Ok((
-        arena.push(
-            TreeNode::Function(name, TreeId::new(patterns), TreeId::new(side)),
-            start,
-        )?,
-        rest,
-    ))
-}
-
-#[tactic(auto, unfolding(fv_grammar::specs::Descent::constant_after))]
-#[cycle(parser)]
-fn constant_after<'a>(
-    arena: &mut Arena,
-    alloc: Global,
-    room: usize,
-    start: usize,
-    name: u64,
-    tokens: &'a [Symbol],
-) -> Result<(u64, &'a [Symbol]), Fault<'a>>
-    ensures is { Gives (λ x. x.0) (λ x. x.1.now) arena.old arena.new result (constant_after (within room) start name tokens.now) }
-    ensures shorter { IfOk result (λ x. length x.1.now < length tokens.now) }
-{
-    let rest = equals(tokens)?;
-    let (side, rest) = ended(arena, alloc, room, rest)?;
-    Ok((
-        arena.push(TreeNode::Constant(name, TreeId::new(side)), start)?,
-        rest,
-    ))
-}
-
-#[cycle(parser)]
-fn after_name<'a>(
-    arena: &mut Arena,
-    alloc: Global,
-    room: usize,
-    start: usize,
-    name: u64,
-    tokens: &'a [Symbol],
-) -> Result<(u64, &'a [Symbol]), Fault<'a>>
-    ensures is { Gives (λ x. x.0) (λ x. x.1.now) arena.old arena.new result (after_name (within room) start name tokens.now) }
-    ensures shorter { IfOk result (λ x. length x.1.now < length tokens.now) }
-{
-    match tokens {
-        [Symbol::Open, rest @ ..] => function_after(arena, alloc, room, start, name, rest),
-        _ => constant_after(arena, alloc, room, start, name, tokens),
-    }
-}
-
-#[tactic(auto, unfolding(fv_grammar::specs::Descent::definition))]
-#[cycle(parser)]
-fn definition<'a>(
-    arena: &mut Arena,
-    alloc: Global,
-    room: usize,
-    tokens: &'a [Symbol],
-) -> Result<(u64, &'a [Symbol]), Fault<'a>>
-    ensures is { Gives (λ x. x.0) (λ x. x.1.now) arena.old arena.new result (definition (within room) tokens.now) }
-    ensures shorter { IfOk result (λ x. length x.1.now < length tokens.now) }
-{
-    let (name, rest) = a_name(tokens)?;
-    after_name(arena, alloc, room, tokens.len(), name, rest)
-}
-
-#[tactic(auto, unfolding(fv_grammar::specs::Descent::one_rule))]
-#[cycle(parser)]
-fn one_rule<'a>(
-    arena: &mut Arena,
-    alloc: Global,
-    room: usize,
-    tokens: &'a [Symbol],
-) -> Result<(u64, &'a [Symbol]), Fault<'a>>
-    ensures is { Gives (λ x. x.0) (λ x. x.1.now) arena.old arena.new result (one_rule (within room) tokens.now) }
-    ensures shorter { IfOk result (λ x. length x.1.now < length tokens.now) }
-{
-    let rest = opening(tokens)?;
-    let (patterns, rest) = enclosed(arena, alloc, room, Inside::Patterns, rest)?;
-    let rest = arrow(rest)?;
-    let (side, rest) = ended(arena, alloc, room, rest)?;
-    Ok((
-        arena.push(
-            TreeNode::Rule(TreeId::new(patterns), TreeId::new(side)),
-            tokens.len(),
-        )?,
-        rest,
-    ))
-}
-
-#[cycle(parser)]
-fn statement<'a>(
-    arena: &mut Arena,
-    alloc: Global,
-    room: usize,
-    tokens: &'a [Symbol],
-) -> Result<Option<(Option<u64>, &'a [Symbol])>, Fault<'a>>
-    ensures is { GivesItem (λ x. x.0) (λ x. x.1.now) arena.old arena.new result (statement (within room) tokens.now) }
-    ensures shorter { IfOk result (λ o. IfSome o (λ x. length x.1.now < length tokens.now)) }
-{
-    match tokens {
-        [Symbol::Name(_), ..] => {
-            let (tree, rest) = definition(arena, alloc, room, tokens)?;
-            Ok(Some((Some(tree), rest)))
+    match found {
+        None => Ok(()),
+        Some(id) => {
+            parts.push(id)?;
+            Ok(())
         }
-        [Symbol::Declare, rest @ ..] => {
-            let rest = declaration(rest)?;
-            Ok(Some((None, rest)))
+    }
+}
+
+impl Reader<'_> {
+    /// An expression, and the semicolon behind it.
+    #[tactic(auto, unfolding(fv_grammar::specs::Descent::ended))]
+    #[cycle(parser)]
+    fn ended(&mut self, room: usize) -> Result<TreeId, Stop>
+        ensures is { Gives self.old self.new result (ended (within room) self.old.symbols.rest.now) }
+        ensures shorter { OnOk result (length self.new.symbols.rest.now < length self.old.symbols.rest.now) }
+    {
+        let tree = self.expression(room)?;
+        self.symbols.take(Mark::Semicolon)?;
+        Ok(tree)
+    }
+
+    #[tactic(auto, unfolding(fv_grammar::specs::Descent::function_after))]
+    #[cycle(parser)]
+    fn function_after(&mut self, room: usize, start: usize, name: u64) -> Result<TreeId, Stop>
+        ensures is { Gives self.old self.new result (function_after (within room) start name self.old.symbols.rest.now) }
+        ensures shorter { OnOk result (length self.new.symbols.rest.now < length self.old.symbols.rest.now) }
+    {
+        let patterns = self.enclosed(room, Inside::Patterns)?;
+        self.symbols.take(Mark::Equals)?;
+        let side = self.ended(room)?;
+        Ok(
+            self.arena
+                .push(TreeNode::Function(name, patterns, side), start)?,
+        )
+    }
+
+    #[tactic(auto, unfolding(fv_grammar::specs::Descent::constant_after))]
+    #[cycle(parser)]
+    fn constant_after(&mut self, room: usize, start: usize, name: u64) -> Result<TreeId, Stop>
+        ensures is { Gives self.old self.new result (constant_after (within room) start name self.old.symbols.rest.now) }
+        ensures shorter { OnOk result (length self.new.symbols.rest.now < length self.old.symbols.rest.now) }
+    {
+        self.symbols.take(Mark::Equals)?;
+        let side = self.ended(room)?;
+        Ok(self.arena.push(TreeNode::Constant(name, side), start)?)
+    }
+
+    #[cycle(parser)]
+    fn after_name(&mut self, room: usize, start: usize, name: u64) -> Result<TreeId, Stop>
+        ensures is { Gives self.old self.new result (after_name (within room) start name self.old.symbols.rest.now) }
+        ensures shorter { OnOk result (length self.new.symbols.rest.now < length self.old.symbols.rest.now) }
+    {
+        match self.symbols.rest {
+            [Symbol::Open, after @ ..] => {
+                self.symbols.rest = after;
+                self.function_after(room, start, name)
+            }
+            _ => self.constant_after(room, start, name),
         }
-        _ => Ok(None),
     }
-}
 
-#[cycle(parser)]
-fn inner_definition<'a>(
-    arena: &mut Arena,
-    alloc: Global,
-    room: usize,
-    tokens: &'a [Symbol],
-) -> Result<Option<(Option<u64>, &'a [Symbol])>, Fault<'a>>
-    ensures is { GivesItem (λ x. x.0) (λ x. x.1.now) arena.old arena.new result (inner_definition (within room) tokens.now) }
-    ensures shorter { IfOk result (λ o. IfSome o (λ x. length x.1.now < length tokens.now)) }
-{
-    match tokens {
-        [Symbol::Name(_), ..] => {
-            let (tree, rest) = definition(arena, alloc, room, tokens)?;
-            Ok(Some((Some(tree), rest)))
+    #[tactic(auto, unfolding(fv_grammar::specs::Descent::definition))]
+    #[cycle(parser)]
+    fn definition(&mut self, room: usize) -> Result<TreeId, Stop>
+        ensures is { Gives self.old self.new result (definition (within room) self.old.symbols.rest.now) }
+        ensures shorter { OnOk result (length self.new.symbols.rest.now < length self.old.symbols.rest.now) }
+    {
+        let start = self.symbols.rest.len();
+        let name = self.symbols.name()?;
+        self.after_name(room, start, name)
+    }
+
+    #[tactic(auto, unfolding(fv_grammar::specs::Descent::one_rule))]
+    #[cycle(parser)]
+    fn one_rule(&mut self, room: usize) -> Result<TreeId, Stop>
+        ensures is { Gives self.old self.new result (one_rule (within room) self.old.symbols.rest.now) }
+        ensures shorter { OnOk result (length self.new.symbols.rest.now < length self.old.symbols.rest.now) }
+    {
+        let start = self.symbols.rest.len();
+        self.symbols.take(Mark::Open)?;
+        let patterns = self.enclosed(room, Inside::Patterns)?;
+        self.symbols.take(Mark::Arrow)?;
+        let side = self.ended(room)?;
+        Ok(self.arena.push(TreeNode::Rule(patterns, side), start)?)
+    }
+
+    #[cycle(parser)]
+    fn statement(&mut self, room: usize) -> Result<Option<Option<TreeId>>, Stop>
+        ensures is { GivesItem self.old self.new result (statement (within room) self.old.symbols.rest.now) }
+        ensures shorter { IfOk result (λ o. OnSome o (length self.new.symbols.rest.now < length self.old.symbols.rest.now)) }
+    {
+        match self.symbols.rest {
+            [Symbol::Name(_), ..] => Ok(Some(Some(self.definition(room)?))),
+            [Symbol::Declare, after @ ..] => {
+                self.symbols.rest = after;
+                self.symbols.declaration()?;
+                Ok(Some(None))
+            }
+            _ => Ok(None),
         }
-        _ => Ok(None),
     }
-}
 
-#[cycle(parser)]
-fn next_rule<'a>(
-    arena: &mut Arena,
-    alloc: Global,
-    room: usize,
-    tokens: &'a [Symbol],
-) -> Result<Option<(Option<u64>, &'a [Symbol])>, Fault<'a>>
-    ensures is { GivesItem (λ x. x.0) (λ x. x.1.now) arena.old arena.new result (next_rule (within room) tokens.now) }
-    ensures shorter { IfOk result (λ o. IfSome o (λ x. length x.1.now < length tokens.now)) }
-{
-    match tokens {
-        [Symbol::Open, ..] => {
-            let (tree, rest) = one_rule(arena, alloc, room, tokens)?;
-            Ok(Some((Some(tree), rest)))
+    #[cycle(parser)]
+    fn inner_definition(&mut self, room: usize) -> Result<Option<Option<TreeId>>, Stop>
+        ensures is { GivesItem self.old self.new result (inner_definition (within room) self.old.symbols.rest.now) }
+        ensures shorter { IfOk result (λ o. OnSome o (length self.new.symbols.rest.now < length self.old.symbols.rest.now)) }
+    {
+        match self.symbols.rest {
+            [Symbol::Name(_), ..] => Ok(Some(Some(self.definition(room)?))),
+            _ => Ok(None),
         }
-        _ => Ok(None),
     }
-}
 
-#[cycle(parser)]
-fn next_part<'a>(
-    arena: &mut Arena,
-    alloc: Global,
-    room: usize,
-    pattern: bool,
-    tokens: &'a [Symbol],
-) -> Result<Option<(Option<u64>, &'a [Symbol])>, Fault<'a>>
-    ensures is { GivesItem (λ x. x.0) (λ x. x.1.now) arena.old arena.new result (next_part (within room) pattern tokens.now) }
-    ensures shorter { IfOk result (λ o. IfSome o (λ x. length x.1.now < length tokens.now)) }
-{
-    match tokens {
-        [Symbol::Comma, rest @ ..] => {
-            let (tree, rest) = phrase(arena, alloc, room, pattern, false, 8, rest)?;
-            Ok(Some((Some(tree), rest)))
+    #[cycle(parser)]
+    fn next_rule(&mut self, room: usize) -> Result<Option<Option<TreeId>>, Stop>
+        ensures is { GivesItem self.old self.new result (next_rule (within room) self.old.symbols.rest.now) }
+        ensures shorter { IfOk result (λ o. OnSome o (length self.new.symbols.rest.now < length self.old.symbols.rest.now)) }
+    {
+        match self.symbols.rest {
+            [Symbol::Open, ..] => Ok(Some(Some(self.one_rule(room)?))),
+            _ => Ok(None),
         }
-        _ => Ok(None),
     }
-}
 
-#[cycle(parser)]
-fn next_item<'a>(
-    arena: &mut Arena,
-    alloc: Global,
-    room: usize,
-    items: Items,
-    tokens: &'a [Symbol],
-) -> Result<Option<(Option<u64>, &'a [Symbol])>, Fault<'a>>
-    ensures is { GivesItem (λ x. x.0) (λ x. x.1.now) arena.old arena.new result (item (within room) items tokens.now) }
-    ensures shorter { IfOk result (λ o. IfSome o (λ x. length x.1.now < length tokens.now)) }
-{
-    match items {
-        Items::Statements => statement(arena, alloc, room, tokens),
-        Items::Definitions => inner_definition(arena, alloc, room, tokens),
-        Items::Rules => next_rule(arena, alloc, room, tokens),
-        Items::Parts(pattern) => next_part(arena, alloc, room, pattern, tokens),
+    #[cycle(parser)]
+    fn next_part(&mut self, room: usize, pattern: bool) -> Result<Option<Option<TreeId>>, Stop>
+        ensures is { GivesItem self.old self.new result (next_part (within room) pattern self.old.symbols.rest.now) }
+        ensures shorter { IfOk result (λ o. OnSome o (length self.new.symbols.rest.now < length self.old.symbols.rest.now)) }
+    {
+        match self.symbols.rest {
+            [Symbol::Comma, after @ ..] => {
+                self.symbols.rest = after;
+                Ok(Some(Some(self.phrase(room, pattern, false, LOOSEST)?)))
+            }
+            _ => Ok(None),
+        }
     }
-}
 
-/// A list: the part that was read, if any, and any number of further ones.
-#[cycle(parser)]
-pub(crate) fn further<'a>(
-    arena: &mut Arena,
-    alloc: Global,
-    room: usize,
-    items: Items,
-    start: usize,
-    first: Option<u64>,
-    tokens: &'a [Symbol],
-) -> Result<(u64, &'a [Symbol]), Fault<'a>>
-    requires { AllBelow (length (trees arena.old)) (list_of first) }
-    ensures is { Gives (λ x. x.0) (λ x. x.1.now) arena.old arena.new result (in_front (trees arena.old) (list_of first) (further (within room) items tokens.now)) }
-    ensures shorter { IfOk result (λ x. length x.1.now ≤ length tokens.now) }
-{
-    let mut parts = begun(alloc, first)?;
-    let mut rest = tokens;
-    while let Some((found, after)) = next_item(arena, alloc, room, items, rest)? {
-        keep(&mut parts, found)?;
-        rest = after;
+    #[cycle(parser)]
+    fn next_item(&mut self, room: usize, items: Items) -> Result<Option<Option<TreeId>>, Stop>
+        ensures is { GivesItem self.old self.new result (item (within room) items self.old.symbols.rest.now) }
+        ensures shorter { IfOk result (λ o. OnSome o (length self.new.symbols.rest.now < length self.old.symbols.rest.now)) }
+    {
+        match items {
+            Items::Statements => self.statement(room),
+            Items::Definitions => self.inner_definition(room),
+            Items::Rules => self.next_rule(room),
+            Items::Parts(pattern) => self.next_part(room, pattern),
+        }
     }
-    Ok((arena.push(TreeNode::List(parts), start)?, rest))
-}
 
-#[cycle(parser)]
-fn first_item<'a>(
-    arena: &mut Arena,
-    alloc: Global,
-    room: usize,
-    items: Items,
-    tokens: &'a [Symbol],
-) -> Result<(u64, &'a [Symbol]), Fault<'a>>
-    ensures is { Gives (λ x. x.0) (λ x. x.1.now) arena.old arena.new result (first_item (within room) items tokens.now) }
-    ensures shorter { IfOk result (λ x. length x.1.now < length tokens.now) }
-{
-    match items {
-        Items::Rules => one_rule(arena, alloc, room, tokens),
-        Items::Parts(pattern) => phrase(arena, alloc, room, pattern, false, 8, tokens),
-        _ => Err(Fault::Syntax(tokens)),
+    /// A list: the part that was read, if any, and any number of further ones. A list has no place of its own.
+    #[cycle(parser)]
+    pub(crate) fn further(
+        &mut self,
+        room: usize,
+        items: Items,
+        first: Option<TreeId>,
+    ) -> Result<TreeId, Stop>
+        requires { AllBelow (length (trees self.old.arena)) (list_of first) }
+        ensures is { Gives self.old self.new result (in_front (trees self.old.arena) (list_of first) (further (within room) items self.old.symbols.rest.now)) }
+        ensures shorter { OnOk result (length self.new.symbols.rest.now ≤ length self.old.symbols.rest.now) }
+    {
+        let mut parts = begun(self.alloc, first)?;
+        while let Some(found) = self.next_item(room, items)? {
+            keep(&mut parts, found)?;
+        }
+        Ok(self.arena.push(TreeNode::List(parts), 0)?)
     }
-}
 
-/// A list that has a part.
-#[tactic(auto, unfolding(fv_grammar::specs::Descent::listed))]
-#[cycle(parser)]
-pub(crate) fn listed<'a>(
-    arena: &mut Arena,
-    alloc: Global,
-    room: usize,
-    items: Items,
-    tokens: &'a [Symbol],
-) -> Result<(u64, &'a [Symbol]), Fault<'a>>
-    ensures is { Gives (λ x. x.0) (λ x. x.1.now) arena.old arena.new result (listed (within room) items tokens.now) }
-    ensures shorter { IfOk result (λ x. length x.1.now < length tokens.now) }
-{
-    let (first, rest) = first_item(arena, alloc, room, items, tokens)?;
-    further(arena, alloc, room, items, tokens.len(), Some(first), rest)
+    #[cycle(parser)]
+    fn first_item(&mut self, room: usize, items: Items) -> Result<TreeId, Stop>
+        ensures is { Gives self.old self.new result (first_item (within room) items self.old.symbols.rest.now) }
+        ensures shorter { OnOk result (length self.new.symbols.rest.now < length self.old.symbols.rest.now) }
+    {
+        match items {
+            Items::Rules => self.one_rule(room),
+            Items::Parts(pattern) => self.phrase(room, pattern, false, LOOSEST),
+            _ => Err(Stop::Syntax),
+        }
+    }
+
+    /// A list that has a part.
+    #[tactic(auto, unfolding(fv_grammar::specs::Descent::listed))]
+    #[cycle(parser)]
+    pub(crate) fn listed(&mut self, room: usize, items: Items) -> Result<TreeId, Stop>
+        ensures is { Gives self.old self.new result (listed (within room) items self.old.symbols.rest.now) }
+        ensures shorter { OnOk result (length self.new.symbols.rest.now < length self.old.symbols.rest.now) }
+    {
+        let first = self.first_item(room, items)?;
+        self.further(room, items, Some(first))
+    }
 }

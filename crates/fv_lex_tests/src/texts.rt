@@ -1,13 +1,28 @@
-//! The tokens of whole texts, with their places.
+// The tokens of whole texts, with their places.
 
-use crate::{Kind, LexRefusal, Place, Symbol, one_answer, tokens};
 use fv_base::Role;
+use fv_lex::{Kind, LexRefusal, Place, Symbol, Tokens, one_answer, tokens};
 use std::alloc::{AllocError, Global};
 use std::process::Abort;
 use std::test::Fail;
 
 /// A token: its symbol, its column and its bytes.
 type Row = (Symbol, u32, &'static [u8]);
+
+/// The token with this number is this one. Answers the next number.
+fn expect_token(rt: &impl Abort, found: &Tokens, i: u32, kind: Kind, line: u32, row: &Row) -> u32 {
+    let (symbol, column, bytes) = *row;
+    assert!(rt; i < found.len(), "token {i}");
+    assert_eq!(rt;
+        found.symbols().get(i as usize).copied(),
+        Some(symbol),
+        "token {i}"
+    );
+    assert_eq!(rt; found.kind(i), kind, "token {i}");
+    assert!(rt; found.text(i) == bytes, "token {i}");
+    assert_eq!(rt; found.place(i), Place { line, column }, "token {i}");
+    i + 1
+}
 
 /// The tokens of a text of one line are these, all of one kind.
 fn expect_line(
@@ -18,23 +33,9 @@ fn expect_line(
     rows: &[Row],
 ) -> Result<(), LexRefusal> {
     let found = tokens(alloc, text)?;
-    let symbols = found.symbols();
     let mut i = 0;
-    for (symbol, column, bytes) in rows {
-        assert!(rt; i < found.len(), "token {i}");
-        assert_eq!(rt;
-            symbols.get(i as usize).copied(),
-            Some(*symbol),
-            "token {i}"
-        );
-        assert_eq!(rt; found.kind(i), kind, "token {i}");
-        assert!(rt; found.text(i) == *bytes, "token {i}");
-        let place = Place {
-            line: 1,
-            column: *column,
-        };
-        assert_eq!(rt; found.place(i), place, "token {i}");
-        i += 1;
+    for row in rows {
+        i = expect_token(rt, &found, i, kind, 1, row);
     }
     assert_eq!(rt; found.len(), i);
     Ok(())
@@ -139,44 +140,30 @@ fn unsupported_words(rt: HostRuntime) -> Result<(), Fail> {
 fn program(rt: HostRuntime) -> Result<(), Fail> {
     let text =
         b"/* two\n lines */\ndeclare name \"t\"; /* c */ process = hgroup(\"m\", _ * button(\"on\")); // end";
-    let rows: [(Symbol, Kind, u32, &[u8]); 18] = [
-        (Symbol::Declare, Kind::Name, 1, b"declare"),
-        (Symbol::Name(1), Kind::Name, 9, b"name"),
-        (Symbol::Text(2), Kind::Text, 14, b"\"t\""),
-        (Symbol::Semicolon, Kind::Sign, 17, b";"),
-        (Symbol::Name(4), Kind::Name, 27, b"process"),
-        (Symbol::Equals, Kind::Sign, 35, b"="),
-        (Symbol::Hgroup, Kind::Name, 37, b"hgroup"),
-        (Symbol::Open, Kind::Sign, 43, b"("),
-        (Symbol::Text(8), Kind::Text, 44, b"\"m\""),
-        (Symbol::Comma, Kind::Sign, 47, b","),
-        (Symbol::Underscore, Kind::Sign, 49, b"_"),
-        (Symbol::Times, Kind::Sign, 51, b"*"),
-        (Symbol::Button, Kind::Name, 53, b"button"),
-        (Symbol::Open, Kind::Sign, 59, b"("),
-        (Symbol::Text(14), Kind::Text, 60, b"\"on\""),
-        (Symbol::Close, Kind::Sign, 64, b")"),
-        (Symbol::Close, Kind::Sign, 65, b")"),
-        (Symbol::Semicolon, Kind::Sign, 66, b";"),
+    let rows: [(Kind, Row); 18] = [
+        (Kind::Name, (Symbol::Declare, 1, b"declare")),
+        (Kind::Name, (Symbol::Name(1), 9, b"name")),
+        (Kind::Text, (Symbol::Text(2), 14, b"\"t\"")),
+        (Kind::Sign, (Symbol::Semicolon, 17, b";")),
+        (Kind::Name, (Symbol::Name(4), 27, b"process")),
+        (Kind::Sign, (Symbol::Equals, 35, b"=")),
+        (Kind::Name, (Symbol::Hgroup, 37, b"hgroup")),
+        (Kind::Sign, (Symbol::Open, 43, b"(")),
+        (Kind::Text, (Symbol::Text(8), 44, b"\"m\"")),
+        (Kind::Sign, (Symbol::Comma, 47, b",")),
+        (Kind::Sign, (Symbol::Underscore, 49, b"_")),
+        (Kind::Sign, (Symbol::Times, 51, b"*")),
+        (Kind::Name, (Symbol::Button, 53, b"button")),
+        (Kind::Sign, (Symbol::Open, 59, b"(")),
+        (Kind::Text, (Symbol::Text(14), 60, b"\"on\"")),
+        (Kind::Sign, (Symbol::Close, 64, b")")),
+        (Kind::Sign, (Symbol::Close, 65, b")")),
+        (Kind::Sign, (Symbol::Semicolon, 66, b";")),
     ];
     let found = tokens(rt.alloc(), text)?;
-    let symbols = found.symbols();
     let mut i = 0;
-    for (symbol, kind, column, bytes) in &rows {
-        assert!(rt; i < found.len(), "token {i}");
-        assert_eq!(rt;
-            symbols.get(i as usize).copied(),
-            Some(*symbol),
-            "token {i}"
-        );
-        assert_eq!(rt; found.kind(i), *kind, "token {i}");
-        assert!(rt; found.text(i) == *bytes, "token {i}");
-        let place = Place {
-            line: 3,
-            column: *column,
-        };
-        assert_eq!(rt; found.place(i), place, "token {i}");
-        i += 1;
+    for (kind, row) in &rows {
+        i = expect_token(&rt, &found, i, *kind, 3, row);
     }
     assert_eq!(rt; found.len(), i);
     let end = Place {
