@@ -2,7 +2,7 @@
 
 use fv_base::Word;
 use fv_lex::{Tokens, tokens};
-use fv_parse::{ParseRefusal, TreeId, TreeNode, parse};
+use fv_parse::{ParseRefusal, TreeId, parse};
 use std::alloc::{AllocError, Global};
 use std::test::Fail;
 
@@ -213,13 +213,6 @@ fn names_labels_and_places(rt: HostRuntime) -> Result<(), Fail> {
     assert_eq!(rt; place.line, 2);
     assert_eq!(rt; place.column, 1);
     assert_eq!(rt; tree.items(tree.root()).len(), 3);
-    assert_eq!(rt;
-        matches!(
-            tree.node(tree.items(tree.root())[2]),
-            TreeNode::Constant(12, _)
-        ),
-        true
-    );
     Ok(())
 }
 
