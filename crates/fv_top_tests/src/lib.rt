@@ -1,5 +1,9 @@
-//! Tests of fv_top's public call.
+//! Tests of fv_top's public call, and a caller of it.
 #![tactic(auto)]
+
+mod sure;
+
+pub use sure::run_sure;
 
 #[cfg(test)]
 mod runs;
