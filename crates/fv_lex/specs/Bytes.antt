@@ -5,12 +5,15 @@ use Rattle.std.specs.Prelude.{ℕ, Bool, false, not, ◌&&◌, ◌||◌, nat_eq,
 abbrev pub is_blank : ℕ → Bool
 is_blank b = nat_eq b 9 || (nat_eq b 10 || (nat_eq b 13 || nat_eq b 32))
 
+-- a letter of ASCII (this project's profile)
 abbrev pub is_letter : ℕ → Bool
 is_letter b = (nat_le 65 b && nat_le b 90) || (nat_le 97 b && nat_le b 122)
 
+-- a digit (this project's profile)
 abbrev pub is_digit : ℕ → Bool
 is_digit b = nat_le 48 b && nat_le b 57
 
+-- `_` (this project's profile)
 abbrev pub is_underscore : ℕ → Bool
 is_underscore b = nat_eq b 95
 
@@ -18,9 +21,11 @@ is_underscore b = nat_eq b 95
 abbrev pub is_name_byte : ℕ → Bool
 is_name_byte b = is_letter b || (is_digit b || is_underscore b)
 
+-- the byte that ends a string (this project's profile)
 abbrev pub is_quote : ℕ → Bool
 is_quote b = nat_eq b 34
 
+-- it ends no line (this project's profile)
 abbrev pub is_in_line : ℕ → Bool
 is_in_line b = not (nat_eq b 10)
 

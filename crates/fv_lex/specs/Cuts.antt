@@ -48,6 +48,7 @@ pub data Ends : List ℕ → ℕ → Option Fault → Type 0 where
 
 -- ---- places and tokens
 
+-- where a text begins: lines and columns count from 1 (this project's profile)
 abbrev pub first_place : Place
 first_place = record { line = 1; column = 1 }
 
@@ -55,6 +56,7 @@ first_place = record { line = 1; column = 1 }
 abbrev pub next_place : Place → ℕ → Place
 next_place place b = if nat_eq b 10 then record { line = place.line + 1; column = 1 } else record { line = place.line; column = place.column + 1 }
 
+-- the place behind these bytes, from a place on (this project's profile)
 abbrev pub place_after : Place → List ℕ → Place
 place_after place [] = place
 place_after place (b ∷ bs) = place_after (next_place place b) bs
@@ -64,16 +66,19 @@ abbrev pub token_of : ℕ → Place → List ℕ → Option Kind → List Token
 token_of n place bytes None = []
 token_of n place bytes (Some kind) = record { symbol = symbol_of n kind bytes; kind = kind; text = bytes; place = place } ∷ []
 
+-- the tokens of a cut, from a number and a place on (this project's profile)
 abbrev pub tokens_of : ℕ → Place → List Cut → List Token
 tokens_of n place [] = []
 tokens_of n place (c ∷ cuts) = token_of n place c.bytes c.kind ++ tokens_of (n + length (token_of n place c.bytes c.kind)) (place_after place c.bytes) cuts
 
+-- the place behind a cut, from a place on (this project's profile)
 abbrev pub end_of : Place → List Cut → Place
 end_of place [] = place
 end_of place (c ∷ cuts) = end_of (place_after place c.bytes) cuts
 
 -- ---- answers
 
+-- what refuses a text that has a fault at a place (this project's profile)
 abbrev pub refusal_at : Place → Fault → LexRefusal
 refusal_at place faults.BadByte = refusals.BadByte place.line place.column
 refusal_at place faults.Unclosed = refusals.Unclosed place.line place.column

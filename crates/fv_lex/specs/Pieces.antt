@@ -15,6 +15,7 @@ abbrev pub is_name : List ℕ → Bool
 is_name [] = false
 is_name (b ∷ bs) = if is_underscore b then is_name bs else is_letter b && list_all is_name_byte bs
 
+-- digits, at least one (this project's profile)
 abbrev pub is_integer : List ℕ → Bool
 is_integer [] = false
 is_integer (b ∷ bs) = is_digit b && list_all is_digit bs
@@ -29,6 +30,7 @@ abbrev pub closes : List ℕ → Bool
 closes [] = false
 closes (b ∷ bs) = if is_quote b then is_nothing bs else closes bs
 
+-- a string: a quote, bytes without a quote, and a quote (this project's profile)
 abbrev pub is_text : List ℕ → Bool
 is_text [] = false
 is_text (b ∷ bs) = is_quote b && closes bs
@@ -50,6 +52,7 @@ BeginsNoToken text = (kind : Kind) (bytes rest : List ℕ) → text ≡ bytes ++
 
 -- ---- real literals
 
+-- a sign of an exponent (this project's profile)
 abbrev pub is_plus_or_minus : ℕ → Bool
 is_plus_or_minus b = nat_eq b 43 || nat_eq b 45
 
@@ -70,6 +73,7 @@ pub data BeginsReal : List ℕ → Type 0 where
 
 -- ---- comments
 
+-- `//` or `/*` comes first (this project's profile)
 abbrev pub begins_comment : List ℕ → Bool
 begins_comment [] = false
 begins_comment (b ∷ bs) = nat_eq b 47 && begins (λ c. nat_eq c 47 || nat_eq c 42) bs

@@ -11,6 +11,7 @@ use Rattle.fv_lex.specs.Bytes.{is_blank, is_letter, is_digit, is_underscore, is_
 use Rattle.fv_lex.specs.Symbols.{singles, at_byte, double, value_from}
 use Rattle.fv_lex.specs.Pieces.{is_real_tail, greatest_literal}
 
+-- the byte is of the class (this project's profile)
 abbrev pub is_in : Class → ℕ → Bool
 is_in classes.NameByte b = is_name_byte b
 is_in classes.Digit b = is_digit b
@@ -44,6 +45,7 @@ wires text = if begins is_letter (drop (run is_underscore text) text) then 0 els
 abbrev pub IsBare : ℕ → List ℕ → Type 0
 IsBare n text = 0 < n → n ≡ wires text
 
+-- what follows from a length that was found; where there is none, that something is not closed (this project's profile)
 abbrev pub found_or : (ℕ → Next) → Option ℕ → Next
 found_or f None = Refused Unclosed
 found_or f (Some n) = f n
@@ -81,6 +83,7 @@ first_next b bs =
     else (if nat_eq b 46 && begins is_digit bs then Refused RealLiteral
     else sign_next b bs)))))
 
+-- the next piece of a text, or why there is none (this project's profile)
 abbrev pub next_piece : List ℕ → Next
 next_piece [] = End
 next_piece (b ∷ bs) = if nat_lt 0 (wires (b ∷ bs)) then Found 1 (Some Sign) else first_next b bs

@@ -90,6 +90,7 @@ real_words =
     codes "exp" ∷ codes "exp10" ∷ codes "log" ∷ codes "log10" ∷ codes "pow" ∷ codes "sqrt" ∷ codes "fmod" ∷
     codes "remainder" ∷ codes "floor" ∷ codes "ceil" ∷ codes "rint" ∷ []
 
+-- a word of Faust that this profile has not (this project's profile)
 abbrev pub is_unsupported : List ℕ → Bool
 is_unsupported word = list_any (bytes_eq word) unsupported_forms || list_any (bytes_eq word) real_words
 
@@ -106,6 +107,7 @@ abbrev pub value_from : ℕ → List ℕ → ℕ
 value_from n [] = n
 value_from n (d ∷ ds) = value_from (n * 10 + (d - 48)) ds
 
+-- the number that digits are (this project's profile)
 abbrev pub value : List ℕ → ℕ
 value digits = value_from 0 digits
 

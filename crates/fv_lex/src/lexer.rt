@@ -1,3 +1,5 @@
+// Cutting a whole text into tokens.
+
 ghost use Rattle.std.specs.Prelude.{◌≡◌, ◌⊎◌, ◌+◌, ◌<◌, ◌≤◌, ◌^◌, ◌++◌, Result, length, IfOk, IfErr, OnOk, IsOkUnless, vec_len};
 ghost use Rattle.fv_lex.specs.declared.refusal.LexRefusal.{LexRefusal};
 ghost use Rattle.fv_lex.specs.declared.refusal.LexRefusal.TheVariants.{NoMemory};

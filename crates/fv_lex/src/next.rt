@@ -1,3 +1,5 @@
+// The next piece of a text.
+
 ghost use Rattle.std.specs.Prelude.{◌≡◌, ◌∷◌};
 ghost use Rattle.fv_lex.specs.Bytes.{is_name_byte, begins};
 ghost use Rattle.fv_lex.specs.Pieces.{is_exponent, is_real_tail};

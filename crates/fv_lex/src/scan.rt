@@ -1,3 +1,5 @@
+// How many bytes of a kind stand at the front.
+
 ghost use Rattle.std.specs.Prelude.{◌≡◌, ◌==◌, ◌≤◌, ◌<◌, true, length, IfSome, MatchOption};
 ghost use Rattle.std.specs.List.{list_all};
 ghost use Rattle.fv_lex.specs.Bytes.{is_blank, is_letter, is_digit, begins};
