@@ -5,6 +5,7 @@ use Rattle.fv_lex.specs.declared.token.Kind.{Kind}
 use Rattle.fv_lex.specs.declared.token.Place.{Place}
 use Rattle.fv_lex.specs.declared.refusal.Fault.{Fault}
 use Rattle.fv_lex.specs.declared.refusal.Fault.TheVariants as faults
+use Rattle.fv_lex.specs.declared.lexer.TheConstants.{LONGEST_TEXT, DEEPEST_NESTING}
 use Rattle.fv_lex.specs.declared.refusal.LexRefusal.{LexRefusal}
 use Rattle.fv_lex.specs.declared.refusal.LexRefusal.TheVariants as refusals
 use Rattle.fv_lex.specs.Token.{Token, Lexed}
@@ -15,7 +16,7 @@ use Rattle.fv_lex.specs.Pieces.{IsPiece, IsFault}
 
 -- how many brackets may be open at once
 abbrev pub deepest : ℕ
-deepest = 128
+deepest = DEEPEST_NESTING
 
 -- How many brackets are open behind a piece: one more behind `(` or `{`, one less, but not below 0, behind `)` or `}`.
 abbrev pub depth_after : ℕ → List ℕ → ℕ
@@ -93,7 +94,7 @@ answer_of cuts (Some fault) = Err (refusal_at (end_of first_place cuts) fault)
 
 -- how long a text may be
 abbrev pub longest_text : ℕ
-longest_text = 1048576
+longest_text = LONGEST_TEXT
 
 -- What a text has: its tokens, or the first refusal.
 pub data Has : List ℕ → Result Lexed LexRefusal → Type 0 where

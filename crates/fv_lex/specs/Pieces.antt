@@ -1,6 +1,7 @@
 -- What a text may be cut into, apart from any way to find it. Source: Faust manual, cut down by this project's profile.
 use Rattle.std.specs.Prelude.{◌≡◌, ℕ, ◌<◌, ◌≤◌, Bool, true, false, not, ◌&&◌, ◌||◌, nat_eq, List, [], ◌∷◌, ◌++◌, Option, Some, None, if◌then◌else◌, is_some}
 use Rattle.std.specs.List.{list_all}
+use Rattle.fv_lex.specs.declared.scan.TheConstants.{GREATEST_LITERAL}
 use Rattle.fv_lex.specs.declared.token.Kind.{Kind}
 use Rattle.fv_lex.specs.declared.token.Kind.TheVariants.{Name, Integer, Text, Sign}
 use Rattle.fv_lex.specs.declared.refusal.Fault.{Fault}
@@ -92,7 +93,7 @@ has_close (b ∷ bs) = (nat_eq b 42 && begins (λ c. nat_eq c 47) bs) || has_clo
 
 -- the greatest integer literal
 abbrev pub greatest_literal : ℕ
-greatest_literal = 2147483647
+greatest_literal = GREATEST_LITERAL
 
 -- These bytes are a piece of a text, before that rest: a token of a kind, or a blank byte or a comment, of no kind.
 pub data IsPiece : List ℕ → List ℕ → Option Kind → Type 0 where
