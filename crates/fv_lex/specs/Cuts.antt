@@ -11,6 +11,7 @@ use Rattle.fv_lex.specs.declared.refusal.LexRefusal.TheVariants as refusals
 use Rattle.fv_lex.specs.Token.{Token, Lexed}
 use Rattle.fv_lex.specs.Symbols.{symbol_of}
 use Rattle.fv_lex.specs.Pieces.{IsPiece, IsFault}
+use Rattle.fv_lex.specs.Bytes.{line_feed, open_bracket, close_bracket, open_brace, close_brace}
 
 -- ---- brackets
 
@@ -22,10 +23,10 @@ deepest = DEEPEST_NESTING
 abbrev pub depth_after : ℕ → List ℕ → ℕ
 depth_after depth [] = depth
 depth_after depth (b ∷ []) =
-    if nat_eq b 40 then suc depth
-    else (if nat_eq b 123 then suc depth
-    else (if nat_eq b 41 then depth - 1
-    else (if nat_eq b 125 then depth - 1 else depth)))
+    if nat_eq b open_bracket then suc depth
+    else (if nat_eq b open_brace then suc depth
+    else (if nat_eq b close_bracket then depth - 1
+    else (if nat_eq b close_brace then depth - 1 else depth)))
 depth_after depth (b ∷ c ∷ bs) = depth
 
 -- ---- cuts
@@ -55,7 +56,7 @@ first_place = record { line = 1; column = 1 }
 
 -- A line ends behind a line feed, and a column is one byte.
 abbrev pub next_place : Place → ℕ → Place
-next_place place b = if nat_eq b 10 then record { line = place.line + 1; column = 1 } else record { line = place.line; column = place.column + 1 }
+next_place place b = if nat_eq b line_feed then record { line = place.line + 1; column = 1 } else record { line = place.line; column = place.column + 1 }
 
 -- the place behind these bytes, from a place on (this project's profile)
 abbrev pub place_after : Place → List ℕ → Place

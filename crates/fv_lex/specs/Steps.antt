@@ -8,7 +8,7 @@ use Rattle.fv_lex.specs.declared.scan.Class.{Class}
 use Rattle.fv_lex.specs.declared.scan.Class.TheVariants as classes
 use Rattle.fv_lex.specs.declared.next.Next.{Next}
 use Rattle.fv_lex.specs.declared.next.Next.TheVariants.{End, Found, Refused}
-use Rattle.fv_lex.specs.Bytes.{is_blank, is_letter, is_digit, is_underscore, is_name_byte, is_quote, is_in_line, begins}
+use Rattle.fv_lex.specs.Bytes.{is_blank, is_letter, is_digit, is_underscore, is_name_byte, is_quote, is_in_line, begins, star, dot, slash}
 use Rattle.fv_lex.specs.Symbols.{singles, at_byte, double, value_from}
 use Rattle.fv_lex.specs.Pieces.{is_real_tail, greatest_literal}
 
@@ -27,7 +27,7 @@ to_quote (b ∷ bs) = if is_quote b then Some 1 else option_map suc (to_quote bs
 -- the bytes up to the first `*/`, with it
 abbrev pub to_close : List ℕ → Option ℕ
 to_close [] = None
-to_close (b ∷ bs) = if nat_eq b 42 && begins (λ c. nat_eq c 47) bs then Some 2 else option_map suc (to_close bs)
+to_close (b ∷ bs) = if nat_eq b star && begins (λ c. nat_eq c slash) bs then Some 2 else option_map suc (to_close bs)
 
 -- more, by n
 abbrev pub more_by : ℕ → Option ℕ → Option ℕ
@@ -57,8 +57,8 @@ number_next text =
 abbrev pub slash_next : List ℕ → Next
 slash_next [] = Found 1 (Some Sign)
 slash_next (c ∷ cs) =
-    if nat_eq c 47 then Found (2 + prefix_len is_in_line cs) None
-    else (if nat_eq c 42 then found_or (λ n. Found (2 + n) None) (to_close cs)
+    if nat_eq c slash then Found (2 + prefix_len is_in_line cs) None
+    else (if nat_eq c star then found_or (λ n. Found (2 + n) None) (to_close cs)
     else Found 1 (Some Sign))
 
 -- what begins with a byte of its own, by what is behind that
@@ -75,8 +75,8 @@ first_next b bs =
     else (if is_letter b || is_underscore b then Found (suc (prefix_len is_name_byte bs)) (Some Name)
     else (if is_digit b then number_next (b ∷ bs)
     else (if is_quote b then found_or (λ n. Found (1 + n) (Some Text)) (to_quote bs)
-    else (if nat_eq b 47 then slash_next bs
-    else (if nat_eq b 46 && begins is_digit bs then Refused RealLiteral
+    else (if nat_eq b slash then slash_next bs
+    else (if nat_eq b dot && begins is_digit bs then Refused RealLiteral
     else sign_next b bs)))))
 
 -- the next piece of a text, or why there is none (this project's profile)
