@@ -104,11 +104,7 @@ pub fn seen_before_the_next_cut(region: &mut Region, layout: &Layout, shape: Lan
 
 /// One thread reads the first sample of a block in what was seen, while another writes the same lane further. What is
 /// read is the sample of the lane as it was before.
-pub fn read_while_written<R: Threads + Sync>(
-    rt: &R,
-    writer: &mut LaneWriter<'_>,
-    value: i32,
-) -> i32
+pub fn read_while_written<R: Threads + Sync>(rt: &R, writer: &mut LaneWriter<'_>, value: i32) -> i32
     requires room { written_by writer.old < frames_of writer.old }
     requires seen { HasSample (lane_written writer.old) 0 0 }
     ensures read { result ≡ sample_at (lane_written writer.old) 0 0 }
@@ -120,14 +116,11 @@ pub fn read_while_written<R: Threads + Sync>(
         move || -> i32
             requires { HasSample (lane_seen seen) 0 0 }
             ensures { result ≡ sample_at (lane_seen seen.entry) 0 0 }
-        {
-            seen.at(0, 0)
-        },
-        || requires { written_by writer.now < frames_of writer.now }
+        { seen.at(0, 0) },
+        ||
+            requires { written_by writer.now < frames_of writer.now }
             ensures { list_of writer.new ≡ list_of writer.old ++ value ∷ [] }
-        {
-            writer.append(value)
-        },
+        { writer.append(value) },
     );
     sample
 }
