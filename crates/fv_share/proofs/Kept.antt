@@ -8,7 +8,7 @@ use Rattle.indexmap.specs.IndexSet.{insert_key}
 use Rattle.fv_signal.specs.declared.signal.Signal.{Signal}
 use Rattle.fv_signal.specs.declared.signal.Signal.TheVariants.{Input, Const, Control, Point, Delay, Back, Member}
 use Rattle.fv_signal.specs.Value.{OperandsBelow, NamesWithin, IsGraph}
-use Rattle.fv_share.specs.Drafts.{Draft, graph_of, IsShut, IsPending, AreClosed, NamesSoFar, CanPut, BacksWithin, IsDraft, same, put, with_members}
+use Rattle.fv_share.specs.Drafts.{Draft, graph_of, IsShut, IsPending, AreClosed, NamesSoFar, CanPut, BacksWithin, IsDraft, same, put, with_group, with_members}
 use Rattle.fv_share.proofs.Puts.{inserted}
 
 -- ---- one signal more
@@ -66,6 +66,20 @@ put_keeps d s h p =
       | inl e ↦ subst (λ ss. IsDraft (record d { signals = ss })) (sym e) h
       | inr e ↦ pushed_keeps d s h p (insert_key same d.signals s) e r.0
     ]
+
+-- ---- a group more
+
+names_group : (d : Draft) (s : Signal) (g k : ℕ) → NamesSoFar d s → s ≡ Back g k → g < length d.groups
+names_group d (Back h j) g k n e = let same : h ≡ g = cc in subst (λ i. i < length d.groups) same n.0
+names_group d s g k n e = absurd cc
+
+-- no Back names a group that is still to come
+pub fresh_group : (d : Draft) → IsDraft d → BacksWithin d (length d.groups) 0
+fresh_group d h s k x l e = let there = names_group d (get_or d.signals s x) (length d.groups) k (h.named s x l) e in absurd (omega (arith, there))
+
+-- and it waits for its members
+pub pending_group : (d : Draft) → IsDraft d → IsPending (with_group d).1 (length d.groups)
+pending_group d h = (omega (arith, length_push d.groups []), get_or_push d.closed false false (length d.groups) h.marked)
 
 -- ---- a group gets its members
 
@@ -140,3 +154,10 @@ finished d outs h shut there = record {
   defined = h.defined;
   outputs = λ j l. All-get_or (λ s. s < length d.signals) outs j 0 l there;
 }
+
+-- a group that was given its members is shut
+pub shut_group : (d : Draft) (group : ℕ) (members : List ℕ) → IsDraft d → IsPending d group → IsShut (with_members d group members) group
+shut_group d group members h p = (
+  omega (arith, p.0, length-set d.groups group members),
+  get_or-set_same d.closed group true false (omega (arith, h.marked, p.0)),
+)

@@ -3,7 +3,7 @@
 ghost use Rattle.std.specs.Prelude.{◌≡◌, ◌↔◌, ℕ, ◌+◌, ◌<◌, [], ◌∷◌, ◌++◌, length, All, IfOk, OnOk, OnErr, slice_index_or, slice_set, true, false};
 ghost use Rattle.fv_signal.specs.declared.signal.Signal.{Signal as Node};
 ghost use Rattle.fv_signal.specs.Value.{IsGraph};
-ghost use Rattle.fv_share.specs.Drafts.{CanPut, IsPending, BacksWithin, AreClosed, put, with_group, with_members, graph_of};
+ghost use Rattle.fv_share.specs.Drafts.{CanPut, IsPending, IsShut, BacksWithin, AreClosed, put, with_group, with_members, graph_of};
 
 use fv_signal::{Graph, Signal, SignalId};
 use indexmap::IndexSet;
@@ -58,6 +58,9 @@ impl Builder {
     /// The number of a new group.
     pub fn group(&mut self) -> Result<u64, AllocError>
         ensures ok { IfOk result (λ g. (g, self.new) ≡ with_group self.old) }
+        // It waits for its members, and no Back names it.
+        ensures pending { IfOk result (λ g. IsPending self.new g) }
+        ensures fresh { IfOk result (λ g. BacksWithin self.new g 0) }
         ensures err { OnErr result (self.new ≡ self.old) }
     {
         let group = self.groups.len() as u64;
@@ -75,6 +78,7 @@ impl Builder {
         requires members { All (λ s. s < length self.old.signals) members.now }
         requires backs { BacksWithin self.old group (length members.now) }
         ensures ok { OnOk result (self.new ≡ with_members self.old group members.now) }
+        ensures shut { OnOk result (IsShut self.new group) }
         ensures err { OnErr result (self.new ≡ self.old) }
     {
         let list = members.iter().copied().collect(self.alloc)?;

@@ -1,8 +1,8 @@
 use Rattle.std.proofs.Common.{◌≡◌, ℕ, List, map, Vec, Global, sym, ap, ◌∙◌, subst, rules, true}
 use Rattle.std.proofs.lemmas.List.{map-set}
 use Rattle.std.specs.Prelude.{slice_set}
-use Rattle.fv_share.specs.Drafts.{Draft, IsDraft, with_members}
-use Rattle.fv_share.proofs.Kept.{members_keep}
+use Rattle.fv_share.specs.Drafts.{Draft, IsDraft, IsShut, with_members}
+use Rattle.fv_share.proofs.Kept.{members_keep, shut_group}
 use Rattle.fv_share.proofs.builder.Builder.close_group.Goals as goal
 
 -- the list that was made, and the fields after it is written
@@ -22,3 +22,9 @@ invariant_of-self c =
     let d = c.args.self.now in
     subst IsDraft (sym (returns-clause-ok c))
     (members_keep d c.args.group c.args.members.now (subst IsDraft c.self.view_is c.self.invariant) c.requires.pending c.requires.members c.requires.backs)
+
+pub returns-clause-shut : goal.returns-clause-shut
+returns-clause-shut c =
+    let d = c.args.self.now in
+    subst (λ (e : Draft). IsShut e c.args.group) (sym (returns-clause-ok c))
+    (shut_group d c.args.group c.args.members.now (subst IsDraft c.self.view_is c.self.invariant) c.requires.pending)
