@@ -7,3 +7,7 @@ pub mod Rules
 pub mod Sound
 pub mod Puts
 pub mod Examples
+pub mod Environments
+pub mod Shows
+pub mod ByName
+pub mod Lookup
