@@ -1,5 +1,6 @@
 -- Words are cut into the pieces that the rules of options give.
-use Rattle.std.proofs.Common.{◌≡◌, ℕ, suc, ◌+◌, ◌<◌, Bool, true, false, cond, not, List, [], ◌∷◌, ◌++◌, Option, Some, None, length, map, take, drop, get_or, refl, sym, ◌∙◌, ap, subst, arith, length-append}
+use Rattle.std.proofs.Common.{◌≡◌, ℕ, suc, ◌+◌, ◌<◌, Bool, true, false, cond, not, List, [], ◌∷◌, ◌++◌}
+use Rattle.std.proofs.Common.{Option, Some, None, length, map, take, drop, get_or, refl, sym, ◌∙◌, ap, subst, arith, length-append}
 use Rattle.std.specs.Prelude.{◌&&◌, nat_lt, bytes_eq, codes, option_map, if◌then◌else◌}
 use Rattle.std.specs.List.{list_all, position_or_len}
 use Rattle.std.proofs.Math.Seq.{take-append_seam, drop-append-add}
@@ -8,7 +9,8 @@ use Rattle.std.proofs.lemmas.Bool.{eqb-true}
 use Rattle.std.proofs.lemmas.Bool.Decides.{nat_tests}
 use Rattle.std.proofs.lemmas.Slice.Eq.{bytes_eq-Decides}
 use Rattle.std.proofs.lemmas.List.Sums.{split_at_first, passes_at_first}
-use Rattle.fv_words.specs.Pieces.{Piece, Plain, Given, is_dashed, is_equals, Kind, Bare, Ends, Apart, Joined, kind_of, State, Any, Value, Names, after_kind, state_after, kind_piece, piece_of, with_piece, cut, IsOption, Cuts, nothing, plain, apart, joined, ended, AreCut}
+use Rattle.fv_words.specs.Pieces.{Piece, Plain, Given, is_dashed, is_equals, Kind, Bare, Ends, Apart, Joined, kind_of, State, Any, Value}
+use Rattle.fv_words.specs.Pieces.{Names, after_kind, state_after, kind_piece, piece_of, with_piece, cut, IsOption, Cuts, nothing, plain, apart, joined, ended, AreCut}
 
 abbrev differs : ℕ → Bool
 differs b = not (is_equals b)
@@ -23,7 +25,8 @@ one_more : (b : ℕ) (w : List ℕ) (t : Bool) → is_equals b ≡ t → place (
 one_more b w t e = ap (λ u. cond (not u) (1 + place w) 0) e ∙ ap (λ n. cond (not t) n 0) (omega arith)
 
 -- before its first `=` a word has none
-before_by : (b : ℕ) (w : List ℕ) (t : Bool) → list_all differs (take (place w) w) ≡ true → is_equals b ≡ t → list_all differs (take (place (b ∷ w)) (b ∷ w)) ≡ true
+before_by : (b : ℕ) (w : List ℕ) (t : Bool) → list_all differs (take (place w) w) ≡ true → is_equals b ≡ t →
+    list_all differs (take (place (b ∷ w)) (b ∷ w)) ≡ true
 before_by b w true rest e = rw (one_more b w true e) refl
 before_by b w false rest e = rw (one_more b w false e) (ap (λ t. not t && list_all differs (take (place w) w)) e ∙ rest)
 
@@ -32,7 +35,8 @@ before_lacks [] = refl
 before_lacks (b ∷ w) = before_by b w (is_equals b) (before_lacks w) refl
 
 -- a word that has none before its end has none
-lacks_by : (b : ℕ) (w : List ℕ) (t : Bool) → (nat_lt (place w) (length w) ≡ false → list_all differs w ≡ true) → is_equals b ≡ t → nat_lt (place (b ∷ w)) (suc (length w)) ≡ false
+lacks_by : (b : ℕ) (w : List ℕ) (t : Bool) → (nat_lt (place w) (length w) ≡ false → list_all differs w ≡ true) → is_equals b ≡ t →
+    nat_lt (place (b ∷ w)) (suc (length w)) ≡ false
     → list_all differs (b ∷ w) ≡ true
 lacks_by b w true rest e h = let k = rw (one_more b w true e) at h in absurd (grind (arith, nat_tests))
 lacks_by b w false rest e h = let k = rw (one_more b w false e) at h in ap (λ t. not t && list_all differs w) e ∙ rest (grind (arith, nat_tests))
@@ -42,7 +46,8 @@ lacks [] h = refl
 lacks (b ∷ w) h = lacks_by b w (is_equals b) (lacks w) refl h
 
 -- its place behind bytes that are none
-behind_by : (b : ℕ) (n w : List ℕ) (t : Bool) → (list_all differs n ≡ true → place (n ++ w) ≡ length n + place w) → is_equals b ≡ t → list_all differs (b ∷ n) ≡ true
+behind_by : (b : ℕ) (n w : List ℕ) (t : Bool) → (list_all differs n ≡ true → place (n ++ w) ≡ length n + place w) → is_equals b ≡ t →
+    list_all differs (b ∷ n) ≡ true
     → place (b ∷ (n ++ w)) ≡ suc (length n) + place w
 behind_by b n w true rest e h = let k = ap (λ t. not t && list_all differs n) (sym e) ∙ h in absurd cc
 behind_by b n w false rest e h =
@@ -86,7 +91,8 @@ cut_at w h =
 abbrev tested : (d b l : Bool) → (before after : List ℕ) → Kind
 tested d b l before after = if d then (if b then Ends else (if l then Joined before after else Apart)) else Bare
 
-kind_by : (w : List ℕ) (d b l : Bool) → is_dashed w ≡ d → bytes_eq w (codes "--") ≡ b → nat_lt (place w) (length w) ≡ l → Is (tested d b l (take (place w) w) (drop (place w + 1) w)) w
+kind_by : (w : List ℕ) (d b l : Bool) → is_dashed w ≡ d → bytes_eq w (codes "--") ≡ b → nat_lt (place w) (length w) ≡ l →
+    Is (tested d b l (take (place w) w) (drop (place w + 1) w)) w
 kind_by w false b l hd hb hl = hd
 kind_by w true true l hd hb hl = (bytes_eq-Decides w (codes "--")).0 hb
 kind_by w true false true hd hb hl = record { is = cut_at w hl; whole = before_lacks w; dashed = hd }
@@ -107,7 +113,8 @@ untrue : (t : Bool) → (t ≡ true → ⊥) → t ≡ false
 untrue true h = absurd (h refl)
 untrue false h = refl
 
-tests_are : (w : List ℕ) (b l : Bool) → is_dashed w ≡ true → bytes_eq w (codes "--") ≡ b → nat_lt (place w) (length w) ≡ l → kind_of w ≡ tested true b l (take (place w) w) (drop (place w + 1) w)
+tests_are : (w : List ℕ) (b l : Bool) → is_dashed w ≡ true → bytes_eq w (codes "--") ≡ b → nat_lt (place w) (length w) ≡ l →
+    kind_of w ≡ tested true b l (take (place w) w) (drop (place w + 1) w)
 tests_are w b l hd hb hl =
     ap (λ t. tested t (bytes_eq w (codes "--")) (nat_lt (place w) (length w)) (take (place w) w) (drop (place w + 1) w)) hd
     ∙ ap (λ t. tested true t (nat_lt (place w) (length w)) (take (place w) w) (drop (place w + 1) w)) hb
@@ -152,17 +159,21 @@ Holds Any ws ps = Cuts ws ps
 Holds (Value name) ws ps = HasValue name ws ps
 Holds Names ws ps = ps ≡ map Plain ws
 
-mapped : (f : List Piece → List Piece) (o : Option (List Piece)) (ps : List Piece) → option_map f o ≡ Some ps → (qs : List Piece) × (o ≡ Some qs) × (ps ≡ f qs)
+mapped : (f : List Piece → List Piece) (o : Option (List Piece)) (ps : List Piece) → option_map f o ≡ Some ps →
+    (qs : List Piece) × (o ≡ Some qs) × (ps ≡ f qs)
 mapped f None ps e = absurd cc
 mapped f (Some qs) ps e = (qs, refl, cc)
 
 -- the first word is of this kind
-first_is : (k : Kind) (w : List ℕ) (ws : List (List ℕ)) (qs : List Piece) → Is k w → Holds (after_kind k w) ws qs → Cuts (w ∷ ws) (with_piece (kind_piece k w) qs)
+first_is : (k : Kind) (w : List ℕ) (ws : List (List ℕ)) (qs : List Piece) → Is k w → Holds (after_kind k w) ws qs →
+    Cuts (w ∷ ws) (with_piece (kind_piece k w) qs)
 first_is Bare w ws qs is h = plain w ws qs is h
 first_is Ends w ws qs is h = subst (λ (v : List ℕ). Cuts (v ∷ ws) qs) (sym is) (subst (Cuts (codes "--" ∷ ws)) (sym h) (ended ws))
-first_is Apart w ws qs is h = subst (λ (v : List (List ℕ)). Cuts (w ∷ v) qs) (sym h.words) (subst (Cuts (w ∷ h.value ∷ h.rest)) (sym h.given) (apart w h.value h.rest h.pieces is h.cuts))
+first_is Apart w ws qs is h = subst (λ (v : List (List ℕ)). Cuts (w ∷ v) qs) (sym h.words) (subst (Cuts (w ∷ h.value ∷ h.rest)) (sym h.given) (apart w
+    h.value h.rest h.pieces is h.cuts))
 first_is (Joined name value) w ws qs is h =
-    subst (λ (v : List ℕ). Cuts (v ∷ ws) (Given name value ∷ qs)) (sym is.is) (joined name value ws qs is.whole (subst (λ (v : List ℕ). is_dashed v ≡ true) is.is is.dashed) h)
+    subst (λ (v : List ℕ). Cuts (v ∷ ws) (Given name value ∷ qs)) (sym is.is) (joined name value ws qs is.whole (subst (λ (v : List ℕ). is_dashed v ≡ true)
+    is.is is.dashed) h)
 
 next_is : (s : State) (w : List ℕ) (ws : List (List ℕ)) (qs : List Piece) → Holds (state_after s w) ws qs → Holds s (w ∷ ws) (with_piece (piece_of s w) qs)
 next_is Any w ws qs h = first_is (kind_of w) w ws qs (kind_is w) h
@@ -185,15 +196,22 @@ cut_names : (ws : List (List ℕ)) → cut Names ws ≡ Some (map Plain ws)
 cut_names [] = refl
 cut_names (w ∷ ws) = ap (option_map (with_piece (Some (Plain w)))) (cut_names ws)
 
-cut_first : (k : Kind) (w : List ℕ) (ws : List (List ℕ)) (qs : List Piece) → Is k w → cut (after_kind k w) ws ≡ Some qs → cut Any (w ∷ ws) ≡ Some (with_piece (kind_piece k w) qs)
+cut_first : (k : Kind) (w : List ℕ) (ws : List (List ℕ)) (qs : List Piece) → Is k w → cut (after_kind k w) ws ≡ Some qs →
+    cut Any (w ∷ ws) ≡ Some (with_piece (kind_piece k w) qs)
 cut_first k w ws qs is e =
     ap (λ t. option_map (with_piece (kind_piece t w)) (cut (after_kind t w) ws)) (is_kind k w is) ∙ ap (option_map (with_piece (kind_piece k w))) e
 
 cuts : (ws : List (List ℕ)) (ps : List Piece) → Cuts ws ps → cut Any ws ≡ Some ps
 cuts ws ps nothing = refl
 cuts ws ps (plain w rest qs is h) = cut_first Bare w rest qs is (cuts rest qs h)
-cuts ws ps (apart name value rest qs is h) = cut_first Apart name (value ∷ rest) (Given name value ∷ qs) is (ap (option_map (with_piece (Some (Given name value)))) (cuts rest qs h))
-cuts ws ps (joined name value rest qs whole dashed h) = cut_first (Joined name value) (name ++ 61 ∷ value) rest qs (record { is = refl; whole = whole; dashed = dashed }) (cuts rest qs h)
+cuts ws ps (apart name value rest qs is h) = cut_first Apart name (value ∷ rest) (Given name value ∷ qs) is (ap (option_map (with_piece (Some (Given name
+    value)))) (cuts rest qs h))
+cuts ws ps (joined name value rest qs whole dashed h) = cut_first (Joined name value) (name ++ 61 ∷ value) rest qs (record {
+  is = refl;
+  whole = whole;
+  dashed
+      = dashed;
+}) (cuts rest qs h)
 cuts ws ps (ended rest) = cut_first Ends (codes "--") rest (map Plain rest) refl (cut_names rest)
 
 pub are_cut : AreCut

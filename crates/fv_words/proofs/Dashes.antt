@@ -12,11 +12,15 @@ all_at p ws i w b h is bytes =
     ∙ ap (λ (v : List ℕ). p v && list_all p (map string_bytes (drop (suc i) ws))) (ap string_bytes (sym is) ∙ sym bytes)
 
 -- one word fails
-pub fails_at : (p : List ℕ → Bool) (ws : List (String Global)) (i : ℕ) (w : String Global) (b : List ℕ) (all : Bool) → i < length ws → w ≡ get_or ws i w → b ≡ string_bytes w →
+pub fails_at : (p : List ℕ → Bool) (ws : List (String Global)) (i : ℕ) (w : String Global) (b : List ℕ) (all : Bool) → i < length ws → w ≡ get_or ws i w →
+    b ≡ string_bytes w →
     list_all p (map string_bytes (drop i ws)) ≡ all → p b ≡ false → false ≡ all
-fails_at p ws i w b all h is bytes kept failed = sym (all_at p ws i w b h is bytes ∙ ap (λ t. t && list_all p (map string_bytes (drop (suc i) ws))) failed) ∙ kept
+fails_at p ws i w b all h is bytes kept failed = sym (all_at p ws i w b h is bytes ∙ ap (λ t. t && list_all p (map string_bytes (drop (suc i) ws))) failed)
+    ∙ kept
 
 -- one word passes
-pub passes_at : (p : List ℕ → Bool) (ws : List (String Global)) (i : ℕ) (w : String Global) (b : List ℕ) (all : Bool) → i < length ws → w ≡ get_or ws i w → b ≡ string_bytes w →
+pub passes_at : (p : List ℕ → Bool) (ws : List (String Global)) (i : ℕ) (w : String Global) (b : List ℕ) (all : Bool) → i < length ws → w ≡ get_or ws i w →
+    b ≡ string_bytes w →
     list_all p (map string_bytes (drop i ws)) ≡ all → p b ≡ true → list_all p (map string_bytes (drop (suc i) ws)) ≡ all
-passes_at p ws i w b all h is bytes kept passed = sym (all_at p ws i w b h is bytes ∙ ap (λ t. t && list_all p (map string_bytes (drop (suc i) ws))) passed) ∙ kept
+passes_at p ws i w b all h is bytes kept passed = sym (all_at p ws i w b h is bytes
+    ∙ ap (λ t. t && list_all p (map string_bytes (drop (suc i) ws))) passed) ∙ kept

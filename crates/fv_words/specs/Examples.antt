@@ -33,7 +33,8 @@ makes = refl
 -- ---- where options stand
 
 pieces : cut Any (codes "--block" ∷ codes "-8" ∷ codes "a" ∷ codes "--rate=1=2" ∷ codes "-" ∷ codes "--" ∷ codes "-b" ∷ codes "--" ∷ [])
-    ≡ Some (Given (codes "--block") (codes "-8") ∷ Plain (codes "a") ∷ Given (codes "--rate") (codes "1=2") ∷ Plain (codes "-") ∷ Plain (codes "-b") ∷ Plain (codes "--") ∷ [])
+    ≡ Some (Given (codes "--block") (codes "-8") ∷ Plain (codes "a") ∷ Given (codes "--rate") (codes "1=2") ∷ Plain (codes "-") ∷ Plain (codes "-b") ∷ Plain
+    (codes "--") ∷ [])
 pieces = refl
 
 no_value : cut Any (codes "a" ∷ codes "--block" ∷ []) ≡ None
@@ -44,7 +45,13 @@ anywhere : run (codes "--block" ∷ codes "8" ∷ codes "p.dsp" ∷ codes "--vec
 anywhere = refl
 
 no_input : run (codes "p.dsp" ∷ codes "-" ∷ codes "o.wav" ∷ codes "--frames=0" ∷ codes "--controls" ∷ codes "c.txt" ∷ [])
-    ≡ Ok (Play (record { program = codes "p.dsp"; input = None; output = codes "o.wav"; controls = Some (codes "c.txt"); settings = record plain { frames = Some 0 } }))
+    ≡ Ok (Play (record {
+      program = codes "p.dsp";
+      input = None;
+      output = codes "o.wav";
+      controls = Some (codes "c.txt");
+      settings = record plain { frames = Some 0 };
+    }))
 no_input = refl
 
 dashes_behind : run (codes "--" ∷ codes "-p" ∷ codes "in.wav" ∷ codes "--o" ∷ [])
@@ -109,7 +116,11 @@ long_block = refl
 
 -- ---- what is enabled
 
-enabled : names_of (codes "faustvec" ∷ codes "run" ∷ codes "p.dsp" ∷ codes "in.wav" ∷ codes "o.wav" ∷ []) ≡ Ok (record { program = codes "p.dsp"; input = codes "in.wav"; output = codes "o.wav" })
+enabled : names_of (codes "faustvec" ∷ codes "run" ∷ codes "p.dsp" ∷ codes "in.wav" ∷ codes "o.wav" ∷ []) ≡ Ok (record {
+  program = codes "p.dsp";
+  input = codes "in.wav";
+  output = codes "o.wav";
+})
 enabled = refl
 
 enabled_same : names_of (codes "faustvec" ∷ codes "run" ∷ codes "p.dsp" ∷ codes "in.wav" ∷ codes "in.wav" ∷ []) ≡ Err Same

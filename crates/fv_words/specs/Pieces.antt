@@ -1,5 +1,6 @@
 -- The words behind the command word, cut into names and options (this project's profile).
-use Rattle.std.specs.Prelude.{◌≡◌, ◌≢◌, ℕ, Bool, true, false, not, ◌==◌, nat_lt, List, [], ◌∷◌, ◌++◌, length, map, Option, Some, None, option_map, bytes_eq, codes, if◌then◌else◌}
+use Rattle.std.specs.Prelude.{◌≡◌, ◌≢◌, ℕ, Bool, true, false, not, ◌==◌, nat_lt, List, []}
+use Rattle.std.specs.Prelude.{◌∷◌, ◌++◌, length, map, Option, Some, None, option_map, bytes_eq, codes, if◌then◌else◌}
 use Rattle.std.specs.List.{list_all, position_or_len, before_first, after_first}
 
 -- a file's name or a number, or an option with its value
@@ -91,8 +92,8 @@ pub data Cuts : List (List ℕ) → List Piece → Type 0 where
   nothing : Cuts [] []
   plain : (w : List ℕ) (ws : List (List ℕ)) (ps : List Piece) → is_dashed w ≡ false → Cuts ws ps → Cuts (w ∷ ws) (Plain w ∷ ps)
   apart : (name value : List ℕ) (ws : List (List ℕ)) (ps : List Piece) → IsOption name → Cuts ws ps → Cuts (name ∷ value ∷ ws) (Given name value ∷ ps)
-  joined : (name value : List ℕ) (ws : List (List ℕ)) (ps : List Piece) → list_all (λ b. not (is_equals b)) name ≡ true → is_dashed (name ++ 61 ∷ value) ≡ true
-      → Cuts ws ps → Cuts ((name ++ 61 ∷ value) ∷ ws) (Given name value ∷ ps)
+  joined : (name value : List ℕ) (ws : List (List ℕ)) (ps : List Piece) → list_all (λ b. not (is_equals b)) name ≡ true
+      → is_dashed (name ++ 61 ∷ value) ≡ true → Cuts ws ps → Cuts ((name ++ 61 ∷ value) ∷ ws) (Given name value ∷ ps)
   ended : (ws : List (List ℕ)) → Cuts (codes "--" ∷ ws) (map Plain ws)
 
 -- Words are cut into just these pieces.

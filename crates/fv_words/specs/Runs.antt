@@ -1,5 +1,6 @@
 -- What a run is asked to do, and the causes to refuse it (this project's profile).
-use Rattle.std.specs.Prelude.{ℕ, ◌+◌, ◌-◌, ◌/◌, ◌^◌, max, Bool, false, ◌&&◌, ◌||◌, not, ◌==◌, nat_le, nat_lt, List, [], ◌∷◌, Option, Some, None, is_some, Result, Ok, Err, bytes_eq, codes, if◌then◌else◌}
+use Rattle.std.specs.Prelude.{ℕ, ◌+◌, ◌-◌, ◌/◌, ◌^◌, max, Bool, false, ◌&&◌, ◌||◌, not, ◌==◌, nat_le}
+use Rattle.std.specs.Prelude.{nat_lt, List, [], ◌∷◌, Option, Some, None, is_some, Result, Ok, Err, bytes_eq, codes, if◌then◌else◌}
 use Rattle.fv_words.specs.declared.cause.Cause.{Cause}
 use Rattle.fv_words.specs.declared.cause.Cause.TheVariants.{Form, Number, Range, Vectors, Together, Same}
 use Rattle.fv_words.specs.Texts.{Texts}

@@ -1,5 +1,6 @@
 -- The plain words of a command and the values of its options, as they are spelled (this project's profile).
-use Rattle.std.specs.Prelude.{ℕ, Bool, true, false, nat_lt, List, [], ◌∷◌, ◌++◌, length, Option, Some, None, option_map, option_and_then, bytes_eq, codes, if◌then◌else◌}
+use Rattle.std.specs.Prelude.{ℕ, Bool, true, false, nat_lt, List, [], ◌∷◌, ◌++◌}
+use Rattle.std.specs.Prelude.{length, Option, Some, None, option_map, option_and_then, bytes_eq, codes, if◌then◌else◌}
 use Rattle.fv_words.specs.Pieces.{Piece, Plain, Given, Any, cut}
 
 pub record Texts : Type 0 where

@@ -80,7 +80,13 @@ settings_answered (Ok s) = Ok (settings_in s)
 settings_answered (Err e) = Err e
 
 abbrev pub run_in : Runs → Run
-run_in r = record { program = r.program.now; input = option_copied r.input; output = r.output.now; controls = option_copied r.controls; settings = settings_in r.settings }
+run_in r = record {
+  program = r.program.now;
+  input = option_copied r.input;
+  output = r.output.now;
+  controls = option_copied r.controls;
+  settings = settings_in r.settings;
+}
 
 abbrev pub run_answered : Result Runs Cause → Result Run Cause
 run_answered (Ok r) = Ok (run_in r)

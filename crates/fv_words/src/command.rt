@@ -2,7 +2,8 @@
 
 ghost use Rattle.std.specs.Prelude.{◌≡◌, map, string_bytes, not, Some};
 ghost use Rattle.std.specs.List.{list_all};
-ghost use Rattle.fv_words.specs.Commands.{command_of, command_in, check_of, number_in, made, make_of, play_of, bare, begins_with_dash, is_enabled, named, names_of};
+ghost use Rattle.fv_words.specs.Commands.{command_of, command_in, check_of, number_in, made, make_of};
+ghost use Rattle.fv_words.specs.Commands.{begins_with_dash, is_enabled, named, names_of};
 ghost use Rattle.fv_words.specs.Views.{texts_in, plain_in, command_answered, names_answered, command_view};
 
 use crate::cause::Cause;

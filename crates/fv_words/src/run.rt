@@ -1,7 +1,8 @@
 // What a run is asked to do.
 
 ghost use Rattle.std.specs.Prelude.{◌≡◌, ◌≤◌, ◌^◌, ◌<◌, option_copied, IfOk};
-ghost use Rattle.fv_words.specs.Runs.{within, within_or, width, default_vector, vectors_in, settings_of, run_of, input_of, is_none_word, is_together, is_same};
+ghost use Rattle.fv_words.specs.Runs.{within, within_or, width, default_vector, vectors_in, settings_of};
+ghost use Rattle.fv_words.specs.Runs.{run_of, input_of, is_none_word, is_together, is_same};
 ghost use Rattle.fv_words.specs.Views.{texts_in, numbers_in, settings_in, settings_answered, run_answered};
 
 use crate::cause::Cause;

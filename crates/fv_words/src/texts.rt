@@ -99,7 +99,8 @@ impl<'a> Reader<'a> {
 
     // With a word where options may stand.
     fn take_any(self, word: &'a str) -> Option<Reader<'a>>
-        ensures { option_map read_in result ≡ read_more (record { state = any_word; texts = texts_in self.entry.texts }) word.now }
+        ensures { option_map read_in result
+            ≡ read_more (record { state = any_word; texts = texts_in self.entry.texts }) word.now }
     {
         match kind_of(word) {
             Kind::Plain => Some(Reader {
