@@ -19,6 +19,7 @@ use Rattle.fv_top.specs.declared.refusal.Refusal.TheVariants.{TextTooLong, BadBy
 abbrev pub is_of_program : ℕ → Bool
 is_of_program n = (nat_le 4 n && nat_le n 29) || (n == 43)
 
+-- the refusal is one of a program
 abbrev pub IsOfText : Refusal → Type 0
 IsOfText refusal = IsTrue (is_of_program (row_of refusal).number)
 
@@ -32,6 +33,7 @@ of_bytes (bytes.LiteralTooLarge line column) = LiteralTooLarge line column
 of_bytes (bytes.Nesting line column) = Nesting line column
 of_bytes bytes.NoMemory = NoMemory
 
+-- and those of its tokens
 abbrev pub of_tokens : ParseRefusal → Refusal
 of_tokens (tokens.Syntax line column) = Syntax line column
 of_tokens (tokens.Unsupported word) = Unsupported word

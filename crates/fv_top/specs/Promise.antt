@@ -74,15 +74,18 @@ pub data Step : Type 0 where
   -- it is written, and reported
   Deliver : Step
 
+-- the steps, in their order
 abbrev pub run_steps : List Step
 run_steps = ReadProgram ∷ ReadInput ∷ Render ∷ Deliver ∷ []
 
+-- what a step asks the desk for
 abbrev pub requests_of : Names → Step → List Request
 requests_of names ReadProgram = to_read Program names.program ∷ []
 requests_of names ReadInput = to_read Input names.input ∷ []
 requests_of names Render = []
 requests_of names Deliver = to_write Output names.output ∷ []
 
+-- the roles that a step reads or writes
 abbrev pub TakesTurn : Step → Turn → Type 0
 TakesTurn ReadProgram t = t ≡ reads Program
 TakesTurn ReadInput t = t ≡ reads Input
@@ -97,24 +100,28 @@ IsAnswered names old Render t = Unit {0}
 IsAnswered names old Deliver t =
     IsUnfailing (role_of t) old × ((p : Plays names.program names.input old.files) → length (written_by (meant p) old (role_of t)) ≤ old.room (role_of t))
 
+-- the refusals of what a step judges
 abbrev pub HasRefusal : Step → Refusal → Type 0
 HasRefusal ReadProgram refusal = IsOfText refusal
 HasRefusal ReadInput refusal = refusal ≡ Unsupported (codes "input")
 HasRefusal Render refusal = ⊥
 HasRefusal Deliver refusal = ⊥
 
+-- what a step judges passes
 abbrev pub StepPasses : Names → List File → Step → Type 0
 StepPasses names files ReadProgram = HasProgram names.program files
 StepPasses names files ReadInput = HasInput names.input files
 StepPasses names files Render = Unit {0}
 StepPasses names files Deliver = Unit {0}
 
+-- what a step judges is refused for this
 abbrev pub StepRefuses : Names → List File → Step → Refusal → Type 0
 StepRefuses names files ReadProgram refusal = HasNoProgram names.program files refusal
 StepRefuses names files ReadInput refusal = (refusal ≡ Unsupported (codes "input")) × HasNoInput names.input files
 StepRefuses names files Render refusal = ⊥
 StepRefuses names files Deliver refusal = ⊥
 
+-- the rules of a run's steps
 abbrev pub run_rules : Names → DeskState → Rules Step
 run_rules names old = record {
   requests = requests_of names;
@@ -202,6 +209,7 @@ abbrev pub IfDone : Status → (Tally → Type 0) → Type 0
 IfDone (Done tally) P = P tally
 IfDone (Refused refusal) P = Unit {0}
 
+-- a fact of the refusal, where it was refused
 abbrev pub IfRefused : Status → (Refusal → Type 0) → Type 0
 IfRefused (Done tally) P = Unit {0}
 IfRefused (Refused refusal) P = P refusal

@@ -12,12 +12,15 @@ pub data Command : Type 0 where
   Check : (program : List ℕ) → Command
   Make : (voices frames workers : ℕ) → Command
 
+-- the most voices of a program that is made
 abbrev pub most_voices : ℕ
 most_voices = 64
 
+-- the most frames of an input that is made
 abbrev pub most_made : ℕ
 most_made = 262144
 
+-- a run
 abbrev pub play_of : Texts → Result Command Cause
 play_of t = do
   run ← run_of t
@@ -32,6 +35,7 @@ check_of _ = Err Form
 abbrev pub number_in : List ℕ → Result ℕ Cause
 number_in w = elim (number_of w) [ None ↦ Err Number | Some n ↦ Ok n ]
 
+-- each number in its range
 abbrev pub made : (voices frames workers : ℕ) → Result Command Cause
 made voices frames workers = do
   v ← within_or 1 most_voices 1 (Some voices)
@@ -52,6 +56,7 @@ make_of _ = Err Form
 abbrev pub bare : Texts → Result Command Cause → Result Command Cause
 bare t answer = if t.has_options then Err Form else answer
 
+-- what these texts ask of a command, if there are any
 abbrev pub command_in : (command : List ℕ) → Option Texts → Result Command Cause
 command_in command None = Err Form
 command_in command (Some t) =
@@ -73,6 +78,7 @@ pub record Names : Type 0 where
   pub input : List ℕ
   pub output : List ℕ
 
+-- the word begins with a dash
 abbrev pub begins_with_dash : List ℕ → Bool
 begins_with_dash [] = false
 begins_with_dash (b ∷ bs) = b == 45
@@ -82,6 +88,7 @@ abbrev pub is_enabled : List (List ℕ) → Bool
 is_enabled (own ∷ command ∷ words) = bytes_eq command (codes "run") && list_all (λ w. not (begins_with_dash w)) words
 is_enabled _ = false
 
+-- the files of a command, if it is a run on an input file
 abbrev pub named : Command → Result Names Cause
 named (Play run) = elim run.input [ None ↦ Err Form | Some input ↦ Ok (record { program = run.program; input = input; output = run.output }) ]
 named (Check program) = Err Form

@@ -3,6 +3,7 @@ use Rattle.std.specs.Prelude.{ℕ, ◌+◌, ◌-◌, ◌*◌, Bool, ◌&&◌, na
 use Rattle.std.specs.List.{list_all}
 use Rattle.fv_words.specs.Texts.{Texts}
 
+-- the bytes of the digits 0 to 9
 abbrev pub is_digit : ℕ → Bool
 is_digit b = nat_le 48 b && nat_le b 57
 
@@ -15,6 +16,7 @@ abbrev pub value_after : ℕ → List ℕ → ℕ
 value_after n [] = n
 value_after n (b ∷ bs) = value_after (n * 10 + (b - 48)) bs
 
+-- the number that a word spells
 abbrev pub number_of : List ℕ → Option ℕ
 number_of w = if is_number w then Some (value_after 0 w) else None
 

@@ -16,6 +16,7 @@ is_dashed [] = false
 is_dashed (b ∷ []) = false
 is_dashed (b ∷ c ∷ w) = b == 45
 
+-- the byte of `=`
 abbrev pub is_equals : ℕ → Bool
 is_equals b = b == 61
 
@@ -30,6 +31,7 @@ pub data Kind : Type 0 where
 abbrev pub option_kind : List ℕ → Kind
 option_kind w = if nat_lt (position_or_len is_equals w) (length w) then Joined (before_first is_equals w) (after_first is_equals w) else Apart
 
+-- what the word is
 abbrev pub kind_of : List ℕ → Kind
 kind_of w = if is_dashed w then (if bytes_eq w (codes "--") then Ends else option_kind w) else Bare
 
@@ -41,17 +43,20 @@ pub data State : Type 0 where
   Value : (name : List ℕ) → State
   Names : State
 
+-- what may stand behind a word of this kind
 abbrev pub after_kind : Kind → List ℕ → State
 after_kind Bare w = Any
 after_kind Ends w = Names
 after_kind Apart w = Value w
 after_kind (Joined name value) w = Any
 
+-- what may stand behind this word
 abbrev pub state_after : State → List ℕ → State
 state_after Any w = after_kind (kind_of w) w
 state_after (Value name) w = Any
 state_after Names w = Names
 
+-- the piece that a word of this kind is
 abbrev pub kind_piece : Kind → List ℕ → Option Piece
 kind_piece Bare w = Some (Plain w)
 kind_piece Ends w = None
@@ -64,11 +69,13 @@ piece_of Any w = kind_piece (kind_of w) w
 piece_of (Value name) w = Some (Given name w)
 piece_of Names w = Some (Plain w)
 
+-- the pieces of no more words
 abbrev pub pieces_so_far : State → Option (List Piece)
 pieces_so_far Any = Some []
 pieces_so_far (Value name) = None
 pieces_so_far Names = Some []
 
+-- the piece in front of those behind it, if there is one
 abbrev pub with_piece : Option Piece → List Piece → List Piece
 with_piece None ps = ps
 with_piece (Some p) ps = p ∷ ps

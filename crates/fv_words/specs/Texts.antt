@@ -14,6 +14,7 @@ pub record Texts : Type 0 where
   pub frames : Option (List ℕ)
   pub rate : Option (List ℕ)
 
+-- no words yet
 abbrev pub no_texts : Texts
 no_texts = record { plain = []; has_options = false; controls = None; block = None; vector = None; workers = None; bits = None; frames = None; rate = None }
 
@@ -38,6 +39,7 @@ row name value t =
     else (if bytes_eq name (codes "--rate") then option_map (λ v. record t { rate = v }) (once t.rate value)
     else None))))))
 
+-- with an option more
 abbrev pub put : (name value : List ℕ) → Texts → Option Texts
 put name value t = row name value (record t { has_options = true })
 
@@ -47,6 +49,7 @@ take_piece None t = Some t
 take_piece (Some (Plain w)) t = add w t
 take_piece (Some (Given name value)) t = put name value t
 
+-- with these pieces more, if each is allowed
 abbrev pub gathered : Texts → List Piece → Option Texts
 gathered t [] = Some t
 gathered t (p ∷ ps) = option_and_then (λ u. gathered u ps) (take_piece (Some p) t)

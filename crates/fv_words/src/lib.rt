@@ -11,5 +11,5 @@ mod word;
 
 pub use cause::Cause;
 pub use command::{Command, Names, names_of, read};
-pub use laws::words_are_cut;
+pub use laws::{settings_keep_ranges, words_are_cut};
 pub use run::{Run, Settings};
