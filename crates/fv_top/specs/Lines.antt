@@ -5,8 +5,8 @@ use Rattle.fv_base.specs.declared.role.Role.{Role}
 use Rattle.fv_base.specs.declared.role.Role.TheVariants.{Program, Input, Controls, Output, Report}
 use Rattle.fv_arity.specs.declared.refusal.ArityKind.{ArityKind}
 use Rattle.fv_arity.specs.declared.refusal.ArityKind.TheVariants.{Seq, Split, Merge, RecOut, RecIn}
-use Rattle.fv_top.specs.declared.refusal.Cause.{Cause}
-use Rattle.fv_top.specs.declared.refusal.Cause.TheVariants.{Form, Number, Range, Vectors, Together, Same}
+use Rattle.fv_words.specs.declared.cause.Cause.{Cause}
+use Rattle.fv_words.specs.declared.cause.Cause.TheVariants.{Form, Number, Range, Vectors, Together, Same}
 use Rattle.fv_top.specs.declared.refusal.Refusal.{Refusal}
 use Rattle.fv_top.specs.declared.refusal.Refusal.TheVariants as no
 use Rattle.fv_top.specs.declared.status.Status.{Status}

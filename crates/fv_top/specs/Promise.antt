@@ -1,27 +1,28 @@
 -- What a run promises.
 use Rattle.std.specs.Prelude.{◌≡◌, ◌≢◌, ◌⊎◌, ℕ, ◌/◌, ◌+◌, ◌≤◌, ◌%◌, ◌^◌, IsTrue, IsSome, List, [], ◌∷◌, ◌++◌, length, take, Some, Ok, Err, codes}
 use Rattle.fv_base.specs.declared.role.Role.{Role}
-use Rattle.fv_base.specs.declared.role.Role.TheVariants.{Program, Input, Controls, Output, Report}
+use Rattle.fv_base.specs.declared.role.Role.TheVariants.{Program, Input, Output, Report}
 use Rattle.fv_base.specs.Lists.{IsPrefixOf}
 use Rattle.fv_outside.specs.Requests.{Request, to_read, to_write}
 use Rattle.fv_outside.specs.Desk.{DeskState, File, file_named, HasFault, KeepsFaults, IsUnfailing}
 use Rattle.fv_diagram.specs.Diagram.{Diagram}
 use Rattle.fv_top.specs.declared.status.Tally.{Tally}
 use Rattle.fv_top.specs.declared.refusal.Refusal.{Refusal}
-use Rattle.fv_top.specs.declared.refusal.Cause.{Cause}
+use Rattle.fv_words.specs.declared.cause.Cause.{Cause}
 use Rattle.fv_top.specs.declared.refusal.Refusal.TheVariants.{Usage, ReadFault, WriteFault, Unsupported, NoMemory}
 use Rattle.fv_top.specs.declared.status.Status.{Status}
 use Rattle.fv_top.specs.declared.status.Status.TheVariants.{Done, Refused}
-use Rattle.fv_top.specs.Words.{Names, command_of}
+use Rattle.fv_words.specs.Commands.{Names, names_of}
 use Rattle.fv_top.specs.Program.{IsProgram, IsRefusedText, IsOfText}
 use Rattle.fv_top.specs.Controls.{control_streams}
-use Rattle.fv_top.specs.Wave.{IsPlainInput, output_file, frames_in, data_of, rate_of}
-use Rattle.fv_top.specs.Lines.{refused_line, done_line}
+use Rattle.fv_top.specs.Wave.{IsPlainInput, frames_in, data_of, rate_of}
+use Rattle.fv_top.specs.Meant.{Meant, run_meant, written_by}
+use Rattle.fv_top.specs.Lines.{refused_line}
 use Rattle.fv_top.specs.Steps.{Turn, reads, writes, role_of, Rules, Ends, Stops, PassesAll, all_requests}
 
 -- the words are of the form, and name these files
 abbrev pub Asks : List (List ℕ) → Names → Type 0
-Asks words names = command_of words ≡ Ok names
+Asks words names = names_of words ≡ Ok names
 
 -- The file of this name is a program's text, of this diagram.
 pub record HasProgram (name : List ℕ) (files : List File) : Type 0 where
@@ -57,26 +58,9 @@ pub record Plays (program input : List ℕ) (files : List File) : Type 0 where
 abbrev pub stated_frames : List ℕ → ℕ
 stated_frames bytes = data_of (take 44 bytes) / 2
 
--- the output file of a diagram on an input
-abbrev pub played : Diagram → (bytes : List ℕ) → List ℕ
-played d bytes = output_file d (control_streams [] []) (rate_of (take 44 bytes)) 16 (stated_frames bytes) (frames_in bytes)
-
--- What a run that is done means: the frames that it counts, the bytes of the output, and the line that it reports.
-pub record Meant : Type 0 where
-  pub frames : ℕ
-  pub output : List ℕ
-  pub line : List ℕ
-
+-- what it means that the program is played on the input
 abbrev pub meant : {program input : List ℕ} {files : List File} → Plays program input files → Meant
-meant p = record { frames = stated_frames p.on.bytes; output = played p.of.diagram p.on.bytes; line = done_line (stated_frames p.on.bytes) }
-
--- all that is written of a role at its end
-abbrev pub written_by : Meant → DeskState → Role → List ℕ
-written_by m old Program = old.written Program
-written_by m old Input = old.written Input
-written_by m old Controls = old.written Controls
-written_by m old Output = m.output
-written_by m old Report = old.written Report ++ m.line
+meant p = run_meant p.of.diagram (control_streams [] []) (rate_of (take 44 p.on.bytes)) 16 (stated_frames p.on.bytes) (frames_in p.on.bytes)
 
 -- ---- the steps of a run, in order
 
@@ -146,7 +130,7 @@ run_rules names old = record {
 -- Why it is refused, and what the desk was asked for by then: the words, or the first of the steps that cannot go on. Want
 -- of memory is free.
 pub data HasCause (words : List (List ℕ)) (old new : DeskState) : Refusal → List Request → Type 0 where
-  bad_words : {cause : Cause} → command_of words ≡ Err cause → HasCause words old new (Usage cause) []
+  bad_words : {cause : Cause} → names_of words ≡ Err cause → HasCause words old new (Usage cause) []
   of_run : {refusal : Refusal} {asked : List Request} (names : Names) → Asks words names → Ends (run_rules names old) old new run_steps refusal asked
       → HasCause words old new refusal asked
 
@@ -174,7 +158,7 @@ pub record HasPlayedPart (words : List (List ℕ)) (old new : DeskState) : Type 
   pub names : Names
   pub asks : Asks words names
   pub begun : HasBegun old new
-  pub told : IsTrue old.tells → (p : Plays names.program names.input old.files) × IsPrefixOf (new.written Output) (meant p).output
+  pub told : IsTrue old.tells → (p : Plays names.program names.input old.files) × IsPrefixOf (new.written Output) (written_by (meant p) old Output)
 
 -- Writing of the output did not begin, and what was written of it before still stands.
 pub record KeepsOutput (old new : DeskState) : Type 0 where
@@ -244,4 +228,4 @@ IsStrict words old new status =
 
 -- Words that are refused are refused for their cause.
 abbrev pub IsExact : (words : List (List ℕ)) → Status → Type 0
-IsExact words status = (cause : Cause) → command_of words ≡ Err cause → status ≡ Refused (Usage cause)
+IsExact words status = (cause : Cause) → names_of words ≡ Err cause → status ≡ Refused (Usage cause)
