@@ -3,3 +3,5 @@ pub mod Sound
 pub mod Fits
 pub mod Timeless
 pub mod Nodes
+pub mod Grown
+pub mod Scoped

@@ -7,3 +7,5 @@ pub mod Rules
 pub mod Sound
 pub mod Puts
 pub mod Examples
+pub mod Environments
+pub mod Shows

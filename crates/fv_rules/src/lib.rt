@@ -5,8 +5,12 @@ mod laws;
 mod number;
 mod putting;
 mod refusal;
+mod scopes;
+mod value;
 
 pub use laws::{evaluates_soundly, evaluation_follows, literals_stay};
 pub use number::number_of;
 pub use putting::put;
 pub use refusal::EvalRefusal;
+pub use scopes::Scopes;
+pub use value::{Argument, Binding, Meaning, Ruled, Scope, Value};
