@@ -150,7 +150,8 @@ module _ (value : FollowsValue) (diagram : FollowsDiagram) where
   argument_means l start f [] env done fs s = apply_means l start f done fs s
   argument_means l start f (x ∷ xs) env done fs s =
       valued_next l (Argument start f xs env done) x env fs s
-      ∙ ap (λ r. after r (unwound l (ev l) fs)) (sym (assoc ((ev l).value x env) (λ w. arguments (ev l) xs env (done ++ settled w ∷ [])) (applied l (ev l) start f) s))
+      ∙ ap (λ r. after r (unwound l (ev l) fs)) (sym (assoc ((ev l).value x env) (λ w. arguments (ev l) xs env (done ++ settled w ∷ [])) (applied l (ev l)
+      start f) s))
 
   body_means : (l : Lexed) (r : Repetition) (x : Name) (b : Tree) (env : Env) (i k : ℕ) (done : List Diagram) (fs : List Frame) (s : State)
       → meaning l (next_body r x b env i k done fs s) ≡ ((bodies (ev l) x b env i k done >>= gathered r) >>= unwound l (ev l) fs) s
