@@ -4,4 +4,7 @@ pub mod Fits
 pub mod Timeless
 pub mod Nodes
 pub mod Grown
+pub mod Named
+pub mod Lookups
 pub mod Scoped
+pub mod LiteralNumbers

@@ -9,3 +9,5 @@ pub mod Puts
 pub mod Examples
 pub mod Environments
 pub mod Shows
+pub mod ByName
+pub mod Lookup

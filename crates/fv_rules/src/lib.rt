@@ -1,7 +1,10 @@
 //! The rules of evaluation: what a program's text means as a block diagram, the laws of the rules, and the number of a diagram.
 #![tactic(auto)]
 
+mod by_name;
 mod laws;
+mod literals;
+mod lookup;
 mod number;
 mod putting;
 mod refusal;
@@ -9,6 +12,8 @@ mod scopes;
 mod value;
 
 pub use laws::{evaluates_soundly, evaluation_follows, literals_stay};
+pub use literals::{literal, negative_literal};
+pub use lookup::Definitions;
 pub use number::number_of;
 pub use putting::put;
 pub use refusal::EvalRefusal;
