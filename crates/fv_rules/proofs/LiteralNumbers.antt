@@ -1,5 +1,5 @@
 -- The number of a literal, as its 32 bits are read.
-use Rattle.std.proofs.Common.{◌≡◌, ℕ, zero, suc, ◌+◌, ◌-◌, ◌%◌, ◌^◌, ◌<◌, arith, refl, ap, pos, neg_ℤ, to_z, w32}
+use Rattle.std.proofs.Common.{◌≡◌, ℕ, zero, suc, ◌+◌, ◌-◌, ◌%◌, ◌^◌, ◌<◌, arith, ap, pos, neg_ℤ, to_z, w32}
 use Rattle.std.specs.Int.{int_wrap}
 use Rattle.fv_num.specs.Words.{wrap}
 

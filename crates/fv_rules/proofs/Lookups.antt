@@ -1,11 +1,11 @@
 -- The steps of a look-up.
-use Rattle.std.proofs.Common.{◌≡◌, ℕ, zero, suc, ◌<◌, ◌≤◌, arith, Bool, true, false, cond, List, [], ◌∷◌, length, map, drop, get_or, Option, Some, None, refl, sym, ap, subst, ◌∙◌, All}
-use Rattle.std.specs.Prelude.{◌&&◌, filter, nat_eq, not, slice_get}
+use Rattle.std.proofs.Common.{◌≡◌, ℕ, zero, suc, ◌<◌, ◌≤◌, arith, Bool, true, false, cond, List, [], ◌∷◌, length, map, get_or, Option, Some, None, refl, sym, ap, subst, ◌∙◌, All}
+use Rattle.std.specs.Prelude.{filter, nat_eq, not, slice_get}
 use Rattle.std.proofs.lemmas.List.{length-map}
 use Rattle.std.proofs.lemmas.List.Folds.{list_all_at}
 use Rattle.std.specs.List.{list_all}
 use Rattle.std.specs.Str.{bytes_eq}
-use Rattle.std.proofs.lemmas.Bool.{and_parts, false≢true, eq-eqb, eqb-true}
+use Rattle.std.proofs.lemmas.Bool.{and_parts, false≢true, eqb-true}
 use Rattle.std.proofs.lemmas.List.Elements.{filter_passes}
 use Rattle.std.proofs.lemmas.Option.{none-some}
 use Rattle.std.proofs.lemmas.Slice.Eq.{bytes_eq-Decides}
@@ -26,7 +26,7 @@ use Rattle.fv_rules.specs.declared.value.Ruled.TheVariants as ruled
 use Rattle.fv_rules.specs.declared.value.Meaning as code_meaning
 use Rattle.fv_rules.specs.declared.value.Meaning.TheVariants as meaning
 use Rattle.fv_rules.specs.Environments.{scope_in, outer_number}
-use Rattle.fv_rules.specs.Values.{Name, Rule, Env, Outermost, Bound, Scope, Nothing, Definition, Cases, Meaning, IsValue, IsDefined, rule_of, is_of, names_of, with_name, of_one, definition_of, or_else, lookup}
+use Rattle.fv_rules.specs.Values.{Name, Rule, Env, Outermost, Bound, Scope, Nothing, Cases, Meaning, IsValue, IsDefined, rule_of, is_of, names_of, with_name, of_one, definition_of, or_else, lookup}
 use Rattle.fv_rules.specs.Shows.{World, IsNamed, IsFunction, IsInside, given_names, parameters_in, body_in, name_in, rules_in, begins_in, ShowsValue, ShowsEnv, ShowsTaken, ShowsMeaning}
 use Rattle.fv_rules.specs.Lookup.{SaysOrPasses, IsMade, outer, is_name, are_names}
 

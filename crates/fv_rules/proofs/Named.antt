@@ -1,6 +1,6 @@
 -- The definitions of a list, by name.
 use Rattle.std.proofs.Common.{◌≡◌, ◌⊎◌, ℕ, zero, suc, ◌+◌, ◌-◌, ◌<◌, ◌≤◌, arith, Bool, true, false, cond, List, [], ◌∷◌, ◌++◌, length, map, take, drop, get_or, Option, Some, None, inl, inr, refl, sym, ap, ap₂, subst, ◌∙◌, All, length-drop}
-use Rattle.std.specs.Prelude.{filter, filter_map, nat_eq, nat_lt, nat_le, not, ◌&&◌}
+use Rattle.std.specs.Prelude.{filter, nat_eq, nat_lt, nat_le, not, ◌&&◌}
 use Rattle.std.specs.List.Sorted.{IsPartitionPoint, IsPermutation, IsStableByKey, ties}
 use Rattle.std.specs.Ordering.{nat_cmp, is_lt}
 use Rattle.std.specs.declared.cmp.Ordering.TheVariants.{Less, Equal, Greater}
@@ -20,7 +20,7 @@ use Rattle.fv_tree.specs.declared.node.TreeId.{TreeId}
 use Rattle.fv_tree.specs.declared.node.TreeNode.{TreeNode}
 use Rattle.fv_tree.specs.declared.node.TreeNode.TheVariants as nodes
 use Rattle.fv_rules.specs.declared.by_name.Defined.{Defined}
-use Rattle.fv_rules.specs.Values.{Name, is_of}
+use Rattle.fv_rules.specs.Values.{is_of}
 use Rattle.fv_rules.specs.ByName.{is_called, defined_name, called, defined_in, AreDefined, AreIndexed}
 
 -- ---- what passes a test from one place up to another, and nowhere else

@@ -11,3 +11,5 @@ pub mod Environments
 pub mod Shows
 pub mod ByName
 pub mod Lookup
+pub mod Memo
+pub mod Choosing

@@ -1,5 +1,5 @@
 -- What the steps of a look-up answer (this project's profile).
-use Rattle.std.specs.Prelude.{◌≡◌, ℕ, suc, ◌<◌, Bool, true, false, ◌&&◌, List, [], ◌∷◌, length, filter, Option, Some, None}
+use Rattle.std.specs.Prelude.{◌≡◌, ℕ, suc, ◌<◌, Bool, true, false, List, [], ◌∷◌, length, filter, Option, Some, None}
 use Rattle.std.specs.List.{list_all}
 use Rattle.fv_grammar.specs.Tree.{Tree, Named, items}
 use Rattle.fv_parse.specs.Trees.{Parsed, size_of, tree_in}

@@ -1,5 +1,5 @@
 -- What the numbers of an evaluation's lists stand for (this project's profile).
-use Rattle.std.specs.Prelude.{◌≡◌, ℕ, zero, suc, ◌<◌, List, [], ◌∷◌, ◌++◌, length, map, filter, drop, All, Option, Some, None, slice_get}
+use Rattle.std.specs.Prelude.{◌≡◌, ℕ, suc, ◌<◌, List, [], ◌∷◌, ◌++◌, map, filter, drop, Option, Some, None, slice_get}
 use Rattle.fv_lex.specs.Token.{Lexed}
 use Rattle.fv_grammar.specs.Tree.{Tree, items, start_of}
 use Rattle.fv_grammar.specs.Tree as tree
@@ -18,7 +18,7 @@ use Rattle.fv_rules.specs.declared.value.Binding as code_binding
 use Rattle.fv_rules.specs.declared.value.Meaning as code_meaning
 use Rattle.fv_rules.specs.declared.value.Meaning.TheVariants as meaning
 use Rattle.fv_rules.specs.Environments.{scope_in}
-use Rattle.fv_rules.specs.Values.{Name, Rule, Value, Flat, Abstraction, Rules, Env, Outermost, Bound, Scope, Taken, Nothing, And, Definition, Plain, Parameters, Cases, Meaning, IsValue, IsDefined, Unknown, rule_of, is_of, names_of}
+use Rattle.fv_rules.specs.Values.{Name, Rule, Value, Flat, Abstraction, Rules, Env, Outermost, Bound, Scope, Taken, Nothing, And, Plain, Parameters, Cases, Meaning, IsValue, IsDefined, Unknown, rule_of, is_of, names_of}
 use Rattle.fv_rules.specs.Matching.{Bindings}
 
 -- The lists of an evaluation: the tree, the diagrams, the environments and the arguments that rules have taken.

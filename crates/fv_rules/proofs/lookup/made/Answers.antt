@@ -1,5 +1,4 @@
 use Rattle.std.proofs.Common.{◌≡◌, ◌∙◌, false, sym, ap}
-use Rattle.fv_grammar.specs.Tree as tree
 use Rattle.fv_grammar.specs.Tree.{items}
 use Rattle.fv_tree.specs.Arena.{trees, tree_of}
 use Rattle.fv_parse.specs.Trees.{tree_in, start_in}

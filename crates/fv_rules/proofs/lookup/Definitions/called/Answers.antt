@@ -1,5 +1,5 @@
 use Rattle.std.proofs.Common.{◌<◌, length, arith}
-use Rattle.fv_rules.proofs.Named.{IsCalled, called_in}
+use Rattle.fv_rules.proofs.Named.{called_in}
 use Rattle.fv_rules.proofs.lookup.Definitions.called.Goals as goal
 
 pub returns-then-i-len-clause-found : goal.returns-then-i-len-clause-found
