@@ -2,6 +2,7 @@
 #![tactic(auto)]
 
 mod by_name;
+mod choosing;
 mod laws;
 mod literals;
 mod lookup;
