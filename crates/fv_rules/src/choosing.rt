@@ -64,7 +64,8 @@ impl Definitions<'_> {
     // The definitions that have the name of this one.
     fn functions(&self, list: TreeId, first: TreeId) -> &[Defined]
         requires { IsInside self.now (Ruled.Definitions list first) }
-        ensures rules { map (λ (d : AnItem). rule_of (tree_in self.now d.node)) result.now ≡ rules_in self.now (Ruled.Definitions list first) }
+        ensures rules { map (λ (d : AnItem). rule_of (tree_in self.now d.node)) result.now
+            ≡ rules_in self.now (Ruled.Definitions list first) }
         ensures there { All (λ (d : AnItem). d.node < size_of self.now) result.now }
     {
         let tree = self.tree();
@@ -120,8 +121,8 @@ impl Definitions<'_> {
         }
     }
 
-    /// The right side and the bindings of the first rule that matches arguments; `None` where none does. It adds integers
-    /// alone, also where memory runs out.
+    /// The right side and the bindings of the first rule that matches arguments; `None` where none does. It adds
+    /// integers alone, also where memory runs out.
     pub fn choose(
         &self,
         alloc: Global,
@@ -135,7 +136,8 @@ impl Definitions<'_> {
         requires known { Remembers diagrams.old numbers.old }
         ensures adds { AddsIntegers diagrams.old diagrams.new }
         ensures known { Remembers diagrams.new numbers.new }
-        ensures chosen { IfOk result (λ o. (w : World) (vs : List PureValue) → w.tree ≡ self.now → w.diagrams ≡ diagrams.old → ShowsValues w arguments.now vs
+        ensures chosen { IfOk result (λ o. (w : World) (vs : List PureValue)
+            → w.tree ≡ self.now → w.diagrams ≡ diagrams.old → ShowsValues w arguments.now vs
             → ShowsChoice (with_diagrams w diagrams.new) o (chosen self.now.tokens (rules_in self.now ruled) vs)) }
     {
         let tree = self.tree();
@@ -206,9 +208,11 @@ fn all_match(
     requires known { Remembers diagrams.old numbers.old }
     ensures adds { AddsIntegers diagrams.old diagrams.new }
     ensures known { Remembers diagrams.new numbers.new }
-    ensures matched { IfOk result (λ b. (w : World) (vs : List PureValue) (bs : PureBindings) → w.tree ≡ tree.now → w.diagrams ≡ diagrams.old → ShowsValues w arguments.now vs
+    ensures matched { IfOk result (λ b. (w : World) (vs : List PureValue) (bs : PureBindings)
+        → w.tree ≡ tree.now → w.diagrams ≡ diagrams.old → ShowsValues w arguments.now vs
         → ShowsBindings w found.old.items bs
-        → ShowsMatched (with_diagrams w diagrams.new) b found.new.items (all_matched tree.now.tokens (map (tree_in tree.now) patterns.now) vs bs)) }
+        → ShowsMatched (with_diagrams w diagrams.new) b found.new.items
+        (all_matched tree.now.tokens (map (tree_in tree.now) patterns.now) vs bs)) }
 {
     for (i, pattern) in patterns.iter().enumerate() {
         if i >= arguments.len() {
