@@ -21,6 +21,10 @@ use Rattle.fv_grammar.specs.declared.symbol.Mark.{Mark}
 use Rattle.fv_grammar.specs.declared.symbol.Mark.TheVariants as marks
 use Rattle.fv_grammar.specs.Symbols.{head, rank, operator, is_left, is_mark}
 use Rattle.fv_grammar.specs.Tree.{Tree, Number, Negative, Named, MinusNamed, Wire, Cut, Primitive, Group, Abstraction, Case, Iteration, Ports, Switch, Slider, Panel, Delayed, Apply, Binary, Where, Rule, Constant, Function, End, More}
+use Rattle.fv_grammar.specs.declared.symbol.Operands.{Operands}
+use Rattle.fv_grammar.specs.declared.symbol.Commas.{Commas}
+use Rattle.fv_grammar.specs.declared.symbol.Operands.TheVariants as operands
+use Rattle.fv_grammar.specs.declared.symbol.Commas.TheVariants as commas
 
 -- A step gives a value and the tokens after it, or the tokens from the first that does not fit.
 abbrev pub Step : Type 0 → Type 0
@@ -37,9 +41,9 @@ abbrev pub Reader : Type 0
 Reader = Inside → List Symbol → Step Tree
 
 -- how loosely the first token joins what stands before it; the end of the text ends every phrase
-abbrev pub rank_at : Bool → Bool → List Symbol → ℕ
-rank_at pattern comma [] = 99
-rank_at pattern comma (t ∷ ts) = rank pattern comma t
+abbrev pub rank_at : Operands → Commas → List Symbol → ℕ
+rank_at kind comma [] = 99
+rank_at kind comma (t ∷ ts) = rank kind comma t
 
 -- the operator that the first token is
 abbrev pub operator_at : List Symbol → Operator
@@ -277,35 +281,35 @@ atom inner [] = Err []
 atom inner (t ∷ ts) = atom_by_head inner (head t) (t ∷ ts) ts
 
 -- what the operators join
-abbrev pub operand : Reader → Bool → List Symbol → Step Tree
-operand inner true ts = atom inner ts
-operand inner false ts = postfix inner ts
+abbrev pub operand : Reader → Operands → List Symbol → Step Tree
+operand inner operands.Patterns ts = atom inner ts
+operand inner operands.Expressions ts = postfix inner ts
 
 -- ---- operators
 -- an operator of this rank and what stands behind it, joined to the left
-abbrev pub left_turn : (List Symbol → Step Tree) → Bool → Bool → ℕ → ℕ → Tree → List Symbol → Turn
-left_turn part pattern comma r start x ts =
-    if nat_eq (rank_at pattern comma ts) r then turn (part (drop 1 ts)) (λ y. Binary start (operator_at ts) x y) else Done
+abbrev pub left_turn : (List Symbol → Step Tree) → Operands → Commas → ℕ → ℕ → Tree → List Symbol → Turn
+left_turn part kind comma r start x ts =
+    if nat_eq (rank_at kind comma ts) r then turn (part (drop 1 ts)) (λ y. Binary start (operator_at ts) x y) else Done
 
 -- so many parts at most, joined to the right
-unfoldable pub rights : ℕ → (List Symbol → Step Tree) → Bool → Bool → ℕ → List Symbol → Step Tree
-rights zero part pattern comma r ts = Err ts
-rights (suc k) part pattern comma r ts =
-    if nat_lt (length ts) k then rights k part pattern comma r ts
+unfoldable pub rights : ℕ → (List Symbol → Step Tree) → Operands → Commas → ℕ → List Symbol → Step Tree
+rights zero part kind comma r ts = Err ts
+rights (suc k) part kind comma r ts =
+    if nat_lt (length ts) k then rights k part kind comma r ts
     else (part ts >>= λ x.
-    if nat_eq (rank_at pattern comma x.1) r then (rights k part pattern comma r (drop 1 x.1) >>= λ y. Ok (Binary (length ts) (operator_at x.1) x.0 y.0, y.1))
+    if nat_eq (rank_at kind comma x.1) r then (rights k part kind comma r (drop 1 x.1) >>= λ y. Ok (Binary (length ts) (operator_at x.1) x.0 y.0, y.1))
     else Ok (x.0, x.1))
 
 -- parts that are joined to the right
-unfoldable pub chain : (List Symbol → Step Tree) → Bool → Bool → ℕ → List Symbol → Step Tree
-chain part pattern comma r ts = rights (suc (length ts)) part pattern comma r ts
+unfoldable pub chain : (List Symbol → Step Tree) → Operands → Commas → ℕ → List Symbol → Step Tree
+chain part kind comma r ts = rights (suc (length ts)) part kind comma r ts
 
--- parts that are joined by the operators up to a height
-unfoldable pub phrase : Reader → Bool → Bool → ℕ → List Symbol → Step Tree
-phrase inner pattern comma zero ts = operand inner pattern ts
-phrase inner pattern comma (suc h) ts =
-    if is_left (suc h) then (phrase inner pattern comma h ts >>= λ x. run (left_turn (phrase inner pattern comma h) pattern comma (suc (suc h)) (length ts)) x.0 x.1)
-    else chain (phrase inner pattern comma h) pattern comma (suc (suc h)) ts
+-- parts that are joined by the operators up to a precedence
+unfoldable pub phrase : Reader → Operands → Commas → ℕ → List Symbol → Step Tree
+phrase inner kind comma zero ts = operand inner kind ts
+phrase inner kind comma (suc h) ts =
+    if is_left (suc h) then (phrase inner kind comma h ts >>= λ x. run (left_turn (phrase inner kind comma h) kind comma (suc (suc h)) (length ts)) x.0 x.1)
+    else chain (phrase inner kind comma h) kind comma (suc (suc h)) ts
 
 -- ---- expression
 -- `with` comes first
@@ -326,7 +330,7 @@ with_turn inner start x (t ∷ ts) = Done
 
 -- a phrase, and any number of `with`s behind it
 unfoldable pub expression : Reader → List Symbol → Step Tree
-expression inner ts = phrase inner false true 8 ts >>= λ x. run (with_turn inner (length ts)) x.0 x.1
+expression inner ts = phrase inner operands.Expressions commas.Join 8 ts >>= λ x. run (with_turn inner (length ts)) x.0 x.1
 
 -- ---- definitions and rules
 -- expression ";"
@@ -417,16 +421,16 @@ next_rule inner (Open ∷ ts) = one_of (one_rule inner (Open ∷ ts))
 next_rule inner ts = Nothing
 
 -- a comma and a further argument or pattern
-abbrev pub next_part : Reader → Bool → List Symbol → Item
-next_part inner pattern (Comma ∷ ts) = one_of (phrase inner pattern false 8 ts)
-next_part inner pattern ts = Nothing
+abbrev pub next_part : Reader → Operands → List Symbol → Item
+next_part inner kind (Comma ∷ ts) = one_of (phrase inner kind commas.Separate 8 ts)
+next_part inner kind ts = Nothing
 
 -- a further item of a list
 abbrev pub item : Reader → Items → List Symbol → Item
 item inner Statements ts = statement inner ts
 item inner Definitions ts = inner_definition inner ts
 item inner Rules ts = next_rule inner ts
-item inner (Parts pattern) ts = next_part inner pattern ts
+item inner (Parts kind) ts = next_part inner kind ts
 
 -- the items from one on
 abbrev pub with_item : (List Symbol → Step Tree) → List Symbol → Item → Step Tree
@@ -447,7 +451,7 @@ further inner items ts = many (suc (length ts)) (item inner items) ts
 -- the first item of a list that has one
 abbrev pub first_item : Reader → Items → List Symbol → Step Tree
 first_item inner Rules ts = one_rule inner ts
-first_item inner (Parts pattern) ts = phrase inner pattern false 8 ts
+first_item inner (Parts kind) ts = phrase inner kind commas.Separate 8 ts
 first_item inner items ts = Err ts
 
 -- a list that has an item
@@ -461,10 +465,10 @@ listed inner items ts = do
 -- what stands in brackets, by its kind
 abbrev pub descend : Reader → Reader
 descend inner insides.Expression ts = expression inner ts
-descend inner insides.Argument ts = phrase inner false false 8 ts
-descend inner insides.Pattern ts = phrase inner true true 8 ts
-descend inner insides.Arguments ts = listed inner (Parts false) ts
-descend inner insides.Patterns ts = listed inner (Parts true) ts
+descend inner insides.Argument ts = phrase inner operands.Expressions commas.Separate 8 ts
+descend inner insides.Pattern ts = phrase inner operands.Patterns commas.Join 8 ts
+descend inner insides.Arguments ts = listed inner (Parts operands.Expressions) ts
+descend inner insides.Patterns ts = listed inner (Parts operands.Patterns) ts
 descend inner insides.Rules ts = listed inner Rules ts
 descend inner insides.Definitions ts = further inner Definitions ts
 

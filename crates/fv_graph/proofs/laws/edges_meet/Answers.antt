@@ -1,0 +1,5 @@
+use Rattle.fv_graph.proofs.Graphs.{is_wires}
+use Rattle.fv_graph.proofs.laws.edges_meet.Goals as goal
+
+pub returns : goal.returns
+returns h g ig = is_wires g ig

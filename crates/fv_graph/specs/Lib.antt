@@ -1,0 +1,6 @@
+pub mod Words
+pub mod Net
+pub mod Graph
+pub mod Wires
+pub mod Reads
+pub mod Lists
