@@ -7,7 +7,6 @@ use Rattle.fv_graph.specs.Words.{passing}
 use Rattle.fv_graph.specs.Net.{IsNet}
 use Rattle.fv_graph.specs.Graph.{IsGraph, pair_at, stride, edges_of, task_at, loop_of, vector_of, chain_edge, pair_edge, pair_edges_into, pair_edges_out, inward, outward, place_in, source_of, reader_of, needs_of, feeds_of, is_entry, is_exit, net_of}
 use Rattle.fv_graph.specs.Wires.{IsWires, wires_of}
-use Rattle.fv_graph.specs.Wires.{IsWires, wires_of}
 use Rattle.fv_graph.proofs.Counts.{bit_same, bit_apart, bit_le as bit_most, both_true, not_true, bit_left, bit_right, bits_agree, leb_of, of_leb, either_left, either_right, one_of, times_above, times_passing, map_hit, map_miss, both_of, not_ltb, eq_of}
 
 pub further : (x y n : ℕ) → x < y → x * n + n ≤ y * n

@@ -5,7 +5,7 @@ use Rattle.fv_graph.specs.Words.{passing}
 use Rattle.fv_graph.specs.Lists.{Grouped}
 use Rattle.fv_graph.proofs.Counts.{get_set}
 
-passing_next : (p : ℕ → Bool) (from k : ℕ) → passing p from (k + 1) ≡ passing p from k ++ cond (p (from + k)) ((from + k) ∷ []) []
+pub passing_next : (p : ℕ → Bool) (from k : ℕ) → passing p from (k + 1) ≡ passing p from k ++ cond (p (from + k)) ((from + k) ∷ []) []
 passing_next p from zero = ap (λ i. cond (p i) (i ∷ []) []) (omega arith) ∙ same (p (from + 0)) (from + 0) from (omega arith)
   where
     same : (b : Bool) (i j : ℕ) → i ≡ j → cond b (i ∷ []) [] ≡ cond b (i ∷ []) []

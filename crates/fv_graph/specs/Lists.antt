@@ -10,9 +10,11 @@ pub record AreLists (edges : ℕ → List ℕ) (n : ℕ) (lists : List (Vec ℕ)
   pub long : length lists ≡ n
   pub each : (t : ℕ) (d : Vec ℕ) → t < n → (slice_index_or lists t d).items ≡ edges t
 
+-- the lists of the edges into the tasks
 abbrev pub AreInward : Tasks → List (Vec ℕ) → Type 0
 AreInward g lists = AreLists (inward g) (task_count g) lists
 
+-- the lists of the edges out of the tasks
 abbrev pub AreOutward : Tasks → List (Vec ℕ) → Type 0
 AreOutward g lists = AreLists (outward g) (task_count g) lists
 

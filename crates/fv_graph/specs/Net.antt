@@ -1,5 +1,5 @@
 -- What the scheduler knows of a graph of tasks: which tasks there are, and which inner edges go into and out of each.
--- An inner edge is one that has a source and a reader, so neither an entry edge nor an exit edge.
+-- An inner edge is one that has a source and a reader, so neither an entry edge nor an exit edge (this project's profile).
 use Rattle.std.specs.Prelude.{◌≡◌, ℕ, ◌<◌, Bool, true, ◌&&◌, List, length, ◌==◌}
 use Rattle.fv_outside.specs.Tasks.{bit, times}
 

@@ -23,5 +23,6 @@ pub record IsWires (w : Wires) : Type 0 where
   pub exits_from : (e : ℕ) → w.is_exit e ≡ true → w.net.source e < w.net.tasks
   pub apart : (e : ℕ) → bit (w.net.is_inner e) + bit (w.is_entry e) + bit (w.is_exit e) < 2
 
+-- the tasks as wires
 abbrev pub wires_of : Tasks → Wires
 wires_of g = record { net = net_of g; edges = edges_of g; is_entry = is_entry g; is_exit = is_exit g; inward = inward g; outward = outward g }

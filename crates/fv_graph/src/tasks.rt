@@ -107,7 +107,8 @@ impl Tasks {
 
     /// How many tasks there are.
     pub fn len(&self) -> u64
-        ensures { result ≡ task_count self.now.tasks }
+        ensures value { result ≡ task_count self.now.tasks }
+        ensures graph { IsGraph self.now.tasks }
     {
         u64::from(self.vectors) * self.loops
     }

@@ -10,3 +10,5 @@ pub mod Matched
 pub mod Remembered
 pub mod Scoped
 pub mod LiteralNumbers
+pub mod RulesChosen
+pub mod RuleNodes

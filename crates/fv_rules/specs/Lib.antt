@@ -13,3 +13,4 @@ pub mod ByName
 pub mod Lookup
 pub mod Memo
 pub mod Choosing
+pub mod Chosen

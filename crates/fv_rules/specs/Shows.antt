@@ -87,6 +87,7 @@ abbrev pub IsInside : Parsed → Ruled → Type 0
 IsInside p (ruled.Case id) = id < size_of p
 IsInside p (ruled.Definitions list first) = (list < size_of p) × (first < size_of p) × IsFunction (tree_in p first)
 
+-- values, environments and arguments, by their numbers
 abbrev mutual
   -- this value is that one
   pub ShowsValue : World → code_value.Value → Value → Type 0

@@ -1,7 +1,9 @@
-//! The rules of evaluation: what a program's text means as a block diagram, the laws of the rules, and the number of a diagram.
+//! The rules of evaluation: what a program's text means as a block diagram, and the laws of the rules; values and
+//! environments as numbers of lists, look-up of names, numbers of diagrams, and patterns.
 #![tactic(auto)]
 
 mod by_name;
+mod choosing;
 mod laws;
 mod literals;
 mod lookup;

@@ -50,7 +50,8 @@ impl<'a> Definitions<'a> {
 
     /// What a name, by its canonical number, stands for in an environment.
     pub fn look_up(&self, scopes: &Scopes, name: u64, env: u64) -> Meaning
-        ensures { (w : World) (x : Name) (E : Env) → w.tree ≡ self.now → w.scopes ≡ scopes.now.scopes → IsNamed w name x → ShowsEnv w env E
+        ensures { (w : World) (x : Name) (E : Env)
+            → w.tree ≡ self.now → w.scopes ≡ scopes.now.scopes → IsNamed w name x → ShowsEnv w env E
             → ShowsMeaning w result (lookup self.now.tokens E x) }
     {
         let mut at = env;
@@ -70,7 +71,8 @@ impl<'a> Definitions<'a> {
 
     // What the innermost scope of an environment makes of a name.
     fn in_scope(&self, scope: &Scope, name: u64, env: u64) -> Option<Meaning>
-        ensures { (w : World) (x : Name) (E : Env) → w.tree ≡ self.now → scope_in w.scopes env ≡ Some scope.now → IsNamed w name x → ShowsEnv w env E
+        ensures { (w : World) (x : Name) (E : Env)
+            → w.tree ≡ self.now → scope_in w.scopes env ≡ Some scope.now → IsNamed w name x → ShowsEnv w env E
             → SaysOrPasses w result (lookup self.now.tokens E x) (lookup self.now.tokens (outer E) x) }
     {
         match scope {
@@ -91,8 +93,10 @@ impl<'a> Definitions<'a> {
 
     // What the definitions of a name in a list make of it, in the environment of the list.
     fn defined(&self, list: TreeId, name: u64, env: u64) -> Option<Meaning>
-        ensures { (w : World) (x : Name) (E : Env) (m : PureMeaning) → w.tree ≡ self.now → list < size_of w.tree → IsNamed w name x → ShowsEnv w env E
-            → SaysOrPasses w result (or_else (definition_of self.now.tokens (filter (is_of self.now.tokens x) (items (tree_in self.now list)))) E m) m }
+        ensures { (w : World) (x : Name) (E : Env) (m : PureMeaning)
+            → w.tree ≡ self.now → list < size_of w.tree → IsNamed w name x → ShowsEnv w env E
+            → SaysOrPasses w result
+            (or_else (definition_of self.now.tokens (filter (is_of self.now.tokens x) (items (tree_in self.now list)))) E m) m }
     {
         let found = self.called(list, name);
         let first = found.first()?;
@@ -110,7 +114,8 @@ impl<'a> Definitions<'a> {
     /// The definitions of a name in a list, in order.
     pub(crate) fn called(&self, list: TreeId, name: u64) -> &[Defined]
         ensures found { list < size_of self.now → (n : ℕ) → first_named self.now.tokens n ≡ name
-            → map (λ (d : AnItem). tree_in self.now d.node) result.now ≡ filter (is_of self.now.tokens (text_of self.now.tokens n)) (items (tree_in self.now list)) }
+            → map (λ (d : AnItem). tree_in self.now d.node) result.now
+            ≡ filter (is_of self.now.tokens (text_of self.now.tokens n)) (items (tree_in self.now list)) }
         ensures there { All (λ (d : AnItem). d.node < size_of self.now) result.now }
     {
         let i = list.number() as usize;

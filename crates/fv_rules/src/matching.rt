@@ -9,7 +9,8 @@ ghost use Rattle.fv_rules.specs.Numbers.{number_of};
 ghost use Rattle.fv_rules.specs.Matching.{Bindings as PureBindings, matched, is_number, parts_of, parts_without};
 ghost use Rattle.fv_rules.specs.Shows.{World, ShowsValue, ShowsBindings};
 ghost use Rattle.fv_rules.specs.Memo.{Remembers, AddsIntegers};
-ghost use Rattle.fv_rules.specs.Choosing.{IsSound, IsNoDiagram, with_diagrams, ShowsMatched, ShowsMatch, IsPair, BindsName, Leaves, Refuses, are_parts, both_parts, ArePartsOf};
+ghost use Rattle.fv_rules.specs.Choosing.{IsSound, IsNoDiagram, with_diagrams, ShowsMatched, ShowsMatch, IsPair};
+ghost use Rattle.fv_rules.specs.Choosing.{BindsName, Leaves, Refuses, are_parts, both_parts, ArePartsOf};
 
 use crate::literals::{literal, negative_literal};
 use crate::memo::Numbers;
@@ -58,8 +59,8 @@ impl Bindings {
     }
 }
 
-/// The bindings of a pattern against a value; `None` where it does not match. It adds integers alone, also where memory runs
-/// out.
+/// The bindings of a pattern against a value; `None` where it does not match. It adds integers alone, also where
+/// memory runs out.
 pub fn matches(
     alloc: Global,
     tree: &Tree,
@@ -70,7 +71,8 @@ pub fn matches(
     requires inside { pattern < size_of tree.now }
     requires argument { IsSound diagrams.old argument.now }
     ensures adds { AddsIntegers diagrams.old diagrams.new }
-    ensures matched { IfOk result (λ o. (w : World) (v : PureValue) → w.tree ≡ tree.now → w.diagrams ≡ diagrams.old → ShowsValue w argument.now v
+    ensures matched { IfOk result (λ o. (w : World) (v : PureValue)
+        → w.tree ≡ tree.now → w.diagrams ≡ diagrams.old → ShowsValue w argument.now v
         → ShowsMatch (with_diagrams w diagrams.new) o (matched tree.now.tokens (tree_in tree.now pattern) v [])) }
 {
     let mut numbers = Numbers::new(alloc);
@@ -90,8 +92,8 @@ pub fn matches(
     }
 }
 
-/// Tries a pattern on a value: whether it matches. The bindings are added to those so far. It adds integers alone, also where
-/// memory runs out.
+/// Tries a pattern on a value: whether it matches. The bindings are added to those so far. It adds integers alone,
+/// also where memory runs out.
 pub(crate) fn matches_in(
     alloc: Global,
     tree: &Tree,
@@ -106,9 +108,11 @@ pub(crate) fn matches_in(
     requires known { Remembers diagrams.old numbers.old }
     ensures adds { AddsIntegers diagrams.old diagrams.new }
     ensures known { Remembers diagrams.new numbers.new }
-    ensures matched { IfOk result (λ b. (w : World) (v : PureValue) (bs : PureBindings) → w.tree ≡ tree.now → w.diagrams ≡ diagrams.old → ShowsValue w argument.now v
+    ensures matched { IfOk result (λ b. (w : World) (v : PureValue) (bs : PureBindings)
+        → w.tree ≡ tree.now → w.diagrams ≡ diagrams.old → ShowsValue w argument.now v
         → ShowsBindings w found.old.items bs
-        → ShowsMatched (with_diagrams w diagrams.new) b found.new.items (matched tree.now.tokens (tree_in tree.now pattern) v bs)) }
+        → ShowsMatched (with_diagrams w diagrams.new) b found.new.items
+        (matched tree.now.tokens (tree_in tree.now pattern) v bs)) }
 {
     match argument {
         Value::Diagram(diagram) => {
@@ -143,7 +147,8 @@ fn binds_whole(
 ) -> Result<bool, AllocError>
     requires inside { pattern < size_of tree.now }
     requires other { IsNoDiagram argument.now }
-    ensures matched { IfOk result (λ b. (w : World) (v : PureValue) (bs : PureBindings) → w.tree ≡ tree.now → ShowsValue w argument.now v → ShowsBindings w found.old.items bs
+    ensures matched { IfOk result (λ b. (w : World) (v : PureValue) (bs : PureBindings)
+        → w.tree ≡ tree.now → ShowsValue w argument.now v → ShowsBindings w found.old.items bs
         → ShowsMatched w b found.new.items (matched tree.now.tokens (tree_in tree.now pattern) v bs)) }
 {
     match tree.node(pattern) {
@@ -168,8 +173,10 @@ fn matches_diagram(
     requires known { Remembers diagrams.old numbers.old }
     ensures adds { AddsIntegers diagrams.old diagrams.new }
     ensures known { Remembers diagrams.new numbers.new }
-    ensures matched { IfOk result (λ b. (w : World) (bs : PureBindings) → w.tree ≡ tree.now → w.diagrams ≡ diagrams.old → ShowsBindings w found.old.items bs
-        → ShowsMatched (with_diagrams w diagrams.new) b found.new.items (matched tree.now.tokens (tree_in tree.now whole.pattern) (Flat (tree_of diagrams.old whole.diagram)) bs)) }
+    ensures matched { IfOk result (λ b. (w : World) (bs : PureBindings)
+        → w.tree ≡ tree.now → w.diagrams ≡ diagrams.old → ShowsBindings w found.old.items bs
+        → ShowsMatched (with_diagrams w diagrams.new) b found.new.items
+        (matched tree.now.tokens (tree_in tree.now whole.pattern) (Flat (tree_of diagrams.old whole.diagram)) bs)) }
 {
     let mut pending = Vec::new(alloc);
     pending.push(whole)?;
@@ -195,7 +202,8 @@ fn advance(
     requires known { Remembers diagrams.old numbers.old }
     ensures adds { AddsIntegers diagrams.old diagrams.new }
     ensures known { Remembers diagrams.new numbers.new }
-    ensures matched { IfOk result (λ b. MatchBool b (Leaves tree.now diagrams.old diagrams.new pair pending.old.items pending.new.items found.old.items found.new.items)
+    ensures matched { IfOk result (λ b. MatchBool b
+        (Leaves tree.now diagrams.old diagrams.new pair pending.old.items pending.new.items found.old.items found.new.items)
         (Refuses tree.now diagrams.old pair)) }
 {
     match tree.node(pair.pattern) {
@@ -267,7 +275,8 @@ fn parts_of(
     requires well { IsWellFormed (tree_of diagrams.now id) }
     requires known { Remembers diagrams.now numbers.old }
     ensures known { Remembers diagrams.now numbers.new }
-    ensures parts { IfOk result (λ o. option_map (are_parts diagrams.now) o ≡ parts_without (number_of (tree_of diagrams.now id)) operator (tree_of diagrams.now id)) }
+    ensures parts { IfOk result (λ o. option_map (are_parts diagrams.now) o
+        ≡ parts_without (number_of (tree_of diagrams.now id)) operator (tree_of diagrams.now id)) }
     ensures there { IfOk result (λ o. IfSome o (ArePartsOf diagrams.now id)) }
 {
     if numbers.number_of(alloc, diagrams, id)?.is_some() {

@@ -82,7 +82,8 @@ impl Numbers {
         requires well { IsWellFormed (tree_of diagrams.old id) }
         requires known { Remembers diagrams.old self.old }
         ensures inside { IfOk result (λ i. i < count_of diagrams.new) }
-        ensures tree { IfOk result (λ i. tree_of diagrams.new i ≡ number_or (number_of (tree_of diagrams.old id)) (tree_of diagrams.old id)) }
+        ensures tree { IfOk result (λ i. tree_of diagrams.new i
+            ≡ number_or (number_of (tree_of diagrams.old id)) (tree_of diagrams.old id)) }
         ensures adds { AddsIntegers diagrams.old diagrams.new }
         ensures known { Remembers diagrams.new self.new }
     {

@@ -16,7 +16,8 @@ pub fn put(diagrams: &mut Diagrams, node: &Node) -> Result<DiagramId, EvalRefusa
     ensures put { Puts diagrams.new (tree_with diagrams.old node.now) result }
     // Just that node is added, and it is well formed where its parts are.
     ensures added { IfOk result (λ i. (i ≡ count_of diagrams.old) × (diagrams.new ≡ with_node diagrams.old node.now)) }
-    ensures well { OnOk result (HasWellFormedParts (tree_with diagrams.old node.now) → IsWellFormed (tree_with diagrams.old node.now)) }
+    ensures well { OnOk result (HasWellFormedParts (tree_with diagrams.old node.now)
+        → IsWellFormed (tree_with diagrams.old node.now)) }
     ensures keeps { (i : ℕ) → i < count_of diagrams.old → tree_of diagrams.new i ≡ tree_of diagrams.old i }
     ensures err { OnErr result (diagrams.new ≡ diagrams.old) }
 {

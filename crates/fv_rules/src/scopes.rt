@@ -12,8 +12,8 @@ use fv_parse::TreeId;
 use std::alloc::{AllocError, Global};
 use std::marker::Model;
 
-/// Environments and arguments that rules have taken. They are shared: one is made of the number of another, and is never
-/// changed. Environment 0 is the outermost one.
+/// Environments and arguments that rules have taken. They are shared: one is made of the number of another, and is
+/// never changed. Environment 0 is the outermost one.
 #[derive(Drop)]
 pub struct Scopes {
     scopes: Vec<Scope>,
@@ -41,7 +41,8 @@ impl Scopes {
 
     /// A name bound to a value, in an environment: the number of the new environment.
     pub fn bind(&mut self, name: u64, value: Value, outer: u64) -> Result<u64, AllocError>
-        ensures ok { IfOk result (λ i. (i ≡ length self.old.scopes + 1) × (self.new ≡ with_scope self.old (Bound name value outer))) }
+        ensures ok { IfOk result (λ i. (i ≡ length self.old.scopes + 1)
+            × (self.new ≡ with_scope self.old (Bound name value outer))) }
         ensures err { OnErr result (self.new ≡ self.old) }
     {
         self.scopes.push(Scope::Bound { name, value, outer })?;
@@ -50,7 +51,8 @@ impl Scopes {
 
     /// A list of definitions, in an environment: the number of the new environment.
     pub fn open(&mut self, list: TreeId, outer: u64) -> Result<u64, AllocError>
-        ensures ok { IfOk result (λ i. (i ≡ length self.old.scopes + 1) × (self.new ≡ with_scope self.old (Definitions list outer))) }
+        ensures ok { IfOk result (λ i. (i ≡ length self.old.scopes + 1)
+            × (self.new ≡ with_scope self.old (Definitions list outer))) }
         ensures err { OnErr result (self.new ≡ self.old) }
     {
         // The borrow checker's proof needs the types within `Scope` named here.
@@ -61,7 +63,8 @@ impl Scopes {
 
     /// One argument more behind the one with this number: the number of the new one.
     pub fn take(&mut self, value: Value, before: u64) -> Result<u64, AllocError>
-        ensures ok { IfOk result (λ i. (i ≡ length self.old.taken) × (self.new ≡ with_argument self.old (record { value = value; before = before }))) }
+        ensures ok { IfOk result (λ i. (i ≡ length self.old.taken)
+            × (self.new ≡ with_argument self.old (record { value = value; before = before }))) }
         ensures err { OnErr result (self.new ≡ self.old) }
     {
         let place = self.taken.len() as u64;
@@ -81,7 +84,8 @@ impl Scopes {
 
     /// The arguments that rules have taken, in order: so many, of which the last one has this number.
     pub fn arguments(&self, alloc: Global, count: u64, last: u64) -> Result<Vec<Value>, AllocError>
-        ensures { IfOk result (λ v. (w : World) (T : Taken) → w.taken ≡ self.now.taken → ShowsTaken w count last T → ShowsValues w v.items (in_order T [])) }
+        ensures { IfOk result (λ v. (w : World) (T : Taken)
+            → w.taken ≡ self.now.taken → ShowsTaken w count last T → ShowsValues w v.items (in_order T [])) }
     {
         let _within: Option<(Value, Ruled)> = None;
         let mut arguments = Vec::new(alloc);
@@ -110,7 +114,8 @@ impl Scopes {
     pub fn bind_all(&mut self, bindings: &[Binding], outer: u64) -> Result<u64, AllocError>
         ensures grows { (w : World) → w.scopes ≡ self.old.scopes → Grows w (record w { scopes = self.new.scopes }) }
         ensures taken { self.new.taken ≡ self.old.taken }
-        ensures bound { IfOk result (λ i. (w : World) (E : Env) (bs : Bindings) → w.scopes ≡ self.old.scopes → ShowsEnv w outer E → ShowsBindings w bindings.now bs
+        ensures bound { IfOk result (λ i. (w : World) (E : Env) (bs : Bindings)
+            → w.scopes ≡ self.old.scopes → ShowsEnv w outer E → ShowsBindings w bindings.now bs
             → ShowsEnv (record w { scopes = self.new.scopes }) i (bound_in E bs)) }
     {
         let mut env = outer;

@@ -1,0 +1,9 @@
+pub mod Ends
+pub mod Core
+pub mod Lean
+pub mod Law
+pub mod Sound
+pub mod Kept
+pub mod Running
+pub mod Stored
+pub mod Ready
