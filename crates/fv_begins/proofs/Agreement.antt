@@ -8,6 +8,9 @@ use Rattle.fv_grammar.specs.declared.symbol.Head.TheVariants as heads
 use Rattle.fv_grammar.specs.Symbols.{head, rank}
 use Rattle.fv_grammar.specs.Nesting.{Nests}
 use Rattle.fv_grammar.specs.Descent.{Step, ◌>>=◌, Reader}
+use Rattle.fv_grammar.specs.declared.symbol.Operands.{Operands}
+use Rattle.fv_grammar.specs.declared.symbol.Commas.{Commas}
+use Rattle.fv_grammar.specs.declared.symbol.Operands.TheVariants as operands
 
 -- the token, what stands behind it in the one and in the other, and how many brackets may be open at once
 pub record Fork : Type 0 where
@@ -184,13 +187,13 @@ pub no_bracket : {k : Fork} {d : ℕ} {t : Symbol} → ((p : List Symbol) → Ne
 no_bracket h = record { passed = λ p low n. (low, h p n) }
 
 -- an operator is no bracket
-pub operator_passing : {k : Fork} {d : ℕ} (pattern comma : Bool) (t : Symbol) → 1 < rank pattern comma t → rank pattern comma t < 99 → Passing k d d t
-operator_passing true comma Open loose tight = absurd (omega arith)
-operator_passing false comma Open loose tight = absurd (omega arith)
-operator_passing pattern comma OpenBrace loose tight = absurd (omega arith)
-operator_passing pattern comma Close loose tight = absurd (omega arith)
-operator_passing pattern comma CloseBrace loose tight = absurd (omega arith)
-operator_passing pattern comma t loose tight = record { passed = λ p low n. (low, n) }
+pub operator_passing : {k : Fork} {d : ℕ} (kind : Operands) (comma : Commas) (t : Symbol) → 1 < rank kind comma t → rank kind comma t < 99 → Passing k d d t
+operator_passing operands.Patterns comma Open loose tight = absurd (omega arith)
+operator_passing operands.Expressions comma Open loose tight = absurd (omega arith)
+operator_passing kind comma OpenBrace loose tight = absurd (omega arith)
+operator_passing kind comma Close loose tight = absurd (omega arith)
+operator_passing kind comma CloseBrace loose tight = absurd (omega arith)
+operator_passing kind comma t loose tight = record { passed = λ p low n. (low, n) }
 
 -- what begins an operand is no bracket, but for "("
 pub head_passing : {k : Fork} {d : ℕ} (t : Symbol) → (head t ≡ heads.Group → ⊥) → (head t ≡ heads.Nothing → ⊥) → Passing k d d t

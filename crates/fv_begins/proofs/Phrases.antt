@@ -19,6 +19,10 @@ use Rattle.fv_begins.proofs.Pieces.{expect_passes, ReadsInside, enclosed_reads}
 use Rattle.fv_grammar.proofs.Sound.{is_integer, is_name, is_plus, is_minus, is_open}
 use Rattle.fv_begins.proofs.Operands.{headed, leaf, pair, begun, primary_reads}
 use Rattle.fv_begins.proofs.Turns.{Turns, no_turn, one_turn, turn_of, turn_by_test, run_reads}
+use Rattle.fv_grammar.specs.declared.symbol.Operands.{Operands}
+use Rattle.fv_grammar.specs.declared.symbol.Commas.{Commas}
+use Rattle.fv_grammar.specs.declared.symbol.Operands.TheVariants as operands
+use Rattle.fv_grammar.specs.declared.symbol.Commas.TheVariants as commas
 
 -- ---- postfix
 is_delayed : (a b : List Symbol) → Spans (Then APostfix (Sign Tick)) a b → Spelled Postfix a b
@@ -71,70 +75,70 @@ atom_reads : (inner : Reader) → ReadsInside inner → (ts : List Symbol) → R
 atom_reads inner reads [] = unread AnAtom
 atom_reads inner reads (t ∷ ts) = atom_by_head_reads inner reads (head t) t ts refl
 
-is_operand : (comma : Bool) (a b : List Symbol) → Spans APostfix a b → Spelled (Phrase false comma zero) a b
+is_operand : (comma : Commas) (a b : List Symbol) → Spans APostfix a b → Spelled (Phrase operands.Expressions comma zero) a b
 is_operand comma a b (spelled x) = spelled (operand x)
 
-is_pattern_operand : (comma : Bool) (a b : List Symbol) → Spans AnAtom a b → Spelled (Phrase true comma zero) a b
+is_pattern_operand : (comma : Commas) (a b : List Symbol) → Spans AnAtom a b → Spelled (Phrase operands.Patterns comma zero) a b
 is_pattern_operand comma a b (spelled x) = spelled (pattern_operand x)
 
-operand_reads : (inner : Reader) → ReadsInside inner → (pattern comma : Bool) (ts : List Symbol) → Reads (Joined pattern comma zero) ts (descent.operand inner pattern ts)
-operand_reads inner reads true comma ts = as_plan (Joined true comma zero) (atom_reads inner reads ts) (is_pattern_operand comma)
-operand_reads inner reads false comma ts = as_plan (Joined false comma zero) (postfix_reads inner reads ts) (is_operand comma)
+operand_reads : (inner : Reader) → ReadsInside inner → (kind : Operands) (comma : Commas) (ts : List Symbol) → Reads (Joined kind comma zero) ts (descent.operand inner kind ts)
+operand_reads inner reads operands.Patterns comma ts = as_plan (Joined operands.Patterns comma zero) (atom_reads inner reads ts) (is_pattern_operand comma)
+operand_reads inner reads operands.Expressions comma ts = as_plan (Joined operands.Expressions comma zero) (postfix_reads inner reads ts) (is_operand comma)
 
 -- ---- operators
-operator_rank : (pattern comma : Bool) (h : ℕ) (ts : List Symbol) → h < 8 → nat_eq (rank_at pattern comma ts) (suc (suc h)) ≡ true → (t : Symbol) × (ts ≡ t ∷ drop 1 ts) × (rank pattern comma t ≡ suc (suc h))
-operator_rank pattern comma h [] small e = let p : rank_at pattern comma [] ≡ suc (suc h) = eqb-true (rank_at pattern comma []) (suc (suc h)) e in absurd (omega arith)
-operator_rank pattern comma h (t ∷ ts) small e = (t, refl, eqb-true (rank pattern comma t) (suc (suc h)) e)
+operator_rank : (kind : Operands) (comma : Commas) (h : ℕ) (ts : List Symbol) → h < 8 → nat_eq (rank_at kind comma ts) (suc (suc h)) ≡ true → (t : Symbol) × (ts ≡ t ∷ drop 1 ts) × (rank kind comma t ≡ suc (suc h))
+operator_rank kind comma h [] small e = let p : rank_at kind comma [] ≡ suc (suc h) = eqb-true (rank_at kind comma []) (suc (suc h)) e in absurd (omega arith)
+operator_rank kind comma h (t ∷ ts) small e = (t, refl, eqb-true (rank kind comma t) (suc (suc h)) e)
 
 sign_taken : (t : Symbol) (ts : List Symbol) → ts ≡ t ∷ drop 1 ts → Takes (Spans (Sign t)) ts (drop 1 ts)
 sign_taken t ts e = record { used = t ∷ []; whole = e; spans = λ tail. signed }
 
-is_tighter : (pattern comma : Bool) (h : ℕ) (a b : List Symbol) → Spelled (Phrase pattern comma h) a b → Spelled (Phrase pattern comma (suc h)) a b
-is_tighter pattern comma h a b (spelled x) = spelled (tighter x)
+is_tighter : (kind : Operands) (comma : Commas) (h : ℕ) (a b : List Symbol) → Spelled (Phrase kind comma h) a b → Spelled (Phrase kind comma (suc h)) a b
+is_tighter kind comma h a b (spelled x) = spelled (tighter x)
 
-is_leftward : (pattern comma : Bool) (h : ℕ) (t : Symbol) → h < 8 → is_left (suc h) ≡ true → rank pattern comma t ≡ suc (suc h)
-    → (a b : List Symbol) → Spans (Then (Joined pattern comma (suc h)) (Then (Sign t) (Joined pattern comma h))) a b → Spelled (Phrase pattern comma (suc h)) a b
-is_leftward pattern comma h t small left ranked a b (both (spelled x) (both signed (spelled y))) = spelled (leftward t small left ranked x y)
+is_leftward : (kind : Operands) (comma : Commas) (h : ℕ) (t : Symbol) → h < 8 → is_left (suc h) ≡ true → rank kind comma t ≡ suc (suc h)
+    → (a b : List Symbol) → Spans (Then (Joined kind comma (suc h)) (Then (Sign t) (Joined kind comma h))) a b → Spelled (Phrase kind comma (suc h)) a b
+is_leftward kind comma h t small left ranked a b (both (spelled x) (both signed (spelled y))) = spelled (leftward t small left ranked x y)
 
-left_turns : (part : List Symbol → Step Tree) (pattern comma : Bool) (h : ℕ) → h < 8 → is_left (suc h) ≡ true → ((ts : List Symbol) → Reads (Joined pattern comma h) ts (part ts))
-    → (start : ℕ) (all : List Symbol) (x : Tree) (ts : List Symbol) → Takes (Spans (Joined pattern comma (suc h))) all ts → Turns (Joined pattern comma (suc h)) all (left_turn part pattern comma (suc (suc h)) start x ts)
-left_turns part pattern comma h small left reads start all x ts s = turn_by_test (nat_eq (rank_at pattern comma ts) (suc (suc h)))
-    (λ on. let (t, is, ranked) = operator_rank pattern comma h ts small on in
-    turn_of _ (as_plan (Joined pattern comma (suc h)) (behind (Joined pattern comma (suc h)) s (behind (Sign t) (sign_taken t ts is) (reads (drop 1 ts)))) (is_leftward pattern comma h t small left ranked)))
+left_turns : (part : List Symbol → Step Tree) (kind : Operands) (comma : Commas) (h : ℕ) → h < 8 → is_left (suc h) ≡ true → ((ts : List Symbol) → Reads (Joined kind comma h) ts (part ts))
+    → (start : ℕ) (all : List Symbol) (x : Tree) (ts : List Symbol) → Takes (Spans (Joined kind comma (suc h))) all ts → Turns (Joined kind comma (suc h)) all (left_turn part kind comma (suc (suc h)) start x ts)
+left_turns part kind comma h small left reads start all x ts s = turn_by_test (nat_eq (rank_at kind comma ts) (suc (suc h)))
+    (λ on. let (t, is, ranked) = operator_rank kind comma h ts small on in
+    turn_of _ (as_plan (Joined kind comma (suc h)) (behind (Joined kind comma (suc h)) s (behind (Sign t) (sign_taken t ts is) (reads (drop 1 ts)))) (is_leftward kind comma h t small left ranked)))
     (λ off. no_turn)
 
-is_rightward : (pattern comma : Bool) (h : ℕ) → h < 8 → is_left (suc h) ≡ false → (a b : List Symbol) → Spans (Then (Joined pattern comma h) (GoesOn pattern comma h)) a b → Spelled (Phrase pattern comma (suc h)) a b
-is_rightward pattern comma h small right a b (both (spelled x) stay) = spelled (tighter x)
-is_rightward pattern comma h small right a b (both (spelled x) (onward t ranked (spelled y))) = spelled (rightward t small right ranked x y)
+is_rightward : (kind : Operands) (comma : Commas) (h : ℕ) → h < 8 → is_left (suc h) ≡ false → (a b : List Symbol) → Spans (Then (Joined kind comma h) (GoesOn kind comma h)) a b → Spelled (Phrase kind comma (suc h)) a b
+is_rightward kind comma h small right a b (both (spelled x) stay) = spelled (tighter x)
+is_rightward kind comma h small right a b (both (spelled x) (onward t ranked (spelled y))) = spelled (rightward t small right ranked x y)
 
-goes_on : (pattern comma : Bool) (h : ℕ) (t : Symbol) → rank pattern comma t ≡ suc (suc h) → (a b : List Symbol) → Spans (Then (Sign t) (Joined pattern comma (suc h))) a b → Onward pattern comma h a b
-goes_on pattern comma h t ranked a b (both signed y) = onward t ranked y
+goes_on : (kind : Operands) (comma : Commas) (h : ℕ) (t : Symbol) → rank kind comma t ≡ suc (suc h) → (a b : List Symbol) → Spans (Then (Sign t) (Joined kind comma (suc h))) a b → Onward kind comma h a b
+goes_on kind comma h t ranked a b (both signed y) = onward t ranked y
 
-stays_there : (pattern comma : Bool) (h : ℕ) (a b : List Symbol) → Spans Nothing a b → Onward pattern comma h a b
-stays_there pattern comma h a b nought = stay
+stays_there : (kind : Operands) (comma : Commas) (h : ℕ) (a b : List Symbol) → Spans Nothing a b → Onward kind comma h a b
+stays_there kind comma h a b nought = stay
 
-rights_read : (part : List Symbol → Step Tree) (pattern comma : Bool) (h : ℕ) → h < 8 → is_left (suc h) ≡ false → ((ts : List Symbol) → Reads (Joined pattern comma h) ts (part ts))
-    → (k : ℕ) (ts : List Symbol) → Reads (Joined pattern comma (suc h)) ts (rights k part pattern comma (suc (suc h)) ts)
+rights_read : (part : List Symbol → Step Tree) (kind : Operands) (comma : Commas) (h : ℕ) → h < 8 → is_left (suc h) ≡ false → ((ts : List Symbol) → Reads (Joined kind comma h) ts (part ts))
+    → (k : ℕ) (ts : List Symbol) → Reads (Joined kind comma (suc h)) ts (rights k part kind comma (suc (suc h)) ts)
 unfolding rights
-rights_read part pattern comma h small right reads zero ts = unread (Joined pattern comma (suc h))
-rights_read part pattern comma h small right reads (suc k) ts = by_test (nat_lt (length ts) k)
-    (λ _. rights_read part pattern comma h small right reads k ts)
-    (λ _. as_plan (Joined pattern comma (suc h)) (next (reads ts) (λ x. by_test (nat_eq (rank_at pattern comma x.1) (suc (suc h)))
-    (λ on. let (t, is, ranked) = operator_rank pattern comma h x.1 small on in
-    as_plan (GoesOn pattern comma h) (made (behind (Sign t) (sign_taken t x.1 is) (rights_read part pattern comma h small right reads k (drop 1 x.1))) (λ y. done)) (goes_on pattern comma h t ranked))
-    (λ off. as_plan (GoesOn pattern comma h) done (stays_there pattern comma h)))) (is_rightward pattern comma h small right))
+rights_read part kind comma h small right reads zero ts = unread (Joined kind comma (suc h))
+rights_read part kind comma h small right reads (suc k) ts = by_test (nat_lt (length ts) k)
+    (λ _. rights_read part kind comma h small right reads k ts)
+    (λ _. as_plan (Joined kind comma (suc h)) (next (reads ts) (λ x. by_test (nat_eq (rank_at kind comma x.1) (suc (suc h)))
+    (λ on. let (t, is, ranked) = operator_rank kind comma h x.1 small on in
+    as_plan (GoesOn kind comma h) (made (behind (Sign t) (sign_taken t x.1 is) (rights_read part kind comma h small right reads k (drop 1 x.1))) (λ y. done)) (goes_on kind comma h t ranked))
+    (λ off. as_plan (GoesOn kind comma h) done (stays_there kind comma h)))) (is_rightward kind comma h small right))
 
-pub phrase_reads : (inner : Reader) → ReadsInside inner → (pattern comma : Bool) (h : ℕ) → h < 9 → (ts : List Symbol) → Reads (Joined pattern comma h) ts (phrase inner pattern comma h ts)
+pub phrase_reads : (inner : Reader) → ReadsInside inner → (kind : Operands) (comma : Commas) (h : ℕ) → h < 9 → (ts : List Symbol) → Reads (Joined kind comma h) ts (phrase inner kind comma h ts)
 unfolding phrase chain
-phrase_reads inner reads pattern comma zero small ts = operand_reads inner reads pattern comma ts
-phrase_reads inner reads pattern comma (suc h) small ts = by_test (is_left (suc h))
-    (λ left. onward_from (as_plan (Joined pattern comma (suc h)) (phrase_reads inner reads pattern comma h (omega arith) ts) (is_tighter pattern comma h))
-    (λ x s. run_reads (Joined pattern comma (suc h)) ts (left_turn (phrase inner pattern comma h) pattern comma (suc (suc h)) (length ts))
-    (left_turns (phrase inner pattern comma h) pattern comma h (omega arith) left (phrase_reads inner reads pattern comma h (omega arith)) (length ts) ts) x.0 x.1 s))
-    (λ right. rights_read (phrase inner pattern comma h) pattern comma h (omega arith) right (phrase_reads inner reads pattern comma h (omega arith)) (suc (length ts)) ts)
+phrase_reads inner reads kind comma zero small ts = operand_reads inner reads kind comma ts
+phrase_reads inner reads kind comma (suc h) small ts = by_test (is_left (suc h))
+    (λ left. onward_from (as_plan (Joined kind comma (suc h)) (phrase_reads inner reads kind comma h (omega arith) ts) (is_tighter kind comma h))
+    (λ x s. run_reads (Joined kind comma (suc h)) ts (left_turn (phrase inner kind comma h) kind comma (suc (suc h)) (length ts))
+    (left_turns (phrase inner kind comma h) kind comma h (omega arith) left (phrase_reads inner reads kind comma h (omega arith)) (length ts) ts) x.0 x.1 s))
+    (λ right. rights_read (phrase inner kind comma h) kind comma h (omega arith) right (phrase_reads inner reads kind comma h (omega arith)) (suc (length ts)) ts)
 
 -- ---- expression
-is_plain : (a b : List Symbol) → Spans (Joined false true 8) a b → Spelled Expression a b
+is_plain : (a b : List Symbol) → Spans (Joined operands.Expressions commas.Join 8) a b → Spelled Expression a b
 is_plain a b (spelled x) = spelled (plain x)
 
 is_qualified : (a b : List Symbol) → Spans (Then (Inner insides.Expression) (Then (Sign With) (Then (Sign OpenBrace) (Then (Inner insides.Definitions) (Sign CloseBrace))))) a b → Spelled Expression a b
@@ -148,5 +152,5 @@ with_turns inner reads start all x (t ∷ ts) s = no_turn
 
 pub expression_reads : (inner : Reader) → ReadsInside inner → (ts : List Symbol) → Reads (Inner insides.Expression) ts (expression inner ts)
 unfolding expression
-expression_reads inner reads ts = onward_from (as_plan (Inner insides.Expression) (phrase_reads inner reads false true 8 (omega arith) ts) is_plain)
+expression_reads inner reads ts = onward_from (as_plan (Inner insides.Expression) (phrase_reads inner reads operands.Expressions commas.Join 8 (omega arith) ts) is_plain)
     (λ x s. run_reads (Inner insides.Expression) ts (with_turn inner (length ts)) (with_turns inner reads (length ts) ts) x.0 x.1 s)

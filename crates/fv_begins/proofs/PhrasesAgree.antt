@@ -15,6 +15,10 @@ use Rattle.fv_grammar.proofs.Loops.{run_next, run_done, run_stop, joined, chain_
 use Rattle.fv_begins.proofs.Agreement.{Fork, Same, remains, BothRead, also, given, halted, both_test, of_test, of_equal, unrolled, Looks, takes, stays_at, looked, looked_among, opens, no_bracket, operator_passing, group_opens, AgreesInside}
 use Rattle.fv_begins.proofs.PiecesAgree.{expect_both, by_open_brace, by_close_brace, enclosed_both}
 use Rattle.fv_begins.proofs.OperandsAgree.{begins_operand, primary_both}
+use Rattle.fv_grammar.specs.declared.symbol.Operands.{Operands}
+use Rattle.fv_grammar.specs.declared.symbol.Commas.{Commas}
+use Rattle.fv_grammar.specs.declared.symbol.Operands.TheVariants as operands
+use Rattle.fv_grammar.specs.declared.symbol.Commas.TheVariants as commas
 
 -- ---- loops of turns
 run_turn : (body : Tree → List Symbol → Turn) (x : Tree) (all : List Symbol) (r : Step Tree) (f : Tree → Tree) → body x all ≡ turn r f → length (remains (λ z. z.1) r) < length all
@@ -81,82 +85,82 @@ atom_look inside other t h ts us = stays_at halted
 atom_both : {k : Fork} {d : ℕ} {inner inner' : Reader} → AgreesInside k (suc d) inner inner' → {ts us : List Symbol} → Same k d ts us → BothRead k d ts (atom inner ts) (atom inner' us)
 atom_both {inner = inner} {inner' = inner'} inside same = looked (atom inner) (atom inner') refl (λ t ts us. atom_look inside (head t) t refl ts us) same
 
-operand_both : {k : Fork} {d : ℕ} {inner inner' : Reader} → AgreesInside k (suc d) inner inner' → (pattern : Bool) {ts us : List Symbol} → Same k d ts us → BothRead k d ts (operand inner pattern ts) (operand inner' pattern us)
-operand_both inside true same = atom_both inside same
-operand_both inside false same = postfix_both inside same
+operand_both : {k : Fork} {d : ℕ} {inner inner' : Reader} → AgreesInside k (suc d) inner inner' → (kind : Operands) {ts us : List Symbol} → Same k d ts us → BothRead k d ts (operand inner kind ts) (operand inner' kind us)
+operand_both inside operands.Patterns same = atom_both inside same
+operand_both inside operands.Expressions same = postfix_both inside same
 
 -- ---- operators
 -- both readers of what the operators join agree
 record AgreesPart (k : Fork) (d : ℕ) (part part' : List Symbol → Step Tree) : Type 0 where
   agree : (ts us : List Symbol) → Same k d ts us → BothRead k d ts (part ts) (part' us)
 
-ranked : (pattern comma : Bool) (h : ℕ) (t : Symbol) → nat_eq (rank pattern comma t) (suc (suc h)) ≡ true → rank pattern comma t ≡ suc (suc h)
-ranked pattern comma h t e = eqb-true (rank pattern comma t) (suc (suc h)) e
+ranked : (kind : Operands) (comma : Commas) (h : ℕ) (t : Symbol) → nat_eq (rank kind comma t) (suc (suc h)) ≡ true → rank kind comma t ≡ suc (suc h)
+ranked kind comma h t e = eqb-true (rank kind comma t) (suc (suc h)) e
 
-no_rank : (pattern comma : Bool) (h : ℕ) → h < 8 → nat_eq (rank_at pattern comma []) (suc (suc h)) ≡ false
-no_rank pattern comma h small = of_test (nat_eq (rank_at pattern comma []) (suc (suc h)))
-    (λ on. let p : rank_at pattern comma [] ≡ suc (suc h) = eqb-true (rank_at pattern comma []) (suc (suc h)) on in absurd (omega arith))
+no_rank : (kind : Operands) (comma : Commas) (h : ℕ) → h < 8 → nat_eq (rank_at kind comma []) (suc (suc h)) ≡ false
+no_rank kind comma h small = of_test (nat_eq (rank_at kind comma []) (suc (suc h)))
+    (λ on. let p : rank_at kind comma [] ≡ suc (suc h) = eqb-true (rank_at kind comma []) (suc (suc h)) on in absurd (omega arith))
     (λ off. off)
 
 -- to the left
-left_look : {k : Fork} {d : ℕ} {part part' : List Symbol → Step Tree} → AgreesPart k d part part' → (pattern comma : Bool) (h : ℕ) → h < 8 → (start start' : ℕ) (n : ℕ)
-    → TurnsAgree k d (left_turn part pattern comma (suc (suc h)) start) (left_turn part' pattern comma (suc (suc h)) start') n
+left_look : {k : Fork} {d : ℕ} {part part' : List Symbol → Step Tree} → AgreesPart k d part part' → (kind : Operands) (comma : Commas) (h : ℕ) → h < 8 → (start start' : ℕ) (n : ℕ)
+    → TurnsAgree k d (left_turn part kind comma (suc (suc h)) start) (left_turn part' kind comma (suc (suc h)) start') n
     → (x y : Tree) (t : Symbol) (ts us : List Symbol) → length (t ∷ ts) ≤ n
-    → Looks k d d (λ z. z.1) t ts us (run (left_turn part pattern comma (suc (suc h)) start) x (t ∷ ts)) (run (left_turn part' pattern comma (suc (suc h)) start') y (t ∷ us))
-left_look {part = part} {part' = part'} parts pattern comma h small start start' n go x y t ts us few = of_test (nat_eq (rank pattern comma t) (suc (suc h)))
-    (λ on. let r = ranked pattern comma h t on in takes _ (operator_passing pattern comma t (omega arith) (omega arith))
-    (λ s. turn_both n (left_turn part pattern comma (suc (suc h)) start) (left_turn part' pattern comma (suc (suc h)) start') x y t ts us (part ts) (part' us)
+    → Looks k d d (λ z. z.1) t ts us (run (left_turn part kind comma (suc (suc h)) start) x (t ∷ ts)) (run (left_turn part' kind comma (suc (suc h)) start') y (t ∷ us))
+left_look {part = part} {part' = part'} parts kind comma h small start start' n go x y t ts us few = of_test (nat_eq (rank kind comma t) (suc (suc h)))
+    (λ on. let r = ranked kind comma h t on in takes _ (operator_passing kind comma t (omega arith) (omega arith))
+    (λ s. turn_both n (left_turn part kind comma (suc (suc h)) start) (left_turn part' kind comma (suc (suc h)) start') x y t ts us (part ts) (part' us)
     (λ z. Binary start (operator t) x z) (λ z. Binary start' (operator t) y z) go few (rw on refl) (rw on refl) s (parts.agree ts us s)))
-    (λ off. stays_at (λ s. of_equal (run_done (left_turn part pattern comma (suc (suc h)) start) x (t ∷ ts) (rw off refl)) (run_done (left_turn part' pattern comma (suc (suc h)) start') y (t ∷ us) (rw off refl)) (given s)))
+    (λ off. stays_at (λ s. of_equal (run_done (left_turn part kind comma (suc (suc h)) start) x (t ∷ ts) (rw off refl)) (run_done (left_turn part' kind comma (suc (suc h)) start') y (t ∷ us) (rw off refl)) (given s)))
 
 -- to the right: an operator behind a part, and what follows it
-abbrev behind_part : (List Symbol → Step Tree) → Bool → Bool → ℕ → List Symbol → Tree → List Symbol → Step Tree
-behind_part part pattern comma r all x at = cond (nat_eq (rank_at pattern comma at) r) (joined all at x (chain part pattern comma r (drop 1 at))) (Ok (x, at))
+abbrev behind_part : (List Symbol → Step Tree) → Operands → Commas → ℕ → List Symbol → Tree → List Symbol → Step Tree
+behind_part part kind comma r all x at = cond (nat_eq (rank_at kind comma at) r) (joined all at x (chain part kind comma r (drop 1 at))) (Ok (x, at))
 
-operator_fewer : (pattern comma : Bool) (h : ℕ) (at : List Symbol) → h < 8 → nat_eq (rank_at pattern comma at) (suc (suc h)) ≡ true → length (drop 1 at) < length at
-operator_fewer pattern comma h [] small e = let p : rank_at pattern comma [] ≡ suc (suc h) = eqb-true (rank_at pattern comma []) (suc (suc h)) e in absurd (omega arith)
-operator_fewer pattern comma h (t ∷ ts) small e = omega arith
+operator_fewer : (kind : Operands) (comma : Commas) (h : ℕ) (at : List Symbol) → h < 8 → nat_eq (rank_at kind comma at) (suc (suc h)) ≡ true → length (drop 1 at) < length at
+operator_fewer kind comma h [] small e = let p : rank_at kind comma [] ≡ suc (suc h) = eqb-true (rank_at kind comma []) (suc (suc h)) e in absurd (omega arith)
+operator_fewer kind comma h (t ∷ ts) small e = omega arith
 
-chain_law : (part : List Symbol → Step Tree) (pattern comma : Bool) (h : ℕ) → h < 8 → (ts : List Symbol) (q : Step Tree) → part ts ≡ q → length (remains (λ z. z.1) q) ≤ length ts
-    → chain part pattern comma (suc (suc h)) ts ≡ (q >>= λ x. behind_part part pattern comma (suc (suc h)) ts x.0 x.1)
-chain_law part pattern comma h small ts (Ok x) e few = of_test (nat_eq (rank_at pattern comma x.1) (suc (suc h)))
-    (λ on. let f = operator_fewer pattern comma h x.1 small on in chain_next part pattern comma (suc (suc h)) ts x.0 x.1 e on (omega arith) ∙ rw on refl)
-    (λ off. chain_done part pattern comma (suc (suc h)) ts x.0 x.1 e off ∙ rw off refl)
-chain_law part pattern comma h small ts (Err at) e few = chain_stop part pattern comma (suc (suc h)) ts at e
+chain_law : (part : List Symbol → Step Tree) (kind : Operands) (comma : Commas) (h : ℕ) → h < 8 → (ts : List Symbol) (q : Step Tree) → part ts ≡ q → length (remains (λ z. z.1) q) ≤ length ts
+    → chain part kind comma (suc (suc h)) ts ≡ (q >>= λ x. behind_part part kind comma (suc (suc h)) ts x.0 x.1)
+chain_law part kind comma h small ts (Ok x) e few = of_test (nat_eq (rank_at kind comma x.1) (suc (suc h)))
+    (λ on. let f = operator_fewer kind comma h x.1 small on in chain_next part kind comma (suc (suc h)) ts x.0 x.1 e on (omega arith) ∙ rw on refl)
+    (λ off. chain_done part kind comma (suc (suc h)) ts x.0 x.1 e off ∙ rw off refl)
+chain_law part kind comma h small ts (Err at) e few = chain_stop part kind comma (suc (suc h)) ts at e
 
 joined_both : {k : Fork} {d : ℕ} (all all' at at' : List Symbol) (x y : Tree) {ts : List Symbol} {r s : Step Tree} → BothRead k d ts r s → BothRead k d ts (joined all at x r) (joined all' at' y s)
 joined_both all all' at at' x y a = also a (λ z w s. given s)
 
-abbrev ChainsAgree : Fork → ℕ → (List Symbol → Step Tree) → (List Symbol → Step Tree) → Bool → Bool → ℕ → ℕ → Type 0
-ChainsAgree k d part part' pattern comma r n = (ts us : List Symbol) → length ts < n → Same k d ts us → BothRead k d ts (chain part pattern comma r ts) (chain part' pattern comma r us)
+abbrev ChainsAgree : Fork → ℕ → (List Symbol → Step Tree) → (List Symbol → Step Tree) → Operands → Commas → ℕ → ℕ → Type 0
+ChainsAgree k d part part' kind comma r n = (ts us : List Symbol) → length ts < n → Same k d ts us → BothRead k d ts (chain part kind comma r ts) (chain part' kind comma r us)
 
-behind_look : {k : Fork} {d : ℕ} (part part' : List Symbol → Step Tree) (pattern comma : Bool) (h : ℕ) → h < 8 → (n : ℕ) → ChainsAgree k d part part' pattern comma (suc (suc h)) n
+behind_look : {k : Fork} {d : ℕ} (part part' : List Symbol → Step Tree) (kind : Operands) (comma : Commas) (h : ℕ) → h < 8 → (n : ℕ) → ChainsAgree k d part part' kind comma (suc (suc h)) n
     → (all all' : List Symbol) (x y : Tree) (t : Symbol) (ts us : List Symbol) → length (t ∷ ts) ≤ n
-    → Looks k d d (λ z. z.1) t ts us (behind_part part pattern comma (suc (suc h)) all x (t ∷ ts)) (behind_part part' pattern comma (suc (suc h)) all' y (t ∷ us))
-behind_look part part' pattern comma h small n go all all' x y t ts us few = of_test (nat_eq (rank pattern comma t) (suc (suc h)))
-    (λ on. let r = ranked pattern comma h t on in takes _ (operator_passing pattern comma t (omega arith) (omega arith))
+    → Looks k d d (λ z. z.1) t ts us (behind_part part kind comma (suc (suc h)) all x (t ∷ ts)) (behind_part part' kind comma (suc (suc h)) all' y (t ∷ us))
+behind_look part part' kind comma h small n go all all' x y t ts us few = of_test (nat_eq (rank kind comma t) (suc (suc h)))
+    (λ on. let r = ranked kind comma h t on in takes _ (operator_passing kind comma t (omega arith) (omega arith))
     (λ s. of_equal (rw on refl) (rw on refl) (joined_both all all' (t ∷ ts) (t ∷ us) x y (go ts us (omega arith) s))))
     (λ off. stays_at (λ s. of_equal (rw off refl) (rw off refl) (given {x = (x, t ∷ ts)} {y = (y, t ∷ us)} s)))
 
-chain_among : (k : Fork) (d : ℕ) (part part' : List Symbol → Step Tree) → AgreesPart k d part part' → (pattern comma : Bool) (h : ℕ) → h < 8 → (n : ℕ) → ChainsAgree k d part part' pattern comma (suc (suc h)) n
-chain_among k d part part' parts pattern comma h small zero ts us few same = absurd (omega arith)
-chain_among k d part part' parts pattern comma h small (suc n) ts us few same =
-    unrolled (λ x. behind_part part pattern comma (suc (suc h)) ts x.0 x.1) (λ x. behind_part part' pattern comma (suc (suc h)) us x.0 x.1) same (parts.agree ts us same)
-    (λ le. chain_law part pattern comma h small ts (part ts) refl le)
-    (λ le. chain_law part' pattern comma h small us (part' us) refl le)
-    (λ x y le s. looked_among n (behind_part part pattern comma (suc (suc h)) ts x.0) (behind_part part' pattern comma (suc (suc h)) us y.0) (let off = no_rank pattern comma h small in rw off refl)
-    (behind_look part part' pattern comma h small n (chain_among k d part part' parts pattern comma h small n) ts us x.0 y.0) (omega arith) s)
+chain_among : (k : Fork) (d : ℕ) (part part' : List Symbol → Step Tree) → AgreesPart k d part part' → (kind : Operands) (comma : Commas) (h : ℕ) → h < 8 → (n : ℕ) → ChainsAgree k d part part' kind comma (suc (suc h)) n
+chain_among k d part part' parts kind comma h small zero ts us few same = absurd (omega arith)
+chain_among k d part part' parts kind comma h small (suc n) ts us few same =
+    unrolled (λ x. behind_part part kind comma (suc (suc h)) ts x.0 x.1) (λ x. behind_part part' kind comma (suc (suc h)) us x.0 x.1) same (parts.agree ts us same)
+    (λ le. chain_law part kind comma h small ts (part ts) refl le)
+    (λ le. chain_law part' kind comma h small us (part' us) refl le)
+    (λ x y le s. looked_among n (behind_part part kind comma (suc (suc h)) ts x.0) (behind_part part' kind comma (suc (suc h)) us y.0) (let off = no_rank kind comma h small in rw off refl)
+    (behind_look part part' kind comma h small n (chain_among k d part part' parts kind comma h small n) ts us x.0 y.0) (omega arith) s)
 
-pub phrase_both : {k : Fork} {d : ℕ} {inner inner' : Reader} → AgreesInside k (suc d) inner inner' → (pattern comma : Bool) (h : ℕ) → h < 9 → (ts us : List Symbol) → Same k d ts us
-    → BothRead k d ts (phrase inner pattern comma h ts) (phrase inner' pattern comma h us)
+pub phrase_both : {k : Fork} {d : ℕ} {inner inner' : Reader} → AgreesInside k (suc d) inner inner' → (kind : Operands) (comma : Commas) (h : ℕ) → h < 9 → (ts us : List Symbol) → Same k d ts us
+    → BothRead k d ts (phrase inner kind comma h ts) (phrase inner' kind comma h us)
 unfolding phrase
-phrase_both inside pattern comma zero small ts us same = operand_both inside pattern same
-phrase_both {k = k} {d = d} {inner = inner} {inner' = inner'} inside pattern comma (suc h) small ts us same =
-    let parts : AgreesPart k d (phrase inner pattern comma h) (phrase inner' pattern comma h) = record { agree = phrase_both inside pattern comma h (omega arith) } in
+phrase_both inside kind comma zero small ts us same = operand_both inside kind same
+phrase_both {k = k} {d = d} {inner = inner} {inner' = inner'} inside kind comma (suc h) small ts us same =
+    let parts : AgreesPart k d (phrase inner kind comma h) (phrase inner' kind comma h) = record { agree = phrase_both inside kind comma h (omega arith) } in
     both_test (is_left (suc h))
-    (λ left. also (parts.agree ts us same) (λ x y s. turns_among _ _ (left_turn (phrase inner pattern comma h) pattern comma (suc (suc h)) (length ts)) (left_turn (phrase inner' pattern comma h) pattern comma (suc (suc h)) (length us))
-    (left_look parts pattern comma h (omega arith) (length ts) (length us)) (λ z. let off = no_rank pattern comma h (omega arith) in rw off refl) (suc (length x.1)) x.0 y.0 x.1 y.1 (omega arith) s))
-    (λ right. chain_among _ _ (phrase inner pattern comma h) (phrase inner' pattern comma h) parts pattern comma h (omega arith) (suc (length ts)) ts us (omega arith) same)
+    (λ left. also (parts.agree ts us same) (λ x y s. turns_among _ _ (left_turn (phrase inner kind comma h) kind comma (suc (suc h)) (length ts)) (left_turn (phrase inner' kind comma h) kind comma (suc (suc h)) (length us))
+    (left_look parts kind comma h (omega arith) (length ts) (length us)) (λ z. let off = no_rank kind comma h (omega arith) in rw off refl) (suc (length x.1)) x.0 y.0 x.1 y.1 (omega arith) s))
+    (λ right. chain_among _ _ (phrase inner kind comma h) (phrase inner' kind comma h) parts kind comma h (omega arith) (suc (length ts)) ts us (omega arith) same)
 
 -- ---- expression
 abbrev block : Reader → List Symbol → Step Tree
@@ -176,5 +180,5 @@ with_look {inner = inner} {inner' = inner'} inside start start' n go x y t ts us
 
 pub expression_both : {k : Fork} {d : ℕ} {inner inner' : Reader} → AgreesInside k (suc d) inner inner' → {ts us : List Symbol} → Same k d ts us → BothRead k d ts (expression inner ts) (expression inner' us)
 unfolding expression
-expression_both {inner = inner} {inner' = inner'} inside {ts = ts} {us = us} same = also (phrase_both inside false true 8 (omega arith) ts us same)
+expression_both {inner = inner} {inner' = inner'} inside {ts = ts} {us = us} same = also (phrase_both inside operands.Expressions commas.Join 8 (omega arith) ts us same)
     (λ x y s. turns_among _ _ (with_turn inner (length ts)) (with_turn inner' (length us)) (with_look inside (length ts) (length us)) (λ x. refl) (suc (length x.1)) x.0 y.0 x.1 y.1 (omega arith) s)

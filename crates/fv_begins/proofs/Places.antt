@@ -5,7 +5,7 @@ use Rattle.fv_lex.specs.declared.token.Symbol.{Symbol}
 use Rattle.fv_lex.specs.declared.token.Symbol.TheVariants.{Open, Close, OpenBrace, CloseBrace}
 use Rattle.fv_grammar.specs.declared.symbol.Items.TheVariants.{Statements}
 use Rattle.fv_grammar.specs.Tree.{Tree}
-use Rattle.fv_grammar.specs.Grammar.{Begins, SpellsProgram}
+use Rattle.fv_grammar.specs.Grammar.{IsViablePrefix, SpellsProgram}
 use Rattle.fv_grammar.specs.Nesting.{Nests, lowered}
 use Rattle.fv_grammar.specs.Descent.{Step, ◌>>=◌, further, within, program, whole_text}
 use Rattle.fv_grammar.specs.Laws.{ReadsAllSpelled, NestsWithinLength}
@@ -68,7 +68,7 @@ stops_where_none_goes_on reads room limit before rest t n e (more, x, p) =
     none_goes_on reads room limit before rest more t x n e (subst (λ l. SpellsProgram l x) (append_assoc before (t ∷ []) more) p)
 
 -- ---- the place
-is_place : ReadsAllSpelled → NestsWithinLength → (limit : ℕ) (before rest : List Symbol) → Nests limit 0 (before ++ rest) → program limit (before ++ rest) ≡ Err rest → Begins before → IsErrorPlace before rest
+is_place : ReadsAllSpelled → NestsWithinLength → (limit : ℕ) (before rest : List Symbol) → Nests limit 0 (before ++ rest) → program limit (before ++ rest) ≡ Err rest → IsViablePrefix before → IsErrorPlace before rest
 is_place reads room limit before [] n e b = (
   b,
   λ x p.
@@ -103,15 +103,15 @@ splits (t ∷ a) b (u ∷ c) d e =
     let others : a ++ b ≡ c ++ d = cc in
     behind_one t u a b c d first (splits a b c d others)
 
-begun : (before rest : List Symbol) → IsErrorPlace before rest → Begins before
+begun : (before rest : List Symbol) → IsErrorPlace before rest → IsViablePrefix before
 begun before [] place = place.0
 begun before (t ∷ rest) place = place.0
 
-none_further : (before rest others : List Symbol) (t : Symbol) → rest ≡ t ∷ others → IsErrorPlace before rest → Begins (before ++ t ∷ []) → ⊥
+none_further : (before rest others : List Symbol) (t : Symbol) → rest ≡ t ∷ others → IsErrorPlace before rest → IsViablePrefix (before ++ t ∷ []) → ⊥
 none_further before rest others t e place b = (subst (λ l. IsErrorPlace before l) e place).1 b
 
-goes_on : (before more : List Symbol) (t : Symbol) (longer : List Symbol) → longer ≡ before ++ t ∷ more → Begins longer → Begins (before ++ t ∷ [])
-goes_on before more t longer e b = beginnings_are_closed (before ++ t ∷ []) more (subst Begins (e ∙ sym (append_assoc before (t ∷ []) more)) b)
+goes_on : (before more : List Symbol) (t : Symbol) (longer : List Symbol) → longer ≡ before ++ t ∷ more → IsViablePrefix longer → IsViablePrefix (before ++ t ∷ [])
+goes_on before more t longer e b = beginnings_are_closed (before ++ t ∷ []) more (subst IsViablePrefix (e ∙ sym (append_assoc before (t ∷ []) more)) b)
 
 one_of_two : (a b c d : List Symbol) → Splits a b c d → IsErrorPlace a b → IsErrorPlace c d → (a ≡ c) × (b ≡ d)
 one_of_two a b c d (at_one p q) first second = (p, q)

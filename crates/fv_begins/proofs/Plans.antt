@@ -12,6 +12,10 @@ use Rattle.fv_grammar.specs.Tree.{Tree}
 use Rattle.fv_grammar.specs.Grammar.{Level, Further, Definition, Expression, Listed, OneRule, Phrase, Postfix, Primary, Atom, SpellsNames, one_name, Spells, no_more, first_rule, first_part, constant, rule, plain, tighter, operand, pattern_operand, bare, named, atom_name}
 use Rattle.fv_grammar.specs.Descent.{Step, ◌>>=◌}
 use Rattle.fv_grammar.proofs.Sound.{level_of}
+use Rattle.fv_grammar.specs.declared.symbol.Operands.{Operands}
+use Rattle.fv_grammar.specs.declared.symbol.Commas.{Commas}
+use Rattle.fv_grammar.specs.declared.symbol.Operands.TheVariants as operands
+use Rattle.fv_grammar.specs.declared.symbol.Commas.TheVariants as commas
 
 -- `R ts rest`: the tokens are something, and then the rest.
 abbrev pub Span : Type 1
@@ -45,10 +49,10 @@ pub data Spelled (level : Level) : List Symbol → List Symbol → Type 0 where
 pub record Adds (items : Items) (ts mid : List Symbol) : Type 0 where
   pub others : (rest : List Symbol) (x : Tree) → Spells (Further items) mid x rest → Spelled (Further items) ts rest
 
--- nothing, or an operator of this height and what stands behind it
-pub data Onward (pattern comma : Bool) (h : ℕ) : List Symbol → List Symbol → Type 0 where
-  stay : {ts : List Symbol} → Onward pattern comma h ts ts
-  onward : {mid rest : List Symbol} (t : Symbol) → rank pattern comma t ≡ suc (suc h) → Spelled (Phrase pattern comma (suc h)) mid rest → Onward pattern comma h (t ∷ mid) rest
+-- nothing, or an operator of this precedence and what stands behind it
+pub data Onward (kind : Operands) (comma : Commas) (h : ℕ) : List Symbol → List Symbol → Type 0 where
+  stay : {ts : List Symbol} → Onward kind comma h ts ts
+  onward : {mid rest : List Symbol} (t : Symbol) → rank kind comma t ≡ suc (suc h) → Spelled (Phrase kind comma (suc h)) mid rest → Onward kind comma h (t ∷ mid) rest
 
 -- one and then the other
 pub data Both (P Q : Span) : List Symbol → List Symbol → Type 0 where
@@ -67,7 +71,7 @@ pub data Plan : Type 0 where
   AText : Plan
   NameList : Plan
   Inner : Inside → Plan
-  Joined : Bool → Bool → ℕ → Plan
+  Joined : Operands → Commas → ℕ → Plan
   APostfix : Plan
   APrimary : Plan
   AnAtom : Plan
@@ -75,7 +79,7 @@ pub data Plan : Type 0 where
   ARule : Plan
   Others : Items → Plan
   Adding : Items → Plan
-  GoesOn : Bool → Bool → ℕ → Plan
+  GoesOn : Operands → Commas → ℕ → Plan
   Then : Plan → Plan → Plan
   Or : Plan → Plan → Plan
 
@@ -87,7 +91,7 @@ Spans AName = Called
 Spans AText = Worded
 Spans NameList = CalledAll
 Spans (Inner what) = Spelled (level_of what)
-Spans (Joined pattern comma h) = Spelled (Phrase pattern comma h)
+Spans (Joined kind comma h) = Spelled (Phrase kind comma h)
 Spans APostfix = Spelled Postfix
 Spans APrimary = Spelled Primary
 Spans AnAtom = Spelled Atom
@@ -95,7 +99,7 @@ Spans ADefinition = Spelled Definition
 Spans ARule = Spelled OneRule
 Spans (Others items) = Spelled (Further items)
 Spans (Adding items) = Adds items
-Spans (GoesOn pattern comma h) = Onward pattern comma h
+Spans (GoesOn kind comma h) = Onward kind comma h
 Spans (Then p q) = Both (Spans p) (Spans q)
 Spans (Or p q) = Either (Spans p) (Spans q)
 
@@ -103,20 +107,20 @@ Spans (Or p q) = Either (Spans p) (Spans q)
 abbrev pub Starts : Span → Type 0
 Starts R = (tail : List Symbol) → (ts : List Symbol) × R ts tail
 
-start_phrase : (pattern comma : Bool) (h : ℕ) (tail : List Symbol) → (x : Tree) × Spells (Phrase pattern comma h) (Name 0 ∷ tail) x tail
-start_phrase true comma zero tail = (_, pattern_operand atom_name)
-start_phrase false comma zero tail = (_, operand (bare named))
-start_phrase pattern comma (suc h) tail = let (x, s) = start_phrase pattern comma h tail in (x, tighter s)
+start_phrase : (kind : Operands) (comma : Commas) (h : ℕ) (tail : List Symbol) → (x : Tree) × Spells (Phrase kind comma h) (Name 0 ∷ tail) x tail
+start_phrase operands.Patterns comma zero tail = (_, pattern_operand atom_name)
+start_phrase operands.Expressions comma zero tail = (_, operand (bare named))
+start_phrase kind comma (suc h) tail = let (x, s) = start_phrase kind comma h tail in (x, tighter s)
 
 start_expression : (tail : List Symbol) → (x : Tree) × Spells Expression (Name 0 ∷ tail) x tail
-start_expression tail = let (x, s) = start_phrase false true 8 tail in (x, plain s)
+start_expression tail = let (x, s) = start_phrase operands.Expressions commas.Join 8 tail in (x, plain s)
 
-start_parts : (pattern : Bool) (tail : List Symbol) → (x : Tree) × Spells (Listed (Parts pattern)) (Name 0 ∷ tail) x tail
-start_parts pattern tail = let (x, s) = start_phrase pattern false 8 tail in (_, first_part s no_more)
+start_parts : (kind : Operands) (tail : List Symbol) → (x : Tree) × Spells (Listed (Parts kind)) (Name 0 ∷ tail) x tail
+start_parts kind tail = let (x, s) = start_phrase kind commas.Separate 8 tail in (_, first_part s no_more)
 
 start_rule : (tail : List Symbol) → (x : Tree) × Spells OneRule (symbols.Open ∷ Name 0 ∷ symbols.Close ∷ symbols.Arrow ∷ Name 0 ∷ symbols.Semicolon ∷ tail) x tail
 start_rule tail =
-    let (p, ps) = start_parts true (symbols.Close ∷ symbols.Arrow ∷ Name 0 ∷ symbols.Semicolon ∷ tail) in
+    let (p, ps) = start_parts operands.Patterns (symbols.Close ∷ symbols.Arrow ∷ Name 0 ∷ symbols.Semicolon ∷ tail) in
     let (x, s) = start_expression (symbols.Semicolon ∷ tail) in
     (_, rule ps s)
 
@@ -125,10 +129,10 @@ start_definition tail = let (x, s) = start_expression (symbols.Semicolon ∷ tai
 
 start_inner : (what : Inside) → Starts (Spelled (level_of what))
 start_inner insides.Expression tail = let (x, s) = start_expression tail in (_, spelled s)
-start_inner insides.Argument tail = let (x, s) = start_phrase false false 8 tail in (_, spelled s)
-start_inner insides.Pattern tail = let (x, s) = start_phrase true true 8 tail in (_, spelled s)
-start_inner insides.Arguments tail = let (x, s) = start_parts false tail in (_, spelled s)
-start_inner insides.Patterns tail = let (x, s) = start_parts true tail in (_, spelled s)
+start_inner insides.Argument tail = let (x, s) = start_phrase operands.Expressions commas.Separate 8 tail in (_, spelled s)
+start_inner insides.Pattern tail = let (x, s) = start_phrase operands.Patterns commas.Join 8 tail in (_, spelled s)
+start_inner insides.Arguments tail = let (x, s) = start_parts operands.Expressions tail in (_, spelled s)
+start_inner insides.Patterns tail = let (x, s) = start_parts operands.Patterns tail in (_, spelled s)
 start_inner insides.Rules tail = let (x, s) = start_rule tail in (_, spelled (first_rule s no_more))
 start_inner insides.Definitions tail = (tail, spelled no_more)
 
@@ -139,7 +143,7 @@ starts AName tail = (Name 0 ∷ tail, called)
 starts AText tail = (Text 0 ∷ tail, worded)
 starts NameList tail = (Name 0 ∷ tail, called_all one_name)
 starts (Inner what) tail = start_inner what tail
-starts (Joined pattern comma h) tail = let (x, s) = start_phrase pattern comma h tail in (_, spelled s)
+starts (Joined kind comma h) tail = let (x, s) = start_phrase kind comma h tail in (_, spelled s)
 starts APostfix tail = (Name 0 ∷ tail, spelled (bare named))
 starts APrimary tail = (Name 0 ∷ tail, spelled named)
 starts AnAtom tail = (Name 0 ∷ tail, spelled atom_name)
@@ -147,7 +151,7 @@ starts ADefinition tail = let (x, s) = start_definition tail in (_, spelled s)
 starts ARule tail = let (x, s) = start_rule tail in (_, spelled s)
 starts (Others items) tail = (tail, spelled no_more)
 starts (Adding items) tail = (tail, record { others = λ rest x s. spelled s })
-starts (GoesOn pattern comma h) tail = (tail, stay)
+starts (GoesOn kind comma h) tail = (tail, stay)
 starts (Then p q) tail =
     let (mid, second) = starts q tail in
     let (ts, first) = starts p mid in

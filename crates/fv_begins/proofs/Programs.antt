@@ -8,7 +8,7 @@ use Rattle.fv_grammar.specs.declared.symbol.Inside.TheVariants as insides
 use Rattle.fv_grammar.specs.declared.symbol.Items.{Items}
 use Rattle.fv_grammar.specs.declared.symbol.Items.TheVariants.{Statements, Definitions, Rules, Parts}
 use Rattle.fv_grammar.specs.Tree.{Tree}
-use Rattle.fv_grammar.specs.Grammar.{Further, Definition, Listed, OneRule, Begins, SpellsProgram, no_more, stated, declared, declared_for, defined, ruled, parted, first_rule, first_part, constant, function, rule}
+use Rattle.fv_grammar.specs.Grammar.{Further, Definition, Listed, OneRule, IsViablePrefix, SpellsProgram, no_more, stated, declared, declared_for, defined, ruled, parted, first_rule, first_part, constant, function, rule}
 use Rattle.fv_grammar.specs.Descent as descent
 use Rattle.fv_grammar.specs.declared.symbol.Mark.TheVariants as marks
 use Rattle.fv_grammar.specs.Descent.{Step, ◌>>=◌, Reader, phrase, ended, function_after, constant_after, after_name, definition, one_rule, declared_text, declaration, Item, Skip, One, Fault, one_of, skip_of, item, with_item, many, further, listed, within, program, whole_text}
@@ -17,6 +17,9 @@ use Rattle.fv_begins.proofs.Plans.{called, worded, both, this, that, signed, Spe
 use Rattle.fv_begins.proofs.Pieces.{expect_passes, a_name_reads, a_text_reads, ReadsInside, enclosed_reads}
 use Rattle.fv_begins.proofs.Operands.{headed}
 use Rattle.fv_begins.proofs.Phrases.{phrase_reads, expression_reads}
+use Rattle.fv_grammar.specs.declared.symbol.Operands.{Operands}
+use Rattle.fv_grammar.specs.declared.symbol.Operands.TheVariants as operands
+use Rattle.fv_grammar.specs.declared.symbol.Commas.TheVariants as commas
 
 -- ---- definitions and rules
 -- expression ";"
@@ -108,8 +111,8 @@ defines a b (spelled x) = record { others = λ rest y s. spelled (defined x s) }
 rules_on : (a b : List Symbol) → Spelled OneRule a b → Adds Rules a b
 rules_on a b (spelled x) = record { others = λ rest y s. spelled (ruled x s) }
 
-parts_on : (pattern : Bool) (a b : List Symbol) → Spans (Then (Sign Comma) (Joined pattern false 8)) a b → Adds (Parts pattern) a b
-parts_on pattern a b (both signed (spelled x)) = record { others = λ rest y s. spelled (parted x s) }
+parts_on : (kind : Operands) (a b : List Symbol) → Spans (Then (Sign Comma) (Joined kind commas.Separate 8)) a b → Adds (Parts kind) a b
+parts_on kind a b (both signed (spelled x)) = record { others = λ rest y s. spelled (parted x s) }
 
 item_adds : (inner : Reader) → ReadsInside inner → (items : Items) (ts : List Symbol) → Puts items ts (item inner items ts)
 item_adds inner reads Statements (Name n ∷ ts) = of_step (as_plan (Adding Statements) (definition_reads inner reads (Name n ∷ ts)) states)
@@ -122,9 +125,9 @@ item_adds inner reads Definitions (t ∷ ts) = no_item
 item_adds inner reads Rules (Open ∷ ts) = of_step (as_plan (Adding Rules) (rule_reads inner reads (Open ∷ ts)) rules_on)
 item_adds inner reads Rules [] = no_item
 item_adds inner reads Rules (t ∷ ts) = no_item
-item_adds inner reads (Parts pattern) (Comma ∷ ts) = of_step (as_plan (Adding (Parts pattern)) (headed Comma ts (phrase_reads inner reads pattern false 8 (omega arith) ts)) (parts_on pattern))
-item_adds inner reads (Parts pattern) [] = no_item
-item_adds inner reads (Parts pattern) (t ∷ ts) = no_item
+item_adds inner reads (Parts kind) (Comma ∷ ts) = of_step (as_plan (Adding (Parts kind)) (headed Comma ts (phrase_reads inner reads kind commas.Separate 8 (omega arith) ts)) (parts_on kind))
+item_adds inner reads (Parts kind) [] = no_item
+item_adds inner reads (Parts kind) (t ∷ ts) = no_item
 
 adds_on : (items : Items) (a b : List Symbol) → Spans (Then (Adding items) (Others items)) a b → Spelled (Further items) a b
 adds_on items a b (both s (spelled x)) = s.others _ _ x
@@ -150,26 +153,26 @@ further_reads inner reads items ts = many_read items (item inner items) (item_ad
 lists_rules : (a b : List Symbol) → Spans (Then ARule (Others Rules)) a b → Spelled (Listed Rules) a b
 lists_rules a b (both (spelled x) (spelled y)) = spelled (first_rule x y)
 
-lists_parts : (pattern : Bool) (a b : List Symbol) → Spans (Then (Joined pattern false 8) (Others (Parts pattern))) a b → Spelled (Listed (Parts pattern)) a b
-lists_parts pattern a b (both (spelled x) (spelled y)) = spelled (first_part x y)
+lists_parts : (kind : Operands) (a b : List Symbol) → Spans (Then (Joined kind commas.Separate 8) (Others (Parts kind))) a b → Spelled (Listed (Parts kind)) a b
+lists_parts kind a b (both (spelled x) (spelled y)) = spelled (first_part x y)
 
 rules_read : (inner : Reader) → ReadsInside inner → (ts : List Symbol) → Reads (Then ARule (Others Rules)) ts (listed inner Rules ts)
 unfolding listed
 rules_read inner reads ts = next (rule_reads inner reads ts) (λ x. made (further_reads inner reads Rules x.1) (λ y. done))
 
-parts_read : (inner : Reader) → ReadsInside inner → (pattern : Bool) (ts : List Symbol) → Reads (Then (Joined pattern false 8) (Others (Parts pattern))) ts (listed inner (Parts pattern) ts)
+parts_read : (inner : Reader) → ReadsInside inner → (kind : Operands) (ts : List Symbol) → Reads (Then (Joined kind commas.Separate 8) (Others (Parts kind))) ts (listed inner (Parts kind) ts)
 unfolding listed
-parts_read inner reads pattern ts = next (phrase_reads inner reads pattern false 8 (omega arith) ts) (λ x. made (further_reads inner reads (Parts pattern) x.1) (λ y. done))
+parts_read inner reads kind ts = next (phrase_reads inner reads kind commas.Separate 8 (omega arith) ts) (λ x. made (further_reads inner reads (Parts kind) x.1) (λ y. done))
 
 -- ---- inside brackets
 within_reads : (room : ℕ) → ReadsInside (within room)
 unfolding within
 within_reads zero what ts = unread (Inner what)
 within_reads (suc room) insides.Expression ts = expression_reads (within room) (within_reads room) ts
-within_reads (suc room) insides.Argument ts = as_plan (Inner insides.Argument) (phrase_reads (within room) (within_reads room) false false 8 (omega arith) ts) (λ a b s. s)
-within_reads (suc room) insides.Pattern ts = as_plan (Inner insides.Pattern) (phrase_reads (within room) (within_reads room) true true 8 (omega arith) ts) (λ a b s. s)
-within_reads (suc room) insides.Arguments ts = as_plan (Inner insides.Arguments) (parts_read (within room) (within_reads room) false ts) (lists_parts false)
-within_reads (suc room) insides.Patterns ts = as_plan (Inner insides.Patterns) (parts_read (within room) (within_reads room) true ts) (lists_parts true)
+within_reads (suc room) insides.Argument ts = as_plan (Inner insides.Argument) (phrase_reads (within room) (within_reads room) operands.Expressions commas.Separate 8 (omega arith) ts) (λ a b s. s)
+within_reads (suc room) insides.Pattern ts = as_plan (Inner insides.Pattern) (phrase_reads (within room) (within_reads room) operands.Patterns commas.Join 8 (omega arith) ts) (λ a b s. s)
+within_reads (suc room) insides.Arguments ts = as_plan (Inner insides.Arguments) (parts_read (within room) (within_reads room) operands.Expressions ts) (lists_parts operands.Expressions)
+within_reads (suc room) insides.Patterns ts = as_plan (Inner insides.Patterns) (parts_read (within room) (within_reads room) operands.Patterns ts) (lists_parts operands.Patterns)
 within_reads (suc room) insides.Rules ts = as_plan (Inner insides.Rules) (rules_read (within room) (within_reads room) ts) lists_rules
 within_reads (suc room) insides.Definitions ts = as_plan (Inner insides.Definitions) (further_reads (within room) (within_reads room) Definitions ts) (λ a b s. s)
 
@@ -182,7 +185,7 @@ stops : (ts : List Symbol) (r : Step Tree) (rest : List Symbol) → Reads (Other
 stops ts r rest (took {x = x} s) e = stops_behind ts x.0 x.1 rest s e
 stops ts r rest (stuck {at = at} s) e = let q : at ≡ rest = cc in subst (λ l. Sticks (Spans (Others Statements)) ts l) q s
 
-begins : (ts : List Symbol) → (more : List Symbol) × Spelled (Further Statements) (ts ++ more) [] → Begins ts
+begins : (ts : List Symbol) → (more : List Symbol) × Spelled (Further Statements) (ts ++ more) [] → IsViablePrefix ts
 begins ts (more, spelled x) = (more, _, x)
 
 pub stops_behind_a_beginning : StopsBehindABeginning

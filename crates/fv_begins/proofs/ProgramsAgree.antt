@@ -13,6 +13,9 @@ use Rattle.fv_grammar.proofs.Loops.{all_of, before, many_one, many_skip, many_do
 use Rattle.fv_begins.proofs.Agreement.{Fork, Same, abreast, past, beyond, remains, BothPass, BothRead, also, given, of_equal, unrolled, Looks, takes, stays_at, looked, looked_among, opens, no_bracket, AgreesInside}
 use Rattle.fv_begins.proofs.PiecesAgree.{expect_both, by_open, by_equals, by_arrow, by_semicolon, a_name_both, a_text_both, enclosed_both}
 use Rattle.fv_begins.proofs.PhrasesAgree.{phrase_both, expression_both}
+use Rattle.fv_grammar.specs.declared.symbol.Operands.{Operands}
+use Rattle.fv_grammar.specs.declared.symbol.Operands.TheVariants as operands
+use Rattle.fv_grammar.specs.declared.symbol.Commas.TheVariants as commas
 
 -- ---- definitions and rules
 ended_both : {k : Fork} {d : ℕ} {inner inner' : Reader} → AgreesInside k (suc d) inner inner' → {ts us : List Symbol} → Same k d ts us → BothRead k d ts (ended inner ts) (ended inner' us)
@@ -113,16 +116,16 @@ item_look {inner = inner} {inner' = inner'} inside Rules n go Open ts us few = t
     (λ s. one_both n (item inner Rules) (item inner' Rules) Open ts us (one_rule inner (Open ∷ ts)) (one_rule inner' (Open ∷ us)) go few refl refl s (rule_behind inside s))
 item_look {inner = inner} {inner' = inner'} inside Rules n go t ts us few =
     stays_at (λ s. no_both (item inner Rules) (item inner' Rules) (many_done (item inner Rules) (t ∷ ts) refl) (many_done (item inner' Rules) (t ∷ us) refl) s)
-item_look {inner = inner} {inner' = inner'} inside (Parts pattern) n go Comma ts us few = takes _ (no_bracket (λ p n. n))
-    (λ s. one_both n (item inner (Parts pattern)) (item inner' (Parts pattern)) Comma ts us (phrase inner pattern false 8 ts) (phrase inner' pattern false 8 us) go few refl refl s (phrase_both inside pattern false 8 (omega arith) ts us s))
-item_look {inner = inner} {inner' = inner'} inside (Parts pattern) n go t ts us few =
-    stays_at (λ s. no_both (item inner (Parts pattern)) (item inner' (Parts pattern)) (many_done (item inner (Parts pattern)) (t ∷ ts) refl) (many_done (item inner' (Parts pattern)) (t ∷ us) refl) s)
+item_look {inner = inner} {inner' = inner'} inside (Parts kind) n go Comma ts us few = takes _ (no_bracket (λ p n. n))
+    (λ s. one_both n (item inner (Parts kind)) (item inner' (Parts kind)) Comma ts us (phrase inner kind commas.Separate 8 ts) (phrase inner' kind commas.Separate 8 us) go few refl refl s (phrase_both inside kind commas.Separate 8 (omega arith) ts us s))
+item_look {inner = inner} {inner' = inner'} inside (Parts kind) n go t ts us few =
+    stays_at (λ s. no_both (item inner (Parts kind)) (item inner' (Parts kind)) (many_done (item inner (Parts kind)) (t ∷ ts) refl) (many_done (item inner' (Parts kind)) (t ∷ us) refl) s)
 
 no_item : (inner : Reader) (items : Items) → item inner items [] ≡ descent.Nothing
 no_item inner Statements = refl
 no_item inner Definitions = refl
 no_item inner Rules = refl
-no_item inner (Parts pattern) = refl
+no_item inner (Parts kind) = refl
 
 items_among : {k : Fork} {d : ℕ} {inner inner' : Reader} → AgreesInside k (suc d) inner inner' → (items : Items) (n : ℕ) → ItemsAgree k d (item inner items) (item inner' items) n
 items_among inside items zero ts us few same = absurd (omega arith)
@@ -137,17 +140,17 @@ rules_both : {k : Fork} {d : ℕ} {inner inner' : Reader} → AgreesInside k (su
 unfolding listed
 rules_both inside same = also (rule_both inside same) (λ x y s. also (further_both inside Rules s) (λ z w s. given s))
 
-parts_both : {k : Fork} {d : ℕ} {inner inner' : Reader} → AgreesInside k (suc d) inner inner' → (pattern : Bool) {ts us : List Symbol} → Same k d ts us → BothRead k d ts (listed inner (Parts pattern) ts) (listed inner' (Parts pattern) us)
+parts_both : {k : Fork} {d : ℕ} {inner inner' : Reader} → AgreesInside k (suc d) inner inner' → (kind : Operands) {ts us : List Symbol} → Same k d ts us → BothRead k d ts (listed inner (Parts kind) ts) (listed inner' (Parts kind) us)
 unfolding listed
-parts_both inside pattern {ts = ts} {us = us} same = also (phrase_both inside pattern false 8 (omega arith) ts us same) (λ x y s. also (further_both inside (Parts pattern) s) (λ z w s. given s))
+parts_both inside kind {ts = ts} {us = us} same = also (phrase_both inside kind commas.Separate 8 (omega arith) ts us same) (λ x y s. also (further_both inside (Parts kind) s) (λ z w s. given s))
 
 -- ---- inside brackets
 descend_both : {k : Fork} {d : ℕ} {inner inner' : Reader} → AgreesInside k (suc d) inner inner' → (what : Inside) {ts us : List Symbol} → Same k d ts us → BothRead k d ts (descend inner what ts) (descend inner' what us)
 descend_both inside insides.Expression same = expression_both inside same
-descend_both inside insides.Argument same = phrase_both inside false false 8 (omega arith) _ _ same
-descend_both inside insides.Pattern same = phrase_both inside true true 8 (omega arith) _ _ same
-descend_both inside insides.Arguments same = parts_both inside false same
-descend_both inside insides.Patterns same = parts_both inside true same
+descend_both inside insides.Argument same = phrase_both inside operands.Expressions commas.Separate 8 (omega arith) _ _ same
+descend_both inside insides.Pattern same = phrase_both inside operands.Patterns commas.Join 8 (omega arith) _ _ same
+descend_both inside insides.Arguments same = parts_both inside operands.Expressions same
+descend_both inside insides.Patterns same = parts_both inside operands.Patterns same
 descend_both inside insides.Rules same = rules_both inside same
 descend_both inside insides.Definitions same = further_both inside Definitions same
 

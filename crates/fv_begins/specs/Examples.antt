@@ -4,7 +4,7 @@ use Rattle.fv_lex.specs.declared.token.Symbol.{Symbol}
 use Rattle.fv_lex.specs.declared.token.Symbol.TheVariants.{Name, Comma, Open, Close, Equals, Semicolon, Underscore}
 use Rattle.fv_grammar.specs.declared.symbol.Items.TheVariants.{Statements}
 use Rattle.fv_grammar.specs.Tree.{Tree, End}
-use Rattle.fv_grammar.specs.Grammar.{Spells, Further, Definition, Expression, Primary, Begins, stated, no_more, constant, plain, tighter, operand, bare, wire, grouped}
+use Rattle.fv_grammar.specs.Grammar.{Spells, Further, Definition, Expression, Primary, IsViablePrefix, stated, no_more, constant, plain, tighter, operand, bare, wire, grouped}
 use Rattle.fv_grammar.specs.Descent.{program, within, further, many, definition, constant_after, ended, expression, phrase, chain, rights, postfix, by_head, turns, run}
 use Rattle.fv_begins.specs.Beginnings.{IsErrorPlace}
 
@@ -13,11 +13,11 @@ of_operand : {ts rest : List Symbol} {x : Tree} → Spells Primary ts x rest →
 of_operand s = plain (tighter (tighter (tighter (tighter (tighter (tighter (tighter (tighter (operand (bare s))))))))))
 
 -- `process = _`
-a_wire : Begins (Name 0 ∷ Equals ∷ Underscore ∷ [])
+a_wire : IsViablePrefix (Name 0 ∷ Equals ∷ Underscore ∷ [])
 a_wire = (Semicolon ∷ [], _, stated (constant (of_operand wire)) no_more)
 
 -- `process = (_`
-an_open_group : Begins (Name 0 ∷ Equals ∷ Open ∷ Underscore ∷ [])
+an_open_group : IsViablePrefix (Name 0 ∷ Equals ∷ Open ∷ Underscore ∷ [])
 an_open_group = (Close ∷ Semicolon ∷ [], _, stated (constant (of_operand (grouped (of_operand wire)))) no_more)
 
 -- `process = (_;` stops at `;`

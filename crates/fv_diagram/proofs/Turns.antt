@@ -1,5 +1,6 @@
 -- What a turn of the walk does.
-use Rattle.std.proofs.Common.{◌≡◌, ℕ, ◌+◌, ◌-◌, ◌%◌, ◌<◌, ◌≤◌, List, [], ◌∷◌, ◌++◌, zero, suc, Bool, true, false, if◌then◌else◌, nat_eq, length, take, drop, get_or, refl, sym, ap, ◌∙◌, subst, arith, All, Vec, Global, inl, inr, length-append}
+use Rattle.std.proofs.Common.{◌≡◌, ℕ, ◌+◌, ◌-◌, ◌%◌, ◌<◌, ◌≤◌, List, [], ◌∷◌, ◌++◌, zero, suc, Bool, true, false, if◌then◌else◌, nat_eq, length, take, drop, get_or, refl, sym, ap, ◌∙◌, subst, arith, All, Global, inl, inr, length-append}
+use Rattle.std.specs.declared.collections.VecDeque.{VecDeque}
 use Rattle.std.proofs.lemmas.List.Elements.{All-weaker, All-cons, All-head, All-tail, All-nil, All-take, All-drop, All-append}
 use Rattle.std.proofs.lemmas.List.{length-take-le, length-drop}
 use Rattle.std.proofs.lemmas.Bool.{cases_lt}
@@ -129,7 +130,7 @@ module _ {W S : Type 0} (R : Rules W S) where
       (il, wf.0, p.tasks.2 ∙ ap inputs e, (ir, wf.1, wf.2, subst (AreReady R.arena ts (R.fed s)) (ap outputs e) p.tasks.3))
       p.now (All-nil (R.is_wire s), (All-nil (R.is_wire s), (tail_kept t ts plugs now s s p (same s)))) p.plugs (omega (arith, ap size e)))
 
-  pub par_advances : (ts us : List (Task W)) (plugs : List (Plug W)) (now first : List W) (rest : Vec W Global) (s : S) (id l r : ℕ) →
+  pub par_advances : (ts us : List (Task W)) (plugs : List (Plug W)) (now first : List W) (rest : VecDeque W Global) (s : S) (id l r : ℕ) →
       tree_of R.arena id ≡ Par (tree_of R.arena l) (tree_of R.arena r) → l < count_of R.arena → r < count_of R.arena →
       first ≡ take (inputs (tree_of R.arena l)) now → rest.items ≡ drop (inputs (tree_of R.arena l)) now → us ≡ task.Visit l ∷ task.Right r rest ∷ ts →
       Ready (task.Visit id ∷ ts) plugs now s → Goes (task.Visit id ∷ ts) us plugs plugs now first s s
@@ -189,7 +190,7 @@ module _ {W S : Type 0} (R : Rules W S) where
       p.now (All-nil (R.is_wire s), (All-nil (R.is_wire s), (All-nil (R.is_wire s), (tail_kept t ts plugs now s s p (same s))))) p.plugs
       (omega (arith, ap size e)))
 
-  pub rec_advances : (ts us : List (Task W)) (plugs : List (Plug W)) (now late : List W) (ins : Vec W Global) (s q : S) (id l r n : ℕ) →
+  pub rec_advances : (ts us : List (Task W)) (plugs : List (Plug W)) (now late : List W) (ins : VecDeque W Global) (s q : S) (id l r n : ℕ) →
       tree_of R.arena id ≡ Rec (tree_of R.arena l) (tree_of R.arena r) → l < count_of R.arena → r < count_of R.arena →
       n ≡ inputs (tree_of R.arena r) → ins.items ≡ now → (late, q) ≡ R.hooks.opened n s → length late ≡ n → All (R.is_wire q) late →
       Keeps (R.is_wire s) (R.is_wire q) → R.fed q ≡ n ∷ R.fed s →
@@ -265,7 +266,7 @@ module _ {W S : Type 0} (R : Rules W S) where
       (subst (AreReady R.arena ts (R.fed s)) (ap outputs e) p.tasks.3) (omega (arith, some_size (tree_of R.arena id)))
       (All-cons (R.is_wire s) (slots_of R.free plugs k) [] (slot_holds (R.is_wire s) R.free plugs k p.default p.plugs) (All-nil (R.is_wire s))) f p
 
-  pub right_advances : (ts us : List (Task W)) (plugs : List (Plug W)) (left rest : Vec W Global) (s : S) (id : ℕ) →
+  pub right_advances : (ts us : List (Task W)) (plugs : List (Plug W)) (left rest : VecDeque W Global) (s : S) (id : ℕ) →
       us ≡ task.Visit id ∷ task.Join left ∷ ts → Ready (task.Right id rest ∷ ts) plugs left.items s →
       Goes (task.Right id rest ∷ ts) us plugs plugs left.items rest.items s s
   right_advances ts us plugs left rest s id f p =
@@ -299,14 +300,14 @@ module _ {W S : Type 0} (R : Rules W S) where
       (subst (AreReady R.arena ts (R.fed s)) (sym (length_table m (λ i. get_or now (i % length now) R.free))) p.tasks.1) (omega arith)
       (dealt_holds (R.is_wire s) R.free m now p.default p.now) f p
 
-  pub join_advances : (ts : List (Task W)) (plugs : List (Plug W)) (now outs : List W) (left : Vec W Global) (s : S) → outs ≡ left.items ++ now →
+  pub join_advances : (ts : List (Task W)) (plugs : List (Plug W)) (now outs : List W) (left : VecDeque W Global) (s : S) → outs ≡ left.items ++ now →
       Ready (task.Join left ∷ ts) plugs now s → Goes (task.Join left ∷ ts) ts plugs plugs now outs s s
   join_advances ts plugs now outs left s f p =
       pure_advances (task.Join left) ts plugs now outs (left.items ++ now) s refl
       (subst (AreReady R.arena ts (R.fed s)) (sym (length-append left.items now)) p.tasks) (omega arith)
       (All-append (R.is_wire s) left.items now p.kept.0 p.now) f p
 
-  pub before_advances : (ts : List (Task W)) (plugs : List (Plug W)) (now outs : List W) (ins : Vec W Global) (s : S) → outs ≡ now ++ ins.items →
+  pub before_advances : (ts : List (Task W)) (plugs : List (Plug W)) (now outs : List W) (ins : VecDeque W Global) (s : S) → outs ≡ now ++ ins.items →
       Ready (task.Before ins ∷ ts) plugs now s → Goes (task.Before ins ∷ ts) ts plugs plugs now outs s s
   before_advances ts plugs now outs ins s f p =
       pure_advances (task.Before ins) ts plugs now outs (now ++ ins.items) s refl

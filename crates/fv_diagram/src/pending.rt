@@ -22,15 +22,15 @@ pub enum Task<W: Copy + Drop> {
     /// Does a diagram on them.
     Visit(DiagramId),
     /// Keeps them, and does a diagram on others.
-    Right { id: DiagramId, rest: Vec<W> },
+    Right { id: DiagramId, rest: VecDeque<W> },
     /// Puts others before them.
-    Join { left: Vec<W> },
+    Join { left: VecDeque<W> },
     /// Deals them.
     Deal { to: u64 },
     /// Adds them up.
     Sum { to: u64 },
     /// Puts others behind them.
-    Before { ins: Vec<W> },
+    Before { ins: VecDeque<W> },
     /// Ends the innermost feedback.
     Close,
     /// Ends the innermost bind.
@@ -73,11 +73,11 @@ pub fn walk<S: Signals>(
         plugs: VecDeque::new(alloc),
     };
     pending.tasks.push_front(Task::Visit(root))?;
-    let mut now = ins;
+    let mut now = VecDeque::from_vec(ins);
     while let Some(task) = pending.tasks.pop_front() {
         now = turn(&mut pending, signals, alloc, diagrams, task, now, free)?;
     }
-    Ok(now)
+    Ok(now.into_vec())
 }
 
 // Does one task, or puts tasks in its place.
@@ -87,9 +87,9 @@ fn turn<S: Signals>(
     alloc: Global,
     diagrams: &Diagrams,
     task: Task<S::Wire>,
-    now: Vec<S::Wire>,
+    now: VecDeque<S::Wire>,
     free: S::Wire,
-) -> Result<Vec<S::Wire>, AllocError>
+) -> Result<VecDeque<S::Wire>, AllocError>
     requires { IsReady (rules S.hooks S.is_wire S.fed free diagrams.now) (stage (task ∷ pending.old.tasks.items) pending.old.plugs.items now.items signals.old) }
     ensures { IfOk result (λ v. Advances (rules S.hooks S.is_wire S.fed free diagrams.now)
         (stage (task ∷ pending.old.tasks.items) pending.old.plugs.items now.items signals.old)
@@ -102,13 +102,14 @@ fn turn<S: Signals>(
             pending.tasks.push_front(Task::Visit(id))?;
             Ok(rest)
         }
-        Task::Join { left } => joined(left, &now),
+        Task::Join { left } => joined(left, now),
         Task::Deal { to } => deal(alloc, &now, to, free),
-        Task::Sum { to } => add_up(signals, alloc, &now, to),
-        Task::Before { ins } => joined(now, &ins),
+        Task::Sum { to } => sums(signals, alloc, now, to),
+        Task::Before { ins } => joined(now, ins),
         Task::Close => {
-            let outs = signals.close(alloc, &now)?;
-            Ok(outs)
+            let outs = now.into_vec();
+            let outs = signals.close(alloc, &outs)?;
+            Ok(VecDeque::from_vec(outs))
         }
         Task::Unplug => {
             let _ = pending.plugs.pop_front();
@@ -124,9 +125,9 @@ fn visit<S: Signals>(
     alloc: Global,
     diagrams: &Diagrams,
     id: DiagramId,
-    now: Vec<S::Wire>,
+    now: VecDeque<S::Wire>,
     free: S::Wire,
-) -> Result<Vec<S::Wire>, AllocError>
+) -> Result<VecDeque<S::Wire>, AllocError>
     requires { IsReady (rules S.hooks S.is_wire S.fed free diagrams.now) (stage (Visit id ∷ pending.old.tasks.items) pending.old.plugs.items now.items signals.old) }
     ensures { IfOk result (λ v. Advances (rules S.hooks S.is_wire S.fed free diagrams.now)
         (stage (Visit id ∷ pending.old.tasks.items) pending.old.plugs.items now.items signals.old)
@@ -140,18 +141,17 @@ fn visit<S: Signals>(
         Node::Bind { slot, body } => {
             let mut now = now;
             let wire = now[0];
-            let rest = now.split_off(1)?;
+            let _ = now.pop_front();
             pending.plugs.push_front(Plug { slot, wire })?;
             pending.tasks.push_front(Task::Unplug)?;
             pending.tasks.push_front(Task::Visit(body))?;
-            Ok(rest)
+            Ok(now)
         }
         Node::Par { left, right } => {
-            let mut now = now;
-            let rest = now.split_off(diagrams.arity(left).inputs as usize)?;
+            let (first, rest) = split(alloc, now, u64::from(diagrams.arity(left).inputs))?;
             pending.tasks.push_front(Task::Right { id: right, rest })?;
             pending.tasks.push_front(Task::Visit(left))?;
-            Ok(now)
+            Ok(first)
         }
         Node::Seq { left, right } => {
             pending.tasks.push_front(Task::Visit(right))?;
@@ -170,6 +170,7 @@ fn visit<S: Signals>(
         }
         Node::Rec { left, right } => {
             let late = signals.open(alloc, u64::from(diagrams.arity(right).inputs))?;
+            let late = VecDeque::from_vec(late);
             pending.tasks.push_front(Task::Close)?;
             put_between(&mut pending.tasks, right, Task::Before { ins: now }, left)?;
             Ok(late)
@@ -192,38 +193,72 @@ fn put_between<W: Copy + Drop>(
     Ok(())
 }
 
-// Both lists, one after the other.
-fn joined<W: Copy + Drop>(front: Vec<W>, back: &[W]) -> Result<Vec<W>, AllocError>
-    ensures { IfOk result (λ v. v.items ≡ front.items ++ back.now) }
+// Both lists, one after the other, where the wires of the shorter one are moved.
+fn joined<W: Copy + Drop>(front: VecDeque<W>, back: VecDeque<W>) -> Result<VecDeque<W>, AllocError>
+    ensures { IfOk result (λ v. v.items ≡ front.items ++ back.items) }
 {
-    let mut all = front;
-    all.extend_from_slice(back)?;
-    Ok(all)
+    let mut front = front;
+    let mut back = back;
+    if front.len() <= back.len() {
+        while let Some(wire) = front.pop_back() {
+            back.push_front(wire)?;
+        }
+        return Ok(back);
+    }
+    while let Some(wire) = back.pop_front() {
+        front.push_back(wire)?;
+    }
+    Ok(front)
+}
+
+// The first wires, so many, and the others, where those of the shorter list are moved.
+fn split<W: Copy + Drop>(
+    alloc: Global,
+    wires: VecDeque<W>,
+    count: u64,
+) -> Result<(VecDeque<W>, VecDeque<W>), AllocError>
+    requires { count ≤ length wires.items }
+    ensures { IfOk result (λ p. (p.0.items ≡ take count wires.items) × (p.1.items ≡ drop count wires.items)) }
+{
+    let mut wires = wires;
+    let count = count as usize;
+    if count > wires.len() / 2 {
+        let rest = wires.split_off(count)?;
+        return Ok((wires, rest));
+    }
+    let mut first = VecDeque::new(alloc);
+    for i in 0..count {
+        first.push_back(wires[i])?;
+    }
+    for _ in 0..count {
+        let _ = wires.pop_front();
+    }
+    Ok((first, wires))
 }
 
 // So many wires, of which number i is number i modulo the length.
 fn deal<W: Copy + Drop>(
     alloc: Global,
-    from: &[W],
+    from: &VecDeque<W>,
     count: u64,
     free: W,
-) -> Result<Vec<W>, AllocError>
-    requires { 0 < count → 0 < length from.now }
-    ensures { IfOk result (λ v. v.items ≡ dealt free count from.now) }
+) -> Result<VecDeque<W>, AllocError>
+    requires { 0 < count → 0 < length from.now.items }
+    ensures { IfOk result (λ v. v.items ≡ dealt free count from.now.items) }
 {
-    let mut all = Vec::new(alloc);
+    let mut all = VecDeque::new(alloc);
     for i in 0..count {
-        all.push(from[i as usize % from.len()])?;
+        all.push_back(from[i as usize % from.len()])?;
     }
     Ok(all)
 }
 
 // One wire.
-fn listed<W: Copy + Drop>(alloc: Global, wire: W) -> Result<Vec<W>, AllocError>
+fn listed<W: Copy + Drop>(alloc: Global, wire: W) -> Result<VecDeque<W>, AllocError>
     ensures { IfOk result (λ v. v.items ≡ wire ∷ []) }
 {
-    let mut all = Vec::new(alloc);
-    all.push(wire)?;
+    let mut all = VecDeque::new(alloc);
+    all.push_back(wire)?;
     Ok(all)
 }
 
@@ -246,7 +281,7 @@ fn single<S: Signals>(
     alloc: Global,
     leaf: Leaf,
     ins: &[S::Wire],
-) -> Result<Vec<S::Wire>, AllocError>
+) -> Result<VecDeque<S::Wire>, AllocError>
     requires width { length ins.now ≡ takes leaf }
     requires wires { All (S.is_wire signals.old) ins.now }
     ensures { IfOk result (λ v. Gives S.is_wire S.fed signals.old signals.new (one (S.hooks.leaf leaf ins.now signals.old)) v.items 1) }
@@ -260,8 +295,8 @@ fn primitive<S: Signals>(
     signals: &mut S,
     alloc: Global,
     prim: Prim,
-    now: Vec<S::Wire>,
-) -> Result<Vec<S::Wire>, AllocError>
+    now: VecDeque<S::Wire>,
+) -> Result<VecDeque<S::Wire>, AllocError>
     requires width { length now.items ≡ primitive_inputs prim }
     requires wires { All (S.is_wire signals.old) now.items }
     ensures { IfOk result (λ v. Gives S.is_wire S.fed signals.old signals.new (walked_primitive S.hooks prim now.items signals.old) v.items (primitive_outputs prim)) }
@@ -270,12 +305,29 @@ fn primitive<S: Signals>(
         Prim::Wire => listed(alloc, now[0]),
         Prim::Int => listed(alloc, now[0]),
         Prim::Attach => listed(alloc, now[0]),
-        Prim::Cut => Ok(Vec::new(alloc)),
-        Prim::Mem => single(signals, alloc, Leaf::Mem, &now),
-        Prim::Prefix => single(signals, alloc, Leaf::Prefix, &now),
-        Prim::Delay => single(signals, alloc, Leaf::Delay, &now),
-        Prim::Point(op) => single(signals, alloc, Leaf::Point(op), &now),
+        Prim::Cut => Ok(VecDeque::new(alloc)),
+        Prim::Mem => single(signals, alloc, Leaf::Mem, &now.into_vec()),
+        Prim::Prefix => single(signals, alloc, Leaf::Prefix, &now.into_vec()),
+        Prim::Delay => single(signals, alloc, Leaf::Delay, &now.into_vec()),
+        Prim::Point(op) => single(signals, alloc, Leaf::Point(op), &now.into_vec()),
     }
+}
+
+// The same, from one list of wires to another.
+fn sums<S: Signals>(
+    signals: &mut S,
+    alloc: Global,
+    terms: VecDeque<S::Wire>,
+    count: u64,
+) -> Result<VecDeque<S::Wire>, AllocError>
+    requires some { 0 < count }
+    requires enough { count ≤ length terms.items }
+    requires wires { All (S.is_wire signals.old) terms.items }
+    ensures { IfOk result (λ v. (d : S.Wire) → Gives S.is_wire S.fed signals.old signals.new (summed S.hooks d count terms.items signals.old) v.items count) }
+{
+    let terms = terms.into_vec();
+    let all = add_up(signals, alloc, &terms, count)?;
+    Ok(VecDeque::from_vec(all))
 }
 
 // Adds wires up to so many.

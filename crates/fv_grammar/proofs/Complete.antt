@@ -24,6 +24,10 @@ use Rattle.fv_grammar.specs.Nesting.{Nests}
 use Rattle.fv_grammar.specs.Descent.{Step, Done, Next, One, Skip, run, chain, Reader, rank_at, primary, postfix, postfix_turn, phrase, left_turn, expression, with_turn, at_comma, name_list, definition, one_rule, further, listed, item, atom, enclosed, argument, within, program, after_plus, after_minus, by_head, group, abstraction, case_of, iteration, ports, switch, slider, panel, label, ended, function_after, constant_after, Item, descend}
 use Rattle.fv_grammar.specs.Descent as descent
 use Rattle.fv_grammar.proofs.Loops.{run_next, run_done, chain_next, chain_done, many_one, many_skip, many_done, names_next, names_done}
+use Rattle.fv_grammar.specs.declared.symbol.Operands.{Operands}
+use Rattle.fv_grammar.specs.declared.symbol.Commas.{Commas}
+use Rattle.fv_grammar.specs.declared.symbol.Operands.TheVariants as operands
+use Rattle.fv_grammar.specs.declared.symbol.Commas.TheVariants as commas
 
 -- what no further item begins with
 abbrev pub stops : Items → List Symbol → Bool
@@ -31,12 +35,12 @@ stops Statements (Name n ∷ ts) = false
 stops Statements (Declare ∷ ts) = false
 stops Definitions (Name n ∷ ts) = false
 stops Rules (Open ∷ ts) = false
-stops (Parts pattern) (Comma ∷ ts) = false
+stops (Parts kind) (Comma ∷ ts) = false
 stops items ts = true
 
 -- what may stand behind a list
 abbrev pub Ends : Items → List Symbol → Type 0
-Ends (Parts pattern) rest = (stops (Parts pattern) rest ≡ true) × (9 < rank_at pattern false rest)
+Ends (Parts kind) rest = (stops (Parts kind) rest ≡ true) × (9 < rank_at kind commas.Separate rest)
 Ends items rest = stops items rest ≡ true
 
 -- What reading does at tokens that are what spells a tree and then a rest, by level, in terms of the loop that goes on with that tree.
@@ -45,34 +49,34 @@ Reads (Further items) inner ts x rest = Ends items rest → further inner items 
 Reads (Listed items) inner ts x rest = Ends items rest → listed inner items ts ≡ Ok (x, rest)
 Reads Definition inner ts x rest = definition inner ts ≡ Ok (x, rest)
 Reads OneRule inner ts x rest = one_rule inner ts ≡ Ok (x, rest)
-Reads Expression inner ts x rest = 9 < rank_at false true rest → expression inner ts ≡ run (with_turn inner (length ts)) x rest
-Reads (Phrase pattern comma zero) inner ts x rest = 1 < rank_at pattern comma rest → phrase inner pattern comma zero ts ≡ Ok (x, rest)
-Reads (Phrase pattern comma (suc h)) inner ts x rest =
-    (is_left (suc h) ≡ true → suc h < rank_at pattern comma rest → phrase inner pattern comma (suc h) ts ≡ run (left_turn (phrase inner pattern comma h) pattern comma (suc (suc h)) (length ts)) x rest)
-    × (is_left (suc h) ≡ false → suc (suc h) < rank_at pattern comma rest → phrase inner pattern comma (suc h) ts ≡ Ok (x, rest))
-Reads Postfix inner ts x rest = 0 < rank_at false true rest → postfix inner ts ≡ run (postfix_turn inner (length ts)) x rest
-Reads Primary inner ts x rest = 0 < rank_at false true rest → primary inner ts ≡ Ok (x, rest)
+Reads Expression inner ts x rest = 9 < rank_at operands.Expressions commas.Join rest → expression inner ts ≡ run (with_turn inner (length ts)) x rest
+Reads (Phrase kind comma zero) inner ts x rest = 1 < rank_at kind comma rest → phrase inner kind comma zero ts ≡ Ok (x, rest)
+Reads (Phrase kind comma (suc h)) inner ts x rest =
+    (is_left (suc h) ≡ true → suc h < rank_at kind comma rest → phrase inner kind comma (suc h) ts ≡ run (left_turn (phrase inner kind comma h) kind comma (suc (suc h)) (length ts)) x rest)
+    × (is_left (suc h) ≡ false → suc (suc h) < rank_at kind comma rest → phrase inner kind comma (suc h) ts ≡ Ok (x, rest))
+Reads Postfix inner ts x rest = 0 < rank_at operands.Expressions commas.Join rest → postfix inner ts ≡ run (postfix_turn inner (length ts)) x rest
+Reads Primary inner ts x rest = 0 < rank_at operands.Expressions commas.Join rest → primary inner ts ≡ Ok (x, rest)
 Reads Atom inner ts x rest = atom inner ts ≡ Ok (x, rest)
 
 -- ---- what a follow token rules out
-no_postfix : (inner : Reader) (comma : Bool) (start : ℕ) (x : Tree) (rest : List Symbol) → 1 < rank_at false comma rest → postfix_turn inner start x rest ≡ Done
+no_postfix : (inner : Reader) (comma : Commas) (start : ℕ) (x : Tree) (rest : List Symbol) → 1 < rank_at operands.Expressions comma rest → postfix_turn inner start x rest ≡ Done
 no_postfix inner comma start x [] h = refl
 no_postfix inner comma start x (Tick ∷ ts) h = absurd (omega arith)
 no_postfix inner comma start x (Open ∷ ts) h = absurd (omega arith)
 no_postfix inner comma start x (t ∷ ts) h = refl
 
-apart : (comma : Bool) (rest : List Symbol) → 0 < rank_at false comma rest → 0 < rank_at false true rest
-apart true rest h = h
-apart false [] h = h
-apart false (Comma ∷ ts) h = omega arith
-apart false (t ∷ ts) h = h
+apart : (comma : Commas) (rest : List Symbol) → 0 < rank_at operands.Expressions comma rest → 0 < rank_at operands.Expressions commas.Join rest
+apart commas.Join rest h = h
+apart commas.Separate [] h = h
+apart commas.Separate (Comma ∷ ts) h = omega arith
+apart commas.Separate (t ∷ ts) h = h
 
-at_plus : (start : ℕ) (rest : List Symbol) → 0 < rank_at false true rest → after_plus start rest ≡ Ok (Primitive start primitives.Add, rest)
+at_plus : (start : ℕ) (rest : List Symbol) → 0 < rank_at operands.Expressions commas.Join rest → after_plus start rest ≡ Ok (Primitive start primitives.Add, rest)
 at_plus start [] h = refl
 at_plus start (Integer n ∷ ts) h = absurd (omega arith)
 at_plus start (t ∷ ts) h = refl
 
-at_minus : (start : ℕ) (rest : List Symbol) → 0 < rank_at false true rest → after_minus start rest ≡ Ok (Primitive start primitives.Subtract, rest)
+at_minus : (start : ℕ) (rest : List Symbol) → 0 < rank_at operands.Expressions commas.Join rest → after_minus start rest ≡ Ok (Primitive start primitives.Subtract, rest)
 at_minus start [] h = refl
 at_minus start (Integer n ∷ ts) h = absurd (omega arith)
 at_minus start (Name n ∷ ts) h = absurd (omega arith)
@@ -90,15 +94,15 @@ no_item inner Definitions (t ∷ ts) h = refl
 no_item inner Rules [] h = refl
 no_item inner Rules (Open ∷ ts) h = absurd cc
 no_item inner Rules (t ∷ ts) h = refl
-no_item inner (Parts pattern) [] h = refl
-no_item inner (Parts pattern) (Comma ∷ ts) h = absurd cc
-no_item inner (Parts pattern) (t ∷ ts) h = refl
+no_item inner (Parts kind) [] h = refl
+no_item inner (Parts kind) (Comma ∷ ts) h = absurd cc
+no_item inner (Parts kind) (t ∷ ts) h = refl
 
 ends_stop : (items : Items) (rest : List Symbol) → Ends items rest → stops items rest ≡ true
 ends_stop Statements rest h = h
 ends_stop Definitions rest h = h
 ends_stop Rules rest h = h
-ends_stop (Parts pattern) rest h = h.0
+ends_stop (Parts kind) rest h = h.0
 
 -- ---- what is spelled gets no longer
 pub names_shorter : {ts rest : List Symbol} {ns : List ℕ} → SpellsNames ts ns rest → length rest < length ts
@@ -160,59 +164,59 @@ rule_shorter : {ts rest : List Symbol} {x : Tree} → Spells OneRule ts x rest �
 rule_shorter (rule p q) = let a = no_longer p in let b = no_longer q in omega arith
 
 -- ---- operators
-closes : (inner : Reader) (pattern comma : Bool) (h : ℕ) (ts : List Symbol) (x : Tree) (rest : List Symbol) → Reads (Phrase pattern comma h) inner ts x rest
-    → suc h < rank_at pattern comma rest → phrase inner pattern comma h ts ≡ Ok (x, rest)
-closes inner pattern comma zero ts x rest reads follows = reads follows
-closes inner pattern comma (suc h) ts x rest reads follows = go (is_left (suc h)) refl
+closes : (inner : Reader) (kind : Operands) (comma : Commas) (h : ℕ) (ts : List Symbol) (x : Tree) (rest : List Symbol) → Reads (Phrase kind comma h) inner ts x rest
+    → suc h < rank_at kind comma rest → phrase inner kind comma h ts ≡ Ok (x, rest)
+closes inner kind comma zero ts x rest reads follows = reads follows
+closes inner kind comma (suc h) ts x rest reads follows = go (is_left (suc h)) refl
   where
-    go : (b : Bool) → is_left (suc h) ≡ b → phrase inner pattern comma (suc h) ts ≡ Ok (x, rest)
+    go : (b : Bool) → is_left (suc h) ≡ b → phrase inner kind comma (suc h) ts ≡ Ok (x, rest)
     go true e =
-        let ne : nat_eq (rank_at pattern comma rest) (suc (suc h)) ≡ false = ne_eqb (rank_at pattern comma rest) (suc (suc h)) (λ q. omega arith) in
-        reads.0 e (omega arith) ∙ run_done (left_turn (phrase inner pattern comma h) pattern comma (suc (suc h)) (length ts)) x rest (rw ne refl)
+        let ne : nat_eq (rank_at kind comma rest) (suc (suc h)) ≡ false = ne_eqb (rank_at kind comma rest) (suc (suc h)) (λ q. omega arith) in
+        reads.0 e (omega arith) ∙ run_done (left_turn (phrase inner kind comma h) kind comma (suc (suc h)) (length ts)) x rest (rw ne refl)
     go false e = reads.1 e follows
 
-tighter_reads : (inner : Reader) (pattern comma : Bool) (h : ℕ) (ts : List Symbol) (x : Tree) (rest : List Symbol) → Reads (Phrase pattern comma h) inner ts x rest → Reads (Phrase pattern comma (suc h)) inner ts x rest
+tighter_reads : (inner : Reader) (kind : Operands) (comma : Commas) (h : ℕ) (ts : List Symbol) (x : Tree) (rest : List Symbol) → Reads (Phrase kind comma h) inner ts x rest → Reads (Phrase kind comma (suc h)) inner ts x rest
 unfolding phrase
-tighter_reads inner pattern comma h ts x rest reads = (
-  (λ e follows. rw (e, closes inner pattern comma h ts x rest reads follows) refl),
+tighter_reads inner kind comma h ts x rest reads = (
+  (λ e follows. rw (e, closes inner kind comma h ts x rest reads follows) refl),
   (λ e follows.
-      let ne : nat_eq (rank_at pattern comma rest) (suc (suc h)) ≡ false = ne_eqb (rank_at pattern comma rest) (suc (suc h)) (λ q. omega arith) in
-      rw e (chain_done (phrase inner pattern comma h) pattern comma (suc (suc h)) ts x rest (closes inner pattern comma h ts x rest reads (omega arith)) ne)),
+      let ne : nat_eq (rank_at kind comma rest) (suc (suc h)) ≡ false = ne_eqb (rank_at kind comma rest) (suc (suc h)) (λ q. omega arith) in
+      rw e (chain_done (phrase inner kind comma h) kind comma (suc (suc h)) ts x rest (closes inner kind comma h ts x rest reads (omega arith)) ne)),
 )
 
-leftward_reads : (inner : Reader) (pattern comma : Bool) (h : ℕ) (ts mid rest : List Symbol) (t : Symbol) (x y : Tree) → is_left (suc h) ≡ true → rank pattern comma t ≡ suc (suc h) → length rest ≤ length mid
-    → Reads (Phrase pattern comma (suc h)) inner ts x (t ∷ mid) → Reads (Phrase pattern comma h) inner mid y rest → Reads (Phrase pattern comma (suc h)) inner ts (Binary (length ts) (operator t) x y) rest
-leftward_reads inner pattern comma h ts mid rest t x y is_left_one r fewer p q = (
+leftward_reads : (inner : Reader) (kind : Operands) (comma : Commas) (h : ℕ) (ts mid rest : List Symbol) (t : Symbol) (x y : Tree) → is_left (suc h) ≡ true → rank kind comma t ≡ suc (suc h) → length rest ≤ length mid
+    → Reads (Phrase kind comma (suc h)) inner ts x (t ∷ mid) → Reads (Phrase kind comma h) inner mid y rest → Reads (Phrase kind comma (suc h)) inner ts (Binary (length ts) (operator t) x y) rest
+leftward_reads inner kind comma h ts mid rest t x y is_left_one r fewer p q = (
   (λ e follows.
-      let part = phrase inner pattern comma h in
-      let body = left_turn part pattern comma (suc (suc h)) (length ts) in
-      let yes : nat_eq (rank pattern comma t) (suc (suc h)) ≡ true = eq-eqb (rank pattern comma t) (suc (suc h)) r in
-      let second : part mid ≡ Ok (y, rest) = closes inner pattern comma h mid y rest q follows in
+      let part = phrase inner kind comma h in
+      let body = left_turn part kind comma (suc (suc h)) (length ts) in
+      let yes : nat_eq (rank kind comma t) (suc (suc h)) ≡ true = eq-eqb (rank kind comma t) (suc (suc h)) r in
+      let second : part mid ≡ Ok (y, rest) = closes inner kind comma h mid y rest q follows in
       let one : body x (t ∷ mid) ≡ Next (Binary (length ts) (operator t) x y) rest = rw (yes, second) refl in
       p.0 e (omega arith) ∙ run_next body x (t ∷ mid) (Binary (length ts) (operator t) x y) rest one (omega arith)),
   (λ e follows. absurd cc),
 )
 
-rightward_reads : (inner : Reader) (pattern comma : Bool) (h : ℕ) (ts mid rest : List Symbol) (t : Symbol) (x y : Tree) → is_left (suc h) ≡ false → rank pattern comma t ≡ suc (suc h) → length (t ∷ mid) ≤ length ts
-    → Reads (Phrase pattern comma h) inner ts x (t ∷ mid) → Reads (Phrase pattern comma (suc h)) inner mid y rest → Reads (Phrase pattern comma (suc h)) inner ts (Binary (length ts) (operator t) x y) rest
+rightward_reads : (inner : Reader) (kind : Operands) (comma : Commas) (h : ℕ) (ts mid rest : List Symbol) (t : Symbol) (x y : Tree) → is_left (suc h) ≡ false → rank kind comma t ≡ suc (suc h) → length (t ∷ mid) ≤ length ts
+    → Reads (Phrase kind comma h) inner ts x (t ∷ mid) → Reads (Phrase kind comma (suc h)) inner mid y rest → Reads (Phrase kind comma (suc h)) inner ts (Binary (length ts) (operator t) x y) rest
 unfolding phrase
-rightward_reads inner pattern comma h ts mid rest t x y is_right r fewer p q = (
+rightward_reads inner kind comma h ts mid rest t x y is_right r fewer p q = (
   (λ e follows. absurd cc),
   (λ e follows.
-      let part = phrase inner pattern comma h in
-      let yes : nat_eq (rank pattern comma t) (suc (suc h)) ≡ true = eq-eqb (rank pattern comma t) (suc (suc h)) r in
-      let first : part ts ≡ Ok (x, t ∷ mid) = closes inner pattern comma h ts x (t ∷ mid) p (omega arith) in
-      let second : chain part pattern comma (suc (suc h)) mid ≡ Ok (y, rest) = rw e at (q.1 e follows) in
-      let all : chain part pattern comma (suc (suc h)) ts ≡ Ok (Binary (length ts) (operator t) x y, rest) =
-      chain_next part pattern comma (suc (suc h)) ts x (t ∷ mid) first yes (omega arith) ∙ rw second refl in
+      let part = phrase inner kind comma h in
+      let yes : nat_eq (rank kind comma t) (suc (suc h)) ≡ true = eq-eqb (rank kind comma t) (suc (suc h)) r in
+      let first : part ts ≡ Ok (x, t ∷ mid) = closes inner kind comma h ts x (t ∷ mid) p (omega arith) in
+      let second : chain part kind comma (suc (suc h)) mid ≡ Ok (y, rest) = rw e at (q.1 e follows) in
+      let all : chain part kind comma (suc (suc h)) ts ≡ Ok (Binary (length ts) (operator t) x y, rest) =
+      chain_next part kind comma (suc (suc h)) ts x (t ∷ mid) first yes (omega arith) ∙ rw second refl in
       rw e all),
 )
 
-operand_reads : (inner : Reader) (comma : Bool) (ts : List Symbol) (x : Tree) (rest : List Symbol) → Reads Postfix inner ts x rest → Reads (Phrase false comma zero) inner ts x rest
+operand_reads : (inner : Reader) (comma : Commas) (ts : List Symbol) (x : Tree) (rest : List Symbol) → Reads Postfix inner ts x rest → Reads (Phrase operands.Expressions comma zero) inner ts x rest
 unfolding phrase
 operand_reads inner comma ts x rest p = λ follows. p (apart comma rest (omega arith)) ∙ run_done (postfix_turn inner (length ts)) x rest (no_postfix inner comma (length ts) x rest follows)
 
-pattern_operand_reads : (inner : Reader) (comma : Bool) (ts : List Symbol) (x : Tree) (rest : List Symbol) → Reads Atom inner ts x rest → Reads (Phrase true comma zero) inner ts x rest
+pattern_operand_reads : (inner : Reader) (comma : Commas) (ts : List Symbol) (x : Tree) (rest : List Symbol) → Reads Atom inner ts x rest → Reads (Phrase operands.Patterns comma zero) inner ts x rest
 unfolding phrase
 pattern_operand_reads inner comma ts x rest p = λ follows. p
 
@@ -227,19 +231,19 @@ in_expression room ts x rest h p =
     let read : expression inner ts ≡ Ok (x, Close ∷ rest) = p (omega arith) ∙ run_done (with_turn inner (length ts)) x (Close ∷ rest) refl in
     rw (lower room insides.Expression ts h, read) refl
 
-in_argument : (room : ℕ) (ts : List Symbol) (x : Tree) (rest : List Symbol) → 0 < room → Reads (Phrase false false 8) (within (room - 1)) ts x (Comma ∷ rest) → argument (within room) ts ≡ Ok (x, rest)
-in_argument room ts x rest h p = rw (lower room insides.Argument ts h, closes (within (room - 1)) false false 8 ts x (Comma ∷ rest) p (omega arith)) refl
+in_argument : (room : ℕ) (ts : List Symbol) (x : Tree) (rest : List Symbol) → 0 < room → Reads (Phrase operands.Expressions commas.Separate 8) (within (room - 1)) ts x (Comma ∷ rest) → argument (within room) ts ≡ Ok (x, rest)
+in_argument room ts x rest h p = rw (lower room insides.Argument ts h, closes (within (room - 1)) operands.Expressions commas.Separate 8 ts x (Comma ∷ rest) p (omega arith)) refl
 
-in_last_argument : (room : ℕ) (ts : List Symbol) (x : Tree) (rest : List Symbol) → 0 < room → Reads (Phrase false false 8) (within (room - 1)) ts x (Close ∷ rest) → enclosed (within room) insides.Argument ts ≡ Ok (x, rest)
-in_last_argument room ts x rest h p = rw (lower room insides.Argument ts h, closes (within (room - 1)) false false 8 ts x (Close ∷ rest) p (omega arith)) refl
+in_last_argument : (room : ℕ) (ts : List Symbol) (x : Tree) (rest : List Symbol) → 0 < room → Reads (Phrase operands.Expressions commas.Separate 8) (within (room - 1)) ts x (Close ∷ rest) → enclosed (within room) insides.Argument ts ≡ Ok (x, rest)
+in_last_argument room ts x rest h p = rw (lower room insides.Argument ts h, closes (within (room - 1)) operands.Expressions commas.Separate 8 ts x (Close ∷ rest) p (omega arith)) refl
 
-in_pattern : (room : ℕ) (ts : List Symbol) (x : Tree) (rest : List Symbol) → 0 < room → Reads (Phrase true true 8) (within (room - 1)) ts x (Close ∷ rest) → enclosed (within room) insides.Pattern ts ≡ Ok (x, rest)
-in_pattern room ts x rest h p = rw (lower room insides.Pattern ts h, closes (within (room - 1)) true true 8 ts x (Close ∷ rest) p (omega arith)) refl
+in_pattern : (room : ℕ) (ts : List Symbol) (x : Tree) (rest : List Symbol) → 0 < room → Reads (Phrase operands.Patterns commas.Join 8) (within (room - 1)) ts x (Close ∷ rest) → enclosed (within room) insides.Pattern ts ≡ Ok (x, rest)
+in_pattern room ts x rest h p = rw (lower room insides.Pattern ts h, closes (within (room - 1)) operands.Patterns commas.Join 8 ts x (Close ∷ rest) p (omega arith)) refl
 
-in_arguments : (room : ℕ) (ts : List Symbol) (x : Tree) (rest : List Symbol) → 0 < room → Reads (Listed (Parts false)) (within (room - 1)) ts x (Close ∷ rest) → enclosed (within room) insides.Arguments ts ≡ Ok (x, rest)
+in_arguments : (room : ℕ) (ts : List Symbol) (x : Tree) (rest : List Symbol) → 0 < room → Reads (Listed (Parts operands.Expressions)) (within (room - 1)) ts x (Close ∷ rest) → enclosed (within room) insides.Arguments ts ≡ Ok (x, rest)
 in_arguments room ts x rest h p = let read = p (refl, omega arith) in rw (lower room insides.Arguments ts h, read) refl
 
-in_patterns : (room : ℕ) (ts : List Symbol) (x : Tree) (rest : List Symbol) → 0 < room → Reads (Listed (Parts true)) (within (room - 1)) ts x (Close ∷ rest) → enclosed (within room) insides.Patterns ts ≡ Ok (x, rest)
+in_patterns : (room : ℕ) (ts : List Symbol) (x : Tree) (rest : List Symbol) → 0 < room → Reads (Listed (Parts operands.Patterns)) (within (room - 1)) ts x (Close ∷ rest) → enclosed (within room) insides.Patterns ts ≡ Ok (x, rest)
 in_patterns room ts x rest h p = let read = p (refl, omega arith) in rw (lower room insides.Patterns ts h, read) refl
 
 in_rules : (room : ℕ) (ts : List Symbol) (x : Tree) (rest : List Symbol) → 0 < room → Reads (Listed Rules) (within (room - 1)) ts x (CloseBrace ∷ rest) → within room insides.Rules ts ≡ Ok (x, CloseBrace ∷ rest)
@@ -264,9 +268,9 @@ applied_reads inner ts mid rest x y fewer p q = λ follows.
     p (omega arith) ∙ run_next (postfix_turn inner (length ts)) x (Open ∷ mid) (Apply (length ts) x y) rest one (omega arith)
 
 -- ---- expression
-plain_reads : (inner : Reader) (ts : List Symbol) (x : Tree) (rest : List Symbol) → Reads (Phrase false true 8) inner ts x rest → Reads Expression inner ts x rest
+plain_reads : (inner : Reader) (ts : List Symbol) (x : Tree) (rest : List Symbol) → Reads (Phrase operands.Expressions commas.Join 8) inner ts x rest → Reads Expression inner ts x rest
 unfolding expression
-plain_reads inner ts x rest p = λ follows. rw (closes inner false true 8 ts x rest p follows) refl
+plain_reads inner ts x rest p = λ follows. rw (closes inner operands.Expressions commas.Join 8 ts x rest p follows) refl
 
 qualified_reads : (inner : Reader) (ts mid rest : List Symbol) (x y : Tree) → length rest ≤ length mid → Reads Expression inner ts x (With ∷ OpenBrace ∷ mid) → inner insides.Definitions mid ≡ Ok (y, CloseBrace ∷ rest)
     → Reads Expression inner ts (Where (length ts) x y) rest
@@ -327,21 +331,21 @@ rule_item : (inner : Reader) (ts : List Symbol) (x : Tree) (mid : List Symbol) �
 rule_item inner ts x mid (us, e) r = let read : one_rule inner (Open ∷ us) ≡ Ok (x, mid) = ap (one_rule inner) (sym e) ∙ r in ap (item inner Rules) e ∙ rw read refl
 
 -- what follows a part: a comma, or what follows the list
-part_follows : (pattern : Bool) {ts rest : List Symbol} {x : Tree} → Spells (Further (Parts pattern)) ts x rest → 9 < rank_at pattern false rest → 9 < rank_at pattern false ts
-part_follows pattern no_more h = h
-part_follows pattern (parted p q) h = omega arith
+part_follows : (kind : Operands) {ts rest : List Symbol} {x : Tree} → Spells (Further (Parts kind)) ts x rest → 9 < rank_at kind commas.Separate rest → 9 < rank_at kind commas.Separate ts
+part_follows kind no_more h = h
+part_follows kind (parted p q) h = omega arith
 
-parted_reads : (inner : Reader) (pattern : Bool) (ts mid rest : List Symbol) (x y : Tree) → length mid ≤ length ts → (9 < rank_at pattern false rest → 9 < rank_at pattern false mid)
-    → Reads (Phrase pattern false 8) inner ts x mid → Reads (Further (Parts pattern)) inner mid y rest → Reads (Further (Parts pattern)) inner (Comma ∷ ts) (More x y) rest
-parted_reads inner pattern ts mid rest x y fewer follows p q = λ ends.
-    let read = closes inner pattern false 8 ts x mid p (follows ends.1) in
-    item_reads inner (Parts pattern) (Comma ∷ ts) mid rest x y (rw read refl) (omega arith) q ends
+parted_reads : (inner : Reader) (kind : Operands) (ts mid rest : List Symbol) (x y : Tree) → length mid ≤ length ts → (9 < rank_at kind commas.Separate rest → 9 < rank_at kind commas.Separate mid)
+    → Reads (Phrase kind commas.Separate 8) inner ts x mid → Reads (Further (Parts kind)) inner mid y rest → Reads (Further (Parts kind)) inner (Comma ∷ ts) (More x y) rest
+parted_reads inner kind ts mid rest x y fewer follows p q = λ ends.
+    let read = closes inner kind commas.Separate 8 ts x mid p (follows ends.1) in
+    item_reads inner (Parts kind) (Comma ∷ ts) mid rest x y (rw read refl) (omega arith) q ends
 
-first_part_reads : (inner : Reader) (pattern : Bool) (ts mid rest : List Symbol) (x y : Tree) → (9 < rank_at pattern false rest → 9 < rank_at pattern false mid)
-    → Reads (Phrase pattern false 8) inner ts x mid → Reads (Further (Parts pattern)) inner mid y rest → Reads (Listed (Parts pattern)) inner ts (More x y) rest
+first_part_reads : (inner : Reader) (kind : Operands) (ts mid rest : List Symbol) (x y : Tree) → (9 < rank_at kind commas.Separate rest → 9 < rank_at kind commas.Separate mid)
+    → Reads (Phrase kind commas.Separate 8) inner ts x mid → Reads (Further (Parts kind)) inner mid y rest → Reads (Listed (Parts kind)) inner ts (More x y) rest
 unfolding listed
-first_part_reads inner pattern ts mid rest x y follows p q = λ ends.
-    let read = closes inner pattern false 8 ts x mid p (follows ends.1) in
+first_part_reads inner kind ts mid rest x y follows p q = λ ends.
+    let read = closes inner kind commas.Separate 8 ts x mid p (follows ends.1) in
     let others = q ends in
     rw (read, others) refl
 
@@ -383,11 +387,11 @@ cut_is : (inner : Reader) {rest : List Symbol} → primary inner (symbols.Exclam
 unfolding by_head
 cut_is inner = refl
 
-plus_is : (inner : Reader) (rest : List Symbol) → 0 < rank_at false true rest → primary inner (symbols.Plus ∷ rest) ≡ Ok (Primitive (length (symbols.Plus ∷ rest)) primitives.Add, rest)
+plus_is : (inner : Reader) (rest : List Symbol) → 0 < rank_at operands.Expressions commas.Join rest → primary inner (symbols.Plus ∷ rest) ≡ Ok (Primitive (length (symbols.Plus ∷ rest)) primitives.Add, rest)
 unfolding by_head
 plus_is inner rest h = at_plus (length (symbols.Plus ∷ rest)) rest h
 
-minus_is : (inner : Reader) (rest : List Symbol) → 0 < rank_at false true rest → primary inner (symbols.Minus ∷ rest) ≡ Ok (Primitive (length (symbols.Minus ∷ rest)) primitives.Subtract, rest)
+minus_is : (inner : Reader) (rest : List Symbol) → 0 < rank_at operands.Expressions commas.Join rest → primary inner (symbols.Minus ∷ rest) ≡ Ok (Primitive (length (symbols.Minus ∷ rest)) primitives.Subtract, rest)
 unfolding by_head
 minus_is inner rest h = at_minus (length (symbols.Minus ∷ rest)) rest h
 
@@ -437,13 +441,13 @@ paneled_reads inner s ts rest t k x e p = ap (λ h. by_head inner h (t ∷ Open 
 
 -- ---- brackets
 -- an operator is no bracket
-operator_nests : (limit depth : ℕ) (pattern comma : Bool) (t : Symbol) (ts : List Symbol) → 1 < rank pattern comma t → rank pattern comma t < 99 → Nests limit depth (t ∷ ts) → Nests limit depth ts
-operator_nests limit depth true comma Open ts h k n = absurd (omega arith)
-operator_nests limit depth false comma Open ts h k n = absurd (omega arith)
-operator_nests limit depth pattern comma OpenBrace ts h k n = absurd (omega arith)
-operator_nests limit depth pattern comma Close ts h k n = absurd (omega arith)
-operator_nests limit depth pattern comma CloseBrace ts h k n = absurd (omega arith)
-operator_nests limit depth pattern comma t ts h k n = n
+operator_nests : (limit depth : ℕ) (kind : Operands) (comma : Commas) (t : Symbol) (ts : List Symbol) → 1 < rank kind comma t → rank kind comma t < 99 → Nests limit depth (t ∷ ts) → Nests limit depth ts
+operator_nests limit depth operands.Patterns comma Open ts h k n = absurd (omega arith)
+operator_nests limit depth operands.Expressions comma Open ts h k n = absurd (omega arith)
+operator_nests limit depth kind comma OpenBrace ts h k n = absurd (omega arith)
+operator_nests limit depth kind comma Close ts h k n = absurd (omega arith)
+operator_nests limit depth kind comma CloseBrace ts h k n = absurd (omega arith)
+operator_nests limit depth kind comma t ts h k n = n
 
 -- what begins a form with a keyword is no bracket
 keyword_nests : (limit depth : ℕ) (t : Symbol) (ts : List Symbol) → (head t ≡ heads.Group → ⊥) → (head t ≡ heads.Nothing → ⊥) → Nests limit depth (t ∷ ts) → Nests limit depth ts
@@ -479,18 +483,18 @@ complete (ruled {ts = ts} {mid = mid} {rest = rest} {x = x} {y = y} p q) limit d
     let a = complete p limit d room e n in
     let b = complete q limit d room e a.1 in
     (item_reads (within room) Rules ts mid rest x y (rule_item (within room) ts x mid (rule_begins p) a.0) (rule_shorter p) b.0, b.1)
-complete (parted {pattern = pattern} {ts = ts} {mid = mid} {rest = rest} {x = x} {y = y} p q) limit d room e n =
+complete (parted {kind = kind} {ts = ts} {mid = mid} {rest = rest} {x = x} {y = y} p q) limit d room e n =
     let a = complete p limit d room e n in
     let b = complete q limit d room e a.1 in
-    (parted_reads (within room) pattern ts mid rest x y (no_longer p) (part_follows pattern q) a.0 b.0, b.1)
+    (parted_reads (within room) kind ts mid rest x y (no_longer p) (part_follows kind q) a.0 b.0, b.1)
 complete (first_rule {ts = ts} {mid = mid} {rest = rest} {x = x} {y = y} p q) limit d room e n =
     let a = complete p limit d room e n in
     let b = complete q limit d room e a.1 in
     (first_rule_reads (within room) ts mid rest x y a.0 b.0, b.1)
-complete (first_part {pattern = pattern} {ts = ts} {mid = mid} {rest = rest} {x = x} {y = y} p q) limit d room e n =
+complete (first_part {kind = kind} {ts = ts} {mid = mid} {rest = rest} {x = x} {y = y} p q) limit d room e n =
     let a = complete p limit d room e n in
     let b = complete q limit d room e a.1 in
-    (first_part_reads (within room) pattern ts mid rest x y (part_follows pattern q) a.0 b.0, b.1)
+    (first_part_reads (within room) kind ts mid rest x y (part_follows kind q) a.0 b.0, b.1)
 complete (constant {n = m} {ts = ts} {rest = rest} {x = x} p) limit d room e n =
     let a = complete p limit d room e n in
     (constant_reads (within room) m ts x rest a.0, a.1)
@@ -513,17 +517,17 @@ complete (qualified {ts = ts} {mid = mid} {rest = rest} {x = x} {y = y} p q) lim
     let b = complete q limit (suc d) (room - 1) (omega arith) a.1.1 in
     let fewer = no_longer q in
     (qualified_reads (within room) ts mid rest x y (omega arith) a.0 (in_definitions room mid y rest (omega arith) b.0), b.1)
-complete (tighter {pattern = pattern} {comma = comma} {h = h} {ts = ts} {rest = rest} {x = x} p) limit d room e n =
+complete (tighter {kind = kind} {comma = comma} {h = h} {ts = ts} {rest = rest} {x = x} p) limit d room e n =
     let a = complete p limit d room e n in
-    (tighter_reads (within room) pattern comma h ts x rest a.0, a.1)
-complete (leftward {pattern = pattern} {comma = comma} {h = h} {ts = ts} {mid = mid} {rest = rest} t {x = x} {y = y} low left r p q) limit d room e n =
+    (tighter_reads (within room) kind comma h ts x rest a.0, a.1)
+complete (leftward {kind = kind} {comma = comma} {h = h} {ts = ts} {mid = mid} {rest = rest} t {x = x} {y = y} low left r p q) limit d room e n =
     let a = complete p limit d room e n in
-    let b = complete q limit d room e (operator_nests limit d pattern comma t mid (omega arith) (omega arith) a.1) in
-    (leftward_reads (within room) pattern comma h ts mid rest t x y left r (no_longer q) a.0 b.0, b.1)
-complete (rightward {pattern = pattern} {comma = comma} {h = h} {ts = ts} {mid = mid} {rest = rest} t {x = x} {y = y} low right r p q) limit d room e n =
+    let b = complete q limit d room e (operator_nests limit d kind comma t mid (omega arith) (omega arith) a.1) in
+    (leftward_reads (within room) kind comma h ts mid rest t x y left r (no_longer q) a.0 b.0, b.1)
+complete (rightward {kind = kind} {comma = comma} {h = h} {ts = ts} {mid = mid} {rest = rest} t {x = x} {y = y} low right r p q) limit d room e n =
     let a = complete p limit d room e n in
-    let b = complete q limit d room e (operator_nests limit d pattern comma t mid (omega arith) (omega arith) a.1) in
-    (rightward_reads (within room) pattern comma h ts mid rest t x y right r (no_longer p) a.0 b.0, b.1)
+    let b = complete q limit d room e (operator_nests limit d kind comma t mid (omega arith) (omega arith) a.1) in
+    (rightward_reads (within room) kind comma h ts mid rest t x y right r (no_longer p) a.0 b.0, b.1)
 complete (operand {comma = comma} {ts = ts} {rest = rest} {x = x} p) limit d room e n =
     let a = complete p limit d room e n in
     (operand_reads (within room) comma ts x rest a.0, a.1)

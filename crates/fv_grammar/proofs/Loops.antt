@@ -6,6 +6,8 @@ use Rattle.fv_lex.specs.declared.token.Symbol.{Symbol}
 use Rattle.fv_lex.specs.declared.token.Symbol.TheVariants.{Name, Comma}
 use Rattle.fv_grammar.specs.Tree.{Tree, Binary, End, More}
 use Rattle.fv_grammar.specs.Descent.{Step, ◌>>=◌, Turn, Done, Next, Stop, after, turns, run, rank_at, operator_at, rights, chain, at_comma, a_name, names, name_list, Item, Nothing, Skip, One, Fault, with_item, many}
+use Rattle.fv_grammar.specs.declared.symbol.Operands.{Operands}
+use Rattle.fv_grammar.specs.declared.symbol.Commas.{Commas}
 
 -- ---- turns
 turns_again : (k : ℕ) (body : Tree → List Symbol → Turn) (x : Tree) (ts : List Symbol) → length ts < k → turns k body x ts ≡ run body x ts
@@ -31,33 +33,33 @@ pub run_stop : (body : Tree → List Symbol → Turn) (x : Tree) (ts at : List S
 run_stop body x ts at e = one_turn body x ts ∙ ap (λ t. after (turns (length ts) body) (Ok (x, ts)) t) e
 
 -- ---- parts that are joined to the right
-rights_again : (k : ℕ) (part : List Symbol → Step Tree) (pattern comma : Bool) (r : ℕ) (ts : List Symbol) → length ts < k → rights k part pattern comma r ts ≡ chain part pattern comma r ts
+rights_again : (k : ℕ) (part : List Symbol → Step Tree) (kind : Operands) (comma : Commas) (r : ℕ) (ts : List Symbol) → length ts < k → rights k part kind comma r ts ≡ chain part kind comma r ts
 unfolding rights chain
-rights_again zero part pattern comma r ts h = absurd (omega arith)
-rights_again (suc k) part pattern comma r ts h = elim (cases_lt (length ts) k) [
-  | inl lt ↦ rw (lt-ltb (length ts) k lt) (rights_again k part pattern comma r ts lt)
-  | inr le ↦ let e : k ≡ length ts = omega arith in ap (λ n. rights (suc n) part pattern comma r ts) e
+rights_again zero part kind comma r ts h = absurd (omega arith)
+rights_again (suc k) part kind comma r ts h = elim (cases_lt (length ts) k) [
+  | inl lt ↦ rw (lt-ltb (length ts) k lt) (rights_again k part kind comma r ts lt)
+  | inr le ↦ let e : k ≡ length ts = omega arith in ap (λ n. rights (suc n) part kind comma r ts) e
 ]
 
 abbrev pub joined : List Symbol → List Symbol → Tree → Step Tree → Step Tree
 joined ts at x read = read >>= λ y. Ok (Binary (length ts) (operator_at at) x y.0, y.1)
 
-one_part : (part : List Symbol → Step Tree) (pattern comma : Bool) (r : ℕ) (ts : List Symbol) → chain part pattern comma r ts
-    ≡ (part ts >>= λ x. cond (nat_eq (rank_at pattern comma x.1) r) (joined ts x.1 x.0 (rights (length ts) part pattern comma r (drop 1 x.1))) (Ok (x.0, x.1)))
+one_part : (part : List Symbol → Step Tree) (kind : Operands) (comma : Commas) (r : ℕ) (ts : List Symbol) → chain part kind comma r ts
+    ≡ (part ts >>= λ x. cond (nat_eq (rank_at kind comma x.1) r) (joined ts x.1 x.0 (rights (length ts) part kind comma r (drop 1 x.1))) (Ok (x.0, x.1)))
 unfolding rights chain
-one_part part pattern comma r ts = let no : nat_lt (length ts) (length ts) ≡ false = le-ltb (length ts) (length ts) (omega arith) in rw no refl
+one_part part kind comma r ts = let no : nat_lt (length ts) (length ts) ≡ false = le-ltb (length ts) (length ts) (omega arith) in rw no refl
 
-pub chain_next : (part : List Symbol → Step Tree) (pattern comma : Bool) (r : ℕ) (ts : List Symbol) (x : Tree) (rest : List Symbol)
-    → part ts ≡ Ok (x, rest) → nat_eq (rank_at pattern comma rest) r ≡ true → length (drop 1 rest) < length ts
-    → chain part pattern comma r ts ≡ joined ts rest x (chain part pattern comma r (drop 1 rest))
-chain_next part pattern comma r ts x rest e on h = one_part part pattern comma r ts ∙ (rw (e, on) (ap (λ z. joined ts rest x z) (rights_again (length ts) part pattern comma r (drop 1 rest) h)))
+pub chain_next : (part : List Symbol → Step Tree) (kind : Operands) (comma : Commas) (r : ℕ) (ts : List Symbol) (x : Tree) (rest : List Symbol)
+    → part ts ≡ Ok (x, rest) → nat_eq (rank_at kind comma rest) r ≡ true → length (drop 1 rest) < length ts
+    → chain part kind comma r ts ≡ joined ts rest x (chain part kind comma r (drop 1 rest))
+chain_next part kind comma r ts x rest e on h = one_part part kind comma r ts ∙ (rw (e, on) (ap (λ z. joined ts rest x z) (rights_again (length ts) part kind comma r (drop 1 rest) h)))
 
-pub chain_done : (part : List Symbol → Step Tree) (pattern comma : Bool) (r : ℕ) (ts : List Symbol) (x : Tree) (rest : List Symbol)
-    → part ts ≡ Ok (x, rest) → nat_eq (rank_at pattern comma rest) r ≡ false → chain part pattern comma r ts ≡ Ok (x, rest)
-chain_done part pattern comma r ts x rest e off = one_part part pattern comma r ts ∙ rw (e, off) refl
+pub chain_done : (part : List Symbol → Step Tree) (kind : Operands) (comma : Commas) (r : ℕ) (ts : List Symbol) (x : Tree) (rest : List Symbol)
+    → part ts ≡ Ok (x, rest) → nat_eq (rank_at kind comma rest) r ≡ false → chain part kind comma r ts ≡ Ok (x, rest)
+chain_done part kind comma r ts x rest e off = one_part part kind comma r ts ∙ rw (e, off) refl
 
-pub chain_stop : (part : List Symbol → Step Tree) (pattern comma : Bool) (r : ℕ) (ts at : List Symbol) → part ts ≡ Err at → chain part pattern comma r ts ≡ Err at
-chain_stop part pattern comma r ts at e = one_part part pattern comma r ts ∙ rw e refl
+pub chain_stop : (part : List Symbol → Step Tree) (kind : Operands) (comma : Commas) (r : ℕ) (ts at : List Symbol) → part ts ≡ Err at → chain part kind comma r ts ≡ Err at
+chain_stop part kind comma r ts at e = one_part part kind comma r ts ∙ rw e refl
 
 -- ---- names
 names_again : (k : ℕ) (ts : List Symbol) → length ts < k → names k ts ≡ name_list ts

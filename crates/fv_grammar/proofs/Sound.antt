@@ -24,14 +24,18 @@ use Rattle.fv_grammar.specs.Tree.{Tree, Number, Negative, Named, MinusNamed, Wir
 use Rattle.fv_grammar.specs.Grammar.{Level, Further, Definition, Expression, Listed, OneRule, Phrase, Postfix, Primary, Atom, SpellsNames, one_name, more_names, Spells, SpellsProgram, no_more, stated, declared, declared_for, defined, ruled, parted, first_rule, first_part, constant, function, rule, plain, qualified, tighter, leftward, rightward, operand, pattern_operand, bare, delayed, applied, number, plus_number, minus_number, minus_name, named, wire, cut, plus, minus, primitive, grouped, abstracted, cased, iterated, ported, switched, slid, paneled, atom_number, atom_plus_number, atom_minus_number, atom_name, atom_grouped}
 use Rattle.fv_grammar.specs.Descent as descent
 use Rattle.fv_grammar.specs.Descent.{Step, ◌>>=◌, Turn, Done, Next, Stop, turn, after, turns, run, rights, chain, Reader, rank_at, operator_at, expect, a_name, a_text, at_comma, names, name_list, enclosed, argument, group, abstraction, case_of, iteration, ports, switch, label, slider, panel, by_head, primary, postfix, postfix_turn, atom_by_head, atom, phrase, left_turn, expression, with_turn, ended, function_after, constant_after, after_name, definition, one_rule, declared_text, declaration, Item, Nothing, Skip, One, Fault, one_of, item, with_item, many, further, first_item, listed, within, program, whole_text}
+use Rattle.fv_grammar.specs.declared.symbol.Operands.{Operands}
+use Rattle.fv_grammar.specs.declared.symbol.Commas.{Commas}
+use Rattle.fv_grammar.specs.declared.symbol.Operands.TheVariants as operands
+use Rattle.fv_grammar.specs.declared.symbol.Commas.TheVariants as commas
 
 -- the level of what stands in brackets
 abbrev pub level_of : Inside → Level
 level_of insides.Expression = Expression
-level_of insides.Argument = Phrase false false 8
-level_of insides.Pattern = Phrase true true 8
-level_of insides.Arguments = Listed (Parts false)
-level_of insides.Patterns = Listed (Parts true)
+level_of insides.Argument = Phrase operands.Expressions commas.Separate 8
+level_of insides.Pattern = Phrase operands.Patterns commas.Join 8
+level_of insides.Arguments = Listed (Parts operands.Expressions)
+level_of insides.Patterns = Listed (Parts operands.Patterns)
 level_of insides.Rules = Listed Rules
 level_of insides.Definitions = Further Definitions
 
@@ -140,13 +144,13 @@ enclosed_sound inner what sound ts x rest e =
     let inside : Spells (level_of what) ts z.0 z.1 = sound what ts z.0 z.1 was in
     subst (λ y. Spells (level_of what) ts y (Close ∷ rest)) same.0 (subst (λ r. Spells (level_of what) ts z.0 r) (expect_ok marks.Close z.1 end closed ∙ ap (λ r. Close ∷ r) same.1) inside)
 
-argument_sound : (inner : Reader) → IsSoundInside inner → (ts : List Symbol) (x : Tree) (rest : List Symbol) → argument inner ts ≡ Ok (x, rest) → Spells (Phrase false false 8) ts x (Comma ∷ rest)
+argument_sound : (inner : Reader) → IsSoundInside inner → (ts : List Symbol) (x : Tree) (rest : List Symbol) → argument inner ts ≡ Ok (x, rest) → Spells (Phrase operands.Expressions commas.Separate 8) ts x (Comma ∷ rest)
 argument_sound inner sound ts x rest e =
     let (z, was, then) = bind_ok _ _ _ e in
     let (end, closed, done) = bind_ok _ _ _ then in
     let same = read_as z.0 x end rest done in
-    let inside : Spells (Phrase false false 8) ts z.0 z.1 = sound insides.Argument ts z.0 z.1 was in
-    subst (λ y. Spells (Phrase false false 8) ts y (Comma ∷ rest)) same.0 (subst (λ r. Spells (Phrase false false 8) ts z.0 r) (expect_ok marks.Comma z.1 end closed ∙ ap (λ r. Comma ∷ r) same.1) inside)
+    let inside : Spells (Phrase operands.Expressions commas.Separate 8) ts z.0 z.1 = sound insides.Argument ts z.0 z.1 was in
+    subst (λ y. Spells (Phrase operands.Expressions commas.Separate 8) ts y (Comma ∷ rest)) same.0 (subst (λ r. Spells (Phrase operands.Expressions commas.Separate 8) ts z.0 r) (expect_ok marks.Comma z.1 end closed ∙ ap (λ r. Comma ∷ r) same.1) inside)
 
 -- ---- names
 pub names_sound : (k : ℕ) (ts : List Symbol) (ns : List ℕ) (rest : List Symbol) → names k ts ≡ Ok (ns, rest) → SpellsNames ts ns rest
@@ -395,58 +399,58 @@ atom_sound : (inner : Reader) → IsSoundInside inner → IsSound Atom (atom inn
 atom_sound inner sound [] x rest e = absurd cc
 atom_sound inner sound (t ∷ ts) x rest e = atom_by_head_sound inner sound (head t) t ts x rest refl e
 
-operand_sound : (inner : Reader) → IsSoundInside inner → (pattern comma : Bool) → IsSound (Phrase pattern comma zero) (descent.operand inner pattern)
-operand_sound inner sound true comma ts x rest e = pattern_operand (atom_sound inner sound ts x rest e)
-operand_sound inner sound false comma ts x rest e = operand (postfix_sound inner sound ts x rest e)
+operand_sound : (inner : Reader) → IsSoundInside inner → (kind : Operands) (comma : Commas) → IsSound (Phrase kind comma zero) (descent.operand inner kind)
+operand_sound inner sound operands.Patterns comma ts x rest e = pattern_operand (atom_sound inner sound ts x rest e)
+operand_sound inner sound operands.Expressions comma ts x rest e = operand (postfix_sound inner sound ts x rest e)
 
 -- ---- operators
-operator_rank : (pattern comma : Bool) (h : ℕ) (ts : List Symbol) → h < 8 → nat_eq (rank_at pattern comma ts) (suc (suc h)) ≡ true
-    → (t : Symbol) × (ts ≡ t ∷ drop 1 ts) × (rank pattern comma t ≡ suc (suc h)) × (operator_at ts ≡ operator t)
-operator_rank pattern comma h [] small e = let p : rank_at pattern comma [] ≡ suc (suc h) = eqb-true (rank_at pattern comma []) (suc (suc h)) e in absurd (omega arith)
-operator_rank pattern comma h (t ∷ ts) small e = (t, refl, eqb-true (rank pattern comma t) (suc (suc h)) e, refl)
+operator_rank : (kind : Operands) (comma : Commas) (h : ℕ) (ts : List Symbol) → h < 8 → nat_eq (rank_at kind comma ts) (suc (suc h)) ≡ true
+    → (t : Symbol) × (ts ≡ t ∷ drop 1 ts) × (rank kind comma t ≡ suc (suc h)) × (operator_at ts ≡ operator t)
+operator_rank kind comma h [] small e = let p : rank_at kind comma [] ≡ suc (suc h) = eqb-true (rank_at kind comma []) (suc (suc h)) e in absurd (omega arith)
+operator_rank kind comma h (t ∷ ts) small e = (t, refl, eqb-true (rank kind comma t) (suc (suc h)) e, refl)
 
-left_step : (part : List Symbol → Step Tree) (pattern comma : Bool) (h : ℕ) → h < 8 → is_left (suc h) ≡ true → IsSound (Phrase pattern comma h) part → (all : List Symbol) (x : Tree) (ts : List Symbol) (y : Tree) (rest : List Symbol)
-    → Spells (Phrase pattern comma (suc h)) all x ts → left_turn part pattern comma (suc (suc h)) (length all) x ts ≡ Next y rest → Spells (Phrase pattern comma (suc h)) all y rest
-left_step part pattern comma h small left sound all x ts y rest p e = either (Spells (Phrase pattern comma (suc h)) all y rest) (nat_eq (rank_at pattern comma ts) (suc (suc h))) _ _
+left_step : (part : List Symbol → Step Tree) (kind : Operands) (comma : Commas) (h : ℕ) → h < 8 → is_left (suc h) ≡ true → IsSound (Phrase kind comma h) part → (all : List Symbol) (x : Tree) (ts : List Symbol) (y : Tree) (rest : List Symbol)
+    → Spells (Phrase kind comma (suc h)) all x ts → left_turn part kind comma (suc (suc h)) (length all) x ts ≡ Next y rest → Spells (Phrase kind comma (suc h)) all y rest
+left_step part kind comma h small left sound all x ts y rest p e = either (Spells (Phrase kind comma (suc h)) all y rest) (nat_eq (rank_at kind comma ts) (suc (suc h))) _ _
     (λ on now.
     let (z, was, tree) = turn_next _ _ _ _ now in
-    let (t, is, ranked, named_) = operator_rank pattern comma h ts small on in
+    let (t, is, ranked, named_) = operator_rank kind comma h ts small on in
     let second = sound (drop 1 ts) z rest was in
-    subst (λ q. Spells (Phrase pattern comma (suc h)) all q rest) (ap (λ o. Binary (length all) o x z) (sym named_) ∙ tree)
-    (leftward t small left ranked (subst (λ r. Spells (Phrase pattern comma (suc h)) all x r) is p) second))
+    subst (λ q. Spells (Phrase kind comma (suc h)) all q rest) (ap (λ o. Binary (length all) o x z) (sym named_) ∙ tree)
+    (leftward t small left ranked (subst (λ r. Spells (Phrase kind comma (suc h)) all x r) is p) second))
     (λ off now. absurd cc)
     e
 
-rights_sound : (part : List Symbol → Step Tree) (pattern comma : Bool) (h : ℕ) → h < 8 → is_left (suc h) ≡ false → IsSound (Phrase pattern comma h) part → (k : ℕ) → IsSound (Phrase pattern comma (suc h)) (rights k part pattern comma (suc (suc h)))
+rights_sound : (part : List Symbol → Step Tree) (kind : Operands) (comma : Commas) (h : ℕ) → h < 8 → is_left (suc h) ≡ false → IsSound (Phrase kind comma h) part → (k : ℕ) → IsSound (Phrase kind comma (suc h)) (rights k part kind comma (suc (suc h)))
 unfolding rights
-rights_sound part pattern comma h small right sound zero ts x rest e = absurd cc
-rights_sound part pattern comma h small right sound (suc k) ts x rest e = either (Spells (Phrase pattern comma (suc h)) ts x rest) (nat_lt (length ts) k) _ _
-    (λ _ now. rights_sound part pattern comma h small right sound k ts x rest now)
+rights_sound part kind comma h small right sound zero ts x rest e = absurd cc
+rights_sound part kind comma h small right sound (suc k) ts x rest e = either (Spells (Phrase kind comma (suc h)) ts x rest) (nat_lt (length ts) k) _ _
+    (λ _ now. rights_sound part kind comma h small right sound k ts x rest now)
     (λ _ now.
     let (z, was, then) = bind_ok _ _ _ now in
     let first = sound ts z.0 z.1 was in
-    either (Spells (Phrase pattern comma (suc h)) ts x rest) (nat_eq (rank_at pattern comma z.1) (suc (suc h))) _ _
+    either (Spells (Phrase kind comma (suc h)) ts x rest) (nat_eq (rank_at kind comma z.1) (suc (suc h))) _ _
     (λ on again.
     let (y, got, end) = bind_ok _ _ _ again in
-    let (t, is, ranked, named_) = operator_rank pattern comma h z.1 small on in
-    let second = rights_sound part pattern comma h small right sound k (drop 1 z.1) y.0 y.1 got in
-    let both : Spells (Phrase pattern comma (suc h)) ts (Binary (length ts) (operator t) z.0 y.0) y.1 = rightward t small right ranked (subst (λ r. Spells (Phrase pattern comma h) ts z.0 r) is first) second in
-    moved (Phrase pattern comma (suc h)) ts (Binary (length ts) (operator_at z.1) z.0 y.0) x y.1 rest (subst (λ o. Spells (Phrase pattern comma (suc h)) ts (Binary (length ts) o z.0 y.0) y.1) (sym named_) both) end)
-    (λ off end. moved (Phrase pattern comma (suc h)) ts z.0 x z.1 rest (tighter first) end)
+    let (t, is, ranked, named_) = operator_rank kind comma h z.1 small on in
+    let second = rights_sound part kind comma h small right sound k (drop 1 z.1) y.0 y.1 got in
+    let both : Spells (Phrase kind comma (suc h)) ts (Binary (length ts) (operator t) z.0 y.0) y.1 = rightward t small right ranked (subst (λ r. Spells (Phrase kind comma h) ts z.0 r) is first) second in
+    moved (Phrase kind comma (suc h)) ts (Binary (length ts) (operator_at z.1) z.0 y.0) x y.1 rest (subst (λ o. Spells (Phrase kind comma (suc h)) ts (Binary (length ts) o z.0 y.0) y.1) (sym named_) both) end)
+    (λ off end. moved (Phrase kind comma (suc h)) ts z.0 x z.1 rest (tighter first) end)
     then)
     e
 
-phrase_sound : (inner : Reader) → IsSoundInside inner → (pattern comma : Bool) (h : ℕ) → h < 9 → IsSound (Phrase pattern comma h) (phrase inner pattern comma h)
+phrase_sound : (inner : Reader) → IsSoundInside inner → (kind : Operands) (comma : Commas) (h : ℕ) → h < 9 → IsSound (Phrase kind comma h) (phrase inner kind comma h)
 unfolding phrase chain
-phrase_sound inner sound pattern comma zero small ts x rest e = operand_sound inner sound pattern comma ts x rest e
-phrase_sound inner sound pattern comma (suc h) small ts x rest e =
-    let part : IsSound (Phrase pattern comma h) (phrase inner pattern comma h) = phrase_sound inner sound pattern comma h (omega arith) in
-    either (Spells (Phrase pattern comma (suc h)) ts x rest) (is_left (suc h)) _ _
+phrase_sound inner sound kind comma zero small ts x rest e = operand_sound inner sound kind comma ts x rest e
+phrase_sound inner sound kind comma (suc h) small ts x rest e =
+    let part : IsSound (Phrase kind comma h) (phrase inner kind comma h) = phrase_sound inner sound kind comma h (omega arith) in
+    either (Spells (Phrase kind comma (suc h)) ts x rest) (is_left (suc h)) _ _
     (λ left now.
     let (z, was, then) = bind_ok _ _ _ now in
-    run_keeps (λ y end. Spells (Phrase pattern comma (suc h)) ts y end) (left_turn (phrase inner pattern comma h) pattern comma (suc (suc h)) (length ts)) (left_step (phrase inner pattern comma h) pattern comma h (omega arith) left part ts) z.0 z.1 x rest
+    run_keeps (λ y end. Spells (Phrase kind comma (suc h)) ts y end) (left_turn (phrase inner kind comma h) kind comma (suc (suc h)) (length ts)) (left_step (phrase inner kind comma h) kind comma h (omega arith) left part ts) z.0 z.1 x rest
     (tighter (part ts z.0 z.1 was)) then)
-    (λ right now. rights_sound (phrase inner pattern comma h) pattern comma h (omega arith) right part (suc (length ts)) ts x rest now)
+    (λ right now. rights_sound (phrase inner kind comma h) kind comma h (omega arith) right part (suc (length ts)) ts x rest now)
     e
 
 -- ---- expression
@@ -469,7 +473,7 @@ unfolding expression
 expression_sound inner sound ts x rest e =
     let (z, was, then) = bind_ok _ _ _ e in
     run_keeps (λ y end. Spells Expression ts y end) (with_turn inner (length ts)) (with_step inner sound ts) z.0 z.1 x rest
-    (plain (phrase_sound inner sound false true 8 (omega arith) ts z.0 z.1 was)) then
+    (plain (phrase_sound inner sound operands.Expressions commas.Join 8 (omega arith) ts z.0 z.1 was)) then
 
 ended_sound : (inner : Reader) → IsSoundInside inner → (ts : List Symbol) (x : Tree) (rest : List Symbol) → ended inner ts ≡ Ok (x, rest) → Spells Expression ts x (Semicolon ∷ rest)
 unfolding ended
@@ -486,7 +490,7 @@ function_sound inner sound n ts x rest e =
     let (ps, was, e1) = bind_ok _ _ _ e in
     let (side, signed, e2) = bind_ok _ _ _ e1 in
     let (z, read, done) = bind_ok _ _ _ e2 in
-    let front : Spells (Listed (Parts true)) ts ps.0 (Close ∷ Equals ∷ side) = subst (λ r. Spells (Listed (Parts true)) ts ps.0 (Close ∷ r)) (expect_ok marks.Equals ps.1 side signed) (enclosed_sound inner insides.Patterns sound ts ps.0 ps.1 was) in
+    let front : Spells (Listed (Parts operands.Patterns)) ts ps.0 (Close ∷ Equals ∷ side) = subst (λ r. Spells (Listed (Parts operands.Patterns)) ts ps.0 (Close ∷ r)) (expect_ok marks.Equals ps.1 side signed) (enclosed_sound inner insides.Patterns sound ts ps.0 ps.1 was) in
     moved Definition (Name n ∷ Open ∷ ts) (Function (length (Name n ∷ Open ∷ ts)) n ps.0 z.0) x z.1 rest (function front (ended_sound inner sound side z.0 z.1 read)) done
 
 constant_sound : (inner : Reader) → IsSoundInside inner → (n : ℕ) (ts : List Symbol) (x : Tree) (rest : List Symbol) → constant_after inner (length (Name n ∷ ts)) n ts ≡ Ok (x, rest) → Spells Definition (Name n ∷ ts) x rest
@@ -518,7 +522,7 @@ rule_sound inner sound ts x rest e =
     let (ps, was, e1) = bind_ok _ _ _ e0 in
     let (side, signed, e2) = bind_ok _ _ _ e1 in
     let (z, read, done) = bind_ok _ _ _ e2 in
-    let front : Spells (Listed (Parts true)) opened ps.0 (Close ∷ Arrow ∷ side) = subst (λ r. Spells (Listed (Parts true)) opened ps.0 (Close ∷ r)) (expect_ok marks.Arrow ps.1 side signed) (enclosed_sound inner insides.Patterns sound opened ps.0 ps.1 was) in
+    let front : Spells (Listed (Parts operands.Patterns)) opened ps.0 (Close ∷ Arrow ∷ side) = subst (λ r. Spells (Listed (Parts operands.Patterns)) opened ps.0 (Close ∷ r)) (expect_ok marks.Arrow ps.1 side signed) (enclosed_sound inner insides.Patterns sound opened ps.0 ps.1 was) in
     let all : Spells OneRule (Open ∷ opened) (Rule (length (Open ∷ opened)) ps.0 z.0) z.1 = rule front (ended_sound inner sound side z.0 z.1 read) in
     moved OneRule ts (Rule (length ts) ps.0 z.0) x z.1 rest (subst (λ l. Spells OneRule l (Rule (length l) ps.0 z.0) z.1) (sym (expect_ok marks.Open ts opened o)) all) done
 
@@ -560,9 +564,9 @@ item_adds inner sound Definitions (t ∷ ts) x mid e = absurd cc
 item_adds inner sound Rules (Open ∷ ts) x mid e = record { others = λ y rest s. ruled (rule_sound inner sound (Open ∷ ts) x mid (one_of_is _ _ _ e)) s }
 item_adds inner sound Rules [] x mid e = absurd cc
 item_adds inner sound Rules (t ∷ ts) x mid e = absurd cc
-item_adds inner sound (Parts pattern) (Comma ∷ ts) x mid e = record { others = λ y rest s. parted (phrase_sound inner sound pattern false 8 (omega arith) ts x mid (one_of_is _ _ _ e)) s }
-item_adds inner sound (Parts pattern) [] x mid e = absurd cc
-item_adds inner sound (Parts pattern) (t ∷ ts) x mid e = absurd cc
+item_adds inner sound (Parts kind) (Comma ∷ ts) x mid e = record { others = λ y rest s. parted (phrase_sound inner sound kind commas.Separate 8 (omega arith) ts x mid (one_of_is _ _ _ e)) s }
+item_adds inner sound (Parts kind) [] x mid e = absurd cc
+item_adds inner sound (Parts kind) (t ∷ ts) x mid e = absurd cc
 
 declared_text_ok : (ts rest : List Symbol) → declared_text ts ≡ Ok rest → (s : ℕ) × (ts ≡ Text s ∷ Semicolon ∷ rest)
 declared_text_ok ts rest e =
@@ -594,9 +598,9 @@ item_passes inner Definitions (t ∷ ts) mid e = absurd cc
 item_passes inner Rules (Open ∷ ts) mid e = absurd (one_no_skip _ _ e)
 item_passes inner Rules [] mid e = absurd cc
 item_passes inner Rules (t ∷ ts) mid e = absurd cc
-item_passes inner (Parts pattern) (Comma ∷ ts) mid e = absurd (one_no_skip _ _ e)
-item_passes inner (Parts pattern) [] mid e = absurd cc
-item_passes inner (Parts pattern) (t ∷ ts) mid e = absurd cc
+item_passes inner (Parts kind) (Comma ∷ ts) mid e = absurd (one_no_skip _ _ e)
+item_passes inner (Parts kind) [] mid e = absurd cc
+item_passes inner (Parts kind) (t ∷ ts) mid e = absurd cc
 
 -- by what further stands there
 with_item_sound : (items : Items) (ts : List Symbol) (others : List Symbol → Step Tree) (found : Item) (x : Tree) (rest : List Symbol)
@@ -628,10 +632,10 @@ listed_sound inner sound Rules ts x rest e =
     let (z, was, then) = bind_ok _ _ _ e in
     let (y, got, end) = bind_ok _ _ _ then in
     moved (Listed Rules) ts (More z.0 y.0) x y.1 rest (first_rule (rule_sound inner sound ts z.0 z.1 was) (further_sound inner sound Rules z.1 y.0 y.1 got)) end
-listed_sound inner sound (Parts pattern) ts x rest e =
+listed_sound inner sound (Parts kind) ts x rest e =
     let (z, was, then) = bind_ok _ _ _ e in
     let (y, got, end) = bind_ok _ _ _ then in
-    moved (Listed (Parts pattern)) ts (More z.0 y.0) x y.1 rest (first_part (phrase_sound inner sound pattern false 8 (omega arith) ts z.0 z.1 was) (further_sound inner sound (Parts pattern) z.1 y.0 y.1 got)) end
+    moved (Listed (Parts kind)) ts (More z.0 y.0) x y.1 rest (first_part (phrase_sound inner sound kind commas.Separate 8 (omega arith) ts z.0 z.1 was) (further_sound inner sound (Parts kind) z.1 y.0 y.1 got)) end
 listed_sound inner sound Statements ts x rest e = absurd cc
 listed_sound inner sound Definitions ts x rest e = absurd cc
 
@@ -640,10 +644,10 @@ pub sound_within : (room : ℕ) → IsSoundInside (within room)
 unfolding within
 sound_within zero what ts x rest e = absurd cc
 sound_within (suc room) insides.Expression ts x rest e = expression_sound (within room) (sound_within room) ts x rest e
-sound_within (suc room) insides.Argument ts x rest e = phrase_sound (within room) (sound_within room) false false 8 (omega arith) ts x rest e
-sound_within (suc room) insides.Pattern ts x rest e = phrase_sound (within room) (sound_within room) true true 8 (omega arith) ts x rest e
-sound_within (suc room) insides.Arguments ts x rest e = listed_sound (within room) (sound_within room) (Parts false) ts x rest e
-sound_within (suc room) insides.Patterns ts x rest e = listed_sound (within room) (sound_within room) (Parts true) ts x rest e
+sound_within (suc room) insides.Argument ts x rest e = phrase_sound (within room) (sound_within room) operands.Expressions commas.Separate 8 (omega arith) ts x rest e
+sound_within (suc room) insides.Pattern ts x rest e = phrase_sound (within room) (sound_within room) operands.Patterns commas.Join 8 (omega arith) ts x rest e
+sound_within (suc room) insides.Arguments ts x rest e = listed_sound (within room) (sound_within room) (Parts operands.Expressions) ts x rest e
+sound_within (suc room) insides.Patterns ts x rest e = listed_sound (within room) (sound_within room) (Parts operands.Patterns) ts x rest e
 sound_within (suc room) insides.Rules ts x rest e = listed_sound (within room) (sound_within room) Rules ts x rest e
 sound_within (suc room) insides.Definitions ts x rest e = further_sound (within room) (sound_within room) Definitions ts x rest e
 

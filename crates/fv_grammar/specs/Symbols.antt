@@ -14,6 +14,10 @@ use Rattle.fv_grammar.specs.declared.symbol.Head.{Head}
 use Rattle.fv_grammar.specs.declared.symbol.Head.TheVariants as heads
 use Rattle.fv_grammar.specs.declared.symbol.Mark.{Mark}
 use Rattle.fv_grammar.specs.declared.symbol.Mark.TheVariants as marks
+use Rattle.fv_grammar.specs.declared.symbol.Operands.{Operands}
+use Rattle.fv_grammar.specs.declared.symbol.Commas.{Commas}
+use Rattle.fv_grammar.specs.declared.symbol.Operands.TheVariants as operands
+use Rattle.fv_grammar.specs.declared.symbol.Commas.TheVariants as commas
 
 -- what a token begins where an operand has to stand (Faust manual; this project's profile)
 abbrev pub head : Symbol → Head
@@ -67,41 +71,41 @@ head symbols.Tgroup = heads.Panel panels.Tabs
 head t = heads.Nothing
 
 -- how an operator of expressions ranks: in a pattern it ends what stands before it
-abbrev pub outside : Bool → ℕ → ℕ
-outside true r = 99
-outside false r = r
+abbrev pub outside : Operands → ℕ → ℕ
+outside operands.Patterns r = 99
+outside operands.Expressions r = r
 
 -- How loosely a token joins what stands before it, in a pattern or not, where commas join or not:
--- an operator of height h has 1 + h, a postfix has 1, what a sign would swallow has 0, and what ends every phrase has 99.
+-- an operator of precedence h has 1 + h, a postfix has 1, what a sign would swallow has 0, and what ends every phrase has 99.
 -- (Faust manual, priorities and associations)
-abbrev pub rank : Bool → Bool → Symbol → ℕ
-rank pattern comma (symbols.Name n) = 0
-rank pattern comma (symbols.Integer n) = 0
-rank pattern comma symbols.Tick = outside pattern 1
-rank pattern comma symbols.Open = outside pattern 1
-rank pattern comma symbols.At = outside pattern 2
-rank pattern comma symbols.Times = outside pattern 3
-rank pattern comma symbols.Divide = outside pattern 3
-rank pattern comma symbols.Percent = outside pattern 3
-rank pattern comma symbols.Ampersand = outside pattern 3
-rank pattern comma symbols.Xor = outside pattern 3
-rank pattern comma symbols.ShiftLeft = outside pattern 3
-rank pattern comma symbols.ShiftRight = outside pattern 3
-rank pattern comma symbols.Plus = outside pattern 4
-rank pattern comma symbols.Minus = outside pattern 4
-rank pattern comma symbols.Bar = outside pattern 4
-rank pattern comma symbols.Less = outside pattern 5
-rank pattern comma symbols.LessEqual = outside pattern 5
-rank pattern comma symbols.Greater = outside pattern 5
-rank pattern comma symbols.GreaterEqual = outside pattern 5
-rank pattern comma symbols.EqualEqual = outside pattern 5
-rank pattern comma symbols.NotEqual = outside pattern 5
-rank pattern comma symbols.Tilde = 6
-rank pattern true symbols.Comma = 7
-rank pattern comma symbols.Colon = 8
-rank pattern comma symbols.Split = 9
-rank pattern comma symbols.Merge = 9
-rank pattern comma t = 99
+abbrev pub rank : Operands → Commas → Symbol → ℕ
+rank kind comma (symbols.Name n) = 0
+rank kind comma (symbols.Integer n) = 0
+rank kind comma symbols.Tick = outside kind 1
+rank kind comma symbols.Open = outside kind 1
+rank kind comma symbols.At = outside kind 2
+rank kind comma symbols.Times = outside kind 3
+rank kind comma symbols.Divide = outside kind 3
+rank kind comma symbols.Percent = outside kind 3
+rank kind comma symbols.Ampersand = outside kind 3
+rank kind comma symbols.Xor = outside kind 3
+rank kind comma symbols.ShiftLeft = outside kind 3
+rank kind comma symbols.ShiftRight = outside kind 3
+rank kind comma symbols.Plus = outside kind 4
+rank kind comma symbols.Minus = outside kind 4
+rank kind comma symbols.Bar = outside kind 4
+rank kind comma symbols.Less = outside kind 5
+rank kind comma symbols.LessEqual = outside kind 5
+rank kind comma symbols.Greater = outside kind 5
+rank kind comma symbols.GreaterEqual = outside kind 5
+rank kind comma symbols.EqualEqual = outside kind 5
+rank kind comma symbols.NotEqual = outside kind 5
+rank kind comma symbols.Tilde = 6
+rank kind commas.Join symbols.Comma = 7
+rank kind comma symbols.Colon = 8
+rank kind comma symbols.Split = 9
+rank kind comma symbols.Merge = 9
+rank kind comma t = 99
 
 -- the operator that a token is
 abbrev pub operator : Symbol → Operator
@@ -128,9 +132,9 @@ operator symbols.Split = Split
 operator symbols.Merge = Merge
 operator t = Sequence
 
--- the operators up to height 5 associate to the left, the others to the right
+-- the operators up to precedence 5 associate to the left, the others to the right
 abbrev pub is_left : ℕ → Bool
-is_left height = nat_le height 5
+is_left precedence = nat_le precedence 5
 
 -- the token of a mark (this project's profile)
 abbrev pub sign : Mark → Symbol

@@ -1,3 +1,5 @@
+// The forms of a tree.
+
 /// A primitive, apart from `_` and `!`.
 #[derive(Clone, Copy, Debug, PartialEq, Eq)]
 pub enum Primitive {

@@ -7,4 +7,4 @@ mod symbol;
 
 pub use form::{Iteration, Operator, Panel, Primitive, Side, Slider, Switch};
 pub use laws::{reads_what_is_spelled, spelled_once};
-pub use symbol::{Head, Inside, Items, Mark};
+pub use symbol::{Commas, Head, Inside, Items, Mark, Operands};

@@ -52,6 +52,24 @@ pub enum Inside {
     Definitions,
 }
 
+/// What operators join.
+#[derive(Clone, Copy, Debug, PartialEq, Eq)]
+pub enum Operands {
+    /// Those of expressions.
+    Expressions,
+    /// Those of patterns.
+    Patterns,
+}
+
+/// What a comma does in a phrase.
+#[derive(Clone, Copy, Debug, PartialEq, Eq)]
+pub enum Commas {
+    /// It composes in parallel.
+    Join,
+    /// It ends the phrase, since it stands between parts of a list.
+    Separate,
+}
+
 /// What a list has.
 #[derive(Clone, Copy, Debug, PartialEq, Eq)]
 pub enum Items {
@@ -59,6 +77,6 @@ pub enum Items {
     Statements,
     Definitions,
     Rules,
-    /// Arguments, or patterns where the flag is set, with commas between.
-    Parts(bool),
+    /// Arguments or patterns, by what their operators join, with commas between.
+    Parts(Operands),
 }

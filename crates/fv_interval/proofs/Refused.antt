@@ -15,7 +15,7 @@ use Rattle.fv_interval.specs.declared.refusal.DelayRefusal.{DelayRefusal}
 use Rattle.fv_interval.specs.declared.refusal.DelayRefusal.TheVariants as refusal
 use Rattle.fv_interval.specs.SpanHooks.{Noted, control_span, span_hooks}
 use Rattle.fv_interval.specs.WireSpans.{bound_span, merged_spans, spans, delay_spans}
-use Rattle.fv_interval.specs.Delays.{delays_of, delay_limit, amount, amounts, AreDelays, IsDelay, IsSpanRefused, IsFirstRefused, IsRefused, IsDelayRefusal}
+use Rattle.fv_interval.specs.Delays.{delays_of, delay_limit, amount, amounts, AreDelays, IsDelay, IsSpanRefused, IsFirstRefused, IsRefused}
 use Rattle.fv_interval.proofs.SpansWalked.{spans_walked}
 
 -- ---- how many there are
@@ -107,10 +107,3 @@ refused_by ss i s refusal.NoMemory l at before r = tt
 refused_by ss i s (refusal.DelayBudget n) l at before r = absurd r
 refused_by ss i s (refusal.DelayNegative n) l at before r = first_refused ss i s (refusal.DelayNegative n) l at before r
 refused_by ss i s (refusal.DelayTooLong n) l at before r = first_refused ss i s (refusal.DelayTooLong n) l at before r
-
--- the refusal of a list of spans is one of the diagram
-pub refused_is : (ss : List Interval) (e : DelayRefusal) → IsRefused ss e → IsDelayRefusal ss e
-refused_is ss refusal.NoMemory h = h
-refused_is ss (refusal.DelayBudget n) h = absurd h.refused
-refused_is ss (refusal.DelayNegative n) h = h
-refused_is ss (refusal.DelayTooLong n) h = h

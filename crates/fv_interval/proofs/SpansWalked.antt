@@ -13,7 +13,6 @@ use Rattle.fv_diagram.specs.declared.node.Primitive.{Primitive as Prim}
 use Rattle.fv_diagram.specs.declared.node.Primitive.TheVariants as prim
 use Rattle.fv_diagram.specs.Diagram.{Diagram, Primitive, Constant, Control, Slot, Bind, Par, Seq, Split, Merge, Rec, inputs, outputs, primitive_inputs, IsWellFormed}
 use Rattle.fv_diagram.specs.Streams.{dealt, every}
-use Rattle.fv_diagram.specs.Wires.{plugged}
 use Rattle.fv_diagram.specs.Walked.{walked, added, summed}
 use Rattle.fv_diagram.proofs.Sums.{every_front}
 use Rattle.fv_diagram.proofs.Turns.{not_below}
@@ -67,9 +66,6 @@ summed_spans n I s some l =
 
 dealt_spans : (n : ℕ) (I : List Interval) → 1 ≤ length I → dealt full n I ≡ dealt (point (pos 0)) n I
 dealt_spans n I some = table_same n _ _ (λ i l. get_or_default I (i % length I) full (point (pos 0)) (mod-lt i some))
-
-bound_spans : (e : ℕ → Interval) (k : ℕ) (w : Interval) → plugged e k w ≡ bound_span e k w
-bound_spans e k w = refl
 
 module _ (c : ℕ → Interval) where
   -- the walk from the signals s, which know these controls

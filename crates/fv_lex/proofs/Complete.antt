@@ -1,7 +1,7 @@
 -- Each piece is what the step finds, and each fault is what it refuses.
 use Rattle.std.proofs.Common.{◌≡◌, ℕ, suc, ◌+◌, ◌≤◌, Bool, true, false, cond, not, ◌&&◌, ◌||◌, List, [], ◌∷◌, ◌++◌, length, take, drop, Option, Some, None, refl, sym, ap, subst, ◌∙◌, arith, ◌⊎◌, inl, inr}
 use Rattle.std.specs.Prelude.{nat_eq, nat_lt, is_some}
-use Rattle.std.specs.List.{list_all}
+use Rattle.std.specs.List.{list_all, prefix_len}
 use Rattle.std.specs.Option.{option_map}
 use Rattle.std.proofs.lemmas.Bool.{ne_eqb, eqb-true, cond_both, lt-ltb, le-ltb, and_parts, or_parts, or_left, or_right, not-true}
 use Rattle.std.proofs.lemmas.Bool.Decides.{nat_tests}
@@ -15,8 +15,8 @@ use Rattle.fv_lex.specs.declared.next.Next.TheVariants.{Found, Refused}
 use Rattle.fv_lex.specs.Bytes.{is_blank, is_letter, is_digit, is_underscore, is_name_byte, is_quote, is_in_line, begins}
 use Rattle.fv_lex.specs.Symbols.{at_byte, singles, double, value}
 use Rattle.fv_lex.specs.Pieces.{is_name, is_integer, is_nothing, closes, is_token, IsLongest, BeginsNoToken, is_real_tail, BeginsReal, fraction, real, begins_comment, ends_line, has_close, greatest_literal, IsPiece, blank_byte, line_comment, block_comment, longest_token, IsFault, unclosed_text, unclosed_comment, real_literal, large_literal, bad_byte}
-use Rattle.fv_lex.specs.Steps.{run, to_quote, to_close, wires, number_next, slash_next, sign_next, first_next, next_piece}
-use Rattle.fv_lex.proofs.Runs.{Stops, run_is, list_all_more}
+use Rattle.fv_lex.specs.Steps.{to_quote, to_close, bare_underscores, number_next, slash_next, sign_next, first_next, next_piece}
+use Rattle.fv_lex.proofs.Runs.{Stops, prefix_len-passes, run_is, list_all_more}
 use Rattle.fv_lex.proofs.Classes.{digit_range, no_letter, no_blank}
 use Rattle.fv_lex.proofs.Sound.{real_parts, tail_behind, front_before, integer_all, name_run, name_head, Bare}
 
@@ -26,7 +26,7 @@ no_count true = refl
 no_count false = refl
 
 first_is : (b : ℕ) (bs : List ℕ) → is_underscore b ≡ false → next_piece (b ∷ bs) ≡ first_next b bs
-first_is b bs u = let none : nat_lt 0 (wires (b ∷ bs)) ≡ false = rw u (no_count (is_letter b)) in rw none refl
+first_is b bs u = let none : nat_lt 0 (bare_underscores (b ∷ bs)) ≡ false = rw u (no_count (is_letter b)) in rw none refl
 
 digit_is : (b : ℕ) (bs : List ℕ) → is_digit b ≡ true → next_piece (b ∷ bs) ≡ number_next (b ∷ bs)
 digit_is b bs d =
@@ -50,7 +50,7 @@ line_stops (b ∷ bs) e = rw e refl
 line_found : (body rest : List ℕ) → list_all is_in_line body ≡ true → ends_line rest ≡ true → next_piece (47 ∷ 47 ∷ (body ++ rest)) ≡ Found (suc (suc (length body))) None
 line_found body rest e h =
     let n = run_is is_in_line body rest e (line_stops rest h) in
-    let two : 2 + run is_in_line (body ++ rest) ≡ suc (suc (length body)) = omega arith in
+    let two : 2 + prefix_len is_in_line (body ++ rest) ≡ suc (suc (length body)) = omega arith in
     ap (λ k. Found k None) two
 
 star_ahead : (v : Bool) (body rest : List ℕ) → (v && begins (λ c. nat_eq c 47) body) ≡ false → (v && begins (λ c. nat_eq c 47) ((body ++ 42 ∷ 47 ∷ []) ++ rest)) ≡ false
@@ -86,12 +86,12 @@ name_more : (bytes : List ℕ) (c : ℕ) → is_name_byte c ≡ true → is_name
 name_more [] c e h = absurd cc
 name_more (b ∷ bs) c e h = name_more_case (is_underscore b) b bs c refl e (name_more bs c e) h
 
-name_begins_case : (v : Bool) (b : ℕ) (bs rest : List ℕ) → is_underscore b ≡ v → (is_name bs ≡ true → begins is_letter (drop (run is_underscore (bs ++ rest)) (bs ++ rest)) ≡ true) → cond v (is_name bs) (is_letter b && list_all is_name_byte bs) ≡ true
-    → begins is_letter (drop (run is_underscore (b ∷ (bs ++ rest))) (b ∷ (bs ++ rest))) ≡ true
-name_begins_case true b bs rest u ih h = rw u (ih h)
+name_begins_case : (v : Bool) (b : ℕ) (bs rest : List ℕ) → is_underscore b ≡ v → (is_name bs ≡ true → begins is_letter (drop (prefix_len is_underscore (bs ++ rest)) (bs ++ rest)) ≡ true) → cond v (is_name bs) (is_letter b && list_all is_name_byte bs) ≡ true
+    → begins is_letter (drop (prefix_len is_underscore (b ∷ (bs ++ rest))) (b ∷ (bs ++ rest))) ≡ true
+name_begins_case true b bs rest u ih h = rw (prefix_len-passes is_underscore b (bs ++ rest) u) (ih h)
 name_begins_case false b bs rest u ih h = rw u (and_parts (is_letter b) (list_all is_name_byte bs) h).0
 
-name_begins : (bytes rest : List ℕ) → is_name bytes ≡ true → begins is_letter (drop (run is_underscore (bytes ++ rest)) (bytes ++ rest)) ≡ true
+name_begins : (bytes rest : List ℕ) → is_name bytes ≡ true → begins is_letter (drop (prefix_len is_underscore (bytes ++ rest)) (bytes ++ rest)) ≡ true
 name_begins [] rest e = absurd cc
 name_begins (b ∷ bs) rest e = name_begins_case (is_underscore b) b bs rest refl (name_begins bs rest) e
 
@@ -113,9 +113,9 @@ name_found b body rest e longest =
     let stops = stops_from is_name_byte rest (λ c cs is byte. let no = longest Name c [] cs is in let yes = name_more (b ∷ body) c byte e in cc) in
     let head = head_of_case (is_underscore b) b body refl e in
     let high = (name_head b head).0 in
-    let letter : begins is_letter (drop (run is_underscore (b ∷ (body ++ rest))) (b ∷ (body ++ rest))) ≡ true = name_begins (b ∷ body) rest e in
+    let letter : begins is_letter (drop (prefix_len is_underscore (b ∷ (body ++ rest))) (b ∷ (body ++ rest))) ≡ true = name_begins (b ∷ body) rest e in
     let all = and_parts (is_name_byte b) (list_all is_name_byte body) (name_all (b ∷ body) e) in
-    let none : nat_lt 0 (wires (b ∷ (body ++ rest))) ≡ false = rw letter refl in
+    let none : nat_lt 0 (bare_underscores (b ∷ (body ++ rest))) ≡ false = rw letter refl in
     let blank = no_blank b (omega arith) in
     rw (none, blank, head, run_is is_name_byte body rest all.1 stops) refl
 
@@ -136,7 +136,7 @@ number_is : (bytes rest : List ℕ) → is_integer bytes ≡ true → IsLongest 
     → number_next (bytes ++ rest) ≡ cond (nat_lt greatest_literal (value bytes)) (Refused LiteralTooLarge) (Found (length bytes) (Some Integer))
 number_is bytes rest e longest unreal =
     let stops = integer_stops bytes rest e longest in
-    let tail : is_real_tail (drop (run is_digit (bytes ++ rest)) (bytes ++ rest)) ≡ false = ap is_real_tail (tail_behind bytes rest e stops) ∙ unreal_tail bytes rest e unreal in
+    let tail : is_real_tail (drop (prefix_len is_digit (bytes ++ rest)) (bytes ++ rest)) ≡ false = ap is_real_tail (tail_behind bytes rest e stops) ∙ unreal_tail bytes rest e unreal in
     let counted = run_is is_digit bytes rest (integer_all bytes e) stops in
     let front = front_before bytes rest e stops in
     rw (tail, front, counted) refl
@@ -225,17 +225,17 @@ double_bare b c bs e =
 
 -- `_` alone is a longest token only where no letter follows its run
 wire_found : (rest : List ℕ) → IsLongest (95 ∷ []) rest → next_piece (95 ∷ rest) ≡ Found 1 (Some Sign)
-wire_found rest longest = go (begins is_letter (drop (run is_underscore rest) rest)) refl
+wire_found rest longest = go (begins is_letter (drop (prefix_len is_underscore rest) rest)) refl
   where
     longer : (front tail : List ℕ) → rest ≡ front ++ tail → is_name (95 ∷ front) ≡ true → ⊥
     longer [] tail e name = cc
     longer (c ∷ more) tail e name = let never = longest Name c more tail e in cc
 
-    go : (v : Bool) → begins is_letter (drop (run is_underscore rest) rest) ≡ v → next_piece (95 ∷ rest) ≡ Found 1 (Some Sign)
-    go true e = absurd (longer (take (run is_name_byte rest) rest) (drop (run is_name_byte rest) rest) (sym (take-append-drop (run is_name_byte rest) rest)) (name_run (95 ∷ rest) e))
+    go : (v : Bool) → begins is_letter (drop (prefix_len is_underscore rest) rest) ≡ v → next_piece (95 ∷ rest) ≡ Found 1 (Some Sign)
+    go true e = absurd (longer (take (prefix_len is_name_byte rest) rest) (drop (prefix_len is_name_byte rest) rest) (sym (take-append-drop (prefix_len is_name_byte rest) rest)) (subst (λ n. is_name (take n (95 ∷ rest)) ≡ true) (prefix_len-passes is_name_byte 95 rest refl) (name_run (95 ∷ rest) (subst (λ n. begins is_letter (drop n (95 ∷ rest)) ≡ true) (sym (prefix_len-passes is_underscore 95 rest refl)) e))))
     go false e =
-        let some : nat_lt 0 (suc (run is_underscore rest)) ≡ true = lt-ltb 0 (suc (run is_underscore rest)) (omega arith) in
-        rw (e, some) refl
+        let some : nat_lt 0 (suc (prefix_len is_underscore rest)) ≡ true = lt-ltb 0 (suc (prefix_len is_underscore rest)) (omega arith) in
+        rw (prefix_len-passes is_underscore 95 rest refl, e, some) refl
 
 slash_found : (rest : List ℕ) → begins_comment (47 ∷ rest) ≡ false → slash_next rest ≡ Found 1 (Some Sign)
 slash_found [] e = refl
@@ -304,11 +304,11 @@ piece_found bytes rest kind (longest_token {kind = k} e longest comment unreal s
 real_refused : (text : List ℕ) → BeginsReal text → next_piece text ≡ Refused RealLiteral
 real_refused text h = go (real_parts text h)
   where
-    digits : (t : List ℕ) → begins is_digit t ≡ true → is_real_tail (drop (run is_digit t) t) ≡ true → next_piece t ≡ Refused RealLiteral
+    digits : (t : List ℕ) → begins is_digit t ≡ true → is_real_tail (drop (prefix_len is_digit t) t) ≡ true → next_piece t ≡ Refused RealLiteral
     digits [] d e = absurd cc
     digits (b ∷ bs) d e = digit_is b bs d ∙ rw e refl
 
-    go : (((d : ℕ) × (rest : List ℕ) × (text ≡ 46 ∷ d ∷ rest) × (is_digit d ≡ true)) ⊎ ((begins is_digit text ≡ true) × (is_real_tail (drop (run is_digit text) text) ≡ true))) → next_piece text ≡ Refused RealLiteral
+    go : (((d : ℕ) × (rest : List ℕ) × (text ≡ 46 ∷ d ∷ rest) × (is_digit d ≡ true)) ⊎ ((begins is_digit text ≡ true) × (is_real_tail (drop (prefix_len is_digit text) text) ≡ true))) → next_piece text ≡ Refused RealLiteral
     go (inl (d, rest, is, digit)) = subst (λ t. next_piece t ≡ Refused RealLiteral) (sym is) (rw digit refl)
     go (inr (d, e)) = digits text d e
 

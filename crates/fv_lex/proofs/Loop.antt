@@ -17,9 +17,11 @@ use Rattle.fv_lex.specs.Spans.{token_in, tokens_in, IsWithin, new_symbols, new_s
 use Rattle.fv_lex.specs.Pieces.{IsPiece, longest_token}
 use Rattle.fv_lex.specs.Bytes.{is_letter, is_underscore, begins}
 use Rattle.fv_lex.specs.Symbols.{symbol_of}
-use Rattle.fv_lex.specs.Steps.{run, wires, IsBare, next_piece}
+use Rattle.std.specs.List.{prefix_len}
+use Rattle.fv_lex.specs.Steps.{bare_underscores, IsBare, next_piece}
 use Rattle.fv_lex.specs.Cuts.{deepest, depth_after, Cut, Cuts, nothing_more, piece_first, Ends, whole, faulty, too_deep, first_place, place_after, token_of, tokens_of, end_of, refusal_at, answer_of, longest_text, Has, cut}
 use Rattle.fv_lex.proofs.TokenLists.{length-tokens_in}
+use Rattle.fv_lex.proofs.Runs.{prefix_len-passes}
 use Rattle.fv_lex.proofs.Sound.{At, Told, sound, wires_some, run_head}
 
 -- ---- a piece at the end of a cut
@@ -145,33 +147,33 @@ pub behind_of : (text rest after : List ℕ) (start n : ℕ) → rest ≡ drop s
 behind_of text rest after start n back e = e ∙ ap (drop n) back ∙ drop-drop n start text
 
 -- ---- what is known of `_`
-wires_value : (text : List ℕ) → begins is_letter (drop (run is_underscore text) text) ≡ false → wires text ≡ run is_underscore text
+wires_value : (text : List ℕ) → begins is_letter (drop (prefix_len is_underscore text) text) ≡ false → bare_underscores text ≡ prefix_len is_underscore text
 wires_value text e = rw e refl
 
-wires_next : (b : ℕ) (bs : List ℕ) → nat_lt 0 (wires (b ∷ bs)) ≡ true → wires (b ∷ bs) ≡ suc (wires bs)
+wires_next : (b : ℕ) (bs : List ℕ) → nat_lt 0 (bare_underscores (b ∷ bs)) ≡ true → bare_underscores (b ∷ bs) ≡ suc (bare_underscores bs)
 wires_next b bs e =
     let facts = wires_some (b ∷ bs) e in
     let under = run_head is_underscore b bs facts.1 in
-    let counted : run is_underscore (b ∷ bs) ≡ suc (run is_underscore bs) = rw under refl in
-    let letter : begins is_letter (drop (run is_underscore bs) bs) ≡ false = ap (λ k. begins is_letter (drop k (b ∷ bs))) (sym counted) ∙ facts.0 in
+    let counted : prefix_len is_underscore (b ∷ bs) ≡ suc (prefix_len is_underscore bs) = prefix_len-passes is_underscore b bs under in
+    let letter : begins is_letter (drop (prefix_len is_underscore bs) bs) ≡ false = ap (λ k. begins is_letter (drop k (b ∷ bs))) (sym counted) ∙ facts.0 in
     wires_value (b ∷ bs) facts.0 ∙ counted ∙ ap suc (sym (wires_value bs letter))
 
-wire_first : (b : ℕ) (bs : List ℕ) (n : ℕ) (kind : Option Kind) → nat_lt 0 (wires (b ∷ bs)) ≡ true → next_piece (b ∷ bs) ≡ Found n kind → n ≡ 1
+wire_first : (b : ℕ) (bs : List ℕ) (n : ℕ) (kind : Option Kind) → nat_lt 0 (bare_underscores (b ∷ bs)) ≡ true → next_piece (b ∷ bs) ≡ Found n kind → n ≡ 1
 wire_first b bs n kind e found =
     let first : next_piece (b ∷ bs) ≡ Found 1 (Some Sign) = rw e refl in
     let same : Found 1 (Some Sign) ≡ Found n kind = sym first ∙ found in
     cc
 
-pub bare_next : (rest after : List ℕ) (n bare : ℕ) (kind : Option Kind) → bare ≡ wires rest → next_piece rest ≡ Found n kind → after ≡ drop n rest → IsBare (bare - 1) after
+pub bare_next : (rest after : List ℕ) (n bare : ℕ) (kind : Option Kind) → bare ≡ bare_underscores rest → next_piece rest ≡ Found n kind → after ≡ drop n rest → IsBare (bare - 1) after
 bare_next [] after n bare kind e found back = λ more. absurd (omega arith)
 bare_next (b ∷ bs) after n bare kind e found back = λ more.
-    let above : 0 < wires (b ∷ bs) = omega arith in
-    let test = lt-ltb 0 (wires (b ∷ bs)) above in
+    let above : 0 < bare_underscores (b ∷ bs) = omega arith in
+    let test = lt-ltb 0 (bare_underscores (b ∷ bs)) above in
     let one = wire_first b bs n kind test found in
     let is : after ≡ bs = back ∙ ap (λ k. drop k (b ∷ bs)) one in
     let count = wires_next b bs test in
-    let less : bare - 1 ≡ wires bs = omega arith in
-    less ∙ ap wires (sym is)
+    let less : bare - 1 ≡ bare_underscores bs = omega arith in
+    less ∙ ap bare_underscores (sym is)
 
 -- ---- one turn of the loop
 pub reads_more : (text rest bytes after : List ℕ) (place next : Place) (depth inside : ℕ) (symbols grown : List Symbol) (spans more : List Span) (kind : Option Kind) (n start : ℕ)

@@ -1,7 +1,7 @@
 -- What the step finds is a piece, and what it refuses is a fault.
 use Rattle.std.proofs.Common.{◌≡◌, ℕ, zero, suc, ◌+◌, ◌<◌, ◌≤◌, Bool, true, false, cond, not, ◌&&◌, ◌||◌, List, [], ◌∷◌, ◌++◌, length, take, drop, Option, Some, None, refl, sym, ap, subst, ◌∙◌, arith, ◌⊎◌, inl, inr}
 use Rattle.std.specs.Prelude.{nat_eq, nat_lt, is_some}
-use Rattle.std.specs.List.{list_all}
+use Rattle.std.specs.List.{list_all, prefix_len}
 use Rattle.std.specs.Option.{option_map}
 use Rattle.std.proofs.lemmas.Bool.{ne_eqb, eqb-true, cond_both, ltb-true, ltb-false, and_parts, or_parts, or_cases}
 use Rattle.std.proofs.lemmas.List.{take-append-drop, take_at, drop_at}
@@ -13,8 +13,8 @@ use Rattle.fv_lex.specs.declared.next.Next.TheVariants.{End, Found, Refused}
 use Rattle.fv_lex.specs.Bytes.{is_blank, is_letter, is_digit, is_underscore, is_name_byte, is_quote, is_in_line, begins}
 use Rattle.fv_lex.specs.Symbols.{at_byte, singles, double, value}
 use Rattle.fv_lex.specs.Pieces.{is_name, is_integer, closes, is_token, IsLongest, BeginsNoToken, is_real_tail, BeginsReal, fraction, real, begins_comment, ends_line, has_close, greatest_literal, IsPiece, blank_byte, line_comment, block_comment, longest_token, IsFault, unclosed_text, unclosed_comment, real_literal, large_literal, bad_byte}
-use Rattle.fv_lex.specs.Steps.{run, to_quote, to_close, wires, found_or, number_next, slash_next, sign_next, first_next, next_piece}
-use Rattle.fv_lex.proofs.Runs.{Stops, list_all-run, run_stops, run_is, run_short, list_all_stops}
+use Rattle.fv_lex.specs.Steps.{to_quote, to_close, bare_underscores, found_or, number_next, slash_next, sign_next, first_next, next_piece}
+use Rattle.fv_lex.proofs.Runs.{Stops, prefix_len-cons, prefix_len-passes, list_all-prefix_len, run_stops, run_is, run_short, list_all_stops}
 use Rattle.fv_lex.proofs.Classes.{digit_range, letter_range, no_letter, no_digit, no_double, no_double_high, no_name, no_integer, no_text, no_sign, name_stops}
 
 -- so many bytes at the front of a text are a piece
@@ -49,14 +49,14 @@ pub integer_all : (digits : List ℕ) → is_integer digits ≡ true → list_al
 integer_all [] e = refl
 integer_all (d ∷ ds) e = e
 
-pub tail_behind : (digits rest : List ℕ) → is_integer digits ≡ true → Stops is_digit rest → drop (run is_digit (digits ++ rest)) (digits ++ rest) ≡ rest
-tail_behind digits rest e h = drop_at digits rest (run is_digit (digits ++ rest)) (sym (run_is is_digit digits rest (integer_all digits e) h))
+pub tail_behind : (digits rest : List ℕ) → is_integer digits ≡ true → Stops is_digit rest → drop (prefix_len is_digit (digits ++ rest)) (digits ++ rest) ≡ rest
+tail_behind digits rest e h = drop_at digits rest (prefix_len is_digit (digits ++ rest)) (sym (run_is is_digit digits rest (integer_all digits e) h))
 
-pub front_before : (digits rest : List ℕ) → is_integer digits ≡ true → Stops is_digit rest → take (run is_digit (digits ++ rest)) (digits ++ rest) ≡ digits
-front_before digits rest e h = take_at digits rest (run is_digit (digits ++ rest)) (sym (run_is is_digit digits rest (integer_all digits e) h))
+pub front_before : (digits rest : List ℕ) → is_integer digits ≡ true → Stops is_digit rest → take (prefix_len is_digit (digits ++ rest)) (digits ++ rest) ≡ digits
+front_before digits rest e h = take_at digits rest (prefix_len is_digit (digits ++ rest)) (sym (run_is is_digit digits rest (integer_all digits e) h))
 
 -- a real literal begins with `.` and a digit, or with digits behind which its tail stands
-pub real_parts : (text : List ℕ) → BeginsReal text → ((d : ℕ) × (rest : List ℕ) × (text ≡ 46 ∷ d ∷ rest) × (is_digit d ≡ true)) ⊎ ((begins is_digit text ≡ true) × (is_real_tail (drop (run is_digit text) text) ≡ true))
+pub real_parts : (text : List ℕ) → BeginsReal text → ((d : ℕ) × (rest : List ℕ) × (text ≡ 46 ∷ d ∷ rest) × (is_digit d ≡ true)) ⊎ ((begins is_digit text ≡ true) × (is_real_tail (drop (prefix_len is_digit text) text) ≡ true))
 real_parts text (fraction {d} {rest} e) = inl (d, rest, refl, e)
 real_parts text (real digits rest e t) = inr (first digits e, ap is_real_tail (tail_behind digits rest e (real_tail_stops rest t)) ∙ t)
   where
@@ -67,7 +67,7 @@ real_parts text (real digits rest e t) = inr (first digits e, ap is_real_tail (t
 pub no_real : (b : ℕ) (bs : List ℕ) → is_digit b ≡ false → (nat_eq b 46 && begins is_digit bs) ≡ false → BeginsReal (b ∷ bs) → ⊥
 no_real b bs d dot h = go (real_parts (b ∷ bs) h)
   where
-    go : (((e : ℕ) × (rest : List ℕ) × (b ∷ bs ≡ 46 ∷ e ∷ rest) × (is_digit e ≡ true)) ⊎ ((begins is_digit (b ∷ bs) ≡ true) × (is_real_tail (drop (run is_digit (b ∷ bs)) (b ∷ bs)) ≡ true))) → ⊥
+    go : (((e : ℕ) × (rest : List ℕ) × (b ∷ bs ≡ 46 ∷ e ∷ rest) × (is_digit e ≡ true)) ⊎ ((begins is_digit (b ∷ bs) ≡ true) × (is_real_tail (drop (prefix_len is_digit (b ∷ bs)) (b ∷ bs)) ≡ true))) → ⊥
     go (inl (e, rest, same, is)) =
         let head : b ≡ 46 = cc in
         let tail : bs ≡ e ∷ rest = cc in
@@ -88,15 +88,15 @@ underscore_byte b u = rw (eqb-true b 95 u) refl
 letter_byte : (b : ℕ) → is_letter b ≡ true → is_name_byte b ≡ true
 letter_byte b l = rw l refl
 
-name_run_case : (v : Bool) (b : ℕ) (bs : List ℕ) → is_underscore b ≡ v → (begins is_letter (drop (run is_underscore bs) bs) ≡ true → is_name (take (run is_name_byte bs) bs) ≡ true)
-    → begins is_letter (drop (cond v (suc (run is_underscore bs)) 0) (b ∷ bs)) ≡ true → is_name (take (run is_name_byte (b ∷ bs)) (b ∷ bs)) ≡ true
-name_run_case true b bs u ih h = rw (underscore_byte b u, u) (ih h)
-name_run_case false b bs u ih h = rw (letter_byte b h, u, h, list_all-run is_name_byte bs) refl
+name_run_case : (v : Bool) (b : ℕ) (bs : List ℕ) → is_underscore b ≡ v → (begins is_letter (drop (prefix_len is_underscore bs) bs) ≡ true → is_name (take (prefix_len is_name_byte bs) bs) ≡ true)
+    → begins is_letter (drop (cond v (suc (prefix_len is_underscore bs)) 0) (b ∷ bs)) ≡ true → is_name (take (prefix_len is_name_byte (b ∷ bs)) (b ∷ bs)) ≡ true
+name_run_case true b bs u ih h = rw (prefix_len-passes is_name_byte b bs (underscore_byte b u), u) (ih h)
+name_run_case false b bs u ih h = rw (prefix_len-passes is_name_byte b bs (letter_byte b h), u, h, list_all-prefix_len is_name_byte bs) refl
 
 -- the longest run of name bytes is a name, where a letter comes first behind its `_`
-pub name_run : (text : List ℕ) → begins is_letter (drop (run is_underscore text) text) ≡ true → is_name (take (run is_name_byte text) text) ≡ true
+pub name_run : (text : List ℕ) → begins is_letter (drop (prefix_len is_underscore text) text) ≡ true → is_name (take (prefix_len is_name_byte text) text) ≡ true
 name_run [] e = absurd cc
-name_run (b ∷ bs) e = name_run_case (is_underscore b) b bs refl (name_run bs) e
+name_run (b ∷ bs) e = name_run_case (is_underscore b) b bs refl (name_run bs) (subst (λ n. begins is_letter (drop n (b ∷ bs)) ≡ true) (prefix_len-cons is_underscore b bs) e)
 
 pub name_head : (b : ℕ) → (is_letter b || is_underscore b) ≡ true → (65 ≤ b) × (is_name_byte b ≡ true)
 name_head b e = go (or_cases (is_letter b) (is_underscore b) e)
@@ -111,11 +111,11 @@ name_longest b body rest h stops Integer c more tail e = no_integer b (body ++ c
 name_longest b body rest h stops Text c more tail e = no_text b (body ++ c ∷ more) (ne_eqb b 34 (λ q. omega arith))
 name_longest b body rest h stops Sign c more tail e = no_sign b body c more (λ d. no_double_high b d (omega arith))
 
-name_at : (b : ℕ) (bs : List ℕ) → 65 ≤ b → is_name_byte b ≡ true → begins is_letter (drop (run is_underscore (b ∷ bs)) (b ∷ bs)) ≡ true → At (b ∷ bs) (suc (run is_name_byte bs)) (Some Name)
+name_at : (b : ℕ) (bs : List ℕ) → 65 ≤ b → is_name_byte b ≡ true → begins is_letter (drop (prefix_len is_underscore (b ∷ bs)) (b ∷ bs)) ≡ true → At (b ∷ bs) (suc (prefix_len is_name_byte bs)) (Some Name)
 name_at b bs high byte letter =
-    let n = run is_name_byte bs in
+    let n = prefix_len is_name_byte bs in
     let short = run_short is_name_byte bs in
-    let counted : run is_name_byte (b ∷ bs) ≡ suc n = rw byte refl in
+    let counted : prefix_len is_name_byte (b ∷ bs) ≡ suc n = prefix_len-passes is_name_byte b bs byte in
     let name : is_name (b ∷ take n bs) ≡ true = ap (λ k. is_name (take k (b ∷ bs))) (sym counted) ∙ name_run (b ∷ bs) letter in
     record {
       piece = longest_token name (name_longest b (take n bs) (drop n bs) high (run_stops is_name_byte bs)) (no_comment b (take n bs ++ drop n bs) (ne_eqb b 47 (λ q. omega arith)))
@@ -125,21 +125,21 @@ name_at b bs high byte letter =
     }
 
 -- ---- `_` that no letter follows
-prefix_case : (v : Bool) (b : ℕ) (bs ms : List ℕ) → is_underscore b ≡ v → (begins is_letter (drop (run is_underscore bs) bs) ≡ false → is_name ms ≡ false)
-    → begins is_letter (drop (cond v (suc (run is_underscore bs)) 0) (b ∷ bs)) ≡ false → is_name (b ∷ ms) ≡ false
+prefix_case : (v : Bool) (b : ℕ) (bs ms : List ℕ) → is_underscore b ≡ v → (begins is_letter (drop (prefix_len is_underscore bs) bs) ≡ false → is_name ms ≡ false)
+    → begins is_letter (drop (cond v (suc (prefix_len is_underscore bs)) 0) (b ∷ bs)) ≡ false → is_name (b ∷ ms) ≡ false
 prefix_case true b bs ms u ih h = rw u (ih h)
 prefix_case false b bs ms u ih h = rw (u, h) refl
 
 -- no name begins with `_` that no letter follows
-pub no_name_prefix : (text : List ℕ) → begins is_letter (drop (run is_underscore text) text) ≡ false → (more tail : List ℕ) → text ≡ more ++ tail → is_name more ≡ false
+pub no_name_prefix : (text : List ℕ) → begins is_letter (drop (prefix_len is_underscore text) text) ≡ false → (more tail : List ℕ) → text ≡ more ++ tail → is_name more ≡ false
 no_name_prefix text h [] tail e = refl
 no_name_prefix [] h (m ∷ ms) tail e = absurd cc
 no_name_prefix (b ∷ bs) h (m ∷ ms) tail e =
     let same : b ≡ m = cc in
     let behind : bs ≡ ms ++ tail = cc in
-    subst (λ k. is_name (k ∷ ms) ≡ false) same (prefix_case (is_underscore b) b bs ms refl (λ f. no_name_prefix bs f ms tail behind) h)
+    subst (λ k. is_name (k ∷ ms) ≡ false) same (prefix_case (is_underscore b) b bs ms refl (λ f. no_name_prefix bs f ms tail behind) (subst (λ n. begins is_letter (drop n (b ∷ bs)) ≡ false) (prefix_len-cons is_underscore b bs) h))
 
-pub wire_longest : (rest : List ℕ) → begins is_letter (drop (run is_underscore (95 ∷ rest)) (95 ∷ rest)) ≡ false → IsLongest (95 ∷ []) rest
+pub wire_longest : (rest : List ℕ) → begins is_letter (drop (prefix_len is_underscore (95 ∷ rest)) (95 ∷ rest)) ≡ false → IsLongest (95 ∷ []) rest
 wire_longest rest h Name c more tail e = no_name_prefix (95 ∷ rest) h (95 ∷ c ∷ more) tail (ap (λ r. 95 ∷ r) e)
 wire_longest rest h Integer c more tail e = refl
 wire_longest rest h Text c more tail e = refl
@@ -150,21 +150,21 @@ wires_case : (v : Bool) (n : ℕ) → nat_lt 0 (cond v 0 n) ≡ true → (v ≡ 
 wires_case true n e = absurd cc
 wires_case false n e = (refl, ltb-true 0 n e)
 
-pub wires_some : (text : List ℕ) → nat_lt 0 (wires text) ≡ true → (begins is_letter (drop (run is_underscore text) text) ≡ false) × (0 < run is_underscore text)
-wires_some text e = wires_case (begins is_letter (drop (run is_underscore text) text)) (run is_underscore text) e
+pub wires_some : (text : List ℕ) → nat_lt 0 (bare_underscores text) ≡ true → (begins is_letter (drop (prefix_len is_underscore text) text) ≡ false) × (0 < prefix_len is_underscore text)
+wires_some text e = wires_case (begins is_letter (drop (prefix_len is_underscore text) text)) (prefix_len is_underscore text) e
 
 head_case : (p : ℕ → Bool) (v : Bool) (b n : ℕ) → p b ≡ v → 0 < cond v (suc n) 0 → p b ≡ true
 head_case p true b n e h = e
 head_case p false b n e h = absurd (omega arith)
 
-pub run_head : (p : ℕ → Bool) (b : ℕ) (bs : List ℕ) → 0 < run p (b ∷ bs) → p b ≡ true
-run_head p b bs h = head_case p (p b) b (run p bs) refl h
+pub run_head : (p : ℕ → Bool) (b : ℕ) (bs : List ℕ) → 0 < prefix_len p (b ∷ bs) → p b ≡ true
+run_head p b bs h = head_case p (p b) b (prefix_len p bs) refl (subst (λ n. 0 < n) (prefix_len-cons p b bs) h)
 
-wire_at : (b : ℕ) (bs : List ℕ) → nat_lt 0 (wires (b ∷ bs)) ≡ true → At (b ∷ bs) 1 (Some Sign)
+wire_at : (b : ℕ) (bs : List ℕ) → nat_lt 0 (bare_underscores (b ∷ bs)) ≡ true → At (b ∷ bs) 1 (Some Sign)
 wire_at b bs e =
     let facts = wires_some (b ∷ bs) e in
     let is : b ≡ 95 = eqb-true b 95 (run_head is_underscore b bs facts.1) in
-    let letter : begins is_letter (drop (run is_underscore (95 ∷ bs)) (95 ∷ bs)) ≡ false = subst (λ k. begins is_letter (drop (run is_underscore (k ∷ bs)) (k ∷ bs)) ≡ false) is facts.0 in
+    let letter : begins is_letter (drop (prefix_len is_underscore (95 ∷ bs)) (95 ∷ bs)) ≡ false = subst (λ k. begins is_letter (drop (prefix_len is_underscore (k ∷ bs)) (k ∷ bs)) ≡ false) is facts.0 in
     subst (λ k. At (k ∷ bs) 1 (Some Sign)) (sym is)
     (record { piece = longest_token refl (wire_longest bs letter) refl (no_real 95 bs refl refl) (λ q. absurd cc); some = omega arith; fits = omega arith })
 
@@ -176,10 +176,10 @@ digits_longest b body rest d stops Text c more tail e = let r = digit_range b d 
 digits_longest b body rest d stops Sign c more tail e = let r = digit_range b d in no_sign b body c more (λ k. no_double b k (omega arith) (omega arith))
 
 -- no real literal begins where digits stand before what makes none of them
-pub no_real_digits : (b : ℕ) (bs : List ℕ) → is_digit b ≡ true → is_real_tail (drop (run is_digit (b ∷ bs)) (b ∷ bs)) ≡ false → BeginsReal (b ∷ bs) → ⊥
+pub no_real_digits : (b : ℕ) (bs : List ℕ) → is_digit b ≡ true → is_real_tail (drop (prefix_len is_digit (b ∷ bs)) (b ∷ bs)) ≡ false → BeginsReal (b ∷ bs) → ⊥
 no_real_digits b bs d tail h = go (real_parts (b ∷ bs) h)
   where
-    go : (((e : ℕ) × (rest : List ℕ) × (b ∷ bs ≡ 46 ∷ e ∷ rest) × (is_digit e ≡ true)) ⊎ ((begins is_digit (b ∷ bs) ≡ true) × (is_real_tail (drop (run is_digit (b ∷ bs)) (b ∷ bs)) ≡ true))) → ⊥
+    go : (((e : ℕ) × (rest : List ℕ) × (b ∷ bs ≡ 46 ∷ e ∷ rest) × (is_digit e ≡ true)) ⊎ ((begins is_digit (b ∷ bs) ≡ true) × (is_real_tail (drop (prefix_len is_digit (b ∷ bs)) (b ∷ bs)) ≡ true))) → ⊥
     go (inl (e, rest, same, is)) =
         let head : b ≡ 46 = cc in
         let r = digit_range b d in
@@ -189,12 +189,12 @@ no_real_digits b bs d tail h = go (real_parts (b ∷ bs) h)
 number_told : (b : ℕ) (bs : List ℕ) → is_digit b ≡ true → Told (b ∷ bs) (number_next (b ∷ bs))
 number_told b bs d =
     let text : List ℕ = b ∷ bs in
-    let n = run is_digit text in
-    let counted : n ≡ suc (run is_digit bs) = rw d refl in
+    let n = prefix_len is_digit text in
+    let counted : n ≡ suc (prefix_len is_digit bs) = prefix_len-passes is_digit b bs d in
     let short = run_short is_digit text in
-    let all : is_integer (take n text) ≡ true = rw (counted, d, list_all-run is_digit bs) refl in
+    let all : is_integer (take n text) ≡ true = rw (counted, d, list_all-prefix_len is_digit bs) refl in
     let whole : take n text ++ drop n text ≡ text = take-append-drop n text in
-    let longest : IsLongest (take n text) (drop n text) = subst (λ k. IsLongest (take k text) (drop n text)) (sym counted) (digits_longest b (take (run is_digit bs) bs) (drop n text) d (run_stops is_digit text)) in
+    let longest : IsLongest (take n text) (drop n text) = subst (λ k. IsLongest (take k text) (drop n text)) (sym counted) (digits_longest b (take (prefix_len is_digit bs) bs) (drop n text) d (run_stops is_digit text)) in
     cond_both (is_real_tail (drop n text)) _ _ (Told text)
     (λ yes. real_literal (subst (λ t. BeginsReal t) whole (real (take n text) (drop n text) all yes)))
     (λ no.
@@ -308,13 +308,13 @@ line_ends (b ∷ rest) h = go (nat_eq b 10) h
     go true e = refl
     go false e = absurd cc
 
-line_at : (cs : List ℕ) → At (47 ∷ 47 ∷ cs) (2 + run is_in_line cs) None
+line_at : (cs : List ℕ) → At (47 ∷ 47 ∷ cs) (2 + prefix_len is_in_line cs) None
 line_at cs =
-    let n = run is_in_line cs in
+    let n = prefix_len is_in_line cs in
     let short = run_short is_in_line cs in
     let two : 2 + n ≡ suc (suc n) = omega arith in
     subst (λ k. At (47 ∷ 47 ∷ cs) k None) (sym two)
-    (record { piece = line_comment (list_all-run is_in_line cs) (line_ends (drop n cs) (run_stops is_in_line cs)); some = omega arith; fits = omega arith })
+    (record { piece = line_comment (list_all-prefix_len is_in_line cs) (line_ends (drop n cs) (run_stops is_in_line cs)); some = omega arith; fits = omega arith })
 
 pub slash_longest : (rest : List ℕ) → IsLongest (47 ∷ []) rest
 slash_longest rest Name c more tail e = refl
@@ -329,7 +329,7 @@ slash_told : (bs : List ℕ) → Told (47 ∷ bs) (slash_next bs)
 slash_told [] = slash_at [] refl
 slash_told (c ∷ cs) =
     cond_both (nat_eq c 47) _ _ (Told (47 ∷ c ∷ cs))
-    (λ yes. subst (λ k. At (47 ∷ k ∷ cs) (2 + run is_in_line cs) None) (sym (eqb-true c 47 yes)) (line_at cs))
+    (λ yes. subst (λ k. At (47 ∷ k ∷ cs) (2 + prefix_len is_in_line cs) None) (sym (eqb-true c 47 yes)) (line_at cs))
     (λ no. cond_both (nat_eq c 42) _ _ (Told (47 ∷ c ∷ cs))
     (λ yes. subst (λ k. Told (47 ∷ k ∷ cs) (found_or (λ n. Found (2 + n) None) (to_close cs))) (sym (eqb-true c 42 yes)) (block_told cs (to_close cs) (commented cs)))
     (λ none. slash_at (c ∷ cs) (rw (no, none) refl)))
@@ -406,17 +406,17 @@ begins_from true n few some = refl
 begins_from false n few some = absurd (omega arith)
 
 -- where a letter or `_` stands, and no `_` that no letter follows, a letter follows
-letter_comes : (b : ℕ) (bs : List ℕ) → (is_letter b || is_underscore b) ≡ true → nat_lt 0 (wires (b ∷ bs)) ≡ false → begins is_letter (drop (run is_underscore (b ∷ bs)) (b ∷ bs)) ≡ true
-letter_comes b bs head none = go (is_underscore b) refl (ltb-false 0 (wires (b ∷ bs)) none)
+letter_comes : (b : ℕ) (bs : List ℕ) → (is_letter b || is_underscore b) ≡ true → nat_lt 0 (bare_underscores (b ∷ bs)) ≡ false → begins is_letter (drop (prefix_len is_underscore (b ∷ bs)) (b ∷ bs)) ≡ true
+letter_comes b bs head none = go (is_underscore b) refl (ltb-false 0 (bare_underscores (b ∷ bs)) none)
   where
-    go : (v : Bool) → is_underscore b ≡ v → wires (b ∷ bs) ≤ 0 → begins is_letter (drop (run is_underscore (b ∷ bs)) (b ∷ bs)) ≡ true
+    go : (v : Bool) → is_underscore b ≡ v → bare_underscores (b ∷ bs) ≤ 0 → begins is_letter (drop (prefix_len is_underscore (b ∷ bs)) (b ∷ bs)) ≡ true
     go true u few =
-        let counted : run is_underscore (b ∷ bs) ≡ suc (run is_underscore bs) = rw u refl in
-        let some : 0 < run is_underscore (b ∷ bs) = omega arith in
-        begins_from (begins is_letter (drop (run is_underscore (b ∷ bs)) (b ∷ bs))) (run is_underscore (b ∷ bs)) few some
+        let counted : prefix_len is_underscore (b ∷ bs) ≡ suc (prefix_len is_underscore bs) = prefix_len-passes is_underscore b bs u in
+        let some : 0 < prefix_len is_underscore (b ∷ bs) = omega arith in
+        begins_from (begins is_letter (drop (prefix_len is_underscore (b ∷ bs)) (b ∷ bs))) (prefix_len is_underscore (b ∷ bs)) few some
     go false u few = rw u (letter_left b head u)
 
-first_told : (b : ℕ) (bs : List ℕ) → nat_lt 0 (wires (b ∷ bs)) ≡ false → Told (b ∷ bs) (first_next b bs)
+first_told : (b : ℕ) (bs : List ℕ) → nat_lt 0 (bare_underscores (b ∷ bs)) ≡ false → Told (b ∷ bs) (first_next b bs)
 first_told b bs none =
     let Q : Next → Type 0 = Told (b ∷ bs) in
     cond_both (is_blank b) _ _ Q (λ yes. record { piece = blank_byte yes; some = omega arith; fits = omega arith })
@@ -432,4 +432,4 @@ first_told b bs none =
 -- what the step says of a text is so
 pub sound : (text : List ℕ) → Told text (next_piece text)
 sound [] = refl
-sound (b ∷ bs) = cond_both (nat_lt 0 (wires (b ∷ bs))) _ _ (Told (b ∷ bs)) (λ yes. wire_at b bs yes) (λ no. first_told b bs no)
+sound (b ∷ bs) = cond_both (nat_lt 0 (bare_underscores (b ∷ bs))) _ _ (Told (b ∷ bs)) (λ yes. wire_at b bs yes) (λ no. first_told b bs no)

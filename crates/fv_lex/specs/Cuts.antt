@@ -5,26 +5,28 @@ use Rattle.fv_lex.specs.declared.token.Kind.{Kind}
 use Rattle.fv_lex.specs.declared.token.Place.{Place}
 use Rattle.fv_lex.specs.declared.refusal.Fault.{Fault}
 use Rattle.fv_lex.specs.declared.refusal.Fault.TheVariants as faults
+use Rattle.fv_lex.specs.declared.lexer.TheConstants.{LONGEST_TEXT, DEEPEST_NESTING}
 use Rattle.fv_lex.specs.declared.refusal.LexRefusal.{LexRefusal}
 use Rattle.fv_lex.specs.declared.refusal.LexRefusal.TheVariants as refusals
 use Rattle.fv_lex.specs.Token.{Token, Lexed}
 use Rattle.fv_lex.specs.Symbols.{symbol_of}
 use Rattle.fv_lex.specs.Pieces.{IsPiece, IsFault}
+use Rattle.fv_lex.specs.Bytes.{line_feed, open_bracket, close_bracket, open_brace, close_brace}
 
 -- ---- brackets
 
 -- how many brackets may be open at once
 abbrev pub deepest : ℕ
-deepest = 128
+deepest = DEEPEST_NESTING
 
 -- How many brackets are open behind a piece: one more behind `(` or `{`, one less, but not below 0, behind `)` or `}`.
 abbrev pub depth_after : ℕ → List ℕ → ℕ
 depth_after depth [] = depth
 depth_after depth (b ∷ []) =
-    if nat_eq b 40 then suc depth
-    else (if nat_eq b 123 then suc depth
-    else (if nat_eq b 41 then depth - 1
-    else (if nat_eq b 125 then depth - 1 else depth)))
+    if nat_eq b open_bracket then suc depth
+    else (if nat_eq b open_brace then suc depth
+    else (if nat_eq b close_bracket then depth - 1
+    else (if nat_eq b close_brace then depth - 1 else depth)))
 depth_after depth (b ∷ c ∷ bs) = depth
 
 -- ---- cuts
@@ -48,13 +50,15 @@ pub data Ends : List ℕ → ℕ → Option Fault → Type 0 where
 
 -- ---- places and tokens
 
+-- where a text begins: lines and columns count from 1 (this project's profile)
 abbrev pub first_place : Place
 first_place = record { line = 1; column = 1 }
 
 -- A line ends behind a line feed, and a column is one byte.
 abbrev pub next_place : Place → ℕ → Place
-next_place place b = if nat_eq b 10 then record { line = place.line + 1; column = 1 } else record { line = place.line; column = place.column + 1 }
+next_place place b = if nat_eq b line_feed then record { line = place.line + 1; column = 1 } else record { line = place.line; column = place.column + 1 }
 
+-- the place behind these bytes, from a place on (this project's profile)
 abbrev pub place_after : Place → List ℕ → Place
 place_after place [] = place
 place_after place (b ∷ bs) = place_after (next_place place b) bs
@@ -64,16 +68,19 @@ abbrev pub token_of : ℕ → Place → List ℕ → Option Kind → List Token
 token_of n place bytes None = []
 token_of n place bytes (Some kind) = record { symbol = symbol_of n kind bytes; kind = kind; text = bytes; place = place } ∷ []
 
+-- the tokens of a cut, from a number and a place on (this project's profile)
 abbrev pub tokens_of : ℕ → Place → List Cut → List Token
 tokens_of n place [] = []
 tokens_of n place (c ∷ cuts) = token_of n place c.bytes c.kind ++ tokens_of (n + length (token_of n place c.bytes c.kind)) (place_after place c.bytes) cuts
 
+-- the place behind a cut, from a place on (this project's profile)
 abbrev pub end_of : Place → List Cut → Place
 end_of place [] = place
 end_of place (c ∷ cuts) = end_of (place_after place c.bytes) cuts
 
 -- ---- answers
 
+-- what refuses a text that has a fault at a place (this project's profile)
 abbrev pub refusal_at : Place → Fault → LexRefusal
 refusal_at place faults.BadByte = refusals.BadByte place.line place.column
 refusal_at place faults.Unclosed = refusals.Unclosed place.line place.column
@@ -88,7 +95,7 @@ answer_of cuts (Some fault) = Err (refusal_at (end_of first_place cuts) fault)
 
 -- how long a text may be
 abbrev pub longest_text : ℕ
-longest_text = 1048576
+longest_text = LONGEST_TEXT
 
 -- What a text has: its tokens, or the first refusal.
 pub data Has : List ℕ → Result Lexed LexRefusal → Type 0 where

@@ -22,6 +22,7 @@ tokens_in text [] spans = []
 tokens_in text (s ∷ symbols) [] = []
 tokens_in text (s ∷ symbols) (p ∷ spans) = token_in text s p ∷ tokens_in text symbols spans
 
+-- the tokens that a list of spans stands for (this project's profile)
 abbrev pub lexed_in : Inside → Lexed
 lexed_in t = record { tokens = tokens_in t.text.now t.symbols.items t.spans.items; end = t.end }
 

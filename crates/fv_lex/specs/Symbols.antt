@@ -6,6 +6,7 @@ use Rattle.fv_lex.specs.declared.token.Kind.{Kind}
 use Rattle.fv_lex.specs.declared.token.Kind.TheVariants as kinds
 use Rattle.fv_lex.specs.declared.token.Symbol.{Symbol}
 use Rattle.fv_lex.specs.declared.token.Symbol.TheVariants as symbols
+use Rattle.fv_lex.specs.Bytes.{open_bracket, close_bracket, star, plus, minus, dot, slash, less, equals, greater, underscore, open_brace, close_brace}
 
 -- what stands beside a byte in a table
 abbrev pub at_byte : {A : Type 0} → List (ℕ × A) → ℕ → Option A
@@ -20,32 +21,32 @@ at_word (e ∷ es) word = if bytes_eq word e.0 then Some e.1 else at_word es wor
 -- the signs of one byte: _ ! , : ~ + - * / % & | < > @ ' ( ) { } = ; . \ ^
 abbrev pub singles : List (ℕ × Symbol)
 singles =
-    (95, symbols.Underscore) ∷ (33, symbols.Exclamation) ∷ (44, symbols.Comma) ∷ (58, symbols.Colon) ∷ (126, symbols.Tilde) ∷
-    (43, symbols.Plus) ∷ (45, symbols.Minus) ∷ (42, symbols.Times) ∷ (47, symbols.Divide) ∷ (37, symbols.Percent) ∷
-    (38, symbols.Ampersand) ∷ (124, symbols.Bar) ∷ (60, symbols.Less) ∷ (62, symbols.Greater) ∷ (64, symbols.At) ∷
-    (39, symbols.Tick) ∷ (40, symbols.Open) ∷ (41, symbols.Close) ∷ (123, symbols.OpenBrace) ∷ (125, symbols.CloseBrace) ∷
-    (61, symbols.Equals) ∷ (59, symbols.Semicolon) ∷ (46, symbols.Dot) ∷ (92, symbols.Backslash) ∷ (94, symbols.Caret) ∷ []
+    (underscore, symbols.Underscore) ∷ (33, symbols.Exclamation) ∷ (44, symbols.Comma) ∷ (58, symbols.Colon) ∷ (126, symbols.Tilde) ∷
+    (plus, symbols.Plus) ∷ (minus, symbols.Minus) ∷ (star, symbols.Times) ∷ (slash, symbols.Divide) ∷ (37, symbols.Percent) ∷
+    (38, symbols.Ampersand) ∷ (124, symbols.Bar) ∷ (less, symbols.Less) ∷ (greater, symbols.Greater) ∷ (64, symbols.At) ∷
+    (39, symbols.Tick) ∷ (open_bracket, symbols.Open) ∷ (close_bracket, symbols.Close) ∷ (open_brace, symbols.OpenBrace) ∷ (close_brace, symbols.CloseBrace) ∷
+    (equals, symbols.Equals) ∷ (59, symbols.Semicolon) ∷ (dot, symbols.Dot) ∷ (92, symbols.Backslash) ∷ (94, symbols.Caret) ∷ []
 
 -- the second bytes of signs, by the first: <: << <=
 abbrev pub after_less : List (ℕ × Symbol)
-after_less = (58, symbols.Split) ∷ (60, symbols.ShiftLeft) ∷ (61, symbols.LessEqual) ∷ []
+after_less = (58, symbols.Split) ∷ (less, symbols.ShiftLeft) ∷ (equals, symbols.LessEqual) ∷ []
 
 -- >> >=
 abbrev pub after_greater : List (ℕ × Symbol)
-after_greater = (62, symbols.ShiftRight) ∷ (61, symbols.GreaterEqual) ∷ []
+after_greater = (greater, symbols.ShiftRight) ∷ (equals, symbols.GreaterEqual) ∷ []
 
 -- == =>
 abbrev pub after_equals : List (ℕ × Symbol)
-after_equals = (61, symbols.EqualEqual) ∷ (62, symbols.Arrow) ∷ []
+after_equals = (equals, symbols.EqualEqual) ∷ (greater, symbols.Arrow) ∷ []
 
 -- :> and !=
 abbrev pub double : ℕ → ℕ → Option Symbol
 double b c =
-    if nat_eq b 60 then at_byte after_less c
-    else (if nat_eq b 62 then at_byte after_greater c
-    else (if nat_eq b 61 then at_byte after_equals c
-    else (if nat_eq b 58 then at_byte ((62, symbols.Merge) ∷ []) c
-    else (if nat_eq b 33 then at_byte ((61, symbols.NotEqual) ∷ []) c
+    if nat_eq b less then at_byte after_less c
+    else (if nat_eq b greater then at_byte after_greater c
+    else (if nat_eq b equals then at_byte after_equals c
+    else (if nat_eq b 58 then at_byte ((greater, symbols.Merge) ∷ []) c
+    else (if nat_eq b 33 then at_byte ((equals, symbols.NotEqual) ∷ []) c
     else None))))
 
 -- the sign that these bytes are
@@ -90,6 +91,7 @@ real_words =
     codes "exp" ∷ codes "exp10" ∷ codes "log" ∷ codes "log10" ∷ codes "pow" ∷ codes "sqrt" ∷ codes "fmod" ∷
     codes "remainder" ∷ codes "floor" ∷ codes "ceil" ∷ codes "rint" ∷ []
 
+-- a word of Faust that this profile has not (this project's profile)
 abbrev pub is_unsupported : List ℕ → Bool
 is_unsupported word = list_any (bytes_eq word) unsupported_forms || list_any (bytes_eq word) real_words
 
@@ -106,6 +108,7 @@ abbrev pub value_from : ℕ → List ℕ → ℕ
 value_from n [] = n
 value_from n (d ∷ ds) = value_from (n * 10 + (d - 48)) ds
 
+-- the number that digits are (this project's profile)
 abbrev pub value : List ℕ → ℕ
 value digits = value_from 0 digits
 

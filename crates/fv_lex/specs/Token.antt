@@ -16,14 +16,18 @@ pub record Lexed : Type 0 where
   pub tokens : List Token
   pub end : Place
 
+-- the tokens' symbols (this project's profile)
 abbrev pub symbols_of : List Token → List Symbol
 symbols_of tokens = map (λ t. t.symbol) tokens
 
+-- the tokens' kinds (this project's profile)
 abbrev pub kinds_of : List Token → List Kind
 kinds_of tokens = map (λ t. t.kind) tokens
 
+-- the tokens' bytes (this project's profile)
 abbrev pub texts_of : List Token → List (List ℕ)
 texts_of tokens = map (λ t. t.text) tokens
 
+-- the tokens' places (this project's profile)
 abbrev pub places_of : List Token → List Place
 places_of tokens = map (λ t. t.place) tokens

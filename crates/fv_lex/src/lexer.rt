@@ -1,3 +1,5 @@
+// Cutting a whole text into tokens.
+
 ghost use Rattle.std.specs.Prelude.{◌≡◌, ◌⊎◌, ◌+◌, ◌<◌, ◌≤◌, ◌^◌, ◌++◌, Result, length, IfOk, IfErr, OnOk, IsOkUnless, vec_len};
 ghost use Rattle.fv_lex.specs.declared.refusal.LexRefusal.{LexRefusal};
 ghost use Rattle.fv_lex.specs.declared.refusal.LexRefusal.TheVariants.{NoMemory};
@@ -5,18 +7,18 @@ ghost use Rattle.fv_lex.specs.Token.{Lexed};
 ghost use Rattle.fv_lex.specs.Spans.{new_symbols, new_spans, HasSymbol};
 ghost use Rattle.fv_lex.specs.Cuts.{depth_after, place_after, longest_text, Has, HasTokens, HasRefusal, HasAtMostOne, HasAtLeastOne};
 
-use crate::next::{Next, next_piece, wires};
+use crate::next::{Next, bare_underscores, next_piece};
 use crate::refusal::{Fault, LexRefusal, refusal_at};
 use crate::symbol::symbol_of;
 use crate::token::{Kind, Place, Span, Symbol, Tokens};
 use fv_base::Role;
 use std::alloc::Global;
 
-/// How many bytes a text may have.
-const MAX_BYTES: usize = 1048576;
+/// How many bytes a text may have (this project's profile).
+pub const LONGEST_TEXT: usize = 1048576;
 
-/// How many brackets may be open at once.
-const MAX_DEPTH: u32 = 128;
+/// How many brackets may be open at once (this project's profile).
+pub const DEEPEST_NESTING: u32 = 128;
 
 /// The place behind some bytes that begin at a place.
 fn place_after(place: Place, bytes: &[u8]) -> Place
@@ -97,7 +99,7 @@ fn cut<'a>(alloc: Global, text: &'a [u8]) -> Result<Tokens<'a>, LexRefusal>
     let mut known = 0;
     let mut rest = text;
     loop {
-        let bare = wires(rest, known);
+        let bare = bare_underscores(rest, known);
         match next_piece(rest, bare) {
             Next::End => {
                 return Ok(Tokens {
@@ -112,7 +114,7 @@ fn cut<'a>(alloc: Global, text: &'a [u8]) -> Result<Tokens<'a>, LexRefusal>
                 let start = text.len() - rest.len();
                 let (bytes, after) = rest.split_at(count);
                 let inside = depth_after(depth, bytes);
-                if inside > MAX_DEPTH {
+                if inside > DEEPEST_NESTING {
                     return Err(refusal_at(place, Fault::Nesting));
                 }
                 push_piece(&mut symbols, &mut spans, kind, bytes, start as u32, place)?;
@@ -135,7 +137,7 @@ pub fn tokens<'a>(alloc: Global, text: &'a [u8]) -> Result<Tokens<'a>, LexRefusa
     // And what the text has is the answer, where memory lasts.
     ensures only { (answer : Result Lexed LexRefusal) → Has text.now answer → (result ≡ answer) ⊎ (result ≡ Err NoMemory) }
 {
-    if text.len() > MAX_BYTES {
+    if text.len() > LONGEST_TEXT {
         return Err(LexRefusal::TextTooLong {
             role: Role::Program,
         });

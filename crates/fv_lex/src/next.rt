@@ -1,12 +1,14 @@
+// The next piece of a text.
+
 ghost use Rattle.std.specs.Prelude.{◌≡◌, ◌∷◌};
 ghost use Rattle.fv_lex.specs.Bytes.{is_name_byte, begins};
 ghost use Rattle.fv_lex.specs.Pieces.{is_exponent, is_real_tail};
-ghost use Rattle.fv_lex.specs.Steps.{wires, IsBare, number_next, slash_next, sign_next, first_next, next_piece};
+ghost use Rattle.fv_lex.specs.Steps.{bare_underscores, IsBare, number_next, slash_next, sign_next, first_next, next_piece};
 
 use crate::refusal::Fault;
 use crate::scan::{
     Class, begins_with_digit, begins_with_letter, is_blank, is_digit, is_in, is_letter, number,
-    run, to_close, to_quote,
+    prefix_len, to_close, to_quote,
 };
 use crate::symbol::{double, single};
 use crate::token::Kind;
@@ -22,20 +24,20 @@ pub(crate) enum Next {
 
 /// How many `_` stand at the front, if no letter follows them, and otherwise 0.
 /// That `bare` of them do may be known already, so that a long run is read once.
-pub(crate) fn wires(text: &[u8], bare: usize) -> usize
+pub(crate) fn bare_underscores(text: &[u8], bare: usize) -> usize
     requires { IsBare bare text.now }
-    ensures { result ≡ wires text.now }
+    ensures { result ≡ bare_underscores text.now }
 {
     if bare > 0 {
         return bare;
     }
-    let n = run(Class::Underscore, text);
+    let n = prefix_len(Class::Underscore, text);
     if begins_with_letter(&text[n..]) { 0 } else { n }
 }
 
 /// The first piece of a text, at the front of which so many `_` stand that no letter follows.
 pub(crate) fn next_piece(text: &[u8], bare: usize) -> Next
-    requires { bare ≡ wires text.now }
+    requires { bare ≡ bare_underscores text.now }
     ensures { result ≡ next_piece text.now }
 {
     match text {
@@ -57,7 +59,7 @@ fn first_next(b: u8, rest: &[u8], text: &[u8]) -> Next
     if is_blank(b) {
         Next::Found(1, None)
     } else if is_letter(b) || b == b'_' {
-        Next::Found(1 + run(Class::NameByte, rest), Some(Kind::Name))
+        Next::Found(1 + prefix_len(Class::NameByte, rest), Some(Kind::Name))
     } else if is_digit(b) {
         number_next(text)
     } else if b == b'"' {
@@ -77,7 +79,7 @@ fn first_next(b: u8, rest: &[u8], text: &[u8]) -> Next
 fn number_next(text: &[u8]) -> Next
     ensures { result ≡ number_next text.now }
 {
-    let n = run(Class::Digit, text);
+    let n = prefix_len(Class::Digit, text);
     let (digits, rest) = text.split_at(n);
     if is_real_tail(rest) {
         return Next::Refused(Fault::RealLiteral);
@@ -122,7 +124,7 @@ fn slash_next(rest: &[u8]) -> Next
     ensures { result ≡ slash_next rest.now }
 {
     match rest {
-        [b'/', body @ ..] => Next::Found(2 + run(Class::InLine, body), None),
+        [b'/', body @ ..] => Next::Found(2 + prefix_len(Class::InLine, body), None),
         [b'*', body @ ..] => match to_close(body) {
             None => Next::Refused(Fault::Unclosed),
             Some(n) => Next::Found(2 + n, None),

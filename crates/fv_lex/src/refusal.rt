@@ -1,3 +1,5 @@
+// Why a text has no tokens.
+
 ghost use Rattle.std.specs.Prelude.{◌≡◌};
 ghost use Rattle.fv_lex.specs.declared.refusal.LexRefusal.TheVariants.{NoMemory};
 ghost use Rattle.fv_lex.specs.Cuts.{refusal_at};

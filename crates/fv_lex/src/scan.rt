@@ -1,12 +1,14 @@
+// How many bytes of a kind stand at the front.
+
 ghost use Rattle.std.specs.Prelude.{◌≡◌, ◌==◌, ◌≤◌, ◌<◌, true, length, IfSome, MatchOption};
-ghost use Rattle.std.specs.List.{list_all};
+ghost use Rattle.std.specs.List.{list_all, prefix_len};
 ghost use Rattle.fv_lex.specs.Bytes.{is_blank, is_letter, is_digit, begins};
 ghost use Rattle.fv_lex.specs.Symbols.{value};
 ghost use Rattle.fv_lex.specs.Pieces.{greatest_literal};
-ghost use Rattle.fv_lex.specs.Steps.{is_in, run, to_quote, to_close};
+ghost use Rattle.fv_lex.specs.Steps.{is_in, to_quote, to_close};
 
-/// The greatest integer literal.
-const MAX_LITERAL: u64 = 2147483647;
+/// The greatest integer literal (this project's profile).
+pub(crate) const GREATEST_LITERAL: u64 = 2147483647;
 
 pub(crate) fn is_blank(b: u8) -> bool
     ensures { result ≡ is_blank b }
@@ -65,8 +67,8 @@ pub(crate) fn is_in(class: Class, b: u8) -> bool
 }
 
 /// How many bytes of a class stand at the front.
-pub(crate) fn run(class: Class, bytes: &[u8]) -> usize
-    ensures is { result ≡ run (is_in class) bytes.now }
+pub(crate) fn prefix_len(class: Class, bytes: &[u8]) -> usize
+    ensures is { result ≡ prefix_len (is_in class) bytes.now }
     ensures short { result ≤ length bytes.now }
 {
     let mut n = 0;
@@ -133,7 +135,7 @@ pub(crate) fn number(digits: &[u8]) -> Option<u32>
     let mut rest = digits;
     while let [b, after @ ..] = rest {
         n = n * 10 + u64::from(*b - b'0');
-        if n > MAX_LITERAL {
+        if n > GREATEST_LITERAL {
             return None;
         }
         rest = after;

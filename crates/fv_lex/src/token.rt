@@ -1,3 +1,5 @@
+// Tokens, and the list of those of a text.
+
 ghost use Rattle.std.specs.Prelude.{◌≡◌, ◌+◌, ◌<◌, ◌≤◌, Some, length, slice_get, take, drop};
 ghost use Rattle.fv_lex.specs.Carried.{AllCarry};
 ghost use Rattle.fv_lex.specs.Token.{symbols_of, kinds_of, texts_of, places_of};

@@ -2,16 +2,20 @@
 
 ghost use Rattle.std.specs.Prelude.{◌≡◌, ◌<◌, ◌≤◌, ℕ, [], length, drop, All};
 ghost use Rattle.fv_num.specs.Words.{argument};
-ghost use Rattle.fv_loopcode.specs.Lanes.{lane_of};
+ghost use Rattle.fv_loopcode.specs.Lanes.{lane_of, sample_at, HasSample};
 ghost use Rattle.fv_loopcode.specs.Code.{MayRun, ran, frame_of, IsWithin};
 ghost use Rattle.fv_pool.specs.Layout.{HaveRoom};
 ghost use Rattle.fv_pool.specs.Lengths.{lengths_of};
 ghost use Rattle.fv_pool.specs.Region.{cells_of};
+ghost use Rattle.fv_lines.specs.Seen.{lane_seen};
+ghost use Rattle.fv_lines.specs.Writer.{written_by, frames_of};
+ghost use Rattle.fv_lines_tests.specs.Lane.{lane_written};
 ghost use Rattle.fv_lines.specs.Solo.{AreLists, AreHeld, AreFramed, AreFull, held_at, history_at, opening_lanes};
 
 use fv_lines::{LaneShape, LaneState, LaneWriter, Solo};
 use fv_loopcode::{Code, run};
 use fv_pool::{Layout, Region};
+use std::thread::{Threads, join};
 
 /// Runs a code without inputs over all lanes in these cells. The cells and the states then hold what the code left.
 pub fn block_on(
@@ -95,5 +99,25 @@ pub fn seen_before_the_next_cut(region: &mut Region, layout: &Layout, shape: Lan
     if region.has_room(layout) {
         let _again = region.cut(layout);
     }
+    sample
+}
+
+/// One thread reads the first sample of a block in what was seen, while another writes the same lane further. That what
+/// is read is the sample of the lane as it was seen is what the reading closure promises.
+pub fn read_while_written<R: Threads + Sync>(rt: &R, writer: &mut LaneWriter<'_>, value: i32) -> i32
+    requires room { written_by writer.old < frames_of writer.old }
+    requires seen { HasSample (lane_written writer.old) 0 0 }
+{
+    let seen = writer.seen();
+    let (sample, ()) = join(
+        rt,
+        move || -> i32
+            requires { HasSample (lane_seen seen) 0 0 }
+            ensures { result ≡ sample_at (lane_seen seen.entry) 0 0 }
+        { seen.at(0, 0) },
+        ||
+            requires { written_by writer.now < frames_of writer.now }
+        { writer.append(value) },
+    );
     sample
 }

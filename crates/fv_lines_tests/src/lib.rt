@@ -7,4 +7,4 @@ mod caller;
 #[cfg(test)]
 mod writers;
 
-pub use caller::{block, block_on, seen_before_the_next_cut};
+pub use caller::{block, block_on, read_while_written, seen_before_the_next_cut};

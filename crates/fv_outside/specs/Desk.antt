@@ -16,6 +16,7 @@ abbrev pub newest : List ℕ → Option (List ℕ) → List File → Option (Lis
 newest name found [] = found
 newest name found (f ∷ fs) = newest name (if bytes_eq f.name name then Some f.bytes else found) fs
 
+-- the bytes of the file of this name, if there is one
 abbrev pub file_named : List ℕ → List File → Option (List ℕ)
 file_named name files = newest name None files
 
@@ -105,6 +106,7 @@ KeepsLeftBut role old new = IsTrue old.tells → (r : Role) → r ≢ role → n
 abbrev pub KeepsWritten : (old new : DeskState) → Type 0
 KeepsWritten old new = IsTrue old.tells → (r : Role) → new.written r ≡ old.written r
 
+-- those of every role but one are
 abbrev pub KeepsWrittenBut : Role → (old new : DeskState) → Type 0
 KeepsWrittenBut role old new = IsTrue old.tells → (r : Role) → r ≢ role → new.written r ≡ old.written r
 

@@ -12,6 +12,7 @@ entry_of reads lines block = record {
   lines = slice_range lines block.lines.start block.lines.end;
 }
 
+-- what a recorder was told, and the room that it has left, where it tells them
 abbrev pub told_of : (tells : Bool) → List KeptBlock → List Reads → List Line → (most_blocks most_lines : ℕ) → Option Told
 told_of tells blocks reads lines most_blocks most_lines =
     if tells then Some (record {
@@ -26,5 +27,6 @@ pub record IsAmong (reads lines : ℕ) (block : KeptBlock) : Type 0 where
   pub lines_rise : block.lines.start ≤ block.lines.end
   pub lines_end : block.lines.end ≤ lines
 
+-- each block's pairs and lines are among those that were kept
 abbrev pub IsRecorded : List KeptBlock → List Reads → List Line → Type 0
 IsRecorded blocks reads lines = All (IsAmong (length reads) (length lines)) blocks

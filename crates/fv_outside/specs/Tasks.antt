@@ -14,6 +14,7 @@ pub record Tasks : Type 0 where
 abbrev pub coded_reads : Coded Reads
 coded_reads = code_by (ℕ × ℕ) (coded× coded_ℕ coded_ℕ) (λ r. (r.reader, r.source)) (λ p. record { reader = p.0; source = p.1 }) (λ _. refl)
 
+-- as a tuple of its fields
 abbrev pub coded_tasks : Coded Tasks
 coded_tasks =
     code_by (ℕ × (ℕ × List Reads)) (coded× coded_ℕ (coded× coded_ℕ (coded_list coded_reads))) (λ t. (t.loops, (t.vectors, t.reads))) (λ p. record { loops = p.0; vectors = p.1.0; reads = p.1.1 }) (λ _. refl)

@@ -13,26 +13,27 @@ use Rattle.fv_parse.specs.declared.refusal.ParseRefusal.TheVariants as refusals
 use Rattle.fv_parse.specs.Trees.{Parsed, program_of}
 use Rattle.fv_parse.specs.Outcomes.{IsSupported, IsSpelled, IsAccepted, HasTree, HasRefusal, refused_tree, Finishes, IsOneRefusal, IsNotBoth, IsRefusedOrWants}
 use Rattle.fv_parse.specs.StaticErrors.{refused}
+use Rattle.fv_lex.specs.Cuts.{deepest}
 
 -- ---- no tree
-pub no_tree : ReadsAllSpelled → (l : Lexed) (at : List Symbol) → Nests 128 0 (symbols_of l.tokens) → program 128 (symbols_of l.tokens) ≡ Err at → (x : Spelled) → IsSpelled l x → ⊥
-no_tree reads l at nests e x s = let read = reads 128 (symbols_of l.tokens) x s nests in cc
+pub no_tree : ReadsAllSpelled → (l : Lexed) (at : List Symbol) → Nests deepest 0 (symbols_of l.tokens) → program deepest (symbols_of l.tokens) ≡ Err at → (x : Spelled) → IsSpelled l x → ⊥
+no_tree reads l at nests e x s = let read = reads deepest (symbols_of l.tokens) x s nests in cc
 
 -- ---- answers
-pub tree_answer : ReadsOnlySpelled → (l : Lexed) (x : Spelled) (r : Result Parsed ParseRefusal) → IsSupported l → program 128 (symbols_of l.tokens) ≡ Ok x → Finishes l x r → IfOk r (HasTree l)
+pub tree_answer : ReadsOnlySpelled → (l : Lexed) (x : Spelled) (r : Result Parsed ParseRefusal) → IsSupported l → program deepest (symbols_of l.tokens) ≡ Ok x → Finishes l x r → IfOk r (HasTree l)
 tree_answer sound l x (Ok p) supported read f = record {
   supported = supported;
   tokens = f.0;
-  spelled = subst (λ y. IsSpelled l y) (sym f.1) (sound 128 (symbols_of l.tokens) x read);
+  spelled = subst (λ y. IsSpelled l y) (sym f.1) (sound deepest (symbols_of l.tokens) x read);
   accepted = subst (λ y. refused l y ≡ None) (sym f.1) f.2;
 }
 tree_answer sound l x (Err e) supported read f = tt
 
-pub refusal_answer : ReadsOnlySpelled → (l : Lexed) (x : Spelled) (r : Result Parsed ParseRefusal) → IsSupported l → program 128 (symbols_of l.tokens) ≡ Ok x → Finishes l x r → IfErr r (λ e. (e ≡ refusals.NoMemory) ⊎ HasRefusal l e)
+pub refusal_answer : ReadsOnlySpelled → (l : Lexed) (x : Spelled) (r : Result Parsed ParseRefusal) → IsSupported l → program deepest (symbols_of l.tokens) ≡ Ok x → Finishes l x r → IfErr r (λ e. (e ≡ refusals.NoMemory) ⊎ HasRefusal l e)
 refusal_answer sound l x (Ok p) supported read f = tt
 refusal_answer sound l x (Err e) supported read f = elim f [
   | inl memory ↦ inl memory
-  | inr was ↦ inr (refused_tree supported (sound 128 (symbols_of l.tokens) x read) was)
+  | inr was ↦ inr (refused_tree supported (sound deepest (symbols_of l.tokens) x read) was)
 ]
 
 pub only_answer : SpelledOnce → (l : Lexed) (r : Result Parsed ParseRefusal) → IfOk r (HasTree l) → IfOk r (λ p. (x : Spelled) → IsSpelled l x → x ≡ program_of p)

@@ -7,7 +7,7 @@ use Rattle.fv_grammar.specs.Tree.{Tree as Spelled}
 use Rattle.fv_grammar.specs.Grammar.{SpelledOnce}
 use Rattle.fv_grammar.specs.Descent.{program}
 use Rattle.fv_grammar.specs.Laws.{ReadsOnlySpelled, ReadsAllSpelled}
-use Rattle.fv_lex.specs.Cuts.{HasTokens}
+use Rattle.fv_lex.specs.Cuts.{HasTokens, deepest}
 use Rattle.fv_parse.specs.Unsupported.{first_unsupported}
 use Rattle.fv_parse.proofs.Lexing.{tokens_nest}
 use Rattle.fv_parse.proofs.Endings.{no_tree}
@@ -60,16 +60,16 @@ by_error l x None s is e = inl (x, record { supported = s; spelled = is; accepte
 by_error l x (Some refusal) s is e = inr (refusal, refused_tree s is e)
 
 -- by what is read
-by_reading : ReadsOnlySpelled → ReadsAllSpelled → (text : List ℕ) (l : Lexed) (read : Result Spelled (List Symbol)) → StopsAtThePlace → HasTokens text l → IsSupported l → program 128 (symbols_of l.tokens) ≡ read → Outcome l
-by_reading sound complete text l (Ok x) place has s e = by_error l x (refused l x) s (sound 128 (symbols_of l.tokens) x e) refl
+by_reading : ReadsOnlySpelled → ReadsAllSpelled → (text : List ℕ) (l : Lexed) (read : Result Spelled (List Symbol)) → StopsAtThePlace → HasTokens text l → IsSupported l → program deepest (symbols_of l.tokens) ≡ read → Outcome l
+by_reading sound complete text l (Ok x) place has s e = by_error l x (refused l x) s (sound deepest (symbols_of l.tokens) x e) refl
 by_reading sound complete text l (Err rest) place has s e =
     let nests = tokens_nest text l has in
-    let stops = place 128 (symbols_of l.tokens) rest nests e in
+    let stops = place deepest (symbols_of l.tokens) rest nests e in
     inr (_, syntax_error (place_from l (length rest)) s (no_tree complete l rest nests e) (record { before = stops.0; rest = rest; split = stops.1; error = stops.2; there = refl }))
 
 -- by the first unsupported token
 by_word : ReadsOnlySpelled → ReadsAllSpelled → (text : List ℕ) (l : Lexed) (found : Option (List ℕ)) → StopsAtThePlace → HasTokens text l → first_unsupported l.tokens ≡ found → Outcome l
-by_word sound complete text l None place has e = by_reading sound complete text l (program 128 (symbols_of l.tokens)) place has e refl
+by_word sound complete text l None place has e = by_reading sound complete text l (program deepest (symbols_of l.tokens)) place has e refl
 by_word sound complete text l (Some word) place has e = inr (Unsupported word, unsupported e)
 
 pub one_or_other : ReadsOnlySpelled → ReadsAllSpelled → StopsAtThePlace → IsOneOrOther

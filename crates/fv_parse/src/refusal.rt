@@ -1,3 +1,5 @@
+// Why tokens are no program.
+
 ghost use Rattle.std.specs.Prelude.{◌≡◌};
 ghost use Rattle.fv_parse.specs.declared.refusal.ParseRefusal.TheVariants.{NoMemory};
 

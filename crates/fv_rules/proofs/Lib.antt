@@ -3,3 +3,12 @@ pub mod Sound
 pub mod Fits
 pub mod Timeless
 pub mod Nodes
+pub mod Grown
+pub mod Named
+pub mod Lookups
+pub mod Matched
+pub mod Remembered
+pub mod Scoped
+pub mod LiteralNumbers
+pub mod RulesChosen
+pub mod RuleNodes

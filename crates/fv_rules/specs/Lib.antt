@@ -7,3 +7,10 @@ pub mod Rules
 pub mod Sound
 pub mod Puts
 pub mod Examples
+pub mod Environments
+pub mod Shows
+pub mod ByName
+pub mod Lookup
+pub mod Memo
+pub mod Choosing
+pub mod Chosen

@@ -17,6 +17,7 @@ abbrev pub number_or : Option ℤ → Diagram → Diagram
 number_or (Some n) d = Constant n
 number_or None d = d
 
+-- a diagram that has a number is that integer; every other value stays
 abbrev pub settled : Value → Value
 settled (Flat d) = Flat (number_or (number_of d) d)
 settled v = v
@@ -25,6 +26,7 @@ settled v = v
 abbrev pub Bindings : Type 0
 Bindings = List (Name × Value)
 
+-- the further result of what was found
 abbrev pub and_then : {A B : Type 0} → Option A → (A → Option B) → Option B
 and_then None f = None
 and_then (Some x) f = f x
@@ -48,10 +50,12 @@ abbrev pub parts_without : Option ℤ → Operator → Diagram → Option (Diagr
 parts_without (Some n) o d = None
 parts_without None o d = parts_of o d
 
+-- the parts of a value that is put as this composition
 abbrev pub value_parts : Operator → Value → Option (Diagram × Diagram)
 value_parts o (Flat d) = parts_without (number_of d) o d
 value_parts o v = None
 
+-- the number of a value
 abbrev pub value_number : Value → Option ℤ
 value_number (Flat d) = number_of d
 value_number v = None
@@ -77,6 +81,7 @@ abbrev pub bound_in : Env → Bindings → Env
 bound_in env [] = env
 bound_in env (b ∷ bs) = Bound b.0 b.1 (bound_in env bs)
 
+-- the right side with the bindings that were found, else what comes next
 abbrev pub or_next : Tree → Option Bindings → Option (Tree × Bindings) → Option (Tree × Bindings)
 or_next body None next = next
 or_next body (Some bs) next = Some (body, bs)

@@ -34,6 +34,7 @@ use Rattle.fv_rules.specs.Steps.{State, Outcome, Eval, ◌>>=◌, give, refuse, 
 
 -- ---- one name for each primitive
 
+-- the diagram's primitive of a word or sign (Faust manual)
 abbrev pub primitive_of : Operation → Prim
 primitive_of operations.Mem = prim.Mem
 primitive_of operations.Prefix = prim.Prefix
@@ -62,10 +63,12 @@ primitive_of operations.Abs = prim.Point op.Abs
 primitive_of operations.Select2 = prim.Point op.Select2
 primitive_of operations.Select3 = prim.Point op.Select3
 
+-- the kind of a button or checkbox
 abbrev pub switch_kind : SwitchKind → ControlKind
 switch_kind switches.Button = Button
 switch_kind switches.Checkbox = Checkbox
 
+-- the kind of a slider or number entry
 abbrev pub slider_kind : SliderKind → ControlKind
 slider_kind sliders.Horizontal = HSlider
 slider_kind sliders.Vertical = VSlider
@@ -78,6 +81,7 @@ pub record Evaluator : Type 0 where
   pub value : Tree → Env → Eval Value
   pub diagram : Tree → Env → Eval Diagram
 
+-- a diagram, as a value
 abbrev pub flat : Eval Diagram → Eval Value
 flat m = m >>= λ d. give (Flat d)
 
@@ -93,6 +97,7 @@ abbrev pub bind_all : ℕ → ℕ → Diagram → Eval Diagram
 bind_all slot zero d = give d
 bind_all slot (suc n) d = bind_all (suc slot) n d >>= λ b. put (Bind slot b)
 
+-- A value as a diagram: an abstraction binds a new slot for each parameter, and rules are none.
 abbrev pub turned : Lexed → Evaluator → Value → Eval Diagram
 turned l e (Flat d) = give d
 turned l e (Abstraction x xs body env) = do
@@ -109,6 +114,7 @@ operated p a b = do
   ab ← put (Par a b)
   put (Seq ab (Primitive p))
 
+-- two diagrams under an operator: an infix one is the sequence of both side by side and the operation
 abbrev pub joined : Operator → Diagram → Diagram → Eval Diagram
 joined (operators.Infix p) a b = operated (primitive_of p) a b
 joined operators.Recursion a b = put (Rec a b)
@@ -129,11 +135,13 @@ from_left p d (x ∷ xs) = operated p d x >>= λ r. from_left p r xs
 
 -- ---- names
 
+-- what a definition gives: its right side's value, an abstraction, or rules
 abbrev pub defined_value : Evaluator → Definition → Env → Eval Value
 defined_value e (Plain body) env = e.value body env
 defined_value e (Parameters x xs body) env = give (Abstraction x xs body env)
 defined_value e (Cases s rs) env = give (Rules s rs env Nothing)
 
+-- what a name gives by what it stands for
 abbrev pub meant : Evaluator → Name → Meaning → Eval Value
 meant e name (IsValue v) = give v
 meant e name (IsDefined d env) = defined_value e d env
@@ -159,9 +167,11 @@ all_turned l e (v ∷ more) done = do
   d ← turned l e v
   all_turned l e more (done ++ d ∷ [])
 
+-- so many wires
 abbrev pub wires : ℕ → List Diagram
 wires n = replicate n (Primitive prim.Wire)
 
+-- the outputs of diagrams together
 abbrev pub all_outputs : List Diagram → ℕ
 all_outputs [] = 0
 all_outputs (d ∷ ds) = outputs d + all_outputs ds
@@ -185,6 +195,7 @@ fed_by k f d ds =
     else (if takes_the_right f && nat_eq k 1 then led (Primitive prim.Wire) (d ∷ ds) f
     else led d (ds ++ wires (inputs f - k)) f)
 
+-- a diagram on diagrams; on none it stays
 abbrev pub fed : Diagram → List Diagram → Eval Value
 fed f [] = give (Flat f)
 fed f (d ∷ ds) = flat (fed_by (all_outputs (d ∷ ds)) f d ds)
@@ -218,12 +229,14 @@ bodies e x body env i (suc n) done = do
   d ← e.diagram body (Bound x (Flat (Constant (pos i))) env)
   bodies e x body env (suc i) n (done ++ d ∷ [])
 
+-- `par` and `seq` put from the right, `sum` and `prod` from the left
 abbrev pub gathered_by : Repetition → Diagram → List Diagram → Eval Diagram
 gathered_by repetitions.Parallel d ds = from_right Par d ds
 gathered_by repetitions.Sequence d ds = from_right Seq d ds
 gathered_by repetitions.Sum d ds = from_left (prim.Point op.Add) d ds
 gathered_by repetitions.Product d ds = from_left (prim.Point op.Mul) d ds
 
+-- the bodies of an iteration in one diagram; it has at least one
 abbrev pub gathered : Repetition → List Diagram → Eval Value
 gathered r [] = refuse (IterationCount (pos 0))
 gathered r (d ∷ ds) = flat (gathered_by r d ds)
@@ -237,10 +250,12 @@ counted l start (Some (negsuc n)) = refuse (IterationCount (negsuc n))
 
 -- ---- arities and controls
 
+-- how many inputs or outputs a diagram has
 abbrev pub ports : Side → Diagram → Diagram
 ports sides.Inputs d = Constant (pos (inputs d))
 ports sides.Outputs d = Constant (pos (outputs d))
 
+-- a number, else refused at a place
 abbrev pub read_number : Lexed → ℕ → Option ℤ → Eval ℤ
 read_number l start None = refuse (no_number l start)
 read_number l start (Some n) = give n
@@ -257,9 +272,11 @@ parameters l e (x ∷ more) env done = do
 abbrev pub slider_info : ControlKind → List ℕ → List ℤ → ControlInfo
 slider_info kind label ns = record { kind = kind; label = label; init = argument ns 0; min = argument ns 1; max = argument ns 2 }
 
+-- a button or checkbox is 0 or 1, and 0 at first
 abbrev pub switch_info : ControlKind → List ℕ → ControlInfo
 switch_info kind label = record { kind = kind; label = label; init = pos 0; min = pos 0; max = pos 1 }
 
+-- an abstraction of these parameters; one without parameters is its body
 abbrev pub abstraction : Lexed → Evaluator → List ℕ → Tree → Env → Eval Value
 abstraction l e [] body env = e.value body env
 abstraction l e (n ∷ ns) body env = give (Abstraction (text_of l n) (map (text_of l) ns) body env)
@@ -313,6 +330,7 @@ rule l e x env = refuse (no_diagram l (start_of x))
 abbrev pub visited : Lexed → Evaluator → Tree → Env → Eval Value
 visited l e x env = visit >>= λ u. rule l e x env
 
+-- what evaluates in one visit more
 abbrev pub descend : Lexed → Evaluator → Evaluator
 descend l e = record {
   value = λ x env. visited l e x env;
@@ -333,9 +351,11 @@ ev l = record {
 
 -- ---- programs
 
+-- no program has more visits
 abbrev pub visit_limit : ℕ
 visit_limit = 1000000
 
+-- the state before a program
 abbrev pub start : State
 start = record { visits = visit_limit; controls = []; slot = 0 }
 
@@ -352,5 +372,6 @@ program_value l x = finished ((name_value l (ev l) (codes "process") (Scope x Ou
 abbrev pub FollowsValue : Type 0
 FollowsValue = (l : Lexed) (x : Tree) (env : Env) (s : State) → (ev l).value x env s ≡ visited l (ev l) x env s
 
+-- Evaluation to a diagram is evaluation to a value, and then turning.
 abbrev pub FollowsDiagram : Type 0
 FollowsDiagram = (l : Lexed) (x : Tree) (env : Env) (s : State) → (ev l).diagram x env s ≡ ((ev l).value x env >>= turned l (ev l)) s

@@ -19,23 +19,29 @@ pub record State : Type 0 where
   pub controls : List ControlInfo
   pub slot : ℕ
 
+-- a result with a further state, or a refusal
 abbrev pub Outcome : Type 0 → Type 0
 Outcome A = Result (A × State) EvalRefusal
 
+-- what goes from a state to an outcome
 abbrev pub Eval : Type 0 → Type 0
 Eval A = State → Outcome A
 
+-- what comes after an outcome
 abbrev pub after : {A B : Type 0} → Outcome A → (A → Eval B) → Outcome B
 after (Ok x) f = f x.0 x.1
 after (Err r) f = Err r
 
+-- one evaluation and then, with its result, another
 infixl 10 ◌>>=◌
 abbrev pub ◌>>=◌ : {A B : Type 0} → Eval A → (A → Eval B) → Eval B
 ◌>>=◌ m f = λ s. after (m s) f
 
+-- a result, at no cost
 abbrev pub give : {A : Type 0} → A → Eval A
 give x = λ s. Ok (x, s)
 
+-- a refusal
 abbrev pub refuse : {A : Type 0} → EvalRefusal → Eval A
 refuse r = λ s. Err r
 
@@ -43,9 +49,11 @@ refuse r = λ s. Err r
 abbrev pub no_number : Lexed → ℕ → EvalRefusal
 no_number l start = NotANumber (place_from l start).line (place_from l start).column
 
+-- no rule fits the application that so many tokens begin
 abbrev pub no_rule : Lexed → ℕ → EvalRefusal
 no_rule l start = NoRule (place_from l start).line (place_from l start).column
 
+-- no diagram begins with so many tokens left
 abbrev pub no_diagram : Lexed → ℕ → EvalRefusal
 no_diagram l start = NotADiagram (place_from l start).line (place_from l start).column
 
@@ -54,6 +62,7 @@ abbrev pub spent : ℕ → State → Outcome Unit
 spent zero s = Err EvalBudget
 spent (suc n) s = Ok (tt, record s { visits = n })
 
+-- one visit
 abbrev pub visit : Eval Unit
 visit = λ s. spent s.visits s
 
@@ -67,10 +76,12 @@ fresh_slots n = λ s. Ok (s.slot, record s { slot = s.slot + n })
 abbrev pub is_multiple : (n m : ℕ) → Bool
 is_multiple n m = nat_le 1 n && nat_le 1 m && nat_eq (n % m) 0
 
+-- a refusal unless a test passes
 abbrev pub unless : Bool → EvalRefusal → Option EvalRefusal
 unless true r = None
 unless false r = Some r
 
+-- the first refusal
 abbrev pub or_else : Option EvalRefusal → Option EvalRefusal → Option EvalRefusal
 or_else (Some r) other = Some r
 or_else None other = other
@@ -85,6 +96,7 @@ misfit (Rec a b) =
     (unless (nat_le (outputs b) (inputs a)) (Arity kind.RecIn (inputs a) (outputs b)))
 misfit d = None
 
+-- a diagram is put unless it was refused or is too large
 abbrev pub put_after : Option EvalRefusal → Diagram → Eval Diagram
 put_after (Some r) d = refuse r
 put_after None d = if nat_le (size d) size_limit then give d else refuse (SizeBudget (size d))
@@ -95,6 +107,7 @@ put d = put_after (misfit d) d
 
 -- ---- controls
 
+-- two kinds are the same
 abbrev pub is_kind : ControlKind → ControlKind → Bool
 is_kind Button Button = true
 is_kind Checkbox Checkbox = true

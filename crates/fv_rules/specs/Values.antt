@@ -11,6 +11,7 @@ use Rattle.fv_diagram.specs.Diagram.{Diagram}
 use Rattle.fv_grammar.specs.Tree.{items}
 use Rattle.fv_parse.specs.Trees.{text_of}
 
+-- a name is its bytes
 abbrev pub Name : Type 0
 Name = List ℕ
 
@@ -62,6 +63,7 @@ is_of l name (tree.Constant s n x) = bytes_eq (text_of l n) name
 is_of l name (tree.Function s n ps x) = bytes_eq (text_of l n) name
 is_of l name x = false
 
+-- one name more in front, where all are names
 abbrev pub with_name : Name → Option (List Name) → Option (List Name)
 with_name x None = None
 with_name x (Some xs) = Some (x ∷ xs)
@@ -84,6 +86,7 @@ definition_of l (tree.Function s n ps x ∷ []) = Some (of_one (names_of l (item
 definition_of l (tree.Function s n ps x ∷ d ∷ ds) = Some (Cases s (rule_of (tree.Function s n ps x) ∷ map rule_of (d ∷ ds)))
 definition_of l ds = None
 
+-- a definition that was found, in the environment of its list, else what the name means further outwards
 abbrev pub or_else : Option Definition → Env → Meaning → Meaning
 or_else (Some d) env m = IsDefined d env
 or_else None env m = m
@@ -99,6 +102,7 @@ abbrev pub in_order : Taken → List Value → List Value
 in_order Nothing after = after
 in_order (And v before) after = in_order before (v ∷ after)
 
+-- how many arguments were taken
 abbrev pub count_taken : Taken → ℕ
 count_taken Nothing = 0
 count_taken (And v before) = suc (count_taken before)

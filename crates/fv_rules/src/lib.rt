@@ -1,12 +1,27 @@
-//! The rules of evaluation: what a program's text means as a block diagram, the laws of the rules, and the number of a diagram.
+//! The rules of evaluation: what a program's text means as a block diagram, and the laws of the rules; values and
+//! environments as numbers of lists, look-up of names, numbers of diagrams, and patterns.
 #![tactic(auto)]
 
+mod by_name;
+mod choosing;
 mod laws;
+mod literals;
+mod lookup;
+mod matching;
+mod memo;
 mod number;
 mod putting;
 mod refusal;
+mod scopes;
+mod value;
 
 pub use laws::{evaluates_soundly, evaluation_follows, literals_stay};
+pub use literals::{literal, negative_literal};
+pub use lookup::Definitions;
+pub use matching::{Bindings, matches};
+pub use memo::{Known, Numbers};
 pub use number::number_of;
 pub use putting::put;
 pub use refusal::EvalRefusal;
+pub use scopes::Scopes;
+pub use value::{Argument, Binding, Meaning, Ruled, Scope, Value};

@@ -1,8 +1,12 @@
 // Why a program has no diagram.
 
+ghost use Rattle.std.specs.Prelude.{◌≡◌};
+ghost use Rattle.fv_rules.specs.declared.refusal.EvalRefusal.TheVariants.{NoMemory};
+
 use fv_arity::ArityKind;
 use fv_base::Word;
 use fv_diagram::Label;
+use std::alloc::{AllocError, AllocFailed};
 
 /// Why a program has no diagram.
 #[derive(Debug, Drop)]
@@ -57,4 +61,20 @@ pub enum EvalRefusal {
     },
     /// Memory ran out.
     NoMemory,
+}
+
+impl From<AllocError> for EvalRefusal {
+    ghost from_gives = { λ _ e. e ≡ NoMemory };
+
+    fn from(_error: AllocError) -> EvalRefusal {
+        EvalRefusal::NoMemory
+    }
+}
+
+impl<T: Drop> From<AllocFailed<T>> for EvalRefusal {
+    ghost from_gives = { λ _ e. e ≡ NoMemory };
+
+    fn from(_error: AllocFailed<T>) -> EvalRefusal {
+        EvalRefusal::NoMemory
+    }
 }

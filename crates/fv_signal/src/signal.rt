@@ -4,7 +4,7 @@ use fv_num::Op;
 use std::marker::Model;
 
 /// The number of a signal in its graph.
-#[derive(Clone, Copy, PartialEq, Eq, Debug)]
+#[derive(Clone, Copy, PartialEq, Eq, Hash, Debug)]
 pub struct SignalId {
     number: u64,
 }
@@ -38,7 +38,7 @@ impl SignalId {
 }
 
 /// A node of a graph. Its operands are numbers of earlier signals; a `Back` may name any.
-#[derive(Clone, Copy, PartialEq, Eq, Debug)]
+#[derive(Clone, Copy, PartialEq, Eq, Hash, Debug)]
 pub enum Signal {
     /// An input channel.
     Input(u64),

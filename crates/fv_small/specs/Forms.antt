@@ -12,6 +12,7 @@ only [] = None
 only (x ∷ []) = Some x
 only (x ∷ y ∷ xs) = None
 
+-- the one definition of a list, if there is just one
 abbrev pub only_in : TreeNode → Option TreeId
 only_in (nodes.List ids) = only ids.items
 only_in node = None

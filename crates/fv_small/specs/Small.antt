@@ -26,6 +26,7 @@ operation primitives.Subtract = Some Sub
 operation primitives.Multiply = Some Mul
 operation p = None
 
+-- an operation as a primitive
 abbrev pub point : Option Op → Option Diagram
 point None = None
 point (Some op) = Some (Leaf (prim.Point op))

@@ -1,6 +1,7 @@
-pub mod CommandWords
 pub mod Texts
+pub mod AnswerLaws
 pub mod Programs
+pub mod Smalls
 pub mod Loads
 pub mod PlainInputs
 pub mod Samples

@@ -1,5 +1,5 @@
 -- A text is a program of one diagram, or it is refused.
-use Rattle.std.proofs.Common.{refl, ◌≡◌, ◌⊎◌, ℕ, List, Ok, Err, sym, ◌∙◌, ap, subst, inl, inr}
+use Rattle.std.proofs.Common.{◌≡◌, ◌⊎◌, ℕ, List, Ok, Err, ◌∙◌, ap, inl, inr, refl}
 use Rattle.std.specs.Prelude.{codes, Result}
 use Rattle.fv_lex.specs.declared.refusal.LexRefusal.{LexRefusal}
 use Rattle.fv_lex.specs.declared.refusal.LexRefusal.TheVariants as bytes
@@ -9,103 +9,87 @@ use Rattle.fv_grammar.specs.Tree.{Tree}
 use Rattle.fv_grammar.specs.Grammar.{SpelledOnce}
 use Rattle.fv_parse.specs.declared.refusal.ParseRefusal.{ParseRefusal}
 use Rattle.fv_parse.specs.declared.refusal.ParseRefusal.TheVariants as tokens
-use Rattle.fv_parse.specs.Outcomes.{IsSpelled, IsAccepted, HasRefusal as HasTokensRefusal, IsOneRefusal as IsOneTokensRefusal, IsNotBoth as TokensNotBoth, IsOneOrOther as TokensOneOrOther}
+use Rattle.fv_parse.specs.Outcomes.{IsAccepted, HasRefusal as HasTokensRefusal, IsOneRefusal, IsNotBoth, IsOneOrOther as TokensOneOrOther}
 use Rattle.fv_diagram.specs.Diagram.{Diagram}
 use Rattle.fv_small.specs.Small.{IsSmall, IsNotSmall, SmallOnce}
 use Rattle.fv_top.specs.declared.refusal.Refusal.{Refusal}
 use Rattle.fv_top.specs.declared.refusal.Refusal.TheVariants.{Unsupported, NoMemory}
-use Rattle.fv_top.specs.Program.{IsProgram, IsRefusedText, IsOfText, bad_bytes, bad_tokens, not_small, of_bytes, of_tokens}
+use Rattle.fv_top.specs.Answers.{Turned, kept, turned, stops, goes_on, IsOnce, IsSome, RefusesOthers}
+use Rattle.fv_top.specs.Program.{Spelled, Parses, spells, refused, Means, small, not_small, SpellingIs, TextIs, IsRefusedText, IsOfText, of_bytes, of_tokens}
+use Rattle.fv_top.proofs.AnswerLaws.{then_once, then_some, then_refuses, turned_once, turned_some, kept_is}
 
--- one text has one list of tokens
-one_list : (text : List ℕ) (a b : Lexed) → HasAtMostOne → HasTokens text a → HasTokens text b → a ≡ b
-one_list text a b once p q = let e = once text (Ok a) (Ok b) p q in cc
+-- ---- each layer
 
--- and these spell one tree
-one_tree : (l : Lexed) (x y : Tree) → SpelledOnce → IsSpelled l x → IsSpelled l y → x ≡ y
-one_tree l x y once p q = once _ x y p q
+parses_once : SpelledOnce → IsOneRefusal → IsNotBoth → IsOnce Parses
+parses_once spelled once apart l r s (spells x h) (spells y k) = ap (λ (t : Tree). Ok (record { tokens = l; tree = t })) (spelled _ x y h.spelled k.spelled)
+parses_once spelled once apart l r s (spells x h) (refused e k) = absurd (apart l x e h k)
+parses_once spelled once apart l r s (refused e h) (spells x k) = absurd (apart l x e k h)
+parses_once spelled once apart l r s (refused e h) (refused f k) = ap Err (once l e f h k)
 
--- two programs of one text have one list of tokens and one tree
-small_of : (text : List ℕ) (d e : Diagram) → HasAtMostOne → SpelledOnce → (p : IsProgram text d) → (q : IsProgram text e) → IsSmall p.lexed p.tree e
-small_of text d e lexed spelled p q =
-    let l = one_list text q.lexed p.lexed lexed q.cut p.cut in
-    let there : IsSpelled p.lexed q.tree = subst (λ (w : Lexed). IsSpelled w q.tree) l q.accepted.spelled in
-    let x = one_tree p.lexed q.tree p.tree spelled there p.accepted.spelled in
-    subst (λ (t : Tree). IsSmall p.lexed t e) x (subst (λ (w : Lexed). IsSmall w q.tree e) l q.small)
+parses_by : (l : Lexed) → ((x : Tree) × IsAccepted l x) ⊎ ((e : ParseRefusal) × HasTokensRefusal l e) → (r : Result Spelled ParseRefusal) × Parses l r
+parses_by l (inl a) = (Ok (record { tokens = l; tree = a.0 }), spells a.0 a.1)
+parses_by l (inr e) = (Err e.0, refused e.0 e.1)
 
-pub one_diagram : (text : List ℕ) (d e : Diagram) → HasAtMostOne → SpelledOnce → SmallOnce → IsProgram text d → IsProgram text e → d ≡ e
-one_diagram text d e lexed spelled small p q = small p.lexed p.tree d e p.small (small_of text d e lexed spelled p q)
+means_once : SmallOnce → IsOnce Means
+means_once once s r q (small d h) (small e k) = ap Ok (once s.tokens s.tree d e h k)
+means_once once s r q (small d h) (not_small k) = absurd (k d h)
+means_once once s r q (not_small h) (small d k) = absurd (h d k)
+means_once once s r q (not_small h) (not_small k) = refl
 
--- tokens that are accepted are not refused
-apart_tokens : (text : List ℕ) (l m : Lexed) (x : Tree) (e : ParseRefusal) → HasAtMostOne → TokensNotBoth → HasTokens text l → IsAccepted l x → HasTokens text m → HasTokensRefusal m e → ⊥
-apart_tokens text l m x e lexed apart p a q has = apart l x e a (subst (λ (w : Lexed). HasTokensRefusal w e) (one_list text m l lexed q p) has)
+means_others : RefusesOthers Means
+means_others s none = (Unsupported (codes "program"), not_small (λ d h. none d (small d h)))
 
--- a text that has tokens is not refused for its bytes
-apart_bytes : (text : List ℕ) (l : Lexed) (e : LexRefusal) → HasAtMostOne → HasTokens text l → HasBytesRefusal text e → ⊥
-apart_bytes text l e lexed p h = let q = lexed text (Ok l) (Err e) p h in cc
+-- ---- one after another
 
-pub not_both : (text : List ℕ) (d : Diagram) (refusal : Refusal) → HasAtMostOne → SpelledOnce → TokensNotBoth → IsProgram text d → IsRefusedText text refusal → ⊥
-not_both text d refusal lexed spelled apart p (bad_bytes e h is) = apart_bytes text p.lexed e lexed p.cut h
-not_both text d refusal lexed spelled apart p (bad_tokens l e h has is) = apart_tokens text p.lexed l p.tree e lexed apart p.cut p.accepted h has
-not_both text d refusal lexed spelled apart p (not_small l x h a none is) =
-    let same = one_list text p.lexed l lexed p.cut h in
-    let there : IsSpelled l p.tree = subst (λ (w : Lexed). IsSpelled w p.tree) same p.accepted.spelled in
-    let tree = one_tree l p.tree x spelled there a.spelled in
-    none d (subst (λ (t : Tree). IsSmall l t d) tree (subst (λ (w : Lexed). IsSmall w p.tree d) same p.small))
+pub text_once : HasAtMostOne → SpelledOnce → IsOneRefusal → IsNotBoth → SmallOnce → IsOnce TextIs
+text_once lexed spelled once apart one =
+    then_once SpellingIs Means (then_once (Turned of_bytes Has) (Turned of_tokens Parses) (turned_once of_bytes Has lexed) (turned_once of_tokens Parses (parses_once spelled once apart))) (means_once one)
 
--- two refusals of one text are one
-pub one_refusal : (text : List ℕ) (a b : Refusal) → HasAtMostOne → IsOneTokensRefusal → TokensNotBoth → IsRefusedText text a → IsRefusedText text b → a ≡ b
-one_refusal text a b lexed once apart (bad_bytes e h is) (bad_bytes f k js) =
-    let q = lexed text (Err e) (Err f) h k in
-    let same : e ≡ f = cc in
-    is ∙ ap of_bytes same ∙ sym js
-one_refusal text a b lexed once apart (bad_bytes e h is) (bad_tokens m f k has js) = absurd (apart_bytes text m e lexed k h)
-one_refusal text a b lexed once apart (bad_bytes e h is) (not_small m y k c none js) = absurd (apart_bytes text m e lexed k h)
-one_refusal text a b lexed once apart (bad_tokens l e h has is) (bad_bytes f k js) = absurd (apart_bytes text l f lexed h k)
-one_refusal text a b lexed once apart (bad_tokens l e h has is) (bad_tokens m f k other js) =
-    is ∙ ap of_tokens (once l e f has (subst (λ (w : Lexed). HasTokensRefusal w f) (one_list text m l lexed k h) other)) ∙ sym js
-one_refusal text a b lexed once apart (bad_tokens l e h has is) (not_small m y k c none js) = absurd (apart_tokens text m l y e lexed apart k c h has)
-one_refusal text a b lexed once apart (not_small l x h c none is) (bad_bytes f k js) = absurd (apart_bytes text l f lexed h k)
-one_refusal text a b lexed once apart (not_small l x h c none is) (bad_tokens m f k has js) = absurd (apart_tokens text l m x f lexed apart h c k has)
-one_refusal text a b lexed once apart (not_small l x h c none is) (not_small m y k d others js) = is ∙ sym js
+spelling_some : HasAtLeastOne → TokensOneOrOther → IsSome (λ (text : List ℕ). Unit {0}) SpellingIs
+spelling_some some either =
+    then_some (λ (text : List ℕ). Unit {0}) (Turned of_bytes Has) (Turned of_tokens Parses) (turned_some of_bytes (λ (text : List ℕ). Unit {0}) Has (λ text u. some text)) (λ text l u h.
+    turned_some of_tokens (λ (m : Lexed). HasTokens text m) Parses (λ m has. parses_by m (either text m has)) l (kept_is of_bytes Has text l h))
 
--- what is no program is refused: by its tokens, where it has some
-by_tokens : (text : List ℕ) (l : Lexed) → HasTokens text l → ((d : Diagram) → IsProgram text d → ⊥) → ((x : Tree) × IsAccepted l x) ⊎ ((e : ParseRefusal) × HasTokensRefusal l e) →
-    (refusal : Refusal) × IsRefusedText text refusal
-by_tokens text l has none (inl a) = (Unsupported (codes "program"), not_small l a.0 has a.1 (λ d small. none d (record { lexed = l; cut = has; tree = a.0; accepted = a.1; small = small })) refl)
-by_tokens text l has none (inr r) = (of_tokens r.0, bad_tokens l r.0 has r.1 refl)
+pub text_others : HasAtLeastOne → TokensOneOrOther → RefusesOthers TextIs
+text_others some either = then_refuses SpellingIs Means (spelling_some some either) means_others
 
-by_answer : (text : List ℕ) (answer : Result Lexed LexRefusal) → Has text answer → TokensOneOrOther → ((d : Diagram) → IsProgram text d → ⊥) → (refusal : Refusal) × IsRefusedText text refusal
-by_answer text (Ok l) has either none = by_tokens text l has none (either text l has)
-by_answer text (Err e) has either none = (of_bytes e, bad_bytes e has refl)
+-- ---- a text that was read
 
-pub one_or_other : (text : List ℕ) → HasAtLeastOne → TokensOneOrOther → ((d : Diagram) → IsProgram text d → ⊥) → (refusal : Refusal) × IsRefusedText text refusal
-one_or_other text some either none = by_answer text (some text).0 (some text).1 either none
-
--- refusals of the bytes and of the tokens speak of a file, but want of memory
+-- refusals of the bytes and of the tokens are of a text, but want of memory
 pub bytes_stop : (text : List ℕ) (e : LexRefusal) (refusal : Refusal) → refusal ≡ of_bytes e → (e ≡ bytes.NoMemory) ⊎ HasBytesRefusal text e →
     (refusal ≡ NoMemory) ⊎ (IsOfText refusal × IsRefusedText text refusal)
 bytes_stop text e refusal is (inl m) = inl (is ∙ ap of_bytes m)
-bytes_stop text (bytes.TextTooLong role) refusal is (inr h) = inr (subst IsOfText (sym is) refl, bad_bytes _ h is)
-bytes_stop text (bytes.BadByte line column) refusal is (inr h) = inr (subst IsOfText (sym is) refl, bad_bytes _ h is)
-bytes_stop text (bytes.Unclosed line column) refusal is (inr h) = inr (subst IsOfText (sym is) refl, bad_bytes _ h is)
-bytes_stop text (bytes.RealLiteral line column) refusal is (inr h) = inr (subst IsOfText (sym is) refl, bad_bytes _ h is)
-bytes_stop text (bytes.LiteralTooLarge line column) refusal is (inr h) = inr (subst IsOfText (sym is) refl, bad_bytes _ h is)
-bytes_stop text (bytes.Nesting line column) refusal is (inr h) = inr (subst IsOfText (sym is) refl, bad_bytes _ h is)
+bytes_stop text (bytes.TextTooLong role) refusal is (inr h) = rw is (inr (refl, stops _ (stops _ (turned _ h))))
+bytes_stop text (bytes.BadByte line column) refusal is (inr h) = rw is (inr (refl, stops _ (stops _ (turned _ h))))
+bytes_stop text (bytes.Unclosed line column) refusal is (inr h) = rw is (inr (refl, stops _ (stops _ (turned _ h))))
+bytes_stop text (bytes.RealLiteral line column) refusal is (inr h) = rw is (inr (refl, stops _ (stops _ (turned _ h))))
+bytes_stop text (bytes.LiteralTooLarge line column) refusal is (inr h) = rw is (inr (refl, stops _ (stops _ (turned _ h))))
+bytes_stop text (bytes.Nesting line column) refusal is (inr h) = rw is (inr (refl, stops _ (stops _ (turned _ h))))
 bytes_stop text bytes.NoMemory refusal is (inr h) = inl is
+
+tokens_refuse : (text : List ℕ) (l : Lexed) (e : ParseRefusal) → HasTokens text l → HasTokensRefusal l e → IsRefusedText text (of_tokens e)
+tokens_refuse text l e has h = stops (of_tokens e) (goes_on l (Err (of_tokens e)) (kept l has) (turned e (refused e h)))
 
 pub tokens_stop : (text : List ℕ) (l : Lexed) (e : ParseRefusal) (refusal : Refusal) → HasTokens text l → refusal ≡ of_tokens e → (e ≡ tokens.NoMemory) ⊎ HasTokensRefusal l e →
     (refusal ≡ NoMemory) ⊎ (IsOfText refusal × IsRefusedText text refusal)
 tokens_stop text l e refusal has is (inl m) = inl (is ∙ ap of_tokens m)
-tokens_stop text l (tokens.Syntax line column) refusal has is (inr h) = inr (subst IsOfText (sym is) refl, bad_tokens l _ has h is)
-tokens_stop text l (tokens.Unsupported word) refusal has is (inr h) = inr (subst IsOfText (sym is) refl, bad_tokens l _ has h is)
-tokens_stop text l (tokens.Redefined name) refusal has is (inr h) = inr (subst IsOfText (sym is) refl, bad_tokens l _ has h is)
-tokens_stop text l (tokens.RepeatedName name) refusal has is (inr h) = inr (subst IsOfText (sym is) refl, bad_tokens l _ has h is)
-tokens_stop text l (tokens.RuleWidths line column) refusal has is (inr h) = inr (subst IsOfText (sym is) refl, bad_tokens l _ has h is)
-tokens_stop text l tokens.NoProcess refusal has is (inr h) = inr (subst IsOfText (sym is) refl, bad_tokens l _ has h is)
+tokens_stop text l (tokens.Syntax line column) refusal has is (inr h) = rw is (inr (refl, tokens_refuse text l _ has h))
+tokens_stop text l (tokens.Unsupported word) refusal has is (inr h) = rw is (inr (refl, tokens_refuse text l _ has h))
+tokens_stop text l (tokens.Redefined name) refusal has is (inr h) = rw is (inr (refl, tokens_refuse text l _ has h))
+tokens_stop text l (tokens.RepeatedName name) refusal has is (inr h) = rw is (inr (refl, tokens_refuse text l _ has h))
+tokens_stop text l (tokens.RuleWidths line column) refusal has is (inr h) = rw is (inr (refl, tokens_refuse text l _ has h))
+tokens_stop text l tokens.NoProcess refusal has is (inr h) = rw is (inr (refl, tokens_refuse text l _ has h))
 tokens_stop text l tokens.NoMemory refusal has is (inr h) = inl is
 
--- and so does that of a tree that is not small
+spelling_is : (text : List ℕ) (l : Lexed) (x : Tree) → HasTokens text l → IsAccepted l x → SpellingIs text (Ok (record { tokens = l; tree = x }))
+spelling_is text l x has a = goes_on l (Ok (record { tokens = l; tree = x })) (kept l has) (kept (record { tokens = l; tree = x }) (spells x a))
+
+-- and so is that of a tree that is not small
 pub tree_stops : (text : List ℕ) (l : Lexed) (x : Tree) (refusal : Refusal) → HasTokens text l → IsAccepted l x → IsNotSmall l x →
     (refusal ≡ Unsupported (codes "program")) ⊎ (refusal ≡ NoMemory) → (refusal ≡ NoMemory) ⊎ (IsOfText refusal × IsRefusedText text refusal)
-tree_stops text l x refusal has a none (inl is) = inr (subst IsOfText (sym is) refl, not_small l x has a none is)
+tree_stops text l x refusal has a none (inl is) = rw is (inr (refl, goes_on (record { tokens = l; tree = x }) (Err (Unsupported (codes "program"))) (spelling_is text l x has a) (not_small none)))
 tree_stops text l x refusal has a none (inr m) = inl m
+
+-- a tree that is small makes a program
+pub tree_plays : (text : List ℕ) (l : Lexed) (x : Tree) (d : Diagram) → HasTokens text l → IsAccepted l x → IsSmall l x d → TextIs text (Ok d)
+tree_plays text l x d has a h = goes_on (record { tokens = l; tree = x }) (Ok d) (spelling_is text l x has a) (small d h)

@@ -12,13 +12,13 @@ use Rattle.fv_diagram.specs.Diagram.{Diagram}
 use Rattle.fv_top.specs.declared.refusal.Refusal.{Refusal}
 use Rattle.fv_top.specs.declared.refusal.Refusal.TheVariants.{ReadFault, Unsupported}
 use Rattle.fv_top.specs.Controls.{control_streams}
-use Rattle.fv_top.specs.Words.{Names}
-use Rattle.fv_top.specs.Wave.{IsPlainInput, output_file, samples_in, data_in, data_of, rate_of}
+use Rattle.fv_words.specs.Commands.{Names}
+use Rattle.fv_top.specs.Wave.{IsPlainInput, output_file, samples_in, frames_in, data_in, data_of, rate_of}
 use Rattle.fv_top.specs.Program.{IsOfText}
 use Rattle.fv_top.specs.Loading.{ReadsFile, StopsLoading}
 use Rattle.fv_top.specs.Steps.{Halts, fault, judged, want_of_memory, reads}
 use Rattle.fv_top.specs.Running.{Reaches, CountsFaultOf}
-use Rattle.fv_top.specs.Promise.{HasNoProgram, HasNoInput, stated_frames, played, run_rules, ReadProgram, ReadInput}
+use Rattle.fv_top.specs.Promise.{HasNoProgram, HasNoInput, stated_frames, run_rules, ReadProgram, ReadInput}
 
 pub reaches_nothing : (a : DeskState) → Reaches [] a a
 reaches_nothing a = record { quiet = quiet_self a; requests = sym (append-nil a.requests); left = λ t r n m. refl }
@@ -72,7 +72,7 @@ length-data_in bytes p = let h = p.present in omega (arith, length-take (data_of
 -- what was computed of the samples is the output file
 pub is_ready : (d : Diagram) (bytes items file : List ℕ) (rate : ℕ) → IsPlainInput bytes → rate ≡ rate_of (take 44 bytes) → items ≡ data_in bytes →
     file ≡ output_file d (control_streams [] []) rate 16 (length items / 2) (map (λ (x : ℤ). x ∷ []) (samples_in items)) →
-    (length items / 2 ≡ stated_frames bytes) × (file ≡ played d bytes)
+    (length items / 2 ≡ stated_frames bytes) × (file ≡ output_file d (control_streams [] []) (rate_of (take 44 bytes)) 16 (stated_frames bytes) (frames_in bytes))
 is_ready d bytes items file rate p r i f =
     let frames : List ℕ → List Frame = λ w. map (λ (x : ℤ). x ∷ []) (samples_in w) in
     let stated : length items / 2 ≡ stated_frames bytes = ap (λ n. n / 2) (ap length i ∙ length-data_in bytes p) in (

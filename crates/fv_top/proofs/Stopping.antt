@@ -9,14 +9,15 @@ use Rattle.fv_outside.specs.Requests.{Request, to_read, to_write}
 use Rattle.fv_outside.specs.Desk.{DeskState, File, file_named, GoesOn, HasFault, KeepsQuiet, KeepsFaults, Appends}
 use Rattle.fv_diagram.specs.Diagram.{Diagram}
 use Rattle.fv_outside.proofs.States.{goes_on_then, fault_earlier, fault_later, told_before, unfailing_later}
-use Rattle.fv_top.specs.declared.refusal.Cause.{Cause}
+use Rattle.fv_words.specs.declared.cause.Cause.{Cause}
 use Rattle.fv_top.specs.declared.refusal.Refusal.{Refusal}
 use Rattle.fv_top.specs.declared.refusal.Refusal.TheVariants.{Usage, WriteFault}
-use Rattle.fv_top.specs.Words.{Names, command_of}
+use Rattle.fv_words.specs.Commands.{Names, names_of}
 use Rattle.fv_top.specs.Lines.{refused_line, done_line}
 use Rattle.fv_top.specs.Steps.{Rules, role_of, writes, Halts, fault, judged, want_of_memory, Ends, here, later}
 use Rattle.fv_top.specs.Promise.{Asks, Plays, meant, Deliver, run_rules, run_steps, HasCause, bad_words, of_run, LeavesOutput, KeepsOthers, IsBegunLine}
 use Rattle.fv_top.specs.Running.{Reaches, Delivers, StopsDelivering, LeavesPart, LeavesLine, CountsFaultOf, EndsDone, Stopped, ReportsLine, EndsRefused}
+use Rattle.fv_top.specs.Meant.{written_by}
 use Rattle.fv_top.specs.Controls.{control_streams}
 use Rattle.fv_top.specs.Wave.{IsPlainInput, output_file, samples_in, data_in, rate_of}
 use Rattle.fv_top.specs.Program.{IsProgram}
@@ -53,7 +54,7 @@ stopped_by words a b e asked p cause faults = record {
 }
 
 -- the words are refused
-pub stopped_usage : (words : List (List ℕ)) (a : DeskState) (cause : Cause) → command_of words ≡ Err cause → Stopped words a a (Usage cause)
+pub stopped_usage : (words : List (List ℕ)) (a : DeskState) (cause : Cause) → names_of words ≡ Err cause → Stopped words a a (Usage cause)
 stopped_usage words a cause is = stopped_by words a a (Usage cause) [] (reaches_nothing a) (bad_words is) (λ r other. refl)
 
 -- a step halts
@@ -75,7 +76,7 @@ reported_after p q = record {
 
 -- what was computed, where the desk tells its files
 abbrev pub IsReady : (names : Names) → (old : DeskState) → (file : List ℕ) → (frames : ℕ) → Type 0
-IsReady names old file frames = IsTrue old.tells → (p : Plays names.program names.input old.files) × (frames ≡ (meant p).frames) × (file ≡ (meant p).output)
+IsReady names old file frames = IsTrue old.tells → (p : Plays names.program names.input old.files) × (frames ≡ (meant p).frames) × (file ≡ written_by (meant p) old Output)
 
 -- what was computed of a program and an input that were read
 pub ready_of : (names : Names) (a b : DeskState) (text items file given : List ℕ) (d : Diagram) (rate count : ℕ) → KeepsQuiet a b → IsFile names.program text a → IsProgram text d →

@@ -14,11 +14,13 @@ printed (Word word) = word.now
 printed (Natural n) = decimal n
 printed (Integer z) = signed_decimal z
 
+-- the fields as they are printed
 abbrev pub listed : Fields → List (List ℕ)
 listed None = []
 listed (One a) = printed a ∷ []
 listed (Two a b) = printed a ∷ printed b ∷ []
 listed (Three a b c) = printed a ∷ printed b ∷ printed c ∷ []
 
+-- a row as it is printed
 abbrev pub shown : Table → Row
 shown r = row r.number r.status r.name.now (listed r.fields)

@@ -1,9 +1,10 @@
-pub mod Words
 pub mod Wave
 pub mod Controls
 pub mod Lines
+pub mod Meant
 pub mod Fields
 pub mod Parts
+pub mod Answers
 pub mod Program
 pub mod Steps
 pub mod Promise

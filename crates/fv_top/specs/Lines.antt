@@ -5,8 +5,8 @@ use Rattle.fv_base.specs.declared.role.Role.{Role}
 use Rattle.fv_base.specs.declared.role.Role.TheVariants.{Program, Input, Controls, Output, Report}
 use Rattle.fv_arity.specs.declared.refusal.ArityKind.{ArityKind}
 use Rattle.fv_arity.specs.declared.refusal.ArityKind.TheVariants.{Seq, Split, Merge, RecOut, RecIn}
-use Rattle.fv_top.specs.declared.refusal.Cause.{Cause}
-use Rattle.fv_top.specs.declared.refusal.Cause.TheVariants.{Form, Number, Range, Vectors, Together, Same}
+use Rattle.fv_words.specs.declared.cause.Cause.{Cause}
+use Rattle.fv_words.specs.declared.cause.Cause.TheVariants.{Form, Number, Range, Vectors, Together, Same}
 use Rattle.fv_top.specs.declared.refusal.Refusal.{Refusal}
 use Rattle.fv_top.specs.declared.refusal.Refusal.TheVariants as no
 use Rattle.fv_top.specs.declared.status.Status.{Status}
@@ -14,12 +14,15 @@ use Rattle.fv_top.specs.declared.status.Status.TheVariants.{Done, Refused}
 
 -- ---- exit statuses
 
+-- the run is done
 abbrev pub done_status : ℕ
 done_status = 0
 
+-- a file could not be read or written
 abbrev pub fault_status : ℕ
 fault_status = 1
 
+-- the words are refused
 abbrev pub usage_status : ℕ
 usage_status = 2
 
@@ -31,11 +34,13 @@ program_status = 3
 abbrev pub file_status : ℕ
 file_status = 4
 
+-- memory ran out
 abbrev pub memory_status : ℕ
 memory_status = 5
 
 -- ---- the words that a line has
 
+-- the word of a role
 abbrev pub role_word : Role → List ℕ
 role_word Program = codes "program"
 role_word Input = codes "input"
@@ -43,6 +48,7 @@ role_word Controls = codes "controls"
 role_word Output = codes "output"
 role_word Report = codes "report"
 
+-- the word of a cause
 abbrev pub cause_word : Cause → List ℕ
 cause_word Form = codes "form"
 cause_word Number = codes "number"
@@ -51,6 +57,7 @@ cause_word Vectors = codes "vectors"
 cause_word Together = codes "together"
 cause_word Same = codes "same"
 
+-- the word of a composition that fails
 abbrev pub kind_word : ArityKind → List ℕ
 kind_word Seq = codes "seq"
 kind_word Split = codes "split"
@@ -67,6 +74,7 @@ pub record Row : Type 0 where
   pub name : List ℕ
   pub fields : List (List ℕ)
 
+-- a row of these four
 abbrev pub row : (number status : ℕ) → (name : List ℕ) → (fields : List (List ℕ)) → Row
 row number status name fields = record { number = number; status = status; name = name; fields = fields }
 
@@ -78,6 +86,7 @@ text_status Controls = file_status
 text_status Output = program_status
 text_status Report = program_status
 
+-- the row of each refusal
 abbrev pub row_of : Refusal → Row
 row_of (no.Usage cause) = row 1 usage_status (codes "Usage") (cause_word cause ∷ [])
 row_of (no.ReadFault role) = row 2 fault_status (codes "ReadFault") (role_word role ∷ [])
@@ -121,6 +130,7 @@ row_of no.FramesNeeded = row 39 usage_status (codes "FramesNeeded") []
 row_of no.NoMemory = row 40 memory_status (codes "NoMemory") []
 row_of (no.Nesting line column) = row 43 program_status (codes "Nesting") (decimal line ∷ decimal column ∷ [])
 
+-- the exit status of a refusal
 abbrev pub status_of : Refusal → ℕ
 status_of refusal = (row_of refusal).status
 
@@ -139,8 +149,10 @@ spaced fields = flat_map (λ field. codes " " ++ field) fields
 abbrev pub row_line : Row → List ℕ
 row_line r = codes "refused " ++ decimal r.number ++ codes " " ++ r.name ++ spaced r.fields ++ codes "\n"
 
+-- the line of a refusal
 abbrev pub refused_line : Refusal → List ℕ
 refused_line refusal = row_line (row_of refusal)
 
+-- the line of a run that is done
 abbrev pub done_line : (frames : ℕ) → List ℕ
 done_line frames = codes "done " ++ decimal frames ++ codes " frames\n"

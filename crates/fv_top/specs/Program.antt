@@ -1,15 +1,16 @@
 -- What a program's text is: a program of one diagram, or refused for its first fault (Faust manual, cut down by this project's profile).
-use Rattle.std.specs.Prelude.{◌≡◌, ℕ, Bool, ◌&&◌, ◌||◌, ◌==◌, nat_le, IsTrue, List, codes}
+use Rattle.std.specs.Prelude.{ℕ, Bool, ◌&&◌, ◌||◌, ◌==◌, nat_le, IsTrue, List, Result, Ok, Err, codes}
 use Rattle.fv_lex.specs.declared.refusal.LexRefusal.{LexRefusal}
 use Rattle.fv_lex.specs.declared.refusal.LexRefusal.TheVariants as bytes
 use Rattle.fv_lex.specs.Token.{Lexed}
-use Rattle.fv_lex.specs.Cuts.{HasTokens, HasRefusal as HasBytesRefusal}
+use Rattle.fv_lex.specs.Cuts.{Has}
 use Rattle.fv_grammar.specs.Tree.{Tree}
 use Rattle.fv_parse.specs.declared.refusal.ParseRefusal.{ParseRefusal}
 use Rattle.fv_parse.specs.declared.refusal.ParseRefusal.TheVariants as tokens
-use Rattle.fv_parse.specs.Outcomes.{IsAccepted, HasRefusal as HasTokensRefusal}
+use Rattle.fv_parse.specs.Outcomes.{IsAccepted, HasRefusal}
 use Rattle.fv_diagram.specs.Diagram.{Diagram}
 use Rattle.fv_small.specs.Small.{IsSmall, IsNotSmall}
+use Rattle.fv_top.specs.Answers.{Then, Turned, IsOnce, RefusesOthers}
 use Rattle.fv_top.specs.Lines.{row_of}
 use Rattle.fv_top.specs.declared.refusal.Refusal.{Refusal}
 use Rattle.fv_top.specs.declared.refusal.Refusal.TheVariants.{TextTooLong, BadByte, Unclosed, RealLiteral, LiteralTooLarge, Syntax, Unsupported, Redefined, RepeatedName, RuleWidths, NoProcess, NoMemory, Nesting}
@@ -18,16 +19,9 @@ use Rattle.fv_top.specs.declared.refusal.Refusal.TheVariants.{TextTooLong, BadBy
 abbrev pub is_of_program : ℕ → Bool
 is_of_program n = (nat_le 4 n && nat_le n 29) || (n == 43)
 
+-- the refusal is one of a program
 abbrev pub IsOfText : Refusal → Type 0
 IsOfText refusal = IsTrue (is_of_program (row_of refusal).number)
-
--- The text is a program of this diagram: its tokens spell a tree that is small by it.
-pub record IsProgram (text : List ℕ) (d : Diagram) : Type 0 where
-  pub lexed : Lexed
-  pub cut : HasTokens text lexed
-  pub tree : Tree
-  pub accepted : IsAccepted lexed tree
-  pub small : IsSmall lexed tree d
 
 -- refusals of the text's bytes, and of its tokens, as those of a run
 abbrev pub of_bytes : LexRefusal → Refusal
@@ -39,6 +33,7 @@ of_bytes (bytes.LiteralTooLarge line column) = LiteralTooLarge line column
 of_bytes (bytes.Nesting line column) = Nesting line column
 of_bytes bytes.NoMemory = NoMemory
 
+-- and those of its tokens
 abbrev pub of_tokens : ParseRefusal → Refusal
 of_tokens (tokens.Syntax line column) = Syntax line column
 of_tokens (tokens.Unsupported word) = Unsupported word
@@ -48,25 +43,43 @@ of_tokens (tokens.RuleWidths line column) = RuleWidths line column
 of_tokens tokens.NoProcess = NoProcess
 of_tokens tokens.NoMemory = NoMemory
 
--- Why a text is no program, in this order: its bytes have no tokens, its tokens are no program, the tree is not small.
-pub data IsRefusedText (text : List ℕ) (refusal : Refusal) : Type 0 where
-  bad_bytes : (e : LexRefusal) → HasBytesRefusal text e → refusal ≡ of_bytes e → IsRefusedText text refusal
-  bad_tokens : (lexed : Lexed) (e : ParseRefusal) → HasTokens text lexed → HasTokensRefusal lexed e → refusal ≡ of_tokens e → IsRefusedText text refusal
-  not_small : (lexed : Lexed) (tree : Tree) → HasTokens text lexed → IsAccepted lexed tree → IsNotSmall lexed tree → refusal ≡ Unsupported (codes "program")
-      → IsRefusedText text refusal
+-- ---- the layers
 
--- A text is a program of at most one diagram.
-abbrev pub IsOneProgram : Type 0
-IsOneProgram = (text : List ℕ) (d e : Diagram) → IsProgram text d → IsProgram text e → d ≡ e
+-- a tree, and the tokens that spell it
+pub record Spelled : Type 0 where
+  pub tokens : Lexed
+  pub tree : Tree
 
--- A text is refused for one thing at most.
-abbrev pub IsOneRefusal : Type 0
-IsOneRefusal = (text : List ℕ) (a b : Refusal) → IsRefusedText text a → IsRefusedText text b → a ≡ b
+-- what tokens are: the tree that they spell, or why they are refused
+pub data Parses (l : Lexed) : Result Spelled ParseRefusal → Type 0 where
+  spells : (x : Tree) → IsAccepted l x → Parses l (Ok (record { tokens = l; tree = x }))
+  refused : (e : ParseRefusal) → HasRefusal l e → Parses l (Err e)
 
--- No program is refused.
-abbrev pub IsNotBoth : Type 0
-IsNotBoth = (text : List ℕ) (d : Diagram) (refusal : Refusal) → IsProgram text d → IsRefusedText text refusal → ⊥
+-- what a tree is: the diagram by which it is small, or not small
+pub data Means (s : Spelled) : Result Diagram Refusal → Type 0 where
+  small : (d : Diagram) → IsSmall s.tokens s.tree d → Means s (Ok d)
+  not_small : IsNotSmall s.tokens s.tree → Means s (Err (Unsupported (codes "program")))
+
+-- what a text is up to its tree: tokens, and then their tree
+abbrev pub SpellingIs : List ℕ → Result Spelled Refusal → Type 0
+SpellingIs text r = Then (Turned of_bytes Has) (Turned of_tokens Parses) text r
+
+-- what a text is: its tokens, then their tree, then its diagram; or the first refusal on the way
+abbrev pub TextIs : List ℕ → Result Diagram Refusal → Type 0
+TextIs text r = Then SpellingIs Means text r
+
+-- The text is a program of this diagram.
+abbrev pub IsProgram : List ℕ → Diagram → Type 0
+IsProgram text d = TextIs text (Ok d)
+
+-- The text is refused for this.
+abbrev pub IsRefusedText : List ℕ → Refusal → Type 0
+IsRefusedText text refusal = TextIs text (Err refusal)
+
+-- A text is one thing at most: a program of one diagram, or refused for one thing.
+abbrev pub IsOneText : Type 0
+IsOneText = IsOnce TextIs
 
 -- What is no program is refused for something.
 abbrev pub IsOneOrOther : Type 0
-IsOneOrOther = (text : List ℕ) → ((d : Diagram) → IsProgram text d → ⊥) → (refusal : Refusal) × IsRefusedText text refusal
+IsOneOrOther = RefusesOthers TextIs

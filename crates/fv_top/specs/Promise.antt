@@ -1,27 +1,28 @@
 -- What a run promises.
 use Rattle.std.specs.Prelude.{◌≡◌, ◌≢◌, ◌⊎◌, ℕ, ◌/◌, ◌+◌, ◌≤◌, ◌%◌, ◌^◌, IsTrue, IsSome, List, [], ◌∷◌, ◌++◌, length, take, Some, Ok, Err, codes}
 use Rattle.fv_base.specs.declared.role.Role.{Role}
-use Rattle.fv_base.specs.declared.role.Role.TheVariants.{Program, Input, Controls, Output, Report}
+use Rattle.fv_base.specs.declared.role.Role.TheVariants.{Program, Input, Output, Report}
 use Rattle.fv_base.specs.Lists.{IsPrefixOf}
 use Rattle.fv_outside.specs.Requests.{Request, to_read, to_write}
 use Rattle.fv_outside.specs.Desk.{DeskState, File, file_named, HasFault, KeepsFaults, IsUnfailing}
 use Rattle.fv_diagram.specs.Diagram.{Diagram}
 use Rattle.fv_top.specs.declared.status.Tally.{Tally}
 use Rattle.fv_top.specs.declared.refusal.Refusal.{Refusal}
-use Rattle.fv_top.specs.declared.refusal.Cause.{Cause}
+use Rattle.fv_words.specs.declared.cause.Cause.{Cause}
 use Rattle.fv_top.specs.declared.refusal.Refusal.TheVariants.{Usage, ReadFault, WriteFault, Unsupported, NoMemory}
 use Rattle.fv_top.specs.declared.status.Status.{Status}
 use Rattle.fv_top.specs.declared.status.Status.TheVariants.{Done, Refused}
-use Rattle.fv_top.specs.Words.{Names, command_of}
+use Rattle.fv_words.specs.Commands.{Names, names_of}
 use Rattle.fv_top.specs.Program.{IsProgram, IsRefusedText, IsOfText}
 use Rattle.fv_top.specs.Controls.{control_streams}
-use Rattle.fv_top.specs.Wave.{IsPlainInput, output_file, frames_in, data_of, rate_of}
-use Rattle.fv_top.specs.Lines.{refused_line, done_line}
+use Rattle.fv_top.specs.Wave.{IsPlainInput, frames_in, data_of, rate_of}
+use Rattle.fv_top.specs.Meant.{Meant, run_meant, written_by}
+use Rattle.fv_top.specs.Lines.{refused_line}
 use Rattle.fv_top.specs.Steps.{Turn, reads, writes, role_of, Rules, Ends, Stops, PassesAll, all_requests}
 
 -- the words are of the form, and name these files
 abbrev pub Asks : List (List ℕ) → Names → Type 0
-Asks words names = command_of words ≡ Ok names
+Asks words names = names_of words ≡ Ok names
 
 -- The file of this name is a program's text, of this diagram.
 pub record HasProgram (name : List ℕ) (files : List File) : Type 0 where
@@ -57,26 +58,9 @@ pub record Plays (program input : List ℕ) (files : List File) : Type 0 where
 abbrev pub stated_frames : List ℕ → ℕ
 stated_frames bytes = data_of (take 44 bytes) / 2
 
--- the output file of a diagram on an input
-abbrev pub played : Diagram → (bytes : List ℕ) → List ℕ
-played d bytes = output_file d (control_streams [] []) (rate_of (take 44 bytes)) 16 (stated_frames bytes) (frames_in bytes)
-
--- What a run that is done means: the frames that it counts, the bytes of the output, and the line that it reports.
-pub record Meant : Type 0 where
-  pub frames : ℕ
-  pub output : List ℕ
-  pub line : List ℕ
-
+-- what it means that the program is played on the input
 abbrev pub meant : {program input : List ℕ} {files : List File} → Plays program input files → Meant
-meant p = record { frames = stated_frames p.on.bytes; output = played p.of.diagram p.on.bytes; line = done_line (stated_frames p.on.bytes) }
-
--- all that is written of a role at its end
-abbrev pub written_by : Meant → DeskState → Role → List ℕ
-written_by m old Program = old.written Program
-written_by m old Input = old.written Input
-written_by m old Controls = old.written Controls
-written_by m old Output = m.output
-written_by m old Report = old.written Report ++ m.line
+meant p = run_meant p.of.diagram (control_streams [] []) (rate_of (take 44 p.on.bytes)) 16 (stated_frames p.on.bytes) (frames_in p.on.bytes)
 
 -- ---- the steps of a run, in order
 
@@ -90,15 +74,18 @@ pub data Step : Type 0 where
   -- it is written, and reported
   Deliver : Step
 
+-- the steps, in their order
 abbrev pub run_steps : List Step
 run_steps = ReadProgram ∷ ReadInput ∷ Render ∷ Deliver ∷ []
 
+-- what a step asks the desk for
 abbrev pub requests_of : Names → Step → List Request
 requests_of names ReadProgram = to_read Program names.program ∷ []
 requests_of names ReadInput = to_read Input names.input ∷ []
 requests_of names Render = []
 requests_of names Deliver = to_write Output names.output ∷ []
 
+-- the roles that a step reads or writes
 abbrev pub TakesTurn : Step → Turn → Type 0
 TakesTurn ReadProgram t = t ≡ reads Program
 TakesTurn ReadInput t = t ≡ reads Input
@@ -113,24 +100,28 @@ IsAnswered names old Render t = Unit {0}
 IsAnswered names old Deliver t =
     IsUnfailing (role_of t) old × ((p : Plays names.program names.input old.files) → length (written_by (meant p) old (role_of t)) ≤ old.room (role_of t))
 
+-- the refusals of what a step judges
 abbrev pub HasRefusal : Step → Refusal → Type 0
 HasRefusal ReadProgram refusal = IsOfText refusal
 HasRefusal ReadInput refusal = refusal ≡ Unsupported (codes "input")
 HasRefusal Render refusal = ⊥
 HasRefusal Deliver refusal = ⊥
 
+-- what a step judges passes
 abbrev pub StepPasses : Names → List File → Step → Type 0
 StepPasses names files ReadProgram = HasProgram names.program files
 StepPasses names files ReadInput = HasInput names.input files
 StepPasses names files Render = Unit {0}
 StepPasses names files Deliver = Unit {0}
 
+-- what a step judges is refused for this
 abbrev pub StepRefuses : Names → List File → Step → Refusal → Type 0
 StepRefuses names files ReadProgram refusal = HasNoProgram names.program files refusal
 StepRefuses names files ReadInput refusal = (refusal ≡ Unsupported (codes "input")) × HasNoInput names.input files
 StepRefuses names files Render refusal = ⊥
 StepRefuses names files Deliver refusal = ⊥
 
+-- the rules of a run's steps
 abbrev pub run_rules : Names → DeskState → Rules Step
 run_rules names old = record {
   requests = requests_of names;
@@ -146,7 +137,7 @@ run_rules names old = record {
 -- Why it is refused, and what the desk was asked for by then: the words, or the first of the steps that cannot go on. Want
 -- of memory is free.
 pub data HasCause (words : List (List ℕ)) (old new : DeskState) : Refusal → List Request → Type 0 where
-  bad_words : {cause : Cause} → command_of words ≡ Err cause → HasCause words old new (Usage cause) []
+  bad_words : {cause : Cause} → names_of words ≡ Err cause → HasCause words old new (Usage cause) []
   of_run : {refusal : Refusal} {asked : List Request} (names : Names) → Asks words names → Ends (run_rules names old) old new run_steps refusal asked
       → HasCause words old new refusal asked
 
@@ -174,7 +165,7 @@ pub record HasPlayedPart (words : List (List ℕ)) (old new : DeskState) : Type 
   pub names : Names
   pub asks : Asks words names
   pub begun : HasBegun old new
-  pub told : IsTrue old.tells → (p : Plays names.program names.input old.files) × IsPrefixOf (new.written Output) (meant p).output
+  pub told : IsTrue old.tells → (p : Plays names.program names.input old.files) × IsPrefixOf (new.written Output) (written_by (meant p) old Output)
 
 -- Writing of the output did not begin, and what was written of it before still stands.
 pub record KeepsOutput (old new : DeskState) : Type 0 where
@@ -218,6 +209,7 @@ abbrev pub IfDone : Status → (Tally → Type 0) → Type 0
 IfDone (Done tally) P = P tally
 IfDone (Refused refusal) P = Unit {0}
 
+-- a fact of the refusal, where it was refused
 abbrev pub IfRefused : Status → (Refusal → Type 0) → Type 0
 IfRefused (Done tally) P = Unit {0}
 IfRefused (Refused refusal) P = P refusal
@@ -244,4 +236,4 @@ IsStrict words old new status =
 
 -- Words that are refused are refused for their cause.
 abbrev pub IsExact : (words : List (List ℕ)) → Status → Type 0
-IsExact words status = (cause : Cause) → command_of words ≡ Err cause → status ≡ Refused (Usage cause)
+IsExact words status = (cause : Cause) → names_of words ≡ Err cause → status ≡ Refused (Usage cause)

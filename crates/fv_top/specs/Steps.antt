@@ -12,6 +12,7 @@ pub data Turn : Type 0 where
   reads : Role → Turn
   writes : Role → Turn
 
+-- the role of a turn
 abbrev pub role_of : Turn → Role
 role_of (reads role) = role
 role_of (writes role) = role

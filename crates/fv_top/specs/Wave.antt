@@ -7,9 +7,11 @@ use Rattle.fv_num.specs.Frames.{Frame, Stream}
 use Rattle.fv_diagram.specs.Diagram.{Diagram, outputs}
 use Rattle.fv_diagram.specs.Streams.{run}
 
+-- a number in two bytes, the lowest first
 abbrev pub le16 : ℕ → List ℕ
 le16 n = to_le_bytes w16 n
 
+-- and in four
 abbrev pub le32 : ℕ → List ℕ
 le32 n = to_le_bytes w32 n
 
@@ -28,6 +30,7 @@ abbrev pub sample_bytes : (bits : ℕ) → ℤ → List ℕ
 sample_bytes bits x =
     take (bits / 8) (le32 (cast_unsigned w32 (if bits == 8 then clamped bits x +ℤ pos 128 else clamped bits x)))
 
+-- the bytes of a frame
 abbrev pub frame_bytes : (bits : ℕ) → Frame → List ℕ
 frame_bytes bits x = flat_map (sample_bytes bits) x
 
@@ -50,6 +53,7 @@ data_limit = 4294967258
 abbrev pub rate_of : List ℕ → ℕ
 rate_of head = from_le_bytes w32 (slice_range head 24 28)
 
+-- the bytes of samples that a head states
 abbrev pub data_of : List ℕ → ℕ
 data_of head = from_le_bytes w32 (slice_range head 40 44)
 

@@ -10,9 +10,9 @@ mod run;
 mod sound;
 mod status;
 mod text;
-mod words;
 
-pub use refusal::{Cause, Refusal};
+pub use fv_words::Cause;
+pub use refusal::Refusal;
 pub use run::run_faustvec;
 pub use status::{Status, Tally};
 pub use text::one_program;

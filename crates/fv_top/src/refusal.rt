@@ -10,6 +10,7 @@ use fv_diagram::Label;
 use fv_lex::LexRefusal;
 use fv_outside::{Role, Word};
 use fv_parse::ParseRefusal;
+use fv_words::Cause;
 use std::alloc::AllocError;
 
 /// Why a run was refused. Lines and columns of the program's text, and lines of a script, count from 1; a column is one byte.
@@ -185,23 +186,6 @@ pub enum Refusal {
         line: u32,
         column: u32,
     },
-}
-
-/// What is wrong with the words.
-#[derive(Clone, Copy, PartialEq, Eq, Debug)]
-pub enum Cause {
-    /// They are not of the form of a command.
-    Form,
-    /// A number is not spelled as one.
-    Number,
-    /// A number is out of its range.
-    Range,
-    /// A block has too many vectors.
-    Vectors,
-    /// An option does not go together with an input file.
-    Together,
-    /// The output is also the program or the input.
-    Same,
 }
 
 impl Refusal {

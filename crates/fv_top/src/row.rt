@@ -5,9 +5,10 @@ ghost use Rattle.std.specs.Fmt.{signed_decimal};
 ghost use Rattle.fv_top.specs.Lines.{role_word, cause_word, kind_word, text_status, row_of};
 ghost use Rattle.fv_top.specs.Fields.{listed, shown};
 
-use crate::refusal::{Cause, Refusal};
+use crate::refusal::Refusal;
 use fv_arity::ArityKind;
 use fv_outside::Role;
+use fv_words::Cause;
 
 /// What the line of a refusal says, and the exit status.
 #[derive(Clone, Copy)]

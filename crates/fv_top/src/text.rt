@@ -1,11 +1,11 @@
 // A program's text: its tokens, their tree, and the tree's diagram.
 
-ghost use Rattle.std.specs.Prelude.{◌≡◌, ◌⊎◌, ◌<◌, length, IfOk, IfErr};
+ghost use Rattle.std.specs.Prelude.{◌≡◌, ◌⊎◌, ◌<◌, IfOk, IfErr};
 ghost use Rattle.fv_diagram.specs.Arena.{count_of, tree_of};
 ghost use Rattle.fv_diagram.specs.Diagram.{control_bound, HasNoFreeSlot};
 ghost use Rattle.fv_top.specs.declared.refusal.Refusal.TheVariants.{NoMemory};
 ghost use Rattle.fv_top.specs.Loading.{IsUnsupportedOrNoMemory};
-ghost use Rattle.fv_top.specs.Program.{IsProgram, IsRefusedText, IsOneProgram, IsOneRefusal, IsNotBoth, IsOneOrOther, IsOfText};
+ghost use Rattle.fv_top.specs.Program.{IsProgram, IsRefusedText, IsOneText, IsOneOrOther, IsOfText};
 
 use crate::refusal::Refusal;
 use fv_grammar::spelled_once;
@@ -17,9 +17,7 @@ use std::alloc::Global;
 
 /// A text is a program of one diagram, or it is refused for one thing, and never both.
 pub fn one_program()
-    ensures program { IsOneProgram }
-    ensures refusal { IsOneRefusal }
-    ensures apart { IsNotBoth }
+    ensures once { IsOneText }
     ensures either { IsOneOrOther }
 {
     one_answer();

@@ -2,8 +2,9 @@
 use Rattle.std.specs.Prelude.{ℕ, ◌≤◌, IsTrue, List, length}
 use Rattle.fv_base.specs.declared.role.Role.{Role}
 use Rattle.fv_outside.specs.Desk.{DeskState, IsUnfailing}
-use Rattle.fv_top.specs.Words.{Names}
-use Rattle.fv_top.specs.Promise.{Asks, HasProgram, HasInput, Plays, meant, written_by}
+use Rattle.fv_words.specs.Commands.{Names}
+use Rattle.fv_top.specs.Promise.{Asks, HasProgram, HasInput, Plays, meant}
+use Rattle.fv_top.specs.Meant.{written_by}
 
 -- The words name files that are there and can be played; the desk tells its bytes, fails no later call, and has room for what
 -- will be written.

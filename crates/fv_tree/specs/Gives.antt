@@ -14,6 +14,8 @@ use Rattle.fv_grammar.specs.Tree.{Tree}
 use Rattle.fv_grammar.specs.Descent.{Step, ◌>>=◌, Turn, Done, Next, Item, Nothing, Skip, One, rank_at, operator_at}
 use Rattle.fv_grammar.specs.Descent.{Stop as Halts, Fault as Refused}
 use Rattle.fv_tree.specs.Arena.{tree_at, trees, forest, Keeps}
+use Rattle.fv_grammar.specs.declared.symbol.Operands.{Operands}
+use Rattle.fv_grammar.specs.declared.symbol.Commas.{Commas}
 
 -- reading stops where the symbols are left, or memory ran out
 abbrev pub Fails : {A : Type 0} → Stop → List Symbol → Result A (List Symbol) → Type 0
@@ -31,16 +33,16 @@ Skips test old new true = (test old.rest.now ≡ true) × (new.rest.now ≡ drop
 Skips test old new false = (test old.rest.now ≡ false) × (new.rest.now ≡ old.rest.now)
 
 -- the operator of this rank was passed
-pub record Operates (op : Operator) (pattern comma : Bool) (wanted : ℕ) (tokens rest : List Symbol) : Type 0 where
-  pub there : nat_eq (rank_at pattern comma tokens) wanted ≡ true
+pub record Operates (op : Operator) (kind : Operands) (comma : Commas) (wanted : ℕ) (tokens rest : List Symbol) : Type 0 where
+  pub there : nat_eq (rank_at kind comma tokens) wanted ≡ true
   pub is : op ≡ operator_at tokens
   pub after : rest ≡ drop 1 tokens
   pub shorter : length rest < length tokens
 
 -- an operator of this rank was passed, if it stood there
-abbrev pub IsOperatorAt : Bool → Bool → ℕ → Symbols → Symbols → Option Operator → Type 0
-IsOperatorAt pattern comma wanted old new None = (nat_eq (rank_at pattern comma old.rest.now) wanted ≡ false) × (new.rest.now ≡ old.rest.now)
-IsOperatorAt pattern comma wanted old new (Some op) = Operates op pattern comma wanted old.rest.now new.rest.now
+abbrev pub IsOperatorAt : Operands → Commas → ℕ → Symbols → Symbols → Option Operator → Type 0
+IsOperatorAt kind comma wanted old new None = (nat_eq (rank_at kind comma old.rest.now) wanted ≡ false) × (new.rest.now ≡ old.rest.now)
+IsOperatorAt kind comma wanted old new (Some op) = Operates op kind comma wanted old.rest.now new.rest.now
 
 -- the tree was found, and those before it are still there
 pub record Found (old new : List Tree) (id : TreeId) (rest : List Symbol) (read : Step Tree) : Type 0 where

@@ -12,7 +12,7 @@ use crate::node::{TreeId, TreeNode};
 use crate::phrases::LOOSEST;
 use crate::reader::{Reader, Stop};
 use crate::tables::head;
-use fv_grammar::{Head, Inside, Items, Iteration, Mark, Panel, Side, Slider};
+use fv_grammar::{Commas, Head, Inside, Items, Iteration, Mark, Operands, Panel, Side, Slider};
 use fv_lex::Symbol;
 
 impl<'a> Reader<'a> {
@@ -27,10 +27,15 @@ impl<'a> Reader<'a> {
         }
         match what {
             Inside::Expression => self.expression(room - 1),
-            Inside::Argument => self.phrase(room - 1, false, false, LOOSEST),
-            Inside::Pattern => self.phrase(room - 1, true, true, LOOSEST),
-            Inside::Arguments => self.listed(room - 1, Items::Parts(false)),
-            Inside::Patterns => self.listed(room - 1, Items::Parts(true)),
+            Inside::Argument => self.phrase(
+                room - 1,
+                Operands::Expressions,
+                Commas::Separate,
+                LOOSEST,
+            ),
+            Inside::Pattern => self.phrase(room - 1, Operands::Patterns, Commas::Join, LOOSEST),
+            Inside::Arguments => self.listed(room - 1, Items::Parts(Operands::Expressions)),
+            Inside::Patterns => self.listed(room - 1, Items::Parts(Operands::Patterns)),
             Inside::Rules => self.listed(room - 1, Items::Rules),
             Inside::Definitions => self.further(room - 1, Items::Definitions, None),
         }
@@ -282,11 +287,11 @@ impl<'a> Reader<'a> {
 
     /// What the operators join.
     #[cycle(parser)]
-    pub(crate) fn operand(&mut self, room: usize, pattern: bool) -> Result<TreeId, Stop>
-        ensures is { Gives self.old self.new result (operand (within room) pattern self.old.symbols.rest.now) }
+    pub(crate) fn operand(&mut self, room: usize, operands: Operands) -> Result<TreeId, Stop>
+        ensures is { Gives self.old self.new result (operand (within room) operands self.old.symbols.rest.now) }
         ensures shorter { OnOk result (length self.new.symbols.rest.now < length self.old.symbols.rest.now) }
     {
-        if !pattern {
+        if operands == Operands::Expressions {
             return self.postfix(room);
         }
         let all = self.symbols.rest;

@@ -8,37 +8,40 @@ ghost use Rattle.fv_tree.specs.Gives.{Gives, GivesTurn};
 use crate::node::{TreeId, TreeNode};
 use crate::pending::{Pending, join};
 use crate::reader::{Reader, Stop};
-use fv_grammar::{Inside, Mark};
+use fv_grammar::{Commas, Inside, Mark, Operands};
 use fv_lex::Symbol;
 
-/// The height up to which operators associate to the left.
-const LAST_LEFT: usize = 5;
+/// The precedence up to which operators associate to the left.
+const LAST_LEFT: Precedence = 5;
 
-/// The height of the loosest operators.
-pub(crate) const LOOSEST: usize = 8;
+/// How tight operators bind: the lower, the tighter, and 0 where there are none (Faust manual).
+pub(crate) type Precedence = usize;
+
+/// The precedence of the loosest operators.
+pub(crate) const LOOSEST: Precedence = 8;
 
 impl Reader<'_> {
-    /// Parts that are joined by the operators up to a height.
+    /// Parts that are joined by the operators up to a precedence.
     #[cycle(parser)]
     pub(crate) fn phrase(
         &mut self,
         room: usize,
-        pattern: bool,
-        commas: bool,
-        height: usize,
+        operands: Operands,
+        commas: Commas,
+        precedence: Precedence,
     ) -> Result<TreeId, Stop>
-        requires { height ≤ 8 }
-        ensures is { Gives self.old self.new result (phrase (within room) pattern commas height self.old.symbols.rest.now) }
+        requires { precedence ≤ 8 }
+        ensures is { Gives self.old self.new result (phrase (within room) operands commas precedence self.old.symbols.rest.now) }
         ensures shorter { OnOk result (length self.new.symbols.rest.now < length self.old.symbols.rest.now) }
     {
-        if height == 0 {
-            self.operand(room, pattern)
-        } else if height <= LAST_LEFT {
+        if precedence == 0 {
+            self.operand(room, operands)
+        } else if precedence <= LAST_LEFT {
             let start = self.symbols.rest.len();
-            let first = self.phrase(room, pattern, commas, height - 1)?;
-            self.lefts(room, pattern, commas, height, start, first)
+            let first = self.phrase(room, operands, commas, precedence - 1)?;
+            self.lefts(room, operands, commas, precedence, start, first)
         } else {
-            self.rights(room, pattern, commas, height)
+            self.rights(room, operands, commas, precedence)
         }
     }
 
@@ -46,19 +49,19 @@ impl Reader<'_> {
     fn lefts(
         &mut self,
         room: usize,
-        pattern: bool,
-        commas: bool,
-        height: usize,
+        operands: Operands,
+        commas: Commas,
+        precedence: Precedence,
         start: usize,
         first: TreeId,
     ) -> Result<TreeId, Stop>
-        requires height { (0 < height) × (height ≤ 5) }
+        requires height { (0 < precedence) × (precedence ≤ 5) }
         requires inside { first < length (trees self.old.arena) }
-        ensures is { Gives self.old self.new result (run (left_turn (phrase (within room) pattern commas (height - 1)) pattern commas (height + 1) start) (tree_at (trees self.old.arena) first) self.old.symbols.rest.now) }
+        ensures is { Gives self.old self.new result (run (left_turn (phrase (within room) operands commas (precedence - 1)) operands commas (precedence + 1) start) (tree_at (trees self.old.arena) first) self.old.symbols.rest.now) }
         ensures shorter { OnOk result (length self.new.symbols.rest.now ≤ length self.old.symbols.rest.now) }
     {
         let mut tree = first;
-        while let Some(next) = self.next_left(room, pattern, commas, height, start, tree)? {
+        while let Some(next) = self.next_left(room, operands, commas, precedence, start, tree)? {
             tree = next;
         }
         Ok(tree)
@@ -68,21 +71,21 @@ impl Reader<'_> {
     fn next_left(
         &mut self,
         room: usize,
-        pattern: bool,
-        commas: bool,
-        height: usize,
+        operands: Operands,
+        commas: Commas,
+        precedence: Precedence,
         start: usize,
         tree: TreeId,
     ) -> Result<Option<TreeId>, Stop>
-        requires height { (0 < height) × (height ≤ 5) }
+        requires height { (0 < precedence) × (precedence ≤ 5) }
         requires inside { tree < length (trees self.old.arena) }
-        ensures is { GivesTurn self.old self.new result (left_turn (phrase (within room) pattern commas (height - 1)) pattern commas (height + 1) start (tree_at (trees self.old.arena) tree) self.old.symbols.rest.now) }
+        ensures is { GivesTurn self.old self.new result (left_turn (phrase (within room) operands commas (precedence - 1)) operands commas (precedence + 1) start (tree_at (trees self.old.arena) tree) self.old.symbols.rest.now) }
         ensures shorter { IfOk result (λ o. OnSome o (length self.new.symbols.rest.now < length self.old.symbols.rest.now)) }
     {
-        match self.symbols.operator_of(pattern, commas, height + 1) {
+        match self.symbols.operator_of(operands, commas, precedence + 1) {
             None => Ok(None),
             Some(op) => {
-                let second = self.phrase(room, pattern, commas, height - 1)?;
+                let second = self.phrase(room, operands, commas, precedence - 1)?;
                 Ok(Some(self.arena.push(TreeNode::Binary(op, tree, second), start)?))
             }
         }
@@ -92,19 +95,19 @@ impl Reader<'_> {
     fn rights(
         &mut self,
         room: usize,
-        pattern: bool,
-        commas: bool,
-        height: usize,
+        operands: Operands,
+        commas: Commas,
+        precedence: Precedence,
     ) -> Result<TreeId, Stop>
-        requires { (5 < height) × (height ≤ 8) }
-        ensures is { Gives self.old self.new result (chain (phrase (within room) pattern commas (height - 1)) pattern commas (height + 1) self.old.symbols.rest.now) }
+        requires { (5 < precedence) × (precedence ≤ 8) }
+        ensures is { Gives self.old self.new result (chain (phrase (within room) operands commas (precedence - 1)) operands commas (precedence + 1) self.old.symbols.rest.now) }
         ensures shorter { OnOk result (length self.new.symbols.rest.now < length self.old.symbols.rest.now) }
     {
         let mut pending = Vec::new(self.alloc);
         loop {
             let start = self.symbols.rest.len();
-            let tree = self.phrase(room, pattern, commas, height - 1)?;
-            match self.symbols.operator_of(pattern, commas, height + 1) {
+            let tree = self.phrase(room, operands, commas, precedence - 1)?;
+            match self.symbols.operator_of(operands, commas, precedence + 1) {
                 None => return Ok(join(&mut self.arena, pending, tree)?),
                 Some(op) => pending.push(Pending {
                     left: tree,
@@ -122,7 +125,7 @@ impl Reader<'_> {
         ensures shorter { OnOk result (length self.new.symbols.rest.now < length self.old.symbols.rest.now) }
     {
         let start = self.symbols.rest.len();
-        let first = self.phrase(room, false, true, LOOSEST)?;
+        let first = self.phrase(room, Operands::Expressions, Commas::Join, LOOSEST)?;
         self.withs(room, start, first)
     }
 

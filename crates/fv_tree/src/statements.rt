@@ -8,7 +8,7 @@ ghost use Rattle.fv_tree.specs.Gives.{Gives, GivesItem, in_front, list_of};
 use crate::node::{TreeId, TreeNode};
 use crate::phrases::LOOSEST;
 use crate::reader::{Reader, Stop};
-use fv_grammar::{Inside, Items, Mark};
+use fv_grammar::{Commas, Inside, Items, Mark, Operands};
 use fv_lex::Symbol;
 use std::alloc::{AllocError, Global};
 
@@ -151,14 +151,14 @@ impl Reader<'_> {
     }
 
     #[cycle(parser)]
-    fn next_part(&mut self, room: usize, pattern: bool) -> Result<Option<Option<TreeId>>, Stop>
-        ensures is { GivesItem self.old self.new result (next_part (within room) pattern self.old.symbols.rest.now) }
+    fn next_part(&mut self, room: usize, operands: Operands) -> Result<Option<Option<TreeId>>, Stop>
+        ensures is { GivesItem self.old self.new result (next_part (within room) operands self.old.symbols.rest.now) }
         ensures shorter { IfOk result (λ o. OnSome o (length self.new.symbols.rest.now < length self.old.symbols.rest.now)) }
     {
         match self.symbols.rest {
             [Symbol::Comma, after @ ..] => {
                 self.symbols.rest = after;
-                Ok(Some(Some(self.phrase(room, pattern, false, LOOSEST)?)))
+                Ok(Some(Some(self.phrase(room, operands, Commas::Separate, LOOSEST)?)))
             }
             _ => Ok(None),
         }
@@ -173,7 +173,7 @@ impl Reader<'_> {
             Items::Statements => self.statement(room),
             Items::Definitions => self.inner_definition(room),
             Items::Rules => self.next_rule(room),
-            Items::Parts(pattern) => self.next_part(room, pattern),
+            Items::Parts(operands) => self.next_part(room, operands),
         }
     }
 
@@ -203,7 +203,7 @@ impl Reader<'_> {
     {
         match items {
             Items::Rules => self.one_rule(room),
-            Items::Parts(pattern) => self.phrase(room, pattern, false, LOOSEST),
+            Items::Parts(operands) => self.phrase(room, operands, Commas::Separate, LOOSEST),
             _ => Err(Stop::Syntax),
         }
     }

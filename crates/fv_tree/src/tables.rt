@@ -2,9 +2,13 @@
 
 ghost use Rattle.std.specs.Prelude.{◌≡◌, None};
 ghost use Rattle.fv_grammar.specs.Symbols.{head, outside, rank, operator};
+ghost use Rattle.fv_grammar.specs.declared.symbol.Operands.TheVariants.{Expressions};
+ghost use Rattle.fv_lex.specs.declared.token.Symbol.TheVariants.{Comma};
 ghost use Rattle.fv_tree.specs.Heads.{primitive_in};
 
-use fv_grammar::{Head, Iteration, Operator, Panel, Primitive, Side, Slider, Switch};
+use fv_grammar::{
+    Commas, Head, Iteration, Operands, Operator, Panel, Primitive, Side, Slider, Switch,
+};
 use fv_lex::Symbol;
 
 /// The primitive that a token is by itself. `+` and `-` are none, since a number may stand behind them.
@@ -84,36 +88,49 @@ pub(crate) fn head(token: Symbol) -> Head
 }
 
 /// How an operator of expressions ranks, in a pattern or not.
-fn outside(pattern: bool, rank: usize) -> usize
-    ensures { result ≡ outside pattern rank }
+fn outside(operands: Operands, rank: usize) -> usize
+    ensures { result ≡ outside operands rank }
 {
-    if pattern { 99 } else { rank }
+    match operands {
+        Operands::Expressions => rank,
+        Operands::Patterns => 99,
+    }
 }
 
-/// How loosely a token joins what stands before it.
-pub(crate) fn rank(pattern: bool, comma: bool, token: Symbol) -> usize
-    ensures { result ≡ rank pattern comma token }
+/// How a comma ranks.
+fn comma_rank(commas: Commas) -> usize
+    ensures { result ≡ rank Expressions commas Comma }
+{
+    match commas {
+        Commas::Join => 7,
+        Commas::Separate => 99,
+    }
+}
+
+/// How loosely a token joins what stands before it: an operator one more than its precedence.
+pub(crate) fn rank(operands: Operands, commas: Commas, token: Symbol) -> usize
+    ensures { result ≡ rank operands commas token }
 {
     match token {
         Symbol::Name(_) | Symbol::Integer(_) => 0,
-        Symbol::Tick | Symbol::Open => outside(pattern, 1),
-        Symbol::At => outside(pattern, 2),
+        Symbol::Tick | Symbol::Open => outside(operands, 1),
+        Symbol::At => outside(operands, 2),
         Symbol::Times
         | Symbol::Divide
         | Symbol::Percent
         | Symbol::Ampersand
         | Symbol::Xor
         | Symbol::ShiftLeft
-        | Symbol::ShiftRight => outside(pattern, 3),
-        Symbol::Plus | Symbol::Minus | Symbol::Bar => outside(pattern, 4),
+        | Symbol::ShiftRight => outside(operands, 3),
+        Symbol::Plus | Symbol::Minus | Symbol::Bar => outside(operands, 4),
         Symbol::Less
         | Symbol::LessEqual
         | Symbol::Greater
         | Symbol::GreaterEqual
         | Symbol::EqualEqual
-        | Symbol::NotEqual => outside(pattern, 5),
+        | Symbol::NotEqual => outside(operands, 5),
         Symbol::Tilde => 6,
-        Symbol::Comma => { if comma { 7 } else { 99 } }
+        Symbol::Comma => comma_rank(commas),
         Symbol::Colon => 8,
         Symbol::Split | Symbol::Merge => 9,
         _ => 99,

@@ -7,7 +7,7 @@ ghost use Rattle.fv_tree.specs.Gives.{Takes, Skips, IsOperatorAt};
 
 use crate::reader::{Stop, Symbols};
 use crate::tables::{operator, rank};
-use fv_grammar::{Mark, Operator};
+use fv_grammar::{Commas, Mark, Operands, Operator};
 use fv_lex::Symbol;
 use std::alloc::Global;
 
@@ -90,17 +90,17 @@ impl Symbols<'_> {
     /// Passes the operator of this rank, if it stands there.
     pub(crate) fn operator_of(
         &mut self,
-        pattern: bool,
-        commas: bool,
+        operands: Operands,
+        commas: Commas,
         wanted: usize,
     ) -> Option<Operator>
         requires { wanted < 10 }
-        ensures { IsOperatorAt pattern commas wanted self.old self.new result }
+        ensures { IsOperatorAt operands commas wanted self.old self.new result }
     {
         match self.rest {
             [] => None,
             [symbol, after @ ..] => {
-                if rank(pattern, commas, *symbol) == wanted {
+                if rank(operands, commas, *symbol) == wanted {
                     self.rest = after;
                     Some(operator(*symbol))
                 } else {

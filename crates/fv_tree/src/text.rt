@@ -1,6 +1,7 @@
 // All symbols of a text.
 
 ghost use Rattle.std.specs.Prelude.{◌<◌};
+ghost use Rattle.fv_lex.specs.Cuts.{deepest};
 ghost use Rattle.fv_grammar.specs.Descent.{program};
 ghost use Rattle.fv_tree.specs.Gives.{Reads};
 
@@ -8,7 +9,7 @@ use crate::arena::Arena;
 use crate::node::TreeId;
 use crate::reader::{Reader, Stop, Symbols};
 use fv_grammar::Items;
-use fv_lex::Symbol;
+use fv_lex::{DEEPEST_NESTING, Symbol};
 use std::alloc::Global;
 
 /// Why there is no tree.
@@ -21,12 +22,12 @@ pub enum Fault<'a> {
 }
 
 /// The most brackets that may be open at once.
-const MOST_OPEN: usize = 128;
+const MOST_OPEN: usize = DEEPEST_NESTING as usize;
 
-/// The tree that the symbols spell, where at most 128 brackets are open at once: its nodes, and its outermost list of
-/// definitions. A fault has the symbols from the first that does not fit.
+/// The tree that the symbols spell, where no more brackets than a text may have are open at once: its nodes, and its
+/// outermost list of definitions. A fault has the symbols from the first that does not fit.
 pub fn read<'a>(alloc: Global, symbols: &'a [Symbol]) -> Result<(Arena, TreeId), Fault<'a>>
-    ensures { Reads (λ x. x.0) (λ x. x.1) result (program 128 symbols.now) }
+    ensures { Reads (λ x. x.0) (λ x. x.1) result (program deepest symbols.now) }
 {
     let mut reader = Reader {
         arena: Arena::new(alloc),

@@ -58,6 +58,37 @@ fn a_file_is_written(rt: HostRuntime) -> Result<(), Fail> {
     Ok(())
 }
 
+// The plain file, on a desk that may fail.
+fn write_plain(desk: &mut MemoryDesk) -> Result<(), WriteRefusal> {
+    if desk.begin_write(Role::Output, "file").is_err() {
+        return Err(WriteRefusal::WriteFault { role: Role::Output });
+    }
+    let mut bytes = [0; 6];
+    write_head(desk, 1, 44100, 16, 6)?;
+    write_frames(desk, 16, &[1, -2, 3], &mut bytes)?;
+    write_pad(desk, 6)
+}
+
+/// What is answered where the call of Output with this number fails, and how many bytes were written.
+fn faulty(alloc: Global, call: u32) -> Result<(Result<(), WriteRefusal>, usize), Fail> {
+    let mut desk = MemoryDesk::new(alloc);
+    desk.room(Role::Output, 50)?;
+    desk.fail(Role::Output, call)?;
+    let answer = write_plain(&mut desk);
+    Ok((answer, desk.written(Role::Output).len()))
+}
+
+#[test]
+fn write_faults(rt: HostRuntime) -> Result<(), Fail> {
+    let alloc = rt.alloc();
+    let fault = Err(WriteRefusal::WriteFault { role: Role::Output });
+    assert_eq!(rt; faulty(alloc, 0)?, (fault, 0));
+    assert_eq!(rt; faulty(alloc, 2)?, (fault, 4));
+    assert_eq!(rt; faulty(alloc, 11)?, (fault, 44));
+    assert_eq!(rt; faulty(alloc, 12)?, (Ok(()), 50));
+    Ok(())
+}
+
 #[test]
 fn lengths(rt: HostRuntime) -> Result<(), Fail> {
     assert_eq!(rt; data_length(1, 16, 3), Some(6));

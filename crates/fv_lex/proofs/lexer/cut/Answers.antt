@@ -35,10 +35,10 @@ returns-in-Refused-clause-refusal c = rw c.refusal_at.ensures (inr (reads_fault 
 pub split_at-requires : goal.split_at-requires
 split_at-requires c = found_fits c.loop-symbols.rest.now c.in-Found.count c.in-Found.kind (sym c.in-Found.ensures)
 
-pub returns-then-inside-gt-MAX_DEPTH-clause-refusal : goal.returns-then-inside-gt-MAX_DEPTH-clause-refusal
-returns-then-inside-gt-MAX_DEPTH-clause-refusal c =
+pub returns-then-inside-gt-DEEPEST_NESTING-clause-refusal : goal.returns-then-inside-gt-DEEPEST_NESTING-clause-refusal
+returns-then-inside-gt-DEEPEST_NESTING-clause-refusal c =
     let front = front_of c.loop-symbols.rest.now c.split_at.result.0.now c.split_at.result.1.now c.in-Found.count c.in-Found.kind (sym c.in-Found.ensures) c.split_at.ensures.front c.split_at.ensures.back in
-    rw c.refusal_at-then-inside-gt-MAX_DEPTH.ensures (inr (reads_deep c.args.text.now c.loop-symbols.rest.now c.split_at.result.0.now c.split_at.result.1.now c.loop-symbols.place c.loop-symbols.depth _ c.in-Found.kind c.requires c.loop-symbols.invariant.so_far front (omega (arith, c.depth_after-inside.ensures))))
+    rw c.refusal_at-then-inside-gt-DEEPEST_NESTING.ensures (inr (reads_deep c.args.text.now c.loop-symbols.rest.now c.split_at.result.0.now c.split_at.result.1.now c.loop-symbols.place c.loop-symbols.depth _ c.in-Found.kind c.requires c.loop-symbols.invariant.so_far front (omega (arith, c.depth_after-inside.ensures))))
 
 pub push_piece-requires-clause-token : goal.push_piece-requires-clause-token
 push_piece-requires-clause-token c =
@@ -64,7 +64,7 @@ loop-symbols-preserved c =
       line = omega (arith, c.place_after-place.ensures.near.0, c.split_at.ensures.front_len, c.split_at.ensures.back_len);
       column = omega (arith, c.place_after-place.ensures.near.1, c.split_at.ensures.front_len, c.split_at.ensures.back_len);
       shallow = omega arith;
-      bare = rw c.saturating_sub-known.ensures (bare_next c.loop-symbols.rest.now c.split_at.result.1.now c.in-Found.count c.wires-bare.result c.in-Found.kind c.wires-bare.ensures found c.split_at.ensures.back);
+      bare = rw c.saturating_sub-known.ensures (bare_next c.loop-symbols.rest.now c.split_at.result.1.now c.in-Found.count c.bare_underscores-bare.result c.in-Found.kind c.bare_underscores-bare.ensures found c.split_at.ensures.back);
       paired = rw (c.in_ok-push_piece-in-Found.ensures.symbols, c.in_ok-push_piece-in-Found.ensures.spans) (paired_more c.loop-symbols.symbols.items c.loop-symbols.spans.items _ c.in-Found.kind c.split_at.result.0.now start c.loop-symbols.place c.loop-symbols.invariant.paired);
       few = rw c.in_ok-push_piece-in-Found.ensures.spans (omega (arith, few_more c.loop-symbols.spans.items c.in-Found.kind c.split_at.result.0.now start c.loop-symbols.place some, c.split_at.ensures.front_len, c.split_at.ensures.back_len));
       within = rw c.in_ok-push_piece-in-Found.ensures.spans (within_more c.args.text.now c.loop-symbols.spans.items c.in-Found.kind c.split_at.result.0.now start c.loop-symbols.place inside c.loop-symbols.invariant.within);

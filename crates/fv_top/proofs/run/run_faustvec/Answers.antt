@@ -25,7 +25,7 @@ returns-in-Err-clause-report g c = (ends_refused (map string_bytes c.args.words.
 pub returns-in-Err-clause-complete : goal.returns-in-Err-clause-complete
 returns-in-Err-clause-complete g c =
     let ends = ends_refused (map string_bytes c.args.words.now) (g.D.Desk.state c.args.desk.now) (g.D.Desk.state c.perform.new.desk) (g.D.Desk.state c.refuse.new.desk) c.in-Err.refusal c.in-Err.ensures.stops c.refuse.ensures in
-    refused_complete (map string_bytes c.args.words.now) (g.D.Desk.state c.args.desk.now) (g.D.Desk.state c.refuse.new.desk) c.in-Err.refusal ends.cause.asked c.one_program.ensures.refusal c.one_program.ensures.apart ends.cause.cause
+    refused_complete (map string_bytes c.args.words.now) (g.D.Desk.state c.args.desk.now) (g.D.Desk.state c.refuse.new.desk) c.in-Err.refusal ends.cause.asked c.one_program.ensures.once ends.cause.cause
 
 pub returns-in-Err-clause-exact : goal.returns-in-Err-clause-exact
 returns-in-Err-clause-exact g c =
@@ -35,7 +35,7 @@ returns-in-Err-clause-exact g c =
 pub returns-in-Err-clause-strict : goal.returns-in-Err-clause-strict
 returns-in-Err-clause-strict g c =
     let ends = ends_refused (map string_bytes c.args.words.now) (g.D.Desk.state c.args.desk.now) (g.D.Desk.state c.perform.new.desk) (g.D.Desk.state c.refuse.new.desk) c.in-Err.refusal c.in-Err.ensures.stops c.refuse.ensures in
-    refused_strict (map string_bytes c.args.words.now) (g.D.Desk.state c.args.desk.now) (g.D.Desk.state c.refuse.new.desk) c.in-Err.refusal ends.cause.asked c.one_program.ensures.refusal c.one_program.ensures.apart ends.cause.cause
+    refused_strict (map string_bytes c.args.words.now) (g.D.Desk.state c.args.desk.now) (g.D.Desk.state c.refuse.new.desk) c.in-Err.refusal ends.cause.asked c.one_program.ensures.once ends.cause.cause
 
 pub returns-clause-goes_on : goal.returns-clause-goes_on
 returns-clause-goes_on g c = c.in-Ok.ensures.done.goes_on
@@ -50,4 +50,4 @@ pub returns-clause-exact : goal.returns-clause-exact
 returns-clause-exact g c = done_exact (map string_bytes c.args.words.now) c.in-Ok.tally c.in-Ok.tally.frames (g.D.Desk.state c.args.desk.now) (g.D.Desk.state c.perform.new.desk) c.in-Ok.ensures.done.played
 
 pub returns-clause-strict : goal.returns-clause-strict
-returns-clause-strict g c = done_strict (map string_bytes c.args.words.now) c.in-Ok.tally c.in-Ok.tally.frames (g.D.Desk.state c.args.desk.now) (g.D.Desk.state c.perform.new.desk) c.one_program.ensures.refusal c.one_program.ensures.apart c.in-Ok.ensures.done.played
+returns-clause-strict g c = done_strict (map string_bytes c.args.words.now) c.in-Ok.tally c.in-Ok.tally.frames (g.D.Desk.state c.args.desk.now) (g.D.Desk.state c.perform.new.desk) c.one_program.ensures.once c.in-Ok.ensures.done.played

@@ -1,5 +1,5 @@
 use Rattle.std.proofs.lemmas.Result.{err_from_is_err_and}
-use Rattle.fv_top.proofs.Programs.{bytes_stop, tokens_stop, tree_stops}
+use Rattle.fv_top.proofs.Programs.{bytes_stop, tokens_stop, tree_stops, tree_plays}
 use Rattle.fv_top.proofs.text.read_program.Goals as goal
 
 pub returns-in_err-tokens-clause-refused : goal.returns-in_err-tokens-clause-refused
@@ -18,3 +18,10 @@ returns-clause-refused c =
     let none = rw c.in-None.is at c.in_ok-program.ensures.refused in
     let none = rw tree.tokens at none in
     tree_stops c.args.text.now _ _ _ c.in_ok-tokens.ensures.tokens (record { supported = tree.supported; spelled = tree.spelled; accepted = tree.accepted }) none c.unsupported.ensures
+
+pub returns-in-Some-clause-found : goal.returns-in-Some-clause-found
+returns-in-Some-clause-found c =
+    let tree = c.in_ok-tree.ensures.tree in
+    let small = rw c.in-Some.is at c.in_ok-program.ensures.found in
+    let small = rw tree.tokens at small in
+    tree_plays c.args.text.now _ _ _ c.in_ok-tokens.ensures.tokens (record { supported = tree.supported; spelled = tree.spelled; accepted = tree.accepted }) small

@@ -104,25 +104,25 @@ further-returns-clause-is t c =
 pub phrase-returns-in_err-first-clause-is : goal.phrase-returns-in_err-first-clause-is
 phrase-returns-in_err-first-clause-is t c =
     let p = err_from_is_err_and c.from_residual.result c.from_residual.ensures.1 in
-    rw (p.1, p.2) (left_fails (within c.args.room) c.args.pattern c.args.commas c.args.height c.args.self.now.symbols.rest.now c.in_err-first.field-0.0 c.phrase.new.self.symbols.rest.now (omega arith) (omega arith) c.in_err-first.ensures.is)
+    rw (p.1, p.2) (left_fails (within c.args.room) c.args.operands c.args.commas c.args.precedence c.args.self.now.symbols.rest.now c.in_err-first.field-0.0 c.phrase.new.self.symbols.rest.now (omega arith) (omega arith) c.in_err-first.ensures.is)
 
-pub phrase-returns-then-height-eq0-clause-is : goal.phrase-returns-then-height-eq0-clause-is
-phrase-returns-then-height-eq0-clause-is t c = rw (phrase_zero (within c.args.room) c.args.pattern c.args.commas c.args.height c.args.self.now.symbols.rest.now c.if-height-eq0.true) c.operand.ensures.is
+pub phrase-returns-then-precedence-eq0-clause-is : goal.phrase-returns-then-precedence-eq0-clause-is
+phrase-returns-then-precedence-eq0-clause-is t c = rw (phrase_zero (within c.args.room) c.args.operands c.args.commas c.args.precedence c.args.self.now.symbols.rest.now c.if-precedence-eq0.true) c.operand.ensures.is
 
 pub phrase-returns-in_ok-first-clause-is : goal.phrase-returns-in_ok-first-clause-is
 phrase-returns-in_ok-first-clause-is t c =
-    left_gives (within c.args.room) c.args.pattern c.args.commas c.args.height c.args.self.now c.phrase.new.self c.lefts.new.self c.args.self.now.symbols.rest.now c.in_ok-first.first c.lefts.result (omega arith) (omega arith) c.in_ok-first.ensures.is c.lefts.ensures.is
+    left_gives (within c.args.room) c.args.operands c.args.commas c.args.precedence c.args.self.now c.phrase.new.self c.lefts.new.self c.args.self.now.symbols.rest.now c.in_ok-first.first c.lefts.result (omega arith) (omega arith) c.in_ok-first.ensures.is c.lefts.ensures.is
 
-pub phrase-returns-else-height-le-LAST_LEFT-clause-is : goal.phrase-returns-else-height-le-LAST_LEFT-clause-is
-phrase-returns-else-height-le-LAST_LEFT-clause-is t c = rw (phrase_right (within c.args.room) c.args.pattern c.args.commas c.args.height c.args.self.now.symbols.rest.now (omega arith)) c.rights.ensures.is
+pub phrase-returns-else-precedence-le-LAST_LEFT-clause-is : goal.phrase-returns-else-precedence-le-LAST_LEFT-clause-is
+phrase-returns-else-precedence-le-LAST_LEFT-clause-is t c = rw (phrase_right (within c.args.room) c.args.operands c.args.commas c.args.precedence c.args.self.now.symbols.rest.now (omega arith)) c.rights.ensures.is
 
 pub rights-returns-in_err-tree-clause-is : goal.rights-returns-in_err-tree-clause-is
 rights-returns-in_err-tree-clause-is t c =
     let p = err_from_is_err_and c.from_residual.result c.from_residual.ensures.1 in
-    let part = phrase (within c.args.room) c.args.pattern c.args.commas (c.args.height - 1) in
+    let part = phrase (within c.args.room) c.args.operands c.args.commas (c.args.precedence - 1) in
     let rest = c.loop-pending.self.symbols.rest.now in
     rw (p.1, p.2) (leans_fail (part rest) c.in_err-tree.field-0.0 c.phrase.new.self.symbols.rest.now c.loop-pending.invariant c.in_err-tree.ensures.is
-    (λ h. chain_stop part c.args.pattern c.args.commas (c.args.height + 1) rest c.phrase.new.self.symbols.rest.now h))
+    (λ h. chain_stop part c.args.operands c.args.commas (c.args.precedence + 1) rest c.phrase.new.self.symbols.rest.now h))
 
 pub rights-join-requires-clause-parts : goal.rights-join-requires-clause-parts
 rights-join-requires-clause-parts t c =
@@ -130,16 +130,16 @@ rights-join-requires-clause-parts t c =
 
 pub rights-returns-in-None-clause-is : goal.rights-returns-in-None-clause-is
 rights-returns-in-None-clause-is t c =
-    let part = phrase (within c.args.room) c.args.pattern c.args.commas (c.args.height - 1) in
+    let part = phrase (within c.args.room) c.args.operands c.args.commas (c.args.precedence - 1) in
     rw c.in-None.ensures.1 (leans_finish (trees c.phrase.new.self.arena) (trees c.join.new.arena) c.in_ok-tree.tree c.in_ok-join-in-None.field-0 c.phrase.new.self.symbols.rest.now
     c.loop-pending.invariant c.in_ok-tree.ensures.is.keeps
-    (right_off part c.args.pattern c.args.commas (c.args.height + 1) c.loop-pending.self.symbols.rest.now c.phrase.new.self.symbols.rest.now _ c.in_ok-tree.ensures.is.is c.in-None.ensures.0) c.in_ok-join-in-None.ensures)
+    (right_off part c.args.operands c.args.commas (c.args.precedence + 1) c.loop-pending.self.symbols.rest.now c.phrase.new.self.symbols.rest.now _ c.in_ok-tree.ensures.is.is c.in-None.ensures.0) c.in_ok-join-in-None.ensures)
 
 pub rights-loop-pending-preserved : goal.rights-loop-pending-preserved
 rights-loop-pending-preserved t c =
-    let part = phrase (within c.args.room) c.args.pattern c.args.commas (c.args.height - 1) in
+    let part = phrase (within c.args.room) c.args.operands c.args.commas (c.args.precedence - 1) in
     let next = c.operator_of.new.self.rest.now in
     let fewer = c.in-Some.ensures.shorter in
     let less = c.in_ok-tree.ensures.shorter in
     leans_on (trees c.phrase.new.self.arena) _ _ next _ c.loop-pending.invariant c.in_ok-tree.ensures.is.keeps c.in_ok-tree.ensures.is.inside c.in_ok-push-in-Some.ensures.items (omega (arith, fewer, less))
-    (right_on part c.args.pattern c.args.commas (c.args.height + 1) c.loop-pending.self.symbols.rest.now c.phrase.new.self.symbols.rest.now next _ c.in-Some.op c.in_ok-tree.ensures.is.is c.in-Some.ensures (omega (arith, fewer, less)))
+    (right_on part c.args.operands c.args.commas (c.args.precedence + 1) c.loop-pending.self.symbols.rest.now c.phrase.new.self.symbols.rest.now next _ c.in-Some.op c.in_ok-tree.ensures.is.is c.in-Some.ensures (omega (arith, fewer, less)))

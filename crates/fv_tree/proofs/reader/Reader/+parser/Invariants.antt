@@ -70,16 +70,16 @@ abbrev pub decreases-operand : goal.decreases-operand
 decreases-operand l = l.room * 64 + 6
 
 abbrev pub decreases-phrase : goal.decreases-phrase
-decreases-phrase l = l.room * 64 + 7 + 3 * l.height
+decreases-phrase l = l.room * 64 + 7 + 3 * l.precedence
 
 abbrev pub decreases-lefts : goal.decreases-lefts
-decreases-lefts l = l.room * 64 + 6 + 3 * l.height
+decreases-lefts l = l.room * 64 + 6 + 3 * l.precedence
 
 abbrev pub decreases-rights : goal.decreases-rights
-decreases-rights l = l.room * 64 + 6 + 3 * l.height
+decreases-rights l = l.room * 64 + 6 + 3 * l.precedence
 
 abbrev pub decreases-next_left : goal.decreases-next_left
-decreases-next_left l = l.room * 64 + 5 + 3 * l.height
+decreases-next_left l = l.room * 64 + 5 + 3 * l.precedence
 
 abbrev pub decreases-expression : goal.decreases-expression
 decreases-expression l = l.room * 64 + 40
@@ -139,7 +139,7 @@ abbrev pub decreases-withs-loop-next : goal.decreases-withs-loop-next
 decreases-withs-loop-next l = length l.self.symbols.rest.now
 
 abbrev pub invariant-lefts-loop-next : goal.invariant-lefts-loop-next
-invariant-lefts-loop-next l = Goes (left_turn (phrase (within l.room) l.pattern l.commas (l.height - 1)) l.pattern l.commas (l.height + 1) l.start) (trees l.fn.self.arena) (trees l.self.arena) l.tree l.fn.self.symbols.rest.now l.self.symbols.rest.now (run (left_turn (phrase (within l.room) l.pattern l.commas (l.height - 1)) l.pattern l.commas (l.height + 1) l.start) (tree_at (trees l.fn.self.arena) l.fn.first) l.fn.self.symbols.rest.now)
+invariant-lefts-loop-next l = Goes (left_turn (phrase (within l.room) l.operands l.commas (l.precedence - 1)) l.operands l.commas (l.precedence + 1) l.start) (trees l.fn.self.arena) (trees l.self.arena) l.tree l.fn.self.symbols.rest.now l.self.symbols.rest.now (run (left_turn (phrase (within l.room) l.operands l.commas (l.precedence - 1)) l.operands l.commas (l.precedence + 1) l.start) (tree_at (trees l.fn.self.arena) l.fn.first) l.fn.self.symbols.rest.now)
 
 abbrev pub decreases-lefts-loop-next : goal.decreases-lefts-loop-next
 decreases-lefts-loop-next l = length l.self.symbols.rest.now
@@ -152,8 +152,8 @@ decreases-further-loop-parts l = length l.self.symbols.rest.now
 
 abbrev pub invariant-rights-loop-pending : goal.invariant-rights-loop-pending
 invariant-rights-loop-pending l = Leans (trees l.fn.self.arena) (trees l.self.arena) l.pending.items l.fn.self.symbols.rest.now l.self.symbols.rest.now
-    (chain (phrase (within l.room) l.pattern l.commas (l.height - 1)) l.pattern l.commas (l.height + 1) l.self.symbols.rest.now)
-    (chain (phrase (within l.room) l.pattern l.commas (l.height - 1)) l.pattern l.commas (l.height + 1) l.fn.self.symbols.rest.now)
+    (chain (phrase (within l.room) l.operands l.commas (l.precedence - 1)) l.operands l.commas (l.precedence + 1) l.self.symbols.rest.now)
+    (chain (phrase (within l.room) l.operands l.commas (l.precedence - 1)) l.operands l.commas (l.precedence + 1) l.fn.self.symbols.rest.now)
 
 abbrev pub decreases-rights-loop-pending : goal.decreases-rights-loop-pending
 decreases-rights-loop-pending l = length l.self.symbols.rest.now

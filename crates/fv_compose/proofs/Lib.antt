@@ -1,0 +1,9 @@
+pub mod Evals
+pub mod Arenas
+pub mod Turns
+pub mod Leaves
+pub mod Operated
+pub mod Gathered
+pub mod Loops
+pub mod Fed
+pub mod Kept

@@ -1,0 +1,12 @@
+//! Putting the compositions that evaluation makes over diagrams that are there: of two parts, of lists, around a body,
+//! and a diagram on its arguments.
+#![tactic(auto)]
+
+mod drawing;
+mod feeding;
+mod lists;
+mod pairs;
+
+pub use drawing::Drawing;
+pub use lists::Link;
+pub use pairs::primitive_of;

@@ -1,0 +1,26 @@
+-- What a diagram answers on samples (Orlarey, Fober, Letz 2004).
+use Rattle.std.specs.Prelude.{ℕ, ◌+◌, ◌*◌, List, flat_map, ℤ, pos}
+use Rattle.fv_num.specs.Words.{argument}
+use Rattle.fv_num.specs.Frames.{Frame, Stream, table}
+use Rattle.fv_diagram.specs.Diagram.{Diagram, inputs}
+use Rattle.fv_diagram.specs.Streams.{run}
+
+-- the frames of samples that stand one after another
+abbrev pub rows : (width n : ℕ) → List ℤ → List Frame
+rows width n samples = table n (λ t. table width (λ j. argument samples (t * width + j)))
+
+-- the samples of frames, one after another
+abbrev pub joined : List Frame → List ℤ
+joined X = flat_map (λ (x : Frame). x) X
+
+-- each control keeps its number
+abbrev pub held : Frame → ℕ → Stream
+held controls k t = argument controls k
+
+-- no slot of the diagram is free, so what the slots stand for does not matter
+abbrev pub no_slots : ℕ → Stream
+no_slots s t = pos 0
+
+-- the samples that the diagram answers on so many frames
+abbrev pub answer_on : Diagram → (controls : Frame) → (frames : ℕ) → (samples : List ℤ) → List ℤ
+answer_on d controls frames samples = joined (run d (held controls) no_slots (rows (inputs d) frames samples))

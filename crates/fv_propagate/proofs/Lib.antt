@@ -1,0 +1,9 @@
+pub mod Alongside
+pub mod Puts
+pub mod Goes
+pub mod Sound
+pub mod Named
+pub mod Fits
+pub mod Ranged
+pub mod Kept
+pub mod Whole

@@ -1,0 +1,136 @@
+-- What the signals of a graph name: inputs and controls that are there, numbers of 32 bits, and delays of the list.
+use Rattle.std.proofs.Common.{ℕ, zero, suc, ◌<◌, ◌≤◌, List, [], ◌∷◌, length, get_or, sym, ◌∙◌, subst, arith, All, pos, inl, inr, w32, FitsSigned}
+use Rattle.std.proofs.lemmas.List.Elements.{All-drop, All-get_or}
+use Rattle.std.proofs.lemmas.Int.{ints}
+use Rattle.fv_base.proofs.Lists.{length_table}
+use Rattle.fv_num.specs.declared.op.Op.TheVariants.{Select2}
+use Rattle.fv_num.specs.Frames.{table}
+use Rattle.fv_signal.specs.declared.signal.Signal.{Signal}
+use Rattle.fv_signal.specs.declared.signal.Signal.TheVariants as signal
+use Rattle.fv_signal.specs.declared.signal.Signal.TheVariants.{Input, Const, Control, Point, Delay, Back, Member}
+use Rattle.fv_diagram.specs.declared.signals.Leaf.{Leaf}
+use Rattle.fv_diagram.specs.declared.signals.Leaf.TheVariants as leaf
+use Rattle.fv_diagram.specs.Diagram.{Diagram}
+use Rattle.fv_diagram.specs.Diagram as diagram
+use Rattle.fv_diagram.specs.Hooks.{Hooks}
+use Rattle.fv_diagram.specs.Code.{padded}
+use Rattle.fv_propagate.specs.declared.progress.Feedback.{Feedback}
+use Rattle.fv_propagate.specs.Progress.{Progress, put, puts, passed, grouped, put_mem, put_prefix, leaf_of, opened_of, shut, signal_hooks}
+use Rattle.fv_propagate.proofs.Alongside.{AreOfLeaves, IsOfLeaf, KeepAlong, related_places, related_length}
+use Rattle.fv_propagate.proofs.Puts.{put_cases, puts_wide}
+use Rattle.fv_propagate.proofs.Goes.{IsGood, filled, close_wide}
+
+-- a user of the walk that does nothing
+pub still : Hooks (Unit {0}) (Unit {0})
+still = record { leaf = λ l vs t. (tt, tt); opened = λ n t. (table n (λ i. tt), tt); closed = λ vs t. (vs, tt) }
+
+-- any wire beside none
+abbrev pub Any : ℕ → Unit {0} → Type 0
+Any w u = Unit {0}
+
+module _ (ins controls : ℕ) (IsLimit : ℕ → Type 0) (none : IsLimit 0) (one : IsLimit 1) where
+  -- the signal names what is there
+  abbrev pub IsNamed : Signal → Type 0
+  IsNamed (Input k) = k < ins
+  IsNamed (Const n) = FitsSigned w32 n
+  IsNamed (Control k) = k < controls
+  IsNamed (Point op args) = Unit {0}
+  IsNamed (Delay x d max) = IsLimit max
+  IsNamed (Back group k) = Unit {0}
+  IsNamed (Member group k) = Unit {0}
+
+  -- each signal does, and each delay to come is within the limit
+  pub record AreNamed (s : Progress) : Type 0 where
+    pub signals : (i : ℕ) (x : Signal) → i < length s.draft.signals → IsNamed (get_or s.draft.signals i x)
+    pub delays : All IsLimit s.delays
+
+  pub named_put : (s : Progress) (n : Signal) → IsNamed n → AreNamed s → AreNamed (put s n).1
+  named_put s n h g = record {
+    signals = λ i x l. elim (put_cases s n i x l) [
+      | inl p ↦ subst IsNamed (sym p.1) (g.signals i x p.0)
+      | inr e ↦ subst IsNamed (sym e) h
+    ];
+    delays = g.delays;
+  }
+
+  named_passed : (n : ℕ) (s : Progress) → AreNamed s → AreNamed (passed n s)
+  named_passed n s g = record { signals = g.signals; delays = All-drop IsLimit n s.delays g.delays }
+
+  pub named_puts : (f : ℕ → Signal) (n : ℕ) (s : Progress) → ((i : ℕ) → i < n → IsNamed (f i)) → AreNamed s → AreNamed (puts f n s).1
+  named_puts f zero s h g = g
+  named_puts f (suc n) s h g = let q = puts f n s in named_put q.1 (f n) (h n (omega arith)) (named_puts f n s (λ i l. h i (omega arith)) g)
+
+  one_fits : FitsSigned w32 (pos 1)
+  one_fits = omega (arith, ints)
+
+  named_mem : (s : Progress) (x : ℕ) → AreNamed s → AreNamed (put_mem s x).1
+  named_mem s x g =
+      let n = signal.Const (pos 1) in
+      let r = put s n in named_put r.1 (signal.Delay x r.0 1) one (named_put s n one_fits g)
+
+  named_prefix : (s : Progress) (x y : ℕ) → AreNamed s → AreNamed (put_prefix s x y).1
+  named_prefix s x y g =
+      let n = signal.Const (pos 1) in
+      let r = put s n in
+      let begun = put_mem r.1 r.0 in
+      let late = put_mem begun.1 y in
+      named_put late.1 (signal.Point Select2 (begun.0 ∷ x ∷ late.0 ∷ begun.0 ∷ [])) tt (named_mem begun.1 y (named_mem r.1 r.0 (named_put s n one_fits g)))
+
+  -- the next delay is within the limit
+  next_limit : (ds : List ℕ) → All IsLimit ds → IsLimit (get_or ds 0 0)
+  next_limit [] h = none
+  next_limit (d ∷ ds) h = All-get_or IsLimit (d ∷ ds) 0 0 (omega arith) h
+
+  abbrev Named : Progress → Unit {0} → Type 0
+  Named s u = AreNamed s
+
+  abbrev IsBound : ℕ → Type 0
+  IsBound k = k < controls
+
+  named_leaf : (l : Leaf) (ws : List ℕ) (s : Progress) → IsOfLeaf (FitsSigned w32) IsBound l → AreNamed s → AreNamed (leaf_of l ws s).1
+  named_leaf (leaf.Number n) ws s a g = named_put s (signal.Const n) a g
+  named_leaf (leaf.Control k) ws s a g = named_put s (signal.Control k) a g
+  named_leaf leaf.Mem ws s a g = named_mem (passed 1 s) (get_or ws 0 0) (named_passed 1 s g)
+  named_leaf leaf.Prefix ws s a g = named_prefix (passed 1 s) (get_or ws 0 0) (get_or ws 1 0) (named_passed 1 s g)
+  named_leaf leaf.Delay ws s a g =
+      named_put (passed 1 s) (signal.Delay (get_or ws 0 0) (get_or ws 1 0) (get_or s.delays 0 0)) (next_limit s.delays g.delays) (named_passed 1 s g)
+  named_leaf (leaf.Point op) ws s a g = named_put s (signal.Point op (padded ws)) tt g
+
+  named_opened : (n : ℕ) (s : Progress) → AreNamed s → AreNamed (opened_of n s).1
+  named_opened n s g =
+      let p = named_passed n s g in
+      let q = named_puts (signal.Back (length s.draft.groups)) n (grouped (passed n s)) (λ i l. tt) (record { signals = p.signals; delays = p.delays }) in
+      record { signals = q.signals; delays = q.delays }
+
+  named_shut : (fs : List Feedback) (ws : List ℕ) (s : Progress) → AreNamed s → AreNamed (shut fs ws s).1
+  named_shut [] ws s g = g
+  named_shut (f ∷ fs) ws s g =
+      named_puts (signal.Member f.group) (length ws) (filled f fs ws s) (λ i l. tt) (record { signals = g.signals; delays = g.delays })
+
+  pub names_keep : (Holds : Progress → Type 0) → KeepAlong signal_hooks still (FitsSigned w32) IsBound IsGood Holds Any Named
+  unfolding still
+  names_keep Holds = record {
+    leaf = λ l ws vs s t a w k o r q. (tt, named_leaf l ws s a r);
+    opened = λ n s t k o r. (
+      related_places Any _ _ 0 tt (puts_wide (signal.Back (length s.draft.groups)) n (grouped (passed n s)) ∙ sym (length_table n (λ i. tt))) (λ i l. tt),
+      named_opened n s r,
+    );
+    closed = λ ws vs s t k o r q. (
+      related_places Any _ _ 0 tt (close_wide s.feedbacks ws s ∙ related_length Any ws vs q) (λ i l. tt),
+      named_shut s.feedbacks ws s r,
+    );
+  }
+
+-- ---- the numbers and controls of a diagram
+
+pub leaves_bounded : (controls : ℕ) (d : Diagram) → diagram.HasNumbers d → diagram.control_bound d ≤ controls → AreOfLeaves (FitsSigned w32) (λ k. k < controls) d
+leaves_bounded n (diagram.Primitive p) h l = tt
+leaves_bounded n (diagram.Constant z) h l = h
+leaves_bounded n (diagram.Control k) h l = omega arith
+leaves_bounded n (diagram.Slot s) h l = tt
+leaves_bounded n (diagram.Bind s a) h l = leaves_bounded n a h l
+leaves_bounded n (diagram.Par a b) h l = (leaves_bounded n a h.0 (omega arith), leaves_bounded n b h.1 (omega arith))
+leaves_bounded n (diagram.Seq a b) h l = (leaves_bounded n a h.0 (omega arith), leaves_bounded n b h.1 (omega arith))
+leaves_bounded n (diagram.Split a b) h l = (leaves_bounded n a h.0 (omega arith), leaves_bounded n b h.1 (omega arith))
+leaves_bounded n (diagram.Merge a b) h l = (leaves_bounded n a h.0 (omega arith), leaves_bounded n b h.1 (omega arith))
+leaves_bounded n (diagram.Rec a b) h l = (leaves_bounded n a h.0 (omega arith), leaves_bounded n b h.1 (omega arith))

@@ -1,0 +1,98 @@
+use Rattle.std.proofs.Common.{◌≡◌, ℕ, List, length, sym, ap, ◌∙◌, subst}
+use Rattle.fv_num.specs.Interval.{Interval}
+use Rattle.fv_num.specs.SpanLaws.{AreSpans}
+use Rattle.fv_signal.specs.Value.{Graph, IsGraph}
+use Rattle.fv_share.specs.Drafts.{AreClosed, graph_of}
+use Rattle.fv_diagram.specs.Diagram.{inputs, control_bound}
+use Rattle.fv_diagram.specs.Arena.{tree_of}
+use Rattle.fv_interval.specs.Delays.{delays_of, AreAccepted}
+use Rattle.fv_propagate.specs.Progress.{Progress, IsThere}
+use Rattle.fv_propagate.specs.Propagated.{Propagates, DelaysStayWithin, AreShort, NamesWithin}
+use Rattle.fv_propagate.proofs.Whole.{made, graph, propagates, stays_within, stays_short, names_within, made_wide, made_closed, made_is, inputs_there}
+use Rattle.fv_propagate.proofs.propagated.propagate.Goals as goal
+
+pub walk-requires-clause-width : goal.walk-requires-clause-width
+walk-requires-clause-width c =
+    (inputs_there c.args.delays.now c.in_ok-ins.ins.items c.from-count.result c.in_ok-progress.progress c.inputs.new.self c.in_ok-progress.ensures c.in_ok-ins.ensures).0
+    ∙ c.from-count.ensures ∙ c.arity.ensures.arity.0
+
+pub walk-requires-clause-wires : goal.walk-requires-clause-wires
+walk-requires-clause-wires c =
+    (inputs_there c.args.delays.now c.in_ok-ins.ins.items c.from-count.result c.in_ok-progress.progress c.inputs.new.self c.in_ok-progress.ensures c.in_ok-ins.ensures).1
+
+pub walk-requires-clause-free : goal.walk-requires-clause-free
+walk-requires-clause-free c =
+    subst (IsThere c.inputs.new.self) (sym c.new-2.ensures)
+    (inputs_there c.args.delays.now c.in_ok-ins.ins.items c.from-count.result c.in_ok-progress.progress c.inputs.new.self c.in_ok-progress.ensures c.in_ok-ins.ensures).2
+
+pub finish-requires-clause-closed : goal.finish-requires-clause-closed
+finish-requires-clause-closed c =
+    let d = tree_of c.args.diagrams.now c.args.root in
+    let ds = c.args.delays.now in
+    let is : (c.in_ok-outs.outs.items, c.walk.new.signals) ≡ made d ds c.requires.well c.requires.closed c.arity.ensures.numbers =
+    made_is d ds c.in_ok-ins.ins.items c.in_ok-outs.outs.items c.from-count.result c.new-2.result c.in_ok-progress.progress c.inputs.new.self c.walk.new.signals
+    (c.from-count.ensures ∙ c.arity.ensures.arity.0) c.in_ok-progress.ensures c.in_ok-ins.ensures c.new-2.ensures c.in_ok-outs.ensures.walked in
+    subst (λ (r : List ℕ × Progress). AreClosed r.1.draft) (sym is) (made_closed d ds c.requires.well c.requires.closed c.arity.ensures.numbers)
+
+pub returns-clause-values : goal.returns-clause-values
+returns-clause-values c =
+    let d = tree_of c.args.diagrams.now c.args.root in
+    let ds = c.args.delays.now in
+    let is : (c.in_ok-outs.outs.items, c.walk.new.signals) ≡ made d ds c.requires.well c.requires.closed c.arity.ensures.numbers =
+    made_is d ds c.in_ok-ins.ins.items c.in_ok-outs.outs.items c.from-count.result c.new-2.result c.in_ok-progress.progress c.inputs.new.self c.walk.new.signals
+    (c.from-count.ensures ∙ c.arity.ensures.arity.0) c.in_ok-progress.ensures c.in_ok-ins.ensures c.new-2.ensures c.in_ok-outs.ensures.walked in
+    let same : graph_of c.walk.new.signals.draft c.deref.result.now ≡ graph d ds c.requires.well c.requires.closed c.arity.ensures.numbers =
+    ap (graph_of c.walk.new.signals.draft) c.deref.ensures.value ∙ ap (λ (r : List ℕ × Progress). graph_of r.1.draft r.0) is in
+    let g : c.in_ok-graph.graph ≡ graph d ds c.requires.well c.requires.closed c.arity.ensures.numbers = c.in_ok-graph.ensures.graph ∙ same in
+    subst (λ (g : Graph). (spans : List Interval) → AreAccepted (delays_of d spans) ds → Propagates d spans g) (sym g)
+    (propagates d ds c.requires.well c.requires.closed c.arity.ensures.numbers (subst IsGraph same c.in_ok-graph.ensures.whole))
+
+pub returns-clause-delays : goal.returns-clause-delays
+returns-clause-delays c =
+    let d = tree_of c.args.diagrams.now c.args.root in
+    let ds = c.args.delays.now in
+    let is : (c.in_ok-outs.outs.items, c.walk.new.signals) ≡ made d ds c.requires.well c.requires.closed c.arity.ensures.numbers =
+    made_is d ds c.in_ok-ins.ins.items c.in_ok-outs.outs.items c.from-count.result c.new-2.result c.in_ok-progress.progress c.inputs.new.self c.walk.new.signals
+    (c.from-count.ensures ∙ c.arity.ensures.arity.0) c.in_ok-progress.ensures c.in_ok-ins.ensures c.new-2.ensures c.in_ok-outs.ensures.walked in
+    let same : graph_of c.walk.new.signals.draft c.deref.result.now ≡ graph d ds c.requires.well c.requires.closed c.arity.ensures.numbers =
+    ap (graph_of c.walk.new.signals.draft) c.deref.ensures.value ∙ ap (λ (r : List ℕ × Progress). graph_of r.1.draft r.0) is in
+    let g : c.in_ok-graph.graph ≡ graph d ds c.requires.well c.requires.closed c.arity.ensures.numbers = c.in_ok-graph.ensures.graph ∙ same in
+    subst (λ (g : Graph). (spans : List Interval) → AreAccepted (delays_of d spans) ds → DelaysStayWithin d spans g) (sym g)
+    (stays_within d ds c.requires.well c.requires.closed c.arity.ensures.numbers (subst IsGraph same c.in_ok-graph.ensures.whole))
+
+pub returns-clause-short : goal.returns-clause-short
+returns-clause-short c =
+    let d = tree_of c.args.diagrams.now c.args.root in
+    let ds = c.args.delays.now in
+    let is : (c.in_ok-outs.outs.items, c.walk.new.signals) ≡ made d ds c.requires.well c.requires.closed c.arity.ensures.numbers =
+    made_is d ds c.in_ok-ins.ins.items c.in_ok-outs.outs.items c.from-count.result c.new-2.result c.in_ok-progress.progress c.inputs.new.self c.walk.new.signals
+    (c.from-count.ensures ∙ c.arity.ensures.arity.0) c.in_ok-progress.ensures c.in_ok-ins.ensures c.new-2.ensures c.in_ok-outs.ensures.walked in
+    let same : graph_of c.walk.new.signals.draft c.deref.result.now ≡ graph d ds c.requires.well c.requires.closed c.arity.ensures.numbers =
+    ap (graph_of c.walk.new.signals.draft) c.deref.ensures.value ∙ ap (λ (r : List ℕ × Progress). graph_of r.1.draft r.0) is in
+    let g : c.in_ok-graph.graph ≡ graph d ds c.requires.well c.requires.closed c.arity.ensures.numbers = c.in_ok-graph.ensures.graph ∙ same in
+    subst (λ (g : Graph). (spans : List Interval) → AreSpans spans → AreAccepted (delays_of d spans) ds → AreShort g) (sym g)
+    (stays_short d ds c.requires.well c.requires.closed c.arity.ensures.numbers (subst IsGraph same c.in_ok-graph.ensures.whole))
+
+pub returns-clause-width : goal.returns-clause-width
+returns-clause-width c =
+    let d = tree_of c.args.diagrams.now c.args.root in
+    let ds = c.args.delays.now in
+    let is : (c.in_ok-outs.outs.items, c.walk.new.signals) ≡ made d ds c.requires.well c.requires.closed c.arity.ensures.numbers =
+    made_is d ds c.in_ok-ins.ins.items c.in_ok-outs.outs.items c.from-count.result c.new-2.result c.in_ok-progress.progress c.inputs.new.self c.walk.new.signals
+    (c.from-count.ensures ∙ c.arity.ensures.arity.0) c.in_ok-progress.ensures c.in_ok-ins.ensures c.new-2.ensures c.in_ok-outs.ensures.walked in
+    let same : graph_of c.walk.new.signals.draft c.deref.result.now ≡ graph d ds c.requires.well c.requires.closed c.arity.ensures.numbers =
+    ap (graph_of c.walk.new.signals.draft) c.deref.ensures.value ∙ ap (λ (r : List ℕ × Progress). graph_of r.1.draft r.0) is in
+    let g : c.in_ok-graph.graph ≡ graph d ds c.requires.well c.requires.closed c.arity.ensures.numbers = c.in_ok-graph.ensures.graph ∙ same in
+    ap (λ (g : Graph). length g.outputs) g ∙ made_wide d ds c.requires.well c.requires.closed c.arity.ensures.numbers
+
+pub returns-clause-names : goal.returns-clause-names
+returns-clause-names c =
+    let d = tree_of c.args.diagrams.now c.args.root in
+    let ds = c.args.delays.now in
+    let is : (c.in_ok-outs.outs.items, c.walk.new.signals) ≡ made d ds c.requires.well c.requires.closed c.arity.ensures.numbers =
+    made_is d ds c.in_ok-ins.ins.items c.in_ok-outs.outs.items c.from-count.result c.new-2.result c.in_ok-progress.progress c.inputs.new.self c.walk.new.signals
+    (c.from-count.ensures ∙ c.arity.ensures.arity.0) c.in_ok-progress.ensures c.in_ok-ins.ensures c.new-2.ensures c.in_ok-outs.ensures.walked in
+    let same : graph_of c.walk.new.signals.draft c.deref.result.now ≡ graph d ds c.requires.well c.requires.closed c.arity.ensures.numbers =
+    ap (graph_of c.walk.new.signals.draft) c.deref.ensures.value ∙ ap (λ (r : List ℕ × Progress). graph_of r.1.draft r.0) is in
+    let g : c.in_ok-graph.graph ≡ graph d ds c.requires.well c.requires.closed c.arity.ensures.numbers = c.in_ok-graph.ensures.graph ∙ same in
+    subst (NamesWithin (inputs d) (control_bound d)) (sym g) (names_within d ds c.requires.well c.requires.closed c.arity.ensures.numbers)

@@ -1,0 +1,41 @@
+// The graph of a diagram.
+
+ghost use Rattle.std.specs.Prelude.{◌≡◌, ℕ, ◌<◌, List, length, IfOk};
+ghost use Rattle.fv_num.specs.Interval.{Interval};
+ghost use Rattle.fv_num.specs.SpanLaws.{AreSpans};
+ghost use Rattle.fv_diagram.specs.Diagram.{inputs, outputs, control_bound, IsWellFormed, HasNoFreeSlot};
+ghost use Rattle.fv_diagram.specs.Arena.{count_of, tree_of};
+ghost use Rattle.fv_interval.specs.Delays.{delays_of, AreAccepted};
+ghost use Rattle.fv_propagate.specs.Propagated.{Propagates, DelaysStayWithin, AreShort, NamesWithin};
+
+use crate::progress::Progress;
+use fv_diagram::{DiagramId, Diagrams, walk};
+use fv_interval::Delays;
+use fv_signal::{Graph, SignalId};
+use std::alloc::{AllocError, Global};
+
+/// The graph of signals of a diagram, where `delays` are those that `spans` answered for it.
+pub fn propagate(
+    alloc: Global,
+    diagrams: &Diagrams,
+    root: DiagramId,
+    delays: &Delays,
+) -> Result<Graph, AllocError>
+    requires root { root < count_of diagrams.now }
+    requires well { IsWellFormed (tree_of diagrams.now root) }
+    requires closed { HasNoFreeSlot (tree_of diagrams.now root) }
+    // Each output is that of the diagram, where the controls lie in the spans of which the delays are.
+    ensures values { IfOk result (λ g. (spans : List Interval) → AreAccepted (delays_of (tree_of diagrams.now root) spans) delays.now → Propagates (tree_of diagrams.now root) spans g) }
+    // And no delay goes back further than its greatest number.
+    ensures delays { IfOk result (λ g. (spans : List Interval) → AreAccepted (delays_of (tree_of diagrams.now root) spans) delays.now → DelaysStayWithin (tree_of diagrams.now root) spans g) }
+    ensures short { IfOk result (λ g. (spans : List Interval) → AreSpans spans → AreAccepted (delays_of (tree_of diagrams.now root) spans) delays.now → AreShort g) }
+    ensures width { IfOk result (λ g. length g.outputs ≡ outputs (tree_of diagrams.now root)) }
+    ensures names { IfOk result (λ g. NamesWithin (inputs (tree_of diagrams.now root)) (control_bound (tree_of diagrams.now root)) g) }
+{
+    let count = u64::from(diagrams.arity(root).inputs);
+    let mut progress = Progress::new(alloc, delays)?;
+    let ins = progress.inputs(alloc, count)?;
+    let outs = walk(&mut progress, alloc, diagrams, root, ins, SignalId::new(0))?;
+    let graph = progress.finish(&outs)?;
+    Ok(graph)
+}

@@ -1,0 +1,8 @@
+use Rattle.std.proofs.Common.{subst}
+use Rattle.fv_rules.specs.ByName.{AreDefined}
+use Rattle.fv_rules.proofs.Named.{sorted_more}
+use Rattle.fv_rules.proofs.lookup.Definitions.new.Goals as goal
+
+pub loop-i-preserved : goal.loop-i-preserved
+loop-i-preserved c = sorted_more c.args.tree.now c.loop-i.lists.items _ c.loop-i.i c.in_ok-list.list c.loop-i.invariant
+    (subst (λ k. AreDefined c.args.tree.now k c.in_ok-list.list) c.new.ensures c.in_ok-list.ensures) c.in_ok-push.ensures.items

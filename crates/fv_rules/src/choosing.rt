@@ -1,0 +1,227 @@
+// The rules that stand at a place, and the first one that matches.
+
+ghost use Rattle.std.specs.Prelude.{◌≡◌, ◌<◌, List, IfOk, All, map};
+ghost use Rattle.fv_parse.specs.Trees.{size_of, tree_in};
+ghost use Rattle.fv_rules.specs.declared.by_name.Defined.{Defined as AnItem};
+ghost use Rattle.fv_rules.specs.Values.{Value as PureValue, rule_of};
+ghost use Rattle.fv_rules.specs.Matching.{Bindings as PureBindings, all_matched, chosen};
+ghost use Rattle.fv_rules.specs.Rules.{width};
+ghost use Rattle.fv_rules.specs.Shows.{World, IsInside, ShowsValues, ShowsBindings, case_in, rules_in};
+ghost use Rattle.fv_rules.specs.Memo.{Remembers, AddsIntegers};
+ghost use Rattle.fv_rules.specs.Choosing.{IsSound, with_diagrams, ShowsMatched};
+ghost use Rattle.fv_rules.specs.Chosen.{ShowsChoice, IsRuleAt, IsFirstRule, Chooses};
+
+use crate::by_name::Defined;
+use crate::lookup::Definitions;
+use crate::matching::{Bindings, matches_in};
+use crate::memo::Numbers;
+use crate::value::{Binding, Ruled, Value};
+use fv_diagram::Diagrams;
+use fv_parse::{Tree, TreeId, TreeNode};
+use std::alloc::{AllocError, Global};
+
+/// A rule: its patterns, and the node of its right side.
+#[derive(Clone, Copy)]
+pub(crate) struct RuleAt<'t> {
+    patterns: &'t [TreeId],
+    body: TreeId,
+}
+
+// The rule that a node is.
+fn rule_at<'t>(tree: &'t Tree, id: TreeId) -> RuleAt<'t>
+    requires { id < size_of tree.now }
+    ensures { IsRuleAt tree.now id result }
+{
+    match tree.node(id) {
+        TreeNode::Rule(patterns, body) => RuleAt {
+            patterns: tree.items(*patterns),
+            body: *body,
+        },
+        TreeNode::Function(_, patterns, body) => RuleAt {
+            patterns: tree.items(*patterns),
+            body: *body,
+        },
+        _ => RuleAt {
+            patterns: &[],
+            body: id,
+        },
+    }
+}
+
+// The nodes of the rules of a `case`.
+fn case_rules<'t>(tree: &'t Tree, id: TreeId) -> &'t [TreeId]
+    requires { id < size_of tree.now }
+    ensures rules { map (tree_in tree.now) result.now ≡ case_in (tree_in tree.now id) }
+    ensures there { All (λ i. i < size_of tree.now) result.now }
+{
+    match tree.node(id) {
+        TreeNode::Case(list) => tree.items(*list),
+        _ => &[],
+    }
+}
+
+impl Definitions<'_> {
+    // The definitions that have the name of this one.
+    fn functions(&self, list: TreeId, first: TreeId) -> &[Defined]
+        requires { IsInside self.now (Ruled.Definitions list first) }
+        ensures rules { map (λ (d : AnItem). rule_of (tree_in self.now d.node)) result.now
+            ≡ rules_in self.now (Ruled.Definitions list first) }
+        ensures there { All (λ (d : AnItem). d.node < size_of self.now) result.now }
+    {
+        let tree = self.tree();
+        match tree.node(first) {
+            TreeNode::Function(name, _, _) => self.called(list, tree.name(*name)),
+            _ => &[],
+        }
+    }
+
+    // The nodes of the rules that stand at a place, in order.
+    fn rules(&self, alloc: Global, ruled: Ruled) -> Result<Vec<TreeId>, AllocError>
+        requires { IsInside self.now ruled }
+        ensures rules { IfOk result (λ v. map (λ id. rule_of (tree_in self.now id)) v.items ≡ rules_in self.now ruled) }
+        ensures there { IfOk result (λ v. All (λ id. id < size_of self.now) v.items) }
+    {
+        match ruled {
+            Ruled::Case(id) => {
+                let nodes = Vec::from_slice(alloc, case_rules(self.tree(), id))?;
+                Ok(nodes)
+            }
+            Ruled::Definitions { list, first } => {
+                let nodes = nodes_of(alloc, self.functions(list, first))?;
+                Ok(nodes)
+            }
+        }
+    }
+
+    // The node of the first rule that stands at a place.
+    fn first_rule(&self, ruled: Ruled) -> Option<TreeId>
+        requires { IsInside self.now ruled }
+        ensures { IsFirstRule self.now result (rules_in self.now ruled) }
+    {
+        match ruled {
+            Ruled::Case(id) => {
+                let first = case_rules(self.tree(), id).first()?;
+                Some(*first)
+            }
+            Ruled::Definitions { list, first } => {
+                let defined = self.functions(list, first).first()?;
+                Some(defined.node)
+            }
+        }
+    }
+
+    /// How many arguments the rules take.
+    pub fn width(&self, ruled: Ruled) -> u64
+        requires { IsInside self.now ruled }
+        ensures { result ≡ width (rules_in self.now ruled) }
+    {
+        match self.first_rule(ruled) {
+            None => 0,
+            Some(id) => rule_at(self.tree(), id).patterns.len() as u64,
+        }
+    }
+
+    /// The right side and the bindings of the first rule that matches arguments; `None` where none does. It adds
+    /// integers alone, also where memory runs out.
+    pub fn choose(
+        &self,
+        alloc: Global,
+        ruled: Ruled,
+        diagrams: &mut Diagrams,
+        numbers: &mut Numbers,
+        arguments: &[Value],
+    ) -> Result<Option<(TreeId, Bindings)>, AllocError>
+        requires inside { IsInside self.now ruled }
+        requires sound { All (IsSound diagrams.old) arguments.now }
+        requires known { Remembers diagrams.old numbers.old }
+        ensures adds { AddsIntegers diagrams.old diagrams.new }
+        ensures known { Remembers diagrams.new numbers.new }
+        ensures chosen { IfOk result (λ o. (w : World) (vs : List PureValue)
+            → w.tree ≡ self.now → w.diagrams ≡ diagrams.old → ShowsValues w arguments.now vs
+            → ShowsChoice (with_diagrams w diagrams.new) o (chosen self.now.tokens (rules_in self.now ruled) vs)) }
+    {
+        let tree = self.tree();
+        let rules = self.rules(alloc, ruled)?;
+        let nodes = rules.as_slice();
+        let choice = first_match(alloc, tree, nodes, diagrams, numbers, arguments)?;
+        Ok(choice)
+    }
+}
+
+// The first of rules that matches.
+fn first_match(
+    alloc: Global,
+    tree: &Tree,
+    rules: &[TreeId],
+    diagrams: &mut Diagrams,
+    numbers: &mut Numbers,
+    arguments: &[Value],
+) -> Result<Option<(TreeId, Bindings)>, AllocError>
+    requires inside { All (λ id. id < size_of tree.now) rules.now }
+    requires sound { All (IsSound diagrams.old) arguments.now }
+    requires known { Remembers diagrams.old numbers.old }
+    ensures adds { AddsIntegers diagrams.old diagrams.new }
+    ensures known { Remembers diagrams.new numbers.new }
+    ensures chosen { IfOk result (Chooses tree.now rules.now arguments.now diagrams.old diagrams.new) }
+{
+    for id in rules {
+        let rule = rule_at(tree, *id);
+        let mut list = Vec::new(alloc);
+        if all_match(
+            alloc,
+            tree,
+            rule.patterns,
+            diagrams,
+            numbers,
+            arguments,
+            &mut list,
+        )? {
+            return Ok(Some((rule.body, Bindings::of(list))));
+        }
+    }
+    Ok(None)
+}
+
+// The nodes of definitions.
+fn nodes_of(alloc: Global, definitions: &[Defined]) -> Result<Vec<TreeId>, AllocError>
+    ensures { IfOk result (λ v. v.items ≡ map (λ (d : AnItem). d.node) definitions.now) }
+{
+    let mut nodes = Vec::new(alloc);
+    for definition in definitions {
+        nodes.push(definition.node)?;
+    }
+    Ok(nodes)
+}
+
+// Tries patterns on as many values: whether they match. The bindings are added to those so far.
+fn all_match(
+    alloc: Global,
+    tree: &Tree,
+    patterns: &[TreeId],
+    diagrams: &mut Diagrams,
+    numbers: &mut Numbers,
+    arguments: &[Value],
+    found: &mut Vec<Binding>,
+) -> Result<bool, AllocError>
+    requires inside { All (λ id. id < size_of tree.now) patterns.now }
+    requires sound { All (IsSound diagrams.old) arguments.now }
+    requires known { Remembers diagrams.old numbers.old }
+    ensures adds { AddsIntegers diagrams.old diagrams.new }
+    ensures known { Remembers diagrams.new numbers.new }
+    ensures matched { IfOk result (λ b. (w : World) (vs : List PureValue) (bs : PureBindings)
+        → w.tree ≡ tree.now → w.diagrams ≡ diagrams.old → ShowsValues w arguments.now vs
+        → ShowsBindings w found.old.items bs
+        → ShowsMatched (with_diagrams w diagrams.new) b found.new.items
+        (all_matched tree.now.tokens (map (tree_in tree.now) patterns.now) vs bs)) }
+{
+    for (i, pattern) in patterns.iter().enumerate() {
+        if i >= arguments.len() {
+            return Ok(false);
+        }
+        let argument = &arguments[i];
+        if !matches_in(alloc, tree, *pattern, diagrams, numbers, argument, found)? {
+            return Ok(false);
+        }
+    }
+    Ok(true)
+}

@@ -1,0 +1,18 @@
+// The numbers of literals.
+
+ghost use Rattle.std.specs.Prelude.{◌≡◌, pos, neg_ℤ};
+ghost use Rattle.fv_num.specs.Words.{wrap};
+
+/// The number of a literal.
+pub fn literal(n: u32) -> i32
+    ensures { result ≡ wrap (pos n) }
+{
+    n.cast_signed()
+}
+
+/// The number of a literal with a minus.
+pub fn negative_literal(n: u32) -> i32
+    ensures { result ≡ wrap (neg_ℤ (pos n)) }
+{
+    n.wrapping_neg().cast_signed()
+}

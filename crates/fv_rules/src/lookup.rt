@@ -1,0 +1,190 @@
+// What a name stands for.
+
+ghost use Rattle.std.specs.Prelude.{ℕ, ◌≡◌, ◌<◌, IfOk, Some, All, map, filter};
+ghost use Rattle.fv_grammar.specs.Tree.{items};
+ghost use Rattle.fv_parse.specs.Trees.{size_of, tree_in, text_of, first_named};
+ghost use Rattle.fv_rules.specs.Values.{Name, Env, Meaning as PureMeaning, lookup, is_of, definition_of, or_else};
+ghost use Rattle.fv_rules.specs.declared.by_name.Defined.{Defined as AnItem};
+ghost use Rattle.fv_rules.specs.Environments.{scope_in, outer_number};
+ghost use Rattle.fv_rules.specs.Shows.{World, IsNamed, ShowsEnv, ShowsMeaning};
+ghost use Rattle.fv_rules.specs.Lookup.{SaysOrPasses, IsMade, outer, is_name, are_names};
+
+use crate::by_name::{ByName, Defined, by_name};
+use crate::scopes::Scopes;
+use crate::value::{Meaning, Ruled, Scope, Value};
+use fv_parse::{Tree, TreeId, TreeNode, same_names};
+use std::alloc::{AllocError, Global};
+use std::marker::Model;
+
+/// A tree with the definitions of each list in it, sorted by name.
+#[derive(Drop)]
+pub struct Definitions<'a> {
+    tree: &'a Tree<'a>,
+    lists: Vec<ByName>,
+}
+
+impl<'a> Model for Definitions<'a> {
+    ghost use Rattle.fv_parse.specs.Trees.{Parsed};
+    ghost use Rattle.fv_rules.specs.ByName.{AreIndexed};
+
+    ghost Value = { Parsed };
+
+    ghost view = { λ d. d.tree.now };
+
+    ghost invariant = { λ d. AreIndexed d.tree.now d.lists.items };
+}
+
+impl<'a> Definitions<'a> {
+    /// The definitions of a tree.
+    pub fn new(alloc: Global, tree: &'a Tree<'a>) -> Result<Definitions<'a>, AllocError>
+        ensures { IfOk result (λ d. d ≡ tree.now) }
+    {
+        let _within: Option<Defined> = None;
+        let mut lists = Vec::new(alloc);
+        for i in 0..tree.len() {
+            let list = by_name(alloc, tree, TreeId::new(i))?;
+            lists.push(list)?;
+        }
+        Ok(Definitions { tree, lists })
+    }
+
+    /// What a name, by its canonical number, stands for in an environment.
+    pub fn look_up(&self, scopes: &Scopes, name: u64, env: u64) -> Meaning
+        ensures { (w : World) (x : Name) (E : Env)
+            → w.tree ≡ self.now → w.scopes ≡ scopes.now.scopes → IsNamed w name x → ShowsEnv w env E
+            → ShowsMeaning w result (lookup self.now.tokens E x) }
+    {
+        let mut at = env;
+        'outward: while let Some(scope) = scopes.scope(at) {
+            if let Some(meaning) = self.in_scope(&scope, name, at) {
+                return meaning;
+            }
+            let outer = outer_of(&scope);
+            // No environment stands around itself.
+            if outer >= at {
+                return Meaning::Unknown;
+            }
+            at = outer;
+        }
+        Meaning::Unknown
+    }
+
+    // What the innermost scope of an environment makes of a name.
+    fn in_scope(&self, scope: &Scope, name: u64, env: u64) -> Option<Meaning>
+        ensures { (w : World) (x : Name) (E : Env)
+            → w.tree ≡ self.now → scope_in w.scopes env ≡ Some scope.now → IsNamed w name x → ShowsEnv w env E
+            → SaysOrPasses w result (lookup self.now.tokens E x) (lookup self.now.tokens (outer E) x) }
+    {
+        match scope {
+            Scope::Bound {
+                name: bound,
+                value,
+                outer: _,
+            } => {
+                if *bound == name {
+                    Some(Meaning::Known(*value))
+                } else {
+                    None
+                }
+            }
+            Scope::Definitions { list, outer: _ } => self.defined(*list, name, env),
+        }
+    }
+
+    // What the definitions of a name in a list make of it, in the environment of the list.
+    fn defined(&self, list: TreeId, name: u64, env: u64) -> Option<Meaning>
+        ensures { (w : World) (x : Name) (E : Env) (m : PureMeaning)
+            → w.tree ≡ self.now → list < size_of w.tree → IsNamed w name x → ShowsEnv w env E
+            → SaysOrPasses w result
+            (or_else (definition_of self.now.tokens (filter (is_of self.now.tokens x) (items (tree_in self.now list)))) E m) m }
+    {
+        let found = self.called(list, name);
+        let first = found.first()?;
+        let count = found.len() as u64;
+        Some(made(self.tree, list, first.node, count, env))
+    }
+
+    /// The tree.
+    pub fn tree(&self) -> &Tree<'a>
+        ensures { result.now ≡ self.now }
+    {
+        self.tree
+    }
+
+    /// The definitions of a name in a list, in order.
+    pub(crate) fn called(&self, list: TreeId, name: u64) -> &[Defined]
+        ensures found { list < size_of self.now → (n : ℕ) → first_named self.now.tokens n ≡ name
+            → map (λ (d : AnItem). tree_in self.now d.node) result.now
+            ≡ filter (is_of self.now.tokens (text_of self.now.tokens n)) (items (tree_in self.now list)) }
+        ensures there { All (λ (d : AnItem). d.node < size_of self.now) result.now }
+    {
+        let i = list.number() as usize;
+        if i < self.lists.len() {
+            self.lists[i].called(name)
+        } else {
+            &[]
+        }
+    }
+}
+
+// What so many definitions of a name, of which this is the first one, make of it.
+fn made(tree: &Tree, list: TreeId, first: TreeId, count: u64, env: u64) -> Meaning
+    requires { first < size_of tree.now }
+    ensures { IsMade tree.now list first count env result }
+{
+    match tree.node(first) {
+        TreeNode::Constant(_, body) => Meaning::Body { body: *body, env },
+        TreeNode::Function(_, patterns, _) => {
+            if count == 1 && are_names(tree, *patterns) {
+                Meaning::Known(Value::Abstraction {
+                    node: first,
+                    bound: 0,
+                    env,
+                })
+            } else {
+                Meaning::Known(Value::Rules {
+                    ruled: Ruled::Definitions { list, first },
+                    env,
+                    count: 0,
+                    last: 0,
+                })
+            }
+        }
+        // It is no definition.
+        _ => Meaning::Unknown,
+    }
+}
+
+// The number of the environment around a scope.
+fn outer_of(scope: &Scope) -> u64
+    ensures { result ≡ outer_number scope.now }
+{
+    match scope {
+        Scope::Bound { outer, .. } | Scope::Definitions { outer, .. } => *outer,
+    }
+}
+
+// Whether a node is a name.
+fn is_name(tree: &Tree, id: TreeId) -> bool
+    requires { id < size_of tree.now }
+    ensures { result ≡ is_name (tree_in tree.now id) }
+{
+    match tree.node(id) {
+        TreeNode::Named(_) => true,
+        _ => false,
+    }
+}
+
+// Whether patterns are names, at least one.
+fn are_names(tree: &Tree, patterns: TreeId) -> bool
+    requires { patterns < size_of tree.now }
+    ensures { result ≡ are_names (items (tree_in tree.now patterns)) }
+{
+    let items = tree.items(patterns);
+    for id in items {
+        if !is_name(tree, *id) {
+            return false;
+        }
+    }
+    !items.is_empty()
+}

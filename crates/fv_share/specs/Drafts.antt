@@ -1,0 +1,102 @@
+-- Graphs that are being built, in which equal signals stand once (this project's profile).
+use Rattle.std.specs.Prelude.{◌≡◌, ℕ, ◌<◌, ◌≤◌, List, [], ◌∷◌, ◌++◌, length, All, Bool, true, false, slice_index_or, slice_set}
+use Rattle.std.specs.List.{position_or_len}
+use Rattle.indexmap.specs.IndexSet.{insert_key}
+use Rattle.fv_base.specs.Lists.{IsPrefixOf}
+use Rattle.fv_signal.specs.declared.signal.Signal.{Signal}
+use Rattle.fv_signal.specs.declared.signal.Signal.TheVariants.{Input, Const, Control, Point, Delay, Back, Member}
+use Rattle.fv_signal.specs.Value.{Graph, IsOrdered}
+
+-- the signals, the definitions of each group's members, which an open group has not, and which groups are closed
+pub record Draft : Type 0 where
+  pub signals : List Signal
+  pub groups : List (List ℕ)
+  pub closed : List Bool
+
+-- the draft as a graph
+abbrev pub graph_of : Draft → (outputs : List ℕ) → Graph
+graph_of d outs = record { signals = d.signals; groups = d.groups; outputs = outs }
+
+-- how many members a group has
+abbrev pub width_of : Draft → (group : ℕ) → ℕ
+width_of d group = length (slice_index_or d.groups group [])
+
+-- the group's members are known
+abbrev pub IsShut : Draft → (group : ℕ) → Type 0
+IsShut d group = (group < length d.groups) × (slice_index_or d.closed group false ≡ true)
+
+-- they are not known yet
+abbrev pub IsPending : Draft → (group : ℕ) → Type 0
+IsPending d group = (group < length d.groups) × (slice_index_or d.closed group false ≡ false)
+
+-- no group waits for its members
+abbrev pub AreClosed : Draft → Type 0
+AreClosed d = (group : ℕ) → group < length d.groups → slice_index_or d.closed group false ≡ true
+
+-- the groups and members that a signal names are there: a Back's group is open, or has the member
+abbrev pub NamesSoFar : Draft → Signal → Type 0
+NamesSoFar d (Input k) = Unit {0}
+NamesSoFar d (Const n) = Unit {0}
+NamesSoFar d (Control k) = Unit {0}
+NamesSoFar d (Point op args) = Unit {0}
+NamesSoFar d (Delay x back max) = Unit {0}
+NamesSoFar d (Back group k) = (group < length d.groups) × (IsShut d group → k < width_of d group)
+NamesSoFar d (Member group k) = IsShut d group × (k < width_of d group)
+
+-- the operands are there
+abbrev pub OperandsThere : ℕ → Signal → Type 0
+OperandsThere n (Input k) = Unit {0}
+OperandsThere n (Const v) = Unit {0}
+OperandsThere n (Control k) = Unit {0}
+OperandsThere n (Point op args) = All (λ a. a < n) args
+OperandsThere n (Delay x back max) = (x < n) × (back < n)
+OperandsThere n (Back group k) = Unit {0}
+OperandsThere n (Member group k) = Unit {0}
+
+-- what a signal asks of the draft into which it is put
+pub record CanPut (d : Draft) (signal : Signal) : Type 0 where
+  pub operands : OperandsThere (length d.signals) signal
+  pub names : NamesSoFar d signal
+
+-- each Back of the group names one of so many members
+abbrev pub BacksWithin : Draft → (group members : ℕ) → Type 0
+BacksWithin d group members = (s k : ℕ) (x : Signal) → s < length d.signals → slice_index_or d.signals s x ≡ Back group k → k < members
+
+-- no signal stands at two places
+abbrev pub AreDistinct : List Signal → Type 0
+AreDistinct ss = (i j : ℕ) (d : Signal) → i < length ss → j < length ss → slice_index_or ss i d ≡ slice_index_or ss j d → i ≡ j
+
+-- what holds of all drafts
+pub record IsDraft (d : Draft) : Type 0 where
+  pub distinct : AreDistinct d.signals
+  pub ordered : IsOrdered (graph_of d [])
+  pub named : (i : ℕ) (x : Signal) → i < length d.signals → NamesSoFar d (slice_index_or d.signals i x)
+  pub defined : (group i : ℕ) → group < length d.groups → i < width_of d group → slice_index_or (slice_index_or d.groups group []) i 0 < length d.signals
+  pub marked : length d.closed ≡ length d.groups
+
+-- two signals are equal
+abbrev pub same : Signal → Signal → Bool
+same = Rattle.fv_signal.specs.contracts.signal.SignalPartialEq.TheImpl.eq-value.it
+
+-- the place of a signal, which the draft gets where it has it not
+abbrev pub put : Draft → Signal → ℕ × Draft
+put d signal = (position_or_len (same signal) d.signals, record d { signals = insert_key same d.signals signal })
+
+-- What putting a signal does: it stands at its place, the others stay where they are, and nothing else comes.
+pub record IsPut (d : Draft) (signal : Signal) (put : ℕ × Draft) : Type 0 where
+  pub within : put.0 < length put.1.signals
+  pub stands : (x : Signal) → slice_index_or put.1.signals put.0 x ≡ signal
+  pub keeps : IsPrefixOf d.signals put.1.signals
+  pub alone : (i : ℕ) → i < length put.1.signals → length d.signals ≤ i → i ≡ put.0
+
+-- each signal is put so
+abbrev pub PutsStand : Type 0
+PutsStand = (d : Draft) (signal : Signal) → IsPut d signal (put d signal)
+
+-- an open group more, and its number
+abbrev pub with_group : Draft → ℕ × Draft
+with_group d = (length d.groups, record d { groups = d.groups ++ [] ∷ []; closed = d.closed ++ false ∷ [] })
+
+-- a group gets its definitions
+abbrev pub with_members : Draft → (group : ℕ) → List ℕ → Draft
+with_members d group members = record d { groups = slice_set d.groups group members; closed = slice_set d.closed group true }

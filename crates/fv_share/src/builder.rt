@@ -1,0 +1,101 @@
+// The builder.
+
+ghost use Rattle.std.specs.Prelude.{◌≡◌, ◌↔◌, ℕ, ◌+◌, ◌<◌, [], ◌∷◌, ◌++◌, length, All, IfOk, OnOk, OnErr, slice_index_or, slice_set, true, false};
+ghost use Rattle.fv_signal.specs.declared.signal.Signal.{Signal as Node};
+ghost use Rattle.fv_signal.specs.Value.{IsGraph};
+ghost use Rattle.fv_share.specs.Drafts.{CanPut, IsPending, IsShut, BacksWithin, AreClosed, put, with_group, with_members, graph_of};
+
+use fv_signal::{Graph, Signal, SignalId};
+use indexmap::IndexSet;
+use std::alloc::{AllocError, Global};
+use std::marker::Model;
+
+/// Signals, each of which stands once, and groups of them.
+#[derive(Drop)]
+pub struct Builder {
+    signals: IndexSet<Signal>,
+    groups: Vec<Vec<SignalId>>,
+    closed: Vec<bool>,
+    alloc: Global,
+}
+
+impl Model for Builder {
+    ghost use Rattle.fv_share.specs.Drafts.{Draft, IsDraft};
+    ghost use Rattle.fv_share.specs.Inside.{draft_of};
+
+    ghost Value = { Draft };
+
+    ghost view = { draft_of };
+
+    ghost invariant = { λ a. IsDraft (draft_of a) };
+}
+
+impl Builder {
+    /// No signals and no groups.
+    pub fn new(alloc: Global) -> Builder
+        ensures { result ≡ record { signals = []; groups = []; closed = [] } }
+    {
+        Builder {
+            signals: IndexSet::new(alloc),
+            groups: Vec::new(alloc),
+            closed: Vec::new(alloc),
+            alloc,
+        }
+    }
+
+    /// The number of a signal, which is put where it is not there.
+    pub fn node(&mut self, signal: Signal) -> Result<SignalId, AllocError>
+        requires { CanPut self.old signal }
+        ensures put { IfOk result (λ id. (id, self.new) ≡ put self.old signal) }
+        // Equal signals get equal numbers, and different ones different numbers.
+        ensures shared { IfOk result (λ id. (i : ℕ) (d : Node) → i < length self.new.signals → (slice_index_or self.new.signals i d ≡ signal) ↔ (i ≡ id)) }
+        ensures err { OnErr result (self.new ≡ self.old) }
+    {
+        let (place, _) = self.signals.insert_full(signal)?;
+        Ok(SignalId::new(place as u64))
+    }
+
+    /// The number of a new group.
+    pub fn group(&mut self) -> Result<u64, AllocError>
+        ensures ok { IfOk result (λ g. (g, self.new) ≡ with_group self.old) }
+        // It waits for its members, and no Back names it.
+        ensures pending { IfOk result (λ g. IsPending self.new g) }
+        ensures fresh { IfOk result (λ g. BacksWithin self.new g 0) }
+        ensures err { OnErr result (self.new ≡ self.old) }
+    {
+        let group = self.groups.len() as u64;
+        self.closed.push(false)?;
+        if self.groups.push(Vec::new(self.alloc)).is_err() {
+            let _ = self.closed.pop();
+            return Err(AllocError);
+        }
+        Ok(group)
+    }
+
+    /// Gives a group the definitions of its members.
+    pub fn close_group(&mut self, group: u64, members: &[SignalId]) -> Result<(), AllocError>
+        requires pending { IsPending self.old group }
+        requires members { All (λ s. s < length self.old.signals) members.now }
+        requires backs { BacksWithin self.old group (length members.now) }
+        ensures ok { OnOk result (self.new ≡ with_members self.old group members.now) }
+        ensures shut { OnOk result (IsShut self.new group) }
+        ensures err { OnErr result (self.new ≡ self.old) }
+    {
+        let list = members.iter().copied().collect(self.alloc)?;
+        self.groups[group as usize] = list;
+        self.closed[group as usize] = true;
+        Ok(())
+    }
+
+    /// The graph of the signals and groups, with these outputs.
+    pub fn finish(self, outputs: &[SignalId]) -> Result<Graph, AllocError>
+        requires closed { AreClosed self }
+        requires outputs { All (λ s. s < length self.signals) outputs.now }
+        ensures graph { IfOk result (λ g. g ≡ graph_of self outputs.now) }
+        ensures whole { OnOk result (IsGraph (graph_of self outputs.now)) }
+    {
+        let signals = self.signals.iter().copied().collect(self.alloc)?;
+        let outs = outputs.iter().copied().collect(self.alloc)?;
+        Ok(Graph::new(signals, self.groups, outs))
+    }
+}

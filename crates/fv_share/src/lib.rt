@@ -1,0 +1,8 @@
+// A builder of graphs that shares equal signals.
+#![tactic(auto)]
+
+mod builder;
+mod laws;
+
+pub use builder::Builder;
+pub use laws::puts_stand;

@@ -1,0 +1,5 @@
+// Tests of the builder of graphs.
+#![tactic(auto)]
+
+#[cfg(test)]
+mod graphs;

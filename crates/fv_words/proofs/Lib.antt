@@ -1,0 +1,4 @@
+pub mod Reading
+pub mod Dashes
+pub mod Cutting
+pub mod Ranges

@@ -1,0 +1,7 @@
+pub mod Pieces
+pub mod Texts
+pub mod Numbers
+pub mod Runs
+pub mod Commands
+pub mod Views
+pub mod Examples
