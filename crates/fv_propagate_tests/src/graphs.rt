@@ -11,18 +11,111 @@ use std::alloc::Global;
 use std::process::Abort;
 use std::test::Fail;
 
-// A diagram whose first control is 3, and samples of its inputs.
+// A diagram of at most six inputs, which is its last item.
 struct Row {
     name: &'static str,
     items: &'static [Item],
-    samples: &'static [i32],
 }
 
-static ROWS: [Row; 7] = [
+// The controls' numbers.
+const CONTROLS: [i32; 2] = [3, -2];
+
+// How many frames each diagram plays.
+const FRAMES: usize = 12;
+
+// What its inputs are, one frame after another.
+static SAMPLES: [i32; 72] = [
+    5,
+    -1,
+    7,
+    0,
+    3,
+    2147483647,
+    -2147483648,
+    1,
+    -7,
+    100,
+    8,
+    -2,
+    33,
+    4,
+    -5,
+    6,
+    12,
+    -13,
+    9,
+    1000,
+    -1000,
+    2,
+    65536,
+    -65536,
+    31,
+    11,
+    -3,
+    0,
+    1,
+    14,
+    -8,
+    21,
+    17,
+    -19,
+    250,
+    -250,
+    10,
+    -9,
+    77,
+    3,
+    1,
+    0,
+    5,
+    5,
+    -6,
+    42,
+    -42,
+    13,
+    1,
+    2,
+    3,
+    4,
+    -4,
+    -3,
+    -2,
+    -1,
+    512,
+    -512,
+    99,
+    7,
+    16,
+    -16,
+    2147483646,
+    64,
+    15,
+    -15,
+    27,
+    18,
+    -21,
+    6,
+    1,
+    8,
+];
+
+static ROWS: [Row; 25] = [
+    Row {
+        name: "_ <: _ + 1, _ + 1 :> _",
+        items: &[
+            WIRE,
+            Item::Number(1),
+            Item::Par(0, 1),
+            PLUS,
+            Item::Seq(2, 3),
+            Item::Par(4, 4),
+            Item::Split(0, 5),
+            Item::Merge(6, 0),
+        ],
+    },
     Row {
         name: "+ ~ _",
         items: &[PLUS, WIRE, Item::Rec(0, 1)],
-        samples: &[1, 2, 3, 4, -5, 6],
     },
     Row {
         name: "_ <: _, mem : -",
@@ -34,12 +127,212 @@ static ROWS: [Row; 7] = [
             Item::Seq(2, 3),
             Item::Split(0, 4),
         ],
-        samples: &[5, 7, 4, 4],
+    },
+    Row {
+        name: "_,1 : -",
+        items: &[
+            WIRE,
+            Item::Number(1),
+            Item::Par(0, 1),
+            Item::Point(Op::Sub),
+            Item::Seq(2, 3),
+        ],
+    },
+    Row {
+        name: "_ / 0",
+        items: &[
+            WIRE,
+            Item::Number(0),
+            Item::Par(0, 1),
+            Item::Point(Op::Div),
+            Item::Seq(2, 3),
+        ],
+    },
+    Row {
+        name: "_,_ <: _,_,_,_ :> _,_",
+        items: &[
+            WIRE,
+            Item::Par(0, 0),
+            Item::Par(1, 1),
+            Item::Merge(2, 1),
+            Item::Split(1, 3),
+        ],
+    },
+    Row {
+        name: "_,_ <: _,_,_,_",
+        items: &[WIRE, Item::Par(0, 0), Item::Par(1, 1), Item::Split(1, 2)],
+    },
+    Row {
+        name: "_,_,_,_,_,_ :> _,_",
+        items: &[
+            WIRE,
+            Item::Par(0, 0),
+            Item::Par(1, 1),
+            Item::Par(2, 1),
+            Item::Merge(3, 1),
+        ],
+    },
+    Row {
+        name: "(+,+) ~ (_,_)",
+        items: &[
+            PLUS,
+            WIRE,
+            Item::Par(0, 0),
+            Item::Par(1, 1),
+            Item::Rec(2, 3),
+        ],
+    },
+    Row {
+        name: "(+ ~ _) ~ (_,1 : +)",
+        items: &[
+            PLUS,
+            WIRE,
+            Item::Rec(0, 1),
+            Item::Number(1),
+            Item::Par(1, 3),
+            Item::Seq(4, 0),
+            Item::Rec(2, 5),
+        ],
+    },
+    Row {
+        name: "7,_ : prefix",
+        items: &[
+            WIRE,
+            Item::Number(7),
+            Item::Par(1, 0),
+            Item::Prim(Prim::Prefix),
+            Item::Seq(2, 3),
+        ],
+    },
+    Row {
+        name: "_,10,20,30 : select3",
+        items: &[
+            WIRE,
+            Item::Number(10),
+            Item::Number(20),
+            Item::Number(30),
+            Item::Par(2, 3),
+            Item::Par(1, 4),
+            Item::Par(0, 5),
+            Item::Point(Op::Select3),
+            Item::Seq(6, 7),
+        ],
+    },
+    Row {
+        name: "-2147483647 - 1 : _ <: /(-1), %(-1), abs",
+        items: &[
+            WIRE,
+            Item::Number(-2147483647),
+            Item::Number(1),
+            Item::Par(1, 2),
+            Item::Point(Op::Sub),
+            Item::Seq(3, 4),
+            Item::Seq(5, 0),
+            Item::Number(-1),
+            Item::Par(0, 7),
+            Item::Point(Op::Div),
+            Item::Seq(8, 9),
+            Item::Point(Op::Rem),
+            Item::Seq(8, 11),
+            Item::Point(Op::Abs),
+            Item::Par(12, 13),
+            Item::Par(10, 14),
+            Item::Split(6, 15),
+        ],
+    },
+    Row {
+        name: "-8 >> 33",
+        items: &[
+            Item::Number(-8),
+            Item::Number(33),
+            Item::Par(0, 1),
+            Item::Point(Op::Shr),
+            Item::Seq(2, 3),
+        ],
+    },
+    Row {
+        name: "(attach : int), !",
+        items: &[
+            Item::Prim(Prim::Attach),
+            Item::Prim(Prim::Int),
+            Item::Seq(0, 1),
+            Item::Prim(Prim::Cut),
+            Item::Par(2, 3),
+        ],
+    },
+    Row {
+        name: "(_, control 0 : *), control 1",
+        items: &[
+            WIRE,
+            Item::Control(0),
+            Item::Par(0, 1),
+            Item::Point(Op::Mul),
+            Item::Seq(2, 3),
+            Item::Control(1),
+            Item::Par(4, 5),
+        ],
+    },
+    Row {
+        name: "a bind of a slot that does not occur, over _",
+        items: &[WIRE, Item::Bind(0)],
+    },
+    Row {
+        name: "+ ~ (_,2 : @ : _,128 : * : _,256 : /)",
+        items: &[
+            PLUS,
+            WIRE,
+            Item::Number(2),
+            Item::Par(1, 2),
+            Item::Prim(Prim::Delay),
+            Item::Seq(3, 4),
+            Item::Number(128),
+            Item::Par(1, 6),
+            Item::Point(Op::Mul),
+            Item::Seq(7, 8),
+            Item::Number(256),
+            Item::Par(1, 10),
+            Item::Point(Op::Div),
+            Item::Seq(11, 12),
+            Item::Seq(5, 9),
+            Item::Seq(14, 13),
+            Item::Rec(0, 15),
+        ],
+    },
+    Row {
+        name: "_,3 : @",
+        items: &[
+            WIRE,
+            Item::Number(3),
+            Item::Par(0, 1),
+            Item::Prim(Prim::Delay),
+            Item::Seq(2, 3),
+        ],
+    },
+    Row {
+        name: "_, (_,7 : &) : @",
+        items: &[
+            WIRE,
+            Item::Number(7),
+            Item::Par(0, 1),
+            Item::Point(Op::And),
+            Item::Seq(2, 3),
+            Item::Par(0, 4),
+            Item::Prim(Prim::Delay),
+            Item::Seq(5, 6),
+        ],
+    },
+    Row {
+        name: "_ : mem : mem",
+        items: &[
+            WIRE,
+            Item::Prim(Prim::Mem),
+            Item::Seq(1, 1),
+            Item::Seq(0, 2),
+        ],
     },
     Row {
         name: "prefix",
         items: &[Item::Prim(Prim::Prefix)],
-        samples: &[1, 2, 3, 4, 5, 6],
     },
     Row {
         name: "_ @ hslider, _ @ 2",
@@ -54,7 +347,6 @@ static ROWS: [Row; 7] = [
             Item::Seq(6, 3),
             Item::Par(4, 7),
         ],
-        samples: &[1, -1, 2, -2, 3, -3, 4, -4, 5, -5],
     },
     Row {
         name: "(+,_ : +) ~ _ ~ mem",
@@ -67,26 +359,10 @@ static ROWS: [Row; 7] = [
             Item::Prim(Prim::Mem),
             Item::Rec(4, 5),
         ],
-        samples: &[1, 0, 0, 2, 0, 0, -7, 1],
     },
     Row {
         name: "_, _, _ :> _",
         items: &[WIRE, Item::Par(0, 0), Item::Par(1, 0), Item::Merge(2, 0)],
-        samples: &[1, 2, 3, 2147483647, 1, 1],
-    },
-    Row {
-        name: "_ <: _ + 1, _ + 1 :> _",
-        items: &[
-            WIRE,
-            Item::Number(1),
-            Item::Par(0, 1),
-            PLUS,
-            Item::Seq(2, 3),
-            Item::Par(4, 4),
-            Item::Split(0, 5),
-            Item::Merge(6, 0),
-        ],
-        samples: &[5, -1],
     },
 ];
 
@@ -144,7 +420,7 @@ fn value(graph: &Graph, signal: Signal, before: &[Vec<i32>], now: &[i32], frame:
     match signal {
         Signal::Input(k) => number_at(frame, k),
         Signal::Const(n) => n,
-        Signal::Control(_) => 3,
+        Signal::Control(k) => number_at(&CONTROLS, u64::from(k)),
         Signal::Point { op, args } => point(op, args, now),
         Signal::Delay { x, d, max: _ } => {
             delayed(x.number(), number_at(now, d.number()), before, now)
@@ -198,7 +474,7 @@ fn given(
     Ok(answer)
 }
 
-// The graph of the last diagram gives what the diagram answers, on so many frames.
+// The graph of the last diagram, which gives what the diagram answers.
 fn agrees(rt: &impl Abort, alloc: Global, build: &Build, row: &Row) -> Result<Graph, Fail> {
     assert!(rt; build.count > 0);
     let root = DiagramId::new(build.count - 1);
@@ -209,14 +485,10 @@ fn agrees(rt: &impl Abort, alloc: Global, build: &Build, row: &Row) -> Result<Gr
     };
     let graph = propagate(alloc, &build.diagrams, root, &delays)?;
     let width = build.diagrams.arity(root).inputs as usize;
-    let frames = if width == 0 {
-        0
-    } else {
-        row.samples.len() / width
-    };
-    assert!(rt; row.samples.len() == frames * width);
-    let want = play(alloc, &build.diagrams, root, &[3, 0], row.samples, frames)?;
-    let answer = given(alloc, &graph, row.samples, width, frames)?;
+    assert!(rt; width <= 6);
+    let samples = &SAMPLES[..FRAMES * width];
+    let want = play(alloc, &build.diagrams, root, &CONTROLS, samples, FRAMES)?;
+    let answer = given(alloc, &graph, samples, width, FRAMES)?;
     assert!(rt; answer.as_slice() == want.as_slice(), "{}", row.name);
     Ok(graph)
 }
@@ -247,7 +519,7 @@ fn is_double(signal: Signal) -> bool {
 #[test]
 fn equal_operands_are_shared(rt: HostRuntime) -> Result<(), Fail> {
     let alloc = rt.alloc();
-    let row = &ROWS[6];
+    let row = &ROWS[0];
     let mut build = Build::new(alloc);
     for item in row.items {
         build.put(&rt, *item)?;
@@ -258,5 +530,6 @@ fn equal_operands_are_shared(rt: HostRuntime) -> Result<(), Fail> {
     };
     assert!(rt; sum.number() < graph.len());
     assert!(rt; is_double(graph.signal(*sum)));
+    assert!(rt; given(alloc, &graph, &[5], 1, 1)?.as_slice() == [12].as_slice());
     Ok(())
 }
