@@ -2,10 +2,11 @@
 
 ghost use Rattle.std.specs.Prelude.{◌<◌};
 
-use fv_core::{Event, replay};
+use fv_core::{Core, Event, replay};
 use fv_graph::Tasks;
 use fv_outside::Reads;
 use std::alloc::{AllocError, Global};
+use std::process::Abort;
 use std::test::Fail;
 
 struct Row {
@@ -15,7 +16,7 @@ struct Row {
 }
 
 // Two loops apart, one vector, one worker: the tasks 0 and 1 lie in the one deque, 1 at its back.
-static APART: [Row; 4] = [
+static APART: [Row; 5] = [
     Row {
         name: "the back first",
         events: &[
@@ -30,6 +31,11 @@ static APART: [Row; 4] = [
     Row {
         name: "the front first",
         events: &[Event::Take { worker: 0, task: 0 }],
+        replays: false,
+    },
+    Row {
+        name: "the end of a task that does not run",
+        events: &[Event::Finish { worker: 0, task: 0 }],
         replays: false,
     },
     Row {
@@ -159,5 +165,21 @@ fn rows_of_a_pair(rt: HostRuntime) -> Result<(), Fail> {
     let alloc = rt.alloc();
     let tasks = pair(alloc)?;
     assert_eq!(rt; first_wrong(alloc, &tasks, 2, &PAIR)?, "");
+    Ok(())
+}
+
+// An event that is not legal leaves the core as it was.
+#[test]
+fn an_illegal_event(rt: HostRuntime) -> Result<(), Fail> {
+    let alloc = rt.alloc();
+    let tasks = apart(alloc)?;
+    let mut core = Core::new(alloc, &tasks, 1)?;
+    let finish = Event::Finish { worker: 0, task: 0 };
+    assert!(rt; core.step(&tasks, finish).is_err());
+    assert_eq!(rt; core.next_of(0), Some(1));
+    assert!(rt;
+        core.step(&tasks, Event::Take { worker: 0, task: 1 })
+            .is_ok()
+    );
     Ok(())
 }
