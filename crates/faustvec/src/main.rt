@@ -28,7 +28,7 @@ fn main(rt: HostRuntime) -> ExitCode {
     }
 }
 
-// The words of the command line, the program's own name first. One that is no UTF-8 is invalid data.
+// What the command was called with, its own name included. A word that is no UTF-8 is invalid data.
 fn words(rt: &HostRuntime) -> io::Result<Vec<String>> {
     let mut words = Vec::new(rt.alloc());
     for word in env::args(rt)? {

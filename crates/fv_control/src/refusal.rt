@@ -17,7 +17,7 @@ pub enum ScriptRefusal {
     ControlUnknown { line: u32 },
     /// The value is outside the control's range.
     ControlRange { line: u32 },
-    /// The frame is less than that of an earlier line.
+    /// A line before it has a greater frame.
     ControlOrder { line: u32 },
     /// Memory ran out.
     NoMemory,

@@ -1,4 +1,4 @@
--- Each list of events that is legal in the core is legal in the lean core.
+-- What the core allows, event by event, its lean form allows too.
 use Rattle.std.proofs.Common.{◌≡◌, ℕ, ◌+◌, ◌<◌, Bool, true, false, cond, ◌&&◌, ◌||◌, not, List, [], ◌∷◌, length, Option, Some, None, refl, sym, ap, ◌∙◌, subst, arith, ltb, lt-ltb, ltb-true, ◌==◌, eq-eqb}
 use Rattle.fv_outside.specs.Tasks.{bit, total}
 use Rattle.fv_graph.specs.Net.{Net, IsNet}

@@ -56,8 +56,8 @@ impl Model for Core {
 }
 
 impl Core {
-    /// Nothing is done, and the tasks that read no other are dealt to the workers in turn. There is room for every later step on
-    /// at most as many tasks and edges.
+    /// Nothing is done, and the tasks that read no other are dealt to the workers in turn. Later runs need no memory where they
+    /// have no more tasks and edges than this one.
     pub fn new(alloc: Global, tasks: &Tasks, workers: u32) -> Result<Core, AllocError>
         requires some_worker { 0 < workers }
         ensures core { IfOk result (λ c. c ≡ record { tasks = tasks.now.tasks; workers = workers; room_tasks = task_count tasks.now.tasks; room_edges = edges_of tasks.now.tasks; now = opening (net_of tasks.now.tasks) workers }) }

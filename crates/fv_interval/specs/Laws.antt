@@ -19,7 +19,7 @@ AreOf [] (z ∷ x) = ⊥
 AreOf (s ∷ I) [] = ⊥
 AreOf (s ∷ I) (z ∷ x) = IsOf s z × AreOf I x
 
--- where inputs, controls and slots lie in their spans at every sample, so do the outputs
+-- no output ever leaves its span while no input, control or slot leaves its own
 abbrev pub AnswersHold : Diagram → Type 0
 AnswersHold d =
     IsWellFormed d → HasNumbers d → (c e : ℕ → Interval) (I : List Interval) (cs es : ℕ → Stream) (X : List Frame) → length I ≡ inputs d →
@@ -46,7 +46,7 @@ DelaysHold (Rec a b) c e I cs es X =
     let G = fed_back_over b (run (Rec a b) cs es X) in
     DelaysHold b c e F cs es G × DelaysHold a c e (spans b c e F ++ I) cs es (beside (run b cs es G) X)
 
--- where inputs, controls and slots lie in their spans at every sample, each `@` does so
+-- no `@` meets a second input outside its span while no input, control or slot leaves its own
 abbrev pub AllDelaysHold : Diagram → Type 0
 AllDelaysHold d =
     IsWellFormed d → HasNumbers d → (c e : ℕ → Interval) (I : List Interval) (cs es : ℕ → Stream) (X : List Frame) → length I ≡ inputs d →

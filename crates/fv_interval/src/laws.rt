@@ -3,7 +3,7 @@
 ghost use Rattle.fv_diagram.specs.Diagram.{Diagram};
 ghost use Rattle.fv_interval.specs.Laws.{AnswersHold, AllDelaysHold};
 
-/// Where inputs, controls and slots lie in their spans at every sample, so do the answers.
+/// No answer ever leaves its span while no input, control or slot leaves its own.
 pub fn answers_hold()
     ensures { (d : Diagram) → AnswersHold d }
 {}

@@ -14,9 +14,9 @@ pub const DELAY_BUDGET: u64 = 16_777_216;
 /// Why the delays of a diagram are refused.
 #[derive(Clone, Copy, PartialEq, Eq, Debug)]
 pub enum DelayRefusal {
-    /// The span of an `@`'s second input goes below 0, to this number.
+    /// An `@` may be asked for a negative delay: this is the least number in its span.
     DelayNegative { least: i32 },
-    /// It goes above the greatest delay, to this number.
+    /// Or for one above the limit: this is the greatest number in that span.
     DelayTooLong { greatest: i32 },
     /// The sum of all delays is over the limit.
     DelayBudget { sum: u64 },

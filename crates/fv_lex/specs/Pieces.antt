@@ -11,7 +11,7 @@ use Rattle.fv_lex.specs.Symbols.{sign, value}
 
 -- ---- tokens
 
--- any number of `_`, then a letter, then letters, digits and `_`
+-- a letter, with `_` alone before it, and behind it letters, digits and `_`
 abbrev pub is_name : List ℕ → Bool
 is_name [] = false
 is_name (b ∷ bs) = if is_underscore b then is_name bs else is_letter b && list_all is_name_byte bs

@@ -6,7 +6,7 @@ use Rattle.std.specs.Int.{IsNextPowerOfTwo}
 abbrev pub copied_history : ℕ
 copied_history = 16
 
--- history plus block up to that history, else the least power of two that is at least that sum
+-- a copied history and a block fill the lane; a longer history and a block lie in a ring, the next power of two cells long
 abbrev pub IsLaneLength : (history block cells : ℕ) → Type 0
 IsLaneLength h b m = (h ≤ copied_history → m ≡ h + b) × (copied_history < h → IsNextPowerOfTwo (h + b) m)
 

@@ -3,7 +3,7 @@
 ghost use Rattle.std.specs.Prelude.{◌≡◌, ◌+◌, ◌^◌, ◌<◌, ◌≤◌};
 ghost use Rattle.fv_lines.specs.Shape.{copied_history, IsLaneLength, IsMask};
 
-/// The longest history that is copied to the front of its lane when a block begins. A longer one lies in a ring.
+/// The longest history that a block finds copied before its own samples. Lanes of longer ones are rings.
 pub(crate) const COPIED_HISTORY: u32 = 16;
 
 /// A lane that keeps `history` samples and takes up to `block` more, in `len` cells.

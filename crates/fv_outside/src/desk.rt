@@ -17,7 +17,7 @@ pub trait Desk {
     /// What it means: its files, the bytes of each role where it tells them, its counts, and what it was asked to begin.
     ghost state: { Self → DeskState };
 
-    /// Makes the bytes of the named file those that are left to read of the role. A file that is not there is a fault.
+    /// Makes the bytes of the named file those that are left to read of the role. That no such file stands is a fault.
     fn begin_read(&mut self, role: Role, name: &str) -> Result<(), Failed>
         ensures goes_on { GoesOn (state self.old) (state self.new) }
         ensures failed { OnErr result (HasFault role (state self.old) (state self.new)) }

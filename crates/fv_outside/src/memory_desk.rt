@@ -85,7 +85,7 @@ impl MemoryDesk {
         self.drawers[place_of(role)].pieces(size);
     }
 
-    /// The call of the role with this number, counted from 0 over all four methods, will fail.
+    /// One call of the role will fail: its number tells how many calls of that role, of any method, come before it.
     pub fn fail(&mut self, role: Role, call: u32) -> Result<(), AllocError>
         ensures ok { OnOk result (self.new ≡ memory_after self.old role (after_fail call)) }
         ensures err { OnErr result (self.new ≡ self.old) }

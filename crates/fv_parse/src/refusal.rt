@@ -13,11 +13,11 @@ pub enum ParseRefusal {
     Syntax { line: u32, column: u32 },
     /// The first token that is not supported.
     Unsupported { word: Word },
-    /// A name is defined twice in one list, one of them without parameters.
+    /// One list has two definitions of a name that are not both by patterns.
     Redefined { name: Word },
-    /// A name stands twice in one parameter list, or in the patterns of one rule.
+    /// The parameters of a definition, or all patterns of a rule together, have a name more than once.
     RepeatedName { name: Word },
-    /// The rule there has another number of patterns than the first rule of its case.
+    /// The first rule of a case has more or fewer patterns than the one there.
     RuleWidths { line: u32, column: u32 },
     /// No outermost definition is of `process`.
     NoProcess,

@@ -18,7 +18,7 @@ pub record AreTaken (d : Diagram) (spans : List Interval) (X : List Frame) (c : 
   pub small : (i t : ℕ) → FitsSigned w32 (column X i t)
   pub controls : (k t : ℕ) → IsOf (control_span spans k) (c k t)
 
--- The graph's output j at time t is output j at t of the diagram, on all frames and all controls in their spans.
+-- The graph's outputs have at each time the values of the diagram's outputs, on all frames and all controls in their spans.
 abbrev pub Propagates : Diagram → List Interval → Graph → Type 0
 Propagates d spans g =
     (X : List Frame) (c e : ℕ → Stream) → AreTaken d spans X c → (j t : ℕ) → j < length g.outputs → t < length X →

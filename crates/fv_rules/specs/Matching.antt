@@ -60,8 +60,8 @@ abbrev pub value_number : Value → Option ℤ
 value_number (Flat d) = number_of d
 value_number v = None
 
--- A name matches every value; an integer matches a diagram with that number; a composition matches a diagram without a number
--- that is put as the same one and whose parts match, the left one first. The bindings are added to those so far.
+-- A name matches every value; an integer matches a diagram with that number; a composition matches a diagram that has no
+-- number, is made by the same composition, and has parts that match, the left one first. The bindings are added to those so far.
 abbrev pub matched : Lexed → Tree → Value → Bindings → Option Bindings
 matched l (tree.Named s n) v bs = Some ((text_of l n, settled v) ∷ bs)
 matched l (tree.Number s n) v bs = if is_number (wrap (pos n)) (value_number v) then Some bs else None
