@@ -57,9 +57,10 @@ impl Plan {
         }
     }
 
-    /// The number of its loops.
+    /// The number of its loops. The plan stands for some graph.
     pub fn loops(&self) -> u64
-        ensures { result ≡ self.now.loops }
+        ensures loops { result ≡ self.now.loops }
+        ensures plan { IsPlan self.now }
     {
         self.loops
     }
