@@ -1,0 +1,4 @@
+pub mod Grown
+pub mod StandLemmas
+pub mod RateLemmas
+pub mod HistoryLemmas

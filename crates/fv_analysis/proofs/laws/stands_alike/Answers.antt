@@ -1,0 +1,5 @@
+use Rattle.fv_analysis.proofs.StandLemmas.{stands_alike}
+use Rattle.fv_analysis.proofs.laws.stands_alike.Goals as goal
+
+pub returns : goal.returns
+returns c = stands_alike

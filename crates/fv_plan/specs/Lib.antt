@@ -1,0 +1,6 @@
+pub mod Separated
+pub mod Fits
+pub mod View
+pub mod Plans
+pub mod Tasks
+pub mod Rows
