@@ -1,8 +1,8 @@
 pub mod Texts
 pub mod AnswerLaws
 pub mod Programs
+pub mod Delayed
 pub mod Loads
-pub mod Playing
 pub mod Scripts
 pub mod Filing
 pub mod Heads

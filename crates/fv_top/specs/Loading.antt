@@ -13,7 +13,7 @@ use Rattle.fv_wav.specs.Stopping.{IsHead, IsFaultOfInput}
 use Rattle.fv_wav.specs.Samples.{whole_bytes}
 use Rattle.fv_top.specs.Sources.{Source, found, script_of, source_of}
 use Rattle.fv_top.specs.declared.refusal.Refusal.{Refusal}
-use Rattle.fv_top.specs.declared.refusal.Refusal.TheVariants.{ReadFault, Unsupported, NoMemory}
+use Rattle.fv_top.specs.declared.refusal.Refusal.TheVariants.{ReadFault, NoMemory}
 
 -- a file that may be named is asked for where it is
 abbrev pub reading : Role → Option (List ℕ) → List Request
@@ -51,10 +51,6 @@ IsFile name bytes desk = IsTrue desk.tells → file_named name desk.files ≡ So
 abbrev pub refusal_of_read : Role → ReadError → Refusal
 refusal_of_read role Failed = ReadFault role
 refusal_of_read role OutOfMemory = NoMemory
-
--- a refusal of this word, or want of memory
-abbrev pub IsUnsupportedOrNoMemory : (word : List ℕ) → Refusal → Type 0
-IsUnsupportedOrNoMemory word refusal = (refusal ≡ Unsupported word) ⊎ (refusal ≡ NoMemory)
 
 -- ---- what the files say
 

@@ -2,18 +2,18 @@
 use Rattle.std.specs.Prelude.{◌≤◌, ◌<◌, ◌^◌, length, Result, Ok, Err}
 use Rattle.fv_diagram.specs.Arena.{count_of, tree_of}
 use Rattle.fv_diagram.specs.Diagram.{outputs, control_bound, HasNoFreeSlot, IsWellFormed}
+use Rattle.fv_eval.specs.Evaluated.{Evaluated}
 use Rattle.fv_top.specs.Sources.{Compiled}
 use Rattle.fv_top.specs.Sound.{Sound}
-use Rattle.fv_top.specs.declared.text.Compiled.{Compiled as Program}
 use Rattle.fv_top.specs.declared.sound.Sound.{Sound as Made}
 use Rattle.fv_top.specs.declared.refusal.Refusal.{Refusal}
 
 -- the diagram and the controls
-abbrev pub compiled_of : Program → Compiled
-compiled_of p = record { diagram = tree_of p.diagrams p.root; controls = p.controls.items }
+abbrev pub compiled_of : Evaluated → Compiled
+compiled_of p = record { diagram = tree_of p.diagrams p.root; controls = p.controls }
 
 -- a runner may be made of it, and its channels can be written
-pub record CanPlay (p : Program) : Type 0 where
+pub record CanPlay (p : Evaluated) : Type 0 where
   pub root : p.root < count_of p.diagrams
   pub well : IsWellFormed (tree_of p.diagrams p.root)
   pub closed : HasNoFreeSlot (tree_of p.diagrams p.root)

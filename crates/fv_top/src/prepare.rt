@@ -20,8 +20,8 @@ use crate::program::load_program;
 use crate::refusal::Refusal;
 use crate::script::load_script;
 use crate::sound::{Sound, count_frames, fit, render};
-use crate::text::Compiled;
 use fv_control::Change;
+use fv_eval::Program;
 use fv_outside::Desk;
 use fv_wav::Head;
 use fv_words::Run;
@@ -53,7 +53,7 @@ pub fn prepare<D: Desk>(
     ensures stops { IfErr result (StopsBefore (run_view run.now) (D.state desk.old) (D.state desk.new)) }
 {
     let program = load_program(alloc, desk, run.program)?;
-    let script = load_script(alloc, desk, run.controls, &program.controls)?;
+    let script = load_script(alloc, desk, run.controls, program.controls.as_slice())?;
     let head = load_head(desk, run.input)?;
     let sound = fit(&program, head, &run.settings)?;
     let raw = load_samples(alloc, desk, head)?;
@@ -64,7 +64,7 @@ pub fn prepare<D: Desk>(
 // The output of a program on the bytes of an input's samples, and the bytes that its samples take.
 fn make(
     alloc: Global,
-    program: &Compiled,
+    program: &Program,
     changes: &[Change],
     head: Option<Head>,
     sound: Sound,

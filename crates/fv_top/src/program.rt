@@ -11,7 +11,8 @@ ghost use Rattle.fv_top.specs.Playable.{compiled_of, CanPlay};
 ghost use Rattle.fv_top.specs.Loading.{ReadsFile, CannotRead, StopsLoading, IsFile, refusal_of_read};
 
 use crate::refusal::Refusal;
-use crate::text::{Compiled, read_program};
+use crate::text::read_program;
+use fv_eval::Program;
 use fv_outside::{Desk, ReadError, Role, read_up_to};
 use std::alloc::Global;
 
@@ -20,7 +21,7 @@ const TEXT_BYTES: usize = 1048577;
 
 /// Loads the program of this name.
 #[tactic(auto, using(fv_outside::proofs::States::steps, crate::proofs::Loads::reading))]
-pub fn load_program<D: Desk>(alloc: Global, desk: &mut D, name: &str) -> Result<Compiled, Refusal>
+pub fn load_program<D: Desk>(alloc: Global, desk: &mut D, name: &str) -> Result<Program, Refusal>
     ensures reads { ReadsFile program_role (Some name.now) (D.state desk.old) (D.state desk.new) }
     ensures spelled { IfOk result (λ p. (text : List ℕ) × IsFile name.now text (D.state desk.old) × IsProgram text (compiled_of p)) }
     ensures plays { IfOk result CanPlay }

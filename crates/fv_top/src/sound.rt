@@ -18,9 +18,9 @@ ghost use Rattle.fv_top.specs.Playable.{compiled_of, CanPlay, sound_answered};
 
 use crate::input::frame_size;
 use crate::refusal::Refusal;
-use crate::text::Compiled;
 use fv_control::Change;
 use fv_diagram::ControlInfo;
+use fv_eval::Program;
 use fv_play::play_script;
 use fv_wav::{Head, data_length, decode};
 use fv_words::Settings;
@@ -46,7 +46,7 @@ const USUAL_RATE: u32 = 44100;
 const USUAL_BITS: u32 = 16;
 
 /// The sound that a program makes on an input with this head, or why it does not fit.
-pub fn fit(program: &Compiled, head: Option<Head>, settings: &Settings) -> Result<Sound, Refusal>
+pub fn fit(program: &Program, head: Option<Head>, settings: &Settings) -> Result<Sound, Refusal>
     requires plays { CanPlay program.now }
     requires head { ForSome head IsHead }
     ensures sound { sound_answered result ≡ sound_of (settings_in settings.now) (compiled_of program.now).diagram head }
@@ -134,7 +134,7 @@ pub fn count_frames(head: Option<Head>, raw: &[u8], stated: u32) -> usize
 /// The samples that a program answers on an input, one frame after another.
 pub fn render(
     alloc: Global,
-    program: &Compiled,
+    program: &Program,
     changes: &[Change],
     head: Option<Head>,
     raw: &[u8],
@@ -148,7 +148,7 @@ pub fn render(
     ensures { IfOk result (λ v. v.items ≡ joined (run (compiled_of program.now).diagram
         (control_streams changes.now (initial_of (compiled_of program.now).controls)) no_slots (frames_of stated head raw.now))) }
 {
-    let initial = initial_of(alloc, &program.controls)?;
+    let initial = initial_of(alloc, program.controls.as_slice())?;
     let frames = count_frames(head, raw, stated);
     let samples = samples_of(alloc, head, raw, frames)?;
     let answer = play_script(

@@ -7,10 +7,10 @@ use std::test::Fail;
 
 // Two samples of 24 bits, 1 and -2, in an extensible file with an odd chunk.
 const ODD: [u8; 86] = [
-    82, 73, 70, 70, 78, 0, 0, 0, 87, 65, 86, 69, 102, 109, 116, 32, 40, 0, 0, 0, 254, 255, 1, 0, 68,
-    172, 0, 0, 204, 4, 2, 0, 3, 0, 24, 0, 22, 0, 24, 0, 4, 0, 0, 0, 1, 0, 0, 0, 0, 0, 16, 0, 128, 0,
-    0, 170, 0, 56, 155, 113, 76, 73, 83, 84, 3, 0, 0, 0, 65, 66, 67, 0, 100, 97, 116, 97, 6, 0, 0,
-    0, 1, 0, 0, 254, 255, 255,
+    82, 73, 70, 70, 78, 0, 0, 0, 87, 65, 86, 69, 102, 109, 116, 32, 40, 0, 0, 0, 254, 255, 1, 0,
+    68, 172, 0, 0, 204, 4, 2, 0, 3, 0, 24, 0, 22, 0, 24, 0, 4, 0, 0, 0, 1, 0, 0, 0, 0, 0, 16, 0,
+    128, 0, 0, 170, 0, 56, 155, 113, 76, 73, 83, 84, 3, 0, 0, 0, 65, 66, 67, 0, 100, 97, 116, 97,
+    6, 0, 0, 0, 1, 0, 0, 254, 255, 255,
 ];
 
 // The same samples behind a plain head.
@@ -118,7 +118,15 @@ fn widens_samples(rt: HostRuntime) -> Result<(), Fail> {
         68, 172, 0, 0, 204, 4, 2, 0, 3, 0, 24, 0, 100, 97, 116, 97, 9, 0, 0, 0, 1, 0, 0, 254, 255,
         255, 3, 0, 0, 0,
     ];
-    let words = ["run", "--bits=24", "p.dsp", "in.wav", "out.wav", "--block", "7"];
+    let words = [
+        "run",
+        "--bits=24",
+        "p.dsp",
+        "in.wav",
+        "out.wav",
+        "--block",
+        "7",
+    ];
     let mut desk = desk_of(rt.alloc(), b"process = _;", &THREE)?;
     assert_eq!(rt; status_of(&rt, rt.alloc(), &mut desk, &words)?, 0);
     assert_eq!(rt; desk.written(Role::Output), wide.as_slice());

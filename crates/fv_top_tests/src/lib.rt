@@ -8,4 +8,6 @@ pub use sure::run_sure;
 #[cfg(test)]
 mod files;
 #[cfg(test)]
+mod language;
+#[cfg(test)]
 mod runs;

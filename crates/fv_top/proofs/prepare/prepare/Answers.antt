@@ -10,6 +10,7 @@ use Rattle.fv_words.specs.Runs.{Run}
 use Rattle.fv_words.specs.Views.{run_in as run_view}
 use Rattle.fv_top.specs.declared.refusal.Refusal.{Refusal}
 use Rattle.fv_top.specs.Loading.{StopsLoading, HasScript}
+use Rattle.fv_eval.specs.Evaluated.{Evaluated}
 use Rattle.fv_top.specs.Playable.{compiled_of, sound_in}
 use Rattle.fv_top.specs.Prepared.{ready_of, made_of}
 use Rattle.fv_top.specs.Promise.{HasRefusal, ReadScript}
@@ -33,7 +34,7 @@ returns-in_err-script-clause-stops g c =
     let b = state c.load_program.new.desk in
     let p = compiled_of c.in_ok-program.program in
     let w1 = after_program run p a b c.load_program.ensures.reads (c.in_ok-program.ensures.steady (λ is. absurd cc)) c.in_ok-program.ensures.spelled in
-    let same : c.deref.result.now ≡ p.controls = c.deref.ensures.value in
+    let same : c.as_slice.result.now ≡ p.controls = c.as_slice.ensures ∙ ap (λ (e : Evaluated). e.controls) c.program.view_is in
     let d = state c.load_script.new.desk in
     let q = err_from_is_err_and c.from_residual-in_err-script.result c.from_residual-in_err-script.ensures.1 in
     rw (q.1, q.2) (stops_script run p a b d c.in_err-script.field-0.0 w1 c.load_script.ensures.reads
@@ -48,7 +49,7 @@ returns-in_err-head-clause-stops g c =
     let b = state c.load_program.new.desk in
     let p = compiled_of c.in_ok-program.program in
     let w1 = after_program run p a b c.load_program.ensures.reads (c.in_ok-program.ensures.steady (λ is. absurd cc)) c.in_ok-program.ensures.spelled in
-    let same : c.deref.result.now ≡ p.controls = c.deref.ensures.value in
+    let same : c.as_slice.result.now ≡ p.controls = c.as_slice.ensures ∙ ap (λ (e : Evaluated). e.controls) c.program.view_is in
     let d = state c.load_script.new.desk in
     let changes = c.in_ok-script.script in
     let w2 = after_script run p changes a b d w1 c.load_script.ensures.reads (c.in_ok-script.ensures.steady (λ is. absurd cc))
@@ -64,7 +65,7 @@ returns-in_err-sound-clause-stops g c =
     let b = state c.load_program.new.desk in
     let p = compiled_of c.in_ok-program.program in
     let w1 = after_program run p a b c.load_program.ensures.reads (c.in_ok-program.ensures.steady (λ is. absurd cc)) c.in_ok-program.ensures.spelled in
-    let same : c.deref.result.now ≡ p.controls = c.deref.ensures.value in
+    let same : c.as_slice.result.now ≡ p.controls = c.as_slice.ensures ∙ ap (λ (e : Evaluated). e.controls) c.program.view_is in
     let d = state c.load_script.new.desk in
     let changes = c.in_ok-script.script in
     let w2 = after_script run p changes a b d w1 c.load_script.ensures.reads (c.in_ok-script.ensures.steady (λ is. absurd cc))
@@ -83,7 +84,7 @@ returns-in_err-raw-clause-stops g c =
     let b = state c.load_program.new.desk in
     let p = compiled_of c.in_ok-program.program in
     let w1 = after_program run p a b c.load_program.ensures.reads (c.in_ok-program.ensures.steady (λ is. absurd cc)) c.in_ok-program.ensures.spelled in
-    let same : c.deref.result.now ≡ p.controls = c.deref.ensures.value in
+    let same : c.as_slice.result.now ≡ p.controls = c.as_slice.ensures ∙ ap (λ (e : Evaluated). e.controls) c.program.view_is in
     let d = state c.load_script.new.desk in
     let changes = c.in_ok-script.script in
     let w2 = after_script run p changes a b d w1 c.load_script.ensures.reads (c.in_ok-script.ensures.steady (λ is. absurd cc))
@@ -105,7 +106,7 @@ returns-in_err-prepared-clause-stops g c =
     let b = state c.load_program.new.desk in
     let p = compiled_of c.in_ok-program.program in
     let w1 = after_program run p a b c.load_program.ensures.reads (c.in_ok-program.ensures.steady (λ is. absurd cc)) c.in_ok-program.ensures.spelled in
-    let same : c.deref.result.now ≡ p.controls = c.deref.ensures.value in
+    let same : c.as_slice.result.now ≡ p.controls = c.as_slice.ensures ∙ ap (λ (e : Evaluated). e.controls) c.program.view_is in
     let d = state c.load_script.new.desk in
     let changes = c.in_ok-script.script in
     let w2 = after_script run p changes a b d w1 c.load_script.ensures.reads (c.in_ok-script.ensures.steady (λ is. absurd cc))
@@ -128,7 +129,7 @@ returns-clause-reaches g c =
     let b = state c.load_program.new.desk in
     let p = compiled_of c.in_ok-program.program in
     let w1 = after_program run p a b c.load_program.ensures.reads (c.in_ok-program.ensures.steady (λ is. absurd cc)) c.in_ok-program.ensures.spelled in
-    let same : c.deref.result.now ≡ p.controls = c.deref.ensures.value in
+    let same : c.as_slice.result.now ≡ p.controls = c.as_slice.ensures ∙ ap (λ (e : Evaluated). e.controls) c.program.view_is in
     let d = state c.load_script.new.desk in
     let changes = c.in_ok-script.script in
     let w2 = after_script run p changes a b d w1 c.load_script.ensures.reads (c.in_ok-script.ensures.steady (λ is. absurd cc))
@@ -146,7 +147,7 @@ returns-clause-steady g c =
     let b = state c.load_program.new.desk in
     let p = compiled_of c.in_ok-program.program in
     let w1 = after_program run p a b c.load_program.ensures.reads (c.in_ok-program.ensures.steady (λ is. absurd cc)) c.in_ok-program.ensures.spelled in
-    let same : c.deref.result.now ≡ p.controls = c.deref.ensures.value in
+    let same : c.as_slice.result.now ≡ p.controls = c.as_slice.ensures ∙ ap (λ (e : Evaluated). e.controls) c.program.view_is in
     let d = state c.load_script.new.desk in
     let changes = c.in_ok-script.script in
     let w2 = after_script run p changes a b d w1 c.load_script.ensures.reads (c.in_ok-script.ensures.steady (λ is. absurd cc))
@@ -166,7 +167,7 @@ returns-clause-ready g c =
     let b = state c.load_program.new.desk in
     let p = compiled_of c.in_ok-program.program in
     let w1 = after_program run p a b c.load_program.ensures.reads (c.in_ok-program.ensures.steady (λ is. absurd cc)) c.in_ok-program.ensures.spelled in
-    let same : c.deref.result.now ≡ p.controls = c.deref.ensures.value in
+    let same : c.as_slice.result.now ≡ p.controls = c.as_slice.ensures ∙ ap (λ (e : Evaluated). e.controls) c.program.view_is in
     let d = state c.load_script.new.desk in
     let changes = c.in_ok-script.script in
     let w2 = after_script run p changes a b d w1 c.load_script.ensures.reads (c.in_ok-script.ensures.steady (λ is. absurd cc))
@@ -177,7 +178,7 @@ returns-clause-ready g c =
     let sound = sound_in c.in_ok-sound.sound in
     let is = sym c.in_ok-sound.ensures.sound in
     ready_is run p changes head a f w3 sound is c.in_ok-head.ensures.ranges c.in_ok-raw.raw.items (ready_of c.in_ok-prepared.prepared.0) c.in_ok-raw.ensures.raw
-    (c.in_ok-prepared.ensures.made ∙ ap (λ (cs : List Change). made_of p cs head sound c.deref-2.result.now) c.changes.ensures ∙ ap (λ (w : List ℕ). made_of p changes head sound w) c.deref-2.ensures.value)
+    (c.in_ok-prepared.ensures.made ∙ ap (λ (cs : List Change). made_of p cs head sound c.deref.result.now) c.changes.ensures ∙ ap (λ (w : List ℕ). made_of p changes head sound w) c.deref.ensures.value)
 
 pub fit-requires-clause-head : goal.fit-requires-clause-head
 fit-requires-clause-head g c = λ x e. (c.in_ok-head.ensures.ranges x e).0
@@ -185,5 +186,5 @@ fit-requires-clause-head g c = λ x e. (c.in_ok-head.ensures.ranges x e).0
 pub make-requires-clause-named : goal.make-requires-clause-named
 make-requires-clause-named g c =
     let P : ℕ → List Change → Type 0 = λ n cs. AllByRecursion (λ (b : Change). b.control < n) cs in
-    let named = subst (λ (cs : List ControlInfo). P (length cs) c.in_ok-script.script) c.deref.ensures.value c.in_ok-script.ensures.named in
-    subst (P (length c.in_ok-program.program.controls.items)) (sym c.changes.ensures) named
+    let named = subst (λ (cs : List ControlInfo). P (length cs) c.in_ok-script.script) (c.as_slice.ensures ∙ ap (λ (e : Evaluated). e.controls) c.program.view_is) c.in_ok-script.ensures.named in
+    subst (P (length c.in_ok-program.program.controls)) (sym c.changes.ensures) named
