@@ -1,5 +1,5 @@
--- A text is a program of one diagram, or it is refused.
-use Rattle.std.proofs.Common.{◌≡◌, ◌⊎◌, ℕ, List, Ok, Err, ◌∙◌, ap, inl, inr, refl}
+-- A text is one program, or it is refused.
+use Rattle.std.proofs.Common.{◌≡◌, ◌⊎◌, ℕ, List, [], Ok, Err, ◌∙◌, ap, inl, inr, refl}
 use Rattle.std.specs.Prelude.{codes, Result}
 use Rattle.fv_lex.specs.declared.refusal.LexRefusal.{LexRefusal}
 use Rattle.fv_lex.specs.declared.refusal.LexRefusal.TheVariants as bytes
@@ -31,13 +31,13 @@ parses_by l (inl a) = (Ok (record { tokens = l; tree = a.0 }), spells a.0 a.1)
 parses_by l (inr e) = (Err e.0, refused e.0 e.1)
 
 means_once : SmallOnce → IsOnce Means
-means_once once s r q (small d h) (small e k) = ap Ok (once s.tokens s.tree d e h k)
+means_once once s r q (small d h) (small e k) = ap (λ (w : Diagram). Ok (record { diagram = w; controls = [] })) (once s.tokens s.tree d e h k)
 means_once once s r q (small d h) (not_small k) = absurd (k d h)
 means_once once s r q (not_small h) (small d k) = absurd (h d k)
 means_once once s r q (not_small h) (not_small k) = refl
 
 means_others : RefusesOthers Means
-means_others s none = (Unsupported (codes "program"), not_small (λ d h. none d (small d h)))
+means_others s none = (Unsupported (codes "program"), not_small (λ d h. none (record { diagram = d; controls = [] }) (small d h)))
 
 -- ---- one after another
 
@@ -91,5 +91,6 @@ tree_stops text l x refusal has a none (inl is) = rw is (inr (refl, goes_on (rec
 tree_stops text l x refusal has a none (inr m) = inl m
 
 -- a tree that is small makes a program
-pub tree_plays : (text : List ℕ) (l : Lexed) (x : Tree) (d : Diagram) → HasTokens text l → IsAccepted l x → IsSmall l x d → TextIs text (Ok d)
-tree_plays text l x d has a h = goes_on (record { tokens = l; tree = x }) (Ok d) (spelling_is text l x has a) (small d h)
+pub tree_plays : (text : List ℕ) (l : Lexed) (x : Tree) (d : Diagram) → HasTokens text l → IsAccepted l x → IsSmall l x d → TextIs text (Ok (record { diagram = d; controls = [] }))
+tree_plays text l x d has a h =
+    goes_on (record { tokens = l; tree = x }) (Ok (record { diagram = d; controls = [] })) (spelling_is text l x has a) (small d h)

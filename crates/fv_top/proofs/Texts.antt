@@ -2,13 +2,13 @@
 use Rattle.std.proofs.Common.{◌≡◌, ◌⊎◌, ℕ, ◌≤◌, ◌<◌, List, length, take, Ok, Err, sym, ◌∙◌, ap, arith, subst, refl, inl, inr}
 use Rattle.std.specs.Prelude.{Result}
 use Rattle.std.proofs.lemmas.List.{take_all, length-take}
-use Rattle.fv_diagram.specs.Diagram.{Diagram}
 use Rattle.fv_lex.specs.declared.refusal.LexRefusal.{LexRefusal}
 use Rattle.fv_base.specs.declared.role.Role.TheVariants.{Program}
 use Rattle.fv_lex.specs.declared.refusal.LexRefusal.TheVariants.{TextTooLong}
 use Rattle.fv_lex.specs.Token.{Lexed}
 use Rattle.fv_lex.specs.Cuts.{Has, too_long, cut, longest_text}
 use Rattle.fv_top.specs.declared.refusal.Refusal.{Refusal}
+use Rattle.fv_top.specs.Sources.{Compiled}
 use Rattle.fv_top.specs.Answers.{Turned, kept, turned, stops, goes_on}
 use Rattle.fv_top.specs.Program.{Spelled, SpellingIs, TextIs, of_bytes}
 use Rattle.fv_top.proofs.AnswerLaws.{kept_is}
@@ -38,7 +38,7 @@ whole_spelling text bytes r e (stops f h) = stops f (whole_cut text bytes (Err f
 whole_spelling text bytes r e (goes_on l s h k) = goes_on l r (whole_cut text bytes (Ok l) e h) k
 
 -- what they are, it is
-pub whole_is : (text bytes : List ℕ) (r : Result Diagram Refusal) → bytes ≡ take 1048577 text → TextIs bytes r → TextIs text r
+pub whole_is : (text bytes : List ℕ) (r : Result Compiled Refusal) → bytes ≡ take 1048577 text → TextIs bytes r → TextIs text r
 whole_is text bytes r e (stops f h) = stops f (whole_spelling text bytes (Err f) e h)
 whole_is text bytes r e (goes_on s q h k) = goes_on s r (whole_spelling text bytes (Ok s) e h) k
 
@@ -47,7 +47,7 @@ spelled_cut : (text : List ℕ) (s : Spelled) (r : Result Spelled Refusal) → r
 spelled_cut text s r is (stops f h) = absurd cc
 spelled_cut text s r is (goes_on l q h k) = (l, kept_is of_bytes Has text l h)
 
-program_cut : (text : List ℕ) (d : Diagram) (r : Result Diagram Refusal) → r ≡ Ok d → TextIs text r → (l : Lexed) × Has text (Ok l)
+program_cut : (text : List ℕ) (d : Compiled) (r : Result Compiled Refusal) → r ≡ Ok d → TextIs text r → (l : Lexed) × Has text (Ok l)
 program_cut text d r is (stops f h) = absurd cc
 program_cut text d r is (goes_on s q h k) = spelled_cut text s (Ok s) refl h
 
@@ -57,7 +57,7 @@ fits text l answer e (inl h) = let f = h.0 in absurd cc
 fits text l answer e (inr h) = h
 
 -- so bytes that are one are the whole text
-pub whole_text : (text bytes : List ℕ) (d : Diagram) → bytes ≡ take 1048577 text → TextIs bytes (Ok d) → text ≡ bytes
+pub whole_text : (text bytes : List ℕ) (d : Compiled) → bytes ≡ take 1048577 text → TextIs bytes (Ok d) → text ≡ bytes
 whole_text text bytes d e p =
     let cut = program_cut bytes d (Ok d) refl p in
     let short = fits bytes cut.0 (Ok cut.0) refl (too_long_or_not bytes (Ok cut.0) cut.1) in

@@ -1,5 +1,5 @@
--- What a program's text is: a program of one diagram, or refused for its first fault (Faust manual, cut down by this project's profile).
-use Rattle.std.specs.Prelude.{ℕ, Bool, ◌&&◌, ◌||◌, ◌==◌, nat_le, IsTrue, List, Result, Ok, Err, codes}
+-- What a program's text is: a program, or refused for its first fault (Faust manual, cut down by this project's profile).
+use Rattle.std.specs.Prelude.{ℕ, Bool, ◌&&◌, ◌||◌, ◌==◌, nat_le, IsTrue, List, [], Result, Ok, Err, codes}
 use Rattle.fv_lex.specs.declared.refusal.LexRefusal.{LexRefusal}
 use Rattle.fv_lex.specs.declared.refusal.LexRefusal.TheVariants as bytes
 use Rattle.fv_lex.specs.Token.{Lexed}
@@ -12,6 +12,7 @@ use Rattle.fv_diagram.specs.Diagram.{Diagram}
 use Rattle.fv_small.specs.Small.{IsSmall, IsNotSmall}
 use Rattle.fv_top.specs.Answers.{Then, Turned, IsOnce, RefusesOthers}
 use Rattle.fv_top.specs.Lines.{row_of}
+use Rattle.fv_top.specs.Sources.{Compiled}
 use Rattle.fv_top.specs.declared.refusal.Refusal.{Refusal}
 use Rattle.fv_top.specs.declared.refusal.Refusal.TheVariants.{TextTooLong, BadByte, Unclosed, RealLiteral, LiteralTooLarge, Syntax, Unsupported, Redefined, RepeatedName, RuleWidths, NoProcess, NoMemory, Nesting}
 
@@ -55,28 +56,28 @@ pub data Parses (l : Lexed) : Result Spelled ParseRefusal → Type 0 where
   spells : (x : Tree) → IsAccepted l x → Parses l (Ok (record { tokens = l; tree = x }))
   refused : (e : ParseRefusal) → HasRefusal l e → Parses l (Err e)
 
--- what a tree is: the diagram by which it is small, or not small
-pub data Means (s : Spelled) : Result Diagram Refusal → Type 0 where
-  small : (d : Diagram) → IsSmall s.tokens s.tree d → Means s (Ok d)
+-- what a tree is: the diagram by which it is small, which has no controls, or not small
+pub data Means (s : Spelled) : Result Compiled Refusal → Type 0 where
+  small : (d : Diagram) → IsSmall s.tokens s.tree d → Means s (Ok (record { diagram = d; controls = [] }))
   not_small : IsNotSmall s.tokens s.tree → Means s (Err (Unsupported (codes "program")))
 
 -- what a text is up to its tree: tokens, and then their tree
 abbrev pub SpellingIs : List ℕ → Result Spelled Refusal → Type 0
 SpellingIs text r = Then (Turned of_bytes Has) (Turned of_tokens Parses) text r
 
--- what a text is: its tokens, then their tree, then its diagram; or the first refusal on the way
-abbrev pub TextIs : List ℕ → Result Diagram Refusal → Type 0
+-- what a text is: its tokens, then their tree, then its program; or the first refusal on the way
+abbrev pub TextIs : List ℕ → Result Compiled Refusal → Type 0
 TextIs text r = Then SpellingIs Means text r
 
--- The text is a program of this diagram.
-abbrev pub IsProgram : List ℕ → Diagram → Type 0
-IsProgram text d = TextIs text (Ok d)
+-- The text is this program.
+abbrev pub IsProgram : List ℕ → Compiled → Type 0
+IsProgram text p = TextIs text (Ok p)
 
 -- The text is refused for this.
 abbrev pub IsRefusedText : List ℕ → Refusal → Type 0
 IsRefusedText text refusal = TextIs text (Err refusal)
 
--- A text is one thing at most: a program of one diagram, or refused for one thing.
+-- A text is one thing at most: one program, or refused for one thing.
 abbrev pub IsOneText : Type 0
 IsOneText = IsOnce TextIs
 

@@ -3,13 +3,16 @@
 ghost use Rattle.std.specs.Prelude.{◌≡◌};
 ghost use Rattle.fv_top.specs.Lines.{row_of, status_of};
 ghost use Rattle.fv_top.specs.Program.{of_bytes, of_tokens};
+ghost use Rattle.fv_top.specs.Sources.{of_script, of_wave};
 ghost use Rattle.fv_top.specs.declared.refusal.Refusal.TheVariants.{Usage, NoMemory};
 
 use fv_arity::ArityKind;
+use fv_control::ScriptRefusal;
 use fv_diagram::Label;
 use fv_lex::LexRefusal;
 use fv_outside::{Role, Word};
 use fv_parse::ParseRefusal;
+use fv_wav::WaveRefusal;
 use fv_words::Cause;
 use std::alloc::AllocError;
 
@@ -250,6 +253,35 @@ impl From<ParseRefusal> for Refusal {
             ParseRefusal::RuleWidths { line, column } => Refusal::RuleWidths { line, column },
             ParseRefusal::NoProcess => Refusal::NoProcess,
             ParseRefusal::NoMemory => Refusal::NoMemory,
+        }
+    }
+}
+
+impl From<ScriptRefusal> for Refusal {
+    ghost from_gives = { λ e refusal. refusal ≡ of_script e };
+
+    fn from(e: ScriptRefusal) -> Refusal {
+        match e {
+            ScriptRefusal::TextTooLong { role } => Refusal::TextTooLong { role },
+            ScriptRefusal::ControlLine { line } => Refusal::ControlLine { line },
+            ScriptRefusal::ControlUnknown { line } => Refusal::ControlUnknown { line },
+            ScriptRefusal::ControlRange { line } => Refusal::ControlRange { line },
+            ScriptRefusal::ControlOrder { line } => Refusal::ControlOrder { line },
+            ScriptRefusal::NoMemory => Refusal::NoMemory,
+        }
+    }
+}
+
+impl From<WaveRefusal> for Refusal {
+    ghost from_gives = { λ e refusal. refusal ≡ of_wave e };
+
+    fn from(e: WaveRefusal) -> Refusal {
+        match e {
+            WaveRefusal::ReadFault { role } => Refusal::ReadFault { role },
+            WaveRefusal::NotWave { place } => Refusal::NotWave { place },
+            WaveRefusal::WaveTruncated { place } => Refusal::WaveTruncated { place },
+            WaveRefusal::WaveFormat { place } => Refusal::WaveFormat { place },
+            WaveRefusal::WaveChunks { place } => Refusal::WaveChunks { place },
         }
     }
 }

@@ -6,4 +6,6 @@ mod sure;
 pub use sure::run_sure;
 
 #[cfg(test)]
+mod files;
+#[cfg(test)]
 mod runs;

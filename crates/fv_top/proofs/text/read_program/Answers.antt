@@ -1,4 +1,5 @@
 use Rattle.std.proofs.lemmas.Result.{err_from_is_err_and}
+use Rattle.fv_top.proofs.Playing.{can_play}
 use Rattle.fv_top.proofs.Programs.{bytes_stop, tokens_stop, tree_stops, tree_plays}
 use Rattle.fv_top.proofs.text.read_program.Goals as goal
 
@@ -24,4 +25,14 @@ returns-in-Some-clause-found c =
     let tree = c.in_ok-tree.ensures.tree in
     let small = rw c.in-Some.is at c.in_ok-program.ensures.found in
     let small = rw tree.tokens at small in
-    tree_plays c.args.text.now _ _ _ c.in_ok-tokens.ensures.tokens (record { supported = tree.supported; spelled = tree.spelled; accepted = tree.accepted }) small
+    rw (c.without_controls.ensures.diagrams, c.without_controls.ensures.root, c.without_controls.ensures.controls)
+    (tree_plays c.args.text.now _ _ _ c.in_ok-tokens.ensures.tokens (record { supported = tree.supported; spelled = tree.spelled; accepted = tree.accepted }) small)
+
+pub returns-in-Some-clause-plays : goal.returns-in-Some-clause-plays
+returns-in-Some-clause-plays c =
+    let small = rw c.in-Some.is at c.in_ok-program.ensures.found in
+    let root = rw c.in-Some.is at c.in_ok-program.ensures.root in
+    let closed = rw c.in-Some.is at c.in_ok-program.ensures.closed in
+    let none = rw c.in-Some.is at c.in_ok-program.ensures.controls in
+    can_play c.without_controls.result c.in-Some.program.diagrams c.in-Some.program.root c.without_controls.ensures.diagrams c.without_controls.ensures.root c.without_controls.ensures.controls
+    root small.well closed none small.one_output
