@@ -5,6 +5,7 @@ use Rattle.fv_outside.specs.Requests.{Request}
 use Rattle.fv_outside.specs.Desk.{DeskState, File, file_named}
 use Rattle.fv_diagram.specs.declared.control.ControlInfo.{ControlInfo}
 use Rattle.fv_words.specs.Runs.{Run}
+use Rattle.fv_words.specs.Commands.{Job, Playing, Checking}
 use Rattle.fv_top.specs.declared.refusal.Refusal.{Refusal}
 use Rattle.fv_top.specs.declared.refusal.Refusal.TheVariants.{NoMemory}
 use Rattle.fv_top.specs.declared.status.Tally.{Tally}
@@ -13,8 +14,8 @@ use Rattle.fv_top.specs.Program.{TextIs, IsRefusedText, IsOneText}
 use Rattle.fv_top.specs.Sources.{Compiled, Source, found, script_of, source_of}
 use Rattle.fv_top.specs.Sound.{sound_of, cut_in}
 use Rattle.fv_top.specs.Loading.{HasScript, HasInput}
-use Rattle.fv_top.specs.Steps.{Ends, IsJudge}
-use Rattle.fv_top.specs.Promise.{Asks, HasProgram, HasNoProgram, Plays, IsWhole, Step, ReadProgram, ReadScript, ReadHead, Fit, ReadSamples, Write, Tell, StepPasses, StepRefuses, run_rules, run_steps, HasCause, bad_words, of_run, HasPlayed, IsComplete, IsStrict, IsExact, IsRefusedOrNoMemory}
+use Rattle.fv_top.specs.Steps.{Ends, Rules, IsJudge}
+use Rattle.fv_top.specs.Promise.{Asks, HasProgram, HasNoProgram, Plays, IsWhole, Step, ReadProgram, ReadScript, ReadHead, Fit, ReadSamples, Write, Tell, StepPasses, StepRefuses, CheckPasses, CheckRefuses, rules_of, steps_of, CanDo, HasCause, bad_words, of_job, HasDone, IsComplete, IsStrict, IsExact, IsRefusedOrNoMemory}
 use Rattle.fv_top.proofs.StepLaws.{exactly, completes, passes_apart}
 
 -- ---- a name has one file, and a file says one thing
@@ -83,22 +84,42 @@ apart_in run files once ReadSamples a p h = h
 apart_in run files once Write a p h = let e = sym p.1 ∙ one_cut run files once p.0 h.0 ∙ h.1 in absurd cc
 apart_in run files once Tell a p h = h
 
-judges : (run : Run) (old : DeskState) → IsOneText → IsJudge (run_rules run old)
-judges run old once = record { once = once_in run old.files once; apart = apart_in run old.files once }
+-- and so do those of a check
+check_once : (name : List ℕ) (files : List File) → IsOneText → (s : Step) (a b : Refusal) → CheckRefuses name files s a → CheckRefuses name files s b → a ≡ b
+check_once name files once ReadProgram a b h k = one_text name files a b once h k
+check_once name files once ReadScript a b h k = absurd h
+check_once name files once ReadHead a b h k = absurd h
+check_once name files once Fit a b h k = absurd h
+check_once name files once ReadSamples a b h k = absurd h
+check_once name files once Write a b h k = absurd h
+check_once name files once Tell a b h k = absurd h
+
+check_apart : (name : List ℕ) (files : List File) → IsOneText → (s : Step) (a : Refusal) → CheckPasses name files s → CheckRefuses name files s a → ⊥
+check_apart name files once ReadProgram a p h = program_apart name files a once p h
+check_apart name files once ReadScript a p h = h
+check_apart name files once ReadHead a p h = h
+check_apart name files once Fit a p h = h
+check_apart name files once ReadSamples a p h = h
+check_apart name files once Write a p h = h
+check_apart name files once Tell a p h = h
+
+judges : (job : Job) (old : DeskState) → IsOneText → IsJudge (rules_of job old)
+judges (Playing run) old once = record { once = once_in run old.files once; apart = apart_in run old.files once }
+judges (Checking name) old once = record { once = check_once name old.files once; apart = check_apart name old.files once }
 
 -- words ask for one thing
-one_command : (words : List (List ℕ)) (a b : Run) → Asks words a → Asks words b → a ≡ b
+one_command : (words : List (List ℕ)) (a b : Job) → Asks words a → Asks words b → a ≡ b
 one_command words a b h k = let e = sym h ∙ k in cc
 
--- the steps of a run that was refused are those of its words
-ends_of : (words : List (List ℕ)) (run : Run) (old new : DeskState) (e : Refusal) (asked : List Request) → Asks words run → HasCause words old new e asked →
-    (rs : List Request) × Ends (run_rules run old) old new run_steps e rs
-ends_of words run old new e asked asks (bad_words h) = let f = sym asks ∙ h in absurd cc
-ends_of words run old new e asked asks (of_run other named h) =
-    (asked, subst (λ (n : Run). Ends (run_rules n old) old new run_steps e asked) (one_command words other run named asks) h)
+-- the steps of what was refused are those of its words
+ends_of : (words : List (List ℕ)) (job : Job) (old new : DeskState) (e : Refusal) (asked : List Request) → Asks words job → HasCause words old new e asked →
+    (rs : List Request) × Ends (rules_of job old) old new (steps_of job) e rs
+ends_of words job old new e asked asks (bad_words h) = let f = sym asks ∙ h in absurd cc
+ends_of words job old new e asked asks (of_job other named h) =
+    (asked, subst (λ (n : Job). Ends (rules_of n old) old new (steps_of n) e asked) (one_command words other job named asks) h)
 
 -- ---- a run that is done
-pub done_exact : (words : List (List ℕ)) (tally : Tally) (frames : ℕ) (old new : DeskState) → HasPlayed words frames old new → IsExact words (Done tally)
+pub done_exact : (words : List (List ℕ)) (tally : Tally) (frames : ℕ) (old new : DeskState) → HasDone words frames old new → IsExact words (Done tally)
 done_exact words tally frames old new p cause h = let f = sym p.asks ∙ h in absurd cc
 
 passes_in : (run : Run) (files : List File) → (p : Plays run files) → IsWhole p → (s : Step) → StepPasses run files s
@@ -110,17 +131,30 @@ passes_in run files p whole ReadSamples = tt
 passes_in run files p whole Write = (p, whole)
 passes_in run files p whole Tell = tt
 
-pub done_strict : (words : List (List ℕ)) (tally : Tally) (frames : ℕ) (old new : DeskState) → IsOneText → HasPlayed words frames old new → IsStrict words old new (Done tally)
-done_strict words tally frames old new once p run wanted asks told stops =
-    let same = one_command words p.run run p.asks asks in
-    let plays = p.told told in
-    let passes = subst (λ (n : Run). (s : Step) → StepPasses n old.files s) same (passes_in p.run old.files plays.0 plays.1) in
-    absurd (passes_apart (run_rules run old) old new (judges run old once) told run_steps wanted passes stops)
+check_passes : (name : List ℕ) (files : List File) → HasProgram name files → (s : Step) → CheckPasses name files s
+check_passes name files p ReadProgram = p
+check_passes name files p ReadScript = tt
+check_passes name files p ReadHead = tt
+check_passes name files p Fit = tt
+check_passes name files p ReadSamples = tt
+check_passes name files p Write = tt
+check_passes name files p Tell = tt
+
+-- each step of what can be done passes
+passes_of : (job : Job) (old : DeskState) → CanDo job old.files → (s : Step) → Rules.Passes (rules_of job old) s
+passes_of (Playing run) old can s = passes_in run old.files can.0 can.1 s
+passes_of (Checking name) old can s = check_passes name old.files can s
+
+pub done_strict : (words : List (List ℕ)) (tally : Tally) (frames : ℕ) (old new : DeskState) → IsOneText → HasDone words frames old new → IsStrict words old new (Done tally)
+done_strict words tally frames old new once p job wanted asks told stops =
+    let same = one_command words p.job job p.asks asks in
+    let passes = subst (λ (n : Job). (s : Step) → Rules.Passes (rules_of n old) s) same (passes_of p.job old (p.told told).0) in
+    absurd (passes_apart (rules_of job old) old new (judges job old once) told (steps_of job) wanted passes stops)
 
 -- ---- a run that was refused
 pub refused_exact : (words : List (List ℕ)) (old new : DeskState) (e : Refusal) (asked : List Request) → HasCause words old new e asked → IsExact words (Refused e)
 refused_exact words old new e asked (bad_words h) cause k = let f = sym h ∙ k in cc
-refused_exact words old new e asked (of_run run asks h) cause k = let f = sym asks ∙ k in absurd cc
+refused_exact words old new e asked (of_job job asks h) cause k = let f = sym asks ∙ k in absurd cc
 
 as_status : (wanted got : Refusal) → (got ≡ wanted) ⊎ (got ≡ NoMemory) → IsRefusedOrNoMemory wanted (Refused got)
 as_status wanted got (inl e) = inl (ap Refused e)
@@ -128,12 +162,12 @@ as_status wanted got (inr e) = inr (ap Refused e)
 
 pub refused_strict : (words : List (List ℕ)) (old new : DeskState) (e : Refusal) (asked : List Request) → IsOneText → HasCause words old new e asked →
     IsStrict words old new (Refused e)
-refused_strict words old new e asked once cause run wanted asks told stops =
-    let ends = ends_of words run old new e asked asks cause in
-    as_status wanted e (exactly (run_rules run old) old new (judges run old once) told run_steps wanted e ends.0 stops ends.1)
+refused_strict words old new e asked once cause job wanted asks told stops =
+    let ends = ends_of words job old new e asked asks cause in
+    as_status wanted e (exactly (rules_of job old) old new (judges job old once) told (steps_of job) wanted e ends.0 stops ends.1)
 
 pub refused_complete : (words : List (List ℕ)) (old new : DeskState) (e : Refusal) (asked : List Request) → IsOneText → HasCause words old new e asked →
     IsComplete words old new (Refused e)
-refused_complete words old new e asked once cause run asks told passes =
-    let ends = ends_of words run old new e asked asks cause in
-    completes (run_rules run old) old new (judges run old once) told run_steps e ends.0 passes ends.1
+refused_complete words old new e asked once cause job asks told passes =
+    let ends = ends_of words job old new e asked asks cause in
+    completes (rules_of job old) old new (judges job old once) told (steps_of job) e ends.0 passes ends.1

@@ -10,6 +10,7 @@ pub mod Rendering
 pub mod StepLaws
 pub mod Reaching
 pub mod Preparing
+pub mod Checking
 pub mod Stopping
 pub mod Completing
 pub mod Parts

@@ -1,5 +1,5 @@
 -- How a run ends, from how its steps do.
-use Rattle.std.proofs.Common.{◌≡◌, ◌⊎◌, ℕ, ◌+◌, ◌%◌, ◌^◌, ◌≤◌, List, [], ◌∷◌, ◌++◌, length, length-append, sym, ◌∙◌, ap, subst, refl, inl, inr, append_assoc, arith}
+use Rattle.std.proofs.Common.{◌≡◌, ◌⊎◌, ℕ, ◌+◌, ◌%◌, ◌^◌, ◌≤◌, List, [], ◌∷◌, ◌++◌, length, length-append, sym, ◌∙◌, ap, subst, refl, inl, inr, ⊎_elim, append_assoc, arith}
 use Rattle.std.specs.Prelude.{IsTrue, Some, None, Ok, Err, OnOk, OnErr, Result}
 use Rattle.std.proofs.lemmas.List.{append-nil}
 use Rattle.fv_outside.specs.declared.desk.Failed.{Failed}
@@ -10,15 +10,15 @@ use Rattle.fv_outside.specs.Desk.{DeskState, GoesOn, HasFault, KeepsFaults, IsUn
 use Rattle.fv_outside.proofs.States.{goes_on_then, fault_earlier, fault_later, told_before, unfailing_later}
 use Rattle.fv_words.specs.declared.cause.Cause.{Cause}
 use Rattle.fv_words.specs.Runs.{Run}
-use Rattle.fv_words.specs.Commands.{run_in}
+use Rattle.fv_words.specs.Commands.{Playing, Checking, job_in}
 use Rattle.fv_top.specs.declared.refusal.Refusal.{Refusal}
 use Rattle.fv_top.specs.declared.refusal.Refusal.TheVariants.{Usage, WriteFault, WaveTruncated}
 use Rattle.fv_top.specs.Lines.{refused_line, done_line}
 use Rattle.fv_top.specs.Parts.{AppendsPart}
 use Rattle.fv_top.specs.Steps.{Rules, role_of, writes, Halts, fault, judged, want_of_memory, Ends, here, later}
 use Rattle.fv_top.specs.Loading.{reading}
-use Rattle.fv_top.specs.Promise.{Asks, Write, Tell, meant, run_rules, run_steps, HasCause, bad_words, of_run, HasBegun, LeavesOutput, KeepsOthers}
-use Rattle.fv_top.specs.Running.{Reaches, Delivers, CannotWrite, LeavesPart, CountsFaultOf, Ready, IsReady, file_in, StopsBefore, asked_before, EndsDone, Stopped, ReportsLine, EndsRefused}
+use Rattle.fv_top.specs.Promise.{Asks, Write, Tell, meant, run_rules, run_steps, rules_of, steps_of, HasCause, bad_words, of_job, HasBegun, LeavesOutput, KeepsOthers}
+use Rattle.fv_top.specs.Running.{Reaches, Delivers, CannotWrite, LeavesPart, CountsFaultOf, Ready, IsReady, file_in, StopsBefore, Checks, StopsCheck, asked_before, EndsDone, Stopped, ReportsLine, EndsRefused}
 use Rattle.fv_top.proofs.Reaching.{reaches_nothing}
 
 -- a cause between two states is one up to any later state
@@ -34,7 +34,7 @@ ends_later k a b c (s ∷ rest) e asked g (later p h) = later p (ends_later k a 
 
 cause_later : (words : List (List ℕ)) (a b c : DeskState) (e : Refusal) (asked : List Request) → GoesOn b c → HasCause words a b e asked → HasCause words a c e asked
 cause_later words a b c e asked g (bad_words h) = bad_words h
-cause_later words a b c e asked g (of_run run asks h) = of_run run asks (ends_later (run_rules run a) a b c run_steps e asked g h)
+cause_later words a b c e asked g (of_job job asks h) = of_job job asks (ends_later (rules_of job a) a b c (steps_of job) e asked g h)
 
 -- ---- before anything is written
 
@@ -51,18 +51,18 @@ stopped_by words a b e asked p cause faults = record {
 }
 
 -- the words are refused
-pub stopped_usage : (words : List (List ℕ)) (a : DeskState) (cause : Cause) → run_in words ≡ Err cause → Stopped words a a (Usage cause)
+pub stopped_usage : (words : List (List ℕ)) (a : DeskState) (cause : Cause) → job_in words ≡ Err cause → Stopped words a a (Usage cause)
 stopped_usage words a cause is = stopped_by words a a (Usage cause) [] (reaches_nothing a) (bad_words is) (λ r other. refl)
 
 -- a step that reads cannot go on
-pub stopped_before : (words : List (List ℕ)) (run : Run) (a b : DeskState) (e : Refusal) → Asks words run → StopsBefore run a b e → Stopped words a b e
-stopped_before words run a b e asks s = stopped_by words a b e s.asked s.reaches (of_run run asks s.ends) s.faults
+pub stopped_before : (words : List (List ℕ)) (run : Run) (a b : DeskState) (e : Refusal) → Asks words (Playing run) → StopsBefore run a b e → Stopped words a b e
+stopped_before words run a b e asks s = stopped_by words a b e s.asked s.reaches (of_job (Playing run) asks s.ends) s.faults
 
 -- ---- when the output is written
 
 -- from a, all was read in b, and the output was begun by c
 pub record Begins (words : List (List ℕ)) (run : Run) (r : Ready) (a b c : DeskState) : Type 0 where
-  pub asks : Asks words run
+  pub asks : Asks words (Playing run)
   pub reaches : Reaches (asked_before run) a b
   pub before : KeepsFaults a b
   pub ready : IsReady run a r
@@ -132,7 +132,7 @@ module _ (words : List (List ℕ)) (run : Run) (r : Ready) (a b c : DeskState) (
     cause = record {
       asked = asked_by run;
       requests = requests_by;
-      cause = of_run run w.asks (behind c (WriteFault Output) (to_write Output run.output ∷ [])
+      cause = of_job (Playing run) w.asks (behind c (WriteFault Output) (to_write Output run.output ∷ [])
           (here (fault (writes Output) refl (fault_earlier c Output w.reaches.quiet.goes_on cannot.fault) (λ t sure.
           let x = w.ready t in
           let size = ap length x.3 in
@@ -159,7 +159,7 @@ module _ (words : List (List ℕ)) (run : Run) (r : Ready) (a b c : DeskState) (
     cause = record {
       asked = asked_by run;
       requests = requests_by words run r a b c w.begins;
-      cause = of_run run w.begins.asks (behind words run r a b c w.begins c (WaveTruncated place) (to_write Output run.output ∷ [])
+      cause = of_job (Playing run) w.begins.asks (behind words run r a b c w.begins c (WaveTruncated place) (to_write Output run.output ∷ [])
           (here (judged refl (λ t. let x = w.begins.ready t in (x.0, x.1 ∙ cut)))));
     };
     output = part_by words run r a b c w.begins (WaveTruncated place) whole_part (λ at is t. w.written t);
@@ -186,7 +186,7 @@ module _ (words : List (List ℕ)) (run : Run) (r : Ready) (a b c : DeskState) (
           cause = record {
             asked = asked_by run;
             requests = q.requests ∙ requests_by words run r a b c w.begins;
-            cause = of_run run w.begins.asks (behind words run r a b c w.begins d (WriteFault Report) (to_write Output run.output ∷ [])
+            cause = of_job (Playing run) w.begins.asks (behind words run r a b c w.begins d (WriteFault Report) (to_write Output run.output ∷ [])
                 (later (λ t. let x = w.begins.ready t in (x.0, x.1 ∙ whole)) (here (fault (writes Report) refl (fault_earlier d Report on failed) (λ t sure.
                 let x = w.begins.ready t in
                 let line : a.written Report ++ done_line r.sound.frames ≡ a.written Report ++ (meant x.0).line = ap (λ n. a.written Report ++ done_line n) x.2 in
@@ -207,7 +207,7 @@ module _ (words : List (List ℕ)) (run : Run) (r : Ready) (a b c : DeskState) (
           });
           begun = part.0;
           appended = λ t. q.appended (told_before on t) ∙ ap (λ v. v ++ part.0) (report_by words run r a b c w.begins t);
-          is_begun = inr (refl, (run, w.begins.asks, λ t. let x = w.begins.ready t in (x.0, subst (λ (n : ℕ). IsPrefixOf part.0 (done_line n)) x.2 part.1)));
+          is_begun = inr (refl, (Playing run, w.begins.asks, λ t. let x = w.begins.ready t in ((x.0, x.1 ∙ whole), subst (λ (n : ℕ). IsPrefixOf part.0 (done_line n)) x.2 part.1)));
           faults = λ x other. q.other_faults x (λ same. other (inr (ap WriteFault (sym same)))) ∙ w.steady x ∙ w.begins.before x;
         }
 
@@ -223,7 +223,7 @@ module _ (words : List (List ℕ)) (run : Run) (r : Ready) (a b c : DeskState) (
             begins = λ x n. q.begins x ∙ (others_by words run r a b c w.begins).begins x n;
           };
           played = record {
-            run = run;
+            job = Playing run;
             asks = w.begins.asks;
             requests = q.requests ∙ requests_by words run r a b c w.begins;
             faults = λ x. steady x ∙ w.steady x ∙ w.begins.before x;
@@ -232,8 +232,7 @@ module _ (words : List (List ℕ)) (run : Run) (r : Ready) (a b c : DeskState) (
                 let told = told_by words run r a b c w.begins t in
                 let later = told_before on t in
                 let kept = others_by words run r a b c w.begins in (
-                  x.0,
-                  x.1 ∙ whole,
+                  (x.0, x.1 ∙ whole),
                   x.2,
                   elim [
                     | Program ↦ q.others later Program (λ e. absurd cc) ∙ kept.written t Program (λ e. absurd cc) (λ e. absurd cc)
@@ -245,6 +244,27 @@ module _ (words : List (List ℕ)) (run : Run) (r : Ready) (a b c : DeskState) (
                 );
           };
         }
+
+-- ---- a check
+
+pub stopped_check : (words : List (List ℕ)) (name : List ℕ) (a b : DeskState) (e : Refusal) → Asks words (Checking name) → StopsCheck name a b e → Stopped words a b e
+stopped_check words name a b e asks s = record {
+  goes_on = s.goes_on;
+  others = s.others;
+  cause = record { asked = to_read Program name ∷ []; requests = s.requests; cause = of_job (Checking name) asks s.ends };
+  output = inl s.output;
+  begun = s.begun;
+  appended = s.appended;
+  is_begun = ⊎_elim inl (λ h. inr (h.0, (Checking name, asks, h.1))) s.is_begun;
+  faults = s.faults;
+}
+
+pub checked : (words : List (List ℕ)) (name : List ℕ) (a b : DeskState) → Asks words (Checking name) → Checks name a b → EndsDone words 0 a b
+checked words name a b asks c = record {
+  goes_on = c.goes_on;
+  others = c.others;
+  played = record { job = Checking name; asks = asks; requests = c.requests; faults = c.faults; told = λ t. let x = c.told t in (x.0, refl, x.1) };
+}
 
 -- ---- and when a refusal was reported
 

@@ -153,6 +153,12 @@ row_line r = codes "refused " ++ decimal r.number ++ codes " " ++ r.name ++ spac
 abbrev pub refused_line : Refusal → List ℕ
 refused_line refusal = row_line (row_of refusal)
 
+-- the line of a program that was checked
+abbrev pub check_line : (inputs outputs controls size delays : ℕ) → List ℕ
+check_line inputs outputs controls size delays =
+    codes "inputs " ++ decimal inputs ++ codes " outputs " ++ decimal outputs ++ codes " controls " ++ decimal controls
+    ++ codes " size " ++ decimal size ++ codes " delays " ++ decimal delays ++ codes "\n"
+
 -- the line of a run that is done
 abbrev pub done_line : (frames : ℕ) → List ℕ
 done_line frames = codes "done " ++ decimal frames ++ codes " frames\n"

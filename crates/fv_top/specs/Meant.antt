@@ -1,12 +1,14 @@
 -- What a run that is done means (this project's profile).
-use Rattle.std.specs.Prelude.{ℕ, List, ◌++◌, Option, Some, unwrap_or}
+use Rattle.std.specs.Prelude.{ℕ, List, ◌++◌, length, Option, Some, None, unwrap_or}
 use Rattle.fv_base.specs.declared.role.Role.{Role}
 use Rattle.fv_base.specs.declared.role.Role.TheVariants.{Program, Input, Controls, Output, Report}
 use Rattle.fv_outside.specs.Desk.{DeskState}
 use Rattle.fv_num.specs.Frames.{Frame, Stream}
-use Rattle.fv_diagram.specs.Diagram.{Diagram}
+use Rattle.fv_diagram.specs.Diagram.{Diagram, inputs, outputs, size}
 use Rattle.fv_top.specs.Sound.{Sound, output_file}
-use Rattle.fv_top.specs.Lines.{done_line}
+use Rattle.fv_top.specs.Lines.{check_line, done_line}
+use Rattle.fv_top.specs.Program.{delay_in}
+use Rattle.fv_top.specs.Sources.{Compiled}
 
 -- the frames that it counts, the bytes of the output, if it writes one, and the line that it reports
 pub record Meant : Type 0 where
@@ -17,6 +19,10 @@ pub record Meant : Type 0 where
 -- that of a diagram on the frames that are present, of those of the sound
 abbrev pub run_meant : Diagram → (c : ℕ → Stream) → Sound → (present : List Frame) → Meant
 run_meant d c sound present = record { frames = sound.frames; output = Some (output_file d c sound present); line = done_line sound.frames }
+
+-- that of a program that is checked
+abbrev pub check_meant : Compiled → Meant
+check_meant p = record { frames = 0; output = None; line = check_line (inputs p.diagram) (outputs p.diagram) (length p.controls) (size p.diagram) (delay_in p) }
 
 -- all that is written of a role at its end
 abbrev pub written_by : Meant → DeskState → Role → List ℕ

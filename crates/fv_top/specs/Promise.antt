@@ -9,7 +9,7 @@ use Rattle.fv_control.specs.declared.script.Change.{Change}
 use Rattle.fv_control.specs.Streams.{control_streams}
 use Rattle.fv_words.specs.declared.cause.Cause.{Cause}
 use Rattle.fv_words.specs.Runs.{Run}
-use Rattle.fv_words.specs.Commands.{run_in}
+use Rattle.fv_words.specs.Commands.{Job, Playing, Checking, job_in}
 use Rattle.fv_top.specs.declared.status.Tally.{Tally}
 use Rattle.fv_top.specs.declared.refusal.Refusal.{Refusal}
 use Rattle.fv_top.specs.declared.refusal.Refusal.TheVariants.{Usage, ReadFault, WriteFault, WaveTruncated, NoMemory}
@@ -19,13 +19,13 @@ use Rattle.fv_top.specs.Program.{IsProgram, IsRefusedText, is_of_program}
 use Rattle.fv_top.specs.Sources.{Compiled, Source, initial_of}
 use Rattle.fv_top.specs.Sound.{Sound, sound_of, present_in, cut_in}
 use Rattle.fv_top.specs.Loading.{HasScript, HasInput, IsThere, reading}
-use Rattle.fv_top.specs.Meant.{Meant, run_meant, written_by}
+use Rattle.fv_top.specs.Meant.{Meant, run_meant, check_meant, written_by}
 use Rattle.fv_top.specs.Lines.{row_of, refused_line}
 use Rattle.fv_top.specs.Steps.{Turn, reads, writes, Rules, Ends, Stops, PassesAll, all_requests}
 
--- the words are of the form, and ask for this run
-abbrev pub Asks : List (List ℕ) → Run → Type 0
-Asks words run = run_in words ≡ Ok run
+-- the words are of the form, and ask for this
+abbrev pub Asks : List (List ℕ) → Job → Type 0
+Asks words job = job_in words ≡ Ok job
 
 -- The file of this name is a program's text.
 pub record HasProgram (name : List ℕ) (files : List File) : Type 0 where
@@ -159,13 +159,83 @@ run_rules run old = record {
   Refuses = StepRefuses run old.files;
 }
 
+-- ---- the steps of a check
+
+-- the steps, in their order
+abbrev pub check_steps : List Step
+check_steps = ReadProgram ∷ Tell ∷ []
+
+-- there is room for all that is written of the report
+abbrev pub HasCheckRoom : (name : List ℕ) → DeskState → Type 0
+HasCheckRoom name old = (p : HasProgram name old.files) → length (written_by (check_meant p.compiled) old Report) ≤ old.room Report
+
+-- what a step of a check asks the desk for
+abbrev pub check_requests : (name : List ℕ) → Step → List Request
+check_requests name ReadProgram = to_read Program name ∷ []
+check_requests name s = []
+
+-- the roles that it reads or writes
+abbrev pub CheckTakes : Step → Turn → Type 0
+CheckTakes ReadProgram t = t ≡ reads Program
+CheckTakes Tell t = t ≡ writes Report
+CheckTakes s t = ⊥
+
+-- what a turn of it needs
+abbrev pub CheckAnswered : (name : List ℕ) → DeskState → Step → Type 0
+CheckAnswered name old ReadProgram = IsUnfailing Program old × IsThere (Some name) old.files
+CheckAnswered name old Tell = IsUnfailing Report old × HasCheckRoom name old
+CheckAnswered name old s = Unit {0}
+
+-- what it judges passes
+abbrev pub CheckPasses : (name : List ℕ) → List File → Step → Type 0
+CheckPasses name files ReadProgram = HasProgram name files
+CheckPasses name files s = Unit {0}
+
+-- or is refused for this
+abbrev pub CheckRefuses : (name : List ℕ) → List File → Step → Refusal → Type 0
+CheckRefuses name files ReadProgram refusal = HasNoProgram name files refusal
+CheckRefuses name files s refusal = ⊥
+
+-- the rules of a check's steps
+abbrev pub check_rules : (name : List ℕ) → DeskState → Rules Step
+check_rules name old = record {
+  requests = check_requests name;
+  Takes = CheckTakes;
+  Answers = λ s t. CheckAnswered name old s;
+  Has = HasRefusal;
+  Passes = CheckPasses name old.files;
+  Refuses = CheckRefuses name old.files;
+}
+
+-- ---- what is asked for
+
+-- its steps
+abbrev pub steps_of : Job → List Step
+steps_of (Playing run) = run_steps
+steps_of (Checking name) = check_steps
+
+-- and their rules
+abbrev pub rules_of : Job → DeskState → Rules Step
+rules_of (Playing run) old = run_rules run old
+rules_of (Checking name) old = check_rules name old
+
+-- it can be done
+abbrev pub CanDo : Job → List File → Type 0
+CanDo (Playing run) files = (p : Plays run files) × IsWhole p
+CanDo (Checking name) files = HasProgram name files
+
+-- what it means that it is
+abbrev pub meant_of : (job : Job) (files : List File) → CanDo job files → Meant
+meant_of (Playing run) files can = meant can.0
+meant_of (Checking name) files can = check_meant can.compiled
+
 -- ---- how a run ends
 
 -- Why it is refused, and what the desk was asked for by then: the words, or the first of the steps that cannot go on. Want
 -- of memory is free.
 pub data HasCause (words : List (List ℕ)) (old new : DeskState) : Refusal → List Request → Type 0 where
-  bad_words : {cause : Cause} → run_in words ≡ Err cause → HasCause words old new (Usage cause) []
-  of_run : {refusal : Refusal} {asked : List Request} (run : Run) → Asks words run → Ends (run_rules run old) old new run_steps refusal asked
+  bad_words : {cause : Cause} → job_in words ≡ Err cause → HasCause words old new (Usage cause) []
+  of_job : {refusal : Refusal} {asked : List Request} (job : Job) → Asks words job → Ends (rules_of job old) old new (steps_of job) refusal asked
       → HasCause words old new refusal asked
 
 -- The desk was asked to begin just this, and the refusal has its cause.
@@ -174,13 +244,13 @@ pub record IsRefusedFor (words : List (List ℕ)) (old new : DeskState) (refusal
   pub requests : new.requests ≡ old.requests ++ asked
   pub cause : HasCause words old new refusal asked
 
--- The desk was asked for the files of the run, in their order; all that was meant was written, and nothing else.
-pub record HasPlayed (words : List (List ℕ)) (frames : ℕ) (old new : DeskState) : Type 0 where
-  pub run : Run
-  pub asks : Asks words run
-  pub requests : new.requests ≡ old.requests ++ all_requests (run_rules run old) run_steps
+-- The desk was asked for the files of what was asked for, in their order; all that was meant was written, and nothing else.
+pub record HasDone (words : List (List ℕ)) (frames : ℕ) (old new : DeskState) : Type 0 where
+  pub job : Job
+  pub asks : Asks words job
+  pub requests : new.requests ≡ old.requests ++ all_requests (rules_of job old) (steps_of job)
   pub faults : KeepsFaults old new
-  pub told : IsTrue old.tells → (p : Plays run old.files) × IsWhole p × (frames ≡ (meant p).frames) × ((r : Role) → new.written r ≡ written_by (meant p) old r)
+  pub told : IsTrue old.tells → (can : CanDo job old.files) × (frames ≡ (meant_of job old.files can).frames) × ((r : Role) → new.written r ≡ written_by (meant_of job old.files can) old r)
 
 -- writing of the output began once
 abbrev pub HasBegun : (old new : DeskState) → Type 0
@@ -190,7 +260,7 @@ HasBegun old new = new.begins Output ≡ (old.begins Output + 1) % 2 ^ 64
 -- that are present make.
 pub record HasPlayedPart (words : List (List ℕ)) (refusal : Refusal) (old new : DeskState) : Type 0 where
   pub run : Run
-  pub asks : Asks words run
+  pub asks : Asks words (Playing run)
   pub begun : HasBegun old new
   pub told : IsTrue old.tells → (p : Plays run old.files) × IsPrefixOf (new.written Output) (written_by (meant p) old Output)
       × ((place : ℕ) → refusal ≡ WaveTruncated place → new.written Output ≡ written_by (meant p) old Output)
@@ -211,12 +281,12 @@ pub record KeepsOthers (old new : DeskState) : Type 0 where
   pub written : IsTrue old.tells → (r : Role) → r ≢ Output → r ≢ Report → new.written r ≡ old.written r
   pub begins : (r : Role) → r ≢ Output → new.begins r ≡ old.begins r
 
--- a part of the line of a run that is done, which was reported before its report failed
+-- a part of the line of what is done, which was reported before its report failed
 abbrev pub IsBegunLine : (words : List (List ℕ)) → (old : DeskState) → (part : List ℕ) → Type 0
-IsBegunLine words old part = (run : Run) × Asks words run × (IsTrue old.tells → (p : Plays run old.files) × IsPrefixOf part (meant p).line)
+IsBegunLine words old part = (job : Job) × Asks words job × (IsTrue old.tells → (can : CanDo job old.files) × IsPrefixOf part (meant_of job old.files can).line)
 
 -- What a refused run appends to the report: the refusal's line, or a part of it where the report failed; before it a part
--- of the line of a run that is done, where the report of that failed.
+-- of the line of what is done, where the report of that failed.
 pub record Reports (words : List (List ℕ)) (refusal : Refusal) (old new : DeskState) : Type 0 where
   pub begun : List ℕ
   pub line : List ℕ
@@ -247,11 +317,11 @@ abbrev pub IsDoneOrNoMemory : Status → Type 0
 IsDoneOrNoMemory (Done tally) = Unit {0}
 IsDoneOrNoMemory (Refused refusal) = refusal ≡ NoMemory
 
--- Where the words ask for a run whose files can be played, and each turn is sure to be answered or has no fault, the run is
--- done, unless memory runs out.
+-- Where the words ask for a run whose files can be played, or for a check of a program, and each turn is sure to be answered
+-- or has no fault, it is done, unless memory runs out.
 abbrev pub IsComplete : (words : List (List ℕ)) → (old new : DeskState) → Status → Type 0
 IsComplete words old new status =
-    (run : Run) → Asks words run → IsTrue old.tells → PassesAll (run_rules run old) old new run_steps → IsDoneOrNoMemory status
+    (job : Job) → Asks words job → IsTrue old.tells → PassesAll (rules_of job old) old new (steps_of job) → IsDoneOrNoMemory status
 
 -- refused for this, or out of memory
 abbrev pub IsRefusedOrNoMemory : Refusal → Status → Type 0
@@ -260,8 +330,8 @@ IsRefusedOrNoMemory refusal status = (status ≡ Refused refusal) ⊎ (status �
 -- Where the first step that cannot go on refuses for something, the run is refused for it, unless memory runs out.
 abbrev pub IsStrict : (words : List (List ℕ)) → (old new : DeskState) → Status → Type 0
 IsStrict words old new status =
-    (run : Run) (refusal : Refusal) → Asks words run → IsTrue old.tells → Stops (run_rules run old) old new run_steps refusal → IsRefusedOrNoMemory refusal status
+    (job : Job) (refusal : Refusal) → Asks words job → IsTrue old.tells → Stops (rules_of job old) old new (steps_of job) refusal → IsRefusedOrNoMemory refusal status
 
 -- Words that are refused are refused for their cause.
 abbrev pub IsExact : (words : List (List ℕ)) → Status → Type 0
-IsExact words status = (cause : Cause) → run_in words ≡ Err cause → status ≡ Refused (Usage cause)
+IsExact words status = (cause : Cause) → job_in words ≡ Err cause → status ≡ Refused (Usage cause)

@@ -4,17 +4,17 @@ use Rattle.fv_base.specs.declared.role.Role.{Role}
 use Rattle.fv_base.specs.declared.role.Role.TheVariants.{Program, Controls, Input, Output, Report}
 use Rattle.fv_base.specs.Lists.{IsPrefixOf}
 use Rattle.fv_outside.specs.Requests.{Request, to_read, to_write}
-use Rattle.fv_outside.specs.Desk.{DeskState, GoesOn, HasFault, KeepsQuiet, KeepsLeft, IsUnfailing, Appends}
+use Rattle.fv_outside.specs.Desk.{DeskState, GoesOn, HasFault, KeepsQuiet, KeepsLeft, KeepsFaults, IsUnfailing, Appends}
 use Rattle.fv_words.specs.Runs.{Run}
 use Rattle.fv_wav.specs.Samples.{pad_bytes, data_size}
 use Rattle.fv_top.specs.declared.refusal.Refusal.{Refusal}
 use Rattle.fv_top.specs.declared.refusal.Refusal.TheVariants.{WriteFault}
 use Rattle.fv_top.specs.Sound.{Sound, file_of, cut_in}
 use Rattle.fv_top.specs.Loading.{reading}
-use Rattle.fv_top.specs.Meant.{written_by}
+use Rattle.fv_top.specs.Meant.{check_meant, written_by}
 use Rattle.fv_top.specs.Lines.{refused_line}
 use Rattle.fv_top.specs.Steps.{Ends}
-use Rattle.fv_top.specs.Promise.{Plays, meant, run_rules, run_steps, HasBegun, KeepsOutput, KeepsOthers, IsBegunLine, IsRefusedFor, HasPlayed, LeavesOutput, Reports, IsFaultOf, HandsOn}
+use Rattle.fv_top.specs.Promise.{Plays, HasProgram, meant, run_rules, run_steps, check_rules, check_steps, HasBegun, KeepsOutput, KeepsOthers, IsBegunLine, IsRefusedFor, HasDone, LeavesOutput, Reports, IsFaultOf, HandsOn}
 
 -- The desk was asked for this, and nothing was written.
 pub record Reaches (asked : List Request) (old new : DeskState) : Type 0 where
@@ -79,13 +79,35 @@ pub record StopsBefore (run : Run) (old new : DeskState) (refusal : Refusal) : T
   pub ends : Ends (run_rules run old) old new run_steps refusal asked
   pub faults : CountsFaultOf refusal old new
 
+-- ---- a check
+
+-- The program was read alone, and its line was reported.
+pub record Checks (name : List ℕ) (old new : DeskState) : Type 0 where
+  pub goes_on : GoesOn old new
+  pub requests : new.requests ≡ old.requests ++ to_read Program name ∷ []
+  pub others : KeepsOthers old new
+  pub faults : KeepsFaults old new
+  pub told : IsTrue old.tells → (p : HasProgram name old.files) × ((r : Role) → new.written r ≡ written_by (check_meant p.compiled) old r)
+
+-- It could not be, before its refusal is reported.
+pub record StopsCheck (name : List ℕ) (old new : DeskState) (refusal : Refusal) : Type 0 where
+  pub goes_on : GoesOn old new
+  pub others : KeepsOthers old new
+  pub requests : new.requests ≡ old.requests ++ to_read Program name ∷ []
+  pub ends : Ends (check_rules name old) old new check_steps refusal (to_read Program name ∷ [])
+  pub output : KeepsOutput old new
+  pub begun : List ℕ
+  pub appended : IsTrue old.tells → new.written Report ≡ old.written Report ++ begun
+  pub is_begun : (begun ≡ []) ⊎ ((refusal ≡ WriteFault Report) × (IsTrue old.tells → (p : HasProgram name old.files) × IsPrefixOf begun (check_meant p.compiled).line))
+  pub faults : CountsFaultOf refusal old new
+
 -- ---- how it ends
 
 -- how a run that is done ends
 pub record EndsDone (words : List (List ℕ)) (frames : ℕ) (old new : DeskState) : Type 0 where
   pub goes_on : GoesOn old new
   pub others : KeepsOthers old new
-  pub played : HasPlayed words frames old new
+  pub played : HasDone words frames old new
 
 -- how a run stops, before its refusal is reported
 pub record Stopped (words : List (List ℕ)) (old new : DeskState) (refusal : Refusal) : Type 0 where

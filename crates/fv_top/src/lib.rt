@@ -1,6 +1,7 @@
 //! Runs a program: the one call that does all that the command does.
 #![tactic(auto)]
 
+mod check;
 mod input;
 mod output;
 mod prepare;

@@ -52,7 +52,7 @@ pub fn prepare<D: Desk>(
     ensures ready { IfOk result (λ p. IsReady (run_view run.now) (D.state desk.old) (ready_of p.0)) }
     ensures stops { IfErr result (StopsBefore (run_view run.now) (D.state desk.old) (D.state desk.new)) }
 {
-    let program = load_program(alloc, desk, run.program)?;
+    let (program, _delays) = load_program(alloc, desk, run.program)?;
     let script = load_script(alloc, desk, run.controls, program.controls.as_slice())?;
     let head = load_head(desk, run.input)?;
     let sound = fit(&program, head, &run.settings)?;

@@ -5,7 +5,7 @@ ghost use Rattle.std.specs.Fmt.{signed_decimal};
 ghost use Rattle.fv_base.specs.declared.role.Role.TheVariants.{Report};
 ghost use Rattle.fv_base.specs.Lists.{IsPrefixOf};
 ghost use Rattle.fv_outside.specs.Desk.{HasFault, KeepsFaults, IsUnfailing, Appends};
-ghost use Rattle.fv_top.specs.Lines.{spaced, refused_line, done_line};
+ghost use Rattle.fv_top.specs.Lines.{spaced, refused_line, check_line, done_line};
 ghost use Rattle.fv_top.specs.Fields.{printed, listed};
 ghost use Rattle.fv_top.specs.Parts.{AppendsPart};
 
@@ -29,6 +29,48 @@ pub fn report_done<D: Desk>(desk: &mut D, frames: u32) -> Result<(), Failed>
         desk,
         Role::Report,
         &[b"done ".as_slice(), digits, b" frames\n".as_slice()],
+    )
+}
+
+/// Reports a program that was checked. A call that fails leaves a part from the line's front.
+pub fn report_numbers<D: Desk>(
+    desk: &mut D,
+    inputs: u32,
+    outputs: u32,
+    controls: u64,
+    size: u32,
+    delays: u64,
+) -> Result<(), Failed>
+    ensures ok { OnOk result (Appends Report (check_line inputs outputs controls size delays) (D.state desk.old) (D.state desk.new)) }
+    ensures err { OnErr result ((part : List ℕ) × IsPrefixOf part (check_line inputs outputs controls size delays) × Appends Report part (D.state desk.old) (D.state desk.new)) }
+    ensures failed { OnErr result (HasFault Report (D.state desk.old) (D.state desk.new)) }
+    ensures steady { OnOk result (KeepsFaults (D.state desk.old) (D.state desk.new)) }
+    ensures answers { IsTrue (D.state desk.old).tells → IsUnfailing Report (D.state desk.old) →
+        length ((D.state desk.old).written Report) + length (check_line inputs outputs controls size delays) ≤ (D.state desk.old).room Report → IsOk result }
+{
+    let (mut a, mut b, mut c, mut d, mut e) = (
+        Buffer::new(),
+        Buffer::new(),
+        Buffer::new(),
+        Buffer::new(),
+        Buffer::new(),
+    );
+    write_pieces(
+        desk,
+        Role::Report,
+        &[
+            b"inputs ".as_slice(),
+            a.format(inputs).as_bytes(),
+            b" outputs ".as_slice(),
+            b.format(outputs).as_bytes(),
+            b" controls ".as_slice(),
+            c.format(controls).as_bytes(),
+            b" size ".as_slice(),
+            d.format(size).as_bytes(),
+            b" delays ".as_slice(),
+            e.format(delays).as_bytes(),
+            b"\n".as_slice(),
+        ],
     )
 }
 

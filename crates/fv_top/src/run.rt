@@ -2,9 +2,10 @@
 
 ghost use Rattle.std.specs.Prelude.{◌≡◌, map, string_bytes, IfOk, IfErr};
 ghost use Rattle.fv_outside.specs.Desk.{GoesOn};
-ghost use Rattle.fv_top.specs.Promise.{IfDone, IfRefused, HasPlayed, IsRefusedFor, LeavesOutput, KeepsOthers, Reports, HandsOn, IsComplete, IsStrict, IsExact};
+ghost use Rattle.fv_top.specs.Promise.{IfDone, IfRefused, HasDone, IsRefusedFor, LeavesOutput, KeepsOthers, Reports, HandsOn, IsComplete, IsStrict, IsExact};
 ghost use Rattle.fv_top.specs.Running.{EndsDone, Stopped, ReportsLine};
 
+use crate::check::check;
 use crate::output::write_output;
 use crate::prepare::prepare;
 use crate::refusal::Refusal;
@@ -12,7 +13,7 @@ use crate::report::{report_done, report_refusal};
 use crate::status::{Status, Tally};
 use crate::text::one_program;
 use fv_outside::{Desk, Gate, Role};
-use fv_words::run_in;
+use fv_words::{Job, job_in};
 use std::alloc::Global;
 use std::sync::Wait;
 use std::thread::Threads;
@@ -30,7 +31,19 @@ fn perform<D: Desk>(alloc: Global, words: &[String], desk: &mut D) -> Result<Tal
     ensures tally { IfOk result (λ tally. (tally.blocks ≡ 0) × (tally.loops ≡ 0) × (tally.loop_runs ≡ 0)) }
     ensures stops { IfErr result (Stopped (map string_bytes words.now) (D.state desk.old) (D.state desk.new)) }
 {
-    let run = run_in(words)?;
+    let job = job_in(words)?;
+    let run = match job {
+        Job::Run(run) => run,
+        Job::Check { program } => {
+            check(alloc, desk, program)?;
+            return Ok(Tally {
+                frames: 0,
+                blocks: 0,
+                loops: 0,
+                loop_runs: 0,
+            });
+        }
+    };
     let (prepared, mut bytes) = prepare(alloc, desk, &run)?;
     match write_output(desk, run.output, &prepared, &mut bytes) {
         Ok(()) => {}
@@ -53,7 +66,7 @@ fn perform<D: Desk>(alloc: Global, words: &[String], desk: &mut D) -> Result<Tal
 }
 
 /// Does all that the command does: reads the words, the program, the script and the input, writes the output, and reports
-/// how it ended. The words are all words of the command line, the program's own name first. The runtime and the gate are
+/// how it ended; or reads a program, and reports what it is. The words are all words of the command line, the program's own name first. The runtime and the gate are
 /// for the blocks of vector mode, and are not used yet.
 pub fn run_faustvec<R: Threads + Wait + Sync, D: Desk, G: Gate + Sync>(
     _rt: &R,
@@ -67,8 +80,8 @@ pub fn run_faustvec<R: Threads + Wait + Sync, D: Desk, G: Gate + Sync>(
     // Nothing is read but the program, the script and the input, nothing written but the output and the report.
     ensures others { KeepsOthers (D.state desk.old) (D.state desk.new) }
     // A run that is done has asked for its files in order, and has written exactly the file whose samples are the stream
-    // function of the program's diagram, under its script and on its input.
-    ensures done { IfDone result (λ tally. HasPlayed (map string_bytes words.now) tally.frames (D.state desk.old) (D.state desk.new)) }
+    // function of the program's diagram, under its script and on its input; a check that is done has reported its numbers.
+    ensures done { IfDone result (λ tally. HasDone (map string_bytes words.now) tally.frames (D.state desk.old) (D.state desk.new)) }
     // There are no blocks yet, so the gate is told nothing.
     ensures gate { G.told gate.new ≡ G.told gate.old }
     ensures tally { IfDone result (λ tally. (tally.blocks ≡ 0) × (tally.loops ≡ 0) × (tally.loop_runs ≡ 0)) }
@@ -80,7 +93,7 @@ pub fn run_faustvec<R: Threads + Wait + Sync, D: Desk, G: Gate + Sync>(
     // What a refusal leaves of the output, and what it reports.
     ensures output { IfRefused result (λ refusal. LeavesOutput (map string_bytes words.now) refusal (D.state desk.old) (D.state desk.new)) }
     ensures report { IfRefused result (λ refusal. Reports (map string_bytes words.now) refusal (D.state desk.old) (D.state desk.new)) }
-    // What can be played is played, where the desk is sure to answer or no call fails, unless memory runs out.
+    // What can be done is done, where the desk is sure to answer or no call fails, unless memory runs out.
     ensures complete { IsComplete (map string_bytes words.now) (D.state desk.old) (D.state desk.new) result }
     // Words that are refused, and files that are, are refused for what they hold, with the same exceptions for files.
     ensures exact { IsExact (map string_bytes words.now) result }

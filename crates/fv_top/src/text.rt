@@ -6,7 +6,7 @@ ghost use Rattle.fv_diagram.specs.Diagram.{outputs};
 ghost use Rattle.fv_rules.specs.Sound.{IsBounded};
 ghost use Rattle.fv_top.specs.declared.refusal.Refusal.TheVariants.{NoMemory};
 ghost use Rattle.fv_top.specs.Playable.{compiled_of, CanPlay};
-ghost use Rattle.fv_top.specs.Program.{IsProgram, IsRefusedText, IsOneText, IsOneOrOther, IsOfText, narrow, delayed, first_bad, delays_in, control_spans};
+ghost use Rattle.fv_top.specs.Program.{IsProgram, IsRefusedText, IsOneText, IsOneOrOther, IsOfText, narrow, delayed, first_bad, delays_in, delay_in, control_spans};
 
 use crate::refusal::Refusal;
 use fv_diagram::ControlInfo;
@@ -33,10 +33,11 @@ pub fn one_program()
 
 /// The program that a text is. A text that is none is refused for the first that applies: its bytes, its tokens, its tree,
 /// its value, its channels, its delays.
-pub fn read_program(alloc: Global, text: &[u8]) -> Result<Program, Refusal>
-    // What is answered is the text's program.
-    ensures found { IfOk result (λ p. IsProgram text.now (compiled_of p)) }
-    ensures plays { IfOk result CanPlay }
+pub fn read_program(alloc: Global, text: &[u8]) -> Result<(Program, u64), Refusal>
+    // What is answered is the text's program, and the sum of its delays.
+    ensures found { IfOk result (λ p. IsProgram text.now (compiled_of p.0)) }
+    ensures plays { IfOk result (λ p. CanPlay p.0) }
+    ensures delays { IfOk result (λ p. p.1 ≡ delay_in (compiled_of p.0)) }
     // Only a text that is no program is refused, and for its cause.
     ensures refused { IfErr result (λ e. (e ≡ NoMemory) ⊎ (IsOfText e × IsRefusedText text.now e)) }
 {
@@ -44,8 +45,8 @@ pub fn read_program(alloc: Global, text: &[u8]) -> Result<Program, Refusal>
     let tree = parse(alloc, &tokens)?;
     let program = evaluate(alloc, &tree)?;
     check_channels(&program)?;
-    check_delays(alloc, &program)?;
-    Ok(program)
+    let delays = check_delays(alloc, &program)?;
+    Ok((program, delays))
 }
 
 // Whether its channels can be those of files.
@@ -74,14 +75,15 @@ fn check_channels(program: &Program) -> Result<(), Refusal>
     Ok(())
 }
 
-// Whether its delays are short.
-fn check_delays(alloc: Global, program: &Program) -> Result<(), Refusal>
+// The sum of its delays, where they are short.
+fn check_delays(alloc: Global, program: &Program) -> Result<u64, Refusal>
     ensures ok { OnOk result (delayed (compiled_of program.now) (first_bad (delays_in (compiled_of program.now))) ≡ Ok (compiled_of program.now)) }
+    ensures sum { IfOk result (λ n. n ≡ delay_in (compiled_of program.now)) }
     ensures err { IfErr result (λ e. (e ≡ NoMemory) ⊎ (IsOfText e × (delayed (compiled_of program.now) (first_bad (delays_in (compiled_of program.now))) ≡ Err e))) }
 {
     let controls = spans_of(alloc, program.controls.as_slice())?;
-    let _delays = spans(alloc, &program.diagrams, program.root, &controls)?;
-    Ok(())
+    let delays = spans(alloc, &program.diagrams, program.root, &controls)?;
+    Ok(delays.sum())
 }
 
 // The numbers that the controls may have.

@@ -3,12 +3,13 @@ use Rattle.std.specs.Prelude.{ℕ, IsTrue, List}
 use Rattle.fv_base.specs.declared.role.Role.{Role}
 use Rattle.fv_outside.specs.Desk.{DeskState, IsUnfailing}
 use Rattle.fv_words.specs.Runs.{Run}
+use Rattle.fv_words.specs.Commands.{Playing}
 use Rattle.fv_top.specs.Promise.{Asks, Plays, IsWhole, HasRoom}
 
 -- The words ask for a run whose files can be played; the desk tells its bytes, fails no later call, and has room for what
 -- will be written.
 pub record IsSure (words : List (List ℕ)) (run : Run) (desk : DeskState) : Type 0 where
-  pub asks : Asks words run
+  pub asks : Asks words (Playing run)
   pub tells : IsTrue desk.tells
   pub plays : Plays run desk.files
   pub whole : IsWhole plays

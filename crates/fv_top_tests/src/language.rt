@@ -401,3 +401,29 @@ fn takes_the_limits(rt: HostRuntime) -> Result<(), Fail> {
     }
     Ok(())
 }
+
+#[test]
+fn checks_programs(rt: HostRuntime) -> Result<(), Fail> {
+    let rows: [(&[u8], u8, &[u8]); 4] = [
+        (
+            b"echo(d,g) = + ~ (@(d-1) : *(g) : /(256)); process = par(i,2,echo(11025,128));",
+            0,
+            b"inputs 2 outputs 2 controls 0 size 39 delays 22050\n",
+        ),
+        (
+            b"process = + ~ _;",
+            0,
+            b"inputs 1 outputs 1 controls 0 size 3 delays 1\n",
+        ),
+        (
+            b"process = _ * hslider(\"g\",1,0,10,1);",
+            0,
+            b"inputs 1 outputs 1 controls 1 size 5 delays 0\n",
+        ),
+        (b"process = x;", 3, b"refused 17 UnknownName x\n"),
+    ];
+    for (text, status, line) in rows {
+        assert_ends(&rt, rt.alloc(), text, &["check", "p.dsp"], status, line)?;
+    }
+    Ok(())
+}

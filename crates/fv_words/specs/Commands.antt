@@ -71,17 +71,22 @@ command_of _ = Err Form
 
 -- ---- what is enabled
 
--- the command word is `run`
-abbrev pub is_run : List (List ℕ) → Bool
-is_run (own ∷ command ∷ words) = bytes_eq command (codes "run")
-is_run _ = false
+-- a command that is enabled
+pub data Job : Type 0 where
+  Playing : (run : Run) → Job
+  Checking : (program : List ℕ) → Job
 
--- a command, if it is a run
-abbrev pub played : Command → Result Run Cause
-played (Play run) = Ok run
-played (Check program) = Err Form
-played (Make voices frames workers) = Err Form
+-- the command word is `make`
+abbrev pub is_make : List (List ℕ) → Bool
+is_make (own ∷ command ∷ words) = bytes_eq command (codes "make")
+is_make _ = false
 
--- The run that the words ask for. The other commands are of no form yet.
-abbrev pub run_in : List (List ℕ) → Result Run Cause
-run_in words = if is_run words then command_of words >>= played else Err Form
+-- a command, if it is enabled
+abbrev pub job_of : Command → Result Job Cause
+job_of (Play run) = Ok (Playing run)
+job_of (Check program) = Ok (Checking program)
+job_of (Make voices frames workers) = Err Form
+
+-- What the words ask for. `make` is of no form yet.
+abbrev pub job_in : List (List ℕ) → Result Job Cause
+job_in words = if is_make words then Err Form else command_of words >>= job_of

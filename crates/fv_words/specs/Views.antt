@@ -14,11 +14,13 @@ use Rattle.fv_words.specs.declared.settings.Settings.{Settings as How}
 use Rattle.fv_words.specs.declared.run.Run.{Run as Runs}
 use Rattle.fv_words.specs.declared.command.Command.{Command as Commands}
 use Rattle.fv_words.specs.declared.command.Command.TheVariants as commands
+use Rattle.fv_words.specs.declared.command.Job.{Job as Jobs}
+use Rattle.fv_words.specs.declared.command.Job.TheVariants as jobs
 use Rattle.fv_words.specs.Pieces.{Kind, Bare, Ends, Apart, Joined, State, Any, Value, Names as NamesAlone, piece_of, state_after, cut}
 use Rattle.fv_words.specs.Texts.{Texts, take_piece, gathered}
 use Rattle.fv_words.specs.Numbers.{Numbers}
 use Rattle.fv_words.specs.Runs.{Settings, Run}
-use Rattle.fv_words.specs.Commands.{Command, Play, Check, Make}
+use Rattle.fv_words.specs.Commands.{Command, Play, Check, Make, Job, Playing, Checking}
 
 -- the kind of a word
 abbrev pub kind_in : Kinds → Kind
@@ -100,6 +102,16 @@ run_in r = record {
 abbrev pub run_answered : Result Runs Cause → Result Run Cause
 run_answered (Ok r) = Ok (run_in r)
 run_answered (Err e) = Err e
+
+-- what is asked for
+abbrev pub job_view : Jobs → Job
+job_view (jobs.Run run) = Playing (run_in run)
+job_view (jobs.Check program) = Checking program.now
+
+-- the same as an answer
+abbrev pub job_answered : Result Jobs Cause → Result Job Cause
+job_answered (Ok j) = Ok (job_view j)
+job_answered (Err e) = Err e
 
 -- a command
 abbrev pub command_view : Commands → Command

@@ -2,8 +2,8 @@
 
 ghost use Rattle.std.specs.Prelude.{◌≡◌, map, string_bytes, Some};
 ghost use Rattle.fv_words.specs.Commands.{command_of, command_in, check_of, number_in, made, make_of};
-ghost use Rattle.fv_words.specs.Commands.{is_run, run_in};
-ghost use Rattle.fv_words.specs.Views.{texts_in, plain_in, command_answered, run_answered};
+ghost use Rattle.fv_words.specs.Commands.{is_make, job_in};
+ghost use Rattle.fv_words.specs.Views.{texts_in, plain_in, command_answered, job_answered};
 
 use crate::cause::Cause;
 use crate::numbers::number_of;
@@ -113,23 +113,33 @@ fn make<'a>(voices: u64, frames: u64, workers: u64) -> Result<Command<'a>, Cause
     })
 }
 
-/// The run that the words ask for. The other commands are of no form yet.
-pub fn run_in(words: &[String]) -> Result<Run<'_>, Cause>
-    ensures { run_answered result ≡ run_in (map string_bytes words.now) }
+/// A command that is enabled.
+#[derive(Clone, Copy)]
+pub enum Job<'a> {
+    /// A program is run.
+    Run(Run<'a>),
+    /// A program is compiled alone.
+    Check { program: &'a str },
+}
+
+/// What the words ask for. `make` is of no form yet.
+pub fn job_in(words: &[String]) -> Result<Job<'_>, Cause>
+    ensures { job_answered result ≡ job_in (map string_bytes words.now) }
 {
-    if !is_run(words) {
+    if is_make(words) {
         return Err(Cause::Form);
     }
     let command = read(words)?;
     match command {
-        Command::Run(run) => Ok(run),
-        Command::Check { .. } | Command::Make { .. } => Err(Cause::Form),
+        Command::Run(run) => Ok(Job::Run(run)),
+        Command::Check { program } => Ok(Job::Check { program }),
+        Command::Make { .. } => Err(Cause::Form),
     }
 }
 
-// Whether the command word is `run`.
-fn is_run(words: &[String]) -> bool
-    ensures { result ≡ is_run (map string_bytes words.now) }
+// Whether the command word is `make`.
+fn is_make(words: &[String]) -> bool
+    ensures { result ≡ is_make (map string_bytes words.now) }
 {
     let Some((_, words)) = words.split_first() else {
         return false;
@@ -137,5 +147,5 @@ fn is_run(words: &[String]) -> bool
     let Some((command, _)) = words.split_first() else {
         return false;
     };
-    command.as_str() == "run"
+    command.as_str() == "make"
 }

@@ -11,7 +11,7 @@ mod texts;
 mod word;
 
 pub use cause::Cause;
-pub use command::{Command, read, run_in};
+pub use command::{Command, Job, job_in, read};
 pub use laws::{settings_keep_ranges, words_are_cut};
 pub use run::Run;
 pub use settings::Settings;

@@ -1,35 +1,38 @@
-use Rattle.std.proofs.Common.{◌≡◌, map, sym, ap}
+use Rattle.std.proofs.Common.{◌≡◌, ◌∙◌, Ok, map, sym, ap}
 use Rattle.std.specs.Prelude.{string_bytes, option_map, None}
 use Rattle.std.proofs.lemmas.Result.{err_from_is_err_and}
 use Rattle.fv_words.specs.Runs.{Run}
-use Rattle.fv_words.specs.Views.{run_in as run_view}
+use Rattle.fv_words.specs.declared.command.Job.{Job as Jobs}
+use Rattle.fv_words.specs.Commands.{Checking}
+use Rattle.fv_words.specs.Views.{run_in as run_view, job_view}
+use Rattle.fv_top.specs.Promise.{Asks}
 use Rattle.fv_top.specs.Prepared.{ready_of}
 use Rattle.fv_top.specs.declared.refusal.Refusal.TheVariants.{WaveTruncated}
-use Rattle.fv_top.proofs.Stopping.{Begins, Writes, stopped_usage, stopped_before, stopped_writing, stopped_cut, stopped_telling, played_whole}
+use Rattle.fv_top.proofs.Stopping.{Begins, Writes, stopped_usage, stopped_before, stopped_writing, stopped_cut, stopped_telling, played_whole, stopped_check, checked}
 use Rattle.fv_top.proofs.run.perform.Goals as goal
 
-pub returns-in_err-run-clause-stops : goal.returns-in_err-run-clause-stops
-returns-in_err-run-clause-stops g c =
+pub returns-in_err-job-clause-stops : goal.returns-in_err-job-clause-stops
+returns-in_err-job-clause-stops g c =
     let p = err_from_is_err_and c.from_residual.result c.from_residual.ensures.1 in
-    rw (p.1, p.2) (stopped_usage (map string_bytes c.args.words.now) (g.D.Desk.state c.args.desk.now) _ (sym c.in_err-run.ensures))
+    rw (p.1, p.2) (stopped_usage (map string_bytes c.args.words.now) (g.D.Desk.state c.args.desk.now) _ (sym c.in_err-job.ensures))
 
 pub returns-in_err-prepared-clause-stops : goal.returns-in_err-prepared-clause-stops
 returns-in_err-prepared-clause-stops g c =
-    let run : Run = run_view c.in_ok-run.run' in
+    let run : Run = run_view c.in-Run.run' in
     let p = err_from_is_err_and c.from_residual-in_err-prepared.result c.from_residual-in_err-prepared.ensures.1 in
-    rw (p.1, p.2) (stopped_before (map string_bytes c.args.words.now) run (g.D.Desk.state c.args.desk.now) (g.D.Desk.state c.prepare.new.desk) _ (sym c.in_ok-run.ensures) c.in_err-prepared.ensures.stops)
+    rw (p.1, p.2) (stopped_before (map string_bytes c.args.words.now) run (g.D.Desk.state c.args.desk.now) (g.D.Desk.state c.prepare.new.desk) _ (sym c.in_ok-job.ensures ∙ ap (λ (j : Jobs). Ok (job_view j)) c.in-Run.is) c.in_err-prepared.ensures.stops)
 
 pub returns-in-Err-clause-stops : goal.returns-in-Err-clause-stops
 returns-in-Err-clause-stops g c =
     let state = g.D.Desk.state in
     let words = map string_bytes c.args.words.now in
-    let run : Run = run_view c.in_ok-run.run' in
+    let run : Run = run_view c.in-Run.run' in
     let r = ready_of c.in_ok-prepared.prepared in
     let a = state c.args.desk.now in
     let b = state c.prepare.new.desk in
     let d = state c.write_output.new.desk in
     let begins : Begins words run r a b d = record {
-      asks = sym c.in_ok-run.ensures;
+      asks = sym c.in_ok-job.ensures ∙ ap (λ (j : Jobs). Ok (job_view j)) c.in-Run.is;
       reaches = c.in_ok-prepared.ensures.reaches;
       before = c.in_ok-prepared.ensures.steady;
       ready = c.in_ok-prepared.ensures.ready;
@@ -41,13 +44,13 @@ pub returns-in-Some-clause-stops : goal.returns-in-Some-clause-stops
 returns-in-Some-clause-stops g c =
     let state = g.D.Desk.state in
     let words = map string_bytes c.args.words.now in
-    let run : Run = run_view c.in_ok-run.run' in
+    let run : Run = run_view c.in-Run.run' in
     let r = ready_of c.in_ok-prepared.prepared in
     let a = state c.args.desk.now in
     let b = state c.prepare.new.desk in
     let d = state c.write_output.new.desk in
     let begins : Begins words run r a b d = record {
-      asks = sym c.in_ok-run.ensures;
+      asks = sym c.in_ok-job.ensures ∙ ap (λ (j : Jobs). Ok (job_view j)) c.in-Run.is;
       reaches = c.in_ok-prepared.ensures.reaches;
       before = c.in_ok-prepared.ensures.steady;
       ready = c.in_ok-prepared.ensures.ready;
@@ -60,13 +63,13 @@ pub returns-in-Ok-report_done-clause-done : goal.returns-in-Ok-report_done-claus
 returns-in-Ok-report_done-clause-done g c =
     let state = g.D.Desk.state in
     let words = map string_bytes c.args.words.now in
-    let run : Run = run_view c.in_ok-run.run' in
+    let run : Run = run_view c.in-Run.run' in
     let r = ready_of c.in_ok-prepared.prepared in
     let a = state c.args.desk.now in
     let b = state c.prepare.new.desk in
     let d = state c.write_output.new.desk in
     let begins : Begins words run r a b d = record {
-      asks = sym c.in_ok-run.ensures;
+      asks = sym c.in_ok-job.ensures ∙ ap (λ (j : Jobs). Ok (job_view j)) c.in-Run.is;
       reaches = c.in_ok-prepared.ensures.reaches;
       before = c.in_ok-prepared.ensures.steady;
       ready = c.in_ok-prepared.ensures.ready;
@@ -80,13 +83,13 @@ pub returns-clause-stops : goal.returns-clause-stops
 returns-clause-stops g c =
     let state = g.D.Desk.state in
     let words = map string_bytes c.args.words.now in
-    let run : Run = run_view c.in_ok-run.run' in
+    let run : Run = run_view c.in-Run.run' in
     let r = ready_of c.in_ok-prepared.prepared in
     let a = state c.args.desk.now in
     let b = state c.prepare.new.desk in
     let d = state c.write_output.new.desk in
     let begins : Begins words run r a b d = record {
-      asks = sym c.in_ok-run.ensures;
+      asks = sym c.in_ok-job.ensures ∙ ap (λ (j : Jobs). Ok (job_view j)) c.in-Run.is;
       reaches = c.in_ok-prepared.ensures.reaches;
       before = c.in_ok-prepared.ensures.steady;
       ready = c.in_ok-prepared.ensures.ready;
@@ -97,3 +100,18 @@ returns-clause-stops g c =
     let failed = c.in-Err-report_done.ensures.failed in
     stopped_telling words run r a b d writes whole (state c.report_done.new.desk) c.in-Err-report_done.ensures.err failed
     (λ t sure room. let answered = c.in-Err-report_done.ensures.answers t sure room in absurd cc)
+
+pub returns-in_err-check-in-Check-clause-stops : goal.returns-in_err-check-in-Check-clause-stops
+returns-in_err-check-in-Check-clause-stops g c =
+    let state = g.D.Desk.state in
+    let words = map string_bytes c.args.words.now in
+    let asks : Asks words (Checking c.in-Check.program.now) = sym c.in_ok-job.ensures ∙ ap (λ (j : Jobs). Ok (job_view j)) c.in-Check.is in
+    let p = err_from_is_err_and c.from_residual-in_err-check-in-Check.result c.from_residual-in_err-check-in-Check.ensures.1 in
+    rw (p.1, p.2) (stopped_check words c.in-Check.program.now (state c.args.desk.now) (state c.check.new.desk) _ asks c.in_err-check-in-Check.ensures.stops)
+
+pub returns-in-Check-clause-done : goal.returns-in-Check-clause-done
+returns-in-Check-clause-done g c =
+    let state = g.D.Desk.state in
+    let words = map string_bytes c.args.words.now in
+    let asks : Asks words (Checking c.in-Check.program.now) = sym c.in_ok-job.ensures ∙ ap (λ (j : Jobs). Ok (job_view j)) c.in-Check.is in
+    checked words c.in-Check.program.now (state c.args.desk.now) (state c.check.new.desk) asks c.in_ok-check-in-Check.ensures.done

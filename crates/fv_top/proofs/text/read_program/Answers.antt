@@ -41,8 +41,8 @@ returns-in_err-check_channels-clause-refused c =
     let e = c.in_err-check_channels.ensures.err in
     rw (q.1, q.2) (inr (e.0, width_stop c.args.text.now p _ value e.1))
 
-pub returns-in_err-check_delays-clause-refused : goal.returns-in_err-check_delays-clause-refused
-returns-in_err-check_delays-clause-refused c =
+pub returns-in_err-delays-clause-refused : goal.returns-in_err-delays-clause-refused
+returns-in_err-delays-clause-refused c =
     let tree = c.in_ok-tree.ensures.tree in
     let l = c.in_ok-tokens.tokens in
     let x = program_of c.in_ok-tree.tree in
@@ -51,8 +51,8 @@ returns-in_err-check_delays-clause-refused c =
     let p = compiled_of c.in_ok-program.program in
     let is = rw tree.tokens at c.in_ok-program.ensures.program in
     let value : ValueIs c.args.text.now (Ok p) = value_is c.args.text.now s p.diagram p.controls spelling is in
-    let q = err_from_is_err_and c.from_residual-in_err-check_delays.result c.from_residual-in_err-check_delays.ensures.1 in
-    rw (q.1, q.2) (⊎_elim (λ m. inl m) (λ e. inr (e.0, delay_stop c.args.text.now p _ value c.in_ok-check_channels.ensures.ok e.1)) c.in_err-check_delays.ensures.err)
+    let q = err_from_is_err_and c.from_residual-in_err-delays.result c.from_residual-in_err-delays.ensures.1 in
+    rw (q.1, q.2) (⊎_elim (λ m. inl m) (λ e. inr (e.0, delay_stop c.args.text.now p _ value c.in_ok-check_channels.ensures.ok e.1)) c.in_err-delays.ensures.err)
 
 pub returns-clause-found : goal.returns-clause-found
 returns-clause-found c =
@@ -64,4 +64,4 @@ returns-clause-found c =
     let p = compiled_of c.in_ok-program.program in
     let is = rw tree.tokens at c.in_ok-program.ensures.program in
     let value : ValueIs c.args.text.now (Ok p) = value_is c.args.text.now s p.diagram p.controls spelling is in
-    program_is c.args.text.now p value c.in_ok-check_channels.ensures.ok c.in_ok-check_delays.ensures.ok
+    program_is c.args.text.now p value c.in_ok-check_channels.ensures.ok c.in_ok-delays.ensures.ok

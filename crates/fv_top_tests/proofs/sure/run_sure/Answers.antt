@@ -2,6 +2,7 @@ use Rattle.std.proofs.Common.{◌≡◌, ℕ, List, Option, Some, None, refl, in
 use Rattle.std.specs.Prelude.{IsSome, option_map}
 use Rattle.fv_base.specs.declared.role.Role.TheVariants.{Program, Controls, Input, Output, Report}
 use Rattle.fv_outside.specs.Desk.{File, file_named}
+use Rattle.fv_words.specs.Commands.{Playing}
 use Rattle.fv_top.specs.Sources.{found}
 use Rattle.fv_top.specs.Loading.{IsThere}
 use Rattle.fv_top.specs.Steps.{more, none}
@@ -24,7 +25,7 @@ returns g c =
     -- behind the facts on the type parameters
     let sure = c.requires.1.1.1.1.1 in
     let p = sure.plays in
-    c.run_faustvec.ensures.complete g.run sure.asks sure.tells
+    c.run_faustvec.ensures.complete (Playing g.run) sure.asks sure.tells
     (more (λ t takes. inl (sure.unfailing Program, there _ _ p.of.file)) p.of
     (more (λ t takes. inl (sure.unfailing Controls, found_there _ _ _ p.under.file)) (p.of, p.changes, p.under)
     (more (λ t takes. inl (sure.unfailing Input, found_there _ _ _ p.on.file)) (p.source, p.on)

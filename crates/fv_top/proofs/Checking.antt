@@ -1,0 +1,109 @@
+-- How a check ends, from how its two steps do.
+use Rattle.std.proofs.Common.{◌≡◌, ℕ, ◌+◌, ◌≤◌, List, [], ◌++◌, length, length-append, sym, ◌∙◌, ap, subst, refl, inl, inr, append_assoc, arith}
+use Rattle.std.specs.Prelude.{IsTrue, Some, codes, decimal}
+use Rattle.std.proofs.lemmas.List.{append-nil}
+use Rattle.fv_base.specs.declared.role.Role.TheVariants.{Program, Input, Controls, Output, Report}
+use Rattle.fv_base.specs.Lists.{IsPrefixOf}
+use Rattle.fv_outside.specs.Desk.{DeskState, HasFault, KeepsFaults, IsUnfailing, Appends}
+use Rattle.fv_outside.proofs.States.{goes_on_then, fault_earlier, told_before, unfailing_later}
+use Rattle.fv_top.specs.declared.refusal.Refusal.{Refusal}
+use Rattle.fv_top.specs.declared.refusal.Refusal.TheVariants.{ReadFault, WriteFault}
+use Rattle.fv_top.specs.Program.{IsProgram}
+use Rattle.fv_top.specs.Sources.{Compiled}
+use Rattle.fv_top.specs.Lines.{check_line}
+use Rattle.fv_top.specs.Meant.{check_meant}
+use Rattle.fv_top.specs.Parts.{AppendsPart}
+use Rattle.fv_top.specs.Loading.{ReadsFile, StopsLoading, IsFile}
+use Rattle.fv_top.specs.Steps.{Halts, fault, judged, want_of_memory, reads, writes, here, later}
+use Rattle.fv_top.specs.Promise.{ReadProgram, HasProgram, HasNoProgram, HasRefusal, check_rules}
+use Rattle.fv_top.specs.Running.{Checks, StopsCheck}
+use Rattle.fv_top.proofs.Reaching.{load_faults}
+
+-- the line, piece by piece
+pub numbers_line : (i o n s d : ℕ) {p1 p2 p3 p4 p5 p6 p7 p8 p9 p10 p11 : List ℕ} → p1 ≡ codes "inputs " → p2 ≡ decimal i → p3 ≡ codes " outputs " → p4 ≡ decimal o → p5 ≡ codes " controls " → p6 ≡ decimal n
+    → p7 ≡ codes " size " → p8 ≡ decimal s → p9 ≡ codes " delays " → p10 ≡ decimal d → p11 ≡ codes "\n" →
+    p1 ++ (p2 ++ (p3 ++ (p4 ++ (p5 ++ (p6 ++ (p7 ++ (p8 ++ (p9 ++ (p10 ++ (p11 ++ [])))))))))) ≡ check_line i o n s d
+numbers_line i o n s d e1 e2 e3 e4 e5 e6 e7 e8 e9 e10 e11 = rw (e1, e2, e3, e4, e5, e6, e7, e8, e9, e10, e11) (simp (append_assoc, append-nil))
+
+pub numbers_same : {i j o p n m s t d e : ℕ} → i ≡ j → o ≡ p → n ≡ m → s ≡ t → d ≡ e → check_line i o n s d ≡ check_line j p m t e
+numbers_same a b c d e = rw (a, b, c, d, e) refl
+
+-- ---- the program is not read
+
+load_halts : (name : List ℕ) (a b : DeskState) (e : Refusal) → StopsLoading Program (Some name) (HasRefusal ReadProgram) (HasNoProgram name a.files) a b e → Halts (check_rules name a) a b ReadProgram e
+load_halts name a b e (inl h) = subst (Halts (check_rules name a) a b ReadProgram) (sym h.0) (fault (reads Program) refl h.1.fault (λ t sure. h.1.unsure t sure))
+load_halts name a b e (inr (inl h)) = judged h.0 h.1
+load_halts name a b e (inr (inr m)) = subst (Halts (check_rules name a) a b ReadProgram) (sym m) want_of_memory
+
+pub check_stops : (name : List ℕ) (a b : DeskState) (e : Refusal) → ReadsFile Program (Some name) a b → StopsLoading Program (Some name) (HasRefusal ReadProgram) (HasNoProgram name a.files) a b e →
+    ((e ≡ ReadFault Program → ⊥) → KeepsFaults a b) → StopsCheck name a b e
+check_stops name a b e q err steady = record {
+  goes_on = q.quiet.goes_on;
+  others = record { left = λ t r n m k. q.others t r n; written = λ t r n m. q.quiet.written t r; begins = λ r n. q.quiet.begins r };
+  requests = q.requests;
+  ends = here (load_halts name a b e err);
+  output = record { begins = q.quiet.begins Output; written = λ t. q.quiet.written t Output };
+  begun = [];
+  appended = λ t. q.quiet.written t Report ∙ sym (append-nil (a.written Report));
+  is_begun = inl refl;
+  faults = load_faults (HasRefusal ReadProgram) (HasNoProgram name a.files) a a b e (λ h. absurd cc) (λ r. refl) q steady err;
+}
+
+-- ---- it is, and its line is reported
+
+module _ (name : List ℕ) (p : Compiled) (a b c : DeskState) (q : ReadsFile Program (Some name) a b) (steady : KeepsFaults a b)
+    (spelled : (text : List ℕ) × IsFile name text a × IsProgram text p) where
+  abbrev has : IsTrue a.tells → HasProgram name a.files
+  has t = record { text = spelled.0; file = spelled.1 t; compiled = p; program = spelled.2 }
+
+  module _ (line : List ℕ) (is : line ≡ (check_meant p).line) where
+    pub check_tells : AppendsPart Report line b c → HasFault Report b c → (IsTrue b.tells → IsUnfailing Report b → length (b.written Report) + length line ≤ b.room Report → ⊥) →
+        StopsCheck name a c (WriteFault Report)
+    check_tells part failed unsure =
+        let on = q.quiet.goes_on in
+        let r = part.2 in
+        record {
+          goes_on = goes_on_then on r.goes_on;
+          others = record {
+            left = λ t x n m k. r.left (told_before on t) x ∙ q.others t x n;
+            written = λ t x n m. r.others (told_before on t) x m ∙ q.quiet.written t x;
+            begins = λ x n. r.begins x ∙ q.quiet.begins x;
+          };
+          requests = r.requests ∙ q.requests;
+          ends = later has (here (fault (writes Report) refl (fault_earlier c Report on failed) (λ t sure.
+              let same = ap length (q.quiet.written t Report) in
+              let size = ap length is in
+              let fits = sure.1 (has t) in
+              let room = on.room t Report in
+              unsure (told_before on t) (unfailing_later Report on t sure.0) (omega (arith, length-append (a.written Report) (check_meant p).line)))));
+          output = record { begins = r.begins Output ∙ q.quiet.begins Output; written = λ t. r.others (told_before on t) Output (λ e. absurd cc) ∙ q.quiet.written t Output };
+          begun = part.0;
+          appended = λ t. r.appended (told_before on t) ∙ ap (λ w. w ++ part.0) (q.quiet.written t Report);
+          is_begun = inr (refl, λ t. (has t, subst (IsPrefixOf part.0) is part.1));
+          faults = λ x other. r.other_faults x (λ same. other (inr (ap WriteFault (sym same)))) ∙ steady x;
+        }
+
+    pub check_done : Appends Report line b c → KeepsFaults b c → Checks name a c
+    check_done r calm =
+        let on = q.quiet.goes_on in
+        record {
+          goes_on = goes_on_then on r.goes_on;
+          others = record {
+            left = λ t x n m k. r.left (told_before on t) x ∙ q.others t x n;
+            written = λ t x n m. r.others (told_before on t) x m ∙ q.quiet.written t x;
+            begins = λ x n. r.begins x ∙ q.quiet.begins x;
+          };
+          requests = r.requests ∙ q.requests;
+          faults = λ x. calm x ∙ steady x;
+          told = λ t.
+              let later = told_before on t in (
+                has t,
+                elim [
+                  | Program ↦ r.others later Program (λ e. absurd cc) ∙ q.quiet.written t Program
+                  | Input ↦ r.others later Input (λ e. absurd cc) ∙ q.quiet.written t Input
+                  | Controls ↦ r.others later Controls (λ e. absurd cc) ∙ q.quiet.written t Controls
+                  | Output ↦ r.others later Output (λ e. absurd cc) ∙ q.quiet.written t Output
+                  | Report ↦ r.appended later ∙ ap (λ w. w ++ line) (q.quiet.written t Report) ∙ ap (λ w. a.written Report ++ w) is
+                ],
+              );
+        }
