@@ -7,3 +7,4 @@ pub mod Gathered
 pub mod Loops
 pub mod Fed
 pub mod Kept
+pub mod Remembered

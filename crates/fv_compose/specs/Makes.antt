@@ -6,6 +6,8 @@ use Rattle.fv_diagram.specs.Diagram.{Diagram, IsWellFormed}
 use Rattle.fv_diagram.specs.Arena.{Arena, count_of, tree_of}
 use Rattle.fv_rules.specs.declared.refusal.EvalRefusal.{EvalRefusal}
 use Rattle.fv_rules.specs.declared.refusal.EvalRefusal.TheVariants.{NoMemory}
+use Rattle.fv_rules.specs.declared.value.Value as code_value
+use Rattle.fv_rules.specs.declared.value.Value.TheVariants as value
 use Rattle.fv_rules.specs.Values.{Value, Flat}
 use Rattle.fv_rules.specs.Steps.{State, Eval}
 
@@ -48,3 +50,8 @@ Makes a m (Err e) = (e ≡ NoMemory) ⊎ ((s : State) → m s ≡ Err e)
 abbrev pub MakesValue : Arena → Eval Value → Result ℕ EvalRefusal → Type 0
 MakesValue a m (Ok i) = (i < count_of a) × ((s : State) → m s ≡ Ok (Flat (tree_of a i), s))
 MakesValue a m (Err e) = (e ≡ NoMemory) ⊎ ((s : State) → m s ≡ Err e)
+
+-- a value that is a diagram is one of the arena
+abbrev pub IsThere : Arena → code_value.Value → Type 0
+IsThere a (value.Diagram i) = i < count_of a
+IsThere a u = Unit {0}

@@ -1,31 +1,39 @@
 // The diagrams of an evaluation.
 
-ghost use Rattle.std.specs.Prelude.{◌≡◌, ◌*◌, ◌<◌, ◌≤◌, IfOk};
+ghost use Rattle.std.specs.Prelude.{◌≡◌, ◌*◌, ◌<◌, ◌≤◌, All, IfOk, List};
 ghost use Rattle.fv_diagram.specs.Arena.{ChildrenBelow, IsArity, count_of, empty_arena, size_limit, tree_of, tree_with};
 ghost use Rattle.fv_rules.specs.Numbers.{number_of};
+ghost use Rattle.fv_rules.specs.Values.{Value as Meant};
+ghost use Rattle.fv_rules.specs.Matching.{chosen, number_or};
+ghost use Rattle.fv_rules.specs.Shows.{World, IsInside, ShowsValues, rules_in};
+ghost use Rattle.fv_rules.specs.Choosing.{with_diagrams};
+ghost use Rattle.fv_rules.specs.Chosen.{ShowsChoice};
 ghost use Rattle.fv_rules.specs.Steps.{put};
-ghost use Rattle.fv_compose.specs.Makes.{AreWellFormed, Draws, Extends, IsLeaf, Makes};
+ghost use Rattle.fv_compose.specs.Makes.{AreWellFormed, Draws, Extends, IsLeaf, IsThere, Makes};
 
 use fv_diagram::{Arity, DiagramId, Diagrams, Node};
-use fv_rules::{EvalRefusal, number_of, put};
+use fv_parse::TreeId;
+use fv_rules::{Bindings, Definitions, EvalRefusal, Numbers, Ruled, Value, put};
 use std::alloc::{AllocError, Global};
 use std::marker::Model;
 
-/// The diagrams of an evaluation. Each is well formed.
+/// The diagrams of an evaluation, with the numbers of those that were asked for. Each is well formed.
 #[derive(Drop)]
 pub struct Drawing {
     diagrams: Diagrams,
+    numbers: Numbers,
 }
 
 impl Model for Drawing {
     ghost use Rattle.fv_diagram.specs.Arena.{Arena};
+    ghost use Rattle.fv_rules.specs.Memo.{Remembers};
     ghost use Rattle.fv_compose.specs.Makes.{AreWellFormed};
 
     ghost Value = { Arena };
 
     ghost view = { λ d. d.diagrams };
 
-    ghost invariant = { λ d. AreWellFormed d.diagrams };
+    ghost invariant = { λ d. AreWellFormed d.diagrams × Remembers d.diagrams d.numbers };
 }
 
 impl Drawing {
@@ -35,6 +43,7 @@ impl Drawing {
     {
         Drawing {
             diagrams: Diagrams::new(alloc),
+            numbers: Numbers::new(alloc),
         }
     }
 
@@ -86,10 +95,45 @@ impl Drawing {
     }
 
     /// The number of a diagram, its value at time 0; `None` where it has none.
-    pub fn number_of(&self, alloc: Global, id: DiagramId) -> Result<Option<i32>, AllocError>
-        requires { id < count_of self.now }
-        ensures { IfOk result (λ o. o ≡ number_of (tree_of self.now id)) }
+    pub fn number_of(&mut self, alloc: Global, id: DiagramId) -> Result<Option<i32>, AllocError>
+        requires { id < count_of self.old }
+        ensures number { IfOk result (λ o. o ≡ number_of (tree_of self.old id)) }
+        ensures same { self.new ≡ self.old }
     {
-        number_of(alloc, &self.diagrams, id)
+        self.numbers.number_of(alloc, &self.diagrams, id)
+    }
+
+    /// A diagram, or the integer that it is where it has a number.
+    pub fn settle(&mut self, alloc: Global, id: DiagramId) -> Result<DiagramId, AllocError>
+        requires { id < count_of self.old }
+        ensures draws { IfOk result
+            (λ i. Draws self.new i (number_or (number_of (tree_of self.old id)) (tree_of self.old id))) }
+        ensures keeps { Extends self.old self.new }
+    {
+        self.numbers.settle(alloc, &mut self.diagrams, id)
+    }
+
+    /// The right side and the bindings of the first rule that matches arguments; `None` where none does.
+    pub fn choose(
+        &mut self,
+        alloc: Global,
+        text: &Definitions,
+        ruled: Ruled,
+        arguments: &[Value],
+    ) -> Result<Option<(TreeId, Bindings)>, AllocError>
+        requires inside { IsInside text.now ruled }
+        requires there { All (IsThere self.old) arguments.now }
+        ensures chosen { IfOk result (λ o. (w : World) (vs : List Meant) → w.tree ≡ text.now → w.diagrams ≡ self.old
+            → ShowsValues w arguments.now vs
+            → ShowsChoice (with_diagrams w self.new) o (chosen text.now.tokens (rules_in text.now ruled) vs)) }
+        ensures keeps { Extends self.old self.new }
+    {
+        text.choose(
+            alloc,
+            ruled,
+            &mut self.diagrams,
+            &mut self.numbers,
+            arguments,
+        )
     }
 }

@@ -1,8 +1,7 @@
 pub mod Fuel
 pub mod Sound
 pub mod Fits
-pub mod Timeless
-pub mod Nodes
+pub mod FirstValues
 pub mod Grown
 pub mod Named
 pub mod Lookups
@@ -12,3 +11,7 @@ pub mod Scoped
 pub mod LiteralNumbers
 pub mod RulesChosen
 pub mod RuleNodes
+pub mod Actions
+pub mod TimelessTurns
+pub mod InPlace
+pub mod Waiting

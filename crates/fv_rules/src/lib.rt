@@ -13,6 +13,7 @@ mod number;
 mod putting;
 mod refusal;
 mod scopes;
+mod timeless;
 mod value;
 
 pub use laws::{evaluates_soundly, evaluation_follows, literals_stay};

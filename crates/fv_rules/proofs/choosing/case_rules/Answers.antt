@@ -1,6 +1,6 @@
-use Rattle.std.proofs.Common.{ap, sym, ◌∙◌, map, arith}
+use Rattle.std.proofs.Common.{ap, sym, ◌∙◌}
 use Rattle.fv_tree.specs.Arena.{trees}
-use Rattle.fv_parse.specs.Trees.{tree_in, start_in}
+use Rattle.fv_parse.specs.Trees.{start_in}
 use Rattle.fv_rules.specs.Shows.{case_in}
 use Rattle.fv_rules.proofs.RuleNodes.{other_case}
 use Rattle.fv_rules.proofs.choosing.case_rules.Goals as goal

@@ -1,6 +1,6 @@
 use Rattle.std.proofs.Common.{ap, sym, ◌∙◌, arith}
 use Rattle.fv_tree.specs.Arena.{trees}
-use Rattle.fv_parse.specs.Trees.{tree_in, start_in}
+use Rattle.fv_parse.specs.Trees.{start_in}
 use Rattle.fv_rules.specs.Values.{Rule, rule_of}
 use Rattle.fv_rules.proofs.RuleNodes.{other_rule}
 use Rattle.fv_rules.proofs.choosing.rule_at.Goals as goal

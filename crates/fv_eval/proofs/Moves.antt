@@ -1,0 +1,90 @@
+-- Where the machine goes.
+use Rattle.std.proofs.Common.{inl, inr, ◌≡◌, ℕ, List, Result, Ok, Err, refl, sym, ap, subst, ◌∙◌}
+use Rattle.fv_grammar.specs.Tree.{Tree}
+use Rattle.fv_parse.specs.Trees.{Parsed, tree_in, node_tree}
+use Rattle.fv_tree.specs.declared.node.TreeNode.{TreeNode}
+use Rattle.fv_diagram.specs.Diagram.{Diagram}
+use Rattle.fv_diagram.specs.Arena.{Arena, tree_of}
+use Rattle.fv_compose.specs.Makes.{Extends, Draws as IsDrawn, MakesValue}
+use Rattle.fv_rules.specs.declared.refusal.EvalRefusal.{EvalRefusal}
+use Rattle.fv_rules.specs.declared.value.Value as code_value
+use Rattle.fv_rules.specs.declared.value.Value.TheVariants as value
+use Rattle.fv_rules.specs.declared.value.Scope as code_scope
+use Rattle.fv_rules.specs.Environments.{Environments, with_scope}
+use Rattle.fv_rules.specs.Values.{Value, Flat, Env}
+use Rattle.fv_rules.specs.Steps.{State, Outcome, Eval}
+use Rattle.fv_rules.specs.Shows.{ShowsTree, ShowsValue, ShowsEnv}
+use Rattle.fv_rules.proofs.Grown.{diagrams_come, scope_opens, grows_on}
+use Rattle.fv_machine.specs.Machine.{Frame, Visit, Give, Config, Running, Ended, given}
+use Rattle.fv_eval.specs.declared.frame.Focus as code_focus
+use Rattle.fv_eval.specs.declared.frame.Focus.TheVariants as focus
+use Rattle.fv_eval.specs.declared.machine.Machine as code_machine
+use Rattle.fv_eval.specs.Frames.{world, state_of, ShowsFrames, Keeps, Goes, Steps, Grew}
+use Rattle.fv_eval.proofs.Grown.{frames_grow}
+
+-- ---- lists that grow
+
+pub grew_on : (p : Parsed) (a b c : code_machine.Machine) → Grew p a b → Grew p b c → Grew p a c
+grew_on p a b c g h = record { lists = grows_on (world p a) (world p b) (world p c) g.lists h.lists; frames = h.frames ∙ g.frames; state = h.state ∙ g.state }
+
+pub grew_itself : (p : Parsed) (m : code_machine.Machine) → Grew p m m
+grew_itself p m = record { lists = record { tree = refl; diagrams = λ i d h. h; scopes = λ i x h. h; taken = λ i x h. h }; frames = refl; state = refl }
+
+-- diagrams were put
+pub drawn_grew : (p : Parsed) (m : code_machine.Machine) (new : Arena) → Extends m.drawing new → Grew p m (record m { drawing = new })
+drawn_grew p m new g = record { lists = diagrams_come (world p m) new g.longer g.trees; frames = refl; state = refl }
+
+-- an environment was made
+pub scoped_grew : (p : Parsed) (m : code_machine.Machine) (new : Environments) (x : code_scope.Scope) → new ≡ with_scope m.scopes x → Grew p m (record m { scopes = new })
+scoped_grew p m new x e =
+    subst (λ (s : Environments). Grew p m (record m { scopes = s })) (sym e)
+    (record { lists = scope_opens (world p m) x; frames = refl; state = refl })
+
+-- pending work is still shown
+pub keeps_on : (p : Parsed) (a b : code_machine.Machine) → Grew p a b → (Fs : List Frame) → Keeps p a Fs → Keeps p b Fs
+keeps_on p a b g Fs k = subst (λ fs. ShowsFrames (world p b) fs Fs) (sym g.frames) (frames_grow (world p a) (world p b) g.lists a.frames Fs k)
+
+-- after growing the rest goes on as from the start
+pub steps_on : (p : Parsed) (a b c : code_machine.Machine) (r : Result code_focus.Focus EvalRefusal) (next : List Frame → State → Config) → Grew p a b → Steps p b c r next → Steps p a c r next
+steps_on p a b c r next g h Fs k = subst (λ s. Goes p c r (next Fs s)) g.state (h Fs (keeps_on p a b g Fs k))
+
+-- ---- where it goes
+
+pub visits : (p : Parsed) (m : code_machine.Machine) (i e : ℕ) (x : Tree) (E : Env) → ShowsTree (world p m) i x → ShowsEnv (world p m) e E
+    → Steps p m m (Ok (focus.Visit i e)) (λ Fs s. Running (Visit x E) Fs s)
+visits p m i e x E t h Fs k = (x, E, Fs, refl, t, h, k)
+
+pub gives : (p : Parsed) (m : code_machine.Machine) (u : code_value.Value) (v : Value) → ShowsValue (world p m) u v → Steps p m m (Ok (focus.Give u)) (λ Fs s. Running (Give v) Fs s)
+gives p m u v h Fs k = (v, Fs, refl, h, k)
+
+pub refused : (p : Parsed) (old new : code_machine.Machine) (e r : EvalRefusal) → e ≡ r → Steps p old new (Err e) (λ Fs s. Ended (Err r))
+refused p old new e r h Fs k = inr (ap (λ x. Ended (Err x)) (sym h))
+
+-- ---- what was put is given
+
+-- a diagram that was put
+pub put_goes : (p : Parsed) (m : code_machine.Machine) (new : Arena) (i : ℕ) (o : Eval Value) → Extends m.drawing new → MakesValue new o (Ok i)
+    → Steps p m (record m { drawing = new }) (Ok (focus.Give (value.Diagram i))) (λ Fs s. given (o s) Fs)
+put_goes p m new i o g h =
+    let n : code_machine.Machine = record m { drawing = new } in
+    let v : Value = Flat (tree_of new i) in
+    let q = steps_on p m n n (Ok (focus.Give (value.Diagram i))) (λ Fs s. Running (Give v) Fs s) (drawn_grew p m new g) (gives p n (value.Diagram i) v (h.0, refl)) in
+    λ Fs k. subst (λ (c : Config). Goes p n (Ok (focus.Give (value.Diagram i))) c) (sym (ap (λ (x : Outcome Value). given x Fs) (h.1 (state_of m)))) (q Fs k)
+
+-- one that was refused
+pub put_refused : (p : Parsed) (m new : code_machine.Machine) (a : Arena) (e : EvalRefusal) (o : Eval Value) → MakesValue a o (Err e) → Steps p m new (Err e) (λ Fs s. given (o s) Fs)
+put_refused p m new a e o (inl h) Fs k = inl h
+put_refused p m new a e o (inr h) Fs k = inr (ap (λ (x : Outcome Value). given x Fs) (h (state_of m)))
+
+-- a leaf that was put
+pub leaf_goes : (p : Parsed) (m : code_machine.Machine) (new : Arena) (i : ℕ) (d : Diagram) → Extends m.drawing new → IsDrawn new i d
+    → Steps p m (record m { drawing = new }) (Ok (focus.Give (value.Diagram i))) (λ Fs s. Running (Give (Flat d)) Fs s)
+leaf_goes p m new i d g h =
+    let n : code_machine.Machine = record m { drawing = new } in
+    steps_on p m n n (Ok (focus.Give (value.Diagram i))) (λ Fs s. Running (Give (Flat d)) Fs s) (drawn_grew p m new g) (gives p n (value.Diagram i) (Flat d) (h.inside, h.is))
+
+-- ---- nodes
+
+-- what is said of a node's tree is said by its form
+pub at_node : (p : Parsed) (id start : ℕ) (node form : TreeNode) (P : Tree → Type 0) → tree_in p id ≡ node_tree p node start → node ≡ form → P (node_tree p form start) → P (tree_in p id)
+at_node p id start node form P t e h = subst P (sym (t ∙ ap (λ n. node_tree p n start) e)) h

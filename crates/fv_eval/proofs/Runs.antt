@@ -1,0 +1,120 @@
+-- A run of the machine, and what a program stands for.
+use Rattle.std.proofs.Common.{inl, inr, ◌≡◌, ◌⊎◌, ℕ, ◌+◌, ◌<◌, List, [], ◌∷◌, ◌++◌, length, Result, Some, Ok, Err, refl, sym, ap, subst, ◌∙◌, arith}
+use Rattle.std.specs.Prelude.{codes}
+use Rattle.fv_lex.specs.Token.{Lexed}
+use Rattle.fv_grammar.specs.Tree.{Tree}
+use Rattle.fv_parse.specs.Trees.{Parsed, program_of, size_of, text_of, first_named}
+use Rattle.fv_diagram.specs.Diagram.{Diagram}
+use Rattle.fv_diagram.specs.Arena.{count_of, empty_arena, tree_of}
+use Rattle.fv_diagram.specs.declared.control.ControlInfo.{ControlInfo}
+use Rattle.fv_rules.specs.declared.refusal.EvalRefusal.{EvalRefusal}
+use Rattle.fv_rules.specs.declared.refusal.EvalRefusal.TheVariants.{NoMemory}
+use Rattle.fv_rules.specs.declared.value.Value as code_value
+use Rattle.fv_rules.specs.declared.value.Value.TheVariants as value
+use Rattle.fv_rules.specs.declared.value.Scope.TheVariants as scope
+use Rattle.fv_rules.specs.Environments.{Environments, scope_in, with_scope}
+use Rattle.fv_rules.specs.Values.{Value, Flat, Outermost, Scope}
+use Rattle.fv_rules.specs.Steps.{State, Outcome, Eval, after, ◌>>=◌, give}
+use Rattle.fv_rules.specs.Rules.{ev, flat, finished, name_value, program_value, start, turned}
+use Rattle.fv_rules.specs.Shows.{ShowsValue, ShowsEnv}
+use Rattle.fv_machine.specs.Machine.{Config, Drawn, Finish, Ended, StartsMean, StepsMean, first, meaning, step}
+use Rattle.fv_eval.specs.declared.frame.Frame as code_frame
+use Rattle.fv_eval.specs.declared.frame.Frame.TheVariants as frame
+use Rattle.fv_eval.specs.declared.frame.ForDiagram.TheVariants as drawn
+use Rattle.fv_eval.specs.declared.frame.Focus as code_focus
+use Rattle.fv_eval.specs.declared.frame.Focus.TheVariants as focus
+use Rattle.fv_eval.specs.declared.machine.Machine as code_machine
+use Rattle.fv_eval.specs.Frames.{world, state_of, Goes, Continues, Ends, Runs}
+
+-- what `process` is, as a diagram
+abbrev pub of_process : Lexed → Tree → Eval Diagram
+of_process l x = name_value l (ev l) (codes "process") (Scope x Outermost) >>= turned l (ev l)
+
+-- what the first configuration stands for
+abbrev pub whole : Lexed → Tree → Outcome Value
+whole l x = meaning l (first x start)
+
+-- ---- ends
+
+finished_ok : (o : Outcome Diagram) (d : Diagram) (s : State) → after o (λ x. give (Flat x)) ≡ Ok (Flat d, s) → finished o ≡ Ok (d, s.controls)
+finished_ok (Ok x) d s e =
+    let both : ◌≡◌ {A = Value × State} (Flat x.0, x.1) (Flat d, s) = cc in
+    let value : Flat x.0 ≡ Flat d = ap (λ (q : Value × State). q.0) both in
+    let diagram : x.0 ≡ d = cc in
+    let named : Result (Diagram × List ControlInfo) EvalRefusal = Ok (d, x.1.controls) in
+    let left : finished (Ok x) ≡ named = ap (λ (y : Diagram). Ok (y, x.1.controls)) diagram in
+    let right : named ≡ Ok (d, s.controls) = ap (λ (q : Value × State). Ok (d, q.1.controls)) both in
+    left ∙ right
+finished_ok (Err r) d s e = absurd (cc)
+
+finished_err : (o : Outcome Diagram) (r : EvalRefusal) → after o (λ x. give (Flat x)) ≡ Err r → finished o ≡ Err r
+finished_err (Ok x) r e = absurd (cc)
+finished_err (Err q) r e = let h : q ≡ r = cc in ap Err h
+
+-- a run that is done has the program's diagram and its controls
+pub done : (p : Parsed) (m : code_machine.Machine) (i : ℕ) → StartsMean → Ends p m (Ok (value.Diagram i)) (whole p.tokens (program_of p))
+    → (i < count_of m.drawing) × (program_value p.tokens (program_of p) ≡ Ok (tree_of m.drawing i, m.controls))
+done p m i mean h = shown h.0 (sym (mean p.tokens (program_of p) start) ∙ h.1) h.2
+  where
+    shown : (v : Value) → flat (of_process p.tokens (program_of p)) start ≡ Ok (v, state_of m) → ShowsValue (world p m) (value.Diagram i) v
+        → (i < count_of m.drawing) × (program_value p.tokens (program_of p) ≡ Ok (tree_of m.drawing i, m.controls))
+    shown (Flat d) e k = (k.0, finished_ok (of_process p.tokens (program_of p) start) (tree_of m.drawing i) (state_of m) (e ∙ ap (λ (x : Diagram). Ok (Flat x, state_of m)) (sym k.1)))
+    shown v e k = absurd k
+
+-- one that is refused, the program's refusal
+pub refused : (p : Parsed) (m : code_machine.Machine) (r : EvalRefusal) → StartsMean → Ends p m (Err r) (whole p.tokens (program_of p))
+    → (r ≡ NoMemory) ⊎ (program_value p.tokens (program_of p) ≡ Err r)
+refused p m r mean (inl h) = inl h
+refused p m r mean (inr h) = inr (finished_err (of_process p.tokens (program_of p) start) r (sym (mean p.tokens (program_of p) start) ∙ h))
+
+-- ---- steps of a run
+
+-- the configuration that a run has come to has ended
+pub run_done : (p : Parsed) (m : code_machine.Machine) (u : code_value.Value) (o : Outcome Value) → Continues p.tokens p m (Ok (focus.Done u)) o → Ends p m (Ok u) o
+run_done p m u o h = (h.1.0, sym h.2 ∙ ap (meaning p.tokens) h.1.1, h.1.2)
+
+pub run_refused : (p : Parsed) (m : code_machine.Machine) (r : EvalRefusal) (o : Outcome Value) → Continues p.tokens p m (Err r) o → Ends p m (Err r) o
+run_refused p m r o h = stops h.1
+  where
+    stops : (r ≡ NoMemory) ⊎ (h.0 ≡ Ended (Err r)) → Ends p m (Err r) o
+    stops (inl e) = inl e
+    stops (inr e) = inr (sym h.2 ∙ ap (meaning p.tokens) e)
+
+pub goes_on : (p : Parsed) (m n : code_machine.Machine) (f : code_focus.Focus) (r : Result code_focus.Focus EvalRefusal) (o : Outcome Value) → StepsMean
+    → ((c : Config) → Goes p m (Ok f) c → Goes p n r (step p.tokens c)) → Continues p.tokens p m (Ok f) o → Continues p.tokens p n r o
+goes_on p m n f r o mean goes h = (step p.tokens h.0, goes h.0 h.1, mean p.tokens h.0 ∙ h.2)
+
+-- ---- a whole run
+
+-- a new machine to which its first environment and its first frame were added
+pub starts : (p : Parsed) (m : code_machine.Machine) (s : Environments) (fs : List code_frame.Frame) (root name env : ℕ)
+    → (m.drawing ≡ empty_arena) × (m.scopes ≡ record { scopes = []; taken = [] }) × (m.frames ≡ []) × (state_of m ≡ start)
+    → (env ≡ length m.scopes.scopes + 1) × (s ≡ with_scope m.scopes (scope.Definitions root 0)) → fs ≡ m.frames ++ frame.Drawn drawn.Finish ∷ [] → root ≡ p.root
+    → root < size_of p → (text_of p.tokens name ≡ codes "process") × (first_named p.tokens name ≡ name)
+    → Continues p.tokens p (record m { scopes = s; frames = fs }) (Ok (focus.Call name env)) (whole p.tokens (program_of p))
+starts p m s fs root name env new opened pushed rooted inside named =
+    let x : Tree = program_of p in
+    let n : code_machine.Machine = record m { scopes = s; frames = fs } in
+    let outermost : ℕ → Environments = λ i. record { scopes = scope.Definitions i 0 ∷ []; taken = [] } in
+    let one : env ≡ 1 = opened.0 ∙ ap (λ (e : Environments). length e.scopes + 1) new.1 in
+    let scopes : s ≡ outermost p.root = opened.1 ∙ ap (λ (e : Environments). with_scope e (scope.Definitions root 0)) new.1 ∙ ap outermost rooted in
+    let frames : fs ≡ frame.Drawn drawn.Finish ∷ [] = pushed ∙ ap (λ (xs : List code_frame.Frame). xs ++ frame.Drawn drawn.Finish ∷ []) new.2 in
+    let found : scope_in s.scopes env ≡ Some (scope.Definitions p.root 0) =
+    ap (λ (e : Environments). scope_in e.scopes env) scopes ∙ ap (λ (i : ℕ). scope_in (scope.Definitions p.root 0 ∷ []) i) one in
+    let there : p.root < size_of p = subst (λ (i : ℕ). i < size_of p) rooted inside in
+    let shown : ShowsEnv (world p n) env (Scope x Outermost) = (p.root, 0, found, omega (arith, one), (there, refl), refl) in (
+      first x (state_of m),
+      (codes "process", Scope x Outermost, Drawn Finish ∷ [], refl, named, shown, ([], frame.Drawn drawn.Finish, frames, tt, refl)),
+      ap (λ (t : State). meaning p.tokens (first x t)) new.3,
+    )
+
+-- its first configuration is one that it stands at
+pub runs_first : (p q : Parsed) (m : code_machine.Machine) (f : code_focus.Focus) (o : Outcome Value) → q ≡ p → Continues p.tokens p m (Ok f) o → Runs q m f
+runs_first p q m f o e h = subst (λ (x : Parsed). Runs x m f) (sym e) (h.0, h.1)
+
+-- and its end is that of the program
+pub run_ends : (p q : Parsed) (m n : code_machine.Machine) (f : code_focus.Focus) (r s : Result code_value.Value EvalRefusal) (o : Outcome Value) → q ≡ p → r ≡ s
+    → Continues p.tokens p m (Ok f) o → ((w : Outcome Value) → Continues q.tokens q m (Ok f) w → Ends q n r w) → Ends p n s o
+run_ends p q m n f r s o e is h run =
+    subst (λ (t : Result code_value.Value EvalRefusal). Ends p n t o) is
+    (subst (λ (x : Parsed). (w : Outcome Value) → Continues x.tokens x m (Ok f) w → Ends x n r w) e run o h)

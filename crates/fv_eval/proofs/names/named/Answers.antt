@@ -1,0 +1,11 @@
+use Rattle.std.proofs.Common.{sym, ap, ◌∙◌}
+use Rattle.std.proofs.lemmas.Option.{none-some}
+use Rattle.fv_tree.specs.Arena.{trees}
+use Rattle.fv_eval.specs.Frames.{name_of}
+use Rattle.fv_eval.proofs.Others.{no_name}
+use Rattle.fv_eval.proofs.names.named.Goals as goal
+
+pub returns-in_default : goal.returns-in_default
+returns-in_default c =
+    let l = c.args.tree.now.tokens in
+    λ x e. none-some x (sym (ap (name_of l) c.node.ensures.tree ∙ no_name l (trees c.args.tree.now.entries) c.node.result.now _ c.in_default.not-Named) ∙ e)

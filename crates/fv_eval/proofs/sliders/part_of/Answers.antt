@@ -1,0 +1,11 @@
+use Rattle.std.proofs.Common.{sym, ap, ◌∙◌}
+use Rattle.std.specs.Prelude.{slice_get}
+use Rattle.fv_tree.specs.Arena.{trees}
+use Rattle.fv_eval.specs.Frames.{parameters_of}
+use Rattle.fv_eval.proofs.Others.{no_slider}
+use Rattle.fv_eval.proofs.sliders.part_of.Goals as goal
+
+pub returns-in_default : goal.returns-in_default
+returns-in_default c =
+    let e = ap parameters_of c.node.ensures.tree ∙ no_slider (trees c.args.tree.now.entries) c.node.result.now _ c.in_default.not-Slider in
+    record { part = sym (ap (λ xs. slice_get xs c.args.i) e); inside = tt }

@@ -1,0 +1,241 @@
+// Application.
+
+ghost use Rattle.std.specs.Prelude.{ℕ, ◌≡◌, ◌<◌, ◌∷◌, List, None, IfOk, drop, length};
+ghost use Rattle.fv_grammar.specs.Tree.{Tree as Spelled, Apply, items, start_of};
+ghost use Rattle.fv_parse.specs.Trees.{Parsed, size_of, tree_in};
+ghost use Rattle.fv_rules.specs.Values.{Env, Value as Meant};
+ghost use Rattle.fv_rules.specs.Steps.{no_rule};
+ghost use Rattle.fv_rules.specs.Shows.{ShowsEnv, ShowsTree, ShowsValue, ShowsValues};
+ghost use Rattle.fv_machine.specs.Machine.{Leftover as Left, Running, Valued, Visit, apply, next_argument};
+ghost use Rattle.fv_eval.specs.Frames.{AreShown, Grew, IsShown, IsThere, ShowsTaking, Steps, completed, took, world};
+
+use crate::frame::{Focus, ForValue, Frame};
+use crate::machine::Machine;
+use crate::names::{body_of, parameter};
+use fv_parse::{Tree, TreeId, TreeNode};
+use fv_rules::{Definitions, EvalRefusal, Ruled, Value};
+use std::alloc::AllocError;
+
+impl Machine {
+    /// The next argument of an application is visited, or its function is applied to all of them.
+    pub fn next_argument(
+        &mut self,
+        text: &Definitions,
+        application: TreeId,
+        function: Value,
+        env: u64,
+        done: Vec<Value>,
+    ) -> Result<Focus, EvalRefusal>
+        requires application { application < size_of text.now }
+        requires function { IsShown (world text.now self.old) function }
+        requires done { AreShown (world text.now self.old) done.items }
+        ensures { (s : ℕ) (f ys : Spelled) (v : Meant) (E : Env) (vs : List Meant) → ShowsTree (world text.now self.old) application (Apply s f ys)
+            → ShowsValue (world text.now self.old) function v → ShowsEnv (world text.now self.old) env E → ShowsValues (world text.now self.old) done.items vs
+            → Steps text.now self.old self.new result (λ Fs t. next_argument text.now.tokens s v (drop (length done.items) (items ys)) E vs Fs t) }
+    {
+        let tree = text.tree();
+        let TreeNode::Apply(_, list) = tree.node(application) else {
+            return Err(EvalRefusal::NoMemory);
+        };
+        match tree.items(*list).get(done.len()) {
+            Some(id) => {
+                let id = *id;
+                let frame = ForValue::Argument {
+                    apply: application,
+                    function,
+                    env,
+                    done,
+                };
+                self.wait(Frame::Valued(frame), id, env)
+            }
+            None => self.apply(text, application, function, done, 0),
+        }
+    }
+
+    /// A value is applied to arguments, from a place on.
+    pub fn apply(
+        &mut self,
+        text: &Definitions,
+        application: TreeId,
+        function: Value,
+        arguments: Vec<Value>,
+        next: u64,
+    ) -> Result<Focus, EvalRefusal>
+        requires application { application < size_of text.now }
+        requires function { IsShown (world text.now self.old) function }
+        requires arguments { AreShown (world text.now self.old) (drop next arguments.items) }
+        ensures { (s : ℕ) (f ys : Spelled) (v : Meant) (vs : List Meant) → ShowsTree (world text.now self.old) application (Apply s f ys)
+            → ShowsValue (world text.now self.old) function v → ShowsValues (world text.now self.old) (drop next arguments.items) vs
+            → Steps text.now self.old self.new result (λ Fs t. apply text.now.tokens s v vs Fs t) }
+    {
+        let mut function = function;
+        let mut at = next as usize;
+        'applying: while at < arguments.len() {
+            match self.take(text, &function, arguments[at])? {
+                Some(value) => {
+                    function = value;
+                    at += 1;
+                }
+                None => return self.complete(text, application, function, arguments, at),
+            }
+        }
+        Ok(Focus::Give(function))
+    }
+
+    // A function with one argument more, where it wants others behind it.
+    fn take(
+        &mut self,
+        text: &Definitions,
+        function: &Value,
+        argument: Value,
+    ) -> Result<Option<Value>, AllocError>
+        requires { IsThere (world text.now self.old) function.now }
+        ensures grew { Grew text.now self.old self.new }
+        ensures took { IfOk result (λ o. (v a : Meant) → ShowsValue (world text.now self.old) function.now v → ShowsValue (world text.now self.old) argument a
+            → ShowsTaking (world text.now self.new) o (took v a)) }
+    {
+        match function {
+            Value::Diagram(_) => Ok(None),
+            Value::Abstraction { node, bound, env } => {
+                self.take_parameter(text.tree(), *node, *bound, *env, argument)
+            }
+            Value::Rules {
+                ruled,
+                env,
+                count,
+                last,
+            } => {
+                if text.width(*ruled).saturating_sub(*count) <= 1 {
+                    return Ok(None);
+                }
+                let place = self.scopes.take(argument, *last)?;
+                Ok(Some(Value::Rules {
+                    ruled: *ruled,
+                    env: *env,
+                    count: *count + 1,
+                    last: place,
+                }))
+            }
+        }
+    }
+
+    // An abstraction with one parameter more bound, where it has others behind it.
+    fn take_parameter(
+        &mut self,
+        tree: &Tree,
+        node: TreeId,
+        bound: u64,
+        env: u64,
+        argument: Value,
+    ) -> Result<Option<Value>, AllocError>
+        requires { node < size_of tree.now }
+        ensures grew { Grew tree.now self.old self.new }
+        ensures took { IfOk result (λ o. (v a : Meant) → ShowsValue (world tree.now self.old) (Value.Abstraction node bound env) v
+            → ShowsValue (world tree.now self.old) argument a → ShowsTaking (world tree.now self.new) o (took v a)) }
+    {
+        let Some(more) = bound.checked_add(1) else {
+            return Err(AllocError);
+        };
+        if parameter(tree, node, more).is_none() {
+            return Ok(None);
+        }
+        let Some(name) = parameter(tree, node, bound) else {
+            return Err(AllocError);
+        };
+        let inner = self.scopes.bind(name, argument, env)?;
+        Ok(Some(Value::Abstraction {
+            node,
+            bound: more,
+            env: inner,
+        }))
+    }
+
+    // A function with the last argument that it wants.
+    fn complete(
+        &mut self,
+        text: &Definitions,
+        application: TreeId,
+        function: Value,
+        arguments: Vec<Value>,
+        at: usize,
+    ) -> Result<Focus, EvalRefusal>
+        requires application { application < size_of text.now }
+        requires function { IsShown (world text.now self.old) function }
+        requires at { at < length arguments.items }
+        requires arguments { AreShown (world text.now self.old) (drop at arguments.items) }
+        ensures { (s : ℕ) (f ys : Spelled) (v a : Meant) (more : List Meant) → ShowsTree (world text.now self.old) application (Apply s f ys)
+            → ShowsValue (world text.now self.old) function v → took v a ≡ None → ShowsValues (world text.now self.old) (drop at arguments.items) (a ∷ more)
+            → Steps text.now self.old self.new result (λ Fs t. completed text.now.tokens s v a more Fs t) }
+    {
+        match function {
+            Value::Diagram(id) => {
+                let done = Vec::new(self.alloc);
+                self.next_turned(id, arguments, at as u64, done)
+            }
+            Value::Abstraction { node, bound, env } => {
+                let tree = text.tree();
+                let Some(name) = parameter(tree, node, bound) else {
+                    return Err(EvalRefusal::NoMemory);
+                };
+                let inner = self.scopes.bind(name, arguments[at], env)?;
+                self.leave(application, arguments, at, body_of(tree, node), inner)
+            }
+            Value::Rules {
+                ruled,
+                env,
+                count,
+                last,
+            } => {
+                let last = self.scopes.take(arguments[at], last)?;
+                let Some(count) = count.checked_add(1) else {
+                    return Err(EvalRefusal::NoMemory);
+                };
+                let taken = self.scopes.arguments(self.alloc, count, last)?;
+                match self
+                    .drawing
+                    .choose(self.alloc, text, ruled, taken.as_slice())?
+                {
+                    Some(choice) => {
+                        let inner = self.scopes.bind_all(choice.1.as_slice(), env)?;
+                        self.leave(application, arguments, at, choice.0, inner)
+                    }
+                    None => Err(no_rule(text.tree(), application)),
+                }
+            }
+        }
+    }
+
+    // A body is visited, and the arguments behind this place wait for its value.
+    fn leave(
+        &mut self,
+        application: TreeId,
+        arguments: Vec<Value>,
+        at: usize,
+        body: TreeId,
+        env: u64,
+    ) -> Result<Focus, EvalRefusal>
+        requires { at < length arguments.items }
+        ensures { (p : Parsed) (s : ℕ) (f ys x : Spelled) (E : Env) (a : Meant) (more : List Meant) → ShowsTree (world p self.old) application (Apply s f ys)
+            → ShowsTree (world p self.old) body x → ShowsEnv (world p self.old) env E → ShowsValues (world p self.old) (drop at arguments.items) (a ∷ more)
+            → Steps p self.old self.new result (λ Fs t. Running (Visit x E) (Valued (Left s more) ∷ Fs) t) }
+    {
+        let frame = ForValue::Leftover {
+            apply: application,
+            arguments,
+            next: at as u64 + 1,
+        };
+        self.wait(Frame::Valued(frame), body, env)
+    }
+}
+
+// None of the rules fits the arguments of an application.
+fn no_rule(tree: &Tree, application: TreeId) -> EvalRefusal
+    requires { application < size_of tree.now }
+    ensures { result ≡ no_rule tree.now.tokens (start_of (tree_in tree.now application)) }
+{
+    let place = tree.place(application);
+    EvalRefusal::NoRule {
+        line: place.line,
+        column: place.column,
+    }
+}

@@ -1,0 +1,179 @@
+// A value is given to what waits for it.
+
+ghost use Rattle.std.specs.Prelude.{ℕ, ◌≡◌, ◌<◌, ◌∷◌, IfOk};
+ghost use Rattle.fv_parse.specs.Trees.{Parsed, size_of, tree_in};
+ghost use Rattle.fv_grammar.specs.Tree.{Tree, Binary};
+ghost use Rattle.fv_grammar.specs.declared.form.Operator.{Operator as Op};
+ghost use Rattle.fv_diagram.specs.Diagram.{Diagram};
+ghost use Rattle.fv_diagram.specs.Arena.{count_of};
+ghost use Rattle.fv_rules.specs.Values.{Env, Flat, Value as Meant};
+ghost use Rattle.fv_rules.specs.Matching.{settled};
+ghost use Rattle.fv_rules.specs.Rules.{ports};
+ghost use Rattle.fv_rules.specs.Shows.{Draws, ShowsEnv, ShowsTree, ShowsValue};
+ghost use Rattle.fv_machine.specs.Machine.{Drawn, ForDiagram as Drawing, ForValue as Valuing, Give, Right, Running, Visit, arrives, diagram_arrives, value_arrives};
+ghost use Rattle.fv_compose.specs.Makes.{IsThere as IsDrawn};
+ghost use Rattle.fv_eval.specs.declared.frame.Focus.TheVariants.{Give as Gives};
+ghost use Rattle.fv_eval.specs.Frames.{DrawnThere, gave, Grew, IsShown, Runs, ShowsForDiagram, ShowsForValue, Steps, ValuedShown, world};
+
+use crate::frame::{Focus, ForDiagram, ForValue, Frame};
+use crate::machine::Machine;
+use fv_diagram::DiagramId;
+use fv_grammar::Side;
+use fv_parse::{TreeId, TreeNode};
+use fv_rules::{Definitions, EvalRefusal, Value};
+use std::alloc::AllocError;
+
+impl Machine {
+    /// A value is given to the innermost frame.
+    pub fn arrive(&mut self, text: &Definitions, value: Value) -> Result<Focus, EvalRefusal>
+        requires { Runs text.now self.old (Gives value) }
+        ensures { (v : Meant) → ShowsValue (world text.now self.old) value v → Steps text.now self.old self.new result (λ Fs s. arrives text.now.tokens v Fs s) }
+    {
+        match self.frames.pop() {
+            None => Ok(Focus::Done(value)),
+            Some(Frame::Valued(frame)) => self.value_arrives(text, frame, value),
+            Some(Frame::Drawn(frame)) => self.turn(text, frame, value),
+        }
+    }
+
+    // A value with a number as that integer.
+    fn settle(&mut self, value: Value) -> Result<Value, AllocError>
+        requires { IsDrawn self.old.drawing value }
+        ensures grew { (p : Parsed) → Grew p self.old self.new }
+        ensures shows { IfOk result (λ u. (p : Parsed) (v : Meant) → ShowsValue (world p self.old) value v → ShowsValue (world p self.new) u (settled v)) }
+    {
+        let Value::Diagram(id) = value else {
+            return Ok(value);
+        };
+        let settled = self.drawing.settle(self.alloc, id)?;
+        Ok(Value::Diagram(settled))
+    }
+
+    // A value arrives where one is waited for.
+    fn value_arrives(
+        &mut self,
+        text: &Definitions,
+        frame: ForValue,
+        value: Value,
+    ) -> Result<Focus, EvalRefusal>
+        requires frame { ValuedShown (world text.now self.old) frame }
+        requires value { IsShown (world text.now self.old) value }
+        ensures { (F : Valuing) (v : Meant) → ShowsForValue (world text.now self.old) frame F → ShowsValue (world text.now self.old) value v
+            → Steps text.now self.old self.new result (λ Fs s. value_arrives text.now.tokens F v Fs s) }
+    {
+        match frame {
+            ForValue::Function { apply, env } => {
+                let done = Vec::new(self.alloc);
+                self.next_argument(text, apply, value, env, done)
+            }
+            ForValue::Argument {
+                apply,
+                function,
+                env,
+                mut done,
+            } => {
+                let settled = self.settle(value)?;
+                done.push(settled)?;
+                self.next_argument(text, apply, function, env, done)
+            }
+            ForValue::Leftover {
+                apply,
+                arguments,
+                next,
+            } => self.apply(text, apply, value, arguments, next),
+            ForValue::Parameter { slider, env, done } => {
+                self.parameter_arrives(text, slider, env, done, value)
+            }
+        }
+    }
+
+    /// A diagram arrives where one is waited for.
+    pub fn diagram_arrives(
+        &mut self,
+        text: &Definitions,
+        frame: ForDiagram,
+        diagram: DiagramId,
+    ) -> Result<Focus, EvalRefusal>
+        requires frame { DrawnThere (world text.now self.old) frame }
+        requires diagram { diagram < count_of self.old.drawing }
+        ensures { (F : Drawing) (d : Diagram) → ShowsForDiagram (world text.now self.old) frame F → Draws (world text.now self.old) diagram d
+            → Steps text.now self.old self.new result (λ Fs s. diagram_arrives text.now.tokens F d Fs s) }
+    {
+        match frame {
+            ForDiagram::Left { binary, env } => self.right(text, binary, env, diagram),
+            ForDiagram::Right { operator, left } => {
+                give(self.drawing.join(operator, left, diagram))
+            }
+            ForDiagram::Later => give(self.drawing.delay(diagram)),
+            ForDiagram::Negated => give(self.drawing.negate(diagram)),
+            ForDiagram::Ports(side) => self.ports(side, diagram),
+            ForDiagram::Binding { slot, slots } => {
+                give(self.drawing.bind_all(slot, slots, diagram))
+            }
+            ForDiagram::Turning {
+                function,
+                arguments,
+                next,
+                mut done,
+            } => {
+                done.push(diagram)?;
+                self.next_turned(function, arguments, next, done)
+            }
+            ForDiagram::Counting { iteration, env } => self.count(text, iteration, env, diagram),
+            ForDiagram::Body {
+                iteration,
+                env,
+                left,
+                mut done,
+            } => {
+                done.push(diagram)?;
+                self.next_body(text, iteration, env, left, done)
+            }
+            ForDiagram::Finish => Ok(Focus::Give(Value::Diagram(diagram))),
+        }
+    }
+
+    // The left part of a node of two parts is done; the right one is visited.
+    fn right(
+        &mut self,
+        text: &Definitions,
+        binary: TreeId,
+        env: u64,
+        left: DiagramId,
+    ) -> Result<Focus, EvalRefusal>
+        requires { binary < size_of text.now }
+        ensures { (s : ℕ) (o : Op) (x y : Tree) (E : Env) (a : Diagram) → ShowsTree (world text.now self.old) binary (Binary s o x y) → ShowsEnv (world text.now self.old) env E
+            → Draws (world text.now self.old) left a → Steps text.now self.old self.new result (λ Fs t. Running (Visit y E) (Drawn (Right o a) ∷ Fs) t) }
+    {
+        let TreeNode::Binary(operator, _, y) = text.tree().node(binary) else {
+            return Err(EvalRefusal::NoMemory);
+        };
+        let frame = ForDiagram::Right {
+            operator: *operator,
+            left,
+        };
+        self.wait(Frame::Drawn(frame), *y, env)
+    }
+
+    // The number of a diagram's inputs or outputs.
+    fn ports(&mut self, side: Side, diagram: DiagramId) -> Result<Focus, EvalRefusal>
+        requires { diagram < count_of self.old.drawing }
+        ensures { (p : Parsed) (d : Diagram) → Draws (world p self.old) diagram d → Steps p self.old self.new result (λ Fs s. Running (Give (Flat (ports side d))) Fs s) }
+    {
+        let arity = self.drawing.arity(diagram);
+        match side {
+            Side::Inputs => self.constant(arity.inputs as i32),
+            Side::Outputs => self.constant(arity.outputs as i32),
+        }
+    }
+}
+
+/// A diagram that was put is given; a refusal stays.
+pub fn give(whole: Result<DiagramId, EvalRefusal>) -> Result<Focus, EvalRefusal>
+    ensures { result ≡ gave whole }
+{
+    match whole {
+        Ok(id) => Ok(Focus::Give(Value::Diagram(id))),
+        Err(refusal) => Err(refusal),
+    }
+}

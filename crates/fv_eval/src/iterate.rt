@@ -1,0 +1,104 @@
+// Iteration.
+
+ghost use Rattle.std.specs.Prelude.{ℕ, ◌≡◌, ◌<◌, List, length};
+ghost use Rattle.fv_grammar.specs.Tree.{Tree as Spelled, Iteration, start_of};
+ghost use Rattle.fv_grammar.specs.declared.form.Iteration.{Iteration as Repetition};
+ghost use Rattle.fv_parse.specs.Trees.{size_of, text_of, tree_in};
+ghost use Rattle.fv_diagram.specs.Diagram.{Diagram};
+ghost use Rattle.fv_diagram.specs.Arena.{count_of};
+ghost use Rattle.fv_rules.specs.Values.{Env, Name};
+ghost use Rattle.fv_rules.specs.Numbers.{number_of};
+ghost use Rattle.fv_rules.specs.Steps.{no_number};
+ghost use Rattle.fv_rules.specs.Rules.{counted};
+ghost use Rattle.fv_rules.specs.Shows.{Draws, ShowsEnv, ShowsTree};
+ghost use Rattle.fv_machine.specs.Machine.{first_body, next_body};
+ghost use Rattle.fv_compose.specs.Makes.{AreThere};
+ghost use Rattle.fv_eval.specs.Frames.{ShowsBodies, Steps, world};
+
+use crate::arrive::give;
+use crate::frame::{Focus, ForDiagram, Frame};
+use crate::machine::Machine;
+use crate::names::canonical;
+use fv_diagram::{DiagramId, Node};
+use fv_parse::{Tree, TreeId, TreeNode};
+use fv_rules::{Definitions, EvalRefusal, Value};
+
+impl Machine {
+    /// The count of an iteration arrives, and its first body is visited.
+    pub fn count(
+        &mut self,
+        text: &Definitions,
+        iteration: TreeId,
+        env: u64,
+        diagram: DiagramId,
+    ) -> Result<Focus, EvalRefusal>
+        requires iteration { iteration < size_of text.now }
+        requires diagram { diagram < count_of self.old.drawing }
+        ensures { (s : ℕ) (r : Repetition) (n : ℕ) (c b : Spelled) (E : Env) (d : Diagram) → ShowsTree (world text.now self.old) iteration (Iteration s r n c b)
+            → ShowsEnv (world text.now self.old) env E → Draws (world text.now self.old) diagram d
+            → Steps text.now self.old self.new result (λ Fs t. first_body r (text_of text.now.tokens n) b E (counted text.now.tokens (start_of c) (number_of d) t) Fs) }
+    {
+        let tree = text.tree();
+        let TreeNode::Iteration(_, _, x, _) = tree.node(iteration) else {
+            return Err(EvalRefusal::NoMemory);
+        };
+        match self.drawing.number_of(self.alloc, diagram)? {
+            None => Err(not_a_number(tree, *x)),
+            Some(n) => {
+                if n < 1 {
+                    return Err(EvalRefusal::IterationCount { count: n });
+                }
+                let done = Vec::new(self.alloc);
+                self.next_body(text, iteration, env, n as u64, done)
+            }
+        }
+    }
+
+    /// The next body of an iteration is visited, or the bodies are put together.
+    pub fn next_body(
+        &mut self,
+        text: &Definitions,
+        iteration: TreeId,
+        env: u64,
+        left: u64,
+        done: Vec<DiagramId>,
+    ) -> Result<Focus, EvalRefusal>
+        requires iteration { iteration < size_of text.now }
+        requires done { AreThere self.old.drawing done.items }
+        ensures { (r : Repetition) (x : Name) (b : Spelled) (E : Env) (ds : List Diagram) → ShowsBodies (world text.now self.old) iteration env done.items r x b E ds
+            → Steps text.now self.old self.new result (λ Fs t. next_body r x b E (length done.items) left ds Fs t) }
+    {
+        let tree = text.tree();
+        let TreeNode::Iteration(kind, name, _, body) = tree.node(iteration) else {
+            return Err(EvalRefusal::NoMemory);
+        };
+        if left == 0 {
+            return give(self.drawing.gather(*kind, done));
+        }
+        let Ok(index) = i32::try_from(done.len()) else {
+            return Err(EvalRefusal::NoMemory);
+        };
+        let number = self.drawing.leaf(&Node::Number(index))?;
+        let name = canonical(tree, *name);
+        let inner = self.scopes.bind(name, Value::Diagram(number), env)?;
+        let frame = ForDiagram::Body {
+            iteration,
+            env,
+            left: left - 1,
+            done,
+        };
+        self.wait(Frame::Drawn(frame), *body, inner)
+    }
+}
+
+/// What begins there has no number.
+pub fn not_a_number(tree: &Tree, id: TreeId) -> EvalRefusal
+    requires { id < size_of tree.now }
+    ensures { result ≡ no_number tree.now.tokens (start_of (tree_in tree.now id)) }
+{
+    let place = tree.place(id);
+    EvalRefusal::NotANumber {
+        line: place.line,
+        column: place.column,
+    }
+}

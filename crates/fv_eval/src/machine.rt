@@ -1,0 +1,132 @@
+// The machine: its lists, and one step.
+
+ghost use Rattle.std.specs.Prelude.{ℕ, ◌≡◌, ◌<◌, ◌-◌, [], ◌∷◌, MatchBool};
+ghost use Rattle.fv_grammar.specs.Tree.{Tree};
+ghost use Rattle.fv_parse.specs.Trees.{Parsed};
+ghost use Rattle.fv_diagram.specs.Arena.{empty_arena};
+ghost use Rattle.fv_rules.specs.Values.{Env, Name, Scope, Value as Meant};
+ghost use Rattle.fv_rules.specs.Steps.{Outcome};
+ghost use Rattle.fv_rules.specs.Shows.{IsNamed, ShowsEnv, ShowsTree};
+ghost use Rattle.fv_machine.specs.Machine.{Call, Config, Frame as Waiting, Running, Visit, step};
+ghost use Rattle.fv_eval.specs.Frames.{Continues, Ends, Goes, Runs, ShowsFrame, Steps, state_of, world};
+
+use crate::controls::Controls;
+use crate::frame::{Focus, Frame, Frames};
+use fv_compose::Drawing;
+use fv_machine::steps_mean;
+use fv_parse::TreeId;
+use fv_rules::{Definitions, EvalRefusal, Scopes, Value};
+use std::alloc::Global;
+
+/// The lists of an evaluation.
+#[derive(Drop)]
+pub struct Machine {
+    pub alloc: Global,
+    pub drawing: Drawing,
+    pub scopes: Scopes,
+    pub controls: Controls,
+    pub frames: Frames,
+    /// The visits that are left.
+    pub visits: u32,
+    /// The next slot.
+    pub slot: u64,
+}
+
+impl Machine {
+    /// A machine with so many visits, in which nothing waits.
+    pub fn new(alloc: Global, visits: u32) -> Machine
+        ensures { (result.drawing ≡ empty_arena) × (result.scopes ≡ record { scopes = []; taken = [] })
+            × (result.frames ≡ []) × (state_of result ≡ record { visits = visits; controls = []; slot = 0 }) }
+    {
+        Machine {
+            alloc,
+            drawing: Drawing::new(alloc),
+            scopes: Scopes::new(alloc),
+            controls: Controls::new(alloc),
+            frames: Frames::new(alloc),
+            visits,
+            slot: 0,
+        }
+    }
+
+    /// A tree is visited, and this waits for it.
+    pub fn wait(&mut self, frame: Frame, id: TreeId, env: u64) -> Result<Focus, EvalRefusal>
+        ensures { (p : Parsed) (F : Waiting) (x : Tree) (E : Env) → ShowsFrame (world p self.old) frame F → ShowsTree (world p self.old) id x → ShowsEnv (world p self.old) env E
+            → Steps p self.old self.new result (λ Fs s. Running (Visit x E) (F ∷ Fs) s) }
+    {
+        self.frames.push(frame)?;
+        Ok(Focus::Visit { id, env })
+    }
+
+    /// A name is called, and this waits for it.
+    pub fn wait_for_name(&mut self, frame: Frame, name: u64, env: u64) -> Result<Focus, EvalRefusal>
+        ensures { (p : Parsed) (F : Waiting) (x : Name) (E : Env) → ShowsFrame (world p self.old) frame F → IsNamed (world p self.old) name x → ShowsEnv (world p self.old) env E
+            → Steps p self.old self.new result (λ Fs s. Running (Call x E) (F ∷ Fs) s) }
+    {
+        self.frames.push(frame)?;
+        Ok(Focus::Call { name, env })
+    }
+
+    /// A tree is visited among definitions.
+    pub fn visit_among(&mut self, list: TreeId, id: TreeId, env: u64) -> Result<Focus, EvalRefusal>
+        ensures { (p : Parsed) (ds x : Tree) (E : Env) → ShowsTree (world p self.old) list ds → ShowsTree (world p self.old) id x → ShowsEnv (world p self.old) env E
+            → Steps p self.old self.new result (λ Fs s. Running (Visit x (Scope ds E)) Fs s) }
+    {
+        let inner = self.scopes.open(list, env)?;
+        Ok(Focus::Visit { id, env: inner })
+    }
+
+    // A visit is spent. Where none was left this tells so.
+    fn spend(&mut self) -> bool
+        ensures left { MatchBool result (0 < self.old.visits) (self.old.visits ≡ 0) }
+        ensures spent { self.new ≡ record self.old { visits = self.old.visits - 1 } }
+    {
+        if self.visits == 0 {
+            return false;
+        }
+        self.visits -= 1;
+        true
+    }
+
+    /// One step.
+    pub fn step(&mut self, text: &Definitions, focus: Focus) -> Result<Focus, EvalRefusal>
+        requires { Runs text.now self.old focus }
+        ensures { (c : Config) → Goes text.now self.old (Ok focus) c → Goes text.now self.new result (step text.now.tokens c) }
+    {
+        match focus {
+            Focus::Visit { id, env } => {
+                if self.spend() {
+                    self.visit(text, id, env)
+                } else {
+                    Err(EvalRefusal::EvalBudget)
+                }
+            }
+            Focus::Call { name, env } => {
+                if self.spend() {
+                    self.name(text, name, env)
+                } else {
+                    Err(EvalRefusal::EvalBudget)
+                }
+            }
+            Focus::Give(value) => self.arrive(text, value),
+            Focus::Done(value) => Ok(Focus::Done(value)),
+        }
+    }
+    /// Steps from here until the machine is done or refused.
+    pub fn run(&mut self, text: &Definitions, first: Focus) -> Result<Value, EvalRefusal>
+        requires { Runs text.now self.old first }
+        ensures { (o : Outcome Meant) → Continues text.now.tokens text.now self.old (Ok first) o → Ends text.now self.new result o }
+    {
+        steps_mean();
+        let mut focus = first;
+        // The steps of an evaluation never end this range.
+        'stepping: for _ in 0..u64::MAX {
+            match self.step(text, focus) {
+                Ok(Focus::Done(value)) => return Ok(value),
+                Ok(next) => focus = next,
+                Err(refusal) => return Err(refusal),
+            }
+        }
+        Err(EvalRefusal::NoMemory)
+    }
+}

@@ -1,0 +1,183 @@
+// Buttons, checkboxes and sliders.
+
+ghost use Rattle.std.specs.Prelude.{ℕ, ◌≡◌, ◌<◌, ◌∷◌, List, IfOk, IfSome, length, option_map, slice_get};
+ghost use Rattle.fv_grammar.specs.Tree.{Tree as Spelled, Slider as SliderTree, start_of};
+ghost use Rattle.fv_grammar.specs.declared.form.Slider.{Slider as SliderKind};
+ghost use Rattle.fv_parse.specs.Trees.{Parsed, label_of, size_of, tree_in};
+ghost use Rattle.fv_rules.specs.Values.{Env, Value as Meant};
+ghost use Rattle.fv_rules.specs.Matching.{value_number};
+ghost use Rattle.fv_rules.specs.Steps.{control};
+ghost use Rattle.fv_rules.specs.Rules.{flat, read_number, slider_info, slider_kind, switch_info, switch_kind};
+ghost use Rattle.fv_rules.specs.Shows.{ShowsValue};
+ghost use Rattle.fv_compose.specs.Makes.{IsThere as IsDrawn};
+ghost use Rattle.fv_machine.specs.Machine.{given, next_parameter, parameter_read};
+ghost use Rattle.fv_eval.specs.Frames.{IsThere, ShowsSlider, Steps, parameters_of, world};
+
+use crate::frame::{Focus, ForValue, Frame};
+use crate::iterate::not_a_number;
+use crate::machine::Machine;
+use fv_diagram::{ControlInfo, ControlKind, Label, Node};
+use fv_grammar::{Slider, Switch};
+use fv_parse::{Tree, TreeId, TreeNode};
+use fv_rules::{Definitions, EvalRefusal, Value};
+use std::alloc::AllocError;
+
+// The kind of control that a word of the grammar makes.
+fn switch_kind(kind: Switch) -> ControlKind
+    ensures { result ≡ switch_kind kind }
+{
+    match kind {
+        Switch::Button => ControlKind::Button,
+        Switch::Checkbox => ControlKind::Checkbox,
+    }
+}
+
+// The same of the words with four parameters.
+fn slider_kind(kind: Slider) -> ControlKind
+    ensures { result ≡ slider_kind kind }
+{
+    match kind {
+        Slider::Horizontal => ControlKind::HSlider,
+        Slider::Vertical => ControlKind::VSlider,
+        Slider::Number => ControlKind::NEntry,
+    }
+}
+
+// Parameter `i` of a slider: init, min, max, step; `None` behind them.
+fn part_of(tree: &Tree, slider: TreeId, i: usize) -> Option<TreeId>
+    requires { slider < size_of tree.now }
+    ensures part { option_map (tree_in tree.now) result ≡ slice_get (parameters_of (tree_in tree.now slider)) i }
+    ensures inside { IfSome result (λ id. id < size_of tree.now) }
+{
+    match tree.node(slider) {
+        TreeNode::Slider(_, _, init, min, max, step) => match i {
+            0 => Some(*init),
+            1 => Some(*min),
+            2 => Some(*max),
+            3 => Some(*step),
+            _ => None,
+        },
+        _ => None,
+    }
+}
+
+impl Machine {
+    // A control is given.
+    fn control(&mut self, info: ControlInfo) -> Result<Focus, EvalRefusal>
+        ensures { (p : Parsed) → Steps p self.old self.new result (λ Fs s. given (flat (control info) s) Fs) }
+    {
+        match self.controls.enter(info) {
+            Ok(number) => {
+                let id = self.drawing.leaf(&Node::Control(number))?;
+                Ok(Focus::Give(Value::Diagram(id)))
+            }
+            Err(refusal) => Err(refusal),
+        }
+    }
+
+    /// A button or a checkbox.
+    pub fn switch(&mut self, kind: Switch, label: &[u8]) -> Result<Focus, EvalRefusal>
+        ensures { (p : Parsed) → Steps p self.old self.new result (λ Fs s. given (flat (control (switch_info (switch_kind kind) label.now)) s) Fs) }
+    {
+        let label = Label::new(self.alloc, label)?;
+        self.control(ControlInfo {
+            kind: switch_kind(kind),
+            label,
+            init: 0,
+            min: 0,
+            max: 1,
+        })
+    }
+
+    /// The next parameter of a slider is visited, or the slider is given.
+    pub fn next_parameter(
+        &mut self,
+        text: &Definitions,
+        slider: TreeId,
+        env: u64,
+        done: Vec<i32>,
+    ) -> Result<Focus, EvalRefusal>
+        requires { slider < size_of text.now }
+        ensures { (k : SliderKind) (label : List ℕ) (E : Env) (xs : List Spelled) → ShowsSlider (world text.now self.old) slider env (length done.items) k label E xs
+            → Steps text.now self.old self.new result (λ Fs s. next_parameter (slider_kind k) label xs E done.items Fs s) }
+    {
+        let tree = text.tree();
+        match part_of(tree, slider, done.len()) {
+            Some(id) => {
+                let frame = ForValue::Parameter { slider, env, done };
+                self.wait(Frame::Valued(frame), id, env)
+            }
+            None => self.finish_slider(tree, slider, done.as_slice()),
+        }
+    }
+
+    // A slider whose parameters are known.
+    fn finish_slider(
+        &mut self,
+        tree: &Tree,
+        slider: TreeId,
+        numbers: &[i32],
+    ) -> Result<Focus, EvalRefusal>
+        requires { slider < size_of tree.now }
+        ensures { (s : ℕ) (k : SliderKind) (n : ℕ) (x0 x1 x2 x3 : Spelled) → tree_in tree.now slider ≡ SliderTree s k n x0 x1 x2 x3
+            → Steps tree.now self.old self.new result (λ Fs t. given (flat (control (slider_info (slider_kind k) (label_of tree.now.tokens n) numbers.now)) t) Fs) }
+    {
+        let TreeNode::Slider(kind, n, _, _, _, _) = tree.node(slider) else {
+            return Err(EvalRefusal::NoMemory);
+        };
+        let [init, min, max, ..] = numbers else {
+            return Err(EvalRefusal::NoMemory);
+        };
+        let label = Label::new(self.alloc, tree.label(*n))?;
+        self.control(ControlInfo {
+            kind: slider_kind(*kind),
+            label,
+            init: *init,
+            min: *min,
+            max: *max,
+        })
+    }
+
+    // The number of a value; `None` where it has none.
+    fn number_in(&mut self, value: Value) -> Result<Option<i32>, AllocError>
+        requires { IsDrawn self.old.drawing value }
+        ensures number { IfOk result (λ o. (p : Parsed) (v : Meant) → ShowsValue (world p self.old) value v → o ≡ value_number v) }
+        ensures same { self.new ≡ self.old }
+    {
+        match value {
+            Value::Diagram(id) => self.drawing.number_of(self.alloc, id),
+            Value::Abstraction { .. } | Value::Rules { .. } => Ok(None),
+        }
+    }
+
+    /// A parameter of a slider arrives.
+    pub fn parameter_arrives(
+        &mut self,
+        text: &Definitions,
+        slider: TreeId,
+        env: u64,
+        mut done: Vec<i32>,
+        value: Value,
+    ) -> Result<Focus, EvalRefusal>
+        requires slider { slider < size_of text.now }
+        requires value { IsThere (world text.now self.old) value }
+        ensures { (k : SliderKind) (label : List ℕ) (E : Env) (x : Spelled) (more : List Spelled) (v : Meant)
+            → ShowsSlider (world text.now self.old) slider env (length done.items) k label E (x ∷ more) → ShowsValue (world text.now self.old) value v
+            → Steps text.now self.old self.new result
+            (λ Fs s. parameter_read (slider_kind k) label more E done.items (read_number text.now.tokens (start_of x) (value_number v) s) Fs) }
+    {
+        match self.number_in(value)? {
+            Some(n) => {
+                done.push(n)?;
+                self.next_parameter(text, slider, env, done)
+            }
+            None => {
+                let tree = text.tree();
+                match part_of(tree, slider, done.len()) {
+                    Some(id) => Err(not_a_number(tree, id)),
+                    None => Err(EvalRefusal::NoMemory),
+                }
+            }
+        }
+    }
+}

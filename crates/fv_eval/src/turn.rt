@@ -1,0 +1,141 @@
+// Values that are turned into diagrams.
+
+ghost use Rattle.std.specs.Prelude.{ℕ, ◌≡◌, ◌<◌, ◌-◌, ◌+◌, List, IfOk, drop, length};
+ghost use Rattle.fv_grammar.specs.Tree.{start_of};
+ghost use Rattle.fv_parse.specs.Trees.{Parsed, size_of, tree_in};
+ghost use Rattle.fv_diagram.specs.Diagram.{Diagram};
+ghost use Rattle.fv_diagram.specs.Arena.{count_of};
+ghost use Rattle.fv_rules.specs.Values.{Env, Value as Meant};
+ghost use Rattle.fv_rules.specs.Steps.{no_diagram};
+ghost use Rattle.fv_rules.specs.Rules.{on_slots};
+ghost use Rattle.fv_rules.specs.Shows.{Draws, IsInside, ShowsEnv, ShowsValue, ShowsValues, begins_in, parameters_in};
+ghost use Rattle.fv_machine.specs.Machine.{ForDiagram as Drawing, next_turned, to_diagram};
+ghost use Rattle.fv_compose.specs.Makes.{AreThere};
+ghost use Rattle.fv_eval.specs.Frames.{AllDraw, DrawnThere, IsThere, ShowsForDiagram, Slots, Steps, world};
+
+use crate::arrive::give;
+use crate::frame::{Focus, ForDiagram, Frame};
+use crate::machine::Machine;
+use crate::names::{body_of, parameter, parameters};
+use fv_diagram::{DiagramId, Node};
+use fv_parse::{Tree, TreeId};
+use fv_rules::{Definitions, EvalRefusal, Ruled, Value};
+use std::alloc::AllocError;
+
+impl Machine {
+    /// A value arrives where a diagram is waited for. An abstraction is turned into one first.
+    pub fn turn(
+        &mut self,
+        text: &Definitions,
+        frame: ForDiagram,
+        value: Value,
+    ) -> Result<Focus, EvalRefusal>
+        requires frame { DrawnThere (world text.now self.old) frame }
+        requires value { IsThere (world text.now self.old) value }
+        ensures { (F : Drawing) (v : Meant) → ShowsForDiagram (world text.now self.old) frame F → ShowsValue (world text.now self.old) value v
+            → Steps text.now self.old self.new result (λ Fs s. to_diagram text.now.tokens F v Fs s) }
+    {
+        match value {
+            Value::Diagram(id) => self.diagram_arrives(text, frame, id),
+            Value::Abstraction { node, bound, env } => {
+                let tree = text.tree();
+                let slot = self.slot;
+                let count = parameters(tree, node);
+                let inner = self.on_slots(tree, node, bound, count, env)?;
+                self.frames.push(Frame::Drawn(frame))?;
+                self.frames.push(Frame::Drawn(ForDiagram::Binding {
+                    slot,
+                    slots: count.saturating_sub(bound),
+                }))?;
+                Ok(Focus::Visit {
+                    id: body_of(tree, node),
+                    env: inner,
+                })
+            }
+            Value::Rules { ruled, .. } => Err(not_a_diagram(text.tree(), first_of(ruled))),
+        }
+    }
+
+    // The parameters that are left bound to new slots, in an environment.
+    fn on_slots(
+        &mut self,
+        tree: &Tree,
+        node: TreeId,
+        bound: u64,
+        count: u64,
+        env: u64,
+    ) -> Result<u64, AllocError>
+        requires { node < size_of tree.now }
+        ensures slots { IfOk result (λ e. Slots tree.now self.old self.new (count - bound)) }
+        ensures env { IfOk result (λ e. (E : Env) → count ≡ length (parameters_in tree.now.tokens (tree_in tree.now node)) → 0 < count → ShowsEnv (world tree.now self.old) env E
+            → ShowsEnv (world tree.now self.new) e (on_slots (drop bound (parameters_in tree.now.tokens (tree_in tree.now node))) self.old.slot E)) }
+    {
+        let mut inner = env;
+        'binding: for i in bound..count {
+            let Some(name) = parameter(tree, node, i) else {
+                return Err(AllocError);
+            };
+            let Some(next) = self.slot.checked_add(1) else {
+                return Err(AllocError);
+            };
+            let slot = self.drawing.leaf(&Node::Slot(self.slot))?;
+            inner = self.scopes.bind(name, Value::Diagram(slot), inner)?;
+            self.slot = next;
+        }
+        Ok(inner)
+    }
+
+    /// The next argument of a diagram is turned into a diagram, or the diagram is fed with all of them.
+    pub fn next_turned(
+        &mut self,
+        function: DiagramId,
+        arguments: Vec<Value>,
+        at: u64,
+        done: Vec<DiagramId>,
+    ) -> Result<Focus, EvalRefusal>
+        requires function { function < count_of self.old.drawing }
+        requires done { AreThere self.old.drawing done.items }
+        ensures { (p : Parsed) (f : Diagram) (vs : List Meant) (ds : List Diagram) → Draws (world p self.old) function f → ShowsValues (world p self.old) (drop at arguments.items) vs
+            → AllDraw (world p self.old) done.items ds → Steps p self.old self.new result (λ Fs s. next_turned f vs ds Fs s) }
+    {
+        match arguments.get(at as usize) {
+            Some(value) => {
+                let value = *value;
+                let Some(next) = at.checked_add(1) else {
+                    return Err(EvalRefusal::NoMemory);
+                };
+                self.frames.push(Frame::Drawn(ForDiagram::Turning {
+                    function,
+                    arguments,
+                    next,
+                    done,
+                }))?;
+                Ok(Focus::Give(value))
+            }
+            None => give(self.drawing.feed(function, done)),
+        }
+    }
+}
+
+// The node at which rules begin.
+fn first_of(ruled: Ruled) -> TreeId
+    ensures inside { (p : Parsed) → IsInside p ruled → result < size_of p }
+    ensures first { (p : Parsed) → start_of (tree_in p result) ≡ begins_in p ruled }
+{
+    match ruled {
+        Ruled::Case(id) => id,
+        Ruled::Definitions { first, .. } => first,
+    }
+}
+
+/// What begins there is no diagram.
+pub fn not_a_diagram(tree: &Tree, id: TreeId) -> EvalRefusal
+    requires { id < size_of tree.now }
+    ensures { result ≡ no_diagram tree.now.tokens (start_of (tree_in tree.now id)) }
+{
+    let place = tree.place(id);
+    EvalRefusal::NotADiagram {
+        line: place.line,
+        column: place.column,
+    }
+}

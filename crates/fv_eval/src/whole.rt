@@ -1,0 +1,144 @@
+// The evaluation of a whole program.
+
+ghost use Rattle.std.specs.Prelude.{ℕ, ◌≡◌, ◌⊎◌, ◌<◌, [], false, codes, filter, IfErr, IfNone, IfOk, IfSome, Ok, Err};
+ghost use Rattle.fv_grammar.specs.Tree.{items};
+ghost use Rattle.fv_parse.specs.Trees.{first_named, program_of, size_of, text_of, tree_in};
+ghost use Rattle.fv_diagram.specs.Diagram.{HasNumbers};
+ghost use Rattle.fv_diagram.specs.Arena.{count_of, tree_of};
+ghost use Rattle.fv_rules.specs.declared.refusal.EvalRefusal.TheVariants.{NoMemory};
+ghost use Rattle.fv_rules.specs.declared.value.Value.TheVariants.{Diagram};
+ghost use Rattle.fv_rules.specs.Values.{is_of};
+ghost use Rattle.fv_rules.specs.Rules.{program_value, start};
+ghost use Rattle.fv_rules.specs.Sound.{IsSoundProgram};
+ghost use Rattle.fv_machine.specs.Machine.{first, meaning};
+ghost use Rattle.fv_eval.specs.Frames.{Continues};
+ghost use Rattle.fv_eval.specs.Names.{defined_by};
+
+use crate::controls::Controls;
+use crate::frame::{Focus, ForDiagram, Frame};
+use crate::machine::Machine;
+use crate::names::canonical;
+use fv_base::Word;
+use fv_diagram::{DiagramId, Diagrams};
+use fv_machine::steps_mean;
+use fv_parse::{Tree, TreeId, TreeNode};
+use fv_rules::{Definitions, EvalRefusal, Value, evaluates_soundly};
+use std::alloc::{AllocError, Global};
+use std::marker::Model;
+
+/// The visits of an evaluation.
+const VISIT_LIMIT: u32 = 1_000_000;
+
+/// A program's diagram, with the arena that it is in, and its controls. It can run: the diagram is well formed, has no free
+/// slot and names only these controls.
+#[derive(Drop)]
+pub struct Program {
+    pub diagrams: Diagrams,
+    pub root: DiagramId,
+    pub controls: Controls,
+}
+
+impl Model for Program {
+    ghost use Rattle.std.specs.Prelude.{◌<◌};
+    ghost use Rattle.fv_diagram.specs.Arena.{count_of, tree_of};
+    ghost use Rattle.fv_rules.specs.Sound.{IsSoundProgram};
+    ghost use Rattle.fv_eval.specs.Evaluated.{Evaluated};
+
+    ghost Value = { Evaluated };
+
+    ghost view = { λ p. record { diagrams = p.diagrams; root = p.root; controls = p.controls } };
+
+    ghost invariant = { λ p. (p.root < count_of p.diagrams) × IsSoundProgram (tree_of p.diagrams p.root) p.controls };
+}
+
+// The name that a node defines.
+fn defined_by(tree: &Tree, id: TreeId) -> Option<u64>
+    requires { id < size_of tree.now }
+    ensures { result ≡ defined_by (tree_in tree.now id) }
+{
+    match tree.node(id) {
+        TreeNode::Constant(name, _) => Some(*name),
+        TreeNode::Function(name, _, _) => Some(*name),
+        _ => None,
+    }
+}
+
+// The canonical number of the name that a node defines, where that is `process`.
+fn process_at(tree: &Tree, id: TreeId) -> Option<u64>
+    requires { id < size_of tree.now }
+    ensures some { IfSome result (λ n. (text_of tree.now.tokens n ≡ codes "process") × (first_named tree.now.tokens n ≡ n)) }
+    ensures none { IfNone result (is_of tree.now.tokens (codes "process") (tree_in tree.now id) ≡ false) }
+{
+    let name = defined_by(tree, id)?;
+    if tree.is_process(name) {
+        Some(canonical(tree, name))
+    } else {
+        None
+    }
+}
+
+// The canonical number of the name `process`; `None` where the outermost definitions do not define it.
+fn process_name(tree: &Tree) -> Option<u64>
+    ensures some { IfSome result (λ n. (text_of tree.now.tokens n ≡ codes "process") × (first_named tree.now.tokens n ≡ n)) }
+    ensures none { IfNone result (filter (is_of tree.now.tokens (codes "process")) (items (program_of tree.now)) ≡ []) }
+{
+    'searching: for id in tree.items(tree.root()) {
+        if let Some(name) = process_at(tree, *id) {
+            return Some(name);
+        }
+    }
+    None
+}
+
+// A machine that calls `process` among the outermost definitions, and then wants its diagram.
+fn started(alloc: Global, tree: &Tree, name: u64) -> Result<(Machine, Focus), AllocError>
+    requires { (text_of tree.now.tokens name ≡ codes "process") × (first_named tree.now.tokens name ≡ name) }
+    ensures { IfOk result (λ x. Continues tree.now.tokens tree.now x.0 (Ok x.1) (meaning tree.now.tokens (first (program_of tree.now) start))) }
+{
+    let mut machine = Machine::new(alloc, VISIT_LIMIT);
+    let env = machine.scopes.open(tree.root(), 0)?;
+    machine.frames.push(Frame::Drawn(ForDiagram::Finish))?;
+    Ok((machine, Focus::Call { name, env }))
+}
+
+// The program of a machine that is done.
+fn finished(machine: Machine, value: Value) -> Result<Program, EvalRefusal>
+    requires { (i : ℕ) → value ≡ Diagram i → (i < count_of machine.drawing) × IsSoundProgram (tree_of machine.drawing i) machine.controls }
+    ensures program { IfOk result (λ p. (value ≡ Diagram p.root) × (p.diagrams ≡ machine.drawing) × (p.controls ≡ machine.controls)) }
+    ensures refusal { IfErr result (λ e. e ≡ NoMemory) }
+    ensures numbers { IfOk result (λ p. HasNumbers (tree_of p.diagrams p.root)) }
+{
+    let Value::Diagram(root) = value else {
+        return Err(EvalRefusal::NoMemory);
+    };
+    let diagrams = machine.drawing.finish();
+    // The arena says here that every number in the diagram has 32 bits.
+    let _arity = diagrams.arity(root);
+    Ok(Program {
+        diagrams,
+        root,
+        controls: machine.controls,
+    })
+}
+
+/// The diagram and the controls that a tree's `process` stands for, or the first refusal that the rules meet.
+pub fn evaluate(alloc: Global, tree: &Tree) -> Result<Program, EvalRefusal>
+    ensures program { IfOk result (λ p. program_value tree.now.tokens (program_of tree.now) ≡ Ok (tree_of p.diagrams p.root, p.controls)) }
+    ensures refusal { IfErr result (λ e. (e ≡ NoMemory) ⊎ (program_value tree.now.tokens (program_of tree.now) ≡ Err e)) }
+    // What can run: from the type's invariant, said again for readers.
+    ensures sound { IfOk result (λ p. (p.root < count_of p.diagrams) × IsSoundProgram (tree_of p.diagrams p.root) p.controls) }
+    ensures numbers { IfOk result (λ p. HasNumbers (tree_of p.diagrams p.root)) }
+{
+    steps_mean();
+    evaluates_soundly();
+    let text = Definitions::new(alloc, tree)?;
+    let Some(name) = process_name(tree) else {
+        let name = Word::new(alloc, b"process")?;
+        return Err(EvalRefusal::UnknownName { name });
+    };
+    let (mut machine, first) = started(alloc, tree, name)?;
+    match machine.run(&text, first) {
+        Ok(value) => finished(machine, value),
+        Err(refusal) => Err(refusal),
+    }
+}

@@ -1,0 +1,14 @@
+use Rattle.std.proofs.Common.{suc, ◌+◌, ◌-◌, ◌*◌, ◌≤◌, length, refl, arith, mul-le-mul_right, suc-mul}
+use Rattle.fv_turns.specs.Outputs.{sample_of}
+use Rattle.fv_turns.proofs.Copies.{frame_more}
+use Rattle.fv_turns.proofs.outputs.copy_outputs.Goals as goal
+
+pub copy_frame-requires-clause-there : goal.copy_frame-requires-clause-there
+copy_frame-requires-clause-there g c = c.requires.there c.loop-t.t c.loop-t-test.true
+
+pub loop-t-preserved : goal.loop-t-preserved
+loop-t-preserved g c = record {
+  same = let w = length c.args.lanes.now in let n = c.loop-t.t in
+      frame_more n (n * w + w - n * w) w c.loop-t.output (λ t l. sample_of (g.S.Store.lanes c.args.store.now) t l) c.args.lanes.now c.copy_frame.new.frame refl c.copy_frame.ensures
+      (let q : suc n * w ≤ c.args.frames * w = mul-le-mul_right w c.loop-t-test.true in let r = suc-mul n w in let a = c.loop-t.auto.output in let b = c.requires.long in omega (arith, q, r, a, b)) c.loop-t.invariant.same;
+}

@@ -1,0 +1,5 @@
+pub mod Block
+pub mod Jobs
+pub mod Events
+pub mod Underway
+pub mod Outputs
