@@ -178,8 +178,8 @@ fn applied_rules(rt: HostRuntime) -> Result<(), Fail> {
             "0 to 2: (1,2)",
         ),
         (
-            b"count((x,xs)) = 1 + count(xs); count(x) = 1; process = count((4,5,6));",
-            "0 to 1: ((1,((1,1):Point(Add))):Point(Add))",
+            b"last((a,rest)) = last(rest); last(a) = a; process = last((7,8,9));",
+            "0 to 1: 9",
         ),
     ];
     for (text, expected) in table {

@@ -58,8 +58,8 @@ fn refusals(rt: HostRuntime) -> Result<(), Fail> {
             "TooManyArguments { given: 3, inputs: 2 }",
         ),
         (
-            b"process = hslider(\"g\",0,0,1,1) + hslider(\"g\",0,0,2,1);",
-            "ControlClash g",
+            b"process = nentry(\"level\",2,1,5,1), nentry(\"level\",2,1,6,1);",
+            "ControlClash level",
         ),
         (
             b"process = button(\"g\"), checkbox(\"g\");",
