@@ -1,9 +1,7 @@
 -- How a core begins: the lists that are made, and the deal.
-use Rattle.std.proofs.Common.{◌≡◌, ◌≢◌, ℕ, zero, suc, ◌+◌, ◌-◌, ◌*◌, ◌/◌, ◌%◌, ◌<◌, ◌≤◌, Bool, true, false, cond, List, [], ◌∷◌, ◌++◌, map, length, replicate, get_or, set, refl, sym, ap, ◌∙◌, subst, arith, ◌==◌, length-set, suc-mul, mod-lt, div-add-mod'}
+use Rattle.std.proofs.Common.{◌≡◌, ℕ, zero, suc, ◌+◌, ◌-◌, ◌*◌, ◌/◌, ◌%◌, ◌<◌, ◌≤◌, Bool, true, false, cond, List, [], ◌∷◌, ◌++◌, map, length, replicate, get_or, set, refl, sym, ap, ◌∙◌, subst, arith, suc-mul, mod-lt, div-add-mod'}
 use Rattle.std.proofs.lemmas.List.{map-append}
 use Rattle.std.proofs.Math.Nat.{mod-eq_of_lt}
-use mathlib.Core.Logic.{dite}
-use native.Mathlib.Decide.{ℕ_discrete, dec_le}
 use Rattle.fv_graph.specs.Words.{passing}
 use Rattle.fv_graph.proofs.Counts.{get_set}
 use Rattle.fv_graph.proofs.Graphs.{unique}
@@ -41,20 +39,24 @@ dealt_turn workers k (t ∷ ts) ds some =
 
 dealt_turns : (workers q k : ℕ) (ts : List ℕ) (ds : List (List ℕ)) → 0 < workers → dealt workers (q * workers + k) ts ds ≡ dealt workers k ts ds
 dealt_turns workers zero k ts ds some = ap (λ j. dealt workers j ts ds) (omega arith)
-dealt_turns workers (suc q) k ts ds some = ap (λ j. dealt workers j ts ds) (let m = suc-mul q workers in let e : suc q * workers + k ≡ q * workers + k + workers = omega arith in e) ∙ dealt_turn workers (q * workers + k) ts ds some ∙ dealt_turns workers q k ts ds some
+dealt_turns workers (suc q) k ts ds some = ap (λ j. dealt workers j ts ds) (let m = suc-mul q workers in
+    let e : suc q * workers + k ≡ q * workers + k + workers = omega arith in e) ∙ dealt_turn workers (q * workers + k) ts ds some
+    ∙ dealt_turns workers q k ts ds some
 
 dealt_mod : (workers k : ℕ) (ts : List ℕ) (ds : List (List ℕ)) → 0 < workers → dealt workers k ts ds ≡ dealt workers (k % workers) ts ds
 dealt_mod workers k ts ds some = ap (λ j. dealt workers j ts ds) (sym (div-add-mod' k workers)) ∙ dealt_turns workers (k / workers) (k % workers) ts ds some
 
 -- one task more is looked at
-dealt_chosen : (b : Bool) (workers w t : ℕ) (rest : List ℕ) (ds : List (List ℕ)) → w < workers → dealt workers (cond b ((w + 1) % workers) w) rest (cond b (set ds w (get_or ds w [] ++ t ∷ [])) ds) ≡ dealt workers w (cond b (t ∷ rest) rest) ds
+dealt_chosen : (b : Bool) (workers w t : ℕ) (rest : List ℕ) (ds : List (List ℕ)) → w < workers
+    → dealt workers (cond b ((w + 1) % workers) w) rest (cond b (set ds w (get_or ds w [] ++ t ∷ [])) ds) ≡ dealt workers w (cond b (t ∷ rest) rest) ds
 dealt_chosen true workers w t rest ds h =
     sym (dealt_mod workers (w + 1) rest (set ds w (get_or ds w [] ++ t ∷ [])) (omega arith))
     ∙ ap (λ j. dealt workers j rest (set ds w (get_or ds w [] ++ t ∷ []))) (let q : w + 1 ≡ suc w = omega arith in q)
     ∙ ap (λ j. dealt workers (suc w) rest (set ds j (get_or ds j [] ++ t ∷ []))) (sym (mod-eq_of_lt h))
 dealt_chosen false workers w t rest ds h = refl
 
-pub dealt_next : (p : ℕ → Bool) (workers w t n : ℕ) (ds es : List (List ℕ)) (v : ℕ) → w < workers → t < n → v ≡ cond (p t) ((w + 1) % workers) w → es ≡ cond (p t) (set ds w (get_or ds w [] ++ t ∷ [])) ds
+pub dealt_next : (p : ℕ → Bool) (workers w t n : ℕ) (ds es : List (List ℕ)) (v : ℕ) → w < workers → t < n → v ≡ cond (p t) ((w + 1) % workers) w
+    → es ≡ cond (p t) (set ds w (get_or ds w [] ++ t ∷ [])) ds
     → dealt workers v (passing p (t + 1) (n - (t + 1))) es ≡ dealt workers w (passing p t (n - t)) ds
 dealt_next p workers w t n ds es v h l a b =
     ap (λ k. dealt workers k (passing p (t + 1) (n - (t + 1))) es) a
@@ -64,7 +66,8 @@ dealt_next p workers w t n ds es v h l a b =
     ∙ ap (λ k. dealt workers w (passing p t k) ds) (let q : suc (n - (t + 1)) ≡ n - t = omega arith in q)
 
 -- no deque holds more than the tasks that were looked at
-pub no_longer : (b : Bool) (ds es : List (List ℕ)) (w t : ℕ) → w < length ds → ((v : ℕ) → length (get_or ds v []) ≤ t) → es ≡ cond b (set ds w (get_or ds w [] ++ t ∷ [])) ds → (v : ℕ) → length (get_or es v []) ≤ t + 1
+pub no_longer : (b : Bool) (ds es : List (List ℕ)) (w t : ℕ) → w < length ds → ((v : ℕ) → length (get_or ds v []) ≤ t)
+    → es ≡ cond b (set ds w (get_or ds w [] ++ t ∷ [])) ds → (v : ℕ) → length (get_or es v []) ≤ t + 1
 no_longer true ds es w t h short is v = subst (λ xs. length (get_or xs v []) ≤ t + 1) (sym is) (get_set (λ z. length z ≤ t + 1) ds w v (get_or ds w [] ++ t ∷ []) [] h
     (λ _. let s = short w in let p = pushed (get_or ds w []) t in omega arith) (λ _. let s = short v in omega arith))
   where

@@ -35,7 +35,8 @@ few n xs once below = let a = counted_by n xs below in let b = at_most (λ x. ti
 -- and one fewer where a number below n is not among them
 pub fewer : (n t : ℕ) (xs : List ℕ) → ((x : ℕ) → times x xs ≤ 1) → ((x : ℕ) → n ≤ x → times x xs ≡ 0) → t < n → times t xs ≡ 0 → length xs < n
 fewer n t xs once below there none = few n (t ∷ xs)
-    (λ x. dite (ℕ_discrete t x) (λ e. let b = bit_same t x e in let z : times x xs ≡ 0 = ap (λ i. times i xs) (sym e) ∙ none in omega arith) (λ ne. let b = bit_apart t x ne in let o = once x in omega arith))
+    (λ x. dite (ℕ_discrete t x) (λ e. let b = bit_same t x e in let z : times x xs ≡ 0 = ap (λ i. times i xs) (sym e) ∙ none in
+    omega arith) (λ ne. let b = bit_apart t x ne in let o = once x in omega arith))
     (λ x l. let b = bit_apart t x (λ e. omega arith) in let z = below x l in omega arith)
 
 -- a task whose count is above 0 lies in no deque, so each deque has fewer than all
@@ -44,7 +45,8 @@ deque_room n workers s h w t hw there some_count =
     let wd : w < length s.deques = let l = h.deques_long in omega arith in
     let one : (x : ℕ) → times x (deque_of s w) ≤ total (times x) s.deques = λ x. total_at (times x) s.deques w [] wd in
     fewer n.tasks t (deque_of s w)
-    (λ x. dite (dec_le n.tasks x) (λ l. let p = h.inside x l in let o = one x in omega arith) (λ l. let p = h.placed x (omega arith) in let o = one x in let b = bit_le (count_of s x == 0) in omega arith))
+    (λ x. dite (dec_le n.tasks x) (λ l. let p = h.inside x l in let o = one x in omega arith) (λ l. let p = h.placed x (omega arith) in
+    let o = one x in let b = bit_le (count_of s x == 0) in omega arith))
     (λ x l. let p = h.inside x l in let o = one x in omega arith)
     there
     (let p = h.placed t there in let o = one t in let z = ap bit (Rattle.std.proofs.Common.ne_eqb (count_of s t) 0 (λ q. omega arith)) in omega arith)

@@ -35,13 +35,15 @@ same_now s t a b c d e f = λ i. record { counts = a i; done = b i; deques = c i
 pub legal_in : (r q : Running) (e : Event) → r ≡ q → is_legal (net_of q.tasks) q.now e ≡ true → is_legal (net_of r.tasks) r.now e ≡ true
 legal_in r q e same h = subst (λ (x : Running). is_legal (net_of x.tasks) x.now e ≡ true) (sym same) h
 
-pub stored_after : (c d : Inside) (e : Event) → IsStored c → is_legal (net_of c.seen.value.tasks) (now_of c) e ≡ true → SameRoom c d → now_of d ≡ after (net_of c.seen.value.tasks) (now_of c) e → IsStored d
+pub stored_after : (c d : Inside) (e : Event) → IsStored c → is_legal (net_of c.seen.value.tasks) (now_of c) e ≡ true → SameRoom c d
+    → now_of d ≡ after (net_of c.seen.value.tasks) (now_of c) e → IsStored d
 stored_after c d e i legal same is =
     let s = sound_after (net_of c.seen.value.tasks) (is_net c.seen.value.tasks i.graph) c.workers (now_of c) e i.sound legal in
     record {
       graph = subst (λ (g : Tasks). IsGraph g) (sym same.tasks) i.graph;
       sound = subst (λ (g : Tasks). IsSound (net_of g) d.workers (now_of d)) (sym same.tasks)
-          (subst (λ (n : Now). IsSound (net_of c.seen.value.tasks) d.workers n) (sym is) (subst (λ w. IsSound (net_of c.seen.value.tasks) w (after (net_of c.seen.value.tasks) (now_of c) e)) (sym same.workers) s));
+          (subst (λ (n : Now). IsSound (net_of c.seen.value.tasks) d.workers n) (sym is)
+          (subst (λ w. IsSound (net_of c.seen.value.tasks) w (after (net_of c.seen.value.tasks) (now_of c) e)) (sym same.workers) s));
       some_worker = subst (λ w. 0 < w) (sym same.workers) i.some_worker;
       tasks_fit = let f = i.tasks_fit in let a = ap task_count same.tasks in let b = same.room_tasks in omega arith;
       edges_fit = let f = i.edges_fit in let a = ap edges_of same.tasks in let b = same.room_edges in omega arith;
@@ -51,7 +53,8 @@ stored_after c d e i legal same is =
       owed_room = λ w h. let f = i.owed_room w (subst (λ k. w < k) same.workers h) in let a = ap (λ l. get_or l w 0) same.owes in let b = same.room_edges in omega arith;
     }
 
-pub running_after : (c : Inside) (r : Running) (e : Event) (s : Now) → running_of c ≡ r → s ≡ after (net_of c.seen.value.tasks) (now_of c) e → record (running_of c) { now = s } ≡ record r { now = after (net_of r.tasks) r.now e }
+pub running_after : (c : Inside) (r : Running) (e : Event) (s : Now) → running_of c ≡ r → s ≡ after (net_of c.seen.value.tasks) (now_of c) e
+    → record (running_of c) { now = s } ≡ record r { now = after (net_of r.tasks) r.now e }
 running_after c r e s view is = ap (λ (n : Now). record (running_of c) { now = n }) is ∙ ap (λ (x : Running). record x { now = after (net_of x.tasks) x.now e }) view
 
 -- the state after an arrival, of what the code found: the reader, and its count
@@ -68,7 +71,9 @@ arrived c g w e r k ds os same q read d o =
 
 -- a core as it begins
 pub stored_open : (d : Inside) (g : Tasks) → IsGraph g → 0 < d.workers → d.seen.value.tasks ≡ g → now_of d ≡ opening (net_of g) d.workers → task_count g ≤ d.room_tasks → edges_of g ≤ d.room_edges
-    → d.room_tasks ≤ vec_capacity d.counts → d.room_tasks ≤ vec_capacity d.done → ((w : ℕ) → w < d.workers → d.room_tasks ≤ get_or (rooms_of d.deques.items) w 0) → ((w : ℕ) → w < d.workers → d.room_edges ≤ get_or (owed_rooms d.owes.items) w 0) → IsStored d
+    → d.room_tasks ≤ vec_capacity d.counts → d.room_tasks ≤ vec_capacity d.done
+    → ((w : ℕ) → w < d.workers → d.room_tasks ≤ get_or (rooms_of d.deques.items) w 0)
+    → ((w : ℕ) → w < d.workers → d.room_edges ≤ get_or (owed_rooms d.owes.items) w 0) → IsStored d
 stored_open d g ig some seen is tasks edges counts done deques owes = record {
   graph = subst (λ (x : Tasks). IsGraph x) (sym seen) ig;
   sound = subst (λ (x : Tasks). IsSound (net_of x) d.workers (now_of d)) (sym seen) (subst (λ (s : Now). IsSound (net_of g) d.workers s) (sym is)

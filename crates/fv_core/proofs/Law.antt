@@ -1,5 +1,5 @@
 -- The law of the core: each task once, after all that it reads; and where all have left, all of them.
-use Rattle.std.proofs.Common.{◌≡◌, ◌≢◌, ℕ, zero, suc, ◌+◌, ◌-◌, ◌<◌, ◌≤◌, Bool, true, false, cond, not, ◌&&◌, List, [], ◌∷◌, ◌++◌, length, get_or, set, refl, sym, ap, ◌∙◌, subst, arith, true≢false, ◌==◌, Option, Some, None, ltb, ltb-true}
+use Rattle.std.proofs.Common.{◌≡◌, ℕ, zero, suc, ◌+◌, ◌<◌, Bool, true, false, cond, not, ◌&&◌, List, [], ◌∷◌, ◌++◌, length, get_or, refl, sym, ap, ◌∙◌, subst, arith, true≢false, ◌==◌, Option, Some, None, ltb, ltb-true}
 use native.Mathlib.Decide.{dec_le}
 use mathlib.Core.Logic.{dite}
 use Rattle.fv_outside.specs.Tasks.{bit, total, times}
@@ -8,14 +8,15 @@ use Rattle.fv_graph.specs.Net.{Net, IsNet}
 use Rattle.fv_core.specs.declared.event.Event.{Event}
 use Rattle.fv_core.specs.declared.event.Event.TheVariants.{Take, Steal, Finish, Arrive, Leave}
 use Rattle.fv_core.specs.Core.{Now, is_run, deque_of, run_of, owes_of, is_done, count_of, is_free, is_legal, after, replayed, opening, takes, is_take}
-use Rattle.fv_core.specs.Law.{AllLeft, ReadsDone, CoreLaw}
-use Rattle.fv_graph.proofs.Counts.{bit_le, bit_same, bit_one, bit_true, bit_false, bit_left, total_at, both_true, not_true, total_zero, total_append, full, full_total}
+use Rattle.fv_core.specs.Law.{AllLeft, CoreLaw}
+use Rattle.fv_graph.proofs.Counts.{bit_le, bit_same, bit_one, bit_true, bit_false, bit_left, total_at, both_true, total_zero, full, full_total}
 use Rattle.fv_core.proofs.EndsLemmas.{times_back, times_front}
 use Rattle.fv_core.specs.Sound.{Sound, runs_it, runs_some}
-use Rattle.fv_core.proofs.Sound.{Free, free_is, waits, most, taking, finishing, arriving, leaving}
+use Rattle.fv_core.proofs.Sound.{free_is, waits, most, taking, finishing, arriving, leaving}
 use Rattle.fv_core.proofs.Opens.{opens, get_out}
 
-pub retold : (n : Net) (workers : ℕ) (arrived took new : ℕ → ℕ) (amount more : ℕ) (s : Now) → ((t : ℕ) → new t ≡ took t) → more ≡ amount → Sound n workers arrived took amount s → Sound n workers arrived new more s
+pub retold : (n : Net) (workers : ℕ) (arrived took new : ℕ → ℕ) (amount more : ℕ) (s : Now) → ((t : ℕ) → new t ≡ took t) → more ≡ amount
+    → Sound n workers arrived took amount s → Sound n workers arrived new more s
 retold n workers arrived took new amount more s e q i = record {
   counts_long = i.counts_long;
   done_long = i.done_long;
@@ -97,13 +98,19 @@ module _ (n : Net) (net : IsNet n) (workers : ℕ) where
 
   pub replays : (es : List Event) (arrived took : ℕ → ℕ) (amount : ℕ) (s z : Now) → Sound n workers arrived took amount s → replayed n s es ≡ Some z
       → (last : ℕ → ℕ) × Sound n workers last (λ t. took t + total (takes t) es) (amount + total is_take es) z
-  replays [] arrived took amount s z i e = let same : s ≡ z = cc in
-      (arrived, subst (λ (x : Now). Sound n workers arrived (λ t. took t + 0) (amount + 0) x) same (retold n workers arrived took (λ x. took x + 0) amount (amount + 0) s (λ x. omega arith) (omega arith) i))
+  replays [] arrived took amount s z i e = let same : s ≡ z = cc in (
+    arrived,
+    subst (λ (x : Now). Sound n workers arrived (λ t. took t + 0) (amount + 0) x) same
+        (retold n workers arrived took (λ x. took x + 0) amount (amount + 0) s (λ x. omega arith) (omega arith) i),
+  )
   replays (x ∷ xs) arrived took amount s z i e =
       let c = chosen (is_legal n s x) (replayed n (after n s x) xs) z e in
       let m = steps arrived took amount s x i c.0 in
-      let r = replays xs m.0 (λ t. took t + takes t x) (amount + is_take x) (after n s x) z m.1 c.1 in
-      (r.0, retold n workers r.0 (λ t. took t + takes t x + total (takes t) xs) (λ t. took t + (takes t x + total (takes t) xs)) (amount + is_take x + total is_take xs) (amount + (is_take x + total is_take xs)) z (λ t. omega arith) (omega arith) r.1)
+      let r = replays xs m.0 (λ t. took t + takes t x) (amount + is_take x) (after n s x) z m.1 c.1 in (
+        r.0,
+        retold n workers r.0 (λ t. took t + takes t x + total (takes t) xs) (λ t. took t + (takes t x + total (takes t) xs))
+            (amount + is_take x + total is_take xs) (amount + (is_take x + total is_take xs)) z (λ t. omega arith) (omega arith) r.1,
+      )
 
   -- the state between two parts of the events
   pub between : (xs ys : List Event) (s z : Now) → replayed n s (xs ++ ys) ≡ Some z → (m : Now) × (replayed n s xs ≡ Some m) × (replayed n m ys ≡ Some z)
@@ -114,7 +121,8 @@ module _ (n : Net) (net : IsNet n) (workers : ℕ) where
       (r.0, subst (λ b. cond b (replayed n (after n s x) xs) None ≡ Some r.0) (sym c.0) r.1, r.2)
 
   -- where the count is 0, all that the task reads is done
-  pub ready_reads : (arrived took : ℕ → ℕ) (amount : ℕ) (s : Now) → Sound n workers arrived took amount s → (t : ℕ) → t < n.tasks → count_of s t ≡ 0 → (e : ℕ) → 0 < times e (n.needs t) → is_done s (n.source e) ≡ true
+  pub ready_reads : (arrived took : ℕ → ℕ) (amount : ℕ) (s : Now) → Sound n workers arrived took amount s → (t : ℕ) → t < n.tasks → count_of s t ≡ 0
+      → (e : ℕ) → 0 < times e (n.needs t) → is_done s (n.source e) ≡ true
   ready_reads arrived took amount s i t there none e some =
       let c = i.counted t there in
       let o = full arrived (most n workers arrived took amount s i) (n.needs t) (omega arith) e some in
@@ -122,7 +130,8 @@ module _ (n : Net) (net : IsNet n) (workers : ℕ) where
       (both_true (n.is_inner e) (is_done s (n.source e)) (bit_true (n.is_inner e && is_done s (n.source e)) (omega arith))).1
 
   -- a task that is taken has the count 0
-  pub taken_ready : (arrived took : ℕ → ℕ) (amount : ℕ) (s : Now) → Sound n workers arrived took amount s → (e : Event) → is_legal n s e ≡ true → (t : ℕ) → takes t e ≡ 1 → (t < n.tasks) × (count_of s t ≡ 0)
+  pub taken_ready : (arrived took : ℕ → ℕ) (amount : ℕ) (s : Now) → Sound n workers arrived took amount s → (e : Event) → is_legal n s e ≡ true
+      → (t : ℕ) → takes t e ≡ 1 → (t < n.tasks) × (count_of s t ≡ 0)
   taken_ready arrived took amount s i (Take w u) legal t is =
       let same = bit_one u t (omega arith) in
       let a = both_true (ltb w (length s.runs) && is_free s w) (back_is (deque_of s w) u) legal in
@@ -144,7 +153,8 @@ module _ (n : Net) (net : IsNet n) (workers : ℕ) where
   taken_ready arrived took amount s i (Leave w) legal t is = absurd (omega arith)
 
   -- a task that lies in a deque is not done, and nobody runs it
-  lying : (arrived took : ℕ → ℕ) (amount : ℕ) (s : Now) → Sound n workers arrived took amount s → (w t : ℕ) → w < workers → 0 < times t (deque_of s w) → (is_done s t ≡ false) × (total (runs_it t) s.runs ≡ 0)
+  lying : (arrived took : ℕ → ℕ) (amount : ℕ) (s : Now) → Sound n workers arrived took amount s → (w t : ℕ) → w < workers → 0 < times t (deque_of s w)
+      → (is_done s t ≡ false) × (total (runs_it t) s.runs ≡ 0)
   lying arrived took amount s i w t hw some =
       let k = waits n workers arrived took amount s i w t hw some in
       let p = i.placed t k.0 in
@@ -153,7 +163,8 @@ module _ (n : Net) (net : IsNet n) (workers : ℕ) where
       (bit_false (is_done s t) (omega arith), omega arith)
 
   -- so is one that is taken
-  pub fresh_taken : (arrived took : ℕ → ℕ) (amount : ℕ) (s : Now) → Sound n workers arrived took amount s → (e : Event) → is_legal n s e ≡ true → (t : ℕ) → takes t e ≡ 1 → (is_done s t ≡ false) × (total (runs_it t) s.runs ≡ 0)
+  pub fresh_taken : (arrived took : ℕ → ℕ) (amount : ℕ) (s : Now) → Sound n workers arrived took amount s → (e : Event) → is_legal n s e ≡ true
+      → (t : ℕ) → takes t e ≡ 1 → (is_done s t ≡ false) × (total (runs_it t) s.runs ≡ 0)
   fresh_taken arrived took amount s i (Take w u) legal t is =
       let same = bit_one u t (omega arith) in
       let a = both_true (ltb w (length s.runs) && is_free s w) (back_is (deque_of s w) u) legal in

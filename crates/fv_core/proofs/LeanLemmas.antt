@@ -1,5 +1,5 @@
 -- What the core allows, event by event, its lean form allows too.
-use Rattle.std.proofs.Common.{◌≡◌, ℕ, ◌+◌, ◌<◌, Bool, true, false, cond, ◌&&◌, ◌||◌, not, List, [], ◌∷◌, length, Option, Some, None, refl, sym, ap, ◌∙◌, subst, arith, ltb, lt-ltb, ltb-true, ◌==◌, eq-eqb}
+use Rattle.std.proofs.Common.{◌≡◌, ℕ, ◌+◌, ◌<◌, Bool, true, false, cond, ◌&&◌, ◌||◌, not, List, [], ◌∷◌, length, Option, Some, None, refl, ap, ◌∙◌, ltb, lt-ltb, ◌==◌, eq-eqb}
 use Rattle.fv_outside.specs.Tasks.{bit, total}
 use Rattle.fv_graph.specs.Net.{Net, IsNet}
 use Rattle.fv_graph.proofs.Counts.{both_true, both_of, bit_same}
@@ -48,12 +48,14 @@ module _ (n : Net) (net : IsNet n) (workers : ℕ) where
         let b = both_true (ltb w (length s.runs) && ltb v (length s.runs) && is_free s w) (not (w == v)) a.0 in
         let c = both_true (ltb w (length s.runs) && ltb v (length s.runs)) (is_free s w) b.0 in
         let k = both_true (ltb w (length s.runs)) (ltb v (length s.runs)) c.0 in
-        both_of (ltb v (length s.runs) && not (w == v)) (lean_takes n (with_deques s d) w t) (both_of (ltb v (length s.runs)) (not (w == v)) k.1 b.1) (takes_lean (Steal w v t) w t legal (bit_same t t refl) k.0 c.1)
+        both_of (ltb v (length s.runs) && not (w == v)) (lean_takes n (with_deques s d) w t) (both_of (ltb v (length s.runs)) (not (w == v)) k.1 b.1)
+        (takes_lean (Steal w v t) w t legal (bit_same t t refl) k.0 c.1)
     legal_lean (Finish w t) legal = legal
     legal_lean (Arrive w e) legal = legal
     legal_lean (Leave w) legal = (both_true (ltb w (length s.runs) && is_free s w) (is_empty (deque_of s w)) legal).0
 
-  replays_lean : (es : List Event) (arrived took : ℕ → ℕ) (amount : ℕ) (s z : Now) → Sound n workers arrived took amount s → replayed n s es ≡ Some z → (d : List (List ℕ)) → lean_replayed n (with_deques s d) es ≡ Some (with_deques z d)
+  replays_lean : (es : List Event) (arrived took : ℕ → ℕ) (amount : ℕ) (s z : Now) → Sound n workers arrived took amount s → replayed n s es ≡ Some z
+      → (d : List (List ℕ)) → lean_replayed n (with_deques s d) es ≡ Some (with_deques z d)
   replays_lean [] arrived took amount s z i e d = ap (λ (o : Option Now). lean_kept o d) e
     where
       lean_kept : Option Now → List (List ℕ) → Option Now
@@ -66,5 +68,6 @@ module _ (n : Net) (net : IsNet n) (workers : ℕ) where
       ap (λ b. cond b (lean_replayed n (lean_after n (with_deques s d) x) xs) None) (legal_lean arrived took amount s i d x c.0)
       ∙ ap (λ (q : Now). lean_replayed n q xs) (lean_after_is n s d x) ∙ r
 
-  pub lean_law : (events : List Event) (z : Now) → 0 < workers → replayed n (opening n workers) events ≡ Some z → lean_replayed n (opening n workers) events ≡ Some (with_deques z (opening n workers).deques)
+  pub lean_law : (events : List Event) (z : Now) → 0 < workers → replayed n (opening n workers) events ≡ Some z
+      → lean_replayed n (opening n workers) events ≡ Some (with_deques z (opening n workers).deques)
   lean_law events z some e = replays_lean events (λ _. 0) (λ _. 0) 0 (opening n workers) z (opens n workers some) e (opening n workers).deques

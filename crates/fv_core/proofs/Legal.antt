@@ -1,20 +1,20 @@
 -- When an event is legal, by what the code looks at; and what a legal event finds.
-use Rattle.std.proofs.Common.{◌≡◌, ◌≢◌, ℕ, zero, suc, ◌+◌, ◌-◌, ◌<◌, ◌≤◌, Bool, true, false, cond, ◌&&◌, not, List, [], ◌∷◌, length, get_or, Option, Some, None, is_none, is_some, refl, sym, ap, ◌∙◌, subst, arith, ltb, lt-ltb, ltb-true, true≢false, ◌==◌, ne_eqb}
+use Rattle.std.proofs.Common.{◌≡◌, ℕ, ◌<◌, Bool, true, false, ◌&&◌, not, List, [], ◌∷◌, length, get_or, Option, Some, None, is_none, is_some, refl, sym, ap, ◌∙◌, subst, arith, ltb, lt-ltb, true≢false, ◌==◌}
 use mathlib.Core.Logic.{dite}
-use native.Mathlib.Decide.{dec_le, ℕ_discrete}
-use Rattle.fv_outside.specs.Tasks.{Tasks, bit, total, times, task_count, reads_task}
-use Rattle.fv_graph.specs.Net.{Net, IsNet}
-use Rattle.fv_graph.specs.Graph.{IsGraph, net_of, task_of, source_of, needs_of}
-use Rattle.fv_graph.proofs.Counts.{both_true, both_of, bit_le, bit_same, bit_true, total_at, bools_agree}
+use native.Mathlib.Decide.{dec_le}
+use Rattle.fv_outside.specs.Tasks.{Tasks, times, task_count}
+use Rattle.fv_graph.specs.Net.{Net}
+use Rattle.fv_graph.specs.Graph.{IsGraph, net_of}
+use Rattle.fv_graph.proofs.Counts.{both_true, both_of, bit_same, bools_agree}
 use Rattle.fv_graph.proofs.Graphs.{is_net}
-use Rattle.fv_graph.proofs.ReadsLemmas.{reads, source_found}
+use Rattle.fv_graph.proofs.ReadsLemmas.{source_found}
 use Rattle.fv_core.specs.Ends.{is_empty, back_is, back_of, front_is, front_of}
-use Rattle.fv_core.specs.Core.{Now, is_run, deque_of, run_of, owes_of, is_done, count_of, is_free, is_legal, after, takes}
+use Rattle.fv_core.specs.Core.{Now, is_run, deque_of, run_of, owes_of, is_done, is_free, is_legal, after, takes}
 use Rattle.fv_core.specs.Ready.{TakesReady, FindsReady}
 use Rattle.fv_core.specs.Law.{AllLeft}
 use Rattle.fv_core.specs.declared.event.Event.{Event}
 use Rattle.fv_core.specs.declared.event.Event.TheVariants.{Take, Steal, Finish, Arrive, Leave}
-use Rattle.fv_core.specs.Sound.{Sound, IsSound, arrived_of, took_of, amount_of}
+use Rattle.fv_core.specs.Sound.{IsSound, arrived_of, took_of, amount_of}
 use Rattle.fv_core.specs.Running.{Running, IsRunning}
 use Rattle.fv_core.proofs.Opens.{get_out}
 use Rattle.fv_core.proofs.Stepping.{sound_after}
@@ -66,8 +66,11 @@ module _ (n : Net) (workers : ℕ) (s : Now) (i : IsSound n workers s) where
   pub take_legal : (w t : ℕ) → (is_free s w && is_run t (back_of (deque_of s w))) ≡ is_legal n s (Take w t)
   take_legal w t = ap (λ b. is_free s w && b) (back_named (deque_of s w) t)
       ∙ bools_agree (is_free s w && back_is (deque_of s w) t) (is_legal n s (Take w t))
-      (λ h. let a = both_true (is_free s w) (back_is (deque_of s w) t) h in both_of (ltb w (length s.runs) && is_free s w) (back_is (deque_of s w) t) (both_of (ltb w (length s.runs)) (is_free s w) (is_there w (free_there w a.0)) a.0) a.1)
-      (λ h. let a = both_true (ltb w (length s.runs) && is_free s w) (back_is (deque_of s w) t) h in both_of (is_free s w) (back_is (deque_of s w) t) (both_true (ltb w (length s.runs)) (is_free s w) a.0).1 a.1)
+      (λ h. let a = both_true (is_free s w) (back_is (deque_of s w) t) h in
+      both_of (ltb w (length s.runs) && is_free s w) (back_is (deque_of s w) t)
+      (both_of (ltb w (length s.runs)) (is_free s w) (is_there w (free_there w a.0)) a.0) a.1)
+      (λ h. let a = both_true (ltb w (length s.runs) && is_free s w) (back_is (deque_of s w) t) h in
+      both_of (is_free s w) (back_is (deque_of s w) t) (both_true (ltb w (length s.runs)) (is_free s w) a.0).1 a.1)
 
   pub steal_legal : (w v t : ℕ) → (is_free s w && not (w == v) && is_run t (front_of (deque_of s v))) ≡ is_legal n s (Steal w v t)
   steal_legal w v t = ap (λ b. is_free s w && not (w == v) && b) (front_named (deque_of s v) t)
@@ -75,7 +78,8 @@ module _ (n : Net) (workers : ℕ) (s : Now) (i : IsSound n workers s) where
       (λ h. let a = both_true (is_free s w && not (w == v)) (front_is (deque_of s v) t) h in let b = both_true (is_free s w) (not (w == v)) a.0 in
       both_of (ltb w (length s.runs) && ltb v (length s.runs) && is_free s w && not (w == v)) (front_is (deque_of s v) t)
       (both_of (ltb w (length s.runs) && ltb v (length s.runs) && is_free s w) (not (w == v))
-      (both_of (ltb w (length s.runs) && ltb v (length s.runs)) (is_free s w) (both_of (ltb w (length s.runs)) (ltb v (length s.runs)) (is_there w (free_there w b.0)) (is_there v (front_there v t a.1))) b.0) b.1) a.1)
+      (both_of (ltb w (length s.runs) && ltb v (length s.runs)) (is_free s w)
+      (both_of (ltb w (length s.runs)) (ltb v (length s.runs)) (is_there w (free_there w b.0)) (is_there v (front_there v t a.1))) b.0) b.1) a.1)
       (λ h. let a = both_true (ltb w (length s.runs) && ltb v (length s.runs) && is_free s w && not (w == v)) (front_is (deque_of s v) t) h in
       let b = both_true (ltb w (length s.runs) && ltb v (length s.runs) && is_free s w) (not (w == v)) a.0 in
       both_of (is_free s w && not (w == v)) (front_is (deque_of s v) t) (both_of (is_free s w) (not (w == v)) (both_true (ltb w (length s.runs) && ltb v (length s.runs)) (is_free s w) b.0).1 b.1) a.1)
@@ -91,8 +95,11 @@ module _ (n : Net) (workers : ℕ) (s : Now) (i : IsSound n workers s) where
   pub leave_legal : (w : ℕ) → (is_free s w && is_none (back_of (deque_of s w))) ≡ is_legal n s (Leave w)
   leave_legal w = ap (λ b. is_free s w && b) (no_back (deque_of s w))
       ∙ bools_agree (is_free s w && is_empty (deque_of s w)) (is_legal n s (Leave w))
-      (λ h. let a = both_true (is_free s w) (is_empty (deque_of s w)) h in both_of (ltb w (length s.runs) && is_free s w) (is_empty (deque_of s w)) (both_of (ltb w (length s.runs)) (is_free s w) (is_there w (free_there w a.0)) a.0) a.1)
-      (λ h. let a = both_true (ltb w (length s.runs) && is_free s w) (is_empty (deque_of s w)) h in both_of (is_free s w) (is_empty (deque_of s w)) (both_true (ltb w (length s.runs)) (is_free s w) a.0).1 a.1)
+      (λ h. let a = both_true (is_free s w) (is_empty (deque_of s w)) h in
+      both_of (ltb w (length s.runs) && is_free s w) (is_empty (deque_of s w))
+      (both_of (ltb w (length s.runs)) (is_free s w) (is_there w (free_there w a.0)) a.0) a.1)
+      (λ h. let a = both_true (ltb w (length s.runs) && is_free s w) (is_empty (deque_of s w)) h in
+      both_of (is_free s w) (is_empty (deque_of s w)) (both_true (ltb w (length s.runs)) (is_free s w) a.0).1 a.1)
 
 -- what a task that is taken finds
 module _ (g : Tasks) (ig : IsGraph g) (workers : ℕ) (s : Now) (i : IsSound (net_of g) workers s) where

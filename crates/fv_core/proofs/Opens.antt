@@ -1,12 +1,12 @@
 -- The opening state meets the invariant.
-use Rattle.std.proofs.Common.{◌≡◌, ◌≢◌, ℕ, zero, suc, ◌+◌, ◌-◌, ◌%◌, ◌<◌, ◌≤◌, Bool, true, false, cond, not, ◌&&◌, List, [], ◌∷◌, ◌++◌, map, length, replicate, get_or, set, refl, sym, ap, ◌∙◌, subst, arith, true≢false, ◌==◌, Option, Some, None, length-set, mod-lt}
+use Rattle.std.proofs.Common.{◌≡◌, ℕ, zero, suc, ◌+◌, ◌%◌, ◌<◌, ◌≤◌, true, false, List, [], ◌∷◌, ◌++◌, map, length, replicate, get_or, set, refl, sym, ap, ◌∙◌, arith, true≢false, ◌==◌, None, length-set}
 use mathlib.Core.Logic.{dite}
-use native.Mathlib.Decide.{ℕ_discrete, dec_le}
+use native.Mathlib.Decide.{dec_le}
 use Rattle.fv_outside.specs.Tasks.{bit, total, times}
 use Rattle.fv_graph.specs.Words.{passing}
-use Rattle.fv_graph.specs.Net.{Net, IsNet, need_count}
-use Rattle.fv_core.specs.Core.{Now, is_run, deque_of, run_of, owes_of, is_done, count_of, dealt, ready, numbers, opening}
-use Rattle.fv_graph.proofs.Counts.{bit_le, bit_same, bit_apart, bit_right, total_set, total_append, total_none, times_passing, times_above}
+use Rattle.fv_graph.specs.Net.{Net, need_count}
+use Rattle.fv_core.specs.Core.{dealt, ready, numbers, opening}
+use Rattle.fv_graph.proofs.Counts.{bit_right, total_set, total_append, total_none, times_passing, times_above}
 use Rattle.fv_core.specs.Sound.{Sound, runs_it, runs_some}
 
 module _ {X : Type 0} where
@@ -59,7 +59,8 @@ times_dealt workers k (t ∷ ts) ds some long x =
 pub opens : (n : Net) (workers : ℕ) → 0 < workers → Sound n workers (λ _. 0) (λ _. 0) 0 (opening n workers)
 opens n workers some =
     let ds = dealt workers 0 (ready n) (replicate workers []) in
-    let lie : (x : ℕ) → total (times x) ds ≡ times x (ready n) = λ x. let a = times_dealt workers 0 (ready n) (replicate workers []) some (length_same workers []) x in let z = total_same (times x) workers [] refl in omega arith in
+    let lie : (x : ℕ) → total (times x) ds ≡ times x (ready n) = λ x. let a = times_dealt workers 0 (ready n) (replicate workers []) some
+    (length_same workers []) x in let z = total_same (times x) workers [] refl in omega arith in
     let run : (x : ℕ) → total (runs_it x) (replicate workers None) ≡ 0 = λ x. total_same (runs_it x) workers None refl in
     let undone : (x : ℕ) → bit (get_or (replicate n.tasks false) x false) ≡ 0 = λ x. ap bit (get_same n.tasks false x) in
     record {
@@ -70,10 +71,12 @@ opens n workers some =
       owes_long = length_same workers [];
       left_long = length_same workers false;
       placed = λ x h. let a = lie x in let b = run x in let c = undone x in let d = times_passing (λ t. need_count n t == 0) 0 n.tasks x (omega arith) (omega arith) in
-          let e : bit (get_or (map (need_count n) (numbers n.tasks)) x 1 == 0) ≡ bit (need_count n x == 0) = ap (λ k. bit (k == 0)) (get_numbers 0 n.tasks (need_count n) x 1 h ∙ ap (need_count n) (omega arith)) in omega arith;
+          let e : bit (get_or (map (need_count n) (numbers n.tasks)) x 1 == 0) ≡ bit (need_count n x == 0) = ap (λ k. bit (k == 0))
+          (get_numbers 0 n.tasks (need_count n) x 1 h ∙ ap (need_count n) (omega arith)) in omega arith;
       inside = λ x h. let a = lie x in let b = run x in let d = times_above (λ t. need_count n t == 0) 0 n.tasks x (omega arith) in omega arith;
       edges = λ x. let a = total_same (times x) workers [] refl in let z = bit_right (n.is_inner x) (get_or (replicate n.tasks false) (n.source x) false) (undone (n.source x)) in omega arith;
-      counted = λ x h. let a : get_or (map (need_count n) (numbers n.tasks)) x 1 ≡ need_count n x = get_numbers 0 n.tasks (need_count n) x 1 h ∙ ap (need_count n) (omega arith) in let z = total_none (n.needs x) in omega arith;
+      counted = λ x h. let a : get_or (map (need_count n) (numbers n.tasks)) x 1 ≡ need_count n x = get_numbers 0 n.tasks (need_count n) x 1 h
+          ∙ ap (need_count n) (omega arith) in let z = total_none (n.needs x) in omega arith;
       away = λ w gone. dite (dec_le workers w)
           (λ out. (get_out ds w [] (omega (arith, length_dealt workers 0 (ready n) (replicate workers []), length_same {X = List ℕ} workers [])), get_same workers None w, get_same workers [] w))
           (λ here. absurd (true≢false (sym gone ∙ get_in workers false true w (omega arith))));

@@ -1,10 +1,10 @@
 -- A list of what each worker has, after a write at one worker.
-use Rattle.std.proofs.Common.{◌≡◌, ℕ, zero, suc, ◌+◌, ◌-◌, ◌<◌, ◌≤◌, ◌==◌, Bool, true, false, cond, not, List, [], ◌∷◌, ◌++◌, map, length, get_or, set, take, drop, Option, Some, None, refl, sym, ap, ◌∙◌, arith, nat_lt, lt-ltb, true≢false, ne_eqb, ◌||◌}
-use Rattle.std.specs.List.{remove, position, position_or_len, list_any}
+use Rattle.std.proofs.Common.{◌≡◌, ℕ, zero, suc, ◌+◌, ◌-◌, ◌<◌, ◌==◌, Bool, true, false, cond, not, List, [], ◌∷◌, map, length, get_or, set, take, drop, Option, Some, None, refl, sym, ap, ◌∙◌, arith, nat_lt, lt-ltb, true≢false, ne_eqb, ◌||◌}
+use Rattle.std.specs.List.{remove, position_or_len, list_any}
 use Rattle.fv_outside.specs.Tasks.{bit, times}
 use Rattle.std.specs.Option.{option_copied, option_map, unwrap_or, is_some}
 use denote.Ref.{Bor}
-use Rattle.fv_core.specs.Ends.{is_empty, but_back, but_front, back_of, front_of, without}
+use Rattle.fv_core.specs.Ends.{but_back, but_front, back_of, without}
 
 module _ {A B : Type 0} (f : A → B) where
   pub map_set : (xs : List A) (i : ℕ) (y : A) → map f (set xs i y) ≡ set (map f xs) i (f y)
@@ -54,7 +54,8 @@ pub without_at : (e : ℕ) (xs : List ℕ) → without e xs ≡ remove xs (posit
 without_at e [] = refl
 without_at e (x ∷ xs) = taken (x == e) e x xs (without_at e xs)
   where
-    taken : (b : Bool) (e x : ℕ) (xs : List ℕ) → without e xs ≡ remove xs (position_or_len (λ y. y == e) xs) → cond b xs (x ∷ without e xs) ≡ remove (x ∷ xs) (cond (not b) (1 + position_or_len (λ y. y == e) xs) 0)
+    taken : (b : Bool) (e x : ℕ) (xs : List ℕ) → without e xs ≡ remove xs (position_or_len (λ y. y == e) xs)
+        → cond b xs (x ∷ without e xs) ≡ remove (x ∷ xs) (cond (not b) (1 + position_or_len (λ y. y == e) xs) 0)
     taken true e x xs r = refl
     taken false e x xs r = ap (λ l. x ∷ l) r ∙ ap (remove (x ∷ xs)) (let q : suc (position_or_len (λ y. y == e) xs) ≡ 1 + position_or_len (λ y. y == e) xs = omega arith in q)
 
@@ -77,7 +78,8 @@ without_none e (x ∷ xs) h = kept (x == e) e x xs (without_none e xs) h
     kept false e x xs r h = ap (λ l. x ∷ l) (r (grind arith))
 
 -- what a look at the back gives
-pub back_gives : (xs : List ℕ) (r : Option (Bor ℕ)) → is_some r ≡ nat_lt 0 (length xs) → ((d : ℕ) → unwrap_or (option_map (λ (x : Bor ℕ). x.now) r) d ≡ get_or xs (length xs - 1) d) → option_copied r ≡ back_of xs
+pub back_gives : (xs : List ℕ) (r : Option (Bor ℕ)) → is_some r ≡ nat_lt 0 (length xs)
+    → ((d : ℕ) → unwrap_or (option_map (λ (x : Bor ℕ). x.now) r) d ≡ get_or xs (length xs - 1) d) → option_copied r ≡ back_of xs
 back_gives xs None some value = sym (back_none xs (grind arith))
 back_gives xs (Some x) some value = ap Some (value 0) ∙ sym (back_at xs 0 (grind arith))
 

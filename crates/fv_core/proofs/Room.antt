@@ -1,16 +1,16 @@
 -- What a legal event finds in a sound state: its numbers are in range, and there is room for what it adds.
-use Rattle.std.proofs.Common.{◌≡◌, ℕ, ◌+◌, ◌-◌, ◌<◌, ◌≤◌, Bool, true, false, cond, ◌&&◌, ◌||◌, not, List, [], ◌++◌, length, get_or, set, refl, sym, ap, ◌∙◌, subst, arith, ltb, ltb-true, ◌==◌, length-append, get_or-set_same, ne_eqb}
+use Rattle.std.proofs.Common.{◌≡◌, ℕ, ◌+◌, ◌<◌, ◌≤◌, true, ◌&&◌, ◌||◌, not, [], ◌++◌, length, get_or, refl, ap, ◌∙◌, subst, arith, ltb, ltb-true, ◌==◌, length-append, get_or-set_same}
 use mathlib.Core.Logic.{dite}
 use native.Mathlib.Decide.{dec_le}
-use Rattle.fv_outside.specs.Tasks.{Tasks, bit, total, times, task_count}
+use Rattle.fv_outside.specs.Tasks.{Tasks, total, times, task_count}
 use Rattle.fv_graph.specs.Net.{Net, IsNet}
-use Rattle.fv_graph.specs.Graph.{IsGraph, edges_of, net_of, reader_of, feeds_of}
-use Rattle.fv_graph.specs.Wires.{IsWires, wires_of}
-use Rattle.fv_graph.proofs.Counts.{bit_le, bit_same, bit_left, both_true, not_true, bit_true, total_at, spare, either_left}
+use Rattle.fv_graph.specs.Graph.{edges_of, net_of, reader_of, feeds_of}
+use Rattle.fv_graph.specs.Wires.{wires_of}
+use Rattle.fv_graph.proofs.Counts.{bit_le, bit_same, bit_left, both_true, bit_true, total_at, spare, either_left}
 use Rattle.fv_graph.proofs.Graphs.{is_wires, is_net}
-use Rattle.fv_core.specs.Core.{Now, is_run, deque_of, run_of, owes_of, is_done, count_of, is_free, is_legal, after}
-use Rattle.fv_core.specs.declared.event.Event.TheVariants.{Take, Steal, Finish, Arrive, Leave}
-use Rattle.fv_core.specs.Sound.{Sound, IsSound, arrived_of, took_of, amount_of}
+use Rattle.fv_core.specs.Core.{Now, is_run, deque_of, run_of, owes_of, is_done, count_of, is_legal, after}
+use Rattle.fv_core.specs.declared.event.Event.TheVariants.{Finish, Arrive}
+use Rattle.fv_core.specs.Sound.{IsSound, arrived_of, took_of, amount_of}
 use Rattle.std.specs.Vec.{vec_len}
 use Rattle.fv_core.specs.Kept.{rooms_of, owed_rooms}
 use Rattle.fv_core.specs.Running.{Running}
@@ -30,7 +30,9 @@ owed_few n workers edges s i low w h =
     few edges (owes_of s w)
     (λ e. let o = one e in let p = i.edges e in let b = bit_le (n.is_inner e && is_done s (n.source e)) in omega arith)
     (λ e out. dite (dec_le (times e (owes_of s w)) 0) (λ l. omega arith)
-    (λ l. let o = one e in let p = i.edges e in let b = both_true (n.is_inner e) (is_done s (n.source e)) (bit_true (n.is_inner e && is_done s (n.source e)) (omega arith)) in let k = low e b.0 in absurd (omega arith)))
+    (λ l. let o = one e in let p = i.edges e in
+    let b = both_true (n.is_inner e) (is_done s (n.source e)) (bit_true (n.is_inner e && is_done s (n.source e)) (omega arith)) in
+    let k = low e b.0 in absurd (omega arith)))
 
 -- of a stored core and the tasks that a call is handed
 pub record Arrives (c : Inside) (g : Tasks) (w e : ℕ) : Type 0 where
@@ -69,7 +71,8 @@ module _ (c : Inside) (r : Running) (g : Tasks) (view : running_of c ≡ r) (i :
       let x = n.reader e in
       let there = (net.rises e known.0).1 in
       let once : times e (n.needs x) ≡ 1 = net.needs_once x e there ∙ bit_left (n.is_inner e) (x == x) known.0 ∙ bit_same x x refl in
-      let high : 0 < count_of s x = let sp = spare (arrived_of n s) (most n c.workers (arrived_of n s) (took_of s) (amount_of s) s h) e known.1 (n.needs x) in let p = h.counted x there in omega arith in
+      let high : 0 < count_of s x = let sp = spare (arrived_of n s) (most n c.workers (arrived_of n s) (took_of s) (amount_of s) s h) e known.1
+      (n.needs x) in let p = h.counted x there in omega arith in
       let q = ap (λ (k : Tasks). reader_of k e) same_tasks in
       record {
         same = same_tasks;

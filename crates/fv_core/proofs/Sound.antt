@@ -1,16 +1,15 @@
 -- The invariant of the core, and that each legal event keeps it.
-use Rattle.std.proofs.Common.{◌≡◌, ◌≢◌, ℕ, zero, suc, ◌+◌, ◌-◌, ◌<◌, ◌≤◌, Bool, true, false, cond, not, ◌&&◌, List, [], ◌∷◌, ◌++◌, length, get_or, set, refl, sym, ap, ◌∙◌, subst, arith, ltb, ltb-true, true≢false, ◌==◌, Option, Some, None, is_none, length-set, eq-eqb, ne_eqb}
+use Rattle.std.proofs.Common.{◌≡◌, ℕ, ◌+◌, ◌-◌, ◌<◌, ◌≤◌, Bool, true, false, cond, not, ◌&&◌, List, [], ◌∷◌, ◌++◌, length, get_or, set, refl, sym, ap, ◌∙◌, subst, arith, true≢false, ◌==◌, Option, Some, None, is_none, length-set, eq-eqb}
 use mathlib.Core.Logic.{dite}
 use native.Mathlib.Decide.{ℕ_discrete}
-use Rattle.fv_outside.specs.Tasks.{bit, total, times}
-use Rattle.fv_core.specs.Ends.{without, is_empty, front_is, but_front, back_is, but_back}
+use Rattle.fv_outside.specs.Tasks.{bit, times}
+use Rattle.fv_core.specs.Ends.{without, is_empty}
 use Rattle.fv_graph.specs.Net.{Net, IsNet}
-use Rattle.fv_core.specs.declared.event.Event.{Event}
-use Rattle.fv_core.specs.declared.event.Event.TheVariants.{Take, Steal, Finish, Arrive, Leave}
-use Rattle.fv_core.specs.Core.{Now, is_run, deque_of, run_of, owes_of, is_done, count_of, is_free, is_legal, joined, after, replayed, takes, is_take}
+use Rattle.fv_core.specs.declared.event.Event.TheVariants.{Arrive}
+use Rattle.fv_core.specs.Core.{Now, is_run, deque_of, run_of, owes_of, is_done, count_of, is_free, joined, after}
 use Rattle.fv_core.specs.Sound.{Sound, runs_it, runs_some}
 use Rattle.fv_graph.proofs.Counts.{bit_le, bit_same, bit_apart, bit_swap, bit_one, bit_true, bit_false, bit_left, bit_right, bit_wide, bit_both, both_true, not_true, total_set, total_at, total_append, total_add, get_set, done_set, count_set, spare}
-use Rattle.fv_core.proofs.EndsLemmas.{times_back, times_front, times_without}
+use Rattle.fv_core.proofs.EndsLemmas.{times_without}
 
 pub record Free (s : Now) (w : ℕ) : Type 0 where
   pub here : get_or s.left w true ≡ false
@@ -30,7 +29,8 @@ free_is s w e = let a = both_true _ (is_empty (owes_of s w)) e in let b = both_t
     record { here = not_true (get_or s.left w true) b.0; idle = none_is (run_of s w) b.1; clear = empty_is (owes_of s w) a.1 }
 
 -- a worker whose place is not away has not left
-pub stays : {X : Type 0} (left : List Bool) (xs : List X) (d : X) (w : ℕ) (y : X) → w < length xs → get_or left w true ≡ false → (v : ℕ) → get_or left v true ≡ true → get_or xs v d ≡ d → get_or (set xs w y) v d ≡ d
+pub stays : {X : Type 0} (left : List Bool) (xs : List X) (d : X) (w : ℕ) (y : X) → w < length xs → get_or left w true ≡ false → (v : ℕ)
+    → get_or left v true ≡ true → get_or xs v d ≡ d → get_or (set xs w y) v d ≡ d
 stays left xs d w y h here v gone was = get_set (λ z. z ≡ d) xs w v y d h (λ e. absurd (true≢false (sym (ap (λ k. get_or left k true) (sym e) ∙ gone) ∙ here))) (λ _. was)
 
 joined_times : (b : Bool) (t : ℕ) (d : List ℕ) (x : ℕ) → times x (cond b (d ++ t ∷ []) d) ≡ times x d + bit (b && (t == x))
@@ -131,7 +131,9 @@ module _ (n : Net) (workers : ℕ) (arrived took : ℕ → ℕ) (amount : ℕ) (
         placed = λ x h. let b = total_set (runs_it x) s.runs w None None wr in let l = it x in let q = done_set s.done t td was x in let sw = bit_swap t x in let p = i.placed x h in omega arith;
         inside = λ x h. let b = total_set (runs_it x) s.runs w None None wr in let p = i.inside x h in omega arith;
         edges = λ x. let a = total_set (times x) s.owes w (owes_of s w ++ n.feeds t) [] wo in let c = total_append (λ y. bit (y == x)) (owes_of s w) (n.feeds t) in
-            let f = net.feeds_once t x there in let q = bit_both (n.is_inner x) (get_or (set s.done t true) (n.source x) false) (is_done s (n.source x)) (n.source x == t) (done_set s.done t td was (n.source x)) in
+            let f = net.feeds_once t x there in
+            let q = bit_both (n.is_inner x) (get_or (set s.done t true) (n.source x) false) (is_done s (n.source x)) (n.source x == t)
+            (done_set s.done t td was (n.source x)) in
             let p = i.edges x in omega arith;
         counted = i.counted;
         away = λ u gone. let a = i.away u gone in

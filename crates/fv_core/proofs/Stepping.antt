@@ -1,6 +1,6 @@
 -- Each legal event leaves a sound state.
-use Rattle.std.proofs.Common.{◌≡◌, ℕ, ◌+◌, ◌-◌, ◌<◌, ◌≤◌, true, ◌&&◌, List, length, sym, ap, ◌∙◌, subst, arith}
-use Rattle.fv_outside.specs.Tasks.{bit, total, times}
+use Rattle.std.proofs.Common.{◌≡◌, ℕ, ◌+◌, true, List, ap, arith}
+use Rattle.fv_outside.specs.Tasks.{total}
 use Rattle.fv_graph.specs.Net.{Net, IsNet}
 use Rattle.fv_core.specs.Core.{Now, is_legal, after, is_done}
 use Rattle.fv_core.specs.declared.event.Event.{Event}
@@ -31,4 +31,5 @@ sound_now n workers arrived took amount s h =
     }
 
 pub sound_after : (n : Net) (net : IsNet n) (workers : ℕ) (s : Now) (e : Event) → IsSound n workers s → is_legal n s e ≡ true → IsSound n workers (after n s e)
-sound_after n net workers s e h legal = let r = steps n net workers (arrived_of n s) (took_of s) (amount_of s) s e h legal in sound_now n workers r.0 (λ t. took_of s t + Rattle.fv_core.specs.Core.takes t e) (amount_of s + Rattle.fv_core.specs.Core.is_take e) (after n s e) r.1
+sound_after n net workers s e h legal = let r = steps n net workers (arrived_of n s) (took_of s) (amount_of s) s e h legal in
+    sound_now n workers r.0 (λ t. took_of s t + Rattle.fv_core.specs.Core.takes t e) (amount_of s + Rattle.fv_core.specs.Core.is_take e) (after n s e) r.1

@@ -18,7 +18,10 @@ pub record Running : Type 0 where
 abbrev coded_now : Coded Now
 coded_now =
     code_by (List ℕ × (List Bool × (List (List ℕ) × (List (Option ℕ) × (List (List ℕ) × List Bool)))))
-    (coded× (coded_list coded_ℕ) (coded× (coded_list coded_bool) (coded× (coded_list (coded_list coded_ℕ)) (coded× (coded_list (coded_option coded_ℕ)) (coded× (coded_list (coded_list coded_ℕ)) (coded_list coded_bool))))))
+    (coded× (coded_list coded_ℕ)
+    (coded× (coded_list coded_bool)
+    (coded× (coded_list (coded_list coded_ℕ))
+    (coded× (coded_list (coded_option coded_ℕ)) (coded× (coded_list (coded_list coded_ℕ)) (coded_list coded_bool))))))
     (λ s. (s.counts, (s.done, (s.deques, (s.runs, (s.owes, s.left))))))
     (λ p. record { counts = p.0; done = p.1.0; deques = p.1.1.0; runs = p.1.1.1.0; owes = p.1.1.1.1.0; left = p.1.1.1.1.1 }) (λ _. refl)
 

@@ -1,5 +1,5 @@
 -- How a core is stored: the lists by task and by worker, with room for all that can come (this project's profile).
-use Rattle.std.specs.Prelude.{◌≡◌, ℕ, ◌<◌, ◌≤◌, get_or}
+use Rattle.std.specs.Prelude.{ℕ, ◌<◌, ◌≤◌, get_or}
 use Rattle.std.specs.Vec.{vec_capacity}
 use Rattle.fv_outside.specs.Tasks.{task_count}
 use Rattle.fv_graph.specs.Graph.{IsGraph, edges_of, net_of}

@@ -15,5 +15,6 @@ pub fn tasks_run_once()
 
 /// Events that replay do so in the lean core too, which has no deques, and leave the same state but for these.
 pub fn lean_core_follows()
-    ensures { (n : Net) (workers : ℕ) (events : List Event) (z : Now) → IsNet n → 0 < workers → replayed n (opening n workers) events ≡ Some z → lean_replayed n (opening n workers) events ≡ Some (record z { deques = (opening n workers).deques }) }
+    ensures { (n : Net) (workers : ℕ) (events : List Event) (z : Now) → IsNet n → 0 < workers → replayed n (opening n workers) events ≡ Some z
+        → lean_replayed n (opening n workers) events ≡ Some (record z { deques = (opening n workers).deques }) }
 {}

@@ -35,7 +35,9 @@ fn deal_one(deques: &mut Vec<VecDeque<u64>>, worker: usize, task: u64, count: u6
     requires there { worker < vec_len deques.old }
     requires room { length (slice_index_or (deques_of deques.old.items) worker []) < slice_index_or (rooms_of deques.old.items) worker 0 }
     ensures next { result ≡ (if count == 0 then (worker + 1) % vec_len deques.old else worker) }
-    ensures deque { deques_of deques.new.items ≡ (if count == 0 then slice_set (deques_of deques.old.items) worker (slice_index_or (deques_of deques.old.items) worker [] ++ task ∷ []) else deques_of deques.old.items) }
+    ensures deque { deques_of deques.new.items ≡ (if count == 0
+        then slice_set (deques_of deques.old.items) worker (slice_index_or (deques_of deques.old.items) worker [] ++ task ∷ [])
+        else deques_of deques.old.items) }
     ensures rooms { rooms_of deques.new.items ≡ rooms_of deques.old.items }
     ensures workers { vec_len deques.new ≡ vec_len deques.old }
 {

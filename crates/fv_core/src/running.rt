@@ -60,7 +60,13 @@ impl Core {
     /// have no more tasks and edges than this one.
     pub fn new(alloc: Global, tasks: &Tasks, workers: u32) -> Result<Core, AllocError>
         requires some_worker { 0 < workers }
-        ensures core { IfOk result (λ c. c ≡ record { tasks = tasks.now.tasks; workers = workers; room_tasks = task_count tasks.now.tasks; room_edges = edges_of tasks.now.tasks; now = opening (net_of tasks.now.tasks) workers }) }
+        ensures core { IfOk result (λ c. c ≡ record {
+          tasks = tasks.now.tasks;
+          workers = workers;
+          room_tasks = task_count tasks.now.tasks;
+          room_edges = edges_of tasks.now.tasks;
+          now = opening (net_of tasks.now.tasks) workers;
+        }) }
         ensures graph { IfOk result (λ c. IsGraph c.tasks) }
     {
         let room_tasks = tasks.len();

@@ -86,41 +86,52 @@ module _ (g : Tasks) (ig : IsGraph g) where
           dite (ℕ_discrete (e / stride g) (t / g.loops))
           (λ v. let q : e / stride g * g.loops ≡ t / g.loops * g.loops = ap (λ n. n * g.loops) v in
           one_pair (λ k. end k == loop_of g t) (vector_of g t) v h
-          ∙ bits_agree (end k == t % g.loops) (loop == t) (λ a. let b = eq_of (end k) (t % g.loops) a in eq-eqb loop t (omega arith)) (λ a. let b = eq_of loop t a in eq-eqb (end k) (t % g.loops) (omega arith)))
+          ∙ bits_agree (end k == t % g.loops) (loop == t) (λ a. let b = eq_of (end k) (t % g.loops) a in eq-eqb loop t (omega arith))
+          (λ a. let b = eq_of loop t a in eq-eqb (end k) (t % g.loops) (omega arith)))
           (λ ne. other_vector (λ k. end k == loop_of g t) (vector_of g t) ne
           ∙ sym (bit_apart loop t (λ a. let u = unique (e / stride g) (end k) (t / g.loops) (t % g.loops) g.loops s slow (sym is ∙ a ∙ sym pt) in ne u.0)))
 
       pub inward_all : times e (inward g t) ≡ bit (reader_of g e == t)
       inward_all = let pt = at_t in let pe = at_e in dite (dec_le g.loops (e % stride g))
-          (λ l. let c = bit_apart (chain_edge g (loop_of g t) (vector_of g t)) e (λ s. let u = unique (t / g.loops) (t % g.loops) (e / stride g) (e % stride g) (stride g) (let k = slow in omega arith) low (s ∙ sym pe) in let k = slow in omega arith) in
+          (λ l. let c = bit_apart (chain_edge g (loop_of g t) (vector_of g t)) e (λ s. let u = unique (t / g.loops) (t % g.loops) (e / stride g)
+          (e % stride g) (stride g) (let k = slow in omega arith) low (s ∙ sym pe) in let k = slow in omega arith) in
           let p = pairs_once (λ k. (pair_at g k).reader) (λ k h. (ig.in_order k h).1) (reader_of g e) l (reader_pair l) in omega arith)
           (λ l. let r = reader_chain (omega arith) in let n = no_pair (λ k. (pair_at g k).reader == loop_of g t) (vector_of g t) (omega arith) in
           let c = bits_agree (chain_edge g (loop_of g t) (vector_of g t) == e) (reader_of g e == t)
-          (λ a. let u = unique (t / g.loops) (t % g.loops) (e / stride g) (e % stride g) (stride g) (let k = slow in omega arith) low (eq_of (chain_edge g (loop_of g t) (vector_of g t)) e a ∙ sym pe) in
+          (λ a. let u = unique (t / g.loops) (t % g.loops) (e / stride g) (e % stride g) (stride g) (let k = slow in
+          omega arith) low (eq_of (chain_edge g (loop_of g t) (vector_of g t)) e a ∙ sym pe) in
           let q : e / stride g * g.loops ≡ t / g.loops * g.loops = ap (λ n. n * g.loops) (sym u.0) in eq-eqb (reader_of g e) t (r ∙ omega arith))
           (λ a. let u = unique (e / stride g) (e % stride g) (t / g.loops) (t % g.loops) g.loops (omega arith) slow (sym r ∙ eq_of (reader_of g e) t a ∙ sym pt) in
           let q : t / g.loops * stride g ≡ e / stride g * stride g = ap (λ n. n * stride g) (sym u.0) in eq-eqb (chain_edge g (loop_of g t) (vector_of g t)) e (omega arith)) in omega arith)
 
       pub outward_all : times e (outward g t) ≡ bit (not (is_entry g e) && (source_of g e == t))
       outward_all = let pt = at_t in let pe = at_e in dite (dec_le g.loops (e % stride g))
-          (λ l. let c = bit_apart (chain_edge g (loop_of g t) (vector_of g t + 1)) e (λ s. let u = unique (t / g.loops + 1) (t % g.loops) (e / stride g) (e % stride g) (stride g) (let k = slow in omega arith) low (s ∙ sym pe) in let k = slow in omega arith) in
+          (λ l. let c = bit_apart (chain_edge g (loop_of g t) (vector_of g t + 1)) e
+          (λ s. let u = unique (t / g.loops + 1) (t % g.loops) (e / stride g) (e % stride g) (stride g) (let k = slow in omega arith) low (s
+          ∙ sym pe) in let k = slow in omega arith) in
           let p = pairs_once (λ k. (pair_at g k).source) (λ k h. let o = ig.in_order k h in let a = o.0 in let b = o.1 in omega arith) (source_of g e) l (source_pair l) in
           let z = bit_left (not (is_entry g e)) (source_of g e == t) (ap not (not_ltb e g.loops (omega arith))) in omega arith)
           (λ l. let n = no_pair (λ k. (pair_at g k).source == loop_of g t) (vector_of g t) (omega arith) in
           let c = bits_agree (chain_edge g (loop_of g t) (vector_of g t + 1) == e) (not (is_entry g e) && (source_of g e == t))
-          (λ a. let u = unique (t / g.loops + 1) (t % g.loops) (e / stride g) (e % stride g) (stride g) (let k = slow in omega arith) low (eq_of (chain_edge g (loop_of g t) (vector_of g t + 1)) e a ∙ sym pe) in
+          (λ a. let u = unique (t / g.loops + 1) (t % g.loops) (e / stride g) (e % stride g) (stride g) (let k = slow in
+          omega arith) low (eq_of (chain_edge g (loop_of g t) (vector_of g t + 1)) e a ∙ sym pe) in
           let q : (e / stride g - 1) * g.loops ≡ t / g.loops * g.loops = ap (λ n. n * g.loops) (omega arith) in
           let f = further 0 (e / stride g) (stride g) (omega arith) in
           both_of (not (is_entry g e)) (source_of g e == t) (ap not (not_ltb e g.loops (omega arith))) (eq-eqb (source_of g e) t (source_chain (omega arith) ∙ omega arith)))
           (λ a. let b = both_true (not (is_entry g e)) (source_of g e == t) a in
           let u = unique (e / stride g - 1) (e % stride g) (t / g.loops) (t % g.loops) g.loops (omega arith) slow (sym (source_chain (omega arith)) ∙ eq_of (source_of g e) t b.1 ∙ sym pt) in
-          let some : 0 < e / stride g = dite (ℕ_discrete (e / stride g) 0) (λ z. let m : e / stride g * stride g ≡ 0 * stride g = ap (λ n. n * stride g) z in absurd (true≢false (sym b.0 ∙ ap not (lt-ltb e g.loops (omega arith))))) (λ ne. omega arith) in
-          let q : (t / g.loops + 1) * stride g ≡ e / stride g * stride g = ap (λ n. n * stride g) (omega arith) in eq-eqb (chain_edge g (loop_of g t) (vector_of g t + 1)) e (omega arith)) in omega arith)
+          let some : 0 < e / stride g = dite (ℕ_discrete (e / stride g) 0)
+          (λ z. let m : e / stride g * stride g ≡ 0 * stride g = ap (λ n. n * stride g) z in
+          absurd (true≢false (sym b.0 ∙ ap not (lt-ltb e g.loops (omega arith))))) (λ ne. omega arith) in
+          let q : (t / g.loops + 1) * stride g ≡ e / stride g * stride g = ap (λ n. n * stride g) (omega arith) in
+          eq-eqb (chain_edge g (loop_of g t) (vector_of g t + 1)) e (omega arith)) in omega arith)
 
   -- a task's edges lie in its vector
   reader_vector : (e t : ℕ) → t < task_count g → reader_of g e ≡ t → e / stride g ≡ t / g.loops
   reader_vector e t there is = let pt = at_t e t there in dite (dec_le g.loops (e % stride g))
-      (λ l. let f = pair_fits e l in (unique (e / stride g) (pair_at g (e % stride g - g.loops)).reader (t / g.loops) (t % g.loops) g.loops f.1 (slow e t there) (sym (reader_pair e l) ∙ is ∙ sym pt)).0)
+      (λ l. let f = pair_fits e l in
+      (unique (e / stride g) (pair_at g (e % stride g - g.loops)).reader (t / g.loops) (t % g.loops) g.loops f.1 (slow e t there)
+      (sym (reader_pair e l) ∙ is ∙ sym pt)).0)
       (λ l. (unique (e / stride g) (e % stride g) (t / g.loops) (t % g.loops) g.loops (omega arith) (slow e t there) (sym (reader_chain e (omega arith)) ∙ is ∙ sym pt)).0)
 
   -- an edge into a task is no exit edge
@@ -162,7 +173,9 @@ module _ (g : Tasks) (ig : IsGraph g) where
   inward_once : (t e : ℕ) → t < task_count g → times e (inward g t) ≡ bit (((net_of g).is_inner e || is_entry g e) && (reader_of g e == t))
   inward_once t e there = inward_all e t there ∙ bits_agree (reader_of g e == t) (((net_of g).is_inner e || is_entry g e) && (reader_of g e == t))
       (λ a. both_of ((net_of g).is_inner e || is_entry g e) (reader_of g e == t)
-      (dite (dec_le g.loops e) (λ l. either_left ((net_of g).is_inner e) (is_entry g e) (inner_is e l (read_below e t there (eq_of (reader_of g e) t a)))) (λ l. either_right ((net_of g).is_inner e) (is_entry g e) (lt-ltb e g.loops (omega arith)))) a)
+      (dite (dec_le g.loops e)
+      (λ l. either_left ((net_of g).is_inner e) (is_entry g e) (inner_is e l (read_below e t there (eq_of (reader_of g e) t a))))
+      (λ l. either_right ((net_of g).is_inner e) (is_entry g e) (lt-ltb e g.loops (omega arith)))) a)
       (λ a. (both_true ((net_of g).is_inner e || is_entry g e) (reader_of g e == t) a).1)
 
   pub needs_once : (t e : ℕ) → t < task_count g → times e (needs_of g t) ≡ bit ((net_of g).is_inner e && (reader_of g e == t))
@@ -289,7 +302,8 @@ module _ (g : Tasks) (ig : IsGraph g) where
       let u = unique (e / stride g - 1) (e % stride g) (t / g.loops) (t % g.loops) g.loops x.0 s (sym (source_chain e x.0) ∙ is ∙ sym pt) in
       let r : e / stride g * stride g ≡ g.vectors * stride g = ap (λ n. n * stride g) w in let p = at_e e in let y = u.1 in absurd (ne (omega arith)))
       (λ l. omega arith))) c.1)
-      (λ b. let c = both_true ((net_of g).is_inner e) (source_of g e == t) b in both_of (not (is_entry g e)) (source_of g e == t) (both_true (not (is_entry g e)) (ltb e (g.vectors * stride g)) c.0).0 c.1) in omega arith)
+      (λ b. let c = both_true ((net_of g).is_inner e) (source_of g e == t) b in
+      both_of (not (is_entry g e)) (source_of g e == t) (both_true (not (is_entry g e)) (ltb e (g.vectors * stride g)) c.0).0 c.1) in omega arith)
 
   pub feeds_once : (t e : ℕ) → t < task_count g → times e (feeds_of g t) ≡ bit ((net_of g).is_inner e && (source_of g e == t))
   feeds_once t e there = dite (dec_le (task_count g) (t + g.loops))
@@ -300,7 +314,8 @@ module _ (g : Tasks) (ig : IsGraph g) where
       let v = fed_vector e t there (eq_of (source_of g e) t b.1) in let w = early_vector t there (omega arith) in
       let f = further (e / stride g) g.vectors (stride g) (omega arith) in let p = at_e e in let k = low e in
       both_of ((net_of g).is_inner e) (source_of g e == t) (inner_is e (not_entry e b.0) (omega arith)) b.1)
-      (λ a. let b = both_true ((net_of g).is_inner e) (source_of g e == t) a in both_of (not (is_entry g e)) (source_of g e == t) (both_true (not (is_entry g e)) (ltb e (g.vectors * stride g)) b.0).0 b.1))
+      (λ a. let b = both_true ((net_of g).is_inner e) (source_of g e == t) a in
+      both_of (not (is_entry g e)) (source_of g e == t) (both_true (not (is_entry g e)) (ltb e (g.vectors * stride g)) b.0).0 b.1))
 
   pub is_net : IsNet (net_of g)
   is_net = record { needs_once = needs_once; feeds_once = feeds_once; rises = rises }
@@ -317,8 +332,10 @@ module _ (g : Tasks) (ig : IsGraph g) where
     apart = λ e. let r = room in dite (dec_le g.loops e)
         (λ l. let n : bit (is_entry g e) ≡ 0 = ap bit (not_ltb e g.loops l) in
         dite (dec_le (g.vectors * stride g) e)
-        (λ h. let z : bit ((net_of g).is_inner e) ≡ 0 = ap (λ b. bit (not (is_entry g e) && b)) (not_ltb e (g.vectors * stride g) h) ∙ bit_right (not (is_entry g e)) false refl in let b = bit_most (is_exit g e) in omega arith)
-        (λ h. let z : bit (is_exit g e) ≡ 0 = bits_agree (is_exit g e) false (λ x. let k = exit_low e x in absurd (omega arith)) (λ x. absurd (true≢false (sym x))) in let b = bit_most ((net_of g).is_inner e) in omega arith))
+        (λ h. let z : bit ((net_of g).is_inner e) ≡ 0 = ap (λ b. bit (not (is_entry g e) && b)) (not_ltb e (g.vectors * stride g) h)
+        ∙ bit_right (not (is_entry g e)) false refl in let b = bit_most (is_exit g e) in omega arith)
+        (λ h. let z : bit (is_exit g e) ≡ 0 = bits_agree (is_exit g e) false (λ x. let k = exit_low e x in
+        absurd (omega arith)) (λ x. absurd (true≢false (sym x))) in let b = bit_most ((net_of g).is_inner e) in omega arith))
         (λ l. let z : bit (is_exit g e) ≡ 0 = bits_agree (is_exit g e) false (λ x. let k = exit_low e x in absurd (omega arith)) (λ x. absurd (true≢false (sym x))) in
         let i : bit ((net_of g).is_inner e) ≡ 0 = bits_agree ((net_of g).is_inner e) false (λ x. let k = inner_low e x in absurd (omega arith)) (λ x. absurd (true≢false (sym x))) in
         let b = bit_most (is_entry g e) in omega arith);

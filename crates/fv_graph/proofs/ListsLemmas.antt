@@ -4,7 +4,8 @@ use Rattle.std.specs.Global.{Vec}
 use Rattle.fv_graph.specs.Lists.{AreLists}
 use Rattle.fv_graph.proofs.Graphs.{further, low_quotient}
 
-one_more : (E : ℕ → List ℕ) (xs : List (Vec ℕ)) (v : Vec ℕ) (n : ℕ) → length xs ≡ n → ((t : ℕ) (d : Vec ℕ) → t < n → (get_or xs t d).items ≡ E t) → v.items ≡ E n → (t : ℕ) (d : Vec ℕ) → t < n + 1 → (get_or (xs ++ v ∷ []) t d).items ≡ E t
+one_more : (E : ℕ → List ℕ) (xs : List (Vec ℕ)) (v : Vec ℕ) (n : ℕ) → length xs ≡ n → ((t : ℕ) (d : Vec ℕ) → t < n → (get_or xs t d).items ≡ E t)
+    → v.items ≡ E n → (t : ℕ) (d : Vec ℕ) → t < n + 1 → (get_or (xs ++ v ∷ []) t d).items ≡ E t
 one_more E [] v n long each is zero d h = is ∙ ap E (omega arith)
 one_more E [] v n long each is (suc t) d h = absurd (omega arith)
 one_more E (x ∷ xs) v n long each is zero d h = each 0 d (omega arith)

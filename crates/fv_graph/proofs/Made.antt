@@ -23,10 +23,12 @@ get_keys f (r ∷ rs) zero z = refl
 get_keys f (r ∷ rs) (suc i) z = get_keys f rs i z
 
 -- the keys of all pairs are loops
-pub keys_low : (f : Reads → ℕ) (rs : List Reads) (keys : List ℕ) (loops : ℕ) → f no_reads ≡ 0 → keys ≡ map f rs → ((k : ℕ) → k < length rs → f (get_or rs k no_reads) < loops) → (k : ℕ) → k < length keys → get_or keys k 0 < loops
+pub keys_low : (f : Reads → ℕ) (rs : List Reads) (keys : List ℕ) (loops : ℕ) → f no_reads ≡ 0 → keys ≡ map f rs
+    → ((k : ℕ) → k < length rs → f (get_or rs k no_reads) < loops) → (k : ℕ) → k < length keys → get_or keys k 0 < loops
 keys_low f rs keys loops z is low k h = let l = low k (let a = ap length is in let b = length_keys f rs in omega arith) in let g = get_keys f rs k z in let q = ap (λ l. get_or l k 0) is in omega arith
 
-module _ (g : Tasks) (f : Reads → ℕ) (z : f no_reads ≡ 0) (keys : List ℕ) (is : keys ≡ map f g.reads) (groups : List (Vec ℕ)) (long : length groups ≡ g.loops) (by : Grouped keys g.loops (length keys) groups) where
+module _ (g : Tasks) (f : Reads → ℕ) (z : f no_reads ≡ 0) (keys : List ℕ) (is : keys ≡ map f g.reads) (groups : List (Vec ℕ))
+    (long : length groups ≡ g.loops) (by : Grouped keys g.loops (length keys) groups) where
   made : (j : ℕ) → j < g.loops → group_of groups j ≡ passing (λ k. f (pair_at g k) == j) 0 (length g.reads)
   made j h =
       group_items groups j (passing (λ i. get_or keys i 0 == j) 0 (length keys)) (omega arith) (λ d. by j d h)
@@ -39,7 +41,9 @@ module _ (g : Tasks) (f : Reads → ℕ) (z : f no_reads ≡ 0) (keys : List ℕ
       let p = get_passing (λ k. f (pair_at g k) == j) 0 (length g.reads) i 0 (subst (λ xs. i < length xs) m l) in
       let q = ap (λ xs. get_or xs i 0) m in let o = p.high in omega arith
 
-  pairs_made : (wide : ℕ) → wide ≡ stride g → (t : ℕ) → 0 < g.loops → map (λ k. t / g.loops * wide + g.loops + k) (group_of groups (t % g.loops)) ≡ map (λ k. vector_of g t * stride g + (g.loops + k)) (passing (λ k. f (pair_at g k) == loop_of g t) 0 (length g.reads))
+  pairs_made : (wide : ℕ) → wide ≡ stride g → (t : ℕ) → 0 < g.loops
+      → map (λ k. t / g.loops * wide + g.loops + k) (group_of groups (t % g.loops)) ≡ map (λ k. vector_of g t * stride g + (g.loops + k))
+      (passing (λ k. f (pair_at g k) == loop_of g t) 0 (length g.reads))
   pairs_made wide w t some =
       ap (map (λ k. t / g.loops * wide + g.loops + k)) (made (t % g.loops) (mod-lt t some))
       ∙ ap (λ (e : ℕ → ℕ). map e (passing (λ k. f (pair_at g k) == loop_of g t) 0 (length g.reads))) (λ x k. moved k x)
@@ -48,7 +52,8 @@ module _ (g : Tasks) (f : Reads → ℕ) (z : f no_reads ≡ 0) (keys : List ℕ
       moved k = let q = ap (λ n. t / g.loops * n) w in omega arith
 
 -- the lists into tasks, and those out of them
-pub are_inward : (g : Tasks) (keys : List ℕ) (groups lists : List (Vec ℕ)) (wide : ℕ) → 0 < g.loops → wide ≡ stride g → keys ≡ map (λ (r : Reads). r.reader) g.reads → length groups ≡ g.loops → Grouped keys g.loops (length keys) groups
+pub are_inward : (g : Tasks) (keys : List ℕ) (groups lists : List (Vec ℕ)) (wide : ℕ) → 0 < g.loops → wide ≡ stride g
+    → keys ≡ map (λ (r : Reads). r.reader) g.reads → length groups ≡ g.loops → Grouped keys g.loops (length keys) groups
     → AreLists (edges_at g.loops wide 0 groups) (task_count g) lists → AreInward g lists
 are_inward g keys groups lists wide some w is long by h = record {
   long = h.long;
@@ -56,10 +61,12 @@ are_inward g keys groups lists wide some w is long by h = record {
       ∙ ap (λ n. n ∷ pair_edges_into g t) (let q = ap (λ n. t / g.loops * n) w in omega arith);
 }
 
-pub are_outward : (g : Tasks) (keys : List ℕ) (groups lists : List (Vec ℕ)) (wide : ℕ) → 0 < g.loops → wide ≡ stride g → keys ≡ map (λ (r : Reads). r.source) g.reads → length groups ≡ g.loops → Grouped keys g.loops (length keys) groups
+pub are_outward : (g : Tasks) (keys : List ℕ) (groups lists : List (Vec ℕ)) (wide : ℕ) → 0 < g.loops → wide ≡ stride g
+    → keys ≡ map (λ (r : Reads). r.source) g.reads → length groups ≡ g.loops → Grouped keys g.loops (length keys) groups
     → AreLists (edges_at g.loops wide wide groups) (task_count g) lists → AreOutward g lists
 are_outward g keys groups lists wide some w is long by h = record {
   long = h.long;
   each = λ t d l. h.each t d l ∙ ap (λ xs. (t / g.loops * wide + t % g.loops + wide) ∷ xs) (pairs_made g (λ (r : Reads). r.source) refl keys is groups long by wide w t some)
-      ∙ ap (λ n. n ∷ pair_edges_out g t) (let q = ap (λ n. t / g.loops * n) w in let m = suc-mul (t / g.loops) (stride g) in let r : (t / g.loops + 1) * stride g ≡ suc (t / g.loops) * stride g = ap (λ n. n * stride g) (omega arith) in omega arith);
+      ∙ ap (λ n. n ∷ pair_edges_out g t) (let q = ap (λ n. t / g.loops * n) w in let m = suc-mul (t / g.loops) (stride g) in
+      let r : (t / g.loops + 1) * stride g ≡ suc (t / g.loops) * stride g = ap (λ n. n * stride g) (omega arith) in omega arith);
 }

@@ -26,7 +26,8 @@ rises_behind x xs h i j d l m = h (suc i) (suc j) d (omega arith) (omega arith)
 pub rises_once : (xs : List ℕ) → Rises xs → (x : ℕ) → times x xs ≤ 1
 rises_once [] h x = omega arith
 rises_once (y ∷ ys) h x = dite (ℕ_discrete y x)
-    (λ s. let z = total_zero (λ k. bit (k == x)) ys 0 (λ i l. bit_apart (get_or ys i 0) x (λ e. let o = h 0 (suc i) 0 (omega arith) (omega arith) in omega arith)) in let b = bit_le (y == x) in omega arith)
+    (λ s. let z = total_zero (λ k. bit (k == x)) ys 0 (λ i l. bit_apart (get_or ys i 0) x (λ e. let o = h 0 (suc i) 0 (omega arith) (omega arith) in
+    omega arith)) in let b = bit_le (y == x) in omega arith)
     (λ n. let z = bit_apart y x n in let r = rises_once ys (rises_behind y ys h) x in omega arith)
 
 -- what stands in the list of numbers that pass
@@ -92,7 +93,8 @@ pub record IsAt (rs : List Reads) (j i k : ℕ) : Type 0 where
   pub reader : (get_or rs k no_reads).reader ≡ j
   pub source : (get_or rs k no_reads).source ≡ i
 
-at_first : (b : Bool) (r : Reads) (rs : List Reads) (j i : ℕ) → ((r.reader == j) && (r.source == i)) ≡ b → (reads_loop rs j i ≡ true → (k : ℕ) × IsAt rs j i k) → (b || reads_loop rs j i) ≡ true → (k : ℕ) × IsAt (r ∷ rs) j i k
+at_first : (b : Bool) (r : Reads) (rs : List Reads) (j i : ℕ) → ((r.reader == j) && (r.source == i)) ≡ b
+    → (reads_loop rs j i ≡ true → (k : ℕ) × IsAt rs j i k) → (b || reads_loop rs j i) ≡ true → (k : ℕ) × IsAt (r ∷ rs) j i k
 at_first true r rs j i e f h = let b = both_true (r.reader == j) (r.source == i) e in (0, record { there = omega arith; reader = eq_of r.reader j b.0; source = eq_of r.source i b.1 })
 at_first false r rs j i e f h = let q = f h in (suc q.0, record { there = let l = q.1.there in omega arith; reader = q.1.reader; source = q.1.source })
 
@@ -102,8 +104,11 @@ loop_place (r ∷ rs) j i h = at_first ((r.reader == j) && (r.source == i)) r rs
 
 before_is : (a b : Reads) → is_before a b ≡ true → (a.reader ≡ b.reader → a.source < b.source) × (a.source ≡ b.source → a.reader < b.reader)
 before_is a b h = (
-  λ e. one_of (ltb a.reader b.reader) ((a.reader == b.reader) && ltb a.source b.source) (a.source < b.source) h (λ l. let m = ltb-true a.reader b.reader l in absurd (omega arith)) (λ c. ltb-true a.source b.source (both_true (a.reader == b.reader) (ltb a.source b.source) c).1),
-  λ e. one_of (ltb a.reader b.reader) ((a.reader == b.reader) && ltb a.source b.source) (a.reader < b.reader) h (λ l. ltb-true a.reader b.reader l) (λ c. let m = ltb-true a.source b.source (both_true (a.reader == b.reader) (ltb a.source b.source) c).1 in absurd (omega arith)),
+  λ e. one_of (ltb a.reader b.reader) ((a.reader == b.reader) && ltb a.source b.source) (a.source < b.source) h
+      (λ l. let m = ltb-true a.reader b.reader l in
+      absurd (omega arith)) (λ c. ltb-true a.source b.source (both_true (a.reader == b.reader) (ltb a.source b.source) c).1),
+  λ e. one_of (ltb a.reader b.reader) ((a.reader == b.reader) && ltb a.source b.source) (a.reader < b.reader) h (λ l. ltb-true a.reader b.reader l)
+      (λ c. let m = ltb-true a.source b.source (both_true (a.reader == b.reader) (ltb a.source b.source) c).1 in absurd (omega arith)),
 )
 
 map_map : (f h : ℕ → ℕ) (xs : List ℕ) → map f (map h xs) ≡ map (λ x. f (h x)) xs
@@ -123,10 +128,12 @@ bit_either false b h = omega arith
 module _ (g : Tasks) (ig : IsGraph g) where
   -- the place of a pair's edge
   edge_place : (k v : ℕ) → k < length g.reads → (pair_edge g k v / stride g ≡ v) × (pair_edge g k v % stride g ≡ g.loops + k)
-  edge_place k v h = let l = ig.some_loop in unique (pair_edge g k v / stride g) (pair_edge g k v % stride g) v (g.loops + k) (stride g) (mod-lt (pair_edge g k v) (omega arith)) (omega arith) (div-add-mod' (pair_edge g k v) (stride g))
+  edge_place k v h = let l = ig.some_loop in unique (pair_edge g k v / stride g) (pair_edge g k v % stride g) v (g.loops + k) (stride g)
+      (mod-lt (pair_edge g k v) (omega arith)) (omega arith) (div-add-mod' (pair_edge g k v) (stride g))
 
   chain_place : (j v : ℕ) → j < g.loops → (chain_edge g j v / stride g ≡ v) × (chain_edge g j v % stride g ≡ j)
-  chain_place j v h = unique (chain_edge g j v / stride g) (chain_edge g j v % stride g) v j (stride g) (mod-lt (chain_edge g j v) (omega arith)) (omega arith) (div-add-mod' (chain_edge g j v) (stride g))
+  chain_place j v h = unique (chain_edge g j v / stride g) (chain_edge g j v % stride g) v j (stride g) (mod-lt (chain_edge g j v) (omega arith))
+      (omega arith) (div-add-mod' (chain_edge g j v) (stride g))
 
   pair_source : (k v : ℕ) → k < length g.reads → source_of g (pair_edge g k v) ≡ v * g.loops + (pair_at g k).source
   pair_source k v h = let u = edge_place k v h in let q = u.1 in source_pair g ig (pair_edge g k v) (omega arith)
@@ -152,7 +159,8 @@ module _ (g : Tasks) (ig : IsGraph g) where
     pub ends_rise : Rises (map f (map (λ k. pair_edge g k (vector_of g t)) (passing (λ k. near k == loop_of g t) 0 (length g.reads))))
     ends_rise = subst (λ l. Rises l) (sym (map_map f (λ k. pair_edge g k (vector_of g t)) (passing (λ k. near k == loop_of g t) 0 (length g.reads))))
         (map_rises (λ k. f (pair_edge g k (vector_of g t))) (λ k. near k == loop_of g t) 0 (length g.reads)
-        (λ a b l m p q. let x = ends a (omega arith) in let y = ends b (omega arith) in let r = rising a b l (omega arith) (eq_of (near a) (loop_of g t) p ∙ sym (eq_of (near b) (loop_of g t) q)) in omega arith))
+        (λ a b l m p q. let x = ends a (omega arith) in let y = ends b (omega arith) in
+        let r = rising a b l (omega arith) (eq_of (near a) (loop_of g t) p ∙ sym (eq_of (near b) (loop_of g t) q)) in omega arith))
 
     pub ends_count : (s : ℕ) (R : Bool) → ((k : ℕ) → k < length g.reads → near k ≡ loop_of g t → far k ≡ loop_of g s → R ≡ true)
         → (R ≡ true → (k : ℕ) × (k < length g.reads) × (near k ≡ loop_of g t) × (far k ≡ loop_of g s))
@@ -200,12 +208,14 @@ module _ (g : Tasks) (ig : IsGraph g) where
   readers_rise t = ends_rise t (λ k. (pair_at g k).source) (λ k. (pair_at g k).reader) (reader_of g) (λ k h. pair_reader k (vector_of g t) h) low_reader near_source
 
   read_pairs : (t s : ℕ) → times s (map (source_of g) (pair_edges_into g t)) ≡ bit (reads_loop g.reads (loop_of g t) (loop_of g s) && (vector_of g s == vector_of g t))
-  read_pairs t s = ends_count t (λ k. (pair_at g k).reader) (λ k. (pair_at g k).source) (source_of g) (λ k h. pair_source k (vector_of g t) h) low_source near_reader s (reads_loop g.reads (loop_of g t) (loop_of g s))
+  read_pairs t s = ends_count t (λ k. (pair_at g k).reader) (λ k. (pair_at g k).source) (source_of g)
+      (λ k h. pair_source k (vector_of g t) h) low_source near_reader s (reads_loop g.reads (loop_of g t) (loop_of g s))
       (λ k l a b. loop_at g.reads (loop_of g t) (loop_of g s) k l a b)
       (λ h. let q = loop_place g.reads (loop_of g t) (loop_of g s) h in (q.0, q.1.there, q.1.reader, q.1.source))
 
   fed_pairs : (t s : ℕ) → times s (map (reader_of g) (pair_edges_out g t)) ≡ bit (reads_loop g.reads (loop_of g s) (loop_of g t) && (vector_of g s == vector_of g t))
-  fed_pairs t s = ends_count t (λ k. (pair_at g k).source) (λ k. (pair_at g k).reader) (reader_of g) (λ k h. pair_reader k (vector_of g t) h) low_reader near_source s (reads_loop g.reads (loop_of g s) (loop_of g t))
+  fed_pairs t s = ends_count t (λ k. (pair_at g k).source) (λ k. (pair_at g k).reader) (reader_of g)
+      (λ k h. pair_reader k (vector_of g t) h) low_reader near_source s (reads_loop g.reads (loop_of g s) (loop_of g t))
       (λ k l a b. loop_at g.reads (loop_of g s) (loop_of g t) k l b a)
       (λ h. let q = loop_place g.reads (loop_of g s) (loop_of g t) h in (q.0, q.1.there, q.1.source, q.1.reader))
 
@@ -250,8 +260,12 @@ module _ (g : Tasks) (ig : IsGraph g) where
       let p = fed_pairs t s in let r = read_parts s t in let pt = div-add-mod' t g.loops in let lt = mod-lt t ig.some_loop in
       let swap : bit (reads_loop g.reads (loop_of g s) (loop_of g t) && (vector_of g s == vector_of g t)) ≡ bit (reads_loop g.reads (loop_of g s) (loop_of g t) && (vector_of g t == vector_of g s)) =
       bits_agree (reads_loop g.reads (loop_of g s) (loop_of g t) && (vector_of g s == vector_of g t)) (reads_loop g.reads (loop_of g s) (loop_of g t) && (vector_of g t == vector_of g s))
-      (λ h. let b = both_true (reads_loop g.reads (loop_of g s) (loop_of g t)) (vector_of g s == vector_of g t) h in both_of (reads_loop g.reads (loop_of g s) (loop_of g t)) (vector_of g t == vector_of g s) b.0 (eq-eqb (vector_of g t) (vector_of g s) (sym (eq_of (vector_of g s) (vector_of g t) b.1))))
-      (λ h. let b = both_true (reads_loop g.reads (loop_of g s) (loop_of g t)) (vector_of g t == vector_of g s) h in both_of (reads_loop g.reads (loop_of g s) (loop_of g t)) (vector_of g s == vector_of g t) b.0 (eq-eqb (vector_of g s) (vector_of g t) (sym (eq_of (vector_of g t) (vector_of g s) b.1)))) in
+      (λ h. let b = both_true (reads_loop g.reads (loop_of g s) (loop_of g t)) (vector_of g s == vector_of g t) h in
+      both_of (reads_loop g.reads (loop_of g s) (loop_of g t)) (vector_of g t == vector_of g s) b.0
+      (eq-eqb (vector_of g t) (vector_of g s) (sym (eq_of (vector_of g s) (vector_of g t) b.1))))
+      (λ h. let b = both_true (reads_loop g.reads (loop_of g s) (loop_of g t)) (vector_of g t == vector_of g s) h in
+      both_of (reads_loop g.reads (loop_of g s) (loop_of g t)) (vector_of g s == vector_of g t) b.0
+      (eq-eqb (vector_of g s) (vector_of g t) (sym (eq_of (vector_of g t) (vector_of g s) b.1)))) in
       dite (dec_le (task_count g) (t + g.loops))
       (λ l. ap (λ b. times s (map (reader_of g) (cond b (outward g t) (pair_edges_out g t)))) (not_ltb (t + g.loops) (task_count g) l)
       ∙ (let z = bit_apart (t + g.loops) s (λ e. omega arith) in omega arith))

@@ -36,7 +36,8 @@ is_pair r j i a b = ap bit (both_of (r.reader == j) (r.source == i) (eq-eqb r.re
 pub copied : (rs : List Reads) (j i k : ℕ) → IsAt rs j i k → 0 < copies j i rs
 copied rs j i k h = let a = total_at (λ (r : Reads). bit ((r.reader == j) && (r.source == i))) rs k no_reads h.there in let b = is_pair (get_or rs k no_reads) j i h.reader h.source in omega arith
 
-found_first : (b : Bool) (r : Reads) (rs : List Reads) (j i : ℕ) → ((r.reader == j) && (r.source == i)) ≡ b → (0 < copies j i rs → (k : ℕ) × IsAt rs j i k) → 0 < bit b + copies j i rs → (k : ℕ) × IsAt (r ∷ rs) j i k
+found_first : (b : Bool) (r : Reads) (rs : List Reads) (j i : ℕ) → ((r.reader == j) && (r.source == i)) ≡ b
+    → (0 < copies j i rs → (k : ℕ) × IsAt rs j i k) → 0 < bit b + copies j i rs → (k : ℕ) × IsAt (r ∷ rs) j i k
 found_first true r rs j i e f h = let b = both_true (r.reader == j) (r.source == i) e in (0, record { there = omega arith; reader = eq_of r.reader j b.0; source = eq_of r.source i b.1 })
 found_first false r rs j i e f h = let q = f (omega arith) in (suc q.0, record { there = let l = q.1.there in omega arith; reader = q.1.reader; source = q.1.source })
 
@@ -50,7 +51,8 @@ same_loops xs ys p j i = let c = same_copies xs ys p j i in bools_agree (reads_l
     (λ h. let k = loop_place xs j i h in let n = copied xs j i k.0 k.1 in let m = found ys j i (omega arith) in loop_at ys j i m.0 m.1.there m.1.reader m.1.source)
 
 module _ (ys : List Reads) (readers : IsNonDecreasingBy (λ (r : Reads). r.reader) ys)
-    (sources : (k : ℕ) (d : Reads) → k + 1 < length ys → (slice_index_or ys k d).reader ≡ (slice_index_or ys (k + 1) d).reader → (slice_index_or ys k d).source ≤ (slice_index_or ys (k + 1) d).source) where
+    (sources : (k : ℕ) (d : Reads) → k + 1 < length ys → (slice_index_or ys k d).reader ≡ (slice_index_or ys (k + 1) d).reader
+    → (slice_index_or ys k d).source ≤ (slice_index_or ys (k + 1) d).source) where
   -- of one reader, the sources do not fall
   sources_rise : (n j : ℕ) → j + n < length ys → (get_or ys j no_reads).reader ≡ (get_or ys (j + n) no_reads).reader → (get_or ys j no_reads).source ≤ (get_or ys (j + n) no_reads).source
   sources_rise zero j h e = let q : (get_or ys j no_reads).source ≡ (get_or ys (j + 0) no_reads).source = ap (λ k. (get_or ys k no_reads).source) (omega arith) in omega arith

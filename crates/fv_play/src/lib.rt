@@ -2,5 +2,6 @@
 #![tactic(auto)]
 
 mod player;
+mod script;
 
-pub use player::play;
+pub use player::{play, play_script};

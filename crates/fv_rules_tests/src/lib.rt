@@ -2,6 +2,10 @@
 #![tactic(auto)]
 
 #[cfg(test)]
+mod built;
+#[cfg(test)]
 mod names;
 #[cfg(test)]
 mod numbers;
+#[cfg(test)]
+mod rules;

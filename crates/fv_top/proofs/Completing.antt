@@ -1,24 +1,30 @@
 -- A run that can be done is done, and one whose files are refused is refused for them.
 use Rattle.std.proofs.Common.{◌≡◌, ℕ, ◌⊎◌, List, sym, ◌∙◌, ap, subst, inl, inr}
-use Rattle.std.specs.Prelude.{Some, Ok, Err}
+use Rattle.std.specs.Prelude.{Some, Option, Ok, Err}
 use Rattle.fv_outside.specs.Requests.{Request}
 use Rattle.fv_outside.specs.Desk.{DeskState, File, file_named}
+use Rattle.fv_diagram.specs.declared.control.ControlInfo.{ControlInfo}
+use Rattle.fv_words.specs.Runs.{Run}
 use Rattle.fv_top.specs.declared.refusal.Refusal.{Refusal}
 use Rattle.fv_top.specs.declared.refusal.Refusal.TheVariants.{NoMemory}
 use Rattle.fv_top.specs.declared.status.Tally.{Tally}
 use Rattle.fv_top.specs.declared.status.Status.TheVariants.{Done, Refused}
-use Rattle.fv_words.specs.Commands.{Names}
-use Rattle.fv_top.specs.Wave.{IsPlainInput}
 use Rattle.fv_top.specs.Program.{TextIs, IsRefusedText, IsOneText}
+use Rattle.fv_top.specs.Sources.{Compiled, Source, found, script_of, source_of}
+use Rattle.fv_top.specs.Sound.{sound_of, cut_in}
+use Rattle.fv_top.specs.Loading.{HasScript, HasInput}
 use Rattle.fv_top.specs.Steps.{Ends, IsJudge}
-use Rattle.fv_top.specs.Promise.{Asks, HasProgram, HasNoProgram, HasInput, HasNoInput, Step, ReadProgram, ReadInput, Render, Deliver, StepPasses, StepRefuses, run_rules, run_steps, HasCause, bad_words, of_run, HasPlayed, IsComplete, IsStrict, IsExact, IsRefusedOrNoMemory}
+use Rattle.fv_top.specs.Promise.{Asks, HasProgram, HasNoProgram, Plays, IsWhole, Step, ReadProgram, ReadScript, ReadHead, Fit, ReadSamples, Write, Tell, StepPasses, StepRefuses, run_rules, run_steps, HasCause, bad_words, of_run, HasPlayed, IsComplete, IsStrict, IsExact, IsRefusedOrNoMemory}
 use Rattle.fv_top.proofs.StepLaws.{exactly, completes, passes_apart}
 
--- a name has one file
+-- ---- a name has one file, and a file says one thing
+
 one_file : (name : List ℕ) (files : List File) (a b : List ℕ) → file_named name files ≡ Some a → file_named name files ≡ Some b → a ≡ b
 one_file name files a b h k = let e : Some a ≡ Some b = sym h ∙ k in cc
 
--- it is refused for one thing, and not where it passes
+one_found : (name : Option (List ℕ)) (files : List File) (a b : Option (List ℕ)) → found files name ≡ Some a → found files name ≡ Some b → a ≡ b
+one_found name files a b h k = let e : Some a ≡ Some b = sym h ∙ k in cc
+
 one_text : (name : List ℕ) (files : List File) (a b : Refusal) → IsOneText → HasNoProgram name files a → HasNoProgram name files b → a ≡ b
 one_text name files a b once h k =
     let e = once h.text (Err a) (Err b) h.refused (subst (λ (w : List ℕ). IsRefusedText w b) (one_file name files _ _ k.file h.file) k.refused) in
@@ -26,60 +32,95 @@ one_text name files a b once h k =
 
 program_apart : (name : List ℕ) (files : List File) (refusal : Refusal) → IsOneText → HasProgram name files → HasNoProgram name files refusal → ⊥
 program_apart name files refusal once p h =
-    let e = once h.text (Ok p.diagram) (Err refusal) (subst (λ (w : List ℕ). TextIs w (Ok p.diagram)) (one_file name files _ _ p.file h.file) p.program) h.refused in
+    let e = once h.text (Ok p.compiled) (Err refusal) (subst (λ (w : List ℕ). TextIs w (Ok p.compiled)) (one_file name files _ _ p.file h.file) p.program) h.refused in
     absurd cc
 
-input_apart : (name : List ℕ) (files : List File) → HasInput name files → HasNoInput name files → ⊥
-input_apart name files p h = h.not_plain (subst IsPlainInput (one_file name files _ _ p.file h.file) p.plain)
+one_program : (name : List ℕ) (files : List File) → IsOneText → (p q : HasProgram name files) → p.compiled ≡ q.compiled
+one_program name files once p q =
+    let e = once p.text (Ok p.compiled) (Ok q.compiled) p.program (subst (λ (w : List ℕ). TextIs w (Ok q.compiled)) (one_file name files _ _ q.file p.file) q.program) in
+    cc
 
-once_in : (names : Names) (files : List File) → IsOneText → (s : Step) (a b : Refusal) → StepRefuses names files s a → StepRefuses names files s b → a ≡ b
-once_in names files once ReadProgram a b h k = one_text names.program files a b once h k
-once_in names files once ReadInput a b h k = h.0 ∙ sym k.0
-once_in names files once Render a b h k = absurd h
-once_in names files once Deliver a b h k = absurd h
+-- a script says one thing of the same controls
+one_script : {name : Option (List ℕ)} {files : List File} {cs ds : List ControlInfo} {a b : _} → cs ≡ ds → HasScript name files cs a → HasScript name files ds b → a ≡ b
+one_script {name} {files} {cs} {ds} same p q = sym p.is ∙ ap (λ w. script_of cs w) (one_found name files _ _ p.file q.file) ∙ ap (λ (w : List ControlInfo). script_of w q.bytes) same ∙ q.is
 
-apart_in : (names : Names) (files : List File) → IsOneText → (s : Step) (a : Refusal) → StepPasses names files s → StepRefuses names files s a → ⊥
-apart_in names files once ReadProgram a p h = program_apart names.program files a once p h
-apart_in names files once ReadInput a p h = input_apart names.input files p h.1
-apart_in names files once Render a p h = h
-apart_in names files once Deliver a p h = h
+one_input : {name : Option (List ℕ)} {files : List File} {a b : _} → HasInput name files a → HasInput name files b → a ≡ b
+one_input {name} {files} p q = sym p.is ∙ ap source_of (one_found name files _ _ p.file q.file) ∙ q.is
 
--- the steps of a run judge
-judges : (names : Names) (old : DeskState) → IsOneText → IsJudge (run_rules names old)
-judges names old once = record { once = once_in names old.files once; apart = apart_in names old.files once }
+one_source : {name : Option (List ℕ)} {files : List File} {a b : Source} → HasInput name files (Ok a) → HasInput name files (Ok b) → a ≡ b
+one_source p q = let e = one_input p q in cc
+
+-- the sound of a program on an input
+one_sound : (run : Run) (files : List File) → IsOneText → (p q : HasProgram run.program files) (s u : Source) → HasInput run.input files (Ok s) → HasInput run.input files (Ok u) →
+    sound_of run.settings p.compiled.diagram s.head ≡ sound_of run.settings q.compiled.diagram u.head
+one_sound run files once p q s u h k =
+    ap (λ (c : Compiled). sound_of run.settings c.diagram s.head) (one_program run.program files once p q) ∙ ap (λ (w : Source). sound_of run.settings q.compiled.diagram w.head) (one_source h k)
+
+-- two runs of the same files are cut short alike
+one_cut : (run : Run) (files : List File) → IsOneText → (p q : Plays run files) → cut_in p.sound p.source ≡ cut_in q.sound q.source
+one_cut run files once p q =
+    let e = sym p.fits ∙ one_sound run files once p.of q.of p.source q.source p.on q.on ∙ q.fits in
+    let same : p.sound ≡ q.sound = cc in
+    ap (λ s. cut_in s p.source) same ∙ ap (λ (w : Source). cut_in q.sound w) (one_source p.on q.on)
+
+-- ---- the steps of a run judge
+
+once_in : (run : Run) (files : List File) → IsOneText → (s : Step) (a b : Refusal) → StepRefuses run files s a → StepRefuses run files s b → a ≡ b
+once_in run files once ReadProgram a b h k = one_text run.program files a b once h k
+once_in run files once ReadScript a b h k = let e = one_script (ap (λ (c : Compiled). c.controls) (one_program run.program files once h.0 k.0)) h.1 k.1 in cc
+once_in run files once ReadHead a b h k = let e = one_input h k in cc
+once_in run files once Fit a b h k = let e = sym h.3 ∙ one_sound run files once h.0 k.0 h.1 k.1 h.2 k.2 ∙ k.3 in cc
+once_in run files once ReadSamples a b h k = absurd h
+once_in run files once Write a b h k = let e = sym h.1 ∙ one_cut run files once h.0 k.0 ∙ k.1 in cc
+once_in run files once Tell a b h k = absurd h
+
+apart_in : (run : Run) (files : List File) → IsOneText → (s : Step) (a : Refusal) → StepPasses run files s → StepRefuses run files s a → ⊥
+apart_in run files once ReadProgram a p h = program_apart run.program files a once p h
+apart_in run files once ReadScript a p h = let e = one_script (ap (λ (c : Compiled). c.controls) (one_program run.program files once p.0 h.0)) p.2 h.1 in absurd cc
+apart_in run files once ReadHead a p h = let e = one_input p.1 h in absurd cc
+apart_in run files once Fit a p h = let e = sym p.fits ∙ one_sound run files once p.of h.0 p.source h.1 p.on h.2 ∙ h.3 in absurd cc
+apart_in run files once ReadSamples a p h = h
+apart_in run files once Write a p h = let e = sym p.1 ∙ one_cut run files once p.0 h.0 ∙ h.1 in absurd cc
+apart_in run files once Tell a p h = h
+
+judges : (run : Run) (old : DeskState) → IsOneText → IsJudge (run_rules run old)
+judges run old once = record { once = once_in run old.files once; apart = apart_in run old.files once }
 
 -- words ask for one thing
-one_command : (words : List (List ℕ)) (a b : Names) → Asks words a → Asks words b → a ≡ b
+one_command : (words : List (List ℕ)) (a b : Run) → Asks words a → Asks words b → a ≡ b
 one_command words a b h k = let e = sym h ∙ k in cc
 
 -- the steps of a run that was refused are those of its words
-ends_of : (words : List (List ℕ)) (names : Names) (old new : DeskState) (e : Refusal) (asked : List Request) → Asks words names → HasCause words old new e asked →
-    (rs : List Request) × Ends (run_rules names old) old new run_steps e rs
-ends_of words names old new e asked asks (bad_words h) = let f = sym asks ∙ h in absurd cc
-ends_of words names old new e asked asks (of_run other named h) =
-    (asked, subst (λ (n : Names). Ends (run_rules n old) old new run_steps e asked) (one_command words other names named asks) h)
+ends_of : (words : List (List ℕ)) (run : Run) (old new : DeskState) (e : Refusal) (asked : List Request) → Asks words run → HasCause words old new e asked →
+    (rs : List Request) × Ends (run_rules run old) old new run_steps e rs
+ends_of words run old new e asked asks (bad_words h) = let f = sym asks ∙ h in absurd cc
+ends_of words run old new e asked asks (of_run other named h) =
+    (asked, subst (λ (n : Run). Ends (run_rules n old) old new run_steps e asked) (one_command words other run named asks) h)
 
 -- ---- a run that is done
 pub done_exact : (words : List (List ℕ)) (tally : Tally) (frames : ℕ) (old new : DeskState) → HasPlayed words frames old new → IsExact words (Done tally)
 done_exact words tally frames old new p cause h = let f = sym p.asks ∙ h in absurd cc
 
-passes_in : (names : Names) (files : List File) → HasProgram names.program files → HasInput names.input files → (s : Step) → StepPasses names files s
-passes_in names files p q ReadProgram = p
-passes_in names files p q ReadInput = q
-passes_in names files p q Render = tt
-passes_in names files p q Deliver = tt
+passes_in : (run : Run) (files : List File) → (p : Plays run files) → IsWhole p → (s : Step) → StepPasses run files s
+passes_in run files p whole ReadProgram = p.of
+passes_in run files p whole ReadScript = (p.of, p.changes, p.under)
+passes_in run files p whole ReadHead = (p.source, p.on)
+passes_in run files p whole Fit = p
+passes_in run files p whole ReadSamples = tt
+passes_in run files p whole Write = (p, whole)
+passes_in run files p whole Tell = tt
 
 pub done_strict : (words : List (List ℕ)) (tally : Tally) (frames : ℕ) (old new : DeskState) → IsOneText → HasPlayed words frames old new → IsStrict words old new (Done tally)
-done_strict words tally frames old new once p names wanted asks told stops =
-    let same = one_command words p.names names p.asks asks in
-    let plays = (p.told told).0 in
-    let passes = subst (λ (n : Names). (s : Step) → StepPasses n old.files s) same (passes_in p.names old.files plays.of plays.on) in
-    absurd (passes_apart (run_rules names old) old new (judges names old once) told run_steps wanted passes stops)
+done_strict words tally frames old new once p run wanted asks told stops =
+    let same = one_command words p.run run p.asks asks in
+    let plays = p.told told in
+    let passes = subst (λ (n : Run). (s : Step) → StepPasses n old.files s) same (passes_in p.run old.files plays.0 plays.1) in
+    absurd (passes_apart (run_rules run old) old new (judges run old once) told run_steps wanted passes stops)
 
 -- ---- a run that was refused
 pub refused_exact : (words : List (List ℕ)) (old new : DeskState) (e : Refusal) (asked : List Request) → HasCause words old new e asked → IsExact words (Refused e)
 refused_exact words old new e asked (bad_words h) cause k = let f = sym h ∙ k in cc
-refused_exact words old new e asked (of_run names asks h) cause k = let f = sym asks ∙ k in absurd cc
+refused_exact words old new e asked (of_run run asks h) cause k = let f = sym asks ∙ k in absurd cc
 
 as_status : (wanted got : Refusal) → (got ≡ wanted) ⊎ (got ≡ NoMemory) → IsRefusedOrNoMemory wanted (Refused got)
 as_status wanted got (inl e) = inl (ap Refused e)
@@ -87,12 +128,12 @@ as_status wanted got (inr e) = inr (ap Refused e)
 
 pub refused_strict : (words : List (List ℕ)) (old new : DeskState) (e : Refusal) (asked : List Request) → IsOneText → HasCause words old new e asked →
     IsStrict words old new (Refused e)
-refused_strict words old new e asked once cause names wanted asks told stops =
-    let ends = ends_of words names old new e asked asks cause in
-    as_status wanted e (exactly (run_rules names old) old new (judges names old once) told run_steps wanted e ends.0 stops ends.1)
+refused_strict words old new e asked once cause run wanted asks told stops =
+    let ends = ends_of words run old new e asked asks cause in
+    as_status wanted e (exactly (run_rules run old) old new (judges run old once) told run_steps wanted e ends.0 stops ends.1)
 
 pub refused_complete : (words : List (List ℕ)) (old new : DeskState) (e : Refusal) (asked : List Request) → IsOneText → HasCause words old new e asked →
     IsComplete words old new (Refused e)
-refused_complete words old new e asked once cause names asks told passes =
-    let ends = ends_of words names old new e asked asks cause in
-    completes (run_rules names old) old new (judges names old once) told run_steps e ends.0 passes ends.1
+refused_complete words old new e asked once cause run asks told passes =
+    let ends = ends_of words run old new e asked asks cause in
+    completes (run_rules run old) old new (judges run old once) told run_steps e ends.0 passes ends.1

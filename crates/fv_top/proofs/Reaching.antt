@@ -1,83 +1,103 @@
 -- What a run has read before it writes, and why it stops there.
-use Rattle.std.proofs.Common.{◌≡◌, ℕ, ◌/◌, List, [], ◌∷◌, ◌++◌, length, take, drop, map, ℤ, sym, ◌∙◌, ap, arith, subst, refl, inl, inr, append_assoc}
-use Rattle.std.specs.Prelude.{IsSome, codes, Some}
-use Rattle.std.proofs.lemmas.List.{length-take, length-drop, append-nil}
+use Rattle.std.proofs.Common.{◌≡◌, ◌≢◌, ℕ, ◌==◌, Bool, true, false, List, [], ◌∷◌, ◌++◌, sym, ◌∙◌, ap, subst, refl, inl, inr, append_assoc}
+use Rattle.std.specs.Prelude.{IsTrue, IsSome, Some, None, Option, Ok, Err, Result, if◌then◌else◌, nat_le}
+use Rattle.std.proofs.lemmas.List.{append-nil}
 use Rattle.fv_base.specs.declared.role.Role.{Role}
-use Rattle.fv_base.specs.declared.role.Role.TheVariants.{Program, Input}
+use Rattle.fv_base.specs.declared.role.Role.TheVariants.{Program, Controls, Input}
 use Rattle.fv_outside.specs.Requests.{Request, to_read}
-use Rattle.fv_outside.specs.Desk.{DeskState, File, KeepsFaults, file_named}
-use Rattle.fv_outside.proofs.States.{quiet_self, quiet_then, told_before, fault_earlier, unfailing_later}
-use Rattle.fv_num.specs.Frames.{Frame}
-use Rattle.fv_diagram.specs.Diagram.{Diagram}
+use Rattle.fv_outside.specs.Desk.{DeskState, KeepsFaults, TakesSome, IsUnfailing}
+use Rattle.fv_outside.proofs.States.{quiet_self, quiet_then, some_quiet, told_before, fault_earlier, unfailing_later}
+use Rattle.fv_diagram.specs.Diagram.{Diagram, inputs, outputs}
+use Rattle.fv_words.specs.Runs.{Run, Settings}
+use Rattle.fv_wav.specs.declared.head.Head.{Head}
+use Rattle.fv_wav.specs.Samples.{data_size, data_limit}
 use Rattle.fv_top.specs.declared.refusal.Refusal.{Refusal}
-use Rattle.fv_top.specs.declared.refusal.Refusal.TheVariants.{ReadFault, Unsupported}
-use Rattle.fv_top.specs.Controls.{control_streams}
-use Rattle.fv_words.specs.Commands.{Names}
-use Rattle.fv_top.specs.Wave.{IsPlainInput, output_file, samples_in, frames_in, data_in, data_of, rate_of}
-use Rattle.fv_top.specs.Program.{IsOfText}
-use Rattle.fv_top.specs.Loading.{ReadsFile, StopsLoading}
+use Rattle.fv_top.specs.declared.refusal.Refusal.TheVariants.{ReadFault, Channels, FramesNeeded, OutputTooLong}
+use Rattle.fv_top.specs.Sound.{Sound, sound_of, counted, channels_in, bits_in, frames_in}
+use Rattle.fv_top.specs.Loading.{ReadsFile, StopsLoading, StopsSamples, IsThere, reading}
 use Rattle.fv_top.specs.Steps.{Halts, fault, judged, want_of_memory, reads}
-use Rattle.fv_top.specs.Running.{Reaches, CountsFaultOf}
-use Rattle.fv_top.specs.Promise.{HasNoProgram, HasNoInput, stated_frames, run_rules, ReadProgram, ReadInput}
+use Rattle.fv_top.specs.Promise.{Step, Fit, ReadSamples, TakesTurn, IsAnswered, HasRefusal, StepRefuses, run_rules}
+use Rattle.fv_top.specs.Running.{Reaches, CountsFaultOf, asked_before}
 
 pub reaches_nothing : (a : DeskState) → Reaches [] a a
-reaches_nothing a = record { quiet = quiet_self a; requests = sym (append-nil a.requests); left = λ t r n m. refl }
+reaches_nothing a = record { quiet = quiet_self a; requests = sym (append-nil a.requests); left = λ t r n m k. refl }
 
--- the program was read
-pub reaches_program : {name : List ℕ} {a b : DeskState} → ReadsFile Program name a b → Reaches (to_read Program name ∷ []) a b
-reaches_program q = record { quiet = q.quiet; requests = q.requests; left = λ t r n m. q.others t r n }
+-- one of the roles that a run reads
+abbrev pub IsRead : Role → Type 0
+IsRead role = (r : Role) → r ≢ Program → r ≢ Controls → r ≢ Input → r ≢ role
 
--- and then the input
-pub reaches_input : {program name : List ℕ} {a b c : DeskState} → Reaches (to_read Program program ∷ []) a b → ReadsFile Input name b c
-    → Reaches (to_read Program program ∷ to_read Input name ∷ []) a c
-reaches_input {program} {name} {a} p q = record {
+-- a file more was read
+pub reaches_file : {role : Role} {name : Option (List ℕ)} {asked : List Request} {a b c : DeskState} → IsRead role → Reaches asked a b → ReadsFile role name b c
+    → Reaches (asked ++ reading role name) a c
+reaches_file {role} {name} {asked} {a} is p q = record {
   quiet = quiet_then p.quiet q.quiet;
-  requests = q.requests ∙ ap (λ (rs : List Request). rs ++ to_read Input name ∷ []) p.requests ∙ append_assoc a.requests (to_read Program program ∷ []) (to_read Input name ∷ []);
-  left = λ t r n m. q.others (told_before p.quiet.goes_on t) r m ∙ p.left t r n m;
+  requests = q.requests ∙ ap (λ (rs : List Request). rs ++ reading role name) p.requests ∙ append_assoc a.requests asked (reading role name);
+  left = λ t r n m k. q.others (told_before p.quiet.goes_on t) r (is r n m k) ∙ p.left t r n m k;
 }
 
--- what stops the program halts its step
-pub program_halts : (names : Names) (a b : DeskState) (e : Refusal) → StopsLoading Program names.program IsOfText (HasNoProgram names.program a.files) a b e
-    → Halts (run_rules names a) a b ReadProgram e
-program_halts names a b e (inl h) = subst (Halts (run_rules names a) a b ReadProgram) (sym h.0) (fault (reads Program) refl h.1.fault h.1.unsure)
-program_halts names a b e (inr (inl h)) = judged h.0 h.1
-program_halts names a b e (inr (inr m)) = subst (Halts (run_rules names a) a b ReadProgram) (sym m) want_of_memory
+-- and bytes of the input
+pub reaches_taken : {asked : List Request} {a b c : DeskState} → Reaches asked a b → TakesSome Input b c → Reaches asked a c
+reaches_taken p q = record {
+  quiet = quiet_then p.quiet (some_quiet q);
+  requests = q.takes.requests ∙ p.requests;
+  left = λ t r n m k. q.takes.others (told_before p.quiet.goes_on t) r k ∙ p.left t r n m k;
+}
 
--- and so does what stops the input
-pub input_halts : (names : Names) (asked : List Request) (a b c : DeskState) (e : Refusal) → Reaches asked a b →
-    StopsLoading Input names.input (λ r. r ≡ Unsupported (codes "input")) (λ r. (r ≡ Unsupported (codes "input")) × HasNoInput names.input b.files) b c e →
-    Halts (run_rules names a) a c ReadInput e
-input_halts names asked a b c e p (inl h) =
+-- ---- why a step halts
+
+-- what stops the loading of a file halts its step
+pub loading_halts : (run : Run) {asked : List Request} (a b c : DeskState) (s : Step) (role : Role) (name : Option (List ℕ)) (P : Refusal → Type 0) (e : Refusal) → Reaches asked a b →
+    (IsSome name → TakesTurn run s (reads role)) → (IsAnswered run a s (reads role) → IsUnfailing role a × IsThere name a.files) →
+    (IsTrue a.tells → (r : Refusal) → P r → StepRefuses run a.files s r) → StopsLoading role name (HasRefusal s) P b c e → Halts (run_rules run a) a c s e
+loading_halts run a b c s role name P e p takes answers refuses (inl h) =
     let on = p.quiet.goes_on in
-    subst (Halts (run_rules names a) a c ReadInput) (sym h.0)
-    (fault (reads Input) refl (fault_earlier c Input on h.1.fault)
-    (λ t sure. h.1.unsure (told_before on t) (unfailing_later Input on t sure.0, subst (λ (fs : List File). IsSome (file_named names.input fs)) (sym (on.files t)) sure.1)))
-input_halts names asked a b c e p (inr (inl h)) = judged h.0 (λ t.
+    subst (Halts (run_rules run a) a c s) (sym h.0)
+    (fault (reads role) (takes h.1.named) (fault_earlier c role on h.1.fault) (λ t sure.
+    let w = answers sure in
+    h.1.unsure (told_before on t) (unfailing_later role on t w.0, subst (IsThere name) (sym (on.files t)) w.1)))
+loading_halts run a b c s role name P e p takes answers refuses (inr (inl h)) = judged h.0 (λ t. refuses t e (h.1 (told_before p.quiet.goes_on t)))
+loading_halts run a b c s role name P e p takes answers refuses (inr (inr m)) = subst (Halts (run_rules run a) a c s) (sym m) want_of_memory
+
+-- and so does what stops the samples
+pub samples_halt : (run : Run) {asked : List Request} (a b c : DeskState) (head : Option Head) (e : Refusal) → Reaches asked a b → (IsSome head → IsSome run.input) →
+    StopsSamples head b c e → Halts (run_rules run a) a c ReadSamples e
+samples_halt run a b c head e p named (inl h) =
     let on = p.quiet.goes_on in
-    let u = h.1 (told_before on t) in
-    (u.0, record { bytes = u.1.bytes; file = subst (λ (fs : List File). file_named names.input fs ≡ Some u.1.bytes) (on.files t) u.1.file; not_plain = u.1.not_plain }))
-input_halts names asked a b c e p (inr (inr m)) = subst (Halts (run_rules names a) a c ReadInput) (sym m) want_of_memory
+    subst (Halts (run_rules run a) a c ReadSamples) (sym h.0)
+    (fault (reads Input) (refl, named h.1) (fault_earlier c Input on h.2.counted) (λ t sure. h.2.due (told_before on t) (unfailing_later Input on t sure)))
+samples_halt run a b c head e p named (inr m) = subst (Halts (run_rules run a) a c ReadSamples) (sym m) want_of_memory
 
 -- no fault is counted but the one that stops it
-pub load_faults : {role : Role} {name : List ℕ} (Kind P : Refusal → Type 0) (a b c : DeskState) (e : Refusal) → (Kind (ReadFault role) → ⊥) → KeepsFaults a b → ReadsFile role name b c →
+pub load_faults : {role : Role} {name : Option (List ℕ)} (Kind P : Refusal → Type 0) (a b c : DeskState) (e : Refusal) → (Kind (ReadFault role) → ⊥) → KeepsFaults a b → ReadsFile role name b c →
     ((e ≡ ReadFault role → ⊥) → KeepsFaults b c) → StopsLoading role name Kind P b c e → CountsFaultOf e a c
 load_faults Kind P a b c e apart before q steady (inl h) = λ r other. q.other_faults r (λ same. other (inl (h.0 ∙ ap ReadFault (sym same)))) ∙ before r
 load_faults Kind P a b c e apart before q steady (inr (inl h)) = λ r other. steady (λ is. apart (subst Kind is h.0)) r ∙ before r
 load_faults Kind P a b c e apart before q steady (inr (inr m)) = λ r other. steady (λ is. absurd cc) r ∙ before r
 
--- all bytes that the head states are there
-pub length-data_in : (bytes : List ℕ) → IsPlainInput bytes → length (data_in bytes) ≡ data_of (take 44 bytes)
-length-data_in bytes p = let h = p.present in omega (arith, length-take (data_of (take 44 bytes)) (drop 44 bytes), length-drop 44 bytes)
+pub samples_faults : (a b c : DeskState) (head : Option Head) (e : Refusal) → KeepsFaults a b → TakesSome Input b c → ((e ≡ ReadFault Input → ⊥) → KeepsFaults b c) →
+    StopsSamples head b c e → CountsFaultOf e a c
+samples_faults a b c head e before q steady (inl h) = λ r other. q.takes.other_faults r (λ same. other (inl (h.0 ∙ ap ReadFault (sym same)))) ∙ before r
+samples_faults a b c head e before q steady (inr m) = λ r other. steady (λ is. absurd cc) r ∙ before r
 
--- what was computed of the samples is the output file
-pub is_ready : (d : Diagram) (bytes items file : List ℕ) (rate : ℕ) → IsPlainInput bytes → rate ≡ rate_of (take 44 bytes) → items ≡ data_in bytes →
-    file ≡ output_file d (control_streams [] []) rate 16 (length items / 2) (map (λ (x : ℤ). x ∷ []) (samples_in items)) →
-    (length items / 2 ≡ stated_frames bytes) × (file ≡ output_file d (control_streams [] []) (rate_of (take 44 bytes)) 16 (stated_frames bytes) (frames_in bytes))
-is_ready d bytes items file rate p r i f =
-    let frames : List ℕ → List Frame = λ w. map (λ (x : ℤ). x ∷ []) (samples_in w) in
-    let stated : length items / 2 ≡ stated_frames bytes = ap (λ n. n / 2) (ap length i ∙ length-data_in bytes p) in (
-      stated,
-      f ∙ ap (λ n. output_file d (control_streams [] []) n 16 (length items / 2) (frames items)) r
-          ∙ ap (λ n. output_file d (control_streams [] []) (rate_of (take 44 bytes)) 16 n (frames items)) stated
-          ∙ ap (λ w. output_file d (control_streams [] []) (rate_of (take 44 bytes)) 16 (stated_frames bytes) (frames w)) i,
-    )
+-- ---- a sound that does not fit
+
+kind_sized : (b : Bool) (a : Sound) (n : ℕ) (e : Refusal) → (let r : Result Sound Refusal = if b then Ok a else Err (OutputTooLong n) in r ≡ Err e) → HasRefusal Fit e
+kind_sized true a n e is = absurd cc
+kind_sized false a n e is = let same : OutputTooLong n ≡ e = cc in subst (HasRefusal Fit) same refl
+
+kind_counted : (s : Settings) (d : Diagram) (head : Option Head) (frames : Option ℕ) (e : Refusal) → counted s d head frames ≡ Err e → HasRefusal Fit e
+kind_counted s d head None e is = let same : FramesNeeded ≡ e = cc in subst (HasRefusal Fit) same refl
+kind_counted s d head (Some n) e is = kind_sized (nat_le (data_size (outputs d) (bits_in s head) n) data_limit) _ _ e is
+
+kind_chosen : (b : Bool) (r : Result Sound Refusal) (have want : ℕ) (e : Refusal) → (r ≡ Err e → HasRefusal Fit e) → (if b then r else Err (Channels have want)) ≡ Err e → HasRefusal Fit e
+kind_chosen true r have want e k is = k is
+kind_chosen false r have want e k is = let same : Channels have want ≡ e = cc in subst (HasRefusal Fit) same refl
+
+-- its refusals are those of its step
+pub fit_kind : (s : Settings) (d : Diagram) (head : Option Head) (e : Refusal) → sound_of s d head ≡ Err e → HasRefusal Fit e
+fit_kind s d head e is = kind_chosen (channels_in head == inputs d) (counted s d head (frames_in s head)) (channels_in head) (inputs d) e (kind_counted s d head (frames_in s head) e) is
+
+-- nothing more is asked for by the steps that judge and compute
+pub reaches_on : (run : Run) (a b : DeskState) → Reaches (asked_before run) a b → Reaches (to_read Program run.program ∷ (reading Controls run.controls ++ (reading Input run.input ++ []))) a b
+reaches_on run a b p =
+    subst (λ (rs : List Request). Reaches (to_read Program run.program ∷ (reading Controls run.controls ++ rs)) a b) (sym (append-nil (reading Input run.input))) p

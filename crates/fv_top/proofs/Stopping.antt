@@ -1,28 +1,25 @@
 -- How a run ends, from how its steps do.
-use Rattle.std.proofs.Common.{◌≡◌, ◌⊎◌, ℕ, ◌+◌, ◌/◌, ◌%◌, ◌^◌, ℤ, List, [], ◌∷◌, ◌++◌, length, take, map, sym, ◌∙◌, ap, subst, refl, inl, inr, append_assoc, arith}
-use Rattle.std.specs.Prelude.{IsTrue, Some, Ok, Err, OnOk, OnErr, Result}
+use Rattle.std.proofs.Common.{◌≡◌, ◌⊎◌, ℕ, ◌+◌, ◌%◌, ◌^◌, ◌≤◌, List, [], ◌∷◌, ◌++◌, length, length-append, sym, ◌∙◌, ap, subst, refl, inl, inr, append_assoc, arith}
+use Rattle.std.specs.Prelude.{IsTrue, Some, None, Ok, Err, OnOk, OnErr, Result}
 use Rattle.std.proofs.lemmas.List.{append-nil}
 use Rattle.fv_outside.specs.declared.desk.Failed.{Failed}
 use Rattle.fv_base.specs.declared.role.Role.TheVariants.{Program, Input, Controls, Output, Report}
 use Rattle.fv_base.specs.Lists.{IsPrefixOf}
 use Rattle.fv_outside.specs.Requests.{Request, to_read, to_write}
-use Rattle.fv_outside.specs.Desk.{DeskState, File, file_named, GoesOn, HasFault, KeepsQuiet, KeepsFaults, Appends}
-use Rattle.fv_diagram.specs.Diagram.{Diagram}
+use Rattle.fv_outside.specs.Desk.{DeskState, GoesOn, HasFault, KeepsFaults, IsUnfailing, Appends}
 use Rattle.fv_outside.proofs.States.{goes_on_then, fault_earlier, fault_later, told_before, unfailing_later}
 use Rattle.fv_words.specs.declared.cause.Cause.{Cause}
+use Rattle.fv_words.specs.Runs.{Run}
+use Rattle.fv_words.specs.Commands.{run_in}
 use Rattle.fv_top.specs.declared.refusal.Refusal.{Refusal}
-use Rattle.fv_top.specs.declared.refusal.Refusal.TheVariants.{Usage, WriteFault}
-use Rattle.fv_words.specs.Commands.{Names, names_of}
+use Rattle.fv_top.specs.declared.refusal.Refusal.TheVariants.{Usage, WriteFault, WaveTruncated}
 use Rattle.fv_top.specs.Lines.{refused_line, done_line}
+use Rattle.fv_top.specs.Parts.{AppendsPart}
 use Rattle.fv_top.specs.Steps.{Rules, role_of, writes, Halts, fault, judged, want_of_memory, Ends, here, later}
-use Rattle.fv_top.specs.Promise.{Asks, Plays, meant, Deliver, run_rules, run_steps, HasCause, bad_words, of_run, LeavesOutput, KeepsOthers, IsBegunLine}
-use Rattle.fv_top.specs.Running.{Reaches, Delivers, StopsDelivering, LeavesPart, LeavesLine, CountsFaultOf, EndsDone, Stopped, ReportsLine, EndsRefused}
-use Rattle.fv_top.specs.Meant.{written_by}
-use Rattle.fv_top.specs.Controls.{control_streams}
-use Rattle.fv_top.specs.Wave.{IsPlainInput, output_file, samples_in, data_in, rate_of}
-use Rattle.fv_top.specs.Program.{IsProgram}
-use Rattle.fv_top.specs.Loading.{IsFile}
-use Rattle.fv_top.proofs.Reaching.{reaches_nothing, is_ready}
+use Rattle.fv_top.specs.Loading.{reading}
+use Rattle.fv_top.specs.Promise.{Asks, Write, Tell, meant, run_rules, run_steps, HasCause, bad_words, of_run, HasBegun, LeavesOutput, KeepsOthers}
+use Rattle.fv_top.specs.Running.{Reaches, Delivers, CannotWrite, LeavesPart, CountsFaultOf, Ready, IsReady, file_in, StopsBefore, asked_before, EndsDone, Stopped, ReportsLine, EndsRefused}
+use Rattle.fv_top.proofs.Reaching.{reaches_nothing}
 
 -- a cause between two states is one up to any later state
 halts_later : {S : Type 0} (k : Rules S) (a b c : DeskState) (s : S) (e : Refusal) → GoesOn b c → Halts k a b s e → Halts k a c s e
@@ -37,7 +34,7 @@ ends_later k a b c (s ∷ rest) e asked g (later p h) = later p (ends_later k a 
 
 cause_later : (words : List (List ℕ)) (a b c : DeskState) (e : Refusal) (asked : List Request) → GoesOn b c → HasCause words a b e asked → HasCause words a c e asked
 cause_later words a b c e asked g (bad_words h) = bad_words h
-cause_later words a b c e asked g (of_run names asks h) = of_run names asks (ends_later (run_rules names a) a b c run_steps e asked g h)
+cause_later words a b c e asked g (of_run run asks h) = of_run run asks (ends_later (run_rules run a) a b c run_steps e asked g h)
 
 -- ---- before anything is written
 
@@ -54,150 +51,200 @@ stopped_by words a b e asked p cause faults = record {
 }
 
 -- the words are refused
-pub stopped_usage : (words : List (List ℕ)) (a : DeskState) (cause : Cause) → names_of words ≡ Err cause → Stopped words a a (Usage cause)
+pub stopped_usage : (words : List (List ℕ)) (a : DeskState) (cause : Cause) → run_in words ≡ Err cause → Stopped words a a (Usage cause)
 stopped_usage words a cause is = stopped_by words a a (Usage cause) [] (reaches_nothing a) (bad_words is) (λ r other. refl)
 
--- a step halts
-pub stopped_reading : (words : List (List ℕ)) (names : Names) (a b : DeskState) (e : Refusal) (asked : List Request) → Asks words names → Reaches asked a b →
-    Ends (run_rules names a) a b run_steps e asked → CountsFaultOf e a b → Stopped words a b e
-stopped_reading words names a b e asked asks p ends faults = stopped_by words a b e asked p (of_run names asks ends) faults
+-- a step that reads cannot go on
+pub stopped_before : (words : List (List ℕ)) (run : Run) (a b : DeskState) (e : Refusal) → Asks words run → StopsBefore run a b e → Stopped words a b e
+stopped_before words run a b e asks s = stopped_by words a b e s.asked s.reaches (of_run run asks s.ends) s.faults
 
 -- ---- when the output is written
 
--- a line was reported behind it
-pub reported_after : {name line : List ℕ} {a b c : DeskState} → Delivers name a b → Appends Report line b c → Delivers name a c
-reported_after p q = record {
-  goes_on = goes_on_then p.goes_on q.goes_on;
-  requests = q.requests ∙ p.requests;
-  left = λ t r. q.left (told_before p.goes_on t) r ∙ p.left t r;
-  written = λ t r n m. q.others (told_before p.goes_on t) r m ∙ p.written t r n m;
-  begins = λ r n. q.begins r ∙ p.begins r n;
-}
+-- from a, all was read in b, and the output was begun by c
+pub record Begins (words : List (List ℕ)) (run : Run) (r : Ready) (a b c : DeskState) : Type 0 where
+  pub asks : Asks words run
+  pub reaches : Reaches (asked_before run) a b
+  pub before : KeepsFaults a b
+  pub ready : IsReady run a r
+  pub delivers : Delivers run.output b c
 
--- what was computed, where the desk tells its files
-abbrev pub IsReady : (names : Names) → (old : DeskState) → (file : List ℕ) → (frames : ℕ) → Type 0
-IsReady names old file frames = IsTrue old.tells → (p : Plays names.program names.input old.files) × (frames ≡ (meant p).frames) × (file ≡ written_by (meant p) old Output)
+-- and it was written
+pub record Writes (words : List (List ℕ)) (run : Run) (r : Ready) (a b c : DeskState) : Type 0 where
+  pub begins : Begins words run r a b c
+  pub begun : HasBegun b c
+  pub written : IsTrue b.tells → c.written Output ≡ file_in r
+  pub steady : KeepsFaults b c
 
--- what was computed of a program and an input that were read
-pub ready_of : (names : Names) (a b : DeskState) (text items file given : List ℕ) (d : Diagram) (rate count : ℕ) → KeepsQuiet a b → IsFile names.program text a → IsProgram text d →
-    (IsTrue b.tells → (bytes : List ℕ) × IsFile names.input bytes b × IsPlainInput bytes × (rate ≡ rate_of (take 44 bytes)) × (items ≡ data_in bytes)) →
-    file ≡ output_file d (control_streams [] []) rate 16 (length items / 2) (map (λ (x : ℤ). x ∷ []) (samples_in items)) → given ≡ file → count ≡ length items →
-    IsReady names a given (count / 2)
-ready_of names a b text items file given d rate count q program spelled loaded computed same counted = λ t.
-    let told = told_before q.goes_on t in
-    let input = loaded told in
-    let ready = is_ready d input.0 items file rate input.2 input.3 input.4 computed in (
-      record {
-        of = record { text = text; file = program t; diagram = d; program = spelled };
-        on = record { bytes = input.0; file = subst (λ (fs : List File). file_named names.input fs ≡ Some input.0) (q.goes_on.files t) (input.1 told); plain = input.2 };
-      },
-      ap (λ n. n / 2) counted ∙ ready.0,
-      same ∙ ready.1,
-    )
+-- what the desk was asked for by then
+abbrev asked_by : Run → List Request
+asked_by run = to_read Program run.program ∷ (reading Controls run.controls ++ (reading Input run.input ++ to_write Output run.output ∷ []))
 
--- what stops it halts the last step
-deliver_halts : (names : Names) (asked : List Request) (a b c : DeskState) (file : List ℕ) (frames : ℕ) (e : Refusal) → Reaches asked a b → IsReady names a file frames →
-    StopsDelivering file frames b c e → Halts (run_rules names a) a c Deliver e
-deliver_halts names asked a b c file frames e p ready (inl h) =
-    let on = p.quiet.goes_on in
-    subst (Halts (run_rules names a) a c Deliver) (sym h.0) (fault (writes Output) (inl refl) (fault_earlier c Output on h.1.fault) (λ t sure.
-    let r = ready t in
-    let size = ap length r.2 in
-    let fits = sure.1 r.0 in
-    let room = on.room t Output in
-    h.1.unsure (told_before on t) (unfailing_later Output on t sure.0, omega arith)))
-deliver_halts names asked a b c file frames e p ready (inr h) =
-    let on = p.quiet.goes_on in
-    subst (Halts (run_rules names a) a c Deliver) (sym h.0) (fault (writes Report) (inr refl) (fault_earlier c Report on h.1.fault) (λ t sure.
-    let r = ready t in
-    let line : b.written Report ++ done_line frames ≡ a.written Report ++ (meant r.0).line = ap (λ w. w ++ done_line frames) (p.quiet.written t Report) ∙ ap (λ n. a.written Report ++ done_line n) r.1 in
-    let size = ap length line in
-    let fits = sure.1 r.0 in
-    let room = on.room t Report in
-    h.1.unsure (told_before on t) (unfailing_later Report on t sure.0, omega arith)))
+module _ (words : List (List ℕ)) (run : Run) (r : Ready) (a b c : DeskState) (w : Begins words run r a b c) where
+  told_by : IsTrue a.tells → IsTrue b.tells
+  told_by t = told_before w.reaches.quiet.goes_on t
 
-part_output : (words : List (List ℕ)) (names : Names) (asked : List Request) (a b c : DeskState) (file : List ℕ) (frames : ℕ) → Asks words names → Reaches asked a b → IsReady names a file frames →
-    LeavesPart file b c → LeavesOutput words a c
-part_output words names asked a b c file frames asks p ready (inl k) = inl (record {
-  begins = k.begins ∙ p.quiet.begins Output;
-  written = λ t. k.written (told_before p.quiet.goes_on t) ∙ p.quiet.written t Output;
-})
-part_output words names asked a b c file frames asks p ready (inr k) = inr (record {
-  names = names;
-  asks = asks;
-  begun = k.0 ∙ ap (λ n. (n + 1) % 2 ^ 64) (p.quiet.begins Output);
-  told = λ t.
-      let r = ready t in
-      let q = k.1 (told_before p.quiet.goes_on t) in
-      (r.0, record { rest = q.rest; is = sym r.2 ∙ q.is });
-})
+  goes : GoesOn a c
+  goes = goes_on_then w.reaches.quiet.goes_on w.delivers.goes_on
 
-part_begun : (words : List (List ℕ)) (names : Names) (old : DeskState) (file : List ℕ) (frames : ℕ) (part : List ℕ) (e : Refusal) → Asks words names → IsReady names old file frames →
-    IsPrefixOf part (done_line frames) → (part ≡ []) ⊎ (e ≡ WriteFault Report) → (part ≡ []) ⊎ ((e ≡ WriteFault Report) × IsBegunLine words old part)
-part_begun words names old file frames part e asks ready p (inl h) = inl h
-part_begun words names old file frames part e asks ready p (inr h) =
-    inr (h, (names, asks, λ t. let r = ready t in (r.0, subst (λ (n : ℕ). IsPrefixOf part (done_line n)) r.1 p)))
+  requests_by : c.requests ≡ a.requests ++ asked_by run
+  requests_by =
+      w.delivers.requests ∙ ap (λ (rs : List Request). rs ++ to_write Output run.output ∷ []) w.reaches.requests
+      ∙ append_assoc a.requests (asked_before run) (to_write Output run.output ∷ [])
+      ∙ ap (λ (rs : List Request). a.requests ++ (to_read Program run.program ∷ rs)) (append_assoc (reading Controls run.controls) (reading Input run.input) (to_write Output run.output ∷ []))
 
-delivered_requests : (names : Names) (a b c : DeskState) → Reaches (to_read Program names.program ∷ to_read Input names.input ∷ []) a b → Delivers names.output b c →
-    c.requests ≡ a.requests ++ (to_read Program names.program ∷ to_read Input names.input ∷ to_write Output names.output ∷ [])
-delivered_requests names a b c p d =
-    d.requests ∙ ap (λ (rs : List Request). rs ++ to_write Output names.output ∷ []) p.requests
-    ∙ append_assoc a.requests (to_read Program names.program ∷ to_read Input names.input ∷ []) (to_write Output names.output ∷ [])
+  others_by : KeepsOthers a c
+  others_by = record {
+    left = λ t x n m k. w.delivers.left (told_by t) x ∙ w.reaches.left t x n m k;
+    written = λ t x n m. w.delivers.written (told_by t) x n ∙ w.reaches.quiet.written t x;
+    begins = λ x n. w.delivers.begins x n ∙ w.reaches.quiet.begins x;
+  }
 
--- no other file was touched
-delivered_others : (asked : List Request) (name : List ℕ) (a b c : DeskState) → Reaches asked a b → Delivers name b c → KeepsOthers a c
-delivered_others asked name a b c p d = record {
-  left = λ t r n m. d.left (told_before p.quiet.goes_on t) r ∙ p.left t r n m;
-  written = λ t r n m. d.written (told_before p.quiet.goes_on t) r n m ∙ p.quiet.written t r;
-  begins = λ r n. d.begins r n ∙ p.quiet.begins r;
-}
+  -- all steps before it passed
+  behind : (d : DeskState) (e : Refusal) (asked : List Request) → Ends (run_rules run a) a d (Write ∷ Tell ∷ []) e asked →
+      Ends (run_rules run a) a d run_steps e (to_read Program run.program ∷ (reading Controls run.controls ++ (reading Input run.input ++ asked)))
+  behind d e asked h =
+      later (λ t. (w.ready t).0.of) (later (λ t. let p = (w.ready t).0 in (p.of, p.changes, p.under)) (later (λ t. let p = (w.ready t).0 in (p.source, p.on)) (later (λ t. (w.ready t).0) (later (λ t. tt) h))))
 
--- it was not written, or not reported
-pub stopped_delivering : (words : List (List ℕ)) (names : Names) (a b c : DeskState) (file : List ℕ) (frames : ℕ) (e : Refusal) → Asks words names →
-    Reaches (to_read Program names.program ∷ to_read Input names.input ∷ []) a b → KeepsFaults a b → IsReady names a file frames → Delivers names.output b c →
-    StopsDelivering file frames b c e → LeavesPart file b c → LeavesLine frames b c e → CountsFaultOf e b c → Stopped words a c e
-stopped_delivering words names a b c file frames e asks p before ready d stops part line faults = record {
-  goes_on = goes_on_then p.quiet.goes_on d.goes_on;
-  others = delivered_others _ names.output a b c p d;
-  cause = record {
-    asked = to_read Program names.program ∷ to_read Input names.input ∷ to_write Output names.output ∷ [];
-    requests = delivered_requests names a b c p d;
-    cause = of_run names asks (later (λ t. (ready t).0.of) (later (λ t. (ready t).0.on) (later (λ t. tt) (here (deliver_halts names _ a b c file frames e p ready stops)))));
-  };
-  output = part_output words names _ a b c file frames asks p ready part;
-  begun = line.part;
-  appended = λ t. line.appended (told_before p.quiet.goes_on t) ∙ ap (λ w. w ++ line.part) (p.quiet.written t Report);
-  is_begun = part_begun words names a file frames line.part e asks ready line.is_part line.cause;
-  faults = λ r other. faults r other ∙ before r;
-}
+  -- and its report as before
+  report_by : IsTrue a.tells → c.written Report ≡ a.written Report
+  report_by t = w.delivers.written (told_by t) Report (λ e. absurd cc) ∙ w.reaches.quiet.written t Report
 
--- it was written and reported
-pub played_whole : (words : List (List ℕ)) (names : Names) (a b c : DeskState) (file : List ℕ) (frames : ℕ) → Asks words names →
-    Reaches (to_read Program names.program ∷ to_read Input names.input ∷ []) a b → KeepsFaults a b → IsReady names a file frames → Delivers names.output b c → KeepsFaults b c →
-    (IsTrue b.tells → c.written Output ≡ file) → (IsTrue b.tells → c.written Report ≡ b.written Report ++ done_line frames) → EndsDone words frames a c
-played_whole words names a b c file frames asks p before ready d steady written reported = record {
-  goes_on = goes_on_then p.quiet.goes_on d.goes_on;
-  others = delivered_others _ names.output a b c p d;
-  played = record {
-    names = names;
-    asks = asks;
-    requests = delivered_requests names a b c p d;
-    faults = λ r. steady r ∙ before r;
+  part_by : (e : Refusal) → LeavesPart (file_in r) b c → ((place : ℕ) → e ≡ WaveTruncated place → IsTrue b.tells → c.written Output ≡ file_in r) → LeavesOutput words e a c
+  part_by e (inl k) all = inl (record {
+    begins = k.begins ∙ w.reaches.quiet.begins Output;
+    written = λ t. k.written (told_by t) ∙ w.reaches.quiet.written t Output;
+  })
+  part_by e (inr k) all = inr (record {
+    run = run;
+    asks = w.asks;
+    begun = k.0 ∙ ap (λ n. (n + 1) % 2 ^ 64) (w.reaches.quiet.begins Output);
     told = λ t.
-        let told = told_before p.quiet.goes_on t in
-        let r = ready t in (
-          r.0,
-          r.1,
-          elim [
-            | Program ↦ d.written told Program (λ e. absurd cc) (λ e. absurd cc) ∙ p.quiet.written t Program
-            | Input ↦ d.written told Input (λ e. absurd cc) (λ e. absurd cc) ∙ p.quiet.written t Input
-            | Controls ↦ d.written told Controls (λ e. absurd cc) (λ e. absurd cc) ∙ p.quiet.written t Controls
-            | Output ↦ written told ∙ r.2
-            | Report ↦ reported told ∙ ap (λ w. w ++ done_line frames) (p.quiet.written t Report) ∙ ap (λ n. a.written Report ++ done_line n) r.1
-          ],
-        );
-  };
-}
+        let x = w.ready t in
+        let q = k.1 (told_by t) in
+        (x.0, record { rest = q.rest; is = sym x.3 ∙ q.is }, λ place is. all place is (told_by t) ∙ x.3);
+  })
+
+  -- it was not written
+  pub stopped_writing : CannotWrite Output (file_in r) b c → LeavesPart (file_in r) b c → Stopped words a c (WriteFault Output)
+  stopped_writing cannot part = record {
+    goes_on = goes;
+    others = others_by;
+    cause = record {
+      asked = asked_by run;
+      requests = requests_by;
+      cause = of_run run w.asks (behind c (WriteFault Output) (to_write Output run.output ∷ [])
+          (here (fault (writes Output) refl (fault_earlier c Output w.reaches.quiet.goes_on cannot.fault) (λ t sure.
+          let x = w.ready t in
+          let size = ap length x.3 in
+          let fits = sure.1 x.0 in
+          let room = w.reaches.quiet.goes_on.room t Output in
+          cannot.unsure (told_by t) (unfailing_later Output w.reaches.quiet.goes_on t sure.0, omega arith)))));
+    };
+    output = part_by (WriteFault Output) part (λ place is. absurd cc);
+    begun = [];
+    appended = λ t. report_by t ∙ sym (append-nil (a.written Report));
+    is_begun = inl refl;
+    faults = λ x other. w.delivers.other_faults x (λ same. other (inr (ap WriteFault (sym same)))) ∙ w.before x;
+  }
+
+module _ (words : List (List ℕ)) (run : Run) (r : Ready) (a b c : DeskState) (w : Writes words run r a b c) where
+  whole_part : LeavesPart (file_in r) b c
+  whole_part = inr (w.begun, λ t. record { rest = []; is = sym (w.written t) ∙ sym (append-nil (c.written Output)) })
+
+  -- it was, and the input ends too early
+  pub stopped_cut : (place : ℕ) → r.cut ≡ Some (WaveTruncated place) → Stopped words a c (WaveTruncated place)
+  stopped_cut place cut = record {
+    goes_on = goes words run r a b c w.begins;
+    others = others_by words run r a b c w.begins;
+    cause = record {
+      asked = asked_by run;
+      requests = requests_by words run r a b c w.begins;
+      cause = of_run run w.begins.asks (behind words run r a b c w.begins c (WaveTruncated place) (to_write Output run.output ∷ [])
+          (here (judged refl (λ t. let x = w.begins.ready t in (x.0, x.1 ∙ cut)))));
+    };
+    output = part_by words run r a b c w.begins (WaveTruncated place) whole_part (λ at is t. w.written t);
+    begun = [];
+    appended = λ t. report_by words run r a b c w.begins t ∙ sym (append-nil (a.written Report));
+    is_begun = inl refl;
+    faults = λ x other. w.steady x ∙ w.begins.before x;
+  }
+
+  module _ (whole : r.cut ≡ None) where
+    -- it was written, and not reported
+    pub stopped_telling : (d : DeskState) → AppendsPart Report (done_line r.sound.frames) c d → HasFault Report c d →
+        (IsTrue c.tells → IsUnfailing Report c → length (c.written Report) + length (done_line r.sound.frames) ≤ c.room Report → ⊥) → Stopped words a d (WriteFault Report)
+    stopped_telling d part failed unsure =
+        let on = goes words run r a b c w.begins in
+        let q = part.2 in
+        record {
+          goes_on = goes_on_then on q.goes_on;
+          others = record {
+            left = λ t x n m k. q.left (told_before on t) x ∙ (others_by words run r a b c w.begins).left t x n m k;
+            written = λ t x n m. q.others (told_before on t) x m ∙ (others_by words run r a b c w.begins).written t x n m;
+            begins = λ x n. q.begins x ∙ (others_by words run r a b c w.begins).begins x n;
+          };
+          cause = record {
+            asked = asked_by run;
+            requests = q.requests ∙ requests_by words run r a b c w.begins;
+            cause = of_run run w.begins.asks (behind words run r a b c w.begins d (WriteFault Report) (to_write Output run.output ∷ [])
+                (later (λ t. let x = w.begins.ready t in (x.0, x.1 ∙ whole)) (here (fault (writes Report) refl (fault_earlier d Report on failed) (λ t sure.
+                let x = w.begins.ready t in
+                let line : a.written Report ++ done_line r.sound.frames ≡ a.written Report ++ (meant x.0).line = ap (λ n. a.written Report ++ done_line n) x.2 in
+                let size = ap length line in
+                let same = ap length (report_by words run r a b c w.begins t) in
+                let fits = sure.1 x.0 in
+                let room = on.room t Report in
+                unsure (told_before on t) (unfailing_later Report on t sure.0) (omega (arith, length-append (a.written Report) (done_line r.sound.frames))))))));
+          };
+          output = inr (record {
+            run = run;
+            asks = w.begins.asks;
+            begun = q.begins Output ∙ w.begun ∙ ap (λ n. (n + 1) % 2 ^ 64) (w.begins.reaches.quiet.begins Output);
+            told = λ t.
+                let x = w.begins.ready t in
+                let same = q.others (told_before on t) Output (λ e. absurd cc) ∙ w.written (told_by words run r a b c w.begins t) ∙ x.3 in
+                (x.0, record { rest = []; is = sym same ∙ sym (append-nil (d.written Output)) }, λ place is. absurd cc);
+          });
+          begun = part.0;
+          appended = λ t. q.appended (told_before on t) ∙ ap (λ v. v ++ part.0) (report_by words run r a b c w.begins t);
+          is_begun = inr (refl, (run, w.begins.asks, λ t. let x = w.begins.ready t in (x.0, subst (λ (n : ℕ). IsPrefixOf part.0 (done_line n)) x.2 part.1)));
+          faults = λ x other. q.other_faults x (λ same. other (inr (ap WriteFault (sym same)))) ∙ w.steady x ∙ w.begins.before x;
+        }
+
+    -- it was written and reported
+    pub played_whole : (d : DeskState) → Appends Report (done_line r.sound.frames) c d → KeepsFaults c d → EndsDone words r.sound.frames a d
+    played_whole d q steady =
+        let on = goes words run r a b c w.begins in
+        record {
+          goes_on = goes_on_then on q.goes_on;
+          others = record {
+            left = λ t x n m k. q.left (told_before on t) x ∙ (others_by words run r a b c w.begins).left t x n m k;
+            written = λ t x n m. q.others (told_before on t) x m ∙ (others_by words run r a b c w.begins).written t x n m;
+            begins = λ x n. q.begins x ∙ (others_by words run r a b c w.begins).begins x n;
+          };
+          played = record {
+            run = run;
+            asks = w.begins.asks;
+            requests = q.requests ∙ requests_by words run r a b c w.begins;
+            faults = λ x. steady x ∙ w.steady x ∙ w.begins.before x;
+            told = λ t.
+                let x = w.begins.ready t in
+                let told = told_by words run r a b c w.begins t in
+                let later = told_before on t in
+                let kept = others_by words run r a b c w.begins in (
+                  x.0,
+                  x.1 ∙ whole,
+                  x.2,
+                  elim [
+                    | Program ↦ q.others later Program (λ e. absurd cc) ∙ kept.written t Program (λ e. absurd cc) (λ e. absurd cc)
+                    | Input ↦ q.others later Input (λ e. absurd cc) ∙ kept.written t Input (λ e. absurd cc) (λ e. absurd cc)
+                    | Controls ↦ q.others later Controls (λ e. absurd cc) ∙ kept.written t Controls (λ e. absurd cc) (λ e. absurd cc)
+                    | Output ↦ q.others later Output (λ e. absurd cc) ∙ w.written told ∙ x.3
+                    | Report ↦ q.appended later ∙ ap (λ v. v ++ done_line r.sound.frames) (report_by words run r a b c w.begins t) ∙ ap (λ n. a.written Report ++ done_line n) x.2
+                  ],
+                );
+          };
+        }
 
 -- ---- and when a refusal was reported
 
@@ -215,30 +262,31 @@ line_earlier refusal line old mid new g (inl e) = inl e
 line_earlier refusal line old mid new g (inr p) = inr (p.0, fault_earlier new Report g p.1)
 
 -- the report of a refusal leaves the output as it was
-output_later : (words : List (List ℕ)) (line : List ℕ) (a b c : DeskState) → GoesOn a b → Appends Report line b c → LeavesOutput words a b → LeavesOutput words a c
-output_later words line a b c g r (inl k) = inl (record {
+output_later : (words : List (List ℕ)) (line : List ℕ) (a b c : DeskState) (e : Refusal) → GoesOn a b → Appends Report line b c → LeavesOutput words e a b → LeavesOutput words e a c
+output_later words line a b c e g r (inl k) = inl (record {
   begins = r.begins Output ∙ k.begins;
-  written = λ t. r.others (told_before g t) Output (λ e. absurd cc) ∙ k.written t;
+  written = λ t. r.others (told_before g t) Output (λ f. absurd cc) ∙ k.written t;
 })
-output_later words line a b c g r (inr k) = inr (record {
-  names = k.names;
+output_later words line a b c e g r (inr k) = inr (record {
+  run = k.run;
   asks = k.asks;
   begun = r.begins Output ∙ k.begun;
   told = λ t.
       let p = k.told t in
-      (p.0, record { rest = p.1.rest; is = p.1.is ∙ ap (λ w. w ++ p.1.rest) (sym (r.others (told_before g t) Output (λ e. absurd cc))) });
+      let same = r.others (told_before g t) Output (λ f. absurd cc) in
+      (p.0, record { rest = p.1.rest; is = p.1.is ∙ ap (λ w. w ++ p.1.rest) (sym same) }, λ place is. same ∙ p.2 place is);
 })
 
 pub ends_refused : (words : List (List ℕ)) (a b c : DeskState) (e : Refusal) → Stopped words a b e → ReportsLine e b c → EndsRefused words a c e
 ends_refused words a b c e s r = record {
   goes_on = goes_on_then s.goes_on r.appends.goes_on;
   others = record {
-    left = λ t x n m. r.appends.left (told_before s.goes_on t) x ∙ s.others.left t x n m;
+    left = λ t x n m k. r.appends.left (told_before s.goes_on t) x ∙ s.others.left t x n m k;
     written = λ t x n m. r.appends.others (told_before s.goes_on t) x m ∙ s.others.written t x n m;
     begins = λ x n. r.appends.begins x ∙ s.others.begins x n;
   };
   cause = record { asked = s.cause.asked; requests = r.appends.requests ∙ s.cause.requests; cause = cause_later words a b c e s.cause.asked r.appends.goes_on s.cause.cause };
-  output = output_later words r.line a b c s.goes_on r.appends s.output;
+  output = output_later words r.line a b c e s.goes_on r.appends s.output;
   report = record {
     begun = s.begun;
     line = r.line;

@@ -1,5 +1,6 @@
-pub mod Wave
-pub mod Controls
+pub mod Sources
+pub mod Sound
+pub mod Playable
 pub mod Lines
 pub mod Meant
 pub mod Fields
@@ -7,7 +8,8 @@ pub mod Parts
 pub mod Answers
 pub mod Program
 pub mod Steps
-pub mod Promise
-pub mod Examples
 pub mod Loading
+pub mod Promise
 pub mod Running
+pub mod Prepared
+pub mod Examples

@@ -1,27 +1,45 @@
--- What loading of a program or an input leaves of the desk, and why it stops.
-use Rattle.std.specs.Prelude.{◌≡◌, ◌⊎◌, ℕ, IsTrue, IsSome, List, [], ◌∷◌, ◌++◌, Some}
+-- What loading of a file leaves of the desk, and why it stops.
+use Rattle.std.specs.Prelude.{◌≡◌, ◌⊎◌, ℕ, ◌<◌, ◌≤◌, ◌^◌, IsTrue, IsSome, List, [], ◌∷◌, ◌++◌, length, take, drop, Option, Some, None, Result, Ok}
 use Rattle.fv_base.specs.declared.role.Role.{Role}
-use Rattle.fv_outside.specs.Requests.{to_read}
-use Rattle.fv_outside.specs.Desk.{DeskState, file_named, HasFault, KeepsQuiet, KeepsLeftBut, KeepsFaultsBut, IsUnfailing}
+use Rattle.fv_base.specs.declared.role.Role.TheVariants.{Input}
+use Rattle.fv_outside.specs.Requests.{Request, to_read}
+use Rattle.fv_outside.specs.Desk.{DeskState, File, file_named, HasFault, KeepsQuiet, KeepsLeftBut, KeepsFaultsBut, IsUnfailing}
 use Rattle.fv_outside.specs.declared.transfer.ReadError.{ReadError}
 use Rattle.fv_outside.specs.declared.transfer.ReadError.TheVariants.{Failed, NoMemory as OutOfMemory}
+use Rattle.fv_diagram.specs.declared.control.ControlInfo.{ControlInfo}
+use Rattle.fv_control.specs.declared.script.Change.{Change}
+use Rattle.fv_wav.specs.declared.head.Head.{Head}
+use Rattle.fv_wav.specs.Stopping.{IsHead, IsFaultOfInput}
+use Rattle.fv_wav.specs.Samples.{whole_bytes}
+use Rattle.fv_top.specs.Sources.{Source, found, script_of, source_of}
 use Rattle.fv_top.specs.declared.refusal.Refusal.{Refusal}
-use Rattle.fv_top.specs.declared.refusal.Refusal.TheVariants.{ReadFault, Unsupported, NoMemory}
+use Rattle.fv_top.specs.declared.refusal.Refusal.TheVariants.{ReadFault, NoMemory}
+
+-- a file that may be named is asked for where it is
+abbrev pub reading : Role → Option (List ℕ) → List Request
+reading role None = []
+reading role (Some name) = to_read role name ∷ []
+
+-- a file that is named is there
+abbrev pub IsThere : Option (List ℕ) → List File → Type 0
+IsThere None files = Unit {0}
+IsThere (Some name) files = IsSome (file_named name files)
 
 -- The desk was asked for this file alone, and nothing changed but the bytes left of the role and its counts.
-pub record ReadsFile (role : Role) (name : List ℕ) (old new : DeskState) : Type 0 where
+pub record ReadsFile (role : Role) (name : Option (List ℕ)) (old new : DeskState) : Type 0 where
   pub quiet : KeepsQuiet old new
-  pub requests : new.requests ≡ old.requests ++ to_read role name ∷ []
+  pub requests : new.requests ≡ old.requests ++ reading role name
   pub others : KeepsLeftBut role old new
   pub other_faults : KeepsFaultsBut role old new
 
 -- a fault of the role was counted, and it was not sure that the file is there and no call fails
-pub record CannotRead (role : Role) (name : List ℕ) (old new : DeskState) : Type 0 where
+pub record CannotRead (role : Role) (name : Option (List ℕ)) (old new : DeskState) : Type 0 where
+  pub named : IsSome name
   pub fault : HasFault role old new
-  pub unsure : IsTrue old.tells → IsUnfailing role old × IsSome (file_named name old.files) → ⊥
+  pub unsure : IsTrue old.tells → IsUnfailing role old × IsThere name old.files → ⊥
 
 -- A file could not be read, or it is refused, by a refusal of this kind, for what P says of it, or memory ran out.
-abbrev pub StopsLoading : Role → (name : List ℕ) → (Kind P : Refusal → Type 0) → (old new : DeskState) → Refusal → Type 0
+abbrev pub StopsLoading : Role → (name : Option (List ℕ)) → (Kind P : Refusal → Type 0) → (old new : DeskState) → Refusal → Type 0
 StopsLoading role name Kind P old new refusal =
     ((refusal ≡ ReadFault role) × CannotRead role name old new) ⊎ (Kind refusal × (IsTrue old.tells → P refusal)) ⊎ (refusal ≡ NoMemory)
 
@@ -34,6 +52,41 @@ abbrev pub refusal_of_read : Role → ReadError → Refusal
 refusal_of_read role Failed = ReadFault role
 refusal_of_read role OutOfMemory = NoMemory
 
--- a refusal of this word, or want of memory
-abbrev pub IsUnsupportedOrNoMemory : (word : List ℕ) → Refusal → Type 0
-IsUnsupportedOrNoMemory word refusal = (refusal ≡ Unsupported word) ⊎ (refusal ≡ NoMemory)
+-- ---- what the files say
+
+-- The script that may be named says this of the controls.
+pub record HasScript (name : Option (List ℕ)) (files : List File) (controls : List ControlInfo) (says : Result (List Change) Refusal) : Type 0 where
+  pub bytes : Option (List ℕ)
+  pub file : found files name ≡ Some bytes
+  pub is : script_of controls bytes ≡ says
+
+-- The input that may be named is this.
+pub record HasInput (name : Option (List ℕ)) (files : List File) (says : Result Source Refusal) : Type 0 where
+  pub bytes : Option (List ℕ)
+  pub file : found files name ≡ Some bytes
+  pub is : source_of bytes ≡ says
+
+-- where the head of a file was read, its samples are left
+abbrev pub IsLeft : Option Head → (bytes left : List ℕ) → Type 0
+IsLeft None bytes left = Unit {0}
+IsLeft (Some h) bytes left = (left ≡ drop h.place bytes) × (h.place ≤ length bytes)
+
+-- the input that may be named has this head, and its samples are left
+pub record HasHead (name : Option (List ℕ)) (files : List File) (head : Option Head) (left : List ℕ) : Type 0 where
+  pub source : Source
+  pub input : HasInput name files (Ok source)
+  pub is : source.head ≡ head
+  pub behind : IsLeft head source.bytes left
+
+-- what is wanted of the bytes that are left
+abbrev pub wanted : Option Head → List ℕ → List ℕ
+wanted None left = []
+wanted (Some h) left = take (whole_bytes h) left
+
+-- a head, and the place of its samples, which no sum of them and their bytes goes beyond
+abbrev pub IsPlaced : Head → Type 0
+IsPlaced h = IsHead h × (h.place < 2 ^ 45)
+
+-- the samples of a head could not be read, or memory ran out
+abbrev pub StopsSamples : Option Head → (old new : DeskState) → Refusal → Type 0
+StopsSamples head old new refusal = ((refusal ≡ ReadFault Input) × IsSome head × IsFaultOfInput old new) ⊎ (refusal ≡ NoMemory)

@@ -5,7 +5,7 @@ use Rattle.fv_base.specs.declared.role.Role.TheVariants.{Program, Input, Control
 use Rattle.fv_outside.specs.Desk.{DeskState}
 use Rattle.fv_num.specs.Frames.{Frame, Stream}
 use Rattle.fv_diagram.specs.Diagram.{Diagram}
-use Rattle.fv_top.specs.Wave.{output_file}
+use Rattle.fv_top.specs.Sound.{Sound, output_file}
 use Rattle.fv_top.specs.Lines.{done_line}
 
 -- the frames that it counts, the bytes of the output, if it writes one, and the line that it reports
@@ -14,9 +14,9 @@ pub record Meant : Type 0 where
   pub output : Option (List ℕ)
   pub line : List ℕ
 
--- that of a diagram on the frames that are present, of those that the head states
-abbrev pub run_meant : Diagram → (c : ℕ → Stream) → (rate bits stated : ℕ) → (present : List Frame) → Meant
-run_meant d c rate bits stated present = record { frames = stated; output = Some (output_file d c rate bits stated present); line = done_line stated }
+-- that of a diagram on the frames that are present, of those of the sound
+abbrev pub run_meant : Diagram → (c : ℕ → Stream) → Sound → (present : List Frame) → Meant
+run_meant d c sound present = record { frames = sound.frames; output = Some (output_file d c sound present); line = done_line sound.frames }
 
 -- all that is written of a role at its end
 abbrev pub written_by : Meant → DeskState → Role → List ℕ

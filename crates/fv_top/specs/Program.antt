@@ -1,5 +1,6 @@
--- What a program's text is: a program of one diagram, or refused for its first fault (Faust manual, cut down by this project's profile).
-use Rattle.std.specs.Prelude.{ℕ, Bool, ◌&&◌, ◌||◌, ◌==◌, nat_le, IsTrue, List, Result, Ok, Err, codes}
+-- What a program's text is: a program, or refused for its first fault (Faust manual, cut down by this project's profile).
+use Rattle.std.specs.Prelude.{◌≡◌, ℕ, Bool, ◌&&◌, ◌||◌, ◌==◌, nat_le, nat_lt, IsTrue, List, [], ◌∷◌, map, sum, pos, int_lt, Option, Some, None, Result, Ok, Err, if◌then◌else◌}
+use Rattle.fv_num.specs.Interval.{Interval}
 use Rattle.fv_lex.specs.declared.refusal.LexRefusal.{LexRefusal}
 use Rattle.fv_lex.specs.declared.refusal.LexRefusal.TheVariants as bytes
 use Rattle.fv_lex.specs.Token.{Lexed}
@@ -8,12 +9,19 @@ use Rattle.fv_grammar.specs.Tree.{Tree}
 use Rattle.fv_parse.specs.declared.refusal.ParseRefusal.{ParseRefusal}
 use Rattle.fv_parse.specs.declared.refusal.ParseRefusal.TheVariants as tokens
 use Rattle.fv_parse.specs.Outcomes.{IsAccepted, HasRefusal}
-use Rattle.fv_diagram.specs.Diagram.{Diagram}
-use Rattle.fv_small.specs.Small.{IsSmall, IsNotSmall}
+use Rattle.fv_diagram.specs.Diagram.{Diagram, inputs, outputs}
+use Rattle.fv_diagram.specs.declared.control.ControlInfo.{ControlInfo}
+use Rattle.fv_rules.specs.declared.refusal.EvalRefusal.{EvalRefusal}
+use Rattle.fv_rules.specs.declared.refusal.EvalRefusal.TheVariants as values
+use Rattle.fv_rules.specs.Rules.{program_value}
+use Rattle.fv_interval.specs.declared.refusal.DelayRefusal.{DelayRefusal}
+use Rattle.fv_interval.specs.declared.refusal.DelayRefusal.TheVariants as delay
+use Rattle.fv_interval.specs.Delays.{delays_of, amounts, delay_limit, delay_budget}
 use Rattle.fv_top.specs.Answers.{Then, Turned, IsOnce, RefusesOthers}
 use Rattle.fv_top.specs.Lines.{row_of}
+use Rattle.fv_top.specs.Sources.{Compiled}
 use Rattle.fv_top.specs.declared.refusal.Refusal.{Refusal}
-use Rattle.fv_top.specs.declared.refusal.Refusal.TheVariants.{TextTooLong, BadByte, Unclosed, RealLiteral, LiteralTooLarge, Syntax, Unsupported, Redefined, RepeatedName, RuleWidths, NoProcess, NoMemory, Nesting}
+use Rattle.fv_top.specs.declared.refusal.Refusal.TheVariants as no
 
 -- the numbers of the refusals of a program: 4 to 29, and 43
 abbrev pub is_of_program : ℕ → Bool
@@ -25,23 +33,45 @@ IsOfText refusal = IsTrue (is_of_program (row_of refusal).number)
 
 -- refusals of the text's bytes, and of its tokens, as those of a run
 abbrev pub of_bytes : LexRefusal → Refusal
-of_bytes (bytes.TextTooLong role) = TextTooLong role
-of_bytes (bytes.BadByte line column) = BadByte line column
-of_bytes (bytes.Unclosed line column) = Unclosed line column
-of_bytes (bytes.RealLiteral line column) = RealLiteral line column
-of_bytes (bytes.LiteralTooLarge line column) = LiteralTooLarge line column
-of_bytes (bytes.Nesting line column) = Nesting line column
-of_bytes bytes.NoMemory = NoMemory
+of_bytes (bytes.TextTooLong role) = no.TextTooLong role
+of_bytes (bytes.BadByte line column) = no.BadByte line column
+of_bytes (bytes.Unclosed line column) = no.Unclosed line column
+of_bytes (bytes.RealLiteral line column) = no.RealLiteral line column
+of_bytes (bytes.LiteralTooLarge line column) = no.LiteralTooLarge line column
+of_bytes (bytes.Nesting line column) = no.Nesting line column
+of_bytes bytes.NoMemory = no.NoMemory
 
--- and those of its tokens
+-- those of its tokens
 abbrev pub of_tokens : ParseRefusal → Refusal
-of_tokens (tokens.Syntax line column) = Syntax line column
-of_tokens (tokens.Unsupported word) = Unsupported word
-of_tokens (tokens.Redefined name) = Redefined name
-of_tokens (tokens.RepeatedName name) = RepeatedName name
-of_tokens (tokens.RuleWidths line column) = RuleWidths line column
-of_tokens tokens.NoProcess = NoProcess
-of_tokens tokens.NoMemory = NoMemory
+of_tokens (tokens.Syntax line column) = no.Syntax line column
+of_tokens (tokens.Unsupported word) = no.Unsupported word
+of_tokens (tokens.Redefined name) = no.Redefined name
+of_tokens (tokens.RepeatedName name) = no.RepeatedName name
+of_tokens (tokens.RuleWidths line column) = no.RuleWidths line column
+of_tokens tokens.NoProcess = no.NoProcess
+of_tokens tokens.NoMemory = no.NoMemory
+
+-- and those of its value
+abbrev pub of_value : EvalRefusal → Refusal
+of_value (values.SizeBudget size) = no.SizeBudget size
+of_value (values.Arity kind left right) = no.Arity kind left right
+of_value (values.UnknownName name) = no.UnknownName name
+of_value (values.NotANumber line column) = no.NotANumber line column
+of_value (values.IterationCount count) = no.IterationCount count
+of_value (values.NoRule line column) = no.NoRule line column
+of_value (values.NotADiagram line column) = no.NotADiagram line column
+of_value (values.TooManyArguments given inputs) = no.TooManyArguments given inputs
+of_value values.EvalBudget = no.EvalBudget
+of_value (values.ControlClash label) = no.ControlClash label
+of_value (values.ControlBounds label) = no.ControlBounds label
+of_value values.NoMemory = no.NoMemory
+
+-- and those of its delays
+abbrev pub of_delay : DelayRefusal → Refusal
+of_delay (delay.DelayNegative least) = no.DelayNegative least
+of_delay (delay.DelayTooLong greatest) = no.DelayTooLong greatest
+of_delay (delay.DelayBudget total) = no.DelayBudget total
+of_delay delay.NoMemory = no.NoMemory
 
 -- ---- the layers
 
@@ -55,28 +85,87 @@ pub data Parses (l : Lexed) : Result Spelled ParseRefusal → Type 0 where
   spells : (x : Tree) → IsAccepted l x → Parses l (Ok (record { tokens = l; tree = x }))
   refused : (e : ParseRefusal) → HasRefusal l e → Parses l (Err e)
 
--- what a tree is: the diagram by which it is small, or not small
-pub data Means (s : Spelled) : Result Diagram Refusal → Type 0 where
-  small : (d : Diagram) → IsSmall s.tokens s.tree d → Means s (Ok d)
-  not_small : IsNotSmall s.tokens s.tree → Means s (Err (Unsupported (codes "program")))
+-- a diagram and its controls, as a program
+abbrev pub valued : Result (Diagram × List ControlInfo) EvalRefusal → Result Compiled EvalRefusal
+valued (Ok v) = Ok (record { diagram = v.0; controls = v.1 })
+valued (Err e) = Err e
+
+-- what a tree is: the program that it evaluates to, or why it does to none
+abbrev pub Evaluates : Spelled → Result Compiled EvalRefusal → Type 0
+Evaluates s r = valued (program_value s.tokens s.tree) ≡ r
+
+-- no file has more channels
+abbrev pub most_channels : ℕ
+most_channels = 256
+
+-- a program with some output, and no more channels than files have
+abbrev pub narrow : Compiled → Result Compiled Refusal
+narrow p =
+    if outputs p.diagram == 0 then Err (no.Channels 0 1)
+    else (if nat_lt most_channels (outputs p.diagram) then Err (no.Channels (outputs p.diagram) most_channels)
+    else (if nat_lt most_channels (inputs p.diagram) then Err (no.Channels (inputs p.diagram) most_channels)
+    else Ok p))
+
+abbrev pub Narrow : Compiled → Result Compiled Refusal → Type 0
+Narrow p r = narrow p ≡ r
+
+-- the numbers that the controls may have
+abbrev pub control_spans : List ControlInfo → List Interval
+control_spans cs = map (λ c. record { lo = c.min; hi = c.max }) cs
+
+-- the spans of a program's delays, in the order of the walk
+abbrev pub delays_in : Compiled → List Interval
+delays_in p = delays_of p.diagram (control_spans p.controls)
+
+-- their sum
+abbrev pub delay_in : Compiled → ℕ
+delay_in p = sum (amounts (delays_in p))
+
+-- a span of delays that are refused, before those behind it
+abbrev pub bad_delay : Interval → Option Refusal → Option Refusal
+bad_delay s behind =
+    if int_lt s.lo (pos 0) then Some (no.DelayNegative s.lo)
+    else (if int_lt (pos delay_limit) s.hi then Some (no.DelayTooLong s.hi) else behind)
+
+-- the first of the spans that is refused
+abbrev pub first_bad : List Interval → Option Refusal
+first_bad [] = None
+first_bad (s ∷ ss) = bad_delay s (first_bad ss)
+
+-- and where none is, their sum may be
+abbrev pub delayed : Compiled → Option Refusal → Result Compiled Refusal
+delayed p (Some refusal) = Err refusal
+delayed p None = if nat_le (delay_in p) delay_budget then Ok p else Err (no.DelayBudget (delay_in p))
+
+-- a program whose delays are not refused
+abbrev pub Delayed : Compiled → Result Compiled Refusal → Type 0
+Delayed p r = delayed p (first_bad (delays_in p)) ≡ r
 
 -- what a text is up to its tree: tokens, and then their tree
 abbrev pub SpellingIs : List ℕ → Result Spelled Refusal → Type 0
 SpellingIs text r = Then (Turned of_bytes Has) (Turned of_tokens Parses) text r
 
--- what a text is: its tokens, then their tree, then its diagram; or the first refusal on the way
-abbrev pub TextIs : List ℕ → Result Diagram Refusal → Type 0
-TextIs text r = Then SpellingIs Means text r
+-- and then its value
+abbrev pub ValueIs : List ℕ → Result Compiled Refusal → Type 0
+ValueIs text r = Then SpellingIs (Turned of_value Evaluates) text r
 
--- The text is a program of this diagram.
-abbrev pub IsProgram : List ℕ → Diagram → Type 0
-IsProgram text d = TextIs text (Ok d)
+-- and then its channels
+abbrev pub WidthIs : List ℕ → Result Compiled Refusal → Type 0
+WidthIs text r = Then ValueIs Narrow text r
+
+-- what a text is: its tokens, then their tree, its value, its channels and its delays; or the first refusal on the way
+abbrev pub TextIs : List ℕ → Result Compiled Refusal → Type 0
+TextIs text r = Then WidthIs Delayed text r
+
+-- The text is this program.
+abbrev pub IsProgram : List ℕ → Compiled → Type 0
+IsProgram text p = TextIs text (Ok p)
 
 -- The text is refused for this.
 abbrev pub IsRefusedText : List ℕ → Refusal → Type 0
 IsRefusedText text refusal = TextIs text (Err refusal)
 
--- A text is one thing at most: a program of one diagram, or refused for one thing.
+-- A text is one thing at most: one program, or refused for one thing.
 abbrev pub IsOneText : Type 0
 IsOneText = IsOnce TextIs
 

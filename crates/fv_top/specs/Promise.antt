@@ -1,35 +1,38 @@
 -- What a run promises.
-use Rattle.std.specs.Prelude.{◌≡◌, ◌≢◌, ◌⊎◌, ℕ, ◌/◌, ◌+◌, ◌≤◌, ◌%◌, ◌^◌, IsTrue, IsSome, List, [], ◌∷◌, ◌++◌, length, take, Some, Ok, Err, codes}
+use Rattle.std.specs.Prelude.{◌≡◌, ◌≢◌, ◌⊎◌, ℕ, ◌+◌, ◌≤◌, ◌%◌, ◌^◌, ◌&&◌, ◌||◌, ◌==◌, nat_le, Bool, false, IsTrue, IsSome, List, [], ◌∷◌, ◌++◌, length, Some, None, Ok, Err}
 use Rattle.fv_base.specs.declared.role.Role.{Role}
-use Rattle.fv_base.specs.declared.role.Role.TheVariants.{Program, Input, Output, Report}
+use Rattle.fv_base.specs.declared.role.Role.TheVariants.{Program, Input, Controls, Output, Report}
 use Rattle.fv_base.specs.Lists.{IsPrefixOf}
 use Rattle.fv_outside.specs.Requests.{Request, to_read, to_write}
 use Rattle.fv_outside.specs.Desk.{DeskState, File, file_named, HasFault, KeepsFaults, IsUnfailing}
-use Rattle.fv_diagram.specs.Diagram.{Diagram}
+use Rattle.fv_control.specs.declared.script.Change.{Change}
+use Rattle.fv_control.specs.Streams.{control_streams}
+use Rattle.fv_words.specs.declared.cause.Cause.{Cause}
+use Rattle.fv_words.specs.Runs.{Run}
+use Rattle.fv_words.specs.Commands.{run_in}
 use Rattle.fv_top.specs.declared.status.Tally.{Tally}
 use Rattle.fv_top.specs.declared.refusal.Refusal.{Refusal}
-use Rattle.fv_words.specs.declared.cause.Cause.{Cause}
-use Rattle.fv_top.specs.declared.refusal.Refusal.TheVariants.{Usage, ReadFault, WriteFault, Unsupported, NoMemory}
+use Rattle.fv_top.specs.declared.refusal.Refusal.TheVariants.{Usage, ReadFault, WriteFault, WaveTruncated, NoMemory}
 use Rattle.fv_top.specs.declared.status.Status.{Status}
 use Rattle.fv_top.specs.declared.status.Status.TheVariants.{Done, Refused}
-use Rattle.fv_words.specs.Commands.{Names, names_of}
-use Rattle.fv_top.specs.Program.{IsProgram, IsRefusedText, IsOfText}
-use Rattle.fv_top.specs.Controls.{control_streams}
-use Rattle.fv_top.specs.Wave.{IsPlainInput, frames_in, data_of, rate_of}
+use Rattle.fv_top.specs.Program.{IsProgram, IsRefusedText, is_of_program}
+use Rattle.fv_top.specs.Sources.{Compiled, Source, initial_of}
+use Rattle.fv_top.specs.Sound.{Sound, sound_of, present_in, cut_in}
+use Rattle.fv_top.specs.Loading.{HasScript, HasInput, IsThere, reading}
 use Rattle.fv_top.specs.Meant.{Meant, run_meant, written_by}
-use Rattle.fv_top.specs.Lines.{refused_line}
-use Rattle.fv_top.specs.Steps.{Turn, reads, writes, role_of, Rules, Ends, Stops, PassesAll, all_requests}
+use Rattle.fv_top.specs.Lines.{row_of, refused_line}
+use Rattle.fv_top.specs.Steps.{Turn, reads, writes, Rules, Ends, Stops, PassesAll, all_requests}
 
--- the words are of the form, and name these files
-abbrev pub Asks : List (List ℕ) → Names → Type 0
-Asks words names = names_of words ≡ Ok names
+-- the words are of the form, and ask for this run
+abbrev pub Asks : List (List ℕ) → Run → Type 0
+Asks words run = run_in words ≡ Ok run
 
--- The file of this name is a program's text, of this diagram.
+-- The file of this name is a program's text.
 pub record HasProgram (name : List ℕ) (files : List File) : Type 0 where
   pub text : List ℕ
   pub file : file_named name files ≡ Some text
-  pub diagram : Diagram
-  pub program : IsProgram text diagram
+  pub compiled : Compiled
+  pub program : IsProgram text compiled
 
 -- The file of this name is there, and its text is refused.
 pub record HasNoProgram (name : List ℕ) (files : List File) (refusal : Refusal) : Type 0 where
@@ -37,99 +40,123 @@ pub record HasNoProgram (name : List ℕ) (files : List File) (refusal : Refusal
   pub file : file_named name files ≡ Some text
   pub refused : IsRefusedText text refusal
 
--- The file of this name is an input that can be played.
-pub record HasInput (name : List ℕ) (files : List File) : Type 0 where
-  pub bytes : List ℕ
-  pub file : file_named name files ≡ Some bytes
-  pub plain : IsPlainInput bytes
+-- The files of a run: a program, a script of its controls, an input, and the sound that it makes.
+pub record Plays (run : Run) (files : List File) : Type 0 where
+  pub of : HasProgram run.program files
+  pub changes : List Change
+  pub under : HasScript run.controls files of.compiled.controls (Ok changes)
+  pub source : Source
+  pub on : HasInput run.input files (Ok source)
+  pub sound : Sound
+  pub fits : sound_of run.settings of.compiled.diagram source.head ≡ Ok sound
 
--- The file of this name is there, and cannot be played.
-pub record HasNoInput (name : List ℕ) (files : List File) : Type 0 where
-  pub bytes : List ℕ
-  pub file : file_named name files ≡ Some bytes
-  pub not_plain : IsPlainInput bytes → ⊥
+-- what it means that they are played
+abbrev pub meant : {run : Run} {files : List File} → Plays run files → Meant
+meant p = run_meant p.of.compiled.diagram (control_streams p.changes (initial_of p.of.compiled.controls)) p.sound (present_in p.sound p.source)
 
--- There is a program, and an input that it can play.
-pub record Plays (program input : List ℕ) (files : List File) : Type 0 where
-  pub of : HasProgram program files
-  pub on : HasInput input files
-
--- the number of frames that the input's head states
-abbrev pub stated_frames : List ℕ → ℕ
-stated_frames bytes = data_of (take 44 bytes) / 2
-
--- what it means that the program is played on the input
-abbrev pub meant : {program input : List ℕ} {files : List File} → Plays program input files → Meant
-meant p = run_meant p.of.diagram (control_streams [] []) (rate_of (take 44 p.on.bytes)) 16 (stated_frames p.on.bytes) (frames_in p.on.bytes)
+-- no whole frame of the input is missing
+abbrev pub IsWhole : {run : Run} {files : List File} → Plays run files → Type 0
+IsWhole p = cut_in p.sound p.source ≡ None
 
 -- ---- the steps of a run, in order
 
 pub data Step : Type 0 where
   -- the program's file is read, and its text judged
   ReadProgram : Step
-  -- the input's file is read and judged
-  ReadInput : Step
-  -- the output is computed
-  Render : Step
-  -- it is written, and reported
-  Deliver : Step
+  -- the script is read and judged
+  ReadScript : Step
+  -- the head of the input is read and judged
+  ReadHead : Step
+  -- the sound that the program makes on the input is judged
+  Fit : Step
+  -- the samples are read, and the output computed
+  ReadSamples : Step
+  -- the output is written, as far as its input goes
+  Write : Step
+  -- and it is reported
+  Tell : Step
 
 -- the steps, in their order
 abbrev pub run_steps : List Step
-run_steps = ReadProgram ∷ ReadInput ∷ Render ∷ Deliver ∷ []
+run_steps = ReadProgram ∷ ReadScript ∷ ReadHead ∷ Fit ∷ ReadSamples ∷ Write ∷ Tell ∷ []
 
 -- what a step asks the desk for
-abbrev pub requests_of : Names → Step → List Request
-requests_of names ReadProgram = to_read Program names.program ∷ []
-requests_of names ReadInput = to_read Input names.input ∷ []
-requests_of names Render = []
-requests_of names Deliver = to_write Output names.output ∷ []
+abbrev pub requests_of : Run → Step → List Request
+requests_of run ReadProgram = to_read Program run.program ∷ []
+requests_of run ReadScript = reading Controls run.controls
+requests_of run ReadHead = reading Input run.input
+requests_of run Fit = []
+requests_of run ReadSamples = []
+requests_of run Write = to_write Output run.output ∷ []
+requests_of run Tell = []
 
 -- the roles that a step reads or writes
-abbrev pub TakesTurn : Step → Turn → Type 0
-TakesTurn ReadProgram t = t ≡ reads Program
-TakesTurn ReadInput t = t ≡ reads Input
-TakesTurn Render t = ⊥
-TakesTurn Deliver t = (t ≡ writes Output) ⊎ (t ≡ writes Report)
+abbrev pub TakesTurn : Run → Step → Turn → Type 0
+TakesTurn run ReadProgram t = t ≡ reads Program
+TakesTurn run ReadScript t = (t ≡ reads Controls) × IsSome run.controls
+TakesTurn run ReadHead t = (t ≡ reads Input) × IsSome run.input
+TakesTurn run Fit t = ⊥
+TakesTurn run ReadSamples t = (t ≡ reads Input) × IsSome run.input
+TakesTurn run Write t = t ≡ writes Output
+TakesTurn run Tell t = t ≡ writes Report
+
+-- there is room for all that is written of a role
+abbrev pub HasRoom : Run → DeskState → Role → Type 0
+HasRoom run old role = (p : Plays run old.files) → length (written_by (meant p) old role) ≤ old.room role
 
 -- what a turn needs of the desk as it was at first: no call of the role that fails from then on, its file, and room
-abbrev pub IsAnswered : Names → DeskState → Step → Turn → Type 0
-IsAnswered names old ReadProgram t = IsUnfailing Program old × IsSome (file_named names.program old.files)
-IsAnswered names old ReadInput t = IsUnfailing Input old × IsSome (file_named names.input old.files)
-IsAnswered names old Render t = Unit {0}
-IsAnswered names old Deliver t =
-    IsUnfailing (role_of t) old × ((p : Plays names.program names.input old.files) → length (written_by (meant p) old (role_of t)) ≤ old.room (role_of t))
+abbrev pub IsAnswered : Run → DeskState → Step → Turn → Type 0
+IsAnswered run old ReadProgram t = IsUnfailing Program old × IsThere (Some run.program) old.files
+IsAnswered run old ReadScript t = IsUnfailing Controls old × IsThere run.controls old.files
+IsAnswered run old ReadHead t = IsUnfailing Input old × IsThere run.input old.files
+IsAnswered run old Fit t = Unit {0}
+IsAnswered run old ReadSamples t = IsUnfailing Input old
+IsAnswered run old Write t = IsUnfailing Output old × HasRoom run old Output
+IsAnswered run old Tell t = IsUnfailing Report old × HasRoom run old Report
 
--- the refusals of what a step judges
+-- the numbers of the refusals of what a step judges
+abbrev pub is_of_step : Step → ℕ → Bool
+is_of_step ReadProgram n = is_of_program n
+is_of_step ReadScript n = (n == 4) || (nat_le 30 n && nat_le n 33)
+is_of_step ReadHead n = nat_le 34 n && nat_le n 37
+is_of_step Fit n = (n == 29) || (n == 38) || (n == 39)
+is_of_step ReadSamples n = false
+is_of_step Write n = n == 35
+is_of_step Tell n = false
+
 abbrev pub HasRefusal : Step → Refusal → Type 0
-HasRefusal ReadProgram refusal = IsOfText refusal
-HasRefusal ReadInput refusal = refusal ≡ Unsupported (codes "input")
-HasRefusal Render refusal = ⊥
-HasRefusal Deliver refusal = ⊥
+HasRefusal s refusal = IsTrue (is_of_step s (row_of refusal).number)
 
 -- what a step judges passes
-abbrev pub StepPasses : Names → List File → Step → Type 0
-StepPasses names files ReadProgram = HasProgram names.program files
-StepPasses names files ReadInput = HasInput names.input files
-StepPasses names files Render = Unit {0}
-StepPasses names files Deliver = Unit {0}
+abbrev pub StepPasses : Run → List File → Step → Type 0
+StepPasses run files ReadProgram = HasProgram run.program files
+StepPasses run files ReadScript = (p : HasProgram run.program files) × (changes : List Change) × HasScript run.controls files p.compiled.controls (Ok changes)
+StepPasses run files ReadHead = (source : Source) × HasInput run.input files (Ok source)
+StepPasses run files Fit = Plays run files
+StepPasses run files ReadSamples = Unit {0}
+StepPasses run files Write = (p : Plays run files) × IsWhole p
+StepPasses run files Tell = Unit {0}
 
 -- what a step judges is refused for this
-abbrev pub StepRefuses : Names → List File → Step → Refusal → Type 0
-StepRefuses names files ReadProgram refusal = HasNoProgram names.program files refusal
-StepRefuses names files ReadInput refusal = (refusal ≡ Unsupported (codes "input")) × HasNoInput names.input files
-StepRefuses names files Render refusal = ⊥
-StepRefuses names files Deliver refusal = ⊥
+abbrev pub StepRefuses : Run → List File → Step → Refusal → Type 0
+StepRefuses run files ReadProgram refusal = HasNoProgram run.program files refusal
+StepRefuses run files ReadScript refusal = (p : HasProgram run.program files) × HasScript run.controls files p.compiled.controls (Err refusal)
+StepRefuses run files ReadHead refusal = HasInput run.input files (Err refusal)
+StepRefuses run files Fit refusal =
+    (p : HasProgram run.program files) × (source : Source) × HasInput run.input files (Ok source) × (sound_of run.settings p.compiled.diagram source.head ≡ Err refusal)
+StepRefuses run files ReadSamples refusal = ⊥
+StepRefuses run files Write refusal = (p : Plays run files) × (cut_in p.sound p.source ≡ Some refusal)
+StepRefuses run files Tell refusal = ⊥
 
 -- the rules of a run's steps
-abbrev pub run_rules : Names → DeskState → Rules Step
-run_rules names old = record {
-  requests = requests_of names;
-  Takes = TakesTurn;
-  Answers = IsAnswered names old;
+abbrev pub run_rules : Run → DeskState → Rules Step
+run_rules run old = record {
+  requests = requests_of run;
+  Takes = TakesTurn run;
+  Answers = IsAnswered run old;
   Has = HasRefusal;
-  Passes = StepPasses names old.files;
-  Refuses = StepRefuses names old.files;
+  Passes = StepPasses run old.files;
+  Refuses = StepRefuses run old.files;
 }
 
 -- ---- how a run ends
@@ -137,8 +164,8 @@ run_rules names old = record {
 -- Why it is refused, and what the desk was asked for by then: the words, or the first of the steps that cannot go on. Want
 -- of memory is free.
 pub data HasCause (words : List (List ℕ)) (old new : DeskState) : Refusal → List Request → Type 0 where
-  bad_words : {cause : Cause} → names_of words ≡ Err cause → HasCause words old new (Usage cause) []
-  of_run : {refusal : Refusal} {asked : List Request} (names : Names) → Asks words names → Ends (run_rules names old) old new run_steps refusal asked
+  bad_words : {cause : Cause} → run_in words ≡ Err cause → HasCause words old new (Usage cause) []
+  of_run : {refusal : Refusal} {asked : List Request} (run : Run) → Asks words run → Ends (run_rules run old) old new run_steps refusal asked
       → HasCause words old new refusal asked
 
 -- The desk was asked to begin just this, and the refusal has its cause.
@@ -147,25 +174,26 @@ pub record IsRefusedFor (words : List (List ℕ)) (old new : DeskState) (refusal
   pub requests : new.requests ≡ old.requests ++ asked
   pub cause : HasCause words old new refusal asked
 
--- The desk was asked for the program, the input and the output, in this order; all that was meant was written, and nothing
--- else.
+-- The desk was asked for the files of the run, in their order; all that was meant was written, and nothing else.
 pub record HasPlayed (words : List (List ℕ)) (frames : ℕ) (old new : DeskState) : Type 0 where
-  pub names : Names
-  pub asks : Asks words names
-  pub requests : new.requests ≡ old.requests ++ all_requests (run_rules names old) run_steps
+  pub run : Run
+  pub asks : Asks words run
+  pub requests : new.requests ≡ old.requests ++ all_requests (run_rules run old) run_steps
   pub faults : KeepsFaults old new
-  pub told : IsTrue old.tells → (p : Plays names.program names.input old.files) × (frames ≡ (meant p).frames) × ((r : Role) → new.written r ≡ written_by (meant p) old r)
+  pub told : IsTrue old.tells → (p : Plays run old.files) × IsWhole p × (frames ≡ (meant p).frames) × ((r : Role) → new.written r ≡ written_by (meant p) old r)
 
 -- writing of the output began once
 abbrev pub HasBegun : (old new : DeskState) → Type 0
 HasBegun old new = new.begins Output ≡ (old.begins Output + 1) % 2 ^ 64
 
--- A part of the output file from its front was written.
-pub record HasPlayedPart (words : List (List ℕ)) (old new : DeskState) : Type 0 where
-  pub names : Names
-  pub asks : Asks words names
+-- A part of the output file from its front was written; where the input ends within its whole frames, all that the frames
+-- that are present make.
+pub record HasPlayedPart (words : List (List ℕ)) (refusal : Refusal) (old new : DeskState) : Type 0 where
+  pub run : Run
+  pub asks : Asks words run
   pub begun : HasBegun old new
-  pub told : IsTrue old.tells → (p : Plays names.program names.input old.files) × IsPrefixOf (new.written Output) (written_by (meant p) old Output)
+  pub told : IsTrue old.tells → (p : Plays run old.files) × IsPrefixOf (new.written Output) (written_by (meant p) old Output)
+      × ((place : ℕ) → refusal ≡ WaveTruncated place → new.written Output ≡ written_by (meant p) old Output)
 
 -- Writing of the output did not begin, and what was written of it before still stands.
 pub record KeepsOutput (old new : DeskState) : Type 0 where
@@ -173,19 +201,19 @@ pub record KeepsOutput (old new : DeskState) : Type 0 where
   pub written : IsTrue old.tells → new.written Output ≡ old.written Output
 
 -- what a refused run leaves of the output
-abbrev pub LeavesOutput : (words : List (List ℕ)) → (old new : DeskState) → Type 0
-LeavesOutput words old new = KeepsOutput old new ⊎ HasPlayedPart words old new
+abbrev pub LeavesOutput : (words : List (List ℕ)) → Refusal → (old new : DeskState) → Type 0
+LeavesOutput words refusal old new = KeepsOutput old new ⊎ HasPlayedPart words refusal old new
 
--- What no run touches: bytes left of other roles than the program and the input, bytes written of other roles than the output
--- and the report, and begins of other roles than the output.
+-- What no run touches: bytes left of other roles than those that it reads, bytes written of other roles than the output and the
+-- report, and begins of other roles than the output.
 pub record KeepsOthers (old new : DeskState) : Type 0 where
-  pub left : IsTrue old.tells → (r : Role) → r ≢ Program → r ≢ Input → new.left r ≡ old.left r
+  pub left : IsTrue old.tells → (r : Role) → r ≢ Program → r ≢ Controls → r ≢ Input → new.left r ≡ old.left r
   pub written : IsTrue old.tells → (r : Role) → r ≢ Output → r ≢ Report → new.written r ≡ old.written r
   pub begins : (r : Role) → r ≢ Output → new.begins r ≡ old.begins r
 
 -- a part of the line of a run that is done, which was reported before its report failed
 abbrev pub IsBegunLine : (words : List (List ℕ)) → (old : DeskState) → (part : List ℕ) → Type 0
-IsBegunLine words old part = (names : Names) × Asks words names × (IsTrue old.tells → (p : Plays names.program names.input old.files) × IsPrefixOf part (meant p).line)
+IsBegunLine words old part = (run : Run) × Asks words run × (IsTrue old.tells → (p : Plays run old.files) × IsPrefixOf part (meant p).line)
 
 -- What a refused run appends to the report: the refusal's line, or a part of it where the report failed; before it a part
 -- of the line of a run that is done, where the report of that failed.
@@ -219,11 +247,11 @@ abbrev pub IsDoneOrNoMemory : Status → Type 0
 IsDoneOrNoMemory (Done tally) = Unit {0}
 IsDoneOrNoMemory (Refused refusal) = refusal ≡ NoMemory
 
--- Where the words name a program and an input that it can play, and each turn is sure to be answered or has no fault, the run
--- is done, unless memory runs out.
+-- Where the words ask for a run whose files can be played, and each turn is sure to be answered or has no fault, the run is
+-- done, unless memory runs out.
 abbrev pub IsComplete : (words : List (List ℕ)) → (old new : DeskState) → Status → Type 0
 IsComplete words old new status =
-    (names : Names) → Asks words names → IsTrue old.tells → PassesAll (run_rules names old) old new run_steps → IsDoneOrNoMemory status
+    (run : Run) → Asks words run → IsTrue old.tells → PassesAll (run_rules run old) old new run_steps → IsDoneOrNoMemory status
 
 -- refused for this, or out of memory
 abbrev pub IsRefusedOrNoMemory : Refusal → Status → Type 0
@@ -232,8 +260,8 @@ IsRefusedOrNoMemory refusal status = (status ≡ Refused refusal) ⊎ (status �
 -- Where the first step that cannot go on refuses for something, the run is refused for it, unless memory runs out.
 abbrev pub IsStrict : (words : List (List ℕ)) → (old new : DeskState) → Status → Type 0
 IsStrict words old new status =
-    (names : Names) (refusal : Refusal) → Asks words names → IsTrue old.tells → Stops (run_rules names old) old new run_steps refusal → IsRefusedOrNoMemory refusal status
+    (run : Run) (refusal : Refusal) → Asks words run → IsTrue old.tells → Stops (run_rules run old) old new run_steps refusal → IsRefusedOrNoMemory refusal status
 
 -- Words that are refused are refused for their cause.
 abbrev pub IsExact : (words : List (List ℕ)) → Status → Type 0
-IsExact words status = (cause : Cause) → names_of words ≡ Err cause → status ≡ Refused (Usage cause)
+IsExact words status = (cause : Cause) → run_in words ≡ Err cause → status ≡ Refused (Usage cause)

@@ -1,54 +1,85 @@
 -- How the parts of a run end.
-use Rattle.std.specs.Prelude.{◌≡◌, ◌≢◌, ◌⊎◌, ℕ, ◌≤◌, IsTrue, List, [], ◌∷◌, ◌++◌, length}
+use Rattle.std.specs.Prelude.{◌≡◌, ◌≢◌, ◌⊎◌, ℕ, ◌≤◌, IsTrue, List, [], ◌∷◌, ◌++◌, length, Option, Some, None, ℤ}
 use Rattle.fv_base.specs.declared.role.Role.{Role}
-use Rattle.fv_base.specs.declared.role.Role.TheVariants.{Program, Input, Output, Report}
+use Rattle.fv_base.specs.declared.role.Role.TheVariants.{Program, Controls, Input, Output, Report}
 use Rattle.fv_base.specs.Lists.{IsPrefixOf}
-use Rattle.fv_outside.specs.Requests.{Request, to_write}
+use Rattle.fv_outside.specs.Requests.{Request, to_read, to_write}
 use Rattle.fv_outside.specs.Desk.{DeskState, GoesOn, HasFault, KeepsQuiet, KeepsLeft, IsUnfailing, Appends}
+use Rattle.fv_words.specs.Runs.{Run}
+use Rattle.fv_wav.specs.Samples.{pad_bytes, data_size}
 use Rattle.fv_top.specs.declared.refusal.Refusal.{Refusal}
 use Rattle.fv_top.specs.declared.refusal.Refusal.TheVariants.{WriteFault}
-use Rattle.fv_top.specs.Lines.{refused_line, done_line}
-use Rattle.fv_top.specs.Promise.{HasBegun, KeepsOutput, KeepsOthers, IsBegunLine, IsRefusedFor, HasPlayed, LeavesOutput, Reports, IsFaultOf, HandsOn}
+use Rattle.fv_top.specs.Sound.{Sound, file_of, cut_in}
+use Rattle.fv_top.specs.Loading.{reading}
+use Rattle.fv_top.specs.Meant.{written_by}
+use Rattle.fv_top.specs.Lines.{refused_line}
+use Rattle.fv_top.specs.Steps.{Ends}
+use Rattle.fv_top.specs.Promise.{Plays, meant, run_rules, run_steps, HasBegun, KeepsOutput, KeepsOthers, IsBegunLine, IsRefusedFor, HasPlayed, LeavesOutput, Reports, IsFaultOf, HandsOn}
 
 -- The desk was asked for this, and nothing was written.
 pub record Reaches (asked : List Request) (old new : DeskState) : Type 0 where
   pub quiet : KeepsQuiet old new
   pub requests : new.requests ≡ old.requests ++ asked
-  pub left : IsTrue old.tells → (r : Role) → r ≢ Program → r ≢ Input → new.left r ≡ old.left r
+  pub left : IsTrue old.tells → (r : Role) → r ≢ Program → r ≢ Controls → r ≢ Input → new.left r ≡ old.left r
 
--- The desk was asked for this output alone, and only the output and the report were written.
+-- The desk was asked for this output alone, and only the output was written.
 pub record Delivers (name : List ℕ) (old new : DeskState) : Type 0 where
   pub goes_on : GoesOn old new
   pub requests : new.requests ≡ old.requests ++ to_write Output name ∷ []
   pub left : KeepsLeft old new
-  pub written : IsTrue old.tells → (r : Role) → r ≢ Output → r ≢ Report → new.written r ≡ old.written r
+  pub written : IsTrue old.tells → (r : Role) → r ≢ Output → new.written r ≡ old.written r
   pub begins : (r : Role) → r ≢ Output → new.begins r ≡ old.begins r
+  pub other_faults : (r : Role) → r ≢ Output → new.faults r ≡ old.faults r
 
 -- a fault of the role was counted, and it was not sure that no call fails and there is room for these bytes
 pub record CannotWrite (role : Role) (bytes : List ℕ) (old new : DeskState) : Type 0 where
   pub fault : HasFault role old new
   pub unsure : IsTrue old.tells → IsUnfailing role old × (length bytes ≤ old.room role) → ⊥
 
--- why the output was not written, or not reported
-abbrev pub StopsDelivering : (file : List ℕ) → (frames : ℕ) → (old new : DeskState) → Refusal → Type 0
-StopsDelivering file frames old new refusal =
-    ((refusal ≡ WriteFault Output) × CannotWrite Output file old new)
-    ⊎ ((refusal ≡ WriteFault Report) × CannotWrite Report (old.written Report ++ done_line frames) old new)
-
 -- the output as it was, or a part of the file from its front
 abbrev pub LeavesPart : (file : List ℕ) → (old new : DeskState) → Type 0
 LeavesPart file old new = KeepsOutput old new ⊎ (HasBegun old new × (IsTrue old.tells → IsPrefixOf (new.written Output) file))
 
--- the report as it was, or a part of the line from its front
-pub record LeavesLine (frames : ℕ) (old new : DeskState) (refusal : Refusal) : Type 0 where
-  pub part : List ℕ
-  pub is_part : IsPrefixOf part (done_line frames)
-  pub appended : IsTrue old.tells → new.written Report ≡ old.written Report ++ part
-  pub cause : (part ≡ []) ⊎ (refusal ≡ WriteFault Report)
-
 -- no fault was counted but the refusal's
 abbrev pub CountsFaultOf : Refusal → (old new : DeskState) → Type 0
 CountsFaultOf refusal old new = (r : Role) → (IsFaultOf r refusal → ⊥) → new.faults r ≡ old.faults r
+
+-- ---- before anything is written
+
+-- all that is asked for by then
+abbrev pub asked_before : Run → List Request
+asked_before run = to_read Program run.program ∷ (reading Controls run.controls ++ reading Input run.input)
+
+-- What is ready to be written: a sound of so many channels, its samples, and the refusal where its input ends too early.
+pub record Ready : Type 0 where
+  pub channels : ℕ
+  pub sound : Sound
+  pub samples : List ℤ
+  pub cut : Option Refusal
+
+-- its file: where its input ends too early, no byte stands behind the samples
+abbrev pub pad_of : Option Refusal → (size : ℕ) → List ℕ
+pad_of None size = pad_bytes size
+pad_of (Some refusal) size = []
+
+abbrev pub file_in : Ready → List ℕ
+file_in r =
+    let size = data_size r.channels r.sound.bits r.sound.frames in
+    file_of r.channels r.sound.rate r.sound.bits size r.samples (pad_of r.cut size)
+
+-- What is ready is what the files of the run mean, where the desk tells them.
+abbrev pub IsReady : Run → DeskState → Ready → Type 0
+IsReady run old r =
+    IsTrue old.tells → (p : Plays run old.files) × (cut_in p.sound p.source ≡ r.cut) × (r.sound.frames ≡ (meant p).frames) × (file_in r ≡ written_by (meant p) old Output)
+
+-- A step that reads cannot go on.
+pub record StopsBefore (run : Run) (old new : DeskState) (refusal : Refusal) : Type 0 where
+  pub asked : List Request
+  pub reaches : Reaches asked old new
+  pub ends : Ends (run_rules run old) old new run_steps refusal asked
+  pub faults : CountsFaultOf refusal old new
+
+-- ---- how it ends
 
 -- how a run that is done ends
 pub record EndsDone (words : List (List ℕ)) (frames : ℕ) (old new : DeskState) : Type 0 where
@@ -61,7 +92,7 @@ pub record Stopped (words : List (List ℕ)) (old new : DeskState) (refusal : Re
   pub goes_on : GoesOn old new
   pub others : KeepsOthers old new
   pub cause : IsRefusedFor words old new refusal
-  pub output : LeavesOutput words old new
+  pub output : LeavesOutput words refusal old new
   pub begun : List ℕ
   pub appended : IsTrue old.tells → new.written Report ≡ old.written Report ++ begun
   pub is_begun : (begun ≡ []) ⊎ ((refusal ≡ WriteFault Report) × IsBegunLine words old begun)
@@ -78,6 +109,6 @@ pub record EndsRefused (words : List (List ℕ)) (old new : DeskState) (refusal 
   pub goes_on : GoesOn old new
   pub others : KeepsOthers old new
   pub cause : IsRefusedFor words old new refusal
-  pub output : LeavesOutput words old new
+  pub output : LeavesOutput words refusal old new
   pub report : Reports words refusal old new
   pub hands_on : HandsOn refusal old new

@@ -1,83 +1,85 @@
 // The input's head and samples.
 
-ghost use Rattle.std.specs.Prelude.{◌≡◌, ℕ, ◌+◌, ◌%◌, ◌<◌, ◌≤◌, ◌==◌, ◌&&◌, List, length, take, drop, codes, IsTrue, IfOk, IfErr, IsErrOf, slice_range};
-ghost use Rattle.std.specs.Int.{from_le_bytes};
-ghost use Rattle.std.proofs.Common.{w32};
-ghost use Rattle.fv_base.specs.declared.role.Role.TheVariants.{Input as input_role};
-ghost use Rattle.fv_outside.specs.Desk.{KeepsFaults};
-ghost use Rattle.fv_top.specs.declared.refusal.Refusal.TheVariants.{ReadFault, Unsupported};
-ghost use Rattle.fv_top.specs.Promise.{HasNoInput};
-ghost use Rattle.fv_top.specs.Loading.{ReadsFile, StopsLoading, IsFile};
-ghost use Rattle.fv_top.specs.Wave.{IsPlainInput, is_plain_head, rate_of, data_in, data_limit};
+ghost use Rattle.std.specs.Prelude.{◌≡◌, ◌≤◌, length, option_copied, is_some, IsTrue, IfOk, IfErr, IfSome, IsErrOf, Err};
+ghost use Rattle.std.specs.Option.{ForSome};
+ghost use Rattle.fv_base.specs.declared.role.Role.TheVariants.{Input};
+ghost use Rattle.fv_outside.specs.Desk.{KeepsFaults, TakesSome};
+ghost use Rattle.fv_wav.specs.Stopping.{IsHead};
+ghost use Rattle.fv_wav.specs.Reading.{frame_size};
+ghost use Rattle.fv_wav.specs.Samples.{whole_bytes};
+ghost use Rattle.fv_top.specs.declared.refusal.Refusal.TheVariants.{ReadFault};
+ghost use Rattle.fv_top.specs.Promise.{HasRefusal, ReadHead};
+ghost use Rattle.fv_top.specs.Loading.{ReadsFile, StopsLoading, StopsSamples, HasInput, HasHead, IsPlaced, wanted};
 
-use crate::program::{read_front, read_refusal};
+use crate::program::read_refusal;
 use crate::refusal::Refusal;
-use crate::text::unsupported;
 use fv_outside::{Desk, Role, read_up_to};
-use std::alloc::{AllocError, Global};
+use fv_wav::{Head, read_head};
+use std::alloc::Global;
 
-/// An input that can be played: frames a second, and the bytes of its samples, two for each.
-#[derive(Drop)]
-pub struct Input {
-    pub rate: u32,
-    pub bytes: Vec<u8>,
-}
-
-/// A head has so many bytes.
-const HEAD_BYTES: usize = 44;
-
-/// The most bytes of samples that a head can state.
-const DATA_LIMIT: u32 = 4294967258;
-
-/// Loads the input of this name.
+/// Reads the head of the input of this name; without a name there is none.
 #[tactic(auto, using(fv_outside::proofs::States::steps, crate::proofs::Loads::reading))]
-pub fn load_input<D: Desk>(alloc: Global, desk: &mut D, name: &str) -> Result<Input, Refusal>
-    ensures reads { ReadsFile input_role name.now (D.state desk.old) (D.state desk.new) }
-    ensures loaded { IfOk result (λ input. IsTrue (D.state desk.old).tells → (bytes : List ℕ) × IsFile name.now bytes (D.state desk.old)
-        × IsPlainInput bytes × (input.rate ≡ rate_of (take 44 bytes)) × (input.bytes.items ≡ data_in bytes)) }
-    ensures size { IfOk result (λ input. length input.bytes.items ≤ data_limit) }
-    ensures err { IfErr result (StopsLoading input_role name.now (λ e. e ≡ Unsupported (codes "input"))
-        (λ e. (e ≡ Unsupported (codes "input")) × HasNoInput name.now (D.state desk.old).files) (D.state desk.old) (D.state desk.new)) }
-    ensures steady { (IsErrOf result (ReadFault input_role) → ⊥) → KeepsFaults (D.state desk.old) (D.state desk.new) }
+pub fn load_head<D: Desk>(desk: &mut D, name: Option<&str>) -> Result<Option<Head>, Refusal>
+    ensures reads { ReadsFile Input (option_copied name.entry) (D.state desk.old) (D.state desk.new) }
+    ensures headed { IfOk result (λ head. IsTrue (D.state desk.old).tells →
+        HasHead (option_copied name.entry) (D.state desk.old).files head ((D.state desk.new).left Input)) }
+    ensures named { IfOk result (λ head. is_some head ≡ is_some (option_copied name.entry)) }
+    ensures ranges { IfOk result (λ head. ForSome head IsPlaced) }
+    ensures err { IfErr result (StopsLoading Input (option_copied name.entry) (HasRefusal ReadHead)
+        (λ e. HasInput (option_copied name.entry) (D.state desk.old).files (Err e)) (D.state desk.old) (D.state desk.new)) }
+    ensures steady { (IsErrOf result (ReadFault Input) → ⊥) → KeepsFaults (D.state desk.old) (D.state desk.new) }
 {
-    let head = match read_front(alloc, desk, Role::Input, name, HEAD_BYTES) {
-        Ok(head) => head,
-        Err(error) => return Err(read_refusal(Role::Input, error)),
+    let name = match name {
+        Some(name) => name,
+        None => return Ok(None),
     };
-    if !is_plain(&head) {
-        return Err(unsupported(alloc, b"input"));
+    match desk.begin_read(Role::Input, name) {
+        Ok(()) => {}
+        Err(_) => return Err(Refusal::ReadFault { role: Role::Input }),
     }
-    let rate = number_at(&head, 24);
-    let size = number_at(&head, 40) as usize;
-    let bytes = match read_up_to(alloc, desk, Role::Input, size) {
-        Ok(bytes) => bytes,
-        Err(error) => return Err(read_refusal(Role::Input, error)),
-    };
-    if bytes.len() < size {
-        return Err(unsupported(alloc, b"input"));
-    }
-    Ok(Input { rate, bytes })
+    let head = read_head(desk)?;
+    Ok(Some(head))
 }
 
-// Whether the bytes are a head of the first form.
-fn is_plain(head: &[u8]) -> bool
-    ensures { result ≡ ((length head.now == 44) && is_plain_head head.now) }
+/// The bytes of the whole frames that a head states, or as many as are there.
+#[tactic(auto, using(fv_outside::proofs::States::steps, crate::proofs::Loads::reading))]
+pub fn load_samples<D: Desk>(
+    alloc: Global,
+    desk: &mut D,
+    head: Option<Head>,
+) -> Result<Vec<u8>, Refusal>
+    requires { ForSome head IsPlaced }
+    ensures takes { TakesSome Input (D.state desk.old) (D.state desk.new) }
+    ensures raw { IfOk result (λ v. IsTrue (D.state desk.old).tells → v.items ≡ wanted head ((D.state desk.old).left Input)) }
+    ensures count { IfOk result (λ v. IfSome head (λ h. length v.items ≤ whole_bytes h)) }
+    ensures err { IfErr result (StopsSamples head (D.state desk.old) (D.state desk.new)) }
+    ensures steady { (IsErrOf result (ReadFault Input) → ⊥) → KeepsFaults (D.state desk.old) (D.state desk.new) }
 {
-    if head.len() != HEAD_BYTES {
-        return false;
+    let head = match head {
+        Some(head) => head,
+        None => return Ok(Vec::new(alloc)),
+    };
+    match read_up_to(alloc, desk, Role::Input, whole_bytes(&head)) {
+        Ok(bytes) => Ok(bytes),
+        Err(error) => Err(read_refusal(Role::Input, error)),
     }
-    let size = number_at(head, 40);
-    &head[0..4] == b"RIFF".as_slice()
-        && &head[8..24] == b"WAVEfmt \x10\0\0\0\x01\0\x01\0".as_slice()
-        && &head[32..40] == b"\x02\0\x10\0data".as_slice()
-        && size % 2 == 0
-        && size <= DATA_LIMIT
 }
 
-// The number in four bytes, the lowest first.
-fn number_at(bytes: &[u8], at: usize) -> u32
-    requires { at + 4 ≤ length bytes.now }
-    ensures { result ≡ from_le_bytes w32 (slice_range bytes.now at (at + 4)) }
+// The bytes of the whole frames that it states.
+fn whole_bytes(head: &Head) -> usize
+    requires { IsHead head.now }
+    ensures { result ≡ whole_bytes head.now }
 {
-    u32::from_le_bytes([bytes[at], bytes[at + 1], bytes[at + 2], bytes[at + 3]])
+    let size = frame_size(head);
+    (head.data_bytes / size * size) as usize
+}
+
+/// The bytes of a frame.
+pub fn frame_size(head: &Head) -> u32
+    requires { IsHead head.now }
+    ensures size { result ≡ frame_size head.now.channels head.now.bits }
+    ensures some { 1 ≤ result }
+    ensures few { result ≤ 1024 }
+{
+    head.channels * (head.bits / 8)
 }

@@ -2,11 +2,14 @@
 #![tactic(auto)]
 
 mod input;
+mod output;
+mod prepare;
 mod program;
 mod refusal;
 mod report;
 mod row;
 mod run;
+mod script;
 mod sound;
 mod status;
 mod text;

@@ -1,20 +1,19 @@
 // The program's file.
 
-ghost use Rattle.std.specs.Prelude.{◌≡◌, ℕ, ◌<◌, List, take, drop, IsTrue, IfOk, IfErr, IsErrOf};
+ghost use Rattle.std.specs.Prelude.{◌≡◌, ℕ, ◌<◌, List, take, drop, IsTrue, IfOk, IfErr, IsErrOf, Some};
 ghost use Rattle.fv_base.specs.declared.role.Role.TheVariants.{Program as program_role};
 ghost use Rattle.fv_outside.specs.declared.transfer.ReadError.TheVariants as errors;
 ghost use Rattle.fv_outside.specs.Desk.{KeepsFaults};
-ghost use Rattle.fv_diagram.specs.Arena.{count_of, tree_of};
-ghost use Rattle.fv_diagram.specs.Diagram.{control_bound, HasNoFreeSlot};
 ghost use Rattle.fv_top.specs.declared.refusal.Refusal.TheVariants.{ReadFault};
 ghost use Rattle.fv_top.specs.Program.{IsProgram, IsOfText};
 ghost use Rattle.fv_top.specs.Promise.{HasNoProgram};
+ghost use Rattle.fv_top.specs.Playable.{compiled_of, CanPlay};
 ghost use Rattle.fv_top.specs.Loading.{ReadsFile, CannotRead, StopsLoading, IsFile, refusal_of_read};
 
 use crate::refusal::Refusal;
 use crate::text::read_program;
+use fv_eval::Program;
 use fv_outside::{Desk, ReadError, Role, read_up_to};
-use fv_small::Program;
 use std::alloc::Global;
 
 /// A program's text has at most 1,048,576 bytes, and one byte more shows that it is too long.
@@ -23,11 +22,10 @@ const TEXT_BYTES: usize = 1048577;
 /// Loads the program of this name.
 #[tactic(auto, using(fv_outside::proofs::States::steps, crate::proofs::Loads::reading))]
 pub fn load_program<D: Desk>(alloc: Global, desk: &mut D, name: &str) -> Result<Program, Refusal>
-    ensures reads { ReadsFile program_role name.now (D.state desk.old) (D.state desk.new) }
-    ensures spelled { IfOk result (λ p. (text : List ℕ) × IsFile name.now text (D.state desk.old) × IsProgram text (tree_of p.diagrams p.root)) }
-    ensures runs { IfOk result (λ p. (p.root < count_of p.diagrams)
-        × (control_bound (tree_of p.diagrams p.root) ≡ 0) × HasNoFreeSlot (tree_of p.diagrams p.root)) }
-    ensures err { IfErr result (StopsLoading program_role name.now IsOfText (HasNoProgram name.now (D.state desk.old).files) (D.state desk.old) (D.state desk.new)) }
+    ensures reads { ReadsFile program_role (Some name.now) (D.state desk.old) (D.state desk.new) }
+    ensures spelled { IfOk result (λ p. (text : List ℕ) × IsFile name.now text (D.state desk.old) × IsProgram text (compiled_of p)) }
+    ensures plays { IfOk result CanPlay }
+    ensures err { IfErr result (StopsLoading program_role (Some name.now) IsOfText (HasNoProgram name.now (D.state desk.old).files) (D.state desk.old) (D.state desk.new)) }
     ensures steady { (IsErrOf result (ReadFault program_role) → ⊥) → KeepsFaults (D.state desk.old) (D.state desk.new) }
 {
     let text = match read_front(alloc, desk, Role::Program, name, TEXT_BYTES) {
@@ -47,10 +45,10 @@ pub fn read_front<D: Desk>(
     name: &str,
     count: usize,
 ) -> Result<Vec<u8>, ReadError>
-    ensures reads { ReadsFile role name.now (D.state desk.old) (D.state desk.new) }
+    ensures reads { ReadsFile role (Some name.now) (D.state desk.old) (D.state desk.new) }
     ensures bytes { IfOk result (λ v. IsTrue (D.state desk.old).tells → (bytes : List ℕ) × IsFile name.now bytes (D.state desk.old)
         × (v.items ≡ take count bytes) × ((D.state desk.new).left role ≡ drop count bytes)) }
-    ensures failed { IsErrOf result ReadError.Failed → CannotRead role name.now (D.state desk.old) (D.state desk.new) }
+    ensures failed { IsErrOf result ReadError.Failed → CannotRead role (Some name.now) (D.state desk.old) (D.state desk.new) }
     ensures steady { (IsErrOf result ReadError.Failed → ⊥) → KeepsFaults (D.state desk.old) (D.state desk.new) }
 {
     desk.begin_read(role, name)?;

@@ -2,14 +2,19 @@
 
 ghost use Rattle.std.specs.Prelude.{◌≡◌};
 ghost use Rattle.fv_top.specs.Lines.{row_of, status_of};
-ghost use Rattle.fv_top.specs.Program.{of_bytes, of_tokens};
+ghost use Rattle.fv_top.specs.Program.{of_bytes, of_tokens, of_value, of_delay};
+ghost use Rattle.fv_top.specs.Sources.{of_script, of_wave};
 ghost use Rattle.fv_top.specs.declared.refusal.Refusal.TheVariants.{Usage, NoMemory};
 
 use fv_arity::ArityKind;
+use fv_control::ScriptRefusal;
 use fv_diagram::Label;
+use fv_eval::EvalRefusal;
+use fv_interval::DelayRefusal;
 use fv_lex::LexRefusal;
 use fv_outside::{Role, Word};
 use fv_parse::ParseRefusal;
+use fv_wav::WaveRefusal;
 use fv_words::Cause;
 use std::alloc::AllocError;
 
@@ -57,7 +62,7 @@ pub enum Refusal {
         line: u32,
         column: u32,
     },
-    /// Something that is not supported: a word of the text, or the form of the whole program or input.
+    /// A word of the text that is not supported.
     Unsupported {
         word: Word,
     },
@@ -250,6 +255,71 @@ impl From<ParseRefusal> for Refusal {
             ParseRefusal::RuleWidths { line, column } => Refusal::RuleWidths { line, column },
             ParseRefusal::NoProcess => Refusal::NoProcess,
             ParseRefusal::NoMemory => Refusal::NoMemory,
+        }
+    }
+}
+
+impl From<EvalRefusal> for Refusal {
+    ghost from_gives = { λ e refusal. refusal ≡ of_value e };
+
+    fn from(e: EvalRefusal) -> Refusal {
+        match e {
+            EvalRefusal::SizeBudget { size } => Refusal::SizeBudget { size },
+            EvalRefusal::Arity { kind, left, right } => Refusal::Arity { kind, left, right },
+            EvalRefusal::UnknownName { name } => Refusal::UnknownName { name },
+            EvalRefusal::NotANumber { line, column } => Refusal::NotANumber { line, column },
+            EvalRefusal::IterationCount { count } => Refusal::IterationCount { count },
+            EvalRefusal::NoRule { line, column } => Refusal::NoRule { line, column },
+            EvalRefusal::NotADiagram { line, column } => Refusal::NotADiagram { line, column },
+            EvalRefusal::TooManyArguments { given, inputs } => {
+                Refusal::TooManyArguments { given, inputs }
+            }
+            EvalRefusal::EvalBudget => Refusal::EvalBudget,
+            EvalRefusal::ControlClash { label } => Refusal::ControlClash { label },
+            EvalRefusal::ControlBounds { label } => Refusal::ControlBounds { label },
+            EvalRefusal::NoMemory => Refusal::NoMemory,
+        }
+    }
+}
+
+impl From<DelayRefusal> for Refusal {
+    ghost from_gives = { λ e refusal. refusal ≡ of_delay e };
+
+    fn from(e: DelayRefusal) -> Refusal {
+        match e {
+            DelayRefusal::DelayNegative { least } => Refusal::DelayNegative { least },
+            DelayRefusal::DelayTooLong { greatest } => Refusal::DelayTooLong { greatest },
+            DelayRefusal::DelayBudget { sum } => Refusal::DelayBudget { sum },
+            DelayRefusal::NoMemory => Refusal::NoMemory,
+        }
+    }
+}
+
+impl From<ScriptRefusal> for Refusal {
+    ghost from_gives = { λ e refusal. refusal ≡ of_script e };
+
+    fn from(e: ScriptRefusal) -> Refusal {
+        match e {
+            ScriptRefusal::TextTooLong { role } => Refusal::TextTooLong { role },
+            ScriptRefusal::ControlLine { line } => Refusal::ControlLine { line },
+            ScriptRefusal::ControlUnknown { line } => Refusal::ControlUnknown { line },
+            ScriptRefusal::ControlRange { line } => Refusal::ControlRange { line },
+            ScriptRefusal::ControlOrder { line } => Refusal::ControlOrder { line },
+            ScriptRefusal::NoMemory => Refusal::NoMemory,
+        }
+    }
+}
+
+impl From<WaveRefusal> for Refusal {
+    ghost from_gives = { λ e refusal. refusal ≡ of_wave e };
+
+    fn from(e: WaveRefusal) -> Refusal {
+        match e {
+            WaveRefusal::ReadFault { role } => Refusal::ReadFault { role },
+            WaveRefusal::NotWave { place } => Refusal::NotWave { place },
+            WaveRefusal::WaveTruncated { place } => Refusal::WaveTruncated { place },
+            WaveRefusal::WaveFormat { place } => Refusal::WaveFormat { place },
+            WaveRefusal::WaveChunks { place } => Refusal::WaveChunks { place },
         }
     }
 }

@@ -1,147 +1,204 @@
-// The bytes of the output.
+// The sound that a program makes on an input.
 
-ghost use Rattle.std.specs.Prelude.{◌≡◌, ◌+◌, ◌*◌, ◌/◌, ◌%◌, ◌^◌, ◌<◌, ◌≤◌, [], ◌∷◌, ◌++◌, length, map, codes, flat_map, OnOk, IfOk, slice_index_or, pos};
-ghost use Rattle.std.specs.Int.{cast_signed, from_le_bytes};
-ghost use Rattle.std.proofs.Common.{w16};
-ghost use Rattle.fv_diagram.specs.Diagram.{inputs, outputs, control_bound, HasNoFreeSlot, IsWellFormed};
-ghost use Rattle.fv_diagram.specs.Arena.{count_of, tree_of};
+ghost use Rattle.std.specs.Prelude.{◌≡◌, ℕ, ◌*◌, ◌/◌, ◌<◌, ◌≤◌, length, true, IfOk, None};
+ghost use Rattle.std.specs.Option.{ForSome};
+ghost use Rattle.std.specs.List.{AllByRecursion};
+ghost use Rattle.fv_num.specs.Words.{is_sample_width};
+ghost use Rattle.fv_diagram.specs.Diagram.{inputs, outputs};
 ghost use Rattle.fv_diagram.specs.Streams.{run};
-ghost use Rattle.fv_top.specs.Controls.{control_streams};
-ghost use Rattle.fv_top.specs.Wave.{head_bytes, sample_bytes, frame_bytes, output_file, no_slots, samples_in, le16, le32, data_limit};
+ghost use Rattle.fv_control.specs.Laws.{NeverFall};
+ghost use Rattle.fv_control.specs.Streams.{control_streams};
+ghost use Rattle.fv_play.specs.Play.{joined, no_slots, rows};
+ghost use Rattle.fv_words.specs.Views.{settings_in};
+ghost use Rattle.fv_wav.specs.Stopping.{IsHead};
+ghost use Rattle.fv_wav.specs.Samples.{data_size, data_limit, samples_in};
+ghost use Rattle.fv_top.specs.Sources.{initial_of, frames_of};
+ghost use Rattle.fv_top.specs.Sound.{sound_of, channels_in, rate_in, bits_in, frames_in};
+ghost use Rattle.fv_top.specs.Playable.{compiled_of, CanPlay, sound_answered};
 
-use crate::input::Input;
-use fv_diagram::{Stepper, answers_alike, answers_each, answers_one_more};
-use fv_num::clamp;
-use fv_small::Program;
+use crate::input::frame_size;
+use crate::refusal::Refusal;
+use fv_control::Change;
+use fv_diagram::ControlInfo;
+use fv_eval::Program;
+use fv_play::play_script;
+use fv_wav::{Head, data_length, decode};
+use fv_words::Settings;
 use std::alloc::{AllocError, Global};
 
-/// The bytes of the output file of a program on an input.
-pub fn render(alloc: Global, program: &Program, input: &Input) -> Result<Vec<u8>, AllocError>
-    requires root { program.now.root < count_of program.now.diagrams }
-    requires well { IsWellFormed (tree_of program.now.diagrams program.now.root) }
-    requires closed { HasNoFreeSlot (tree_of program.now.diagrams program.now.root) }
-    requires controls { control_bound (tree_of program.now.diagrams program.now.root) ≡ 0 }
-    requires one_input { inputs (tree_of program.now.diagrams program.now.root) ≡ 1 }
-    requires one_output { outputs (tree_of program.now.diagrams program.now.root) ≡ 1 }
-    requires size { length input.now.bytes.items ≤ data_limit }
-    ensures { IfOk result (λ v. v.items ≡ output_file (tree_of program.now.diagrams program.now.root) (control_streams [] []) input.now.rate 16
-        (length input.now.bytes.items / 2) (map (λ x. x ∷ []) (samples_in input.now.bytes.items))) }
-{
-    let frames = input.bytes.len() / 2;
-    let size = 2 * frames as u32;
-    let mut file = Vec::with_capacity(alloc, 44 + 2 * frames)?;
-    push_head(&mut file, input.rate, size)?;
-    push_frames(alloc, program, &input.bytes, &mut file)?;
-    Ok(file)
+/// A sound.
+#[derive(Clone, Copy)]
+pub struct Sound {
+    /// Frames a second.
+    pub rate: u32,
+    /// Bits of a sample.
+    pub bits: u32,
+    /// The number of frames.
+    pub frames: u32,
+    /// The bytes of their samples.
+    pub size: u32,
 }
 
-// Appends the head of one channel of 16 bits.
-fn push_head(file: &mut Vec<u8>, rate: u32, size: u32) -> Result<(), AllocError>
-    requires { size ≤ data_limit }
-    ensures { OnOk result (file.new.items ≡ file.old.items ++ head_bytes 1 rate 16 size) }
+/// The frames a second where neither an input nor a word says so.
+const USUAL_RATE: u32 = 44100;
+
+/// The bits of a sample where neither an input nor a word says so.
+const USUAL_BITS: u32 = 16;
+
+/// The sound that a program makes on an input with this head, or why it does not fit.
+pub fn fit(program: &Program, head: Option<Head>, settings: &Settings) -> Result<Sound, Refusal>
+    requires plays { CanPlay program.now }
+    requires head { ForSome head IsHead }
+    ensures sound { sound_answered result ≡ sound_of (settings_in settings.now) (compiled_of program.now).diagram head }
+    ensures bits { IfOk result (λ s. is_sample_width s.bits ≡ true) }
+    ensures size { IfOk result (λ s. (s.size ≡ data_size (outputs (compiled_of program.now).diagram) s.bits s.frames) × (s.size ≤ data_limit)) }
+    ensures channels { IfOk result (λ _. channels_in head ≡ inputs (compiled_of program.now).diagram) }
 {
-    push_form(file, size)?;
-    push_format(file, rate, size)?;
-    Ok(())
+    let arity = program.diagrams.arity(program.root);
+    let channels = channels_in(head);
+    if channels != arity.inputs {
+        return Err(Refusal::Channels {
+            have: channels,
+            want: arity.inputs,
+        });
+    }
+    let Some(frames) = frames_in(settings, head) else {
+        return Err(Refusal::FramesNeeded);
+    };
+    let rate = rate_in(settings, head);
+    let bits = bits_in(settings, head);
+    match data_length(arity.outputs, bits, frames) {
+        Some(size) => Ok(Sound {
+            rate,
+            bits,
+            frames,
+            size,
+        }),
+        None => Err(Refusal::OutputTooLong {
+            bytes: u64::from(frames) * (u64::from(arity.outputs) * u64::from(bits / 8)),
+        }),
+    }
 }
 
-// Appends the head up to the number of channels.
-fn push_form(file: &mut Vec<u8>, size: u32) -> Result<(), AllocError>
-    requires { size ≤ data_limit }
-    ensures { OnOk result (file.new.items ≡ file.old.items
-        ++ (codes "RIFF" ++ le32 (36 + size + size % 2) ++ codes "WAVEfmt " ++ le32 16 ++ le16 1 ++ le16 1)) }
+fn channels_in(head: Option<Head>) -> u32
+    ensures { result ≡ channels_in head }
 {
-    file.extend_from_slice(b"RIFF")?;
-    push_number(file, 36 + size + size % 2)?;
-    file.extend_from_slice(b"WAVEfmt \x10\0\0\0\x01\0\x01\0")?;
-    Ok(())
+    match head {
+        Some(head) => head.channels,
+        None => 0,
+    }
 }
 
-// Appends the rest of the head.
-fn push_format(file: &mut Vec<u8>, rate: u32, size: u32) -> Result<(), AllocError>
-    ensures { OnOk result (file.new.items ≡ file.old.items
-        ++ (le32 rate ++ le32 ((rate * 2) % 2 ^ 32) ++ le16 2 ++ le16 16 ++ codes "data" ++ le32 size)) }
+// The number of frames, if it is said.
+fn frames_in(settings: &Settings, head: Option<Head>) -> Option<u32>
+    requires { ForSome head IsHead }
+    ensures { result ≡ frames_in (settings_in settings.now) head }
 {
-    push_number(file, rate)?;
-    push_number(file, rate.wrapping_mul(2))?;
-    file.extend_from_slice(b"\x02\0\x10\0data")?;
-    push_number(file, size)?;
-    Ok(())
+    match head {
+        Some(head) => Some(head.data_bytes / frame_size(&head)),
+        None => settings.frames,
+    }
 }
 
-// Appends a number, the lowest byte first.
-fn push_number(file: &mut Vec<u8>, n: u32) -> Result<(), AllocError>
-    ensures { OnOk result (file.new.items ≡ file.old.items ++ le32 n) }
+fn rate_in(settings: &Settings, head: Option<Head>) -> u32
+    ensures { result ≡ rate_in (settings_in settings.now) head }
 {
-    file.extend_from_slice(&n.to_le_bytes())
+    match head {
+        Some(head) => head.rate,
+        None => settings.rate.unwrap_or(USUAL_RATE),
+    }
 }
 
-// Appends the frames that the program gives.
-fn push_frames(
+fn bits_in(settings: &Settings, head: Option<Head>) -> u32
+    requires { ForSome head IsHead }
+    ensures bits { result ≡ bits_in (settings_in settings.now) head }
+    ensures is_width { is_sample_width result ≡ true }
+{
+    match head {
+        Some(head) => settings.bits.unwrap_or(head.bits),
+        None => settings.bits.unwrap_or(USUAL_BITS),
+    }
+}
+
+/// How many whole frames are in the bytes of an input's samples.
+pub fn count_frames(head: Option<Head>, raw: &[u8], stated: u32) -> usize
+    requires { ForSome head IsHead }
+    ensures { result ≡ length (frames_of stated head raw.now) }
+{
+    match head {
+        Some(head) => raw.len() / frame_size(&head) as usize,
+        None => stated as usize,
+    }
+}
+
+/// The samples that a program answers on an input, one frame after another.
+pub fn render(
     alloc: Global,
     program: &Program,
-    bytes: &[u8],
-    file: &mut Vec<u8>,
-) -> Result<(), AllocError>
-    requires root { program.now.root < count_of program.now.diagrams }
-    requires well { IsWellFormed (tree_of program.now.diagrams program.now.root) }
-    requires closed { HasNoFreeSlot (tree_of program.now.diagrams program.now.root) }
-    requires controls { control_bound (tree_of program.now.diagrams program.now.root) ≡ 0 }
-    requires one_input { inputs (tree_of program.now.diagrams program.now.root) ≡ 1 }
-    requires one_output { outputs (tree_of program.now.diagrams program.now.root) ≡ 1 }
-    ensures { OnOk result (file.new.items ≡ file.old.items ++ flat_map (frame_bytes 16)
-        (run (tree_of program.now.diagrams program.now.root) (control_streams [] []) no_slots (map (λ x. x ∷ []) (samples_in bytes.now)))) }
+    changes: &[Change],
+    head: Option<Head>,
+    raw: &[u8],
+    stated: u32,
+) -> Result<Vec<i32>, AllocError>
+    requires plays { CanPlay program.now }
+    requires head { ForSome head IsHead }
+    requires channels { channels_in head ≡ inputs (compiled_of program.now).diagram }
+    requires order { NeverFall 0 changes.now }
+    requires named { AllByRecursion (λ c. c.control < length (compiled_of program.now).controls) changes.now }
+    ensures { IfOk result (λ v. v.items ≡ joined (run (compiled_of program.now).diagram
+        (control_streams changes.now (initial_of (compiled_of program.now).controls)) no_slots (frames_of stated head raw.now))) }
 {
-    answers_each();
-    answers_one_more();
-    answers_alike();
-    let mut stepper = Stepper::new(alloc, &program.diagrams, program.root)?;
-    let mut out = [0i32; 1];
-    for i in 0..bytes.len() / 2 {
-        let frame = frame_at(bytes, i);
-        stepper.step(&[], &frame, &mut out)?;
-        push_frame(file, &out)?;
-    }
-    Ok(())
+    let initial = initial_of(alloc, program.controls.as_slice())?;
+    let frames = count_frames(head, raw, stated);
+    let samples = samples_of(alloc, head, raw, frames)?;
+    let answer = play_script(
+        alloc,
+        &program.diagrams,
+        program.root,
+        &initial,
+        changes,
+        &samples,
+        frames,
+    )?;
+    Ok(answer)
 }
 
-// Frame i.
-fn frame_at(bytes: &[u8], i: usize) -> [i32; 1]
-    requires { i < length bytes.now / 2 }
-    ensures { result ≡ slice_index_or (samples_in bytes.now) i (pos 0) ∷ [] }
+// The numbers with which the controls begin.
+fn initial_of(alloc: Global, controls: &[ControlInfo]) -> Result<Vec<i32>, AllocError>
+    ensures { IfOk result (λ v. v.items ≡ initial_of controls.now) }
 {
-    [i32::from(sample_of(bytes[2 * i], bytes[2 * i + 1]))]
+    controls.iter().map(|c| c.init).collect(alloc)
 }
 
-// The sample in two bytes.
-fn sample_of(low: u8, high: u8) -> i16
-    ensures { result ≡ cast_signed w16 (from_le_bytes w16 (low ∷ high ∷ [])) }
+// The samples of the whole frames in these bytes, of which there are so many.
+fn samples_of(
+    alloc: Global,
+    head: Option<Head>,
+    raw: &[u8],
+    frames: usize,
+) -> Result<Vec<i32>, AllocError>
+    requires head { ForSome head IsHead }
+    requires frames { ForSome head (λ h. frames ≡ length raw.now / (h.channels * (h.bits / 8))) }
+    ensures samples { IfOk result (λ v. (stated : ℕ) → (head ≡ None → stated ≡ frames) → rows (channels_in head) frames v.items ≡ frames_of stated head raw.now) }
+    ensures count { IfOk result (λ v. length v.items ≡ frames * channels_in head) }
 {
-    i16::from_le_bytes([low, high])
+    let head = match head {
+        Some(head) => head,
+        None => return Ok(Vec::new(alloc)),
+    };
+    let size = (head.bits / 8) as usize;
+    let count = frames * head.channels as usize;
+    let samples = decoded(alloc, head.bits, &raw[..count * size], count)?;
+    Ok(samples)
 }
 
-// Appends a frame.
-fn push_frame(file: &mut Vec<u8>, frame: &[i32]) -> Result<(), AllocError>
-    ensures { OnOk result (file.new.items ≡ file.old.items ++ frame_bytes 16 frame.now) }
+// The samples in these bytes, of which there are so many.
+fn decoded(alloc: Global, bits: u32, bytes: &[u8], count: usize) -> Result<Vec<i32>, AllocError>
+    requires bits { is_sample_width bits ≡ true }
+    requires room { length bytes.now ≡ count * (bits / 8) }
+    ensures { IfOk result (λ v. v.items ≡ samples_in bits count bytes.now) }
 {
-    for i in 0..frame.len() {
-        push_sample(file, number_at(frame, i))?;
-    }
-    Ok(())
-}
-
-// Number i of a frame.
-fn number_at(frame: &[i32], i: usize) -> i32
-    requires { i < length frame.now }
-    ensures { result ≡ slice_index_or frame.now i (pos 0) }
-{
-    frame[i]
-}
-
-// Appends a sample, clamped to 16 bits.
-fn push_sample(file: &mut Vec<u8>, x: i32) -> Result<(), AllocError>
-    ensures { OnOk result (file.new.items ≡ file.old.items ++ sample_bytes 16 x) }
-{
-    let bytes = clamp(x, 16).to_le_bytes();
-    file.extend_from_slice(&bytes[..2])
+    let mut samples = vec![in alloc; 0i32; count]?;
+    decode(bits, bytes, &mut samples);
+    Ok(samples)
 }

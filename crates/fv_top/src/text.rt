@@ -1,21 +1,27 @@
-// A program's text: its tokens, their tree, and the tree's diagram.
+// A program's text: its tokens, their tree, and the tree's program.
 
-ghost use Rattle.std.specs.Prelude.{◌≡◌, ◌⊎◌, ◌<◌, IfOk, IfErr};
-ghost use Rattle.fv_diagram.specs.Arena.{count_of, tree_of};
-ghost use Rattle.fv_diagram.specs.Diagram.{control_bound, HasNoFreeSlot};
+ghost use Rattle.std.specs.Prelude.{◌≡◌, ◌⊎◌, ◌≤◌, IfOk, IfErr, OnOk, Ok, Err, All};
+ghost use Rattle.fv_diagram.specs.Arena.{tree_of};
+ghost use Rattle.fv_diagram.specs.Diagram.{outputs};
+ghost use Rattle.fv_rules.specs.Sound.{IsBounded};
 ghost use Rattle.fv_top.specs.declared.refusal.Refusal.TheVariants.{NoMemory};
-ghost use Rattle.fv_top.specs.Loading.{IsUnsupportedOrNoMemory};
-ghost use Rattle.fv_top.specs.Program.{IsProgram, IsRefusedText, IsOneText, IsOneOrOther, IsOfText};
+ghost use Rattle.fv_top.specs.Playable.{compiled_of, CanPlay};
+ghost use Rattle.fv_top.specs.Program.{IsProgram, IsRefusedText, IsOneText, IsOneOrOther, IsOfText, narrow, delayed, first_bad, delays_in, control_spans};
 
 use crate::refusal::Refusal;
+use fv_diagram::ControlInfo;
+use fv_eval::{Program, evaluate};
 use fv_grammar::spelled_once;
+use fv_interval::spans;
 use fv_lex::{one_answer, tokens};
-use fv_outside::Word;
+use fv_num::Span;
 use fv_parse::{one_outcome, parse};
-use fv_small::{Program, small_once, small_program};
-use std::alloc::Global;
+use std::alloc::{AllocError, Global};
 
-/// A text is a program of one diagram, or it is refused for one thing, and never both.
+/// No file has more channels.
+const MOST_CHANNELS: u32 = 256;
+
+/// A text is one program, or it is refused for one thing, and never both.
 pub fn one_program()
     ensures once { IsOneText }
     ensures either { IsOneOrOther }
@@ -23,34 +29,72 @@ pub fn one_program()
     one_answer();
     spelled_once();
     one_outcome();
-    small_once();
 }
 
-/// The program that a text is. A text that is none is refused for the first that applies: its bytes, its tokens, its tree.
+/// The program that a text is. A text that is none is refused for the first that applies: its bytes, its tokens, its tree,
+/// its value, its channels, its delays.
 pub fn read_program(alloc: Global, text: &[u8]) -> Result<Program, Refusal>
-    // What is answered is the text's program, a node of the arena.
-    ensures found { IfOk result (λ p. IsProgram text.now (tree_of p.diagrams p.root)) }
-    ensures root { IfOk result (λ p. p.root < count_of p.diagrams) }
-    // A runner may be made of it.
-    ensures controls { IfOk result (λ p. control_bound (tree_of p.diagrams p.root) ≡ 0) }
-    ensures closed { IfOk result (λ p. HasNoFreeSlot (tree_of p.diagrams p.root)) }
+    // What is answered is the text's program.
+    ensures found { IfOk result (λ p. IsProgram text.now (compiled_of p)) }
+    ensures plays { IfOk result CanPlay }
     // Only a text that is no program is refused, and for its cause.
     ensures refused { IfErr result (λ e. (e ≡ NoMemory) ⊎ (IsOfText e × IsRefusedText text.now e)) }
 {
     let tokens = tokens(alloc, text)?;
     let tree = parse(alloc, &tokens)?;
-    match small_program(alloc, &tree)? {
-        Some(program) => Ok(program),
-        None => Err(unsupported(alloc, b"program")),
-    }
+    let program = evaluate(alloc, &tree)?;
+    check_channels(&program)?;
+    check_delays(alloc, &program)?;
+    Ok(program)
 }
 
-/// The refusal of a form that is not supported.
-pub fn unsupported(alloc: Global, word: &[u8]) -> Refusal
-    ensures { IsUnsupportedOrNoMemory word.now result }
+// Whether its channels can be those of files.
+fn check_channels(program: &Program) -> Result<(), Refusal>
+    ensures ok { OnOk result (narrow (compiled_of program.now) ≡ Ok (compiled_of program.now)) }
+    ensures some { OnOk result (1 ≤ outputs (tree_of program.now.diagrams program.now.root)) }
+    ensures few { OnOk result (outputs (tree_of program.now.diagrams program.now.root) ≤ 256) }
+    ensures err { IfErr result (λ e. IsOfText e × (narrow (compiled_of program.now) ≡ Err e)) }
 {
-    match Word::new(alloc, word) {
-        Ok(word) => Refusal::Unsupported { word },
-        Err(_) => Refusal::NoMemory,
+    let arity = program.diagrams.arity(program.root);
+    if arity.outputs == 0 {
+        return Err(Refusal::Channels { have: 0, want: 1 });
     }
+    if MOST_CHANNELS < arity.outputs {
+        return Err(Refusal::Channels {
+            have: arity.outputs,
+            want: MOST_CHANNELS,
+        });
+    }
+    if MOST_CHANNELS < arity.inputs {
+        return Err(Refusal::Channels {
+            have: arity.inputs,
+            want: MOST_CHANNELS,
+        });
+    }
+    Ok(())
+}
+
+// Whether its delays are short.
+fn check_delays(alloc: Global, program: &Program) -> Result<(), Refusal>
+    ensures ok { OnOk result (delayed (compiled_of program.now) (first_bad (delays_in (compiled_of program.now))) ≡ Ok (compiled_of program.now)) }
+    ensures err { IfErr result (λ e. (e ≡ NoMemory) ⊎ (IsOfText e × (delayed (compiled_of program.now) (first_bad (delays_in (compiled_of program.now))) ≡ Err e))) }
+{
+    let controls = spans_of(alloc, program.controls.as_slice())?;
+    let _delays = spans(alloc, &program.diagrams, program.root, &controls)?;
+    Ok(())
+}
+
+// The numbers that the controls may have.
+fn spans_of(alloc: Global, controls: &[ControlInfo]) -> Result<Vec<Span>, AllocError>
+    requires { All IsBounded controls.now }
+    ensures { IfOk result (λ v. v.items ≡ control_spans controls.now) }
+{
+    let mut all = Vec::new(alloc);
+    for i in 0..controls.len() {
+        all.push(Span {
+            lo: controls[i].min,
+            hi: controls[i].max,
+        })?;
+    }
+    Ok(all)
 }

@@ -6,4 +6,8 @@ mod sure;
 pub use sure::run_sure;
 
 #[cfg(test)]
+mod files;
+#[cfg(test)]
+mod language;
+#[cfg(test)]
 mod runs;

@@ -8,15 +8,15 @@ use std::sync::Wait;
 use std::test::Fail;
 use std::thread::Threads;
 
-const WORDS: [&str; 5] = ["faustvec", "run", "p.dsp", "in.wav", "out.wav"];
+pub const WORDS: [&str; 4] = ["run", "p.dsp", "in.wav", "out.wav"];
 
 // One channel of 16 bits at 44100 frames a second, with the samples 1, -2 and 3.
-const THREE: [u8; 50] = [
+pub const THREE: [u8; 50] = [
     82, 73, 70, 70, 42, 0, 0, 0, 87, 65, 86, 69, 102, 109, 116, 32, 16, 0, 0, 0, 1, 0, 1, 0, 68,
     172, 0, 0, 136, 88, 1, 0, 2, 0, 16, 0, 100, 97, 116, 97, 6, 0, 0, 0, 1, 0, 254, 255, 3, 0,
 ];
 
-fn desk_of(alloc: Global, text: &[u8], input: &[u8]) -> Result<MemoryDesk, AllocError> {
+pub fn desk_of(alloc: Global, text: &[u8], input: &[u8]) -> Result<MemoryDesk, AllocError> {
     let mut desk = MemoryDesk::new(alloc);
     desk.put("p.dsp", text)?;
     desk.put("in.wav", input)?;
@@ -25,14 +25,15 @@ fn desk_of(alloc: Global, text: &[u8], input: &[u8]) -> Result<MemoryDesk, Alloc
     Ok(desk)
 }
 
-// The exit status of a run.
-fn status_of(
+// The exit status of a run with these words behind the program's own name.
+pub fn status_of(
     rt: &(impl Threads + Wait + Sync),
     alloc: Global,
     desk: &mut MemoryDesk,
     words: &[&str],
 ) -> Result<u8, AllocError> {
     let mut all = Vec::new(alloc);
+    all.push(String::from_str(alloc, "faustvec")?)?;
     for word in words {
         all.push(String::from_str(alloc, word)?)?;
     }
@@ -40,7 +41,7 @@ fn status_of(
 }
 
 // The three-sample file with other samples, of two bytes each.
-fn with_samples(alloc: Global, samples: &[u8]) -> Result<Vec<u8>, AllocError> {
+pub fn with_samples(alloc: Global, samples: &[u8]) -> Result<Vec<u8>, AllocError> {
     let mut file = Vec::from_slice(alloc, &THREE[..44])?;
     file.extend_from_slice(samples)?;
     Ok(file)
@@ -101,36 +102,76 @@ fn plays(rt: HostRuntime) -> Result<(), Fail> {
 
 #[test]
 fn refuses_words(rt: HostRuntime) -> Result<(), Fail> {
-    let rows: [(&[&str], u8, &[u8]); 6] = [
+    let rows: [(&[&str], u8, &[u8]); 13] = [
         (
-            &["faustvec", "run", "p.dsp", "in.wav", "in.wav"],
+            &["run", "p.dsp", "in.wav", "in.wav"],
             2,
             b"refused 1 Usage same\n",
         ),
+        (&["run", "p.dsp", "in.wav"], 2, b"refused 1 Usage form\n"),
         (
-            &["faustvec", "run", "p.dsp", "in.wav"],
+            &["play", "p.dsp", "in.wav", "out.wav"],
             2,
             b"refused 1 Usage form\n",
         ),
         (
-            &["faustvec", "run", "p.dsp", "-", "out.wav"],
+            &["run", "p.dsp", "in.wav", "out.wav", "--block", "x"],
             2,
-            b"refused 1 Usage form\n",
+            b"refused 1 Usage number\n",
         ),
         (
-            &["faustvec", "play", "p.dsp", "in.wav", "out.wav"],
+            &["run", "p.dsp", "in.wav", "out.wav", "--block", "0"],
             2,
-            b"refused 1 Usage form\n",
+            b"refused 1 Usage range\n",
         ),
         (
-            &["faustvec", "run", "none.dsp", "in.wav", "out.wav"],
+            &["run", "p.dsp", "in.wav", "out.wav", "--workers=2"],
+            2,
+            b"refused 1 Usage range\n",
+        ),
+        (
+            &[
+                "run", "p.dsp", "in.wav", "out.wav", "--vector", "1", "--block", "4096",
+            ],
+            2,
+            b"refused 1 Usage vectors\n",
+        ),
+        (
+            &["run", "p.dsp", "in.wav", "out.wav", "--frames", "3"],
+            2,
+            b"refused 1 Usage together\n",
+        ),
+        (
+            &["run", "none.dsp", "in.wav", "out.wav"],
             1,
             b"refused 2 ReadFault program\n",
         ),
         (
-            &["faustvec", "run", "p.dsp", "none.wav", "out.wav"],
+            &["run", "p.dsp", "none.wav", "out.wav"],
             1,
             b"refused 2 ReadFault input\n",
+        ),
+        (
+            &[
+                "run",
+                "p.dsp",
+                "in.wav",
+                "out.wav",
+                "--controls",
+                "none.txt",
+            ],
+            1,
+            b"refused 2 ReadFault controls\n",
+        ),
+        (
+            &["run", "p.dsp", "none.wav", "out.wav", "--controls=none.txt"],
+            1,
+            b"refused 2 ReadFault controls\n",
+        ),
+        (
+            &["run", "p.dsp", "-", "out.wav", "--frames=3"],
+            3,
+            b"refused 29 Channels 0 1\n",
         ),
     ];
     for (words, status, line) in rows {
@@ -138,24 +179,6 @@ fn refuses_words(rt: HostRuntime) -> Result<(), Fail> {
         assert_eq!(rt; status_of(&rt, rt.alloc(), &mut desk, words)?, status);
         assert_eq!(rt; desk.written(Role::Report), line);
         assert!(rt; desk.written(Role::Output).is_empty());
-    }
-    Ok(())
-}
-
-#[test]
-fn refuses_files(rt: HostRuntime) -> Result<(), Fail> {
-    let two_channels = changed(rt.alloc(), 22, 2)?;
-    let eight_bits = changed(rt.alloc(), 34, 8)?;
-    let seven_bytes = changed(rt.alloc(), 40, 7)?;
-    let rows: [&[u8]; 4] = [&two_channels, &eight_bits, &seven_bytes, &THREE[..49]];
-    for samples in rows {
-        let mut desk = desk_of(rt.alloc(), b"process = _;", samples)?;
-        assert_refused(
-            &rt,
-            rt.alloc(),
-            &mut desk,
-            b"refused 10 Unsupported input\n",
-        )?;
     }
     Ok(())
 }
@@ -173,8 +196,8 @@ fn assert_refused(
     Ok(())
 }
 
-// Texts that are no small program, each with its line.
-const REFUSED: [(&[u8], &[u8]); 17] = [
+// Texts that are no program, each with its line.
+const REFUSED: [(&[u8], &[u8]); 15] = [
     (b"process = #;", b"refused 5 BadByte 1 11\n"),
     (b"/* ab", b"refused 6 Unclosed 1 1\n"),
     (b"process = _ * 0.5;", b"refused 7 RealLiteral 1 15\n"),
@@ -191,8 +214,6 @@ const REFUSED: [(&[u8], &[u8]); 17] = [
         b"import(\"stdfaust.lib\");",
         b"refused 10 Unsupported import\n",
     ),
-    (b"process = _';", b"refused 10 Unsupported program\n"),
-    (b"process = _ , _;", b"refused 10 Unsupported program\n"),
     (b"a = 1; a = 2; process = a;", b"refused 11 Redefined a\n"),
     (b"f(x,x) = x; process = f;", b"refused 12 RepeatedName x\n"),
     (
@@ -204,7 +225,7 @@ const REFUSED: [(&[u8], &[u8]); 17] = [
 ];
 
 // The three-sample file with another byte at a place.
-fn changed(alloc: Global, place: usize, byte: u8) -> Result<Vec<u8>, AllocError> {
+pub fn changed(alloc: Global, place: usize, byte: u8) -> Result<Vec<u8>, AllocError> {
     let mut file = Vec::from_slice(alloc, &THREE)?;
     if place < file.len() {
         file[place] = byte;
@@ -215,7 +236,7 @@ fn changed(alloc: Global, place: usize, byte: u8) -> Result<Vec<u8>, AllocError>
 #[test]
 fn refuses_the_text_first(rt: HostRuntime) -> Result<(), Fail> {
     let mut desk = desk_of(rt.alloc(), b"process = _;\nprocess = 1 +;", &THREE)?;
-    let words = ["faustvec", "run", "p.dsp", "none.wav", "out.wav"];
+    let words = ["run", "p.dsp", "none.wav", "out.wav"];
     assert_eq!(rt; status_of(&rt, rt.alloc(), &mut desk, &words)?, 3);
     assert_eq!(rt;
         desk.written(Role::Report),
@@ -283,8 +304,8 @@ fn limits_the_text(rt: HostRuntime) -> Result<(), Fail> {
 fn names_what_failed(rt: HostRuntime) -> Result<(), Fail> {
     let rows: [(Role, u32, u8, &[u8]); 4] = [
         (Role::Program, 3, 1, b"refused 2 ReadFault program\n"),
-        (Role::Input, 3, 1, b"refused 2 ReadFault input\n"),
-        (Role::Output, 2, 1, b"refused 3 WriteFault output\n"),
+        (Role::Input, 13, 1, b"refused 2 ReadFault input\n"),
+        (Role::Output, 12, 1, b"refused 3 WriteFault output\n"),
         (Role::Report, 3, 1, b"refused 3 WriteFault report\n"),
     ];
     for (role, calls, status, line) in rows {

@@ -1,7 +1,7 @@
 // A caller that knows from the state before the run that it is done.
 
 ghost use Rattle.std.specs.Prelude.{map, string_bytes};
-ghost use Rattle.fv_words.specs.Commands.{Names};
+ghost use Rattle.fv_words.specs.Runs.{Run};
 ghost use Rattle.fv_top.specs.Promise.{IsDoneOrNoMemory};
 ghost use Rattle.fv_top_tests.specs.Sure.{IsSure};
 
@@ -19,8 +19,8 @@ pub fn run_sure<R: Threads + Wait + Sync, D: Desk, G: Gate + Sync>(
     desk: &mut D,
     gate: &mut G,
 ) -> Status
-    ghost names: { Names }
-    requires { IsSure (map string_bytes words.now) names (D.state desk.old) }
+    ghost run: { Run }
+    requires { IsSure (map string_bytes words.now) run (D.state desk.old) }
     ensures { IsDoneOrNoMemory result }
 {
     run_faustvec(rt, alloc, words, desk, gate)

@@ -1,8 +1,8 @@
 // The chunks of a WAV file.
 
-ghost use Rattle.std.specs.Prelude.{◌≡◌, ℕ, ◌+◌, ◌^◌, ◌<◌, ◌≤◌, List, length, IsTrue, Ok, Err, Some, IfOk, IfErr, IfSome};
+ghost use Rattle.std.specs.Prelude.{◌≡◌, ℕ, ◌+◌, ◌^◌, ◌<◌, ◌≤◌, List, length, IsTrue, Ok, Err, Some, IfOk, IfErr, IfSome, OnOk};
 ghost use Rattle.fv_base.specs.declared.role.Role.TheVariants.{Input};
-ghost use Rattle.fv_outside.specs.Desk.{Takes};
+ghost use Rattle.fv_outside.specs.Desk.{Takes, KeepsFaults};
 ghost use Rattle.fv_wav.specs.declared.head.Kind.TheVariants as kind;
 ghost use Rattle.fv_wav.specs.Reading.{rest_of, wave, kind_of, is_form};
 ghost use Rattle.fv_wav.specs.Stopping.{Passes, Stops, IsFormat, IsHead, Continues, Follows, walk_from, chunk_from};
@@ -54,6 +54,7 @@ pub fn read_head<D: Desk>(desk: &mut D) -> Result<Head, WaveRefusal>
     ensures taken { IfOk result (λ head. (bytes : List ℕ) × (length bytes ≡ head.place) × Takes Input bytes (D.state desk.old) (D.state desk.new)) }
     ensures ranges { IfOk result IsHead }
     ensures place { IfOk result (λ head. head.place < 2 ^ 45) }
+    ensures steady { OnOk result (KeepsFaults (D.state desk.old) (D.state desk.new)) }
     ensures err { IfErr result (λ e. Stops (wave ((D.state desk.old).left Input) ≡ Err e) (D.state desk.old) (D.state desk.new) e) }
 {
     read_form(desk)?;

@@ -11,7 +11,7 @@ mod refusal;
 mod writing;
 
 pub use chunks::read_head;
-pub use frames::read_frames;
+pub use frames::{decode, read_frames};
 pub use head::Head;
 pub use laws::{ends_at_its_length, one_outcome, samples_follow, written_is_read};
 pub use refusal::{WaveRefusal, WriteRefusal};

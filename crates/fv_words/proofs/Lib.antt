@@ -1,4 +1,3 @@
 pub mod Reading
-pub mod Dashes
 pub mod Cutting
 pub mod Ranges

@@ -1,6 +1,5 @@
 -- What the words ask for (this project's profile).
-use Rattle.std.specs.Prelude.{ℕ, ◌&&◌, Bool, false, not, ◌==◌, List, [], ◌∷◌, Option, Some, None, Result, Ok, Err, bytes_eq, codes, if◌then◌else◌}
-use Rattle.std.specs.List.{list_all}
+use Rattle.std.specs.Prelude.{ℕ, Bool, false, List, [], ◌∷◌, Option, Some, None, Result, Ok, Err, bytes_eq, codes, if◌then◌else◌}
 use Rattle.fv_words.specs.declared.cause.Cause.{Cause}
 use Rattle.fv_words.specs.declared.cause.Cause.TheVariants.{Form, Number}
 use Rattle.fv_words.specs.Texts.{Texts, texts_of}
@@ -72,28 +71,17 @@ command_of _ = Err Form
 
 -- ---- what is enabled
 
--- the files that a run names
-pub record Names : Type 0 where
-  pub program : List ℕ
-  pub input : List ℕ
-  pub output : List ℕ
+-- the command word is `run`
+abbrev pub is_run : List (List ℕ) → Bool
+is_run (own ∷ command ∷ words) = bytes_eq command (codes "run")
+is_run _ = false
 
--- the word begins with a dash
-abbrev pub begins_with_dash : List ℕ → Bool
-begins_with_dash [] = false
-begins_with_dash (b ∷ bs) = b == 45
+-- a command, if it is a run
+abbrev pub played : Command → Result Run Cause
+played (Play run) = Ok run
+played (Check program) = Err Form
+played (Make voices frames workers) = Err Form
 
--- `run`, and no word behind it that begins with a dash
-abbrev pub is_enabled : List (List ℕ) → Bool
-is_enabled (own ∷ command ∷ words) = bytes_eq command (codes "run") && list_all (λ w. not (begins_with_dash w)) words
-is_enabled _ = false
-
--- the files of a command, if it is a run on an input file
-abbrev pub named : Command → Result Names Cause
-named (Play run) = elim run.input [ None ↦ Err Form | Some input ↦ Ok (record { program = run.program; input = input; output = run.output }) ]
-named (Check program) = Err Form
-named (Make voices frames workers) = Err Form
-
--- The files of the run that the words ask for, as far as commands are enabled: others are of no form yet.
-abbrev pub names_of : List (List ℕ) → Result Names Cause
-names_of words = if is_enabled words then command_of words >>= named else Err Form
+-- The run that the words ask for. The other commands are of no form yet.
+abbrev pub run_in : List (List ℕ) → Result Run Cause
+run_in words = if is_run words then command_of words >>= played else Err Form

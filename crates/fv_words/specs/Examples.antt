@@ -4,7 +4,7 @@ use Rattle.fv_words.specs.declared.cause.Cause.{Cause}
 use Rattle.fv_words.specs.declared.cause.Cause.TheVariants.{Form, Number, Range, Vectors, Together, Same}
 use Rattle.fv_words.specs.Pieces.{cut, Any, Plain, Given}
 use Rattle.fv_words.specs.Runs.{Settings, default_vector}
-use Rattle.fv_words.specs.Commands.{Command, Play, Check, Make, command_of, names_of}
+use Rattle.fv_words.specs.Commands.{Command, Play, Check, Make, command_of, run_in}
 
 -- of these words behind the program's own name
 abbrev asked : List (List ℕ) → Result Command Cause
@@ -116,18 +116,11 @@ long_block = refl
 
 -- ---- what is enabled
 
-enabled : names_of (codes "faustvec" ∷ codes "run" ∷ codes "p.dsp" ∷ codes "in.wav" ∷ codes "o.wav" ∷ []) ≡ Ok (record {
-  program = codes "p.dsp";
-  input = codes "in.wav";
-  output = codes "o.wav";
-})
-enabled = refl
-
-enabled_same : names_of (codes "faustvec" ∷ codes "run" ∷ codes "p.dsp" ∷ codes "in.wav" ∷ codes "in.wav" ∷ []) ≡ Err Same
-enabled_same = refl
-
-not_enabled : names_of (codes "faustvec" ∷ codes "run" ∷ codes "p.dsp" ∷ codes "in.wav" ∷ codes "in.wav" ∷ codes "--bits=7" ∷ []) ≡ Err Form
-not_enabled = refl
-
-not_made : names_of (codes "faustvec" ∷ codes "make" ∷ codes "0" ∷ codes "x" ∷ codes "1" ∷ []) ≡ Err Form
+not_made : run_in (codes "faustvec" ∷ codes "make" ∷ codes "0" ∷ codes "x" ∷ codes "1" ∷ []) ≡ Err Form
 not_made = refl
+
+not_checked : run_in (codes "faustvec" ∷ codes "check" ∷ codes "p.dsp" ∷ []) ≡ Err Form
+not_checked = refl
+
+one_worker : with (codes "--workers=2" ∷ []) ≡ Err Range
+one_worker = refl

@@ -35,9 +35,9 @@ width (Some n) = if is_width n then Ok (Some n) else Err Range
 abbrev pub most_block : ℕ
 most_block = 4096
 
--- the most threads that work
+-- the most threads that work: one, until blocks are shared out
 abbrev pub most_workers : ℕ
-most_workers = 16
+most_workers = 1
 
 -- in one block there are so many vectors at most
 abbrev pub most_vectors : ℕ

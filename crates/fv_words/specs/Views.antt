@@ -10,16 +10,15 @@ use Rattle.fv_words.specs.declared.texts.State.TheVariants as states
 use Rattle.fv_words.specs.declared.texts.Texts.{Texts as Given}
 use Rattle.fv_words.specs.declared.texts.Reader.{Reader}
 use Rattle.fv_words.specs.declared.numbers.Numbers.{Numbers as Found}
-use Rattle.fv_words.specs.declared.run.Settings.{Settings as How}
+use Rattle.fv_words.specs.declared.settings.Settings.{Settings as How}
 use Rattle.fv_words.specs.declared.run.Run.{Run as Runs}
 use Rattle.fv_words.specs.declared.command.Command.{Command as Commands}
 use Rattle.fv_words.specs.declared.command.Command.TheVariants as commands
-use Rattle.fv_words.specs.declared.command.Names.{Names as Files}
 use Rattle.fv_words.specs.Pieces.{Kind, Bare, Ends, Apart, Joined, State, Any, Value, Names as NamesAlone, piece_of, state_after, cut}
 use Rattle.fv_words.specs.Texts.{Texts, take_piece, gathered}
 use Rattle.fv_words.specs.Numbers.{Numbers}
 use Rattle.fv_words.specs.Runs.{Settings, Run}
-use Rattle.fv_words.specs.Commands.{Command, Play, Check, Make, Names}
+use Rattle.fv_words.specs.Commands.{Command, Play, Check, Make}
 
 -- the kind of a word
 abbrev pub kind_in : Kinds → Kind
@@ -112,8 +111,3 @@ command_view (commands.Make voices frames workers) = Make voices frames workers
 abbrev pub command_answered : Result Commands Cause → Result Command Cause
 command_answered (Ok c) = Ok (command_view c)
 command_answered (Err e) = Err e
-
--- the names of files as an answer
-abbrev pub names_answered : Result Files Cause → Result Names Cause
-names_answered (Ok n) = Ok (record { program = n.program.now; input = n.input.now; output = n.output.now })
-names_answered (Err e) = Err e

@@ -1,10 +1,9 @@
 // What the words ask for.
 
-ghost use Rattle.std.specs.Prelude.{◌≡◌, map, string_bytes, not, Some};
-ghost use Rattle.std.specs.List.{list_all};
+ghost use Rattle.std.specs.Prelude.{◌≡◌, map, string_bytes, Some};
 ghost use Rattle.fv_words.specs.Commands.{command_of, command_in, check_of, number_in, made, make_of};
-ghost use Rattle.fv_words.specs.Commands.{begins_with_dash, is_enabled, named, names_of};
-ghost use Rattle.fv_words.specs.Views.{texts_in, plain_in, command_answered, names_answered, command_view};
+ghost use Rattle.fv_words.specs.Commands.{is_run, run_in};
+ghost use Rattle.fv_words.specs.Views.{texts_in, plain_in, command_answered, run_answered};
 
 use crate::cause::Cause;
 use crate::numbers::number_of;
@@ -26,14 +25,6 @@ pub enum Command<'a> {
         frames: u32,
         workers: u32,
     },
-}
-
-/// The files that a run names.
-#[derive(Clone, Copy)]
-pub struct Names<'a> {
-    pub program: &'a str,
-    pub input: &'a str,
-    pub output: &'a str,
 }
 
 /// The most voices of a program that is made.
@@ -122,63 +113,29 @@ fn make<'a>(voices: u64, frames: u64, workers: u64) -> Result<Command<'a>, Cause
     })
 }
 
-/// The files of the run that the words ask for, as far as commands are enabled: others are of no form yet.
-pub fn names_of(words: &[String]) -> Result<Names<'_>, Cause>
-    ensures { names_answered result ≡ names_of (map string_bytes words.now) }
+/// The run that the words ask for. The other commands are of no form yet.
+pub fn run_in(words: &[String]) -> Result<Run<'_>, Cause>
+    ensures { run_answered result ≡ run_in (map string_bytes words.now) }
 {
-    if !is_enabled(words) {
+    if !is_run(words) {
         return Err(Cause::Form);
     }
     let command = read(words)?;
-    named(&command)
+    match command {
+        Command::Run(run) => Ok(run),
+        Command::Check { .. } | Command::Make { .. } => Err(Cause::Form),
+    }
 }
 
-// Whether it is `run`, and no word behind it begins with a dash.
-fn is_enabled(words: &[String]) -> bool
-    ensures { result ≡ is_enabled (map string_bytes words.now) }
+// Whether the command word is `run`.
+fn is_run(words: &[String]) -> bool
+    ensures { result ≡ is_run (map string_bytes words.now) }
 {
     let Some((_, words)) = words.split_first() else {
         return false;
     };
-    let Some((command, words)) = words.split_first() else {
+    let Some((command, _)) = words.split_first() else {
         return false;
     };
-    command.as_str() == "run" && have_no_dash(words)
-}
-
-fn have_no_dash(words: &[String]) -> bool
-    ensures { result ≡ list_all (λ w. not (begins_with_dash w)) (map string_bytes words.now) }
-{
-    for word in words {
-        if begins_with_dash(word.as_str()) {
-            return false;
-        }
-    }
-    true
-}
-
-fn begins_with_dash(word: &str) -> bool
-    ensures { result ≡ begins_with_dash word.now }
-{
-    match word.as_bytes() {
-        [b'-', ..] => true,
-        _ => false,
-    }
-}
-
-// The files of a command, if it is a run on an input.
-fn named<'a>(command: &Command<'a>) -> Result<Names<'a>, Cause>
-    ensures { names_answered result ≡ named (command_view command.now) }
-{
-    match *command {
-        Command::Run(run) => match run.input {
-            Some(input) => Ok(Names {
-                program: run.program,
-                input,
-                output: run.output,
-            }),
-            None => Err(Cause::Form),
-        },
-        Command::Check { .. } | Command::Make { .. } => Err(Cause::Form),
-    }
+    command.as_str() == "run"
 }

@@ -6,10 +6,12 @@ mod command;
 mod laws;
 mod numbers;
 mod run;
+mod settings;
 mod texts;
 mod word;
 
 pub use cause::Cause;
-pub use command::{Command, Names, names_of, read};
+pub use command::{Command, read, run_in};
 pub use laws::{settings_keep_ranges, words_are_cut};
-pub use run::{Run, Settings};
+pub use run::Run;
+pub use settings::Settings;

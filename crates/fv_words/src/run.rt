@@ -1,12 +1,14 @@
 // What a run is asked to do.
 
-ghost use Rattle.std.specs.Prelude.{◌≡◌, ◌≤◌, ◌^◌, ◌<◌, option_copied, IfOk};
-ghost use Rattle.fv_words.specs.Runs.{within, within_or, width, default_vector, vectors_in, settings_of};
+ghost use Rattle.std.specs.Prelude.{◌≡◌, ◌≤◌, ◌^◌, ◌<◌, true, option_copied, IfOk};
+ghost use Rattle.std.specs.Option.{ForSome};
+ghost use Rattle.fv_words.specs.Runs.{within, within_or, width, is_width, default_vector, vectors_in, settings_of};
 ghost use Rattle.fv_words.specs.Runs.{run_of, input_of, is_none_word, is_together, is_same};
 ghost use Rattle.fv_words.specs.Views.{texts_in, numbers_in, settings_in, settings_answered, run_answered};
 
 use crate::cause::Cause;
 use crate::numbers::{Numbers, numbers_of};
+use crate::settings::Settings;
 use crate::texts::{Plain, Texts};
 
 /// A run: its files, and how it is done.
@@ -21,28 +23,11 @@ pub struct Run<'a> {
     pub settings: Settings,
 }
 
-/// How a run is done.
-#[derive(Clone, Copy)]
-pub struct Settings {
-    /// The most frames of a block, 1 to 4096.
-    pub block: u32,
-    /// The frames of a vector, 1 to the block's.
-    pub vector: u32,
-    /// How many threads work, 1 to 16.
-    pub workers: u32,
-    /// The bits of the output's samples, where they are not the input's: 8, 16, 24 or 32.
-    pub bits: Option<u32>,
-    /// The number of frames, where there is no input file.
-    pub frames: Option<u32>,
-    /// The frames a second, where there is no input file.
-    pub rate: Option<u32>,
-}
-
 /// The most frames of a block.
 const MOST_BLOCK: u32 = 4096;
 
-/// The most threads that work.
-pub const MOST_WORKERS: u32 = 16;
+/// The most threads that work: one, until blocks are shared out.
+pub const MOST_WORKERS: u32 = 1;
 
 /// The most vectors of a block.
 const MOST_VECTORS: u32 = 64;
@@ -134,7 +119,8 @@ pub fn within_or(number: Option<u64>, least: u32, most: u32, default: u32) -> Re
 
 // The bits of a sample, where they are given.
 fn width(number: Option<u64>) -> Result<Option<u32>, Cause>
-    ensures { result ≡ width number }
+    ensures value { result ≡ width number }
+    ensures is_width { IfOk result (λ bits. ForSome bits (λ n. is_width n ≡ true)) }
 {
     match number {
         None => Ok(None),

@@ -1,4 +1,4 @@
-use Rattle.std.proofs.Common.{◌≡◌, ℕ, ◌<◌, ◌-◌, ◌++◌, ◌∷◌, [], List, length, take, get_or, set, sym, ap, ◌∙◌, refl, arith, vec_len}
+use Rattle.std.proofs.Common.{◌-◌, [], get_or, sym, ap, ◌∙◌, arith}
 use Rattle.fv_core.specs.Ends.{back_of}
 use Rattle.fv_core.proofs.Places.{back_gives, get_map}
 use Rattle.fv_core.proofs.by_worker.back.Goals as goal

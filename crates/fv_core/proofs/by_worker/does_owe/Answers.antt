@@ -1,4 +1,4 @@
-use Rattle.std.proofs.Common.{◌≡◌, ◌==◌, ℕ, [], List, not, ap, sym, ◌∙◌}
+use Rattle.std.proofs.Common.{◌==◌, ℕ, [], ap, sym, ◌∙◌}
 use Rattle.std.specs.Global.{Vec}
 use Rattle.std.specs.List.{list_any}
 use Rattle.fv_core.proofs.Places.{found_times, get_map}

@@ -1,4 +1,4 @@
-use Rattle.std.proofs.Common.{◌≡◌, ℕ, ◌<◌, ◌-◌, ◌++◌, ◌∷◌, [], List, length, take, get_or, set, sym, ap, ◌∙◌, refl, arith, vec_len}
+use Rattle.std.proofs.Common.{◌++◌, [], length, ap, arith}
 use Rattle.std.specs.Vec.{vec_capacity}
 use Rattle.fv_core.proofs.Places.{map_at, map_same, get_map}
 use Rattle.fv_core.proofs.by_worker.owe.Goals as goal
@@ -10,7 +10,11 @@ append-requires c = let o = c.args.owes.now.ok.0 in let r = c.requires.room in l
     let p = ap (λ v. length v.items) c.index_mut-owed.ensures.value in let q = ap (λ v. vec_capacity v) c.index_mut-owed.ensures.value in let k = old.ok.0 in omega arith
 
 pub returns-clause-owed : goal.returns-clause-owed
-returns-clause-owed c = let o = c.args.owes.now.ok.0 in map_at (λ v. v.items) (λ l. l ++ c.args.edges.now) c.args.owes.now.items c.args.w c.append.new.owed c.index_mut-owed.result.now [] (omega arith) c.index_mut-owed.ensures.value c.append.ensures.items
+returns-clause-owed c = let o = c.args.owes.now.ok.0 in
+    map_at (λ v. v.items) (λ l. l ++ c.args.edges.now) c.args.owes.now.items c.args.w c.append.new.owed c.index_mut-owed.result.now []
+    (omega arith) c.index_mut-owed.ensures.value c.append.ensures.items
 
 pub returns-clause-rooms : goal.returns-clause-rooms
-returns-clause-rooms c = let o = c.args.owes.now.ok.0 in map_same (λ v. vec_capacity v) c.args.owes.now.items c.args.w c.append.new.owed c.index_mut-owed.result.now (omega arith) c.index_mut-owed.ensures.value c.append.ensures.room
+returns-clause-rooms c = let o = c.args.owes.now.ok.0 in
+    map_same (λ v. vec_capacity v) c.args.owes.now.items c.args.w c.append.new.owed c.index_mut-owed.result.now
+    (omega arith) c.index_mut-owed.ensures.value c.append.ensures.room

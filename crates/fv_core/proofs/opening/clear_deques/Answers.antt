@@ -1,4 +1,4 @@
-use Rattle.std.proofs.Common.{◌≡◌, ℕ, ◌<◌, ◌≤◌, [], List, length, replicate, ap, ◌∙◌, arith, vec_len}
+use Rattle.std.proofs.Common.{◌≡◌, [], length, replicate, ap, ◌∙◌, arith, vec_len}
 use Rattle.std.proofs.lemmas.List.{length-map}
 use Rattle.fv_core.specs.Kept.{deques_of}
 use Rattle.fv_core.proofs.Dealing.{all_empty}

@@ -1,4 +1,4 @@
-use Rattle.std.proofs.Common.{◌≡◌, ℕ, ◌+◌, ◌-◌, ◌%◌, ◌<◌, ◌≤◌, ◌==◌, ◌++◌, ◌∷◌, [], Bool, List, length, get_or, set, cond, sym, ap, ◌∙◌, subst, arith, vec_len, mod-lt}
+use Rattle.std.proofs.Common.{◌≡◌, ℕ, ◌+◌, ◌-◌, ◌%◌, ◌<◌, ◌==◌, ◌++◌, ◌∷◌, [], Bool, get_or, set, cond, ap, ◌∙◌, arith, vec_len, mod-lt}
 use Rattle.std.proofs.lemmas.List.{length-map}
 use Rattle.fv_outside.specs.Tasks.{task_count}
 use Rattle.fv_graph.specs.Words.{passing}

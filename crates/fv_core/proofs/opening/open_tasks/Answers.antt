@@ -1,4 +1,4 @@
-use Rattle.std.proofs.Common.{◌≡◌, ℕ, ◌+◌, ◌++◌, ◌∷◌, [], map, false, sym, ap, ◌∙◌, arith, vec_len, vec_capacity}
+use Rattle.std.proofs.Common.{ℕ, ◌++◌, ◌∷◌, [], map, false, sym, ap, ◌∙◌, arith}
 use Rattle.fv_graph.specs.Net.{need_count}
 use Rattle.fv_graph.specs.Graph.{net_of}
 use Rattle.fv_core.specs.Core.{numbers}

@@ -1,4 +1,4 @@
-use Rattle.std.proofs.Common.{◌≡◌, ℕ, ◌<◌, ◌≤◌, length, replicate, get_or, set, ap, ◌∙◌, arith, vec_len}
+use Rattle.std.proofs.Common.{replicate, ap, ◌∙◌, arith}
 use Rattle.fv_core.proofs.Dealing.{all_same, set_more}
 use Rattle.fv_core.proofs.opening.set_all.Goals as goal
 

@@ -1,4 +1,4 @@
-use Rattle.std.proofs.Common.{◌≡◌, ◌≤◌, Some, sym, ap, ◌∙◌, subst, arith}
+use Rattle.std.proofs.Common.{ap, ◌∙◌, subst}
 use Rattle.fv_outside.specs.Tasks.{Tasks}
 use Rattle.fv_graph.specs.Graph.{IsGraph, net_of}
 use Rattle.fv_graph.proofs.Graphs.{is_net}

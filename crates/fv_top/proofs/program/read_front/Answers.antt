@@ -1,4 +1,4 @@
-use Rattle.std.proofs.Common.{◌≡◌, Err}
+use Rattle.std.proofs.Common.{◌≡◌, Err, Some, refl}
 use Rattle.std.proofs.lemmas.Result.{err_from_is_err_and}
 use Rattle.fv_outside.specs.declared.transfer.ReadError.TheVariants.{Failed}
 use Rattle.fv_outside.proofs.States.{told_before, goes_on_self, answers_next}
@@ -8,6 +8,7 @@ use Rattle.fv_top.proofs.program.read_front.Goals as goal
 
 pub returns-in_err-begin_read-clause-failed : goal.returns-in_err-begin_read-clause-failed
 returns-in_err-begin_read-clause-failed g c = λ is. record {
+  named = refl;
   fault = c.in_err-begin_read.ensures.failed;
   unsure = λ t sure.
       let answered = c.in_err-begin_read.ensures.answers t (answers_next c.args.role (goes_on_self (g.D.Desk.state c.args.desk.now)) t sure.0) sure.1 in
@@ -18,7 +19,7 @@ pub returns-in_err-bytes-clause-failed : goal.returns-in_err-bytes-clause-failed
 returns-in_err-bytes-clause-failed g c = λ is.
     let state = g.D.Desk.state in
     let begun = c.in_ok-begin_read.ensures in
-    let reads : ReadsFile c.args.role c.args.name.now (state c.args.desk.now) (state c.begin_read.new.self) = record {
+    let reads : ReadsFile c.args.role (Some c.args.name.now) (state c.args.desk.now) (state c.begin_read.new.self) = record {
       quiet = record { goes_on = begun.goes_on; written = begun.written; begins = begun.begins };
       requests = begun.asked;
       others = begun.others;

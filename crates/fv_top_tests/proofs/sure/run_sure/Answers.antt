@@ -1,19 +1,34 @@
-use Rattle.std.proofs.Common.{◌≡◌, ℕ, List, Option, Some, refl, inl}
-use Rattle.std.specs.Prelude.{IsSome}
-use Rattle.fv_base.specs.declared.role.Role.TheVariants.{Program, Input}
-use Rattle.fv_top.specs.Steps.{role_of, more, none}
+use Rattle.std.proofs.Common.{◌≡◌, ℕ, List, Option, Some, None, refl, inl}
+use Rattle.std.specs.Prelude.{IsSome, option_map}
+use Rattle.fv_base.specs.declared.role.Role.TheVariants.{Program, Controls, Input, Output, Report}
+use Rattle.fv_outside.specs.Desk.{File, file_named}
+use Rattle.fv_top.specs.Sources.{found}
+use Rattle.fv_top.specs.Loading.{IsThere}
+use Rattle.fv_top.specs.Steps.{more, none}
 use Rattle.fv_top_tests.proofs.sure.run_sure.Goals as goal
 
 -- a file that has bytes is there
-there : (found : Option (List ℕ)) (bytes : List ℕ) → found ≡ Some bytes → IsSome found
-there found bytes e = rw e refl
+there : (file : Option (List ℕ)) (bytes : List ℕ) → file ≡ Some bytes → IsSome file
+there file bytes e = rw e refl
+
+some_there : (file bytes : Option (List ℕ)) → option_map Some file ≡ Some bytes → IsSome file
+some_there None bytes e = absurd cc
+some_there (Some b) bytes e = refl
+
+found_there : (name : Option (List ℕ)) (files : List File) (bytes : Option (List ℕ)) → found files name ≡ Some bytes → IsThere name files
+found_there None files bytes e = tt
+found_there (Some name) files bytes e = some_there (file_named name files) bytes e
 
 pub returns : goal.returns
 returns g c =
     -- behind the facts on the type parameters
     let sure = c.requires.1.1.1.1.1 in
-    c.run_faustvec.ensures.complete g.names sure.asks sure.tells
-    (more (λ t takes. inl (sure.unfailing Program, there _ _ sure.program.file)) sure.program
-    (more (λ t takes. inl (sure.unfailing Input, there _ _ sure.input.file)) sure.input
-    (more (λ t takes. absurd takes) tt
-    (more (λ t takes. inl (sure.unfailing (role_of t), λ p. sure.room p (role_of t))) tt none))))
+    let p = sure.plays in
+    c.run_faustvec.ensures.complete g.run sure.asks sure.tells
+    (more (λ t takes. inl (sure.unfailing Program, there _ _ p.of.file)) p.of
+    (more (λ t takes. inl (sure.unfailing Controls, found_there _ _ _ p.under.file)) (p.of, p.changes, p.under)
+    (more (λ t takes. inl (sure.unfailing Input, found_there _ _ _ p.on.file)) (p.source, p.on)
+    (more (λ t takes. absurd takes) p
+    (more (λ t takes. inl (sure.unfailing Input)) tt
+    (more (λ t takes. inl (sure.unfailing Output, sure.room Output)) (p, sure.whole)
+    (more (λ t takes. inl (sure.unfailing Report, sure.room Report)) tt none)))))))

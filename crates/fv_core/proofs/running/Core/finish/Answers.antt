@@ -1,10 +1,8 @@
-use Rattle.std.proofs.Common.{◌≡◌, ℕ, ◌+◌, ◌-◌, ◌<◌, ◌≤◌, [], ◌++◌, List, length, get_or, set, slice_index_or, sym, ap, ◌∙◌, refl, arith}
-use Rattle.std.proofs.lemmas.List.{get_or_read}
+use Rattle.std.proofs.Common.{[], ◌++◌, length, get_or, set, sym, ap, ◌∙◌, refl, arith}
 use Rattle.fv_outside.specs.Tasks.{Tasks}
-use Rattle.fv_graph.specs.Graph.{reader_of, feeds_of}
-use Rattle.fv_core.specs.Core.{count_of, joined, deque_of}
+use Rattle.fv_graph.specs.Graph.{feeds_of}
 use Rattle.fv_core.specs.Stored.{now_of, running_of}
-use Rattle.fv_core.specs.declared.event.Event.TheVariants.{Finish, Arrive}
+use Rattle.fv_core.specs.declared.event.Event.TheVariants.{Finish}
 use Rattle.fv_core.proofs.Keeps.{same_now, legal_in, stored_after}
 use Rattle.fv_core.proofs.Room.{finishes}
 use Rattle.fv_core.proofs.running.Core.finish.Goals as goal
@@ -16,11 +14,15 @@ pub feeds-requires : goal.feeds-requires
 feeds-requires c = (finishes c.self.inside c.args.self.now c.args.tasks.now.tasks c.self.view_is c.self.invariant c.requires.same c.args.worker c.args.task c.requires.legal).there
 
 pub owe-requires-clause-room : goal.owe-requires-clause-room
-owe-requires-clause-room c = let r = (finishes c.self.inside c.args.self.now c.args.tasks.now.tasks c.self.view_is c.self.invariant c.requires.same c.args.worker c.args.task c.requires.legal).room in let q = ap length c.feeds.ensures in omega arith
+owe-requires-clause-room c = let r =
+    (finishes c.self.inside c.args.self.now c.args.tasks.now.tasks c.self.view_is c.self.invariant c.requires.same c.args.worker c.args.task c.requires.legal).room in
+    let q = ap length c.feeds.ensures in omega arith
 
 pub invariant_of-self : goal.invariant_of-self
 invariant_of-self c = let i = c.self.inside in
-    let fed = c.feeds.ensures ∙ ap (λ (g : Tasks). feeds_of g c.args.task) (sym (finishes c.self.inside c.args.self.now c.args.tasks.now.tasks c.self.view_is c.self.invariant c.requires.same c.args.worker c.args.task c.requires.legal).same) in
+    let fed = c.feeds.ensures
+    ∙ ap (λ (g : Tasks). feeds_of g c.args.task)
+    (sym (finishes c.self.inside c.args.self.now c.args.tasks.now.tasks c.self.view_is c.self.invariant c.requires.same c.args.worker c.args.task c.requires.legal).same) in
     stored_after i _ (Finish c.args.worker c.args.task) c.self.invariant (legal_in (running_of i) c.args.self.now (Finish c.args.worker c.args.task) c.self.view_is c.requires.legal)
     (record { tasks = refl; workers = refl; room_tasks = refl; room_edges = refl; counts = refl; done = refl; deques = refl; owes = c.owe.ensures.rooms })
     (same_now _ _ refl refl refl refl (c.owe.ensures.owed ∙ ap (λ l. set (now_of i).owes c.args.worker (get_or (now_of i).owes c.args.worker [] ++ l)) fed) refl)

@@ -1,4 +1,4 @@
-use Rattle.std.proofs.Common.{◌≡◌, ◌&&◌, ap, sym, ◌∙◌, is_none}
+use Rattle.std.proofs.Common.{◌&&◌, ap, sym, ◌∙◌, is_none}
 use Rattle.fv_graph.specs.Graph.{net_of}
 use Rattle.fv_core.specs.Core.{is_legal, deque_of, is_run}
 use Rattle.fv_core.specs.Ends.{back_of}

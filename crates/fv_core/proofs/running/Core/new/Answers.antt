@@ -1,11 +1,7 @@
-use Rattle.std.proofs.Common.{◌≡◌, ℕ, ◌<◌, ◌≤◌, [], List, length, replicate, get_or, sym, ap, ◌∙◌, refl, arith, subst, vec_len}
+use Rattle.std.proofs.Common.{◌≡◌, ℕ, [], List, length, replicate, get_or, ap, ◌∙◌, refl, arith, vec_len}
 use Rattle.std.proofs.lemmas.List.{length-map, length-replicate}
-use Rattle.fv_outside.specs.Tasks.{Tasks, task_count}
-use Rattle.fv_graph.specs.Graph.{Graph, net_of, edges_of}
-use Rattle.fv_core.specs.Core.{opening, dealt, ready}
-use Rattle.fv_core.specs.Kept.{deques_of, rooms_of, owed_rooms}
-use Rattle.fv_core.specs.Running.{Running}
-use Rattle.fv_core.specs.Stored.{now_of, running_of}
+use Rattle.fv_graph.specs.Graph.{Graph, net_of}
+use Rattle.fv_core.specs.Core.{dealt, ready}
 use Rattle.fv_core.proofs.Opens.{get_in}
 use Rattle.fv_core.proofs.Keeps.{stored_open, running_open, opened}
 use Rattle.fv_core.proofs.running.Core.new.Goals as goal

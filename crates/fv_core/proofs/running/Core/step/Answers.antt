@@ -12,7 +12,8 @@ pub returns-then-not-may-clause-ends : goal.returns-then-not-may-clause-ends
 returns-then-not-may-clause-ends c = λ gone t h. running_done c.args.self.now c.may.ensures.running gone t (subst (λ (g : Tasks). t < task_count g) (sym c.requires.same) h)
 
 pub returns-clause-ready : goal.returns-clause-ready
-returns-clause-ready c = subst (λ (g : Tasks). FindsReady g c.args.self.now.now c.args.event) c.requires.same (running_ready c.args.self.now c.args.event c.may.ensures.running (sym c.if-not-may.ensures.value))
+returns-clause-ready c = subst (λ (g : Tasks). FindsReady g c.args.self.now.now c.args.event) c.requires.same
+    (running_ready c.args.self.now c.args.event c.may.ensures.running (sym c.if-not-may.ensures.value))
 
 pub returns-clause-ends : goal.returns-clause-ends
 returns-clause-ends c =

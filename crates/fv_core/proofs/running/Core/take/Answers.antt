@@ -1,7 +1,6 @@
-use Rattle.std.proofs.Common.{◌≡◌, ℕ, ◌+◌, ◌-◌, ◌<◌, ◌≤◌, [], ◌++◌, List, length, get_or, slice_index_or, sym, ap, ◌∙◌, refl, arith, Some, None}
-use Rattle.fv_graph.specs.Graph.{net_of}
-use Rattle.fv_core.specs.Stored.{now_of, running_of}
-use Rattle.fv_core.specs.declared.event.Event.TheVariants.{Take, Steal, Finish, Arrive}
+use Rattle.std.proofs.Common.{refl}
+use Rattle.fv_core.specs.Stored.{running_of}
+use Rattle.fv_core.specs.declared.event.Event.TheVariants.{Take}
 use Rattle.fv_core.proofs.Keeps.{same_now, legal_in, stored_after}
 use Rattle.fv_core.proofs.running.Core.take.Goals as goal
 

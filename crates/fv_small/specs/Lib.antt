@@ -1,4 +1,0 @@
-pub mod Small
-pub mod Table
-pub mod Forms
-pub mod Examples

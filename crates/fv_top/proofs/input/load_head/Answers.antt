@@ -1,0 +1,47 @@
+use Rattle.std.proofs.Common.{◌∙◌, refl, inl}
+use Rattle.std.specs.Prelude.{Some}
+use Rattle.std.proofs.lemmas.Result.{err_from_is_err_and}
+use Rattle.fv_base.specs.declared.role.Role.TheVariants.{Input}
+use Rattle.fv_outside.proofs.States.{told_before, goes_on_self, answers_next}
+use Rattle.fv_top.specs.Loading.{ReadsFile}
+use Rattle.fv_top.proofs.Heads.{head_none, head_is, head_refused}
+use Rattle.fv_top.proofs.input.load_head.Goals as goal
+
+pub returns-in-None-clause-headed : goal.returns-in-None-clause-headed
+returns-in-None-clause-headed g c = λ t. rw c.in-None.is (head_none _ _)
+
+pub returns-in-Err-clause-err : goal.returns-in-Err-clause-err
+returns-in-Err-clause-err g c =
+    rw c.in-Some.is (inl (
+      refl,
+      record {
+        named = refl;
+        fault = c.in-Err.ensures.failed;
+        unsure = λ t sure.
+            let answered = c.in-Err.ensures.answers t (answers_next Input (goes_on_self (g.D.Desk.state c.args.desk.now)) t sure.0) sure.1 in
+            absurd cc;
+      },
+    ))
+
+pub returns-in_err-head-clause-err : goal.returns-in_err-head-clause-err
+returns-in_err-head-clause-err g c =
+    let state = g.D.Desk.state in
+    let begun = c.in-Ok.ensures in
+    let reads : ReadsFile Input (Some c.in-Some.name.now) (state c.args.desk.now) (state c.begin_read.new.self) = record {
+      quiet = record { goes_on = begun.goes_on; written = begun.written; begins = begun.begins };
+      requests = begun.asked;
+      others = begun.others;
+      other_faults = begun.counts.other_faults;
+    } in
+    let p = err_from_is_err_and c.from_residual.result c.from_residual.ensures.1 in
+    rw (p.1, c.in-Some.is) (head_refused c.in_err-head.field-0.0 _ p.2 reads begun.file c.in_err-head.ensures.err)
+
+pub returns-clause-headed : goal.returns-clause-headed
+returns-clause-headed g c = λ t.
+    let begun = c.in-Ok.ensures in
+    let told = told_before begun.goes_on t in
+    let taken = c.in_ok-head.ensures.taken in
+    rw c.in-Some.is (head_is c.in-Some.name.now _ c.in_ok-head.head _ taken.0 _ (begun.file t) (c.in_ok-head.ensures.head told) taken.1 (taken.2.taken told))
+
+pub returns-clause-steady : goal.returns-clause-steady
+returns-clause-steady g c = λ other r. c.in_ok-head.ensures.steady r ∙ c.in-Ok.ensures.steady r

@@ -1,0 +1,57 @@
+use Rattle.std.proofs.Common.{◌≡◌, ◌∙◌, [], sym, ap, refl}
+use Rattle.std.specs.Prelude.{Err, Ok, Some, None}
+use Rattle.std.proofs.lemmas.Result.{err_from_is_err_and}
+use Rattle.fv_base.specs.declared.role.Role.TheVariants.{Controls}
+use Rattle.fv_control.specs.Script.{script}
+use Rattle.fv_top.specs.declared.refusal.Refusal.{Refusal}
+use Rattle.fv_top.specs.Sources.{scripted, of_script}
+use Rattle.fv_top.specs.Loading.{HasScript}
+use Rattle.fv_top.specs.Promise.{HasRefusal, ReadScript}
+use Rattle.fv_top.proofs.Loads.{stops_refused}
+use Rattle.fv_top.proofs.Scripts.{script_is, script_refused, no_script, named_all}
+use Rattle.fv_top.proofs.script.load_script.Goals as goal
+
+pub returns-in_err-script-in-None-clause-err : goal.returns-in_err-script-in-None-clause-err
+returns-in_err-script-in-None-clause-err g c =
+    let state = g.D.Desk.state in
+    let cs = c.args.controls.now in
+    let e = c.in_err-script-in-None.field-0.0 in
+    let p = err_from_is_err_and c.from_residual.result c.from_residual.ensures.1 in
+    rw (p.1, c.in-None.is) (stops_refused Controls None (HasRefusal ReadScript) (λ (r : Refusal). HasScript None (state c.args.desk.now).files cs (Err r)) (λ (r : Refusal). script cs [] ≡ Err e) (state c.args.desk.now)
+    (state c.args.desk.now) _ (script_refused e _ (script cs [] ≡ Err e) p.2 c.in_err-script-in-None.ensures.refused) (λ t q. let f = sym (no_script cs) ∙ q in absurd cc))
+
+pub returns-in-None-clause-spelled : goal.returns-in-None-clause-spelled
+returns-in-None-clause-spelled g c = λ t.
+    rw c.in-None.is (record { bytes = None; file = refl; is = ap scripted (sym (no_script c.args.controls.now) ∙ c.in_ok-script-in-None.ensures.spelled) })
+
+pub returns-in-None-clause-order : goal.returns-in-None-clause-order
+returns-in-None-clause-order g c = (c.scripts_are_lawful.ensures _ _ _ c.in_ok-script-in-None.ensures.spelled).0
+
+pub returns-in-None-clause-named : goal.returns-in-None-clause-named
+returns-in-None-clause-named g c = named_all _ _ (c.scripts_are_lawful.ensures _ _ _ c.in_ok-script-in-None.ensures.spelled).1
+
+pub returns-in_err-script-clause-err : goal.returns-in_err-script-clause-err
+returns-in_err-script-clause-err g c =
+    let state = g.D.Desk.state in
+    let cs = c.args.controls.now in
+    let bytes = c.deref.result.now in
+    let e = c.in_err-script.field-0.0 in
+    let p = err_from_is_err_and c.from_residual-in_err-script.result c.from_residual-in_err-script.ensures.1 in
+    rw (p.1, c.in-Some.is, p.2) (stops_refused Controls (Some c.in-Some.name.now) (HasRefusal ReadScript) (λ (r : Refusal). HasScript (Some c.in-Some.name.now) (state c.args.desk.now).files cs (Err r))
+    (λ (r : Refusal). (r ≡ of_script e) × (script cs bytes ≡ Err e)) (state c.args.desk.now) (state c.read_front.new.desk) _
+    (script_refused e _ ((of_script e ≡ of_script e) × (script cs bytes ≡ Err e)) refl (λ o. (refl, c.in_err-script.ensures.refused o)))
+    (λ t q.
+    let read = c.in-Ok.ensures.bytes t in
+    script_is c.in-Some.name.now (state c.args.desk.now).files cs read.0 bytes (Err e) (read.1 t) (c.deref.ensures.value ∙ read.2) q.1))
+
+pub returns-clause-spelled : goal.returns-clause-spelled
+returns-clause-spelled g c = λ t.
+    let state = g.D.Desk.state in
+    let read = c.in-Ok.ensures.bytes t in
+    rw c.in-Some.is (script_is c.in-Some.name.now (state c.args.desk.now).files c.args.controls.now read.0 c.deref.result.now (Ok c.in_ok-script.script) (read.1 t) (c.deref.ensures.value ∙ read.2) c.in_ok-script.ensures.spelled)
+
+pub returns-clause-order : goal.returns-clause-order
+returns-clause-order g c = (c.scripts_are_lawful.ensures _ _ _ c.in_ok-script.ensures.spelled).0
+
+pub returns-clause-named : goal.returns-clause-named
+returns-clause-named g c = named_all _ _ (c.scripts_are_lawful.ensures _ _ _ c.in_ok-script.ensures.spelled).1

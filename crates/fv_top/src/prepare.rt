@@ -1,0 +1,121 @@
+// What is ready before anything is written.
+
+ghost use Rattle.std.specs.Prelude.{◌≡◌, ◌*◌, ◌/◌, ◌<◌, ◌≤◌, length, true, IfOk, IfErr, OnOk};
+ghost use Rattle.std.specs.Option.{ForSome};
+ghost use Rattle.std.specs.List.{AllByRecursion};
+ghost use Rattle.fv_num.specs.Words.{is_sample_width};
+ghost use Rattle.fv_outside.specs.Desk.{KeepsFaults};
+ghost use Rattle.fv_diagram.specs.Diagram.{inputs, outputs};
+ghost use Rattle.fv_control.specs.Laws.{NeverFall};
+ghost use Rattle.fv_wav.specs.Samples.{data_size, data_limit, whole_bytes};
+ghost use Rattle.fv_words.specs.Views.{run_in as run_view};
+ghost use Rattle.fv_top.specs.Sound.{channels_in};
+ghost use Rattle.fv_top.specs.Playable.{compiled_of, CanPlay, sound_in};
+ghost use Rattle.fv_top.specs.Loading.{IsPlaced};
+ghost use Rattle.fv_top.specs.Running.{Reaches, StopsBefore, IsReady, asked_before};
+ghost use Rattle.fv_top.specs.Prepared.{ready_of, CanWrite, made_of, cut_at};
+
+use crate::input::{load_head, load_samples};
+use crate::program::load_program;
+use crate::refusal::Refusal;
+use crate::script::load_script;
+use crate::sound::{Sound, count_frames, fit, render};
+use fv_control::Change;
+use fv_eval::Program;
+use fv_outside::Desk;
+use fv_wav::Head;
+use fv_words::Run;
+use std::alloc::{AllocError, Global};
+
+/// What is ready to be written.
+#[derive(Drop)]
+pub struct Prepared {
+    /// How many samples a frame has.
+    pub channels: u32,
+    pub sound: Sound,
+    /// The samples, one frame after another.
+    pub samples: Vec<i32>,
+    /// The length of the input, where it ends within its whole frames.
+    pub cut: Option<u64>,
+}
+
+/// Reads what a run needs, and computes its output; and sets as many bytes aside as its samples take.
+pub fn prepare<D: Desk>(
+    alloc: Global,
+    desk: &mut D,
+    run: &Run<'_>,
+) -> Result<(Prepared, Vec<u8>), Refusal>
+    ensures reaches { OnOk result (Reaches (asked_before (run_view run.now)) (D.state desk.old) (D.state desk.new)) }
+    ensures steady { OnOk result (KeepsFaults (D.state desk.old) (D.state desk.new)) }
+    ensures writes { IfOk result (λ p. CanWrite p.0) }
+    ensures room { IfOk result (λ p. length p.0.samples.items * (p.0.sound.bits / 8) ≤ length p.1.items) }
+    ensures ready { IfOk result (λ p. IsReady (run_view run.now) (D.state desk.old) (ready_of p.0)) }
+    ensures stops { IfErr result (StopsBefore (run_view run.now) (D.state desk.old) (D.state desk.new)) }
+{
+    let program = load_program(alloc, desk, run.program)?;
+    let script = load_script(alloc, desk, run.controls, program.controls.as_slice())?;
+    let head = load_head(desk, run.input)?;
+    let sound = fit(&program, head, &run.settings)?;
+    let raw = load_samples(alloc, desk, head)?;
+    let prepared = make(alloc, &program, script.changes(), head, sound, &raw)?;
+    Ok(prepared)
+}
+
+// The output of a program on the bytes of an input's samples, and the bytes that its samples take.
+fn make(
+    alloc: Global,
+    program: &Program,
+    changes: &[Change],
+    head: Option<Head>,
+    sound: Sound,
+    raw: &[u8],
+) -> Result<(Prepared, Vec<u8>), AllocError>
+    requires plays { CanPlay program.now }
+    requires head { ForSome head IsPlaced }
+    requires channels { channels_in head ≡ inputs (compiled_of program.now).diagram }
+    requires order { NeverFall 0 changes.now }
+    requires named { AllByRecursion (λ c. c.control < length (compiled_of program.now).controls) changes.now }
+    requires bits { is_sample_width sound.bits ≡ true }
+    requires size { (sound.size ≡ data_size (outputs (compiled_of program.now).diagram) sound.bits sound.frames) × (sound.size ≤ data_limit) }
+    requires raw { ForSome head (λ h. length raw.now ≤ whole_bytes h) }
+    ensures writes { IfOk result (λ p. CanWrite p.0) }
+    ensures room { IfOk result (λ p. length p.0.samples.items * (p.0.sound.bits / 8) ≤ length p.1.items) }
+    ensures made { IfOk result (λ p. ready_of p.0 ≡ made_of (compiled_of program.now) changes.now head (sound_in sound) raw.now) }
+{
+    let samples = render(alloc, program, changes, head, raw, sound.frames)?;
+    let bytes = room_for(alloc, &samples, sound.bits)?;
+    let prepared = Prepared {
+        channels: program.diagrams.arity(program.root).outputs,
+        sound,
+        samples,
+        cut: cut_at(head, raw, sound.frames),
+    };
+    Ok((prepared, bytes))
+}
+
+// As many bytes as the samples take.
+fn room_for(alloc: Global, samples: &[i32], bits: u32) -> Result<Vec<u8>, AllocError>
+    requires { is_sample_width bits ≡ true }
+    ensures { IfOk result (λ v. length samples.now * (bits / 8) ≤ length v.items) }
+{
+    let Some(room) = samples.len().checked_mul((bits / 8) as usize) else {
+        return Err(AllocError);
+    };
+    vec![in alloc; 0u8; room]
+}
+
+// The length of an input that ends within its whole frames.
+fn cut_at(head: Option<Head>, raw: &[u8], stated: u32) -> Option<u64>
+    requires head { ForSome head IsPlaced }
+    requires raw { ForSome head (λ h. length raw.now ≤ whole_bytes h) }
+    ensures { result ≡ cut_at head stated raw.now }
+{
+    let frames = count_frames(head, raw, stated);
+    if frames == stated as usize {
+        return None;
+    }
+    match head {
+        Some(head) => Some(head.place + raw.len() as u64),
+        None => None,
+    }
+}

@@ -1,0 +1,54 @@
+// The control script.
+
+ghost use Rattle.std.specs.Prelude.{◌≡◌, ◌^◌, ◌<◌, length, option_copied, IsTrue, IfOk, IfErr, IsErrOf, Ok, Err};
+ghost use Rattle.std.specs.List.{AllByRecursion};
+ghost use Rattle.fv_base.specs.declared.role.Role.TheVariants.{Controls};
+ghost use Rattle.fv_outside.specs.Desk.{KeepsFaults};
+ghost use Rattle.fv_control.specs.Laws.{NeverFall};
+ghost use Rattle.fv_top.specs.declared.refusal.Refusal.TheVariants.{ReadFault};
+ghost use Rattle.fv_top.specs.Promise.{HasRefusal, ReadScript};
+ghost use Rattle.fv_top.specs.Loading.{ReadsFile, StopsLoading, HasScript};
+
+use crate::program::{read_front, read_refusal};
+use crate::refusal::Refusal;
+use fv_control::{Script, scripts_are_lawful};
+use fv_diagram::ControlInfo;
+use fv_outside::{Desk, Role};
+use std::alloc::Global;
+
+/// A script has at most 1,048,576 bytes, and one byte more shows that it is too long.
+const SCRIPT_BYTES: usize = 1048577;
+
+/// Loads the script of this name for these controls; without a name, one that changes nothing.
+#[tactic(auto, using(fv_outside::proofs::States::steps, crate::proofs::Loads::reading))]
+pub fn load_script<D: Desk>(
+    alloc: Global,
+    desk: &mut D,
+    name: Option<&str>,
+    controls: &[ControlInfo],
+) -> Result<Script, Refusal>
+    requires { length controls.now < 2 ^ 32 }
+    ensures reads { ReadsFile Controls (option_copied name.entry) (D.state desk.old) (D.state desk.new) }
+    ensures spelled { IfOk result (λ s. IsTrue (D.state desk.old).tells → HasScript (option_copied name.entry) (D.state desk.old).files controls.now (Ok s)) }
+    // Its frames never fall, and it names controls that are there.
+    ensures order { IfOk result (NeverFall 0) }
+    ensures named { IfOk result (AllByRecursion (λ c. c.control < length controls.now)) }
+    ensures err { IfErr result (StopsLoading Controls (option_copied name.entry) (HasRefusal ReadScript)
+        (λ e. HasScript (option_copied name.entry) (D.state desk.old).files controls.now (Err e)) (D.state desk.old) (D.state desk.new)) }
+    ensures steady { (IsErrOf result (ReadFault Controls) → ⊥) → KeepsFaults (D.state desk.old) (D.state desk.new) }
+{
+    scripts_are_lawful();
+    let name = match name {
+        Some(name) => name,
+        None => {
+            let script = Script::read(alloc, &[], controls)?;
+            return Ok(script);
+        }
+    };
+    let bytes = match read_front(alloc, desk, Role::Controls, name, SCRIPT_BYTES) {
+        Ok(bytes) => bytes,
+        Err(error) => return Err(read_refusal(Role::Controls, error)),
+    };
+    let script = Script::read(alloc, &bytes, controls)?;
+    Ok(script)
+}
