@@ -39,8 +39,8 @@ is_fed_back g r (s ∷ ss) = is_back_of g r s || is_fed_back g r ss
 abbrev pub history_from : ℕ → Bool → ℕ
 history_from m fed = if nat_lt 0 m then m else (if fed then 1 else 0)
 
--- The history of a signal, together with the members that stand for it: its greatest delay, and 1 where that is 0 and a
--- Back names one of them.
+-- How far back a signal is read, by its own name or through members that it stands for: its greatest delay, and 1 where
+-- that is 0 and a Back names it.
 abbrev pub history_of : Graph → ℕ → ℕ
 history_of g s = history_from (greatest_delay g (stand g s) g.signals) (is_fed_back g (stand g s) g.signals)
 

@@ -29,8 +29,8 @@ use std::marker::Model;
 /// The visits of an evaluation.
 const VISIT_LIMIT: u32 = 1_000_000;
 
-/// A program's diagram, with the arena that it is in, and its controls. It can run: the diagram is well formed, has no free
-/// slot and names only these controls.
+/// A program's diagram, with the arena that it is in, and its controls. It can run: all that it is composed of fits, each of
+/// its slots is bound, and it reads no control but these.
 #[derive(Drop)]
 pub struct Program {
     pub diagrams: Diagrams,

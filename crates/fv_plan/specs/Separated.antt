@@ -19,7 +19,7 @@ operands (Delay x d max) = x ∷ d ∷ []
 operands (Back group i) = []
 operands (Member group i) = []
 
--- what is found from a node in one step: its operands, and from a Back or a Member the definition of its member
+-- what a node leads to in one step: what it reads, and what the member is defined as that a Back or a Member names
 abbrev pub found_from : Graph → Signal → List ℕ
 found_from g (Input i) = []
 found_from g (Const n) = []

@@ -66,8 +66,8 @@ fn perform<D: Desk>(alloc: Global, words: &[String], desk: &mut D) -> Result<Tal
 }
 
 /// Does all that the command does: reads the words, the program, the script and the input, writes the output, and reports
-/// how it ended; or reads a program, and reports what it is. The words are all words of the command line, the program's own name first. The runtime and the gate are
-/// for the blocks of vector mode, and are not used yet.
+/// how it ended; or reads a program, and reports what it is. `words` begin with the program's own name. The runtime and the
+/// gate are for the blocks of vector mode, and are not used yet.
 pub fn run_faustvec<R: Threads + Wait + Sync, D: Desk, G: Gate + Sync>(
     _rt: &R,
     alloc: Global,

@@ -1,0 +1,5 @@
+pub mod StepLemmas
+pub mod ComputeLemmas
+pub mod AddLemmas
+pub mod LoadLemmas
+pub mod HoldLemmas

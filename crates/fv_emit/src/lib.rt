@@ -1,0 +1,13 @@
+// The code of the loops of a graph and of its held values, signal by signal.
+#![tactic(auto)]
+
+mod emit;
+mod holding;
+mod kind;
+mod operand;
+mod tables;
+
+pub use emit::codes;
+pub use holding::{HeldValues, held_code};
+pub use kind::Kind;
+pub use tables::Tables;

@@ -1,0 +1,15 @@
+-- An engine's frames and controls: what counts is before their end.
+use Rattle.std.proofs.Common.{◌+◌, length, refl, ◌∙◌, pos}
+use Rattle.fv_num.specs.Frames.{back}
+use Rattle.fv_base.proofs.Lists.{table_same}
+use Rattle.fv_signal.specs.Value.{value}
+use Rattle.fv_signal.proofs.Solutions.{values_look_back}
+use Rattle.fv_plan.specs.View.{lane_info}
+use Rattle.fv_engine.specs.Stands.{StandsAlike}
+use Rattle.fv_engine.proofs.Values.{back_past}
+
+pub stands_alike : StandsAlike
+stands_alike e g names X c d same h = record {
+  histories = λ l i. h.histories l i ∙ table_same (lane_info e.plan l).history (λ k. back (value g (names.lane l) X c) (length X + k) (pos (lane_info e.plan l).history)) (λ k. back (value g (names.lane l) X d) (length X + k) (pos (lane_info e.plan l).history))
+      (λ k m. back_past (value g (names.lane l) X c) (value g (names.lane l) X d) (length X) (lane_info e.plan l).history k m (λ u v. values_look_back g X X c d (length X) (λ i u v. refl) same (names.lane l) u v));
+}

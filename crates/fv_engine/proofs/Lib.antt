@@ -1,0 +1,9 @@
+pub mod Values
+pub mod Alike
+pub mod Goes
+pub mod Real
+pub mod Runs
+pub mod Names
+pub mod Made
+pub mod Jobs
+pub mod Blocks

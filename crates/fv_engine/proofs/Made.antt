@@ -1,0 +1,123 @@
+-- How an engine begins.
+use Rattle.std.proofs.Common.{◌≡◌, inl, inr, ℕ, zero, suc, ◌+◌, ◌-◌, ◌*◌, ◌<◌, ◌≤◌, List, [], ◌∷◌, ◌++◌, length, take, drop, map, sum, replicate, get_or, ℤ, pos, nat_le, refl, sym, ap, ◌∙◌, subst, arith, All, mul-le-mul_right, mul-le-mul_left, suc-mul, true}
+use Rattle.std.specs.Prelude.{slice_index}
+use Rattle.std.proofs.lemmas.Bool.{cases_lt, cond-false, lt-leb}
+use Rattle.std.proofs.lemmas.List.{get_or_push, get_or_append_left, length_push, length-take-le, length-append, length-drop, length-replicate, get_or-replicate, length-map}
+use Rattle.std.proofs.lemmas.List.Elements.{All-take, All-drop, All-append, All-replicate}
+use Rattle.std.proofs.lemmas.Nat.{le-div}
+use Rattle.std.proofs.Math.Nat.{div-mul-le_self}
+use Rattle.fv_num.specs.Frames.{Stream, back, table}
+use Rattle.fv_base.proofs.Lists.{table_same, table_items}
+use Rattle.fv_outside.specs.Tasks.{reads_loop}
+use Rattle.fv_outside.specs.declared.tasks.Reads.{Reads}
+use Rattle.fv_graph.specs.Graph.{ArePairs, no_reads}
+use Rattle.fv_graph.proofs.Counts.{either_left, either_right, both_of}
+use Rattle.std.proofs.lemmas.Bool.{eq-eqb}
+use Rattle.fv_pool.specs.Layout.{part}
+use Rattle.fv_lines.specs.Hold.{from_start}
+use Rattle.fv_lines.specs.Solo.{history_at, block_at, start_at, AreHeld}
+use Rattle.fv_lines.specs.declared.shape.LaneShape.{LaneShape}
+use Rattle.fv_lines.specs.declared.shape.LaneState.{LaneState}
+use Rattle.fv_lines.proofs.Tables.{history_is, block_is, start_is, shapes_fit}
+use Rattle.fv_lines.proofs.Parts.{length_part}
+use Rattle.fv_plan.specs.View.{PlanView, lane_info}
+use Rattle.fv_plan.specs.Plans.{PlanReads}
+use Rattle.fv_turns.specs.Block.{vectors_of}
+use Rattle.fv_engine.specs.Past.{past}
+
+-- ---- vectors
+
+-- some frames are some vectors, and no more of them
+pub vectors_some : (n k : ℕ) → 1 ≤ n → 1 ≤ k → 1 ≤ vectors_of n k
+vectors_some n k some l = le-div 1 (n + (k - 1)) k (omega arith) (omega arith)
+
+pub vectors_few : (n k : ℕ) → 1 ≤ n → 1 ≤ k → vectors_of n k ≤ n
+vectors_few n k some l = elim (cases_lt n (vectors_of n k)) [
+  | inl i ↦ absurd (
+      let q = div-mul-le_self (n + (k - 1)) k in let m : suc n * k ≤ vectors_of n k * k = mul-le-mul_right k i in let s = suc-mul n k in
+      let w : n * 1 ≤ n * k = mul-le-mul_left n l in omega (arith, q, m, s, w))
+  | inr i ↦ i
+]
+
+pub vectors_rise : (m n k : ℕ) → 1 ≤ k → m ≤ n → vectors_of m k ≤ vectors_of n k
+vectors_rise m n k some l = let q = div-mul-le_self (m + (k - 1)) k in le-div (vectors_of m k) (n + (k - 1)) k (omega arith) (omega (arith, q, l))
+
+-- ---- shapes
+
+-- the shapes of the first n lanes
+pub record ShapesSoFar (p : PlanView) (block n : ℕ) (shapes : List LaneShape) : Type 0 where
+  pub long : length shapes ≡ n
+  pub histories : (l : ℕ) → l < n → history_at shapes l ≡ (lane_info p l).history
+  pub blocks : (l : ℕ) → l < n → block_at shapes l ≡ block
+
+pub more_shapes : (p : PlanView) (block n : ℕ) (shapes : List LaneShape) (s : LaneShape) → ShapesSoFar p block n shapes → s.history ≡ (lane_info p n).history → s.block ≡ block
+    → ShapesSoFar p block (n + 1) (shapes ++ s ∷ [])
+more_shapes p block n shapes s h e f = record {
+  long = length_push shapes s ∙ (omega (arith, h.long));
+  histories = λ l i. elim (cases_lt l n) [
+    | inl m ↦ history_is (shapes ++ s ∷ []) l s (long_enough l i) ∙ ap (λ (x : LaneShape). x.history) (get_or_append_left shapes (s ∷ []) s l (omega (arith, m, h.long))) ∙ sym (history_is shapes l s (omega (arith, m, h.long))) ∙ h.histories l m
+    | inr m ↦ history_is (shapes ++ s ∷ []) l s (long_enough l i) ∙ ap (λ (x : LaneShape). x.history) (get_or_push shapes s s l (omega (arith, i, m, h.long))) ∙ e ∙ ap (λ k. (lane_info p k).history) (let z : n ≡ l = omega (arith, i, m) in z)
+  ];
+  blocks = λ l i. elim (cases_lt l n) [
+    | inl m ↦ block_is (shapes ++ s ∷ []) l s (long_enough l i) ∙ ap (λ (x : LaneShape). x.block) (get_or_append_left shapes (s ∷ []) s l (omega (arith, m, h.long))) ∙ sym (block_is shapes l s (omega (arith, m, h.long))) ∙ h.blocks l m
+    | inr m ↦ block_is (shapes ++ s ∷ []) l s (long_enough l i) ∙ ap (λ (x : LaneShape). x.block) (get_or_push shapes s s l (omega (arith, i, m, h.long))) ∙ f
+  ];
+}
+  where
+    long_enough : (l : ℕ) → l < n + 1 → l < length (shapes ++ s ∷ [])
+    long_enough l i = let q = length_push shapes s in omega (arith, q, i, h.long)
+
+-- ---- what the lists hold
+
+-- no lane's history lies anywhere but at its part's front
+pub all_held : (lengths : List ℕ) (shapes : List LaneShape) (states : List LaneState) (n : ℕ) → lengths ≡ map (λ (s : LaneShape). s.len) shapes → length shapes ≡ n
+    → ((i : ℕ) → i < n → start_at states i ≡ 0) → AreHeld lengths shapes states
+all_held lengths shapes states n e long zeros i l =
+    let m : i < length shapes = let q = ap length e ∙ length-map shapes (λ (s : LaneShape). s.len) in omega (arith, q, l) in
+    let z = zeros i (omega (arith, m, long)) in let f = shapes_fit shapes i m in
+    (ap (λ (xs : List ℕ). slice_index xs i) e, (λ h. omega (arith, z, f)), (λ h. omega (arith, z, f, h)))
+
+pub starts_zero : (n i : ℕ) (s : LaneState) → s.start ≡ 0 → i < n → start_at (replicate n s) i ≡ 0
+starts_zero n i s e l = start_is (replicate n s) i s (let q = length-replicate n s in omega (arith, q, l)) ∙ ap (λ (x : LaneState). x.start) (get_or-replicate n i s s l) ∙ e
+
+abbrev IsZero : ℤ → Type 0
+IsZero x = x ≡ pos 0
+
+-- the past of any stream before time 0 is zeros
+past_zero : (h : ℕ) (v : Stream) → past h v 0 ≡ table h (λ k. pos 0)
+past_zero h v = table_same h (λ k. back v (0 + k) (pos h)) (λ k. pos 0) (λ k l. cond-false (nat_le h (0 + k)) (v (0 + k - h)) (pos 0) (lt-leb h (0 + k) (omega (arith, l))))
+
+zeros_are : (h : ℕ) (xs : List ℤ) → length xs ≡ h → All IsZero xs → xs ≡ table h (λ k. pos 0)
+zeros_are h xs e z =
+    sym (table_items xs (pos 0)) ∙ ap (λ n. table n (λ i. get_or xs i (pos 0))) e ∙ table_same h (λ i. get_or xs i (pos 0)) (λ k. pos 0) (λ i l. z i (pos 0) (omega (arith, e, l)))
+
+-- a part of zeros holds the past of any stream before time 0
+pub nothing_yet : (lengths : List ℕ) (i h n : ℕ) (cells : List ℤ) (v : Stream) → i < length lengths → sum lengths ≤ n → h ≤ slice_index lengths i → cells ≡ replicate n (pos 0)
+    → take h (from_start 0 (part lengths i cells)) ≡ past h v 0
+nothing_yet lengths i h n cells v l fits room is =
+    zeros_are h (take h (from_start 0 (part lengths i cells))) long
+    (All-take IsZero h (from_start 0 (part lengths i cells)) (All-append IsZero (drop 0 (part lengths i cells)) (take 0 (part lengths i cells)) (All-drop IsZero 0 (part lengths i cells) part_zero) (All-take IsZero 0 (part lengths i cells) part_zero)))
+    ∙ sym (past_zero h v)
+  where
+    part_zero : All IsZero (part lengths i cells)
+    part_zero = All-take IsZero (slice_index lengths i) (drop (sum (take i lengths)) cells) (All-drop IsZero (sum (take i lengths)) cells (subst (λ (xs : List ℤ). All IsZero xs) (sym is) (All-replicate IsZero n (pos 0) refl)))
+
+    long : length (take h (from_start 0 (part lengths i cells))) ≡ h
+    long =
+        let q = length_part lengths i cells l (let k = ap length is ∙ length-replicate n (pos 0) in omega (arith, k, fits)) in
+        let a = length-append (drop 0 (part lengths i cells)) (take 0 (part lengths i cells)) in let d = length-drop 0 (part lengths i cells) in
+        length-take-le h (from_start 0 (part lengths i cells)) (omega (arith, a, d, q, room))
+
+-- ---- pairs
+
+-- a pair that stands in the list is told
+pair_told : (rs : List Reads) (k : ℕ) → k < length rs → reads_loop rs (get_or rs k no_reads).reader (get_or rs k no_reads).source ≡ true
+pair_told [] k l = absurd (omega (arith, l))
+pair_told (r ∷ rs) zero l = either_left _ _ (both_of _ _ (eq-eqb r.reader r.reader refl) (eq-eqb r.source r.source refl))
+pair_told (r ∷ rs) (suc k) l = either_right _ _ (pair_told rs k (omega (arith, l)))
+
+pub are_pairs : (p : PlanView) → PlanReads p → ArePairs p.loops p.reads
+are_pairs p r = record {
+  in_order = λ k l. r.lower (get_or p.reads k no_reads).reader (get_or p.reads k no_reads).source (pair_told p.reads k l);
+  once = λ j i. let q = r.once j i in omega (arith, q);
+}

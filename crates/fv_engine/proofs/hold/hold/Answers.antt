@@ -1,0 +1,16 @@
+use Rattle.std.proofs.Common.{List, [], length, All, sym, subst}
+use Rattle.fv_num.specs.Words.{argument}
+use Rattle.fv_loopcode.specs.declared.step.Step.{Step}
+use Rattle.fv_loopcode.specs.Code.{IsWithin, MayRun, frame_of}
+use Rattle.fv_engine.proofs.Names.{names_within}
+use Rattle.fv_engine.proofs.hold.hold.Goals as goal
+
+pub run-requires-clause-within : goal.run-requires-clause-within
+run-requires-clause-within c =
+    subst (λ (steps : List Step). All (IsWithin (length c.args.controls.now) 0) steps) (sym c.held.ensures)
+    (names_within (length c.args.controls.now) 0 c.args.plan.now.held c.requires.controls (λ i n. absurd (c.requires.code.inputs i n)))
+
+pub run-requires-clause-may : goal.run-requires-clause-may
+run-requires-clause-may c =
+    subst (λ (steps : List Step). MayRun steps (argument c.args.controls.now) (frame_of [] 0) 0 1 []) (sym c.held.ensures)
+    (c.still_code_is_free.ensures c.args.plan.now.held (argument c.args.controls.now) (frame_of [] 0) 0 1 [] [] c.requires.code.still).0

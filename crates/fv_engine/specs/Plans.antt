@@ -1,0 +1,25 @@
+-- A plan as a block sees it (this project's profile).
+use Rattle.std.specs.Prelude.{ℕ, ◌<◌, List, [], length, ℤ, pos}
+use Rattle.fv_num.specs.Words.{argument}
+use Rattle.fv_loopcode.specs.Code.{registers_after, NamesHeld, NamesInput}
+use Rattle.fv_plan.specs.View.{PlanView, lane_info, code_of, loops_of}
+use Rattle.fv_turns.specs.Block.{Parts, Block}
+
+-- what a block needs of a plan
+abbrev pub parts_of : PlanView → Parts
+parts_of p = record { count = p.loops; lanes = length p.lanes; history = λ l. (lane_info p l).history; loops = loops_of p }
+
+-- a block of a plan
+abbrev pub block_from : PlanView → (vector frames channels : ℕ) → (held input : List ℤ) → Block
+block_from p vector frames channels held input =
+    record { plan = parts_of p; vector = vector; frames = frames; channels = channels; held = held; input = input }
+
+-- the held values that these controls give: the registers of their code
+abbrev pub held_by : PlanView → (controls : List ℤ) → List ℤ
+held_by p controls = registers_after p.held (argument controls) (λ n i. pos 0) 0 1 []
+
+-- the codes name held values and channels that are there, and the held values' code names controls that are there
+pub record NamesThere (p : PlanView) (channels controls : ℕ) : Type 0 where
+  pub held : (j k : ℕ) → NamesHeld (code_of p j) k → k < length p.held
+  pub inputs : (j i : ℕ) → NamesInput (code_of p j) i → i < channels
+  pub knobs : (k : ℕ) → NamesHeld p.held k → k < controls

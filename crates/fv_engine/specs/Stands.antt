@@ -1,0 +1,85 @@
+-- When an engine stands for frames and controls (this project's profile).
+use Rattle.std.specs.Prelude.{◌≡◌, ℕ, ◌+◌, ◌*◌, ◌<◌, ◌≤◌, List, ◌++◌, length, take, drop, slice_index, slice_index_or, ℤ, nat_lt, if◌then◌else◌}
+use Rattle.fv_num.specs.Words.{argument}
+use Rattle.fv_num.specs.Frames.{Frame, Stream, table}
+use Rattle.fv_signal.specs.Value.{Graph, value}
+use Rattle.fv_loopcode.specs.Lanes.{Lane, lane_of}
+use Rattle.fv_pool.specs.Layout.{part}
+use Rattle.fv_lines.specs.Hold.{from_start}
+use Rattle.fv_plan.specs.Fits.{Names}
+use Rattle.fv_plan.specs.View.{PlanView, lane_info}
+use Rattle.fv_plan.specs.Plans.{PlanStands, IsPlanOf}
+use Rattle.fv_engine.specs.Past.{past}
+
+-- What an engine keeps: its plan and sizes, the cells of its one region, the lengths of the lanes' parts there, and the cell of
+-- its part where each lane's history starts.
+pub record EngineView : Type 0 where
+  pub plan : PlanView
+  pub channels : ℕ
+  pub workers : ℕ
+  pub block : ℕ
+  pub vector : ℕ
+  pub region : List ℤ
+  pub lengths : List ℕ
+  pub starts : List ℕ
+
+-- a lane's history, as the region holds it
+abbrev pub history_in : EngineView → ℕ → List ℤ
+history_in e l = take (lane_info e.plan l).history (from_start (slice_index e.starts l) (part e.lengths l e.region))
+
+-- What the region holds of each lane is what its signal was at the latest samples of X.
+pub record StandsFor (e : EngineView) (g : Graph) (names : Names) (X : List Frame) (c : ℕ → Stream) : Type 0 where
+  pub histories : (l : ℕ) → l < length e.plan.lanes → history_in e l ≡ past (lane_info e.plan l).history (value g (names.lane l) X c) (length X)
+
+-- n frames of flat samples
+abbrev pub rows : (channels n : ℕ) → List ℤ → List Frame
+rows channels n xs = table n (λ t. table channels (λ i. argument xs (t * channels + i)))
+
+-- the outputs' values at n times from t on
+abbrev pub played : Graph → (X : List Frame) → (c : ℕ → Stream) → (t n : ℕ) → List Frame
+played g X c t n = table n (λ u. table (length g.outputs) (λ j. value g (slice_index_or g.outputs j 0) X c (t + u)))
+
+-- the controls have these numbers in the n frames from t on
+abbrev pub AreGiven : (controls : List ℤ) → (c : ℕ → Stream) → (t n : ℕ) → Type 0
+AreGiven controls c t n = (k u : ℕ) → k < length controls → u < n → c k (t + u) ≡ argument controls k
+
+-- The next frames: for all frames X and controls c for which the engine stood, where c has the given numbers in the block, the
+-- output is that of X and the input behind it, and the engine then stands for both together.
+abbrev pub GoesOn : (old new : EngineView) → (frames : ℕ) → (input controls output : List ℤ) → Type 0
+GoesOn old new frames input controls output =
+    (g : Graph) (s : PlanStands g old.plan) (X : List Frame) (c : ℕ → Stream) → StandsFor old g s.names X c → AreGiven controls c (length X) frames →
+    (rows (length g.outputs) frames output ≡ played g (X ++ rows old.channels frames input) c (length X) frames)
+    × StandsFor new g s.names (X ++ rows old.channels frames input) c
+
+-- What an engine stands for depends on the controls before the end of X alone.
+abbrev pub StandsAlike : Type 0
+StandsAlike =
+    (e : EngineView) (g : Graph) (names : Names) (X : List Frame) (c d : ℕ → Stream) → ((k u : ℕ) → u < length X → c k u ≡ d k u) →
+    StandsFor e g names X c → StandsFor e g names X d
+
+-- controls that go on with these numbers from time t on
+abbrev pub continued : (ℕ → Stream) → (t : ℕ) → List ℤ → ℕ → Stream
+continued c t controls k u = if nat_lt u t then c k u else argument controls k
+
+-- An engine's plan is one of some graph, and the engine stands for some frames and controls.
+pub record Standing (e : EngineView) : Type 0 where
+  pub graph : Graph
+  pub plan : IsPlanOf graph e.plan
+  pub frames : List Frame
+  pub controls : ℕ → Stream
+  pub stands : StandsFor e graph plan.stands.names frames controls
+
+-- the lanes as a block of n frames begins: the histories that the region holds, and room for the block
+pub record AreBegun (e : EngineView) (n : ℕ) (lanes : List Lane) : Type 0 where
+  pub count : length lanes ≡ length e.plan.lanes
+  pub histories : (l : ℕ) → l < length e.plan.lanes → (lane_of lanes l).history ≡ (lane_info e.plan l).history
+  pub items : (l : ℕ) → l < length e.plan.lanes → (lane_of lanes l).items ≡ history_in e l
+  pub room : (l : ℕ) → l < length e.plan.lanes → n ≤ (lane_of lanes l).room
+
+-- the lanes as it ends: what the region then holds of each is what lies behind so many samples
+pub record AreEnded (e : EngineView) (n : ℕ) (lanes : List Lane) : Type 0 where
+  pub items : (l : ℕ) → l < length e.plan.lanes → history_in e l ≡ drop n (lane_of lanes l).items
+
+-- the plan and the sizes stay
+abbrev pub SameParts : (old new : EngineView) → Type 0
+SameParts old new = new ≡ record old { region = new.region; starts = new.starts }

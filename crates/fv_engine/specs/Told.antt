@@ -1,0 +1,21 @@
+-- What a gate is told of a block of an engine.
+use Rattle.std.specs.Prelude.{◌≡◌, ℕ, ◌≤◌, length}
+use Rattle.fv_outside.specs.Tasks.{Tasks, task_count}
+use Rattle.fv_outside.specs.Journal.{BlockEntry, Room, IsOrdered}
+use Rattle.fv_turns.specs.Block.{vectors_of}
+use Rattle.fv_engine.specs.Stands.{EngineView}
+
+-- the plan's loops and reads, and the vectors of so many frames
+abbrev pub tasks_told : EngineView → (frames : ℕ) → Tasks
+tasks_told e frames = record { loops = e.plan.loops; vectors = vectors_of frames e.vector; reads = e.plan.reads }
+
+-- an entry of these tasks, with a journal in order
+pub record IsEntry (e : EngineView) (frames : ℕ) (entry : BlockEntry) : Type 0 where
+  pub tasks : entry.tasks ≡ tasks_told e frames
+  pub ordered : IsOrdered entry.tasks entry.lines
+
+-- there is room for one call, a line for each task and the pairs
+pub record HasRoomForBlock (room : Room) (tasks : Tasks) : Type 0 where
+  pub calls : 1 ≤ room.calls
+  pub lines : task_count tasks ≤ room.lines
+  pub pairs : length tasks.reads ≤ room.pairs

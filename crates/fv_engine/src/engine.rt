@@ -1,0 +1,214 @@
+// The engine.
+
+ghost use Rattle.std.specs.Prelude.{◌≡◌, ℕ, ◌*◌, ◌++◌, ◌∷◌, [], ◌<◌, ◌≤◌, length, slice_index, IfOk, IfSome, IsSome, Some};
+ghost use Rattle.fv_num.specs.Frames.{Stream};
+ghost use Rattle.fv_signal.specs.Value.{Graph};
+ghost use Rattle.fv_outside.specs.Journal.{Told, BlockEntry, room_after};
+ghost use Rattle.fv_loopcode.specs.Code.{NamesHeld, NamesInput};
+ghost use Rattle.fv_pool.specs.Region.{cells_of};
+ghost use Rattle.fv_pool.specs.Lengths.{lengths_of};
+ghost use Rattle.fv_plan.specs.View.{lane_info, code_of};
+ghost use Rattle.fv_plan.specs.Plans.{PlanStands};
+ghost use Rattle.fv_turns.specs.Block.{vectors_of};
+ghost use Rattle.fv_engine.specs.Stands.{StandsFor, GoesOn, SameParts};
+ghost use Rattle.fv_engine.specs.Told.{tasks_told, IsEntry, HasRoomForBlock};
+
+use crate::error::NoMemory;
+use crate::hold::hold;
+use crate::make::{Lanes, Machine, blank_lanes, machine_for, vectors};
+use crate::over::over;
+use crate::plan_codes::PlanCodes;
+use fv_core::Core;
+use fv_graph::Tasks;
+use fv_lines::{LaneShape, LaneState};
+use fv_outside::{Gate, Line};
+use fv_plan::Plan;
+use fv_pool::{Layout, Region};
+use fv_turns::Job;
+use std::alloc::Global;
+use std::marker::{Model, Sync};
+use std::sync::Wait;
+use std::thread::Threads;
+
+/// What became of a block: how many tasks ran, and whether they ran alone where several workers were asked for.
+#[derive(Clone, Copy, PartialEq, Eq, Debug)]
+pub struct BlockReport {
+    pub tasks: u64,
+    pub alone: bool,
+}
+
+/// A plan that runs, block by block. All its lanes lie in one region.
+#[derive(Drop)]
+pub struct Engine {
+    plan: Plan,
+    channels: u32,
+    workers: u32,
+    block: u32,
+    vector: u32,
+    region: Region,
+    layout: Layout,
+    shapes: Vec<LaneShape>,
+    states: Vec<LaneState>,
+    // by lane: how many samples of the block are written
+    written: Vec<u32>,
+    tasks: Tasks,
+    core: Core,
+    held: Vec<i32>,
+    regs: Vec<i32>,
+    lines: Vec<Line>,
+}
+
+impl Model for Engine {
+    ghost use Rattle.fv_engine.specs.Stands.{EngineView};
+
+    ghost Value = { EngineView };
+
+    ghost use Rattle.fv_engine.specs.Stored.{view_of, IsStored};
+
+    ghost view = { view_of };
+
+    ghost invariant = { IsStored };
+}
+
+impl Engine {
+    /// An engine of this plan for blocks of at most `block` frames of `channels` numbers, cut in vectors of `vector` frames. It takes
+    /// all the memory that its blocks need.
+    pub fn prepare(
+        alloc: Global,
+        plan: Plan,
+        channels: u32,
+        workers: u32,
+        block: u32,
+        vector: u32,
+    ) -> Result<Engine, NoMemory>
+        requires loops { 0 < plan.loops }
+        requires channels { channels ≤ 256 }
+        requires inputs { (j i : ℕ) → NamesInput (code_of plan j) i → i < channels }
+        requires histories { (l : ℕ) → l < length plan.lanes → (lane_info plan l).history ≤ 16777216 }
+        requires block { (1 ≤ block) × (block ≤ 4096) }
+        requires vector { (1 ≤ vector) × (vectors_of block vector ≤ 64) }
+        requires workers { (1 ≤ workers) × (workers ≤ 16) }
+        ensures parts { IfOk result (λ e. (e.plan ≡ plan) × (e.channels ≡ channels) × (e.workers ≡ workers) × (e.block ≡ block) × (e.vector ≡ vector)) }
+
+        // It stands for no frames yet.
+        ensures stands { IfOk result (λ e. (g : Graph) (s : PlanStands g e.plan) (c : ℕ → Stream) → StandsFor e g s.names [] c) }
+    {
+        let Lanes {
+            region,
+            layout,
+            shapes,
+            states,
+            written,
+        } = blank_lanes(alloc, &plan, block)?;
+        let Machine {
+            tasks,
+            core,
+            held,
+            regs,
+            lines,
+        } = machine_for(alloc, &plan, vectors(block, vector))?;
+        Ok(Engine {
+            plan,
+            channels,
+            workers,
+            block,
+            vector,
+            region,
+            layout,
+            shapes,
+            states,
+            written,
+            tasks,
+            core,
+            held,
+            regs,
+            lines,
+        })
+    }
+
+    /// The next frames of the output, for the next frames of the input and the controls in them. It takes no memory.
+    pub fn run_block<R: Threads + Wait + Sync, G: Gate + Sync>(
+        &mut self,
+        _rt: &R,
+        _alloc: Global,
+        frames: u32,
+        input: &[i32],
+        controls: &[i32],
+        output: &mut [i32],
+        gate: &mut G,
+    ) -> BlockReport
+        requires frames { (1 ≤ frames) × (frames ≤ self.old.block) }
+        requires input { length input.now ≡ frames * self.old.channels }
+        requires output { length output.old ≡ frames * length self.old.plan.outputs }
+        requires controls { (k : ℕ) → NamesHeld self.old.plan.held k → k < length controls.now }
+        ensures same { SameParts self.old self.new }
+
+        // The output is that of the next frames, whatever frames and controls the engine stood for, and it then stands for them all.
+        ensures goes_on { GoesOn self.old self.new frames input.now controls.now output.new }
+
+        // By one call the gate learns which loops the plan has and which of them read which, how many vectors ran, and in what order.
+        ensures told { IfSome (G.told gate.new) (λ t. (before : Told) × (G.told gate.old ≡ Some before) × (entry : BlockEntry) × IsEntry self.old frames entry
+            × (t.entries ≡ before.entries ++ entry ∷ []) × (t.room ≡ room_after before.room entry)) }
+
+        // Where the block is within its room, it is still told afterwards.
+        ensures room { IfSome (G.told gate.old) (λ t. HasRoomForBlock t.room (tasks_told self.old frames) → IsSome (G.told gate.new)) }
+        ensures tasks { result.tasks ≡ self.old.plan.loops * vectors_of frames self.old.vector }
+    {
+        let vectors = vectors(frames, self.vector);
+        self.tasks.set_vectors(vectors);
+        self.core.reset(&self.tasks);
+        self.lines.clear();
+        hold(&self.plan, controls, &mut self.held);
+        let plan = PlanCodes { plan: &self.plan };
+        let job = Job {
+            plan: &plan,
+            held: &self.held,
+            input,
+            channels: u64::from(self.channels),
+            vector: self.vector,
+            frames,
+        };
+        over(
+            &job,
+            self.plan.outputs(),
+            &self.tasks,
+            self.region.cells(),
+            &self.layout,
+            &self.shapes,
+            &mut self.states,
+            &mut self.written,
+            &mut self.core,
+            &mut self.regs,
+            &mut self.lines,
+            output,
+            gate,
+        );
+        gate.block_done(self.plan.loops(), vectors, self.plan.reads(), &self.lines);
+        BlockReport {
+            tasks: self.tasks.len(),
+            alone: false,
+        }
+    }
+
+    /// The region that all lanes lie in.
+    pub fn region(&self) -> &Region
+        ensures { cells_of result.now ≡ self.now.region }
+    {
+        &self.region
+    }
+
+    /// The parts of the region, one for each lane.
+    pub fn layout(&self) -> &Layout
+        ensures { lengths_of result.now ≡ self.now.lengths }
+    {
+        &self.layout
+    }
+
+    /// Where the history of a lane starts in its part.
+    pub fn state(&self, lane: u64) -> LaneState
+        requires { lane < length self.now.plan.lanes }
+        ensures { result.start ≡ slice_index self.now.starts lane }
+    {
+        self.states[lane as usize]
+    }
+}

@@ -1,0 +1,13 @@
+// Want of memory.
+
+use std::alloc::AllocError;
+
+/// There was not enough memory.
+#[derive(Clone, Copy, PartialEq, Eq, Debug)]
+pub struct NoMemory;
+
+impl From<AllocError> for NoMemory {
+    fn from(_error: AllocError) -> NoMemory {
+        NoMemory
+    }
+}

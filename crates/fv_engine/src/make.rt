@@ -1,0 +1,142 @@
+// What an engine is made of.
+
+ghost use Rattle.std.specs.Prelude.{◌≡◌, ℕ, ◌^◌, ◌<◌, ◌≤◌, true, IfOk, length, map, sum};
+ghost use Rattle.fv_lines.specs.declared.shape.LaneShape.{LaneShape as Shape};
+ghost use Rattle.fv_plan.specs.View.{lane_info};
+ghost use Rattle.fv_turns.specs.Block.{vectors_of};
+ghost use Rattle.fv_turns.specs.Jobs.{RegistersFit};
+ghost use Rattle.fv_engine.specs.Plans.{parts_of};
+ghost use Rattle.fv_engine.specs.Made.{AreShapes, AreLanes, IsMachine};
+
+use fv_core::Core;
+use fv_graph::Tasks;
+use fv_lines::{LaneShape, LaneState};
+use fv_outside::Line;
+use fv_plan::Plan;
+use fv_pool::{Layout, Region};
+use std::alloc::{AllocError, Global};
+
+/// The lanes: the region that they lie in, where each of them lies, its shape and where its history starts, and by lane how many
+/// samples of the block are written.
+#[derive(Drop)]
+pub(crate) struct Lanes {
+    pub(crate) region: Region,
+    pub(crate) layout: Layout,
+    pub(crate) shapes: Vec<LaneShape>,
+    pub(crate) states: Vec<LaneState>,
+    pub(crate) written: Vec<u32>,
+}
+
+/// What runs the tasks: the tasks and the core, the held values, the registers and the journal.
+#[derive(Drop)]
+pub(crate) struct Machine {
+    pub(crate) tasks: Tasks,
+    pub(crate) core: Core,
+    pub(crate) held: Vec<i32>,
+    pub(crate) regs: Vec<i32>,
+    pub(crate) lines: Vec<Line>,
+}
+
+/// How many vectors so many frames are.
+pub(crate) fn vectors(frames: u32, vector: u32) -> u32
+    requires some { 1 ≤ frames }
+    requires vector { 1 ≤ vector }
+    ensures value { result ≡ vectors_of frames vector }
+    ensures some { 1 ≤ result }
+{
+    ((u64::from(frames) + (u64::from(vector) - 1)) / u64::from(vector)) as u32
+}
+
+/// The shape of each lane, for blocks of so many frames.
+pub(crate) fn shapes(alloc: Global, plan: &Plan, block: u32) -> Result<Vec<LaneShape>, AllocError>
+    requires block { (1 ≤ block) × (block ≤ 4096) }
+    requires histories { (l : ℕ) → l < length plan.now.lanes → (lane_info plan.now l).history ≤ 16777216 }
+    ensures { IfOk result (λ v. AreShapes plan.now block v.items) }
+{
+    let lanes = plan.lanes();
+    let mut shapes = Vec::new(alloc);
+    for i in 0..lanes.len() {
+        shapes.push(LaneShape::new(lanes[i].history as u32, block))?;
+    }
+    Ok(shapes)
+}
+
+/// The number of cells of each lane.
+pub(crate) fn lengths(alloc: Global, shapes: &[LaneShape]) -> Result<Vec<u64>, AllocError>
+    ensures { IfOk result (λ v. v.items ≡ map (λ (s : Shape). s.len) shapes.now) }
+{
+    let mut lengths = Vec::new(alloc);
+    for shape in shapes {
+        lengths.push(shape.len())?;
+    }
+    Ok(lengths)
+}
+
+/// Whether a region can have so many cells in all. There is none of 2^63 cells or more.
+pub(crate) fn can_be_had(lengths: &[u64]) -> bool
+    ensures { result ≡ true → sum lengths.now < 2 ^ 63 }
+{
+    let mut left: u64 = (1 << 63) - 1;
+    for length in lengths {
+        if *length > left {
+            return false;
+        }
+        left -= *length;
+    }
+    true
+}
+
+/// The number of steps of the longest code.
+pub(crate) fn most_steps(plan: &Plan) -> u64
+    ensures { RegistersFit (parts_of plan.now) result }
+{
+    let mut most = 0;
+    for j in 0..plan.loops() {
+        most = plan.code(j).len().max(most);
+    }
+    most
+}
+
+/// The lanes of a plan, which hold zeros.
+pub(crate) fn blank_lanes(alloc: Global, plan: &Plan, block: u32) -> Result<Lanes, AllocError>
+    requires block { (1 ≤ block) × (block ≤ 4096) }
+    requires histories { (l : ℕ) → l < length plan.now.lanes → (lane_info plan.now l).history ≤ 16777216 }
+    ensures { IfOk result (λ lanes. AreLanes plan.now block lanes) }
+{
+    let shapes = shapes(alloc, plan, block)?;
+    let lengths = lengths(alloc, &shapes)?;
+    if !can_be_had(&lengths) {
+        return Err(AllocError);
+    }
+    let layout = Layout::new(alloc, &lengths)?;
+    let region = Region::new(alloc, layout.total())?;
+    let states = Vec::from_elem(alloc, LaneState { start: 0 }, shapes.len())?;
+    let written = Vec::from_elem(alloc, 0, shapes.len())?;
+    Ok(Lanes {
+        region,
+        layout,
+        shapes,
+        states,
+        written,
+    })
+}
+
+/// What runs the tasks of a plan, for so many vectors.
+pub(crate) fn machine_for(alloc: Global, plan: &Plan, most: u32) -> Result<Machine, AllocError>
+    requires some_loop { 0 < plan.now.loops }
+    requires some_vector { 0 < most }
+    ensures { IfOk result (λ m. IsMachine plan.now most m) }
+{
+    let tasks = Tasks::new(alloc, plan.loops(), most, plan.reads())?;
+    let core = Core::new(alloc, &tasks, 1)?;
+    let held = Vec::from_elem(alloc, 0, plan.held().len() as usize)?;
+    let regs = Vec::from_elem(alloc, 0, most_steps(plan) as usize)?;
+    let lines = Vec::with_capacity(alloc, tasks.len() as usize)?;
+    Ok(Machine {
+        tasks,
+        core,
+        held,
+        regs,
+        lines,
+    })
+}

@@ -1,0 +1,21 @@
+// The codes of a plan, for its blocks.
+
+use fv_loopcode::Code;
+use fv_plan::Plan;
+use fv_turns::Codes;
+
+/// A plan, as blocks use it.
+#[derive(Drop)]
+pub struct PlanCodes<'p> {
+    pub(crate) plan: &'p Plan,
+}
+
+impl Codes for PlanCodes<'_> {
+    ghost use Rattle.fv_engine.specs.Plans.{parts_of};
+
+    ghost parts = { λ c. parts_of c.plan.now };
+
+    fn code(&self, loop_no: u64) -> &Code {
+        self.plan.code(loop_no)
+    }
+}

@@ -1,0 +1,7 @@
+pub mod RowLemmas
+pub mod HomeLemmas
+pub mod RankLemmas
+pub mod ReaderLemmas
+pub mod MarkLemmas
+pub mod NumberLemmas
+pub mod PlaceLemmas

@@ -1,0 +1,12 @@
+use Rattle.std.proofs.Common.{sym, ap, ◌∙◌, arith}
+use Rattle.fv_plan.specs.Separated.{found_from, links_of}
+use Rattle.fv_lanes.proofs.RowLemmas.{rows_more, node_read, links_are}
+use Rattle.fv_lanes.proofs.rows.links.Goals as goal
+
+pub loop-s-preserved : goal.loop-s-preserved
+loop-s-preserved c =
+    let g = c.args.graph.now in
+    let s = c.loop-s.s in
+    let is = node_read g s c.new.result c.signal.result (omega arith) c.new.ensures c.signal.ensures.node in
+    rows_more (links_of g) s c.loop-s.rows.items c.push.new.self.items c.in_ok-row.row c.loop-s.invariant c.in_ok-push.ensures.items
+    (c.in_ok-row.ensures ∙ ap (found_from g) is ∙ sym (links_are g s (omega arith)))

@@ -1,0 +1,5 @@
+pub mod TellLemmas
+pub mod SuitLemmas
+pub mod PlanLemmas
+pub mod ListLemmas
+pub mod SplitLemmas

@@ -1,0 +1,36 @@
+// The code of each loop from its steps.
+
+ghost use Rattle.std.specs.Prelude.{◌≡◌, ◌<◌, ◌≤◌, ℕ, length, IfOk};
+ghost use Rattle.fv_loopcode.specs.Code.{AreSound};
+ghost use Rattle.fv_emit.specs.Emitted.{code_in};
+ghost use Rattle.fv_split.specs.Lists.{AreCoded};
+
+use fv_loopcode::{Code, Step};
+use std::alloc::{AllocError, Global};
+
+/// The code of sound steps.
+pub(crate) fn code(alloc: Global, steps: &[Step], lanes: u64) -> Result<Code, AllocError>
+    requires { AreSound lanes steps.now }
+    ensures { IfOk result (λ code. code ≡ steps.now) }
+{
+    match Code::new(alloc, steps, lanes)? {
+        Some(code) => Ok(code),
+        None => unreachable!(),
+    }
+}
+
+/// The code of each loop.
+pub(crate) fn all_code(
+    alloc: Global,
+    codes: &[Vec<Step>],
+    lanes: u64,
+) -> Result<Vec<Code>, AllocError>
+    requires { (j : ℕ) → AreSound lanes (code_in codes.now j) }
+    ensures { IfOk result (λ all. AreCoded codes.now (length codes.now) all.items) }
+{
+    let mut all = Vec::new(alloc);
+    for steps in codes {
+        all.push(code(alloc, steps, lanes)?)?;
+    }
+    Ok(all)
+}

@@ -1,0 +1,59 @@
+// How a graph is split.
+
+ghost use Rattle.std.specs.Prelude.{◌≡◌, length, IfOk};
+ghost use Rattle.fv_num.specs.Frames.{table};
+ghost use Rattle.fv_signal.specs.Value.{IsGraph};
+ghost use Rattle.fv_signal.specs.Rates.{rates as rates_of};
+ghost use Rattle.fv_analysis.specs.Reaching.{history_of};
+ghost use Rattle.fv_plan.specs.Plans.{PlanStands, PlanReads, PlanNames};
+
+use crate::basing::{bases, kinds};
+use crate::coding::{all_code, code};
+use crate::lists::{infos, output_lanes};
+use crate::telling::reads;
+use fv_analysis::{Histories, Rates, stands};
+use fv_emit::{Tables, codes, held_code};
+use fv_lanes::place;
+use fv_plan::Plan;
+use fv_signal::Graph;
+use std::alloc::{AllocError, Global};
+
+/// The loops of a graph, whose rates and histories these are.
+pub fn split(
+    alloc: Global,
+    graph: &Graph,
+    rates: &Rates,
+    histories: &Histories,
+) -> Result<Plan, AllocError>
+    requires graph { IsGraph graph.now }
+    requires rates { rates.now ≡ rates_of graph.now.signals }
+    requires histories { histories.now ≡ table (length graph.now.signals) (history_of graph.now) }
+    // The plan stands for the graph: lanes, loops and their order, codes, held values, outputs.
+    ensures stands { IfOk result (λ plan. PlanStands graph.now plan) }
+    // The told reads are just the loads between different loops, each told once, the source lower.
+    ensures reads { IfOk result (λ plan. PlanReads plan) }
+    // The codes name only what is there, and load nothing further back than a history.
+    ensures names { IfOk result (λ plan. PlanNames graph.now plan) }
+{
+    let stands = stands(alloc, graph)?;
+    let places = place(alloc, graph, &stands, rates)?;
+    let values = held_code(alloc, graph, rates)?;
+    let bases = bases(alloc, graph, &stands, rates, &places.lanes, &values.numbers)?;
+    let kinds = kinds(alloc, &bases, &places.lanes)?;
+    let outputs = output_lanes(alloc, graph.outputs(), &stands, &places.lanes)?;
+    let lanes = infos(alloc, &places.signals, &places.owners, histories)?;
+    let loops = places.loops;
+    let tables = Tables {
+        stands,
+        bases,
+        kinds,
+        lanes: places.lanes,
+        homes: places.homes,
+        owners: places.owners,
+    };
+    let steps = codes(alloc, graph, &tables, loops)?;
+    let told = reads(alloc, &steps, &tables.owners)?;
+    let codes = all_code(alloc, &steps, lanes.len() as u64)?;
+    let held = code(alloc, &values.steps, 0)?;
+    Ok(Plan::new(loops, lanes, codes, told, outputs, held))
+}
