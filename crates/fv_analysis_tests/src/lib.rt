@@ -1,0 +1,5 @@
+// Tests of rates and histories.
+#![tactic(auto)]
+
+#[cfg(test)]
+mod graphs;
