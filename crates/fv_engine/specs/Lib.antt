@@ -5,3 +5,4 @@ pub mod Over
 pub mod Made
 pub mod Told
 pub mod Stored
+pub mod OneLane

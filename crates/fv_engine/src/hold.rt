@@ -8,22 +8,29 @@ ghost use Rattle.fv_engine.specs.Plans.{held_by};
 use fv_loopcode::{Store, run, still_code_is_free};
 use fv_plan::Plan;
 
-// No lanes: the code of held values neither loads nor appends.
+// One lane of one sample. The code of held values neither loads nor appends, so nobody looks at it.
 #[derive(Drop)]
-struct NoLanes;
+struct OneSample {
+    sample: i32,
+    is_written: bool,
+}
 
-impl Store for NoLanes {
-    ghost use Rattle.std.specs.Prelude.{[]};
+impl Store for OneSample {
+    ghost use Rattle.std.specs.Prelude.{[], ◌∷◌};
+    ghost use Rattle.fv_engine.specs.OneLane.{lane_with};
 
-    ghost lanes = { λ _. [] };
+    ghost lanes = { λ s. lane_with s.is_written s.sample ∷ [] };
 
     ghost rest = { λ _. tt };
 
     fn load(&self, _lane: u64, _index: u64, _back: u64) -> i32 {
-        0
+        self.sample
     }
 
-    fn append(&mut self, _lane: u64, _value: i32) {}
+    fn append(&mut self, _lane: u64, value: i32) {
+        self.sample = value;
+        self.is_written = true;
+    }
 }
 
 /// The held values that these controls give.
@@ -34,5 +41,9 @@ pub(crate) fn hold(plan: &Plan, controls: &[i32], held: &mut [i32])
     ensures { held.new ≡ held_by plan.now controls.now }
 {
     still_code_is_free();
-    run(plan.held(), controls, &[], 0, 0, 1, held, &mut NoLanes);
+    let mut store = OneSample {
+        sample: 0,
+        is_written: false,
+    };
+    run(plan.held(), controls, &[], 0, 0, 1, held, &mut store);
 }

@@ -1,7 +1,8 @@
-use Rattle.std.proofs.Common.{List, [], length, All, sym, subst}
+use Rattle.std.proofs.Common.{◌≡◌, ◌∙◌, arith, List, [], ◌∷◌, length, false, pos, All, sym, subst}
 use Rattle.fv_num.specs.Words.{argument}
 use Rattle.fv_loopcode.specs.declared.step.Step.{Step}
-use Rattle.fv_loopcode.specs.Code.{IsWithin, MayRun, frame_of}
+use Rattle.fv_loopcode.specs.Code.{IsWithin, MayRun, frame_of, registers_after}
+use Rattle.fv_engine.specs.OneLane.{lane_with}
 use Rattle.fv_engine.proofs.Names.{names_within}
 use Rattle.fv_engine.proofs.hold.hold.Goals as goal
 
@@ -12,5 +13,13 @@ run-requires-clause-within c =
 
 pub run-requires-clause-may : goal.run-requires-clause-may
 run-requires-clause-may c =
-    subst (λ (steps : List Step). MayRun steps (argument c.args.controls.now) (frame_of [] 0) 0 1 []) (sym c.held.ensures)
-    (c.still_code_is_free.ensures c.args.plan.now.held (argument c.args.controls.now) (frame_of [] 0) 0 1 [] [] c.requires.code.still).0
+    subst (λ (steps : List Step). MayRun steps (argument c.args.controls.now) (frame_of [] 0) 0 1 (lane_with false (pos 0) ∷ [])) (sym c.held.ensures)
+    (c.still_code_is_free.ensures c.args.plan.now.held (argument c.args.controls.now) (frame_of [] 0) 0 1 (lane_with false (pos 0) ∷ []) [] c.requires.code.still).0
+
+pub returns : goal.returns
+returns c =
+    let law = c.still_code_is_free.ensures c.args.plan.now.held (argument c.args.controls.now) (frame_of [] 0) 0 1 (lane_with false (pos 0) ∷ []) []
+    c.requires.code.still in
+    subst (λ (steps : List Step). c.run.new.regs ≡ registers_after steps (argument c.args.controls.now) (frame_of [] 0) 0 1 (lane_with false (pos 0) ∷ []))
+    c.held.ensures (c.run.ensures.regs (omega arith))
+    ∙ law.2
