@@ -5,3 +5,4 @@ mod player;
 mod script;
 
 pub use player::{play, play_script};
+pub use script::listen;
