@@ -77,9 +77,10 @@ to_change_le (c ∷ cs) f most =
 pub none_between : (cs : List Change) (f most u : ℕ) → u < to_change cs f most → NoneBetween f (f + u) cs
 none_between [] f most u l = tt
 none_between (c ∷ cs) f most u l =
-    let k = to_change_le cs f (if nat_lt f c.frame then min most (c.frame - f) else most) in
-    (λ h. let e = cond-true (nat_lt f c.frame) (min most (c.frame - f)) most (lt-ltb f c.frame h) in omega (arith, k, e, l, h),
-      none_between cs f (if nat_lt f c.frame then min most (c.frame - f) else most) u l)
+    let k = to_change_le cs f (if nat_lt f c.frame then min most (c.frame - f) else most) in (
+      λ h. let e = cond-true (nat_lt f c.frame) (min most (c.frame - f)) most (lt-ltb f c.frame h) in omega (arith, k, e, l, h),
+      none_between cs f (if nat_lt f c.frame then min most (c.frame - f) else most) u l,
+    )
 
 -- changes that have come at a frame have come at a later one
 pub come_later : (cs : List Change) (f g : ℕ) → f ≤ g → AllByRecursion (λ (c : Change). c.frame ≤ f) cs → AllByRecursion (λ (c : Change). c.frame ≤ g) cs

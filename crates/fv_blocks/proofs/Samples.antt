@@ -23,7 +23,7 @@ row_in t f w i l m = let k = row_end t 1 f w (omega (arith, l)) in omega (arith,
 rows_take : (w f : ℕ) (xs : List ℤ) → rows w f xs ≡ rows w f (take (f * w) xs)
 rows_take w f xs =
     table_same f (λ t. table w (λ i. argument xs (t * w + i))) (λ t. table w (λ i. argument (take (f * w) xs) (t * w + i)))
-      (λ t l. table_same w (λ i. argument xs (t * w + i)) (λ i. argument (take (f * w) xs) (t * w + i)) (λ i m. sym (get_or-take (f * w) xs (t * w + i) (pos 0) (row_in t f w i l m))))
+    (λ t l. table_same w (λ i. argument xs (t * w + i)) (λ i. argument (take (f * w) xs) (t * w + i)) (λ i m. sym (get_or-take (f * w) xs (t * w + i) (pos 0) (row_in t f w i l m))))
 
 -- rows depend on their cells alone
 rows_alike : (w f : ℕ) (xs ys : List ℤ) → take (f * w) xs ≡ take (f * w) ys → rows w f xs ≡ rows w f ys
@@ -35,23 +35,23 @@ rows_add w f n xs =
     let rest = take (n * w) (drop (f * w) xs) in
     table_add f n (λ t. table w (λ i. argument xs (t * w + i)))
     ∙ ap (λ z. rows w f xs ++ z) (table_same n (λ u. table w (λ i. argument xs ((f + u) * w + i))) (λ u. table w (λ i. argument rest (u * w + i)))
-        (λ u l. table_same w (λ i. argument xs ((f + u) * w + i)) (λ i. argument rest (u * w + i))
-          (λ i m. let e : (f + u) * w + i ≡ f * w + (u * w + i) = omega arith in
-            ap (argument xs) e ∙ sym (get_or-take (n * w) (drop (f * w) xs) (u * w + i) (pos 0) (row_in u n w i l m) ∙ get_or-drop (f * w) xs (u * w + i) (pos 0)))))
+    (λ u l. table_same w (λ i. argument xs ((f + u) * w + i)) (λ i. argument rest (u * w + i))
+    (λ i m. let e : (f + u) * w + i ≡ f * w + (u * w + i) = omega arith in
+    ap (argument xs) e ∙ sym (get_or-take (n * w) (drop (f * w) xs) (u * w + i) (pos 0) (row_in u n w i l m) ∙ get_or-drop (f * w) xs (u * w + i) (pos 0)))))
 
 -- what was played stays as frames follow
 played_stays : (g : Graph) → ValuesLookBack g → (X Y : List Frame) (c : ℕ → Stream) (f : ℕ) → length X ≡ f → played g X c 0 f ≡ played g (X ++ Y) c 0 f
 played_stays g look X Y c f e =
     table_same f (λ u. table (length g.outputs) (λ j. value g (slice_index_or g.outputs j 0) X c (0 + u))) (λ u. table (length g.outputs) (λ j. value g (slice_index_or g.outputs j 0) (X ++ Y) c (0 + u)))
-      (λ u l. table_same (length g.outputs) (λ j. value g (slice_index_or g.outputs j 0) X c (0 + u)) (λ j. value g (slice_index_or g.outputs j 0) (X ++ Y) c (0 + u))
-        (λ j m. look X (X ++ Y) c c f (λ i v k. ap (λ (r : Frame). get_or r i (pos 0)) (sym (get_or_append_left X Y [] v (omega (arith, k, e))))) (λ k v q. refl) (slice_index_or g.outputs j 0) (0 + u) (omega (arith, l))))
+    (λ u l. table_same (length g.outputs) (λ j. value g (slice_index_or g.outputs j 0) X c (0 + u)) (λ j. value g (slice_index_or g.outputs j 0) (X ++ Y) c (0 + u))
+    (λ j m. look X (X ++ Y) c c f (λ i v k. ap (λ (r : Frame). get_or r i (pos 0)) (sym (get_or_append_left X Y [] v (omega (arith, k, e))))) (λ k v q. refl) (slice_index_or g.outputs j 0) (0 + u) (omega (arith, l))))
 
 played_add : (g : Graph) (X : List Frame) (c : ℕ → Stream) (f n : ℕ) → played g X c 0 (f + n) ≡ played g X c 0 f ++ played g X c f n
 played_add g X c f n =
     table_add f n (λ u. table (length g.outputs) (λ j. value g (slice_index_or g.outputs j 0) X c (0 + u)))
     ∙ ap (λ z. played g X c 0 f ++ z) (table_same n (λ u. table (length g.outputs) (λ j. value g (slice_index_or g.outputs j 0) X c (0 + (f + u)))) (λ u. table (length g.outputs) (λ j. value g (slice_index_or g.outputs j 0) X c (f + u)))
-        (λ u l. table_same (length g.outputs) (λ j. value g (slice_index_or g.outputs j 0) X c (0 + (f + u))) (λ j. value g (slice_index_or g.outputs j 0) X c (f + u))
-          (λ j m. let e : 0 + (f + u) ≡ f + u = omega arith in ap (value g (slice_index_or g.outputs j 0) X c) e)))
+    (λ u l. table_same (length g.outputs) (λ j. value g (slice_index_or g.outputs j 0) X c (0 + (f + u))) (λ j. value g (slice_index_or g.outputs j 0) X c (f + u))
+    (λ j m. let e : 0 + (f + u) ≡ f + u = omega arith in ap (value g (slice_index_or g.outputs j 0) X c) e)))
 
 -- Up to frame f, the output is that of each graph for which the engine stood at the beginning, and it stands for all of it.
 abbrev pub PlayedSo : (e now : EngineView) (c : ℕ → Stream) (f : ℕ) (input output : List ℤ) → Type 0
@@ -65,7 +65,7 @@ goes : (now next : EngineView) (plan : PlanView) → now.plan ≡ plan → (n : 
     → (rows (length g.outputs) n output ≡ played g (X ++ rows now.channels n input) c (length X) n) × StandsFor next g s.names (X ++ rows now.channels n input) c
 goes now next plan e n input controls output h g =
     subst (λ (p : PlanView). (s : PlanStands g p) (X : List Frame) (c : ℕ → Stream) → StandsFor now g s.names X c → AreGiven controls c (length X) n
-      → (rows (length g.outputs) n output ≡ played g (X ++ rows now.channels n input) c (length X) n) × StandsFor next g s.names (X ++ rows now.channels n input) c) e (h g)
+    → (rows (length g.outputs) n output ≡ played g (X ++ rows now.channels n input) c (length X) n) × StandsFor next g s.names (X ++ rows now.channels n input) c) e (h g)
 
 pub played_more : (e now next : EngineView) (c : ℕ → Stream) (f n w : ℕ) (input controls old new : List ℤ) → ((g : Graph) → ValuesLookBack g) → SameParts e now → ((g : Graph) → PlanStands g e.plan → length g.outputs ≡ w)
     → GoesOn now next n (take (n * e.channels) (drop (f * e.channels) input)) controls (take (n * w) (drop (f * w) new)) → AreGiven controls c f n → take (f * w) new ≡ take (f * w) old
@@ -77,13 +77,14 @@ played_more e now next c f n w input controls old new look same width on given b
     let long : length X ≡ f = length_table f (λ t. table ch (λ i. argument input (t * ch + i))) in
     let wide = width g s in
     let r = goes now next e.plan (ap (λ (v : EngineView). v.plan) same) n part controls (take (n * w) (drop (f * w) new)) on g s X c (so g s st).0
-      (subst (λ t. AreGiven controls c t n) (sym long) given) in
+    (subst (λ t. AreGiven controls c t n) (sym long) given) in
     let chans : now.channels ≡ ch = ap (λ (v : EngineView). v.channels) same in
     let all : X ++ rows now.channels n part ≡ rows ch (f + n) input = ap (λ k. X ++ rows k n part) chans ∙ sym (rows_add ch f n input) in
     let first : rows w f new ≡ played g (rows ch (f + n) input) c 0 f =
-      rows_alike w f new old before ∙ ap (λ k. rows k f old) (sym wide) ∙ (so g s st).1 ∙ played_stays g (look g) X (rows now.channels n part) c f long ∙ ap (λ Y. played g Y c 0 f) all in
+    rows_alike w f new old before ∙ ap (λ k. rows k f old) (sym wide) ∙ (so g s st).1 ∙ played_stays g (look g) X (rows now.channels n part) c f long ∙ ap (λ Y. played g Y c 0 f) all in
     let last : rows w n (take (n * w) (drop (f * w) new)) ≡ played g (rows ch (f + n) input) c f n =
-      ap (λ k. rows k n (take (n * w) (drop (f * w) new))) (sym wide) ∙ r.0 ∙ ap (λ Y. played g Y c (length X) n) all ∙ ap (λ t. played g (rows ch (f + n) input) c t n) long in
-    (subst (λ Y. StandsFor next g s.names Y c) all r.1,
+    ap (λ k. rows k n (take (n * w) (drop (f * w) new))) (sym wide) ∙ r.0 ∙ ap (λ Y. played g Y c (length X) n) all ∙ ap (λ t. played g (rows ch (f + n) input) c t n) long in (
+      subst (λ Y. StandsFor next g s.names Y c) all r.1,
       ap (λ k. rows k (f + n) new) wide ∙ rows_add w f n new ∙ ap (λ z. z ++ rows w n (take (n * w) (drop (f * w) new))) first ∙ ap (λ z. played g (rows ch (f + n) input) c 0 f ++ z) last
-      ∙ sym (played_add g (rows ch (f + n) input) c f n))
+          ∙ sym (played_add g (rows ch (f + n) input) c f n),
+    )

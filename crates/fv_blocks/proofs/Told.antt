@@ -27,9 +27,13 @@ pub ran_more : (e now : EngineView) (ns : List ℕ) (n : ℕ) (old mid new : Opt
     → RanBlocks e.plan.loops e.plan.reads e.vector (ns ++ n ∷ []) old new
 ran_more e now ns n old mid None same h k = tt
 ran_more e now ns n old mid (Some t) same h k =
-    let b = subst (λ (o : Option Told). RanBlocks e.plan.loops e.plan.reads e.vector ns old o) k.1 h in
-    (b.0, b.1, b.2 ++ k.2 ∷ [], entries_more e.plan.loops e.plan.reads e.vector ns b.2 n k.2 b.3 (k.3.tasks ∙ ap (λ (v : EngineView). tasks_told v n) same) k.3.ordered,
-      k.4 ∙ ap (λ xs. xs ++ k.2 ∷ []) b.4 ∙ append_assoc b.0.entries b.2 (k.2 ∷ []))
+    let b = subst (λ (o : Option Told). RanBlocks e.plan.loops e.plan.reads e.vector ns old o) k.1 h in (
+      b.0,
+      b.1,
+      b.2 ++ k.2 ∷ [],
+      entries_more e.plan.loops e.plan.reads e.vector ns b.2 n k.2 b.3 (k.3.tasks ∙ ap (λ (v : EngineView). tasks_told v n) same) k.3.ordered,
+      k.4 ∙ ap (λ xs. xs ++ k.2 ∷ []) b.4 ∙ append_assoc b.0.entries b.2 (k.2 ∷ []),
+    )
 
 pub runs_more : (loops vector : ℕ) (ns : List ℕ) (n : ℕ) → loop_runs_of loops vector (ns ++ n ∷ []) ≡ loop_runs_of loops vector ns + loops * vectors_of n vector
 runs_more loops vector ns n =

@@ -25,7 +25,7 @@ playing-preserved g c =
     let here : AreNext cs f r = record { within = c.listen-next.ensures.within; come = come; behind = c.listen-next.ensures.behind c.requires.order; order = c.requires.order } in
     let count : length values ≡ length start = c.listen-next.auto.values ∙ i.count in
     let gave : AreGiven values (control_streams cs start) f n =
-      given cs start values f n r c.args.sizes.now.block total c.values_held.ensures c.controls_hold.ensures here changed count cut in
+    given cs start values f n r c.args.sizes.now.block total c.values_held.ensures c.controls_hold.ensures here changed count cut in
     let on = subst (λ (ch : ℕ). GoesOn now next n (take (n * ch) (drop (f * ch) input)) values (take (n * w) (drop (f * w) c.play_block-tasks.new.output))) c.requires.channels c.play_block-tasks.ensures.goes_on in
     let ns = i.ran.lengths in
     let tasks : c.from.result ≡ e.plan.loops * vectors_of n e.vector = c.from.ensures ∙ c.play_block-tasks.ensures.tasks ∙ ap (λ (v : EngineView). v.plan.loops * vectors_of n v.vector) i.same in
@@ -38,7 +38,7 @@ playing-preserved g c =
       count = count;
       cells = c.play_block-tasks.auto.output ∙ i.cells;
       so = played_more e now next (control_streams cs start) f n w input values c.playing.output c.play_block-tasks.new.output c.values_look_back.ensures i.same (λ h s. sym s.outputs.0 ∙ sym c.requires.outputs) on gave
-        c.play_block-tasks.ensures.before i.so;
+          c.play_block-tasks.ensures.before i.so;
       ran = record {
         lengths = ns ++ n ∷ [];
         cut = subst (λ (m : ℕ). AreBlocks e.block total cs 0 (f + m) (ns ++ m ∷ [])) (sym cut_e) (one_more e.block total cs 0 f ns i.ran.cut c.playing-test.true);
