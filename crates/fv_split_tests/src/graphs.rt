@@ -1,0 +1,224 @@
+// Small graphs, with their loops.
+
+ghost use Rattle.fv_signal.specs.Value.{IsGraph};
+
+use fv_analysis::{largest_delays, rates};
+use fv_num::Op;
+use fv_outside::Reads;
+use fv_plan::{LaneInfo, Plan};
+use fv_share::Builder;
+use fv_signal::{Graph, Signal};
+use fv_split::split;
+use std::alloc::{AllocError, Global};
+use std::process::Abort;
+use std::test::Fail;
+
+// The plan of a graph.
+fn plan_of(alloc: Global, graph: &Graph) -> Result<Plan, AllocError>
+    requires graph { IsGraph graph.now }
+{
+    let rates = rates(alloc, graph)?;
+    let histories = largest_delays(alloc, graph)?;
+    split(alloc, graph, &rates, &histories)
+}
+
+// A lane of a loop.
+fn lane(owner: u64, history: u64) -> LaneInfo {
+    LaneInfo { owner, history }
+}
+
+// The codes have these numbers of steps.
+fn assert_steps(rt: &impl Abort, plan: &Plan, wanted: &[u64]) {
+    assert_eq!(rt; plan.loops(), wanted.len() as u64);
+    for j in 0..plan.loops() {
+        assert_eq!(rt; plan.code(j).len(), wanted[j as usize], "steps of loop {j}");
+    }
+}
+
+// A signal less its `mem`: the input and the difference, which reads the input's lane.
+#[test]
+fn a_signal_less_its_mem(rt: HostRuntime) -> Result<(), Fail> {
+    let mut builder = Builder::new(rt.alloc());
+    let input = builder.node(Signal::Input(0))?;
+    let one = builder.node(Signal::Const(1))?;
+    let last = builder.node(Signal::Delay {
+        x: input,
+        d: one,
+        max: 1,
+    })?;
+    let args = [input, last, input, input];
+    let difference = builder.node(Signal::Point { op: Op::Sub, args })?;
+    let graph = builder.finish(&[difference])?;
+    let plan = plan_of(rt.alloc(), &graph)?;
+    let read = Reads {
+        reader: 1,
+        source: 0,
+    };
+    assert_eq!(rt; plan.reads(), [read].as_slice());
+    assert_eq!(rt; plan.lanes(), [lane(0, 1), lane(1, 0)].as_slice());
+    assert_eq!(rt; plan.outputs(), [1].as_slice());
+    // Input, append; held, load of the delay, number, load of the input, subtraction, append.
+    assert_steps(&rt, &plan, &[2, 6]);
+    Ok(())
+}
+
+// `_ + 1, _ * 2`
+#[test]
+fn two_loops_that_read_nothing(rt: HostRuntime) -> Result<(), Fail> {
+    let mut builder = Builder::new(rt.alloc());
+    let first = builder.node(Signal::Input(0))?;
+    let one = builder.node(Signal::Const(1))?;
+    let args = [first, one, first, first];
+    let sum = builder.node(Signal::Point { op: Op::Add, args })?;
+    let second = builder.node(Signal::Input(1))?;
+    let two = builder.node(Signal::Const(2))?;
+    let args = [second, two, first, first];
+    let product = builder.node(Signal::Point { op: Op::Mul, args })?;
+    let graph = builder.finish(&[sum, product])?;
+    let plan = plan_of(rt.alloc(), &graph)?;
+    assert!(rt; plan.reads().is_empty());
+    assert_eq!(rt; plan.outputs(), [0, 1].as_slice());
+    // The input, the held number, the operation and its append.
+    assert_steps(&rt, &plan, &[4, 4]);
+    assert_eq!(rt; plan.held().len(), 2);
+    Ok(())
+}
+
+// `_ : mem : mem`
+#[test]
+fn three_loops_in_a_row(rt: HostRuntime) -> Result<(), Fail> {
+    let mut builder = Builder::new(rt.alloc());
+    let input = builder.node(Signal::Input(0))?;
+    let one = builder.node(Signal::Const(1))?;
+    let last = builder.node(Signal::Delay {
+        x: input,
+        d: one,
+        max: 1,
+    })?;
+    let older = builder.node(Signal::Delay {
+        x: last,
+        d: one,
+        max: 1,
+    })?;
+    let graph = builder.finish(&[older])?;
+    let plan = plan_of(rt.alloc(), &graph)?;
+    assert_eq!(rt;
+        plan.lanes(),
+        [lane(0, 1), lane(1, 1), lane(2, 0)].as_slice()
+    );
+    let reads = [
+        Reads {
+            reader: 1,
+            source: 0,
+        },
+        Reads {
+            reader: 2,
+            source: 1,
+        },
+    ];
+    assert_eq!(rt; plan.reads(), reads.as_slice());
+    assert_steps(&rt, &plan, &[2, 3, 3]);
+    Ok(())
+}
+
+// `5 : mem`: the number is held, and its lane is read by the delay alone.
+#[test]
+fn a_number_one_sample_late(rt: HostRuntime) -> Result<(), Fail> {
+    let mut builder = Builder::new(rt.alloc());
+    let five = builder.node(Signal::Const(5))?;
+    let one = builder.node(Signal::Const(1))?;
+    let last = builder.node(Signal::Delay {
+        x: five,
+        d: one,
+        max: 1,
+    })?;
+    let graph = builder.finish(&[last])?;
+    let plan = plan_of(rt.alloc(), &graph)?;
+    assert_eq!(rt; plan.lanes(), [lane(0, 1), lane(1, 0)].as_slice());
+    assert_steps(&rt, &plan, &[2, 3]);
+    Ok(())
+}
+
+// `7, 7 + _`: the number has a lane, and the sum reads it as a held value.
+#[test]
+fn a_constant_output(rt: HostRuntime) -> Result<(), Fail> {
+    let mut builder = Builder::new(rt.alloc());
+    let seven = builder.node(Signal::Const(7))?;
+    let input = builder.node(Signal::Input(0))?;
+    let args = [seven, input, input, input];
+    let sum = builder.node(Signal::Point { op: Op::Add, args })?;
+    let graph = builder.finish(&[seven, sum])?;
+    let plan = plan_of(rt.alloc(), &graph)?;
+    assert!(rt; plan.reads().is_empty());
+    assert_steps(&rt, &plan, &[2, 4]);
+    Ok(())
+}
+
+// A delay of at most 0 is its operand.
+#[test]
+fn a_delay_of_nothing(rt: HostRuntime) -> Result<(), Fail> {
+    let mut builder = Builder::new(rt.alloc());
+    let input = builder.node(Signal::Input(0))?;
+    let zero = builder.node(Signal::Const(0))?;
+    let same = builder.node(Signal::Delay {
+        x: input,
+        d: zero,
+        max: 0,
+    })?;
+    let graph = builder.finish(&[same])?;
+    let plan = plan_of(rt.alloc(), &graph)?;
+    assert_eq!(rt; plan.lanes(), [lane(0, 0)].as_slice());
+    assert_steps(&rt, &plan, &[3]);
+    Ok(())
+}
+
+// Two groups, each of which reads the other's member one sample ago, are one loop of two lanes.
+#[test]
+fn nested_feedback(rt: HostRuntime) -> Result<(), Fail> {
+    let mut builder = Builder::new(rt.alloc());
+    let input = builder.node(Signal::Input(0))?;
+    let first = builder.group()?;
+    let second = builder.group()?;
+    let one = builder.node(Signal::Back { group: first, i: 0 })?;
+    let two = builder.node(Signal::Back {
+        group: second,
+        i: 0,
+    })?;
+    let args = [input, two, input, input];
+    let sum = builder.node(Signal::Point { op: Op::Add, args })?;
+    let args = [input, one, input, input];
+    let product = builder.node(Signal::Point { op: Op::Mul, args })?;
+    builder.close_group(first, &[sum])?;
+    builder.close_group(second, &[product])?;
+    let output = builder.node(Signal::Member { group: first, i: 0 })?;
+    let graph = builder.finish(&[output])?;
+    let plan = plan_of(rt.alloc(), &graph)?;
+    assert_eq!(rt; plan.loops(), 1);
+    assert_eq!(rt; plan.lanes(), [lane(0, 1), lane(0, 1)].as_slice());
+    assert!(rt; plan.reads().is_empty());
+    assert_eq!(rt; plan.outputs(), [0].as_slice());
+    Ok(())
+}
+
+// A group whose member is a member of another group: the lane is that of the inner definition.
+#[test]
+fn a_member_of_a_member(rt: HostRuntime) -> Result<(), Fail> {
+    let mut builder = Builder::new(rt.alloc());
+    let input = builder.node(Signal::Input(0))?;
+    let inner = builder.group()?;
+    let outer = builder.group()?;
+    let last = builder.node(Signal::Back { group: outer, i: 0 })?;
+    let args = [input, last, input, input];
+    let sum = builder.node(Signal::Point { op: Op::Add, args })?;
+    builder.close_group(inner, &[sum])?;
+    let member = builder.node(Signal::Member { group: inner, i: 0 })?;
+    builder.close_group(outer, &[member])?;
+    let output = builder.node(Signal::Member { group: outer, i: 0 })?;
+    let graph = builder.finish(&[output])?;
+    let plan = plan_of(rt.alloc(), &graph)?;
+    assert_eq!(rt; plan.lanes(), [lane(0, 1)].as_slice());
+    assert_eq!(rt; plan.outputs(), [0].as_slice());
+    // Input, number, load, addition, append.
+    assert_steps(&rt, &plan, &[5]);
+    Ok(())
+}

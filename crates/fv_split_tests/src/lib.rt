@@ -1,0 +1,5 @@
+// Tests of how graphs are split into loops.
+#![tactic(auto)]
+
+#[cfg(test)]
+mod graphs;
