@@ -39,7 +39,7 @@ fn plays_other_files(rt: HostRuntime) -> Result<(), Fail> {
     let no_samples = spliced(
         rt.alloc(),
         &[82, 73, 70, 70, 36],
-        &empty[5..40],
+        &THREE[5..40],
         &[0, 0, 0, 0],
     )?;
     let louder = spliced(rt.alloc(), &BYTES[..44], &[1, 129, 255], &[0])?;

@@ -10,7 +10,10 @@ use std::thread::Threads;
 
 // A file of so many channels of 16 bits at 44100 frames a second.
 fn file_of(alloc: Global, channels: u32, samples: &[i32]) -> Result<Vec<u8>, AllocError> {
-    let size = (samples.len() as u32).wrapping_mul(2);
+    let mut size = 0u32;
+    for _sample in samples {
+        size = size.wrapping_add(2);
+    }
     let mut file = Vec::from_slice(alloc, b"RIFF")?;
     push_four(&mut file, size.wrapping_add(36))?;
     file.extend_from_slice(b"WAVEfmt ")?;
