@@ -72,7 +72,8 @@ impl Graph {
 
     /// The program's outputs, in order.
     pub fn outputs(&self) -> &[SignalId]
-        ensures { result.now ≡ self.now.outputs }
+        ensures list { result.now ≡ self.now.outputs }
+        ensures graph { IsGraph self.now }
     {
         &self.outputs
     }

@@ -2,7 +2,6 @@
 
 ghost use Rattle.std.specs.Prelude.{◌≡◌, length, IfOk};
 ghost use Rattle.fv_num.specs.Frames.{table};
-ghost use Rattle.fv_signal.specs.Value.{IsGraph};
 ghost use Rattle.fv_signal.specs.Rates.{rates as rates_of};
 ghost use Rattle.fv_analysis.specs.Reaching.{history_of};
 ghost use Rattle.fv_plan.specs.Plans.{PlanStands, PlanReads, PlanNames};
@@ -25,7 +24,6 @@ pub fn split(
     rates: &Rates,
     histories: &Histories,
 ) -> Result<Plan, AllocError>
-    requires graph { IsGraph graph.now }
     requires rates { rates.now ≡ rates_of graph.now.signals }
     requires histories { histories.now ≡ table (length graph.now.signals) (history_of graph.now) }
     // The plan stands for the graph: lanes, loops and their order, codes, held values, outputs.
@@ -35,12 +33,13 @@ pub fn split(
     // The codes name only what is there, and load nothing further back than a history.
     ensures names { IfOk result (λ plan. PlanNames graph.now plan) }
 {
+    let named = graph.outputs();
     let stands = stands(alloc, graph)?;
     let places = place(alloc, graph, &stands, rates)?;
     let values = held_code(alloc, graph, rates)?;
     let bases = bases(alloc, graph, &stands, rates, &places.lanes, &values.numbers)?;
     let kinds = kinds(alloc, &bases, &places.lanes)?;
-    let outputs = output_lanes(alloc, graph.outputs(), &stands, &places.lanes)?;
+    let outputs = output_lanes(alloc, named, &stands, &places.lanes)?;
     let lanes = infos(alloc, &places.signals, &places.owners, histories)?;
     let loops = places.loops;
     let tables = Tables {

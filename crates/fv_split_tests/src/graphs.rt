@@ -1,7 +1,5 @@
 // Small graphs, with their loops.
 
-ghost use Rattle.fv_signal.specs.Value.{IsGraph};
-
 use fv_analysis::{largest_delays, rates};
 use fv_num::Op;
 use fv_outside::Reads;
@@ -14,9 +12,7 @@ use std::process::Abort;
 use std::test::Fail;
 
 // The plan of a graph.
-fn plan_of(alloc: Global, graph: &Graph) -> Result<Plan, AllocError>
-    requires graph { IsGraph graph.now }
-{
+fn plan_of(alloc: Global, graph: &Graph) -> Result<Plan, AllocError> {
     let rates = rates(alloc, graph)?;
     let histories = largest_delays(alloc, graph)?;
     split(alloc, graph, &rates, &histories)

@@ -23,7 +23,7 @@ mark_named-requires-clause-signals c =
     let g = c.args.graph.now in
     let stands = c.args.stands.now in
     let long = ap length c.requires.stands ∙ stands_long g in
-    subst (All (λ x. x < length stands)) (sym c.outputs.ensures)
+    subst (All (λ x. x < length stands)) (sym c.outputs.ensures.list)
     (All-from_get_or (λ x. x < length stands) g.outputs 0 (λ i m. let o = c.requires.graph.outputs i m in omega (arith, o, long)))
 
 pub mark_delays-requires-clause-stands : goal.mark_delays-requires-clause-stands
@@ -46,4 +46,4 @@ returns c =
     c.requires.stands c.requires.rates c.requires.readers (omega (arith, c.in_ok-marks.marks.ok.0, c.in_ok-marks.ensures.len, c.len.ensures))
     (λ s. ap (λ bs. bit_at bs s) blank ∙ none_marked c.len.result s)
     (subst (λ xs. Marks begun named (ByOne (Named stands xs)
-    (length xs))) c.outputs.ensures c.mark_named.ensures) c.mark_delays.ensures c.mark_groups.ensures c.mark_shared.ensures
+    (length xs))) c.outputs.ensures.list c.mark_named.ensures) c.mark_delays.ensures c.mark_groups.ensures c.mark_shared.ensures
