@@ -25,7 +25,7 @@ bases-requires-clause-rates c = ap length c.requires.rates ∙ rates_long c.args
 
 pub output_lanes-requires-clause-outputs : goal.output_lanes-requires-clause-outputs
 output_lanes-requires-clause-outputs c =
-    outputs_there c.args.graph.now c.outputs.ensures.graph c.outputs.result.now c.deref-7.result.now c.outputs.ensures.list (c.deref-7.ensures.value ∙ c.in_ok-stands.ensures.stands)
+    outputs_there c.args.graph.now c.outputs-named.ensures.graph c.outputs-named.result.now c.deref-7.result.now c.outputs-named.ensures.list (c.deref-7.ensures.value ∙ c.in_ok-stands.ensures.stands)
 
 pub infos-requires-clause-signals : goal.infos-requires-clause-signals
 infos-requires-clause-signals c =
@@ -46,7 +46,7 @@ codes-requires c =
     let are_bases = same_bases g c.deref-2.result.now (stands_of g) c.args.rates.now (rates g.signals) c.deref-3.result.now p.lanes.items c.deref-4.result.now numbers (length g.signals)
     bases.items (c.deref-2.ensures.value ∙ stood) c.requires.rates c.deref-3.ensures.value c.deref-4.ensures.value c.in_ok-bases.ensures in
     let passes : Passes g p stands bases kinds numbers steps = record {
-      graph = c.outputs.ensures.graph;
+      graph = c.outputs-named.ensures.graph;
       placed = c.in_ok-places.ensures;
       is_stands = stood;
       held = c.in_ok-values.ensures.1;
@@ -69,7 +69,7 @@ reads-requires-clause-lanes c =
     let are_bases = same_bases g c.deref-2.result.now (stands_of g) c.args.rates.now (rates g.signals) c.deref-3.result.now p.lanes.items c.deref-4.result.now numbers (length g.signals)
     bases.items (c.deref-2.ensures.value ∙ stood) c.requires.rates c.deref-3.ensures.value c.deref-4.ensures.value c.in_ok-bases.ensures in
     let passes : Passes g p stands bases kinds numbers steps = record {
-      graph = c.outputs.ensures.graph;
+      graph = c.outputs-named.ensures.graph;
       placed = c.in_ok-places.ensures;
       is_stands = stood;
       held = c.in_ok-values.ensures.1;
@@ -94,7 +94,7 @@ reads-requires-clause-owners c =
     let are_bases = same_bases g c.deref-2.result.now (stands_of g) c.args.rates.now (rates g.signals) c.deref-3.result.now p.lanes.items c.deref-4.result.now numbers (length g.signals)
     bases.items (c.deref-2.ensures.value ∙ stood) c.requires.rates c.deref-3.ensures.value c.deref-4.ensures.value c.in_ok-bases.ensures in
     let passes : Passes g p stands bases kinds numbers steps = record {
-      graph = c.outputs.ensures.graph;
+      graph = c.outputs-named.ensures.graph;
       placed = c.in_ok-places.ensures;
       is_stands = stood;
       held = c.in_ok-values.ensures.1;
@@ -119,7 +119,7 @@ all_code-requires c =
     let are_bases = same_bases g c.deref-2.result.now (stands_of g) c.args.rates.now (rates g.signals) c.deref-3.result.now p.lanes.items c.deref-4.result.now numbers (length g.signals)
     bases.items (c.deref-2.ensures.value ∙ stood) c.requires.rates c.deref-3.ensures.value c.deref-4.ensures.value c.in_ok-bases.ensures in
     let passes : Passes g p stands bases kinds numbers steps = record {
-      graph = c.outputs.ensures.graph;
+      graph = c.outputs-named.ensures.graph;
       placed = c.in_ok-places.ensures;
       is_stands = stood;
       held = c.in_ok-values.ensures.1;
@@ -146,7 +146,7 @@ new-requires c =
     let are_bases = same_bases g c.deref-2.result.now (stands_of g) c.args.rates.now (rates g.signals) c.deref-3.result.now p.lanes.items c.deref-4.result.now numbers (length g.signals)
     bases.items (c.deref-2.ensures.value ∙ stood) c.requires.rates c.deref-3.ensures.value c.deref-4.ensures.value c.in_ok-bases.ensures in
     let passes : Passes g p stands bases kinds numbers steps = record {
-      graph = c.outputs.ensures.graph;
+      graph = c.outputs-named.ensures.graph;
       placed = c.in_ok-places.ensures;
       is_stands = stood;
       held = c.in_ok-values.ensures.1;
@@ -165,7 +165,7 @@ new-requires c =
     let coded = subst (λ xs. AreCoded xs (length xs) all) c.deref-13.ensures.value c.in_ok-codes.ensures in
     let is_told = c.in_ok-told.ensures ∙ ap (λ os. (told_all os c.deref-11.result.now (length c.deref-11.result.now)).reads) c.deref-12.ensures.value
     ∙ ap (λ xs. (told_all p.owners.items xs (length xs)).reads) c.deref-11.ensures.value in
-    let are_outputs = c.in_ok-outputs.ensures ∙ ap (λ os. map (lane_of c.deref-7.result.now c.deref-8.result.now) os) c.outputs.ensures.list
+    let are_outputs = c.in_ok-outputs.ensures ∙ ap (λ os. map (lane_of c.deref-7.result.now c.deref-8.result.now) os) c.outputs-named.ensures.list
     ∙ ap (λ ss. map (lane_of ss c.deref-8.result.now) g.outputs) (c.deref-7.ensures.value ∙ stood) ∙ ap (λ ls. map (lane_of (stands_of g) ls) g.outputs) c.deref-8.ensures.value in
     let held = c.in_ok-held.ensures ∙ c.deref-14.ensures.value in
     let plan : IsPlanOf g (plan_with p.loops infos all told outputs c.in_ok-held.held) =
@@ -186,7 +186,7 @@ returns-clause-stands c =
     let are_bases = same_bases g c.deref-2.result.now (stands_of g) c.args.rates.now (rates g.signals) c.deref-3.result.now p.lanes.items c.deref-4.result.now numbers (length g.signals)
     bases.items (c.deref-2.ensures.value ∙ stood) c.requires.rates c.deref-3.ensures.value c.deref-4.ensures.value c.in_ok-bases.ensures in
     let passes : Passes g p stands bases kinds numbers steps = record {
-      graph = c.outputs.ensures.graph;
+      graph = c.outputs-named.ensures.graph;
       placed = c.in_ok-places.ensures;
       is_stands = stood;
       held = c.in_ok-values.ensures.1;
@@ -205,7 +205,7 @@ returns-clause-stands c =
     let coded = subst (λ xs. AreCoded xs (length xs) all) c.deref-13.ensures.value c.in_ok-codes.ensures in
     let is_told = c.in_ok-told.ensures ∙ ap (λ os. (told_all os c.deref-11.result.now (length c.deref-11.result.now)).reads) c.deref-12.ensures.value
     ∙ ap (λ xs. (told_all p.owners.items xs (length xs)).reads) c.deref-11.ensures.value in
-    let are_outputs = c.in_ok-outputs.ensures ∙ ap (λ os. map (lane_of c.deref-7.result.now c.deref-8.result.now) os) c.outputs.ensures.list
+    let are_outputs = c.in_ok-outputs.ensures ∙ ap (λ os. map (lane_of c.deref-7.result.now c.deref-8.result.now) os) c.outputs-named.ensures.list
     ∙ ap (λ ss. map (lane_of ss c.deref-8.result.now) g.outputs) (c.deref-7.ensures.value ∙ stood) ∙ ap (λ ls. map (lane_of (stands_of g) ls) g.outputs) c.deref-8.ensures.value in
     let held = c.in_ok-held.ensures ∙ c.deref-14.ensures.value in
     let plan : IsPlanOf g (plan_with p.loops infos all told outputs c.in_ok-held.held) =
@@ -226,7 +226,7 @@ returns-clause-names c =
     let are_bases = same_bases g c.deref-2.result.now (stands_of g) c.args.rates.now (rates g.signals) c.deref-3.result.now p.lanes.items c.deref-4.result.now numbers (length g.signals)
     bases.items (c.deref-2.ensures.value ∙ stood) c.requires.rates c.deref-3.ensures.value c.deref-4.ensures.value c.in_ok-bases.ensures in
     let passes : Passes g p stands bases kinds numbers steps = record {
-      graph = c.outputs.ensures.graph;
+      graph = c.outputs-named.ensures.graph;
       placed = c.in_ok-places.ensures;
       is_stands = stood;
       held = c.in_ok-values.ensures.1;
@@ -245,7 +245,7 @@ returns-clause-names c =
     let coded = subst (λ xs. AreCoded xs (length xs) all) c.deref-13.ensures.value c.in_ok-codes.ensures in
     let is_told = c.in_ok-told.ensures ∙ ap (λ os. (told_all os c.deref-11.result.now (length c.deref-11.result.now)).reads) c.deref-12.ensures.value
     ∙ ap (λ xs. (told_all p.owners.items xs (length xs)).reads) c.deref-11.ensures.value in
-    let are_outputs = c.in_ok-outputs.ensures ∙ ap (λ os. map (lane_of c.deref-7.result.now c.deref-8.result.now) os) c.outputs.ensures.list
+    let are_outputs = c.in_ok-outputs.ensures ∙ ap (λ os. map (lane_of c.deref-7.result.now c.deref-8.result.now) os) c.outputs-named.ensures.list
     ∙ ap (λ ss. map (lane_of ss c.deref-8.result.now) g.outputs) (c.deref-7.ensures.value ∙ stood) ∙ ap (λ ls. map (lane_of (stands_of g) ls) g.outputs) c.deref-8.ensures.value in
     let held = c.in_ok-held.ensures ∙ c.deref-14.ensures.value in
     let plan : IsPlanOf g (plan_with p.loops infos all told outputs c.in_ok-held.held) =
