@@ -1,19 +1,17 @@
 -- An arrival keeps the rule.
-use Rattle.std.proofs.Common.{◌≡◌, ◌≢◌, ℕ, zero, suc, ◌+◌, ◌-◌, ◌%◌, ◌^◌, ◌<◌, ◌≤◌, Bool, true, false, ◌⊎◌, ◌&&◌, ◌||◌, inl, inr, ⊎_elim, List, [], ◌∷◌, ◌++◌, length, set, slice_index, refl, sym, ap, ◌∙◌, subst, arith, Option, Some, None, ◌==◌, ltb, true≢false, length-set, get_or-set_same}
-use mathlib.Core.Option.{some, some-ne-none, some-injective}
+use Rattle.std.proofs.Common.{◌≡◌, ◌≢◌, ℕ, ◌+◌, ◌-◌, ◌%◌, ◌^◌, ◌<◌, ◌≤◌, Bool, true, ◌⊎◌, ◌||◌, inl, inr, ⊎_elim, [], ◌∷◌, ◌++◌, length, set, slice_index, refl, sym, ap, ◌∙◌, subst, arith, Option, Some, ◌==◌, ltb, length-set, get_or-set_same}
+use mathlib.Core.Option.{some, some-injective}
 use mathlib.Core.Logic.{dite}
 use native.Mathlib.Decide.{ℕ_discrete}
 use lib.ListN.{get_elem?}
-use Rattle.atomic_table.specs.Table.{State, Me, Step, step, gives, Allows, rest}
+use Rattle.atomic_table.specs.Table.{State}
 use Rattle.atomic_table.proofs.Lists.{at_set, set_here, set_else}
 use Rattle.fv_outside.specs.Tasks.{bit, total, times}
-use Rattle.fv_graph.specs.Net.{Net, IsNet}
-use Rattle.fv_graph.proofs.Counts.{bit_same, bit_swap, bit_apart, bit_one, bit_le, total_append, total_add, get_set, spare}
-use Rattle.fv_graph.proofs.Counts.{bit_left, bit_right}
+use Rattle.fv_graph.proofs.Counts.{bit_same, bit_swap, bit_apart, bit_le, total_append, total_add, get_set, spare}
+use Rattle.fv_graph.proofs.Counts.{bit_left}
 use Rattle.fv_graph.specs.Wires.{Wires, IsWires}
 use Rattle.fv_graph.specs.Graph.{Graph}
-use Rattle.fv_rule.specs.declared.Deed.{Deed}
-use Rattle.fv_rule.specs.declared.Deed.TheVariants.{Stamped, Arrived, Saw, Claimed}
+use Rattle.fv_rule.specs.declared.Deed.TheVariants.{Arrived}
 use Rattle.fv_rule.specs.declared.About.{About}
 use Rattle.fv_rule.specs.declared.View.{View}
 use Rattle.fv_rule.specs.Rule.{count_word, claim_word, wins, loses, sees, arrives, stamps, starts, finishes, done_by, all, noted, IsSpent, IsOwn, Fits, IsKept}

@@ -1,18 +1,16 @@
 -- An arrival keeps the whole rule, and is the lean core's Arrive.
-use Rattle.std.proofs.Common.{◌≡◌, ◌≢◌, ℕ, zero, suc, ◌+◌, ◌-◌, ◌<◌, ◌≤◌, Bool, true, false, cond, ◌⊎◌, ◌&&◌, ⊎_elim, List, [], ◌∷◌, ◌++◌, length, get_or, set, slice_index, refl, sym, ap, ◌∙◌, subst, arith, Option, Some, None, length-set, ltb, lt-ltb, ◌==◌, not, ne_eqb, eq-eqb}
+use Rattle.std.proofs.Common.{◌≡◌, ◌≢◌, ℕ, ◌+◌, ◌-◌, ◌<◌, Bool, true, false, ◌&&◌, ⊎_elim, List, [], ◌∷◌, length, set, slice_index, refl, sym, ap, ◌∙◌, subst, arith, length-set, ltb, lt-ltb, ◌==◌, not, ne_eqb}
 use mathlib.Core.Option.{some, some-injective}
 use mathlib.Core.Logic.{dite}
 use native.Mathlib.Decide.{ℕ_discrete}
 use lib.ListN.{get_elem?}
 use Rattle.atomic_table.specs.Table.{State}
 use Rattle.atomic_table.proofs.Lists.{at_set, set_here, set_else}
-use Rattle.fv_outside.specs.Tasks.{bit, total, times}
+use Rattle.fv_outside.specs.Tasks.{bit, times}
 use Rattle.fv_core.specs.Ends.{without}
 use Rattle.fv_graph.specs.Net.{Net, IsNet}
-use Rattle.fv_graph.specs.Graph.{Graph}
-use Rattle.fv_core.specs.Core.{Now, numbers, is_run, run_of, owes_of, is_done, count_of, opening}
-use Rattle.fv_core.specs.Lean.{is_lean_legal, lean_after, lean_replayed}
-use Rattle.fv_core.specs.declared.event.Event.{Event}
+use Rattle.fv_core.specs.Core.{Now, owes_of, count_of}
+use Rattle.fv_core.specs.Lean.{is_lean_legal, lean_after}
 use Rattle.fv_core.specs.declared.event.Event.TheVariants.{Arrive}
 use Rattle.fv_graph.proofs.Counts.{bit_same, bit_apart, total_append, get_set}
 use Rattle.fv_core.proofs.EndsLemmas.{times_without}
@@ -20,11 +18,10 @@ use Rattle.fv_graph.proofs.Counts.{bit_left}
 use Rattle.fv_rule.specs.declared.Deed.{Deed}
 use Rattle.fv_rule.specs.declared.Deed.TheVariants.{Arrived}
 use Rattle.fv_rule.specs.declared.View.{View}
-use Rattle.fv_rule.specs.Rule.{count_word, wins, arrives, starts, finishes, done_by, all, noted}
-use Rattle.fv_rule.specs.Shown.{worker_of, ShowsSeat, Shows, IsIdle, Reached}
-use Rattle.fv_rule.proofs.Claim.{all_noted, all_at}
+use Rattle.fv_rule.specs.Rule.{count_word, wins, arrives, finishes, done_by, all, noted}
+use Rattle.fv_rule.specs.Shown.{worker_of, ShowsSeat, Shows}
+use Rattle.fv_rule.proofs.Claim.{all_noted}
 use Rattle.fv_rule.proofs.Taking.{at_below}
-use Rattle.fv_rule.proofs.Shows.{lean_more}
 
 both_of : (a b : Bool) → a ≡ true → b ≡ true → (a && b) ≡ true
 both_of true b p q = q

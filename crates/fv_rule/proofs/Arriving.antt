@@ -1,22 +1,19 @@
 -- An arrival keeps the whole rule: the slot in front goes back.
-use Rattle.std.proofs.Common.{◌≡◌, ◌≢◌, ℕ, zero, suc, ◌+◌, ◌-◌, ◌%◌, ◌^◌, ◌<◌, ◌≤◌, true, List, [], ◌∷◌, ◌++◌, length, set, slice_index, refl, sym, ap, ◌∙◌, subst, arith, ◌==◌, Option, Some, None, get_or-set_same}
+use Rattle.std.proofs.Common.{◌≡◌, ℕ, ◌+◌, ◌-◌, ◌%◌, ◌^◌, ◌<◌, true, List, ◌∷◌, set, slice_index, refl, sym, ap, ◌∙◌, subst, arith, Option, Some, get_or-set_same}
 use mathlib.Core.Option.{some, none}
 use mathlib.Core.Logic.{dite}
 use native.Mathlib.Decide.{ℕ_discrete}
-use lib.ListN.{get_elem?}
-use Rattle.atomic_table.specs.Table.{State, Me, Step, step, gives, Allows, rest, put_back}
-use Rattle.fv_outside.specs.Tasks.{bit, total, times}
+use Rattle.atomic_table.specs.Table.{step, gives, Allows}
 use Rattle.fv_graph.specs.Net.{Net}
 use Rattle.fv_graph.specs.Graph.{Graph}
 use Rattle.fv_graph.proofs.Counts.{bit_same, bit_apart}
 use Rattle.fv_graph.specs.Wires.{Wires, IsWires}
-use Rattle.fv_rule.specs.declared.Deed.{Deed}
 use Rattle.fv_rule.specs.declared.Deed.TheVariants.{Arrived}
 use Rattle.fv_rule.specs.declared.About.{About}
 use Rattle.fv_rule.specs.declared.View.{View}
 use Rattle.fv_rule.specs.Rule.{count_word, wins, arrives, finishes, done_by, noted, Fits, Gives}
 use Rattle.fv_rule.specs.Whole.{IsWhole}
-use Rattle.fv_rule.proofs.Arrive.{arrives_kept, word_else, in_words, some_left, none_came, one_less, low}
+use Rattle.fv_rule.proofs.Arrive.{arrives_kept, word_else, in_words, some_left, none_came, one_less}
 use Rattle.fv_rule.proofs.WholeSteps.{whole_arrived}
 
 module _ {C Key : Type 0} (wires : Graph → Wires) (edge_of : C → ℕ) (key_of : C → Key) (a : About C) (ws : IsWires (wires a.tasks.value)) where

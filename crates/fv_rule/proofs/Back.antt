@@ -1,19 +1,17 @@
 -- A seat gives back all the slots that it has, whatever task it is in, and the rule stays.
-use Rattle.std.proofs.Common.{◌≡◌, ◌≢◌, ℕ, zero, suc, ◌+◌, ◌-◌, ◌<◌, ◌≤◌, Bool, true, false, ◌⊎◌, ◌||◌, inl, inr, ⊎_elim, List, [], ◌∷◌, ◌++◌, length, set, slice_index, refl, sym, ap, ◌∙◌, subst, arith, Option, Some, None, true≢false}
+use Rattle.std.proofs.Common.{◌≡◌, ℕ, zero, suc, ◌+◌, ◌<◌, ◌≤◌, Bool, true, false, ◌⊎◌, ◌||◌, inl, inr, ⊎_elim, List, [], ◌∷◌, refl, sym, ap, ◌∙◌, arith, Option, Some, true≢false}
 use mathlib.Core.Option.{some, some-ne-none, some-injective}
 use mathlib.Core.Logic.{dite}
 use native.Mathlib.Decide.{ℕ_discrete}
 use lib.ListN.{get_elem?}
 use Rattle.atomic_table.specs.Table.{State, homes_after}
 use Rattle.fv_outside.specs.Tasks.{bit, total, times}
-use Rattle.fv_graph.specs.Net.{Net}
-use Rattle.fv_graph.proofs.Counts.{bit_le}
 use Rattle.fv_graph.specs.Wires.{Wires, IsWires}
 use Rattle.fv_graph.specs.Graph.{Graph}
 use Rattle.fv_rule.specs.declared.Deed.{Deed}
 use Rattle.fv_rule.specs.declared.About.{About}
 use Rattle.fv_rule.specs.declared.View.{View}
-use Rattle.fv_rule.specs.Rule.{wins, sees, arrives, starts, finishes, done_by, all, IsOwn, IsKept}
+use Rattle.fv_rule.specs.Rule.{wins, arrives, finishes, done_by, all, IsKept}
 use Rattle.fv_rule.proofs.Claim.{all_at, into, out_of, inner_in, no_exit, sent}
 use Rattle.fv_rule.specs.Rule.{places, Each}
 use Rattle.fv_rule.specs.Carried.{IsMine, HasKey}

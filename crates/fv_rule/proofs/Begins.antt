@@ -1,25 +1,24 @@
 -- A new board meets the whole rule.
-use Rattle.std.proofs.Common.{◌≡◌, ◌≢◌, ℕ, zero, suc, ◌+◌, ◌-◌, ◌*◌, ◌<◌, ◌≤◌, Bool, true, false, cond, not, ◌&&◌, ◌||◌, ◌⊎◌, inl, inr, ⊎_elim, List, [], ◌∷◌, ◌++◌, map, length, replicate, get_or, set, slice_index, refl, sym, ap, ◌∙◌, subst, arith, ◌==◌, true≢false, Option, Some, None, ltb, lt-ltb, ltb-true, ne_eqb, length-append}
-use mathlib.Core.Option.{some, none, some-injective, some-ne-none}
+use Rattle.std.proofs.Common.{◌≡◌, ℕ, zero, suc, ◌+◌, ◌<◌, ◌≤◌, Bool, true, false, ◌⊎◌, inl, inr, ⊎_elim, List, [], ◌∷◌, ◌++◌, map, length, replicate, get_or, slice_index, refl, sym, ap, ◌∙◌, subst, arith, Option, Some, None, ltb, lt-ltb, ltb-true, ne_eqb, length-append}
+use mathlib.Core.Option.{some, some-injective, some-ne-none}
 use mathlib.Core.Logic.{dite}
-use native.Mathlib.Decide.{ℕ_discrete, dec_le}
+use native.Mathlib.Decide.{dec_le}
 use lib.ListN.{get_elem?}
 use Rattle.atomic_table.specs.Table.{State, opening}
 use Rattle.fv_outside.specs.Tasks.{bit, total, times}
-use Rattle.fv_graph.specs.Net.{Net, IsNet}
+use Rattle.fv_graph.specs.Net.{Net}
 use Rattle.fv_core.specs.Core as core
 use Rattle.fv_core.specs.Core.{Now, numbers, is_run}
 use Rattle.fv_graph.specs.Net.{need_count}
-use Rattle.fv_graph.proofs.Counts.{bit_le}
 use Rattle.fv_core.proofs.Opens.{get_same, get_in, length_same, length_numbers, get_numbers, total_same}
 use Rattle.fv_graph.proofs.Counts.{total_none, times_passing, times_above}
 use Rattle.fv_graph.proofs.Counts.{bit_right}
-use Rattle.fv_graph.specs.Wires.{Wires, IsWires}
+use Rattle.fv_graph.specs.Wires.{Wires}
 use Rattle.fv_graph.specs.Graph.{Graph}
 use Rattle.fv_rule.specs.declared.About.{About}
 use Rattle.fv_rule.specs.declared.View.{View}
 use Rattle.fv_rule.specs.Rule.{count_word, claim_word, IsOwn, Fits, IsKept}
-use Rattle.fv_rule.specs.Shown.{worker_of, ShowsSeat, Shows, IsIdle}
+use Rattle.fv_rule.specs.Shown.{worker_of, ShowsSeat, Shows}
 use Rattle.fv_rule.specs.Whole.{first_words, first_view, IsWhole}
 use Rattle.fv_rule.proofs.Taking.{at_below}
 

@@ -1,19 +1,18 @@
 -- A claim keeps the rule.
-use Rattle.std.proofs.Common.{◌≡◌, ◌≢◌, ℕ, zero, suc, ◌+◌, ◌*◌, ◌-◌, ◌<◌, ◌≤◌, Bool, true, false, cond, not, ◌&&◌, ◌||◌, ◌⊎◌, inl, inr, ⊎_elim, List, [], ◌∷◌, ◌++◌, length, get_or, set, slice_index, refl, sym, ap, ◌∙◌, subst, arith, ◌==◌, length-set, eq-eqb, ne_eqb, true≢false, Option, Some, None, MatchBool, ltb, get_or-set_same, get_or-set_other, append_assoc}
+use Rattle.std.proofs.Common.{◌≡◌, ◌≢◌, ℕ, zero, suc, ◌+◌, ◌-◌, ◌<◌, ◌≤◌, Bool, true, false, not, ◌&&◌, ◌||◌, ◌⊎◌, inl, inr, ⊎_elim, List, [], ◌∷◌, ◌++◌, length, set, slice_index, refl, sym, ap, ◌∙◌, subst, arith, ◌==◌, length-set, eq-eqb, ne_eqb, true≢false, Option, Some, None, MatchBool, ltb, get_or-set_same, append_assoc}
 use mathlib.Core.Option.{some, none, some-injective, some-ne-none}
 use mathlib.Core.Logic.{dite}
 use native.Mathlib.Decide.{ℕ_discrete}
 use lib.ListN.{get_elem?}
-use Rattle.atomic_table.specs.Table.{State, Me, Step, step, Act, keeps, Allows, carried_after, homes_after, Valid, stepped}
+use Rattle.atomic_table.specs.Table.{State, Me, step, keeps, Allows, carried_after, homes_after}
 use Rattle.atomic_table.proofs.Lists.{at_set}
 use Rattle.fv_outside.specs.Tasks.{bit, total, times}
-use Rattle.fv_graph.specs.Net.{Net, IsNet}
 use Rattle.fv_graph.proofs.Counts.{bit_same, bit_apart, bit_one, bit_true, bit_le, both_true, total_append, full, get_set}
 use Rattle.fv_graph.proofs.Counts.{bit_left, bit_right}
 use Rattle.fv_graph.specs.Wires.{Wires, IsWires}
 use Rattle.fv_graph.specs.Graph.{Graph}
 use Rattle.fv_rule.specs.declared.Deed.{Deed}
-use Rattle.fv_rule.specs.declared.Deed.TheVariants.{Stamped, Arrived, Saw, Claimed}
+use Rattle.fv_rule.specs.declared.Deed.TheVariants.{Claimed}
 use Rattle.fv_rule.specs.declared.About.{About}
 use Rattle.fv_rule.specs.declared.View.{View}
 use Rattle.fv_rule.specs.Rule.{count_word, claim_word, wins, loses, sees, arrives, stamps, starts, finishes, done_by, all, noted, IsSpent, IsOwn, Fits, IsKept, Took, Claims}

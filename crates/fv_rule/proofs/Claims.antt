@@ -1,11 +1,9 @@
 -- A claim keeps the whole rule.
-use Rattle.std.proofs.Common.{◌≡◌, ◌≢◌, ℕ, zero, suc, ◌+◌, ◌-◌, ◌<◌, ◌≤◌, Bool, true, false, not, ◌&&◌, List, [], ◌∷◌, ◌++◌, length, set, slice_index, refl, sym, ap, ◌∙◌, subst, arith, ◌==◌, eq-eqb, ne_eqb, Option, Some, None, true≢false}
+use Rattle.std.proofs.Common.{◌≡◌, ◌≢◌, ℕ, ◌+◌, ◌-◌, ◌<◌, Bool, true, false, List, length, set, slice_index, refl, sym, subst, arith, ◌==◌, Option, Some}
 use mathlib.Core.Option.{some, none}
-use mathlib.Core.Logic.{dite}
-use native.Mathlib.Decide.{ℕ_discrete}
 use lib.ListN.{get_elem?}
-use Rattle.atomic_table.specs.Table.{State, Me, Step, step, Allows, homes_after, carried_after, stepped, Act}
-use Rattle.fv_outside.specs.Tasks.{bit, total, times}
+use Rattle.atomic_table.specs.Table.{State, Me, step, Allows, homes_after}
+use Rattle.fv_outside.specs.Tasks.{bit}
 use Rattle.fv_graph.specs.Net.{Net}
 use Rattle.fv_graph.specs.Graph.{Graph}
 use Rattle.fv_graph.proofs.Counts.{bit_one, get_set}
@@ -14,7 +12,7 @@ use Rattle.fv_rule.specs.declared.Deed.{Deed}
 use Rattle.fv_rule.specs.declared.Deed.TheVariants.{Claimed}
 use Rattle.fv_rule.specs.declared.About.{About}
 use Rattle.fv_rule.specs.declared.View.{View}
-use Rattle.fv_rule.specs.Rule.{count_word, claim_word, wins, sees, done_by, all, noted, IsKept, Claims}
+use Rattle.fv_rule.specs.Rule.{count_word, claim_word, sees, done_by, noted, IsKept, Claims}
 use Rattle.fv_rule.specs.Shown.{Reached, OwesNothing}
 use Rattle.fv_rule.specs.Whole.{IsWhole}
 use Rattle.fv_rule.proofs.Claim.{claims, all_at}

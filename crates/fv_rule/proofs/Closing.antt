@@ -1,15 +1,15 @@
 -- A seat gives its slots back, seats are joined, and a seat with all numbers knows what all have done.
 use Rattle.std.proofs.Common.{◌≡◌, ◌≢◌, ℕ, zero, suc, ◌+◌, ◌-◌, ◌*◌, ◌<◌, ◌≤◌, Bool, true, false, ◌&&◌, ◌⊎◌, inl, inr, ⊎_elim, List, [], ◌∷◌, ◌++◌, length, get_or, set, slice_index, refl, sym, ap, ◌∙◌, subst, arith, ◌==◌, eq-eqb, Option, Some, None, ltb, lt-ltb, ltb-true}
-use mathlib.Core.Option.{some, none, some-injective, some-ne-none}
+use mathlib.Core.Option.{some, some-injective, some-ne-none}
 use mathlib.Core.Logic.{dite}
 use native.Mathlib.Decide.{ℕ_discrete, dec_le}
 use lib.ListN.{get_elem?}
-use Rattle.atomic_table.specs.Table.{State, Me, Step, step, Allows, Joins, Act, homes_after, carried_after, stepped}
+use Rattle.atomic_table.specs.Table.{State, Me, Allows, Joins, homes_after}
 use Rattle.atomic_table.proofs.Lists.{at_set, set_again, set_here}
 use Rattle.fv_outside.specs.Tasks.{bit, total, times}
 use Rattle.fv_graph.specs.Net.{Net}
 use Rattle.fv_graph.specs.Graph.{Graph}
-use Rattle.fv_core.specs.Core.{Now, numbers}
+use Rattle.fv_core.specs.Core.{numbers}
 use Rattle.fv_graph.specs.Words.{passing}
 use Rattle.fv_graph.proofs.Counts.{bit_same, bit_true, full, full_total, total_append}
 use Rattle.fv_graph.proofs.Counts.{times_passing, times_above}
@@ -17,16 +17,15 @@ use Rattle.fv_graph.specs.Wires.{Wires, IsWires}
 use Rattle.fv_rule.specs.declared.Deed.{Deed}
 use Rattle.fv_rule.specs.declared.About.{About}
 use Rattle.fv_rule.specs.declared.View.{View}
-use Rattle.fv_rule.specs.Rule.{count_word, claim_word, wins, loses, sees, arrives, stamps, starts, finishes, done_by, all, together, places, Each, IsSpent, IsOwn, IsKept, Fits}
-use Rattle.fv_rule.specs.Shown.{Shows, Reached}
+use Rattle.fv_rule.specs.Rule.{count_word, wins, loses, sees, arrives, stamps, starts, finishes, done_by, all, together, Each, IsSpent}
 use Rattle.fv_rule.specs.Whole.{zeroes, starts_at, finishes_at, IsWhole}
 use Rattle.fv_rule.specs.Told.{Tells}
-use Rattle.fv_rule.proofs.Claim.{total_ext, all_at, all_le}
-use Rattle.fv_rule.proofs.Taking.{give_all, none_left, valid_gives, length_gives, at_below}
+use Rattle.fv_rule.proofs.Claim.{total_ext, all_le}
+use Rattle.fv_rule.proofs.Taking.{give_all, none_left, valid_gives, at_below}
 use Rattle.fv_rule.specs.Carried.{IsMine, HasKey}
 use Rattle.fv_rule.proofs.Back.{back}
 use Rattle.fv_rule.proofs.Joined.{spent, joins, all_joined}
-use Rattle.fv_rule.proofs.Splits.{sum_set, sum_at, sum_two, has_first}
+use Rattle.fv_rule.proofs.Splits.{sum_set, sum_two, has_first}
 
 same_word : (ws : List ℕ) (i : ℕ) → set ws i (slice_index ws i) ≡ ws
 same_word [] i = refl

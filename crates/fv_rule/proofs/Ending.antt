@@ -1,10 +1,7 @@
 -- A finish as a step of the table.
-use Rattle.std.proofs.Common.{◌≡◌, ℕ, zero, suc, ◌+◌, ◌-◌, ◌*◌, ◌%◌, ◌^◌, ◌<◌, ◌≤◌, true, false, List, [], ◌∷◌, ◌++◌, length, set, slice_index, drop, refl, sym, ap, ◌∙◌, subst, arith, ◌==◌, Option, Some, None}
-use mathlib.Core.Option.{some, none}
-use lib.ListN.{get_elem?}
-use Rattle.atomic_table.specs.Table.{State, Me, Step, step, Allows, homes_after, carried_after}
-use Rattle.fv_outside.specs.Tasks.{bit, total}
-use Rattle.fv_graph.specs.Net.{Net}
+use Rattle.std.proofs.Common.{◌≡◌, ℕ, ◌+◌, ◌%◌, ◌^◌, ◌<◌, true, false, List, [], ◌∷◌, ◌++◌, length, set, slice_index, drop, refl, sym, ap, ◌∙◌, subst, arith, Option, Some}
+use mathlib.Core.Option.{none}
+use Rattle.atomic_table.specs.Table.{step, Allows, homes_after}
 use Rattle.fv_graph.specs.Graph.{Graph}
 use Rattle.fv_graph.specs.Wires.{Wires, IsWires}
 use Rattle.fv_rule.specs.declared.Deed.TheVariants.{Stamped}

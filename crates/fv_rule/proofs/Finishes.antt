@@ -1,27 +1,25 @@
 -- A finishing stamp is the lean core's Finish, and a step that changes neither counts, claims, finishes nor arrivals shows no change.
-use Rattle.std.proofs.Common.{◌≡◌, ◌≢◌, ℕ, zero, suc, ◌+◌, ◌-◌, ◌<◌, ◌≤◌, Bool, true, false, cond, ◌⊎◌, ◌&&◌, ⊎_elim, List, [], ◌∷◌, ◌++◌, length, get_or, set, slice_index, refl, sym, ap, ◌∙◌, subst, arith, Option, Some, None, length-set, ltb, lt-ltb, ◌==◌, not}
+use Rattle.std.proofs.Common.{◌≡◌, ◌≢◌, ℕ, ◌+◌, ◌<◌, Bool, true, false, ◌&&◌, ⊎_elim, List, [], ◌∷◌, ◌++◌, length, set, slice_index, refl, sym, ap, ◌∙◌, subst, arith, Option, Some, None, length-set, ltb, lt-ltb, ◌==◌}
 use mathlib.Core.Option.{some, some-injective}
 use mathlib.Core.Logic.{dite}
 use native.Mathlib.Decide.{ℕ_discrete}
 use lib.ListN.{get_elem?}
 use Rattle.atomic_table.specs.Table.{State}
 use Rattle.atomic_table.proofs.Lists.{at_set, set_here, set_else}
-use Rattle.fv_outside.specs.Tasks.{bit, total, times}
+use Rattle.fv_outside.specs.Tasks.{bit, times}
 use Rattle.fv_graph.specs.Net.{Net, IsNet}
-use Rattle.fv_core.specs.Core.{Now, is_run, run_of, owes_of, is_done, count_of, opening}
-use Rattle.fv_core.specs.Lean.{is_lean_legal, lean_after, lean_replayed}
-use Rattle.fv_core.specs.declared.event.Event.{Event}
+use Rattle.fv_core.specs.Core.{Now, is_run, run_of, owes_of, is_done}
+use Rattle.fv_core.specs.Lean.{is_lean_legal, lean_after}
 use Rattle.fv_core.specs.declared.event.Event.TheVariants.{Finish}
 use Rattle.fv_graph.proofs.Counts.{bit_same, bit_apart, bit_one, bit_true, bit_swap, total_append, total_set, get_set, done_set}
-use Rattle.fv_graph.proofs.Counts.{bit_left, bit_right, bit_false}
+use Rattle.fv_graph.proofs.Counts.{bit_right, bit_false}
 use Rattle.fv_rule.specs.declared.Deed.{Deed}
 use Rattle.fv_rule.specs.declared.Deed.TheVariants.{Stamped}
 use Rattle.fv_rule.specs.declared.View.{View}
-use Rattle.fv_rule.specs.Rule.{count_word, wins, arrives, starts, finishes, done_by, all, noted}
-use Rattle.fv_rule.specs.Shown.{worker_of, ShowsSeat, Shows, IsIdle, Reached}
-use Rattle.fv_rule.proofs.Claim.{all_noted, all_at}
+use Rattle.fv_rule.specs.Rule.{count_word, wins, arrives, finishes, done_by, all, noted}
+use Rattle.fv_rule.specs.Shown.{worker_of, ShowsSeat, Shows}
+use Rattle.fv_rule.proofs.Claim.{all_noted}
 use Rattle.fv_rule.proofs.Taking.{at_below}
-use Rattle.fv_rule.proofs.Shows.{lean_more}
 
 runs_one : (r : Option ℕ) (t : ℕ) → bit (is_run t r) ≡ 1 → r ≡ Some t
 runs_one None t h = absurd (omega arith)

@@ -8,25 +8,23 @@ use Rattle.fv_graph.specs.Words.{passing}
 use Rattle.fv_core.specs.Core.{numbers}
 use Rattle.fv_graph.proofs.Counts.{bit_same, bit_apart}
 use Rattle.fv_graph.proofs.Counts.{times_passing}
-use Rattle.atomic_table.specs.Table.{State, Me, homes_after, carried_after, Valid}
-use Rattle.fv_outside.specs.Tasks.{bit, total, times}
-use Rattle.fv_graph.specs.Net.{Net, IsNet}
+use Rattle.atomic_table.specs.Table.{State, homes_after}
+use Rattle.fv_outside.specs.Tasks.{total, times}
+use Rattle.fv_graph.specs.Net.{Net}
 use Rattle.fv_graph.specs.Graph.{Graph}
 use Rattle.fv_graph.specs.Wires.{Wires, IsWires}
-use Rattle.fv_rule.specs.declared.Deed.{Deed}
 use Rattle.fv_rule.specs.declared.Deed.TheVariants.{Stamped}
 use Rattle.fv_rule.specs.declared.About.{About}
 use Rattle.fv_rule.specs.declared.View.{View}
-use Rattle.fv_rule.specs.Rule.{count_word, wins, starts, finishes, arrives, done_by, all, noted, places, Each, Fits}
+use Rattle.fv_rule.specs.Rule.{count_word, wins, starts, finishes, done_by, all, noted, places, Fits}
 use Rattle.fv_rule.specs.Carried.{IsBusy, IsMine, HasKey}
 use Rattle.fv_rule.specs.Whole.{IsWhole}
-use Rattle.fv_rule.proofs.Claim.{all_at}
 use Rattle.fv_rule.proofs.Back.{all_gap}
-use Rattle.fv_rule.proofs.Taking.{give_all, front_homes, front_left, front_valid, given_at, length_gives}
+use Rattle.fv_rule.proofs.Taking.{give_all, front_homes, given_at}
 use Rattle.fv_rule.proofs.Hands.{busy_mine, busy_won, each_left}
 use Rattle.fv_rule.proofs.Closing.{given}
 use Rattle.fv_rule.proofs.Stamps.{whole_stamped}
-use Rattle.fv_rule.proofs.WholeSteps.{reached_finish, reached_same}
+use Rattle.fv_rule.proofs.WholeSteps.{reached_finish}
 
 -- the exit edge's slot among those that go back: full, with its parcel
 pub record Exits {C Key : Type 0} (wires : Graph → Wires) (edge_of : C → ℕ) (key_of : C → Key) (a : About C) (front : List (ℕ × Option C)) (e : ℕ) : Type 0 where

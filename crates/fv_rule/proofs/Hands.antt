@@ -1,10 +1,9 @@
 -- What a seat has in hand: each step keeps it, and it can be given back at any moment.
-use Rattle.std.proofs.Common.{◌≡◌, ◌≢◌, ℕ, zero, suc, ◌+◌, ◌-◌, ◌<◌, ◌≤◌, Bool, true, false, cond, ◌&&◌, ◌||◌, ◌⊎◌, inl, inr, ⊎_elim, List, [], ◌∷◌, ◌++◌, length, refl, sym, ap, ◌∙◌, subst, arith, ◌==◌, eq-eqb, ne_eqb, ltb, ltb-true, Option, Some, None, append-nil, append_assoc, length-append, MatchBool, true≢false}
-use Rattle.atomic_table.specs.Table.{Me}
+use Rattle.std.proofs.Common.{◌≡◌, ℕ, zero, suc, ◌+◌, ◌<◌, Bool, true, false, cond, ◌&&◌, ◌||◌, ◌⊎◌, inl, inr, ⊎_elim, List, [], ◌∷◌, ◌++◌, length, refl, sym, ap, ◌∙◌, subst, arith, ◌==◌, eq-eqb, ne_eqb, ltb, ltb-true, Option, Some, None, append-nil, append_assoc, length-append}
 use mathlib.Core.Logic.{dite}
 use native.Mathlib.Decide.{ℕ_discrete}
-use Rattle.fv_outside.specs.Tasks.{bit, total, times}
-use Rattle.fv_graph.specs.Net.{Net, IsNet}
+use Rattle.fv_outside.specs.Tasks.{bit, times}
+use Rattle.fv_graph.specs.Net.{Net}
 use Rattle.fv_graph.specs.Graph.{Graph}
 use Rattle.fv_graph.specs.Wires.{Wires, IsWires}
 use Rattle.fv_graph.proofs.Counts.{bit_le, bit_same, bit_apart, bit_true, bit_one, bit_swap, bit_right, both_true, total_append}
@@ -15,7 +14,7 @@ use Rattle.fv_rule.specs.declared.View.{View}
 use Rattle.fv_rule.specs.Rule.{wins, starts, finishes, arrives, done_by, noted, last_from, last_won, places, Each, Fits, Took, IsFresh, going}
 use Rattle.fv_rule.specs.Shown.{OwesNothing}
 use Rattle.fv_rule.specs.Carried.{slot_at, with_slot, but_slot, MayHold, IsFree, IsBusy, AreHanded, IsMine, HasKey}
-use Rattle.fv_rule.proofs.Taking.{each_at, places_append}
+use Rattle.fv_rule.proofs.Taking.{places_append}
 
 -- the task that was won last, after one deed more
 last_more : (o : Option ℕ) (ds : List Deed) (d : Deed) → last_from o (ds ++ d ∷ []) ≡ last_from (last_from o ds) (d ∷ [])

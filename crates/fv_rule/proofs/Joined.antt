@@ -1,18 +1,17 @@
 -- A seat takes in another, and the rule stays.
-use Rattle.std.proofs.Common.{◌≡◌, ◌≢◌, ℕ, zero, suc, ◌+◌, ◌-◌, ◌<◌, ◌≤◌, Bool, true, false, ◌⊎◌, inl, inr, ⊎_elim, List, [], ◌∷◌, ◌++◌, length, set, slice_index, refl, sym, ap, ◌∙◌, subst, arith, Option, Some, None, ltb}
+use Rattle.std.proofs.Common.{◌≡◌, ◌≢◌, ℕ, zero, suc, ◌+◌, ◌<◌, ◌⊎◌, inl, inr, ⊎_elim, List, [], set, refl, sym, ◌∙◌, subst, arith, Option, Some, None}
 use mathlib.Core.Option.{some}
 use lib.ListN.{get_elem?}
-use Rattle.atomic_table.specs.Table.{State, Joins}
+use Rattle.atomic_table.specs.Table.{Joins}
 use Rattle.atomic_table.proofs.Lists.{at_set}
-use Rattle.fv_outside.specs.Tasks.{bit, total, times}
 use Rattle.fv_graph.specs.Net.{Net}
 use Rattle.fv_graph.proofs.Counts.{total_append}
-use Rattle.fv_graph.specs.Wires.{Wires, IsWires}
+use Rattle.fv_graph.specs.Wires.{Wires}
 use Rattle.fv_graph.specs.Graph.{Graph}
 use Rattle.fv_rule.specs.declared.Deed.{Deed}
 use Rattle.fv_rule.specs.declared.About.{About}
 use Rattle.fv_rule.specs.declared.View.{View}
-use Rattle.fv_rule.specs.Rule.{count_word, claim_word, wins, loses, sees, arrives, stamps, starts, finishes, done_by, all, together, IsSpent, IsOwn, IsKept}
+use Rattle.fv_rule.specs.Rule.{wins, loses, sees, arrives, stamps, starts, finishes, done_by, all, together, IsSpent, IsOwn, IsKept}
 use Rattle.fv_rule.proofs.Claim.{all_set, total_ext}
 
 one_of : (a b : ℕ) → 0 < a + b → (0 < a) ⊎ (0 < b)

@@ -1,9 +1,8 @@
 -- The finish of a task whose outward edges are all handed.
-use Rattle.std.proofs.Common.{◌≡◌, ℕ, ◌+◌, ◌-◌, ◌%◌, ◌^◌, ◌<◌, Bool, true, false, cond, ltb, List, [], ◌∷◌, ◌++◌, length, drop, refl, sym, ap, ◌∙◌, subst, arith, ◌==◌, Option, Some, None, append_assoc}
+use Rattle.std.proofs.Common.{◌≡◌, ℕ, ◌+◌, ◌%◌, ◌^◌, ◌<◌, Bool, true, false, cond, ltb, List, [], ◌∷◌, ◌++◌, length, drop, refl, sym, ap, ◌∙◌, subst, arith, ◌==◌, Option, Some, append_assoc}
 use mathlib.Core.Option.{none}
-use Rattle.atomic_table.specs.Table.{State, step, Allows}
+use Rattle.atomic_table.specs.Table.{step, Allows}
 use Rattle.fv_outside.specs.Tasks.{Tasks, bit, times, task_count}
-use Rattle.fv_graph.specs.Net.{Net}
 use Rattle.fv_graph.specs.Graph.{Graph, outward, feeds_of, pair_edges_out, chain_edge, loop_of, vector_of}
 use Rattle.fv_graph.specs.Wires.{Wires, IsWires}
 use Rattle.fv_graph.proofs.Counts.{bit_same, total_append}
@@ -15,7 +14,7 @@ use Rattle.fv_rule.specs.Carried.{slot_at, MayHold, IsBusy, AreHanded}
 use Rattle.fv_rule.proofs.Taking.{places_append}
 use Rattle.fv_rule.proofs.Finishing.{Exits}
 use Rattle.fv_rule.proofs.Ending.{ending, drop_front}
-use Rattle.fv_rule.proofs.Hands.{At, find_at, Cut, slot_first, each_left, each_right, busy_once, cut, exit_back, exit_full, long_front}
+use Rattle.fv_rule.proofs.Hands.{find_at, Cut, slot_first, each_left, each_right, busy_once, cut, exit_back, exit_full, long_front}
 
 -- the edges out of a task: the exit edge, if there is one, and then those that are owed
 pub record Leads (outs feeds : List ℕ) : Type 0 where

@@ -1,12 +1,12 @@
 -- A load of a count keeps the whole rule.
-use Rattle.std.proofs.Common.{◌≡◌, ◌≢◌, ℕ, zero, suc, ◌+◌, ◌-◌, ◌<◌, ◌≤◌, Bool, true, false, not, ◌&&◌, ◌⊎◌, inl, inr, ⊎_elim, List, [], ◌∷◌, ◌++◌, length, set, slice_index, refl, sym, ap, ◌∙◌, subst, arith, ◌==◌, Option, Some, None}
+use Rattle.std.proofs.Common.{◌≡◌, ℕ, zero, suc, ◌+◌, ◌&&◌, ◌⊎◌, inl, inr, ⊎_elim, List, [], ◌∷◌, set, slice_index, refl, sym, ap, ◌∙◌, subst, arith, ◌==◌, Option, Some}
 use mathlib.Core.Option.{some, none}
 use mathlib.Core.Logic.{dite}
 use native.Mathlib.Decide.{ℕ_discrete}
 use lib.ListN.{get_elem?}
-use Rattle.atomic_table.specs.Table.{State, Me, Step, step, keeps, Allows}
+use Rattle.atomic_table.specs.Table.{State, Me, step, keeps, Allows}
 use Rattle.atomic_table.proofs.Lists.{at_set}
-use Rattle.fv_outside.specs.Tasks.{bit, total, times}
+use Rattle.fv_outside.specs.Tasks.{bit}
 use Rattle.fv_graph.specs.Net.{Net}
 use Rattle.fv_graph.specs.Graph.{Graph}
 use Rattle.fv_graph.proofs.Counts.{bit_one, bit_true, both_true, total_append}
@@ -15,7 +15,7 @@ use Rattle.fv_rule.specs.declared.Deed.{Deed}
 use Rattle.fv_rule.specs.declared.Deed.TheVariants.{Saw}
 use Rattle.fv_rule.specs.declared.About.{About}
 use Rattle.fv_rule.specs.declared.View.{View}
-use Rattle.fv_rule.specs.Rule.{count_word, wins, loses, sees, arrives, stamps, starts, finishes, done_by, all, noted, IsSpent, IsOwn, IsKept, Looks}
+use Rattle.fv_rule.specs.Rule.{count_word, wins, loses, sees, arrives, stamps, starts, finishes, all, noted, IsSpent, IsOwn, IsKept, Looks}
 use Rattle.fv_rule.specs.Whole.{IsWhole}
 use Rattle.fv_rule.proofs.Claim.{all_noted, total_ext}
 use Rattle.fv_rule.proofs.WholeSteps.{saw_quiet, whole_quiet, reached_same}

@@ -7,13 +7,13 @@ use Rattle.fv_outside.specs.Tasks.{bit, total, times}
 use Rattle.fv_graph.specs.Net.{Net, need_count}
 use Rattle.fv_graph.specs.Graph.{net_of}
 use Rattle.fv_graph.proofs.Counts.{bit_true, bit_le, total_none}
-use Rattle.fv_core.specs.Core.{Now, numbers, is_run, opening}
+use Rattle.fv_core.specs.Core.{is_run, opening}
 use Rattle.fv_core.proofs.Opens.{get_same, get_in, length_same, length_numbers, get_numbers, total_same}
 use Rattle.fv_rule.specs.declared.Deed.{Deed}
 use Rattle.fv_rule.specs.declared.About.{About}
 use Rattle.fv_rule.specs.declared.View.{View}
-use Rattle.fv_rule.specs.Rule.{count_word, arrives, finishes, wins, done_by, all}
-use Rattle.fv_rule.specs.Shown.{worker_of, IsIdle, ShowsSeat}
+use Rattle.fv_rule.specs.Rule.{arrives, finishes, wins, all}
+use Rattle.fv_rule.specs.Shown.{worker_of, IsIdle}
 use Rattle.fv_rule.specs.Steps.{Meets, ShowsNow, OpeningLaw}
 use Rattle.fv_rule.proofs.Claim.{total_ext}
 use Rattle.fv_rule.proofs.Splits.{sum_at, has_first, seat_idle, apart_of}

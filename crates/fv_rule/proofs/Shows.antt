@@ -1,6 +1,6 @@
 -- A won claim is a Take of the lean core.
-use Rattle.std.proofs.Common.{length-set, ◌≡◌, ◌≢◌, ℕ, zero, suc, ◌+◌, ◌-◌, ◌<◌, ◌≤◌, Bool, true, false, cond, not, ◌&&◌, ◌||◌, List, [], ◌∷◌, ◌++◌, length, get_or, set, slice_index, refl, sym, ap, ◌∙◌, subst, arith, ◌==◌, eq-eqb, ne_eqb, lt-ltb, ltb, true≢false, Option, Some, None, is_none, ⊎_elim}
-use mathlib.Core.Option.{some, some-injective, some-ne-none}
+use Rattle.std.proofs.Common.{length-set, ◌≡◌, ◌≢◌, ℕ, zero, suc, ◌+◌, ◌<◌, Bool, true, false, cond, not, ◌&&◌, ◌||◌, List, [], ◌∷◌, ◌++◌, length, get_or, set, slice_index, refl, sym, ap, ◌∙◌, subst, arith, ◌==◌, eq-eqb, lt-ltb, ltb, true≢false, Option, Some, None, is_none, ⊎_elim}
+use mathlib.Core.Option.{some, some-injective}
 use mathlib.Core.Logic.{dite}
 use native.Mathlib.Decide.{ℕ_discrete}
 use lib.ListN.{get_elem?}
@@ -11,12 +11,11 @@ use Rattle.fv_outside.specs.Tasks.{bit, total, times}
 use Rattle.fv_core.specs.Ends.{is_empty}
 use Rattle.fv_graph.specs.Net.{Net}
 use Rattle.fv_core.specs.Core.{Now, is_run, run_of, owes_of, is_done, count_of, is_free, opening}
-use Rattle.fv_core.specs.Lean.{is_taken, lean_takes, is_lean_legal, lean_after, lean_replayed}
+use Rattle.fv_core.specs.Lean.{is_taken, is_lean_legal, lean_after, lean_replayed}
 use Rattle.fv_core.specs.declared.event.Event.{Event}
 use Rattle.fv_core.specs.declared.event.Event.TheVariants.{Take}
-use Rattle.fv_graph.proofs.Counts.{bit_same, bit_apart, total_set, total_append, get_set}
+use Rattle.fv_graph.proofs.Counts.{bit_same, total_set, total_append, get_set}
 use Rattle.fv_graph.proofs.Counts.{bit_false}
-use Rattle.fv_rule.specs.declared.Deed.{Deed}
 use Rattle.fv_rule.specs.declared.Deed.TheVariants.{Claimed}
 use Rattle.fv_rule.specs.declared.View.{View}
 use Rattle.fv_rule.specs.Rule.{count_word, wins, arrives, finishes, done_by, all, noted}

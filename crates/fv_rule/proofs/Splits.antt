@@ -1,5 +1,5 @@
 -- A seat with nothing done is cut in two, and the whole rule stays.
-use Rattle.std.proofs.Common.{◌≡◌, ◌≢◌, ℕ, zero, suc, ◌+◌, ◌-◌, ◌<◌, ◌≤◌, Bool, true, false, ◌&&◌, ◌⊎◌, inl, inr, ⊎_elim, List, [], ◌∷◌, ◌++◌, length, get_or, set, slice_index, refl, sym, ap, ◌∙◌, subst, arith, ◌==◌, Option, Some, None, ltb, ltb-true, length-append, length-set}
+use Rattle.std.proofs.Common.{◌≡◌, ◌≢◌, ℕ, zero, suc, ◌+◌, ◌<◌, ◌≤◌, Bool, true, false, ◌&&◌, ◌⊎◌, inl, inr, ⊎_elim, List, [], ◌∷◌, ◌++◌, length, get_or, set, refl, sym, ap, ◌∙◌, subst, arith, Option, Some, ltb, ltb-true}
 use mathlib.Core.Option.{some, some-injective, some-ne-none}
 use mathlib.Core.Logic.{dite}
 use native.Mathlib.Decide.{ℕ_discrete}
@@ -16,8 +16,8 @@ use Rattle.fv_graph.specs.Wires.{Wires}
 use Rattle.fv_rule.specs.declared.Deed.{Deed}
 use Rattle.fv_rule.specs.declared.About.{About}
 use Rattle.fv_rule.specs.declared.View.{View}
-use Rattle.fv_rule.specs.Rule.{count_word, claim_word, wins, loses, sees, arrives, stamps, starts, finishes, done_by, all, IsSpent, IsOwn, IsKept}
-use Rattle.fv_rule.specs.Shown.{worker_of, ShowsSeat, Shows, IsIdle, Reached}
+use Rattle.fv_rule.specs.Rule.{wins, loses, sees, arrives, stamps, starts, finishes, done_by, all, IsSpent, IsOwn, IsKept}
+use Rattle.fv_rule.specs.Shown.{worker_of, ShowsSeat, Shows, IsIdle}
 use Rattle.fv_rule.specs.Whole.{zeroes, starts_at, finishes_at, first_number, other_numbers, left_part, right_part, IsWhole}
 use Rattle.fv_rule.proofs.Claim.{total_ext}
 use Rattle.fv_rule.proofs.Taking.{at_below}

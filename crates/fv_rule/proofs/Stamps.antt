@@ -1,16 +1,16 @@
 -- A stamp, which moves no slot, keeps the whole rule but for what is shown.
-use Rattle.std.proofs.Common.{◌≡◌, ◌≢◌, ℕ, zero, suc, ◌+◌, ◌-◌, ◌*◌, ◌<◌, ◌≤◌, Bool, true, false, not, ◌&&◌, ◌⊎◌, inl, inr, ⊎_elim, List, [], ◌∷◌, ◌++◌, length, get_or, set, slice_index, refl, sym, ap, ◌∙◌, subst, arith, ◌==◌, Option, Some, None, length-set, ltb, lt-ltb, ltb-true, true≢false, get_or-set_same}
-use mathlib.Core.Option.{some, some-injective, some-ne-none}
+use Rattle.std.proofs.Common.{◌≡◌, ◌≢◌, ℕ, suc, ◌+◌, ◌<◌, ◌≤◌, Bool, true, false, not, ◌&&◌, ◌⊎◌, inl, inr, ⊎_elim, List, [], ◌∷◌, length, set, slice_index, refl, sym, ap, ◌∙◌, subst, arith, ◌==◌, Option, Some, length-set, ltb, lt-ltb, ltb-true, true≢false, get_or-set_same}
+use mathlib.Core.Option.{some}
 use mathlib.Core.Logic.{dite}
 use native.Mathlib.Decide.{ℕ_discrete, dec_le}
 use lib.ListN.{get_elem?}
 use Rattle.atomic_table.specs.Table.{State}
 use Rattle.atomic_table.proofs.Lists.{at_set}
 use Rattle.fv_outside.specs.Tasks.{bit, total, times}
-use Rattle.fv_graph.specs.Net.{Net, IsNet}
+use Rattle.fv_graph.specs.Net.{Net}
 use Rattle.fv_graph.specs.Graph.{Graph}
 use Rattle.fv_core.specs.Core.{numbers}
-use Rattle.fv_graph.proofs.Counts.{bit_le, bit_same, bit_apart, bit_one, bit_true, both_true, total_append, total_add, get_set, full}
+use Rattle.fv_graph.proofs.Counts.{bit_same, bit_apart, bit_one, bit_true, both_true, total_append, total_add, get_set, full}
 use Rattle.fv_graph.proofs.Counts.{times_passing}
 use Rattle.fv_graph.proofs.Counts.{bit_left, bit_right}
 use Rattle.fv_graph.specs.Wires.{Wires, IsWires}

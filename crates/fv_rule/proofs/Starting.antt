@@ -1,11 +1,11 @@
 -- A start keeps the whole rule, and the stamp word does not wrap.
-use Rattle.std.proofs.Common.{◌≡◌, ◌≢◌, ℕ, zero, suc, ◌+◌, ◌-◌, ◌*◌, ◌%◌, ◌^◌, ◌<◌, ◌≤◌, true, false, List, [], ◌∷◌, length, set, slice_index, refl, sym, ap, ◌∙◌, subst, arith, Option, Some, None, true≢false, ltb, ltb-true}
+use Rattle.std.proofs.Common.{◌≡◌, ℕ, zero, suc, ◌+◌, ◌*◌, ◌%◌, ◌^◌, ◌<◌, ◌≤◌, true, List, [], ◌∷◌, length, set, slice_index, refl, sym, ap, ◌∙◌, subst, arith, Option, Some, true≢false, ltb, ltb-true}
 use mathlib.Core.Option.{some, none}
 use mathlib.Core.Logic.{dite}
 use native.Mathlib.Decide.{ℕ_discrete}
 use lib.ListN.{get_elem?}
-use Rattle.atomic_table.specs.Table.{State, Me, Step, step, keeps, Allows}
-use Rattle.fv_outside.specs.Tasks.{bit, total, times}
+use Rattle.atomic_table.specs.Table.{State, step, keeps, Allows}
+use Rattle.fv_outside.specs.Tasks.{total, times}
 use Rattle.fv_graph.specs.Words.{passing}
 use Rattle.fv_graph.specs.Net.{Net}
 use Rattle.fv_graph.specs.Graph.{Graph}
@@ -13,11 +13,10 @@ use Rattle.fv_core.specs.Core.{numbers}
 use Rattle.fv_graph.proofs.Counts.{bit_same, bit_apart, bit_true}
 use Rattle.fv_graph.proofs.Counts.{times_passing}
 use Rattle.fv_graph.specs.Wires.{Wires, IsWires}
-use Rattle.fv_rule.specs.declared.Deed.{Deed}
 use Rattle.fv_rule.specs.declared.Deed.TheVariants.{Stamped}
 use Rattle.fv_rule.specs.declared.About.{About}
 use Rattle.fv_rule.specs.declared.View.{View}
-use Rattle.fv_rule.specs.Rule.{count_word, wins, stamps, starts, finishes, done_by, all, noted, last_won, Starts, IsAbove}
+use Rattle.fv_rule.specs.Rule.{wins, stamps, starts, finishes, done_by, all, noted, last_won, Starts, IsAbove}
 use Rattle.fv_rule.specs.Whole.{IsWhole}
 use Rattle.fv_rule.proofs.Claim.{all_at}
 use Rattle.fv_rule.proofs.Back.{all_gap}

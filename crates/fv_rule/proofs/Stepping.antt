@@ -1,5 +1,5 @@
 -- The law of the steps, from what each of them keeps and shows.
-use Rattle.std.proofs.Common.{◌≡◌, ◌≢◌, ℕ, ◌+◌, ◌-◌, ◌%◌, ◌^◌, ◌<◌, Bool, true, false, cond, List, [], ◌∷◌, ◌++◌, length, set, slice_index, refl, sym, ap, ◌∙◌, subst, arith, ◌==◌, Option, Some, None, MatchBool, get_or-set_same}
+use Rattle.std.proofs.Common.{◌≡◌, ℕ, ◌+◌, ◌-◌, ◌%◌, ◌^◌, ◌<◌, Bool, true, false, cond, List, [], ◌∷◌, length, set, slice_index, refl, sym, ap, ◌∙◌, subst, arith, ◌==◌, Option, Some, None, MatchBool, get_or-set_same}
 use mathlib.Core.Option.{some, none}
 use mathlib.Core.Logic.{dite}
 use native.Mathlib.Decide.{ℕ_discrete}
@@ -13,7 +13,6 @@ use Rattle.fv_graph.proofs.Graphs.{is_wires}
 use Rattle.fv_graph.proofs.Counts.{bit_same, bit_apart, bit_one, get_set}
 use Rattle.fv_core.specs.Core.{Now}
 use Rattle.fv_core.specs.Lean.{lean_after}
-use Rattle.fv_core.specs.declared.event.Event.{Event}
 use Rattle.fv_core.specs.declared.event.Event.TheVariants.{Take, Finish, Arrive}
 use Rattle.fv_rule.specs.declared.Deed.{Deed}
 use Rattle.fv_rule.specs.declared.Deed.TheVariants.{Stamped, Arrived, Saw, Claimed}
@@ -35,7 +34,7 @@ use Rattle.fv_rule.proofs.Load.{looks, same_word}
 use Rattle.fv_rule.proofs.Starting.{starting, behind}
 use Rattle.fv_rule.proofs.Arrive.{one_less}
 use Rattle.fv_rule.proofs.Arriving.{arriving}
-use Rattle.fv_rule.proofs.Leaving.{Leads, leads, parts, leaving, dropped}
+use Rattle.fv_rule.proofs.Leaving.{leads, parts, leaving, dropped}
 use Rattle.fv_rule.proofs.Hands.{free_owes, claim_busy, busy_won, exchange_busy, is_owed, finish_free}
 
 module _ {C Key : Type 0} (edge_of : C → ℕ) (key_of : C → Key) (a : About C) (graph : IsGraph a.tasks.value.tasks) (few : task_count a.tasks.value.tasks < 2 ^ 62) (id : ℕ) (v : View C) (c : List (ℕ × Option C)) (ab : v.board ≡ Some a) where

@@ -1,12 +1,12 @@
 -- Taking several slots in one step.
-use Rattle.std.proofs.Common.{◌≡◌, ◌≢◌, ℕ, zero, suc, ◌+◌, ◌<◌, ◌≤◌, Bool, true, false, List, [], ◌∷◌, ◌++◌, map, length, set, refl, sym, ap, ◌∙◌, subst, arith, ◌==◌, length-set, ⊎_elim}
+use Rattle.std.proofs.Common.{◌≡◌, ℕ, zero, suc, ◌<◌, List, [], ◌∷◌, ◌++◌, length, set, refl, sym, ap, ◌∙◌, subst, arith, ◌==◌, length-set, ⊎_elim}
 use mathlib.Core.Option.{Option, some, none, some-injective, some-ne-none}
 use mathlib.Core.Logic.{dite}
 use native.Mathlib.Decide.{ℕ_discrete}
 use lib.ListN.{get_elem?}
 use Rattle.atomic_table.specs.Table.{Act, keeps, takes, gives, chain, carried_after, homes_after, Valid}
 use Rattle.atomic_table.proofs.Lists.{at_set, set_else, set_here}
-use Rattle.fv_outside.specs.Tasks.{bit, total, times}
+use Rattle.fv_outside.specs.Tasks.{bit, times}
 use Rattle.fv_rule.specs.Rule.{places, Each}
 use Rattle.fv_graph.proofs.Counts.{bit_same, bit_apart, total_append}
 

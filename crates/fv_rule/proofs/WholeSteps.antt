@@ -1,5 +1,5 @@
 -- The steps under the whole rule, from their parts.
-use Rattle.std.proofs.Common.{◌≡◌, ◌≢◌, ℕ, zero, suc, ◌+◌, ◌-◌, ◌*◌, ◌<◌, ◌≤◌, Bool, true, false, not, ◌&&◌, ◌⊎◌, inl, inr, ⊎_elim, List, [], ◌∷◌, ◌++◌, length, get_or, set, slice_index, refl, sym, ap, ◌∙◌, subst, arith, ◌==◌, Option, Some, None, ltb, eq-eqb, ne_eqb}
+use Rattle.std.proofs.Common.{◌≡◌, ℕ, ◌+◌, ◌-◌, ◌<◌, Bool, true, false, ◌&&◌, ⊎_elim, List, [], ◌∷◌, ◌++◌, length, set, slice_index, refl, sym, ap, ◌∙◌, subst, arith, ◌==◌, Option, Some, ltb, ne_eqb}
 use mathlib.Core.Option.{some, some-injective}
 use mathlib.Core.Logic.{dite}
 use native.Mathlib.Decide.{ℕ_discrete}
@@ -10,17 +10,16 @@ use Rattle.fv_outside.specs.Tasks.{bit, total, times}
 use Rattle.fv_graph.specs.Net.{Net, IsNet}
 use Rattle.fv_graph.specs.Graph.{Graph}
 use Rattle.fv_core.specs.Core.{Now, numbers, opening}
-use Rattle.fv_core.specs.Lean.{lean_replayed, lean_after}
-use Rattle.fv_core.specs.declared.event.Event.{Event}
-use Rattle.fv_core.specs.declared.event.Event.TheVariants.{Take, Finish, Arrive}
-use Rattle.fv_graph.proofs.Counts.{bit_same, bit_apart, total_append}
-use Rattle.fv_graph.proofs.Counts.{bit_left, bit_right}
-use Rattle.fv_graph.specs.Wires.{Wires, IsWires}
+use Rattle.fv_core.specs.Lean.{lean_after}
+use Rattle.fv_core.specs.declared.event.Event.TheVariants.{Finish, Arrive}
+use Rattle.fv_graph.proofs.Counts.{bit_same, bit_apart}
+use Rattle.fv_graph.proofs.Counts.{bit_right}
+use Rattle.fv_graph.specs.Wires.{Wires}
 use Rattle.fv_rule.specs.declared.Deed.{Deed}
 use Rattle.fv_rule.specs.declared.Deed.TheVariants.{Stamped, Arrived, Saw, Claimed}
 use Rattle.fv_rule.specs.declared.About.{About}
 use Rattle.fv_rule.specs.declared.View.{View}
-use Rattle.fv_rule.specs.Rule.{count_word, claim_word, wins, arrives, starts, finishes, done_by, all, noted, IsKept}
+use Rattle.fv_rule.specs.Rule.{count_word, wins, arrives, starts, finishes, done_by, all, noted, IsKept}
 use Rattle.fv_rule.specs.Shown.{worker_of, Shows, Reached, OwesNothing}
 use Rattle.fv_rule.specs.Whole.{zeroes, starts_at, finishes_at, IsWhole}
 use Rattle.fv_rule.proofs.Claim.{all_noted, all_at, total_ext}

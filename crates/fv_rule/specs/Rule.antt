@@ -1,9 +1,9 @@
 -- The board's rule, over words, slots and what all seats have done.
-use Rattle.std.specs.Prelude.{◌≡◌, ℕ, ◌+◌, ◌*◌, ◌-◌, ◌<◌, ◌≤◌, Bool, true, false, cond, not, ◌&&◌, ◌||◌, ◌⊎◌, List, [], ◌∷◌, ◌++◌, length, slice_index, Option, Some, None, ◌==◌, ltb, MatchBool, drop}
+use Rattle.std.specs.Prelude.{◌≡◌, ℕ, ◌+◌, ◌-◌, ◌<◌, ◌≤◌, true, false, cond, not, ◌&&◌, ◌⊎◌, List, [], ◌∷◌, ◌++◌, length, slice_index, Option, Some, None, ◌==◌, ltb, MatchBool, drop}
 use mathlib.Core.Option.{some}
 use lib.ListN.{get_elem?}
 use Rattle.atomic_table.specs.Table.{State, Me, Step, rest}
-use Rattle.fv_outside.specs.Tasks.{bit, total, times}
+use Rattle.fv_outside.specs.Tasks.{bit, total}
 use Rattle.fv_graph.specs.Net.{Net}
 use Rattle.fv_graph.specs.Wires.{Wires}
 use Rattle.fv_graph.specs.Graph.{Graph}
@@ -147,14 +147,18 @@ module _ {C Key : Type 0} (wires : Graph → Wires) (edge_of : C → ℕ) (key_o
     pub claimed : (t : ℕ) → t < (wires a.tasks.value).net.tasks → slice_index s.words (claim_word (wires a.tasks.value).net.tasks t) ≡ all (wins t) s.views
     pub lost : (t : ℕ) → t < (wires a.tasks.value).net.tasks → 0 < all (loses t) s.views → slice_index s.words (claim_word (wires a.tasks.value).net.tasks t) ≡ 1
     -- counts
-    pub counted : (t : ℕ) → t < (wires a.tasks.value).net.tasks → slice_index s.words (count_word t) + total (λ e. all (arrives e) s.views) ((wires a.tasks.value).net.needs t) ≡ length ((wires a.tasks.value).net.needs t)
+    pub counted : (t : ℕ) → t < (wires a.tasks.value).net.tasks
+        → slice_index s.words (count_word t) + total (λ e. all (arrives e) s.views) ((wires a.tasks.value).net.needs t) ≡ length ((wires a.tasks.value).net.needs t)
     pub arrived_once : (e : ℕ) → all (arrives e) s.views < 2
     pub seen : (t : ℕ) → t < (wires a.tasks.value).net.tasks → 0 < all (sees t) s.views → slice_index s.words (count_word t) ≡ 0
     -- slots
-    pub empty_slots : (e : ℕ) → e < (wires a.tasks.value).edges → (wires a.tasks.value).is_entry e ≡ false → all (wins ((wires a.tasks.value).net.source e)) s.views ≡ 0 → get_elem? s.homes e ≡ some (some None)
-    pub full_slots : (e : ℕ) → ((wires a.tasks.value).is_entry e ≡ true) ⊎ (all (arrives e) s.views ≡ 1) → all (wins ((wires a.tasks.value).net.reader e)) s.views ≡ 0
+    pub empty_slots : (e : ℕ) → e < (wires a.tasks.value).edges → (wires a.tasks.value).is_entry e ≡ false
+        → all (wins ((wires a.tasks.value).net.source e)) s.views ≡ 0 → get_elem? s.homes e ≡ some (some None)
+    pub full_slots : (e : ℕ) → ((wires a.tasks.value).is_entry e ≡ true) ⊎ (all (arrives e) s.views ≡ 1)
+        → all (wins ((wires a.tasks.value).net.reader e)) s.views ≡ 0
         → (x : Option C) × (get_elem? s.homes e ≡ some (some x)) × Fits a e x
-    pub exit_slots : (e : ℕ) → (wires a.tasks.value).is_exit e ≡ true → all (finishes ((wires a.tasks.value).net.source e)) s.views ≡ 1 → (x : Option C) × (get_elem? s.homes e ≡ some (some x)) × Fits a e x
+    pub exit_slots : (e : ℕ) → (wires a.tasks.value).is_exit e ≡ true
+        → all (finishes ((wires a.tasks.value).net.source e)) s.views ≡ 1 → (x : Option C) × (get_elem? s.homes e ≡ some (some x)) × Fits a e x
     pub keyed : (e : ℕ) (p : C) → get_elem? s.homes e ≡ some (some (Some p)) → key_of p ≡ key_of a.sample.value
 
   -- the slots that a seat took, in the order of the edges, the inward ones full and the outward ones empty
@@ -172,4 +176,5 @@ module _ {C Key : Type 0} (wires : Graph → Wires) (edge_of : C → ℕ) (key_o
 
   -- what a finish tells, of the task that was won last
   abbrev pub Ends : Step (Option C) → Me (Option C) (View C) → ℕ → Me (Option C) (View C) → Type 0
-  Ends st m n k = (a : About C) → m.0.board ≡ Some a → (t : ℕ) → last_won m.0.deeds ≡ Some t → (k.0 ≡ noted m.0 (Stamped n t false)) × (k.1 ≡ drop (going a t) m.1) × IsAbove n m.0
+  Ends st m n k = (a : About C) → m.0.board ≡ Some a → (t : ℕ) → last_won m.0.deeds ≡ Some t
+      → (k.0 ≡ noted m.0 (Stamped n t false)) × (k.1 ≡ drop (going a t) m.1) × IsAbove n m.0

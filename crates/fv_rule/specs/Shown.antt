@@ -1,5 +1,5 @@
 -- What the board shows: a state of the lean core. A seat's steps count as those of the worker that its first number names.
-use Rattle.std.specs.Prelude.{◌≡◌, ℕ, ◌+◌, ◌<◌, ◌≢◌, Bool, true, false, ◌&&◌, List, [], ◌∷◌, length, slice_index, get_or, Option, Some, None, ◌==◌, ltb}
+use Rattle.std.specs.Prelude.{◌≡◌, ℕ, ◌+◌, ◌<◌, ◌≢◌, true, false, ◌&&◌, List, [], length, slice_index, get_or, Some, None, ltb}
 use mathlib.Core.Option.{some}
 use lib.ListN.{get_elem?}
 use Rattle.atomic_table.specs.Table.{State}

@@ -3,8 +3,7 @@ use Rattle.std.specs.Prelude.{◌≡◌, ℕ, ◌+◌, ◌-◌, ◌%◌, ◌^◌
 use mathlib.Core.Option.{some}
 use lib.ListN.{get_elem?}
 use Rattle.atomic_table.specs.Table.{State, Me, Act, Valid, carried_after, stepped}
-use Rattle.fv_outside.specs.Tasks.{times}
-use Rattle.fv_graph.specs.Graph.{IsGraph, net_of, inward, outward}
+use Rattle.fv_graph.specs.Graph.{net_of}
 use Rattle.fv_core.specs.Core.{Now, opening}
 use Rattle.fv_core.specs.Lean.{is_lean_legal, lean_after}
 use Rattle.fv_core.specs.declared.event.Event.{Event}
@@ -26,7 +25,8 @@ module _ {C : Type 0} where
   -- what is shown changes by this event, which is legal in the lean core, or not at all
   abbrev pub Changes : About C → State (Option C) (View C) → State (Option C) (View C) → Option Event → Type 0
   Changes a s s' None = (z : Now) → ShowsNow a s z → ShowsNow a s' z
-  Changes a s s' (Some e) = (z : Now) → ShowsNow a s z → (is_lean_legal (net_of a.tasks.value.tasks) z e ≡ true) × ShowsNow a s' (lean_after (net_of a.tasks.value.tasks) z e)
+  Changes a s s' (Some e) = (z : Now) → ShowsNow a s z
+      → (is_lean_legal (net_of a.tasks.value.tasks) z e ≡ true) × ShowsNow a s' (lean_after (net_of a.tasks.value.tasks) z e)
 
 module _ {C Key : Type 0} (edge_of : C → ℕ) (key_of : C → Key) where
   -- the board meets its rule
@@ -49,15 +49,18 @@ module _ {C Key : Type 0} (edge_of : C → ℕ) (key_of : C → Key) where
         → Steps a id (v, c) (claim_word (net_of a.tasks.value.tasks).tasks t) (λ _. 1) (λ k. cond (k == 0) (Some (Take (worker_of v) t)) None)
         (λ k me. (me.0 ≡ noted v (Claimed t (k == 0))) × MatchBool (k == 0) (IsBusy graph_wires edge_of key_of a t false me.0 me.1) (me.1 ≡ []))
     -- a stamp: the start of the task in hand, or its finish
-    pub start : (t : ℕ) → IsBusy graph_wires edge_of key_of a t false v c → Steps a id (v, c) 0 (λ k. (k + 1) % 2 ^ 64) (λ _. None) (λ k me. me ≡ (noted v (Stamped k t true), c))
+    pub start : (t : ℕ) → IsBusy graph_wires edge_of key_of a t false v c
+        → Steps a id (v, c) 0 (λ k. (k + 1) % 2 ^ 64) (λ _. None) (λ k me. me ≡ (noted v (Stamped k t true), c))
     pub finish : (t : ℕ) → IsBusy graph_wires edge_of key_of a t true v c → AreHanded graph_wires edge_of key_of a t c
         → Steps a id (v, c) 0 (λ k. (k + 1) % 2 ^ 64) (λ _. Some (Finish (worker_of v) t)) (λ k me. (me.0 ≡ noted v (Stamped k t false)) × IsFree graph_wires edge_of key_of a me.0 me.1)
     -- an arrival at an edge that the seat owes
     pub arrive : (e : ℕ) (x : Option C) (rest : List (ℕ × Option C)) → c ≡ (e, x) ∷ rest → IsFree graph_wires edge_of key_of a v c
         → Steps a id (v, c) (count_word ((net_of a.tasks.value.tasks).reader e)) (λ k. (k + (2 ^ 64 - 1)) % 2 ^ 64) (λ _. Some (Arrive (worker_of v) e)) (λ k me. (me ≡ (noted v (Arrived e (k - 1)), rest)) × (0 < k))
     -- an exchange of a slot that the seat has, by which a parcel is handed or received: it changes nothing that the rule sees
-    pub exchange : (t e : ℕ) (started : Bool) (y : Option C) → IsBusy graph_wires edge_of key_of a t started v c → MayHold graph_wires edge_of key_of a e y → IsBusy graph_wires edge_of key_of a t started v (with_slot c e y)
+    pub exchange : (t e : ℕ) (started : Bool) (y : Option C) → IsBusy graph_wires edge_of key_of a t started v c
+        → MayHold graph_wires edge_of key_of a e y → IsBusy graph_wires edge_of key_of a t started v (with_slot c e y)
 
   -- a board that meets its rule, in which no seat is spent and no seat has done anything, shows the lean core's opening state
   abbrev pub OpeningLaw : Type 0
-  OpeningLaw = (a : About C) (s : State (Option C) (View C)) → Meets a s → ((id : ℕ) (v : View C) → get_elem? s.views id ≡ some v → (v.board ≡ Some a) × (v.deeds ≡ [])) → ShowsNow a s (opening (net_of a.tasks.value.tasks) a.workers)
+  OpeningLaw = (a : About C) (s : State (Option C) (View C)) → Meets a s
+      → ((id : ℕ) (v : View C) → get_elem? s.views id ≡ some v → (v.board ≡ Some a) × (v.deeds ≡ [])) → ShowsNow a s (opening (net_of a.tasks.value.tasks) a.workers)

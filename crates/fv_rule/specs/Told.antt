@@ -1,5 +1,5 @@
 -- What all seats' lists, taken together, tell of a board that is closed (this project's profile).
-use Rattle.std.specs.Prelude.{◌≡◌, ℕ, ◌<◌, ◌≤◌, List, length}
+use Rattle.std.specs.Prelude.{◌≡◌, ℕ, ◌<◌, ◌≤◌, length}
 use Rattle.fv_outside.specs.Tasks.{times}
 use Rattle.fv_graph.specs.Net.{Net}
 use Rattle.fv_rule.specs.declared.Deed.{Deed}

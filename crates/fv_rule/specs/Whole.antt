@@ -1,5 +1,5 @@
 -- The whole rule: the parts that a claim was proved under, and the others.
-use Rattle.std.specs.Prelude.{◌≡◌, ℕ, ◌+◌, ◌-◌, ◌<◌, ◌≤◌, Bool, true, false, not, ◌&&◌, List, [], ◌∷◌, ◌++◌, map, replicate, length, slice_index, Option, Some, ◌==◌, ltb}
+use Rattle.std.specs.Prelude.{◌≡◌, ℕ, ◌+◌, ◌<◌, ◌≤◌, not, ◌&&◌, List, [], ◌∷◌, ◌++◌, map, replicate, length, slice_index, Option, Some, ◌==◌, ltb}
 use mathlib.Core.Option.{some}
 use lib.ListN.{get_elem?}
 use Rattle.atomic_table.specs.Table.{State}
@@ -13,7 +13,7 @@ use Rattle.fv_rule.specs.declared.Deed.{Deed}
 use Rattle.fv_rule.specs.declared.Deed.TheVariants.{Stamped, Arrived, Saw, Claimed}
 use Rattle.fv_rule.specs.declared.About.{About}
 use Rattle.fv_rule.specs.declared.View.{View}
-use Rattle.fv_rule.specs.Rule.{count_word, wins, arrives, starts, finishes, done_by, all, IsSpent, IsKept}
+use Rattle.fv_rule.specs.Rule.{count_word, arrives, starts, finishes, all, IsKept}
 use Rattle.fv_rule.specs.Shown.{Reached}
 
 -- an arrival into t after which the count was 0
@@ -68,8 +68,10 @@ module _ {C Key : Type 0} (wires : Graph → Wires) (edge_of : C → ℕ) (key_o
     pub stamped_once : (t : ℕ) → (all (starts t) s.views < 2) × (all (finishes t) s.views < 2)
     pub start_below : (k t : ℕ) → 0 < all (finishes_at k t) s.views → (m : ℕ) × (m < k) × (0 < all (starts_at m t) s.views)
     -- counts
-    pub zero_once : (t : ℕ) → t < (wires a.tasks.value).net.tasks → 0 < length ((wires a.tasks.value).net.needs t) → all (zeroes (wires a.tasks.value).net t) s.views ≡ bit (slice_index s.words (count_word t) == 0)
+    pub zero_once : (t : ℕ) → t < (wires a.tasks.value).net.tasks → 0 < length ((wires a.tasks.value).net.needs t)
+        → all (zeroes (wires a.tasks.value).net t) s.views ≡ bit (slice_index s.words (count_word t) == 0)
     pub arrived_done : (e : ℕ) → all (arrives e) s.views ≤ all (finishes ((wires a.tasks.value).net.source e)) s.views
-    pub after_reads : (k t e : ℕ) → t < (wires a.tasks.value).net.tasks → 0 < all (starts_at k t) s.views → 0 < times e ((wires a.tasks.value).net.needs t) → (m : ℕ) × (m < k) × (0 < all (finishes_at m ((wires a.tasks.value).net.source e)) s.views)
+    pub after_reads : (k t e : ℕ) → t < (wires a.tasks.value).net.tasks → 0 < all (starts_at k t) s.views
+        → 0 < times e ((wires a.tasks.value).net.needs t) → (m : ℕ) × (m < k) × (0 < all (finishes_at m ((wires a.tasks.value).net.source e)) s.views)
     -- what is shown, while no seat is spent
     pub reached : ((id : ℕ) (v : View C) → get_elem? s.views id ≡ some v → v.board ≡ Some a) → Reached {C = C} {S = Option C} (wires a.tasks.value).net a.workers s
