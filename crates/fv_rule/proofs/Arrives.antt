@@ -1,0 +1,110 @@
+-- An arrival keeps the whole rule, and is the lean core's Arrive.
+use Rattle.std.proofs.Common.{◌≡◌, ◌≢◌, ℕ, ◌+◌, ◌-◌, ◌<◌, Bool, true, false, ◌&&◌, ⊎_elim, List, [], ◌∷◌, length, set, slice_index, refl, sym, ap, ◌∙◌, subst, arith, length-set, ltb, lt-ltb, ◌==◌, not, ne_eqb}
+use mathlib.Core.Option.{some, some-injective}
+use mathlib.Core.Logic.{dite}
+use native.Mathlib.Decide.{ℕ_discrete}
+use lib.ListN.{get_elem?}
+use Rattle.atomic_table.specs.Table.{State}
+use Rattle.atomic_table.proofs.Lists.{at_set, set_here, set_else}
+use Rattle.fv_outside.specs.Tasks.{bit, times}
+use Rattle.fv_core.specs.Ends.{without}
+use Rattle.fv_graph.specs.Net.{Net, IsNet}
+use Rattle.fv_core.specs.Core.{Now, owes_of, count_of}
+use Rattle.fv_core.specs.Lean.{is_lean_legal, lean_after}
+use Rattle.fv_core.specs.declared.event.Event.TheVariants.{Arrive}
+use Rattle.fv_graph.proofs.Counts.{bit_same, bit_apart, total_append, get_set}
+use Rattle.fv_core.proofs.EndsLemmas.{times_without}
+use Rattle.fv_graph.proofs.Counts.{bit_left}
+use Rattle.fv_rule.specs.declared.Deed.{Deed}
+use Rattle.fv_rule.specs.declared.Deed.TheVariants.{Arrived}
+use Rattle.fv_rule.specs.declared.View.{View}
+use Rattle.fv_rule.specs.Rule.{count_word, wins, arrives, finishes, done_by, all, noted}
+use Rattle.fv_rule.specs.Shown.{worker_of, ShowsSeat, Shows}
+use Rattle.fv_rule.proofs.Claim.{all_noted}
+use Rattle.fv_rule.proofs.Taking.{at_below}
+
+both_of : (a b : Bool) → a ≡ true → b ≡ true → (a && b) ≡ true
+both_of true b p q = q
+both_of false b p q = p
+
+some_times : (k : ℕ) → 0 < k → not (k == 0) ≡ true
+some_times k h = ap not (ne_eqb k 0 (λ z. omega arith))
+
+module _ {C S : Type 0} (n : Net) (net : IsNet n) (workers : ℕ) (s : State S (View C)) (z : Now) (h : Shows {C = C} {S = S} n workers s z) (id e c : ℕ) (v : View C) (at : get_elem? s.views id ≡ some v)
+    (inner : n.is_inner e ≡ true) (done : 0 < done_by (finishes (n.source e)) v) (new : done_by (arrives e) v ≡ 0)
+    (words' : List ℕ) (word_is : (t : ℕ) → t < n.tasks → slice_index words' (count_word t) + bit (n.reader e == t) ≡ slice_index s.words (count_word t)) where
+  abbrev w : ℕ
+  w = worker_of v
+
+  abbrev d : Deed
+  d = Arrived e c
+
+  counts_long : length z.counts ≡ n.tasks
+  counts_long = h.long.0
+
+  owes_long : length z.owes ≡ length z.runs
+  owes_long = h.long.2
+
+  abbrev z' : Now
+  z' = lean_after n z (Arrive (worker_of v) e)
+
+  has : times e (owes_of z (worker_of v)) ≡ 1
+  has = let o = (h.seat id v at).owes e in let b = bit_left (n.is_inner e) (ltb 0 (done_by (finishes (n.source e)) v)) inner in let l = ap bit (lt-ltb 0 (done_by (finishes (n.source e)) v) done) in omega arith
+
+  pub may_arrive : is_lean_legal n z (Arrive (worker_of v) e) ≡ true
+  may_arrive = both_of (ltb (worker_of v) (length z.runs)) (not (times e (owes_of z (worker_of v)) == 0)) (lt-ltb (worker_of v) (length z.runs) (h.seat id v at).there) (some_times (times e (owes_of z (worker_of v))) (let k = has in omega arith))
+
+  in_owes : worker_of v < length z.owes
+  in_owes = let t = (h.seat id v at).there in omega arith
+
+  mine : ShowsSeat n z' (noted v d)
+  mine = let q = h.seat id v at in record {
+    there = q.there;
+    stays = q.stays;
+    runs = λ t. let a = total_append (finishes t) v.deeds (d ∷ []) in let b = total_append (wins t) v.deeds (d ∷ []) in let r = q.runs t in omega arith;
+    owes = λ x. let a = total_append (arrives x) v.deeds (d ∷ []) in let b = total_append (finishes (n.source x)) v.deeds (d ∷ []) in
+        let f : done_by (finishes (n.source x)) (noted v d) ≡ done_by (finishes (n.source x)) v = omega arith in
+        let g = ap (λ k. bit (n.is_inner x && ltb 0 k)) f in let o = q.owes x in
+        let t = times_without (owes_of z (worker_of v)) e (let k = has in omega arith) x in
+        get_set (λ l. times x l + done_by (arrives x) (noted v d) ≡ bit (n.is_inner x && ltb 0 (done_by (finishes (n.source x)) (noted v d)))) z.owes (worker_of v) (worker_of v) (without e (owes_of z (worker_of v))) [] in_owes (λ _. omega arith) (λ ne. absurd (ne refl));
+  }
+
+  others : (j : ℕ) (u : View C) → j ≢ id → get_elem? s.views j ≡ some u → ShowsSeat n z' u
+  others j u ne k = let q = h.seat j u k in record {
+    there = q.there;
+    stays = q.stays;
+    runs = q.runs;
+    owes = λ x. get_set (λ l. times x l + done_by (arrives x) u ≡ bit (n.is_inner x && ltb 0 (done_by (finishes (n.source x)) u))) z.owes (worker_of v) (worker_of u) (without e (owes_of z (worker_of v))) [] in_owes (λ m. absurd (ne (h.apart j id u v k at m))) (λ _. q.owes x);
+  }
+
+  rt : n.reader e < n.tasks
+  rt = (net.rises e inner).1
+
+  pub shows_arrived : Shows {C = C} {S = S} n workers (record s { words = words'; views = set s.views id (noted v d) }) z'
+  shows_arrived =
+      let F : (x : ℕ) → all (finishes x) (set s.views id (noted v d)) ≡ all (finishes x) s.views = λ x. let r = all_noted (finishes x) s.views id v d at in omega arith in
+      let W : (x : ℕ) → all (wins x) (set s.views id (noted v d)) ≡ all (wins x) s.views = λ x. let r = all_noted (wins x) s.views id v d at in omega arith in
+      let same : (j : ℕ) (u : View C) → get_elem? (set s.views id (noted v d)) j ≡ some u → (y : View C) × (get_elem? s.views j ≡ some y) × (worker_of u ≡ worker_of y) = λ j u k.
+      ⊎_elim (λ (p : (j ≡ id) × (noted v d ≡ u)). (v, subst (λ i. get_elem? s.views i ≡ some v) (sym p.0) at, ap (λ (y : View C). worker_of y) (sym p.1))) (λ p. (u, p.1, refl)) (at_set s.views id j (noted v d) u k) in
+      record {
+        long = (length-set z.counts (n.reader e) (count_of z (n.reader e) - 1) ∙ h.long.0, h.long.1, length-set z.owes (worker_of v) (without e (owes_of z (worker_of v))) ∙ h.long.2);
+        counts = λ t l. let o = h.counts t l in let k = word_is t l in get_set (λ m. m ≡ slice_index words' (count_word t)) z.counts (n.reader e) t (count_of z (n.reader e) - 1) 1 (subst (λ m. n.reader e < m) (sym counts_long) rt)
+            (λ is. let b = bit_same (n.reader e) t (sym is) in let q : count_of z (n.reader e) ≡ count_of z t = ap (count_of z) (sym is) in omega arith)
+            (λ ne. let b = bit_apart (n.reader e) t (λ q. ne (sym q)) in omega arith);
+        done = λ t. h.done t ∙ sym (F t);
+        running = λ t. let f = F t in let g = W t in let r = h.running t in omega arith;
+        seat = λ j u k. ⊎_elim
+            (λ (p : (j ≡ id) × (noted v d ≡ u)). subst (λ (y : View C). ShowsSeat n z' y) p.1 mine)
+            (λ (p : (j ≢ id) × (get_elem? s.views j ≡ some u)). others j u p.0 p.1) (at_set s.views id j (noted v d) u k);
+        apart = λ i j u y k f m. let p = same i u k in let q = same j y f in h.apart i j p.0 q.0 p.1 q.1 (sym p.2 ∙ m ∙ q.2);
+        idle = λ k hk no. let here : worker_of v ≢ k = no id (noted v d) (set_here s.views id (noted v d) (at_below s.views id v at)) in
+            let o = h.idle k hk (λ j u q. dite (ℕ_discrete j id)
+            (λ is m. here (ap (λ (y : View C). worker_of y) (some-injective v u (sym at ∙ ap (get_elem? s.views) (sym is) ∙ q)) ∙ m))
+            (λ nj. no j u (set_else s.views id j (noted v d) nj ∙ q))) in
+            record {
+              there = o.there;
+              stays = o.stays;
+              runs = o.runs;
+              owes = get_set (λ l. l ≡ []) z.owes (worker_of v) k (without e (owes_of z (worker_of v))) [] in_owes (λ m. absurd (here (sym m))) (λ _. o.owes);
+            };
+      }
