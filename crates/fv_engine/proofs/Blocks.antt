@@ -176,3 +176,6 @@ module _ (e : Inside) (inv : IsStored e) (v : EngineView) (view_is : view_of e �
 
       pub ordered : IsOrdered (record { loops = e.plan.loops; vectors = vectors_of frames e.vector; reads = e.plan.reads }) lines
       ordered = same_order t.tasks (record { loops = e.plan.loops; vectors = vectors_of frames e.vector; reads = e.plan.reads }) lines t_loops t_vectors t_pairs ran.ends.journal
+
+      pub counted : length lines ≡ task_count (record { loops = e.plan.loops; vectors = vectors_of frames e.vector; reads = e.plan.reads })
+      counted = ran.ends.counted ∙ ap (λ n. n * t.tasks.loops) t_vectors ∙ ap (λ n. vectors_of frames e.vector * n) t_loops

@@ -9,10 +9,11 @@ use Rattle.fv_engine.specs.Stands.{EngineView}
 abbrev pub tasks_told : EngineView → (frames : ℕ) → Tasks
 tasks_told e frames = record { loops = e.plan.loops; vectors = vectors_of frames e.vector; reads = e.plan.reads }
 
--- an entry of these tasks, with a journal in order
+-- an entry of these tasks, with a journal in order, of as many lines
 pub record IsEntry (e : EngineView) (frames : ℕ) (entry : BlockEntry) : Type 0 where
   pub tasks : entry.tasks ≡ tasks_told e frames
   pub ordered : IsOrdered entry.tasks entry.lines
+  pub counted : length entry.lines ≡ task_count entry.tasks
 
 -- there is room for one call, a line for each task and the pairs
 pub record HasRoomForBlock (room : Room) (tasks : Tasks) : Type 0 where

@@ -15,7 +15,7 @@ use Rattle.fv_turns.specs.Block.{vectors_of}
 use Rattle.fv_engine.specs.Stands.{EngineView, GoesOn}
 use Rattle.fv_engine.specs.Stored.{view_of}
 use Rattle.fv_engine.specs.Told.{tasks_told}
-use Rattle.fv_engine.proofs.Blocks.{tasks_fit, edges_fit, lines_fit, count_is, job, first_is, ran_as, goes, still_standing, ordered, outputs_there, some_more, many_held}
+use Rattle.fv_engine.proofs.Blocks.{tasks_fit, edges_fit, lines_fit, count_is, job, first_is, ran_as, goes, still_standing, ordered, counted, outputs_there, some_more, many_held}
 use Rattle.fv_engine.proofs.engine.Engine.run_block.Goals as goal
 
 pub reset-requires-clause-tasks : goal.reset-requires-clause-tasks
@@ -95,7 +95,9 @@ returns-clause-told g c =
     let in_order : IsOrdered said c.deref-3.result.now =
     subst (λ (x : Tasks). IsOrdered x c.deref-3.result.now) (sym same) (subst (λ (x : List Line). IsOrdered (tasks_told (view_of c.self.inside) c.args.frames) x) (sym c.deref-3.ensures.value)
     (ordered c.self.inside c.self.invariant c.args.self.now c.self.view_is c.args.frames c.args.input.now c.args.controls.now c.requires.frames c.requires.input c.requires.controls c.vectors-vectors.result c.vectors-vectors.ensures.value c.set_vectors.new.self c.set_vectors.ensures c.from.result c.deref.result.now c.from.ensures (c.deref.ensures.value ∙ with_items_is c.self.inside.held c.hold.new.held (omega (arith, c.hold.auto.held, c.deref_mut.ensures.len, c.self.inside.held.ok.0)) ∙ c.hold.ensures) (with_items c.self.inside.region.cells c.over.new.cells).items (with_items c.self.inside.states c.over.new.states).items c.over.new.lines.items c.over.new.output ran)) in
-    some_more (g.G.Gate.told c.block_done.new.self) _ _ (λ x h. (h.0, h.1, record { tasks = said; lines = c.deref-3.result.now }, record { tasks = same ∙ ap (λ (x : EngineView). tasks_told x c.args.frames) c.self.view_is; ordered = in_order }, h.2, h.3)) c.block_done.ensures.entry
+    let count : length c.deref-3.result.now ≡ task_count said =
+    ap length c.deref-3.ensures.value ∙ counted c.self.inside c.self.invariant c.args.self.now c.self.view_is c.args.frames c.args.input.now c.args.controls.now c.requires.frames c.requires.input c.requires.controls c.vectors-vectors.result c.vectors-vectors.ensures.value c.set_vectors.new.self c.set_vectors.ensures c.from.result c.deref.result.now c.from.ensures (c.deref.ensures.value ∙ with_items_is c.self.inside.held c.hold.new.held (omega (arith, c.hold.auto.held, c.deref_mut.ensures.len, c.self.inside.held.ok.0)) ∙ c.hold.ensures) (with_items c.self.inside.region.cells c.over.new.cells).items (with_items c.self.inside.states c.over.new.states).items c.over.new.lines.items c.over.new.output ran ∙ sym (ap task_count same) in
+    some_more (g.G.Gate.told c.block_done.new.self) _ _ (λ x h. (h.0, h.1, record { tasks = said; lines = c.deref-3.result.now }, record { tasks = same ∙ ap (λ (x : EngineView). tasks_told x c.args.frames) c.self.view_is; ordered = in_order; counted = count }, h.2, h.3)) c.block_done.ensures.entry
 
 pub returns-clause-tasks : goal.returns-clause-tasks
 returns-clause-tasks g c = c.len.ensures.value ∙ count_is c.self.inside c.self.invariant c.args.self.now c.self.view_is c.args.frames c.args.input.now c.args.controls.now c.requires.frames c.requires.input c.requires.controls c.vectors-vectors.result c.vectors-vectors.ensures.value c.set_vectors.new.self c.set_vectors.ensures
