@@ -11,6 +11,7 @@ pub mod StepLaws
 pub mod Reaching
 pub mod Preparing
 pub mod Checking
+pub mod Making
 pub mod Stopping
 pub mod Completing
 pub mod Parts

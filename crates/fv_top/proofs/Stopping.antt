@@ -10,7 +10,7 @@ use Rattle.fv_outside.specs.Desk.{DeskState, GoesOn, HasFault, KeepsFaults, IsUn
 use Rattle.fv_outside.proofs.States.{goes_on_then, fault_earlier, fault_later, told_before, unfailing_later}
 use Rattle.fv_words.specs.declared.cause.Cause.{Cause}
 use Rattle.fv_words.specs.Runs.{Run}
-use Rattle.fv_words.specs.Commands.{Playing, Checking, job_in}
+use Rattle.fv_words.specs.Commands.{Playing, Checking, Making, job_in}
 use Rattle.fv_top.specs.declared.refusal.Refusal.{Refusal}
 use Rattle.fv_top.specs.declared.refusal.Refusal.TheVariants.{Usage, WriteFault, WaveTruncated}
 use Rattle.fv_top.specs.Lines.{refused_line, done_line}
@@ -18,7 +18,7 @@ use Rattle.fv_top.specs.Parts.{AppendsPart}
 use Rattle.fv_top.specs.Steps.{Rules, role_of, writes, Halts, fault, judged, want_of_memory, Ends, here, later}
 use Rattle.fv_top.specs.Loading.{reading}
 use Rattle.fv_top.specs.Promise.{Asks, Write, Tell, meant, run_rules, run_steps, rules_of, steps_of, HasCause, bad_words, of_job, HasBegun, LeavesOutput, KeepsOthers}
-use Rattle.fv_top.specs.Running.{Reaches, Delivers, CannotWrite, LeavesPart, CountsFaultOf, Ready, IsReady, file_in, StopsBefore, Checks, StopsCheck, asked_before, EndsDone, Stopped, ReportsLine, EndsRefused}
+use Rattle.fv_top.specs.Running.{Reaches, Delivers, CannotWrite, LeavesPart, CountsFaultOf, Ready, IsReady, file_in, StopsBefore, Checks, StopsCheck, Makes, StopsMake, asked_before, EndsDone, Stopped, ReportsLine, EndsRefused}
 use Rattle.fv_top.proofs.Reaching.{reaches_nothing}
 
 -- a cause between two states is one up to any later state
@@ -264,6 +264,27 @@ checked words name a b asks c = record {
   goes_on = c.goes_on;
   others = c.others;
   played = record { job = Checking name; asks = asks; requests = c.requests; faults = c.faults; told = λ t. let x = c.told t in (x.0, refl, x.1) };
+}
+
+-- ---- a make
+
+pub stopped_make : (words : List (List ℕ)) (voices frames : ℕ) (a b : DeskState) (e : Refusal) → Asks words (Making voices frames) → StopsMake voices frames a b e → Stopped words a b e
+stopped_make words voices frames a b e asks s = record {
+  goes_on = s.goes_on;
+  others = s.others;
+  cause = record { asked = []; requests = s.requests; cause = of_job (Making voices frames) asks s.ends };
+  output = inl s.output;
+  begun = s.begun;
+  appended = s.appended;
+  is_begun = ⊎_elim inl (λ h. inr (h.0, (Making voices frames, asks, h.1))) s.is_begun;
+  faults = s.faults;
+}
+
+pub made : (words : List (List ℕ)) (voices frames : ℕ) (a b : DeskState) → Asks words (Making voices frames) → Makes voices frames a b → EndsDone words frames a b
+made words voices frames a b asks c = record {
+  goes_on = c.goes_on;
+  others = c.others;
+  played = record { job = Making voices frames; asks = asks; requests = c.requests; faults = c.faults; told = λ t. let x = c.told t in (x.0, refl, x.1) };
 }
 
 -- ---- and when a refusal was reported

@@ -1,5 +1,5 @@
 -- One row for each refusal, and the line that a run appends to the report (this project's profile).
-use Rattle.std.specs.Prelude.{ℕ, List, [], ◌∷◌, ◌++◌, flat_map, codes, decimal}
+use Rattle.std.specs.Prelude.{ℕ, ℤ, List, [], ◌∷◌, ◌++◌, flat_map, codes, decimal}
 use Rattle.std.specs.Fmt.{signed_decimal}
 use Rattle.fv_base.specs.declared.role.Role.{Role}
 use Rattle.fv_base.specs.declared.role.Role.TheVariants.{Program, Input, Controls, Output, Report}
@@ -158,6 +158,10 @@ abbrev pub check_line : (inputs outputs controls size delays : ℕ) → List ℕ
 check_line inputs outputs controls size delays =
     codes "inputs " ++ decimal inputs ++ codes " outputs " ++ decimal outputs ++ codes " controls " ++ decimal controls
     ++ codes " size " ++ decimal size ++ codes " delays " ++ decimal delays ++ codes "\n"
+
+-- the line of a program that was made
+abbrev pub made_line : (voices frames : ℕ) → (sum : ℤ) → List ℕ
+made_line voices frames sum = codes "made " ++ decimal voices ++ codes " voices, " ++ decimal frames ++ codes " frames, sum " ++ signed_decimal sum ++ codes "\n"
 
 -- the line of a run that is done
 abbrev pub done_line : (frames : ℕ) → List ℕ

@@ -1,14 +1,17 @@
 -- What a run that is done means (this project's profile).
-use Rattle.std.specs.Prelude.{ℕ, List, ◌++◌, length, Option, Some, None, unwrap_or}
+use Rattle.std.specs.Prelude.{ℕ, ℤ, List, [], ◌++◌, length, Option, Some, None, unwrap_or}
 use Rattle.fv_base.specs.declared.role.Role.{Role}
 use Rattle.fv_base.specs.declared.role.Role.TheVariants.{Program, Input, Controls, Output, Report}
 use Rattle.fv_outside.specs.Desk.{DeskState}
 use Rattle.fv_num.specs.Frames.{Frame, Stream}
 use Rattle.fv_diagram.specs.Diagram.{Diagram, inputs, outputs, size}
 use Rattle.fv_top.specs.Sound.{Sound, output_file}
-use Rattle.fv_top.specs.Lines.{check_line, done_line}
+use Rattle.fv_control.specs.Streams.{control_streams}
+use Rattle.fv_play.specs.Play.{answer_on}
+use Rattle.fv_make.specs.Made.{noise_of, sum_of}
+use Rattle.fv_top.specs.Lines.{check_line, made_line, done_line}
 use Rattle.fv_top.specs.Program.{delay_in}
-use Rattle.fv_top.specs.Sources.{Compiled}
+use Rattle.fv_top.specs.Sources.{Compiled, initial_of}
 
 -- the frames that it counts, the bytes of the output, if it writes one, and the line that it reports
 pub record Meant : Type 0 where
@@ -23,6 +26,14 @@ run_meant d c sound present = record { frames = sound.frames; output = Some (out
 -- that of a program that is checked
 abbrev pub check_meant : Compiled → Meant
 check_meant p = record { frames = 0; output = None; line = check_line (inputs p.diagram) (outputs p.diagram) (length p.controls) (size p.diagram) (delay_in p) }
+
+-- what a program gives on the noise of so many voices, added up
+abbrev pub made_sum : Compiled → (voices frames : ℕ) → ℤ
+made_sum p voices frames = sum_of (answer_on p.diagram (control_streams [] (initial_of p.controls)) frames (noise_of voices frames))
+
+-- that of a program that is made, and played on its noise
+abbrev pub make_meant : Compiled → (voices frames : ℕ) → Meant
+make_meant p voices frames = record { frames = frames; output = None; line = made_line voices frames (made_sum p voices frames) }
 
 -- all that is written of a role at its end
 abbrev pub written_by : Meant → DeskState → Role → List ℕ

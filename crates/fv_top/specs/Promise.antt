@@ -7,9 +7,10 @@ use Rattle.fv_outside.specs.Requests.{Request, to_read, to_write}
 use Rattle.fv_outside.specs.Desk.{DeskState, File, file_named, HasFault, KeepsFaults, IsUnfailing}
 use Rattle.fv_control.specs.declared.script.Change.{Change}
 use Rattle.fv_control.specs.Streams.{control_streams}
+use Rattle.fv_make.specs.Made.{text_of}
 use Rattle.fv_words.specs.declared.cause.Cause.{Cause}
 use Rattle.fv_words.specs.Runs.{Run}
-use Rattle.fv_words.specs.Commands.{Job, Playing, Checking, job_in}
+use Rattle.fv_words.specs.Commands.{Job, Playing, Checking, Making, job_in}
 use Rattle.fv_top.specs.declared.status.Tally.{Tally}
 use Rattle.fv_top.specs.declared.refusal.Refusal.{Refusal}
 use Rattle.fv_top.specs.declared.refusal.Refusal.TheVariants.{Usage, ReadFault, WriteFault, WaveTruncated, NoMemory}
@@ -17,9 +18,9 @@ use Rattle.fv_top.specs.declared.status.Status.{Status}
 use Rattle.fv_top.specs.declared.status.Status.TheVariants.{Done, Refused}
 use Rattle.fv_top.specs.Program.{IsProgram, IsRefusedText, is_of_program}
 use Rattle.fv_top.specs.Sources.{Compiled, Source, initial_of}
-use Rattle.fv_top.specs.Sound.{Sound, sound_of, present_in, cut_in}
+use Rattle.fv_top.specs.Sound.{Sound, mono, sound_of, present_in, cut_in}
 use Rattle.fv_top.specs.Loading.{HasScript, HasInput, IsThere, reading}
-use Rattle.fv_top.specs.Meant.{Meant, run_meant, check_meant, written_by}
+use Rattle.fv_top.specs.Meant.{Meant, run_meant, check_meant, make_meant, written_by}
 use Rattle.fv_top.specs.Lines.{row_of, refused_line}
 use Rattle.fv_top.specs.Steps.{Turn, reads, writes, Rules, Ends, Stops, PassesAll, all_requests}
 
@@ -207,27 +208,76 @@ check_rules name old = record {
   Refuses = CheckRefuses name old.files;
 }
 
+-- ---- the steps of a make
+
+-- the program of so many voices, which takes one stream
+pub record HasMade (voices : ℕ) : Type 0 where
+  pub compiled : Compiled
+  pub program : IsProgram (text_of voices) compiled
+  pub mono : mono compiled ≡ Ok compiled
+
+-- the steps, in their order
+abbrev pub make_steps : List Step
+make_steps = ReadProgram ∷ Fit ∷ Tell ∷ []
+
+-- the roles that a step of a make reads or writes
+abbrev pub MakeTakes : Step → Turn → Type 0
+MakeTakes Tell t = t ≡ writes Report
+MakeTakes s t = ⊥
+
+-- what a turn of it needs
+abbrev pub MakeAnswered : (voices frames : ℕ) → DeskState → Step → Type 0
+MakeAnswered voices frames old Tell = IsUnfailing Report old × ((p : HasMade voices) → length (written_by (make_meant p.compiled voices frames) old Report) ≤ old.room Report)
+MakeAnswered voices frames old s = Unit {0}
+
+-- what it judges passes
+abbrev pub MakePasses : (voices : ℕ) → Step → Type 0
+MakePasses voices ReadProgram = (p : Compiled) × IsProgram (text_of voices) p
+MakePasses voices Fit = HasMade voices
+MakePasses voices s = Unit {0}
+
+-- or is refused for this
+abbrev pub MakeRefuses : (voices : ℕ) → Step → Refusal → Type 0
+MakeRefuses voices ReadProgram refusal = IsRefusedText (text_of voices) refusal
+MakeRefuses voices Fit refusal = (p : Compiled) × IsProgram (text_of voices) p × (mono p ≡ Err refusal)
+MakeRefuses voices s refusal = ⊥
+
+-- the rules of a make's steps, which ask the desk for no file
+abbrev pub make_rules : (voices frames : ℕ) → DeskState → Rules Step
+make_rules voices frames old = record {
+  requests = λ s. [];
+  Takes = MakeTakes;
+  Answers = λ s t. MakeAnswered voices frames old s;
+  Has = HasRefusal;
+  Passes = MakePasses voices;
+  Refuses = MakeRefuses voices;
+}
+
 -- ---- what is asked for
 
 -- its steps
 abbrev pub steps_of : Job → List Step
 steps_of (Playing run) = run_steps
 steps_of (Checking name) = check_steps
+steps_of (Making voices frames) = make_steps
 
 -- and their rules
 abbrev pub rules_of : Job → DeskState → Rules Step
 rules_of (Playing run) old = run_rules run old
 rules_of (Checking name) old = check_rules name old
+rules_of (Making voices frames) old = make_rules voices frames old
 
 -- it can be done
 abbrev pub CanDo : Job → List File → Type 0
 CanDo (Playing run) files = (p : Plays run files) × IsWhole p
 CanDo (Checking name) files = HasProgram name files
+CanDo (Making voices frames) files = HasMade voices
 
 -- what it means that it is
 abbrev pub meant_of : (job : Job) (files : List File) → CanDo job files → Meant
 meant_of (Playing run) files can = meant can.0
 meant_of (Checking name) files can = check_meant can.compiled
+meant_of (Making voices frames) files can = make_meant can.compiled voices frames
 
 -- ---- how a run ends
 

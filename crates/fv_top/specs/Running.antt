@@ -1,5 +1,5 @@
 -- How the parts of a run end.
-use Rattle.std.specs.Prelude.{◌≡◌, ◌≢◌, ◌⊎◌, ℕ, ◌≤◌, IsTrue, List, [], ◌∷◌, ◌++◌, length, Option, Some, None, ℤ}
+use Rattle.std.specs.Prelude.{◌≡◌, ◌≢◌, ◌⊎◌, ℕ, ◌≤◌, IsTrue, List, [], ◌∷◌, ◌++◌, length, Option, Some, None, Ok, Err, ℤ}
 use Rattle.fv_base.specs.declared.role.Role.{Role}
 use Rattle.fv_base.specs.declared.role.Role.TheVariants.{Program, Controls, Input, Output, Report}
 use Rattle.fv_base.specs.Lists.{IsPrefixOf}
@@ -8,13 +8,16 @@ use Rattle.fv_outside.specs.Desk.{DeskState, GoesOn, HasFault, KeepsQuiet, Keeps
 use Rattle.fv_words.specs.Runs.{Run}
 use Rattle.fv_wav.specs.Samples.{pad_bytes, data_size}
 use Rattle.fv_top.specs.declared.refusal.Refusal.{Refusal}
-use Rattle.fv_top.specs.declared.refusal.Refusal.TheVariants.{WriteFault}
-use Rattle.fv_top.specs.Sound.{Sound, file_of, cut_in}
+use Rattle.fv_top.specs.declared.refusal.Refusal.TheVariants.{WriteFault, NoMemory}
+use Rattle.fv_top.specs.Sound.{Sound, mono, file_of, cut_in}
 use Rattle.fv_top.specs.Loading.{reading}
-use Rattle.fv_top.specs.Meant.{check_meant, written_by}
+use Rattle.fv_top.specs.Meant.{check_meant, make_meant, made_sum, written_by}
+use Rattle.fv_make.specs.Made.{text_of}
+use Rattle.fv_top.specs.Program.{IsProgram, IsRefusedText}
+use Rattle.fv_top.specs.Sources.{Compiled}
 use Rattle.fv_top.specs.Lines.{refused_line}
 use Rattle.fv_top.specs.Steps.{Ends}
-use Rattle.fv_top.specs.Promise.{Plays, HasProgram, meant, run_rules, run_steps, check_rules, check_steps, HasBegun, KeepsOutput, KeepsOthers, IsBegunLine, IsRefusedFor, HasDone, LeavesOutput, Reports, IsFaultOf, HandsOn}
+use Rattle.fv_top.specs.Promise.{Plays, HasProgram, meant, run_rules, run_steps, check_rules, check_steps, HasMade, HasRefusal, ReadProgram, Fit, make_rules, make_steps, HasBegun, KeepsOutput, KeepsOthers, IsBegunLine, IsRefusedFor, HasDone, LeavesOutput, Reports, IsFaultOf, HandsOn}
 
 -- The desk was asked for this, and nothing was written.
 pub record Reaches (asked : List Request) (old new : DeskState) : Type 0 where
@@ -100,6 +103,43 @@ pub record StopsCheck (name : List ℕ) (old new : DeskState) (refusal : Refusal
   pub appended : IsTrue old.tells → new.written Report ≡ old.written Report ++ begun
   pub is_begun : (begun ≡ []) ⊎ ((refusal ≡ WriteFault Report) × (IsTrue old.tells → (p : HasProgram name old.files) × IsPrefixOf begun (check_meant p.compiled).line))
   pub faults : CountsFaultOf refusal old new
+
+-- ---- a make
+
+-- The line of a program that was made was reported.
+pub record Makes (voices frames : ℕ) (old new : DeskState) : Type 0 where
+  pub goes_on : GoesOn old new
+  pub requests : new.requests ≡ old.requests ++ []
+  pub others : KeepsOthers old new
+  pub faults : KeepsFaults old new
+  pub told : IsTrue old.tells → (p : HasMade voices) × ((r : Role) → new.written r ≡ written_by (make_meant p.compiled voices frames) old r)
+
+-- It could not be, before its refusal is reported.
+pub record StopsMake (voices frames : ℕ) (old new : DeskState) (refusal : Refusal) : Type 0 where
+  pub goes_on : GoesOn old new
+  pub others : KeepsOthers old new
+  pub requests : new.requests ≡ old.requests ++ []
+  pub ends : Ends (make_rules voices frames old) old new make_steps refusal []
+  pub output : KeepsOutput old new
+  pub begun : List ℕ
+  pub appended : IsTrue old.tells → new.written Report ≡ old.written Report ++ begun
+  pub is_begun : (begun ≡ []) ⊎ ((refusal ≡ WriteFault Report) × (IsTrue old.tells → (p : HasMade voices) × IsPrefixOf begun (make_meant p.compiled voices frames).line))
+  pub faults : CountsFaultOf refusal old new
+
+-- this is the program of so many voices
+pub record IsMade (voices : ℕ) (p : Compiled) : Type 0 where
+  pub program : IsProgram (text_of voices) p
+  pub mono : mono p ≡ Ok p
+
+-- why there is none: its text is refused, or it takes more or fewer streams than one, or memory ran out
+abbrev pub IsNotMade : (voices : ℕ) → Refusal → Type 0
+IsNotMade voices e =
+    (e ≡ NoMemory) ⊎ (HasRefusal ReadProgram e × IsRefusedText (text_of voices) e) ⊎ (HasRefusal Fit e × ((p : Compiled) × IsProgram (text_of voices) p × (mono p ≡ Err e)))
+
+-- the sum of what the program gives on its noise
+pub record HasSum (voices frames : ℕ) (sum : ℤ) : Type 0 where
+  pub made : HasMade voices
+  pub is : sum ≡ made_sum made.compiled voices frames
 
 -- ---- how it ends
 

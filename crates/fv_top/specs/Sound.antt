@@ -9,7 +9,7 @@ use Rattle.fv_wav.specs.declared.head.Head.{Head}
 use Rattle.fv_wav.specs.Samples.{head_bytes, sample_bytes, frame_bytes, pad_bytes, data_size, data_limit, stated_frames}
 use Rattle.fv_top.specs.declared.refusal.Refusal.{Refusal}
 use Rattle.fv_top.specs.declared.refusal.Refusal.TheVariants.{Channels, OutputTooLong, FramesNeeded, WaveTruncated}
-use Rattle.fv_top.specs.Sources.{Source, data_of, frames_of}
+use Rattle.fv_top.specs.Sources.{Compiled, Source, data_of, frames_of}
 
 -- a sound: frames a second, bits of a sample, and the number of frames
 pub record Sound : Type 0 where
@@ -43,6 +43,10 @@ sized sound size = if nat_le size data_limit then Ok sound else Err (OutputTooLo
 abbrev pub counted : Settings → Diagram → Option Head → Option ℕ → Result Sound Refusal
 counted s d head None = Err FramesNeeded
 counted s d head (Some n) = sized (record { rate = rate_in s head; bits = bits_in s head; frames = n }) (data_size (outputs d) (bits_in s head) n)
+
+-- a program that takes one stream
+abbrev pub mono : Compiled → Result Compiled Refusal
+mono p = if inputs p.diagram == 1 then Ok p else Err (Channels 1 (inputs p.diagram))
 
 -- The sound that a diagram makes on an input, or why it does not fit: first the channels, then the frames, then the bytes.
 abbrev pub sound_of : Settings → Diagram → Option Head → Result Sound Refusal

@@ -3,6 +3,7 @@
 
 mod check;
 mod input;
+mod make;
 mod output;
 mod prepare;
 mod program;

@@ -5,7 +5,7 @@ ghost use Rattle.std.specs.Fmt.{signed_decimal};
 ghost use Rattle.fv_base.specs.declared.role.Role.TheVariants.{Report};
 ghost use Rattle.fv_base.specs.Lists.{IsPrefixOf};
 ghost use Rattle.fv_outside.specs.Desk.{HasFault, KeepsFaults, IsUnfailing, Appends};
-ghost use Rattle.fv_top.specs.Lines.{spaced, refused_line, check_line, done_line};
+ghost use Rattle.fv_top.specs.Lines.{spaced, refused_line, check_line, made_line, done_line};
 ghost use Rattle.fv_top.specs.Fields.{printed, listed};
 ghost use Rattle.fv_top.specs.Parts.{AppendsPart};
 
@@ -69,6 +69,31 @@ pub fn report_numbers<D: Desk>(
             d.format(size).as_bytes(),
             b" delays ".as_slice(),
             e.format(delays).as_bytes(),
+            b"\n".as_slice(),
+        ],
+    )
+}
+
+/// Reports the sum of a program that was made. A call that fails leaves a part from the line's front.
+pub fn report_made<D: Desk>(desk: &mut D, voices: u32, frames: u32, sum: i32) -> Result<(), Failed>
+    ensures ok { OnOk result (Appends Report (made_line voices frames sum) (D.state desk.old) (D.state desk.new)) }
+    ensures err { OnErr result ((part : List ℕ) × IsPrefixOf part (made_line voices frames sum) × Appends Report part (D.state desk.old) (D.state desk.new)) }
+    ensures failed { OnErr result (HasFault Report (D.state desk.old) (D.state desk.new)) }
+    ensures steady { OnOk result (KeepsFaults (D.state desk.old) (D.state desk.new)) }
+    ensures answers { IsTrue (D.state desk.old).tells → IsUnfailing Report (D.state desk.old) →
+        length ((D.state desk.old).written Report) + length (made_line voices frames sum) ≤ (D.state desk.old).room Report → IsOk result }
+{
+    let (mut a, mut b, mut c) = (Buffer::new(), Buffer::new(), Buffer::new());
+    write_pieces(
+        desk,
+        Role::Report,
+        &[
+            b"made ".as_slice(),
+            a.format(voices).as_bytes(),
+            b" voices, ".as_slice(),
+            b.format(frames).as_bytes(),
+            b" frames, sum ".as_slice(),
+            c.format(sum).as_bytes(),
             b"\n".as_slice(),
         ],
     )

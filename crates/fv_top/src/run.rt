@@ -6,6 +6,7 @@ ghost use Rattle.fv_top.specs.Promise.{IfDone, IfRefused, HasDone, IsRefusedFor,
 ghost use Rattle.fv_top.specs.Running.{EndsDone, Stopped, ReportsLine};
 
 use crate::check::check;
+use crate::make::make;
 use crate::output::write_output;
 use crate::prepare::prepare;
 use crate::refusal::Refusal;
@@ -38,6 +39,15 @@ fn perform<D: Desk>(alloc: Global, words: &[String], desk: &mut D) -> Result<Tal
             check(alloc, desk, program)?;
             return Ok(Tally {
                 frames: 0,
+                blocks: 0,
+                loops: 0,
+                loop_runs: 0,
+            });
+        }
+        Job::Make { voices, frames } => {
+            make(alloc, desk, voices, frames)?;
+            return Ok(Tally {
+                frames,
                 blocks: 0,
                 loops: 0,
                 loop_runs: 0,

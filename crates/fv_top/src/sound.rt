@@ -164,7 +164,7 @@ pub fn render(
 }
 
 // The numbers with which the controls begin.
-fn initial_of(alloc: Global, controls: &[ControlInfo]) -> Result<Vec<i32>, AllocError>
+pub fn initial_of(alloc: Global, controls: &[ControlInfo]) -> Result<Vec<i32>, AllocError>
     ensures { IfOk result (λ v. v.items ≡ initial_of controls.now) }
 {
     controls.iter().map(|c| c.init).collect(alloc)

@@ -69,24 +69,21 @@ abbrev pub command_of : List (List ℕ) → Result Command Cause
 command_of (own ∷ command ∷ words) = command_in command (texts_of words)
 command_of _ = Err Form
 
--- ---- what is enabled
+-- ---- what is done
 
--- a command that is enabled
+-- what a command asks for, where one worker does it
 pub data Job : Type 0 where
   Playing : (run : Run) → Job
   Checking : (program : List ℕ) → Job
+  Making : (voices frames : ℕ) → Job
 
--- the command word is `make`
-abbrev pub is_make : List (List ℕ) → Bool
-is_make (own ∷ command ∷ words) = bytes_eq command (codes "make")
-is_make _ = false
+abbrev pub job_of : Command → Job
+job_of (Play run) = Playing run
+job_of (Check program) = Checking program
+job_of (Make voices frames workers) = Making voices frames
 
--- a command, if it is enabled
-abbrev pub job_of : Command → Result Job Cause
-job_of (Play run) = Ok (Playing run)
-job_of (Check program) = Ok (Checking program)
-job_of (Make voices frames workers) = Err Form
-
--- What the words ask for. `make` is of no form yet.
+-- what the words ask for
 abbrev pub job_in : List (List ℕ) → Result Job Cause
-job_in words = if is_make words then Err Form else command_of words >>= job_of
+job_in words = do
+  command ← command_of words
+  Ok (job_of command)

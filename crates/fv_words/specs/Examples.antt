@@ -4,7 +4,7 @@ use Rattle.fv_words.specs.declared.cause.Cause.{Cause}
 use Rattle.fv_words.specs.declared.cause.Cause.TheVariants.{Form, Number, Range, Vectors, Together, Same}
 use Rattle.fv_words.specs.Pieces.{cut, Any, Plain, Given}
 use Rattle.fv_words.specs.Runs.{Settings, default_vector}
-use Rattle.fv_words.specs.Commands.{Command, Play, Check, Make, Checking, command_of, job_in}
+use Rattle.fv_words.specs.Commands.{Command, Play, Check, Make, Checking, Making, command_of, job_in}
 
 -- of these words behind the program's own name
 abbrev asked : List (List ℕ) → Result Command Cause
@@ -116,8 +116,11 @@ long_block = refl
 
 -- ---- what is enabled
 
-not_made : job_in (codes "faustvec" ∷ codes "make" ∷ codes "0" ∷ codes "x" ∷ codes "1" ∷ []) ≡ Err Form
+not_made : job_in (codes "faustvec" ∷ codes "make" ∷ codes "0" ∷ codes "x" ∷ codes "1" ∷ []) ≡ Err Number
 not_made = refl
+
+made_of_one : job_in (codes "faustvec" ∷ codes "make" ∷ codes "1" ∷ codes "3" ∷ codes "1" ∷ []) ≡ Ok (Making 1 3)
+made_of_one = refl
 
 checked : job_in (codes "faustvec" ∷ codes "check" ∷ codes "p.dsp" ∷ []) ≡ Ok (Checking (codes "p.dsp"))
 checked = refl

@@ -1,5 +1,5 @@
 -- What the code's types mean.
-use Rattle.std.specs.Prelude.{ℕ, List, [], ◌∷◌, Option, Result, Ok, Err, option_map, option_and_then, option_copied}
+use Rattle.std.specs.Prelude.{ℕ, ◌≤◌, List, [], ◌∷◌, Option, Result, Ok, Err, option_map, option_and_then, option_copied}
 use Rattle.fv_words.specs.declared.cause.Cause.{Cause}
 use Rattle.fv_words.specs.declared.word.Kind.{Kind as Kinds}
 use Rattle.fv_words.specs.declared.word.Kind.TheVariants as kinds
@@ -19,8 +19,8 @@ use Rattle.fv_words.specs.declared.command.Job.TheVariants as jobs
 use Rattle.fv_words.specs.Pieces.{Kind, Bare, Ends, Apart, Joined, State, Any, Value, Names as NamesAlone, piece_of, state_after, cut}
 use Rattle.fv_words.specs.Texts.{Texts, take_piece, gathered}
 use Rattle.fv_words.specs.Numbers.{Numbers}
-use Rattle.fv_words.specs.Runs.{Settings, Run}
-use Rattle.fv_words.specs.Commands.{Command, Play, Check, Make, Job, Playing, Checking}
+use Rattle.fv_words.specs.Runs.{Settings, Run, AreSound}
+use Rattle.fv_words.specs.Commands.{Command, Play, Check, Make, Job, Playing, Checking, Making, most_voices}
 
 -- the kind of a word
 abbrev pub kind_in : Kinds → Kind
@@ -107,6 +107,7 @@ run_answered (Err e) = Err e
 abbrev pub job_view : Jobs → Job
 job_view (jobs.Run run) = Playing (run_in run)
 job_view (jobs.Check program) = Checking program.now
+job_view (jobs.Make voices frames) = Making voices frames
 
 -- the same as an answer
 abbrev pub job_answered : Result Jobs Cause → Result Job Cause
@@ -118,6 +119,18 @@ abbrev pub command_view : Commands → Command
 command_view (commands.Run run) = Play (run_in run)
 command_view (commands.Check program) = Check program.now
 command_view (commands.Make voices frames workers) = Make voices frames workers
+
+-- a command's numbers are within their ranges: the settings of a run, and the voices of a make
+abbrev pub IsInRange : Commands → Type 0
+IsInRange (commands.Run run) = AreSound (settings_in run.settings)
+IsInRange (commands.Check program) = Unit {0}
+IsInRange (commands.Make voices frames workers) = voices ≤ most_voices
+
+-- and so are those of what is asked for
+abbrev pub IsJobInRange : Jobs → Type 0
+IsJobInRange (jobs.Run run) = AreSound (settings_in run.settings)
+IsJobInRange (jobs.Check program) = Unit {0}
+IsJobInRange (jobs.Make voices frames) = voices ≤ most_voices
 
 -- the same as an answer
 abbrev pub command_answered : Result Commands Cause → Result Command Cause

@@ -1,9 +1,9 @@
 // What the words ask for.
 
-ghost use Rattle.std.specs.Prelude.{◌≡◌, map, string_bytes, Some};
+ghost use Rattle.std.specs.Prelude.{◌≡◌, map, string_bytes, Some, IfOk};
 ghost use Rattle.fv_words.specs.Commands.{command_of, command_in, check_of, number_in, made, make_of};
-ghost use Rattle.fv_words.specs.Commands.{is_make, job_in};
-ghost use Rattle.fv_words.specs.Views.{texts_in, plain_in, command_answered, job_answered};
+ghost use Rattle.fv_words.specs.Commands.{job_in};
+ghost use Rattle.fv_words.specs.Views.{texts_in, plain_in, command_answered, job_answered, IsInRange, IsJobInRange};
 
 use crate::cause::Cause;
 use crate::numbers::number_of;
@@ -35,7 +35,8 @@ const MOST_MADE: u32 = 262144;
 
 /// What the words ask for, the program's own name first, or the first cause to refuse them.
 pub fn read(words: &[String]) -> Result<Command<'_>, Cause>
-    ensures { command_answered result ≡ command_of (map string_bytes words.now) }
+    ensures command { command_answered result ≡ command_of (map string_bytes words.now) }
+    ensures ranges { IfOk result IsInRange }
 {
     let Some((_, words)) = words.split_first() else {
         return Err(Cause::Form);
@@ -51,7 +52,8 @@ pub fn read(words: &[String]) -> Result<Command<'_>, Cause>
 
 // What these texts ask of a command.
 fn command_of<'a>(command: &str, texts: &Texts<'a>) -> Result<Command<'a>, Cause>
-    ensures { command_answered result ≡ command_in command.now (Some (texts_in texts.now)) }
+    ensures command { command_answered result ≡ command_in command.now (Some (texts_in texts.now)) }
+    ensures ranges { IfOk result IsInRange }
 {
     if command == "run" {
         let run = run_of(texts)?;
@@ -70,7 +72,8 @@ fn command_of<'a>(command: &str, texts: &Texts<'a>) -> Result<Command<'a>, Cause
 }
 
 fn check_of<'a>(plain: &Plain<'a>) -> Result<Command<'a>, Cause>
-    ensures { command_answered result ≡ check_of (plain_in plain.now) }
+    ensures command { command_answered result ≡ check_of (plain_in plain.now) }
+    ensures ranges { IfOk result IsInRange }
 {
     match *plain {
         Plain::One(program) => Ok(Command::Check { program }),
@@ -79,7 +82,8 @@ fn check_of<'a>(plain: &Plain<'a>) -> Result<Command<'a>, Cause>
 }
 
 fn make_of<'a>(plain: &Plain<'a>) -> Result<Command<'a>, Cause>
-    ensures { command_answered result ≡ make_of (plain_in plain.now) }
+    ensures command { command_answered result ≡ make_of (plain_in plain.now) }
+    ensures ranges { IfOk result IsInRange }
 {
     let Plain::Three(voices, frames, workers) = *plain else {
         return Err(Cause::Form);
@@ -101,7 +105,8 @@ fn number_in(word: &str) -> Result<u64, Cause>
 }
 
 fn make<'a>(voices: u64, frames: u64, workers: u64) -> Result<Command<'a>, Cause>
-    ensures { command_answered result ≡ made voices frames workers }
+    ensures command { command_answered result ≡ made voices frames workers }
+    ensures ranges { IfOk result IsInRange }
 {
     let voices = within_or(Some(voices), 1, MOST_VOICES, 1)?;
     let frames = within_or(Some(frames), 1, MOST_MADE, 1)?;
@@ -113,39 +118,26 @@ fn make<'a>(voices: u64, frames: u64, workers: u64) -> Result<Command<'a>, Cause
     })
 }
 
-/// A command that is enabled.
+/// What is to be done, by one worker.
 #[derive(Clone, Copy)]
 pub enum Job<'a> {
     /// A program is run.
     Run(Run<'a>),
     /// A program is compiled alone.
     Check { program: &'a str },
+    /// A program and an input are made, and run.
+    Make { voices: u32, frames: u32 },
 }
 
-/// What the words ask for. `make` is of no form yet.
+/// What the words ask for.
 pub fn job_in(words: &[String]) -> Result<Job<'_>, Cause>
-    ensures { job_answered result ≡ job_in (map string_bytes words.now) }
+    ensures job { job_answered result ≡ job_in (map string_bytes words.now) }
+    ensures ranges { IfOk result IsJobInRange }
 {
-    if is_make(words) {
-        return Err(Cause::Form);
-    }
     let command = read(words)?;
-    match command {
-        Command::Run(run) => Ok(Job::Run(run)),
-        Command::Check { program } => Ok(Job::Check { program }),
-        Command::Make { .. } => Err(Cause::Form),
-    }
-}
-
-// Whether the command word is `make`.
-fn is_make(words: &[String]) -> bool
-    ensures { result ≡ is_make (map string_bytes words.now) }
-{
-    let Some((_, words)) = words.split_first() else {
-        return false;
-    };
-    let Some((command, _)) = words.split_first() else {
-        return false;
-    };
-    command.as_str() == "make"
+    Ok(match command {
+        Command::Run(run) => Job::Run(run),
+        Command::Check { program } => Job::Check { program },
+        Command::Make { voices, frames, .. } => Job::Make { voices, frames },
+    })
 }

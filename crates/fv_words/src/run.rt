@@ -3,10 +3,11 @@
 ghost use Rattle.std.specs.Prelude.{◌≡◌, ◌≤◌, ◌^◌, ◌<◌, true, option_copied, IfOk};
 ghost use Rattle.std.specs.Option.{ForSome};
 ghost use Rattle.fv_words.specs.Runs.{within, within_or, width, is_width, default_vector, vectors_in, settings_of};
-ghost use Rattle.fv_words.specs.Runs.{run_of, input_of, is_none_word, is_together, is_same};
+ghost use Rattle.fv_words.specs.Runs.{AreSound, run_of, input_of, is_none_word, is_together, is_same};
 ghost use Rattle.fv_words.specs.Views.{texts_in, numbers_in, settings_in, settings_answered, run_answered};
 
 use crate::cause::Cause;
+use crate::laws::settings_keep_ranges;
 use crate::numbers::{Numbers, numbers_of};
 use crate::settings::Settings;
 use crate::texts::{Plain, Texts};
@@ -34,8 +35,10 @@ const MOST_VECTORS: u32 = 64;
 
 /// The run that the texts of its words ask for, or the first cause to refuse them.
 pub fn run_of<'a>(texts: &Texts<'a>) -> Result<Run<'a>, Cause>
-    ensures { run_answered result ≡ run_of (texts_in texts.now) }
+    ensures run { run_answered result ≡ run_of (texts_in texts.now) }
+    ensures ranges { IfOk result (λ r. AreSound (settings_in r.settings)) }
 {
+    settings_keep_ranges();
     let Plain::Three(program, input, output) = texts.plain else {
         return Err(Cause::Form);
     };

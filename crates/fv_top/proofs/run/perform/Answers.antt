@@ -3,24 +3,24 @@ use Rattle.std.specs.Prelude.{string_bytes, option_map, None}
 use Rattle.std.proofs.lemmas.Result.{err_from_is_err_and}
 use Rattle.fv_words.specs.Runs.{Run}
 use Rattle.fv_words.specs.declared.command.Job.{Job as Jobs}
-use Rattle.fv_words.specs.Commands.{Checking}
+use Rattle.fv_words.specs.Commands.{Checking, Making}
 use Rattle.fv_words.specs.Views.{run_in as run_view, job_view}
 use Rattle.fv_top.specs.Promise.{Asks}
 use Rattle.fv_top.specs.Prepared.{ready_of}
 use Rattle.fv_top.specs.declared.refusal.Refusal.TheVariants.{WaveTruncated}
-use Rattle.fv_top.proofs.Stopping.{Begins, Writes, stopped_usage, stopped_before, stopped_writing, stopped_cut, stopped_telling, played_whole, stopped_check, checked}
+use Rattle.fv_top.proofs.Stopping.{Begins, Writes, stopped_usage, stopped_before, stopped_writing, stopped_cut, stopped_telling, played_whole, stopped_check, checked, stopped_make, made}
 use Rattle.fv_top.proofs.run.perform.Goals as goal
 
 pub returns-in_err-job-clause-stops : goal.returns-in_err-job-clause-stops
 returns-in_err-job-clause-stops g c =
     let p = err_from_is_err_and c.from_residual.result c.from_residual.ensures.1 in
-    rw (p.1, p.2) (stopped_usage (map string_bytes c.args.words.now) (g.D.Desk.state c.args.desk.now) _ (sym c.in_err-job.ensures))
+    rw (p.1, p.2) (stopped_usage (map string_bytes c.args.words.now) (g.D.Desk.state c.args.desk.now) _ (sym c.in_err-job.ensures.job))
 
 pub returns-in_err-prepared-clause-stops : goal.returns-in_err-prepared-clause-stops
 returns-in_err-prepared-clause-stops g c =
     let run : Run = run_view c.in-Run.run' in
     let p = err_from_is_err_and c.from_residual-in_err-prepared.result c.from_residual-in_err-prepared.ensures.1 in
-    rw (p.1, p.2) (stopped_before (map string_bytes c.args.words.now) run (g.D.Desk.state c.args.desk.now) (g.D.Desk.state c.prepare.new.desk) _ (sym c.in_ok-job.ensures ∙ ap (λ (j : Jobs). Ok (job_view j)) c.in-Run.is) c.in_err-prepared.ensures.stops)
+    rw (p.1, p.2) (stopped_before (map string_bytes c.args.words.now) run (g.D.Desk.state c.args.desk.now) (g.D.Desk.state c.prepare.new.desk) _ (sym c.in_ok-job.ensures.job ∙ ap (λ (j : Jobs). Ok (job_view j)) c.in-Run.is) c.in_err-prepared.ensures.stops)
 
 pub returns-in-Err-clause-stops : goal.returns-in-Err-clause-stops
 returns-in-Err-clause-stops g c =
@@ -32,7 +32,7 @@ returns-in-Err-clause-stops g c =
     let b = state c.prepare.new.desk in
     let d = state c.write_output.new.desk in
     let begins : Begins words run r a b d = record {
-      asks = sym c.in_ok-job.ensures ∙ ap (λ (j : Jobs). Ok (job_view j)) c.in-Run.is;
+      asks = sym c.in_ok-job.ensures.job ∙ ap (λ (j : Jobs). Ok (job_view j)) c.in-Run.is;
       reaches = c.in_ok-prepared.ensures.reaches;
       before = c.in_ok-prepared.ensures.steady;
       ready = c.in_ok-prepared.ensures.ready;
@@ -50,7 +50,7 @@ returns-in-Some-clause-stops g c =
     let b = state c.prepare.new.desk in
     let d = state c.write_output.new.desk in
     let begins : Begins words run r a b d = record {
-      asks = sym c.in_ok-job.ensures ∙ ap (λ (j : Jobs). Ok (job_view j)) c.in-Run.is;
+      asks = sym c.in_ok-job.ensures.job ∙ ap (λ (j : Jobs). Ok (job_view j)) c.in-Run.is;
       reaches = c.in_ok-prepared.ensures.reaches;
       before = c.in_ok-prepared.ensures.steady;
       ready = c.in_ok-prepared.ensures.ready;
@@ -69,7 +69,7 @@ returns-in-Ok-report_done-clause-done g c =
     let b = state c.prepare.new.desk in
     let d = state c.write_output.new.desk in
     let begins : Begins words run r a b d = record {
-      asks = sym c.in_ok-job.ensures ∙ ap (λ (j : Jobs). Ok (job_view j)) c.in-Run.is;
+      asks = sym c.in_ok-job.ensures.job ∙ ap (λ (j : Jobs). Ok (job_view j)) c.in-Run.is;
       reaches = c.in_ok-prepared.ensures.reaches;
       before = c.in_ok-prepared.ensures.steady;
       ready = c.in_ok-prepared.ensures.ready;
@@ -89,7 +89,7 @@ returns-clause-stops g c =
     let b = state c.prepare.new.desk in
     let d = state c.write_output.new.desk in
     let begins : Begins words run r a b d = record {
-      asks = sym c.in_ok-job.ensures ∙ ap (λ (j : Jobs). Ok (job_view j)) c.in-Run.is;
+      asks = sym c.in_ok-job.ensures.job ∙ ap (λ (j : Jobs). Ok (job_view j)) c.in-Run.is;
       reaches = c.in_ok-prepared.ensures.reaches;
       before = c.in_ok-prepared.ensures.steady;
       ready = c.in_ok-prepared.ensures.ready;
@@ -105,7 +105,7 @@ pub returns-in_err-check-in-Check-clause-stops : goal.returns-in_err-check-in-Ch
 returns-in_err-check-in-Check-clause-stops g c =
     let state = g.D.Desk.state in
     let words = map string_bytes c.args.words.now in
-    let asks : Asks words (Checking c.in-Check.program.now) = sym c.in_ok-job.ensures ∙ ap (λ (j : Jobs). Ok (job_view j)) c.in-Check.is in
+    let asks : Asks words (Checking c.in-Check.program.now) = sym c.in_ok-job.ensures.job ∙ ap (λ (j : Jobs). Ok (job_view j)) c.in-Check.is in
     let p = err_from_is_err_and c.from_residual-in_err-check-in-Check.result c.from_residual-in_err-check-in-Check.ensures.1 in
     rw (p.1, p.2) (stopped_check words c.in-Check.program.now (state c.args.desk.now) (state c.check.new.desk) _ asks c.in_err-check-in-Check.ensures.stops)
 
@@ -113,5 +113,20 @@ pub returns-in-Check-clause-done : goal.returns-in-Check-clause-done
 returns-in-Check-clause-done g c =
     let state = g.D.Desk.state in
     let words = map string_bytes c.args.words.now in
-    let asks : Asks words (Checking c.in-Check.program.now) = sym c.in_ok-job.ensures ∙ ap (λ (j : Jobs). Ok (job_view j)) c.in-Check.is in
+    let asks : Asks words (Checking c.in-Check.program.now) = sym c.in_ok-job.ensures.job ∙ ap (λ (j : Jobs). Ok (job_view j)) c.in-Check.is in
     checked words c.in-Check.program.now (state c.args.desk.now) (state c.check.new.desk) asks c.in_ok-check-in-Check.ensures.done
+
+pub returns-in_err-make-in-Make-clause-stops : goal.returns-in_err-make-in-Make-clause-stops
+returns-in_err-make-in-Make-clause-stops g c =
+    let state = g.D.Desk.state in
+    let words = map string_bytes c.args.words.now in
+    let asks : Asks words (Making c.in-Make.voices c.in-Make.frames) = sym c.in_ok-job.ensures.job ∙ ap (λ (j : Jobs). Ok (job_view j)) c.in-Make.is in
+    let p = err_from_is_err_and c.from_residual-in_err-make-in-Make.result c.from_residual-in_err-make-in-Make.ensures.1 in
+    rw (p.1, p.2) (stopped_make words c.in-Make.voices c.in-Make.frames (state c.args.desk.now) (state c.make.new.desk) _ asks c.in_err-make-in-Make.ensures.stops)
+
+pub returns-in-Make-clause-done : goal.returns-in-Make-clause-done
+returns-in-Make-clause-done g c =
+    let state = g.D.Desk.state in
+    let words = map string_bytes c.args.words.now in
+    let asks : Asks words (Making c.in-Make.voices c.in-Make.frames) = sym c.in_ok-job.ensures.job ∙ ap (λ (j : Jobs). Ok (job_view j)) c.in-Make.is in
+    made words c.in-Make.voices c.in-Make.frames (state c.args.desk.now) (state c.make.new.desk) asks c.in_ok-make-in-Make.ensures.done

@@ -1,0 +1,112 @@
+-- How a make ends, from how its parts do.
+use Rattle.std.proofs.Common.{◌≡◌, ◌⊎◌, ℕ, zero, suc, ◌+◌, ◌*◌, ◌≤◌, ℤ, pos, List, [], ◌∷◌, ◌++◌, length, length-append, sym, ◌∙◌, ap, subst, refl, inl, inr, append_assoc, arith, to_z, of_z, to_z-of_z, SFits, w32}
+use Rattle.std.specs.Prelude.{IsTrue, codes, decimal}
+use Rattle.std.specs.Fmt.{signed_decimal}
+use Rattle.std.proofs.lemmas.List.{append-nil}
+use Rattle.fv_base.specs.declared.role.Role.TheVariants.{Program, Input, Controls, Output, Report}
+use Rattle.fv_base.specs.Lists.{IsPrefixOf}
+use Rattle.fv_outside.specs.Desk.{DeskState, HasFault, KeepsFaults, IsUnfailing, Appends}
+use Rattle.fv_outside.proofs.States.{goes_on_self}
+use Rattle.fv_top.specs.declared.refusal.Refusal.{Refusal}
+use Rattle.fv_top.specs.declared.refusal.Refusal.TheVariants.{WriteFault, NoMemory}
+use Rattle.fv_diagram.specs.Diagram.{Diagram}
+use Rattle.fv_control.specs.Streams.{control_streams}
+use Rattle.fv_play.specs.Play.{answer_on}
+use Rattle.fv_make.specs.Made.{text_of, next_state, noise_behind}
+use Rattle.fv_top.specs.Program.{IsRefusedText, IsOfText}
+use Rattle.fv_top.specs.Lines.{made_line}
+use Rattle.fv_top.specs.Meant.{make_meant}
+use Rattle.fv_top.specs.Parts.{AppendsPart}
+use Rattle.fv_top.specs.Steps.{Ends, fault, judged, want_of_memory, writes, here, later}
+use Rattle.fv_top.specs.Promise.{make_rules, make_steps}
+use Rattle.fv_top.specs.Running.{Makes, StopsMake, HasSum, IsNotMade}
+
+-- the line, piece by piece
+pub made_pieces : (v f : ℕ) (s : ℤ) → SFits w32 s → {p1 p2 p3 p4 p5 p6 p7 : List ℕ} → p1 ≡ codes "made " → p2 ≡ decimal v → p3 ≡ codes " voices, " → p4 ≡ decimal f → p5 ≡ codes " frames, sum " → p6 ≡ signed_decimal (to_z w32 (of_z w32 s))
+    → p7 ≡ codes "\n" → p1 ++ (p2 ++ (p3 ++ (p4 ++ (p5 ++ (p6 ++ (p7 ++ [])))))) ≡ made_line v f s
+made_pieces v f s fits e1 e2 e3 e4 e5 e6 e7 =
+    let e : _ ≡ signed_decimal s = e6 ∙ ap signed_decimal (to_z-of_z fits) in
+    rw (e1, e2, e3, e4, e5, e, e7) (simp (append_assoc, append-nil))
+
+-- ---- the program and its noise
+
+pub not_program : (voices : ℕ) (text : List ℕ) (e : Refusal) → text ≡ text_of voices → (e ≡ NoMemory) ⊎ (IsOfText e × IsRefusedText text e) → IsNotMade voices e
+not_program voices text e same (inl m) = inl m
+not_program voices text e same (inr h) = inr (inl (h.0, subst (λ (t : List ℕ). IsRefusedText t e) same h.1))
+
+-- as many samples as frames
+pub noise_long : (s : ℤ) (frames : ℕ) → length (noise_behind s frames) ≡ frames
+noise_long s zero = refl
+noise_long s (suc n) = omega (arith, noise_long (next_state s) n)
+
+-- the answer on the same samples, where the controls begin alike
+pub answer_alike : (d : Diagram) (xs ys : List ℤ) (frames : ℕ) (got samples : List ℤ) → xs ≡ ys → got ≡ samples →
+    answer_on d (control_streams [] xs) frames got ≡ answer_on d (control_streams [] ys) frames samples
+answer_alike d xs ys frames got samples e f =
+    ap (λ (zs : List ℤ). answer_on d (control_streams [] zs) frames got) e ∙ ap (λ (zs : List ℤ). answer_on d (control_streams [] ys) frames zs) f
+
+-- ---- there is no sum
+
+no_sum : (voices frames : ℕ) (a : DeskState) (e : Refusal) → IsNotMade voices e → Ends (make_rules voices frames a) a a make_steps e []
+no_sum voices frames a e (inl m) = subst (λ (r : Refusal). Ends (make_rules voices frames a) a a make_steps r []) (sym m) (here want_of_memory)
+no_sum voices frames a e (inr (inl h)) = here (judged h.0 (λ t. h.1))
+no_sum voices frames a e (inr (inr h)) = later (λ t. (h.1.0, h.1.1)) (here (judged h.0 (λ t. h.1)))
+
+pub make_stops : (voices frames : ℕ) (a : DeskState) (e : Refusal) → IsNotMade voices e → StopsMake voices frames a a e
+make_stops voices frames a e h = record {
+  goes_on = goes_on_self a;
+  others = record { left = λ t r n m k. refl; written = λ t r n m. refl; begins = λ r n. refl };
+  requests = sym (append-nil a.requests);
+  ends = no_sum voices frames a e h;
+  output = record { begins = refl; written = λ t. refl };
+  begun = [];
+  appended = λ t. sym (append-nil (a.written Report));
+  is_begun = inl refl;
+  faults = λ r other. refl;
+}
+
+-- ---- there is one, and it is reported
+
+pub same_sum : {voices frames : ℕ} {n m : ℤ} → n ≡ m → HasSum voices frames m → HasSum voices frames n
+same_sum e h = record { made = h.made; is = e ∙ h.is }
+
+module _ (voices frames : ℕ) (sum : ℤ) (h : HasSum voices frames sum) (a c : DeskState) where
+  abbrev is : made_line voices frames sum ≡ (make_meant h.made.compiled voices frames).line
+  is = ap (made_line voices frames) h.is
+
+  pub make_tells : AppendsPart Report (made_line voices frames sum) a c → HasFault Report a c →
+      (IsTrue a.tells → IsUnfailing Report a → length (a.written Report) + length (made_line voices frames sum) ≤ a.room Report → ⊥) → StopsMake voices frames a c (WriteFault Report)
+  make_tells part failed unsure =
+      let r = part.2 in
+      record {
+        goes_on = r.goes_on;
+        others = record { left = λ t x n m k. r.left t x; written = λ t x n m. r.others t x m; begins = λ x n. r.begins x };
+        requests = r.requests ∙ sym (append-nil a.requests);
+        ends = later (λ t. (h.made.compiled, h.made.program)) (later (λ t. h.made) (here (fault (writes Report) refl failed (λ t sure.
+            let size = ap length is in
+            let fits = sure.1 h.made in
+            unsure t sure.0 (omega (arith, length-append (a.written Report) (make_meant h.made.compiled voices frames).line))))));
+        output = record { begins = r.begins Output; written = λ t. r.others t Output (λ e. absurd cc) };
+        begun = part.0;
+        appended = λ t. r.appended t;
+        is_begun = inr (refl, λ t. (h.made, subst (IsPrefixOf part.0) is part.1));
+        faults = λ x other. r.other_faults x (λ same. other (inr (ap WriteFault (sym same))));
+      }
+
+  pub make_done : Appends Report (made_line voices frames sum) a c → KeepsFaults a c → Makes voices frames a c
+  make_done r calm = record {
+    goes_on = r.goes_on;
+    others = record { left = λ t x n m k. r.left t x; written = λ t x n m. r.others t x m; begins = λ x n. r.begins x };
+    requests = r.requests ∙ sym (append-nil a.requests);
+    faults = calm;
+    told = λ t. (
+      h.made,
+      elim [
+        | Program ↦ r.others t Program (λ e. absurd cc)
+        | Input ↦ r.others t Input (λ e. absurd cc)
+        | Controls ↦ r.others t Controls (λ e. absurd cc)
+        | Output ↦ r.others t Output (λ e. absurd cc)
+        | Report ↦ r.appended t ∙ ap (λ w. a.written Report ++ w) is
+      ],
+    );
+  }
