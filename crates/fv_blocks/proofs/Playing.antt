@@ -11,6 +11,7 @@ use Rattle.fv_blocks.specs.Blocks.{AreNext, block_at}
 use Rattle.fv_blocks.specs.Runs.{HasRun}
 use Rattle.fv_blocks.proofs.Cuts.{none_between}
 use Rattle.fv_blocks.proofs.Samples.{PlayedSo}
+use Rattle.fv_blocks.proofs.Told.{RoomSoFar}
 
 pub record Playing (e now : EngineView) (total outputs : ℕ) (changes : List Change) (initial values input output : List ℤ) (f next blocks runs : ℕ) (old new : Option Told) : Type 0 where
   pub same : SameParts e now
@@ -22,6 +23,7 @@ pub record Playing (e now : EngineView) (total outputs : ℕ) (changes : List Ch
   pub cells : length output ≡ total * outputs
   pub so : PlayedSo e now (control_streams changes initial) f input output
   pub ran : HasRun e total changes f blocks runs old new
+  pub room : RoomSoFar (length e.plan.reads) blocks runs old new
   pub few : blocks ≤ f
   pub fewer : runs ≤ blocks * 18446744073709551616
 

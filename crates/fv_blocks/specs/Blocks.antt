@@ -2,7 +2,7 @@
 use Rattle.std.specs.Prelude.{◌≡◌, ℕ, ◌+◌, ◌-◌, ◌*◌, ◌<◌, ◌≤◌, nat_lt, if◌then◌else◌, min, List, [], ◌∷◌, ◌++◌, length, sum, map, take, drop, Option, Some, IfSome}
 use Rattle.std.specs.List.{AllByRecursion}
 use Rattle.fv_outside.specs.declared.tasks.Reads.{Reads}
-use Rattle.fv_outside.specs.Journal.{BlockEntry, Told, IsOrdered}
+use Rattle.fv_outside.specs.Journal.{BlockEntry, Room, Told, IsOrdered}
 use Rattle.fv_control.specs.declared.script.Change.{Change}
 use Rattle.fv_control.specs.Laws.{NeverFall}
 use Rattle.fv_turns.specs.Block.{vectors_of}
@@ -45,3 +45,9 @@ loop_runs_of loops vector ns = sum (map (λ n. loops * vectors_of n vector) ns)
 abbrev pub RanBlocks : (loops : ℕ) → (reads : List Reads) → (vector : ℕ) → List ℕ → (old new : Option Told) → Type 0
 RanBlocks loops reads vector ns old new =
     IfSome new (λ after. (before : Told) × (old ≡ Some before) × (entries : List BlockEntry) × AreEntries loops reads vector ns entries × (after.entries ≡ before.entries ++ entries))
+
+-- there is room for so many calls, lines and pairs
+pub record HasRoomForRun (room : Room) (blocks runs pairs_told : ℕ) : Type 0 where
+  pub calls : blocks ≤ room.calls
+  pub lines : runs ≤ room.lines
+  pub pairs : pairs_told ≤ room.pairs

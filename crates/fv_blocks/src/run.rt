@@ -9,6 +9,7 @@ ghost use Rattle.fv_control.specs.Streams.{control_streams};
 ghost use Rattle.fv_turns.specs.Block.{vectors_of};
 ghost use Rattle.fv_engine.specs.Stands.{GoesOn, SameParts};
 ghost use Rattle.fv_engine.specs.Told.{tasks_told, IsEntry, HasRoomForBlock};
+ghost use Rattle.fv_blocks.specs.Blocks.{HasRoomForRun};
 ghost use Rattle.fv_blocks.specs.Runs.{HasRun, PlaysAll};
 
 use crate::cut::next_block;
@@ -62,6 +63,9 @@ pub fn play<R: Threads + Wait + Sync, G: Gate + Sync>(
     ensures same { SameParts engine.old engine.new }
     ensures samples { PlaysAll engine.old (control_streams changes.now values.old) sizes.now.total input.now output.new }
     ensures ran { HasRun engine.old sizes.now.total changes.now sizes.now.total result.blocks result.loop_runs (G.told gate.old) (G.told gate.new) }
+    // A gate that tells its list, and has room for all blocks, still tells it.
+    ensures room { IfSome (G.told gate.old) (λ t. HasRoomForRun t.room result.blocks result.loop_runs (result.blocks * length engine.old.plan.reads)
+        → IsSome (G.told gate.new)) }
 {
     values_look_back();
     values_held();

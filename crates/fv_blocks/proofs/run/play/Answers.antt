@@ -7,7 +7,7 @@ use Rattle.fv_blocks.specs.Blocks.{AreBlocks, AreNext, block_at, loop_runs_of}
 use Rattle.fv_blocks.proofs.Cuts.{come_later, one_more}
 use Rattle.fv_blocks.proofs.Playing.{given, same_still}
 use Rattle.fv_blocks.proofs.Samples.{played_more}
-use Rattle.fv_blocks.proofs.Told.{ran_more, runs_more}
+use Rattle.fv_blocks.proofs.Told.{RoomSoFar, ran_more, room_more, runs_more, still_told}
 use Rattle.fv_blocks.proofs.run.play.Goals as goal
 
 pub playing-preserved : goal.playing-preserved
@@ -46,6 +46,12 @@ playing-preserved g c =
         blocks_are = let a = i.ran.blocks_are in let b = length_push ns n in omega (arith, a, b);
         runs_are = ap (λ x. x + c.from.result) i.ran.runs_are ∙ ap (λ x. loop_runs_of e.plan.loops e.vector ns + x) tasks ∙ sym (runs_more e.plan.loops e.vector ns n);
       };
+      room = subst (λ (r : ℕ). RoomSoFar (length e.plan.reads) (c.playing.counted.blocks + 1) (c.playing.counted.loop_runs + r) (g.G.Gate.told c.args.gate.now) (g.G.Gate.told c.play_block-tasks.new.gate)) (sym tasks)
+          (room_more e now n c.playing.counted.blocks c.playing.counted.loop_runs (g.G.Gate.told c.args.gate.now) (g.G.Gate.told c.playing.gate) (g.G.Gate.told c.play_block-tasks.new.gate) i.same i.room c.play_block-tasks.ensures.told c.play_block-tasks.ensures.room);
       few = let a = i.few in let b = c.next_block-frames.ensures.some in omega (arith, a, b);
       fewer = let a = i.fewer in let b = c.from.ensures in let d = c.play_block-tasks.type_inv in omega (arith, a, b, d);
     }
+
+pub returns-clause-room : goal.returns-clause-room
+returns-clause-room g c =
+    still_told (length c.args.engine.now.plan.reads) c.playing.counted.blocks c.playing.counted.loop_runs (g.G.Gate.told c.args.gate.now) (g.G.Gate.told c.playing.gate) c.playing.invariant.room

@@ -1,0 +1,4 @@
+pub mod Frames
+pub mod Taken
+pub mod Planned
+pub mod Whole

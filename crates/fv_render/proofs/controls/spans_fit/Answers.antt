@@ -1,0 +1,18 @@
+use Rattle.std.proofs.Common.{◌≡◌, ◌<◌, length, get_or, subst, arith, below_more, ◌∙◌, FitsSigned, w32}
+use Rattle.std.proofs.lemmas.List.{get_or_default}
+use Rattle.fv_diagram.specs.declared.control.ControlInfo.{ControlInfo}
+use Rattle.fv_control.specs.Script.{no_control}
+use Rattle.fv_render.proofs.Taken.{is_span, spans_all}
+use Rattle.fv_render.proofs.controls.spans_fit.Goals as goal
+
+pub loop-control-preserved : goal.loop-control-preserved
+loop-control-preserved c =
+    let i = c.loop-control.control-index in
+    let l : i < length c.args.controls.now = c.loop-control-test.true in
+    let e : c.control-item.result ≡ get_or c.args.controls.now i no_control = c.control-item.is ∙ get_or_default c.args.controls.now i c.control-item.result no_control l in
+    below_more _ _ c.loop-control.invariant
+    (is_span (get_or c.args.controls.now i no_control) (c.requires i no_control l) (subst (λ (x : ControlInfo). FitsSigned w32 x.min) e c.bounds_fit.ensures.least)
+    (subst (λ (x : ControlInfo). FitsSigned w32 x.max) e c.bounds_fit.ensures.greatest))
+
+pub returns : goal.returns
+returns c = let t = c.loop-control-test.false in spans_all c.args.controls.now (λ k l. c.loop-control.invariant k (omega (arith, l, t)))
