@@ -13,7 +13,6 @@ use Rattle.fv_rule.specs.Carried.{IsFree, IsBusy}
 use Rattle.fv_ready.specs.declared.seat.InHand.{InHand}
 use Rattle.fv_rule.proofs.Splits.{splits}
 use Rattle.fv_graph.specs.Words.{passing}
-use Rattle.fv_core.specs.Core.{numbers}
 use Rattle.fv_rule.specs.declared.About.{About}
 use Rattle.fv_rule.specs.declared.View.{View}
 use Rattle.fv_ready.specs.declared.seat.WorkerSeat.{WorkerSeat}

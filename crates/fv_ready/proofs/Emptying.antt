@@ -1,17 +1,16 @@
 -- Slots are taken out one by one, and seats one by one from the back.
-use Rattle.std.proofs.Common.{◌≡◌, ◌≢◌, ℕ, zero, suc, ◌+◌, ◌-◌, ◌<◌, ◌≤◌, Bool, true, false, List, [], ◌∷◌, ◌++◌, length, get_or, set, refl, sym, ap, ◌∙◌, subst, arith, Option, Some, None, append_assoc, append-nil}
+use Rattle.std.proofs.Common.{◌≡◌, ◌≢◌, ℕ, zero, suc, ◌+◌, Bool, false, List, [], ◌∷◌, ◌++◌, length, get_or, set, refl, sym, ap, ◌∙◌, arith, Option, Some, append_assoc, append-nil}
 use mathlib.Core.Option.{some, some-injective}
 use mathlib.Core.Logic.{dite}
 use native.Mathlib.Decide.{ℕ_discrete}
 use lib.ListN.{get_elem?}
 use Rattle.atomic_table.specs.Seated.{TableId}
-use Rattle.fv_outside.specs.Tasks.{total, times}
+use Rattle.fv_outside.specs.Tasks.{times}
 use Rattle.fv_graph.proofs.Counts.{total_append}
 use Rattle.fv_rule.specs.declared.Deed.{Deed}
 use Rattle.fv_rule.specs.declared.About.{About}
-use Rattle.fv_rule.specs.declared.View.{View}
 use Rattle.fv_ready.specs.declared.seat.WorkerSeat.{WorkerSeat}
-use Rattle.fv_rule.specs.Rule.{done_by, together}
+use Rattle.fv_rule.specs.Rule.{done_by}
 use Rattle.fv_ready.specs.Told.{told_by, having}
 use Rattle.fv_ready.specs.Closed.{AreSeats, AreSlots, IsTaken}
 use Rattle.fv_ready.specs.Seats.{IsSeat}

@@ -1,12 +1,12 @@
 -- What a board that is closed holds.
-use Rattle.std.proofs.Common.{◌≡◌, ℕ, zero, suc, ◌+◌, ◌-◌, ◌*◌, ◌/◌, ◌%◌, ◌<◌, ◌≤◌, Bool, true, false, ◌&&◌, inl, List, [], ◌∷◌, ◌++◌, length, slice_index, refl, sym, ap, ◌∙◌, subst, arith, ◌==◌, Option, Some, None, ltb, leb, lt-ltb, le-leb, div-add-mod', mod-lt}
+use Rattle.std.proofs.Common.{◌≡◌, ℕ, zero, suc, ◌+◌, ◌-◌, ◌*◌, ◌/◌, ◌%◌, ◌<◌, ◌≤◌, Bool, true, false, ◌&&◌, inl, List, [], ◌∷◌, length, slice_index, refl, sym, ap, ◌∙◌, subst, arith, ◌==◌, Option, Some, ltb, leb, lt-ltb, le-leb, div-add-mod', mod-lt}
 use mathlib.Core.Option.{some, some-injective, some-ne-none}
 use lib.ListN.{get_elem?}
-use Rattle.atomic_table.specs.Table.{State, Final, Seen}
-use Rattle.fv_outside.specs.Tasks.{Tasks, bit, total, times, task_count}
+use Rattle.atomic_table.specs.Table.{Final, Seen}
+use Rattle.fv_outside.specs.Tasks.{Tasks, bit, times, task_count}
 use Rattle.fv_graph.specs.Net.{Net}
-use Rattle.fv_graph.specs.Graph.{Graph, IsGraph, edges_of, stride, is_entry, is_exit, reader_of, net_of}
-use Rattle.fv_graph.specs.Wires.{Wires, IsWires}
+use Rattle.fv_graph.specs.Graph.{Graph, IsGraph, edges_of, stride, is_exit, reader_of, net_of}
+use Rattle.fv_graph.specs.Wires.{IsWires}
 use Rattle.fv_graph.proofs.Counts.{bit_one}
 use Rattle.fv_graph.proofs.Graphs.{is_wires, unique, further, reader_chain}
 use Rattle.fv_rule.specs.Wired.{graph_wires}

@@ -1,15 +1,15 @@
 -- Where the slot of an edge stands.
-use Rattle.std.proofs.Common.{◌≡◌, ◌≢◌, ℕ, zero, suc, ◌+◌, ◌-◌, ◌<◌, ◌≤◌, Bool, true, false, cond, not, List, [], ◌∷◌, ◌++◌, length, refl, sym, ap, ◌∙◌, subst, arith, ◌==◌, eq-eqb, ne_eqb, lt-ltb, Option, Some, None, length-append}
+use Rattle.std.proofs.Common.{◌≡◌, ℕ, ◌+◌, ◌-◌, ◌<◌, cond, not, List, [], ◌∷◌, ◌++◌, length, refl, sym, ap, ◌∙◌, subst, arith, ◌==◌, eq-eqb, ne_eqb, lt-ltb, Option, Some, None, length-append}
 use Rattle.std.specs.List.{remove, position, position_or_len}
 use mathlib.Core.Logic.{dite}
 use native.Mathlib.Decide.{ℕ_discrete}
-use Rattle.fv_outside.specs.Tasks.{bit, total, times}
-use Rattle.fv_graph.proofs.Counts.{bit_same, bit_apart}
+use Rattle.fv_outside.specs.Tasks.{times}
+use Rattle.fv_graph.proofs.Counts.{bit_apart}
 use Rattle.fv_rule.specs.Rule.{places}
 use Rattle.fv_rule.specs.Spun.{spun}
 use Rattle.fv_rule.specs.Carried.{slot_at, with_slot, but_slot}
 use Rattle.fv_rule.proofs.Taking.{places_append}
-use Rattle.fv_rule.proofs.Hands.{Cut, cut_at, long_places, slot_first, with_first, but_first}
+use Rattle.fv_rule.proofs.Hands.{cut_at, long_places, slot_first, with_first, but_first}
 use Rattle.fv_rule.proofs.Spins.{spun_at}
 use Rattle.fv_ready.specs.Seats.{IsPlaceOf}
 

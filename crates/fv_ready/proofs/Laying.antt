@@ -1,11 +1,11 @@
 -- The entries' slots and the empty ones behind them are those of a new board.
-use Rattle.std.proofs.Common.{◌≡◌, ℕ, zero, suc, ◌+◌, ◌-◌, ◌*◌, ◌<◌, ◌≤◌, Bool, true, false, List, [], ◌∷◌, ◌++◌, map, length, replicate, slice_index_or, refl, sym, ap, ◌∙◌, subst, arith, Option, Some, None, ltb, lt-ltb, ltb-true, true≢false, length-append}
+use Rattle.std.proofs.Common.{◌≡◌, ℕ, zero, suc, ◌+◌, ◌-◌, ◌<◌, ◌≤◌, List, [], ◌∷◌, ◌++◌, map, length, replicate, slice_index_or, refl, sym, ap, ◌∙◌, subst, arith, Option, Some, None, lt-ltb, ltb-true, true≢false, length-append}
 use mathlib.Core.Option.{some}
 use mathlib.Core.Logic.{dite}
 use native.Mathlib.Decide.{dec_le}
 use lib.ListN.{get_elem?}
 use Rattle.atomic_table.specs.Table.{opening}
-use Rattle.fv_graph.specs.Graph.{Graph, edges_of, is_entry, net_of, stride}
+use Rattle.fv_graph.specs.Graph.{Graph, edges_of, net_of}
 use Rattle.fv_core.proofs.Opens.{length_same, length_numbers}
 use Rattle.fv_graph.specs.Net.{Net}
 use Rattle.fv_core.specs.Core.{numbers}

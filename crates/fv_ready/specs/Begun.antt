@@ -1,5 +1,5 @@
 -- What `begin` is given, and what it makes: the slots and the seats of a new board (this project's profile).
-use Rattle.std.specs.Prelude.{◌≡◌, ℕ, ◌+◌, ◌-◌, ◌<◌, ◌≤◌, suc, List, [], ◌∷◌, ◌++◌, map, replicate, length, Option, Some, None, slice_index_or, vec_capacity}
+use Rattle.std.specs.Prelude.{◌≡◌, ℕ, ◌-◌, ◌<◌, ◌≤◌, suc, List, [], ◌∷◌, ◌++◌, map, replicate, length, Option, Some, None, slice_index_or, vec_capacity}
 use Rattle.std.specs.Global.{Vec}
 use Rattle.atomic_table.specs.Seated.{TableId}
 use Rattle.fv_rule.specs.declared.About.{About}

@@ -1,4 +1,4 @@
-use Rattle.std.proofs.Common.{◌≡◌, ℕ, ◌+◌, ◌-◌, ◌≤◌, true, [], ◌∷◌, Some, vec_len, vec_capacity}
+use Rattle.std.proofs.Common.{◌≡◌, ℕ, ◌+◌, ◌-◌, ◌≤◌, true, [], Some, vec_len, vec_capacity}
 use Rattle.fv_graph.specs.Words.{passing}
 use Rattle.fv_ready.specs.Begun.{AreNewSeats, AreRoomy}
 use Rattle.fv_ready.proofs.begin.deal.Given as goal

@@ -1,4 +1,4 @@
-use Rattle.std.proofs.Common.{◌≡◌, ℕ, ◌≤◌, vec_len, vec_capacity}
+use Rattle.std.proofs.Common.{◌≡◌, ◌≤◌, vec_len, vec_capacity}
 use Rattle.fv_ready.proofs.Moving.{Moved}
 use Rattle.fv_ready.proofs.begin.fill.Given as goal
 

@@ -1,5 +1,4 @@
-use Rattle.std.proofs.Common.{rules, ◌≡◌, ℕ, ◌+◌, ◌<◌, ◌≤◌, length, [], ◌∷◌, ◌++◌, reverse, vec_len, vec_capacity, ap, sym, ◌∙◌, arith}
-use Rattle.fv_ready.specs.Begun.{parcels_of}
+use Rattle.std.proofs.Common.{length, ◌++◌, reverse, ap, sym, ◌∙◌, arith}
 use Rattle.fv_ready.proofs.Moving.{takes_some, takes_none, back_some, none_of}
 use Rattle.fv_ready.proofs.begin.hand_back.Goals as goal
 

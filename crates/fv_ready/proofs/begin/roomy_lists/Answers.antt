@@ -1,4 +1,4 @@
-use Rattle.std.proofs.Common.{◌≡◌, ℕ, ◌+◌, ◌<◌, ◌≤◌, vec_len, vec_capacity, sym, subst, arith}
+use Rattle.std.proofs.Common.{sym, subst, arith}
 use Rattle.fv_ready.specs.Begun.{AreRoomy}
 use Rattle.fv_ready.proofs.Dealing.{more_roomy}
 use Rattle.fv_ready.proofs.begin.roomy_lists.Goals as goal

@@ -1,4 +1,4 @@
-use Rattle.std.proofs.Common.{◌≡◌, ℕ, ◌+◌, ◌≤◌, ◌∷◌, ◌++◌, map, replicate, vec_len, vec_capacity}
+use Rattle.std.proofs.Common.{◌≡◌, ◌+◌, ◌≤◌, ◌∷◌, ◌++◌, map, replicate, vec_len, vec_capacity}
 use Rattle.fv_graph.specs.Graph.{net_of}
 use Rattle.fv_core.specs.Core.{numbers}
 use Rattle.fv_graph.specs.Net.{need_count}

@@ -1,10 +1,9 @@
-use Rattle.std.proofs.Common.{rules, ◌≡◌, ℕ, ◌+◌, ◌<◌, ◌≤◌, List, [], ◌∷◌, ◌++◌, Some, vec_len, ap, sym, ◌∙◌, refl, subst, arith, ◌==◌}
+use Rattle.std.proofs.Common.{◌≡◌, [], ◌∷◌, ◌++◌, ap, ◌∙◌, subst, arith, ◌==◌}
 use Rattle.std.specs.Option.{option_to_list}
-use Rattle.fv_outside.specs.Tasks.{total, times, bit}
+use Rattle.fv_outside.specs.Tasks.{times, bit}
 use Rattle.fv_graph.proofs.Counts.{total_append}
 use Rattle.fv_rule.specs.Wired.{graph_wires}
 use Rattle.fv_rule.specs.Rule.{done_by}
-use Rattle.fv_ready.specs.Told.{told_by, having}
 use Rattle.fv_ready.specs.Closed.{AreSeats}
 use Rattle.fv_rule.proofs.Closing.{gives_back, whole_joins}
 use Rattle.fv_graph.proofs.Graphs.{is_wires}

@@ -1,4 +1,4 @@
-use Rattle.std.proofs.Common.{◌<◌, ◌≤◌, ap, ◌∙◌}
+use Rattle.std.proofs.Common.{ap, ◌∙◌}
 use lib.ListN.{get_elem?}
 use Rattle.fv_ready.proofs.close.hand_out.Goals as goal
 

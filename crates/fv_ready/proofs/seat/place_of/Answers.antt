@@ -1,6 +1,5 @@
-use Rattle.std.proofs.Common.{◌≡◌, ℕ, ◌==◌, Some, sym, ◌∙◌, subst, rules, position}
+use Rattle.std.proofs.Common.{◌≡◌, ℕ, Some, sym, ◌∙◌, subst, rules}
 use Rattle.std.specs.Option.{IsSome}
-use Rattle.std.specs.List.{position_or_len}
 use Rattle.fv_ready.proofs.Found.{found, found_some}
 use Rattle.fv_ready.proofs.seat.place_of.Goals as goal
 

@@ -1,4 +1,4 @@
-use Rattle.std.proofs.Common.{rules, ◌≡◌, ℕ, ◌+◌, ◌*◌, ◌<◌, ◌≤◌, length, vec_len, vec_capacity, ap, sym, ◌∙◌, refl, arith, None}
+use Rattle.std.proofs.Common.{◌≡◌, ◌+◌, ◌*◌, length, vec_len, ap, sym, ◌∙◌, arith, None}
 use Rattle.fv_graph.specs.Graph.{Graph, net_of, edges_of}
 use Rattle.fv_core.proofs.Opens.{length_same}
 use Rattle.fv_ready.specs.Begun.{first_slots, parcels_of}

@@ -1,4 +1,4 @@
-use Rattle.std.proofs.Common.{◌≡◌, ℕ, ◌+◌, ◌<◌, ◌==◌, [], ◌++◌, true, false, ap, sym, ◌∙◌, refl, subst, arith, MatchBool, eq-eqb, ne_eqb, length, length-append}
+use Rattle.std.proofs.Common.{◌≡◌, ◌+◌, ◌==◌, [], ◌++◌, true, false, ap, sym, ◌∙◌, refl, subst, arith, eq-eqb, ne_eqb, length, length-append}
 use Rattle.fv_outside.specs.Tasks.{task_count}
 use Rattle.fv_graph.specs.Graph.{Graph, edges_of, inward, outward}
 use Rattle.fv_graph.proofs.Graphs.{is_wires}

@@ -1,10 +1,10 @@
-use Rattle.std.proofs.Common.{◌≡◌, ℕ, ◌+◌, ◌*◌, ◌-◌, ◌<◌, ◌≤◌, true, false, List, [], ◌++◌, length, vec_len, vec_capacity, ap, sym, ◌∙◌, refl, subst, arith, append-nil, true≢false}
+use Rattle.std.proofs.Common.{◌≡◌, ℕ, ◌*◌, ◌-◌, ◌<◌, ◌++◌, ap, sym, ◌∙◌, refl, subst, arith, append-nil, true≢false}
 use Rattle.std.specs.Slots.{slots_items}
 use mathlib.Core.Option.{some}
 use lib.ListN.{get_elem?}
 use Rattle.fv_outside.specs.Tasks.{task_count}
 use Rattle.fv_graph.specs.Graph.{edges_of, net_of}
-use Rattle.fv_rule.specs.Rule.{claim_word, wins, finishes}
+use Rattle.fv_rule.specs.Rule.{claim_word, wins}
 use Rattle.fv_ready.specs.Told.{told_by}
 use Rattle.fv_ready.specs.Closed.{AreSlots}
 use Rattle.fv_ready.proofs.Moving.{no_items}

@@ -1,4 +1,4 @@
-use Rattle.std.proofs.Common.{◌≡◌, ℕ, ◌+◌, ◌-◌, ◌<◌, List, [], ◌∷◌, ◌++◌, Option, length, vec_len, ap, sym, ◌∙◌, refl, subst, arith}
+use Rattle.std.proofs.Common.{◌≡◌, ℕ, ◌-◌, ◌<◌, List, [], ◌∷◌, ap, sym, ◌∙◌, subst, arith}
 use Rattle.atomic_table.specs.Table.{rest}
 use Rattle.fv_outside.specs.Tasks.{times}
 use Rattle.fv_rule.specs.Spun.{spun}

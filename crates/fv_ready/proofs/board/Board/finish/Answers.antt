@@ -1,5 +1,4 @@
-use Rattle.std.proofs.Common.{◌≡◌, ℕ, ◌+◌, ◌<◌, ◌≤◌, ◌++◌, false, drop, length, ap, sym, ◌∙◌, refl, subst, arith}
-use Rattle.fv_outside.specs.Tasks.{task_count}
+use Rattle.std.proofs.Common.{◌++◌, false, drop, length, ap, sym, ◌∙◌, arith}
 use Rattle.fv_graph.specs.Graph.{Graph, feeds_of}
 use Rattle.fv_graph.proofs.Graphs.{is_wires}
 use Rattle.fv_rule.specs.Wired.{graph_wires}

@@ -1,6 +1,6 @@
-use Rattle.std.proofs.Common.{◌≡◌, ℕ, ◌+◌, ◌-◌, ◌<◌, ap, ◌∙◌, refl, arith}
+use Rattle.std.proofs.Common.{◌≡◌, ◌+◌, ◌-◌, ap, ◌∙◌, refl, arith}
 use Rattle.fv_rule.specs.Wired.{graph_wires}
-use Rattle.fv_rule.specs.Rule.{noted, places}
+use Rattle.fv_rule.specs.Rule.{noted}
 use Rattle.fv_rule.specs.declared.Deed.TheVariants.{Saw}
 use Rattle.fv_rule.proofs.Load.{looks}
 use Rattle.fv_ready.specs.Seats.{view_of}

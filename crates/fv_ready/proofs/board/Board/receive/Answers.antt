@@ -1,4 +1,4 @@
-use Rattle.std.proofs.Common.{◌≡◌, ℕ, ◌<◌, None, ap, sym, ◌∙◌, refl, subst}
+use Rattle.std.proofs.Common.{◌<◌, None, sym, ◌∙◌, refl, subst}
 use Rattle.std.specs.Option.{IsSome}
 use Rattle.fv_outside.specs.Tasks.{times}
 use Rattle.fv_graph.specs.Graph.{inward}

@@ -1,6 +1,4 @@
-use Rattle.std.proofs.Common.{◌≡◌, ℕ, ◌+◌, ◌<◌, true, ap, sym, ◌∙◌, refl, subst, arith}
-use Rattle.fv_outside.specs.Tasks.{task_count}
-use Rattle.fv_graph.specs.Graph.{Graph}
+use Rattle.std.proofs.Common.{true, arith}
 use Rattle.fv_graph.proofs.Graphs.{is_wires}
 use Rattle.fv_rule.specs.Wired.{graph_wires}
 use Rattle.fv_rule.specs.Rule.{noted}
