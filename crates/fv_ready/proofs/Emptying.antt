@@ -29,7 +29,8 @@ there_same (x ∷ xs) (suc k) (suc e) ne = there_same xs k e (λ q. ne (ap suc q
 
 pub taken_step : (filled : List Bool) (n k : ℕ) → IsTaken filled n k → IsTaken (set filled k false) n (k + 1)
 taken_step filled n k h = record {
-  below = λ e l. dite (ℕ_discrete e k) (λ s. ap (λ i. get_or (set filled k false) i false) s ∙ here_false filled k) (λ ne. there_same filled k e ne ∙ h.below e (omega arith));
+  below = λ e l. dite (ℕ_discrete e k) (λ s. ap (λ i. get_or (set filled k false) i false) s ∙ here_false filled k)
+      (λ ne. there_same filled k e ne ∙ h.below e (omega arith));
   above = λ e l s. there_same filled k e (λ q. omega arith) ∙ h.above e (omega arith) s;
 }
 
@@ -44,7 +45,8 @@ module _ {C : Type 0} where
   pub got_none : (slots : List (Option C)) (from : ℕ) (old : List C) → Got slots from from old old
   got_none slots from old = record { ps = []; is = sym (append-nil old); long = omega arith; are = tt }
 
-  are_snoc : (slots : List (Option C)) (from : ℕ) (ps : List C) (p : C) → AreSlots slots from ps → get_elem? slots (from + length ps) ≡ some (Some p) → AreSlots slots from (ps ++ p ∷ [])
+  are_snoc : (slots : List (Option C)) (from : ℕ) (ps : List C) (p : C) → AreSlots slots from ps → get_elem? slots (from + length ps) ≡
+      some (Some p) → AreSlots slots from (ps ++ p ∷ [])
   are_snoc slots from [] p h e = (ap (get_elem? slots) (omega arith) ∙ e, tt)
   are_snoc slots from (q ∷ qs) p h e = (h.0, are_snoc slots (suc from) qs p h.1 (ap (get_elem? slots) (omega arith) ∙ e))
 
@@ -52,7 +54,8 @@ module _ {C : Type 0} where
   long_more [] p = refl
   long_more (q ∷ qs) p = let r = long_more qs p in omega arith
 
-  pub got_one : (slots : List (Option C)) (from k : ℕ) (old new new' : List C) (p : C) (x : Option C) → Got slots from k old new → get_elem? slots k ≡ some x → x ≡ Some p → new' ≡ new ++ p ∷ [] → Got slots from (k + 1) old new'
+  pub got_one : (slots : List (Option C)) (from k : ℕ) (old new new' : List C) (p : C) (x : Option C) → Got slots from k old new →
+      get_elem? slots k ≡ some x → x ≡ Some p → new' ≡ new ++ p ∷ [] → Got slots from (k + 1) old new'
   got_one slots from k old new new' p x g at is e = record {
     ps = g.ps ++ p ∷ [];
     is = e ∙ ap (λ l. l ++ p ∷ []) g.is ∙ append_assoc old g.ps (p ∷ []);
@@ -64,13 +67,16 @@ module _ {C : Type 0} where
   found slots k x p a b = some-injective x (Some p) (sym a ∙ b)
 
 module _ {C Key : Type 0} (edge_of : C → ℕ) (key_of : C → Key) (id : TableId) (a : About C) where
-  pub seats_front : (ss : List (WorkerSeat C)) (s : WorkerSeat C) → AreSeats edge_of key_of id a (ss ++ s ∷ []) → AreSeats edge_of key_of id a ss × IsSeat edge_of key_of id a s
+  pub seats_front : (ss : List (WorkerSeat C)) (s : WorkerSeat C) → AreSeats edge_of key_of id a (ss ++ s ∷ []) → AreSeats edge_of key_of
+      id a ss × IsSeat edge_of key_of id a s
   seats_front [] s h = (tt, h.0)
   seats_front (x ∷ xs) s h = let r = seats_front xs s h.1 in ((h.0, r.0), r.1)
 
 module _ {C : Type 0} where
-  pub told_snoc : (f : Deed → ℕ) (ss : List (WorkerSeat C)) (s : WorkerSeat C) (all : List (WorkerSeat C)) → all ≡ ss ++ s ∷ [] → told_by f all ≡ told_by f ss + done_by f s.seat.me.0
+  pub told_snoc : (f : Deed → ℕ) (ss : List (WorkerSeat C)) (s : WorkerSeat C) (all : List (WorkerSeat C)) → all ≡ ss ++ s ∷ [] → told_by f
+      all ≡ told_by f ss + done_by f s.seat.me.0
   told_snoc f ss s all e = let k = total_append (λ (s : WorkerSeat C). done_by f s.seat.me.0) ss (s ∷ []) in let r = ap (told_by f) e in omega arith
 
-  pub having_snoc : (k : ℕ) (ss : List (WorkerSeat C)) (s : WorkerSeat C) (all : List (WorkerSeat C)) → all ≡ ss ++ s ∷ [] → having k all ≡ having k ss + times k s.seat.me.0.numbers
+  pub having_snoc : (k : ℕ) (ss : List (WorkerSeat C)) (s : WorkerSeat C) (all : List (WorkerSeat C)) → all ≡ ss ++ s ∷ [] → having k all ≡
+      having k ss + times k s.seat.me.0.numbers
   having_snoc k ss s all e = let h = total_append (λ (s : WorkerSeat C). times k s.seat.me.0.numbers) ss (s ∷ []) in let r = ap (having k) e in omega arith

@@ -45,7 +45,8 @@ pub record HasParcel {C Key : Type 0} (edge_of : C → ℕ) (key_of : C → Key)
   pub key : key_of parcel ≡ key_of a.sample.value
 
 -- what the words and slots tell of the lists of all seats
-pub record Ended {C Key : Type 0} (edge_of : C → ℕ) (key_of : C → Key) (a : About C) (g : Tasks) (words : List ℕ) (slots : List (Option C)) (lists : (Deed → ℕ) → ℕ) : Type 0 where
+pub record Ended {C Key : Type 0} (edge_of : C → ℕ) (key_of : C → Key) (a : About C) (g : Tasks) (words : List ℕ) (slots : List (Option C))
+    (lists : (Deed → ℕ) → ℕ) : Type 0 where
   pub told : Tells (net_of g) lists
   pub finished : (w : ℕ) → get_elem? words 0 ≡ some w → w ≡ 2 * task_count g → (t : ℕ) → t < task_count g → lists (finishes t) ≡ 1
   pub stamps_of : (w : ℕ) → get_elem? words 0 ≡ some w → ((t : ℕ) → t < task_count g → lists (finishes t) ≡ 1) → w ≡ 2 * task_count g
@@ -54,17 +55,24 @@ pub record Ended {C Key : Type 0} (edge_of : C → ℕ) (key_of : C → Key) (a 
   pub exits : ((t : ℕ) → t < task_count g → lists (finishes t) ≡ 1) → (e : ℕ) → edges_of g - g.loops ≤ e → e < edges_of g → HasParcel edge_of key_of a slots e
   pub entries : ((t : ℕ) → t < task_count g → lists (wins t) ≡ 0) → (e : ℕ) → e < g.loops → HasParcel edge_of key_of a slots e
 
-pub are_parcels : {C Key : Type 0} (edge_of : C → ℕ) (key_of : C → Key) (a : About C) (slots : List (Option C)) (k : ℕ) (ps : List C) → ((e : ℕ) → k ≤ e → e < k + length ps → HasParcel edge_of key_of a slots e) → AreSlots slots k ps → AreParcels edge_of key_of a k ps
+pub are_parcels : {C Key : Type 0} (edge_of : C → ℕ) (key_of : C → Key) (a : About C) (slots : List (Option C)) (k : ℕ) (ps : List C) →
+    ((e : ℕ) → k ≤ e → e < k + length ps → HasParcel edge_of key_of a slots e) → AreSlots slots k ps → AreParcels edge_of key_of a k ps
 are_parcels edge_of key_of a slots k [] have are = tt
-are_parcels edge_of key_of a slots k (p ∷ ps) have are = let q = have k (omega arith) (omega arith) in let z : q.parcel ≡ p = some_some q.parcel p (sym q.at ∙ are.0) in
-    ((ap edge_of (sym z) ∙ q.edge, ap key_of (sym z) ∙ q.key), are_parcels edge_of key_of a slots (suc k) ps (λ e l m. have e (omega arith) (omega arith)) are.1)
+are_parcels edge_of key_of a slots k (p ∷ ps) have are = let q = have k (omega arith) (omega arith) in
+    let z : q.parcel ≡ p = some_some q.parcel p (sym q.at ∙ are.0) in (
+      (ap edge_of (sym z) ∙ q.edge, ap key_of (sym z) ∙ q.key),
+      are_parcels edge_of key_of a slots (suc k) ps
+          (λ e l m. have e (omega arith) (omega arith)) are.1,
+    )
 
 both : (x y : Bool) → x ≡ true → y ≡ true → (x && y) ≡ true
 both true y p q = q
 both false y p q = p
 
-module _ {C Key : Type 0} (edge_of : C → ℕ) (key_of : C → Key) (a : About C) (graph : IsGraph a.tasks.value.tasks) (id : ℕ) (v : View C) (words : List ℕ) (slots : List (Option C))
-    (end : Final (Seen {S = Option C} (λ s. IsWhole graph_wires edge_of key_of a s) id v) words slots) (numbers : (k : ℕ) → k < a.workers → 0 < times k v.numbers) (lists : (Deed → ℕ) → ℕ) (same : (f : Deed → ℕ) → done_by f v ≡ lists f) where
+module _ {C Key : Type 0} (edge_of : C → ℕ) (key_of : C → Key) (a : About C) (graph : IsGraph a.tasks.value.tasks) (id : ℕ) (v : View C)
+    (words : List ℕ) (slots : List (Option C))
+    (end : Final (Seen {S = Option C} (λ s. IsWhole graph_wires edge_of key_of a s) id v) words slots)
+    (numbers : (k : ℕ) → k < a.workers → 0 < times k v.numbers) (lists : (Deed → ℕ) → ℕ) (same : (f : Deed → ℕ) → done_by f v ≡ lists f) where
   abbrev g : Tasks
   g = a.tasks.value.tasks
 
@@ -97,13 +105,16 @@ module _ {C Key : Type 0} (edge_of : C → ℕ) (key_of : C → Key) (a : About 
   ended_here = record {
     told = tells_like (net_of g) (λ f. done_by f v) lists same (tells graph_wires edge_of key_of a end.0 end.1.0 id v end.1.1 numbers);
     finished = λ w at e t there. sym (is (finishes t)) ∙ all_finished graph_wires edge_of key_of a end.0 end.1.0 id v end.1.1 numbers (word 0 w at ∙ e) t there;
-    stamps_of = λ w at d. sym (word 0 w at) ∙ finished_all graph_wires edge_of key_of a end.0 end.1.0 id v end.1.1 numbers (λ t there. is (finishes t) ∙ d t there);
+    stamps_of = λ w at d. sym (word 0 w at) ∙ finished_all graph_wires edge_of key_of a end.0 end.1.0 id v end.1.1 numbers
+        (λ t there. is (finishes t) ∙ d t there);
     untaken = λ t there at. sym (is (wins t)) ∙ sym (h.kept.claimed t there) ∙ word (claim_word (task_count g) t) 0 at;
     claim_of = λ t there none'. word_at words (claim_word (task_count g) t) (let l = h.kept.words_long in let q = ap length end.2 in omega arith)
         ∙ ap some (ap (λ l. slice_index l (claim_word (task_count g) t)) (sym end.2) ∙ h.kept.claimed t there ∙ is (wins t) ∙ none');
-    exits = λ d e l m. let x = exit_is e l m in let q = h.kept.exit_slots e x (is (finishes ((net_of g).source e)) ∙ d ((net_of g).source e) (ws.exits_from e x)) in let f = q.2 in
+    exits = λ d e l m. let x = exit_is e l m in
+        let q = h.kept.exit_slots e x (is (finishes ((net_of g).source e)) ∙ d ((net_of g).source e) (ws.exits_from e x)) in let f = q.2 in
         record { parcel = f.0; at = end.4 e (Some f.0) (q.1 ∙ ap (λ (y : Option C). some (some y)) f.1); edge = f.2; key = f.3 };
-    entries = λ d e l. let q = h.kept.full_slots e (inl (lt-ltb e g.loops l)) (is (wins ((net_of g).reader e)) ∙ d ((net_of g).reader e) (entry_reader e l)) in let f = q.2 in
+    entries = λ d e l. let q = h.kept.full_slots e (inl (lt-ltb e g.loops l))
+        (is (wins ((net_of g).reader e)) ∙ d ((net_of g).reader e) (entry_reader e l)) in let f = q.2 in
         record { parcel = f.0; at = end.4 e (Some f.0) (q.1 ∙ ap (λ (y : Option C). some (some y)) f.1); edge = f.2; key = f.3 };
   }
 
@@ -112,11 +123,14 @@ module _ {C Key : Type 0} (edge_of : C → ℕ) (key_of : C → Key) (a : About 
   ended t e = subst (λ (k : Graph). Ended edge_of key_of a k.tasks words slots lists) e ended_here
 
 -- the same where the lists are those of seats
-module _ {C Key : Type 0} (edge_of : C → ℕ) (key_of : C → Key) (a : About C) (g : Graph) (told : a.tasks.value ≡ g) (graph : IsGraph g.tasks) (id : ℕ) (v : View C) (words : List ℕ) (slots : List (Option C))
-    (end : Final (Seen {S = Option C} (λ s. IsWhole graph_wires edge_of key_of a s) id v) words slots) (seats : List (WorkerSeat C)) (lists : (f : Deed → ℕ) → done_by f v ≡ told_by f seats) (numbers : (k : ℕ) → times k v.numbers ≡ having k seats)
+module _ {C Key : Type 0} (edge_of : C → ℕ) (key_of : C → Key) (a : About C) (g : Graph) (told : a.tasks.value ≡ g)
+    (graph : IsGraph g.tasks) (id : ℕ) (v : View C) (words : List ℕ) (slots : List (Option C))
+    (end : Final (Seen {S = Option C} (λ s. IsWhole graph_wires edge_of key_of a s) id v) words slots) (seats : List (WorkerSeat C))
+    (lists : (f : Deed → ℕ) → done_by f v ≡ told_by f seats) (numbers : (k : ℕ) → times k v.numbers ≡ having k seats)
     (all : (0 < a.workers) × ((k : ℕ) → k < a.workers → having k seats ≡ 1)) where
   pub end_of : Ended edge_of key_of a g.tasks words slots (λ f. told_by f seats)
-  end_of = ended edge_of key_of a (subst (λ (k : Graph). IsGraph k.tasks) (sym told) graph) id v words slots end (λ k l. let h = all.1 k l in let n = numbers k in omega arith) (λ f. told_by f seats) lists g told
+  end_of = ended edge_of key_of a (subst (λ (k : Graph). IsGraph k.tasks) (sym told) graph) id v words slots end
+      (λ k l. let h = all.1 k l in let n = numbers k in omega arith) (λ f. told_by f seats) lists g told
 
 pub some_seats : {C : Type 0} (seats : List (WorkerSeat C)) → having 0 seats ≡ 1 → 0 < length seats
 some_seats [] h = absurd (omega arith)

@@ -24,7 +24,8 @@ pub record Found (edges : List ℕ) (edge place : ℕ) : Type 0 where
 pub found : (edges : List ℕ) (edge : ℕ) → 0 < times edge edges → Found edges edge (position_or_len (λ e. e == edge) edges)
 found [] edge pos = absurd (omega arith)
 found (x ∷ xs) edge pos = dite (ℕ_discrete x edge)
-    (λ s. subst (λ b. Found (x ∷ xs) edge (cond (not b) (1 + position_or_len (λ e. e == edge) xs) 0)) (sym (eq-eqb x edge s)) (record { xs = []; ys = xs; is = ap (λ k. k ∷ xs) s; at = refl; first = refl }))
+    (λ s. subst (λ b. Found (x ∷ xs) edge (cond (not b) (1 + position_or_len (λ e. e == edge) xs) 0)) (sym (eq-eqb x edge s))
+    (record { xs = []; ys = xs; is = ap (λ k. k ∷ xs) s; at = refl; first = refl }))
     (λ n. let o = bit_apart x edge n in let r = found xs edge (omega arith) in
     subst (λ b. Found (x ∷ xs) edge (cond (not b) (1 + position_or_len (λ e. e == edge) xs) 0)) (sym (ne_eqb x edge n))
     (record { xs = x ∷ r.xs; ys = r.ys; is = ap (λ l. x ∷ l) r.is; at = let a = r.at in omega arith; first = let f = r.first in omega arith }))
@@ -54,7 +55,15 @@ part {C} c xs ys e h = let r = cut_at c xs (e ∷ ys) h in open_back r.front r.b
   where
     open_back : (front back : List (ℕ × Option C)) → c ≡ front ++ back → places front ≡ xs → places back ≡ e ∷ ys → Parted c xs ys e
     open_back front [] is f b = absurd (cc)
-    open_back front (y ∷ back) is f b = record { front = front; x = y.1; back = back; is = is ∙ ap (λ k. front ++ (k, y.1) ∷ back) (let q : y.0 ≡ e = cc in q); front_at = f; back_at = (let q : places back ≡ ys = cc in q) }
+    open_back front (y ∷ back) is f b = record {
+      front = front;
+      x = y.1;
+      back = back;
+      is = is ∙ ap (λ k. front ++ (k, y.1) ∷ back)
+          (let q : y.0 ≡ e = cc in q);
+      front_at = f;
+      back_at = (let q : places back ≡ ys = cc in q);
+    }
 
 module _ {C : Type 0} (c : List (ℕ × Option C)) (xs ys : List ℕ) (e : ℕ) (p : Parted c xs ys e) (first : times e xs ≡ 0) where
   long_front : length p.front ≡ length xs
@@ -91,7 +100,8 @@ module _ {C : Type 0} (c : List (ℕ × Option C)) (xs ys : List ℕ) (e : ℕ) 
   places_but = ap places but_is ∙ places_append p.front p.back ∙ (λ i. p.front_at i ++ p.back_at i)
 
 -- a seat's slots at the place of an edge, where a list mirrors them
-module _ {C : Type 0} (c : List (ℕ × Option C)) (items edges : List ℕ) (mirror : places c ≡ items) (same : edges ≡ items) (e place : ℕ) (at : IsPlaceOf edges e place) where
+module _ {C : Type 0} (c : List (ℕ × Option C)) (items edges : List ℕ) (mirror : places c ≡ items) (same : edges ≡ items) (e place : ℕ)
+    (at : IsPlaceOf edges e place) where
   abbrev pub placed : Parted c at.0 at.1 e
   placed = part c at.0 at.1 e (mirror ∙ sym same ∙ at.2)
 

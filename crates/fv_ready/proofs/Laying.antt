@@ -17,7 +17,8 @@ use Rattle.fv_ready.specs.Begun.{first_slots, AreEntries}
 use Rattle.fv_rule.proofs.Begins.{Laid, begins}
 
 module _ {C : Type 0} where
-  entry_at : (es : List C) (ys : List (Option C)) (e : ℕ) → e < length es → (p : C) × (get_elem? (map Some es ++ ys) e ≡ some (Some p)) × ((d : C) → slice_index_or es e d ≡ p)
+  entry_at : (es : List C) (ys : List (Option C)) (e : ℕ) → e < length es → (p : C) × (get_elem? (map Some es ++ ys) e ≡ some (Some p)) ×
+      ((d : C) → slice_index_or es e d ≡ p)
   entry_at [] ys e h = absurd (omega arith)
   entry_at (x ∷ xs) ys zero h = (x, refl, λ d. refl)
   entry_at (x ∷ xs) ys (suc e) h = entry_at xs ys e (omega arith)
@@ -40,30 +41,37 @@ module _ {C : Type 0} where
       long_map (x ∷ xs) = ap suc (long_map xs)
 
 pub words_long : (n : Net) → length (first_words n) ≡ 1 + n.tasks + n.tasks
-words_long n = omega (arith, length-append (map (need_count n) (numbers n.tasks)) (replicate n.tasks 0), length_same {X = ℕ} n.tasks 0, length_numbers 0 n.tasks (need_count n))
+words_long n = omega (
+  arith,
+  length-append (map (need_count n) (numbers n.tasks)) (replicate n.tasks 0),
+  length_same {X = ℕ} n.tasks 0,
+  length_numbers 0 n.tasks (need_count n),
+)
 
-module _ {C Key : Type 0} (edge_of : C → ℕ) (key_of : C → Key) (a : About C) (g : Graph) (es : List C) (first : C) (told : a.tasks.value ≡ g) (some_loop : 0 < g.tasks.loops) (long : length es ≡ g.tasks.loops)
+module _ {C Key : Type 0} (edge_of : C → ℕ) (key_of : C → Key) (a : About C) (g : Graph) (es : List C) (first : C)
+    (told : a.tasks.value ≡ g) (some_loop : 0 < g.tasks.loops) (long : length es ≡ g.tasks.loops)
     (are : AreEntries edge_of key_of es) (is_first : first ≡ slice_index_or es 0 first) (sample : a.sample.value ≡ first) where
   fits : length es ≤ edges_of g.tasks
   fits = omega arith
 
   laid : Laid graph_wires edge_of key_of a (first_slots (edges_of g.tasks) es)
-  laid = subst (λ (h : Graph). Laid graph_wires edge_of key_of (record a { tasks = record a.tasks { value = h } }) (first_slots (edges_of g.tasks) es)) (sym told) (record {
-    long = long_first es (edges_of g.tasks) fits;
-    full = λ e is. let l = ltb-true e g.tasks.loops is in let p = entry_at es (replicate (edges_of g.tasks - length es) None) e (omega arith) in (
-      Some p.0,
-      p.1,
-      (
-        p.0,
-        refl,
-        ap edge_of (sym (p.2 first)) ∙ are.edges e first (omega arith),
-        ap key_of (sym (p.2 first)) ∙ are.keys e first (omega arith) ∙ ap key_of (sym is_first ∙ sym sample),
-      ),
-    );
-    empty = λ e he no. none_at es (edges_of g.tasks - length es) e
-        (dite (dec_le (length es) e) (λ l. l) (λ l. absurd (true≢false (sym (lt-ltb e g.tasks.loops (omega arith)) ∙ no))))
-        (let f = fits in omega arith);
-  })
+  laid = subst (λ (h : Graph). Laid graph_wires edge_of key_of (record a { tasks = record a.tasks { value = h } })
+      (first_slots (edges_of g.tasks) es)) (sym told) (record {
+        long = long_first es (edges_of g.tasks) fits;
+        full = λ e is. let l = ltb-true e g.tasks.loops is in let p = entry_at es (replicate (edges_of g.tasks - length es) None) e (omega arith) in (
+          Some p.0,
+          p.1,
+          (
+            p.0,
+            refl,
+            ap edge_of (sym (p.2 first)) ∙ are.edges e first (omega arith),
+            ap key_of (sym (p.2 first)) ∙ are.keys e first (omega arith) ∙ ap key_of (sym is_first ∙ sym sample),
+          ),
+        );
+        empty = λ e he no. none_at es (edges_of g.tasks - length es) e
+            (dite (dec_le (length es) e) (λ l. l) (λ l. absurd (true≢false (sym (lt-ltb e g.tasks.loops (omega arith)) ∙ no))))
+            (let f = fits in omega arith);
+      })
 
   pub slots_long : (slots : List (Option C)) → slots ≡ first_slots (edges_of g.tasks) es → length slots ≡ edges_of g.tasks
   slots_long slots e = ap length e ∙ long_first es (edges_of g.tasks) fits
@@ -71,7 +79,8 @@ module _ {C Key : Type 0} (edge_of : C → ℕ) (key_of : C → Key) (a : About 
   -- the table that `begin` makes meets the rule
   pub begins_so : (words : List ℕ) (slots : List (Option C)) → words ≡ first_words (net_of g.tasks) → slots ≡ first_slots (edges_of g.tasks) es → 0 < a.workers
       → IsWhole graph_wires edge_of key_of a (opening words slots (first_view a))
-  begins_so words slots ew es' some_worker = subst (λ (p : List ℕ × List (Option C)). IsWhole graph_wires edge_of key_of a (opening p.0 p.1 (first_view a))) (λ i. (sym (ew ∙ ap (λ (h : Graph). first_words (net_of h.tasks)) (sym told)) i, sym es' i))
+  begins_so words slots ew es' some_worker = subst (λ (p : List ℕ × List (Option C)). IsWhole graph_wires edge_of key_of a
+      (opening p.0 p.1 (first_view a))) (λ i. (sym (ew ∙ ap (λ (h : Graph). first_words (net_of h.tasks)) (sym told)) i, sym es' i))
       (begins graph_wires edge_of key_of a (first_slots (edges_of g.tasks) es) laid some_worker)
 
   pub key_is : (k : ℕ) (d : C) → k < length es → key_of (slice_index_or es k d) ≡ key_of a.sample.value

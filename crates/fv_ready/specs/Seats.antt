@@ -28,5 +28,7 @@ pub record IsSeat {C Key : Type 0} (edge_of : C → ℕ) (key_of : C → Key) (i
   pub name : s.seat.table_id ≡ id
   pub board : (view_of s).board ≡ Some a
   pub mirror : places (slots_of s) ≡ s.edges.items
-  pub room : (t : ℕ) → t < task_count a.tasks.value.tasks → length (inward a.tasks.value.tasks t) + length (outward a.tasks.value.tasks t) ≤ vec_capacity s.edges
-  pub hand : MatchOption s.in_hand (IsFree graph_wires edge_of key_of a (view_of s) (slots_of s)) (λ r. IsBusy graph_wires edge_of key_of a r.task r.started (view_of s) (slots_of s))
+  pub room : (t : ℕ) → t < task_count a.tasks.value.tasks → length (inward a.tasks.value.tasks t) + length (outward a.tasks.value.tasks t)
+      ≤ vec_capacity s.edges
+  pub hand : MatchOption s.in_hand (IsFree graph_wires edge_of key_of a (view_of s) (slots_of s))
+      (λ r. IsBusy graph_wires edge_of key_of a r.task r.started (view_of s) (slots_of s))
