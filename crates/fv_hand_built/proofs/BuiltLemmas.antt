@@ -1,4 +1,4 @@
--- Each diagram that the tests put can run.
+-- Each diagram that is put can run.
 use Rattle.std.proofs.Common.{◌≡◌, ℕ, ◌<◌, sym, ap, subst, arith, inl, inr}
 use Rattle.std.proofs.lemmas.Bool.{cases_lt}
 use Rattle.std.proofs.lemmas.List.{length_push}
@@ -9,7 +9,7 @@ use Rattle.fv_diagram.specs.declared.node.Primitive.TheVariants as prim
 use Rattle.fv_diagram.specs.Diagram.{IsWellFormed}
 use Rattle.fv_diagram.specs.Arena.{Arena, count_of, with_node, tree_of, tree_with}
 use Rattle.fv_arity.specs.Compositions.{HasWellFormedParts}
-use Rattle.fv_diagram_tests.specs.Built.{CanRun, AllCanRun, IsAllowed}
+use Rattle.fv_hand_built.specs.Built.{CanRun, AllCanRun, IsAllowed}
 
 node_can_run : (ns : Arena) (n : Node) → AllCanRun ns → IsAllowed (count_of ns) n → (HasWellFormedParts (tree_with ns n) → IsWellFormed (tree_with ns n)) → CanRun (tree_with ns n)
 node_can_run ns (node.Prim prim.Wire) h a w = record { well = tt; closed = λ s f. f; reads = omega arith }

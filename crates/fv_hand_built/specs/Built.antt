@@ -1,4 +1,4 @@
--- What holds of the diagrams that the tests put.
+-- What holds of the diagrams that are put by hand.
 use Rattle.std.specs.Prelude.{ℕ, ◌<◌, ◌≤◌}
 use Rattle.fv_diagram.specs.declared.node.Node.{Node}
 use Rattle.fv_diagram.specs.declared.node.Node.TheVariants as node

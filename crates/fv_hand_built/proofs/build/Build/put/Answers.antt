@@ -1,12 +1,12 @@
 use Rattle.std.proofs.Common.{arith, subst, ap}
 use Rattle.fv_diagram.specs.Arena.{count_of}
 use Rattle.std.proofs.lemmas.List.{length_push}
-use Rattle.fv_propagate_tests.specs.Built.{IsAllowed}
-use Rattle.fv_propagate_tests.proofs.BuiltLemmas.{all_can_run}
-use Rattle.fv_propagate_tests.proofs.built.Build.put.Goals as goal
+use Rattle.fv_hand_built.specs.Built.{IsAllowed}
+use Rattle.fv_hand_built.proofs.BuiltLemmas.{all_can_run}
+use Rattle.fv_hand_built.proofs.build.Build.put.Goals as goal
 
 pub invariant_of-self : goal.invariant_of-self
-invariant_of-self g c =
+invariant_of-self c =
     let ns = c.self.inside.diagrams in
     let n = c.node_of.result in
     let o = c.in-Ok.ensures in
