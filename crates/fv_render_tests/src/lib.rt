@@ -1,0 +1,11 @@
+//! Tests of fv_render's public call: programs that are played in blocks, beside the runner of diagrams.
+#![tactic(auto)]
+
+#[cfg(test)]
+mod counter;
+#[cfg(test)]
+mod playing;
+#[cfg(test)]
+mod rows;
+#[cfg(test)]
+mod told;
