@@ -1,8 +1,8 @@
 // Arities that are refused.
 
-use crate::built::{Build, Item, WIRE};
 use fv_arity::{ArityKind, ArityRefusal};
 use fv_diagram::Prim;
+use fv_hand_built::{Build, Item, Unput, WIRE};
 use std::test::Fail;
 
 #[test]
@@ -16,7 +16,7 @@ fn arities_are_refused(rt: HostRuntime) -> Result<(), Fail> {
         Item::Number(1),
         Item::Prim(Prim::Cut),
     ] {
-        build.put(&rt, item)?;
+        build.put(item)?;
     }
     for (item, kind, left, right) in [
         (Item::Seq(0, 1), ArityKind::Seq, 1, 2),
@@ -27,8 +27,8 @@ fn arities_are_refused(rt: HostRuntime) -> Result<(), Fail> {
         (Item::Rec(3, 0), ArityKind::RecIn, 0, 1),
     ] {
         assert_eq!(rt;
-            build.arity(&rt, item),
-            Err(ArityRefusal::Arity { kind, left, right })
+            build.arity(item),
+            Err(Unput::Arity(ArityRefusal::Arity { kind, left, right }))
         );
     }
     Ok(())

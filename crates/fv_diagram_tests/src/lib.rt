@@ -4,8 +4,6 @@
 #[cfg(test)]
 mod arities;
 #[cfg(test)]
-mod built;
-#[cfg(test)]
 mod runs;
 #[cfg(test)]
 mod spans;

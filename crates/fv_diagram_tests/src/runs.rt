@@ -2,8 +2,8 @@
 
 ghost use Rattle.std.specs.Prelude.{◌≡◌, length, IfOk};
 
-use crate::built::{Build, Item, PLUS, WIRE};
 use fv_diagram::{Arity, DiagramId, Diagrams, Node, Prim, PutRefusal, Stepper};
+use fv_hand_built::{Build, Item, PLUS, WIRE};
 use fv_num::Op;
 use std::alloc::{AllocError, Global};
 use std::process::Abort;
@@ -293,12 +293,14 @@ fn play(
     frames: &[i32],
     want: &[i32],
 ) -> Result<(), Fail> {
-    assert!(rt; build.count > 0);
-    let root = DiagramId::new(build.count - 1);
-    let arity = build.diagrams.arity(root);
+    let count = build.count();
+    let diagrams = build.diagrams();
+    assert!(rt; count > 0);
+    let root = DiagramId::new(count - 1);
+    let arity = diagrams.arity(root);
     let ins = arity.inputs as usize;
     let outs = arity.outputs as usize;
-    let mut stepper = Stepper::new(alloc, &build.diagrams, root)?;
+    let mut stepper = Stepper::new(alloc, diagrams, root)?;
     let mut frames = frames;
     let mut want = want;
     'frames: while !want.is_empty() {
@@ -319,7 +321,7 @@ fn rows_run(rt: HostRuntime) -> Result<(), Fail> {
     for row in &ROWS {
         let mut build = Build::new(rt.alloc());
         for item in row.items {
-            assert_eq!(rt; build.put(&rt, *item)?, None);
+            assert_eq!(rt; build.put(*item)?, None);
         }
         play(&rt, rt.alloc(), row.name, &build, row.frames, row.want)?;
     }
@@ -330,7 +332,7 @@ fn rows_run(rt: HostRuntime) -> Result<(), Fail> {
 fn chain(rt: &impl Abort, alloc: Global, leftwards: bool, want: &[i32]) -> Result<(), Fail> {
     let mut build = Build::new(alloc);
     for item in [Item::Number(0), WIRE, Item::Prim(Prim::Mem)] {
-        build.put(rt, item)?;
+        build.put(item)?;
     }
     for last in 2..8192 {
         let item = if leftwards {
@@ -338,7 +340,7 @@ fn chain(rt: &impl Abort, alloc: Global, leftwards: bool, want: &[i32]) -> Resul
         } else {
             Item::Seq(1, last)
         };
-        build.put(rt, item)?;
+        build.put(item)?;
     }
     // these are 16,381 nodes; a number beside them, and a bind of a slot that does not occur
     let item = if leftwards {
@@ -346,19 +348,19 @@ fn chain(rt: &impl Abort, alloc: Global, leftwards: bool, want: &[i32]) -> Resul
     } else {
         Item::Par(0, 8192)
     };
-    build.put(rt, item)?;
-    assert_eq!(rt; build.put(rt, Item::Bind(8193))?, None);
+    build.put(item)?;
+    assert_eq!(rt; build.put(Item::Bind(8193))?, None);
     play(rt, alloc, "chain", &build, &[1, 5, 1, 7, 1, 4], want)?;
     assert_eq!(rt;
-        build.put(rt, Item::Par(8193, 0))?,
+        build.put(Item::Par(8193, 0))?,
         Some(PutRefusal::SizeBudget { size: 16385 })
     );
     assert_eq!(rt;
-        build.put(rt, Item::Par(8194, 8194))?,
+        build.put(Item::Par(8194, 8194))?,
         Some(PutRefusal::SizeBudget { size: 32769 })
     );
-    assert_eq!(rt; build.put(rt, Item::Number(0))?, None);
-    assert_eq!(rt; build.count, 8196);
+    assert_eq!(rt; build.put(Item::Number(0))?, None);
+    assert_eq!(rt; build.count(), 8196);
     Ok(())
 }
 
@@ -408,7 +410,7 @@ fn echoes_run(rt: HostRuntime) -> Result<(), Fail> {
         Item::Rec(0, 15),
         Item::Par(16, 16),
     ] {
-        assert_eq!(rt; build.put(&rt, item)?, None);
+        assert_eq!(rt; build.put(item)?, None);
     }
     let frames = sparse(rt.alloc(), 22051, &[(0, 1000)])?;
     let want = sparse(rt.alloc(), 22051, &[(0, 1000), (11025, 500), (22050, 250)])?;

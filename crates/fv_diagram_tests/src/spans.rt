@@ -1,7 +1,7 @@
 // The delays of diagrams, and which of them are refused.
 
-use crate::built::{Build, Item, PLUS, WIRE};
 use fv_diagram::{DiagramId, Prim};
+use fv_hand_built::{Build, Item, PLUS, WIRE};
 use fv_interval::{DelayRefusal, Delays, spans};
 use fv_num::{Op, Span};
 use std::alloc::Global;
@@ -212,10 +212,12 @@ static ROWS: [Row; 16] = [
 
 // The delays of the last diagram.
 fn delays_of(rt: &impl Abort, alloc: Global, build: &Build) -> Result<Delays, DelayRefusal> {
-    assert!(rt; build.count > 0);
-    let root = DiagramId::new(build.count - 1);
+    let count = build.count();
+    let diagrams = build.diagrams();
+    assert!(rt; count > 0);
+    let root = DiagramId::new(count - 1);
     let controls = [Span { lo: 0, hi: 10 }, Span::full()];
-    spans(alloc, &build.diagrams, root, &controls)
+    spans(alloc, diagrams, root, &controls)
 }
 
 // Compares delays with those that are wanted.
@@ -237,7 +239,7 @@ fn delays_are_listed_or_refused(rt: HostRuntime) -> Result<(), Fail> {
     for row in &ROWS {
         let mut build = Build::new(rt.alloc());
         for item in row.items {
-            assert_eq!(rt; build.put(&rt, *item)?, None);
+            assert_eq!(rt; build.put(*item)?, None);
         }
         match (delays_of(&rt, rt.alloc(), &build), row.want) {
             (Ok(delays), Ok(want)) => assert_delays(&rt, &delays, want, row.name),
@@ -259,14 +261,14 @@ fn budgets(rt: HostRuntime) -> Result<(), Fail> {
         AT,
         Item::Seq(2, 3),
     ] {
-        build.put(&rt, item)?;
+        build.put(item)?;
     }
     for last in 4..19 {
-        build.put(&rt, Item::Par(last, 4))?;
+        build.put(Item::Par(last, 4))?;
     }
     let delays = delays_of(&rt, rt.alloc(), &build)?;
     assert_eq!(rt; (delays.len(), delays.sum()), (16, 16777200));
-    build.put(&rt, Item::Par(19, 4))?;
+    build.put(Item::Par(19, 4))?;
     let refused = delays_of(&rt, rt.alloc(), &build).err();
     assert_eq!(rt; refused, Some(DelayRefusal::DelayBudget { sum: 17825775 }));
     Ok(())

@@ -5,7 +5,7 @@ use Rattle.std.proofs.lemmas.List.{length-take-le, length_push, append_assoc, ge
 use Rattle.std.proofs.lemmas.List.Elements.{All-get_or, All-weaker, All-take, All-map}
 use Rattle.std.proofs.lemmas.Bool.{cases_lt, eq-eqb, lt-ltb}
 use Rattle.fv_num.specs.declared.op.Op.{Op}
-use Rattle.fv_num.specs.declared.op.Op.TheVariants.{Add, Sub, Mul, Div, Rem, And, Or, Xor, Shl, Shr, Lt, Le, Gt, Ge, Eq, Ne, Min, Max, Abs, Select2, Select3}
+use Rattle.fv_num.specs.declared.op.Op.TheVariants.{Max, Abs, Select2, Select3}
 use Rattle.fv_num.specs.Words.{inputs_of}
 use Rattle.fv_signal.specs.declared.signal.Signal.{Signal}
 use Rattle.fv_signal.specs.declared.signal.Signal.TheVariants as signal
@@ -202,55 +202,11 @@ computes_delay t regs j old mid new x d max q v w lane k one eq ek el mean e f g
 
 -- ---- what the code reads in the tables
 
-pub four_inputs : (op : Op) → inputs_of op ≤ 4
-four_inputs op = elim op as (λ o. inputs_of o ≤ 4) [
-  | Add ↦ omega arith
-  | Sub ↦ omega arith
-  | Mul ↦ omega arith
-  | Div ↦ omega arith
-  | Rem ↦ omega arith
-  | And ↦ omega arith
-  | Or ↦ omega arith
-  | Xor ↦ omega arith
-  | Shl ↦ omega arith
-  | Shr ↦ omega arith
-  | Lt ↦ omega arith
-  | Le ↦ omega arith
-  | Gt ↦ omega arith
-  | Ge ↦ omega arith
-  | Eq ↦ omega arith
-  | Ne ↦ omega arith
-  | Min ↦ omega arith
-  | Max ↦ omega arith
-  | Abs ↦ omega arith
-  | Select2 ↦ omega arith
-  | Select3 ↦ omega arith
-]
-
 pub some_inputs : (op : Op) → 1 ≤ inputs_of op
-some_inputs op = elim op as (λ o. 1 ≤ inputs_of o) [
-  | Add ↦ omega arith
-  | Sub ↦ omega arith
-  | Mul ↦ omega arith
-  | Div ↦ omega arith
-  | Rem ↦ omega arith
-  | And ↦ omega arith
-  | Or ↦ omega arith
-  | Xor ↦ omega arith
-  | Shl ↦ omega arith
-  | Shr ↦ omega arith
-  | Lt ↦ omega arith
-  | Le ↦ omega arith
-  | Gt ↦ omega arith
-  | Ge ↦ omega arith
-  | Eq ↦ omega arith
-  | Ne ↦ omega arith
-  | Min ↦ omega arith
-  | Max ↦ omega arith
-  | Abs ↦ omega arith
-  | Select2 ↦ omega arith
-  | Select3 ↦ omega arith
-]
+some_inputs Abs = omega arith
+some_inputs Select2 = omega arith
+some_inputs Select3 = omega arith
+some_inputs op = omega arith
 
 stand_within : (t : Tables) (n : ℕ) → AreTables n t → (x : ℕ) → x < n → at t.stands.items x < n
 stand_within t n a x l = All-get_or (λ s. s < n) t.stands.items x 0 (omega (arith, a.stands)) a.within

@@ -1,7 +1,7 @@
 // What graphs of signals give, beside what their diagrams answer.
 
-use crate::built::{Build, Item, PLUS, WIRE};
 use fv_diagram::{DiagramId, Prim};
+use fv_hand_built::{Build, Item, PLUS, WIRE};
 use fv_interval::spans;
 use fv_num::{Op, Span, apply};
 use fv_play::play;
@@ -476,18 +476,20 @@ fn given(
 
 // The graph of the last diagram, which gives what the diagram answers.
 fn agrees(rt: &impl Abort, alloc: Global, build: &Build, row: &Row) -> Result<Graph, Fail> {
-    assert!(rt; build.count > 0);
-    let root = DiagramId::new(build.count - 1);
+    let count = build.count();
+    let diagrams = build.diagrams();
+    assert!(rt; count > 0);
+    let root = DiagramId::new(count - 1);
     let controls = [Span { lo: 0, hi: 10 }, Span::full()];
-    let delays = match spans(alloc, &build.diagrams, root, &controls) {
+    let delays = match spans(alloc, diagrams, root, &controls) {
         Ok(delays) => delays,
         Err(_) => return Err("refused".into()),
     };
-    let graph = propagate(alloc, &build.diagrams, root, &delays)?;
-    let width = build.diagrams.arity(root).inputs as usize;
+    let graph = propagate(alloc, diagrams, root, &delays)?;
+    let width = diagrams.arity(root).inputs as usize;
     assert!(rt; width <= 6);
     let samples = &SAMPLES[..FRAMES * width];
-    let want = play(alloc, &build.diagrams, root, &CONTROLS, samples, FRAMES)?;
+    let want = play(alloc, diagrams, root, &CONTROLS, samples, FRAMES)?;
     let answer = given(alloc, &graph, samples, width, FRAMES)?;
     assert!(rt; answer.as_slice() == want.as_slice(), "{}", row.name);
     Ok(graph)
@@ -499,7 +501,7 @@ fn graphs_give_what_diagrams_answer(rt: HostRuntime) -> Result<(), Fail> {
     for row in &ROWS {
         let mut build = Build::new(alloc);
         for item in row.items {
-            build.put(&rt, *item)?;
+            build.put(*item)?;
         }
         let graph = agrees(&rt, alloc, &build, row)?;
         assert!(rt; graph.len() > 0);
@@ -522,7 +524,7 @@ fn equal_operands_are_shared(rt: HostRuntime) -> Result<(), Fail> {
     let row = &ROWS[0];
     let mut build = Build::new(alloc);
     for item in row.items {
-        build.put(&rt, *item)?;
+        build.put(*item)?;
     }
     let graph = agrees(&rt, alloc, &build, row)?;
     let [sum] = graph.outputs() else {

@@ -2,6 +2,4 @@
 #![tactic(auto)]
 
 #[cfg(test)]
-mod built;
-#[cfg(test)]
 mod graphs;

@@ -30,7 +30,8 @@ both_of false b p q = p
 some_times : (k : ℕ) → 0 < k → not (k == 0) ≡ true
 some_times k h = ap not (ne_eqb k 0 (λ z. omega arith))
 
-module _ {C S : Type 0} (n : Net) (net : IsNet n) (workers : ℕ) (s : State S (View C)) (z : Now) (h : Shows {C = C} {S = S} n workers s z) (id e c : ℕ) (v : View C) (at : get_elem? s.views id ≡ some v)
+module _ {C S : Type 0} (n : Net) (net : IsNet n) (workers : ℕ) (s : State S (View C)) (z : Now) (h : Shows {C = C} {S = S} n workers s z)
+    (id e c : ℕ) (v : View C) (at : get_elem? s.views id ≡ some v)
     (inner : n.is_inner e ≡ true) (done : 0 < done_by (finishes (n.source e)) v) (new : done_by (arrives e) v ≡ 0)
     (words' : List ℕ) (word_is : (t : ℕ) → t < n.tasks → slice_index words' (count_word t) + bit (n.reader e == t) ≡ slice_index s.words (count_word t)) where
   abbrev w : ℕ
@@ -49,10 +50,12 @@ module _ {C S : Type 0} (n : Net) (net : IsNet n) (workers : ℕ) (s : State S (
   z' = lean_after n z (Arrive (worker_of v) e)
 
   has : times e (owes_of z (worker_of v)) ≡ 1
-  has = let o = (h.seat id v at).owes e in let b = bit_left (n.is_inner e) (ltb 0 (done_by (finishes (n.source e)) v)) inner in let l = ap bit (lt-ltb 0 (done_by (finishes (n.source e)) v) done) in omega arith
+  has = let o = (h.seat id v at).owes e in let b = bit_left (n.is_inner e) (ltb 0 (done_by (finishes (n.source e)) v)) inner in
+      let l = ap bit (lt-ltb 0 (done_by (finishes (n.source e)) v) done) in omega arith
 
   pub may_arrive : is_lean_legal n z (Arrive (worker_of v) e) ≡ true
-  may_arrive = both_of (ltb (worker_of v) (length z.runs)) (not (times e (owes_of z (worker_of v)) == 0)) (lt-ltb (worker_of v) (length z.runs) (h.seat id v at).there) (some_times (times e (owes_of z (worker_of v))) (let k = has in omega arith))
+  may_arrive = both_of (ltb (worker_of v) (length z.runs)) (not (times e (owes_of z (worker_of v)) == 0))
+      (lt-ltb (worker_of v) (length z.runs) (h.seat id v at).there) (some_times (times e (owes_of z (worker_of v))) (let k = has in omega arith))
 
   in_owes : worker_of v < length z.owes
   in_owes = let t = (h.seat id v at).there in omega arith
@@ -66,7 +69,9 @@ module _ {C S : Type 0} (n : Net) (net : IsNet n) (workers : ℕ) (s : State S (
         let f : done_by (finishes (n.source x)) (noted v d) ≡ done_by (finishes (n.source x)) v = omega arith in
         let g = ap (λ k. bit (n.is_inner x && ltb 0 k)) f in let o = q.owes x in
         let t = times_without (owes_of z (worker_of v)) e (let k = has in omega arith) x in
-        get_set (λ l. times x l + done_by (arrives x) (noted v d) ≡ bit (n.is_inner x && ltb 0 (done_by (finishes (n.source x)) (noted v d)))) z.owes (worker_of v) (worker_of v) (without e (owes_of z (worker_of v))) [] in_owes (λ _. omega arith) (λ ne. absurd (ne refl));
+        get_set (λ l. times x l + done_by (arrives x) (noted v d) ≡ bit
+        (n.is_inner x && ltb 0 (done_by (finishes (n.source x)) (noted v d)))) z.owes (worker_of v) (worker_of v)
+        (without e (owes_of z (worker_of v))) [] in_owes (λ _. omega arith) (λ ne. absurd (ne refl));
   }
 
   others : (j : ℕ) (u : View C) → j ≢ id → get_elem? s.views j ≡ some u → ShowsSeat n z' u
@@ -74,7 +79,8 @@ module _ {C S : Type 0} (n : Net) (net : IsNet n) (workers : ℕ) (s : State S (
     there = q.there;
     stays = q.stays;
     runs = q.runs;
-    owes = λ x. get_set (λ l. times x l + done_by (arrives x) u ≡ bit (n.is_inner x && ltb 0 (done_by (finishes (n.source x)) u))) z.owes (worker_of v) (worker_of u) (without e (owes_of z (worker_of v))) [] in_owes (λ m. absurd (ne (h.apart j id u v k at m))) (λ _. q.owes x);
+    owes = λ x. get_set (λ l. times x l + done_by (arrives x) u ≡ bit (n.is_inner x && ltb 0 (done_by (finishes (n.source x)) u))) z.owes
+        (worker_of v) (worker_of u) (without e (owes_of z (worker_of v))) [] in_owes (λ m. absurd (ne (h.apart j id u v k at m))) (λ _. q.owes x);
   }
 
   rt : n.reader e < n.tasks
@@ -82,13 +88,27 @@ module _ {C S : Type 0} (n : Net) (net : IsNet n) (workers : ℕ) (s : State S (
 
   pub shows_arrived : Shows {C = C} {S = S} n workers (record s { words = words'; views = set s.views id (noted v d) }) z'
   shows_arrived =
-      let F : (x : ℕ) → all (finishes x) (set s.views id (noted v d)) ≡ all (finishes x) s.views = λ x. let r = all_noted (finishes x) s.views id v d at in omega arith in
+      let F : (x : ℕ) → all (finishes x) (set s.views id (noted v d)) ≡ all (finishes x) s.views = λ x. let r = all_noted (finishes x)
+      s.views id v d at in omega arith in
       let W : (x : ℕ) → all (wins x) (set s.views id (noted v d)) ≡ all (wins x) s.views = λ x. let r = all_noted (wins x) s.views id v d at in omega arith in
-      let same : (j : ℕ) (u : View C) → get_elem? (set s.views id (noted v d)) j ≡ some u → (y : View C) × (get_elem? s.views j ≡ some y) × (worker_of u ≡ worker_of y) = λ j u k.
-      ⊎_elim (λ (p : (j ≡ id) × (noted v d ≡ u)). (v, subst (λ i. get_elem? s.views i ≡ some v) (sym p.0) at, ap (λ (y : View C). worker_of y) (sym p.1))) (λ p. (u, p.1, refl)) (at_set s.views id j (noted v d) u k) in
+      let same : (j : ℕ) (u : View C) → get_elem? (set s.views id (noted v d)) j ≡ some u → (y : View C) × (get_elem? s.views j ≡ some y) ×
+      (worker_of u ≡ worker_of y) = λ j u k.
+      ⊎_elim (λ (p : (j ≡ id) × (noted v d ≡ u)). (
+        v,
+        subst (λ i. get_elem? s.views i ≡ some v) (sym p.0) at,
+        ap
+            (λ (y : View C). worker_of y) (sym p.1),
+      )) (λ p. (u, p.1, refl)) (at_set s.views id j (noted v d) u k) in
       record {
-        long = (length-set z.counts (n.reader e) (count_of z (n.reader e) - 1) ∙ h.long.0, h.long.1, length-set z.owes (worker_of v) (without e (owes_of z (worker_of v))) ∙ h.long.2);
-        counts = λ t l. let o = h.counts t l in let k = word_is t l in get_set (λ m. m ≡ slice_index words' (count_word t)) z.counts (n.reader e) t (count_of z (n.reader e) - 1) 1 (subst (λ m. n.reader e < m) (sym counts_long) rt)
+        long = (
+          length-set z.counts (n.reader e) (count_of z (n.reader e) - 1) ∙ h.long.0,
+          h.long.1,
+          length-set z.owes (worker_of v)
+              (without e (owes_of z (worker_of v))) ∙ h.long.2,
+        );
+        counts = λ t l. let o = h.counts t l in let k = word_is t l in
+            get_set (λ m. m ≡ slice_index words' (count_word t)) z.counts (n.reader e) t (count_of z (n.reader e) - 1) 1
+            (subst (λ m. n.reader e < m) (sym counts_long) rt)
             (λ is. let b = bit_same (n.reader e) t (sym is) in let q : count_of z (n.reader e) ≡ count_of z t = ap (count_of z) (sym is) in omega arith)
             (λ ne. let b = bit_apart (n.reader e) t (λ q. ne (sym q)) in omega arith);
         done = λ t. h.done t ∙ sym (F t);

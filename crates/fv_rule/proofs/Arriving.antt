@@ -20,12 +20,15 @@ module _ {C Key : Type 0} (wires : Graph → Wires) (edge_of : C → ℕ) (key_o
   abbrev n : Net
   n = (wires a.tasks.value).net
 
-  pub arriving : (v : View C) (e : ℕ) (x : Option C) (tail : List (ℕ × Option C)) (id slots word : ℕ) → v.board ≡ Some a → n.is_inner e ≡ true → 0 < done_by (finishes (n.source e)) v → done_by (arrives e) v ≡ 0 → Fits wires edge_of key_of a e x → word ≡ count_word (n.reader e)
-      → Allows (λ s. IsWhole wires edge_of key_of a s) slots id (v, (e, x) ∷ tail) word (λ k. (k + (2 ^ 64 - 1)) % 2 ^ 64) (Gives (step slots word 1 0 none) (v, (e, x) ∷ tail))
+  pub arriving : (v : View C) (e : ℕ) (x : Option C) (tail : List (ℕ × Option C)) (id slots word : ℕ) → v.board ≡ Some a → n.is_inner e ≡
+      true → 0 < done_by (finishes (n.source e)) v → done_by (arrives e) v ≡ 0 → Fits wires edge_of key_of a e x → word ≡ count_word (n.reader e)
+      → Allows (λ s. IsWhole wires edge_of key_of a s) slots id (v, (e, x) ∷ tail) word (λ k. (k + (2 ^ 64 - 1)) % 2 ^ 64)
+      (Gives (step slots word 1 0 none) (v, (e, x) ∷ tail))
   arriving v e x tail id slots word ab inner done new fits ew s h long at wide =
       let r = n.reader e in
       let k = slice_index s.words (count_word r) in
-      let won : 0 < done_by (wins (n.source e)) v = let o = h.kept.own id v at in let p = o.started_won (n.source e) in let q = o.finished_started (n.source e) in omega arith in
+      let won : 0 < done_by (wins (n.source e)) v = let o = h.kept.own id v at in let p = o.started_won (n.source e) in
+      let q = o.finished_started (n.source e) in omega arith in
       let left : 0 < k = some_left wires edge_of key_of a ws s h.kept id v at ab e (k - 1) x inner won new fits in
       let here : slice_index s.words word ≡ k = ap (slice_index s.words) ew in
       let less : (slice_index s.words word + (2 ^ 64 - 1)) % 2 ^ 64 ≡ k - 1 = one_less (slice_index s.words word) (omega arith) wide ∙ ap (λ i. i - 1) here in
@@ -34,11 +37,17 @@ module _ {C Key : Type 0} (wires : Graph → Wires) (edge_of : C → ℕ) (key_o
         noted v (Arrived e (slice_index s.words word - 1)),
         gives,
         tt,
-        subst (λ (p : (ℕ × ℕ) × ℕ). IsWhole wires edge_of key_of a record { words = set s.words p.0.0 p.0.1; homes = set s.homes e (some x); views = set s.views id (noted v (Arrived e (p.1 - 1))) }) (λ i. ((sym ew i, sym less i), sym here i))
-            (whole_arrived wires edge_of key_of a s h id v at ab e ws.is_net inner done new (none_came wires edge_of key_of a ws s h.kept id v at ab e (k - 1) x inner won new fits) (set s.words (count_word r) (k - 1)) (set s.homes e (some x)) left
+        subst (λ (p : (ℕ × ℕ) × ℕ). IsWhole wires edge_of key_of a record
+            { words = set s.words p.0.0 p.0.1; homes = set s.homes e (some x); views = set s.views id (noted v (Arrived e (p.1 - 1))) })
+            (λ i. ((sym ew i, sym less i), sym here i))
+            (whole_arrived wires edge_of key_of a s h id v at ab e ws.is_net inner done new
+            (none_came wires edge_of key_of a ws s h.kept id v at ab e (k - 1) x inner won new fits)
+            (set s.words (count_word r) (k - 1)) (set s.homes e (some x)) left
             (other 0 (λ q. omega arith))
             (λ t l. dite (ℕ_discrete r t)
-            (λ is. let b = bit_same r t is in let z = get_or-set_same s.words (count_word r) (k - 1) 0 inw in let y : slice_index (set s.words (count_word r) (k - 1)) (count_word t) ≡ slice_index (set s.words (count_word r) (k - 1)) (count_word r) = ap (λ j. slice_index (set s.words (count_word r) (k - 1)) (count_word j)) (sym is) in
+            (λ is. let b = bit_same r t is in let z = get_or-set_same s.words (count_word r) (k - 1) 0 inw in
+            let y : slice_index (set s.words (count_word r) (k - 1)) (count_word t) ≡ slice_index (set s.words (count_word r) (k - 1))
+            (count_word r) = ap (λ j. slice_index (set s.words (count_word r) (k - 1)) (count_word j)) (sym is) in
             let u : slice_index s.words (count_word t) ≡ k = ap (λ j. slice_index s.words (count_word j)) (sym is) in omega arith)
             (λ ne. let b = bit_apart r t ne in let z = other (count_word t) (λ q. ne (omega arith)) in omega arith))
             (arrives_kept wires edge_of key_of a ws s h.kept id v at ab e (k - 1) x inner won new fits)),

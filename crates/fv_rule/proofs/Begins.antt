@@ -99,7 +99,8 @@ module _ {C Key : Type 0} (wires : Graph → Wires) (edge_of : C → ℕ) (key_o
         ∙ get_numbers 0 n.tasks (need_count n) t 1 h ∙ ap (need_count n) (omega arith)
 
     claim_is : (t : ℕ) → slice_index (first_words n) (claim_word n.tasks t) ≡ 0
-    claim_is t = ap (λ k. get_or (first_words n) k 0) (let l = counts_long in let q : 1 + n.tasks + t ≡ suc (length (map (need_count n) (numbers n.tasks)) + t) = omega arith in q)
+    claim_is t = ap (λ k. get_or (first_words n) k 0) (let l = counts_long in
+        let q : 1 + n.tasks + t ≡ suc (length (map (need_count n) (numbers n.tasks)) + t) = omega arith in q)
         ∙ get_right (map (need_count n) (numbers n.tasks)) (replicate n.tasks 0) t ∙ get_same n.tasks 0 t
 
     each : (P : View C → Type 0) → P (first_view a) → (id : ℕ) (v : View C) → get_elem? s.views id ≡ some v → P v
@@ -110,7 +111,11 @@ module _ {C Key : Type 0} (wires : Graph → Wires) (edge_of : C → ℕ) (key_o
 
     kept : IsKept wires edge_of key_of a s
     kept = record {
-      words_long = let l = counts_long in omega (arith, length-append (map (need_count n) (numbers n.tasks)) (replicate n.tasks 0), length_same {X = ℕ} n.tasks 0);
+      words_long = let l = counts_long in omega (
+        arith,
+        length-append (map (need_count n) (numbers n.tasks)) (replicate n.tasks 0),
+        length_same {X = ℕ} n.tasks 0,
+      );
       homes_long = long_home slots ∙ laid.long;
       same = each (λ v. (v.board ≡ Some a) ⊎ Rattle.fv_rule.specs.Rule.IsSpent v) (inl refl);
       own = each (λ v. IsOwn n v) own;
@@ -136,7 +141,12 @@ module _ {C Key : Type 0} (wires : Graph → Wires) (edge_of : C → ℕ) (key_o
 
     shows : Shows {C = C} {S = Option C} n a.workers s (core.opening n a.workers)
     shows = record {
-      long = (length_numbers 0 n.tasks (need_count n), length_same n.tasks false, length_same {X = List ℕ} a.workers [] ∙ sym (length_same {X = Option ℕ} a.workers None));
+      long = (
+        length_numbers 0 n.tasks (need_count n),
+        length_same n.tasks false,
+        length_same {X = List ℕ} a.workers [] ∙ sym
+            (length_same {X = Option ℕ} a.workers None),
+      );
       counts = λ t h. get_numbers 0 n.tasks (need_count n) t 1 h ∙ ap (need_count n) (let q : 0 + t ≡ t = omega arith in q) ∙ sym (count_is t h);
       done = λ t. ap bit (get_same n.tasks false t);
       running = λ t. let z = total_same (λ r. bit (is_run t r)) a.workers None refl in omega arith;
@@ -147,15 +157,23 @@ module _ {C Key : Type 0} (wires : Graph → Wires) (edge_of : C → ℕ) (key_o
         owes = λ e. ap (λ l. times e l + 0) (get_same a.workers [] (worker_of (first_view a))) ∙ sym (bit_right (n.is_inner e) false refl);
       });
       apart = λ i j u y e f w. let p = only (first_view a) u i e in let q = only (first_view a) y j f in p.0 ∙ sym q.0;
-      idle = λ k h no. record { there = omega (arith, length_same {X = Option ℕ} a.workers None); stays = get_in a.workers false true k h; runs = get_same a.workers None k; owes = get_same a.workers [] k };
+      idle = λ k h no. record {
+        there = omega (arith, length_same {X = Option ℕ} a.workers None);
+        stays = get_in a.workers false true k h;
+        runs = get_same a.workers None k;
+        owes = get_same a.workers [] k;
+      };
     }
 
     pub begins : IsWhole wires edge_of key_of a s
     begins = record {
       kept = kept;
-      numbered = λ k. dite (dec_le a.workers k) (λ l. let z = times_above (λ _. true) 0 a.workers k (omega arith) in let q = ap bit (not_below k a.workers l) in omega arith)
-          (λ l. let z = times_passing (λ _. true) 0 a.workers k (omega arith) (omega arith) in let q = ap bit (lt-ltb k a.workers (omega arith)) in omega arith);
-      has_one = each (λ v. v.board ≡ Some a → 0 < length v.numbers) (λ _. let l = length_numbers 0 a.workers (λ k. k) in omega (arith, long_map (numbers a.workers)));
+      numbered = λ k. dite (dec_le a.workers k) (λ l. let z = times_above (λ _. true) 0 a.workers k (omega arith) in
+          let q = ap bit (not_below k a.workers l) in omega arith)
+          (λ l. let z = times_passing (λ _. true) 0 a.workers k (omega arith) (omega arith) in
+          let q = ap bit (lt-ltb k a.workers (omega arith)) in omega arith);
+      has_one = each (λ v. v.board ≡ Some a → 0 < length v.numbers) (λ _. let l = length_numbers 0 a.workers (λ k. k) in
+          omega (arith, long_map (numbers a.workers)));
       drawn = sym (total_nones (λ t. 0) (λ t. refl) (numbers n.tasks));
       stamped_once = λ t. (omega arith, omega arith);
       start_below = λ k t pos. absurd (omega arith);

@@ -29,8 +29,10 @@ some_same x y e = cc
 
 module _ {C Key : Type 0} (wires : Graph → Wires) (edge_of : C → ℕ) (key_of : C → Key) (a : About C) (ws : IsWires (wires a.tasks.value)) where
   pub ending : (v : View C) (front rest : List (ℕ × Option C)) (t id slots : ℕ) → v.board ≡ Some a → IsBusy wires edge_of key_of a t true v (front ++ rest)
-      → ((e : ℕ) → (wires a.tasks.value).is_exit e ≡ true → (wires a.tasks.value).net.source e ≡ t → Exits wires edge_of key_of a front e) → going wires edge_of key_of a t ≡ length front → (wires a.tasks.value).net.tasks < 2 ^ 62
-      → Allows (λ s. IsWhole wires edge_of key_of a s) slots id (v, front ++ rest) 0 (λ k. (k + 1) % 2 ^ 64) (Ends wires edge_of key_of (step slots 0 1 0 none) (v, front ++ rest))
+      → ((e : ℕ) → (wires a.tasks.value).is_exit e ≡ true → (wires a.tasks.value).net.source e ≡ t → Exits wires edge_of key_of a front e)
+      → going wires edge_of key_of a t ≡ length front → (wires a.tasks.value).net.tasks < 2 ^ 62
+      → Allows (λ s. IsWhole wires edge_of key_of a s) slots id (v, front ++ rest) 0 (λ k. (k + 1) % 2 ^ 64)
+      (Ends wires edge_of key_of (step slots 0 1 0 none) (v, front ++ rest))
   ending v front rest t id slots ab holds exits count few s h long at wide =
       let k = slice_index s.words 0 in
       let room = small wires edge_of key_of a ws s h id v at ab t front rest holds exits in
@@ -38,7 +40,12 @@ module _ {C Key : Type 0} (wires : Graph → Wires) (edge_of : C → ℕ) (key_o
         noted v (Stamped k t false),
         give_all front,
         front_valid front rest s.homes,
-        subst (λ m. IsWhole wires edge_of key_of a record { words = set s.words 0 m; homes = homes_after s.homes (front ++ rest) (give_all front); views = set s.views id (noted v (Stamped k t false)) }) (sym plus)
+        subst (λ m. IsWhole wires edge_of key_of a record {
+          words = set s.words 0 m;
+          homes = homes_after s.homes (front ++ rest)
+              (give_all front);
+          views = set s.views id (noted v (Stamped k t false));
+        }) (sym plus)
             (whole_finished wires edge_of key_of a ws s h id v at ab t front rest holds exits),
         (λ a' is t' e. (
           ap (λ u. noted v (Stamped k u false)) (some_same t t' (sym holds.last ∙ e)),

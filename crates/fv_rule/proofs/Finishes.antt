@@ -29,7 +29,8 @@ both_of : (a b : Bool) → a ≡ true → b ≡ true → (a && b) ≡ true
 both_of true b p q = q
 both_of false b p q = p
 
-module _ {C S : Type 0} (n : Net) (net : IsNet n) (workers : ℕ) (s : State S (View C)) (z : Now) (h : Shows {C = C} {S = S} n workers s z) (id t k : ℕ) (v : View C) (at : get_elem? s.views id ≡ some v)
+module _ {C S : Type 0} (n : Net) (net : IsNet n) (workers : ℕ) (s : State S (View C)) (z : Now) (h : Shows {C = C} {S = S} n workers s z)
+    (id t k : ℕ) (v : View C) (at : get_elem? s.views id ≡ some v)
     (there : t < n.tasks) (won : done_by (wins t) v ≡ 1) (unfinished : done_by (finishes t) v ≡ 0) (nobody : all (finishes t) s.views ≡ 0)
     (words' : List ℕ) (word_is : (x : ℕ) → x < n.tasks → slice_index words' (count_word x) ≡ slice_index s.words (count_word x)) where
   abbrev d : Deed
@@ -51,7 +52,9 @@ module _ {C S : Type 0} (n : Net) (net : IsNet n) (workers : ℕ) (s : State S (
   runs_bit x = ap (λ r. bit (is_run x r)) runs_t
 
   pub may_finish : is_lean_legal n z (Finish (worker_of v) t) ≡ true
-  may_finish = both_of (ltb (worker_of v) (length z.runs)) (is_run t (run_of z (worker_of v))) (lt-ltb (worker_of v) (length z.runs) (h.seat id v at).there) (bit_true (is_run t (run_of z (worker_of v))) (let b = runs_bit t in let o = bit_same t t refl in omega arith))
+  may_finish = both_of (ltb (worker_of v) (length z.runs)) (is_run t (run_of z (worker_of v)))
+      (lt-ltb (worker_of v) (length z.runs) (h.seat id v at).there) (bit_true (is_run t (run_of z (worker_of v))) (let b = runs_bit t in
+      let o = bit_same t t refl in omega arith))
 
   in_owes : worker_of v < length z.owes
   in_owes = let q = (h.seat id v at).there in omega arith
@@ -63,18 +66,27 @@ module _ {C S : Type 0} (n : Net) (net : IsNet n) (workers : ℕ) (s : State S (
   mine = let q = h.seat id v at in record {
     there = omega (arith, length-set {A = Option ℕ} z.runs (worker_of v) None, q.there);
     stays = q.stays;
-    runs = λ x. let a = total_append (finishes x) v.deeds (d ∷ []) in let b = total_append (wins x) v.deeds (d ∷ []) in let r = q.runs x in let c = runs_bit x in
-        get_set (λ r. bit (is_run x r) + done_by (finishes x) (noted v d) ≡ done_by (wins x) (noted v d)) z.runs (worker_of v) (worker_of v) None None q.there (λ _. omega arith) (λ ne. absurd (ne refl));
+    runs = λ x. let a = total_append (finishes x) v.deeds (d ∷ []) in let b = total_append (wins x) v.deeds (d ∷ []) in let r = q.runs x in
+        let c = runs_bit x in
+        get_set (λ r. bit (is_run x r) + done_by (finishes x) (noted v d) ≡ done_by (wins x) (noted v d)) z.runs (worker_of v)
+        (worker_of v) None None q.there (λ _. omega arith) (λ ne. absurd (ne refl));
     owes = λ x. let a = total_append (arrives x) v.deeds (d ∷ []) in let b = total_append (finishes (n.source x)) v.deeds (d ∷ []) in let o = q.owes x in
         let f = net.feeds_once t x there in let ta = total_append (λ y. bit (y == x)) (owes_of z (worker_of v)) (n.feeds t) in
-        get_set (λ l. times x l + done_by (arrives x) (noted v d) ≡ bit (n.is_inner x && ltb 0 (done_by (finishes (n.source x)) (noted v d)))) z.owes (worker_of v) (worker_of v) (owes_of z (worker_of v) ++ n.feeds t) [] in_owes
+        get_set (λ l. times x l + done_by (arrives x) (noted v d) ≡ bit
+        (n.is_inner x && ltb 0 (done_by (finishes (n.source x)) (noted v d)))) z.owes (worker_of v) (worker_of v)
+        (owes_of z (worker_of v) ++ n.feeds t) [] in_owes
         (λ _. dite (ℕ_discrete (n.source x) t)
-        (λ e. let so = bit_same (n.source x) t e in let sw = bit_swap (n.source x) t in let un : done_by (finishes (n.source x)) v ≡ done_by (finishes t) v = ap (λ i. done_by (finishes i) v) e in
-        let old : bit (n.is_inner x && ltb 0 (done_by (finishes (n.source x)) v)) ≡ 0 = ap (λ i. bit (n.is_inner x && ltb 0 i)) (un ∙ unfinished) ∙ bit_right (n.is_inner x) false refl in
+        (λ e. let so = bit_same (n.source x) t e in let sw = bit_swap (n.source x) t in
+        let un : done_by (finishes (n.source x)) v ≡ done_by (finishes t) v = ap (λ i. done_by (finishes i) v) e in
+        let old : bit (n.is_inner x && ltb 0 (done_by (finishes (n.source x)) v)) ≡ 0 = ap (λ i. bit (n.is_inner x && ltb 0 i))
+        (un ∙ unfinished) ∙ bit_right (n.is_inner x) false refl in
         let one : done_by (finishes (n.source x)) (noted v d) ≡ 1 = omega arith in
-        let now : bit (n.is_inner x && ltb 0 (done_by (finishes (n.source x)) (noted v d))) ≡ bit (n.is_inner x && true) = ap (λ i. bit (n.is_inner x && ltb 0 i)) one in
-        let fe : bit (n.is_inner x && (n.source x == t)) ≡ bit (n.is_inner x && true) = ap (λ c. bit (n.is_inner x && c)) (bit_true (n.source x == t) (omega arith)) in omega arith)
-        (λ ne. let so = bit_apart (n.source x) t ne in let so' = bit_apart t (n.source x) (λ e. ne (sym e)) in let fz = bit_right (n.is_inner x) (n.source x == t) so in
+        let now : bit (n.is_inner x && ltb 0 (done_by (finishes (n.source x)) (noted v d))) ≡ bit (n.is_inner x && true) = ap
+        (λ i. bit (n.is_inner x && ltb 0 i)) one in
+        let fe : bit (n.is_inner x && (n.source x == t)) ≡ bit (n.is_inner x && true) = ap (λ c. bit (n.is_inner x && c))
+        (bit_true (n.source x == t) (omega arith)) in omega arith)
+        (λ ne. let so = bit_apart (n.source x) t ne in let so' = bit_apart t (n.source x) (λ e. ne (sym e)) in
+        let fz = bit_right (n.is_inner x) (n.source x == t) so in
         let sa : done_by (finishes (n.source x)) (noted v d) ≡ done_by (finishes (n.source x)) v = omega arith in
         let now = ap (λ i. bit (n.is_inner x && ltb 0 i)) sa in omega arith))
         (λ ne. absurd (ne refl));
@@ -84,22 +96,38 @@ module _ {C S : Type 0} (n : Net) (net : IsNet n) (workers : ℕ) (s : State S (
   others j u ne e = let q = h.seat j u e in let p = h.seat id v at in record {
     there = omega (arith, length-set {A = Option ℕ} z.runs (worker_of v) None, q.there);
     stays = q.stays;
-    runs = λ x. get_set (λ r. bit (is_run x r) + done_by (finishes x) u ≡ done_by (wins x) u) z.runs (worker_of v) (worker_of u) None None p.there (λ m. absurd (ne (h.apart j id u v e at m))) (λ _. q.runs x);
-    owes = λ x. get_set (λ l. times x l + done_by (arrives x) u ≡ bit (n.is_inner x && ltb 0 (done_by (finishes (n.source x)) u))) z.owes (worker_of v) (worker_of u) (owes_of z (worker_of v) ++ n.feeds t) [] in_owes (λ m. absurd (ne (h.apart j id u v e at m))) (λ _. q.owes x);
+    runs = λ x. get_set (λ r. bit (is_run x r) + done_by (finishes x) u ≡ done_by (wins x) u) z.runs (worker_of v) (worker_of u) None None
+        p.there (λ m. absurd (ne (h.apart j id u v e at m))) (λ _. q.runs x);
+    owes = λ x. get_set (λ l. times x l + done_by (arrives x) u ≡ bit (n.is_inner x && ltb 0 (done_by (finishes (n.source x)) u))) z.owes
+        (worker_of v) (worker_of u) (owes_of z (worker_of v) ++ n.feeds t) [] in_owes (λ m. absurd (ne (h.apart j id u v e at m))) (λ _. q.owes x);
   }
 
   pub shows_finished : Shows {C = C} {S = S} n workers (record s { words = words'; views = set s.views id (noted v d) }) z'
   shows_finished =
       let q = h.seat id v at in
-      let F : (x : ℕ) → all (finishes x) (set s.views id (noted v d)) ≡ all (finishes x) s.views + bit (t == x) = λ x. all_noted (finishes x) s.views id v d at in
+      let F : (x : ℕ) → all (finishes x) (set s.views id (noted v d)) ≡ all (finishes x) s.views + bit (t == x) = λ x. all_noted
+      (finishes x) s.views id v d at in
       let W : (x : ℕ) → all (wins x) (set s.views id (noted v d)) ≡ all (wins x) s.views = λ x. let r = all_noted (wins x) s.views id v d at in omega arith in
-      let same : (j : ℕ) (u : View C) → get_elem? (set s.views id (noted v d)) j ≡ some u → (y : View C) × (get_elem? s.views j ≡ some y) × (worker_of u ≡ worker_of y) = λ j u e.
-      ⊎_elim (λ (p : (j ≡ id) × (noted v d ≡ u)). (v, subst (λ i. get_elem? s.views i ≡ some v) (sym p.0) at, ap (λ (y : View C). worker_of y) (sym p.1))) (λ p. (u, p.1, refl)) (at_set s.views id j (noted v d) u e) in
+      let same : (j : ℕ) (u : View C) → get_elem? (set s.views id (noted v d)) j ≡ some u → (y : View C) × (get_elem? s.views j ≡ some y) ×
+      (worker_of u ≡ worker_of y) = λ j u e.
+      ⊎_elim (λ (p : (j ≡ id) × (noted v d ≡ u)). (
+        v,
+        subst (λ i. get_elem? s.views i ≡ some v) (sym p.0) at,
+        ap
+            (λ (y : View C). worker_of y) (sym p.1),
+      )) (λ p. (u, p.1, refl)) (at_set s.views id j (noted v d) u e) in
       record {
-        long = (h.long.0, length-set z.done t true ∙ h.long.1, length-set z.owes (worker_of v) (owes_of z (worker_of v) ++ n.feeds t) ∙ h.long.2 ∙ sym (length-set {A = Option ℕ} z.runs (worker_of v) None));
+        long = (
+          h.long.0,
+          length-set z.done t true ∙ h.long.1,
+          length-set z.owes (worker_of v) (owes_of z (worker_of v) ++ n.feeds t) ∙
+              h.long.2 ∙ sym (length-set {A = Option ℕ} z.runs (worker_of v) None),
+        );
         counts = λ x l. h.counts x l ∙ sym (word_is x l);
-        done = λ x. let a = done_set z.done t (subst (λ i. t < i) (sym done_long) there) was x in let b = h.done x in let c = F x in let sw = bit_swap x t in omega arith;
-        running = λ x. let a = total_set (λ (r : Option ℕ). bit (is_run x r)) z.runs (worker_of v) None None q.there in let b = runs_bit x in let r = h.running x in let w = W x in let f = F x in omega arith;
+        done = λ x. let a = done_set z.done t (subst (λ i. t < i) (sym done_long) there) was x in let b = h.done x in let c = F x in
+            let sw = bit_swap x t in omega arith;
+        running = λ x. let a = total_set (λ (r : Option ℕ). bit (is_run x r)) z.runs (worker_of v) None None q.there in
+            let b = runs_bit x in let r = h.running x in let w = W x in let f = F x in omega arith;
         seat = λ j u e. ⊎_elim
             (λ (p : (j ≡ id) × (noted v d ≡ u)). subst (λ (y : View C). ShowsSeat n z' y) p.1 mine)
             (λ (p : (j ≢ id) × (get_elem? s.views j ≡ some u)). others j u p.0 p.1) (at_set s.views id j (noted v d) u e);
@@ -116,31 +144,46 @@ module _ {C S : Type 0} (n : Net) (net : IsNet n) (workers : ℕ) (s : State S (
             };
       }
 
-module _ {C S : Type 0} (n : Net) (workers : ℕ) (s : State S (View C)) (z : Now) (h : Shows {C = C} {S = S} n workers s z) (id : ℕ) (v : View C) (d : Deed) (at : get_elem? s.views id ≡ some v)
-    (no_win : (x : ℕ) → wins x d ≡ 0) (no_finish : (x : ℕ) → finishes x d ≡ 0) (no_arrival : (x : ℕ) → arrives x d ≡ 0) (words' : List ℕ) (word_is : (x : ℕ) → x < n.tasks → slice_index words' (count_word x) ≡ slice_index s.words (count_word x)) where
+module _ {C S : Type 0} (n : Net) (workers : ℕ) (s : State S (View C)) (z : Now) (h : Shows {C = C} {S = S} n workers s z) (id : ℕ)
+    (v : View C) (d : Deed) (at : get_elem? s.views id ≡ some v)
+    (no_win : (x : ℕ) → wins x d ≡ 0) (no_finish : (x : ℕ) → finishes x d ≡ 0) (no_arrival : (x : ℕ) → arrives x d ≡ 0) (words' : List ℕ)
+    (word_is : (x : ℕ) → x < n.tasks → slice_index words' (count_word x) ≡ slice_index s.words (count_word x)) where
   like : ShowsSeat n z v → ShowsSeat n z (noted v d)
   like q = record {
     there = q.there;
     stays = q.stays;
-    runs = λ x. let a = total_append (finishes x) v.deeds (d ∷ []) in let b = total_append (wins x) v.deeds (d ∷ []) in let r = q.runs x in let e = no_win x in let f = no_finish x in omega arith;
-    owes = λ x. let a = total_append (arrives x) v.deeds (d ∷ []) in let b = total_append (finishes (n.source x)) v.deeds (d ∷ []) in let o = q.owes x in let e = no_arrival x in let f = no_finish (n.source x) in
-        let sa : done_by (finishes (n.source x)) (noted v d) ≡ done_by (finishes (n.source x)) v = omega arith in let g = ap (λ i. bit (n.is_inner x && ltb 0 i)) sa in omega arith;
+    runs = λ x. let a = total_append (finishes x) v.deeds (d ∷ []) in let b = total_append (wins x) v.deeds (d ∷ []) in let r = q.runs x in
+        let e = no_win x in let f = no_finish x in omega arith;
+    owes = λ x. let a = total_append (arrives x) v.deeds (d ∷ []) in let b = total_append (finishes (n.source x)) v.deeds (d ∷ []) in
+        let o = q.owes x in let e = no_arrival x in let f = no_finish (n.source x) in
+        let sa : done_by (finishes (n.source x)) (noted v d) ≡ done_by (finishes (n.source x)) v = omega arith in
+        let g = ap (λ i. bit (n.is_inner x && ltb 0 i)) sa in omega arith;
   }
 
   pub shows_same : Shows {C = C} {S = S} n workers (record s { words = words'; views = set s.views id (noted v d) }) z
   shows_same =
-      let F : (x : ℕ) → all (finishes x) (set s.views id (noted v d)) ≡ all (finishes x) s.views = λ x. let r = all_noted (finishes x) s.views id v d at in let e = no_finish x in omega arith in
-      let W : (x : ℕ) → all (wins x) (set s.views id (noted v d)) ≡ all (wins x) s.views = λ x. let r = all_noted (wins x) s.views id v d at in let e = no_win x in omega arith in
-      let same : (j : ℕ) (u : View C) → get_elem? (set s.views id (noted v d)) j ≡ some u → (y : View C) × (get_elem? s.views j ≡ some y) × (worker_of u ≡ worker_of y) = λ j u e.
-      ⊎_elim (λ (p : (j ≡ id) × (noted v d ≡ u)). (v, subst (λ i. get_elem? s.views i ≡ some v) (sym p.0) at, ap (λ (y : View C). worker_of y) (sym p.1))) (λ p. (u, p.1, refl)) (at_set s.views id j (noted v d) u e) in
+      let F : (x : ℕ) → all (finishes x) (set s.views id (noted v d)) ≡ all (finishes x) s.views = λ x. let r = all_noted (finishes x)
+      s.views id v d at in let e = no_finish x in omega arith in
+      let W : (x : ℕ) → all (wins x) (set s.views id (noted v d)) ≡ all (wins x) s.views = λ x. let r = all_noted (wins x) s.views id v d
+      at in let e = no_win x in omega arith in
+      let same : (j : ℕ) (u : View C) → get_elem? (set s.views id (noted v d)) j ≡ some u → (y : View C) × (get_elem? s.views j ≡ some y) ×
+      (worker_of u ≡ worker_of y) = λ j u e.
+      ⊎_elim (λ (p : (j ≡ id) × (noted v d ≡ u)). (
+        v,
+        subst (λ i. get_elem? s.views i ≡ some v) (sym p.0) at,
+        ap
+            (λ (y : View C). worker_of y) (sym p.1),
+      )) (λ p. (u, p.1, refl)) (at_set s.views id j (noted v d) u e) in
       record {
         long = h.long;
         counts = λ x l. h.counts x l ∙ sym (word_is x l);
         done = λ x. h.done x ∙ sym (F x);
         running = λ x. let f = F x in let w = W x in let r = h.running x in omega arith;
-        seat = λ j u e. ⊎_elim (λ (p : (j ≡ id) × (noted v d ≡ u)). subst (λ (y : View C). ShowsSeat n z y) p.1 (like (h.seat id v at))) (λ (p : (j ≢ id) × (get_elem? s.views j ≡ some u)). h.seat j u p.1) (at_set s.views id j (noted v d) u e);
+        seat = λ j u e. ⊎_elim (λ (p : (j ≡ id) × (noted v d ≡ u)). subst (λ (y : View C). ShowsSeat n z y) p.1 (like (h.seat id v at)))
+            (λ (p : (j ≢ id) × (get_elem? s.views j ≡ some u)). h.seat j u p.1) (at_set s.views id j (noted v d) u e);
         apart = λ i j u y e f m. let p = same i u e in let r = same j y f in h.apart i j p.0 r.0 p.1 r.1 (sym p.2 ∙ m ∙ r.2);
         idle = λ x hx no. h.idle x hx (λ j u e. dite (ℕ_discrete j id)
-            (λ is m. no id (noted v d) (set_here s.views id (noted v d) (at_below s.views id v at)) (ap (λ (y : View C). worker_of y) (some-injective v u (sym at ∙ ap (get_elem? s.views) (sym is) ∙ e)) ∙ m))
+            (λ is m. no id (noted v d) (set_here s.views id (noted v d) (at_below s.views id v at))
+            (ap (λ (y : View C). worker_of y) (some-injective v u (sym at ∙ ap (get_elem? s.views) (sym is) ∙ e)) ∙ m))
             (λ nj. no j u (set_else s.views id j (noted v d) nj ∙ e)));
       }

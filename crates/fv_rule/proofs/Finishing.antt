@@ -27,7 +27,8 @@ use Rattle.fv_rule.proofs.Stamps.{whole_stamped}
 use Rattle.fv_rule.proofs.WholeSteps.{reached_finish}
 
 -- the exit edge's slot among those that go back: full, with its parcel
-pub record Exits {C Key : Type 0} (wires : Graph → Wires) (edge_of : C → ℕ) (key_of : C → Key) (a : About C) (front : List (ℕ × Option C)) (e : ℕ) : Type 0 where
+pub record Exits {C Key : Type 0} (wires : Graph → Wires) (edge_of : C → ℕ) (key_of : C → Key) (a : About C) (front : List (ℕ × Option C))
+    (e : ℕ) : Type 0 where
   pub xs : List (ℕ × Option C)
   pub x : Option C
   pub ys : List (ℕ × Option C)
@@ -35,8 +36,10 @@ pub record Exits {C Key : Type 0} (wires : Graph → Wires) (edge_of : C → ℕ
   pub once : times e (places ys) ≡ 0
   pub fits : Fits wires edge_of key_of a e x
 
-module _ {C Key : Type 0} (wires : Graph → Wires) (edge_of : C → ℕ) (key_of : C → Key) (a : About C) (ws : IsWires (wires a.tasks.value)) (s : State (Option C) (View C)) (h : IsWhole wires edge_of key_of a s)
-    (id : ℕ) (v : View C) (at : get_elem? s.views id ≡ some v) (ab : v.board ≡ Some a) (t : ℕ) (front rest : List (ℕ × Option C)) (holds : IsBusy wires edge_of key_of a t true v (front ++ rest))
+module _ {C Key : Type 0} (wires : Graph → Wires) (edge_of : C → ℕ) (key_of : C → Key) (a : About C) (ws : IsWires (wires a.tasks.value))
+    (s : State (Option C) (View C)) (h : IsWhole wires edge_of key_of a s)
+    (id : ℕ) (v : View C) (at : get_elem? s.views id ≡ some v) (ab : v.board ≡ Some a) (t : ℕ) (front rest : List (ℕ × Option C))
+    (holds : IsBusy wires edge_of key_of a t true v (front ++ rest))
     (exits : (e : ℕ) → (wires a.tasks.value).is_exit e ≡ true → (wires a.tasks.value).net.source e ≡ t → Exits wires edge_of key_of a front e) where
   abbrev n : Net
   n = (wires a.tasks.value).net
@@ -51,16 +54,19 @@ module _ {C Key : Type 0} (wires : Graph → Wires) (edge_of : C → ℕ) (key_o
   given_back : IsWhole wires edge_of key_of a s1
   given_back = let m = busy_mine wires edge_of key_of a ws v (front ++ rest) t true holds in
       subst (λ l. IsWhole wires edge_of key_of a record { words = s.words; homes = l; views = s.views }) (sym (front_homes front rest s.homes))
-      (given wires edge_of key_of a ws s h id v at ab front (each_left (λ e _. IsMine wires edge_of key_of a v e) front rest m.0) (each_left (λ _ x. HasKey wires edge_of key_of a v x) front rest m.1))
+      (given wires edge_of key_of a ws s h id v at ab front (each_left (λ e _. IsMine wires edge_of key_of a v e) front rest m.0)
+      (each_left (λ _ x. HasKey wires edge_of key_of a v x) front rest m.1))
 
   won_one : done_by (wins t) v ≡ 1
   won_one = busy_won wires edge_of key_of a v (front ++ rest) t true holds
 
   nobody : all (finishes t) s.views ≡ 0
-  nobody = let g = all_gap (finishes t) (wins t) s.views id v at (λ j u e. let o = h.kept.own j u e in let x = o.started_won t in let y = o.finished_started t in omega arith) in
+  nobody = let g = all_gap (finishes t) (wins t) s.views id v at (λ j u e. let o = h.kept.own j u e in let x = o.started_won t in
+      let y = o.finished_started t in omega arith) in
       let w = h.kept.won_once t in let u = holds.unfinished in let o = won_one in omega arith
 
-  at_home : (e : ℕ) → (wires a.tasks.value).is_exit e ≡ true → (wires a.tasks.value).net.source e ≡ t → (x : Option C) × (get_elem? homes' e ≡ some (some x)) × Fits wires edge_of key_of a e x
+  at_home : (e : ℕ) → (wires a.tasks.value).is_exit e ≡ true → (wires a.tasks.value).net.source e ≡ t → (x : Option C) ×
+      (get_elem? homes' e ≡ some (some x)) × Fits wires edge_of key_of a e x
   at_home e is src = let q = exits e is src in (
     q.x,
     ap (λ l. get_elem? l e) (front_homes front rest s.homes) ∙ subst (λ l. get_elem? (homes_after s.homes l (give_all l)) e ≡ some (some q.x)) (sym q.is)
@@ -68,7 +74,8 @@ module _ {C Key : Type 0} (wires : Graph → Wires) (edge_of : C → ℕ) (key_o
     q.fits,
   )
     where
-      wide : (wires a.tasks.value).is_exit e ≡ true → Rattle.std.proofs.Common.◌||◌ (Rattle.std.proofs.Common.◌||◌ ((wires a.tasks.value).net.is_inner e) ((wires a.tasks.value).is_entry e)) ((wires a.tasks.value).is_exit e) ≡ true
+      wide : (wires a.tasks.value).is_exit e ≡ true → Rattle.std.proofs.Common.◌||◌
+          (Rattle.std.proofs.Common.◌||◌ ((wires a.tasks.value).net.is_inner e) ((wires a.tasks.value).is_entry e)) ((wires a.tasks.value).is_exit e) ≡ true
       wide k = last ((wires a.tasks.value).net.is_inner e) ((wires a.tasks.value).is_entry e) ((wires a.tasks.value).is_exit e) k
         where
           last : (x y z : Bool) → z ≡ true → Rattle.std.proofs.Common.◌||◌ (Rattle.std.proofs.Common.◌||◌ x y) z ≡ true
@@ -78,15 +85,23 @@ module _ {C Key : Type 0} (wires : Graph → Wires) (edge_of : C → ℕ) (key_o
           last false false z q = q
 
   -- and then the stamp is drawn
-  pub whole_finished : IsWhole wires edge_of key_of a record { words = set s.words 0 (slice_index s.words 0 + 1); homes = homes_after s.homes (front ++ rest) (give_all front); views = set s.views id (noted v (Stamped (slice_index s.words 0) t false)) }
-  whole_finished = whole_stamped wires edge_of key_of a ws s1 given_back id v at ab t holds.there (let o = won_one in omega arith) false (λ q. absurd (true≢false (sym q))) (λ _. ((let o = holds.started in omega arith), holds.unfinished)) (λ _. at_home)
-      (reached_finish wires edge_of key_of a s1 given_back id v at ab t (slice_index s.words 0) ws.is_net holds.there won_one holds.unfinished nobody (set s.words 0 (slice_index s.words 0 + 1)) words_same)
+  pub whole_finished : IsWhole wires edge_of key_of a record {
+    words = set s.words 0 (slice_index s.words 0 + 1);
+    homes = homes_after
+        s.homes (front ++ rest) (give_all front);
+    views = set s.views id (noted v (Stamped (slice_index s.words 0) t false));
+  }
+  whole_finished = whole_stamped wires edge_of key_of a ws s1 given_back id v at ab t holds.there (let o = won_one in
+      omega arith) false (λ q. absurd (true≢false (sym q))) (λ _. ((let o = holds.started in omega arith), holds.unfinished)) (λ _. at_home)
+      (reached_finish wires edge_of key_of a s1 given_back id v at ab t (slice_index s.words 0) ws.is_net holds.there won_one
+      holds.unfinished nobody (set s.words 0 (slice_index s.words 0 + 1)) words_same)
     where
       words_same : (x : ℕ) → x < n.tasks → slice_index (set s.words 0 (slice_index s.words 0 + 1)) (count_word x) ≡ slice_index s.words (count_word x)
       words_same x l = behind s.words x (slice_index s.words 0 + 1)
         where
           behind : (ns : List ℕ) (x y : ℕ) → slice_index (set ns 0 y) (1 + x) ≡ slice_index ns (1 + x)
-          behind ns x y = ap (slice_index (set ns 0 y)) (let q : 1 + x ≡ suc x = omega arith in q) ∙ next ns x y ∙ ap (slice_index ns) (let q : suc x ≡ 1 + x = omega arith in q)
+          behind ns x y = ap (slice_index (set ns 0 y)) (let q : 1 + x ≡ suc x = omega arith in
+              q) ∙ next ns x y ∙ ap (slice_index ns) (let q : suc x ≡ 1 + x = omega arith in q)
             where
               next : (ns : List ℕ) (x y : ℕ) → slice_index (set ns 0 y) (suc x) ≡ slice_index ns (suc x)
               next [] x y = refl
@@ -95,7 +110,8 @@ module _ {C Key : Type 0} (wires : Graph → Wires) (edge_of : C → ℕ) (key_o
   -- the word does not wrap: there are at most two stamps for each task, and this one's finish is not drawn
   pub small : slice_index s.words 0 < 2 * n.tasks
   small = let d = h.drawn in let l = long_numbers 0 n.tasks in let o = h.stamped_once t in let o0 = o.0 in let z = nobody in
-      let p = spare_two (λ x. all (starts x) s.views + all (finishes x) s.views) (λ x. let q = h.stamped_once x in let q0 = q.0 in let q1 = q.1 in omega arith) t (omega arith) (numbers n.tasks) in
+      let p = spare_two (λ x. all (starts x) s.views + all (finishes x) s.views) (λ x. let q = h.stamped_once x in let q0 = q.0 in
+      let q1 = q.1 in omega arith) t (omega arith) (numbers n.tasks) in
       let one = times_passing (λ _. true) 0 n.tasks t (omega arith) (let q = holds.there in omega arith) in omega arith
     where
       long_numbers : (from k : ℕ) → length (passing (λ _. true) from k) ≡ k

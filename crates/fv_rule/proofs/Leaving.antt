@@ -28,8 +28,10 @@ leads g t = pick (ltb (t + g.loops) (task_count g))
     pick true = record { exits = []; is = refl }
     pick false = record { exits = chain_edge g (loop_of g t) (vector_of g t + 1) ∷ []; is = refl }
 
-module _ {C Key : Type 0} (wires : Graph → Wires) (edge_of : C → ℕ) (key_of : C → Key) (a : About C) (ws : IsWires (wires a.tasks.value)) (v : View C) (c : List (ℕ × Option C)) (t : ℕ)
-    (busy : IsBusy wires edge_of key_of a t true v c) (handed : AreHanded wires edge_of key_of a t c) (out : Leads ((wires a.tasks.value).outward t) ((wires a.tasks.value).net.feeds t)) where
+module _ {C Key : Type 0} (wires : Graph → Wires) (edge_of : C → ℕ) (key_of : C → Key) (a : About C) (ws : IsWires (wires a.tasks.value))
+    (v : View C) (c : List (ℕ × Option C)) (t : ℕ)
+    (busy : IsBusy wires edge_of key_of a t true v c) (handed : AreHanded wires edge_of key_of a t c)
+    (out : Leads ((wires a.tasks.value).outward t) ((wires a.tasks.value).net.feeds t)) where
   abbrev pub parts : Cut c ((wires a.tasks.value).inward t ++ out.exits) ((wires a.tasks.value).net.feeds t)
   parts = cut wires edge_of key_of a ws v c t true busy handed out.exits out.is
 
@@ -38,8 +40,10 @@ module _ {C Key : Type 0} (wires : Graph → Wires) (edge_of : C → ℕ) (key_o
       let P : ℕ → Option C → Type 0 = λ e x. MayHold wires edge_of key_of a e x in
       let p = find_at parts.front e (exit_back wires edge_of key_of a ws v c t true busy handed out.exits out.is e is src) in
       let may = (each_right P p.xs ((e, p.x) ∷ p.ys) (subst (Each P) p.is (each_left P parts.front parts.back (subst (Each P) parts.is busy.may)))).0 in
-      let slot : slot_at c e ≡ p.x = ap (λ l. slot_at l e) (parts.is ∙ ap (λ l. l ++ parts.back) p.is ∙ append_assoc p.xs ((e, p.x) ∷ p.ys) parts.back) ∙ slot_first p.xs e p.x (p.ys ++ parts.back) p.first in
-      let all = ap (times e) (ap places parts.is ∙ places_append parts.front parts.back) ∙ total_append (λ y. bit (y == e)) (places parts.front) (places parts.back) in
+      let slot : slot_at c e ≡ p.x = ap (λ l. slot_at l e) (parts.is ∙ ap (λ l. l ++ parts.back) p.is ∙ append_assoc p.xs ((e, p.x) ∷ p.ys)
+      parts.back) ∙ slot_first p.xs e p.x (p.ys ++ parts.back) p.first in
+      let all = ap (times e) (ap places parts.is ∙ places_append parts.front parts.back) ∙ total_append (λ y. bit (y == e))
+      (places parts.front) (places parts.back) in
       let mine = ap (times e) (ap places p.is ∙ places_append p.xs ((e, p.x) ∷ p.ys)) ∙ total_append (λ y. bit (y == e)) (places p.xs) (e ∷ places p.ys) in
       let o = bit_same e e refl in let l = busy_once wires edge_of key_of a ws v c t true busy e in record {
         xs = p.xs;
@@ -62,5 +66,6 @@ module _ {C Key : Type 0} (wires : Graph → Wires) (edge_of : C → ℕ) (key_o
   -- the step of the table
   pub leaving : (id slots : ℕ) → v.board ≡ Some a → (wires a.tasks.value).net.tasks < 2 ^ 62
       → Allows (λ s. IsWhole wires edge_of key_of a s) slots id (v, c) 0 (λ k. (k + 1) % 2 ^ 64) (Ends wires edge_of key_of (step slots 0 1 0 none) (v, c))
-  leaving id slots ab few = subst (λ l. Allows (λ s. IsWhole wires edge_of key_of a s) slots id (v, l) 0 (λ k. (k + 1) % 2 ^ 64) (Ends wires edge_of key_of (step slots 0 1 0 none) (v, l))) (sym parts.is)
+  leaving id slots ab few = subst (λ l. Allows (λ s. IsWhole wires edge_of key_of a s) slots id (v, l) 0 (λ k. (k + 1) % 2 ^ 64)
+      (Ends wires edge_of key_of (step slots 0 1 0 none) (v, l))) (sym parts.is)
       (ending wires edge_of key_of a ws v parts.front parts.back t id slots ab busy_parts exits_there front_long few)

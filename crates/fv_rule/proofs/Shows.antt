@@ -53,11 +53,16 @@ untaken false zero e f = refl
 untaken false (suc k) e f = absurd (omega arith)
 
 -- one event more
-pub lean_more : (n : Net) (es : List Event) (x : Event) (s z : Now) → lean_replayed n s es ≡ Some z → is_lean_legal n z x ≡ true → lean_replayed n s (es ++ x ∷ []) ≡ Some (lean_after n z x)
-lean_more n [] x s z e legal = let same : s ≡ z = cc in subst (λ (k : Now). cond (is_lean_legal n k x) (Some (lean_after n k x)) None ≡ Some (lean_after n z x)) (sym same) (subst (λ b. cond b (Some (lean_after n z x)) None ≡ Some (lean_after n z x)) (sym legal) refl)
-lean_more n (y ∷ ys) x s z e legal = by_test (is_lean_legal n s y) (lean_replayed n (lean_after n s y) ys) (lean_replayed n (lean_after n s y) (ys ++ x ∷ [])) z (lean_after n z x) e (λ k. lean_more n ys x (lean_after n s y) z k legal)
+pub lean_more : (n : Net) (es : List Event) (x : Event) (s z : Now) → lean_replayed n s es ≡ Some z → is_lean_legal n z x ≡ true →
+    lean_replayed n s (es ++ x ∷ []) ≡ Some (lean_after n z x)
+lean_more n [] x s z e legal = let same : s ≡ z = cc in
+    subst (λ (k : Now). cond (is_lean_legal n k x) (Some (lean_after n k x)) None ≡ Some (lean_after n z x)) (sym same)
+    (subst (λ b. cond b (Some (lean_after n z x)) None ≡ Some (lean_after n z x)) (sym legal) refl)
+lean_more n (y ∷ ys) x s z e legal = by_test (is_lean_legal n s y) (lean_replayed n (lean_after n s y) ys)
+    (lean_replayed n (lean_after n s y) (ys ++ x ∷ [])) z (lean_after n z x) e (λ k. lean_more n ys x (lean_after n s y) z k legal)
 
-module _ {C S : Type 0} (n : Net) (workers : ℕ) (s : State S (View C)) (z : Now) (h : Shows {C = C} {S = S} n workers s z) (id t : ℕ) (v : View C) (at : get_elem? s.views id ≡ some v)
+module _ {C S : Type 0} (n : Net) (workers : ℕ) (s : State S (View C)) (z : Now) (h : Shows {C = C} {S = S} n workers s z) (id t : ℕ)
+    (v : View C) (at : get_elem? s.views id ≡ some v)
     (there : t < n.tasks) (ready : slice_index s.words (count_word t) ≡ 0) (first : all (wins t) s.views ≡ 0)
     (finished : (x : ℕ) → done_by (finishes x) v ≡ done_by (wins x) v) (owes_none : (e : ℕ) → times e (owes_of z (worker_of v)) ≡ 0) where
   pub idle : run_of z (worker_of v) ≡ None
@@ -82,8 +87,10 @@ module _ {C S : Type 0} (n : Net) (workers : ℕ) (s : State S (View C)) (z : No
   mine = let q = h.seat id v at in let d = Claimed t true in record {
     there = omega (arith, length-set z.runs (worker_of v) (Some t), q.there);
     stays = q.stays;
-    runs = λ x. get_set (λ r. bit (is_run x r) + done_by (finishes x) (noted v d) ≡ done_by (wins x) (noted v d)) z.runs (worker_of v) (worker_of v) (Some t) None q.there
-        (λ _. let a = total_append (finishes x) v.deeds (d ∷ []) in let b = total_append (wins x) v.deeds (d ∷ []) in let f = finished x in omega arith) (λ ne. absurd (ne refl));
+    runs = λ x. get_set (λ r. bit (is_run x r) + done_by (finishes x) (noted v d) ≡ done_by (wins x) (noted v d)) z.runs (worker_of v)
+        (worker_of v) (Some t) None q.there
+        (λ _. let a = total_append (finishes x) v.deeds (d ∷ []) in let b = total_append (wins x) v.deeds (d ∷ []) in let f = finished x in
+        omega arith) (λ ne. absurd (ne refl));
     owes = λ e. let a = total_append (arrives e) v.deeds (d ∷ []) in let b = total_append (finishes (n.source e)) v.deeds (d ∷ []) in let o = q.owes e in
         let c : done_by (finishes (n.source e)) (noted v d) ≡ done_by (finishes (n.source e)) v = omega arith in
         let g = ap (λ k. bit (n.is_inner e && ltb 0 k)) c in omega arith;
@@ -93,7 +100,8 @@ module _ {C S : Type 0} (n : Net) (workers : ℕ) (s : State S (View C)) (z : No
   others j u ne e = let q = h.seat j u e in let p = h.seat id v at in record {
     there = omega (arith, length-set z.runs (worker_of v) (Some t), q.there);
     stays = q.stays;
-    runs = λ x. get_set (λ r. bit (is_run x r) + done_by (finishes x) u ≡ done_by (wins x) u) z.runs (worker_of v) (worker_of u) (Some t) None p.there (λ w. absurd (ne (h.apart j id u v e at w))) (λ _. q.runs x);
+    runs = λ x. get_set (λ r. bit (is_run x r) + done_by (finishes x) u ≡ done_by (wins x) u) z.runs (worker_of v) (worker_of u) (Some t)
+        None p.there (λ w. absurd (ne (h.apart j id u v e at w))) (λ _. q.runs x);
     owes = q.owes;
   }
 
@@ -102,14 +110,22 @@ module _ {C S : Type 0} (n : Net) (workers : ℕ) (s : State S (View C)) (z : No
       let q = h.seat id v at in
       let d = Claimed t true in
       let W : (x : ℕ) → all (wins x) (set s.views id (noted v d)) ≡ all (wins x) s.views + bit (t == x) = λ x. all_noted (wins x) s.views id v d at in
-      let F : (x : ℕ) → all (finishes x) (set s.views id (noted v d)) ≡ all (finishes x) s.views = λ x. let r = all_noted (finishes x) s.views id v d at in omega arith in
-      let same : (j : ℕ) (u : View C) → get_elem? (set s.views id (noted v d)) j ≡ some u → (y : View C) × (get_elem? s.views j ≡ some y) × (worker_of u ≡ worker_of y) = λ j u e.
-      ⊎_elim (λ (p : (j ≡ id) × (noted v d ≡ u)). (v, subst (λ i. get_elem? s.views i ≡ some v) (sym p.0) at, ap (λ (y : View C). worker_of y) (sym p.1))) (λ p. (u, p.1, refl)) (at_set s.views id j (noted v d) u e) in
+      let F : (x : ℕ) → all (finishes x) (set s.views id (noted v d)) ≡ all (finishes x) s.views = λ x. let r = all_noted (finishes x)
+      s.views id v d at in omega arith in
+      let same : (j : ℕ) (u : View C) → get_elem? (set s.views id (noted v d)) j ≡ some u → (y : View C) × (get_elem? s.views j ≡ some y) ×
+      (worker_of u ≡ worker_of y) = λ j u e.
+      ⊎_elim (λ (p : (j ≡ id) × (noted v d ≡ u)). (
+        v,
+        subst (λ i. get_elem? s.views i ≡ some v) (sym p.0) at,
+        ap
+            (λ (y : View C). worker_of y) (sym p.1),
+      )) (λ p. (u, p.1, refl)) (at_set s.views id j (noted v d) u e) in
       record {
         long = (h.long.0, h.long.1, h.long.2 ∙ sym (length-set z.runs (worker_of v) (Some t)));
         counts = h.counts;
         done = λ x. h.done x ∙ sym (F x);
-        running = λ x. let a = total_set (λ (r : Option ℕ). bit (is_run x r)) z.runs (worker_of v) (Some t) None q.there in let b : bit (is_run x (run_of z (worker_of v))) ≡ 0 = ap (λ r. bit (is_run x r)) idle in
+        running = λ x. let a = total_set (λ (r : Option ℕ). bit (is_run x r)) z.runs (worker_of v) (Some t) None q.there in
+            let b : bit (is_run x (run_of z (worker_of v))) ≡ 0 = ap (λ r. bit (is_run x r)) idle in
             let r = h.running x in let w = W x in let f = F x in omega arith;
         seat = λ j u e. ⊎_elim
             (λ (p : (j ≡ id) × (noted v d ≡ u)). subst (λ (y : View C). ShowsSeat n (lean_after n z (Take (worker_of v) t)) y) p.1 mine)
@@ -128,8 +144,10 @@ module _ {C S : Type 0} (n : Net) (workers : ℕ) (s : State S (View C)) (z : No
       }
 
 -- after a won claim the board shows a state that one event more reaches
-pub reached_claim : {C S : Type 0} (n : Net) (workers : ℕ) (s : State S (View C)) (id t : ℕ) (v : View C) → Reached {C = C} {S = S} n workers s → get_elem? s.views id ≡ some v → t < n.tasks
-    → slice_index s.words (count_word t) ≡ 0 → all (wins t) s.views ≡ 0 → OwesNothing n v → Reached {C = C} {S = S} n workers (record s { views = set s.views id (noted v (Claimed t true)) })
+pub reached_claim : {C S : Type 0} (n : Net) (workers : ℕ) (s : State S (View C)) (id t : ℕ) (v : View C) → Reached {C = C} {S = S} n
+    workers s → get_elem? s.views id ≡ some v → t < n.tasks
+    → slice_index s.words (count_word t) ≡ 0 → all (wins t) s.views ≡ 0 → OwesNothing n v → Reached {C = C} {S = S} n workers
+    (record s { views = set s.views id (noted v (Claimed t true)) })
 reached_claim {C} {S} n workers s id t v r at there ready first free =
     let z = r.1 in let h = r.3 in
     let none : (e : ℕ) → times e (owes_of z (worker_of v)) ≡ 0 = λ e. let o = (h.seat id v at).owes e in let f = free.1 e in omega arith in (

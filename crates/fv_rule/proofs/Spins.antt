@@ -10,7 +10,8 @@ module _ {S : Type 0} where
 
   pub spun_split : (xs zs : List (ℕ × S)) → spun (length xs) (xs ++ zs) ≡ zs ++ xs
   spun_split [] zs = sym (append-nil zs)
-  spun_split (x ∷ xs) zs = sym (spun_first (length xs) (x ∷ xs ++ zs)) ∙ ap (spun (length xs)) (append_assoc xs zs (x ∷ [])) ∙ spun_split xs (zs ++ x ∷ []) ∙ append_assoc zs (x ∷ []) xs
+  spun_split (x ∷ xs) zs = sym (spun_first (length xs) (x ∷ xs ++ zs)) ∙ ap (spun (length xs)) (append_assoc xs zs (x ∷ [])) ∙ spun_split
+      xs (zs ++ x ∷ []) ∙ append_assoc zs (x ∷ []) xs
 
   pub spun_at : (n : ℕ) (xs zs : List (ℕ × S)) → n ≡ length xs → spun n (xs ++ zs) ≡ zs ++ xs
   spun_at n xs zs e = ap (λ k. spun k (xs ++ zs)) e ∙ spun_split xs zs

@@ -74,7 +74,8 @@ module _ {C : Type 0} where
     there = subst (λ k. k < length z.runs) (sym w) h.there;
     stays = ap (λ k. get_or z.left k true) w ∙ h.stays;
     runs = λ t. subst (λ (p : ℕ × List Deed). bit (is_run t (run_of z p.0)) + total (finishes t) p.1 ≡ total (wins t) p.1) (λ i. (sym w i, sym d i)) (h.runs t);
-    owes = λ e. subst (λ (p : ℕ × List Deed). times e (owes_of z p.0) + total (arrives e) p.1 ≡ bit (n.is_inner e && ltb 0 (total (finishes (n.source e)) p.1))) (λ i. (sym w i, sym d i)) (h.owes e);
+    owes = λ e. subst (λ (p : ℕ × List Deed). times e (owes_of z p.0) + total (arrives e) p.1 ≡ bit
+        (n.is_inner e && ltb 0 (total (finishes (n.source e)) p.1))) (λ i. (sym w i, sym d i)) (h.owes e);
   }
 
   pub seat_idle : (n : Net) (z : Now) (u : View C) → u.deeds ≡ [] → IsIdle z (worker_of u) → ShowsSeat n z u
@@ -82,32 +83,41 @@ module _ {C : Type 0} where
     there = h.there;
     stays = h.stays;
     runs = λ t. subst (λ (p : Option ℕ × List Deed). bit (is_run t p.0) + total (finishes t) p.1 ≡ total (wins t) p.1) (λ i. (sym h.runs i, sym d i)) refl;
-    owes = λ e. subst (λ (p : List ℕ × List Deed). times e p.0 + total (arrives e) p.1 ≡ bit (n.is_inner e && ltb 0 (total (finishes (n.source e)) p.1))) (λ i. (sym h.owes i, sym d i)) (sym (bit_right (n.is_inner e) false refl));
+    owes = λ e. subst (λ (p : List ℕ × List Deed). times e p.0 + total (arrives e) p.1 ≡ bit
+        (n.is_inner e && ltb 0 (total (finishes (n.source e)) p.1))) (λ i. (sym h.owes i, sym d i)) (sym (bit_right (n.is_inner e) false refl));
   }
 
   abbrev pub cut : List (View C) → ℕ → View C → List (View C)
   cut views id v = set views id (left_part v) ++ right_part v ∷ []
 
   pub all_cut : (f : Deed → ℕ) (views : List (View C)) (id : ℕ) (v : View C) → get_elem? views id ≡ some v → all f (cut views id v) ≡ all f views
-  all_cut f views id v at = let a = sum_set (λ (y : View C). done_by f y) views id v (left_part v) at in let b = total_append (λ (y : View C). done_by f y) (set views id (left_part v)) (right_part v ∷ []) in omega arith
+  all_cut f views id v at = let a = sum_set (λ (y : View C). done_by f y) views id v (left_part v) at in
+      let b = total_append (λ (y : View C). done_by f y) (set views id (left_part v)) (right_part v ∷ []) in omega arith
 
-  pub had_cut : (k : ℕ) (views : List (View C)) (id : ℕ) (v : View C) → get_elem? views id ≡ some v → total (λ (y : View C). times k y.numbers) (cut views id v) ≡ total (λ (y : View C). times k y.numbers) views
+  pub had_cut : (k : ℕ) (views : List (View C)) (id : ℕ) (v : View C) → get_elem? views id ≡ some v → total
+      (λ (y : View C). times k y.numbers) (cut views id v) ≡ total (λ (y : View C). times k y.numbers) views
   had_cut k views id v at = let a = sum_set (λ (y : View C). times k y.numbers) views id v (left_part v) at in
       let b = total_append (λ (y : View C). times k y.numbers) (set views id (left_part v)) (right_part v ∷ []) in let c = cut_times k v.numbers in omega arith
 
-  pub each_cut : (views : List (View C)) (id : ℕ) (v : View C) (P : View C → Type 0) → P (left_part v) → P (right_part v) → ((j : ℕ) (y : View C) → get_elem? views j ≡ some y → P y) → (j : ℕ) (y : View C) → get_elem? (cut views id v) j ≡ some y → P y
+  pub each_cut : (views : List (View C)) (id : ℕ) (v : View C) (P : View C → Type 0) → P (left_part v) → P (right_part v) →
+      ((j : ℕ) (y : View C) → get_elem? views j ≡ some y → P y) → (j : ℕ) (y : View C) → get_elem? (cut views id v) j ≡ some y → P y
   each_cut views id v P l r o j y e = ⊎_elim
-      (λ (p : get_elem? (set views id (left_part v)) j ≡ some y). ⊎_elim (λ (q : (j ≡ id) × (left_part v ≡ y)). subst P q.1 l) (λ (q : (j ≢ id) × (get_elem? views j ≡ some y)). o j y q.1) (at_set views id j (left_part v) y p))
+      (λ (p : get_elem? (set views id (left_part v)) j ≡ some y). ⊎_elim (λ (q : (j ≡ id) × (left_part v ≡ y)). subst P q.1 l)
+      (λ (q : (j ≢ id) × (get_elem? views j ≡ some y)). o j y q.1) (at_set views id j (left_part v) y p))
       (λ (p : right_part v ≡ y). subst P p r) (at_snoc (set views id (left_part v)) (right_part v) y j e)
 
   -- a seat of before stands there, or is the one that was cut
-  pub in_cut : (views : List (View C)) (id : ℕ) (v : View C) → get_elem? views id ≡ some v → (P : View C → Type 0) → ((j : ℕ) (y : View C) → get_elem? (cut views id v) j ≡ some y → P y) → (P (left_part v) → P v) → (j : ℕ) (y : View C) → get_elem? views j ≡ some y → P y
+  pub in_cut : (views : List (View C)) (id : ℕ) (v : View C) → get_elem? views id ≡ some v → (P : View C → Type 0) →
+      ((j : ℕ) (y : View C) → get_elem? (cut views id v) j ≡ some y → P y) → (P (left_part v) → P v) → (j : ℕ) (y : View C) → get_elem? views j ≡ some y → P y
   in_cut views id v at P h back j y e = dite (ℕ_discrete j id)
-      (λ is. subst P (some-injective v y (sym at ∙ ap (get_elem? views) (sym is) ∙ e)) (back (h id (left_part v) (at_longer (set views id (left_part v)) (right_part v ∷ []) id (left_part v) (set_here views id (left_part v) (at_below views id v at))))))
+      (λ is. subst P (some-injective v y (sym at ∙ ap (get_elem? views) (sym is) ∙ e))
+      (back (h id (left_part v) (at_longer (set views id (left_part v)) (right_part v ∷ []) id (left_part v)
+      (set_here views id (left_part v) (at_below views id v at))))))
       (λ ne. h j y (at_longer (set views id (left_part v)) (right_part v ∷ []) j y (set_else views id j (left_part v) ne ∙ e)))
 
   -- no two seats have one number
-  pub apart_of : (views : List (View C)) → ((k : ℕ) → total (λ (y : View C). times k y.numbers) views < 2) → ((j : ℕ) (y : View C) → get_elem? views j ≡ some y → 0 < length y.numbers)
+  pub apart_of : (views : List (View C)) → ((k : ℕ) → total (λ (y : View C). times k y.numbers) views < 2) →
+      ((j : ℕ) (y : View C) → get_elem? views j ≡ some y → 0 < length y.numbers)
       → (i j : ℕ) (u y : View C) → get_elem? views i ≡ some u → get_elem? views j ≡ some y → worker_of u ≡ worker_of y → i ≡ j
   apart_of views few some_number i j u y a b w = dite (ℕ_discrete i j) (λ e. e) (λ ne.
       let s = sum_two (λ (y : View C). times (worker_of u) y.numbers) views i j u y ne a b in let f = few (worker_of u) in
@@ -134,7 +144,12 @@ module _ {C Key : Type 0} (wires : Graph → Wires) (edge_of : C → ℕ) (key_o
     own_right = record { won_seen = λ t pos. pos; arrived_won = λ e. omega arith; started_won = λ t. omega arith; finished_started = λ t. omega arith }
 
     own_left : IsOwn n (left_part v)
-    own_left = let o = h.kept.own id v at in record { won_seen = o.won_seen; arrived_won = o.arrived_won; started_won = o.started_won; finished_started = o.finished_started }
+    own_left = let o = h.kept.own id v at in record {
+      won_seen = o.won_seen;
+      arrived_won = o.arrived_won;
+      started_won = o.started_won;
+      finished_started = o.finished_started;
+    }
 
     pub kept_cut : IsKept wires edge_of key_of a s'
     kept_cut = let k = h.kept in record {
@@ -146,7 +161,8 @@ module _ {C Key : Type 0} (wires : Graph → Wires) (edge_of : C → ℕ) (key_o
       won_once = λ t. let e = E (wins t) in let p = k.won_once t in omega arith;
       claimed = λ t there. k.claimed t there ∙ sym (E (wins t));
       lost = λ t there pos. k.lost t there (let e = E (loses t) in omega arith);
-      counted = λ t there. let r = total_ext (λ e. all (arrives e) (cut s.views id v)) (λ e. all (arrives e) s.views) (λ e. E (arrives e)) (n.needs t) in let p = k.counted t there in omega arith;
+      counted = λ t there. let r = total_ext (λ e. all (arrives e) (cut s.views id v)) (λ e. all (arrives e) s.views) (λ e. E (arrives e))
+          (n.needs t) in let p = k.counted t there in omega arith;
       arrived_once = λ e. let r = E (arrives e) in let p = k.arrived_once e in omega arith;
       seen = λ t there pos. k.seen t there (let e = E (sees t) in omega arith);
       empty_slots = λ e he no none. k.empty_slots e he no (sym (E (wins (n.source e))) ∙ none);
@@ -162,25 +178,30 @@ module _ {C Key : Type 0} (wires : Graph → Wires) (edge_of : C → ℕ) (key_o
     second = worker_of (right_part v)
 
     has_one' : (j : ℕ) (y : View C) → get_elem? (cut s.views id v) j ≡ some y → y.board ≡ Some a → 0 < length y.numbers
-    has_one' = each_cut s.views id v (λ y. y.board ≡ Some a → 0 < length y.numbers) (λ _. left_long v.numbers (omega arith)) (λ _. right_long v.numbers more) h.has_one
+    has_one' = each_cut s.views id v (λ y. y.board ≡ Some a → 0 < length y.numbers) (λ _. left_long v.numbers (omega arith))
+        (λ _. right_long v.numbers more) h.has_one
 
     module _ (boards : (j : ℕ) (y : View C) → get_elem? (cut s.views id v) j ≡ some y → y.board ≡ Some a) where
       old_boards : (j : ℕ) (y : View C) → get_elem? s.views j ≡ some y → y.board ≡ Some a
       old_boards = in_cut s.views id v at (λ y. y.board ≡ Some a) boards (λ p. p)
 
       has_second : 0 < times (worker_of (right_part v)) v.numbers
-      has_second = let p = has_first (other_numbers v.numbers) (right_long v.numbers more) in let c = cut_times (worker_of (right_part v)) v.numbers in omega arith
+      has_second = let p = has_first (other_numbers v.numbers) (right_long v.numbers more) in
+          let c = cut_times (worker_of (right_part v)) v.numbers in omega arith
 
       second_small : worker_of (right_part v) < a.workers
-      second_small = let k = worker_of (right_part v) in let m = sum_at (λ (y : View C). times k y.numbers) s.views id v at in let p = has_second in let q = h.numbered k in
+      second_small = let k = worker_of (right_part v) in let m = sum_at (λ (y : View C). times k y.numbers) s.views id v at in
+          let p = has_second in let q = h.numbered k in
           ltb-true k a.workers (bit_true (ltb k a.workers) (omega arith))
 
       alone : (j : ℕ) (u : View C) → get_elem? s.views j ≡ some u → worker_of u ≢ worker_of (right_part v)
       alone j u e w = let k = worker_of (right_part v) in let q = h.numbered k in let f = few_of (ltb k a.workers) in dite (ℕ_discrete j id)
           (λ is. let same : v ≡ u = some-injective v u (sym at ∙ ap (get_elem? s.views) (sym is) ∙ e) in
-          let t = twice v.numbers more (ap (λ (y : View C). worker_of y) same ∙ w) in let m = sum_at (λ (y : View C). times k y.numbers) s.views id v at in absurd (omega arith))
+          let t = twice v.numbers more (ap (λ (y : View C). worker_of y) same ∙ w) in
+          let m = sum_at (λ (y : View C). times k y.numbers) s.views id v at in absurd (omega arith))
           (λ ne. let m = sum_two (λ (y : View C). times k y.numbers) s.views j id u v ne e at in let p = has_second in
-          let r = has_first u.numbers (h.has_one j u e (old_boards j u e)) in let z : times (worker_of u) u.numbers ≡ times k u.numbers = ap (λ i. times i u.numbers) w in absurd (omega arith))
+          let r = has_first u.numbers (h.has_one j u e (old_boards j u e)) in
+          let z : times (worker_of u) u.numbers ≡ times k u.numbers = ap (λ i. times i u.numbers) w in absurd (omega arith))
 
       shows_cut : (z : Now) → Shows {C = C} {S = Option C} n a.workers s z → Shows {C = C} {S = Option C} n a.workers s' z
       shows_cut z q = record {
@@ -192,7 +213,8 @@ module _ {C Key : Type 0} (wires : Graph → Wires) (edge_of : C → ℕ) (key_o
             (seat_like n z v (left_part v) (first_same v.numbers) refl (q.seat id v at))
             (seat_idle n z (right_part v) refl (q.idle (worker_of (right_part v)) second_small alone))
             q.seat;
-        apart = apart_of (cut s.views id v) (λ k. let p = numbered' k in let f = few_of (ltb k a.workers) in omega arith) (λ j y e. has_one' j y e (boards j y e));
+        apart = apart_of (cut s.views id v) (λ k. let p = numbered' k in let f = few_of (ltb k a.workers) in
+            omega arith) (λ j y e. has_one' j y e (boards j y e));
         idle = λ k hk no. q.idle k hk (in_cut s.views id v at (λ y. worker_of y ≢ k) no (λ f w. f (first_same v.numbers ∙ w)));
       }
 
@@ -201,14 +223,18 @@ module _ {C Key : Type 0} (wires : Graph → Wires) (edge_of : C → ℕ) (key_o
       kept = kept_cut;
       numbered = numbered';
       has_one = has_one';
-      drawn = h.drawn ∙ sym (total_ext (λ t. all (starts t) (cut s.views id v) + all (finishes t) (cut s.views id v)) (λ t. all (starts t) s.views + all (finishes t) s.views) (λ t. let x = E (starts t) in let y = E (finishes t) in omega arith) (numbers n.tasks));
+      drawn = h.drawn ∙ sym (total_ext (λ t. all (starts t) (cut s.views id v) + all (finishes t) (cut s.views id v))
+          (λ t. all (starts t) s.views + all (finishes t) s.views) (λ t. let x = E (starts t) in let y = E (finishes t) in omega arith) (numbers n.tasks));
       stamped_once = λ t. let x = E (starts t) in let y = E (finishes t) in let o = h.stamped_once t in (omega arith, omega arith);
-      start_below = λ k t pos. let p = h.start_below k t (let x = E (finishes_at k t) in omega arith) in (p.0, p.1, (let x = E (starts_at p.0 t) in let y = p.2 in omega arith));
+      start_below = λ k t pos. let p = h.start_below k t (let x = E (finishes_at k t) in omega arith) in
+          (p.0, p.1, (let x = E (starts_at p.0 t) in let y = p.2 in omega arith));
       zero_once = λ t there some. E (zeroes n t) ∙ h.zero_once t there some;
       arrived_done = λ e. let x = E (arrives e) in let y = E (finishes (n.source e)) in let o = h.arrived_done e in omega arith;
-      after_reads = λ k t e there pos needs. let p = h.after_reads k t e there (let x = E (starts_at k t) in omega arith) needs in (p.0, p.1, (let x = E (finishes_at p.0 (n.source e)) in let y = p.2 in omega arith));
+      after_reads = λ k t e there pos needs. let p = h.after_reads k t e there (let x = E (starts_at k t) in omega arith) needs in
+          (p.0, p.1, (let x = E (finishes_at p.0 (n.source e)) in let y = p.2 in omega arith));
       reached = λ boards. let r = h.reached (old_boards boards) in (r.0, r.1, r.2, shows_cut boards r.1 r.3);
     }
 
-  pub splits : (a : About C) (id : ℕ) (v : View C) → v.board ≡ Some a → v.deeds ≡ [] → 1 < length v.numbers → Splits {S = Option C} (λ s. IsWhole wires edge_of key_of a s) id v (left_part v) (right_part v)
+  pub splits : (a : About C) (id : ℕ) (v : View C) → v.board ≡ Some a → v.deeds ≡ [] → 1 < length v.numbers → Splits {S = Option C}
+      (λ s. IsWhole wires edge_of key_of a s) id v (left_part v) (right_part v)
   splits a id v ab fresh more s h at = whole_cut a id v ab fresh more s h at

@@ -59,7 +59,8 @@ finish_number t (d ∷ ds) pos = dite (ℕ_discrete (finishes t d) 0)
     (λ n. let k = finish_of t d (omega arith) in (k.0, (let x = k.1 in omega arith), (let x = k.2 in omega arith)))
   where
     finish_of : (t : ℕ) (d : Deed) → 0 < finishes t d → (m : ℕ) × (0 < finishes_at m t d) × (0 < stamps m d)
-    finish_of t (Stamped k u b) pos = let o = bit_same k k refl in let p = both_true (not b) (u == t) (bit_true (not b && (u == t)) pos) in (k, assoc (not b) (u == t) (k == k) p.0 p.1 o, omega arith)
+    finish_of t (Stamped k u b) pos = let o = bit_same k k refl in let p = both_true (not b) (u == t) (bit_true (not b && (u == t)) pos) in
+        (k, assoc (not b) (u == t) (k == k) p.0 p.1 o, omega arith)
       where
         assoc : (x y z : Bool) → x ≡ true → y ≡ true → bit z ≡ 1 → 0 < bit (x && y && z)
         assoc true true z e f g = omega arith
@@ -70,17 +71,20 @@ finish_number t (d ∷ ds) pos = dite (ℕ_discrete (finishes t d) 0)
     finish_of t (Claimed u b) pos = absurd (omega arith)
 
 -- in some list
-some_list : {C : Type 0} (f : Deed → ℕ) (views : List (View C)) → 0 < all f views → (id : ℕ) × ((v : View C) × (get_elem? views id ≡ some v) × (0 < done_by f v))
+some_list : {C : Type 0} (f : Deed → ℕ) (views : List (View C)) → 0 < all f views → (id : ℕ) ×
+    ((v : View C) × (get_elem? views id ≡ some v) × (0 < done_by f v))
 some_list f [] pos = absurd (omega arith)
 some_list f (x ∷ xs) pos = dite (ℕ_discrete (done_by f x) 0)
     (λ z. let r = some_list f xs (omega arith) in (suc r.0, (r.1.0, r.1.1, r.1.2)))
     (λ n. (0, (x, refl, omega arith)))
 
-module _ {C Key : Type 0} (wires : Graph → Wires) (edge_of : C → ℕ) (key_of : C → Key) (a : About C) (ws : IsWires (wires a.tasks.value)) (s : State (Option C) (View C)) (h : IsWhole wires edge_of key_of a s)
+module _ {C Key : Type 0} (wires : Graph → Wires) (edge_of : C → ℕ) (key_of : C → Key) (a : About C) (ws : IsWires (wires a.tasks.value))
+    (s : State (Option C) (View C)) (h : IsWhole wires edge_of key_of a s)
     (id : ℕ) (v : View C) (at : get_elem? s.views id ≡ some v) (ab : v.board ≡ Some a)
     (t : ℕ) (there : t < (wires a.tasks.value).net.tasks) (won : 0 < done_by (wins t) v) (b : Bool)
     (start : b ≡ true → done_by (starts t) v ≡ 0) (finish : b ≡ false → (0 < done_by (starts t) v) × (done_by (finishes t) v ≡ 0))
-    (exit_home : b ≡ false → (e : ℕ) → (wires a.tasks.value).is_exit e ≡ true → (wires a.tasks.value).net.source e ≡ t → (x : Option C) × (get_elem? s.homes e ≡ some (some x)) × Fits wires edge_of key_of a e x) where
+    (exit_home : b ≡ false → (e : ℕ) → (wires a.tasks.value).is_exit e ≡ true → (wires a.tasks.value).net.source e ≡ t → (x : Option C) ×
+    (get_elem? s.homes e ≡ some (some x)) × Fits wires edge_of key_of a e x) where
   abbrev n : Net
   n = (wires a.tasks.value).net
 
@@ -124,23 +128,31 @@ module _ {C Key : Type 0} (wires : Graph → Wires) (edge_of : C → ℕ) (key_o
 
   own_after : IsOwn n (noted v d)
   own_after = let o = h.kept.own id v at in record {
-    won_seen = λ x pos. let p = total_append (wins x) v.deeds (d ∷ []) in let q = total_append (sees x) v.deeds (d ∷ []) in let r = o.won_seen x (omega arith) in omega arith;
-    arrived_won = λ e. let p = total_append (wins (n.source e)) v.deeds (d ∷ []) in let q = total_append (arrives e) v.deeds (d ∷ []) in let r = o.arrived_won e in omega arith;
+    won_seen = λ x pos. let p = total_append (wins x) v.deeds (d ∷ []) in let q = total_append (sees x) v.deeds (d ∷ []) in
+        let r = o.won_seen x (omega arith) in omega arith;
+    arrived_won = λ e. let p = total_append (wins (n.source e)) v.deeds (d ∷ []) in let q = total_append (arrives e) v.deeds (d ∷ []) in
+        let r = o.arrived_won e in omega arith;
     started_won = λ x. let p = total_append (wins x) v.deeds (d ∷ []) in let q = total_append (starts x) v.deeds (d ∷ []) in let r = o.started_won x in
         elim (adds x) [
           | other ne z y ↦ omega arith
-          | starts_it e is z y ↦ (let u = start is in let m : done_by (starts x) v ≡ done_by (starts t) v = ap (λ i. done_by (starts i) v) e in let w : done_by (wins x) v ≡ done_by (wins t) v = ap (λ i. done_by (wins i) v) e in omega arith)
+          | starts_it e is z y ↦ (let u = start is in
+              let m : done_by (starts x) v ≡ done_by (starts t) v = ap (λ i. done_by (starts i) v) e in
+              let w : done_by (wins x) v ≡ done_by (wins t) v = ap (λ i. done_by (wins i) v) e in omega arith)
           | finishes_it e is z y ↦ omega arith
         ];
-    finished_started = λ x. let p = total_append (finishes x) v.deeds (d ∷ []) in let q = total_append (starts x) v.deeds (d ∷ []) in let r = o.finished_started x in
+    finished_started = λ x. let p = total_append (finishes x) v.deeds (d ∷ []) in let q = total_append (starts x) v.deeds (d ∷ []) in
+        let r = o.finished_started x in
         elim (adds x) [
           | other ne z y ↦ omega arith
           | starts_it e is z y ↦ omega arith
-          | finishes_it e is z y ↦ (let u = finish is in let u0 = u.0 in let u1 = u.1 in let m : done_by (starts x) v ≡ done_by (starts t) v = ap (λ i. done_by (starts i) v) e in let w : done_by (finishes x) v ≡ done_by (finishes t) v = ap (λ i. done_by (finishes i) v) e in omega arith)
+          | finishes_it e is z y ↦ (let u = finish is in let u0 = u.0 in let u1 = u.1 in
+              let m : done_by (starts x) v ≡ done_by (starts t) v = ap (λ i. done_by (starts i) v) e in
+              let w : done_by (finishes x) v ≡ done_by (finishes t) v = ap (λ i. done_by (finishes i) v) e in omega arith)
         ];
   }
 
-  each : (P : View C → Type 0) → P (noted v d) → ((j : ℕ) (y : View C) → get_elem? s.views j ≡ some y → P y) → (j : ℕ) (y : View C) → get_elem? views' j ≡ some y → P y
+  each : (P : View C → Type 0) → P (noted v d) → ((j : ℕ) (y : View C) → get_elem? s.views j ≡ some y → P y) → (j : ℕ) (y : View C) →
+      get_elem? views' j ≡ some y → P y
   each P here others j y e = ⊎_elim (λ (z : (j ≡ id) × (noted v d ≡ y)). subst P z.1 here) (λ z. others j y z.1) (at_set s.views id j (noted v d) y e)
 
   kept_after : IsKept wires edge_of key_of a s'
@@ -153,11 +165,13 @@ module _ {C Key : Type 0} (wires : Graph → Wires) (edge_of : C → ℕ) (key_o
     won_once = λ x. let r = A (wins x) in let p = g.won_once x in omega arith;
     claimed = λ x hx. let r = A (wins x) in word_else (claim_word n.tasks x) (λ e. omega arith) ∙ g.claimed x hx ∙ omega arith;
     lost = λ x hx pos. word_else (claim_word n.tasks x) (λ e. omega arith) ∙ g.lost x hx (let r = A (loses x) in omega arith);
-    counted = λ x hx. let z = word_else (count_word x) (λ e. omega arith) in let p = g.counted x hx in let r = total_ext (λ e. all (arrives e) views') (λ e. all (arrives e) s.views) (λ e. let q = A (arrives e) in omega arith) (n.needs x) in omega arith;
+    counted = λ x hx. let z = word_else (count_word x) (λ e. omega arith) in let p = g.counted x hx in
+        let r = total_ext (λ e. all (arrives e) views') (λ e. all (arrives e) s.views) (λ e. let q = A (arrives e) in omega arith) (n.needs x) in omega arith;
     arrived_once = λ e. let r = A (arrives e) in let p = g.arrived_once e in omega arith;
     seen = λ x hx pos. word_else (count_word x) (λ e. omega arith) ∙ g.seen x hx (let r = A (sees x) in omega arith);
     empty_slots = λ e he no none. g.empty_slots e he no (let r = A (wins (n.source e)) in omega arith);
-    full_slots = λ e come none. g.full_slots e (⊎_elim (λ i. inl i) (λ i. inr (let r = A (arrives e) in omega arith)) come) (let r = A (wins (n.reader e)) in omega arith);
+    full_slots = λ e come none. g.full_slots e (⊎_elim (λ i. inl i) (λ i. inr (let r = A (arrives e) in omega arith)) come)
+        (let r = A (wins (n.reader e)) in omega arith);
     exit_slots = λ e is fin. let r = A (finishes (n.source e)) in elim (adds (n.source e)) [
       | other ne z y ↦ g.exit_slots e is (omega arith)
       | starts_it q i z y ↦ g.exit_slots e is (omega arith)
@@ -175,7 +189,8 @@ module _ {C Key : Type 0} (wires : Graph → Wires) (edge_of : C → ℕ) (key_o
   starts_all = all_gap (starts t) (wins t) s.views id v at (λ j u e. (h.kept.own j u e).started_won t)
 
   finishes_all : all (finishes t) s.views + done_by (wins t) v ≤ all (wins t) s.views + done_by (finishes t) v
-  finishes_all = all_gap (finishes t) (wins t) s.views id v at (λ j u e. let o = h.kept.own j u e in let x = o.started_won t in let y = o.finished_started t in omega arith)
+  finishes_all = all_gap (finishes t) (wins t) s.views id v at (λ j u e. let o = h.kept.own j u e in let x = o.started_won t in
+      let y = o.finished_started t in omega arith)
 
   -- the inner edges into t have arrived, so their sources are finished
   finished_source : (e : ℕ) → 0 < times e (n.needs t) → (m : ℕ) × (m < k) × (0 < all (finishes_at m (n.source e)) s.views)
@@ -183,35 +198,47 @@ module _ {C Key : Type 0} (wires : Graph → Wires) (edge_of : C → ℕ) (key_o
       let saw = (h.kept.own id v at).won_seen t won in
       let z = h.kept.seen t there (let p = all_at (sees t) s.views id v at in omega arith) in
       let c = h.kept.counted t there in
-      let one : all (arrives e) s.views ≡ 1 = full (λ x. all (arrives x) s.views) (λ x. let o = h.kept.arrived_once x in omega arith) (n.needs t) (omega arith) e needs in
+      let one : all (arrives e) s.views ≡ 1 = full (λ x. all (arrives x) s.views) (λ x. let o = h.kept.arrived_once x in
+      omega arith) (n.needs t) (omega arith) e needs in
       let f = h.arrived_done e in
       let l = some_list (finishes (n.source e)) s.views (omega arith) in
       let m = finish_number (n.source e) l.1.0.deeds l.1.2 in
       (m.0, drawn_below l.0 l.1.0 m.0 l.1.1 m.2, (let p = all_at (finishes_at m.0 (n.source e)) s.views l.0 l.1.0 l.1.1 in let q = m.1 in omega arith))
 
-  pub whole_stamped : (((j : ℕ) (u : View C) → get_elem? views' j ≡ some u → u.board ≡ Some a) → Reached {C = C} {S = Option C} n a.workers s') → IsWhole wires edge_of key_of a s'
+  pub whole_stamped : (((j : ℕ) (u : View C) → get_elem? views' j ≡ some u → u.board ≡ Some a) → Reached {C = C} {S = Option C} n a.workers
+      s') → IsWhole wires edge_of key_of a s'
   whole_stamped reached = record {
     kept = kept_after;
-    numbered = λ j. (let r = Rattle.fv_rule.proofs.Splits.sum_set (λ (y : View C). times j y.numbers) s.views id v (noted v d) at in let z : total (λ (y : View C). times j y.numbers) views' ≡ total (λ (y : View C). times j y.numbers) s.views = omega arith in z) ∙ h.numbered j;
+    numbered = λ j. (let r = Rattle.fv_rule.proofs.Splits.sum_set (λ (y : View C). times j y.numbers) s.views id v (noted v d) at in
+        let z : total (λ (y : View C). times j y.numbers) views' ≡ total (λ (y : View C). times j y.numbers) s.views = omega arith in z) ∙ h.numbered j;
     has_one = each (λ y. y.board ≡ Some a → 0 < length y.numbers) (h.has_one id v at) h.has_one;
     drawn = let e = h.drawn in let one = times_passing (λ _. true) 0 n.tasks t (omega arith) (omega arith) in
-        let r = total_ext (λ x. all (starts x) views' + all (finishes x) views') (λ x. (all (starts x) s.views + all (finishes x) s.views) + bit (x == t)) (λ x. let p = A (starts x) in let q = A (finishes x) in elim (adds x) [
+        let r = total_ext (λ x. all (starts x) views' + all (finishes x) views')
+        (λ x. (all (starts x) s.views + all (finishes x) s.views) + bit (x == t)) (λ x. let p = A (starts x) in let q = A (finishes x) in elim (adds x) [
           | other ne z y ↦ (let o = bit_apart x t ne in omega arith)
           | starts_it i _ z y ↦ (let o = bit_same x t i in omega arith)
           | finishes_it i _ z y ↦ (let o = bit_same x t i in omega arith)
         ]) (numbers n.tasks) in
         let m = total_add (λ x. all (starts x) s.views + all (finishes x) s.views) (λ x. bit (x == t)) (numbers n.tasks) in word_here ∙ omega arith;
-    stamped_once = λ x. let p = A (starts x) in let q = A (finishes x) in let o = h.stamped_once x in let o0 = o.0 in let o1 = o.1 in let w = h.kept.won_once t in elim (adds x) [
-      | other ne z y ↦ (omega arith, omega arith)
-      | starts_it e i z y ↦ (let u = start i in let g = starts_all in let m : all (starts x) s.views ≡ all (starts t) s.views = ap (λ j. all (starts j) s.views) e in (omega arith, omega arith))
-      | finishes_it e i z y ↦ (let u = (finish i).1 in let g = finishes_all in let m : all (finishes x) s.views ≡ all (finishes t) s.views = ap (λ j. all (finishes j) s.views) e in (omega arith, omega arith))
-    ];
+    stamped_once = λ x. let p = A (starts x) in let q = A (finishes x) in let o = h.stamped_once x in let o0 = o.0 in let o1 = o.1 in
+        let w = h.kept.won_once t in elim (adds x) [
+          | other ne z y ↦ (omega arith, omega arith)
+          | starts_it e i z y ↦ (let u = start i in let g = starts_all in
+              let m : all (starts x) s.views ≡ all (starts t) s.views = ap (λ j. all (starts j) s.views) e in (omega arith, omega arith))
+          | finishes_it e i z y ↦ (let u = (finish i).1 in let g = finishes_all in
+              let m : all (finishes x) s.views ≡ all (finishes t) s.views = ap (λ j. all (finishes j) s.views) e in (omega arith, omega arith))
+        ];
     start_below = λ j x pos. let p = A (finishes_at j x) in dite (ℕ_discrete (all (finishes_at j x) s.views) 0)
         (λ none. let q = stamped_finish j x (omega arith) in
-        let r = start_number t v.deeds (finish q.0).0 in
-        (r.0, subst (λ i. r.0 < i) q.2 (drawn_below id v r.0 at r.2), subst (λ i. 0 < all (starts_at r.0 i) views') (sym q.1) (let g = A (starts_at r.0 t) in let m = all_at (starts_at r.0 t) s.views id v at in let i = r.1 in omega arith)))
+        let r = start_number t v.deeds (finish q.0).0 in (
+          r.0,
+          subst (λ i. r.0 < i) q.2 (drawn_below id v r.0 at r.2),
+          subst (λ i. 0 < all (starts_at r.0 i) views') (sym q.1)
+              (let g = A (starts_at r.0 t) in let m = all_at (starts_at r.0 t) s.views id v at in let i = r.1 in omega arith),
+        ))
         (λ some'. let r = h.start_below j x (omega arith) in (r.0, r.1, (let g = A (starts_at r.0 x) in let m = r.2 in omega arith)));
-    zero_once = λ x hx some'. let p = A (zeroes n x) in let z = word_else (count_word x) (λ e. omega arith) in let q = ap (λ i. bit (i == 0)) z in let r = h.zero_once x hx some' in omega arith;
+    zero_once = λ x hx some'. let p = A (zeroes n x) in let z = word_else (count_word x) (λ e. omega arith) in
+        let q = ap (λ i. bit (i == 0)) z in let r = h.zero_once x hx some' in omega arith;
     arrived_done = λ e. let p = A (arrives e) in let q = A (finishes (n.source e)) in let r = h.arrived_done e in omega arith;
     after_reads = λ j x e hx pos needs. let p = A (starts_at j x) in dite (ℕ_discrete (all (starts_at j x) s.views) 0)
         (λ none. let q = stamped_start j x (omega arith) in let r = finished_source e (subst (λ i. 0 < times e (n.needs i)) q.1 needs) in

@@ -33,7 +33,8 @@ spare_two g most t less (y ∷ ys) = let r = spare_two g most t less ys in let m
     (λ e. let b = bit_same y t e in let q : g y ≡ g t = ap g e in omega arith) (λ ne. let b = bit_apart y t ne in omega arith)
 
 pub behind : (ns : List ℕ) (x y : ℕ) → slice_index (set ns 0 y) (1 + x) ≡ slice_index ns (1 + x)
-behind ns x y = ap (slice_index (set ns 0 y)) (let q : 1 + x ≡ suc x = omega arith in q) ∙ next ns x y ∙ ap (slice_index ns) (let q : suc x ≡ 1 + x = omega arith in q)
+behind ns x y = ap (slice_index (set ns 0 y)) (let q : 1 + x ≡ suc x = omega arith in
+    q) ∙ next ns x y ∙ ap (slice_index ns) (let q : suc x ≡ 1 + x = omega arith in q)
   where
     next : (ns : List ℕ) (x y : ℕ) → slice_index (set ns 0 y) (suc x) ≡ slice_index ns (suc x)
     next [] x y = refl
@@ -50,29 +51,41 @@ module _ {C Key : Type 0} (wires : Graph → Wires) (edge_of : C → ℕ) (key_o
   n = (wires a.tasks.value).net
 
   -- a stamp that is drawn is above those that the seat drew before
-  pub stamps_above : (s : State (Option C) (View C)) → IsWhole wires edge_of key_of a s → (id : ℕ) (v : View C) → get_elem? s.views id ≡ some v → IsAbove (slice_index s.words 0) v
-  stamps_above s h id v at k pos = let p = h.kept.stamped k in let q = all_at (stamps k) s.views id v at in ltb-true k (slice_index s.words 0) (bit_true (ltb k (slice_index s.words 0)) (omega arith))
+  pub stamps_above : (s : State (Option C) (View C)) → IsWhole wires edge_of key_of a s → (id : ℕ) (v : View C) → get_elem? s.views id ≡
+      some v → IsAbove (slice_index s.words 0) v
+  stamps_above s h id v at k pos = let p = h.kept.stamped k in let q = all_at (stamps k) s.views id v at in
+      ltb-true k (slice_index s.words 0) (bit_true (ltb k (slice_index s.words 0)) (omega arith))
 
   -- a stamp of t is left
-  pub stamp_room : (s : State (Option C) (View C)) → IsWhole wires edge_of key_of a s → (t : ℕ) → t < n.tasks → all (starts t) s.views + all (finishes t) s.views ≤ 1 → slice_index s.words 0 < 2 * n.tasks
+  pub stamp_room : (s : State (Option C) (View C)) → IsWhole wires edge_of key_of a s → (t : ℕ) → t < n.tasks → all (starts t) s.views +
+      all (finishes t) s.views ≤ 1 → slice_index s.words 0 < 2 * n.tasks
   stamp_room s h t there less = let d = h.drawn in let l = long_numbers 0 n.tasks in
-      let p = spare_two (λ x. all (starts x) s.views + all (finishes x) s.views) (λ x. let q = h.stamped_once x in let q0 = q.0 in let q1 = q.1 in omega arith) t less (numbers n.tasks) in
+      let p = spare_two (λ x. all (starts x) s.views + all (finishes x) s.views) (λ x. let q = h.stamped_once x in let q0 = q.0 in
+      let q1 = q.1 in omega arith) t less (numbers n.tasks) in
       let one = times_passing (λ _. true) 0 n.tasks t (omega arith) (omega arith) in omega arith
 
-  pub starting : (v : View C) (c : List (ℕ × Option C)) (t id slots : ℕ) → v.board ≡ Some a → t < n.tasks → 0 < done_by (wins t) v → done_by (starts t) v ≡ 0 → last_won v.deeds ≡ Some t → n.tasks < 2 ^ 62
+  pub starting : (v : View C) (c : List (ℕ × Option C)) (t id slots : ℕ) → v.board ≡ Some a → t < n.tasks → 0 < done_by (wins t) v →
+      done_by (starts t) v ≡ 0 → last_won v.deeds ≡ Some t → n.tasks < 2 ^ 62
       → Allows (λ s. IsWhole wires edge_of key_of a s) slots id (v, c) 0 (λ k. (k + 1) % 2 ^ 64) (Starts (step slots 0 1 0 none) (v, c))
   starting v c t id slots ab there won fresh last few s h long at wide =
       let k = slice_index s.words 0 in
       let gs = all_gap (starts t) (wins t) s.views id v at (λ j u e. (h.kept.own j u e).started_won t) in
-      let gf = all_gap (finishes t) (wins t) s.views id v at (λ j u e. let o = h.kept.own j u e in let x = o.started_won t in let y = o.finished_started t in omega arith) in
+      let gf = all_gap (finishes t) (wins t) s.views id v at (λ j u e. let o = h.kept.own j u e in let x = o.started_won t in
+      let y = o.finished_started t in omega arith) in
       let w = h.kept.won_once t in let f = (h.kept.own id v at).finished_started t in
       let room = stamp_room s h t there (omega arith) in
       let plus : (k + 1) % 2 ^ 64 ≡ k + 1 = one_more k (omega arith) in (
         noted v (Stamped k t true),
         keeps,
         tt,
-        subst (λ m. IsWhole wires edge_of key_of a record { words = set s.words 0 m; homes = s.homes; views = set s.views id (noted v (Stamped k t true)) }) (sym plus)
+        subst (λ m. IsWhole wires edge_of key_of a record {
+          words = set s.words 0 m;
+          homes = s.homes;
+          views = set s.views id
+              (noted v (Stamped k t true));
+        }) (sym plus)
             (whole_stamped wires edge_of key_of a ws s h id v at ab t there won true (λ _. fresh) (λ q. absurd (true≢false q)) (λ q. absurd (true≢false q))
-            (reached_same wires edge_of key_of a s h id v at ab (Stamped k t true) (λ x. refl) (λ x. refl) (λ x. refl) (set s.words 0 (k + 1)) (λ x l. behind s.words x (k + 1)))),
+            (reached_same wires edge_of key_of a s h id v at ab (Stamped k t true) (λ x. refl) (λ x. refl) (λ x. refl)
+            (set s.words 0 (k + 1)) (λ x l. behind s.words x (k + 1)))),
         (λ t' e. (ap (λ u. noted v (Stamped k u true)) (some_same t t' (sym last ∙ e)), refl, stamps_above s h id v at)),
       )

@@ -37,7 +37,8 @@ use Rattle.fv_rule.proofs.Arriving.{arriving}
 use Rattle.fv_rule.proofs.Leaving.{leads, parts, leaving, dropped}
 use Rattle.fv_rule.proofs.Hands.{free_owes, claim_busy, busy_won, exchange_busy, is_owed, finish_free}
 
-module _ {C Key : Type 0} (edge_of : C → ℕ) (key_of : C → Key) (a : About C) (graph : IsGraph a.tasks.value.tasks) (few : task_count a.tasks.value.tasks < 2 ^ 62) (id : ℕ) (v : View C) (c : List (ℕ × Option C)) (ab : v.board ≡ Some a) where
+module _ {C Key : Type 0} (edge_of : C → ℕ) (key_of : C → Key) (a : About C) (graph : IsGraph a.tasks.value.tasks)
+    (few : task_count a.tasks.value.tasks < 2 ^ 62) (id : ℕ) (v : View C) (c : List (ℕ × Option C)) (ab : v.board ≡ Some a) where
   abbrev g : Tasks
   g = a.tasks.value.tasks
 
@@ -48,14 +49,20 @@ module _ {C Key : Type 0} (edge_of : C → ℕ) (key_of : C → Key) (a : About 
   ws = is_wires g graph
 
   -- what is shown, with the words and slots after the step
-  shown_at : (s : State (Option C) (View C)) (z : Now) (d : Deed) (words' : List ℕ) (act : Act (Option C)) (w : View C) → w ≡ noted v d → ShowsNow a record { words = words'; homes = s.homes; views = set s.views id (noted v d) } z
+  shown_at : (s : State (Option C) (View C)) (z : Now) (d : Deed) (words' : List ℕ) (act : Act (Option C)) (w : View C) → w ≡ noted v d →
+      ShowsNow a record { words = words'; homes = s.homes; views = set s.views id (noted v d) } z
       → ShowsNow a record { words = words'; homes = homes_after s.homes c act; views = set s.views id w } z
-  shown_at s z d words' act w e sh = subst (λ (u : View C). ShowsNow a record { words = words'; homes = homes_after s.homes c act; views = set s.views id u } z) (sym e)
-      (shows_words {C = C} {S = Option C} n a.workers record { words = words'; homes = s.homes; views = set s.views id (noted v d) } z sh words' (homes_after s.homes c act) (λ x l. refl))
+  shown_at s z d words' act w e sh = subst (λ (u : View C). ShowsNow a record
+      { words = words'; homes = homes_after s.homes c act; views = set s.views id u } z) (sym e)
+      (shows_words {C = C} {S = Option C} n a.workers record { words = words'; homes = s.homes; views = set s.views id (noted v d) } z sh
+      words' (homes_after s.homes c act) (λ x l. refl))
 
-  stays : (s : State (Option C) (View C)) → get_elem? s.views id ≡ some v → (d : Deed) → ((x : ℕ) → wins x d ≡ 0) → ((x : ℕ) → finishes x d ≡ 0) → ((x : ℕ) → arrives x d ≡ 0) → (i m : ℕ) (act : Act (Option C)) (w : View C) → w ≡ noted v d
-      → ((x : ℕ) → x < n.tasks → slice_index (set s.words i m) (count_word x) ≡ slice_index s.words (count_word x)) → Changes a s (stepped s i m id c w act) None
-  stays s at d no_win no_finish no_arrival i m act w e same z sh = shown_at s z d (set s.words i m) act w e (shows_same {C = C} {S = Option C} n a.workers s z sh id v d at no_win no_finish no_arrival (set s.words i m) same)
+  stays : (s : State (Option C) (View C)) → get_elem? s.views id ≡ some v → (d : Deed) → ((x : ℕ) → wins x d ≡ 0) →
+      ((x : ℕ) → finishes x d ≡ 0) → ((x : ℕ) → arrives x d ≡ 0) → (i m : ℕ) (act : Act (Option C)) (w : View C) → w ≡ noted v d
+      → ((x : ℕ) → x < n.tasks → slice_index (set s.words i m) (count_word x) ≡ slice_index s.words (count_word x)) → Changes a s
+      (stepped s i m id c w act) None
+  stays s at d no_win no_finish no_arrival i m act w e same z sh = shown_at s z d (set s.words i m) act w e
+      (shows_same {C = C} {S = Option C} n a.workers s z sh id v d at no_win no_finish no_arrival (set s.words i m) same)
 
   law_look : (t : ℕ) → Steps edge_of key_of a id (v, c) (count_word t) (λ k. k) (λ _. None) (λ k me. me ≡ (noted v (Saw t k), c))
   law_look t s h at wide =
@@ -66,7 +73,8 @@ module _ {C Key : Type 0} (edge_of : C → ℕ) (key_of : C → Key) (a : About 
         r.1,
         r.2,
         r.3,
-        stays s at (Saw t k) (λ x. refl) (λ x. refl) (λ x. refl) (count_word t) k r.1 r.0 e (λ x l. ap (λ ks. slice_index ks (count_word x)) (same_word s.words (count_word t))),
+        stays s at (Saw t k) (λ x. refl) (λ x. refl) (λ x. refl) (count_word t) k r.1 r.0 e
+            (λ x l. ap (λ ks. slice_index ks (count_word x)) (same_word s.words (count_word t))),
         (λ i. (e i, r.4.1 i)),
       )
 
@@ -80,33 +88,53 @@ module _ {C Key : Type 0} (edge_of : C → ℕ) (key_of : C → Key) (a : About 
       let r = claims_whole graph_wires edge_of key_of a (v, c) t id ab ws there saw owes s h h.kept.homes_long at wide in
       let told = tell graph_wires edge_of key_of a (v, c) (r.0, carried_after c r.1) (edges_of g) n.tasks t k ab refl r.4 in
       let inw : cw < length s.words = let l = h.kept.words_long in omega arith in
-      let counts : (x : ℕ) → x < n.tasks → slice_index (set s.words cw 1) (count_word x) ≡ slice_index s.words (count_word x) = λ x l. get_set (λ m. m ≡ slice_index s.words (count_word x)) s.words cw (count_word x) 1 0 inw (λ q. absurd (omega arith)) (λ _. refl) in
+      let counts : (x : ℕ) → x < n.tasks → slice_index (set s.words cw 1) (count_word x) ≡ slice_index s.words (count_word x) = λ x l.
+      get_set (λ m. m ≡ slice_index s.words (count_word x)) s.words cw (count_word x) 1 0 inw (λ q. absurd (omega arith)) (λ _. refl) in
       let ready : slice_index s.words (count_word t) ≡ 0 = h.kept.seen t there (let b = all_at (sees t) s.views id v at in omega arith) in
-      let none_owed : (z : Now) → ShowsNow a s z → (e : ℕ) → times e (Rattle.fv_core.specs.Core.owes_of z (worker_of v)) ≡ 0 = λ z sh e. let o = (sh.seat id v at).owes e in let f = owes.1 e in omega arith in
-      let shown : (b : Bool) → (k == 0) ≡ b → r.0 ≡ noted v (Claimed t b) → Changes a s (stepped s cw 1 id c r.0 r.1) (cond b (Some (Take (worker_of v) t)) None) =
+      let none_owed : (z : Now) → ShowsNow a s z → (e : ℕ) → times e (Rattle.fv_core.specs.Core.owes_of z (worker_of v)) ≡ 0 = λ z sh e.
+      let o = (sh.seat id v at).owes e in let f = owes.1 e in omega arith in
+      let shown : (b : Bool) → (k == 0) ≡ b → r.0 ≡ noted v (Claimed t b) → Changes a s (stepped s cw 1 id c r.0 r.1)
+      (cond b (Some (Take (worker_of v) t)) None) =
       λ b. elim b as (λ b. (k == 0) ≡ b → r.0 ≡ noted v (Claimed t b) → Changes a s (stepped s cw 1 id c r.0 r.1) (cond b (Some (Take (worker_of v) t)) None)) [
-        | true ↦ (λ is e z sh. let first : all (wins t) s.views ≡ 0 = (let m = h.kept.claimed t there in let q = bit_one k 0 (subst (λ b. 0 < bit b) (sym is) (omega arith)) in omega arith) in (
-          may_take {C = C} {S = Option C} n a.workers s z sh id t v at there ready first owes.0 (none_owed z sh),
-          subst (λ (u : View C). ShowsNow a record { words = set s.words cw 1; homes = homes_after s.homes c r.1; views = set s.views id u } (lean_after n z (Take (worker_of v) t))) (sym e)
-              (shows_words {C = C} {S = Option C} n a.workers record { words = s.words; homes = s.homes; views = set s.views id (noted v (Claimed t true)) } (lean_after n z (Take (worker_of v) t))
-              (shows_taken {C = C} {S = Option C} n a.workers s z sh id t v at there ready first owes.0 (none_owed z sh)) (set s.words cw 1) (homes_after s.homes c r.1) counts),
-        ))
+        | true ↦ (λ is e z sh. let first : all (wins t) s.views ≡ 0 = (let m = h.kept.claimed t there in
+            let q = bit_one k 0 (subst (λ b. 0 < bit b) (sym is) (omega arith)) in omega arith) in (
+              may_take {C = C} {S = Option C} n a.workers s z sh id t v at there ready first owes.0 (none_owed z sh),
+              subst (λ (u : View C). ShowsNow a record {
+                words = set s.words cw 1;
+                homes = homes_after s.homes c r.1;
+                views = set s.views id u;
+              } (lean_after n z (Take (worker_of v) t))) (sym e)
+                  (shows_words {C = C} {S = Option C} n a.workers record {
+                    words = s.words;
+                    homes = s.homes;
+                    views = set s.views id
+                        (noted v (Claimed t true));
+                  } (lean_after n z (Take (worker_of v) t))
+                  (shows_taken {C = C} {S = Option C} n a.workers s z sh id t v at there ready first owes.0 (none_owed z sh))
+                  (set s.words cw 1) (homes_after s.homes c r.1) counts),
+            ))
         | false ↦ (λ is e. stays s at (Claimed t false) (λ x. refl) (λ x. refl) (λ x. refl) cw 1 r.1 r.0 e counts)
       ] in
-      let won : (b : Bool) → r.0 ≡ noted v (Claimed t b) → MatchBool b (Took graph_wires edge_of key_of a ((graph_wires a.tasks.value).inward t) ((graph_wires a.tasks.value).outward t) c (carried_after c r.1) × IsFresh t v) (carried_after c r.1 ≡ c)
+      let won : (b : Bool) → r.0 ≡ noted v (Claimed t b) → MatchBool b (Took graph_wires edge_of key_of a
+      ((graph_wires a.tasks.value).inward t) ((graph_wires a.tasks.value).outward t) c (carried_after c r.1) × IsFresh t v) (carried_after c r.1 ≡ c)
       → MatchBool b (IsBusy graph_wires edge_of key_of a t false r.0 (carried_after c r.1)) (carried_after c r.1 ≡ []) =
-      λ b. elim b as (λ b. r.0 ≡ noted v (Claimed t b) → MatchBool b (Took graph_wires edge_of key_of a ((graph_wires a.tasks.value).inward t) ((graph_wires a.tasks.value).outward t) c (carried_after c r.1) × IsFresh t v) (carried_after c r.1 ≡ c)
+      λ b. elim b as (λ b. r.0 ≡ noted v (Claimed t b) → MatchBool b (Took graph_wires edge_of key_of a
+      ((graph_wires a.tasks.value).inward t) ((graph_wires a.tasks.value).outward t) c (carried_after c r.1) × IsFresh t v) (carried_after c r.1 ≡ c)
       → MatchBool b (IsBusy graph_wires edge_of key_of a t false r.0 (carried_after c r.1)) (carried_after c r.1 ≡ [])) [
         | true ↦ (λ e m. subst (λ (u : View C). IsBusy graph_wires edge_of key_of a t false u (carried_after c r.1)) (sym e)
-            (claim_busy graph_wires edge_of key_of a v (carried_after c r.1) t there owes m.1 (subst (λ l. Took graph_wires edge_of key_of a ((graph_wires a.tasks.value).inward t) ((graph_wires a.tasks.value).outward t) l (carried_after c r.1)) none' m.0)))
+            (claim_busy graph_wires edge_of key_of a v (carried_after c r.1) t there owes m.1
+            (subst (λ l. Took graph_wires edge_of key_of a ((graph_wires a.tasks.value).inward t)
+            ((graph_wires a.tasks.value).outward t) l (carried_after c r.1)) none' m.0)))
         | false ↦ (λ e m. m ∙ none')
       ] in
       (r.0, r.1, r.2, r.3, shown (k == 0) refl told.0, (told.0, won (k == 0) told.0 told.1))
 
-  law_start : (t : ℕ) → IsBusy graph_wires edge_of key_of a t false v c → Steps edge_of key_of a id (v, c) 0 (λ k. (k + 1) % 2 ^ 64) (λ _. None) (λ k me. me ≡ (noted v (Stamped k t true), c))
+  law_start : (t : ℕ) → IsBusy graph_wires edge_of key_of a t false v c → Steps edge_of key_of a id (v, c) 0 (λ k. (k + 1) % 2 ^ 64)
+      (λ _. None) (λ k me. me ≡ (noted v (Stamped k t true), c))
   law_start t busy s h at wide =
       let k = slice_index s.words 0 in
-      let r = starting graph_wires edge_of key_of a ws v c t id (edges_of g) ab busy.there (let o = busy_won graph_wires edge_of key_of a v c t false busy in omega arith) busy.started busy.last few s h h.kept.homes_long at wide in
+      let r = starting graph_wires edge_of key_of a ws v c t id (edges_of g) ab busy.there
+      (let o = busy_won graph_wires edge_of key_of a v c t false busy in omega arith) busy.started busy.last few s h h.kept.homes_long at wide in
       let told = r.4 t busy.last in (
         r.0,
         r.1,
@@ -117,37 +145,48 @@ module _ {C Key : Type 0} (edge_of : C → ℕ) (key_of : C → Key) (a : About 
       )
 
   law_finish : (t : ℕ) → IsBusy graph_wires edge_of key_of a t true v c → AreHanded graph_wires edge_of key_of a t c
-      → Steps edge_of key_of a id (v, c) 0 (λ k. (k + 1) % 2 ^ 64) (λ _. Some (Finish (worker_of v) t)) (λ k me. (me.0 ≡ noted v (Stamped k t false)) × IsFree graph_wires edge_of key_of a me.0 me.1)
+      → Steps edge_of key_of a id (v, c) 0 (λ k. (k + 1) % 2 ^ 64) (λ _. Some (Finish (worker_of v) t))
+      (λ k me. (me.0 ≡ noted v (Stamped k t false)) × IsFree graph_wires edge_of key_of a me.0 me.1)
   law_finish t busy handed s h at wide =
       let k = slice_index s.words 0 in
       let out = leads g t in
       let r = leaving graph_wires edge_of key_of a ws v c t busy handed out id (edges_of g) ab few s h h.kept.homes_long at wide in
       let told = r.4 a ab t busy.last in
       let one = busy_won graph_wires edge_of key_of a v c t true busy in
-      let nobody : all (finishes t) s.views ≡ 0 = let q = all_gap (finishes t) (wins t) s.views id v at (λ j u e. let o = h.kept.own j u e in let x = o.started_won t in let y = o.finished_started t in omega arith) in
+      let nobody : all (finishes t) s.views ≡ 0 = let q = all_gap (finishes t) (wins t) s.views id v at
+      (λ j u e. let o = h.kept.own j u e in let x = o.started_won t in let y = o.finished_started t in omega arith) in
       let w = h.kept.won_once t in let u = busy.unfinished in omega arith in
       let words' = set s.words 0 ((k + 1) % 2 ^ 64) in
       let same : (x : ℕ) → x < n.tasks → slice_index words' (count_word x) ≡ slice_index s.words (count_word x) = λ x l. behind s.words x ((k + 1) % 2 ^ 64) in
-      let left : carried_after c r.1 ≡ (parts graph_wires edge_of key_of a ws v c t busy handed out).back = told.1 ∙ dropped graph_wires edge_of key_of a ws v c t busy handed out in (
+      let left : carried_after c r.1 ≡ (parts graph_wires edge_of key_of a ws v c t busy handed out).back = told.1 ∙ dropped graph_wires
+      edge_of key_of a ws v c t busy handed out in (
         r.0,
         r.1,
         r.2,
         r.3,
         (λ z sh. (
           may_finish {C = C} {S = Option C} n ws.is_net a.workers s z sh id t k v at busy.there one busy.unfinished nobody words' same,
-          shown_at s (lean_after n z (Finish (worker_of v) t)) (Stamped k t false) words' r.1 r.0 told.0 (shows_finished {C = C} {S = Option C} n ws.is_net a.workers s z sh id t k v at busy.there one busy.unfinished nobody words' same),
+          shown_at s (lean_after n z (Finish (worker_of v) t)) (Stamped k t false) words' r.1 r.0 told.0
+              (shows_finished {C = C} {S = Option C} n ws.is_net a.workers s z sh id t k v at busy.there one busy.unfinished nobody words' same),
         )),
-        (told.0, subst (λ (m : Me (Option C) (View C)). IsFree graph_wires edge_of key_of a m.0 m.1) (λ i. (sym told.0 i, sym left i)) (finish_free graph_wires edge_of key_of a ws v c t true busy handed out.exits out.is k)),
+        (
+          told.0,
+          subst (λ (m : Me (Option C) (View C)). IsFree graph_wires edge_of key_of a m.0 m.1) (λ i. (sym told.0 i, sym left i))
+              (finish_free graph_wires edge_of key_of a ws v c t true busy handed out.exits out.is k),
+        ),
       )
 
   module _ (e : ℕ) (x : Option C) (tail : List (ℕ × Option C)) (is : c ≡ (e, x) ∷ tail) (free : IsFree graph_wires edge_of key_of a v c) where
-    law_arrive : Steps edge_of key_of a id (v, c) (count_word (n.reader e)) (λ k. (k + (2 ^ 64 - 1)) % 2 ^ 64) (λ _. Some (Arrive (worker_of v) e)) (λ k me. (me ≡ (noted v (Arrived e (k - 1)), tail)) × (0 < k))
+    law_arrive : Steps edge_of key_of a id (v, c) (count_word (n.reader e)) (λ k. (k + (2 ^ 64 - 1)) % 2 ^ 64)
+        (λ _. Some (Arrive (worker_of v) e)) (λ k me. (me ≡ (noted v (Arrived e (k - 1)), tail)) × (0 < k))
     law_arrive s h at wide =
         let word = count_word (n.reader e) in
         let k = slice_index s.words word in
         let front = subst (λ l. IsFree graph_wires edge_of key_of a v l) is free in
         let o = is_owed graph_wires edge_of key_of a v ((e, x) ∷ tail) e front (let b = bit_same e e refl in omega arith) in
-        let r = subst (λ l. Rattle.atomic_table.specs.Table.Allows (λ s. Rattle.fv_rule.specs.Whole.IsWhole graph_wires edge_of key_of a s) (edges_of g) id (v, l) word (λ k. (k + (2 ^ 64 - 1)) % 2 ^ 64) (Rattle.fv_rule.specs.Rule.Gives (Rattle.atomic_table.specs.Table.step (edges_of g) word 1 0 none) (v, l))) (sym is)
+        let r = subst (λ l. Rattle.atomic_table.specs.Table.Allows (λ s. Rattle.fv_rule.specs.Whole.IsWhole graph_wires edge_of key_of a s)
+        (edges_of g) id (v, l) word (λ k. (k + (2 ^ 64 - 1)) % 2 ^ 64)
+        (Rattle.fv_rule.specs.Rule.Gives (Rattle.atomic_table.specs.Table.step (edges_of g) word 1 0 none) (v, l))) (sym is)
         (arriving graph_wires edge_of key_of a ws v e x tail id (edges_of g) word ab o.inner o.done o.new front.full.0 refl) s h h.kept.homes_long at wide in
         let t0 : r.0 ≡ noted v (Arrived e (k - 1)) = r.4.0 ∙ ap (λ l. noted v (Arrived (Rattle.fv_rule.specs.Rule.front_edge l) (k - 1))) is in
         let t1 : carried_after c r.1 ≡ tail = r.4.1 ∙ ap (λ l. Rattle.atomic_table.specs.Table.rest l) is in
@@ -156,17 +195,22 @@ module _ {C Key : Type 0} (edge_of : C → ℕ) (key_of : C → Key) (a : About 
         let m = (k + (2 ^ 64 - 1)) % 2 ^ 64 in
         let less : m ≡ k - 1 = one_less k r.4.2 wide in
         let words' = set s.words word m in
-        let word_is : (t : ℕ) → t < n.tasks → slice_index words' (count_word t) + bit (n.reader e == t) ≡ slice_index s.words (count_word t) = λ t l. dite (ℕ_discrete (n.reader e) t)
+        let word_is : (t : ℕ) → t < n.tasks → slice_index words' (count_word t) + bit (n.reader e == t) ≡ slice_index s.words
+        (count_word t) = λ t l. dite (ℕ_discrete (n.reader e) t)
         (λ q. let b = bit_same (n.reader e) t q in let y = get_or-set_same s.words word m 0 inw in
-        let u : slice_index words' (count_word t) ≡ slice_index words' word = ap (λ j. slice_index words' (count_word j)) (sym q) in let w : slice_index s.words (count_word t) ≡ k = ap (λ j. slice_index s.words (count_word j)) (sym q) in let p = r.4.2 in omega arith)
-        (λ ne. let b = bit_apart (n.reader e) t ne in let y = get_set (λ j. j ≡ slice_index s.words (count_word t)) s.words word (count_word t) m 0 inw (λ q. absurd (ne (omega arith))) (λ _. refl) in omega arith) in (
+        let u : slice_index words' (count_word t) ≡ slice_index words' word = ap (λ j. slice_index words' (count_word j)) (sym q) in
+        let w : slice_index s.words (count_word t) ≡ k = ap (λ j. slice_index s.words (count_word j)) (sym q) in let p = r.4.2 in omega arith)
+        (λ ne. let b = bit_apart (n.reader e) t ne in
+        let y = get_set (λ j. j ≡ slice_index s.words (count_word t)) s.words word (count_word t) m 0 inw
+        (λ q. absurd (ne (omega arith))) (λ _. refl) in omega arith) in (
           r.0,
           r.1,
           r.2,
           r.3,
           (λ z sh. (
             may_arrive {C = C} {S = Option C} n ws.is_net a.workers s z sh id e (k - 1) v at o.inner o.done o.new words' word_is,
-            shown_at s (lean_after n z (Arrive (worker_of v) e)) (Arrived e (k - 1)) words' r.1 r.0 t0 (shows_arrived {C = C} {S = Option C} n ws.is_net a.workers s z sh id e (k - 1) v at o.inner o.done o.new words' word_is),
+            shown_at s (lean_after n z (Arrive (worker_of v) e)) (Arrived e (k - 1)) words' r.1 r.0 t0
+                (shows_arrived {C = C} {S = Option C} n ws.is_net a.workers s z sh id e (k - 1) v at o.inner o.done o.new words' word_is),
           )),
           ((λ i. (t0 i, t1 i)), r.4.2),
         )

@@ -47,7 +47,8 @@ module _ {S : Type 0} where
 
   pub times_rev : (e : ℕ) (xs : List (ℕ × S)) → times e (places (rev xs)) ≡ times e (places xs)
   times_rev e [] = refl
-  times_rev e (x ∷ xs) = let a = ap (times e) (places_append (rev xs) (x ∷ [])) in let b = total_append (λ y. bit (y == e)) (places (rev xs)) (x.0 ∷ []) in let r = times_rev e xs in omega arith
+  times_rev e (x ∷ xs) = let a = ap (times e) (places_append (rev xs) (x ∷ [])) in
+      let b = total_append (λ y. bit (y == e)) (places (rev xs)) (x.0 ∷ []) in let r = times_rev e xs in omega arith
 
   pub lie_append : (hs : List (Option S)) (xs ys : List (ℕ × S)) → AllLie hs xs → AllLie hs ys → AllLie hs (xs ++ ys)
   lie_append hs [] ys a b = b
@@ -65,13 +66,17 @@ module _ {S : Type 0} where
   length_all [] c hs = refl
   length_all (x ∷ xs) c hs = length_all xs ((x.0, x.1) ∷ c) (set hs x.0 none) ∙ length-set hs x.0 none
 
-  pub stays_home : (xs c : List (ℕ × S)) (hs : List (Option S)) (e : ℕ) → times e (places xs) ≡ 0 → get_elem? (homes_after hs c (take_all xs)) e ≡ get_elem? hs e
+  pub stays_home : (xs c : List (ℕ × S)) (hs : List (Option S)) (e : ℕ) → times e (places xs) ≡ 0 → get_elem?
+      (homes_after hs c (take_all xs)) e ≡ get_elem? hs e
   stays_home [] c hs e h = refl
-  stays_home (x ∷ xs) c hs e h = stays_home xs ((x.0, x.1) ∷ c) (set hs x.0 none) e (omega arith) ∙ set_else hs x.0 e none (λ q. let o = bit_same x.0 e (sym q) in omega arith)
+  stays_home (x ∷ xs) c hs e h = stays_home xs ((x.0, x.1) ∷ c) (set hs x.0 none) e (omega arith) ∙ set_else hs x.0 e none
+      (λ q. let o = bit_same x.0 e (sym q) in omega arith)
 
-  pub was_home : (xs c : List (ℕ × S)) (hs : List (Option S)) (e : ℕ) (y : S) → get_elem? (homes_after hs c (take_all xs)) e ≡ some (some y) → get_elem? hs e ≡ some (some y)
+  pub was_home : (xs c : List (ℕ × S)) (hs : List (Option S)) (e : ℕ) (y : S) → get_elem? (homes_after hs c (take_all xs)) e ≡ some
+      (some y) → get_elem? hs e ≡ some (some y)
   was_home [] c hs e y h = h
-  was_home (x ∷ xs) c hs e y h = ⊎_elim (λ p. absurd (some-ne-none y (sym p.1))) (λ p. p.1) (at_set hs x.0 e none (some y) (was_home xs ((x.0, x.1) ∷ c) (set hs x.0 none) e y h))
+  was_home (x ∷ xs) c hs e y h = ⊎_elim (λ p. absurd (some-ne-none y (sym p.1))) (λ p. p.1)
+      (at_set hs x.0 e none (some y) (was_home xs ((x.0, x.1) ∷ c) (set hs x.0 none) e y h))
 
   lie_else : (xs : List (ℕ × S)) (hs : List (Option S)) (k : ℕ) → times k (places xs) ≡ 0 → AllLie hs xs → AllLie (set hs k none) xs
   lie_else [] hs k h l = tt
@@ -102,17 +107,20 @@ module _ {S : Type 0} where
   -- no other slot changes
   pub others_stay : (c : List (ℕ × S)) (hs : List (Option S)) (e : ℕ) → times e (places c) ≡ 0 → get_elem? (homes_after hs c (give_all c)) e ≡ get_elem? hs e
   others_stay [] hs e h = refl
-  others_stay (x ∷ xs) hs e h = others_stay xs (set hs x.0 (some x.1)) e (omega arith) ∙ set_else hs x.0 e (some x.1) (λ q. let o = bit_same x.0 e (sym q) in omega arith)
+  others_stay (x ∷ xs) hs e h = others_stay xs (set hs x.0 (some x.1)) e (omega arith) ∙ set_else hs x.0 e (some x.1)
+      (λ q. let o = bit_same x.0 e (sym q) in omega arith)
 
   pub length_gives : (c : List (ℕ × S)) (hs : List (Option S)) → length (homes_after hs c (give_all c)) ≡ length hs
   length_gives [] hs = refl
   length_gives (x ∷ xs) hs = length_gives xs (set hs x.0 (some x.1)) ∙ length-set hs x.0 (some x.1)
 
   -- what lies at home then lay there, or was given back
-  pub home_then : (P : ℕ → S → Type 0) (c : List (ℕ × S)) (hs : List (Option S)) (e : ℕ) (y : S) → ((k : ℕ) (x : S) → get_elem? hs k ≡ some (some x) → P k x) → Each P c → get_elem? (homes_after hs c (give_all c)) e ≡ some (some y) → P e y
+  pub home_then : (P : ℕ → S → Type 0) (c : List (ℕ × S)) (hs : List (Option S)) (e : ℕ) (y : S) →
+      ((k : ℕ) (x : S) → get_elem? hs k ≡ some (some x) → P k x) → Each P c → get_elem? (homes_after hs c (give_all c)) e ≡ some (some y) → P e y
   home_then P [] hs e y old each is = old e y is
   home_then P (x ∷ xs) hs e y old each is = home_then P xs (set hs x.0 (some x.1)) e y
-      (λ k z h. ⊎_elim (λ (p : (k ≡ x.0) × (some x.1 ≡ some z)). subst (λ (q : ℕ × S). P q.0 q.1) (λ i. (sym p.0 i, some-injective x.1 z p.1 i)) each.0) (λ p. old k z p.1) (at_set hs x.0 k (some x.1) (some z) h))
+      (λ k z h. ⊎_elim (λ (p : (k ≡ x.0) × (some x.1 ≡ some z)). subst (λ (q : ℕ × S). P q.0 q.1)
+      (λ i. (sym p.0 i, some-injective x.1 z p.1 i)) each.0) (λ p. old k z p.1) (at_set hs x.0 k (some x.1) (some z) h))
       each.1 is
 
   -- the slots in front go back, and the others stay
@@ -129,6 +137,7 @@ module _ {S : Type 0} where
   front_valid (x ∷ xs) ys hs = (tt, front_valid xs ys (set hs x.0 (some x.1)))
 
   -- what was given back lies at home
-  pub given_at : (xs : List (ℕ × S)) (e : ℕ) (x : S) (ys : List (ℕ × S)) (hs : List (Option S)) → times e (places ys) ≡ 0 → e < length hs → get_elem? (homes_after hs (xs ++ (e, x) ∷ ys) (give_all (xs ++ (e, x) ∷ ys))) e ≡ some (some x)
+  pub given_at : (xs : List (ℕ × S)) (e : ℕ) (x : S) (ys : List (ℕ × S)) (hs : List (Option S)) → times e (places ys) ≡ 0 → e < length hs →
+      get_elem? (homes_after hs (xs ++ (e, x) ∷ ys) (give_all (xs ++ (e, x) ∷ ys))) e ≡ some (some x)
   given_at [] e x ys hs h l = others_stay ys (set hs e (some x)) e h ∙ set_here hs e (some x) l
   given_at (y ∷ xs) e x ys hs h l = given_at xs e x ys (set hs y.0 (some y.1)) h (let q = length-set hs y.0 (some y.1) in omega arith)

@@ -31,7 +31,8 @@ module _ {C Key : Type 0} (wires : Graph → Wires) (edge_of : C → ℕ) (key_o
   -- these tasks that have not arrived, and full
   pub record IsFree (a : About C) (v : View C) (c : List (ℕ × Option C)) : Type 0 where
     pub finished : (t : ℕ) → done_by (finishes t) v ≡ done_by (wins t) v
-    pub owed : (e : ℕ) → times e (places c) + done_by (arrives e) v ≡ bit ((wires a.tasks.value).net.is_inner e && ltb 0 (done_by (finishes ((wires a.tasks.value).net.source e)) v))
+    pub owed : (e : ℕ) → times e (places c) + done_by (arrives e) v ≡ bit
+        ((wires a.tasks.value).net.is_inner e && ltb 0 (done_by (finishes ((wires a.tasks.value).net.source e)) v))
     pub full : Each (λ e x. Fits wires edge_of key_of a e x) c
 
   -- the seat has task t in hand, which it took last: it has the slots of all edges of t, in order, and owes nothing of other tasks
@@ -41,7 +42,8 @@ module _ {C Key : Type 0} (wires : Graph → Wires) (edge_of : C → ℕ) (key_o
     pub finished : (u : ℕ) → done_by (finishes u) v + bit (t == u) ≡ done_by (wins u) v
     pub unfinished : done_by (finishes t) v ≡ 0
     pub started : done_by (starts t) v ≡ bit begun
-    pub arrived : (e : ℕ) → done_by (arrives e) v ≡ bit ((wires a.tasks.value).net.is_inner e && ltb 0 (done_by (finishes ((wires a.tasks.value).net.source e)) v))
+    pub arrived : (e : ℕ) → done_by (arrives e) v ≡ bit ((wires a.tasks.value).net.is_inner e && ltb 0
+        (done_by (finishes ((wires a.tasks.value).net.source e)) v))
     pub at : places c ≡ (wires a.tasks.value).inward t ++ (wires a.tasks.value).outward t
     pub may : Each (λ e x. MayHold a e x) c
 

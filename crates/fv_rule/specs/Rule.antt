@@ -16,64 +16,76 @@ use Rattle.fv_rule.specs.declared.View.{View}
 abbrev pub count_word : ℕ → ℕ
 count_word t = 1 + t
 
+-- where the claim of a task stands
 abbrev pub claim_word : ℕ → ℕ → ℕ
 claim_word tasks t = 1 + tasks + t
 
+-- 1 where the deed is a claim that took task t
 abbrev pub wins : ℕ → Deed → ℕ
 wins t (Stamped k u b) = 0
 wins t (Arrived e c) = 0
 wins t (Saw u c) = 0
 wins t (Claimed u b) = bit (b && (u == t))
 
+-- 1 where the deed is a claim of task t that came too late
 abbrev pub loses : ℕ → Deed → ℕ
 loses t (Stamped k u b) = 0
 loses t (Arrived e c) = 0
 loses t (Saw u c) = 0
 loses t (Claimed u b) = bit (not b && (u == t))
 
+-- 1 where the deed is a look at the count of task t that found 0
 abbrev pub sees : ℕ → Deed → ℕ
 sees t (Stamped k u b) = 0
 sees t (Arrived e c) = 0
 sees t (Saw u c) = bit ((c == 0) && (u == t))
 sees t (Claimed u b) = 0
 
+-- 1 where the deed is the arrival at edge e
 abbrev pub arrives : ℕ → Deed → ℕ
 arrives e (Stamped k u b) = 0
 arrives e (Arrived d c) = bit (d == e)
 arrives e (Saw u c) = 0
 arrives e (Claimed u b) = 0
 
+-- 1 where the deed drew the stamp n
 abbrev pub stamps : ℕ → Deed → ℕ
 stamps n (Stamped k u b) = bit (k == n)
 stamps n (Arrived d c) = 0
 stamps n (Saw u c) = 0
 stamps n (Claimed u b) = 0
 
+-- 1 where the deed is the stamp of the start of task t
 abbrev pub starts : ℕ → Deed → ℕ
 starts t (Stamped k u b) = bit (b && (u == t))
 starts t (Arrived d c) = 0
 starts t (Saw u c) = 0
 starts t (Claimed u b) = 0
 
+-- 1 where the deed is the stamp of the finish of task t
 abbrev pub finishes : ℕ → Deed → ℕ
 finishes t (Stamped k u b) = bit (not b && (u == t))
 finishes t (Arrived d c) = 0
 finishes t (Saw u c) = 0
 finishes t (Claimed u b) = 0
 
--- how often it stands in a seat's list, and in those of all seats
+-- how often it stands in a seat's list
 abbrev pub done_by : {C : Type 0} → (Deed → ℕ) → View C → ℕ
 done_by f v = total f v.deeds
 
+-- how often it stands in the lists of all seats, taken together
 abbrev pub all : {C : Type 0} → (Deed → ℕ) → List (View C) → ℕ
 all f views = total (done_by f) views
 
+-- a view after one deed more
 abbrev pub noted : {C : Type 0} → View C → Deed → View C
 noted v d = record v { deeds = v.deeds ++ d ∷ [] }
 
+-- two views as one: the numbers and the deeds of both
 abbrev pub together : {C : Type 0} → View C → View C → View C
 together v w = record { board = v.board; numbers = v.numbers ++ w.numbers; deeds = v.deeds ++ w.deeds }
 
+-- the view of a seat that was joined to another: it knows no board, has no number and did nothing
 abbrev pub IsSpent : {C : Type 0} → View C → Type 0
 IsSpent v = (v.board ≡ None) × (v.deeds ≡ []) × (v.numbers ≡ [])
 
@@ -89,6 +101,7 @@ abbrev pub places : {S : Type 0} → List (ℕ × S) → List ℕ
 places [] = []
 places (x ∷ xs) = x.0 ∷ places xs
 
+-- a fact of each slot of a list, by its edge and what it holds
 abbrev pub Each : {S : Type 0} → (ℕ → S → Type 0) → List (ℕ × S) → Type 0
 Each P [] = Unit {0}
 Each P (x ∷ xs) = P x.0 x.1 × Each P xs
@@ -101,6 +114,7 @@ last_from o (Arrived e c ∷ ds) = last_from o ds
 last_from o (Saw u c ∷ ds) = last_from o ds
 last_from o (Claimed u b ∷ ds) = last_from (cond b (Some u) o) ds
 
+-- the task that a list of deeds won last
 abbrev pub last_won : List Deed → Option ℕ
 last_won ds = last_from None ds
 
@@ -134,6 +148,7 @@ module _ {C Key : Type 0} (wires : Graph → Wires) (edge_of : C → ℕ) (key_o
   abbrev pub Fits : About C → ℕ → Option C → Type 0
   Fits a e x = (p : C) × (x ≡ Some p) × (edge_of p ≡ e) × (key_of p ≡ key_of a.sample.value)
 
+  -- what words, slots and views keep, but for the numbers, the order of stamps and what is shown
   pub record IsKept (a : About C) (s : State (Option C) (View C)) : Type 0 where
     pub words_long : length s.words ≡ 1 + (wires a.tasks.value).net.tasks + (wires a.tasks.value).net.tasks
     pub homes_long : length s.homes ≡ (wires a.tasks.value).edges
@@ -145,10 +160,12 @@ module _ {C Key : Type 0} (wires : Graph → Wires) (edge_of : C → ℕ) (key_o
     -- claims
     pub won_once : (t : ℕ) → all (wins t) s.views < 2
     pub claimed : (t : ℕ) → t < (wires a.tasks.value).net.tasks → slice_index s.words (claim_word (wires a.tasks.value).net.tasks t) ≡ all (wins t) s.views
-    pub lost : (t : ℕ) → t < (wires a.tasks.value).net.tasks → 0 < all (loses t) s.views → slice_index s.words (claim_word (wires a.tasks.value).net.tasks t) ≡ 1
+    pub lost : (t : ℕ) → t < (wires a.tasks.value).net.tasks → 0 < all (loses t) s.views → slice_index s.words
+        (claim_word (wires a.tasks.value).net.tasks t) ≡ 1
     -- counts
     pub counted : (t : ℕ) → t < (wires a.tasks.value).net.tasks
-        → slice_index s.words (count_word t) + total (λ e. all (arrives e) s.views) ((wires a.tasks.value).net.needs t) ≡ length ((wires a.tasks.value).net.needs t)
+        → slice_index s.words (count_word t) + total (λ e. all (arrives e) s.views) ((wires a.tasks.value).net.needs t) ≡ length
+        ((wires a.tasks.value).net.needs t)
     pub arrived_once : (e : ℕ) → all (arrives e) s.views < 2
     pub seen : (t : ℕ) → t < (wires a.tasks.value).net.tasks → 0 < all (sees t) s.views → slice_index s.words (count_word t) ≡ 0
     -- slots
@@ -163,7 +180,8 @@ module _ {C Key : Type 0} (wires : Graph → Wires) (edge_of : C → ℕ) (key_o
 
   -- the slots that a seat took, in the order of the edges, the inward ones full and the outward ones empty
   abbrev pub Took : About C → List ℕ → List ℕ → List (ℕ × Option C) → List (ℕ × Option C) → Type 0
-  Took a es fs before now = (ins outs : List (ℕ × Option C)) × (now ≡ ins ++ (outs ++ before)) × (places ins ≡ es) × (places outs ≡ fs) × Each (λ e x. Fits a e x) ins × Each (λ e x. x ≡ None) outs
+  Took a es fs before now = (ins outs : List (ℕ × Option C)) × (now ≡ ins ++ (outs ++ before)) × (places ins ≡ es) × (places outs ≡ fs) ×
+      Each (λ e x. Fits a e x) ins × Each (λ e x. x ≡ None) outs
 
   -- what a swap of a claim word tells. The word's index names the task
   abbrev pub Claims : Step (Option C) → Me (Option C) (View C) → ℕ → Me (Option C) (View C) → Type 0

@@ -11,6 +11,7 @@ use Rattle.fv_core.specs.declared.event.Event.{Event}
 use Rattle.fv_rule.specs.declared.View.{View}
 use Rattle.fv_rule.specs.Rule.{count_word, wins, arrives, finishes, done_by, all}
 
+-- the worker that a seat stands for: its first number
 abbrev pub worker_of : {C : Type 0} → View C → ℕ
 worker_of v = get_or v.numbers 0 0
 
@@ -29,6 +30,7 @@ pub record IsIdle (z : Now) (k : ℕ) : Type 0 where
   pub owes : owes_of z k ≡ []
 
 module _ {C S : Type 0} (n : Net) (workers : ℕ) where
+  -- the words and the lists of all seats are those of this state of the lean core
   pub record Shows (s : State S (View C)) (z : Now) : Type 0 where
     pub long : (length z.counts ≡ n.tasks) × (length z.done ≡ n.tasks) × (length z.owes ≡ length z.runs)
     pub counts : (t : ℕ) → t < n.tasks → count_of z t ≡ slice_index s.words (count_word t)
@@ -45,4 +47,5 @@ module _ {C S : Type 0} (n : Net) (workers : ℕ) where
 
 -- what a claim asks: each task that the seat took is finished, and each inner edge out of it has arrived
 abbrev pub OwesNothing : {C : Type 0} → Net → View C → Type 0
-OwesNothing n v = ((t : ℕ) → done_by (finishes t) v ≡ done_by (wins t) v) × ((e : ℕ) → done_by (arrives e) v ≡ bit (n.is_inner e && ltb 0 (done_by (finishes (n.source e)) v)))
+OwesNothing n v = ((t : ℕ) → done_by (finishes t) v ≡ done_by (wins t) v) ×
+    ((e : ℕ) → done_by (arrives e) v ≡ bit (n.is_inner e && ltb 0 (done_by (finishes (n.source e)) v)))

@@ -38,7 +38,8 @@ module _ {C Key : Type 0} (edge_of : C → ℕ) (key_of : C → Key) where
   abbrev pub Steps : About C → ℕ → Me (Option C) (View C) → ℕ → (ℕ → ℕ) → (ℕ → Option Event) → (ℕ → Me (Option C) (View C) → Type 0) → Type 0
   Steps a id me i f event then = (s : State (Option C) (View C)) → Meets a s → get_elem? s.views id ≡ some me.0 → slice_index s.words i < 2 ^ 64
       → (w : View C) × (act : Act (Option C)) × Valid s.homes me.1 act × Meets a (stepped s i (f (slice_index s.words i)) id me.1 w act)
-      × Changes a s (stepped s i (f (slice_index s.words i)) id me.1 w act) (event (slice_index s.words i)) × then (slice_index s.words i) (w, carried_after me.1 act)
+      × Changes a s (stepped s i (f (slice_index s.words i)) id me.1 w act) (event (slice_index s.words i)) × then (slice_index s.words i)
+      (w, carried_after me.1 act)
 
   -- of the tasks of a board, and of a seat that knows the board
   pub record StepLaw (a : About C) (id : ℕ) (v : View C) (c : List (ℕ × Option C)) : Type 0 where
@@ -52,10 +53,12 @@ module _ {C Key : Type 0} (edge_of : C → ℕ) (key_of : C → Key) where
     pub start : (t : ℕ) → IsBusy graph_wires edge_of key_of a t false v c
         → Steps a id (v, c) 0 (λ k. (k + 1) % 2 ^ 64) (λ _. None) (λ k me. me ≡ (noted v (Stamped k t true), c))
     pub finish : (t : ℕ) → IsBusy graph_wires edge_of key_of a t true v c → AreHanded graph_wires edge_of key_of a t c
-        → Steps a id (v, c) 0 (λ k. (k + 1) % 2 ^ 64) (λ _. Some (Finish (worker_of v) t)) (λ k me. (me.0 ≡ noted v (Stamped k t false)) × IsFree graph_wires edge_of key_of a me.0 me.1)
+        → Steps a id (v, c) 0 (λ k. (k + 1) % 2 ^ 64) (λ _. Some (Finish (worker_of v) t))
+        (λ k me. (me.0 ≡ noted v (Stamped k t false)) × IsFree graph_wires edge_of key_of a me.0 me.1)
     -- an arrival at an edge that the seat owes
     pub arrive : (e : ℕ) (x : Option C) (rest : List (ℕ × Option C)) → c ≡ (e, x) ∷ rest → IsFree graph_wires edge_of key_of a v c
-        → Steps a id (v, c) (count_word ((net_of a.tasks.value.tasks).reader e)) (λ k. (k + (2 ^ 64 - 1)) % 2 ^ 64) (λ _. Some (Arrive (worker_of v) e)) (λ k me. (me ≡ (noted v (Arrived e (k - 1)), rest)) × (0 < k))
+        → Steps a id (v, c) (count_word ((net_of a.tasks.value.tasks).reader e)) (λ k. (k + (2 ^ 64 - 1)) % 2 ^ 64)
+        (λ _. Some (Arrive (worker_of v) e)) (λ k me. (me ≡ (noted v (Arrived e (k - 1)), rest)) × (0 < k))
     -- an exchange of a slot that the seat has, by which a parcel is handed or received: it changes nothing that the rule sees
     pub exchange : (t e : ℕ) (started : Bool) (y : Option C) → IsBusy graph_wires edge_of key_of a t started v c
         → MayHold graph_wires edge_of key_of a e y → IsBusy graph_wires edge_of key_of a t started v (with_slot c e y)
@@ -63,4 +66,5 @@ module _ {C Key : Type 0} (edge_of : C → ℕ) (key_of : C → Key) where
   -- a board that meets its rule, in which no seat is spent and no seat has done anything, shows the lean core's opening state
   abbrev pub OpeningLaw : Type 0
   OpeningLaw = (a : About C) (s : State (Option C) (View C)) → Meets a s
-      → ((id : ℕ) (v : View C) → get_elem? s.views id ≡ some v → (v.board ≡ Some a) × (v.deeds ≡ [])) → ShowsNow a s (opening (net_of a.tasks.value.tasks) a.workers)
+      → ((id : ℕ) (v : View C) → get_elem? s.views id ≡ some v → (v.board ≡ Some a) × (v.deeds ≡ [])) → ShowsNow a s
+      (opening (net_of a.tasks.value.tasks) a.workers)

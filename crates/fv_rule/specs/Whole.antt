@@ -23,12 +23,14 @@ zeroes n t (Arrived e c) = bit ((c == 0) && (n.reader e == t))
 zeroes n t (Saw u c) = 0
 zeroes n t (Claimed u b) = 0
 
+-- 1 where the deed is the start of task t with the stamp k
 abbrev pub starts_at : ℕ → ℕ → Deed → ℕ
 starts_at k t (Stamped l u b) = bit (b && (u == t) && (l == k))
 starts_at k t (Arrived e c) = 0
 starts_at k t (Saw u c) = 0
 starts_at k t (Claimed u b) = 0
 
+-- 1 where the deed is the finish of task t with the stamp k
 abbrev pub finishes_at : ℕ → ℕ → Deed → ℕ
 finishes_at k t (Stamped l u b) = bit (not b && (u == t) && (l == k))
 finishes_at k t (Arrived e c) = 0
@@ -39,6 +41,7 @@ finishes_at k t (Claimed u b) = 0
 abbrev pub first_words : Net → List ℕ
 first_words n = 0 ∷ (map (need_count n) (numbers n.tasks) ++ replicate n.tasks 0)
 
+-- the view of the first seat, which has all numbers
 abbrev pub first_view : {C : Type 0} → About C → View C
 first_view a = record { board = Some a; numbers = numbers a.workers; deeds = [] }
 
@@ -47,17 +50,21 @@ abbrev pub first_number : List ℕ → List ℕ
 first_number [] = []
 first_number (k ∷ ks) = k ∷ []
 
+-- the numbers behind the first
 abbrev pub other_numbers : List ℕ → List ℕ
 other_numbers [] = []
 other_numbers (k ∷ ks) = ks
 
+-- the seat that stays has the first number and the deeds
 abbrev pub left_part : {C : Type 0} → View C → View C
 left_part v = record v { numbers = first_number v.numbers }
 
+-- the new seat has the other numbers, and no deed
 abbrev pub right_part : {C : Type 0} → View C → View C
 right_part v = record { board = v.board; numbers = other_numbers v.numbers; deeds = [] }
 
 module _ {C Key : Type 0} (wires : Graph → Wires) (edge_of : C → ℕ) (key_of : C → Key) where
+  -- the whole rule
   pub record IsWhole (a : About C) (s : State (Option C) (View C)) : Type 0 where
     pub kept : IsKept wires edge_of key_of a s
     -- seats: each number below the number of workers is had once, and each seat that is not spent has one
@@ -74,4 +81,5 @@ module _ {C Key : Type 0} (wires : Graph → Wires) (edge_of : C → ℕ) (key_o
     pub after_reads : (k t e : ℕ) → t < (wires a.tasks.value).net.tasks → 0 < all (starts_at k t) s.views
         → 0 < times e ((wires a.tasks.value).net.needs t) → (m : ℕ) × (m < k) × (0 < all (finishes_at m ((wires a.tasks.value).net.source e)) s.views)
     -- what is shown, while no seat is spent
-    pub reached : ((id : ℕ) (v : View C) → get_elem? s.views id ≡ some v → v.board ≡ Some a) → Reached {C = C} {S = Option C} (wires a.tasks.value).net a.workers s
+    pub reached : ((id : ℕ) (v : View C) → get_elem? s.views id ≡ some v → v.board ≡ Some a) → Reached {C = C} {S = Option C}
+        (wires a.tasks.value).net a.workers s

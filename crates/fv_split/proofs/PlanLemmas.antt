@@ -308,3 +308,8 @@ module _ (g : Graph) (p : Places) (stands : Vec ℕ Global) (bases kinds : Vec K
 
     pub is_plan : IsPlanOf g plan
     is_plan = record { stands = plan_stands; reads = plan_reads; names = plan_names }
+
+-- a plan with equal code for the held values
+pub with_held : {g : Graph} {loops : ℕ} {infos : List LaneInfo} {all : List (List Step)} {told : List Reads} {outputs : List ℕ} {steps held : List Step} →
+    held ≡ steps → IsPlanOf g (plan_with loops infos all told outputs steps) → IsPlanOf g (plan_with loops infos all told outputs held)
+with_held {g} {loops} {infos} {all} {told} {outputs} e p = subst (λ ss. IsPlanOf g (plan_with loops infos all told outputs ss)) (sym e) p

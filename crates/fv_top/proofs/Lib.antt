@@ -12,6 +12,7 @@ pub mod Reaching
 pub mod Preparing
 pub mod Checking
 pub mod Making
+pub mod Ran
 pub mod Stopping
 pub mod Completing
 pub mod Parts

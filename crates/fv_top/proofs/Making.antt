@@ -21,9 +21,10 @@ use Rattle.fv_top.specs.Steps.{Ends, fault, judged, want_of_memory, writes, here
 use Rattle.fv_top.specs.Promise.{make_rules, make_steps}
 use Rattle.fv_top.specs.Running.{Makes, StopsMake, HasSum, IsNotMade}
 
--- the line, piece by piece
-pub made_pieces : (v f : ℕ) (s : ℤ) → SFits w32 s → {p1 p2 p3 p4 p5 p6 p7 : List ℕ} → p1 ≡ codes "made " → p2 ≡ decimal v → p3 ≡ codes " voices, " → p4 ≡ decimal f → p5 ≡ codes " frames, sum " → p6 ≡ signed_decimal (to_z w32 (of_z w32 s))
-    → p7 ≡ codes "\n" → p1 ++ (p2 ++ (p3 ++ (p4 ++ (p5 ++ (p6 ++ (p7 ++ [])))))) ≡ made_line v f s
+-- the line, piece by piece; the sum comes back from its 32 bits
+pub made_pieces : (v f : ℕ) (s : ℤ) → SFits w32 s → {p1 p2 p3 p4 p5 p6 p7 : List ℕ} → p1 ≡ codes "made " → p2 ≡ decimal v → p3 ≡ codes " voices, " → p4 ≡ decimal f
+    → p5 ≡ codes " frames, sum " → p6 ≡ signed_decimal (to_z w32 (of_z w32 s)) → p7 ≡ codes "\n"
+    → p1 ++ (p2 ++ (p3 ++ (p4 ++ (p5 ++ (p6 ++ (p7 ++ [])))))) ≡ made_line v f s
 made_pieces v f s fits e1 e2 e3 e4 e5 e6 e7 =
     let e : _ ≡ signed_decimal s = e6 ∙ ap signed_decimal (to_z-of_z fits) in
     rw (e1, e2, e3, e4, e5, e, e7) (simp (append_assoc, append-nil))

@@ -1,23 +1,27 @@
 -- What is read before anything is written, one file after another, and why that stops.
-use Rattle.std.proofs.Common.{◌≡◌, ℕ, List, [], ◌∷◌, ◌++◌, sym, ◌∙◌, ap, subst, refl}
+use Rattle.std.proofs.Common.{◌≡◌, ℕ, List, [], ◌∷◌, ◌++◌, length, sym, ◌∙◌, ap, subst, refl}
 use Rattle.std.specs.Prelude.{IsTrue, IsSome, Some, Option, Ok, Err, Result}
 use Rattle.std.specs.Option.{ForSome}
 use Rattle.fv_base.specs.declared.role.Role.TheVariants.{Program, Controls, Input}
 use Rattle.fv_outside.specs.Requests.{Request, to_read}
+use Rattle.fv_outside.specs.Journal.{Told}
 use Rattle.fv_outside.specs.Desk.{DeskState, File, KeepsFaults, TakesSome}
 use Rattle.fv_outside.proofs.States.{told_before}
 use Rattle.fv_control.specs.declared.script.Change.{Change}
+use Rattle.fv_render.specs.Render.{RanWhole}
 use Rattle.fv_words.specs.Runs.{Run}
+use Rattle.fv_words.specs.Commands.{Playing}
 use Rattle.fv_wav.specs.declared.head.Head.{Head}
 use Rattle.fv_top.specs.declared.refusal.Refusal.{Refusal}
 use Rattle.fv_top.specs.declared.refusal.Refusal.TheVariants.{ReadFault, NoMemory}
 use Rattle.fv_top.specs.Program.{IsProgram}
-use Rattle.fv_top.specs.Sources.{Compiled}
+use Rattle.fv_top.specs.Sources.{Compiled, frames_of}
 use Rattle.fv_top.specs.Sound.{Sound, sound_of}
 use Rattle.fv_top.specs.Loading.{ReadsFile, StopsLoading, StopsSamples, IsFile, HasScript, HasInput, HasHead, IsPlaced, wanted, reading}
 use Rattle.fv_top.specs.Steps.{Ends, Halts, here, later, judged, want_of_memory}
 use Rattle.fv_top.specs.Promise.{ReadProgram, ReadScript, ReadHead, Fit, ReadSamples, HasProgram, HasNoProgram, HasRefusal, Plays, Step, run_rules}
 use Rattle.fv_top.specs.Running.{Reaches, CountsFaultOf, StopsBefore, Ready, IsReady, asked_before}
+use Rattle.fv_top.specs.Played.{sizes_of, AllRan}
 use Rattle.fv_top.specs.Prepared.{made_of}
 use Rattle.fv_top.proofs.Heads.{wanted_is}
 use Rattle.fv_top.proofs.Rendering.{made_is, placed_in}
@@ -193,3 +197,22 @@ module _ (run : Run) (p : Compiled) (changes : List Change) (head : Option Head)
       (got (told_before w.reaches.quiet.goes_on t) ∙ wanted_is head h.source (b.left Input) h.is h.behind)
       (made ∙ ap (λ (k : Option Head). made_of p changes k sound raw) (sym h.is)) in
       (q, x.0, x.1, x.2)
+
+  -- the blocks that ran are those of the frames that were read
+  pub ran_is : (sound : Sound) → sound_of run.settings p.diagram head ≡ Ok sound → (raw : List ℕ) → (IsTrue b.tells → raw ≡ wanted head (b.left Input)) →
+      (blocks loops runs : ℕ) (before after : Option Told) → RanWhole p.diagram p.controls changes (sizes_of run.settings (length (frames_of sound.frames head raw))) blocks loops runs before after →
+      (x : AllRan (Playing run) a blocks loops runs before after) × (x.played.sizes.frames ≡ length (frames_of sound.frames head raw))
+  ran_is sound is raw got blocks loops runs before after ran = (
+    record {
+      played = record { program = p; changes = changes; sizes = sizes_of run.settings (length (frames_of sound.frames head raw)) };
+      is = (
+        refl,
+        λ t.
+            let h = w.on t in
+            let bytes = got (told_before w.reaches.quiet.goes_on t) ∙ wanted_is head h.source (b.left Input) h.is h.behind in
+            (plays sound is t, refl, refl, ap length (ap (frames_of sound.frames h.source.head) (sym bytes) ∙ ap (λ (k : Option Head). frames_of sound.frames k raw) h.is)),
+      );
+      ran = ran;
+    },
+    refl,
+  )

@@ -14,8 +14,6 @@ use Rattle.fv_base.specs.declared.role.Role.TheVariants.{Output}
 use Rattle.fv_outside.specs.Desk.{DeskState, File}
 use Rattle.fv_diagram.specs.Diagram.{Diagram, inputs, outputs}
 use Rattle.fv_diagram.specs.Streams.{run}
-use Rattle.std.specs.List.{AllByRecursion}
-use Rattle.fv_diagram.specs.declared.control.ControlInfo.{ControlInfo}
 use Rattle.fv_control.specs.declared.script.Change.{Change}
 use Rattle.fv_control.specs.Streams.{control_streams}
 use Rattle.fv_play.specs.Play.{rows, joined, no_slots, answer_on}
@@ -83,13 +81,6 @@ pub answer_is : (d : Diagram) (changes : List Change) (xs ys : List ℤ) (m n : 
 answer_is d changes xs ys m n samples got X e f g h =
     ap (λ (zs : List ℤ). answer_on d (control_streams changes zs) n got) e ∙ ap (λ (zs : List ℤ). answer_on d (control_streams changes ys) n zs) f
     ∙ ap (λ (k : ℕ). joined (run d (control_streams changes ys) no_slots (rows k n samples))) (sym g) ∙ ap (λ (Y : List Frame). joined (run d (control_streams changes ys) no_slots Y)) h
-
--- changes of controls are changes of the numbers that they begin with
-pub many_named : (changes : List Change) (cs : List ControlInfo) (xs : List ℤ) → xs ≡ initial_of cs →
-    AllByRecursion (λ c. c.control < length cs) changes → AllByRecursion (λ c. c.control < length xs) changes
-many_named changes cs xs e named =
-    let many : length xs ≡ length cs = ap length e ∙ length-map cs (λ c. c.init) in
-    subst (λ (n : ℕ). AllByRecursion (λ c. c.control < n) changes) (sym many) named
 
 -- ---- where an input is cut short
 

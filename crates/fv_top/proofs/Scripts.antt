@@ -1,7 +1,6 @@
 -- A script of which no more than one byte past its limit was read.
 use Rattle.std.proofs.Common.{◌≡◌, ◌⊎◌, ℕ, ◌≤◌, ◌<◌, List, [], ◌∷◌, length, take, ◌∙◌, ap, arith, refl, inl, inr, ⊎_elim}
 use Rattle.std.specs.Prelude.{Result, Ok, Some, None}
-use Rattle.std.specs.List.{AllByRecursion}
 use Rattle.std.proofs.lemmas.Bool.{cases_lt, lt-leb}
 use Rattle.std.proofs.lemmas.List.{take_all, length-take}
 use Rattle.fv_outside.specs.Desk.{File, file_named}
@@ -10,7 +9,6 @@ use Rattle.fv_control.specs.declared.script.Change.{Change}
 use Rattle.fv_control.specs.declared.refusal.ScriptRefusal.{ScriptRefusal}
 use Rattle.fv_control.specs.declared.refusal.ScriptRefusal.TheVariants as lines
 use Rattle.fv_control.specs.Script.{script, line_says, IsOfScript}
-use Rattle.fv_control.specs.Laws.{IsOfControls}
 use Rattle.fv_top.specs.declared.refusal.Refusal.{Refusal}
 use Rattle.fv_top.specs.declared.refusal.Refusal.TheVariants.{NoMemory}
 use Rattle.fv_top.specs.Sources.{of_script, scripted}
@@ -57,8 +55,3 @@ script_refused (lines.ControlUnknown line) r Q is q = rw is (inr (refl, q tt))
 script_refused (lines.ControlRange line) r Q is q = rw is (inr (refl, q tt))
 script_refused (lines.ControlOrder line) r Q is q = rw is (inr (refl, q tt))
 script_refused lines.NoMemory r Q is q = inl is
-
--- changes of controls that are there
-pub named_all : (controls : List ControlInfo) (cs : List Change) → AllByRecursion (IsOfControls controls) cs → AllByRecursion (λ c. c.control < length controls) cs
-named_all controls [] h = tt
-named_all controls (c ∷ cs) h = (h.0.there, named_all controls cs h.1)

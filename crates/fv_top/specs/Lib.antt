@@ -10,6 +10,7 @@ pub mod Program
 pub mod Steps
 pub mod Loading
 pub mod Promise
+pub mod Played
 pub mod Running
 pub mod Prepared
 pub mod Examples

@@ -1,7 +1,8 @@
 -- What the code's programs are, and that they can be played.
-use Rattle.std.specs.Prelude.{◌≤◌, ◌<◌, ◌^◌, length, Result, Ok, Err}
+use Rattle.std.specs.Prelude.{◌≤◌, ◌<◌, ◌^◌, All, length, Result, Ok, Err}
 use Rattle.fv_diagram.specs.Arena.{count_of, tree_of}
-use Rattle.fv_diagram.specs.Diagram.{outputs, control_bound, HasNoFreeSlot, IsWellFormed}
+use Rattle.fv_diagram.specs.Diagram.{inputs, outputs, control_bound, HasNoFreeSlot, IsWellFormed}
+use Rattle.fv_rules.specs.Sound.{IsBounded}
 use Rattle.fv_eval.specs.Evaluated.{Evaluated}
 use Rattle.fv_top.specs.Sources.{Compiled}
 use Rattle.fv_top.specs.Sound.{Sound}
@@ -12,7 +13,7 @@ use Rattle.fv_top.specs.declared.refusal.Refusal.{Refusal}
 abbrev pub compiled_of : Evaluated → Compiled
 compiled_of p = record { diagram = tree_of p.diagrams p.root; controls = p.controls }
 
--- a runner may be made of it, and its channels can be written
+-- it can be played, and its channels are those of files
 pub record CanPlay (p : Evaluated) : Type 0 where
   pub root : p.root < count_of p.diagrams
   pub well : IsWellFormed (tree_of p.diagrams p.root)
@@ -21,6 +22,8 @@ pub record CanPlay (p : Evaluated) : Type 0 where
   pub controls : length (compiled_of p).controls < 2 ^ 32
   pub some : 1 ≤ outputs (tree_of p.diagrams p.root)
   pub few : outputs (tree_of p.diagrams p.root) ≤ 256
+  pub narrow : inputs (tree_of p.diagrams p.root) ≤ 256
+  pub bounded : All IsBounded p.controls
 
 -- what the code's sounds are
 abbrev pub sound_in : Made → Sound

@@ -13,6 +13,11 @@ use Rattle.fv_top.specs.declared.prepare.Prepared.{Prepared}
 use Rattle.fv_top.specs.Sources.{Compiled, initial_of, frames_of}
 use Rattle.fv_top.specs.Sound.{Sound}
 use Rattle.fv_top.specs.Playable.{sound_in}
+use Rattle.fv_outside.specs.Journal.{Told}
+use Rattle.fv_outside.specs.Desk.{DeskState}
+use Rattle.fv_words.specs.Runs.{Run}
+use Rattle.fv_words.specs.Commands.{Playing}
+use Rattle.fv_top.specs.Played.{AllRan}
 use Rattle.fv_top.specs.Running.{Ready}
 
 -- what it is
@@ -40,3 +45,8 @@ made_of p changes head sound raw = record {
   samples = joined (run p.diagram (control_streams changes (initial_of p.controls)) no_slots (frames_of sound.frames head raw));
   cut = option_map WaveTruncated (cut_at head sound.frames raw);
 }
+
+-- the blocks of a run that is ready to be written, which are those of all its frames where none is missing
+abbrev pub IsRan : Run → DeskState → Prepared → (before after : Option Told) → Type 0
+IsRan run old p before after =
+    (x : AllRan (Playing run) old p.ran.blocks p.ran.loops p.ran.loop_runs before after) × (p.cut ≡ None → x.played.sizes.frames ≡ p.sound.frames)

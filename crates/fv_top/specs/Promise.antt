@@ -210,7 +210,12 @@ check_rules name old = record {
 
 -- ---- the steps of a make
 
--- the program of so many voices, which takes one stream
+-- this is the program of so many voices, which takes one stream
+pub record IsMade (voices : ℕ) (p : Compiled) : Type 0 where
+  pub program : IsProgram (text_of voices) p
+  pub mono : mono p ≡ Ok p
+
+-- there is one
 pub record HasMade (voices : ℕ) : Type 0 where
   pub compiled : Compiled
   pub program : IsProgram (text_of voices) compiled

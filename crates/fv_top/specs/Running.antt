@@ -1,5 +1,5 @@
 -- How the parts of a run end.
-use Rattle.std.specs.Prelude.{◌≡◌, ◌≢◌, ◌⊎◌, ℕ, ◌≤◌, IsTrue, List, [], ◌∷◌, ◌++◌, length, Option, Some, None, Ok, Err, ℤ}
+use Rattle.std.specs.Prelude.{◌≡◌, ◌≢◌, ◌⊎◌, ℕ, ◌≤◌, IsTrue, List, [], ◌∷◌, ◌++◌, length, Option, Some, None, Err, ℤ}
 use Rattle.fv_base.specs.declared.role.Role.{Role}
 use Rattle.fv_base.specs.declared.role.Role.TheVariants.{Program, Controls, Input, Output, Report}
 use Rattle.fv_base.specs.Lists.{IsPrefixOf}
@@ -125,11 +125,6 @@ pub record StopsMake (voices frames : ℕ) (old new : DeskState) (refusal : Refu
   pub appended : IsTrue old.tells → new.written Report ≡ old.written Report ++ begun
   pub is_begun : (begun ≡ []) ⊎ ((refusal ≡ WriteFault Report) × (IsTrue old.tells → (p : HasMade voices) × IsPrefixOf begun (make_meant p.compiled voices frames).line))
   pub faults : CountsFaultOf refusal old new
-
--- this is the program of so many voices
-pub record IsMade (voices : ℕ) (p : Compiled) : Type 0 where
-  pub program : IsProgram (text_of voices) p
-  pub mono : mono p ≡ Ok p
 
 -- why there is none: its text is refused, or it takes more or fewer streams than one, or memory ran out
 abbrev pub IsNotMade : (voices : ℕ) → Refusal → Type 0

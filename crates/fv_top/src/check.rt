@@ -18,7 +18,14 @@ pub fn check<D: Desk>(alloc: Global, desk: &mut D, name: &str) -> Result<(), Ref
     let arity = program.diagrams.arity(program.root);
     let size = program.diagrams.size(program.root);
     let controls = program.controls.as_slice().len() as u64;
-    match report_numbers(desk, arity.inputs, arity.outputs, controls, size, delays) {
+    match report_numbers(
+        desk,
+        arity.inputs,
+        arity.outputs,
+        controls,
+        size,
+        delays.sum(),
+    ) {
         Ok(()) => Ok(()),
         Err(_) => Err(Refusal::WriteFault { role: Role::Report }),
     }

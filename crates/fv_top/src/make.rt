@@ -1,59 +1,98 @@
 // A program that is made, and played on its noise.
 
-ghost use Rattle.std.specs.Prelude.{◌≡◌, ◌≤◌, Ok, Err, IfOk, IfErr, OnOk};
+ghost use Rattle.std.specs.Prelude.{◌≡◌, ◌⊎◌, ◌≤◌, [], Ok, Err, IfOk, IfErr, OnOk, OnErr};
+ghost use Rattle.fv_interval.specs.Delays.{AreAccepted};
 ghost use Rattle.fv_diagram.specs.Diagram.{inputs};
+ghost use Rattle.fv_render.specs.Render.{RanWhole};
 ghost use Rattle.fv_words.specs.Commands.{most_voices};
+ghost use Rattle.fv_top.specs.Played.{make_sizes, MakeRan, MakeSoFar};
 ghost use Rattle.fv_top.specs.Meant.{made_sum};
 ghost use Rattle.fv_top.specs.Playable.{compiled_of, CanPlay};
-ghost use Rattle.fv_top.specs.Promise.{HasRefusal, Fit};
-ghost use Rattle.fv_top.specs.Running.{Makes, StopsMake, HasSum, IsMade, IsNotMade};
+ghost use Rattle.fv_top.specs.Program.{delays_in};
+ghost use Rattle.fv_top.specs.Promise.{HasRefusal, Fit, IsMade};
+ghost use Rattle.fv_top.specs.Running.{Makes, StopsMake, HasSum, IsNotMade};
 ghost use Rattle.fv_top.specs.Sound.{mono};
 
 use crate::refusal::Refusal;
 use crate::report::report_made;
-use crate::sound::initial_of;
+use crate::status::Ran;
 use crate::text::read_program;
 use fv_eval::Program;
+use fv_interval::Delays;
 use fv_make::{noise, sum_of, text_of};
-use fv_outside::{Desk, Role};
-use fv_play::play_script;
+use fv_outside::{Desk, Gate, Role};
+use fv_render::{Rendered, RunSizes, Source};
 use std::alloc::{AllocError, Global};
+use std::sync::Wait;
+use std::thread::Threads;
+
+/// The frames of a block.
+const BLOCK: u32 = 256;
+
+/// The frames of a vector.
+const VECTOR: u32 = 32;
+
+/// The sum of what a program gave, and the blocks that ran.
+#[derive(Clone, Copy)]
+struct Made {
+    sum: i32,
+    ran: Ran,
+}
 
 /// Makes a program of so many voices and so many frames of noise, and reports the sum of what it gives.
-pub fn make<D: Desk>(alloc: Global, desk: &mut D, voices: u32, frames: u32) -> Result<(), Refusal>
+pub fn make<R: Threads + Wait + Sync, D: Desk, G: Gate + Sync>(
+    rt: &R,
+    alloc: Global,
+    desk: &mut D,
+    voices: u32,
+    frames: u32,
+    gate: &mut G,
+) -> Result<Ran, Refusal>
     requires { voices ≤ most_voices }
     ensures done { OnOk result (Makes voices frames (D.state desk.old) (D.state desk.new)) }
+    ensures ran { IfOk result (λ r. MakeRan voices frames r.blocks r.loops r.loop_runs (G.told gate.old) (G.told gate.new)) }
     ensures stops { IfErr result (StopsMake voices frames (D.state desk.old) (D.state desk.new)) }
+    // A report that fails comes behind all blocks, and every other refusal before them.
+    ensures so_far { OnErr result ((G.told gate.new ≡ G.told gate.old) ⊎ MakeSoFar voices frames (G.told gate.old) (G.told gate.new)) }
 {
-    let sum = made_sum(alloc, voices, frames)?;
-    match report_made(desk, voices, frames, sum) {
-        Ok(()) => Ok(()),
+    let made = made_sum(rt, alloc, voices, frames, gate)?;
+    match report_made(desk, voices, frames, made.sum) {
+        Ok(()) => Ok(made.ran),
         Err(_) => Err(Refusal::WriteFault { role: Role::Report }),
     }
 }
 
 // The sum of what the program gives.
-fn made_sum(alloc: Global, voices: u32, frames: u32) -> Result<i32, Refusal>
+fn made_sum<R: Threads + Wait + Sync, G: Gate + Sync>(
+    rt: &R,
+    alloc: Global,
+    voices: u32,
+    frames: u32,
+    gate: &mut G,
+) -> Result<Made, Refusal>
     requires { voices ≤ most_voices }
-    ensures sum { IfOk result (HasSum voices frames) }
+    ensures sum { IfOk result (λ m. HasSum voices frames m.sum) }
+    ensures ran { IfOk result (λ m. MakeRan voices frames m.ran.blocks m.ran.loops m.ran.loop_runs (G.told gate.old) (G.told gate.new)) }
     ensures none { IfErr result (IsNotMade voices) }
+    ensures err { OnErr result (gate.new ≡ gate.old) }
 {
-    let program = made_program(alloc, voices)?;
-    let sum = sum_on_noise(alloc, &program, voices, frames)?;
-    Ok(sum)
+    let (program, delays) = made_program(alloc, voices)?;
+    let made = sum_on_noise(rt, alloc, &program, &delays, voices, frames, gate)?;
+    Ok(made)
 }
 
-// The program of so many voices.
-fn made_program(alloc: Global, voices: u32) -> Result<Program, Refusal>
-    ensures made { IfOk result (λ p. IsMade voices (compiled_of p)) }
-    ensures plays { IfOk result CanPlay }
-    ensures one { IfOk result (λ p. inputs (compiled_of p).diagram ≡ 1) }
+// The program of so many voices, with its delays.
+fn made_program(alloc: Global, voices: u32) -> Result<(Program, Delays), Refusal>
+    ensures made { IfOk result (λ p. IsMade voices (compiled_of p.0)) }
+    ensures plays { IfOk result (λ p. CanPlay p.0) }
+    ensures delays { IfOk result (λ p. AreAccepted (delays_in (compiled_of p.0)) p.1) }
+    ensures one { IfOk result (λ p. inputs (compiled_of p.0).diagram ≡ 1) }
     ensures none { IfErr result (IsNotMade voices) }
 {
     let text = text_of(alloc, voices)?;
-    let (program, _delays) = read_program(alloc, &text)?;
+    let (program, delays) = read_program(alloc, &text)?;
     check_mono(&program)?;
-    Ok(program)
+    Ok((program, delays))
 }
 
 // Whether it takes one stream.
@@ -73,27 +112,50 @@ fn check_mono(program: &Program) -> Result<(), Refusal>
 }
 
 // The sum of what it gives on the noise of so many voices.
-fn sum_on_noise(
+fn sum_on_noise<R: Threads + Wait + Sync, G: Gate + Sync>(
+    rt: &R,
     alloc: Global,
     program: &Program,
+    delays: &Delays,
     voices: u32,
     frames: u32,
-) -> Result<i32, AllocError>
+    gate: &mut G,
+) -> Result<Made, AllocError>
     requires voices { voices ≤ most_voices }
     requires plays { CanPlay program.now }
+    requires accepted { AreAccepted (delays_in (compiled_of program.now)) delays.now }
     requires one { inputs (compiled_of program.now).diagram ≡ 1 }
-    ensures { IfOk result (λ sum. sum ≡ made_sum (compiled_of program.now) voices frames) }
+    ensures sum { IfOk result (λ m. m.sum ≡ made_sum (compiled_of program.now) voices frames) }
+    ensures ran { IfOk result (λ m. RanWhole (compiled_of program.now).diagram (compiled_of program.now).controls [] (make_sizes frames)
+        m.ran.blocks m.ran.loops m.ran.loop_runs (G.told gate.old) (G.told gate.new)) }
+    ensures err { OnErr result (gate.new ≡ gate.old) }
 {
-    let initial = initial_of(alloc, program.controls.as_slice())?;
-    let samples = noise(alloc, voices, frames)?;
-    let answer = play_script(
-        alloc,
-        &program.diagrams,
-        program.root,
-        &initial,
-        &[],
-        &samples,
-        frames as usize,
-    )?;
-    Ok(sum_of(&answer))
+    let heard = noise(alloc, voices, frames)?;
+    let source = Source {
+        diagrams: &program.diagrams,
+        root: program.root,
+        delays,
+        controls: program.controls.as_slice(),
+    };
+    let sizes = RunSizes {
+        frames,
+        block: BLOCK,
+        vector: VECTOR,
+        workers: 1,
+    };
+    let Rendered {
+        samples,
+        blocks,
+        loops,
+        loop_runs,
+    } = fv_render::render(rt, alloc, &source, &[], &sizes, &heard, gate)?;
+    let ran = Ran {
+        blocks,
+        loops,
+        loop_runs,
+    };
+    Ok(Made {
+        sum: sum_of(&samples),
+        ran,
+    })
 }

@@ -1,8 +1,9 @@
 // The one call that does all that the command does.
 
-ghost use Rattle.std.specs.Prelude.{◌≡◌, map, string_bytes, IfOk, IfErr};
+ghost use Rattle.std.specs.Prelude.{map, string_bytes, IfOk, IfErr, OnErr};
 ghost use Rattle.fv_outside.specs.Desk.{GoesOn};
 ghost use Rattle.fv_top.specs.Promise.{IfDone, IfRefused, HasDone, IsRefusedFor, LeavesOutput, KeepsOthers, Reports, HandsOn, IsComplete, IsStrict, IsExact};
+ghost use Rattle.fv_top.specs.Played.{HasBlocks, HasBlocksSoFar};
 ghost use Rattle.fv_top.specs.Running.{EndsDone, Stopped, ReportsLine};
 
 use crate::check::check;
@@ -27,10 +28,17 @@ fn refuse<D: Desk>(desk: &mut D, refusal: &Refusal)
 }
 
 // What the words ask for, one step after another.
-fn perform<D: Desk>(alloc: Global, words: &[String], desk: &mut D) -> Result<Tally, Refusal>
+fn perform<R: Threads + Wait + Sync, D: Desk, G: Gate + Sync>(
+    rt: &R,
+    alloc: Global,
+    words: &[String],
+    desk: &mut D,
+    gate: &mut G,
+) -> Result<Tally, Refusal>
     ensures done { IfOk result (λ tally. EndsDone (map string_bytes words.now) tally.frames (D.state desk.old) (D.state desk.new)) }
-    ensures tally { IfOk result (λ tally. (tally.blocks ≡ 0) × (tally.loops ≡ 0) × (tally.loop_runs ≡ 0)) }
+    ensures blocks { IfOk result (λ tally. HasBlocks (map string_bytes words.now) tally (D.state desk.old) (G.told gate.old) (G.told gate.new)) }
     ensures stops { IfErr result (Stopped (map string_bytes words.now) (D.state desk.old) (D.state desk.new)) }
+    ensures so_far { OnErr result (HasBlocksSoFar (map string_bytes words.now) (D.state desk.old) (G.told gate.old) (G.told gate.new)) }
 {
     let job = job_in(words)?;
     let run = match job {
@@ -45,16 +53,16 @@ fn perform<D: Desk>(alloc: Global, words: &[String], desk: &mut D) -> Result<Tal
             });
         }
         Job::Make { voices, frames } => {
-            make(alloc, desk, voices, frames)?;
+            let ran = make(rt, alloc, desk, voices, frames, gate)?;
             return Ok(Tally {
                 frames,
-                blocks: 0,
-                loops: 0,
-                loop_runs: 0,
+                blocks: ran.blocks,
+                loops: ran.loops,
+                loop_runs: ran.loop_runs,
             });
         }
     };
-    let (prepared, mut bytes) = prepare(alloc, desk, &run)?;
+    let (prepared, mut bytes) = prepare(rt, alloc, desk, &run, gate)?;
     match write_output(desk, run.output, &prepared, &mut bytes) {
         Ok(()) => {}
         Err(_) => return Err(Refusal::WriteFault { role: Role::Output }),
@@ -67,19 +75,19 @@ fn perform<D: Desk>(alloc: Global, words: &[String], desk: &mut D) -> Result<Tal
     match report_done(desk, frames) {
         Ok(()) => Ok(Tally {
             frames,
-            blocks: 0,
-            loops: 0,
-            loop_runs: 0,
+            blocks: prepared.ran.blocks,
+            loops: prepared.ran.loops,
+            loop_runs: prepared.ran.loop_runs,
         }),
         Err(_) => Err(Refusal::WriteFault { role: Role::Report }),
     }
 }
 
-/// Does all that the command does: reads the words, the program, the script and the input, writes the output, and reports
-/// how it ended; or reads a program, and reports what it is. `words` begin with the program's own name. The runtime and the
-/// gate are for the blocks of vector mode, and are not used yet.
+/// Does all that the command does: reads the words, the program, the script and the input, plays the program block by block,
+/// writes the output, and reports how it ended; or reads a program, and reports what it is; or makes one, plays it on noise,
+/// and reports the sum. `words` begin with the program's own name. The gate is told of each block.
 pub fn run_faustvec<R: Threads + Wait + Sync, D: Desk, G: Gate + Sync>(
-    _rt: &R,
+    rt: &R,
     alloc: Global,
     words: &[String],
     desk: &mut D,
@@ -92,9 +100,9 @@ pub fn run_faustvec<R: Threads + Wait + Sync, D: Desk, G: Gate + Sync>(
     // A run that is done has asked for its files in order, and has written exactly the file whose samples are the stream
     // function of the program's diagram, under its script and on its input; a check that is done has reported its numbers.
     ensures done { IfDone result (λ tally. HasDone (map string_bytes words.now) tally.frames (D.state desk.old) (D.state desk.new)) }
-    // There are no blocks yet, so the gate is told nothing.
-    ensures gate { G.told gate.new ≡ G.told gate.old }
-    ensures tally { IfDone result (λ tally. (tally.blocks ≡ 0) × (tally.loops ≡ 0) × (tally.loop_runs ≡ 0)) }
+    // In every block each loop ran once on each vector, after all that it reads; and so it did in the blocks of a refused run.
+    ensures blocks { IfDone result (λ tally. HasBlocks (map string_bytes words.now) tally (D.state desk.old) (G.told gate.old) (G.told gate.new)) }
+    ensures so_far { IfRefused result (λ _. HasBlocksSoFar (map string_bytes words.now) (D.state desk.old) (G.told gate.old) (G.told gate.new)) }
     // Every other answer has its stated cause in the first step that cannot go on, or is want of memory; and the desk was
     // asked for the files up to that step, in order, and for no other.
     ensures cause { IfRefused result (IsRefusedFor (map string_bytes words.now) (D.state desk.old) (D.state desk.new)) }
@@ -109,9 +117,8 @@ pub fn run_faustvec<R: Threads + Wait + Sync, D: Desk, G: Gate + Sync>(
     ensures exact { IsExact (map string_bytes words.now) result }
     ensures strict { IsStrict (map string_bytes words.now) (D.state desk.old) (D.state desk.new) result }
 {
-    let _untold = gate;
     one_program();
-    let tally = match perform(alloc, words, desk) {
+    let tally = match perform(rt, alloc, words, desk, gate) {
         Ok(tally) => tally,
         Err(refusal) => {
             refuse(desk, &refusal);

@@ -4,7 +4,7 @@ ghost use Rattle.std.specs.Prelude.{◌≡◌, ◌^◌, ◌<◌, length, option_
 ghost use Rattle.std.specs.List.{AllByRecursion};
 ghost use Rattle.fv_base.specs.declared.role.Role.TheVariants.{Controls};
 ghost use Rattle.fv_outside.specs.Desk.{KeepsFaults};
-ghost use Rattle.fv_control.specs.Laws.{NeverFall};
+ghost use Rattle.fv_control.specs.Laws.{NeverFall, IsOfControls};
 ghost use Rattle.fv_top.specs.declared.refusal.Refusal.TheVariants.{ReadFault};
 ghost use Rattle.fv_top.specs.Promise.{HasRefusal, ReadScript};
 ghost use Rattle.fv_top.specs.Loading.{ReadsFile, StopsLoading, HasScript};
@@ -30,9 +30,9 @@ pub fn load_script<D: Desk>(
     requires { length controls.now < 2 ^ 32 }
     ensures reads { ReadsFile Controls (option_copied name.entry) (D.state desk.old) (D.state desk.new) }
     ensures spelled { IfOk result (λ s. IsTrue (D.state desk.old).tells → HasScript (option_copied name.entry) (D.state desk.old).files controls.now (Ok s)) }
-    // Its frames never fall, and it names controls that are there.
+    // Its frames never fall, and it gives controls that are there values within their ranges.
     ensures order { IfOk result (NeverFall 0) }
-    ensures named { IfOk result (AllByRecursion (λ c. c.control < length controls.now)) }
+    ensures lawful { IfOk result (AllByRecursion (IsOfControls controls.now)) }
     ensures err { IfErr result (StopsLoading Controls (option_copied name.entry) (HasRefusal ReadScript)
         (λ e. HasScript (option_copied name.entry) (D.state desk.old).files controls.now (Err e)) (D.state desk.old) (D.state desk.new)) }
     ensures steady { (IsErrOf result (ReadFault Controls) → ⊥) → KeepsFaults (D.state desk.old) (D.state desk.new) }

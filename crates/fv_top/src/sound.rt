@@ -1,30 +1,38 @@
 // The sound that a program makes on an input.
 
-ghost use Rattle.std.specs.Prelude.{◌≡◌, ℕ, ◌*◌, ◌/◌, ◌<◌, ◌≤◌, length, true, IfOk, None};
+ghost use Rattle.std.specs.Prelude.{◌≡◌, ℕ, ◌*◌, ◌/◌, ◌<◌, ◌≤◌, length, true, IfOk, OnErr, None};
 ghost use Rattle.std.specs.Option.{ForSome};
 ghost use Rattle.std.specs.List.{AllByRecursion};
 ghost use Rattle.fv_num.specs.Words.{is_sample_width};
 ghost use Rattle.fv_diagram.specs.Diagram.{inputs, outputs};
 ghost use Rattle.fv_diagram.specs.Streams.{run};
-ghost use Rattle.fv_control.specs.Laws.{NeverFall};
+ghost use Rattle.fv_control.specs.Laws.{NeverFall, IsOfControls};
 ghost use Rattle.fv_control.specs.Streams.{control_streams};
+ghost use Rattle.fv_interval.specs.Delays.{AreAccepted};
 ghost use Rattle.fv_play.specs.Play.{joined, no_slots, rows};
+ghost use Rattle.fv_render.specs.Render.{RanWhole};
+ghost use Rattle.fv_words.specs.Runs.{AreSound};
 ghost use Rattle.fv_words.specs.Views.{settings_in};
 ghost use Rattle.fv_wav.specs.Stopping.{IsHead};
-ghost use Rattle.fv_wav.specs.Samples.{data_size, data_limit, samples_in};
+ghost use Rattle.fv_wav.specs.Samples.{data_size, data_limit, samples_in, whole_bytes};
 ghost use Rattle.fv_top.specs.Sources.{initial_of, frames_of};
 ghost use Rattle.fv_top.specs.Sound.{sound_of, channels_in, rate_in, bits_in, frames_in};
+ghost use Rattle.fv_top.specs.Program.{delays_in};
 ghost use Rattle.fv_top.specs.Playable.{compiled_of, CanPlay, sound_answered};
+ghost use Rattle.fv_top.specs.Played.{sizes_of};
 
 use crate::input::frame_size;
 use crate::refusal::Refusal;
 use fv_control::Change;
-use fv_diagram::ControlInfo;
 use fv_eval::Program;
-use fv_play::play_script;
+use fv_interval::Delays;
+use fv_outside::Gate;
+use fv_render::{Rendered, RunSizes, Source};
 use fv_wav::{Head, data_length, decode};
 use fv_words::Settings;
 use std::alloc::{AllocError, Global};
+use std::sync::Wait;
+use std::thread::Threads;
 
 /// A sound.
 #[derive(Clone, Copy)]
@@ -121,53 +129,60 @@ fn bits_in(settings: &Settings, head: Option<Head>) -> u32
 }
 
 /// How many whole frames are in the bytes of an input's samples.
-pub fn count_frames(head: Option<Head>, raw: &[u8], stated: u32) -> usize
-    requires { ForSome head IsHead }
+pub fn count_frames(head: Option<Head>, raw: &[u8], stated: u32) -> u32
+    requires head { ForSome head IsHead }
+    requires raw { ForSome head (λ h. length raw.now ≤ whole_bytes h) }
     ensures { result ≡ length (frames_of stated head raw.now) }
 {
     match head {
-        Some(head) => raw.len() / frame_size(&head) as usize,
-        None => stated as usize,
+        Some(head) => (raw.len() / frame_size(&head) as usize) as u32,
+        None => stated,
     }
 }
 
-/// The samples that a program answers on an input, one frame after another.
-pub fn render(
+/// The samples that a program answers on an input, one frame after another, and the blocks that ran.
+pub fn render<R: Threads + Wait + Sync, G: Gate + Sync>(
+    rt: &R,
     alloc: Global,
     program: &Program,
+    delays: &Delays,
     changes: &[Change],
     head: Option<Head>,
     raw: &[u8],
     stated: u32,
-) -> Result<Vec<i32>, AllocError>
+    settings: &Settings,
+    gate: &mut G,
+) -> Result<Rendered, AllocError>
     requires plays { CanPlay program.now }
+    requires accepted { AreAccepted (delays_in (compiled_of program.now)) delays.now }
     requires head { ForSome head IsHead }
+    requires raw { ForSome head (λ h. length raw.now ≤ whole_bytes h) }
     requires channels { channels_in head ≡ inputs (compiled_of program.now).diagram }
     requires order { NeverFall 0 changes.now }
-    requires named { AllByRecursion (λ c. c.control < length (compiled_of program.now).controls) changes.now }
-    ensures { IfOk result (λ v. v.items ≡ joined (run (compiled_of program.now).diagram
+    requires lawful { AllByRecursion (IsOfControls (compiled_of program.now).controls) changes.now }
+    requires sizes { AreSound (settings_in settings.now) }
+    ensures samples { IfOk result (λ r. r.samples.items ≡ joined (run (compiled_of program.now).diagram
         (control_streams changes.now (initial_of (compiled_of program.now).controls)) no_slots (frames_of stated head raw.now))) }
+    ensures count { IfOk result (λ r. length r.samples.items ≡ length (frames_of stated head raw.now) * outputs (compiled_of program.now).diagram) }
+    ensures ran { IfOk result (λ r. RanWhole (compiled_of program.now).diagram (compiled_of program.now).controls changes.now
+        (sizes_of (settings_in settings.now) (length (frames_of stated head raw.now))) r.blocks r.loops r.loop_runs (G.told gate.old) (G.told gate.new)) }
+    ensures err { OnErr result (gate.new ≡ gate.old) }
 {
-    let initial = initial_of(alloc, program.controls.as_slice())?;
     let frames = count_frames(head, raw, stated);
-    let samples = samples_of(alloc, head, raw, frames)?;
-    let answer = play_script(
-        alloc,
-        &program.diagrams,
-        program.root,
-        &initial,
-        changes,
-        &samples,
+    let samples = samples_of(alloc, head, raw, frames as usize)?;
+    let source = Source {
+        diagrams: &program.diagrams,
+        root: program.root,
+        delays,
+        controls: program.controls.as_slice(),
+    };
+    let sizes = RunSizes {
         frames,
-    )?;
-    Ok(answer)
-}
-
-// The numbers with which the controls begin.
-pub fn initial_of(alloc: Global, controls: &[ControlInfo]) -> Result<Vec<i32>, AllocError>
-    ensures { IfOk result (λ v. v.items ≡ initial_of controls.now) }
-{
-    controls.iter().map(|c| c.init).collect(alloc)
+        block: settings.block,
+        vector: settings.vector,
+        workers: settings.workers,
+    };
+    fv_render::render(rt, alloc, &source, changes, &sizes, &samples, gate)
 }
 
 // The samples of the whole frames in these bytes, of which there are so many.

@@ -15,13 +15,21 @@ pub enum Status {
 /// What a run did.
 #[derive(Clone, Copy, PartialEq, Eq, Debug)]
 pub struct Tally {
-    /// The number of frames that were written.
+    /// The number of frames that were written, or played of a program that was made.
     pub frames: u32,
-    /// The number of blocks. 0 until there are blocks.
+    /// The number of blocks.
     pub blocks: u64,
-    /// The number of loops of the program. 0 until there are loops.
+    /// The number of loops of the program, 0 where there is no block.
     pub loops: u64,
-    /// How many times a loop ran over a vector. 0 until there are loops.
+    /// How many times a loop ran over a vector.
+    pub loop_runs: u128,
+}
+
+/// The blocks of what was played, the loops of its plan, and how often a loop ran over a vector.
+#[derive(Clone, Copy)]
+pub struct Ran {
+    pub blocks: u64,
+    pub loops: u64,
     pub loop_runs: u128,
 }
 

@@ -2,17 +2,18 @@
 
 ghost use Rattle.std.specs.Prelude.{◌≡◌, ◌⊎◌, ◌≤◌, IfOk, IfErr, OnOk, Ok, Err, All};
 ghost use Rattle.fv_diagram.specs.Arena.{tree_of};
-ghost use Rattle.fv_diagram.specs.Diagram.{outputs};
+ghost use Rattle.fv_diagram.specs.Diagram.{inputs, outputs};
+ghost use Rattle.fv_interval.specs.Delays.{AreAccepted};
 ghost use Rattle.fv_rules.specs.Sound.{IsBounded};
 ghost use Rattle.fv_top.specs.declared.refusal.Refusal.TheVariants.{NoMemory};
 ghost use Rattle.fv_top.specs.Playable.{compiled_of, CanPlay};
-ghost use Rattle.fv_top.specs.Program.{IsProgram, IsRefusedText, IsOneText, IsOneOrOther, IsOfText, narrow, delayed, first_bad, delays_in, delay_in, control_spans};
+ghost use Rattle.fv_top.specs.Program.{IsProgram, IsRefusedText, IsOneText, IsOneOrOther, IsOfText, narrow, delayed, first_bad, delays_in, control_spans};
 
 use crate::refusal::Refusal;
 use fv_diagram::ControlInfo;
 use fv_eval::{Program, evaluate};
 use fv_grammar::spelled_once;
-use fv_interval::spans;
+use fv_interval::{Delays, spans};
 use fv_lex::{one_answer, tokens};
 use fv_num::Span;
 use fv_parse::{one_outcome, parse};
@@ -33,11 +34,11 @@ pub fn one_program()
 
 /// The program that a text is. A text that is none is refused for the first that applies: its bytes, its tokens, its tree,
 /// its value, its channels, its delays.
-pub fn read_program(alloc: Global, text: &[u8]) -> Result<(Program, u64), Refusal>
-    // What is answered is the text's program, and the sum of its delays.
+pub fn read_program(alloc: Global, text: &[u8]) -> Result<(Program, Delays), Refusal>
+    // What is answered is the text's program, and its delays.
     ensures found { IfOk result (λ p. IsProgram text.now (compiled_of p.0)) }
     ensures plays { IfOk result (λ p. CanPlay p.0) }
-    ensures delays { IfOk result (λ p. p.1 ≡ delay_in (compiled_of p.0)) }
+    ensures delays { IfOk result (λ p. AreAccepted (delays_in (compiled_of p.0)) p.1) }
     // Only a text that is no program is refused, and for its cause.
     ensures refused { IfErr result (λ e. (e ≡ NoMemory) ⊎ (IsOfText e × IsRefusedText text.now e)) }
 {
@@ -54,6 +55,7 @@ fn check_channels(program: &Program) -> Result<(), Refusal>
     ensures ok { OnOk result (narrow (compiled_of program.now) ≡ Ok (compiled_of program.now)) }
     ensures some { OnOk result (1 ≤ outputs (tree_of program.now.diagrams program.now.root)) }
     ensures few { OnOk result (outputs (tree_of program.now.diagrams program.now.root) ≤ 256) }
+    ensures narrow { OnOk result (inputs (tree_of program.now.diagrams program.now.root) ≤ 256) }
     ensures err { IfErr result (λ e. IsOfText e × (narrow (compiled_of program.now) ≡ Err e)) }
 {
     let arity = program.diagrams.arity(program.root);
@@ -75,15 +77,15 @@ fn check_channels(program: &Program) -> Result<(), Refusal>
     Ok(())
 }
 
-// The sum of its delays, where they are short.
-fn check_delays(alloc: Global, program: &Program) -> Result<u64, Refusal>
+// Its delays, where they are short.
+fn check_delays(alloc: Global, program: &Program) -> Result<Delays, Refusal>
     ensures ok { OnOk result (delayed (compiled_of program.now) (first_bad (delays_in (compiled_of program.now))) ≡ Ok (compiled_of program.now)) }
-    ensures sum { IfOk result (λ n. n ≡ delay_in (compiled_of program.now)) }
+    ensures accepted { IfOk result (AreAccepted (delays_in (compiled_of program.now))) }
     ensures err { IfErr result (λ e. (e ≡ NoMemory) ⊎ (IsOfText e × (delayed (compiled_of program.now) (first_bad (delays_in (compiled_of program.now))) ≡ Err e))) }
 {
     let controls = spans_of(alloc, program.controls.as_slice())?;
     let delays = spans(alloc, &program.diagrams, program.root, &controls)?;
-    Ok(delays.sum())
+    Ok(delays)
 }
 
 // The numbers that the controls may have.

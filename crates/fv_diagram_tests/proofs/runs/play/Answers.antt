@@ -4,5 +4,5 @@ use Rattle.fv_diagram_tests.proofs.runs.play.Goals as goal
 
 pub new-requires-clause-closed : goal.new-requires-clause-closed
 new-requires-clause-closed g c =
-    let l : c.new-root.result < count_of c.build.inside.diagrams = search rules in
-    (c.build.invariant.1 c.new-root.result l).closed
+    let l : c.new-root.result < count_of c.diagrams-diagrams.result.now = search rules in
+    (c.diagrams-diagrams.ensures.run c.new-root.result l).closed

@@ -4,5 +4,5 @@ use Rattle.fv_diagram_tests.proofs.spans.delays_of.Goals as goal
 
 pub spans-requires-clause-closed : goal.spans-requires-clause-closed
 spans-requires-clause-closed g c =
-    let l : c.new-root.result < count_of c.build.inside.diagrams = search rules in
-    (c.build.invariant.1 c.new-root.result l).closed
+    let l : c.new-root.result < count_of c.diagrams-diagrams.result.now = search rules in
+    (c.diagrams-diagrams.ensures.run c.new-root.result l).closed

@@ -1,8 +1,9 @@
 use Rattle.std.proofs.Common.{length, take, map, ◌∙◌, subst, ap}
 use Rattle.std.proofs.lemmas.Result.{IfOk-weaker}
 use Rattle.fv_components.specs.Reach.{at}
+use Rattle.fv_analysis.proofs.RateLemmas.{at_most_four}
 use Rattle.fv_emit.specs.Emits.{MeanNow, owned_by}
-use Rattle.fv_emit.proofs.ComputeLemmas.{computes_point, stood_within, four_inputs, some_inputs}
+use Rattle.fv_emit.proofs.ComputeLemmas.{computes_point, stood_within, some_inputs}
 use Rattle.fv_emit.proofs.emit.point.Goals as goal
 
 pub operands-requires-clause-signals : goal.operands-requires-clause-signals
@@ -25,7 +26,7 @@ returns c = IfOk-weaker c.push.result _ _ (λ w h.
     computes_point t regs c.args.own old mid c.push.new.code.items c.args.op c.args.args those found w
     (ap (take n) (c.stood-signals.ensures.value ∙ ap (λ xs. map (at xs) c.args.args) c.deref.ensures.value)
     ∙ ap (λ k. take k (map (at t.stands.items) c.args.args)) c.inputs-n.ensures)
-    c.stood-signals.ensures.four c.in_ok-found.ensures.0 (four_inputs c.args.op) (some_inputs c.args.op)
+    c.stood-signals.ensures.four c.in_ok-found.ensures.0 (at_most_four c.args.op) (some_inputs c.args.op)
     (subst (λ ks. MeanNow ks regs old mid those found (length those) (owned_by t.owners.items c.args.own)) c.deref-2.ensures.value
     (subst (λ os. MeanNow c.deref-2.result.now regs old mid those found (length those) (owned_by os c.args.own)) c.deref-3.ensures.value c.in_ok-found.ensures.1))
     h.1 h.0) c.push.ensures

@@ -14,8 +14,9 @@ use Rattle.fv_split.specs.Told.{told_all}
 use Rattle.fv_split.proofs.ListLemmas.{same_bases, same_kinds, same_infos}
 use Rattle.fv_split.proofs.SplitLemmas.{rates_long, outputs_there, signals_there}
 use Rattle.fv_split.proofs.SuitLemmas.{Passes, are_tables}
-use Rattle.fv_split.proofs.PlanLemmas.{all_sound, all_named, all_owned, is_plan}
+use Rattle.fv_split.proofs.PlanLemmas.{all_sound, all_named, all_owned, is_plan, with_held}
 use Rattle.fv_split.proofs.splitting.split.Goals as goal
+use Rattle.fv_split.proofs.splitting.split.Goals.{After-tables-1, In_ok-held}
 
 pub bases-requires-clause-stands : goal.bases-requires-clause-stands
 bases-requires-clause-stands c = ap length (c.deref-2.ensures.value ∙ c.in_ok-stands.ensures.stands) ∙ stands_long c.args.graph.now
@@ -25,7 +26,8 @@ bases-requires-clause-rates c = ap length c.requires.rates ∙ rates_long c.args
 
 pub output_lanes-requires-clause-outputs : goal.output_lanes-requires-clause-outputs
 output_lanes-requires-clause-outputs c =
-    outputs_there c.args.graph.now c.outputs-named.ensures.graph c.outputs-named.result.now c.deref-7.result.now c.outputs-named.ensures.list (c.deref-7.ensures.value ∙ c.in_ok-stands.ensures.stands)
+    outputs_there c.args.graph.now c.outputs-named.ensures.graph c.outputs-named.result.now c.deref-7.result.now c.outputs-named.ensures.list
+    (c.deref-7.ensures.value ∙ c.in_ok-stands.ensures.stands)
 
 pub infos-requires-clause-signals : goal.infos-requires-clause-signals
 infos-requires-clause-signals c =
@@ -33,222 +35,85 @@ infos-requires-clause-signals c =
     signals_there g c.in_ok-places.places c.in_ok-places.ensures c.deref-9.result.now c.args.histories.now c.deref-9.ensures.value
     (ap length c.requires.histories ∙ length_table (length g.signals) (history_of g))
 
-pub codes-requires : goal.codes-requires
-codes-requires c =
+-- what the passes say of their tables
+passes : (c : After-tables-1) → Passes c.args.graph.now c.in_ok-places.places c.in_ok-stands.stands c.in_ok-bases.bases c.in_ok-kinds.kinds
+    c.in_ok-values.values.numbers.items c.in_ok-values.values.steps.items
+passes c =
     let g = c.args.graph.now in
-    let stands = c.in_ok-stands.stands in
     let p = c.in_ok-places.places in
-    let numbers = c.in_ok-values.values.numbers.items in
-    let steps = c.in_ok-values.values.steps.items in
-    let bases = c.in_ok-bases.bases in
-    let kinds = c.in_ok-kinds.kinds in
-    let stood = c.in_ok-stands.ensures.stands in
-    let are_bases = same_bases g c.deref-2.result.now (stands_of g) c.args.rates.now (rates g.signals) c.deref-3.result.now p.lanes.items c.deref-4.result.now numbers (length g.signals)
-    bases.items (c.deref-2.ensures.value ∙ stood) c.requires.rates c.deref-3.ensures.value c.deref-4.ensures.value c.in_ok-bases.ensures in
-    let passes : Passes g p stands bases kinds numbers steps = record {
+    let bases = c.in_ok-bases.bases.items in
+    let are_bases = same_bases g c.deref-2.result.now (stands_of g) c.args.rates.now (rates g.signals) c.deref-3.result.now p.lanes.items c.deref-4.result.now
+    c.in_ok-values.values.numbers.items (length g.signals) bases (c.deref-2.ensures.value ∙ c.in_ok-stands.ensures.stands) c.requires.rates
+    c.deref-3.ensures.value c.deref-4.ensures.value c.in_ok-bases.ensures in
+    record {
       graph = c.outputs-named.ensures.graph;
       placed = c.in_ok-places.ensures;
-      is_stands = stood;
+      is_stands = c.in_ok-stands.ensures.stands;
       held = c.in_ok-values.ensures.1;
       are_bases = are_bases;
-      are_kinds = same_kinds c.deref-5.result.now bases.items c.deref-6.result.now p.lanes.items (length c.deref-5.result.now) (length g.signals) kinds.items
-          c.deref-5.ensures.value c.deref-6.ensures.value (ap length c.deref-5.ensures.value ∙ are_bases.long) c.in_ok-kinds.ensures;
-    } in
-    are_tables g p stands bases kinds numbers steps passes
+      are_kinds = same_kinds c.deref-5.result.now bases c.deref-6.result.now p.lanes.items (length c.deref-5.result.now) (length g.signals)
+          c.in_ok-kinds.kinds.items c.deref-5.ensures.value c.deref-6.ensures.value (ap length c.deref-5.ensures.value ∙ are_bases.long) c.in_ok-kinds.ensures;
+    }
+
+pub codes-requires : goal.codes-requires
+codes-requires c = are_tables _ _ _ _ _ _ _ (passes c)
 
 pub reads-requires-clause-lanes : goal.reads-requires-clause-lanes
 reads-requires-clause-lanes c =
-    let g = c.args.graph.now in
-    let stands = c.in_ok-stands.stands in
     let p = c.in_ok-places.places in
-    let numbers = c.in_ok-values.values.numbers.items in
-    let steps = c.in_ok-values.values.steps.items in
-    let bases = c.in_ok-bases.bases in
-    let kinds = c.in_ok-kinds.kinds in
-    let stood = c.in_ok-stands.ensures.stands in
-    let are_bases = same_bases g c.deref-2.result.now (stands_of g) c.args.rates.now (rates g.signals) c.deref-3.result.now p.lanes.items c.deref-4.result.now numbers (length g.signals)
-    bases.items (c.deref-2.ensures.value ∙ stood) c.requires.rates c.deref-3.ensures.value c.deref-4.ensures.value c.in_ok-bases.ensures in
-    let passes : Passes g p stands bases kinds numbers steps = record {
-      graph = c.outputs-named.ensures.graph;
-      placed = c.in_ok-places.ensures;
-      is_stands = stood;
-      held = c.in_ok-values.ensures.1;
-      are_bases = are_bases;
-      are_kinds = same_kinds c.deref-5.result.now bases.items c.deref-6.result.now p.lanes.items (length c.deref-5.result.now) (length g.signals) kinds.items
-          c.deref-5.ensures.value c.deref-6.ensures.value (ap length c.deref-5.ensures.value ∙ are_bases.long) c.in_ok-kinds.ensures;
-    } in
     λ j. subst (λ os. All (NamesLane (length os)) (code_in c.deref-11.result.now j)) (sym c.deref-12.ensures.value)
     (subst (λ xs. All (NamesLane (length p.owners.items)) (code_in xs j)) (sym c.deref-11.ensures.value)
-    (all_named g p stands bases kinds numbers steps passes c.in_ok-steps.steps.items c.in_ok-steps.ensures j))
+    (all_named _ _ _ _ _ _ _ (passes (goal.at.reads-requires-clause-lanes c).After-tables-1) c.in_ok-steps.steps.items c.in_ok-steps.ensures j))
 
 pub reads-requires-clause-owners : goal.reads-requires-clause-owners
 reads-requires-clause-owners c =
-    let g = c.args.graph.now in
-    let stands = c.in_ok-stands.stands in
     let p = c.in_ok-places.places in
-    let numbers = c.in_ok-values.values.numbers.items in
-    let steps = c.in_ok-values.values.steps.items in
-    let bases = c.in_ok-bases.bases in
-    let kinds = c.in_ok-kinds.kinds in
-    let stood = c.in_ok-stands.ensures.stands in
-    let are_bases = same_bases g c.deref-2.result.now (stands_of g) c.args.rates.now (rates g.signals) c.deref-3.result.now p.lanes.items c.deref-4.result.now numbers (length g.signals)
-    bases.items (c.deref-2.ensures.value ∙ stood) c.requires.rates c.deref-3.ensures.value c.deref-4.ensures.value c.in_ok-bases.ensures in
-    let passes : Passes g p stands bases kinds numbers steps = record {
-      graph = c.outputs-named.ensures.graph;
-      placed = c.in_ok-places.ensures;
-      is_stands = stood;
-      held = c.in_ok-values.ensures.1;
-      are_bases = are_bases;
-      are_kinds = same_kinds c.deref-5.result.now bases.items c.deref-6.result.now p.lanes.items (length c.deref-5.result.now) (length g.signals) kinds.items
-          c.deref-5.ensures.value c.deref-6.ensures.value (ap length c.deref-5.ensures.value ∙ are_bases.long) c.in_ok-kinds.ensures;
-    } in
     subst (All (λ k. k < length c.deref-11.result.now)) (sym c.deref-12.ensures.value)
     (subst (λ xs. All (λ k. k < length xs) p.owners.items) (sym c.deref-11.ensures.value)
-    (all_owned g p stands bases kinds numbers steps passes c.in_ok-steps.steps.items c.in_ok-steps.ensures))
+    (all_owned _ _ _ _ _ _ _ (passes (goal.at.reads-requires-clause-owners c).After-tables-1) c.in_ok-steps.steps.items c.in_ok-steps.ensures))
 
 pub all_code-requires : goal.all_code-requires
 all_code-requires c =
-    let g = c.args.graph.now in
-    let stands = c.in_ok-stands.stands in
     let p = c.in_ok-places.places in
-    let numbers = c.in_ok-values.values.numbers.items in
-    let steps = c.in_ok-values.values.steps.items in
-    let bases = c.in_ok-bases.bases in
-    let kinds = c.in_ok-kinds.kinds in
-    let stood = c.in_ok-stands.ensures.stands in
-    let are_bases = same_bases g c.deref-2.result.now (stands_of g) c.args.rates.now (rates g.signals) c.deref-3.result.now p.lanes.items c.deref-4.result.now numbers (length g.signals)
-    bases.items (c.deref-2.ensures.value ∙ stood) c.requires.rates c.deref-3.ensures.value c.deref-4.ensures.value c.in_ok-bases.ensures in
-    let passes : Passes g p stands bases kinds numbers steps = record {
-      graph = c.outputs-named.ensures.graph;
-      placed = c.in_ok-places.ensures;
-      is_stands = stood;
-      held = c.in_ok-values.ensures.1;
-      are_bases = are_bases;
-      are_kinds = same_kinds c.deref-5.result.now bases.items c.deref-6.result.now p.lanes.items (length c.deref-5.result.now) (length g.signals) kinds.items
-          c.deref-5.ensures.value c.deref-6.ensures.value (ap length c.deref-5.ensures.value ∙ are_bases.long) c.in_ok-kinds.ensures;
-    } in
+    let tables = passes (goal.at.all_code-requires c).After-tables-1 in
     let long : c.len.result ≡ length p.owners.items =
-    omega (arith, c.len.ensures, c.in_ok-lanes.lanes.ok.0, c.in_ok-lanes.ensures.long, ap length c.deref-9.ensures.value, passes.placed.lanes.owned) in
+    omega (arith, c.len.ensures, c.in_ok-lanes.lanes.ok.0, c.in_ok-lanes.ensures.long, ap length c.deref-9.ensures.value, tables.placed.lanes.owned) in
     λ j. subst (λ n. AreSound n (code_in c.deref-13.result.now j)) (sym long)
     (subst (λ xs. AreSound (length p.owners.items) (code_in xs j)) (sym c.deref-13.ensures.value)
-    (all_sound g p stands bases kinds numbers steps passes c.in_ok-steps.steps.items c.in_ok-steps.ensures j))
+    (all_sound _ _ _ _ _ _ _ tables c.in_ok-steps.steps.items c.in_ok-steps.ensures j))
+
+-- the plan, with the steps of the held values for their code
+plan : (c : In_ok-held) → Passes c.args.graph.now c.in_ok-places.places c.in_ok-stands.stands c.in_ok-bases.bases c.in_ok-kinds.kinds
+    c.in_ok-values.values.numbers.items c.in_ok-values.values.steps.items →
+    IsPlanOf c.args.graph.now (plan_with c.in_ok-places.places.loops c.in_ok-lanes.lanes.items c.in_ok-codes.codes.items c.in_ok-told.told.items
+    c.in_ok-outputs.outputs.items c.in_ok-values.values.steps.items)
+plan c tables =
+    let g = c.args.graph.now in
+    let p = c.in_ok-places.places in
+    let histories = table (length g.signals) (history_of g) in
+    let are_infos = same_infos c.deref-9.result.now p.signals.items c.deref-10.result.now p.owners.items c.args.histories.now histories
+    (length c.deref-9.result.now) (length p.signals.items) c.in_ok-lanes.lanes.items c.deref-9.ensures.value c.deref-10.ensures.value c.requires.histories
+    (ap length c.deref-9.ensures.value) c.in_ok-lanes.ensures in
+    let coded = subst (λ xs. AreCoded xs (length xs) c.in_ok-codes.codes.items) c.deref-13.ensures.value c.in_ok-codes.ensures in
+    let is_told = c.in_ok-told.ensures ∙ ap (λ os. (told_all os c.deref-11.result.now (length c.deref-11.result.now)).reads) c.deref-12.ensures.value
+    ∙ ap (λ xs. (told_all p.owners.items xs (length xs)).reads) c.deref-11.ensures.value in
+    let are_outputs = c.in_ok-outputs.ensures ∙ ap (λ os. map (lane_of c.deref-7.result.now c.deref-8.result.now) os) c.outputs-named.ensures.list
+    ∙ ap (λ ss. map (lane_of ss c.deref-8.result.now) g.outputs) (c.deref-7.ensures.value ∙ c.in_ok-stands.ensures.stands)
+    ∙ ap (λ ls. map (lane_of (stands_of g) ls) g.outputs) c.deref-8.ensures.value in
+    is_plan g p c.in_ok-stands.stands c.in_ok-bases.bases c.in_ok-kinds.kinds c.in_ok-values.values.numbers.items c.in_ok-values.values.steps.items
+    tables c.in_ok-steps.steps.items c.in_ok-steps.ensures c.in_ok-lanes.lanes.items c.in_ok-codes.codes.items c.in_ok-told.told.items
+    c.in_ok-outputs.outputs.items are_infos coded is_told are_outputs
 
 pub new-requires : goal.new-requires
 new-requires c =
-    let g = c.args.graph.now in
-    let stands = c.in_ok-stands.stands in
-    let p = c.in_ok-places.places in
-    let numbers = c.in_ok-values.values.numbers.items in
-    let steps = c.in_ok-values.values.steps.items in
-    let bases = c.in_ok-bases.bases in
-    let kinds = c.in_ok-kinds.kinds in
-    let stood = c.in_ok-stands.ensures.stands in
-    let are_bases = same_bases g c.deref-2.result.now (stands_of g) c.args.rates.now (rates g.signals) c.deref-3.result.now p.lanes.items c.deref-4.result.now numbers (length g.signals)
-    bases.items (c.deref-2.ensures.value ∙ stood) c.requires.rates c.deref-3.ensures.value c.deref-4.ensures.value c.in_ok-bases.ensures in
-    let passes : Passes g p stands bases kinds numbers steps = record {
-      graph = c.outputs-named.ensures.graph;
-      placed = c.in_ok-places.ensures;
-      is_stands = stood;
-      held = c.in_ok-values.ensures.1;
-      are_bases = are_bases;
-      are_kinds = same_kinds c.deref-5.result.now bases.items c.deref-6.result.now p.lanes.items (length c.deref-5.result.now) (length g.signals) kinds.items
-          c.deref-5.ensures.value c.deref-6.ensures.value (ap length c.deref-5.ensures.value ∙ are_bases.long) c.in_ok-kinds.ensures;
-    } in
-    let codes = c.in_ok-steps.steps.items in
-    let all = c.in_ok-codes.codes.items in
-    let infos = c.in_ok-lanes.lanes.items in
-    let told = c.in_ok-told.told.items in
-    let outputs = c.in_ok-outputs.outputs.items in
-    let histories = table (length g.signals) (history_of g) in
-    let are_infos = same_infos c.deref-9.result.now p.signals.items c.deref-10.result.now p.owners.items c.args.histories.now histories (length c.deref-9.result.now)
-    (length p.signals.items) infos c.deref-9.ensures.value c.deref-10.ensures.value c.requires.histories (ap length c.deref-9.ensures.value) c.in_ok-lanes.ensures in
-    let coded = subst (λ xs. AreCoded xs (length xs) all) c.deref-13.ensures.value c.in_ok-codes.ensures in
-    let is_told = c.in_ok-told.ensures ∙ ap (λ os. (told_all os c.deref-11.result.now (length c.deref-11.result.now)).reads) c.deref-12.ensures.value
-    ∙ ap (λ xs. (told_all p.owners.items xs (length xs)).reads) c.deref-11.ensures.value in
-    let are_outputs = c.in_ok-outputs.ensures ∙ ap (λ os. map (lane_of c.deref-7.result.now c.deref-8.result.now) os) c.outputs-named.ensures.list
-    ∙ ap (λ ss. map (lane_of ss c.deref-8.result.now) g.outputs) (c.deref-7.ensures.value ∙ stood) ∙ ap (λ ls. map (lane_of (stands_of g) ls) g.outputs) c.deref-8.ensures.value in
-    let held = c.in_ok-held.ensures ∙ c.deref-14.ensures.value in
-    let plan : IsPlanOf g (plan_with p.loops infos all told outputs c.in_ok-held.held) =
-    subst (λ ss. IsPlanOf g (plan_with p.loops infos all told outputs ss)) (sym held)
-    (is_plan g p stands bases kinds numbers steps passes codes c.in_ok-steps.ensures infos all told outputs are_infos coded is_told are_outputs) in
-    (g, plan)
+    (c.args.graph.now, with_held (c.in_ok-held.ensures ∙ c.deref-14.ensures.value) (plan c (passes (goal.at.new-requires c).After-tables-1)))
 
 pub returns-clause-stands : goal.returns-clause-stands
 returns-clause-stands c =
-    let g = c.args.graph.now in
-    let stands = c.in_ok-stands.stands in
-    let p = c.in_ok-places.places in
-    let numbers = c.in_ok-values.values.numbers.items in
-    let steps = c.in_ok-values.values.steps.items in
-    let bases = c.in_ok-bases.bases in
-    let kinds = c.in_ok-kinds.kinds in
-    let stood = c.in_ok-stands.ensures.stands in
-    let are_bases = same_bases g c.deref-2.result.now (stands_of g) c.args.rates.now (rates g.signals) c.deref-3.result.now p.lanes.items c.deref-4.result.now numbers (length g.signals)
-    bases.items (c.deref-2.ensures.value ∙ stood) c.requires.rates c.deref-3.ensures.value c.deref-4.ensures.value c.in_ok-bases.ensures in
-    let passes : Passes g p stands bases kinds numbers steps = record {
-      graph = c.outputs-named.ensures.graph;
-      placed = c.in_ok-places.ensures;
-      is_stands = stood;
-      held = c.in_ok-values.ensures.1;
-      are_bases = are_bases;
-      are_kinds = same_kinds c.deref-5.result.now bases.items c.deref-6.result.now p.lanes.items (length c.deref-5.result.now) (length g.signals) kinds.items
-          c.deref-5.ensures.value c.deref-6.ensures.value (ap length c.deref-5.ensures.value ∙ are_bases.long) c.in_ok-kinds.ensures;
-    } in
-    let codes = c.in_ok-steps.steps.items in
-    let all = c.in_ok-codes.codes.items in
-    let infos = c.in_ok-lanes.lanes.items in
-    let told = c.in_ok-told.told.items in
-    let outputs = c.in_ok-outputs.outputs.items in
-    let histories = table (length g.signals) (history_of g) in
-    let are_infos = same_infos c.deref-9.result.now p.signals.items c.deref-10.result.now p.owners.items c.args.histories.now histories (length c.deref-9.result.now)
-    (length p.signals.items) infos c.deref-9.ensures.value c.deref-10.ensures.value c.requires.histories (ap length c.deref-9.ensures.value) c.in_ok-lanes.ensures in
-    let coded = subst (λ xs. AreCoded xs (length xs) all) c.deref-13.ensures.value c.in_ok-codes.ensures in
-    let is_told = c.in_ok-told.ensures ∙ ap (λ os. (told_all os c.deref-11.result.now (length c.deref-11.result.now)).reads) c.deref-12.ensures.value
-    ∙ ap (λ xs. (told_all p.owners.items xs (length xs)).reads) c.deref-11.ensures.value in
-    let are_outputs = c.in_ok-outputs.ensures ∙ ap (λ os. map (lane_of c.deref-7.result.now c.deref-8.result.now) os) c.outputs-named.ensures.list
-    ∙ ap (λ ss. map (lane_of ss c.deref-8.result.now) g.outputs) (c.deref-7.ensures.value ∙ stood) ∙ ap (λ ls. map (lane_of (stands_of g) ls) g.outputs) c.deref-8.ensures.value in
     let held = c.in_ok-held.ensures ∙ c.deref-14.ensures.value in
-    let plan : IsPlanOf g (plan_with p.loops infos all told outputs c.in_ok-held.held) =
-    subst (λ ss. IsPlanOf g (plan_with p.loops infos all told outputs ss)) (sym held)
-    (is_plan g p stands bases kinds numbers steps passes codes c.in_ok-steps.ensures infos all told outputs are_infos coded is_told are_outputs) in
-    subst (PlanStands g) (sym c.new.ensures) plan.stands
+    subst (PlanStands c.args.graph.now) (sym c.new.ensures) (with_held held (plan (goal.at.returns-clause-stands c).In_ok-held (passes (goal.at.returns-clause-stands c).After-tables-1))).stands
 
 pub returns-clause-names : goal.returns-clause-names
 returns-clause-names c =
-    let g = c.args.graph.now in
-    let stands = c.in_ok-stands.stands in
-    let p = c.in_ok-places.places in
-    let numbers = c.in_ok-values.values.numbers.items in
-    let steps = c.in_ok-values.values.steps.items in
-    let bases = c.in_ok-bases.bases in
-    let kinds = c.in_ok-kinds.kinds in
-    let stood = c.in_ok-stands.ensures.stands in
-    let are_bases = same_bases g c.deref-2.result.now (stands_of g) c.args.rates.now (rates g.signals) c.deref-3.result.now p.lanes.items c.deref-4.result.now numbers (length g.signals)
-    bases.items (c.deref-2.ensures.value ∙ stood) c.requires.rates c.deref-3.ensures.value c.deref-4.ensures.value c.in_ok-bases.ensures in
-    let passes : Passes g p stands bases kinds numbers steps = record {
-      graph = c.outputs-named.ensures.graph;
-      placed = c.in_ok-places.ensures;
-      is_stands = stood;
-      held = c.in_ok-values.ensures.1;
-      are_bases = are_bases;
-      are_kinds = same_kinds c.deref-5.result.now bases.items c.deref-6.result.now p.lanes.items (length c.deref-5.result.now) (length g.signals) kinds.items
-          c.deref-5.ensures.value c.deref-6.ensures.value (ap length c.deref-5.ensures.value ∙ are_bases.long) c.in_ok-kinds.ensures;
-    } in
-    let codes = c.in_ok-steps.steps.items in
-    let all = c.in_ok-codes.codes.items in
-    let infos = c.in_ok-lanes.lanes.items in
-    let told = c.in_ok-told.told.items in
-    let outputs = c.in_ok-outputs.outputs.items in
-    let histories = table (length g.signals) (history_of g) in
-    let are_infos = same_infos c.deref-9.result.now p.signals.items c.deref-10.result.now p.owners.items c.args.histories.now histories (length c.deref-9.result.now)
-    (length p.signals.items) infos c.deref-9.ensures.value c.deref-10.ensures.value c.requires.histories (ap length c.deref-9.ensures.value) c.in_ok-lanes.ensures in
-    let coded = subst (λ xs. AreCoded xs (length xs) all) c.deref-13.ensures.value c.in_ok-codes.ensures in
-    let is_told = c.in_ok-told.ensures ∙ ap (λ os. (told_all os c.deref-11.result.now (length c.deref-11.result.now)).reads) c.deref-12.ensures.value
-    ∙ ap (λ xs. (told_all p.owners.items xs (length xs)).reads) c.deref-11.ensures.value in
-    let are_outputs = c.in_ok-outputs.ensures ∙ ap (λ os. map (lane_of c.deref-7.result.now c.deref-8.result.now) os) c.outputs-named.ensures.list
-    ∙ ap (λ ss. map (lane_of ss c.deref-8.result.now) g.outputs) (c.deref-7.ensures.value ∙ stood) ∙ ap (λ ls. map (lane_of (stands_of g) ls) g.outputs) c.deref-8.ensures.value in
     let held = c.in_ok-held.ensures ∙ c.deref-14.ensures.value in
-    let plan : IsPlanOf g (plan_with p.loops infos all told outputs c.in_ok-held.held) =
-    subst (λ ss. IsPlanOf g (plan_with p.loops infos all told outputs ss)) (sym held)
-    (is_plan g p stands bases kinds numbers steps passes codes c.in_ok-steps.ensures infos all told outputs are_infos coded is_told are_outputs) in
-    subst (PlanNames g) (sym c.new.ensures) plan.names
+    subst (PlanNames c.args.graph.now) (sym c.new.ensures) (with_held held (plan (goal.at.returns-clause-names c).In_ok-held (passes (goal.at.returns-clause-names c).After-tables-1))).names

@@ -1,4 +1,5 @@
 use Rattle.std.proofs.Common.{length, ◌∙◌, ap}
+use Rattle.std.specs.Prelude.{sum}
 use Rattle.std.proofs.lemmas.Result.{err_from_is_err_and}
 use Rattle.fv_diagram.specs.Arena.{tree_of}
 use Rattle.fv_diagram.specs.Diagram.{inputs, outputs, size}
@@ -23,7 +24,7 @@ returns-in-Ok-clause-done g c =
     let v = c.program.view_is in
     let is = numbers_same {j = inputs d} {p = outputs d} {m = length p.controls} {t = size d} {e = delay_in p} (c.arity-arity.ensures.arity.0 ∙ ap (λ (e : Evaluated). inputs (tree_of e.diagrams e.root)) v)
     (c.arity-arity.ensures.arity.1 ∙ ap (λ (e : Evaluated). outputs (tree_of e.diagrams e.root)) v) (ap length (c.as_slice.ensures ∙ ap (λ (e : Evaluated). e.controls) v))
-    (c.size-size.ensures.size ∙ ap (λ (e : Evaluated). size (tree_of e.diagrams e.root)) v) c.in_ok-program.ensures.delays in
+    (c.size-size.ensures.size ∙ ap (λ (e : Evaluated). size (tree_of e.diagrams e.root)) v) (c.sum.ensures ∙ ap sum c.in_ok-program.ensures.delays.are) in
     check_done c.args.name.now p (state c.args.desk.now) (state c.load_program.new.desk) (state c.report_numbers.new.desk) c.load_program.ensures.reads
     (c.in_ok-program.ensures.steady (λ e. absurd cc)) c.in_ok-program.ensures.spelled _ is c.in-Ok.ensures.ok c.in-Ok.ensures.steady
 
@@ -35,7 +36,7 @@ returns-clause-stops g c =
     let v = c.program.view_is in
     let is = numbers_same {j = inputs d} {p = outputs d} {m = length p.controls} {t = size d} {e = delay_in p} (c.arity-arity.ensures.arity.0 ∙ ap (λ (e : Evaluated). inputs (tree_of e.diagrams e.root)) v)
     (c.arity-arity.ensures.arity.1 ∙ ap (λ (e : Evaluated). outputs (tree_of e.diagrams e.root)) v) (ap length (c.as_slice.ensures ∙ ap (λ (e : Evaluated). e.controls) v))
-    (c.size-size.ensures.size ∙ ap (λ (e : Evaluated). size (tree_of e.diagrams e.root)) v) c.in_ok-program.ensures.delays in
+    (c.size-size.ensures.size ∙ ap (λ (e : Evaluated). size (tree_of e.diagrams e.root)) v) (c.sum.ensures ∙ ap sum c.in_ok-program.ensures.delays.are) in
     check_tells c.args.name.now p (state c.args.desk.now) (state c.load_program.new.desk) (state c.report_numbers.new.desk) c.load_program.ensures.reads
     (c.in_ok-program.ensures.steady (λ e. absurd cc)) c.in_ok-program.ensures.spelled _ is c.in-Err.ensures.err c.in-Err.ensures.failed
     (λ t sure room. let answered = c.in-Err.ensures.answers t sure room in absurd cc)

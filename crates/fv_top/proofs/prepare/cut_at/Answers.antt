@@ -3,8 +3,8 @@ use Rattle.std.proofs.Math.Nat.{div-mul-le_self}
 use Rattle.fv_wav.specs.Reading.{unknown_size}
 use Rattle.fv_top.proofs.prepare.cut_at.Goals as goal
 
-pub count_frames-frames-requires : goal.count_frames-frames-requires
-count_frames-frames-requires c = λ x e. (c.requires.head x e).0
+pub count_frames-frames-requires-clause-head : goal.count_frames-frames-requires-clause-head
+count_frames-frames-requires-clause-head c = λ x e. (c.requires.head x e).0
 
 pub overflow_add-result : goal.overflow_add-result
 overflow_add-result c =

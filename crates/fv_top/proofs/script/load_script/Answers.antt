@@ -8,7 +8,7 @@ use Rattle.fv_top.specs.Sources.{scripted, of_script}
 use Rattle.fv_top.specs.Loading.{HasScript}
 use Rattle.fv_top.specs.Promise.{HasRefusal, ReadScript}
 use Rattle.fv_top.proofs.Loads.{stops_refused}
-use Rattle.fv_top.proofs.Scripts.{script_is, script_refused, no_script, named_all}
+use Rattle.fv_top.proofs.Scripts.{script_is, script_refused, no_script}
 use Rattle.fv_top.proofs.script.load_script.Goals as goal
 
 pub returns-in_err-script-in-None-clause-err : goal.returns-in_err-script-in-None-clause-err
@@ -27,8 +27,8 @@ returns-in-None-clause-spelled g c = λ t.
 pub returns-in-None-clause-order : goal.returns-in-None-clause-order
 returns-in-None-clause-order g c = (c.scripts_are_lawful.ensures _ _ _ c.in_ok-script-in-None.ensures.spelled).0
 
-pub returns-in-None-clause-named : goal.returns-in-None-clause-named
-returns-in-None-clause-named g c = named_all _ _ (c.scripts_are_lawful.ensures _ _ _ c.in_ok-script-in-None.ensures.spelled).1
+pub returns-in-None-clause-lawful : goal.returns-in-None-clause-lawful
+returns-in-None-clause-lawful g c = (c.scripts_are_lawful.ensures _ _ _ c.in_ok-script-in-None.ensures.spelled).1
 
 pub returns-in_err-script-clause-err : goal.returns-in_err-script-clause-err
 returns-in_err-script-clause-err g c =
@@ -53,5 +53,5 @@ returns-clause-spelled g c = λ t.
 pub returns-clause-order : goal.returns-clause-order
 returns-clause-order g c = (c.scripts_are_lawful.ensures _ _ _ c.in_ok-script.ensures.spelled).0
 
-pub returns-clause-named : goal.returns-clause-named
-returns-clause-named g c = named_all _ _ (c.scripts_are_lawful.ensures _ _ _ c.in_ok-script.ensures.spelled).1
+pub returns-clause-lawful : goal.returns-clause-lawful
+returns-clause-lawful g c = (c.scripts_are_lawful.ensures _ _ _ c.in_ok-script.ensures.spelled).1

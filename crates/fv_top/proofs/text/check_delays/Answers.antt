@@ -1,4 +1,3 @@
-use Rattle.std.specs.Prelude.{sum}
 use Rattle.std.proofs.Common.{◌≡◌, ◌⊎◌, List, Ok, Err, ◌∙◌, ap, subst}
 use Rattle.std.proofs.lemmas.Result.{err_from_is_err_and}
 use Rattle.fv_num.specs.Interval.{Interval}
@@ -7,7 +6,7 @@ use Rattle.fv_interval.specs.Delays.{delays_of, AreAccepted, IsDelayRefusal}
 use Rattle.fv_eval.specs.Evaluated.{Evaluated}
 use Rattle.fv_top.specs.Playable.{compiled_of}
 use Rattle.fv_top.specs.declared.refusal.Refusal.TheVariants.{NoMemory}
-use Rattle.fv_top.specs.Program.{IsOfText, control_spans, delayed, first_bad, delays_in, delay_in}
+use Rattle.fv_top.specs.Program.{IsOfText, control_spans, delayed, first_bad, delays_in}
 use Rattle.fv_top.proofs.Delayed.{delays_pass, delays_stop}
 use Rattle.fv_top.proofs.text.check_delays.Goals as goal
 
@@ -31,11 +30,10 @@ returns-clause-ok c =
     subst (λ (w : Evaluated). delayed (compiled_of w) (first_bad (delays_in (compiled_of w))) ≡ Ok (compiled_of w)) c.program.view_is
     (delays_pass (compiled_of q) ds (subst (λ (ss : List Interval). AreAccepted (delays_of (tree_of i.diagrams i.root) ss) ds) same c.in_ok-delays.ensures.ok))
 
-pub returns-clause-sum : goal.returns-clause-sum
-returns-clause-sum c =
+pub returns-clause-accepted : goal.returns-clause-accepted
+returns-clause-accepted c =
     let i = c.program.inside in
-    let q : Evaluated = record { diagrams = i.diagrams; root = i.root; controls = i.controls } in
     let same : c.deref.result.now ≡ control_spans i.controls = c.deref.ensures.value ∙ c.in_ok-controls.ensures ∙ ap control_spans c.as_slice.ensures in
     let ds = c.in_ok-delays.delays in
     let all = subst (λ (ss : List Interval). AreAccepted (delays_of (tree_of i.diagrams i.root) ss) ds) same c.in_ok-delays.ensures.ok in
-    subst (λ (w : Evaluated). c.sum.result ≡ delay_in (compiled_of w)) c.program.view_is (c.sum.ensures ∙ ap sum all.are)
+    subst (λ (w : Evaluated). AreAccepted (delays_in (compiled_of w)) ds) c.program.view_is all

@@ -1,0 +1,4 @@
+pub mod Seats
+pub mod Begun
+pub mod Told
+pub mod Closed

@@ -1,0 +1,34 @@
+-- What a worker's seat means (this project's profile).
+use Rattle.std.specs.Prelude.{◌≡◌, ℕ, ◌+◌, ◌<◌, ◌≤◌, List, ◌∷◌, ◌++◌, length, Option, Some, vec_capacity, MatchOption}
+use Rattle.atomic_table.specs.Seated.{TableId}
+use Rattle.fv_outside.specs.Tasks.{times, task_count}
+use Rattle.fv_graph.specs.Graph.{inward, outward}
+use Rattle.fv_rule.specs.declared.About.{About}
+use Rattle.fv_rule.specs.declared.View.{View}
+use Rattle.fv_rule.specs.Wired.{graph_wires}
+use Rattle.fv_rule.specs.Rule.{places}
+use Rattle.fv_rule.specs.Carried.{IsFree, IsBusy}
+use Rattle.fv_ready.specs.declared.seat.WorkerSeat.{WorkerSeat}
+
+-- where an edge stands first in a list
+abbrev pub IsPlaceOf : List ℕ → ℕ → ℕ → Type 0
+IsPlaceOf edges edge place = (xs ys : List ℕ) × (edges ≡ xs ++ edge ∷ ys) × (place ≡ length xs) × (times edge xs ≡ 0)
+
+module _ {C : Type 0} where
+  -- what the seat knows: its board, its numbers, and the list of its steps
+  abbrev pub view_of : WorkerSeat C → View C
+  view_of s = s.seat.me.0
+
+  -- the slots that the seat has, each with its edge and what it holds
+  abbrev pub slots_of : WorkerSeat C → List (ℕ × Option C)
+  slots_of s = s.seat.me.1
+
+-- a seat of this board, whatever it has in hand
+pub record IsSeat {C Key : Type 0} (edge_of : C → ℕ) (key_of : C → Key) (id : TableId) (a : About C) (s : WorkerSeat C) : Type 0 where
+  pub name : s.seat.table_id ≡ id
+  pub board : (view_of s).board ≡ Some a
+  pub mirror : places (slots_of s) ≡ s.edges.items
+  pub room : (t : ℕ) → t < task_count a.tasks.value.tasks → length (inward a.tasks.value.tasks t) + length (outward a.tasks.value.tasks t)
+      ≤ vec_capacity s.edges
+  pub hand : MatchOption s.in_hand (IsFree graph_wires edge_of key_of a (view_of s) (slots_of s))
+      (λ r. IsBusy graph_wires edge_of key_of a r.task r.started (view_of s) (slots_of s))

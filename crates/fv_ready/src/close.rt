@@ -1,0 +1,145 @@
+// The end of a board.
+
+ghost use Rattle.std.specs.Prelude.{◌≡◌, ℕ, ◌+◌, ◌*◌, ◌-◌, ◌^◌, ◌<◌, ◌≤◌, ◌↔◌, IsTrue, length, List, ◌++◌, true, Some, vec_len, vec_capacity};
+ghost use Rattle.std.specs.Slots.{slots_items, slots_filled, slots_len, IsFull};
+ghost use mathlib.Core.Option.{some};
+ghost use lib.ListN.{get_elem?};
+ghost use Rattle.fv_outside.specs.Tasks.{times, task_count};
+ghost use Rattle.fv_graph.specs.Graph.{IsGraph, edges_of, net_of};
+ghost use Rattle.fv_rule.specs.Rule.{done_by, finishes, wins, claim_word};
+ghost use Rattle.fv_rule.specs.Told.{Tells};
+ghost use Rattle.fv_rule.specs.declared.Deed.{Deed};
+ghost use Rattle.fv_ready.specs.Told.{told_by, having};
+ghost use Rattle.fv_ready.specs.Closed.{AreSeats, AreParcels, AreSlots, IsTaken};
+
+use crate::board::Board;
+use crate::rule::{GivesBack, Together, Whole};
+use crate::seat::WorkerSeat;
+use atomic_table::{Closed, Seat, Shared};
+use fv_rule::{About, Parcel, View};
+use std::alloc::Global;
+
+// One seat for all.
+fn gather<C: Parcel>(
+    table: &Shared<Option<C>, View<C>, About<C>, Whole<C>>,
+    mut seats: Vec<WorkerSeat<C>>,
+) -> Seat<Option<C>, View<C>>
+    requires some { 0 < vec_len seats }
+    requires words { 0 < table.now.table_id.words }
+    requires graph { IsGraph table.now.key.tasks.value.tasks }
+    requires seats { AreSeats C.edge_of C.key_of table.now.table_id table.now.key seats.items }
+    ensures board { (result.table_id ≡ table.now.table_id) × (result.me.0.board ≡ Some table.now.key) }
+    ensures lists { (f : Deed → ℕ) → done_by f result.me.0 ≡ told_by f seats.items }
+    ensures numbers { (k : ℕ) → times k result.me.0.numbers ≡ having k seats.items }
+{
+    let WorkerSeat {
+        seat: mut all,
+        edges: _,
+        in_hand: _,
+    } = seats.pop().unwrap();
+    while let Some(other) = seats.pop() {
+        let WorkerSeat {
+            mut seat,
+            edges: _,
+            in_hand: _,
+        } = other;
+        table.load::<GivesBack<C>>(&mut seat, 0);
+        table.join_seat::<Together<C>>(&mut all, seat);
+    }
+    all
+}
+
+// No task is claimed.
+fn is_untouched<C>(closed: &Closed<Option<C>, Global>, tasks: u64) -> bool
+    requires words { IsFull closed.now.words × (slots_len closed.now.words ≡ 1 + tasks + tasks) × (1 + tasks + tasks < 2 ^ 64) }
+    ensures { IsTrue result ↔ ((t : ℕ) → t < tasks → get_elem? (slots_items closed.now.words) (claim_word tasks t) ≡ some 0) }
+{
+    for t in 0..tasks {
+        if closed.word(1 + tasks as usize + t as usize) != 0 {
+            return false;
+        }
+    }
+    true
+}
+
+// Takes the slots out and lets what they hold go.
+fn discard<C: Drop>(closed: &mut Closed<Option<C>, Global>, from: u64, to: u64)
+    requires range { (from ≤ to) × (to ≤ slots_len closed.old.slots) }
+    requires taken { IsTaken (slots_filled closed.old.slots) (slots_len closed.old.slots) from }
+    ensures same { (slots_items closed.new.slots ≡ slots_items closed.old.slots) × (slots_len closed.new.slots ≡ slots_len closed.old.slots) × (closed.new.words ≡ closed.old.words) }
+    ensures taken { IsTaken (slots_filled closed.new.slots) (slots_len closed.old.slots) to }
+{
+    for e in from..to {
+        drop(closed.take(e as usize));
+    }
+}
+
+// Takes the slots out, and appends their parcels.
+fn take_out<C: Drop>(closed: &mut Closed<Option<C>, Global>, from: u64, to: u64, exits: &mut Vec<C>)
+    requires range { (from ≤ to) × (to ≤ slots_len closed.old.slots) }
+    requires taken { IsTaken (slots_filled closed.old.slots) (slots_len closed.old.slots) from }
+    requires full { (e : ℕ) → from ≤ e → e < to → (p : C) × (get_elem? (slots_items closed.old.slots) e ≡ some (Some p)) }
+    requires room { vec_len exits.old + (to - from) ≤ vec_capacity exits.old }
+    ensures same { (slots_items closed.new.slots ≡ slots_items closed.old.slots) × (slots_len closed.new.slots ≡ slots_len closed.old.slots) × (closed.new.words ≡ closed.old.words) }
+    ensures taken { IsTaken (slots_filled closed.new.slots) (slots_len closed.old.slots) to }
+    ensures exits { (ps : List C) × (exits.new.items ≡ exits.old.items ++ ps) × (length ps ≡ to - from) × AreSlots (slots_items closed.old.slots) from ps }
+{
+    for e in from..to {
+        let parcel = closed.take(e as usize).unwrap();
+        exits.push_reserved(parcel);
+    }
+}
+
+// Takes all slots out, and appends the parcels of those from one place to another.
+fn hand_out<C: Drop>(
+    mut closed: Closed<Option<C>, Global>,
+    from: u64,
+    to: u64,
+    edges: u64,
+    exits: &mut Vec<C>,
+)
+    requires range { (from ≤ to) × (to ≤ edges) × (slots_len closed.slots ≡ edges) }
+    requires filled { IsFull closed.slots }
+    requires full { (e : ℕ) → from ≤ e → e < to → (p : C) × (get_elem? (slots_items closed.slots) e ≡ some (Some p)) }
+    requires room { vec_len exits.old + (to - from) ≤ vec_capacity exits.old }
+    ensures { (ps : List C) × (exits.new.items ≡ exits.old.items ++ ps) × (length ps ≡ to - from) × AreSlots (slots_items closed.slots) from ps }
+{
+    discard(&mut closed, 0, from);
+    take_out(&mut closed, from, to, exits);
+    discard(&mut closed, to, edges);
+    closed.free();
+}
+
+impl<'t, C: Parcel + Drop> Board<'t, C> {
+    /// Joins the seats, which are all that the board had, and ends the board. True exactly where every task is done: then the
+    /// exits get the parcels of the exit edges, in the order of the loops. Where no task was taken they get the entries back, in
+    /// that order, and in every other case nothing.
+    pub fn close(self, seats: Vec<WorkerSeat<C>>, exits: &mut Vec<C>) -> bool
+        requires seats { AreSeats C.edge_of C.key_of self.table.shared.table_id self.table.shared.key seats.items }
+        requires all { (0 < self.table.shared.key.workers) × ((k : ℕ) → k < self.table.shared.key.workers → having k seats.items ≡ 1) }
+        requires room { vec_len exits.old + self.tasks.now.tasks.loops ≤ vec_capacity exits.old }
+        ensures done { IsTrue result ↔ ((t : ℕ) → t < task_count self.entry.tasks.now.tasks → told_by (finishes t) seats.items ≡ 1) }
+        ensures tells { Tells (net_of self.entry.tasks.now.tasks) (λ f. told_by f seats.items) }
+        ensures exits { IsTrue result → (ps : List C) × (exits.new.items ≡ exits.old.items ++ ps) × (length ps ≡ self.entry.tasks.now.tasks.loops) × AreParcels C.edge_of C.key_of self.entry.table.shared.key (edges_of self.entry.tasks.now.tasks - self.entry.tasks.now.tasks.loops) ps }
+        ensures entries { ((t : ℕ) → t < task_count self.entry.tasks.now.tasks → told_by (wins t) seats.items ≡ 0) → (ps : List C) × (exits.new.items ≡ exits.old.items ++ ps) × (length ps ≡ self.entry.tasks.now.tasks.loops) × AreParcels C.edge_of C.key_of self.entry.table.shared.key 0 ps }
+        ensures nothing { (IsTrue result → ⊥) → (t : ℕ) → t < task_count self.entry.tasks.now.tasks → 0 < told_by (wins t) seats.items → exits.new.items ≡ exits.old.items }
+    {
+        let Board { tasks, table } = self;
+        let loops = tasks.loops();
+        let edges = tasks.edges();
+        let n = tasks.len();
+        let all = gather(&table.shared, seats);
+        let closed = table.close_with(all);
+        let stamps = closed.word(0);
+        if stamps == 2 * n {
+            hand_out(closed, edges - loops, edges, edges, exits);
+            return true;
+        }
+        if is_untouched(&closed, n) {
+            hand_out(closed, 0, loops, edges, exits);
+            return false;
+        }
+        hand_out(closed, 0, 0, edges, exits);
+        false
+    }
+}

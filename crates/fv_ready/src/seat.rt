@@ -1,0 +1,60 @@
+// A worker's seat: what it did, what it has in hand, and the slots that it has.
+
+ghost use Rattle.std.specs.Prelude.{◌≡◌, ℕ, ◌+◌, ◌<◌, ◌≤◌, length, ◌++◌, ◌==◌, position, vec_len, vec_capacity};
+ghost use Rattle.fv_outside.specs.Tasks.{times};
+ghost use Rattle.fv_rule.specs.Spun.{spun};
+ghost use Rattle.fv_ready.specs.Seats.{IsPlaceOf};
+
+use atomic_table::Seat;
+use fv_rule::View;
+
+/// The task that a seat took last and has not finished.
+#[derive(Clone, Copy, PartialEq, Eq, Debug)]
+pub struct InHand {
+    pub task: u64,
+    pub started: bool,
+}
+
+/// One worker's seat at a board.
+#[derive(Drop)]
+pub struct WorkerSeat<C> {
+    pub(crate) seat: Seat<Option<C>, View<C>>,
+    // the edges of the slots that the seat has, in their order
+    pub(crate) edges: Vec<u64>,
+    pub(crate) in_hand: Option<InHand>,
+}
+
+// Where a number stands first.
+fn first_place(edges: &[u64], edge: u64) -> Option<usize>
+    ensures { result ≡ position (λ e. e == edge) edges.now }
+{
+    edges.iter().position(|e| *e == edge)
+}
+
+// The place of an edge in a list that has it.
+pub(crate) fn place_of(edges: &[u64], edge: u64) -> usize
+    requires { 0 < times edge edges.now }
+    ensures { IsPlaceOf edges.now edge result }
+{
+    first_place(edges, edge).unwrap()
+}
+
+// Puts a list behind another one that has room for it.
+pub(crate) fn append(list: &mut Vec<u64>, more: &[u64])
+    requires { vec_len list.old + length more.now ≤ vec_capacity list.old }
+    ensures items { list.new.items ≡ list.old.items ++ more.now }
+    ensures room { vec_capacity list.new ≡ vec_capacity list.old }
+{
+    for edge in more {
+        list.push_reserved(*edge);
+    }
+}
+
+// Turns the slots of a seat.
+pub(crate) fn spin<C>(seat: &mut Seat<Option<C>, View<C>>, n: usize)
+    ensures { (seat.new.table_id ≡ seat.old.table_id) × (seat.new.id ≡ seat.old.id) × (seat.new.me ≡ (seat.old.me.0, spun n seat.old.me.1)) }
+{
+    for _i in 0..n {
+        seat.turn();
+    }
+}

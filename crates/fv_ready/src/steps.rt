@@ -1,0 +1,145 @@
+// The steps on words: looks, claims, stamps and arrivals. Each is one atomic step.
+
+ghost use Rattle.std.specs.Prelude.{◌≡◌, ℕ, ◌+◌, ◌<◌, ◌==◌, not, drop, List, Option, Some, None, [], ◌++◌, true, false, MatchBool, IfSome, IsSomeAnd};
+ghost use Rattle.fv_outside.specs.Tasks.{task_count, times};
+ghost use Rattle.fv_graph.specs.Graph.{net_of, inward, outward, feeds_of};
+ghost use Rattle.fv_rule.specs.Wired.{graph_wires};
+ghost use Rattle.fv_rule.specs.Rule.{noted, done_by, sees, stamps, finishes, arrives, Took, going};
+ghost use Rattle.fv_rule.specs.Carried.{AreHanded, but_slot};
+ghost use Rattle.fv_rule.specs.declared.Deed.TheVariants.{Stamped, Arrived, Saw, Claimed};
+ghost use Rattle.fv_ready.specs.Seats.{IsSeat, view_of, slots_of};
+
+use crate::board::Board;
+use crate::rule::{Arriving, Claiming, Finishing, Look, Starting};
+use crate::seat::{InHand, WorkerSeat, append, place_of, spin};
+use fv_rule::Parcel;
+
+impl<'t, C: Parcel> Board<'t, C> {
+    /// The task's count is 0 at this step.
+    pub fn is_ready(&self, seat: &mut WorkerSeat<C>, t: u64) -> bool
+        requires seat { IsSeat C.edge_of C.key_of self.now.table.shared.table_id self.now.table.shared.key seat.old }
+        requires task { t < task_count self.now.tasks.now.tasks }
+        ensures list { (c : ℕ) × (view_of seat.new ≡ noted (view_of seat.old) (Saw t c)) × (result ≡ (c == 0)) }
+        ensures slots { slots_of seat.new ≡ slots_of seat.old }
+        ensures hand { seat.new.in_hand ≡ seat.old.in_hand }
+        ensures seat { IsSeat C.edge_of C.key_of self.now.table.shared.table_id self.now.table.shared.key seat.new }
+    {
+        let found = self
+            .table
+            .shared
+            .load::<Look<C>>(&mut seat.seat, 1 + t as usize);
+        found == 0
+    }
+
+    /// True exactly where this is the first claim of the task. The seat has the task in hand then, with the slots of its edges,
+    /// of which the inward ones are full and the outward ones empty.
+    pub fn claim(&self, seat: &mut WorkerSeat<C>, t: u64) -> bool
+        requires seat { IsSeat C.edge_of C.key_of self.now.table.shared.table_id self.now.table.shared.key seat.old }
+        requires free { (seat.old.in_hand ≡ None) × (slots_of seat.old ≡ []) }
+        requires ready { (t < task_count self.now.tasks.now.tasks) × (0 < done_by (sees t) (view_of seat.old)) }
+        ensures list { view_of seat.new ≡ noted (view_of seat.old) (Claimed t result) }
+        ensures hand { MatchBool result (seat.new.in_hand ≡ Some (record { task = t; started = false })) (seat.new.in_hand ≡ None) }
+        ensures slots { MatchBool result (Took graph_wires C.edge_of C.key_of self.now.table.shared.key (inward self.now.tasks.now.tasks t) (outward self.now.tasks.now.tasks t) [] (slots_of seat.new)) (slots_of seat.new ≡ []) }
+        ensures seat { IsSeat C.edge_of C.key_of self.now.table.shared.table_id self.now.table.shared.key seat.new }
+    {
+        let n = self.tasks.len();
+        let found = self
+            .table
+            .shared
+            .swap::<Claiming<C>>(&mut seat.seat, 1 + n as usize + t as usize, 1);
+        if found != 0 {
+            return false;
+        }
+        append(&mut seat.edges, self.tasks.inward(t));
+        append(&mut seat.edges, self.tasks.outward(t));
+        seat.in_hand = Some(InHand {
+            task: t,
+            started: false,
+        });
+        true
+    }
+
+    // The start of the task in hand.
+    fn start(&self, seat: &mut WorkerSeat<C>, task: u64) -> u64
+        requires seat { IsSeat C.edge_of C.key_of self.now.table.shared.table_id self.now.table.shared.key seat.old }
+        requires hand { seat.old.in_hand ≡ Some (record { task = task; started = false }) }
+        ensures list { view_of seat.new ≡ noted (view_of seat.old) (Stamped result task true) }
+        ensures above { (k : ℕ) → 0 < done_by (stamps k) (view_of seat.old) → k < result }
+        ensures slots { slots_of seat.new ≡ slots_of seat.old }
+        ensures hand { seat.new.in_hand ≡ Some (record { task = task; started = true }) }
+        ensures seat { IsSeat C.edge_of C.key_of self.now.table.shared.table_id self.now.table.shared.key seat.new }
+    {
+        let number = self
+            .table
+            .shared
+            .fetch_add::<Starting<C>>(&mut seat.seat, 0, 1);
+        seat.in_hand = Some(InHand {
+            task,
+            started: true,
+        });
+        number
+    }
+
+    // The finish of the task in hand. The slots of the edges into it go back, and so does that of its exit edge.
+    fn finish(&self, seat: &mut WorkerSeat<C>, task: u64) -> u64
+        requires seat { IsSeat C.edge_of C.key_of self.now.table.shared.table_id self.now.table.shared.key seat.old }
+        requires hand { seat.old.in_hand ≡ Some (record { task = task; started = true }) }
+        requires handed { AreHanded graph_wires C.edge_of C.key_of self.now.table.shared.key task (slots_of seat.old) }
+        ensures list { view_of seat.new ≡ noted (view_of seat.old) (Stamped result task false) }
+        ensures above { (k : ℕ) → 0 < done_by (stamps k) (view_of seat.old) → k < result }
+        ensures slots { slots_of seat.new ≡ drop (going graph_wires C.edge_of C.key_of self.now.table.shared.key task) (slots_of seat.old) }
+        ensures hand { seat.new.in_hand ≡ None }
+        ensures seat { IsSeat C.edge_of C.key_of self.now.table.shared.table_id self.now.table.shared.key seat.new }
+    {
+        let number = self
+            .table
+            .shared
+            .fetch_add::<Finishing<C>>(&mut seat.seat, 0, 1);
+        seat.edges.clear();
+        append(&mut seat.edges, self.tasks.feeds(task));
+        seat.in_hand = None;
+        number
+    }
+
+    /// The next stamp: the start of the task in hand, or its finish. At the finish the slots of the edges into the task go back,
+    /// and so does that of its exit edge.
+    pub fn stamp(&self, seat: &mut WorkerSeat<C>) -> u64
+        requires seat { IsSeat C.edge_of C.key_of self.now.table.shared.table_id self.now.table.shared.key seat.old }
+        requires hand { IsSomeAnd seat.old.in_hand (λ r. r.started ≡ true → AreHanded graph_wires C.edge_of C.key_of self.now.table.shared.key r.task (slots_of seat.old)) }
+        ensures list { IfSome seat.old.in_hand (λ r. view_of seat.new ≡ noted (view_of seat.old) (Stamped result r.task (not r.started))) }
+        ensures above { (k : ℕ) → 0 < done_by (stamps k) (view_of seat.old) → k < result }
+        ensures start { IfSome seat.old.in_hand (λ r. r.started ≡ false → (seat.new.in_hand ≡ Some (record { task = r.task; started = true })) × (slots_of seat.new ≡ slots_of seat.old)) }
+        ensures finish { IfSome seat.old.in_hand (λ r. r.started ≡ true → (seat.new.in_hand ≡ None) × (slots_of seat.new ≡ drop (going graph_wires C.edge_of C.key_of self.now.table.shared.key r.task) (slots_of seat.old))) }
+        ensures seat { IsSeat C.edge_of C.key_of self.now.table.shared.table_id self.now.table.shared.key seat.new }
+    {
+        let InHand { task, started } = seat.in_hand.unwrap();
+        if started {
+            self.finish(seat, task)
+        } else {
+            self.start(seat, task)
+        }
+    }
+
+    /// The count of the edge's reader after it. The seat owes the edge no more: its slot goes back with the parcel.
+    pub fn arrive(&self, seat: &mut WorkerSeat<C>, edge: u64) -> u64
+        requires seat { IsSeat C.edge_of C.key_of self.now.table.shared.table_id self.now.table.shared.key seat.old }
+        requires inner { (net_of self.now.tasks.now.tasks).is_inner edge ≡ true }
+        requires owed { (0 < done_by (finishes ((net_of self.now.tasks.now.tasks).source edge)) (view_of seat.old)) × (done_by (arrives edge) (view_of seat.old) ≡ 0) }
+        ensures list { view_of seat.new ≡ noted (view_of seat.old) (Arrived edge result) }
+        ensures slots { slots_of seat.new ≡ but_slot (slots_of seat.old) edge }
+        ensures hand { (seat.old.in_hand ≡ None) × (seat.new.in_hand ≡ None) }
+        ensures seat { IsSeat C.edge_of C.key_of self.now.table.shared.table_id self.now.table.shared.key seat.new }
+    {
+        let place = place_of(seat.edges.as_slice(), edge);
+        let reader = self.tasks.reader(edge);
+        let behind = seat.edges.len() - 1 - place;
+        spin(&mut seat.seat, place);
+        let found = self
+            .table
+            .shared
+            .fetch_sub::<Arriving<C>>(&mut seat.seat, 1 + reader as usize, 1);
+        spin(&mut seat.seat, behind);
+        seat.edges.remove(place);
+        found - 1
+    }
+}

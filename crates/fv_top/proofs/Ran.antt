@@ -1,0 +1,108 @@
+-- The blocks of a run and of a make, from those that were rendered.
+use Rattle.std.proofs.Common.{◌≡◌, ℕ, ◌+◌, ◌-◌, ◌*◌, ◌/◌, ◌^◌, ◌<◌, ◌≤◌, Bool, true, false, List, [], length, subst, refl, arith}
+use Rattle.std.specs.Prelude.{Option, Some, None, ◌==◌, if◌then◌else◌}
+use Rattle.std.specs.List.{AllByRecursion}
+use Rattle.std.proofs.Math.Nat.{div-mul-le_self, mul-le-mul_left}
+use Rattle.std.proofs.lemmas.Bool.{eqb-true}
+use Rattle.fv_base.proofs.Lists.{length_table}
+use Rattle.fv_num.specs.Frames.{Frame}
+use Rattle.fv_outside.specs.Journal.{Told}
+use Rattle.fv_outside.specs.Desk.{DeskState}
+use Rattle.fv_diagram.specs.Arena.{tree_of}
+use Rattle.fv_control.specs.declared.script.Change.{Change}
+use Rattle.fv_control.specs.Laws.{NeverFall, IsOfControls}
+use Rattle.fv_interval.specs.Delays.{AreAccepted}
+use Rattle.fv_eval.specs.Evaluated.{Evaluated}
+use Rattle.fv_render.specs.Render.{CanRender, CanHave, RanWhole}
+use Rattle.fv_wav.specs.declared.head.Head.{Head}
+use Rattle.fv_wav.specs.Reading.{frame_size, unknown_size}
+use Rattle.fv_wav.specs.Samples.{whole_bytes}
+use Rattle.fv_wav.specs.Stopping.{IsHead}
+use Rattle.fv_words.specs.Runs.{Settings, AreSound}
+use Rattle.fv_words.specs.Commands.{Making}
+use Rattle.fv_top.specs.Sources.{frames_of}
+use Rattle.fv_top.specs.Program.{delays_in}
+use Rattle.fv_top.specs.Playable.{compiled_of, CanPlay}
+use Rattle.fv_top.specs.Promise.{Asks}
+use Rattle.fv_top.specs.Played.{sizes_of, make_sizes, AllRan, MakeRan, MakeSoFar, RanSoFar}
+use Rattle.fv_top.specs.Prepared.{cut_at}
+use Rattle.fv_top.proofs.Rendering.{frame_some}
+
+-- a quotient is no more than what is divided
+quotient_least : (long size : ℕ) → 1 ≤ size → long / size ≤ long
+quotient_least long size some =
+    let whole = div-mul-le_self long size in
+    let more : long / size * 1 ≤ long / size * size = mul-le-mul_left (long / size) some in
+    omega arith
+
+-- 32 bits count the whole frames in no more bytes than a head states
+pub frames_small : (h : Head) (long : ℕ) → IsHead h → long ≤ whole_bytes h → long / frame_size h.channels h.bits < 2 ^ 32
+frames_small h long p most =
+    let size = frame_size h.channels h.bits in
+    let some : 0 < size = frame_some h p in
+    let least = quotient_least long size (omega arith) in
+    let whole = div-mul-le_self h.data_bytes size in
+    let stated : h.data_bytes < unknown_size = p.size in
+    omega arith
+
+-- where an input is not cut short, all its frames are there
+test_by : (b : Bool) (k : ℕ) → (let r : Option ℕ = if b then None else Some k in r ≡ None) → b ≡ true
+test_by true k e = refl
+test_by false k e = absurd cc
+
+pub whole_frames : (head : Option Head) (stated : ℕ) (raw : List ℕ) → cut_at head stated raw ≡ None → length (frames_of stated head raw) ≡ stated
+whole_frames None stated raw e = length_table {A = Frame} stated (λ t. [])
+whole_frames (Some h) stated raw e =
+    eqb-true (length (frames_of stated (Some h) raw)) stated (test_by (length (frames_of stated (Some h) raw) == stated) (h.place + length raw) e)
+
+-- ---- what is played can be rendered
+
+pub can_render : (p : Evaluated) (delays : List ℕ) (changes : List Change) → CanPlay p → AreAccepted (delays_in (compiled_of p)) delays → NeverFall 0 changes →
+    AllByRecursion (IsOfControls p.controls) changes → CanRender (tree_of p.diagrams p.root) p.controls delays changes
+can_render p delays changes plays accepted order lawful = record {
+  well = plays.well;
+  closed = plays.closed;
+  some = plays.some;
+  few = plays.narrow;
+  reads = plays.reads;
+  bounded = plays.bounded;
+  accepted = accepted;
+  order = order;
+  lawful = lawful;
+}
+
+pub can_have : (s : Settings) (frames : ℕ) → AreSound s → CanHave (sizes_of s frames)
+can_have s frames h =
+    let some : 1 ≤ s.vector = h.vector_least in
+    let same : s.block + s.vector - 1 ≡ s.block + (s.vector - 1) = omega arith in
+    record {
+      some = h.block_least;
+      block = h.block_most;
+      vector = h.vector_least;
+      vectors = subst (λ (n : ℕ). n / s.vector ≤ 64) same h.vectors;
+      one = h.workers_least;
+      workers = let most = h.workers_most in omega arith;
+    }
+
+pub makes_fit : (frames : ℕ) → CanHave (make_sizes frames)
+makes_fit frames = record { some = omega arith; block = omega arith; vector = omega arith; vectors = omega arith; one = omega arith; workers = omega arith }
+
+-- ---- the blocks of a make
+
+pub make_ran : (voices frames blocks loops runs : ℕ) (old : DeskState) (before after : Option Told) → (m : MakeRan voices frames blocks loops runs before after) →
+    (x : AllRan (Making voices frames) old blocks loops runs before after) × (x.played.sizes.frames ≡ frames)
+make_ran voices frames blocks loops runs old before after m = (
+  record { played = record { program = m.0; changes = []; sizes = make_sizes frames }; is = (refl, refl, m.1); ran = m.2 },
+  refl,
+)
+
+pub make_so_far : (words : List (List ℕ)) (voices frames : ℕ) (old : DeskState) (before after : Option Told) → Asks words (Making voices frames) → MakeSoFar voices frames before after →
+    RanSoFar words old before after
+make_so_far words voices frames old before after asks m = record {
+  job = Making voices frames;
+  asks = asks;
+  blocks = m.blocks;
+  loops = m.loops;
+  runs = m.runs;
+  ran = (make_ran voices frames m.blocks m.loops m.runs old before after m.ran).0;
+}

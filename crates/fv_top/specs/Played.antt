@@ -1,0 +1,78 @@
+-- The blocks of what is asked for (this project's profile).
+use Rattle.std.specs.Prelude.{◌≡◌, ◌⊎◌, ℕ, IsTrue, List, [], length, Option}
+use Rattle.fv_outside.specs.Journal.{Told}
+use Rattle.fv_outside.specs.Desk.{DeskState}
+use Rattle.fv_control.specs.declared.script.Change.{Change}
+use Rattle.fv_render.specs.declared.rendering.RunSizes.{RunSizes}
+use Rattle.fv_render.specs.Render.{RanWhole}
+use Rattle.fv_words.specs.Runs.{Settings}
+use Rattle.fv_words.specs.Commands.{Job, Playing, Checking, Making}
+use Rattle.fv_top.specs.declared.status.Tally.{Tally}
+use Rattle.fv_top.specs.Sources.{Compiled}
+use Rattle.fv_top.specs.Sound.{present_in}
+use Rattle.fv_top.specs.Promise.{Asks, Plays, IsMade}
+
+-- what is played: a program under these changes of its controls, so many frames, in blocks and vectors of these sizes
+pub record Played : Type 0 where
+  pub program : Compiled
+  pub changes : List Change
+  pub sizes : RunSizes
+
+-- the sizes of a run with these settings
+abbrev pub sizes_of : Settings → (frames : ℕ) → RunSizes
+sizes_of s frames = record { frames = frames; block = s.block; vector = s.vector; workers = s.workers }
+
+-- and those of a make
+abbrev pub make_sizes : (frames : ℕ) → RunSizes
+make_sizes frames = record { frames = frames; block = 256; vector = 32; workers = 1 }
+
+-- This is what is played: of a run, where the desk tells its files, their program under their script, as many frames as are
+-- there whole; of a make the program of so many voices.
+abbrev pub IsPlayed : Job → DeskState → Played → Type 0
+IsPlayed (Playing run) old x =
+    (x.sizes ≡ sizes_of run.settings x.sizes.frames)
+    × (IsTrue old.tells → (p : Plays run old.files) × (p.of.compiled ≡ x.program) × (p.changes ≡ x.changes) × (length (present_in p.sound p.source) ≡ x.sizes.frames))
+IsPlayed (Checking name) old x = ⊥
+IsPlayed (Making voices frames) old x = (x.sizes ≡ make_sizes frames) × (x.changes ≡ []) × IsMade voices x.program
+
+-- Its blocks ran: in each of them each loop of a plan of the program ran once on each vector, after all that it reads.
+pub record AllRan (job : Job) (old : DeskState) (blocks loops runs : ℕ) (before after : Option Told) : Type 0 where
+  pub played : Played
+  pub is : IsPlayed job old played
+  pub ran : RanWhole played.program.diagram played.program.controls played.changes played.sizes blocks loops runs before after
+
+-- the blocks of a make
+abbrev pub MakeRan : (voices frames blocks loops runs : ℕ) → (before after : Option Told) → Type 0
+MakeRan voices frames blocks loops runs before after =
+    (p : Compiled) × IsMade voices p × RanWhole p.diagram p.controls [] (make_sizes frames) blocks loops runs before after
+
+-- the same, however many
+pub record MakeSoFar (voices frames : ℕ) (before after : Option Told) : Type 0 where
+  pub blocks : ℕ
+  pub loops : ℕ
+  pub runs : ℕ
+  pub ran : MakeRan voices frames blocks loops runs before after
+
+-- The blocks of what is done, as the tally counts them: those of all its frames; a check has none.
+abbrev pub BlocksOf : Job → Tally → DeskState → (before after : Option Told) → Type 0
+BlocksOf (Playing run) t old before after = (x : AllRan (Playing run) old t.blocks t.loops t.loop_runs before after) × (x.played.sizes.frames ≡ t.frames)
+BlocksOf (Checking name) t old before after = (t.blocks ≡ 0) × (t.loops ≡ 0) × (t.loop_runs ≡ 0) × (after ≡ before)
+BlocksOf (Making voices frames) t old before after = (x : AllRan (Making voices frames) old t.blocks t.loops t.loop_runs before after) × (x.played.sizes.frames ≡ t.frames)
+
+pub record HasBlocks (words : List (List ℕ)) (t : Tally) (old : DeskState) (before after : Option Told) : Type 0 where
+  pub job : Job
+  pub asks : Asks words job
+  pub blocks : BlocksOf job t old before after
+
+-- The blocks of what was refused behind them.
+pub record RanSoFar (words : List (List ℕ)) (old : DeskState) (before after : Option Told) : Type 0 where
+  pub job : Job
+  pub asks : Asks words job
+  pub blocks : ℕ
+  pub loops : ℕ
+  pub runs : ℕ
+  pub ran : AllRan job old blocks loops runs before after
+
+-- What is told by a run that is refused: nothing, or all its blocks.
+abbrev pub HasBlocksSoFar : (words : List (List ℕ)) → (old : DeskState) → (before after : Option Told) → Type 0
+HasBlocksSoFar words old before after = (after ≡ before) ⊎ RanSoFar words old before after
