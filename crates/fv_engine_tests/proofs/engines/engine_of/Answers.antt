@@ -1,0 +1,15 @@
+use Rattle.std.proofs.Common.{ℕ, List, length, ap, subst, arith}
+use Rattle.fv_loopcode.specs.Code.{NamesHeld}
+use Rattle.fv_plan.specs.View.{PlanView}
+use Rattle.fv_engine_tests.proofs.engines.engine_of.Goals as goal
+
+pub returns : goal.returns
+returns c =
+    let parts = c.in_ok-engine.ensures.parts in
+    record {
+      channels = parts.1;
+      outputs = let a = ap (λ (p : PlanView). length p.outputs) parts.0 in let b = ap (λ (xs : List ℕ). length xs) c.outputs.ensures in omega (arith, a, b);
+      block_is = parts.3;
+      named = λ k h. c.names_beyond-beyond.ensures.controls c.if-beyond.false k
+          (c.in_ok-plan.ensures.names.controls k (subst (λ (p : PlanView). NamesHeld p.held k) parts.0 h));
+    }

@@ -1,0 +1,26 @@
+use Rattle.std.proofs.Common.{ℕ, ◌+◌, ◌*◌, ◌≤◌, length, ap, ◌∙◌, subst, arith}
+use Rattle.std.proofs.Math.Nat.{mul-le-mul_right}
+use Rattle.fv_loopcode.specs.Code.{NamesHeld}
+use Rattle.fv_engine.specs.Stands.{EngineView}
+use Rattle.fv_engine_tests.proofs.engines.play.Goals as goal
+
+-- a part of some rows ends within them
+part_end : (frame count frames width : ℕ) → frame + count ≤ frames → frame * width + count * width ≤ frames * width
+part_end frame count frames width h = omega (arith, mul-le-mul_right width h)
+
+pub slice_bounds-heard-end : goal.slice_bounds-heard-end
+slice_bounds-heard-end g c =
+    let n = c.min-count.result in
+    let inside : c.playing.frame + n ≤ c.args.frames = omega arith in
+    let e = part_end c.playing.frame n c.args.frames c.args.sizes.width inside in
+    omega (arith, e, c.requires.input)
+
+pub returns : goal.returns
+returns g c =
+    let same = c.playing.invariant.same in let is = c.requires.engine in
+    record {
+      channels = ap (λ (e : EngineView). e.channels) same ∙ is.channels;
+      outputs = ap (λ (e : EngineView). length e.plan.outputs) same ∙ is.outputs;
+      block_is = ap (λ (e : EngineView). e.block) same ∙ is.block_is;
+      named = λ k h. is.named k (subst (λ (e : EngineView). NamesHeld e.plan.held k) same h);
+    }

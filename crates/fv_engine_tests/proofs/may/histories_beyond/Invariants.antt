@@ -1,0 +1,6 @@
+use Rattle.std.proofs.Common.{ℕ, ◌<◌, ◌≤◌}
+use Rattle.fv_plan.specs.View.{lane_info}
+use Rattle.fv_engine_tests.proofs.may.histories_beyond.Given as goal
+
+abbrev pub invariant-loop-i : goal.invariant-loop-i
+invariant-loop-i l = (k : ℕ) → k < l.i → (lane_info l.plan k).history ≤ 16777216

@@ -1,0 +1,334 @@
+// Rows of blocks.
+
+ghost use Rattle.std.specs.Prelude.{◌≡◌, ◌<◌, ◌≤◌, length};
+ghost use Rattle.fv_turns.specs.Block.{vectors_of};
+
+use crate::counter::Counter;
+use crate::engines::{Sizes, engine_of, play, play_graph};
+use crate::graphs::{by_a_control, difference, echo_left, late};
+use crate::told::block_of;
+use fv_engine::NoMemory;
+use fv_outside::{FreeGate, Line, Reads, Recorder, Task};
+use fv_signal::Graph;
+use std::alloc::Global;
+use std::marker::Sync;
+use std::process::Abort;
+use std::sync::Wait;
+use std::test::Fail;
+use std::thread::Threads;
+
+// A line of the first vector of a loop.
+fn line(loop_no: u64, start: u64) -> Line
+    requires { start < 1000 }
+{
+    Line {
+        task: Task { loop_no, vector: 0 },
+        worker: 0,
+        start,
+        finish: start + 1,
+    }
+}
+
+// One block, of which the recorder has just the room: two loops, the second reads the first, and the first has finished before the
+// second starts.
+#[test]
+fn one_block_is_told(rt: HostRuntime) -> Result<(), Fail> {
+    let graph = difference(rt.alloc())?;
+    let sizes = Sizes {
+        width: 1,
+        block: 512,
+        vector: 32,
+    };
+    let mut recorder = Recorder::new(rt.alloc(), 1, 2)?;
+    let mut output = [0; 3];
+    let input = [5, 7, 4];
+    let tasks = play_graph(
+        &rt,
+        rt.alloc(),
+        &graph,
+        sizes,
+        3,
+        &input,
+        &mut output,
+        &mut recorder,
+    )?;
+    assert_eq!(rt; (tasks, output), (2, [5, 2, -3]));
+    assert_eq!(rt; recorder.calls(), Some(1));
+    let read = Reads {
+        reader: 1,
+        source: 0,
+    };
+    let Some((loops, vectors, reads, lines)) = block_of(&recorder, 0) else {
+        panic!(rt; "no block");
+    };
+    assert_eq!(rt; (loops, vectors), (2, 1));
+    assert_eq!(rt; reads, [read].as_slice());
+    assert_eq!(rt; lines, [line(0, 0), line(1, 2)].as_slice());
+    Ok(())
+}
+
+// A recorder without room for the second line tells nothing then.
+#[test]
+fn a_block_without_room(rt: HostRuntime) -> Result<(), Fail> {
+    let graph = difference(rt.alloc())?;
+    let sizes = Sizes {
+        width: 1,
+        block: 512,
+        vector: 32,
+    };
+    let mut recorder = Recorder::new(rt.alloc(), 1, 1)?;
+    let mut output = [0; 3];
+    let input = [5, 7, 4];
+    play_graph(
+        &rt,
+        rt.alloc(),
+        &graph,
+        sizes,
+        3,
+        &input,
+        &mut output,
+        &mut recorder,
+    )?;
+    assert_eq!(rt; output, [5, 2, -3]);
+    assert_eq!(rt; recorder.calls(), None);
+    Ok(())
+}
+
+// The control is 1, from the third frame on 3, and from the fourth 0: three blocks are told, of one vector each.
+#[test]
+fn a_control_that_changes(rt: HostRuntime) -> Result<(), Fail> {
+    let graph = by_a_control(rt.alloc())?;
+    let sizes = Sizes {
+        width: 1,
+        block: 4,
+        vector: 4,
+    };
+    let Some(mut engine) = engine_of(rt.alloc(), &graph, sizes, 1)? else {
+        panic!(rt; "no engine");
+    };
+    let mut recorder = Recorder::new(rt.alloc(), 3, 3)?;
+    let input = [5, 5];
+    let mut output = [0; 2];
+    let mut one = [0; 1];
+    play(
+        &rt,
+        rt.alloc(),
+        &mut engine,
+        sizes,
+        &[1],
+        2,
+        &input,
+        &mut output,
+        &mut recorder,
+    );
+    assert_eq!(rt; output, [5, 5]);
+    play(
+        &rt,
+        rt.alloc(),
+        &mut engine,
+        sizes,
+        &[3],
+        1,
+        &[5],
+        &mut one,
+        &mut recorder,
+    );
+    assert_eq!(rt; one, [15]);
+    play(
+        &rt,
+        rt.alloc(),
+        &mut engine,
+        sizes,
+        &[0],
+        2,
+        &input,
+        &mut output,
+        &mut recorder,
+    );
+    assert_eq!(rt; output, [0, 0]);
+    assert_eq!(rt; recorder.calls(), Some(3));
+    assert_one_line(&rt, &recorder, 0);
+    assert_one_line(&rt, &recorder, 1);
+    assert_one_line(&rt, &recorder, 2);
+    Ok(())
+}
+
+// The block has one loop, one vector and one line.
+fn assert_one_line(rt: &impl Abort, recorder: &Recorder, block: u32) {
+    let Some((loops, vectors, reads, lines)) = block_of(recorder, block) else {
+        panic!(rt; "no block {block}");
+    };
+    assert_eq!(rt; (loops, vectors, reads.len()), (1, 1, 0), "block {block}");
+    assert_eq!(rt; lines, [line(0, 0)].as_slice(), "block {block}");
+}
+
+// A history longer than a block, over three blocks of two frames at most.
+#[test]
+fn a_delay_over_blocks(rt: HostRuntime) -> Result<(), Fail> {
+    let graph = late(rt.alloc(), 3)?;
+    let sizes = Sizes {
+        width: 1,
+        block: 2,
+        vector: 2,
+    };
+    let mut recorder = Recorder::new(rt.alloc(), 3, 9)?;
+    let mut output = [0; 5];
+    let input = [1, 2, 3, 4, 5];
+    play_graph(
+        &rt,
+        rt.alloc(),
+        &graph,
+        sizes,
+        5,
+        &input,
+        &mut output,
+        &mut recorder,
+    )?;
+    assert_eq!(rt; output, [0, 0, 0, 1, 2]);
+    assert_eq!(rt; recorder.calls(), Some(3));
+    Ok(())
+}
+
+// A ring: a history of 20 samples over blocks of 3 frames, each one vector, and over blocks of one frame.
+#[test]
+fn a_ring_over_blocks(rt: HostRuntime) -> Result<(), Fail> {
+    let graph = late(rt.alloc(), 20)?;
+    assert_ring(&rt, rt.alloc(), &graph, 1)?;
+    assert_ring(&rt, rt.alloc(), &graph, 3)?;
+    Ok(())
+}
+
+// The first four samples are those of the input from the twenty-first on.
+fn assert_ring<R: Abort + Threads + Wait + Sync>(
+    rt: &R,
+    alloc: Global,
+    graph: &Graph,
+    block: u32,
+) -> Result<(), NoMemory>
+    requires block { (1 ≤ block) × (block ≤ 4096) }
+    requires vector { vectors_of block 1 ≤ 64 }
+{
+    let sizes = Sizes {
+        width: 1,
+        block,
+        vector: 1,
+    };
+    let input = [
+        1, 2, 3, 4, 5, 6, 7, 8, 9, 10, 11, 12, 13, 14, 15, 16, 17, 18, 19, 20, 21, 22, 23, 24,
+    ];
+    let mut output = [0; 24];
+    play_graph(
+        rt,
+        alloc,
+        graph,
+        sizes,
+        24,
+        &input,
+        &mut output,
+        &mut FreeGate,
+    )?;
+    assert_eq!(rt;
+        &output[18..],
+        [0, 0, 1, 2, 3, 4].as_slice(),
+        "block {block}"
+    );
+    Ok(())
+}
+
+// An echo of 1000: the same samples by blocks and vectors of each size, and the gate sees each task that is reported.
+#[test]
+fn echoes_by_each_size(rt: HostRuntime) -> Result<(), Fail> {
+    let graph = echo_left(rt.alloc())?;
+    let mut input = Vec::from_elem(rt.alloc(), 0, 44102)?;
+    let mut output = Vec::from_elem(rt.alloc(), -1, 44102)?;
+    assert_echoes(&rt, rt.alloc(), &graph, 1, 1, &mut input, &mut output)?;
+    let mut input = Vec::from_elem(rt.alloc(), 0, 44102)?;
+    let mut output = Vec::from_elem(rt.alloc(), -1, 44102)?;
+    assert_echoes(&rt, rt.alloc(), &graph, 7, 7, &mut input, &mut output)?;
+    let mut input = Vec::from_elem(rt.alloc(), 0, 44102)?;
+    let mut output = Vec::from_elem(rt.alloc(), -1, 44102)?;
+    assert_echoes(&rt, rt.alloc(), &graph, 512, 32, &mut input, &mut output)?;
+    Ok(())
+}
+
+// The left channel is 1000 at first, half of it after 11,025 samples, and a quarter after as many more; the right one is -7 at first.
+fn assert_echoes<R: Abort + Threads + Wait + Sync>(
+    rt: &R,
+    alloc: Global,
+    graph: &Graph,
+    block: u32,
+    vector: u32,
+    input: &mut [i32],
+    output: &mut [i32],
+) -> Result<(), NoMemory>
+    requires block { (1 ≤ block) × (block ≤ 4096) }
+    requires vector { (1 ≤ vector) × (vectors_of block vector ≤ 64) }
+    requires input { length input.old ≡ 44102 }
+    requires output { length output.old ≡ 44102 }
+{
+    let sizes = Sizes {
+        width: 2,
+        block,
+        vector,
+    };
+    input[0] = 1000;
+    input[1] = -7;
+    let mut counter = Counter::new();
+    let tasks = play_graph(rt, alloc, graph, sizes, 22051, input, output, &mut counter)?;
+    for t in 0..22051 {
+        let wanted = match t {
+            0 => (1000, -7),
+            11025 => (500, 0),
+            22050 => (250, 0),
+            _ => (0, 0),
+        };
+        assert_eq!(rt;
+            (output[2 * t], output[2 * t + 1]),
+            wanted,
+            "frame {t}, block {block}"
+        );
+    }
+    assert!(rt; tasks > 0);
+    assert_eq!(rt; counter.tasks(), tasks, "block {block}");
+    Ok(())
+}
+
+// Where an allocation is refused there is an error, and the next try makes an engine that plays.
+#[test]
+fn an_engine_after_want_of_memory(rt: HostRuntime) -> Result<(), Fail> {
+    let graph = match difference(rt.alloc()) {
+        Ok(graph) => graph,
+        Err(_) => difference(rt.alloc())?,
+    };
+    let sizes = Sizes {
+        width: 1,
+        block: 512,
+        vector: 32,
+    };
+    let input = [5, 7, 4];
+    let mut output = [0; 3];
+    let tried = play_graph(
+        &rt,
+        rt.alloc(),
+        &graph,
+        sizes,
+        3,
+        &input,
+        &mut output,
+        &mut FreeGate,
+    );
+    if tried.is_err() {
+        play_graph(
+            &rt,
+            rt.alloc(),
+            &graph,
+            sizes,
+            3,
+            &input,
+            &mut output,
+            &mut FreeGate,
+        )?;
+    }
+    assert_eq!(rt; output, [5, 2, -3]);
+    Ok(())
+}

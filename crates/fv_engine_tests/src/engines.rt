@@ -1,0 +1,133 @@
+// Engines of graphs, and their runs.
+
+ghost use Rattle.std.specs.Prelude.{◌≡◌, ◌*◌, ◌^◌, ◌<◌, ◌≤◌, IfOk, IfSome, length};
+ghost use Rattle.fv_turns.specs.Block.{vectors_of};
+ghost use Rattle.fv_engine_tests.specs.Runs.{IsSquare};
+
+use crate::may::{histories_beyond, names_beyond};
+use fv_analysis::{largest_delays, rates};
+use fv_engine::{Engine, NoMemory};
+use fv_outside::Gate;
+use fv_signal::Graph;
+use fv_split::split;
+use std::alloc::Global;
+use std::marker::Sync;
+use std::process::Abort;
+use std::sync::Wait;
+use std::thread::Threads;
+
+/// How many numbers a frame has, in and out, and how many frames a block and a vector have at most.
+#[derive(Clone, Copy)]
+pub(crate) struct Sizes {
+    pub(crate) width: u32,
+    pub(crate) block: u32,
+    pub(crate) vector: u32,
+}
+
+/// An engine of a graph with as many inputs and outputs and so many controls; none where it may not be prepared.
+pub(crate) fn engine_of(
+    alloc: Global,
+    graph: &Graph,
+    sizes: Sizes,
+    controls: usize,
+) -> Result<Option<Engine>, NoMemory>
+    requires width { sizes.width ≤ 256 }
+    requires block { (1 ≤ sizes.block) × (sizes.block ≤ 4096) }
+    requires vector { (1 ≤ sizes.vector) × (vectors_of sizes.block sizes.vector ≤ 64) }
+    ensures { IfOk result (λ e. IfSome e (λ e. IsSquare e sizes.width sizes.block controls)) }
+{
+    let rates = rates(alloc, graph)?;
+    let histories = largest_delays(alloc, graph)?;
+    let plan = split(alloc, graph, &rates, &histories)?;
+    if plan.loops() == 0 {
+        return Ok(None);
+    }
+    if plan.outputs().len() != sizes.width as usize {
+        return Ok(None);
+    }
+    let beyond = names_beyond(graph, sizes.width, controls);
+    if beyond {
+        return Ok(None);
+    }
+    let long = histories_beyond(&plan);
+    if long {
+        return Ok(None);
+    }
+    let engine = Engine::prepare(alloc, plan, sizes.width, 1, sizes.block, sizes.vector)?;
+    Ok(Some(engine))
+}
+
+/// Runs as many frames as there are in the input, block by block, and says how many tasks were reported.
+pub(crate) fn play<R: Threads + Wait + Sync, G: Gate + Sync>(
+    rt: &R,
+    alloc: Global,
+    engine: &mut Engine,
+    sizes: Sizes,
+    controls: &[i32],
+    frames: u32,
+    input: &[i32],
+    output: &mut [i32],
+    gate: &mut G,
+) -> u64
+    requires engine { IsSquare engine.old sizes.width sizes.block (length controls.now) }
+    requires block { 1 ≤ sizes.block }
+    requires input { length input.now ≡ frames * sizes.width }
+    requires output { length output.old ≡ frames * sizes.width }
+    ensures { IsSquare engine.new sizes.width sizes.block (length controls.now) }
+{
+    let width = sizes.width as usize;
+    let mut tasks = 0u64;
+    let mut frame = 0u32;
+    'playing: while frame < frames {
+        let count = sizes.block.min(frames - frame);
+        let start = frame as usize * width;
+        let end = start + count as usize * width;
+        let heard = &input[start..end];
+        let report = engine.run_block(
+            rt,
+            alloc,
+            count,
+            heard,
+            controls,
+            &mut output[start..end],
+            gate,
+        );
+        tasks = tasks.wrapping_add(report.tasks);
+        frame += count;
+    }
+    tasks
+}
+
+/// Runs a graph without controls, block by block, and says how many tasks were reported.
+pub(crate) fn play_graph<R: Abort + Threads + Wait + Sync, G: Gate + Sync>(
+    rt: &R,
+    alloc: Global,
+    graph: &Graph,
+    sizes: Sizes,
+    frames: u32,
+    input: &[i32],
+    output: &mut [i32],
+    gate: &mut G,
+) -> Result<u64, NoMemory>
+    requires width { sizes.width ≤ 256 }
+    requires block { (1 ≤ sizes.block) × (sizes.block ≤ 4096) }
+    requires vector { (1 ≤ sizes.vector) × (vectors_of sizes.block sizes.vector ≤ 64) }
+    requires input { length input.now ≡ frames * sizes.width }
+    requires output { length output.old ≡ frames * sizes.width }
+{
+    let Some(mut engine) = engine_of(alloc, graph, sizes, 0)? else {
+        panic!(rt; "no engine");
+    };
+    let tasks = play(
+        rt,
+        alloc,
+        &mut engine,
+        sizes,
+        &[],
+        frames,
+        input,
+        output,
+        gate,
+    );
+    Ok(tasks)
+}
