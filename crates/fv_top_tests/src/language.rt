@@ -9,7 +9,7 @@ use std::test::Fail;
 use std::thread::Threads;
 
 // A file of so many channels of 16 bits at 44100 frames a second.
-fn file_of(alloc: Global, channels: u32, samples: &[i32]) -> Result<Vec<u8>, AllocError> {
+pub fn file_of(alloc: Global, channels: u32, samples: &[i32]) -> Result<Vec<u8>, AllocError> {
     let mut size = 0u32;
     for _sample in samples {
         size = size.wrapping_add(2);
@@ -318,7 +318,7 @@ fn refuses_programs(rt: HostRuntime) -> Result<(), Fail> {
 }
 
 // The line and the exit status of a run of a program without an input.
-fn assert_ends(
+pub fn assert_ends(
     rt: &(impl Threads + Wait + Sync + Abort),
     alloc: Global,
     text: &[u8],

@@ -6,8 +6,12 @@ mod sure;
 pub use sure::run_sure;
 
 #[cfg(test)]
+mod blocks;
+#[cfg(test)]
 mod files;
 #[cfg(test)]
 mod language;
+#[cfg(test)]
+mod makes;
 #[cfg(test)]
 mod runs;
