@@ -118,8 +118,8 @@ fn deal<C: Parcel>(
 }
 
 impl<'t, C: Parcel + Drop> Board<'t, C> {
-    /// The board with no task taken, and one seat for each worker. The entries are the parcels of the entry edges, in the order
-    /// of the loops; their key is the board's. Want of memory hands them back.
+    /// The board with no task taken, and one seat for each worker. `entries` has one parcel for each loop, that of its
+    /// entry edge, all of one key, which becomes the board's. Want of memory hands them back.
     pub fn begin(
         alloc: Global,
         tasks: &'t Tasks,

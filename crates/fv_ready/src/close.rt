@@ -111,9 +111,9 @@ fn hand_out<C: Drop>(
 }
 
 impl<'t, C: Parcel + Drop> Board<'t, C> {
-    /// Joins the seats, which are all that the board had, and ends the board. True exactly where every task is done: then the
-    /// exits get the parcels of the exit edges, in the order of the loops. Where no task was taken they get the entries back, in
-    /// that order, and in every other case nothing.
+    /// Joins the seats, which are all that the board had, and ends the board. True exactly where every task is done: then
+    /// `exits` gets the parcel of each loop's exit edge, loop by loop. Where no task was taken it gets the entries back, as they
+    /// were ordered, and in every other case nothing.
     pub fn close(self, seats: Vec<WorkerSeat<C>>, exits: &mut Vec<C>) -> bool
         requires seats { AreSeats C.edge_of C.key_of self.table.shared.table_id self.table.shared.key seats.items }
         requires all { (0 < self.table.shared.key.workers) × ((k : ℕ) → k < self.table.shared.key.workers → having k seats.items ≡ 1) }

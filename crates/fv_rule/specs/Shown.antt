@@ -1,4 +1,4 @@
--- What the board shows: a state of the lean core. A seat's steps count as those of the worker that its first number names.
+-- What the board shows: a state of the lean core. Its first number says which worker a seat stands for.
 use Rattle.std.specs.Prelude.{◌≡◌, ℕ, ◌+◌, ◌<◌, ◌≢◌, true, false, ◌&&◌, List, [], length, slice_index, get_or, Some, None, ltb}
 use mathlib.Core.Option.{some}
 use lib.ListN.{get_elem?}

@@ -22,7 +22,7 @@ module _ {C : Type 0} where
   abbrev pub ShowsNow : About C → State (Option C) (View C) → Now → Type 0
   ShowsNow a s z = Shows {C = C} {S = Option C} (net_of a.tasks.value.tasks) a.workers s z
 
-  -- what is shown changes by this event, which is legal in the lean core, or not at all
+  -- the board shows one event of the lean core more, this legal one, or just what it showed
   abbrev pub Changes : About C → State (Option C) (View C) → State (Option C) (View C) → Option Event → Type 0
   Changes a s s' None = (z : Now) → ShowsNow a s z → ShowsNow a s' z
   Changes a s s' (Some e) = (z : Now) → ShowsNow a s z

@@ -10,8 +10,8 @@ ghost use Rattle.fv_rule.specs.declared.View.{View};
 use crate::Parcel;
 
 /// From every state of a board that meets the rule, each kind of step of a seat that knows the board leads to a state that
-/// meets the rule. What is shown changes by one event that is legal in the lean core, or not at all: a claim that wins is its
-/// Take, a finishing stamp its Finish, an arrival its Arrive, and every other step shows no change.
+/// meets the rule. Of the lean core the board then shows one legal event more (a claim that wins shows a Take, a stamp at a
+/// finish a Finish, an arrival an Arrive), or, after any other step, just what it showed.
 pub fn step_law<C: Parcel>()
     ensures { (a : About C) (id : ℕ) (v : View C) (c : List (ℕ × Option C)) → IsGraph a.tasks.value.tasks → task_count a.tasks.value.tasks < 2 ^ 62 → v.board ≡ Some a → StepLaw C.edge_of C.key_of a id v c }
 {}

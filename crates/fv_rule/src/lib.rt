@@ -10,7 +10,7 @@ pub use laws::{opening_law, step_law};
 use std::collections::LinkedList;
 use std::snapshot::Snapshot;
 
-/// What goes through an edge slot. It means the number of its edge, and a key, which contracts alone see.
+/// What goes through an edge slot. To contracts it is its edge's number and a key, which no code sees.
 pub trait Parcel {
     type Key;
 
