@@ -4,3 +4,4 @@ pub mod Streams
 pub mod Named
 pub mod Still
 pub mod Blocks
+pub mod Moving
