@@ -1,4 +1,5 @@
-pub mod Rows
+pub mod Packs
+pub mod RowLinks
 pub mod Walks
 pub mod Places
 pub mod Held

@@ -1,19 +1,13 @@
 -- Nodes that lead to nodes, and what is reached from a node (words of graph theory).
-use Rattle.std.specs.Prelude.{◌≡◌, ℕ, zero, suc, ◌<◌, ◌≤◌, List, [], length, slice_get, slice_index_or, Option, None, Some, Vec}
-use Rattle.std.specs.declared.alloc.Global.{Global}
+use Rattle.std.specs.Prelude.{◌≡◌, ℕ, zero, suc, ◌<◌, ◌≤◌, List, [], length, slice_index_or}
 
 -- the nodes that each node leads to
 abbrev pub Links : Type 0
 Links = ℕ → List ℕ
 
--- a row's items, none where there is no row
-abbrev pub items_of : Option (Vec ℕ Global) → List ℕ
-items_of None = []
-items_of (Some row) = row.items
-
--- the links that rows tell, one row for each node
-abbrev pub next_of : List (Vec ℕ Global) → Links
-next_of links s = items_of (slice_get links s)
+-- the links that rows tell, one row for each node, and none where there is no row
+abbrev pub next_of : List (List ℕ) → Links
+next_of rows s = slice_index_or rows s []
 
 -- the number at a place
 abbrev pub at : List ℕ → ℕ → ℕ

@@ -5,6 +5,7 @@ ghost use Rattle.fv_components.specs.Reach.{next_of, AreLinks, AreComponents};
 ghost use Rattle.fv_components.specs.declared.search.Mark.TheVariants.{New};
 ghost use Rattle.fv_components.specs.Search.{IsHeld, IsRunning, GoesOn, StaysMet, mark, class, work, none, only, visited, IsWalked, IsNumbered, AreNumbers, IsCountUpTo, collapsed, finished, closed, state_of};
 
+use crate::packed::Rows;
 use std::alloc::{AllocError, Global};
 
 // What is known of a node.
@@ -40,12 +41,8 @@ impl Search {
         ensures marks { IfOk result (λ s. s.marks.items ≡ replicate nodes New) }
         ensures rest { IfOk result (λ s. (s.path.items ≡ []) × (s.classes.items ≡ []) × (s.pending.items ≡ []) × (s.count ≡ 0)) }
     {
-        let mut marks = Vec::new(alloc);
-        for _ in 0..nodes {
-            marks.push(Mark::New)?;
-        }
         Ok(Search {
-            marks,
+            marks: vec![in alloc; Mark::New; nodes]?,
             path: Vec::new(alloc),
             classes: Vec::new(alloc),
             pending: Vec::new(alloc),
@@ -54,7 +51,7 @@ impl Search {
     }
 
     // Puts a node at the end of the path, as a class of its own.
-    fn visit(&mut self, links: &[Vec<u64>], node: u64) -> Result<(), AllocError>
+    fn visit(&mut self, links: &Rows, node: u64) -> Result<(), AllocError>
         requires inside { node < length self.old.marks.items }
         requires links { node < length links.now }
         ensures { OnOk result (state_of self.new ≡ visited (next_of links.now) (state_of self.old) node) }
@@ -67,7 +64,7 @@ impl Search {
         })?;
         self.marks[node as usize] = Mark::Open(place);
         self.path.push(node)?;
-        self.pending.extend_from_slice(&links[node as usize])?;
+        self.pending.extend_from_slice(links.row(node))?;
         Ok(())
     }
 
@@ -96,7 +93,7 @@ impl Search {
     }
 
     // Looks at a node that each class of the path reaches.
-    fn look(&mut self, links: &[Vec<u64>], node: u64) -> Result<(), AllocError>
+    fn look(&mut self, links: &Rows, node: u64) -> Result<(), AllocError>
         requires links { AreLinks (next_of links.now) (length links.now) }
         requires held { IsHeld (next_of links.now) (length links.now) (state_of self.old) node }
         requires running { IsRunning (next_of links.now) (length links.now) (only node) (state_of self.old) }
@@ -113,7 +110,7 @@ impl Search {
     }
 
     // Follows one link, or ends a class.
-    fn turn(&mut self, links: &[Vec<u64>]) -> Result<(), AllocError>
+    fn turn(&mut self, links: &Rows) -> Result<(), AllocError>
         requires links { AreLinks (next_of links.now) (length links.now) }
         requires running { IsRunning (next_of links.now) (length links.now) none (state_of self.old) }
         requires some { 0 < length self.old.classes.items }
@@ -139,7 +136,7 @@ impl Search {
     }
 
     // Goes through all that is reached from a node that is new.
-    fn walk(&mut self, links: &[Vec<u64>], root: u64) -> Result<(), AllocError>
+    fn walk(&mut self, links: &Rows, root: u64) -> Result<(), AllocError>
         requires links { AreLinks (next_of links.now) (length links.now) }
         requires running { IsRunning (next_of links.now) (length links.now) none (state_of self.old) }
         requires empty { length self.old.classes.items ≡ 0 }
@@ -159,7 +156,7 @@ impl Search {
         requires { (s : ℕ) → s < length self.now.marks.items → IsNumbered (state_of self.now) s }
         ensures { IfOk result (λ v. AreNumbers (state_of self.now) v.items) }
     {
-        let mut numbers = Vec::new(alloc);
+        let mut numbers = Vec::with_capacity(alloc, self.marks.len())?;
         for mark in &self.marks {
             match mark {
                 Mark::Done(number) => numbers.push(*number)?,
@@ -173,12 +170,12 @@ impl Search {
 
 /// Numbers nodes so that two have one number exactly where each reaches the other, and none leads to a greater one.
 /// A row of `links` for each node lists the nodes that it leads to. The time is linear in nodes and links, and no call nests.
-pub fn components(alloc: Global, links: &[Vec<u64>]) -> Result<Vec<u64>, AllocError>
+pub fn components(alloc: Global, links: &Rows) -> Result<Vec<u64>, AllocError>
     requires { AreLinks (next_of links.now) (length links.now) }
     ensures { IfOk result (λ numbers. AreComponents (next_of links.now) (length links.now) numbers.items) }
 {
-    let mut search = Search::new(alloc, links.len())?;
-    for root in 0..links.len() as u64 {
+    let mut search = Search::new(alloc, links.len() as usize)?;
+    for root in 0..links.len() {
         if search.is_new(root) {
             search.walk(links, root)?;
         }
@@ -208,12 +205,12 @@ fn finish(marks: &mut [Mark], nodes: &[u64], count: u64)
 }
 
 /// Each node leads to nodes that are there.
-pub fn are_links(links: &[Vec<u64>]) -> bool
+pub fn are_links(links: &Rows) -> bool
     ensures { IsTrue result ↔ AreLinks (next_of links.now) (length links.now) }
 {
-    let nodes = links.len() as u64;
-    for row in links {
-        if !leads_below(row, nodes) {
+    let nodes = links.len();
+    for node in 0..nodes {
+        if !leads_below(links.row(node), nodes) {
             return false;
         }
     }

@@ -1,9 +1,6 @@
 -- Signals get their homes, from the last to the first.
 use Rattle.std.proofs.Common.{◌≡◌, ◌≢◌, ◌⊎◌, inl, inr, ℕ, zero, suc, ◌<◌, ◌≤◌, List, [], ◌∷◌, length, get_or, set, refl, sym, ap, subst, ◌∙◌, arith, Bool, true, false, if◌then◌else◌}
 use Rattle.std.proofs.lemmas.List.{length-set, get_or-set_same, get_or-set_other, get_or_default}
-use Rattle.std.specs.Prelude.{Vec}
-use Rattle.std.specs.declared.alloc.Global.{Global}
-use Rattle.fv_components.specs.Reach.{next_of}
 use Rattle.std.proofs.lemmas.Bool.{cases_eq}
 use Rattle.fv_components.specs.Reach.{Links, at, Leads, Reaches}
 use Rattle.fv_components.proofs.Walks.{reaches_self, reaches_trans, reaches_step}
@@ -160,12 +157,6 @@ module _ (reads : Links) (inner : ℕ → Bool) (owners : List ℕ) (loops : ℕ
             | Now i n e y h ↦ let p = a.reached s l some in (p.0, p.1, p.2 ∙ sym h, reaches_trans p.3 (reaches_step (led i x n e)))
             | Kept k h ↦ let p = a.reached x m (subst (λ q. q < loops) h o) in (p.0, p.1, p.2 ∙ sym h, p.3)
           ]
-
--- a row's items are what its signal reads
-pub row_is : (rows : List (Vec ℕ Global)) (s : ℕ) (row : Vec ℕ Global) → s < length rows → row ≡ get_or rows s row → row.items ≡ next_of rows s
-row_is [] s row l e = absurd (omega arith)
-row_is (r ∷ rs) zero row l e = ap (λ v. v.items) e
-row_is (r ∷ rs) (suc s) row l e = row_is rs s row (omega arith) e
 
 -- what a row reads is lower
 pub row_lower : (reads : Links) (s : ℕ) (row : List ℕ) → AreLower reads → row ≡ reads s → (k d : ℕ) → k < length row → get_or row k d < s

@@ -26,28 +26,28 @@ use Rattle.fv_lanes.proofs.RankLemmas.{are_loops}
 
 -- ---- what the passes are given
 
-pub read_rows : (g : Graph) (rows : List (Vec ℕ Global)) → AreRows (reads_of g) (length g.signals) rows → next_of rows ≡ reads_of g
+pub read_rows : (g : Graph) (rows : List (List ℕ)) → AreRows (reads_of g) (length g.signals) rows → next_of rows ≡ reads_of g
 read_rows g rows h = rows_are (reads_of g) (length g.signals) rows h (reads_none g)
 
-pub link_rows : (g : Graph) (rows : List (Vec ℕ Global)) → AreRows (links_of g) (length g.signals) rows → next_of rows ≡ links_of g
+pub link_rows : (g : Graph) (rows : List (List ℕ)) → AreRows (links_of g) (length g.signals) rows → next_of rows ≡ links_of g
 link_rows g rows h = rows_are (links_of g) (length g.signals) rows h (links_none g)
 
 pub read_links : (g : Graph) → IsGraph g → AreLinks (reads_of g) (length g.signals)
 read_links g h a b l step = let k = read_lower g h.ordered a b ((leads_read g a b).0 step) in omega arith
 
 -- so it is with their rows
-pub row_links : (g : Graph) → IsGraph g → (rows : List (Vec ℕ Global)) → AreRows (reads_of g) (length g.signals) rows → AreLinks (next_of rows) (length rows)
+pub row_links : (g : Graph) → IsGraph g → (rows : List (List ℕ)) → AreRows (reads_of g) (length g.signals) rows → AreLinks (next_of rows) (length rows)
 row_links g h rows r = subst (λ f. AreLinks f (length rows)) (sym (read_rows g rows r)) (subst (AreLinks (reads_of g)) (sym r.long) (read_links g h))
 
-pub link_row_links : (g : Graph) → IsGraph g → (rows : List (Vec ℕ Global)) → AreRows (links_of g) (length g.signals) rows → AreLinks (next_of rows) (length rows)
+pub link_row_links : (g : Graph) → IsGraph g → (rows : List (List ℕ)) → AreRows (links_of g) (length g.signals) rows → AreLinks (next_of rows) (length rows)
 link_row_links g h rows r = subst (λ f. AreLinks f (length rows)) (sym (link_rows g rows r)) (subst (AreLinks (links_of g)) (sym r.long) (links_within g h))
 
-pub row_readers : (g : Graph) (rows : List (Vec ℕ Global)) (readers : List Reader) → AreRows (reads_of g) (length g.signals) rows →
+pub row_readers : (g : Graph) (rows : List (List ℕ)) (readers : List Reader) → AreRows (reads_of g) (length g.signals) rows →
     AreReaders (next_of rows) (length rows) (length rows) readers → AreReaders (reads_of g) (length g.signals) (length g.signals) readers
 row_readers g rows readers r h = subst (λ f. AreReaders f (length g.signals) (length g.signals) readers) (read_rows g rows r) (subst (λ n. AreReaders
     (next_of rows) n n readers) r.long h)
 
-pub row_components : (g : Graph) (rows : List (Vec ℕ Global)) (numbers : List ℕ) → AreRows (links_of g) (length g.signals) rows →
+pub row_components : (g : Graph) (rows : List (List ℕ)) (numbers : List ℕ) → AreRows (links_of g) (length g.signals) rows →
     AreComponents (next_of rows) (length rows) numbers →
     AreComponents (links_of g) (length g.signals) numbers
 row_components g rows numbers r h = subst (λ f. AreComponents f (length g.signals) numbers) (link_rows g rows r) (subst (λ n. AreComponents

@@ -1,55 +1,49 @@
 -- Rows of what each signal leads to and reads.
-use Rattle.std.proofs.Common.{◌≡◌, inl, inr, ℕ, zero, suc, ◌+◌, ◌<◌, ◌≤◌, List, [], ◌∷◌, ◌++◌, length, take, map, get_or, refl, sym, ap, ◌∙◌, subst, arith, pos, All}
-use Rattle.std.specs.Prelude.{Vec, nat_lt, ◌↔◌}
-use Rattle.std.specs.declared.alloc.Global.{Global}
+use Rattle.std.proofs.Common.{◌≡◌, inl, inr, ℕ, zero, suc, ◌+◌, ◌<◌, ◌≤◌, List, [], ◌∷◌, ◌++◌, length, take, map, replicate, get_or, refl, sym, ap, ◌∙◌, subst, arith, pos}
+use Rattle.std.specs.Prelude.{nat_lt, ◌↔◌}
 use Rattle.std.proofs.lemmas.Bool.{cases_lt, cond-true, cond-false, lt-ltb, le-ltb}
-use Rattle.std.proofs.lemmas.List.{length_push, get_or_default, get_or_read}
-use Rattle.std.proofs.lemmas.List.Elements.{All-get_or, All-take, All-from_get_or}
-use Rattle.std.proofs.lemmas.Option.{slice_get_past}
+use Rattle.std.proofs.lemmas.List.{length_push, get_or_push, get_or_append_left, get_or_past, get_or_default, get_or_read}
+use Rattle.std.proofs.lemmas.List.Elements.{All-get_or, All-take, All-weaker}
 use mathlib.Core.Path.{fun_ext}
 use Rattle.fv_num.specs.Words.{inputs_of}
 use Rattle.fv_signal.specs.declared.signal.Signal.{Signal}
 use Rattle.fv_signal.specs.declared.signal.Signal.TheVariants as signal
 use Rattle.fv_signal.specs.Value.{Graph, definition, IsOrdered, IsGraph, OperandsBelow, NamesWithin}
-use Rattle.fv_components.specs.Reach.{Links, items_of, next_of, at, Leads, AreLinks, Walk, Reaches}
+use Rattle.fv_components.specs.Reach.{Links, next_of, at, Leads, AreLinks, Walk, Reaches}
 use Rattle.fv_components.proofs.Walks.{reaches_self, reaches_trans, reaches_step}
 use Rattle.fv_analysis.specs.Stands.{node, stand}
 use Rattle.fv_analysis.proofs.StandLemmas.{standing, Itself, Another, stands_well}
 use Rattle.fv_plan.specs.Separated.{operands, found_from, links_of, ReadsSignal}
 use Rattle.fv_plan.proofs.FitsLemmas.{map_get}
-use Rattle.fv_lanes.specs.Rows.{reads_of, AreRows}
+use Rattle.fv_lanes.specs.Rows.{AreOver, reads_of, AreRows}
+
+-- ---- lists
+
+-- each is the same
+pub each_same : {A : Type 0} (n s : ℕ) (a : A) → get_or (replicate n a) s a ≡ a
+each_same zero s a = refl
+each_same (suc n) zero a = refl
+each_same (suc n) (suc s) a = each_same n s a
 
 -- ---- one row more
-
-next_front : (rows : List (Vec ℕ Global)) (row : Vec ℕ Global) (s : ℕ) → s < length rows → next_of (rows ++ row ∷ []) s ≡ next_of rows s
-next_front [] row s l = absurd (omega arith)
-next_front (r ∷ rs) row zero l = refl
-next_front (r ∷ rs) row (suc s) l = next_front rs row s (omega arith)
-
-next_last : (rows : List (Vec ℕ Global)) (row : Vec ℕ Global) → next_of (rows ++ row ∷ []) (length rows) ≡ row.items
-next_last [] row = refl
-next_last (r ∷ rs) row = next_last rs row
 
 pub rows_none : (f : Links) → AreRows f 0 []
 rows_none f = record { long = refl; each = λ s l. absurd (omega arith) }
 
-pub rows_more : (f : Links) (n : ℕ) (rows new : List (Vec ℕ Global)) (row : Vec ℕ Global) → AreRows f n rows → new ≡ rows ++ row ∷ [] → row.items ≡ f n →
-    AreRows f (n + 1) new
+pub rows_more : (f : Links) (n : ℕ) (rows new : List (List ℕ)) (row : List ℕ) → AreRows f n rows → new ≡ rows ++ row ∷ [] → row ≡ f n → AreRows f (n + 1) new
 rows_more f n rows new row h e is = subst (AreRows f (n + 1)) (sym e) record {
   long = omega (arith, length_push rows row, h.long);
   each = λ s l. elim (cases_lt s n) [
-    | inl m ↦ next_front rows row s (omega (arith, h.long)) ∙ h.each s m
-    | inr m ↦
-        let z : s ≡ length rows = omega (arith, h.long) in
-        ap (next_of (rows ++ row ∷ [])) z ∙ next_last rows row ∙ is ∙ ap f (sym h.long ∙ sym z)
+    | inl m ↦ get_or_append_left rows (row ∷ []) [] s (omega (arith, h.long)) ∙ h.each s m
+    | inr m ↦ let z : s ≡ n = omega arith in get_or_push rows row [] s (h.long ∙ sym z) ∙ is ∙ ap f (sym z)
   ];
 }
 
 -- all rows are those of f, which has none behind them
-pub rows_are : (f : Links) (n : ℕ) (rows : List (Vec ℕ Global)) → AreRows f n rows → ((s : ℕ) → n ≤ s → f s ≡ []) → next_of rows ≡ f
+pub rows_are : (f : Links) (n : ℕ) (rows : List (List ℕ)) → AreRows f n rows → ((s : ℕ) → n ≤ s → f s ≡ []) → next_of rows ≡ f
 rows_are f n rows h none = fun_ext (λ s. elim (cases_lt s n) [
   | inl l ↦ h.each s l
-  | inr l ↦ ap items_of (slice_get_past rows s (omega (arith, h.long))) ∙ sym (none s l)
+  | inr l ↦ get_or_past rows s [] (omega (arith, h.long)) ∙ sym (none s l)
 ])
 
 -- a signal that was read
@@ -82,8 +76,14 @@ operand_below g (signal.Delay x d max) q (suc (suc k)) b l = absurd (omega arith
 operand_below g (signal.Back group i) q k b l = absurd (omega arith)
 operand_below g (signal.Member group i) q k b l = absurd (omega arith)
 
-pub operands_below : (g : Graph) (n : Signal) (q : ℕ) → OperandsBelow g q n → All (λ a. a < q) (operands n)
-operands_below g n q b = All-from_get_or (λ a. a < q) (operands n) 0 (λ k l. operand_below g n q k b l)
+pub operands_over : (g : Graph) (n : Signal) (q m : ℕ) → q ≤ m → OperandsBelow g q n → AreOver m n
+operands_over g (signal.Input i) q m l b = tt
+operands_over g (signal.Const i) q m l b = tt
+operands_over g (signal.Control i) q m l b = tt
+operands_over g (signal.Point op args) q m l b = All-weaker (λ a. a < q) (λ a. a < m) (λ a k. omega (arith, l, k)) args b
+operands_over g (signal.Delay x d max) q m l b = (omega (arith, b.0), omega (arith, b.1))
+operands_over g (signal.Back group i) q m l b = tt
+operands_over g (signal.Member group i) q m l b = tt
 
 length_map_at : (f : ℕ → ℕ) (ws : List ℕ) → length (map f ws) ≡ length ws
 length_map_at f [] = refl

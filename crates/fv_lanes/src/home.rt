@@ -4,6 +4,7 @@ ghost use Rattle.std.specs.Prelude.{◌≡◌, ◌<◌, ◌≤◌, length, All, 
 ghost use Rattle.fv_components.specs.Reach.{next_of};
 ghost use Rattle.fv_lanes.specs.Homes.{bit_at, AreLower, AreSingle, AreLaneless, given, AreHomes};
 
+use fv_components::Rows;
 use std::alloc::{AllocError, Global};
 
 // Gives a home to the inner ones among some signals.
@@ -22,7 +23,7 @@ fn give(homes: &mut Vec<u64>, inner: &[bool], signals: &[u64], home: u64)
 /// Where signals are at home: one with a lane in its loop, and an inner one in the loop of the one that reads it.
 pub fn homes(
     alloc: Global,
-    reads: &[Vec<u64>],
+    reads: &Rows,
     inner: &[bool],
     owners: &[u64],
     loops: u64,
@@ -40,7 +41,7 @@ pub fn homes(
         s -= 1;
         let home = homes[s];
         if home < loops {
-            give(&mut homes, inner, &reads[s], home);
+            give(&mut homes, inner, reads.row(s as u64), home);
         }
     }
     Ok(homes)

@@ -82,10 +82,10 @@ fn number(
 {
     let none = ranks[marks.len()];
     let mut numbering = Numbering {
-        lanes: Vec::new(alloc),
+        lanes: Vec::with_capacity(alloc, marks.len())?,
         signals: Vec::new(alloc),
         owners: Vec::new(alloc),
-        places: Vec::new(alloc),
+        places: Vec::with_capacity(alloc, marks.len())?,
     };
     for s in 0..marks.len() {
         let owner = ranks[numbers[s] as usize];
@@ -121,7 +121,7 @@ fn inner(
     requires marks { length marks.now ≡ length graph.now.signals }
     ensures { IfOk result (λ inner. AreInner graph.now rates.now marks.now (length graph.now.signals) inner.items) }
 {
-    let mut inner = Vec::new(alloc);
+    let mut inner = Vec::with_capacity(alloc, marks.len())?;
     for s in 0..graph.len() {
         let id = SignalId::new(s);
         inner.push(is_inner(graph.signal(id), rates.get(id), marks[s as usize]))?;

@@ -12,10 +12,7 @@ fn met(alloc: Global, numbers: &[u64], marked: &[bool]) -> Result<Vec<bool>, All
     requires numbers { All (λ c. c < length numbers.now) numbers.now }
     ensures { IfOk result (λ met. AreMet numbers.now marked.now met.items) }
 {
-    let mut met = Vec::new(alloc);
-    for _ in 0..numbers.len() {
-        met.push(false)?;
-    }
+    let mut met = vec![in alloc; false; numbers.len()]?;
     for s in 0..numbers.len() {
         if marked[s] {
             met[numbers[s] as usize] = true;
@@ -28,7 +25,7 @@ fn met(alloc: Global, numbers: &[u64], marked: &[bool]) -> Result<Vec<bool>, All
 fn counts(alloc: Global, bits: &[bool]) -> Result<Vec<u64>, AllocError>
     ensures { IfOk result (λ v. (length v.items ≡ length bits.now + 1) × ((c : ℕ) → c ≤ length bits.now → at v.items c ≡ rank_of bits.now c)) }
 {
-    let mut counts = Vec::new(alloc);
+    let mut counts = Vec::with_capacity(alloc, bits.len() + 1)?;
     let mut count = 0_u64;
     for i in 0..bits.len() {
         counts.push(count)?;

@@ -5,6 +5,7 @@ ghost use Rattle.fv_components.specs.Reach.{AreLinks};
 ghost use Rattle.fv_components.specs.Reach.{next_of};
 ghost use Rattle.fv_lanes.specs.Readers.{met_by as met_by_of, with_row, AreReaders};
 
+use fv_components::Rows;
 use std::alloc::{AllocError, Global};
 
 /// The readers of a signal.
@@ -37,16 +38,13 @@ fn meet_row(readers: &mut Vec<Reader>, row: &[u64], r: u64)
 }
 
 /// The readers of each signal.
-pub fn readers(alloc: Global, reads: &[Vec<u64>]) -> Result<Vec<Reader>, AllocError>
+pub fn readers(alloc: Global, reads: &Rows) -> Result<Vec<Reader>, AllocError>
     requires { AreLinks (next_of reads.now) (length reads.now) }
     ensures { IfOk result (λ v. AreReaders (next_of reads.now) (length reads.now) (length reads.now) v.items) }
 {
-    let mut readers = Vec::new(alloc);
-    for _ in 0..reads.len() {
-        readers.push(Reader::Nobody)?;
-    }
+    let mut readers = vec![in alloc; Reader::Nobody; reads.len() as usize]?;
     for r in 0..reads.len() {
-        meet_row(&mut readers, &reads[r], r as u64);
+        meet_row(&mut readers, reads.row(r), r);
     }
     Ok(readers)
 }

@@ -3,26 +3,24 @@ use Rattle.std.proofs.lemmas.List.{get_or_read}
 use Rattle.fv_components.specs.Reach.{next_of}
 use Rattle.fv_components.specs.Reach.{at}
 use Rattle.fv_lanes.specs.Homes.{bit_at, AreHomesFrom, given}
-use Rattle.fv_lanes.proofs.HomeLemmas.{row_is, row_lower, skips, gives}
+use Rattle.fv_lanes.proofs.HomeLemmas.{row_lower, skips, gives}
 use Rattle.fv_lanes.proofs.home.homes.Goals as goal
 
 pub give-requires-clause-signals : goal.give-requires-clause-signals
 give-requires-clause-signals c =
     let few = c.loop-s.invariant.few in
     let long = c.loop-s.invariant.homes.long in
-    let q = c.deref.ensures.value ∙ row_is c.args.reads.now (c.loop-s.s - 1) c.index-reads-s.result (omega (arith, c.requires.long)) c.index-reads-s.is in
-    λ k d l. let z = row_lower (next_of c.args.reads.now) (c.loop-s.s - 1) c.deref.result.now c.requires.lower q k d l in omega (arith, long, few, z)
+    λ k d l. let z = row_lower (next_of c.args.reads.now) (c.loop-s.s - 1) c.row.result.now c.requires.lower c.row.ensures k d l in omega (arith, long, few, z)
 
 pub loop-s-preserved-then-home-loops : goal.loop-s-preserved-then-home-loops
 loop-s-preserved-then-home-loops c =
     let few = c.loop-s.invariant.few in
     let z : suc (c.loop-s.s - 1) ≡ c.loop-s.s = omega arith in
-    let q = c.deref.ensures.value ∙ row_is c.args.reads.now (c.loop-s.s - 1) c.index-reads-s.result (omega (arith, c.requires.long)) c.index-reads-s.is in
     let e : c.index-home.result.now ≡ at c.loop-s.homes.items (c.loop-s.s - 1) =
     get_or_read c.loop-s.homes.items (c.loop-s.s - 1) c.index-home.result.now (omega (arith, few, c.loop-s.invariant.homes.long)) c.index-home.ensures 0 in
     let new : c.give.new.homes.items ≡ given (bit_at c.args.inner.now) c.loop-s.homes.items (next_of c.args.reads.now (c.loop-s.s - 1)) (at c.loop-s.homes.items
     (c.loop-s.s - 1)) =
-    c.give.ensures ∙ ap (λ xs. given (bit_at c.args.inner.now) c.loop-s.homes.items xs c.index-home.result.now) q
+    c.give.ensures ∙ ap (λ xs. given (bit_at c.args.inner.now) c.loop-s.homes.items xs c.index-home.result.now) c.row.ensures
     ∙ ap (given (bit_at c.args.inner.now) c.loop-s.homes.items (next_of c.args.reads.now (c.loop-s.s - 1))) e in
     record {
       few = omega (arith, few);

@@ -1,5 +1,4 @@
-use Rattle.std.proofs.Common.{◌≡◌, ℕ, zero, suc, ◌<◌, [], length, sym, refl, ap, ◌∙◌, subst, arith, All, false}
-use Rattle.std.specs.Prelude.{replicate}
+use Rattle.std.proofs.Common.{◌≡◌, ◌<◌, [], length, sym, ap, ◌∙◌, subst, arith, All, false}
 use Rattle.std.proofs.lemmas.List.Elements.{All-from_get_or}
 use Rattle.fv_signal.specs.Value.{Graph}
 use Rattle.fv_signal.specs.Rates.{rate_in, rate_at, rates}
@@ -7,16 +6,12 @@ use Rattle.fv_signal.proofs.Grown.{length_grown}
 use Rattle.fv_analysis.proofs.StandLemmas.{stands_long}
 use Rattle.fv_lanes.specs.Homes.{bit_at}
 use Rattle.fv_lanes.specs.Marked.{Marks, ByOne, Named}
+use Rattle.fv_lanes.proofs.RowLemmas.{each_same}
 use Rattle.fv_lanes.proofs.MarkLemmas.{are_marked}
 use Rattle.fv_lanes.proofs.mark.separated.Goals as goal
 
 rates_long : (g : Graph) → length (rates g.signals) ≡ length g.signals
 rates_long g = omega (arith, length_grown (λ now. rate_in (rate_at now)) [] g.signals)
-
-none_marked : (n s : ℕ) → bit_at (replicate n false) s ≡ false
-none_marked zero s = refl
-none_marked (suc n) zero = refl
-none_marked (suc n) (suc s) = none_marked n s
 
 pub mark_named-requires-clause-signals : goal.mark_named-requires-clause-signals
 mark_named-requires-clause-signals c =
@@ -44,6 +39,6 @@ returns c =
     let blank = c.in_ok-marks.ensures.items_if_clones_equal (λ y e. e) in
     are_marked g c.requires.graph stands c.args.rates.now c.args.readers.now begun named c.mark_delays.new.marks.items c.mark_groups.new.marks.items c.mark_shared.new.marks.items
     c.requires.stands c.requires.rates c.requires.readers (omega (arith, c.in_ok-marks.marks.ok.0, c.in_ok-marks.ensures.len, c.len.ensures))
-    (λ s. ap (λ bs. bit_at bs s) blank ∙ none_marked c.len.result s)
+    (λ s. ap (λ bs. bit_at bs s) blank ∙ each_same c.len.result s false)
     (subst (λ xs. Marks begun named (ByOne (Named stands xs)
     (length xs))) c.outputs.ensures.list c.mark_named.ensures) c.mark_delays.ensures c.mark_groups.ensures c.mark_shared.ensures

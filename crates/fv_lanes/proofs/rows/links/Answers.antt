@@ -8,5 +8,5 @@ loop-s-preserved c =
     let g = c.args.graph.now in
     let s = c.loop-s.s in
     let is = node_read g s c.new.result c.signal.result (omega arith) c.new.ensures c.signal.ensures.node in
-    rows_more (links_of g) s c.loop-s.rows.items c.push.new.self.items c.in_ok-row.row c.loop-s.invariant c.in_ok-push.ensures.items
-    (c.in_ok-row.ensures ∙ ap (found_from g) is ∙ sym (links_are g s (omega arith)))
+    rows_more (links_of g) s c.loop-s.rows c.add_links.new.rows (found_from g c.signal.result) c.loop-s.invariant c.in_ok-add_links.ensures
+    (ap (found_from g) is ∙ sym (links_are g s (omega arith)))

@@ -3,4 +3,4 @@ use Rattle.fv_lanes.specs.Rows.{AreRows}
 use Rattle.fv_lanes.proofs.rows.links.Given as goal
 
 abbrev pub invariant-loop-s : goal.invariant-loop-s
-invariant-loop-s l = AreRows (links_of l.graph) l.s l.rows.items
+invariant-loop-s l = AreRows (links_of l.graph) l.s l.rows

@@ -1,9 +1,7 @@
 -- Rows of links, and the nodes that they name.
-use Rattle.std.proofs.Common.{◌≡◌, ℕ, ◌<◌, List, length, All, Vec, subst, sym, ap, ◌∙◌, refl, get_or}
-use Rattle.std.specs.declared.alloc.Global.{Global}
-use Rattle.std.proofs.lemmas.Option.{slice_get_read}
+use Rattle.std.proofs.Common.{ℕ, ◌<◌, All, subst, refl, get_or}
 use Rattle.std.proofs.lemmas.List.Elements.{All-get_or, All-from_get_or}
-use Rattle.fv_components.specs.Reach.{Links, AreLinks, items_of, next_of}
+use Rattle.fv_components.specs.Reach.{Links, AreLinks}
 
 -- rows whose nodes are all below n are links below n
 pub links_from_rows : (next : Links) (n : ℕ) → ((a : ℕ) → a < n → All (λ b. b < n) (next a)) → AreLinks next n
@@ -12,7 +10,3 @@ links_from_rows next n rows a b l step = subst (λ x. x < n) step.is (All-get_or
 -- links below n name nodes below n alone
 pub rows_of_links : (next : Links) (n a : ℕ) → AreLinks next n → a < n → All (λ b. b < n) (next a)
 rows_of_links next n a links l = All-from_get_or (λ x. x < n) (next a) 0 (λ i h. links a (get_or (next a) i 0) l (record { place = i; within = h; is = refl }))
-
--- a row that was read
-pub row_read : (links : List (Vec ℕ Global)) (a : ℕ) (row : Vec ℕ Global) (items : List ℕ) → a < length links → row ≡ get_or links a row → items ≡ row.items → next_of links a ≡ items
-row_read links a row items l is e = ap items_of (slice_get_read links (length links) a row refl l is) ∙ sym e
