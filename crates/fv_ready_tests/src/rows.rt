@@ -2,8 +2,9 @@
 // and 3 and 4 out of the loops.
 
 ghost use Rattle.std.specs.Prelude.{◌≡◌, ℕ, ◌+◌, ◌<◌, ◌≤◌, [], ◌∷◌, IfOk, vec_len, vec_capacity};
-ghost use Rattle.fv_ready.specs.Begun.{AreEntries, AreFirstSeats, IsFirstSeat};
-ghost use Rattle.fv_ready.specs.Seats.{IsSeat, view_of};
+ghost use Rattle.fv_ready.specs.Begun.{AreEntries};
+ghost use Rattle.fv_ready.specs.Seats.{view_of};
+ghost use Rattle.fv_ready.specs.Boards.{about_of, graph_of, tasks_of, IsSeatOf, IsFirstSeatOf, AreFirstSeatsOf};
 
 use fv_graph::Tasks;
 use fv_outside::Reads;
@@ -67,10 +68,10 @@ fn begun<'t>(
     tasks: &'t Tasks,
 ) -> Result<(Board<'t, Note>, Vec<WorkerSeat<Note>>), AllocError>
     requires { tasks.now.tasks.loops ≡ 2 }
-    ensures workers { IfOk result (λ r. r.0.table.shared.key.workers ≡ 2) }
-    ensures tasks { IfOk result (λ r. r.0.tasks.now ≡ tasks.now) }
+    ensures workers { IfOk result (λ r. (about_of r.0).workers ≡ 2) }
+    ensures tasks { IfOk result (λ r. graph_of r.0 ≡ tasks.now) }
     ensures count { IfOk result (λ r. vec_len r.1 ≡ 2) }
-    ensures seats { IfOk result (λ r. AreFirstSeats (λ n. n.edge) (λ n. n.block) r.0.table.shared.table_id r.0.table.shared.key 0 r.1.items) }
+    ensures seats { IfOk result (λ r. AreFirstSeatsOf (λ n. n.edge) (λ n. n.block) r.0 r.1.items) }
 {
     let list = entries(alloc)?;
     match Board::begin(alloc, tasks, 2, list) {
@@ -93,11 +94,11 @@ fn two_seats<'t>(
     AllocError,
 >
     requires { tasks.now.tasks.loops ≡ 2 }
-    ensures workers { IfOk result (λ r. r.0.table.shared.key.workers ≡ 2) }
-    ensures tasks { IfOk result (λ r. r.0.tasks.now ≡ tasks.now) }
+    ensures workers { IfOk result (λ r. (about_of r.0).workers ≡ 2) }
+    ensures tasks { IfOk result (λ r. graph_of r.0 ≡ tasks.now) }
     ensures room { IfOk result (λ r. (vec_len r.1 ≡ 0) × (2 ≤ vec_capacity r.1)) }
-    ensures first { IfOk result (λ r. IsFirstSeat (λ n. n.edge) (λ n. n.block) r.0.table.shared.table_id r.0.table.shared.key 0 r.2) }
-    ensures second { IfOk result (λ r. IsFirstSeat (λ n. n.edge) (λ n. n.block) r.0.table.shared.table_id r.0.table.shared.key 1 r.3) }
+    ensures first { IfOk result (λ r. IsFirstSeatOf (λ n. n.edge) (λ n. n.block) r.0 0 r.2) }
+    ensures second { IfOk result (λ r. IsFirstSeatOf (λ n. n.edge) (λ n. n.block) r.0 1 r.3) }
 {
     let (board, mut seats) = begun(alloc, tasks)?;
     let second = seats.pop().unwrap();
@@ -113,11 +114,11 @@ fn end(
     second: WorkerSeat<Note>,
     exits: &mut Vec<Note>,
 ) -> bool
-    requires workers { board.table.shared.key.workers ≡ 2 }
-    requires loops { board.tasks.now.tasks.loops ≡ 2 }
+    requires workers { (about_of board).workers ≡ 2 }
+    requires loops { (tasks_of board).loops ≡ 2 }
     requires room { (vec_len seats ≡ 0) × (2 ≤ vec_capacity seats) × (vec_len exits.old + 2 ≤ vec_capacity exits.old) }
-    requires first { IsSeat (λ n. n.edge) (λ n. n.block) board.table.shared.table_id board.table.shared.key first }
-    requires second { IsSeat (λ n. n.edge) (λ n. n.block) board.table.shared.table_id board.table.shared.key second }
+    requires first { IsSeatOf (λ n. n.edge) (λ n. n.block) board first }
+    requires second { IsSeatOf (λ n. n.edge) (λ n. n.block) board second }
     requires numbers { ((view_of first).numbers ≡ 0 ∷ []) × ((view_of second).numbers ≡ 1 ∷ []) }
 {
     seats.push_reserved(first);
