@@ -84,10 +84,10 @@ impl<'t, C: Parcel> Board<'t, C> {
     fn finish(&self, seat: &mut WorkerSeat<C>, task: u64) -> u64
         requires seat { IsSeatOf C.edge_of C.key_of self.now seat.old }
         requires hand { hand_of seat.old ≡ Some (record { task = task; started = true }) }
-        requires handed { IsHanded C.edge_of C.key_of self.now task seat.old }
+        requires handed { IsHanded self.now task seat.old }
         ensures list { view_of seat.new ≡ noted (view_of seat.old) (Stamped result task false) }
         ensures above { (k : ℕ) → 0 < done_by (stamps k) (view_of seat.old) → k < result }
-        ensures slots { slots_of seat.new ≡ slots_left C.edge_of C.key_of self.now task seat.old }
+        ensures slots { slots_of seat.new ≡ slots_left self.now task seat.old }
         ensures hand { hand_of seat.new ≡ None }
         ensures seat { IsSeatOf C.edge_of C.key_of self.now seat.new }
     {
@@ -105,13 +105,13 @@ impl<'t, C: Parcel> Board<'t, C> {
     /// and so does that of its exit edge.
     pub fn stamp(&self, seat: &mut WorkerSeat<C>) -> u64
         requires seat { IsSeatOf C.edge_of C.key_of self.now seat.old }
-        requires hand { IsSomeAnd (hand_of seat.old) (λ r. r.started ≡ true → IsHanded C.edge_of C.key_of self.now r.task seat.old) }
+        requires hand { IsSomeAnd (hand_of seat.old) (λ r. r.started ≡ true → IsHanded self.now r.task seat.old) }
         ensures list { IfSome (hand_of seat.old) (λ r. view_of seat.new ≡ noted (view_of seat.old) (Stamped result r.task (not r.started))) }
         ensures above { (k : ℕ) → 0 < done_by (stamps k) (view_of seat.old) → k < result }
         ensures start { IfSome (hand_of seat.old) (λ r. r.started ≡ false
             → (hand_of seat.new ≡ Some (record { task = r.task; started = true })) × (slots_of seat.new ≡ slots_of seat.old)) }
         ensures finish { IfSome (hand_of seat.old) (λ r. r.started ≡ true
-            → (hand_of seat.new ≡ None) × (slots_of seat.new ≡ slots_left C.edge_of C.key_of self.now r.task seat.old)) }
+            → (hand_of seat.new ≡ None) × (slots_of seat.new ≡ slots_left self.now r.task seat.old)) }
         ensures seat { IsSeatOf C.edge_of C.key_of self.now seat.new }
     {
         let InHand { task, started } = seat.in_hand.unwrap();
