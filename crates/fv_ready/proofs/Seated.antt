@@ -168,6 +168,11 @@ module _ {C Key : Type 0} (edge_of : C → ℕ) (key_of : C → Key) (a : About 
       (λ s. let m = h.0 p (subst (λ b. cond b x.1 (slot_at xs e) ≡ Some p) (eq-eqb x.0 e s) is) in (m.0 ∙ s, m.1))
       (λ n. may_at xs e p h.1 (subst (λ b. cond b x.1 (slot_at xs e) ≡ Some p) (ne_eqb x.0 e n) is))
 
+-- the parcels that are handed, where the code has another name for the board's tasks
+pub handed_as : {C Key : Type 0} (edge_of : C → ℕ) (key_of : C → Key) (a : About C) (g : Graph) (t : ℕ) (c : List (ℕ × Option C)) → a.tasks.value ≡ g →
+    ((e : ℕ) → 0 < times e (outward g.tasks t) → (p : C) × (slot_at c e ≡ Some p)) → AreHanded graph_wires edge_of key_of a t c
+handed_as {C} edge_of key_of a g t c told h = subst (λ (k : Graph). (e : ℕ) → 0 < times e (outward k.tasks t) → (p : C) × (slot_at c e ≡ Some p)) (sym told) h
+
 -- the edges that a task owes are among its edges
 pub feeds_fit : {C : Type 0} (a : About C) (g : Graph) (t : ℕ) → a.tasks.value ≡ g → length (feeds_of g.tasks t) ≤ length
     (inward a.tasks.value.tasks t) + length (outward a.tasks.value.tasks t)

@@ -4,7 +4,7 @@ use Rattle.std.specs.Global.{Vec}
 use Rattle.atomic_table.specs.Seated.{TableId}
 use Rattle.fv_rule.specs.declared.About.{About}
 use Rattle.fv_ready.specs.declared.seat.WorkerSeat.{WorkerSeat}
-use Rattle.fv_ready.specs.Seats.{view_of, slots_of, IsSeat}
+use Rattle.fv_ready.specs.Seats.{view_of, slots_of, hand_of, IsSeat}
 
 module _ {C : Type 0} where
   -- the slots of a new board: the entries, and behind them nothing
@@ -27,7 +27,7 @@ pub record IsNewSeat {C : Type 0} (id : TableId) (about : About C) (room k : ℕ
   pub table : s.seat.table_id ≡ id
   pub view : view_of s ≡ record { board = Some about; numbers = k ∷ []; deeds = [] }
   pub slots : slots_of s ≡ []
-  pub hand : s.in_hand ≡ None
+  pub hand : hand_of s ≡ None
   pub edges : s.edges.items ≡ []
   pub roomy : room ≤ vec_capacity s.edges
 
@@ -41,7 +41,7 @@ pub record IsFirstSeat {C Key : Type 0} (edge_of : C → ℕ) (key_of : C → Ke
   pub seat : IsSeat edge_of key_of id about s
   pub view : view_of s ≡ record { board = Some about; numbers = k ∷ []; deeds = [] }
   pub slots : slots_of s ≡ []
-  pub hand : s.in_hand ≡ None
+  pub hand : hand_of s ≡ None
 
 -- the seats have the numbers from k on
 abbrev pub AreFirstSeats : {C Key : Type 0} → (C → ℕ) → (C → Key) → TableId → About C → ℕ → List (WorkerSeat C) → Type 0

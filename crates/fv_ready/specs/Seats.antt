@@ -8,6 +8,7 @@ use Rattle.fv_rule.specs.declared.View.{View}
 use Rattle.fv_rule.specs.Wired.{graph_wires}
 use Rattle.fv_rule.specs.Rule.{places}
 use Rattle.fv_rule.specs.Carried.{IsFree, IsBusy}
+use Rattle.fv_ready.specs.declared.seat.InHand.{InHand}
 use Rattle.fv_ready.specs.declared.seat.WorkerSeat.{WorkerSeat}
 
 -- where an edge stands first in a list
@@ -23,6 +24,10 @@ module _ {C : Type 0} where
   abbrev pub slots_of : WorkerSeat C → List (ℕ × Option C)
   slots_of s = s.seat.me.1
 
+  -- the task that the seat has in hand, if any
+  abbrev pub hand_of : WorkerSeat C → Option InHand
+  hand_of s = s.in_hand
+
 -- a seat of this board, whatever it has in hand
 pub record IsSeat {C Key : Type 0} (edge_of : C → ℕ) (key_of : C → Key) (id : TableId) (a : About C) (s : WorkerSeat C) : Type 0 where
   pub name : s.seat.table_id ≡ id
@@ -30,5 +35,5 @@ pub record IsSeat {C Key : Type 0} (edge_of : C → ℕ) (key_of : C → Key) (i
   pub mirror : places (slots_of s) ≡ s.edges.items
   pub room : (t : ℕ) → t < task_count a.tasks.value.tasks → length (inward a.tasks.value.tasks t) + length (outward a.tasks.value.tasks t)
       ≤ vec_capacity s.edges
-  pub hand : MatchOption s.in_hand (IsFree graph_wires edge_of key_of a (view_of s) (slots_of s))
+  pub hand : MatchOption (hand_of s) (IsFree graph_wires edge_of key_of a (view_of s) (slots_of s))
       (λ r. IsBusy graph_wires edge_of key_of a r.task r.started (view_of s) (slots_of s))

@@ -3,7 +3,8 @@
 ghost use Rattle.std.specs.Prelude.{◌≡◌, ℕ, ◌+◌, ◌*◌, ◌-◌, ◌^◌, ◌<◌, ◌≤◌, length, List, [], ◌∷◌, ◌++◌, map, replicate, slice_index_or, Some, None, IfOk, IfErr, vec_len, vec_capacity};
 ghost use Rattle.fv_graph.specs.Graph.{net_of};
 ghost use Rattle.fv_rule.specs.Whole.{first_words, first_view};
-ghost use Rattle.fv_ready.specs.Begun.{first_slots, parcels_of, AreRoomy, AreNewSeats, AreFirstSeats, AreEntries};
+ghost use Rattle.fv_ready.specs.Begun.{first_slots, parcels_of, AreRoomy, AreNewSeats, AreEntries};
+ghost use Rattle.fv_ready.specs.Boards.{about_of, graph_of, AreFirstSeatsOf};
 
 use crate::board::Board;
 use crate::rule::{ByNumber, Whole};
@@ -129,11 +130,12 @@ impl<'t, C: Parcel + Drop> Board<'t, C> {
         requires workers { (0 < workers) × (workers ≤ 16) }
         requires count { vec_len entries ≡ tasks.now.tasks.loops }
         requires entries { AreEntries C.edge_of C.key_of entries.items }
-        ensures workers { IfOk result (λ r. r.0.table.shared.key.workers ≡ workers) }
-        ensures tasks { IfOk result (λ r. (r.0.tasks.now ≡ tasks.now) × (r.0.table.shared.key.tasks.value ≡ tasks.now)) }
-        ensures key { IfOk result (λ r. (k : ℕ) (d : C) → k < vec_len entries → C.key_of (slice_index_or entries.items k d) ≡ C.key_of r.0.table.shared.key.sample.value) }
+        ensures workers { IfOk result (λ r. (about_of r.0).workers ≡ workers) }
+        ensures tasks { IfOk result (λ r. (graph_of r.0 ≡ tasks.now) × ((about_of r.0).tasks.value ≡ tasks.now)) }
+        ensures key { IfOk result (λ r. (k : ℕ) (d : C) → k < vec_len entries
+            → C.key_of (slice_index_or entries.items k d) ≡ C.key_of (about_of r.0).sample.value) }
         ensures count { IfOk result (λ r. vec_len r.1 ≡ workers) }
-        ensures seats { IfOk result (λ r. AreFirstSeats C.edge_of C.key_of r.0.table.shared.table_id r.0.table.shared.key 0 r.1.items) }
+        ensures seats { IfOk result (λ r. AreFirstSeatsOf C.edge_of C.key_of r.0 r.1.items) }
         ensures err { IfErr result (λ r. r.0.items ≡ entries.items) }
     {
         let loops = tasks.loops();

@@ -16,7 +16,8 @@ pub struct Board<'t, C: Parcel> {
     pub(crate) tasks: &'t Tasks,
     pub(crate) table: Table<Option<C>, View<C>, About<C>, Whole<C>, Global>,
     ghost told: { table.shared.key.tasks.value ≡ tasks.now },
-    ghost sized: { (table.shared.table_id.words ≡ 1 + task_count tasks.now.tasks + task_count tasks.now.tasks) × (table.shared.table_id.slots ≡ edges_of tasks.now.tasks) },
+    ghost sized: { (table.shared.table_id.words ≡ 1 + task_count tasks.now.tasks + task_count tasks.now.tasks)
+        × (table.shared.table_id.slots ≡ edges_of tasks.now.tasks) },
     ghost graph: { IsGraph tasks.now.tasks },
     ghost few: { (task_count tasks.now.tasks ≤ edges_of tasks.now.tasks) × (edges_of tasks.now.tasks < 2 ^ 62) },
 }

@@ -10,7 +10,8 @@ ghost use Rattle.fv_rule.specs.Rule.{done_by, finishes, wins, claim_word};
 ghost use Rattle.fv_rule.specs.Told.{Tells};
 ghost use Rattle.fv_rule.specs.declared.Deed.{Deed};
 ghost use Rattle.fv_ready.specs.Told.{told_by, having};
-ghost use Rattle.fv_ready.specs.Closed.{AreSeats, AreParcels, AreSlots, IsTaken};
+ghost use Rattle.fv_ready.specs.Closed.{AreSeats, AreSlots, IsTaken};
+ghost use Rattle.fv_ready.specs.Boards.{about_of, tasks_of, AreSeatsOf, GainsParcels};
 
 use crate::board::Board;
 use crate::rule::{GivesBack, Together, Whole};
@@ -66,7 +67,8 @@ fn is_untouched<C>(closed: &Closed<Option<C>, Global>, tasks: u64) -> bool
 fn discard<C: Drop>(closed: &mut Closed<Option<C>, Global>, from: u64, to: u64)
     requires range { (from ≤ to) × (to ≤ slots_len closed.old.slots) }
     requires taken { IsTaken (slots_filled closed.old.slots) (slots_len closed.old.slots) from }
-    ensures same { (slots_items closed.new.slots ≡ slots_items closed.old.slots) × (slots_len closed.new.slots ≡ slots_len closed.old.slots) × (closed.new.words ≡ closed.old.words) }
+    ensures same { (slots_items closed.new.slots ≡ slots_items closed.old.slots) × (slots_len closed.new.slots ≡ slots_len closed.old.slots)
+        × (closed.new.words ≡ closed.old.words) }
     ensures taken { IsTaken (slots_filled closed.new.slots) (slots_len closed.old.slots) to }
 {
     for e in from..to {
@@ -80,7 +82,8 @@ fn take_out<C: Drop>(closed: &mut Closed<Option<C>, Global>, from: u64, to: u64,
     requires taken { IsTaken (slots_filled closed.old.slots) (slots_len closed.old.slots) from }
     requires full { (e : ℕ) → from ≤ e → e < to → (p : C) × (get_elem? (slots_items closed.old.slots) e ≡ some (Some p)) }
     requires room { vec_len exits.old + (to - from) ≤ vec_capacity exits.old }
-    ensures same { (slots_items closed.new.slots ≡ slots_items closed.old.slots) × (slots_len closed.new.slots ≡ slots_len closed.old.slots) × (closed.new.words ≡ closed.old.words) }
+    ensures same { (slots_items closed.new.slots ≡ slots_items closed.old.slots) × (slots_len closed.new.slots ≡ slots_len closed.old.slots)
+        × (closed.new.words ≡ closed.old.words) }
     ensures taken { IsTaken (slots_filled closed.new.slots) (slots_len closed.old.slots) to }
     ensures exits { (ps : List C) × (exits.new.items ≡ exits.old.items ++ ps) × (length ps ≡ to - from) × AreSlots (slots_items closed.old.slots) from ps }
 {
@@ -115,14 +118,17 @@ impl<'t, C: Parcel + Drop> Board<'t, C> {
     /// `exits` gets the parcel of each loop's exit edge, loop by loop. Where no task was taken it gets the entries back, as they
     /// were ordered, and in every other case nothing.
     pub fn close(self, seats: Vec<WorkerSeat<C>>, exits: &mut Vec<C>) -> bool
-        requires seats { AreSeats C.edge_of C.key_of self.table.shared.table_id self.table.shared.key seats.items }
-        requires all { (0 < self.table.shared.key.workers) × ((k : ℕ) → k < self.table.shared.key.workers → having k seats.items ≡ 1) }
-        requires room { vec_len exits.old + self.tasks.now.tasks.loops ≤ vec_capacity exits.old }
-        ensures done { IsTrue result ↔ ((t : ℕ) → t < task_count self.entry.tasks.now.tasks → told_by (finishes t) seats.items ≡ 1) }
-        ensures tells { Tells (net_of self.entry.tasks.now.tasks) (λ f. told_by f seats.items) }
-        ensures exits { IsTrue result → (ps : List C) × (exits.new.items ≡ exits.old.items ++ ps) × (length ps ≡ self.entry.tasks.now.tasks.loops) × AreParcels C.edge_of C.key_of self.entry.table.shared.key (edges_of self.entry.tasks.now.tasks - self.entry.tasks.now.tasks.loops) ps }
-        ensures entries { ((t : ℕ) → t < task_count self.entry.tasks.now.tasks → told_by (wins t) seats.items ≡ 0) → (ps : List C) × (exits.new.items ≡ exits.old.items ++ ps) × (length ps ≡ self.entry.tasks.now.tasks.loops) × AreParcels C.edge_of C.key_of self.entry.table.shared.key 0 ps }
-        ensures nothing { (IsTrue result → ⊥) → (t : ℕ) → t < task_count self.entry.tasks.now.tasks → 0 < told_by (wins t) seats.items → exits.new.items ≡ exits.old.items }
+        requires seats { AreSeatsOf C.edge_of C.key_of self seats.items }
+        requires all { (0 < (about_of self).workers) × ((k : ℕ) → k < (about_of self).workers → having k seats.items ≡ 1) }
+        requires room { vec_len exits.old + (tasks_of self).loops ≤ vec_capacity exits.old }
+        ensures done { IsTrue result ↔ ((t : ℕ) → t < task_count (tasks_of self.entry) → told_by (finishes t) seats.items ≡ 1) }
+        ensures tells { Tells (net_of (tasks_of self.entry)) (λ f. told_by f seats.items) }
+        ensures exits { IsTrue result
+            → GainsParcels C.edge_of C.key_of self.entry (edges_of (tasks_of self.entry) - (tasks_of self.entry).loops) exits.old.items exits.new.items }
+        ensures entries { ((t : ℕ) → t < task_count (tasks_of self.entry) → told_by (wins t) seats.items ≡ 0)
+            → GainsParcels C.edge_of C.key_of self.entry 0 exits.old.items exits.new.items }
+        ensures nothing { (IsTrue result → ⊥)
+            → (t : ℕ) → t < task_count (tasks_of self.entry) → 0 < told_by (wins t) seats.items → exits.new.items ≡ exits.old.items }
     {
         let Board { tasks, table } = self;
         let loops = tasks.loops();

@@ -1,13 +1,13 @@
 // The steps on words: looks, claims, stamps and arrivals. Each is one atomic step.
 
-ghost use Rattle.std.specs.Prelude.{◌≡◌, ℕ, ◌+◌, ◌<◌, ◌==◌, not, drop, List, Option, Some, None, [], ◌++◌, true, false, MatchBool, IfSome, IsSomeAnd};
-ghost use Rattle.fv_outside.specs.Tasks.{task_count, times};
-ghost use Rattle.fv_graph.specs.Graph.{net_of, inward, outward, feeds_of};
-ghost use Rattle.fv_rule.specs.Wired.{graph_wires};
-ghost use Rattle.fv_rule.specs.Rule.{noted, done_by, sees, stamps, finishes, arrives, Took, going};
-ghost use Rattle.fv_rule.specs.Carried.{AreHanded, but_slot};
+ghost use Rattle.std.specs.Prelude.{◌≡◌, ℕ, ◌<◌, ◌==◌, not, Some, None, [], true, false, MatchBool, IfSome, IsSomeAnd};
+ghost use Rattle.fv_outside.specs.Tasks.{task_count};
+ghost use Rattle.fv_graph.specs.Graph.{net_of};
+ghost use Rattle.fv_rule.specs.Rule.{noted, done_by, sees, stamps, finishes, arrives};
+ghost use Rattle.fv_rule.specs.Carried.{but_slot};
 ghost use Rattle.fv_rule.specs.declared.Deed.TheVariants.{Stamped, Arrived, Saw, Claimed};
-ghost use Rattle.fv_ready.specs.Seats.{IsSeat, view_of, slots_of};
+ghost use Rattle.fv_ready.specs.Seats.{view_of, slots_of, hand_of};
+ghost use Rattle.fv_ready.specs.Boards.{tasks_of, IsSeatOf, AreTaken, IsHanded, slots_left};
 
 use crate::board::Board;
 use crate::rule::{Arriving, Claiming, Finishing, Look, Starting};
@@ -17,12 +17,12 @@ use fv_rule::Parcel;
 impl<'t, C: Parcel> Board<'t, C> {
     /// The task's count is 0 at this step.
     pub fn is_ready(&self, seat: &mut WorkerSeat<C>, t: u64) -> bool
-        requires seat { IsSeat C.edge_of C.key_of self.now.table.shared.table_id self.now.table.shared.key seat.old }
-        requires task { t < task_count self.now.tasks.now.tasks }
+        requires seat { IsSeatOf C.edge_of C.key_of self.now seat.old }
+        requires task { t < task_count (tasks_of self.now) }
         ensures list { (c : ℕ) × (view_of seat.new ≡ noted (view_of seat.old) (Saw t c)) × (result ≡ (c == 0)) }
         ensures slots { slots_of seat.new ≡ slots_of seat.old }
-        ensures hand { seat.new.in_hand ≡ seat.old.in_hand }
-        ensures seat { IsSeat C.edge_of C.key_of self.now.table.shared.table_id self.now.table.shared.key seat.new }
+        ensures hand { hand_of seat.new ≡ hand_of seat.old }
+        ensures seat { IsSeatOf C.edge_of C.key_of self.now seat.new }
     {
         let found = self
             .table
@@ -34,13 +34,13 @@ impl<'t, C: Parcel> Board<'t, C> {
     /// True exactly where this is the first claim of the task. The seat has the task in hand then, with the slots of its edges,
     /// of which the inward ones are full and the outward ones empty.
     pub fn claim(&self, seat: &mut WorkerSeat<C>, t: u64) -> bool
-        requires seat { IsSeat C.edge_of C.key_of self.now.table.shared.table_id self.now.table.shared.key seat.old }
-        requires free { (seat.old.in_hand ≡ None) × (slots_of seat.old ≡ []) }
-        requires ready { (t < task_count self.now.tasks.now.tasks) × (0 < done_by (sees t) (view_of seat.old)) }
+        requires seat { IsSeatOf C.edge_of C.key_of self.now seat.old }
+        requires free { (hand_of seat.old ≡ None) × (slots_of seat.old ≡ []) }
+        requires ready { (t < task_count (tasks_of self.now)) × (0 < done_by (sees t) (view_of seat.old)) }
         ensures list { view_of seat.new ≡ noted (view_of seat.old) (Claimed t result) }
-        ensures hand { MatchBool result (seat.new.in_hand ≡ Some (record { task = t; started = false })) (seat.new.in_hand ≡ None) }
-        ensures slots { MatchBool result (Took graph_wires C.edge_of C.key_of self.now.table.shared.key (inward self.now.tasks.now.tasks t) (outward self.now.tasks.now.tasks t) [] (slots_of seat.new)) (slots_of seat.new ≡ []) }
-        ensures seat { IsSeat C.edge_of C.key_of self.now.table.shared.table_id self.now.table.shared.key seat.new }
+        ensures hand { MatchBool result (hand_of seat.new ≡ Some (record { task = t; started = false })) (hand_of seat.new ≡ None) }
+        ensures slots { MatchBool result (AreTaken C.edge_of C.key_of self.now t (slots_of seat.new)) (slots_of seat.new ≡ []) }
+        ensures seat { IsSeatOf C.edge_of C.key_of self.now seat.new }
     {
         let n = self.tasks.len();
         let found = self
@@ -61,13 +61,13 @@ impl<'t, C: Parcel> Board<'t, C> {
 
     // The start of the task in hand.
     fn start(&self, seat: &mut WorkerSeat<C>, task: u64) -> u64
-        requires seat { IsSeat C.edge_of C.key_of self.now.table.shared.table_id self.now.table.shared.key seat.old }
-        requires hand { seat.old.in_hand ≡ Some (record { task = task; started = false }) }
+        requires seat { IsSeatOf C.edge_of C.key_of self.now seat.old }
+        requires hand { hand_of seat.old ≡ Some (record { task = task; started = false }) }
         ensures list { view_of seat.new ≡ noted (view_of seat.old) (Stamped result task true) }
         ensures above { (k : ℕ) → 0 < done_by (stamps k) (view_of seat.old) → k < result }
         ensures slots { slots_of seat.new ≡ slots_of seat.old }
-        ensures hand { seat.new.in_hand ≡ Some (record { task = task; started = true }) }
-        ensures seat { IsSeat C.edge_of C.key_of self.now.table.shared.table_id self.now.table.shared.key seat.new }
+        ensures hand { hand_of seat.new ≡ Some (record { task = task; started = true }) }
+        ensures seat { IsSeatOf C.edge_of C.key_of self.now seat.new }
     {
         let number = self
             .table
@@ -82,14 +82,14 @@ impl<'t, C: Parcel> Board<'t, C> {
 
     // The finish of the task in hand. The slots of the edges into it go back, and so does that of its exit edge.
     fn finish(&self, seat: &mut WorkerSeat<C>, task: u64) -> u64
-        requires seat { IsSeat C.edge_of C.key_of self.now.table.shared.table_id self.now.table.shared.key seat.old }
-        requires hand { seat.old.in_hand ≡ Some (record { task = task; started = true }) }
-        requires handed { AreHanded graph_wires C.edge_of C.key_of self.now.table.shared.key task (slots_of seat.old) }
+        requires seat { IsSeatOf C.edge_of C.key_of self.now seat.old }
+        requires hand { hand_of seat.old ≡ Some (record { task = task; started = true }) }
+        requires handed { IsHanded self.now task seat.old }
         ensures list { view_of seat.new ≡ noted (view_of seat.old) (Stamped result task false) }
         ensures above { (k : ℕ) → 0 < done_by (stamps k) (view_of seat.old) → k < result }
-        ensures slots { slots_of seat.new ≡ drop (going graph_wires C.edge_of C.key_of self.now.table.shared.key task) (slots_of seat.old) }
-        ensures hand { seat.new.in_hand ≡ None }
-        ensures seat { IsSeat C.edge_of C.key_of self.now.table.shared.table_id self.now.table.shared.key seat.new }
+        ensures slots { slots_of seat.new ≡ slots_left self.now task seat.old }
+        ensures hand { hand_of seat.new ≡ None }
+        ensures seat { IsSeatOf C.edge_of C.key_of self.now seat.new }
     {
         let number = self
             .table
@@ -104,13 +104,15 @@ impl<'t, C: Parcel> Board<'t, C> {
     /// The next stamp: the start of the task in hand, or its finish. At the finish the slots of the edges into the task go back,
     /// and so does that of its exit edge.
     pub fn stamp(&self, seat: &mut WorkerSeat<C>) -> u64
-        requires seat { IsSeat C.edge_of C.key_of self.now.table.shared.table_id self.now.table.shared.key seat.old }
-        requires hand { IsSomeAnd seat.old.in_hand (λ r. r.started ≡ true → AreHanded graph_wires C.edge_of C.key_of self.now.table.shared.key r.task (slots_of seat.old)) }
-        ensures list { IfSome seat.old.in_hand (λ r. view_of seat.new ≡ noted (view_of seat.old) (Stamped result r.task (not r.started))) }
+        requires seat { IsSeatOf C.edge_of C.key_of self.now seat.old }
+        requires hand { IsSomeAnd (hand_of seat.old) (λ r. r.started ≡ true → IsHanded self.now r.task seat.old) }
+        ensures list { IfSome (hand_of seat.old) (λ r. view_of seat.new ≡ noted (view_of seat.old) (Stamped result r.task (not r.started))) }
         ensures above { (k : ℕ) → 0 < done_by (stamps k) (view_of seat.old) → k < result }
-        ensures start { IfSome seat.old.in_hand (λ r. r.started ≡ false → (seat.new.in_hand ≡ Some (record { task = r.task; started = true })) × (slots_of seat.new ≡ slots_of seat.old)) }
-        ensures finish { IfSome seat.old.in_hand (λ r. r.started ≡ true → (seat.new.in_hand ≡ None) × (slots_of seat.new ≡ drop (going graph_wires C.edge_of C.key_of self.now.table.shared.key r.task) (slots_of seat.old))) }
-        ensures seat { IsSeat C.edge_of C.key_of self.now.table.shared.table_id self.now.table.shared.key seat.new }
+        ensures start { IfSome (hand_of seat.old) (λ r. r.started ≡ false
+            → (hand_of seat.new ≡ Some (record { task = r.task; started = true })) × (slots_of seat.new ≡ slots_of seat.old)) }
+        ensures finish { IfSome (hand_of seat.old) (λ r. r.started ≡ true
+            → (hand_of seat.new ≡ None) × (slots_of seat.new ≡ slots_left self.now r.task seat.old)) }
+        ensures seat { IsSeatOf C.edge_of C.key_of self.now seat.new }
     {
         let InHand { task, started } = seat.in_hand.unwrap();
         if started {
@@ -122,13 +124,14 @@ impl<'t, C: Parcel> Board<'t, C> {
 
     /// The count of the edge's reader after it. The seat owes the edge no more: its slot goes back with the parcel.
     pub fn arrive(&self, seat: &mut WorkerSeat<C>, edge: u64) -> u64
-        requires seat { IsSeat C.edge_of C.key_of self.now.table.shared.table_id self.now.table.shared.key seat.old }
-        requires inner { (net_of self.now.tasks.now.tasks).is_inner edge ≡ true }
-        requires owed { (0 < done_by (finishes ((net_of self.now.tasks.now.tasks).source edge)) (view_of seat.old)) × (done_by (arrives edge) (view_of seat.old) ≡ 0) }
+        requires seat { IsSeatOf C.edge_of C.key_of self.now seat.old }
+        requires inner { (net_of (tasks_of self.now)).is_inner edge ≡ true }
+        requires owed { (0 < done_by (finishes ((net_of (tasks_of self.now)).source edge)) (view_of seat.old))
+            × (done_by (arrives edge) (view_of seat.old) ≡ 0) }
         ensures list { view_of seat.new ≡ noted (view_of seat.old) (Arrived edge result) }
         ensures slots { slots_of seat.new ≡ but_slot (slots_of seat.old) edge }
-        ensures hand { (seat.old.in_hand ≡ None) × (seat.new.in_hand ≡ None) }
-        ensures seat { IsSeat C.edge_of C.key_of self.now.table.shared.table_id self.now.table.shared.key seat.new }
+        ensures hand { (hand_of seat.old ≡ None) × (hand_of seat.new ≡ None) }
+        ensures seat { IsSeatOf C.edge_of C.key_of self.now seat.new }
     {
         let place = place_of(seat.edges.as_slice(), edge);
         let reader = self.tasks.reader(edge);

@@ -2,8 +2,10 @@
 // and 3 and 4 out of the loops.
 
 ghost use Rattle.std.specs.Prelude.{◌≡◌, ℕ, ◌+◌, ◌<◌, ◌≤◌, [], ◌∷◌, IfOk, vec_len, vec_capacity};
-ghost use Rattle.fv_ready.specs.Begun.{AreEntries, AreFirstSeats, IsFirstSeat};
-ghost use Rattle.fv_ready.specs.Seats.{IsSeat, view_of};
+ghost use Rattle.fv_ready.specs.Begun.{AreEntries};
+ghost use Rattle.fv_ready.specs.Seats.{view_of};
+ghost use Rattle.fv_ready.specs.Boards.{about_of, tasks_of, IsSeatOf, IsFirstSeatOf, AreFirstSeatsOf};
+ghost use Rattle.fv_ready_tests.specs.TwoLoops.{two_loops};
 
 use fv_graph::Tasks;
 use fv_outside::Reads;
@@ -14,10 +16,10 @@ use std::test::Fail;
 
 // What goes over an edge: a text, in a block.
 #[derive(Drop)]
-struct Note {
-    edge: u64,
-    block: u64,
-    text: u64,
+pub(crate) struct Note {
+    pub(crate) edge: u64,
+    pub(crate) block: u64,
+    pub(crate) text: u64,
 }
 
 impl Parcel for Note {
@@ -32,9 +34,8 @@ impl Parcel for Note {
     }
 }
 
-fn pair(alloc: Global) -> Result<Tasks, AllocError>
-    ensures loops { IfOk result (λ t. t.tasks.loops ≡ 2) }
-    ensures vectors { IfOk result (λ t. t.tasks.vectors ≡ 1) }
+pub(crate) fn pair(alloc: Global) -> Result<Tasks, AllocError>
+    ensures { IfOk result (λ t. t.tasks ≡ two_loops) }
 {
     let reads = [Reads {
         reader: 1,
@@ -66,11 +67,11 @@ fn begun<'t>(
     alloc: Global,
     tasks: &'t Tasks,
 ) -> Result<(Board<'t, Note>, Vec<WorkerSeat<Note>>), AllocError>
-    requires { tasks.now.tasks.loops ≡ 2 }
-    ensures workers { IfOk result (λ r. r.0.table.shared.key.workers ≡ 2) }
-    ensures tasks { IfOk result (λ r. r.0.tasks.now ≡ tasks.now) }
+    requires { tasks.now.tasks ≡ two_loops }
+    ensures workers { IfOk result (λ r. (about_of r.0).workers ≡ 2) }
+    ensures tasks { IfOk result (λ r. tasks_of r.0 ≡ two_loops) }
     ensures count { IfOk result (λ r. vec_len r.1 ≡ 2) }
-    ensures seats { IfOk result (λ r. AreFirstSeats (λ n. n.edge) (λ n. n.block) r.0.table.shared.table_id r.0.table.shared.key 0 r.1.items) }
+    ensures seats { IfOk result (λ r. AreFirstSeatsOf (λ n. n.edge) (λ n. n.block) r.0 r.1.items) }
 {
     let list = entries(alloc)?;
     match Board::begin(alloc, tasks, 2, list) {
@@ -80,7 +81,7 @@ fn begun<'t>(
 }
 
 // The same, with the two seats apart.
-fn two_seats<'t>(
+pub(crate) fn two_seats<'t>(
     alloc: Global,
     tasks: &'t Tasks,
 ) -> Result<
@@ -92,12 +93,12 @@ fn two_seats<'t>(
     ),
     AllocError,
 >
-    requires { tasks.now.tasks.loops ≡ 2 }
-    ensures workers { IfOk result (λ r. r.0.table.shared.key.workers ≡ 2) }
-    ensures tasks { IfOk result (λ r. r.0.tasks.now ≡ tasks.now) }
+    requires { tasks.now.tasks ≡ two_loops }
+    ensures workers { IfOk result (λ r. (about_of r.0).workers ≡ 2) }
+    ensures tasks { IfOk result (λ r. tasks_of r.0 ≡ two_loops) }
     ensures room { IfOk result (λ r. (vec_len r.1 ≡ 0) × (2 ≤ vec_capacity r.1)) }
-    ensures first { IfOk result (λ r. IsFirstSeat (λ n. n.edge) (λ n. n.block) r.0.table.shared.table_id r.0.table.shared.key 0 r.2) }
-    ensures second { IfOk result (λ r. IsFirstSeat (λ n. n.edge) (λ n. n.block) r.0.table.shared.table_id r.0.table.shared.key 1 r.3) }
+    ensures first { IfOk result (λ r. IsFirstSeatOf (λ n. n.edge) (λ n. n.block) r.0 0 r.2) }
+    ensures second { IfOk result (λ r. IsFirstSeatOf (λ n. n.edge) (λ n. n.block) r.0 1 r.3) }
 {
     let (board, mut seats) = begun(alloc, tasks)?;
     let second = seats.pop().unwrap();
@@ -106,18 +107,18 @@ fn two_seats<'t>(
 }
 
 // The end of such a board.
-fn end(
+pub(crate) fn end(
     board: Board<'_, Note>,
     mut seats: Vec<WorkerSeat<Note>>,
     first: WorkerSeat<Note>,
     second: WorkerSeat<Note>,
     exits: &mut Vec<Note>,
 ) -> bool
-    requires workers { board.table.shared.key.workers ≡ 2 }
-    requires loops { board.tasks.now.tasks.loops ≡ 2 }
+    requires workers { (about_of board).workers ≡ 2 }
+    requires tasks { tasks_of board ≡ two_loops }
     requires room { (vec_len seats ≡ 0) × (2 ≤ vec_capacity seats) × (vec_len exits.old + 2 ≤ vec_capacity exits.old) }
-    requires first { IsSeat (λ n. n.edge) (λ n. n.block) board.table.shared.table_id board.table.shared.key first }
-    requires second { IsSeat (λ n. n.edge) (λ n. n.block) board.table.shared.table_id board.table.shared.key second }
+    requires first { IsSeatOf (λ n. n.edge) (λ n. n.block) board first }
+    requires second { IsSeatOf (λ n. n.edge) (λ n. n.block) board second }
     requires numbers { ((view_of first).numbers ≡ 0 ∷ []) × ((view_of second).numbers ≡ 1 ∷ []) }
 {
     seats.push_reserved(first);

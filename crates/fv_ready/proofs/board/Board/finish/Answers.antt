@@ -1,20 +1,21 @@
-use Rattle.std.proofs.Common.{◌++◌, false, drop, length, ap, sym, ◌∙◌, arith}
-use Rattle.fv_graph.specs.Graph.{Graph, feeds_of}
+use Rattle.std.proofs.Common.{◌+◌, ◌-◌, ◌++◌, false, drop, length, ap, sym, ◌∙◌, arith}
+use Rattle.fv_graph.specs.Graph.{Graph, inward, outward, feeds_of}
 use Rattle.fv_graph.proofs.Graphs.{is_wires}
 use Rattle.fv_rule.specs.Wired.{graph_wires}
 use Rattle.fv_rule.specs.Rule.{noted, going}
 use Rattle.fv_rule.specs.declared.Deed.TheVariants.{Stamped}
 use Rattle.fv_rule.proofs.Leaving.{leads, leaving}
-use Rattle.fv_ready.proofs.Seated.{graph_of, few_of, feeds_fit, hand_busy, seat_after, hand_finished, places_left}
+use Rattle.fv_ready.proofs.Seated.{graph_of, handed_as, few_of, feeds_fit, hand_busy, seat_after, hand_finished, places_left}
 use Rattle.fv_ready.proofs.board.Board.finish.Goals as goal
 
 pub fetch_add-number-requires : goal.fetch_add-number-requires
 fetch_add-number-requires g c = let b = c.args.self.now in let s = c.requires.seat in let a = b.table.shared.key in let old = c.args.seat.now in
-    let busy = hand_busy g.C.Parcel.edge_of g.C.Parcel.key_of a old.in_hand old.seat.me.0 old.seat.me.1 _ c.requires.hand s.hand in (
+    let busy = hand_busy g.C.Parcel.edge_of g.C.Parcel.key_of a old.in_hand old.seat.me.0 old.seat.me.1 _ c.requires.hand s.hand in
+    let handed = handed_as g.C.Parcel.edge_of g.C.Parcel.key_of a b.tasks.now c.args.task old.seat.me.1 b.told c.requires.handed in (
       s.name,
       (let z = b.sized.0 in omega arith),
       leaving graph_wires g.C.Parcel.edge_of g.C.Parcel.key_of a (is_wires a.tasks.value.tasks (graph_of a b.tasks.now b.told b.graph))
-          old.seat.me.0 old.seat.me.1 c.args.task busy c.requires.handed (leads a.tasks.value.tasks c.args.task)
+          old.seat.me.0 old.seat.me.1 c.args.task busy handed (leads a.tasks.value.tasks c.args.task)
           old.seat.id b.table.shared.table_id.slots s.board (few_of a b.tasks.now b.told (let p = b.few.0 in let q = b.few.1 in omega arith)),
     )
 
@@ -31,7 +32,9 @@ returns-clause-above g c = let b = c.args.self.now in let s = c.requires.seat in
 pub returns-clause-slots : goal.returns-clause-slots
 returns-clause-slots g c = let b = c.args.self.now in let s = c.requires.seat in let old = c.args.seat.now in
     (c.fetch_add-number.ensures.2 b.table.shared.key s.board c.args.task
-    (hand_busy g.C.Parcel.edge_of g.C.Parcel.key_of b.table.shared.key old.in_hand old.seat.me.0 old.seat.me.1 _ c.requires.hand s.hand).last).1
+    (hand_busy g.C.Parcel.edge_of g.C.Parcel.key_of b.table.shared.key old.in_hand old.seat.me.0 old.seat.me.1 _ c.requires.hand s.hand).last).1 ∙ ap
+    (λ (k : Graph). drop (length (inward k.tasks c.args.task) + (length (outward k.tasks c.args.task) - length (feeds_of k.tasks c.args.task)))
+    old.seat.me.1) b.told
 
 pub append-requires : goal.append-requires
 append-requires g c = let b = c.args.self.now in let s = c.requires.seat in let a = b.table.shared.key in let old = c.args.seat.now in
@@ -43,11 +46,12 @@ pub returns-clause-seat : goal.returns-clause-seat
 returns-clause-seat g c = let b = c.args.self.now in let s = c.requires.seat in let a = b.table.shared.key in let old = c.args.seat.now in
     let busy = hand_busy g.C.Parcel.edge_of g.C.Parcel.key_of a old.in_hand old.seat.me.0 old.seat.me.1 _ c.requires.hand s.hand in
     let graph = graph_of a b.tasks.now b.told b.graph in
+    let handed = handed_as g.C.Parcel.edge_of g.C.Parcel.key_of a b.tasks.now c.args.task old.seat.me.1 b.told c.requires.handed in
     let told = c.fetch_add-number.ensures.2 a s.board c.args.task busy.last in
     seat_after g.C.Parcel.edge_of g.C.Parcel.key_of a b.table.shared.table_id old _
     (noted old.seat.me.0 (Stamped c.fetch_add-number.result c.args.task false))
     (drop (going graph_wires g.C.Parcel.edge_of g.C.Parcel.key_of a c.args.task) old.seat.me.1) s c.fetch_add-number.ensures.0 told.0 told.1 s.board
-    (places_left g.C.Parcel.edge_of g.C.Parcel.key_of a graph old.seat.me.0 old.seat.me.1 c.args.task busy c.requires.handed ∙ ap
+    (places_left g.C.Parcel.edge_of g.C.Parcel.key_of a graph old.seat.me.0 old.seat.me.1 c.args.task busy handed ∙ ap
     (λ (h : Graph). feeds_of h.tasks c.args.task) b.told ∙ sym (c.append.ensures.items ∙ (λ i. c.clear.ensures.items i ++ c.feeds.ensures i)))
     (let k = c.clear.ensures.capacity in let l = c.append.ensures.room in omega arith)
-    (hand_finished g.C.Parcel.edge_of g.C.Parcel.key_of a graph old.seat.me.0 old.seat.me.1 c.args.task busy c.requires.handed c.fetch_add-number.result)
+    (hand_finished g.C.Parcel.edge_of g.C.Parcel.key_of a graph old.seat.me.0 old.seat.me.1 c.args.task busy handed c.fetch_add-number.result)
