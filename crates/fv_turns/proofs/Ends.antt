@@ -1,5 +1,6 @@
 -- What stands when all tasks are done.
-use Rattle.std.proofs.Common.{◌≡◌, inl, inr, ℕ, zero, suc, ◌+◌, ◌<◌, ◌≤◌, Bool, true, false, ◌&&◌, ◌||◌, ◌==◌, List, refl, sym, ap, ◌∙◌, arith, true≢false, ltb-true, not}
+use Rattle.std.proofs.Common.{◌≡◌, inl, inr, ℕ, zero, suc, ◌+◌, ◌<◌, ◌≤◌, Bool, true, false, ◌&&◌, ◌||◌, ◌==◌, List, refl, sym, ap, ◌∙◌}
+use Rattle.std.proofs.Common.{arith, true≢false, ltb-true, not}
 use Rattle.std.proofs.lemmas.Bool.{cases_Bool, ne_eqb}
 use Rattle.fv_outside.specs.Tasks.{Tasks, task_count, bit, reads_task, reads_loop}
 use Rattle.fv_outside.specs.declared.tasks.Task.{Task}
@@ -9,7 +10,7 @@ use Rattle.fv_core.specs.Core.{Now, is_done}
 use Rattle.fv_loopcode.specs.Lanes.{Lane}
 use Rattle.fv_graph.proofs.Counts.{total_zero}
 use Rattle.fv_turns.specs.Block.{Block}
-use Rattle.fv_turns.specs.Jobs.{left_to_do}
+use Rattle.fv_turns.specs.Jobs.{IsJob, left_to_do}
 use Rattle.fv_turns.specs.Underway.{IsUnderway, EndsBlock}
 use Rattle.fv_turns.proofs.Numbers.{below}
 use Rattle.fv_turns.proofs.JournalLemmas.{ordered}
@@ -21,28 +22,35 @@ neither true false false d p q = refl
 neither false b true d p q = absurd (true≢false q)
 neither false b false d p q = refl
 
-pub none_self : (g : Tasks) → ((k i : ℕ) → reads_loop g.reads k i ≡ true → i < k) → (t : Task) → reads_task g t t ≡ false
-none_self g lower t = neither (t.loop_no == t.loop_no) ((t.vector + 1) == t.vector) (reads_loop g.reads t.loop_no t.loop_no) (t.vector == t.vector)
-    (ne_eqb (t.vector + 1) t.vector (λ e. omega (arith, e)))
-    (elim (cases_Bool (reads_loop g.reads t.loop_no t.loop_no)) [ inl e ↦ absurd (let l = lower t.loop_no t.loop_no e in omega (arith, l)) | inr e ↦ e ])
+module _ {g : Tasks} {b : Block} (job : IsJob b g) where
+  none_self : (t : Task) → reads_task g t t ≡ false
+  none_self t = neither (t.loop_no == t.loop_no) ((t.vector + 1) == t.vector) (reads_loop g.reads t.loop_no t.loop_no) (t.vector == t.vector)
+      (ne_eqb (t.vector + 1) t.vector (λ e. omega (arith, e)))
+      (elim (cases_Bool (reads_loop g.reads t.loop_no t.loop_no)) [
+        | inl e ↦ absurd (let l = job.lower t.loop_no t.loop_no e in omega (arith, l))
+        | inr e ↦ e
+      ])
 
-pub ends : (g : Tasks) → ((k i : ℕ) → reads_loop g.reads k i ≡ true → i < k) → (b : Block) (first : List Lane) (s : Now) (lanes : List Lane) (lines : List Line) → IsUnderway g b first s lanes lines
-    → ((t : ℕ) → t < task_count g → is_done s t ≡ true) → EndsBlock g b first lanes lines
-ends g lower b first s lanes lines u all = record {
-  vectors = u.vectors;
-  all = full;
-  long = u.long;
-  lanes = u.lanes;
-  journal = ordered g (none_self g lower) u.vectors full lines u.journal;
-  counted = let z = none_left in let c = u.counted in omega (arith, z, c);
-}
-  where
+  module _ {first : List Lane} {s : Now} {lanes : List Lane} {lines : List Line} (u : IsUnderway g b first s lanes lines)
+      (all : (t : ℕ) → t < task_count g → is_done s t ≡ true) where
     none_left : left_to_do s.done ≡ 0
     none_left = total_zero (λ d. bit (not d)) s.done false (λ i l. ap (λ d. bit (not d)) (all i (omega (arith, l, u.tasks))))
 
     least : (j v : ℕ) → j < g.loops → v ≤ g.vectors → v ≤ u.vectors j
     least j zero l m = omega arith
-    least j (suc v) l m = let q = ltb-true v (u.vectors j) (sym (u.done j v l (omega (arith, m))) ∙ all (task_at g j v) (below g j v l (omega (arith, m)))) in omega (arith, q)
+    least j (suc v) l m =
+        let is = all (task_at g j v) (below g j v l (omega (arith, m))) in
+        let q = ltb-true v (u.vectors j) (sym (u.done j v l (omega (arith, m))) ∙ is) in omega (arith, q)
 
     full : (j : ℕ) → j < g.loops → u.vectors j ≡ g.vectors
     full j l = let a = least j g.vectors l (omega arith) in let b = u.within j in omega (arith, a, b)
+
+    pub ends : EndsBlock g b first lanes lines
+    ends = record {
+      vectors = u.vectors;
+      all = full;
+      long = u.long;
+      lanes = u.lanes;
+      journal = ordered (record { none_self = none_self; all = full; so_far = u.journal });
+      counted = let z = none_left in let c = u.counted in omega (arith, z, c);
+    }

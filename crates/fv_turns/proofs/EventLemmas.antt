@@ -1,5 +1,6 @@
 -- The events of one worker.
-use Rattle.std.proofs.Common.{◌≡◌, ℕ, zero, suc, arith, ◌==◌, Bool, true, false, ◌&&◌, not, cond, List, [], ◌∷◌, ◌++◌, length, get_or, set, ltb, Option, None, Some, refl, ap, ◌∙◌, eq-eqb, is_none}
+use Rattle.std.proofs.Common.{◌≡◌, ℕ, zero, suc, arith, ◌==◌, Bool, true, false, ◌&&◌, not, cond, List, [], ◌∷◌, ◌++◌, length, get_or, set, ltb}
+use Rattle.std.proofs.Common.{Option, None, Some, refl, ap, ◌∙◌, eq-eqb, is_none}
 use Rattle.std.proofs.lemmas.Bool.{ne_eqb}
 use Rattle.std.specs.Prelude.{Result, Ok, Err, is_ok, OnOk}
 use Rattle.fv_outside.specs.Tasks.{times}
@@ -26,8 +27,19 @@ both false b c p q r = p
 there : (s : Now) (r : Option ℕ) → s.runs ≡ r ∷ [] → ltb 0 (length s.runs) ≡ true
 there s r e = ap (λ x. ltb 0 (length x)) e
 
-pub may_take : (n : Net) (s : Now) (t : ℕ) → IsFree s → back_is (deque_of s 0) t ≡ true → is_legal n s (Take 0 t) ≡ true
-may_take n s t h b = both (ltb 0 (length s.runs)) (is_free s 0) (back_is (deque_of s 0) t) (there s None h.runs) (is_free_now s h) b
+-- what stands at the back of a deque
+at_back : (xs : List ℕ) (t : ℕ) → back_of xs ≡ Some t → back_is xs t ≡ true
+at_back [] t e = absurd cc
+at_back (x ∷ []) t e = eq-eqb x t cc
+at_back (x ∷ y ∷ ys) t e = at_back (y ∷ ys) t e
+
+no_back : (xs : List ℕ) → back_of xs ≡ None → xs ≡ []
+no_back [] e = refl
+no_back (x ∷ []) e = absurd cc
+no_back (x ∷ y ∷ ys) e = absurd (let z = no_back (y ∷ ys) e in cc)
+
+pub may_take : (n : Net) (s : Now) (t : ℕ) → IsFree s → back_of (deque_of s 0) ≡ Some t → is_legal n s (Take 0 t) ≡ true
+may_take n s t h b = both (ltb 0 (length s.runs)) (is_free s 0) (back_is (deque_of s 0) t) (there s None h.runs) (is_free_now s h) (at_back (deque_of s 0) t b)
 
 pub took : (n : Net) (s : Now) (t : ℕ) → IsFree s → Runs (after n s (Take 0 t)) t
 took n s t h = record { runs = ap (λ x. set x 0 (Some t)) h.runs; owes = h.owes; left = h.left }
@@ -37,7 +49,8 @@ both2 true b p q = q
 both2 false b p q = p
 
 pub may_finish : (n : Net) (s : Now) (t : ℕ) → Runs s t → is_legal n s (Finish 0 t) ≡ true
-may_finish n s t h = both2 (ltb 0 (length s.runs)) (is_run t (run_of s 0)) (there s (Some t) h.runs) (ap (λ x. is_run t (get_or x 0 None)) h.runs ∙ eq-eqb t t refl)
+may_finish n s t h =
+    both2 (ltb 0 (length s.runs)) (is_run t (run_of s 0)) (there s (Some t) h.runs) (ap (λ x. is_run t (get_or x 0 None)) h.runs ∙ eq-eqb t t refl)
 
 pub finished : (n : Net) (s : Now) (t : ℕ) → Runs s t → Owes (after n s (Finish 0 t)) (n.feeds t)
 finished n s t h = record { runs = ap (λ x. set x 0 None) h.runs; owes = ap (λ o. set o 0 (get_or o 0 [] ++ n.feeds t)) h.owes; left = h.left }
@@ -53,23 +66,13 @@ arrived n s e es h = record {
   left = h.left;
 }
 
-pub may_leave : (n : Net) (s : Now) → IsFree s → deque_of s 0 ≡ [] → is_legal n s (Leave 0) ≡ true
-may_leave n s h e = both (ltb 0 (length s.runs)) (is_free s 0) (is_empty (deque_of s 0)) (there s None h.runs) (is_free_now s h) (ap is_empty e)
+pub may_leave : (n : Net) (s : Now) → IsFree s → back_of (deque_of s 0) ≡ None → is_legal n s (Leave 0) ≡ true
+may_leave n s h e =
+    both (ltb 0 (length s.runs)) (is_free s 0) (is_empty (deque_of s 0)) (there s None h.runs) (is_free_now s h) (ap is_empty (no_back (deque_of s 0) e))
 
 pub left_all : (n : Net) (s : Now) → IsFree s → AllLeft (after n s (Leave 0)) 1
 left_all n s h zero l = ap (λ x. get_or (set x 0 true) 0 true) h.left
 left_all n s h (suc w) l = absurd (omega (arith, l))
-
--- what stands at the back of a deque
-pub at_back : (xs : List ℕ) (t : ℕ) → back_of xs ≡ Some t → back_is xs t ≡ true
-at_back [] t e = absurd cc
-at_back (x ∷ []) t e = eq-eqb x t cc
-at_back (x ∷ y ∷ ys) t e = at_back (y ∷ ys) t e
-
-pub no_back : (xs : List ℕ) → back_of xs ≡ None → xs ≡ []
-no_back [] e = refl
-no_back (x ∷ []) e = absurd cc
-no_back (x ∷ y ∷ ys) e = absurd (let z = no_back (y ∷ ys) e in cc)
 
 -- one event after another keeps the core
 pub keeps_on : (a b c : Running) → KeepsCore a b → KeepsCore b c → KeepsCore a c

@@ -1,5 +1,6 @@
 -- Tasks by their numbers.
-use Rattle.std.proofs.Common.{◌≡◌, inl, inr, ℕ, suc, ◌+◌, ◌-◌, ◌*◌, ◌/◌, ◌<◌, ◌≤◌, Bool, true, false, ◌&&◌, ◌||◌, ltb, refl, sym, ap, ◌∙◌, arith, lt-ltb, true≢false, mul-le-mul_right, suc-mul, div-add-mod', mod-lt}
+use Rattle.std.proofs.Common.{◌≡◌, inl, inr, ℕ, suc, ◌+◌, ◌-◌, ◌*◌, ◌/◌, ◌<◌, ◌≤◌, Bool, true, false, ◌&&◌, ◌||◌, ltb, refl, sym, ap, ◌∙◌}
+use Rattle.std.proofs.Common.{arith, lt-ltb, true≢false, mul-le-mul_right, suc-mul, div-add-mod', mod-lt}
 use Rattle.std.proofs.lemmas.Bool.{cases_lt, le-ltb}
 use Rattle.fv_outside.specs.Tasks.{Tasks, task_count}
 use Rattle.fv_outside.specs.declared.tasks.Task.{Task}
@@ -10,7 +11,8 @@ abbrev pub at : ℕ → ℕ → Task
 at j v = record { loop_no = j; vector = v }
 
 pub parts : (g : Tasks) (j v : ℕ) → j < g.loops → (vector_of g (task_at g j v) ≡ v) × (loop_of g (task_at g j v) ≡ j)
-parts g j v l = unique (vector_of g (task_at g j v)) (loop_of g (task_at g j v)) v j g.loops (mod-lt (task_at g j v) (omega arith)) l (div-add-mod' (task_at g j v) g.loops)
+parts g j v l =
+    let t = task_at g j v in unique (vector_of g t) (loop_of g t) v j g.loops (mod-lt t (omega arith)) l (div-add-mod' t g.loops)
 
 pub number_is : (g : Tasks) (j v : ℕ) → j < g.loops → task_of g (task_at g j v) ≡ at j v
 number_is g j v l = let p = parts g j v l in ap (λ x. at x (vector_of g (task_at g j v))) p.1 ∙ ap (at j) p.0

@@ -8,7 +8,9 @@ copy_frame-requires-clause-there g c = c.requires.there c.loop-t.t c.loop-t-test
 
 pub loop-t-preserved : goal.loop-t-preserved
 loop-t-preserved g c = record {
-  same = let w = length c.args.lanes.now in let n = c.loop-t.t in
-      frame_more n (n * w + w - n * w) w c.loop-t.output (λ t l. sample_of (g.S.Store.lanes c.args.store.now) t l) c.args.lanes.now c.copy_frame.new.frame refl c.copy_frame.ensures
-      (let q : suc n * w ≤ c.args.frames * w = mul-le-mul_right w c.loop-t-test.true in let r = suc-mul n w in let a = c.loop-t.auto.output in let b = c.requires.long in omega (arith, q, r, a, b)) c.loop-t.invariant.same;
+  same = let lanes = c.args.lanes.now in let w = length lanes in let n = c.loop-t.t in
+      let q : suc n * w ≤ c.args.frames * w = mul-le-mul_right w c.loop-t-test.true in let r = suc-mul n w in
+      let inside : n * w + w ≤ length c.loop-t.output = omega (arith, q, r, c.loop-t.auto.output, c.requires.long) in
+      frame_more n (n * w + w - n * w) w c.loop-t.output (sample_of (g.S.Store.lanes c.args.store.now)) lanes c.copy_frame.new.frame refl c.copy_frame.ensures
+      inside c.loop-t.invariant.same;
 }

@@ -8,5 +8,6 @@ pub loop-i-preserved : goal.loop-i-preserved
 loop-i-preserved c = record {
   kept = keeps_on c.args.core.now c.loop-i.core c.arrive.new.core c.loop-i.invariant.kept c.arrive.ensures.kept;
   done = c.arrive.ensures.done ∙ c.loop-i.invariant.done;
-  owes = c.arrive.ensures.owes (drop (c.loop-i.i + 1) c.feeds-feeds.result.now) (subst (Owes c.loop-i.core.now) (drop_more c.feeds-feeds.result.now c.loop-i.i 0 c.loop-i-test.true) c.loop-i.invariant.owes);
+  owes = let feeds = c.feeds-feeds.result.now in let i = c.loop-i.i in
+      c.arrive.ensures.owes (drop (i + 1) feeds) (subst (Owes c.loop-i.core.now) (drop_more feeds i 0 c.loop-i-test.true) c.loop-i.invariant.owes);
 }

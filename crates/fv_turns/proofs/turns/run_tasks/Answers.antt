@@ -1,5 +1,4 @@
 use Rattle.std.proofs.Common.{◌∙◌}
-use Rattle.fv_turns.specs.Jobs.{block_of}
 use Rattle.fv_turns.proofs.Ends.{ends}
 use Rattle.fv_turns.proofs.EventLemmas.{keeps_on}
 use Rattle.fv_turns.proofs.turns.run_tasks.Goals as goal
@@ -21,6 +20,4 @@ pub leave-requires-clause-free : goal.leave-requires-clause-free
 leave-requires-clause-free g c = let u = c.requires.underway in (c.loop-t.invariant.goes_on u.0 u.1 u.2).free
 
 pub returns-clause-ends : goal.returns-clause-ends
-returns-clause-ends g c first real u =
-    ends c.args.tasks.now.tasks c.requires.job.lower (block_of g.P.Codes.parts c.args.job.now) first c.loop-t.core.now (g.S.Store.lanes c.loop-t.store) c.loop-t.lines.items
-    (c.loop-t.invariant.goes_on first real u) c.leave.ensures.done
+returns-clause-ends g c first real u = ends c.requires.job (c.loop-t.invariant.goes_on first real u) c.leave.ensures.done
