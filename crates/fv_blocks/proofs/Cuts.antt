@@ -8,22 +8,34 @@ use Rattle.fv_control.specs.declared.script.Change.{Change}
 use Rattle.fv_control.specs.Laws.{NeverFall, NoneBetween}
 use Rattle.fv_blocks.specs.Blocks.{AreBlocks, AreNext, block_at, to_change}
 
+-- the bound behind a change: the way to it, where it is ahead and nearer
+abbrev nearer : Change → (f most : ℕ) → ℕ
+nearer c f most = if nat_lt f c.frame then min most (c.frame - f) else most
+
+nearer_ahead : (c : Change) (f most : ℕ) → f < c.frame → nearer c f most ≡ min most (c.frame - f)
+nearer_ahead c f most l = cond-true (nat_lt f c.frame) (min most (c.frame - f)) most (lt-ltb f c.frame l)
+
+nearer_come : (c : Change) (f most : ℕ) → c.frame ≤ f → nearer c f most ≡ most
+nearer_come c f most l = cond-false (nat_lt f c.frame) (min most (c.frame - f)) most (le-ltb f c.frame l)
+
 -- changes that are no nearer than the bound leave it
 far : (cs : List Change) (f most least : ℕ) → NeverFall least cs → f + most ≤ least → to_change cs f most ≡ most
 far [] f most least h l = refl
 far (c ∷ cs) f most least h l =
     let near = h.0 in
+    let rest = far cs f most c.frame h.1 (omega (arith, l, near)) in
     elim (cases_lt f c.frame) [
-      | inl k ↦ ap (to_change cs f) (cond-true (nat_lt f c.frame) (min most (c.frame - f)) most (lt-ltb f c.frame k) ∙ omega (arith, l, near, k)) ∙ far cs f most c.frame h.1 (omega (arith, l, near))
-      | inr k ↦ ap (to_change cs f) (cond-false (nat_lt f c.frame) (min most (c.frame - f)) most (le-ltb f c.frame k)) ∙ far cs f most c.frame h.1 (omega (arith, l, near))
+      | inl k ↦ ap (to_change cs f) (nearer_ahead c f most k ∙ omega (arith, l, near, k)) ∙ rest
+      | inr k ↦ ap (to_change cs f) (nearer_come c f most k) ∙ rest
     ]
 
 -- changes that have come do not count
-pub come_gone : (cs : List Change) (f n most : ℕ) → AllByRecursion (λ (c : Change). c.frame ≤ f) (take n cs) → to_change cs f most ≡ to_change (drop n cs) f most
+pub come_gone : (cs : List Change) (f n most : ℕ) → AllByRecursion (λ (c : Change). c.frame ≤ f) (take n cs)
+    → to_change cs f most ≡ to_change (drop n cs) f most
 come_gone cs f zero most h = refl
 come_gone [] f (suc n) most h = refl
 come_gone (c ∷ cs) f (suc n) most h =
-    ap (to_change cs f) (cond-false (nat_lt f c.frame) (min most (c.frame - f)) most (le-ltb f c.frame h.0)) ∙ come_gone cs f n most h.1
+    ap (to_change cs f) (nearer_come c f most h.0) ∙ come_gone cs f n most h.1
 
 -- the changes behind a place never fall
 pub order_behind : (cs : List Change) (least n : ℕ) → NeverFall least cs → (low : ℕ) × NeverFall low (drop n cs)
@@ -34,7 +46,7 @@ order_behind (c ∷ cs) least (suc n) h = order_behind cs c.frame n h.1
 -- the first of those that have not come is the next one
 pub next_is : (c : Change) (cs : List Change) (f most low : ℕ) → f < c.frame → NeverFall low (c ∷ cs) → to_change (c ∷ cs) f most ≡ min most (c.frame - f)
 next_is c cs f most low ahead order =
-    ap (to_change cs f) (cond-true (nat_lt f c.frame) (min most (c.frame - f)) most (lt-ltb f c.frame ahead)) ∙ far cs f (min most (c.frame - f)) c.frame order.1 (omega (arith, ahead))
+    ap (to_change cs f) (nearer_ahead c f most ahead) ∙ far cs f (min most (c.frame - f)) c.frame order.1 (omega (arith, ahead))
 
 -- one block more
 pub one_more : (block total : ℕ) (changes : List Change) (f g : ℕ) (ns : List ℕ) → AreBlocks block total changes f g ns → g < total
@@ -52,7 +64,8 @@ pub ahead : (cs : List Change) (f n : ℕ) (x : Change) → AreNext cs f n → n
 ahead cs f n x h l e = (subst (λ (ys : List Change). AllByRecursion (λ (c : Change). f < c.frame) ys) (rest_at cs n x l e) h.behind).0
 
 -- and a block ends there
-pub cut_here : (cs : List Change) (f n most : ℕ) (x : Change) → AreNext cs f n → n < length cs → x ≡ get_or cs n x → to_change cs f most ≡ min most (x.frame - f)
+pub cut_here : (cs : List Change) (f n most : ℕ) (x : Change) → AreNext cs f n → n < length cs → x ≡ get_or cs n x
+    → to_change cs f most ≡ min most (x.frame - f)
 cut_here cs f n most x h l e =
     let rest = rest_at cs n x l e in
     let o = order_behind cs 0 n h.order in
@@ -68,18 +81,18 @@ cut_nowhere cs f n most h l = come_gone cs f n most h.come ∙ ap (λ (ys : List
 to_change_le : (cs : List Change) (f most : ℕ) → to_change cs f most ≤ most
 to_change_le [] f most = omega arith
 to_change_le (c ∷ cs) f most =
-    let k = to_change_le cs f (if nat_lt f c.frame then min most (c.frame - f) else most) in
+    let k = to_change_le cs f (nearer c f most) in
     elim (cases_lt f c.frame) [
-      | inl l ↦ let e = cond-true (nat_lt f c.frame) (min most (c.frame - f)) most (lt-ltb f c.frame l) in omega (arith, k, e)
-      | inr l ↦ let e = cond-false (nat_lt f c.frame) (min most (c.frame - f)) most (le-ltb f c.frame l) in omega (arith, k, e)
+      | inl l ↦ let e = nearer_ahead c f most l in omega (arith, k, e)
+      | inr l ↦ let e = nearer_come c f most l in omega (arith, k, e)
     ]
 
 pub none_between : (cs : List Change) (f most u : ℕ) → u < to_change cs f most → NoneBetween f (f + u) cs
 none_between [] f most u l = tt
 none_between (c ∷ cs) f most u l =
-    let k = to_change_le cs f (if nat_lt f c.frame then min most (c.frame - f) else most) in (
-      λ h. let e = cond-true (nat_lt f c.frame) (min most (c.frame - f)) most (lt-ltb f c.frame h) in omega (arith, k, e, l, h),
-      none_between cs f (if nat_lt f c.frame then min most (c.frame - f) else most) u l,
+    let k = to_change_le cs f (nearer c f most) in (
+      λ h. let e = nearer_ahead c f most h in omega (arith, k, e, l, h),
+      none_between cs f (nearer c f most) u l,
     )
 
 -- changes that have come at a frame have come at a later one

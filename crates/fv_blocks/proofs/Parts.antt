@@ -9,7 +9,8 @@ pub rows_len : (f n w : ℕ) → (f + n) * w - f * w ≡ n * w
 rows_len f n w = omega arith
 
 -- what was written into a part is in it
-pub part_written : {X : Type 0} (f n w k : ℕ) (xs ys : List X) → f * w ≤ length xs → length ys ≡ n * w → take (n * w) (drop (f * w) (put_mid (f * w) k xs ys)) ≡ ys
+pub part_written : {X : Type 0} (f n w k : ℕ) (xs ys : List X) → f * w ≤ length xs → length ys ≡ n * w
+    → take (n * w) (drop (f * w) (put_mid (f * w) k xs ys)) ≡ ys
 part_written f n w k xs ys h e =
     let z : f * w + n * w - f * w ≡ n * w = omega arith in
     ap (λ m. take m (drop (f * w) (put_mid (f * w) k xs ys))) (sym z) ∙ between-put_mid (f * w) k xs ys (f * w + n * w) h (omega (arith, e))

@@ -13,26 +13,54 @@ use Rattle.fv_blocks.proofs.Cuts.{none_between}
 use Rattle.fv_blocks.proofs.Samples.{PlayedSo}
 use Rattle.fv_blocks.proofs.Told.{RoomSoFar}
 
-pub record Playing (e now : EngineView) (total outputs : ℕ) (changes : List Change) (initial values input output : List ℤ) (f next blocks runs : ℕ) (old new : Option Told) : Type 0 where
-  pub same : SameParts e now
-  pub within : f ≤ total
-  pub there : next ≤ length changes
-  pub come : AllByRecursion (λ (c : Change). c.frame ≤ f) (take next changes)
-  pub changed : values ≡ applied initial (take next changes)
-  pub count : length values ≡ length initial
-  pub cells : length output ≡ total * outputs
-  pub so : PlayedSo e now (control_streams changes initial) f input output
-  pub ran : HasRun e total changes f blocks runs old new
-  pub room : RoomSoFar (length e.plan.reads) blocks runs old new
-  pub few : blocks ≤ f
-  pub fewer : runs ≤ blocks * 18446744073709551616
+-- what a run begins with: an engine, its frames and outputs, a script, the controls' numbers, an input, and what the gate tells
+pub record Begun : Type 0 where
+  pub engine : EngineView
+  pub total : ℕ
+  pub outputs : ℕ
+  pub changes : List Change
+  pub initial : List ℤ
+  pub input : List ℤ
+  pub told : Option Told
 
--- the controls have these numbers in a block
-pub given : (changes : List Change) (initial values : List ℤ) (f n next block total : ℕ) → Held → Hold → AreNext changes f next → values ≡ applied initial (take next changes)
-    → length values ≡ length initial → n ≡ block_at block total changes f → AreGiven values (control_streams changes initial) f n
-given changes initial values f n next block total held hold here is long cut k u l m =
-    hold changes initial k f (f + u) (omega arith) (none_between changes f (min block (total - f)) u (omega (arith, m, cut)))
-    ∙ sym (held changes initial next f k (omega (arith, l, long)) here.come here.behind) ∙ ap (λ (vs : List ℤ). argument vs k) (sym is)
+-- where it has come to: the controls' numbers, the output, the frame and the next change, what is counted, and what the gate tells
+pub record Reached : Type 0 where
+  pub engine : EngineView
+  pub values : List ℤ
+  pub output : List ℤ
+  pub frame : ℕ
+  pub next : ℕ
+  pub blocks : ℕ
+  pub runs : ℕ
+  pub told : Option Told
+
+pub record Playing (b : Begun) (r : Reached) : Type 0 where
+  pub same : SameParts b.engine r.engine
+  pub within : r.frame ≤ b.total
+  pub there : r.next ≤ length b.changes
+  pub come : AllByRecursion (λ (c : Change). c.frame ≤ r.frame) (take r.next b.changes)
+  pub changed : r.values ≡ applied b.initial (take r.next b.changes)
+  pub count : length r.values ≡ length b.initial
+  pub cells : length r.output ≡ b.total * b.outputs
+  pub so : PlayedSo b.engine r.engine (control_streams b.changes b.initial) r.frame b.input r.output
+  pub ran : HasRun b.engine b.total b.changes r.frame r.blocks r.runs b.told r.told
+  pub room : RoomSoFar (length b.engine.plan.reads) r.blocks r.runs b.told r.told
+  pub few : r.blocks ≤ r.frame
+  pub fewer : r.runs ≤ r.blocks * 18446744073709551616
+
+-- a block of n frames begins at frame f, when the changes up to the next one are in the controls' numbers
+pub record BlockBegins (changes : List Change) (initial values : List ℤ) (f n next block total : ℕ) : Type 0 where
+  pub here : AreNext changes f next
+  pub is : values ≡ applied initial (take next changes)
+  pub long : length values ≡ length initial
+  pub cut : n ≡ block_at block total changes f
+
+-- the controls have these numbers in it
+pub given : {changes : List Change} {initial values : List ℤ} {f n next block total : ℕ} → Held → Hold
+    → BlockBegins changes initial values f n next block total → AreGiven values (control_streams changes initial) f n
+given {changes} {initial} {values} {f} {n} {next} {block} {total} held hold b k u l m =
+    hold changes initial k f (f + u) (omega arith) (none_between changes f (min block (total - f)) u (omega (arith, m, b.cut)))
+    ∙ sym (held changes initial next f k (omega (arith, l, b.long)) b.here.come b.here.behind) ∙ ap (λ (vs : List ℤ). argument vs k) (sym b.is)
 
 pub same_still : (e now next : EngineView) → SameParts e now → SameParts now next → SameParts e next
 same_still e now next p q = q ∙ ap (λ (v : EngineView). record v { region = next.region; starts = next.starts }) p

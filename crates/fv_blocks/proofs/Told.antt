@@ -11,8 +11,15 @@ use Rattle.fv_engine.specs.Stands.{EngineView, SameParts}
 use Rattle.fv_engine.specs.Told.{IsEntry, HasRoomForBlock, tasks_told}
 use Rattle.fv_blocks.specs.Blocks.{AreEntries, HasRoomForRun, RanBlocks, loop_runs_of}
 
-entries_more : (loops : ℕ) (reads : List Reads) (vector : ℕ) (ns : List ℕ) (es : List BlockEntry) (n : ℕ) (e : BlockEntry) → AreEntries loops reads vector ns es
-    → e.tasks ≡ record { loops = loops; vectors = vectors_of n vector; reads = reads } → IsOrdered e.tasks e.lines → AreEntries loops reads vector (ns ++ n ∷ []) (es ++ e ∷ [])
+-- what is told of a block
+abbrev pub TellsBlock : EngineView → (n : ℕ) → (old new : Option Told) → Type 0
+TellsBlock now n old new =
+    IfSome new (λ t. (before : Told) × (old ≡ Some before) × (entry : BlockEntry) × IsEntry now n entry
+    × (t.entries ≡ before.entries ++ entry ∷ []) × (t.room ≡ room_after before.room entry))
+
+entries_more : (loops : ℕ) (reads : List Reads) (vector : ℕ) (ns : List ℕ) (es : List BlockEntry) (n : ℕ) (e : BlockEntry)
+    → AreEntries loops reads vector ns es → e.tasks ≡ record { loops = loops; vectors = vectors_of n vector; reads = reads }
+    → IsOrdered e.tasks e.lines → AreEntries loops reads vector (ns ++ n ∷ []) (es ++ e ∷ [])
 entries_more loops reads vector [] [] n e h t o = (t, o, tt)
 entries_more loops reads vector [] (x ∷ es) n e h t o = absurd h
 entries_more loops reads vector (m ∷ ns) [] n e h t o = absurd h
@@ -24,8 +31,8 @@ ran_none loops reads vector None = tt
 ran_none loops reads vector (Some t) = (t, refl, [], tt, sym (append-nil t.entries))
 
 -- one block more
-pub ran_more : (e now : EngineView) (ns : List ℕ) (n : ℕ) (old mid new : Option Told) → SameParts e now → RanBlocks e.plan.loops e.plan.reads e.vector ns old mid
-    → IfSome new (λ t. (before : Told) × (mid ≡ Some before) × (entry : BlockEntry) × IsEntry now n entry × (t.entries ≡ before.entries ++ entry ∷ []) × (t.room ≡ room_after before.room entry))
+pub ran_more : (e now : EngineView) (ns : List ℕ) (n : ℕ) (old mid new : Option Told) → SameParts e now
+    → RanBlocks e.plan.loops e.plan.reads e.vector ns old mid → TellsBlock now n mid new
     → RanBlocks e.plan.loops e.plan.reads e.vector (ns ++ n ∷ []) old new
 ran_more e now ns n old mid None same h k = tt
 ran_more e now ns n old mid (Some t) same h k =
@@ -62,18 +69,13 @@ pub room_none : (reads : ℕ) (told : Option Told) → RoomSoFar reads 0 0 told 
 room_none reads None = tt
 room_none reads (Some t) = λ h. record { after = t; is = refl; calls = omega arith; lines = omega arith; pairs = omega arith }
 
--- what is told of a block
-abbrev pub TellsBlock : EngineView → (n : ℕ) → (old new : Option Told) → Type 0
-TellsBlock now n old new =
-    IfSome new (λ t. (before : Told) × (old ≡ Some before) × (entry : BlockEntry) × IsEntry now n entry × (t.entries ≡ before.entries ++ entry ∷ []) × (t.room ≡ room_after before.room entry))
-
+-- a block with room is told
 abbrev pub RoomForBlock : EngineView → (n : ℕ) → (old new : Option Told) → Type 0
 RoomForBlock now n old new = IfSome old (λ t. HasRoomForBlock t.room (tasks_told now n) → IsSome new)
 
 some_of : {X : Type 0} (a b : X) → Some a ≡ Some b → a ≡ b
 some_of a b e = ap (λ o. unwrap_or o a) e
 
--- a block with room is told
 one_told : (now : EngineView) (n : ℕ) (mid new : Option Told) (m : Told) → mid ≡ Some m → TellsBlock now n mid new → RoomForBlock now n mid new
     → HasRoomForBlock m.room (tasks_told now n) → KeepsTelling m 1 (task_count (tasks_told now n)) (length now.plan.reads) new
 one_told now n mid None m e told room fits = absurd (true≢false (sym (subst (λ (o : Option Told). RoomForBlock now n o None) e room fits)))
@@ -99,13 +101,19 @@ pub room_more : (e now : EngineView) (n blocks runs : ℕ) (old mid new : Option
 room_more e now n blocks runs None mid new same so told room = tt
 room_more e now n blocks runs (Some t) mid new same so told room = λ h.
     let reads = length e.plan.reads in
-    let tasks : task_count (tasks_told now n) ≡ e.plan.loops * vectors_of n e.vector = ap (λ (v : EngineView). vectors_of n v.vector * v.plan.loops) same ∙ mul_comm (vectors_of n e.vector) e.plan.loops in
+    let tasks : task_count (tasks_told now n) ≡ e.plan.loops * vectors_of n e.vector =
+    ap (λ (v : EngineView). vectors_of n v.vector * v.plan.loops) same ∙ mul_comm (vectors_of n e.vector) e.plan.loops in
     let pairs : length now.plan.reads ≡ reads = ap (λ (v : EngineView). length v.plan.reads) same in
     let more : (blocks + 1) * reads ≡ blocks * reads + reads = omega arith in
     let a = h.calls in let b = h.lines in let d = h.pairs in
     let k = so (record { calls = omega (arith, a); lines = omega (arith, b); pairs = omega (arith, d, more) }) in
     let ka = k.calls in let kb = k.lines in let kd = k.pairs in
-    let q = one_told now n mid new k.after k.is told room (record { calls = omega (arith, a, ka); lines = omega (arith, b, kb, tasks); pairs = omega (arith, d, kd, more, pairs) }) in
+    let fits : HasRoomForBlock k.after.room (tasks_told now n) = record {
+      calls = omega (arith, a, ka);
+      lines = omega (arith, b, kb, tasks);
+      pairs = omega (arith, d, kd, more, pairs);
+    } in
+    let q = one_told now n mid new k.after k.is told room fits in
     let qa = q.calls in let qb = q.lines in let qd = q.pairs in
     record {
       after = q.after;
@@ -115,6 +123,7 @@ room_more e now n blocks runs (Some t) mid new same so told room = λ h.
       pairs = omega (arith, qd, kd, more, pairs);
     }
 
-pub still_told : (reads blocks runs : ℕ) (old new : Option Told) → RoomSoFar reads blocks runs old new → IfSome old (λ t. HasRoomForRun t.room blocks runs (blocks * reads) → IsSome new)
+pub still_told : (reads blocks runs : ℕ) (old new : Option Told) → RoomSoFar reads blocks runs old new
+    → IfSome old (λ t. HasRoomForRun t.room blocks runs (blocks * reads) → IsSome new)
 still_told reads blocks runs None new so = tt
 still_told reads blocks runs (Some t) new so = λ h. let k = so h in subst (λ (o : Option Told). IsSome o) (sym k.is) refl

@@ -44,7 +44,8 @@ loop_runs_of loops vector ns = sum (map (λ n. loops * vectors_of n vector) ns)
 -- Blocks of these lengths ran, of these loops and reads: where the gate still tells its list, it was told just them, in order.
 abbrev pub RanBlocks : (loops : ℕ) → (reads : List Reads) → (vector : ℕ) → List ℕ → (old new : Option Told) → Type 0
 RanBlocks loops reads vector ns old new =
-    IfSome new (λ after. (before : Told) × (old ≡ Some before) × (entries : List BlockEntry) × AreEntries loops reads vector ns entries × (after.entries ≡ before.entries ++ entries))
+    IfSome new (λ after. (before : Told) × (old ≡ Some before) × (entries : List BlockEntry) × AreEntries loops reads vector ns entries
+    × (after.entries ≡ before.entries ++ entries))
 
 -- there is room for so many calls, lines and pairs
 pub record HasRoomForRun (room : Room) (blocks runs pairs_told : ℕ) : Type 0 where

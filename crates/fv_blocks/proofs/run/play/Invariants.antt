@@ -4,8 +4,25 @@ use Rattle.fv_blocks.proofs.run.play.Given as goal
 
 abbrev pub invariant-playing : goal.invariant-playing
 invariant-playing g l =
-    Playing l.initial.engine l.engine l.sizes.total l.sizes.outputs l.changes l.initial.values l.values l.input l.output l.frame l.next l.counted.blocks l.counted.loop_runs
-    (g.G.Gate.told l.initial.gate) (g.G.Gate.told l.gate)
+    Playing (record {
+      engine = l.initial.engine;
+      total = l.sizes.total;
+      outputs = l.sizes.outputs;
+      changes = l.changes;
+      initial = l.initial.values;
+      input = l.input;
+      told = g.G.Gate.told l.initial.gate;
+    })
+    (record {
+      engine = l.engine;
+      values = l.values;
+      output = l.output;
+      frame = l.frame;
+      next = l.next;
+      blocks = l.counted.blocks;
+      runs = l.counted.loop_runs;
+      told = g.G.Gate.told l.gate;
+    })
 
 abbrev pub decreases-playing : goal.decreases-playing
 decreases-playing g l = l.sizes.total - l.frame

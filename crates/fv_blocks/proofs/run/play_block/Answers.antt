@@ -6,9 +6,11 @@ use Rattle.fv_blocks.proofs.run.play_block.Goals as goal
 pub returns-clause-goes_on : goal.returns-clause-goes_on
 returns-clause-goes_on g c =
     let f = c.args.frame in let n = c.args.frames in let w = c.args.sizes.now.outputs in let ch = c.args.sizes.now.channels in
-    let k = (f + n) * w - f * w in
-    let long : length c.run_block-report.new.output ≡ n * w = c.run_block-report.auto.output ∙ rows_taken f n c.args.sizes.now.total w c.args.output.now c.requires.output c.requires.inside in
-    let there : f * w ≤ length c.args.output.now = subst (λ (x : ℕ). f * w ≤ x) (sym c.requires.output) (row_start f n c.args.sizes.now.total w c.requires.inside) in
-    subst (λ (ys : List ℤ). GoesOn c.args.engine.now c.run_block-report.new.self n (take (n * ch) (drop (f * ch) c.args.input.now)) c.args.values.now ys)
-    (sym (part_written f n w k c.args.output.now c.run_block-report.new.output there long))
-    (subst (λ (m : ℕ). GoesOn c.args.engine.now c.run_block-report.new.self n (take m (drop (f * ch) c.args.input.now)) c.args.values.now c.run_block-report.new.output) (rows_len f n ch) c.run_block-report.ensures.goes_on)
+    let total = c.args.sizes.now.total in let inside = c.requires.inside in
+    let old = c.args.output.now in let new = c.run_block-report.new.output in
+    let long : length new ≡ n * w = c.run_block-report.auto.output ∙ rows_taken f n total w old c.requires.output inside in
+    let there : f * w ≤ length old = subst (λ (x : ℕ). f * w ≤ x) (sym c.requires.output) (row_start f n total w inside) in
+    let On : (m : ℕ) → List ℤ → Type 0 =
+    λ m ys. GoesOn c.args.engine.now c.run_block-report.new.self n (take m (drop (f * ch) c.args.input.now)) c.args.values.now ys in
+    subst (On (n * ch)) (sym (part_written f n w ((f + n) * w - f * w) old new there long))
+    (subst (λ (m : ℕ). On m new) (rows_len f n ch) c.run_block-report.ensures.goes_on)
