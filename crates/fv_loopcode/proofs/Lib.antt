@@ -5,3 +5,4 @@ pub mod Named
 pub mod Still
 pub mod Blocks
 pub mod Moving
+pub mod Instructions

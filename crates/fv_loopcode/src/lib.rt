@@ -2,6 +2,7 @@
 #![tactic(auto)]
 
 mod code;
+mod instruction;
 mod laws;
 mod machine;
 mod step;
