@@ -1,6 +1,7 @@
 // Small graphs, with the rates and histories of their signals.
 
 use fv_analysis::{largest_delays, rates, stands};
+use fv_hand_graphs::{by_a_control, late, pair};
 use fv_num::Op;
 use fv_share::Builder;
 use fv_signal::{Graph, Rate, Signal, SignalId};
@@ -29,12 +30,7 @@ fn assert_found(
 // `_ * hslider(..)`
 #[test]
 fn an_input_times_a_control(rt: HostRuntime) -> Result<(), Fail> {
-    let mut builder = Builder::new(rt.alloc());
-    let input = builder.node(Signal::Input(0))?;
-    let control = builder.node(Signal::Control(0))?;
-    let args = [input, control, input, input];
-    let product = builder.node(Signal::Point { op: Op::Mul, args })?;
-    let graph = builder.finish(&[product])?;
+    let graph = by_a_control(rt.alloc())?;
     let wanted = [(Rate::Sample, 0), (Rate::Control, 0), (Rate::Sample, 0)];
     assert_found(&rt, rt.alloc(), &graph, &wanted)?;
     Ok(())
@@ -46,11 +42,9 @@ fn a_sum_of_constants(rt: HostRuntime) -> Result<(), Fail> {
     let mut builder = Builder::new(rt.alloc());
     let one = builder.node(Signal::Const(1))?;
     let two = builder.node(Signal::Const(2))?;
-    let args = [one, two, one, one];
-    let sum = builder.node(Signal::Point { op: Op::Add, args })?;
+    let sum = pair(&mut builder, Op::Add, one, two)?;
     let control = builder.node(Signal::Control(0))?;
-    let args = [control, sum, one, one];
-    let more = builder.node(Signal::Point { op: Op::Add, args })?;
+    let more = pair(&mut builder, Op::Add, control, sum)?;
     let graph = builder.finish(&[sum, more])?;
     let wanted = [
         (Rate::Constant, 0),
@@ -68,12 +62,7 @@ fn a_sum_of_constants(rt: HostRuntime) -> Result<(), Fail> {
 fn delays_of_an_input(rt: HostRuntime) -> Result<(), Fail> {
     let mut builder = Builder::new(rt.alloc());
     let input = builder.node(Signal::Input(0))?;
-    let one = builder.node(Signal::Const(1))?;
-    let last = builder.node(Signal::Delay {
-        x: input,
-        d: one,
-        max: 1,
-    })?;
+    let last = late(&mut builder, input, 1)?;
     let older = builder.node(Signal::Delay {
         x: input,
         d: last,
@@ -97,8 +86,7 @@ fn a_running_sum(rt: HostRuntime) -> Result<(), Fail> {
     let input = builder.node(Signal::Input(0))?;
     let group = builder.group()?;
     let last = builder.node(Signal::Back { group, i: 0 })?;
-    let args = [last, input, input, input];
-    let sum = builder.node(Signal::Point { op: Op::Add, args })?;
+    let sum = pair(&mut builder, Op::Add, last, input)?;
     builder.close_group(group, &[sum])?;
     let member = builder.node(Signal::Member { group, i: 0 })?;
     let graph = builder.finish(&[member])?;

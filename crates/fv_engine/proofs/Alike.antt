@@ -10,6 +10,9 @@ use Rattle.fv_engine.proofs.Values.{back_past}
 
 pub stands_alike : StandsAlike
 stands_alike e g names X c d same h = record {
-  histories = λ l i. h.histories l i ∙ table_same (lane_info e.plan l).history (λ k. back (value g (names.lane l) X c) (length X + k) (pos (lane_info e.plan l).history)) (λ k. back (value g (names.lane l) X d) (length X + k) (pos (lane_info e.plan l).history))
-      (λ k m. back_past (value g (names.lane l) X c) (value g (names.lane l) X d) (length X) (lane_info e.plan l).history k m (λ u v. values_look_back g X X c d (length X) (λ i u v. refl) same (names.lane l) u v));
+  histories = λ l i.
+      let hist = (lane_info e.plan l).history in let x = value g (names.lane l) X c in let y = value g (names.lane l) X d in
+      let as_before = values_look_back g X X c d (length X) (λ i u v. refl) same (names.lane l) in
+      h.histories l i ∙ table_same hist (λ k. back x (length X + k) (pos hist)) (λ k. back y (length X + k) (pos hist))
+      (λ k m. back_past x y (length X) hist k m (λ u v. as_before u v));
 }

@@ -1,10 +1,11 @@
 -- One block of an engine: what its steps ask for, and what they leave.
-use Rattle.std.proofs.Common.{◌≡◌, ℕ, ◌+◌, ◌*◌, ◌<◌, ◌≤◌, ℤ, ◌&&◌, ◌||◌, ◌==◌, List, [], length, map, All, Option, None, Some, IfSome, refl, sym, ap, ◌∙◌, subst, arith, mul_comm}
+use Rattle.std.proofs.Common.{◌≡◌, ℕ, ◌+◌, ◌*◌, ◌<◌, ◌≤◌, ℤ, ◌&&◌, ◌||◌, ◌==◌, List, [], length, map, All, Option, None, Some, IfSome, refl, sym, ap, ap₂}
+use Rattle.std.proofs.Common.{◌∙◌, subst, arith, mul_comm}
 use Rattle.std.proofs.lemmas.List.{get_or_default}
 use Rattle.std.specs.Vec.{vec_capacity}
 use Rattle.fv_num.specs.Words.{argument}
 use Rattle.fv_base.proofs.Lists.{length_table}
-use Rattle.fv_signal.specs.Value.{value}
+use Rattle.fv_signal.specs.Value.{value, Graph as Signals}
 use Rattle.fv_outside.specs.Tasks.{Tasks, task_count, reads_loop, reads_task}
 use Rattle.fv_outside.specs.Journal.{IsOrdered}
 use Rattle.fv_outside.specs.declared.gate.Line.{Line}
@@ -19,34 +20,42 @@ use Rattle.fv_lines.specs.declared.shape.LaneShape.{LaneShape}
 use Rattle.fv_lines.specs.declared.shape.LaneState.{LaneState}
 use Rattle.fv_plan.specs.View.{PlanView}
 use Rattle.fv_plan.specs.Plans.{IsPlanOf}
-use Rattle.fv_turns.specs.Block.{IsReal, vectors_of}
+use Rattle.fv_turns.specs.Block.{Block, IsReal, vectors_of}
 use Rattle.fv_turns.specs.Jobs.{IsJob}
 use Rattle.fv_engine.specs.Plans.{NamesThere, held_by, block_from}
 use Rattle.fv_engine.specs.Stands.{EngineView, AreBegun, GoesOn, Standing}
 use Rattle.fv_engine.specs.Over.{Ran}
 use Rattle.fv_engine.specs.Stored.{IsStored, view_of}
+use Rattle.fv_engine.specs.Told.{tasks_told}
 use Rattle.fv_engine.specs.declared.engine.Engine.TheInside.{Inside}
 use Rattle.fv_engine.proofs.Made.{vectors_rise}
 use Rattle.fv_engine.proofs.Jobs.{fewer_tasks, fewer_edges, is_job, begun, ended}
+use Rattle.fv_engine.proofs.Values.{block_in}
 use Rattle.fv_engine.proofs.Real.{real, stands_on}
-use Rattle.fv_engine.proofs.Goes.{goes_on}
+use Rattle.fv_engine.proofs.Goes.{with_state, goes_on}
 
 -- as many held values as the code has steps
-held_long : (g : Rattle.fv_signal.specs.Value.Graph) (p : PlanView) → IsPlanOf g p → (controls : List ℤ) → length (held_by p controls) ≡ length p.held
+held_long : (g : Signals) (p : PlanView) → IsPlanOf g p → (controls : List ℤ) → length (held_by p controls) ≡ length p.held
 held_long g p plan controls =
     ap length (plan.stands.held [] (λ k t. argument controls k) 0 (argument controls) (λ k n. refl))
     ∙ length_table (length p.held) (λ k. value g (plan.stands.names.held k) [] (λ k t. argument controls k) 0)
 
 -- each output has a lane
-pub outputs_there : (g : Rattle.fv_signal.specs.Value.Graph) (p : PlanView) → IsPlanOf g p → All (λ l. l < length p.lanes) p.outputs
+pub outputs_there : (g : Signals) (p : PlanView) → IsPlanOf g p → All (λ l. l < length p.lanes) p.outputs
 outputs_there g p plan k d i =
     subst (λ l. l < length p.lanes) (get_or_default p.outputs k 0 d i) (plan.stands.ends k (let q = plan.stands.outputs.0 in omega (arith, q, i))).1
 
+-- the same tasks, whatever the order of the pairs
+record AreAlike (g h : Tasks) : Type 0 where
+  pub loops : g.loops ≡ h.loops
+  pub vectors : g.vectors ≡ h.vectors
+  pub pairs : (j i : ℕ) → reads_loop g.reads j i ≡ reads_loop h.reads j i
+
 -- a journal in order is so whatever the order of the pairs
-pub same_order : (g h : Tasks) (lines : List Line) → g.loops ≡ h.loops → g.vectors ≡ h.vectors → ((j i : ℕ) → reads_loop g.reads j i ≡ reads_loop h.reads j i) → IsOrdered g lines → IsOrdered h lines
-same_order g h lines loops vectors pairs o = record {
-  each_once = λ t l m. o.each_once t (omega (arith, loops, l)) (omega (arith, vectors, m));
-  no_other = λ line c. let q = o.no_other line c in (omega (arith, loops, q.0), omega (arith, vectors, q.1));
+same_order : (g h : Tasks) (lines : List Line) → AreAlike g h → IsOrdered g lines → IsOrdered h lines
+same_order g h lines same o = record {
+  each_once = λ t l m. o.each_once t (omega (arith, same.loops, l)) (omega (arith, same.vectors, m));
+  no_other = λ line c. let q = o.no_other line c in (omega (arith, same.loops, q.0), omega (arith, same.vectors, q.1));
   stamps = o.stamps;
   spans = o.spans;
   after_reads = λ a b c d r. o.after_reads a b c d (same_reads b.task a.task ∙ r);
@@ -54,128 +63,178 @@ same_order g h lines loops vectors pairs o = record {
 }
   where
     same_reads : (t s : Task) → reads_task g t s ≡ reads_task h t s
-    same_reads t s = ap (λ x. ((s.loop_no == t.loop_no) && ((s.vector + 1) == t.vector)) || (x && (s.vector == t.vector))) (pairs t.loop_no s.loop_no)
+    same_reads t s = ap (λ x. ((s.loop_no == t.loop_no) && ((s.vector + 1) == t.vector)) || (x && (s.vector == t.vector))) (same.pairs t.loop_no s.loop_no)
 
 -- what follows of what there is
 pub some_more : {X : Type 0} (o : Option X) (P Q : X → Type 0) → ((x : X) → P x → Q x) → IfSome o P → IfSome o Q
 some_more None P Q f h = h
 some_more (Some x) P Q f h = f x h
 
-module _ (e : Inside) (inv : IsStored e) (v : EngineView) (view_is : view_of e ≡ v) (frames : ℕ) (input controls : List ℤ) (size : (1 ≤ frames) × (frames ≤ v.block)) (v_long : length input ≡ frames * v.channels)
-    (v_named : (k : ℕ) → NamesHeld v.plan.held k → k < length controls) (n : ℕ) (n_is : n ≡ vectors_of frames e.vector) (t : Graph) (t_is : t ≡ record e.tasks { tasks = record e.tasks.tasks { vectors = n } }) where
+-- the block of an engine, by its channels and held values
+pub same_block : (e : Inside) (frames : ℕ) (input controls : List ℤ) {channels : ℕ} {held : List ℤ} → channels ≡ e.channels → held ≡ held_by e.plan controls
+    → block_from e.plan e.vector frames channels held input ≡ block_in (view_of e) frames controls input
+same_block e frames input controls p q = ap₂ (λ (k : ℕ) (xs : List ℤ). block_from e.plan e.vector frames k xs input) p q
+
+-- a call of a stored engine: the frames, input and controls of a block, and the tasks with the vectors of so many frames
+pub record IsCalled (e : Inside) (v : EngineView) (frames : ℕ) (input controls : List ℤ) (n : ℕ) (t : Graph) : Type 0 where
+  pub stored : IsStored e
+  pub view_is : view_of e ≡ v
+  pub size : (1 ≤ frames) × (frames ≤ v.block)
+  pub input_long : length input ≡ frames * v.channels
+  pub named : (k : ℕ) → NamesHeld v.plan.held k → k < length controls
+  pub vectors : n ≡ vectors_of frames e.vector
+  pub tasks : t ≡ record e.tasks { tasks = record e.tasks.tasks { vectors = n } }
+
+-- the lists that a block is handed are those that the engine stores
+pub record AreHanded (e : Inside) (shapes : List LaneShape) (states : List LaneState) (cells : List ℤ) (outputs : List ℕ) : Type 0 where
+  pub shapes_are : shapes ≡ e.shapes.items
+  pub states_are : states ≡ e.states.items
+  pub cells_are : cells ≡ cells_of e.region
+  pub outputs_are : outputs ≡ e.plan.outputs
+
+module _ {e : Inside} {v : EngineView} {frames : ℕ} {input controls : List ℤ} {n : ℕ} {t : Graph} (call : IsCalled e v frames input controls n t) where
+  abbrev inv : IsStored e
+  inv = call.stored
+
+  -- the vectors of the frames
+  abbrev count : ℕ
+  count = vectors_of frames e.vector
+
   high : frames ≤ e.block
-  high = let q = ap (λ (x : EngineView). x.block) view_is in omega (arith, q, size.1)
+  high = let q = ap (λ (x : EngineView). x.block) call.view_is in omega (arith, q, call.size.1)
 
   long : length input ≡ frames * e.channels
-  long = v_long ∙ ap (λ (x : EngineView). frames * x.channels) (sym view_is)
+  long = call.input_long ∙ ap (λ (x : EngineView). frames * x.channels) (sym call.view_is)
 
-  named : (k : ℕ) → NamesHeld e.plan.held k → k < length controls
-  named k h = v_named k (subst (λ (x : EngineView). NamesHeld x.plan.held k) view_is h)
+  names : NamesThere e.plan e.channels (length controls)
+  names = record {
+    held = inv.standing.plan.names.held;
+    inputs = inv.sizes.inputs;
+    knobs = λ k h. call.named k (subst (λ (x : EngineView). NamesHeld x.plan.held k) call.view_is h);
+  }
 
-  is : t ≡ record e.tasks { tasks = record e.tasks.tasks { vectors = vectors_of frames e.vector } }
-  is = t_is ∙ ap (λ m. record e.tasks { tasks = record e.tasks.tasks { vectors = m } }) n_is
+  is : t ≡ record e.tasks { tasks = record e.tasks.tasks { vectors = count } }
+  is = call.tasks ∙ ap (λ m. record e.tasks { tasks = record e.tasks.tasks { vectors = m } }) call.vectors
 
-  few : vectors_of frames e.vector ≤ e.tasks.most
+  few : count ≤ e.tasks.most
   few = let q = vectors_rise frames e.block e.vector inv.sizes.vector_low high in omega (arith, q, inv.tasks_are.most_are)
 
-  pub tasks_fit : task_count t.tasks ≤ e.core.room_tasks
-  tasks_fit = let q = fewer_tasks e.tasks.tasks (vectors_of frames e.vector) e.tasks.most few in let s = ap (λ (g : Graph). task_count g.tasks) is in omega (arith, q, s, inv.core_is.tasks)
+  fewer : task_count t.tasks ≤ task_count (record e.tasks.tasks { vectors = e.tasks.most })
+  fewer = let q = fewer_tasks e.tasks.tasks count e.tasks.most few in let s = ap (λ (g : Graph). task_count g.tasks) is in omega (arith, q, s)
 
-  pub edges_fit : edges_of t.tasks ≤ e.core.room_edges
-  edges_fit = let q = fewer_edges e.tasks.tasks (vectors_of frames e.vector) e.tasks.most few in let s = ap (λ (g : Graph). edges_of g.tasks) is in omega (arith, q, s, inv.core_is.edges)
+  pub tasks_fit : task_count t.tasks ≤ e.core.room_tasks
+  tasks_fit = let q = fewer in omega (arith, q, inv.core_is.tasks)
 
   pub lines_fit : task_count t.tasks ≤ vec_capacity e.lines
-  lines_fit = let q = fewer_tasks e.tasks.tasks (vectors_of frames e.vector) e.tasks.most few in let s = ap (λ (g : Graph). task_count g.tasks) is in omega (arith, q, s, inv.room)
+  lines_fit = let q = fewer in omega (arith, q, inv.room)
+
+  pub edges_fit : edges_of t.tasks ≤ e.core.room_edges
+  edges_fit =
+      let q = fewer_edges e.tasks.tasks count e.tasks.most few in
+      let s = ap (λ (g : Graph). edges_of g.tasks) is in omega (arith, q, s, inv.core_is.edges)
 
   pub count_is : task_count t.tasks ≡ v.plan.loops * vectors_of frames v.vector
   count_is =
-      ap (λ (g : Graph). task_count g.tasks) is ∙ ap (λ m. vectors_of frames e.vector * m) inv.tasks_are.loops ∙ mul_comm (vectors_of frames e.vector) e.plan.loops
-      ∙ ap (λ (x : EngineView). x.plan.loops * vectors_of frames x.vector) view_is
+      ap (λ (g : Graph). task_count g.tasks) is ∙ ap (λ m. count * m) inv.tasks_are.loops ∙ mul_comm count e.plan.loops
+      ∙ ap (λ (x : EngineView). x.plan.loops * vectors_of frames x.vector) call.view_is
 
-  names : NamesThere e.plan e.channels (length controls)
-  names = record { held = inv.standing.plan.names.held; inputs = inv.sizes.inputs; knobs = named }
+  abbrev lengths : List ℕ
+  lengths = lengths_of e.layout
+
+  -- the lanes as they open
+  abbrev pub opening : List Lane
+  opening = opening_lanes lengths e.shapes.items e.states.items frames (cells_of e.region)
 
   abbrev first : List Lane
-  first = opening_lanes (lengths_of e.layout) e.shapes.items e.states.items frames (cells_of e.region)
+  first = opening
 
-  many : length (lengths_of e.layout) ≡ length e.plan.lanes
+  many : length lengths ≡ length e.plan.lanes
   many = sym inv.lists.0 ∙ inv.shapes.count
 
   is_begun : AreBegun (view_of e) frames first
-  is_begun = begun (view_of e) e.block frames e.shapes.items e.states.items inv.shapes many refl
+  is_begun = begun (record { shapes_are = inv.shapes; many = many; starts = refl }) frames
 
-  t_loops : t.tasks.loops ≡ e.plan.loops
-  t_loops = ap (λ (g : Graph). g.tasks.loops) is ∙ inv.tasks_are.loops
-
-  t_vectors : t.tasks.vectors ≡ vectors_of frames e.vector
-  t_vectors = ap (λ (g : Graph). g.tasks.vectors) is
-
-  t_pairs : (j i : ℕ) → reads_loop t.tasks.reads j i ≡ reads_loop e.plan.reads j i
-  t_pairs j i = ap (λ (g : Graph). reads_loop g.tasks.reads j i) is ∙ inv.tasks_are.pairs j i
+  -- the tasks are those that a gate is told of
+  alike : AreAlike t.tasks (tasks_told (view_of e) frames)
+  alike = record {
+    loops = ap (λ (g : Graph). g.tasks.loops) is ∙ inv.tasks_are.loops;
+    vectors = ap (λ (g : Graph). g.tasks.vectors) is;
+    pairs = λ j i. ap (λ (g : Graph). reads_loop g.tasks.reads j i) is ∙ inv.tasks_are.pairs j i;
+  }
 
   -- as many held values as the code has steps
   pub many_held : length (held_by e.plan controls) ≡ length e.plan.held
   many_held = held_long inv.standing.graph e.plan inv.standing.plan controls
 
-  module _ (channels : ℕ) (held : List ℤ) (as_channels : channels ≡ e.channels) (as_held : held ≡ held_by e.plan controls) where
-    pub job : IsJob (block_from e.plan e.vector frames channels held input) t.tasks
-    job = is_job inv.standing.graph e.plan e.vector frames channels held input t.tasks inv.standing.plan (record {
+  module _ {b : Block} (block_is : b ≡ block_in (view_of e) frames controls input) where
+    pub job : IsJob b t.tasks
+    job = subst (λ (x : Block). IsJob x t.tasks) (sym block_is) (is_job e.plan e.vector frames e.channels (held_by e.plan controls) input t.tasks (record {
+      graph = inv.standing.graph;
+      plan = inv.standing.plan;
       some = inv.sizes.some;
-      loops = t_loops;
-      pairs = t_pairs;
-      vectors = t_vectors;
+      loops = alike.loops;
+      pairs = alike.pairs;
+      vectors = alike.vectors;
       vector_low = inv.sizes.vector_low;
-      held_long = ap length as_held ∙ held_long inv.standing.graph e.plan inv.standing.plan controls;
-      inputs = λ j i n. let q = inv.sizes.inputs j i n in omega (arith, q, as_channels);
-      input_long = long ∙ ap (λ n. frames * n) (sym as_channels);
-    })
+      held_long = many_held;
+      inputs = inv.sizes.inputs;
+      input_long = long;
+    }))
 
-    pub is_real : IsReal (block_from e.plan e.vector frames channels held input) first
-    is_real = subst (λ n. IsReal (block_from e.plan e.vector frames n held input) first) (sym as_channels)
-        (subst (λ (xs : List ℤ). IsReal (block_from e.plan e.vector frames e.channels xs input) first) (sym as_held)
-        (real (view_of e) inv.standing frames input controls names first is_begun))
+    -- the lanes that the block begins with are real
+    pub first_is : {shapes : List LaneShape} {states : List LaneState} {cells : List ℤ} {outputs : List ℕ} → AreHanded e shapes states cells outputs
+        → IsReal b (opening_lanes lengths shapes states frames cells)
+    first_is {shapes} {states} {cells} h =
+        let is_real = subst (λ (x : Block). IsReal x first) (sym block_is) (real (view_of e) inv.standing frames input controls names first is_begun) in
+        subst (λ (x : List LaneShape). IsReal b (opening_lanes lengths x states frames cells)) (sym h.shapes_are)
+        (subst (λ (x : List LaneState). IsReal b (opening_lanes lengths e.shapes.items x frames cells)) (sym h.states_are)
+        (subst (λ (x : List ℤ). IsReal b (opening_lanes lengths e.shapes.items e.states.items frames x)) (sym h.cells_are) is_real))
 
-    -- the same block, by what the engine kept before and after
-    pub ran_as : (shapes : List LaneShape) (states : List LaneState) (cells : List ℤ) (outputs : List ℕ) → shapes ≡ e.shapes.items → states ≡ e.states.items → cells ≡ cells_of e.region → outputs ≡ e.plan.outputs
-        → (cells_end cells_kept : List ℤ) (states_end states_kept : List LaneState) → cells_kept ≡ cells_end → states_kept ≡ states_end → (lines : List Line) (output : List ℤ)
-        → Ran t.tasks (block_from e.plan e.vector frames channels held input) (lengths_of e.layout) shapes (opening_lanes (lengths_of e.layout) shapes states frames cells) cells_end states_end lines outputs output
-        → Ran t.tasks (block_from e.plan e.vector frames channels held input) (lengths_of e.layout) e.shapes.items first cells_kept states_kept lines e.plan.outputs output
-    ran_as shapes states cells outputs p q r o cells_end cells_kept states_end states_kept u w lines output ran =
-        let b = block_from e.plan e.vector frames channels held input in let ls = lengths_of e.layout in
-        subst (λ (x : List LaneState). Ran t.tasks b ls e.shapes.items first cells_kept x lines e.plan.outputs output) (sym w)
-        (subst (λ (x : List ℤ). Ran t.tasks b ls e.shapes.items first x states_end lines e.plan.outputs output) (sym u)
-        (subst (λ (x : List ℕ). Ran t.tasks b ls e.shapes.items first cells_end states_end lines x output) o
-        (subst (λ (x : List ℤ). Ran t.tasks b ls e.shapes.items (opening_lanes ls e.shapes.items e.states.items frames x) cells_end states_end lines outputs output) r
-        (subst (λ (x : List LaneState). Ran t.tasks b ls e.shapes.items (opening_lanes ls e.shapes.items x frames cells) cells_end states_end lines outputs output) q
-        (subst (λ (x : List LaneShape). Ran t.tasks b ls x (opening_lanes ls x states frames cells) cells_end states_end lines outputs output) p ran)))))
+    -- the block ran from these lanes on, and left these cells and states
+    abbrev pub RanFrom : List LaneShape → (first : List Lane) → (cells : List ℤ) → List LaneState → List Line → (outputs : List ℕ) → (output : List ℤ) → Type 0
+    RanFrom shapes first cells states lines outputs output = Ran t.tasks b lengths shapes first cells states lines outputs output
 
-    -- the lanes as the block found them
-    pub first_is : (shapes : List LaneShape) (states : List LaneState) (cells : List ℤ) → shapes ≡ e.shapes.items → states ≡ e.states.items → cells ≡ cells_of e.region
-        → IsReal (block_from e.plan e.vector frames channels held input) (opening_lanes (lengths_of e.layout) shapes states frames cells)
-    first_is shapes states cells p q r =
-        subst (λ (xs : List Lane). IsReal (block_from e.plan e.vector frames channels held input) xs)
-        (sym (ap (λ (x : List LaneShape). opening_lanes (lengths_of e.layout) x states frames cells) p ∙ ap (λ (x : List LaneState). opening_lanes (lengths_of e.layout) e.shapes.items x frames cells) q
-        ∙ ap (λ (x : List ℤ). opening_lanes (lengths_of e.layout) e.shapes.items e.states.items frames x) r)) is_real
+    -- it ran from the lanes that the engine stores, and left what the engine then keeps
+    pub ran_as : {shapes : List LaneShape} {states : List LaneState} {cells : List ℤ} {outputs : List ℕ} → AreHanded e shapes states cells outputs
+        → {new_cells kept_cells : List ℤ} {new_states kept_states : List LaneState} {lines : List Line} {output : List ℤ}
+        → kept_cells ≡ new_cells → kept_states ≡ new_states
+        → RanFrom shapes (opening_lanes lengths shapes states frames cells) new_cells new_states lines outputs output
+        → RanFrom e.shapes.items first kept_cells kept_states lines e.plan.outputs output
+    ran_as {shapes} {states} {cells} {outputs} h {new_cells} {kept_cells} {new_states} {kept_states} {lines} {output} p q ran =
+        let own = e.shapes.items in
+        let left : List LaneShape → List Lane → List ℕ → Type 0 = λ xs lanes os. RanFrom xs lanes kept_cells kept_states lines os output in
+        subst (λ (x : List ℕ). left own first x) h.outputs_are
+        (subst (λ (x : List ℤ). left own (opening_lanes lengths own e.states.items frames x) outputs) h.cells_are
+        (subst (λ (x : List LaneState). left own (opening_lanes lengths own x frames cells) outputs) h.states_are
+        (subst (λ (x : List LaneShape). left x (opening_lanes lengths x states frames cells) outputs) h.shapes_are
+        (subst (λ (x : List ℤ). RanFrom shapes (opening_lanes lengths shapes states frames cells) x kept_states lines outputs output) (sym p)
+        (subst (λ (x : List LaneState). RanFrom shapes (opening_lanes lengths shapes states frames cells) new_cells x lines outputs output) (sym q) ran)))))
 
-    module _ (cells : List ℤ) (states : List LaneState) (lines : List Line) (output : List ℤ)
-        (ran : Ran t.tasks (block_from e.plan e.vector frames channels held input) (lengths_of e.layout) e.shapes.items first cells states lines e.plan.outputs output) where
-      abbrev new : EngineView
-      new = record (view_of e) { region = cells; starts = map (λ (s : LaneState). s.start) states }
+    module _ {cells : List ℤ} {states : List LaneState} {lines : List Line} {output : List ℤ}
+        (ran : RanFrom e.shapes.items first cells states lines e.plan.outputs output) where
+      abbrev starts : List ℕ
+      starts = map (λ (s : LaneState). s.start) states
 
-      ran_so : Ran t.tasks (block_from e.plan e.vector frames e.channels (held_by e.plan controls) input) (lengths_of e.layout) e.shapes.items first cells states lines e.plan.outputs output
-      ran_so =
-          subst (λ n. Ran t.tasks (block_from e.plan e.vector frames n (held_by e.plan controls) input) (lengths_of e.layout) e.shapes.items first cells states lines e.plan.outputs output) as_channels
-          (subst (λ (xs : List ℤ). Ran t.tasks (block_from e.plan e.vector frames channels xs input) (lengths_of e.layout) e.shapes.items first cells states lines e.plan.outputs output) as_held ran)
+      ran_so : Ran t.tasks (block_in (view_of e) frames controls input) lengths e.shapes.items first cells states lines e.plan.outputs output
+      ran_so = subst (λ (x : Block). Ran t.tasks x lengths e.shapes.items first cells states lines e.plan.outputs output) block_is ran
 
-      pub goes : GoesOn (view_of e) new frames input controls output
-      goes = goes_on (view_of e) cells (map (λ (s : LaneState). s.start) states) frames input controls output first ran_so.lanes lines t.tasks names inv.sizes.vector_low t_loops t_vectors is_begun ran_so.ends
-          (ended new e.block frames e.shapes.items states inv.shapes many refl ran_so.lanes ran_so.next) ran_so.samples
+      pub goes : GoesOn (view_of e) (with_state (view_of e) cells starts) frames input controls output
+      goes = goes_on (record {
+        names = names;
+        some = inv.sizes.vector_low;
+        loops = alike.loops;
+        vectors = alike.vectors;
+        begun = is_begun;
+        ends = ran_so.ends;
+        ended = ended (record { shapes_are = inv.shapes; many = many; starts = refl }) frames ran_so.lanes ran_so.next;
+        samples = ran_so.samples;
+      })
 
-      pub still_standing : Standing new
-      still_standing = stands_on (view_of e) inv.standing frames input controls cells (map (λ (s : LaneState). s.start) states) output goes
+      pub still_standing : Standing (with_state (view_of e) cells starts)
+      still_standing = stands_on (view_of e) inv.standing frames input controls cells starts output goes
 
-      pub ordered : IsOrdered (record { loops = e.plan.loops; vectors = vectors_of frames e.vector; reads = e.plan.reads }) lines
-      ordered = same_order t.tasks (record { loops = e.plan.loops; vectors = vectors_of frames e.vector; reads = e.plan.reads }) lines t_loops t_vectors t_pairs ran.ends.journal
+      pub ordered : IsOrdered (tasks_told (view_of e) frames) lines
+      ordered = same_order t.tasks (tasks_told (view_of e) frames) lines alike ran.ends.journal
 
-      pub counted : length lines ≡ task_count (record { loops = e.plan.loops; vectors = vectors_of frames e.vector; reads = e.plan.reads })
-      counted = ran.ends.counted ∙ ap (λ n. n * t.tasks.loops) t_vectors ∙ ap (λ n. vectors_of frames e.vector * n) t_loops
+      pub counted : length lines ≡ task_count (tasks_told (view_of e) frames)
+      counted = ran.ends.counted ∙ ap (λ n. n * t.tasks.loops) alike.vectors ∙ ap (λ n. count * n) alike.loops

@@ -1,5 +1,6 @@
 -- The job of a block of an engine.
-use Rattle.std.proofs.Common.{◌≡◌, ℕ, ◌*◌, ◌<◌, ◌≤◌, ℤ, List, length, map, take, drop, refl, sym, ap, ◌∙◌, arith, nat_lt, nat_eq, mul-le-mul_right, lt-ltb, eq-eqb}
+use Rattle.std.proofs.Common.{◌≡◌, ℕ, ◌*◌, ◌<◌, ◌≤◌, ℤ, List, length, map, take, drop, refl, sym, ap, ◌∙◌, arith, nat_lt, nat_eq}
+use Rattle.std.proofs.Common.{mul-le-mul_right, lt-ltb, eq-eqb}
 use Rattle.std.specs.Prelude.{slice_index}
 use Rattle.fv_base.proofs.Lists.{get_or_table, length_table}
 use Rattle.fv_signal.specs.Value.{Graph}
@@ -30,8 +31,10 @@ fewer_tasks t n m l = mul-le-mul_right t.loops l
 pub fewer_edges : (t : Tasks) (n m : ℕ) → n ≤ m → edges_of (record t { vectors = n }) ≤ edges_of (record t { vectors = m })
 fewer_edges t n m l = let q : n * stride t ≤ m * stride t = mul-le-mul_right (stride t) l in omega (arith, q)
 
--- what the tasks of a block meet
+-- what the tasks of a block of a plan meet
 pub record Fits (p : PlanView) (vector frames channels : ℕ) (held input : List ℤ) (t : Tasks) : Type 0 where
+  pub graph : Graph
+  pub plan : IsPlanOf graph p
   pub some : 0 < p.loops
   pub loops : t.loops ≡ p.loops
   pub pairs : (j i : ℕ) → reads_loop t.reads j i ≡ reads_loop p.reads j i
@@ -41,33 +44,40 @@ pub record Fits (p : PlanView) (vector frames channels : ℕ) (held input : List
   pub inputs : (j i : ℕ) → NamesInput (code_of p j) i → i < channels
   pub input_long : length input ≡ frames * channels
 
-pub is_job : (g : Graph) (p : PlanView) (vector frames channels : ℕ) (held input : List ℤ) (t : Tasks) → IsPlanOf g p → Fits p vector frames channels held input t
+pub is_job : (p : PlanView) (vector frames channels : ℕ) (held input : List ℤ) (t : Tasks) → Fits p vector frames channels held input t
     → IsJob (block_from p vector frames channels held input) t
-is_job g p vector frames channels held input t plan f = record {
+is_job p vector frames channels held input t f = record {
   some = omega (arith, f.some, f.loops);
   loops = f.loops;
   vectors = f.vectors;
   same = λ k i. sym (f.pairs k i);
-  lower = λ k i e. (plan.reads.lower k i (sym (f.pairs k i) ∙ e)).0;
-  apart = plans_are_apart p plan.reads;
-  owned = λ l m. ((lane_info p l).owner, plan.stands.loops.owners l m, both_of (nat_lt l (length p.lanes)) (nat_eq (lane_info p l).owner (lane_info p l).owner) (lt-ltb l (length p.lanes) m) (eq-eqb (lane_info p l).owner (lane_info p l).owner refl));
+  lower = λ k i e. (f.plan.reads.lower k i (sym (f.pairs k i) ∙ e)).0;
+  apart = plans_are_apart p f.plan.reads;
+  owned = λ l m.
+      let j = (lane_info p l).owner in
+      (j, f.plan.stands.loops.owners l m, both_of (nat_lt l (length p.lanes)) (nat_eq j j) (lt-ltb l (length p.lanes) m) (eq-eqb j j refl));
   vector = f.vector_low;
-  within = λ j m. names_within (length held) channels (code_of p j) (λ k n. omega (arith, f.held_long, plan.names.held j k n)) (f.inputs j);
+  within = λ j m. names_within (length held) channels (code_of p j) (λ k n. omega (arith, f.held_long, f.plan.names.held j k n)) (f.inputs j);
   input = omega (arith, f.input_long);
 }
 
+-- the shapes and states of an engine's lanes
+pub record AreListed (e : EngineView) (block : ℕ) (shapes : List LaneShape) (states : List LaneState) : Type 0 where
+  pub shapes_are : AreShapes e.plan block shapes
+  pub many : length e.lengths ≡ length e.plan.lanes
+  pub starts : e.starts ≡ map (λ (s : LaneState). s.start) states
+
 -- lanes as they open, and as they end, by what the engine keeps
-module _ (e : EngineView) (block n : ℕ) (shapes : List LaneShape) (states : List LaneState) (are : AreShapes e.plan block shapes) (many : length e.lengths ≡ length e.plan.lanes)
-    (starts : e.starts ≡ map (λ (s : LaneState). s.start) states) where
+module _ {e : EngineView} {block : ℕ} {shapes : List LaneShape} {states : List LaneState} (listed : AreListed e block shapes states) (n : ℕ) where
   held_is : (l : ℕ) → l < length e.plan.lanes → held_at e.lengths states (history_at shapes l) l e.region ≡ history_in e l
   held_is l i =
-      ap (λ h. held_at e.lengths states h l e.region) (are.histories l i)
-      ∙ ap (λ (xs : List ℕ). take (lane_info e.plan l).history (from_start (slice_index xs l) (part e.lengths l e.region))) (sym starts)
+      ap (λ h. held_at e.lengths states h l e.region) (listed.shapes_are.histories l i)
+      ∙ ap (λ (xs : List ℕ). take (lane_info e.plan l).history (from_start (slice_index xs l) (part e.lengths l e.region))) (sym listed.starts)
 
   pub begun : AreBegun e n (opening_lanes e.lengths shapes states n e.region)
   begun = record {
-    count = length_table (length e.lengths) opening ∙ many;
-    histories = λ l i. ap (λ (x : Lane). x.history) (lane_is l i) ∙ are.histories l i;
+    count = length_table (length e.lengths) opening ∙ listed.many;
+    histories = λ l i. ap (λ (x : Lane). x.history) (lane_is l i) ∙ listed.shapes_are.histories l i;
     items = λ l i. ap (λ (x : Lane). x.items) (lane_is l i) ∙ held_is l i;
     room = λ l i. let q = ap (λ (x : Lane). x.room) (lane_is l i) in omega (arith, q);
   }
@@ -76,7 +86,8 @@ module _ (e : EngineView) (block n : ℕ) (shapes : List LaneShape) (states : Li
       opening i = record { history = history_at shapes i; items = held_at e.lengths states (history_at shapes i) i e.region; room = n }
 
       lane_is : (l : ℕ) → l < length e.plan.lanes → lane_of (opening_lanes e.lengths shapes states n e.region) l ≡ opening l
-      lane_is l i = get_or_table (length e.lengths) opening l no_lane (omega (arith, many, i))
+      lane_is l i = get_or_table (length e.lengths) opening l no_lane (omega (arith, listed.many, i))
 
-  pub ended : (lanes : List Lane) → ((i : ℕ) → i < length e.lengths → held_at e.lengths states (history_at shapes i) i e.region ≡ drop n (lane_of lanes i).items) → AreEnded e n lanes
-  ended lanes next = record { items = λ l i. sym (held_is l i) ∙ next l (omega (arith, many, i)) }
+  pub ended : (lanes : List Lane)
+      → ((i : ℕ) → i < length e.lengths → held_at e.lengths states (history_at shapes i) i e.region ≡ drop n (lane_of lanes i).items) → AreEnded e n lanes
+  ended lanes next = record { items = λ l i. sym (held_is l i) ∙ next l (omega (arith, listed.many, i)) }

@@ -1,8 +1,10 @@
 -- How an engine begins.
-use Rattle.std.proofs.Common.{◌≡◌, inl, inr, ℕ, zero, suc, ◌+◌, ◌-◌, ◌*◌, ◌<◌, ◌≤◌, List, [], ◌∷◌, ◌++◌, length, take, drop, map, sum, replicate, get_or, ℤ, pos, nat_le, refl, sym, ap, ◌∙◌, subst, arith, All, mul-le-mul_right, mul-le-mul_left, suc-mul, true}
+use Rattle.std.proofs.Common.{◌≡◌, inl, inr, ℕ, zero, suc, ◌+◌, ◌-◌, ◌*◌, ◌<◌, ◌≤◌, List, [], ◌∷◌, ◌++◌, length, take, drop, map, sum, replicate}
+use Rattle.std.proofs.Common.{get_or, ℤ, pos, nat_le, refl, sym, ap, ◌∙◌, subst, arith, All, mul-le-mul_right, mul-le-mul_left, suc-mul, true}
 use Rattle.std.specs.Prelude.{slice_index}
 use Rattle.std.proofs.lemmas.Bool.{cases_lt, cond-false, lt-leb}
-use Rattle.std.proofs.lemmas.List.{get_or_push, get_or_append_left, length_push, length-take-le, length-append, length-drop, length-replicate, get_or-replicate, length-map}
+use Rattle.std.proofs.lemmas.List.{get_or_push, get_or_append_left, length_push, length-take-le, length-append, length-drop}
+use Rattle.std.proofs.lemmas.List.{length-replicate, get_or-replicate, length-map}
 use Rattle.std.proofs.lemmas.List.Elements.{All-take, All-drop, All-append, All-replicate}
 use Rattle.std.proofs.lemmas.Nat.{le-div}
 use Rattle.std.proofs.Math.Nat.{div-mul-le_self}
@@ -50,63 +52,84 @@ pub record ShapesSoFar (p : PlanView) (block n : ℕ) (shapes : List LaneShape) 
   pub histories : (l : ℕ) → l < n → history_at shapes l ≡ (lane_info p l).history
   pub blocks : (l : ℕ) → l < n → block_at shapes l ≡ block
 
-pub more_shapes : (p : PlanView) (block n : ℕ) (shapes : List LaneShape) (s : LaneShape) → ShapesSoFar p block n shapes → s.history ≡ (lane_info p n).history → s.block ≡ block
-    → ShapesSoFar p block (n + 1) (shapes ++ s ∷ [])
+pub more_shapes : (p : PlanView) (block n : ℕ) (shapes : List LaneShape) (s : LaneShape) → ShapesSoFar p block n shapes → s.history ≡ (lane_info p n).history
+    → s.block ≡ block → ShapesSoFar p block (n + 1) (shapes ++ s ∷ [])
 more_shapes p block n shapes s h e f = record {
   long = length_push shapes s ∙ (omega (arith, h.long));
   histories = λ l i. elim (cases_lt l n) [
-    | inl m ↦ history_is (shapes ++ s ∷ []) l s (long_enough l i) ∙ ap (λ (x : LaneShape). x.history) (get_or_append_left shapes (s ∷ []) s l (omega (arith, m, h.long))) ∙ sym (history_is shapes l s (omega (arith, m, h.long))) ∙ h.histories l m
-    | inr m ↦ history_is (shapes ++ s ∷ []) l s (long_enough l i) ∙ ap (λ (x : LaneShape). x.history) (get_or_push shapes s s l (omega (arith, i, m, h.long))) ∙ e ∙ ap (λ k. (lane_info p k).history) (let z : n ≡ l = omega (arith, i, m) in z)
+    | inl m ↦
+        history_is (shapes ++ s ∷ []) l s (long_enough l i) ∙ ap (λ (x : LaneShape). x.history) (old l m)
+        ∙ sym (history_is shapes l s (omega (arith, m, h.long))) ∙ h.histories l m
+    | inr m ↦
+        let z : n ≡ l = omega (arith, i, m) in
+        history_is (shapes ++ s ∷ []) l s (long_enough l i) ∙ ap (λ (x : LaneShape). x.history) (new l z) ∙ e ∙ ap (λ k. (lane_info p k).history) z
   ];
   blocks = λ l i. elim (cases_lt l n) [
-    | inl m ↦ block_is (shapes ++ s ∷ []) l s (long_enough l i) ∙ ap (λ (x : LaneShape). x.block) (get_or_append_left shapes (s ∷ []) s l (omega (arith, m, h.long))) ∙ sym (block_is shapes l s (omega (arith, m, h.long))) ∙ h.blocks l m
-    | inr m ↦ block_is (shapes ++ s ∷ []) l s (long_enough l i) ∙ ap (λ (x : LaneShape). x.block) (get_or_push shapes s s l (omega (arith, i, m, h.long))) ∙ f
+    | inl m ↦
+        block_is (shapes ++ s ∷ []) l s (long_enough l i) ∙ ap (λ (x : LaneShape). x.block) (old l m)
+        ∙ sym (block_is shapes l s (omega (arith, m, h.long))) ∙ h.blocks l m
+    | inr m ↦
+        let z : n ≡ l = omega (arith, i, m) in
+        block_is (shapes ++ s ∷ []) l s (long_enough l i) ∙ ap (λ (x : LaneShape). x.block) (new l z) ∙ f
   ];
 }
   where
     long_enough : (l : ℕ) → l < n + 1 → l < length (shapes ++ s ∷ [])
     long_enough l i = let q = length_push shapes s in omega (arith, q, i, h.long)
 
+    old : (l : ℕ) → l < n → get_or (shapes ++ s ∷ []) l s ≡ get_or shapes l s
+    old l m = get_or_append_left shapes (s ∷ []) s l (omega (arith, m, h.long))
+
+    new : (l : ℕ) → n ≡ l → get_or (shapes ++ s ∷ []) l s ≡ s
+    new l z = get_or_push shapes s s l (omega (arith, z, h.long))
+
 -- ---- what the lists hold
 
 -- no lane's history lies anywhere but at its part's front
-pub all_held : (lengths : List ℕ) (shapes : List LaneShape) (states : List LaneState) (n : ℕ) → lengths ≡ map (λ (s : LaneShape). s.len) shapes → length shapes ≡ n
-    → ((i : ℕ) → i < n → start_at states i ≡ 0) → AreHeld lengths shapes states
-all_held lengths shapes states n e long zeros i l =
+pub all_held : (lengths : List ℕ) (shapes : List LaneShape) (states : List LaneState) → lengths ≡ map (λ (s : LaneShape). s.len) shapes
+    → ((i : ℕ) → i < length shapes → start_at states i ≡ 0) → AreHeld lengths shapes states
+all_held lengths shapes states e zeros i l =
     let m : i < length shapes = let q = ap length e ∙ length-map shapes (λ (s : LaneShape). s.len) in omega (arith, q, l) in
-    let z = zeros i (omega (arith, m, long)) in let f = shapes_fit shapes i m in
+    let z = zeros i m in let f = shapes_fit shapes i m in
     (ap (λ (xs : List ℕ). slice_index xs i) e, (λ h. omega (arith, z, f)), (λ h. omega (arith, z, f, h)))
 
 pub starts_zero : (n i : ℕ) (s : LaneState) → s.start ≡ 0 → i < n → start_at (replicate n s) i ≡ 0
-starts_zero n i s e l = start_is (replicate n s) i s (let q = length-replicate n s in omega (arith, q, l)) ∙ ap (λ (x : LaneState). x.start) (get_or-replicate n i s s l) ∙ e
+starts_zero n i s e l =
+    start_is (replicate n s) i s (let q = length-replicate n s in omega (arith, q, l)) ∙ ap (λ (x : LaneState). x.start) (get_or-replicate n i s s l) ∙ e
 
 abbrev IsZero : ℤ → Type 0
 IsZero x = x ≡ pos 0
 
 -- the past of any stream before time 0 is zeros
 past_zero : (h : ℕ) (v : Stream) → past h v 0 ≡ table h (λ k. pos 0)
-past_zero h v = table_same h (λ k. back v (0 + k) (pos h)) (λ k. pos 0) (λ k l. cond-false (nat_le h (0 + k)) (v (0 + k - h)) (pos 0) (lt-leb h (0 + k) (omega (arith, l))))
+past_zero h v =
+    table_same h (λ k. back v (0 + k) (pos h)) (λ k. pos 0) (λ k l. cond-false (nat_le h (0 + k)) (v (0 + k - h)) (pos 0) (lt-leb h (0 + k) (omega (arith, l))))
 
 zeros_are : (h : ℕ) (xs : List ℤ) → length xs ≡ h → All IsZero xs → xs ≡ table h (λ k. pos 0)
 zeros_are h xs e z =
-    sym (table_items xs (pos 0)) ∙ ap (λ n. table n (λ i. get_or xs i (pos 0))) e ∙ table_same h (λ i. get_or xs i (pos 0)) (λ k. pos 0) (λ i l. z i (pos 0) (omega (arith, e, l)))
+    sym (table_items xs (pos 0)) ∙ ap (λ n. table n (λ i. get_or xs i (pos 0))) e
+    ∙ table_same h (λ i. get_or xs i (pos 0)) (λ k. pos 0) (λ i l. z i (pos 0) (omega (arith, e, l)))
 
 -- a part of zeros holds the past of any stream before time 0
-pub nothing_yet : (lengths : List ℕ) (i h n : ℕ) (cells : List ℤ) (v : Stream) → i < length lengths → sum lengths ≤ n → h ≤ slice_index lengths i → cells ≡ replicate n (pos 0)
-    → take h (from_start 0 (part lengths i cells)) ≡ past h v 0
+pub nothing_yet : (lengths : List ℕ) (i h n : ℕ) (cells : List ℤ) (v : Stream) → i < length lengths → sum lengths ≤ n → h ≤ slice_index lengths i
+    → cells ≡ replicate n (pos 0) → take h (from_start 0 (part lengths i cells)) ≡ past h v 0
 nothing_yet lengths i h n cells v l fits room is =
-    zeros_are h (take h (from_start 0 (part lengths i cells))) long
-    (All-take IsZero h (from_start 0 (part lengths i cells)) (All-append IsZero (drop 0 (part lengths i cells)) (take 0 (part lengths i cells)) (All-drop IsZero 0 (part lengths i cells) part_zero) (All-take IsZero 0 (part lengths i cells) part_zero)))
-    ∙ sym (past_zero h v)
+    let own = part lengths i cells in
+    let all_zero = All-append IsZero (drop 0 own) (take 0 own) (All-drop IsZero 0 own part_zero) (All-take IsZero 0 own part_zero) in
+    zeros_are h (take h (from_start 0 own)) long (All-take IsZero h (from_start 0 own) all_zero) ∙ sym (past_zero h v)
   where
+    cells_zero : All IsZero cells
+    cells_zero = subst (λ (xs : List ℤ). All IsZero xs) (sym is) (All-replicate IsZero n (pos 0) refl)
+
     part_zero : All IsZero (part lengths i cells)
-    part_zero = All-take IsZero (slice_index lengths i) (drop (sum (take i lengths)) cells) (All-drop IsZero (sum (take i lengths)) cells (subst (λ (xs : List ℤ). All IsZero xs) (sym is) (All-replicate IsZero n (pos 0) refl)))
+    part_zero = All-take IsZero (slice_index lengths i) (drop (sum (take i lengths)) cells) (All-drop IsZero (sum (take i lengths)) cells cells_zero)
 
     long : length (take h (from_start 0 (part lengths i cells))) ≡ h
     long =
+        let own = part lengths i cells in
         let q = length_part lengths i cells l (let k = ap length is ∙ length-replicate n (pos 0) in omega (arith, k, fits)) in
-        let a = length-append (drop 0 (part lengths i cells)) (take 0 (part lengths i cells)) in let d = length-drop 0 (part lengths i cells) in
-        length-take-le h (from_start 0 (part lengths i cells)) (omega (arith, a, d, q, room))
+        let a = length-append (drop 0 own) (take 0 own) in let d = length-drop 0 own in
+        length-take-le h (from_start 0 own) (omega (arith, a, d, q, room))
 
 -- ---- pairs
 

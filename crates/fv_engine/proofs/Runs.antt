@@ -16,19 +16,28 @@ use Rattle.fv_turns.specs.Underway.{IsUnderway}
 use Rattle.fv_turns.proofs.Opening.{opens}
 
 -- as many opening lanes as parts
-pub opening_long : (lengths : List ℕ) (shapes : List LaneShape) (states : List LaneState) (frames : ℕ) (cells : List ℤ) → length (opening_lanes lengths shapes states frames cells) ≡ length lengths
+pub opening_long : (lengths : List ℕ) (shapes : List LaneShape) (states : List LaneState) (frames : ℕ) (cells : List ℤ)
+    → length (opening_lanes lengths shapes states frames cells) ≡ length lengths
 opening_long lengths shapes states frames cells =
     length_table (length lengths) (λ i. record { history = history_at shapes i; items = held_at lengths states (history_at shapes i) i cells; room = frames })
 
--- the opening state with the opening lanes is under way
-pub starts : (g : Tasks) (b : Block) (first : List Lane) (s : Now) (lanes : List Lane) (lines : List Line) → length first ≡ b.plan.lanes → s ≡ opening (net_of g) 1 → lanes ≡ first → lines ≡ []
+-- the opening state, as many opening lanes as the block has, and no lines
+pub record IsOpening (g : Tasks) (b : Block) (first : List Lane) (s : Now) (lanes : List Lane) (lines : List Line) : Type 0 where
+  pub long : length first ≡ b.plan.lanes
+  pub state : s ≡ opening (net_of g) 1
+  pub lanes_are : lanes ≡ first
+  pub none : lines ≡ []
+
+-- they are under way
+pub starts : {g : Tasks} {b : Block} {first : List Lane} {s : Now} {lanes : List Lane} {lines : List Line} → IsOpening g b first s lanes lines
     → IsUnderway g b first s lanes lines
-starts g b first s lanes lines long p q r =
-    subst (λ x. IsUnderway g b first x lanes lines) (sym p) (subst (λ y. IsUnderway g b first (opening (net_of g) 1) y lines) (sym q)
-    (subst (λ z. IsUnderway g b first (opening (net_of g) 1) first z) (sym r) (opens g b first long)))
+starts {g} {b} {first} {s} {lanes} {lines} o =
+    subst (λ x. IsUnderway g b first x lanes lines) (sym o.state) (subst (λ y. IsUnderway g b first (opening (net_of g) 1) y lines) (sym o.lanes_are)
+    (subst (λ z. IsUnderway g b first (opening (net_of g) 1) first z) (sym o.none) (opens g b first o.long)))
 
 -- where each lane's list is its history and so many samples, no lane takes one more
-pub are_full : (s : Solo) (frames : ℕ) → IsSolo s → frames_in s ≡ frames → ((i : ℕ) → i < length (lanes_of s) → length (lane_of (lanes_of s) i).items ≡ (lane_of (lanes_of s) i).history + frames) → AreFull (lanes_of s)
+pub are_full : (s : Solo) (frames : ℕ) → IsSolo s → frames_in s ≡ frames
+    → ((i : ℕ) → i < length (lanes_of s) → length (lane_of (lanes_of s) i).items ≡ (lane_of (lanes_of s) i).history + frames) → AreFull (lanes_of s)
 are_full s frames sound e full = λ i l.
     let is = lane_is s i l in let there = there_of s i l in
     let long = length_list s i sound there in
@@ -39,12 +48,20 @@ are_full s frames sound e full = λ i l.
 pub there_in : (s : Solo) (i : ℕ) → i < length (lengths_in s) → i < length (lanes_of s)
 there_in s i l = let q = length_table (length (lengths_in s)) (lane_at s) in omega (arith, q, l)
 
+-- what the lanes of one worker lie over, and what its end leaves
+pub record LiesOver (s : Solo) (lengths : List ℕ) (shapes : List LaneShape) (frames : ℕ) (states exit : List LaneState) (cells : List ℤ) : Type 0 where
+  pub lengths_are : lengths_in s ≡ lengths
+  pub shapes_are : shapes_in s ≡ shapes
+  pub frames_are : frames_in s ≡ frames
+  pub states_are : states ≡ exit
+  pub cells_are : cells ≡ cells_in s
+
 -- what the states and the cells hold after the end
-pub holds_next : (s : Solo) (i : ℕ) (lengths : List ℕ) (shapes : List LaneShape) (frames : ℕ) (states exit : List LaneState) (cells : List ℤ)
-    → lengths_in s ≡ lengths → shapes_in s ≡ shapes → frames_in s ≡ frames → states ≡ exit → cells ≡ cells_in s
+pub holds_next : {s : Solo} {lengths : List ℕ} {shapes : List LaneShape} {frames : ℕ} {states exit : List LaneState} {cells : List ℤ}
+    → LiesOver s lengths shapes frames states exit cells → (i : ℕ)
     → held_at (lengths_in s) exit (history_at (shapes_in s) i) i (cells_in s) ≡ drop (frames_in s) (lane_of (lanes_of s) i).items
     → held_at lengths states (history_at shapes i) i cells ≡ drop frames (lane_of (lanes_of s) i).items
-holds_next s i lengths shapes frames states exit cells as_lengths as_shapes as_frames as_states as_cells held =
-    ap₂ (λ (st : List LaneState) (xs : List ℤ). held_at lengths st (history_at shapes i) i xs) as_states as_cells
-    ∙ ap₂ (λ (ks : List ℕ) (ss : List LaneShape). held_at ks exit (history_at ss i) i (cells_in s)) (sym as_lengths) (sym as_shapes)
-    ∙ held ∙ ap (λ n. drop n (lane_of (lanes_of s) i).items) as_frames
+holds_next {s} {lengths} {shapes} {frames} {states} {exit} {cells} over i held =
+    ap₂ (λ (st : List LaneState) (xs : List ℤ). held_at lengths st (history_at shapes i) i xs) over.states_are over.cells_are
+    ∙ ap₂ (λ (ks : List ℕ) (ss : List LaneShape). held_at ks exit (history_at ss i) i (cells_in s)) (sym over.lengths_are) (sym over.shapes_are)
+    ∙ held ∙ ap (λ n. drop n (lane_of (lanes_of s) i).items) over.frames_are

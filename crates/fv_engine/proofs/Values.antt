@@ -1,5 +1,6 @@
 -- What the lanes hold as a block begins, and what comes of it.
-use Rattle.std.proofs.Common.{◌≡◌, inl, inr, ℕ, ◌+◌, ◌-◌, ◌*◌, ◌<◌, ◌≤◌, Bool, true, false, ◌&&◌, List, [], ◌++◌, length, refl, sym, ap, ◌∙◌, subst, arith, get_or, drop, ℤ, pos, nat_lt, nat_eq, nat_le, lt-ltb, eq-eqb}
+use Rattle.std.proofs.Common.{◌≡◌, inl, inr, ℕ, ◌+◌, ◌-◌, ◌*◌, ◌<◌, ◌≤◌, Bool, true, false, ◌&&◌, List, [], ◌++◌, length, refl, sym, ap, ◌∙◌, subst}
+use Rattle.std.proofs.Common.{arith, get_or, drop, ℤ, pos, nat_lt, nat_eq, nat_le, lt-ltb, eq-eqb}
 use Rattle.std.proofs.lemmas.Bool.{cases_lt, ltb-true, eqb-true, cond-true, cond-false, le-leb, lt-leb}
 use Rattle.std.proofs.lemmas.List.{get_or-append-add, get_or_append_left, get_or-drop, length-append, length-drop}
 use Rattle.std.proofs.Math.ListN.{get_or-eq_default}
@@ -10,7 +11,7 @@ use Rattle.fv_signal.specs.Value.{Graph, value}
 use Rattle.fv_signal.proofs.Solutions.{values_look_back}
 use Rattle.fv_graph.proofs.Counts.{both_true}
 use Rattle.fv_loopcode.specs.Code.{frame_of}
-use Rattle.fv_loopcode.specs.Obeys.{Content, ObeysAt, window, nothing, Obeys, HoldsJust}
+use Rattle.fv_loopcode.specs.Obeys.{Content, ObeysAt, window, HoldsJust}
 use Rattle.fv_loopcode.specs.Lanes.{Lane, lane_of, sample_at}
 use Rattle.fv_loopcode.specs.Blocks.{before}
 use Rattle.fv_loopcode.proofs.Streams.{streams_obey}
@@ -19,13 +20,15 @@ use Rattle.fv_plan.specs.View.{PlanView, code_of, roles_of, lane_info}
 use Rattle.fv_plan.specs.Plans.{PlanStands}
 use Rattle.fv_turns.specs.Block.{Block, ObeysBlock, HoldUpTo, none_done}
 use Rattle.fv_engine.specs.Plans.{NamesThere, held_by, block_from}
-use Rattle.fv_engine.specs.Stands.{rows, AreGiven}
+use Rattle.fv_engine.specs.Stands.{EngineView, StandsFor, AreBegun, rows, AreGiven}
 use Rattle.fv_engine.specs.Past.{past}
 
 -- a number of a frame behind others
-pub row_at : (X : List Frame) (channels n : ℕ) (input : List ℤ) (i t : ℕ) → i < channels → t < n → column (X ++ rows channels n input) i (length X + t) ≡ argument input (t * channels + i)
+row_at : (X : List Frame) (channels n : ℕ) (input : List ℤ) (i t : ℕ) → i < channels → t < n
+    → column (X ++ rows channels n input) i (length X + t) ≡ argument input (t * channels + i)
 row_at X channels n input i t l m =
-    ap (λ (f : Frame). get_or f i (pos 0)) (get_or-append-add X (rows channels n input) t [] ∙ get_or_table n (λ t. table channels (λ i. argument input (t * channels + i))) t [] m)
+    let row = get_or_table n (λ t. table channels (λ i. argument input (t * channels + i))) t [] m in
+    ap (λ (f : Frame). get_or f i (pos 0)) (get_or-append-add X (rows channels n input) t [] ∙ row)
     ∙ get_or_table channels (λ i. argument input (t * channels + i)) i (pos 0) l
 
 before_same : (X Y : List Frame) (i u : ℕ) → u < length X → column X i u ≡ column (X ++ Y) i u
@@ -37,45 +40,90 @@ both_of false b p q = p
 
 -- looking back h samples from t + h
 back_here : (x : Stream) (T h t : ℕ) → back x (T + (h + t)) (pos h) ≡ x (T + t)
-back_here x T h t = cond-true (nat_le h (T + (h + t))) (x (T + (h + t) - h)) (pos 0) (le-leb h (T + (h + t)) (omega arith)) ∙ ap x (let z : T + (h + t) - h ≡ T + t = omega arith in z)
+back_here x T h t =
+    let z : T + (h + t) - h ≡ T + t = omega arith in
+    cond-true (nat_le h (T + (h + t))) (x (T + (h + t) - h)) (pos 0) (le-leb h (T + (h + t)) (omega arith)) ∙ ap x z
 
 -- looking back far enough meets only what was before
 pub back_past : (x y : Stream) (T h k : ℕ) → k < h → ((u : ℕ) → u < T → x u ≡ y u) → back x (T + k) (pos h) ≡ back y (T + k) (pos h)
 back_past x y T h k l e = elim (cases_lt (T + k) h) [
-  | inl m ↦ cond-false (nat_le h (T + k)) (x (T + k - h)) (pos 0) (lt-leb h (T + k) m) ∙ sym (cond-false (nat_le h (T + k)) (y (T + k - h)) (pos 0) (lt-leb h (T + k) m))
-  | inr m ↦ cond-true (nat_le h (T + k)) (x (T + k - h)) (pos 0) (le-leb h (T + k) m) ∙ e (T + k - h) (omega (arith, l, m)) ∙ sym (cond-true (nat_le h (T + k)) (y (T + k - h)) (pos 0) (le-leb h (T + k) m))
+  | inl m ↦
+      let early = λ (z : Stream). cond-false (nat_le h (T + k)) (z (T + k - h)) (pos 0) (lt-leb h (T + k) m) in early x ∙ sym (early y)
+  | inr m ↦
+      let late = λ (z : Stream). cond-true (nat_le h (T + k)) (z (T + k - h)) (pos 0) (le-leb h (T + k) m) in
+      late x ∙ e (T + k - h) (omega (arith, l, m)) ∙ sym (late y)
 ]
 
-module _ (g : Graph) (p : PlanView) (s : PlanStands g p) (X : List Frame) (c : ℕ → Stream) (vector n channels : ℕ) (controls input : List ℤ)
-    (names : NamesThere p channels (length controls)) (given : AreGiven controls c (length X) n) where
+-- a block of an engine's plan
+abbrev pub block_in : EngineView → (frames : ℕ) → (controls input : List ℤ) → Block
+block_in e n controls input = block_from e.plan e.vector n e.channels (held_by e.plan controls) input
+
+-- what is heard of n more frames behind X
+abbrev pub heard : EngineView → List Frame → (frames : ℕ) → List ℤ → List Frame
+heard e X n input = X ++ rows e.channels n input
+
+-- a block under these controls may go on behind the frames X of a graph
+pub record GoesBehind (e : EngineView) (n : ℕ) (controls : List ℤ) (g : Graph) (X : List Frame) (c : ℕ → Stream) : Type 0 where
+  pub plan : PlanStands g e.plan
+  pub names : NamesThere e.plan e.channels (length controls)
+  pub given : AreGiven controls c (length X) n
+
+module _ {e : EngineView} {n : ℕ} {controls : List ℤ} {g : Graph} {X : List Frame} {c : ℕ → Stream} (h : GoesBehind e n controls g X c) (input : List ℤ) where
+  abbrev p : PlanView
+  p = e.plan
+
+  abbrev s : PlanStands g p
+  s = h.plan
+
   abbrev all : List Frame
-  all = X ++ rows channels n input
+  all = heard e X n input
 
   abbrev v : ℕ → Stream
   v l u = value g (s.names.lane l) all c u
 
+  -- the values of the lanes' signals
+  abbrev pub content : Content
+  content = window s.names.history v (length X)
+
   abbrev f : Content
-  f = window s.names.history v (length X)
+  f = content
 
   abbrev b : Block
-  b = block_from p vector n channels (held_by p controls) input
+  b = block_in e n controls input
 
-  held_is : (k m : ℕ) → k < length p.held → m < n → value g (s.names.held k) all c (length X + m) ≡ argument b.held k
-  held_is k m l h =
-      sym (ap (λ (xs : List ℤ). argument xs k) (s.held all c (length X + m) (argument controls) (λ k named. sym (given k m (names.knobs k named) h)))
-      ∙ get_or_table (length p.held) (λ k. value g (s.names.held k) all c (length X + m)) k (pos 0) l)
+  -- the values of the held values' signals at frame m, the input's numbers among all that is heard, and in the block
+  abbrev held : (m : ℕ) → ℕ → ℤ
+  held m k = value g (s.names.held k) all c (length X + m)
 
-  obeys_there : (j m : ℕ) → j < p.loops → m < n → ObeysAt (roles_of p j) f (argument b.held) (frame_of input channels m) m (code_of p j)
-  obeys_there j m l h =
-      named_alone_count (roles_of p j) f (λ k. value g (s.names.held k) all c (length X + m)) (argument b.held) (λ i. column all i (length X + m)) (frame_of input channels m) m (code_of p j)
-      (λ k named. held_is k m (names.held j k named) h)
-      (λ i named. row_at X channels n input i m (names.inputs j i named) h)
-      (streams_obey (roles_of p j) s.names.history v (λ k. value g (s.names.held k) all c (length X + m)) (λ i. column all i (length X + m)) (length X) m (code_of p j) (s.obeys j l all c (length X + m)))
+  abbrev row : (m : ℕ) → ℕ → ℤ
+  row m k = column all k (length X + m)
+
+  abbrev frame : (m : ℕ) → ℕ → ℤ
+  frame m = frame_of input e.channels m
+
+  held_is : (k m : ℕ) → k < length p.held → m < n → held m k ≡ argument b.held k
+  held_is k m l i =
+      let numbers = s.held all c (length X + m) (argument controls) (λ k named. sym (h.given k m (h.names.knobs k named) i)) in
+      sym (ap (λ (xs : List ℤ). argument xs k) numbers ∙ get_or_table (length p.held) (held m) k (pos 0) l)
+
+  obeys_there : (j m : ℕ) → j < p.loops → m < n → ObeysAt (roles_of p j) f (argument b.held) (frame m) m (code_of p j)
+  obeys_there j m l i =
+      let roles = roles_of p j in
+      named_alone_count roles f (held m) (argument b.held) (row m) (frame m) m (code_of p j)
+      (λ k named. held_is k m (h.names.held j k named) i)
+      (λ k named. row_at X e.channels n input k m (h.names.inputs j k named) i)
+      (streams_obey roles s.names.history v (held m) (row m) (length X) m (code_of p j) (s.obeys j l all c (length X + m)))
+
+  -- a lane of a loop's roles is there, and so is the loop
+  fits : (j l : ℕ) → (roles_of p j).own l ≡ true → (l < length p.lanes) × (j < p.loops)
+  fits j l o =
+      let q = both_true (nat_lt l (length p.lanes)) (nat_eq (lane_info p l).owner j) o in let i = ltb-true l (length p.lanes) q.0 in
+      (i, (let w = s.loops.owners l i in let e = eqb-true (lane_info p l).owner j q.1 in omega (arith, w, e)))
 
   -- a loop that is not there has no code and no lanes
-  obeys_none : (j m : ℕ) → p.loops ≤ j → ObeysAt (roles_of p j) f (argument b.held) (frame_of input channels m) m (code_of p j)
-  obeys_none j m l = subst (λ steps. Obeys (roles_of p j) f.history (λ lane back. f.numbers lane (f.history lane + m - back)) (argument b.held) (frame_of input channels m) nothing [] steps) (sym (no_code))
-      (λ lane o. absurd (let q = both_true (nat_lt lane (length p.lanes)) (nat_eq (lane_info p lane).owner j) o in let w = s.loops.owners lane (ltb-true lane (length p.lanes) q.0) in let e = eqb-true (lane_info p lane).owner j q.1 in omega (arith, w, e, l)))
+  obeys_none : (j m : ℕ) → p.loops ≤ j → ObeysAt (roles_of p j) f (argument b.held) (frame m) m (code_of p j)
+  obeys_none j m l = subst (λ steps. ObeysAt (roles_of p j) f (argument b.held) (frame m) m steps) (sym no_code)
+      (λ lane o. absurd (let q = fits j lane o in omega (arith, q.1, l)))
     where
       no_code : code_of p j ≡ []
       no_code = get_or-eq_default p.codes [] (omega (arith, s.codes, l))
@@ -89,58 +137,73 @@ module _ (g : Graph) (p : PlanView) (s : PlanStands g p) (X : List Frame) (c : �
 
   -- before the block the values are those that they were without its frames
   pub value_before : (lane u : ℕ) → u < length X → value g (s.names.lane lane) X c u ≡ v lane u
-  value_before lane u l = values_look_back g X all c c (length X) (λ i u m. before_same X (rows channels n input) i u m) (λ k u m. refl) (s.names.lane lane) u l
-
-  fits : (j l : ℕ) → (roles_of p j).own l ≡ true → (l < length p.lanes) × (j < p.loops)
-  fits j l o =
-      let q = both_true (nat_lt l (length p.lanes)) (nat_eq (lane_info p l).owner j) o in let i = ltb-true l (length p.lanes) q.0 in
-      (i, (let w = s.loops.owners l i in let e = eqb-true (lane_info p l).owner j q.1 in omega (arith, w, e)))
+  value_before lane u l =
+      values_look_back g X all c c (length X) (λ i u m. before_same X (rows e.channels n input) i u m) (λ k u m. refl) (s.names.lane lane) u l
 
   -- what the lanes hold as the block begins are the last values before it
-  module _ (first : List Lane) (count : length first ≡ length p.lanes) (histories : (l : ℕ) → l < length p.lanes → (lane_of first l).history ≡ (lane_info p l).history)
-      (items : (l : ℕ) → l < length p.lanes → (lane_of first l).items ≡ past (lane_info p l).history (value g (s.names.lane l) X c) (length X)) (room : (l : ℕ) → l < length p.lanes → n ≤ (lane_of first l).room) where
+  module _ {first : List Lane} (begun : AreBegun e n first) (stands : StandsFor e g s.names X c) where
+    -- what a lane's signal was
+    abbrev was : ℕ → Stream
+    was l = value g (s.names.lane l) X c
+
+    items : (l : ℕ) → l < length p.lanes → (lane_of first l).items ≡ past (lane_info p l).history (was l) (length X)
+    items l i = begun.items l i ∙ stands.histories l i
+
     number : (l k : ℕ) → l < length p.lanes → k < (lane_info p l).history → argument (lane_of first l).items k ≡ f.numbers l k
     number l k i m =
-        let h = (lane_info p l).history in
-        ap (λ (xs : List ℤ). argument xs k) (items l i) ∙ get_or_table h (λ k. back (value g (s.names.lane l) X c) (length X + k) (pos h)) k (pos 0) m
-        ∙ back_past (value g (s.names.lane l) X c) (v l) (length X) h k m (value_before l) ∙ ap (λ (x : ℕ). back (v l) (length X + k) (pos x)) (sym (s.histories l i))
+        let hist = (lane_info p l).history in
+        ap (λ (xs : List ℤ). argument xs k) (items l i) ∙ get_or_table hist (λ k. back (was l) (length X + k) (pos hist)) k (pos 0) m
+        ∙ back_past (was l) (v l) (length X) hist k m (value_before l) ∙ ap (λ (x : ℕ). back (v l) (length X + k) (pos x)) (sym (s.histories l i))
 
-    begun_just : (l : ℕ) → l < length p.lanes → HoldsJust f l (before vector n 0) (n - before vector n 0) (lane_of first l)
+    begun_just : (l : ℕ) → l < length p.lanes → HoldsJust f l (before e.vector n 0) (n - before e.vector n 0) (lane_of first l)
     begun_just l i =
-        let long : length (lane_of first l).items ≡ (lane_info p l).history = ap length (items l i) ∙ length_table (lane_info p l).history (λ k. back (value g (s.names.lane l) X c) (length X + k) (pos (lane_info p l).history)) in
+        let hist = (lane_info p l).history in
+        let long : length (lane_of first l).items ≡ hist = ap length (items l i) ∙ length_table hist (λ k. back (was l) (length X + k) (pos hist)) in
         record {
-          holds = record { history = histories l i ∙ sym (s.histories l i); long = omega (arith, long, s.histories l i); same = λ k m. number l k i (omega (arith, m, long)) };
+          holds = record {
+            history = begun.histories l i ∙ sym (s.histories l i);
+            long = omega (arith, long, s.histories l i);
+            same = λ k m. number l k i (omega (arith, m, long));
+          };
           just = omega (arith, long, s.histories l i);
-          room = omega (arith, room l i);
+          room = omega (arith, begun.room l i);
         }
 
     pub begins : HoldUpTo b f none_done first
     begins = record { holds = λ j l o. begun_just l (fits j l o).0 }
 
   -- what they hold as it ends are its values
-  module _ (now : List Lane) (vectors : ℕ → ℕ) (full : (j : ℕ) → j < p.loops → n ≤ vectors j * vector) (h : HoldUpTo b f vectors now) where
+  module _ {now : List Lane} {vectors : ℕ → ℕ} (full : (j : ℕ) → j < p.loops → n ≤ vectors j * e.vector) (holds : HoldUpTo b f vectors now) where
     ended : (l : ℕ) → l < length p.lanes → HoldsJust f l n 0 (lane_of now l)
     ended l i =
         let j = (lane_info p l).owner in
-        let q = h.holds j l (both_of (nat_lt l (length p.lanes)) (nat_eq j j) (lt-ltb l (length p.lanes) i) (eq-eqb j j refl)) in
-        let e : before vector n (vectors j) ≡ n = let z = full j (s.loops.owners l i) in omega (arith, z) in
-        let k = subst (λ x. HoldsJust f l x (n - x) (lane_of now l)) e q in record { holds = k.holds; just = k.just; room = omega arith }
+        let q = holds.holds j l (both_of (nat_lt l (length p.lanes)) (nat_eq j j) (lt-ltb l (length p.lanes) i) (eq-eqb j j refl)) in
+        let end : before e.vector n (vectors j) ≡ n = let z = full j (s.loops.owners l i) in omega (arith, z) in
+        let k = subst (λ x. HoldsJust f l x (n - x) (lane_of now l)) end q in record { holds = k.holds; just = k.just; room = omega arith }
 
     pub sample_is : (l t : ℕ) → l < length p.lanes → t < n → sample_at (lane_of now l) t 0 ≡ value g (s.names.lane l) all c (length X + t)
     sample_is l t i m =
         let k = ended l i in let a = k.holds.history in
-        k.holds.same ((lane_of now l).history + t - 0) (omega (arith, k.just, a, m))
-        ∙ ap (f.numbers l) (let z : (lane_of now l).history + t - 0 ≡ s.names.history l + t = omega (arith, a) in z)
+        let z : (lane_of now l).history + t - 0 ≡ s.names.history l + t = omega (arith, a) in
+        k.holds.same ((lane_of now l).history + t - 0) (omega (arith, k.just, a, m)) ∙ ap (f.numbers l) z
         ∙ back_here (v l) (length X) (s.names.history l) t
 
     pub next_past : (l : ℕ) → l < length p.lanes → drop n (lane_of now l).items ≡ past (lane_info p l).history (value g (s.names.lane l) all c) (length all)
     next_past l i =
-        let k = ended l i in let hist = (lane_info p l).history in let items = (lane_of now l).items in
-        let long : length (drop n items) ≡ hist = length-drop n items ∙ (let z : length items - n ≡ hist = omega (arith, k.just, s.histories l i) in z) in
-        sym (table_items (drop n items) (pos 0)) ∙ ap (λ m. table m (λ u. get_or (drop n items) u (pos 0))) long
-        ∙ table_same hist (λ u. get_or (drop n items) u (pos 0)) (λ u. back (v l) (length all + u) (pos hist))
-        (λ u m. get_or-drop n items u (pos 0) ∙ k.holds.same (n + u) (omega (arith, k.just, s.histories l i, m))
-        ∙ ap (λ x. back (v l) x (pos (s.names.history l))) (let z : length X + (n + u) ≡ length all + u = omega (arith, all_long) in z) ∙ ap (λ (y : ℕ). back (v l) (length all + u) (pos y)) (s.histories l i))
+        let k = ended l i in let hist = (lane_info p l).history in let items = (lane_of now l).items in let left = drop n items in
+        let z : length items - n ≡ hist = omega (arith, k.just, s.histories l i) in
+        let long : length left ≡ hist = length-drop n items ∙ z in
+        sym (table_items left (pos 0)) ∙ ap (λ m. table m (λ u. get_or left u (pos 0))) long
+        ∙ table_same hist (λ u. get_or left u (pos 0)) (λ u. back (v l) (length all + u) (pos hist)) (number_left l i)
       where
         all_long : length all ≡ length X + n
-        all_long = length-append X (rows channels n input) ∙ ap (λ m. length X + m) (length_table n (λ t. table channels (λ i. argument input (t * channels + i))))
+        all_long =
+            length-append X (rows e.channels n input)
+            ∙ ap (λ m. length X + m) (length_table n (λ t. table e.channels (λ i. argument input (t * e.channels + i))))
+
+        number_left : (l : ℕ) → l < length p.lanes → (u : ℕ) → u < (lane_info p l).history
+            → get_or (drop n (lane_of now l).items) u (pos 0) ≡ back (v l) (length all + u) (pos (lane_info p l).history)
+        number_left l i u m =
+            let k = ended l i in let z : length X + (n + u) ≡ length all + u = omega (arith, all_long) in
+            get_or-drop n (lane_of now l).items u (pos 0) ∙ k.holds.same (n + u) (omega (arith, k.just, s.histories l i, m))
+            ∙ ap (λ x. back (v l) x (pos (s.names.history l))) z ∙ ap (λ (y : ℕ). back (v l) (length all + u) (pos y)) (s.histories l i)

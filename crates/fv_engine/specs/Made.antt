@@ -42,7 +42,8 @@ pub record AreLanes (p : PlanView) (block : ℕ) (lanes : Lanes) : Type 0 where
   pub lists : AreLists (lengths_of lanes.layout) lanes.shapes.items lanes.states.items lanes.written.items (cells_of lanes.region)
   pub held_there : AreHeld (lengths_of lanes.layout) lanes.shapes.items lanes.states.items
   pub blank : (l : ℕ) → l < length p.lanes → (v : Stream) →
-      take (lane_info p l).history (from_start (start_at lanes.states.items l) (part (lengths_of lanes.layout) l (cells_of lanes.region))) ≡ past (lane_info p l).history v 0
+      take (lane_info p l).history (from_start (start_at lanes.states.items l) (part (lengths_of lanes.layout) l (cells_of lanes.region)))
+      ≡ past (lane_info p l).history v 0
 
 -- what runs the tasks of a plan, for so many vectors
 pub record IsMachine (p : PlanView) (most : ℕ) (m : Machine) : Type 0 where

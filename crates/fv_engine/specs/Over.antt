@@ -17,4 +17,5 @@ pub record Ran (g : Tasks) (b : Block) (lengths : List ℕ) (shapes : List LaneS
   pub lanes : List Lane
   pub ends : EndsBlock g b first lanes lines
   pub next : (i : ℕ) → i < length lengths → held_at lengths states (history_at shapes i) i cells ≡ drop b.frames (lane_of lanes i).items
-  pub samples : (t j : ℕ) → t < b.frames → j < length outputs → slice_index_or output (t * length outputs + j) (pos 0) ≡ sample_of lanes t (slice_index_or outputs j 0)
+  pub samples : (t j : ℕ) → t < b.frames → j < length outputs
+      → slice_index_or output (t * length outputs + j) (pos 0) ≡ sample_of lanes t (slice_index_or outputs j 0)

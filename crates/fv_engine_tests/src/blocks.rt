@@ -2,14 +2,14 @@
 
 ghost use Rattle.std.specs.Prelude.{◌≡◌, ◌<◌, ◌≤◌, length};
 ghost use Rattle.fv_turns.specs.Block.{vectors_of};
+ghost use Rattle.fv_engine_tests.specs.Runs.{IsSquare};
 
-use crate::counter::Counter;
 use crate::engines::{Sizes, engine_of, play, play_graph};
-use crate::graphs::{by_a_control, difference, echo_left, late};
-use crate::told::block_of;
-use fv_engine::NoMemory;
-use fv_outside::{FreeGate, Line, Reads, Recorder, Task};
+use fv_engine::{Engine, NoMemory};
+use fv_hand_graphs::{by_a_control, delayed, difference, echo_left};
+use fv_outside::{FreeGate, Gate, Line, Reads, Recorder, Task};
 use fv_signal::Graph;
+use fv_test_gates::{Counter, block_of};
 use std::alloc::Global;
 use std::marker::Sync;
 use std::process::Abort;
@@ -29,30 +29,31 @@ fn line(loop_no: u64, start: u64) -> Line
     }
 }
 
-// One block, of which the recorder has just the room: two loops, the second reads the first, and the first has finished before the
-// second starts.
-#[test]
-fn one_block_is_told(rt: HostRuntime) -> Result<(), Fail> {
-    let graph = difference(rt.alloc())?;
+// Three frames less the frame before each, in one block, and how many tasks were reported.
+fn play_difference<R: Abort + Threads + Wait + Sync, G: Gate + Sync>(
+    rt: &R,
+    alloc: Global,
+    gate: &mut G,
+) -> Result<(u64, [i32; 3]), NoMemory> {
+    let graph = difference(alloc)?;
     let sizes = Sizes {
         width: 1,
         block: 512,
         vector: 32,
     };
-    let mut recorder = Recorder::new(rt.alloc(), 1, 2)?;
-    let mut output = [0; 3];
     let input = [5, 7, 4];
-    let tasks = play_graph(
-        &rt,
-        rt.alloc(),
-        &graph,
-        sizes,
-        3,
-        &input,
-        &mut output,
-        &mut recorder,
-    )?;
-    assert_eq!(rt; (tasks, output), (2, [5, 2, -3]));
+    let mut output = [0; 3];
+    let tasks = play_graph(rt, alloc, &graph, sizes, 3, &input, &mut output, gate)?;
+    Ok((tasks, output))
+}
+
+// One block, of which the recorder has just the room: two loops, the second reads the first, and the first has finished before the
+// second starts.
+#[test]
+fn one_block_is_told(rt: HostRuntime) -> Result<(), Fail> {
+    let mut recorder = Recorder::new(rt.alloc(), 1, 2)?;
+    let played = play_difference(&rt, rt.alloc(), &mut recorder)?;
+    assert_eq!(rt; played, (2, [5, 2, -3]));
     assert_eq!(rt; recorder.calls(), Some(1));
     let read = Reads {
         reader: 1,
@@ -70,81 +71,63 @@ fn one_block_is_told(rt: HostRuntime) -> Result<(), Fail> {
 // A recorder without room for the second line tells nothing then.
 #[test]
 fn a_block_without_room(rt: HostRuntime) -> Result<(), Fail> {
-    let graph = difference(rt.alloc())?;
-    let sizes = Sizes {
-        width: 1,
-        block: 512,
-        vector: 32,
-    };
     let mut recorder = Recorder::new(rt.alloc(), 1, 1)?;
-    let mut output = [0; 3];
-    let input = [5, 7, 4];
-    play_graph(
-        &rt,
-        rt.alloc(),
-        &graph,
-        sizes,
-        3,
-        &input,
-        &mut output,
-        &mut recorder,
-    )?;
+    let (_, output) = play_difference(&rt, rt.alloc(), &mut recorder)?;
     assert_eq!(rt; output, [5, 2, -3]);
     assert_eq!(rt; recorder.calls(), None);
     Ok(())
+}
+
+// How many frames a block has under a control that changes.
+const SMALL: Sizes = Sizes {
+    width: 1,
+    block: 4,
+    vector: 4,
+};
+
+// Plays fives under this control, one or two frames of them.
+fn play_fives<R: Threads + Wait + Sync>(
+    rt: &R,
+    alloc: Global,
+    engine: &mut Engine,
+    control: i32,
+    output: &mut [i32],
+    recorder: &mut Recorder,
+)
+    requires engine { IsSquare engine.old 1 4 1 }
+    requires output { length output.old ≤ 2 }
+    ensures { IsSquare engine.new 1 4 1 }
+{
+    let input = [5, 5];
+    let frames = output.len();
+    play(
+        rt,
+        alloc,
+        engine,
+        SMALL,
+        &[control],
+        frames as u32,
+        &input[..frames],
+        output,
+        recorder,
+    );
 }
 
 // The control is 1, from the third frame on 3, and from the fourth 0: three blocks are told, of one vector each.
 #[test]
 fn a_control_that_changes(rt: HostRuntime) -> Result<(), Fail> {
     let graph = by_a_control(rt.alloc())?;
-    let sizes = Sizes {
-        width: 1,
-        block: 4,
-        vector: 4,
-    };
-    let Some(mut engine) = engine_of(rt.alloc(), &graph, sizes, 1)? else {
+    let Some(mut engine) = engine_of(rt.alloc(), &graph, SMALL, 1)? else {
         panic!(rt; "no engine");
     };
     let mut recorder = Recorder::new(rt.alloc(), 3, 3)?;
-    let input = [5, 5];
     let mut output = [0; 2];
     let mut one = [0; 1];
-    play(
-        &rt,
-        rt.alloc(),
-        &mut engine,
-        sizes,
-        &[1],
-        2,
-        &input,
-        &mut output,
-        &mut recorder,
-    );
+    play_fives(&rt, rt.alloc(), &mut engine, 1, &mut output, &mut recorder);
     assert_eq!(rt; output, [5, 5]);
-    play(
-        &rt,
-        rt.alloc(),
-        &mut engine,
-        sizes,
-        &[3],
-        1,
-        &[5],
-        &mut one,
-        &mut recorder,
-    );
+    play_fives(&rt, rt.alloc(), &mut engine, 3, &mut one, &mut recorder);
     assert_eq!(rt; one, [15]);
-    play(
-        &rt,
-        rt.alloc(),
-        &mut engine,
-        sizes,
-        &[0],
-        2,
-        &input,
-        &mut output,
-        &mut recorder,
-    );
+    play_fives(&rt, rt.alloc(), &mut engine, 0, &mut output, &mut recorder);
     assert_eq!(rt; output, [0, 0]);
     assert_eq!(rt; recorder.calls(), Some(3));
     assert_one_line(&rt, &recorder, 0);
@@ -165,7 +148,7 @@ fn assert_one_line(rt: &impl Abort, recorder: &Recorder, block: u32) {
 // A history longer than a block, over three blocks of two frames at most.
 #[test]
 fn a_delay_over_blocks(rt: HostRuntime) -> Result<(), Fail> {
-    let graph = late(rt.alloc(), 3)?;
+    let graph = delayed(rt.alloc(), 3)?;
     let sizes = Sizes {
         width: 1,
         block: 2,
@@ -192,7 +175,7 @@ fn a_delay_over_blocks(rt: HostRuntime) -> Result<(), Fail> {
 // A ring: a history of 20 samples over blocks of 3 frames, each one vector, and over blocks of one frame.
 #[test]
 fn a_ring_over_blocks(rt: HostRuntime) -> Result<(), Fail> {
-    let graph = late(rt.alloc(), 20)?;
+    let graph = delayed(rt.alloc(), 20)?;
     assert_ring(&rt, rt.alloc(), &graph, 1)?;
     assert_ring(&rt, rt.alloc(), &graph, 3)?;
     Ok(())
@@ -239,15 +222,9 @@ fn assert_ring<R: Abort + Threads + Wait + Sync>(
 #[test]
 fn echoes_by_each_size(rt: HostRuntime) -> Result<(), Fail> {
     let graph = echo_left(rt.alloc())?;
-    let mut input = Vec::from_elem(rt.alloc(), 0, 44102)?;
-    let mut output = Vec::from_elem(rt.alloc(), -1, 44102)?;
-    assert_echoes(&rt, rt.alloc(), &graph, 1, 1, &mut input, &mut output)?;
-    let mut input = Vec::from_elem(rt.alloc(), 0, 44102)?;
-    let mut output = Vec::from_elem(rt.alloc(), -1, 44102)?;
-    assert_echoes(&rt, rt.alloc(), &graph, 7, 7, &mut input, &mut output)?;
-    let mut input = Vec::from_elem(rt.alloc(), 0, 44102)?;
-    let mut output = Vec::from_elem(rt.alloc(), -1, 44102)?;
-    assert_echoes(&rt, rt.alloc(), &graph, 512, 32, &mut input, &mut output)?;
+    assert_echoes(&rt, rt.alloc(), &graph, 1, 1)?;
+    assert_echoes(&rt, rt.alloc(), &graph, 7, 7)?;
+    assert_echoes(&rt, rt.alloc(), &graph, 512, 32)?;
     Ok(())
 }
 
@@ -258,23 +235,30 @@ fn assert_echoes<R: Abort + Threads + Wait + Sync>(
     graph: &Graph,
     block: u32,
     vector: u32,
-    input: &mut [i32],
-    output: &mut [i32],
 ) -> Result<(), NoMemory>
     requires block { (1 ≤ block) × (block ≤ 4096) }
     requires vector { (1 ≤ vector) × (vectors_of block vector ≤ 64) }
-    requires input { length input.old ≡ 44102 }
-    requires output { length output.old ≡ 44102 }
 {
     let sizes = Sizes {
         width: 2,
         block,
         vector,
     };
+    let mut input = Vec::from_elem(alloc, 0, 44102)?;
+    let mut output = Vec::from_elem(alloc, -1, 44102)?;
     input[0] = 1000;
     input[1] = -7;
     let mut counter = Counter::new();
-    let tasks = play_graph(rt, alloc, graph, sizes, 22051, input, output, &mut counter)?;
+    let tasks = play_graph(
+        rt,
+        alloc,
+        graph,
+        sizes,
+        22051,
+        &input,
+        &mut output,
+        &mut counter,
+    )?;
     for t in 0..22051 {
         let wanted = match t {
             0 => (1000, -7),
@@ -296,39 +280,10 @@ fn assert_echoes<R: Abort + Threads + Wait + Sync>(
 // Where an allocation is refused there is an error, and the next try makes an engine that plays.
 #[test]
 fn an_engine_after_want_of_memory(rt: HostRuntime) -> Result<(), Fail> {
-    let graph = match difference(rt.alloc()) {
-        Ok(graph) => graph,
-        Err(_) => difference(rt.alloc())?,
+    let (_, output) = match play_difference(&rt, rt.alloc(), &mut FreeGate) {
+        Ok(played) => played,
+        Err(_) => play_difference(&rt, rt.alloc(), &mut FreeGate)?,
     };
-    let sizes = Sizes {
-        width: 1,
-        block: 512,
-        vector: 32,
-    };
-    let input = [5, 7, 4];
-    let mut output = [0; 3];
-    let tried = play_graph(
-        &rt,
-        rt.alloc(),
-        &graph,
-        sizes,
-        3,
-        &input,
-        &mut output,
-        &mut FreeGate,
-    );
-    if tried.is_err() {
-        play_graph(
-            &rt,
-            rt.alloc(),
-            &graph,
-            sizes,
-            3,
-            &input,
-            &mut output,
-            &mut FreeGate,
-        )?;
-    }
     assert_eq!(rt; output, [5, 2, -3]);
     Ok(())
 }

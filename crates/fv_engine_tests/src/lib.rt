@@ -4,12 +4,6 @@
 #[cfg(test)]
 mod blocks;
 #[cfg(test)]
-mod counter;
-#[cfg(test)]
 mod engines;
 #[cfg(test)]
-mod graphs;
-#[cfg(test)]
 mod may;
-#[cfg(test)]
-mod told;

@@ -29,6 +29,7 @@ returns c =
         edges = let r = ap (λ (x : Running). x.room_edges) c.in_ok-core.ensures.core in let k = ap edges_of same in omega (arith, k, r);
       };
       registers = λ j l. let q = c.most_steps.ensures j l in omega (arith, q, c.in_ok-regs.ensures.len, c.in_ok-regs.regs.ok.0);
-      held_long = let q = ap (λ (steps : List Step). length steps) c.held.ensures in omega (arith, q, c.len.ensures, c.in_ok-held.ensures.len, c.in_ok-held.held.ok.0);
+      held_long = let q = ap (λ (steps : List Step). length steps) c.held.ensures in
+          omega (arith, q, c.len.ensures, c.in_ok-held.ensures.len, c.in_ok-held.held.ok.0);
       room = omega (arith, many, c.len-2.ensures.value, c.in_ok-lines.ensures.exact);
     }

@@ -9,5 +9,6 @@ pub loop-i-preserved : goal.loop-i-preserved
 loop-i-preserved c =
     let p = c.args.plan.now in let i = c.loop-i.i in let none : LaneInfo = record { owner = 0; history = 0 } in
     let lane = get_or_default c.lanes-lanes.result.now i _ none c.loop-i-test.true ∙ ap (λ (xs : List LaneInfo). get_or xs i none) c.lanes-lanes.ensures in
+    let history = c.new.ensures.0 ∙ ap (λ (x : LaneInfo). x.history) lane in
     subst (λ (xs : List LaneShape). ShapesSoFar p c.args.block (i + 1) xs) (sym c.in_ok-push.ensures.items)
-    (more_shapes p c.args.block i c.loop-i.shapes.items c.new.result c.loop-i.invariant (c.new.ensures.0 ∙ ap (λ (x : LaneInfo). x.history) lane) c.new.ensures.1)
+    (more_shapes p c.args.block i c.loop-i.shapes.items c.new.result c.loop-i.invariant history c.new.ensures.1)

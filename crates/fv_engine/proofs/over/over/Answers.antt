@@ -1,46 +1,62 @@
 use Rattle.std.proofs.Common.{rules, ◌≡◌, ◌∙◌, ◌<◌, ℕ, List, length, ap, sym, subst, arith}
+use Rattle.fv_loopcode.specs.Lanes.{Lane}
 use Rattle.fv_pool.specs.Lengths.{lengths_of}
 use Rattle.fv_lines.specs.Solo.{SoloRest, opening_lanes, lanes_of, lengths_in, rest_of}
 use Rattle.fv_lines.specs.declared.solo.Solo.{Solo}
+use Rattle.fv_turns.specs.Block.{Block, IsReal}
 use Rattle.fv_turns.specs.Jobs.{block_of}
-use Rattle.fv_turns.proofs.Full.{lane_full, can_read}
-use Rattle.fv_engine.proofs.Runs.{opening_long, starts, are_full, holds_next, there_in}
+use Rattle.fv_turns.specs.Underway.{IsUnderway}
+use Rattle.fv_turns.proofs.Full.{IsDone, is_done, lane_full, can_read}
+use Rattle.fv_engine.proofs.Runs.{LiesOver, opening_long, starts, are_full, holds_next, there_in}
+use Rattle.fv_engine.proofs.over.over.Given.{Over}
+use Rattle.fv_engine.proofs.over.over.Goals.{After-begin-solo, After-run_tasks}
 use Rattle.fv_engine.proofs.over.over.Goals as goal
+
+-- the block, as its lanes open
+module _ (g : Over) (c : After-begin-solo g) where
+  abbrev b : Block
+  b = block_of g.P.Codes.parts c.args.job.now
+
+  abbrev first : List Lane
+  first = opening_lanes (lengths_of c.args.layout.now) c.args.shapes.now c.args.states.now c.args.job.now.frames c.args.cells.now
+
+  underway : IsUnderway c.args.tasks.now.tasks b first c.args.core.now.now (lanes_of c.begin-solo.result) c.args.lines.now.items
+  underway = starts (record {
+    long = opening_long (lengths_of c.args.layout.now) c.args.shapes.now c.args.states.now c.args.job.now.frames c.args.cells.now ∙ c.requires.count;
+    state = c.requires.opening;
+    lanes_are = c.begin-solo.ensures.lanes;
+    none = c.requires.lines;
+  })
+
+-- the block when its tasks are done
+module _ (g : Over) (c : After-run_tasks g) where
+  abbrev block : Block
+  block = block_of g.P.Codes.parts c.args.job.now
+
+  done : {first : List Lane} → IsReal block first
+      → IsUnderway c.args.tasks.now.tasks block first c.args.core.now.now (lanes_of c.begin-solo.result) c.args.lines.now.items
+      → IsDone c.args.tasks.now.tasks block first (lanes_of c.run_tasks.new.store) c.run_tasks.new.lines.items
+  done {first} real u = is_done c.requires.job real (c.run_tasks.ensures.ends first real u)
 
 pub run_tasks-requires-clause-underway : goal.run_tasks-requires-clause-underway
 run_tasks-requires-clause-underway g c =
-    let first = opening_lanes (lengths_of c.args.layout.now) c.args.shapes.now c.args.states.now c.args.job.now.frames c.args.cells.now in (
-      first,
-      c.requires.real,
-      starts c.args.tasks.now.tasks (block_of g.P.Codes.parts c.args.job.now) first c.args.core.now.now (lanes_of c.begin-solo.result) c.args.lines.now.items
-          (opening_long (lengths_of c.args.layout.now) c.args.shapes.now c.args.states.now c.args.job.now.frames c.args.cells.now ∙ c.requires.count) c.requires.opening c.begin-solo.ensures.lanes c.requires.lines,
-    )
+    let d = (goal.at.run_tasks-requires-clause-underway g c).After-begin-solo in (first g d, c.requires.real, underway g d)
 
 pub copy_outputs-requires-clause-there : goal.copy_outputs-requires-clause-there
 copy_outputs-requires-clause-there g c = λ t m.
-    let b = block_of g.P.Codes.parts c.args.job.now in
-    let first = opening_lanes (lengths_of c.args.layout.now) c.args.shapes.now c.args.states.now c.args.job.now.frames c.args.cells.now in
-    let begun = starts c.args.tasks.now.tasks b first c.args.core.now.now (lanes_of c.begin-solo.result) c.args.lines.now.items
-    (opening_long (lengths_of c.args.layout.now) c.args.shapes.now c.args.states.now c.args.job.now.frames c.args.cells.now ∙ c.requires.count) c.requires.opening c.begin-solo.ensures.lanes c.requires.lines in
-    can_read c.args.tasks.now.tasks b first (lanes_of c.run_tasks.new.store) c.run_tasks.new.lines.items c.requires.job c.requires.real (c.run_tasks.ensures.ends first c.requires.real begun) t (omega (arith, m, c.from.ensures)) c.args.outputs.now c.requires.there
+    let d = goal.at.copy_outputs-requires-clause-there g c in let block = done g d.After-run_tasks c.requires.real (underway g d.After-begin-solo) in
+    can_read block t (omega (arith, m, c.from.ensures)) c.args.outputs.now c.requires.there
 
 pub finish-requires-clause-full : goal.finish-requires-clause-full
 finish-requires-clause-full g c =
-    let b = block_of g.P.Codes.parts c.args.job.now in
-    let first = opening_lanes (lengths_of c.args.layout.now) c.args.shapes.now c.args.states.now c.args.job.now.frames c.args.cells.now in
-    let begun = starts c.args.tasks.now.tasks b first c.args.core.now.now (lanes_of c.begin-solo.result) c.args.lines.now.items
-    (opening_long (lengths_of c.args.layout.now) c.args.shapes.now c.args.states.now c.args.job.now.frames c.args.cells.now ∙ c.requires.count) c.requires.opening c.begin-solo.ensures.lanes c.requires.lines in
-    let ends = c.run_tasks.ensures.ends first c.requires.real begun in
+    let d = goal.at.finish-requires-clause-full g c in let block = done g d.After-run_tasks c.requires.real (underway g d.After-begin-solo) in
     let kept : rest_of c.run_tasks.new.store ≡ _ = c.run_tasks.ensures.kept ∙ c.begin-solo.ensures.kept in
     are_full c.run_tasks.new.store c.args.job.now.frames c.run_tasks.ensures.sound (ap (λ (r : SoloRest). r.frames) kept)
-    (λ i l. lane_full c.args.tasks.now.tasks b first (lanes_of c.run_tasks.new.store) c.run_tasks.new.lines.items c.requires.job c.requires.real ends i (let n = ends.long in omega (arith, l, n)))
+    (λ i l. lane_full block i (let n = block.ends.long in omega (arith, l, n)))
 
 pub returns-clause-ran : goal.returns-clause-ran
 returns-clause-ran g c =
-    let b = block_of g.P.Codes.parts c.args.job.now in
-    let first = opening_lanes (lengths_of c.args.layout.now) c.args.shapes.now c.args.states.now c.args.job.now.frames c.args.cells.now in
-    let begun = starts c.args.tasks.now.tasks b first c.args.core.now.now (lanes_of c.begin-solo.result) c.args.lines.now.items
-    (opening_long (lengths_of c.args.layout.now) c.args.shapes.now c.args.states.now c.args.job.now.frames c.args.cells.now ∙ c.requires.count) c.requires.opening c.begin-solo.ensures.lanes c.requires.lines in
+    let d = goal.at.returns-clause-ran g c in
     let s : Solo = c.run_tasks.new.store in
     let kept : rest_of s ≡ _ = c.run_tasks.ensures.kept ∙ c.begin-solo.ensures.kept in
     let as_lengths : lengths_in s ≡ lengths_of c.args.layout.now = ap (λ (r : SoloRest). r.lengths) kept in
@@ -48,9 +64,15 @@ returns-clause-ran g c =
     let cells = sym (ap (λ (r : SoloRest). r.cells) kept) in
     record {
       lanes = lanes_of s;
-      ends = c.run_tasks.ensures.ends first c.requires.real begun;
-      next = λ i l. holds_next s i (lengths_of c.args.layout.now) c.args.shapes.now c.args.job.now.frames _ c.finish.new.self.1.1.1.0 _
-          as_lengths (ap (λ (r : SoloRest). r.shapes) kept) (ap (λ (r : SoloRest). r.frames) kept)
-          (search (rules, states)) (search (rules, cells) ∙ c.finish.ensures.cells) (c.finish.ensures.held i (there_in s i (subst (λ (xs : List ℕ). i < length xs) (sym as_lengths) l)));
+      ends = (done g d.After-run_tasks c.requires.real (underway g d.After-begin-solo)).ends;
+      next = λ i l.
+          let over : LiesOver s (lengths_of c.args.layout.now) c.args.shapes.now c.args.job.now.frames _ c.finish.new.self.1.1.1.0 _ = record {
+            lengths_are = as_lengths;
+            shapes_are = ap (λ (r : SoloRest). r.shapes) kept;
+            frames_are = ap (λ (r : SoloRest). r.frames) kept;
+            states_are = search (rules, states);
+            cells_are = search (rules, cells) ∙ c.finish.ensures.cells;
+          } in
+          holds_next over i (c.finish.ensures.held i (there_in s i (subst (λ (xs : List ℕ). i < length xs) (sym as_lengths) l)));
       samples = λ t j m n. c.copy_outputs.ensures.samples t j (omega (arith, m, c.from.ensures)) n;
     }

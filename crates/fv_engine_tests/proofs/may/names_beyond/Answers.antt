@@ -1,4 +1,4 @@
-use Rattle.std.proofs.Common.{◌≡◌, ◌<◌, length, get_or, subst, arith, pos, below_more}
+use Rattle.std.proofs.Common.{◌≡◌, get_or, subst, arith, pos, below_more}
 use Rattle.std.proofs.lemmas.List.{get_or_read}
 use Rattle.fv_signal.specs.declared.signal.Signal.TheVariants.{Const}
 use Rattle.fv_analysis.specs.Stands.{node}
