@@ -1,5 +1,5 @@
 -- What a graph's outputs give is what the diagram answers, and samples are their frames, one after another.
-use Rattle.std.proofs.Common.{◌≡◌, ℕ, zero, suc, ◌+◌, ◌*◌, ◌≤◌, List, [], ◌∷◌, ◌++◌, length, take, get_or, All, ℤ, pos, sym, ap, ap₂, ◌∙◌, arith}
+use Rattle.std.proofs.Common.{◌≡◌, ℕ, zero, suc, ◌+◌, ◌*◌, ◌<◌, ◌≤◌, List, [], ◌∷◌, ◌++◌, length, take, get_or, All, ℤ, pos, sym, ap, ap₂, ◌∙◌, arith}
 use Rattle.std.specs.Prelude.{slice_index_or}
 use Rattle.std.proofs.Math.Seq.{take-add}
 use Rattle.std.proofs.lemmas.List.{append-nil, take_all}
@@ -17,24 +17,34 @@ use Rattle.fv_propagate.specs.Propagated.{AreTaken, Propagates}
 use Rattle.fv_engine.specs.Stands.{played, rows}
 use Rattle.fv_play.specs.Play.{joined}
 use Rattle.fv_play.proofs.Playing.{part_is}
+use Rattle.fv_blocks.proofs.Samples.{cells_same}
 
 -- frames of one width are a table
 frames_are : (Y : List Frame) (m : ℕ) → All (λ (y : Frame). length y ≡ m) Y → table (length Y) (λ u. table m (λ j. column Y j u)) ≡ Y
 frames_are Y m wide =
-    table_same (length Y) (λ u. table m (λ j. column Y j u)) (λ u. get_or Y u [])
-    (λ u l. ap (λ k. table k (λ j. get_or (get_or Y u []) j (pos 0))) (sym (All-get_or (λ (y : Frame). length y ≡ m) Y u [] l wide)) ∙ table_items (get_or Y u []) (pos 0))
-    ∙ table_items Y []
+    let same : (u : ℕ) → u < length Y → table m (λ j. column Y j u) ≡ get_or Y u [] = λ u l.
+    let y = get_or Y u [] in
+    ap (λ k. table k (λ j. get_or y j (pos 0))) (sym (All-get_or (λ (y : Frame). length y ≡ m) Y u [] l wide)) ∙ table_items y (pos 0) in
+    table_same (length Y) (λ u. table m (λ j. column Y j u)) (λ u. get_or Y u []) same ∙ table_items Y []
 
-pub played_is_run : (d : Diagram) (spans : List Interval) (g : Graph) (X : List Frame) (c e : ℕ → Stream) → AnswersEach d → AnswersWide d → IsWellFormed d → Propagates d spans g
-    → AreTaken d spans X c → length g.outputs ≡ outputs d → played g X c 0 (length X) ≡ run d c e X
-played_is_run d spans g X c e each wide well gives taken width =
+-- A graph gives what the diagram gives, also on these frames and controls.
+pub record GivesOn (d : Diagram) (spans : List Interval) (g : Graph) (X : List Frame) (c : ℕ → Stream) : Type 0 where
+  pub well : IsWellFormed d
+  pub gives : Propagates d spans g
+  pub taken : AreTaken d spans X c
+  pub width : length g.outputs ≡ outputs d
+
+pub played_is_run : {d : Diagram} {spans : List Interval} {g : Graph} {X : List Frame} {c : ℕ → Stream} (e : ℕ → Stream) → AnswersEach d → AnswersWide d
+    → GivesOn d spans g X c → played g X c 0 (length X) ≡ run d c e X
+played_is_run {d} {spans} {g} {X} {c} e each wide on =
     let Y = run d c e X in
-    table_same (length X) (λ u. table (length g.outputs) (λ j. value g (slice_index_or g.outputs j 0) X c (0 + u))) (λ u. table (outputs d) (λ j. column Y j u))
-    (λ u l. table_same (length g.outputs) (λ j. value g (slice_index_or g.outputs j 0) X c (0 + u)) (λ j. column Y j u)
-    (λ j m. let z : 0 + u ≡ u = omega arith in ap (value g (slice_index_or g.outputs j 0) X c) z ∙ gives X c e taken j u m l)
-    ∙ ap (λ k. table k (λ j. column Y j u)) width)
+    let at : ℕ → ℕ → ℤ = λ u j. value g (slice_index_or g.outputs j 0) X c (0 + u) in
+    let given : (u j : ℕ) → u < length X → j < length g.outputs → at u j ≡ column Y j u =
+    λ u j l m. let z : 0 + u ≡ u = omega arith in ap (value g (slice_index_or g.outputs j 0) X c) z ∙ on.gives X c e on.taken j u m l in
+    cells_same (length X) (length g.outputs) at (λ u j. column Y j u) given
+    ∙ ap (λ k. table (length X) (λ u. table k (λ j. column Y j u))) on.width
     ∙ ap (λ k. table k (λ u. table (outputs d) (λ j. column Y j u))) (sym (each c e X))
-    ∙ frames_are Y (outputs d) (wide well c e X taken.wide)
+    ∙ frames_are Y (outputs d) (wide on.well c e X on.taken.wide)
 
 joined_rows : (w n : ℕ) (xs : List ℤ) → n * w ≤ length xs → joined (rows w n xs) ≡ take (n * w) xs
 joined_rows w zero xs h = let z : 0 * w ≡ 0 = omega arith in ap (λ k. take k xs) (sym z)

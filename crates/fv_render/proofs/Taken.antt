@@ -21,7 +21,8 @@ use Rattle.fv_interval.specs.Laws.{IsOf}
 use Rattle.fv_interval.specs.SpanHooks.{control_span}
 use Rattle.fv_propagate.specs.Propagated.{AreTaken}
 use Rattle.fv_engine.specs.Stands.{rows}
-use Rattle.fv_render.specs.Plans.{AreNumbers, IsBounded}
+use Rattle.fv_rules.specs.Sound.{IsBounded}
+use Rattle.fv_render.specs.Plans.{AreNumbers}
 use Rattle.fv_render.specs.Render.{initial_of, span_of, spans_of}
 
 zero_fits : FitsSigned w32 (pos 0)
@@ -35,13 +36,14 @@ fits_past xs k l = subst (FitsSigned w32) (sym (get_or_past xs k (pos 0) l)) zer
 number_fits : (input : List ℤ) → AreNumbers input → (w n i t : ℕ) → FitsSigned w32 (column (rows w n input) i t)
 number_fits input fit w n i t =
     let row = λ (u : ℕ). table w (λ (j : ℕ). argument input (u * w + j)) in
+    let Fits : Frame → Type 0 = λ x. FitsSigned w32 (get_or x i (pos 0)) in
     elim (cases_lt t n) [
-      | inl l ↦ subst (λ (x : Frame). FitsSigned w32 (get_or x i (pos 0))) (sym (get_or_table n row t [] l))
+      | inl l ↦ subst Fits (sym (get_or_table n row t [] l))
           (elim (cases_lt i w) [
             | inl m ↦ subst (FitsSigned w32) (sym (get_or_table w (λ (j : ℕ). argument input (t * w + j)) i (pos 0) m)) (fit (t * w + i))
-            | inr m ↦ subst (FitsSigned w32) (sym (get_or_past (row t) i (pos 0) (let e = length_table w (λ (j : ℕ). argument input (t * w + j)) in omega (arith, e, m)))) zero_fits
+            | inr m ↦ fits_past (row t) i (let e = length_table w (λ (j : ℕ). argument input (t * w + j)) in omega (arith, e, m))
           ])
-      | inr l ↦ subst (λ (x : Frame). FitsSigned w32 (get_or x i (pos 0))) (sym (get_or_past (rows w n input) t [] (let e = length_table n row in omega (arith, e, l)))) zero_fits
+      | inr l ↦ subst Fits (sym (get_or_past (rows w n input) t [] (let e = length_table n row in omega (arith, e, l)))) zero_fits
     ]
 
 rows_wide : (w n : ℕ) (input : List ℤ) → All (λ (x : Frame). length x ≡ w) (rows w n input)
@@ -55,14 +57,18 @@ rows_wide w n input =
 span_there : (cs : List ControlInfo) (k : ℕ) (d : Interval) → k < length cs → get_or (spans_of cs) k d ≡ span_of (get_or cs k no_control)
 span_there cs k d l = get_or-map span_of cs k no_control d l
 
+spans_long : (cs : List ControlInfo) → length (spans_of cs) ≡ length cs
+spans_long cs = length-map cs span_of
+
 pub spans_all : (cs : List ControlInfo) → ((k : ℕ) → k < length cs → IsSpan (span_of (get_or cs k no_control))) → AreSpans (spans_of cs)
 spans_all cs h i l =
-    let m : i < length cs = let e = length-map cs span_of in omega (arith, e, l) in subst IsSpan (sym (span_there cs i (point (pos 0)) m)) (h i m)
+    let m : i < length cs = let e = spans_long cs in omega (arith, e, l) in subst IsSpan (sym (span_there cs i (point (pos 0)) m)) (h i m)
 
-there_of : (cs : List ControlInfo) (k : ℕ) (z : ℤ) → AreSpans (spans_of cs) → k < length cs → IsWithin (span_of (get_or cs k no_control)) z → IsOf (control_span (spans_of cs) k) z
+there_of : (cs : List ControlInfo) (k : ℕ) (z : ℤ) → AreSpans (spans_of cs) → k < length cs → IsWithin (span_of (get_or cs k no_control)) z
+    → IsOf (control_span (spans_of cs) k) z
 there_of cs k z are l h =
     subst (λ (s : Interval). IsOf s z) (sym (span_there cs k full l))
-    (subst IsSpan (span_there cs k (point (pos 0)) l) (are k (let e = length-map cs span_of in omega (arith, e, l))), h)
+    (subst IsSpan (span_there cs k (point (pos 0)) l) (are k (let e = spans_long cs in omega (arith, e, l))), h)
 
 full_of : (z : ℤ) → FitsSigned w32 z → IsOf full z
 full_of z f = (
@@ -70,14 +76,21 @@ full_of z f = (
   record { above = omega (arith, ints); below = omega (arith, ints) },
 )
 
+-- a control that is not there is 0, and may be any number
+absent : (cs : List ControlInfo) (k : ℕ) → length cs ≤ k → IsOf (control_span (spans_of cs) k) (argument (initial_of cs) k)
+absent cs k l =
+    let zero : argument (initial_of cs) k ≡ pos 0 =
+    get_or_past (initial_of cs) k (pos 0) (let e = length-map cs (λ (c : ControlInfo). c.init) in omega (arith, e, l)) in
+    let any : control_span (spans_of cs) k ≡ full = get_or_past (spans_of cs) k full (let e = spans_long cs in omega (arith, e, l)) in
+    subst (IsOf (control_span (spans_of cs) k)) (sym zero) (subst (λ (s : Interval). IsOf s (pos 0)) (sym any) (full_of (pos 0) zero_fits))
+
 begins : (cs : List ControlInfo) → AreSpans (spans_of cs) → All IsBounded cs → (k : ℕ) → IsOf (control_span (spans_of cs) k) (argument (initial_of cs) k)
 begins cs are bounded k =
     elim (cases_lt k (length cs)) [
       | inl l ↦ let b = All-get_or IsBounded cs k no_control l bounded in
           subst (IsOf (control_span (spans_of cs) k)) (sym (get_or-map (λ (c : ControlInfo). c.init) cs k no_control (pos 0) l))
           (there_of cs k (get_or cs k no_control).init are l (record { above = b.0; below = b.1 }))
-      | inr l ↦ subst (IsOf (control_span (spans_of cs) k)) (sym (get_or_past (initial_of cs) k (pos 0) (let e = length-map cs (λ (c : ControlInfo). c.init) in omega (arith, e, l))))
-          (subst (λ (s : Interval). IsOf s (pos 0)) (sym (get_or_past (spans_of cs) k full (let e = length-map cs span_of in omega (arith, e, l)))) (full_of (pos 0) zero_fits))
+      | inr l ↦ absent cs k l
     ]
 
 chosen : (b : Bool) (x v : ℤ) (s : Interval) → (b ≡ true → IsOf s x) → IsOf s v → IsOf s (if b then x else v)
@@ -96,12 +109,18 @@ stays cs are (c ∷ changes) h v k t p =
     (there_of cs c.control c.value are h.0.there (within (get_or cs c.control no_control) c.value h.0.within)))
     p)
 
-pub taken : (d : Diagram) (cs : List ControlInfo) (changes : List Change) (n : ℕ) (input : List ℤ) → AreNumbers input → AreSpans (spans_of cs) → All IsBounded cs
-    → AllByRecursion (IsOfControls cs) changes → AreTaken d (spans_of cs) (rows (inputs d) n input) (control_streams changes (initial_of cs))
-taken d cs changes n input fit are bounded lawful = record {
+-- controls that begin within their bounds, and stay there
+pub record StayWithin (cs : List ControlInfo) (changes : List Change) : Type 0 where
+  pub spans : AreSpans (spans_of cs)
+  pub bounded : All IsBounded cs
+  pub lawful : AllByRecursion (IsOfControls cs) changes
+
+pub taken : (d : Diagram) (cs : List ControlInfo) (changes : List Change) (n : ℕ) (input : List ℤ) → AreNumbers input → StayWithin cs changes
+    → AreTaken d (spans_of cs) (rows (inputs d) n input) (control_streams changes (initial_of cs))
+taken d cs changes n input fit stay = record {
   wide = rows_wide (inputs d) n input;
   small = number_fits input fit (inputs d) n;
-  controls = λ k t. stays cs are changes lawful (argument (initial_of cs) k) k t (begins cs are bounded k);
+  controls = λ k t. stays cs stay.spans changes stay.lawful (argument (initial_of cs) k) k t (begins cs stay.spans stay.bounded k);
 }
 
 -- a control with its bounds

@@ -1,11 +1,10 @@
 -- A plan of a diagram, and an engine that is ready to play it (this project's profile).
-use Rattle.std.specs.Prelude.{◌≡◌, ℕ, ◌<◌, ◌≤◌, List, [], length, ℤ, ◌≤ℤ◌, FitsSigned}
+use Rattle.std.specs.Prelude.{◌≡◌, ℕ, ◌<◌, ◌≤◌, List, [], length, ℤ, FitsSigned}
 use Rattle.std.specs.Int.{w32}
 use Rattle.fv_num.specs.Words.{argument}
 use Rattle.fv_num.specs.Frames.{Stream}
 use Rattle.fv_num.specs.Interval.{Interval}
 use Rattle.fv_diagram.specs.Diagram.{Diagram, inputs, outputs, control_bound}
-use Rattle.fv_diagram.specs.declared.control.ControlInfo.{ControlInfo}
 use Rattle.fv_signal.specs.Value.{Graph}
 use Rattle.fv_propagate.specs.Propagated.{Propagates}
 use Rattle.fv_loopcode.specs.Code.{NamesHeld, NamesInput}
@@ -16,10 +15,6 @@ use Rattle.fv_engine.specs.Stands.{EngineView, StandsFor}
 -- the numbers have 32 bits
 abbrev pub AreNumbers : List ℤ → Type 0
 AreNumbers xs = (i : ℕ) → FitsSigned w32 (argument xs i)
-
--- a control begins within its bounds
-abbrev pub IsBounded : ControlInfo → Type 0
-IsBounded c = (c.min ≤ℤ c.init) × (c.init ≤ℤ c.max)
 
 -- what an engine asks of a plan for so many channels
 pub record FitsEngine (channels : ℕ) (p : PlanView) : Type 0 where

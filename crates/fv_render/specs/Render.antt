@@ -7,6 +7,7 @@ use Rattle.fv_diagram.specs.Diagram.{Diagram, inputs, outputs, control_bound, Is
 use Rattle.fv_diagram.specs.declared.control.ControlInfo.{ControlInfo}
 use Rattle.fv_control.specs.declared.script.Change.{Change}
 use Rattle.fv_control.specs.Laws.{NeverFall, IsOfControls}
+use Rattle.fv_rules.specs.Sound.{IsBounded}
 use Rattle.fv_interval.specs.Delays.{delays_of, AreAccepted}
 use Rattle.fv_signal.specs.Value.{Graph}
 use Rattle.fv_propagate.specs.Propagated.{Propagates}
@@ -15,7 +16,6 @@ use Rattle.fv_plan.specs.Plans.{IsPlanOf}
 use Rattle.fv_turns.specs.Block.{vectors_of}
 use Rattle.fv_blocks.specs.Blocks.{AreBlocks, RanBlocks, HasRoomForRun, loop_runs_of}
 use Rattle.fv_render.specs.declared.rendering.RunSizes.{RunSizes}
-use Rattle.fv_render.specs.Plans.{IsBounded}
 
 -- the numbers with which the controls begin
 abbrev pub initial_of : List ControlInfo → List ℤ
@@ -51,10 +51,14 @@ pub record CanHave (s : RunSizes) : Type 0 where
   pub one : 1 ≤ s.workers
   pub workers : s.workers ≤ 16
 
+-- the loops of so many blocks: 0 where there is no block
+abbrev pub loops_in : (blocks loops : ℕ) → ℕ
+loops_in blocks loops = if nat_lt 0 blocks then loops else 0
+
 -- The blocks of a run, of a plan of a graph that gives what the diagram gives, what was told of them and what is counted.
-pub record RanWhole (d : Diagram) (controls : List ControlInfo) (changes : List Change) (s : RunSizes) (blocks loops runs : ℕ) (old new : Option Told) : Type 0 where
+pub record RanWhole (d : Diagram) (cs : List ControlInfo) (changes : List Change) (s : RunSizes) (blocks loops runs : ℕ) (old new : Option Told) : Type 0 where
   pub graph : Graph
-  pub gives : Propagates d (spans_of controls) graph
+  pub gives : Propagates d (spans_of cs) graph
   pub plan : PlanView
   pub planned : IsPlanOf graph plan
   -- the blocks' lengths: they are cut at the block size, at the end and at each change
@@ -64,7 +68,7 @@ pub record RanWhole (d : Diagram) (controls : List ControlInfo) (changes : List 
   -- and a journal in which each loop ran once on each vector, after all that it reads
   pub ran : RanBlocks plan.loops plan.reads s.vector lengths old new
   pub blocks_are : blocks ≡ length lengths
-  pub loops_are : loops ≡ (if nat_lt 0 blocks then plan.loops else 0)
+  pub loops_are : loops ≡ loops_in blocks plan.loops
   pub runs_are : runs ≡ loop_runs_of plan.loops s.vector lengths
   -- a gate that has room for a call for each block, a line for each loop that ran and the pairs of each block still tells it
   pub room : IfSome old (λ t. HasRoomForRun t.room blocks runs (blocks * (loops * loops)) → IsSome new)

@@ -5,4 +5,5 @@ mod controls;
 mod planning;
 mod rendering;
 
+pub use controls::{initial_of, spans_of};
 pub use rendering::{Rendered, RunSizes, Source, render};

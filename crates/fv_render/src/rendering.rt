@@ -1,11 +1,11 @@
 // A run of a diagram in blocks.
 
-ghost use Rattle.std.specs.Prelude.{◌≡◌, ◌*◌, ◌<◌, IfOk, OnErr, length, nat_lt, if◌then◌else◌};
+ghost use Rattle.std.specs.Prelude.{◌≡◌, ◌*◌, ◌<◌, IfOk, OnErr, length};
 ghost use Rattle.fv_diagram.specs.Arena.{count_of, tree_of};
 ghost use Rattle.fv_diagram.specs.Diagram.{inputs, outputs};
 ghost use Rattle.fv_control.specs.Streams.{control_streams};
 ghost use Rattle.fv_play.specs.Play.{answer_on};
-ghost use Rattle.fv_render.specs.Render.{CanRender, CanHave, RanWhole, initial_of};
+ghost use Rattle.fv_render.specs.Render.{CanRender, CanHave, RanWhole, initial_of, loops_in};
 
 use crate::controls::{initial_of, numbers_fit, spans_fit};
 use crate::planning::{engine, plan};
@@ -110,7 +110,7 @@ pub fn render<R: Threads + Wait + Sync, G: Gate + Sync>(
 
 // The loops of so many blocks, which are 0 where there is no block.
 fn loops_in(blocks: u64, loops: u64) -> u64
-    ensures { result ≡ (if nat_lt 0 blocks then loops else 0) }
+    ensures { result ≡ loops_in blocks loops }
 {
     if 0 < blocks { loops } else { 0 }
 }

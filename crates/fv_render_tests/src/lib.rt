@@ -2,10 +2,6 @@
 #![tactic(auto)]
 
 #[cfg(test)]
-mod counter;
-#[cfg(test)]
 mod playing;
 #[cfg(test)]
 mod rows;
-#[cfg(test)]
-mod told;

@@ -1,22 +1,19 @@
 // Programs that are played.
 
-ghost use Rattle.std.specs.Prelude.{◌≡◌, ◌^◌, ◌<◌, All, IfOk, length};
+ghost use Rattle.std.specs.Prelude.{◌^◌, ◌<◌, IfOk, length};
 ghost use Rattle.std.specs.List.{AllByRecursion};
 ghost use Rattle.fv_control.specs.Laws.{NeverFall, IsOfControls};
-ghost use Rattle.fv_render.specs.Plans.{IsBounded};
-ghost use Rattle.fv_render.specs.Render.{spans_of};
 
 use fv_control::{Script, scripts_are_lawful};
 use fv_diagram::ControlInfo;
 use fv_eval::{Program, evaluate};
 use fv_interval::{Delays, spans};
 use fv_lex::tokens;
-use fv_num::Span;
 use fv_outside::Gate;
 use fv_parse::parse;
 use fv_play::play_script;
-use fv_render::{Rendered, RunSizes, Source, render};
-use std::alloc::{AllocError, Global};
+use fv_render::{Rendered, RunSizes, Source, initial_of, render, spans_of};
+use std::alloc::Global;
 use std::marker::Sync;
 use std::sync::Wait;
 use std::test::Fail;
@@ -57,28 +54,6 @@ fn script_of(alloc: Global, text: &str, controls: &[ControlInfo]) -> Result<Scri
         return Err("no script".into());
     };
     Ok(script)
-}
-
-// The numbers with which the controls begin.
-fn initial_of(alloc: Global, controls: &[ControlInfo]) -> Result<Vec<i32>, AllocError>
-    ensures { IfOk result (λ v. length v.items ≡ length controls.now) }
-{
-    controls.iter().map(|c| c.init).collect(alloc)
-}
-
-// The numbers that the controls may have.
-fn spans_of(alloc: Global, controls: &[ControlInfo]) -> Result<Vec<Span>, AllocError>
-    requires { All IsBounded controls.now }
-    ensures { IfOk result (λ v. v.items ≡ spans_of controls.now) }
-{
-    let mut all = Vec::new(alloc);
-    for i in 0..controls.len() {
-        all.push(Span {
-            lo: controls[i].min,
-            hi: controls[i].max,
-        })?;
-    }
-    Ok(all)
 }
 
 /// What a run in blocks gives.

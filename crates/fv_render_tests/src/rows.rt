@@ -1,9 +1,8 @@
 // Rows of programs.
 
-use crate::counter::Counter;
 use crate::playing::{Case, rendered, stepped};
-use crate::told::block_of;
 use fv_outside::{FreeGate, Line, Reads, Recorder, Task};
+use fv_test_gates::{Counter, block_of};
 use std::process::Abort;
 use std::test::Fail;
 
