@@ -1,6 +1,7 @@
 pub mod Taking
 pub mod Claim
 pub mod Shows
+pub mod Regrouped
 pub mod Joined
 pub mod Back
 pub mod Spins

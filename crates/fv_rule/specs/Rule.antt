@@ -86,6 +86,10 @@ abbrev pub together : {C : Type 0} → View C → View C → View C
 together v w = record { board = v.board; numbers = v.numbers ++ w.numbers; deeds = v.deeds ++ w.deeds }
 
 -- the view of a seat that was joined to another: it knows no board, has no number and did nothing
+abbrev pub spent : {C : Type 0} → View C
+spent = record { board = None; numbers = []; deeds = [] }
+
+-- the same, by its parts
 abbrev pub IsSpent : {C : Type 0} → View C → Type 0
 IsSpent v = (v.board ≡ None) × (v.deeds ≡ []) × (v.numbers ≡ [])
 
