@@ -1,5 +1,8 @@
 -- A seat gives its slots back, seats are joined, and a seat with all numbers knows what all have done.
-use Rattle.std.proofs.Common.{◌≡◌, ◌≢◌, ℕ, zero, suc, ◌+◌, ◌-◌, ◌*◌, ◌<◌, ◌≤◌, Bool, true, false, ◌&&◌, ◌⊎◌, inl, inr, ⊎_elim, List, [], ◌∷◌, ◌++◌, length, get_or, set, slice_index, refl, sym, ap, ◌∙◌, subst, arith, ◌==◌, eq-eqb, Option, Some, None, ltb, lt-ltb, ltb-true}
+use Rattle.std.proofs.Common.{◌≡◌, ◌≢◌, ℕ, zero, suc, ◌+◌, ◌-◌, ◌*◌, ◌<◌, ◌≤◌, Bool, true, false, ◌&&◌, ◌⊎◌, inl, inr, ⊎_elim, List, []}
+use Rattle.std.proofs.Common.{◌∷◌, ◌++◌, length, get_or, set, slice_index, refl, sym, ap, ◌∙◌}
+use Rattle.std.proofs.Common.{subst, arith, ◌==◌, eq-eqb, Option, Some, None, ltb, lt-ltb, ltb-true}
+use Rattle.std.proofs.lemmas.List.{set-get_or}
 use mathlib.Core.Option.{some, some-injective, some-ne-none}
 use mathlib.Core.Logic.{dite}
 use native.Mathlib.Decide.{ℕ_discrete, dec_le}
@@ -27,11 +30,6 @@ use Rattle.fv_rule.proofs.Back.{back}
 use Rattle.fv_rule.proofs.Joined.{joins, all_joined, had_joined}
 use Rattle.fv_rule.proofs.Regrouped.{whole_so}
 use Rattle.fv_rule.proofs.Splits.{sum_two, has_first}
-
-same_word : (ws : List ℕ) (i : ℕ) → set ws i (slice_index ws i) ≡ ws
-same_word [] i = refl
-same_word (x ∷ xs) zero = refl
-same_word (x ∷ xs) (suc i) = ap (λ l. x ∷ l) (same_word xs i)
 
 -- where the others have nothing, the whole is that of one
 pub alone_total : {X : Type 0} (g : X → ℕ) (xs : List X) (i : ℕ) (v : X) → get_elem? xs i ≡ some v →
@@ -81,7 +79,7 @@ module _ {C Key : Type 0} (wires : Graph → Wires) (edge_of : C → ℕ) (key_o
     give_all m.1,
     valid_gives m.1 s.homes,
     subst (λ (p : List ℕ × List (View C)). Holds record { words = p.0; homes = homes_after s.homes m.1 (give_all m.1); views = p.1 })
-        (λ i. (sym (same_word s.words 0) i, sym (set_again s.views id m.0 at) i)) (given ws s h id m.0 at ab m.1 mine keys),
+        (λ i. (sym (set-get_or s.words 0 0) i, sym (set_again s.views id m.0 at) i)) (given ws s h id m.0 at ab m.1 mine keys),
     (refl, none_left m.1),
   )
 

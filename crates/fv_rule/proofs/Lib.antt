@@ -1,5 +1,6 @@
 pub mod Taking
 pub mod Claim
+pub mod Noted
 pub mod Shows
 pub mod Regrouped
 pub mod Joined

@@ -1,5 +1,7 @@
 -- The law of the steps, from what each of them keeps and shows.
-use Rattle.std.proofs.Common.{◌≡◌, ◌≢◌, ℕ, ◌+◌, ◌-◌, ◌%◌, ◌^◌, ◌<◌, Bool, true, false, cond, List, [], ◌∷◌, length, set, slice_index, refl, sym, ap, ◌∙◌, subst, arith, ◌==◌, Option, Some, None, MatchBool, get_or-set_same}
+use Rattle.std.proofs.Common.{◌≡◌, ◌≢◌, ℕ, ◌+◌, ◌-◌, ◌%◌, ◌^◌, ◌<◌, Bool, true, false, cond, List, [], ◌∷◌}
+use Rattle.std.proofs.Common.{length, set, slice_index, refl, sym, ap, ◌∙◌, subst, arith, ◌==◌, Option, Some, None, MatchBool, get_or-set_same}
+use Rattle.std.proofs.lemmas.List.{set-get_or}
 use mathlib.Core.Option.{some, none}
 use mathlib.Core.Logic.{dite}
 use native.Mathlib.Decide.{ℕ_discrete}
@@ -35,7 +37,7 @@ use Rattle.fv_rule.proofs.Shows.{may_take, shows_taken}
 use Rattle.fv_rule.proofs.Finishes.{shows_same, shows_finished, may_finish}
 use Rattle.fv_rule.proofs.Arrives.{shows_arrived, may_arrive}
 use Rattle.fv_rule.proofs.WholeSteps.{shows_words}
-use Rattle.fv_rule.proofs.Load.{looks, same_word}
+use Rattle.fv_rule.proofs.Load.{looks}
 use Rattle.fv_rule.proofs.Starting.{starting, behind}
 use Rattle.fv_rule.proofs.Arrive.{one_less}
 use Rattle.fv_rule.proofs.Arriving.{arriving}
@@ -79,7 +81,7 @@ module _ {C Key : Type 0} (edge_of : C → ℕ) (key_of : C → Key) (a : About 
         r.2,
         r.3,
         stays s at (Saw t k) (λ x. refl) (λ x. refl) (λ x. refl) (count_word t) k r.1 r.0 e
-            (λ x l. ap (λ ks. slice_index ks (count_word x)) (same_word s.words (count_word t))),
+            (λ x l. ap (λ ks. slice_index ks (count_word x)) (set-get_or s.words (count_word t) 0)),
         (λ i. (e i, r.4.1 i)),
       )
 
