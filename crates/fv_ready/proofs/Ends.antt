@@ -1,5 +1,7 @@
 -- What a board that is closed holds.
-use Rattle.std.proofs.Common.{◌≡◌, ℕ, zero, suc, ◌+◌, ◌-◌, ◌*◌, ◌/◌, ◌%◌, ◌<◌, ◌≤◌, Bool, true, false, ◌&&◌, inl, List, [], ◌∷◌, length, slice_index, refl, sym, ap, ◌∙◌, subst, arith, ◌==◌, Option, Some, ltb, leb, lt-ltb, le-leb, div-add-mod', mod-lt}
+use Rattle.std.proofs.Common.{◌≡◌, ℕ, zero, suc, ◌+◌, ◌-◌, ◌*◌, ◌/◌, ◌%◌, ◌<◌, ◌≤◌, true, inl, List, []}
+use Rattle.std.proofs.Common.{◌∷◌, length, slice_index, refl, sym, ap, ◌∙◌, subst, arith, ◌==◌, Option, Some, lt-ltb, le-leb, div-add-mod', mod-lt}
+use Rattle.std.specs.Cmp.Derive.{both_true}
 use mathlib.Core.Option.{some, some-injective, some-ne-none}
 use lib.ListN.{get_elem?}
 use Rattle.atomic_table.specs.Table.{Final, Seen}
@@ -17,9 +19,11 @@ use Rattle.fv_rule.specs.Rule.{claim_word, wins, finishes, done_by, all}
 use Rattle.fv_rule.specs.Whole.{IsWhole}
 use Rattle.fv_rule.specs.Told.{Tells}
 use Rattle.fv_rule.proofs.Closing.{whole_is, tells, all_finished, finished_all}
+use Rattle.fv_ready.specs.declared.board.Board.{Board}
 use Rattle.fv_ready.specs.declared.seat.WorkerSeat.{WorkerSeat}
-use Rattle.fv_ready.specs.Told.{told_by, having}
-use Rattle.fv_ready.specs.Closed.{AreSlots, AreParcels}
+use Rattle.fv_ready.specs.Boards.{about_of, tasks_of}
+use Rattle.fv_ready.specs.Told.{told_by, having, HaveAll}
+use Rattle.fv_ready.specs.Closed.{AreSlots, AreParcels, HasParcel, Ended}
 
 word_is : (ws : List ℕ) (i x : ℕ) → get_elem? ws i ≡ some x → slice_index ws i ≡ x
 word_is [] i x e = absurd (some-ne-none x (sym e))
@@ -37,24 +41,6 @@ tells_like net m n e t = subst (λ (k : (Deed → ℕ) → ℕ). Tells net k) (�
 some_some : {C : Type 0} (x y : C) → some (Some x) ≡ some (Some y) → x ≡ y
 some_some x y e = cc
 
--- a slot holds the parcel of its edge
-pub record HasParcel {C Key : Type 0} (edge_of : C → ℕ) (key_of : C → Key) (a : About C) (slots : List (Option C)) (e : ℕ) : Type 0 where
-  pub parcel : C
-  pub at : get_elem? slots e ≡ some (Some parcel)
-  pub edge : edge_of parcel ≡ e
-  pub key : key_of parcel ≡ key_of a.sample.value
-
--- what the words and slots tell of the lists of all seats
-pub record Ended {C Key : Type 0} (edge_of : C → ℕ) (key_of : C → Key) (a : About C) (g : Tasks) (words : List ℕ) (slots : List (Option C))
-    (lists : (Deed → ℕ) → ℕ) : Type 0 where
-  pub told : Tells (net_of g) lists
-  pub finished : (w : ℕ) → get_elem? words 0 ≡ some w → w ≡ 2 * task_count g → (t : ℕ) → t < task_count g → lists (finishes t) ≡ 1
-  pub stamps_of : (w : ℕ) → get_elem? words 0 ≡ some w → ((t : ℕ) → t < task_count g → lists (finishes t) ≡ 1) → w ≡ 2 * task_count g
-  pub untaken : (t : ℕ) → t < task_count g → get_elem? words (claim_word (task_count g) t) ≡ some 0 → lists (wins t) ≡ 0
-  pub claim_of : (t : ℕ) → t < task_count g → lists (wins t) ≡ 0 → get_elem? words (claim_word (task_count g) t) ≡ some 0
-  pub exits : ((t : ℕ) → t < task_count g → lists (finishes t) ≡ 1) → (e : ℕ) → edges_of g - g.loops ≤ e → e < edges_of g → HasParcel edge_of key_of a slots e
-  pub entries : ((t : ℕ) → t < task_count g → lists (wins t) ≡ 0) → (e : ℕ) → e < g.loops → HasParcel edge_of key_of a slots e
-
 pub are_parcels : {C Key : Type 0} (edge_of : C → ℕ) (key_of : C → Key) (a : About C) (slots : List (Option C)) (k : ℕ) (ps : List C) →
     ((e : ℕ) → k ≤ e → e < k + length ps → HasParcel edge_of key_of a slots e) → AreSlots slots k ps → AreParcels edge_of key_of a k ps
 are_parcels edge_of key_of a slots k [] have are = tt
@@ -64,10 +50,6 @@ are_parcels edge_of key_of a slots k (p ∷ ps) have are = let q = have k (omega
       are_parcels edge_of key_of a slots (suc k) ps
           (λ e l m. have e (omega arith) (omega arith)) are.1,
     )
-
-both : (x y : Bool) → x ≡ true → y ≡ true → (x && y) ≡ true
-both true y p q = q
-both false y p q = p
 
 module _ {C Key : Type 0} (edge_of : C → ℕ) (key_of : C → Key) (a : About C) (graph : IsGraph a.tasks.value.tasks) (id : ℕ) (v : View C)
     (words : List ℕ) (slots : List (Option C))
@@ -89,7 +71,7 @@ module _ {C Key : Type 0} (edge_of : C → ℕ) (key_of : C → Key) (a : About 
   word i w at = ap (λ l. slice_index l i) end.2 ∙ word_is words i w at
 
   exit_is : (e : ℕ) → edges_of g - g.loops ≤ e → e < edges_of g → is_exit g e ≡ true
-  exit_is e l m = both (leb (g.vectors * stride g) e) (ltb e (edges_of g)) (le-leb (g.vectors * stride g) e (omega arith)) (lt-ltb e (edges_of g) m)
+  exit_is e l m = both_true (le-leb (g.vectors * stride g) e (omega arith)) (lt-ltb e (edges_of g) m)
 
   -- an entry edge goes into a task
   entry_reader : (e : ℕ) → e < g.loops → reader_of g e < task_count g
@@ -118,19 +100,28 @@ module _ {C Key : Type 0} (edge_of : C → ℕ) (key_of : C → Key) (a : About 
         record { parcel = f.0; at = end.4 e (Some f.0) (q.1 ∙ ap (λ (y : Option C). some (some y)) f.1); edge = f.2; key = f.3 };
   }
 
-  -- the same of the board's tasks by the name that the code has for them
-  pub ended : (t : Graph) → a.tasks.value ≡ t → Ended edge_of key_of a t.tasks words slots lists
-  ended t e = subst (λ (k : Graph). Ended edge_of key_of a k.tasks words slots lists) e ended_here
-
 -- the same where the lists are those of seats
-module _ {C Key : Type 0} (edge_of : C → ℕ) (key_of : C → Key) (a : About C) (g : Graph) (told : a.tasks.value ≡ g)
-    (graph : IsGraph g.tasks) (id : ℕ) (v : View C) (words : List ℕ) (slots : List (Option C))
+module _ {C Key : Type 0} (edge_of : C → ℕ) (key_of : C → Key) (a : About C) (graph : IsGraph a.tasks.value.tasks) (id : ℕ) (v : View C)
+    (words : List ℕ) (slots : List (Option C))
     (end : Final (Seen {S = Option C} (λ s. IsWhole graph_wires edge_of key_of a s) id v) words slots) (seats : List (WorkerSeat C))
     (lists : (f : Deed → ℕ) → done_by f v ≡ told_by f seats) (numbers : (k : ℕ) → times k v.numbers ≡ having k seats)
-    (all : (0 < a.workers) × ((k : ℕ) → k < a.workers → having k seats ≡ 1)) where
-  pub end_of : Ended edge_of key_of a g.tasks words slots (λ f. told_by f seats)
-  end_of = ended edge_of key_of a (subst (λ (k : Graph). IsGraph k.tasks) (sym told) graph) id v words slots end
-      (λ k l. let h = all.1 k l in let n = numbers k in omega arith) (λ f. told_by f seats) lists g told
+    (all : HaveAll a.workers seats) where
+  pub ended : Ended edge_of key_of a a.tasks.value.tasks words slots (λ f. told_by f seats)
+  ended = ended_here edge_of key_of a graph id v words slots end
+      (λ k l. let h = all.1 k l in let n = numbers k in omega arith) (λ f. told_by f seats) lists
+
+-- the same of the board's tasks by the name that the code has for them
+pub ended_as : {C Key : Type 0} (edge_of : C → ℕ) (key_of : C → Key) (b : Board C Key) (words : List ℕ) (slots : List (Option C))
+    (lists : (Deed → ℕ) → ℕ) → Ended edge_of key_of (about_of b) (about_of b).tasks.value.tasks words slots lists →
+    Ended edge_of key_of (about_of b) (tasks_of b) words slots lists
+ended_as edge_of key_of b words slots lists e = subst (λ (k : Graph). Ended edge_of key_of (about_of b) k.tasks words slots lists) b.told e
+
+-- no task was taken, where no claim word is set
+pub none_taken : {C Key : Type 0} (edge_of : C → ℕ) (key_of : C → Key) (a : About C) (g : Tasks) (words : List ℕ) (slots : List (Option C))
+    (lists : (Deed → ℕ) → ℕ) (n : ℕ) → Ended edge_of key_of a g words slots lists → n ≡ task_count g →
+    ((t : ℕ) → t < n → get_elem? words (claim_word n t) ≡ some 0) → (t : ℕ) → t < task_count g → lists (wins t) ≡ 0
+none_taken edge_of key_of a g words slots lists n e is unset t l =
+    e.untaken t l (subst (λ k. (t : ℕ) → t < k → get_elem? words (claim_word k t) ≡ some 0) is unset t l)
 
 pub some_seats : {C : Type 0} (seats : List (WorkerSeat C)) → having 0 seats ≡ 1 → 0 < length seats
 some_seats [] h = absurd (omega arith)

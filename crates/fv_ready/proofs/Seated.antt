@@ -1,5 +1,7 @@
 -- Each call keeps what a seat means.
-use Rattle.std.proofs.Common.{◌≡◌, ℕ, zero, suc, ◌+◌, ◌*◌, ◌^◌, ◌<◌, ◌≤◌, Bool, true, false, cond, ltb, map, ◌&&◌, ◌||◌, lt-ltb, true≢false, List, [], ◌∷◌, ◌++◌, length, drop, refl, sym, ap, ◌∙◌, subst, arith, ◌==◌, eq-eqb, ne_eqb, Option, Some, None, MatchOption, IsSomeAnd, IfSome, MatchBool, vec_capacity, length-append}
+use Rattle.std.proofs.Common.{◌≡◌, ℕ, zero, suc, ◌+◌, ◌*◌, ◌^◌, ◌<◌, ◌≤◌, Bool, true, false, cond, ltb, map}
+use Rattle.std.proofs.Common.{◌&&◌, ◌||◌, lt-ltb, true≢false, List, [], ◌∷◌, ◌++◌, length, drop, refl, sym, ap, ◌∙◌, subst}
+use Rattle.std.proofs.Common.{arith, ◌==◌, eq-eqb, ne_eqb, Option, Some, None, MatchOption, IsSomeAnd, IfSome, MatchBool, vec_capacity, length-append}
 use Rattle.std.specs.Option.{IsSome}
 use Rattle.std.specs.Global.{Vec}
 use mathlib.Core.Logic.{dite}
@@ -7,7 +9,8 @@ use native.Mathlib.Decide.{ℕ_discrete}
 use Rattle.atomic_table.specs.Seated.{TableId}
 use Rattle.atomic_table.specs.Table.{Me}
 use Rattle.fv_outside.specs.Tasks.{Tasks, bit, times, task_count}
-use Rattle.fv_graph.specs.Graph.{Graph, IsGraph, net_of, edges_of, stride, inward, outward, feeds_of, pair_edge, pair_at, vector_of, loop_of, reader_of, is_entry, is_exit}
+use Rattle.fv_graph.specs.Graph.{Graph, IsGraph, net_of, edges_of, stride, inward, outward, feeds_of}
+use Rattle.fv_graph.specs.Graph.{pair_edge, pair_at, vector_of, loop_of, reader_of, is_entry, is_exit}
 use Rattle.fv_graph.specs.Words.{passing}
 use Rattle.fv_graph.proofs.Graphs.{is_wires, further}
 use Rattle.fv_graph.proofs.Counts.{bit_same, total_append}
@@ -18,7 +21,8 @@ use Rattle.fv_rule.specs.Wired.{graph_wires}
 use Rattle.fv_rule.specs.Rule.{noted, places, Each, Took, IsFresh, going, done_by, finishes, arrives}
 use Rattle.fv_rule.specs.Shown.{OwesNothing}
 use Rattle.fv_rule.specs.Carried.{slot_at, with_slot, but_slot, MayHold, IsFree, IsBusy, AreHanded, IsMine, HasKey}
-use Rattle.fv_rule.proofs.Hands.{free_owes, free_noted, free_mine, busy_noted, busy_mine, claim_busy, exchange_busy, arrive_free, free_turned, finish_free, places_with}
+use Rattle.fv_rule.proofs.Hands.{free_owes, free_noted, free_mine, busy_noted, busy_mine, claim_busy}
+use Rattle.fv_rule.proofs.Hands.{exchange_busy, arrive_free, free_turned, finish_free, places_with}
 use Rattle.fv_rule.proofs.Leaving.{leads, parts, dropped}
 use Rattle.fv_ready.specs.declared.seat.InHand.{InHand}
 use Rattle.fv_ready.specs.declared.seat.WorkerSeat.{WorkerSeat}

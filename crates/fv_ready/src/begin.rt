@@ -1,6 +1,7 @@
 // A new board.
 
-ghost use Rattle.std.specs.Prelude.{◌≡◌, ℕ, ◌+◌, ◌*◌, ◌-◌, ◌^◌, ◌<◌, ◌≤◌, length, List, [], ◌∷◌, ◌++◌, map, replicate, slice_index_or, Some, None, IfOk, IfErr, vec_len, vec_capacity};
+ghost use Rattle.std.specs.Prelude.{◌≡◌, ℕ, ◌+◌, ◌*◌, ◌-◌, ◌^◌, ◌<◌, ◌≤◌, length, List, []};
+ghost use Rattle.std.specs.Prelude.{◌∷◌, ◌++◌, map, replicate, slice_index_or, Some, None, IfOk, IfErr, vec_len, vec_capacity};
 ghost use Rattle.fv_graph.specs.Graph.{net_of};
 ghost use Rattle.fv_rule.specs.Whole.{first_words, first_view};
 ghost use Rattle.fv_ready.specs.Begun.{first_slots, parcels_of, AreRoomy, AreNewSeats, AreEntries};

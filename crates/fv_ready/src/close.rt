@@ -9,14 +9,14 @@ ghost use Rattle.fv_graph.specs.Graph.{IsGraph, edges_of, net_of};
 ghost use Rattle.fv_rule.specs.Rule.{done_by, finishes, wins, claim_word};
 ghost use Rattle.fv_rule.specs.Told.{Tells};
 ghost use Rattle.fv_rule.specs.declared.Deed.{Deed};
-ghost use Rattle.fv_ready.specs.Told.{told_by, having};
-ghost use Rattle.fv_ready.specs.Closed.{AreSeats, AreSlots, IsTaken};
+ghost use Rattle.fv_ready.specs.Told.{told_by, having, HaveAll};
+ghost use Rattle.fv_ready.specs.Closed.{AreSeats, AreSlots, IsTaken, Ended};
 ghost use Rattle.fv_ready.specs.Boards.{about_of, tasks_of, AreSeatsOf, GainsParcels};
 
 use crate::board::Board;
 use crate::rule::{GivesBack, Together, Whole};
 use crate::seat::WorkerSeat;
-use atomic_table::{Closed, Seat, Shared};
+use atomic_table::{Closed, Seat, Shared, Table};
 use fv_rule::{About, Parcel, View};
 use std::alloc::Global;
 
@@ -48,6 +48,24 @@ fn gather<C: Parcel>(
         table.join_seat::<Together<C>>(&mut all, seat);
     }
     all
+}
+
+// Joins the seats, and ends the table.
+fn end_table<C: Parcel>(
+    table: Table<Option<C>, View<C>, About<C>, Whole<C>, Global>,
+    seats: Vec<WorkerSeat<C>>,
+) -> Closed<Option<C>, Global>
+    requires words { 0 < table.shared.table_id.words }
+    requires graph { IsGraph table.shared.key.tasks.value.tasks }
+    requires seats { AreSeats C.edge_of C.key_of table.shared.table_id table.shared.key seats.items }
+    requires all { HaveAll table.shared.key.workers seats.items }
+    ensures ended { Ended C.edge_of C.key_of table.shared.key table.shared.key.tasks.value.tasks (slots_items result.words) (slots_items result.slots)
+        (λ f. told_by f seats.items) }
+    ensures counts { (slots_len result.words ≡ table.shared.table_id.words) × (slots_len result.slots ≡ table.shared.table_id.slots) }
+    ensures full { IsFull result.words × IsFull result.slots }
+{
+    let all = gather(&table.shared, seats);
+    table.close_with(all)
 }
 
 // No task is claimed.
@@ -119,7 +137,7 @@ impl<'t, C: Parcel + Drop> Board<'t, C> {
     /// were ordered, and in every other case nothing.
     pub fn close(self, seats: Vec<WorkerSeat<C>>, exits: &mut Vec<C>) -> bool
         requires seats { AreSeatsOf C.edge_of C.key_of self seats.items }
-        requires all { (0 < (about_of self).workers) × ((k : ℕ) → k < (about_of self).workers → having k seats.items ≡ 1) }
+        requires all { HaveAll (about_of self).workers seats.items }
         requires room { vec_len exits.old + (tasks_of self).loops ≤ vec_capacity exits.old }
         ensures done { IsTrue result ↔ ((t : ℕ) → t < task_count (tasks_of self.entry) → told_by (finishes t) seats.items ≡ 1) }
         ensures tells { Tells (net_of (tasks_of self.entry)) (λ f. told_by f seats.items) }
@@ -134,8 +152,7 @@ impl<'t, C: Parcel + Drop> Board<'t, C> {
         let loops = tasks.loops();
         let edges = tasks.edges();
         let n = tasks.len();
-        let all = gather(&table.shared, seats);
-        let closed = table.close_with(all);
+        let closed = end_table(table, seats);
         let stamps = closed.word(0);
         if stamps == 2 * n {
             hand_out(closed, edges - loops, edges, edges, exits);

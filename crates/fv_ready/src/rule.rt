@@ -1,8 +1,8 @@
 // The rule of a board's table, and what each step tells the seat that makes it.
 
-ghost use Rattle.std.specs.Prelude.{◌≡◌, ℕ, [], None};
+ghost use Rattle.std.specs.Prelude.{◌≡◌, ℕ, []};
 ghost use Rattle.fv_rule.specs.Wired.{graph_wires};
-ghost use Rattle.fv_rule.specs.Rule.{Looks, Claims, Starts, Ends, Gives, together};
+ghost use Rattle.fv_rule.specs.Rule.{Looks, Claims, Starts, Ends, Gives, together, spent};
 ghost use Rattle.fv_rule.specs.Whole.{IsWhole, first_view, left_part, right_part};
 
 use atomic_table::{Join, Play, Split, TableRule};
@@ -39,7 +39,7 @@ pub struct Together<C> {
 impl<C> Join<View<C>> for Together<C> {
     ghost both = { λ v w. together v w };
 
-    ghost spent = { record { board = None; numbers = []; deeds = [] } };
+    ghost spent = { spent };
 }
 
 /// A look at a task's count.

@@ -1,13 +1,17 @@
 -- The slots of the tasks of the worked examples, when these are taken and when they are done.
-use Rattle.std.proofs.Common.{◌≡◌, ℕ, ◌<◌, true, List, [], ◌∷◌, ◌++◌, sym, ap, ◌∙◌, subst, arith, Option, Some, None, IfSome, IsSomeAnd}
+use Rattle.std.proofs.Common.{refl, Bool, ◌==◌, ◌&&◌, ◌+◌, ◌≡◌, ℕ, ◌<◌, true, List, [], ◌∷◌, ◌++◌}
+use Rattle.std.proofs.Common.{sym, ap, ◌∙◌, subst, arith, Option, Some, None, IfSome, IsSomeAnd}
 use mathlib.Core.Logic.{dite}
 use native.Mathlib.Decide.{ℕ_discrete}
-use Rattle.fv_outside.specs.Tasks.{Tasks, times}
+use Rattle.fv_outside.specs.Tasks.{Tasks, bit, times}
 use Rattle.fv_graph.specs.Graph.{inward, outward}
-use Rattle.fv_graph.proofs.Counts.{bit_apart}
+use Rattle.fv_graph.proofs.Counts.{bit_same, bit_apart, total_append}
+use Rattle.fv_rule.specs.declared.Deed.{Deed}
+use Rattle.fv_rule.specs.declared.Deed.TheVariants.{Saw}
+use Rattle.fv_rule.specs.declared.View.{View}
 use Rattle.fv_rule.specs.declared.About.{About}
 use Rattle.fv_rule.specs.Wired.{graph_wires}
-use Rattle.fv_rule.specs.Rule.{places, Each, Fits}
+use Rattle.fv_rule.specs.Rule.{done_by, sees, noted, places, Each, Fits}
 use Rattle.fv_rule.specs.Carried.{slot_at}
 use Rattle.fv_ready.specs.declared.board.Board.{Board}
 use Rattle.fv_ready.specs.declared.seat.InHand.{InHand}
@@ -74,3 +78,13 @@ module _ {C Key : Type 0} (b : Board C Key) (tasks : tasks_of b ≡ two_loops) (
   pub when_handed : (t : ℕ) → hand_of s ≡ Some record { task = t; started = true } → IsHanded b t s →
       IsSomeAnd (hand_of s) (λ r. r.started ≡ true → IsHanded b r.task s)
   when_handed t is h = subst (λ (o : Option InHand). IsSomeAnd o (λ r. r.started ≡ true → IsHanded b r.task s)) (sym is) (λ _. h)
+
+-- a list of steps after two more
+pub after_two : {C : Type 0} (f : Deed → ℕ) (v : View C) (d e : Deed) → done_by f (noted (noted v d) e) ≡ done_by f v + f d + f e
+after_two f v d e = let a = total_append f v.deeds (d ∷ []) in let b = total_append f (v.deeds ++ d ∷ []) (e ∷ []) in omega arith
+
+-- a seat that found a task ready has seen its count at 0
+pub saw_ready : {C : Type 0} (t : ℕ) (v w : View C) (r : Bool) → (c : ℕ) × (w ≡ noted v (Saw t c)) × (r ≡ (c == 0)) → r ≡ true → 0 < done_by (sees t) w
+saw_ready t v w r list is = let a = ap (λ u. done_by (sees t) u) list.1 ∙ total_append (sees t) v.deeds (Saw t list.0 ∷ []) in
+    let zero : (list.0 == 0) ≡ true = sym list.2 ∙ is in let one = bit_same t t refl in
+    let b = ap (λ k. bit (k && (t == t))) zero in omega arith

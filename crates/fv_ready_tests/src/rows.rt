@@ -1,10 +1,11 @@
 // Worked examples: two loops, one vector, and loop 1 reads loop 0. The edges are 0 and 1 into the loops, 2 from task 0 to task 1,
 // and 3 and 4 out of the loops.
 
-ghost use Rattle.std.specs.Prelude.{◌≡◌, ℕ, ◌+◌, ◌<◌, ◌≤◌, [], ◌∷◌, IfOk, vec_len, vec_capacity};
+ghost use Rattle.std.specs.Prelude.{◌≡◌, ◌+◌, ◌≤◌, [], ◌∷◌, Some, None, false, IfOk, vec_len, vec_capacity};
+ghost use Rattle.fv_rule.specs.Rule.{arrives, done_by};
 ghost use Rattle.fv_ready.specs.Begun.{AreEntries};
-ghost use Rattle.fv_ready.specs.Seats.{view_of};
-ghost use Rattle.fv_ready.specs.Boards.{about_of, tasks_of, IsSeatOf, IsFirstSeatOf, AreFirstSeatsOf};
+ghost use Rattle.fv_ready.specs.Seats.{view_of, slots_of, hand_of};
+ghost use Rattle.fv_ready.specs.Boards.{about_of, tasks_of, IsSeatOf, IsFirstSeatOf, AreFirstSeatsOf, AreTaken};
 ghost use Rattle.fv_ready_tests.specs.TwoLoops.{two_loops};
 
 use fv_graph::Tasks;
@@ -126,23 +127,44 @@ pub(crate) fn end(
     board.close(seats, exits)
 }
 
-// Two seats see the task that is ready; one of them takes it, and gives it back at the end.
+// Both seats see the task that is ready, and the first of them takes it.
+pub(crate) fn claim_first(
+    rt: &impl Abort,
+    board: &Board<'_, Note>,
+    a: &mut WorkerSeat<Note>,
+    b: &mut WorkerSeat<Note>,
+)
+    requires tasks { tasks_of board.now ≡ two_loops }
+    requires a { IsFirstSeatOf (λ n. n.edge) (λ n. n.block) board.now 0 a.old }
+    requires b { IsFirstSeatOf (λ n. n.edge) (λ n. n.block) board.now 1 b.old }
+    ensures a { IsSeatOf (λ n. n.edge) (λ n. n.block) board.now a.new }
+    ensures b { IsSeatOf (λ n. n.edge) (λ n. n.block) board.now b.new }
+    ensures taken { AreTaken (λ n. n.edge) (λ n. n.block) board.now 0 (slots_of a.new) }
+    ensures hands { (hand_of a.new ≡ Some (record { task = 0; started = false })) × (hand_of b.new ≡ None) }
+    ensures free { slots_of b.new ≡ [] }
+    ensures numbers { ((view_of a.new).numbers ≡ 0 ∷ []) × ((view_of b.new).numbers ≡ 1 ∷ []) }
+    ensures undone { done_by (arrives 2) (view_of a.new) ≡ 0 }
+{
+    let early = board.is_ready(a, 1);
+    assert!(rt; !early);
+    let a_ready = board.is_ready(a, 0);
+    assert!(rt; a_ready);
+    let b_ready = board.is_ready(b, 0);
+    assert!(rt; b_ready);
+    let won = board.claim(a, 0);
+    assert!(rt; won);
+    let late = board.claim(b, 0);
+    assert!(rt; !late);
+}
+
+// One seat takes the task, and gives it back at the end.
 #[test]
 fn one_claim_wins(rt: HostRuntime) -> Result<(), Fail> {
     let alloc = rt.alloc();
     let tasks = pair(alloc)?;
     let mut exits = Vec::with_capacity(alloc, 2)?;
     let (board, seats, mut a, mut b) = two_seats(alloc, &tasks)?;
-    let early = board.is_ready(&mut a, 1);
-    assert!(rt; !early);
-    let a_ready = board.is_ready(&mut a, 0);
-    assert!(rt; a_ready);
-    let b_ready = board.is_ready(&mut b, 0);
-    assert!(rt; b_ready);
-    let won = board.claim(&mut a, 0);
-    assert!(rt; won);
-    let late = board.claim(&mut b, 0);
-    assert!(rt; !late);
+    claim_first(&rt, &board, &mut a, &mut b);
     let done = end(board, seats, a, b, &mut exits);
     assert!(rt; !done);
     assert_eq!(rt; exits.len(), 0);

@@ -7,7 +7,7 @@ ghost use Rattle.fv_ready.specs.Seats.{view_of, slots_of, hand_of};
 ghost use Rattle.fv_ready.specs.Boards.{tasks_of, IsSeatOf, AreTaken};
 ghost use Rattle.fv_ready_tests.specs.TwoLoops.{two_loops};
 
-use crate::rows::{Note, end, pair, two_seats};
+use crate::rows::{Note, claim_first, end, pair, two_seats};
 use fv_ready::{Board, WorkerSeat};
 use std::process::Abort;
 use std::test::Fail;
@@ -76,16 +76,7 @@ fn two_seats_do_all(rt: HostRuntime) -> Result<(), Fail> {
     let tasks = pair(alloc)?;
     let mut exits = Vec::with_capacity(alloc, 2)?;
     let (board, seats, mut a, mut b) = two_seats(alloc, &tasks)?;
-    let early = board.is_ready(&mut a, 1);
-    assert!(rt; !early);
-    let a_ready = board.is_ready(&mut a, 0);
-    assert!(rt; a_ready);
-    let b_ready = board.is_ready(&mut b, 0);
-    assert!(rt; b_ready);
-    let won = board.claim(&mut a, 0);
-    assert!(rt; won);
-    let late = board.claim(&mut b, 0);
-    assert!(rt; !late);
+    claim_first(&rt, &board, &mut a, &mut b);
     let finish = run_first(&rt, &board, &mut a);
     let count = board.arrive(&mut a, 2);
     assert_eq!(rt; count, 0);

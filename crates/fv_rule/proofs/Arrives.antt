@@ -1,11 +1,10 @@
 -- An arrival keeps the whole rule, and is the lean core's Arrive.
-use Rattle.std.proofs.Common.{◌≡◌, ◌≢◌, ℕ, ◌+◌, ◌-◌, ◌<◌, Bool, true, false, ◌&&◌, ⊎_elim, List, [], ◌∷◌, length, set, slice_index, refl, sym, ap, ◌∙◌, subst, arith, length-set, ltb, lt-ltb, ◌==◌, not, ne_eqb}
-use mathlib.Core.Option.{some, some-injective}
-use mathlib.Core.Logic.{dite}
-use native.Mathlib.Decide.{ℕ_discrete}
+use Rattle.std.proofs.Common.{◌≡◌, ◌≢◌, ℕ, ◌+◌, ◌-◌, ◌<◌, true, ◌&&◌, List, [], ◌∷◌, length}
+use Rattle.std.proofs.Common.{set, slice_index, refl, sym, ap, ◌∙◌, subst, arith, length-set, ltb, lt-ltb, ◌==◌, not, ne_eqb}
+use Rattle.std.specs.Cmp.Derive.{both_true}
+use mathlib.Core.Option.{some}
 use lib.ListN.{get_elem?}
 use Rattle.atomic_table.specs.Table.{State}
-use Rattle.atomic_table.proofs.Lists.{at_set, set_here, set_else}
 use Rattle.fv_outside.specs.Tasks.{bit, times}
 use Rattle.fv_core.specs.Ends.{without}
 use Rattle.fv_graph.specs.Net.{Net, IsNet}
@@ -18,14 +17,9 @@ use Rattle.fv_graph.proofs.Counts.{bit_left}
 use Rattle.fv_rule.specs.declared.Deed.{Deed}
 use Rattle.fv_rule.specs.declared.Deed.TheVariants.{Arrived}
 use Rattle.fv_rule.specs.declared.View.{View}
-use Rattle.fv_rule.specs.Rule.{count_word, wins, arrives, finishes, done_by, all, noted}
+use Rattle.fv_rule.specs.Rule.{count_word, wins, arrives, finishes, done_by, noted}
 use Rattle.fv_rule.specs.Shown.{worker_of, ShowsSeat, Shows}
-use Rattle.fv_rule.proofs.Claim.{all_noted}
-use Rattle.fv_rule.proofs.Taking.{at_below}
-
-both_of : (a b : Bool) → a ≡ true → b ≡ true → (a && b) ≡ true
-both_of true b p q = q
-both_of false b p q = p
+use Rattle.fv_rule.proofs.Noted.{shows_noted}
 
 some_times : (k : ℕ) → 0 < k → not (k == 0) ≡ true
 some_times k h = ap not (ne_eqb k 0 (λ z. omega arith))
@@ -54,8 +48,8 @@ module _ {C S : Type 0} (n : Net) (net : IsNet n) (workers : ℕ) (s : State S (
       let l = ap bit (lt-ltb 0 (done_by (finishes (n.source e)) v) done) in omega arith
 
   pub may_arrive : is_lean_legal n z (Arrive (worker_of v) e) ≡ true
-  may_arrive = both_of (ltb (worker_of v) (length z.runs)) (not (times e (owes_of z (worker_of v)) == 0))
-      (lt-ltb (worker_of v) (length z.runs) (h.seat id v at).there) (some_times (times e (owes_of z (worker_of v))) (let k = has in omega arith))
+  may_arrive = both_true (lt-ltb (worker_of v) (length z.runs) (h.seat id v at).there)
+      (some_times (times e (owes_of z (worker_of v))) (let k = has in omega arith))
 
   in_owes : worker_of v < length z.owes
   in_owes = let t = (h.seat id v at).there in omega arith
@@ -87,44 +81,25 @@ module _ {C S : Type 0} (n : Net) (net : IsNet n) (workers : ℕ) (s : State S (
   rt = (net.rises e inner).1
 
   pub shows_arrived : Shows {C = C} {S = S} n workers (record s { words = words'; views = set s.views id (noted v d) }) z'
-  shows_arrived =
-      let F : (x : ℕ) → all (finishes x) (set s.views id (noted v d)) ≡ all (finishes x) s.views = λ x. let r = all_noted (finishes x)
-      s.views id v d at in omega arith in
-      let W : (x : ℕ) → all (wins x) (set s.views id (noted v d)) ≡ all (wins x) s.views = λ x. let r = all_noted (wins x) s.views id v d at in omega arith in
-      let same : (j : ℕ) (u : View C) → get_elem? (set s.views id (noted v d)) j ≡ some u → (y : View C) × (get_elem? s.views j ≡ some y) ×
-      (worker_of u ≡ worker_of y) = λ j u k.
-      ⊎_elim (λ (p : (j ≡ id) × (noted v d ≡ u)). (
-        v,
-        subst (λ i. get_elem? s.views i ≡ some v) (sym p.0) at,
-        ap
-            (λ (y : View C). worker_of y) (sym p.1),
-      )) (λ p. (u, p.1, refl)) (at_set s.views id j (noted v d) u k) in
-      record {
-        long = (
-          length-set z.counts (n.reader e) (count_of z (n.reader e) - 1) ∙ h.long.0,
-          h.long.1,
-          length-set z.owes (worker_of v)
-              (without e (owes_of z (worker_of v))) ∙ h.long.2,
-        );
-        counts = λ t l. let o = h.counts t l in let k = word_is t l in
-            get_set (λ m. m ≡ slice_index words' (count_word t)) z.counts (n.reader e) t (count_of z (n.reader e) - 1) 1
-            (subst (λ m. n.reader e < m) (sym counts_long) rt)
-            (λ is. let b = bit_same (n.reader e) t (sym is) in let q : count_of z (n.reader e) ≡ count_of z t = ap (count_of z) (sym is) in omega arith)
-            (λ ne. let b = bit_apart (n.reader e) t (λ q. ne (sym q)) in omega arith);
-        done = λ t. h.done t ∙ sym (F t);
-        running = λ t. let f = F t in let g = W t in let r = h.running t in omega arith;
-        seat = λ j u k. ⊎_elim
-            (λ (p : (j ≡ id) × (noted v d ≡ u)). subst (λ (y : View C). ShowsSeat n z' y) p.1 mine)
-            (λ (p : (j ≢ id) × (get_elem? s.views j ≡ some u)). others j u p.0 p.1) (at_set s.views id j (noted v d) u k);
-        apart = λ i j u y k f m. let p = same i u k in let q = same j y f in h.apart i j p.0 q.0 p.1 q.1 (sym p.2 ∙ m ∙ q.2);
-        idle = λ k hk no. let here : worker_of v ≢ k = no id (noted v d) (set_here s.views id (noted v d) (at_below s.views id v at)) in
-            let o = h.idle k hk (λ j u q. dite (ℕ_discrete j id)
-            (λ is m. here (ap (λ (y : View C). worker_of y) (some-injective v u (sym at ∙ ap (get_elem? s.views) (sym is) ∙ q)) ∙ m))
-            (λ nj. no j u (set_else s.views id j (noted v d) nj ∙ q))) in
-            record {
-              there = o.there;
-              stays = o.stays;
-              runs = o.runs;
-              owes = get_set (λ l. l ≡ []) z.owes (worker_of v) k (without e (owes_of z (worker_of v))) [] in_owes (λ m. absurd (here (sym m))) (λ _. o.owes);
-            };
-      }
+  shows_arrived = shows_noted {C = C} {S = S} n workers s z h id v d at words' z' record {
+    long = (
+      length-set z.counts (n.reader e) (count_of z (n.reader e) - 1) ∙ h.long.0,
+      h.long.1,
+      length-set z.owes (worker_of v) (without e (owes_of z (worker_of v))) ∙ h.long.2,
+    );
+    counts = λ t l. let o = h.counts t l in let k = word_is t l in
+        get_set (λ m. m ≡ slice_index words' (count_word t)) z.counts (n.reader e) t (count_of z (n.reader e) - 1) 1
+        (subst (λ m. n.reader e < m) (sym counts_long) rt)
+        (λ is. let b = bit_same (n.reader e) t (sym is) in let q : count_of z (n.reader e) ≡ count_of z t = ap (count_of z) (sym is) in omega arith)
+        (λ ne. let b = bit_apart (n.reader e) t (λ q. ne (sym q)) in omega arith);
+    done = λ t. let o = h.done t in omega arith;
+    running = λ t. let r = h.running t in omega arith;
+    mine = mine;
+    others = others;
+    idle = λ k here o. record {
+      there = o.there;
+      stays = o.stays;
+      runs = o.runs;
+      owes = get_set (λ l. l ≡ []) z.owes (worker_of v) k (without e (owes_of z (worker_of v))) [] in_owes (λ m. absurd (here (sym m))) (λ _. o.owes);
+    };
+  }

@@ -1,5 +1,7 @@
 -- A claim keeps the rule.
-use Rattle.std.proofs.Common.{◌≡◌, ◌≢◌, ℕ, zero, suc, ◌+◌, ◌-◌, ◌<◌, ◌≤◌, Bool, true, false, not, ◌&&◌, ◌||◌, ◌⊎◌, inl, inr, ⊎_elim, List, [], ◌∷◌, ◌++◌, length, set, slice_index, refl, sym, ap, ◌∙◌, subst, arith, ◌==◌, length-set, eq-eqb, ne_eqb, true≢false, Option, Some, None, MatchBool, ltb, get_or-set_same, append_assoc}
+use Rattle.std.proofs.Common.{◌≡◌, ◌≢◌, ℕ, zero, suc, ◌+◌, ◌-◌, ◌<◌, ◌≤◌, Bool, true, false, not, ◌&&◌, ◌||◌}
+use Rattle.std.proofs.Common.{◌⊎◌, inl, inr, ⊎_elim, List, [], ◌∷◌, ◌++◌, length, set, slice_index, refl, sym, ap, ◌∙◌}
+use Rattle.std.proofs.Common.{subst, arith, ◌==◌, length-set, eq-eqb, ne_eqb, true≢false, Option, Some, None, MatchBool, ltb, get_or-set_same, append_assoc}
 use mathlib.Core.Option.{some, none, some-injective, some-ne-none}
 use mathlib.Core.Logic.{dite}
 use native.Mathlib.Decide.{ℕ_discrete}
@@ -15,9 +17,11 @@ use Rattle.fv_rule.specs.declared.Deed.{Deed}
 use Rattle.fv_rule.specs.declared.Deed.TheVariants.{Claimed}
 use Rattle.fv_rule.specs.declared.About.{About}
 use Rattle.fv_rule.specs.declared.View.{View}
-use Rattle.fv_rule.specs.Rule.{count_word, claim_word, wins, loses, sees, arrives, stamps, starts, finishes, done_by, all, noted, IsSpent, IsOwn, Fits, IsKept, Took, Claims}
+use Rattle.fv_rule.specs.Rule.{count_word, claim_word, wins, loses, sees, arrives, stamps, starts, finishes}
+use Rattle.fv_rule.specs.Rule.{done_by, all, noted, IsSpent, IsOwn, Fits, IsKept, Took, Claims}
 use Rattle.fv_rule.specs.Rule.{places, Each, IsFresh}
-use Rattle.fv_rule.proofs.Taking.{rev, onto_rev, places_append, times_rev, lie_rev, take_all, onto, AllLie, carried_all, length_all, stays_home, was_home, valid_all}
+use Rattle.fv_rule.proofs.Taking.{rev, onto_rev, places_append, times_rev, lie_rev, take_all, onto}
+use Rattle.fv_rule.proofs.Taking.{AllLie, carried_all, length_all, stays_home, was_home, valid_all}
 
 module _ {C : Type 0} where
   pub all_set : (f : Deed → ℕ) (views : List (View C)) (id : ℕ) (v w : View C) → get_elem? views id ≡ some v → all f (set views id w) +

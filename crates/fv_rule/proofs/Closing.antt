@@ -1,5 +1,8 @@
 -- A seat gives its slots back, seats are joined, and a seat with all numbers knows what all have done.
-use Rattle.std.proofs.Common.{◌≡◌, ◌≢◌, ℕ, zero, suc, ◌+◌, ◌-◌, ◌*◌, ◌<◌, ◌≤◌, Bool, true, false, ◌&&◌, ◌⊎◌, inl, inr, ⊎_elim, List, [], ◌∷◌, ◌++◌, length, get_or, set, slice_index, refl, sym, ap, ◌∙◌, subst, arith, ◌==◌, eq-eqb, Option, Some, None, ltb, lt-ltb, ltb-true}
+use Rattle.std.proofs.Common.{◌≡◌, ◌≢◌, ℕ, zero, suc, ◌+◌, ◌-◌, ◌*◌, ◌<◌, ◌≤◌, Bool, true, false, ◌&&◌, ◌⊎◌, inl, inr, ⊎_elim, List, []}
+use Rattle.std.proofs.Common.{◌∷◌, ◌++◌, length, get_or, set, slice_index, refl, sym, ap, ◌∙◌}
+use Rattle.std.proofs.Common.{subst, arith, ◌==◌, eq-eqb, Option, Some, None, ltb, lt-ltb, ltb-true}
+use Rattle.std.proofs.lemmas.List.{set-get_or}
 use mathlib.Core.Option.{some, some-injective, some-ne-none}
 use mathlib.Core.Logic.{dite}
 use native.Mathlib.Decide.{ℕ_discrete, dec_le}
@@ -17,20 +20,16 @@ use Rattle.fv_graph.specs.Wires.{Wires, IsWires}
 use Rattle.fv_rule.specs.declared.Deed.{Deed}
 use Rattle.fv_rule.specs.declared.About.{About}
 use Rattle.fv_rule.specs.declared.View.{View}
-use Rattle.fv_rule.specs.Rule.{count_word, wins, loses, sees, arrives, stamps, starts, finishes, done_by, all, together, Each, IsSpent}
+use Rattle.fv_rule.specs.Rule.{count_word, wins, loses, sees, arrives, stamps, starts, finishes, done_by, all, together, spent, Each, IsSpent}
 use Rattle.fv_rule.specs.Whole.{zeroes, starts_at, finishes_at, IsWhole}
 use Rattle.fv_rule.specs.Told.{Tells}
-use Rattle.fv_rule.proofs.Claim.{total_ext, all_le}
+use Rattle.fv_rule.proofs.Claim.{all_le}
 use Rattle.fv_rule.proofs.Taking.{give_all, none_left, valid_gives, at_below}
 use Rattle.fv_rule.specs.Carried.{IsMine, HasKey}
 use Rattle.fv_rule.proofs.Back.{back}
-use Rattle.fv_rule.proofs.Joined.{spent, joins, all_joined}
-use Rattle.fv_rule.proofs.Splits.{sum_set, sum_two, has_first}
-
-same_word : (ws : List ℕ) (i : ℕ) → set ws i (slice_index ws i) ≡ ws
-same_word [] i = refl
-same_word (x ∷ xs) zero = refl
-same_word (x ∷ xs) (suc i) = ap (λ l. x ∷ l) (same_word xs i)
+use Rattle.fv_rule.proofs.Joined.{joins, all_joined, had_joined}
+use Rattle.fv_rule.proofs.Regrouped.{whole_so}
+use Rattle.fv_rule.proofs.Splits.{sum_two, has_first}
 
 -- where the others have nothing, the whole is that of one
 pub alone_total : {X : Type 0} (g : X → ℕ) (xs : List X) (i : ℕ) (v : X) → get_elem? xs i ≡ some v →
@@ -80,7 +79,7 @@ module _ {C Key : Type 0} (wires : Graph → Wires) (edge_of : C → ℕ) (key_o
     give_all m.1,
     valid_gives m.1 s.homes,
     subst (λ (p : List ℕ × List (View C)). Holds record { words = p.0; homes = homes_after s.homes m.1 (give_all m.1); views = p.1 })
-        (λ i. (sym (same_word s.words 0) i, sym (set_again s.views id m.0 at) i)) (given ws s h id m.0 at ab m.1 mine keys),
+        (λ i. (sym (set-get_or s.words 0 0) i, sym (set_again s.views id m.0 at) i)) (given ws s h id m.0 at ab m.1 mine keys),
     (refl, none_left m.1),
   )
 
@@ -88,29 +87,15 @@ module _ {C Key : Type 0} (wires : Graph → Wires) (edge_of : C → ℕ) (key_o
   pub whole_joins : (id other : ℕ) (v w : View C) → v.board ≡ Some a → Joins {S = Option C} Holds id v other w (together v w) spent
   whole_joins id other v w ab s h at apart at' =
       let views' = set (set s.views id (together v w)) other spent in
-      let E : (f : Deed → ℕ) → all f views' ≡ all f s.views = λ f. all_joined f s.views id other v w at at' in
-      let at_w : get_elem? s.views other ≡ some w = ⊎_elim (λ x. absurd (apart x.0)) (λ x. x.1) (at_set s.views id other (together v w) w at') in
-      record {
+      whole_so wires edge_of key_of a s views' (λ f. all_joined f s.views id other v w at at') h record {
         kept = joins wires edge_of key_of a id other v w ab s h.kept at apart at';
-        numbered = λ k. (let p = sum_set (λ (y : View C). times k y.numbers) s.views id v (together v w) at in
-            let q = sum_set (λ (y : View C). times k y.numbers) (set s.views id (together v w)) other w spent at' in
-            let r = total_append (λ y. bit (y == k)) v.numbers w.numbers in
-            let z : total (λ (y : View C). times k y.numbers) views' ≡ total (λ (y : View C). times k y.numbers) s.views = omega arith in z) ∙ h.numbered k;
+        numbered = λ k. had_joined k s.views id other v w at at' ∙ h.numbered k;
         has_one = λ j y e b. ⊎_elim (λ (z : (j ≡ other) × (spent ≡ y)). absurd (no_board y (ap (λ (x : View C). x.board) (sym z.1)) b))
             (λ (z : (j ≢ other) × (get_elem? (set s.views id (together v w)) j ≡ some y)). ⊎_elim
             (λ (x : (j ≡ id) × (together v w ≡ y)). subst (λ (u : View C). 0 < length u.numbers) x.1 (let l = h.has_one id v at ab in
             omega (arith, Rattle.std.proofs.Common.length-append v.numbers w.numbers)))
             (λ (x : (j ≢ id) × (get_elem? s.views j ≡ some y)). h.has_one j y x.1 b) (at_set s.views id j (together v w) y z.1))
             (at_set (set s.views id (together v w)) other j spent y e);
-        drawn = h.drawn ∙ sym (total_ext (λ t. all (starts t) views' + all (finishes t) views')
-            (λ t. all (starts t) s.views + all (finishes t) s.views) (λ t. let x = E (starts t) in let y = E (finishes t) in omega arith) (numbers n.tasks));
-        stamped_once = λ t. let x = E (starts t) in let y = E (finishes t) in let o = h.stamped_once t in (omega arith, omega arith);
-        start_below = λ k t pos. let p = h.start_below k t (let x = E (finishes_at k t) in omega arith) in
-            (p.0, p.1, (let x = E (starts_at p.0 t) in let y = p.2 in omega arith));
-        zero_once = λ t there some'. E (zeroes n t) ∙ h.zero_once t there some';
-        arrived_done = λ e. let x = E (arrives e) in let y = E (finishes (n.source e)) in let o = h.arrived_done e in omega arith;
-        after_reads = λ k t e there pos needs. let p = h.after_reads k t e there (let x = E (starts_at k t) in omega arith) needs in
-            (p.0, p.1, (let x = E (finishes_at p.0 (n.source e)) in let y = p.2 in omega arith));
         reached = λ boards. absurd (no_board spent refl (boards other spent
             (set_here (set s.views id (together v w)) other spent (at_below (set s.views id (together v w)) other w at'))));
       }

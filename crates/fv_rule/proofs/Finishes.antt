@@ -1,11 +1,12 @@
 -- A finishing stamp is the lean core's Finish, and a step that changes neither counts, claims, finishes nor arrivals shows no change.
-use Rattle.std.proofs.Common.{◌≡◌, ◌≢◌, ℕ, ◌+◌, ◌<◌, Bool, true, false, ◌&&◌, ⊎_elim, List, [], ◌∷◌, ◌++◌, length, set, slice_index, refl, sym, ap, ◌∙◌, subst, arith, Option, Some, None, length-set, ltb, lt-ltb, ◌==◌}
-use mathlib.Core.Option.{some, some-injective}
+use Rattle.std.proofs.Common.{◌≡◌, ◌≢◌, ℕ, ◌+◌, ◌<◌, true, false, ◌&&◌, List, [], ◌∷◌, ◌++◌, length}
+use Rattle.std.proofs.Common.{set, slice_index, refl, sym, ap, ◌∙◌, subst, arith, Option, Some, None, length-set, ltb, lt-ltb, ◌==◌}
+use Rattle.std.specs.Cmp.Derive.{both_true}
+use mathlib.Core.Option.{some}
 use mathlib.Core.Logic.{dite}
 use native.Mathlib.Decide.{ℕ_discrete}
 use lib.ListN.{get_elem?}
 use Rattle.atomic_table.specs.Table.{State}
-use Rattle.atomic_table.proofs.Lists.{at_set, set_here, set_else}
 use Rattle.fv_outside.specs.Tasks.{bit, times}
 use Rattle.fv_graph.specs.Net.{Net, IsNet}
 use Rattle.fv_core.specs.Core.{Now, is_run, run_of, owes_of, is_done}
@@ -18,16 +19,11 @@ use Rattle.fv_rule.specs.declared.Deed.TheVariants.{Stamped}
 use Rattle.fv_rule.specs.declared.View.{View}
 use Rattle.fv_rule.specs.Rule.{count_word, wins, arrives, finishes, done_by, all, noted}
 use Rattle.fv_rule.specs.Shown.{worker_of, ShowsSeat, Shows}
-use Rattle.fv_rule.proofs.Claim.{all_noted}
-use Rattle.fv_rule.proofs.Taking.{at_below}
+use Rattle.fv_rule.proofs.Noted.{shows_noted}
 
 runs_one : (r : Option ℕ) (t : ℕ) → bit (is_run t r) ≡ 1 → r ≡ Some t
 runs_one None t h = absurd (omega arith)
 runs_one (Some u) t h = ap Some (bit_one u t (omega arith))
-
-both_of : (a b : Bool) → a ≡ true → b ≡ true → (a && b) ≡ true
-both_of true b p q = q
-both_of false b p q = p
 
 module _ {C S : Type 0} (n : Net) (net : IsNet n) (workers : ℕ) (s : State S (View C)) (z : Now) (h : Shows {C = C} {S = S} n workers s z)
     (id t k : ℕ) (v : View C) (at : get_elem? s.views id ≡ some v)
@@ -52,8 +48,7 @@ module _ {C S : Type 0} (n : Net) (net : IsNet n) (workers : ℕ) (s : State S (
   runs_bit x = ap (λ r. bit (is_run x r)) runs_t
 
   pub may_finish : is_lean_legal n z (Finish (worker_of v) t) ≡ true
-  may_finish = both_of (ltb (worker_of v) (length z.runs)) (is_run t (run_of z (worker_of v)))
-      (lt-ltb (worker_of v) (length z.runs) (h.seat id v at).there) (bit_true (is_run t (run_of z (worker_of v))) (let b = runs_bit t in
+  may_finish = both_true (lt-ltb (worker_of v) (length z.runs) (h.seat id v at).there) (bit_true (is_run t (run_of z (worker_of v))) (let b = runs_bit t in
       let o = bit_same t t refl in omega arith))
 
   in_owes : worker_of v < length z.owes
@@ -103,46 +98,26 @@ module _ {C S : Type 0} (n : Net) (net : IsNet n) (workers : ℕ) (s : State S (
   }
 
   pub shows_finished : Shows {C = C} {S = S} n workers (record s { words = words'; views = set s.views id (noted v d) }) z'
-  shows_finished =
-      let q = h.seat id v at in
-      let F : (x : ℕ) → all (finishes x) (set s.views id (noted v d)) ≡ all (finishes x) s.views + bit (t == x) = λ x. all_noted
-      (finishes x) s.views id v d at in
-      let W : (x : ℕ) → all (wins x) (set s.views id (noted v d)) ≡ all (wins x) s.views = λ x. let r = all_noted (wins x) s.views id v d at in omega arith in
-      let same : (j : ℕ) (u : View C) → get_elem? (set s.views id (noted v d)) j ≡ some u → (y : View C) × (get_elem? s.views j ≡ some y) ×
-      (worker_of u ≡ worker_of y) = λ j u e.
-      ⊎_elim (λ (p : (j ≡ id) × (noted v d ≡ u)). (
-        v,
-        subst (λ i. get_elem? s.views i ≡ some v) (sym p.0) at,
-        ap
-            (λ (y : View C). worker_of y) (sym p.1),
-      )) (λ p. (u, p.1, refl)) (at_set s.views id j (noted v d) u e) in
-      record {
-        long = (
-          h.long.0,
-          length-set z.done t true ∙ h.long.1,
-          length-set z.owes (worker_of v) (owes_of z (worker_of v) ++ n.feeds t) ∙
-              h.long.2 ∙ sym (length-set {A = Option ℕ} z.runs (worker_of v) None),
-        );
-        counts = λ x l. h.counts x l ∙ sym (word_is x l);
-        done = λ x. let a = done_set z.done t (subst (λ i. t < i) (sym done_long) there) was x in let b = h.done x in let c = F x in
-            let sw = bit_swap x t in omega arith;
-        running = λ x. let a = total_set (λ (r : Option ℕ). bit (is_run x r)) z.runs (worker_of v) None None q.there in
-            let b = runs_bit x in let r = h.running x in let w = W x in let f = F x in omega arith;
-        seat = λ j u e. ⊎_elim
-            (λ (p : (j ≡ id) × (noted v d ≡ u)). subst (λ (y : View C). ShowsSeat n z' y) p.1 mine)
-            (λ (p : (j ≢ id) × (get_elem? s.views j ≡ some u)). others j u p.0 p.1) (at_set s.views id j (noted v d) u e);
-        apart = λ i j u y e f m. let p = same i u e in let r = same j y f in h.apart i j p.0 r.0 p.1 r.1 (sym p.2 ∙ m ∙ r.2);
-        idle = λ x hx no. let here : worker_of v ≢ x = no id (noted v d) (set_here s.views id (noted v d) (at_below s.views id v at)) in
-            let o = h.idle x hx (λ j u e. dite (ℕ_discrete j id)
-            (λ is m. here (ap (λ (y : View C). worker_of y) (some-injective v u (sym at ∙ ap (get_elem? s.views) (sym is) ∙ e)) ∙ m))
-            (λ nj. no j u (set_else s.views id j (noted v d) nj ∙ e))) in
-            record {
-              there = omega (arith, length-set {A = Option ℕ} z.runs (worker_of v) None, o.there);
-              stays = o.stays;
-              runs = get_set (λ r. r ≡ None) z.runs (worker_of v) x None None q.there (λ m. absurd (here (sym m))) (λ _. o.runs);
-              owes = get_set (λ l. l ≡ []) z.owes (worker_of v) x (owes_of z (worker_of v) ++ n.feeds t) [] in_owes (λ m. absurd (here (sym m))) (λ _. o.owes);
-            };
-      }
+  shows_finished = let q = h.seat id v at in shows_noted {C = C} {S = S} n workers s z h id v d at words' z' record {
+    long = (
+      h.long.0,
+      length-set z.done t true ∙ h.long.1,
+      length-set z.owes (worker_of v) (owes_of z (worker_of v) ++ n.feeds t) ∙ h.long.2
+          ∙ sym (length-set {A = Option ℕ} z.runs (worker_of v) None),
+    );
+    counts = λ x l. h.counts x l ∙ sym (word_is x l);
+    done = λ x. let a = done_set z.done t (subst (λ i. t < i) (sym done_long) there) was x in let b = h.done x in let sw = bit_swap x t in omega arith;
+    running = λ x. let a = total_set (λ (r : Option ℕ). bit (is_run x r)) z.runs (worker_of v) None None q.there in
+        let b = runs_bit x in let r = h.running x in omega arith;
+    mine = mine;
+    others = others;
+    idle = λ x here o. record {
+      there = omega (arith, length-set {A = Option ℕ} z.runs (worker_of v) None, o.there);
+      stays = o.stays;
+      runs = get_set (λ r. r ≡ None) z.runs (worker_of v) x None None q.there (λ m. absurd (here (sym m))) (λ _. o.runs);
+      owes = get_set (λ l. l ≡ []) z.owes (worker_of v) x (owes_of z (worker_of v) ++ n.feeds t) [] in_owes (λ m. absurd (here (sym m))) (λ _. o.owes);
+    };
+  }
 
 module _ {C S : Type 0} (n : Net) (workers : ℕ) (s : State S (View C)) (z : Now) (h : Shows {C = C} {S = S} n workers s z) (id : ℕ)
     (v : View C) (d : Deed) (at : get_elem? s.views id ≡ some v)
@@ -161,29 +136,12 @@ module _ {C S : Type 0} (n : Net) (workers : ℕ) (s : State S (View C)) (z : No
   }
 
   pub shows_same : Shows {C = C} {S = S} n workers (record s { words = words'; views = set s.views id (noted v d) }) z
-  shows_same =
-      let F : (x : ℕ) → all (finishes x) (set s.views id (noted v d)) ≡ all (finishes x) s.views = λ x. let r = all_noted (finishes x)
-      s.views id v d at in let e = no_finish x in omega arith in
-      let W : (x : ℕ) → all (wins x) (set s.views id (noted v d)) ≡ all (wins x) s.views = λ x. let r = all_noted (wins x) s.views id v d
-      at in let e = no_win x in omega arith in
-      let same : (j : ℕ) (u : View C) → get_elem? (set s.views id (noted v d)) j ≡ some u → (y : View C) × (get_elem? s.views j ≡ some y) ×
-      (worker_of u ≡ worker_of y) = λ j u e.
-      ⊎_elim (λ (p : (j ≡ id) × (noted v d ≡ u)). (
-        v,
-        subst (λ i. get_elem? s.views i ≡ some v) (sym p.0) at,
-        ap
-            (λ (y : View C). worker_of y) (sym p.1),
-      )) (λ p. (u, p.1, refl)) (at_set s.views id j (noted v d) u e) in
-      record {
-        long = h.long;
-        counts = λ x l. h.counts x l ∙ sym (word_is x l);
-        done = λ x. h.done x ∙ sym (F x);
-        running = λ x. let f = F x in let w = W x in let r = h.running x in omega arith;
-        seat = λ j u e. ⊎_elim (λ (p : (j ≡ id) × (noted v d ≡ u)). subst (λ (y : View C). ShowsSeat n z y) p.1 (like (h.seat id v at)))
-            (λ (p : (j ≢ id) × (get_elem? s.views j ≡ some u)). h.seat j u p.1) (at_set s.views id j (noted v d) u e);
-        apart = λ i j u y e f m. let p = same i u e in let r = same j y f in h.apart i j p.0 r.0 p.1 r.1 (sym p.2 ∙ m ∙ r.2);
-        idle = λ x hx no. h.idle x hx (λ j u e. dite (ℕ_discrete j id)
-            (λ is m. no id (noted v d) (set_here s.views id (noted v d) (at_below s.views id v at))
-            (ap (λ (y : View C). worker_of y) (some-injective v u (sym at ∙ ap (get_elem? s.views) (sym is) ∙ e)) ∙ m))
-            (λ nj. no j u (set_else s.views id j (noted v d) nj ∙ e)));
-      }
+  shows_same = shows_noted {C = C} {S = S} n workers s z h id v d at words' z record {
+    long = h.long;
+    counts = λ x l. h.counts x l ∙ sym (word_is x l);
+    done = λ x. let o = h.done x in let e = no_finish x in omega arith;
+    running = λ x. let r = h.running x in let e = no_finish x in let f = no_win x in omega arith;
+    mine = like (h.seat id v at);
+    others = λ j u _ e. h.seat j u e;
+    idle = λ x _ o. o;
+  }

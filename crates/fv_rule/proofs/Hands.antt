@@ -1,5 +1,7 @@
 -- What a seat has in hand: each step keeps it, and it can be given back at any moment.
-use Rattle.std.proofs.Common.{◌≡◌, ℕ, zero, suc, ◌+◌, ◌<◌, Bool, true, false, cond, ◌&&◌, ◌||◌, ◌⊎◌, inl, inr, ⊎_elim, List, [], ◌∷◌, ◌++◌, length, refl, sym, ap, ◌∙◌, subst, arith, ◌==◌, eq-eqb, ne_eqb, ltb, ltb-true, Option, Some, None, append-nil, append_assoc, length-append}
+use Rattle.std.proofs.Common.{◌≡◌, ℕ, zero, suc, ◌+◌, ◌<◌, Bool, true, false, cond, ◌&&◌, ◌||◌, ◌⊎◌, inl, inr, ⊎_elim, List, [], ◌∷◌}
+use Rattle.std.proofs.Common.{◌++◌, length, refl, sym, ap, ◌∙◌, subst, arith, ◌==◌, eq-eqb, ne_eqb}
+use Rattle.std.proofs.Common.{ltb, ltb-true, Option, Some, None, append-nil, append_assoc, length-append}
 use mathlib.Core.Logic.{dite}
 use native.Mathlib.Decide.{ℕ_discrete}
 use Rattle.fv_outside.specs.Tasks.{bit, times}

@@ -1,9 +1,10 @@
 -- A seat takes in another, and the rule stays.
-use Rattle.std.proofs.Common.{◌≡◌, ◌≢◌, ℕ, zero, suc, ◌+◌, ◌<◌, ◌⊎◌, inl, inr, ⊎_elim, List, [], set, refl, sym, ◌∙◌, subst, arith, Option, Some, None}
+use Rattle.std.proofs.Common.{◌≡◌, ◌≢◌, ℕ, zero, suc, ◌+◌, ◌<◌, ◌⊎◌, inl, inr, ⊎_elim, List, set, refl, subst, arith, ◌==◌, Option, Some}
 use mathlib.Core.Option.{some}
 use lib.ListN.{get_elem?}
 use Rattle.atomic_table.specs.Table.{Joins}
 use Rattle.atomic_table.proofs.Lists.{at_set}
+use Rattle.fv_outside.specs.Tasks.{bit, times}
 use Rattle.fv_graph.specs.Net.{Net}
 use Rattle.fv_graph.proofs.Counts.{total_append}
 use Rattle.fv_graph.specs.Wires.{Wires}
@@ -11,15 +12,15 @@ use Rattle.fv_graph.specs.Graph.{Graph}
 use Rattle.fv_rule.specs.declared.Deed.{Deed}
 use Rattle.fv_rule.specs.declared.About.{About}
 use Rattle.fv_rule.specs.declared.View.{View}
-use Rattle.fv_rule.specs.Rule.{wins, loses, sees, arrives, stamps, starts, finishes, done_by, all, together, IsSpent, IsOwn, IsKept}
-use Rattle.fv_rule.proofs.Claim.{all_set, total_ext}
+use Rattle.fv_rule.specs.Rule.{wins, sees, arrives, starts, finishes, done_by, all, together, spent, IsSpent, IsOwn, IsKept}
+use Rattle.fv_rule.specs.Whole.{all_having}
+use Rattle.fv_rule.proofs.Claim.{all_set}
+use Rattle.fv_rule.proofs.Splits.{sum_set}
+use Rattle.fv_rule.proofs.Regrouped.{kept_so}
 
 one_of : (a b : ℕ) → 0 < a + b → (0 < a) ⊎ (0 < b)
 one_of zero b h = inr (omega arith)
 one_of (suc a) b h = inl (omega arith)
-
-abbrev pub spent : {C : Type 0} → View C
-spent = record { board = None; numbers = []; deeds = [] }
 
 module _ {C : Type 0} where
   -- no total changes
@@ -29,6 +30,13 @@ module _ {C : Type 0} where
   all_joined f views id other v w at at' = let a = all_set f views id v (together v w) at in
       let b = all_set f (set views id (together v w)) other w spent at' in
       let c = total_append f v.deeds w.deeds in omega arith
+
+  -- nor how often a number is had
+  pub had_joined : (k : ℕ) (views : List (View C)) (id other : ℕ) (v w : View C) → get_elem? views id ≡ some v →
+      get_elem? (set views id (together v w)) other ≡ some w → all_having k (set (set views id (together v w)) other spent) ≡ all_having k views
+  had_joined k views id other v w at at' = let p = sum_set (λ (y : View C). times k y.numbers) views id v (together v w) at in
+      let q = sum_set (λ (y : View C). times k y.numbers) (set views id (together v w)) other w spent at' in
+      let r = total_append (λ y. bit (y == k)) v.numbers w.numbers in omega arith
 
   pub own_joined : (n : Net) (v w : View C) → IsOwn n v → IsOwn n w → IsOwn n (together v w)
   own_joined n v w a b = record {
@@ -52,7 +60,6 @@ module _ {C Key : Type 0} (wires : Graph → Wires) (edge_of : C → ℕ) (key_o
       id v other w (together v w) spent
   joins a id other v w ab s h at apart at' =
       let n = (wires a.tasks.value).net in
-      let E : (f : Deed → ℕ) → all f (set (set s.views id (together v w)) other spent) ≡ all f s.views = λ f. all_joined f s.views id other v w at at' in
       let at_w : get_elem? s.views other ≡ some w = ⊎_elim (λ x. absurd (apart x.0)) (λ x. x.1) (at_set s.views id other (together v w) w at') in
       let each : (P : View C → Type 0) → P (together v w) → P spent → ((j : ℕ) (y : View C) → get_elem? s.views j ≡ some y → P y) → (j : ℕ)
       (y : View C) → get_elem? (set (set s.views id (together v w)) other spent) j ≡ some y → P y =
@@ -61,21 +68,7 @@ module _ {C Key : Type 0} (wires : Graph → Wires) (edge_of : C → ℕ) (key_o
       (λ (x : (j ≡ id) × (together v w ≡ y)). subst P x.1 both) (λ (x : (j ≢ id) × (get_elem? s.views j ≡ some y)). others j y x.1)
       (at_set s.views id j (together v w) y z.1))
       (at_set (set s.views id (together v w)) other j spent y e) in
-      record {
-        words_long = h.words_long;
-        homes_long = h.homes_long;
+      kept_so wires edge_of key_of a s (set (set s.views id (together v w)) other spent) (λ f. all_joined f s.views id other v w at at') h record {
         same = each (λ y. (y.board ≡ Some a) ⊎ IsSpent y) (inl ab) (inr (refl, refl, refl)) h.same;
         own = each (λ y. IsOwn n y) (own_joined n v w (h.own id v at) (h.own other w at_w)) (own_spent n) h.own;
-        stamped = λ k. E (stamps k) ∙ h.stamped k;
-        won_once = λ t. let e = E (wins t) in let p = h.won_once t in omega arith;
-        claimed = λ t there. h.claimed t there ∙ sym (E (wins t));
-        lost = λ t there pos. h.lost t there (let e = E (loses t) in omega arith);
-        counted = λ t there. let r = total_ext (λ e. all (arrives e) (set (set s.views id (together v w)) other spent))
-            (λ e. all (arrives e) s.views) (λ e. E (arrives e)) (n.needs t) in let p = h.counted t there in omega arith;
-        arrived_once = λ e. let r = E (arrives e) in let p = h.arrived_once e in omega arith;
-        seen = λ t there pos. h.seen t there (let e = E (sees t) in omega arith);
-        empty_slots = λ e he no none. h.empty_slots e he no (sym (E (wins (n.source e))) ∙ none);
-        full_slots = λ e come none. h.full_slots e (⊎_elim (λ i. inl i) (λ i. inr (sym (E (arrives e)) ∙ i)) come) (sym (E (wins (n.reader e))) ∙ none);
-        exit_slots = λ e is fin. h.exit_slots e is (sym (E (finishes (n.source e))) ∙ fin);
-        keyed = h.keyed;
       }

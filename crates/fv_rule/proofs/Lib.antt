@@ -1,6 +1,8 @@
 pub mod Taking
 pub mod Claim
+pub mod Noted
 pub mod Shows
+pub mod Regrouped
 pub mod Joined
 pub mod Back
 pub mod Spins

@@ -1,5 +1,7 @@
 -- A load of a count keeps the whole rule.
-use Rattle.std.proofs.Common.{◌≡◌, ℕ, zero, suc, ◌+◌, ◌&&◌, ◌⊎◌, inl, inr, ⊎_elim, List, [], ◌∷◌, set, slice_index, refl, sym, ap, ◌∙◌, subst, arith, ◌==◌, Option, Some}
+use Rattle.std.proofs.Common.{◌≡◌, ℕ, ◌+◌, ◌&&◌, ◌⊎◌, inl, inr, ⊎_elim, List, []}
+use Rattle.std.proofs.Common.{◌∷◌, set, slice_index, refl, sym, ap, ◌∙◌, subst, arith, ◌==◌, Option, Some}
+use Rattle.std.proofs.lemmas.List.{set-get_or}
 use mathlib.Core.Option.{some, none}
 use mathlib.Core.Logic.{dite}
 use native.Mathlib.Decide.{ℕ_discrete}
@@ -19,11 +21,6 @@ use Rattle.fv_rule.specs.Rule.{count_word, wins, loses, sees, arrives, stamps, s
 use Rattle.fv_rule.specs.Whole.{IsWhole}
 use Rattle.fv_rule.proofs.Claim.{all_noted, total_ext}
 use Rattle.fv_rule.proofs.WholeSteps.{saw_quiet, whole_quiet, reached_same}
-
-pub same_word : (ws : List ℕ) (i : ℕ) → set ws i (slice_index ws i) ≡ ws
-same_word [] i = refl
-same_word (x ∷ xs) zero = refl
-same_word (x ∷ xs) (suc i) = ap (λ l. x ∷ l) (same_word xs i)
 
 module _ {C Key : Type 0} (wires : Graph → Wires) (edge_of : C → ℕ) (key_of : C → Key) (a : About C) where
   module _ (s : State (Option C) (View C)) (h : IsWhole wires edge_of key_of a s) (id : ℕ) (v : View C)
@@ -93,6 +90,6 @@ module _ {C Key : Type 0} (wires : Graph → Wires) (edge_of : C → ℕ) (key_o
       homes = s.homes;
       views = set s.views id
           (noted m.0 (Saw t (slice_index s.words p.1)));
-    }) (λ i. (sym (same_word s.words word) i, sym ew i)) (whole_seen s h id m.0 at ab t),
+    }) (λ i. (sym (set-get_or s.words word 0) i, sym ew i)) (whole_seen s h id m.0 at ab t),
     (ap (λ k. noted m.0 (Saw k (slice_index s.words word))) (omega arith), refl),
   )

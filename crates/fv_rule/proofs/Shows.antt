@@ -1,12 +1,9 @@
 -- A won claim is a Take of the lean core.
-use Rattle.std.proofs.Common.{length-set, ◌≡◌, ◌≢◌, ℕ, zero, suc, ◌+◌, ◌<◌, Bool, true, false, cond, not, ◌&&◌, ◌||◌, List, [], ◌∷◌, ◌++◌, length, get_or, set, slice_index, refl, sym, ap, ◌∙◌, subst, arith, ◌==◌, eq-eqb, lt-ltb, ltb, true≢false, Option, Some, None, is_none, ⊎_elim}
-use mathlib.Core.Option.{some, some-injective}
-use mathlib.Core.Logic.{dite}
-use native.Mathlib.Decide.{ℕ_discrete}
+use Rattle.std.proofs.Common.{length-set, ◌≡◌, ◌≢◌, ℕ, zero, suc, ◌+◌, ◌<◌, Bool, true, false, cond, not, ◌&&◌, ◌||◌, List, [], ◌∷◌, ◌++◌, length}
+use Rattle.std.proofs.Common.{get_or, set, slice_index, refl, sym, ap, ◌∙◌, subst, arith, ◌==◌, eq-eqb, lt-ltb, ltb, true≢false, Option, Some, None, is_none}
+use mathlib.Core.Option.{some}
 use lib.ListN.{get_elem?}
 use Rattle.atomic_table.specs.Table.{State}
-use Rattle.atomic_table.proofs.Lists.{at_set, set_here, set_else}
-use Rattle.fv_rule.proofs.Taking.{at_below}
 use Rattle.fv_outside.specs.Tasks.{bit, total, times}
 use Rattle.fv_core.specs.Ends.{is_empty}
 use Rattle.fv_graph.specs.Net.{Net}
@@ -20,7 +17,7 @@ use Rattle.fv_rule.specs.declared.Deed.TheVariants.{Claimed}
 use Rattle.fv_rule.specs.declared.View.{View}
 use Rattle.fv_rule.specs.Rule.{count_word, wins, arrives, finishes, done_by, all, noted}
 use Rattle.fv_rule.specs.Shown.{worker_of, ShowsSeat, Shows, Reached, OwesNothing}
-use Rattle.fv_rule.proofs.Claim.{all_noted}
+use Rattle.fv_rule.proofs.Noted.{shows_noted}
 
 none_runs : (r : Option ℕ) → ((t : ℕ) → bit (is_run t r) ≡ 0) → r ≡ None
 none_runs None h = refl
@@ -106,41 +103,21 @@ module _ {C S : Type 0} (n : Net) (workers : ℕ) (s : State S (View C)) (z : No
   }
 
   pub shows_taken : Shows {C = C} {S = S} n workers (record s { views = set s.views id (noted v (Claimed t true)) }) (lean_after n z (Take (worker_of v) t))
-  shows_taken =
-      let q = h.seat id v at in
-      let d = Claimed t true in
-      let W : (x : ℕ) → all (wins x) (set s.views id (noted v d)) ≡ all (wins x) s.views + bit (t == x) = λ x. all_noted (wins x) s.views id v d at in
-      let F : (x : ℕ) → all (finishes x) (set s.views id (noted v d)) ≡ all (finishes x) s.views = λ x. let r = all_noted (finishes x)
-      s.views id v d at in omega arith in
-      let same : (j : ℕ) (u : View C) → get_elem? (set s.views id (noted v d)) j ≡ some u → (y : View C) × (get_elem? s.views j ≡ some y) ×
-      (worker_of u ≡ worker_of y) = λ j u e.
-      ⊎_elim (λ (p : (j ≡ id) × (noted v d ≡ u)). (
-        v,
-        subst (λ i. get_elem? s.views i ≡ some v) (sym p.0) at,
-        ap
-            (λ (y : View C). worker_of y) (sym p.1),
-      )) (λ p. (u, p.1, refl)) (at_set s.views id j (noted v d) u e) in
-      record {
+  shows_taken = let q = h.seat id v at in
+      shows_noted {C = C} {S = S} n workers s z h id v (Claimed t true) at s.words (lean_after n z (Take (worker_of v) t)) record {
         long = (h.long.0, h.long.1, h.long.2 ∙ sym (length-set z.runs (worker_of v) (Some t)));
         counts = h.counts;
-        done = λ x. h.done x ∙ sym (F x);
+        done = λ x. let o = h.done x in omega arith;
         running = λ x. let a = total_set (λ (r : Option ℕ). bit (is_run x r)) z.runs (worker_of v) (Some t) None q.there in
-            let b : bit (is_run x (run_of z (worker_of v))) ≡ 0 = ap (λ r. bit (is_run x r)) idle in
-            let r = h.running x in let w = W x in let f = F x in omega arith;
-        seat = λ j u e. ⊎_elim
-            (λ (p : (j ≡ id) × (noted v d ≡ u)). subst (λ (y : View C). ShowsSeat n (lean_after n z (Take (worker_of v) t)) y) p.1 mine)
-            (λ (p : (j ≢ id) × (get_elem? s.views j ≡ some u)). others j u p.0 p.1) (at_set s.views id j (noted v d) u e);
-        idle = λ k hk no. let here : worker_of v ≢ k = no id (noted v d) (set_here s.views id (noted v d) (at_below s.views id v at)) in
-            let o = h.idle k hk (λ j u e. dite (ℕ_discrete j id)
-            (λ is w. here (ap (λ (y : View C). worker_of y) (some-injective v u (sym at ∙ ap (get_elem? s.views) (sym is) ∙ e)) ∙ w))
-            (λ nj. no j u (set_else s.views id j (noted v d) nj ∙ e))) in
-            record {
-              there = omega (arith, length-set z.runs (worker_of v) (Some t), o.there);
-              stays = o.stays;
-              runs = get_set (λ r. r ≡ None) z.runs (worker_of v) k (Some t) None q.there (λ w. absurd (here (sym w))) (λ _. o.runs);
-              owes = o.owes;
-            };
-        apart = λ i j u y e f w. let a = same i u e in let b = same j y f in h.apart i j a.0 b.0 a.1 b.1 (sym a.2 ∙ w ∙ b.2);
+            let b : bit (is_run x (run_of z (worker_of v))) ≡ 0 = ap (λ r. bit (is_run x r)) idle in let r = h.running x in omega arith;
+        mine = mine;
+        others = others;
+        idle = λ k here o. record {
+          there = omega (arith, length-set z.runs (worker_of v) (Some t), o.there);
+          stays = o.stays;
+          runs = get_set (λ r. r ≡ None) z.runs (worker_of v) k (Some t) None q.there (λ w. absurd (here (sym w))) (λ _. o.runs);
+          owes = o.owes;
+        };
       }
 
 -- after a won claim the board shows a state that one event more reaches

@@ -1,5 +1,6 @@
 -- A seat with nothing done is cut in two, and the whole rule stays.
-use Rattle.std.proofs.Common.{◌≡◌, ◌≢◌, ℕ, zero, suc, ◌+◌, ◌<◌, ◌≤◌, Bool, true, false, ◌&&◌, ◌⊎◌, inl, inr, ⊎_elim, List, [], ◌∷◌, ◌++◌, length, get_or, set, refl, sym, ap, ◌∙◌, subst, arith, Option, Some, ltb, ltb-true}
+use Rattle.std.proofs.Common.{◌≡◌, ◌≢◌, ℕ, zero, suc, ◌+◌, ◌<◌, ◌≤◌, Bool, true, false, ◌&&◌, ◌⊎◌, inl, ⊎_elim, List}
+use Rattle.std.proofs.Common.{[], ◌∷◌, ◌++◌, length, get_or, set, refl, sym, ap, ◌∙◌, subst, arith, Option, Some, ltb, ltb-true}
 use mathlib.Core.Option.{some, some-injective, some-ne-none}
 use mathlib.Core.Logic.{dite}
 use native.Mathlib.Decide.{ℕ_discrete}
@@ -9,18 +10,18 @@ use Rattle.atomic_table.proofs.Lists.{at_set, at_snoc, at_longer, set_else, set_
 use Rattle.fv_outside.specs.Tasks.{bit, total, times}
 use Rattle.fv_graph.specs.Net.{Net}
 use Rattle.fv_graph.specs.Graph.{Graph}
-use Rattle.fv_core.specs.Core.{Now, numbers, is_run, run_of, owes_of}
+use Rattle.fv_core.specs.Core.{Now, is_run, run_of, owes_of}
 use Rattle.fv_graph.proofs.Counts.{bit_same, bit_true, total_append}
 use Rattle.fv_graph.proofs.Counts.{bit_right}
 use Rattle.fv_graph.specs.Wires.{Wires}
 use Rattle.fv_rule.specs.declared.Deed.{Deed}
 use Rattle.fv_rule.specs.declared.About.{About}
 use Rattle.fv_rule.specs.declared.View.{View}
-use Rattle.fv_rule.specs.Rule.{wins, loses, sees, arrives, stamps, starts, finishes, done_by, all, IsSpent, IsOwn, IsKept}
+use Rattle.fv_rule.specs.Rule.{wins, arrives, finishes, done_by, all, IsSpent, IsOwn, IsKept}
 use Rattle.fv_rule.specs.Shown.{worker_of, ShowsSeat, Shows, IsIdle}
-use Rattle.fv_rule.specs.Whole.{zeroes, starts_at, finishes_at, first_number, other_numbers, left_part, right_part, IsWhole}
-use Rattle.fv_rule.proofs.Claim.{total_ext}
+use Rattle.fv_rule.specs.Whole.{first_number, other_numbers, left_part, right_part, IsWhole}
 use Rattle.fv_rule.proofs.Taking.{at_below}
+use Rattle.fv_rule.proofs.Regrouped.{kept_so, whole_so}
 
 module _ {X : Type 0} (g : X → ℕ) where
   pub sum_set : (xs : List X) (i : ℕ) (v w : X) → get_elem? xs i ≡ some v → total g (set xs i w) + g v ≡ total g xs + g w
@@ -152,23 +153,9 @@ module _ {C Key : Type 0} (wires : Graph → Wires) (edge_of : C → ℕ) (key_o
     }
 
     pub kept_cut : IsKept wires edge_of key_of a s'
-    kept_cut = let k = h.kept in record {
-      words_long = k.words_long;
-      homes_long = k.homes_long;
-      same = each_cut s.views id v (λ y. (y.board ≡ Some a) ⊎ IsSpent y) (inl ab) (inl ab) k.same;
-      own = each_cut s.views id v (λ y. IsOwn n y) own_left own_right k.own;
-      stamped = λ m. E (stamps m) ∙ k.stamped m;
-      won_once = λ t. let e = E (wins t) in let p = k.won_once t in omega arith;
-      claimed = λ t there. k.claimed t there ∙ sym (E (wins t));
-      lost = λ t there pos. k.lost t there (let e = E (loses t) in omega arith);
-      counted = λ t there. let r = total_ext (λ e. all (arrives e) (cut s.views id v)) (λ e. all (arrives e) s.views) (λ e. E (arrives e))
-          (n.needs t) in let p = k.counted t there in omega arith;
-      arrived_once = λ e. let r = E (arrives e) in let p = k.arrived_once e in omega arith;
-      seen = λ t there pos. k.seen t there (let e = E (sees t) in omega arith);
-      empty_slots = λ e he no none. k.empty_slots e he no (sym (E (wins (n.source e))) ∙ none);
-      full_slots = λ e come none. k.full_slots e (⊎_elim (λ i. inl i) (λ i. inr (sym (E (arrives e)) ∙ i)) come) (sym (E (wins (n.reader e))) ∙ none);
-      exit_slots = λ e is fin. k.exit_slots e is (sym (E (finishes (n.source e))) ∙ fin);
-      keyed = k.keyed;
+    kept_cut = kept_so wires edge_of key_of a s (cut s.views id v) E h.kept record {
+      same = each_cut s.views id v (λ y. (y.board ≡ Some a) ⊎ IsSpent y) (inl ab) (inl ab) h.kept.same;
+      own = each_cut s.views id v (λ y. IsOwn n y) own_left own_right h.kept.own;
     }
 
     numbered' : (k : ℕ) → total (λ (y : View C). times k y.numbers) (cut s.views id v) ≡ bit (ltb k a.workers)
@@ -203,7 +190,7 @@ module _ {C Key : Type 0} (wires : Graph → Wires) (edge_of : C → ℕ) (key_o
           let r = has_first u.numbers (h.has_one j u e (old_boards j u e)) in
           let z : times (worker_of u) u.numbers ≡ times k u.numbers = ap (λ i. times i u.numbers) w in absurd (omega arith))
 
-      shows_cut : (z : Now) → Shows {C = C} {S = Option C} n a.workers s z → Shows {C = C} {S = Option C} n a.workers s' z
+      pub shows_cut : (z : Now) → Shows {C = C} {S = Option C} n a.workers s z → Shows {C = C} {S = Option C} n a.workers s' z
       shows_cut z q = record {
         long = q.long;
         counts = q.counts;
@@ -219,19 +206,10 @@ module _ {C Key : Type 0} (wires : Graph → Wires) (edge_of : C → ℕ) (key_o
       }
 
     pub whole_cut : IsWhole wires edge_of key_of a s'
-    whole_cut = record {
+    whole_cut = whole_so wires edge_of key_of a s (cut s.views id v) E h record {
       kept = kept_cut;
       numbered = numbered';
       has_one = has_one';
-      drawn = h.drawn ∙ sym (total_ext (λ t. all (starts t) (cut s.views id v) + all (finishes t) (cut s.views id v))
-          (λ t. all (starts t) s.views + all (finishes t) s.views) (λ t. let x = E (starts t) in let y = E (finishes t) in omega arith) (numbers n.tasks));
-      stamped_once = λ t. let x = E (starts t) in let y = E (finishes t) in let o = h.stamped_once t in (omega arith, omega arith);
-      start_below = λ k t pos. let p = h.start_below k t (let x = E (finishes_at k t) in omega arith) in
-          (p.0, p.1, (let x = E (starts_at p.0 t) in let y = p.2 in omega arith));
-      zero_once = λ t there some. E (zeroes n t) ∙ h.zero_once t there some;
-      arrived_done = λ e. let x = E (arrives e) in let y = E (finishes (n.source e)) in let o = h.arrived_done e in omega arith;
-      after_reads = λ k t e there pos needs. let p = h.after_reads k t e there (let x = E (starts_at k t) in omega arith) needs in
-          (p.0, p.1, (let x = E (finishes_at p.0 (n.source e)) in let y = p.2 in omega arith));
       reached = λ boards. let r = h.reached (old_boards boards) in (r.0, r.1, r.2, shows_cut boards r.1 r.3);
     }
 

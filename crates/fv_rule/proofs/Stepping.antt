@@ -1,5 +1,7 @@
 -- The law of the steps, from what each of them keeps and shows.
-use Rattle.std.proofs.Common.{◌≡◌, ℕ, ◌+◌, ◌-◌, ◌%◌, ◌^◌, ◌<◌, Bool, true, false, cond, List, [], ◌∷◌, length, set, slice_index, refl, sym, ap, ◌∙◌, subst, arith, ◌==◌, Option, Some, None, MatchBool, get_or-set_same}
+use Rattle.std.proofs.Common.{◌≡◌, ◌≢◌, ℕ, ◌+◌, ◌-◌, ◌%◌, ◌^◌, ◌<◌, Bool, true, false, cond, List, [], ◌∷◌}
+use Rattle.std.proofs.Common.{length, set, slice_index, refl, sym, ap, ◌∙◌, subst, arith, ◌==◌, Option, Some, None, MatchBool, get_or-set_same}
+use Rattle.std.proofs.lemmas.List.{set-get_or}
 use mathlib.Core.Option.{some, none}
 use mathlib.Core.Logic.{dite}
 use native.Mathlib.Decide.{ℕ_discrete}
@@ -19,10 +21,15 @@ use Rattle.fv_rule.specs.declared.Deed.TheVariants.{Stamped, Arrived, Saw, Claim
 use Rattle.fv_rule.specs.declared.About.{About}
 use Rattle.fv_rule.specs.declared.View.{View}
 use Rattle.fv_rule.specs.Wired.{graph_wires}
-use Rattle.fv_rule.specs.Rule.{count_word, claim_word, wins, sees, finishes, arrives, done_by, all, noted, Took, IsFresh}
+use Rattle.fv_rule.specs.Rule.{count_word, claim_word, wins, sees, finishes, arrives, done_by, all, noted, together, Took, IsFresh}
 use Rattle.fv_rule.specs.Shown.{worker_of, OwesNothing}
 use Rattle.fv_rule.specs.Carried.{IsFree, IsBusy, AreHanded}
-use Rattle.fv_rule.specs.Steps.{ShowsNow, Changes, Steps, StepLaw}
+use Rattle.fv_rule.specs.Steps.{ShowsNow, Changes, cut_at, joined_at, AreAsBefore, Meets, Steps, StepLaw}
+use Rattle.fv_rule.specs.Whole.{AllKnow}
+use Rattle.atomic_table.proofs.Lists.{set_else}
+use Rattle.fv_rule.proofs.Splits.{all_cut, had_cut, each_cut, whole_cut, shows_cut}
+use Rattle.fv_rule.proofs.Joined.{all_joined, had_joined}
+use Rattle.fv_rule.proofs.Closing.{whole_joins}
 use Rattle.fv_rule.proofs.Claim.{tell, all_at}
 use Rattle.fv_rule.proofs.Back.{all_gap}
 use Rattle.fv_rule.proofs.Claims.{claims_whole}
@@ -30,7 +37,7 @@ use Rattle.fv_rule.proofs.Shows.{may_take, shows_taken}
 use Rattle.fv_rule.proofs.Finishes.{shows_same, shows_finished, may_finish}
 use Rattle.fv_rule.proofs.Arrives.{shows_arrived, may_arrive}
 use Rattle.fv_rule.proofs.WholeSteps.{shows_words}
-use Rattle.fv_rule.proofs.Load.{looks, same_word}
+use Rattle.fv_rule.proofs.Load.{looks}
 use Rattle.fv_rule.proofs.Starting.{starting, behind}
 use Rattle.fv_rule.proofs.Arrive.{one_less}
 use Rattle.fv_rule.proofs.Arriving.{arriving}
@@ -74,7 +81,7 @@ module _ {C Key : Type 0} (edge_of : C → ℕ) (key_of : C → Key) (a : About 
         r.2,
         r.3,
         stays s at (Saw t k) (λ x. refl) (λ x. refl) (λ x. refl) (count_word t) k r.1 r.0 e
-            (λ x l. ap (λ ks. slice_index ks (count_word x)) (same_word s.words (count_word t))),
+            (λ x l. ap (λ ks. slice_index ks (count_word x)) (set-get_or s.words (count_word t) 0)),
         (λ i. (e i, r.4.1 i)),
       )
 
@@ -215,6 +222,21 @@ module _ {C Key : Type 0} (edge_of : C → ℕ) (key_of : C → Key) (a : About 
           ((λ i. (t0 i, t1 i)), r.4.2),
         )
 
+  law_split : v.deeds ≡ [] → 1 < length v.numbers → (s : State (Option C) (View C)) → Meets edge_of key_of a s → get_elem? s.views id ≡ some v
+      → Meets edge_of key_of a (cut_at s id v) × AreAsBefore s (cut_at s id v) × (AllKnow a s → Changes a s (cut_at s id v) None)
+  law_split fresh more s h at = (
+    whole_cut graph_wires edge_of key_of a id v ab fresh more s h at,
+    record { deeds = λ f. all_cut f s.views id v at; numbers = λ k. had_cut k s.views id v at },
+    (λ know. shows_cut graph_wires edge_of key_of a id v ab fresh more s h at (each_cut s.views id v (λ y. y.board ≡ Some a) ab ab know)),
+  )
+
+  law_join : (other : ℕ) (w : View C) → other ≢ id → (s : State (Option C) (View C)) → Meets edge_of key_of a s → get_elem? s.views id ≡ some v
+      → get_elem? s.views other ≡ some w → Meets edge_of key_of a (joined_at s id v other w) × AreAsBefore s (joined_at s id v other w)
+  law_join other w apart s h at there = let at' = set_else s.views id other (together v w) apart ∙ there in (
+    whole_joins graph_wires edge_of key_of a id other v w ab s h at apart at',
+    record { deeds = λ f. all_joined f s.views id other v w at at'; numbers = λ k. had_joined k s.views id other v w at at' },
+  )
+
   pub steps : StepLaw edge_of key_of a id v c
   steps = record {
     look = law_look;
@@ -223,4 +245,6 @@ module _ {C Key : Type 0} (edge_of : C → ℕ) (key_of : C → Key) (a : About 
     finish = law_finish;
     arrive = λ e x tail is free. law_arrive e x tail is free;
     exchange = λ t e started y busy may. exchange_busy graph_wires edge_of key_of a v c t started e y busy may;
+    split = law_split;
+    join = law_join;
   }

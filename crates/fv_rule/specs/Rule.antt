@@ -1,5 +1,6 @@
 -- The board's rule, over words, slots and what all seats have done.
-use Rattle.std.specs.Prelude.{◌≡◌, ℕ, ◌+◌, ◌-◌, ◌<◌, ◌≤◌, true, false, cond, not, ◌&&◌, ◌⊎◌, List, [], ◌∷◌, ◌++◌, length, slice_index, Option, Some, None, ◌==◌, ltb, MatchBool, drop}
+use Rattle.std.specs.Prelude.{◌≡◌, ℕ, ◌+◌, ◌-◌, ◌<◌, ◌≤◌, true, false, cond, not, ◌&&◌, ◌⊎◌, List}
+use Rattle.std.specs.Prelude.{[], ◌∷◌, ◌++◌, length, slice_index, Option, Some, None, ◌==◌, ltb, MatchBool, drop}
 use mathlib.Core.Option.{some}
 use lib.ListN.{get_elem?}
 use Rattle.atomic_table.specs.Table.{State, Me, Step, rest}
@@ -86,6 +87,10 @@ abbrev pub together : {C : Type 0} → View C → View C → View C
 together v w = record { board = v.board; numbers = v.numbers ++ w.numbers; deeds = v.deeds ++ w.deeds }
 
 -- the view of a seat that was joined to another: it knows no board, has no number and did nothing
+abbrev pub spent : {C : Type 0} → View C
+spent = record { board = None; numbers = []; deeds = [] }
+
+-- the same, by its parts
 abbrev pub IsSpent : {C : Type 0} → View C → Type 0
 IsSpent v = (v.board ≡ None) × (v.deeds ≡ []) × (v.numbers ≡ [])
 

@@ -1,5 +1,6 @@
 -- What each kind of step of a seat does to a board that meets its rule, and to what the board shows (this project's profile).
-use Rattle.std.specs.Prelude.{◌≡◌, ℕ, ◌+◌, ◌-◌, ◌%◌, ◌^◌, ◌<◌, Bool, true, false, cond, List, [], ◌∷◌, slice_index, Option, Some, None, MatchBool, ◌==◌}
+use Rattle.std.specs.Prelude.{◌≡◌, ◌≢◌, ℕ, ◌+◌, ◌-◌, ◌%◌, ◌^◌, ◌<◌, Bool, true, false, cond}
+use Rattle.std.specs.Prelude.{List, [], ◌∷◌, ◌++◌, length, slice_index, slice_set, Option, Some, None, MatchBool, ◌==◌}
 use mathlib.Core.Option.{some}
 use lib.ListN.{get_elem?}
 use Rattle.atomic_table.specs.Table.{State, Me, Act, Valid, carried_after, stepped}
@@ -8,13 +9,14 @@ use Rattle.fv_core.specs.Core.{Now, opening}
 use Rattle.fv_core.specs.Lean.{is_lean_legal, lean_after}
 use Rattle.fv_core.specs.declared.event.Event.{Event}
 use Rattle.fv_core.specs.declared.event.Event.TheVariants.{Take, Finish, Arrive}
+use Rattle.fv_rule.specs.declared.Deed.{Deed}
 use Rattle.fv_rule.specs.declared.Deed.TheVariants.{Stamped, Arrived, Saw, Claimed}
 use Rattle.fv_rule.specs.declared.About.{About}
 use Rattle.fv_rule.specs.declared.View.{View}
 use Rattle.fv_rule.specs.Wired.{graph_wires}
-use Rattle.fv_rule.specs.Rule.{count_word, claim_word, sees, done_by, noted}
+use Rattle.fv_rule.specs.Rule.{count_word, claim_word, sees, done_by, all, noted, together, spent}
 use Rattle.fv_rule.specs.Shown.{worker_of, Shows}
-use Rattle.fv_rule.specs.Whole.{IsWhole}
+use Rattle.fv_rule.specs.Whole.{left_part, right_part, all_having, AllKnow, IsWhole}
 use Rattle.fv_rule.specs.Carried.{with_slot, MayHold, IsFree, IsBusy, AreHanded}
 
 module _ {C : Type 0} where
@@ -27,6 +29,19 @@ module _ {C : Type 0} where
   Changes a s s' None = (z : Now) → ShowsNow a s z → ShowsNow a s' z
   Changes a s s' (Some e) = (z : Now) → ShowsNow a s z
       → (is_lean_legal (net_of a.tasks.value.tasks) z e ≡ true) × ShowsNow a s' (lean_after (net_of a.tasks.value.tasks) z e)
+
+  -- the board where seat `id`, of view v, is cut in two: it keeps its first number, and a new seat has the others
+  abbrev pub cut_at : State (Option C) (View C) → ℕ → View C → State (Option C) (View C)
+  cut_at s id v = record s { views = slice_set s.views id (left_part v) ++ right_part v ∷ [] }
+
+  -- the board where seat `id`, of view v, takes in seat `other`, of view w, which is spent then
+  abbrev pub joined_at : State (Option C) (View C) → ℕ → View C → ℕ → View C → State (Option C) (View C)
+  joined_at s id v other w = record s { views = slice_set (slice_set s.views id (together v w)) other spent }
+
+  -- taken together, the seats did what they did, and have the numbers that they had
+  pub record AreAsBefore (s s' : State (Option C) (View C)) : Type 0 where
+    pub deeds : (f : Deed → ℕ) → all f s'.views ≡ all f s.views
+    pub numbers : (k : ℕ) → all_having k s'.views ≡ all_having k s.views
 
 module _ {C Key : Type 0} (edge_of : C → ℕ) (key_of : C → Key) where
   -- the board meets its rule
@@ -62,6 +77,12 @@ module _ {C Key : Type 0} (edge_of : C → ℕ) (key_of : C → Key) where
     -- an exchange of a slot that the seat has, by which a parcel is handed or received: it changes nothing that the rule sees
     pub exchange : (t e : ℕ) (started : Bool) (y : Option C) → IsBusy graph_wires edge_of key_of a t started v c
         → MayHold graph_wires edge_of key_of a e y → IsBusy graph_wires edge_of key_of a t started v (with_slot c e y)
+    -- a split of a seat that has done nothing and has several numbers: while no seat is spent, just what was shown is shown
+    pub split : v.deeds ≡ [] → 1 < length v.numbers → (s : State (Option C) (View C)) → Meets a s → get_elem? s.views id ≡ some v
+        → Meets a (cut_at s id v) × AreAsBefore s (cut_at s id v) × (AllKnow a s → Changes a s (cut_at s id v) None)
+    -- a join, by which the seat takes in another one. That one is spent then, and the board shows nothing from then on
+    pub join : (other : ℕ) (w : View C) → other ≢ id → (s : State (Option C) (View C)) → Meets a s → get_elem? s.views id ≡ some v
+        → get_elem? s.views other ≡ some w → Meets a (joined_at s id v other w) × AreAsBefore s (joined_at s id v other w)
 
   -- a board that meets its rule, in which no seat is spent and no seat has done anything, shows the lean core's opening state
   abbrev pub OpeningLaw : Type 0

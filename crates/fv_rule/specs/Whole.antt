@@ -63,12 +63,20 @@ left_part v = record v { numbers = first_number v.numbers }
 abbrev pub right_part : {C : Type 0} → View C → View C
 right_part v = record { board = v.board; numbers = other_numbers v.numbers; deeds = [] }
 
+-- how often a number stands in what all seats have, taken together
+abbrev pub all_having : {C : Type 0} → ℕ → List (View C) → ℕ
+all_having k views = total (λ v. times k v.numbers) views
+
+-- no seat is spent: each knows the board
+abbrev pub AllKnow : {C S : Type 0} → About C → State S (View C) → Type 0
+AllKnow {C} a s = (id : ℕ) (v : View C) → get_elem? s.views id ≡ some v → v.board ≡ Some a
+
 module _ {C Key : Type 0} (wires : Graph → Wires) (edge_of : C → ℕ) (key_of : C → Key) where
   -- the whole rule
   pub record IsWhole (a : About C) (s : State (Option C) (View C)) : Type 0 where
     pub kept : IsKept wires edge_of key_of a s
     -- seats: each number below the number of workers is had once, and each seat that is not spent has one
-    pub numbered : (k : ℕ) → total (λ v. times k v.numbers) s.views ≡ bit (ltb k a.workers)
+    pub numbered : (k : ℕ) → all_having k s.views ≡ bit (ltb k a.workers)
     pub has_one : (id : ℕ) (v : View C) → get_elem? s.views id ≡ some v → v.board ≡ Some a → 0 < length v.numbers
     -- stamps
     pub drawn : slice_index s.words 0 ≡ total (λ t. all (starts t) s.views + all (finishes t) s.views) (numbers (wires a.tasks.value).net.tasks)
@@ -81,5 +89,4 @@ module _ {C Key : Type 0} (wires : Graph → Wires) (edge_of : C → ℕ) (key_o
     pub after_reads : (k t e : ℕ) → t < (wires a.tasks.value).net.tasks → 0 < all (starts_at k t) s.views
         → 0 < times e ((wires a.tasks.value).net.needs t) → (m : ℕ) × (m < k) × (0 < all (finishes_at m ((wires a.tasks.value).net.source e)) s.views)
     -- what is shown, while no seat is spent
-    pub reached : ((id : ℕ) (v : View C) → get_elem? s.views id ≡ some v → v.board ≡ Some a) → Reached {C = C} {S = Option C}
-        (wires a.tasks.value).net a.workers s
+    pub reached : AllKnow a s → Reached {C = C} {S = Option C} (wires a.tasks.value).net a.workers s

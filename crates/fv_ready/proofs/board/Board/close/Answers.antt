@@ -2,55 +2,40 @@ use Rattle.std.proofs.Common.{◌≡◌, ℕ, ◌*◌, ◌-◌, ◌<◌, ◌++�
 use Rattle.std.specs.Slots.{slots_items}
 use mathlib.Core.Option.{some}
 use lib.ListN.{get_elem?}
-use Rattle.fv_outside.specs.Tasks.{task_count}
 use Rattle.fv_graph.specs.Graph.{edges_of, net_of}
-use Rattle.fv_rule.specs.Rule.{claim_word, wins}
+use Rattle.fv_rule.specs.Rule.{claim_word}
 use Rattle.fv_ready.specs.Told.{told_by}
 use Rattle.fv_ready.specs.Closed.{AreSlots}
 use Rattle.fv_ready.proofs.Moving.{no_items}
-use Rattle.fv_ready.proofs.Ends.{end_of, some_seats, some_task, done_taken, are_parcels}
+use Rattle.fv_ready.proofs.Ends.{ended_as, none_taken, some_task, done_taken, are_parcels}
 use Rattle.fv_ready.proofs.board.Board.close.Goals as goal
-
-pub gather-all-requires-clause-some : goal.gather-all-requires-clause-some
-gather-all-requires-clause-some g c = let o = some_seats c.args.seats.items (c.requires.all.1 0 c.requires.all.0) in let k = c.args.seats.ok.0 in omega arith
 
 pub hand_out-requires-clause-full : goal.hand_out-requires-clause-full
 hand_out-requires-clause-full g c = λ x l m. let b = c.args.self in
-    let e = end_of g.C.Parcel.edge_of g.C.Parcel.key_of c.args.self.table.shared.key c.args.self.tasks.now c.args.self.told
-    c.args.self.graph c.gather-all.result.id c.gather-all.result.me.0 _ _ c.close_with-closed.ensures.values.2 c.args.seats.items
-    c.gather-all.ensures.lists c.gather-all.ensures.numbers c.requires.all in
+    let e = ended_as g.C.Parcel.edge_of g.C.Parcel.key_of b _ _ _ c.end_table-closed.ensures.ended in
     let done = e.finished c.word-stamps.result c.word-stamps.ensures (c.if-stamps-n.true ∙ ap (λ k. 2 * k) c.len-n.ensures.value) in
     let h = e.exits done x (let a = c.edges-edges.ensures.value in let b = c.loops-loops.ensures.value in
     omega arith) (let a = c.edges-edges.ensures.value in omega arith) in (h.parcel, h.at)
 
 pub hand_out-requires-then-is_untouched-clause-full : goal.hand_out-requires-then-is_untouched-clause-full
 hand_out-requires-then-is_untouched-clause-full g c = λ x l m. let b = c.args.self in
-    let e = end_of g.C.Parcel.edge_of g.C.Parcel.key_of c.args.self.table.shared.key c.args.self.tasks.now c.args.self.told
-    c.args.self.graph c.gather-all.result.id c.gather-all.result.me.0 _ _ c.close_with-closed.ensures.values.2 c.args.seats.items
-    c.gather-all.ensures.lists c.gather-all.ensures.numbers c.requires.all in
-    let none' : (t : ℕ) → t < task_count b.tasks.now.tasks → told_by (wins t) c.args.seats.items ≡ 0 = λ t l. e.untaken t l
-    (subst (λ k. (t : ℕ) → t < k → get_elem? (slots_items c.close_with-closed.result.words) (claim_word k t) ≡ some 0)
-    c.len-n.ensures.value (c.is_untouched.ensures.0 c.if-is_untouched.true) t l) in
+    let e = ended_as g.C.Parcel.edge_of g.C.Parcel.key_of b _ _ _ c.end_table-closed.ensures.ended in
+    let none' = none_taken g.C.Parcel.edge_of g.C.Parcel.key_of _ _ _ _ _ _ e c.len-n.ensures.value
+    (c.is_untouched.ensures.0 c.if-is_untouched.true) in
     let h = e.entries none' x (let b = c.loops-loops.ensures.value in omega arith) in (h.parcel, h.at)
 
 pub returns-then-stamps-n-clause-done : goal.returns-then-stamps-n-clause-done
 returns-then-stamps-n-clause-done g c = let b = c.args.self in
-    let e = end_of g.C.Parcel.edge_of g.C.Parcel.key_of c.args.self.table.shared.key c.args.self.tasks.now c.args.self.told
-    c.args.self.graph c.gather-all.result.id c.gather-all.result.me.0 _ _ c.close_with-closed.ensures.values.2 c.args.seats.items
-    c.gather-all.ensures.lists c.gather-all.ensures.numbers c.requires.all in
+    let e = ended_as g.C.Parcel.edge_of g.C.Parcel.key_of b _ _ _ c.end_table-closed.ensures.ended in
     let done = e.finished c.word-stamps.result c.word-stamps.ensures (c.if-stamps-n.true ∙ ap (λ k. 2 * k) c.len-n.ensures.value) in ((λ _. done), (λ _. refl))
 
 pub returns-then-stamps-n-clause-tells : goal.returns-then-stamps-n-clause-tells
 returns-then-stamps-n-clause-tells g c = let b = c.args.self in
-    let e = end_of g.C.Parcel.edge_of g.C.Parcel.key_of c.args.self.table.shared.key c.args.self.tasks.now c.args.self.told
-    c.args.self.graph c.gather-all.result.id c.gather-all.result.me.0 _ _ c.close_with-closed.ensures.values.2 c.args.seats.items
-    c.gather-all.ensures.lists c.gather-all.ensures.numbers c.requires.all in e.told
+    let e = ended_as g.C.Parcel.edge_of g.C.Parcel.key_of b _ _ _ c.end_table-closed.ensures.ended in e.told
 
 pub returns-then-stamps-n-clause-exits : goal.returns-then-stamps-n-clause-exits
 returns-then-stamps-n-clause-exits g c = λ _. let b = c.args.self in
-    let e = end_of g.C.Parcel.edge_of g.C.Parcel.key_of c.args.self.table.shared.key c.args.self.tasks.now c.args.self.told
-    c.args.self.graph c.gather-all.result.id c.gather-all.result.me.0 _ _ c.close_with-closed.ensures.values.2 c.args.seats.items
-    c.gather-all.ensures.lists c.gather-all.ensures.numbers c.requires.all in
+    let e = ended_as g.C.Parcel.edge_of g.C.Parcel.key_of b _ _ _ c.end_table-closed.ensures.ended in
     let done = e.finished c.word-stamps.result c.word-stamps.ensures (c.if-stamps-n.true ∙ ap (λ k. 2 * k) c.len-n.ensures.value) in
     let p = c.hand_out.ensures in let v = c.edges-edges.ensures.value in let w = c.loops-loops.ensures.value in
     let from : c.edges-edges.result - c.loops-loops.result ≡ edges_of b.tasks.now.tasks - b.tasks.now.tasks.loops = omega arith in (
@@ -58,14 +43,12 @@ returns-then-stamps-n-clause-exits g c = λ _. let b = c.args.self in
       p.1,
       (let k = p.2 in omega arith),
       are_parcels g.C.Parcel.edge_of g.C.Parcel.key_of b.table.shared.key _ (edges_of b.tasks.now.tasks - b.tasks.now.tasks.loops) p.0
-          (λ x l m. e.exits done x l (let k = p.2 in omega arith)) (subst (λ k. AreSlots (slots_items c.close_with-closed.result.slots) k p.0) from p.3),
+          (λ x l m. e.exits done x l (let k = p.2 in omega arith)) (subst (λ k. AreSlots (slots_items c.end_table-closed.result.slots) k p.0) from p.3),
     )
 
 pub returns-then-stamps-n-clause-entries : goal.returns-then-stamps-n-clause-entries
 returns-then-stamps-n-clause-entries g c = λ z. let b = c.args.self in
-    let e = end_of g.C.Parcel.edge_of g.C.Parcel.key_of c.args.self.table.shared.key c.args.self.tasks.now c.args.self.told
-    c.args.self.graph c.gather-all.result.id c.gather-all.result.me.0 _ _ c.close_with-closed.ensures.values.2 c.args.seats.items
-    c.gather-all.ensures.lists c.gather-all.ensures.numbers c.requires.all in
+    let e = ended_as g.C.Parcel.edge_of g.C.Parcel.key_of b _ _ _ c.end_table-closed.ensures.ended in
     let done = e.finished c.word-stamps.result c.word-stamps.ensures (c.if-stamps-n.true ∙ ap (λ k. 2 * k) c.len-n.ensures.value) in
     let some' = some_task b.tasks.now.tasks b.graph in
     absurd (done_taken (net_of b.tasks.now.tasks) (λ f. told_by f c.args.seats.items) 0 e.told (done 0 some') (z 0 some'))
@@ -75,12 +58,9 @@ returns-then-stamps-n-clause-nothing g c = λ no t l w. absurd (no refl)
 
 pub returns-then-is_untouched-clause-done : goal.returns-then-is_untouched-clause-done
 returns-then-is_untouched-clause-done g c = let b = c.args.self in
-    let e = end_of g.C.Parcel.edge_of g.C.Parcel.key_of c.args.self.table.shared.key c.args.self.tasks.now c.args.self.told
-    c.args.self.graph c.gather-all.result.id c.gather-all.result.me.0 _ _ c.close_with-closed.ensures.values.2 c.args.seats.items
-    c.gather-all.ensures.lists c.gather-all.ensures.numbers c.requires.all in
-    let none' : (t : ℕ) → t < task_count b.tasks.now.tasks → told_by (wins t) c.args.seats.items ≡ 0 = λ t l. e.untaken t l
-    (subst (λ k. (t : ℕ) → t < k → get_elem? (slots_items c.close_with-closed.result.words) (claim_word k t) ≡ some 0)
-    c.len-n.ensures.value (c.is_untouched.ensures.0 c.if-is_untouched.true) t l) in
+    let e = ended_as g.C.Parcel.edge_of g.C.Parcel.key_of b _ _ _ c.end_table-closed.ensures.ended in
+    let none' = none_taken g.C.Parcel.edge_of g.C.Parcel.key_of _ _ _ _ _ _ e c.len-n.ensures.value
+    (c.is_untouched.ensures.0 c.if-is_untouched.true) in
     let some' = some_task b.tasks.now.tasks b.graph in (
       (λ no. absurd (true≢false (sym no))),
       (λ d. absurd (done_taken (net_of b.tasks.now.tasks) (λ f. told_by f c.args.seats.items) 0 e.told
@@ -89,21 +69,16 @@ returns-then-is_untouched-clause-done g c = let b = c.args.self in
 
 pub returns-then-is_untouched-clause-tells : goal.returns-then-is_untouched-clause-tells
 returns-then-is_untouched-clause-tells g c = let b = c.args.self in
-    let e = end_of g.C.Parcel.edge_of g.C.Parcel.key_of c.args.self.table.shared.key c.args.self.tasks.now c.args.self.told
-    c.args.self.graph c.gather-all.result.id c.gather-all.result.me.0 _ _ c.close_with-closed.ensures.values.2 c.args.seats.items
-    c.gather-all.ensures.lists c.gather-all.ensures.numbers c.requires.all in e.told
+    let e = ended_as g.C.Parcel.edge_of g.C.Parcel.key_of b _ _ _ c.end_table-closed.ensures.ended in e.told
 
 pub returns-then-is_untouched-clause-exits : goal.returns-then-is_untouched-clause-exits
 returns-then-is_untouched-clause-exits g c = λ no. absurd (true≢false (sym no))
 
 pub returns-then-is_untouched-clause-entries : goal.returns-then-is_untouched-clause-entries
 returns-then-is_untouched-clause-entries g c = λ _. let b = c.args.self in
-    let e = end_of g.C.Parcel.edge_of g.C.Parcel.key_of c.args.self.table.shared.key c.args.self.tasks.now c.args.self.told
-    c.args.self.graph c.gather-all.result.id c.gather-all.result.me.0 _ _ c.close_with-closed.ensures.values.2 c.args.seats.items
-    c.gather-all.ensures.lists c.gather-all.ensures.numbers c.requires.all in
-    let none' : (t : ℕ) → t < task_count b.tasks.now.tasks → told_by (wins t) c.args.seats.items ≡ 0 = λ t l. e.untaken t l
-    (subst (λ k. (t : ℕ) → t < k → get_elem? (slots_items c.close_with-closed.result.words) (claim_word k t) ≡ some 0)
-    c.len-n.ensures.value (c.is_untouched.ensures.0 c.if-is_untouched.true) t l) in
+    let e = ended_as g.C.Parcel.edge_of g.C.Parcel.key_of b _ _ _ c.end_table-closed.ensures.ended in
+    let none' = none_taken g.C.Parcel.edge_of g.C.Parcel.key_of _ _ _ _ _ _ e c.len-n.ensures.value
+    (c.is_untouched.ensures.0 c.if-is_untouched.true) in
     let p = c.hand_out-then-is_untouched.ensures in let w = c.loops-loops.ensures.value in (
       p.0,
       p.1,
@@ -113,19 +88,14 @@ returns-then-is_untouched-clause-entries g c = λ _. let b = c.args.self in
 
 pub returns-then-is_untouched-clause-nothing : goal.returns-then-is_untouched-clause-nothing
 returns-then-is_untouched-clause-nothing g c = λ no t l w. let b = c.args.self in
-    let e = end_of g.C.Parcel.edge_of g.C.Parcel.key_of c.args.self.table.shared.key c.args.self.tasks.now c.args.self.told
-    c.args.self.graph c.gather-all.result.id c.gather-all.result.me.0 _ _ c.close_with-closed.ensures.values.2 c.args.seats.items
-    c.gather-all.ensures.lists c.gather-all.ensures.numbers c.requires.all in
-    let none' : (t : ℕ) → t < task_count b.tasks.now.tasks → told_by (wins t) c.args.seats.items ≡ 0 = λ t l. e.untaken t l
-    (subst (λ k. (t : ℕ) → t < k → get_elem? (slots_items c.close_with-closed.result.words) (claim_word k t) ≡ some 0)
-    c.len-n.ensures.value (c.is_untouched.ensures.0 c.if-is_untouched.true) t l) in
+    let e = ended_as g.C.Parcel.edge_of g.C.Parcel.key_of b _ _ _ c.end_table-closed.ensures.ended in
+    let none' = none_taken g.C.Parcel.edge_of g.C.Parcel.key_of _ _ _ _ _ _ e c.len-n.ensures.value
+    (c.is_untouched.ensures.0 c.if-is_untouched.true) in
     let z = none' t l in absurd (omega arith)
 
 pub returns-clause-done : goal.returns-clause-done
 returns-clause-done g c = let b = c.args.self in
-    let e = end_of g.C.Parcel.edge_of g.C.Parcel.key_of c.args.self.table.shared.key c.args.self.tasks.now c.args.self.told
-    c.args.self.graph c.gather-all.result.id c.gather-all.result.me.0 _ _ c.close_with-closed.ensures.values.2 c.args.seats.items
-    c.gather-all.ensures.lists c.gather-all.ensures.numbers c.requires.all in (
+    let e = ended_as g.C.Parcel.edge_of g.C.Parcel.key_of b _ _ _ c.end_table-closed.ensures.ended in (
       (λ no. absurd (true≢false (sym no))),
       (λ d. absurd (c.if-stamps-n.false
           (e.stamps_of c.word-stamps.result c.word-stamps.ensures d ∙ ap (λ k. 2 * k) (sym c.len-n.ensures.value)))),
@@ -133,19 +103,15 @@ returns-clause-done g c = let b = c.args.self in
 
 pub returns-clause-tells : goal.returns-clause-tells
 returns-clause-tells g c = let b = c.args.self in
-    let e = end_of g.C.Parcel.edge_of g.C.Parcel.key_of c.args.self.table.shared.key c.args.self.tasks.now c.args.self.told
-    c.args.self.graph c.gather-all.result.id c.gather-all.result.me.0 _ _ c.close_with-closed.ensures.values.2 c.args.seats.items
-    c.gather-all.ensures.lists c.gather-all.ensures.numbers c.requires.all in e.told
+    let e = ended_as g.C.Parcel.edge_of g.C.Parcel.key_of b _ _ _ c.end_table-closed.ensures.ended in e.told
 
 pub returns-clause-exits : goal.returns-clause-exits
 returns-clause-exits g c = λ no. absurd (true≢false (sym no))
 
 pub returns-clause-entries : goal.returns-clause-entries
 returns-clause-entries g c = λ z. let b = c.args.self in
-    let e = end_of g.C.Parcel.edge_of g.C.Parcel.key_of c.args.self.table.shared.key c.args.self.tasks.now c.args.self.told
-    c.args.self.graph c.gather-all.result.id c.gather-all.result.me.0 _ _ c.close_with-closed.ensures.values.2 c.args.seats.items
-    c.gather-all.ensures.lists c.gather-all.ensures.numbers c.requires.all in
-    let all' = subst (λ k. (t : ℕ) → t < k → get_elem? (slots_items c.close_with-closed.result.words) (claim_word k t) ≡ some 0)
+    let e = ended_as g.C.Parcel.edge_of g.C.Parcel.key_of b _ _ _ c.end_table-closed.ensures.ended in
+    let all' = subst (λ k. (t : ℕ) → t < k → get_elem? (slots_items c.end_table-closed.result.words) (claim_word k t) ≡ some 0)
     (sym c.len-n.ensures.value) (λ t l. e.claim_of t l (z t l)) in
     absurd (true≢false (sym (c.is_untouched.ensures.1 all') ∙ c.if-is_untouched.false))
 

@@ -1,0 +1,74 @@
+-- Seats are cut or joined: taken together they did what they did, and so the rule stays.
+use Rattle.std.proofs.Common.{◌≡◌, ℕ, ◌+◌, ◌<◌, ◌⊎◌, inl, inr, ⊎_elim, List, length, sym, ◌∙◌, arith, Option, Some, ltb}
+use mathlib.Core.Option.{some}
+use lib.ListN.{get_elem?}
+use Rattle.atomic_table.specs.Table.{State}
+use Rattle.fv_outside.specs.Tasks.{bit}
+use Rattle.fv_graph.specs.Net.{Net}
+use Rattle.fv_graph.specs.Graph.{Graph}
+use Rattle.fv_graph.specs.Wires.{Wires}
+use Rattle.fv_core.specs.Core.{numbers}
+use Rattle.fv_rule.specs.declared.Deed.{Deed}
+use Rattle.fv_rule.specs.declared.About.{About}
+use Rattle.fv_rule.specs.declared.View.{View}
+use Rattle.fv_rule.specs.Rule.{wins, loses, sees, arrives, stamps, starts, finishes, all, IsSpent, IsOwn, IsKept}
+use Rattle.fv_rule.specs.Shown.{Reached}
+use Rattle.fv_rule.specs.Whole.{zeroes, starts_at, finishes_at, all_having, AllKnow, IsWhole}
+use Rattle.fv_rule.proofs.Claim.{total_ext}
+
+module _ {C Key : Type 0} (wires : Graph → Wires) (edge_of : C → ℕ) (key_of : C → Key) (a : About C) (s : State (Option C) (View C))
+    (views : List (View C)) (E : (f : Deed → ℕ) → all f views ≡ all f s.views) where
+  abbrev n : Net
+  n = (wires a.tasks.value).net
+
+  abbrev s' : State (Option C) (View C)
+  s' = record { words = s.words; homes = s.homes; views = views }
+
+  -- what the seats say by themselves
+  pub record SayTheSame : Type 0 where
+    pub same : (id : ℕ) (v : View C) → get_elem? views id ≡ some v → (v.board ≡ Some a) ⊎ IsSpent v
+    pub own : (id : ℕ) (v : View C) → get_elem? views id ≡ some v → IsOwn n v
+
+  pub kept_so : IsKept wires edge_of key_of a s → SayTheSame → IsKept wires edge_of key_of a s'
+  kept_so k each = record {
+    words_long = k.words_long;
+    homes_long = k.homes_long;
+    same = each.same;
+    own = each.own;
+    stamped = λ m. E (stamps m) ∙ k.stamped m;
+    won_once = λ t. let e = E (wins t) in let p = k.won_once t in omega arith;
+    claimed = λ t there. k.claimed t there ∙ sym (E (wins t));
+    lost = λ t there pos. k.lost t there (let e = E (loses t) in omega arith);
+    counted = λ t there. let r = total_ext (λ e. all (arrives e) views) (λ e. all (arrives e) s.views) (λ e. E (arrives e)) (n.needs t) in
+        let p = k.counted t there in omega arith;
+    arrived_once = λ e. let r = E (arrives e) in let p = k.arrived_once e in omega arith;
+    seen = λ t there pos. k.seen t there (let e = E (sees t) in omega arith);
+    empty_slots = λ e he no none. k.empty_slots e he no (sym (E (wins (n.source e))) ∙ none);
+    full_slots = λ e come none. k.full_slots e (⊎_elim (λ i. inl i) (λ i. inr (sym (E (arrives e)) ∙ i)) come) (sym (E (wins (n.reader e))) ∙ none);
+    exit_slots = λ e is fin. k.exit_slots e is (sym (E (finishes (n.source e))) ∙ fin);
+    keyed = k.keyed;
+  }
+
+  -- what the seats have, and what is shown
+  pub record HaveTheSame : Type 0 where
+    pub kept : IsKept wires edge_of key_of a s'
+    pub numbered : (k : ℕ) → all_having k views ≡ bit (ltb k a.workers)
+    pub has_one : (id : ℕ) (v : View C) → get_elem? views id ≡ some v → v.board ≡ Some a → 0 < length v.numbers
+    pub reached : AllKnow {C = C} {S = Option C} a s' → Reached {C = C} {S = Option C} n a.workers s'
+
+  pub whole_so : IsWhole wires edge_of key_of a s → HaveTheSame → IsWhole wires edge_of key_of a s'
+  whole_so h have = record {
+    kept = have.kept;
+    numbered = have.numbered;
+    has_one = have.has_one;
+    drawn = h.drawn ∙ sym (total_ext (λ t. all (starts t) views + all (finishes t) views) (λ t. all (starts t) s.views + all (finishes t) s.views)
+        (λ t. let x = E (starts t) in let y = E (finishes t) in omega arith) (numbers n.tasks));
+    stamped_once = λ t. let x = E (starts t) in let y = E (finishes t) in let o = h.stamped_once t in (omega arith, omega arith);
+    start_below = λ k t pos. let p = h.start_below k t (let x = E (finishes_at k t) in omega arith) in
+        (p.0, p.1, (let x = E (starts_at p.0 t) in let y = p.2 in omega arith));
+    zero_once = λ t there some'. E (zeroes n t) ∙ h.zero_once t there some';
+    arrived_done = λ e. let x = E (arrives e) in let y = E (finishes (n.source e)) in let o = h.arrived_done e in omega arith;
+    after_reads = λ k t e there pos needs. let p = h.after_reads k t e there (let x = E (starts_at k t) in omega arith) needs in
+        (p.0, p.1, (let x = E (finishes_at p.0 (n.source e)) in let y = p.2 in omega arith));
+    reached = have.reached;
+  }
