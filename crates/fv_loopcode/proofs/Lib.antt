@@ -6,3 +6,5 @@ pub mod Still
 pub mod Blocks
 pub mod Moving
 pub mod Instructions
+pub mod Led
+pub mod Pairs

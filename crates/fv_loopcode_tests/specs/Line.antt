@@ -1,6 +1,6 @@
 -- A lane in a vector, and the codes that are run.
 use Rattle.std.specs.Prelude.{◌-◌, List, [], ◌∷◌, length, take, pos}
-use Rattle.fv_num.specs.declared.op.Op.TheVariants.{Add, Sub}
+use Rattle.fv_num.specs.declared.op.Op.TheVariants.{Add, Sub, Mul, Div}
 use Rattle.fv_loopcode.specs.Lanes.{Lane}
 use Rattle.fv_loopcode.specs.declared.step.Step.{Step}
 use Rattle.fv_loopcode.specs.declared.step.Step.TheVariants.{Number, Held, Input, Point, Load, Append}
@@ -17,3 +17,7 @@ running_sum = Input 0 ∷ Number (pos 1) ∷ Load 0 1 1 ∷ Point Add (0 ∷ 2 �
 -- one held value less another
 abbrev pub difference : List Step
 difference = Held 0 ∷ Held 1 ∷ Point Sub (0 ∷ 1 ∷ 1 ∷ 1 ∷ []) ∷ []
+
+-- three quarters of the input
+abbrev pub scaled : List Step
+scaled = Input 0 ∷ Number (pos 3) ∷ Point Mul (0 ∷ 1 ∷ 1 ∷ 1 ∷ []) ∷ Number (pos 4) ∷ Point Div (2 ∷ 3 ∷ 3 ∷ 3 ∷ []) ∷ []

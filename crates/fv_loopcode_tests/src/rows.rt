@@ -1,7 +1,7 @@
 // Worked examples.
 
 ghost use Rattle.std.specs.Prelude.{◌≡◌, [], length};
-ghost use Rattle.fv_loopcode_tests.specs.Line.{lane_in, running_sum, difference};
+ghost use Rattle.fv_loopcode_tests.specs.Line.{lane_in, running_sum, difference, scaled};
 
 use crate::line::Line;
 use fv_loopcode::{Code, Step, run};
@@ -30,6 +30,20 @@ const DIFFERENCE: [Step; 3] = [
     Step::Point {
         op: Op::Sub,
         args: [0, 1, 1, 1],
+    },
+];
+
+const SCALED: [Step; 5] = [
+    Step::Input(0),
+    Step::Number(3),
+    Step::Point {
+        op: Op::Mul,
+        args: [0, 1, 1, 1],
+    },
+    Step::Number(4),
+    Step::Point {
+        op: Op::Div,
+        args: [2, 3, 3, 3],
     },
 ];
 
@@ -138,5 +152,32 @@ fn held_values_are_registers(rt: HostRuntime) -> Result<(), Fail> {
     hold(&code, &[7, 9], &mut registers, &mut line);
     assert_eq!(rt; registers.as_slice(), [7, 9, -2].as_slice());
     assert_eq!(rt; line.cells.as_slice(), [4].as_slice());
+    Ok(())
+}
+
+// Runs three quarters of the input, over any lane.
+fn scale(code: &Code, input: &[i32], registers: &mut [i32], line: &mut Line)
+    requires code { code.now ≡ scaled }
+    requires registers { length registers.old ≡ 5 }
+    requires input { length input.now ≡ 1 }
+{
+    run(code, &[], input, 1, 0, 1, registers, line);
+}
+
+#[test]
+fn quotients_are_rounded_toward_zero(rt: HostRuntime) -> Result<(), Fail> {
+    let Some(code) = Code::new(rt.alloc(), &SCALED, 0)? else {
+        return Err("no code".into());
+    };
+    let mut registers = [0; 5];
+    let mut line = Line {
+        cells: vec![in rt.alloc(); 4; 1]?,
+        history: 1,
+        written: 1,
+    };
+    scale(&code, &[-7], &mut registers, &mut line);
+    assert_eq!(rt; registers.as_slice(), [-7, 3, -21, 4, -5].as_slice());
+    scale(&code, &[7], &mut registers, &mut line);
+    assert_eq!(rt; registers.as_slice(), [7, 3, 21, 4, 5].as_slice());
     Ok(())
 }
