@@ -52,36 +52,26 @@ pub record ShapesSoFar (p : PlanView) (block n : ℕ) (shapes : List LaneShape) 
   pub histories : (l : ℕ) → l < n → history_at shapes l ≡ (lane_info p l).history
   pub blocks : (l : ℕ) → l < n → block_at shapes l ≡ block
 
+-- a number that is read off each shape, of the first n and of one more
+read_more : (read : List LaneShape → ℕ → ℕ) (field : LaneShape → ℕ)
+    → ((shapes : List LaneShape) (l : ℕ) (d : LaneShape) → l < length shapes → read shapes l ≡ field (get_or shapes l d))
+    → (shapes : List LaneShape) (s : LaneShape) (wanted : ℕ → ℕ) → ((l : ℕ) → l < length shapes → read shapes l ≡ wanted l)
+    → field s ≡ wanted (length shapes) → (l : ℕ) → l < length shapes + 1 → read (shapes ++ s ∷ []) l ≡ wanted l
+read_more read field is shapes s wanted old new l i =
+    let within : l < length (shapes ++ s ∷ []) = let q = length_push shapes s in omega (arith, q, i) in
+    is (shapes ++ s ∷ []) l s within ∙ elim (cases_lt l (length shapes)) [
+      | inl m ↦ ap field (get_or_append_left shapes (s ∷ []) s l m) ∙ sym (is shapes l s m) ∙ old l m
+      | inr m ↦ let z : length shapes ≡ l = omega (arith, i, m) in ap field (get_or_push shapes s s l z) ∙ new ∙ ap wanted z
+    ]
+
 pub more_shapes : (p : PlanView) (block n : ℕ) (shapes : List LaneShape) (s : LaneShape) → ShapesSoFar p block n shapes → s.history ≡ (lane_info p n).history
     → s.block ≡ block → ShapesSoFar p block (n + 1) (shapes ++ s ∷ [])
-more_shapes p block n shapes s h e f = record {
-  long = length_push shapes s ∙ (omega (arith, h.long));
-  histories = λ l i. elim (cases_lt l n) [
-    | inl m ↦
-        history_is (shapes ++ s ∷ []) l s (long_enough l i) ∙ ap (λ (x : LaneShape). x.history) (old l m)
-        ∙ sym (history_is shapes l s (omega (arith, m, h.long))) ∙ h.histories l m
-    | inr m ↦
-        let z : n ≡ l = omega (arith, i, m) in
-        history_is (shapes ++ s ∷ []) l s (long_enough l i) ∙ ap (λ (x : LaneShape). x.history) (new l z) ∙ e ∙ ap (λ k. (lane_info p k).history) z
-  ];
-  blocks = λ l i. elim (cases_lt l n) [
-    | inl m ↦
-        block_is (shapes ++ s ∷ []) l s (long_enough l i) ∙ ap (λ (x : LaneShape). x.block) (old l m)
-        ∙ sym (block_is shapes l s (omega (arith, m, h.long))) ∙ h.blocks l m
-    | inr m ↦
-        let z : n ≡ l = omega (arith, i, m) in
-        block_is (shapes ++ s ∷ []) l s (long_enough l i) ∙ ap (λ (x : LaneShape). x.block) (new l z) ∙ f
-  ];
-}
-  where
-    long_enough : (l : ℕ) → l < n + 1 → l < length (shapes ++ s ∷ [])
-    long_enough l i = let q = length_push shapes s in omega (arith, q, i, h.long)
-
-    old : (l : ℕ) → l < n → get_or (shapes ++ s ∷ []) l s ≡ get_or shapes l s
-    old l m = get_or_append_left shapes (s ∷ []) s l (omega (arith, m, h.long))
-
-    new : (l : ℕ) → n ≡ l → get_or (shapes ++ s ∷ []) l s ≡ s
-    new l z = get_or_push shapes s s l (omega (arith, z, h.long))
+more_shapes p block n shapes s h e f = subst (λ m. ShapesSoFar p block (m + 1) (shapes ++ s ∷ [])) h.long (record {
+  long = length_push shapes s;
+  histories = read_more history_at (λ (x : LaneShape). x.history) history_is shapes s (λ l. (lane_info p l).history)
+      (λ l m. h.histories l (omega (arith, m, h.long))) (e ∙ ap (λ k. (lane_info p k).history) (sym h.long));
+  blocks = read_more block_at (λ (x : LaneShape). x.block) block_is shapes s (λ l. block) (λ l m. h.blocks l (omega (arith, m, h.long))) f;
+})
 
 -- ---- what the lists hold
 
