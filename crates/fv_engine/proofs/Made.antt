@@ -101,15 +101,15 @@ zeros_are h xs e z =
     ∙ table_same h (λ i. get_or xs i (pos 0)) (λ k. pos 0) (λ i l. z i (pos 0) (omega (arith, e, l)))
 
 -- a part of zeros holds the past of any stream before time 0
-pub nothing_yet : (lengths : List ℕ) (i h n : ℕ) (cells : List ℤ) (v : Stream) → i < length lengths → sum lengths ≤ n → h ≤ slice_index lengths i
-    → cells ≡ replicate n (pos 0) → take h (from_start 0 (part lengths i cells)) ≡ past h v 0
-nothing_yet lengths i h n cells v l fits room is =
+pub nothing_yet : (lengths : List ℕ) (i h : ℕ) (cells : List ℤ) (v : Stream) → i < length lengths → h ≤ slice_index lengths i
+    → cells ≡ replicate (sum lengths) (pos 0) → take h (from_start 0 (part lengths i cells)) ≡ past h v 0
+nothing_yet lengths i h cells v l room is =
     let own = part lengths i cells in
     let all_zero = All-append IsZero (drop 0 own) (take 0 own) (All-drop IsZero 0 own part_zero) (All-take IsZero 0 own part_zero) in
     zeros_are h (take h (from_start 0 own)) long (All-take IsZero h (from_start 0 own) all_zero) ∙ sym (past_zero h v)
   where
     cells_zero : All IsZero cells
-    cells_zero = subst (λ (xs : List ℤ). All IsZero xs) (sym is) (All-replicate IsZero n (pos 0) refl)
+    cells_zero = subst (λ (xs : List ℤ). All IsZero xs) (sym is) (All-replicate IsZero (sum lengths) (pos 0) refl)
 
     part_zero : All IsZero (part lengths i cells)
     part_zero = All-take IsZero (slice_index lengths i) (drop (sum (take i lengths)) cells) (All-drop IsZero (sum (take i lengths)) cells cells_zero)
@@ -117,7 +117,7 @@ nothing_yet lengths i h n cells v l fits room is =
     long : length (take h (from_start 0 (part lengths i cells))) ≡ h
     long =
         let own = part lengths i cells in
-        let q = length_part lengths i cells l (let k = ap length is ∙ length-replicate n (pos 0) in omega (arith, k, fits)) in
+        let q = length_part lengths i cells l (let k = ap length is ∙ length-replicate (sum lengths) (pos 0) in omega (arith, k)) in
         let a = length-append (drop 0 own) (take 0 own) in let d = length-drop 0 own in
         length-take-le h (from_start 0 own) (omega (arith, a, d, q, room))
 
