@@ -1,5 +1,5 @@
 -- One block of an engine: what its steps ask for, and what they leave.
-use Rattle.std.proofs.Common.{◌≡◌, ℕ, ◌+◌, ◌*◌, ◌<◌, ◌≤◌, ℤ, ◌&&◌, ◌||◌, ◌==◌, List, [], length, map, All, Option, None, Some, IfSome, refl, sym, ap, ap₂}
+use Rattle.std.proofs.Common.{◌≡◌, ℕ, ◌+◌, ◌*◌, ◌<◌, ◌≤◌, ℤ, ◌&&◌, ◌||◌, ◌==◌, List, [], length, map, All, refl, sym, ap, ap₂}
 use Rattle.std.proofs.Common.{◌∙◌, subst, arith, mul_comm}
 use Rattle.std.proofs.lemmas.List.{get_or_default}
 use Rattle.std.specs.Vec.{vec_capacity}
@@ -64,11 +64,6 @@ same_order g h lines same o = record {
   where
     same_reads : (t s : Task) → reads_task g t s ≡ reads_task h t s
     same_reads t s = ap (λ x. ((s.loop_no == t.loop_no) && ((s.vector + 1) == t.vector)) || (x && (s.vector == t.vector))) (same.pairs t.loop_no s.loop_no)
-
--- what follows of what there is
-pub some_more : {X : Type 0} (o : Option X) (P Q : X → Type 0) → ((x : X) → P x → Q x) → IfSome o P → IfSome o Q
-some_more None P Q f h = h
-some_more (Some x) P Q f h = f x h
 
 -- the block of an engine, by its channels and held values
 pub same_block : (e : Inside) (frames : ℕ) (input controls : List ℤ) {channels : ℕ} {held : List ℤ} → channels ≡ e.channels → held ≡ held_by e.plan controls

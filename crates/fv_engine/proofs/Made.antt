@@ -52,36 +52,26 @@ pub record ShapesSoFar (p : PlanView) (block n : ℕ) (shapes : List LaneShape) 
   pub histories : (l : ℕ) → l < n → history_at shapes l ≡ (lane_info p l).history
   pub blocks : (l : ℕ) → l < n → block_at shapes l ≡ block
 
+-- a number that is read off each shape, of the first n and of one more
+read_more : (read : List LaneShape → ℕ → ℕ) (field : LaneShape → ℕ)
+    → ((shapes : List LaneShape) (l : ℕ) (d : LaneShape) → l < length shapes → read shapes l ≡ field (get_or shapes l d))
+    → (shapes : List LaneShape) (s : LaneShape) (wanted : ℕ → ℕ) → ((l : ℕ) → l < length shapes → read shapes l ≡ wanted l)
+    → field s ≡ wanted (length shapes) → (l : ℕ) → l < length shapes + 1 → read (shapes ++ s ∷ []) l ≡ wanted l
+read_more read field is shapes s wanted old new l i =
+    let within : l < length (shapes ++ s ∷ []) = let q = length_push shapes s in omega (arith, q, i) in
+    is (shapes ++ s ∷ []) l s within ∙ elim (cases_lt l (length shapes)) [
+      | inl m ↦ ap field (get_or_append_left shapes (s ∷ []) s l m) ∙ sym (is shapes l s m) ∙ old l m
+      | inr m ↦ let z : length shapes ≡ l = omega (arith, i, m) in ap field (get_or_push shapes s s l z) ∙ new ∙ ap wanted z
+    ]
+
 pub more_shapes : (p : PlanView) (block n : ℕ) (shapes : List LaneShape) (s : LaneShape) → ShapesSoFar p block n shapes → s.history ≡ (lane_info p n).history
     → s.block ≡ block → ShapesSoFar p block (n + 1) (shapes ++ s ∷ [])
-more_shapes p block n shapes s h e f = record {
-  long = length_push shapes s ∙ (omega (arith, h.long));
-  histories = λ l i. elim (cases_lt l n) [
-    | inl m ↦
-        history_is (shapes ++ s ∷ []) l s (long_enough l i) ∙ ap (λ (x : LaneShape). x.history) (old l m)
-        ∙ sym (history_is shapes l s (omega (arith, m, h.long))) ∙ h.histories l m
-    | inr m ↦
-        let z : n ≡ l = omega (arith, i, m) in
-        history_is (shapes ++ s ∷ []) l s (long_enough l i) ∙ ap (λ (x : LaneShape). x.history) (new l z) ∙ e ∙ ap (λ k. (lane_info p k).history) z
-  ];
-  blocks = λ l i. elim (cases_lt l n) [
-    | inl m ↦
-        block_is (shapes ++ s ∷ []) l s (long_enough l i) ∙ ap (λ (x : LaneShape). x.block) (old l m)
-        ∙ sym (block_is shapes l s (omega (arith, m, h.long))) ∙ h.blocks l m
-    | inr m ↦
-        let z : n ≡ l = omega (arith, i, m) in
-        block_is (shapes ++ s ∷ []) l s (long_enough l i) ∙ ap (λ (x : LaneShape). x.block) (new l z) ∙ f
-  ];
-}
-  where
-    long_enough : (l : ℕ) → l < n + 1 → l < length (shapes ++ s ∷ [])
-    long_enough l i = let q = length_push shapes s in omega (arith, q, i, h.long)
-
-    old : (l : ℕ) → l < n → get_or (shapes ++ s ∷ []) l s ≡ get_or shapes l s
-    old l m = get_or_append_left shapes (s ∷ []) s l (omega (arith, m, h.long))
-
-    new : (l : ℕ) → n ≡ l → get_or (shapes ++ s ∷ []) l s ≡ s
-    new l z = get_or_push shapes s s l (omega (arith, z, h.long))
+more_shapes p block n shapes s h e f = subst (λ m. ShapesSoFar p block (m + 1) (shapes ++ s ∷ [])) h.long (record {
+  long = length_push shapes s;
+  histories = read_more history_at (λ (x : LaneShape). x.history) history_is shapes s (λ l. (lane_info p l).history)
+      (λ l m. h.histories l (omega (arith, m, h.long))) (e ∙ ap (λ k. (lane_info p k).history) (sym h.long));
+  blocks = read_more block_at (λ (x : LaneShape). x.block) block_is shapes s (λ l. block) (λ l m. h.blocks l (omega (arith, m, h.long))) f;
+})
 
 -- ---- what the lists hold
 
@@ -111,15 +101,15 @@ zeros_are h xs e z =
     ∙ table_same h (λ i. get_or xs i (pos 0)) (λ k. pos 0) (λ i l. z i (pos 0) (omega (arith, e, l)))
 
 -- a part of zeros holds the past of any stream before time 0
-pub nothing_yet : (lengths : List ℕ) (i h n : ℕ) (cells : List ℤ) (v : Stream) → i < length lengths → sum lengths ≤ n → h ≤ slice_index lengths i
-    → cells ≡ replicate n (pos 0) → take h (from_start 0 (part lengths i cells)) ≡ past h v 0
-nothing_yet lengths i h n cells v l fits room is =
+pub nothing_yet : (lengths : List ℕ) (i h : ℕ) (cells : List ℤ) (v : Stream) → i < length lengths → h ≤ slice_index lengths i
+    → cells ≡ replicate (sum lengths) (pos 0) → take h (from_start 0 (part lengths i cells)) ≡ past h v 0
+nothing_yet lengths i h cells v l room is =
     let own = part lengths i cells in
     let all_zero = All-append IsZero (drop 0 own) (take 0 own) (All-drop IsZero 0 own part_zero) (All-take IsZero 0 own part_zero) in
     zeros_are h (take h (from_start 0 own)) long (All-take IsZero h (from_start 0 own) all_zero) ∙ sym (past_zero h v)
   where
     cells_zero : All IsZero cells
-    cells_zero = subst (λ (xs : List ℤ). All IsZero xs) (sym is) (All-replicate IsZero n (pos 0) refl)
+    cells_zero = subst (λ (xs : List ℤ). All IsZero xs) (sym is) (All-replicate IsZero (sum lengths) (pos 0) refl)
 
     part_zero : All IsZero (part lengths i cells)
     part_zero = All-take IsZero (slice_index lengths i) (drop (sum (take i lengths)) cells) (All-drop IsZero (sum (take i lengths)) cells cells_zero)
@@ -127,7 +117,7 @@ nothing_yet lengths i h n cells v l fits room is =
     long : length (take h (from_start 0 (part lengths i cells))) ≡ h
     long =
         let own = part lengths i cells in
-        let q = length_part lengths i cells l (let k = ap length is ∙ length-replicate n (pos 0) in omega (arith, k, fits)) in
+        let q = length_part lengths i cells l (let k = ap length is ∙ length-replicate (sum lengths) (pos 0) in omega (arith, k)) in
         let a = length-append (drop 0 own) (take 0 own) in let d = length-drop 0 own in
         length-take-le h (from_start 0 own) (omega (arith, a, d, q, room))
 

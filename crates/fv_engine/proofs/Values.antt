@@ -1,5 +1,5 @@
 -- What the lanes hold as a block begins, and what comes of it.
-use Rattle.std.proofs.Common.{◌≡◌, inl, inr, ℕ, ◌+◌, ◌-◌, ◌*◌, ◌<◌, ◌≤◌, Bool, true, false, ◌&&◌, List, [], ◌++◌, length, refl, sym, ap, ◌∙◌, subst}
+use Rattle.std.proofs.Common.{◌≡◌, inl, inr, ℕ, ◌+◌, ◌-◌, ◌*◌, ◌<◌, ◌≤◌, true, List, [], ◌++◌, length, refl, sym, ap, ◌∙◌, subst}
 use Rattle.std.proofs.Common.{arith, get_or, drop, ℤ, pos, nat_lt, nat_eq, nat_le, lt-ltb, eq-eqb}
 use Rattle.std.proofs.lemmas.Bool.{cases_lt, ltb-true, eqb-true, cond-true, cond-false, le-leb, lt-leb}
 use Rattle.std.proofs.lemmas.List.{get_or-append-add, get_or_append_left, get_or-drop, length-append, length-drop}
@@ -9,7 +9,7 @@ use Rattle.fv_num.specs.Frames.{Frame, Stream, column, back, table}
 use Rattle.fv_base.proofs.Lists.{get_or_table, length_table, table_same, table_items}
 use Rattle.fv_signal.specs.Value.{Graph, value}
 use Rattle.fv_signal.proofs.Solutions.{values_look_back}
-use Rattle.fv_graph.proofs.Counts.{both_true}
+use Rattle.fv_graph.proofs.Counts.{both_true, both_of}
 use Rattle.fv_loopcode.specs.Code.{frame_of}
 use Rattle.fv_loopcode.specs.Obeys.{Content, ObeysAt, window, HoldsJust}
 use Rattle.fv_loopcode.specs.Lanes.{Lane, lane_of, sample_at}
@@ -33,10 +33,6 @@ row_at X channels n input i t l m =
 
 before_same : (X Y : List Frame) (i u : ℕ) → u < length X → column X i u ≡ column (X ++ Y) i u
 before_same X Y i u l = ap (λ (f : Frame). get_or f i (pos 0)) (sym (get_or_append_left X Y [] u l))
-
-both_of : (a b : Bool) → a ≡ true → b ≡ true → (a && b) ≡ true
-both_of true b p q = q
-both_of false b p q = p
 
 -- looking back h samples from t + h
 back_here : (x : Stream) (T h t : ℕ) → back x (T + (h + t)) (pos h) ≡ x (T + t)

@@ -1,7 +1,7 @@
 -- Engines whose frames have as many numbers going in as coming out.
 use Rattle.std.specs.Prelude.{◌≡◌, ℕ, ◌<◌, length}
 use Rattle.fv_signal.specs.declared.signal.Signal.{Signal}
-use Rattle.fv_signal.specs.declared.signal.Signal.TheVariants.{Input, Const, Control, Point, Delay, Back, Member}
+use Rattle.fv_signal.specs.declared.signal.Signal.TheVariants.{Input, Control}
 use Rattle.fv_loopcode.specs.Code.{NamesHeld}
 use Rattle.fv_engine.specs.Stands.{EngineView}
 
@@ -13,11 +13,6 @@ pub record IsSquare (e : EngineView) (width block controls : ℕ) : Type 0 where
   pub named : (k : ℕ) → NamesHeld e.plan.held k → k < controls
 
 -- a signal that is an input or a control is one of so many
-abbrev pub IsNamedWithin : (channels controls : ℕ) → Signal → Type 0
-IsNamedWithin channels controls (Input i) = i < channels
-IsNamedWithin channels controls (Const n) = Unit {0}
-IsNamedWithin channels controls (Control k) = k < controls
-IsNamedWithin channels controls (Point op args) = Unit {0}
-IsNamedWithin channels controls (Delay x d max) = Unit {0}
-IsNamedWithin channels controls (Back group i) = Unit {0}
-IsNamedWithin channels controls (Member group i) = Unit {0}
+pub record IsNamedWithin (channels controls : ℕ) (x : Signal) : Type 0 where
+  pub inputs : (i : ℕ) → x ≡ Input i → i < channels
+  pub controls_are : (k : ℕ) → x ≡ Control k → k < controls

@@ -1,25 +1,26 @@
 -- Each diagram that is put can run.
-use Rattle.std.proofs.Common.{◌≡◌, ℕ, ◌<◌, sym, ap, subst, arith, inl, inr}
+use Rattle.std.proofs.Common.{◌≡◌, ◌⊎◌, ℕ, ◌<◌, max, refl, sym, ap, subst, arith, inl, inr}
 use Rattle.std.proofs.lemmas.Bool.{cases_lt}
 use Rattle.std.proofs.lemmas.List.{length_push}
 use Rattle.fv_diagram.specs.declared.node.Node.{Node}
 use Rattle.fv_diagram.specs.declared.node.Node.TheVariants as node
-use Rattle.fv_diagram.specs.declared.node.Primitive.{Primitive as Prim}
-use Rattle.fv_diagram.specs.declared.node.Primitive.TheVariants as prim
-use Rattle.fv_diagram.specs.Diagram.{IsWellFormed}
+use Rattle.fv_diagram.specs.Diagram.{Diagram, control_bound, IsWellFormed, IsFree}
 use Rattle.fv_diagram.specs.Arena.{Arena, count_of, with_node, tree_of, tree_with}
 use Rattle.fv_arity.specs.Compositions.{HasWellFormedParts}
 use Rattle.fv_hand_built.specs.Built.{CanRun, AllCanRun, IsAllowed}
 
-node_can_run : (ns : Arena) (n : Node) → AllCanRun ns → IsAllowed (count_of ns) n → (HasWellFormedParts (tree_with ns n) → IsWellFormed (tree_with ns n)) → CanRun (tree_with ns n)
-node_can_run ns (node.Prim prim.Wire) h a w = record { well = tt; closed = λ s f. f; reads = omega arith }
-node_can_run ns (node.Prim prim.Cut) h a w = record { well = tt; closed = λ s f. f; reads = omega arith }
-node_can_run ns (node.Prim prim.Mem) h a w = record { well = tt; closed = λ s f. f; reads = omega arith }
-node_can_run ns (node.Prim prim.Prefix) h a w = record { well = tt; closed = λ s f. f; reads = omega arith }
-node_can_run ns (node.Prim prim.Delay) h a w = record { well = tt; closed = λ s f. f; reads = omega arith }
-node_can_run ns (node.Prim prim.Int) h a w = record { well = tt; closed = λ s f. f; reads = omega arith }
-node_can_run ns (node.Prim prim.Attach) h a w = record { well = tt; closed = λ s f. f; reads = omega arith }
-node_can_run ns (node.Prim (prim.Point op)) h a w = record { well = tt; closed = λ s f. f; reads = omega arith }
+-- two diagrams that can run, put together
+of_both : {b c d : Diagram} → CanRun b → CanRun c → IsWellFormed d → ((s : ℕ) → IsFree s d → IsFree s b ⊎ IsFree s c)
+    → control_bound d ≡ max (control_bound b) (control_bound c) → CanRun d
+of_both x y well free bound = record {
+  well = well;
+  closed = λ s f. elim (free s f) [ inl g ↦ x.closed s g | inr g ↦ y.closed s g ];
+  reads = omega (arith, x.reads, y.reads, bound);
+}
+
+node_can_run : (ns : Arena) (n : Node) → AllCanRun ns → IsAllowed (count_of ns) n → (HasWellFormedParts (tree_with ns n) → IsWellFormed (tree_with ns n))
+    → CanRun (tree_with ns n)
+node_can_run ns (node.Prim p) h a w = record { well = tt; closed = λ s f. f; reads = omega arith }
 node_can_run ns (node.Number n) h a w = record { well = tt; closed = λ s f. f; reads = omega arith }
 node_can_run ns (node.Control k) h a w = record { well = tt; closed = λ s f. f; reads = omega arith }
 node_can_run ns (node.Slot s) h a w = absurd a
@@ -27,24 +28,20 @@ node_can_run ns (node.Bind s b) h a w =
     let x = h b a in
     record { well = w x.well; closed = λ t f. x.closed t f.0; reads = x.reads }
 node_can_run ns (node.Par b c) h a w =
-    let x = h b a.0 in let y = h c a.1 in
-    record { well = w (x.well, y.well); closed = λ s f. elim f [ inl g ↦ x.closed s g | inr g ↦ y.closed s g ]; reads = omega (arith, x.reads, y.reads) }
+    let x = h b a.0 in let y = h c a.1 in of_both x y (w (x.well, y.well)) (λ s f. f) refl
 node_can_run ns (node.Seq b c) h a w =
-    let x = h b a.0 in let y = h c a.1 in
-    record { well = w (x.well, y.well); closed = λ s f. elim f [ inl g ↦ x.closed s g | inr g ↦ y.closed s g ]; reads = omega (arith, x.reads, y.reads) }
+    let x = h b a.0 in let y = h c a.1 in of_both x y (w (x.well, y.well)) (λ s f. f) refl
 node_can_run ns (node.Split b c) h a w =
-    let x = h b a.0 in let y = h c a.1 in
-    record { well = w (x.well, y.well); closed = λ s f. elim f [ inl g ↦ x.closed s g | inr g ↦ y.closed s g ]; reads = omega (arith, x.reads, y.reads) }
+    let x = h b a.0 in let y = h c a.1 in of_both x y (w (x.well, y.well)) (λ s f. f) refl
 node_can_run ns (node.Merge b c) h a w =
-    let x = h b a.0 in let y = h c a.1 in
-    record { well = w (x.well, y.well); closed = λ s f. elim f [ inl g ↦ x.closed s g | inr g ↦ y.closed s g ]; reads = omega (arith, x.reads, y.reads) }
+    let x = h b a.0 in let y = h c a.1 in of_both x y (w (x.well, y.well)) (λ s f. f) refl
 node_can_run ns (node.Rec b c) h a w =
-    let x = h b a.0 in let y = h c a.1 in
-    record { well = w (x.well, y.well); closed = λ s f. elim f [ inl g ↦ x.closed s g | inr g ↦ y.closed s g ]; reads = omega (arith, x.reads, y.reads) }
+    let x = h b a.0 in let y = h c a.1 in of_both x y (w (x.well, y.well)) (λ s f. f) refl
 
 -- one node more
-pub all_can_run : (ns ms : Arena) (n : Node) (id : ℕ) → AllCanRun ns → IsAllowed (count_of ns) n → (HasWellFormedParts (tree_with ns n) → IsWellFormed (tree_with ns n)) → id ≡ count_of ns → ms ≡ with_node ns n →
-    tree_of ms id ≡ tree_with ns n → ((i : ℕ) → i < count_of ns → tree_of ms i ≡ tree_of ns i) → AllCanRun ms
+pub all_can_run : (ns ms : Arena) (n : Node) (id : ℕ) → AllCanRun ns → IsAllowed (count_of ns) n
+    → (HasWellFormedParts (tree_with ns n) → IsWellFormed (tree_with ns n)) → id ≡ count_of ns → ms ≡ with_node ns n
+    → tree_of ms id ≡ tree_with ns n → ((i : ℕ) → i < count_of ns → tree_of ms i ≡ tree_of ns i) → AllCanRun ms
 all_can_run ns ms n id h a w p e t keep i l = elim (cases_lt i (count_of ns)) [
   | inl m ↦ subst CanRun (sym (keep i m)) (h i m)
   | inr m ↦

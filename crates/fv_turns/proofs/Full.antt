@@ -15,10 +15,6 @@ pub record IsDone (g : Tasks) (b : Block) (first now : List Lane) (lines : List 
   pub real : IsReal b first
   pub ends : EndsBlock g b first now lines
 
-pub is_done : {g : Tasks} {b : Block} {first now : List Lane} {lines : List Line}
-    → IsJob b g → IsReal b first → EndsBlock g b first now lines → IsDone g b first now lines
-is_done job real ends = record { job = job; real = real; ends = ends }
-
 module _ {g : Tasks} {b : Block} {first now : List Lane} {lines : List Line} (done : IsDone g b first now lines) where
   holds : HoldUpTo b done.real.content done.ends.vectors now
   holds = done.ends.lanes done.real.content done.real.obeys done.real.begins

@@ -1,6 +1,6 @@
 -- Tasks by their numbers.
-use Rattle.std.proofs.Common.{◌≡◌, inl, inr, ℕ, suc, ◌+◌, ◌-◌, ◌*◌, ◌/◌, ◌<◌, ◌≤◌, Bool, true, false, ◌&&◌, ◌||◌, ltb, refl, sym, ap, ◌∙◌}
-use Rattle.std.proofs.Common.{arith, lt-ltb, true≢false, mul-le-mul_right, suc-mul, div-add-mod', mod-lt}
+use Rattle.std.proofs.Common.{◌≡◌, inl, inr, ℕ, suc, ◌+◌, ◌-◌, ◌*◌, ◌/◌, ◌<◌, ◌≤◌, ltb, sym, ap, ◌∙◌}
+use Rattle.std.proofs.Common.{arith, lt-ltb, mul-le-mul_right, suc-mul, div-add-mod', mod-lt}
 use Rattle.std.proofs.lemmas.Bool.{cases_lt, le-ltb}
 use Rattle.fv_outside.specs.Tasks.{Tasks, task_count}
 use Rattle.fv_outside.specs.declared.tasks.Task.{Task}
@@ -19,17 +19,6 @@ number_is g j v l = let p = parts g j v l in ap (λ x. at x (vector_of g (task_a
 
 pub below : (g : Tasks) (j v : ℕ) → j < g.loops → v < g.vectors → task_at g j v < task_count g
 below g j v l m = let q : suc v * g.loops ≤ g.vectors * g.loops = mul-le-mul_right g.loops m in let r = suc-mul v g.loops in omega (arith, q, r)
-
-pub left_true : (a b c : Bool) → a ≡ true → b ≡ true → ((a && b) || c) ≡ true
-left_true true true c p q = refl
-left_true true false c p q = absurd (true≢false (sym q))
-left_true false b c p q = absurd (true≢false (sym p))
-
-pub right_true : (a b c : Bool) → b ≡ true → c ≡ true → (a || (b && c)) ≡ true
-right_true true b c p q = refl
-right_true false true true p q = refl
-right_true false true false p q = absurd (true≢false (sym q))
-right_true false false c p q = absurd (true≢false (sym p))
 
 -- a number other than v is below v where it is below the next one
 pub same_step : (w v : ℕ) → (w ≡ v → ⊥) → ltb w v ≡ ltb w (suc v)

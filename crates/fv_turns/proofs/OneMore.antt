@@ -9,7 +9,7 @@ use Rattle.fv_outside.specs.declared.tasks.Task.{Task}
 use Rattle.fv_outside.specs.declared.gate.Line.{Line}
 use Rattle.fv_graph.specs.Graph.{task_at, loop_of, vector_of}
 use Rattle.fv_core.specs.Core.{Now, is_done}
-use Rattle.fv_graph.proofs.Counts.{total_append, total_set, bit_same}
+use Rattle.fv_graph.proofs.Counts.{total_append, total_set, bit_same, both_of, either_left, either_right}
 use Rattle.fv_graph.proofs.Graphs.{unique}
 use Rattle.fv_graph.proofs.Ranges.{quotient_small}
 use Rattle.fv_loopcode.specs.Lanes.{Lane}
@@ -22,7 +22,7 @@ use Rattle.fv_turns.specs.Events.{IsFree}
 use Rattle.fv_turns.specs.Jobs.{IsJob, left_to_do}
 use Rattle.fv_core.specs.Ready.{TakesReady}
 use Rattle.fv_turns.specs.Underway.{IsTaskIn, IsSoFar, IsUnderway, line_at, no_line}
-use Rattle.fv_turns.proofs.Numbers.{at, number_is, below, inside, left_true, right_true, same_step}
+use Rattle.fv_turns.proofs.Numbers.{at, number_is, below, inside, same_step}
 
 more_same : (j : ℕ) (f : ℕ → ℕ) → one_more j f j ≡ suc (f j)
 more_same j f = cond-true (nat_eq j j) (suc (f j)) (f j) (eq-eqb j j refl)
@@ -111,7 +111,8 @@ module _ {g : Tasks} {b : Block} {first : List Lane} {s : Now} {lanes : List Lan
   at_least zero e = omega arith
   at_least (suc w) e =
       let m : w < g.vectors = let z = v_in in omega (arith, e, z) in
-      let own = left_true (j == j) ((w + 1) == v) (reads_loop g.reads j j && (w == v)) (eq-eqb j j refl) (eq-eqb (w + 1) v (omega (arith, e))) in
+      let own = either_left ((j == j) && ((w + 1) == v)) (reads_loop g.reads j j && (w == v))
+      (both_of (j == j) ((w + 1) == v) (eq-eqb j j refl) (eq-eqb (w + 1) v (omega (arith, e)))) in
       let q = reads_done j w j_in m own in omega (arith, q)
 
   in_turn : u.vectors j ≡ v
@@ -120,7 +121,8 @@ module _ {g : Tasks} {b : Block} {first : List Lane} {s : Now} {lanes : List Lan
   order : (i : ℕ) → reads_loop g.reads j i ≡ true → i ≢ j → u.vectors j < u.vectors i
   order i h n =
       let l : i < g.loops = let z = next.job.lower j i h in let y = j_in in omega (arith, z, y) in
-      let other = right_true ((i == j) && ((v + 1) == v)) (reads_loop g.reads j i) (v == v) h (eq-eqb v v refl) in
+      let other = either_right ((i == j) && ((v + 1) == v)) (reads_loop g.reads j i && (v == v))
+      (both_of (reads_loop g.reads j i) (v == v) h (eq-eqb v v refl)) in
       let q = reads_done i v l v_in other in omega (arith, q, in_turn)
 
   abbrev more : ℕ → ℕ

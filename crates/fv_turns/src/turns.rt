@@ -53,13 +53,16 @@ fn run_task<P: Codes, S: Store>(
     requires there { task.loop_no < (P.parts job.now.plan.now).count }
     requires inside { task.vector * job.now.vector < job.now.frames }
     requires regs { length ((P.parts job.now.plan.now).loops.code task.loop_no) ≤ length regs.old }
-    requires within { All (λ s. IsWithin (length job.now.held.now) job.now.channels s) ((P.parts job.now.plan.now).loops.code task.loop_no) }
+    requires within { All (λ s. IsWithin (length job.now.held.now) job.now.channels s)
+        ((P.parts job.now.plan.now).loops.code task.loop_no) }
     requires input { job.now.frames * job.now.channels ≤ length job.now.input.now }
-    requires may { MayRun ((P.parts job.now.plan.now).loops.code task.loop_no) (argument job.now.held.now) (frame_of job.now.input.now job.now.channels)
-        (before job.now.vector job.now.frames task.vector) (before job.now.vector job.now.frames (suc task.vector) - before job.now.vector job.now.frames task.vector)
+    requires may { MayRun ((P.parts job.now.plan.now).loops.code task.loop_no) (argument job.now.held.now)
+        (frame_of job.now.input.now job.now.channels) (before job.now.vector job.now.frames task.vector)
+        (before job.now.vector job.now.frames (suc task.vector) - before job.now.vector job.now.frames task.vector)
         (S.lanes store.old) }
-    ensures lanes { S.lanes store.new ≡ ran ((P.parts job.now.plan.now).loops.code task.loop_no) (argument job.now.held.now) (frame_of job.now.input.now job.now.channels)
-        (before job.now.vector job.now.frames task.vector) (before job.now.vector job.now.frames (suc task.vector) - before job.now.vector job.now.frames task.vector)
+    ensures lanes { S.lanes store.new ≡ ran ((P.parts job.now.plan.now).loops.code task.loop_no) (argument job.now.held.now)
+        (frame_of job.now.input.now job.now.channels) (before job.now.vector job.now.frames task.vector)
+        (before job.now.vector job.now.frames (suc task.vector) - before job.now.vector job.now.frames task.vector)
         (S.lanes store.old) }
     ensures sound { S.is_sound store.new }
     ensures kept { S.rest store.new ≡ S.rest store.old }

@@ -38,5 +38,5 @@ returns c =
           let history = (lane_info c.args.plan.now l).history in let within : l < length ls = omega (arith, there, count) in
           let fit = shapes_fit shapes l there in let h = are.histories l i in let k = ap (λ (xs : List ℕ). slice_index xs l) lens in
           ap (λ s. take history (from_start s (part ls l cells))) (zeros l there)
-          ∙ nothing_yet ls l history (sum ls) cells v within (omega arith) (omega (arith, fit, h, k)) is_blank;
+          ∙ nothing_yet ls l history cells v within (omega (arith, fit, h, k)) is_blank;
     }

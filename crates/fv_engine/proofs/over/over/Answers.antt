@@ -6,7 +6,7 @@ use Rattle.fv_lines.specs.declared.solo.Solo.{Solo}
 use Rattle.fv_turns.specs.Block.{Block, IsReal}
 use Rattle.fv_turns.specs.Jobs.{block_of}
 use Rattle.fv_turns.specs.Underway.{IsUnderway}
-use Rattle.fv_turns.proofs.Full.{IsDone, is_done, lane_full, can_read}
+use Rattle.fv_turns.proofs.Full.{IsDone, lane_full, can_read}
 use Rattle.fv_engine.proofs.Runs.{LiesOver, opening_long, starts, are_full, holds_next, there_in}
 use Rattle.fv_engine.proofs.over.over.Given.{Over}
 use Rattle.fv_engine.proofs.over.over.Goals.{After-begin-solo, After-run_tasks}
@@ -36,7 +36,7 @@ module _ (g : Over) (c : After-run_tasks g) where
   done : {first : List Lane} → IsReal block first
       → IsUnderway c.args.tasks.now.tasks block first c.args.core.now.now (lanes_of c.begin-solo.result) c.args.lines.now.items
       → IsDone c.args.tasks.now.tasks block first (lanes_of c.run_tasks.new.store) c.run_tasks.new.lines.items
-  done {first} real u = is_done c.requires.job real (c.run_tasks.ensures.ends first real u)
+  done {first} real u = record { job = c.requires.job; real = real; ends = c.run_tasks.ensures.ends first real u }
 
 pub run_tasks-requires-clause-underway : goal.run_tasks-requires-clause-underway
 run_tasks-requires-clause-underway g c =

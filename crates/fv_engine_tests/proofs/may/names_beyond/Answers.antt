@@ -14,9 +14,7 @@ loop-place-preserved c =
     (subst (IsNamedWithin c.args.channels c.args.controls) at (c.is_beyond-beyond.ensures c.if-beyond.false))
 
 pub returns-clause-inputs : goal.returns-clause-inputs
-returns-clause-inputs c = λ t i n.
-    subst (IsNamedWithin c.args.channels c.args.controls) n.is.is (c.loop-place.invariant n.place (let w = n.is.within in omega (arith, w)))
+returns-clause-inputs c = λ t i n. (c.loop-place.invariant n.place (let w = n.is.within in omega (arith, w))).inputs i n.is.is
 
 pub returns-clause-controls : goal.returns-clause-controls
-returns-clause-controls c = λ t k n.
-    subst (IsNamedWithin c.args.channels c.args.controls) n.is (c.loop-place.invariant n.place (let w = n.within in omega (arith, w)))
+returns-clause-controls c = λ t k n. (c.loop-place.invariant n.place (let w = n.within in omega (arith, w))).controls_are k n.is

@@ -1,6 +1,7 @@
 use Rattle.std.proofs.Common.{◌≡◌, ℕ, ◌<◌, ℤ, List, length, map, All, sym, ap, ◌∙◌, subst, arith}
 use Rattle.std.specs.Vec.{with_items}
 use Rattle.std.proofs.lemmas.List.{with_items_is}
+use Rattle.std.proofs.lemmas.Option.{IfSome_then}
 use Rattle.fv_outside.specs.Tasks.{Tasks, reads_loop, task_count}
 use Rattle.fv_outside.specs.Journal.{BlockEntry, IsOrdered}
 use Rattle.fv_outside.specs.declared.gate.Line.{Line}
@@ -21,7 +22,7 @@ use Rattle.fv_engine.specs.declared.engine.Engine.TheInside.{Inside}
 use Rattle.fv_engine.proofs.Values.{block_in}
 use Rattle.fv_engine.proofs.Goes.{with_state}
 use Rattle.fv_engine.proofs.Blocks.{IsCalled, AreHanded, tasks_fit, edges_fit, lines_fit, count_is, same_block, job, first_is, ran_as}
-use Rattle.fv_engine.proofs.Blocks.{goes, still_standing, ordered, counted, outputs_there, some_more, many_held}
+use Rattle.fv_engine.proofs.Blocks.{goes, still_standing, ordered, counted, outputs_there, many_held}
 use Rattle.fv_engine.proofs.engine.Engine.run_block.Given.{Over}
 use Rattle.fv_engine.proofs.engine.Engine.run_block.Goals.{After-set_vectors, After-deref_mut-4, After-over}
 use Rattle.fv_engine.proofs.engine.Engine.run_block.Goals as goal
@@ -194,7 +195,7 @@ returns-clause-told g c =
     let entry : BlockEntry = record { tasks = said; lines = c.deref-3.result.now } in
     let is_entry : IsEntry c.args.self.now c.args.frames entry =
     record { tasks = same ∙ ap (λ (x : EngineView). tasks_told x c.args.frames) c.self.view_is; ordered = in_order; counted = count } in
-    some_more (g.G.Gate.told c.block_done.new.self) _ _ (λ x h. (h.0, h.1, entry, is_entry, h.2, h.3)) c.block_done.ensures.entry
+    IfSome_then (g.G.Gate.told c.block_done.new.self) c.block_done.ensures.entry (λ x h. (h.0, h.1, entry, is_entry, h.2, h.3))
 
 pub returns-clause-tasks : goal.returns-clause-tasks
 returns-clause-tasks g c = c.len.ensures.value ∙ count_is (called g (goal.at.returns-clause-tasks g c).After-set_vectors)
