@@ -1,5 +1,6 @@
 -- One block more is told and counted.
-use Rattle.std.proofs.Common.{◌≡◌, ℕ, ◌+◌, ◌*◌, length, arith, List, [], ◌∷◌, ◌++◌, Option, Some, None, refl, sym, ap, subst, ◌∙◌, append_assoc, append-nil, true≢false}
+use Rattle.std.proofs.Common.{◌≡◌, ℕ, ◌+◌, ◌*◌, length, arith, List, [], ◌∷◌, ◌++◌, Option, Some, None, refl, sym, ap, subst, ◌∙◌, append_assoc, append-nil}
+use Rattle.std.proofs.Common.{true≢false}
 use Rattle.std.specs.Prelude.{IfSome, IsSome, unwrap_or}
 use Rattle.std.proofs.lemmas.List.Sums.{sum_by_push, sum-map}
 use Rattle.std.proofs.Math.Nat.{mul_comm}

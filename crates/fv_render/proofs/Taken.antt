@@ -1,5 +1,6 @@
 -- The samples of an input have 32 bits, and the controls stay within their bounds.
-use Rattle.std.proofs.Common.{◌≡◌, ℕ, ◌+◌, ◌*◌, ◌<◌, ◌≤◌, Bool, true, List, [], ◌∷◌, length, get_or, All, ℤ, pos, sym, ap, subst, ◌∙◌, arith, inl, inr, nat_le, ◌&&◌, ◌==◌, if◌then◌else◌, FitsSigned, w32}
+use Rattle.std.proofs.Common.{◌≡◌, ℕ, ◌+◌, ◌*◌, ◌<◌, ◌≤◌, Bool, true, List, [], ◌∷◌, length, get_or, All, ℤ, pos, sym, ap, subst, ◌∙◌, arith, inl, inr, nat_le}
+use Rattle.std.proofs.Common.{◌&&◌, ◌==◌, if◌then◌else◌, FitsSigned, w32}
 use Rattle.std.specs.List.{AllByRecursion}
 use Rattle.std.proofs.lemmas.Bool.{cases_lt, eqb-true, cond_both, and_parts}
 use Rattle.std.specs.Prelude.{int_le}

@@ -9,6 +9,7 @@ use fv_diagram::ControlInfo;
 use fv_eval::{Program, evaluate};
 use fv_interval::{Delays, spans};
 use fv_lex::tokens;
+use fv_num::Span;
 use fv_outside::Gate;
 use fv_parse::parse;
 use fv_play::play_script;
@@ -54,6 +55,15 @@ fn script_of(alloc: Global, text: &str, controls: &[ControlInfo]) -> Result<Scri
         return Err("no script".into());
     };
     Ok(script)
+}
+
+/// The numbers with which a program's controls begin, and those that they may have.
+pub(crate) fn numbers_of(alloc: Global, text: &str) -> Result<(Vec<i32>, Vec<Span>), Fail> {
+    let program = program_of(alloc, text)?;
+    let controls = program.controls.as_slice();
+    let initial = initial_of(alloc, controls)?;
+    let spans = spans_of(alloc, controls)?;
+    Ok((initial, spans))
 }
 
 /// What a run in blocks gives.

@@ -1,6 +1,7 @@
 // Rows of programs.
 
-use crate::playing::{Case, rendered, stepped};
+use crate::playing::{Case, numbers_of, rendered, stepped};
+use fv_num::Span;
 use fv_outside::{FreeGate, Line, Reads, Recorder, Task};
 use fv_test_gates::{Counter, block_of};
 use std::process::Abort;
@@ -143,6 +144,17 @@ fn each_run_is_seen(rt: HostRuntime) -> Result<(), Fail> {
             assert_eq!(rt; u128::from(counter.tasks()), answer.loop_runs);
         }
     }
+    Ok(())
+}
+
+// A slider begins where it says and stays between its bounds; a button is 0 or 1.
+#[test]
+fn numbers_of_controls(rt: HostRuntime) -> Result<(), Fail> {
+    let text = "process = hslider(\"a\", 4, -3, 10, 1), button(\"b\");";
+    let (initial, spans) = numbers_of(rt.alloc(), text)?;
+    assert_eq!(rt; initial.as_slice(), [4, 0].as_slice());
+    let wanted = [Span { lo: -3, hi: 10 }, Span { lo: 0, hi: 1 }];
+    assert_eq!(rt; spans.as_slice(), wanted.as_slice());
     Ok(())
 }
 

@@ -12,7 +12,8 @@ then_once {A = A} P Q p q x r s (goes_on a t k l) (goes_on b u m n) =
     let same : b ≡ a = cc in
     q a r s l (subst (λ (w : A). Q w s) same n)
 
-then_by : {X A B E : Type 0} (P : X → Result A E → Type 0) (Q : A → Result B E → Type 0) (x : X) (r : Result A E) → ((a : A) → P x (Ok a) → (s : Result B E) × Q a s) → P x r → (s : Result B E) × Then P Q x s
+then_by : {X A B E : Type 0} (P : X → Result A E → Type 0) (Q : A → Result B E → Type 0) (x : X) (r : Result A E)
+    → ((a : A) → P x (Ok a) → (s : Result B E) × Q a s) → P x r → (s : Result B E) × Then P Q x s
 then_by P Q x (Ok a) q h = let s = q a h in (s.0, goes_on a s.0 h s.1)
 then_by P Q x (Err e) q h = (Err e, stops e h)
 
@@ -21,11 +22,13 @@ pub then_some : {X A B E : Type 0} (G : X → Type 0) (P : X → Result A E → 
     ((x : X) (a : A) → G x → P x (Ok a) → (s : Result B E) × Q a s) → IsSome G (Then P Q)
 then_some G P Q p q x g = let r = p x g in then_by P Q x r.0 (λ a h. q x a g h) r.1
 
-refuses_by : {X A B E : Type 0} (P : X → Result A E → Type 0) (Q : A → Result B E → Type 0) (x : X) (r : Result A E) → RefusesOthers Q → ((b : B) → Then P Q x (Ok b) → ⊥) → P x r → (e : E) × Then P Q x (Err e)
+refuses_by : {X A B E : Type 0} (P : X → Result A E → Type 0) (Q : A → Result B E → Type 0) (x : X) (r : Result A E) → RefusesOthers Q
+    → ((b : B) → Then P Q x (Ok b) → ⊥) → P x r → (e : E) × Then P Q x (Err e)
 refuses_by P Q x (Ok a) q none h = let e = q a (λ b k. none b (goes_on a (Ok b) h k)) in (e.0, goes_on a (Err e.0) h e.1)
 refuses_by P Q x (Err e) q none h = (e, stops e h)
 
-pub then_refuses : {X A B E : Type 0} (P : X → Result A E → Type 0) (Q : A → Result B E → Type 0) → IsSome (λ x. Unit {0}) P → RefusesOthers Q → RefusesOthers (Then P Q)
+pub then_refuses : {X A B E : Type 0} (P : X → Result A E → Type 0) (Q : A → Result B E → Type 0) → IsSome (λ x. Unit {0}) P → RefusesOthers Q
+    → RefusesOthers (Then P Q)
 then_refuses P Q p q x none = let r = p x tt in refuses_by P Q x r.0 q none r.1
 
 pub turned_once : {X A D E : Type 0} (of : D → E) (P : X → Result A D → Type 0) → IsOnce P → IsOnce (Turned of P)

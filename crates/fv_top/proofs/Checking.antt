@@ -7,7 +7,7 @@ use Rattle.fv_base.specs.Lists.{IsPrefixOf}
 use Rattle.fv_outside.specs.Desk.{DeskState, HasFault, KeepsFaults, IsUnfailing, Appends}
 use Rattle.fv_outside.proofs.States.{goes_on_then, fault_earlier, told_before, unfailing_later}
 use Rattle.fv_top.specs.declared.refusal.Refusal.{Refusal}
-use Rattle.fv_top.specs.declared.refusal.Refusal.TheVariants.{ReadFault, WriteFault}
+use Rattle.fv_top.specs.declared.refusal.Refusal.TheVariants.{WriteFault}
 use Rattle.fv_top.specs.Program.{IsProgram}
 use Rattle.fv_top.specs.Sources.{Compiled}
 use Rattle.fv_top.specs.Lines.{check_line}
@@ -17,12 +17,13 @@ use Rattle.fv_top.specs.Loading.{ReadsFile, StopsLoading, IsFile}
 use Rattle.fv_top.specs.Steps.{Halts, fault, judged, want_of_memory, reads, writes, here, later}
 use Rattle.fv_top.specs.Promise.{ReadProgram, HasProgram, HasNoProgram, HasRefusal, check_rules}
 use Rattle.fv_top.specs.Running.{Checks, StopsCheck}
-use Rattle.fv_top.proofs.Reaching.{load_faults}
+use Rattle.fv_top.proofs.Reaching.{FailsToLoad, load_faults}
 
 -- the line, piece by piece
-pub numbers_line : (i o n s d : ℕ) {p1 p2 p3 p4 p5 p6 p7 p8 p9 p10 p11 : List ℕ} → p1 ≡ codes "inputs " → p2 ≡ decimal i → p3 ≡ codes " outputs " → p4 ≡ decimal o → p5 ≡ codes " controls " → p6 ≡ decimal n
-    → p7 ≡ codes " size " → p8 ≡ decimal s → p9 ≡ codes " delays " → p10 ≡ decimal d → p11 ≡ codes "\n" →
-    p1 ++ (p2 ++ (p3 ++ (p4 ++ (p5 ++ (p6 ++ (p7 ++ (p8 ++ (p9 ++ (p10 ++ (p11 ++ [])))))))))) ≡ check_line i o n s d
+pub numbers_line : (i o n s d : ℕ) {p1 p2 p3 p4 p5 p6 p7 p8 p9 p10 p11 : List ℕ} → p1 ≡ codes "inputs " → p2 ≡ decimal i
+    → p3 ≡ codes " outputs " → p4 ≡ decimal o → p5 ≡ codes " controls " → p6 ≡ decimal n
+    → p7 ≡ codes " size " → p8 ≡ decimal s → p9 ≡ codes " delays " → p10 ≡ decimal d → p11 ≡ codes "\n"
+    → p1 ++ (p2 ++ (p3 ++ (p4 ++ (p5 ++ (p6 ++ (p7 ++ (p8 ++ (p9 ++ (p10 ++ (p11 ++ [])))))))))) ≡ check_line i o n s d
 numbers_line i o n s d e1 e2 e3 e4 e5 e6 e7 e8 e9 e10 e11 = rw (e1, e2, e3, e4, e5, e6, e7, e8, e9, e10, e11) (simp (append_assoc, append-nil))
 
 pub numbers_same : {i j o p n m s t d e : ℕ} → i ≡ j → o ≡ p → n ≡ m → s ≡ t → d ≡ e → check_line i o n s d ≡ check_line j p m t e
@@ -30,24 +31,28 @@ numbers_same a b c d e = rw (a, b, c, d, e) refl
 
 -- ---- the program is not read
 
-load_halts : (name : List ℕ) (a b : DeskState) (e : Refusal) → StopsLoading Program (Some name) (HasRefusal ReadProgram) (HasNoProgram name a.files) a b e → Halts (check_rules name a) a b ReadProgram e
-load_halts name a b e (inl h) = subst (Halts (check_rules name a) a b ReadProgram) (sym h.0) (fault (reads Program) refl h.1.fault (λ t sure. h.1.unsure t sure))
+load_halts : (name : List ℕ) (a b : DeskState) (e : Refusal) → StopsLoading Program (Some name) (HasRefusal ReadProgram) (HasNoProgram name a.files) a b e
+    → Halts (check_rules name a) a b ReadProgram e
+load_halts name a b e (inl h) =
+    subst (Halts (check_rules name a) a b ReadProgram) (sym h.0) (fault (reads Program) refl h.1.fault (λ t sure. h.1.unsure t sure))
 load_halts name a b e (inr (inl h)) = judged h.0 h.1
 load_halts name a b e (inr (inr m)) = subst (Halts (check_rules name a) a b ReadProgram) (sym m) want_of_memory
 
-pub check_stops : (name : List ℕ) (a b : DeskState) (e : Refusal) → ReadsFile Program (Some name) a b → StopsLoading Program (Some name) (HasRefusal ReadProgram) (HasNoProgram name a.files) a b e →
-    ((e ≡ ReadFault Program → ⊥) → KeepsFaults a b) → StopsCheck name a b e
-check_stops name a b e q err steady = record {
-  goes_on = q.quiet.goes_on;
-  others = record { left = λ t r n m k. q.others t r n; written = λ t r n m. q.quiet.written t r; begins = λ r n. q.quiet.begins r };
-  requests = q.requests;
-  ends = here (load_halts name a b e err);
-  output = record { begins = q.quiet.begins Output; written = λ t. q.quiet.written t Output };
-  begun = [];
-  appended = λ t. q.quiet.written t Report ∙ sym (append-nil (a.written Report));
-  is_begun = inl refl;
-  faults = load_faults (HasRefusal ReadProgram) (HasNoProgram name a.files) a a b e (λ h. absurd cc) (λ r. refl) q steady err;
-}
+pub check_stops : {name : List ℕ} {a b : DeskState} {e : Refusal}
+    → FailsToLoad Program (Some name) (HasRefusal ReadProgram) (HasNoProgram name a.files) a b e → StopsCheck name a b e
+check_stops {name} {a} {b} {e} f =
+    let q = f.reads in
+    record {
+      goes_on = q.quiet.goes_on;
+      others = record { left = λ t r n m k. q.others t r n; written = λ t r n m. q.quiet.written t r; begins = λ r n. q.quiet.begins r };
+      requests = q.requests;
+      ends = here (load_halts name a b e f.stops);
+      output = record { begins = q.quiet.begins Output; written = λ t. q.quiet.written t Output };
+      begun = [];
+      appended = λ t. q.quiet.written t Report ∙ sym (append-nil (a.written Report));
+      is_begun = inl refl;
+      faults = load_faults a f (λ h. absurd cc) (λ r. refl);
+    }
 
 -- ---- it is, and its line is reported
 
@@ -57,7 +62,8 @@ module _ (name : List ℕ) (p : Compiled) (a b c : DeskState) (q : ReadsFile Pro
   has t = record { text = spelled.0; file = spelled.1 t; compiled = p; program = spelled.2 }
 
   module _ (line : List ℕ) (is : line ≡ (check_meant p).line) where
-    pub check_tells : AppendsPart Report line b c → HasFault Report b c → (IsTrue b.tells → IsUnfailing Report b → length (b.written Report) + length line ≤ b.room Report → ⊥) →
+    pub check_tells : AppendsPart Report line b c → HasFault Report b c →
+        (IsTrue b.tells → IsUnfailing Report b → length (b.written Report) + length line ≤ b.room Report → ⊥) →
         StopsCheck name a c (WriteFault Report)
     check_tells part failed unsure =
         let on = q.quiet.goes_on in
@@ -76,7 +82,10 @@ module _ (name : List ℕ) (p : Compiled) (a b c : DeskState) (q : ReadsFile Pro
               let fits = sure.1 (has t) in
               let room = on.room t Report in
               unsure (told_before on t) (unfailing_later Report on t sure.0) (omega (arith, length-append (a.written Report) (check_meant p).line)))));
-          output = record { begins = r.begins Output ∙ q.quiet.begins Output; written = λ t. r.others (told_before on t) Output (λ e. absurd cc) ∙ q.quiet.written t Output };
+          output = record {
+            begins = r.begins Output ∙ q.quiet.begins Output;
+            written = λ t. r.others (told_before on t) Output (λ e. absurd cc) ∙ q.quiet.written t Output;
+          };
           begun = part.0;
           appended = λ t. r.appended (told_before on t) ∙ ap (λ w. w ++ part.0) (q.quiet.written t Report);
           is_begun = inr (refl, λ t. (has t, subst (IsPrefixOf part.0) is part.1));

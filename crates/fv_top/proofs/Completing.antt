@@ -16,7 +16,9 @@ use Rattle.fv_top.specs.Sources.{Compiled, Source, found, script_of, source_of}
 use Rattle.fv_top.specs.Sound.{mono, sound_of, cut_in}
 use Rattle.fv_top.specs.Loading.{HasScript, HasInput}
 use Rattle.fv_top.specs.Steps.{Ends, Rules, IsJudge}
-use Rattle.fv_top.specs.Promise.{Asks, HasProgram, HasNoProgram, Plays, IsWhole, Step, ReadProgram, ReadScript, ReadHead, Fit, ReadSamples, Write, Tell, StepPasses, StepRefuses, CheckPasses, CheckRefuses, HasMade, MakePasses, MakeRefuses, rules_of, steps_of, CanDo, HasCause, bad_words, of_job, HasDone, IsComplete, IsStrict, IsExact, IsRefusedOrNoMemory}
+use Rattle.fv_top.specs.Promise.{Asks, HasProgram, HasNoProgram, Plays, IsWhole, Step, ReadProgram, ReadScript, ReadHead, Fit, ReadSamples, Write, Tell}
+use Rattle.fv_top.specs.Promise.{StepPasses, StepRefuses, CheckPasses, CheckRefuses, HasMade, MakePasses, MakeRefuses, rules_of, steps_of, IsKnown, CanDo}
+use Rattle.fv_top.specs.Promise.{HasCause, bad_words, of_job, HasDone, IsComplete, IsStrict, IsExact, IsRefusedOrNoMemory}
 use Rattle.fv_top.proofs.StepLaws.{exactly, completes, passes_apart}
 
 -- ---- a name has one file, and a file says one thing
@@ -34,17 +36,21 @@ one_text name files a b once h k =
 
 program_apart : (name : List ℕ) (files : List File) (refusal : Refusal) → IsOneText → HasProgram name files → HasNoProgram name files refusal → ⊥
 program_apart name files refusal once p h =
-    let e = once h.text (Ok p.compiled) (Err refusal) (subst (λ (w : List ℕ). TextIs w (Ok p.compiled)) (one_file name files _ _ p.file h.file) p.program) h.refused in
+    let same = one_file name files _ _ p.file h.file in
+    let e = once h.text (Ok p.compiled) (Err refusal) (subst (λ (w : List ℕ). TextIs w (Ok p.compiled)) same p.program) h.refused in
     absurd cc
 
 one_program : (name : List ℕ) (files : List File) → IsOneText → (p q : HasProgram name files) → p.compiled ≡ q.compiled
 one_program name files once p q =
-    let e = once p.text (Ok p.compiled) (Ok q.compiled) p.program (subst (λ (w : List ℕ). TextIs w (Ok q.compiled)) (one_file name files _ _ q.file p.file) q.program) in
+    let same = one_file name files _ _ q.file p.file in
+    let e = once p.text (Ok p.compiled) (Ok q.compiled) p.program (subst (λ (w : List ℕ). TextIs w (Ok q.compiled)) same q.program) in
     cc
 
 -- a script says one thing of the same controls
-one_script : {name : Option (List ℕ)} {files : List File} {cs ds : List ControlInfo} {a b : _} → cs ≡ ds → HasScript name files cs a → HasScript name files ds b → a ≡ b
-one_script {name} {files} {cs} {ds} same p q = sym p.is ∙ ap (λ w. script_of cs w) (one_found name files _ _ p.file q.file) ∙ ap (λ (w : List ControlInfo). script_of w q.bytes) same ∙ q.is
+one_script : {name : Option (List ℕ)} {files : List File} {cs ds : List ControlInfo} {a b : _} → cs ≡ ds
+    → HasScript name files cs a → HasScript name files ds b → a ≡ b
+one_script {name} {files} {cs} {ds} same p q =
+    sym p.is ∙ ap (λ w. script_of cs w) (one_found name files _ _ p.file q.file) ∙ ap (λ (w : List ControlInfo). script_of w q.bytes) same ∙ q.is
 
 one_input : {name : Option (List ℕ)} {files : List File} {a b : _} → HasInput name files a → HasInput name files b → a ≡ b
 one_input {name} {files} p q = sym p.is ∙ ap source_of (one_found name files _ _ p.file q.file) ∙ q.is
@@ -53,10 +59,12 @@ one_source : {name : Option (List ℕ)} {files : List File} {a b : Source} → H
 one_source p q = let e = one_input p q in cc
 
 -- the sound of a program on an input
-one_sound : (run : Run) (files : List File) → IsOneText → (p q : HasProgram run.program files) (s u : Source) → HasInput run.input files (Ok s) → HasInput run.input files (Ok u) →
-    sound_of run.settings p.compiled.diagram s.head ≡ sound_of run.settings q.compiled.diagram u.head
+one_sound : (run : Run) (files : List File) → IsOneText → (p q : HasProgram run.program files) (s u : Source)
+    → HasInput run.input files (Ok s) → HasInput run.input files (Ok u)
+    → sound_of run.settings p.compiled.diagram s.head ≡ sound_of run.settings q.compiled.diagram u.head
 one_sound run files once p q s u h k =
-    ap (λ (c : Compiled). sound_of run.settings c.diagram s.head) (one_program run.program files once p q) ∙ ap (λ (w : Source). sound_of run.settings q.compiled.diagram w.head) (one_source h k)
+    ap (λ (c : Compiled). sound_of run.settings c.diagram s.head) (one_program run.program files once p q)
+    ∙ ap (λ (w : Source). sound_of run.settings q.compiled.diagram w.head) (one_source h k)
 
 -- two runs of the same files are cut short alike
 one_cut : (run : Run) (files : List File) → IsOneText → (p q : Plays run files) → cut_in p.sound p.source ≡ cut_in q.sound q.source
@@ -69,7 +77,8 @@ one_cut run files once p q =
 
 once_in : (run : Run) (files : List File) → IsOneText → (s : Step) (a b : Refusal) → StepRefuses run files s a → StepRefuses run files s b → a ≡ b
 once_in run files once ReadProgram a b h k = one_text run.program files a b once h k
-once_in run files once ReadScript a b h k = let e = one_script (ap (λ (c : Compiled). c.controls) (one_program run.program files once h.0 k.0)) h.1 k.1 in cc
+once_in run files once ReadScript a b h k =
+    let e = one_script (ap (λ (c : Compiled). c.controls) (one_program run.program files once h.0 k.0)) h.1 k.1 in cc
 once_in run files once ReadHead a b h k = let e = one_input h k in cc
 once_in run files once Fit a b h k = let e = sym h.3 ∙ one_sound run files once h.0 k.0 h.1 k.1 h.2 k.2 ∙ k.3 in cc
 once_in run files once ReadSamples a b h k = absurd h
@@ -78,7 +87,8 @@ once_in run files once Tell a b h k = absurd h
 
 apart_in : (run : Run) (files : List File) → IsOneText → (s : Step) (a : Refusal) → StepPasses run files s → StepRefuses run files s a → ⊥
 apart_in run files once ReadProgram a p h = program_apart run.program files a once p h
-apart_in run files once ReadScript a p h = let e = one_script (ap (λ (c : Compiled). c.controls) (one_program run.program files once p.0 h.0)) p.2 h.1 in absurd cc
+apart_in run files once ReadScript a p h =
+    let e = one_script (ap (λ (c : Compiled). c.controls) (one_program run.program files once p.0 h.0)) p.2 h.1 in absurd cc
 apart_in run files once ReadHead a p h = let e = one_input p.1 h in absurd cc
 apart_in run files once Fit a p h = let e = sym p.fits ∙ one_sound run files once p.of h.0 p.source h.1 p.on h.2 ∙ h.3 in absurd cc
 apart_in run files once ReadSamples a p h = h
@@ -141,15 +151,15 @@ one_command : (words : List (List ℕ)) (a b : Job) → Asks words a → Asks wo
 one_command words a b h k = let e = sym h ∙ k in cc
 
 -- the steps of what was refused are those of its words
-ends_of : (words : List (List ℕ)) (job : Job) (old new : DeskState) (e : Refusal) (asked : List Request) → Asks words job → HasCause words old new e asked →
-    (rs : List Request) × Ends (rules_of job old) old new (steps_of job) e rs
+ends_of : (words : List (List ℕ)) (job : Job) (old new : DeskState) (e : Refusal) (asked : List Request) → Asks words job
+    → HasCause words old new e asked → (rs : List Request) × Ends (rules_of job old) old new (steps_of job) e rs
 ends_of words job old new e asked asks (bad_words h) = let f = sym asks ∙ h in absurd cc
 ends_of words job old new e asked asks (of_job other named h) =
     (asked, subst (λ (n : Job). Ends (rules_of n old) old new (steps_of n) e asked) (one_command words other job named asks) h)
 
 -- ---- a run that is done
-pub done_exact : (words : List (List ℕ)) (tally : Tally) (frames : ℕ) (old new : DeskState) → HasDone words frames old new → IsExact words (Done tally)
-done_exact words tally frames old new p cause h = let f = sym p.asks ∙ h in absurd cc
+pub done_exact : {words : List (List ℕ)} {frames : ℕ} {old new : DeskState} (tally : Tally) → HasDone words frames old new → IsExact words (Done tally)
+done_exact tally p cause h = let f = sym p.asks ∙ h in absurd cc
 
 passes_in : (run : Run) (files : List File) → (p : Plays run files) → IsWhole p → (s : Step) → StepPasses run files s
 passes_in run files p whole ReadProgram = p.of
@@ -184,29 +194,32 @@ passes_of (Playing run) old can s = passes_in run old.files can.0 can.1 s
 passes_of (Checking name) old can s = check_passes name old.files can s
 passes_of (Making voices frames) old can s = make_passes voices can s
 
-pub done_strict : (words : List (List ℕ)) (tally : Tally) (frames : ℕ) (old new : DeskState) → IsOneText → HasDone words frames old new → IsStrict words old new (Done tally)
-done_strict words tally frames old new once p job wanted asks told stops =
+pub done_strict : {words : List (List ℕ)} {frames : ℕ} {old new : DeskState} (tally : Tally) → IsOneText → HasDone words frames old new
+    → IsStrict words old new (Done tally)
+done_strict {words} {frames} {old} {new} tally once p job wanted asks known stops =
     let same = one_command words p.job job p.asks asks in
-    let passes = subst (λ (n : Job). (s : Step) → Rules.Passes (rules_of n old) s) same (passes_of p.job old (p.told told).0) in
-    absurd (passes_apart (rules_of job old) old new (judges job old once) told (steps_of job) wanted passes stops)
+    let can = (p.told (subst (λ (n : Job). IsKnown n old) (sym same) known)).0 in
+    let passes = subst (λ (n : Job). (s : Step) → Rules.Passes (rules_of n old) s) same (passes_of p.job old can) in
+    absurd (passes_apart (rules_of job old) old new (judges job old once) (steps_of job) wanted passes stops)
 
 -- ---- a run that was refused
-pub refused_exact : (words : List (List ℕ)) (old new : DeskState) (e : Refusal) (asked : List Request) → HasCause words old new e asked → IsExact words (Refused e)
-refused_exact words old new e asked (bad_words h) cause k = let f = sym h ∙ k in cc
-refused_exact words old new e asked (of_job job asks h) cause k = let f = sym asks ∙ k in absurd cc
+pub refused_exact : {words : List (List ℕ)} {old new : DeskState} {e : Refusal} {asked : List Request} → HasCause words old new e asked
+    → IsExact words (Refused e)
+refused_exact (bad_words h) cause k = let f = sym h ∙ k in cc
+refused_exact (of_job job asks h) cause k = let f = sym asks ∙ k in absurd cc
 
 as_status : (wanted got : Refusal) → (got ≡ wanted) ⊎ (got ≡ NoMemory) → IsRefusedOrNoMemory wanted (Refused got)
 as_status wanted got (inl e) = inl (ap Refused e)
 as_status wanted got (inr e) = inr (ap Refused e)
 
-pub refused_strict : (words : List (List ℕ)) (old new : DeskState) (e : Refusal) (asked : List Request) → IsOneText → HasCause words old new e asked →
-    IsStrict words old new (Refused e)
-refused_strict words old new e asked once cause job wanted asks told stops =
+pub refused_strict : {words : List (List ℕ)} {old new : DeskState} {e : Refusal} {asked : List Request} → HasCause words old new e asked → IsOneText
+    → IsStrict words old new (Refused e)
+refused_strict {words} {old} {new} {e} {asked} cause once job wanted asks known stops =
     let ends = ends_of words job old new e asked asks cause in
-    as_status wanted e (exactly (rules_of job old) old new (judges job old once) told (steps_of job) wanted e ends.0 stops ends.1)
+    as_status wanted e (exactly (rules_of job old) old new (judges job old once) known (steps_of job) wanted e ends.0 stops ends.1)
 
-pub refused_complete : (words : List (List ℕ)) (old new : DeskState) (e : Refusal) (asked : List Request) → IsOneText → HasCause words old new e asked →
-    IsComplete words old new (Refused e)
-refused_complete words old new e asked once cause job asks told passes =
+pub refused_complete : {words : List (List ℕ)} {old new : DeskState} {e : Refusal} {asked : List Request} → HasCause words old new e asked → IsOneText
+    → IsComplete words old new (Refused e)
+refused_complete {words} {old} {new} {e} {asked} cause once job asks known passes =
     let ends = ends_of words job old new e asked asks cause in
-    completes (rules_of job old) old new (judges job old once) told (steps_of job) e ends.0 passes ends.1
+    completes (rules_of job old) old new (judges job old once) known (steps_of job) e ends.0 passes ends.1

@@ -40,11 +40,14 @@ pub none_bad : (ss : List Interval) → AreDelays ss → first_bad ss ≡ None
 none_bad [] h = refl
 none_bad (s ∷ ss) h = good_first s (first_bad ss) (h zero s (omega arith)) ∙ none_bad ss (λ k d l. h (suc k) d (omega arith))
 
-bad_behind : (before : List Interval) (s : Interval) (behind : List Interval) (r : Refusal) → AreDelays before → ((rest : Option Refusal) → bad_delay s rest ≡ Some r) → first_bad (before ++ s ∷ behind) ≡ Some r
+bad_behind : (before : List Interval) (s : Interval) (behind : List Interval) (r : Refusal) → AreDelays before
+    → ((rest : Option Refusal) → bad_delay s rest ≡ Some r) → first_bad (before ++ s ∷ behind) ≡ Some r
 bad_behind [] s behind r h bad = bad (first_bad behind)
-bad_behind (b ∷ bs) s behind r h bad = good_first b (first_bad (bs ++ s ∷ behind)) (h zero b (omega arith)) ∙ bad_behind bs s behind r (λ k d l. h (suc k) d (omega arith)) bad
+bad_behind (b ∷ bs) s behind r h bad =
+    good_first b (first_bad (bs ++ s ∷ behind)) (h zero b (omega arith)) ∙ bad_behind bs s behind r (λ k d l. h (suc k) d (omega arith)) bad
 
-first_refused : (ss : List Interval) (e : DelayRefusal) (r : Refusal) → ((s : Interval) → IsSpanRefused s e → (rest : Option Refusal) → bad_delay s rest ≡ Some r) → IsFirstRefused ss e → first_bad ss ≡ Some r
+first_refused : (ss : List Interval) (e : DelayRefusal) (r : Refusal)
+    → ((s : Interval) → IsSpanRefused s e → (rest : Option Refusal) → bad_delay s rest ≡ Some r) → IsFirstRefused ss e → first_bad ss ≡ Some r
 first_refused ss e r bad f = ap first_bad f.place ∙ bad_behind f.before f.span f.behind r f.none_before (bad f.span f.refused)
 
 -- ---- what a program's delays say
@@ -58,7 +61,8 @@ delays_pass p ds a =
     rw (none, test) refl
 
 -- the refusals of delays are of a text, but want of memory
-pub delays_stop : (p : Compiled) (e : DelayRefusal) (r : Refusal) → r ≡ of_delay e → IsDelayRefusal (delays_in p) e → (r ≡ no.NoMemory) ⊎ (IsOfText r × (delayed p (first_bad (delays_in p)) ≡ Err r))
+pub delays_stop : (p : Compiled) (e : DelayRefusal) (r : Refusal) → r ≡ of_delay e → IsDelayRefusal (delays_in p) e
+    → (r ≡ no.NoMemory) ⊎ (IsOfText r × (delayed p (first_bad (delays_in p)) ≡ Err r))
 delays_stop p (delay.DelayNegative n) r is h =
     rw is (inr (
       refl,
@@ -69,7 +73,10 @@ delays_stop p (delay.DelayTooLong n) r is h =
     rw is (inr (
       refl,
       ap (delayed p) (first_refused (delays_in p) (delay.DelayTooLong n) (no.DelayTooLong n)
-          (λ s k rest. let t = int_no s.lo (pos 0) k.1 in let u = int_yes (pos delay_limit) s.hi k.2 in rw (t, u) (ap (λ z. Some (no.DelayTooLong z)) (sym k.0))) h),
+          (λ s k rest.
+          let t = int_no s.lo (pos 0) k.1 in
+          let u = int_yes (pos delay_limit) s.hi k.2 in
+          rw (t, u) (ap (λ z. Some (no.DelayTooLong z)) (sym k.0))) h),
     ))
 delays_stop p (delay.DelayBudget n) r is h =
     let none = none_bad (delays_in p) h.0 in

@@ -9,28 +9,50 @@ use Rattle.fv_top.specs.Parts.{AppendsPart}
 use Rattle.fv_top.specs.Sound.{file_of}
 use Rattle.fv_top.proofs.Parts.{part_before, part_behind}
 
-module _ (channels rate bits size n : ℕ) (same : size ≡ n) (xs ys : List ℤ) (spelled : ys ≡ xs) (pad : List ℕ) where
+-- the pieces of a file: its head states a size, which is the one that is meant; the samples, as they are spelled; and the pad behind them
+pub record Pieces : Type 0 where
+  pub channels : ℕ
+  pub rate : ℕ
+  pub bits : ℕ
+  pub stated : ℕ
+  pub size : ℕ
+  pub same : stated ≡ size
+  pub samples : List ℤ
+  pub spelling : List ℤ
+  pub spelled : spelling ≡ samples
+  pub pad : List ℕ
+
+-- the pieces that are written, and the file that they are
+abbrev pub head_of : Pieces → List ℕ
+head_of f = head_bytes f.channels f.rate f.bits f.stated
+
+abbrev pub samples_of : Pieces → List ℕ
+samples_of f = flat_map (sample_bytes f.bits) f.spelling
+
+abbrev pub whole_of : Pieces → List ℕ
+whole_of f = file_of f.channels f.rate f.bits f.size f.samples f.pad
+
+module _ (f : Pieces) where
   -- a file of the stated size is that of the size that was meant
-  sized : (P : List ℕ → Type 0) → P (head_bytes channels rate bits size ++ (flat_map (sample_bytes bits) ys ++ pad)) → P (file_of channels rate bits n xs pad)
+  sized : (P : List ℕ → Type 0) → P (head_of f ++ (samples_of f ++ f.pad)) → P (whole_of f)
   sized P p =
-      subst (λ (m : ℕ). P (head_bytes channels rate bits m ++ (flat_map (sample_bytes bits) xs ++ pad))) same
-      (subst (λ (zs : List ℤ). P (head_bytes channels rate bits size ++ (flat_map (sample_bytes bits) zs ++ pad))) spelled p)
+      subst (λ (m : ℕ). P (head_bytes f.channels f.rate f.bits m ++ (flat_map (sample_bytes f.bits) f.samples ++ f.pad))) f.same
+      (subst (λ (zs : List ℤ). P (head_of f ++ (flat_map (sample_bytes f.bits) zs ++ f.pad))) f.spelled p)
 
   -- a part of the head
-  pub head_part : (a b : DeskState) → AppendsPart Output (head_bytes channels rate bits size) a b → AppendsPart Output (file_of channels rate bits n xs pad) a b
-  head_part a b p = sized (λ f. AppendsPart Output f a b) (part_before (flat_map (sample_bytes bits) ys ++ pad) p)
+  pub head_part : {a b : DeskState} → AppendsPart Output (head_of f) a b → AppendsPart Output (whole_of f) a b
+  head_part {a} {b} p = sized (λ w. AppendsPart Output w a b) (part_before (samples_of f ++ f.pad) p)
 
   -- the head, and a part of the samples
-  pub samples_part : (a b c : DeskState) → Appends Output (head_bytes channels rate bits size) a b → AppendsPart Output (flat_map (sample_bytes bits) ys) b c →
-      AppendsPart Output (file_of channels rate bits n xs pad) a c
-  samples_part a b c h p = sized (λ f. AppendsPart Output f a c) (part_behind h (part_before pad p))
+  pub samples_part : {a b c : DeskState} → Appends Output (head_of f) a b → AppendsPart Output (samples_of f) b c → AppendsPart Output (whole_of f) a c
+  samples_part {a} {c = c} h p = sized (λ w. AppendsPart Output w a c) (part_behind h (part_before f.pad p))
 
   -- the head, the samples, and a part of the byte behind them
-  pub pad_part : (a b c d : DeskState) → Appends Output (head_bytes channels rate bits size) a b → Appends Output (flat_map (sample_bytes bits) ys) b c →
-      AppendsPart Output pad c d → AppendsPart Output (file_of channels rate bits n xs pad) a d
-  pad_part a b c d h s p = sized (λ f. AppendsPart Output f a d) (part_behind h (part_behind s p))
+  pub pad_part : {a b c d : DeskState} → Appends Output (head_of f) a b → Appends Output (samples_of f) b c → AppendsPart Output f.pad c d
+      → AppendsPart Output (whole_of f) a d
+  pad_part {a} {d = d} h s p = sized (λ w. AppendsPart Output w a d) (part_behind h (part_behind s p))
 
   -- all
-  pub file_whole : (a b c d : DeskState) → Appends Output (head_bytes channels rate bits size) a b → Appends Output (flat_map (sample_bytes bits) ys) b c →
-      Appends Output pad c d → Appends Output (file_of channels rate bits n xs pad) a d
-  file_whole a b c d h s p = sized (λ f. Appends Output f a d) (appends_then h (appends_then s p))
+  pub file_whole : {a b c d : DeskState} → Appends Output (head_of f) a b → Appends Output (samples_of f) b c → Appends Output f.pad c d
+      → Appends Output (whole_of f) a d
+  file_whole {a} {d = d} h s p = sized (λ w. Appends Output w a d) (appends_then h (appends_then s p))

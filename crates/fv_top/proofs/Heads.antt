@@ -24,11 +24,13 @@ input_none files = record { bytes = None; file = refl; is = refl }
 pub head_none : (files : List File) (left : List ℕ) → HasHead None files None left
 head_none files left = record { source = record { head = None; bytes = [] }; input = input_none files; is = refl; behind = tt }
 
-pub input_is : (name : List ℕ) (files : List File) (bytes : List ℕ) (r : Result Head WaveRefusal) → file_named name files ≡ Some bytes → wave bytes ≡ r → HasInput (Some name) files (headed bytes r)
+pub input_is : (name : List ℕ) (files : List File) (bytes : List ℕ) (r : Result Head WaveRefusal) → file_named name files ≡ Some bytes → wave bytes ≡ r
+    → HasInput (Some name) files (headed bytes r)
 input_is name files bytes r file is = record { bytes = Some bytes; file = rw file refl; is = ap (headed bytes) is }
 
 -- the head was taken from the front of the file
-pub head_is : (name : List ℕ) (files : List File) (h : Head) (bytes taken left : List ℕ) → file_named name files ≡ Some bytes → wave bytes ≡ Ok h → length taken ≡ h.place → bytes ≡ taken ++ left →
+pub head_is : (name : List ℕ) (files : List File) (h : Head) (bytes taken left : List ℕ) → file_named name files ≡ Some bytes → wave bytes ≡ Ok h
+    → length taken ≡ h.place → bytes ≡ taken ++ left →
     HasHead (Some name) files (Some h) left
 head_is name files h bytes taken left file is long e = record {
   source = record { head = Some h; bytes = bytes };
@@ -38,7 +40,8 @@ head_is name files h bytes taken left file is long e = record {
 }
 
 -- a head that was begun was refused
-pub head_refused : {name : List ℕ} {a b c : DeskState} (e : WaveRefusal) (r : Refusal) → r ≡ of_wave e → ReadsFile Input (Some name) a b → (IsTrue a.tells → file_named name a.files ≡ Some (b.left Input)) →
+pub head_refused : {name : List ℕ} {a b c : DeskState} (e : WaveRefusal) (r : Refusal) → r ≡ of_wave e → ReadsFile Input (Some name) a b
+    → (IsTrue a.tells → file_named name a.files ≡ Some (b.left Input)) →
     Stops (wave (b.left Input) ≡ Err e) b c e → StopsLoading Input (Some name) (HasRefusal ReadHead) (λ r. HasInput (Some name) a.files (Err r)) a c r
 head_refused (head.ReadFault role) r is p file s = inl (is ∙ ap ReadFault s.cause.0, cannot_later p s.cause.1.counted s.cause.1.due)
 head_refused {name} {a} {b} (head.NotWave place) r is p file s =
@@ -51,6 +54,7 @@ head_refused {name} {a} {b} (head.WaveChunks place) r is p file s =
     rw is (inr (inl (refl, λ t. input_is name a.files (b.left Input) (Err (head.WaveChunks place)) (file t) (s.cause.told (told_before p.quiet.goes_on t)))))
 
 -- what is wanted of the bytes that are left is what is present
-pub wanted_is : (h : Option Head) (source : Source) (left : List ℕ) → source.head ≡ h → IsLeft h source.bytes left → wanted h left ≡ data_of source.head source.bytes
+pub wanted_is : (h : Option Head) (source : Source) (left : List ℕ) → source.head ≡ h → IsLeft h source.bytes left
+    → wanted h left ≡ data_of source.head source.bytes
 wanted_is None source left e l = sym (ap (λ (w : Option Head). data_of w source.bytes) e)
 wanted_is (Some h) source left e l = ap (take (whole_bytes h)) l.0 ∙ sym (ap (λ (w : Option Head). data_of w source.bytes) e)

@@ -12,7 +12,8 @@ use Rattle.fv_outside.specs.declared.transfer.ReadError.TheVariants.{Failed, NoM
 use Rattle.fv_top.specs.Loading.{ReadsFile, CannotRead, StopsLoading, refusal_of_read}
 
 -- bytes of the file that was begun were taken
-pub reads_then_takes : {role : Role} {name : Option (List ℕ)} {xs : List ℕ} {a b c : DeskState} → ReadsFile role name a b → Takes role xs b c → ReadsFile role name a c
+pub reads_then_takes : {role : Role} {name : Option (List ℕ)} {xs : List ℕ} {a b c : DeskState} → ReadsFile role name a b → Takes role xs b c
+    → ReadsFile role name a c
 reads_then_takes p q = record {
   quiet = quiet_then p.quiet (takes_quiet q);
   requests = q.requests ∙ p.requests;
@@ -30,7 +31,8 @@ reads_nothing role a = record { quiet = quiet_self a; requests = sym (append-nil
 pub ruleset reading = (reads_then_takes, reads_then_some, reads_nothing)
 
 -- a read of the file that was begun failed
-pub cannot_later : {role : Role} {name : List ℕ} {a b c : DeskState} → ReadsFile role (Some name) a b → HasFault role b c → (IsTrue b.tells → IsUnfailing role b → ⊥) → CannotRead role (Some name) a c
+pub cannot_later : {role : Role} {name : List ℕ} {a b c : DeskState} → ReadsFile role (Some name) a b → HasFault role b c
+    → (IsTrue b.tells → IsUnfailing role b → ⊥) → CannotRead role (Some name) a c
 cannot_later {role} {c = c} p h u = record {
   named = refl;
   fault = fault_earlier c role p.quiet.goes_on h;
@@ -38,13 +40,15 @@ cannot_later {role} {c = c} p h u = record {
 }
 
 -- what is refused, where it was read
-pub stops_refused : (role : Role) (name : Option (List ℕ)) (Kind P Q : Refusal → Type 0) (old new : DeskState) (r : Refusal) → (r ≡ NoMemory) ⊎ (Kind r × Q r) → (IsTrue old.tells → Q r → P r) →
+pub stops_refused : (role : Role) (name : Option (List ℕ)) (Kind P Q : Refusal → Type 0) (old new : DeskState) (r : Refusal) → (r ≡ NoMemory) ⊎ (Kind r × Q r)
+    → (IsTrue old.tells → Q r → P r) →
     StopsLoading role name Kind P old new r
 stops_refused role name Kind P Q old new r (inl m) p = inr (inr m)
 stops_refused role name Kind P Q old new r (inr h) p = inr (inl (h.0, λ t. p t h.1))
 
 -- a read of the file that was begun was refused
-pub read_refused : {role : Role} {name : List ℕ} {a b c : DeskState} (Kind P : Refusal → Type 0) (error : ReadError) (r : Refusal) → r ≡ refusal_of_read role error → ReadsFile role (Some name) a b
+pub read_refused : {role : Role} {name : List ℕ} {a b c : DeskState} (Kind P : Refusal → Type 0) (error : ReadError) (r : Refusal)
+    → r ≡ refusal_of_read role error → ReadsFile role (Some name) a b
     → (error ≡ Failed → HasFault role b c) → (error ≡ Failed → IsTrue b.tells → IsUnfailing role b → ⊥) → StopsLoading role (Some name) Kind P a c r
 read_refused Kind P Failed r is p h u = inl (is, cannot_later p (h refl) (u refl))
 read_refused Kind P OutOfMemory r is p h u = inr (inr is)

@@ -1,5 +1,6 @@
 -- How a make ends, from how its parts do.
-use Rattle.std.proofs.Common.{◌≡◌, ◌⊎◌, ℕ, zero, suc, ◌+◌, ◌*◌, ◌≤◌, ℤ, pos, List, [], ◌∷◌, ◌++◌, length, length-append, sym, ◌∙◌, ap, subst, refl, inl, inr, append_assoc, arith, to_z, of_z, to_z-of_z, SFits, w32}
+use Rattle.std.proofs.Common.{◌≡◌, ◌⊎◌, ℕ, zero, suc, ◌+◌, ◌≤◌, ℤ, List, [], ◌++◌, length, length-append, sym, ◌∙◌, ap, subst, refl, inl, inr}
+use Rattle.std.proofs.Common.{append_assoc, arith, to_z, of_z, to_z-of_z, SFits, w32}
 use Rattle.std.specs.Prelude.{IsTrue, codes, decimal}
 use Rattle.std.specs.Fmt.{signed_decimal}
 use Rattle.std.proofs.lemmas.List.{append-nil}
@@ -22,7 +23,8 @@ use Rattle.fv_top.specs.Promise.{make_rules, make_steps}
 use Rattle.fv_top.specs.Running.{Makes, StopsMake, HasSum, IsNotMade}
 
 -- the line, piece by piece; the sum comes back from its 32 bits
-pub made_pieces : (v f : ℕ) (s : ℤ) → SFits w32 s → {p1 p2 p3 p4 p5 p6 p7 : List ℕ} → p1 ≡ codes "made " → p2 ≡ decimal v → p3 ≡ codes " voices, " → p4 ≡ decimal f
+pub made_pieces : (v f : ℕ) (s : ℤ) → SFits w32 s → {p1 p2 p3 p4 p5 p6 p7 : List ℕ} → p1 ≡ codes "made " → p2 ≡ decimal v → p3 ≡ codes " voices, "
+    → p4 ≡ decimal f
     → p5 ≡ codes " frames, sum " → p6 ≡ signed_decimal (to_z w32 (of_z w32 s)) → p7 ≡ codes "\n"
     → p1 ++ (p2 ++ (p3 ++ (p4 ++ (p5 ++ (p6 ++ (p7 ++ [])))))) ≡ made_line v f s
 made_pieces v f s fits e1 e2 e3 e4 e5 e6 e7 =
@@ -76,7 +78,8 @@ module _ (voices frames : ℕ) (sum : ℤ) (h : HasSum voices frames sum) (a c :
   is = ap (made_line voices frames) h.is
 
   pub make_tells : AppendsPart Report (made_line voices frames sum) a c → HasFault Report a c →
-      (IsTrue a.tells → IsUnfailing Report a → length (a.written Report) + length (made_line voices frames sum) ≤ a.room Report → ⊥) → StopsMake voices frames a c (WriteFault Report)
+      (IsTrue a.tells → IsUnfailing Report a → length (a.written Report) + length (made_line voices frames sum) ≤ a.room Report → ⊥)
+      → StopsMake voices frames a c (WriteFault Report)
   make_tells part failed unsure =
       let r = part.2 in
       record {
@@ -100,14 +103,13 @@ module _ (voices frames : ℕ) (sum : ℤ) (h : HasSum voices frames sum) (a c :
     others = record { left = λ t x n m k. r.left t x; written = λ t x n m. r.others t x m; begins = λ x n. r.begins x };
     requests = r.requests ∙ sym (append-nil a.requests);
     faults = calm;
-    told = λ t. (
-      h.made,
-      elim [
-        | Program ↦ r.others t Program (λ e. absurd cc)
-        | Input ↦ r.others t Input (λ e. absurd cc)
-        | Controls ↦ r.others t Controls (λ e. absurd cc)
-        | Output ↦ r.others t Output (λ e. absurd cc)
-        | Report ↦ r.appended t ∙ ap (λ w. a.written Report ++ w) is
-      ],
-    );
+    made = h.made;
+    told = λ t.
+        elim [
+          | Program ↦ r.others t Program (λ e. absurd cc)
+          | Input ↦ r.others t Input (λ e. absurd cc)
+          | Controls ↦ r.others t Controls (λ e. absurd cc)
+          | Output ↦ r.others t Output (λ e. absurd cc)
+          | Report ↦ r.appended t ∙ ap (λ w. a.written Report ++ w) is
+        ];
   }

@@ -18,7 +18,8 @@ use Rattle.fv_top.specs.declared.refusal.Refusal.{Refusal}
 use Rattle.fv_top.specs.declared.refusal.Refusal.TheVariants.{NoMemory}
 use Rattle.fv_top.specs.Answers.{Turned, kept, turned, stops, goes_on, IsOnce, IsSome, RefusesOthers}
 use Rattle.fv_top.specs.Sources.{Compiled}
-use Rattle.fv_top.specs.Program.{Spelled, Parses, spells, refused, Evaluates, valued, Narrow, narrow, Delayed, delayed, delays_in, first_bad, SpellingIs, ValueIs, WidthIs, TextIs, IsProgram, IsRefusedText, IsOfText, of_bytes, of_tokens, of_value}
+use Rattle.fv_top.specs.Program.{Spelled, Parses, spells, refused, Evaluates, valued, Narrow, narrow, Delayed, delayed, delays_in, first_bad, SpellingIs}
+use Rattle.fv_top.specs.Program.{ValueIs, WidthIs, TextIs, IsProgram, IsRefusedText, IsOfText, of_bytes, of_tokens, of_value}
 use Rattle.fv_top.proofs.AnswerLaws.{then_once, then_some, then_refuses, turned_once, turned_some, kept_is}
 
 -- ---- each layer
@@ -42,7 +43,8 @@ narrow_once p r q h k = sym h ∙ k
 delayed_once : IsOnce Delayed
 delayed_once p r q h k = sym h ∙ k
 
-delayed_by : (p : Compiled) (r : Result Compiled Refusal) → delayed p (first_bad (delays_in p)) ≡ r → ((a : Compiled) → Delayed p (Ok a) → ⊥) → (e : Refusal) × Delayed p (Err e)
+delayed_by : (p : Compiled) (r : Result Compiled Refusal) → delayed p (first_bad (delays_in p)) ≡ r → ((a : Compiled) → Delayed p (Ok a) → ⊥)
+    → (e : Refusal) × Delayed p (Err e)
 delayed_by p (Ok a) is none = absurd (none a is)
 delayed_by p (Err e) is none = (e, is)
 
@@ -53,15 +55,18 @@ delayed_others p none = delayed_by p _ refl none
 
 pub text_once : HasAtMostOne → SpelledOnce → IsOneRefusal → IsNotBoth → IsOnce TextIs
 text_once lexed spelled once apart =
-    let spelling = then_once (Turned of_bytes Has) (Turned of_tokens Parses) (turned_once of_bytes Has lexed) (turned_once of_tokens Parses (parses_once spelled once apart)) in
-    then_once WidthIs Delayed (then_once ValueIs Narrow (then_once SpellingIs (Turned of_value Evaluates) spelling (turned_once of_value Evaluates evaluates_once)) narrow_once) delayed_once
+    let parsed = turned_once of_tokens Parses (parses_once spelled once apart) in
+    let spelling = then_once (Turned of_bytes Has) (Turned of_tokens Parses) (turned_once of_bytes Has lexed) parsed in
+    let value = then_once SpellingIs (Turned of_value Evaluates) spelling (turned_once of_value Evaluates evaluates_once) in
+    then_once WidthIs Delayed (then_once ValueIs Narrow value narrow_once) delayed_once
 
 abbrev Any : {X : Type 0} → X → Type 0
 Any x = Unit {0}
 
 spelling_some : HasAtLeastOne → TokensOneOrOther → IsSome (λ (text : List ℕ). Unit {0}) SpellingIs
 spelling_some some either =
-    then_some (λ (text : List ℕ). Unit {0}) (Turned of_bytes Has) (Turned of_tokens Parses) (turned_some of_bytes (λ (text : List ℕ). Unit {0}) Has (λ text u. some text)) (λ text l u h.
+    then_some (λ (text : List ℕ). Unit {0}) (Turned of_bytes Has) (Turned of_tokens Parses)
+    (turned_some of_bytes (λ (text : List ℕ). Unit {0}) Has (λ text u. some text)) (λ text l u h.
     turned_some of_tokens (λ (m : Lexed). HasTokens text m) Parses (λ m has. parses_by m (either text m has)) l (kept_is of_bytes Has text l h))
 
 pub text_others : HasAtLeastOne → TokensOneOrOther → RefusesOthers TextIs
@@ -92,7 +97,8 @@ bytes_stop text bytes.NoMemory refusal is (inr h) = inl is
 tokens_refuse : (text : List ℕ) (l : Lexed) (e : ParseRefusal) → HasTokens text l → HasTokensRefusal l e → IsRefusedText text (of_tokens e)
 tokens_refuse text l e has h = spelling_stops text (of_tokens e) (goes_on l (Err (of_tokens e)) (kept l has) (turned e (refused e h)))
 
-pub tokens_stop : (text : List ℕ) (l : Lexed) (e : ParseRefusal) (refusal : Refusal) → HasTokens text l → refusal ≡ of_tokens e → (e ≡ tokens.NoMemory) ⊎ HasTokensRefusal l e →
+pub tokens_stop : (text : List ℕ) (l : Lexed) (e : ParseRefusal) (refusal : Refusal) → HasTokens text l → refusal ≡ of_tokens e
+    → (e ≡ tokens.NoMemory) ⊎ HasTokensRefusal l e →
     (refusal ≡ NoMemory) ⊎ (IsOfText refusal × IsRefusedText text refusal)
 tokens_stop text l e refusal has is (inl m) = inl (is ∙ ap of_tokens m)
 tokens_stop text l (tokens.Syntax line column) refusal has is (inr h) = rw is (inr (refl, tokens_refuse text l _ has h))
@@ -107,11 +113,13 @@ tokens_stop text l tokens.NoMemory refusal has is (inr h) = inl is
 pub spelling_is : (text : List ℕ) (l : Lexed) (x : Tree) → HasTokens text l → IsAccepted l x → SpellingIs text (Ok (record { tokens = l; tree = x }))
 spelling_is text l x has a = goes_on l (Ok (record { tokens = l; tree = x })) (kept l has) (kept (record { tokens = l; tree = x }) (spells x a))
 
-value_refuse : (text : List ℕ) (s : Spelled) (e : EvalRefusal) → SpellingIs text (Ok s) → program_value s.tokens s.tree ≡ Err e → IsRefusedText text (of_value e)
+value_refuse : (text : List ℕ) (s : Spelled) (e : EvalRefusal) → SpellingIs text (Ok s) → program_value s.tokens s.tree ≡ Err e
+    → IsRefusedText text (of_value e)
 value_refuse text s e h is = stops (of_value e) (stops (of_value e) (goes_on s (Err (of_value e)) h (turned e (ap valued is))))
 
 -- refusals of the value are, but want of memory
-pub value_stop : (text : List ℕ) (s : Spelled) (e : EvalRefusal) (refusal : Refusal) → SpellingIs text (Ok s) → refusal ≡ of_value e → (e ≡ values.NoMemory) ⊎ (program_value s.tokens s.tree ≡ Err e) →
+pub value_stop : (text : List ℕ) (s : Spelled) (e : EvalRefusal) (refusal : Refusal) → SpellingIs text (Ok s) → refusal ≡ of_value e
+    → (e ≡ values.NoMemory) ⊎ (program_value s.tokens s.tree ≡ Err e) →
     (refusal ≡ NoMemory) ⊎ (IsOfText refusal × IsRefusedText text refusal)
 value_stop text s e refusal h is (inl m) = inl (is ∙ ap of_value m)
 value_stop text s (values.SizeBudget size) refusal h is (inr v) = rw is (inr (refl, value_refuse text s _ h v))
@@ -128,7 +136,8 @@ value_stop text s (values.ControlBounds label) refusal h is (inr v) = rw is (inr
 value_stop text s values.NoMemory refusal h is (inr v) = inl is
 
 -- the value of a text
-pub value_is : (text : List ℕ) (s : Spelled) (d : Diagram) (cs : _) → SpellingIs text (Ok s) → program_value s.tokens s.tree ≡ Ok (d, cs) → ValueIs text (Ok (record { diagram = d; controls = cs }))
+pub value_is : (text : List ℕ) (s : Spelled) (d : Diagram) (cs : _) → SpellingIs text (Ok s) → program_value s.tokens s.tree ≡ Ok (d, cs)
+    → ValueIs text (Ok (record { diagram = d; controls = cs }))
 value_is text s d cs h is = goes_on s (Ok (record { diagram = d; controls = cs })) h (kept (record { diagram = d; controls = cs }) (ap valued is))
 
 -- its channels are refused
@@ -136,7 +145,8 @@ pub width_stop : (text : List ℕ) (p : Compiled) (e : Refusal) → ValueIs text
 width_stop text p e h is = stops e (goes_on p (Err e) h is)
 
 -- or its delays
-pub delay_stop : (text : List ℕ) (p : Compiled) (e : Refusal) → ValueIs text (Ok p) → narrow p ≡ Ok p → delayed p (first_bad (delays_in p)) ≡ Err e → IsRefusedText text e
+pub delay_stop : (text : List ℕ) (p : Compiled) (e : Refusal) → ValueIs text (Ok p) → narrow p ≡ Ok p → delayed p (first_bad (delays_in p)) ≡ Err e
+    → IsRefusedText text e
 delay_stop text p e h wide is = goes_on p (Err e) (goes_on p (Ok p) h wide) is
 
 -- or nothing is

@@ -13,7 +13,7 @@ use Rattle.fv_control.specs.declared.script.Change.{Change}
 use Rattle.fv_control.specs.Laws.{NeverFall, IsOfControls}
 use Rattle.fv_interval.specs.Delays.{AreAccepted}
 use Rattle.fv_eval.specs.Evaluated.{Evaluated}
-use Rattle.fv_render.specs.Render.{CanRender, CanHave, RanWhole}
+use Rattle.fv_render.specs.Render.{CanRender, CanHave}
 use Rattle.fv_wav.specs.declared.head.Head.{Head}
 use Rattle.fv_wav.specs.Reading.{frame_size, unknown_size}
 use Rattle.fv_wav.specs.Samples.{whole_bytes}
@@ -57,8 +57,8 @@ whole_frames (Some h) stated raw e =
 
 -- ---- what is played can be rendered
 
-pub can_render : (p : Evaluated) (delays : List ℕ) (changes : List Change) → CanPlay p → AreAccepted (delays_in (compiled_of p)) delays → NeverFall 0 changes →
-    AllByRecursion (IsOfControls p.controls) changes → CanRender (tree_of p.diagrams p.root) p.controls delays changes
+pub can_render : (p : Evaluated) (delays : List ℕ) (changes : List Change) → CanPlay p → AreAccepted (delays_in (compiled_of p)) delays
+    → NeverFall 0 changes → AllByRecursion (IsOfControls p.controls) changes → CanRender (tree_of p.diagrams p.root) p.controls delays changes
 can_render p delays changes plays accepted order lawful = record {
   well = plays.well;
   closed = plays.closed;
@@ -89,20 +89,20 @@ makes_fit frames = record { some = omega arith; block = omega arith; vector = om
 
 -- ---- the blocks of a make
 
-pub make_ran : (voices frames blocks loops runs : ℕ) (old : DeskState) (before after : Option Told) → (m : MakeRan voices frames blocks loops runs before after) →
-    (x : AllRan (Making voices frames) old blocks loops runs before after) × (x.played.sizes.frames ≡ frames)
-make_ran voices frames blocks loops runs old before after m = (
+pub make_ran : {voices frames blocks loops runs : ℕ} {old : DeskState} {before after : Option Told} → MakeRan voices frames blocks loops runs before after
+    → (x : AllRan (Making voices frames) old blocks loops runs before after) × (x.played.sizes.frames ≡ frames)
+make_ran {voices} {frames} m = (
   record { played = record { program = m.0; changes = []; sizes = make_sizes frames }; is = (refl, refl, m.1); ran = m.2 },
   refl,
 )
 
-pub make_so_far : (words : List (List ℕ)) (voices frames : ℕ) (old : DeskState) (before after : Option Told) → Asks words (Making voices frames) → MakeSoFar voices frames before after →
-    RanSoFar words old before after
-make_so_far words voices frames old before after asks m = record {
+pub make_so_far : {words : List (List ℕ)} {voices frames : ℕ} {old : DeskState} {before after : Option Told} → Asks words (Making voices frames)
+    → MakeSoFar voices frames before after → RanSoFar words old before after
+make_so_far {words} {voices} {frames} asks m = record {
   job = Making voices frames;
   asks = asks;
   blocks = m.blocks;
   loops = m.loops;
   runs = m.runs;
-  ran = (make_ran voices frames m.blocks m.loops m.runs old before after m.ran).0;
+  ran = (make_ran {voices = voices} {frames = frames} m.ran).0;
 }

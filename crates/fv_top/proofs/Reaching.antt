@@ -27,8 +27,8 @@ abbrev pub IsRead : Role → Type 0
 IsRead role = (r : Role) → r ≢ Program → r ≢ Controls → r ≢ Input → r ≢ role
 
 -- a file more was read
-pub reaches_file : {role : Role} {name : Option (List ℕ)} {asked : List Request} {a b c : DeskState} → IsRead role → Reaches asked a b → ReadsFile role name b c
-    → Reaches (asked ++ reading role name) a c
+pub reaches_file : {role : Role} {name : Option (List ℕ)} {asked : List Request} {a b c : DeskState} → IsRead role → Reaches asked a b
+    → ReadsFile role name b c → Reaches (asked ++ reading role name) a c
 reaches_file {role} {name} {asked} {a} is p q = record {
   quiet = quiet_then p.quiet q.quiet;
   requests = q.requests ∙ ap (λ (rs : List Request). rs ++ reading role name) p.requests ∙ append_assoc a.requests asked (reading role name);
@@ -45,22 +45,30 @@ reaches_taken p q = record {
 
 -- ---- why a step halts
 
+-- A file that may be named was read and cannot be used, by a refusal of this kind, for what P says of it.
+pub record FailsToLoad (role : Role) (name : Option (List ℕ)) (Kind P : Refusal → Type 0) (b c : DeskState) (e : Refusal) : Type 0 where
+  pub reads : ReadsFile role name b c
+  pub stops : StopsLoading role name Kind P b c e
+  pub steady : (e ≡ ReadFault role → ⊥) → KeepsFaults b c
+
 -- what stops the loading of a file halts its step
-pub loading_halts : (run : Run) {asked : List Request} (a b c : DeskState) (s : Step) (role : Role) (name : Option (List ℕ)) (P : Refusal → Type 0) (e : Refusal) → Reaches asked a b →
-    (IsSome name → TakesTurn run s (reads role)) → (IsAnswered run a s (reads role) → IsUnfailing role a × IsThere name a.files) →
-    (IsTrue a.tells → (r : Refusal) → P r → StepRefuses run a.files s r) → StopsLoading role name (HasRefusal s) P b c e → Halts (run_rules run a) a c s e
-loading_halts run a b c s role name P e p takes answers refuses (inl h) =
+pub loading_halts : (run : Run) (s : Step) (role : Role) (name : Option (List ℕ)) (P : Refusal → Type 0)
+    {asked : List Request} {a b c : DeskState} {e : Refusal}
+    → Reaches asked a b → (IsSome name → TakesTurn run s (reads role)) → (IsAnswered run a s (reads role) → IsUnfailing role a × IsThere name a.files)
+    → (IsTrue a.tells → (r : Refusal) → P r → StepRefuses run a.files s r) → StopsLoading role name (HasRefusal s) P b c e
+    → Halts (run_rules run a) a c s e
+loading_halts run s role name P {a = a} {c = c} p takes answers refuses (inl h) =
     let on = p.quiet.goes_on in
     subst (Halts (run_rules run a) a c s) (sym h.0)
     (fault (reads role) (takes h.1.named) (fault_earlier c role on h.1.fault) (λ t sure.
     let w = answers sure in
     h.1.unsure (told_before on t) (unfailing_later role on t w.0, subst (IsThere name) (sym (on.files t)) w.1)))
-loading_halts run a b c s role name P e p takes answers refuses (inr (inl h)) = judged h.0 (λ t. refuses t e (h.1 (told_before p.quiet.goes_on t)))
-loading_halts run a b c s role name P e p takes answers refuses (inr (inr m)) = subst (Halts (run_rules run a) a c s) (sym m) want_of_memory
+loading_halts run s role name P {e = e} p takes answers refuses (inr (inl h)) = judged h.0 (λ t. refuses t e (h.1 (told_before p.quiet.goes_on t)))
+loading_halts run s role name P {a = a} {c = c} p takes answers refuses (inr (inr m)) = subst (Halts (run_rules run a) a c s) (sym m) want_of_memory
 
 -- and so does what stops the samples
-pub samples_halt : (run : Run) {asked : List Request} (a b c : DeskState) (head : Option Head) (e : Refusal) → Reaches asked a b → (IsSome head → IsSome run.input) →
-    StopsSamples head b c e → Halts (run_rules run a) a c ReadSamples e
+pub samples_halt : (run : Run) {asked : List Request} (a b c : DeskState) (head : Option Head) (e : Refusal) → Reaches asked a b
+    → (IsSome head → IsSome run.input) → StopsSamples head b c e → Halts (run_rules run a) a c ReadSamples e
 samples_halt run a b c head e p named (inl h) =
     let on = p.quiet.goes_on in
     subst (Halts (run_rules run a) a c ReadSamples) (sym h.0)
@@ -68,20 +76,25 @@ samples_halt run a b c head e p named (inl h) =
 samples_halt run a b c head e p named (inr m) = subst (Halts (run_rules run a) a c ReadSamples) (sym m) want_of_memory
 
 -- no fault is counted but the one that stops it
-pub load_faults : {role : Role} {name : Option (List ℕ)} (Kind P : Refusal → Type 0) (a b c : DeskState) (e : Refusal) → (Kind (ReadFault role) → ⊥) → KeepsFaults a b → ReadsFile role name b c →
-    ((e ≡ ReadFault role → ⊥) → KeepsFaults b c) → StopsLoading role name Kind P b c e → CountsFaultOf e a c
-load_faults Kind P a b c e apart before q steady (inl h) = λ r other. q.other_faults r (λ same. other (inl (h.0 ∙ ap ReadFault (sym same)))) ∙ before r
-load_faults Kind P a b c e apart before q steady (inr (inl h)) = λ r other. steady (λ is. apart (subst Kind is h.0)) r ∙ before r
-load_faults Kind P a b c e apart before q steady (inr (inr m)) = λ r other. steady (λ is. absurd cc) r ∙ before r
+pub load_faults : {role : Role} {name : Option (List ℕ)} {Kind P : Refusal → Type 0} (a : DeskState) {b c : DeskState} {e : Refusal}
+    → FailsToLoad role name Kind P b c e
+    → (Kind (ReadFault role) → ⊥) → KeepsFaults a b → CountsFaultOf e a c
+load_faults {Kind = Kind} a f apart before =
+    elim f.stops [
+      | inl h ↦ λ r other. f.reads.other_faults r (λ same. other (inl (h.0 ∙ ap ReadFault (sym same)))) ∙ before r
+      | inr (inl h) ↦ λ r other. f.steady (λ is. apart (subst Kind is h.0)) r ∙ before r
+      | inr (inr m) ↦ λ r other. f.steady (λ is. absurd cc) r ∙ before r
+    ]
 
-pub samples_faults : (a b c : DeskState) (head : Option Head) (e : Refusal) → KeepsFaults a b → TakesSome Input b c → ((e ≡ ReadFault Input → ⊥) → KeepsFaults b c) →
-    StopsSamples head b c e → CountsFaultOf e a c
+pub samples_faults : (a b c : DeskState) (head : Option Head) (e : Refusal) → KeepsFaults a b → TakesSome Input b c
+    → ((e ≡ ReadFault Input → ⊥) → KeepsFaults b c) → StopsSamples head b c e → CountsFaultOf e a c
 samples_faults a b c head e before q steady (inl h) = λ r other. q.takes.other_faults r (λ same. other (inl (h.0 ∙ ap ReadFault (sym same)))) ∙ before r
 samples_faults a b c head e before q steady (inr m) = λ r other. steady (λ is. absurd cc) r ∙ before r
 
 -- ---- a sound that does not fit
 
-kind_sized : (b : Bool) (a : Sound) (n : ℕ) (e : Refusal) → (let r : Result Sound Refusal = if b then Ok a else Err (OutputTooLong n) in r ≡ Err e) → HasRefusal Fit e
+kind_sized : (b : Bool) (a : Sound) (n : ℕ) (e : Refusal)
+    → (let r : Result Sound Refusal = if b then Ok a else Err (OutputTooLong n) in r ≡ Err e) → HasRefusal Fit e
 kind_sized true a n e is = absurd cc
 kind_sized false a n e is = let same : OutputTooLong n ≡ e = cc in subst (HasRefusal Fit) same refl
 
@@ -89,15 +102,20 @@ kind_counted : (s : Settings) (d : Diagram) (head : Option Head) (frames : Optio
 kind_counted s d head None e is = let same : FramesNeeded ≡ e = cc in subst (HasRefusal Fit) same refl
 kind_counted s d head (Some n) e is = kind_sized (nat_le (data_size (outputs d) (bits_in s head) n) data_limit) _ _ e is
 
-kind_chosen : (b : Bool) (r : Result Sound Refusal) (have want : ℕ) (e : Refusal) → (r ≡ Err e → HasRefusal Fit e) → (if b then r else Err (Channels have want)) ≡ Err e → HasRefusal Fit e
+kind_chosen : (b : Bool) (r : Result Sound Refusal) (have want : ℕ) (e : Refusal) → (r ≡ Err e → HasRefusal Fit e)
+    → (if b then r else Err (Channels have want)) ≡ Err e → HasRefusal Fit e
 kind_chosen true r have want e k is = k is
 kind_chosen false r have want e k is = let same : Channels have want ≡ e = cc in subst (HasRefusal Fit) same refl
 
 -- its refusals are those of its step
 pub fit_kind : (s : Settings) (d : Diagram) (head : Option Head) (e : Refusal) → sound_of s d head ≡ Err e → HasRefusal Fit e
-fit_kind s d head e is = kind_chosen (channels_in head == inputs d) (counted s d head (frames_in s head)) (channels_in head) (inputs d) e (kind_counted s d head (frames_in s head) e) is
+fit_kind s d head e is =
+    let frames = frames_in s head in
+    kind_chosen (channels_in head == inputs d) (counted s d head frames) (channels_in head) (inputs d) e (kind_counted s d head frames e) is
 
 -- nothing more is asked for by the steps that judge and compute
-pub reaches_on : (run : Run) (a b : DeskState) → Reaches (asked_before run) a b → Reaches (to_read Program run.program ∷ (reading Controls run.controls ++ (reading Input run.input ++ []))) a b
+pub reaches_on : (run : Run) (a b : DeskState) → Reaches (asked_before run) a b
+    → Reaches (to_read Program run.program ∷ (reading Controls run.controls ++ (reading Input run.input ++ []))) a b
 reaches_on run a b p =
-    subst (λ (rs : List Request). Reaches (to_read Program run.program ∷ (reading Controls run.controls ++ rs)) a b) (sym (append-nil (reading Input run.input))) p
+    let Asked : List Request → Type 0 = λ rs. Reaches (to_read Program run.program ∷ (reading Controls run.controls ++ rs)) a b in
+    subst Asked (sym (append-nil (reading Input run.input))) p

@@ -1,10 +1,11 @@
 -- What is ready to be written is the output file of what was read.
-use Rattle.std.proofs.Common.{◌≡◌, ℕ, ◌+◌, ◌*◌, ◌/◌, ◌<◌, ◌≤◌, ◌==◌, Bool, true, false, List, [], ◌∷◌, ◌++◌, length, take, drop, ℤ, pos, sym, ◌∙◌, ap, arith, refl, ⊎_elim, subst}
+use Rattle.std.proofs.Common.{◌≡◌, ℕ, ◌+◌, ◌*◌, ◌/◌, ◌<◌, ◌≤◌, ◌==◌, Bool, true, false, List, [], ◌∷◌, ◌++◌, length, take, drop, ℤ, pos, sym, ◌∙◌, ap, arith}
+use Rattle.std.proofs.Common.{refl, ⊎_elim, subst}
 use Rattle.std.specs.Prelude.{flat_map, Option, Some, None, Result, Ok, Err, option_map, if◌then◌else◌, nat_le}
 use Rattle.std.proofs.Math.Nat.{mul-pos, mul-div_cancel, div-mul-le_self, mul-le-mul_left}
 use Rattle.std.proofs.lemmas.Nat.{mul-add-lt}
 use Rattle.std.proofs.lemmas.Bool.{cases_lt, eq-eqb}
-use Rattle.std.proofs.lemmas.List.{length-take, length-drop, length-map}
+use Rattle.std.proofs.lemmas.List.{length-take, length-drop}
 use Rattle.std.proofs.lemmas.Grind.{flat_map-append}
 use Rattle.fv_base.proofs.Lists.{length_table, table_same, get_or_table}
 use Rattle.fv_num.specs.Words.{argument, is_sample_width}
@@ -20,12 +21,14 @@ use Rattle.fv_play.specs.Play.{rows, joined, no_slots, answer_on}
 use Rattle.fv_words.specs.Runs.{Run, Settings}
 use Rattle.fv_wav.specs.declared.head.Head.{Head}
 use Rattle.fv_wav.specs.Reading.{frame_size}
-use Rattle.fv_wav.specs.Samples.{sample_bytes, frame_bytes, sample_at, samples_in, present, whole_bytes, stated_frames, pad_bytes, data_size, data_limit, head_bytes}
+use Rattle.fv_wav.specs.Samples.{sample_bytes, frame_bytes, sample_at, samples_in, present, whole_bytes, stated_frames, pad_bytes, data_size, data_limit}
+use Rattle.fv_wav.specs.Samples.{head_bytes}
 use Rattle.fv_wav.specs.Stopping.{IsHead}
 use Rattle.fv_wav.proofs.SampleLemmas.{at_width, samples_first}
 use Rattle.fv_top.specs.declared.refusal.Refusal.{Refusal}
 use Rattle.fv_top.specs.declared.refusal.Refusal.TheVariants.{WaveTruncated}
-use Rattle.fv_top.specs.Sources.{Source, frames_of, data_of, initial_of}
+use Rattle.fv_render.specs.Render.{initial_of}
+use Rattle.fv_top.specs.Sources.{Source, frames_of, data_of}
 use Rattle.fv_top.specs.Sound.{Sound, sound_of, counted, frames_in, present_in, cut_in, output_file}
 use Rattle.fv_top.specs.Loading.{IsLeft, IsPlaced}
 use Rattle.fv_top.specs.Meant.{written_by}
@@ -52,7 +55,8 @@ frames_rows h n raw xs e =
     ap (λ (ys : List ℤ). argument ys (t * c + j)) e ∙ get_or_table (n * c) (sample_at h.bits raw) (t * c + j) (pos 0) within))
 
 -- so do the whole frames of some bytes
-pub decoded_rows : (h : Head) (n : ℕ) (raw : List ℕ) (xs : List ℤ) → IsHead h → xs ≡ samples_in h.bits (n * h.channels) (take (n * h.channels * (h.bits / 8)) raw) →
+pub decoded_rows : (h : Head) (n : ℕ) (raw : List ℕ) (xs : List ℤ) → IsHead h
+    → xs ≡ samples_in h.bits (n * h.channels) (take (n * h.channels * (h.bits / 8)) raw) →
     n ≡ length raw / frame_size h.channels h.bits → (stated : ℕ) → rows h.channels n xs ≡ frames_of stated (Some h) raw
 decoded_rows h n raw xs p e count stated =
     let first = samples_first h.bits (n * h.channels) (take (n * h.channels * (h.bits / 8)) raw) raw p.bits refl in
@@ -67,20 +71,24 @@ frames_fit n c k long some e =
     (omega arith, omega arith)
 
 -- as many frames as are whole in the bytes of a head's samples
-pub counts_whole : (stated : ℕ) (head : Option Head) (h : Head) (raw : List ℕ) → head ≡ Some h → length (frames_of stated head raw) ≡ length raw / frame_size h.channels h.bits
+pub counts_whole : (stated : ℕ) (head : Option Head) (h : Head) (raw : List ℕ) → head ≡ Some h
+    → length (frames_of stated head raw) ≡ length raw / frame_size h.channels h.bits
 counts_whole stated head h raw e =
-    ap (λ k. length (frames_of stated k raw)) e ∙ length_table (length raw / frame_size h.channels h.bits) (λ t. table h.channels (λ i. sample_at h.bits raw (t * h.channels + i)))
+    ap (λ k. length (frames_of stated k raw)) e
+    ∙ length_table (length raw / frame_size h.channels h.bits) (λ t. table h.channels (λ i. sample_at h.bits raw (t * h.channels + i)))
 
 -- without a head there are as many as are stated
 pub counts_stated : (stated : ℕ) (head : Option Head) (raw : List ℕ) → head ≡ None → stated ≡ length (frames_of stated head raw)
 counts_stated stated head raw e = sym (ap (λ k. length (frames_of stated k raw)) e ∙ length_table {A = Frame} stated (λ t. []))
 
 -- the answer on the frames of some bytes
-pub answer_is : (d : Diagram) (changes : List Change) (xs ys : List ℤ) (m n : ℕ) (samples got : List ℤ) (X : List Frame) → xs ≡ ys → got ≡ samples → m ≡ inputs d → rows m n samples ≡ X →
+pub answer_is : (d : Diagram) (changes : List Change) (xs ys : List ℤ) (m n : ℕ) (samples got : List ℤ) (X : List Frame) → xs ≡ ys → got ≡ samples
+    → m ≡ inputs d → rows m n samples ≡ X →
     answer_on d (control_streams changes xs) n got ≡ joined (run d (control_streams changes ys) no_slots X)
 answer_is d changes xs ys m n samples got X e f g h =
     ap (λ (zs : List ℤ). answer_on d (control_streams changes zs) n got) e ∙ ap (λ (zs : List ℤ). answer_on d (control_streams changes ys) n zs) f
-    ∙ ap (λ (k : ℕ). joined (run d (control_streams changes ys) no_slots (rows k n samples))) (sym g) ∙ ap (λ (Y : List Frame). joined (run d (control_streams changes ys) no_slots Y)) h
+    ∙ ap (λ (k : ℕ). joined (run d (control_streams changes ys) no_slots (rows k n samples))) (sym g)
+    ∙ ap (λ (Y : List Frame). joined (run d (control_streams changes ys) no_slots Y)) h
 
 -- ---- where an input is cut short
 
@@ -93,7 +101,8 @@ pub frame_some : (h : Head) → IsHead h → 0 < frame_size h.channels h.bits
 frame_some h p = mul-pos p.some (width_some h.bits p.bits)
 
 -- of an input that is cut short, all bytes are there that the file has
-pub cut_length : (h : Head) (bytes : List ℕ) → IsHead h → h.place ≤ length bytes → (length (present h bytes) / frame_size h.channels h.bits == stated_frames h) ≡ false →
+pub cut_length : (h : Head) (bytes : List ℕ) → IsHead h → h.place ≤ length bytes
+    → (length (present h bytes) / frame_size h.channels h.bits == stated_frames h) ≡ false →
     h.place + length (present h bytes) ≡ length bytes
 cut_length h bytes p place cut =
     let size = frame_size h.channels h.bits in
@@ -137,7 +146,8 @@ all_there : (n : ℕ) → (length (table {A = Frame} n (λ t. [])) == n) ≡ tru
 all_there n = eq-eqb _ n (length_table {A = Frame} n (λ t. []))
 
 -- the refusal of an input that is cut short
-cut_is : (h : Option Head) (bytes : List ℕ) (sound : Sound) → ((k : Head) → h ≡ Some k → IsHead k × (k.place ≤ length bytes) × (sound.frames ≡ stated_frames k)) →
+cut_is : (h : Option Head) (bytes : List ℕ) (sound : Sound)
+    → ((k : Head) → h ≡ Some k → IsHead k × (k.place ≤ length bytes) × (sound.frames ≡ stated_frames k)) →
     cut_in sound (record { head = h; bytes = bytes }) ≡ option_map WaveTruncated (cut_at h sound.frames (data_of h bytes))
 cut_is None bytes sound k = let t = all_there sound.frames in rw t refl
 cut_is (Some h) bytes sound k =
@@ -156,11 +166,13 @@ pad_is (Some h) raw frames size = pad_by (length (frames_of frames (Some h) raw)
 -- the file of what is made
 file_is : (d : Diagram) (c : ℕ → Stream) (sound : Sound) (X : List Frame) (pad : List ℕ) →
     pad ≡ (if length X == sound.frames then pad_bytes (data_size (outputs d) sound.bits sound.frames) else []) →
-    head_bytes (outputs d) sound.rate sound.bits (data_size (outputs d) sound.bits sound.frames) ++ flat_map (sample_bytes sound.bits) (joined (run d c no_slots X)) ++ pad
+    head_bytes (outputs d) sound.rate sound.bits (data_size (outputs d) sound.bits sound.frames)
+    ++ flat_map (sample_bytes sound.bits) (joined (run d c no_slots X)) ++ pad
     ≡ output_file d c sound X
 file_is d c sound X pad e =
     let front = head_bytes (outputs d) sound.rate sound.bits (data_size (outputs d) sound.bits sound.frames) in
-    ap (λ w. front ++ w ++ pad) (samples_joined sound.bits (run d c no_slots X)) ∙ ap (λ w. front ++ flat_map (frame_bytes sound.bits) (run d c no_slots X) ++ w) e
+    ap (λ w. front ++ w ++ pad) (samples_joined sound.bits (run d c no_slots X))
+    ∙ ap (λ w. front ++ flat_map (frame_bytes sound.bits) (run d c no_slots X) ++ w) e
 
 -- what was made of what was read is what the files mean
 pub made_is : (old : DeskState) (run : Run) (files : List File) (p : Plays run files) (raw : List ℕ) (r : Ready) →
@@ -172,14 +184,17 @@ made_is old run files p raw r k e is =
     let c = control_streams p.changes (initial_of p.of.compiled.controls) in
     let all = data_of p.source.head p.source.bytes in
     let made : r ≡ made_of p.of.compiled p.changes p.source.head p.sound all = is ∙ ap (made_of p.of.compiled p.changes p.source.head p.sound) e in (
-      cut_is p.source.head p.source.bytes p.sound (λ h named. let x = k h named in (x.0, x.1, fits_frames run.settings d h p.sound (ap (sound_of run.settings d) (sym named) ∙ p.fits)))
+      cut_is p.source.head p.source.bytes p.sound
+          (λ h named. let x = k h named in (x.0, x.1, fits_frames run.settings d h p.sound (ap (sound_of run.settings d) (sym named) ∙ p.fits)))
           ∙ sym (ap (λ (w : Ready). w.cut) made),
       ap (λ (w : Ready). w.sound.frames) made,
-      ap file_in made ∙ file_is d c p.sound (present_in p.sound p.source) _ (pad_is p.source.head all p.sound.frames (data_size (outputs d) p.sound.bits p.sound.frames)),
+      ap file_in made ∙ file_is d c p.sound (present_in p.sound p.source) _
+          (pad_is p.source.head all p.sound.frames (data_size (outputs d) p.sound.bits p.sound.frames)),
     )
 
 -- the samples of a head that was read stand within its file
-pub placed_in : (h : Option Head) (source : Source) (left : List ℕ) (k : Head) → source.head ≡ h → IsLeft h source.bytes left → ForSome h IsPlaced → source.head ≡ Some k →
+pub placed_in : (h : Option Head) (source : Source) (left : List ℕ) (k : Head) → source.head ≡ h → IsLeft h source.bytes left → ForSome h IsPlaced
+    → source.head ≡ Some k →
     IsHead k × (k.place ≤ length source.bytes)
 placed_in None source left k e l ranges named = absurd cc
 placed_in (Some h) source left k e l ranges named =

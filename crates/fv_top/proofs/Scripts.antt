@@ -1,5 +1,5 @@
 -- A script of which no more than one byte past its limit was read.
-use Rattle.std.proofs.Common.{◌≡◌, ◌⊎◌, ℕ, ◌≤◌, ◌<◌, List, [], ◌∷◌, length, take, ◌∙◌, ap, arith, refl, inl, inr, ⊎_elim}
+use Rattle.std.proofs.Common.{◌≡◌, ◌⊎◌, ℕ, ◌≤◌, ◌<◌, List, [], length, take, ◌∙◌, ap, arith, refl, inl, inr, ⊎_elim}
 use Rattle.std.specs.Prelude.{Result, Ok, Some, None}
 use Rattle.std.proofs.lemmas.Bool.{cases_lt, lt-leb}
 use Rattle.std.proofs.lemmas.List.{take_all, length-take}
@@ -36,7 +36,8 @@ unfolding script line_says
 no_script controls = refl
 
 -- what was read of a file spells what its script does
-pub script_is : (name : List ℕ) (files : List File) (controls : List ControlInfo) (text bytes : List ℕ) (r : Result (List Change) ScriptRefusal) → file_named name files ≡ Some text →
+pub script_is : (name : List ℕ) (files : List File) (controls : List ControlInfo) (text bytes : List ℕ) (r : Result (List Change) ScriptRefusal)
+    → file_named name files ≡ Some text →
     bytes ≡ take 1048577 text → script controls bytes ≡ r → HasScript (Some name) files controls (scripted r)
 script_is name files controls text bytes r file e is = record {
   bytes = Some text;

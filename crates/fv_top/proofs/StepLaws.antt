@@ -5,39 +5,41 @@ use Rattle.fv_outside.specs.Requests.{Request}
 use Rattle.fv_outside.specs.Desk.{DeskState, HasFault}
 use Rattle.fv_top.specs.declared.refusal.Refusal.{Refusal}
 use Rattle.fv_top.specs.declared.refusal.Refusal.TheVariants.{NoMemory}
-use Rattle.fv_top.specs.Steps.{Rules, Turn, role_of, Halts, fault, judged, want_of_memory, Ends, here, later, IsQuiet, Stops, at, behind, PassesAll, more, IsJudge}
+use Rattle.fv_top.specs.Steps.{Rules, Turn, role_of, Halts, fault, judged, want_of_memory, Ends, here, later, IsQuiet, Stops, at, behind, PassesAll, more}
+use Rattle.fv_top.specs.Steps.{IsJudge}
 
-module _ {S : Type 0} (k : Rules S) (old new : DeskState) (judge : IsJudge k) (told : IsTrue old.tells) where
+module _ {S : Type 0} (k : Rules S) (old new : DeskState) (judge : IsJudge k) where
   -- a quiet step has no fault
-  quiet_is : (s : S) (t : Turn) → k.Takes s t → HasFault (role_of t) old new → (IsTrue old.tells → k.Answers s t → ⊥) → k.Answers s t ⊎ (HasFault (role_of t) old new → ⊥) → ⊥
-  quiet_is s t takes f unsure (inl a) = unsure told a
-  quiet_is s t takes f unsure (inr n) = n f
+  quiet_is : (s : S) (t : Turn) → IsQuiet k old new s → k.Takes s t → HasFault (role_of t) old new → (IsTrue old.tells → k.Answers s t → ⊥) → ⊥
+  quiet_is s t q takes f unsure = elim (q t takes) [ inl a ↦ unsure a.0 a.1 | inr n ↦ n f ]
 
-  -- a quiet step that refuses halts for that, or out of memory
-  halts_for : (s : S) (wanted got : Refusal) → IsQuiet k old new s → k.Refuses s wanted → Halts k old new s got → (got ≡ wanted) ⊎ (got ≡ NoMemory)
-  halts_for s wanted got q h (fault t takes f unsure) = absurd (quiet_is s t takes f unsure (q t takes))
-  halts_for s wanted got q h (judged of r) = inl (judge.once s got wanted (r told) h)
-  halts_for s wanted got q h want_of_memory = inr refl
+  module _ (known : k.Known) where
+    -- a quiet step that refuses halts for that, or out of memory
+    halts_for : (s : S) (wanted got : Refusal) → IsQuiet k old new s → k.Refuses s wanted → Halts k old new s got → (got ≡ wanted) ⊎ (got ≡ NoMemory)
+    halts_for s wanted got q h (fault t takes f unsure) = absurd (quiet_is s t q takes f unsure)
+    halts_for s wanted got q h (judged of r) = inl (judge.once s got wanted (r known) h)
+    halts_for s wanted got q h want_of_memory = inr refl
 
-  -- and one that passes out of memory alone
-  halts_without : (s : S) (got : Refusal) → IsQuiet k old new s → k.Passes s → Halts k old new s got → got ≡ NoMemory
-  halts_without s got q p (fault t takes f unsure) = absurd (quiet_is s t takes f unsure (q t takes))
-  halts_without s got q p (judged of r) = absurd (judge.apart s got p (r told))
-  halts_without s got q p want_of_memory = refl
+    -- and one that passes out of memory alone
+    halts_without : (s : S) (got : Refusal) → IsQuiet k old new s → k.Passes s → Halts k old new s got → got ≡ NoMemory
+    halts_without s got q p (fault t takes f unsure) = absurd (quiet_is s t q takes f unsure)
+    halts_without s got q p (judged of r) = absurd (judge.apart s got p (r known))
+    halts_without s got q p want_of_memory = refl
 
-  -- what stops for something is refused for that, or out of memory
-  pub exactly : (steps : List S) (wanted got : Refusal) (asked : List Request) → Stops k old new steps wanted → Ends k old new steps got asked → (got ≡ wanted) ⊎ (got ≡ NoMemory)
-  exactly [] wanted got asked h e = elim e [ ]
-  exactly (s ∷ rest) wanted got asked (at q h) (here e) = halts_for s wanted got q h e
-  exactly (s ∷ rest) wanted got asked (at q h) (later p e) = absurd (judge.apart s wanted (p told) h)
-  exactly (s ∷ rest) wanted got asked (behind q p h) (here e) = inr (halts_without s got q p e)
-  exactly (s ∷ rest) wanted got asked (behind q p h) (later r e) = exactly rest wanted got _ h e
+    -- what stops for something is refused for that, or out of memory
+    pub exactly : (steps : List S) (wanted got : Refusal) (asked : List Request) → Stops k old new steps wanted → Ends k old new steps got asked
+        → (got ≡ wanted) ⊎ (got ≡ NoMemory)
+    exactly [] wanted got asked h e = elim e [ ]
+    exactly (s ∷ rest) wanted got asked (at q h) (here e) = halts_for s wanted got q h e
+    exactly (s ∷ rest) wanted got asked (at q h) (later p e) = absurd (judge.apart s wanted (p known) h)
+    exactly (s ∷ rest) wanted got asked (behind q p h) (here e) = inr (halts_without s got q p e)
+    exactly (s ∷ rest) wanted got asked (behind q p h) (later r e) = exactly rest wanted got _ h e
 
-  -- and what passes all is not refused, but for want of memory
-  pub completes : (steps : List S) (got : Refusal) (asked : List Request) → PassesAll k old new steps → Ends k old new steps got asked → got ≡ NoMemory
-  completes [] got asked h e = elim e [ ]
-  completes (s ∷ rest) got asked (more q p h) (here e) = halts_without s got q p e
-  completes (s ∷ rest) got asked (more q p h) (later r e) = completes rest got _ h e
+    -- and what passes all is not refused, but for want of memory
+    pub completes : (steps : List S) (got : Refusal) (asked : List Request) → PassesAll k old new steps → Ends k old new steps got asked → got ≡ NoMemory
+    completes [] got asked h e = elim e [ ]
+    completes (s ∷ rest) got asked (more q p h) (here e) = halts_without s got q p e
+    completes (s ∷ rest) got asked (more q p h) (later r e) = completes rest got _ h e
 
   -- where each step passes, none stops
   pub passes_apart : (steps : List S) (wanted : Refusal) → ((s : S) → k.Passes s) → Stops k old new steps wanted → ⊥

@@ -1,5 +1,6 @@
 -- How a run ends, from how its steps do.
-use Rattle.std.proofs.Common.{◌≡◌, ◌⊎◌, ℕ, ◌+◌, ◌%◌, ◌^◌, ◌≤◌, List, [], ◌∷◌, ◌++◌, length, length-append, sym, ◌∙◌, ap, subst, refl, inl, inr, ⊎_elim, append_assoc, arith}
+use Rattle.std.proofs.Common.{◌≡◌, ◌⊎◌, ℕ, ◌+◌, ◌%◌, ◌^◌, ◌≤◌, List, [], ◌∷◌, ◌++◌, length, length-append, sym, ◌∙◌, ap, subst, refl, inl, inr, ⊎_elim}
+use Rattle.std.proofs.Common.{append_assoc, arith}
 use Rattle.std.specs.Prelude.{IsTrue, Some, None, Ok, Err, OnOk, OnErr, Result}
 use Rattle.std.proofs.lemmas.List.{append-nil}
 use Rattle.fv_outside.specs.declared.desk.Failed.{Failed}
@@ -17,8 +18,10 @@ use Rattle.fv_top.specs.Lines.{refused_line, done_line}
 use Rattle.fv_top.specs.Parts.{AppendsPart}
 use Rattle.fv_top.specs.Steps.{Rules, role_of, writes, Halts, fault, judged, want_of_memory, Ends, here, later}
 use Rattle.fv_top.specs.Loading.{reading}
-use Rattle.fv_top.specs.Promise.{Asks, Write, Tell, meant, run_rules, run_steps, rules_of, steps_of, HasCause, bad_words, of_job, HasBegun, LeavesOutput, KeepsOthers}
-use Rattle.fv_top.specs.Running.{Reaches, Delivers, CannotWrite, LeavesPart, CountsFaultOf, Ready, IsReady, file_in, StopsBefore, Checks, StopsCheck, Makes, StopsMake, asked_before, EndsDone, Stopped, ReportsLine, EndsRefused}
+use Rattle.fv_top.specs.Promise.{Asks, Write, Tell, HasRoom, meant, run_rules, run_steps, rules_of, steps_of, CanDo, meant_of, HasCause, bad_words, of_job}
+use Rattle.fv_top.specs.Promise.{HasBegun, LeavesOutput, KeepsOthers}
+use Rattle.fv_top.specs.Running.{Reaches, Delivers, CannotWrite, LeavesPart, CountsFaultOf, Ready, IsReady, file_in, StopsBefore, Checks, StopsCheck, Makes}
+use Rattle.fv_top.specs.Running.{StopsMake, asked_before, EndsDone, Stopped, ReportsLine, EndsRefused}
 use Rattle.fv_top.proofs.Reaching.{reaches_nothing}
 
 -- a cause between two states is one up to any later state
@@ -27,18 +30,29 @@ halts_later k a b c s e g (fault t takes f unsure) = fault t takes (fault_later 
 halts_later k a b c s e g (judged of r) = judged of r
 halts_later k a b c s e g want_of_memory = want_of_memory
 
-ends_later : {S : Type 0} (k : Rules S) (a b c : DeskState) (steps : List S) (e : Refusal) (asked : List Request) → GoesOn b c → Ends k a b steps e asked → Ends k a c steps e asked
+ends_later : {S : Type 0} (k : Rules S) (a b c : DeskState) (steps : List S) (e : Refusal) (asked : List Request) → GoesOn b c
+    → Ends k a b steps e asked → Ends k a c steps e asked
 ends_later k a b c [] e asked g h = elim h [ ]
 ends_later k a b c (s ∷ rest) e asked g (here h) = here (halts_later k a b c s e g h)
 ends_later k a b c (s ∷ rest) e asked g (later p h) = later p (ends_later k a b c rest e _ g h)
 
-cause_later : (words : List (List ℕ)) (a b c : DeskState) (e : Refusal) (asked : List Request) → GoesOn b c → HasCause words a b e asked → HasCause words a c e asked
+cause_later : (words : List (List ℕ)) (a b c : DeskState) (e : Refusal) (asked : List Request) → GoesOn b c
+    → HasCause words a b e asked → HasCause words a c e asked
 cause_later words a b c e asked g (bad_words h) = bad_words h
 cause_later words a b c e asked g (of_job job asks h) = of_job job asks (ends_later (rules_of job a) a b c (steps_of job) e asked g h)
 
+-- a line of the report leaves the others alone
+others_told : {line : List ℕ} {a b c : DeskState} → GoesOn a b → KeepsOthers a b → Appends Report line b c → KeepsOthers a c
+others_told on kept q = record {
+  left = λ t x n m k. q.left (told_before on t) x ∙ kept.left t x n m k;
+  written = λ t x n m. q.others (told_before on t) x m ∙ kept.written t x n m;
+  begins = λ x n. q.begins x ∙ kept.begins x n;
+}
+
 -- ---- before anything is written
 
-stopped_by : (words : List (List ℕ)) (a b : DeskState) (e : Refusal) (asked : List Request) → Reaches asked a b → HasCause words a b e asked → CountsFaultOf e a b → Stopped words a b e
+stopped_by : (words : List (List ℕ)) (a b : DeskState) (e : Refusal) (asked : List Request) → Reaches asked a b → HasCause words a b e asked
+    → CountsFaultOf e a b → Stopped words a b e
 stopped_by words a b e asked p cause faults = record {
   goes_on = p.quiet.goes_on;
   others = record { left = p.left; written = λ t r n m. p.quiet.written t r; begins = λ r n. p.quiet.begins r };
@@ -55,8 +69,9 @@ pub stopped_usage : (words : List (List ℕ)) (a : DeskState) (cause : Cause) �
 stopped_usage words a cause is = stopped_by words a a (Usage cause) [] (reaches_nothing a) (bad_words is) (λ r other. refl)
 
 -- a step that reads cannot go on
-pub stopped_before : (words : List (List ℕ)) (run : Run) (a b : DeskState) (e : Refusal) → Asks words (Playing run) → StopsBefore run a b e → Stopped words a b e
-stopped_before words run a b e asks s = stopped_by words a b e s.asked s.reaches (of_job (Playing run) asks s.ends) s.faults
+pub stopped_before : {words : List (List ℕ)} {run : Run} {a b : DeskState} {e : Refusal} → Asks words (Playing run) → StopsBefore run a b e
+    → Stopped words a b e
+stopped_before {words} {run} {a} {b} {e} asks s = stopped_by words a b e s.asked s.reaches (of_job (Playing run) asks s.ends) s.faults
 
 -- ---- when the output is written
 
@@ -79,7 +94,7 @@ pub record Writes (words : List (List ℕ)) (run : Run) (r : Ready) (a b c : Des
 abbrev asked_by : Run → List Request
 asked_by run = to_read Program run.program ∷ (reading Controls run.controls ++ (reading Input run.input ++ to_write Output run.output ∷ []))
 
-module _ (words : List (List ℕ)) (run : Run) (r : Ready) (a b c : DeskState) (w : Begins words run r a b c) where
+module _ {words : List (List ℕ)} {run : Run} {r : Ready} {a b c : DeskState} (w : Begins words run r a b c) where
   told_by : IsTrue a.tells → IsTrue b.tells
   told_by t = told_before w.reaches.quiet.goes_on t
 
@@ -88,9 +103,10 @@ module _ (words : List (List ℕ)) (run : Run) (r : Ready) (a b c : DeskState) (
 
   requests_by : c.requests ≡ a.requests ++ asked_by run
   requests_by =
-      w.delivers.requests ∙ ap (λ (rs : List Request). rs ++ to_write Output run.output ∷ []) w.reaches.requests
-      ∙ append_assoc a.requests (asked_before run) (to_write Output run.output ∷ [])
-      ∙ ap (λ (rs : List Request). a.requests ++ (to_read Program run.program ∷ rs)) (append_assoc (reading Controls run.controls) (reading Input run.input) (to_write Output run.output ∷ []))
+      let output = to_write Output run.output ∷ [] in
+      let behind_controls = append_assoc (reading Controls run.controls) (reading Input run.input) output in
+      w.delivers.requests ∙ ap (λ (rs : List Request). rs ++ output) w.reaches.requests ∙ append_assoc a.requests (asked_before run) output
+      ∙ ap (λ (rs : List Request). a.requests ++ (to_read Program run.program ∷ rs)) behind_controls
 
   others_by : KeepsOthers a c
   others_by = record {
@@ -103,13 +119,18 @@ module _ (words : List (List ℕ)) (run : Run) (r : Ready) (a b c : DeskState) (
   behind : (d : DeskState) (e : Refusal) (asked : List Request) → Ends (run_rules run a) a d (Write ∷ Tell ∷ []) e asked →
       Ends (run_rules run a) a d run_steps e (to_read Program run.program ∷ (reading Controls run.controls ++ (reading Input run.input ++ asked)))
   behind d e asked h =
-      later (λ t. (w.ready t).0.of) (later (λ t. let p = (w.ready t).0 in (p.of, p.changes, p.under)) (later (λ t. let p = (w.ready t).0 in (p.source, p.on)) (later (λ t. (w.ready t).0) (later (λ t. tt) h))))
+      later (λ t. (w.ready t).0.of)
+      (later (λ t. let p = (w.ready t).0 in (p.of, p.changes, p.under))
+      (later (λ t. let p = (w.ready t).0 in (p.source, p.on))
+      (later (λ t. (w.ready t).0)
+      (later (λ t. tt) h))))
 
   -- and its report as before
   report_by : IsTrue a.tells → c.written Report ≡ a.written Report
   report_by t = w.delivers.written (told_by t) Report (λ e. absurd cc) ∙ w.reaches.quiet.written t Report
 
-  part_by : (e : Refusal) → LeavesPart (file_in r) b c → ((place : ℕ) → e ≡ WaveTruncated place → IsTrue b.tells → c.written Output ≡ file_in r) → LeavesOutput words e a c
+  part_by : (e : Refusal) → LeavesPart (file_in r) b c → ((place : ℕ) → e ≡ WaveTruncated place → IsTrue b.tells → c.written Output ≡ file_in r)
+      → LeavesOutput words e a c
   part_by e (inl k) all = inl (record {
     begins = k.begins ∙ w.reaches.quiet.begins Output;
     written = λ t. k.written (told_by t) ∙ w.reaches.quiet.written t Output;
@@ -147,24 +168,24 @@ module _ (words : List (List ℕ)) (run : Run) (r : Ready) (a b c : DeskState) (
     faults = λ x other. w.delivers.other_faults x (λ same. other (inr (ap WriteFault (sym same)))) ∙ w.before x;
   }
 
-module _ (words : List (List ℕ)) (run : Run) (r : Ready) (a b c : DeskState) (w : Writes words run r a b c) where
+module _ {words : List (List ℕ)} {run : Run} {r : Ready} {a b c : DeskState} (w : Writes words run r a b c) where
   whole_part : LeavesPart (file_in r) b c
   whole_part = inr (w.begun, λ t. record { rest = []; is = sym (w.written t) ∙ sym (append-nil (c.written Output)) })
 
   -- it was, and the input ends too early
   pub stopped_cut : (place : ℕ) → r.cut ≡ Some (WaveTruncated place) → Stopped words a c (WaveTruncated place)
   stopped_cut place cut = record {
-    goes_on = goes words run r a b c w.begins;
-    others = others_by words run r a b c w.begins;
+    goes_on = goes w.begins;
+    others = others_by w.begins;
     cause = record {
       asked = asked_by run;
-      requests = requests_by words run r a b c w.begins;
-      cause = of_job (Playing run) w.begins.asks (behind words run r a b c w.begins c (WaveTruncated place) (to_write Output run.output ∷ [])
+      requests = requests_by w.begins;
+      cause = of_job (Playing run) w.begins.asks (behind w.begins c (WaveTruncated place) (to_write Output run.output ∷ [])
           (here (judged refl (λ t. let x = w.begins.ready t in (x.0, x.1 ∙ cut)))));
     };
-    output = part_by words run r a b c w.begins (WaveTruncated place) whole_part (λ at is t. w.written t);
+    output = part_by w.begins (WaveTruncated place) whole_part (λ at is t. w.written t);
     begun = [];
-    appended = λ t. report_by words run r a b c w.begins t ∙ sym (append-nil (a.written Report));
+    appended = λ t. report_by w.begins t ∙ sym (append-nil (a.written Report));
     is_begun = inl refl;
     faults = λ x other. w.steady x ∙ w.begins.before x;
   }
@@ -172,29 +193,32 @@ module _ (words : List (List ℕ)) (run : Run) (r : Ready) (a b c : DeskState) (
   module _ (whole : r.cut ≡ None) where
     -- it was written, and not reported
     pub stopped_telling : (d : DeskState) → AppendsPart Report (done_line r.sound.frames) c d → HasFault Report c d →
-        (IsTrue c.tells → IsUnfailing Report c → length (c.written Report) + length (done_line r.sound.frames) ≤ c.room Report → ⊥) → Stopped words a d (WriteFault Report)
+        (IsTrue c.tells → IsUnfailing Report c → length (c.written Report) + length (done_line r.sound.frames) ≤ c.room Report → ⊥)
+        → Stopped words a d (WriteFault Report)
     stopped_telling d part failed unsure =
-        let on = goes words run r a b c w.begins in
+        let on = goes w.begins in
         let q = part.2 in
+        let done = done_line r.sound.frames in
+        let unanswered : IsTrue a.tells → IsUnfailing Report a × HasRoom run a Report → ⊥ = λ t sure.
+        let x = w.begins.ready t in
+        let line : a.written Report ++ done ≡ a.written Report ++ (meant x.0).line = ap (λ n. a.written Report ++ done_line n) x.2 in
+        let size = ap length line in
+        let same = ap length (report_by w.begins t) in
+        let fits = sure.1 x.0 in
+        let room = on.room t Report in
+        unsure (told_before on t) (unfailing_later Report on t sure.0) (omega (arith, length-append (a.written Report) done)) in
+        let begun_line : IsTrue a.tells → (can : CanDo (Playing run) a.files) × IsPrefixOf part.0 (meant_of (Playing run) a.files can).line = λ t.
+        let x = w.begins.ready t in
+        ((x.0, x.1 ∙ whole), subst (λ (n : ℕ). IsPrefixOf part.0 (done_line n)) x.2 part.1) in
         record {
           goes_on = goes_on_then on q.goes_on;
-          others = record {
-            left = λ t x n m k. q.left (told_before on t) x ∙ (others_by words run r a b c w.begins).left t x n m k;
-            written = λ t x n m. q.others (told_before on t) x m ∙ (others_by words run r a b c w.begins).written t x n m;
-            begins = λ x n. q.begins x ∙ (others_by words run r a b c w.begins).begins x n;
-          };
+          others = others_told on (others_by w.begins) q;
           cause = record {
             asked = asked_by run;
-            requests = q.requests ∙ requests_by words run r a b c w.begins;
-            cause = of_job (Playing run) w.begins.asks (behind words run r a b c w.begins d (WriteFault Report) (to_write Output run.output ∷ [])
-                (later (λ t. let x = w.begins.ready t in (x.0, x.1 ∙ whole)) (here (fault (writes Report) refl (fault_earlier d Report on failed) (λ t sure.
-                let x = w.begins.ready t in
-                let line : a.written Report ++ done_line r.sound.frames ≡ a.written Report ++ (meant x.0).line = ap (λ n. a.written Report ++ done_line n) x.2 in
-                let size = ap length line in
-                let same = ap length (report_by words run r a b c w.begins t) in
-                let fits = sure.1 x.0 in
-                let room = on.room t Report in
-                unsure (told_before on t) (unfailing_later Report on t sure.0) (omega (arith, length-append (a.written Report) (done_line r.sound.frames))))))));
+            requests = q.requests ∙ requests_by w.begins;
+            cause = of_job (Playing run) w.begins.asks (behind w.begins d (WriteFault Report) (to_write Output run.output ∷ [])
+                (later (λ t. let x = w.begins.ready t in (x.0, x.1 ∙ whole))
+                (here (fault (writes Report) refl (fault_earlier d Report on failed) unanswered))));
           };
           output = inr (record {
             run = run;
@@ -202,53 +226,52 @@ module _ (words : List (List ℕ)) (run : Run) (r : Ready) (a b c : DeskState) (
             begun = q.begins Output ∙ w.begun ∙ ap (λ n. (n + 1) % 2 ^ 64) (w.begins.reaches.quiet.begins Output);
             told = λ t.
                 let x = w.begins.ready t in
-                let same = q.others (told_before on t) Output (λ e. absurd cc) ∙ w.written (told_by words run r a b c w.begins t) ∙ x.3 in
+                let same = q.others (told_before on t) Output (λ e. absurd cc) ∙ w.written (told_by w.begins t) ∙ x.3 in
                 (x.0, record { rest = []; is = sym same ∙ sym (append-nil (d.written Output)) }, λ place is. absurd cc);
           });
           begun = part.0;
-          appended = λ t. q.appended (told_before on t) ∙ ap (λ v. v ++ part.0) (report_by words run r a b c w.begins t);
-          is_begun = inr (refl, (Playing run, w.begins.asks, λ t. let x = w.begins.ready t in ((x.0, x.1 ∙ whole), subst (λ (n : ℕ). IsPrefixOf part.0 (done_line n)) x.2 part.1)));
+          appended = λ t. q.appended (told_before on t) ∙ ap (λ v. v ++ part.0) (report_by w.begins t);
+          is_begun = inr (refl, (Playing run, w.begins.asks, begun_line));
           faults = λ x other. q.other_faults x (λ same. other (inr (ap WriteFault (sym same)))) ∙ w.steady x ∙ w.begins.before x;
         }
 
     -- it was written and reported
     pub played_whole : (d : DeskState) → Appends Report (done_line r.sound.frames) c d → KeepsFaults c d → EndsDone words r.sound.frames a d
     played_whole d q steady =
-        let on = goes words run r a b c w.begins in
+        let on = goes w.begins in
         record {
           goes_on = goes_on_then on q.goes_on;
-          others = record {
-            left = λ t x n m k. q.left (told_before on t) x ∙ (others_by words run r a b c w.begins).left t x n m k;
-            written = λ t x n m. q.others (told_before on t) x m ∙ (others_by words run r a b c w.begins).written t x n m;
-            begins = λ x n. q.begins x ∙ (others_by words run r a b c w.begins).begins x n;
-          };
+          others = others_told on (others_by w.begins) q;
           played = record {
             job = Playing run;
             asks = w.begins.asks;
-            requests = q.requests ∙ requests_by words run r a b c w.begins;
+            requests = q.requests ∙ requests_by w.begins;
             faults = λ x. steady x ∙ w.steady x ∙ w.begins.before x;
             told = λ t.
                 let x = w.begins.ready t in
-                let told = told_by words run r a b c w.begins t in
+                let told = told_by w.begins t in
                 let later = told_before on t in
-                let kept = others_by words run r a b c w.begins in (
+                let kept = others_by w.begins in (
                   (x.0, x.1 ∙ whole),
                   x.2,
-                  elim [
-                    | Program ↦ q.others later Program (λ e. absurd cc) ∙ kept.written t Program (λ e. absurd cc) (λ e. absurd cc)
-                    | Input ↦ q.others later Input (λ e. absurd cc) ∙ kept.written t Input (λ e. absurd cc) (λ e. absurd cc)
-                    | Controls ↦ q.others later Controls (λ e. absurd cc) ∙ kept.written t Controls (λ e. absurd cc) (λ e. absurd cc)
-                    | Output ↦ q.others later Output (λ e. absurd cc) ∙ w.written told ∙ x.3
-                    | Report ↦ q.appended later ∙ ap (λ v. v ++ done_line r.sound.frames) (report_by words run r a b c w.begins t) ∙ ap (λ n. a.written Report ++ done_line n) x.2
-                  ],
+                  λ u.
+                      elim [
+                        | Program ↦ q.others later Program (λ e. absurd cc) ∙ kept.written t Program (λ e. absurd cc) (λ e. absurd cc)
+                        | Input ↦ q.others later Input (λ e. absurd cc) ∙ kept.written t Input (λ e. absurd cc) (λ e. absurd cc)
+                        | Controls ↦ q.others later Controls (λ e. absurd cc) ∙ kept.written t Controls (λ e. absurd cc) (λ e. absurd cc)
+                        | Output ↦ q.others later Output (λ e. absurd cc) ∙ w.written told ∙ x.3
+                        | Report ↦ q.appended later ∙ ap (λ v. v ++ done_line r.sound.frames) (report_by w.begins t)
+                            ∙ ap (λ n. a.written Report ++ done_line n) x.2
+                      ],
                 );
           };
         }
 
 -- ---- a check
 
-pub stopped_check : (words : List (List ℕ)) (name : List ℕ) (a b : DeskState) (e : Refusal) → Asks words (Checking name) → StopsCheck name a b e → Stopped words a b e
-stopped_check words name a b e asks s = record {
+pub stopped_check : {words : List (List ℕ)} {name : List ℕ} {a b : DeskState} {e : Refusal} → Asks words (Checking name) → StopsCheck name a b e
+    → Stopped words a b e
+stopped_check {words} {name} asks s = record {
   goes_on = s.goes_on;
   others = s.others;
   cause = record { asked = to_read Program name ∷ []; requests = s.requests; cause = of_job (Checking name) asks s.ends };
@@ -259,17 +282,18 @@ stopped_check words name a b e asks s = record {
   faults = s.faults;
 }
 
-pub checked : (words : List (List ℕ)) (name : List ℕ) (a b : DeskState) → Asks words (Checking name) → Checks name a b → EndsDone words 0 a b
-checked words name a b asks c = record {
+pub checked : {words : List (List ℕ)} {name : List ℕ} {a b : DeskState} → Asks words (Checking name) → Checks name a b → EndsDone words 0 a b
+checked {words} {name} asks c = record {
   goes_on = c.goes_on;
   others = c.others;
-  played = record { job = Checking name; asks = asks; requests = c.requests; faults = c.faults; told = λ t. let x = c.told t in (x.0, refl, x.1) };
+  played = record { job = Checking name; asks = asks; requests = c.requests; faults = c.faults; told = λ t. let x = c.told t in (x.0, refl, λ u. x.1) };
 }
 
 -- ---- a make
 
-pub stopped_make : (words : List (List ℕ)) (voices frames : ℕ) (a b : DeskState) (e : Refusal) → Asks words (Making voices frames) → StopsMake voices frames a b e → Stopped words a b e
-stopped_make words voices frames a b e asks s = record {
+pub stopped_make : {words : List (List ℕ)} {voices frames : ℕ} {a b : DeskState} {e : Refusal} → Asks words (Making voices frames)
+    → StopsMake voices frames a b e → Stopped words a b e
+stopped_make {words} {voices} {frames} asks s = record {
   goes_on = s.goes_on;
   others = s.others;
   cause = record { asked = []; requests = s.requests; cause = of_job (Making voices frames) asks s.ends };
@@ -280,18 +304,20 @@ stopped_make words voices frames a b e asks s = record {
   faults = s.faults;
 }
 
-pub made : (words : List (List ℕ)) (voices frames : ℕ) (a b : DeskState) → Asks words (Making voices frames) → Makes voices frames a b → EndsDone words frames a b
-made words voices frames a b asks c = record {
+pub made : {words : List (List ℕ)} {voices frames : ℕ} {a b : DeskState} → Asks words (Making voices frames) → Makes voices frames a b
+    → EndsDone words frames a b
+made {words} {voices} {frames} asks c = record {
   goes_on = c.goes_on;
   others = c.others;
-  played = record { job = Making voices frames; asks = asks; requests = c.requests; faults = c.faults; told = λ t. let x = c.told t in (x.0, refl, x.1) };
+  played = record { job = Making voices frames; asks = asks; requests = c.requests; faults = c.faults; told = λ t. (c.made, refl, c.told) };
 }
 
 -- ---- and when a refusal was reported
 
 -- the line of a refusal, whether or not the report failed
-pub line_reported : (r : Result (Unit {0}) Failed) (refusal : Refusal) (old new : DeskState) → OnOk r (Appends Report (refused_line refusal) old new) →
-    OnErr r ((part : List ℕ) × IsPrefixOf part (refused_line refusal) × Appends Report part old new) → OnErr r (HasFault Report old new) → ReportsLine refusal old new
+pub line_reported : (r : Result (Unit {0}) Failed) (refusal : Refusal) (old new : DeskState) → OnOk r (Appends Report (refused_line refusal) old new)
+    → OnErr r ((part : List ℕ) × IsPrefixOf part (refused_line refusal) × Appends Report part old new) → OnErr r (HasFault Report old new)
+    → ReportsLine refusal old new
 line_reported (Ok u) refusal old new ok err failed = record { line = refused_line refusal; is_line = inl refl; appends = ok }
 line_reported (Err e) refusal old new ok err failed = record { line = err.0; is_line = inr (err.1, failed); appends = err.2 }
 
@@ -303,7 +329,8 @@ line_earlier refusal line old mid new g (inl e) = inl e
 line_earlier refusal line old mid new g (inr p) = inr (p.0, fault_earlier new Report g p.1)
 
 -- the report of a refusal leaves the output as it was
-output_later : (words : List (List ℕ)) (line : List ℕ) (a b c : DeskState) (e : Refusal) → GoesOn a b → Appends Report line b c → LeavesOutput words e a b → LeavesOutput words e a c
+output_later : (words : List (List ℕ)) (line : List ℕ) (a b c : DeskState) (e : Refusal) → GoesOn a b → Appends Report line b c
+    → LeavesOutput words e a b → LeavesOutput words e a c
 output_later words line a b c e g r (inl k) = inl (record {
   begins = r.begins Output ∙ k.begins;
   written = λ t. r.others (told_before g t) Output (λ f. absurd cc) ∙ k.written t;
@@ -318,15 +345,15 @@ output_later words line a b c e g r (inr k) = inr (record {
       (p.0, record { rest = p.1.rest; is = p.1.is ∙ ap (λ w. w ++ p.1.rest) (sym same) }, λ place is. same ∙ p.2 place is);
 })
 
-pub ends_refused : (words : List (List ℕ)) (a b c : DeskState) (e : Refusal) → Stopped words a b e → ReportsLine e b c → EndsRefused words a c e
-ends_refused words a b c e s r = record {
+pub ends_refused : {words : List (List ℕ)} {a b c : DeskState} {e : Refusal} → Stopped words a b e → ReportsLine e b c → EndsRefused words a c e
+ends_refused {words} {a} {b} {c} {e} s r = record {
   goes_on = goes_on_then s.goes_on r.appends.goes_on;
-  others = record {
-    left = λ t x n m k. r.appends.left (told_before s.goes_on t) x ∙ s.others.left t x n m k;
-    written = λ t x n m. r.appends.others (told_before s.goes_on t) x m ∙ s.others.written t x n m;
-    begins = λ x n. r.appends.begins x ∙ s.others.begins x n;
+  others = others_told s.goes_on s.others r.appends;
+  cause = record {
+    asked = s.cause.asked;
+    requests = r.appends.requests ∙ s.cause.requests;
+    cause = cause_later words a b c e s.cause.asked r.appends.goes_on s.cause.cause;
   };
-  cause = record { asked = s.cause.asked; requests = r.appends.requests ∙ s.cause.requests; cause = cause_later words a b c e s.cause.asked r.appends.goes_on s.cause.cause };
   output = output_later words r.line a b c e s.goes_on r.appends s.output;
   report = record {
     begun = s.begun;

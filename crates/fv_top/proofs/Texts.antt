@@ -14,7 +14,8 @@ use Rattle.fv_top.specs.Program.{Parses, Evaluates, Narrow, Delayed, SpellingIs,
 use Rattle.fv_top.proofs.AnswerLaws.{kept_is}
 
 -- what a text has says whether it is too long
-too_long_or_not : (text : List ℕ) (answer : Result Lexed LexRefusal) → Has text answer → ((answer ≡ Err (TextTooLong Program)) × (longest_text < length text)) ⊎ (length text ≤ longest_text)
+too_long_or_not : (text : List ℕ) (answer : Result Lexed LexRefusal) → Has text answer
+    → ((answer ≡ Err (TextTooLong Program)) × (longest_text < length text)) ⊎ (length text ≤ longest_text)
 too_long_or_not text answer (too_long h) = inl (refl, h)
 too_long_or_not text answer (cut h c f) = inr h
 
@@ -34,7 +35,8 @@ whole_cut text bytes r e (kept l h) = kept l (whole_has text bytes (Ok l) e h)
 whole_cut text bytes r e (turned f h) = turned f (whole_has text bytes (Err f) e h)
 
 -- what holds of first answers holds of those behind them
-then_front : {X A B E : Type 0} (P : X → Result A E → Type 0) (Q : A → Result B E → Type 0) (x y : X) → ((r : Result A E) → P x r → P y r) → (r : Result B E) → Then P Q x r → Then P Q y r
+then_front : {X A B E : Type 0} (P : X → Result A E → Type 0) (Q : A → Result B E → Type 0) (x y : X) → ((r : Result A E) → P x r → P y r) → (r : Result B E)
+    → Then P Q x r → Then P Q y r
 then_front P Q x y h r (stops f k) = stops f (h (Err f) k)
 then_front P Q x y h r (goes_on a s k l) = goes_on a r (h (Ok a) k) l
 
@@ -48,7 +50,8 @@ whole_is text bytes r e h =
     r h
 
 -- what is answered behind a first answer has one
-then_first : {X A B E : Type 0} (P : X → Result A E → Type 0) (Q : A → Result B E → Type 0) (x : X) (b : B) (r : Result B E) → r ≡ Ok b → Then P Q x r → (a : A) × P x (Ok a)
+then_first : {X A B E : Type 0} (P : X → Result A E → Type 0) (Q : A → Result B E → Type 0) (x : X) (b : B) (r : Result B E) → r ≡ Ok b → Then P Q x r
+    → (a : A) × P x (Ok a)
 then_first P Q x b r is (stops f h) = absurd cc
 then_first P Q x b r is (goes_on a s h k) = (a, h)
 
@@ -61,7 +64,8 @@ program_cut text p h =
     let tokens = then_first (Turned of_bytes Has) (Turned of_tokens Parses) text spelled.0 (Ok spelled.0) refl spelled.1 in
     (tokens.0, kept_is of_bytes Has text tokens.0 tokens.1)
 
-fits : (text : List ℕ) (l : Lexed) (answer : Result Lexed LexRefusal) → answer ≡ Ok l → ((answer ≡ Err (TextTooLong Program)) × (longest_text < length text)) ⊎ (length text ≤ longest_text) →
+fits : (text : List ℕ) (l : Lexed) (answer : Result Lexed LexRefusal) → answer ≡ Ok l
+    → ((answer ≡ Err (TextTooLong Program)) × (longest_text < length text)) ⊎ (length text ≤ longest_text) →
     length text ≤ longest_text
 fits text l answer e (inl h) = let f = h.0 in absurd cc
 fits text l answer e (inr h) = h

@@ -29,12 +29,14 @@ sound : Sound
 sound = record { rate = 44100; bits = 16; frames = 3 }
 
 -- a wire gives the file back
-wire_plays : run_meant (Primitive Wire) (control_streams [] []) sound (frames_of 3 (Some head) (drop 44 three_samples)) ≡ record { frames = 3; output = Some three_samples; line = done_line 3 }
+wire_plays : run_meant (Primitive Wire) (control_streams [] []) sound (frames_of 3 (Some head) (drop 44 three_samples))
+    ≡ record { frames = 3; output = Some three_samples; line = done_line 3 }
 unfolding three_samples head sound sample_at
 wire_plays = refl
 
 -- where the head states more frames than there are, so does the output's
-cut_short : (run_meant (Primitive Wire) (control_streams [] []) sound (frames_of 3 (Some head) (take 5 (drop 44 three_samples)))).output ≡ Some (take 48 three_samples)
+cut_short : (run_meant (Primitive Wire) (control_streams [] []) sound (frames_of 3 (Some head) (take 5 (drop 44 three_samples)))).output
+    ≡ Some (take 48 three_samples)
 unfolding three_samples head sound sample_at
 cut_short = refl
 

@@ -161,7 +161,8 @@ check_line inputs outputs controls size delays =
 
 -- the line of a program that was made
 abbrev pub made_line : (voices frames : ℕ) → (sum : ℤ) → List ℕ
-made_line voices frames sum = codes "made " ++ decimal voices ++ codes " voices, " ++ decimal frames ++ codes " frames, sum " ++ signed_decimal sum ++ codes "\n"
+made_line voices frames sum =
+    codes "made " ++ decimal voices ++ codes " voices, " ++ decimal frames ++ codes " frames, sum " ++ signed_decimal sum ++ codes "\n"
 
 -- the line of a run that is done
 abbrev pub done_line : (frames : ℕ) → List ℕ

@@ -11,7 +11,8 @@ use Rattle.fv_play.specs.Play.{answer_on}
 use Rattle.fv_make.specs.Made.{noise_of, sum_of}
 use Rattle.fv_top.specs.Lines.{check_line, made_line, done_line}
 use Rattle.fv_top.specs.Program.{delay_in}
-use Rattle.fv_top.specs.Sources.{Compiled, initial_of}
+use Rattle.fv_render.specs.Render.{initial_of}
+use Rattle.fv_top.specs.Sources.{Compiled}
 
 -- the frames that it counts, the bytes of the output, if it writes one, and the line that it reports
 pub record Meant : Type 0 where

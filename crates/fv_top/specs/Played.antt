@@ -31,7 +31,8 @@ make_sizes frames = record { frames = frames; block = 256; vector = 32; workers 
 abbrev pub IsPlayed : Job → DeskState → Played → Type 0
 IsPlayed (Playing run) old x =
     (x.sizes ≡ sizes_of run.settings x.sizes.frames)
-    × (IsTrue old.tells → (p : Plays run old.files) × (p.of.compiled ≡ x.program) × (p.changes ≡ x.changes) × (length (present_in p.sound p.source) ≡ x.sizes.frames))
+    × (IsTrue old.tells → (p : Plays run old.files) × (p.of.compiled ≡ x.program) × (p.changes ≡ x.changes)
+    × (length (present_in p.sound p.source) ≡ x.sizes.frames))
 IsPlayed (Checking name) old x = ⊥
 IsPlayed (Making voices frames) old x = (x.sizes ≡ make_sizes frames) × (x.changes ≡ []) × IsMade voices x.program
 
@@ -57,7 +58,8 @@ pub record MakeSoFar (voices frames : ℕ) (before after : Option Told) : Type 0
 abbrev pub BlocksOf : Job → Tally → DeskState → (before after : Option Told) → Type 0
 BlocksOf (Playing run) t old before after = (x : AllRan (Playing run) old t.blocks t.loops t.loop_runs before after) × (x.played.sizes.frames ≡ t.frames)
 BlocksOf (Checking name) t old before after = (t.blocks ≡ 0) × (t.loops ≡ 0) × (t.loop_runs ≡ 0) × (after ≡ before)
-BlocksOf (Making voices frames) t old before after = (x : AllRan (Making voices frames) old t.blocks t.loops t.loop_runs before after) × (x.played.sizes.frames ≡ t.frames)
+BlocksOf (Making voices frames) t old before after =
+    (x : AllRan (Making voices frames) old t.blocks t.loops t.loop_runs before after) × (x.played.sizes.frames ≡ t.frames)
 
 pub record HasBlocks (words : List (List ℕ)) (t : Tally) (old : DeskState) (before after : Option Told) : Type 0 where
   pub job : Job

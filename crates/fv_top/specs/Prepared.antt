@@ -10,7 +10,8 @@ use Rattle.fv_num.specs.Words.{is_sample_width}
 use Rattle.fv_wav.specs.Samples.{data_size, data_limit}
 use Rattle.fv_top.specs.declared.refusal.Refusal.TheVariants.{WaveTruncated}
 use Rattle.fv_top.specs.declared.prepare.Prepared.{Prepared}
-use Rattle.fv_top.specs.Sources.{Compiled, initial_of, frames_of}
+use Rattle.fv_render.specs.Render.{initial_of}
+use Rattle.fv_top.specs.Sources.{Compiled, frames_of}
 use Rattle.fv_top.specs.Sound.{Sound}
 use Rattle.fv_top.specs.Playable.{sound_in}
 use Rattle.fv_outside.specs.Journal.{Told}

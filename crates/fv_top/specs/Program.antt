@@ -1,5 +1,6 @@
 -- What a program's text is: a program, or refused for its first fault (Faust manual, cut down by this project's profile).
-use Rattle.std.specs.Prelude.{◌≡◌, ℕ, Bool, ◌&&◌, ◌||◌, ◌==◌, nat_le, nat_lt, IsTrue, List, [], ◌∷◌, map, sum, pos, int_lt, Option, Some, None, Result, Ok, Err, if◌then◌else◌}
+use Rattle.std.specs.Prelude.{◌≡◌, ℕ, Bool, ◌&&◌, ◌||◌, ◌==◌, nat_le, nat_lt, IsTrue, List, [], ◌∷◌, sum, pos, int_lt, Option, Some, None, Result, Ok, Err}
+use Rattle.std.specs.Prelude.{if◌then◌else◌}
 use Rattle.fv_num.specs.Interval.{Interval}
 use Rattle.fv_lex.specs.declared.refusal.LexRefusal.{LexRefusal}
 use Rattle.fv_lex.specs.declared.refusal.LexRefusal.TheVariants as bytes
@@ -17,6 +18,7 @@ use Rattle.fv_rules.specs.Rules.{program_value}
 use Rattle.fv_interval.specs.declared.refusal.DelayRefusal.{DelayRefusal}
 use Rattle.fv_interval.specs.declared.refusal.DelayRefusal.TheVariants as delay
 use Rattle.fv_interval.specs.Delays.{delays_of, amounts, delay_limit, delay_budget}
+use Rattle.fv_render.specs.Render.{spans_of}
 use Rattle.fv_top.specs.Answers.{Then, Turned, IsOnce, RefusesOthers}
 use Rattle.fv_top.specs.Lines.{row_of}
 use Rattle.fv_top.specs.Sources.{Compiled}
@@ -109,13 +111,9 @@ narrow p =
 abbrev pub Narrow : Compiled → Result Compiled Refusal → Type 0
 Narrow p r = narrow p ≡ r
 
--- the numbers that the controls may have
-abbrev pub control_spans : List ControlInfo → List Interval
-control_spans cs = map (λ c. record { lo = c.min; hi = c.max }) cs
-
 -- the spans of a program's delays, in the order of the walk
 abbrev pub delays_in : Compiled → List Interval
-delays_in p = delays_of p.diagram (control_spans p.controls)
+delays_in p = delays_of p.diagram (spans_of p.controls)
 
 -- their sum
 abbrev pub delay_in : Compiled → ℕ

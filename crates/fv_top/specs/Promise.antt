@@ -1,5 +1,6 @@
 -- What a run promises.
-use Rattle.std.specs.Prelude.{◌≡◌, ◌≢◌, ◌⊎◌, ℕ, ◌+◌, ◌≤◌, ◌%◌, ◌^◌, ◌&&◌, ◌||◌, ◌==◌, nat_le, Bool, false, IsTrue, IsSome, List, [], ◌∷◌, ◌++◌, length, Some, None, Ok, Err}
+use Rattle.std.specs.Prelude.{◌≡◌, ◌≢◌, ◌⊎◌, ℕ, ◌+◌, ◌≤◌, ◌%◌, ◌^◌, ◌&&◌, ◌||◌, ◌==◌, nat_le, Bool, false, IsTrue, IsSome, List, [], ◌∷◌, ◌++◌, length, Some}
+use Rattle.std.specs.Prelude.{None, Ok, Err}
 use Rattle.fv_base.specs.declared.role.Role.{Role}
 use Rattle.fv_base.specs.declared.role.Role.TheVariants.{Program, Input, Controls, Output, Report}
 use Rattle.fv_base.specs.Lists.{IsPrefixOf}
@@ -17,7 +18,8 @@ use Rattle.fv_top.specs.declared.refusal.Refusal.TheVariants.{Usage, ReadFault, 
 use Rattle.fv_top.specs.declared.status.Status.{Status}
 use Rattle.fv_top.specs.declared.status.Status.TheVariants.{Done, Refused}
 use Rattle.fv_top.specs.Program.{IsProgram, IsRefusedText, is_of_program}
-use Rattle.fv_top.specs.Sources.{Compiled, Source, initial_of}
+use Rattle.fv_render.specs.Render.{initial_of}
+use Rattle.fv_top.specs.Sources.{Compiled, Source}
 use Rattle.fv_top.specs.Sound.{Sound, mono, sound_of, present_in, cut_in}
 use Rattle.fv_top.specs.Loading.{HasScript, HasInput, IsThere, reading}
 use Rattle.fv_top.specs.Meant.{Meant, run_meant, check_meant, make_meant, written_by}
@@ -27,6 +29,10 @@ use Rattle.fv_top.specs.Steps.{Turn, reads, writes, Rules, Ends, Stops, PassesAl
 -- the words are of the form, and ask for this
 abbrev pub Asks : List (List ℕ) → Job → Type 0
 Asks words job = job_in words ≡ Ok job
+
+-- a fact of all words that ask for this
+abbrev pub OfWords : Job → (List (List ℕ) → Type 0) → Type 0
+OfWords job P = (words : List (List ℕ)) → Asks words job → P words
 
 -- The file of this name is a program's text.
 pub record HasProgram (name : List ℕ) (files : List File) : Type 0 where
@@ -144,7 +150,8 @@ StepRefuses run files ReadProgram refusal = HasNoProgram run.program files refus
 StepRefuses run files ReadScript refusal = (p : HasProgram run.program files) × HasScript run.controls files p.compiled.controls (Err refusal)
 StepRefuses run files ReadHead refusal = HasInput run.input files (Err refusal)
 StepRefuses run files Fit refusal =
-    (p : HasProgram run.program files) × (source : Source) × HasInput run.input files (Ok source) × (sound_of run.settings p.compiled.diagram source.head ≡ Err refusal)
+    (p : HasProgram run.program files) × (source : Source) × HasInput run.input files (Ok source)
+    × (sound_of run.settings p.compiled.diagram source.head ≡ Err refusal)
 StepRefuses run files ReadSamples refusal = ⊥
 StepRefuses run files Write refusal = (p : Plays run files) × (cut_in p.sound p.source ≡ Some refusal)
 StepRefuses run files Tell refusal = ⊥
@@ -158,6 +165,7 @@ run_rules run old = record {
   Has = HasRefusal;
   Passes = StepPasses run old.files;
   Refuses = StepRefuses run old.files;
+  Known = IsTrue old.tells;
 }
 
 -- ---- the steps of a check
@@ -206,6 +214,7 @@ check_rules name old = record {
   Has = HasRefusal;
   Passes = CheckPasses name old.files;
   Refuses = CheckRefuses name old.files;
+  Known = IsTrue old.tells;
 }
 
 -- ---- the steps of a make
@@ -232,7 +241,8 @@ MakeTakes s t = ⊥
 
 -- what a turn of it needs
 abbrev pub MakeAnswered : (voices frames : ℕ) → DeskState → Step → Type 0
-MakeAnswered voices frames old Tell = IsUnfailing Report old × ((p : HasMade voices) → length (written_by (make_meant p.compiled voices frames) old Report) ≤ old.room Report)
+MakeAnswered voices frames old Tell =
+    IsUnfailing Report old × ((p : HasMade voices) → length (written_by (make_meant p.compiled voices frames) old Report) ≤ old.room Report)
 MakeAnswered voices frames old s = Unit {0}
 
 -- what it judges passes
@@ -247,7 +257,7 @@ MakeRefuses voices ReadProgram refusal = IsRefusedText (text_of voices) refusal
 MakeRefuses voices Fit refusal = (p : Compiled) × IsProgram (text_of voices) p × (mono p ≡ Err refusal)
 MakeRefuses voices s refusal = ⊥
 
--- the rules of a make's steps, which ask the desk for no file
+-- the rules of a make's steps, which ask the desk for no file and judge none
 abbrev pub make_rules : (voices frames : ℕ) → DeskState → Rules Step
 make_rules voices frames old = record {
   requests = λ s. [];
@@ -256,6 +266,7 @@ make_rules voices frames old = record {
   Has = HasRefusal;
   Passes = MakePasses voices;
   Refuses = MakeRefuses voices;
+  Known = Unit {0};
 }
 
 -- ---- what is asked for
@@ -271,6 +282,10 @@ abbrev pub rules_of : Job → DeskState → Rules Step
 rules_of (Playing run) old = run_rules run old
 rules_of (Checking name) old = check_rules name old
 rules_of (Making voices frames) old = make_rules voices frames old
+
+-- it is known what they judge
+abbrev pub IsKnown : Job → DeskState → Type 0
+IsKnown job old = Rules.Known (rules_of job old)
 
 -- it can be done
 abbrev pub CanDo : Job → List File → Type 0
@@ -305,7 +320,8 @@ pub record HasDone (words : List (List ℕ)) (frames : ℕ) (old new : DeskState
   pub asks : Asks words job
   pub requests : new.requests ≡ old.requests ++ all_requests (rules_of job old) (steps_of job)
   pub faults : KeepsFaults old new
-  pub told : IsTrue old.tells → (can : CanDo job old.files) × (frames ≡ (meant_of job old.files can).frames) × ((r : Role) → new.written r ≡ written_by (meant_of job old.files can) old r)
+  pub told : IsKnown job old → (can : CanDo job old.files) × (frames ≡ (meant_of job old.files can).frames)
+      × (IsTrue old.tells → (r : Role) → new.written r ≡ written_by (meant_of job old.files can) old r)
 
 -- writing of the output began once
 abbrev pub HasBegun : (old new : DeskState) → Type 0
@@ -376,7 +392,7 @@ IsDoneOrNoMemory (Refused refusal) = refusal ≡ NoMemory
 -- or has no fault, it is done, unless memory runs out.
 abbrev pub IsComplete : (words : List (List ℕ)) → (old new : DeskState) → Status → Type 0
 IsComplete words old new status =
-    (job : Job) → Asks words job → IsTrue old.tells → PassesAll (rules_of job old) old new (steps_of job) → IsDoneOrNoMemory status
+    (job : Job) → Asks words job → IsKnown job old → PassesAll (rules_of job old) old new (steps_of job) → IsDoneOrNoMemory status
 
 -- refused for this, or out of memory
 abbrev pub IsRefusedOrNoMemory : Refusal → Status → Type 0
@@ -385,7 +401,8 @@ IsRefusedOrNoMemory refusal status = (status ≡ Refused refusal) ⊎ (status �
 -- Where the first step that cannot go on refuses for something, the run is refused for it, unless memory runs out.
 abbrev pub IsStrict : (words : List (List ℕ)) → (old new : DeskState) → Status → Type 0
 IsStrict words old new status =
-    (job : Job) (refusal : Refusal) → Asks words job → IsTrue old.tells → Stops (rules_of job old) old new (steps_of job) refusal → IsRefusedOrNoMemory refusal status
+    (job : Job) (refusal : Refusal) → Asks words job → IsKnown job old → Stops (rules_of job old) old new (steps_of job) refusal
+    → IsRefusedOrNoMemory refusal status
 
 -- Words that are refused are refused for their cause.
 abbrev pub IsExact : (words : List (List ℕ)) → Status → Type 0

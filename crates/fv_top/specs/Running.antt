@@ -17,7 +17,8 @@ use Rattle.fv_top.specs.Program.{IsProgram, IsRefusedText}
 use Rattle.fv_top.specs.Sources.{Compiled}
 use Rattle.fv_top.specs.Lines.{refused_line}
 use Rattle.fv_top.specs.Steps.{Ends}
-use Rattle.fv_top.specs.Promise.{Plays, HasProgram, meant, run_rules, run_steps, check_rules, check_steps, HasMade, HasRefusal, ReadProgram, Fit, make_rules, make_steps, HasBegun, KeepsOutput, KeepsOthers, IsBegunLine, IsRefusedFor, HasDone, LeavesOutput, Reports, IsFaultOf, HandsOn}
+use Rattle.fv_top.specs.Promise.{Plays, HasProgram, meant, run_rules, run_steps, check_rules, check_steps, HasMade, HasRefusal, ReadProgram, Fit, make_rules}
+use Rattle.fv_top.specs.Promise.{make_steps, HasBegun, KeepsOutput, KeepsOthers, IsBegunLine, IsRefusedFor, HasDone, LeavesOutput, Reports, IsFaultOf, HandsOn}
 
 -- The desk was asked for this, and nothing was written.
 pub record Reaches (asked : List Request) (old new : DeskState) : Type 0 where
@@ -73,7 +74,8 @@ file_in r =
 -- What is ready is what the files of the run mean, where the desk tells them.
 abbrev pub IsReady : Run → DeskState → Ready → Type 0
 IsReady run old r =
-    IsTrue old.tells → (p : Plays run old.files) × (cut_in p.sound p.source ≡ r.cut) × (r.sound.frames ≡ (meant p).frames) × (file_in r ≡ written_by (meant p) old Output)
+    IsTrue old.tells → (p : Plays run old.files) × (cut_in p.sound p.source ≡ r.cut) × (r.sound.frames ≡ (meant p).frames)
+    × (file_in r ≡ written_by (meant p) old Output)
 
 -- A step that reads cannot go on.
 pub record StopsBefore (run : Run) (old new : DeskState) (refusal : Refusal) : Type 0 where
@@ -101,7 +103,8 @@ pub record StopsCheck (name : List ℕ) (old new : DeskState) (refusal : Refusal
   pub output : KeepsOutput old new
   pub begun : List ℕ
   pub appended : IsTrue old.tells → new.written Report ≡ old.written Report ++ begun
-  pub is_begun : (begun ≡ []) ⊎ ((refusal ≡ WriteFault Report) × (IsTrue old.tells → (p : HasProgram name old.files) × IsPrefixOf begun (check_meant p.compiled).line))
+  pub is_begun : (begun ≡ [])
+      ⊎ ((refusal ≡ WriteFault Report) × (IsTrue old.tells → (p : HasProgram name old.files) × IsPrefixOf begun (check_meant p.compiled).line))
   pub faults : CountsFaultOf refusal old new
 
 -- ---- a make
@@ -112,7 +115,8 @@ pub record Makes (voices frames : ℕ) (old new : DeskState) : Type 0 where
   pub requests : new.requests ≡ old.requests ++ []
   pub others : KeepsOthers old new
   pub faults : KeepsFaults old new
-  pub told : IsTrue old.tells → (p : HasMade voices) × ((r : Role) → new.written r ≡ written_by (make_meant p.compiled voices frames) old r)
+  pub made : HasMade voices
+  pub told : IsTrue old.tells → (r : Role) → new.written r ≡ written_by (make_meant made.compiled voices frames) old r
 
 -- It could not be, before its refusal is reported.
 pub record StopsMake (voices frames : ℕ) (old new : DeskState) (refusal : Refusal) : Type 0 where
@@ -123,13 +127,15 @@ pub record StopsMake (voices frames : ℕ) (old new : DeskState) (refusal : Refu
   pub output : KeepsOutput old new
   pub begun : List ℕ
   pub appended : IsTrue old.tells → new.written Report ≡ old.written Report ++ begun
-  pub is_begun : (begun ≡ []) ⊎ ((refusal ≡ WriteFault Report) × (IsTrue old.tells → (p : HasMade voices) × IsPrefixOf begun (make_meant p.compiled voices frames).line))
+  pub is_begun : (begun ≡ [])
+      ⊎ ((refusal ≡ WriteFault Report) × (IsTrue old.tells → (p : HasMade voices) × IsPrefixOf begun (make_meant p.compiled voices frames).line))
   pub faults : CountsFaultOf refusal old new
 
 -- why there is none: its text is refused, or it takes more or fewer streams than one, or memory ran out
 abbrev pub IsNotMade : (voices : ℕ) → Refusal → Type 0
 IsNotMade voices e =
-    (e ≡ NoMemory) ⊎ (HasRefusal ReadProgram e × IsRefusedText (text_of voices) e) ⊎ (HasRefusal Fit e × ((p : Compiled) × IsProgram (text_of voices) p × (mono p ≡ Err e)))
+    (e ≡ NoMemory) ⊎ (HasRefusal ReadProgram e × IsRefusedText (text_of voices) e)
+    ⊎ (HasRefusal Fit e × ((p : Compiled) × IsProgram (text_of voices) p × (mono p ≡ Err e)))
 
 -- the sum of what the program gives on its noise
 pub record HasSum (voices frames : ℕ) (sum : ℤ) : Type 0 where

@@ -70,4 +70,5 @@ file_of channels rate bits size samples pad = head_bytes channels rate bits size
 abbrev pub output_file : Diagram → (c : ℕ → Stream) → Sound → (X : List Frame) → List ℕ
 output_file d c sound X =
     let size = data_size (outputs d) sound.bits sound.frames in
-    head_bytes (outputs d) sound.rate sound.bits size ++ flat_map (frame_bytes sound.bits) (run d c no_slots X) ++ (if length X == sound.frames then pad_bytes size else [])
+    head_bytes (outputs d) sound.rate sound.bits size ++ flat_map (frame_bytes sound.bits) (run d c no_slots X)
+    ++ (if length X == sound.frames then pad_bytes size else [])

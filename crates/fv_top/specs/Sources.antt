@@ -1,5 +1,5 @@
 -- What is played, and on what: a program, the changes of its controls, and an input (RIFF WAVE 1991; this project's profile).
-use Rattle.std.specs.Prelude.{ℕ, ◌*◌, ◌+◌, ◌/◌, List, [], length, map, option_map, ℤ, Option, Some, None, Result, Ok, Err}
+use Rattle.std.specs.Prelude.{ℕ, ◌*◌, ◌+◌, ◌/◌, List, [], length, option_map, Option, Some, None, Result, Ok, Err}
 use Rattle.fv_num.specs.Frames.{Frame, table}
 use Rattle.fv_outside.specs.Desk.{File, file_named}
 use Rattle.fv_diagram.specs.Diagram.{Diagram}
@@ -14,16 +14,13 @@ use Rattle.fv_wav.specs.declared.refusal.WaveRefusal.TheVariants as head
 use Rattle.fv_wav.specs.Reading.{wave, frame_size}
 use Rattle.fv_wav.specs.Samples.{present, sample_at}
 use Rattle.fv_top.specs.declared.refusal.Refusal.{Refusal}
-use Rattle.fv_top.specs.declared.refusal.Refusal.TheVariants.{ReadFault, TextTooLong, ControlLine, ControlUnknown, ControlRange, ControlOrder, NotWave, WaveTruncated, WaveFormat, WaveChunks, NoMemory}
+use Rattle.fv_top.specs.declared.refusal.Refusal.TheVariants.{ReadFault, TextTooLong, ControlLine, ControlUnknown, ControlRange, ControlOrder, NotWave}
+use Rattle.fv_top.specs.declared.refusal.Refusal.TheVariants.{WaveTruncated, WaveFormat, WaveChunks, NoMemory}
 
 -- a program: its diagram, and its controls
 pub record Compiled : Type 0 where
   pub diagram : Diagram
   pub controls : List ControlInfo
-
--- the numbers with which the controls begin
-abbrev pub initial_of : List ControlInfo → List ℤ
-initial_of cs = map (λ c. c.init) cs
 
 -- ---- files that may be named
 

@@ -35,17 +35,19 @@ pub record Rules (S : Type 0) : Type 1 where
   -- what the step judges passes, or is refused for this
   pub Passes : S → Type 0
   pub Refuses : S → Refusal → Type 0
+  -- it is known what the steps judge: where they judge files, the desk tells them
+  pub Known : Type 0
 
 -- Why a step ends all: a fault of a turn that was not sure to be answered, or it refuses what it judges, or memory runs out.
 pub data Halts {S : Type 0} (k : Rules S) (old new : DeskState) (s : S) : Refusal → Type 0 where
   fault : (t : Turn) → k.Takes s t → HasFault (role_of t) old new → (IsTrue old.tells → k.Answers s t → ⊥) → Halts k old new s (fault_of t)
-  judged : {refusal : Refusal} → k.Has s refusal → (IsTrue old.tells → k.Refuses s refusal) → Halts k old new s refusal
+  judged : {refusal : Refusal} → k.Has s refusal → (k.Known → k.Refuses s refusal) → Halts k old new s refusal
   want_of_memory : Halts k old new s NoMemory
 
 -- Why steps in order end, and what the desk was asked for by then: a step halts, and all before it passed.
 pub data Ends {S : Type 0} (k : Rules S) (old new : DeskState) : List S → Refusal → List Request → Type 0 where
   here : {s : S} {rest : List S} {refusal : Refusal} → Halts k old new s refusal → Ends k old new (s ∷ rest) refusal (k.requests s)
-  later : {s : S} {rest : List S} {refusal : Refusal} {asked : List Request} → (IsTrue old.tells → k.Passes s) → Ends k old new rest refusal asked
+  later : {s : S} {rest : List S} {refusal : Refusal} {asked : List Request} → (k.Known → k.Passes s) → Ends k old new rest refusal asked
       → Ends k old new (s ∷ rest) refusal (k.requests s ++ asked)
 
 -- all that the desk is asked for where each step passes
@@ -53,9 +55,9 @@ abbrev pub all_requests : {S : Type 0} → Rules S → List S → List Request
 all_requests k [] = []
 all_requests k (s ∷ rest) = k.requests s ++ all_requests k rest
 
--- each turn of the step is sure to be answered, or no fault of its role is counted
+-- each turn of the step is sure to be answered, by a desk that tells, or no fault of its role is counted
 abbrev pub IsQuiet : {S : Type 0} → Rules S → (old new : DeskState) → S → Type 0
-IsQuiet k old new s = (t : Turn) → k.Takes s t → k.Answers s t ⊎ (HasFault (role_of t) old new → ⊥)
+IsQuiet k old new s = (t : Turn) → k.Takes s t → (IsTrue old.tells × k.Answers s t) ⊎ (HasFault (role_of t) old new → ⊥)
 
 -- A step refuses what it judges, and all before it pass.
 pub data Stops {S : Type 0} (k : Rules S) (old new : DeskState) : List S → Refusal → Type 0 where

@@ -32,7 +32,8 @@ pub fn load_program<D: Desk>(
     ensures spelled { IfOk result (λ p. (text : List ℕ) × IsFile name.now text (D.state desk.old) × IsProgram text (compiled_of p.0)) }
     ensures plays { IfOk result (λ p. CanPlay p.0) }
     ensures delays { IfOk result (λ p. AreAccepted (delays_in (compiled_of p.0)) p.1) }
-    ensures err { IfErr result (StopsLoading program_role (Some name.now) IsOfText (HasNoProgram name.now (D.state desk.old).files) (D.state desk.old) (D.state desk.new)) }
+    ensures err { IfErr result (StopsLoading program_role (Some name.now) IsOfText (HasNoProgram name.now (D.state desk.old).files)
+        (D.state desk.old) (D.state desk.new)) }
     ensures steady { (IsErrOf result (ReadFault program_role) → ⊥) → KeepsFaults (D.state desk.old) (D.state desk.new) }
 {
     let text = match read_front(alloc, desk, Role::Program, name, TEXT_BYTES) {

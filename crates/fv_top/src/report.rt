@@ -42,7 +42,8 @@ pub fn report_numbers<D: Desk>(
     delays: u64,
 ) -> Result<(), Failed>
     ensures ok { OnOk result (Appends Report (check_line inputs outputs controls size delays) (D.state desk.old) (D.state desk.new)) }
-    ensures err { OnErr result ((part : List ℕ) × IsPrefixOf part (check_line inputs outputs controls size delays) × Appends Report part (D.state desk.old) (D.state desk.new)) }
+    ensures err { OnErr result ((part : List ℕ) × IsPrefixOf part (check_line inputs outputs controls size delays)
+        × Appends Report part (D.state desk.old) (D.state desk.new)) }
     ensures failed { OnErr result (HasFault Report (D.state desk.old) (D.state desk.new)) }
     ensures steady { OnOk result (KeepsFaults (D.state desk.old) (D.state desk.new)) }
     ensures answers { IsTrue (D.state desk.old).tells → IsUnfailing Report (D.state desk.old) →

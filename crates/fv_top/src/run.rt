@@ -2,7 +2,11 @@
 
 ghost use Rattle.std.specs.Prelude.{map, string_bytes, IfOk, IfErr, OnErr};
 ghost use Rattle.fv_outside.specs.Desk.{GoesOn};
-ghost use Rattle.fv_top.specs.Promise.{IfDone, IfRefused, HasDone, IsRefusedFor, LeavesOutput, KeepsOthers, Reports, HandsOn, IsComplete, IsStrict, IsExact};
+ghost use Rattle.fv_words.specs.Commands.{Playing};
+ghost use Rattle.fv_words.specs.Runs.{AreSound};
+ghost use Rattle.fv_words.specs.Views.{run_in as run_view};
+ghost use Rattle.fv_top.specs.Promise.{OfWords, IfDone, IfRefused, HasDone, IsRefusedFor, LeavesOutput, KeepsOthers, Reports, HandsOn, IsComplete, IsStrict};
+ghost use Rattle.fv_top.specs.Promise.{IsExact};
 ghost use Rattle.fv_top.specs.Played.{HasBlocks, HasBlocksSoFar};
 ghost use Rattle.fv_top.specs.Running.{EndsDone, Stopped, ReportsLine};
 
@@ -15,7 +19,7 @@ use crate::report::{report_done, report_refusal};
 use crate::status::{Status, Tally};
 use crate::text::one_program;
 use fv_outside::{Desk, Gate, Role};
-use fv_words::{Job, job_in};
+use fv_words::{Job, Run, job_in};
 use std::alloc::Global;
 use std::sync::Wait;
 use std::thread::Threads;
@@ -41,27 +45,47 @@ fn perform<R: Threads + Wait + Sync, D: Desk, G: Gate + Sync>(
     ensures so_far { OnErr result (HasBlocksSoFar (map string_bytes words.now) (D.state desk.old) (G.told gate.old) (G.told gate.new)) }
 {
     let job = job_in(words)?;
-    let run = match job {
-        Job::Run(run) => run,
+    match job {
+        Job::Run(run) => play(rt, alloc, run, desk, gate),
         Job::Check { program } => {
             check(alloc, desk, program)?;
-            return Ok(Tally {
+            Ok(Tally {
                 frames: 0,
                 blocks: 0,
                 loops: 0,
                 loop_runs: 0,
-            });
+            })
         }
         Job::Make { voices, frames } => {
             let ran = make(rt, alloc, desk, voices, frames, gate)?;
-            return Ok(Tally {
+            Ok(Tally {
                 frames,
                 blocks: ran.blocks,
                 loops: ran.loops,
                 loop_runs: ran.loop_runs,
-            });
+            })
         }
-    };
+    }
+}
+
+// Plays a program: its output is written as far as its input goes, and reported where that is all of it.
+fn play<R: Threads + Wait + Sync, D: Desk, G: Gate + Sync>(
+    rt: &R,
+    alloc: Global,
+    run: Run<'_>,
+    desk: &mut D,
+    gate: &mut G,
+) -> Result<Tally, Refusal>
+    requires { AreSound (run_view run).settings }
+    ensures done { IfOk result (λ tally. OfWords (Playing (run_view run.entry)) (λ words.
+        EndsDone words tally.frames (D.state desk.old) (D.state desk.new))) }
+    ensures blocks { IfOk result (λ tally. OfWords (Playing (run_view run.entry)) (λ words.
+        HasBlocks words tally (D.state desk.old) (G.told gate.old) (G.told gate.new))) }
+    ensures stops { IfErr result (λ refusal. OfWords (Playing (run_view run.entry)) (λ words.
+        Stopped words (D.state desk.old) (D.state desk.new) refusal)) }
+    ensures so_far { OnErr result (OfWords (Playing (run_view run.entry)) (λ words.
+        HasBlocksSoFar words (D.state desk.old) (G.told gate.old) (G.told gate.new))) }
+{
     let (prepared, mut bytes) = prepare(rt, alloc, desk, &run, gate)?;
     match write_output(desk, run.output, &prepared, &mut bytes) {
         Ok(()) => {}

@@ -10,12 +10,12 @@ ghost use Rattle.fv_control.specs.Laws.{NeverFall, IsOfControls};
 ghost use Rattle.fv_control.specs.Streams.{control_streams};
 ghost use Rattle.fv_interval.specs.Delays.{AreAccepted};
 ghost use Rattle.fv_play.specs.Play.{joined, no_slots, rows};
-ghost use Rattle.fv_render.specs.Render.{RanWhole};
+ghost use Rattle.fv_render.specs.Render.{RanWhole, initial_of};
 ghost use Rattle.fv_words.specs.Runs.{AreSound};
 ghost use Rattle.fv_words.specs.Views.{settings_in};
 ghost use Rattle.fv_wav.specs.Stopping.{IsHead};
 ghost use Rattle.fv_wav.specs.Samples.{data_size, data_limit, samples_in, whole_bytes};
-ghost use Rattle.fv_top.specs.Sources.{initial_of, frames_of};
+ghost use Rattle.fv_top.specs.Sources.{frames_of};
 ghost use Rattle.fv_top.specs.Sound.{sound_of, channels_in, rate_in, bits_in, frames_in};
 ghost use Rattle.fv_top.specs.Program.{delays_in};
 ghost use Rattle.fv_top.specs.Playable.{compiled_of, CanPlay, sound_answered};
@@ -194,7 +194,8 @@ fn samples_of(
 ) -> Result<Vec<i32>, AllocError>
     requires head { ForSome head IsHead }
     requires frames { ForSome head (λ h. frames ≡ length raw.now / (h.channels * (h.bits / 8))) }
-    ensures samples { IfOk result (λ v. (stated : ℕ) → (head ≡ None → stated ≡ frames) → rows (channels_in head) frames v.items ≡ frames_of stated head raw.now) }
+    ensures samples { IfOk result (λ v. (stated : ℕ) → (head ≡ None → stated ≡ frames)
+        → rows (channels_in head) frames v.items ≡ frames_of stated head raw.now) }
     ensures count { IfOk result (λ v. length v.items ≡ frames * channels_in head) }
 {
     let head = match head {

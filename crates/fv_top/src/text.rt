@@ -1,23 +1,21 @@
 // A program's text: its tokens, their tree, and the tree's program.
 
-ghost use Rattle.std.specs.Prelude.{◌≡◌, ◌⊎◌, ◌≤◌, IfOk, IfErr, OnOk, Ok, Err, All};
+ghost use Rattle.std.specs.Prelude.{◌≡◌, ◌⊎◌, ◌≤◌, IfOk, IfErr, OnOk, Ok, Err};
 ghost use Rattle.fv_diagram.specs.Arena.{tree_of};
 ghost use Rattle.fv_diagram.specs.Diagram.{inputs, outputs};
 ghost use Rattle.fv_interval.specs.Delays.{AreAccepted};
-ghost use Rattle.fv_rules.specs.Sound.{IsBounded};
 ghost use Rattle.fv_top.specs.declared.refusal.Refusal.TheVariants.{NoMemory};
 ghost use Rattle.fv_top.specs.Playable.{compiled_of, CanPlay};
-ghost use Rattle.fv_top.specs.Program.{IsProgram, IsRefusedText, IsOneText, IsOneOrOther, IsOfText, narrow, delayed, first_bad, delays_in, control_spans};
+ghost use Rattle.fv_top.specs.Program.{IsProgram, IsRefusedText, IsOneText, IsOneOrOther, IsOfText, narrow, delayed, first_bad, delays_in};
 
 use crate::refusal::Refusal;
-use fv_diagram::ControlInfo;
 use fv_eval::{Program, evaluate};
 use fv_grammar::spelled_once;
 use fv_interval::{Delays, spans};
 use fv_lex::{one_answer, tokens};
-use fv_num::Span;
 use fv_parse::{one_outcome, parse};
-use std::alloc::{AllocError, Global};
+use fv_render::spans_of;
+use std::alloc::Global;
 
 /// No file has more channels.
 const MOST_CHANNELS: u32 = 256;
@@ -81,24 +79,10 @@ fn check_channels(program: &Program) -> Result<(), Refusal>
 fn check_delays(alloc: Global, program: &Program) -> Result<Delays, Refusal>
     ensures ok { OnOk result (delayed (compiled_of program.now) (first_bad (delays_in (compiled_of program.now))) ≡ Ok (compiled_of program.now)) }
     ensures accepted { IfOk result (AreAccepted (delays_in (compiled_of program.now))) }
-    ensures err { IfErr result (λ e. (e ≡ NoMemory) ⊎ (IsOfText e × (delayed (compiled_of program.now) (first_bad (delays_in (compiled_of program.now))) ≡ Err e))) }
+    ensures err { IfErr result (λ e. (e ≡ NoMemory)
+        ⊎ (IsOfText e × (delayed (compiled_of program.now) (first_bad (delays_in (compiled_of program.now))) ≡ Err e))) }
 {
     let controls = spans_of(alloc, program.controls.as_slice())?;
     let delays = spans(alloc, &program.diagrams, program.root, &controls)?;
     Ok(delays)
-}
-
-// The numbers that the controls may have.
-fn spans_of(alloc: Global, controls: &[ControlInfo]) -> Result<Vec<Span>, AllocError>
-    requires { All IsBounded controls.now }
-    ensures { IfOk result (λ v. v.items ≡ control_spans controls.now) }
-{
-    let mut all = Vec::new(alloc);
-    for i in 0..controls.len() {
-        all.push(Span {
-            lo: controls[i].min,
-            hi: controls[i].max,
-        })?;
-    }
-    Ok(all)
 }

@@ -2,31 +2,13 @@
 
 use crate::language::file_of;
 use crate::runs::{THREE, desk_of};
-use fv_outside::{Gate, Line, MemoryDesk, Reads, Recorder, Role, Task};
+use fv_outside::{Gate, Line, MemoryDesk, Reads, Recorder, Role};
+use fv_test_gates::Counter;
 use fv_top::{Status, Tally, run_faustvec};
 use std::alloc::{AllocError, Global};
 use std::sync::Wait;
-use std::sync::atomic::{AtomicU64, Ordering};
 use std::test::Fail;
 use std::thread::Threads;
-
-// A gate that counts the tasks that it is asked about.
-#[derive(Drop)]
-struct Counter {
-    tasks: AtomicU64,
-}
-
-impl Gate for Counter {
-    ghost use Rattle.std.specs.Prelude.{None};
-
-    ghost told = { λ _. None };
-
-    fn at(&self, _worker: u32, _task: Task) {
-        self.tasks.fetch_add(1, Ordering::SeqCst);
-    }
-
-    fn block_done(&mut self, _loops: u64, _vectors: u32, _reads: &[Reads], _lines: &[Line]) {}
-}
 
 // What a gate was told of a block.
 #[derive(Drop)]
@@ -158,19 +140,15 @@ fn tells_which_loop_reads_which(rt: HostRuntime) -> Result<(), Fail> {
 
 #[test]
 fn counts_what_runs(rt: HostRuntime) -> Result<(), Fail> {
-    let mut gate = Counter {
-        tasks: AtomicU64::new(0),
-    };
+    let mut gate = Counter::new();
     let mut desk = gain_desk(rt.alloc())?;
     let tally = tally_of(&rt, rt.alloc(), &mut desk, &GAIN, &mut gate)?;
-    let runs = u128::from(gate.tasks.load(Ordering::SeqCst));
+    let runs = u128::from(gate.tasks());
     assert_eq!(rt; tally.map(|t| t.loop_runs), Some(runs));
-    let mut gate = Counter {
-        tasks: AtomicU64::new(0),
-    };
+    let mut gate = Counter::new();
     let words = ["make", "5", "1000", "1"];
     let tally = tally_of(&rt, rt.alloc(), &mut desk, &words, &mut gate)?;
-    let runs = u128::from(gate.tasks.load(Ordering::SeqCst));
+    let runs = u128::from(gate.tasks());
     assert_eq!(rt;
         tally.map(|t| (t.frames, t.blocks, t.loop_runs)),
         Some((1000, 4, runs))

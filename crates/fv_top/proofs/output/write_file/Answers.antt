@@ -1,66 +1,72 @@
-use Rattle.std.proofs.Common.{◌≡◌, List, [], ℕ, sym, ap, subst, ◌∙◌, refl}
-use Rattle.std.specs.Prelude.{option_map}
+use Rattle.std.proofs.Common.{◌≡◌, List, [], ℕ, ℤ, sym, ap, subst, ◌∙◌, refl}
+use Rattle.std.specs.Prelude.{option_map, None}
 use Rattle.std.proofs.lemmas.Result.{err_from_is_err_and}
 use Rattle.fv_base.specs.declared.role.Role.TheVariants.{Output}
 use Rattle.fv_outside.specs.Desk.{Appends}
 use Rattle.fv_outside.proofs.States.{appends_nothing}
 use Rattle.fv_wav.specs.Samples.{pad_bytes, data_size}
 use Rattle.fv_top.specs.declared.refusal.Refusal.TheVariants.{WaveTruncated}
+use Rattle.fv_top.specs.declared.prepare.Prepared.{Prepared}
 use Rattle.fv_top.specs.Parts.{AppendsPart}
+use Rattle.fv_top.specs.Prepared.{CanWrite}
 use Rattle.fv_top.specs.Running.{pad_of}
-use Rattle.fv_top.proofs.Filing.{head_part, samples_part, pad_part, file_whole}
+use Rattle.fv_top.proofs.Filing.{Pieces, head_part, samples_part, pad_part, file_whole}
 use Rattle.fv_top.proofs.output.write_file.Goals as goal
+
+-- the pieces of the output
+abbrev pieces : (p : Prepared) → CanWrite p → (spelling : List ℤ) → spelling ≡ p.samples.items → Pieces
+pieces p can spelling spelled = record {
+  channels = p.channels;
+  rate = p.sound.rate;
+  bits = p.sound.bits;
+  stated = p.sound.size;
+  size = data_size p.channels p.sound.bits p.sound.frames;
+  same = can.size;
+  samples = p.samples.items;
+  spelling = spelling;
+  spelled = spelled;
+  pad = pad_of (option_map WaveTruncated p.cut) (data_size p.channels p.sound.bits p.sound.frames);
+}
+
+-- a byte stands behind the samples where no frame is missing
+pad_is : (p : Prepared) → CanWrite p → p.cut ≡ None
+    → pad_of (option_map WaveTruncated p.cut) (data_size p.channels p.sound.bits p.sound.frames) ≡ pad_bytes p.sound.size
+pad_is p can whole = ap (λ k. pad_of (option_map WaveTruncated k) (data_size p.channels p.sound.bits p.sound.frames)) whole ∙ ap pad_bytes (sym can.size)
 
 pub returns-in_err-write_head-clause-err : goal.returns-in_err-write_head-clause-err
 returns-in_err-write_head-clause-err g c =
-    let state = g.D.Desk.state in
     let p = c.args.prepared.now in
-    let n = data_size p.channels p.sound.bits p.sound.frames in
     let q = err_from_is_err_and c.from_residual.result c.from_residual.ensures.1 in
-    rw q.1 (head_part p.channels p.sound.rate p.sound.bits p.sound.size n c.requires.writes.size p.samples.items p.samples.items refl (pad_of (option_map WaveTruncated p.cut) n)
-    (state c.args.desk.now) (state c.write_head.new.desk) c.in_err-write_head.ensures.err)
+    rw q.1 (head_part (pieces p c.requires.writes p.samples.items refl) c.in_err-write_head.ensures.err)
 
 pub returns-in_err-write_frames-clause-err : goal.returns-in_err-write_frames-clause-err
 returns-in_err-write_frames-clause-err g c =
-    let state = g.D.Desk.state in
-    let p = c.args.prepared.now in
-    let n = data_size p.channels p.sound.bits p.sound.frames in
+    let f = pieces c.args.prepared.now c.requires.writes c.deref.result.now c.deref.ensures.value in
     let q = err_from_is_err_and c.from_residual-in_err-write_frames.result c.from_residual-in_err-write_frames.ensures.1 in
-    rw q.1 (samples_part p.channels p.sound.rate p.sound.bits p.sound.size n c.requires.writes.size p.samples.items c.deref.result.now c.deref.ensures.value (pad_of (option_map WaveTruncated p.cut) n)
-    (state c.args.desk.now) (state c.write_head.new.desk) (state c.write_frames.new.desk) c.in_ok-write_head.ensures.ok c.in_err-write_frames.ensures.err)
+    rw q.1 (samples_part f c.in_ok-write_head.ensures.ok c.in_err-write_frames.ensures.err)
 
 pub returns-in-Some-clause-ok : goal.returns-in-Some-clause-ok
 returns-in-Some-clause-ok g c =
-    let state = g.D.Desk.state in
     let p = c.args.prepared.now in
-    let n = data_size p.channels p.sound.bits p.sound.frames in
-    let none : pad_of (option_map WaveTruncated p.cut) n ≡ [] = ap (λ k. pad_of (option_map WaveTruncated k) n) c.in-Some.is in
-    let d = state c.write_frames.new.desk in
-    file_whole p.channels p.sound.rate p.sound.bits p.sound.size n c.requires.writes.size p.samples.items c.deref.result.now c.deref.ensures.value (pad_of (option_map WaveTruncated p.cut) n)
-    (state c.args.desk.now) (state c.write_head.new.desk) d d c.in_ok-write_head.ensures.ok c.in_ok-write_frames.ensures.ok
-    (subst (λ (xs : List ℕ). Appends Output xs d d) (sym none) (appends_nothing Output d))
+    let f = pieces p c.requires.writes c.deref.result.now c.deref.ensures.value in
+    let none : f.pad ≡ [] = ap (λ k. pad_of (option_map WaveTruncated k) (data_size p.channels p.sound.bits p.sound.frames)) c.in-Some.is in
+    let d = g.D.Desk.state c.write_frames.new.desk in
+    let nothing = subst (λ (xs : List ℕ). Appends Output xs d d) (sym none) (appends_nothing Output d) in
+    file_whole f c.in_ok-write_head.ensures.ok c.in_ok-write_frames.ensures.ok nothing
 
 pub returns-in_err-write_pad-clause-err : goal.returns-in_err-write_pad-clause-err
 returns-in_err-write_pad-clause-err g c =
-    let state = g.D.Desk.state in
     let p = c.args.prepared.now in
-    let n = data_size p.channels p.sound.bits p.sound.frames in
-    let pad : pad_of (option_map WaveTruncated p.cut) n ≡ pad_bytes p.sound.size = ap (λ k. pad_of (option_map WaveTruncated k) n) c.in-None.is ∙ ap pad_bytes (sym c.requires.writes.size) in
-    let b = state c.write_frames.new.desk in
-    let d = state c.write_pad.new.desk in
+    let f = pieces p c.requires.writes c.deref.result.now c.deref.ensures.value in
+    let P : List ℕ → Type 0 = λ xs. AppendsPart Output xs (g.D.Desk.state c.write_frames.new.desk) (g.D.Desk.state c.write_pad.new.desk) in
+    let part = subst P (sym (pad_is p c.requires.writes c.in-None.is)) c.in_err-write_pad.ensures.err in
     let q = err_from_is_err_and c.from_residual-in_err-write_pad.result c.from_residual-in_err-write_pad.ensures.1 in
-    rw q.1 (pad_part p.channels p.sound.rate p.sound.bits p.sound.size n c.requires.writes.size p.samples.items c.deref.result.now c.deref.ensures.value (pad_of (option_map WaveTruncated p.cut) n)
-    (state c.args.desk.now) (state c.write_head.new.desk) b d c.in_ok-write_head.ensures.ok c.in_ok-write_frames.ensures.ok
-    (subst (λ (xs : List ℕ). AppendsPart Output xs b d) (sym pad) c.in_err-write_pad.ensures.err))
+    rw q.1 (pad_part f c.in_ok-write_head.ensures.ok c.in_ok-write_frames.ensures.ok part)
 
 pub returns-clause-ok : goal.returns-clause-ok
 returns-clause-ok g c =
-    let state = g.D.Desk.state in
     let p = c.args.prepared.now in
-    let n = data_size p.channels p.sound.bits p.sound.frames in
-    let pad : pad_of (option_map WaveTruncated p.cut) n ≡ pad_bytes p.sound.size = ap (λ k. pad_of (option_map WaveTruncated k) n) c.in-None.is ∙ ap pad_bytes (sym c.requires.writes.size) in
-    let b = state c.write_frames.new.desk in
-    let d = state c.write_pad.new.desk in
-    file_whole p.channels p.sound.rate p.sound.bits p.sound.size n c.requires.writes.size p.samples.items c.deref.result.now c.deref.ensures.value (pad_of (option_map WaveTruncated p.cut) n)
-    (state c.args.desk.now) (state c.write_head.new.desk) b d c.in_ok-write_head.ensures.ok c.in_ok-write_frames.ensures.ok
-    (subst (λ (xs : List ℕ). Appends Output xs b d) (sym pad) c.in_ok-write_pad.ensures.ok)
+    let f = pieces p c.requires.writes c.deref.result.now c.deref.ensures.value in
+    let P : List ℕ → Type 0 = λ xs. Appends Output xs (g.D.Desk.state c.write_frames.new.desk) (g.D.Desk.state c.write_pad.new.desk) in
+    let pad = subst P (sym (pad_is p c.requires.writes c.in-None.is)) c.in_ok-write_pad.ensures.ok in
+    file_whole f c.in_ok-write_head.ensures.ok c.in_ok-write_frames.ensures.ok pad

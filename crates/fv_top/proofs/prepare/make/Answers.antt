@@ -9,7 +9,8 @@ use Rattle.fv_top.proofs.prepare.make.Goals as goal
 pub returns-clause-room : goal.returns-clause-room
 returns-clause-room g c =
     let d = (compiled_of c.args.program.now).diagram in
-    let channels : c.arity-channels.result.outputs ≡ outputs d = c.arity-channels.ensures.arity.1 ∙ ap (λ (e : Evaluated). outputs (tree_of e.diagrams e.root)) c.program.view_is in
+    let channels : c.arity-channels.result.outputs ≡ outputs d =
+    c.arity-channels.ensures.arity.1 ∙ ap (λ (e : Evaluated). outputs (tree_of e.diagrams e.root)) c.program.view_is in
     let frames = c.count_frames-frames.result in
     let long : length c.in_ok-samples.field-0.samples.items ≡ frames * c.arity-channels.result.outputs =
     c.in_ok-samples.ensures.count ∙ ap (λ n. n * outputs d) (sym c.count_frames-frames.ensures) ∙ ap (λ n. frames * n) (sym channels) in

@@ -11,7 +11,9 @@ pub returns-in_err-program-clause-err : goal.returns-in_err-program-clause-err
 returns-in_err-program-clause-err g c =
     let state = g.D.Desk.state in
     let p = err_from_is_err_and c.from_residual.result c.from_residual.ensures.1 in
-    rw (p.1, p.2) (stops_refused Program (Some c.args.name.now) IsOfText (HasNoProgram c.args.name.now (state c.args.desk.now).files) (IsRefusedText c.deref.result.now) (state c.args.desk.now) (state c.read_front.new.desk) _
+    let name = c.args.name.now in
+    let a = state c.args.desk.now in
+    rw (p.1, p.2) (stops_refused Program (Some name) IsOfText (HasNoProgram name a.files) (IsRefusedText c.deref.result.now) a (state c.read_front.new.desk) _
     c.in_err-program.ensures.refused (λ t h.
     let read = c.in-Ok.ensures.bytes t in
     record { text = read.0; file = read.1 t; refused = whole_is read.0 c.deref.result.now _ (c.deref.ensures.value ∙ read.2) h }))

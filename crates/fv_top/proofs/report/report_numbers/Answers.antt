@@ -1,26 +1,34 @@
-use Rattle.std.proofs.Common.{◌≤◌, ◌+◌, List, ℕ, length, ◌∙◌, subst}
+use Rattle.std.proofs.Common.{◌≡◌, ◌≤◌, ◌+◌, List, [], ℕ, ◌++◌, length, ◌∙◌, subst}
 use Rattle.std.specs.Prelude.{IsTrue, IsOk, OnErr}
 use Rattle.fv_base.specs.declared.role.Role.TheVariants.{Report}
 use Rattle.fv_base.specs.Lists.{IsPrefixOf}
 use Rattle.fv_outside.specs.Desk.{IsUnfailing, Appends}
+use Rattle.fv_top.specs.Lines.{check_line}
 use Rattle.fv_top.proofs.Checking.{numbers_line}
+use Rattle.fv_top.proofs.report.report_numbers.Given.{Over}
 use Rattle.fv_top.proofs.report.report_numbers.Goals as goal
+use Rattle.fv_top.proofs.report.report_numbers.Goals.{After-write_pieces}
+
+-- the pieces are the line
+line : (g : Over) (c : After-write_pieces g)
+    → c.as_slice.result.now ++ (c.as_bytes.result.now ++ (c.as_slice-2.result.now ++ (c.as_bytes-2.result.now ++ (c.as_slice-3.result.now
+    ++ (c.as_bytes-3.result.now ++ (c.as_slice-4.result.now ++ (c.as_bytes-4.result.now ++ (c.as_slice-5.result.now ++ (c.as_bytes-5.result.now
+    ++ (c.as_slice-6.result.now ++ [])))))))))) ≡ check_line c.args.inputs c.args.outputs c.args.controls c.args.size c.args.delays
+line g c =
+    numbers_line c.args.inputs c.args.outputs c.args.controls c.args.size c.args.delays c.as_slice.ensures (c.as_bytes.ensures.value ∙ c.format.ensures.text)
+    c.as_slice-2.ensures (c.as_bytes-2.ensures.value ∙ c.format-2.ensures.text) c.as_slice-3.ensures (c.as_bytes-3.ensures.value ∙ c.format-3.ensures.text)
+    c.as_slice-4.ensures (c.as_bytes-4.ensures.value ∙ c.format-4.ensures.text) c.as_slice-5.ensures (c.as_bytes-5.ensures.value ∙ c.format-5.ensures.text)
+    c.as_slice-6.ensures
 
 pub returns-clause-err : goal.returns-clause-err
 returns-clause-err g c =
-    let state = g.D.Desk.state in
-    let a = state c.args.desk.now in
-    let b = state c.write_pieces.new.desk in
-    let line = numbers_line c.args.inputs c.args.outputs c.args.controls c.args.size c.args.delays c.as_slice.ensures (c.as_bytes.ensures.value ∙ c.format.ensures.text)
-    c.as_slice-2.ensures (c.as_bytes-2.ensures.value ∙ c.format-2.ensures.text) c.as_slice-3.ensures (c.as_bytes-3.ensures.value ∙ c.format-3.ensures.text)
-    c.as_slice-4.ensures (c.as_bytes-4.ensures.value ∙ c.format-4.ensures.text) c.as_slice-5.ensures (c.as_bytes-5.ensures.value ∙ c.format-5.ensures.text) c.as_slice-6.ensures in
-    subst (λ (w : List ℕ). OnErr c.write_pieces.result ((part : List ℕ) × IsPrefixOf part w × Appends Report part a b)) line c.write_pieces.ensures.err
+    let is = line g (goal.at.returns-clause-err g c).After-write_pieces in
+    let P : List ℕ → Type 0 = λ w. Appends Report w (g.D.Desk.state c.args.desk.now) (g.D.Desk.state c.write_pieces.new.desk) in
+    subst (λ (w : List ℕ). OnErr c.write_pieces.result ((part : List ℕ) × IsPrefixOf part w × P part)) is c.write_pieces.ensures.err
 
 pub returns-clause-answers : goal.returns-clause-answers
 returns-clause-answers g c =
-    let state = g.D.Desk.state in
-    let a = state c.args.desk.now in
-    let line = numbers_line c.args.inputs c.args.outputs c.args.controls c.args.size c.args.delays c.as_slice.ensures (c.as_bytes.ensures.value ∙ c.format.ensures.text)
-    c.as_slice-2.ensures (c.as_bytes-2.ensures.value ∙ c.format-2.ensures.text) c.as_slice-3.ensures (c.as_bytes-3.ensures.value ∙ c.format-3.ensures.text)
-    c.as_slice-4.ensures (c.as_bytes-4.ensures.value ∙ c.format-4.ensures.text) c.as_slice-5.ensures (c.as_bytes-5.ensures.value ∙ c.format-5.ensures.text) c.as_slice-6.ensures in
-    subst (λ (w : List ℕ). IsTrue a.tells → IsUnfailing Report a → length (a.written Report) + length w ≤ a.room Report → IsOk c.write_pieces.result) line c.write_pieces.ensures.answers
+    let a = g.D.Desk.state c.args.desk.now in
+    let is = line g (goal.at.returns-clause-answers g c).After-write_pieces in
+    let Fits : List ℕ → Type 0 = λ w. length (a.written Report) + length w ≤ a.room Report in
+    subst (λ (w : List ℕ). IsTrue a.tells → IsUnfailing Report a → Fits w → IsOk c.write_pieces.result) is c.write_pieces.ensures.answers

@@ -17,8 +17,10 @@ returns-in_err-script-in-None-clause-err g c =
     let cs = c.args.controls.now in
     let e = c.in_err-script-in-None.field-0.0 in
     let p = err_from_is_err_and c.from_residual.result c.from_residual.ensures.1 in
-    rw (p.1, c.in-None.is) (stops_refused Controls None (HasRefusal ReadScript) (λ (r : Refusal). HasScript None (state c.args.desk.now).files cs (Err r)) (λ (r : Refusal). script cs [] ≡ Err e) (state c.args.desk.now)
-    (state c.args.desk.now) _ (script_refused e _ (script cs [] ≡ Err e) p.2 c.in_err-script-in-None.ensures.refused) (λ t q. let f = sym (no_script cs) ∙ q in absurd cc))
+    let a = state c.args.desk.now in
+    let Says : Refusal → Type 0 = λ r. HasScript None a.files cs (Err r) in
+    rw (p.1, c.in-None.is) (stops_refused Controls None (HasRefusal ReadScript) Says (λ (r : Refusal). script cs [] ≡ Err e) a a _
+    (script_refused e _ (script cs [] ≡ Err e) p.2 c.in_err-script-in-None.ensures.refused) (λ t q. let f = sym (no_script cs) ∙ q in absurd cc))
 
 pub returns-in-None-clause-spelled : goal.returns-in-None-clause-spelled
 returns-in-None-clause-spelled g c = λ t.
@@ -37,18 +39,24 @@ returns-in_err-script-clause-err g c =
     let bytes = c.deref.result.now in
     let e = c.in_err-script.field-0.0 in
     let p = err_from_is_err_and c.from_residual-in_err-script.result c.from_residual-in_err-script.ensures.1 in
-    rw (p.1, c.in-Some.is, p.2) (stops_refused Controls (Some c.in-Some.name.now) (HasRefusal ReadScript) (λ (r : Refusal). HasScript (Some c.in-Some.name.now) (state c.args.desk.now).files cs (Err r))
-    (λ (r : Refusal). (r ≡ of_script e) × (script cs bytes ≡ Err e)) (state c.args.desk.now) (state c.read_front.new.desk) _
+    let name = c.in-Some.name.now in
+    let a = state c.args.desk.now in
+    let Says : Refusal → Type 0 = λ r. HasScript (Some name) a.files cs (Err r) in
+    rw (p.1, c.in-Some.is, p.2) (stops_refused Controls (Some name) (HasRefusal ReadScript) Says
+    (λ (r : Refusal). (r ≡ of_script e) × (script cs bytes ≡ Err e)) a (state c.read_front.new.desk) _
     (script_refused e _ ((of_script e ≡ of_script e) × (script cs bytes ≡ Err e)) refl (λ o. (refl, c.in_err-script.ensures.refused o)))
     (λ t q.
     let read = c.in-Ok.ensures.bytes t in
-    script_is c.in-Some.name.now (state c.args.desk.now).files cs read.0 bytes (Err e) (read.1 t) (c.deref.ensures.value ∙ read.2) q.1))
+    script_is name a.files cs read.0 bytes (Err e) (read.1 t) (c.deref.ensures.value ∙ read.2) q.1))
 
 pub returns-clause-spelled : goal.returns-clause-spelled
 returns-clause-spelled g c = λ t.
     let state = g.D.Desk.state in
     let read = c.in-Ok.ensures.bytes t in
-    rw c.in-Some.is (script_is c.in-Some.name.now (state c.args.desk.now).files c.args.controls.now read.0 c.deref.result.now (Ok c.in_ok-script.script) (read.1 t) (c.deref.ensures.value ∙ read.2) c.in_ok-script.ensures.spelled)
+    let files = (state c.args.desk.now).files in
+    let same = c.deref.ensures.value ∙ read.2 in
+    rw c.in-Some.is (script_is c.in-Some.name.now files c.args.controls.now read.0 c.deref.result.now (Ok c.in_ok-script.script) (read.1 t) same
+    c.in_ok-script.ensures.spelled)
 
 pub returns-clause-order : goal.returns-clause-order
 returns-clause-order g c = (c.scripts_are_lawful.ensures _ _ _ c.in_ok-script.ensures.spelled).0

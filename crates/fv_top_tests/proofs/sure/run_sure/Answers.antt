@@ -26,10 +26,10 @@ returns g c =
     let sure = c.requires.1.1.1.1.1 in
     let p = sure.plays in
     c.run_faustvec.ensures.complete (Playing g.run) sure.asks sure.tells
-    (more (λ t takes. inl (sure.unfailing Program, there _ _ p.of.file)) p.of
-    (more (λ t takes. inl (sure.unfailing Controls, found_there _ _ _ p.under.file)) (p.of, p.changes, p.under)
-    (more (λ t takes. inl (sure.unfailing Input, found_there _ _ _ p.on.file)) (p.source, p.on)
+    (more (λ t takes. inl (sure.tells, (sure.unfailing Program, there _ _ p.of.file))) p.of
+    (more (λ t takes. inl (sure.tells, (sure.unfailing Controls, found_there _ _ _ p.under.file))) (p.of, p.changes, p.under)
+    (more (λ t takes. inl (sure.tells, (sure.unfailing Input, found_there _ _ _ p.on.file))) (p.source, p.on)
     (more (λ t takes. absurd takes) p
-    (more (λ t takes. inl (sure.unfailing Input)) tt
-    (more (λ t takes. inl (sure.unfailing Output, sure.room Output)) (p, sure.whole)
-    (more (λ t takes. inl (sure.unfailing Report, sure.room Report)) tt none)))))))
+    (more (λ t takes. inl (sure.tells, sure.unfailing Input)) tt
+    (more (λ t takes. inl (sure.tells, (sure.unfailing Output, sure.room Output))) (p, sure.whole)
+    (more (λ t takes. inl (sure.tells, (sure.unfailing Report, sure.room Report))) tt none)))))))
