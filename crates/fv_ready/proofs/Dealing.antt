@@ -1,6 +1,6 @@
 -- Seats are dealt one by one.
 use Rattle.std.proofs.Common.{◌≡◌, ℕ, zero, suc, ◌+◌, ◌-◌, ◌<◌, ◌≤◌, true, false, List, [], ◌∷◌, ◌++◌}
-use Rattle.std.proofs.Common.{map, length, refl, sym, ap, ◌∙◌, subst, arith, Some, None, Option, MatchOption, vec_capacity}
+use Rattle.std.proofs.Common.{map, length, refl, sym, ap, ◌∙◌, subst, arith, Some, None, Option, MatchOption, vec_len, vec_capacity}
 use Rattle.atomic_table.specs.Seated.{TableId}
 use Rattle.atomic_table.specs.Table.{Me, Splits}
 use Rattle.fv_graph.specs.Graph.{Graph}
@@ -55,6 +55,17 @@ long_passing from (suc n) = ap suc (long_passing (suc from) n)
 module _ {C : Type 0} (a : About C) where
   abbrev pub fresh : List ℕ → Me (Option C) (View C)
   fresh ns = (record { board = Some a; numbers = ns; deeds = [] }, [])
+
+  -- the seats below i are dealt, each with one of the lists, and the last one has the other numbers
+  pub record IsDealing (id : TableId) (workers i : ℕ) (last_id : TableId) (me : Me (Option C) (View C)) (dealt : Vec (WorkerSeat C))
+      (first_lists left : Vec (Vec ℕ)) : Type 0 where
+    pub name : last_id ≡ id
+    pub last : me ≡ fresh (passing (λ _. true) (i - 1) (workers - (i - 1)))
+    pub count : vec_len dealt + 1 ≡ i
+    pub seats : (room : ℕ) → AreRoomy room first_lists.items → AreRoomy room left.items × AreNewSeats id a room 0 dealt.items
+    pub room : workers ≤ vec_capacity dealt
+    pub below : i ≤ workers
+    pub lists : vec_len left + (i - 1) ≡ workers
 
   pub deals_left : (m m' : Me (Option C) (View C)) (from n k : ℕ) → m ≡ fresh (passing (λ _. true) from n) → 0 < n → k ≡ from → m' ≡
       (left_part m.0, m.1) → m' ≡ fresh (k ∷ [])

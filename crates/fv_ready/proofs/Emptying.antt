@@ -10,6 +10,7 @@ use Rattle.fv_outside.specs.Tasks.{times}
 use Rattle.fv_graph.proofs.Counts.{total_append}
 use Rattle.fv_rule.specs.declared.Deed.{Deed}
 use Rattle.fv_rule.specs.declared.About.{About}
+use Rattle.fv_rule.specs.declared.View.{View}
 use Rattle.fv_ready.specs.declared.seat.WorkerSeat.{WorkerSeat}
 use Rattle.fv_rule.specs.Rule.{done_by}
 use Rattle.fv_ready.specs.Told.{told_by, having}
@@ -81,3 +82,12 @@ module _ {C : Type 0} where
   pub having_snoc : (k : ℕ) (ss : List (WorkerSeat C)) (s : WorkerSeat C) (all : List (WorkerSeat C)) → all ≡ ss ++ s ∷ [] → having k all ≡
       having k ss + times k s.seat.me.0.numbers
   having_snoc k ss s all e = let h = total_append (λ (s : WorkerSeat C). times k s.seat.me.0.numbers) ss (s ∷ []) in let r = ap (having k) e in omega arith
+
+-- the seats that are left and the one that took in the others have and did, taken together, what all had and did
+pub record IsGathering {C Key : Type 0} (edge_of : C → ℕ) (key_of : C → Key) (id : TableId) (a : About C) (all_id : TableId) (v : View C)
+    (first left : List (WorkerSeat C)) : Type 0 where
+  pub name : all_id ≡ id
+  pub board : v.board ≡ Some a
+  pub seats : AreSeats edge_of key_of id a left
+  pub lists : (f : Deed → ℕ) → done_by f v + told_by f left ≡ told_by f first
+  pub numbers : (k : ℕ) → times k v.numbers + having k left ≡ having k first

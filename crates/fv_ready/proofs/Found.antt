@@ -12,7 +12,8 @@ use Rattle.fv_rule.specs.Carried.{slot_at, with_slot, but_slot}
 use Rattle.fv_rule.proofs.Taking.{places_append}
 use Rattle.fv_rule.proofs.Hands.{cut_at, long_places, slot_first, with_first, but_first}
 use Rattle.fv_rule.proofs.Spins.{spun_at}
-use Rattle.fv_ready.specs.Seats.{IsPlaceOf}
+use Rattle.fv_ready.specs.declared.seat.WorkerSeat.{WorkerSeat}
+use Rattle.fv_ready.specs.Seats.{IsPlaceOf, slots_of}
 
 -- the first place of an edge
 pub record Found (edges : List ℕ) (edge place : ℕ) : Type 0 where
@@ -100,26 +101,35 @@ module _ {C : Type 0} (c : List (ℕ × Option C)) (xs ys : List ℕ) (e : ℕ) 
   pub places_but : places (but_slot c e) ≡ xs ++ ys
   places_but = ap places but_is ∙ places_append p.front p.back ∙ (λ i. p.front_at i ++ p.back_at i)
 
--- a seat's slots at the place of an edge, where a list mirrors them
-module _ {C : Type 0} (c : List (ℕ × Option C)) (items edges : List ℕ) (mirror : places c ≡ items) (same : edges ≡ items) (e place : ℕ)
-    (at : IsPlaceOf edges e place) where
-  abbrev pub placed : Parted c at.0 at.1 e
-  placed = part c at.0 at.1 e (mirror ∙ sym same ∙ at.2)
+-- a seat's list of edges mirrors its slots, and an edge stands first at a place of that list
+pub record AtPlace {C : Type 0} (s : WorkerSeat C) (edges : List ℕ) (e place : ℕ) : Type 0 where
+  pub mirror : places (slots_of s) ≡ s.edges.items
+  pub same : edges ≡ s.edges.items
+  pub at : IsPlaceOf edges e place
 
-  pub in_front : (l : List (ℕ × Option C)) → l ≡ spun place c → l ≡ (e, placed.x) ∷ (placed.back ++ placed.front)
-  in_front l is = is ∙ turned_to c at.0 at.1 e placed at.4 place at.3
+pub at_place : {C : Type 0} (s : WorkerSeat C) (edges : List ℕ) (e place : ℕ) → places (slots_of s) ≡ s.edges.items → edges ≡ s.edges.items →
+    IsPlaceOf edges e place → AtPlace s edges e place
+at_place s edges e place mirror same at = record { mirror = mirror; same = same; at = at }
 
-  pub held_is : slot_at c e ≡ placed.x
-  held_is = slot_is c at.0 at.1 e placed at.4
+module _ {C : Type 0} {s : WorkerSeat C} {edges : List ℕ} {e place : ℕ} (h : AtPlace s edges e place) where
+  abbrev pub placed : Parted (slots_of s) h.at.0 h.at.1 e
+  placed = part (slots_of s) h.at.0 h.at.1 e (h.mirror ∙ sym h.same ∙ h.at.2)
 
-  pub long_items : length items ≡ place + 1 + length at.1
-  long_items = let l = ap length (sym same ∙ at.2) ∙ length-append at.0 (e ∷ at.1) in let p = at.3 in omega arith
+  pub in_front : (l : List (ℕ × Option C)) → l ≡ spun place (slots_of s) → l ≡ (e, placed.x) ∷ (placed.back ++ placed.front)
+  in_front l is = is ∙ turned_to (slots_of s) h.at.0 h.at.1 e placed h.at.4 place h.at.3
 
-  pub back_with : (k : ℕ) (y : Option C) → k ≡ length items - place → spun k ((e, y) ∷ (placed.back ++ placed.front)) ≡ with_slot c e y
-  back_with k y is = turned_with c at.0 at.1 e placed at.4 k y (let l = long_items in omega arith)
+  pub held_is : slot_at (slots_of s) e ≡ placed.x
+  held_is = slot_is (slots_of s) h.at.0 h.at.1 e placed h.at.4
 
-  pub back_but : (k : ℕ) → k ≡ length items - 1 - place → spun k (placed.back ++ placed.front) ≡ but_slot c e
-  back_but k is = turned_but c at.0 at.1 e placed at.4 k (let l = long_items in omega arith)
+  pub long_items : length s.edges.items ≡ place + 1 + length h.at.1
+  long_items = let l = ap length (sym h.same ∙ h.at.2) ∙ length-append h.at.0 (e ∷ h.at.1) in let p = h.at.3 in omega arith
 
-  pub mirror_but : (left : List ℕ) → left ≡ remove items place → places (but_slot c e) ≡ left
-  mirror_but left is = places_but c at.0 at.1 e placed at.4 ∙ sym (is ∙ ap (λ l. remove l place) (sym same ∙ at.2) ∙ remove_at at.0 e at.1 place at.3)
+  pub back_with : (k : ℕ) (y : Option C) → k ≡ length s.edges.items - place → spun k ((e, y) ∷ (placed.back ++ placed.front)) ≡ with_slot (slots_of s) e y
+  back_with k y is = turned_with (slots_of s) h.at.0 h.at.1 e placed h.at.4 k y (let l = long_items in omega arith)
+
+  pub back_but : (k : ℕ) → k ≡ length s.edges.items - 1 - place → spun k (placed.back ++ placed.front) ≡ but_slot (slots_of s) e
+  back_but k is = turned_but (slots_of s) h.at.0 h.at.1 e placed h.at.4 k (let l = long_items in omega arith)
+
+  pub mirror_but : (left : List ℕ) → left ≡ remove s.edges.items place → places (but_slot (slots_of s) e) ≡ left
+  mirror_but left is = places_but (slots_of s) h.at.0 h.at.1 e placed h.at.4
+      ∙ sym (is ∙ ap (λ l. remove l place) (sym h.same ∙ h.at.2) ∙ remove_at h.at.0 e h.at.1 place h.at.3)

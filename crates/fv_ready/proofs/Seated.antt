@@ -26,7 +26,9 @@ use Rattle.fv_rule.proofs.Hands.{exchange_busy, arrive_free, free_turned, finish
 use Rattle.fv_rule.proofs.Leaving.{leads, parts, dropped}
 use Rattle.fv_ready.specs.declared.seat.InHand.{InHand}
 use Rattle.fv_ready.specs.declared.seat.WorkerSeat.{WorkerSeat}
-use Rattle.fv_ready.specs.Seats.{view_of, slots_of, IsSeat}
+use Rattle.fv_ready.specs.declared.board.Board.{Board}
+use Rattle.fv_ready.specs.Seats.{view_of, slots_of, hand_of, IsSeat}
+use Rattle.fv_ready.specs.Boards.{about_of, tasks_of, IsHanded, IsSeatOf}
 use Rattle.fv_ready.proofs.Found.{Parted, but_is}
 
 module _ {C Key : Type 0} (edge_of : C → ℕ) (key_of : C → Key) (a : About C) where
@@ -67,13 +69,6 @@ module _ {C Key : Type 0} (edge_of : C → ℕ) (key_of : C → Key) (a : About 
       owes : (k : ℕ) → 0 < k → bit (ltb 0 k) ≡ 1
       owes k l = ap bit (lt-ltb 0 k l)
 
-  pub hand_free : (o : Option InHand) (v : View C) (c : List (ℕ × Option C)) → o ≡ None → Hand o v c → IsFree graph_wires edge_of key_of a v c
-  hand_free o v c is h = subst (λ o. Hand o v c) is h
-
-  pub hand_busy : (o : Option InHand) (v : View C) (c : List (ℕ × Option C)) (r : InHand) → o ≡ Some r → Hand o v c → IsBusy graph_wires
-      edge_of key_of a r.task r.started v c
-  hand_busy o v c r is h = subst (λ o. Hand o v c) is h
-
 -- a task has at most one edge for each pair, and one more, on either side
 long_passing : (p : ℕ → Bool) (from n : ℕ) → length (passing p from n) ≤ n
 long_passing p from zero = omega arith
@@ -110,22 +105,31 @@ module _ {C Key : Type 0} (edge_of : C → ℕ) (key_of : C → Key) (a : About 
     hand = subst (λ (p : View C × List (ℕ × Option C)). Hand edge_of key_of a t.in_hand p.0 p.1) (λ i. (sym view i, sym slots i)) hand;
   }
 
--- what the board's tasks are by the name that the code has for them
-pub graph_of : {C : Type 0} (a : About C) (g : Graph) → a.tasks.value ≡ g → IsGraph g.tasks → IsGraph a.tasks.value.tasks
-graph_of a g told h = subst (λ (k : Graph). IsGraph k.tasks) (sym told) h
+-- what a board was told of its tasks, which the code has by another name
+module _ {C Key : Type 0} (b : Board C Key) where
+  pub told_graph : IsGraph (about_of b).tasks.value.tasks
+  told_graph = subst (λ (k : Graph). IsGraph k.tasks) (sym b.told) b.graph
 
-pub below_of : {C : Type 0} (a : About C) (g : Graph) (t : ℕ) → a.tasks.value ≡ g → t < task_count g.tasks → t < task_count a.tasks.value.tasks
-below_of a g t told h = subst (λ (k : Graph). t < task_count k.tasks) (sym told) h
+  pub told_below : (t : ℕ) → t < task_count (tasks_of b) → t < task_count (about_of b).tasks.value.tasks
+  told_below t h = subst (λ (k : Graph). t < task_count k.tasks) (sym b.told) h
 
-pub few_of : {C : Type 0} (a : About C) (g : Graph) → a.tasks.value ≡ g → task_count g.tasks < 2 ^ 62 → task_count a.tasks.value.tasks < 2 ^ 62
-few_of a g told h = subst (λ (k : Graph). task_count k.tasks < 2 ^ 62) (sym told) h
+  pub told_few : task_count (about_of b).tasks.value.tasks < 2 ^ 62
+  told_few = let p = b.few.0 in let q = b.few.1 in subst (λ (k : Graph). task_count k.tasks < 2 ^ 62) (sym b.told) (omega arith)
+
+module _ {C Key : Type 0} (edge_of : C → ℕ) (key_of : C → Key) (b : Board C Key) (s : WorkerSeat C) (h : IsSeatOf edge_of key_of b s) where
+  -- the task in hand
+  pub busy_of : (r : InHand) → hand_of s ≡ Some r → IsBusy graph_wires edge_of key_of (about_of b) r.task r.started (view_of s) (slots_of s)
+  busy_of r is = subst (λ o. Hand edge_of key_of (about_of b) o (view_of s) (slots_of s)) is h.hand
+
+  -- no task in hand
+  pub free_of : hand_of s ≡ None → IsFree graph_wires edge_of key_of (about_of b) (view_of s) (slots_of s)
+  free_of is = subst (λ o. Hand edge_of key_of (about_of b) o (view_of s) (slots_of s)) is h.hand
+
+  pub owes_nothing : hand_of s ≡ None → slots_of s ≡ [] → OwesNothing (net_of (about_of b).tasks.value.tasks) (view_of s)
+  owes_nothing is empty = free_owes graph_wires edge_of key_of (about_of b) (view_of s)
+      (subst (λ l. IsFree graph_wires edge_of key_of (about_of b) (view_of s) l) empty (free_of is))
 
 module _ {C Key : Type 0} (edge_of : C → ℕ) (key_of : C → Key) (a : About C) where
-  pub owes_nothing : (o : Option InHand) (v : View C) (c : List (ℕ × Option C)) → o ≡ None → c ≡ [] → Hand edge_of key_of a o v c →
-      OwesNothing (net_of a.tasks.value.tasks) v
-  owes_nothing o v c none' empty h = free_owes graph_wires edge_of key_of a v
-      (subst (λ l. IsFree graph_wires edge_of key_of a v l) empty (hand_free edge_of key_of a o v c none' h))
-
   -- a claim that is lost
   pub hand_lost : (v : View C) (c : List (ℕ × Option C)) (t : ℕ) → Hand edge_of key_of a None v c → Hand edge_of key_of a None (noted v (Claimed t false)) c
   hand_lost v c t h = free_noted graph_wires edge_of key_of a v c (Claimed t false) (λ x. refl) (λ x. refl) (λ x. refl) h
@@ -172,10 +176,11 @@ module _ {C Key : Type 0} (edge_of : C → ℕ) (key_of : C → Key) (a : About 
       (λ s. let m = h.0 p (subst (λ b. cond b x.1 (slot_at xs e) ≡ Some p) (eq-eqb x.0 e s) is) in (m.0 ∙ s, m.1))
       (λ n. may_at xs e p h.1 (subst (λ b. cond b x.1 (slot_at xs e) ≡ Some p) (ne_eqb x.0 e n) is))
 
--- the parcels that are handed, where the code has another name for the board's tasks
-pub handed_as : {C Key : Type 0} (edge_of : C → ℕ) (key_of : C → Key) (a : About C) (g : Graph) (t : ℕ) (c : List (ℕ × Option C)) → a.tasks.value ≡ g →
-    ((e : ℕ) → 0 < times e (outward g.tasks t) → (p : C) × (slot_at c e ≡ Some p)) → AreHanded graph_wires edge_of key_of a t c
-handed_as {C} edge_of key_of a g t c told h = subst (λ (k : Graph). (e : ℕ) → 0 < times e (outward k.tasks t) → (p : C) × (slot_at c e ≡ Some p)) (sym told) h
+-- the parcels that are handed, of the tasks that the board was told
+pub told_handed : {C Key : Type 0} (edge_of : C → ℕ) (key_of : C → Key) (b : Board C Key) (t : ℕ) (s : WorkerSeat C) → IsHanded b t s →
+    AreHanded graph_wires edge_of key_of (about_of b) t (slots_of s)
+told_handed {C} edge_of key_of b t s h =
+    subst (λ (k : Graph). (e : ℕ) → 0 < times e (outward k.tasks t) → (p : C) × (slot_at (slots_of s) e ≡ Some p)) (sym b.told) h
 
 -- the edges that a task owes are among its edges
 pub feeds_fit : {C : Type 0} (a : About C) (g : Graph) (t : ℕ) → a.tasks.value ≡ g → length (feeds_of g.tasks t) ≤ length
@@ -187,19 +192,23 @@ either_first : (x y z : Bool) → x ≡ true → (x || y || z) ≡ true
 either_first true y z e = refl
 either_first false y z e = absurd (true≢false (sym e))
 
--- an edge that a seat owes, where the code has another name for the board's tasks
-pub record IsDue {C : Type 0} (a : About C) (v : View C) (e : ℕ) : Type 0 where
+-- an edge that a seat owes: it has no task in hand, and has the edge's slot
+pub record Owes {C Key : Type 0} (edge_of : C → ℕ) (key_of : C → Key) (a : About C) (s : WorkerSeat C) (e : ℕ) : Type 0 where
   pub inner : (net_of a.tasks.value.tasks).is_inner e ≡ true
-  pub done : 0 < done_by (finishes ((net_of a.tasks.value.tasks).source e)) v
-  pub new : done_by (arrives e) v ≡ 0
+  pub done : 0 < done_by (finishes ((net_of a.tasks.value.tasks).source e)) (view_of s)
+  pub new : done_by (arrives e) (view_of s) ≡ 0
+  pub hand : hand_of s ≡ None
+  pub has : 0 < times e (places (slots_of s))
+  pub free : IsFree graph_wires edge_of key_of a (view_of s) (slots_of s)
 
-pub due : {C : Type 0} (a : About C) (g : Graph) (v : View C) (e : ℕ) → a.tasks.value ≡ g → (net_of g.tasks).is_inner e ≡ true →
-    (0 < done_by (finishes ((net_of g.tasks).source e)) v) × (done_by (arrives e) v ≡ 0) → IsDue a v e
-due a g v e told inner owed = record {
-  inner = subst (λ (k : Graph). (net_of k.tasks).is_inner e ≡ true) (sym told) inner;
-  done = subst (λ (k : Graph). 0 < done_by (finishes ((net_of k.tasks).source e)) v) (sym told) owed.0;
-  new = owed.1;
-}
+pub owes_of : {C Key : Type 0} (edge_of : C → ℕ) (key_of : C → Key) (b : Board C Key) (s : WorkerSeat C) (e : ℕ) → IsSeatOf edge_of key_of b s →
+    (net_of (tasks_of b)).is_inner e ≡ true → (0 < done_by (finishes ((net_of (tasks_of b)).source e)) (view_of s)) × (done_by (arrives e) (view_of s) ≡ 0)
+    → Owes edge_of key_of (about_of b) s e
+owes_of edge_of key_of b s e h inner owed =
+    let inner' = subst (λ (k : Graph). (net_of k.tasks).is_inner e ≡ true) (sym b.told) inner in
+    let done' = subst (λ (k : Graph). 0 < done_by (finishes ((net_of k.tasks).source e)) (view_of s)) (sym b.told) owed.0 in
+    let o = hand_owes edge_of key_of (about_of b) (hand_of s) (view_of s) (slots_of s) e inner' done' owed.1 h.hand in
+    record { inner = inner'; done = done'; new = owed.1; hand = o.0; has = o.1; free = free_of edge_of key_of b s h o.0 }
 
 -- an inner edge is an edge, and its reader a task
 pub inner_fits : (g : Tasks) → IsGraph g → (e : ℕ) → (net_of g).is_inner e ≡ true → (e < edges_of g) × (reader_of g e < task_count g)

@@ -8,7 +8,7 @@ use Rattle.fv_rule.specs.Carried.{IsFree}
 use Rattle.fv_rule.specs.declared.Deed.TheVariants.{Claimed}
 use Rattle.fv_rule.proofs.Claim.{tell}
 use Rattle.fv_rule.proofs.Claims.{claims_whole_at}
-use Rattle.fv_ready.proofs.Seated.{graph_of, below_of, owes_nothing, hand_free, hand_none, hand_lost, won_busy, lost_slots, seat_after}
+use Rattle.fv_ready.proofs.Seated.{told_graph, told_below, owes_nothing, free_of, hand_none, hand_lost, won_busy, lost_slots, seat_after}
 use Rattle.fv_ready.proofs.board.Board.claim.Goals as goal
 
 pub swap-found-requires : goal.swap-found-requires
@@ -18,19 +18,19 @@ swap-found-requires g c = let b = c.args.self.now in let s = c.requires.seat in 
   claims_whole_at graph_wires g.C.Parcel.edge_of g.C.Parcel.key_of a old.seat.me c.args.t old.seat.id s.board b.table.shared.table_id.slots _
       (b.sized.1 ∙ ap (λ (h : Graph). edges_of h.tasks) (sym b.told)) (ap (λ k. 1 + k + c.args.t)
       (c.len-n.ensures.value ∙ ap (λ (h : Graph). task_count h.tasks) (sym b.told)))
-      (is_wires a.tasks.value.tasks (graph_of a b.tasks.now b.told b.graph)) (below_of a b.tasks.now c.args.t b.told c.requires.ready.0) c.requires.ready.1
-      (owes_nothing g.C.Parcel.edge_of g.C.Parcel.key_of a old.in_hand old.seat.me.0 old.seat.me.1 c.requires.free.0 c.requires.free.1 s.hand),
+      (is_wires a.tasks.value.tasks (told_graph b)) (told_below b c.args.t c.requires.ready.0) c.requires.ready.1
+      (owes_nothing g.C.Parcel.edge_of g.C.Parcel.key_of b old s c.requires.free.0 c.requires.free.1),
 )
 
 pub append-requires : goal.append-requires
 append-requires g c = let b = c.args.self.now in let s = c.requires.seat in let old = c.args.seat.now in
-    let r = s.room c.args.t (below_of b.table.shared.key b.tasks.now c.args.t b.told c.requires.ready.0) in
+    let r = s.room c.args.t (told_below b c.args.t c.requires.ready.0) in
     let m = ap length (sym s.mirror ∙ ap places c.requires.free.1) in let k = old.edges.ok.0 in
     let i = ap length c.inward.ensures in let j = ap (λ (h : Graph). length (inward h.tasks c.args.t)) b.told in omega arith
 
 pub append-requires-2 : goal.append-requires-2
 append-requires-2 g c = let b = c.args.self.now in let s = c.requires.seat in let old = c.args.seat.now in
-    let r = s.room c.args.t (below_of b.table.shared.key b.tasks.now c.args.t b.told c.requires.ready.0) in
+    let r = s.room c.args.t (told_below b c.args.t c.requires.ready.0) in
     let m = ap length (sym s.mirror ∙ ap places c.requires.free.1) in let k = old.edges.ok.0 in let n = c.append.new.list.ok.0 in
     let l = ap length c.append.ensures.items ∙ length-append old.edges.items c.inward.result.now in let p = c.append.ensures.room in
     let i = ap length c.inward.ensures in let j = ap (λ (h : Graph). length (inward h.tasks c.args.t)) b.told in
@@ -42,7 +42,7 @@ returns-then-found-ne0-clause-seat g c =
     let x = tell graph_wires g.C.Parcel.edge_of g.C.Parcel.key_of a old.seat.me c.swap-found.new.seat.me b.table.shared.table_id.slots
     c.len-n.result c.args.t c.swap-found.result s.board (c.len-n.ensures.value ∙ ap (λ (h : Graph). task_count h.tasks) (sym b.told)) r.2 in
     let no_win : (c.swap-found.result == 0) ≡ false = ne_eqb c.swap-found.result 0 c.if-found-ne0.true in
-    let free = hand_free g.C.Parcel.edge_of g.C.Parcel.key_of a old.in_hand old.seat.me.0 old.seat.me.1 c.requires.free.0 s.hand in
+    let free = free_of g.C.Parcel.edge_of g.C.Parcel.key_of b old s c.requires.free.0 in
     seat_after g.C.Parcel.edge_of g.C.Parcel.key_of a b.table.shared.table_id old _ (noted old.seat.me.0 (Claimed c.args.t false)) [] s r.0
     (x.0 ∙ ap (λ w. noted old.seat.me.0 (Claimed c.args.t w)) no_win)
     (lost_slots g.C.Parcel.edge_of g.C.Parcel.key_of a (c.swap-found.result == 0) c.args.t old.seat.me c.swap-found.new.seat.me no_win x.1
@@ -58,8 +58,8 @@ returns-clause-seat g c =
     c.len-n.result c.args.t c.swap-found.result s.board (c.len-n.ensures.value ∙ ap (λ (h : Graph). task_count h.tasks) (sym b.told)) r.2 in
     let win : (c.swap-found.result == 0) ≡ true = eq-eqb c.swap-found.result 0 c.if-found-ne0.false in
     let busy = won_busy g.C.Parcel.edge_of g.C.Parcel.key_of a (c.swap-found.result == 0) c.args.t old.seat.me c.swap-found.new.seat.me win
-    x.1 c.requires.free.1 (below_of a b.tasks.now c.args.t b.told c.requires.ready.0)
-    (owes_nothing g.C.Parcel.edge_of g.C.Parcel.key_of a old.in_hand old.seat.me.0 old.seat.me.1 c.requires.free.0 c.requires.free.1 s.hand) in
+    x.1 c.requires.free.1 (told_below b c.args.t c.requires.ready.0)
+    (owes_nothing g.C.Parcel.edge_of g.C.Parcel.key_of b old s c.requires.free.0 c.requires.free.1) in
     let empty = sym s.mirror ∙ ap places c.requires.free.1 in
     seat_after g.C.Parcel.edge_of g.C.Parcel.key_of a b.table.shared.table_id old _ (noted old.seat.me.0 (Claimed c.args.t true))
     c.swap-found.new.seat.me.1 s r.0 (x.0 ∙ ap (λ w. noted old.seat.me.0 (Claimed c.args.t w)) win) refl s.board

@@ -5,48 +5,48 @@ use Rattle.fv_rule.specs.Wired.{graph_wires}
 use Rattle.fv_rule.specs.Rule.{noted, going}
 use Rattle.fv_rule.specs.declared.Deed.TheVariants.{Stamped}
 use Rattle.fv_rule.proofs.Leaving.{leads, leaving}
-use Rattle.fv_ready.proofs.Seated.{graph_of, handed_as, few_of, feeds_fit, hand_busy, seat_after, hand_finished, places_left}
+use Rattle.fv_ready.proofs.Seated.{told_graph, told_handed, told_few, feeds_fit, busy_of, seat_after, hand_finished, places_left}
 use Rattle.fv_ready.proofs.board.Board.finish.Goals as goal
 
 pub fetch_add-number-requires : goal.fetch_add-number-requires
 fetch_add-number-requires g c = let b = c.args.self.now in let s = c.requires.seat in let a = b.table.shared.key in let old = c.args.seat.now in
-    let busy = hand_busy g.C.Parcel.edge_of g.C.Parcel.key_of a old.in_hand old.seat.me.0 old.seat.me.1 _ c.requires.hand s.hand in
-    let handed = handed_as g.C.Parcel.edge_of g.C.Parcel.key_of a b.tasks.now c.args.task old.seat.me.1 b.told c.requires.handed in (
+    let busy = busy_of g.C.Parcel.edge_of g.C.Parcel.key_of b old s _ c.requires.hand in
+    let handed = told_handed g.C.Parcel.edge_of g.C.Parcel.key_of b c.args.task old c.requires.handed in (
       s.name,
       (let z = b.sized.0 in omega arith),
-      leaving graph_wires g.C.Parcel.edge_of g.C.Parcel.key_of a (is_wires a.tasks.value.tasks (graph_of a b.tasks.now b.told b.graph))
+      leaving graph_wires g.C.Parcel.edge_of g.C.Parcel.key_of a (is_wires a.tasks.value.tasks (told_graph b))
           old.seat.me.0 old.seat.me.1 c.args.task busy handed (leads a.tasks.value.tasks c.args.task)
-          old.seat.id b.table.shared.table_id.slots s.board (few_of a b.tasks.now b.told (let p = b.few.0 in let q = b.few.1 in omega arith)),
+          old.seat.id b.table.shared.table_id.slots s.board (told_few b),
     )
 
 pub returns-clause-list : goal.returns-clause-list
 returns-clause-list g c = let b = c.args.self.now in let s = c.requires.seat in let old = c.args.seat.now in
     (c.fetch_add-number.ensures.2 b.table.shared.key s.board c.args.task
-    (hand_busy g.C.Parcel.edge_of g.C.Parcel.key_of b.table.shared.key old.in_hand old.seat.me.0 old.seat.me.1 _ c.requires.hand s.hand).last).0
+    (busy_of g.C.Parcel.edge_of g.C.Parcel.key_of b old s _ c.requires.hand).last).0
 
 pub returns-clause-above : goal.returns-clause-above
 returns-clause-above g c = let b = c.args.self.now in let s = c.requires.seat in let old = c.args.seat.now in
     (c.fetch_add-number.ensures.2 b.table.shared.key s.board c.args.task
-    (hand_busy g.C.Parcel.edge_of g.C.Parcel.key_of b.table.shared.key old.in_hand old.seat.me.0 old.seat.me.1 _ c.requires.hand s.hand).last).2
+    (busy_of g.C.Parcel.edge_of g.C.Parcel.key_of b old s _ c.requires.hand).last).2
 
 pub returns-clause-slots : goal.returns-clause-slots
 returns-clause-slots g c = let b = c.args.self.now in let s = c.requires.seat in let old = c.args.seat.now in
     (c.fetch_add-number.ensures.2 b.table.shared.key s.board c.args.task
-    (hand_busy g.C.Parcel.edge_of g.C.Parcel.key_of b.table.shared.key old.in_hand old.seat.me.0 old.seat.me.1 _ c.requires.hand s.hand).last).1 ∙ ap
+    (busy_of g.C.Parcel.edge_of g.C.Parcel.key_of b old s _ c.requires.hand).last).1 ∙ ap
     (λ (k : Graph). drop (length (inward k.tasks c.args.task) + (length (outward k.tasks c.args.task) - length (feeds_of k.tasks c.args.task)))
     old.seat.me.1) b.told
 
 pub append-requires : goal.append-requires
 append-requires g c = let b = c.args.self.now in let s = c.requires.seat in let a = b.table.shared.key in let old = c.args.seat.now in
-    let busy = hand_busy g.C.Parcel.edge_of g.C.Parcel.key_of a old.in_hand old.seat.me.0 old.seat.me.1 _ c.requires.hand s.hand in
+    let busy = busy_of g.C.Parcel.edge_of g.C.Parcel.key_of b old s _ c.requires.hand in
     let r = s.room c.args.task busy.there in let f = feeds_fit a b.tasks.now c.args.task b.told in let k = c.clear.ensures in
     let l = ap length c.feeds.ensures in omega arith
 
 pub returns-clause-seat : goal.returns-clause-seat
 returns-clause-seat g c = let b = c.args.self.now in let s = c.requires.seat in let a = b.table.shared.key in let old = c.args.seat.now in
-    let busy = hand_busy g.C.Parcel.edge_of g.C.Parcel.key_of a old.in_hand old.seat.me.0 old.seat.me.1 _ c.requires.hand s.hand in
-    let graph = graph_of a b.tasks.now b.told b.graph in
-    let handed = handed_as g.C.Parcel.edge_of g.C.Parcel.key_of a b.tasks.now c.args.task old.seat.me.1 b.told c.requires.handed in
+    let busy = busy_of g.C.Parcel.edge_of g.C.Parcel.key_of b old s _ c.requires.hand in
+    let graph = told_graph b in
+    let handed = told_handed g.C.Parcel.edge_of g.C.Parcel.key_of b c.args.task old c.requires.handed in
     let told = c.fetch_add-number.ensures.2 a s.board c.args.task busy.last in
     seat_after g.C.Parcel.edge_of g.C.Parcel.key_of a b.table.shared.table_id old _
     (noted old.seat.me.0 (Stamped c.fetch_add-number.result c.args.task false))
