@@ -28,7 +28,7 @@ pub(crate) fn all_code(
     requires { (j : ℕ) → AreSound lanes (code_in codes.now j) }
     ensures { IfOk result (λ all. AreCoded codes.now (length codes.now) all.items) }
 {
-    let mut all = Vec::new(alloc);
+    let mut all = Vec::with_capacity(alloc, codes.len())?;
     for steps in codes {
         all.push(code(alloc, steps, lanes)?)?;
     }

@@ -19,7 +19,7 @@ pub(crate) fn infos(
     requires signals { All (λ s. s < length histories.now) signals.now }
     ensures { IfOk result (λ infos. AreInfos signals.now owners.now histories.now (length signals.now) infos.items) }
 {
-    let mut infos = Vec::new(alloc);
+    let mut infos = Vec::with_capacity(alloc, signals.len())?;
     for l in 0..signals.len() {
         infos.push(LaneInfo {
             owner: owners[l],
@@ -40,7 +40,7 @@ pub(crate) fn output_lanes(
     requires stands { All (λ s. s < length lanes.now) stands.now }
     ensures { IfOk result (λ list. list.items ≡ map (lane_of_output stands.now lanes.now) outputs.now) }
 {
-    let mut list = Vec::new(alloc);
+    let mut list = Vec::with_capacity(alloc, outputs.len())?;
     for output in outputs {
         let stand = stands[output.number() as usize];
         list.push(lanes[stand.number() as usize].unwrap_or(0))?;

@@ -12,7 +12,7 @@ use std::process::Abort;
 use std::test::Fail;
 
 // The plan of a graph.
-fn plan_of(alloc: Global, graph: &Graph) -> Result<Plan, AllocError> {
+pub fn plan_of(alloc: Global, graph: &Graph) -> Result<Plan, AllocError> {
     let rates = rates(alloc, graph)?;
     let histories = largest_delays(alloc, graph)?;
     split(alloc, graph, &rates, &histories)
@@ -216,5 +216,51 @@ fn a_member_of_a_member(rt: HostRuntime) -> Result<(), Fail> {
     assert_eq!(rt; plan.outputs(), [0].as_slice());
     // Input, number, load, addition, append.
     assert_steps(&rt, &plan, &[5]);
+    Ok(())
+}
+
+// `_ <: @(0), _`: the delay is in a loop of its own, which reads the input's lane now.
+#[test]
+fn a_delay_of_nothing_beside_its_signal(rt: HostRuntime) -> Result<(), Fail> {
+    let mut builder = Builder::new(rt.alloc());
+    let input = builder.node(Signal::Input(0))?;
+    let zero = builder.node(Signal::Const(0))?;
+    let same = builder.node(Signal::Delay {
+        x: input,
+        d: zero,
+        max: 0,
+    })?;
+    let graph = builder.finish(&[same, input])?;
+    let plan = plan_of(rt.alloc(), &graph)?;
+    assert_eq!(rt; plan.lanes(), [lane(0, 0), lane(1, 0)].as_slice());
+    assert_eq!(rt; plan.outputs(), [1, 0].as_slice());
+    // Input, append; number, load, the greater of the load and itself, append.
+    assert_steps(&rt, &plan, &[2, 4]);
+    Ok(())
+}
+
+// `(+ ~ _) ~ (+(1))`: both groups have one definition, so there is one loop with one lane.
+#[test]
+fn feedback_around_feedback(rt: HostRuntime) -> Result<(), Fail> {
+    let mut builder = Builder::new(rt.alloc());
+    let inner = builder.group()?;
+    let outer = builder.group()?;
+    let last = builder.node(Signal::Back { group: outer, i: 0 })?;
+    let one = builder.node(Signal::Const(1))?;
+    let args = [last, one, last, last];
+    let more = builder.node(Signal::Point { op: Op::Add, args })?;
+    let before = builder.node(Signal::Back { group: inner, i: 0 })?;
+    let args = [before, more, before, before];
+    let sum = builder.node(Signal::Point { op: Op::Add, args })?;
+    builder.close_group(inner, &[sum])?;
+    let member = builder.node(Signal::Member { group: inner, i: 0 })?;
+    builder.close_group(outer, &[member])?;
+    let output = builder.node(Signal::Member { group: outer, i: 0 })?;
+    let graph = builder.finish(&[output])?;
+    let plan = plan_of(rt.alloc(), &graph)?;
+    assert_eq!(rt; plan.lanes(), [lane(0, 1)].as_slice());
+    assert!(rt; plan.reads().is_empty());
+    // Number, load, held, addition; number, load, addition, append.
+    assert_steps(&rt, &plan, &[8]);
     Ok(())
 }
