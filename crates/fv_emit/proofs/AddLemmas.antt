@@ -178,6 +178,7 @@ own_other t regs j s old new n w k e d c g p r u is home means ended h en =
     (u.bases s is.within).0) (go k refl) h
   where
     go : (q : Kind) → k ≡ q → IsKnown r (known_at t.homes.items j s) k s
+    go (kind.Number a) z = subst (λ a. IsKnown r (known_at t.homes.items j s) a s) (sym z) tt
     go (kind.Held a) z = subst (λ a. IsKnown r (known_at t.homes.items j s) a s) (sym z) tt
     go (kind.Lane a) z = absurd (subst IsBase (sym e ∙ z) (u.bases s is.within).1)
     go (kind.Input a) z = subst (λ a. IsKnown r (known_at t.homes.items j s) a s) (sym z) tt

@@ -61,6 +61,7 @@ module _ (g : Graph) (p : Names) (r : Roles) (t : Tables) (j s : ℕ) (u : Suits
       inside = stand_below g u.ordered (length g.signals) o (omega arith) (omega arith)
 
       go : (k : Kind) → kind_of t.kinds.items (stand g o) ≡ k → IsKnown r known k (stand g o)
+      go (kind.Number n) e = tt
       go (kind.Held n) e = tt
       go (kind.Lane m) e = λ own. lane_known o m b (subst (λ k. KindFits g p k (stand g o)) e (u.kinds (stand g o) (omega (arith, inside)))) own
       go (kind.Input i) e = tt

@@ -86,7 +86,7 @@ pub means_load : (regs : List ℕ) (steps : List Step) (s : ℕ) (k : Kind) (own
     length steps < length means → mean_at means (length steps) ≡ Literal (pos n) → LoadFits g p r ended means l (length steps) max (Value s)) →
     MeansNow regs steps ((steps ++ step.Number (pos n) ∷ []) ++ step.Load l (length steps) max ∷ []) s (length steps + 1) k own
 means_load regs steps s k own n l max may is g p r known means ended o loaded f i h =
-    let one = serves_push g p r known regs steps means ended (step.Number (pos n)) (Literal (pos n)) h refl in
+    let one = serves_push g p r known regs steps means ended (step.Number (pos n)) (Literal (pos n)) h (inl refl) in
     let lit = means_last g p r known regs steps means ended (Literal (pos n)) h in
     let there : length steps < length (means ++ Literal (pos n) ∷ []) =
     omega (arith, length_push means (Literal (pos n)), long_means g p r known regs steps means ended h) in
@@ -102,6 +102,10 @@ means_load regs steps s k own n l max may is g p r known means ended o loaded f 
     )
 
 -- ---- the kinds
+
+pub means_number : (regs : List ℕ) (steps : List Step) (s : ℕ) (n : ℤ) (own : ℕ → Bool) →
+    MeansNow regs steps (steps ++ step.Number n ∷ []) s (length steps) (kind.Number n) own
+means_number regs steps s n own = means_step regs steps s (kind.Number n) own (step.Number n) (λ g p r means ended l f. (inr (s, f, refl), refl))
 
 pub means_held : (regs : List ℕ) (steps : List Step) (s k : ℕ) (own : ℕ → Bool) → MeansNow regs steps (steps ++ step.Held k ∷ []) s (length steps) (kind.Held k) own
 means_held regs steps s k own = means_step regs steps s (kind.Held k) own (step.Held k) (λ g p r means ended l f. ((f.0, ap Value (sym f.1)), refl))

@@ -6,7 +6,7 @@ use Rattle.fv_loopcode.specs.declared.step.Step.{Step}
 use Rattle.fv_loopcode.specs.Obeys.{Roles, nothing, done_after}
 use Rattle.fv_components.specs.Reach.{at}
 use Rattle.fv_analysis.specs.Stands.{stand, StandsAt}
-use Rattle.fv_plan.specs.Fits.{Mean, Value, mean_at, Names, StepFits}
+use Rattle.fv_plan.specs.Fits.{Mean, Value, mean_at, Names, IsAlways, StepFits}
 use Rattle.fv_emit.specs.declared.kind.Kind.{Kind}
 use Rattle.fv_emit.specs.declared.kind.Kind.TheVariants as kind
 
@@ -22,6 +22,7 @@ pub record Serves (g : Graph) (p : Names) (r : Roles) (known : ℕ → Bool) (re
 
 -- what a signal is to the loops
 abbrev pub KindFits : Graph → Names → Kind → ℕ → Type 0
+KindFits g p (kind.Number n) s = IsAlways g s n
 KindFits g p (kind.Held k) s = (k < p.count) × (p.held k ≡ s)
 KindFits g p (kind.Lane l) s = p.lane l ≡ s
 KindFits g p (kind.Input i) s = StandsAt g s (signal.Input i)
@@ -31,6 +32,7 @@ KindFits g p kind.Inner s = Unit {0}
 
 -- it has to be known, where its register is read
 abbrev pub IsKnown : Roles → (known : ℕ → Bool) → Kind → ℕ → Type 0
+IsKnown r known (kind.Number n) s = Unit {0}
 IsKnown r known (kind.Held k) s = Unit {0}
 IsKnown r known (kind.Lane l) s = r.own l ≡ true → known s ≡ true
 IsKnown r known (kind.Input i) s = Unit {0}
@@ -39,6 +41,7 @@ IsKnown r known kind.Inner s = known s ≡ true
 
 -- its lane may be loaded, where it is
 abbrev pub IsLoaded : Roles → Kind → Type 0
+IsLoaded r (kind.Number n) = Unit {0}
 IsLoaded r (kind.Held k) = Unit {0}
 IsLoaded r (kind.Lane l) = r.own l ≡ false → r.loaded l ≡ true
 IsLoaded r (kind.Input i) = Unit {0}
@@ -58,6 +61,7 @@ owned_by owners j l = nat_lt l (length owners) && nat_eq (at owners l) j
 
 -- the kind's lane is there
 abbrev pub IsKindWithin : (lanes : ℕ) → Kind → Type 0
+IsKindWithin n (kind.Number k) = Unit {0}
 IsKindWithin n (kind.Held k) = Unit {0}
 IsKindWithin n (kind.Lane l) = l < n
 IsKindWithin n (kind.Input i) = Unit {0}

@@ -18,6 +18,7 @@ use Rattle.fv_emit.specs.Emits.{Serves, KindFits, IsLoaded, IsKindWithin, kind_o
 
 -- what a signal is without its lane
 abbrev pub IsBase : Kind → Type 0
+IsBase (kind.Number n) = Unit {0}
 IsBase (kind.Held k) = Unit {0}
 IsBase (kind.Lane l) = ⊥
 IsBase (kind.Input i) = Unit {0}

@@ -218,13 +218,16 @@ fn add(
     append(code, tables.lanes[s as usize], register)
 }
 
+// Few loops have more steps: so many have room before the code of a loop grows.
+const STEPS_AT_FIRST: usize = 16;
+
 // No code for each loop.
 fn no_codes(alloc: Global, loops: u64) -> Result<Vec<Vec<Step>>, AllocError>
     ensures { IfOk result (λ codes. (length codes.items ≡ loops) × ((j : ℕ) → code_in codes.items j ≡ [])) }
 {
-    let mut codes = Vec::new(alloc);
+    let mut codes = Vec::with_capacity(alloc, loops as usize)?;
     for _ in 0..loops {
-        codes.push(Vec::new(alloc))?;
+        codes.push(Vec::with_capacity(alloc, STEPS_AT_FIRST)?)?;
     }
     Ok(codes)
 }

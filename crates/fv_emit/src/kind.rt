@@ -3,6 +3,8 @@
 /// What a signal is to the code that reads it.
 #[derive(Clone, Copy, PartialEq, Eq, Debug)]
 pub enum Kind {
+    /// This number, always.
+    Number(i32),
     /// A held value, by its number.
     Held(u64),
     /// It has this lane.

@@ -49,6 +49,7 @@ pub(crate) fn operand(
     ensures { IfOk result (λ w. MeansNow registers.now code.old.items code.new.items signal w kind (owned_by owners.now own)) }
 {
     match kind {
+        Kind::Number(n) => push(code, Step::Number(n)),
         Kind::Held(k) => push(code, Step::Held(k)),
         Kind::Lane(lane) => {
             if owners[lane as usize] == own {

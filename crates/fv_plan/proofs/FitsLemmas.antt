@@ -160,7 +160,8 @@ module _ (g : Graph) (ordered : IsOrdered g) (p : Names) (r : Roles) (X : List F
 
   step_gives : (done : ℕ → Bool) (ms : List Mean) (s : Step) (m : Mean) → StepFits g p r done ms s m → StepGives done ms s m
   unfolding meant
-  step_gives done ms (step.Number n) m h = record { obeys = tt; gives = sym (ap meant h) }
+  step_gives done ms (step.Number n) m (inl h) = record { obeys = tt; gives = sym (ap meant h) }
+  step_gives done ms (step.Number n) m (inr h) = record { obeys = tt; gives = sym (h.1 X c t) ∙ sym (ap meant h.2) }
   step_gives done ms (step.Held k) m h = record { obeys = tt; gives = sym (ap meant h.1) }
   step_gives done ms (step.Input i) m h = record { obeys = tt; gives = sym (node_is h.0 (signal.Input i) h.1 t) ∙ sym (ap meant h.2) }
   step_gives done ms (step.Point op args) m h = record { obeys = tt; gives = point_gives ms op args m h }

@@ -1,5 +1,5 @@
 -- When the code of a loop fits a graph: each of its registers is for something (this project's profile).
-use Rattle.std.specs.Prelude.{◌≡◌, ℕ, ◌<◌, ◌≤◌, List, [], ◌∷◌, ◌++◌, length, take, map, slice_index_or, ℤ, pos, Bool, true, false, All}
+use Rattle.std.specs.Prelude.{◌≡◌, ◌⊎◌, ℕ, ◌<◌, ◌≤◌, List, [], ◌∷◌, ◌++◌, length, take, map, slice_index_or, ℤ, pos, Bool, true, false, All}
 use Rattle.fv_num.specs.Words.{inputs_of}
 use Rattle.fv_num.specs.declared.op.Op.{Op}
 use Rattle.fv_num.specs.declared.op.Op.TheVariants.{Max}
@@ -45,9 +45,13 @@ pub data PointFits (g : Graph) (ms : List Mean) (op : Op) (args : List ℕ) (m :
   OfStill : (s x d w : ℕ) → StandsAt g s (signal.Delay x d 0) → x < length g.signals → op ≡ Max → args ≡ w ∷ w ∷ w ∷ w ∷ [] →
       mean_at ms w ≡ Value (stand g x) → m ≡ Value s → PointFits g ms op args m
 
+-- a signal has this value at all times, whatever it hears
+abbrev pub IsAlways : Graph → ℕ → ℤ → Type 0
+IsAlways g s n = (X : List Frame) (c : ℕ → Stream) (t : ℕ) → value g s X c t ≡ n
+
 -- what a step is for, behind registers with these means
 abbrev pub StepFits : Graph → Names → Roles → (done : ℕ → Bool) → List Mean → Step → Mean → Type 0
-StepFits g p r done ms (step.Number n) m = m ≡ Literal n
+StepFits g p r done ms (step.Number n) m = (m ≡ Literal n) ⊎ ((s : ℕ) × IsAlways g s n × (m ≡ Value s))
 StepFits g p r done ms (step.Held k) m = (k < p.count) × (m ≡ Value (p.held k))
 StepFits g p r done ms (step.Input i) m = (s : ℕ) × StandsAt g s (signal.Input i) × (m ≡ Value s)
 StepFits g p r done ms (step.Point op args) m = PointFits g ms op args m

@@ -1,5 +1,5 @@
 -- The tables that the passes make suit the graph.
-use Rattle.std.proofs.Common.{◌≡◌, ◌≢◌, ◌⊎◌, inl, inr, ℕ, zero, suc, ◌<◌, ◌≤◌, List, [], ◌∷◌, length, get_or, refl, sym, ap, ap₂, ◌∙◌, subst, arith, pos, Bool, true, false}
+use Rattle.std.proofs.Common.{◌≡◌, ◌≢◌, ◌⊎◌, inl, inr, ℕ, zero, suc, ◌<◌, ◌≤◌, List, [], ◌∷◌, length, get_or, refl, sym, ap, ap₂, ◌∙◌, subst, arith, ℤ, pos, Bool, true, false}
 use Rattle.std.specs.Prelude.{Vec, Option, None, Some, unwrap_or, nat_lt, nat_le, nat_eq, ◌&&◌}
 use Rattle.std.specs.declared.alloc.Global.{Global}
 use Rattle.std.proofs.lemmas.Bool.{lt-ltb, ltb-true, le-leb, leb-true, eq-eqb, eqb-true}
@@ -8,9 +8,10 @@ use Rattle.fv_signal.specs.declared.signal.Signal.{Signal}
 use Rattle.fv_signal.specs.declared.signal.Signal.TheVariants as signal
 use Rattle.fv_signal.specs.declared.rate.Rate.{Rate}
 use Rattle.fv_signal.specs.declared.rate.Rate.TheVariants as rate
-use Rattle.fv_signal.specs.Value.{Graph, definition, IsGraph, IsOrdered, OperandsBelow, NamesWithin}
+use Rattle.fv_signal.specs.Value.{Graph, definition, value, signal_at, IsGraph, IsOrdered, OperandsBelow, NamesWithin}
 use Rattle.fv_signal.specs.Rates.{rate_in, rate_of, rates}
 use Rattle.fv_signal.proofs.Rates.{rate_is}
+use Rattle.fv_signal.proofs.Values.{values_are_given}
 use Rattle.fv_components.specs.Reach.{at, Reaches}
 use Rattle.fv_components.proofs.Walks.{reaches_self, reaches_trans}
 use Rattle.fv_loopcode.specs.declared.step.Step.{Step}
@@ -20,7 +21,7 @@ use Rattle.fv_analysis.specs.Reaching.{history_of, history_from, greatest_delay,
 use Rattle.fv_analysis.proofs.StandLemmas.{IsNoMember, stands_well, stands_long as all_stand}
 use Rattle.fv_analysis.proofs.HistoryLemmas.{histories_cover}
 use Rattle.fv_plan.specs.Separated.{operands, lane_at, links_of, IsComputed, IsSeparated, AsOutput, AsDelayed, AsDefinition, AsShared, ReadsSignal}
-use Rattle.fv_plan.specs.Fits.{Names}
+use Rattle.fv_plan.specs.Fits.{Names, IsAlways}
 use Rattle.fv_lanes.specs.declared.places.Places.{Places}
 use Rattle.fv_lanes.specs.Placed.{ArePlaced, IsInner}
 use Rattle.fv_lanes.proofs.RowLemmas.{operand_below, reads_reach, back_reaches, read_lower}
@@ -30,7 +31,7 @@ use Rattle.fv_emit.specs.declared.tables.Tables.{Tables}
 use Rattle.fv_emit.specs.Emits.{KindFits, IsLoaded, IsKindWithin, kind_of, owned_by}
 use Rattle.fv_emit.specs.Emitted.{AreTables, IsBase, IsOperand, DelayLane, Suits}
 use Rattle.fv_emit.specs.Held.{HoldsUpTo}
-use Rattle.fv_split.specs.Bases.{sample_base, base_of, kind_with, AreBases, AreKinds}
+use Rattle.fv_split.specs.Bases.{sample_base, constant_base, base_of, kind_with, AreBases, AreKinds}
 
 -- the lanes of loops up to a loop may be loaded
 abbrev pub lower_loaded : (owners : List ℕ) → (j : ℕ) → Roles
@@ -192,6 +193,7 @@ module _ (g : Graph) (p : Places) (stands : Vec ℕ Global) (bases kinds : Vec K
   member_lane group i = unwrap_or (lane_at lanes (stand g (definition g group i))) 0
 
   data Based (s : ℕ) : Type 0 where
+    AsNumber : (n : ℤ) → node g s ≡ signal.Const n → base s ≡ kind.Number n → Based s
     AsHeld : rate_of g s ≢ rate.Sample → base s ≡ kind.Held (at numbers s) → Based s
     AsInput : (i : ℕ) → node g s ≡ signal.Input i → base s ≡ kind.Input i → Based s
     AsBack : (group i : ℕ) → node g s ≡ signal.Back group i → base s ≡ kind.Back (member_lane group i) → Based s
@@ -224,8 +226,20 @@ module _ (g : Graph) (p : Places) (stands : Vec ℕ Global) (bases kinds : Vec K
       at_node (signal.Back group i) e r = AsBack group i e (plain (signal.Back group i) e r)
       at_node (signal.Member group i) e r = inner (signal.Member group i) e r (λ k. absurd k) refl
 
+      unread : (n : Signal) → node g s ≡ n → rate_of g s ≡ rate.Constant → constant_base n (at numbers s) ≡ kind.Held (at numbers s) → Based s
+      unread n e r h = AsHeld (λ z. let y = sym r ∙ z in cc) (rated rate.Constant r ∙ ap (λ n. constant_base n (at numbers s)) e ∙ h)
+
+      constant : (n : Signal) → node g s ≡ n → rate_of g s ≡ rate.Constant → Based s
+      constant (signal.Input i) e r = unread (signal.Input i) e r refl
+      constant (signal.Const n) e r = AsNumber n e (rated rate.Constant r ∙ ap (λ n. constant_base n (at numbers s)) e)
+      constant (signal.Control i) e r = unread (signal.Control i) e r refl
+      constant (signal.Point op args) e r = unread (signal.Point op args) e r refl
+      constant (signal.Delay x d max) e r = unread (signal.Delay x d max) e r refl
+      constant (signal.Back group i) e r = unread (signal.Back group i) e r refl
+      constant (signal.Member group i) e r = unread (signal.Member group i) e r refl
+
       at_rate : (r : Rate) → rate_of g s ≡ r → Based s
-      at_rate rate.Constant e = AsHeld (λ z. let y = sym e ∙ z in cc) (rated rate.Constant e)
+      at_rate rate.Constant e = constant (node g s) refl e
       at_rate rate.Control e = AsHeld (λ z. let y = sym e ∙ z in cc) (rated rate.Control e)
       at_rate rate.Sample e = at_node (node g s) refl e
 
@@ -244,8 +258,14 @@ module _ (g : Graph) (p : Places) (stands : Vec ℕ Global) (bases kinds : Vec K
       let far = (histories_cover g).backs s group i (record { within = l; is = e }) in
       (group, i, record { within = l; is = e }, w.2, sym names_it, omega (arith, far, ap (history_of g) names_it, history_stand (definition g group i) w.2))
 
+  -- a literal has its number at all times
+  is_always : (s : ℕ) (n : ℤ) → s < count → node g s ≡ signal.Const n → IsAlways g s n
+  is_always s n l is X c t =
+      values_are_given g ordered X c s (signal.Const (pos 0)) t l ∙ ap (λ y. signal_at g X c (λ q. value g q X c) y t) is
+
   base_fits : (s : ℕ) → s < count → KindFits g names (base s) s × IsBase (base s)
   base_fits s l = elim (based s l) [
+    | AsNumber n is e ↦ subst (λ k. KindFits g names k s × IsBase k) (sym e) (is_always s n l is, tt)
     | AsHeld slow e ↦ subst (λ k. KindFits g names k s × IsBase k) (sym e) (let h = held.numbered s l slow in (h, tt))
     | AsInput i n e ↦ subst (λ k. KindFits g names k s × IsBase k) (sym e) (record { within = l; is = n }, tt)
     | AsBack group i n e ↦ subst (λ k. KindFits g names k s × IsBase k) (sym e) (back_fits s group i l n, tt)
@@ -255,12 +275,14 @@ module _ (g : Graph) (p : Places) (stands : Vec ℕ Global) (bases kinds : Vec K
   -- ---- kinds
 
   data Kinded (s : ℕ) : Type 0 where
+    NumberKind : (n : ℤ) → node g s ≡ signal.Const n → kind_at s ≡ kind.Number n → Kinded s
     HeldKind : rate_of g s ≢ rate.Sample → kind_at s ≡ kind.Held (at numbers s) → Kinded s
     LaneKind : (l : ℕ) → lane_at lanes s ≡ Some l → kind_at s ≡ kind.Lane l → Kinded s
     BareKind : lane_at lanes s ≡ None → kind_at s ≡ base s → Kinded s
 
   kinded : (s : ℕ) → s < count → Kinded s
   kinded s l = elim (based s l) [
+    | AsNumber n is e ↦ NumberKind n is (with (kind.Number n) e)
     | AsHeld slow e ↦ HeldKind slow (with (kind.Held (at numbers s)) e)
     | AsInput i n e ↦ other (kind.Input i) e refl (λ m. refl) (lane_at lanes s) refl
     | AsBack group i n e ↦ other (kind.Back (member_lane group i)) e refl (λ m. refl) (lane_at lanes s) refl
@@ -277,6 +299,7 @@ module _ (g : Graph) (p : Places) (stands : Vec ℕ Global) (bases kinds : Vec K
   kind_fits : (s : ℕ) → s < count → KindFits g names (kind_at s) s
   unfolding with_lane
   kind_fits s l = elim (kinded s l) [
+    | NumberKind n is e ↦ subst (λ k. KindFits g names k s) (sym e) (is_always s n l is)
     | HeldKind slow e ↦ subst (λ k. KindFits g names k s) (sym e) (held.numbered s l slow)
     | LaneKind m has e ↦ subst (λ k. KindFits g names k s) (sym e) (with_lane s m has).names_it
     | BareKind none e ↦ subst (λ k. KindFits g names k s) (sym e) (base_fits s l).0
@@ -285,6 +308,7 @@ module _ (g : Graph) (p : Places) (stands : Vec ℕ Global) (bases kinds : Vec K
   -- ---- the tables
 
   kind_within : (k : Kind) → IsBase k → IsKindWithin (length owners) k
+  kind_within (kind.Number n) b = tt
   kind_within (kind.Held n) b = tt
   kind_within (kind.Lane n) b = absurd b
   kind_within (kind.Input n) b = tt
@@ -303,6 +327,7 @@ module _ (g : Graph) (p : Places) (stands : Vec ℕ Global) (bases kinds : Vec K
   lane_within : (s : ℕ) → s < count → IsKindWithin (length owners) (kind_at s)
   unfolding with_lane
   lane_within s l = elim (kinded s l) [
+    | NumberKind n is e ↦ subst (IsKindWithin (length owners)) (sym e) tt
     | HeldKind slow e ↦ subst (IsKindWithin (length owners)) (sym e) tt
     | LaneKind m has e ↦ subst (IsKindWithin (length owners)) (sym e) (with_lane s m has).within
     | BareKind none e ↦ subst (IsKindWithin (length owners)) (sym e) (kind_within (base s) (base_fits s l).1)
@@ -328,6 +353,7 @@ module _ (g : Graph) (p : Places) (stands : Vec ℕ Global) (bases kinds : Vec K
 
     base_loads : (s q : ℕ) → s < count → q < count → at homes s ≡ j → Reaches (links_of g) s q → IsLoaded roles (base q)
     base_loads s q ls lq home w = elim (based q lq) [
+      | AsNumber n is e ↦ subst (IsLoaded roles) (sym e) tt
       | AsHeld slow e ↦ subst (IsLoaded roles) (sym e) tt
       | AsInput i n e ↦ subst (IsLoaded roles) (sym e) tt
       | AsBack group i n e ↦
@@ -340,6 +366,7 @@ module _ (g : Graph) (p : Places) (stands : Vec ℕ Global) (bases kinds : Vec K
 
     kind_loads : (s q : ℕ) → s < count → q < count → at homes s ≡ j → Reaches (links_of g) s q → IsLoaded roles (kind_at q)
     kind_loads s q ls lq home w = elim (kinded q lq) [
+      | NumberKind n is e ↦ subst (IsLoaded roles) (sym e) tt
       | HeldKind slow e ↦ subst (IsLoaded roles) (sym e) tt
       | LaneKind m has e ↦ subst (IsLoaded roles) (sym e) (λ o. reached_loaded s q m j ls lj home w has)
       | BareKind none e ↦ subst (IsLoaded roles) (sym e) (base_loads s q ls lq home w)
@@ -360,6 +387,7 @@ module _ (g : Graph) (p : Places) (stands : Vec ℕ Global) (bases kinds : Vec K
     -- a signal of kind Inner is computed inside the code that reads it
     inner_kind : (o : ℕ) → o < count → kind_at (stand g o) ≡ kind.Inner → IsInner g (stand g o)
     inner_kind o lo e = elim (kinded (stand g o) (stand_within o lo)) [
+      | NumberKind m is z ↦ absurd (let y = sym z ∙ e in cc)
       | HeldKind slow z ↦ absurd (let y = sym z ∙ e in cc)
       | LaneKind m has z ↦ absurd (let y = sym z ∙ e in cc)
       | BareKind none z ↦ bare none (sym z ∙ e)
@@ -367,6 +395,7 @@ module _ (g : Graph) (p : Places) (stands : Vec ℕ Global) (bases kinds : Vec K
       where
         bare : lane_at lanes (stand g o) ≡ None → base (stand g o) ≡ kind.Inner → IsInner g (stand g o)
         bare none f = elim (based (stand g o) (stand_within o lo)) [
+          | AsNumber m is z ↦ absurd (let y = sym z ∙ f in cc)
           | AsHeld slow z ↦ absurd (let y = sym z ∙ f in cc)
           | AsInput i n z ↦ absurd (let y = sym z ∙ f in cc)
           | AsBack group i n z ↦ absurd (let y = sym z ∙ f in cc)
@@ -381,6 +410,7 @@ module _ (g : Graph) (p : Places) (stands : Vec ℕ Global) (bases kinds : Vec K
     computed_base : (s : ℕ) → s < count → at homes s ≡ j → base s ≡ kind.Inner → IsComputed (node g s)
     computed_base s l home e = elim (placed.homes.inners s l (omega (arith, lj, home))) [
       | inl h ↦ elim (based s l) [
+        | AsNumber m is z ↦ absurd (let y = sym z ∙ e in cc)
         | AsHeld slow z ↦ absurd (let y = sym z ∙ e in cc)
         | AsInput i n z ↦ absurd (let y = sym z ∙ e in cc)
         | AsBack group i n z ↦ absurd (let y = sym z ∙ e in cc)

@@ -23,14 +23,25 @@ sample_base g stands lanes (signal.Delay x d max) = kind.Inner
 sample_base g stands lanes (signal.Back group i) = kind.Back (unwrap_or (lane_at lanes (at stands (definition g group i))) 0)
 sample_base g stands lanes (signal.Member group i) = kind.Inner
 
--- what a node is without its lane: a slower one is the held value of this number
+-- what a node that is constant is without its lane: a literal is its number, and any other is the held value of this number
+abbrev pub constant_base : Signal → (number : ℕ) → Kind
+constant_base (signal.Input i) number = kind.Held number
+constant_base (signal.Const n) number = kind.Number n
+constant_base (signal.Control k) number = kind.Held number
+constant_base (signal.Point op args) number = kind.Held number
+constant_base (signal.Delay x d max) number = kind.Held number
+constant_base (signal.Back group i) number = kind.Held number
+constant_base (signal.Member group i) number = kind.Held number
+
+-- what a node is without its lane: one that a control may change is the held value of this number
 abbrev pub base_of : Graph → (stands : List ℕ) → (lanes : List (Option ℕ)) → Signal → Rate → (number : ℕ) → Kind
-base_of g stands lanes n rate.Constant number = kind.Held number
+base_of g stands lanes n rate.Constant number = constant_base n number
 base_of g stands lanes n rate.Control number = kind.Held number
 base_of g stands lanes n rate.Sample number = sample_base g stands lanes n
 
--- what a signal is to code that reads it: a held value is read as one, and any other signal from its lane where it has one
+-- what a signal is to code that reads it: a number or a held value is read as one, and any other signal from its lane where it has one
 abbrev pub kind_with : Kind → Option ℕ → Kind
+kind_with (kind.Number n) lane = kind.Number n
 kind_with (kind.Held k) lane = kind.Held k
 kind_with (kind.Lane m) None = kind.Lane m
 kind_with (kind.Lane m) (Some l) = kind.Lane l

@@ -28,7 +28,10 @@ fn base_of(
     ensures { result ≡ base_in graph.now stands.now lanes.now node rate number }
 {
     match rate {
-        Rate::Constant => Kind::Held(number),
+        Rate::Constant => match node {
+            Signal::Const(n) => Kind::Number(n),
+            _ => Kind::Held(number),
+        },
         Rate::Control => Kind::Held(number),
         Rate::Sample => match node {
             Signal::Input(channel) => Kind::Input(channel),
@@ -46,11 +49,13 @@ fn base_of(
     }
 }
 
-// What a signal is to code that reads it: a held value is read as one, and any other signal from its lane where it has one.
+// What a signal is to code that reads it: a number or a held value is read as one, and any other signal from its lane where it
+// has one.
 fn kind_with(base: Kind, lane: Option<u64>) -> Kind
     ensures { result ≡ kind_in base lane }
 {
     match base {
+        Kind::Number(n) => Kind::Number(n),
         Kind::Held(number) => Kind::Held(number),
         _ => match lane {
             Some(lane) => Kind::Lane(lane),
@@ -75,7 +80,7 @@ pub(crate) fn bases(
     requires within { All (λ s. s < length graph.now.signals) stands.now }
     ensures { IfOk result (λ bases. AreBases graph.now stands.now rates.now lanes.now numbers.now (length graph.now.signals) bases.items) }
 {
-    let mut bases = Vec::new(alloc);
+    let mut bases = Vec::with_capacity(alloc, stands.len())?;
     for s in 0..graph.len() {
         let id = SignalId::new(s);
         let node = graph.signal(id);
@@ -94,7 +99,7 @@ pub(crate) fn kinds(
     requires { length lanes.now ≡ length bases.now }
     ensures { IfOk result (λ kinds. AreKinds bases.now lanes.now (length bases.now) kinds.items) }
 {
-    let mut kinds = Vec::new(alloc);
+    let mut kinds = Vec::with_capacity(alloc, bases.len())?;
     for s in 0..bases.len() {
         kinds.push(kind_with(bases[s], lanes[s]))?;
     }

@@ -1,4 +1,4 @@
-use Rattle.std.proofs.Common.{◌≡◌, ℕ, ◌<◌, length, get_or, subst, arith}
+use Rattle.std.proofs.Common.{◌≡◌, ℕ, ◌<◌, length, get_or, subst, arith, pos}
 use Rattle.std.proofs.lemmas.List.{get_or_default}
 use Rattle.std.proofs.lemmas.List.Elements.{All-get_or}
 use Rattle.fv_components.specs.Reach.{at}
@@ -28,6 +28,6 @@ loop-k-preserved c =
       mean = mean_more c.args.kinds.now c.args.registers.now c.args.code.now.items c.loop-k.code.items c.operand.new.code.items c.args.signals.now c.loop-k.found
           c.loop-k.k c.in_ok-register.register own (omega (arith, four)) c.loop-k.invariant.mean
           (of_kind c.args.registers.now c.loop-k.code.items c.operand.new.code.items signal c.in_ok-register.register _ (get_or c.args.kinds.now signal
-          (kind.Held 0)) own
-          (get_or_default c.args.kinds.now signal kind.Inner (kind.Held 0) (omega (arith, b, c.requires.kinds))) c.in_ok-register.ensures);
+          (kind.Number (pos 0))) own
+          (get_or_default c.args.kinds.now signal kind.Inner (kind.Number (pos 0)) (omega (arith, b, c.requires.kinds))) c.in_ok-register.ensures);
     }

@@ -1,4 +1,4 @@
-use Rattle.std.proofs.Common.{◌+◌, ap, ◌∙◌, arith}
+use Rattle.std.proofs.Common.{◌+◌, ap, ◌∙◌, arith, pos}
 use Rattle.std.proofs.lemmas.List.{get_or_default}
 use Rattle.fv_plan.specs.Separated.{lane_at}
 use Rattle.fv_emit.specs.declared.kind.Kind.TheVariants as kind
@@ -12,4 +12,4 @@ loop-s-preserved c =
     let lanes = c.args.lanes.now in
     let s = c.loop-s.s in
     kinds_more bases lanes s c.loop-s.kinds.items c.push.new.self.items c.kind_with.result c.loop-s.invariant c.in_ok-push.ensures.items
-    (c.kind_with.ensures ∙ ap (λ b. kind_with b (lane_at lanes s)) (get_or_default bases s (kind.Held 0) kind.Inner c.loop-s-test.true))
+    (c.kind_with.ensures ∙ ap (λ b. kind_with b (lane_at lanes s)) (get_or_default bases s (kind.Number (pos 0)) kind.Inner c.loop-s-test.true))
