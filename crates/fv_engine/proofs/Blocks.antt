@@ -111,6 +111,7 @@ module _ {e : Inside} {v : EngineView} {frames : ℕ} {input controls : List ℤ
   is : t ≡ record e.tasks { tasks = record e.tasks.tasks { vectors = count } }
   is = call.tasks ∙ ap (λ m. record e.tasks { tasks = record e.tasks.tasks { vectors = m } }) call.vectors
 
+  -- no more vectors and tasks than a whole block has
   few : count ≤ e.tasks.most
   few = let q = vectors_rise frames e.block e.vector inv.sizes.vector_low high in omega (arith, q, inv.tasks_are.most_are)
 
@@ -137,11 +138,8 @@ module _ {e : Inside} {v : EngineView} {frames : ℕ} {input controls : List ℤ
   lengths = lengths_of e.layout
 
   -- the lanes as they open
-  abbrev pub opening : List Lane
-  opening = opening_lanes lengths e.shapes.items e.states.items frames (cells_of e.region)
-
   abbrev first : List Lane
-  first = opening
+  first = opening_lanes lengths e.shapes.items e.states.items frames (cells_of e.region)
 
   many : length lengths ≡ length e.plan.lanes
   many = sym inv.lists.0 ∙ inv.shapes.count
