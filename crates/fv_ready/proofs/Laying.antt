@@ -36,7 +36,8 @@ module _ {C : Type 0} where
   none_at (x ∷ xs) n (suc e) l h = none_at xs n e (omega arith) (omega arith)
 
   long_first : (es : List C) (n : ℕ) → length es ≤ n → length (first_slots n es) ≡ n
-  long_first es n h = omega (arith, length-append (map Some es) (replicate (n - length es) None), length_same {X = Option C} (n - length es) None, length-map es Some)
+  long_first es n h = let a = length-append (map Some es) (replicate (n - length es) None) in
+      let b = length_same {X = Option C} (n - length es) None in let c = length-map es Some in omega arith
 
 pub words_long : (n : Net) → length (first_words n) ≡ 1 + n.tasks + n.tasks
 words_long n = omega (

@@ -199,7 +199,8 @@ module _ {C Key : Type 0} (wires : Graph → Wires) (edge_of : C → ℕ) (key_o
           lean_more n r.0 (Arrive (worker_of v) e) (opening n a.workers) r.1 r.2
               (may_arrive {C = C} {S = Option C} n net a.workers s r.1 r.3 arrival c),
           shows_words {C = C} {S = Option C} n a.workers record { words = words'; homes = s.homes; views = set s.views id (noted v d) }
-              (lean_after n r.1 (Arrive (worker_of v) e)) (shows_arrived {C = C} {S = Option C} n net a.workers s r.1 r.3 arrival c) words' homes' (λ x l. refl),
+              (lean_after n r.1 (Arrive (worker_of v) e)) (shows_arrived {C = C} {S = Option C} n net a.workers s r.1 r.3 arrival c)
+              words' homes' (λ x l. refl),
         )
 
     pub whole_arrived : IsWhole wires edge_of key_of a record { words = words'; homes = homes'; views = set s.views id (noted v d) }
