@@ -12,6 +12,7 @@ use Rattle.fv_rule.specs.Wired.{graph_wires}
 use Rattle.fv_rule.specs.Rule.{places}
 use Rattle.fv_rule.specs.Carried.{IsFree, IsBusy}
 use Rattle.fv_ready.specs.declared.seat.InHand.{InHand}
+use Rattle.fv_rule.proofs.Numbers.{long_numbers}
 use Rattle.fv_rule.proofs.Splits.{splits}
 use Rattle.fv_graph.specs.Words.{passing}
 use Rattle.fv_rule.specs.declared.About.{About}
@@ -47,10 +48,6 @@ last_roomy room (x ∷ xs) v h = let r = last_roomy room xs v h.1 in ((h.0, r.0)
 pub more_roomy : (room : ℕ) (vs : List (Vec ℕ)) (v : Vec ℕ) → AreRoomy room vs → v.items ≡ [] → room ≤ vec_capacity v → AreRoomy room (vs ++ v ∷ [])
 more_roomy room [] v h e l = ((e, l), tt)
 more_roomy room (x ∷ xs) v h e l = (h.0, more_roomy room xs v h.1 e l)
-
-pub long_passing : (from n : ℕ) → length (passing (λ _. true) from n) ≡ n
-long_passing from zero = refl
-long_passing from (suc n) = ap suc (long_passing (suc from) n)
 
 module _ {C : Type 0} (a : About C) where
   abbrev pub fresh : List ℕ → Me (Option C) (View C)
@@ -112,4 +109,4 @@ pub splits_last : {C Key : Type 0} (wires : Graph → Wires) (edge_of : C → �
     (m : Me (Option C) (View C)) (from n : ℕ) → m ≡ fresh a (passing (λ _. true) from n) → 1 < n
     → Splits {S = Option C} (λ s. IsWhole wires edge_of key_of a s) id m.0 (left_part m.0) (right_part m.0)
 splits_last wires edge_of key_of a id m from n e h = splits wires edge_of key_of a id m.0 (ap (λ x. x.0.board) e) (ap (λ x. x.0.deeds) e)
-    (let l : length m.0.numbers ≡ n = ap (λ x. length x.0.numbers) e ∙ long_passing from n in omega arith)
+    (let l : length m.0.numbers ≡ n = ap (λ x. length x.0.numbers) e ∙ long_numbers from n in omega arith)

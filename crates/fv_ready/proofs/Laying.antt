@@ -1,6 +1,7 @@
 -- The entries' slots and the empty ones behind them are those of a new board.
 use Rattle.std.proofs.Common.{◌≡◌, ℕ, zero, suc, ◌+◌, ◌-◌, ◌<◌, ◌≤◌, List, [], ◌∷◌, ◌++◌, map, length, replicate}
 use Rattle.std.proofs.Common.{slice_index_or, refl, sym, ap, ◌∙◌, subst, arith, Option, Some, None, lt-ltb, ltb-true, true≢false, length-append}
+use Rattle.std.proofs.lemmas.List.{length-map}
 use mathlib.Core.Option.{some}
 use mathlib.Core.Logic.{dite}
 use native.Mathlib.Decide.{dec_le}
@@ -35,11 +36,8 @@ module _ {C : Type 0} where
   none_at (x ∷ xs) n (suc e) l h = none_at xs n e (omega arith) (omega arith)
 
   long_first : (es : List C) (n : ℕ) → length es ≤ n → length (first_slots n es) ≡ n
-  long_first es n h = omega (arith, length-append (map Some es) (replicate (n - length es) None), length_same {X = Option C} (n - length es) None, long_map es)
-    where
-      long_map : (xs : List C) → length (map Some xs) ≡ length xs
-      long_map [] = refl
-      long_map (x ∷ xs) = ap suc (long_map xs)
+  long_first es n h = let a = length-append (map Some es) (replicate (n - length es) None) in
+      let b = length_same {X = Option C} (n - length es) None in let c = length-map es Some in omega arith
 
 pub words_long : (n : Net) → length (first_words n) ≡ 1 + n.tasks + n.tasks
 words_long n = omega (

@@ -1,9 +1,10 @@
 -- Each call keeps what a seat means.
-use Rattle.std.proofs.Common.{◌≡◌, ℕ, zero, suc, ◌+◌, ◌*◌, ◌^◌, ◌<◌, ◌≤◌, Bool, true, false, cond, ltb, map}
+use Rattle.std.proofs.Common.{◌≡◌, ℕ, zero, suc, ◌+◌, ◌*◌, ◌^◌, ◌<◌, ◌≤◌, Bool, true, false, cond, ltb}
 use Rattle.std.proofs.Common.{◌&&◌, ◌||◌, lt-ltb, true≢false, List, [], ◌∷◌, ◌++◌, length, drop, refl, sym, ap, ◌∙◌, subst}
 use Rattle.std.proofs.Common.{arith, ◌==◌, eq-eqb, ne_eqb, Option, Some, None, MatchOption, IsSomeAnd, IfSome, MatchBool, vec_capacity, length-append}
 use Rattle.std.specs.Option.{IsSome}
 use Rattle.std.specs.Global.{Vec}
+use Rattle.std.proofs.lemmas.List.{length-map}
 use mathlib.Core.Logic.{dite}
 use native.Mathlib.Decide.{ℕ_discrete}
 use Rattle.atomic_table.specs.Seated.{TableId}
@@ -31,6 +32,9 @@ use Rattle.fv_ready.specs.Seats.{view_of, slots_of, hand_of, IsSeat}
 use Rattle.fv_ready.specs.Boards.{about_of, tasks_of, IsHanded, IsSeatOf}
 use Rattle.fv_ready.proofs.Found.{Parted, but_is}
 
+counts_one : (k : ℕ) → 0 < k → bit (ltb 0 k) ≡ 1
+counts_one k l = ap bit (lt-ltb 0 k l)
+
 module _ {C Key : Type 0} (edge_of : C → ℕ) (key_of : C → Key) (a : About C) where
   abbrev pub Hand : Option InHand → View C → List (ℕ × Option C) → Type 0
   Hand o v c = MatchOption o (IsFree graph_wires edge_of key_of a v c) (λ r. IsBusy graph_wires edge_of key_of a r.task r.started v c)
@@ -56,18 +60,12 @@ module _ {C Key : Type 0} (edge_of : C → ℕ) (key_of : C → Key) (a : About 
   hand_owes None v c e inner done new h = (
     refl,
     (let o = h.owed e in
-        let l = owes (done_by (finishes ((net_of a.tasks.value.tasks).source e)) v) done in
+        let l = counts_one (done_by (finishes ((net_of a.tasks.value.tasks).source e)) v) done in
         let k = ap (λ b. bit (b && ltb 0 (done_by (finishes ((net_of a.tasks.value.tasks).source e)) v))) inner in omega arith),
   )
-    where
-      owes : (k : ℕ) → 0 < k → bit (ltb 0 k) ≡ 1
-      owes k l = ap bit (lt-ltb 0 k l)
   hand_owes (Some r) v c e inner done new h = absurd (let o = h.arrived e in
-      let l = owes (done_by (finishes ((net_of a.tasks.value.tasks).source e)) v) done in
+      let l = counts_one (done_by (finishes ((net_of a.tasks.value.tasks).source e)) v) done in
       let k = ap (λ b. bit (b && ltb 0 (done_by (finishes ((net_of a.tasks.value.tasks).source e)) v))) inner in omega arith)
-    where
-      owes : (k : ℕ) → 0 < k → bit (ltb 0 k) ≡ 1
-      owes k l = ap bit (lt-ltb 0 k l)
 
 -- a task has at most one edge for each pair, and one more, on either side
 long_passing : (p : ℕ → Bool) (from n : ℕ) → length (passing p from n) ≤ n
@@ -78,14 +76,10 @@ long_passing p from (suc n) = let r = long_passing p (suc from) n in pick (p fro
     pick true xs l = omega arith
     pick false xs l = omega arith
 
-long_map : (f : ℕ → ℕ) (xs : List ℕ) → length (map f xs) ≡ length xs
-long_map f [] = refl
-long_map f (x ∷ xs) = ap suc (long_map f xs)
-
 pub edges_fit : (g : Tasks) (t : ℕ) → length (inward g t) + length (outward g t) ≤ 2 * (length g.reads + 1)
 edges_fit g t =
-    let i = long_map (λ k. pair_edge g k (vector_of g t)) (passing (λ k. (pair_at g k).reader == loop_of g t) 0 (length g.reads)) in
-    let o = long_map (λ k. pair_edge g k (vector_of g t)) (passing (λ k. (pair_at g k).source == loop_of g t) 0 (length g.reads)) in
+    let i = length-map (passing (λ k. (pair_at g k).reader == loop_of g t) 0 (length g.reads)) (λ k. pair_edge g k (vector_of g t)) in
+    let o = length-map (passing (λ k. (pair_at g k).source == loop_of g t) 0 (length g.reads)) (λ k. pair_edge g k (vector_of g t)) in
     let li = long_passing (λ k. (pair_at g k).reader == loop_of g t) 0 (length g.reads) in
     let lo = long_passing (λ k. (pair_at g k).source == loop_of g t) 0 (length g.reads) in omega arith
 

@@ -24,12 +24,17 @@ use Rattle.fv_rule.proofs.Noted.{shows_noted}
 some_times : (k : ℕ) → 0 < k → not (k == 0) ≡ true
 some_times k h = ap not (ne_eqb k 0 (λ z. omega arith))
 
+-- a seat arrives at an edge that it owes, by which the count of the edge's reader falls
+pub record IsArrival {C S : Type 0} (n : Net) (s : State S (View C)) (id e : ℕ) (v : View C) (words' : List ℕ) : Type 0 where
+  pub at : get_elem? s.views id ≡ some v
+  pub inner : n.is_inner e ≡ true
+  pub done : 0 < done_by (finishes (n.source e)) v
+  pub new : done_by (arrives e) v ≡ 0
+  pub word_is : (t : ℕ) → t < n.tasks → slice_index words' (count_word t) + bit (n.reader e == t) ≡ slice_index s.words (count_word t)
+
 module _ {C S : Type 0} (n : Net) (net : IsNet n) (workers : ℕ) (s : State S (View C)) (z : Now) (h : Shows {C = C} {S = S} n workers s z)
-    (id e c : ℕ) (v : View C) (at : get_elem? s.views id ≡ some v)
-    (inner : n.is_inner e ≡ true) (done : 0 < done_by (finishes (n.source e)) v) (new : done_by (arrives e) v ≡ 0)
-    (words' : List ℕ) (word_is : (t : ℕ) → t < n.tasks → slice_index words' (count_word t) + bit (n.reader e == t) ≡ slice_index s.words (count_word t)) where
-  abbrev w : ℕ
-  w = worker_of v
+    {id e : ℕ} {v : View C} {words' : List ℕ} (arrival : IsArrival {C = C} {S = S} n s id e v words') (c : ℕ) where
+  open arrival use {at, inner, done, new, word_is}
 
   abbrev d : Deed
   d = Arrived e c

@@ -2,6 +2,7 @@
 use Rattle.std.proofs.Common.{◌≡◌, ℕ, zero, suc, ◌+◌, ◌<◌, ◌≤◌, Bool, true, false, ◌⊎◌, inl, inr, ⊎_elim, List, [], ◌∷◌, ◌++◌, map}
 use Rattle.std.proofs.Common.{length, replicate, get_or, slice_index, refl, sym, ap, ◌∙◌, subst}
 use Rattle.std.proofs.Common.{arith, Option, Some, None, ltb, lt-ltb, ltb-true, ne_eqb, length-append}
+use Rattle.std.proofs.lemmas.List.{length-map}
 use mathlib.Core.Option.{some, some-injective, some-ne-none}
 use mathlib.Core.Logic.{dite}
 use native.Mathlib.Decide.{dec_le}
@@ -44,17 +45,9 @@ module _ {S : Type 0} where
   at_home (x ∷ xs) zero y h = some-injective (some x) (some y) h
   at_home (x ∷ xs) (suc e) y h = at_home xs e y h
 
-  long_home : (xs : List S) → length (map some xs) ≡ length xs
-  long_home [] = refl
-  long_home (x ∷ xs) = ap suc (long_home xs)
-
   only : (x y : S) (id : ℕ) → get_elem? (x ∷ []) id ≡ some y → (id ≡ 0) × (x ≡ y)
   only x y zero h = (refl, some-injective x y h)
   only x y (suc id) h = absurd (some-ne-none y (sym h))
-
-long_map : (xs : List ℕ) → length (map (λ k. k) xs) ≡ length xs
-long_map [] = refl
-long_map (x ∷ xs) = ap suc (long_map xs)
 
 total_nones : (f : ℕ → ℕ) → ((t : ℕ) → f t ≡ 0) → (xs : List ℕ) → total f xs ≡ 0
 total_nones f h [] = refl
@@ -118,7 +111,7 @@ module _ {C Key : Type 0} (wires : Graph → Wires) (edge_of : C → ℕ) (key_o
         length-append (map (need_count n) (numbers n.tasks)) (replicate n.tasks 0),
         length_same {X = ℕ} n.tasks 0,
       );
-      homes_long = long_home slots ∙ laid.long;
+      homes_long = length-map slots some ∙ laid.long;
       same = each (λ v. (v.board ≡ Some a) ⊎ Rattle.fv_rule.specs.Rule.IsSpent v) (inl refl);
       own = each (λ v. IsOwn n v) own;
       stamped = λ k. sym (ap bit (not_below k 0 (omega arith)));
@@ -175,7 +168,7 @@ module _ {C Key : Type 0} (wires : Graph → Wires) (edge_of : C → ℕ) (key_o
           (λ l. let z = times_passing (λ _. true) 0 a.workers k (omega arith) (omega arith) in
           let q = ap bit (lt-ltb k a.workers (omega arith)) in omega arith);
       has_one = each (λ v. v.board ≡ Some a → 0 < length v.numbers) (λ _. let l = length_numbers 0 a.workers (λ k. k) in
-          omega (arith, long_map (numbers a.workers)));
+          omega (arith, length-map (numbers a.workers) (λ k. k)));
       drawn = sym (total_nones (λ t. 0) (λ t. refl) (numbers n.tasks));
       stamped_once = λ t. (omega arith, omega arith);
       start_below = λ k t pos. absurd (omega arith);

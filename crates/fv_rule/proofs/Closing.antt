@@ -23,6 +23,7 @@ use Rattle.fv_rule.specs.declared.View.{View}
 use Rattle.fv_rule.specs.Rule.{count_word, wins, loses, sees, arrives, stamps, starts, finishes, done_by, all, together, spent, Each, IsSpent}
 use Rattle.fv_rule.specs.Whole.{zeroes, starts_at, finishes_at, IsWhole}
 use Rattle.fv_rule.specs.Told.{Tells}
+use Rattle.fv_rule.proofs.Numbers.{long_numbers}
 use Rattle.fv_rule.proofs.Claim.{all_le}
 use Rattle.fv_rule.proofs.Taking.{give_all, none_left, valid_gives, at_below}
 use Rattle.fv_rule.specs.Carried.{IsMine, HasKey}
@@ -152,10 +153,6 @@ module _ {C Key : Type 0} (wires : Graph → Wires) (edge_of : C → ℕ) (key_o
         (let z = times_passing (λ _. true) 0 n.tasks t (omega arith) (omega arith) in omega arith) in
         let o = h.stamped_once t in let p = o.0 in let q = o.1 in omega arith
       where
-        long_numbers : (from k : ℕ) → length (passing (λ _. true) from k) ≡ k
-        long_numbers from zero = refl
-        long_numbers from (suc k) = ap suc (long_numbers (suc from) k)
-
         two_spare : (g : ℕ → ℕ) → ((x : ℕ) → g x ≤ 2) → (xs : List ℕ) → total g xs ≤ 2 * length xs
         two_spare g most [] = omega arith
         two_spare g most (y ∷ ys) = let r = two_spare g most ys in let m = most y in omega arith

@@ -1,6 +1,7 @@
 -- A finish as a step of the table.
 use Rattle.std.proofs.Common.{◌≡◌, ℕ, ◌+◌, ◌%◌, ◌^◌, ◌<◌, true, false, List, [], ◌∷◌, ◌++◌}
 use Rattle.std.proofs.Common.{length, set, slice_index, drop, refl, sym, ap, ◌∙◌, subst, arith, Option, Some}
+use Rattle.std.proofs.lemmas.Option.{same_Some}
 use mathlib.Core.Option.{none}
 use Rattle.atomic_table.specs.Table.{step, Allows, homes_after}
 use Rattle.fv_graph.specs.Graph.{Graph}
@@ -11,6 +12,7 @@ use Rattle.fv_rule.specs.declared.View.{View}
 use Rattle.fv_rule.specs.Rule.{noted, going, Ends}
 use Rattle.fv_rule.specs.Carried.{IsBusy}
 use Rattle.fv_rule.specs.Whole.{IsWhole}
+use Rattle.fv_rule.proofs.Numbers.{one_more}
 use Rattle.fv_rule.proofs.Taking.{give_all, front_valid, front_left}
 use Rattle.fv_rule.proofs.Starting.{stamps_above}
 use Rattle.fv_rule.proofs.Finishing.{Exits, whole_finished, small}
@@ -21,12 +23,6 @@ drop_all (x ∷ xs) ys = drop_all xs ys
 
 pub drop_front : {S : Type 0} (xs ys : List (ℕ × S)) (k : ℕ) → k ≡ length xs → drop k (xs ++ ys) ≡ ys
 drop_front xs ys k e = ap (λ i. drop i (xs ++ ys)) e ∙ drop_all xs ys
-
-one_more : (k : ℕ) → k < 18446744073709551615 → (k + 1) % 2 ^ 64 ≡ k + 1
-one_more k h = omega arith
-
-some_same : {X : Type 0} (x y : X) → Some x ≡ Some y → x ≡ y
-some_same x y e = cc
 
 module _ {C Key : Type 0} (wires : Graph → Wires) (edge_of : C → ℕ) (key_of : C → Key) (a : About C) (ws : IsWires (wires a.tasks.value)) where
   pub ending : (v : View C) (front rest : List (ℕ × Option C)) (t id slots : ℕ) → v.board ≡ Some a → IsBusy wires edge_of key_of a t true v (front ++ rest)
@@ -49,9 +45,9 @@ module _ {C Key : Type 0} (wires : Graph → Wires) (edge_of : C → ℕ) (key_o
         }) (sym plus)
             (whole_finished wires edge_of key_of a ws s h id v at ab t front rest holds exits),
         (λ a' is t' e. (
-          ap (λ u. noted v (Stamped k u false)) (some_same t t' (sym holds.last ∙ e)),
+          ap (λ u. noted v (Stamped k u false)) (same_Some t t' (sym holds.last ∙ e)),
           front_left front rest ∙ sym (drop_front front rest (going wires edge_of key_of a' t')
-              ((λ i. going wires edge_of key_of (some_same a' a (sym is ∙ ab) i) (some_same t' t (sym e ∙ holds.last) i)) ∙ count)),
+              ((λ i. going wires edge_of key_of (same_Some a' a (sym is ∙ ab) i) (same_Some t' t (sym e ∙ holds.last) i)) ∙ count)),
           stamps_above wires edge_of key_of a ws s h id v at,
         )),
       )

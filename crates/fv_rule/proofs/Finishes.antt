@@ -25,10 +25,19 @@ runs_one : (r : Option ℕ) (t : ℕ) → bit (is_run t r) ≡ 1 → r ≡ Some 
 runs_one None t h = absurd (omega arith)
 runs_one (Some u) t h = ap Some (bit_one u t (omega arith))
 
+-- a seat finishes a task that it took, which nobody finished before, and no count changes
+pub record IsFinish {C S : Type 0} (n : Net) (s : State S (View C)) (id t : ℕ) (v : View C) (words' : List ℕ) : Type 0 where
+  pub at : get_elem? s.views id ≡ some v
+  pub there : t < n.tasks
+  pub won : done_by (wins t) v ≡ 1
+  pub unfinished : done_by (finishes t) v ≡ 0
+  pub nobody : all (finishes t) s.views ≡ 0
+  pub word_is : (x : ℕ) → x < n.tasks → slice_index words' (count_word x) ≡ slice_index s.words (count_word x)
+
 module _ {C S : Type 0} (n : Net) (net : IsNet n) (workers : ℕ) (s : State S (View C)) (z : Now) (h : Shows {C = C} {S = S} n workers s z)
-    (id t k : ℕ) (v : View C) (at : get_elem? s.views id ≡ some v)
-    (there : t < n.tasks) (won : done_by (wins t) v ≡ 1) (unfinished : done_by (finishes t) v ≡ 0) (nobody : all (finishes t) s.views ≡ 0)
-    (words' : List ℕ) (word_is : (x : ℕ) → x < n.tasks → slice_index words' (count_word x) ≡ slice_index s.words (count_word x)) where
+    {id t : ℕ} {v : View C} {words' : List ℕ} (finish : IsFinish {C = C} {S = S} n s id t v words') (k : ℕ) where
+  open finish use {at, there, won, unfinished, nobody, word_is}
+
   abbrev d : Deed
   d = Stamped k t false
 
@@ -119,10 +128,18 @@ module _ {C S : Type 0} (n : Net) (net : IsNet n) (workers : ℕ) (s : State S (
     };
   }
 
-module _ {C S : Type 0} (n : Net) (workers : ℕ) (s : State S (View C)) (z : Now) (h : Shows {C = C} {S = S} n workers s z) (id : ℕ)
-    (v : View C) (d : Deed) (at : get_elem? s.views id ≡ some v)
-    (no_win : (x : ℕ) → wins x d ≡ 0) (no_finish : (x : ℕ) → finishes x d ≡ 0) (no_arrival : (x : ℕ) → arrives x d ≡ 0) (words' : List ℕ)
-    (word_is : (x : ℕ) → x < n.tasks → slice_index words' (count_word x) ≡ slice_index s.words (count_word x)) where
+-- a seat does something that is no win, no finish and no arrival, and no count changes
+pub record IsUnshown {C S : Type 0} (n : Net) (s : State S (View C)) (id : ℕ) (v : View C) (d : Deed) (words' : List ℕ) : Type 0 where
+  pub at : get_elem? s.views id ≡ some v
+  pub no_win : (x : ℕ) → wins x d ≡ 0
+  pub no_finish : (x : ℕ) → finishes x d ≡ 0
+  pub no_arrival : (x : ℕ) → arrives x d ≡ 0
+  pub word_is : (x : ℕ) → x < n.tasks → slice_index words' (count_word x) ≡ slice_index s.words (count_word x)
+
+module _ {C S : Type 0} (n : Net) (workers : ℕ) (s : State S (View C)) (z : Now) (h : Shows {C = C} {S = S} n workers s z)
+    {id : ℕ} {v : View C} {d : Deed} {words' : List ℕ} (unshown : IsUnshown {C = C} {S = S} n s id v d words') where
+  open unshown use {at, no_win, no_finish, no_arrival, word_is}
+
   like : ShowsSeat n z v → ShowsSeat n z (noted v d)
   like q = record {
     there = q.there;

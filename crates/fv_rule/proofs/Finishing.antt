@@ -2,22 +2,16 @@
 use Rattle.std.proofs.Common.{◌≡◌, ℕ, zero, suc, ◌+◌, ◌-◌, ◌*◌, ◌%◌, ◌^◌, ◌<◌, ◌≤◌, Bool, true, false, List, []}
 use Rattle.std.proofs.Common.{◌∷◌, ◌++◌, length, set, slice_index, refl, sym, ap, ◌∙◌, subst, arith, Option, Some, None, true≢false}
 use mathlib.Core.Option.{some}
-use mathlib.Core.Logic.{dite}
-use native.Mathlib.Decide.{ℕ_discrete}
 use lib.ListN.{get_elem?}
-use Rattle.fv_graph.specs.Words.{passing}
-use Rattle.fv_core.specs.Core.{numbers}
-use Rattle.fv_graph.proofs.Counts.{bit_same, bit_apart}
-use Rattle.fv_graph.proofs.Counts.{times_passing}
 use Rattle.atomic_table.specs.Table.{State, homes_after}
-use Rattle.fv_outside.specs.Tasks.{total, times}
+use Rattle.fv_outside.specs.Tasks.{times}
 use Rattle.fv_graph.specs.Net.{Net}
 use Rattle.fv_graph.specs.Graph.{Graph}
 use Rattle.fv_graph.specs.Wires.{Wires, IsWires}
 use Rattle.fv_rule.specs.declared.Deed.TheVariants.{Stamped}
 use Rattle.fv_rule.specs.declared.About.{About}
 use Rattle.fv_rule.specs.declared.View.{View}
-use Rattle.fv_rule.specs.Rule.{count_word, wins, starts, finishes, done_by, all, noted, places, Fits}
+use Rattle.fv_rule.specs.Rule.{wins, finishes, done_by, all, noted, places, Fits}
 use Rattle.fv_rule.specs.Carried.{IsBusy, IsMine, HasKey}
 use Rattle.fv_rule.specs.Whole.{IsWhole}
 use Rattle.fv_rule.proofs.Back.{all_gap}
@@ -25,6 +19,8 @@ use Rattle.fv_rule.proofs.Taking.{give_all, front_homes, given_at}
 use Rattle.fv_rule.proofs.Hands.{busy_mine, busy_won, each_left}
 use Rattle.fv_rule.proofs.Closing.{given}
 use Rattle.fv_rule.proofs.Stamps.{whole_stamped}
+use Rattle.fv_rule.proofs.Numbers.{behind}
+use Rattle.fv_rule.proofs.Starting.{stamp_room}
 use Rattle.fv_rule.proofs.WholeSteps.{reached_finish}
 
 -- the exit edge's slot among those that go back: full, with its parcel
@@ -95,31 +91,9 @@ module _ {C Key : Type 0} (wires : Graph → Wires) (edge_of : C → ℕ) (key_o
   whole_finished = whole_stamped wires edge_of key_of a ws s1 given_back id v at ab t holds.there (let o = won_one in
       omega arith) false (λ q. absurd (true≢false (sym q))) (λ _. ((let o = holds.started in omega arith), holds.unfinished)) (λ _. at_home)
       (reached_finish wires edge_of key_of a s1 given_back id v at ab t (slice_index s.words 0) ws.is_net holds.there won_one
-      holds.unfinished nobody (set s.words 0 (slice_index s.words 0 + 1)) words_same)
-    where
-      words_same : (x : ℕ) → x < n.tasks → slice_index (set s.words 0 (slice_index s.words 0 + 1)) (count_word x) ≡ slice_index s.words (count_word x)
-      words_same x l = behind s.words x (slice_index s.words 0 + 1)
-        where
-          behind : (ns : List ℕ) (x y : ℕ) → slice_index (set ns 0 y) (1 + x) ≡ slice_index ns (1 + x)
-          behind ns x y = ap (slice_index (set ns 0 y)) (let q : 1 + x ≡ suc x = omega arith in
-              q) ∙ next ns x y ∙ ap (slice_index ns) (let q : suc x ≡ 1 + x = omega arith in q)
-            where
-              next : (ns : List ℕ) (x y : ℕ) → slice_index (set ns 0 y) (suc x) ≡ slice_index ns (suc x)
-              next [] x y = refl
-              next (m ∷ ms) x y = refl
+      holds.unfinished nobody (set s.words 0 (slice_index s.words 0 + 1))
+      (λ x l. behind s.words x (slice_index s.words 0 + 1)))
 
   -- the word does not wrap: there are at most two stamps for each task, and this one's finish is not drawn
   pub small : slice_index s.words 0 < 2 * n.tasks
-  small = let d = h.drawn in let l = long_numbers 0 n.tasks in let o = h.stamped_once t in let o0 = o.0 in let z = nobody in
-      let p = spare_two (λ x. all (starts x) s.views + all (finishes x) s.views) (λ x. let q = h.stamped_once x in let q0 = q.0 in
-      let q1 = q.1 in omega arith) t (omega arith) (numbers n.tasks) in
-      let one = times_passing (λ _. true) 0 n.tasks t (omega arith) (let q = holds.there in omega arith) in omega arith
-    where
-      long_numbers : (from k : ℕ) → length (passing (λ _. true) from k) ≡ k
-      long_numbers from zero = refl
-      long_numbers from (suc k) = ap suc (long_numbers (suc from) k)
-
-      spare_two : (g : ℕ → ℕ) → ((x : ℕ) → g x ≤ 2) → (t : ℕ) → g t ≤ 1 → (xs : List ℕ) → total g xs + times t xs ≤ 2 * length xs
-      spare_two g most t less [] = omega arith
-      spare_two g most t less (y ∷ ys) = let r = spare_two g most t less ys in let m = most y in dite (ℕ_discrete y t)
-          (λ e. let b = bit_same y t e in let q : g y ≡ g t = ap g e in omega arith) (λ ne. let b = bit_apart y t ne in omega arith)
+  small = stamp_room wires edge_of key_of a ws s h t holds.there (let o = h.stamped_once t in let o0 = o.0 in let z = nobody in omega arith)

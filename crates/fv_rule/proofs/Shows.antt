@@ -58,10 +58,24 @@ lean_more n [] x s z e legal = let same : s ≡ z = cc in
 lean_more n (y ∷ ys) x s z e legal = by_test (is_lean_legal n s y) (lean_replayed n (lean_after n s y) ys)
     (lean_replayed n (lean_after n s y) (ys ++ x ∷ [])) z (lean_after n z x) e (λ k. lean_more n ys x (lean_after n s y) z k legal)
 
-module _ {C S : Type 0} (n : Net) (workers : ℕ) (s : State S (View C)) (z : Now) (h : Shows {C = C} {S = S} n workers s z) (id t : ℕ)
-    (v : View C) (at : get_elem? s.views id ≡ some v)
-    (there : t < n.tasks) (ready : slice_index s.words (count_word t) ≡ 0) (first : all (wins t) s.views ≡ 0)
-    (finished : (x : ℕ) → done_by (finishes x) v ≡ done_by (wins x) v) (owes_none : (e : ℕ) → times e (owes_of z (worker_of v)) ≡ 0) where
+-- a seat that owes nothing takes a task that is ready, and is the first to do so
+pub record IsTake {C S : Type 0} (n : Net) (s : State S (View C)) (id t : ℕ) (v : View C) : Type 0 where
+  pub at : get_elem? s.views id ≡ some v
+  pub there : t < n.tasks
+  pub ready : slice_index s.words (count_word t) ≡ 0
+  pub first : all (wins t) s.views ≡ 0
+  pub owes : OwesNothing n v
+
+module _ {C S : Type 0} (n : Net) (workers : ℕ) (s : State S (View C)) (z : Now) (h : Shows {C = C} {S = S} n workers s z)
+    {id t : ℕ} {v : View C} (take : IsTake {C = C} {S = S} n s id t v) where
+  open take use {at, there, ready, first}
+
+  finished : (x : ℕ) → done_by (finishes x) v ≡ done_by (wins x) v
+  finished = take.owes.0
+
+  owes_none : (e : ℕ) → times e (owes_of z (worker_of v)) ≡ 0
+  owes_none e = let o = (h.seat id v at).owes e in let f = take.owes.1 e in omega arith
+
   pub idle : run_of z (worker_of v) ≡ None
   idle = none_runs (run_of z (worker_of v)) (λ x. let r = (h.seat id v at).runs x in let f = finished x in omega arith)
 
@@ -121,15 +135,11 @@ module _ {C S : Type 0} (n : Net) (workers : ℕ) (s : State S (View C)) (z : No
       }
 
 -- after a won claim the board shows a state that one event more reaches
-pub reached_claim : {C S : Type 0} (n : Net) (workers : ℕ) (s : State S (View C)) (id t : ℕ) (v : View C) → Reached {C = C} {S = S} n
-    workers s → get_elem? s.views id ≡ some v → t < n.tasks
-    → slice_index s.words (count_word t) ≡ 0 → all (wins t) s.views ≡ 0 → OwesNothing n v → Reached {C = C} {S = S} n workers
-    (record s { views = set s.views id (noted v (Claimed t true)) })
-reached_claim {C} {S} n workers s id t v r at there ready first free =
-    let z = r.1 in let h = r.3 in
-    let none : (e : ℕ) → times e (owes_of z (worker_of v)) ≡ 0 = λ e. let o = (h.seat id v at).owes e in let f = free.1 e in omega arith in (
-      r.0 ++ Take (worker_of v) t ∷ [],
-      lean_after n z (Take (worker_of v) t),
-      lean_more n r.0 (Take (worker_of v) t) (opening n workers) z r.2 (may_take {C = C} {S = S} n workers s z h id t v at there ready first free.0 none),
-      shows_taken {C = C} {S = S} n workers s z h id t v at there ready first free.0 none,
-    )
+pub reached_claim : {C S : Type 0} (n : Net) (workers : ℕ) (s : State S (View C)) {id t : ℕ} {v : View C} → Reached {C = C} {S = S} n workers s →
+    IsTake {C = C} {S = S} n s id t v → Reached {C = C} {S = S} n workers (record s { views = set s.views id (noted v (Claimed t true)) })
+reached_claim {C} {S} n workers s {id = id} {t = t} {v = v} r take = let z = r.1 in (
+  r.0 ++ Take (worker_of v) t ∷ [],
+  lean_after n z (Take (worker_of v) t),
+  lean_more n r.0 (Take (worker_of v) t) (opening n workers) z r.2 (may_take {C = C} {S = S} n workers s z r.3 take),
+  shows_taken {C = C} {S = S} n workers s z r.3 take,
+)

@@ -1,13 +1,13 @@
 -- A start keeps the whole rule, and the stamp word does not wrap.
-use Rattle.std.proofs.Common.{◌≡◌, ℕ, zero, suc, ◌+◌, ◌*◌, ◌%◌, ◌^◌, ◌<◌, ◌≤◌, true, List, [], ◌∷◌}
+use Rattle.std.proofs.Common.{◌≡◌, ℕ, ◌+◌, ◌*◌, ◌%◌, ◌^◌, ◌<◌, ◌≤◌, true, List, [], ◌∷◌}
 use Rattle.std.proofs.Common.{length, set, slice_index, refl, sym, ap, ◌∙◌, subst, arith, Option, Some, true≢false, ltb, ltb-true}
+use Rattle.std.proofs.lemmas.Option.{same_Some}
 use mathlib.Core.Option.{some, none}
 use mathlib.Core.Logic.{dite}
 use native.Mathlib.Decide.{ℕ_discrete}
 use lib.ListN.{get_elem?}
 use Rattle.atomic_table.specs.Table.{State, step, keeps, Allows}
 use Rattle.fv_outside.specs.Tasks.{total, times}
-use Rattle.fv_graph.specs.Words.{passing}
 use Rattle.fv_graph.specs.Net.{Net}
 use Rattle.fv_graph.specs.Graph.{Graph}
 use Rattle.fv_core.specs.Core.{numbers}
@@ -19,33 +19,16 @@ use Rattle.fv_rule.specs.declared.About.{About}
 use Rattle.fv_rule.specs.declared.View.{View}
 use Rattle.fv_rule.specs.Rule.{wins, stamps, starts, finishes, done_by, all, noted, last_won, Starts, IsAbove}
 use Rattle.fv_rule.specs.Whole.{IsWhole}
+use Rattle.fv_rule.proofs.Numbers.{long_numbers, behind, one_more}
 use Rattle.fv_rule.proofs.Claim.{all_at}
 use Rattle.fv_rule.proofs.Back.{all_gap}
 use Rattle.fv_rule.proofs.Stamps.{whole_stamped}
 use Rattle.fv_rule.proofs.WholeSteps.{reached_same}
 
-long_numbers : (from k : ℕ) → length (passing (λ _. true) from k) ≡ k
-long_numbers from zero = refl
-long_numbers from (suc k) = ap suc (long_numbers (suc from) k)
-
 spare_two : (g : ℕ → ℕ) → ((x : ℕ) → g x ≤ 2) → (t : ℕ) → g t ≤ 1 → (xs : List ℕ) → total g xs + times t xs ≤ 2 * length xs
 spare_two g most t less [] = omega arith
 spare_two g most t less (y ∷ ys) = let r = spare_two g most t less ys in let m = most y in dite (ℕ_discrete y t)
     (λ e. let b = bit_same y t e in let q : g y ≡ g t = ap g e in omega arith) (λ ne. let b = bit_apart y t ne in omega arith)
-
-pub behind : (ns : List ℕ) (x y : ℕ) → slice_index (set ns 0 y) (1 + x) ≡ slice_index ns (1 + x)
-behind ns x y = ap (slice_index (set ns 0 y)) (let q : 1 + x ≡ suc x = omega arith in
-    q) ∙ next ns x y ∙ ap (slice_index ns) (let q : suc x ≡ 1 + x = omega arith in q)
-  where
-    next : (ns : List ℕ) (x y : ℕ) → slice_index (set ns 0 y) (suc x) ≡ slice_index ns (suc x)
-    next [] x y = refl
-    next (m ∷ ms) x y = refl
-
-one_more : (k : ℕ) → k < 18446744073709551615 → (k + 1) % 2 ^ 64 ≡ k + 1
-one_more k h = omega arith
-
-some_same : (x y : ℕ) → Some x ≡ Some y → x ≡ y
-some_same x y e = cc
 
 module _ {C Key : Type 0} (wires : Graph → Wires) (edge_of : C → ℕ) (key_of : C → Key) (a : About C) (ws : IsWires (wires a.tasks.value)) where
   abbrev n : Net
@@ -88,5 +71,5 @@ module _ {C Key : Type 0} (wires : Graph → Wires) (edge_of : C → ℕ) (key_o
             (whole_stamped wires edge_of key_of a ws s h id v at ab t there won true (λ _. fresh) (λ q. absurd (true≢false q)) (λ q. absurd (true≢false q))
             (reached_same wires edge_of key_of a s h id v at ab (Stamped k t true) (λ x. refl) (λ x. refl) (λ x. refl)
             (set s.words 0 (k + 1)) (λ x l. behind s.words x (k + 1)))),
-        (λ t' e. (ap (λ u. noted v (Stamped k u true)) (some_same t t' (sym last ∙ e)), refl, stamps_above s h id v at)),
+        (λ t' e. (ap (λ u. noted v (Stamped k u true)) (same_Some t t' (sym last ∙ e)), refl, stamps_above s h id v at)),
       )

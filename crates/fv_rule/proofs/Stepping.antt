@@ -7,7 +7,7 @@ use mathlib.Core.Logic.{dite}
 use native.Mathlib.Decide.{ℕ_discrete}
 use lib.ListN.{get_elem?}
 use Rattle.atomic_table.specs.Table.{State, Me, Act, homes_after, carried_after, stepped}
-use Rattle.fv_outside.specs.Tasks.{Tasks, bit, times, task_count}
+use Rattle.fv_outside.specs.Tasks.{Tasks, bit, task_count}
 use Rattle.fv_graph.specs.Net.{Net}
 use Rattle.fv_graph.specs.Graph.{IsGraph, net_of, edges_of}
 use Rattle.fv_graph.specs.Wires.{IsWires}
@@ -33,12 +33,13 @@ use Rattle.fv_rule.proofs.Closing.{whole_joins}
 use Rattle.fv_rule.proofs.Claim.{tell, all_at}
 use Rattle.fv_rule.proofs.Back.{all_gap}
 use Rattle.fv_rule.proofs.Claims.{claims_whole}
-use Rattle.fv_rule.proofs.Shows.{may_take, shows_taken}
-use Rattle.fv_rule.proofs.Finishes.{shows_same, shows_finished, may_finish}
-use Rattle.fv_rule.proofs.Arrives.{shows_arrived, may_arrive}
+use Rattle.fv_rule.proofs.Shows.{IsTake, may_take, shows_taken}
+use Rattle.fv_rule.proofs.Finishes.{IsFinish, shows_same, shows_finished, may_finish}
+use Rattle.fv_rule.proofs.Arrives.{IsArrival, shows_arrived, may_arrive}
 use Rattle.fv_rule.proofs.WholeSteps.{shows_words}
 use Rattle.fv_rule.proofs.Load.{looks}
-use Rattle.fv_rule.proofs.Starting.{starting, behind}
+use Rattle.fv_rule.proofs.Starting.{starting}
+use Rattle.fv_rule.proofs.Numbers.{behind}
 use Rattle.fv_rule.proofs.Arrive.{one_less}
 use Rattle.fv_rule.proofs.Arriving.{arriving}
 use Rattle.fv_rule.proofs.Leaving.{leads, parts, leaving, dropped}
@@ -69,7 +70,8 @@ module _ {C Key : Type 0} (edge_of : C → ℕ) (key_of : C → Key) (a : About 
       → ((x : ℕ) → x < n.tasks → slice_index (set s.words i m) (count_word x) ≡ slice_index s.words (count_word x)) → Changes a s
       (stepped s i m id c w act) None
   stays s at d no_win no_finish no_arrival i m act w e same z sh = shown_at s z d (set s.words i m) act w e
-      (shows_same {C = C} {S = Option C} n a.workers s z sh id v d at no_win no_finish no_arrival (set s.words i m) same)
+      (shows_same {C = C} {S = Option C} n a.workers s z sh {id = id} {v = v} {d = d} {words' = set s.words i m} record
+      { at = at; no_win = no_win; no_finish = no_finish; no_arrival = no_arrival; word_is = same })
 
   law_look : (t : ℕ) → Steps edge_of key_of a id (v, c) (count_word t) (λ k. k) (λ _. None) (λ k me. me ≡ (noted v (Saw t k), c))
   law_look t s h at wide =
@@ -98,14 +100,13 @@ module _ {C Key : Type 0} (edge_of : C → ℕ) (key_of : C → Key) (a : About 
       let counts : (x : ℕ) → x < n.tasks → slice_index (set s.words cw 1) (count_word x) ≡ slice_index s.words (count_word x) = λ x l.
       get_set (λ m. m ≡ slice_index s.words (count_word x)) s.words cw (count_word x) 1 0 inw (λ q. absurd (omega arith)) (λ _. refl) in
       let ready : slice_index s.words (count_word t) ≡ 0 = h.kept.seen t there (let b = all_at (sees t) s.views id v at in omega arith) in
-      let none_owed : (z : Now) → ShowsNow a s z → (e : ℕ) → times e (Rattle.fv_core.specs.Core.owes_of z (worker_of v)) ≡ 0 = λ z sh e.
-      let o = (sh.seat id v at).owes e in let f = owes.1 e in omega arith in
       let shown : (b : Bool) → (k == 0) ≡ b → r.0 ≡ noted v (Claimed t b) → Changes a s (stepped s cw 1 id c r.0 r.1)
       (cond b (Some (Take (worker_of v) t)) None) =
       λ b. elim b as (λ b. (k == 0) ≡ b → r.0 ≡ noted v (Claimed t b) → Changes a s (stepped s cw 1 id c r.0 r.1) (cond b (Some (Take (worker_of v) t)) None)) [
         | true ↦ (λ is e z sh. let first : all (wins t) s.views ≡ 0 = (let m = h.kept.claimed t there in
-            let q = bit_one k 0 (subst (λ b. 0 < bit b) (sym is) (omega arith)) in omega arith) in (
-              may_take {C = C} {S = Option C} n a.workers s z sh id t v at there ready first owes.0 (none_owed z sh),
+            let q = bit_one k 0 (subst (λ b. 0 < bit b) (sym is) (omega arith)) in omega arith) in
+            let take : IsTake {C = C} {S = Option C} n s id t v = record { at = at; there = there; ready = ready; first = first; owes = owes } in (
+              may_take {C = C} {S = Option C} n a.workers s z sh take,
               subst (λ (u : View C). ShowsNow a record {
                 words = set s.words cw 1;
                 homes = homes_after s.homes c r.1;
@@ -117,7 +118,7 @@ module _ {C Key : Type 0} (edge_of : C → ℕ) (key_of : C → Key) (a : About 
                     views = set s.views id
                         (noted v (Claimed t true));
                   } (lean_after n z (Take (worker_of v) t))
-                  (shows_taken {C = C} {S = Option C} n a.workers s z sh id t v at there ready first owes.0 (none_owed z sh))
+                  (shows_taken {C = C} {S = Option C} n a.workers s z sh take)
                   (set s.words cw 1) (homes_after s.homes c r.1) counts),
             ))
         | false ↦ (λ is e. stays s at (Claimed t false) (λ x. refl) (λ x. refl) (λ x. refl) cw 1 r.1 r.0 e counts)
@@ -165,6 +166,8 @@ module _ {C Key : Type 0} (edge_of : C → ℕ) (key_of : C → Key) (a : About 
       let w = h.kept.won_once t in let u = busy.unfinished in omega arith in
       let words' = set s.words 0 ((k + 1) % 2 ^ 64) in
       let same : (x : ℕ) → x < n.tasks → slice_index words' (count_word x) ≡ slice_index s.words (count_word x) = λ x l. behind s.words x ((k + 1) % 2 ^ 64) in
+      let finish : IsFinish {C = C} {S = Option C} n s id t v words' = record
+      { at = at; there = busy.there; won = one; unfinished = busy.unfinished; nobody = nobody; word_is = same } in
       let left : carried_after c r.1 ≡ (parts graph_wires edge_of key_of a ws v c t busy handed out).back = told.1 ∙ dropped graph_wires
       edge_of key_of a ws v c t busy handed out in (
         r.0,
@@ -172,9 +175,9 @@ module _ {C Key : Type 0} (edge_of : C → ℕ) (key_of : C → Key) (a : About 
         r.2,
         r.3,
         (λ z sh. (
-          may_finish {C = C} {S = Option C} n ws.is_net a.workers s z sh id t k v at busy.there one busy.unfinished nobody words' same,
+          may_finish {C = C} {S = Option C} n ws.is_net a.workers s z sh finish k,
           shown_at s (lean_after n z (Finish (worker_of v) t)) (Stamped k t false) words' r.1 r.0 told.0
-              (shows_finished {C = C} {S = Option C} n ws.is_net a.workers s z sh id t k v at busy.there one busy.unfinished nobody words' same),
+              (shows_finished {C = C} {S = Option C} n ws.is_net a.workers s z sh finish k),
         )),
         (
           told.0,
@@ -209,15 +212,17 @@ module _ {C Key : Type 0} (edge_of : C → ℕ) (key_of : C → Key) (a : About 
         let w : slice_index s.words (count_word t) ≡ k = ap (λ j. slice_index s.words (count_word j)) (sym q) in let p = r.4.2 in omega arith)
         (λ ne. let b = bit_apart (n.reader e) t ne in
         let y = get_set (λ j. j ≡ slice_index s.words (count_word t)) s.words word (count_word t) m 0 inw
-        (λ q. absurd (ne (omega arith))) (λ _. refl) in omega arith) in (
+        (λ q. absurd (ne (omega arith))) (λ _. refl) in omega arith) in
+        let arrival : IsArrival {C = C} {S = Option C} n s id e v words' = record
+        { at = at; inner = o.inner; done = o.done; new = o.new; word_is = word_is } in (
           r.0,
           r.1,
           r.2,
           r.3,
           (λ z sh. (
-            may_arrive {C = C} {S = Option C} n ws.is_net a.workers s z sh id e (k - 1) v at o.inner o.done o.new words' word_is,
+            may_arrive {C = C} {S = Option C} n ws.is_net a.workers s z sh arrival (k - 1),
             shown_at s (lean_after n z (Arrive (worker_of v) e)) (Arrived e (k - 1)) words' r.1 r.0 t0
-                (shows_arrived {C = C} {S = Option C} n ws.is_net a.workers s z sh id e (k - 1) v at o.inner o.done o.new words' word_is),
+                (shows_arrived {C = C} {S = Option C} n ws.is_net a.workers s z sh arrival (k - 1)),
           )),
           ((λ i. (t0 i, t1 i)), r.4.2),
         )

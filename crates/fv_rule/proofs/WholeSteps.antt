@@ -26,8 +26,8 @@ use Rattle.fv_rule.specs.Whole.{zeroes, starts_at, finishes_at, IsWhole}
 use Rattle.fv_rule.proofs.Claim.{all_noted, all_at, total_ext}
 use Rattle.fv_rule.proofs.Splits.{sum_set}
 use Rattle.fv_rule.proofs.Shows.{lean_more, reached_claim}
-use Rattle.fv_rule.proofs.Finishes.{shows_same, shows_finished, may_finish}
-use Rattle.fv_rule.proofs.Arrives.{shows_arrived, may_arrive}
+use Rattle.fv_rule.proofs.Finishes.{IsFinish, shows_same, shows_finished, may_finish}
+use Rattle.fv_rule.proofs.Arrives.{IsArrival, shows_arrived, may_arrive}
 
 -- a deed that is no stamp and no arrival
 pub record IsQuiet (n : Net) (d : Deed) : Type 0 where
@@ -131,8 +131,13 @@ module _ {C Key : Type 0} (wires : Graph → Wires) (edge_of : C → ℕ) (key_o
       → ((x : ℕ) → x < n.tasks → slice_index words' (count_word x) ≡ slice_index s.words (count_word x))
       → ((j : ℕ) (y : View C) → get_elem? (set s.views id (noted v d)) j ≡ some y → y.board ≡ Some a) → Reached {C = C} {S = Option C} n
       a.workers record { words = words'; homes = s.homes; views = set s.views id (noted v d) }
-  reached_same d w f ar words' counts boards = let r = h.reached (old_boards d boards) in
-      (r.0, r.1, r.2, shows_same {C = C} {S = Option C} n a.workers s r.1 r.3 id v d at w f ar words' counts)
+  reached_same d w f ar words' counts boards = let r = h.reached (old_boards d boards) in (
+    r.0,
+    r.1,
+    r.2,
+    shows_same {C = C} {S = Option C} n a.workers s r.1 r.3 {id = id} {v = v} {d = d} {words' = words'} record
+        { at = at; no_win = w; no_finish = f; no_arrival = ar; word_is = counts },
+  )
 
   -- after a won claim
   pub reached_won : (t : ℕ) → t < n.tasks → slice_index s.words (count_word t) ≡ 0 → all (wins t) s.views ≡ 0 → OwesNothing n v →
@@ -140,8 +145,8 @@ module _ {C Key : Type 0} (wires : Graph → Wires) (edge_of : C → ℕ) (key_o
       ((x : ℕ) → x < n.tasks → slice_index words' (count_word x) ≡ slice_index s.words (count_word x))
       → ((j : ℕ) (y : View C) → get_elem? (set s.views id (noted v (Claimed t true))) j ≡ some y → y.board ≡ Some a) → Reached {C = C}
       {S = Option C} n a.workers record { words = words'; homes = homes'; views = set s.views id (noted v (Claimed t true)) }
-  reached_won t there ready first free words' homes' counts boards = let r = reached_claim {C = C} {S = Option C} n a.workers s id t v
-      (h.reached (old_boards (Claimed t true) boards)) at there ready first free in (
+  reached_won t there ready first free words' homes' counts boards = let r = reached_claim {C = C} {S = Option C} n a.workers s {id = id} {t = t} {v = v}
+      (h.reached (old_boards (Claimed t true) boards)) record { at = at; there = there; ready = ready; first = first; owes = free } in (
         r.0,
         r.1,
         r.2,
@@ -154,13 +159,15 @@ module _ {C Key : Type 0} (wires : Graph → Wires) (edge_of : C → ℕ) (key_o
       0 → (words' : List ℕ) → ((x : ℕ) → x < n.tasks → slice_index words' (count_word x) ≡ slice_index s.words (count_word x))
       → ((j : ℕ) (y : View C) → get_elem? (set s.views id (noted v (Stamped k t false))) j ≡ some y → y.board ≡ Some a) → Reached {C = C}
       {S = Option C} n a.workers record { words = words'; homes = s.homes; views = set s.views id (noted v (Stamped k t false)) }
-  reached_finish t k net there won unfinished nobody words' counts boards = let r = h.reached (old_boards (Stamped k t false) boards) in (
-    r.0 ++ Finish (worker_of v) t ∷ [],
-    lean_after n r.1 (Finish (worker_of v) t),
-    lean_more n r.0 (Finish (worker_of v) t) (opening n a.workers) r.1 r.2
-        (may_finish {C = C} {S = Option C} n net a.workers s r.1 r.3 id t k v at there won unfinished nobody words' counts),
-    shows_finished {C = C} {S = Option C} n net a.workers s r.1 r.3 id t k v at there won unfinished nobody words' counts,
-  )
+  reached_finish t k net there won unfinished nobody words' counts boards = let r = h.reached (old_boards (Stamped k t false) boards) in
+      let finish : IsFinish {C = C} {S = Option C} n s id t v words' = record
+      { at = at; there = there; won = won; unfinished = unfinished; nobody = nobody; word_is = counts } in (
+        r.0 ++ Finish (worker_of v) t ∷ [],
+        lean_after n r.1 (Finish (worker_of v) t),
+        lean_more n r.0 (Finish (worker_of v) t) (opening n a.workers) r.1 r.2
+            (may_finish {C = C} {S = Option C} n net a.workers s r.1 r.3 finish k),
+        shows_finished {C = C} {S = Option C} n net a.workers s r.1 r.3 finish k,
+      )
 
   -- an arrival
   module _ (e : ℕ) (net : IsNet n) (inner : n.is_inner e ≡ true) (done : 0 < done_by (finishes (n.source e)) v)
@@ -185,15 +192,16 @@ module _ {C Key : Type 0} (wires : Graph → Wires) (edge_of : C → ℕ) (key_o
 
     reached_arrive : ((j : ℕ) (y : View C) → get_elem? (set s.views id (noted v d)) j ≡ some y → y.board ≡ Some a) → Reached {C = C}
         {S = Option C} n a.workers record { words = words'; homes = homes'; views = set s.views id (noted v d) }
-    reached_arrive boards = let r = h.reached (old_boards d boards) in (
-      r.0 ++ Arrive (worker_of v) e ∷ [],
-      lean_after n r.1 (Arrive (worker_of v) e),
-      lean_more n r.0 (Arrive (worker_of v) e) (opening n a.workers) r.1 r.2
-          (may_arrive {C = C} {S = Option C} n net a.workers s r.1 r.3 id e c v at inner done new words' word_is),
-      shows_words {C = C} {S = Option C} n a.workers record { words = words'; homes = s.homes; views = set s.views id (noted v d) }
-          (lean_after n r.1 (Arrive (worker_of v) e)) (shows_arrived {C = C} {S = Option C} n net a.workers s r.1 r.3 id e c v at inner
-          done new words' word_is) words' homes' (λ x l. refl),
-    )
+    reached_arrive boards = let r = h.reached (old_boards d boards) in
+        let arrival : IsArrival {C = C} {S = Option C} n s id e v words' = record { at = at; inner = inner; done = done; new = new; word_is = word_is } in (
+          r.0 ++ Arrive (worker_of v) e ∷ [],
+          lean_after n r.1 (Arrive (worker_of v) e),
+          lean_more n r.0 (Arrive (worker_of v) e) (opening n a.workers) r.1 r.2
+              (may_arrive {C = C} {S = Option C} n net a.workers s r.1 r.3 arrival c),
+          shows_words {C = C} {S = Option C} n a.workers record { words = words'; homes = s.homes; views = set s.views id (noted v d) }
+              (lean_after n r.1 (Arrive (worker_of v) e)) (shows_arrived {C = C} {S = Option C} n net a.workers s r.1 r.3 arrival c)
+              words' homes' (λ x l. refl),
+        )
 
     pub whole_arrived : IsWhole wires edge_of key_of a record { words = words'; homes = homes'; views = set s.views id (noted v d) }
     whole_arrived = record {
