@@ -5,9 +5,9 @@ use Rattle.std.proofs.lemmas.Simd.{map-map}
 use Rattle.std.proofs.lemmas.Option.{none-some}
 use Rattle.std.proofs.lemmas.List.Elements.{All-nil, All-cons, All-tail}
 use Rattle.fv_grammar.specs.Tree.{Tree, items}
-use Rattle.fv_parse.specs.Trees.{Parsed, size_of, tree_in, text_of, first_named}
+use Rattle.fv_parse.specs.Trees.{Parsed, size_of, tree_in, start_in, text_of, first_named}
 use Rattle.fv_grammar.specs.Tree as tree
-use Rattle.fv_tree.specs.Arena.{forest, tree_of}
+use Rattle.fv_tree.specs.Arena.{forest, trees, tree_of}
 use Rattle.fv_tree.specs.declared.node.TreeId.{TreeId}
 use Rattle.fv_tree.specs.declared.node.TreeNode.{TreeNode}
 use Rattle.fv_tree.specs.declared.node.TreeNode.TheVariants as nodes
@@ -19,6 +19,11 @@ use Rattle.fv_rules.specs.Chosen.{IsFirstRule}
 
 some_same : {A : Type 0} {x y : A} → Some x ≡ Some y → x ≡ y
 some_same e = cc
+
+-- the tree of a node that was matched
+pub node_is : (p : Parsed) (i : ℕ) {n m : TreeNode} {t : Tree} → t ≡ tree_of (trees p.entries) n (start_in p i) → n ≡ m
+    → t ≡ tree_of (trees p.entries) m (start_in p i)
+node_is p i e same = e ∙ ap (λ node. tree_of (trees p.entries) node (start_in p i)) same
 
 -- what is no `case` has no rules
 pub other_case : (ts : List Tree) (node : TreeNode) (start : ℕ) → ((list : TreeId) → node ≡ nodes.Case list → ⊥) → case_in (tree_of ts node start) ≡ []
