@@ -19,7 +19,7 @@ use Rattle.fv_grammar.specs.Tree as tree
 use Rattle.fv_grammar.specs.declared.form.Operator.{Operator}
 use Rattle.fv_diagram.specs.declared.node.Node.{Node}
 use Rattle.fv_diagram.specs.declared.node.DiagramId.{DiagramId}
-use Rattle.fv_diagram.specs.Diagram.{Diagram, Primitive, Constant, Control, Slot, Bind, Par, Seq, Split, Merge, Rec, size, IsWellFormed}
+use Rattle.fv_diagram.specs.Diagram.{Diagram, Constant, size, IsWellFormed}
 use Rattle.fv_diagram.specs.Arena.{Arena, count_of, tree_of, tree_with, trees, ChildrenBelow, tree_in as node_diagram}
 use Rattle.fv_parse.specs.Trees.{Parsed, size_of, tree_in, text_of}
 use Rattle.fv_rules.specs.declared.value.Value as code_value
@@ -32,17 +32,15 @@ use Rattle.fv_rules.specs.Values.{Value, Flat, Abstraction, Rules}
 use Rattle.fv_rules.specs.Numbers.{number_of}
 use Rattle.fv_rules.specs.Matching.{Bindings, and_then, number_or, is_number, parts_without, matched}
 use Rattle.std.specs.Bool.{MatchBool}
-use Rattle.std.proofs.lemmas.Option.{none-some}
+use Rattle.std.proofs.lemmas.Option.{none-some, same_Some}
 use Rattle.std.proofs.lemmas.Bool.{false≢true}
 use Rattle.fv_diagram.specs.declared.node.Node.TheVariants as node
 use Rattle.fv_rules.specs.Shows.{World, Grows, ShowsValue, ShowsBindings}
 use Rattle.fv_rules.specs.Memo.{Remembers, IsKnown, IsInteger, AddsIntegers}
 use Rattle.fv_rules.specs.Choosing.{with_diagrams, ShowsMatched, ShowsMatch, matched_on, pair_of, waiting, IsPair, BindsName, Refuses, Leaves}
 use Rattle.fv_rules.specs.Choosing.{are_parts, both_parts, IsNoDiagram, ArePartsOf, GoesOn}
+use Rattle.fv_diagram.proofs.Turns.{some_size}
 use Rattle.fv_rules.proofs.Grown.{diagrams_come, bindings_grow}
-
-some_same : {A : Type 0} {x y : A} → Some x ≡ Some y → x ≡ y
-some_same e = cc
 
 -- ---- arenas that integers were added to
 
@@ -88,18 +86,6 @@ still_remembers a b ks g h i k e = known_stays a b i k g (h i k e)
 
 -- ---- one pattern on one diagram
 
-size_positive : (d : Diagram) → 0 < size d
-size_positive (Primitive p) = omega arith
-size_positive (Constant n) = omega arith
-size_positive (Control k) = omega arith
-size_positive (Slot s) = omega arith
-size_positive (Bind s x) = omega arith
-size_positive (Par x y) = omega arith
-size_positive (Seq x y) = omega arith
-size_positive (Split x y) = omega arith
-size_positive (Merge x y) = omega arith
-size_positive (Rec x y) = omega arith
-
 and_then_on : {A B C : Type 0} (o : Option A) (f : A → Option B) (g : B → Option C) → and_then (and_then o f) g ≡ and_then o (λ x. and_then (f x) g)
 and_then_on None f g = refl
 and_then_on (Some x) f g = refl
@@ -132,7 +118,7 @@ name_leaves {p} {a} {b} {x} {n = n} {i = i} {before = before} {after = after} wa
   pushed = sym (append-nil waits);
   there = All-nil (IsPair p a);
   below = All-nil (λ (y : Pair). y.diagram < x.diagram);
-  smaller = size_positive (tree_of a x.diagram);
+  smaller = some_size (tree_of a x.diagram);
   meant = λ w bs e f h.
       let v : World = with_diagrams w b in
       let d = tree_of a x.diagram in
@@ -160,7 +146,7 @@ number_leaves p a x waits before k is passes = record {
   pushed = sym (append-nil waits);
   there = All-nil (IsPair p a);
   below = All-nil (λ (y : Pair). y.diagram < x.diagram);
-  smaller = size_positive (tree_of a x.diagram);
+  smaller = some_size (tree_of a x.diagram);
   meant = λ w bs e f h.
       let d = tree_of a x.diagram in (
         bs,
@@ -235,10 +221,6 @@ parts_leave {p} {a} {x} {waits = waits} {o = o} {l = l} {r = r} {ij = ij} before
     two : (P : Pair → Type 0) → P right → P left → All P (right ∷ left ∷ [])
     two P g h = All-cons P right (left ∷ []) g (All-cons P left [] h (All-nil P))
 
-pub parts_refuse : {p : Parsed} {x : Pair} {o : Operator} {l r : ℕ} (a : Arena) → IsComposed p x o l r
-    → parts_without (number_of (tree_of a x.diagram)) o (tree_of a x.diagram) ≡ None → Refuses p a x
-parts_refuse {p} {x} {o} {l} {r} a is composed rest bs = by_parts p a x o l r None is composed rest bs
-
 -- what a pattern that is a number answers
 pub number_answers : (p : Parsed) (a : Arena) (x : Pair) (waits : List Pair) (before : List code_binding.Binding) (k : ℤ) (b : Bool)
     → IsNumber p x k → b ≡ is_number k (number_of (tree_of a x.diagram)) → MatchBool b (Leaves p a a x waits waits before before) (Refuses p a x)
@@ -253,7 +235,7 @@ are_parts_of a id n ij is below well e = go n e below (subst IsWellFormed is wel
     parts : {i j : ℕ} → Some (i, j) ≡ Some ij → (i < id) × (j < id) → IsWellFormed (tree_of a i) → IsWellFormed (tree_of a j)
         → size (tree_of a id) ≡ 1 + size (tree_of a i) + size (tree_of a j) → ArePartsOf a id ij
     parts e c u v s =
-        subst (ArePartsOf a id) (some_same e) (record { left = c.0; right = c.1; left_well = u; right_well = v; sizes = omega (arith, s) })
+        subst (ArePartsOf a id) (same_Some _ _ e) (record { left = c.0; right = c.1; left_well = u; right_well = v; sizes = omega (arith, s) })
 
     go : (n : Node) → both_parts n ≡ Some ij → ChildrenBelow id n → IsWellFormed (tree_with a n) → size (tree_of a id) ≡ size (tree_with a n)
         → ArePartsOf a id ij
@@ -273,32 +255,33 @@ all_parts_of a id n (Some ij) is below well h = are_parts_of a id n ij is below 
 abbrev pub IsNoName : TreeNode → Type 0
 IsNoName node = (n : ℕ) → node ≡ nodes.Named n → ⊥
 
+-- the value is no diagram
+abbrev IsNoFlat : Value → Type 0
+IsNoFlat (Flat d) = ⊥
+IsNoFlat v = Unit {0}
+
+shows_no_flat : (w : World) (u : code_value.Value) (v : Value) → IsNoDiagram u → ShowsValue w u v → IsNoFlat v
+shows_no_flat w (value.Diagram i) v other h = absurd other
+shows_no_flat w (value.Abstraction f n e) (Flat d) other h = absurd h
+shows_no_flat w (value.Rules r e n i) (Flat d) other h = absurd h
+shows_no_flat w u (Abstraction x xs b E) other h = tt
+shows_no_flat w u (Rules s rs E T) other h = tt
+
+no_name_refuses : (l : Lexed) (ts : List Tree) (node : TreeNode) (start : ℕ) (v : Value) (bs : Bindings) → IsNoName node → IsNoFlat v
+    → matched l (node_in ts node start) v bs ≡ None
+no_name_refuses l ts (nodes.Named n) start v bs a other = absurd (a n refl)
+no_name_refuses l ts (nodes.List ids) start v bs a other = none ids.items
+  where
+    none : (is : List TreeId) → matched l (forest ts is tree.End) v bs ≡ None
+    none [] = refl
+    none (i ∷ is) = refl
+no_name_refuses l ts node start (Flat d) bs a other = absurd other
+no_name_refuses l ts node start v bs a other = refl
+
 -- a pattern on a value that is no diagram
 pub whole_refuses : (l : Lexed) (ts : List Tree) (node : TreeNode) (start : ℕ) (w : World) (u : code_value.Value) (v : Value) (bs : Bindings)
     → IsNoName node → IsNoDiagram u → ShowsValue w u v → matched l (node_in ts node start) v bs ≡ None
-whole_refuses l ts node start w (value.Diagram i) v bs a other h = absurd other
-whole_refuses l ts node start w (value.Abstraction f n e) (Flat d) bs a other h = absurd h
-whole_refuses l ts node start w (value.Rules r e n i) (Flat d) bs a other h = absurd h
-whole_refuses l ts node start w u (Abstraction x xs b E) bs a other h = none node a
-  where
-    none : (node : TreeNode) → IsNoName node → matched l (node_in ts node start) (Abstraction x xs b E) bs ≡ None
-    none (nodes.Named n) a = absurd (a n refl)
-    none (nodes.List ids) a = list ids.items
-      where
-        list : (is : List TreeId) → matched l (forest ts is tree.End) (Abstraction x xs b E) bs ≡ None
-        list [] = refl
-        list (i ∷ is) = refl
-    none node a = refl
-whole_refuses l ts node start w u (Rules s rs E T) bs a other h = none node a
-  where
-    none : (node : TreeNode) → IsNoName node → matched l (node_in ts node start) (Rules s rs E T) bs ≡ None
-    none (nodes.Named n) a = absurd (a n refl)
-    none (nodes.List ids) a = list ids.items
-      where
-        list : (is : List TreeId) → matched l (forest ts is tree.End) (Rules s rs E T) bs ≡ None
-        list [] = refl
-        list (i ∷ is) = refl
-    none node a = refl
+whole_refuses l ts node start w u v bs a other h = no_name_refuses l ts node start v bs a (shows_no_flat w u v other h)
 
 -- the node is none of those that match a diagram
 pub record MatchesNothing (node : TreeNode) : Type 0 where
@@ -486,13 +469,6 @@ loop_refuses {p} {a} {b} {x = x} {pending = pending} {rest = rest} c after g off
     ap (λ xs. matched_on p.tokens (waiting p a xs) old.0) off.is ∙ ap (λ xs. matched_on p.tokens xs old.0) (waiting_next p a rest x)
     ∙ ap (λ y. matched_on p.tokens (y ∷ waiting p a rest) old.0) (sym (pair_first p a b x g.adds last.diagram)) ∙ fails (waiting p a rest) old.0 in
     subst (λ o. ShowsMatched (with_diagrams w c) false after o) (sym none ∙ old.2) tt
-
--- what stands when no pair waits
-pub loop_ends : {p : Parsed} {a b : Arena} {ks : List Known} {whole : Pair} {pending : List Pair} {before after : List code_binding.Binding}
-    → GoesOn p a b ks whole pending before after → pending ≡ [] → ShowsWhole p a b whole true before after
-loop_ends {p} {a} {b} {after = after} g is w bs e f h =
-    let old = g.meant w bs e f h in
-    subst (λ o. ShowsMatched (with_diagrams w b) true after o) (sym (ap (λ xs. matched_on p.tokens (waiting p a xs) old.0) is) ∙ old.2) old.1
 
 -- ---- what is handed out
 

@@ -2,7 +2,7 @@
 use Rattle.std.proofs.Common.{◌≡◌, ℕ, zero, suc, ◌+◌, ◌<◌, ◌≤◌, arith, Bool, true, false, List, [], ◌∷◌, length, map, drop, get_or, Option, Some}
 use Rattle.std.proofs.Common.{None, refl, sym, ap, ap₂, subst, ◌∙◌, All, drop-cons, add-one}
 use Rattle.std.specs.Prelude.{slice_get}
-use Rattle.std.proofs.lemmas.Option.{none-some, slice_get_within, slice_get_read, get_or_from_slice_get}
+use Rattle.std.proofs.lemmas.Option.{none-some, slice_get_within, slice_get_read, get_or_from_slice_get, same_Some}
 use Rattle.std.proofs.lemmas.List.{drop_all}
 use Rattle.fv_diagram.specs.Arena.{Arena}
 use Rattle.fv_diagram.specs.Diagram.{IsWellFormed}
@@ -18,12 +18,9 @@ use Rattle.fv_rules.specs.Matching.{Bindings, and_then, matched, all_matched, or
 use Rattle.fv_rules.specs.Shows.{World, ShowsValue, ShowsValues, ShowsBindings}
 use Rattle.fv_rules.specs.Memo.{Remembers, AddsIntegers}
 use Rattle.fv_rules.specs.Choosing.{IsSound, with_diagrams, ShowsMatched}
-use Rattle.fv_rules.specs.Chosen.{ShowsChoice, IsRuleAt}
+use Rattle.fv_rules.specs.Chosen.{ShowsChoice, IsRuleAt, Chooses}
 use Rattle.fv_rules.proofs.Grown.{value_grows, values_grow}
 use Rattle.fv_rules.proofs.Matched.{adds_none, adds_on, adds_grow, adds_keeps, adds_longer}
-
-some_same : {A : Type 0} (x y : A) → Some x ≡ Some y → x ≡ y
-some_same x y e = cc
 
 -- what an answer says of the pure one
 said_yes : (w : World) (found : List code_binding.Binding) (o : Option Bindings) → ShowsMatched w true found o
@@ -39,7 +36,7 @@ said_no w found None h = refl
 shown_at : (w : World) (us : List code_value.Value) (vs : List Value) (i : ℕ) (u : code_value.Value) → ShowsValues w us vs → slice_get us i ≡ Some u
     → (v : Value) × (drop i vs ≡ v ∷ drop (suc i) vs) × ShowsValue w u v
 shown_at w us [] i u h e = absurd (none-some u (ap (λ xs. slice_get xs i) (sym h) ∙ e))
-shown_at w us (v ∷ vs) zero u h e = (v, refl, subst (λ x. ShowsValue w x v) (some_same h.0 u (ap (λ xs. slice_get xs 0) (sym h.2) ∙ e)) h.3)
+shown_at w us (v ∷ vs) zero u h e = (v, refl, subst (λ x. ShowsValue w x v) (same_Some h.0 u (ap (λ xs. slice_get xs 0) (sym h.2) ∙ e)) h.3)
 shown_at w us (v ∷ vs) (suc i) u h e = shown_at w h.1 vs i u h.4 (ap (λ xs. slice_get xs (suc i)) (sym h.2) ∙ e)
 
 shown_past : (w : World) (us : List code_value.Value) (vs : List Value) (i : ℕ) → ShowsValues w us vs → slice_get us i ≡ None → drop i vs ≡ []
@@ -201,7 +198,8 @@ next_rule {p} {rules} {i} {x} n =
     ap (map (rule_in p)) (drop-cons rules i x n.inside) ∙ ap (λ y. rule_in p y ∷ map (rule_in p) (drop (suc i) rules)) (sym n.here)
 
 -- the patterns of the rule were tried, with no bindings so far
-pub record TriedRule (p : Parsed) (r : RuleAt) (arguments : List code_value.Value) (says : Bool) (b c : Arena) (after : List code_binding.Binding) : Type 0 where
+pub record TriedRule (p : Parsed) (r : RuleAt) (arguments : List code_value.Value) (says : Bool) (b c : Arena)
+    (after : List code_binding.Binding) : Type 0 where
   pub adds : AddsIntegers b c
   pub answer : AllAnswer p r.patterns.now arguments says b c [] after
 
@@ -236,15 +234,9 @@ rules_go_on {p} {rules} {a = a} {b = b} {c = c} {i = i} {x = x} {after = after} 
       ∙ m.passed w vs e f h;
 }
 
--- the choice among all rules, for each world that shows the arguments
-abbrev pub ShowsTheChoice : Parsed → List TreeId → List code_value.Value → Arena → Arena → Option (TreeId × List code_binding.Binding) → Type 0
-ShowsTheChoice p rules arguments a c o =
-    (w : World) (vs : List Value) → w.tree ≡ p → w.diagrams ≡ a → ShowsValues w arguments vs
-    → ShowsChoice (with_diagrams w c) o (chosen p.tokens (map (rule_in p) rules) vs)
-
 pub rule_chosen : {p : Parsed} {rules : List TreeId} {arguments : List code_value.Value} {a b c : Arena} {ks : List Known} {i : ℕ} {x : TreeId}
     {r : RuleAt} {after : List code_binding.Binding} → ChoosesOn p rules arguments a b ks i → NextRule p rules i x r
-    → TriedRule p r arguments true b c after → ShowsTheChoice p rules arguments a c (Some (r.body, after))
+    → TriedRule p r arguments true b c after → Chooses p rules arguments a c (Some (r.body, after))
 rule_chosen {p} {rules} {c = c} {i = i} {x = x} {r = r} {after = after} m n try w vs e f h =
     let yes = said_yes (with_diagrams w c) after (all_matched p.tokens (rule_in p x).patterns vs []) (tried m.adds n try w vs e f h) in
     let some : chosen p.tokens (map (rule_in p) rules) vs ≡ Some ((rule_in p x).body, yes.0) =
@@ -254,7 +246,7 @@ rule_chosen {p} {rules} {c = c} {i = i} {x = x} {r = r} {after = after} m n try 
     (subst (λ (q : Parsed). (r.body < size_of q) × (tree_in q r.body ≡ (rule_in p x).body)) (sym e) (n.is.body_there, n.is.body), yes.2)
 
 pub no_rule_chosen : {p : Parsed} {rules : List TreeId} {arguments : List code_value.Value} {a b : Arena} {ks : List Known} {i : ℕ}
-    → ChoosesOn p rules arguments a b ks i → length rules ≤ i → ShowsTheChoice p rules arguments a b None
+    → ChoosesOn p rules arguments a b ks i → length rules ≤ i → Chooses p rules arguments a b None
 no_rule_chosen {p} {rules} {b = b} {i = i} m l w vs e f h =
     subst (ShowsChoice (with_diagrams w b) None)
     (ap (λ rs. chosen p.tokens (map (rule_in p) rs) vs) (sym (drop_all i rules l)) ∙ m.passed w vs e f h) tt

@@ -1,6 +1,6 @@
 use Rattle.std.proofs.lemmas.Option.{slice_get_past}
 use Rattle.fv_rules.proofs.Matched.{adds_on}
-use Rattle.fv_rules.proofs.RulesChosen.{Tried, patterns_begin, patterns_go_on, patterns_refuse, patterns_stop, patterns_end, next_of, tried_to}
+use Rattle.fv_rules.proofs.RulesChosen.{patterns_begin, patterns_go_on, patterns_refuse, patterns_stop, next_of, tried_to}
 use Rattle.fv_rules.proofs.RulesChosen.{all_sound, sound_at}
 use Rattle.fv_rules.proofs.choosing.all_match.Goals as goal
 

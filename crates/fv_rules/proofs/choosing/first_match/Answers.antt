@@ -1,9 +1,7 @@
 use Rattle.std.proofs.Common.{true, Some, sym, subst}
-use Rattle.fv_rules.specs.Matching.{chosen}
-use Rattle.fv_rules.specs.Choosing.{with_diagrams}
-use Rattle.fv_rules.specs.Chosen.{ShowsChoice}
+use Rattle.fv_rules.specs.Chosen.{Chooses}
 use Rattle.fv_rules.proofs.Matched.{adds_on}
-use Rattle.fv_rules.proofs.RulesChosen.{NextRule, ShowsTheChoice, rule_in, rules_begin, rules_go_on, rule_chosen, no_rule_chosen, tried_rule, all_sound}
+use Rattle.fv_rules.proofs.RulesChosen.{NextRule, rules_begin, rules_go_on, rule_chosen, no_rule_chosen, tried_rule, all_sound}
 use Rattle.fv_rules.proofs.choosing.first_match.Goals as goal
 
 pub loop-id-init : goal.loop-id-init
@@ -36,7 +34,7 @@ returns-then-branch-clause-chosen c =
     record { inside = c.loop-id-test.true; here = c.id-item.is; is = c.rule_at-rule.ensures } in
     let try = tried_rule c.args.tree.now c.rule_at-rule.result c.args.arguments.now true _ c.loop-id.diagrams new.diagrams _ new.found.items c.if-branch.true
     c.new-list.ensures.items c.in_ok-all_match.ensures.adds c.in_ok-all_match.ensures.matched in
-    subst (λ us. ShowsTheChoice c.args.tree.now c.args.rules.now c.args.arguments.now c.args.diagrams.now new.diagrams (Some (c.rule_at-rule.result.body, us)))
+    subst (λ us. Chooses c.args.tree.now c.args.rules.now c.args.arguments.now c.args.diagrams.now new.diagrams (Some (c.rule_at-rule.result.body, us)))
     (sym c.of.ensures) (rule_chosen c.loop-id.invariant next try)
 
 pub returns-clause-chosen : goal.returns-clause-chosen

@@ -41,4 +41,5 @@ loop-pair-preserved c =
     let new = c.advance.new in
     let leaves = left_by c.args.tree.now now.diagrams new.diagrams c.in-Some.pair c.pop.new.self.items new.pending.items now.found.items
     new.found.items _ c.if-not-branch.false c.in_ok-advance.ensures.matched in
-    loop_goes_on now.invariant (taken_off c.pop.new.self.items c.pop.ensures.items c.in-Some.is) c.in_ok-advance.ensures.adds c.in_ok-advance.ensures.known leaves
+    loop_goes_on now.invariant (taken_off c.pop.new.self.items c.pop.ensures.items c.in-Some.is) c.in_ok-advance.ensures.adds
+    c.in_ok-advance.ensures.known leaves
