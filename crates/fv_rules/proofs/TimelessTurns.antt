@@ -85,6 +85,9 @@ pub record IsOver (a : Arena) (id x y : ℕ) (d : Diagram) : Type 0 where
   pub left : x < count_of a
   pub right : y < count_of a
 
+pub over_two : {a : Arena} {id x y : ℕ} {d : Diagram} → tree_of a id ≡ d → (x < id) × (y < id) → id < count_of a → IsOver a id x y d
+over_two is below there = record { is = is; left = omega (arith, below.0, there); right = omega (arith, below.1, there) }
+
 -- so many numbers came, from place `at` on
 pub record HasRoom (at count : ℕ) (ns ms : List ℤ) : Type 0 where
   pub here : at ≡ length ns

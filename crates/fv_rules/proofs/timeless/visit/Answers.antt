@@ -1,8 +1,8 @@
-use Rattle.std.proofs.Common.{◌+◌, ◌∷◌, length, reverse, arith, ap, ap₂, ◌∙◌}
-use Rattle.fv_diagram.specs.Diagram.{Par, Seq, Split, Merge, inputs, outputs}
+use Rattle.std.proofs.Common.{◌+◌, ◌∷◌, length, reverse, ap, ap₂, ◌∙◌}
+use Rattle.fv_diagram.specs.Diagram.{inputs, outputs}
 use Rattle.fv_diagram.specs.Arena.{tree_of}
 use Rattle.fv_rules.specs.declared.timeless.Task.TheVariants as task
-use Rattle.fv_rules.proofs.TimelessTurns.{IsOver, HasRoom, seq_turn, par_turn, split_turn, merge_turn, so_called}
+use Rattle.fv_rules.proofs.TimelessTurns.{HasRoom, over_two, seq_turn, par_turn, split_turn, merge_turn, so_called}
 use Rattle.fv_rules.proofs.Waiting.{three_tasks}
 use Rattle.fv_rules.proofs.timeless.visit.Goals as goal
 
@@ -10,8 +10,7 @@ pub returns-in_ok-put-in-Par-2 : goal.returns-in_ok-put-in-Par-2
 returns-in_ok-put-in-Par-2 c =
     let a = c.args.diagrams.now in
     let d = c.in-Par in
-    let over : IsOver a c.args.id d.left d.right (Par (tree_of a d.left) (tree_of a d.right)) =
-    record { is = d.ensures.tree; left = omega (arith, d.ensures.children.0, c.requires.0.0); right = omega (arith, d.ensures.children.1, c.requires.0.0) } in
+    let over = over_two d.ensures.tree d.ensures.children c.requires.0.0 in
     so_called a _ _ _ c.args.work.now.numbers.items _ _
     (c.in_ok-put-in-Par-2.ensures.tasks ∙ ap (λ ts. task.Visit d.left c.args.from c.args.to ∷ ts) c.in_ok-put-in-Par.ensures.tasks)
     (c.put-in-Par.ensures.numbers ∙ c.put.ensures.numbers)
@@ -25,8 +24,7 @@ returns-in_ok-put-in-Seq-2 c =
     let ns = c.args.work.now.numbers.items in
     let ms = c.extend.new.numbers.items in
     let at = c.in_ok-at-in-Seq in
-    let over : IsOver a c.args.id d.left d.right (Seq (tree_of a d.left) (tree_of a d.right)) =
-    record { is = d.ensures.tree; left = omega (arith, d.ensures.children.0, c.requires.0.0); right = omega (arith, d.ensures.children.1, c.requires.0.0) } in
+    let over = over_two d.ensures.tree d.ensures.children c.requires.0.0 in
     let room : HasRoom at.at (outputs (tree_of a d.left)) ns ms =
     record { here = at.ensures.place; long = at.ensures.length ∙ ap (λ n. length ns + n) c.arity-count.ensures.arity.1; stays = c.extend.ensures.same } in
     so_called a _ _ _ ns ms _
@@ -43,8 +41,7 @@ returns-in_ok-put-in-Split-2 c =
     let at = c.in_ok-at-in-Split in
     let count = c.arity-count-in-Split.ensures.arity.1 in
     let many = c.arity-many.ensures.arity.0 in
-    let over : IsOver a c.args.id d.left d.right (Split (tree_of a d.left) (tree_of a d.right)) =
-    record { is = d.ensures.tree; left = omega (arith, d.ensures.children.0, c.requires.0.0); right = omega (arith, d.ensures.children.1, c.requires.0.0) } in
+    let over = over_two d.ensures.tree d.ensures.children c.requires.0.0 in
     let room : HasRoom at.at (inputs (tree_of a d.right)) ns ms =
     record { here = at.ensures.place; long = at.ensures.length ∙ ap (λ n. length ns + n) many; stays = c.extend-in-Split.ensures.same } in
     so_called a _ _ _ ns ms _
@@ -62,8 +59,7 @@ returns-in_ok-put-in-Merge-2 c =
     let at = c.in_ok-at-in-Merge in
     let count = c.arity-count-in-Merge.ensures.arity.1 in
     let many = c.arity-many-in-Merge.ensures.arity.0 in
-    let over : IsOver a c.args.id d.left d.right (Merge (tree_of a d.left) (tree_of a d.right)) =
-    record { is = d.ensures.tree; left = omega (arith, d.ensures.children.0, c.requires.0.0); right = omega (arith, d.ensures.children.1, c.requires.0.0) } in
+    let over = over_two d.ensures.tree d.ensures.children c.requires.0.0 in
     let room : HasRoom at.at (outputs (tree_of a d.left)) ns ms =
     record { here = at.ensures.place; long = at.ensures.length ∙ ap (λ n. length ns + n) count; stays = c.extend-in-Merge.ensures.same } in
     so_called a _ _ _ ns ms _
