@@ -1,6 +1,6 @@
 -- What a timeless diagram gives is what it answers at the first time.
-use Rattle.std.proofs.Common.{◌≡◌, ℕ, ◌+◌, Bool, true, false, ◌&&◌, nat_eq, List, [], ◌∷◌, length, map, take, drop, refl, sym, ap, ap₂, ◌∙◌, subst, pos, Some, None}
-use Rattle.std.proofs.lemmas.Bool.{and_parts, cond-true, cond-false}
+use Rattle.std.proofs.Common.{◌≡◌, ℕ, ◌+◌, Bool, true, false, ◌&&◌, nat_eq, List, [], ◌∷◌, length, map, take, drop, refl, sym, ap, ap₂, ◌∙◌, subst, pos, Some}
+use Rattle.std.proofs.lemmas.Bool.{and_parts, cond-true}
 use Rattle.std.proofs.lemmas.List.{length-append}
 use Rattle.fv_base.proofs.Lists.{length_table}
 use Rattle.fv_num.specs.Words.{argument}
@@ -68,9 +68,3 @@ has_number d t i o =
     let e : (is_timeless d && (nat_eq (inputs d) 0 && nat_eq (outputs d) 1)) ≡ true =
     ap₂ (λ b n. b && (nat_eq n 0 && nat_eq (outputs d) 1)) t i ∙ ap (λ n. true && (nat_eq 0 0 && nat_eq n 1)) o in
     ap (λ Y. Some (argument (last Y) 0)) (sym (answers d t silent silent [])) ∙ sym (cond-true _ _ _ e)
-
-pub has_none : (d : Diagram) → is_timeless d ≡ false → None ≡ number_of d
-has_none d t =
-    let e : (is_timeless d && (nat_eq (inputs d) 0 && nat_eq (outputs d) 1)) ≡ false =
-    ap (λ b. b && (nat_eq (inputs d) 0 && nat_eq (outputs d) 1)) t in
-    sym (cond-false _ _ _ e)

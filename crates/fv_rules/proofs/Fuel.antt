@@ -1,5 +1,6 @@
 -- More depth than visits changes nothing, so evaluation follows its rules.
-use Rattle.std.proofs.Common.{◌≡◌, ℕ, zero, suc, ◌-◌, ◌≤◌, Bool, true, false, List, [], ◌∷◌, ◌++◌, length, Option, Some, None, Ok, Err, ℤ, pos, negsuc, refl, sym, ap, ◌∙◌, arith}
+use Rattle.std.proofs.Common.{◌≡◌, ℕ, zero, suc, ◌-◌, ◌≤◌, Bool, true, false, List, [], ◌∷◌, ◌++◌, length, Option, Some, None, Ok, Err, ℤ, pos}
+use Rattle.std.proofs.Common.{negsuc, refl, sym, ap, ◌∙◌, arith}
 use Rattle.std.specs.Prelude.{nat_le, nat_lt, nat_eq, ◌&&◌, int_le, if◌then◌else◌}
 use Rattle.fv_lex.specs.Token.{Lexed}
 use Rattle.fv_grammar.specs.Tree.{Tree}
@@ -15,22 +16,28 @@ use Rattle.fv_diagram.specs.Diagram.{Diagram, Primitive, Constant, Bind, Par, Se
 use Rattle.fv_diagram.specs.Arena.{size_limit}
 use Rattle.fv_diagram.specs.declared.control.ControlInfo.{ControlInfo}
 use Rattle.fv_rules.specs.declared.refusal.EvalRefusal.{EvalRefusal}
-use Rattle.fv_rules.specs.declared.refusal.EvalRefusal.TheVariants.{EvalBudget, SizeBudget}
+use Rattle.fv_rules.specs.declared.refusal.EvalRefusal.TheVariants.{EvalBudget}
 use Rattle.fv_grammar.specs.Tree.{items, start_of}
 use Rattle.fv_parse.specs.Trees.{text_of, label_of}
-use Rattle.fv_rules.specs.Values.{Name, Value, Flat, Abstraction, Rules, Env, Bound, Scope, And, Definition, Plain, Parameters, Cases, Meaning, IsValue, IsDefined, Unknown, lookup, in_order, count_taken}
+use Rattle.fv_rules.specs.Values.{Name, Value, Flat, Abstraction, Rules, Env, Bound, Scope, And, Definition, Plain, Parameters, Cases, Meaning}
+use Rattle.fv_rules.specs.Values.{IsValue, IsDefined, Unknown, lookup, in_order, count_taken}
 use Rattle.fv_rules.specs.Numbers.{number_of}
 use Rattle.fv_rules.specs.Matching.{Bindings, settled, value_number, bound_in, chosen}
-use Rattle.fv_rules.specs.Steps.{State, Outcome, Eval, after, ◌>>=◌, give, refuse, spent, visit, fresh_slots, misfit, put_after, put, is_alike, labelled, entered, control}
-use Rattle.fv_rules.specs.Rules.{primitive_of, switch_kind, slider_kind, Evaluator, flat, on_slots, bind_all, turned, operated, joined, from_right, from_left, defined_value, meant, name_value, arguments, all_turned, wires, all_outputs, takes_the_right, led, fed_by, fed, width, selected, applied, bodies, gathered, counted, read_number, parameters, slider_info, switch_info, abstraction, rule, visited, descend, within, ev}
+use Rattle.fv_rules.specs.Steps.{State, Outcome, Eval, after, ◌>>=◌, give, refuse, spent, visit, fresh_slots, misfit, put_after, put, is_alike}
+use Rattle.fv_rules.specs.Steps.{labelled, entered, control}
+use Rattle.fv_rules.specs.Rules.{primitive_of, switch_kind, slider_kind, Evaluator, flat, on_slots, bind_all, turned, operated, joined, from_right}
+use Rattle.fv_rules.specs.Rules.{from_left, defined_value, meant, name_value, arguments, all_turned, wires, all_outputs, takes_the_right, led, fed_by}
+use Rattle.fv_rules.specs.Rules.{fed, width, selected, applied, bodies, gathered, counted, read_number, parameters, slider_info, switch_info}
+use Rattle.fv_rules.specs.Rules.{abstraction, rule, visited, descend, within, ev}
 
 -- ---- what does not raise the visits, and what agrees below a number of visits
 abbrev pub AtMost : {A : Type 0} → ℕ → Outcome A → Type 0
 AtMost n (Ok x) = x.1.visits ≤ n
 AtMost n (Err r) = Unit {0}
 
-abbrev pub Agrees : {A : Type 0} → ℕ → Eval A → Eval A → Type 0
-Agrees n m m' = (s : State) → s.visits ≤ n → (m s ≡ m' s) × AtMost s.visits (m s)
+-- the same answer, which has no more visits left
+pub record Agrees {A : Type 0} (n : ℕ) (m m' : Eval A) : Type 0 where
+  pub same : (s : State) → s.visits ≤ n → (m s ≡ m' s) × AtMost s.visits (m s)
 
 -- an evaluation that calls no evaluator
 abbrev pub Keeps : {A : Type 0} → Eval A → Type 0
@@ -41,47 +48,50 @@ lift n k (Ok x) h a = omega arith
 lift n k (Err r) h a = tt
 
 keeps : {A : Type 0} (n : ℕ) (m : Eval A) → Keeps m → Agrees n m m
-keeps n m k s h = (refl, k s)
+keeps n m k = record { same = λ s h. (refl, k s) }
 
 after_ok : {A B : Type 0} (n v : ℕ) (r : Outcome A) (f f' : A → Eval B) → v ≤ n → AtMost v r → ((x : A) → Agrees n (f x) (f' x))
     → (after r f ≡ after r f') × AtMost v (after r f)
 after_ok n v (Ok x) f f' h a g =
-    let p = g x.0 x.1 (omega arith) in (p.0, lift x.1.visits v (f x.0 x.1) a p.1)
+    let p = (g x.0).same x.1 (omega arith) in (p.0, lift x.1.visits v (f x.0 x.1) a p.1)
 after_ok n v (Err r) f f' h a g = (refl, tt)
 
-pub bind_agrees : {A B : Type 0} (n : ℕ) (m m' : Eval A) (f f' : A → Eval B) → Agrees n m m' → ((x : A) → Agrees n (f x) (f' x)) → Agrees n (m >>= f) (m' >>= f')
-bind_agrees n m m' f f' a g s h =
-    let p = a s h in
-    let q = after_ok n s.visits (m s) f f' h p.1 g in
-    (q.0 ∙ ap (λ r. after r f') p.0, q.1)
+pub bind_agrees : {A B : Type 0} {n : ℕ} {m m' : Eval A} {f f' : A → Eval B} → Agrees n m m' → ((x : A) → Agrees n (f x) (f' x))
+    → Agrees n (m >>= f) (m' >>= f')
+bind_agrees {n = n} {m = m} {f = f} {f' = f'} a g = record {
+  same = λ s h.
+      let p = a.same s h in
+      let q = after_ok n s.visits (m s) f f' h p.1 g in
+      (q.0 ∙ ap (λ r. after r f') p.0, q.1);
+}
 
-pub give_agrees : {A : Type 0} (n : ℕ) (x : A) → Agrees n (give x) (give x)
-give_agrees n x s h = (refl, omega arith)
+pub give_agrees : {A : Type 0} {n : ℕ} {x : A} → Agrees n (give x) (give x)
+give_agrees = record { same = λ s h. (refl, omega arith) }
 
-pub refuse_agrees : {A : Type 0} (n : ℕ) (r : EvalRefusal) → Agrees {A = A} n (refuse r) (refuse r)
-refuse_agrees n r s h = (refl, tt)
+pub refuse_agrees : {A : Type 0} {n : ℕ} {r : EvalRefusal} → Agrees {A = A} n (refuse r) (refuse r)
+refuse_agrees = record { same = λ s h. (refl, tt) }
 
-choice : {A : Type 0} (n : ℕ) (b : Bool) (m m' k k' : Eval A) → Agrees n m m' → Agrees n k k' → Agrees n (if b then m else k) (if b then m' else k')
-choice n true m m' k k' p q = p
-choice n false m m' k k' p q = q
+choice : {A : Type 0} {n : ℕ} {m m' k k' : Eval A} (b : Bool) → Agrees n m m' → Agrees n k k' → Agrees n (if b then m else k) (if b then m' else k')
+choice true p q = p
+choice false p q = q
 
 -- ---- the parts of the rules that call no evaluator
-flat_agrees : (n : ℕ) (m m' : Eval Diagram) → Agrees n m m' → Agrees n (flat m) (flat m')
-flat_agrees n m m' a = bind_agrees n _ _ _ _ a (λ d. give_agrees n (Flat d))
+flat_agrees : {n : ℕ} {m m' : Eval Diagram} → Agrees n m m' → Agrees n (flat m) (flat m')
+flat_agrees a = bind_agrees a (λ d. give_agrees)
 
 put_after_agrees : (n : ℕ) (o : Option EvalRefusal) (d : Diagram) → Agrees n (put_after o d) (put_after o d)
-put_after_agrees n (Some r) d = refuse_agrees n r
-put_after_agrees n None d = choice n (nat_le (size d) size_limit) (give d) (give d) (refuse (SizeBudget (size d))) (refuse (SizeBudget (size d))) (give_agrees n d) (refuse_agrees n _)
+put_after_agrees n (Some r) d = refuse_agrees
+put_after_agrees n None d = choice (nat_le (size d) size_limit) give_agrees refuse_agrees
 
 put_agrees : (n : ℕ) (d : Diagram) → Agrees n (put d) (put d)
 put_agrees n d = put_after_agrees n (misfit d) d
 
 bind_all_agrees : (n slot k : ℕ) (d : Diagram) → Agrees n (bind_all slot k d) (bind_all slot k d)
-bind_all_agrees n slot zero d = give_agrees n d
-bind_all_agrees n slot (suc k) d = bind_agrees n _ _ _ _ (bind_all_agrees n (suc slot) k d) (λ b. put_agrees n (Bind slot b))
+bind_all_agrees n slot zero d = give_agrees
+bind_all_agrees n slot (suc k) d = bind_agrees (bind_all_agrees n (suc slot) k d) (λ b. put_agrees n (Bind slot b))
 
 operated_agrees : (n : ℕ) (p : Prim) (a b : Diagram) → Agrees n (operated p a b) (operated p a b)
-operated_agrees n p a b = bind_agrees n _ _ _ _ (put_agrees n (Par a b)) (λ ab. put_agrees n (Seq ab (Primitive p)))
+operated_agrees n p a b = bind_agrees (put_agrees n (Par a b)) (λ ab. put_agrees n (Seq ab (Primitive p)))
 
 joined_agrees : (n : ℕ) (o : Operator) (a b : Diagram) → Agrees n (joined o a b) (joined o a b)
 joined_agrees n (operators.Infix p) a b = operated_agrees n (primitive_of p) a b
@@ -91,45 +101,46 @@ joined_agrees n operators.Sequence a b = put_agrees n (Seq a b)
 joined_agrees n operators.Split a b = put_agrees n (Split a b)
 joined_agrees n operators.Merge a b = put_agrees n (Merge a b)
 
-from_right_agrees : (n : ℕ) (compose : Diagram → Diagram → Diagram) (d : Diagram) (ds : List Diagram) → Agrees n (from_right compose d ds) (from_right compose d ds)
-from_right_agrees n compose d [] = give_agrees n d
-from_right_agrees n compose d (x ∷ xs) = bind_agrees n _ _ _ _ (from_right_agrees n compose x xs) (λ r. put_agrees n (compose d r))
+from_right_agrees : (n : ℕ) (compose : Diagram → Diagram → Diagram) (d : Diagram) (ds : List Diagram)
+    → Agrees n (from_right compose d ds) (from_right compose d ds)
+from_right_agrees n compose d [] = give_agrees
+from_right_agrees n compose d (x ∷ xs) = bind_agrees (from_right_agrees n compose x xs) (λ r. put_agrees n (compose d r))
 
 from_left_agrees : (n : ℕ) (p : Prim) (d : Diagram) (ds : List Diagram) → Agrees n (from_left p d ds) (from_left p d ds)
-from_left_agrees n p d [] = give_agrees n d
-from_left_agrees n p d (x ∷ xs) = bind_agrees n _ _ _ _ (operated_agrees n p d x) (λ r. from_left_agrees n p r xs)
+from_left_agrees n p d [] = give_agrees
+from_left_agrees n p d (x ∷ xs) = bind_agrees (operated_agrees n p d x) (λ r. from_left_agrees n p r xs)
 
 led_agrees : (n : ℕ) (d : Diagram) (ds : List Diagram) (f : Diagram) → Agrees n (led d ds f) (led d ds f)
-led_agrees n d ds f = bind_agrees n _ _ _ _ (from_right_agrees n Par d ds) (λ p. put_agrees n (Seq p f))
+led_agrees n d ds f = bind_agrees (from_right_agrees n Par d ds) (λ p. put_agrees n (Seq p f))
 
 fed_by_agrees : (n k : ℕ) (f d : Diagram) (ds : List Diagram) → Agrees n (fed_by k f d ds) (fed_by k f d ds)
 fed_by_agrees n k f d ds =
-    choice n (nat_lt (inputs f) k) _ _ _ _ (refuse_agrees n _)
-    (choice n (takes_the_right f && nat_eq k 1) _ _ _ _ (led_agrees n (Primitive prim.Wire) (d ∷ ds) f) (led_agrees n d (ds ++ wires (inputs f - k)) f))
+    choice (nat_lt (inputs f) k) (refuse_agrees)
+    (choice (takes_the_right f && nat_eq k 1) (led_agrees n (Primitive prim.Wire) (d ∷ ds) f) (led_agrees n d (ds ++ wires (inputs f - k)) f))
 
 fed_agrees : (n : ℕ) (f : Diagram) (ds : List Diagram) → Agrees n (fed f ds) (fed f ds)
-fed_agrees n f [] = give_agrees n (Flat f)
-fed_agrees n f (d ∷ ds) = flat_agrees n _ _ (fed_by_agrees n (all_outputs (d ∷ ds)) f d ds)
+fed_agrees n f [] = give_agrees
+fed_agrees n f (d ∷ ds) = flat_agrees (fed_by_agrees n (all_outputs (d ∷ ds)) f d ds)
 
 gathered_agrees : (n : ℕ) (r : Repetition) (ds : List Diagram) → Agrees n (gathered r ds) (gathered r ds)
-gathered_agrees n r [] = refuse_agrees n _
-gathered_agrees n repetitions.Parallel (d ∷ ds) = flat_agrees n _ _ (from_right_agrees n Par d ds)
-gathered_agrees n repetitions.Sequence (d ∷ ds) = flat_agrees n _ _ (from_right_agrees n Seq d ds)
-gathered_agrees n repetitions.Sum (d ∷ ds) = flat_agrees n _ _ (from_left_agrees n (prim.Point op.Add) d ds)
-gathered_agrees n repetitions.Product (d ∷ ds) = flat_agrees n _ _ (from_left_agrees n (prim.Point op.Mul) d ds)
+gathered_agrees n r [] = refuse_agrees
+gathered_agrees n repetitions.Parallel (d ∷ ds) = flat_agrees (from_right_agrees n Par d ds)
+gathered_agrees n repetitions.Sequence (d ∷ ds) = flat_agrees (from_right_agrees n Seq d ds)
+gathered_agrees n repetitions.Sum (d ∷ ds) = flat_agrees (from_left_agrees n (prim.Point op.Add) d ds)
+gathered_agrees n repetitions.Product (d ∷ ds) = flat_agrees (from_left_agrees n (prim.Point op.Mul) d ds)
 
 counted_agrees : (n : ℕ) (l : Lexed) (start : ℕ) (o : Option ℤ) → Agrees n (counted l start o) (counted l start o)
-counted_agrees n l start None = refuse_agrees n _
-counted_agrees n l start (Some (pos zero)) = refuse_agrees n _
-counted_agrees n l start (Some (pos (suc k))) = give_agrees n (suc k)
-counted_agrees n l start (Some (negsuc k)) = refuse_agrees n _
+counted_agrees n l start None = refuse_agrees
+counted_agrees n l start (Some (pos zero)) = refuse_agrees
+counted_agrees n l start (Some (pos (suc k))) = give_agrees
+counted_agrees n l start (Some (negsuc k)) = refuse_agrees
 
 read_agrees : (n : ℕ) (l : Lexed) (start : ℕ) (o : Option ℤ) → Agrees n (read_number l start o) (read_number l start o)
-read_agrees n l start None = refuse_agrees n _
-read_agrees n l start (Some k) = give_agrees n k
+read_agrees n l start None = refuse_agrees
+read_agrees n l start (Some k) = give_agrees
 
 fresh_agrees : (n k : ℕ) → Agrees n (fresh_slots k) (fresh_slots k)
-fresh_agrees n k s h = (refl, omega arith)
+fresh_agrees n k = record { same = λ s h. (refl, omega arith) }
 
 either : {A : Type 0} (n : ℕ) (b : Bool) (r r' : Outcome A) → AtMost n r → AtMost n r' → AtMost n (if b then r else r')
 either n true r r' p q = p
@@ -140,7 +151,9 @@ entered_keeps c s None = omega arith
 entered_keeps c s (Some ko) = either s.visits (is_alike c ko.1) _ _ (omega arith) tt
 
 control_agrees : (n : ℕ) (c : ControlInfo) → Agrees n (control c) (control c)
-control_agrees n c = keeps n (control c) (λ s. either s.visits (int_le c.min c.init && int_le c.init c.max) _ _ (entered_keeps c s (labelled 0 s.controls c.label)) tt)
+control_agrees n c =
+    keeps n (control c) (λ s.
+    either s.visits (int_le c.min c.init && int_le c.init c.max) _ _ (entered_keeps c s (labelled 0 s.controls c.label)) tt)
 
 visit_keeps : (v : ℕ) (s : State) → v ≤ s.visits → AtMost s.visits (spent v s)
 visit_keeps zero s h = tt
@@ -155,87 +168,103 @@ pub record Alike (n : ℕ) (e e' : Evaluator) : Type 0 where
   pub diagram : (x : Tree) (env : Env) → Agrees n (e.diagram x env) (e'.diagram x env)
 
 turned_agrees : (n : ℕ) (l : Lexed) (e e' : Evaluator) → Alike n e e' → (v : Value) → Agrees n (turned l e v) (turned l e' v)
-turned_agrees n l e e' a (Flat d) = give_agrees n d
+turned_agrees n l e e' a (Flat d) = give_agrees
 turned_agrees n l e e' a (Abstraction x xs body env) =
-    bind_agrees n _ _ _ _ (fresh_agrees n (length (x ∷ xs))) (λ slot. bind_agrees n _ _ _ _ (a.diagram body (on_slots (x ∷ xs) slot env)) (λ d. bind_all_agrees n slot (length (x ∷ xs)) d))
-turned_agrees n l e e' a (Rules s rs env taken) = refuse_agrees n _
+    let m = length (x ∷ xs) in
+    bind_agrees (fresh_agrees n m) (λ slot.
+    bind_agrees (a.diagram body (on_slots (x ∷ xs) slot env)) (λ d. bind_all_agrees n slot m d))
+turned_agrees n l e e' a (Rules s rs env taken) = refuse_agrees
 
-arguments_agree : (n : ℕ) (e e' : Evaluator) → Alike n e e' → (xs : List Tree) (env : Env) (done : List Value) → Agrees n (arguments e xs env done) (arguments e' xs env done)
-arguments_agree n e e' a [] env done = give_agrees n done
-arguments_agree n e e' a (x ∷ xs) env done = bind_agrees n _ _ _ _ (a.value x env) (λ v. arguments_agree n e e' a xs env (done ++ settled v ∷ []))
+arguments_agree : (n : ℕ) (e e' : Evaluator) → Alike n e e' → (xs : List Tree) (env : Env) (done : List Value)
+    → Agrees n (arguments e xs env done) (arguments e' xs env done)
+arguments_agree n e e' a [] env done = give_agrees
+arguments_agree n e e' a (x ∷ xs) env done = bind_agrees (a.value x env) (λ v. arguments_agree n e e' a xs env (done ++ settled v ∷ []))
 
-parameters_agree : (n : ℕ) (l : Lexed) (e e' : Evaluator) → Alike n e e' → (xs : List Tree) (env : Env) (done : List ℤ) → Agrees n (parameters l e xs env done) (parameters l e' xs env done)
-parameters_agree n l e e' a [] env done = give_agrees n done
+parameters_agree : (n : ℕ) (l : Lexed) (e e' : Evaluator) → Alike n e e' → (xs : List Tree) (env : Env) (done : List ℤ)
+    → Agrees n (parameters l e xs env done) (parameters l e' xs env done)
+parameters_agree n l e e' a [] env done = give_agrees
 parameters_agree n l e e' a (x ∷ xs) env done =
-    bind_agrees n _ _ _ _ (a.value x env) (λ v. bind_agrees n _ _ _ _ (read_agrees n l (start_of x) (value_number v)) (λ k. parameters_agree n l e e' a xs env (done ++ k ∷ [])))
+    bind_agrees (a.value x env) (λ v.
+    bind_agrees (read_agrees n l (start_of x) (value_number v)) (λ k. parameters_agree n l e e' a xs env (done ++ k ∷ [])))
 
-all_turned_agree : (n : ℕ) (l : Lexed) (e e' : Evaluator) → Alike n e e' → (vs : List Value) (done : List Diagram) → Agrees n (all_turned l e vs done) (all_turned l e' vs done)
-all_turned_agree n l e e' a [] done = give_agrees n done
-all_turned_agree n l e e' a (v ∷ vs) done = bind_agrees n _ _ _ _ (turned_agrees n l e e' a v) (λ d. all_turned_agree n l e e' a vs (done ++ d ∷ []))
+all_turned_agree : (n : ℕ) (l : Lexed) (e e' : Evaluator) → Alike n e e' → (vs : List Value) (done : List Diagram)
+    → Agrees n (all_turned l e vs done) (all_turned l e' vs done)
+all_turned_agree n l e e' a [] done = give_agrees
+all_turned_agree n l e e' a (v ∷ vs) done = bind_agrees (turned_agrees n l e e' a v) (λ d. all_turned_agree n l e e' a vs (done ++ d ∷ []))
 
-selected_agrees : (n : ℕ) (l : Lexed) (e e' : Evaluator) → Alike n e e' → (start : ℕ) (env : Env) (o : Option (Tree × Bindings)) → Agrees n (selected l e start env o) (selected l e' start env o)
-selected_agrees n l e e' a start env None = refuse_agrees n _
+selected_agrees : (n : ℕ) (l : Lexed) (e e' : Evaluator) → Alike n e e' → (start : ℕ) (env : Env) (o : Option (Tree × Bindings))
+    → Agrees n (selected l e start env o) (selected l e' start env o)
+selected_agrees n l e e' a start env None = refuse_agrees
 selected_agrees n l e e' a start env (Some xb) = a.value xb.0 (bound_in env xb.1)
 
-applied_agrees : (n : ℕ) (l : Lexed) (e e' : Evaluator) → Alike n e e' → (start : ℕ) (v : Value) (vs : List Value) → Agrees n (applied l e start v vs) (applied l e' start v vs)
-applied_agrees n l e e' a start v [] = give_agrees n v
-applied_agrees n l e e' a start (Flat f) (w ∷ more) = bind_agrees n _ _ _ _ (all_turned_agree n l e e' a (w ∷ more) []) (λ ds. fed_agrees n f ds)
-applied_agrees n l e e' a start (Abstraction x [] body env) (w ∷ more) = bind_agrees n _ _ _ _ (a.value body (Bound x w env)) (λ v. applied_agrees n l e e' a start v more)
-applied_agrees n l e e' a start (Abstraction x (y ∷ ys) body env) (w ∷ more) = applied_agrees n l e e' a start (Abstraction y ys body (Bound x w env)) more
+applied_agrees : (n : ℕ) (l : Lexed) (e e' : Evaluator) → Alike n e e' → (start : ℕ) (v : Value) (vs : List Value)
+    → Agrees n (applied l e start v vs) (applied l e' start v vs)
+applied_agrees n l e e' a start v [] = give_agrees
+applied_agrees n l e e' a start (Flat f) (w ∷ more) = bind_agrees (all_turned_agree n l e e' a (w ∷ more) []) (λ ds. fed_agrees n f ds)
+applied_agrees n l e e' a start (Abstraction x [] body env) (w ∷ more) =
+    bind_agrees (a.value body (Bound x w env)) (λ v. applied_agrees n l e e' a start v more)
+applied_agrees n l e e' a start (Abstraction x (y ∷ ys) body env) (w ∷ more) =
+    applied_agrees n l e e' a start (Abstraction y ys body (Bound x w env)) more
 applied_agrees n l e e' a start (Rules s rs env taken) (w ∷ more) =
-    choice n (nat_lt (count_taken (And w taken)) (width rs)) _ _ _ _ (applied_agrees n l e e' a start (Rules s rs env (And w taken)) more)
-    (bind_agrees n _ _ _ _ (selected_agrees n l e e' a start env (chosen l rs (in_order (And w taken) []))) (λ v. applied_agrees n l e e' a start v more))
+    choice (nat_lt (count_taken (And w taken)) (width rs)) (applied_agrees n l e e' a start (Rules s rs env (And w taken)) more)
+    (bind_agrees (selected_agrees n l e e' a start env (chosen l rs (in_order (And w taken) []))) (λ v. applied_agrees n l e e' a start v more))
 
-bodies_agree : (n : ℕ) (e e' : Evaluator) → Alike n e e' → (x : Name) (b : Tree) (env : Env) (i k : ℕ) (done : List Diagram) → Agrees n (bodies e x b env i k done) (bodies e' x b env i k done)
-bodies_agree n e e' a x b env i zero done = give_agrees n done
+bodies_agree : (n : ℕ) (e e' : Evaluator) → Alike n e e' → (x : Name) (b : Tree) (env : Env) (i k : ℕ) (done : List Diagram)
+    → Agrees n (bodies e x b env i k done) (bodies e' x b env i k done)
+bodies_agree n e e' a x b env i zero done = give_agrees
 bodies_agree n e e' a x b env i (suc k) done =
-    bind_agrees n _ _ _ _ (a.diagram b (Bound x (Flat (Constant (pos i))) env)) (λ d. bodies_agree n e e' a x b env (suc i) k (done ++ d ∷ []))
+    bind_agrees (a.diagram b (Bound x (Flat (Constant (pos i))) env)) (λ d. bodies_agree n e e' a x b env (suc i) k (done ++ d ∷ []))
 
 defined_agrees : (n : ℕ) (e e' : Evaluator) → Alike n e e' → (d : Definition) (env : Env) → Agrees n (defined_value e d env) (defined_value e' d env)
 defined_agrees n e e' a (Plain body) env = a.value body env
-defined_agrees n e e' a (Parameters x xs body) env = give_agrees n _
-defined_agrees n e e' a (Cases s rs) env = give_agrees n _
+defined_agrees n e e' a (Parameters x xs body) env = give_agrees
+defined_agrees n e e' a (Cases s rs) env = give_agrees
 
 meant_agrees : (n : ℕ) (e e' : Evaluator) → Alike n e e' → (x : Name) (m : Meaning) → Agrees n (meant e x m) (meant e' x m)
-meant_agrees n e e' a x (IsValue v) = give_agrees n v
+meant_agrees n e e' a x (IsValue v) = give_agrees
 meant_agrees n e e' a x (IsDefined d env) = defined_agrees n e e' a d env
-meant_agrees n e e' a x Unknown = refuse_agrees n _
+meant_agrees n e e' a x Unknown = refuse_agrees
 
 name_agrees : (n : ℕ) (l : Lexed) (e e' : Evaluator) → Alike n e e' → (x : Name) (env : Env) → Agrees n (name_value l e x env) (name_value l e' x env)
-name_agrees n l e e' a x env = bind_agrees n _ _ _ _ (visit_agrees n) (λ u. meant_agrees n e e' a x (lookup l env x))
+name_agrees n l e e' a x env = bind_agrees (visit_agrees n) (λ u. meant_agrees n e e' a x (lookup l env x))
 
-abstraction_agrees : (n : ℕ) (l : Lexed) (e e' : Evaluator) → Alike n e e' → (xs : List ℕ) (b : Tree) (env : Env) → Agrees n (abstraction l e xs b env) (abstraction l e' xs b env)
+abstraction_agrees : (n : ℕ) (l : Lexed) (e e' : Evaluator) → Alike n e e' → (xs : List ℕ) (b : Tree) (env : Env)
+    → Agrees n (abstraction l e xs b env) (abstraction l e' xs b env)
 abstraction_agrees n l e e' a [] b env = a.value b env
-abstraction_agrees n l e e' a (x ∷ xs) b env = give_agrees n _
+abstraction_agrees n l e e' a (x ∷ xs) b env = give_agrees
 
 rule_agrees : (n : ℕ) (l : Lexed) (e e' : Evaluator) → Alike n e e' → (x : Tree) (env : Env) → Agrees n (rule l e x env) (rule l e' x env)
-rule_agrees n l e e' a (tree.Number s k) env = give_agrees n _
-rule_agrees n l e e' a (tree.Negative s k) env = give_agrees n _
-rule_agrees n l e e' a (tree.Wire s) env = give_agrees n _
-rule_agrees n l e e' a (tree.Cut s) env = give_agrees n _
-rule_agrees n l e e' a (tree.Primitive s p) env = give_agrees n _
+rule_agrees n l e e' a (tree.Number s k) env = give_agrees
+rule_agrees n l e e' a (tree.Negative s k) env = give_agrees
+rule_agrees n l e e' a (tree.Wire s) env = give_agrees
+rule_agrees n l e e' a (tree.Cut s) env = give_agrees
+rule_agrees n l e e' a (tree.Primitive s p) env = give_agrees
 rule_agrees n l e e' a (tree.Named s x) env = meant_agrees n e e' a (text_of l x) (lookup l env (text_of l x))
 rule_agrees n l e e' a (tree.MinusNamed s x) env =
-    bind_agrees n _ _ _ _ (name_agrees n l e e' a (text_of l x) env) (λ v. bind_agrees n _ _ _ _ (turned_agrees n l e e' a v)
-    (λ d. flat_agrees n _ _ (operated_agrees n (prim.Point op.Sub) (Constant (pos 0)) d)))
+    bind_agrees (name_agrees n l e e' a (text_of l x) env) (λ v.
+    bind_agrees (turned_agrees n l e e' a v) (λ d.
+    flat_agrees (operated_agrees n (prim.Point op.Sub) (Constant (pos 0)) d)))
 rule_agrees n l e e' a (tree.Group s x) env = a.value x env
 rule_agrees n l e e' a (tree.Panel s k t x) env = a.value x env
 rule_agrees n l e e' a (tree.Where s x ds) env = a.value x (Scope ds env)
 rule_agrees n l e e' a (tree.Abstraction s ns x) env = abstraction_agrees n l e e' a ns x env
-rule_agrees n l e e' a (tree.Case s rs) env = give_agrees n _
+rule_agrees n l e e' a (tree.Case s rs) env = give_agrees
 rule_agrees n l e e' a (tree.Binary s o x y) env =
-    bind_agrees n _ _ _ _ (a.diagram x env) (λ c. bind_agrees n _ _ _ _ (a.diagram y env) (λ d. flat_agrees n _ _ (joined_agrees n o c d)))
-rule_agrees n l e e' a (tree.Delayed s x) env = bind_agrees n _ _ _ _ (a.diagram x env) (λ d. flat_agrees n _ _ (put_agrees n (Seq d (Primitive prim.Mem))))
+    bind_agrees (a.diagram x env) (λ c. bind_agrees (a.diagram y env) (λ d. flat_agrees (joined_agrees n o c d)))
+rule_agrees n l e e' a (tree.Delayed s x) env = bind_agrees (a.diagram x env) (λ d. flat_agrees (put_agrees n (Seq d (Primitive prim.Mem))))
 rule_agrees n l e e' a (tree.Apply s x ys) env =
-    bind_agrees n _ _ _ _ (a.value x env) (λ f. bind_agrees n _ _ _ _ (arguments_agree n e e' a (items ys) env []) (λ vs. applied_agrees n l e e' a s f vs))
+    bind_agrees (a.value x env) (λ f.
+    bind_agrees (arguments_agree n e e' a (items ys) env []) (λ vs. applied_agrees n l e e' a s f vs))
 rule_agrees n l e e' a (tree.Iteration s r t x y) env =
-    bind_agrees n _ _ _ _ (a.diagram x env) (λ d. bind_agrees n _ _ _ _ (counted_agrees n l (start_of x) (number_of d))
-    (λ k. bind_agrees n _ _ _ _ (bodies_agree n e e' a (text_of l t) y env 0 k []) (λ ds. gathered_agrees n r ds)))
-rule_agrees n l e e' a (tree.Ports s k x) env = bind_agrees n _ _ _ _ (a.diagram x env) (λ d. give_agrees n _)
-rule_agrees n l e e' a (tree.Switch s k t) env = flat_agrees n _ _ (control_agrees n (switch_info (switch_kind k) (label_of l t)))
+    bind_agrees (a.diagram x env) (λ d.
+    bind_agrees (counted_agrees n l (start_of x) (number_of d)) (λ k.
+    bind_agrees (bodies_agree n e e' a (text_of l t) y env 0 k []) (λ ds. gathered_agrees n r ds)))
+rule_agrees n l e e' a (tree.Ports s k x) env = bind_agrees (a.diagram x env) (λ d. give_agrees)
+rule_agrees n l e e' a (tree.Switch s k t) env = flat_agrees (control_agrees n (switch_info (switch_kind k) (label_of l t)))
 rule_agrees n l e e' a (tree.Slider s k t x0 x1 x2 x3) env =
-    bind_agrees n _ _ _ _ (parameters_agree n l e e' a (x0 ∷ x1 ∷ x2 ∷ x3 ∷ []) env []) (λ ns. flat_agrees n _ _ (control_agrees n (slider_info (slider_kind k) (label_of l t) ns)))
-rule_agrees n l e e' a x env = refuse_agrees n _
+    bind_agrees (parameters_agree n l e e' a (x0 ∷ x1 ∷ x2 ∷ x3 ∷ []) env []) (λ ns.
+    flat_agrees (control_agrees n (slider_info (slider_kind k) (label_of l t) ns)))
+rule_agrees n l e e' a x env = refuse_agrees
 
 -- ---- a visit
 spent_agrees : {A : Type 0} (n v : ℕ) (s : State) (m m' : Eval A) → v ≤ suc n → Agrees n m m'
@@ -243,10 +272,10 @@ spent_agrees : {A : Type 0} (n v : ℕ) (s : State) (m m' : Eval A) → v ≤ su
 spent_agrees n zero s m m' h a = (refl, tt)
 spent_agrees n (suc v) s m m' h a =
     let t : State = record s { visits = v } in
-    let p = a t (omega arith) in (p.0, lift v (suc v) (m t) (omega arith) p.1)
+    let p = a.same t (omega arith) in (p.0, lift v (suc v) (m t) (omega arith) p.1)
 
-visited_agrees : {A : Type 0} (n : ℕ) (m m' : Eval A) → Agrees n m m' → Agrees (suc n) (visit >>= λ u. m) (visit >>= λ u. m')
-visited_agrees n m m' a s h = spent_agrees n s.visits s m m' h a
+visited_agrees : {A : Type 0} {n : ℕ} {m m' : Eval A} → Agrees n m m' → Agrees (suc n) (visit >>= λ u. m) (visit >>= λ u. m')
+visited_agrees {n = n} {m = m} {m' = m'} a = record { same = λ s h. spent_agrees n s.visits s m m' h a }
 
 none_left : {A : Type 0} (v : ℕ) (s : State) (m : Eval A) → v ≤ 0 → (after (spent v s) (λ u. m) ≡ Err EvalBudget) × AtMost v (after (spent v s) (λ u. m))
 none_left zero s m h = (refl, tt)
@@ -254,38 +283,53 @@ none_left (suc v) s m h = absurd (omega arith)
 
 descend_alike : (n : ℕ) (l : Lexed) (e e' : Evaluator) → Alike n e e' → Alike (suc n) (descend l e) (descend l e')
 descend_alike n l e e' a = record {
-  value = λ x env. visited_agrees n _ _ (rule_agrees n l e e' a x env);
-  diagram = λ x env. visited_agrees n _ _ (bind_agrees n _ _ _ _ (rule_agrees n l e e' a x env) (λ v. turned_agrees n l e e' a v));
+  value = λ x env. visited_agrees (rule_agrees n l e e' a x env);
+  diagram = λ x env. visited_agrees (bind_agrees (rule_agrees n l e e' a x env) (λ v. turned_agrees n l e e' a v));
 }
 
 -- more depth than visits changes nothing
 within_alike : (n k : ℕ) (l : Lexed) → n ≤ k → Alike n (within k l) (within n l)
 unfolding within
-within_alike zero zero l h = record { value = λ x env. refuse_agrees zero EvalBudget; diagram = λ x env. refuse_agrees zero EvalBudget }
+within_alike zero zero l h = record { value = λ x env. refuse_agrees; diagram = λ x env. refuse_agrees }
 within_alike zero (suc k) l h = record {
-  value = λ x env s le. none_left s.visits s (rule l (within k l) x env) le;
-  diagram = λ x env s le. none_left s.visits s (rule l (within k l) x env >>= turned l (within k l)) le;
+  value = λ x env. record { same = λ s le. none_left s.visits s (rule l (within k l) x env) le };
+  diagram = λ x env. record { same = λ s le. none_left s.visits s (rule l (within k l) x env >>= turned l (within k l)) le };
 }
 within_alike (suc n) zero l h = absurd (omega arith)
 within_alike (suc n) (suc k) l h = descend_alike n l (within k l) (within n l) (within_alike n k l (omega arith))
 
 ev_alike : (n : ℕ) (l : Lexed) → Alike n (within n l) (ev l)
-ev_alike n l = record {
-  value = λ x env s h. (((within_alike s.visits n l h).value x env s (omega arith)).0, ((within_alike n n l (omega arith)).value x env s h).1);
-  diagram = λ x env s h. (((within_alike s.visits n l h).diagram x env s (omega arith)).0, ((within_alike n n l (omega arith)).diagram x env s h).1);
-}
+ev_alike n l =
+    let same = within_alike n n l (omega arith) in
+    record {
+      value = λ x env. record {
+        same = λ s h. ((((within_alike s.visits n l h).value x env).same s (omega arith)).0, ((same.value x env).same s h).1);
+      };
+      diagram = λ x env. record {
+        same = λ s h. ((((within_alike s.visits n l h).diagram x env).same s (omega arith)).0, ((same.diagram x env).same s h).1);
+      };
+    }
 
 -- ---- evaluation follows its rules
-value_at : (l : Lexed) (v : ℕ) (s : State) (x : Tree) (env : Env) → (within v l).value x env (record s { visits = v }) ≡ after (spent v (record s { visits = v })) (λ u. rule l (ev l) x env)
+-- with so many visits
+abbrev with_visits : ℕ → State → State
+with_visits v s = record s { visits = v }
+
+value_at : (l : Lexed) (v : ℕ) (s : State) (x : Tree) (env : Env)
+    → (within v l).value x env (with_visits v s) ≡ after (spent v (with_visits v s)) (λ u. rule l (ev l) x env)
 unfolding within
 value_at l zero s x env = refl
-value_at l (suc v) s x env = (rule_agrees v l (within v l) (ev l) (ev_alike v l) x env (record s { visits = v }) (omega arith)).0
+value_at l (suc v) s x env = ((rule_agrees v l (within v l) (ev l) (ev_alike v l) x env).same (with_visits v s) (omega arith)).0
 
-diagram_at : (l : Lexed) (v : ℕ) (s : State) (x : Tree) (env : Env) → (within v l).diagram x env (record s { visits = v }) ≡ after (spent v (record s { visits = v })) (λ u. rule l (ev l) x env >>= turned l (ev l))
+diagram_at : (l : Lexed) (v : ℕ) (s : State) (x : Tree) (env : Env)
+    → (within v l).diagram x env (with_visits v s) ≡ after (spent v (with_visits v s)) (λ u. rule l (ev l) x env >>= turned l (ev l))
 unfolding within
 diagram_at l zero s x env = refl
 diagram_at l (suc v) s x env =
-    (bind_agrees v _ _ _ _ (rule_agrees v l (within v l) (ev l) (ev_alike v l) x env) (λ w. turned_agrees v l (within v l) (ev l) (ev_alike v l) w) (record s { visits = v }) (omega arith)).0
+    let alike = ev_alike v l in
+    let both : Agrees v (rule l (within v l) x env >>= turned l (within v l)) (rule l (ev l) x env >>= turned l (ev l)) =
+    bind_agrees (rule_agrees v l (within v l) (ev l) alike x env) (λ w. turned_agrees v l (within v l) (ev l) alike w) in
+    (both.same (with_visits v s) (omega arith)).0
 
 pub after_after : {A B C : Type 0} (r : Outcome A) (f : A → Eval B) (g : B → Eval C) → after (after r f) g ≡ after r (λ x. f x >>= g)
 after_after (Ok x) f g = refl

@@ -14,7 +14,8 @@ use Rattle.fv_rules.specs.Environments.{scope_in}
 use Rattle.fv_rules.specs.Values.{Name, Value, Flat, Abstraction, Rules, Env, Outermost, Bound, Scope, Taken, Nothing, And}
 use Rattle.fv_rules.specs.Matching.{Bindings}
 use Rattle.fv_grammar.specs.Tree.{Tree}
-use Rattle.fv_rules.specs.Shows.{World, IsNamed, IsInside, parameters_in, body_in, rules_in, begins_in, ShowsTree, ShowsValue, ShowsValues, ShowsEnv, ShowsTaken, ShowsBindings, Grows}
+use Rattle.fv_rules.specs.Shows.{World, IsNamed, IsInside, parameters_in, body_in, rules_in, begins_in, ShowsTree, ShowsValue, ShowsValues, ShowsEnv}
+use Rattle.fv_rules.specs.Shows.{ShowsTaken, ShowsBindings, Grows}
 
 -- what is said of the tree alone stays
 pub named_grows : (a b : World) → Grows a b → (n : ℕ) (x : Name) → IsNamed a n x → IsNamed b n x
@@ -31,7 +32,8 @@ mutual
   pub value_grows : (a b : World) → Grows a b → (u : code_value.Value) (v : Value) → ShowsValue a u v → ShowsValue b u v
   value_grows a b g (value.Diagram i) (Flat d) h = g.diagrams i d h
   value_grows a b g (value.Abstraction f n e) (Abstraction x xs t E) h =
-      subst (λ (p : Parsed). (f < size_of p) × (drop n (parameters_in p.tokens (tree_in p f)) ≡ x ∷ xs) × (body_in (tree_in p f) ≡ t) × ShowsEnv b e E) (sym g.tree)
+      subst (λ (p : Parsed).
+      (f < size_of p) × (drop n (parameters_in p.tokens (tree_in p f)) ≡ x ∷ xs) × (body_in (tree_in p f) ≡ t) × ShowsEnv b e E) (sym g.tree)
       (h.0, h.1, h.2, env_grows a b g e E h.3)
   value_grows a b g (value.Rules r e n i) (Rules s rs E T) h =
       subst (λ (p : Parsed). IsInside p r × (begins_in p r ≡ s) × (rules_in p r ≡ rs) × ShowsEnv b e E × ShowsTaken b n i T) (sym g.tree)

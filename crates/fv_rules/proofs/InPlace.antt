@@ -1,8 +1,9 @@
 -- Numbers that are dealt, or added up, where they stand.
-use Rattle.std.proofs.Common.{◌≡◌, ◌≢◌, ◌⊎◌, ℕ, zero, suc, ◌+◌, ◌%◌, ◌<◌, ◌≤◌, Bool, true, false, if◌then◌else◌, nat_eq, List, [], ◌∷◌, ◌++◌, length, drop, get_or, set, refl, sym, ap, ap₂, ◌∙◌, arith, ℤ, pos, inl, inr}
+use Rattle.std.proofs.Common.{◌≡◌, ◌≢◌, ◌⊎◌, ℕ, suc, ◌+◌, ◌%◌, ◌<◌, ◌≤◌, Bool, true, false, if◌then◌else◌, nat_eq, List, [], ◌∷◌, length, drop}
+use Rattle.std.proofs.Common.{get_or, set, refl, sym, ap, ap₂, ◌∙◌, arith, ℤ, pos, inl, inr}
 use Rattle.std.proofs.Math.Nat.{mod-eq_of_lt}
 use Rattle.std.proofs.lemmas.Bool.{cases_lt, cases_eq, cond-true, cond-false, eq-eqb, ne_eqb}
-use Rattle.std.proofs.lemmas.List.{get_or-set_other, drop_all, length-set, length_push}
+use Rattle.std.proofs.lemmas.List.{get_or-set_other, drop_all, length-set}
 use Rattle.std.proofs.lemmas.Grind.{get_or-set_at}
 use Rattle.fv_base.proofs.Lists.{length_table, get_or_table, drop_step}
 use Rattle.fv_num.specs.declared.op.Op.TheVariants.{Add}
@@ -12,26 +13,10 @@ use Rattle.fv_diagram.specs.Streams.{wrapped_sum, added, every}
 use Rattle.fv_diagram.proofs.Sums.{every_front}
 use Rattle.fv_rules.specs.Timeless.{Does, dealing, summing}
 
--- a number more, which is 0 where none was
-zero_more : (xs : List ℤ) (i : ℕ) → get_or (xs ++ pos 0 ∷ []) i (pos 0) ≡ get_or xs i (pos 0)
-zero_more [] zero = refl
-zero_more [] (suc i) = refl
-zero_more (x ∷ xs) zero = refl
-zero_more (x ∷ xs) (suc i) = zero_more xs i
-
 -- so many numbers came, and each place has what it had
 pub record Extends (count : ℕ) (old new : List ℤ) : Type 0 where
   pub long : length new ≡ length old + count
   pub same : (k : ℕ) → argument new k ≡ argument old k
-
-pub extends_none : (xs : List ℤ) → Extends 0 xs xs
-extends_none xs = record { long = omega arith; same = λ k. refl }
-
-pub extends_more : (count : ℕ) (old xs ys : List ℤ) → Extends count old xs → ys ≡ xs ++ pos 0 ∷ [] → Extends (count + 1) old ys
-extends_more count old xs ys x e = record {
-  long = ap length e ∙ omega (arith, length_push xs (pos 0), x.long);
-  same = λ k. ap (λ zs. argument zs k) e ∙ zero_more xs k ∙ x.same k;
-}
 
 -- what a write at place p leaves
 left_at : (xs ys : List ℤ) (p q : ℕ) (v : ℤ) → ys ≡ set xs p v → q ≢ p → argument ys q ≡ argument xs q
@@ -78,7 +63,8 @@ dealt_more at count i many old xs ys v some past more inside d is written = reco
     wider p (inl b) = inl b
     wider p (inr b) = inr (omega (arith, b))
 
-pub dealt_all : (at count many : ℕ) (old new : List ℤ) → 0 < count → DealtTo at count many old new → Does (length old) (dealing at count many) (argument old) (argument new)
+pub dealt_all : (at count many : ℕ) (old new : List ℤ) → 0 < count → DealtTo at count many old new
+    → Does (length old) (dealing at count many) (argument old) (argument new)
 dealt_all at count many old new some d =
     let X : Frame = table count (λ i. argument old (at + i)) in
     let long : length X ≡ count = length_table count (λ i. argument old (at + i)) in
@@ -161,7 +147,8 @@ added_more at count many i old xs ys v some past more inside d is written = reco
     away p (inl b) q = omega (arith, b, q)
     away p (inr b) q = omega (arith, b, q, some)
 
-pub added_all : (at count many : ℕ) (old new : List ℤ) → AddedTo at count many count old new → Does (length old) (summing at count many) (argument old) (argument new)
+pub added_all : (at count many : ℕ) (old new : List ℤ) → AddedTo at count many count old new
+    → Does (length old) (summing at count many) (argument old) (argument new)
 added_all at count many old new d =
     let X : List ℤ = table count (λ k. argument old (at + k)) in
     let long : length X ≡ count = length_table count (λ k. argument old (at + k)) in

@@ -1,12 +1,10 @@
 pub mod Fuel
 pub mod Sound
-pub mod Fits
 pub mod FirstValues
 pub mod Grown
 pub mod Named
 pub mod Lookups
 pub mod Matched
-pub mod Remembered
 pub mod Scoped
 pub mod LiteralNumbers
 pub mod RulesChosen

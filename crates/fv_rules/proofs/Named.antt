@@ -1,5 +1,6 @@
 -- The definitions of a list, by name.
-use Rattle.std.proofs.Common.{◌≡◌, ◌⊎◌, ℕ, zero, suc, ◌+◌, ◌-◌, ◌<◌, ◌≤◌, arith, Bool, true, false, cond, List, [], ◌∷◌, ◌++◌, length, map, take, drop, get_or, Option, Some, None, inl, inr, refl, sym, ap, ap₂, subst, ◌∙◌, All, length-drop}
+use Rattle.std.proofs.Common.{◌≡◌, ◌⊎◌, ℕ, zero, suc, ◌+◌, ◌-◌, ◌<◌, ◌≤◌, arith, Bool, true, false, cond, List, [], ◌∷◌, ◌++◌, length, map, take}
+use Rattle.std.proofs.Common.{drop, get_or, Option, Some, None, inl, inr, refl, sym, ap, ap₂, subst, ◌∙◌, All, length-drop}
 use Rattle.std.specs.Prelude.{filter, nat_eq, nat_lt, nat_le, not, ◌&&◌}
 use Rattle.std.specs.List.Sorted.{IsPartitionPoint, IsPermutation, IsStableByKey, ties}
 use Rattle.std.specs.Ordering.{nat_cmp, is_lt}
@@ -21,24 +22,39 @@ use Rattle.fv_tree.specs.declared.node.TreeNode.{TreeNode}
 use Rattle.fv_tree.specs.declared.node.TreeNode.TheVariants as nodes
 use Rattle.fv_rules.specs.declared.by_name.Defined.{Defined}
 use Rattle.fv_rules.specs.Values.{is_of}
+use Rattle.fv_rules.proofs.RuleNodes.{IsNoFunction, AreOfName}
 use Rattle.fv_rules.specs.ByName.{is_called, defined_name, called, defined_in, AreDefined, AreIndexed}
 
 -- ---- what passes a test from one place up to another, and nowhere else
 
-pub cut : {X : Type 0} (p : X → Bool) (xs : List X) (a n : ℕ) → ((k : ℕ) (d : X) → k < a → p (get_or xs k d) ≡ false) → ((k : ℕ) (d : X) → a ≤ k → k < a + n → p (get_or xs k d) ≡ true)
-    → ((k : ℕ) (d : X) → a + n ≤ k → k < length xs → p (get_or xs k d) ≡ false) → a + n ≤ length xs → filter p xs ≡ take n (drop a xs)
-cut p [] zero zero f t b l = refl
-cut p [] zero (suc n) f t b l = absurd (omega arith)
-cut p [] (suc a) n f t b l = absurd (omega arith)
-cut p (x ∷ xs) (suc a) n f t b l =
-    ap (λ c. cond c (x ∷ filter p xs) (filter p xs)) (f 0 x (omega arith))
-    ∙ cut p xs a n (λ k d h. f (suc k) d (omega (arith, h))) (λ k d g h. t (suc k) d (omega (arith, g)) (omega (arith, h))) (λ k d g h. b (suc k) d (omega (arith, g)) (omega (arith, h))) (omega arith)
-cut p (x ∷ xs) zero (suc n) f t b l =
-    ap (λ c. cond c (x ∷ filter p xs) (filter p xs)) (t 0 x (omega arith) (omega arith))
-    ∙ ap (λ ys. x ∷ ys) (cut p xs zero n (λ k d h. absurd (omega (arith, h))) (λ k d g h. t (suc k) d (omega (arith, g)) (omega (arith, h))) (λ k d g h. b (suc k) d (omega (arith, g)) (omega (arith, h))) (omega arith))
-cut p (x ∷ xs) zero zero f t b l =
-    ap (λ c. cond c (x ∷ filter p xs) (filter p xs)) (b 0 x (omega arith) (omega arith))
-    ∙ cut p xs zero zero (λ k d h. absurd (omega (arith, h))) (λ k d g h. absurd (omega (arith, h))) (λ k d g h. b (suc k) d (omega (arith, g)) (omega (arith, h))) (omega arith)
+record Passes {X : Type 0} (p : X → Bool) (xs : List X) (a n : ℕ) : Type 0 where
+  before : (k : ℕ) (d : X) → k < a → p (get_or xs k d) ≡ false
+  within : (k : ℕ) (d : X) → a ≤ k → k < a + n → p (get_or xs k d) ≡ true
+  behind : (k : ℕ) (d : X) → a + n ≤ k → k < length xs → p (get_or xs k d) ≡ false
+  inside : a + n ≤ length xs
+
+-- the same behind the first one
+shorter : {X : Type 0} (p : X → Bool) (x : X) (xs : List X) (a n b m : ℕ) → b ≡ a - 1 → b + m ≡ a + n - 1 → Passes p (x ∷ xs) a n → Passes p xs b m
+shorter p x xs a n b m e f h = record {
+  before = λ k d l. h.before (suc k) d (omega (arith, l));
+  within = λ k d g l. h.within (suc k) d (omega (arith, g)) (omega (arith, l));
+  behind = λ k d g l. h.behind (suc k) d (omega (arith, g)) (omega (arith, l));
+  inside = let i = h.inside in omega arith;
+}
+
+cut : {X : Type 0} (p : X → Bool) (xs : List X) (a n : ℕ) → Passes p xs a n → filter p xs ≡ take n (drop a xs)
+cut p [] zero zero h = refl
+cut p [] zero (suc n) h = let i = h.inside in absurd (omega arith)
+cut p [] (suc a) n h = let i = h.inside in absurd (omega arith)
+cut p (x ∷ xs) (suc a) n h =
+    ap (λ c. cond c (x ∷ filter p xs) (filter p xs)) (h.before 0 x (omega arith))
+    ∙ cut p xs a n (shorter p x xs (suc a) n a n (omega arith) (omega arith) h)
+cut p (x ∷ xs) zero (suc n) h =
+    ap (λ c. cond c (x ∷ filter p xs) (filter p xs)) (h.within 0 x (omega arith) (omega arith))
+    ∙ ap (λ ys. x ∷ ys) (cut p xs zero n (shorter p x xs zero (suc n) zero n (omega arith) (omega arith) h))
+cut p (x ∷ xs) zero zero h =
+    ap (λ c. cond c (x ∷ filter p xs) (filter p xs)) (h.behind 0 x (omega arith) (omega arith))
+    ∙ cut p xs zero zero (shorter p x xs zero zero zero zero (omega arith) (omega arith) h)
 
 -- what stands from where names reach this one up to where they pass it
 pub called_from : (name : ℕ) (xs ys : List Defined) (a n : ℕ) → a ≤ length xs → ys ≡ drop a xs → n ≤ length ys
@@ -46,10 +62,12 @@ pub called_from : (name : ℕ) (xs ys : List Defined) (a n : ℕ) → a ≤ leng
     → IsPartitionPoint (λ (d : Defined). nat_le d.name name ≡ true) (λ (d : Defined). nat_le d.name name ≡ false) ys n
     → filter (is_called name) xs ≡ take n (drop a xs)
 called_from name xs ys a n h rest l low high =
-    cut (is_called name) xs a n
-    (λ k d m. below (get_or xs k d).name (low.0 k d (omega arith) m))
-    (λ k d g m. at (get_or xs k d).name (low.1 k d g (omega (arith, m, long))) (subst (λ (y : Defined). nat_le y.name name ≡ true) (same k d g) (high.0 (k - a) d (omega arith) (omega (arith, g, m)))))
-    (λ k d g m. above (get_or xs k d).name (subst (λ (y : Defined). nat_le y.name name ≡ false) (same k d (omega (arith, g))) (high.1 (k - a) d (omega (arith, g)) (omega (arith, g, m, length_rest))))) long
+    cut (is_called name) xs a n (record {
+      before = λ k d m. below (get_or xs k d).name (low.0 k d (omega arith) m);
+      within = λ k d g m. at (get_or xs k d).name (low.1 k d g (omega (arith, m, long))) (low_enough k d g m);
+      behind = λ k d g m. above (get_or xs k d).name (too_high k d g m);
+      inside = long;
+    })
   where
     length_rest : length ys ≡ length xs - a
     length_rest = ap length rest ∙ length-drop a xs
@@ -58,7 +76,17 @@ called_from name xs ys a n h rest l low high =
     long = omega (arith, length_rest, l, h)
 
     same : (k : ℕ) (d : Defined) → a ≤ k → get_or ys (k - a) d ≡ get_or xs k d
-    same k d g = let e : a + (k - a) ≡ k = omega arith in ap (λ zs. get_or zs (k - a) d) rest ∙ get_or-drop a xs (k - a) d ∙ ap (λ j. get_or xs j d) e
+    same k d g =
+        let e : a + (k - a) ≡ k = omega arith in
+        ap (λ zs. get_or zs (k - a) d) rest ∙ get_or-drop a xs (k - a) d ∙ ap (λ j. get_or xs j d) e
+
+    low_enough : (k : ℕ) (d : Defined) → a ≤ k → k < a + n → nat_le (get_or xs k d).name name ≡ true
+    low_enough k d g m = subst (λ (y : Defined). nat_le y.name name ≡ true) (same k d g) (high.0 (k - a) d (omega arith) (omega (arith, g, m)))
+
+    too_high : (k : ℕ) (d : Defined) → a + n ≤ k → k < length xs → nat_le (get_or xs k d).name name ≡ false
+    too_high k d g m =
+        let there : k - a < length ys = omega (arith, g, m, length_rest) in
+        subst (λ (y : Defined). nat_le y.name name ≡ false) (same k d (omega (arith, g))) (high.1 (k - a) d (omega (arith, g)) there)
 
     other : (b : Bool) → (b ≡ true → ⊥) → b ≡ false
     other true n = absurd (n refl)
@@ -77,7 +105,8 @@ called_from name xs ys a n h rest l low high =
 tie : (n m : ℕ) → (not (is_lt (nat_cmp n m)) && not (is_lt (nat_cmp m n))) ≡ nat_eq m n
 tie n m = go (nat_lt n m) (nat_lt m n) (nat_eq n m) (nat_eq m n) refl refl refl
   where
-    go : (a b c d : Bool) → nat_lt n m ≡ a → nat_lt m n ≡ b → nat_eq m n ≡ d → (not (is_lt (cond a Less (cond c Equal Greater))) && not (is_lt (cond b Less (cond d Equal Greater)))) ≡ d
+    go : (a b c d : Bool) → nat_lt n m ≡ a → nat_lt m n ≡ b → nat_eq m n ≡ d
+        → (not (is_lt (cond a Less (cond c Equal Greater))) && not (is_lt (cond b Less (cond d Equal Greater)))) ≡ d
     go true b c true e f g = let z = eqb-true m n g in let y = ltb-true n m e in absurd (omega arith)
     go true b c false e f g = refl
     go false true true true e f g = let z = eqb-true m n g in let y = ltb-true m n f in absurd (omega arith)
@@ -120,48 +149,59 @@ is_of_same s l n t = refl
 
 -- ---- the definitions among nodes
 
+-- the trees of the definitions of a name
+abbrev trees_of : Parsed → ℕ → List Defined → List Tree
+trees_of p n ds = map (λ (d : Defined). tree_in p d.node) (filter (is_called (first_named p.tokens n)) ds)
+
 pub found_among : SameNumbersSameBytes → (p : Parsed) (n : ℕ) (ids : List TreeId)
-    → map (λ (d : Defined). tree_in p d.node) (filter (is_called (first_named p.tokens n)) (defined_in p ids)) ≡ filter (is_of p.tokens (text_of p.tokens n)) (map (tree_in p) ids)
+    → trees_of p n (defined_in p ids) ≡ filter (is_of p.tokens (text_of p.tokens n)) (map (tree_in p) ids)
 found_among s p n [] = refl
 found_among s p n (id ∷ ids) =
-    go (defined_in p ids) (filter (is_of p.tokens (text_of p.tokens n)) (map (tree_in p) ids)) (found_among s p n ids) (defined_name p.tokens (tree_in p id)) (is_of p.tokens (text_of p.tokens n) (tree_in p id))
-    (is_of_same s p.tokens n (tree_in p id))
+    let t = tree_in p id in
+    go (defined_in p ids) (filter (is_of p.tokens (text_of p.tokens n)) (map (tree_in p) ids)) (found_among s p n ids)
+    (defined_name p.tokens t) (is_of p.tokens (text_of p.tokens n) t) (is_of_same s p.tokens n t)
   where
-    trees : List Defined → List Tree
-    trees ds = map (λ (d : Defined). tree_in p d.node) (filter (is_called (first_named p.tokens n)) ds)
+    is_here : Defined → Bool
+    is_here = is_called (first_named p.tokens n)
 
-    here : (more : List Defined) (ts : List Tree) → trees more ≡ ts → (d : Defined) (c b : Bool) → tree_in p d.node ≡ tree_in p id → b ≡ c
-        → map (λ (e : Defined). tree_in p e.node) (cond c (d ∷ filter (is_called (first_named p.tokens n)) more) (filter (is_called (first_named p.tokens n)) more)) ≡ cond b (tree_in p id ∷ ts) ts
+    here : (more : List Defined) (ts : List Tree) → trees_of p n more ≡ ts → (d : Defined) (c b : Bool) → tree_in p d.node ≡ tree_in p id → b ≡ c
+        → map (λ (e : Defined). tree_in p e.node) (cond c (d ∷ filter is_here more) (filter is_here more)) ≡ cond b (tree_in p id ∷ ts) ts
     here more ts h d true true e q = ap₂ (λ x xs. x ∷ xs) e h
     here more ts h d false false e q = h
     here more ts h d true false e q = cc
     here more ts h d false true e q = cc
 
-    go : (more : List Defined) (ts : List Tree) → trees more ≡ ts → (o : Option ℕ) (b : Bool) → b ≡ is_this o (first_named p.tokens n) → trees (cons_option (called id o) more) ≡ cond b (tree_in p id ∷ ts) ts
+    go : (more : List Defined) (ts : List Tree) → trees_of p n more ≡ ts → (o : Option ℕ) (b : Bool) → b ≡ is_this o (first_named p.tokens n)
+        → trees_of p n (cons_option (called id o) more) ≡ cond b (tree_in p id ∷ ts) ts
     go more ts h None b e = h ∙ ap (λ c. cond c (tree_in p id ∷ ts) ts) (sym e)
     go more ts h (Some k) b e = here more ts h (record { name = k; node = id }) (nat_eq k (first_named p.tokens n)) b refl e
 
-pub there_among : (p : Parsed) (i : ℕ) (ids : List TreeId) → i ≤ size_of p → All (λ (id : TreeId). id < i) ids → All (λ (d : Defined). d.node < size_of p) (defined_in p ids)
+-- the nodes of definitions are there
+abbrev pub AreThere : Parsed → List Defined → Type 0
+AreThere p ds = All (λ (d : Defined). d.node < size_of p) ds
+
+pub there_among : (p : Parsed) (i : ℕ) (ids : List TreeId) → i ≤ size_of p → All (λ (id : TreeId). id < i) ids → AreThere p (defined_in p ids)
 there_among p i [] h a = All-nil (λ (d : Defined). d.node < size_of p)
 there_among p i (id ∷ ids) h a =
     let q = a 0 id (omega arith) in
-    go (defined_in p ids) (omega (arith, q, h)) (there_among p i ids h (All-tail (λ (x : TreeId). x < i) id ids a)) (defined_name p.tokens (tree_in p id))
+    let others = there_among p i ids h (All-tail (λ (x : TreeId). x < i) id ids a) in
+    go (defined_in p ids) (omega (arith, q, h)) others (defined_name p.tokens (tree_in p id))
   where
-    go : (more : List Defined) → id < size_of p → All (λ (d : Defined). d.node < size_of p) more → (o : Option ℕ) → All (λ (d : Defined). d.node < size_of p) (cons_option (called id o) more)
+    go : (more : List Defined) → id < size_of p → AreThere p more → (o : Option ℕ) → AreThere p (cons_option (called id o) more)
     go more l h None = h
     go more l h (Some k) = All-cons (λ (d : Defined). d.node < size_of p) (record { name = k; node = id }) more l h
 
 -- one node more
-pub defined_more : (p : Parsed) (ids : List TreeId) (i : ℕ) (id : TreeId) (ds es : List Defined) → i < length ids → id ≡ get_or ids i id → ds ≡ defined_in p (take i ids)
-    → es ≡ ds ++ cons_option (called id (defined_name p.tokens (tree_in p id))) [] → es ≡ defined_in p (take (i + 1) ids)
+pub defined_more : (p : Parsed) (ids : List TreeId) (i : ℕ) (id : TreeId) (ds es : List Defined) → i < length ids → id ≡ get_or ids i id
+    → ds ≡ defined_in p (take i ids) → es ≡ ds ++ cons_option (called id (defined_name p.tokens (tree_in p id))) [] → es ≡ defined_in p (take (i + 1) ids)
 defined_more p ids i id ds es l here so grown =
     grown ∙ ap (λ xs. xs ++ cons_option (called id (defined_name p.tokens (tree_in p id))) []) so
     ∙ sym (filter_map-append (λ x. called x (defined_name p.tokens (tree_in p x))) (take i ids) (id ∷ []))
     ∙ ap (defined_in p) (ap (λ x. take i ids ++ x ∷ []) here ∙ sym (take_more ids i id l))
 
 -- the definitions of a list, before they are sorted
-pub are_defined : SameNumbersSameBytes → (p : Parsed) (list : ℕ) (ids : List TreeId) (ds : List Defined) → map (tree_in p) ids ≡ items (tree_in p list) → list ≤ size_of p
-    → All (λ (id : TreeId). id < list) ids → ds ≡ defined_in p ids → AreDefined p list ds
+pub are_defined : SameNumbersSameBytes → (p : Parsed) (list : ℕ) (ids : List TreeId) (ds : List Defined) → map (tree_in p) ids ≡ items (tree_in p list)
+    → list ≤ size_of p → All (λ (id : TreeId). id < list) ids → ds ≡ defined_in p ids → AreDefined p list ds
 are_defined s p list ids ds e h a q =
     subst (AreDefined p list) (sym q)
     (record { found = λ n. found_among s p n ids ∙ ap (filter (is_of p.tokens (text_of p.tokens n))) e; there = there_among p list ids h a })
@@ -177,7 +217,7 @@ still_defined p list ds es h same moved =
 
 -- what a node defines
 pub other_form : (l : Lexed) (ts : List Tree) (node : TreeNode) (start : ℕ) → ((n : ℕ) (x : TreeId) → node ≡ nodes.Constant n x → ⊥)
-    → ((n : ℕ) (ps x : TreeId) → node ≡ nodes.Function n ps x → ⊥) → defined_name l (tree_of ts node start) ≡ None
+    → IsNoFunction node → defined_name l (tree_of ts node start) ≡ None
 other_form l ts (nodes.Constant n x) start c f = absurd (c n x refl)
 other_form l ts (nodes.Function n ps x) start c f = absurd (f n ps x refl)
 other_form l ts (nodes.List ids) start c f = none ids.items
@@ -194,7 +234,8 @@ pub record AreSorted (p : Parsed) (lists : List (List Defined)) (i : ℕ) : Type
   pub many : length lists ≡ i
   pub each : (j : ℕ) (d : List Defined) → j < i → AreDefined p j (get_or lists j d)
 
-pub sorted_more : (p : Parsed) (lists more : List (List Defined)) (i : ℕ) (list : List Defined) → AreSorted p lists i → AreDefined p i list → more ≡ lists ++ list ∷ [] → AreSorted p more (i + 1)
+pub sorted_more : (p : Parsed) (lists more : List (List Defined)) (i : ℕ) (list : List Defined) → AreSorted p lists i → AreDefined p i list
+    → more ≡ lists ++ list ∷ [] → AreSorted p more (i + 1)
 sorted_more p lists more i list h one pushed = record {
   many = ap length pushed ∙ length_push lists list ∙ ap (λ n. n + 1) h.many;
   each = λ j d l. subst (λ ls. AreDefined p j (get_or ls j d)) (sym pushed) (go j d l (cases_lt j i));
@@ -206,21 +247,19 @@ sorted_more p lists more i list h one pushed = record {
         let same : i ≡ j = omega arith in
         subst (λ k. AreDefined p k (get_or (lists ++ list ∷ []) k d)) same (subst (AreDefined p i) (sym (get_or_push lists list d i h.many)) one)
 
-pub are_indexed : (p : Parsed) (lists : List (List Defined)) (i : ℕ) → AreSorted p lists i → size_of p ≤ i → i ≤ size_of p → AreIndexed p lists
-are_indexed p lists i h ge le = record { whole = let e = h.many in omega arith; each = λ j d l. h.each j d (let e = h.many in omega arith) }
-
 -- what an indexed list has under a name
 pub record IsCalled (p : Parsed) (list name : ℕ) (found : List Defined) : Type 0 where
-  pub trees : (n : ℕ) → first_named p.tokens n ≡ name → map (λ (d : Defined). tree_in p d.node) found ≡ filter (is_of p.tokens (text_of p.tokens n)) (items (tree_in p list))
-  pub there : All (λ (d : Defined). d.node < size_of p) found
+  pub trees : AreOfName p list name found
+  pub there : AreThere p found
 
-pub called_in : (p q : Parsed) (lists : List (List Defined)) (list i name : ℕ) (ds found : List Defined) → AreIndexed p lists → p ≡ q → i < length lists → i ≡ list → ds ≡ get_or lists i ds
-    → found ≡ filter (is_called name) ds → IsCalled q list name found
-called_in p q lists list i name ds found h view l same here is =
+pub called_in : {p q : Parsed} {lists : List (List Defined)} {list i name : ℕ} {ds found : List Defined} → p ≡ q → AreIndexed p lists → i < length lists
+    → i ≡ list → ds ≡ get_or lists i ds → found ≡ filter (is_called name) ds → IsCalled q list name found
+called_in {p} {lists = lists} {list = list} {i = i} {name = name} {ds = ds} {found = found} view h l same here is =
     subst (λ (r : Parsed). IsCalled r list name found) view (record {
       trees = λ n e.
-          ap (λ xs. map (λ (d : Defined). tree_in p d.node) xs) (is ∙ ap (λ m. filter (is_called m) ds) (sym e)) ∙ at.found n ∙ ap (λ k. filter (is_of p.tokens (text_of p.tokens n)) (items (tree_in p k))) same;
-      there = subst (All (λ (d : Defined). d.node < size_of p)) (sym is) (All-filter (is_called name) (λ (d : Defined). d.node < size_of p) ds at.there);
+          ap (map (λ (d : Defined). tree_in p d.node)) (is ∙ ap (λ m. filter (is_called m) ds) (sym e))
+          ∙ at.found n ∙ ap (λ k. filter (is_of p.tokens (text_of p.tokens n)) (items (tree_in p k))) same;
+      there = subst (AreThere p) (sym is) (All-filter (is_called name) (λ (d : Defined). d.node < size_of p) ds at.there);
     })
   where
     at : AreDefined p i ds

@@ -1,5 +1,6 @@
 -- Every diagram of evaluation is well formed, has only the free slots of its environment, and names only the controls so far.
-use Rattle.std.proofs.Common.{inl, inr, ◌≡◌, ◌⊎◌, ℕ, zero, suc, ◌+◌, ◌-◌, ◌%◌, ◌≤◌, ◌<◌, Bool, true, false, List, [], ◌∷◌, ◌++◌, length, map, Option, Some, None, Result, Ok, Err, ℤ, pos, negsuc, refl, sym, subst, arith}
+use Rattle.std.proofs.Common.{inl, inr, ◌≡◌, ◌⊎◌, ℕ, zero, suc, ◌+◌, ◌-◌, ◌%◌, ◌≤◌, ◌<◌, Bool, true, false, List, [], ◌∷◌, ◌++◌, length, Option}
+use Rattle.std.proofs.Common.{Some, None, Result, Ok, Err, ℤ, pos, negsuc, refl, sym, subst, arith}
 use Rattle.std.proofs.lemmas.Int.{ints}
 use Rattle.std.proofs.lemmas.List.{length-append}
 use Rattle.std.proofs.Math.Dec.{eqb}
@@ -20,19 +21,29 @@ use Rattle.fv_grammar.specs.declared.form.Side.TheVariants as sides
 use Rattle.fv_num.specs.declared.op.Op.TheVariants as op
 use Rattle.fv_diagram.specs.declared.node.Primitive.{Primitive as Prim}
 use Rattle.fv_diagram.specs.declared.node.Primitive.TheVariants as prim
-use Rattle.fv_diagram.specs.Diagram.{Diagram, Primitive, Constant, Control, Slot, Bind, Par, Seq, Split, Merge, Rec, size, inputs, outputs, control_bound, IsWellFormed, IsFree}
+use Rattle.fv_diagram.specs.Diagram.{Diagram, Primitive, Constant, Control, Slot, Bind, Par, Seq, Split, Merge, Rec, size, inputs, outputs}
+use Rattle.fv_diagram.specs.Diagram.{control_bound, IsWellFormed, IsFree}
 use Rattle.fv_diagram.specs.Arena.{size_limit}
 use Rattle.fv_diagram.specs.declared.control.ControlInfo.{ControlInfo}
 use Rattle.fv_rules.specs.declared.refusal.EvalRefusal.{EvalRefusal}
-use Rattle.fv_rules.specs.declared.refusal.EvalRefusal.TheVariants.{SizeBudget, Arity, IterationCount, TooManyArguments, UnknownName, EvalBudget, ControlClash, ControlBounds, NoMemory}
+use Rattle.fv_rules.specs.declared.refusal.EvalRefusal.TheVariants.{SizeBudget, Arity, IterationCount, TooManyArguments, UnknownName, EvalBudget}
+use Rattle.fv_rules.specs.declared.refusal.EvalRefusal.TheVariants.{ControlClash, ControlBounds, NoMemory}
 use Rattle.fv_arity.specs.declared.refusal.ArityKind.TheVariants as kind
 use Rattle.fv_grammar.specs.Tree.{items, start_of}
 use Rattle.fv_parse.specs.Trees.{text_of, label_of}
-use Rattle.fv_rules.specs.Values.{Name, Rule, Value, Flat, Abstraction, Rules, Env, Outermost, Bound, Scope, Taken, Nothing, And, Definition, Plain, Parameters, Cases, Meaning, IsValue, IsDefined, Unknown, lookup, or_else as meant_or, rule_of, in_order, count_taken}
+use Rattle.fv_rules.specs.Values.{Name, Rule, Value, Flat, Abstraction, Rules, Env, Outermost, Bound, Scope, Taken, Nothing, And, Definition, Plain}
+use Rattle.fv_rules.specs.Values.{Parameters, Cases, Meaning, IsValue, IsDefined, Unknown, lookup, or_else as meant_or, in_order}
+use Rattle.fv_rules.specs.Values.{count_taken}
 use Rattle.fv_rules.specs.Numbers.{number_of}
-use Rattle.fv_rules.specs.Matching.{Bindings, number_or, settled, and_then, parts_of, parts_without, value_parts, value_number, matched, all_matched, bound_in, or_next, chosen}
-use Rattle.fv_rules.specs.Steps.{State, Outcome, Eval, after, ◌>>=◌, give, refuse, no_number, no_rule, no_diagram, spent, visit, fresh_slots, is_multiple, unless, or_else, misfit, put_after, put, is_alike, labelled, entered, control}
-use Rattle.fv_rules.specs.Rules.{primitive_of, switch_kind, slider_kind, Evaluator, flat, on_slots, bind_all, turned, operated, joined, from_right, from_left, defined_value, meant, name_value, arguments, all_turned, wires, all_outputs, takes_the_right, led, fed_by, fed, width, selected, applied, bodies, gathered, counted, ports, read_number, parameters, slider_info, switch_info, abstraction, rule, descend, within, ev, finished, start, program_value}
+use Rattle.fv_rules.specs.Matching.{Bindings, number_or, settled, and_then, parts_of, parts_without, value_parts, value_number, matched, all_matched}
+use Rattle.fv_rules.specs.Matching.{bound_in, or_next, chosen}
+use Rattle.fv_rules.specs.Steps.{State, Outcome, Eval, after, ◌>>=◌, give, refuse, no_number, no_rule, no_diagram, spent, visit, fresh_slots}
+use Rattle.fv_rules.specs.Steps.{is_multiple, unless, or_else, misfit, put_after, put, is_alike, labelled, entered, control}
+use Rattle.fv_rules.specs.Rules.{primitive_of, switch_kind, slider_kind, Evaluator, flat, on_slots, bind_all, turned, operated, joined, from_right, from_left}
+use Rattle.fv_rules.specs.Rules.{defined_value, meant, name_value, arguments, all_turned, wires, all_outputs, takes_the_right, led, fed_by, fed}
+use Rattle.fv_rules.specs.Rules.{width, selected, applied}
+use Rattle.fv_rules.specs.Rules.{bodies, gathered, counted, ports, read_number, parameters, slider_info, switch_info, abstraction, rule, descend}
+use Rattle.fv_rules.specs.Rules.{within, ev, finished, start, program_value}
 use Rattle.fv_rules.specs.Sound.{IsBounded, IsSoundProgram}
 
 -- ---- diagrams, values, environments and states
@@ -125,46 +136,51 @@ IsCause NoMemory = ⊥
 IsCause r = Unit {0}
 
 -- ---- evaluations: controls only grow, visits and controls together do not (but for a credit), and the result has a property
+
+-- visits and controls together
+abbrev spare : State → ℕ
+spare s = s.visits + length s.controls
+
 abbrev pub Stays : {A : Type 0} → (ℕ → A → Type 0) → ℕ → State → Outcome A → Type 0
-Stays P c s (Ok x) = (length s.controls ≤ length x.1.controls) × (x.1.visits + length x.1.controls ≤ s.visits + length s.controls + c) × SoundState x.1 × P (length x.1.controls) x.0
+Stays P c s (Ok x) = (length s.controls ≤ length x.1.controls) × (spare x.1 ≤ spare s + c) × SoundState x.1 × P (length x.1.controls) x.0
 Stays P c s (Err r) = IsCause r
 
-abbrev pub Does : {A : Type 0} → (ℕ → A → Type 0) → ℕ → ℕ → Eval A → Type 0
-Does P c k m = (s : State) → k ≤ length s.controls → SoundState s → Stays P c s (m s)
+pub record Does {A : Type 0} (P : ℕ → A → Type 0) (c k : ℕ) (m : Eval A) : Type 0 where
+  pub stays : (s : State) → k ≤ length s.controls → SoundState s → Stays P c s (m s)
 
-passes : {A : Type 0} (P : ℕ → A → Type 0) (c : ℕ) (s t : State) (r : Outcome A) → length s.controls ≤ length t.controls → t.visits + length t.controls ≤ s.visits + length s.controls + 0
+passes : {A : Type 0} (P : ℕ → A → Type 0) (c : ℕ) (s t : State) (r : Outcome A) → length s.controls ≤ length t.controls → spare t ≤ spare s + 0
     → Stays P c t r → Stays P c s r
 passes P c s t (Ok x) h g a = let u = a.0 in let v = a.1 in (omega arith, omega arith, a.2, a.3)
 passes P c s t (Err r) h g a = a
 
-then_stays : {A B : Type 0} (P : ℕ → A → Type 0) (Q : ℕ → B → Type 0) (c k : ℕ) (s : State) (r : Outcome A) (f : A → Eval B) → k ≤ length s.controls → Stays P 0 s r
-    → ((x : A) (n : ℕ) → k ≤ n → P n x → Does Q c n (f x)) → Stays Q c s (after r f)
+then_stays : {A B : Type 0} (P : ℕ → A → Type 0) (Q : ℕ → B → Type 0) (c k : ℕ) (s : State) (r : Outcome A) (f : A → Eval B)
+    → k ≤ length s.controls → Stays P 0 s r → ((x : A) (n : ℕ) → k ≤ n → P n x → Does Q c n (f x)) → Stays Q c s (after r f)
 then_stays P Q c k s (Ok x) f h a g =
     let u = a.0 in
-    passes Q c s x.1 (f x.0 x.1) a.0 a.1 (g x.0 (length x.1.controls) (omega arith) a.3 x.1 (omega arith) a.2)
+    passes Q c s x.1 (f x.0 x.1) a.0 a.1 ((g x.0 (length x.1.controls) (omega arith) a.3).stays x.1 (omega arith) a.2)
 then_stays P Q c k s (Err r) f h a g = a
 
-bind_does : {A B : Type 0} (P : ℕ → A → Type 0) (Q : ℕ → B → Type 0) (c k : ℕ) (m : Eval A) (f : A → Eval B) → Does P 0 k m
+bind_does : {A B : Type 0} {P : ℕ → A → Type 0} {Q : ℕ → B → Type 0} {c k : ℕ} {m : Eval A} {f : A → Eval B} → Does P 0 k m
     → ((x : A) (n : ℕ) → k ≤ n → P n x → Does Q c n (f x)) → Does Q c k (m >>= f)
-bind_does P Q c k m f a g s h b = then_stays P Q c k s (m s) f h (a s h b) g
+bind_does {P = P} {Q = Q} {c = c} {k = k} {m = m} {f = f} a g = record { stays = λ s h b. then_stays P Q c k s (m s) f h (a.stays s h b) g }
 
-give_does : {A : Type 0} (P : ℕ → A → Type 0) (c k : ℕ) (x : A) → ((n : ℕ) → k ≤ n → P n x) → Does P c k (give x)
-give_does P c k x g s h b = (omega arith, omega arith, b, g (length s.controls) h)
+give_does : {A : Type 0} {P : ℕ → A → Type 0} {c k : ℕ} {x : A} → ((n : ℕ) → k ≤ n → P n x) → Does P c k (give x)
+give_does g = record { stays = λ s h b. (omega arith, omega arith, b, g (length s.controls) h) }
 
-refuse_does : {A : Type 0} (P : ℕ → A → Type 0) (c k : ℕ) (r : EvalRefusal) → IsCause r → Does P c k (refuse r)
-refuse_does P c k r i s h b = i
+refuse_does : {A : Type 0} {P : ℕ → A → Type 0} {c k : ℕ} (r : EvalRefusal) → IsCause r → Does P c k (refuse r)
+refuse_does r i = record { stays = λ s h b. i }
 
 -- a credit may be had, and more controls known
 lends : {A : Type 0} (P : ℕ → A → Type 0) (s : State) (r : Outcome A) → Stays P 0 s r → Stays P 1 s r
 lends P s (Ok x) a = let v = a.1 in (a.0, omega arith, a.2, a.3)
 lends P s (Err r) a = a
 
-lend : {A : Type 0} (P : ℕ → A → Type 0) (k : ℕ) (m : Eval A) → Does P 0 k m → Does P 1 k m
-lend P k m a s h b = lends P s (m s) (a s h b)
+lend : {A : Type 0} {P : ℕ → A → Type 0} {k : ℕ} {m : Eval A} → Does P 0 k m → Does P 1 k m
+lend {P = P} {m = m} a = record { stays = λ s h b. lends P s (m s) (a.stays s h b) }
 
-choice : {A : Type 0} (P : ℕ → A → Type 0) (c k : ℕ) (b : Bool) (m n : Eval A) → Does P c k m → Does P c k n → Does P c k (if b then m else n)
-choice P c k true m n p q = p
-choice P c k false m n p q = q
+choice : {A : Type 0} {P : ℕ → A → Type 0} {c k : ℕ} {m n : Eval A} (b : Bool) → Does P c k m → Does P c k n → Does P c k (if b then m else n)
+choice true p q = p
+choice false p q = q
 
 -- ---- putting
 
@@ -198,29 +214,34 @@ bind_free : (S : ℕ → Type 0) (s t : ℕ) → (t ≡ s) ⊎ S t → t ≢ s �
 bind_free S s t (inl e) n = absurd (n e)
 bind_free S s t (inr i) n = i
 
+-- two sound diagrams side by side are sound, unless they are too large
+both_sound : (S : ℕ → Type 0) (k : ℕ) (a b : Diagram) → IsSound S k a → IsSound S k b → size (Par a b) ≤ size_limit → IsSound S k (Par a b)
+both_sound S k a b p q h =
+    let r = p.reads in let s = q.reads in
+    record { well = (p.well, q.well); within = h; free = λ s i. both_free S k a b s p q i; reads = omega arith }
+
 put_sound : (S : ℕ → Type 0) (k : ℕ) (d : Diagram) → HasSoundParts S k d → misfit d ≡ None → size d ≤ size_limit → IsSound S k d
-put_sound S k (Bind s a) g e h = let r = g.reads in record { well = g.well; within = h; free = λ t i. bind_free S s t (g.free t i.0) i.1; reads = omega arith }
-put_sound S k (Par a b) g e h =
-    let r = g.0.reads in let q = g.1.reads in
-    record { well = (g.0.well, g.1.well); within = h; free = λ s i. both_free S k a b s g.0 g.1 i; reads = omega arith }
+put_sound S k (Bind s a) g e h =
+    let r = g.reads in record { well = g.well; within = h; free = λ t i. bind_free S s t (g.free t i.0) i.1; reads = omega arith }
+put_sound S k (Par a b) g e h = both_sound S k a b g.0 g.1 h
 put_sound S k (Seq a b) g e h =
-    let r = g.0.reads in let q = g.1.reads in
+    let p = both_sound S k a b g.0 g.1 h in
     let t = unless_none (nat_eq (outputs a) (inputs b)) _ e in
-    record { well = (g.0.well, g.1.well, eqb-true (outputs a) (inputs b) t); within = h; free = λ s i. both_free S k a b s g.0 g.1 i; reads = omega arith }
+    record { well = (g.0.well, g.1.well, eqb-true (outputs a) (inputs b) t); within = h; free = p.free; reads = p.reads }
 put_sound S k (Split a b) g e h =
-    let r = g.0.reads in let q = g.1.reads in
+    let p = both_sound S k a b g.0 g.1 h in
     let t = multiple (inputs b) (outputs a) (unless_none (is_multiple (inputs b) (outputs a)) _ e) in
-    record { well = (g.0.well, g.1.well, t.1, t.0, t.2); within = h; free = λ s i. both_free S k a b s g.0 g.1 i; reads = omega arith }
+    record { well = (g.0.well, g.1.well, t.1, t.0, t.2); within = h; free = p.free; reads = p.reads }
 put_sound S k (Merge a b) g e h =
-    let r = g.0.reads in let q = g.1.reads in
+    let p = both_sound S k a b g.0 g.1 h in
     let t = multiple (outputs a) (inputs b) (unless_none (is_multiple (outputs a) (inputs b)) _ e) in
-    record { well = (g.0.well, g.1.well, t.0, t.1, t.2); within = h; free = λ s i. both_free S k a b s g.0 g.1 i; reads = omega arith }
+    record { well = (g.0.well, g.1.well, t.0, t.1, t.2); within = h; free = p.free; reads = p.reads }
 put_sound S k (Rec a b) g e h =
-    let r = g.0.reads in let q = g.1.reads in
+    let p = both_sound S k a b g.0 g.1 h in
     let t = or_none (unless (nat_le (inputs b) (outputs a)) _) (unless (nat_le (outputs b) (inputs a)) _) e in
-    let u = unless_none (nat_le (inputs b) (outputs a)) _ t.0 in
-    let v = unless_none (nat_le (outputs b) (inputs a)) _ t.1 in
-    record { well = (g.0.well, g.1.well, leb-true (inputs b) (outputs a) u, leb-true (outputs b) (inputs a) v); within = h; free = λ s i. both_free S k a b s g.0 g.1 i; reads = omega arith }
+    let u = leb-true (inputs b) (outputs a) (unless_none (nat_le (inputs b) (outputs a)) _ t.0) in
+    let v = leb-true (outputs b) (inputs a) (unless_none (nat_le (outputs b) (inputs a)) _ t.1) in
+    record { well = (g.0.well, g.1.well, u, v); within = h; free = p.free; reads = p.reads }
 put_sound S k d g e h = absurd g
 
 abbrev MayCause : Option EvalRefusal → Type 0
@@ -240,20 +261,22 @@ misfit_cause (Seq a b) = unless_cause (nat_eq (outputs a) (inputs b)) (Arity kin
 misfit_cause (Split a b) = unless_cause (is_multiple (inputs b) (outputs a)) (Arity kind.Split (outputs a) (inputs b)) tt
 misfit_cause (Merge a b) = unless_cause (is_multiple (outputs a) (inputs b)) (Arity kind.Merge (outputs a) (inputs b)) tt
 misfit_cause (Rec a b) =
-    or_cause (unless (nat_le (inputs b) (outputs a)) (Arity kind.RecOut (outputs a) (inputs b))) (unless (nat_le (outputs b) (inputs a)) (Arity kind.RecIn (inputs a) (outputs b)))
-    (unless_cause (nat_le (inputs b) (outputs a)) (Arity kind.RecOut (outputs a) (inputs b)) tt) (unless_cause (nat_le (outputs b) (inputs a)) (Arity kind.RecIn (inputs a) (outputs b)) tt)
+    let out = Arity kind.RecOut (outputs a) (inputs b) in
+    let into = Arity kind.RecIn (inputs a) (outputs b) in
+    or_cause (unless (nat_le (inputs b) (outputs a)) out) (unless (nat_le (outputs b) (inputs a)) into)
+    (unless_cause (nat_le (inputs b) (outputs a)) out tt) (unless_cause (nat_le (outputs b) (inputs a)) into tt)
 misfit_cause d = tt
 
-put_tried : (S : ℕ → Type 0) (k : ℕ) (d : Diagram) (b : Bool) (r : EvalRefusal) → IsCause r → HasSoundParts S k d → misfit d ≡ None → nat_le (size d) size_limit ≡ b
-    → Does (λ n x. IsSound S n x) 0 k (if b then give d else refuse r)
-put_tried S k d true r i g e t = give_does (λ n x. IsSound S n x) 0 k d (λ n h. keep S k n d h (put_sound S k d g e (leb-true (size d) size_limit t)))
-put_tried S k d false r i g e t = refuse_does (λ n x. IsSound S n x) 0 k r i
+put_tried : (S : ℕ → Type 0) (k : ℕ) (d : Diagram) (b : Bool) (r : EvalRefusal) → IsCause r → HasSoundParts S k d → misfit d ≡ None
+    → nat_le (size d) size_limit ≡ b → Does (IsSound S) 0 k (if b then give d else refuse r)
+put_tried S k d true r i g e t = give_does (λ n h. keep S k n d h (put_sound S k d g e (leb-true (size d) size_limit t)))
+put_tried S k d false r i g e t = refuse_does r i
 
-put_by : (S : ℕ → Type 0) (k : ℕ) (d : Diagram) (o : Option EvalRefusal) → HasSoundParts S k d → misfit d ≡ o → Does (λ n x. IsSound S n x) 0 k (put_after o d)
-put_by S k d (Some r) g e = refuse_does (λ n x. IsSound S n x) 0 k r (subst MayCause e (misfit_cause d))
+put_by : (S : ℕ → Type 0) (k : ℕ) (d : Diagram) (o : Option EvalRefusal) → HasSoundParts S k d → misfit d ≡ o → Does (IsSound S) 0 k (put_after o d)
+put_by S k d (Some r) g e = refuse_does r (subst MayCause e (misfit_cause d))
 put_by S k d None g e = put_tried S k d (nat_le (size d) size_limit) (SizeBudget (size d)) tt g e refl
 
-put_does : (S : ℕ → Type 0) (k : ℕ) (d : Diagram) → HasSoundParts S k d → Does (λ n x. IsSound S n x) 0 k (put d)
+put_does : (S : ℕ → Type 0) (k : ℕ) (d : Diagram) → HasSoundParts S k d → Does (IsSound S) 0 k (put d)
 put_does S k d g = put_by S k d (misfit d) g refl
 
 -- ---- leaves and folds
@@ -269,19 +292,17 @@ constant_sound S k n = leaf_sound S k (Constant n) tt refl refl (λ s f. absurd 
 slot_sound : (S : ℕ → Type 0) (k slot : ℕ) → S slot → IsSound S k (Slot slot)
 slot_sound S k slot h = leaf_sound S k (Slot slot) tt refl refl (λ s e. subst S (sym e) h)
 
-flat_stays : (S : ℕ → Type 0) (c : ℕ) (s : State) (r : Outcome Diagram) → Stays (λ n x. IsSound S n x) c s r → Stays (λ n v. SoundValue S n v) c s (after r (λ d. give (Flat d)))
+flat_stays : (S : ℕ → Type 0) (c : ℕ) (s : State) (r : Outcome Diagram) → Stays (IsSound S) c s r → Stays (SoundValue S) c s (after r (λ d. give (Flat d)))
 flat_stays S c s (Ok x) a = a
 flat_stays S c s (Err r) a = a
 
-flat_does : (S : ℕ → Type 0) (c k : ℕ) (m : Eval Diagram) → Does (λ n x. IsSound S n x) c k m → Does (λ n v. SoundValue S n v) c k (flat m)
-flat_does S c k m a s h b = flat_stays S c s (m s) (a s h b)
+flat_does : {S : ℕ → Type 0} {c k : ℕ} {m : Eval Diagram} → Does (IsSound S) c k m → Does (SoundValue S) c k (flat m)
+flat_does {S} {c} {k} {m} a = record { stays = λ s h b. flat_stays S c s (m s) (a.stays s h b) }
 
-operated_does : (S : ℕ → Type 0) (k : ℕ) (p : Prim) (a b : Diagram) → IsSound S k a → IsSound S k b → Does (λ n x. IsSound S n x) 0 k (operated p a b)
-operated_does S k p a b g h =
-    bind_does (λ n x. IsSound S n x) (λ n x. IsSound S n x) 0 k (put (Par a b)) (λ ab. put (Seq ab (Primitive p))) (put_does S k (Par a b) (g, h))
-    (λ ab n i j. put_does S n (Seq ab (Primitive p)) (j, prim_sound S n p))
+operated_does : (S : ℕ → Type 0) (k : ℕ) (p : Prim) (a b : Diagram) → IsSound S k a → IsSound S k b → Does (IsSound S) 0 k (operated p a b)
+operated_does S k p a b g h = bind_does (put_does S k (Par a b) (g, h)) (λ ab n i j. put_does S n (Seq ab (Primitive p)) (j, prim_sound S n p))
 
-joined_does : (S : ℕ → Type 0) (k : ℕ) (o : Operator) (a b : Diagram) → IsSound S k a → IsSound S k b → Does (λ n x. IsSound S n x) 0 k (joined o a b)
+joined_does : (S : ℕ → Type 0) (k : ℕ) (o : Operator) (a b : Diagram) → IsSound S k a → IsSound S k b → Does (IsSound S) 0 k (joined o a b)
 joined_does S k (operators.Infix p) a b g h = operated_does S k (primitive_of p) a b g h
 joined_does S k operators.Recursion a b g h = put_does S k (Rec a b) (g, h)
 joined_does S k operators.Parallel a b g h = put_does S k (Par a b) (g, h)
@@ -289,43 +310,47 @@ joined_does S k operators.Sequence a b g h = put_does S k (Seq a b) (g, h)
 joined_does S k operators.Split a b g h = put_does S k (Split a b) (g, h)
 joined_does S k operators.Merge a b g h = put_does S k (Merge a b) (g, h)
 
-from_right_does : (S : ℕ → Type 0) (k : ℕ) (compose : Diagram → Diagram → Diagram) → ((n : ℕ) (x y : Diagram) → IsSound S n x → IsSound S n y → HasSoundParts S n (compose x y))
-    → (d : Diagram) (ds : List Diagram) → IsSound S k d → AllSound S k ds → Does (λ n x. IsSound S n x) 0 k (from_right compose d ds)
-from_right_does S k compose parts d [] g h = give_does (λ n x. IsSound S n x) 0 k d (λ n i. keep S k n d i g)
+-- two sound diagrams are sound parts of a composition
+abbrev Composes : (ℕ → Type 0) → (Diagram → Diagram → Diagram) → Type 0
+Composes S compose = (n : ℕ) (x y : Diagram) → IsSound S n x → IsSound S n y → HasSoundParts S n (compose x y)
+
+from_right_does : (S : ℕ → Type 0) (k : ℕ) (compose : Diagram → Diagram → Diagram) → Composes S compose → (d : Diagram) (ds : List Diagram)
+    → IsSound S k d → AllSound S k ds → Does (IsSound S) 0 k (from_right compose d ds)
+from_right_does S k compose parts d [] g h = give_does (λ n i. keep S k n d i g)
 from_right_does S k compose parts d (x ∷ xs) g h =
-    bind_does (λ n y. IsSound S n y) (λ n y. IsSound S n y) 0 k (from_right compose x xs) (λ r. put (compose d r)) (from_right_does S k compose parts x xs h.0 h.1)
-    (λ r n i j. put_does S n (compose d r) (parts n d r (keep S k n d i g) j))
+    bind_does (from_right_does S k compose parts x xs h.0 h.1) (λ r n i j. put_does S n (compose d r) (parts n d r (keep S k n d i g) j))
 
-from_left_does : (S : ℕ → Type 0) (k : ℕ) (p : Prim) (d : Diagram) (ds : List Diagram) → IsSound S k d → AllSound S k ds → Does (λ n x. IsSound S n x) 0 k (from_left p d ds)
-from_left_does S k p d [] g h = give_does (λ n x. IsSound S n x) 0 k d (λ n i. keep S k n d i g)
-from_left_does S k p d (x ∷ xs) g h =
-    bind_does (λ n y. IsSound S n y) (λ n y. IsSound S n y) 0 k (operated p d x) (λ r. from_left p r xs) (operated_does S k p d x g h.0)
-    (λ r n i j. from_left_does S n p r xs j (keep_all S k n xs i h.1))
+from_left_does : (S : ℕ → Type 0) (k : ℕ) (p : Prim) (d : Diagram) (ds : List Diagram) → IsSound S k d → AllSound S k ds
+    → Does (IsSound S) 0 k (from_left p d ds)
+from_left_does S k p d [] g h = give_does (λ n i. keep S k n d i g)
+from_left_does S k p d (x ∷ xs) g h = bind_does (operated_does S k p d x g h.0) (λ r n i j. from_left_does S n p r xs j (keep_all S k n xs i h.1))
 
-gathered_does : (S : ℕ → Type 0) (k : ℕ) (r : Repetition) (ds : List Diagram) → AllSound S k ds → Does (λ n v. SoundValue S n v) 0 k (gathered r ds)
-gathered_does S k r [] g = refuse_does (λ n v. SoundValue S n v) 0 k (IterationCount (pos 0)) tt
-gathered_does S k repetitions.Parallel (d ∷ ds) g = flat_does S 0 k _ (from_right_does S k Par (λ n x y i j. (i, j)) d ds g.0 g.1)
-gathered_does S k repetitions.Sequence (d ∷ ds) g = flat_does S 0 k _ (from_right_does S k Seq (λ n x y i j. (i, j)) d ds g.0 g.1)
-gathered_does S k repetitions.Sum (d ∷ ds) g = flat_does S 0 k _ (from_left_does S k (prim.Point op.Add) d ds g.0 g.1)
-gathered_does S k repetitions.Product (d ∷ ds) g = flat_does S 0 k _ (from_left_does S k (prim.Point op.Mul) d ds g.0 g.1)
+gathered_does : (S : ℕ → Type 0) (k : ℕ) (r : Repetition) (ds : List Diagram) → AllSound S k ds → Does (SoundValue S) 0 k (gathered r ds)
+gathered_does S k r [] g = refuse_does (IterationCount (pos 0)) tt
+gathered_does S k repetitions.Parallel (d ∷ ds) g = flat_does (from_right_does S k Par (λ n x y i j. (i, j)) d ds g.0 g.1)
+gathered_does S k repetitions.Sequence (d ∷ ds) g = flat_does (from_right_does S k Seq (λ n x y i j. (i, j)) d ds g.0 g.1)
+gathered_does S k repetitions.Sum (d ∷ ds) g = flat_does (from_left_does S k (prim.Point op.Add) d ds g.0 g.1)
+gathered_does S k repetitions.Product (d ∷ ds) g = flat_does (from_left_does S k (prim.Point op.Mul) d ds g.0 g.1)
 
 wires_sound : (S : ℕ → Type 0) (k n : ℕ) → AllSound S k (wires n)
 wires_sound S k zero = tt
 wires_sound S k (suc n) = (prim_sound S k prim.Wire, wires_sound S k n)
 
-led_does : (S : ℕ → Type 0) (k : ℕ) (d : Diagram) (ds : List Diagram) (f : Diagram) → IsSound S k d → AllSound S k ds → IsSound S k f → Does (λ n x. IsSound S n x) 0 k (led d ds f)
+led_does : (S : ℕ → Type 0) (k : ℕ) (d : Diagram) (ds : List Diagram) (f : Diagram) → IsSound S k d → AllSound S k ds → IsSound S k f
+    → Does (IsSound S) 0 k (led d ds f)
 led_does S k d ds f g h i =
-    bind_does (λ n y. IsSound S n y) (λ n y. IsSound S n y) 0 k (from_right Par d ds) (λ p. put (Seq p f)) (from_right_does S k Par (λ n x y p q. (p, q)) d ds g h)
-    (λ p n j q. put_does S n (Seq p f) (q, keep S k n f j i))
+    bind_does (from_right_does S k Par (λ n x y p q. (p, q)) d ds g h) (λ p n j q. put_does S n (Seq p f) (q, keep S k n f j i))
 
-fed_does : (S : ℕ → Type 0) (k : ℕ) (f : Diagram) (ds : List Diagram) → IsSound S k f → AllSound S k ds → Does (λ n v. SoundValue S n v) 0 k (fed f ds)
-fed_does S k f [] g h = give_does (λ n v. SoundValue S n v) 0 k (Flat f) (λ n i. keep S k n f i g)
-fed_does S k f (d ∷ ds) g h =
-    let w = all_outputs (d ∷ ds) in
-    flat_does S 0 k (fed_by w f d ds)
-    (choice (λ n x. IsSound S n x) 0 k (nat_lt (inputs f) w) _ _ (refuse_does (λ n x. IsSound S n x) 0 k (TooManyArguments w (inputs f)) tt)
-    (choice (λ n x. IsSound S n x) 0 k (takes_the_right f && nat_eq w 1) _ _ (led_does S k (Primitive prim.Wire) (d ∷ ds) f (prim_sound S k prim.Wire) h g)
-    (led_does S k d (ds ++ wires (inputs f - w)) f h.0 (all_append S k ds (wires (inputs f - w)) h.1 (wires_sound S k (inputs f - w))) g)))
+fed_by_does : (S : ℕ → Type 0) (k w : ℕ) (f d : Diagram) (ds : List Diagram) → IsSound S k f → IsSound S k d → AllSound S k ds
+    → Does (IsSound S) 0 k (fed_by w f d ds)
+fed_by_does S k w f d ds g h i =
+    choice (nat_lt (inputs f) w) (refuse_does (TooManyArguments w (inputs f)) tt)
+    (choice (takes_the_right f && nat_eq w 1) (led_does S k (Primitive prim.Wire) (d ∷ ds) f (prim_sound S k prim.Wire) (h, i) g)
+    (led_does S k d (ds ++ wires (inputs f - w)) f h (all_append S k ds (wires (inputs f - w)) i (wires_sound S k (inputs f - w))) g))
+
+fed_does : (S : ℕ → Type 0) (k : ℕ) (f : Diagram) (ds : List Diagram) → IsSound S k f → AllSound S k ds → Does (SoundValue S) 0 k (fed f ds)
+fed_does S k f [] g h = give_does (λ n i. keep S k n f i g)
+fed_does S k f (d ∷ ds) g h = flat_does (fed_by_does S k (all_outputs (d ∷ ds)) f d ds g h.0 h.1)
 
 -- ---- slots
 abbrev Within : ℕ → ℕ → (ℕ → Type 0) → ℕ → Type 0
@@ -338,7 +363,8 @@ none_within : (S : ℕ → Type 0) (slot t : ℕ) → Within slot 0 S t → S t
 none_within S slot t (inl p) = absurd (omega (arith, p.0, p.1))
 none_within S slot t (inr i) = i
 
-split_first : (S : ℕ → Type 0) (slot n t : ℕ) → (slot ≤ t) × (t < slot + suc n) → ((eqb t slot ≡ true) × (t ≡ slot)) ⊎ ((eqb t slot ≡ false) × (t ≢ slot)) → Within (suc slot) n (Also slot S) t
+split_first : (S : ℕ → Type 0) (slot n t : ℕ) → (slot ≤ t) × (t < slot + suc n)
+    → ((eqb t slot ≡ true) × (t ≡ slot)) ⊎ ((eqb t slot ≡ false) × (t ≢ slot)) → Within (suc slot) n (Also slot S) t
 split_first S slot n t p (inl q) = inr (inl q.1)
 split_first S slot n t p (inr q) = let a = p.0 in let b = p.1 in let c = q.1 in inl (omega arith, omega arith)
 
@@ -346,17 +372,22 @@ next_within : (S : ℕ → Type 0) (slot n t : ℕ) → Within slot (suc n) S t 
 next_within S slot n t (inl p) = split_first S slot n t p (eqb_tells t slot)
 next_within S slot n t (inr i) = inr (inr i)
 
-bind_all_does : (S : ℕ → Type 0) (k slot n : ℕ) (d : Diagram) → IsSound (Within slot n S) k d → Does (λ m x. IsSound S m x) 0 k (bind_all slot n d)
-bind_all_does S k slot zero d g = give_does (λ m x. IsSound S m x) 0 k d (λ m h. sound_grows (Within slot 0 S) S k m d (none_within S slot) h g)
+bind_all_does : (S : ℕ → Type 0) (k slot n : ℕ) (d : Diagram) → IsSound (Within slot n S) k d → Does (IsSound S) 0 k (bind_all slot n d)
+bind_all_does S k slot zero d g = give_does (λ m h. sound_grows (Within slot 0 S) S k m d (none_within S slot) h g)
 bind_all_does S k slot (suc n) d g =
-    bind_does (λ m x. IsSound (Also slot S) m x) (λ m x. IsSound S m x) 0 k (bind_all (suc slot) n d) (λ b. put (Bind slot b))
-    (bind_all_does (Also slot S) k (suc slot) n d (sound_grows (Within slot (suc n) S) (Within (suc slot) n (Also slot S)) k k d (next_within S slot n) (omega arith) g))
-    (λ b m h i. put_does S m (Bind slot b) i)
+    let h = sound_grows (Within slot (suc n) S) (Within (suc slot) n (Also slot S)) k k d (next_within S slot n) (omega arith) g in
+    bind_does (bind_all_does (Also slot S) k (suc slot) n d h) (λ b m h i. put_does S m (Bind slot b) i)
 
-on_slots_sound : (T : ℕ → Type 0) (k : ℕ) (xs : List Name) (slot : ℕ) (env : Env) → ((t : ℕ) → slot ≤ t → t < slot + length xs → T t) → SoundEnv T k env → SoundEnv T k (on_slots xs slot env)
+-- so many slots from this one on are had
+abbrev HasSlots : (ℕ → Type 0) → ℕ → ℕ → Type 0
+HasSlots T slot n = (t : ℕ) → slot ≤ t → t < slot + n → T t
+
+on_slots_sound : (T : ℕ → Type 0) (k : ℕ) (xs : List Name) (slot : ℕ) (env : Env) → HasSlots T slot (length xs) → SoundEnv T k env
+    → SoundEnv T k (on_slots xs slot env)
 on_slots_sound T k [] slot env f g = g
 on_slots_sound T k (x ∷ xs) slot env f g =
-    on_slots_sound T k xs (suc slot) (Bound x (Flat (Slot slot)) env) (λ t a b. f t (omega arith) (omega arith)) (slot_sound T k slot (f slot (omega arith) (omega arith)), g)
+    let first = slot_sound T k slot (f slot (omega arith) (omega arith)) in
+    on_slots_sound T k xs (suc slot) (Bound x (Flat (Slot slot)) env) (λ t a b. f t (omega arith) (omega arith)) (first, g)
 
 -- ---- numbers and patterns
 number_sound : (S : ℕ → Type 0) (k : ℕ) (o : Option ℤ) (d : Diagram) → IsSound S k d → IsSound S k (number_or o d)
@@ -380,20 +411,20 @@ abbrev SomeParts : (ℕ → Type 0) → ℕ → Option (Diagram × Diagram) → 
 SomeParts S k None = Unit {0}
 SomeParts S k (Some ab) = IsSound S k ab.0 × IsSound S k ab.1
 
-half : (S : ℕ → Type 0) (k : ℕ) (a : Diagram) → IsWellFormed a → size a ≤ size_limit → ((s : ℕ) → IsFree s a → S s) → control_bound a ≤ k → IsSound S k a
-half S k a w z f r = record { well = w; within = z; free = f; reads = r }
+-- the parts of a sound diagram are sound
+halves : (S : ℕ → Type 0) (k : ℕ) (a b : Diagram) → IsSound S k (Par a b) → IsSound S k a × IsSound S k b
+halves S k a b g =
+    let r = g.reads in let z = g.within in (
+      record { well = g.well.0; within = omega arith; free = λ s i. g.free s (inl i); reads = omega arith },
+      record { well = g.well.1; within = omega arith; free = λ s i. g.free s (inr i); reads = omega arith },
+    )
 
 parts_sound : (S : ℕ → Type 0) (k : ℕ) (o : Operator) (d : Diagram) → IsSound S k d → SomeParts S k (parts_of o d)
-parts_sound S k operators.Recursion (Rec a b) g =
-    let r = g.reads in let z = g.within in (half S k a g.well.0 (omega arith) (λ s i. g.free s (inl i)) (omega arith), half S k b g.well.1 (omega arith) (λ s i. g.free s (inr i)) (omega arith))
-parts_sound S k operators.Parallel (Par a b) g =
-    let r = g.reads in let z = g.within in (half S k a g.well.0 (omega arith) (λ s i. g.free s (inl i)) (omega arith), half S k b g.well.1 (omega arith) (λ s i. g.free s (inr i)) (omega arith))
-parts_sound S k operators.Sequence (Seq a b) g =
-    let r = g.reads in let z = g.within in (half S k a g.well.0 (omega arith) (λ s i. g.free s (inl i)) (omega arith), half S k b g.well.1 (omega arith) (λ s i. g.free s (inr i)) (omega arith))
-parts_sound S k operators.Split (Split a b) g =
-    let r = g.reads in let z = g.within in (half S k a g.well.0 (omega arith) (λ s i. g.free s (inl i)) (omega arith), half S k b g.well.1 (omega arith) (λ s i. g.free s (inr i)) (omega arith))
-parts_sound S k operators.Merge (Merge a b) g =
-    let r = g.reads in let z = g.within in (half S k a g.well.0 (omega arith) (λ s i. g.free s (inl i)) (omega arith), half S k b g.well.1 (omega arith) (λ s i. g.free s (inr i)) (omega arith))
+parts_sound S k operators.Recursion (Rec a b) g = halves S k a b (record { well = (g.well.0, g.well.1); within = g.within; free = g.free; reads = g.reads })
+parts_sound S k operators.Parallel (Par a b) g = halves S k a b g
+parts_sound S k operators.Sequence (Seq a b) g = halves S k a b (record { well = (g.well.0, g.well.1); within = g.within; free = g.free; reads = g.reads })
+parts_sound S k operators.Split (Split a b) g = halves S k a b (record { well = (g.well.0, g.well.1); within = g.within; free = g.free; reads = g.reads })
+parts_sound S k operators.Merge (Merge a b) g = halves S k a b (record { well = (g.well.0, g.well.1); within = g.within; free = g.free; reads = g.reads })
 parts_sound S k o d g = tt
 
 without_sound : (S : ℕ → Type 0) (k : ℕ) (n : Option ℤ) (o : Operator) (d : Diagram) → IsSound S k d → SomeParts S k (parts_without n o d)
@@ -409,7 +440,8 @@ if_bound : (S : ℕ → Type 0) (k : ℕ) (b : Bool) (bs : Bindings) → AllBoun
 if_bound S k true bs g = g
 if_bound S k false bs g = tt
 
-then_bound : (S : ℕ → Type 0) (k : ℕ) (o : Option Bindings) (f : Bindings → Option Bindings) → SomeBound S k o → ((bs : Bindings) → AllBound S k bs → SomeBound S k (f bs)) → SomeBound S k (and_then o f)
+then_bound : (S : ℕ → Type 0) (k : ℕ) (o : Option Bindings) (f : Bindings → Option Bindings) → SomeBound S k o
+    → ((bs : Bindings) → AllBound S k bs → SomeBound S k (f bs)) → SomeBound S k (and_then o f)
 then_bound S k None f g h = tt
 then_bound S k (Some bs) f g h = h bs g
 
@@ -418,16 +450,19 @@ parts_bound : (S : ℕ → Type 0) (k : ℕ) (o : Option (Diagram × Diagram)) (
 parts_bound S k None f g h = tt
 parts_bound S k (Some ab) f g h = h ab g.0 g.1
 
-matched_sound : (S : ℕ → Type 0) (k : ℕ) (l : Lexed) (p : Tree) (v : Value) (bs : Bindings) → SoundValue S k v → AllBound S k bs → SomeBound S k (matched l p v bs)
+matched_sound : (S : ℕ → Type 0) (k : ℕ) (l : Lexed) (p : Tree) (v : Value) (bs : Bindings) → SoundValue S k v → AllBound S k bs
+    → SomeBound S k (matched l p v bs)
 matched_sound S k l (tree.Named s n) v bs g h = (settled_sound S k v g, h)
 matched_sound S k l (tree.Number s n) v bs g h = if_bound S k _ bs h
 matched_sound S k l (tree.Negative s n) v bs g h = if_bound S k _ bs h
 matched_sound S k l (tree.Binary s o p q) v bs g h =
     parts_bound S k (value_parts o v) _ (value_parts_sound S k o v g)
-    (λ ab i j. then_bound S k (matched l p (Flat ab.0) bs) _ (matched_sound S k l p (Flat ab.0) bs i h) (λ cs r. matched_sound S k l q (Flat ab.1) cs j r))
+    (λ ab i j. then_bound S k (matched l p (Flat ab.0) bs) _ (matched_sound S k l p (Flat ab.0) bs i h)
+    (λ cs r. matched_sound S k l q (Flat ab.1) cs j r))
 matched_sound S k l p v bs g h = tt
 
-all_matched_sound : (S : ℕ → Type 0) (k : ℕ) (l : Lexed) (ps : List Tree) (vs : List Value) (bs : Bindings) → AllValues S k vs → AllBound S k bs → SomeBound S k (all_matched l ps vs bs)
+all_matched_sound : (S : ℕ → Type 0) (k : ℕ) (l : Lexed) (ps : List Tree) (vs : List Value) (bs : Bindings) → AllValues S k vs → AllBound S k bs
+    → SomeBound S k (all_matched l ps vs bs)
 all_matched_sound S k l [] vs bs g h = h
 all_matched_sound S k l (p ∷ ps) [] bs g h = tt
 all_matched_sound S k l (p ∷ ps) (v ∷ vs) bs g h =
@@ -437,7 +472,8 @@ abbrev SomeChosen : (ℕ → Type 0) → ℕ → Option (Tree × Bindings) → T
 SomeChosen S k None = Unit {0}
 SomeChosen S k (Some xb) = AllBound S k xb.1
 
-next_sound : (S : ℕ → Type 0) (k : ℕ) (x : Tree) (o : Option Bindings) (next : Option (Tree × Bindings)) → SomeBound S k o → SomeChosen S k next → SomeChosen S k (or_next x o next)
+next_sound : (S : ℕ → Type 0) (k : ℕ) (x : Tree) (o : Option Bindings) (next : Option (Tree × Bindings)) → SomeBound S k o → SomeChosen S k next
+    → SomeChosen S k (or_next x o next)
 next_sound S k x None next g h = h
 next_sound S k x (Some bs) next g h = g
 
@@ -463,7 +499,8 @@ if_meant : (S : ℕ → Type 0) (k : ℕ) (b : Bool) (m n : Meaning) → SoundMe
 if_meant S k true m n g h = g
 if_meant S k false m n g h = h
 
-or_meant : (S : ℕ → Type 0) (k : ℕ) (o : Option Definition) (env : Env) (m : Meaning) → SoundEnv S k env → SoundMeaning S k m → SoundMeaning S k (meant_or o env m)
+or_meant : (S : ℕ → Type 0) (k : ℕ) (o : Option Definition) (env : Env) (m : Meaning) → SoundEnv S k env → SoundMeaning S k m
+    → SoundMeaning S k (meant_or o env m)
 or_meant S k (Some d) env m g h = g
 or_meant S k None env m g h = h
 
@@ -476,23 +513,25 @@ lookup_sound S k l (Scope ds env) x g = or_meant S k _ (Scope ds env) (lookup l 
 abbrev Any : {A : Type 0} → ℕ → A → Type 0
 Any n x = Unit {0}
 
-visit_stays : (v : ℕ) (s : State) → v ≤ s.visits → SoundState s → Stays {A = Unit} (λ n u. Unit {0}) 0 s (spent v s)
+visit_stays : (v : ℕ) (s : State) → v ≤ s.visits → SoundState s → Stays (Any {A = Unit}) 0 s (spent v s)
 visit_stays zero s h b = tt
 visit_stays (suc v) s h b = (omega arith, omega arith, b, tt)
 
-visit_does : (k : ℕ) → Does {A = Unit} (λ n u. Unit {0}) 0 k visit
-visit_does k s h b = visit_stays s.visits s (omega arith) b
+visit_does : (k : ℕ) → Does (Any {A = Unit}) 0 k visit
+visit_does k = record { stays = λ s h b. visit_stays s.visits s (omega arith) b }
 
-repaid : {A : Type 0} (P : ℕ → A → Type 0) (s t : State) (r : Outcome A) → s.visits ≡ suc t.visits → length s.controls ≡ length t.controls → Stays P 1 t r → Stays P 0 s r
+repaid : {A : Type 0} (P : ℕ → A → Type 0) (s t : State) (r : Outcome A) → s.visits ≡ suc t.visits → length s.controls ≡ length t.controls
+    → Stays P 1 t r → Stays P 0 s r
 repaid P s t (Ok x) e f a = let u = a.0 in let v = a.1 in (omega arith, omega arith, a.2, a.3)
 repaid P s t (Err r) e f a = a
 
-visited_stays : {A : Type 0} (P : ℕ → A → Type 0) (k v : ℕ) (s : State) (m : Eval A) → s.visits ≡ v → k ≤ length s.controls → SoundState s → Does P 1 k m → Stays P 0 s (after (spent v s) (λ u. m))
+visited_stays : {A : Type 0} (P : ℕ → A → Type 0) (k v : ℕ) (s : State) (m : Eval A) → s.visits ≡ v → k ≤ length s.controls → SoundState s
+    → Does P 1 k m → Stays P 0 s (after (spent v s) (λ u. m))
 visited_stays P k zero s m e h b a = tt
-visited_stays P k (suc v) s m e h b a = let t : State = record s { visits = v } in repaid P s t (m t) e refl (a t h b)
+visited_stays P k (suc v) s m e h b a = let t : State = record s { visits = v } in repaid P s t (m t) e refl (a.stays t h b)
 
 visited_does : {A : Type 0} (P : ℕ → A → Type 0) (k : ℕ) (m : Eval A) → Does P 1 k m → Does P 0 k (visit >>= λ u. m)
-visited_does P k m a s h b = visited_stays P k s.visits s m refl h b a
+visited_does P k m a = record { stays = λ s h b. visited_stays P k s.visits s m refl h b a }
 
 abbrev SomeBelow : ℕ → Option (ℕ × ControlInfo) → Type 0
 SomeBelow n None = Unit {0}
@@ -504,222 +543,228 @@ if_below n false o p g h = h
 
 labelled_below : (k n : ℕ) (cs : List ControlInfo) (label : List ℕ) → k + length cs ≤ n → SomeBelow n (labelled k cs label)
 labelled_below k n [] label h = tt
-labelled_below k n (c ∷ cs) label h = if_below n _ (Some (k, c)) (labelled (suc k) cs label) (omega arith) (labelled_below (suc k) n cs label (omega arith))
+labelled_below k n (c ∷ cs) label h =
+    if_below n _ (Some (k, c)) (labelled (suc k) cs label) (omega arith) (labelled_below (suc k) n cs label (omega arith))
 
 control_sound : (S : ℕ → Type 0) (n k : ℕ) → k < n → IsSound S n (Control k)
 control_sound S n k h = record { well = tt; within = omega arith; free = λ s f. absurd f; reads = omega arith }
 
-alike_stays : (S : ℕ → Type 0) (s : State) (k : ℕ) (b : Bool) (r : EvalRefusal) → IsCause r → k < length s.controls → SoundState s → Stays (λ n x. IsSound S n x) 1 s (if b then Ok (Control k, s) else Err r)
+alike_stays : (S : ℕ → Type 0) (s : State) (k : ℕ) (b : Bool) (r : EvalRefusal) → IsCause r → k < length s.controls → SoundState s
+    → Stays (IsSound S) 1 s (if b then Ok (Control k, s) else Err r)
 alike_stays S s k true r i h b = (omega arith, omega arith, b, control_sound S (length s.controls) k h)
 alike_stays S s k false r i h b = i
 
 entered_stays : (S : ℕ → Type 0) (c : ControlInfo) (s : State) (o : Option (ℕ × ControlInfo)) → IsBounded c → SomeBelow (length s.controls) o → SoundState s
-    → Stays (λ n x. IsSound S n x) 1 s (entered c s o)
+    → Stays (IsSound S) 1 s (entered c s o)
 entered_stays S c s None i g b =
     let e = length-append s.controls (c ∷ []) in
     (omega arith, omega arith, All-push IsBounded s.controls c b i, control_sound S (length (s.controls ++ c ∷ [])) (length s.controls) (omega arith))
 entered_stays S c s (Some ko) i g b = alike_stays S s ko.0 (is_alike c ko.1) (ControlClash c.label) tt g b
 
 bounded_stays : (S : ℕ → Type 0) (c : ControlInfo) (s : State) (b : Bool) → (int_le c.min c.init && int_le c.init c.max) ≡ b → SoundState s
-    → Stays (λ n x. IsSound S n x) 1 s (if b then entered c s (labelled 0 s.controls c.label) else Err (ControlBounds c.label))
+    → Stays (IsSound S) 1 s (if b then entered c s (labelled 0 s.controls c.label) else Err (ControlBounds c.label))
 bounded_stays S c s true e b =
     let p = and_parts (int_le c.min c.init) (int_le c.init c.max) e in
-    entered_stays S c s (labelled 0 s.controls c.label) (omega (arith, ints, p.0), omega (arith, ints, p.1)) (labelled_below 0 (length s.controls) s.controls c.label (omega arith)) b
+    let below = labelled_below 0 (length s.controls) s.controls c.label (omega arith) in
+    entered_stays S c s (labelled 0 s.controls c.label) (omega (arith, ints, p.0), omega (arith, ints, p.1)) below b
 bounded_stays S c s false e b = tt
 
-control_does : (S : ℕ → Type 0) (k : ℕ) (c : ControlInfo) → Does (λ n x. IsSound S n x) 1 k (control c)
-control_does S k c s h b = bounded_stays S c s (int_le c.min c.init && int_le c.init c.max) refl b
+control_does : (S : ℕ → Type 0) (k : ℕ) (c : ControlInfo) → Does (IsSound S) 1 k (control c)
+control_does S k c = record { stays = λ s h b. bounded_stays S c s (int_le c.min c.init && int_le c.init c.max) refl b }
 
 -- ---- evaluators
 pub record Sound (e : Evaluator) : Type 1 where
-  pub value : (S : ℕ → Type 0) (k : ℕ) (x : Tree) (env : Env) → SoundEnv S k env → Does (λ n v. SoundValue S n v) 0 k (e.value x env)
-  pub diagram : (S : ℕ → Type 0) (k : ℕ) (x : Tree) (env : Env) → SoundEnv S k env → Does (λ n d. IsSound S n d) 0 k (e.diagram x env)
+  pub value : (S : ℕ → Type 0) (k : ℕ) (x : Tree) (env : Env) → SoundEnv S k env → Does (SoundValue S) 0 k (e.value x env)
+  pub diagram : (S : ℕ → Type 0) (k : ℕ) (x : Tree) (env : Env) → SoundEnv S k env → Does (IsSound S) 0 k (e.diagram x env)
 
-fresh_does : (k m : ℕ) → Does {A = ℕ} (λ n u. Unit {0}) 0 k (fresh_slots m)
-fresh_does k m s h b = (omega arith, omega arith, b, tt)
+fresh_does : (k m : ℕ) → Does (Any {A = ℕ}) 0 k (fresh_slots m)
+fresh_does k m = record { stays = λ s h b. (omega arith, omega arith, b, tt) }
 
-turned_does : (l : Lexed) (e : Evaluator) → Sound e → (S : ℕ → Type 0) (k : ℕ) (v : Value) → SoundValue S k v → Does (λ n d. IsSound S n d) 0 k (turned l e v)
-turned_does l e a S k (Flat d) g = give_does (λ n x. IsSound S n x) 0 k d (λ n h. keep S k n d h g)
+turned_does : (l : Lexed) (e : Evaluator) → Sound e → (S : ℕ → Type 0) (k : ℕ) (v : Value) → SoundValue S k v → Does (IsSound S) 0 k (turned l e v)
+turned_does l e a S k (Flat d) g = give_does (λ n h. keep S k n d h g)
 turned_does l e a S k (Abstraction x xs body env) g =
     let m = length (x ∷ xs) in
-    bind_does (λ n (u : ℕ). Unit {0}) (λ n d. IsSound S n d) 0 k (fresh_slots m) (λ slot. (e.diagram body (on_slots (x ∷ xs) slot env) >>= λ d. bind_all slot m d)) (fresh_does k m)
-    (λ slot n h u. bind_does (λ n d. IsSound (Within slot m S) n d) (λ n d. IsSound S n d) 0 n (e.diagram body (on_slots (x ∷ xs) slot env)) (λ d. bind_all slot m d)
-    (a.diagram (Within slot m S) n body (on_slots (x ∷ xs) slot env)
+    bind_does (fresh_does k m) (λ slot n h u.
+    bind_does (a.diagram (Within slot m S) n body (on_slots (x ∷ xs) slot env)
     (on_slots_sound (Within slot m S) n (x ∷ xs) slot env (λ t p q. inl (p, q)) (env_grows S (Within slot m S) k n (λ s i. inr i) h env g)))
     (λ d n' h' g'. bind_all_does S n' slot m d g'))
-turned_does l e a S k (Rules s rs env taken) g = refuse_does (λ n x. IsSound S n x) 0 k (no_diagram l s) tt
+turned_does l e a S k (Rules s rs env taken) g = refuse_does (no_diagram l s) tt
 
-defined_does : (e : Evaluator) → Sound e → (S : ℕ → Type 0) (k : ℕ) (d : Definition) (env : Env) → SoundEnv S k env → Does (λ n v. SoundValue S n v) 0 k (defined_value e d env)
+defined_does : (e : Evaluator) → Sound e → (S : ℕ → Type 0) (k : ℕ) (d : Definition) (env : Env) → SoundEnv S k env
+    → Does (SoundValue S) 0 k (defined_value e d env)
 defined_does e a S k (Plain body) env g = a.value S k body env g
-defined_does e a S k (Parameters x xs body) env g = give_does (λ n v. SoundValue S n v) 0 k (Abstraction x xs body env) (λ n h. keep_env S k n env h g)
-defined_does e a S k (Cases s rs) env g = give_does (λ n v. SoundValue S n v) 0 k (Rules s rs env Nothing) (λ n h. (keep_env S k n env h g, tt))
+defined_does e a S k (Parameters x xs body) env g = give_does (λ n h. keep_env S k n env h g)
+defined_does e a S k (Cases s rs) env g = give_does (λ n h. (keep_env S k n env h g, tt))
 
-meant_does : (e : Evaluator) → Sound e → (S : ℕ → Type 0) (k : ℕ) (x : Name) (m : Meaning) → SoundMeaning S k m → Does (λ n v. SoundValue S n v) 0 k (meant e x m)
-meant_does e a S k x (IsValue v) g = give_does (λ n v. SoundValue S n v) 0 k v (λ n h. keep_value S k n v h g)
+meant_does : (e : Evaluator) → Sound e → (S : ℕ → Type 0) (k : ℕ) (x : Name) (m : Meaning) → SoundMeaning S k m → Does (SoundValue S) 0 k (meant e x m)
+meant_does e a S k x (IsValue v) g = give_does (λ n h. keep_value S k n v h g)
 meant_does e a S k x (IsDefined d env) g = defined_does e a S k d env g
-meant_does e a S k x Unknown g = refuse_does (λ n v. SoundValue S n v) 0 k (UnknownName x) tt
+meant_does e a S k x Unknown g = refuse_does (UnknownName x) tt
 
-name_does : (l : Lexed) (e : Evaluator) → Sound e → (S : ℕ → Type 0) (k : ℕ) (x : Name) (env : Env) → SoundEnv S k env → Does (λ n v. SoundValue S n v) 0 k (name_value l e x env)
+name_does : (l : Lexed) (e : Evaluator) → Sound e → (S : ℕ → Type 0) (k : ℕ) (x : Name) (env : Env) → SoundEnv S k env
+    → Does (SoundValue S) 0 k (name_value l e x env)
 name_does l e a S k x env g =
-    bind_does (λ n (u : Unit). Unit {0}) (λ n v. SoundValue S n v) 0 k visit (λ u. meant e x (lookup l env x)) (visit_does k)
-    (λ u n h t. meant_does e a S n x (lookup l env x) (lookup_sound S n l env x (keep_env S k n env h g)))
+    bind_does (visit_does k) (λ u n h t. meant_does e a S n x (lookup l env x) (lookup_sound S n l env x (keep_env S k n env h g)))
 
-arguments_do : (e : Evaluator) → Sound e → (S : ℕ → Type 0) (k : ℕ) (xs : List Tree) (env : Env) (done : List Value) → SoundEnv S k env → AllValues S k done
-    → Does (λ n vs. AllValues S n vs) 0 k (arguments e xs env done)
-arguments_do e a S k [] env done g h = give_does (λ n vs. AllValues S n vs) 0 k done (λ n i. keep_values S k n done i h)
+arguments_do : (e : Evaluator) → Sound e → (S : ℕ → Type 0) (k : ℕ) (xs : List Tree) (env : Env) (done : List Value) → SoundEnv S k env
+    → AllValues S k done → Does (AllValues S) 0 k (arguments e xs env done)
+arguments_do e a S k [] env done g h = give_does (λ n i. keep_values S k n done i h)
 arguments_do e a S k (x ∷ xs) env done g h =
-    bind_does (λ n v. SoundValue S n v) (λ n vs. AllValues S n vs) 0 k (e.value x env) (λ v. arguments e xs env (done ++ settled v ∷ [])) (a.value S k x env g)
-    (λ v n i j. arguments_do e a S n xs env (done ++ settled v ∷ []) (keep_env S k n env i g) (values_snoc S n done (settled v) (keep_values S k n done i h) (settled_sound S n v j)))
+    bind_does (a.value S k x env g) (λ v n i j.
+    let more = values_snoc S n done (settled v) (keep_values S k n done i h) (settled_sound S n v j) in
+    arguments_do e a S n xs env (done ++ settled v ∷ []) (keep_env S k n env i g) more)
 
-read_does : (l : Lexed) (k s : ℕ) (o : Option ℤ) → Does {A = ℤ} (λ n u. Unit {0}) 0 k (read_number l s o)
-read_does l k s None = refuse_does (λ n (u : ℤ). Unit {0}) 0 k (no_number l s) tt
-read_does l k s (Some z) = give_does (λ n (u : ℤ). Unit {0}) 0 k z (λ n h. tt)
+read_does : (l : Lexed) (k s : ℕ) (o : Option ℤ) → Does (Any {A = ℤ}) 0 k (read_number l s o)
+read_does l k s None = refuse_does (no_number l s) tt
+read_does l k s (Some z) = give_does (λ n h. tt)
 
 parameters_do : (l : Lexed) (e : Evaluator) → Sound e → (S : ℕ → Type 0) (k : ℕ) (xs : List Tree) (env : Env) (done : List ℤ) → SoundEnv S k env
-    → Does {A = List ℤ} (λ n u. Unit {0}) 0 k (parameters l e xs env done)
-parameters_do l e a S k [] env done g = give_does (λ n (u : List ℤ). Unit {0}) 0 k done (λ n h. tt)
+    → Does (Any {A = List ℤ}) 0 k (parameters l e xs env done)
+parameters_do l e a S k [] env done g = give_does (λ n h. tt)
 parameters_do l e a S k (x ∷ xs) env done g =
-    bind_does (λ n v. SoundValue S n v) (λ n (u : List ℤ). Unit {0}) 0 k (e.value x env) (λ v. (read_number l (start_of x) (value_number v) >>= λ z. parameters l e xs env (done ++ z ∷ []))) (a.value S k x env g)
-    (λ v n i j. bind_does (λ n (u : ℤ). Unit {0}) (λ n (u : List ℤ). Unit {0}) 0 n (read_number l (start_of x) (value_number v)) (λ z. parameters l e xs env (done ++ z ∷ [])) (read_does l n (start_of x) (value_number v))
-    (λ z m p q. parameters_do l e a S m xs env (done ++ z ∷ []) (keep_env S n m env p (keep_env S k n env i g))))
+    bind_does (a.value S k x env g) (λ v n i j.
+    bind_does (read_does l n (start_of x) (value_number v)) (λ z m p q.
+    parameters_do l e a S m xs env (done ++ z ∷ []) (keep_env S n m env p (keep_env S k n env i g))))
 
-all_turned_do : (l : Lexed) (e : Evaluator) → Sound e → (S : ℕ → Type 0) (k : ℕ) (vs : List Value) (done : List Diagram) → AllValues S k vs → AllSound S k done
-    → Does (λ n ds. AllSound S n ds) 0 k (all_turned l e vs done)
-all_turned_do l e a S k [] done g h = give_does (λ n ds. AllSound S n ds) 0 k done (λ n i. keep_all S k n done i h)
+all_turned_do : (l : Lexed) (e : Evaluator) → Sound e → (S : ℕ → Type 0) (k : ℕ) (vs : List Value) (done : List Diagram) → AllValues S k vs
+    → AllSound S k done → Does (AllSound S) 0 k (all_turned l e vs done)
+all_turned_do l e a S k [] done g h = give_does (λ n i. keep_all S k n done i h)
 all_turned_do l e a S k (v ∷ vs) done g h =
-    bind_does (λ n d. IsSound S n d) (λ n ds. AllSound S n ds) 0 k (turned l e v) (λ d. all_turned l e vs (done ++ d ∷ [])) (turned_does l e a S k v g.0)
-    (λ d n i j. all_turned_do l e a S n vs (done ++ d ∷ []) (keep_values S k n vs i g.1) (all_snoc S n done d (keep_all S k n done i h) j))
+    bind_does (turned_does l e a S k v g.0) (λ d n i j.
+    all_turned_do l e a S n vs (done ++ d ∷ []) (keep_values S k n vs i g.1) (all_snoc S n done d (keep_all S k n done i h) j))
 
-selected_does : (l : Lexed) (e : Evaluator) → Sound e → (S : ℕ → Type 0) (k s : ℕ) (env : Env) (o : Option (Tree × Bindings)) → SoundEnv S k env → SomeChosen S k o
-    → Does (λ n v. SoundValue S n v) 0 k (selected l e s env o)
-selected_does l e a S k s env None g h = refuse_does (λ n v. SoundValue S n v) 0 k (no_rule l s) tt
+selected_does : (l : Lexed) (e : Evaluator) → Sound e → (S : ℕ → Type 0) (k s : ℕ) (env : Env) (o : Option (Tree × Bindings)) → SoundEnv S k env
+    → SomeChosen S k o → Does (SoundValue S) 0 k (selected l e s env o)
+selected_does l e a S k s env None g h = refuse_does (no_rule l s) tt
 selected_does l e a S k s env (Some xb) g h = a.value S k xb.0 (bound_in env xb.1) (bound_sound S k env xb.1 g h)
 
+-- rules that have all their arguments
+called_does : (l : Lexed) (e : Evaluator) → Sound e → (S : ℕ → Type 0) (k s : ℕ) (rs : List Rule) (env : Env) (taken : Taken) → SoundEnv S k env
+    → SoundTaken S k taken → Does (SoundValue S) 0 k (selected l e s env (chosen l rs (in_order taken [])))
+called_does l e a S k s rs env taken g h =
+    let all = in_order taken [] in
+    selected_does l e a S k s env (chosen l rs all) g (chosen_sound S k l rs all (order_sound S k taken [] h tt))
+
 applied_does : (l : Lexed) (e : Evaluator) → Sound e → (S : ℕ → Type 0) (k s : ℕ) (v : Value) (vs : List Value) → SoundValue S k v → AllValues S k vs
-    → Does (λ n v. SoundValue S n v) 0 k (applied l e s v vs)
-applied_does l e a S k s v [] g h = give_does (λ n v. SoundValue S n v) 0 k v (λ n i. keep_value S k n v i g)
+    → Does (SoundValue S) 0 k (applied l e s v vs)
+applied_does l e a S k s v [] g h = give_does (λ n i. keep_value S k n v i g)
 applied_does l e a S k s (Flat f) (w ∷ more) g h =
-    bind_does (λ n ds. AllSound S n ds) (λ n v. SoundValue S n v) 0 k (all_turned l e (w ∷ more) []) (fed f) (all_turned_do l e a S k (w ∷ more) [] h tt)
-    (λ ds n i j. fed_does S n f ds (keep S k n f i g) j)
+    bind_does (all_turned_do l e a S k (w ∷ more) [] h tt) (λ ds n i j. fed_does S n f ds (keep S k n f i g) j)
 applied_does l e a S k s (Abstraction x [] body env) (w ∷ more) g h =
-    bind_does (λ n v. SoundValue S n v) (λ n v. SoundValue S n v) 0 k (e.value body (Bound x w env)) (λ v. applied l e s v more) (a.value S k body (Bound x w env) (h.0, g))
-    (λ v n i j. applied_does l e a S n s v more j (keep_values S k n more i h.1))
-applied_does l e a S k s (Abstraction x (y ∷ ys) body env) (w ∷ more) g h = applied_does l e a S k s (Abstraction y ys body (Bound x w env)) more (h.0, g) h.1
+    bind_does (a.value S k body (Bound x w env) (h.0, g)) (λ v n i j. applied_does l e a S n s v more j (keep_values S k n more i h.1))
+applied_does l e a S k s (Abstraction x (y ∷ ys) body env) (w ∷ more) g h =
+    applied_does l e a S k s (Abstraction y ys body (Bound x w env)) more (h.0, g) h.1
 applied_does l e a S k s (Rules p rs env taken) (w ∷ more) g h =
-    choice (λ n v. SoundValue S n v) 0 k (nat_lt (count_taken (And w taken)) (width rs)) _ _ (applied_does l e a S k s (Rules p rs env (And w taken)) more (g.0, (h.0, g.1)) h.1)
-    (bind_does (λ n v. SoundValue S n v) (λ n v. SoundValue S n v) 0 k (selected l e s env (chosen l rs (in_order (And w taken) []))) (λ v. applied l e s v more)
-    (selected_does l e a S k s env (chosen l rs (in_order (And w taken) [])) g.0 (chosen_sound S k l rs (in_order (And w taken) []) (order_sound S k (And w taken) [] (h.0, g.1) tt)))
+    choice (nat_lt (count_taken (And w taken)) (width rs))
+    (applied_does l e a S k s (Rules p rs env (And w taken)) more (g.0, (h.0, g.1)) h.1)
+    (bind_does (called_does l e a S k s rs env (And w taken) g.0 (h.0, g.1))
     (λ v n i j. applied_does l e a S n s v more j (keep_values S k n more i h.1)))
 
-bodies_do : (e : Evaluator) → Sound e → (S : ℕ → Type 0) (k : ℕ) (x : Name) (b : Tree) (env : Env) (i m : ℕ) (done : List Diagram) → SoundEnv S k env → AllSound S k done
-    → Does (λ n ds. AllSound S n ds) 0 k (bodies e x b env i m done)
-bodies_do e a S k x b env i zero done g h = give_does (λ n ds. AllSound S n ds) 0 k done (λ n j. keep_all S k n done j h)
+bodies_do : (e : Evaluator) → Sound e → (S : ℕ → Type 0) (k : ℕ) (x : Name) (b : Tree) (env : Env) (i m : ℕ) (done : List Diagram) → SoundEnv S k env
+    → AllSound S k done → Does (AllSound S) 0 k (bodies e x b env i m done)
+bodies_do e a S k x b env i zero done g h = give_does (λ n j. keep_all S k n done j h)
 bodies_do e a S k x b env i (suc m) done g h =
-    bind_does (λ n d. IsSound S n d) (λ n ds. AllSound S n ds) 0 k (e.diagram b (Bound x (Flat (Constant (pos i))) env)) (λ d. bodies e x b env (suc i) m (done ++ d ∷ []))
-    (a.diagram S k b (Bound x (Flat (Constant (pos i))) env) (constant_sound S k (pos i), g))
-    (λ d n p q. bodies_do e a S n x b env (suc i) m (done ++ d ∷ []) (keep_env S k n env p g) (all_snoc S n done d (keep_all S k n done p h) q))
+    bind_does (a.diagram S k b (Bound x (Flat (Constant (pos i))) env) (constant_sound S k (pos i), g)) (λ d n p q.
+    bodies_do e a S n x b env (suc i) m (done ++ d ∷ []) (keep_env S k n env p g) (all_snoc S n done d (keep_all S k n done p h) q))
 
-counted_does : (l : Lexed) (k s : ℕ) (o : Option ℤ) → Does {A = ℕ} (λ n u. Unit {0}) 0 k (counted l s o)
-counted_does l k s None = refuse_does (λ n (u : ℕ). Unit {0}) 0 k (no_number l s) tt
-counted_does l k s (Some (pos zero)) = refuse_does (λ n (u : ℕ). Unit {0}) 0 k (IterationCount (pos 0)) tt
-counted_does l k s (Some (pos (suc m))) = give_does (λ n (u : ℕ). Unit {0}) 0 k (suc m) (λ n h. tt)
-counted_does l k s (Some (negsuc m)) = refuse_does (λ n (u : ℕ). Unit {0}) 0 k (IterationCount (negsuc m)) tt
+counted_does : (l : Lexed) (k s : ℕ) (o : Option ℤ) → Does (Any {A = ℕ}) 0 k (counted l s o)
+counted_does l k s None = refuse_does (no_number l s) tt
+counted_does l k s (Some (pos zero)) = refuse_does (IterationCount (pos 0)) tt
+counted_does l k s (Some (pos (suc m))) = give_does (λ n h. tt)
+counted_does l k s (Some (negsuc m)) = refuse_does (IterationCount (negsuc m)) tt
 
 ports_sound : (S : ℕ → Type 0) (k : ℕ) (side : Side) (d : Diagram) → IsSound S k (ports side d)
 ports_sound S k sides.Inputs d = constant_sound S k _
 ports_sound S k sides.Outputs d = constant_sound S k _
 
-abstraction_does : (l : Lexed) (e : Evaluator) → Sound e → (S : ℕ → Type 0) (k : ℕ) (ns : List ℕ) (x : Tree) (env : Env) → SoundEnv S k env → Does (λ n v. SoundValue S n v) 0 k (abstraction l e ns x env)
+abstraction_does : (l : Lexed) (e : Evaluator) → Sound e → (S : ℕ → Type 0) (k : ℕ) (ns : List ℕ) (x : Tree) (env : Env) → SoundEnv S k env
+    → Does (SoundValue S) 0 k (abstraction l e ns x env)
 abstraction_does l e a S k [] x env g = a.value S k x env g
-abstraction_does l e a S k (m ∷ ns) x env g = give_does (λ n v. SoundValue S n v) 0 k (Abstraction (text_of l m) (map (text_of l) ns) x env) (λ n h. keep_env S k n env h g)
+abstraction_does l e a S k (m ∷ ns) x env g = give_does (λ n h. keep_env S k n env h g)
 
-flat_given : (S : ℕ → Type 0) (k : ℕ) (d : Diagram) → ((n : ℕ) → IsSound S n d) → Does (λ n v. SoundValue S n v) 1 k (give (Flat d))
-flat_given S k d g = give_does (λ n v. SoundValue S n v) 1 k (Flat d) (λ n h. g n)
+minus_does : (l : Lexed) (e : Evaluator) → Sound e → (S : ℕ → Type 0) (k n : ℕ) (env : Env) → SoundEnv S k env
+    → Does (SoundValue S) 0 k (name_value l e (text_of l n) env >>= λ v. (turned l e v >>= λ d. flat (operated (prim.Point op.Sub) (Constant (pos 0)) d)))
+minus_does l e a S k n env g =
+    bind_does (name_does l e a S k (text_of l n) env g) (λ v m h i.
+    bind_does (turned_does l e a S m v i) (λ d p q r.
+    flat_does (operated_does S p (prim.Point op.Sub) (Constant (pos 0)) d (constant_sound S p (pos 0)) r)))
 
-rule_does : (l : Lexed) (e : Evaluator) → Sound e → (S : ℕ → Type 0) (k : ℕ) (x : Tree) (env : Env) → SoundEnv S k env → Does (λ n v. SoundValue S n v) 1 k (rule l e x env)
-rule_does l e a S k (tree.Number s n) env g = flat_given S k _ (λ m. constant_sound S m _)
-rule_does l e a S k (tree.Negative s n) env g = flat_given S k _ (λ m. constant_sound S m _)
-rule_does l e a S k (tree.Wire s) env g = flat_given S k _ (λ m. prim_sound S m prim.Wire)
-rule_does l e a S k (tree.Cut s) env g = flat_given S k _ (λ m. prim_sound S m prim.Cut)
-rule_does l e a S k (tree.Primitive s p) env g = flat_given S k _ (λ m. prim_sound S m (primitive_of p))
-rule_does l e a S k (tree.Named s n) env g = lend (λ n v. SoundValue S n v) k _ (meant_does e a S k (text_of l n) (lookup l env (text_of l n)) (lookup_sound S k l env (text_of l n) g))
-rule_does l e a S k (tree.MinusNamed s n) env g =
-    let minus : Diagram → Eval Diagram = operated (prim.Point op.Sub) (Constant (pos 0)) in
-    lend (λ n v. SoundValue S n v) k _
-    (bind_does (λ n v. SoundValue S n v) (λ n v. SoundValue S n v) 0 k (name_value l e (text_of l n) env) (λ v. (turned l e v >>= λ d. flat (minus d))) (name_does l e a S k (text_of l n) env g)
-    (λ v m h i. bind_does (λ n d. IsSound S n d) (λ n v. SoundValue S n v) 0 m (turned l e v) (λ d. flat (minus d)) (turned_does l e a S m v i)
-    (λ d p q r. flat_does S 0 p (minus d) (operated_does S p (prim.Point op.Sub) (Constant (pos 0)) d (constant_sound S p (pos 0)) r))))
-rule_does l e a S k (tree.Group s x) env g = lend (λ n v. SoundValue S n v) k _ (a.value S k x env g)
-rule_does l e a S k (tree.Panel s p n x) env g = lend (λ n v. SoundValue S n v) k _ (a.value S k x env g)
-rule_does l e a S k (tree.Where s x ds) env g = lend (λ n v. SoundValue S n v) k _ (a.value S k x (Scope ds env) g)
-rule_does l e a S k (tree.Abstraction s ns x) env g = lend (λ n v. SoundValue S n v) k _ (abstraction_does l e a S k ns x env g)
-rule_does l e a S k (tree.Case s rs) env g = give_does (λ n v. SoundValue S n v) 1 k (Rules s (map rule_of (items rs)) env Nothing) (λ n h. (keep_env S k n env h g, tt))
+rule_does : (l : Lexed) (e : Evaluator) → Sound e → (S : ℕ → Type 0) (k : ℕ) (x : Tree) (env : Env) → SoundEnv S k env
+    → Does (SoundValue S) 1 k (rule l e x env)
+rule_does l e a S k (tree.Number s n) env g = give_does (λ m h. constant_sound S m _)
+rule_does l e a S k (tree.Negative s n) env g = give_does (λ m h. constant_sound S m _)
+rule_does l e a S k (tree.Wire s) env g = give_does (λ m h. prim_sound S m prim.Wire)
+rule_does l e a S k (tree.Cut s) env g = give_does (λ m h. prim_sound S m prim.Cut)
+rule_does l e a S k (tree.Primitive s p) env g = give_does (λ m h. prim_sound S m (primitive_of p))
+rule_does l e a S k (tree.Named s n) env g =
+    let x = text_of l n in lend (meant_does e a S k x (lookup l env x) (lookup_sound S k l env x g))
+rule_does l e a S k (tree.MinusNamed s n) env g = lend (minus_does l e a S k n env g)
+rule_does l e a S k (tree.Group s x) env g = lend (a.value S k x env g)
+rule_does l e a S k (tree.Panel s p n x) env g = lend (a.value S k x env g)
+rule_does l e a S k (tree.Where s x ds) env g = lend (a.value S k x (Scope ds env) g)
+rule_does l e a S k (tree.Abstraction s ns x) env g = lend (abstraction_does l e a S k ns x env g)
+rule_does l e a S k (tree.Case s rs) env g = give_does (λ n h. (keep_env S k n env h g, tt))
 rule_does l e a S k (tree.Binary s o x y) env g =
-    lend (λ n v. SoundValue S n v) k _
-    (bind_does (λ n d. IsSound S n d) (λ n v. SoundValue S n v) 0 k (e.diagram x env) (λ c. (e.diagram y env >>= λ d. flat (joined o c d))) (a.diagram S k x env g)
-    (λ c n h i. bind_does (λ n d. IsSound S n d) (λ n v. SoundValue S n v) 0 n (e.diagram y env) (λ d. flat (joined o c d)) (a.diagram S n y env (keep_env S k n env h g))
-    (λ d m p q. flat_does S 0 m (joined o c d) (joined_does S m o c d (keep S n m c p i) q))))
+    lend (bind_does (a.diagram S k x env g) (λ c n h i.
+    bind_does (a.diagram S n y env (keep_env S k n env h g)) (λ d m p q. flat_does (joined_does S m o c d (keep S n m c p i) q))))
 rule_does l e a S k (tree.Delayed s x) env g =
-    lend (λ n v. SoundValue S n v) k _
-    (bind_does (λ n d. IsSound S n d) (λ n v. SoundValue S n v) 0 k (e.diagram x env) (λ d. flat (put (Seq d (Primitive prim.Mem)))) (a.diagram S k x env g)
-    (λ d n h i. flat_does S 0 n (put (Seq d (Primitive prim.Mem))) (put_does S n (Seq d (Primitive prim.Mem)) (i, prim_sound S n prim.Mem))))
+    lend (bind_does (a.diagram S k x env g) (λ d n h i. flat_does (put_does S n (Seq d (Primitive prim.Mem)) (i, prim_sound S n prim.Mem))))
 rule_does l e a S k (tree.Apply s x ys) env g =
-    lend (λ n v. SoundValue S n v) k _
-    (bind_does (λ n v. SoundValue S n v) (λ n v. SoundValue S n v) 0 k (e.value x env) (λ f. (arguments e (items ys) env [] >>= λ vs. applied l e s f vs)) (a.value S k x env g)
-    (λ f n h i. bind_does (λ n vs. AllValues S n vs) (λ n v. SoundValue S n v) 0 n (arguments e (items ys) env []) (λ vs. applied l e s f vs) (arguments_do e a S n (items ys) env [] (keep_env S k n env h g) tt)
-    (λ vs m p q. applied_does l e a S m s f vs (keep_value S n m f p i) q)))
+    lend (bind_does (a.value S k x env g) (λ f n h i.
+    bind_does (arguments_do e a S n (items ys) env [] (keep_env S k n env h g) tt) (λ vs m p q.
+    applied_does l e a S m s f vs (keep_value S n m f p i) q)))
 rule_does l e a S k (tree.Iteration s r t x y) env g =
-    lend (λ n v. SoundValue S n v) k _
-    (bind_does (λ n d. IsSound S n d) (λ n v. SoundValue S n v) 0 k (e.diagram x env) (λ d. (counted l (start_of x) (number_of d) >>= λ c. (bodies e (text_of l t) y env 0 c [] >>= λ ds. gathered r ds))) (a.diagram S k x env g)
-    (λ d n h i. bind_does (λ n (u : ℕ). Unit {0}) (λ n v. SoundValue S n v) 0 n (counted l (start_of x) (number_of d)) (λ c. (bodies e (text_of l t) y env 0 c [] >>= λ ds. gathered r ds)) (counted_does l n (start_of x) (number_of d))
-    (λ c m p q. bind_does (λ n ds. AllSound S n ds) (λ n v. SoundValue S n v) 0 m (bodies e (text_of l t) y env 0 c []) (λ ds. gathered r ds)
-    (bodies_do e a S m (text_of l t) y env 0 c [] (keep_env S n m env p (keep_env S k n env h g)) tt)
-    (λ ds u v w. gathered_does S u r ds w))))
-rule_does l e a S k (tree.Ports s side x) env g =
-    lend (λ n v. SoundValue S n v) k _
-    (bind_does (λ n d. IsSound S n d) (λ n v. SoundValue S n v) 0 k (e.diagram x env) (λ d. give (Flat (ports side d))) (a.diagram S k x env g)
-    (λ d n h i. give_does (λ n v. SoundValue S n v) 0 n (Flat (ports side d)) (λ m p. ports_sound S m side d)))
-rule_does l e a S k (tree.Switch s p n) env g = flat_does S 1 k _ (control_does S k (switch_info (switch_kind p) (label_of l n)))
+    lend (bind_does (a.diagram S k x env g) (λ d n h i.
+    bind_does (counted_does l n (start_of x) (number_of d)) (λ c m p q.
+    bind_does (bodies_do e a S m (text_of l t) y env 0 c [] (keep_env S n m env p (keep_env S k n env h g)) tt) (λ ds u v w.
+    gathered_does S u r ds w))))
+rule_does l e a S k (tree.Ports s side x) env g = lend (bind_does (a.diagram S k x env g) (λ d n h i. give_does (λ m p. ports_sound S m side d)))
+rule_does l e a S k (tree.Switch s p n) env g = flat_does (control_does S k (switch_info (switch_kind p) (label_of l n)))
 rule_does l e a S k (tree.Slider s p t x0 x1 x2 x3) env g =
-    bind_does (λ n (u : List ℤ). Unit {0}) (λ n v. SoundValue S n v) 1 k (parameters l e (x0 ∷ x1 ∷ x2 ∷ x3 ∷ []) env []) (λ ns. flat (control (slider_info (slider_kind p) (label_of l t) ns)))
-    (parameters_do l e a S k (x0 ∷ x1 ∷ x2 ∷ x3 ∷ []) env [] g)
-    (λ ns n h i. flat_does S 1 n _ (control_does S n (slider_info (slider_kind p) (label_of l t) ns)))
-rule_does l e a S k x env g = refuse_does (λ n v. SoundValue S n v) 1 k (no_diagram l (start_of x)) tt
+    bind_does (parameters_do l e a S k (x0 ∷ x1 ∷ x2 ∷ x3 ∷ []) env [] g) (λ ns n h i.
+    flat_does (control_does S n (slider_info (slider_kind p) (label_of l t) ns)))
+rule_does l e a S k x env g = refuse_does (no_diagram l (start_of x)) tt
 
 -- a rule and then turning, on credit
-turned_after : (l : Lexed) (e : Evaluator) → Sound e → (S : ℕ → Type 0) (s : State) (r : Outcome Value) → Stays (λ n v. SoundValue S n v) 1 s r → Stays (λ n d. IsSound S n d) 1 s (after r (turned l e))
+passes_lent : {A : Type 0} (P : ℕ → A → Type 0) (s t : State) (r : Outcome A) → length s.controls ≤ length t.controls → spare t ≤ spare s + 1
+    → Stays P 0 t r → Stays P 1 s r
+passes_lent P s t (Ok x) h g a = let u = a.0 in let v = a.1 in (omega arith, omega arith, a.2, a.3)
+passes_lent P s t (Err r) h g a = a
+
+turned_after : (l : Lexed) (e : Evaluator) → Sound e → (S : ℕ → Type 0) (s : State) (r : Outcome Value) → Stays (SoundValue S) 1 s r
+    → Stays (IsSound S) 1 s (after r (turned l e))
 turned_after l e a S s (Ok x) g =
-    let t = turned_does l e a S (length x.1.controls) x.0 g.3 x.1 (omega arith) g.2 in
-    passes_lent (λ n d. IsSound S n d) s x.1 (turned l e x.0 x.1) g.0 g.1 t
-  where
-    passes_lent : {A : Type 0} (P : ℕ → A → Type 0) (s t : State) (r : Outcome A) → length s.controls ≤ length t.controls → t.visits + length t.controls ≤ s.visits + length s.controls + 1
-        → Stays P 0 t r → Stays P 1 s r
-    passes_lent P s t (Ok x) h g a = let u = a.0 in let v = a.1 in (omega arith, omega arith, a.2, a.3)
-    passes_lent P s t (Err r) h g a = a
+    let t = (turned_does l e a S (length x.1.controls) x.0 g.3).stays x.1 (omega arith) g.2 in
+    passes_lent (IsSound S) s x.1 (turned l e x.0 x.1) g.0 g.1 t
 turned_after l e a S s (Err r) g = g
+
+rule_turned : (l : Lexed) (e : Evaluator) → Sound e → (S : ℕ → Type 0) (k : ℕ) (x : Tree) (env : Env) → SoundEnv S k env
+    → Does (IsSound S) 1 k (rule l e x env >>= turned l e)
+rule_turned l e a S k x env g = record { stays = λ s h b. turned_after l e a S s (rule l e x env s) ((rule_does l e a S k x env g).stays s h b) }
 
 descend_sound : (l : Lexed) (e : Evaluator) → Sound e → Sound (descend l e)
 descend_sound l e a = record {
-  value = λ S k x env g. visited_does (λ n v. SoundValue S n v) k (rule l e x env) (rule_does l e a S k x env g);
-  diagram = λ S k x env g. visited_does (λ n d. IsSound S n d) k (rule l e x env >>= turned l e) (λ s h b. turned_after l e a S s (rule l e x env s) (rule_does l e a S k x env g s h b));
+  value = λ S k x env g. visited_does (SoundValue S) k (rule l e x env) (rule_does l e a S k x env g);
+  diagram = λ S k x env g. visited_does (IsSound S) k (rule l e x env >>= turned l e) (rule_turned l e a S k x env g);
 }
 
 within_sound : (n : ℕ) (l : Lexed) → Sound (within n l)
 unfolding within
 within_sound zero l = record {
-  value = λ S k x env g. refuse_does (λ n v. SoundValue S n v) 0 k EvalBudget tt;
-  diagram = λ S k x env g. refuse_does (λ n d. IsSound S n d) 0 k EvalBudget tt;
+  value = λ S k x env g. refuse_does EvalBudget tt;
+  diagram = λ S k x env g. refuse_does EvalBudget tt;
 }
 within_sound (suc n) l = descend_sound l (within n l) (within_sound n l)
 
 pub ev_sound : (l : Lexed) → Sound (ev l)
 ev_sound l = record {
-  value = λ S k x env g s h b. (within_sound s.visits l).value S k x env g s h b;
-  diagram = λ S k x env g s h b. (within_sound s.visits l).diagram S k x env g s h b;
+  value = λ S k x env g. record { stays = λ s h b. ((within_sound s.visits l).value S k x env g).stays s h b };
+  diagram = λ S k x env g. record { stays = λ s h b. ((within_sound s.visits l).diagram S k x env g).stays s h b };
 }
 
 -- ---- programs
-finished_sound : (r : Outcome Diagram) (d : Diagram) (cs : List ControlInfo) → Stays (λ n x. IsSound (λ s. ⊥) n x) 0 start r → finished r ≡ Ok (d, cs) → IsSoundProgram d cs
+finished_sound : (r : Outcome Diagram) (d : Diagram) (cs : List ControlInfo) → Stays (IsSound (λ s. ⊥)) 0 start r → finished r ≡ Ok (d, cs)
+    → IsSoundProgram d cs
 finished_sound (Ok x) d cs g e =
     let v = g.1 in
     let z = g.0 in
@@ -735,17 +780,23 @@ finished_sound (Err r) d cs g e = absurd (subst (λ (o : Result (Diagram × List
     IsErrs (Ok p) = ⊥
     IsErrs (Err r) = Unit {0}
 
-program_does : (l : Lexed) (x : Tree) → Stays (λ n d. IsSound (λ s. ⊥) n d) 0 start ((name_value l (ev l) (codes "process") (Scope x Outermost) >>= turned l (ev l)) start)
+-- the outcome of a program
+abbrev program : Lexed → Tree → Outcome Diagram
+program l x = (name_value l (ev l) (codes "process") (Scope x Outermost) >>= turned l (ev l)) start
+
+program_does : (l : Lexed) (x : Tree) → Stays (IsSound (λ s. ⊥)) 0 start (program l x)
 program_does l x =
     let S : ℕ → Type 0 = λ s. ⊥ in
-    let m : Eval Value = name_value l (ev l) (codes "process") (Scope x Outermost) in
-    bind_does (λ n v. SoundValue S n v) (λ n d. IsSound S n d) 0 0 m (turned l (ev l)) (name_does l (ev l) (ev_sound l) S 0 (codes "process") (Scope x Outermost) tt)
-    (λ v n h i. turned_does l (ev l) (ev_sound l) S n v i) start (omega arith) (All-nil IsBounded)
+    let m : Does (SoundValue S) 0 0 (name_value l (ev l) (codes "process") (Scope x Outermost)) =
+    name_does l (ev l) (ev_sound l) S 0 (codes "process") (Scope x Outermost) tt in
+    let whole : Does (IsSound S) 0 0 (name_value l (ev l) (codes "process") (Scope x Outermost) >>= turned l (ev l)) =
+    bind_does m (λ v n h i. turned_does l (ev l) (ev_sound l) S n v i) in
+    whole.stays start (omega arith) (All-nil IsBounded)
 
 pub evaluates_soundly : (l : Lexed) (x : Tree) (d : Diagram) (cs : List ControlInfo) → program_value l x ≡ Ok (d, cs) → IsSoundProgram d cs
-evaluates_soundly l x d cs e = finished_sound ((name_value l (ev l) (codes "process") (Scope x Outermost) >>= turned l (ev l)) start) d cs (program_does l x) e
+evaluates_soundly l x d cs e = finished_sound (program l x) d cs (program_does l x) e
 
-finished_cause : (r : Outcome Diagram) → Stays (λ n x. IsSound (λ s. ⊥) n x) 0 start r → finished r ≡ Err NoMemory → ⊥
+finished_cause : (r : Outcome Diagram) → Stays (IsSound (λ s. ⊥)) 0 start r → finished r ≡ Err NoMemory → ⊥
 finished_cause (Ok x) g e = subst (λ (o : Result (Diagram × List ControlInfo) EvalRefusal). IsCaused o) e tt
   where
     IsCaused : Result (Diagram × List ControlInfo) EvalRefusal → Type 0
@@ -758,4 +809,4 @@ finished_cause (Err r) g e = subst (λ (o : Result (Diagram × List ControlInfo)
     IsCaused (Err r) = IsCause r
 
 pub never_wants_memory : (l : Lexed) (x : Tree) → program_value l x ≡ Err NoMemory → ⊥
-never_wants_memory l x e = finished_cause ((name_value l (ev l) (codes "process") (Scope x Outermost) >>= turned l (ev l)) start) (program_does l x) e
+never_wants_memory l x e = finished_cause (program l x) (program_does l x) e

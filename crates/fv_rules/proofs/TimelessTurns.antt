@@ -1,16 +1,17 @@
 -- The turns that find the value of a timeless diagram.
-use Rattle.std.proofs.Common.{◌≡◌, ◌⊎◌, ℕ, ◌+◌, ◌%◌, ◌<◌, ◌≤◌, Bool, ◌&&◌, List, [], ◌∷◌, length, refl, sym, ap, ◌∙◌, subst, arith, ℤ, inl, inr}
+use Rattle.std.proofs.Common.{◌≡◌, ◌⊎◌, ℕ, ◌+◌, ◌<◌, ◌≤◌, Bool, ◌&&◌, List, [], ◌∷◌, length, refl, sym, ap, ◌∙◌, subst, arith, ℤ, pos, inl, inr}
 use Rattle.std.proofs.Math.Bool.{and_assoc}
-use Rattle.std.proofs.Math.Nat.{mod-eq_of_lt}
-use Rattle.std.proofs.lemmas.Bool.{cases_lt}
 use Rattle.fv_base.proofs.Lists.{length_table}
 use Rattle.fv_num.specs.Words.{argument}
-use Rattle.fv_diagram.specs.Diagram.{Diagram, Primitive, Constant, Control, Slot, Bind, Par, Seq, Split, Merge, Rec, inputs, outputs, size, IsWellFormed}
+use Rattle.fv_diagram.specs.Diagram.{Diagram, Par, Seq, Split, Merge, inputs, outputs, size, IsWellFormed}
 use Rattle.fv_diagram.specs.Arena.{Arena, count_of, tree_of}
 use Rattle.fv_rules.specs.declared.timeless.Task.{Task}
 use Rattle.fv_rules.specs.declared.timeless.Task.TheVariants as task
 use Rattle.fv_rules.specs.Numbers.{is_timeless}
-use Rattle.fv_rules.specs.Timeless.{whole, dealing, summing, action, Does, Leads, Fits, AllFit, IsReady, are_timeless, weight, Advances}
+use Rattle.fv_num.specs.Frames.{Frame}
+use Rattle.fv_diagram.specs.Streams.{dealt, merged}
+use Rattle.fv_rules.specs.Timeless.{Action, given, whole, action, Does, Leads, Fits, AllFit, IsReady, are_timeless, weight, Advances}
+use Rattle.fv_diagram.proofs.Turns.{some_size, not_below}
 use Rattle.fv_rules.proofs.Actions.{narrowed, after, follow, beside}
 use Rattle.fv_rules.proofs.FirstValues.{width}
 
@@ -27,18 +28,6 @@ all_fit_more a (t ∷ ts) l k h f = (fits_more a t l k h f.0, all_fit_more a ts 
 moved : (a : Arena) (ts : List Task) (l k : ℕ) (m r : ℕ → ℤ) (n : ℤ) → l ≤ k → ((i : ℕ) → r i ≡ m i) → Leads a l ts m n → Leads a k ts r n
 moved a [] l k m r n h s p = s 0 ∙ p
 moved a (t ∷ ts) l k m r n h s p = λ m' d. moved a ts l k m' m' n h (λ i. refl) (p m' (narrowed l k (action a t) m r m' h s d))
-
-some_size : (d : Diagram) → 1 ≤ size d
-some_size (Primitive p) = omega arith
-some_size (Constant n) = omega arith
-some_size (Control k) = omega arith
-some_size (Slot s) = omega arith
-some_size (Bind s a) = omega arith
-some_size (Par a b) = omega arith
-some_size (Seq a b) = omega arith
-some_size (Split a b) = omega arith
-some_size (Merge a b) = omega arith
-some_size (Rec a b) = omega arith
 
 -- ---- parts in place of a diagram
 -- what a visit of diagram d asks
@@ -84,16 +73,34 @@ three_parts a t t1 t2 t3 ts ns ms f x f1 f2 f3 all s w = record {
 }
 
 -- two diagrams are timeless where one over them is, and smaller than it
-both_timeless : (a : Arena) (id x y : ℕ) (d : Diagram) (rest : Bool) → tree_of a id ≡ d → is_timeless d ≡ (is_timeless (tree_of a x) && is_timeless (tree_of a y))
+both_timeless : (a : Arena) (id x y : ℕ) (d : Diagram) (rest : Bool) → tree_of a id ≡ d
+    → is_timeless d ≡ (is_timeless (tree_of a x) && is_timeless (tree_of a y))
     → (is_timeless (tree_of a x) && (is_timeless (tree_of a y) && rest)) ≡ (is_timeless (tree_of a id) && rest)
-both_timeless a id x y d rest e s = sym (and_assoc (is_timeless (tree_of a x)) (is_timeless (tree_of a y)) rest) ∙ ap (λ b. b && rest) (sym (ap is_timeless e ∙ s))
+both_timeless a id x y d rest e s =
+    sym (and_assoc (is_timeless (tree_of a x)) (is_timeless (tree_of a y)) rest) ∙ ap (λ b. b && rest) (sym (ap is_timeless e ∙ s))
+
+-- the diagram is put over two others
+pub record IsOver (a : Arena) (id x y : ℕ) (d : Diagram) : Type 0 where
+  pub is : tree_of a id ≡ d
+  pub left : x < count_of a
+  pub right : y < count_of a
+
+pub over_two : {a : Arena} {id x y : ℕ} {d : Diagram} → tree_of a id ≡ d → (x < id) × (y < id) → id < count_of a → IsOver a id x y d
+over_two is below there = record { is = is; left = omega (arith, below.0, there); right = omega (arith, below.1, there) }
+
+-- so many numbers came, from place `at` on
+pub record HasRoom (at count : ℕ) (ns ms : List ℤ) : Type 0 where
+  pub here : at ≡ length ns
+  pub long : length ms ≡ length ns + count
+  pub stays : (i : ℕ) → argument ms i ≡ argument ns i
 
 -- ---- one behind the other
-pub seq_turn : (a : Arena) (id x y from to at : ℕ) (ts : List Task) (ns ms : List ℤ) → tree_of a id ≡ Seq (tree_of a x) (tree_of a y)
-    → x < count_of a → y < count_of a → at ≡ length ns → length ms ≡ length ns + outputs (tree_of a x) → ((i : ℕ) → argument ms i ≡ argument ns i)
-    → IsReady a (task.Visit id from to ∷ ts) ns
+pub seq_turn : (a : Arena) (id x y from to at : ℕ) (ts : List Task) (ns ms : List ℤ) → IsOver a id x y (Seq (tree_of a x) (tree_of a y))
+    → HasRoom at (outputs (tree_of a x)) ns ms → IsReady a (task.Visit id from to ∷ ts) ns
     → Advances a (task.Visit id from to ∷ ts) ns (task.Visit x from at ∷ task.Visit y at to ∷ ts) ms
-seq_turn a id x y from to at ts ns ms e hx hy here more stays f =
+seq_turn a id x y from to at ts ns ms over room f =
+    let e = over.is in let hx = over.left in let hy = over.right in
+    let here = room.here in let more = room.long in let stays = room.stays in
     let v = visits a id from to (length ns) (Seq (tree_of a x) (tree_of a y)) e f.0 in
     let same : outputs (tree_of a x) ≡ inputs (tree_of a y) = v.0.2 in
     two_parts a (task.Visit id from to) (task.Visit x from at) (task.Visit y at to) ts ns ms f
@@ -108,11 +115,11 @@ seq_turn a id x y from to at ts ns ms e hx hy here more stays f =
     (omega (arith, ap size e))
 
 -- ---- both side by side
-pub par_turn : (a : Arena) (id x y from to next behind : ℕ) (ts : List Task) (ns : List ℤ) → tree_of a id ≡ Par (tree_of a x) (tree_of a y)
-    → x < count_of a → y < count_of a → next ≡ from + inputs (tree_of a x) → behind ≡ to + outputs (tree_of a x)
-    → IsReady a (task.Visit id from to ∷ ts) ns
+pub par_turn : (a : Arena) (id x y from to next behind : ℕ) (ts : List Task) (ns : List ℤ) → IsOver a id x y (Par (tree_of a x) (tree_of a y))
+    → next ≡ from + inputs (tree_of a x) → behind ≡ to + outputs (tree_of a x) → IsReady a (task.Visit id from to ∷ ts) ns
     → Advances a (task.Visit id from to ∷ ts) ns (task.Visit x from to ∷ task.Visit y next behind ∷ ts) ns
-par_turn a id x y from to next behind ts ns e hx hy enters leaves f =
+par_turn a id x y from to next behind ts ns over enters leaves f =
+    let e = over.is in let hx = over.left in let hy = over.right in
     let v = visits a id from to (length ns) (Par (tree_of a x) (tree_of a y)) e f.0 in
     two_parts a (task.Visit id from to) (task.Visit x from to) (task.Visit y next behind) ts ns ns f
     (record { grows = omega arith; stays = λ i. refl })
@@ -147,65 +154,63 @@ par_turn a id x y from to next behind ts ns e hx hy enters leaves f =
     both (inr b) = inr (omega (arith, b, leaves))
 
 -- ---- one behind the other, and numbers dealt or added up between them
-multiple : (n m : ℕ) → 1 ≤ m → m % n ≡ 0 → n ≤ m
-multiple n m some e = elim (cases_lt m n) [
-  | inl l ↦ absurd (omega (arith, mod-eq_of_lt l, e, some))
-  | inr g ↦ g
-]
+-- a step in place
+abbrev step_at : (at count many : ℕ) → (Frame → Frame) → Action
+step_at at count many f = record { from = at; takes = count; to = at; gives = many; turned = f }
 
-pub split_turn : (a : Arena) (id x y from to at : ℕ) (ts : List Task) (ns ms : List ℤ) → tree_of a id ≡ Split (tree_of a x) (tree_of a y)
-    → x < count_of a → y < count_of a → at ≡ length ns → length ms ≡ length ns + inputs (tree_of a y) → ((i : ℕ) → argument ms i ≡ argument ns i)
-    → IsReady a (task.Visit id from to ∷ ts) ns
+-- a diagram, a step in place behind it, and then another diagram, on numbers to which others may have come
+in_turn : (l k from at to : ℕ) (x y : Diagram) (f : Frame → Frame) → ((u : Frame) → length (f u) ≡ inputs y) → l ≤ at → l ≤ k
+    → (m n o r : ℕ → ℤ) → Does k (whole x from at) m n → Does k (step_at at (outputs x) (inputs y) f) n o → Does k (whole y at to) o r
+    → Does l (after (after (whole x from at) (step_at at (outputs x) (inputs y) f)) (whole y at to)) m r
+in_turn l k from at to x y f wide far more m n o r p q s =
+    let X = whole x from at in
+    let S = step_at at (outputs x) (inputs y) f in
+    let Y = whole y at to in
+    follow l (after X S) Y m o r (λ u. wide (given x u)) far refl refl
+    (follow l X S m n o (width x) far refl refl (narrowed l k X m m n more (λ i. refl) p) (narrowed l k S n n o more (λ i. refl) q))
+    (narrowed l k Y o o r more (λ i. refl) s)
+
+pub split_turn : (a : Arena) (id x y from to at : ℕ) (ts : List Task) (ns ms : List ℤ) → IsOver a id x y (Split (tree_of a x) (tree_of a y))
+    → HasRoom at (inputs (tree_of a y)) ns ms → IsReady a (task.Visit id from to ∷ ts) ns
     → Advances a (task.Visit id from to ∷ ts) ns
     (task.Visit x from at ∷ task.Deal at (outputs (tree_of a x)) (inputs (tree_of a y)) ∷ task.Visit y at to ∷ ts) ms
-split_turn a id x y from to at ts ns ms e hx hy here more stays f =
+split_turn a id x y from to at ts ns ms over room f =
+    let e = over.is in let here = room.here in let more = room.long in
     let l = length ns in
+    let c = outputs (tree_of a x) in
+    let k = inputs (tree_of a y) in
     let v = visits a id from to l (Split (tree_of a x) (tree_of a y)) e f.0 in
-    let fewer : outputs (tree_of a x) ≤ inputs (tree_of a y) = multiple (outputs (tree_of a x)) (inputs (tree_of a y)) v.0.3 v.0.4 in
-    let far : l ≤ at = omega (arith, here) in
+    let fewer : c ≤ k = not_below k c v.0.3 v.0.4 in
     let grows : l ≤ length ms = omega (arith, more) in
-    let X = whole (tree_of a x) from at in
-    let D = dealing at (outputs (tree_of a x)) (inputs (tree_of a y)) in
-    let Y = whole (tree_of a y) at to in
-    three_parts a (task.Visit id from to) (task.Visit x from at) (task.Deal at (outputs (tree_of a x)) (inputs (tree_of a y))) (task.Visit y at to) ts ns ms f
-    (record { grows = grows; stays = stays })
-    (hx, v.0.0, omega (arith, v.1, more), omega (arith, here, more, fewer), inl (omega (arith, v.1, here)))
+    three_parts a (task.Visit id from to) (task.Visit x from at) (task.Deal at c k) (task.Visit y at to) ts ns ms f
+    (record { grows = grows; stays = room.stays })
+    (over.left, v.0.0, omega (arith, v.1, more), omega (arith, here, more, fewer), inl (omega (arith, v.1, here)))
     (omega (arith, v.0.2), fewer, omega (arith, here, more))
-    (hy, v.0.1, omega (arith, here, more), omega (arith, v.2, more), inr (omega (arith, v.2, here)))
+    (over.right, v.0.1, omega (arith, here, more), omega (arith, v.2, more), inr (omega (arith, v.2, here)))
     (λ m n o r p q s. subst (λ d. Does l (whole d from to) m r) (sym e)
-    (follow l (after X D) Y m o r (λ u. length_table (inputs (tree_of a y)) _) far refl refl
-    (follow l X D m n o (width (tree_of a x)) far refl refl
-    (narrowed l (length ms) X m m n grows (λ i. refl) p)
-    (narrowed l (length ms) D n n o grows (λ i. refl) q))
-    (narrowed l (length ms) Y o o r grows (λ i. refl) s)))
+    (in_turn l (length ms) from at to (tree_of a x) (tree_of a y) (dealt (pos 0) k) (λ u. length_table k _) (omega (arith, here)) grows m n o r p q s))
     (both_timeless a id x y (Split (tree_of a x) (tree_of a y)) (are_timeless a ts) e refl)
     (omega (arith, ap size e, some_size (tree_of a x)))
 
-pub merge_turn : (a : Arena) (id x y from to at : ℕ) (ts : List Task) (ns ms : List ℤ) → tree_of a id ≡ Merge (tree_of a x) (tree_of a y)
-    → x < count_of a → y < count_of a → at ≡ length ns → length ms ≡ length ns + outputs (tree_of a x) → ((i : ℕ) → argument ms i ≡ argument ns i)
-    → IsReady a (task.Visit id from to ∷ ts) ns
+pub merge_turn : (a : Arena) (id x y from to at : ℕ) (ts : List Task) (ns ms : List ℤ) → IsOver a id x y (Merge (tree_of a x) (tree_of a y))
+    → HasRoom at (outputs (tree_of a x)) ns ms → IsReady a (task.Visit id from to ∷ ts) ns
     → Advances a (task.Visit id from to ∷ ts) ns
     (task.Visit x from at ∷ task.Sum at (outputs (tree_of a x)) (inputs (tree_of a y)) ∷ task.Visit y at to ∷ ts) ms
-merge_turn a id x y from to at ts ns ms e hx hy here more stays f =
+merge_turn a id x y from to at ts ns ms over room f =
+    let e = over.is in let here = room.here in let more = room.long in
     let l = length ns in
+    let c = outputs (tree_of a x) in
+    let k = inputs (tree_of a y) in
     let v = visits a id from to l (Merge (tree_of a x) (tree_of a y)) e f.0 in
-    let fewer : inputs (tree_of a y) ≤ outputs (tree_of a x) = multiple (inputs (tree_of a y)) (outputs (tree_of a x)) v.0.2 v.0.4 in
-    let far : l ≤ at = omega (arith, here) in
+    let fewer : k ≤ c = not_below c k v.0.2 v.0.4 in
     let grows : l ≤ length ms = omega (arith, more) in
-    let X = whole (tree_of a x) from at in
-    let S = summing at (outputs (tree_of a x)) (inputs (tree_of a y)) in
-    let Y = whole (tree_of a y) at to in
-    three_parts a (task.Visit id from to) (task.Visit x from at) (task.Sum at (outputs (tree_of a x)) (inputs (tree_of a y))) (task.Visit y at to) ts ns ms f
-    (record { grows = grows; stays = stays })
-    (hx, v.0.0, omega (arith, v.1, more), omega (arith, here, more), inl (omega (arith, v.1, here)))
+    three_parts a (task.Visit id from to) (task.Visit x from at) (task.Sum at c k) (task.Visit y at to) ts ns ms f
+    (record { grows = grows; stays = room.stays })
+    (over.left, v.0.0, omega (arith, v.1, more), omega (arith, here, more), inl (omega (arith, v.1, here)))
     (omega (arith, v.0.3), fewer, omega (arith, here, more))
-    (hy, v.0.1, omega (arith, here, more, fewer), omega (arith, v.2, more), inr (omega (arith, v.2, here)))
+    (over.right, v.0.1, omega (arith, here, more, fewer), omega (arith, v.2, more), inr (omega (arith, v.2, here)))
     (λ m n o r p q s. subst (λ d. Does l (whole d from to) m r) (sym e)
-    (follow l (after X S) Y m o r (λ u. length_table (inputs (tree_of a y)) _) far refl refl
-    (follow l X S m n o (width (tree_of a x)) far refl refl
-    (narrowed l (length ms) X m m n grows (λ i. refl) p)
-    (narrowed l (length ms) S n n o grows (λ i. refl) q))
-    (narrowed l (length ms) Y o o r grows (λ i. refl) s)))
+    (in_turn l (length ms) from at to (tree_of a x) (tree_of a y) (merged k) (λ u. length_table k _) (omega (arith, here)) grows m n o r p q s))
     (both_timeless a id x y (Merge (tree_of a x) (tree_of a y)) (are_timeless a ts) e refl)
     (omega (arith, ap size e, some_size (tree_of a x)))
 

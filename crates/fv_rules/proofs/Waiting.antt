@@ -1,5 +1,5 @@
 -- What stands while tasks wait that find the value of a diagram.
-use Rattle.std.proofs.Common.{◌≡◌, ℕ, ◌<◌, List, [], ◌∷◌, ◌++◌, length, reverse, get_or, sym, ap, ◌∙◌, subst, arith, ℤ, Some}
+use Rattle.std.proofs.Common.{◌≡◌, ℕ, ◌<◌, List, [], ◌∷◌, ◌++◌, length, reverse, get_or, sym, ap, ap₂, ◌∙◌, subst, arith, ℤ, Some}
 use Rattle.std.proofs.lemmas.List.{reverse-append}
 use Rattle.fv_num.specs.Words.{argument}
 use Rattle.fv_diagram.specs.Diagram.{inputs, outputs}
@@ -20,8 +20,14 @@ pub record Waits (a : Arena) (ts : List Task) (ns : List ℤ) (root : ℕ) : Typ
 pub next_last : (ts us : List Task) (t : Task) → ts ≡ us ++ t ∷ [] → reverse ts ≡ t ∷ reverse us
 next_last ts us t e = ap reverse e ∙ reverse-append us (t ∷ [])
 
-pub ended : (a : Arena) (ts : List Task) (ns : List ℤ) (root : ℕ) → inputs (tree_of a root) ≡ 0 → outputs (tree_of a root) ≡ 1 → ts ≡ [] → Waits a ts ns root
-    → Some (argument ns 0) ≡ number_of (tree_of a root)
+-- two tasks that wait, and the third one
+pub three_tasks : (first step same : Task) (rs ts us more : List Task) → rs ≡ first ∷ reverse ts → ts ≡ us ++ step ∷ [] → reverse us ≡ more
+    → step ≡ same → rs ≡ first ∷ same ∷ more
+three_tasks first step same rs ts us more last middle others e =
+    last ∙ ap (λ vs. first ∷ vs) (next_last ts us step middle) ∙ ap₂ (λ s vs. first ∷ s ∷ vs) e others
+
+pub ended : (a : Arena) (ts : List Task) (ns : List ℤ) (root : ℕ) → inputs (tree_of a root) ≡ 0 → outputs (tree_of a root) ≡ 1 → ts ≡ []
+    → Waits a ts ns root → Some (argument ns 0) ≡ number_of (tree_of a root)
 ended a ts ns root closed one e w =
     let v = subst (λ ts. Waits a ts ns root) e w in
     ap Some v.leads ∙ has_number (tree_of a root) (sym v.same) closed one

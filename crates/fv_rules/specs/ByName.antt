@@ -28,7 +28,8 @@ defined_in p ids = filter_map (λ id. called id (defined_name p.tokens (tree_in 
 
 -- What holds of the definitions of a list that were sorted: those of each name are the list's, in their order.
 pub record AreDefined (p : Parsed) (list : ℕ) (ds : List Defined) : Type 0 where
-  pub found : (n : ℕ) → map (λ (d : Defined). tree_in p d.node) (filter (is_called (first_named p.tokens n)) ds) ≡ filter (is_of p.tokens (text_of p.tokens n)) (items (tree_in p list))
+  pub found : (n : ℕ) → map (λ (d : Defined). tree_in p d.node) (filter (is_called (first_named p.tokens n)) ds)
+      ≡ filter (is_of p.tokens (text_of p.tokens n)) (items (tree_in p list))
   pub there : All (λ (d : Defined). d.node < size_of p) ds
 
 -- those of each node of a tree

@@ -108,7 +108,8 @@ pub record ArePartsOf (a : Arena) (id : ℕ) (ij : DiagramId × DiagramId) : Typ
   pub sizes : size (tree_of a ij.0) + size (tree_of a ij.1) < size (tree_of a id)
 
 -- what stays true while pairs wait: the rest of them, with the bindings so far, is the whole
-pub record GoesOn (p : Parsed) (first now : Arena) (ks : List Known) (whole : Pair) (pending : List Pair) (before after : List code_binding.Binding) : Type 0 where
+pub record GoesOn (p : Parsed) (first now : Arena) (ks : List Known) (whole : Pair) (pending : List Pair)
+    (before after : List code_binding.Binding) : Type 0 where
   pub adds : AddsIntegers first now
   pub known : Remembers now ks
   pub there : All (IsPair p first) pending

@@ -14,7 +14,8 @@ use Rattle.fv_grammar.specs.declared.form.Side.TheVariants as sides
 use Rattle.fv_grammar.specs.declared.form.Slider.TheVariants as sliders
 use Rattle.fv_diagram.specs.declared.node.Primitive.TheVariants as prim
 use Rattle.fv_diagram.specs.Diagram.{Diagram, Primitive, Constant, Slot, Bind, Par, Seq}
-use Rattle.fv_rules.specs.declared.refusal.EvalRefusal.TheVariants.{UnknownName, NotANumber, IterationCount, NoRule, NotADiagram, TooManyArguments, EvalBudget, ControlClash, ControlBounds}
+use Rattle.fv_rules.specs.declared.refusal.EvalRefusal.TheVariants.{UnknownName, NotANumber, IterationCount, NoRule, NotADiagram, TooManyArguments}
+use Rattle.fv_rules.specs.declared.refusal.EvalRefusal.TheVariants.{EvalBudget, ControlClash, ControlBounds}
 use Rattle.fv_rules.specs.Values.{Outermost, Scope}
 use Rattle.fv_rules.specs.Numbers.{number_of}
 use Rattle.fv_diagram.specs.declared.control.ControlInfo.{ControlInfo}
@@ -97,13 +98,15 @@ unfolding few within state f_of_one at sign word int_wrap
 one_rule = refl
 
 -- `process = f; f(0) = 1;`, with the tokens above: rules where a diagram is needed, at the definition
-unapplied : few f_of_one (tree.More (tree.Constant 7 7 (tree.Named 5 9)) (tree.More (tree.Function 14 0 (tree.More (tree.Number 12 0) tree.End) (tree.Number 9 1)) tree.End))
+unapplied : few f_of_one (tree.More (tree.Constant 7 7 (tree.Named 5 9))
+    (tree.More (tree.Function 14 0 (tree.More (tree.Number 12 0) tree.End) (tree.Number 9 1)) tree.End))
     ≡ Err (NotADiagram 1 1)
 unfolding few within state f_of_one at sign word int_wrap
 unapplied = refl
 
 -- `f(f) = f;` as a diagram is a bind, and `f(1,2)` gives an integer two arguments
-as_bind : few f_of_one (tree.More (tree.Constant 7 7 (tree.Named 5 9)) (tree.More (tree.Function 14 0 (tree.More (tree.Named 12 0) tree.End) (tree.Named 9 0)) tree.End))
+as_bind : few f_of_one (tree.More (tree.Constant 7 7 (tree.Named 5 9))
+    (tree.More (tree.Function 14 0 (tree.More (tree.Named 12 0) tree.End) (tree.Named 9 0)) tree.End))
     ≡ Ok (Bind 0 (Slot 0), [])
 unfolding few within state f_of_one at sign word int_wrap
 as_bind = refl
@@ -124,7 +127,8 @@ uncounted : (ev f_of_one).diagram (tree.Iteration 9 repetitions.Sum 0 (tree.Wire
 unfolding within state f_of_one at sign word int_wrap
 uncounted = refl
 
-below_one : (ev f_of_one).diagram (tree.Iteration 9 repetitions.Sum 0 (tree.Negative 7 3) (tree.Named 5 9)) Outermost (state 9 0) ≡ Err (IterationCount (negsuc 2))
+below_one : (ev f_of_one).diagram (tree.Iteration 9 repetitions.Sum 0 (tree.Negative 7 3) (tree.Named 5 9)) Outermost (state 9 0)
+    ≡ Err (IterationCount (negsuc 2))
 unfolding within state f_of_one at sign word int_wrap
 below_one = refl
 
@@ -140,11 +144,13 @@ unfolding within state lexed word int_wrap minus
 negated = refl
 
 -- a slider whose init is above its max, and one of the same label with another max
-unbounded : (ev f_of_one).diagram (tree.Slider 9 sliders.Horizontal 7 (tree.Number 7 11) (tree.Number 6 0) (tree.Number 5 10) (tree.Number 4 1)) Outermost (state 9 0) ≡ Err (ControlBounds (codes "roces"))
+unbounded : (ev f_of_one).diagram (tree.Slider 9 sliders.Horizontal 7 (tree.Number 7 11) (tree.Number 6 0) (tree.Number 5 10) (tree.Number 4 1))
+    Outermost (state 9 0) ≡ Err (ControlBounds (codes "roces"))
 unfolding within state f_of_one at sign word int_wrap
 unbounded = refl
 
-clashing : (ev f_of_one).diagram (tree.Binary 9 operators.Parallel (tree.Slider 9 sliders.Horizontal 7 (tree.Number 7 0) (tree.Number 6 0) (tree.Number 5 1) (tree.Number 4 1))
+clashing : (ev f_of_one).diagram (tree.Binary 9 operators.Parallel
+    (tree.Slider 9 sliders.Horizontal 7 (tree.Number 7 0) (tree.Number 6 0) (tree.Number 5 1) (tree.Number 4 1))
     (tree.Slider 9 sliders.Horizontal 7 (tree.Number 7 0) (tree.Number 6 0) (tree.Number 5 2) (tree.Number 4 1))) Outermost (state 99 0)
     ≡ Err (ControlClash (codes "roces"))
 unfolding within state f_of_one at sign word int_wrap

@@ -18,7 +18,8 @@ use Rattle.fv_rules.specs.declared.value.Binding as code_binding
 use Rattle.fv_rules.specs.declared.value.Meaning as code_meaning
 use Rattle.fv_rules.specs.declared.value.Meaning.TheVariants as meaning
 use Rattle.fv_rules.specs.Environments.{scope_in}
-use Rattle.fv_rules.specs.Values.{Name, Rule, Value, Flat, Abstraction, Rules, Env, Outermost, Bound, Scope, Taken, Nothing, And, Plain, Parameters, Cases, Meaning, IsValue, IsDefined, Unknown, rule_of, is_of, names_of}
+use Rattle.fv_rules.specs.Values.{Name, Rule, Value, Flat, Abstraction, Rules, Env, Outermost, Bound, Scope, Taken, Nothing, And, Plain, Parameters}
+use Rattle.fv_rules.specs.Values.{Cases, Meaning, IsValue, IsDefined, Unknown, rule_of, is_of, names_of}
 use Rattle.fv_rules.specs.Matching.{Bindings}
 
 -- The lists of an evaluation: the tree, the diagrams, the environments and the arguments that rules have taken.
@@ -102,7 +103,8 @@ abbrev mutual
   pub ShowsEnv : World → ℕ → Env → Type 0
   ShowsEnv w i Outermost = i ≡ 0
   ShowsEnv w i (Bound x v E) =
-      (n : ℕ) × (u : code_value.Value) × (j : ℕ) × (scope_in w.scopes i ≡ Some (scope.Bound n u j)) × (j < i) × IsNamed w n x × ShowsValue w u v × ShowsEnv w j E
+      (n : ℕ) × (u : code_value.Value) × (j : ℕ) × (scope_in w.scopes i ≡ Some (scope.Bound n u j)) × (j < i)
+      × IsNamed w n x × ShowsValue w u v × ShowsEnv w j E
   ShowsEnv w i (Scope ds E) =
       (id : TreeId) × (j : ℕ) × (scope_in w.scopes i ≡ Some (scope.Definitions id j)) × (j < i) × ShowsTree w id ds × ShowsEnv w j E
 
@@ -121,7 +123,8 @@ ShowsValues w us (v ∷ vs) = (u : code_value.Value) × (more : List code_value.
 abbrev pub ShowsBindings : World → List code_binding.Binding → Bindings → Type 0
 ShowsBindings w bs [] = bs ≡ []
 ShowsBindings w bs (nv ∷ more) =
-    (front : List code_binding.Binding) × (b : code_binding.Binding) × (bs ≡ front ++ b ∷ []) × IsNamed w b.name nv.0 × ShowsValue w b.value nv.1 × ShowsBindings w front more
+    (front : List code_binding.Binding) × (b : code_binding.Binding) × (bs ≡ front ++ b ∷ [])
+    × IsNamed w b.name nv.0 × ShowsValue w b.value nv.1 × ShowsBindings w front more
 
 -- What a name stands for. The code makes an abstraction and rules of a definition at once.
 abbrev pub ShowsMeaning : World → code_meaning.Meaning → Meaning → Type 0

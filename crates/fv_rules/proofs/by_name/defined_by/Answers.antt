@@ -8,5 +8,6 @@ use Rattle.fv_rules.proofs.by_name.defined_by.Goals as goal
 pub returns-in_default : goal.returns-in_default
 returns-in_default c =
     let p = c.args.tree.now in
-    sym (ap (λ t. called c.args.id (defined_name p.tokens t)) c.node.ensures.tree
-    ∙ ap (called c.args.id) (other_form p.tokens (trees p.entries) c.node.result.now (start_in p c.args.id) c.in_default.not-Constant c.in_default.not-Function))
+    let other = c.in_default in
+    let none = other_form p.tokens (trees p.entries) c.node.result.now (start_in p c.args.id) other.not-Constant other.not-Function in
+    sym (ap (λ t. called c.args.id (defined_name p.tokens t)) c.node.ensures.tree ∙ ap (called c.args.id) none)

@@ -8,7 +8,9 @@ use Rattle.fv_rules.proofs.choosing.rule_at.Goals as goal
 pub returns-in_default : goal.returns-in_default
 returns-in_default c =
     let p = c.args.tree.now in
-    let e = ap rule_of c.node.ensures.tree ∙ other_rule (trees p.entries) c.node.result.now (start_in p c.args.id) c.in_default.not-Rule c.in_default.not-Function in
+    let other = c.in_default in
+    let e = ap rule_of c.node.ensures.tree
+    ∙ other_rule (trees p.entries) c.node.result.now (start_in p c.args.id) other.not-Rule other.not-Function in
     record {
       patterns = sym (ap (λ (r : Rule). r.patterns) e);
       body = c.node.ensures.tree ∙ sym (ap (λ (r : Rule). r.body) e);

@@ -1,19 +1,25 @@
 use Rattle.std.proofs.Common.{◌≡◌, ◌∙◌, false, sym, ap}
 use Rattle.fv_grammar.specs.Tree.{items}
-use Rattle.fv_tree.specs.Arena.{trees, tree_of}
+use Rattle.fv_tree.specs.Arena.{trees}
 use Rattle.fv_parse.specs.Trees.{tree_in, start_in}
 use Rattle.fv_rules.specs.declared.value.Meaning.TheVariants as meaning
-use Rattle.fv_rules.specs.Values.{is_of}
+use Rattle.fv_rules.specs.Values.{Name, is_of}
 use Rattle.fv_rules.specs.Lookup.{are_names}
-use Rattle.fv_rules.proofs.Lookups.{abstraction_made, rules_made, nothing_made, not_a_definition}
+use Rattle.fv_rules.proofs.RuleNodes.{node_is}
+use Rattle.fv_rules.proofs.Lookups.{HasPatterns, abstraction_made, rules_made, nothing_made, not_a_definition}
 use Rattle.fv_rules.proofs.lookup.made.Goals.{else-count-eq1-via-then-count-eq1+else-are_names, else-count-eq1-via-else-count-eq1}
 use Rattle.fv_rules.proofs.lookup.made.Goals as goal
 
 pub returns-then-are_names : goal.returns-then-are_names
 returns-then-are_names c =
     let p = c.args.tree.now in
-    abstraction_made p c.args.list c.args.first c.args.count c.args.env c.in-Function.field-0 c.in-Function.patterns c.in-Function.field-2 (start_in p c.args.first)
-    (c.node.ensures.tree ∙ ap (λ node. tree_of (trees p.entries) node (start_in p c.args.first)) c.in-Function.is) c.requires c.if-count-eq1.true (sym c.are_names.ensures ∙ c.if-are_names.true)
+    let has : HasPatterns p c.args.first c.in-Function.patterns c.in-Function.field-2 = record {
+      start = start_in p c.args.first;
+      name = c.in-Function.field-0;
+      is = node_is p c.args.first c.node.ensures.tree c.in-Function.is;
+      inside = c.requires;
+    } in
+    abstraction_made c.args.list c.args.count c.args.env has c.if-count-eq1.true (sym c.are_names.ensures ∙ c.if-are_names.true)
 
 pub returns-else-count-eq1 : goal.returns-else-count-eq1
 returns-else-count-eq1 c =
@@ -22,11 +28,18 @@ returns-else-count-eq1 c =
       | else-count-eq1-via-then-count-eq1+else-are_names w ↦ λ one. sym w.are_names.ensures ∙ w.if-are_names.false
       | else-count-eq1-via-else-count-eq1 w ↦ λ one. absurd (w.if-count-eq1.false one)
     ] in
-    rules_made p c.args.list c.args.first c.args.count c.args.env c.in-Function.field-0 c.in-Function.patterns c.in-Function.field-2 (start_in p c.args.first)
-    (c.node.ensures.tree ∙ ap (λ node. tree_of (trees p.entries) node (start_in p c.args.first)) c.in-Function.is) c.requires other
+    let has : HasPatterns p c.args.first c.in-Function.patterns c.in-Function.field-2 = record {
+      start = start_in p c.args.first;
+      name = c.in-Function.field-0;
+      is = node_is p c.args.first c.node.ensures.tree c.in-Function.is;
+      inside = c.requires;
+    } in
+    rules_made c.args.list c.args.count c.args.env has other
 
 pub returns-in_default : goal.returns-in_default
 returns-in_default c =
     let p = c.args.tree.now in
-    nothing_made p c.args.list c.args.first c.args.count c.args.env meaning.Unknown
-    (λ x. ap (is_of p.tokens x) c.node.ensures.tree ∙ not_a_definition p.tokens x (trees p.entries) c.node.result.now (start_in p c.args.first) c.in_default.not-Constant c.in_default.not-Function)
+    let other = c.in_default in
+    let none = λ (x : Name). ap (is_of p.tokens x) c.node.ensures.tree
+    ∙ not_a_definition p.tokens x (trees p.entries) c.node.result.now (start_in p c.args.first) other.not-Constant other.not-Function in
+    nothing_made p c.args.list c.args.first c.args.count c.args.env meaning.Unknown none

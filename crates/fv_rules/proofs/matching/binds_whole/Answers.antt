@@ -11,6 +11,8 @@ returns-in_default c =
     let p = c.args.tree.now in
     record {
       matched = λ w v bs same shown old.
-          subst (ShowsMatched w false c.args.found.now.items)
-          (sym (ap (λ t. matched p.tokens t v bs) c.node.ensures.tree ∙ whole_refuses p.tokens (trees p.entries) c.node.result.now (start_in p c.args.pattern) w c.args.argument.now v bs c.in_default.not-Named c.requires.other shown)) tt;
+          let node = c.node.result.now in
+          let none = whole_refuses p.tokens (trees p.entries) node (start_in p c.args.pattern) w c.args.argument.now v bs c.in_default.not-Named
+          c.requires.other shown in
+          subst (ShowsMatched w false c.args.found.now.items) (sym (ap (λ t. matched p.tokens t v bs) c.node.ensures.tree ∙ none)) tt;
     }

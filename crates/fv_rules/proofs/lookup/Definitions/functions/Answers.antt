@@ -1,15 +1,16 @@
-use Rattle.std.proofs.Common.{◌∙◌, ap, sym, subst}
-use Rattle.fv_tree.specs.Arena.{trees, tree_of}
+use Rattle.std.proofs.Common.{sym, subst}
+use Rattle.fv_tree.specs.Arena.{trees}
 use Rattle.fv_parse.specs.Trees.{Parsed, tree_in, start_in}
 use Rattle.fv_rules.specs.Shows.{IsFunction}
-use Rattle.fv_rules.proofs.RuleNodes.{functions_are, not_a_function}
+use Rattle.fv_rules.proofs.RuleNodes.{functions_are, not_a_function, node_is}
 use Rattle.fv_rules.proofs.lookup.Definitions.functions.Goals as goal
 
 pub returns-in-Function-clause-rules : goal.returns-in-Function-clause-rules
 returns-in-Function-clause-rules c =
     let t = c.tree-tree.result.now in
-    functions_are t c.args.self.now c.args.list c.args.first c.in-Function.name (start_in t c.args.first) c.name.result _ _ c.called.result.now c.tree-tree.ensures
-    (c.node.ensures.tree ∙ ap (λ node. tree_of (trees t.entries) node (start_in t c.args.first)) c.in-Function.is) c.requires.0 c.called.ensures.found c.name.ensures
+    let first = c.args.first in
+    functions_are t c.args.self.now c.args.list first c.in-Function.name (start_in t first) c.name.result _ _ c.called.result.now c.tree-tree.ensures
+    (node_is t first c.node.ensures.tree c.in-Function.is) (c.called.ensures.found c.requires.0) c.name.ensures
 
 pub returns-in_default : goal.returns-in_default
 returns-in_default c =

@@ -1,18 +1,19 @@
 use Rattle.fv_rules.specs.declared.value.Meaning.TheVariants as meaning
-use Rattle.fv_rules.proofs.Lookups.{look_finds, look_goes_on, look_stops, look_ends}
+use Rattle.fv_rules.proofs.Lookups.{look_begins, look_finds, look_goes_on, look_stops, look_ends}
 use Rattle.fv_rules.proofs.lookup.Definitions.look_up.Goals as goal
+
+pub outward-init : goal.outward-init
+outward-init c = look_begins c.args.self.now c.args.scopes.now.scopes c.args.name c.args.env
 
 pub returns-in-Some-in_scope : goal.returns-in-Some-in_scope
 returns-in-Some-in_scope c =
-    look_finds c.args.self.now c.args.scopes.now.scopes c.args.name c.args.env c.outward.at c.in-Some.scope c.in-Some-in_scope.meaning c.outward.invariant c.in-Some.ensures c.in-Some-in_scope.ensures
+    look_finds c.in-Some-in_scope.meaning c.outward.invariant c.in-Some.ensures c.in-Some-in_scope.ensures
 
 pub returns-then-outer-at : goal.returns-then-outer-at
-returns-then-outer-at c =
-    look_stops c.args.self.now c.args.scopes.now.scopes c.args.name c.args.env c.outward.at c.outer_of-outer.result c.in-Some.scope meaning.Unknown c.outward.invariant c.in-Some.ensures c.outer_of-outer.ensures c.if-outer-at.true
+returns-then-outer-at c = look_stops meaning.Unknown c.outward.invariant c.in-Some.ensures c.outer_of-outer.ensures c.if-outer-at.true
 
 pub outward-preserved : goal.outward-preserved
-outward-preserved c =
-    look_goes_on c.args.self.now c.args.scopes.now.scopes c.args.name c.args.env c.outward.at c.outer_of-outer.result c.in-Some.scope c.outward.invariant c.in-Some.ensures c.in_default-in_scope.ensures c.outer_of-outer.ensures
+outward-preserved c = look_goes_on c.outward.invariant c.in-Some.ensures c.in_default-in_scope.ensures c.outer_of-outer.ensures
 
 pub returns : goal.returns
-returns c = look_ends c.args.self.now c.args.scopes.now.scopes c.args.name c.args.env c.outward.at c.outward.invariant c.in_default.ensures
+returns c = look_ends c.outward.invariant c.in_default.ensures

@@ -6,7 +6,9 @@ use Rattle.fv_rules.proofs.Matched.{still_remembers}
 use Rattle.fv_rules.proofs.memo.Numbers.settle.Goals as goal
 
 pub returns-in_err-integer-in-Some-clause-known : goal.returns-in_err-integer-in-Some-clause-known
-returns-in_err-integer-in-Some-clause-known c = still_remembers c.args.diagrams.now c.put_integer.new.diagrams c.number_of.new.self c.in_err-integer-in-Some.ensures.adds c.in_ok-number_of.ensures.known
+returns-in_err-integer-in-Some-clause-known c =
+    still_remembers c.args.diagrams.now c.put_integer.new.diagrams c.number_of.new.self c.in_err-integer-in-Some.ensures.adds
+    c.in_ok-number_of.ensures.known
 
 pub returns-in_ok-integer-in-Some-clause-tree : goal.returns-in_ok-integer-in-Some-clause-tree
 returns-in_ok-integer-in-Some-clause-tree c =
@@ -15,4 +17,6 @@ returns-in_ok-integer-in-Some-clause-tree c =
     c.in_ok-integer-in-Some.ensures.tree ∙ ap Constant (to_z-of_z f) ∙ ap (λ o. number_or o d) (sym c.in-Some.is ∙ c.in_ok-number_of.ensures.number)
 
 pub returns-in_ok-integer-in-Some-clause-known : goal.returns-in_ok-integer-in-Some-clause-known
-returns-in_ok-integer-in-Some-clause-known c = still_remembers c.args.diagrams.now c.put_integer.new.diagrams c.number_of.new.self c.in_ok-integer-in-Some.ensures.adds c.in_ok-number_of.ensures.known
+returns-in_ok-integer-in-Some-clause-known c =
+    still_remembers c.args.diagrams.now c.put_integer.new.diagrams c.number_of.new.self c.in_ok-integer-in-Some.ensures.adds
+    c.in_ok-number_of.ensures.known
