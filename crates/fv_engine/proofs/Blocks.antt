@@ -1,6 +1,6 @@
 -- One block of an engine: what its steps ask for, and what they leave.
-use Rattle.std.proofs.Common.{◌≡◌, ℕ, ◌+◌, ◌*◌, ◌<◌, ◌≤◌, ℤ, ◌&&◌, ◌||◌, ◌==◌, List, [], length, map, All, refl, sym, ap, ap₂}
-use Rattle.std.proofs.Common.{◌∙◌, subst, arith, mul_comm}
+use Rattle.std.proofs.Common.{◌≡◌, ℕ, ◌+◌, ◌*◌, ◌<◌, ◌≤◌, ℤ, ◌&&◌, ◌||◌, ◌==◌, List, [], length, map, All, refl, sym}
+use Rattle.std.proofs.Common.{ap, ap₂, ◌∙◌, subst, arith, mul_comm}
 use Rattle.std.proofs.lemmas.List.{get_or_default}
 use Rattle.std.specs.Vec.{vec_capacity}
 use Rattle.fv_num.specs.Words.{argument}
@@ -66,7 +66,8 @@ same_order g h lines same o = record {
     same_reads t s = ap (λ x. ((s.loop_no == t.loop_no) && ((s.vector + 1) == t.vector)) || (x && (s.vector == t.vector))) (same.pairs t.loop_no s.loop_no)
 
 -- the block of an engine, by its channels and held values
-pub same_block : (e : Inside) (frames : ℕ) (input controls : List ℤ) {channels : ℕ} {held : List ℤ} → channels ≡ e.channels → held ≡ held_by e.plan controls
+pub same_block : (e : Inside) (frames : ℕ) (input controls : List ℤ) {channels : ℕ} {held : List ℤ}
+    → channels ≡ e.channels → held ≡ held_by e.plan controls
     → block_from e.plan e.vector frames channels held input ≡ block_in (view_of e) frames controls input
 same_block e frames input controls p q = ap₂ (λ (k : ℕ) (xs : List ℤ). block_from e.plan e.vector frames k xs input) p q
 
@@ -184,7 +185,8 @@ module _ {e : Inside} {v : EngineView} {frames : ℕ} {input controls : List ℤ
         (subst (λ (x : List ℤ). IsReal b (opening_lanes lengths e.shapes.items e.states.items frames x)) (sym h.cells_are) is_real))
 
     -- the block ran from these lanes on, and left these cells and states
-    abbrev pub RanFrom : List LaneShape → (first : List Lane) → (cells : List ℤ) → List LaneState → List Line → (outputs : List ℕ) → (output : List ℤ) → Type 0
+    abbrev pub RanFrom : List LaneShape → (first : List Lane) → (cells : List ℤ) → List LaneState → List Line → (outputs : List ℕ)
+        → (output : List ℤ) → Type 0
     RanFrom shapes first cells states lines outputs output = Ran t.tasks b lengths shapes first cells states lines outputs output
 
     -- it ran from the lanes that the engine stores, and left what the engine then keeps

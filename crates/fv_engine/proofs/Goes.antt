@@ -23,8 +23,8 @@ abbrev pub with_state : EngineView → (region : List ℤ) → (starts : List �
 with_state e region starts = record e { region = region; starts = starts }
 
 -- a block of n frames ran between these lanes, and the engine is then with these cells and starts
-pub record HasRun (old : EngineView) (region : List ℤ) (starts : List ℕ) (n : ℕ) (input controls output : List ℤ) (tasks : Tasks) (first now : List Lane)
-    (lines : List Line) : Type 0 where
+pub record HasRun (old : EngineView) (region : List ℤ) (starts : List ℕ) (n : ℕ) (input controls output : List ℤ) (tasks : Tasks)
+    (first now : List Lane) (lines : List Line) : Type 0 where
   pub names : NamesThere old.plan old.channels (length controls)
   pub some : 1 ≤ old.vector
   pub loops : tasks.loops ≡ old.plan.loops

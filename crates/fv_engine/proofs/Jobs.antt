@@ -1,6 +1,6 @@
 -- The job of a block of an engine.
-use Rattle.std.proofs.Common.{◌≡◌, ℕ, ◌*◌, ◌<◌, ◌≤◌, ℤ, List, length, map, take, drop, refl, sym, ap, ◌∙◌, arith, nat_lt, nat_eq}
-use Rattle.std.proofs.Common.{mul-le-mul_right, lt-ltb, eq-eqb}
+use Rattle.std.proofs.Common.{◌≡◌, ℕ, ◌*◌, ◌<◌, ◌≤◌, ℤ, List, length, map, take, drop, refl, sym, ap, ◌∙◌, arith, nat_lt}
+use Rattle.std.proofs.Common.{nat_eq, mul-le-mul_right, lt-ltb, eq-eqb}
 use Rattle.std.specs.Prelude.{slice_index}
 use Rattle.fv_base.proofs.Lists.{get_or_table, length_table}
 use Rattle.fv_signal.specs.Value.{Graph}
@@ -89,5 +89,6 @@ module _ {e : EngineView} {block : ℕ} {shapes : List LaneShape} {states : List
       lane_is l i = get_or_table (length e.lengths) opening l no_lane (omega (arith, listed.many, i))
 
   pub ended : (lanes : List Lane)
-      → ((i : ℕ) → i < length e.lengths → held_at e.lengths states (history_at shapes i) i e.region ≡ drop n (lane_of lanes i).items) → AreEnded e n lanes
+      → ((i : ℕ) → i < length e.lengths → held_at e.lengths states (history_at shapes i) i e.region ≡ drop n (lane_of lanes i).items)
+      → AreEnded e n lanes
   ended lanes next = record { items = λ l i. sym (held_is l i) ∙ next l (omega (arith, listed.many, i)) }

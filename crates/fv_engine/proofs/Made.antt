@@ -1,10 +1,11 @@
 -- How an engine begins.
-use Rattle.std.proofs.Common.{◌≡◌, inl, inr, ℕ, zero, suc, ◌+◌, ◌-◌, ◌*◌, ◌<◌, ◌≤◌, List, [], ◌∷◌, ◌++◌, length, take, drop, map, sum, replicate}
-use Rattle.std.proofs.Common.{get_or, ℤ, pos, nat_le, refl, sym, ap, ◌∙◌, subst, arith, All, mul-le-mul_right, mul-le-mul_left, suc-mul, true}
+use Rattle.std.proofs.Common.{◌≡◌, inl, inr, ℕ, zero, suc, ◌+◌, ◌-◌, ◌*◌, ◌<◌, ◌≤◌, List, [], ◌∷◌, ◌++◌, length, take}
+use Rattle.std.proofs.Common.{drop, map, sum, replicate, get_or, ℤ, pos, nat_le, refl, sym, ap, ◌∙◌, subst, arith, All, mul-le-mul_right}
+use Rattle.std.proofs.Common.{mul-le-mul_left, suc-mul, true}
 use Rattle.std.specs.Prelude.{slice_index}
 use Rattle.std.proofs.lemmas.Bool.{cases_lt, cond-false, lt-leb}
-use Rattle.std.proofs.lemmas.List.{get_or_push, get_or_append_left, length_push, length-take-le, length-append, length-drop}
-use Rattle.std.proofs.lemmas.List.{length-replicate, get_or-replicate, length-map}
+use Rattle.std.proofs.lemmas.List.{get_or_push, get_or_append_left, length_push, length-take-le, length-append, length-drop, length-replicate}
+use Rattle.std.proofs.lemmas.List.{get_or-replicate, length-map}
 use Rattle.std.proofs.lemmas.List.Elements.{All-take, All-drop, All-append, All-replicate}
 use Rattle.std.proofs.lemmas.Nat.{le-div}
 use Rattle.std.proofs.Math.Nat.{div-mul-le_self}
@@ -64,8 +65,8 @@ read_more read field is shapes s wanted old new l i =
       | inr m ↦ let z : length shapes ≡ l = omega (arith, i, m) in ap field (get_or_push shapes s s l z) ∙ new ∙ ap wanted z
     ]
 
-pub more_shapes : (p : PlanView) (block n : ℕ) (shapes : List LaneShape) (s : LaneShape) → ShapesSoFar p block n shapes → s.history ≡ (lane_info p n).history
-    → s.block ≡ block → ShapesSoFar p block (n + 1) (shapes ++ s ∷ [])
+pub more_shapes : (p : PlanView) (block n : ℕ) (shapes : List LaneShape) (s : LaneShape) → ShapesSoFar p block n shapes
+    → s.history ≡ (lane_info p n).history → s.block ≡ block → ShapesSoFar p block (n + 1) (shapes ++ s ∷ [])
 more_shapes p block n shapes s h e f = subst (λ m. ShapesSoFar p block (m + 1) (shapes ++ s ∷ [])) h.long (record {
   long = length_push shapes s;
   histories = read_more history_at (λ (x : LaneShape). x.history) history_is shapes s (λ l. (lane_info p l).history)
@@ -93,7 +94,8 @@ IsZero x = x ≡ pos 0
 -- the past of any stream before time 0 is zeros
 past_zero : (h : ℕ) (v : Stream) → past h v 0 ≡ table h (λ k. pos 0)
 past_zero h v =
-    table_same h (λ k. back v (0 + k) (pos h)) (λ k. pos 0) (λ k l. cond-false (nat_le h (0 + k)) (v (0 + k - h)) (pos 0) (lt-leb h (0 + k) (omega (arith, l))))
+    table_same h (λ k. back v (0 + k) (pos h)) (λ k. pos 0)
+    (λ k l. cond-false (nat_le h (0 + k)) (v (0 + k - h)) (pos 0) (lt-leb h (0 + k) (omega (arith, l))))
 
 zeros_are : (h : ℕ) (xs : List ℤ) → length xs ≡ h → All IsZero xs → xs ≡ table h (λ k. pos 0)
 zeros_are h xs e z =

@@ -1,6 +1,6 @@
 -- What the lanes hold as a block begins, and what comes of it.
-use Rattle.std.proofs.Common.{◌≡◌, inl, inr, ℕ, ◌+◌, ◌-◌, ◌*◌, ◌<◌, ◌≤◌, true, List, [], ◌++◌, length, refl, sym, ap, ◌∙◌, subst}
-use Rattle.std.proofs.Common.{arith, get_or, drop, ℤ, pos, nat_lt, nat_eq, nat_le, lt-ltb, eq-eqb}
+use Rattle.std.proofs.Common.{◌≡◌, inl, inr, ℕ, ◌+◌, ◌-◌, ◌*◌, ◌<◌, ◌≤◌, true, List, [], ◌++◌, length, refl, sym, ap}
+use Rattle.std.proofs.Common.{◌∙◌, subst, arith, get_or, drop, ℤ, pos, nat_lt, nat_eq, nat_le, lt-ltb, eq-eqb}
 use Rattle.std.proofs.lemmas.Bool.{cases_lt, ltb-true, eqb-true, cond-true, cond-false, le-leb, lt-leb}
 use Rattle.std.proofs.lemmas.List.{get_or-append-add, get_or_append_left, get_or-drop, length-append, length-drop}
 use Rattle.std.proofs.Math.ListN.{get_or-eq_default}
@@ -64,7 +64,8 @@ pub record GoesBehind (e : EngineView) (n : ℕ) (controls : List ℤ) (g : Grap
   pub names : NamesThere e.plan e.channels (length controls)
   pub given : AreGiven controls c (length X) n
 
-module _ {e : EngineView} {n : ℕ} {controls : List ℤ} {g : Graph} {X : List Frame} {c : ℕ → Stream} (h : GoesBehind e n controls g X c) (input : List ℤ) where
+module _ {e : EngineView} {n : ℕ} {controls : List ℤ} {g : Graph} {X : List Frame} {c : ℕ → Stream}
+    (h : GoesBehind e n controls g X c) (input : List ℤ) where
   abbrev p : PlanView
   p = e.plan
 
@@ -184,7 +185,8 @@ module _ {e : EngineView} {n : ℕ} {controls : List ℤ} {g : Graph} {X : List 
         k.holds.same ((lane_of now l).history + t - 0) (omega (arith, k.just, a, m)) ∙ ap (f.numbers l) z
         ∙ back_here (v l) (length X) (s.names.history l) t
 
-    pub next_past : (l : ℕ) → l < length p.lanes → drop n (lane_of now l).items ≡ past (lane_info p l).history (value g (s.names.lane l) all c) (length all)
+    pub next_past : (l : ℕ) → l < length p.lanes
+        → drop n (lane_of now l).items ≡ past (lane_info p l).history (value g (s.names.lane l) all c) (length all)
     next_past l i =
         let k = ended l i in let hist = (lane_info p l).history in let items = (lane_of now l).items in let left = drop n items in
         let z : length items - n ≡ hist = omega (arith, k.just, s.histories l i) in

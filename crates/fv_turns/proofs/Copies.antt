@@ -1,6 +1,6 @@
 -- A frame written behind others.
-use Rattle.std.proofs.Common.{◌≡◌, inl, inr, ℕ, suc, ◌+◌, ◌*◌, ◌<◌, ◌≤◌, List, ◌++◌, length, take, map, get_or, ℤ, pos, sym, ap, ◌∙◌, arith}
-use Rattle.std.proofs.Common.{mul-le-mul_right, suc-mul}
+use Rattle.std.proofs.Common.{◌≡◌, inl, inr, ℕ, suc, ◌+◌, ◌*◌, ◌<◌, ◌≤◌, List, ◌++◌, length, take, map, get_or, ℤ, pos, sym}
+use Rattle.std.proofs.Common.{ap, ◌∙◌, arith, mul-le-mul_right, suc-mul}
 use Rattle.std.proofs.lemmas.Bool.{cases_lt}
 use Rattle.std.proofs.lemmas.List.{get_or-append-add, get_or_append_left, get_or-take, get_or-map, length-take, length-map}
 use Rattle.std.proofs.lemmas.Slice.{take-put_mid}

@@ -1,6 +1,6 @@
 -- What stands when all tasks are done.
-use Rattle.std.proofs.Common.{◌≡◌, inl, inr, ℕ, zero, suc, ◌+◌, ◌<◌, ◌≤◌, Bool, true, false, ◌&&◌, ◌||◌, ◌==◌, List, refl, sym, ap, ◌∙◌}
-use Rattle.std.proofs.Common.{arith, true≢false, ltb-true, not}
+use Rattle.std.proofs.Common.{◌≡◌, inl, inr, ℕ, zero, suc, ◌+◌, ◌<◌, ◌≤◌, Bool, true, false, ◌&&◌, ◌||◌, ◌==◌, List, refl}
+use Rattle.std.proofs.Common.{sym, ap, ◌∙◌, arith, true≢false, ltb-true, not}
 use Rattle.std.proofs.lemmas.Bool.{cases_Bool, ne_eqb}
 use Rattle.fv_outside.specs.Tasks.{Tasks, task_count, bit, reads_task, reads_loop}
 use Rattle.fv_outside.specs.declared.tasks.Task.{Task}

@@ -1,6 +1,6 @@
 -- The events of one worker.
-use Rattle.std.proofs.Common.{◌≡◌, ℕ, zero, suc, arith, ◌==◌, Bool, true, ◌&&◌, not, cond, List, [], ◌∷◌, ◌++◌, length, get_or, set, ltb}
-use Rattle.std.proofs.Common.{Option, None, Some, refl, ap, ◌∙◌, eq-eqb, is_none}
+use Rattle.std.proofs.Common.{◌≡◌, ℕ, zero, suc, arith, ◌==◌, Bool, true, ◌&&◌, not, cond, List, [], ◌∷◌, ◌++◌, length, get_or, set}
+use Rattle.std.proofs.Common.{ltb, Option, None, Some, refl, ap, ◌∙◌, eq-eqb, is_none}
 use Rattle.std.proofs.lemmas.Bool.{ne_eqb}
 use Rattle.std.specs.Prelude.{Result, Ok, Err, is_ok, OnOk}
 use Rattle.fv_outside.specs.Tasks.{times}

@@ -1,6 +1,6 @@
 -- Tasks by their numbers.
-use Rattle.std.proofs.Common.{◌≡◌, inl, inr, ℕ, suc, ◌+◌, ◌-◌, ◌*◌, ◌/◌, ◌<◌, ◌≤◌, ltb, sym, ap, ◌∙◌}
-use Rattle.std.proofs.Common.{arith, lt-ltb, mul-le-mul_right, suc-mul, div-add-mod', mod-lt}
+use Rattle.std.proofs.Common.{◌≡◌, inl, inr, ℕ, suc, ◌+◌, ◌-◌, ◌*◌, ◌/◌, ◌<◌, ◌≤◌, ltb, sym, ap, ◌∙◌, arith, lt-ltb}
+use Rattle.std.proofs.Common.{mul-le-mul_right, suc-mul, div-add-mod', mod-lt}
 use Rattle.std.proofs.lemmas.Bool.{cases_lt, le-ltb}
 use Rattle.fv_outside.specs.Tasks.{Tasks, task_count}
 use Rattle.fv_outside.specs.declared.tasks.Task.{Task}

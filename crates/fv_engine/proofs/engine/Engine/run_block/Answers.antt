@@ -21,8 +21,8 @@ use Rattle.fv_engine.specs.Told.{tasks_told, IsEntry}
 use Rattle.fv_engine.specs.declared.engine.Engine.TheInside.{Inside}
 use Rattle.fv_engine.proofs.Values.{block_in}
 use Rattle.fv_engine.proofs.Goes.{with_state}
-use Rattle.fv_engine.proofs.Blocks.{IsCalled, AreHanded, tasks_fit, edges_fit, lines_fit, count_is, same_block, job, first_is, ran_as}
-use Rattle.fv_engine.proofs.Blocks.{goes, still_standing, ordered, counted, outputs_there, many_held}
+use Rattle.fv_engine.proofs.Blocks.{IsCalled, AreHanded, tasks_fit, edges_fit, lines_fit, count_is, same_block, job, first_is, ran_as, goes, still_standing}
+use Rattle.fv_engine.proofs.Blocks.{ordered, counted, outputs_there, many_held}
 use Rattle.fv_engine.proofs.engine.Engine.run_block.Given.{Over}
 use Rattle.fv_engine.proofs.engine.Engine.run_block.Goals.{After-set_vectors, After-deref_mut-4, After-over}
 use Rattle.fv_engine.proofs.engine.Engine.run_block.Goals as goal
