@@ -12,9 +12,9 @@ use Rattle.fv_outside.specs.Tasks.{bit, total, times}
 use Rattle.fv_graph.specs.Net.{Net}
 use Rattle.fv_graph.specs.Graph.{Graph}
 use Rattle.fv_core.specs.Core.{numbers}
-use Rattle.fv_graph.proofs.Counts.{bit_same, bit_apart, bit_one, bit_true, both_true, total_append, total_add, get_set, full}
+use Rattle.fv_graph.proofs.Counts.{bit_same, bit_apart, bit_one, bit_true, total_append, total_add, get_set, full}
 use Rattle.fv_graph.proofs.Counts.{times_passing}
-use Rattle.fv_graph.proofs.Counts.{bit_left, bit_right}
+use Rattle.fv_graph.proofs.Counts.{bit_right}
 use Rattle.fv_graph.specs.Wires.{Wires, IsWires}
 use Rattle.fv_rule.specs.declared.Deed.{Deed}
 use Rattle.fv_rule.specs.declared.Deed.TheVariants.{Stamped, Arrived, Saw, Claimed}
@@ -35,42 +35,38 @@ below_next j k = dite (ℕ_discrete k j)
     (λ l. let b = ap bit (not_below j (k + 1) (omega arith)) in let c = ap bit (not_below j k l) in omega arith)
     (λ l. let b = ap bit (lt-ltb j (k + 1) (omega arith)) in let c = ap bit (lt-ltb j k (omega arith)) in omega arith))
 
--- of each start there is a number, and so of each finish
-start_number : (t : ℕ) (ds : List Deed) → 0 < total (starts t) ds → (m : ℕ) × (0 < total (starts_at m t) ds) × (0 < total (stamps m) ds)
-start_number t [] pos = absurd (omega arith)
-start_number t (d ∷ ds) pos = dite (ℕ_discrete (starts t d) 0)
-    (λ z. let r = start_number t ds (omega arith) in (r.0, (let x = r.1 in omega arith), (let x = r.2 in omega arith)))
-    (λ n. let k = start_of t d (omega arith) in (k.0, (let x = k.1 in omega arith), (let x = k.2 in omega arith)))
-  where
-    start_of : (t : ℕ) (d : Deed) → 0 < starts t d → (m : ℕ) × (0 < starts_at m t d) × (0 < stamps m d)
-    start_of t (Stamped k u b) pos = let o = bit_same k k refl in let p = both_true b (u == t) (bit_true (b && (u == t)) pos) in
-        (k, (let q = bit_left b ((u == t) && (k == k)) p.0 in let r = bit_left (u == t) (k == k) p.1 in assoc b (u == t) (k == k) p.0 p.1 o), omega arith)
-      where
-        assoc : (x y z : Bool) → x ≡ true → y ≡ true → bit z ≡ 1 → 0 < bit (x && y && z)
-        assoc true true z e f g = omega arith
-        assoc false y z e f g = absurd (true≢false (sym e))
-        assoc true false z e f g = absurd (true≢false (sym f))
-    start_of t (Arrived e c) pos = absurd (omega arith)
-    start_of t (Saw u c) pos = absurd (omega arith)
-    start_of t (Claimed u b) pos = absurd (omega arith)
+-- where each deed that counts has a stamp, so has a list in which one counts
+stamped_in : (f : Deed → ℕ) (g : ℕ → Deed → ℕ) → ((d : Deed) → 0 < f d → (m : ℕ) × (0 < g m d) × (0 < stamps m d)) → (ds : List Deed) →
+    0 < total f ds → (m : ℕ) × (0 < total (g m) ds) × (0 < total (stamps m) ds)
+stamped_in f g each [] pos = absurd (omega arith)
+stamped_in f g each (d ∷ ds) pos = dite (ℕ_discrete (f d) 0)
+    (λ z. let r = stamped_in f g each ds (omega arith) in (r.0, (let x = r.1 in omega arith), (let x = r.2 in omega arith)))
+    (λ n. let k = each d (omega arith) in (k.0, (let x = k.1 in omega arith), (let x = k.2 in omega arith)))
 
-finish_number : (t : ℕ) (ds : List Deed) → 0 < total (finishes t) ds → (m : ℕ) × (0 < total (finishes_at m t) ds) × (0 < total (stamps m) ds)
-finish_number t [] pos = absurd (omega arith)
-finish_number t (d ∷ ds) pos = dite (ℕ_discrete (finishes t d) 0)
-    (λ z. let r = finish_number t ds (omega arith) in (r.0, (let x = r.1 in omega arith), (let x = r.2 in omega arith)))
-    (λ n. let k = finish_of t d (omega arith) in (k.0, (let x = k.1 in omega arith), (let x = k.2 in omega arith)))
+all_three : (x y z : Bool) → 0 < bit (x && y) → bit z ≡ 1 → 0 < bit (x && y && z)
+all_three true true z e g = omega arith
+all_three false y z e g = absurd (omega arith)
+all_three true false z e g = absurd (omega arith)
+
+-- of each start there is a number
+start_number : (t : ℕ) (ds : List Deed) → 0 < total (starts t) ds → (m : ℕ) × (0 < total (starts_at m t) ds) × (0 < total (stamps m) ds)
+start_number t ds pos = stamped_in (starts t) (λ m. starts_at m t) start_of ds pos
   where
-    finish_of : (t : ℕ) (d : Deed) → 0 < finishes t d → (m : ℕ) × (0 < finishes_at m t d) × (0 < stamps m d)
-    finish_of t (Stamped k u b) pos = let o = bit_same k k refl in let p = both_true (not b) (u == t) (bit_true (not b && (u == t)) pos) in
-        (k, assoc (not b) (u == t) (k == k) p.0 p.1 o, omega arith)
-      where
-        assoc : (x y z : Bool) → x ≡ true → y ≡ true → bit z ≡ 1 → 0 < bit (x && y && z)
-        assoc true true z e f g = omega arith
-        assoc false y z e f g = absurd (true≢false (sym e))
-        assoc true false z e f g = absurd (true≢false (sym f))
-    finish_of t (Arrived e c) pos = absurd (omega arith)
-    finish_of t (Saw u c) pos = absurd (omega arith)
-    finish_of t (Claimed u b) pos = absurd (omega arith)
+    start_of : (d : Deed) → 0 < starts t d → (m : ℕ) × (0 < starts_at m t d) × (0 < stamps m d)
+    start_of (Stamped k u b) pos = let o = bit_same k k refl in (k, all_three b (u == t) (k == k) pos o, omega arith)
+    start_of (Arrived e c) pos = absurd (omega arith)
+    start_of (Saw u c) pos = absurd (omega arith)
+    start_of (Claimed u b) pos = absurd (omega arith)
+
+-- and of each finish
+finish_number : (t : ℕ) (ds : List Deed) → 0 < total (finishes t) ds → (m : ℕ) × (0 < total (finishes_at m t) ds) × (0 < total (stamps m) ds)
+finish_number t ds pos = stamped_in (finishes t) (λ m. finishes_at m t) finish_of ds pos
+  where
+    finish_of : (d : Deed) → 0 < finishes t d → (m : ℕ) × (0 < finishes_at m t d) × (0 < stamps m d)
+    finish_of (Stamped k u b) pos = let o = bit_same k k refl in (k, all_three (not b) (u == t) (k == k) pos o, omega arith)
+    finish_of (Arrived e c) pos = absurd (omega arith)
+    finish_of (Saw u c) pos = absurd (omega arith)
+    finish_of (Claimed u b) pos = absurd (omega arith)
 
 -- in some list
 some_list : {C : Type 0} (f : Deed → ℕ) (views : List (View C)) → 0 < all f views → (id : ℕ) ×

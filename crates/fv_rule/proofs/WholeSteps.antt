@@ -25,6 +25,7 @@ use Rattle.fv_rule.specs.Shown.{worker_of, Shows, Reached, OwesNothing}
 use Rattle.fv_rule.specs.Whole.{zeroes, starts_at, finishes_at, IsWhole}
 use Rattle.fv_rule.proofs.Claim.{all_noted, all_at, total_ext}
 use Rattle.fv_rule.proofs.Splits.{sum_set}
+use Rattle.fv_rule.proofs.Regrouped.{whole_steady}
 use Rattle.fv_rule.proofs.Shows.{lean_more, reached_claim}
 use Rattle.fv_rule.proofs.Finishes.{IsFinish, shows_same, shows_finished, may_finish}
 use Rattle.fv_rule.proofs.Arrives.{IsArrival, shows_arrived, may_arrive}
@@ -107,22 +108,19 @@ module _ {C Key : Type 0} (wires : Graph → Wires) (edge_of : C → ℕ) (key_o
     A f e = let r = all_noted f s.views id v d at in omega arith
 
     pub whole_quiet : IsWhole wires edge_of key_of a record { words = words'; homes = homes'; views = set s.views id (noted v d) }
-    whole_quiet = record {
+    whole_quiet = whole_steady wires edge_of key_of a s record { words = words'; homes = homes'; views = set s.views id (noted v d) } h record {
+      starts = λ t. A (starts t) (quiet.starts t);
+      finishes = λ t. A (finishes t) (quiet.finishes t);
+      starts_at = λ k t. A (starts_at k t) (quiet.starts_at k t);
+      finishes_at = λ k t. A (finishes_at k t) (quiet.finishes_at k t);
+      zeroes = λ t. A (zeroes n t) (quiet.zeroes t);
+      arrives = λ e. A (arrives e) (quiet.arrives e);
+      stamp_word = word_0;
+      count_words = counts;
+    } record {
       kept = kept';
       numbered = numbered' d;
       has_one = each d (λ y. y.board ≡ Some a → 0 < length y.numbers) (h.has_one id v at) h.has_one;
-      drawn = word_0 ∙ h.drawn ∙ sym (total_ext (λ t. all (starts t) (set s.views id (noted v d)) + all (finishes t)
-          (set s.views id (noted v d))) (λ t. all (starts t) s.views + all (finishes t) s.views)
-          (λ t. let x = A (starts t) (quiet.starts t) in let y = A (finishes t) (quiet.finishes t) in omega arith) (numbers n.tasks));
-      stamped_once = λ t. let x = A (starts t) (quiet.starts t) in let y = A (finishes t) (quiet.finishes t) in let o = h.stamped_once t in
-          let o0 = o.0 in let o1 = o.1 in (omega arith, omega arith);
-      start_below = λ k t pos. let p = h.start_below k t (let x = A (finishes_at k t) (quiet.finishes_at k t) in omega arith) in
-          (p.0, p.1, (let x = A (starts_at p.0 t) (quiet.starts_at p.0 t) in let y = p.2 in omega arith));
-      zero_once = λ t there some'. A (zeroes n t) (quiet.zeroes t) ∙ h.zero_once t there some' ∙ ap (λ i. bit (i == 0)) (sym (counts t there));
-      arrived_done = λ e. let x = A (arrives e) (quiet.arrives e) in let y = A (finishes (n.source e)) (quiet.finishes (n.source e)) in
-          let o = h.arrived_done e in omega arith;
-      after_reads = λ k t e there pos needs. let p = h.after_reads k t e there (let x = A (starts_at k t) (quiet.starts_at k t) in
-          omega arith) needs in (p.0, p.1, (let x = A (finishes_at p.0 (n.source e)) (quiet.finishes_at p.0 (n.source e)) in let y = p.2 in omega arith));
       reached = reached';
     }
 
