@@ -38,7 +38,8 @@ abbrev pub Leaves : Parsed → (m n : code_machine.Machine) → Result code_focu
 Leaves p m n r app body e us at = (s : ℕ) (f ys x : Tree) (E : Env) (a : Value) (more : List Value) → ShowsTree (world p m) app (tree.Apply s f ys) → ShowsTree (world p m) body x
     → ShowsEnv (world p m) e E → ShowsValues (world p m) (drop at us) (a ∷ more) → Steps p m n r (λ Fs t. Running (Visit x E) (Valued (Leftover s more) ∷ Fs) t)
 
-pub diagram_completes : (p : Parsed) (m n : code_machine.Machine) (r : Result code_focus.Focus EvalRefusal) (app i : ℕ) (us : List code_value.Value) (at : ℕ) (js : List ℕ) → js ≡ []
+pub diagram_completes : (p : Parsed) (m n : code_machine.Machine) (r : Result code_focus.Focus EvalRefusal) (app i : ℕ) (us : List code_value.Value)
+    (at : ℕ) (js : List ℕ) → js ≡ []
     → Feeds p m n r i (drop at us) js → Completes p m n r app (value.Diagram i) us at
 diagram_completes p m n r app i us at js e go s f ys (Flat d) a more t h k g =
     let none : AllDraw (world p m) js [] = subst (λ (xs : List ℕ). AllDraw (world p m) xs []) (sym e) (All-nil (λ j. j < count_of m.drawing), refl) in
@@ -111,7 +112,8 @@ rules_inside p m r e n i v = parts v.0 v.1
     parts (Rules s rs E T) h = h.0
     parts V h = absurd h
 
-pub rules_took : (p : Parsed) (m : code_machine.Machine) (r : Ruled) (e n i : ℕ) → IsShown (world p m) (value.Rules r e n i) → (T : Taken) × ShowsTaken (world p m) n i T
+pub rules_took : (p : Parsed) (m : code_machine.Machine) (r : Ruled) (e n i : ℕ) → IsShown (world p m) (value.Rules r e n i)
+    → (T : Taken) × ShowsTaken (world p m) n i T
 rules_took p m r e n i v = parts v.0 v.1
   where
     parts : (V : Value) → ShowsValue (world p m) (value.Rules r e n i) V → (T : Taken) × ShowsTaken (world p m) n i T

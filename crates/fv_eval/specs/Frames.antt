@@ -233,7 +233,8 @@ Chooses p m n r count last u o =
     → ShowsChoice (world p n) o (chosen p.tokens (rules_in p r) (in_order (And a T) []))
 
 -- the right side that was chosen is visited with its bindings, or the application is refused
-abbrev pub Selects : Parsed → (m n : code_machine.Machine) → Result code_focus.Focus EvalRefusal → ℕ → Option (TreeId × List code_binding.Binding) → ℕ → List code_value.Value → ℕ → Type 0
+abbrev pub Selects : Parsed → (m n : code_machine.Machine) → Result code_focus.Focus EvalRefusal → ℕ → Option (TreeId × List code_binding.Binding) → ℕ
+    → List code_value.Value → ℕ → Type 0
 Selects p m n r app choice e us at =
     (s : ℕ) (f ys : Tree) (E : Env) (a : Value) (more : List Value) (o : Option (Tree × Bindings)) → ShowsTree (world p m) app (tree.Apply s f ys)
     → ShowsEnv (world p m) e E → ShowsValues (world p m) (drop at us) (a ∷ more) → ShowsChoice (world p m) choice o
