@@ -22,7 +22,7 @@ use Rattle.fv_eval.specs.declared.machine.Machine as code_machine
 use Rattle.fv_eval.specs.Frames.{AreShown, Goes, Grew, IsShown, IsThere, ShowsFrame, ShowsTaking, Steps, completed, state_of, took, world}
 use Rattle.fv_eval.proofs.Applied.{apply_completes, apply_took}
 use Rattle.fv_eval.proofs.Arrived.{Applies, Argues}
-use Rattle.fv_eval.proofs.Completing.{Completes}
+use Rattle.fv_eval.specs.Frames.{Completes}
 use Rattle.fv_eval.proofs.Moves.{gives, grew_on, steps_on}
 use Rattle.fv_eval.proofs.Parameters.{get_map}
 use Rattle.fv_eval.proofs.Places.{drop_at_end, drop_at_get, drop_behind}

@@ -51,6 +51,22 @@ pub abstraction_begins : (p : Parsed) (m : code_machine.Machine) (id e start : �
 abstraction_begins p m id e start ns b l t n =
     subst (Begins p m m (Ok (focus.Give (value.Abstraction id 0 e))) e) (sym t) (abstraction_shown p m id e start ns b l t n)
 
+-- the node is an abstraction
+pub record IsAbstraction (p : Parsed) (id start body : ℕ) (ns : List ℕ) : Type 0 where
+  pub inside : id < size_of p
+  pub below : body < size_of p
+  pub is : tree_in p id ≡ tree.Abstraction start ns (tree_in p body)
+
+-- it is its body where it has no parameters, else a value
+pub names_begin : (p : Parsed) (m : code_machine.Machine) (id e start body : ℕ) (ns : List ℕ) (f : code_focus.Focus) → IsAbstraction p id start body ns
+    → (ns ≡ [] → f ≡ focus.Visit body e) → ((ns ≡ [] → ⊥) → f ≡ focus.Give (value.Abstraction id 0 e)) → Begins p m m (Ok f) e (tree_in p id)
+names_begin p m id e start body [] f node bare named =
+    subst (λ (g : code_focus.Focus). Begins p m m (Ok g) e (tree_in p id)) (sym (bare refl))
+    (subst (Begins p m m (Ok (focus.Visit body e)) e) (sym node.is) (λ E h. visits p m body e (tree_in p body) E (node.below, refl) h))
+names_begin p m id e start body (x ∷ xs) f node bare named =
+    subst (λ (g : code_focus.Focus). Begins p m m (Ok g) e (tree_in p id)) (sym (named (λ z. cc)))
+    (abstraction_begins p m id e start (x ∷ xs) (tree_in p body) node.inside node.is (λ z. cc))
+
 -- a `case` is rules
 pub case_begins : (p : Parsed) (m : code_machine.Machine) (id e start : ℕ) (rs : Tree) → id < size_of p → tree_in p id ≡ tree.Case start rs
     → Begins p m m (Ok (focus.Give (value.Rules (ruled.Case id) e 0 0))) e (tree_in p id)

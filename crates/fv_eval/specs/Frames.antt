@@ -13,11 +13,11 @@ use Rattle.fv_rules.specs.declared.refusal.EvalRefusal.{EvalRefusal}
 use Rattle.fv_rules.specs.declared.refusal.EvalRefusal.TheVariants.{NoMemory}
 use Rattle.fv_rules.specs.declared.value.Value as code_value
 use Rattle.fv_rules.specs.declared.value.Value.TheVariants as value
-use Rattle.fv_rules.specs.Values.{Name, Value, Flat, Abstraction, Rules, Env, Bound, And, count_taken, in_order}
-use Rattle.fv_rules.specs.Matching.{chosen}
+use Rattle.fv_rules.specs.Values.{Name, Value, Flat, Abstraction, Rules, Env, Bound, Taken, And, count_taken, in_order}
+use Rattle.fv_rules.specs.Matching.{Bindings, chosen}
 use Rattle.fv_rules.specs.Steps.{State, Outcome}
 use Rattle.fv_rules.specs.Rules.{slider_kind, width}
-use Rattle.fv_rules.specs.Shows.{World, ShowsTree, Draws, ShowsValue, ShowsValues, ShowsEnv, IsNamed, IsInside, Grows}
+use Rattle.fv_rules.specs.Shows.{World, ShowsTree, Draws, ShowsValue, ShowsValues, ShowsEnv, ShowsTaken, IsNamed, IsInside, Grows, rules_in}
 use Rattle.fv_machine.specs.Machine.{ForValue, Function, Argument, Leftover, Parameter, ForDiagram, Left, Right, Later, Negated, Ports, Binding, Turning, Counting, Body, Finish, Frame, Valued, Drawn, Visit, Call, Give, Config, Running, Ended, meaning, begin, next_turned, select}
 use Rattle.fv_eval.specs.declared.frame.Frame as code_frame
 use Rattle.fv_eval.specs.declared.frame.Frame.TheVariants as frame
@@ -28,6 +28,10 @@ use Rattle.fv_eval.specs.declared.frame.ForDiagram.TheVariants as drawn
 use Rattle.fv_eval.specs.declared.frame.Focus as code_focus
 use Rattle.fv_eval.specs.declared.frame.Focus.TheVariants as focus
 use Rattle.fv_eval.specs.declared.machine.Machine as code_machine
+use Rattle.fv_tree.specs.declared.node.TreeId.{TreeId}
+use Rattle.fv_rules.specs.declared.value.Ruled.{Ruled}
+use Rattle.fv_rules.specs.declared.value.Binding as code_binding
+use Rattle.fv_rules.specs.Chosen.{ShowsChoice}
 
 -- the lists of a machine over a tree
 abbrev pub world : Parsed → code_machine.Machine → World
@@ -215,6 +219,26 @@ abbrev pub completed : Lexed → ℕ → Value → Value → List Value → List
 completed l start (Flat f) a more fs s = next_turned f (a ∷ more) [] fs s
 completed l start (Abstraction x xs b E) a more fs s = Running (Visit b (Bound x a E)) (Valued (Leftover start more) ∷ fs) s
 completed l start (Rules r rs E T) a more fs s = select l start E (chosen l rs (in_order (And a T) [])) more fs s
+
+-- a function with the last argument that it wants goes on as the rules do
+abbrev pub Completes : Parsed → (m n : code_machine.Machine) → Result code_focus.Focus EvalRefusal → ℕ → code_value.Value → List code_value.Value → ℕ → Type 0
+Completes p m n r app u us at =
+    (s : ℕ) (f ys : Tree) (v a : Value) (more : List Value) → ShowsTree (world p m) app (tree.Apply s f ys) → ShowsValue (world p m) u v → took v a ≡ None
+    → ShowsValues (world p m) (drop at us) (a ∷ more) → Steps p m n r (λ Fs t. completed p.tokens s v a more Fs t)
+
+-- this is the right side that rules choose with one argument more
+abbrev pub Chooses : Parsed → (m n : code_machine.Machine) → Ruled → ℕ → ℕ → code_value.Value → Option (TreeId × List code_binding.Binding) → Type 0
+Chooses p m n r count last u o =
+    (T : Taken) (a : Value) → ShowsTaken (world p m) count last T → ShowsValue (world p m) u a
+    → ShowsChoice (world p n) o (chosen p.tokens (rules_in p r) (in_order (And a T) []))
+
+-- the right side that was chosen is visited with its bindings, or the application is refused
+abbrev pub Selects : Parsed → (m n : code_machine.Machine) → Result code_focus.Focus EvalRefusal → ℕ → Option (TreeId × List code_binding.Binding) → ℕ
+    → List code_value.Value → ℕ → Type 0
+Selects p m n r app choice e us at =
+    (s : ℕ) (f ys : Tree) (E : Env) (a : Value) (more : List Value) (o : Option (Tree × Bindings)) → ShowsTree (world p m) app (tree.Apply s f ys)
+    → ShowsEnv (world p m) e E → ShowsValues (world p m) (drop at us) (a ∷ more) → ShowsChoice (world p m) choice o
+    → Steps p m n r (λ Fs t. select p.tokens s E o more Fs t)
 
 -- what was taken shows that
 abbrev pub ShowsTaking : World → Option code_value.Value → Option Value → Type 0

@@ -3,17 +3,17 @@
 ghost use Rattle.std.specs.Prelude.{ℕ, ◌≡◌, ◌<◌, ◌∷◌, List, None, IfOk, drop, length};
 ghost use Rattle.fv_grammar.specs.Tree.{Tree as Spelled, Apply, items, start_of};
 ghost use Rattle.fv_parse.specs.Trees.{Parsed, size_of, tree_in};
-ghost use Rattle.fv_rules.specs.Values.{Env, Value as Meant};
+ghost use Rattle.fv_rules.specs.Values.{Env, Taken, Value as Meant};
 ghost use Rattle.fv_rules.specs.Steps.{no_rule};
-ghost use Rattle.fv_rules.specs.Shows.{ShowsEnv, ShowsTree, ShowsValue, ShowsValues};
+ghost use Rattle.fv_rules.specs.Shows.{IsInside, ShowsEnv, ShowsTaken, ShowsTree, ShowsValue, ShowsValues};
 ghost use Rattle.fv_machine.specs.Machine.{Leftover as Left, Running, Valued, Visit, apply, next_argument};
-ghost use Rattle.fv_eval.specs.Frames.{AreShown, Grew, IsShown, IsThere, ShowsTaking, Steps, completed, took, world};
+ghost use Rattle.fv_eval.specs.Frames.{AreShown, Chooses, Completes, Grew, IsShown, IsThere, Selects, ShowsTaking, Steps, completed, took, world};
 
 use crate::frame::{Focus, ForValue, Frame};
 use crate::machine::Machine;
 use crate::names::{body_of, parameter};
 use fv_parse::{Tree, TreeId, TreeNode};
-use fv_rules::{Definitions, EvalRefusal, Ruled, Value};
+use fv_rules::{Bindings, Definitions, EvalRefusal, Ruled, Value};
 use std::alloc::AllocError;
 
 impl Machine {
@@ -163,9 +163,7 @@ impl Machine {
         requires function { IsShown (world text.now self.old) function }
         requires at { at < length arguments.items }
         requires arguments { AreShown (world text.now self.old) (drop at arguments.items) }
-        ensures { (s : ℕ) (f ys : Spelled) (v a : Meant) (more : List Meant) → ShowsTree (world text.now self.old) application (Apply s f ys)
-            → ShowsValue (world text.now self.old) function v → took v a ≡ None → ShowsValues (world text.now self.old) (drop at arguments.items) (a ∷ more)
-            → Steps text.now self.old self.new result (λ Fs t. completed text.now.tokens s v a more Fs t) }
+        ensures { Completes text.now self.old self.new result application function arguments.items at }
     {
         match function {
             Value::Diagram(id) => {
@@ -186,22 +184,58 @@ impl Machine {
                 count,
                 last,
             } => {
-                let last = self.scopes.take(arguments[at], last)?;
-                let Some(count) = count.checked_add(1) else {
-                    return Err(EvalRefusal::NoMemory);
-                };
-                let taken = self.scopes.arguments(self.alloc, count, last)?;
-                match self
-                    .drawing
-                    .choose(self.alloc, text, ruled, taken.as_slice())?
-                {
-                    Some(choice) => {
-                        let inner = self.scopes.bind_all(choice.1.as_slice(), env)?;
-                        self.leave(application, arguments, at, choice.0, inner)
-                    }
-                    None => Err(no_rule(text.tree(), application)),
-                }
+                let choice = self.choose(text, ruled, count, last, arguments[at])?;
+                self.select(text, application, choice, env, arguments, at)
             }
+        }
+    }
+
+    // The rule that rules choose with the last argument that they want.
+    fn choose(
+        &mut self,
+        text: &Definitions,
+        ruled: Ruled,
+        count: u64,
+        last: u64,
+        argument: Value,
+    ) -> Result<Option<(TreeId, Bindings)>, AllocError>
+        requires inside { IsInside text.now ruled }
+        requires taken { (T : Taken) × ShowsTaken (world text.now self.old) count last T }
+        requires argument { IsShown (world text.now self.old) argument }
+        ensures grew { IfOk result (λ o. Grew text.now self.old self.new) }
+        ensures chosen { IfOk result (Chooses text.now self.old self.new ruled count last argument) }
+    {
+        let last = self.scopes.take(argument, last)?;
+        let Some(count) = count.checked_add(1) else {
+            return Err(AllocError);
+        };
+        let taken = self.scopes.arguments(self.alloc, count, last)?;
+        let choice = self
+            .drawing
+            .choose(self.alloc, text, ruled, taken.as_slice())?;
+        Ok(choice)
+    }
+
+    // The right side of the rule that was chosen is visited; where none was, the application is refused.
+    fn select(
+        &mut self,
+        text: &Definitions,
+        application: TreeId,
+        choice: Option<(TreeId, Bindings)>,
+        env: u64,
+        arguments: Vec<Value>,
+        at: usize,
+    ) -> Result<Focus, EvalRefusal>
+        requires application { application < size_of text.now }
+        requires at { at < length arguments.items }
+        ensures { Selects text.now self.old self.new result application choice env arguments.items at }
+    {
+        match choice {
+            Some(chosen) => {
+                let inner = self.scopes.bind_all(chosen.1.as_slice(), env)?;
+                self.leave(application, arguments, at, chosen.0, inner)
+            }
+            None => Err(no_rule(text.tree(), application)),
         }
     }
 

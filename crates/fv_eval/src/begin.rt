@@ -1,11 +1,15 @@
 // The visit of a tree.
 
-ghost use Rattle.std.specs.Prelude.{ℕ, ◌≡◌, ◌<◌};
+ghost use Rattle.std.specs.Prelude.{ℕ, ◌≡◌, ◌<◌, List, [], ◌∷◌};
+ghost use Rattle.fv_grammar.specs.Tree.{Tree};
+ghost use Rattle.fv_grammar.specs.declared.form.Slider.{Slider as SliderKind};
 ghost use Rattle.fv_parse.specs.Trees.{Parsed, size_of, tree_in};
 ghost use Rattle.fv_diagram.specs.Diagram.{Constant, Primitive as Leaf};
-ghost use Rattle.fv_rules.specs.Values.{Flat};
-ghost use Rattle.fv_machine.specs.Machine.{Give, Running};
-ghost use Rattle.fv_eval.specs.Frames.{Begins, Steps};
+ghost use Rattle.fv_rules.specs.Values.{Env, Flat, Name};
+ghost use Rattle.fv_rules.specs.Rules.{slider_kind};
+ghost use Rattle.fv_rules.specs.Shows.{IsNamed, ShowsEnv, ShowsTree};
+ghost use Rattle.fv_machine.specs.Machine.{Call, Frame as Waiting, Give, Running, Visit, next_parameter};
+ghost use Rattle.fv_eval.specs.Frames.{Begins, ShowsFrame, ShowsSlider, Steps, world};
 
 use crate::frame::{Focus, ForDiagram, ForValue, Frame};
 use crate::machine::Machine;
@@ -33,6 +37,34 @@ impl Machine {
         Ok(Focus::Give(Value::Diagram(id)))
     }
 
+    // A part is visited, and this waits for its diagram.
+    fn draw(&mut self, frame: ForDiagram, id: TreeId, env: u64) -> Result<Focus, EvalRefusal>
+        ensures { (p : Parsed) (F : Waiting) (x : Tree) (E : Env) → ShowsFrame (world p self.old) (Frame.Drawn frame) F
+            → ShowsTree (world p self.old) id x → ShowsEnv (world p self.old) env E
+            → Steps p self.old self.new result (λ Fs s. Running (Visit x E) (F ∷ Fs) s) }
+    {
+        self.wait(Frame::Drawn(frame), id, env)
+    }
+
+    // A name is called, to be negated.
+    fn negated(&mut self, name: u64, env: u64) -> Result<Focus, EvalRefusal>
+        ensures { (p : Parsed) (F : Waiting) (x : Name) (E : Env) → ShowsFrame (world p self.old) (Frame.Drawn ForDiagram.Negated) F
+            → IsNamed (world p self.old) name x → ShowsEnv (world p self.old) env E
+            → Steps p self.old self.new result (λ Fs s. Running (Call x E) (F ∷ Fs) s) }
+    {
+        self.wait_for_name(Frame::Drawn(ForDiagram::Negated), name, env)
+    }
+
+    // The first parameter of a slider is visited.
+    fn slider(&mut self, text: &Definitions, id: TreeId, env: u64) -> Result<Focus, EvalRefusal>
+        requires { id < size_of text.now }
+        ensures { (k : SliderKind) (label : List ℕ) (E : Env) (xs : List Tree) → ShowsSlider (world text.now self.old) id env 0 k label E xs
+            → Steps text.now self.old self.new result (λ Fs s. next_parameter (slider_kind k) label xs E [] Fs s) }
+    {
+        let done = Vec::new(self.alloc);
+        self.next_parameter(text, id, env, done)
+    }
+
     /// A tree is visited: its rule, up to the next visit or value.
     pub fn visit(&mut self, text: &Definitions, id: TreeId, env: u64) -> Result<Focus, EvalRefusal>
         requires { id < size_of text.now }
@@ -45,58 +77,58 @@ impl Machine {
             TreeNode::Wire => self.primitive(Prim::Wire),
             TreeNode::Cut => self.primitive(Prim::Cut),
             TreeNode::Primitive(p) => self.primitive(primitive_of(*p)),
-            TreeNode::Named(n) => {
-                let name = canonical(tree, *n);
-                self.name(text, name, env)
-            }
-            TreeNode::MinusNamed(n) => {
-                let name = canonical(tree, *n);
-                self.wait_for_name(Frame::Drawn(ForDiagram::Negated), name, env)
-            }
+            TreeNode::Named(n) => self.name(text, canonical(tree, *n), env),
+            TreeNode::MinusNamed(n) => self.negated(canonical(tree, *n), env),
             TreeNode::Group(x) => Ok(Focus::Visit { id: *x, env }),
             TreeNode::Panel(_, _, x) => Ok(Focus::Visit { id: *x, env }),
             TreeNode::Where(x, definitions) => self.visit_among(*definitions, *x, env),
-            TreeNode::Abstraction(names, body) => {
-                if names.is_empty() {
-                    return Ok(Focus::Visit { id: *body, env });
-                }
-                Ok(Focus::Give(Value::Abstraction {
-                    node: id,
-                    bound: 0,
-                    env,
-                }))
-            }
-            TreeNode::Case(_) => Ok(Focus::Give(Value::Rules {
-                ruled: Ruled::Case(id),
-                env,
-                count: 0,
-                last: 0,
-            })),
+            TreeNode::Abstraction(names, x) => Ok(abstraction(id, names.as_slice(), *x, env)),
+            TreeNode::Case(_) => Ok(case_rules(id, env)),
             TreeNode::Binary(_, x, _) => {
-                let frame = ForDiagram::Left { binary: id, env };
-                self.wait(Frame::Drawn(frame), *x, env)
+                self.draw(ForDiagram::Left { binary: id, env }, *x, env)
             }
-            TreeNode::Delayed(x) => self.wait(Frame::Drawn(ForDiagram::Later), *x, env),
+            TreeNode::Delayed(x) => self.draw(ForDiagram::Later, *x, env),
             TreeNode::Iteration(_, _, x, _) => {
-                let frame = ForDiagram::Counting { iteration: id, env };
-                self.wait(Frame::Drawn(frame), *x, env)
+                self.draw(ForDiagram::Counting { iteration: id, env }, *x, env)
             }
-            TreeNode::Ports(side, x) => {
-                self.wait(Frame::Drawn(ForDiagram::Ports(*side)), *x, env)
-            }
+            TreeNode::Ports(side, x) => self.draw(ForDiagram::Ports(*side), *x, env),
             TreeNode::Apply(x, _) => {
                 let frame = ForValue::Function { apply: id, env };
                 self.wait(Frame::Valued(frame), *x, env)
             }
             TreeNode::Switch(kind, n) => self.switch(*kind, tree.label(*n)),
-            TreeNode::Slider(_, _, _, _, _, _) => {
-                let done = Vec::new(self.alloc);
-                self.next_parameter(text, id, env, done)
-            },
+            TreeNode::Slider(_, _, _, _, _, _) => self.slider(text, id, env),
             TreeNode::Rule(_, _) | TreeNode::Constant(_, _) | TreeNode::Function(_, _, _) => {
                 Err(not_a_diagram(tree, id))
             }
             TreeNode::List(_) => Err(not_a_diagram(tree, id)),
         }
     }
+}
+
+// An abstraction without names is its body.
+fn abstraction(id: TreeId, names: &[u64], body: TreeId, env: u64) -> Focus
+    ensures bare { names.now ≡ [] → result ≡ Focus.Visit body env }
+    ensures named { (names.now ≡ [] → ⊥) → result ≡ Focus.Give (Value.Abstraction id 0 env) }
+{
+    if names.is_empty() {
+        return Focus::Visit { id: body, env };
+    }
+    Focus::Give(Value::Abstraction {
+        node: id,
+        bound: 0,
+        env,
+    })
+}
+
+// The rules of a `case`, which have taken no argument.
+fn case_rules(id: TreeId, env: u64) -> Focus
+    ensures { result ≡ Focus.Give (Value.Rules (Ruled.Case id) env 0 0) }
+{
+    Focus::Give(Value::Rules {
+        ruled: Ruled::Case(id),
+        env,
+        count: 0,
+        last: 0,
+    })
 }
