@@ -1,8 +1,10 @@
 -- Parts from the front of what is written piece by piece.
-use Rattle.std.proofs.Common.{◌≡◌, ℕ, List, [], ◌++◌, sym, ◌∙◌, ap, append_assoc}
-use Rattle.std.specs.Prelude.{codes, decimal}
+use Rattle.std.proofs.Common.{◌≡◌, ◌≤◌, ◌+◌, ℕ, List, [], ◌++◌, length, sym, ◌∙◌, ap, subst, append_assoc}
+use Rattle.std.specs.Prelude.{codes, decimal, IsTrue, IsOk, OnErr, Result}
 use Rattle.fv_base.specs.declared.role.Role.{Role}
-use Rattle.fv_outside.specs.Desk.{DeskState, Appends}
+use Rattle.fv_base.specs.declared.role.Role.TheVariants.{Report}
+use Rattle.fv_outside.specs.declared.desk.Failed.{Failed}
+use Rattle.fv_outside.specs.Desk.{DeskState, Appends, IsUnfailing}
 use Rattle.fv_outside.proofs.States.{appends_then, appends_nothing}
 use Rattle.fv_top.specs.Lines.{Row, spaced, row_line}
 use Rattle.fv_top.specs.Parts.{AppendsPart}
@@ -22,3 +24,16 @@ last_piece {role} {b = b} p = appends_then p (appends_nothing role b)
 -- the line of a row, in three pieces
 pub line_pieces : (r : Row) → (codes "refused " ++ decimal r.number ++ codes " " ++ r.name) ++ (spaced r.fields ++ codes "\n") ≡ row_line r
 line_pieces r = simp append_assoc
+
+-- ---- what is told of pieces is told of the line that they are
+
+pub err_as : (r : Result (Unit {0}) Failed) {xs ys : List ℕ} (a b : DeskState) → xs ≡ ys → OnErr r (AppendsPart Report xs a b)
+    → OnErr r (AppendsPart Report ys a b)
+err_as r a b is h = subst (λ (w : List ℕ). OnErr r (AppendsPart Report w a b)) is h
+
+-- a report of so many bytes is answered where no call fails and there is room
+abbrev pub IsAnsweredWith : Result (Unit {0}) Failed → DeskState → List ℕ → Type 0
+IsAnsweredWith r a w = IsTrue a.tells → IsUnfailing Report a → length (a.written Report) + length w ≤ a.room Report → IsOk r
+
+pub answers_as : (r : Result (Unit {0}) Failed) {xs ys : List ℕ} (a : DeskState) → xs ≡ ys → IsAnsweredWith r a xs → IsAnsweredWith r a ys
+answers_as r a is h = subst (IsAnsweredWith r a) is h

@@ -1,10 +1,10 @@
-use Rattle.std.proofs.Common.{◌≡◌, ◌≤◌, ◌+◌, List, [], ℕ, ◌++◌, length, ◌∙◌, subst}
-use Rattle.std.specs.Prelude.{IsTrue, IsOk, OnOk, OnErr}
+use Rattle.std.proofs.Common.{◌≡◌, List, [], ℕ, ◌++◌, ◌∙◌, subst}
+use Rattle.std.specs.Prelude.{OnOk}
 use Rattle.fv_base.specs.declared.role.Role.TheVariants.{Report}
-use Rattle.fv_base.specs.Lists.{IsPrefixOf}
-use Rattle.fv_outside.specs.Desk.{IsUnfailing, Appends}
+use Rattle.fv_outside.specs.Desk.{Appends}
 use Rattle.fv_top.specs.Lines.{made_line}
 use Rattle.fv_top.proofs.Making.{made_pieces}
+use Rattle.fv_top.proofs.Parts.{err_as, answers_as}
 use Rattle.fv_top.proofs.report.report_made.Given.{Over}
 use Rattle.fv_top.proofs.report.report_made.Goals as goal
 use Rattle.fv_top.proofs.report.report_made.Goals.{After-write_pieces}
@@ -26,13 +26,11 @@ returns-clause-ok g c =
 
 pub returns-clause-err : goal.returns-clause-err
 returns-clause-err g c =
+    let state = g.D.Desk.state in
     let is = line g (goal.at.returns-clause-err g c).After-write_pieces in
-    let P : List ℕ → Type 0 = λ w. Appends Report w (g.D.Desk.state c.args.desk.now) (g.D.Desk.state c.write_pieces.new.desk) in
-    subst (λ (w : List ℕ). OnErr c.write_pieces.result ((part : List ℕ) × IsPrefixOf part w × P part)) is c.write_pieces.ensures.err
+    err_as c.write_pieces.result (state c.args.desk.now) (state c.write_pieces.new.desk) is c.write_pieces.ensures.err
 
 pub returns-clause-answers : goal.returns-clause-answers
 returns-clause-answers g c =
-    let a = g.D.Desk.state c.args.desk.now in
     let is = line g (goal.at.returns-clause-answers g c).After-write_pieces in
-    let Fits : List ℕ → Type 0 = λ w. length (a.written Report) + length w ≤ a.room Report in
-    subst (λ (w : List ℕ). IsTrue a.tells → IsUnfailing Report a → Fits w → IsOk c.write_pieces.result) is c.write_pieces.ensures.answers
+    answers_as c.write_pieces.result (g.D.Desk.state c.args.desk.now) is c.write_pieces.ensures.answers
