@@ -14,6 +14,6 @@ told_by f seats = total (λ s. done_by f (view_of s)) seats
 abbrev pub having : {C : Type 0} → ℕ → List (WorkerSeat C) → ℕ
 having k seats = total (λ s. times k (view_of s).numbers) seats
 
--- each number below the number of workers is had by one of these seats, and there is one
+-- taken together, these seats have the number of each worker once, and there is a worker
 abbrev pub HaveAll : {C : Type 0} → ℕ → List (WorkerSeat C) → Type 0
 HaveAll workers seats = (0 < workers) × ((k : ℕ) → k < workers → having k seats ≡ 1)
