@@ -117,7 +117,7 @@ fn three_loops_in_a_row(rt: HostRuntime) -> Result<(), Fail> {
     Ok(())
 }
 
-// `5 : mem`: the number is held, and its lane is read by the delay alone.
+// `5 : mem`: the number has a lane, which the delay alone reads.
 #[test]
 fn a_number_one_sample_late(rt: HostRuntime) -> Result<(), Fail> {
     let mut builder = Builder::new(rt.alloc());
@@ -135,7 +135,7 @@ fn a_number_one_sample_late(rt: HostRuntime) -> Result<(), Fail> {
     Ok(())
 }
 
-// `7, 7 + _`: the number has a lane, and the sum reads it as a held value.
+// `7, 7 + _`: the number has a lane, and the sum takes it as a number.
 #[test]
 fn a_constant_output(rt: HostRuntime) -> Result<(), Fail> {
     let mut builder = Builder::new(rt.alloc());
