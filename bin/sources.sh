@@ -28,3 +28,6 @@ sources_of() {
   local crate
   for crate in $(crates_of "$1"); do find "crates/$crate/src" -name '*.rt'; done | LC_ALL=C sort
 }
+
+# sums_of NAME: the checksums of these files
+sums_of() { sources_of "$1" | xargs b2sum --length=256; }
