@@ -1,6 +1,6 @@
 // The blocks of whole runs, as gates see them.
 
-use crate::language::file_of;
+use crate::language::{BLOCKS_OF_FOUR, file_of};
 use crate::runs::{THREE, desk_of};
 use fv_outside::{Gate, Line, MemoryDesk, Reads, Recorder, Role};
 use fv_test_gates::Counter;
@@ -63,22 +63,11 @@ fn gain_desk(alloc: Global) -> Result<MemoryDesk, AllocError> {
     Ok(desk)
 }
 
-const GAIN: [&str; 8] = [
-    "run",
-    "p.dsp",
-    "in.wav",
-    "out.wav",
-    "--block",
-    "4",
-    "--controls",
-    "c.txt",
-];
-
 #[test]
 fn tells_a_block_for_each_change(rt: HostRuntime) -> Result<(), Fail> {
     let mut desk = gain_desk(rt.alloc())?;
     let mut gate = Recorder::new(rt.alloc(), 8, 64)?;
-    let tally = tally_of(&rt, rt.alloc(), &mut desk, &GAIN, &mut gate)?;
+    let tally = tally_of(&rt, rt.alloc(), &mut desk, &BLOCKS_OF_FOUR, &mut gate)?;
     let wanted = Tally {
         frames: 5,
         blocks: 3,
@@ -142,7 +131,7 @@ fn tells_which_loop_reads_which(rt: HostRuntime) -> Result<(), Fail> {
 fn counts_what_runs(rt: HostRuntime) -> Result<(), Fail> {
     let mut gate = Counter::new();
     let mut desk = gain_desk(rt.alloc())?;
-    let tally = tally_of(&rt, rt.alloc(), &mut desk, &GAIN, &mut gate)?;
+    let tally = tally_of(&rt, rt.alloc(), &mut desk, &BLOCKS_OF_FOUR, &mut gate)?;
     let runs = u128::from(gate.tasks());
     assert_eq!(rt; tally.map(|t| t.loop_runs), Some(runs));
     let mut gate = Counter::new();

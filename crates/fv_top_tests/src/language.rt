@@ -44,6 +44,18 @@ fn push_four(file: &mut Vec<u8>, n: u32) -> Result<(), AllocError> {
     push_two(file, n / 65536)
 }
 
+/// The words of a run in blocks of four frames, under a script.
+pub const BLOCKS_OF_FOUR: [&str; 8] = [
+    "run",
+    "p.dsp",
+    "in.wav",
+    "out.wav",
+    "--block",
+    "4",
+    "--controls",
+    "c.txt",
+];
+
 // A run of a program on an input gives this output.
 fn assert_plays(
     rt: &(impl Threads + Wait + Sync + Abort),
@@ -98,16 +110,7 @@ fn plays_one_channel(rt: HostRuntime) -> Result<(), Fail> {
         // a control changes at a frame, and keeps its value
         (
             b"process = _ * hslider(\"g\",1,0,10,1);",
-            &[
-                "run",
-                "p.dsp",
-                "in.wav",
-                "out.wav",
-                "--block",
-                "4",
-                "--controls",
-                "c.txt",
-            ],
+            &BLOCKS_OF_FOUR,
             &[5, 5, 5, 5, 5],
             &[5, 5, 15, 0, 0],
         ),
