@@ -4,13 +4,13 @@ use Rattle.std.proofs.Common.{append-nil, ℤ, pos}
 use Rattle.std.proofs.lemmas.List.{get_or-take, get_or-drop, get_or_append_left}
 use Rattle.std.specs.Prelude.{slice_index_or}
 use Rattle.fv_num.specs.Words.{argument}
-use Rattle.fv_num.specs.Frames.{Frame, Stream, column, table}
+use Rattle.fv_num.specs.Frames.{Frame, Stream, column, table, rows}
 use Rattle.fv_base.proofs.Lists.{table_same, length_table}
 use Rattle.fv_signal.specs.Value.{Graph, ValuesLookBack, value}
 use Rattle.fv_plan.specs.Plans.{PlanStands}
 use Rattle.fv_plan.specs.Fits.{Names}
 use Rattle.fv_plan.specs.View.{PlanView}
-use Rattle.fv_engine.specs.Stands.{AreGiven, EngineView, GoesOn, SameParts, StandsFor, played, rows}
+use Rattle.fv_engine.specs.Stands.{AreGiven, EngineView, GoesOn, SameParts, StandsFor, played}
 use Rattle.fv_blocks.proofs.Parts.{row_end}
 
 table_add : {A : Type 0} (n m : ℕ) (g : ℕ → A) → table (n + m) g ≡ table n g ++ table m (λ u. g (n + u))

@@ -1,11 +1,11 @@
 -- What a run of an engine over blocks answers (this project's profile).
 use Rattle.std.specs.Prelude.{◌≡◌, ℕ, List, [], length, ℤ, Option}
-use Rattle.fv_num.specs.Frames.{Stream}
+use Rattle.fv_num.specs.Frames.{Stream, rows}
 use Rattle.fv_signal.specs.Value.{Graph}
 use Rattle.fv_outside.specs.Journal.{Told}
 use Rattle.fv_control.specs.declared.script.Change.{Change}
 use Rattle.fv_plan.specs.Plans.{PlanStands}
-use Rattle.fv_engine.specs.Stands.{EngineView, StandsFor, played, rows}
+use Rattle.fv_engine.specs.Stands.{EngineView, StandsFor, played}
 use Rattle.fv_blocks.specs.Blocks.{AreBlocks, RanBlocks, loop_runs_of}
 
 -- The output is that of a graph for which the engine stood at the beginning, on all frames of the input, under these controls.

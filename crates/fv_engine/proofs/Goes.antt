@@ -1,7 +1,7 @@
 -- A block leads from an engine that stands for its frames to one that does.
 use Rattle.std.proofs.Common.{◌≡◌, ℕ, ◌+◌, ◌*◌, ◌<◌, ◌≤◌, List, length, sym, ap, ◌∙◌, subst, arith, ℤ}
 use Rattle.fv_num.specs.Words.{argument}
-use Rattle.fv_num.specs.Frames.{Frame, Stream, table}
+use Rattle.fv_num.specs.Frames.{Frame, Stream, table, rows}
 use Rattle.fv_base.proofs.Lists.{table_same}
 use Rattle.fv_signal.specs.Value.{Graph, value}
 use Rattle.fv_analysis.proofs.StandLemmas.{stands_alike}
@@ -15,7 +15,7 @@ use Rattle.fv_turns.specs.Outputs.{sample_of}
 use Rattle.fv_turns.specs.Underway.{EndsBlock}
 use Rattle.fv_turns.proofs.Numbers.{enough}
 use Rattle.fv_engine.specs.Plans.{NamesThere}
-use Rattle.fv_engine.specs.Stands.{EngineView, StandsFor, AreGiven, GoesOn, AreBegun, AreEnded, rows, played}
+use Rattle.fv_engine.specs.Stands.{EngineView, StandsFor, AreGiven, GoesOn, AreBegun, AreEnded, played}
 use Rattle.fv_engine.proofs.Values.{GoesBehind, block_in, heard, content, values_obey, begins, sample_is, next_past}
 
 -- an engine with these cells and starts

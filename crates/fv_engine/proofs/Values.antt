@@ -5,7 +5,7 @@ use Rattle.std.proofs.lemmas.Bool.{cases_lt, ltb-true, eqb-true, cond-true, cond
 use Rattle.std.proofs.lemmas.List.{get_or-append-add, get_or_append_left, get_or-drop, length-append, length-drop}
 use Rattle.std.proofs.Math.ListN.{get_or-eq_default}
 use Rattle.fv_num.specs.Words.{argument}
-use Rattle.fv_num.specs.Frames.{Frame, Stream, column, back, table}
+use Rattle.fv_num.specs.Frames.{Frame, Stream, column, back, table, rows}
 use Rattle.fv_base.proofs.Lists.{get_or_table, length_table, table_same, table_items}
 use Rattle.fv_signal.specs.Value.{Graph, value}
 use Rattle.fv_signal.proofs.Solutions.{values_look_back}
@@ -20,7 +20,7 @@ use Rattle.fv_plan.specs.View.{PlanView, code_of, roles_of, lane_info}
 use Rattle.fv_plan.specs.Plans.{PlanStands}
 use Rattle.fv_turns.specs.Block.{Block, ObeysBlock, HoldUpTo, none_done}
 use Rattle.fv_engine.specs.Plans.{NamesThere, held_by, block_from}
-use Rattle.fv_engine.specs.Stands.{EngineView, StandsFor, AreBegun, rows, AreGiven}
+use Rattle.fv_engine.specs.Stands.{EngineView, StandsFor, AreBegun, AreGiven}
 use Rattle.fv_engine.specs.Past.{past}
 
 -- a number of a frame behind others

@@ -1,8 +1,8 @@
 -- When an engine stands for frames and controls (this project's profile).
-use Rattle.std.specs.Prelude.{◌≡◌, ℕ, ◌+◌, ◌*◌, ◌<◌, ◌≤◌, List, ◌++◌, length, take, drop, slice_index, slice_index_or, ℤ}
+use Rattle.std.specs.Prelude.{◌≡◌, ℕ, ◌+◌, ◌<◌, ◌≤◌, List, ◌++◌, length, take, drop, slice_index, slice_index_or, ℤ}
 use Rattle.std.specs.Prelude.{nat_lt, if◌then◌else◌}
 use Rattle.fv_num.specs.Words.{argument}
-use Rattle.fv_num.specs.Frames.{Frame, Stream, table}
+use Rattle.fv_num.specs.Frames.{Frame, Stream, table, rows}
 use Rattle.fv_signal.specs.Value.{Graph, value}
 use Rattle.fv_loopcode.specs.Lanes.{Lane, lane_of}
 use Rattle.fv_pool.specs.Layout.{part}
@@ -31,10 +31,6 @@ history_in e l = take (lane_info e.plan l).history (from_start (slice_index e.st
 -- What the region holds of each lane is what its signal was at the latest samples of X.
 pub record StandsFor (e : EngineView) (g : Graph) (names : Names) (X : List Frame) (c : ℕ → Stream) : Type 0 where
   pub histories : (l : ℕ) → l < length e.plan.lanes → history_in e l ≡ past (lane_info e.plan l).history (value g (names.lane l) X c) (length X)
-
--- n frames of flat samples
-abbrev pub rows : (channels n : ℕ) → List ℤ → List Frame
-rows channels n xs = table n (λ t. table channels (λ i. argument xs (t * channels + i)))
 
 -- the outputs' values at n times from t on
 abbrev pub played : Graph → (X : List Frame) → (c : ℕ → Stream) → (t n : ℕ) → List Frame

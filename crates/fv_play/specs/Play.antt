@@ -1,14 +1,9 @@
 -- What a diagram answers on samples (Orlarey, Fober, Letz 2004).
-use Rattle.std.specs.Prelude.{ℕ, ◌+◌, ◌*◌, List, flat_map, ℤ, pos}
-use Rattle.fv_num.specs.Words.{argument}
-use Rattle.fv_num.specs.Frames.{Frame, Stream, table}
+use Rattle.std.specs.Prelude.{ℕ, List, flat_map, ℤ, pos}
+use Rattle.fv_num.specs.Frames.{Frame, Stream, rows}
 use Rattle.fv_control.specs.declared.script.Change.{Change}
 use Rattle.fv_diagram.specs.Diagram.{Diagram, inputs}
 use Rattle.fv_diagram.specs.Streams.{run}
-
--- the frames of samples that stand one after another
-abbrev pub rows : (width n : ℕ) → List ℤ → List Frame
-rows width n samples = table n (λ t. table width (λ j. argument samples (t * width + j)))
 
 -- the samples of frames, one after another
 abbrev pub joined : List Frame → List ℤ

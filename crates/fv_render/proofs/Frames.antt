@@ -7,14 +7,14 @@ use Rattle.std.proofs.lemmas.List.Elements.{All-get_or}
 use Rattle.std.proofs.lemmas.Grind.{flat_map-append}
 use Rattle.fv_base.proofs.Lists.{table_same, table_items}
 use Rattle.fv_num.specs.Words.{argument}
-use Rattle.fv_num.specs.Frames.{Frame, Stream, column, table}
+use Rattle.fv_num.specs.Frames.{Frame, Stream, column, table, rows}
 use Rattle.fv_num.specs.Interval.{Interval}
 use Rattle.fv_diagram.specs.Diagram.{Diagram, outputs, IsWellFormed}
 use Rattle.fv_diagram.specs.Streams.{run}
 use Rattle.fv_diagram.specs.Laws.{AnswersEach, AnswersWide}
 use Rattle.fv_signal.specs.Value.{Graph, value}
 use Rattle.fv_propagate.specs.Propagated.{AreTaken, Propagates}
-use Rattle.fv_engine.specs.Stands.{played, rows}
+use Rattle.fv_engine.specs.Stands.{played}
 use Rattle.fv_play.specs.Play.{joined}
 use Rattle.fv_play.proofs.Playing.{part_is}
 use Rattle.fv_blocks.proofs.Samples.{cells_same}

@@ -9,7 +9,7 @@ use Rattle.std.proofs.lemmas.List.{get_or-map, get_or_past, length-map}
 use Rattle.std.proofs.lemmas.List.Elements.{All-get_or, All-from_get_or}
 use Rattle.fv_base.proofs.Lists.{get_or_table, length_table}
 use Rattle.fv_num.specs.Words.{argument}
-use Rattle.fv_num.specs.Frames.{Frame, column, table}
+use Rattle.fv_num.specs.Frames.{Frame, column, table, rows}
 use Rattle.fv_num.specs.Interval.{Interval, IsSpan, IsWithin, full, point}
 use Rattle.fv_num.specs.SpanLaws.{AreSpans}
 use Rattle.fv_diagram.specs.Diagram.{Diagram, inputs}
@@ -21,8 +21,7 @@ use Rattle.fv_control.specs.Streams.{control_streams, value_after}
 use Rattle.fv_interval.specs.Laws.{IsOf}
 use Rattle.fv_interval.specs.SpanHooks.{control_span}
 use Rattle.fv_propagate.specs.Propagated.{AreTaken}
-use Rattle.fv_engine.specs.Stands.{rows}
-use Rattle.fv_rules.specs.Sound.{IsBounded}
+use Rattle.fv_diagram.specs.Controls.{IsBounded}
 use Rattle.fv_render.specs.Plans.{AreNumbers}
 use Rattle.fv_render.specs.Render.{initial_of, span_of, spans_of}
 

@@ -5,7 +5,7 @@ use Rattle.std.proofs.Math.Nat.{mul-le-mul_left}
 use Rattle.std.proofs.lemmas.Bool.{cond-true}
 use Rattle.fv_base.proofs.Lists.{length_table}
 use Rattle.fv_num.specs.Words.{argument}
-use Rattle.fv_num.specs.Frames.{table}
+use Rattle.fv_num.specs.Frames.{table, rows}
 use Rattle.fv_num.specs.SpanLaws.{AreSpans}
 use Rattle.fv_outside.specs.Journal.{Told}
 use Rattle.fv_diagram.specs.Diagram.{Diagram, inputs, outputs, control_bound}
@@ -16,7 +16,7 @@ use Rattle.fv_control.specs.Streams.{control_streams}
 use Rattle.fv_loopcode.specs.Code.{NamesHeld}
 use Rattle.fv_plan.specs.View.{PlanView}
 use Rattle.fv_plan.specs.Plans.{PlanStands, IsPlanOf}
-use Rattle.fv_engine.specs.Stands.{EngineView, played, rows}
+use Rattle.fv_engine.specs.Stands.{EngineView, played}
 use Rattle.fv_play.specs.Play.{answer_on, joined, no_slots}
 use Rattle.fv_blocks.specs.Blocks.{AreBlocks, HasRoomForRun, RanBlocks, loop_runs_of}
 use Rattle.fv_blocks.specs.Runs.{HasRun, PlaysAll}

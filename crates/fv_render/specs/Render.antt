@@ -7,7 +7,7 @@ use Rattle.fv_diagram.specs.Diagram.{Diagram, inputs, outputs, control_bound, Is
 use Rattle.fv_diagram.specs.declared.control.ControlInfo.{ControlInfo}
 use Rattle.fv_control.specs.declared.script.Change.{Change}
 use Rattle.fv_control.specs.Laws.{NeverFall, IsOfControls}
-use Rattle.fv_rules.specs.Sound.{IsBounded}
+use Rattle.fv_diagram.specs.Controls.{IsBounded}
 use Rattle.fv_interval.specs.Delays.{delays_of, AreAccepted}
 use Rattle.fv_signal.specs.Value.{Graph}
 use Rattle.fv_propagate.specs.Propagated.{Propagates}

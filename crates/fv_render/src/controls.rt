@@ -3,7 +3,7 @@
 ghost use Rattle.std.specs.Prelude.{◌≡◌, All, FitsSigned, IfOk};
 ghost use Rattle.std.specs.Int.{w32};
 ghost use Rattle.fv_num.specs.SpanLaws.{AreSpans};
-ghost use Rattle.fv_rules.specs.Sound.{IsBounded};
+ghost use Rattle.fv_diagram.specs.Controls.{IsBounded};
 ghost use Rattle.fv_render.specs.Plans.{AreNumbers};
 ghost use Rattle.fv_render.specs.Render.{initial_of, spans_of};
 

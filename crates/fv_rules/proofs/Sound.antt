@@ -44,7 +44,8 @@ use Rattle.fv_rules.specs.Rules.{defined_value, meant, name_value, arguments, al
 use Rattle.fv_rules.specs.Rules.{width, selected, applied}
 use Rattle.fv_rules.specs.Rules.{bodies, gathered, counted, ports, read_number, parameters, slider_info, switch_info, abstraction, rule, descend}
 use Rattle.fv_rules.specs.Rules.{within, ev, finished, start, program_value}
-use Rattle.fv_rules.specs.Sound.{IsBounded, IsSoundProgram}
+use Rattle.fv_rules.specs.Sound.{IsSoundProgram}
+use Rattle.fv_diagram.specs.Controls.{IsBounded}
 
 -- ---- diagrams, values, environments and states
 

@@ -9,7 +9,7 @@ use Rattle.std.proofs.lemmas.List.{length-take, length-drop}
 use Rattle.std.proofs.lemmas.Grind.{flat_map-append}
 use Rattle.fv_base.proofs.Lists.{length_table, table_same, get_or_table}
 use Rattle.fv_num.specs.Words.{argument, is_sample_width}
-use Rattle.fv_num.specs.Frames.{Frame, Stream, table}
+use Rattle.fv_num.specs.Frames.{Frame, Stream, table, rows}
 use Rattle.std.specs.Option.{ForSome}
 use Rattle.fv_base.specs.declared.role.Role.TheVariants.{Output}
 use Rattle.fv_outside.specs.Desk.{DeskState, File}
@@ -17,7 +17,7 @@ use Rattle.fv_diagram.specs.Diagram.{Diagram, inputs, outputs}
 use Rattle.fv_diagram.specs.Streams.{run}
 use Rattle.fv_control.specs.declared.script.Change.{Change}
 use Rattle.fv_control.specs.Streams.{control_streams}
-use Rattle.fv_play.specs.Play.{rows, joined, no_slots, answer_on}
+use Rattle.fv_play.specs.Play.{joined, no_slots, answer_on}
 use Rattle.fv_words.specs.Runs.{Run, Settings}
 use Rattle.fv_wav.specs.declared.head.Head.{Head}
 use Rattle.fv_wav.specs.Reading.{frame_size}

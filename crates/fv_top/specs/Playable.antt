@@ -2,7 +2,7 @@
 use Rattle.std.specs.Prelude.{◌≤◌, ◌<◌, ◌^◌, All, length, Result, Ok, Err}
 use Rattle.fv_diagram.specs.Arena.{count_of, tree_of}
 use Rattle.fv_diagram.specs.Diagram.{inputs, outputs, control_bound, HasNoFreeSlot, IsWellFormed}
-use Rattle.fv_rules.specs.Sound.{IsBounded}
+use Rattle.fv_diagram.specs.Controls.{IsBounded}
 use Rattle.fv_eval.specs.Evaluated.{Evaluated}
 use Rattle.fv_top.specs.Sources.{Compiled}
 use Rattle.fv_top.specs.Sound.{Sound}
