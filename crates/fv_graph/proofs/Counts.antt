@@ -1,5 +1,6 @@
 -- Counting in lists: what a change of one place, of one end or of one element does to a total.
-use Rattle.std.proofs.Common.{◌≡◌, ◌≢◌, ℕ, zero, suc, ◌+◌, ◌-◌, ◌<◌, ◌≤◌, Bool, true, false, cond, not, ◌&&◌, List, [], ◌∷◌, ◌++◌, length, get_or, set, refl, sym, ap, ◌∙◌, arith, eq-eqb, ne_eqb, ltb, leb, ◌||◌, ltb-true, true≢false, ◌==◌, map}
+use Rattle.std.proofs.Common.{◌≡◌, ◌≢◌, ℕ, zero, suc, ◌+◌, ◌-◌, ◌<◌, ◌≤◌, Bool, true, false, cond, not, ◌&&◌, List, [], ◌∷◌, ◌++◌, length, get_or}
+use Rattle.std.proofs.Common.{set, refl, sym, ap, ◌∙◌, arith, eq-eqb, ne_eqb, ltb, leb, ◌||◌, ltb-true, true≢false, ◌==◌, map}
 use mathlib.Core.Logic.{dite}
 use native.Mathlib.Decide.{ℕ_discrete}
 use Rattle.fv_outside.specs.Tasks.{bit, total, times}
@@ -58,7 +59,8 @@ total_add f g [] = refl
 total_add f g (x ∷ xs) = let r = total_add f g xs in omega arith
 
 -- what is read at j after a write at i
-pub get_set : {X : Type 0} (P : X → Type 0) (xs : List X) (i j : ℕ) (y d : X) → i < length xs → (j ≡ i → P y) → (j ≢ i → P (get_or xs j d)) → P (get_or (set xs i y) j d)
+pub get_set : {X : Type 0} (P : X → Type 0) (xs : List X) (i j : ℕ) (y d : X) → i < length xs → (j ≡ i → P y) → (j ≢ i → P (get_or xs j d))
+    → P (get_or (set xs i y) j d)
 get_set P [] i j y d h a b = absurd (omega arith)
 get_set P (x ∷ xs) zero zero y d h a b = a refl
 get_set P (x ∷ xs) zero (suc j) y d h a b = b (λ e. omega arith)
@@ -66,13 +68,15 @@ get_set P (x ∷ xs) (suc i) zero y d h a b = b (λ e. omega arith)
 get_set P (x ∷ xs) (suc i) (suc j) y d h a b = get_set P xs i j y d (omega arith) (λ e. a (ap suc e)) (λ n. b (λ e. n (omega arith)))
 
 -- a task that was not done is done
-pub done_set : (done : List Bool) (t : ℕ) → t < length done → get_or done t false ≡ false → (x : ℕ) → bit (get_or (set done t true) x false) ≡ bit (get_or done x false) + bit (x == t)
+pub done_set : (done : List Bool) (t : ℕ) → t < length done → get_or done t false ≡ false → (x : ℕ)
+    → bit (get_or (set done t true) x false) ≡ bit (get_or done x false) + bit (x == t)
 done_set done t h was x = get_set (λ b. bit b ≡ bit (get_or done x false) + bit (x == t)) done t x true false h
     (λ e. let o = bit_same x t e in let z : bit (get_or done x false) ≡ 0 = ap (λ k. bit (get_or done k false)) e ∙ ap bit was in omega arith)
     (λ n. let z = bit_apart x t n in omega arith)
 
 -- a count falls by one
-pub count_set : (counts : List ℕ) (r : ℕ) → r < length counts → 0 < get_or counts r 1 → (t : ℕ) → get_or (set counts r (get_or counts r 1 - 1)) t 1 + bit (r == t) ≡ get_or counts t 1
+pub count_set : (counts : List ℕ) (r : ℕ) → r < length counts → 0 < get_or counts r 1 → (t : ℕ)
+    → get_or (set counts r (get_or counts r 1 - 1)) t 1 + bit (r == t) ≡ get_or counts t 1
 count_set counts r h some t = get_set (λ c. c + bit (r == t) ≡ get_or counts t 1) counts r t (get_or counts r 1 - 1) 1 h
     (λ e. let o = bit_same r t (sym e) in let z : get_or counts t 1 ≡ get_or counts r 1 = ap (λ k. get_or counts k 1) e in omega arith)
     (λ n. let z = bit_apart r t (λ e. n (sym e)) in omega arith)
@@ -134,7 +138,8 @@ map_hit f k e is inj (x ∷ xs) = let r = map_hit f k e is inj xs in dite (ℕ_d
 
 pub map_miss : (f : ℕ → ℕ) (e : ℕ) (xs : List ℕ) → ((j : ℕ) → 0 < times j xs → f j ≢ e) → times e (map f xs) ≡ 0
 map_miss f e [] h = refl
-map_miss f e (x ∷ xs) h = let o = bit_same x x refl in let r = map_miss f e xs (λ j p. h j (omega arith)) in let a = bit_apart (f x) e (h x (omega arith)) in omega arith
+map_miss f e (x ∷ xs) h = let o = bit_same x x refl in let r = map_miss f e xs (λ j p. h j (omega arith)) in
+    let a = bit_apart (f x) e (h x (omega arith)) in omega arith
 
 pub times_chosen : (b : Bool) (x : ℕ) (xs : List ℕ) (t : ℕ) → times t (cond b (x ∷ xs) xs) ≡ bit (b && (x == t)) + times t xs
 times_chosen true x xs t = refl
@@ -157,8 +162,10 @@ bit_first false b e = refl
 pub times_passing : (p : ℕ → Bool) (from n t : ℕ) → from ≤ t → t < from + n → times t (passing p from n) ≡ bit (p t)
 times_passing p from zero t low high = absurd (omega arith)
 times_passing p from (suc n) t low high = let c = times_chosen (p from) from (passing p (suc from) n) t in dite (ℕ_discrete from t)
-    (λ e. let o = bit_first (p from) (from == t) (bit_same from t e) in let r = times_below p (suc from) n t (omega arith) in let q : bit (p from) ≡ bit (p t) = ap (λ k. bit (p k)) e in omega arith)
-    (λ ne. let z = bit_right (p from) (from == t) (bit_apart from t ne) in let lo : suc from ≤ t = omega arith in let r = times_passing p (suc from) n t lo (omega arith) in omega arith)
+    (λ e. let o = bit_first (p from) (from == t) (bit_same from t e) in let r = times_below p (suc from) n t (omega arith) in
+    let q : bit (p from) ≡ bit (p t) = ap (λ k. bit (p k)) e in omega arith)
+    (λ ne. let z = bit_right (p from) (from == t) (bit_apart from t ne) in let lo : suc from ≤ t = omega arith in
+    let r = times_passing p (suc from) n t lo (omega arith) in omega arith)
 
 pub bits_agree : (p q : Bool) → (p ≡ true → q ≡ true) → (q ≡ true → p ≡ true) → bit p ≡ bit q
 bits_agree true q a b = ap bit (sym (a refl))

@@ -1,5 +1,6 @@
 -- One key more.
-use Rattle.std.proofs.Common.{◌≡◌, ℕ, zero, suc, ◌+◌, ◌<◌, Bool, true, false, cond, List, [], ◌∷◌, ◌++◌, length, get_or, set, refl, sym, ap, ◌∙◌, arith, ◌==◌, eq-eqb, ne_eqb, append-nil}
+use Rattle.std.proofs.Common.{◌≡◌, ℕ, zero, suc, ◌+◌, ◌<◌, Bool, true, false, cond, List, [], ◌∷◌, ◌++◌, length, get_or, set}
+use Rattle.std.proofs.Common.{refl, sym, ap, ◌∙◌, arith, ◌==◌, eq-eqb, ne_eqb, append-nil}
 use Rattle.std.specs.Global.{Vec}
 use Rattle.fv_graph.specs.Words.{passing}
 use Rattle.fv_graph.specs.Lists.{Grouped}

@@ -9,7 +9,8 @@ one_more : (E : ℕ → List ℕ) (xs : List (Vec ℕ)) (v : Vec ℕ) (n : ℕ) 
 one_more E [] v n long each is zero d h = is ∙ ap E (omega arith)
 one_more E [] v n long each is (suc t) d h = absurd (omega arith)
 one_more E (x ∷ xs) v n long each is zero d h = each 0 d (omega arith)
-one_more E (x ∷ xs) v n long each is (suc t) d h = one_more (λ k. E (suc k)) xs v (length xs) refl (λ k d l. each (suc k) d (omega arith)) (is ∙ ap E (omega arith)) t d (omega arith)
+one_more E (x ∷ xs) v n long each is (suc t) d h =
+    one_more (λ k. E (suc k)) xs v (length xs) refl (λ k d l. each (suc k) d (omega arith)) (is ∙ ap E (omega arith)) t d (omega arith)
 
 pub lists_push : (E : ℕ → List ℕ) (xs : List (Vec ℕ)) (v : Vec ℕ) (n : ℕ) → AreLists E n xs → v.items ≡ E n → AreLists E (n + 1) (xs ++ v ∷ [])
 lists_push E xs v n h is = record { long = pushed xs v ∙ ap (λ k. k + 1) h.long; each = one_more E xs v n h.long h.each is }

@@ -1,5 +1,6 @@
 -- The lists that are made are those of the edges.
-use Rattle.std.proofs.Common.{◌≡◌, ℕ, zero, suc, ◌+◌, ◌*◌, ◌/◌, ◌%◌, ◌<◌, Bool, List, [], ◌∷◌, map, length, get_or, refl, sym, ap, ◌∙◌, subst, arith, ◌==◌, suc-mul, mod-lt}
+use Rattle.std.proofs.Common.{◌≡◌, ℕ, zero, suc, ◌+◌, ◌*◌, ◌/◌, ◌%◌, ◌<◌, Bool, List, [], ◌∷◌, map, length, get_or}
+use Rattle.std.proofs.Common.{refl, sym, ap, ◌∙◌, subst, arith, ◌==◌, suc-mul, mod-lt}
 use Rattle.std.specs.Global.{Vec}
 use Rattle.fv_outside.specs.Tasks.{Tasks, task_count}
 use Rattle.fv_outside.specs.declared.tasks.Reads.{Reads}
@@ -25,17 +26,25 @@ get_keys f (r ∷ rs) (suc i) z = get_keys f rs i z
 -- the keys of all pairs are loops
 pub keys_low : (f : Reads → ℕ) (rs : List Reads) (keys : List ℕ) (loops : ℕ) → f no_reads ≡ 0 → keys ≡ map f rs
     → ((k : ℕ) → k < length rs → f (get_or rs k no_reads) < loops) → (k : ℕ) → k < length keys → get_or keys k 0 < loops
-keys_low f rs keys loops z is low k h = let l = low k (let a = ap length is in let b = length_keys f rs in omega arith) in let g = get_keys f rs k z in let q = ap (λ l. get_or l k 0) is in omega arith
+keys_low f rs keys loops z is low k h = let l = low k (let a = ap length is in let b = length_keys f rs in omega arith) in let g = get_keys f rs k z in
+    let q = ap (λ l. get_or l k 0) is in omega arith
 
-module _ (g : Tasks) (f : Reads → ℕ) (z : f no_reads ≡ 0) (keys : List ℕ) (is : keys ≡ map f g.reads) (groups : List (Vec ℕ))
-    (long : length groups ≡ g.loops) (by : Grouped keys g.loops (length keys) groups) where
+-- the groups of the pairs by a key: that of each loop has the places of the pairs whose key it is
+pub record AreGrouped (g : Tasks) (f : Reads → ℕ) (keys : List ℕ) (groups : List (Vec ℕ)) : Type 0 where
+  pub all : keys ≡ map f g.reads
+  pub long : length groups ≡ g.loops
+  pub by : Grouped keys g.loops (length keys) groups
+
+module _ (g : Tasks) (f : Reads → ℕ) (z : f no_reads ≡ 0) (keys : List ℕ) (groups : List (Vec ℕ)) (are : AreGrouped g f keys groups) where
   made : (j : ℕ) → j < g.loops → group_of groups j ≡ passing (λ k. f (pair_at g k) == j) 0 (length g.reads)
   made j h =
-      group_items groups j (passing (λ i. get_or keys i 0 == j) 0 (length keys)) (omega arith) (λ d. by j d h)
-      ∙ ap (passing (λ i. get_or keys i 0 == j) 0) (ap length is ∙ length_keys f g.reads)
-      ∙ ap (λ (p : ℕ → Bool). passing p 0 (length g.reads)) (λ x i. (ap (λ l. get_or l i 0) is ∙ get_keys f g.reads i z) x == j)
+      let l = are.long in
+      group_items groups j (passing (λ i. get_or keys i 0 == j) 0 (length keys)) (omega arith) (λ d. are.by j d h)
+      ∙ ap (passing (λ i. get_or keys i 0 == j) 0) (ap length are.all ∙ length_keys f g.reads)
+      ∙ ap (λ (p : ℕ → Bool). passing p 0 (length g.reads)) (λ x i. (ap (λ l. get_or l i 0) are.all ∙ get_keys f g.reads i z) x == j)
 
-  pub made_low : (wide : ℕ) → wide ≡ length g.reads → (j i : ℕ) → j < g.loops → i < length (group_of groups j) → g.loops + get_or (group_of groups j) i 0 < g.loops + wide
+  pub made_low : (wide : ℕ) → wide ≡ length g.reads → (j i : ℕ) → j < g.loops → i < length (group_of groups j)
+      → g.loops + get_or (group_of groups j) i 0 < g.loops + wide
   made_low wide w j i h l =
       let m = made j h in
       let p = get_passing (λ k. f (pair_at g k) == j) 0 (length g.reads) i 0 (subst (λ xs. i < length xs) m l) in
@@ -53,20 +62,20 @@ module _ (g : Tasks) (f : Reads → ℕ) (z : f no_reads ≡ 0) (keys : List ℕ
 
 -- the lists into tasks, and those out of them
 pub are_inward : (g : Tasks) (keys : List ℕ) (groups lists : List (Vec ℕ)) (wide : ℕ) → 0 < g.loops → wide ≡ stride g
-    → keys ≡ map (λ (r : Reads). r.reader) g.reads → length groups ≡ g.loops → Grouped keys g.loops (length keys) groups
-    → AreLists (edges_at g.loops wide 0 groups) (task_count g) lists → AreInward g lists
-are_inward g keys groups lists wide some w is long by h = record {
+    → AreGrouped g (λ (r : Reads). r.reader) keys groups → AreLists (edges_at g.loops wide 0 groups) (task_count g) lists → AreInward g lists
+are_inward g keys groups lists wide some w are h = record {
   long = h.long;
-  each = λ t d l. h.each t d l ∙ ap (λ xs. (t / g.loops * wide + t % g.loops + 0) ∷ xs) (pairs_made g (λ (r : Reads). r.reader) refl keys is groups long by wide w t some)
+  each = λ t d l. h.each t d l
+      ∙ ap (λ xs. (t / g.loops * wide + t % g.loops + 0) ∷ xs) (pairs_made g (λ (r : Reads). r.reader) refl keys groups are wide w t some)
       ∙ ap (λ n. n ∷ pair_edges_into g t) (let q = ap (λ n. t / g.loops * n) w in omega arith);
 }
 
 pub are_outward : (g : Tasks) (keys : List ℕ) (groups lists : List (Vec ℕ)) (wide : ℕ) → 0 < g.loops → wide ≡ stride g
-    → keys ≡ map (λ (r : Reads). r.source) g.reads → length groups ≡ g.loops → Grouped keys g.loops (length keys) groups
-    → AreLists (edges_at g.loops wide wide groups) (task_count g) lists → AreOutward g lists
-are_outward g keys groups lists wide some w is long by h = record {
+    → AreGrouped g (λ (r : Reads). r.source) keys groups → AreLists (edges_at g.loops wide wide groups) (task_count g) lists → AreOutward g lists
+are_outward g keys groups lists wide some w are h = record {
   long = h.long;
-  each = λ t d l. h.each t d l ∙ ap (λ xs. (t / g.loops * wide + t % g.loops + wide) ∷ xs) (pairs_made g (λ (r : Reads). r.source) refl keys is groups long by wide w t some)
+  each = λ t d l. h.each t d l
+      ∙ ap (λ xs. (t / g.loops * wide + t % g.loops + wide) ∷ xs) (pairs_made g (λ (r : Reads). r.source) refl keys groups are wide w t some)
       ∙ ap (λ n. n ∷ pair_edges_out g t) (let q = ap (λ n. t / g.loops * n) w in let m = suc-mul (t / g.loops) (stride g) in
       let r : (t / g.loops + 1) * stride g ≡ suc (t / g.loops) * stride g = ap (λ n. n * stride g) (omega arith) in omega arith);
 }

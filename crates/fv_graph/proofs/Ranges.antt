@@ -12,4 +12,5 @@ pub task_in : (g h : Graph) (t : ℕ) → g ≡ h → t < task_count h.tasks →
 task_in g h t e = subst (λ (k : Graph). t < task_count k.tasks) (sym e)
 
 pub quotient_small : (t v l : ℕ) → t < v * l → t / l < v
-quotient_small t v l h = dite (dec_le v (t / l)) (λ le. let m : v * l ≤ t / l * l = mul-le-mul_right l le in let p = div-add-mod' t l in absurd (omega arith)) (λ n. omega arith)
+quotient_small t v l h = dite (dec_le v (t / l)) (λ le. let m : v * l ≤ t / l * l = mul-le-mul_right l le in let p = div-add-mod' t l in absurd (omega arith))
+    (λ n. omega arith)

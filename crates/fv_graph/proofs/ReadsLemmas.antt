@@ -1,13 +1,16 @@
 -- What the edges mean: a task's inner edges come from the tasks that it reads, and go to those that read it.
-use Rattle.std.proofs.Common.{◌≡◌, ℕ, zero, suc, ◌+◌, ◌-◌, ◌*◌, ◌/◌, ◌%◌, ◌<◌, ◌≤◌, Bool, true, false, cond, ◌&&◌, ◌||◌, List, [], ◌∷◌, map, length, get_or, refl, sym, ap, ◌∙◌, subst, arith, ltb, lt-ltb, ltb-true, true≢false, ◌==◌, eq-eqb, suc-mul, div-add-mod', mod-lt}
+use Rattle.std.proofs.Common.{◌≡◌, ℕ, zero, suc, ◌+◌, ◌-◌, ◌*◌, ◌/◌, ◌%◌, ◌<◌, ◌≤◌, Bool, true, false, cond, ◌&&◌, ◌||◌, List, [], ◌∷◌, map, length, get_or}
+use Rattle.std.proofs.Common.{refl, sym, ap, ◌∙◌, subst, arith, ltb, lt-ltb, ltb-true, true≢false, ◌==◌, eq-eqb, suc-mul, div-add-mod', mod-lt}
 use mathlib.Core.Logic.{dite}
 use native.Mathlib.Decide.{ℕ_discrete, dec_le}
 use Rattle.fv_outside.specs.Tasks.{Tasks, bit, times, task_count, reads_loop, reads_task}
 use Rattle.fv_outside.specs.declared.tasks.Reads.{Reads}
 use Rattle.fv_graph.specs.Words.{passing}
-use Rattle.fv_graph.specs.Graph.{IsGraph, is_before, no_reads, pair_at, stride, loop_of, vector_of, task_of, chain_edge, pair_edge, pair_edges_into, pair_edges_out, inward, outward, source_of, reader_of, needs_of, feeds_of}
+use Rattle.fv_graph.specs.Graph.{IsGraph, is_before, no_reads, pair_at, stride, loop_of, vector_of, task_of, chain_edge, pair_edge}
+use Rattle.fv_graph.specs.Graph.{pair_edges_into, pair_edges_out, inward, outward, source_of, reader_of, needs_of, feeds_of}
 use Rattle.fv_graph.specs.Reads.{Rises, ReadsLaw}
-use Rattle.fv_graph.proofs.Counts.{bit_le, bit_same, bit_apart, both_true, both_of, bits_agree, eq_of, either_left, either_right, one_of, not_ltb, total_zero, total_at, times_passing}
+use Rattle.fv_graph.proofs.Counts.{bit_le, bit_same, bit_apart, both_true, both_of, bits_agree, eq_of, either_left}
+use Rattle.fv_graph.proofs.Counts.{either_right, one_of, not_ltb, total_zero, total_at, times_passing}
 use Rattle.fv_graph.proofs.Graphs.{unique, source_pair, source_chain, reader_pair, reader_chain}
 
 -- ---- lists that rise
@@ -39,8 +42,10 @@ pub record Passes (p : ℕ → Bool) (from n x : ℕ) : Type 0 where
 later : (p : ℕ → Bool) (from n x : ℕ) → Passes p (suc from) n x → Passes p from (suc n) x
 later p from n x h = let l = h.low in let k = h.high in record { low = omega arith; high = omega arith; passes = h.passes }
 
-first_of : (b : Bool) (p : ℕ → Bool) (from n : ℕ) → p from ≡ b → ((k d : ℕ) → k < length (passing p (suc from) n) → Passes p (suc from) n (get_or (passing p (suc from) n) k d))
-    → (k d : ℕ) → k < length (cond b (from ∷ passing p (suc from) n) (passing p (suc from) n)) → Passes p from (suc n) (get_or (cond b (from ∷ passing p (suc from) n) (passing p (suc from) n)) k d)
+first_of : (b : Bool) (p : ℕ → Bool) (from n : ℕ) → p from ≡ b
+    → ((k d : ℕ) → k < length (passing p (suc from) n) → Passes p (suc from) n (get_or (passing p (suc from) n) k d))
+    → (k d : ℕ) → k < length (cond b (from ∷ passing p (suc from) n) (passing p (suc from) n))
+    → Passes p from (suc n) (get_or (cond b (from ∷ passing p (suc from) n) (passing p (suc from) n)) k d)
 first_of true p from n e r zero d l = record { low = omega arith; high = omega arith; passes = e }
 first_of true p from n e r (suc k) d l = later p from n (get_or (passing p (suc from) n) k d) (r k d (omega arith))
 first_of false p from n e r k d l = later p from n (get_or (passing p (suc from) n) k d) (r k d l)
@@ -58,7 +63,8 @@ get_map f [] k d l = absurd (omega arith)
 get_map f (x ∷ xs) zero d l = refl
 get_map f (x ∷ xs) (suc k) d l = get_map f xs k d (omega arith)
 
-mapped : (b : Bool) (f : ℕ → ℕ) (p : ℕ → Bool) (from n : ℕ) → p from ≡ b → ((k : ℕ) → Passes p (suc from) n k → p from ≡ true → f from < f k) → Rises (map f (passing p (suc from) n))
+mapped : (b : Bool) (f : ℕ → ℕ) (p : ℕ → Bool) (from n : ℕ) → p from ≡ b → ((k : ℕ) → Passes p (suc from) n k → p from ≡ true → f from < f k)
+    → Rises (map f (passing p (suc from) n))
     → Rises (map f (cond b (from ∷ passing p (suc from) n) (passing p (suc from) n)))
 mapped true f p from n e low r = rises_more (f from) (map f (passing p (suc from) n))
     (λ k d l. let m : k < length (passing p (suc from) n) = let q = length_map f (passing p (suc from) n) in omega arith in
@@ -66,7 +72,8 @@ mapped true f p from n e low r = rises_more (f from) (map f (passing p (suc from
 mapped false f p from n e low r = r
 
 -- a function that rises on the numbers that pass
-pub map_rises : (f : ℕ → ℕ) (p : ℕ → Bool) (from n : ℕ) → ((a b : ℕ) → a < b → b < from + n → p a ≡ true → p b ≡ true → f a < f b) → Rises (map f (passing p from n))
+pub map_rises : (f : ℕ → ℕ) (p : ℕ → Bool) (from n : ℕ) → ((a b : ℕ) → a < b → b < from + n → p a ≡ true → p b ≡ true → f a < f b)
+    → Rises (map f (passing p from n))
 map_rises f p from zero h = rises_none
 map_rises f p from (suc n) h = mapped (p from) f p from n refl
     (λ k q e. let l = q.low in let m = q.high in h from k (omega arith) (omega arith) e q.passes)
@@ -85,7 +92,8 @@ place (y ∷ ys) x h = dite (ℕ_discrete y x) (λ s. (0, omega arith, s))
 -- ---- pairs
 pub loop_at : (rs : List Reads) (j i k : ℕ) → k < length rs → (get_or rs k no_reads).reader ≡ j → (get_or rs k no_reads).source ≡ i → reads_loop rs j i ≡ true
 loop_at [] j i k l a b = absurd (omega arith)
-loop_at (r ∷ rs) j i zero l a b = either_left ((r.reader == j) && (r.source == i)) (reads_loop rs j i) (both_of (r.reader == j) (r.source == i) (eq-eqb r.reader j a) (eq-eqb r.source i b))
+loop_at (r ∷ rs) j i zero l a b =
+    either_left ((r.reader == j) && (r.source == i)) (reads_loop rs j i) (both_of (r.reader == j) (r.source == i) (eq-eqb r.reader j a) (eq-eqb r.source i b))
 loop_at (r ∷ rs) j i (suc k) l a b = either_right ((r.reader == j) && (r.source == i)) (reads_loop rs j i) (loop_at rs j i k (omega arith) a b)
 
 pub record IsAt (rs : List Reads) (j i k : ℕ) : Type 0 where
@@ -95,7 +103,8 @@ pub record IsAt (rs : List Reads) (j i k : ℕ) : Type 0 where
 
 at_first : (b : Bool) (r : Reads) (rs : List Reads) (j i : ℕ) → ((r.reader == j) && (r.source == i)) ≡ b
     → (reads_loop rs j i ≡ true → (k : ℕ) × IsAt rs j i k) → (b || reads_loop rs j i) ≡ true → (k : ℕ) × IsAt (r ∷ rs) j i k
-at_first true r rs j i e f h = let b = both_true (r.reader == j) (r.source == i) e in (0, record { there = omega arith; reader = eq_of r.reader j b.0; source = eq_of r.source i b.1 })
+at_first true r rs j i e f h = let b = both_true (r.reader == j) (r.source == i) e in
+    (0, record { there = omega arith; reader = eq_of r.reader j b.0; source = eq_of r.source i b.1 })
 at_first false r rs j i e f h = let q = f h in (suc q.0, record { there = let l = q.1.there in omega arith; reader = q.1.reader; source = q.1.source })
 
 pub loop_place : (rs : List Reads) (j i : ℕ) → reads_loop rs j i ≡ true → (k : ℕ) × IsAt rs j i k
@@ -164,7 +173,8 @@ module _ (g : Tasks) (ig : IsGraph g) where
 
     pub ends_count : (s : ℕ) (R : Bool) → ((k : ℕ) → k < length g.reads → near k ≡ loop_of g t → far k ≡ loop_of g s → R ≡ true)
         → (R ≡ true → (k : ℕ) × (k < length g.reads) × (near k ≡ loop_of g t) × (far k ≡ loop_of g s))
-        → times s (map f (map (λ k. pair_edge g k (vector_of g t)) (passing (λ k. near k == loop_of g t) 0 (length g.reads)))) ≡ bit (R && (vector_of g s == vector_of g t))
+        → times s (map f (map (λ k. pair_edge g k (vector_of g t)) (passing (λ k. near k == loop_of g t) 0 (length g.reads))))
+        ≡ bit (R && (vector_of g s == vector_of g t))
     ends_count s R found back =
         let p : ℕ → Bool = λ k. near k == loop_of g t in
         let h : ℕ → ℕ = λ k. f (pair_edge g k (vector_of g t)) in
@@ -172,7 +182,8 @@ module _ (g : Tasks) (ig : IsGraph g) where
         let flat = map_map f (λ k. pair_edge g k (vector_of g t)) P in
         let ps = div-add-mod' s g.loops in
         ap (times s) flat
-        ∙ count_is (times s (map h P)) (R && (vector_of g s == vector_of g t)) (subst (λ l. times s l ≤ 1) flat (rises_once (map f (map (λ k. pair_edge g k (vector_of g t)) P)) ends_rise s))
+        ∙ count_is (times s (map h P)) (R && (vector_of g s == vector_of g t))
+        (subst (λ l. times s l ≤ 1) flat (rises_once (map f (map (λ k. pair_edge g k (vector_of g t)) P)) ends_rise s))
         (λ some. let at = place (map h P) s some in
         let m : at.0 < length P = let q = length_map h P in let l = at.1 in omega arith in
         let k = get_or P at.0 0 in let w = get_passing p 0 (length g.reads) at.0 0 m in
@@ -182,7 +193,8 @@ module _ (g : Tasks) (ig : IsGraph g) where
         both_of R (vector_of g s == vector_of g t) (found k l (eq_of (near k) (loop_of g t) w.passes) u.1) (eq-eqb (vector_of g s) (vector_of g t) (sym u.0)))
         (λ both. let b = both_true R (vector_of g s == vector_of g t) both in
         let q = back b.0 in let k = q.0 in
-        let in_P : 0 < times k P = let c = times_passing p 0 (length g.reads) k (omega arith) (let l = q.1 in omega arith) in let o = bit_same (near k) (loop_of g t) q.2 in omega arith in
+        let in_P : 0 < times k P = let c = times_passing p 0 (length g.reads) k (omega arith) (let l = q.1 in omega arith) in
+        let o = bit_same (near k) (loop_of g t) q.2 in omega arith in
         let at = place P k in_P in
         let v = eq_of (vector_of g s) (vector_of g t) b.1 in
         let vq : vector_of g s * g.loops ≡ vector_of g t * g.loops = ap (λ n. n * g.loops) v in
@@ -202,18 +214,22 @@ module _ (g : Tasks) (ig : IsGraph g) where
   low_source k h = let o = ig.in_order k h in let a = o.0 in let b = o.1 in omega arith
 
   pub sources_rise : (t : ℕ) → Rises (map (source_of g) (pair_edges_into g t))
-  sources_rise t = ends_rise t (λ k. (pair_at g k).reader) (λ k. (pair_at g k).source) (source_of g) (λ k h. pair_source k (vector_of g t) h) low_source near_reader
+  sources_rise t = ends_rise t (λ k. (pair_at g k).reader) (λ k. (pair_at g k).source) (source_of g)
+      (λ k h. pair_source k (vector_of g t) h) low_source near_reader
 
   pub readers_rise : (t : ℕ) → Rises (map (reader_of g) (pair_edges_out g t))
-  readers_rise t = ends_rise t (λ k. (pair_at g k).source) (λ k. (pair_at g k).reader) (reader_of g) (λ k h. pair_reader k (vector_of g t) h) low_reader near_source
+  readers_rise t = ends_rise t (λ k. (pair_at g k).source) (λ k. (pair_at g k).reader) (reader_of g)
+      (λ k h. pair_reader k (vector_of g t) h) low_reader near_source
 
-  read_pairs : (t s : ℕ) → times s (map (source_of g) (pair_edges_into g t)) ≡ bit (reads_loop g.reads (loop_of g t) (loop_of g s) && (vector_of g s == vector_of g t))
+  read_pairs : (t s : ℕ) → times s (map (source_of g) (pair_edges_into g t))
+      ≡ bit (reads_loop g.reads (loop_of g t) (loop_of g s) && (vector_of g s == vector_of g t))
   read_pairs t s = ends_count t (λ k. (pair_at g k).reader) (λ k. (pair_at g k).source) (source_of g)
       (λ k h. pair_source k (vector_of g t) h) low_source near_reader s (reads_loop g.reads (loop_of g t) (loop_of g s))
       (λ k l a b. loop_at g.reads (loop_of g t) (loop_of g s) k l a b)
       (λ h. let q = loop_place g.reads (loop_of g t) (loop_of g s) h in (q.0, q.1.there, q.1.reader, q.1.source))
 
-  fed_pairs : (t s : ℕ) → times s (map (reader_of g) (pair_edges_out g t)) ≡ bit (reads_loop g.reads (loop_of g s) (loop_of g t) && (vector_of g s == vector_of g t))
+  fed_pairs : (t s : ℕ) → times s (map (reader_of g) (pair_edges_out g t))
+      ≡ bit (reads_loop g.reads (loop_of g s) (loop_of g t) && (vector_of g s == vector_of g t))
   fed_pairs t s = ends_count t (λ k. (pair_at g k).source) (λ k. (pair_at g k).reader) (reader_of g)
       (λ k h. pair_reader k (vector_of g t) h) low_reader near_source s (reads_loop g.reads (loop_of g s) (loop_of g t))
       (λ k l a b. loop_at g.reads (loop_of g s) (loop_of g t) k l b a)
@@ -227,17 +243,22 @@ module _ (g : Tasks) (ig : IsGraph g) where
       let q : (s / g.loops + 1) * g.loops ≡ suc (s / g.loops) * g.loops = ap (λ n. n * g.loops) (omega arith) in
       bits_agree ((loop_of g s == loop_of g t) && ((vector_of g s + 1) == vector_of g t)) ((s + g.loops) == t)
       (λ h. let b = both_true (loop_of g s == loop_of g t) ((vector_of g s + 1) == vector_of g t) h in
-      let l = eq_of (loop_of g s) (loop_of g t) b.0 in let v = ap (λ n. n * g.loops) (eq_of (vector_of g s + 1) (vector_of g t) b.1) in eq-eqb (s + g.loops) t (omega arith))
+      let l = eq_of (loop_of g s) (loop_of g t) b.0 in let v = ap (λ n. n * g.loops) (eq_of (vector_of g s + 1) (vector_of g t) b.1) in
+      eq-eqb (s + g.loops) t (omega arith))
       (λ h. let e = eq_of (s + g.loops) t h in
       let u = unique (s / g.loops + 1) (s % g.loops) (t / g.loops) (t % g.loops) g.loops ls lt (omega arith) in
-      both_of (loop_of g s == loop_of g t) ((vector_of g s + 1) == vector_of g t) (eq-eqb (loop_of g s) (loop_of g t) u.1) (eq-eqb (vector_of g s + 1) (vector_of g t) u.0))
+      both_of (loop_of g s == loop_of g t) ((vector_of g s + 1) == vector_of g t) (eq-eqb (loop_of g s) (loop_of g t) u.1)
+      (eq-eqb (vector_of g s + 1) (vector_of g t) u.0))
 
-  read_parts : (t s : ℕ) → bit (reads_task g (task_of g t) (task_of g s)) ≡ bit ((s + g.loops) == t) + bit (reads_loop g.reads (loop_of g t) (loop_of g s) && (vector_of g s == vector_of g t))
+  read_parts : (t s : ℕ) → bit (reads_task g (task_of g t) (task_of g s))
+      ≡ bit ((s + g.loops) == t) + bit (reads_loop g.reads (loop_of g t) (loop_of g s) && (vector_of g s == vector_of g t))
   read_parts t s =
       let n = next_task t s in
-      let e = bit_either ((loop_of g s == loop_of g t) && ((vector_of g s + 1) == vector_of g t)) (reads_loop g.reads (loop_of g t) (loop_of g s) && (vector_of g s == vector_of g t))
+      let e = bit_either ((loop_of g s == loop_of g t) && ((vector_of g s + 1) == vector_of g t))
+      (reads_loop g.reads (loop_of g t) (loop_of g s) && (vector_of g s == vector_of g t))
       (λ a b. let x = eq_of (vector_of g s + 1) (vector_of g t) (both_true (loop_of g s == loop_of g t) ((vector_of g s + 1) == vector_of g t) a).1 in
-      let y = eq_of (vector_of g s) (vector_of g t) (both_true (reads_loop g.reads (loop_of g t) (loop_of g s)) (vector_of g s == vector_of g t) b).1 in omega arith) in omega arith
+      let y = eq_of (vector_of g s) (vector_of g t) (both_true (reads_loop g.reads (loop_of g t) (loop_of g s)) (vector_of g s == vector_of g t) b).1 in
+      omega arith) in omega arith
 
   pub reads : (t s : ℕ) → t < task_count g → s < task_count g → times s (map (source_of g) (needs_of g t)) ≡ bit (reads_task g (task_of g t) (task_of g s))
   reads t s there also =
@@ -245,7 +266,8 @@ module _ (g : Tasks) (ig : IsGraph g) where
       dite (dec_le g.loops t)
       (λ l. ap (λ b. times s (map (source_of g) (cond b (pair_edges_into g t) (inward g t)))) (not_ltb t g.loops l)
       ∙ (let c = chain_source (loop_of g t) (vector_of g t) lt in
-      let some : 0 < t / g.loops = dite (ℕ_discrete (t / g.loops) 0) (λ z. let q : t / g.loops * g.loops ≡ 0 * g.loops = ap (λ n. n * g.loops) z in absurd (omega arith)) (λ n. omega arith) in
+      let some : 0 < t / g.loops = dite (ℕ_discrete (t / g.loops) 0)
+      (λ z. let q : t / g.loops * g.loops ≡ 0 * g.loops = ap (λ n. n * g.loops) z in absurd (omega arith)) (λ n. omega arith) in
       let m = suc-mul (t / g.loops - 1) g.loops in
       let q : t / g.loops * g.loops ≡ suc (t / g.loops - 1) * g.loops = ap (λ n. n * g.loops) (omega arith) in
       let same : bit (source_of g (chain_edge g (loop_of g t) (vector_of g t)) == s) ≡ bit ((s + g.loops) == t) =
@@ -258,8 +280,10 @@ module _ (g : Tasks) (ig : IsGraph g) where
   pub feeds : (t s : ℕ) → t < task_count g → s < task_count g → times s (map (reader_of g) (feeds_of g t)) ≡ bit (reads_task g (task_of g s) (task_of g t))
   feeds t s there also =
       let p = fed_pairs t s in let r = read_parts s t in let pt = div-add-mod' t g.loops in let lt = mod-lt t ig.some_loop in
-      let swap : bit (reads_loop g.reads (loop_of g s) (loop_of g t) && (vector_of g s == vector_of g t)) ≡ bit (reads_loop g.reads (loop_of g s) (loop_of g t) && (vector_of g t == vector_of g s)) =
-      bits_agree (reads_loop g.reads (loop_of g s) (loop_of g t) && (vector_of g s == vector_of g t)) (reads_loop g.reads (loop_of g s) (loop_of g t) && (vector_of g t == vector_of g s))
+      let swap : bit (reads_loop g.reads (loop_of g s) (loop_of g t) && (vector_of g s == vector_of g t))
+      ≡ bit (reads_loop g.reads (loop_of g s) (loop_of g t) && (vector_of g t == vector_of g s)) =
+      bits_agree (reads_loop g.reads (loop_of g s) (loop_of g t) && (vector_of g s == vector_of g t))
+      (reads_loop g.reads (loop_of g s) (loop_of g t) && (vector_of g t == vector_of g s))
       (λ h. let b = both_true (reads_loop g.reads (loop_of g s) (loop_of g t)) (vector_of g s == vector_of g t) h in
       both_of (reads_loop g.reads (loop_of g s) (loop_of g t)) (vector_of g t == vector_of g s) b.0
       (eq-eqb (vector_of g t) (vector_of g s) (sym (eq_of (vector_of g s) (vector_of g t) b.1))))
@@ -273,15 +297,25 @@ module _ (g : Tasks) (ig : IsGraph g) where
       ∙ (let c = chain_reader (loop_of g t) (vector_of g t + 1) lt in
       let m = suc-mul (t / g.loops) g.loops in
       let q : (t / g.loops + 1) * g.loops ≡ suc (t / g.loops) * g.loops = ap (λ n. n * g.loops) (omega arith) in
-      let same : bit (reader_of g (chain_edge g (loop_of g t) (vector_of g t + 1)) == s) ≡ bit ((t + g.loops) == s) = ap (λ k. bit (k == s)) (c ∙ omega arith) in omega arith))
+      let same : bit (reader_of g (chain_edge g (loop_of g t) (vector_of g t + 1)) == s) ≡ bit ((t + g.loops) == s) =
+      ap (λ k. bit (k == s)) (c ∙ omega arith) in omega arith))
 
   pub reads_law : (t : ℕ) → t < task_count g → ReadsLaw g t
-  reads_law t there = record { reads = λ s h. reads t s there h; feeds = λ s h. feeds t s there h; sources_rise = sources_rise t; readers_rise = readers_rise t }
+  reads_law t there = record {
+    reads = λ s h. reads t s there h;
+    feeds = λ s h. feeds t s there h;
+    sources_rise = sources_rise t;
+    readers_rise = readers_rise t;
+  }
 
   -- the edge through which a task reads another
-  pub source_found : (t s : ℕ) → t < task_count g → s < task_count g → reads_task g (task_of g t) (task_of g s) ≡ true → (e : ℕ) × (0 < times e (needs_of g t)) × (source_of g e ≡ s)
+  pub source_found : (t s : ℕ) → t < task_count g → s < task_count g → reads_task g (task_of g t) (task_of g s) ≡ true
+      → (e : ℕ) × (0 < times e (needs_of g t)) × (source_of g e ≡ s)
   source_found t s there also h =
       let one = reads t s there also ∙ ap bit h in
       let at = place (map (source_of g) (needs_of g t)) s (omega arith) in
-      let l : at.0 < length (needs_of g t) = let q = length_map (source_of g) (needs_of g t) in let m = at.1 in omega arith in
-      (get_or (needs_of g t) at.0 0, stands (needs_of g t) (get_or (needs_of g t) at.0 0) at.0 0 l refl, sym (get_map (source_of g) (needs_of g t) at.0 0 l) ∙ at.2)
+      let l : at.0 < length (needs_of g t) = let q = length_map (source_of g) (needs_of g t) in let m = at.1 in omega arith in (
+        get_or (needs_of g t) at.0 0,
+        stands (needs_of g t) (get_or (needs_of g t) at.0 0) at.0 0 l refl,
+        sym (get_map (source_of g) (needs_of g t) at.0 0 l) ∙ at.2,
+      )

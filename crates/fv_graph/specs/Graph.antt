@@ -1,6 +1,7 @@
 -- Tasks and edges by their numbers. A vector has `stride` edges: the edge into each loop's task, and then one for each pair.
 -- No number depends on how many vectors there are, so that fewer vectors are a beginning of the same lists.
-use Rattle.std.specs.Prelude.{◌≡◌, ℕ, ◌+◌, ◌-◌, ◌*◌, ◌/◌, ◌%◌, ◌<◌, Bool, true, cond, ◌&&◌, ◌||◌, not, List, ◌∷◌, map, length, ltb, leb, ◌==◌, slice_index_or, refl}
+use Rattle.std.specs.Prelude.{◌≡◌, ℕ, ◌+◌, ◌-◌, ◌*◌, ◌/◌, ◌%◌, ◌<◌, Bool, true, cond, ◌&&◌, ◌||◌, not, List}
+use Rattle.std.specs.Prelude.{◌∷◌, map, length, ltb, leb, ◌==◌, slice_index_or, refl}
 use Rattle.std.specs.Coded.{Coded, code_by, coded×, coded_ℕ}
 use Rattle.fv_outside.specs.Tasks.{Tasks, coded_tasks, task_count, bit, total}
 use Rattle.fv_outside.specs.declared.tasks.Reads.{Reads}
@@ -78,11 +79,13 @@ place_in g e = e % stride g
 
 -- of an edge that is no entry edge
 abbrev pub source_of : Tasks → ℕ → ℕ
-source_of g e = cond (ltb (place_in g e) g.loops) (task_at g (place_in g e) (e / stride g - 1)) (task_at g (pair_at g (place_in g e - g.loops)).source (e / stride g))
+source_of g e = cond (ltb (place_in g e) g.loops) (task_at g (place_in g e) (e / stride g - 1))
+    (task_at g (pair_at g (place_in g e - g.loops)).source (e / stride g))
 
 -- of an edge that is no exit edge
 abbrev pub reader_of : Tasks → ℕ → ℕ
-reader_of g e = cond (ltb (place_in g e) g.loops) (task_at g (place_in g e) (e / stride g)) (task_at g (pair_at g (place_in g e - g.loops)).reader (e / stride g))
+reader_of g e = cond (ltb (place_in g e) g.loops) (task_at g (place_in g e) (e / stride g))
+    (task_at g (pair_at g (place_in g e - g.loops)).reader (e / stride g))
 
 -- the inner edges among them
 abbrev pub needs_of : Tasks → ℕ → List ℕ
@@ -109,7 +112,8 @@ is_before a b = ltb a.reader b.reader || ((a.reader == b.reader) && ltb a.source
 
 -- what a caller of `Tasks::new` shows of the pairs: each source is below its reader, each reader is a loop, and no pair stands twice
 pub record ArePairs (loops : ℕ) (reads : List Reads) : Type 0 where
-  pub in_order : (k : ℕ) → k < length reads → ((slice_index_or reads k no_reads).source < (slice_index_or reads k no_reads).reader) × ((slice_index_or reads k no_reads).reader < loops)
+  pub in_order : (k : ℕ) → k < length reads → ((slice_index_or reads k no_reads).source < (slice_index_or reads k no_reads).reader)
+      × ((slice_index_or reads k no_reads).reader < loops)
   pub once : (j i : ℕ) → total (λ r. bit ((r.reader == j) && (r.source == i))) reads < 2
 
 -- what all tasks meet: the pairs rise, by reader and then by source

@@ -26,6 +26,7 @@ loop-task-preserved c =
     let same : c.deref.result.now ≡ group_of c.args.groups.now own = c.deref.ensures.value ∙ ap (λ (v : Vec ℕ). v.items) c.index-groups-own.is
     ∙ sym (get_map (λ (v : Vec ℕ). v.items) c.args.groups.now own c.index-groups-own.result [] (omega arith)) in
     let is : c.in_ok-edges.edges.items ≡ edges_at c.args.loops c.args.stride c.args.ahead c.args.groups.now t =
-    c.in_ok-edges.ensures ∙ ap (λ xs. (t / c.args.loops * c.args.stride + own + c.args.ahead) ∷ map (λ k. t / c.args.loops * c.args.stride + c.args.loops + k) xs) same in
+    c.in_ok-edges.ensures ∙ ap (λ xs. (t / c.args.loops * c.args.stride + own + c.args.ahead) ∷ map
+    (λ k. t / c.args.loops * c.args.stride + c.args.loops + k) xs) same in
     subst (λ (xs : List (Vec ℕ)). AreLists (edges_at c.args.loops c.args.stride c.args.ahead c.args.groups.now) (t + 1) xs) (sym c.in_ok-push.ensures.items)
     (lists_push (edges_at c.args.loops c.args.stride c.args.ahead c.args.groups.now) c.loop-task.lists.items c.in_ok-edges.edges t c.loop-task.invariant is)

@@ -6,7 +6,8 @@ use Rattle.fv_graph.proofs.sorted.sorted.Goals as goal
 
 pub returns-clause-permutation : goal.returns-clause-permutation
 returns-clause-permutation c = IsPermutation-trans _ _ _
-    (subst (λ (l : List Reads). IsPermutation l c.sort_by_key.new.self.items) c.in_ok-pairs.ensures.items c.sort_by_key.ensures.permutation) c.sort_by_key-2.ensures.permutation
+    (subst (λ (l : List Reads). IsPermutation l c.sort_by_key.new.self.items) c.in_ok-pairs.ensures.items c.sort_by_key.ensures.permutation)
+    c.sort_by_key-2.ensures.permutation
 
 pub returns-clause-readers : goal.returns-clause-readers
 returns-clause-readers c = IsNonDecreasingBy-from_sort_by_key (λ (r : Reads). r.reader) _ c.in_ok-sort_by_key-2.ensures.sorted (λ a r q k. search rules)
