@@ -6,7 +6,8 @@ use Rattle.fv_components.specs.Reach.{Links, at, Leads, Reaches}
 use Rattle.fv_components.specs.declared.search.Mark.{Mark}
 use Rattle.fv_components.specs.declared.search.Mark.TheVariants.{New, Open, Done}
 use Rattle.fv_components.specs.declared.search.Class.{Class}
-use Rattle.fv_components.specs.Search.{State, no_class, mark, class, Together, Followed, Finished, Before, Waiting, IsMarked, IsStacked, IsReaching, IsDone, AreFollowed, IsSearch, IsClosed}
+use Rattle.fv_components.specs.Search.{State, no_class, mark, class, Together, Followed, Finished, Before, Waiting, IsMarked}
+use Rattle.fv_components.specs.Search.{IsStacked, IsReaching, IsDone, AreFollowed, IsSearch, IsClosed}
 use Rattle.fv_components.proofs.Held.{no_later}
 
 -- what a node's mark comes to where the class that begins at place first is done
@@ -25,7 +26,8 @@ fate st new first s c = go (mark st s) refl
       | inr l ↦ Given j e (omega arith) (c.given s j e (omega arith))
     ]
 
-module _ (next : Links) (n : ℕ) (st new : State) (front : List Class) (last : Class) (is : st.classes ≡ front ++ last ∷ []) (left : new.classes ≡ front) (closed : IsClosed st new last.first)
+module _ (next : Links) (n : ℕ) (st new : State) (front : List Class) (last : Class) (is : st.classes ≡ front ++ last ∷ []) (left : new.classes ≡ front)
+    (closed : IsClosed st new last.first)
     (spent : length st.pending ≤ last.waiting) (s : IsSearch next n (λ b. ⊥) st) where
   longer : length st.classes ≡ length front + 1
   longer = ap length is ∙ length_push front last
@@ -52,7 +54,8 @@ module _ (next : Links) (n : ℕ) (st new : State) (front : List Class) (last : 
   path_is i l = ap (λ xs. at xs i) closed.path ∙ get_or-take last.first st.path i 0 l
 
   none_later : (c : ℕ) → c < length st.classes → (class st c).first ≤ last.first
-  none_later c l = subst (λ x. (class st c).first ≤ x.first) (ap (class st) (let z : length st.classes - 1 ≡ length front = omega (arith, longer) in z) ∙ last_is) (no_later n st s.stacked c l)
+  none_later c l = subst (λ x. (class st c).first ≤ x.first)
+      (ap (class st) (let z : length st.classes - 1 ≡ length front = omega (arith, longer) in z) ∙ last_is) (no_later n st s.stacked c l)
 
   earlier : (c : ℕ) → c < length front → (class st c).first < last.first
   earlier c l = subst (λ x. (class st c).first < x.first) last_is (s.stacked.rising c (length front) l (omega (arith, longer))).0
@@ -84,12 +87,16 @@ module _ (next : Links) (n : ℕ) (st new : State) (front : List Class) (last : 
 
   stacked : IsStacked n new
   stacked = record {
-    firsts = λ c l. let q : c < length front = omega (arith, fewer) in subst (λ x. x.first < length new.path) (sym (class_is c q)) (omega (arith, earlier c q, shorter));
-    waits = λ c l. let q : c < length front = omega (arith, fewer) in subst (λ x. x.waiting ≤ length new.pending) (sym (class_is c q)) (omega (arith, s.stacked.waits c (omega (arith, longer)), ap length closed.pending));
+    firsts = λ c l. let q : c < length front = omega (arith, fewer) in
+        subst (λ x. x.first < length new.path) (sym (class_is c q)) (omega (arith, earlier c q, shorter));
+    waits = λ c l. let q : c < length front = omega (arith, fewer) in
+        subst (λ x. x.waiting ≤ length new.pending) (sym (class_is c q)) (omega (arith, s.stacked.waits c (omega (arith, longer)), ap length closed.pending));
     rising = λ b c h l. let q : c < length front = omega (arith, fewer) in
         subst (λ x. ((class new b).first < x.first) × ((class new b).waiting ≤ x.waiting)) (sym (class_is c q))
-        (subst (λ x. (x.first < (class st c).first) × (x.waiting ≤ (class st c).waiting)) (sym (class_is b (omega arith))) (s.stacked.rising b c h (omega (arith, longer))));
-    some = λ l. elim (cases_lt 0 (length front)) [ inl h ↦ omega (arith, fewer) | inr h ↦ absurd (let z = bottom_first (omega arith) in omega (arith, shorter)) ];
+        (subst (λ x. (x.first < (class st c).first) × (x.waiting ≤ (class st c).waiting)) (sym (class_is b (omega arith)))
+        (s.stacked.rising b c h (omega (arith, longer))));
+    some =
+        λ l. elim (cases_lt 0 (length front)) [ inl h ↦ omega (arith, fewer) | inr h ↦ absurd (let z = bottom_first (omega arith) in omega (arith, shorter)) ];
     bottom = elim (cases_lt 0 (length front)) [
       | inl h ↦ ap (λ x. x.first) (class_is 0 h) ∙ s.stacked.bottom
       | inr h ↦ ap (λ x. x.first) (get_or_past new.classes 0 no_class (omega (arith, fewer)))
@@ -104,7 +111,8 @@ module _ (next : Links) (n : ℕ) (st new : State) (front : List Class) (last : 
   together_back : (a b : ℕ) → b < last.first → Together new a b → Together st a b
   together_back a b le t c l h = elim (cases_lt c (length front)) [
     | inl q ↦ subst (λ x. x.first ≤ a) (class_is c q) (t c (omega (arith, fewer)) (subst (λ x. x.first ≤ b) (sym (class_is c q)) h))
-    | inr q ↦ absurd (let z : c ≡ length front = omega (arith, longer) in let y : last.first ≤ b = subst (λ x. x.first ≤ b) (ap (class st) z ∙ last_is) h in omega arith)
+    | inr q ↦ absurd (let z : c ≡ length front = omega (arith, longer) in
+        let y : last.first ≤ b = subst (λ x. x.first ≤ b) (ap (class st) z ∙ last_is) h in omega arith)
   ]
 
   reaching : IsReaching next new
@@ -112,13 +120,16 @@ module _ (next : Links) (n : ℕ) (st new : State) (front : List Class) (last : 
     where
       down : (i j : ℕ) → i ≤ j → j < length new.path → Reaches next (at new.path i) (at new.path j)
       down i j h l = let q : j < last.first = omega (arith, shorter) in
-          subst (λ x. Reaches next x (at new.path j)) (sym (path_is i (omega arith))) (subst (λ x. Reaches next (at st.path i) x) (sym (path_is j q)) (s.reaching.down i j h (omega (arith, first_within))))
+          subst (λ x. Reaches next x (at new.path j)) (sym (path_is i (omega arith)))
+          (subst (λ x. Reaches next (at st.path i) x) (sym (path_is j q)) (s.reaching.down i j h (omega (arith, first_within))))
 
       up : (i j : ℕ) → i ≤ j → j < length new.path → Together new i j → Reaches next (at new.path j) (at new.path i)
       up i j h l t = let q : j < last.first = omega (arith, shorter) in
-          subst (λ x. Reaches next (at new.path j) x) (sym (path_is i (omega arith))) (subst (λ x. Reaches next x (at st.path i)) (sym (path_is j q)) (s.reaching.up i j h (omega (arith, first_within)) (together_back i j q t)))
+          subst (λ x. Reaches next (at new.path j) x) (sym (path_is i (omega arith)))
+          (subst (λ x. Reaches next x (at st.path i)) (sym (path_is j q)) (s.reaching.up i j h (omega (arith, first_within)) (together_back i j q t)))
 
-      leads : (c k : ℕ) → c < length new.classes → (class new c).waiting ≤ k → k < length new.pending → Reaches next (at new.path (class new c).first) (at new.pending k)
+      leads : (c k : ℕ) → c < length new.classes → (class new c).waiting ≤ k → k < length new.pending
+          → Reaches next (at new.path (class new c).first) (at new.pending k)
       leads c k l h m = let q : c < length front = omega (arith, fewer) in
           subst (λ x. Reaches next (at new.path x.first) (at new.pending k)) (sym (class_is c q))
           (subst (λ x. Reaches next x (at new.pending k)) (sym (path_is (class st c).first (earlier c q)))
@@ -135,7 +146,8 @@ module _ (next : Links) (n : ℕ) (st new : State) (front : List Class) (last : 
       let f : last.first ≤ p = subst (λ x. x.first ≤ p) last_is (t (length front) (omega (arith, longer)) (subst (λ x. x.first ≤ j) (sym last_is) l)) in
       (st.count, closed.given b p o f, omega arith)
   leads_done j b l (Waiting k h e w) =
-      absurd (let f : last.waiting ≤ k = subst (λ x. x.waiting ≤ k) last_is (w (length front) (omega (arith, longer)) (subst (λ x. x.first ≤ j) (sym last_is) l)) in omega arith)
+      absurd (let f : last.waiting ≤ k = subst (λ x. x.waiting ≤ k) last_is
+      (w (length front) (omega (arith, longer)) (subst (λ x. x.first ≤ j) (sym last_is) l)) in omega arith)
 
   at_place : (a i : ℕ) → mark st a ≡ Open i → (i < length st.path) × (at st.path i ≡ a)
   at_place a i o = s.marked.placed a i o
@@ -194,7 +206,8 @@ module _ (next : Links) (n : ℕ) (st new : State) (front : List Class) (last : 
         | inr q ↦ Finished st.count (closed.given b p o (omega arith))
       ]
       kept i b (Waiting k m e w) = Waiting k (omega (arith, ap length closed.pending)) (ap (λ xs. at xs k) closed.pending ∙ e)
-          (λ c o g. let q : c < length front = omega (arith, fewer) in subst (λ x. x.waiting ≤ k) (sym (class_is c q)) (w c (omega (arith, longer)) (subst (λ x. x.first ≤ i) (class_is c q) g)))
+          (λ c o g. let q : c < length front = omega (arith, fewer) in
+          subst (λ x. x.waiting ≤ k) (sym (class_is c q)) (w c (omega (arith, longer)) (subst (λ x. x.first ≤ i) (class_is c q) g)))
 
   pub closes : IsSearch next n (λ b. ⊥) new
   closes = record { marked = marked; stacked = stacked; reaching = reaching; done = done; followed = followed }

@@ -13,7 +13,8 @@ no_later n st k c m = elim (cases_eq c (length st.classes - 1)) [
 ]
 
 -- each place of the path reaches the node
-pub to_held : (next : Links) (n : ℕ) (st : State) (w : ℕ) → IsHeld next n st w → IsStacked n st → IsReaching next st → (i : ℕ) → i < length st.path → Reaches next (at st.path i) w
+pub to_held : (next : Links) (n : ℕ) (st : State) (w : ℕ) → IsHeld next n st w → IsStacked n st → IsReaching next st → (i : ℕ) → i < length st.path
+    → Reaches next (at st.path i) w
 to_held next n st w held k r i l =
     let some : 0 < length st.classes = k.some (omega arith) in
     reaches_trans (to_last some) (held.reached (length st.classes - 1) (omega arith))

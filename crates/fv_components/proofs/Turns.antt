@@ -1,10 +1,11 @@
 -- A node that waited is looked at, and where it stands on the path, classes become one.
-use Rattle.std.proofs.Common.{◌≡◌, ◌⊎◌, inl, inr, ℕ, ◌+◌, ◌<◌, ◌≤◌, List, [], ◌∷◌, ◌++◌, length, refl, sym, ap, subst, ◌∙◌, arith}
+use Rattle.std.proofs.Common.{◌≡◌, ◌⊎◌, inl, inr, ℕ, ◌+◌, ◌-◌, ◌<◌, ◌≤◌, List, [], ◌∷◌, ◌++◌, length, refl, sym, ap, subst, ◌∙◌, arith}
 use Rattle.std.proofs.lemmas.List.{length_push, get_or_push, get_or_append_left, get_or-take, length-take-le}
-use Rattle.std.proofs.lemmas.Bool.{cases_lt}
+use Rattle.std.proofs.lemmas.Bool.{cases_eq, cases_lt}
 use Rattle.fv_components.specs.Reach.{Links, at, Reaches}
 use Rattle.fv_components.specs.declared.search.Mark.TheVariants.{Open, Done}
-use Rattle.fv_components.specs.Search.{State, no_class, mark, class, Together, Followed, Finished, Before, Waiting, IsSearch, IsHeld, collapsed}
+use Rattle.fv_components.specs.Search.{State, no_class, mark, class, Together, Followed, Finished, Before, Waiting, IsSearch, IsHeld, IsCountUpTo}
+use Rattle.fv_components.specs.Search.{collapsed}
 use Rattle.fv_components.proofs.Walks.{reaches_trans}
 use Rattle.fv_components.proofs.Held.{to_held}
 
@@ -12,7 +13,8 @@ use Rattle.fv_components.proofs.Held.{to_held}
 abbrev pub popped : State → List ℕ → State
 popped st rest = record st { pending = rest }
 
-module _ (next : Links) (n : ℕ) (st : State) (rest : List ℕ) (w : ℕ) (is : st.pending ≡ rest ++ w ∷ []) (waits : (c : ℕ) → c < length st.classes → (class st c).waiting ≤ length rest) (s : IsSearch next n (λ b. ⊥) st) where
+module _ (next : Links) (n : ℕ) (st : State) (rest : List ℕ) (w : ℕ) (is : st.pending ≡ rest ++ w ∷ [])
+    (waits : (c : ℕ) → c < length st.classes → (class st c).waiting ≤ length rest) (s : IsSearch next n (λ b. ⊥) st) where
   longer : length st.pending ≡ length rest + 1
   longer = ap length is ∙ length_push rest w
 
@@ -25,7 +27,8 @@ module _ (next : Links) (n : ℕ) (st : State) (rest : List ℕ) (w : ℕ) (is :
   pub held_popped : IsHeld next n (popped st rest) w
   held_popped = record {
     inside = subst (λ k. k < n) at_end (s.stacked.inside (length rest) (omega (arith, longer)));
-    reached = λ c l. subst (λ x. Reaches next (at st.path (class st c).first) x) at_end (s.reaching.leads c (length rest) l (waits c l) (omega (arith, longer)));
+    reached = λ c l. subst (λ x. Reaches next (at st.path (class st c).first) x) at_end
+        (s.reaching.leads c (length rest) l (waits c l) (omega (arith, longer)));
   }
 
   off : ℕ → Type 0
@@ -34,8 +37,19 @@ module _ (next : Links) (n : ℕ) (st : State) (rest : List ℕ) (w : ℕ) (is :
   pub search_popped : IsSearch next n (λ b. b ≡ w) (popped st rest)
   search_popped = record {
     marked = record { long = s.marked.long; inside = s.marked.inside; opened = s.marked.opened; placed = s.marked.placed };
-    stacked = record { firsts = s.stacked.firsts; waits = waits; rising = s.stacked.rising; some = s.stacked.some; bottom = s.stacked.bottom; inside = λ k l. subst (λ x. x < n) (at_rest k l) (s.stacked.inside k (omega (arith, longer))) };
-    reaching = record { down = s.reaching.down; up = s.reaching.up; leads = λ c k l h m. subst (λ x. Reaches next (at st.path (class st c).first) x) (at_rest k m) (s.reaching.leads c k l h (omega (arith, longer))) };
+    stacked = record {
+      firsts = s.stacked.firsts;
+      waits = waits;
+      rising = s.stacked.rising;
+      some = s.stacked.some;
+      bottom = s.stacked.bottom;
+      inside = λ k l. subst (λ x. x < n) (at_rest k l) (s.stacked.inside k (omega (arith, longer)));
+    };
+    reaching = record {
+      down = s.reaching.down;
+      up = s.reaching.up;
+      leads = λ c k l h m. subst (λ x. Reaches next (at st.path (class st c).first) x) (at_rest k m) (s.reaching.leads c k l h (omega (arith, longer)));
+    };
     done = record { closed = s.done.closed; counted = s.done.counted; alike = s.done.alike };
     followed = λ i b l h. followed i b (s.followed i b l h);
   }
@@ -54,15 +68,27 @@ module _ (next : Links) (n : ℕ) (st : State) (rest : List ℕ) (w : ℕ) (is :
 
 -- a node that is done needs no more
 pub skips : (next : Links) (n : ℕ) (st : State) (w k : ℕ) → mark st w ≡ Done k → IsSearch next n (λ b. b ≡ w) st → IsSearch next n (λ b. ⊥) st
-skips next n st w k d s = record { marked = s.marked; stacked = s.stacked; reaching = s.reaching; done = s.done; followed = λ i b l h. inl (elim (s.followed i b l h) [ inl f ↦ f | inr e ↦ Finished k (ap (mark st) e ∙ d) ]) }
+skips next n st w k d s = record {
+  marked = s.marked;
+  stacked = s.stacked;
+  reaching = s.reaching;
+  done = s.done;
+  followed = λ i b l h. inl (elim (s.followed i b l h) [ inl f ↦ f | inr e ↦ Finished k (ap (mark st) e ∙ d) ]);
+}
 
-module _ (next : Links) (n : ℕ) (st : State) (w i m : ℕ) (stands : mark st w ≡ Open i) (held : IsHeld next n st w) (few : m ≤ length st.classes)
-    (up_to : (c : ℕ) → c < m → (class st c).first ≤ i) (behind : (c : ℕ) → m ≤ c → c < length st.classes → i < (class st c).first) (s : IsSearch next n (λ b. b ≡ w) st) where
+module _ (next : Links) (n : ℕ) (st : State) (w i m : ℕ) (stands : mark st w ≡ Open i) (held : IsHeld next n st w)
+    (count : IsCountUpTo st.classes i m) (s : IsSearch next n (λ b. b ≡ w) st) where
   abbrev new : State
   new = collapsed st m
 
   long : length new.classes ≡ m
-  long = length-take-le m st.classes few
+  long = length-take-le m st.classes count.few
+
+  up_to : (c : ℕ) → c < m → (class st c).first ≤ i
+  up_to c l = elim (cases_eq c (m - 1)) [
+    | inl e ↦ subst (λ x. (class st x).first ≤ i) (sym e) (count.last no_class (omega arith))
+    | inr e ↦ omega (arith, (s.stacked.rising c (m - 1) (omega arith) (omega (arith, count.few))).0, count.last no_class (omega arith))
+  ]
 
   class_is : (c : ℕ) → c < m → class new c ≡ class st c
   class_is c l = get_or-take m st.classes c no_class l
@@ -71,7 +97,7 @@ module _ (next : Links) (n : ℕ) (st : State) (w i m : ℕ) (stands : mark st w
   place = s.marked.placed w i stands
 
   in_front : (c : ℕ) → c < length st.classes → (class st c).first ≤ i → c < m
-  in_front c l h = elim (cases_lt c m) [ inl p ↦ p | inr p ↦ absurd (let z = behind c (omega arith) l in omega arith) ]
+  in_front c l h = elim (cases_lt c m) [ inl p ↦ p | inr p ↦ absurd (let z = count.behind c no_class (omega arith) l in omega arith) ]
 
   some : 0 < length st.classes
   some = s.stacked.some (omega (arith, place.0))
@@ -111,7 +137,8 @@ module _ (next : Links) (n : ℕ) (st : State) (w i m : ℕ) (stands : mark st w
       waits = λ c l. let q : c < m = omega (arith, long) in subst (λ x. x.waiting ≤ length st.pending) (sym (class_is c q)) (s.stacked.waits c (omega arith));
       rising = λ b c h l. let q : c < m = omega (arith, long) in
           subst (λ x. ((class new b).first < x.first) × ((class new b).waiting ≤ x.waiting)) (sym (class_is c q))
-          (subst (λ x. (x.first < (class st c).first) × (x.waiting ≤ (class st c).waiting)) (sym (class_is b (omega arith))) (s.stacked.rising b c h (omega arith)));
+          (subst (λ x. (x.first < (class st c).first) × (x.waiting ≤ (class st c).waiting)) (sym (class_is b (omega arith)))
+          (s.stacked.rising b c h (omega arith)));
       some = λ _. omega (arith, long, few_some);
       bottom = ap (λ x. x.first) (class_is 0 few_some) ∙ s.stacked.bottom;
       inside = s.stacked.inside;
@@ -120,7 +147,8 @@ module _ (next : Links) (n : ℕ) (st : State) (w i m : ℕ) (stands : mark st w
       down = s.reaching.down;
       up = up;
       leads = λ c k l h e. let q : c < m = omega (arith, long) in
-          subst (λ x. Reaches next (at st.path x.first) (at st.pending k)) (sym (class_is c q)) (s.reaching.leads c k (omega arith) (subst (λ x. x.waiting ≤ k) (class_is c q) h) e);
+          subst (λ x. Reaches next (at st.path x.first) (at st.pending k)) (sym (class_is c q))
+          (s.reaching.leads c k (omega arith) (subst (λ x. x.waiting ≤ k) (class_is c q) h) e);
     };
     done = record { closed = s.done.closed; counted = s.done.counted; alike = s.done.alike };
     followed = λ j b l h. inl (elim (s.followed j b l h) [

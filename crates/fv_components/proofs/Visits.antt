@@ -5,7 +5,8 @@ use Rattle.std.proofs.lemmas.Bool.{cases_lt}
 use Rattle.fv_components.specs.Reach.{Links, at, Leads, Reaches, AreLinks}
 use Rattle.fv_components.specs.declared.search.Mark.TheVariants.{New, Open, Done}
 use Rattle.fv_components.specs.declared.search.Class.{Class}
-use Rattle.fv_components.specs.Search.{State, no_class, mark, class, Together, Followed, Finished, Before, Waiting, IsMarked, IsStacked, IsReaching, IsDone, AreFollowed, IsSearch, IsHeld, visited}
+use Rattle.fv_components.specs.Search.{State, no_class, mark, class, Together, Followed, Finished, Before, Waiting, IsMarked}
+use Rattle.fv_components.specs.Search.{IsStacked, IsReaching, IsDone, AreFollowed, IsSearch, IsHeld, visited}
 use Rattle.fv_components.proofs.Walks.{reaches_trans, reaches_self, reaches_step}
 use Rattle.fv_components.proofs.Held.{to_held}
 use Rattle.fv_components.proofs.Places.{AtSet, Same, Other, at_set, AtPush, Older, Last, at_push, Former, Latter, at_append}
@@ -110,7 +111,8 @@ module _ (next : Links) (n : ℕ) (st : State) (w : ℕ) (held : IsHeld next n s
       bottom : (class new 0).first ≡ 0
       bottom = elim (class_at 0 (omega (arith, long_classes))) [
         | Older p e ↦ ap (λ x. x.first) e ∙ k.bottom
-        | Last p e ↦ ap (λ x. x.first) e ∙ elim (cases_lt 0 (length st.path)) [ inl h ↦ absurd (let z = k.some h in omega arith) | inr h ↦ let z : length st.path ≡ 0 = omega arith in z ]
+        | Last p e ↦ ap (λ x. x.first) e
+            ∙ elim (cases_lt 0 (length st.path)) [ inl h ↦ absurd (let z = k.some h in omega arith) | inr h ↦ let z : length st.path ≡ 0 = omega arith in z ]
       ]
 
       inside : (i : ℕ) → i < length new.pending → at new.pending i < n
@@ -124,7 +126,8 @@ module _ (next : Links) (n : ℕ) (st : State) (w : ℕ) (held : IsHeld next n s
     where
       down : (i j : ℕ) → i ≤ j → j < length new.path → Reaches next (at new.path i) (at new.path j)
       down i j h l = elim (at_push st.path w 0 j l) [
-        | Older p e ↦ subst (λ x. Reaches next x (at new.path j)) (sym (path_old i (omega arith))) (subst (λ x. Reaches next (at st.path i) x) (sym e) (r.down i j h p))
+        | Older p e ↦ subst (λ x. Reaches next x (at new.path j)) (sym (path_old i (omega arith)))
+            (subst (λ x. Reaches next (at st.path i) x) (sym e) (r.down i j h p))
         | Last p e ↦ subst (λ x. Reaches next (at new.path i) x) (sym e) (elim (cases_lt i (length st.path)) [
           | inl o ↦ subst (λ x. Reaches next x w) (sym (path_old i o)) (to_held next n st w held k r i o)
           | inr o ↦ subst (λ x. Reaches next x w) (sym (path_last i (omega arith))) (reaches_self next w)
@@ -133,22 +136,26 @@ module _ (next : Links) (n : ℕ) (st : State) (w : ℕ) (held : IsHeld next n s
 
       up : (i j : ℕ) → i ≤ j → j < length new.path → Together new i j → Reaches next (at new.path j) (at new.path i)
       up i j h l t = elim (at_push st.path w 0 j l) [
-        | Older p e ↦ subst (λ x. Reaches next (at new.path j) x) (sym (path_old i (omega arith))) (subst (λ x. Reaches next x (at st.path i)) (sym e) (r.up i j h p (together_old i j t)))
+        | Older p e ↦ subst (λ x. Reaches next (at new.path j) x) (sym (path_old i (omega arith)))
+            (subst (λ x. Reaches next x (at st.path i)) (sym e) (r.up i j h p (together_old i j t)))
         | Last p e ↦
-            let f : (class new (length st.classes)).first ≡ length st.path = ap (λ x. x.first) (get_or_push st.classes added no_class (length st.classes) refl) in
+            let f : (class new (length st.classes)).first ≡ length st.path =
+            ap (λ x. x.first) (get_or_push st.classes added no_class (length st.classes) refl) in
             let g : (class new (length st.classes)).first ≤ i = t (length st.classes) (omega (arith, long_classes)) (omega arith) in
             let q : at new.path i ≡ w = path_last i (omega arith) in
             subst (λ x. Reaches next (at new.path j) x) (sym q) (subst (λ x. Reaches next x w) (sym e) (reaches_self next w))
       ]
 
-      leads : (c i : ℕ) → c < length new.classes → (class new c).waiting ≤ i → i < length new.pending → Reaches next (at new.path (class new c).first) (at new.pending i)
+      leads : (c i : ℕ) → c < length new.classes → (class new c).waiting ≤ i → i < length new.pending
+          → Reaches next (at new.path (class new c).first) (at new.pending i)
       leads c i l h m = elim (class_at c l) [
         | Older p e ↦
             subst (λ x. Reaches next (at new.path x.first) (at new.pending i)) (sym e)
             (subst (λ x. Reaches next x (at new.pending i)) (sym (path_old (class st c).first (k.firsts c p)))
             (elim (at_append st.pending (next w) 0 i m) [
               | Former q f ↦ subst (λ x. Reaches next (at st.path (class st c).first) x) (sym f) (r.leads c i p (subst (λ x. x.waiting ≤ i) e h) q)
-              | Latter q g f ↦ subst (λ x. Reaches next (at st.path (class st c).first) x) (sym f) (reaches_trans (held.reached c p) (reaches_step (record { place = i - length st.pending; within = g; is = refl })))
+              | Latter q g f ↦ subst (λ x. Reaches next (at st.path (class st c).first) x) (sym f)
+                  (reaches_trans (held.reached c p) (reaches_step (record { place = i - length st.pending; within = g; is = refl })))
             ]))
         | Last p e ↦
             subst (λ x. Reaches next (at new.path x.first) (at new.pending i)) (sym e)
@@ -184,7 +191,11 @@ module _ (next : Links) (n : ℕ) (st : State) (w : ℕ) (held : IsHeld next n s
 
   followed : IsMarked n st → IsStacked n st → AreFollowed next (λ b. b ≡ w) st → AreFollowed next (λ b. ⊥) new
   followed m k f i b l leads = elim (at_push st.path w 0 i l) [
-    | Older p e ↦ inl (elim (f i b p (subst (λ x. Leads next x b) e leads)) [ inl q ↦ older p q | inr q ↦ Before (length st.path) (ap (mark new) q ∙ get_or-set_same st.marks w (Open (length st.path)) New (subst (λ k. w < k) (sym m.long) held.inside)) (λ c o h. omega arith) ])
+    | Older p e ↦ inl (elim (f i b p (subst (λ x. Leads next x b) e leads)) [
+      | inl q ↦ older p q
+      | inr q ↦ Before (length st.path)
+          (ap (mark new) q ∙ get_or-set_same st.marks w (Open (length st.path)) New (subst (λ k. w < k) (sym m.long) held.inside)) (λ c o h. omega arith)
+    ])
     | Last p e ↦ inl (last p (subst (λ x. Leads next x b) e leads))
   ]
     where
@@ -198,13 +209,15 @@ module _ (next : Links) (n : ℕ) (st : State) (w : ℕ) (held : IsHeld next n s
           ])
 
       last : i ≡ length st.path → Leads next w b → Followed new i b
-      last p l = Waiting (length st.pending + l.place) (omega (arith, length-append st.pending (next w), l.within)) (get_or-append-add st.pending (next w) l.place 0 ∙ l.is)
+      last p l = Waiting (length st.pending + l.place) (omega (arith, length-append st.pending (next w), l.within))
+          (get_or-append-add st.pending (next w) l.place 0 ∙ l.is)
           (λ c o g. elim (class_at c o) [
             | Older u v ↦ subst (λ x. x.waiting ≤ length st.pending + l.place) (sym v) (omega (arith, k.waits c u))
             | Last u v ↦ subst (λ x. x.waiting ≤ length st.pending + l.place) (sym v) (omega arith)
           ])
 
-pub visits : (next : Links) (n : ℕ) (st : State) (w : ℕ) → AreLinks next n → IsHeld next n st w → mark st w ≡ New → IsSearch next n (λ b. b ≡ w) st → IsSearch next n (λ b. ⊥) (visited next st w)
+pub visits : (next : Links) (n : ℕ) (st : State) (w : ℕ) → AreLinks next n → IsHeld next n st w → mark st w ≡ New → IsSearch next n (λ b. b ≡ w) st
+    → IsSearch next n (λ b. ⊥) (visited next st w)
 visits next n st w links held fresh s = record {
   marked = marked next n st w held fresh s.marked;
   stacked = stacked next n st w held fresh links s.stacked;

@@ -13,9 +13,12 @@ left_met f i [] w p l e = absurd (omega arith)
 left_met f i (New ∷ ms) zero p l e = let z : i + 0 ≡ i = omega arith in let y = ap f z in omega arith
 left_met f i (Open q ∷ ms) zero p l e = absurd cc
 left_met f i (Done q ∷ ms) zero p l e = absurd cc
-left_met f i (New ∷ ms) (suc w) p l e = let z : suc i + w ≡ i + suc w = omega arith in let y = ap f z in let x = left_met f (suc i) ms w p (omega arith) e in omega arith
-left_met f i (Open q ∷ ms) (suc w) p l e = let z : suc i + w ≡ i + suc w = omega arith in let y = ap f z in let x = left_met f (suc i) ms w p (omega arith) e in omega arith
-left_met f i (Done q ∷ ms) (suc w) p l e = let z : suc i + w ≡ i + suc w = omega arith in let y = ap f z in let x = left_met f (suc i) ms w p (omega arith) e in omega arith
+left_met f i (New ∷ ms) (suc w) p l e = let z : suc i + w ≡ i + suc w = omega arith in let y = ap f z in
+    let x = left_met f (suc i) ms w p (omega arith) e in omega arith
+left_met f i (Open q ∷ ms) (suc w) p l e = let z : suc i + w ≡ i + suc w = omega arith in let y = ap f z in
+    let x = left_met f (suc i) ms w p (omega arith) e in omega arith
+left_met f i (Done q ∷ ms) (suc w) p l e = let z : suc i + w ≡ i + suc w = omega arith in let y = ap f z in
+    let x = left_met f (suc i) ms w p (omega arith) e in omega arith
 
 -- one that was met before counts as before
 pub left_done : (f : ℕ → ℕ) (i : ℕ) (ms : List Mark) (w k : ℕ) → get_or ms w New ≢ New → left f i (set ms w (Done k)) ≡ left f i ms
@@ -38,9 +41,11 @@ pub finished_met : (ms : List Mark) (ss : List ℕ) (k s : ℕ) → get_or ms s 
 finished_met ms [] k s e = e
 finished_met ms (w ∷ ss) k s e = finished_met (set ms w (Done k)) ss k s (stays_met ms w k s e)
 
-pub left_finished : (f : ℕ → ℕ) (ms : List Mark) (ss : List ℕ) (k : ℕ) → ((i : ℕ) → i < length ss → get_or ms (at ss i) New ≢ New) → left f 0 (finished ms ss k) ≡ left f 0 ms
+pub left_finished : (f : ℕ → ℕ) (ms : List Mark) (ss : List ℕ) (k : ℕ) → ((i : ℕ) → i < length ss → get_or ms (at ss i) New ≢ New)
+    → left f 0 (finished ms ss k) ≡ left f 0 ms
 left_finished f ms [] k h = refl
-left_finished f ms (w ∷ ss) k h = left_finished f (set ms w (Done k)) ss k (λ i l. stays_met ms w k (at ss i) (h (suc i) (omega arith))) ∙ left_done f 0 ms w k (h 0 (omega arith))
+left_finished f ms (w ∷ ss) k h = left_finished f (set ms w (Done k)) ss k (λ i l. stays_met ms w k (at ss i) (h (suc i) (omega arith)))
+    ∙ left_done f 0 ms w k (h 0 (omega arith))
 
 pub length_finished : (ms : List Mark) (ss : List ℕ) (k : ℕ) → length (finished ms ss k) ≡ length ms
 length_finished ms [] k = refl
@@ -49,7 +54,8 @@ length_finished ms (w ∷ ss) k = length_finished (set ms w (Done k)) ss k ∙ l
 -- a node that is among them is done, and each other keeps its mark
 pub finished_other : (ms : List Mark) (ss : List ℕ) (k s : ℕ) → ((i : ℕ) → i < length ss → at ss i ≢ s) → get_or (finished ms ss k) s New ≡ get_or ms s New
 finished_other ms [] k s h = refl
-finished_other ms (w ∷ ss) k s h = finished_other (set ms w (Done k)) ss k s (λ i l. h (suc i) (omega arith)) ∙ get_or-set_other ms w s (Done k) New (λ e. h 0 (omega arith) (sym e))
+finished_other ms (w ∷ ss) k s h = finished_other (set ms w (Done k)) ss k s (λ i l. h (suc i) (omega arith))
+    ∙ get_or-set_other ms w s (Done k) New (λ e. h 0 (omega arith) (sym e))
 
 finished_again : (ms : List Mark) (ss : List ℕ) (k s : ℕ) → s < length ms → get_or ms s New ≡ Done k → get_or (finished ms ss k) s New ≡ Done k
 finished_again ms [] k s l e = e
@@ -60,5 +66,6 @@ finished_again ms (w ∷ ss) k s l e = finished_again (set ms w (Done k)) ss k s
 
 pub finished_given : (ms : List Mark) (ss : List ℕ) (k i : ℕ) → i < length ss → at ss i < length ms → get_or (finished ms ss k) (at ss i) New ≡ Done k
 finished_given ms [] k i l m = absurd (omega arith)
-finished_given ms (w ∷ ss) k zero l m = finished_again (set ms w (Done k)) ss k w (omega (arith, length-set ms w (Done k))) (get_or-set_same ms w (Done k) New m)
+finished_given ms (w ∷ ss) k zero l m =
+    finished_again (set ms w (Done k)) ss k w (omega (arith, length-set ms w (Done k))) (get_or-set_same ms w (Done k) New m)
 finished_given ms (w ∷ ss) k (suc i) l m = finished_given (set ms w (Done k)) ss k i (omega arith) (omega (arith, length-set ms w (Done k)))

@@ -38,7 +38,8 @@ Together st a b = (c : ℕ) → c < length st.classes → (class st c).first ≤
 pub data Followed (st : State) (i b : ℕ) : Type 0 where
   Finished : (k : ℕ) → mark st b ≡ Done k → Followed st i b
   Before : (p : ℕ) → mark st b ≡ Open p → Together st p i → Followed st i b
-  Waiting : (k : ℕ) → k < length st.pending → at st.pending k ≡ b → ((c : ℕ) → c < length st.classes → (class st c).first ≤ i → (class st c).waiting ≤ k) → Followed st i b
+  Waiting : (k : ℕ) → k < length st.pending → at st.pending k ≡ b → ((c : ℕ) → c < length st.classes → (class st c).first ≤ i → (class st c).waiting ≤ k)
+      → Followed st i b
 
 -- the marks are those of the path
 pub record IsMarked (n : ℕ) (st : State) : Type 0 where
@@ -60,7 +61,8 @@ pub record IsStacked (n : ℕ) (st : State) : Type 0 where
 pub record IsReaching (next : Links) (st : State) : Type 0 where
   pub down : (i j : ℕ) → i ≤ j → j < length st.path → Reaches next (at st.path i) (at st.path j)
   pub up : (i j : ℕ) → i ≤ j → j < length st.path → Together st i j → Reaches next (at st.path j) (at st.path i)
-  pub leads : (c k : ℕ) → c < length st.classes → (class st c).waiting ≤ k → k < length st.pending → Reaches next (at st.path (class st c).first) (at st.pending k)
+  pub leads : (c k : ℕ) → c < length st.classes → (class st c).waiting ≤ k → k < length st.pending
+      → Reaches next (at st.path (class st c).first) (at st.pending k)
 
 -- what is done leads to what is done, with no greater number, and equal numbers reach one another
 pub record IsDone (next : Links) (n : ℕ) (st : State) : Type 0 where

@@ -3,7 +3,8 @@
 ghost use Rattle.std.specs.Prelude.{◌≡◌, ◌≢◌, ℕ, ◌<◌, ◌≤◌, ◌-◌, List, [], length, replicate, All, IfOk, OnOk, IsTrue, ◌↔◌};
 ghost use Rattle.fv_components.specs.Reach.{next_of, AreLinks, AreComponents};
 ghost use Rattle.fv_components.specs.declared.search.Mark.TheVariants.{New};
-ghost use Rattle.fv_components.specs.Search.{IsHeld, IsRunning, GoesOn, StaysMet, mark, class, work, none, only, visited, IsWalked, IsNumbered, AreNumbers, IsCountUpTo, collapsed, finished, closed, state_of};
+ghost use Rattle.fv_components.specs.Search.{IsHeld, IsRunning, GoesOn, StaysMet, mark, class, work, none, only, visited};
+ghost use Rattle.fv_components.specs.Search.{IsWalked, IsNumbered, AreNumbers, IsCountUpTo, collapsed, finished, closed, state_of};
 
 use crate::packed::Rows;
 use std::alloc::{AllocError, Global};
@@ -97,7 +98,8 @@ impl Search {
         requires links { AreLinks (next_of links.now) (length links.now) }
         requires held { IsHeld (next_of links.now) (length links.now) (state_of self.old) node }
         requires running { IsRunning (next_of links.now) (length links.now) (only node) (state_of self.old) }
-        ensures { OnOk result (GoesOn (next_of links.now) (length links.now) (state_of self.old) (work (next_of links.now) (state_of self.old)) (state_of self.new)) }
+        ensures { OnOk result
+            (GoesOn (next_of links.now) (length links.now) (state_of self.old) (work (next_of links.now) (state_of self.old)) (state_of self.new)) }
     {
         match self.marks[node as usize] {
             Mark::New => self.visit(links, node),
@@ -114,7 +116,8 @@ impl Search {
         requires links { AreLinks (next_of links.now) (length links.now) }
         requires running { IsRunning (next_of links.now) (length links.now) none (state_of self.old) }
         requires some { 0 < length self.old.classes.items }
-        ensures goes { OnOk result (GoesOn (next_of links.now) (length links.now) (state_of self.old) (work (next_of links.now) (state_of self.old) - 1) (state_of self.new)) }
+        ensures goes { OnOk result
+            (GoesOn (next_of links.now) (length links.now) (state_of self.old) (work (next_of links.now) (state_of self.old) - 1) (state_of self.new)) }
         ensures work { OnOk result (work (next_of links.now) (state_of self.new) < work (next_of links.now) (state_of self.old)) }
     {
         let last = self.classes[self.classes.len() - 1];

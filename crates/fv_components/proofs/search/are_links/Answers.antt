@@ -19,7 +19,8 @@ loop-node-preserved c =
     let links = c.args.links.now in
     let i = c.loop-node.node in
     let here : All (λ b. b < length links) (next_of links i) = subst (λ xs. All (λ b. b < length links) xs) c.row.ensures
-    (subst (λ k. All (λ b. b < k) c.row.result.now) c.len-nodes.ensures (c.leads_below.ensures.0 (subst IsTrue (sym c.if-not-leads_below.false) (search rules)))) in
+    (subst (λ k. All (λ b. b < k) c.row.result.now) c.len-nodes.ensures
+    (c.leads_below.ensures.0 (subst IsTrue (sym c.if-not-leads_below.false) (search rules)))) in
     λ a l. elim (cases_eq a i) [
       | inl e ↦ subst (λ x. All (λ b. b < length links) (next_of links x)) (sym e) here
       | inr e ↦ c.loop-node.invariant a (omega arith)

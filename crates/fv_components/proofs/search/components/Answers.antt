@@ -17,10 +17,13 @@ loop-root-init c =
 pub numbers-requires : goal.numbers-requires
 numbers-requires c =
     let i = c.loop-root.invariant in
-    λ s l. all_numbered (next_of c.args.links.now) (length c.args.links.now) (state_of c.loop-root.search) i.running i.empty (λ s l. i.met s (omega arith)) s (subst (λ k. s < k) i.running.search.marked.long l)
+    λ s l. all_numbered (next_of c.args.links.now) (length c.args.links.now) (state_of c.loop-root.search) i.running i.empty (λ s l. i.met s (omega arith)) s
+    (subst (λ k. s < k) i.running.search.marked.long l)
 
 pub returns : goal.returns
 returns c =
     let i = c.loop-root.invariant in
     let long = i.running.search.marked.long in
-    IfOk-weaker c.numbers.result _ _ (λ v h. ends_in (next_of c.args.links.now) (length c.args.links.now) (state_of c.loop-root.search) v.items c.requires i.running (h.long ∙ long) (λ s l. h.each s (subst (λ k. s < k) (sym long) l))) c.numbers.ensures
+    IfOk-weaker c.numbers.result _ _
+    (λ v h. ends_in (next_of c.args.links.now) (length c.args.links.now) (state_of c.loop-root.search) v.items c.requires i.running (h.long ∙ long)
+    (λ s l. h.each s (subst (λ k. s < k) (sym long) l))) c.numbers.ensures
