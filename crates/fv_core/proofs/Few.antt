@@ -40,7 +40,8 @@ fewer n t xs once below there none = few n (t ∷ xs)
     (λ x l. let b = bit_apart t x (λ e. omega arith) in let z = below x l in omega arith)
 
 -- a task whose count is above 0 lies in no deque, so each deque has fewer than all
-pub deque_room : (n : Net) (workers : ℕ) (s : Now) → IsSound n workers s → (w t : ℕ) → w < workers → t < n.tasks → 0 < count_of s t → length (deque_of s w) < n.tasks
+pub deque_room : (n : Net) (workers : ℕ) (s : Now) → IsSound n workers s → (w t : ℕ) → w < workers → t < n.tasks → 0 < count_of s t
+    → length (deque_of s w) < n.tasks
 deque_room n workers s h w t hw there some_count =
     let wd : w < length s.deques = let l = h.deques_long in omega arith in
     let one : (x : ℕ) → times x (deque_of s w) ≤ total (times x) s.deques = λ x. total_at (times x) s.deques w [] wd in

@@ -49,13 +49,16 @@ stored_after c d e i legal same is =
       edges_fit = let f = i.edges_fit in let a = ap edges_of same.tasks in let b = same.room_edges in omega arith;
       counts_room = let f = i.counts_room in let a = same.counts in let b = same.room_tasks in omega arith;
       done_room = let f = i.done_room in let a = same.done in let b = same.room_tasks in omega arith;
-      deques_room = λ w h. let f = i.deques_room w (subst (λ k. w < k) same.workers h) in let a = ap (λ l. get_or l w 0) same.deques in let b = same.room_tasks in omega arith;
-      owed_room = λ w h. let f = i.owed_room w (subst (λ k. w < k) same.workers h) in let a = ap (λ l. get_or l w 0) same.owes in let b = same.room_edges in omega arith;
+      deques_room = λ w h. let f = i.deques_room w (subst (λ k. w < k) same.workers h) in let a = ap (λ l. get_or l w 0) same.deques in
+          let b = same.room_tasks in omega arith;
+      owed_room = λ w h. let f = i.owed_room w (subst (λ k. w < k) same.workers h) in let a = ap (λ l. get_or l w 0) same.owes in
+          let b = same.room_edges in omega arith;
     }
 
 pub running_after : (c : Inside) (r : Running) (e : Event) (s : Now) → running_of c ≡ r → s ≡ after (net_of c.seen.value.tasks) (now_of c) e
     → record (running_of c) { now = s } ≡ record r { now = after (net_of r.tasks) r.now e }
-running_after c r e s view is = ap (λ (n : Now). record (running_of c) { now = n }) is ∙ ap (λ (x : Running). record x { now = after (net_of x.tasks) x.now e }) view
+running_after c r e s view is = ap (λ (n : Now). record (running_of c) { now = n }) is
+    ∙ ap (λ (x : Running). record x { now = after (net_of x.tasks) x.now e }) view
 
 -- the state after an arrival, of what the code found: the reader, and its count
 pub arrived : (c : Inside) (g : Tasks) (w e r k : ℕ) (ds os : List (List ℕ)) → c.seen.value.tasks ≡ g → r ≡ reader_of g e → k ≡ count_of (now_of c) r
@@ -70,7 +73,8 @@ arrived c g w e r k ds os same q read d o =
     (d ∙ ap (λ m. set s.deques w (joined m (k - 1) (deque_of s w))) there ∙ ap (λ m. set s.deques w (joined n m (deque_of s w))) less) refl o refl
 
 -- a core as it begins
-pub stored_open : (d : Inside) (g : Tasks) → IsGraph g → 0 < d.workers → d.seen.value.tasks ≡ g → now_of d ≡ opening (net_of g) d.workers → task_count g ≤ d.room_tasks → edges_of g ≤ d.room_edges
+pub stored_open : (d : Inside) (g : Tasks) → IsGraph g → 0 < d.workers → d.seen.value.tasks ≡ g → now_of d ≡ opening (net_of g) d.workers
+    → task_count g ≤ d.room_tasks → edges_of g ≤ d.room_edges
     → d.room_tasks ≤ vec_capacity d.counts → d.room_tasks ≤ vec_capacity d.done
     → ((w : ℕ) → w < d.workers → d.room_tasks ≤ get_or (rooms_of d.deques.items) w 0)
     → ((w : ℕ) → w < d.workers → d.room_edges ≤ get_or (owed_rooms d.owes.items) w 0) → IsStored d
@@ -91,12 +95,16 @@ abbrev pub running_with : Tasks → ℕ → ℕ → ℕ → Now → Running
 running_with g workers tasks edges s = record { tasks = g; workers = workers; room_tasks = tasks; room_edges = edges; now = s }
 
 -- what it means, by its parts
-pub running_open : (g h : Tasks) (v w a b c d : ℕ) (s : Now) → h ≡ g → v ≡ w → a ≡ b → c ≡ d → s ≡ opening (net_of g) w → running_with h v a c s ≡ running_with g w b d (opening (net_of g) w)
-running_open g h v w a b c d s seen same tasks edges is = λ i. record { tasks = seen i; workers = same i; room_tasks = tasks i; room_edges = edges i; now = is i }
+pub running_open : (g h : Tasks) (v w a b c d : ℕ) (s : Now) → h ≡ g → v ≡ w → a ≡ b → c ≡ d → s ≡ opening (net_of g) w
+    → running_with h v a c s ≡ running_with g w b d (opening (net_of g) w)
+running_open g h v w a b c d s seen same tasks edges is =
+    λ i. record { tasks = seen i; workers = same i; room_tasks = tasks i; room_edges = edges i; now = is i }
 
 -- the opening state, by its parts
-pub opened : (g : Tasks) (workers : ℕ) (counts : List ℕ) (done : List Bool) (deques : List (List ℕ)) (runs : List (Option ℕ)) (owes : List (List ℕ)) (left : List Bool)
-    → counts ≡ map (need_count (net_of g)) (numbers (task_count g)) → done ≡ replicate (task_count g) false → deques ≡ dealt workers 0 (ready (net_of g)) (replicate workers [])
+pub opened : (g : Tasks) (workers : ℕ) (counts : List ℕ) (done : List Bool) (deques : List (List ℕ)) (runs : List (Option ℕ)) (owes : List (List ℕ))
+    (left : List Bool)
+    → counts ≡ map (need_count (net_of g)) (numbers (task_count g)) → done ≡ replicate (task_count g) false
+    → deques ≡ dealt workers 0 (ready (net_of g)) (replicate workers [])
     → runs ≡ replicate workers None → owes ≡ replicate workers [] → left ≡ replicate workers false
     → record { counts = counts; done = done; deques = deques; runs = runs; owes = owes; left = left } ≡ opening (net_of g) workers
 opened g workers counts done deques runs owes left a b c d e f = λ i. record { counts = a i; done = b i; deques = c i; runs = d i; owes = e i; left = f i }

@@ -1,5 +1,6 @@
 -- The law of the core: each task once, after all that it reads; and where all have left, all of them.
-use Rattle.std.proofs.Common.{◌≡◌, ℕ, zero, suc, ◌+◌, ◌<◌, Bool, true, false, cond, not, ◌&&◌, List, [], ◌∷◌, ◌++◌, length, get_or, refl, sym, ap, ◌∙◌, subst, arith, true≢false, ◌==◌, Option, Some, None, ltb, ltb-true}
+use Rattle.std.proofs.Common.{◌≡◌, ℕ, zero, suc, ◌+◌, ◌<◌, Bool, true, false, cond, not, ◌&&◌, List, [], ◌∷◌, ◌++◌, length, get_or}
+use Rattle.std.proofs.Common.{refl, sym, ap, ◌∙◌, subst, arith, true≢false, ◌==◌, Option, Some, None, ltb, ltb-true}
 use native.Mathlib.Decide.{dec_le}
 use mathlib.Core.Logic.{dite}
 use Rattle.fv_outside.specs.Tasks.{bit, total, times}
@@ -50,7 +51,8 @@ abbrev pub Next : Net → ℕ → (ℕ → ℕ) → ℕ → Event → Now → Ty
 Next n workers took amount e z = (arrived : ℕ → ℕ) × Sound n workers arrived (λ t. took t + takes t e) (amount + is_take e) z
 
 module _ (n : Net) (net : IsNet n) (workers : ℕ) where
-  pub steps : (arrived took : ℕ → ℕ) (amount : ℕ) (s : Now) (e : Event) → Sound n workers arrived took amount s → is_legal n s e ≡ true → Next n workers took amount e (after n s e)
+  pub steps : (arrived took : ℕ → ℕ) (amount : ℕ) (s : Now) (e : Event) → Sound n workers arrived took amount s → is_legal n s e ≡ true
+      → Next n workers took amount e (after n s e)
   steps arrived took amount s (Take w t) i legal =
       let a = both_true (ltb w (length s.runs) && is_free s w) (back_is (deque_of s w) t) legal in
       let b = both_true (ltb w (length s.runs)) (is_free s w) a.0 in
@@ -225,7 +227,8 @@ module _ (n : Net) (net : IsNet n) (workers : ℕ) where
     total_ones (x ∷ xs) h = let a : bit x ≡ 1 = ap bit (h 0 (omega arith)) in let r = total_ones xs (λ k l. h (suc k) (omega arith)) in omega arith
 
     pub as_many_taken : amount ≡ n.tasks
-    as_many_taken = let a = i.in_all in let r = nobody_runs in let o = total_ones z.done (λ k h. all_are_done k (omega (arith, i.done_long))) in let l = i.done_long in omega arith
+    as_many_taken = let a = i.in_all in let r = nobody_runs in let o = total_ones z.done (λ k h. all_are_done k (omega (arith, i.done_long))) in
+        let l = i.done_long in omega arith
 
   pub core_law : (events : List Event) (z : Now) → 0 < workers → replayed n (opening n workers) events ≡ Some z → CoreLaw n workers events z
   core_law events z some e =

@@ -1,5 +1,6 @@
 -- What the core allows, event by event, its lean form allows too.
-use Rattle.std.proofs.Common.{◌≡◌, ℕ, ◌+◌, ◌<◌, Bool, true, false, cond, ◌&&◌, ◌||◌, not, List, [], ◌∷◌, length, Option, Some, None, refl, ap, ◌∙◌, ltb, lt-ltb, ◌==◌, eq-eqb}
+use Rattle.std.proofs.Common.{◌≡◌, ℕ, ◌+◌, ◌<◌, Bool, true, false, cond, ◌&&◌, ◌||◌, not, List, [], ◌∷◌, length}
+use Rattle.std.proofs.Common.{Option, Some, None, refl, ap, ◌∙◌, ltb, lt-ltb, ◌==◌, eq-eqb}
 use Rattle.fv_outside.specs.Tasks.{bit, total}
 use Rattle.fv_graph.specs.Net.{Net, IsNet}
 use Rattle.fv_graph.proofs.Counts.{both_true, both_of, bit_same}
@@ -30,13 +31,15 @@ not_taken false false p q = absurd (cc)
 
 module _ (n : Net) (net : IsNet n) (workers : ℕ) where
   module _ (arrived took : ℕ → ℕ) (amount : ℕ) (s : Now) (i : Sound n workers arrived took amount s) (d : List (List ℕ)) where
-    takes_lean : (e : Event) (w t : ℕ) → is_legal n s e ≡ true → takes t e ≡ 1 → ltb w (length s.runs) ≡ true → is_free s w ≡ true → lean_takes n (with_deques s d) w t ≡ true
+    takes_lean : (e : Event) (w t : ℕ) → is_legal n s e ≡ true → takes t e ≡ 1 → ltb w (length s.runs) ≡ true → is_free s w ≡ true
+        → lean_takes n (with_deques s d) w t ≡ true
     takes_lean e w t legal one there free =
         let k = taken_ready n net workers arrived took amount s i e legal t one in
         let f = fresh_taken n net workers arrived took amount s i e legal t one in
         both_of (ltb w (length s.runs) && is_free s w && ltb t n.tasks && (count_of s t == 0)) (not (is_taken s t))
         (both_of (ltb w (length s.runs) && is_free s w && ltb t n.tasks) (count_of s t == 0)
-        (both_of (ltb w (length s.runs) && is_free s w) (ltb t n.tasks) (both_of (ltb w (length s.runs)) (is_free s w) there free) (lt-ltb t n.tasks k.0)) (eq-eqb (count_of s t) 0 k.1))
+        (both_of (ltb w (length s.runs) && is_free s w) (ltb t n.tasks) (both_of (ltb w (length s.runs)) (is_free s w) there free) (lt-ltb t n.tasks k.0))
+        (eq-eqb (count_of s t) 0 k.1))
         (not_taken (is_done s t) (total (λ r. bit (is_run t r)) s.runs == 0) f.0 (eq-eqb (total (λ r. bit (is_run t r)) s.runs) 0 f.1))
 
     legal_lean : (e : Event) → is_legal n s e ≡ true → is_lean_legal n (with_deques s d) e ≡ true

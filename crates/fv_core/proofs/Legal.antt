@@ -1,5 +1,6 @@
 -- When an event is legal, by what the code looks at; and what a legal event finds.
-use Rattle.std.proofs.Common.{◌≡◌, ℕ, ◌<◌, Bool, true, false, ◌&&◌, not, List, [], ◌∷◌, length, get_or, Option, Some, None, is_none, is_some, refl, sym, ap, ◌∙◌, subst, arith, ltb, lt-ltb, true≢false, ◌==◌}
+use Rattle.std.proofs.Common.{◌≡◌, ℕ, ◌<◌, Bool, true, false, ◌&&◌, not, List, [], ◌∷◌, length, get_or, Option, Some, None}
+use Rattle.std.proofs.Common.{is_none, is_some, refl, sym, ap, ◌∙◌, subst, arith, ltb, lt-ltb, true≢false, ◌==◌}
 use mathlib.Core.Logic.{dite}
 use native.Mathlib.Decide.{dec_le}
 use Rattle.fv_outside.specs.Tasks.{Tasks, times, task_count}
@@ -82,15 +83,18 @@ module _ (n : Net) (workers : ℕ) (s : Now) (i : IsSound n workers s) where
       (both_of (ltb w (length s.runs)) (ltb v (length s.runs)) (is_there w (free_there w b.0)) (is_there v (front_there v t a.1))) b.0) b.1) a.1)
       (λ h. let a = both_true (ltb w (length s.runs) && ltb v (length s.runs) && is_free s w && not (w == v)) (front_is (deque_of s v) t) h in
       let b = both_true (ltb w (length s.runs) && ltb v (length s.runs) && is_free s w) (not (w == v)) a.0 in
-      both_of (is_free s w && not (w == v)) (front_is (deque_of s v) t) (both_of (is_free s w) (not (w == v)) (both_true (ltb w (length s.runs) && ltb v (length s.runs)) (is_free s w) b.0).1 b.1) a.1)
+      both_of (is_free s w && not (w == v)) (front_is (deque_of s v) t)
+      (both_of (is_free s w) (not (w == v)) (both_true (ltb w (length s.runs) && ltb v (length s.runs)) (is_free s w) b.0).1 b.1) a.1)
 
   pub finish_legal : (w t : ℕ) → is_run t (run_of s w) ≡ is_legal n s (Finish w t)
   finish_legal w t = bools_agree (is_run t (run_of s w)) (is_legal n s (Finish w t))
-      (λ h. both_of (ltb w (length s.runs)) (is_run t (run_of s w)) (is_there w (run_there w t h)) h) (λ h. (both_true (ltb w (length s.runs)) (is_run t (run_of s w)) h).1)
+      (λ h. both_of (ltb w (length s.runs)) (is_run t (run_of s w)) (is_there w (run_there w t h)) h)
+      (λ h. (both_true (ltb w (length s.runs)) (is_run t (run_of s w)) h).1)
 
   pub arrive_legal : (w e : ℕ) → not (times e (owes_of s w) == 0) ≡ is_legal n s (Arrive w e)
   arrive_legal w e = bools_agree (not (times e (owes_of s w) == 0)) (is_legal n s (Arrive w e))
-      (λ h. both_of (ltb w (length s.runs)) (not (times e (owes_of s w) == 0)) (is_there w (owe_there w e h)) h) (λ h. (both_true (ltb w (length s.runs)) (not (times e (owes_of s w) == 0)) h).1)
+      (λ h. both_of (ltb w (length s.runs)) (not (times e (owes_of s w) == 0)) (is_there w (owe_there w e h)) h)
+      (λ h. (both_true (ltb w (length s.runs)) (not (times e (owes_of s w) == 0)) h).1)
 
   pub leave_legal : (w : ℕ) → (is_free s w && is_none (back_of (deque_of s w))) ≡ is_legal n s (Leave w)
   leave_legal w = ap (λ b. is_free s w && b) (no_back (deque_of s w))
@@ -125,7 +129,8 @@ module _ (g : Tasks) (ig : IsGraph g) (workers : ℕ) (s : Now) (i : IsSound (ne
   all_done gone t h = all_are_done (net_of g) (is_net g ig) workers (arrived_of (net_of g) s) (took_of s) (amount_of s) s i gone t h
 
 -- of a core as contracts see it
-pub after_running : (r : Running) (e : Event) → IsRunning r → is_legal (net_of r.tasks) r.now e ≡ true → IsRunning (record r { now = after (net_of r.tasks) r.now e })
+pub after_running : (r : Running) (e : Event) → IsRunning r → is_legal (net_of r.tasks) r.now e ≡ true
+    → IsRunning (record r { now = after (net_of r.tasks) r.now e })
 after_running r e i legal = record { graph = i.graph; sound = sound_after (net_of r.tasks) (is_net r.tasks i.graph) r.workers r.now e i.sound legal }
 
 pub running_ready : (r : Running) (e : Event) → IsRunning r → is_legal (net_of r.tasks) r.now e ≡ true → FindsReady r.tasks r.now e

@@ -1,5 +1,6 @@
 -- The opening state meets the invariant.
-use Rattle.std.proofs.Common.{◌≡◌, ℕ, zero, suc, ◌+◌, ◌%◌, ◌<◌, ◌≤◌, true, false, List, [], ◌∷◌, ◌++◌, map, length, replicate, get_or, set, refl, sym, ap, ◌∙◌, arith, true≢false, ◌==◌, None, length-set}
+use Rattle.std.proofs.Common.{◌≡◌, ℕ, zero, suc, ◌+◌, ◌%◌, ◌<◌, ◌≤◌, true, false, List, [], ◌∷◌, ◌++◌, map, length, replicate}
+use Rattle.std.proofs.Common.{get_or, set, refl, sym, ap, ◌∙◌, arith, true≢false, ◌==◌, None, length-set}
 use mathlib.Core.Logic.{dite}
 use native.Mathlib.Decide.{dec_le}
 use Rattle.fv_outside.specs.Tasks.{bit, total, times}
@@ -44,9 +45,11 @@ get_numbers from (suc n) f (suc t) d h = get_numbers (suc from) n f t d (omega a
 
 pub length_dealt : (workers k : ℕ) (ts : List ℕ) (ds : List (List ℕ)) → length (dealt workers k ts ds) ≡ length ds
 length_dealt workers k [] ds = refl
-length_dealt workers k (t ∷ ts) ds = length_dealt workers (suc k) ts (set ds (k % workers) (get_or ds (k % workers) [] ++ t ∷ [])) ∙ length-set ds (k % workers) (get_or ds (k % workers) [] ++ t ∷ [])
+length_dealt workers k (t ∷ ts) ds = length_dealt workers (suc k) ts (set ds (k % workers) (get_or ds (k % workers) [] ++ t ∷ []))
+    ∙ length-set ds (k % workers) (get_or ds (k % workers) [] ++ t ∷ [])
 
-pub times_dealt : (workers k : ℕ) (ts : List ℕ) (ds : List (List ℕ)) → 0 < workers → length ds ≡ workers → (x : ℕ) → total (times x) (dealt workers k ts ds) ≡ total (times x) ds + times x ts
+pub times_dealt : (workers k : ℕ) (ts : List ℕ) (ds : List (List ℕ)) → 0 < workers → length ds ≡ workers → (x : ℕ)
+    → total (times x) (dealt workers k ts ds) ≡ total (times x) ds + times x ts
 times_dealt workers k [] ds some long x = omega arith
 times_dealt workers k (t ∷ ts) ds some long x =
     let j = k % workers in
@@ -70,15 +73,21 @@ opens n workers some =
       runs_long = length_same workers None;
       owes_long = length_same workers [];
       left_long = length_same workers false;
-      placed = λ x h. let a = lie x in let b = run x in let c = undone x in let d = times_passing (λ t. need_count n t == 0) 0 n.tasks x (omega arith) (omega arith) in
+      placed = λ x h. let a = lie x in let b = run x in let c = undone x in
+          let d = times_passing (λ t. need_count n t == 0) 0 n.tasks x (omega arith) (omega arith) in
           let e : bit (get_or (map (need_count n) (numbers n.tasks)) x 1 == 0) ≡ bit (need_count n x == 0) = ap (λ k. bit (k == 0))
           (get_numbers 0 n.tasks (need_count n) x 1 h ∙ ap (need_count n) (omega arith)) in omega arith;
       inside = λ x h. let a = lie x in let b = run x in let d = times_above (λ t. need_count n t == 0) 0 n.tasks x (omega arith) in omega arith;
-      edges = λ x. let a = total_same (times x) workers [] refl in let z = bit_right (n.is_inner x) (get_or (replicate n.tasks false) (n.source x) false) (undone (n.source x)) in omega arith;
+      edges = λ x. let a = total_same (times x) workers [] refl in
+          let z = bit_right (n.is_inner x) (get_or (replicate n.tasks false) (n.source x) false) (undone (n.source x)) in omega arith;
       counted = λ x h. let a : get_or (map (need_count n) (numbers n.tasks)) x 1 ≡ need_count n x = get_numbers 0 n.tasks (need_count n) x 1 h
           ∙ ap (need_count n) (omega arith) in let z = total_none (n.needs x) in omega arith;
       away = λ w gone. dite (dec_le workers w)
-          (λ out. (get_out ds w [] (omega (arith, length_dealt workers 0 (ready n) (replicate workers []), length_same {X = List ℕ} workers [])), get_same workers None w, get_same workers [] w))
+          (λ out. (
+            get_out ds w [] (omega (arith, length_dealt workers 0 (ready n) (replicate workers []), length_same {X = List ℕ} workers [])),
+            get_same workers None w,
+            get_same workers [] w,
+          ))
           (λ here. absurd (true≢false (sym gone ∙ get_in workers false true w (omega arith))));
       told = λ x. let b = run x in let c = undone x in omega arith;
       in_all = let a = total_same runs_some workers None refl in let b = total_same bit n.tasks false refl in omega arith;

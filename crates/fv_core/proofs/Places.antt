@@ -1,5 +1,6 @@
 -- A list of what each worker has, after a write at one worker.
-use Rattle.std.proofs.Common.{◌≡◌, ℕ, zero, suc, ◌+◌, ◌-◌, ◌<◌, ◌==◌, Bool, true, false, cond, not, List, [], ◌∷◌, map, length, get_or, set, take, drop, Option, Some, None, refl, sym, ap, ◌∙◌, arith, nat_lt, lt-ltb, true≢false, ne_eqb, ◌||◌}
+use Rattle.std.proofs.Common.{◌≡◌, ℕ, zero, suc, ◌+◌, ◌-◌, ◌<◌, ◌==◌, Bool, true, false, cond, not, List, [], ◌∷◌, map, length, get_or, set}
+use Rattle.std.proofs.Common.{take, drop, Option, Some, None, refl, sym, ap, ◌∙◌, arith, nat_lt, lt-ltb, true≢false, ne_eqb, ◌||◌}
 use Rattle.std.specs.List.{remove, position_or_len, list_any}
 use Rattle.fv_outside.specs.Tasks.{bit, times}
 use Rattle.std.specs.Option.{option_copied, option_map, unwrap_or, is_some}
@@ -18,7 +19,8 @@ module _ {A B : Type 0} (f : A → B) where
   get_map (x ∷ xs) (suc i) d e h = get_map xs i d e (omega arith)
 
   -- what f sees of the place is g of what it saw
-  pub map_at : (g : B → B) (xs : List A) (i : ℕ) (y old : A) (e : B) → i < length xs → old ≡ get_or xs i old → f y ≡ g (f old) → map f (set xs i y) ≡ set (map f xs) i (g (get_or (map f xs) i e))
+  pub map_at : (g : B → B) (xs : List A) (i : ℕ) (y old : A) (e : B) → i < length xs → old ≡ get_or xs i old → f y ≡ g (f old)
+      → map f (set xs i y) ≡ set (map f xs) i (g (get_or (map f xs) i e))
   map_at g xs i y old e h is to = map_set xs i y ∙ ap (set (map f xs) i) (to ∙ ap g (ap f is ∙ sym (get_map xs i old e h)))
 
   pub set_same : (xs : List B) (i : ℕ) (e : B) → set xs i (get_or xs i e) ≡ xs
@@ -33,7 +35,8 @@ module _ {A B : Type 0} (f : A → B) where
 pub but_back_take : (xs : List ℕ) → but_back xs ≡ take (length xs - 1) xs
 but_back_take [] = refl
 but_back_take (x ∷ []) = refl
-but_back_take (x ∷ y ∷ ys) = ap (λ l. x ∷ l) (but_back_take (y ∷ ys)) ∙ ap (λ k. take k (x ∷ y ∷ ys)) (let q : suc (suc (length ys) - 1) ≡ suc (suc (length ys)) - 1 = omega arith in q)
+but_back_take (x ∷ y ∷ ys) = ap (λ l. x ∷ l) (but_back_take (y ∷ ys))
+    ∙ ap (λ k. take k (x ∷ y ∷ ys)) (let q : suc (suc (length ys) - 1) ≡ suc (suc (length ys)) - 1 = omega arith in q)
 
 pub but_front_drop : (xs : List ℕ) → drop 1 xs ≡ but_front xs
 but_front_drop [] = refl
@@ -43,7 +46,8 @@ but_front_drop (x ∷ xs) = refl
 pub back_at : (xs : List ℕ) (d : ℕ) → 0 < length xs → back_of xs ≡ Some (get_or xs (length xs - 1) d)
 back_at [] d h = absurd (omega arith)
 back_at (x ∷ []) d h = refl
-back_at (x ∷ y ∷ ys) d h = back_at (y ∷ ys) d (omega arith) ∙ ap (λ k. Some (get_or (x ∷ y ∷ ys) k d)) (let q : suc (suc (length ys) - 1) ≡ suc (suc (length ys)) - 1 = omega arith in q)
+back_at (x ∷ y ∷ ys) d h = back_at (y ∷ ys) d (omega arith)
+    ∙ ap (λ k. Some (get_or (x ∷ y ∷ ys) k d)) (let q : suc (suc (length ys) - 1) ≡ suc (suc (length ys)) - 1 = omega arith in q)
 
 pub back_none : (xs : List ℕ) → length xs ≡ 0 → back_of xs ≡ None
 back_none [] h = refl
@@ -57,7 +61,8 @@ without_at e (x ∷ xs) = taken (x == e) e x xs (without_at e xs)
     taken : (b : Bool) (e x : ℕ) (xs : List ℕ) → without e xs ≡ remove xs (position_or_len (λ y. y == e) xs)
         → cond b xs (x ∷ without e xs) ≡ remove (x ∷ xs) (cond (not b) (1 + position_or_len (λ y. y == e) xs) 0)
     taken true e x xs r = refl
-    taken false e x xs r = ap (λ l. x ∷ l) r ∙ ap (remove (x ∷ xs)) (let q : suc (position_or_len (λ y. y == e) xs) ≡ 1 + position_or_len (λ y. y == e) xs = omega arith in q)
+    taken false e x xs r = ap (λ l. x ∷ l) r
+        ∙ ap (remove (x ∷ xs)) (let q : suc (position_or_len (λ y. y == e) xs) ≡ 1 + position_or_len (λ y. y == e) xs = omega arith in q)
 
 pub chosen_some : (b : Bool) (k i : ℕ) → Some i ≡ cond b (Some k) None → i ≡ k
 chosen_some true k i h = cc

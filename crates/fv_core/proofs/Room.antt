@@ -1,5 +1,6 @@
 -- What a legal event finds in a sound state: its numbers are in range, and there is room for what it adds.
-use Rattle.std.proofs.Common.{◌≡◌, ℕ, ◌+◌, ◌<◌, ◌≤◌, true, ◌&&◌, ◌||◌, not, [], ◌++◌, length, get_or, refl, ap, ◌∙◌, subst, arith, ltb, ltb-true, ◌==◌, length-append, get_or-set_same}
+use Rattle.std.proofs.Common.{◌≡◌, ℕ, ◌+◌, ◌<◌, ◌≤◌, true, ◌&&◌, ◌||◌, not, [], ◌++◌, length, get_or, refl, ap, ◌∙◌}
+use Rattle.std.proofs.Common.{subst, arith, ltb, ltb-true, ◌==◌, length-append, get_or-set_same}
 use mathlib.Core.Logic.{dite}
 use native.Mathlib.Decide.{dec_le}
 use Rattle.fv_outside.specs.Tasks.{Tasks, total, times, task_count}
@@ -23,7 +24,8 @@ use Rattle.fv_core.proofs.Stepping.{sound_after}
 use Rattle.fv_core.proofs.Few.{few, deque_room}
 
 -- the lists of what is owed hold inner edges, each once
-owed_few : (n : Net) (workers edges : ℕ) (s : Now) → IsSound n workers s → ((e : ℕ) → n.is_inner e ≡ true → e < edges) → (w : ℕ) → w < workers → length (owes_of s w) ≤ edges
+owed_few : (n : Net) (workers edges : ℕ) (s : Now) → IsSound n workers s → ((e : ℕ) → n.is_inner e ≡ true → e < edges) → (w : ℕ) → w < workers
+    → length (owes_of s w) ≤ edges
 owed_few n workers edges s i low w h =
     let there : w < length s.owes = let l = i.owes_long in omega arith in
     let one : (e : ℕ) → times e (owes_of s w) ≤ total (times e) s.owes = λ e. total_at (times e) s.owes w [] there in
@@ -50,7 +52,7 @@ pub record Finishes (c : Inside) (g : Tasks) (w t : ℕ) : Type 0 where
   pub there : t < task_count g
   pub room : length (owes_of (now_of c) w) + length (feeds_of g t) ≤ get_or (owed_rooms c.owes.items) w 0
 
-module _ (c : Inside) (r : Running) (g : Tasks) (view : running_of c ≡ r) (i : IsStored c) (handed : r.tasks ≡ g) where
+module _ {c : Inside} {r : Running} {g : Tasks} (i : IsStored c) (view : running_of c ≡ r) (handed : r.tasks ≡ g) where
   same_tasks : c.seen.value.tasks ≡ g
   same_tasks = ap (λ (x : Running). x.tasks) view ∙ handed
 
@@ -59,7 +61,8 @@ module _ (c : Inside) (r : Running) (g : Tasks) (view : running_of c ≡ r) (i :
 
   inner_below : (e : ℕ) → (net_of c.seen.value.tasks).is_inner e ≡ true → e < edges_of c.seen.value.tasks
   inner_below e h = let w = wires_of c.seen.value.tasks in
-      (is_wires c.seen.value.tasks i.graph).in_range e (either_left (w.net.is_inner e || w.is_entry e) (w.is_exit e) (either_left (w.net.is_inner e) (w.is_entry e) h))
+      (is_wires c.seen.value.tasks i.graph).in_range e
+      (either_left (w.net.is_inner e || w.is_entry e) (w.is_exit e) (either_left (w.net.is_inner e) (w.is_entry e) h))
 
   pub arrives : (w e : ℕ) → is_legal (net_of r.tasks) r.now (Arrive w e) ≡ true → Arrives c g w e
   arrives w e legal =
@@ -90,7 +93,8 @@ module _ (c : Inside) (r : Running) (g : Tasks) (view : running_of c ≡ r) (i :
       let a = both_true (ltb w (length s.runs)) (is_run t (run_of s w)) own_legal in
       let hw : w < c.workers = subst (λ k. w < k) h.runs_long (ltb-true w (length s.runs) a.0) in
       let there = ran n c.workers (arrived_of n s) (took_of s) (amount_of s) s h w t (let l = h.runs_long in omega arith) (is_run_of t (run_of s w) a.1) in
-      let few_left = owed_few n c.workers (edges_of c.seen.value.tasks) (after n s (Finish w t)) (sound_after n net c.workers s (Finish w t) h own_legal) inner_below w hw in
+      let few_left = owed_few n c.workers (edges_of c.seen.value.tasks) (after n s (Finish w t))
+      (sound_after n net c.workers s (Finish w t) h own_legal) inner_below w hw in
       let same = ap length (get_or-set_same s.owes w (owes_of s w ++ n.feeds t) [] (let l = h.owes_long in omega arith)) in
       let long = length-append (owes_of s w) (n.feeds t) in
       let q = ap (λ (k : Tasks). length (feeds_of k t)) same_tasks in

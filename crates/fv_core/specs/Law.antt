@@ -11,7 +11,8 @@ AllLeft z workers = (w : ℕ) → w < workers → get_or z.left w true ≡ true
 
 -- each task that t reads is done after the events
 abbrev pub ReadsDone : Net → ℕ → List Event → ℕ → Type 0
-ReadsDone n workers before t = (s : Now) × (replayed n (opening n workers) before ≡ Some s) × ((e : ℕ) → 0 < times e (n.needs t) → is_done s (n.source e) ≡ true)
+ReadsDone n workers before t =
+    (s : Now) × (replayed n (opening n workers) before ≡ Some s) × ((e : ℕ) → 0 < times e (n.needs t) → is_done s (n.source e) ≡ true)
 
 pub record CoreLaw (n : Net) (workers : ℕ) (events : List Event) (z : Now) : Type 0 where
   pub once : (t : ℕ) → total (takes t) events < 2

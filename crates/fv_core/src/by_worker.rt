@@ -1,6 +1,7 @@
 // What each worker has, in lists with one element for each worker.
 
-ghost use Rattle.std.specs.Prelude.{◌≡◌, ◌+◌, ◌<◌, ◌≤◌, ◌==◌, length, [], ◌∷◌, ◌++◌, slice_index_or, slice_set, vec_len, vec_capacity, None, is_none, position, not, true, ◌&&◌};
+ghost use Rattle.std.specs.Prelude.{◌≡◌, ◌+◌, ◌<◌, ◌≤◌, ◌==◌, length, [], ◌∷◌, ◌++◌, slice_index_or};
+ghost use Rattle.std.specs.Prelude.{slice_set, vec_len, vec_capacity, None, is_none, position, not, true, ◌&&◌};
 ghost use Rattle.fv_outside.specs.Tasks.{times};
 ghost use Rattle.fv_core.specs.Ends.{but_back, but_front, back_of, front_of, without, is_empty};
 ghost use Rattle.fv_core.specs.Core.{joined, is_run};
@@ -71,7 +72,8 @@ pub(crate) fn put_back(deques: &mut Vec<VecDeque<u64>>, w: usize, task: u64)
 pub(crate) fn put_ready(deques: &mut Vec<VecDeque<u64>>, w: usize, task: u64, count: u64)
     requires there { w < vec_len deques.old }
     requires room { length (slice_index_or (deques_of deques.old.items) w []) < slice_index_or (rooms_of deques.old.items) w 0 }
-    ensures deque { deques_of deques.new.items ≡ slice_set (deques_of deques.old.items) w (joined task count (slice_index_or (deques_of deques.old.items) w [])) }
+    ensures deque { deques_of deques.new.items
+        ≡ slice_set (deques_of deques.old.items) w (joined task count (slice_index_or (deques_of deques.old.items) w [])) }
     ensures rooms { rooms_of deques.new.items ≡ rooms_of deques.old.items }
 {
     if count == 0 {

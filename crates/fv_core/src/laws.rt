@@ -10,7 +10,8 @@ ghost use Rattle.fv_core.specs.declared.event.Event.{Event};
 /// Of events that replay, each task is taken at most once, and after all that it reads. Once all workers have left, all
 /// tasks are done, and were taken.
 pub fn tasks_run_once()
-    ensures { (n : Net) (workers : ℕ) (events : List Event) (z : Now) → IsNet n → 0 < workers → replayed n (opening n workers) events ≡ Some z → CoreLaw n workers events z }
+    ensures { (n : Net) (workers : ℕ) (events : List Event) (z : Now) → IsNet n → 0 < workers → replayed n (opening n workers) events ≡ Some z
+        → CoreLaw n workers events z }
 {}
 
 /// Events that replay do so in the lean core too, which has no deques, and leave the same state but for these.

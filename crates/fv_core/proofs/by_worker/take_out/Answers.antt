@@ -15,4 +15,5 @@ pub returns-in_default-clause-items : goal.returns-in_default-clause-items
 returns-in_default-clause-items c =
     let k = c.deref.ensures.value in let xs = c.args.owed.now.items in
     let h = sym (c.place_of.ensures ∙ ap (position (λ e. e == c.args.edge)) k) ∙ c.in_default.is in
-    sym (without_none c.args.edge xs (chosen_none (nat_lt (position_or_len (λ e. e == c.args.edge) xs) (length xs)) (position_or_len (λ e. e == c.args.edge) xs) h))
+    sym (without_none c.args.edge xs
+    (chosen_none (nat_lt (position_or_len (λ e. e == c.args.edge) xs) (length xs)) (position_or_len (λ e. e == c.args.edge) xs) h))

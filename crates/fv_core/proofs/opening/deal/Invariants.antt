@@ -9,7 +9,8 @@ use Rattle.fv_core.proofs.opening.deal.Given as goal
 
 abbrev pub invariant-loop-task : goal.invariant-loop-task
 invariant-loop-task l = record {
-  goes_on : dealt (vec_len l.deques) l.worker (passing (λ t. need_count (net_of l.tasks.tasks) t == 0) l.task (task_count l.tasks.tasks - l.task)) (deques_of l.deques.items)
+  goes_on : dealt (vec_len l.deques) l.worker (passing (λ t. need_count (net_of l.tasks.tasks) t == 0) l.task (task_count l.tasks.tasks - l.task))
+      (deques_of l.deques.items)
       ≡ dealt (vec_len l.initial.deques) 0 (ready (net_of l.tasks.tasks)) (replicate (vec_len l.initial.deques) []);
   short : (w : ℕ) → length (get_or (deques_of l.deques.items) w []) ≤ l.task;
   worker : l.worker < vec_len l.deques;

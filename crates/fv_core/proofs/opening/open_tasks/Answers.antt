@@ -13,7 +13,8 @@ loop-t-preserved c =
     let p = c.push_reserved.ensures.capacity in let q = c.push_reserved-in-loop-t.ensures.capacity in
     let il = i.counts_long in let dl = i.done_long in let ir = i.counts_room in let dr = i.done_room in
     record {
-      counts = c.push_reserved.ensures.items ∙ ap (λ l. l ++ c.count.result ∷ []) i.counts ∙ ap (λ k. map f (numbers t) ++ k ∷ []) c.count.ensures ∙ sym (numbers_more f t);
+      counts = c.push_reserved.ensures.items ∙ ap (λ l. l ++ c.count.result ∷ []) i.counts ∙ ap (λ k. map f (numbers t) ++ k ∷ []) c.count.ensures
+          ∙ sym (numbers_more f t);
       done = c.push_reserved-in-loop-t.ensures.items ∙ ap (λ l. l ++ false ∷ []) i.done ∙ sym (one_more t false);
       counts_long = omega arith;
       done_long = omega arith;

@@ -7,5 +7,6 @@ abbrev pub invariant-loop-event : goal.invariant-loop-event
 invariant-loop-event l = record {
   tasks : l.core.tasks ≡ l.tasks.tasks;
   workers : l.core.workers ≡ l.workers;
-  rest : replayed (net_of l.tasks.tasks) (opening (net_of l.tasks.tasks) l.workers) l.events ≡ replayed (net_of l.tasks.tasks) l.core.now (drop l.event-index l.events);
+  rest : replayed (net_of l.tasks.tasks) (opening (net_of l.tasks.tasks) l.workers) l.events
+      ≡ replayed (net_of l.tasks.tasks) l.core.now (drop l.event-index l.events);
 }

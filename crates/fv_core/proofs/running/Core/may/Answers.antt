@@ -9,7 +9,8 @@ pub returns-then-is_free-3-clause-value : goal.returns-then-is_free-3-clause-val
 returns-then-is_free-3-clause-value c =
     let r = c.args.self.now in let w = c.in-Leave.worker in
     let free = sym c.is_free-in-Leave.ensures.value ∙ c.if-is_free-3.true in
-    none_from c.next_of-then-is_free-3.result c.is_none.result c.is_none.ensures ∙ ap is_none c.next_of-then-is_free-3.ensures ∙ ap (λ b. b && is_none (back_of (deque_of r.now w))) (sym free)
+    none_from c.next_of-then-is_free-3.result c.is_none.result c.is_none.ensures ∙ ap is_none c.next_of-then-is_free-3.ensures
+    ∙ ap (λ b. b && is_none (back_of (deque_of r.now w))) (sym free)
     ∙ leave_legal (net_of r.tasks) r.workers r.now c.is_free-in-Leave.ensures.running.sound w ∙ ap (is_legal (net_of r.tasks) r.now) (sym c.in-Leave.is)
 
 pub returns-then-is_free-clause-value : goal.returns-then-is_free-clause-value

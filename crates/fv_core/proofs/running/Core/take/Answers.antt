@@ -6,6 +6,7 @@ use Rattle.fv_core.proofs.running.Core.take.Goals as goal
 
 pub invariant_of-self : goal.invariant_of-self
 invariant_of-self c = let i = c.self.inside in
-    stored_after i _ (Take c.args.worker c.args.task) c.self.invariant (legal_in (running_of i) c.args.self.now (Take c.args.worker c.args.task) c.self.view_is c.requires)
+    stored_after i _ (Take c.args.worker c.args.task) c.self.invariant
+    (legal_in (running_of i) c.args.self.now (Take c.args.worker c.args.task) c.self.view_is c.requires)
     (record { tasks = refl; workers = refl; room_tasks = refl; room_edges = refl; counts = refl; done = refl; deques = c.take_back.ensures.rooms; owes = refl })
     (same_now _ _ refl refl c.take_back.ensures.deque refl refl refl)
