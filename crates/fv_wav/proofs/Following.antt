@@ -1,5 +1,6 @@
 -- The samples behind some frames are the next frames.
-use Rattle.std.proofs.Common.{◌≡◌, ℕ, zero, suc, ◌+◌, ◌*◌, ◌/◌, ◌≤◌, ◌<◌, true, List, [], ◌∷◌, ◌++◌, length, take, drop, get_or, refl, sym, ap, ap₂, ◌∙◌, arith, length-take}
+use Rattle.std.proofs.Common.{◌≡◌, ℕ, zero, suc, ◌+◌, ◌*◌, ◌/◌, ◌≤◌, ◌<◌, true, List, [], ◌∷◌, ◌++◌, length, take}
+use Rattle.std.proofs.Common.{drop, get_or, refl, sym, ap, ap₂, ◌∙◌, arith, length-take}
 use Rattle.std.specs.Prelude.{pos}
 use Rattle.std.proofs.Math.Nat.{mul_assoc, mul-le-mul_right, suc-mul, le-div_iff_mul-le, add-mul, le_of_mul-le-mul_right}
 use Rattle.std.proofs.lemmas.List.{take_more, drop-drop, get_or-drop, length-drop}
@@ -35,7 +36,8 @@ sample_shift bits channels place t k bytes =
 
 pub follow : (head : Head) (bytes : List ℕ) (t n : ℕ) → 1 ≤ head.channels → is_sample_width head.bits ≡ true
     → (t + n) * frame_size head.channels head.bits ≤ length (present head bytes)
-    → rows head.channels n (samples_in head.bits (n * head.channels) (drop (head.place + t * frame_size head.channels head.bits) bytes)) ≡ take n (drop t (frames_in head bytes))
+    → rows head.channels n (samples_in head.bits (n * head.channels) (drop (head.place + t * frame_size head.channels head.bits) bytes))
+    ≡ take n (drop t (frames_in head bytes))
 follow head bytes t n some wide h =
     sym (table_part (frames_present head bytes) t n _ counted ∙ table_same n _ _ (λ j l. table_same channels _ _ (λ i m. sym (same j i l m))))
   where
@@ -73,5 +75,6 @@ follow head bytes t n some wide h =
         get_or_table (n * channels) (sample_at head.bits behind) (j * channels + i) (pos 0) (inside j i n l m)
         ∙ sample_shift head.bits channels head.place t (j * channels + i) bytes
         ∙ ap (sample_at head.bits (drop head.place bytes)) place
-        ∙ sym (sample_within head.bits (stated_frames head * channels) ((t + j) * channels + i) (drop head.place bytes) wide (inside (t + j) i (stated_frames head) (omega (arith, l, stated)) m))
+        ∙ sym (sample_within head.bits (stated_frames head * channels) ((t + j) * channels + i) (drop head.place bytes) wide
+        (inside (t + j) i (stated_frames head) (omega (arith, l, stated)) m))
         ∙ ap (λ ys. sample_at head.bits ys ((t + j) * channels + i)) (sym whole)

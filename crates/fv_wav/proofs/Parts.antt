@@ -3,7 +3,8 @@ use Rattle.std.proofs.Common.{◌≡◌, ℕ, zero, suc, ◌+◌, ◌-◌, ◌�
 use Rattle.std.proofs.lemmas.Bool.{le-leb, lt-leb}
 use Rattle.std.specs.Prelude.{Option, Ok, Err, bytes_eq}
 use Rattle.fv_num.specs.Words.{is_sample_width}
-use Rattle.fv_wav.specs.Reading.{◌>>=◌, Rest, past, number, tag_at, shape_at, sound_at, extension, fields, behind_body, format_chunk, other_chunk, walk, next, chunk_at, kind_of, is_channels, frame_size, extensible_tag, plain_samples, padded}
+use Rattle.fv_wav.specs.Reading.{◌>>=◌, Rest, past, number, tag_at, shape_at, sound_at, extension, fields, behind_body, format_chunk, other_chunk}
+use Rattle.fv_wav.specs.Reading.{walk, next, chunk_at, kind_of, is_channels, frame_size, extensible_tag, plain_samples, padded}
 use Rattle.fv_wav.specs.declared.head.Format.{Format}
 use Rattle.fv_wav.specs.declared.refusal.WaveRefusal.{WaveRefusal}
 use Rattle.fv_wav.specs.declared.refusal.WaveRefusal.TheVariants.{WaveFormat}
@@ -29,32 +30,38 @@ pub shape_align : (channels : ℕ) (r r1 : Rest) (e : WaveRefusal) → past 4 r 
 unfolding shape_at
 shape_align channels r r1 e a b = rw (a, b) refl
 
-pub shape_bits : (channels align : ℕ) (r r1 r2 : Rest) (e : WaveRefusal) → past 4 r ≡ Ok r1 → number 2 r1 ≡ Ok (align, r2) → number 2 r2 ≡ Err e → shape_at channels r ≡ Err e
+pub shape_bits : (channels align : ℕ) (r r1 r2 : Rest) (e : WaveRefusal) → past 4 r ≡ Ok r1 → number 2 r1 ≡ Ok (align, r2) → number 2 r2 ≡ Err e
+    → shape_at channels r ≡ Err e
 unfolding shape_at
 shape_bits channels align r r1 r2 e a b c = rw (a, b, c) refl
 
-pub shape_width : (channels align bits : ℕ) (r r1 r2 r3 : Rest) → past 4 r ≡ Ok r1 → number 2 r1 ≡ Ok (align, r2) → number 2 r2 ≡ Ok (bits, r3) → is_sample_width bits ≡ false
+pub shape_width : (channels align bits : ℕ) (r r1 r2 r3 : Rest) → past 4 r ≡ Ok r1 → number 2 r1 ≡ Ok (align, r2) → number 2 r2 ≡ Ok (bits, r3)
+    → is_sample_width bits ≡ false
     → shape_at channels r ≡ Err (WaveFormat (r.place + 6))
 unfolding shape_at
 shape_width channels align bits r r1 r2 r3 a b c w = rw (a, b, c, w) refl
 
-pub shape_size : (channels align bits : ℕ) (r r1 r2 r3 : Rest) → past 4 r ≡ Ok r1 → number 2 r1 ≡ Ok (align, r2) → number 2 r2 ≡ Ok (bits, r3) → is_sample_width bits ≡ true
+pub shape_size : (channels align bits : ℕ) (r r1 r2 r3 : Rest) → past 4 r ≡ Ok r1 → number 2 r1 ≡ Ok (align, r2) → number 2 r2 ≡ Ok (bits, r3)
+    → is_sample_width bits ≡ true
     → (align == frame_size channels bits) ≡ false → shape_at channels r ≡ Err (WaveFormat (r.place + 4))
 unfolding shape_at
 shape_size channels align bits r r1 r2 r3 a b c w s = rw (a, b, c, w, s) refl
 
-pub shape_is : (channels align bits : ℕ) (r r1 r2 r3 r4 : Rest) → past 4 r ≡ Ok r1 → number 2 r1 ≡ Ok (align, r2) → number 2 r2 ≡ Ok (bits, r3) → is_sample_width bits ≡ true
+pub shape_is : (channels align bits : ℕ) (r r1 r2 r3 r4 : Rest) → past 4 r ≡ Ok r1 → number 2 r1 ≡ Ok (align, r2) → number 2 r2 ≡ Ok (bits, r3)
+    → is_sample_width bits ≡ true
     → (align == frame_size channels bits) ≡ true → r3 ≡ r4 → shape_at channels r ≡ Ok (bits, r4)
 unfolding shape_at
 shape_is channels align bits r r1 r2 r3 r4 a b c w s e = rw (a, b, c, w, s, e) refl
 
 -- ---- the fields behind the tag
 
-pub sound_rate : (channels : ℕ) (r r1 : Rest) (e : WaveRefusal) → number 2 r ≡ Ok (channels, r1) → is_channels channels ≡ true → number 4 r1 ≡ Err e → sound_at r ≡ Err e
+pub sound_rate : (channels : ℕ) (r r1 : Rest) (e : WaveRefusal) → number 2 r ≡ Ok (channels, r1) → is_channels channels ≡ true → number 4 r1 ≡ Err e
+    → sound_at r ≡ Err e
 unfolding sound_at
 sound_rate channels r r1 e a h b = rw (a, h, b) refl
 
-pub sound_shape : (channels rate : ℕ) (r r1 r2 : Rest) (e : WaveRefusal) → number 2 r ≡ Ok (channels, r1) → is_channels channels ≡ true → number 4 r1 ≡ Ok (rate, r2)
+pub sound_shape : (channels rate : ℕ) (r r1 r2 : Rest) (e : WaveRefusal) → number 2 r ≡ Ok (channels, r1) → is_channels channels ≡ true
+    → number 4 r1 ≡ Ok (rate, r2)
     → shape_at channels r2 ≡ Err e → sound_at r ≡ Err e
 unfolding sound_at
 sound_shape channels rate r r1 r2 e a h b c = rw (a, h, b, c) refl
@@ -74,17 +81,20 @@ pub fields_sound : (size tag : ℕ) (r r1 : Rest) (e : WaveRefusal) → tag_at s
 unfolding fields
 fields_sound size tag r r1 e a b = rw (a, b) refl
 
-pub fields_extension : (size tag : ℕ) (format : Format) (r r1 r2 : Rest) (e : WaveRefusal) → tag_at size r ≡ Ok (tag, r1) → sound_at r1 ≡ Ok (format, r2) → (tag == extensible_tag) ≡ true
+pub fields_extension : (size tag : ℕ) (format : Format) (r r1 r2 : Rest) (e : WaveRefusal) → tag_at size r ≡ Ok (tag, r1) → sound_at r1 ≡ Ok (format, r2)
+    → (tag == extensible_tag) ≡ true
     → extension true r2 ≡ Err e → fields size r ≡ Err e
 unfolding fields
 fields_extension size tag format r r1 r2 e a b t c = rw (a, b, t, c) refl
 
-pub fields_plain : (size tag : ℕ) (format : Format) (r r1 r2 r3 : Rest) → tag_at size r ≡ Ok (tag, r1) → sound_at r1 ≡ Ok (format, r2) → (tag == extensible_tag) ≡ false → r2 ≡ r3
+pub fields_plain : (size tag : ℕ) (format : Format) (r r1 r2 r3 : Rest) → tag_at size r ≡ Ok (tag, r1) → sound_at r1 ≡ Ok (format, r2)
+    → (tag == extensible_tag) ≡ false → r2 ≡ r3
     → fields size r ≡ Ok (format, r3)
 unfolding fields extension
 fields_plain size tag format r r1 r2 r3 a b t e = rw (a, b, t, e) refl
 
-pub fields_extended : (size tag : ℕ) (format : Format) (r r1 r2 r3 r4 : Rest) → tag_at size r ≡ Ok (tag, r1) → sound_at r1 ≡ Ok (format, r2) → (tag == extensible_tag) ≡ true
+pub fields_extended : (size tag : ℕ) (format : Format) (r r1 r2 r3 r4 : Rest) → tag_at size r ≡ Ok (tag, r1) → sound_at r1 ≡ Ok (format, r2)
+    → (tag == extensible_tag) ≡ true
     → extension true r2 ≡ Ok r3 → r3 ≡ r4 → fields size r ≡ Ok (format, r4)
 unfolding fields
 fields_extended size tag format r r1 r2 r3 r4 a b t c e = rw (a, b, t, c, e) refl
@@ -143,7 +153,8 @@ pub extension_wrong : (n : ℕ) (sub : List ℕ) (r r1 r2 : Rest) → past 8 r �
 unfolding extension
 extension_wrong n sub r r1 r2 a m b w = let b' : next 16 r1 ≡ Ok (sub, r2) = rw (← m) b in rw (a, b', w) refl
 
-pub extension_is : (n : ℕ) (sub : List ℕ) (r r1 r2 r3 : Rest) → past 8 r ≡ Ok r1 → n ≡ 16 → next n r1 ≡ Ok (sub, r2) → bytes_eq sub plain_samples ≡ true → r2 ≡ r3
+pub extension_is : (n : ℕ) (sub : List ℕ) (r r1 r2 r3 : Rest) → past 8 r ≡ Ok r1 → n ≡ 16 → next n r1 ≡ Ok (sub, r2)
+    → bytes_eq sub plain_samples ≡ true → r2 ≡ r3
     → extension true r ≡ Ok r3
 unfolding extension
 extension_is n sub r r1 r2 r3 a m b w e = let b' : next 16 r1 ≡ Ok (sub, r2) = rw (← m) b in rw (a, b', w, e) refl

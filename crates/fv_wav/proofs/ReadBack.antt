@@ -1,5 +1,6 @@
 -- What is written is read again.
-use Rattle.std.proofs.Common.{◌≡◌, ℕ, zero, suc, ◌+◌, ◌-◌, ◌*◌, ◌/◌, ◌%◌, ◌^◌, ◌≤◌, ◌<◌, ◌==◌, true, false, List, [], ◌∷◌, ◌++◌, length, take, drop, refl, sym, ap, ◌∙◌, arith, ℤ, Ok}
+use Rattle.std.proofs.Common.{◌≡◌, ℕ, zero, suc, ◌+◌, ◌-◌, ◌*◌, ◌/◌, ◌%◌, ◌^◌, ◌≤◌, ◌<◌, ◌==◌, true, false, List, []}
+use Rattle.std.proofs.Common.{◌∷◌, ◌++◌, length, take, drop, refl, sym, ap, ◌∙◌, arith, ℤ, Ok}
 use Rattle.std.specs.Prelude.{Some, pos, negsuc, ◌+ℤ◌, ◌-ℤ◌, flat_map, get_or, codes, FitsSigned}
 use Rattle.std.specs.Int.{w16, w32, cast_signed, cast_unsigned, int_max, int_min}
 use Rattle.std.proofs.lemmas.Int.{to_z-of_z}
@@ -75,12 +76,14 @@ sample_front bits x ys h =
 
 -- ---- all samples
 
-sample_again : (bits j : ℕ) (xs : List ℤ) → is_sample_width bits ≡ true → j < length xs → sample_at bits (flat_map (sample_bytes bits) xs) j ≡ clamped bits (get_or xs j (pos 0))
+sample_again : (bits j : ℕ) (xs : List ℤ) → is_sample_width bits ≡ true → j < length xs
+    → sample_at bits (flat_map (sample_bytes bits) xs) j ≡ clamped bits (get_or xs j (pos 0))
 unfolding sample_at
 sample_again bits j [] h l = absurd (omega arith)
 sample_again bits zero (x ∷ xs) h l =
     let none : 0 * (bits / 8) ≡ 0 = omega arith in
-    ap (λ (n : ℕ). sample_of bits (drop n (sample_bytes bits x ++ flat_map (sample_bytes bits) xs))) none ∙ sample_front bits x (flat_map (sample_bytes bits) xs) h
+    ap (λ (n : ℕ). sample_of bits (drop n (sample_bytes bits x ++ flat_map (sample_bytes bits) xs))) none
+    ∙ sample_front bits x (flat_map (sample_bytes bits) xs) h
 sample_again bits (suc j) (x ∷ xs) h l =
     let ys = flat_map (sample_bytes bits) xs in
     let more : suc j * (bits / 8) ≡ length (sample_bytes bits x) + j * (bits / 8) = omega (arith, suc-mul j (bits / 8), length_sample bits x h) in
@@ -116,44 +119,58 @@ frame_fits channels bits l h = at_width (λ b. frame_size channels b < 65536) bi
 width_fits : (bits : ℕ) → is_sample_width bits ≡ true → bits < 65536
 width_fits bits h = at_width (λ b. b < 65536) bits h (omega arith) (omega arith) (omega arith) (omega arith)
 
-sound_read : (channels rate bits : ℕ) (ys : List ℕ) → 1 ≤ channels → channels ≤ 256 → rate < 2 ^ 32 → is_sample_width bits ≡ true
-    → sound_at (rest_of 22 (little_bytes 2 channels ++ (little_bytes 4 rate ++ (little_bytes 4 ((rate * frame_size channels bits) % 2 ^ 32) ++ (little_bytes 2 (frame_size channels bits) ++ (little_bytes 2 bits ++ ys))))))
-    ≡ Ok (record { channels = channels; rate = rate; bits = bits }, rest_of 36 ys)
-sound_read channels rate bits ys some few rated wide =
-    sound_is channels rate bits _ _ _ _ _ (number_front 2 22 channels _ (omega arith)) (channels_within channels some few) (number_front 4 24 rate _ rated)
+-- what a head states that can be written: some channels, a rate of 32 bits, and a width of samples
+record IsStated (channels rate bits : ℕ) : Type 0 where
+  some : 1 ≤ channels
+  few : channels ≤ 256
+  rated : rate < 2 ^ 32
+  wide : is_sample_width bits ≡ true
+
+-- the bytes of a format behind its tag, and those behind them
+abbrev sound_bytes : (channels rate bits : ℕ) → List ℕ → List ℕ
+sound_bytes channels rate bits ys =
+    little_bytes 2 channels ++ (little_bytes 4 rate ++ (little_bytes 4 ((rate * frame_size channels bits) % 2 ^ 32)
+    ++ (little_bytes 2 (frame_size channels bits) ++ (little_bytes 2 bits ++ ys))))
+
+sound_read : (channels rate bits : ℕ) (ys : List ℕ) → IsStated channels rate bits
+    → sound_at (rest_of 22 (sound_bytes channels rate bits ys)) ≡ Ok (record { channels = channels; rate = rate; bits = bits }, rest_of 36 ys)
+sound_read channels rate bits ys s =
+    sound_is channels rate bits _ _ _ _ _ (number_front 2 22 channels _ (let f = s.few in omega arith)) (channels_within channels s.some s.few)
+    (number_front 4 24 rate _ s.rated)
     (shape_is channels (frame_size channels bits) bits _ _ _ _ _ (past_front 4 28 (little_bytes 4 ((rate * frame_size channels bits) % 2 ^ 32)) _ refl)
-    (number_front 2 32 (frame_size channels bits) _ (frame_fits channels bits few wide)) (number_front 2 34 bits _ (width_fits bits wide)) wide (itself (frame_size channels bits)) refl)
+    (number_front 2 32 (frame_size channels bits) _ (frame_fits channels bits s.few s.wide)) (number_front 2 34 bits _ (width_fits bits s.wide)) s.wide
+    (itself (frame_size channels bits)) refl)
     refl
 
 tag_read : (ys : List ℕ) → tag_at 16 (rest_of 20 (little_bytes 2 1 ++ ys)) ≡ Ok (1, rest_of 22 ys)
 unfolding tag_at
 tag_read ys = rw (number_front 2 20 1 ys (omega arith)) refl
 
-format_read : (channels rate bits : ℕ) (ys : List ℕ) → 1 ≤ channels → channels ≤ 256 → rate < 2 ^ 32 → is_sample_width bits ≡ true
-    → format_chunk (rest_of 16 (little_bytes 4 16 ++ (little_bytes 2 1 ++ (little_bytes 2 channels ++ (little_bytes 4 rate ++ (little_bytes 4 ((rate * frame_size channels bits) % 2 ^ 32)
-    ++ (little_bytes 2 (frame_size channels bits) ++ (little_bytes 2 bits ++ ys))))))))
+format_read : (channels rate bits : ℕ) (ys : List ℕ) → IsStated channels rate bits
+    → format_chunk (rest_of 16 (little_bytes 4 16 ++ (little_bytes 2 1 ++ sound_bytes channels rate bits ys)))
     ≡ Ok (record { channels = channels; rate = rate; bits = bits }, rest_of 36 ys)
-format_read channels rate bits ys some few rated wide =
+format_read channels rate bits ys s =
     format_is 16 0 _ _ _ _ _ _ (number_front 4 16 16 _ (omega arith))
-    (fields_plain 16 1 _ _ _ _ _ (tag_read _) (sound_read channels rate bits ys some few rated wide) refl refl)
+    (fields_plain 16 1 _ _ _ _ _ (tag_read _) (sound_read channels rate bits ys s) refl refl)
     refl (past_front 0 36 [] ys refl) refl
 
 data_read : (format : Format) (size : ℕ) (ys : List ℕ) → size ≤ data_limit
-    → data_chunk (Some format) 36 (rest_of 40 (little_bytes 4 size ++ ys)) ≡ Ok (record { channels = format.channels; rate = format.rate; bits = format.bits; data_bytes = size; place = 44 })
+    → data_chunk (Some format) 36 (rest_of 40 (little_bytes 4 size ++ ys))
+    ≡ Ok (record { channels = format.channels; rate = format.rate; bits = format.bits; data_bytes = size; place = 44 })
 unfolding data_chunk
 data_read format size ys h = rw (number_front 4 40 size ys (omega arith), known size h) refl
   where
     known : (size : ℕ) → size ≤ data_limit → (size == 4294967295) ≡ false
     known size h = grind arith
 
-head_read : (channels rate bits size : ℕ) (ys : List ℕ) → 1 ≤ channels → channels ≤ 256 → rate < 2 ^ 32 → is_sample_width bits ≡ true → size ≤ data_limit
+head_read : (channels rate bits size : ℕ) (ys : List ℕ) → IsStated channels rate bits → size ≤ data_limit
     → wave (head_bytes channels rate bits size ++ ys) ≡ Ok (record { channels = channels; rate = rate; bits = bits; data_bytes = size; place = 44 })
 unfolding wave walk
-head_read channels rate bits size ys some few rated wide h =
+head_read channels rate bits size ys s h =
     rw (
       next_front 12 0 (codes "RIFF" ++ little_bytes 4 (36 + size + size % 2) ++ codes "WAVE") _ refl,
       next_front 4 12 (codes "fmt ") _ refl,
-      format_read channels rate bits (codes "data" ++ little_bytes 4 size ++ ys) some few rated wide,
+      format_read channels rate bits (codes "data" ++ little_bytes 4 size ++ ys) s,
       next_front 4 36 (codes "data") _ refl,
       data_read (record { channels = channels; rate = rate; bits = bits }) size ys h,
     ) refl
@@ -168,7 +185,9 @@ pub file_read : (channels rate bits frames : ℕ) (xs : List ℤ) → CanBeWritt
 file_read channels rate bits frames xs w =
     let size : length xs * (bits / 8) ≡ data_size channels bits frames = ap (λ (n : ℕ). n * (bits / 8)) w.whole ∙ mul_assoc frames channels (bits / 8) in
     ap (λ (n : ℕ). wave (head_bytes channels rate bits n ++ flat_map (sample_bytes bits) xs ++ pad_bytes n)) size
-    ∙ head_read channels rate bits (data_size channels bits frames) (flat_map (sample_bytes bits) xs ++ pad_bytes (data_size channels bits frames)) w.some w.few w.rated w.bits_are w.stated
+    ∙ head_read channels rate bits (data_size channels bits frames)
+    (flat_map (sample_bytes bits) xs ++ pad_bytes (data_size channels bits frames))
+    (record { some = w.some; few = w.few; rated = w.rated; wide = w.bits_are }) w.stated
 
 samples_present : (channels rate bits frames : ℕ) (xs : List ℤ) → CanBeWritten channels rate bits frames xs
     → present (head_of channels rate bits frames) (file_bytes channels rate bits xs) ≡ flat_map (sample_bytes bits) xs
@@ -176,20 +195,25 @@ samples_present channels rate bits frames xs w =
     let stored = flat_map (sample_bytes bits) xs in
     let whole : whole_bytes (head_of channels rate bits frames) ≡ frames * frame_size channels bits =
     ap (λ (n : ℕ). n * frame_size channels bits) (mul-div_cancel frames (some_frame channels bits w.some w.bits_are)) in
-    let long : length stored ≡ frames * frame_size channels bits = length_samples bits xs w.bits_are ∙ ap (λ (n : ℕ). n * (bits / 8)) w.whole ∙ mul_assoc frames channels (bits / 8) in
-    ap (λ (n : ℕ). take n (stored ++ pad_bytes (length xs * (bits / 8)))) (whole ∙ sym long) ∙ take_at stored (pad_bytes (length xs * (bits / 8))) (length stored) refl
+    let long : length stored ≡ frames * frame_size channels bits = length_samples bits xs w.bits_are ∙ ap (λ (n : ℕ). n * (bits / 8)) w.whole
+    ∙ mul_assoc frames channels (bits / 8) in
+    ap (λ (n : ℕ). take n (stored ++ pad_bytes (length xs * (bits / 8)))) (whole ∙ sym long)
+    ∙ take_at stored (pad_bytes (length xs * (bits / 8))) (length stored) refl
 
 pub samples_read : (channels rate bits frames : ℕ) (xs : List ℤ) → CanBeWritten channels rate bits frames xs
     → frames_in (head_of channels rate bits frames) (file_bytes channels rate bits xs)
     ≡ table frames (λ t. table channels (λ i. clamped bits (get_or xs (t * channels + i) (pos 0))))
 samples_read channels rate bits frames xs w =
     let stored = flat_map (sample_bytes bits) xs in
-    let long : length stored ≡ frames * frame_size channels bits = length_samples bits xs w.bits_are ∙ ap (λ (n : ℕ). n * (bits / 8)) w.whole ∙ mul_assoc frames channels (bits / 8) in
+    let long : length stored ≡ frames * frame_size channels bits = length_samples bits xs w.bits_are ∙ ap (λ (n : ℕ). n * (bits / 8)) w.whole
+    ∙ mul_assoc frames channels (bits / 8) in
     let counted : length stored / frame_size channels bits ≡ frames =
     ap (λ (n : ℕ). n / frame_size channels bits) long ∙ mul-div_cancel frames (some_frame channels bits w.some w.bits_are) in
-    ap (λ bytes. table (length bytes / frame_size channels bits) (λ t. table channels (λ i. sample_at bits bytes (t * channels + i)))) (samples_present channels rate bits frames xs w)
+    ap (λ bytes. table (length bytes / frame_size channels bits) (λ t. table channels (λ i. sample_at bits bytes (t * channels + i))))
+    (samples_present channels rate bits frames xs w)
     ∙ ap (λ (n : ℕ). table n (λ t. table channels (λ i. sample_at bits stored (t * channels + i)))) counted
     ∙ table_same frames _ _ (λ t l. table_same channels _ _ (λ i m. sample_again bits (t * channels + i) xs w.bits_are (inside t i l m)))
   where
     inside : (t i : ℕ) → t < frames → i < channels → t * channels + i < length xs
-    inside t i l m = let most : suc t * channels ≤ frames * channels = mul-le-mul_right channels (omega arith) in omega (arith, most, suc-mul t channels, w.whole)
+    inside t i l m = let most : suc t * channels ≤ frames * channels = mul-le-mul_right channels (omega arith) in
+        omega (arith, most, suc-mul t channels, w.whole)

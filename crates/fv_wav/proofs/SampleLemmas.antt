@@ -1,5 +1,6 @@
 -- Samples in a part of the bytes.
-use Rattle.std.proofs.Common.{◌≡◌, ℕ, ◌+◌, ◌-◌, ◌*◌, ◌/◌, ◌≤◌, ◌<◌, true, List, [], ◌++◌, length, take, drop, refl, sym, ap, ◌∙◌, arith, ℤ, subst, ⊎_elim, Ok, Err, ◌⊎◌, inl, inr}
+use Rattle.std.proofs.Common.{◌≡◌, ℕ, ◌+◌, ◌-◌, ◌*◌, ◌/◌, ◌≤◌, ◌<◌, true, List, [], ◌++◌, length, take, drop, refl}
+use Rattle.std.proofs.Common.{sym, ap, ◌∙◌, arith, ℤ, subst, ⊎_elim, Ok, Err, ◌⊎◌, inl, inr}
 use Rattle.std.specs.Prelude.{Result, pos, ◌-ℤ◌, flat_map, get_or}
 use Rattle.std.specs.Int.{w16, w32, cast_signed}
 use Rattle.std.proofs.Math.Nat.{mul-le-mul_right}
@@ -37,7 +38,8 @@ pub widths : (bits : ℕ) → is_sample_width bits ≡ true → (bits ≡ 8) ⊎
 widths bits h =
     ⊎_elim (λ (e : bits ≡ 8). inl e) (λ a. ⊎_elim (λ (e : bits ≡ 16). inr (inl e)) (λ b. ⊎_elim (λ (e : bits ≡ 24). inr (inr (inl e)))
     (λ d. ⊎_elim (λ (e : bits ≡ 32). inr (inr (inr e)))
-    (λ f. let w = ne_eqb bits 8 a in let x = ne_eqb bits 16 b in let y = ne_eqb bits 24 d in let z = ne_eqb bits 32 f in let k = rw (w, x, y, z) at h in absurd (cc))
+    (λ f. let w = ne_eqb bits 8 a in let x = ne_eqb bits 16 b in let y = ne_eqb bits 24 d in let z = ne_eqb bits 32 f in
+    let k = rw (w, x, y, z) at h in absurd (cc))
     (cases_eq bits 32)) (cases_eq bits 24)) (cases_eq bits 16)) (cases_eq bits 8)
 
 -- what holds at each width

@@ -33,7 +33,8 @@ said_earlier : {P Q : Type 0} {n : ℕ} {R : Type 0} {a b c : DeskState} → Pas
 said_earlier p f s = record { steady = λ r. s.steady r ∙ p.steady r; told = λ t. f t (s.told (told_before p.takes.goes_on t)) }
 
 -- a cause counts from an earlier state on
-pub cause_earlier : (P Q : Type 0) {R : Type 0} {n : ℕ} (a b c : DeskState) (e : WaveRefusal) → Passes n R a b → (IsTrue a.tells → P → Q) → IsCause e P b c → IsCause e Q a c
+pub cause_earlier : (P Q : Type 0) {R : Type 0} {n : ℕ} (a b c : DeskState) (e : WaveRefusal) → Passes n R a b → (IsTrue a.tells → P → Q) → IsCause e P b c
+    → IsCause e Q a c
 cause_earlier P Q a b c (ReadFault role) p f h =
     let g = p.takes.goes_on in
     (h.0, record { counted = fault_earlier c Input g h.1.counted; due = λ t u. h.1.due (told_before g t) (unfailing_later Input g t u) })
@@ -44,7 +45,8 @@ cause_earlier P Q a b c (WaveChunks n) p f h = said_earlier p f h
 
 -- a reading, and then a stop
 pub stops_then : {P Q : Type 0} (R : Type 0) {n : ℕ} {a b c : DeskState} {e : WaveRefusal} → Passes n P a b → Stops Q b c e → (P → Q → R) → Stops R a c e
-stops_then {P} {Q} R {a = a} {b = b} {c = c} {e = e} p s f = record { some = some_then p.takes s.some; cause = cause_earlier Q R a b c e p (λ t q. f (p.told t) q) s.cause }
+stops_then {P} {Q} R {a = a} {b = b} {c = c} {e = e} p s f =
+    record { some = some_then p.takes s.some; cause = cause_earlier Q R a b c e p (λ t q. f (p.told t) q) s.cause }
 
 -- a stop at once, said otherwise
 pub stops_as : {Q : Type 0} (R : Type 0) {a c : DeskState} {e : WaveRefusal} → Stops Q a c e → (Q → R) → Stops R a c e

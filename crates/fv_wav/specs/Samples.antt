@@ -1,5 +1,6 @@
 -- Samples and frames as bytes (RIFF WAVE 1991).
-use Rattle.std.specs.Prelude.{◌≡◌, ℕ, true, ◌≤◌, ◌+◌, ◌*◌, ◌/◌, ◌%◌, ◌^◌, ◌==◌, nat_le, List, ◌++◌, length, take, drop, replicate, flat_map, Option, Some, None, ℤ, pos, ◌+ℤ◌, ◌-ℤ◌, codes, if◌then◌else◌}
+use Rattle.std.specs.Prelude.{◌≡◌, ℕ, true, ◌≤◌, ◌+◌, ◌*◌, ◌/◌, ◌%◌, ◌^◌, ◌==◌, nat_le, List, ◌++◌, length, take, drop, replicate}
+use Rattle.std.specs.Prelude.{flat_map, Option, Some, None, ℤ, pos, ◌+ℤ◌, ◌-ℤ◌, codes, if◌then◌else◌}
 use Rattle.std.specs.Int.{w16, w32, cast_signed, cast_unsigned}
 use Rattle.byteorder.specs.Endian.{little_number, little_bytes, twos_complement}
 use Rattle.fv_num.specs.Words.{argument, is_sample_width, clamped}
@@ -52,7 +53,8 @@ abbrev pub Follow : Type 0
 Follow =
     (head : Head) (bytes : List ℕ) (t n : ℕ) → 1 ≤ head.channels → is_sample_width head.bits ≡ true
     → (t + n) * frame_size head.channels head.bits ≤ length (present head bytes)
-    → rows head.channels n (samples_in head.bits (n * head.channels) (drop (head.place + t * frame_size head.channels head.bits) bytes)) ≡ take n (drop t (frames_in head bytes))
+    → rows head.channels n (samples_in head.bits (n * head.channels) (drop (head.place + t * frame_size head.channels head.bits) bytes))
+    ≡ take n (drop t (frames_in head bytes))
 
 -- ---- writing
 
@@ -66,8 +68,9 @@ frame_bytes bits x = flat_map (sample_bytes bits) x
 -- the 44 bytes before so many bytes of samples
 abbrev pub head_bytes : (channels rate bits size : ℕ) → List ℕ
 head_bytes channels rate bits size =
-    codes "RIFF" ++ little_bytes 4 (36 + size + size % 2) ++ codes "WAVEfmt " ++ little_bytes 4 16 ++ little_bytes 2 1 ++ little_bytes 2 channels ++ little_bytes 4 rate
-    ++ little_bytes 4 ((rate * frame_size channels bits) % 2 ^ 32) ++ little_bytes 2 (frame_size channels bits) ++ little_bytes 2 bits ++ codes "data" ++ little_bytes 4 size
+    codes "RIFF" ++ little_bytes 4 (36 + size + size % 2) ++ codes "WAVEfmt " ++ little_bytes 4 16 ++ little_bytes 2 1
+    ++ little_bytes 2 channels ++ little_bytes 4 rate ++ little_bytes 4 ((rate * frame_size channels bits) % 2 ^ 32)
+    ++ little_bytes 2 (frame_size channels bits) ++ little_bytes 2 bits ++ codes "data" ++ little_bytes 4 size
 
 -- one zero byte behind an odd number of bytes
 abbrev pub pad_bytes : ℕ → List ℕ

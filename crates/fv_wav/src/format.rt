@@ -3,7 +3,8 @@
 ghost use Rattle.std.specs.Prelude.{◌≡◌, ℕ, ◌+◌, ◌^◌, ◌<◌, ◌≤◌, ◌==◌, Ok, Err, IfOk, IfErr, true, bytes_eq};
 ghost use Rattle.fv_base.specs.declared.role.Role.TheVariants.{Input};
 ghost use Rattle.fv_num.specs.Words.{is_sample_width};
-ghost use Rattle.fv_wav.specs.Reading.{rest_of, tag_at, shape_at, sound_at, extension, fields, format_chunk, is_tag, is_channels, frame_size, least_size, extensible_tag, plain_samples};
+ghost use Rattle.fv_wav.specs.Reading.{rest_of, tag_at, shape_at, sound_at, extension, fields, format_chunk, is_tag, is_channels};
+ghost use Rattle.fv_wav.specs.Reading.{frame_size, least_size, extensible_tag, plain_samples};
 ghost use Rattle.fv_wav.specs.Stopping.{Passes, Stops, IsFormat};
 
 use crate::head::Format;
@@ -74,7 +75,8 @@ fn read_shape<D: Desk>(desk: &mut D, place: u64, channels: u16) -> Result<u16, W
         (shape_at channels (rest_of place ((D.state desk.old).left Input)) ≡ Ok (bits, rest_of (place + 8) ((D.state desk.new).left Input)))
         (D.state desk.old) (D.state desk.new)) }
     ensures width { IfOk result (λ bits. is_sample_width bits ≡ true) }
-    ensures err { IfErr result (λ e. Stops (shape_at channels (rest_of place ((D.state desk.old).left Input)) ≡ Err e) (D.state desk.old) (D.state desk.new) e) }
+    ensures err { IfErr result
+        (λ e. Stops (shape_at channels (rest_of place ((D.state desk.old).left Input)) ≡ Err e) (D.state desk.old) (D.state desk.new) e) }
 {
     pass(desk, place, 4)?;
     let align = read_u16(desk, place + 4)?;

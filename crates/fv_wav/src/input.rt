@@ -16,7 +16,8 @@ pub fn take_all<D: Desk>(desk: &mut D, place: u64, to: &mut [u8]) -> Result<(), 
     ensures ok { IfOk result (λ _. Passes (length to.new)
         (next (length to.new) (rest_of place ((D.state desk.old).left Input)) ≡ Ok (to.new, rest_of (place + length to.new) ((D.state desk.new).left Input)))
         (D.state desk.old) (D.state desk.new)) }
-    ensures err { IfErr result (λ e. Stops (next (length to.new) (rest_of place ((D.state desk.old).left Input)) ≡ Err e) (D.state desk.old) (D.state desk.new) e) }
+    ensures err { IfErr result
+        (λ e. Stops (next (length to.new) (rest_of place ((D.state desk.old).left Input)) ≡ Err e) (D.state desk.old) (D.state desk.new) e) }
 {
     let n = fill(desk, Role::Input, to)?;
     if n < to.len() {

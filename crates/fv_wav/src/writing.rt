@@ -1,6 +1,7 @@
 // Writing a WAV file.
 
-ghost use Rattle.std.specs.Prelude.{◌≡◌, ◌+◌, ◌*◌, ◌/◌, ◌^◌, ◌<◌, ◌≤◌, List, ℕ, length, [], ◌++◌, ◌==◌, take, drop, slice_index_or, true, IfErr, IsOk, IsTrue, OnOk, OnErr, flat_map, pos, ◌+ℤ◌, if◌then◌else◌};
+ghost use Rattle.std.specs.Prelude.{◌≡◌, ◌+◌, ◌*◌, ◌/◌, ◌^◌, ◌<◌, ◌≤◌, List, ℕ, length, [], ◌++◌, ◌==◌, take, drop};
+ghost use Rattle.std.specs.Prelude.{slice_index_or, true, IfErr, IsOk, IsTrue, OnOk, OnErr, flat_map, pos, ◌+ℤ◌, if◌then◌else◌};
 ghost use Rattle.byteorder.specs.Endian.{little_bytes};
 ghost use Rattle.fv_base.specs.declared.role.Role.TheVariants.{Output};
 ghost use Rattle.fv_base.specs.Lists.{IsPrefixOf};
@@ -42,7 +43,8 @@ pub fn write_head<D: Desk>(
     requires bits { is_sample_width bits ≡ true }
     requires size { data_bytes ≤ data_limit }
     ensures ok { OnOk result (Appends Output (head_bytes channels rate bits data_bytes) (D.state desk.old) (D.state desk.new)) }
-    ensures err { OnErr result ((part : List ℕ) × IsPrefixOf part (head_bytes channels rate bits data_bytes) × Appends Output part (D.state desk.old) (D.state desk.new)) }
+    ensures err { OnErr result ((part : List ℕ) × IsPrefixOf part (head_bytes channels rate bits data_bytes)
+        × Appends Output part (D.state desk.old) (D.state desk.new)) }
     ensures failed { IfErr result (λ e. (e ≡ WriteFault Output) × HasFault Output (D.state desk.old) (D.state desk.new)) }
     ensures steady { OnOk result (KeepsFaults (D.state desk.old) (D.state desk.new)) }
     ensures answers { IsTrue (D.state desk.old).tells → IsUnfailing Output (D.state desk.old) →
@@ -92,7 +94,8 @@ pub fn write_frames<D: Desk>(
     requires bits { is_sample_width bits ≡ true }
     requires room { length samples.now * (bits / 8) ≤ length bytes.old }
     ensures ok { OnOk result (Appends Output (flat_map (sample_bytes bits) samples.now) (D.state desk.old) (D.state desk.new)) }
-    ensures err { OnErr result ((part : List ℕ) × IsPrefixOf part (flat_map (sample_bytes bits) samples.now) × Appends Output part (D.state desk.old) (D.state desk.new)) }
+    ensures err { OnErr result ((part : List ℕ) × IsPrefixOf part (flat_map (sample_bytes bits) samples.now)
+        × Appends Output part (D.state desk.old) (D.state desk.new)) }
     ensures failed { IfErr result (λ e. (e ≡ WriteFault Output) × HasFault Output (D.state desk.old) (D.state desk.new)) }
     ensures steady { OnOk result (KeepsFaults (D.state desk.old) (D.state desk.new)) }
     ensures answers { IsTrue (D.state desk.old).tells → IsUnfailing Output (D.state desk.old) →

@@ -15,7 +15,10 @@ returns-then-not-is_form-clause-err g c =
     let n : length c.take_all.new.to ≡ 12 = search rules in
     record {
       some = record { bytes = c.in_ok-take_all.ensures.ok.bytes; takes = c.in_ok-take_all.ensures.ok.takes };
-      cause = record { steady = c.in_ok-take_all.ensures.ok.steady; told = λ t. wave_not _ _ _ _ (c.in_ok-take_all.ensures.ok.told t) n (sym c.if-not-is_form.ensures) };
+      cause = record {
+        steady = c.in_ok-take_all.ensures.ok.steady;
+        told = λ t. wave_not _ _ _ _ (c.in_ok-take_all.ensures.ok.told t) n (sym c.if-not-is_form.ensures);
+      };
     }
 
 pub returns-clause-ok : goal.returns-clause-ok

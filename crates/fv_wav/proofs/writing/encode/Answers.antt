@@ -1,4 +1,5 @@
-use Rattle.std.proofs.Common.{◌≡◌, ◌∙◌, ◌+◌, ◌-◌, ◌*◌, ◌/◌, ◌≤◌, ◌++◌, ℤ, ℕ, List, sym, ap, arith, rules, length, take, drop, get_or, pos, length-append, w32, SFits, to_z, of_z}
+use Rattle.std.proofs.Common.{◌≡◌, ◌∙◌, ◌+◌, ◌-◌, ◌*◌, ◌/◌, ◌≤◌, ◌++◌, ℤ, ℕ, List, sym, ap, arith, rules, length}
+use Rattle.std.proofs.Common.{take, drop, get_or, pos, length-append, w32, SFits, to_z, of_z}
 use Rattle.std.specs.Prelude.{flat_map}
 use borrow.Rule.Slice.PartMut.{put_mid}
 use Rattle.std.proofs.lemmas.List.{take_at}
@@ -24,7 +25,8 @@ loop-i-preserved c =
     let few : i * k ≤ length c.args.samples.now * k = mul-le-mul_right k (let h = c.loop-i-test.true in omega arith) in
     let start : i * k ≤ length c.loop-i.bytes = let e = c.loop-i.auto.bytes in let r = c.requires.room in omega arith in
     let at : (i + 1) * k ≡ i * k + k = omega arith in
-    ap (λ (n : ℕ). take n (put_mid (i * k) (length c.loop-i.bytes - i * k) c.loop-i.bytes c.put_sample.new.to)) at ∙ part_front c.loop-i.bytes c.put_sample.new.to (i * k) k (length c.loop-i.bytes - i * k) start room
+    ap (λ (n : ℕ). take n (put_mid (i * k) (length c.loop-i.bytes - i * k) c.loop-i.bytes c.put_sample.new.to)) at
+    ∙ part_front c.loop-i.bytes c.put_sample.new.to (i * k) k (length c.loop-i.bytes - i * k) start room
     ∙ ap (λ (w : List ℕ). w ++ take k c.put_sample.new.to) c.loop-i.invariant
     ∙ ap (λ (w : List ℕ). flat_map (sample_bytes bits) (take i c.args.samples.now) ++ w) (ap (take k) to ∙ take_at (sample_bytes bits x) rest k long)
     ∙ sym (sample_more bits i c.args.samples.now (pos 0) c.loop-i-test.true)
