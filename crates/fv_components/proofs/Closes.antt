@@ -95,8 +95,10 @@ module _ (next : Links) (n : ℕ) (st new : State) (front : List Class) (last : 
         subst (λ x. ((class new b).first < x.first) × ((class new b).waiting ≤ x.waiting)) (sym (class_is c q))
         (subst (λ x. (x.first < (class st c).first) × (x.waiting ≤ (class st c).waiting)) (sym (class_is b (omega arith)))
         (s.stacked.rising b c h (omega (arith, longer))));
-    some =
-        λ l. elim (cases_lt 0 (length front)) [ inl h ↦ omega (arith, fewer) | inr h ↦ absurd (let z = bottom_first (omega arith) in omega (arith, shorter)) ];
+    some = λ l. elim (cases_lt 0 (length front)) [
+      | inl h ↦ omega (arith, fewer)
+      | inr h ↦ absurd (let z = bottom_first (omega arith) in omega (arith, shorter))
+    ];
     bottom = elim (cases_lt 0 (length front)) [
       | inl h ↦ ap (λ x. x.first) (class_is 0 h) ∙ s.stacked.bottom
       | inr h ↦ ap (λ x. x.first) (get_or_past new.classes 0 no_class (omega (arith, fewer)))
