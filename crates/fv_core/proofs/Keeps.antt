@@ -72,23 +72,32 @@ arrived c g w e r k ds os same q read d o =
     same_now _ _ (ap (λ m. set s.counts m (k - 1)) there ∙ ap (set s.counts n) less) refl
     (d ∙ ap (λ m. set s.deques w (joined m (k - 1) (deque_of s w))) there ∙ ap (λ m. set s.deques w (joined n m (deque_of s w))) less) refl o refl
 
--- a core as it begins
-pub stored_open : (d : Inside) (g : Tasks) → IsGraph g → 0 < d.workers → d.seen.value.tasks ≡ g → now_of d ≡ opening (net_of g) d.workers
-    → task_count g ≤ d.room_tasks → edges_of g ≤ d.room_edges
-    → d.room_tasks ≤ vec_capacity d.counts → d.room_tasks ≤ vec_capacity d.done
-    → ((w : ℕ) → w < d.workers → d.room_tasks ≤ get_or (rooms_of d.deques.items) w 0)
-    → ((w : ℕ) → w < d.workers → d.room_edges ≤ get_or (owed_rooms d.owes.items) w 0) → IsStored d
-stored_open d g ig some seen is tasks edges counts done deques owes = record {
-  graph = subst (λ (x : Tasks). IsGraph x) (sym seen) ig;
-  sound = subst (λ (x : Tasks). IsSound (net_of x) d.workers (now_of d)) (sym seen) (subst (λ (s : Now). IsSound (net_of g) d.workers s) (sym is)
-      (sound_now (net_of g) d.workers (λ _. 0) (λ _. 0) 0 (opening (net_of g) d.workers) (opens (net_of g) d.workers some)));
-  some_worker = some;
-  tasks_fit = let q = ap task_count seen in omega arith;
-  edges_fit = let q = ap edges_of seen in omega arith;
-  counts_room = counts;
-  done_room = done;
-  deques_room = deques;
-  owed_room = owes;
+-- a core that begins with these tasks: its state is the opening one, and there is room for what comes
+pub record Begins (d : Inside) (g : Tasks) : Type 0 where
+  pub graph : IsGraph g
+  pub some : 0 < d.workers
+  pub seen : d.seen.value.tasks ≡ g
+  pub state : now_of d ≡ opening (net_of g) d.workers
+  pub tasks : task_count g ≤ d.room_tasks
+  pub edges : edges_of g ≤ d.room_edges
+  pub counts : d.room_tasks ≤ vec_capacity d.counts
+  pub done : d.room_tasks ≤ vec_capacity d.done
+  pub deques : (w : ℕ) → w < d.workers → d.room_tasks ≤ get_or (rooms_of d.deques.items) w 0
+  pub owes : (w : ℕ) → w < d.workers → d.room_edges ≤ get_or (owed_rooms d.owes.items) w 0
+
+pub stored_open : (d : Inside) (g : Tasks) → Begins d g → IsStored d
+stored_open d g b = record {
+  graph = subst (λ (x : Tasks). IsGraph x) (sym b.seen) b.graph;
+  sound = subst (λ (x : Tasks). IsSound (net_of x) d.workers (now_of d)) (sym b.seen)
+      (subst (λ (s : Now). IsSound (net_of g) d.workers s) (sym b.state)
+      (sound_now (net_of g) d.workers (λ _. 0) (λ _. 0) 0 (opening (net_of g) d.workers) (opens (net_of g) d.workers b.some)));
+  some_worker = b.some;
+  tasks_fit = let q = ap task_count b.seen in let t = b.tasks in omega arith;
+  edges_fit = let q = ap edges_of b.seen in let e = b.edges in omega arith;
+  counts_room = b.counts;
+  done_room = b.done;
+  deques_room = b.deques;
+  owed_room = b.owes;
 }
 
 abbrev pub running_with : Tasks → ℕ → ℕ → ℕ → Now → Running

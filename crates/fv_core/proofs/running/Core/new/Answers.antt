@@ -18,10 +18,20 @@ invariant_of-result c =
     let t = c.len-room_tasks.ensures.value in let e = c.edges-room_edges.ensures.value in
     let cr = c.open_tasks.ensures.counts_room in let ce = c.in_ok-counts.ensures.exact in
     let dr = c.open_tasks.ensures.done_room in let de = c.in_ok-done.ensures.exact in
-    stored_open _ c.args.tasks.now.tasks c.open_tasks.ensures.graph c.requires.some_worker seen is (omega arith) (omega arith) (omega arith) (omega arith)
-    (λ w h. let q = ap (λ l. get_or l w 0) (c.deal.ensures.rooms ∙ c.in_ok-deques.ensures.room) in
-    let g = get_in c.args.workers c.len-room_tasks.result 0 w h in omega arith)
-    (λ w h. let q = ap (λ l. get_or l w 0) c.in_ok-empty_lists.ensures.room in let g = get_in c.args.workers c.edges-room_edges.result 0 w h in omega arith)
+    stored_open _ c.args.tasks.now.tasks (record {
+      graph = c.open_tasks.ensures.graph;
+      some = c.requires.some_worker;
+      seen = seen;
+      state = is;
+      tasks = omega arith;
+      edges = omega arith;
+      counts = omega arith;
+      done = omega arith;
+      deques = λ w h. let q = ap (λ l. get_or l w 0) (c.deal.ensures.rooms ∙ c.in_ok-deques.ensures.room) in
+          let g = get_in c.args.workers c.len-room_tasks.result 0 w h in omega arith;
+      owes = λ w h. let q = ap (λ l. get_or l w 0) c.in_ok-empty_lists.ensures.room in
+          let g = get_in c.args.workers c.edges-room_edges.result 0 w h in omega arith;
+    })
 
 pub returns-clause-core : goal.returns-clause-core
 returns-clause-core c =

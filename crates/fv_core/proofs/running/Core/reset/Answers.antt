@@ -25,9 +25,19 @@ invariant_of-self c =
     let vt = ap (λ (r : Running). r.room_tasks) c.self.view_is in let ve = ap (λ (r : Running). r.room_edges) c.self.view_is in
     let cr = c.open_tasks.ensures.counts_room in let ce = c.self.invariant.counts_room in
     let dr = c.open_tasks.ensures.done_room in let de = c.self.invariant.done_room in
-    stored_open _ c.args.tasks.now.tasks c.open_tasks.ensures.graph c.self.invariant.some_worker seen is (omega arith) (omega arith) (omega arith) (omega arith)
-    (λ w h. let q = ap (λ l. get_or l w 0) (c.deal.ensures.rooms ∙ c.clear_deques.ensures.rooms) in let g = c.self.invariant.deques_room w h in omega arith)
-    (λ w h. let q = ap (λ l. get_or l w 0) c.clear_lists.ensures.rooms in let g = c.self.invariant.owed_room w h in omega arith)
+    stored_open _ c.args.tasks.now.tasks (record {
+      graph = c.open_tasks.ensures.graph;
+      some = c.self.invariant.some_worker;
+      seen = seen;
+      state = is;
+      tasks = omega arith;
+      edges = omega arith;
+      counts = omega arith;
+      done = omega arith;
+      deques = λ w h. let q = ap (λ l. get_or l w 0) (c.deal.ensures.rooms ∙ c.clear_deques.ensures.rooms) in
+          let g = c.self.invariant.deques_room w h in omega arith;
+      owes = λ w h. let q = ap (λ l. get_or l w 0) c.clear_lists.ensures.rooms in let g = c.self.invariant.owed_room w h in omega arith;
+    })
 
 pub returns : goal.returns
 returns c =
