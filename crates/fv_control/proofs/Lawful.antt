@@ -9,7 +9,8 @@ use Rattle.fv_control.specs.declared.script.Change.{Change}
 use Rattle.fv_control.specs.declared.refusal.ScriptRefusal.{ScriptRefusal}
 use Rattle.fv_control.specs.declared.refusal.ScriptRefusal.TheVariants.{ControlRange, ControlOrder, TextTooLong}
 use Rattle.fv_base.specs.declared.role.Role.TheVariants.{Controls}
-use Rattle.fv_control.specs.Script.{Request, ◌>>=◌, script, lines_say, line_says, lines_of, listed, least_behind, is_silent, is_within, no_control, change_of, asked, heard, request_of}
+use Rattle.fv_control.specs.Script.{Request, ◌>>=◌, script, lines_say, line_says, lines_of, listed, least_behind, is_silent}
+use Rattle.fv_control.specs.Script.{is_within, no_control, change_of, asked, heard, request_of}
 use Rattle.fv_control.specs.Laws.{NeverFall, IsOfControls, IsLawful}
 
 -- a change that a line may say
@@ -23,7 +24,8 @@ Good controls least (Ok (Some c)) = Says controls least c
 Good controls least (Err e) = Unit {0}
 
 -- a choice, with the test at hand
-choice : (P : Result (Option Change) ScriptRefusal → Type 0) (b : Bool) (x y : Result (Option Change) ScriptRefusal) → (b ≡ true → P x) → (b ≡ false → P y) → P (if b then x else y)
+choice : (P : Result (Option Change) ScriptRefusal → Type 0) (b : Bool) (x y : Result (Option Change) ScriptRefusal) → (b ≡ true → P x) → (b ≡ false → P y)
+    → P (if b then x else y)
 choice P true x y f g = f refl
 choice P false x y f g = g refl
 
@@ -31,20 +33,26 @@ not_false : (b : Bool) → not b ≡ false → b ≡ true
 not_false true e = refl
 not_false false e = absurd (cc)
 
-good_change : (controls : List ControlInfo) (least n k : ℕ) (r : Request) → k < length controls → Good controls least (change_of (slice_index_or controls k no_control) least n k r)
+good_change : (controls : List ControlInfo) (least n k : ℕ) (r : Request) → k < length controls
+    → Good controls least (change_of (slice_index_or controls k no_control) least n k r)
 good_change controls least n k r h =
     choice (Good controls least) (not (is_within (slice_index_or controls k no_control) r.value)) (Err (ControlRange n)) _ (λ e. tt)
     (λ e. choice (Good controls least) (nat_le least r.frame) (Ok (Some (record { frame = r.frame; control = k; value = r.value }))) (Err (ControlOrder n))
-    (λ t. record { later = leb-true least r.frame t; known = record { there = h; within = not_false (is_within (slice_index_or controls k no_control) r.value) e } }) (λ t. tt))
+    (λ t. record {
+      later = leb-true least r.frame t;
+      known = record { there = h; within = not_false (is_within (slice_index_or controls k no_control) r.value) e };
+    }) (λ t. tt))
 
 -- a place is within the list
 place_within : (n m : ℕ) (b : Bool) (k : ℕ) → nat_lt n m ≡ b → (if b then Some n else None) ≡ Some k → k < m
 place_within n m true k t e = let f : n ≡ k = cc in let l = ltb-true n m t in omega arith
 place_within n m false k t e = absurd (cc)
 
-good_asked : (controls : List ControlInfo) (least n : ℕ) (r : Request) (o : Option ℕ) → position (λ c. bytes_eq c.label r.label) controls ≡ o → Good controls least (asked controls least n r o)
+good_asked : (controls : List ControlInfo) (least n : ℕ) (r : Request) (o : Option ℕ) → position (λ c. bytes_eq c.label r.label) controls ≡ o
+    → Good controls least (asked controls least n r o)
 good_asked controls least n r None e = tt
-good_asked controls least n r (Some k) e = good_change controls least n k r (place_within (position_or_len (λ c. bytes_eq c.label r.label) controls) (length controls) _ k refl e)
+good_asked controls least n r (Some k) e =
+    good_change controls least n k r (place_within (position_or_len (λ c. bytes_eq c.label r.label) controls) (length controls) _ k refl e)
 
 good_heard : (controls : List ControlInfo) (least n : ℕ) (o : Option Request) → Good controls least (heard controls least n o)
 good_heard controls least n None = tt
@@ -65,13 +73,15 @@ abbrev AllGood : List ControlInfo → ℕ → Result (List Change) ScriptRefusal
 AllGood controls least (Ok cs) = Lawful controls least cs
 AllGood controls least (Err e) = Unit {0}
 
-joined : (controls : List ControlInfo) (least : ℕ) (c : Option Change) (m : Result (List Change) ScriptRefusal) → Good controls least (Ok c) → AllGood controls (least_behind least c) m
+joined : (controls : List ControlInfo) (least : ℕ) (c : Option Change) (m : Result (List Change) ScriptRefusal) → Good controls least (Ok c)
+    → AllGood controls (least_behind least c) m
     → AllGood controls least (m >>= λ cs. Ok (listed c ++ cs))
 joined controls least c (Err e) g a = tt
 joined controls least None (Ok cs) g a = a
 joined controls least (Some c) (Ok cs) g a = record { order = (g.later, a.order); known = (g.known, a.known) }
 
-first : (controls : List ControlInfo) (least : ℕ) (m : Result (Option Change) ScriptRefusal) (f : Option Change → Result (List Change) ScriptRefusal) → Good controls least m
+first : (controls : List ControlInfo) (least : ℕ) (m : Result (Option Change) ScriptRefusal) (f : Option Change → Result (List Change) ScriptRefusal)
+    → Good controls least m
     → ((c : Option Change) → AllGood controls (least_behind least c) (f c)) → AllGood controls least (m >>= λ c. f c >>= λ cs. Ok (listed c ++ cs))
 first controls least (Err e) f g a = tt
 first controls least (Ok c) f g a = joined controls least c (f c) g (a c)
@@ -88,7 +98,8 @@ chosen P false x y f g = g
 
 good_script : (controls : List ControlInfo) (bytes : List ℕ) → AllGood controls 0 (script controls bytes)
 unfolding script
-good_script controls bytes = chosen (AllGood controls 0) (nat_le (length bytes) 1048576) (lines_say controls 0 1 (lines_of bytes)) (Err (TextTooLong Controls)) (good_lines controls 0 1 (lines_of bytes)) tt
+good_script controls bytes = chosen (AllGood controls 0) (nat_le (length bytes) 1048576) (lines_say controls 0 1 (lines_of bytes)) (Err (TextTooLong Controls))
+    (good_lines controls 0 1 (lines_of bytes)) tt
 
 pub lawful : IsLawful
 lawful controls bytes changes e = let g : Lawful controls 0 changes = subst (AllGood controls 0) e (good_script controls bytes) in (g.order, g.known)

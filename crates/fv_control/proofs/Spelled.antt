@@ -1,5 +1,6 @@
 -- A line is read as just the request that it spells.
-use Rattle.std.proofs.Common.{◌≡◌, ℕ, suc, ◌+◌, ◌<◌, ◌≤◌, Bool, true, false, not, ◌&&◌, ◌==◌, List, [], ◌∷◌, ◌++◌, length, drop, take, get_or, refl, sym, ap, ap₂, ◌∙◌, arith, Some, None, Option, add-one, append_assoc, subst, ℤ, inl, inr}
+use Rattle.std.proofs.Common.{◌≡◌, ℕ, suc, ◌+◌, ◌<◌, ◌≤◌, Bool, true, false, not, ◌&&◌, ◌==◌, List, [], ◌∷◌, ◌++◌, length, drop, take, get_or}
+use Rattle.std.proofs.Common.{refl, sym, ap, ap₂, ◌∙◌, arith, Some, None, Option, add-one, append_assoc, subst, ℤ, inl, inr}
 use Rattle.std.specs.Prelude.{if◌then◌else◌, nat_le}
 use Rattle.std.specs.List.{position_or_len, list_all, before_first, after_first}
 use Rattle.std.proofs.lemmas.List.Sums.{split_at_first, passes_at_first}
@@ -7,7 +8,8 @@ use Rattle.std.proofs.Common.{length-take}
 use Rattle.std.proofs.Math.ListN.{drop_of_length-le}
 use Rattle.std.proofs.lemmas.Bool.{cases_lt}
 use Rattle.std.proofs.lemmas.List.{take_at, drop_at, length_push, length-append, take_all}
-use Rattle.fv_control.specs.Script.{last_space, one_more, is_space, is_digit, is_decimal, decimal_after, natural_to, frame_of, value_of, signed, Request, requested, request_at, request_of}
+use Rattle.fv_control.specs.Script.{last_space, one_more, is_space, is_digit, is_decimal, decimal_after, natural_to, frame_of}
+use Rattle.fv_control.specs.Script.{value_of, signed, Request, requested, request_at, request_of}
 use Rattle.fv_control.specs.Laws.{Spells}
 
 -- ---- bytes that are no spaces
@@ -61,7 +63,8 @@ last_splits (b ∷ bs) i e = go (last_space bs) refl (last_splits bs) e
     here true e p = let z : 0 ≡ i = cc in subst (λ n. b ∷ bs ≡ take n (b ∷ bs) ++ 32 ∷ drop (n + 1) (b ∷ bs)) z (ap (λ x. x ∷ bs) (space_is b e))
     here false e p = absurd cc
 
-    go : (o : Option ℕ) → last_space bs ≡ o → ((j : ℕ) → last_space bs ≡ Some j → bs ≡ take j bs ++ 32 ∷ drop (j + 1) bs) → one_more o (if is_space b then Some 0 else None) ≡ Some i → b ∷ bs ≡ take i (b ∷ bs) ++ 32 ∷ drop (i + 1) (b ∷ bs)
+    go : (o : Option ℕ) → last_space bs ≡ o → ((j : ℕ) → last_space bs ≡ Some j → bs ≡ take j bs ++ 32 ∷ drop (j + 1) bs)
+        → one_more o (if is_space b then Some 0 else None) ≡ Some i → b ∷ bs ≡ take i (b ∷ bs) ++ 32 ∷ drop (i + 1) (b ∷ bs)
     go None q rec p = here (is_space b) refl p
     go (Some j) q rec p =
         let n : suc j ≡ i = omega (arith, ap (λ o. elim o as (λ _. ℕ) [ None ↦ 0 | Some k ↦ k ]) p) in
@@ -87,7 +90,8 @@ value_bare (b ∷ bs) v e = go (b == 45) refl e
     minus_bare : (b == 45) ≡ true → not (is_space b) ≡ true
     minus_bare e = grind arith
 
-    go : (m : Bool) → (b == 45) ≡ m → (if m then signed true (natural_to 2147483648 bs) else signed false (natural_to 2147483647 (b ∷ bs))) ≡ Some v → Bare (b ∷ bs)
+    go : (m : Bool) → (b == 45) ≡ m → (if m then signed true (natural_to 2147483648 bs) else signed false (natural_to 2147483647 (b ∷ bs))) ≡ Some v
+        → Bare (b ∷ bs)
     go true p q = rw (minus_bare p) (written true 2147483648 bs _ refl q)
     go false p q = written false 2147483647 (b ∷ bs) _ refl q
 
@@ -98,16 +102,19 @@ spelled_is_read line r s =
     let rest = r.label ++ 32 ∷ s.value in
     let fb = decimal_bare 4294967295 s.frame r.frame s.framed in
     let first : position_or_len is_space (s.frame ++ 32 ∷ rest) ≡ length s.frame = first_is s.frame rest fb in
-    let front : before_first is_space (s.frame ++ 32 ∷ rest) ≡ s.frame = ap (λ n. take n (s.frame ++ 32 ∷ rest)) first ∙ take_at s.frame (32 ∷ rest) (length s.frame) refl in
+    let front : before_first is_space (s.frame ++ 32 ∷ rest) ≡ s.frame = ap (λ n. take n (s.frame ++ 32 ∷ rest)) first
+    ∙ take_at s.frame (32 ∷ rest) (length s.frame) refl in
     let back : after_first is_space (s.frame ++ 32 ∷ rest) ≡ rest = ap (λ (n : ℕ). drop (n + 1) (s.frame ++ 32 ∷ rest)) first ∙ behind s.frame rest in
     let last : last_space rest ≡ Some (length r.label) = last_is r.label s.value (value_bare s.value r.value s.valued) in
     ap request_of s.is ∙ ap₂ (λ f b. request_at f b (last_space b)) front back ∙ ap (request_at s.frame rest) last ∙ labelled (length r.label == 0) refl
   where
     behind : (xs ys : List ℕ) → drop (length xs + 1) (xs ++ 32 ∷ ys) ≡ ys
-    behind xs ys = ap (drop (length xs + 1)) (sym (append_assoc xs (32 ∷ []) ys)) ∙ drop_at (xs ++ 32 ∷ []) ys (length xs + 1) (omega (arith, length_push xs 32))
+    behind xs ys = ap (drop (length xs + 1)) (sym (append_assoc xs (32 ∷ []) ys))
+        ∙ drop_at (xs ++ 32 ∷ []) ys (length xs + 1) (omega (arith, length_push xs 32))
 
     labelled : (z : Bool) → (length r.label == 0) ≡ z
-        → (if z then None else requested (frame_of s.frame) (take (length r.label) (r.label ++ 32 ∷ s.value)) (value_of (drop (length r.label + 1) (r.label ++ 32 ∷ s.value)))) ≡ Some r
+        → (if z then None else requested (frame_of s.frame) (take (length r.label) (r.label ++ 32 ∷ s.value))
+        (value_of (drop (length r.label + 1) (r.label ++ 32 ∷ s.value)))) ≡ Some r
     labelled true e = absurd (empty e s.named)
       where
         empty : (length r.label == 0) ≡ true → 1 ≤ length r.label → ⊥

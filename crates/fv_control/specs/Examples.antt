@@ -10,7 +10,8 @@ use Rattle.fv_control.specs.Streams.{control_streams}
 abbrev gain : List ControlInfo
 gain = record { kind = HSlider; label = codes "g"; init = pos 1; min = pos 0; max = pos 10 } ∷ []
 
-two : script gain (codes "2 g 3" ++ 10 ∷ codes "3 g 0" ++ 13 ∷ 10 ∷ []) ≡ Ok (record { frame = 2; control = 0; value = pos 3 } ∷ record { frame = 3; control = 0; value = pos 0 } ∷ [])
+two : script gain (codes "2 g 3" ++ 10 ∷ codes "3 g 0" ++ 13 ∷ 10 ∷ [])
+    ≡ Ok (record { frame = 2; control = 0; value = pos 3 } ∷ record { frame = 3; control = 0; value = pos 0 } ∷ [])
 unfolding script line_says
 two = refl
 
@@ -56,5 +57,6 @@ too_great : value_of (codes "2147483648") ≡ None
 too_great = refl
 
 -- the last of several changes at one frame counts
-last_counts : control_streams (record { frame = 2; control = 0; value = pos 3 } ∷ record { frame = 2; control = 0; value = pos 4 } ∷ []) (pos 1 ∷ []) 0 2 ≡ pos 4
+last_counts : control_streams (record { frame = 2; control = 0; value = pos 3 } ∷ record { frame = 2; control = 0; value = pos 4 } ∷ [])
+    (pos 1 ∷ []) 0 2 ≡ pos 4
 last_counts = refl

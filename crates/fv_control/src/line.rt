@@ -1,9 +1,11 @@
 // One line of a script.
 
-ghost use Rattle.std.specs.Prelude.{◌≡◌, ◌+◌, ◌^◌, ◌<◌, ◌≤◌, ◌==◌, length, true, None, Some, Ok, Err, IfOk, IfErr, IfSome, MatchOption, take, drop, position, bytes_eq, slice_index_or};
+ghost use Rattle.std.specs.Prelude.{◌≡◌, ◌+◌, ◌^◌, ◌<◌, ◌≤◌, ◌==◌, length, true, None, Some, Ok, Err};
+ghost use Rattle.std.specs.Prelude.{IfOk, IfErr, IfSome, MatchOption, take, drop, position, bytes_eq, slice_index_or};
 ghost use Rattle.std.specs.List.{position_or_len, list_all};
 ghost use Rattle.std.specs.Str.Lines.{strip_carriage_return};
-ghost use Rattle.fv_control.specs.Script.{line_says, request_of, is_space, last_space, natural_to, value_of, is_digit, is_decimal, decimal_after, asked, Request as Asked};
+ghost use Rattle.fv_control.specs.Script.{line_says, request_of, is_space, last_space, natural_to, value_of, is_digit, is_decimal, decimal_after};
+ghost use Rattle.fv_control.specs.Script.{asked, Request as Asked};
 
 use crate::refusal::ScriptRefusal;
 use crate::script::Change;
