@@ -16,9 +16,9 @@ use Rattle.fv_components.proofs.Turns.{popped, held_popped, search_popped, skips
 use Rattle.fv_components.proofs.Closes.{closes}
 
 -- a node that is met first
-pub run_visits : (next : Links) (n : ℕ) (st : State) (w : ℕ) → AreLinks next n → IsHeld next n st w → mark st w ≡ New → IsRunning next n (only w) st
+pub run_visits : {next : Links} {n : ℕ} {st : State} {w : ℕ} → AreLinks next n → IsHeld next n st w → mark st w ≡ New → IsRunning next n (only w) st
     → GoesOn next n st (work next st) (visited next st w)
-run_visits next n st w links held fresh r =
+run_visits {next} {n} {st} {w} links held fresh r =
     let in_marks : w < length st.marks = subst (λ k. w < k) (sym r.search.marked.long) held.inside in
     let ones : left one 0 (set st.marks w (Open (length st.path))) + 1 ≡ left one 0 st.marks = left_met one 0 st.marks w (length st.path) in_marks fresh in
     let z : 0 + w ≡ w = omega arith in
@@ -41,9 +41,9 @@ run_visits next n st w links held fresh r =
         other s e = get_or-set_other st.marks w s (Open (length st.path)) New e
 
 -- classes that become one
-pub run_collapses : (next : Links) (n : ℕ) (st : State) (w i m : ℕ) → mark st w ≡ Open i → IsHeld next n st w → IsCountUpTo st.classes i m
+pub run_collapses : {next : Links} {n : ℕ} {st : State} {w i m : ℕ} → mark st w ≡ Open i → IsHeld next n st w → IsCountUpTo st.classes i m
     → IsRunning next n (only w) st → GoesOn next n st (work next st) (collapsed st m)
-run_collapses next n st w i m stands held k r = record {
+run_collapses {next} {n} {st} {w} {i} {m} stands held k r = record {
   running = record { search = collapses next n st w i m stands held k r.search; few = r.few };
   met = λ s h. h;
   less = omega (arith, length-take-le m st.classes k.few, k.few);
@@ -53,7 +53,7 @@ pub run_skips : (next : Links) (n : ℕ) (st : State) (w k : ℕ) → mark st w 
 run_skips next n st w k d r = record { running = record { search = skips next n st w k d r.search; few = r.few }; met = λ s h. h; less = omega arith }
 
 -- a class that is done
-module _ (next : Links) (n : ℕ) (st : State) (some : 0 < length st.classes) (r : IsRunning next n none st) where
+module _ {next : Links} {n : ℕ} {st : State} (some : 0 < length st.classes) (r : IsRunning next n none st) where
   abbrev last : Class
   last = class st (length st.classes - 1)
 
@@ -221,7 +221,7 @@ ends_in next n st numbers links r long is = record {
 -- the first step from a root
 pub root_goes : (next : Links) (n : ℕ) (st : State) (w : ℕ) → AreLinks next n → w < n → length st.classes ≡ 0 → mark st w ≡ New → IsRunning next n none st
     → GoesOn next n st (work next st) (visited next st w)
-root_goes next n st w links l e fresh r = run_visits next n st w links (root_held next n st w l e) fresh (root_running next n st w r)
+root_goes next n st w links l e fresh r = run_visits links (root_held next n st w l e) fresh (root_running next n st w r)
 
 pub root_met : (next : Links) (st : State) (w : ℕ) → w < length st.marks → mark (visited next st w) w ≢ New
 root_met next st w l = λ h. absurd (let e = get_or-set_same st.marks w (Open (length st.path)) New l in cc)

@@ -14,7 +14,7 @@ returns-in-New c =
     let l : c.args.node < length st.marks = subst (λ k. c.args.node < k) (sym c.requires.running.search.marked.long) c.requires.held.inside in
     let e : mark st c.args.node ≡ New = sym (get_or_read st.marks c.args.node c.index.result.now l c.index.ensures New) ∙ c.in-New.is in
     on_ok_weaker c.visit.result (λ h. subst (λ s. GoesOn (next_of c.args.links.now) (length c.args.links.now) st (work (next_of c.args.links.now) st) s) (sym h)
-    (run_visits (next_of c.args.links.now) (length c.args.links.now) st c.args.node c.requires.links c.requires.held e c.requires.running)) c.visit.ensures
+    (run_visits c.requires.links c.requires.held e c.requires.running)) c.visit.ensures
 
 pub returns-in-Open : goal.returns-in-Open
 returns-in-Open c =
@@ -23,7 +23,7 @@ returns-in-Open c =
     let e : mark st c.args.node ≡ Open c.in-Open.place = sym (get_or_read st.marks c.args.node c.index.result.now l c.index.ensures New) ∙ c.in-Open.is in
     let h = c.collapse.ensures in
     subst (λ s. GoesOn (next_of c.args.links.now) (length c.args.links.now) st (work (next_of c.args.links.now) st) s) (sym h.2)
-    (run_collapses (next_of c.args.links.now) (length c.args.links.now) st c.args.node c.in-Open.place h.0 e c.requires.held h.1 c.requires.running)
+    (run_collapses e c.requires.held h.1 c.requires.running)
 
 pub returns-in-Done : goal.returns-in-Done
 returns-in-Done c =

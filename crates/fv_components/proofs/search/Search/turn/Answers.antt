@@ -16,7 +16,7 @@ returns-then-len-last-clause-goes c =
     let w = ap (λ (x : Class). x.waiting) e in
     let spent : length st.pending ≤ (class st (length st.classes - 1)).waiting = omega arith in
     subst (λ s. GoesOn (next_of c.args.links.now) (length c.args.links.now) st (work (next_of c.args.links.now) st - 1) s) (sym c.close.ensures)
-    (run_closes (next_of c.args.links.now) (length c.args.links.now) st c.requires.some c.requires.running spent)
+    (run_closes c.requires.some c.requires.running spent)
 
 pub returns-then-len-last-clause-work : goal.returns-then-len-last-clause-work
 returns-then-len-last-clause-work c =
