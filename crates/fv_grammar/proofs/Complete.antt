@@ -247,43 +247,37 @@ pub lower : (room : ℕ) (what : Inside) (ts : List Symbol) → 0 < room → wit
 unfolding within
 lower room what ts h = let e : room ≡ suc (room - 1) = omega arith in ap (λ n. within n what ts) e
 
-in_expression : (room : ℕ) (ts : List Symbol) (x : Tree) (rest : List Symbol)
-    → 0 < room → Reads Expression (within (room - 1)) ts x (Close ∷ rest) → enclosed (within room) insides.Expression ts ≡ Ok (x, rest)
-in_expression room ts x rest h p =
-    let inner = within (room - 1) in
-    let read : expression inner ts ≡ Ok (x, Close ∷ rest) = p (omega arith) ∙ run_done (with_turn inner (length ts)) x (Close ∷ rest) refl in
-    rw (lower room insides.Expression ts h, read) refl
+-- by a reader with room for one bracket more than the deeper one
+module _ (room : ℕ) (ts : List Symbol) (x : Tree) (rest : List Symbol) (some : 0 < room) where
+  abbrev deeper : Reader
+  deeper = within (room - 1)
 
-in_argument : (room : ℕ) (ts : List Symbol) (x : Tree) (rest : List Symbol)
-    → 0 < room → Reads (Phrase operands.Expressions commas.Separate 8) (within (room - 1)) ts x (Comma ∷ rest) → argument (within room) ts ≡ Ok (x, rest)
-in_argument room ts x rest h p =
-    rw (lower room insides.Argument ts h, closes (within (room - 1)) operands.Expressions commas.Separate 8 ts x (Comma ∷ rest) p (omega arith)) refl
+  in_expression : Reads Expression deeper ts x (Close ∷ rest) → enclosed (within room) insides.Expression ts ≡ Ok (x, rest)
+  in_expression p =
+      let read : expression deeper ts ≡ Ok (x, Close ∷ rest) = p (omega arith) ∙ run_done (with_turn deeper (length ts)) x (Close ∷ rest) refl in
+      rw (lower room insides.Expression ts some, read) refl
 
-in_last_argument : (room : ℕ) (ts : List Symbol) (x : Tree) (rest : List Symbol) → 0 < room
-    → Reads (Phrase operands.Expressions commas.Separate 8) (within (room - 1)) ts x (Close ∷ rest) → enclosed (within room) insides.Argument ts ≡ Ok (x, rest)
-in_last_argument room ts x rest h p =
-    rw (lower room insides.Argument ts h, closes (within (room - 1)) operands.Expressions commas.Separate 8 ts x (Close ∷ rest) p (omega arith)) refl
+  in_argument : Reads (Phrase operands.Expressions commas.Separate 8) deeper ts x (Comma ∷ rest) → argument (within room) ts ≡ Ok (x, rest)
+  in_argument p = rw (lower room insides.Argument ts some, closes deeper operands.Expressions commas.Separate 8 ts x (Comma ∷ rest) p (omega arith)) refl
 
-in_pattern : (room : ℕ) (ts : List Symbol) (x : Tree) (rest : List Symbol) → 0 < room
-    → Reads (Phrase operands.Patterns commas.Join 8) (within (room - 1)) ts x (Close ∷ rest) → enclosed (within room) insides.Pattern ts ≡ Ok (x, rest)
-in_pattern room ts x rest h p =
-    rw (lower room insides.Pattern ts h, closes (within (room - 1)) operands.Patterns commas.Join 8 ts x (Close ∷ rest) p (omega arith)) refl
+  in_last_argument : Reads (Phrase operands.Expressions commas.Separate 8) deeper ts x (Close ∷ rest)
+      → enclosed (within room) insides.Argument ts ≡ Ok (x, rest)
+  in_last_argument p = rw (lower room insides.Argument ts some, closes deeper operands.Expressions commas.Separate 8 ts x (Close ∷ rest) p (omega arith)) refl
 
-in_arguments : (room : ℕ) (ts : List Symbol) (x : Tree) (rest : List Symbol) → 0 < room
-    → Reads (Listed (Parts operands.Expressions)) (within (room - 1)) ts x (Close ∷ rest) → enclosed (within room) insides.Arguments ts ≡ Ok (x, rest)
-in_arguments room ts x rest h p = let read = p (refl, omega arith) in rw (lower room insides.Arguments ts h, read) refl
+  in_pattern : Reads (Phrase operands.Patterns commas.Join 8) deeper ts x (Close ∷ rest) → enclosed (within room) insides.Pattern ts ≡ Ok (x, rest)
+  in_pattern p = rw (lower room insides.Pattern ts some, closes deeper operands.Patterns commas.Join 8 ts x (Close ∷ rest) p (omega arith)) refl
 
-in_patterns : (room : ℕ) (ts : List Symbol) (x : Tree) (rest : List Symbol)
-    → 0 < room → Reads (Listed (Parts operands.Patterns)) (within (room - 1)) ts x (Close ∷ rest) → enclosed (within room) insides.Patterns ts ≡ Ok (x, rest)
-in_patterns room ts x rest h p = let read = p (refl, omega arith) in rw (lower room insides.Patterns ts h, read) refl
+  in_arguments : Reads (Listed (Parts operands.Expressions)) deeper ts x (Close ∷ rest) → enclosed (within room) insides.Arguments ts ≡ Ok (x, rest)
+  in_arguments p = let read = p (refl, omega arith) in rw (lower room insides.Arguments ts some, read) refl
 
-in_rules : (room : ℕ) (ts : List Symbol) (x : Tree) (rest : List Symbol)
-    → 0 < room → Reads (Listed Rules) (within (room - 1)) ts x (CloseBrace ∷ rest) → within room insides.Rules ts ≡ Ok (x, CloseBrace ∷ rest)
-in_rules room ts x rest h p = lower room insides.Rules ts h ∙ p refl
+  in_patterns : Reads (Listed (Parts operands.Patterns)) deeper ts x (Close ∷ rest) → enclosed (within room) insides.Patterns ts ≡ Ok (x, rest)
+  in_patterns p = let read = p (refl, omega arith) in rw (lower room insides.Patterns ts some, read) refl
 
-in_definitions : (room : ℕ) (ts : List Symbol) (x : Tree) (rest : List Symbol)
-    → 0 < room → Reads (Further Definitions) (within (room - 1)) ts x (CloseBrace ∷ rest) → within room insides.Definitions ts ≡ Ok (x, CloseBrace ∷ rest)
-in_definitions room ts x rest h p = lower room insides.Definitions ts h ∙ p refl
+  in_rules : Reads (Listed Rules) deeper ts x (CloseBrace ∷ rest) → within room insides.Rules ts ≡ Ok (x, CloseBrace ∷ rest)
+  in_rules p = lower room insides.Rules ts some ∙ p refl
+
+  in_definitions : Reads (Further Definitions) deeper ts x (CloseBrace ∷ rest) → within room insides.Definitions ts ≡ Ok (x, CloseBrace ∷ rest)
+  in_definitions p = lower room insides.Definitions ts some ∙ p refl
 
 -- ---- postfix
 bare_reads : (inner : Reader) (ts : List Symbol) (x : Tree) (rest : List Symbol) → Reads Primary inner ts x rest → Reads Postfix inner ts x rest
