@@ -126,7 +126,8 @@ phrase-returns-then-precedence-eq0-clause-is t c =
 pub phrase-returns-in_ok-first-clause-is : goal.phrase-returns-in_ok-first-clause-is
 phrase-returns-in_ok-first-clause-is t c =
     left_gives (within c.args.room) c.args.operands c.args.commas c.args.precedence c.args.self.now.symbols.rest.now
-    c.args.self.now c.phrase.new.self c.lefts.new.self c.in_ok-first.first c.lefts.result (omega arith) (omega arith) c.in_ok-first.ensures.is c.lefts.ensures.is
+    c.args.self.now c.phrase.new.self c.lefts.new.self
+    c.in_ok-first.first c.lefts.result (omega arith) (omega arith) c.in_ok-first.ensures.is c.lefts.ensures.is
 
 pub phrase-returns-else-precedence-le-LAST_LEFT-clause-is : goal.phrase-returns-else-precedence-le-LAST_LEFT-clause-is
 phrase-returns-else-precedence-le-LAST_LEFT-clause-is t c =
