@@ -1,5 +1,6 @@
 -- Two lists of tokens that are the same up to and with one: a reader does with the one what it does with the other, until it is past that token.
-use Rattle.std.proofs.Common.{◌≡◌, ℕ, suc, ◌+◌, ◌≤◌, ◌<◌, ◌⊎◌, inl, inr, Bool, true, false, cond, List, [], ◌∷◌, ◌++◌, length, Result, Ok, Err, refl, sym, ap, subst, arith}
+use Rattle.std.proofs.Common.{◌≡◌, ℕ, suc, ◌+◌, ◌≤◌, ◌<◌, ◌⊎◌, inl, inr, Bool, true, false, cond, List, [], ◌∷◌, ◌++◌, length, Result, Ok, Err, refl, sym, ap}
+use Rattle.std.proofs.Common.{subst, arith}
 use Rattle.std.proofs.lemmas.List.{length-append}
 use Rattle.fv_lex.specs.declared.token.Symbol.{Symbol}
 use Rattle.fv_lex.specs.declared.token.Symbol.TheVariants.{Open, Close, OpenBrace, CloseBrace}
@@ -57,21 +58,25 @@ pub of_more : {k : Fork} {d : ℕ} {A : Type 0} {out : A → List Symbol} {mid t
     → Agrees k d out mid r s → length mid ≤ length ts → Agrees k d out ts r s
 of_more {out = out} {mid = mid} {r = r} a le = let f : length (remains out r) ≤ length mid = a.fewer in record { fewer = omega arith; alike = a.alike }
 
-next_by : {k : Fork} {d e : ℕ} {A B : Type 0} {from : A → List Symbol} {out : B → List Symbol} (ts : List Symbol) (r s : Result A (List Symbol)) {f g : A → Result B (List Symbol)}
-    → length (remains from r) ≤ length ts → Alike k d from r s → ((x y : A) → length (from x) ≤ length ts → Same k d (from x) (from y) → Agrees k e out (from x) (f x) (g y))
+next_by : {k : Fork} {d e : ℕ}
+    {A B : Type 0} {from : A → List Symbol} {out : B → List Symbol} (ts : List Symbol) (r s : Result A (List Symbol)) {f g : A → Result B (List Symbol)}
+    → length (remains from r) ≤ length ts
+    → Alike k d from r s → ((x y : A) → length (from x) ≤ length ts → Same k d (from x) (from y) → Agrees k e out (from x) (f x) (g y))
     → Agrees k e out (remains from r) (r >>= f) (s >>= g)
 next_by ts r s fewer (both_on {x = x} {y = y} same) h = h x y fewer same
 next_by ts r s fewer (both_stopped p) h = record { fewer = omega arith; alike = both_stopped p }
 next_by ts (Ok x) s fewer (beyond le) h = beside_any _ (h x x fewer (past le)) le
 next_by ts (Err at) s fewer (beyond le) h = record { fewer = omega arith; alike = beyond le }
 
-pub next_within : {k : Fork} {d e : ℕ} {A B : Type 0} {from : A → List Symbol} {out : B → List Symbol} {ts : List Symbol} {r s : Result A (List Symbol)} {f g : A → Result B (List Symbol)}
+pub next_within : {k : Fork} {d e : ℕ}
+    {A B : Type 0} {from : A → List Symbol} {out : B → List Symbol} {ts : List Symbol} {r s : Result A (List Symbol)} {f g : A → Result B (List Symbol)}
     → Agrees k d from ts r s → ((x y : A) → length (from x) ≤ length ts → Same k d (from x) (from y) → Agrees k e out (from x) (f x) (g y))
     → Agrees k e out ts (r >>= f) (s >>= g)
 next_within {ts = ts} {r = r} {s = s} a h = of_more (next_by ts r s a.fewer a.alike h) a.fewer
 
 -- one reader behind the other
-pub also : {k : Fork} {d e : ℕ} {A B : Type 0} {from : A → List Symbol} {out : B → List Symbol} {ts : List Symbol} {r s : Result A (List Symbol)} {f g : A → Result B (List Symbol)}
+pub also : {k : Fork} {d e : ℕ}
+    {A B : Type 0} {from : A → List Symbol} {out : B → List Symbol} {ts : List Symbol} {r s : Result A (List Symbol)} {f g : A → Result B (List Symbol)}
     → Agrees k d from ts r s → ((x y : A) → Same k d (from x) (from y) → Agrees k e out (from x) (f x) (g y)) → Agrees k e out ts (r >>= f) (s >>= g)
 also a h = next_within a (λ x y le same. h x y same)
 
@@ -95,7 +100,8 @@ of_test true f g = f refl
 of_test false f g = g refl
 
 -- what both are equal to
-pub of_equal : {k : Fork} {d : ℕ} {A : Type 0} {out : A → List Symbol} {ts : List Symbol} {r s u v : Result A (List Symbol)} → u ≡ r → v ≡ s → Agrees k d out ts r s → Agrees k d out ts u v
+pub of_equal : {k : Fork} {d : ℕ} {A : Type 0} {out : A → List Symbol} {ts : List Symbol} {r s u v : Result A (List Symbol)}
+    → u ≡ r → v ≡ s → Agrees k d out ts r s → Agrees k d out ts u v
 of_equal {k = k} {d = d} {out = out} {ts = ts} {r = r} {v = v} p q a = subst (λ z. Agrees k d out ts z v) (sym p) (subst (λ z. Agrees k d out ts r z) (sym q) a)
 
 -- ---- what begins a loop again
@@ -111,7 +117,8 @@ apart_after (both_stopped p) = inr (simp length-append (omega arith))
 apart_after (beyond le) = inl le
 
 -- Two loops that are one reader behind the other, as long as that reader leaves no more tokens than it is given.
-pub unrolled : {k : Fork} {d e c : ℕ} {A B : Type 0} {from : A → List Symbol} {out : B → List Symbol} {ts us : List Symbol} {r s : Result A (List Symbol)} (f g : A → Result B (List Symbol)) {v w : Result B (List Symbol)}
+pub unrolled : {k : Fork} {d e c : ℕ} {A B : Type 0} {from : A → List Symbol}
+    {out : B → List Symbol} {ts us : List Symbol} {r s : Result A (List Symbol)} (f g : A → Result B (List Symbol)) {v w : Result B (List Symbol)}
     → Same k d ts us → Agrees k e from ts r s
     → (length (remains from r) ≤ length ts → v ≡ (r >>= f)) → (length (remains from s) ≤ length us → w ≡ (s >>= g))
     → ((x y : A) → length (from x) ≤ length ts → Same k e (from x) (from y) → Agrees k c out (from x) (f x) (g y))
@@ -125,7 +132,8 @@ unrolled {k = k} {c = c} {from = from} {out = out} {ts = ts} {us = us} {r = r} {
       | inl le ↦ beside_it (omega arith)
       | inr far ↦ elim (apart_after a.alike) [
         | inl le ↦ beside_it le
-        | inr near ↦ subst (λ z. Agrees k c out ts z w) (sym (one_law fewer)) (subst (λ z. Agrees k c out ts (r >>= f) z) (sym (other_law (omega arith))) (of_more both fewer))
+        | inr near ↦ subst (λ z. Agrees k c out ts z w)
+            (sym (one_law fewer)) (subst (λ z. Agrees k c out ts (r >>= f) z) (sym (other_law (omega arith))) (of_more both fewer))
       ]
     ]
 
@@ -139,19 +147,22 @@ pub data Looks (k : Fork) (d e : ℕ) {A : Type 0} (out : A → List Symbol) (t 
   takes : (m : ℕ) → Passing k d m t → (Same k m ts us → Agrees k e out ts r s) → Looks k d e out t ts us r s
   stays_at : (Same k d (t ∷ ts) (t ∷ us) → Agrees k e out (t ∷ ts) r s) → Looks k d e out t ts us r s
 
-look_at : {k : Fork} {d e : ℕ} {A : Type 0} {out : A → List Symbol} {r s : Result A (List Symbol)} → d ≤ k.limit → Looks k d e out k.token k.one k.other r s → Agrees k e out (k.token ∷ k.one) r s
+look_at : {k : Fork} {d e : ℕ} {A : Type 0} {out : A → List Symbol} {r s : Result A (List Symbol)}
+    → d ≤ k.limit → Looks k d e out k.token k.one k.other r s → Agrees k e out (k.token ∷ k.one) r s
 look_at {k = k} {out = out} {r = r} low (takes m step h) =
     let a = h (past (omega arith)) in
     let f : length (remains out r) ≤ length k.one = a.fewer in
     record { fewer = omega arith; alike = beyond f }
 look_at low (stays_at h) = h (abreast [] low tt)
 
-look_before : {k : Fork} {d e : ℕ} {A : Type 0} {out : A → List Symbol} {t : Symbol} (p : List Symbol) {r s : Result A (List Symbol)} → d ≤ k.limit → Nests k.limit d (t ∷ p)
+look_before : {k : Fork} {d e : ℕ} {A : Type 0} {out : A → List Symbol} {t : Symbol} (p : List Symbol) {r s : Result A (List Symbol)}
+    → d ≤ k.limit → Nests k.limit d (t ∷ p)
     → Looks k d e out t (p ++ k.token ∷ k.one) (p ++ k.token ∷ k.other) r s → Agrees k e out (t ∷ p ++ k.token ∷ k.one) r s
 look_before p low n (takes m step h) = let q = step.passed p low n in of_more (h (abreast p q.0 q.1)) (omega arith)
 look_before {t = t} p low n (stays_at h) = h (abreast (t ∷ p) low n)
 
-look_past : {k : Fork} {d e : ℕ} {A : Type 0} {out : A → List Symbol} {t : Symbol} {ts us : List Symbol} {r s : Result A (List Symbol)} → length (t ∷ ts) ≤ length k.one
+look_past : {k : Fork} {d e : ℕ} {A : Type 0} {out : A → List Symbol} {t : Symbol} {ts us : List Symbol} {r s : Result A (List Symbol)}
+    → length (t ∷ ts) ≤ length k.one
     → Looks k d e out t ts us r s → Agrees k e out (t ∷ ts) r s
 look_past low (takes m step h) = of_more (h (past (omega arith))) (omega arith)
 look_past low (stays_at h) = h (past low)
@@ -162,7 +173,8 @@ pub looked_among : (n : ℕ) {k : Fork} {d e : ℕ} {A : Type 0} {out : A → Li
     → {ts us : List Symbol} → length ts ≤ n → Same k d ts us → Agrees k e out ts (f ts) (g us)
 looked_among n {k = k} f g none looks few (abreast [] low nests) = look_at low (looks k.token k.one k.other few)
 looked_among n {k = k} f g none looks few (abreast (t ∷ p) low nests) = look_before p low nests (looks t (p ++ k.token ∷ k.one) (p ++ k.token ∷ k.other) few)
-looked_among n {out = out} f g none looks few (past {ts = []} le) = let z : length (remains out (f [])) ≡ 0 = ap length none in record { fewer = omega arith; alike = beyond (omega arith) }
+looked_among n {out = out} f g none looks few (past {ts = []} le) =
+    let z : length (remains out (f [])) ≡ 0 = ap length none in record { fewer = omega arith; alike = beyond (omega arith) }
 looked_among n f g none looks few (past {ts = t ∷ ts} {us = us} le) = beside_any (g us) (look_past le (looks t ts ts few)) le
 
 pub looked : {k : Fork} {d e : ℕ} {A : Type 0} {out : A → List Symbol} (f g : List Symbol → Result A (List Symbol)) → remains out (f []) ≡ []

@@ -11,7 +11,8 @@ use Rattle.fv_grammar.specs.declared.symbol.Inside.{Inside}
 use Rattle.fv_grammar.specs.declared.symbol.Inside.TheVariants as insides
 use Rattle.fv_grammar.specs.Grammar.{one_name, more_names}
 use Rattle.fv_grammar.specs.Descent.{Reader, expect, a_name, a_text, at_comma, names, name_list, enclosed, argument, label}
-use Rattle.fv_begins.proofs.Plans.{called, worded, CalledAll, called_all, both, this, that, nought, signed, Nothing, Sign, AName, AText, NameList, Inner, Then, Or, Spans, Takes, took, behind, next, made, done, as_plan, unread, one_taken, by_test, Passes, Reads}
+use Rattle.fv_begins.proofs.Plans.{called, worded, CalledAll, called_all, both, this, that, nought, signed, Nothing, Sign, AName, AText, NameList, Inner, Then}
+use Rattle.fv_begins.proofs.Plans.{Or, Spans, Takes, took, behind, next, made, done, as_plan, unread, one_taken, by_test, Passes, Reads}
 
 -- ---- single tokens
 pub expect_passes : (m : Mark) (ts : List Symbol) → Passes (Sign (sign m)) ts (expect m ts)
@@ -60,7 +61,8 @@ names_read zero ts = unread NameList
 names_read (suc k) ts = by_test (nat_lt (length ts) k)
     (λ _. names_read k ts)
     (λ _. as_plan NameList (next (a_name_reads ts) (λ n. by_test (at_comma n.1)
-    (λ on. as_plan (Or (Then (Sign Comma) NameList) Nothing) (made (behind (Sign Comma) (comma_taken n.1 on) (names_read k (drop 1 n.1))) (λ ns. done)) (λ a b s. this s))
+    (λ on. as_plan (Or (Then (Sign Comma) NameList) Nothing)
+    (made (behind (Sign Comma) (comma_taken n.1 on) (names_read k (drop 1 n.1))) (λ ns. done)) (λ a b s. this s))
     (λ off. as_plan (Or (Then (Sign Comma) NameList) Nothing) done (λ a b s. that s)))) are_names)
 
 pub name_list_reads : (ts : List Symbol) → Reads NameList ts (name_list ts)
@@ -71,8 +73,10 @@ name_list_reads ts = names_read (suc (length ts)) ts
 abbrev pub ReadsInside : Reader → Type 0
 ReadsInside inner = (what : Inside) (ts : List Symbol) → Reads (Inner what) ts (inner what ts)
 
-pub enclosed_reads : (inner : Reader) → ReadsInside inner → (what : Inside) (ts : List Symbol) → Reads (Then (Inner what) (Sign Close)) ts (enclosed inner what ts)
-enclosed_reads inner reads what ts = next (reads what ts) (λ x. made (expect_passes marks.Close x.1) (λ rest. done))
+-- by a reader that reads inside brackets
+module _ (inner : Reader) (reads : ReadsInside inner) where
+  pub enclosed_reads : (what : Inside) (ts : List Symbol) → Reads (Then (Inner what) (Sign Close)) ts (enclosed inner what ts)
+  enclosed_reads what ts = next (reads what ts) (λ x. made (expect_passes marks.Close x.1) (λ rest. done))
 
-pub argument_reads : (inner : Reader) → ReadsInside inner → (ts : List Symbol) → Reads (Then (Inner insides.Argument) (Sign Comma)) ts (argument inner ts)
-argument_reads inner reads ts = next (reads insides.Argument ts) (λ x. made (expect_passes marks.Comma x.1) (λ rest. done))
+  pub argument_reads : (ts : List Symbol) → Reads (Then (Inner insides.Argument) (Sign Comma)) ts (argument inner ts)
+  argument_reads ts = next (reads insides.Argument ts) (λ x. made (expect_passes marks.Comma x.1) (λ rest. done))

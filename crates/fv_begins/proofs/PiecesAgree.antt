@@ -10,7 +10,8 @@ use Rattle.fv_grammar.specs.declared.symbol.Inside.{Inside}
 use Rattle.fv_grammar.specs.declared.symbol.Inside.TheVariants as insides
 use Rattle.fv_grammar.specs.Descent.{Step, Reader, expect, a_name, a_text, at_comma, name_list, enclosed, argument, label}
 use Rattle.fv_grammar.proofs.Loops.{names_step, names_end, names_stop, with_name}
-use Rattle.fv_begins.proofs.Agreement.{Fork, Same, remains, BothPass, BothRead, also, given, halted, Looks, takes, stays_at, looked, looked_among, opens, opens_brace, closes, closes_brace, no_bracket, AgreesInside, of_test, of_equal}
+use Rattle.fv_begins.proofs.Agreement.{Fork, Same, remains, BothPass, BothRead, also, given, halted, Looks, takes, stays_at, looked, looked_among, opens}
+use Rattle.fv_begins.proofs.Agreement.{opens_brace, closes, closes_brace, no_bracket, AgreesInside, of_test, of_equal}
 
 -- ---- single tokens
 -- what a mark does to the depth of brackets
@@ -36,7 +37,8 @@ sign_look by_arrow ts us = takes _ (no_bracket (λ p n. n)) given
 sign_look by_semicolon ts us = takes _ (no_bracket (λ p n. n)) given
 sign_look by_dot ts us = takes _ (no_bracket (λ p n. n)) given
 
-expect_look : {k : Fork} (m : Mark) {d e : ℕ} → Deepens m d e → (t : Symbol) (ts us : List Symbol) → Looks k d e (λ rest. rest) t ts us (expect m (t ∷ ts)) (expect m (t ∷ us))
+expect_look : {k : Fork} (m : Mark) {d e : ℕ}
+    → Deepens m d e → (t : Symbol) (ts us : List Symbol) → Looks k d e (λ rest. rest) t ts us (expect m (t ∷ ts)) (expect m (t ∷ us))
 expect_look {k = k} m {d = d} {e = e} deepens t ts us = go (is_mark m t) refl
   where
     go : (b : Bool) → is_mark m t ≡ b → Looks k d e (λ rest. rest) t ts us (cond b (Ok ts) (Err (t ∷ ts))) (cond b (Ok us) (Err (t ∷ us)))
@@ -63,7 +65,8 @@ a_text_both same = looked a_text a_text refl a_text_look same
 -- "(" string ","
 pub label_both : {k : Fork} {d : ℕ} {ts us : List Symbol} → Same k d ts us → BothRead k (suc d) ts (label ts) (label us)
 unfolding label
-label_both same = also (expect_both by_open same) (λ opened opened' s. also (a_text_both s) (λ text text' s. also (expect_both by_comma s) (λ rest rest' s. given s)))
+label_both same =
+    also (expect_both by_open same) (λ opened opened' s. also (a_text_both s) (λ text text' s. also (expect_both by_comma s) (λ rest rest' s. given s)))
 
 -- ---- names
 pub drop_fewer : (ts : List Symbol) → length (drop 1 ts) ≤ length ts
@@ -82,24 +85,30 @@ name_law n ts = of_test (at_comma ts)
 abbrev NamesAgree : Fork → ℕ → ℕ → Type 0
 NamesAgree k d n = (ts us : List Symbol) → length ts < n → Same k d ts us → BothRead k d ts (name_list ts) (name_list us)
 
-behind_look : {k : Fork} {d : ℕ} (n m : ℕ) → NamesAgree k d n → (t : Symbol) (ts us : List Symbol) → length (t ∷ ts) ≤ n → Looks k d d (λ x. x.1) t ts us (behind_name m (t ∷ ts)) (behind_name m (t ∷ us))
+behind_look : {k : Fork} {d : ℕ} (n m : ℕ) → NamesAgree k d n
+    → (t : Symbol) (ts us : List Symbol) → length (t ∷ ts) ≤ n → Looks k d d (λ x. x.1) t ts us (behind_name m (t ∷ ts)) (behind_name m (t ∷ us))
 behind_look n m go Comma ts us few = takes _ (no_bracket (λ p n. n)) (λ s. also (go _ _ (omega arith) s) (λ x y s. given s))
 behind_look n m go t ts us few = stays_at given
 
-names_look : {k : Fork} {d : ℕ} (n : ℕ) → NamesAgree k d n → (t : Symbol) (ts us : List Symbol) → length (t ∷ ts) ≤ n → Looks k d d (λ x. x.1) t ts us (name_list (t ∷ ts)) (name_list (t ∷ us))
-names_look n go (Name m) ts us few = takes _ (no_bracket (λ p n. n)) (λ s. of_equal (name_law m ts) (name_law m us) (looked_among n (behind_name m) (behind_name m) refl (behind_look n m go) (omega arith) s))
+names_look : {k : Fork} {d : ℕ} (n : ℕ)
+    → NamesAgree k d n → (t : Symbol) (ts us : List Symbol) → length (t ∷ ts) ≤ n → Looks k d d (λ x. x.1) t ts us (name_list (t ∷ ts)) (name_list (t ∷ us))
+names_look n go (Name m) ts us few =
+    takes _ (no_bracket (λ p n. n))
+    (λ s. of_equal (name_law m ts) (name_law m us) (looked_among n (behind_name m) (behind_name m) refl (behind_look n m go) (omega arith) s))
 names_look n go t ts us few = stays_at (λ s. of_equal (names_stop (t ∷ ts) (t ∷ ts) refl) (names_stop (t ∷ us) (t ∷ us) refl) (halted s))
 
 names_among : (k : Fork) (d n : ℕ) → NamesAgree k d n
 names_among k d zero ts us few same = absurd (omega arith)
-names_among k d (suc n) ts us few same = looked_among n name_list name_list (ap (λ r. remains (λ x. x.1) r) (names_stop [] [] refl)) (names_look n (names_among k d n)) (omega arith) same
+names_among k d (suc n) ts us few same =
+    looked_among n name_list name_list (ap (λ r. remains (λ x. x.1) r) (names_stop [] [] refl)) (names_look n (names_among k d n)) (omega arith) same
 
 pub name_list_both : {k : Fork} {d : ℕ} {ts us : List Symbol} → Same k d ts us → BothRead k d ts (name_list ts) (name_list us)
 name_list_both {ts = ts} same = names_among _ _ (suc (length ts)) _ _ (omega arith) same
 
 -- ---- in brackets
-pub enclosed_both : {k : Fork} {d : ℕ} {inner inner' : Reader} → AgreesInside k (suc d) inner inner' → (what : Inside) {ts us : List Symbol} → Same k (suc d) ts us → BothRead k d ts (enclosed inner what ts) (enclosed inner' what us)
-enclosed_both inside what same = also (inside.agree what same) (λ x y s. also (expect_both by_close s) (λ rest rest' s. given s))
+module _ {k : Fork} {d : ℕ} {inner inner' : Reader} (inside : AgreesInside k (suc d) inner inner') where
+  pub enclosed_both : (what : Inside) {ts us : List Symbol} → Same k (suc d) ts us → BothRead k d ts (enclosed inner what ts) (enclosed inner' what us)
+  enclosed_both what same = also (inside.agree what same) (λ x y s. also (expect_both by_close s) (λ rest rest' s. given s))
 
-pub argument_both : {k : Fork} {d : ℕ} {inner inner' : Reader} → AgreesInside k (suc d) inner inner' → {ts us : List Symbol} → Same k (suc d) ts us → BothRead k (suc d) ts (argument inner ts) (argument inner' us)
-argument_both inside same = also (inside.agree insides.Argument same) (λ x y s. also (expect_both by_comma s) (λ rest rest' s. given s))
+  pub argument_both : {ts us : List Symbol} → Same k (suc d) ts us → BothRead k (suc d) ts (argument inner ts) (argument inner' us)
+  argument_both same = also (inside.agree insides.Argument same) (λ x y s. also (expect_both by_comma s) (λ rest rest' s. given s))

@@ -54,7 +54,8 @@ not_alike k (Err at) s (beyond le) e x f =
     let n : length at ≡ length (k.token ∷ k.one) = ap length p in
     absurd (omega arith)
 
-none_goes_on : ReadsAllSpelled → NestsWithinLength → (limit : ℕ) (before rest more : List Symbol) (t : Symbol) (x : Tree) → Nests limit 0 before → program limit (before ++ t ∷ rest) ≡ Err (t ∷ rest) → SpellsProgram (before ++ t ∷ more) x → ⊥
+none_goes_on : ReadsAllSpelled → NestsWithinLength → (limit : ℕ) (before rest more : List Symbol) (t : Symbol) (x : Tree)
+    → Nests limit 0 before → program limit (before ++ t ∷ rest) ≡ Err (t ∷ rest) → SpellsProgram (before ++ t ∷ more) x → ⊥
 unfolding program
 none_goes_on reads room limit before rest more t x n e p =
     let k : Fork = record { limit = limit; token = t; one = rest; other = more } in
@@ -68,7 +69,8 @@ stops_where_none_goes_on reads room limit before rest t n e (more, x, p) =
     none_goes_on reads room limit before rest more t x n e (subst (λ l. SpellsProgram l x) (append_assoc before (t ∷ []) more) p)
 
 -- ---- the place
-is_place : ReadsAllSpelled → NestsWithinLength → (limit : ℕ) (before rest : List Symbol) → Nests limit 0 (before ++ rest) → program limit (before ++ rest) ≡ Err rest → IsViablePrefix before → IsErrorPlace before rest
+is_place : ReadsAllSpelled → NestsWithinLength → (limit : ℕ) (before rest : List Symbol)
+    → Nests limit 0 (before ++ rest) → program limit (before ++ rest) ≡ Err rest → IsViablePrefix before → IsErrorPlace before rest
 is_place reads room limit before [] n e b = (
   b,
   λ x p.
@@ -110,7 +112,8 @@ begun before (t ∷ rest) place = place.0
 none_further : (before rest others : List Symbol) (t : Symbol) → rest ≡ t ∷ others → IsErrorPlace before rest → IsViablePrefix (before ++ t ∷ []) → ⊥
 none_further before rest others t e place b = (subst (λ l. IsErrorPlace before l) e place).1 b
 
-goes_on : (before more : List Symbol) (t : Symbol) (longer : List Symbol) → longer ≡ before ++ t ∷ more → IsViablePrefix longer → IsViablePrefix (before ++ t ∷ [])
+goes_on : (before more : List Symbol) (t : Symbol) (longer : List Symbol)
+    → longer ≡ before ++ t ∷ more → IsViablePrefix longer → IsViablePrefix (before ++ t ∷ [])
 goes_on before more t longer e b = beginnings_are_closed (before ++ t ∷ []) more (subst IsViablePrefix (e ∙ sym (append_assoc before (t ∷ []) more)) b)
 
 one_of_two : (a b c d : List Symbol) → Splits a b c d → IsErrorPlace a b → IsErrorPlace c d → (a ≡ c) × (b ≡ d)

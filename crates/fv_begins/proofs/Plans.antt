@@ -9,7 +9,8 @@ use Rattle.fv_grammar.specs.declared.symbol.Items.{Items}
 use Rattle.fv_grammar.specs.declared.symbol.Items.TheVariants.{Parts}
 use Rattle.fv_grammar.specs.Symbols.{rank}
 use Rattle.fv_grammar.specs.Tree.{Tree}
-use Rattle.fv_grammar.specs.Grammar.{Level, Further, Definition, Expression, Listed, OneRule, Phrase, Postfix, Primary, Atom, SpellsNames, one_name, Spells, no_more, first_rule, first_part, constant, rule, plain, tighter, operand, pattern_operand, bare, named, atom_name}
+use Rattle.fv_grammar.specs.Grammar.{Level, Further, Definition, Expression, Listed, OneRule, Phrase, Postfix, Primary, Atom, SpellsNames, one_name, Spells}
+use Rattle.fv_grammar.specs.Grammar.{no_more, first_rule, first_part, constant, rule, plain, tighter, operand, pattern_operand, bare, named, atom_name}
 use Rattle.fv_grammar.specs.Descent.{Step, ◌>>=◌}
 use Rattle.fv_grammar.proofs.Sound.{level_of}
 use Rattle.fv_grammar.specs.declared.symbol.Operands.{Operands}
@@ -52,7 +53,8 @@ pub record Adds (items : Items) (ts mid : List Symbol) : Type 0 where
 -- nothing, or an operator of this precedence and what stands behind it
 pub data Onward (kind : Operands) (comma : Commas) (h : ℕ) : List Symbol → List Symbol → Type 0 where
   stay : {ts : List Symbol} → Onward kind comma h ts ts
-  onward : {mid rest : List Symbol} (t : Symbol) → rank kind comma t ≡ suc (suc h) → Spelled (Phrase kind comma (suc h)) mid rest → Onward kind comma h (t ∷ mid) rest
+  onward : {mid rest : List Symbol} (t : Symbol)
+      → rank kind comma t ≡ suc (suc h) → Spelled (Phrase kind comma (suc h)) mid rest → Onward kind comma h (t ∷ mid) rest
 
 -- one and then the other
 pub data Both (P Q : Span) : List Symbol → List Symbol → Type 0 where
@@ -118,7 +120,8 @@ start_expression tail = let (x, s) = start_phrase operands.Expressions commas.Jo
 start_parts : (kind : Operands) (tail : List Symbol) → (x : Tree) × Spells (Listed (Parts kind)) (Name 0 ∷ tail) x tail
 start_parts kind tail = let (x, s) = start_phrase kind commas.Separate 8 tail in (_, first_part s no_more)
 
-start_rule : (tail : List Symbol) → (x : Tree) × Spells OneRule (symbols.Open ∷ Name 0 ∷ symbols.Close ∷ symbols.Arrow ∷ Name 0 ∷ symbols.Semicolon ∷ tail) x tail
+start_rule : (tail : List Symbol)
+    → (x : Tree) × Spells OneRule (symbols.Open ∷ Name 0 ∷ symbols.Close ∷ symbols.Arrow ∷ Name 0 ∷ symbols.Semicolon ∷ tail) x tail
 start_rule tail =
     let (p, ps) = start_parts operands.Patterns (symbols.Close ∷ symbols.Arrow ∷ Name 0 ∷ symbols.Semicolon ∷ tail) in
     let (x, s) = start_expression (symbols.Semicolon ∷ tail) in
@@ -189,11 +192,13 @@ sticks_behind : {P Q : Span} {a b at : List Symbol} → Takes P a b → Sticks Q
 sticks_behind {P = P} {Q = Q} {at = at} s t = record {
   used = s.used ++ t.used;
   whole = s.whole ∙ ap (λ l. s.used ++ l) t.whole ∙ sym (append_assoc s.used t.used at);
-  completed = λ tail. let (mid, q) = t.completed tail in (mid, subst (λ l. Both P Q l tail) (sym (append_assoc s.used t.used mid)) (both (s.spans (t.used ++ mid)) q));
+  completed =
+      λ tail. let (mid, q) = t.completed tail in (mid, subst (λ l. Both P Q l tail) (sym (append_assoc s.used t.used mid)) (both (s.spans (t.used ++ mid)) q));
 }
 
 -- a reader behind what was taken
-pub behind : (p : Plan) {q : Plan} {B : Type 0} {out : B → List Symbol} {a b : List Symbol} {r : Result B (List Symbol)} → Takes (Spans p) a b → Fits q out b r → Fits (Then p q) out a r
+pub behind : (p : Plan) {q : Plan} {B : Type 0} {out : B → List Symbol} {a b : List Symbol} {r : Result B (List Symbol)}
+    → Takes (Spans p) a b → Fits q out b r → Fits (Then p q) out a r
 behind p s (took t) = took (joins s t)
 behind p s (stuck t) = stuck (sticks_behind s t)
 
@@ -206,13 +211,15 @@ sticks_before q s = record {
 }
 
 -- one reader behind the other
-pub next : {p q : Plan} {A B : Type 0} {from : A → List Symbol} {out : B → List Symbol} {ts : List Symbol} {r : Result A (List Symbol)} {f : A → Result B (List Symbol)}
+pub next : {p q : Plan} {A B : Type 0}
+    {from : A → List Symbol} {out : B → List Symbol} {ts : List Symbol} {r : Result A (List Symbol)} {f : A → Result B (List Symbol)}
     → Fits p from ts r → ((x : A) → Fits q out (from x) (f x)) → Fits (Then p q) out ts (r >>= f)
 next {p = p} (took s) g = behind p s (g _)
 next {q = q} (stuck s) g = stuck (sticks_before q s)
 
 -- another reading of the same tokens
-pub onward_from : {p : Plan} {A B : Type 0} {from : A → List Symbol} {out : B → List Symbol} {ts : List Symbol} {r : Result A (List Symbol)} {f : A → Result B (List Symbol)}
+pub onward_from : {p : Plan} {A B : Type 0}
+    {from : A → List Symbol} {out : B → List Symbol} {ts : List Symbol} {r : Result A (List Symbol)} {f : A → Result B (List Symbol)}
     → Fits p from ts r → ((x : A) → Takes (Spans p) ts (from x) → Fits p out ts (f x)) → Fits p out ts (r >>= f)
 onward_from (took s) g = g _ s
 onward_from (stuck s) g = stuck s
@@ -224,7 +231,8 @@ as_takes s f = record { used = s.used; whole = s.whole; spans = λ tail. f _ _ (
 pub as_sticks : {P Q : Span} {ts at : List Symbol} → Sticks P ts at → ((a b : List Symbol) → P a b → Q a b) → Sticks Q ts at
 as_sticks s f = record { used = s.used; whole = s.whole; completed = λ tail. let (mid, q) = s.completed tail in (mid, f _ _ q) }
 
-pub as_plan : {p : Plan} (q : Plan) {A : Type 0} {out : A → List Symbol} {ts : List Symbol} {r : Result A (List Symbol)} → Fits p out ts r → ((a b : List Symbol) → Spans p a b → Spans q a b) → Fits q out ts r
+pub as_plan : {p : Plan} (q : Plan) {A : Type 0} {out : A → List Symbol} {ts : List Symbol} {r : Result A (List Symbol)}
+    → Fits p out ts r → ((a b : List Symbol) → Spans p a b → Spans q a b) → Fits q out ts r
 as_plan q (took s) f = took (as_takes s f)
 as_plan q (stuck s) f = stuck (as_sticks s f)
 
@@ -238,7 +246,8 @@ done {out = out} {x = x} = took (nothing_taken (out x))
 no_more_taken : {P : Span} (a b : List Symbol) → Both P Nought a b → P a b
 no_more_taken a b (both s nought) = s
 
-pub made : {p : Plan} {A B : Type 0} {from : A → List Symbol} {out : B → List Symbol} {ts : List Symbol} {r : Result A (List Symbol)} {f : A → Result B (List Symbol)}
+pub made : {p : Plan} {A B : Type 0}
+    {from : A → List Symbol} {out : B → List Symbol} {ts : List Symbol} {r : Result A (List Symbol)} {f : A → Result B (List Symbol)}
     → Fits p from ts r → ((x : A) → Fits Nothing out (from x) (f x)) → Fits p out ts (r >>= f)
 made {p = p} s g = as_plan p (next s g) no_more_taken
 
@@ -254,7 +263,8 @@ pub one_taken : (t : Symbol) (ts : List Symbol) → Takes (Spans (Sign t)) (t �
 one_taken t ts = record { used = t ∷ []; whole = refl; spans = λ tail. signed }
 
 -- by a test
-pub by_test : (b : Bool) {p : Plan} {A : Type 0} {out : A → List Symbol} {ts : List Symbol} {u v : Result A (List Symbol)} → (b ≡ true → Fits p out ts u) → (b ≡ false → Fits p out ts v) → Fits p out ts (cond b u v)
+pub by_test : (b : Bool) {p : Plan} {A : Type 0} {out : A → List Symbol} {ts : List Symbol} {u v : Result A (List Symbol)}
+    → (b ≡ true → Fits p out ts u) → (b ≡ false → Fits p out ts v) → Fits p out ts (cond b u v)
 by_test true f g = f refl
 by_test false f g = g refl
 

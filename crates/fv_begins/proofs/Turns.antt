@@ -20,13 +20,15 @@ pub turn_by_test : (b : Bool) {p : Plan} {all : List Symbol} {u v : Turn} → (b
 turn_by_test true f g = f refl
 turn_by_test false f g = g refl
 
-after_reads : (p : Plan) (all : List Symbol) (go : Tree → List Symbol → Step Tree) → ((x : Tree) (ts : List Symbol) → Takes (Spans p) all ts → Reads p all (go x ts))
+after_reads : (p : Plan) (all : List Symbol) (go : Tree → List Symbol → Step Tree)
+    → ((x : Tree) (ts : List Symbol) → Takes (Spans p) all ts → Reads p all (go x ts))
     → (x : Tree) (ts : List Symbol) (t : Turn) → Takes (Spans p) all ts → Turns p all t → Reads p all (after go (Ok (x, ts)) t)
 after_reads p all go goes x ts t s no_turn = took s
 after_reads p all go goes x ts t s (one_turn more) = goes _ _ more
 after_reads p all go goes x ts t s (stop_turn more) = stuck more
 
-turns_read : (p : Plan) (all : List Symbol) (body : Tree → List Symbol → Turn) → ((x : Tree) (ts : List Symbol) → Takes (Spans p) all ts → Turns p all (body x ts))
+turns_read : (p : Plan) (all : List Symbol) (body : Tree → List Symbol → Turn)
+    → ((x : Tree) (ts : List Symbol) → Takes (Spans p) all ts → Turns p all (body x ts))
     → (k : ℕ) (x : Tree) (ts : List Symbol) → Takes (Spans p) all ts → Reads p all (turns k body x ts)
 unfolding turns
 turns_read p all body step zero x ts s = stuck (stays s)
@@ -34,7 +36,8 @@ turns_read p all body step (suc k) x ts s = by_test (nat_lt (length ts) k)
     (λ _. turns_read p all body step k x ts s)
     (λ _. after_reads p all (turns k body) (turns_read p all body step k) x ts (body x ts) s (step x ts s))
 
-pub run_reads : (p : Plan) (all : List Symbol) (body : Tree → List Symbol → Turn) → ((x : Tree) (ts : List Symbol) → Takes (Spans p) all ts → Turns p all (body x ts))
+pub run_reads : (p : Plan) (all : List Symbol) (body : Tree → List Symbol → Turn)
+    → ((x : Tree) (ts : List Symbol) → Takes (Spans p) all ts → Turns p all (body x ts))
     → (x : Tree) (ts : List Symbol) → Takes (Spans p) all ts → Reads p all (run body x ts)
 unfolding run
 run_reads p all body step x ts s = turns_read p all body step (suc (length ts)) x ts s

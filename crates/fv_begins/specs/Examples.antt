@@ -4,8 +4,10 @@ use Rattle.fv_lex.specs.declared.token.Symbol.{Symbol}
 use Rattle.fv_lex.specs.declared.token.Symbol.TheVariants.{Name, Comma, Open, Close, Equals, Semicolon, Underscore}
 use Rattle.fv_grammar.specs.declared.symbol.Items.TheVariants.{Statements}
 use Rattle.fv_grammar.specs.Tree.{Tree, End}
-use Rattle.fv_grammar.specs.Grammar.{Spells, Further, Definition, Expression, Primary, IsViablePrefix, stated, no_more, constant, plain, tighter, operand, bare, wire, grouped}
-use Rattle.fv_grammar.specs.Descent.{program, within, further, many, definition, constant_after, ended, expression, phrase, chain, rights, postfix, by_head, turns, run}
+use Rattle.fv_grammar.specs.Grammar.{Spells, Further, Definition, Expression, Primary, IsViablePrefix, stated, no_more, constant, plain, tighter, operand, bare}
+use Rattle.fv_grammar.specs.Grammar.{wire, grouped}
+use Rattle.fv_grammar.specs.Descent.{program, within, further, many, definition, constant_after, ended, expression, phrase, chain, rights, postfix, by_head}
+use Rattle.fv_grammar.specs.Descent.{turns, run}
 use Rattle.fv_begins.specs.Beginnings.{IsErrorPlace}
 
 -- an operand is an expression

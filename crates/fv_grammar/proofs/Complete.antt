@@ -3,7 +3,8 @@ use Rattle.std.proofs.Common.{◌≡◌, ℕ, zero, suc, ◌+◌, ◌-◌, ◌<�
 use Rattle.std.specs.Prelude.{nat_eq}
 use Rattle.std.proofs.lemmas.Bool.{eq-eqb, ne_eqb}
 use Rattle.fv_lex.specs.declared.token.Symbol.{Symbol}
-use Rattle.fv_lex.specs.declared.token.Symbol.TheVariants.{Name, Text, Integer, Comma, Open, Close, OpenBrace, CloseBrace, Equals, Arrow, Semicolon, Dot, Declare, With, Tick}
+use Rattle.fv_lex.specs.declared.token.Symbol.TheVariants.{Name, Text, Integer, Comma, Open, Close, OpenBrace, CloseBrace, Equals, Arrow, Semicolon, Dot}
+use Rattle.fv_lex.specs.declared.token.Symbol.TheVariants.{Declare, With, Tick}
 use Rattle.fv_lex.specs.declared.token.Symbol.TheVariants as symbols
 use Rattle.fv_grammar.specs.declared.form.Primitive.{Primitive as Operation}
 use Rattle.fv_grammar.specs.declared.form.Primitive.TheVariants as primitives
@@ -18,10 +19,18 @@ use Rattle.fv_grammar.specs.declared.symbol.Inside.TheVariants as insides
 use Rattle.fv_grammar.specs.declared.symbol.Items.{Items}
 use Rattle.fv_grammar.specs.declared.symbol.Items.TheVariants.{Statements, Definitions, Rules, Parts}
 use Rattle.fv_grammar.specs.Symbols.{head, rank, operator, is_left}
-use Rattle.fv_grammar.specs.Tree.{Tree, Number, Negative, Named, MinusNamed, Wire, Cut, Primitive, Group, Abstraction, Case, Iteration, Ports, Switch, Slider, Panel, Delayed, Apply, Binary, Where, Rule, Constant, Function, End, More}
-use Rattle.fv_grammar.specs.Grammar.{Level, Further, Definition, Expression, Listed, OneRule, Phrase, Postfix, Primary, Atom, SpellsNames, one_name, more_names, Spells, SpellsProgram, no_more, stated, declared, declared_for, defined, ruled, parted, first_rule, first_part, constant, function, rule, plain, qualified, tighter, leftward, rightward, operand, pattern_operand, bare, delayed, applied, number, plus_number, minus_number, minus_name, named, wire, cut, plus, minus, primitive, grouped, abstracted, cased, iterated, ported, switched, slid, paneled, atom_number, atom_plus_number, atom_minus_number, atom_name, atom_grouped}
+use Rattle.fv_grammar.specs.Tree.{Tree, Number, Negative, Named, MinusNamed, Wire, Cut, Primitive, Group, Abstraction, Case, Iteration, Ports, Switch, Slider}
+use Rattle.fv_grammar.specs.Tree.{Panel, Delayed, Apply, Binary, Where, Rule, Constant, Function, End, More}
+use Rattle.fv_grammar.specs.Grammar.{Level, Further, Definition, Expression, Listed, OneRule, Phrase, Postfix, Primary, Atom, SpellsNames, one_name, more_names}
+use Rattle.fv_grammar.specs.Grammar.{Spells, SpellsProgram, no_more, stated, declared, declared_for, defined, ruled, parted, first_rule, first_part, constant}
+use Rattle.fv_grammar.specs.Grammar.{function, rule, plain, qualified, tighter, leftward, rightward, operand, pattern_operand, bare, delayed, applied, number}
+use Rattle.fv_grammar.specs.Grammar.{plus_number, minus_number, minus_name, named, wire, cut, plus, minus, primitive, grouped, abstracted, cased, iterated}
+use Rattle.fv_grammar.specs.Grammar.{ported, switched, slid, paneled, atom_number, atom_plus_number, atom_minus_number, atom_name, atom_grouped}
 use Rattle.fv_grammar.specs.Nesting.{Nests}
-use Rattle.fv_grammar.specs.Descent.{Step, Done, Next, One, Skip, run, chain, Reader, rank_at, primary, postfix, postfix_turn, phrase, left_turn, expression, with_turn, at_comma, name_list, definition, one_rule, further, listed, item, atom, enclosed, argument, within, program, after_plus, after_minus, by_head, group, abstraction, case_of, iteration, ports, switch, slider, panel, label, ended, function_after, constant_after, Item, descend}
+use Rattle.fv_grammar.specs.Descent.{Step, Done, Next, One, Skip, run, chain, Reader, rank_at, primary, postfix, postfix_turn, phrase, left_turn, expression}
+use Rattle.fv_grammar.specs.Descent.{with_turn, at_comma, name_list, definition, one_rule, further, listed, item, atom, enclosed, argument, within, program}
+use Rattle.fv_grammar.specs.Descent.{after_plus, after_minus, by_head, group, abstraction, case_of, iteration, ports, switch, slider, panel, label, ended}
+use Rattle.fv_grammar.specs.Descent.{function_after, constant_after, Item, descend}
 use Rattle.fv_grammar.specs.Descent as descent
 use Rattle.fv_grammar.proofs.Loops.{run_next, run_done, chain_next, chain_done, many_one, many_skip, many_done, names_next, names_done}
 use Rattle.fv_grammar.specs.declared.symbol.Operands.{Operands}
@@ -52,14 +61,16 @@ Reads OneRule inner ts x rest = one_rule inner ts ≡ Ok (x, rest)
 Reads Expression inner ts x rest = 9 < rank_at operands.Expressions commas.Join rest → expression inner ts ≡ run (with_turn inner (length ts)) x rest
 Reads (Phrase kind comma zero) inner ts x rest = 1 < rank_at kind comma rest → phrase inner kind comma zero ts ≡ Ok (x, rest)
 Reads (Phrase kind comma (suc h)) inner ts x rest =
-    (is_left (suc h) ≡ true → suc h < rank_at kind comma rest → phrase inner kind comma (suc h) ts ≡ run (left_turn (phrase inner kind comma h) kind comma (suc (suc h)) (length ts)) x rest)
+    (is_left (suc h) ≡ true → suc h < rank_at kind comma rest
+    → phrase inner kind comma (suc h) ts ≡ run (left_turn (phrase inner kind comma h) kind comma (suc (suc h)) (length ts)) x rest)
     × (is_left (suc h) ≡ false → suc (suc h) < rank_at kind comma rest → phrase inner kind comma (suc h) ts ≡ Ok (x, rest))
 Reads Postfix inner ts x rest = 0 < rank_at operands.Expressions commas.Join rest → postfix inner ts ≡ run (postfix_turn inner (length ts)) x rest
 Reads Primary inner ts x rest = 0 < rank_at operands.Expressions commas.Join rest → primary inner ts ≡ Ok (x, rest)
 Reads Atom inner ts x rest = atom inner ts ≡ Ok (x, rest)
 
 -- ---- what a follow token rules out
-no_postfix : (inner : Reader) (comma : Commas) (start : ℕ) (x : Tree) (rest : List Symbol) → 1 < rank_at operands.Expressions comma rest → postfix_turn inner start x rest ≡ Done
+no_postfix : (inner : Reader) (comma : Commas) (start : ℕ) (x : Tree) (rest : List Symbol)
+    → 1 < rank_at operands.Expressions comma rest → postfix_turn inner start x rest ≡ Done
 no_postfix inner comma start x [] h = refl
 no_postfix inner comma start x (Tick ∷ ts) h = absurd (omega arith)
 no_postfix inner comma start x (Open ∷ ts) h = absurd (omega arith)
@@ -71,12 +82,14 @@ apart commas.Separate [] h = h
 apart commas.Separate (Comma ∷ ts) h = omega arith
 apart commas.Separate (t ∷ ts) h = h
 
-at_plus : (start : ℕ) (rest : List Symbol) → 0 < rank_at operands.Expressions commas.Join rest → after_plus start rest ≡ Ok (Primitive start primitives.Add, rest)
+at_plus : (start : ℕ) (rest : List Symbol)
+    → 0 < rank_at operands.Expressions commas.Join rest → after_plus start rest ≡ Ok (Primitive start primitives.Add, rest)
 at_plus start [] h = refl
 at_plus start (Integer n ∷ ts) h = absurd (omega arith)
 at_plus start (t ∷ ts) h = refl
 
-at_minus : (start : ℕ) (rest : List Symbol) → 0 < rank_at operands.Expressions commas.Join rest → after_minus start rest ≡ Ok (Primitive start primitives.Subtract, rest)
+at_minus : (start : ℕ) (rest : List Symbol)
+    → 0 < rank_at operands.Expressions commas.Join rest → after_minus start rest ≡ Ok (Primitive start primitives.Subtract, rest)
 at_minus start [] h = refl
 at_minus start (Integer n ∷ ts) h = absurd (omega arith)
 at_minus start (Name n ∷ ts) h = absurd (omega arith)
@@ -164,7 +177,8 @@ rule_shorter : {ts rest : List Symbol} {x : Tree} → Spells OneRule ts x rest �
 rule_shorter (rule p q) = let a = no_longer p in let b = no_longer q in omega arith
 
 -- ---- operators
-closes : (inner : Reader) (kind : Operands) (comma : Commas) (h : ℕ) (ts : List Symbol) (x : Tree) (rest : List Symbol) → Reads (Phrase kind comma h) inner ts x rest
+closes : (inner : Reader) (kind : Operands) (comma : Commas) (h : ℕ) (ts : List Symbol) (x : Tree) (rest : List Symbol)
+    → Reads (Phrase kind comma h) inner ts x rest
     → suc h < rank_at kind comma rest → phrase inner kind comma h ts ≡ Ok (x, rest)
 closes inner kind comma zero ts x rest reads follows = reads follows
 closes inner kind comma (suc h) ts x rest reads follows = go (is_left (suc h)) refl
@@ -175,7 +189,8 @@ closes inner kind comma (suc h) ts x rest reads follows = go (is_left (suc h)) r
         reads.0 e (omega arith) ∙ run_done (left_turn (phrase inner kind comma h) kind comma (suc (suc h)) (length ts)) x rest (rw ne refl)
     go false e = reads.1 e follows
 
-tighter_reads : (inner : Reader) (kind : Operands) (comma : Commas) (h : ℕ) (ts : List Symbol) (x : Tree) (rest : List Symbol) → Reads (Phrase kind comma h) inner ts x rest → Reads (Phrase kind comma (suc h)) inner ts x rest
+tighter_reads : (inner : Reader) (kind : Operands) (comma : Commas) (h : ℕ) (ts : List Symbol) (x : Tree) (rest : List Symbol)
+    → Reads (Phrase kind comma h) inner ts x rest → Reads (Phrase kind comma (suc h)) inner ts x rest
 unfolding phrase
 tighter_reads inner kind comma h ts x rest reads = (
   (λ e follows. rw (e, closes inner kind comma h ts x rest reads follows) refl),
@@ -184,8 +199,10 @@ tighter_reads inner kind comma h ts x rest reads = (
       rw e (chain_done (phrase inner kind comma h) kind comma (suc (suc h)) ts x rest (closes inner kind comma h ts x rest reads (omega arith)) ne)),
 )
 
-leftward_reads : (inner : Reader) (kind : Operands) (comma : Commas) (h : ℕ) (ts mid rest : List Symbol) (t : Symbol) (x y : Tree) → is_left (suc h) ≡ true → rank kind comma t ≡ suc (suc h) → length rest ≤ length mid
-    → Reads (Phrase kind comma (suc h)) inner ts x (t ∷ mid) → Reads (Phrase kind comma h) inner mid y rest → Reads (Phrase kind comma (suc h)) inner ts (Binary (length ts) (operator t) x y) rest
+leftward_reads : (inner : Reader) (kind : Operands) (comma : Commas) (h : ℕ) (ts mid rest : List Symbol) (t : Symbol) (x y : Tree)
+    → is_left (suc h) ≡ true → rank kind comma t ≡ suc (suc h) → length rest ≤ length mid
+    → Reads (Phrase kind comma (suc h)) inner ts x (t ∷ mid)
+    → Reads (Phrase kind comma h) inner mid y rest → Reads (Phrase kind comma (suc h)) inner ts (Binary (length ts) (operator t) x y) rest
 leftward_reads inner kind comma h ts mid rest t x y is_left_one r fewer p q = (
   (λ e follows.
       let part = phrase inner kind comma h in
@@ -197,8 +214,10 @@ leftward_reads inner kind comma h ts mid rest t x y is_left_one r fewer p q = (
   (λ e follows. absurd cc),
 )
 
-rightward_reads : (inner : Reader) (kind : Operands) (comma : Commas) (h : ℕ) (ts mid rest : List Symbol) (t : Symbol) (x y : Tree) → is_left (suc h) ≡ false → rank kind comma t ≡ suc (suc h) → length (t ∷ mid) ≤ length ts
-    → Reads (Phrase kind comma h) inner ts x (t ∷ mid) → Reads (Phrase kind comma (suc h)) inner mid y rest → Reads (Phrase kind comma (suc h)) inner ts (Binary (length ts) (operator t) x y) rest
+rightward_reads : (inner : Reader) (kind : Operands) (comma : Commas) (h : ℕ) (ts mid rest : List Symbol) (t : Symbol) (x y : Tree)
+    → is_left (suc h) ≡ false → rank kind comma t ≡ suc (suc h) → length (t ∷ mid) ≤ length ts
+    → Reads (Phrase kind comma h) inner ts x (t ∷ mid)
+    → Reads (Phrase kind comma (suc h)) inner mid y rest → Reads (Phrase kind comma (suc h)) inner ts (Binary (length ts) (operator t) x y) rest
 unfolding phrase
 rightward_reads inner kind comma h ts mid rest t x y is_right r fewer p q = (
   (λ e follows. absurd cc),
@@ -212,11 +231,14 @@ rightward_reads inner kind comma h ts mid rest t x y is_right r fewer p q = (
       rw e all),
 )
 
-operand_reads : (inner : Reader) (comma : Commas) (ts : List Symbol) (x : Tree) (rest : List Symbol) → Reads Postfix inner ts x rest → Reads (Phrase operands.Expressions comma zero) inner ts x rest
+operand_reads : (inner : Reader) (comma : Commas) (ts : List Symbol) (x : Tree) (rest : List Symbol)
+    → Reads Postfix inner ts x rest → Reads (Phrase operands.Expressions comma zero) inner ts x rest
 unfolding phrase
-operand_reads inner comma ts x rest p = λ follows. p (apart comma rest (omega arith)) ∙ run_done (postfix_turn inner (length ts)) x rest (no_postfix inner comma (length ts) x rest follows)
+operand_reads inner comma ts x rest p =
+    λ follows. p (apart comma rest (omega arith)) ∙ run_done (postfix_turn inner (length ts)) x rest (no_postfix inner comma (length ts) x rest follows)
 
-pattern_operand_reads : (inner : Reader) (comma : Commas) (ts : List Symbol) (x : Tree) (rest : List Symbol) → Reads Atom inner ts x rest → Reads (Phrase operands.Patterns comma zero) inner ts x rest
+pattern_operand_reads : (inner : Reader) (comma : Commas) (ts : List Symbol) (x : Tree) (rest : List Symbol)
+    → Reads Atom inner ts x rest → Reads (Phrase operands.Patterns comma zero) inner ts x rest
 unfolding phrase
 pattern_operand_reads inner comma ts x rest p = λ follows. p
 
@@ -225,60 +247,70 @@ pub lower : (room : ℕ) (what : Inside) (ts : List Symbol) → 0 < room → wit
 unfolding within
 lower room what ts h = let e : room ≡ suc (room - 1) = omega arith in ap (λ n. within n what ts) e
 
-in_expression : (room : ℕ) (ts : List Symbol) (x : Tree) (rest : List Symbol) → 0 < room → Reads Expression (within (room - 1)) ts x (Close ∷ rest) → enclosed (within room) insides.Expression ts ≡ Ok (x, rest)
-in_expression room ts x rest h p =
-    let inner = within (room - 1) in
-    let read : expression inner ts ≡ Ok (x, Close ∷ rest) = p (omega arith) ∙ run_done (with_turn inner (length ts)) x (Close ∷ rest) refl in
-    rw (lower room insides.Expression ts h, read) refl
+-- by a reader with room for one bracket more than the deeper one
+module _ (room : ℕ) (ts : List Symbol) (x : Tree) (rest : List Symbol) (some : 0 < room) where
+  abbrev deeper : Reader
+  deeper = within (room - 1)
 
-in_argument : (room : ℕ) (ts : List Symbol) (x : Tree) (rest : List Symbol) → 0 < room → Reads (Phrase operands.Expressions commas.Separate 8) (within (room - 1)) ts x (Comma ∷ rest) → argument (within room) ts ≡ Ok (x, rest)
-in_argument room ts x rest h p = rw (lower room insides.Argument ts h, closes (within (room - 1)) operands.Expressions commas.Separate 8 ts x (Comma ∷ rest) p (omega arith)) refl
+  in_expression : Reads Expression deeper ts x (Close ∷ rest) → enclosed (within room) insides.Expression ts ≡ Ok (x, rest)
+  in_expression p =
+      let read : expression deeper ts ≡ Ok (x, Close ∷ rest) = p (omega arith) ∙ run_done (with_turn deeper (length ts)) x (Close ∷ rest) refl in
+      rw (lower room insides.Expression ts some, read) refl
 
-in_last_argument : (room : ℕ) (ts : List Symbol) (x : Tree) (rest : List Symbol) → 0 < room → Reads (Phrase operands.Expressions commas.Separate 8) (within (room - 1)) ts x (Close ∷ rest) → enclosed (within room) insides.Argument ts ≡ Ok (x, rest)
-in_last_argument room ts x rest h p = rw (lower room insides.Argument ts h, closes (within (room - 1)) operands.Expressions commas.Separate 8 ts x (Close ∷ rest) p (omega arith)) refl
+  in_argument : Reads (Phrase operands.Expressions commas.Separate 8) deeper ts x (Comma ∷ rest) → argument (within room) ts ≡ Ok (x, rest)
+  in_argument p = rw (lower room insides.Argument ts some, closes deeper operands.Expressions commas.Separate 8 ts x (Comma ∷ rest) p (omega arith)) refl
 
-in_pattern : (room : ℕ) (ts : List Symbol) (x : Tree) (rest : List Symbol) → 0 < room → Reads (Phrase operands.Patterns commas.Join 8) (within (room - 1)) ts x (Close ∷ rest) → enclosed (within room) insides.Pattern ts ≡ Ok (x, rest)
-in_pattern room ts x rest h p = rw (lower room insides.Pattern ts h, closes (within (room - 1)) operands.Patterns commas.Join 8 ts x (Close ∷ rest) p (omega arith)) refl
+  in_last_argument : Reads (Phrase operands.Expressions commas.Separate 8) deeper ts x (Close ∷ rest)
+      → enclosed (within room) insides.Argument ts ≡ Ok (x, rest)
+  in_last_argument p = rw (lower room insides.Argument ts some, closes deeper operands.Expressions commas.Separate 8 ts x (Close ∷ rest) p (omega arith)) refl
 
-in_arguments : (room : ℕ) (ts : List Symbol) (x : Tree) (rest : List Symbol) → 0 < room → Reads (Listed (Parts operands.Expressions)) (within (room - 1)) ts x (Close ∷ rest) → enclosed (within room) insides.Arguments ts ≡ Ok (x, rest)
-in_arguments room ts x rest h p = let read = p (refl, omega arith) in rw (lower room insides.Arguments ts h, read) refl
+  in_pattern : Reads (Phrase operands.Patterns commas.Join 8) deeper ts x (Close ∷ rest) → enclosed (within room) insides.Pattern ts ≡ Ok (x, rest)
+  in_pattern p = rw (lower room insides.Pattern ts some, closes deeper operands.Patterns commas.Join 8 ts x (Close ∷ rest) p (omega arith)) refl
 
-in_patterns : (room : ℕ) (ts : List Symbol) (x : Tree) (rest : List Symbol) → 0 < room → Reads (Listed (Parts operands.Patterns)) (within (room - 1)) ts x (Close ∷ rest) → enclosed (within room) insides.Patterns ts ≡ Ok (x, rest)
-in_patterns room ts x rest h p = let read = p (refl, omega arith) in rw (lower room insides.Patterns ts h, read) refl
+  in_arguments : Reads (Listed (Parts operands.Expressions)) deeper ts x (Close ∷ rest) → enclosed (within room) insides.Arguments ts ≡ Ok (x, rest)
+  in_arguments p = let read = p (refl, omega arith) in rw (lower room insides.Arguments ts some, read) refl
 
-in_rules : (room : ℕ) (ts : List Symbol) (x : Tree) (rest : List Symbol) → 0 < room → Reads (Listed Rules) (within (room - 1)) ts x (CloseBrace ∷ rest) → within room insides.Rules ts ≡ Ok (x, CloseBrace ∷ rest)
-in_rules room ts x rest h p = lower room insides.Rules ts h ∙ p refl
+  in_patterns : Reads (Listed (Parts operands.Patterns)) deeper ts x (Close ∷ rest) → enclosed (within room) insides.Patterns ts ≡ Ok (x, rest)
+  in_patterns p = let read = p (refl, omega arith) in rw (lower room insides.Patterns ts some, read) refl
 
-in_definitions : (room : ℕ) (ts : List Symbol) (x : Tree) (rest : List Symbol) → 0 < room → Reads (Further Definitions) (within (room - 1)) ts x (CloseBrace ∷ rest) → within room insides.Definitions ts ≡ Ok (x, CloseBrace ∷ rest)
-in_definitions room ts x rest h p = lower room insides.Definitions ts h ∙ p refl
+  in_rules : Reads (Listed Rules) deeper ts x (CloseBrace ∷ rest) → within room insides.Rules ts ≡ Ok (x, CloseBrace ∷ rest)
+  in_rules p = lower room insides.Rules ts some ∙ p refl
+
+  in_definitions : Reads (Further Definitions) deeper ts x (CloseBrace ∷ rest) → within room insides.Definitions ts ≡ Ok (x, CloseBrace ∷ rest)
+  in_definitions p = lower room insides.Definitions ts some ∙ p refl
 
 -- ---- postfix
 bare_reads : (inner : Reader) (ts : List Symbol) (x : Tree) (rest : List Symbol) → Reads Primary inner ts x rest → Reads Postfix inner ts x rest
 unfolding postfix
 bare_reads inner ts x rest p = λ follows. let read = p follows in rw read refl
 
-delayed_reads : (inner : Reader) (ts : List Symbol) (x : Tree) (rest : List Symbol) → Reads Postfix inner ts x (Tick ∷ rest) → Reads Postfix inner ts (Delayed (length ts) x) rest
+delayed_reads : (inner : Reader) (ts : List Symbol) (x : Tree) (rest : List Symbol)
+    → Reads Postfix inner ts x (Tick ∷ rest) → Reads Postfix inner ts (Delayed (length ts) x) rest
 delayed_reads inner ts x rest p = λ follows.
     p (omega arith) ∙ run_next (postfix_turn inner (length ts)) x (Tick ∷ rest) (Delayed (length ts) x) rest refl (omega arith)
 
-applied_reads : (inner : Reader) (ts mid rest : List Symbol) (x y : Tree) → length rest ≤ length mid → Reads Postfix inner ts x (Open ∷ mid) → enclosed inner insides.Arguments mid ≡ Ok (y, rest)
+applied_reads : (inner : Reader) (ts mid rest : List Symbol) (x y : Tree)
+    → length rest ≤ length mid → Reads Postfix inner ts x (Open ∷ mid) → enclosed inner insides.Arguments mid ≡ Ok (y, rest)
     → Reads Postfix inner ts (Apply (length ts) x y) rest
 applied_reads inner ts mid rest x y fewer p q = λ follows.
     let one : postfix_turn inner (length ts) x (Open ∷ mid) ≡ Next (Apply (length ts) x y) rest = rw q refl in
     p (omega arith) ∙ run_next (postfix_turn inner (length ts)) x (Open ∷ mid) (Apply (length ts) x y) rest one (omega arith)
 
 -- ---- expression
-plain_reads : (inner : Reader) (ts : List Symbol) (x : Tree) (rest : List Symbol) → Reads (Phrase operands.Expressions commas.Join 8) inner ts x rest → Reads Expression inner ts x rest
+plain_reads : (inner : Reader) (ts : List Symbol) (x : Tree) (rest : List Symbol)
+    → Reads (Phrase operands.Expressions commas.Join 8) inner ts x rest → Reads Expression inner ts x rest
 unfolding expression
 plain_reads inner ts x rest p = λ follows. rw (closes inner operands.Expressions commas.Join 8 ts x rest p follows) refl
 
-qualified_reads : (inner : Reader) (ts mid rest : List Symbol) (x y : Tree) → length rest ≤ length mid → Reads Expression inner ts x (With ∷ OpenBrace ∷ mid) → inner insides.Definitions mid ≡ Ok (y, CloseBrace ∷ rest)
+qualified_reads : (inner : Reader) (ts mid rest : List Symbol) (x y : Tree)
+    → length rest ≤ length mid → Reads Expression inner ts x (With ∷ OpenBrace ∷ mid) → inner insides.Definitions mid ≡ Ok (y, CloseBrace ∷ rest)
     → Reads Expression inner ts (Where (length ts) x y) rest
 qualified_reads inner ts mid rest x y fewer p q = λ follows.
     let one : with_turn inner (length ts) x (With ∷ OpenBrace ∷ mid) ≡ Next (Where (length ts) x y) rest = rw q refl in
     p (omega arith) ∙ run_next (with_turn inner (length ts)) x (With ∷ OpenBrace ∷ mid) (Where (length ts) x y) rest one (omega arith)
 
-ends_expression : (inner : Reader) (ts : List Symbol) (x : Tree) (rest : List Symbol) → Reads Expression inner ts x (Semicolon ∷ rest) → ended inner ts ≡ Ok (x, rest)
+ends_expression : (inner : Reader) (ts : List Symbol) (x : Tree) (rest : List Symbol)
+    → Reads Expression inner ts x (Semicolon ∷ rest) → ended inner ts ≡ Ok (x, rest)
 unfolding ended
 ends_expression inner ts x rest p =
     let read : expression inner ts ≡ Ok (x, Semicolon ∷ rest) = p (omega arith) ∙ run_done (with_turn inner (length ts)) x (Semicolon ∷ rest) refl in
@@ -290,12 +322,14 @@ constant_reads : (inner : Reader) (n : ℕ) (ts : List Symbol) (x : Tree) (rest 
 unfolding definition constant_after
 constant_reads inner n ts x rest p = rw (ends_expression inner ts x rest p) refl
 
-function_reads : (inner : Reader) (n : ℕ) (ts mid : List Symbol) (ps x : Tree) (rest : List Symbol) → enclosed inner insides.Patterns ts ≡ Ok (ps, Equals ∷ mid) → Reads Expression inner mid x (Semicolon ∷ rest)
+function_reads : (inner : Reader) (n : ℕ) (ts mid : List Symbol) (ps x : Tree) (rest : List Symbol)
+    → enclosed inner insides.Patterns ts ≡ Ok (ps, Equals ∷ mid) → Reads Expression inner mid x (Semicolon ∷ rest)
     → Reads Definition inner (Name n ∷ Open ∷ ts) (Function (length (Name n ∷ Open ∷ ts)) n ps x) rest
 unfolding definition function_after
 function_reads inner n ts mid ps x rest p q = rw (p, ends_expression inner mid x rest q) refl
 
-rule_reads : (inner : Reader) (ts mid : List Symbol) (ps x : Tree) (rest : List Symbol) → enclosed inner insides.Patterns ts ≡ Ok (ps, Arrow ∷ mid) → Reads Expression inner mid x (Semicolon ∷ rest)
+rule_reads : (inner : Reader) (ts mid : List Symbol) (ps x : Tree) (rest : List Symbol)
+    → enclosed inner insides.Patterns ts ≡ Ok (ps, Arrow ∷ mid) → Reads Expression inner mid x (Semicolon ∷ rest)
     → Reads OneRule inner (Open ∷ ts) (Rule (length (Open ∷ ts)) ps x) rest
 unfolding one_rule
 rule_reads inner ts mid ps x rest p q = rw (p, ends_expression inner mid x rest q) refl
@@ -306,11 +340,13 @@ unfolding further
 no_more_reads inner items rest = λ ends. many_done (item inner items) rest (no_item inner items rest (ends_stop items rest ends))
 
 -- one more item in front
-item_reads : (inner : Reader) (items : Items) (ts mid rest : List Symbol) (x y : Tree) → item inner items ts ≡ One x mid → length mid < length ts → Reads (Further items) inner mid y rest → Reads (Further items) inner ts (More x y) rest
+item_reads : (inner : Reader) (items : Items) (ts mid rest : List Symbol) (x y : Tree)
+    → item inner items ts ≡ One x mid → length mid < length ts → Reads (Further items) inner mid y rest → Reads (Further items) inner ts (More x y) rest
 unfolding further
 item_reads inner items ts mid rest x y e h q = λ ends. let read = q ends in many_one (item inner items) ts x mid e h ∙ rw read refl
 
-skip_reads : (inner : Reader) (items : Items) (ts mid rest : List Symbol) (y : Tree) → item inner items ts ≡ Skip mid → length mid < length ts → Reads (Further items) inner mid y rest → Reads (Further items) inner ts y rest
+skip_reads : (inner : Reader) (items : Items) (ts mid rest : List Symbol) (y : Tree)
+    → item inner items ts ≡ Skip mid → length mid < length ts → Reads (Further items) inner mid y rest → Reads (Further items) inner ts y rest
 unfolding further
 skip_reads inner items ts mid rest y e h q = λ ends. many_skip (item inner items) ts mid e h ∙ q ends
 
@@ -321,35 +357,47 @@ definition_begins (function {n = n} p q) = (n, _, refl)
 rule_begins : {ts rest : List Symbol} {x : Tree} → Spells OneRule ts x rest → (us : List Symbol) × (ts ≡ Open ∷ us)
 rule_begins (rule p q) = (_, refl)
 
-statement_item : (inner : Reader) (ts : List Symbol) (x : Tree) (mid : List Symbol) → (n : ℕ) × (us : List Symbol) × (ts ≡ Name n ∷ us) → definition inner ts ≡ Ok (x, mid) → item inner Statements ts ≡ One x mid
-statement_item inner ts x mid (n, us, e) r = let read : definition inner (Name n ∷ us) ≡ Ok (x, mid) = ap (definition inner) (sym e) ∙ r in ap (item inner Statements) e ∙ rw read refl
+statement_item : (inner : Reader) (ts : List Symbol) (x : Tree) (mid : List Symbol)
+    → (n : ℕ) × (us : List Symbol) × (ts ≡ Name n ∷ us) → definition inner ts ≡ Ok (x, mid) → item inner Statements ts ≡ One x mid
+statement_item inner ts x mid (n, us, e) r =
+    let read : definition inner (Name n ∷ us) ≡ Ok (x, mid) = ap (definition inner) (sym e) ∙ r in ap (item inner Statements) e ∙ rw read refl
 
-definition_item : (inner : Reader) (ts : List Symbol) (x : Tree) (mid : List Symbol) → (n : ℕ) × (us : List Symbol) × (ts ≡ Name n ∷ us) → definition inner ts ≡ Ok (x, mid) → item inner Definitions ts ≡ One x mid
-definition_item inner ts x mid (n, us, e) r = let read : definition inner (Name n ∷ us) ≡ Ok (x, mid) = ap (definition inner) (sym e) ∙ r in ap (item inner Definitions) e ∙ rw read refl
+definition_item : (inner : Reader) (ts : List Symbol) (x : Tree) (mid : List Symbol)
+    → (n : ℕ) × (us : List Symbol) × (ts ≡ Name n ∷ us) → definition inner ts ≡ Ok (x, mid) → item inner Definitions ts ≡ One x mid
+definition_item inner ts x mid (n, us, e) r =
+    let read : definition inner (Name n ∷ us) ≡ Ok (x, mid) = ap (definition inner) (sym e) ∙ r in ap (item inner Definitions) e ∙ rw read refl
 
-rule_item : (inner : Reader) (ts : List Symbol) (x : Tree) (mid : List Symbol) → (us : List Symbol) × (ts ≡ Open ∷ us) → one_rule inner ts ≡ Ok (x, mid) → item inner Rules ts ≡ One x mid
-rule_item inner ts x mid (us, e) r = let read : one_rule inner (Open ∷ us) ≡ Ok (x, mid) = ap (one_rule inner) (sym e) ∙ r in ap (item inner Rules) e ∙ rw read refl
+rule_item : (inner : Reader) (ts : List Symbol) (x : Tree) (mid : List Symbol)
+    → (us : List Symbol) × (ts ≡ Open ∷ us) → one_rule inner ts ≡ Ok (x, mid) → item inner Rules ts ≡ One x mid
+rule_item inner ts x mid (us, e) r =
+    let read : one_rule inner (Open ∷ us) ≡ Ok (x, mid) = ap (one_rule inner) (sym e) ∙ r in ap (item inner Rules) e ∙ rw read refl
 
 -- what follows a part: a comma, or what follows the list
-part_follows : (kind : Operands) {ts rest : List Symbol} {x : Tree} → Spells (Further (Parts kind)) ts x rest → 9 < rank_at kind commas.Separate rest → 9 < rank_at kind commas.Separate ts
+part_follows : (kind : Operands) {ts rest : List Symbol} {x : Tree}
+    → Spells (Further (Parts kind)) ts x rest → 9 < rank_at kind commas.Separate rest → 9 < rank_at kind commas.Separate ts
 part_follows kind no_more h = h
 part_follows kind (parted p q) h = omega arith
 
-parted_reads : (inner : Reader) (kind : Operands) (ts mid rest : List Symbol) (x y : Tree) → length mid ≤ length ts → (9 < rank_at kind commas.Separate rest → 9 < rank_at kind commas.Separate mid)
-    → Reads (Phrase kind commas.Separate 8) inner ts x mid → Reads (Further (Parts kind)) inner mid y rest → Reads (Further (Parts kind)) inner (Comma ∷ ts) (More x y) rest
+parted_reads : (inner : Reader) (kind : Operands) (ts mid rest : List Symbol) (x y : Tree)
+    → length mid ≤ length ts → (9 < rank_at kind commas.Separate rest → 9 < rank_at kind commas.Separate mid)
+    → Reads (Phrase kind commas.Separate 8) inner ts x mid
+    → Reads (Further (Parts kind)) inner mid y rest → Reads (Further (Parts kind)) inner (Comma ∷ ts) (More x y) rest
 parted_reads inner kind ts mid rest x y fewer follows p q = λ ends.
     let read = closes inner kind commas.Separate 8 ts x mid p (follows ends.1) in
     item_reads inner (Parts kind) (Comma ∷ ts) mid rest x y (rw read refl) (omega arith) q ends
 
-first_part_reads : (inner : Reader) (kind : Operands) (ts mid rest : List Symbol) (x y : Tree) → (9 < rank_at kind commas.Separate rest → 9 < rank_at kind commas.Separate mid)
-    → Reads (Phrase kind commas.Separate 8) inner ts x mid → Reads (Further (Parts kind)) inner mid y rest → Reads (Listed (Parts kind)) inner ts (More x y) rest
+first_part_reads : (inner : Reader) (kind : Operands) (ts mid rest : List Symbol) (x y : Tree)
+    → (9 < rank_at kind commas.Separate rest → 9 < rank_at kind commas.Separate mid)
+    → Reads (Phrase kind commas.Separate 8) inner ts x mid
+    → Reads (Further (Parts kind)) inner mid y rest → Reads (Listed (Parts kind)) inner ts (More x y) rest
 unfolding listed
 first_part_reads inner kind ts mid rest x y follows p q = λ ends.
     let read = closes inner kind commas.Separate 8 ts x mid p (follows ends.1) in
     let others = q ends in
     rw (read, others) refl
 
-first_rule_reads : (inner : Reader) (ts mid rest : List Symbol) (x y : Tree) → Reads OneRule inner ts x mid → Reads (Further Rules) inner mid y rest → Reads (Listed Rules) inner ts (More x y) rest
+first_rule_reads : (inner : Reader) (ts mid rest : List Symbol) (x y : Tree)
+    → Reads OneRule inner ts x mid → Reads (Further Rules) inner mid y rest → Reads (Listed Rules) inner ts (More x y) rest
 unfolding listed
 first_rule_reads inner ts mid rest x y p q = λ ends. let others = q ends in rw (p, others) refl
 
@@ -363,15 +411,18 @@ number_is : (inner : Reader) {n : ℕ} {rest : List Symbol} → primary inner (I
 unfolding by_head
 number_is inner = refl
 
-plus_number_is : (inner : Reader) {n : ℕ} {rest : List Symbol} → primary inner (symbols.Plus ∷ Integer n ∷ rest) ≡ Ok (Number (length (symbols.Plus ∷ Integer n ∷ rest)) n, rest)
+plus_number_is : (inner : Reader) {n : ℕ} {rest : List Symbol}
+    → primary inner (symbols.Plus ∷ Integer n ∷ rest) ≡ Ok (Number (length (symbols.Plus ∷ Integer n ∷ rest)) n, rest)
 unfolding by_head
 plus_number_is inner = refl
 
-minus_number_is : (inner : Reader) {n : ℕ} {rest : List Symbol} → primary inner (symbols.Minus ∷ Integer n ∷ rest) ≡ Ok (Negative (length (symbols.Minus ∷ Integer n ∷ rest)) n, rest)
+minus_number_is : (inner : Reader) {n : ℕ} {rest : List Symbol}
+    → primary inner (symbols.Minus ∷ Integer n ∷ rest) ≡ Ok (Negative (length (symbols.Minus ∷ Integer n ∷ rest)) n, rest)
 unfolding by_head
 minus_number_is inner = refl
 
-minus_name_is : (inner : Reader) {n : ℕ} {rest : List Symbol} → primary inner (symbols.Minus ∷ Name n ∷ rest) ≡ Ok (MinusNamed (length (symbols.Minus ∷ Name n ∷ rest)) n, rest)
+minus_name_is : (inner : Reader) {n : ℕ} {rest : List Symbol}
+    → primary inner (symbols.Minus ∷ Name n ∷ rest) ≡ Ok (MinusNamed (length (symbols.Minus ∷ Name n ∷ rest)) n, rest)
 unfolding by_head
 minus_name_is inner = refl
 
@@ -387,23 +438,28 @@ cut_is : (inner : Reader) {rest : List Symbol} → primary inner (symbols.Exclam
 unfolding by_head
 cut_is inner = refl
 
-plus_is : (inner : Reader) (rest : List Symbol) → 0 < rank_at operands.Expressions commas.Join rest → primary inner (symbols.Plus ∷ rest) ≡ Ok (Primitive (length (symbols.Plus ∷ rest)) primitives.Add, rest)
+plus_is : (inner : Reader) (rest : List Symbol) → 0 < rank_at operands.Expressions commas.Join rest
+    → primary inner (symbols.Plus ∷ rest) ≡ Ok (Primitive (length (symbols.Plus ∷ rest)) primitives.Add, rest)
 unfolding by_head
 plus_is inner rest h = at_plus (length (symbols.Plus ∷ rest)) rest h
 
-minus_is : (inner : Reader) (rest : List Symbol) → 0 < rank_at operands.Expressions commas.Join rest → primary inner (symbols.Minus ∷ rest) ≡ Ok (Primitive (length (symbols.Minus ∷ rest)) primitives.Subtract, rest)
+minus_is : (inner : Reader) (rest : List Symbol) → 0 < rank_at operands.Expressions commas.Join rest
+    → primary inner (symbols.Minus ∷ rest) ≡ Ok (Primitive (length (symbols.Minus ∷ rest)) primitives.Subtract, rest)
 unfolding by_head
 minus_is inner rest h = at_minus (length (symbols.Minus ∷ rest)) rest h
 
-primitive_reads : (inner : Reader) (t : Symbol) (p : Operation) (rest : List Symbol) → head t ≡ heads.Primitive p → primary inner (t ∷ rest) ≡ Ok (Primitive (length (t ∷ rest)) p, rest)
+primitive_reads : (inner : Reader) (t : Symbol) (p : Operation) (rest : List Symbol)
+    → head t ≡ heads.Primitive p → primary inner (t ∷ rest) ≡ Ok (Primitive (length (t ∷ rest)) p, rest)
 unfolding by_head
 primitive_reads inner t p rest e = ap (λ h. by_head inner h (t ∷ rest) rest) e
 
-grouped_reads : (inner : Reader) (ts : List Symbol) (x : Tree) (rest : List Symbol) → enclosed inner insides.Expression ts ≡ Ok (x, rest) → primary inner (Open ∷ ts) ≡ Ok (Group (length (Open ∷ ts)) x, rest)
+grouped_reads : (inner : Reader) (ts : List Symbol) (x : Tree) (rest : List Symbol)
+    → enclosed inner insides.Expression ts ≡ Ok (x, rest) → primary inner (Open ∷ ts) ≡ Ok (Group (length (Open ∷ ts)) x, rest)
 unfolding by_head
 grouped_reads inner ts x rest e = rw e refl
 
-abstracted_reads : (inner : Reader) (ts mid : List Symbol) (ns : List ℕ) (x : Tree) (rest : List Symbol) → name_list ts ≡ Ok (ns, Close ∷ Dot ∷ Open ∷ mid) → enclosed inner insides.Expression mid ≡ Ok (x, rest)
+abstracted_reads : (inner : Reader) (ts mid : List Symbol) (ns : List ℕ) (x : Tree) (rest : List Symbol)
+    → name_list ts ≡ Ok (ns, Close ∷ Dot ∷ Open ∷ mid) → enclosed inner insides.Expression mid ≡ Ok (x, rest)
     → primary inner (symbols.Backslash ∷ Open ∷ ts) ≡ Ok (Abstraction (length (symbols.Backslash ∷ Open ∷ ts)) ns x, rest)
 unfolding by_head abstraction
 abstracted_reads inner ts mid ns x rest e f = rw (e, f) refl
@@ -413,12 +469,14 @@ cased_reads : (inner : Reader) (ts : List Symbol) (x : Tree) (rest : List Symbol
 unfolding by_head case_of
 cased_reads inner ts x rest e = rw e refl
 
-iterated_reads : (inner : Reader) (n : ℕ) (ts mid rest : List Symbol) (t : Symbol) (i : Repetition) (x y : Tree) → head t ≡ heads.Iteration i → argument inner ts ≡ Ok (x, mid) → enclosed inner insides.Expression mid ≡ Ok (y, rest)
+iterated_reads : (inner : Reader) (n : ℕ) (ts mid rest : List Symbol) (t : Symbol) (i : Repetition) (x y : Tree)
+    → head t ≡ heads.Iteration i → argument inner ts ≡ Ok (x, mid) → enclosed inner insides.Expression mid ≡ Ok (y, rest)
     → primary inner (t ∷ Open ∷ Name n ∷ Comma ∷ ts) ≡ Ok (Iteration (length (t ∷ Open ∷ Name n ∷ Comma ∷ ts)) i n x y, rest)
 unfolding by_head iteration
 iterated_reads inner n ts mid rest t i x y e p q = ap (λ h. by_head inner h (t ∷ Open ∷ Name n ∷ Comma ∷ ts) (Open ∷ Name n ∷ Comma ∷ ts)) e ∙ rw (p, q) refl
 
-ported_reads : (inner : Reader) (ts rest : List Symbol) (t : Symbol) (s : Side) (x : Tree) → head t ≡ heads.Ports s → enclosed inner insides.Expression ts ≡ Ok (x, rest)
+ported_reads : (inner : Reader) (ts rest : List Symbol) (t : Symbol) (s : Side) (x : Tree)
+    → head t ≡ heads.Ports s → enclosed inner insides.Expression ts ≡ Ok (x, rest)
     → primary inner (t ∷ Open ∷ ts) ≡ Ok (Ports (length (t ∷ Open ∷ ts)) s x, rest)
 unfolding by_head ports
 ported_reads inner ts rest t s x e p = ap (λ h. by_head inner h (t ∷ Open ∷ ts) (Open ∷ ts)) e ∙ rw p refl
@@ -432,16 +490,19 @@ slid_reads : (inner : Reader) (s : ℕ) (ts t1 t2 t3 rest : List Symbol) (t : Sy
     → argument inner ts ≡ Ok (x0, t1) → argument inner t1 ≡ Ok (x1, t2) → argument inner t2 ≡ Ok (x2, t3) → enclosed inner insides.Argument t3 ≡ Ok (x3, rest)
     → primary inner (t ∷ Open ∷ Text s ∷ Comma ∷ ts) ≡ Ok (Slider (length (t ∷ Open ∷ Text s ∷ Comma ∷ ts)) k s x0 x1 x2 x3, rest)
 unfolding by_head slider label
-slid_reads inner s ts t1 t2 t3 rest t k x0 x1 x2 x3 e p q r u = ap (λ h. by_head inner h (t ∷ Open ∷ Text s ∷ Comma ∷ ts) (Open ∷ Text s ∷ Comma ∷ ts)) e ∙ rw (p, q, r, u) refl
+slid_reads inner s ts t1 t2 t3 rest t k x0 x1 x2 x3 e p q r u =
+    ap (λ h. by_head inner h (t ∷ Open ∷ Text s ∷ Comma ∷ ts) (Open ∷ Text s ∷ Comma ∷ ts)) e ∙ rw (p, q, r, u) refl
 
-paneled_reads : (inner : Reader) (s : ℕ) (ts rest : List Symbol) (t : Symbol) (k : PanelKind) (x : Tree) → head t ≡ heads.Panel k → enclosed inner insides.Expression ts ≡ Ok (x, rest)
+paneled_reads : (inner : Reader) (s : ℕ) (ts rest : List Symbol) (t : Symbol) (k : PanelKind) (x : Tree)
+    → head t ≡ heads.Panel k → enclosed inner insides.Expression ts ≡ Ok (x, rest)
     → primary inner (t ∷ Open ∷ Text s ∷ Comma ∷ ts) ≡ Ok (Panel (length (t ∷ Open ∷ Text s ∷ Comma ∷ ts)) k s x, rest)
 unfolding by_head panel label
 paneled_reads inner s ts rest t k x e p = ap (λ h. by_head inner h (t ∷ Open ∷ Text s ∷ Comma ∷ ts) (Open ∷ Text s ∷ Comma ∷ ts)) e ∙ rw p refl
 
 -- ---- brackets
 -- an operator is no bracket
-operator_nests : (limit depth : ℕ) (kind : Operands) (comma : Commas) (t : Symbol) (ts : List Symbol) → 1 < rank kind comma t → rank kind comma t < 99 → Nests limit depth (t ∷ ts) → Nests limit depth ts
+operator_nests : (limit depth : ℕ) (kind : Operands) (comma : Commas) (t : Symbol) (ts : List Symbol)
+    → 1 < rank kind comma t → rank kind comma t < 99 → Nests limit depth (t ∷ ts) → Nests limit depth ts
 operator_nests limit depth operands.Patterns comma Open ts h k n = absurd (omega arith)
 operator_nests limit depth operands.Expressions comma Open ts h k n = absurd (omega arith)
 operator_nests limit depth kind comma OpenBrace ts h k n = absurd (omega arith)
@@ -450,7 +511,8 @@ operator_nests limit depth kind comma CloseBrace ts h k n = absurd (omega arith)
 operator_nests limit depth kind comma t ts h k n = n
 
 -- what begins a form with a keyword is no bracket
-keyword_nests : (limit depth : ℕ) (t : Symbol) (ts : List Symbol) → (head t ≡ heads.Group → ⊥) → (head t ≡ heads.Nothing → ⊥) → Nests limit depth (t ∷ ts) → Nests limit depth ts
+keyword_nests : (limit depth : ℕ) (t : Symbol) (ts : List Symbol)
+    → (head t ≡ heads.Group → ⊥) → (head t ≡ heads.Nothing → ⊥) → Nests limit depth (t ∷ ts) → Nests limit depth ts
 keyword_nests limit depth Open ts g o n = absurd (g refl)
 keyword_nests limit depth OpenBrace ts g o n = absurd (o refl)
 keyword_nests limit depth Close ts g o n = absurd (o refl)
@@ -463,7 +525,8 @@ names_nest (more_names p) limit depth h = names_nest p limit depth h
 
 -- ---- by induction on how a tree is spelled
 -- What is spelled within the limit is read with the room that is left, and what follows it is within the limit.
-pub complete : {level : Level} {ts rest : List Symbol} {x : Tree} → Spells level ts x rest → (limit d room : ℕ) → room + d ≡ limit → Nests limit d ts → Reads level (within room) ts x rest × Nests limit d rest
+pub complete : {level : Level} {ts rest : List Symbol} {x : Tree}
+    → Spells level ts x rest → (limit d room : ℕ) → room + d ≡ limit → Nests limit d ts → Reads level (within room) ts x rest × Nests limit d rest
 complete (no_more {items = items} {rest = rest}) limit d room e n = (no_more_reads (within room) items rest, n)
 complete (stated {ts = ts} {mid = mid} {rest = rest} {x = x} {y = y} p q) limit d room e n =
     let a = complete p limit d room e n in
@@ -555,7 +618,8 @@ complete wire limit d room e n = ((λ follows. wire_is (within room)), n)
 complete cut limit d room e n = ((λ follows. cut_is (within room)), n)
 complete (plus {rest = rest}) limit d room e n = ((λ follows. plus_is (within room) rest follows), n)
 complete (minus {rest = rest}) limit d room e n = ((λ follows. minus_is (within room) rest follows), n)
-complete (primitive {rest = rest} t p h) limit d room e n = ((λ follows. primitive_reads (within room) t p rest h), keyword_nests limit d t rest (λ g. cc) (λ g. cc) n)
+complete (primitive {rest = rest} t p h) limit d room e n =
+    ((λ follows. primitive_reads (within room) t p rest h), keyword_nests limit d t rest (λ g. cc) (λ g. cc) n)
 complete (grouped {ts = ts} {rest = rest} {x = x} p) limit d room e n =
     let le : d + 1 ≤ limit = n.0 in
     let a = complete p limit (suc d) (room - 1) (omega arith) n.1 in
@@ -573,8 +637,11 @@ complete (iterated {n = m} {ts = ts} {mid = mid} {rest = rest} t i {x = x} {y = 
     let front = keyword_nests limit d t (Open ∷ Name m ∷ Comma ∷ ts) (λ g. cc) (λ g. cc) n in
     let le : d + 1 ≤ limit = front.0 in
     let a = complete p limit (suc d) (room - 1) (omega arith) front.1 in
-    let b = complete q limit (suc d) (room - 1) (omega arith) a.1 in
-    ((λ follows. iterated_reads (within room) m ts mid rest t i x y h (in_argument room ts x mid (omega arith) a.0) (in_expression room mid y rest (omega arith) b.0)), b.1)
+    let b = complete q limit (suc d) (room - 1) (omega arith) a.1 in (
+      (λ follows. iterated_reads (within room) m ts mid rest t i x y h
+          (in_argument room ts x mid (omega arith) a.0) (in_expression room mid y rest (omega arith) b.0)),
+      b.1,
+    )
 complete (ported {ts = ts} {rest = rest} t s {x = x} h p) limit d room e n =
     let front = keyword_nests limit d t (Open ∷ ts) (λ g. cc) (λ g. cc) n in
     let le : d + 1 ≤ limit = front.0 in
@@ -589,8 +656,11 @@ complete (slid {s = s} {ts = ts} {t1 = t1} {t2 = t2} {t3 = t3} {rest = rest} t k
     let a = complete p limit (suc d) (room - 1) (omega arith) front.1 in
     let b = complete q limit (suc d) (room - 1) (omega arith) a.1 in
     let c = complete r limit (suc d) (room - 1) (omega arith) b.1 in
-    let f = complete u limit (suc d) (room - 1) (omega arith) c.1 in
-    ((λ follows. slid_reads (within room) s ts t1 t2 t3 rest t k x0 x1 x2 x3 h (in_argument room ts x0 t1 (omega arith) a.0) (in_argument room t1 x1 t2 (omega arith) b.0) (in_argument room t2 x2 t3 (omega arith) c.0) (in_last_argument room t3 x3 rest (omega arith) f.0)), f.1)
+    let f = complete u limit (suc d) (room - 1) (omega arith) c.1 in (
+      (λ follows. slid_reads (within room) s ts t1 t2 t3 rest t k x0 x1 x2 x3 h (in_argument room ts x0 t1 (omega arith) a.0) (in_argument room t1 x1 t2
+          (omega arith) b.0) (in_argument room t2 x2 t3 (omega arith) c.0) (in_last_argument room t3 x3 rest (omega arith) f.0)),
+      f.1,
+    )
 complete (paneled {s = s} {ts = ts} {rest = rest} t k {x = x} h p) limit d room e n =
     let front = keyword_nests limit d t (Open ∷ Text s ∷ Comma ∷ ts) (λ g. cc) (λ g. cc) n in
     let le : d + 1 ≤ limit = front.0 in

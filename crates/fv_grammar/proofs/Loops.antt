@@ -1,11 +1,12 @@
 -- What the loops of the descent do, a turn at a time.
-use Rattle.std.proofs.Common.{◌≡◌, ℕ, zero, suc, ◌<◌, Bool, true, false, cond, List, [], ◌∷◌, length, drop, Ok, Err, refl, ap, ◌∙◌, arith, inl, inr}
+use Rattle.std.proofs.Common.{◌≡◌, ℕ, zero, suc, ◌<◌, true, false, cond, List, [], ◌∷◌, length, drop, Ok, Err, refl, ap, ◌∙◌, arith, inl, inr}
 use Rattle.std.specs.Prelude.{nat_lt, nat_eq}
 use Rattle.std.proofs.lemmas.Bool.{cases_lt, le-ltb, lt-ltb}
 use Rattle.fv_lex.specs.declared.token.Symbol.{Symbol}
 use Rattle.fv_lex.specs.declared.token.Symbol.TheVariants.{Name, Comma}
 use Rattle.fv_grammar.specs.Tree.{Tree, Binary, End, More}
-use Rattle.fv_grammar.specs.Descent.{Step, ◌>>=◌, Turn, Done, Next, Stop, after, turns, run, rank_at, operator_at, rights, chain, at_comma, a_name, names, name_list, Item, Nothing, Skip, One, Fault, with_item, many}
+use Rattle.fv_grammar.specs.Descent.{Step, ◌>>=◌, Turn, Done, Next, Stop, after, turns, run, rank_at, operator_at, rights, chain, at_comma, a_name, names}
+use Rattle.fv_grammar.specs.Descent.{name_list, Item, Nothing, Skip, One, Fault, with_item, many}
 use Rattle.fv_grammar.specs.declared.symbol.Operands.{Operands}
 use Rattle.fv_grammar.specs.declared.symbol.Commas.{Commas}
 
@@ -33,7 +34,8 @@ pub run_stop : (body : Tree → List Symbol → Turn) (x : Tree) (ts at : List S
 run_stop body x ts at e = one_turn body x ts ∙ ap (λ t. after (turns (length ts) body) (Ok (x, ts)) t) e
 
 -- ---- parts that are joined to the right
-rights_again : (k : ℕ) (part : List Symbol → Step Tree) (kind : Operands) (comma : Commas) (r : ℕ) (ts : List Symbol) → length ts < k → rights k part kind comma r ts ≡ chain part kind comma r ts
+rights_again : (k : ℕ) (part : List Symbol → Step Tree) (kind : Operands) (comma : Commas) (r : ℕ) (ts : List Symbol)
+    → length ts < k → rights k part kind comma r ts ≡ chain part kind comma r ts
 unfolding rights chain
 rights_again zero part kind comma r ts h = absurd (omega arith)
 rights_again (suc k) part kind comma r ts h = elim (cases_lt (length ts) k) [
@@ -52,13 +54,15 @@ one_part part kind comma r ts = let no : nat_lt (length ts) (length ts) ≡ fals
 pub chain_next : (part : List Symbol → Step Tree) (kind : Operands) (comma : Commas) (r : ℕ) (ts : List Symbol) (x : Tree) (rest : List Symbol)
     → part ts ≡ Ok (x, rest) → nat_eq (rank_at kind comma rest) r ≡ true → length (drop 1 rest) < length ts
     → chain part kind comma r ts ≡ joined ts rest x (chain part kind comma r (drop 1 rest))
-chain_next part kind comma r ts x rest e on h = one_part part kind comma r ts ∙ (rw (e, on) (ap (λ z. joined ts rest x z) (rights_again (length ts) part kind comma r (drop 1 rest) h)))
+chain_next part kind comma r ts x rest e on h =
+    one_part part kind comma r ts ∙ (rw (e, on) (ap (λ z. joined ts rest x z) (rights_again (length ts) part kind comma r (drop 1 rest) h)))
 
 pub chain_done : (part : List Symbol → Step Tree) (kind : Operands) (comma : Commas) (r : ℕ) (ts : List Symbol) (x : Tree) (rest : List Symbol)
     → part ts ≡ Ok (x, rest) → nat_eq (rank_at kind comma rest) r ≡ false → chain part kind comma r ts ≡ Ok (x, rest)
 chain_done part kind comma r ts x rest e off = one_part part kind comma r ts ∙ rw (e, off) refl
 
-pub chain_stop : (part : List Symbol → Step Tree) (kind : Operands) (comma : Commas) (r : ℕ) (ts at : List Symbol) → part ts ≡ Err at → chain part kind comma r ts ≡ Err at
+pub chain_stop : (part : List Symbol → Step Tree) (kind : Operands) (comma : Commas) (r : ℕ) (ts at : List Symbol)
+    → part ts ≡ Err at → chain part kind comma r ts ≡ Err at
 chain_stop part kind comma r ts at e = one_part part kind comma r ts ∙ rw e refl
 
 -- ---- names
@@ -112,7 +116,8 @@ one_item : (next : List Symbol → Item) (ts : List Symbol) → all_of next ts �
 unfolding many
 one_item next ts = let no : nat_lt (length ts) (length ts) ≡ false = le-ltb (length ts) (length ts) (omega arith) in rw no refl
 
-pub many_one : (next : List Symbol → Item) (ts : List Symbol) (x : Tree) (rest : List Symbol) → next ts ≡ One x rest → length rest < length ts → all_of next ts ≡ before x (all_of next rest)
+pub many_one : (next : List Symbol → Item) (ts : List Symbol) (x : Tree) (rest : List Symbol)
+    → next ts ≡ One x rest → length rest < length ts → all_of next ts ≡ before x (all_of next rest)
 many_one next ts x rest e h = one_item next ts ∙ rw e (ap (λ r. before x r) (many_again (length ts) next rest h))
 
 pub many_skip : (next : List Symbol → Item) (ts rest : List Symbol) → next ts ≡ Skip rest → length rest < length ts → all_of next ts ≡ all_of next rest

@@ -20,7 +20,8 @@ use Rattle.fv_grammar.specs.declared.symbol.Items.TheVariants.{Statements, Defin
 use Rattle.fv_grammar.specs.declared.symbol.Mark.{Mark}
 use Rattle.fv_grammar.specs.declared.symbol.Mark.TheVariants as marks
 use Rattle.fv_grammar.specs.Symbols.{head, rank, operator, is_left, is_mark}
-use Rattle.fv_grammar.specs.Tree.{Tree, Number, Negative, Named, MinusNamed, Wire, Cut, Primitive, Group, Abstraction, Case, Iteration, Ports, Switch, Slider, Panel, Delayed, Apply, Binary, Where, Rule, Constant, Function, End, More}
+use Rattle.fv_grammar.specs.Tree.{Tree, Number, Negative, Named, MinusNamed, Wire, Cut, Primitive, Group, Abstraction, Case, Iteration, Ports, Switch, Slider}
+use Rattle.fv_grammar.specs.Tree.{Panel, Delayed, Apply, Binary, Where, Rule, Constant, Function, End, More}
 use Rattle.fv_grammar.specs.declared.symbol.Operands.{Operands}
 use Rattle.fv_grammar.specs.declared.symbol.Commas.{Commas}
 use Rattle.fv_grammar.specs.declared.symbol.Operands.TheVariants as operands
@@ -320,7 +321,9 @@ at_with (t ∷ ts) = false
 
 -- "{" definitions "}", behind `with`
 abbrev pub with_part : Reader → ℕ → Tree → List Symbol → Turn
-with_part inner start x ts = turn (expect marks.OpenBrace ts >>= λ rest. (inner insides.Definitions rest >>= λ y. (expect marks.CloseBrace y.1 >>= λ end. Ok (y.0, end)))) (λ y. Where start x y)
+with_part inner start x ts =
+    turn (expect marks.OpenBrace ts >>= λ rest. (inner insides.Definitions rest >>= λ y. (expect marks.CloseBrace y.1 >>= λ end. Ok (y.0, end))))
+    (λ y. Where start x y)
 
 -- definitions that stand behind an expression
 abbrev pub with_turn : Reader → ℕ → Tree → List Symbol → Turn

@@ -1,8 +1,9 @@
 -- The grammar: which tokens spell which tree (Faust manual; this project's profile).
-use Rattle.std.specs.Prelude.{◌≡◌, ℕ, zero, suc, ◌<◌, Bool, true, false, List, [], ◌∷◌, ◌++◌, length}
+use Rattle.std.specs.Prelude.{◌≡◌, ℕ, zero, suc, ◌<◌, true, false, List, [], ◌∷◌, ◌++◌, length}
 use Rattle.fv_lex.specs.declared.token.Symbol.{Symbol}
 use Rattle.fv_lex.specs.declared.token.Symbol.TheVariants as symbols
-use Rattle.fv_lex.specs.declared.token.Symbol.TheVariants.{Name, Text, Integer, Comma, Open, Close, OpenBrace, CloseBrace, Equals, Arrow, Semicolon, Dot, Declare, With, Tick}
+use Rattle.fv_lex.specs.declared.token.Symbol.TheVariants.{Name, Text, Integer, Comma, Open, Close, OpenBrace, CloseBrace, Equals, Arrow, Semicolon, Dot}
+use Rattle.fv_lex.specs.declared.token.Symbol.TheVariants.{Declare, With, Tick}
 use Rattle.fv_grammar.specs.declared.form.Primitive.TheVariants as primitives
 use Rattle.fv_grammar.specs.declared.form.Primitive.{Primitive as Operation}
 use Rattle.fv_grammar.specs.declared.form.Iteration.{Iteration as Repetition}
@@ -14,7 +15,8 @@ use Rattle.fv_grammar.specs.declared.symbol.Head.TheVariants as heads
 use Rattle.fv_grammar.specs.declared.symbol.Items.{Items}
 use Rattle.fv_grammar.specs.declared.symbol.Items.TheVariants.{Statements, Definitions, Rules, Parts}
 use Rattle.fv_grammar.specs.Symbols.{head, rank, operator, is_left}
-use Rattle.fv_grammar.specs.Tree.{Tree, Number, Negative, Named, MinusNamed, Wire, Cut, Primitive, Group, Abstraction, Case, Iteration, Ports, Switch, Slider, Panel, Delayed, Apply, Binary, Where, Rule, Constant, Function, End, More}
+use Rattle.fv_grammar.specs.Tree.{Tree, Number, Negative, Named, MinusNamed, Wire, Cut, Primitive, Group, Abstraction, Case, Iteration, Ports, Switch, Slider}
+use Rattle.fv_grammar.specs.Tree.{Panel, Delayed, Apply, Binary, Where, Rule, Constant, Function, End, More}
 use Rattle.fv_grammar.specs.declared.symbol.Operands.{Operands}
 use Rattle.fv_grammar.specs.declared.symbol.Commas.{Commas}
 use Rattle.fv_grammar.specs.declared.symbol.Operands.TheVariants as operands
@@ -53,32 +55,42 @@ pub data Spells : Level → List Symbol → Tree → List Symbol → Type 0 wher
       → Spells (Further Definitions) ts (More x y) rest
   ruled : {ts mid rest : List Symbol} {x y : Tree} → Spells OneRule ts x mid → Spells (Further Rules) mid y rest
       → Spells (Further Rules) ts (More x y) rest
-  parted : {kind : Operands} {ts mid rest : List Symbol} {x y : Tree} → Spells (Phrase kind commas.Separate 8) ts x mid → Spells (Further (Parts kind)) mid y rest
+  parted : {kind : Operands} {ts mid rest : List Symbol} {x y : Tree}
+      → Spells (Phrase kind commas.Separate 8) ts x mid → Spells (Further (Parts kind)) mid y rest
       → Spells (Further (Parts kind)) (Comma ∷ ts) (More x y) rest
   -- rule {rule}; argument {"," argument}; pattern {"," pattern}
   first_rule : {ts mid rest : List Symbol} {x y : Tree} → Spells OneRule ts x mid → Spells (Further Rules) mid y rest
       → Spells (Listed Rules) ts (More x y) rest
-  first_part : {kind : Operands} {ts mid rest : List Symbol} {x y : Tree} → Spells (Phrase kind commas.Separate 8) ts x mid → Spells (Further (Parts kind)) mid y rest
+  first_part : {kind : Operands} {ts mid rest : List Symbol} {x y : Tree}
+      → Spells (Phrase kind commas.Separate 8) ts x mid → Spells (Further (Parts kind)) mid y rest
       → Spells (Listed (Parts kind)) ts (More x y) rest
   -- name "=" expression ";"
   constant : {n : ℕ} {ts rest : List Symbol} {x : Tree} → Spells Expression ts x (Semicolon ∷ rest)
       → Spells Definition (Name n ∷ Equals ∷ ts) (Constant (length (Name n ∷ Equals ∷ ts)) n x) rest
   -- name "(" patterns ")" "=" expression ";"
-  function : {n : ℕ} {ts mid rest : List Symbol} {ps x : Tree} → Spells (Listed (Parts operands.Patterns)) ts ps (Close ∷ Equals ∷ mid) → Spells Expression mid x (Semicolon ∷ rest)
+  function : {n : ℕ} {ts mid rest : List Symbol} {ps x : Tree}
+      → Spells (Listed (Parts operands.Patterns)) ts ps (Close ∷ Equals ∷ mid) → Spells Expression mid x (Semicolon ∷ rest)
       → Spells Definition (Name n ∷ Open ∷ ts) (Function (length (Name n ∷ Open ∷ ts)) n ps x) rest
   -- "(" patterns ")" "=>" expression ";"
-  rule : {ts mid rest : List Symbol} {ps x : Tree} → Spells (Listed (Parts operands.Patterns)) ts ps (Close ∷ Arrow ∷ mid) → Spells Expression mid x (Semicolon ∷ rest)
+  rule : {ts mid rest : List Symbol} {ps x : Tree}
+      → Spells (Listed (Parts operands.Patterns)) ts ps (Close ∷ Arrow ∷ mid) → Spells Expression mid x (Semicolon ∷ rest)
       → Spells OneRule (Open ∷ ts) (Rule (length (Open ∷ ts)) ps x) rest
   -- an expression: any phrase, and any number of "with" "{" definitions "}" behind it
   plain : {ts rest : List Symbol} {x : Tree} → Spells (Phrase operands.Expressions commas.Join 8) ts x rest → Spells Expression ts x rest
-  qualified : {ts mid rest : List Symbol} {x y : Tree} → Spells Expression ts x (With ∷ OpenBrace ∷ mid) → Spells (Further Definitions) mid y (CloseBrace ∷ rest)
+  qualified : {ts mid rest : List Symbol} {x y : Tree}
+      → Spells Expression ts x (With ∷ OpenBrace ∷ mid) → Spells (Further Definitions) mid y (CloseBrace ∷ rest)
       → Spells Expression ts (Where (length ts) x y) rest
   -- the operators of one precedence
-  tighter : {kind : Operands} {comma : Commas} {h : ℕ} {ts rest : List Symbol} {x : Tree} → Spells (Phrase kind comma h) ts x rest → Spells (Phrase kind comma (suc h)) ts x rest
-  leftward : {kind : Operands} {comma : Commas} {h : ℕ} {ts mid rest : List Symbol} (t : Symbol) {x y : Tree} → h < 8 → is_left (suc h) ≡ true → rank kind comma t ≡ suc (suc h)
-      → Spells (Phrase kind comma (suc h)) ts x (t ∷ mid) → Spells (Phrase kind comma h) mid y rest → Spells (Phrase kind comma (suc h)) ts (Binary (length ts) (operator t) x y) rest
-  rightward : {kind : Operands} {comma : Commas} {h : ℕ} {ts mid rest : List Symbol} (t : Symbol) {x y : Tree} → h < 8 → is_left (suc h) ≡ false → rank kind comma t ≡ suc (suc h)
-      → Spells (Phrase kind comma h) ts x (t ∷ mid) → Spells (Phrase kind comma (suc h)) mid y rest → Spells (Phrase kind comma (suc h)) ts (Binary (length ts) (operator t) x y) rest
+  tighter : {kind : Operands} {comma : Commas} {h : ℕ} {ts rest : List Symbol} {x : Tree}
+      → Spells (Phrase kind comma h) ts x rest → Spells (Phrase kind comma (suc h)) ts x rest
+  leftward : {kind : Operands} {comma : Commas} {h : ℕ} {ts mid rest : List Symbol} (t : Symbol) {x y : Tree}
+      → h < 8 → is_left (suc h) ≡ true → rank kind comma t ≡ suc (suc h)
+      → Spells (Phrase kind comma (suc h)) ts x (t ∷ mid)
+      → Spells (Phrase kind comma h) mid y rest → Spells (Phrase kind comma (suc h)) ts (Binary (length ts) (operator t) x y) rest
+  rightward : {kind : Operands} {comma : Commas} {h : ℕ} {ts mid rest : List Symbol} (t : Symbol) {x y : Tree}
+      → h < 8 → is_left (suc h) ≡ false → rank kind comma t ≡ suc (suc h)
+      → Spells (Phrase kind comma h) ts x (t ∷ mid)
+      → Spells (Phrase kind comma (suc h)) mid y rest → Spells (Phrase kind comma (suc h)) ts (Binary (length ts) (operator t) x y) rest
   operand : {comma : Commas} {ts rest : List Symbol} {x : Tree} → Spells Postfix ts x rest → Spells (Phrase operands.Expressions comma zero) ts x rest
   pattern_operand : {comma : Commas} {ts rest : List Symbol} {x : Tree} → Spells Atom ts x rest → Spells (Phrase operands.Patterns comma zero) ts x rest
   -- postfix
@@ -106,7 +118,8 @@ pub data Spells : Level → List Symbol → Tree → List Symbol → Type 0 wher
   cased : {ts rest : List Symbol} {x : Tree} → Spells (Listed Rules) ts x (CloseBrace ∷ rest)
       → Spells Primary (symbols.Case ∷ OpenBrace ∷ ts) (Case (length (symbols.Case ∷ OpenBrace ∷ ts)) x) rest
   -- ("par" | "seq" | "sum" | "prod") "(" name "," argument "," expression ")"
-  iterated : {n : ℕ} {ts mid rest : List Symbol} (t : Symbol) (i : Repetition) {x y : Tree} → head t ≡ heads.Iteration i → Spells (Phrase operands.Expressions commas.Separate 8) ts x (Comma ∷ mid) → Spells Expression mid y (Close ∷ rest)
+  iterated : {n : ℕ} {ts mid rest : List Symbol} (t : Symbol) (i : Repetition) {x y : Tree}
+      → head t ≡ heads.Iteration i → Spells (Phrase operands.Expressions commas.Separate 8) ts x (Comma ∷ mid) → Spells Expression mid y (Close ∷ rest)
       → Spells Primary (t ∷ Open ∷ Name n ∷ Comma ∷ ts) (Iteration (length (t ∷ Open ∷ Name n ∷ Comma ∷ ts)) i n x y) rest
   -- ("inputs" | "outputs") "(" expression ")"
   ported : {ts rest : List Symbol} (t : Symbol) (s : Side) {x : Tree} → head t ≡ heads.Ports s → Spells Expression ts x (Close ∷ rest)
@@ -116,7 +129,8 @@ pub data Spells : Level → List Symbol → Tree → List Symbol → Type 0 wher
       → Spells Primary (t ∷ Open ∷ Text s ∷ Close ∷ rest) (Switch (length (t ∷ Open ∷ Text s ∷ Close ∷ rest)) k s) rest
   -- ("hslider" | "vslider" | "nentry") "(" string "," argument "," argument "," argument "," argument ")"
   slid : {s : ℕ} {ts t1 t2 t3 rest : List Symbol} (t : Symbol) (k : SliderKind) {x0 x1 x2 x3 : Tree} → head t ≡ heads.Slider k
-      → Spells (Phrase operands.Expressions commas.Separate 8) ts x0 (Comma ∷ t1) → Spells (Phrase operands.Expressions commas.Separate 8) t1 x1 (Comma ∷ t2) → Spells (Phrase operands.Expressions commas.Separate 8) t2 x2 (Comma ∷ t3) → Spells (Phrase operands.Expressions commas.Separate 8) t3 x3 (Close ∷ rest)
+      → Spells (Phrase operands.Expressions commas.Separate 8) ts x0 (Comma ∷ t1) → Spells (Phrase operands.Expressions commas.Separate 8) t1 x1 (Comma ∷ t2)
+      → Spells (Phrase operands.Expressions commas.Separate 8) t2 x2 (Comma ∷ t3) → Spells (Phrase operands.Expressions commas.Separate 8) t3 x3 (Close ∷ rest)
       → Spells Primary (t ∷ Open ∷ Text s ∷ Comma ∷ ts) (Slider (length (t ∷ Open ∷ Text s ∷ Comma ∷ ts)) k s x0 x1 x2 x3) rest
   -- ("hgroup" | "vgroup" | "tgroup") "(" string "," expression ")"
   paneled : {s : ℕ} {ts rest : List Symbol} (t : Symbol) (k : PanelKind) {x : Tree} → head t ≡ heads.Panel k → Spells Expression ts x (Close ∷ rest)
@@ -124,7 +138,8 @@ pub data Spells : Level → List Symbol → Tree → List Symbol → Type 0 wher
   -- what stands in a pattern
   atom_number : {n : ℕ} {rest : List Symbol} → Spells Atom (Integer n ∷ rest) (Number (length (Integer n ∷ rest)) n) rest
   atom_plus_number : {n : ℕ} {rest : List Symbol} → Spells Atom (symbols.Plus ∷ Integer n ∷ rest) (Number (length (symbols.Plus ∷ Integer n ∷ rest)) n) rest
-  atom_minus_number : {n : ℕ} {rest : List Symbol} → Spells Atom (symbols.Minus ∷ Integer n ∷ rest) (Negative (length (symbols.Minus ∷ Integer n ∷ rest)) n) rest
+  atom_minus_number : {n : ℕ} {rest : List Symbol}
+      → Spells Atom (symbols.Minus ∷ Integer n ∷ rest) (Negative (length (symbols.Minus ∷ Integer n ∷ rest)) n) rest
   atom_name : {n : ℕ} {rest : List Symbol} → Spells Atom (Name n ∷ rest) (Named (length (Name n ∷ rest)) n) rest
   -- "(" compositions of patterns ")", which make no form of their own
   atom_grouped : {ts rest : List Symbol} {x : Tree} → Spells (Phrase operands.Patterns commas.Join 8) ts x (Close ∷ rest) → Spells Atom (Open ∷ ts) x rest

@@ -1,5 +1,6 @@
 -- Each symbol carries the number of its own token.
-use Rattle.std.proofs.Common.{◌≡◌, ℕ, zero, suc, ◌⊎◌, inl, inr, Bool, true, false, List, [], ◌∷◌, ◌++◌, length, Option, Some, None, refl, sym, ap, subst, arith, slice_get, unwrap_or}
+use Rattle.std.proofs.Common.{◌≡◌, ℕ, zero, suc, ◌⊎◌, inl, inr, Bool, true, false, List, [], ◌∷◌, ◌++◌, length, Option, Some, None, refl, sym, ap, subst, arith}
+use Rattle.std.proofs.Common.{slice_get, unwrap_or}
 use Rattle.std.specs.Prelude.{nat_eq}
 use Rattle.std.specs.List.{list_all}
 use Rattle.std.specs.Str.{bytes_eq}
@@ -10,7 +11,8 @@ use Rattle.fv_lex.specs.declared.token.Kind.TheVariants as kinds
 use Rattle.fv_lex.specs.declared.token.Symbol.{Symbol}
 use Rattle.fv_lex.specs.declared.token.Symbol.TheVariants.{Name, Text, Integer, Unsupported, Merge, NotEqual}
 use Rattle.fv_lex.specs.declared.token.Span.{Span}
-use Rattle.fv_lex.specs.Symbols.{at_byte, at_word, singles, after_less, after_greater, after_equals, double, primitive_words, form_words, control_words, is_unsupported, symbol_of}
+use Rattle.fv_lex.specs.Symbols.{at_byte, at_word, singles, after_less, after_greater, after_equals, double, primitive_words, form_words, control_words}
+use Rattle.fv_lex.specs.Symbols.{is_unsupported, symbol_of}
 use Rattle.fv_lex.specs.Spans.{new_symbols, HasSymbol}
 use Rattle.fv_lex.specs.Carried.{Carries, AllCarry}
 
@@ -29,14 +31,16 @@ nothing_carried i (Unsupported n) e = absurd cc
 nothing_carried i (Integer n) e = absurd cc
 nothing_carried i _ e = tt
 
-word_carries : (i : ℕ) (table : List (List ℕ × Symbol)) (word : List ℕ) (other : Symbol) → list_all (λ e. carries_nothing e.1) table ≡ true → Carries i other → Carries i (unwrap_or (at_word table word) other)
+word_carries : (i : ℕ) (table : List (List ℕ × Symbol)) (word : List ℕ) (other : Symbol)
+    → list_all (λ e. carries_nothing e.1) table ≡ true → Carries i other → Carries i (unwrap_or (at_word table word) other)
 word_carries i [] word other all h = h
 word_carries i (e ∷ es) word other all h =
     let parts = and_parts (carries_nothing e.1) (list_all (λ q. carries_nothing q.1) es) all in
     let rest = word_carries i es word other parts.1 h in
     cond_both (bytes_eq word e.0) (Some e.1) (at_word es word) (λ o. Carries i (unwrap_or o other)) (λ _. nothing_carried i e.1 parts.0) (λ _. rest)
 
-byte_carries : (i : ℕ) (table : List (ℕ × Symbol)) (b : ℕ) (other : Symbol) → list_all (λ e. carries_nothing e.1) table ≡ true → Carries i other → Carries i (unwrap_or (at_byte table b) other)
+byte_carries : (i : ℕ) (table : List (ℕ × Symbol)) (b : ℕ) (other : Symbol)
+    → list_all (λ e. carries_nothing e.1) table ≡ true → Carries i other → Carries i (unwrap_or (at_byte table b) other)
 byte_carries i [] b other all h = h
 byte_carries i (e ∷ es) b other all h =
     let parts = and_parts (carries_nothing e.1) (list_all (λ q. carries_nothing q.1) es) all in
@@ -64,7 +68,8 @@ symbol_carries i kinds.Sign (b ∷ c ∷ []) h = double_carries i b c (Unsupport
 symbol_carries i kinds.Sign (b ∷ c ∷ d ∷ bytes) h = refl
 
 -- where a symbol stands in a list with one more
-push_cases : (symbols : List Symbol) (new : Symbol) (i : ℕ) (s : Symbol) → slice_get (symbols ++ new ∷ []) i ≡ Some s → (slice_get symbols i ≡ Some s) ⊎ ((i ≡ length symbols) × (s ≡ new))
+push_cases : (symbols : List Symbol) (new : Symbol) (i : ℕ) (s : Symbol)
+    → slice_get (symbols ++ new ∷ []) i ≡ Some s → (slice_get symbols i ≡ Some s) ⊎ ((i ≡ length symbols) × (s ≡ new))
 push_cases [] new zero s e = inr (refl, cc)
 push_cases [] new (suc i) s e = absurd cc
 push_cases (x ∷ symbols) new zero s e = inl e
@@ -77,7 +82,8 @@ all_pushed symbols new h all i s e = go (push_cases symbols new i s e)
     go (inl before) = all i s before
     go (inr (at, is)) = subst (λ k. Carries k s) (sym at) (subst (λ t. Carries (length symbols) t) (sym is) h)
 
-pub carried_more : (symbols : List Symbol) (spans : List Span) (n : ℕ) (kind : Option Kind) (bytes : List ℕ) → length symbols ≡ length spans → n ≡ length spans → HasSymbol kind bytes → AllCarry symbols → AllCarry (symbols ++ new_symbols n kind bytes)
+pub carried_more : (symbols : List Symbol) (spans : List Span) (n : ℕ) (kind : Option Kind) (bytes : List ℕ)
+    → length symbols ≡ length spans → n ≡ length spans → HasSymbol kind bytes → AllCarry symbols → AllCarry (symbols ++ new_symbols n kind bytes)
 carried_more symbols spans n None bytes paired counted h all = subst (λ l. AllCarry l) (sym (append-nil symbols)) all
 carried_more symbols spans n (Some kind) bytes paired counted h all =
     let number : n ≡ length symbols = omega arith in

@@ -69,7 +69,8 @@ and_no : (v w : Bool) → w ≡ false → (v && w) ≡ false
 and_no true w e = e
 and_no false w e = refl
 
-name_case : (v : Bool) (b : ℕ) (bs : List ℕ) (c : ℕ) (more : List ℕ) → is_underscore b ≡ v → is_name_byte c ≡ false → is_name (bs ++ c ∷ more) ≡ false → is_name (b ∷ (bs ++ c ∷ more)) ≡ false
+name_case : (v : Bool) (b : ℕ) (bs : List ℕ) (c : ℕ) (more : List ℕ)
+    → is_underscore b ≡ v → is_name_byte c ≡ false → is_name (bs ++ c ∷ more) ≡ false → is_name (b ∷ (bs ++ c ∷ more)) ≡ false
 name_case true b bs c more u e ih = rw u ih
 name_case false b bs c more u e ih = rw u (and_no (is_letter b) _ (list_all_stops is_name_byte bs c more e))
 

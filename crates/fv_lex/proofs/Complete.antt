@@ -1,5 +1,6 @@
 -- Each piece is what the step finds, and each fault is what it refuses.
-use Rattle.std.proofs.Common.{◌≡◌, ℕ, suc, ◌+◌, ◌≤◌, Bool, true, false, cond, not, ◌&&◌, ◌||◌, List, [], ◌∷◌, ◌++◌, length, take, drop, Option, Some, None, refl, sym, ap, subst, ◌∙◌, arith, ◌⊎◌, inl, inr}
+use Rattle.std.proofs.Common.{◌≡◌, ℕ, suc, ◌+◌, ◌≤◌, Bool, true, false, cond, not, ◌&&◌, ◌||◌, List, [], ◌∷◌, ◌++◌, length, take, drop, Option, Some, None}
+use Rattle.std.proofs.Common.{refl, sym, ap, subst, ◌∙◌, arith, ◌⊎◌, inl, inr}
 use Rattle.std.specs.Prelude.{nat_eq, nat_lt, is_some}
 use Rattle.std.specs.List.{list_all, prefix_len}
 use Rattle.std.specs.Option.{option_map}
@@ -14,7 +15,9 @@ use Rattle.fv_lex.specs.declared.refusal.Fault.TheVariants.{BadByte, RealLiteral
 use Rattle.fv_lex.specs.declared.next.Next.TheVariants.{Found, Refused}
 use Rattle.fv_lex.specs.Bytes.{is_blank, is_letter, is_digit, is_underscore, is_name_byte, is_quote, is_in_line, begins}
 use Rattle.fv_lex.specs.Symbols.{at_byte, singles, double, value}
-use Rattle.fv_lex.specs.Pieces.{is_name, is_integer, is_nothing, closes, is_token, IsLongest, BeginsNoToken, is_real_tail, BeginsReal, fraction, real, begins_comment, ends_line, has_close, greatest_literal, IsPiece, blank_byte, line_comment, block_comment, longest_token, IsFault, unclosed_text, unclosed_comment, real_literal, large_literal, bad_byte}
+use Rattle.fv_lex.specs.Pieces.{is_name, is_integer, is_nothing, closes, is_token, IsLongest, BeginsNoToken, is_real_tail, BeginsReal, fraction, real}
+use Rattle.fv_lex.specs.Pieces.{begins_comment, ends_line, has_close, greatest_literal, IsPiece, blank_byte, line_comment, block_comment, longest_token}
+use Rattle.fv_lex.specs.Pieces.{IsFault, unclosed_text, unclosed_comment, real_literal, large_literal, bad_byte}
 use Rattle.fv_lex.specs.Steps.{to_quote, to_close, bare_underscores, number_next, slash_next, sign_next, first_next, next_piece}
 use Rattle.fv_lex.proofs.Runs.{Stops, prefix_len-passes, run_is, list_all_more}
 use Rattle.fv_lex.proofs.Classes.{digit_range, no_letter, no_blank}
@@ -47,13 +50,15 @@ line_stops : (rest : List ℕ) → ends_line rest ≡ true → Stops is_in_line 
 line_stops [] e = tt
 line_stops (b ∷ bs) e = rw e refl
 
-line_found : (body rest : List ℕ) → list_all is_in_line body ≡ true → ends_line rest ≡ true → next_piece (47 ∷ 47 ∷ (body ++ rest)) ≡ Found (suc (suc (length body))) None
+line_found : (body rest : List ℕ)
+    → list_all is_in_line body ≡ true → ends_line rest ≡ true → next_piece (47 ∷ 47 ∷ (body ++ rest)) ≡ Found (suc (suc (length body))) None
 line_found body rest e h =
     let n = run_is is_in_line body rest e (line_stops rest h) in
     let two : 2 + prefix_len is_in_line (body ++ rest) ≡ suc (suc (length body)) = omega arith in
     ap (λ k. Found k None) two
 
-star_ahead : (v : Bool) (body rest : List ℕ) → (v && begins (λ c. nat_eq c 47) body) ≡ false → (v && begins (λ c. nat_eq c 47) ((body ++ 42 ∷ 47 ∷ []) ++ rest)) ≡ false
+star_ahead : (v : Bool) (body rest : List ℕ)
+    → (v && begins (λ c. nat_eq c 47) body) ≡ false → (v && begins (λ c. nat_eq c 47) ((body ++ 42 ∷ 47 ∷ []) ++ rest)) ≡ false
 star_ahead false body rest e = refl
 star_ahead true [] rest e = refl
 star_ahead true (x ∷ body) rest e = e
@@ -64,13 +69,15 @@ close_is (b ∷ body) rest e =
     let parts = or_parts (nat_eq b 42 && begins (λ c. nat_eq c 47) body) (has_close body) e in
     rw (star_ahead (nat_eq b 42) body rest parts.0) (ap (option_map suc) (close_is body rest parts.1))
 
-block_found : (body rest : List ℕ) → has_close body ≡ false → next_piece (47 ∷ 42 ∷ ((body ++ 42 ∷ 47 ∷ []) ++ rest)) ≡ Found (suc (suc (length (body ++ 42 ∷ 47 ∷ [])))) None
+block_found : (body rest : List ℕ)
+    → has_close body ≡ false → next_piece (47 ∷ 42 ∷ ((body ++ 42 ∷ 47 ∷ []) ++ rest)) ≡ Found (suc (suc (length (body ++ 42 ∷ 47 ∷ [])))) None
 block_found body rest e =
     let two : 2 + length (body ++ 42 ∷ 47 ∷ []) ≡ suc (suc (length (body ++ 42 ∷ 47 ∷ []))) = omega arith in
     rw (close_is body rest e) (ap (λ k. Found k None) two)
 
 -- ---- names
-name_all_case : (v : Bool) (b : ℕ) (bs : List ℕ) → is_underscore b ≡ v → (is_name bs ≡ true → list_all is_name_byte bs ≡ true) → cond v (is_name bs) (is_letter b && list_all is_name_byte bs) ≡ true → list_all is_name_byte (b ∷ bs) ≡ true
+name_all_case : (v : Bool) (b : ℕ) (bs : List ℕ) → is_underscore b ≡ v → (is_name bs ≡ true → list_all is_name_byte bs ≡ true)
+    → cond v (is_name bs) (is_letter b && list_all is_name_byte bs) ≡ true → list_all is_name_byte (b ∷ bs) ≡ true
 name_all_case true b bs u ih h = rw (eqb-true b 95 u, ih h) refl
 name_all_case false b bs u ih h = let both = and_parts (is_letter b) (list_all is_name_byte bs) h in rw (both.0, both.1) refl
 
@@ -78,15 +85,19 @@ name_all : (bytes : List ℕ) → is_name bytes ≡ true → list_all is_name_by
 name_all [] e = refl
 name_all (b ∷ bs) e = name_all_case (is_underscore b) b bs refl (name_all bs) e
 
-name_more_case : (v : Bool) (b : ℕ) (bs : List ℕ) (c : ℕ) → is_underscore b ≡ v → is_name_byte c ≡ true → (is_name bs ≡ true → is_name (bs ++ c ∷ []) ≡ true) → cond v (is_name bs) (is_letter b && list_all is_name_byte bs) ≡ true → is_name (b ∷ (bs ++ c ∷ [])) ≡ true
+name_more_case : (v : Bool) (b : ℕ) (bs : List ℕ) (c : ℕ) → is_underscore b ≡ v → is_name_byte c ≡ true → (is_name bs ≡ true → is_name (bs ++ c ∷ []) ≡ true)
+    → cond v (is_name bs) (is_letter b && list_all is_name_byte bs) ≡ true → is_name (b ∷ (bs ++ c ∷ [])) ≡ true
 name_more_case true b bs c u e ih h = rw u (ih h)
-name_more_case false b bs c u e ih h = let both = and_parts (is_letter b) (list_all is_name_byte bs) h in rw (u, both.0) (list_all_more is_name_byte bs c both.1 e)
+name_more_case false b bs c u e ih h =
+    let both = and_parts (is_letter b) (list_all is_name_byte bs) h in rw (u, both.0) (list_all_more is_name_byte bs c both.1 e)
 
 name_more : (bytes : List ℕ) (c : ℕ) → is_name_byte c ≡ true → is_name bytes ≡ true → is_name (bytes ++ c ∷ []) ≡ true
 name_more [] c e h = absurd cc
 name_more (b ∷ bs) c e h = name_more_case (is_underscore b) b bs c refl e (name_more bs c e) h
 
-name_begins_case : (v : Bool) (b : ℕ) (bs rest : List ℕ) → is_underscore b ≡ v → (is_name bs ≡ true → begins is_letter (drop (prefix_len is_underscore (bs ++ rest)) (bs ++ rest)) ≡ true) → cond v (is_name bs) (is_letter b && list_all is_name_byte bs) ≡ true
+name_begins_case : (v : Bool) (b : ℕ) (bs rest : List ℕ)
+    → is_underscore b ≡ v → (is_name bs ≡ true → begins is_letter (drop (prefix_len is_underscore (bs ++ rest)) (bs ++ rest)) ≡ true)
+    → cond v (is_name bs) (is_letter b && list_all is_name_byte bs) ≡ true
     → begins is_letter (drop (prefix_len is_underscore (b ∷ (bs ++ rest))) (b ∷ (bs ++ rest))) ≡ true
 name_begins_case true b bs rest u ih h = rw (prefix_len-passes is_underscore b (bs ++ rest) u) (ih h)
 name_begins_case false b bs rest u ih h = rw u (and_parts (is_letter b) (list_all is_name_byte bs) h).0
@@ -95,7 +106,8 @@ name_begins : (bytes rest : List ℕ) → is_name bytes ≡ true → begins is_l
 name_begins [] rest e = absurd cc
 name_begins (b ∷ bs) rest e = name_begins_case (is_underscore b) b bs rest refl (name_begins bs rest) e
 
-head_of_case : (v : Bool) (b : ℕ) (bs : List ℕ) → is_underscore b ≡ v → cond v (is_name bs) (is_letter b && list_all is_name_byte bs) ≡ true → (is_letter b || is_underscore b) ≡ true
+head_of_case : (v : Bool) (b : ℕ) (bs : List ℕ)
+    → is_underscore b ≡ v → cond v (is_name bs) (is_letter b && list_all is_name_byte bs) ≡ true → (is_letter b || is_underscore b) ≡ true
 head_of_case true b bs u h = or_right (is_letter b) (is_underscore b) u
 head_of_case false b bs u h = or_left (is_letter b) (is_underscore b) (and_parts (is_letter b) (list_all is_name_byte bs) h).0
 
@@ -108,7 +120,8 @@ stops_from p (c ∷ cs) never = go (p c) refl
     go false e = e
     go true e = absurd (never c cs refl e)
 
-name_found : (b : ℕ) (body rest : List ℕ) → is_name (b ∷ body) ≡ true → IsLongest (b ∷ body) rest → next_piece (b ∷ (body ++ rest)) ≡ Found (suc (length body)) (Some Name)
+name_found : (b : ℕ) (body rest : List ℕ)
+    → is_name (b ∷ body) ≡ true → IsLongest (b ∷ body) rest → next_piece (b ∷ (body ++ rest)) ≡ Found (suc (length body)) (Some Name)
 name_found b body rest e longest =
     let stops = stops_from is_name_byte rest (λ c cs is byte. let no = longest Name c [] cs is in let yes = name_more (b ∷ body) c byte e in cc) in
     let head = head_of_case (is_underscore b) b body refl e in
@@ -122,7 +135,8 @@ name_found b body rest e longest =
 -- ---- integers
 integer_stops : (bytes rest : List ℕ) → is_integer bytes ≡ true → IsLongest bytes rest → Stops is_digit rest
 integer_stops [] rest e longest = absurd cc
-integer_stops (b ∷ body) rest e longest = stops_from is_digit rest (λ c cs is digit. let no = longest Integer c [] cs is in let yes = list_all_more is_digit (b ∷ body) c e digit in cc)
+integer_stops (b ∷ body) rest e longest =
+    stops_from is_digit rest (λ c cs is digit. let no = longest Integer c [] cs is in let yes = list_all_more is_digit (b ∷ body) c e digit in cc)
 
 unreal_tail : (bytes rest : List ℕ) → is_integer bytes ≡ true → (BeginsReal (bytes ++ rest) → ⊥) → is_real_tail rest ≡ false
 unreal_tail bytes rest e unreal = go (is_real_tail rest) refl
@@ -136,7 +150,8 @@ number_is : (bytes rest : List ℕ) → is_integer bytes ≡ true → IsLongest 
     → number_next (bytes ++ rest) ≡ cond (nat_lt greatest_literal (value bytes)) (Refused LiteralTooLarge) (Found (length bytes) (Some Integer))
 number_is bytes rest e longest unreal =
     let stops = integer_stops bytes rest e longest in
-    let tail : is_real_tail (drop (prefix_len is_digit (bytes ++ rest)) (bytes ++ rest)) ≡ false = ap is_real_tail (tail_behind bytes rest e stops) ∙ unreal_tail bytes rest e unreal in
+    let tail : is_real_tail (drop (prefix_len is_digit (bytes ++ rest)) (bytes ++ rest)) ≡ false =
+    ap is_real_tail (tail_behind bytes rest e stops) ∙ unreal_tail bytes rest e unreal in
     let counted = run_is is_digit bytes rest (integer_all bytes e) stops in
     let front = front_before bytes rest e stops in
     rw (tail, front, counted) refl
@@ -146,7 +161,8 @@ integer_next [] rest e = absurd cc
 integer_next (b ∷ bs) rest e = digit_is b (bs ++ rest) (and_parts (is_digit b) (list_all is_digit bs) e).0
 
 -- ---- strings
-quote_case : (v : Bool) (b : ℕ) (bs rest : List ℕ) → is_quote b ≡ v → (closes bs ≡ true → to_quote (bs ++ rest) ≡ Some (length bs)) → cond v (is_nothing bs) (closes bs) ≡ true → to_quote (b ∷ (bs ++ rest)) ≡ Some (suc (length bs))
+quote_case : (v : Bool) (b : ℕ) (bs rest : List ℕ) → is_quote b ≡ v → (closes bs ≡ true → to_quote (bs ++ rest) ≡ Some (length bs))
+    → cond v (is_nothing bs) (closes bs) ≡ true → to_quote (b ∷ (bs ++ rest)) ≡ Some (suc (length bs))
 quote_case true b [] rest q ih h = rw q refl
 quote_case true b (c ∷ bs) rest q ih h = absurd cc
 quote_case false b bs rest q ih h = rw q (ap (option_map suc) (ih h))
@@ -174,14 +190,16 @@ text_found : (b : ℕ) (body rest : List ℕ) → is_token Text (b ∷ body) ≡
 text_found b body rest e =
     let both = and_parts (is_quote b) (closes body) e in
     let one : 1 + length body ≡ suc (length body) = omega arith in
-    subst (λ k. next_piece (k ∷ (body ++ rest)) ≡ Found (suc (length body)) (Some Text)) (sym (eqb-true b 34 both.0)) (rw (quote_is body rest both.1) (ap (λ k. Found k (Some Text)) one))
+    subst (λ k. next_piece (k ∷ (body ++ rest)) ≡ Found (suc (length body)) (Some Text))
+    (sym (eqb-true b 34 both.0)) (rw (quote_is body rest both.1) (ap (λ k. Found k (Some Text)) one))
 
 -- ---- signs
 -- a byte that begins no blank, name, number or string
 abbrev is_plain : ℕ → Bool
 is_plain b = not (is_blank b) && (not (is_letter b) && (not (is_digit b) && not (is_quote b)))
 
-passes_case : (p : ℕ → Bool) (v : Bool) (b k : ℕ) (symbol : Symbol) (found : Option Symbol) → nat_eq b k ≡ v → p k ≡ true → (is_some found ≡ true → p b ≡ true) → is_some (cond v (Some symbol) found) ≡ true → p b ≡ true
+passes_case : (p : ℕ → Bool) (v : Bool) (b k : ℕ) (symbol : Symbol) (found : Option Symbol)
+    → nat_eq b k ≡ v → p k ≡ true → (is_some found ≡ true → p b ≡ true) → is_some (cond v (Some symbol) found) ≡ true → p b ≡ true
 passes_case p true b k symbol found q e ih h = ap p (eqb-true b k q) ∙ e
 passes_case p false b k symbol found q e ih h = ih h
 
@@ -232,7 +250,11 @@ wire_found rest longest = go (begins is_letter (drop (prefix_len is_underscore r
     longer (c ∷ more) tail e name = let never = longest Name c more tail e in cc
 
     go : (v : Bool) → begins is_letter (drop (prefix_len is_underscore rest) rest) ≡ v → next_piece (95 ∷ rest) ≡ Found 1 (Some Sign)
-    go true e = absurd (longer (take (prefix_len is_name_byte rest) rest) (drop (prefix_len is_name_byte rest) rest) (sym (take-append-drop (prefix_len is_name_byte rest) rest)) (subst (λ n. is_name (take n (95 ∷ rest)) ≡ true) (prefix_len-passes is_name_byte 95 rest refl) (name_run (95 ∷ rest) (subst (λ n. begins is_letter (drop n (95 ∷ rest)) ≡ true) (sym (prefix_len-passes is_underscore 95 rest refl)) e))))
+    go true e =
+        absurd (longer (take (prefix_len is_name_byte rest) rest)
+        (drop (prefix_len is_name_byte rest) rest) (sym (take-append-drop (prefix_len is_name_byte rest) rest))
+        (subst (λ n. is_name (take n (95 ∷ rest)) ≡ true) (prefix_len-passes is_name_byte 95 rest refl)
+        (name_run (95 ∷ rest) (subst (λ n. begins is_letter (drop n (95 ∷ rest)) ≡ true) (sym (prefix_len-passes is_underscore 95 rest refl)) e))))
     go false e =
         let some : nat_lt 0 (suc (prefix_len is_underscore rest)) ≡ true = lt-ltb 0 (suc (prefix_len is_underscore rest)) (omega arith) in
         rw (prefix_len-passes is_underscore 95 rest refl, e, some) refl
@@ -258,7 +280,8 @@ no_fraction b (d ∷ ds) unreal = go (nat_eq b 46) (is_digit d) refl refl
     go true false e f = refl
     go true true e f = absurd (unreal (subst (λ k. BeginsReal (k ∷ d ∷ ds)) (sym (eqb-true b 46 e)) (fraction f)))
 
-single_found : (b : ℕ) (rest : List ℕ) → is_some (at_byte singles b) ≡ true → IsLongest (b ∷ []) rest → begins_comment (b ∷ rest) ≡ false → (BeginsReal (b ∷ rest) → ⊥) → next_piece (b ∷ rest) ≡ Found 1 (Some Sign)
+single_found : (b : ℕ) (rest : List ℕ) → is_some (at_byte singles b) ≡ true
+    → IsLongest (b ∷ []) rest → begins_comment (b ∷ rest) ≡ false → (BeginsReal (b ∷ rest) → ⊥) → next_piece (b ∷ rest) ≡ Found 1 (Some Sign)
 single_found b rest e longest comment unreal = go (is_underscore b) (nat_eq b 47) refl refl
   where
     plain : is_plain b ≡ true
@@ -280,7 +303,8 @@ double_found : (b c : ℕ) (rest : List ℕ) → is_some (double b c) ≡ true �
 double_found b c rest e = bare_next b (c ∷ rest) (double_bare b c (c ∷ rest) e) ∙ rw e refl
 
 -- ---- all tokens, and all pieces
-token_found : (kind : Kind) (bytes rest : List ℕ) → is_token kind bytes ≡ true → IsLongest bytes rest → begins_comment (bytes ++ rest) ≡ false → (BeginsReal (bytes ++ rest) → ⊥) → (kind ≡ Integer → value bytes ≤ greatest_literal)
+token_found : (kind : Kind) (bytes rest : List ℕ) → is_token kind bytes ≡ true
+    → IsLongest bytes rest → begins_comment (bytes ++ rest) ≡ false → (BeginsReal (bytes ++ rest) → ⊥) → (kind ≡ Integer → value bytes ≤ greatest_literal)
     → next_piece (bytes ++ rest) ≡ Found (length bytes) (Some kind)
 token_found Name [] rest e longest comment unreal small = absurd cc
 token_found Name (b ∷ body) rest e longest comment unreal small = name_found b body rest e longest
@@ -308,7 +332,8 @@ real_refused text h = go (real_parts text h)
     digits [] d e = absurd cc
     digits (b ∷ bs) d e = digit_is b bs d ∙ rw e refl
 
-    go : (((d : ℕ) × (rest : List ℕ) × (text ≡ 46 ∷ d ∷ rest) × (is_digit d ≡ true)) ⊎ ((begins is_digit text ≡ true) × (is_real_tail (drop (prefix_len is_digit text) text) ≡ true))) → next_piece text ≡ Refused RealLiteral
+    go : (((d : ℕ) × (rest : List ℕ) × (text ≡ 46 ∷ d ∷ rest) × (is_digit d ≡ true))
+        ⊎ ((begins is_digit text ≡ true) × (is_real_tail (drop (prefix_len is_digit text) text) ≡ true))) → next_piece text ≡ Refused RealLiteral
     go (inl (d, rest, is, digit)) = subst (λ t. next_piece t ≡ Refused RealLiteral) (sym is) (rw digit refl)
     go (inr (d, e)) = digits text d e
 
@@ -321,7 +346,8 @@ bad_bare b bs blank quote none =
     let single : is_some (at_byte singles b) ≡ false = not_one b bs Sign none in
     let name : is_name (b ∷ []) ≡ false = not_one b bs Name none in
     let digit : (is_digit b && true) ≡ false = not_one b bs Integer none in
-    let differs : (k : ℕ) → is_some (at_byte singles k) ≡ true → nat_eq b k ≡ false = λ k yes. ne_eqb b k (λ is. let same : is_some (at_byte singles b) ≡ true = rw is yes in cc) in
+    let differs : (k : ℕ) → is_some (at_byte singles k) ≡ true → nat_eq b k ≡ false =
+    λ k yes. ne_eqb b k (λ is. let same : is_some (at_byte singles b) ≡ true = rw is yes in cc) in
     let under : is_underscore b ≡ false = differs 95 refl in
     let letter : (is_letter b && true) ≡ false = rw under at name in
     record {

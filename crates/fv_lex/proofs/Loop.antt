@@ -1,5 +1,6 @@
 -- One more piece of the text.
-use Rattle.std.proofs.Common.{◌≡◌, ℕ, suc, ◌+◌, ◌-◌, ◌<◌, ◌≤◌, List, [], ◌∷◌, ◌++◌, length, take, drop, Option, Some, None, Ok, Err, All, refl, sym, ap, subst, ◌∙◌, arith, append_assoc, length-append}
+use Rattle.std.proofs.Common.{◌≡◌, ℕ, suc, ◌+◌, ◌-◌, ◌<◌, ◌≤◌, List, [], ◌∷◌, ◌++◌, length, take, drop, Option, Some, None, Ok, Err, All, refl, sym, ap, subst}
+use Rattle.std.proofs.Common.{◌∙◌, arith, append_assoc, length-append}
 use Rattle.std.proofs.lemmas.List.{append-nil, take-append-drop, length-take, length-drop, drop-drop, take_at}
 use Rattle.std.proofs.lemmas.List.Elements.{All-push}
 use Rattle.std.proofs.lemmas.Bool.{lt-ltb}
@@ -19,29 +20,35 @@ use Rattle.fv_lex.specs.Bytes.{is_letter, is_underscore, begins}
 use Rattle.fv_lex.specs.Symbols.{symbol_of}
 use Rattle.std.specs.List.{prefix_len}
 use Rattle.fv_lex.specs.Steps.{bare_underscores, IsBare, next_piece}
-use Rattle.fv_lex.specs.Cuts.{deepest, depth_after, Cut, Cuts, nothing_more, piece_first, Ends, whole, faulty, too_deep, first_place, place_after, token_of, tokens_of, end_of, refusal_at, answer_of, longest_text, Has, cut}
+use Rattle.fv_lex.specs.Cuts.{deepest, depth_after, Cut, Cuts, nothing_more, piece_first, Ends, whole, faulty, too_deep, first_place, place_after, token_of}
+use Rattle.fv_lex.specs.Cuts.{tokens_of, end_of, refusal_at, answer_of, longest_text, Has, cut}
 use Rattle.fv_lex.proofs.TokenLists.{length-tokens_in}
 use Rattle.fv_lex.proofs.Runs.{prefix_len-passes}
 use Rattle.fv_lex.proofs.Sound.{At, Told, sound, wires_some, run_head}
 
 -- ---- a piece at the end of a cut
-cuts_more : (text end : List ℕ) (cuts : List Cut) (depth deep : ℕ) → Cuts text depth cuts end deep → (bytes rest : List ℕ) (kind : Option Kind) → end ≡ bytes ++ rest → IsPiece bytes rest kind → depth_after deep bytes ≤ deepest
+cuts_more : (text end : List ℕ) (cuts : List Cut) (depth deep : ℕ) → Cuts text depth cuts end deep
+    → (bytes rest : List ℕ) (kind : Option Kind) → end ≡ bytes ++ rest → IsPiece bytes rest kind → depth_after deep bytes ≤ deepest
     → Cuts text depth (cuts ++ record { bytes = bytes; kind = kind } ∷ []) rest (depth_after deep bytes)
-cuts_more text end cuts depth deep nothing_more bytes rest kind e p fits = subst (λ t. Cuts t depth (record { bytes = bytes; kind = kind } ∷ []) rest (depth_after depth bytes)) (sym e) (piece_first p fits nothing_more)
-cuts_more text end cuts depth deep (piece_first {bytes = b} {rest = r} {cuts = cs} q room c) bytes rest kind e p fits = piece_first q room (cuts_more r end cs (depth_after depth b) deep c bytes rest kind e p fits)
+cuts_more text end cuts depth deep nothing_more bytes rest kind e p fits =
+    subst (λ t. Cuts t depth (record { bytes = bytes; kind = kind } ∷ []) rest (depth_after depth bytes)) (sym e) (piece_first p fits nothing_more)
+cuts_more text end cuts depth deep (piece_first {bytes = b} {rest = r} {cuts = cs} q room c) bytes rest kind e p fits =
+    piece_first q room (cuts_more r end cs (depth_after depth b) deep c bytes rest kind e p fits)
 
 end_more : (p : Place) (cuts : List Cut) (c : Cut) → end_of p (cuts ++ c ∷ []) ≡ place_after (end_of p cuts) c.bytes
 end_more p [] c = refl
 end_more p (d ∷ cuts) c = end_more (place_after p d.bytes) cuts c
 
-tokens_more : (n : ℕ) (p : Place) (cuts : List Cut) (c : Cut) → tokens_of n p (cuts ++ c ∷ []) ≡ tokens_of n p cuts ++ token_of (n + length (tokens_of n p cuts)) (end_of p cuts) c.bytes c.kind
+tokens_more : (n : ℕ) (p : Place) (cuts : List Cut) (c : Cut)
+    → tokens_of n p (cuts ++ c ∷ []) ≡ tokens_of n p cuts ++ token_of (n + length (tokens_of n p cuts)) (end_of p cuts) c.bytes c.kind
 tokens_more n p [] c = append-nil (token_of n p c.bytes c.kind) ∙ ap (λ k. token_of k p c.bytes c.kind) (omega arith)
 tokens_more n p (d ∷ cuts) c =
     let first = token_of n p d.bytes d.kind in
     let place = place_after p d.bytes in
     let behind = tokens_of (n + length first) place cuts in
     let counted : n + length first + length behind ≡ n + length (first ++ behind) = omega (arith, length-append first behind) in
-    ap (λ l. first ++ l) (tokens_more (n + length first) place cuts c) ∙ sym (append_assoc first behind (token_of (n + length first + length behind) (end_of place cuts) c.bytes c.kind))
+    ap (λ l. first ++ l) (tokens_more (n + length first) place cuts c)
+    ∙ sym (append_assoc first behind (token_of (n + length first + length behind) (end_of place cuts) c.bytes c.kind))
     ∙ ap (λ k. (first ++ behind) ++ token_of k (end_of place cuts) c.bytes c.kind) counted
 
 -- ---- how far a text is read
@@ -61,7 +68,8 @@ pub record Front (rest bytes after : List ℕ) (kind : Option Kind) : Type 0 whe
   pub is : rest ≡ bytes ++ after
   pub some : 0 < length bytes
 
-pub front_of : (rest bytes after : List ℕ) (n : ℕ) (kind : Option Kind) → next_piece rest ≡ Found n kind → bytes ≡ take n rest → after ≡ drop n rest → Front rest bytes after kind
+pub front_of : (rest bytes after : List ℕ) (n : ℕ) (kind : Option Kind)
+    → next_piece rest ≡ Found n kind → bytes ≡ take n rest → after ≡ drop n rest → Front rest bytes after kind
 front_of rest bytes after n kind e front back =
     let at : At rest n kind = subst (λ x. Told rest x) e (sound rest) in
     let some = at.some in
@@ -79,7 +87,8 @@ pub has_symbol : (bytes after : List ℕ) (kind : Option Kind) → IsPiece bytes
 has_symbol bytes after None p = tt
 has_symbol bytes after (Some kind) (longest_token e longest comment unreal small) = (e, small)
 
-pub reads_on : (text rest bytes after : List ℕ) (place next : Place) (depth : ℕ) (out : List Token) (kind : Option Kind) → Reads text rest place depth out → Front rest bytes after kind → depth_after depth bytes ≤ deepest
+pub reads_on : (text rest bytes after : List ℕ) (place next : Place) (depth : ℕ) (out : List Token) (kind : Option Kind)
+    → Reads text rest place depth out → Front rest bytes after kind → depth_after depth bytes ≤ deepest
     → next ≡ place_after place bytes → Reads text after next (depth_after depth bytes) (out ++ token_of (length out) place bytes kind)
 reads_on text rest bytes after place next depth out kind r f fits moved =
     let c : Cut = record { bytes = bytes; kind = kind } in
@@ -93,51 +102,70 @@ reads_on text rest bytes after place next depth out kind r f fits moved =
           ∙ ap (λ k. all ++ token_of k (end_of first_place r.cuts) bytes kind) (sym counted) ∙ sym (tokens_more 0 first_place r.cuts c);
     }
 
-pub reads_end : (text rest : List ℕ) (place : Place) (depth : ℕ) (out : List Token) → length text ≤ longest_text → Reads text rest place depth out → next_piece rest ≡ End → Has text (Ok (record { tokens = out; end = place }))
+pub reads_end : (text rest : List ℕ) (place : Place) (depth : ℕ) (out : List Token)
+    → length text ≤ longest_text → Reads text rest place depth out → next_piece rest ≡ End → Has text (Ok (record { tokens = out; end = place }))
 reads_end text rest place depth out fits r e =
     let empty : rest ≡ [] = subst (λ x. Told rest x) e (sound rest) in
     let h : Has text (answer_of r.cuts None) = cut fits (subst (λ t. Cuts text 0 r.cuts t depth) empty r.cut_is) whole in
-    subst (λ o. Has text (Ok (record { tokens = o; end = place }))) (sym r.tokens_are) (subst (λ p. Has text (Ok (record { tokens = tokens_of 0 first_place r.cuts; end = p }))) (sym r.place_is) h)
+    subst (λ o. Has text (Ok (record { tokens = o; end = place })))
+    (sym r.tokens_are) (subst (λ p. Has text (Ok (record { tokens = tokens_of 0 first_place r.cuts; end = p }))) (sym r.place_is) h)
 
-pub reads_fault : (text rest : List ℕ) (place : Place) (depth : ℕ) (out : List Token) (fault : Fault) → length text ≤ longest_text → Reads text rest place depth out → next_piece rest ≡ Refused fault → Has text (Err (refusal_at place fault))
+pub reads_fault : (text rest : List ℕ) (place : Place) (depth : ℕ) (out : List Token) (fault : Fault)
+    → length text ≤ longest_text → Reads text rest place depth out → next_piece rest ≡ Refused fault → Has text (Err (refusal_at place fault))
 reads_fault text rest place depth out fault fits r e =
     let h : Has text (answer_of r.cuts (Some fault)) = cut fits r.cut_is (faulty (subst (λ x. Told rest x) e (sound rest))) in
     subst (λ p. Has text (Err (refusal_at p fault))) (sym r.place_is) h
 
-pub reads_deep : (text rest bytes after : List ℕ) (place : Place) (depth : ℕ) (out : List Token) (kind : Option Kind) → length text ≤ longest_text → Reads text rest place depth out → Front rest bytes after kind → deepest < depth_after depth bytes
+pub reads_deep : (text rest bytes after : List ℕ) (place : Place) (depth : ℕ) (out : List Token) (kind : Option Kind)
+    → length text ≤ longest_text → Reads text rest place depth out → Front rest bytes after kind → deepest < depth_after depth bytes
     → Has text (Err (refusal_at place faults.Nesting))
 reads_deep text rest bytes after place depth out kind fits r f deep =
-    let h : Has text (answer_of r.cuts (Some faults.Nesting)) = cut fits r.cut_is (subst (λ t. Ends t depth (Some faults.Nesting)) (sym f.is) (too_deep f.piece deep)) in
+    let h : Has text (answer_of r.cuts (Some faults.Nesting)) =
+    cut fits r.cut_is (subst (λ t. Ends t depth (Some faults.Nesting)) (sym f.is) (too_deep f.piece deep)) in
     subst (λ p. Has text (Err (refusal_at p faults.Nesting))) (sym r.place_is) h
 
 -- ---- the symbols and spans of one more piece
-one_more : (text : List ℕ) (symbols : List Symbol) (spans : List Span) (s : Symbol) (p : Span) → length symbols ≡ length spans → tokens_in text (symbols ++ s ∷ []) (spans ++ p ∷ []) ≡ tokens_in text symbols spans ++ token_in text s p ∷ []
+one_more : (text : List ℕ) (symbols : List Symbol) (spans : List Span) (s : Symbol) (p : Span)
+    → length symbols ≡ length spans → tokens_in text (symbols ++ s ∷ []) (spans ++ p ∷ []) ≡ tokens_in text symbols spans ++ token_in text s p ∷ []
 one_more text [] [] s p e = refl
 one_more text [] (q ∷ spans) s p e = absurd (omega arith)
 one_more text (t ∷ symbols) [] s p e = absurd (omega arith)
 one_more text (t ∷ symbols) (q ∷ spans) s p e = ap (λ l. token_in text t q ∷ l) (one_more text symbols spans s p (omega arith))
 
-pub tokens_in_more : (text bytes : List ℕ) (symbols : List Symbol) (spans : List Span) (kind : Option Kind) (start n : ℕ) (place : Place) → length symbols ≡ length spans → n ≡ length (tokens_in text symbols spans) → bytes ≡ take (length bytes) (drop start text)
-    → tokens_in text (symbols ++ new_symbols n kind bytes) (spans ++ new_spans kind start bytes place) ≡ tokens_in text symbols spans ++ token_of (length (tokens_in text symbols spans)) place bytes kind
-tokens_in_more text bytes symbols spans None start n place paired counted part = ap (λ l. tokens_in text l (spans ++ [])) (append-nil symbols) ∙ ap (λ l. tokens_in text symbols l) (append-nil spans) ∙ sym (append-nil (tokens_in text symbols spans))
+pub tokens_in_more : (text bytes : List ℕ) (symbols : List Symbol) (spans : List Span) (kind : Option Kind) (start n : ℕ) (place : Place)
+    → length symbols ≡ length spans → n ≡ length (tokens_in text symbols spans) → bytes ≡ take (length bytes) (drop start text)
+    → tokens_in text (symbols ++ new_symbols n kind bytes) (spans ++ new_spans kind start bytes place)
+    ≡ tokens_in text symbols spans ++ token_of (length (tokens_in text symbols spans)) place bytes kind
+tokens_in_more text bytes symbols spans None start n place paired counted part =
+    ap (λ l. tokens_in text l (spans ++ [])) (append-nil symbols)
+    ∙ ap (λ l. tokens_in text symbols l) (append-nil spans) ∙ sym (append-nil (tokens_in text symbols spans))
 tokens_in_more text bytes symbols spans (Some kind) start n place paired counted part =
     let all = tokens_in text symbols spans in
     one_more text symbols spans (symbol_of n kind bytes) (record { kind = kind; start = start; length = length bytes; place = place }) paired
     ∙ ap (λ k. all ++ record { symbol = symbol_of k kind bytes; kind = kind; text = take (length bytes) (drop start text); place = place } ∷ []) counted
     ∙ ap (λ b. all ++ record { symbol = symbol_of (length all) kind bytes; kind = kind; text = b; place = place } ∷ []) (sym part)
 
-pub paired_more : (symbols : List Symbol) (spans : List Span) (n : ℕ) (kind : Option Kind) (bytes : List ℕ) (start : ℕ) (place : Place) → length symbols ≡ length spans → length (symbols ++ new_symbols n kind bytes) ≡ length (spans ++ new_spans kind start bytes place)
+pub paired_more : (symbols : List Symbol) (spans : List Span) (n : ℕ) (kind : Option Kind) (bytes : List ℕ) (start : ℕ) (place : Place)
+    → length symbols ≡ length spans → length (symbols ++ new_symbols n kind bytes) ≡ length (spans ++ new_spans kind start bytes place)
 paired_more symbols spans n None bytes start place e = omega (arith, length-append symbols [], length-append spans [])
 paired_more symbols spans n (Some kind) bytes start place e =
-    omega (arith, length-append symbols (symbol_of n kind bytes ∷ []), length-append spans (record { kind = kind; start = start; length = length bytes; place = place } ∷ []))
+    omega (
+      arith,
+      length-append symbols (symbol_of n kind bytes ∷ []),
+      length-append spans (record { kind = kind; start = start; length = length bytes; place = place } ∷ []),
+    )
 
-pub few_more : (spans : List Span) (kind : Option Kind) (bytes : List ℕ) (start : ℕ) (place : Place) → 0 < length bytes → length (spans ++ new_spans kind start bytes place) ≤ length spans + length bytes
+pub few_more : (spans : List Span) (kind : Option Kind) (bytes : List ℕ) (start : ℕ) (place : Place)
+    → 0 < length bytes → length (spans ++ new_spans kind start bytes place) ≤ length spans + length bytes
 few_more spans None bytes start place some = omega (arith, length-append spans [])
-few_more spans (Some kind) bytes start place some = omega (arith, length-append spans (record { kind = kind; start = start; length = length bytes; place = place } ∷ []))
+few_more spans (Some kind) bytes start place some =
+    omega (arith, length-append spans (record { kind = kind; start = start; length = length bytes; place = place } ∷ []))
 
-pub within_more : (text : List ℕ) (spans : List Span) (kind : Option Kind) (bytes : List ℕ) (start : ℕ) (place : Place) → start + length bytes ≤ length text → All (IsWithin text) spans → All (IsWithin text) (spans ++ new_spans kind start bytes place)
+pub within_more : (text : List ℕ) (spans : List Span) (kind : Option Kind) (bytes : List ℕ) (start : ℕ) (place : Place)
+    → start + length bytes ≤ length text → All (IsWithin text) spans → All (IsWithin text) (spans ++ new_spans kind start bytes place)
 within_more text spans None bytes start place fits h = subst (λ l. All (IsWithin text) l) (sym (append-nil spans)) h
-within_more text spans (Some kind) bytes start place fits h = All-push (IsWithin text) spans (record { kind = kind; start = start; length = length bytes; place = place }) h fits
+within_more text spans (Some kind) bytes start place fits h =
+    All-push (IsWithin text) spans (record { kind = kind; start = start; length = length bytes; place = place }) h fits
 
 -- the bytes of a piece stand in the text where the rest began
 pub part_of : (text rest bytes after : List ℕ) (start : ℕ) → rest ≡ drop start text → rest ≡ bytes ++ after → bytes ≡ take (length bytes) (drop start text)
@@ -164,7 +192,8 @@ wire_first b bs n kind e found =
     let same : Found 1 (Some Sign) ≡ Found n kind = sym first ∙ found in
     cc
 
-pub bare_next : (rest after : List ℕ) (n bare : ℕ) (kind : Option Kind) → bare ≡ bare_underscores rest → next_piece rest ≡ Found n kind → after ≡ drop n rest → IsBare (bare - 1) after
+pub bare_next : (rest after : List ℕ) (n bare : ℕ) (kind : Option Kind)
+    → bare ≡ bare_underscores rest → next_piece rest ≡ Found n kind → after ≡ drop n rest → IsBare (bare - 1) after
 bare_next [] after n bare kind e found back = λ more. absurd (omega arith)
 bare_next (b ∷ bs) after n bare kind e found back = λ more.
     let above : 0 < bare_underscores (b ∷ bs) = omega arith in
@@ -176,8 +205,10 @@ bare_next (b ∷ bs) after n bare kind e found back = λ more.
     less ∙ ap bare_underscores (sym is)
 
 -- ---- one turn of the loop
-pub reads_more : (text rest bytes after : List ℕ) (place next : Place) (depth inside : ℕ) (symbols grown : List Symbol) (spans more : List Span) (kind : Option Kind) (n start : ℕ)
-    → Reads text rest place depth (tokens_in text symbols spans) → Front rest bytes after kind → inside ≡ depth_after depth bytes → inside ≤ deepest → next ≡ place_after place bytes → length symbols ≡ length spans → n ≡ length spans → rest ≡ drop start text
+pub reads_more : (text rest bytes after : List ℕ)
+    (place next : Place) (depth inside : ℕ) (symbols grown : List Symbol) (spans more : List Span) (kind : Option Kind) (n start : ℕ)
+    → Reads text rest place depth (tokens_in text symbols spans) → Front rest bytes after kind → inside ≡ depth_after depth bytes
+    → inside ≤ deepest → next ≡ place_after place bytes → length symbols ≡ length spans → n ≡ length spans → rest ≡ drop start text
     → grown ≡ symbols ++ new_symbols n kind bytes → more ≡ spans ++ new_spans kind start bytes place → Reads text after next inside (tokens_in text grown more)
 reads_more text rest bytes after place next depth inside symbols grown spans more kind n start r f deep fits moved paired counted back symbols_are spans_are =
     let out = tokens_in text symbols spans in
@@ -185,13 +216,15 @@ reads_more text rest bytes after place next depth inside symbols grown spans mor
     let read = reads_on text rest bytes after place next depth out kind r f room moved in
     let number : n ≡ length out = counted ∙ sym (length-tokens_in text symbols spans paired) in
     let new = tokens_in_more text bytes symbols spans kind start n place paired number (part_of text rest bytes after start back f.is) in
-    let all : tokens_in text grown more ≡ out ++ token_of (length out) place bytes kind = ap (λ l. tokens_in text l more) symbols_are ∙ ap (λ l. tokens_in text (symbols ++ new_symbols n kind bytes) l) spans_are ∙ new in
+    let all : tokens_in text grown more ≡ out ++ token_of (length out) place bytes kind =
+    ap (λ l. tokens_in text l more) symbols_are ∙ ap (λ l. tokens_in text (symbols ++ new_symbols n kind bytes) l) spans_are ∙ new in
     subst (λ o. Reads text after next inside o) (sym all) (subst (λ d. Reads text after next d (out ++ token_of (length out) place bytes kind)) (sym deep) read)
 
 pub behind_none : (text : List ℕ) → text ≡ drop (length text - length text) text
 behind_none text = let none : length text - length text ≡ 0 = omega arith in ap (λ k. drop k text) (sym none)
 
-pub behind_more : (text rest after : List ℕ) (n : ℕ) → rest ≡ drop (length text - length rest) text → after ≡ drop n rest → length rest ≤ length text → n ≤ length rest → after ≡ drop (length text - length after) text
+pub behind_more : (text rest after : List ℕ) (n : ℕ) → rest ≡ drop (length text - length rest) text
+    → after ≡ drop n rest → length rest ≤ length text → n ≤ length rest → after ≡ drop (length text - length after) text
 behind_more text rest after n back e within fits =
     let short : length after ≡ length rest - n = ap length e ∙ length-drop n rest in
     let same : length text - length rest + n ≡ length text - length after = omega arith in

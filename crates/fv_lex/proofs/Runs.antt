@@ -1,5 +1,6 @@
 -- Runs of bytes, the ends of strings and comments, and the numbers of digits.
-use Rattle.std.proofs.Common.{◌≡◌, ℕ, suc, ◌+◌, ◌-◌, ◌*◌, ◌≤◌, Bool, true, false, cond, ◌&&◌, List, [], ◌∷◌, ◌++◌, length, get_or, take, drop, refl, sym, ap, subst, ◌∙◌, arith}
+use Rattle.std.proofs.Common.{◌≡◌, ℕ, suc, ◌+◌, ◌-◌, ◌*◌, ◌≤◌, Bool, true, false, cond, ◌&&◌, List, [], ◌∷◌, ◌++◌, length, get_or, take, drop, refl, sym, ap}
+use Rattle.std.proofs.Common.{subst, ◌∙◌, arith}
 use Rattle.std.specs.List.{list_all, prefix_len}
 use Rattle.std.proofs.lemmas.Bool.{and_parts}
 use Rattle.fv_lex.specs.Symbols.{value_from}
@@ -21,15 +22,18 @@ prefix_len-cons p b bs = let more : 1 + prefix_len p bs ≡ suc (prefix_len p bs
 pub prefix_len-passes : (p : ℕ → Bool) (b : ℕ) (bs : List ℕ) → p b ≡ true → prefix_len p (b ∷ bs) ≡ suc (prefix_len p bs)
 prefix_len-passes p b bs e = prefix_len-cons p b bs ∙ ap (λ v. cond v (suc (prefix_len p bs)) 0) e
 
-all_case : (p : ℕ → Bool) (b : ℕ) (bs : List ℕ) (v : Bool) → p b ≡ v → list_all p (take (prefix_len p bs) bs) ≡ true → list_all p (take (cond v (suc (prefix_len p bs)) 0) (b ∷ bs)) ≡ true
+all_case : (p : ℕ → Bool) (b : ℕ) (bs : List ℕ) (v : Bool)
+    → p b ≡ v → list_all p (take (prefix_len p bs) bs) ≡ true → list_all p (take (cond v (suc (prefix_len p bs)) 0) (b ∷ bs)) ≡ true
 all_case p b bs true e ih = rw (e, ih) refl
 all_case p b bs false e ih = refl
 
 pub list_all-prefix_len : (p : ℕ → Bool) (bs : List ℕ) → list_all p (take (prefix_len p bs) bs) ≡ true
 list_all-prefix_len p [] = refl
-list_all-prefix_len p (b ∷ bs) = subst (λ n. list_all p (take n (b ∷ bs)) ≡ true) (sym (prefix_len-cons p b bs)) (all_case p b bs (p b) refl (list_all-prefix_len p bs))
+list_all-prefix_len p (b ∷ bs) =
+    subst (λ n. list_all p (take n (b ∷ bs)) ≡ true) (sym (prefix_len-cons p b bs)) (all_case p b bs (p b) refl (list_all-prefix_len p bs))
 
-stops_case : (p : ℕ → Bool) (b : ℕ) (bs : List ℕ) (v : Bool) → p b ≡ v → Stops p (drop (prefix_len p bs) bs) → Stops p (drop (cond v (suc (prefix_len p bs)) 0) (b ∷ bs))
+stops_case : (p : ℕ → Bool) (b : ℕ) (bs : List ℕ) (v : Bool)
+    → p b ≡ v → Stops p (drop (prefix_len p bs) bs) → Stops p (drop (cond v (suc (prefix_len p bs)) 0) (b ∷ bs))
 stops_case p b bs true e ih = ih
 stops_case p b bs false e ih = e
 
@@ -40,7 +44,8 @@ run_stops p (b ∷ bs) = subst (λ n. Stops p (drop n (b ∷ bs))) (sym (prefix_
 pub run_is : (p : ℕ → Bool) (body rest : List ℕ) → list_all p body ≡ true → Stops p rest → prefix_len p (body ++ rest) ≡ length body
 run_is p [] [] e h = refl
 run_is p [] (b ∷ rest) e h = rw h refl
-run_is p (b ∷ body) rest e h = let both = and_parts (p b) (list_all p body) e in prefix_len-passes p b (body ++ rest) both.0 ∙ ap suc (run_is p body rest both.1 h)
+run_is p (b ∷ body) rest e h =
+    let both = and_parts (p b) (list_all p body) e in prefix_len-passes p b (body ++ rest) both.0 ∙ ap suc (run_is p body rest both.1 h)
 
 pub run_short : (p : ℕ → Bool) (bs : List ℕ) → prefix_len p bs ≤ length bs
 run_short p [] = omega arith

@@ -1,5 +1,6 @@
 -- A text has an answer.
-use Rattle.std.proofs.Common.{◌≡◌, ℕ, zero, suc, ◌<◌, ◌≤◌, List, [], ◌∷◌, ◌++◌, length, take, drop, Option, Some, None, Result, Err, refl, sym, subst, arith, ◌⊎◌, inl, inr}
+use Rattle.std.proofs.Common.{◌≡◌, ℕ, zero, suc, ◌<◌, ◌≤◌, List, [], ◌∷◌, ◌++◌, length, take, drop, Option, Some, None, Result, Err, refl, sym, subst, arith}
+use Rattle.std.proofs.Common.{◌⊎◌, inl, inr}
 use Rattle.std.proofs.lemmas.Bool.{cases_lt}
 use Rattle.std.proofs.lemmas.List.{take-append-drop, length-drop}
 use Rattle.fv_base.specs.declared.role.Role.TheVariants.{Program}
@@ -12,7 +13,8 @@ use Rattle.fv_lex.specs.declared.next.Next.{Next}
 use Rattle.fv_lex.specs.declared.next.Next.TheVariants.{End, Found, Refused}
 use Rattle.fv_lex.specs.Token.{Lexed}
 use Rattle.fv_lex.specs.Steps.{next_piece}
-use Rattle.fv_lex.specs.Cuts.{deepest, depth_after, Cut, Cuts, nothing_more, piece_first, Ends, whole, faulty, too_deep, answer_of, longest_text, Has, too_long, cut, HasAtLeastOne}
+use Rattle.fv_lex.specs.Cuts.{deepest, depth_after, Cut, Cuts, nothing_more, piece_first, Ends, whole, faulty, too_deep, answer_of, longest_text, Has, too_long}
+use Rattle.fv_lex.specs.Cuts.{cut, HasAtLeastOne}
 use Rattle.fv_lex.proofs.Sound.{At, Told, sound}
 
 -- a cut of a text as far as it goes
@@ -31,11 +33,20 @@ goes_on : (text : List ℕ) (depth n : ℕ) (kind : Option Kind) → At text n k
 goes_on text depth n kind at more = go (depth_after depth (take n text)) refl (cases_lt deepest (depth_after depth (take n text)))
   where
     go : (after : ℕ) → after ≡ depth_after depth (take n text) → ((deepest < after) ⊎ (after ≤ deepest)) → Cutting text depth
-    go after is (inl over) = subst (λ t. Cutting t depth) (take-append-drop n text) (stops_here (take n text ++ drop n text) depth (Some faults.Nesting) (too_deep at.piece (subst (λ d. deepest < d) is over)))
+    go after is (inl over) =
+        subst (λ t. Cutting t depth) (take-append-drop n text)
+        (stops_here (take n text ++ drop n text) depth (Some faults.Nesting) (too_deep at.piece (subst (λ d. deepest < d) is over)))
     go after is (inr fits) =
         let tail = more (depth_after depth (take n text)) in
         subst (λ t. Cutting t depth) (take-append-drop n text)
-        (record { cuts = record { bytes = take n text; kind = kind } ∷ tail.cuts; rest = tail.rest; deep = tail.deep; fault = tail.fault; cut_is = piece_first at.piece (subst (λ d. d ≤ deepest) is fits) tail.cut_is; ends = tail.ends })
+        (record {
+          cuts = record { bytes = take n text; kind = kind } ∷ tail.cuts;
+          rest = tail.rest;
+          deep = tail.deep;
+          fault = tail.fault;
+          cut_is = piece_first at.piece (subst (λ d. d ≤ deepest) is fits) tail.cut_is;
+          ends = tail.ends;
+        })
 
 turn : (text : List ℕ) (depth : ℕ) (next : Next) → Told text next → ((n : ℕ) → 0 < n → n ≤ length text → (d : ℕ) → Cutting (drop n text) d) → Cutting text depth
 turn text depth End told more = subst (λ t. Cutting t depth) (sym told) (stops_here [] depth None whole)
@@ -45,7 +56,8 @@ turn text depth (Found n kind) told more = goes_on text depth n kind told (more 
 cutting : (k : ℕ) (text : List ℕ) (depth : ℕ) → length text ≤ k → Cutting text depth
 cutting zero [] depth fits = stops_here [] depth None whole
 cutting zero (b ∷ bs) depth fits = absurd (omega arith)
-cutting (suc k) text depth fits = turn text depth (next_piece text) (sound text) (λ n some within d. cutting k (drop n text) d (omega (arith, length-drop n text)))
+cutting (suc k) text depth fits =
+    turn text depth (next_piece text) (sound text) (λ n some within d. cutting k (drop n text) d (omega (arith, length-drop n text)))
 
 pub at_least_one : HasAtLeastOne
 at_least_one text = go (cases_lt longest_text (length text))

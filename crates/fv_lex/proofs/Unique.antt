@@ -1,5 +1,6 @@
 -- A text has one answer at most.
-use Rattle.std.proofs.Common.{◌≡◌, ℕ, ◌<◌, ◌≤◌, List, ◌∷◌, ◌++◌, length, take, drop, Option, Some, None, Result, Ok, Err, IfOk, IfErr, refl, sym, ap, subst, ◌∙◌, arith, ◌⊎◌, inl, inr}
+use Rattle.std.proofs.Common.{◌≡◌, ℕ, ◌<◌, ◌≤◌, List, ◌∷◌, ◌++◌, length, take, drop, Option, Some, None, Result, Ok, Err, IfOk, IfErr, refl, sym, ap, subst}
+use Rattle.std.proofs.Common.{◌∙◌, arith, ◌⊎◌, inl, inr}
 use Rattle.std.proofs.lemmas.List.{take_at, drop_at}
 use Rattle.fv_lex.specs.declared.token.Kind.{Kind}
 use Rattle.fv_lex.specs.declared.refusal.Fault.{Fault}
@@ -10,7 +11,8 @@ use Rattle.fv_lex.specs.declared.next.Next.TheVariants.{End, Found, Refused}
 use Rattle.fv_lex.specs.Token.{Lexed}
 use Rattle.fv_lex.specs.Pieces.{IsPiece}
 use Rattle.fv_lex.specs.Steps.{next_piece}
-use Rattle.fv_lex.specs.Cuts.{deepest, depth_after, Cut, Cuts, nothing_more, piece_first, Ends, whole, faulty, too_deep, answer_of, Has, too_long, cut, HasTokens, HasRefusal, HasAtMostOne}
+use Rattle.fv_lex.specs.Cuts.{deepest, depth_after, Cut, Cuts, nothing_more, piece_first, Ends, whole, faulty, too_deep, answer_of, Has, too_long, cut}
+use Rattle.fv_lex.specs.Cuts.{HasTokens, HasRefusal, HasAtMostOne}
 use Rattle.fv_lex.proofs.Complete.{piece_found, fault_refused}
 
 same_front : (a r b s : List ℕ) → a ++ r ≡ b ++ s → length a ≡ length b → a ≡ b
@@ -57,7 +59,8 @@ ends_unique : (t u : List ℕ) (d e : ℕ) (f g : Option Fault) → Ends t d f �
 ends_unique t u d e f g a b same = stopped_unique u f g (subst (λ r. Stopped r f) same (stopped t d f a)) (stopped u e g b)
 
 -- a cut does not end where a piece goes on
-no_piece : (text : List ℕ) (d : ℕ) (f : Option Fault) → Ends text d f → (bytes rest : List ℕ) (kind : Option Kind) → IsPiece bytes rest kind → depth_after d bytes ≤ deepest → text ≡ bytes ++ rest → ⊥
+no_piece : (text : List ℕ) (d : ℕ) (f : Option Fault)
+    → Ends text d f → (bytes rest : List ℕ) (kind : Option Kind) → IsPiece bytes rest kind → depth_after d bytes ≤ deepest → text ≡ bytes ++ rest → ⊥
 no_piece text d f whole bytes rest kind p fits e =
     let found = piece_found bytes rest kind p in
     let never : End ≡ Found (length bytes) kind = ap next_piece e ∙ found in
@@ -71,15 +74,21 @@ no_piece text d f (too_deep {bytes = a} {rest = r} {kind = j} q deep) bytes rest
     omega arith
 
 -- ---- the whole cut
-cut_unique : (t u r s : List ℕ) (d e h : ℕ) (cs ds : List Cut) (f g : Option Fault) → Cuts t d cs r e → Ends r e f → Cuts u d ds s h → Ends s h g → t ≡ u → (cs ≡ ds) × (f ≡ g)
+cut_unique : (t u r s : List ℕ) (d e h : ℕ) (cs ds : List Cut) (f g : Option Fault)
+    → Cuts t d cs r e → Ends r e f → Cuts u d ds s h → Ends s h g → t ≡ u → (cs ≡ ds) × (f ≡ g)
 cut_unique t u r s d e h cs ds f g nothing_more a nothing_more b same = (refl, ends_unique t u d d f g a b same)
 cut_unique t u r s d e h cs ds f g nothing_more a (piece_first {bytes} {rest} {kind = k} p fits c) b same = absurd (no_piece t d f a bytes rest k p fits same)
-cut_unique t u r s d e h cs ds f g (piece_first {bytes} {rest} {kind = k} p fits c) a nothing_more b same = absurd (no_piece u d g b bytes rest k p fits (sym same))
-cut_unique t u r s d e h cs ds f g (piece_first {bytes = x} {rest = v} {kind = j} {cuts = ps} p fits c) a (piece_first {bytes = y} {rest = w} {kind = k} {cuts = qs} q also o) b same =
+cut_unique t u r s d e h cs ds f g (piece_first {bytes} {rest} {kind = k} p fits c) a nothing_more b same =
+    absurd (no_piece u d g b bytes rest k p fits (sym same))
+cut_unique t u r s d e h cs ds f g
+    (piece_first {bytes = x} {rest = v} {kind = j} {cuts = ps} p fits c) a (piece_first {bytes = y} {rest = w} {kind = k} {cuts = qs} q also o) b same =
     let one = piece_unique x v y w j k p q same in
     let deep : depth_after d y ≡ depth_after d x = ap (depth_after d) (sym one.bytes) in
-    let tail = cut_unique v w r s (depth_after d x) e h ps qs f g c a (subst (λ n. Cuts w n qs s h) deep o) b one.rest in
-    (ap (λ z. record { bytes = z; kind = j } ∷ ps) one.bytes ∙ ap (λ z. record { bytes = y; kind = z } ∷ ps) one.kind ∙ ap (λ z. record { bytes = y; kind = k } ∷ z) tail.0, tail.1)
+    let tail = cut_unique v w r s (depth_after d x) e h ps qs f g c a (subst (λ n. Cuts w n qs s h) deep o) b one.rest in (
+      ap (λ z. record { bytes = z; kind = j } ∷ ps) one.bytes
+          ∙ ap (λ z. record { bytes = y; kind = z } ∷ ps) one.kind ∙ ap (λ z. record { bytes = y; kind = k } ∷ z) tail.0,
+      tail.1,
+    )
 
 pub at_most_one : HasAtMostOne
 at_most_one text a b (too_long over) (too_long also) = refl
@@ -90,7 +99,8 @@ at_most_one text a b (cut {rest = r} {cuts = cs} {depth = d} {fault = f} fits c 
     ap (λ z. answer_of z f) same.0 ∙ ap (λ z. answer_of ds z) same.1
 
 -- an answer that the text has is the one
-pub only_answer : (text : List ℕ) (r : Result Lexed LexRefusal) → IfOk r (HasTokens text) → IfErr r (λ e. (e ≡ NoMemory) ⊎ HasRefusal text e) → (answer : Result Lexed LexRefusal) → Has text answer → (r ≡ answer) ⊎ (r ≡ Err NoMemory)
+pub only_answer : (text : List ℕ) (r : Result Lexed LexRefusal) → IfOk r (HasTokens text)
+    → IfErr r (λ e. (e ≡ NoMemory) ⊎ HasRefusal text e) → (answer : Result Lexed LexRefusal) → Has text answer → (r ≡ answer) ⊎ (r ≡ Err NoMemory)
 only_answer text (Ok lexed) tokens refusal answer h = inl (at_most_one text (Ok lexed) answer tokens h)
 only_answer text (Err e) tokens (inl is) answer h = inr (ap (λ x. Err x) is)
 only_answer text (Err e) tokens (inr had) answer h = inl (at_most_one text (Err e) answer had h)

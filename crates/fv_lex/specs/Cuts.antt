@@ -39,14 +39,16 @@ pub record Cut : Type 0 where
 -- A text at which so many brackets are open is these pieces, and then a rest, at which so many are open.
 pub data Cuts : List ℕ → ℕ → List Cut → List ℕ → ℕ → Type 0 where
   nothing_more : {rest : List ℕ} {depth : ℕ} → Cuts rest depth [] rest depth
-  piece_first : {bytes rest end : List ℕ} {kind : Option Kind} {cuts : List Cut} {depth deep : ℕ} → IsPiece bytes rest kind → depth_after depth bytes ≤ deepest → Cuts rest (depth_after depth bytes) cuts end deep
+  piece_first : {bytes rest end : List ℕ} {kind : Option Kind} {cuts : List Cut} {depth deep : ℕ}
+      → IsPiece bytes rest kind → depth_after depth bytes ≤ deepest → Cuts rest (depth_after depth bytes) cuts end deep
       → Cuts (bytes ++ rest) depth (record { bytes = bytes; kind = kind } ∷ cuts) end deep
 
 -- Why a cut ends there: the text ends, or no piece begins, or a bracket too many does.
 pub data Ends : List ℕ → ℕ → Option Fault → Type 0 where
   whole : {depth : ℕ} → Ends [] depth None
   faulty : {rest : List ℕ} {depth : ℕ} {fault : Fault} → IsFault rest fault → Ends rest depth (Some fault)
-  too_deep : {bytes rest : List ℕ} {depth : ℕ} {kind : Option Kind} → IsPiece bytes rest kind → deepest < depth_after depth bytes → Ends (bytes ++ rest) depth (Some faults.Nesting)
+  too_deep : {bytes rest : List ℕ} {depth : ℕ} {kind : Option Kind}
+      → IsPiece bytes rest kind → deepest < depth_after depth bytes → Ends (bytes ++ rest) depth (Some faults.Nesting)
 
 -- ---- places and tokens
 
@@ -100,7 +102,8 @@ longest_text = LONGEST_TEXT
 -- What a text has: its tokens, or the first refusal.
 pub data Has : List ℕ → Result Lexed LexRefusal → Type 0 where
   too_long : {text : List ℕ} → longest_text < length text → Has text (Err (refusals.TextTooLong Program))
-  cut : {text rest : List ℕ} {cuts : List Cut} {depth : ℕ} {fault : Option Fault} → length text ≤ longest_text → Cuts text 0 cuts rest depth → Ends rest depth fault → Has text (answer_of cuts fault)
+  cut : {text rest : List ℕ} {cuts : List Cut} {depth : ℕ} {fault : Option Fault}
+      → length text ≤ longest_text → Cuts text 0 cuts rest depth → Ends rest depth fault → Has text (answer_of cuts fault)
 
 -- This list is the text's tokens.
 abbrev pub HasTokens : List ℕ → Lexed → Type 0

@@ -6,7 +6,8 @@ use Rattle.fv_lex.specs.declared.token.Kind.{Kind}
 use Rattle.fv_lex.specs.declared.token.Kind.TheVariants.{Name, Integer, Text, Sign}
 use Rattle.fv_lex.specs.declared.refusal.Fault.{Fault}
 use Rattle.fv_lex.specs.declared.refusal.Fault.TheVariants.{BadByte, Unclosed, RealLiteral, LiteralTooLarge}
-use Rattle.fv_lex.specs.Bytes.{is_blank, is_letter, is_digit, is_underscore, is_name_byte, is_quote, is_in_line, begins, line_feed, quote, star, plus, minus, dot, slash}
+use Rattle.fv_lex.specs.Bytes.{is_blank, is_letter, is_digit, is_underscore, is_name_byte, is_quote, is_in_line, begins, line_feed, quote, star, plus, minus}
+use Rattle.fv_lex.specs.Bytes.{dot, slash}
 use Rattle.fv_lex.specs.Symbols.{sign, value}
 
 -- ---- tokens
@@ -100,7 +101,8 @@ pub data IsPiece : List ℕ → List ℕ → Option Kind → Type 0 where
   blank_byte : {b : ℕ} {rest : List ℕ} → is_blank b ≡ true → IsPiece (b ∷ []) rest None
   line_comment : {body rest : List ℕ} → list_all is_in_line body ≡ true → ends_line rest ≡ true → IsPiece (slash ∷ slash ∷ body) rest None
   block_comment : (body : List ℕ) {rest : List ℕ} → has_close body ≡ false → IsPiece (slash ∷ star ∷ (body ++ star ∷ slash ∷ [])) rest None
-  longest_token : {bytes rest : List ℕ} {kind : Kind} → is_token kind bytes ≡ true → IsLongest bytes rest → begins_comment (bytes ++ rest) ≡ false → (BeginsReal (bytes ++ rest) → ⊥)
+  longest_token : {bytes rest : List ℕ} {kind : Kind}
+      → is_token kind bytes ≡ true → IsLongest bytes rest → begins_comment (bytes ++ rest) ≡ false → (BeginsReal (bytes ++ rest) → ⊥)
       → (kind ≡ Integer → value bytes ≤ greatest_literal) → IsPiece bytes rest (Some kind)
 
 -- Why no piece begins a text.
@@ -108,5 +110,6 @@ pub data IsFault : List ℕ → Fault → Type 0 where
   unclosed_text : {body : List ℕ} → list_all (λ b. not (is_quote b)) body ≡ true → IsFault (quote ∷ body) Unclosed
   unclosed_comment : {body : List ℕ} → has_close body ≡ false → IsFault (slash ∷ star ∷ body) Unclosed
   real_literal : {text : List ℕ} → BeginsReal text → IsFault text RealLiteral
-  large_literal : (bytes rest : List ℕ) → is_integer bytes ≡ true → IsLongest bytes rest → (BeginsReal (bytes ++ rest) → ⊥) → greatest_literal < value bytes → IsFault (bytes ++ rest) LiteralTooLarge
+  large_literal : (bytes rest : List ℕ) → is_integer bytes ≡ true
+      → IsLongest bytes rest → (BeginsReal (bytes ++ rest) → ⊥) → greatest_literal < value bytes → IsFault (bytes ++ rest) LiteralTooLarge
   bad_byte : {b : ℕ} {bs : List ℕ} → is_blank b ≡ false → is_quote b ≡ false → BeginsNoToken (b ∷ bs) → IsFault (b ∷ bs) BadByte

@@ -87,7 +87,8 @@ fn signs(rt: HostRuntime) -> Result<(), Fail> {
 #[test]
 fn reserved_words(rt: HostRuntime) -> Result<(), Fail> {
     let text =
-        b"xor mem prefix int attach select2 select3 min max abs par seq sum prod inputs outputs case with declare button checkbox hslider vslider nentry hgroup vgroup tgroup";
+        b"xor mem prefix int attach select2 select3 min max abs par seq sum prod inputs outputs case with declare button checkbox hslider vslider nentry \
+          hgroup vgroup tgroup";
     let rows: [Row; 27] = [
         (Symbol::Xor, 1, b"xor"),
         (Symbol::Mem, 5, b"mem"),
@@ -124,7 +125,8 @@ fn reserved_words(rt: HostRuntime) -> Result<(), Fail> {
 #[test]
 fn unsupported_words(rt: HostRuntime) -> Result<(), Fail> {
     let text =
-        b"import library component environment letrec route soundfile hbargraph vbargraph ffunction fconstant fvariable float sin cos tan asin acos atan atan2 exp exp10 log log10 pow sqrt fmod remainder floor ceil rint rdtable rwtable waveform";
+        b"import library component environment letrec route soundfile hbargraph vbargraph ffunction fconstant fvariable float sin cos tan asin acos atan \
+          atan2 exp exp10 log log10 pow sqrt fmod remainder floor ceil rint rdtable rwtable waveform";
     let found = tokens(rt.alloc(), text)?;
     assert_eq!(rt; found.len(), 34);
     let mut i = 0u64;

@@ -16,11 +16,13 @@ use Rattle.fv_parse.specs.StaticErrors.{refused}
 use Rattle.fv_lex.specs.Cuts.{deepest}
 
 -- ---- no tree
-pub no_tree : ReadsAllSpelled → (l : Lexed) (at : List Symbol) → Nests deepest 0 (symbols_of l.tokens) → program deepest (symbols_of l.tokens) ≡ Err at → (x : Spelled) → IsSpelled l x → ⊥
+pub no_tree : ReadsAllSpelled → (l : Lexed) (at : List Symbol)
+    → Nests deepest 0 (symbols_of l.tokens) → program deepest (symbols_of l.tokens) ≡ Err at → (x : Spelled) → IsSpelled l x → ⊥
 no_tree reads l at nests e x s = let read = reads deepest (symbols_of l.tokens) x s nests in cc
 
 -- ---- answers
-pub tree_answer : ReadsOnlySpelled → (l : Lexed) (x : Spelled) (r : Result Parsed ParseRefusal) → IsSupported l → program deepest (symbols_of l.tokens) ≡ Ok x → Finishes l x r → IfOk r (HasTree l)
+pub tree_answer : ReadsOnlySpelled → (l : Lexed) (x : Spelled) (r : Result Parsed ParseRefusal)
+    → IsSupported l → program deepest (symbols_of l.tokens) ≡ Ok x → Finishes l x r → IfOk r (HasTree l)
 tree_answer sound l x (Ok p) supported read f = record {
   supported = supported;
   tokens = f.0;
@@ -29,14 +31,16 @@ tree_answer sound l x (Ok p) supported read f = record {
 }
 tree_answer sound l x (Err e) supported read f = tt
 
-pub refusal_answer : ReadsOnlySpelled → (l : Lexed) (x : Spelled) (r : Result Parsed ParseRefusal) → IsSupported l → program deepest (symbols_of l.tokens) ≡ Ok x → Finishes l x r → IfErr r (λ e. (e ≡ refusals.NoMemory) ⊎ HasRefusal l e)
+pub refusal_answer : ReadsOnlySpelled → (l : Lexed) (x : Spelled) (r : Result Parsed ParseRefusal)
+    → IsSupported l → program deepest (symbols_of l.tokens) ≡ Ok x → Finishes l x r → IfErr r (λ e. (e ≡ refusals.NoMemory) ⊎ HasRefusal l e)
 refusal_answer sound l x (Ok p) supported read f = tt
 refusal_answer sound l x (Err e) supported read f = elim f [
   | inl memory ↦ inl memory
   | inr was ↦ inr (refused_tree supported (sound deepest (symbols_of l.tokens) x read) was)
 ]
 
-pub only_answer : SpelledOnce → (l : Lexed) (r : Result Parsed ParseRefusal) → IfOk r (HasTree l) → IfOk r (λ p. (x : Spelled) → IsSpelled l x → x ≡ program_of p)
+pub only_answer : SpelledOnce
+    → (l : Lexed) (r : Result Parsed ParseRefusal) → IfOk r (HasTree l) → IfOk r (λ p. (x : Spelled) → IsSpelled l x → x ≡ program_of p)
 only_answer once l (Ok p) tree = λ x s. once (symbols_of l.tokens) x (program_of p) s tree.spelled
 only_answer once l (Err e) tree = tt
 
@@ -44,14 +48,16 @@ only_answer once l (Err e) tree = tt
 accepted_is : (l : Lexed) (p : Parsed) → HasTree l p → IsAccepted l (program_of p)
 accepted_is l p tree = record { supported = tree.supported; spelled = tree.spelled; accepted = tree.accepted }
 
-pub exact_answer : IsOneRefusal → IsNotBoth → (l : Lexed) (r : Result Parsed ParseRefusal) → IfOk r (HasTree l) → IfErr r (λ e. (e ≡ refusals.NoMemory) ⊎ HasRefusal l e) → (e : ParseRefusal) → HasRefusal l e → IsRefusedOrWants r e
+pub exact_answer : IsOneRefusal → IsNotBoth → (l : Lexed) (r : Result Parsed ParseRefusal)
+    → IfOk r (HasTree l) → IfErr r (λ e. (e ≡ refusals.NoMemory) ⊎ HasRefusal l e) → (e : ParseRefusal) → HasRefusal l e → IsRefusedOrWants r e
 exact_answer one apart l (Ok p) tree refusal e has = absurd (apart l (program_of p) e (accepted_is l p tree) has)
 exact_answer one apart l (Err f) tree refusal e has = elim refusal [
   | inl memory ↦ inr (ap (λ (g : ParseRefusal). let r : Result Parsed ParseRefusal = Err g in r) memory)
   | inr is ↦ inl (ap (λ (g : ParseRefusal). let r : Result Parsed ParseRefusal = Err g in r) (one l f e is has))
 ]
 
-pub accepted_answer : IsNotBoth → (l : Lexed) (r : Result Parsed ParseRefusal) → IfErr r (λ e. (e ≡ refusals.NoMemory) ⊎ HasRefusal l e) → (x : Spelled) → IsAccepted l x → IfErr r (λ e. e ≡ refusals.NoMemory)
+pub accepted_answer : IsNotBoth → (l : Lexed) (r : Result Parsed ParseRefusal)
+    → IfErr r (λ e. (e ≡ refusals.NoMemory) ⊎ HasRefusal l e) → (x : Spelled) → IsAccepted l x → IfErr r (λ e. e ≡ refusals.NoMemory)
 accepted_answer apart l (Ok p) refusal x accepted = tt
 accepted_answer apart l (Err f) refusal x accepted = elim refusal [
   | inl memory ↦ memory

@@ -1,5 +1,6 @@
 -- Names that were seen, in a map, against the list of them.
-use Rattle.std.proofs.Common.{◌≡◌, ℕ, ◌+◌, ◌<◌, Bool, true, false, cond, List, [], ◌∷◌, ◌++◌, length, take, drop, get_or, Option, Some, None, refl, sym, ap, ◌∙◌}
+use Rattle.std.proofs.Common.{◌≡◌, ℕ, ◌+◌, ◌<◌, Bool, true, false, cond, List, [], ◌∷◌, ◌++◌, length, take, drop, get_or, Option, Some, None, refl, sym, ap}
+use Rattle.std.proofs.Common.{◌∙◌}
 use Rattle.std.specs.Prelude.{unwrap_or}
 use Rattle.std.specs.Option.{option_or}
 use Rattle.std.specs.Str.{bytes_eq}
@@ -33,33 +34,40 @@ pub keeps_first : (m n : BTreeMap (Bor (List ℕ)) ℕ) (known : List ℕ → Op
     → (cs : List ℕ) → get_by (λ k. slice_cmp nat_cmp cs k.now) n ≡ option_or (known cs) (cond (bytes_eq name cs) (Some v) None)
 keeps_first m n known name found v is got updated cs = btree_map_updates_str name m n (Some (unwrap_or found v)) updated cs ∙ go (bytes_eq name cs) refl
   where
-    go : (b : Bool) → bytes_eq name cs ≡ b → cond b (Some (unwrap_or found v)) (get_by (λ k. slice_cmp nat_cmp cs k.now) m) ≡ option_or (known cs) (cond b (Some v) None)
+    go : (b : Bool)
+        → bytes_eq name cs ≡ b → cond b (Some (unwrap_or found v)) (get_by (λ k. slice_cmp nat_cmp cs k.now) m) ≡ option_or (known cs) (cond b (Some v) None)
     go true e = picked found v ∙ ap (λ o. option_or o (Some v)) (got ∙ ap known ((bytes_eq-Decides name cs).0 e))
     go false e = is cs ∙ alone (known cs)
 
 -- ---- clashes
 clash_step : (kind : Among) (l : Lexed) (ds : List Defined) (i : ℕ) (d : Defined) → i < length ds
-    → first_clash kind l (take i ds) (drop i ds) ≡ option_or (clash_with kind (get_or ds i d) (width_of l (take i ds) (text_of l (get_or ds i d).name))) (first_clash kind l (take (i + 1) ds) (drop (i + 1) ds))
+    → first_clash kind l (take i ds) (drop i ds)
+    ≡ option_or (clash_with kind (get_or ds i d) (width_of l (take i ds) (text_of l (get_or ds i d).name)))
+    (first_clash kind l (take (i + 1) ds) (drop (i + 1) ds))
 clash_step kind l ds i d h =
     let e = get_or ds i d in
     ap (λ z. first_clash kind l (take i ds) z) (drop_step ds i d h)
     ∙ ap (λ z. option_or (clash_with kind e (width_of l (take i ds) (text_of l e.name))) (first_clash kind l z (drop (i + 1) ds))) (sym (take_more ds i d h))
 
 -- what is known of a definition that was looked up
-pub record LookedUp (kind : Among) (l : Lexed) (ds : List Defined) (i : ℕ) (d : Defined) (name : List ℕ) (found : Option ℕ) (here : Option StaticError) : Type 0 where
+pub record LookedUp (kind : Among) (l : Lexed) (ds : List Defined) (i : ℕ) (d : Defined) (name : List ℕ) (found : Option ℕ)
+    (here : Option StaticError) : Type 0 where
   pub inside : i < length ds
   pub named : name ≡ text_of l (get_or ds i d).name
   pub got : found ≡ width_of l (take i ds) name
   pub given : here ≡ clash_with kind (get_or ds i d) found
 
-pub clash_is : (kind : Among) (l : Lexed) (ds : List Defined) (i : ℕ) (d : Defined) (name : List ℕ) (found : Option ℕ) (here found_here whole : Option StaticError) → LookedUp kind l ds i d name found here → here ≡ found_here
+pub clash_is : (kind : Among) (l : Lexed) (ds : List Defined) (i : ℕ) (d : Defined) (name : List ℕ) (found : Option ℕ)
+    (here found_here whole : Option StaticError) → LookedUp kind l ds i d name found here → here ≡ found_here
     → first_clash kind l (take i ds) (drop i ds) ≡ whole → option_or found_here (first_clash kind l (take (i + 1) ds) (drop (i + 1) ds)) ≡ whole
 clash_is kind l ds i d name found here found_here whole u is so_far =
-    ap (λ o. option_or o (first_clash kind l (take (i + 1) ds) (drop (i + 1) ds))) (sym is ∙ u.given ∙ ap (clash_with kind (get_or ds i d)) (u.got ∙ ap (width_of l (take i ds)) u.named))
+    ap (λ o. option_or o (first_clash kind l (take (i + 1) ds) (drop (i + 1) ds)))
+    (sym is ∙ u.given ∙ ap (clash_with kind (get_or ds i d)) (u.got ∙ ap (width_of l (take i ds)) u.named))
     ∙ sym (clash_step kind l ds i d u.inside) ∙ so_far
 
 -- ---- widths
-width_push : (l : Lexed) (xs : List Defined) (e : Defined) (cs : List ℕ) → width_of l (xs ++ e ∷ []) cs ≡ option_or (width_of l xs cs) (cond (bytes_eq (text_of l e.name) cs) (Some e.width) None)
+width_push : (l : Lexed) (xs : List Defined) (e : Defined) (cs : List ℕ)
+    → width_of l (xs ++ e ∷ []) cs ≡ option_or (width_of l xs cs) (cond (bytes_eq (text_of l e.name) cs) (Some e.width) None)
 width_push l [] e cs = refl
 width_push l (x ∷ xs) e cs = ap (λ o. cond (bytes_eq (text_of l x.name) cs) (Some x.width) o) (width_push l xs e cs) ∙ either (bytes_eq (text_of l x.name) cs)
   where
@@ -73,4 +81,5 @@ width_push l (x ∷ xs) e cs = ap (λ o. cond (bytes_eq (text_of l x.name) cs) (
 pub width_on : (l : Lexed) (ds : List Defined) (i : ℕ) (d : Defined) (name cs : List ℕ) → i < length ds → name ≡ text_of l (get_or ds i d).name
     → option_or (width_of l (take i ds) cs) (cond (bytes_eq name cs) (Some (get_or ds i d).width) None) ≡ width_of l (take (i + 1) ds) cs
 width_on l ds i d name cs h named =
-    ap (λ t. option_or (width_of l (take i ds) cs) (cond (bytes_eq t cs) (Some (get_or ds i d).width) None)) named ∙ sym (width_push l (take i ds) (get_or ds i d) cs) ∙ ap (λ z. width_of l z cs) (sym (take_more ds i d h))
+    ap (λ t. option_or (width_of l (take i ds) cs) (cond (bytes_eq t cs) (Some (get_or ds i d).width) None)) named
+    ∙ sym (width_push l (take i ds) (get_or ds i d) cs) ∙ ap (λ z. width_of l z cs) (sym (take_more ds i d h))

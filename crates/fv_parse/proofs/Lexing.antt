@@ -1,5 +1,6 @@
 -- The tokens of a text nest no deeper than 128 brackets.
-use Rattle.std.proofs.Common.{◌≡◌, ℕ, zero, suc, ◌+◌, ◌-◌, ◌≤◌, Bool, true, false, cond, List, [], ◌∷◌, ◌++◌, length, Option, Some, None, Result, Ok, refl, sym, ap, subst, ◌∙◌, arith}
+use Rattle.std.proofs.Common.{◌≡◌, ℕ, zero, suc, ◌+◌, ◌-◌, ◌≤◌, Bool, true, false, cond, List, [], ◌∷◌, ◌++◌, length, Option, Some, None, Result, Ok, refl, sym}
+use Rattle.std.proofs.Common.{ap, subst, ◌∙◌, arith}
 use Rattle.std.specs.Prelude.{nat_eq, ◌||◌, unwrap_or}
 use Rattle.std.specs.List.{list_all}
 use Rattle.std.proofs.lemmas.Bool.{eqb-true, and_parts}
@@ -12,9 +13,11 @@ use Rattle.fv_lex.specs.declared.token.Place.{Place}
 use Rattle.fv_lex.specs.declared.refusal.LexRefusal.{LexRefusal}
 use Rattle.fv_lex.specs.Token.{Token, Lexed, symbols_of}
 use Rattle.fv_lex.specs.Bytes.{is_blank}
-use Rattle.fv_lex.specs.Symbols.{at_byte, at_word, singles, after_less, after_greater, after_equals, double, primitive_words, form_words, control_words, is_unsupported, word_symbol, symbol_of}
+use Rattle.fv_lex.specs.Symbols.{at_byte, at_word, singles, after_less, after_greater, after_equals, double, primitive_words, form_words, control_words}
+use Rattle.fv_lex.specs.Symbols.{is_unsupported, word_symbol, symbol_of}
 use Rattle.fv_lex.specs.Pieces.{is_token, IsPiece, blank_byte, line_comment, block_comment, longest_token}
-use Rattle.fv_lex.specs.Cuts.{depth_after, Cut, Cuts, nothing_more, piece_first, tokens_of, token_of, place_after, first_place, end_of, Has, HasTokens, too_long, cut, deepest}
+use Rattle.fv_lex.specs.Cuts.{depth_after, Cut, Cuts, nothing_more, piece_first, tokens_of, token_of, place_after, first_place, end_of, Has, HasTokens}
+use Rattle.fv_lex.specs.Cuts.{too_long, cut, deepest}
 use Rattle.fv_grammar.specs.Nesting.{Nests, lowered}
 
 -- a symbol that is no bracket
@@ -75,7 +78,8 @@ double_plain b c =
 abbrev is_bracket : ℕ → Bool
 is_bracket b = nat_eq b 40 || (nat_eq b 123 || (nat_eq b 41 || nat_eq b 125))
 
-single_plain : (es : List (ℕ × Symbol)) (b : ℕ) → is_bracket b ≡ false → list_all (λ (e : ℕ × Symbol). is_bracket e.0 || plain e.1) es ≡ true → AllPlain (at_byte es b)
+single_plain : (es : List (ℕ × Symbol)) (b : ℕ)
+    → is_bracket b ≡ false → list_all (λ (e : ℕ × Symbol). is_bracket e.0 || plain e.1) es ≡ true → AllPlain (at_byte es b)
 single_plain [] b no_ h = tt
 single_plain (e ∷ es) b no_ h = let p = and_parts (is_bracket e.0 || plain e.1) _ h in go (nat_eq b e.0) refl p.0 (single_plain es b no_ p.1)
   where
@@ -109,7 +113,8 @@ shallower (suc d) ts n = let less : suc d - 1 ≡ d = omega arith in subst (λ k
 
 -- what a token of these bytes does to the depth
 abbrev Steps : ℕ → ℕ → Kind → List Symbol → List ℕ → Type 0
-Steps n d kind ts bytes = is_token kind bytes ≡ true → depth_after d bytes ≤ deepest → Nests deepest (depth_after d bytes) ts → Nests deepest d (symbol_of n kind bytes ∷ ts)
+Steps n d kind ts bytes =
+    is_token kind bytes ≡ true → depth_after d bytes ≤ deepest → Nests deepest (depth_after d bytes) ts → Nests deepest d (symbol_of n kind bytes ∷ ts)
 
 symbol_plain : (n : ℕ) (kind : Kind) (b : ℕ) → is_bracket b ≡ false → plain (symbol_of n kind (b ∷ [])) ≡ true
 symbol_plain n Name b h = name_plain n (b ∷ [])
@@ -152,24 +157,30 @@ token_nests n d kind ts (b ∷ []) h le m =
 token_nests n d Name ts (b ∷ c ∷ bs) h le m = plain_nests d (word_symbol n (b ∷ c ∷ bs)) ts (name_plain n (b ∷ c ∷ bs)) m
 token_nests n d Integer ts (b ∷ c ∷ bs) h le m = m
 token_nests n d Text ts (b ∷ c ∷ bs) h le m = m
-token_nests n d Sign ts (b ∷ c ∷ []) h le m = plain_nests d (unwrap_or (double b c) (Unsupported n)) ts (plain_or (double b c) (Unsupported n) (double_plain b c) refl) m
+token_nests n d Sign ts (b ∷ c ∷ []) h le m =
+    plain_nests d (unwrap_or (double b c) (Unsupported n)) ts (plain_or (double b c) (Unsupported n) (double_plain b c) refl) m
 token_nests n d Sign ts (b ∷ c ∷ e ∷ bs) h le m = m
 
 -- ---- cuts
 blank_depth : (b d : ℕ) → is_blank b ≡ true → depth_after d (b ∷ []) ≡ d
-blank_depth b d h = bracket_cases (λ z. is_blank z ≡ true → depth_after d (z ∷ []) ≡ d) b (λ e. absurd cc) (λ e. absurd cc) (λ e. absurd cc) (λ e. absurd cc) (λ no_ same e. same d) h
+blank_depth b d h =
+    bracket_cases (λ z. is_blank z ≡ true → depth_after d (z ∷ []) ≡ d) b
+    (λ e. absurd cc) (λ e. absurd cc) (λ e. absurd cc) (λ e. absurd cc) (λ no_ same e. same d) h
 
-piece_nests : {bytes rest : List ℕ} {kind : Option Kind} → IsPiece bytes rest kind → (n d : ℕ) (place : Place) (ts : List Token) → depth_after d bytes ≤ deepest → Nests deepest (depth_after d bytes) (symbols_of ts)
+piece_nests : {bytes rest : List ℕ} {kind : Option Kind} → IsPiece bytes rest kind
+    → (n d : ℕ) (place : Place) (ts : List Token) → depth_after d bytes ≤ deepest → Nests deepest (depth_after d bytes) (symbols_of ts)
     → Nests deepest d (symbols_of (token_of n place bytes kind ++ ts))
 piece_nests (blank_byte {b = b} h) n d place ts le m = subst (λ k. Nests deepest k (symbols_of ts)) (blank_depth b d h) m
 piece_nests (line_comment h e) n d place ts le m = m
 piece_nests (block_comment body h) n d place ts le m = m
 piece_nests (longest_token {bytes = bytes} {kind = kind} h longest comment real small) n d place ts le m = token_nests n d kind (symbols_of ts) bytes h le m
 
-cuts_nest : {text end : List ℕ} {d deep : ℕ} {cuts : List Cut} → Cuts text d cuts end deep → (n : ℕ) (place : Place) → Nests deepest d (symbols_of (tokens_of n place cuts))
+cuts_nest : {text end : List ℕ} {d deep : ℕ} {cuts : List Cut}
+    → Cuts text d cuts end deep → (n : ℕ) (place : Place) → Nests deepest d (symbols_of (tokens_of n place cuts))
 cuts_nest nothing_more n place = tt
 cuts_nest (piece_first {bytes = bytes} {kind = kind} {cuts = cuts} {depth = d} piece le more') n place =
-    piece_nests piece n d place (tokens_of (n + length (token_of n place bytes kind)) (place_after place bytes) cuts) le (cuts_nest more' (n + length (token_of n place bytes kind)) (place_after place bytes))
+    piece_nests piece n d place (tokens_of (n + length (token_of n place bytes kind)) (place_after place bytes) cuts) le
+    (cuts_nest more' (n + length (token_of n place bytes kind)) (place_after place bytes))
 
 has_nests : {text : List ℕ} {answer : Result Lexed LexRefusal} → Has text answer → (l : Lexed) → answer ≡ Ok l → Nests deepest 0 (symbols_of l.tokens)
 has_nests (too_long h) l e = absurd cc

@@ -32,7 +32,8 @@ pub record IsEntry (p : Parsed) (id : TreeId) (e : Entry) : Type 0 where
   pub tree : tree_in p id ≡ node_tree p e.node e.start
   pub start : e.start ≡ start_in p id
 
-pub entry_is : (p : Parsed) (es : List Entry) (id number : TreeId) (e : Entry) → AreBuilt es → es ≡ p.entries → number ≡ id → id < size_of p → e ≡ get_or es number e → IsEntry p id e
+pub entry_is : (p : Parsed) (es : List Entry) (id number : TreeId) (e : Entry)
+    → AreBuilt es → es ≡ p.entries → number ≡ id → id < size_of p → e ≡ get_or es number e → IsEntry p id e
 entry_is p es id number e built same is h read =
     let at : e ≡ get_or p.entries id e = read ∙ ap₂ (λ l n. get_or l n e) same is in
     let b = subst (λ d. IsBuilt p.entries id d) (sym at) (subst AreBuilt same built id e h) in

@@ -16,7 +16,8 @@ use Rattle.fv_parse.specs.declared.refusal.ParseRefusal.{ParseRefusal}
 use Rattle.fv_parse.specs.declared.refusal.ParseRefusal.TheVariants.{Syntax, Unsupported}
 use Rattle.fv_parse.specs.Trees.{place_from}
 use Rattle.fv_parse.specs.StaticErrors.{refused}
-use Rattle.fv_parse.specs.Outcomes.{IsSupported, IsSpelled, IsAccepted, StopsAt, HasRefusal, unsupported, syntax_error, refused_tree, IsOneRefusal, IsNotBoth, IsOneOrOther}
+use Rattle.fv_parse.specs.Outcomes.{IsSupported, IsSpelled, IsAccepted, StopsAt, HasRefusal, unsupported, syntax_error, refused_tree, IsOneRefusal, IsNotBoth}
+use Rattle.fv_parse.specs.Outcomes.{IsOneOrOther}
 
 -- a choice that is some value is that one alone
 one_some : {A : Type 0} (o : Option A) (a b : A) → o ≡ Some a → o ≡ Some b → a ≡ b
@@ -33,7 +34,8 @@ one_refusal spelled place l a b (unsupported p) (unsupported q) = ap Unsupported
 one_refusal spelled place l a b (unsupported p) (syntax_error there s none stops) = absurd cc
 one_refusal spelled place l a b (unsupported p) (refused_tree s is some) = absurd cc
 one_refusal spelled place l a b (syntax_error there s none stops) (unsupported q) = absurd cc
-one_refusal spelled place l a b (syntax_error p s none stops) (syntax_error q t nothing ends) = ap (λ (here : Place). Syntax here.line here.column) (one_stop l p q place stops ends)
+one_refusal spelled place l a b (syntax_error p s none stops) (syntax_error q t nothing ends) =
+    ap (λ (here : Place). Syntax here.line here.column) (one_stop l p q place stops ends)
 one_refusal spelled place l a b (syntax_error there s none stops) (refused_tree t is some) = absurd (none _ is)
 one_refusal spelled place l a b (refused_tree s is some) (unsupported q) = absurd cc
 one_refusal spelled place l a b (refused_tree s is some) (syntax_error there t none stops) = absurd (none _ is)
@@ -60,15 +62,21 @@ by_error l x None s is e = inl (x, record { supported = s; spelled = is; accepte
 by_error l x (Some refusal) s is e = inr (refusal, refused_tree s is e)
 
 -- by what is read
-by_reading : ReadsOnlySpelled → ReadsAllSpelled → (text : List ℕ) (l : Lexed) (read : Result Spelled (List Symbol)) → StopsAtThePlace → HasTokens text l → IsSupported l → program deepest (symbols_of l.tokens) ≡ read → Outcome l
+by_reading : ReadsOnlySpelled → ReadsAllSpelled → (text : List ℕ) (l : Lexed) (read : Result Spelled (List Symbol))
+    → StopsAtThePlace → HasTokens text l → IsSupported l → program deepest (symbols_of l.tokens) ≡ read → Outcome l
 by_reading sound complete text l (Ok x) place has s e = by_error l x (refused l x) s (sound deepest (symbols_of l.tokens) x e) refl
 by_reading sound complete text l (Err rest) place has s e =
     let nests = tokens_nest text l has in
     let stops = place deepest (symbols_of l.tokens) rest nests e in
-    inr (_, syntax_error (place_from l (length rest)) s (no_tree complete l rest nests e) (record { before = stops.0; rest = rest; split = stops.1; error = stops.2; there = refl }))
+    inr (
+      _,
+      syntax_error (place_from l (length rest)) s
+          (no_tree complete l rest nests e) (record { before = stops.0; rest = rest; split = stops.1; error = stops.2; there = refl }),
+    )
 
 -- by the first unsupported token
-by_word : ReadsOnlySpelled → ReadsAllSpelled → (text : List ℕ) (l : Lexed) (found : Option (List ℕ)) → StopsAtThePlace → HasTokens text l → first_unsupported l.tokens ≡ found → Outcome l
+by_word : ReadsOnlySpelled → ReadsAllSpelled
+    → (text : List ℕ) (l : Lexed) (found : Option (List ℕ)) → StopsAtThePlace → HasTokens text l → first_unsupported l.tokens ≡ found → Outcome l
 by_word sound complete text l None place has e = by_reading sound complete text l (program deepest (symbols_of l.tokens)) place has e refl
 by_word sound complete text l (Some word) place has e = inr (Unsupported word, unsupported e)
 

@@ -33,14 +33,16 @@ left_popped : (ts : List Tree) (rest : List TreeId) (id : TreeId) → left ts (r
 left_popped ts rest id = ap (map (tree_at ts)) (reverse-append rest (id ∷ []))
 
 left_pushed : (ts : List Tree) (rest ids : List TreeId) → left ts (rest ++ reverse ids) ≡ map (tree_at ts) ids ++ left ts rest
-left_pushed ts rest ids = ap (map (tree_at ts)) (reverse-append rest (reverse ids) ∙ ap (λ l. l ++ reverse rest) (reverse-reverse ids)) ∙ map-append (tree_at ts) ids (reverse rest)
+left_pushed ts rest ids =
+    ap (map (tree_at ts)) (reverse-append rest (reverse ids) ∙ ap (λ l. l ++ reverse rest) (reverse-reverse ids)) ∙ map-append (tree_at ts) ids (reverse rest)
 
 -- the names of a node are its own and those of its parts
 names_forest : (ts : List Tree) (ids : List TreeId) → flat_map names_in (map (tree_at ts) ids) ≡ names_in (forest ts ids End)
 names_forest ts [] = refl
 names_forest ts (id ∷ ids) = ap (λ l. names_in (tree_at ts id) ++ l) (names_forest ts ids)
 
-names_node : (ts : List Tree) (node : TreeNode) (start : ℕ) → own_names node ++ flat_map names_in (map (tree_at ts) (parts_left node)) ≡ names_in (tree_of ts node start)
+names_node : (ts : List Tree) (node : TreeNode) (start : ℕ)
+    → own_names node ++ flat_map names_in (map (tree_at ts) (parts_left node)) ≡ names_in (tree_of ts node start)
 names_node ts (nodes.Binary o x y) start = ap (λ l. names_in (tree_at ts x) ++ l) (append-nil (names_in (tree_at ts y)))
 names_node ts (nodes.List ids) start = names_forest ts ids.items
 names_node ts node start = refl
@@ -59,7 +61,9 @@ visits_node ts (nodes.List ids) start = visits_forest ts ids.items
 visits_node ts node start = omega arith
 
 below_node : (m n : ℕ) (node : TreeNode) → PartsBelow m node → m < n → AllBelow n (parts_left node)
-below_node m n (nodes.Binary o x y) p h = let a = p.0 in let b = p.1 in All-cons (λ (i : TreeId). i < n) x (y ∷ []) (omega arith) (All-cons (λ (i : TreeId). i < n) y [] (omega arith) (All-nil (λ (i : TreeId). i < n)))
+below_node m n (nodes.Binary o x y) p h =
+    let a = p.0 in let b = p.1 in
+    All-cons (λ (i : TreeId). i < n) x (y ∷ []) (omega arith) (All-cons (λ (i : TreeId). i < n) y [] (omega arith) (All-nil (λ (i : TreeId). i < n)))
 below_node m n (nodes.List ids) p h = All-weaker (λ (i : TreeId). i < m) (λ (i : TreeId). i < n) (λ i lt. omega arith) ids.items p
 below_node m n node p h = All-nil (λ (i : TreeId). i < n)
 
@@ -78,14 +82,26 @@ visit n ts stack rest new id node start names all whole popped is grown pushed s
     let own = own_names node in
     let left_names = flat_map names_in (left ts rest) in
     record {
-      so_far = ap₂ (λ a b. a ++ b) grown (ap (flat_map names_in) after ∙ flat_map-append names_in parts (left ts rest)) ∙ append_assoc names own (flat_map names_in parts ++ left_names)
+      so_far =
+          ap₂ (λ a b. a ++ b) grown (ap (flat_map names_in) after ∙ flat_map-append names_in parts (left ts rest))
+          ∙ append_assoc names own (flat_map names_in parts ++ left_names)
           ∙ ap (λ l. names ++ l) (sym (append_assoc own (flat_map names_in parts) left_names) ∙ ap (λ l. l ++ left_names) (names_node ts node start))
           ∙ ap (λ l. names ++ flat_map names_in l) (sym before) ∙ so_far;
-      lighter = omega (arith, visits_node ts node start, sum_cons (tree_of ts node start) (left ts rest), ap (sum_by visits) before, ap (sum_by visits) after, sum_by-append visits parts (left ts rest));
+      lighter = omega (
+        arith,
+        visits_node ts node start,
+        sum_cons (tree_of ts node start) (left ts rest),
+        ap (sum_by visits) before,
+        ap (sum_by visits) after,
+        sum_by-append visits parts (left ts rest),
+      );
     }
 
-pub below_pushed : (m n : ℕ) (rest new : List TreeId) (node : TreeNode) → AllBelow n rest → PartsBelow m node → m < n → new ≡ rest ++ reverse (parts_left node) → AllBelow n new
-below_pushed m n rest new node h p lt pushed = subst (AllBelow n) (sym pushed) (All-append (λ (i : TreeId). i < n) rest (reverse (parts_left node)) h (reversed (parts_left node) (below_node m n node p lt)))
+pub below_pushed : (m n : ℕ) (rest new : List TreeId) (node : TreeNode)
+    → AllBelow n rest → PartsBelow m node → m < n → new ≡ rest ++ reverse (parts_left node) → AllBelow n new
+below_pushed m n rest new node h p lt pushed =
+    subst (AllBelow n) (sym pushed)
+    (All-append (λ (i : TreeId). i < n) rest (reverse (parts_left node)) h (reversed (parts_left node) (below_node m n node p lt)))
   where
     reversed : (ids : List TreeId) → AllBelow n ids → AllBelow n (reverse ids)
     reversed ids h = All-from_get_or (λ (i : TreeId). i < n) (reverse ids) 0 (λ k lt.

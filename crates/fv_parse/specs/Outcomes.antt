@@ -39,7 +39,8 @@ pub record StopsAt (l : Lexed) (place : Place) : Type 0 where
 -- Why tokens are no program, in this order: the first unsupported token, that they spell no tree, what refuses the tree.
 pub data HasRefusal (l : Lexed) : ParseRefusal → Type 0 where
   unsupported : {word : List ℕ} → first_unsupported l.tokens ≡ Some word → HasRefusal l (refusals.Unsupported word)
-  syntax_error : (place : Place) → IsSupported l → ((x : Spelled) → IsSpelled l x → ⊥) → StopsAt l place → HasRefusal l (refusals.Syntax place.line place.column)
+  syntax_error : (place : Place)
+      → IsSupported l → ((x : Spelled) → IsSpelled l x → ⊥) → StopsAt l place → HasRefusal l (refusals.Syntax place.line place.column)
   refused_tree : {refusal : ParseRefusal} {x : Spelled} → IsSupported l → IsSpelled l x → refused l x ≡ Some refusal → HasRefusal l refusal
 
 -- The tree is the one that the tokens spell, and nothing refuses it.

@@ -107,15 +107,18 @@ fn forms(rt: HostRuntime) -> Result<(), Fail> {
     let table = [
         (
             b"process = 1 + 2 * -3;".as_slice(),
-            "Number(1) Number(2) Negative(3) Binary(Infix(Multiply), TreeId(1), TreeId(2)) Binary(Infix(Add), TreeId(0), TreeId(3)) Constant(0, TreeId(4)) List([TreeId(5)])",
+            "Number(1) Number(2) Negative(3) Binary(Infix(Multiply), TreeId(1), TreeId(2)) Binary(Infix(Add), TreeId(0), TreeId(3)) Constant(0, TreeId(4)) \
+             List([TreeId(5)])",
         ),
         (
             b"process = 1 - 2 - 3 < 4;",
-            "Number(1) Number(2) Binary(Infix(Subtract), TreeId(0), TreeId(1)) Number(3) Binary(Infix(Subtract), TreeId(2), TreeId(3)) Number(4) Binary(Infix(Less), TreeId(4), TreeId(5)) Constant(0, TreeId(6)) List([TreeId(7)])",
+            "Number(1) Number(2) Binary(Infix(Subtract), TreeId(0), TreeId(1)) Number(3) Binary(Infix(Subtract), TreeId(2), TreeId(3)) Number(4) \
+             Binary(Infix(Less), TreeId(4), TreeId(5)) Constant(0, TreeId(6)) List([TreeId(7)])",
         ),
         (
             b"process = _ : _ , ! : mem ~ _;",
-            "Wire Wire Cut Binary(Parallel, TreeId(1), TreeId(2)) Primitive(Mem) Wire Binary(Recursion, TreeId(4), TreeId(5)) Binary(Sequence, TreeId(3), TreeId(6)) Binary(Sequence, TreeId(0), TreeId(7)) Constant(0, TreeId(8)) List([TreeId(9)])",
+            "Wire Wire Cut Binary(Parallel, TreeId(1), TreeId(2)) Primitive(Mem) Wire Binary(Recursion, TreeId(4), TreeId(5)) \
+             Binary(Sequence, TreeId(3), TreeId(6)) Binary(Sequence, TreeId(0), TreeId(7)) Constant(0, TreeId(8)) List([TreeId(9)])",
         ),
         (
             b"process = a <: b :> c;",
@@ -127,27 +130,34 @@ fn forms(rt: HostRuntime) -> Result<(), Fail> {
         ),
         (
             b"process = \\(x,y).((x) - +);",
-            "Named(11) Group(TreeId(0)) Primitive(Add) Binary(Infix(Subtract), TreeId(1), TreeId(2)) Abstraction([4, 6], TreeId(3)) Constant(0, TreeId(4)) List([TreeId(5)])",
+            "Named(11) Group(TreeId(0)) Primitive(Add) Binary(Infix(Subtract), TreeId(1), TreeId(2)) Abstraction([4, 6], TreeId(3)) Constant(0, TreeId(4)) \
+             List([TreeId(5)])",
         ),
         (
             b"process = case { (0, x : y) => +1; (((z)), w) => -2; };",
-            "Number(0) Named(7) Named(9) Binary(Sequence, TreeId(1), TreeId(2)) List([TreeId(0), TreeId(3)]) Number(1) Rule(TreeId(4), TreeId(5)) Named(18) Named(22) List([TreeId(7), TreeId(8)]) Negative(2) Rule(TreeId(9), TreeId(10)) List([TreeId(6), TreeId(11)]) Case(TreeId(12)) Constant(0, TreeId(13)) List([TreeId(14)])",
+            "Number(0) Named(7) Named(9) Binary(Sequence, TreeId(1), TreeId(2)) List([TreeId(0), TreeId(3)]) Number(1) Rule(TreeId(4), TreeId(5)) Named(18) \
+             Named(22) List([TreeId(7), TreeId(8)]) Negative(2) Rule(TreeId(9), TreeId(10)) List([TreeId(6), TreeId(11)]) Case(TreeId(12)) \
+             Constant(0, TreeId(13)) List([TreeId(14)])",
         ),
         (
             b"process = par(i, 2, seq(j, 3, sum(k, 4, prod(l, 5, 6))));",
-            "Number(2) Number(3) Number(4) Number(5) Number(6) Iteration(Product, 22, TreeId(3), TreeId(4)) Iteration(Sum, 16, TreeId(2), TreeId(5)) Iteration(Sequence, 10, TreeId(1), TreeId(6)) Iteration(Parallel, 4, TreeId(0), TreeId(7)) Constant(0, TreeId(8)) List([TreeId(9)])",
+            "Number(2) Number(3) Number(4) Number(5) Number(6) Iteration(Product, 22, TreeId(3), TreeId(4)) Iteration(Sum, 16, TreeId(2), TreeId(5)) \
+             Iteration(Sequence, 10, TreeId(1), TreeId(6)) Iteration(Parallel, 4, TreeId(0), TreeId(7)) Constant(0, TreeId(8)) List([TreeId(9)])",
         ),
         (
             b"process = inputs(_), outputs(!), button(\"a\"), checkbox(\"b\");",
-            "Wire Ports(Inputs, TreeId(0)) Cut Ports(Outputs, TreeId(2)) Switch(Button, 14) Switch(Checkbox, 19) Binary(Parallel, TreeId(4), TreeId(5)) Binary(Parallel, TreeId(3), TreeId(6)) Binary(Parallel, TreeId(1), TreeId(7)) Constant(0, TreeId(8)) List([TreeId(9)])",
+            "Wire Ports(Inputs, TreeId(0)) Cut Ports(Outputs, TreeId(2)) Switch(Button, 14) Switch(Checkbox, 19) Binary(Parallel, TreeId(4), TreeId(5)) \
+             Binary(Parallel, TreeId(3), TreeId(6)) Binary(Parallel, TreeId(1), TreeId(7)) Constant(0, TreeId(8)) List([TreeId(9)])",
         ),
         (
             b"process = hgroup(\"g\", vslider(\"s\", 1, 2, 3, 4));",
-            "Number(1) Number(2) Number(3) Number(4) Slider(Vertical, 8, TreeId(0), TreeId(1), TreeId(2), TreeId(3)) Panel(Horizontal, 4, TreeId(4)) Constant(0, TreeId(5)) List([TreeId(6)])",
+            "Number(1) Number(2) Number(3) Number(4) Slider(Vertical, 8, TreeId(0), TreeId(1), TreeId(2), TreeId(3)) Panel(Horizontal, 4, TreeId(4)) \
+             Constant(0, TreeId(5)) List([TreeId(6)])",
         ),
         (
             b"declare a \"b\"; declare f n \"t\"; f(x) = x @ 1; process = f with { g = 1; };",
-            "Named(11) List([TreeId(0)]) Named(14) Number(1) Binary(Infix(Delay), TreeId(2), TreeId(3)) Function(9, TreeId(1), TreeId(4)) Named(20) Number(1) Constant(23, TreeId(7)) List([TreeId(8)]) Where(TreeId(6), TreeId(9)) Constant(18, TreeId(10)) List([TreeId(5), TreeId(11)])",
+            "Named(11) List([TreeId(0)]) Named(14) Number(1) Binary(Infix(Delay), TreeId(2), TreeId(3)) Function(9, TreeId(1), TreeId(4)) Named(20) \
+             Number(1) Constant(23, TreeId(7)) List([TreeId(8)]) Where(TreeId(6), TreeId(9)) Constant(18, TreeId(10)) List([TreeId(5), TreeId(11)])",
         ),
     ];
     for (text, expected) in table {
@@ -162,31 +172,48 @@ fn operators(rt: HostRuntime) -> Result<(), Fail> {
     let table = [
         (
             b"process = 1 @ 2 * 3 / 4 % 5 & 6 xor 7 << 8 >> 9;".as_slice(),
-            "Number(1) Number(2) Binary(Infix(Delay), TreeId(0), TreeId(1)) Number(3) Binary(Infix(Multiply), TreeId(2), TreeId(3)) Number(4) Binary(Infix(Divide), TreeId(4), TreeId(5)) Number(5) Binary(Infix(Remainder), TreeId(6), TreeId(7)) Number(6) Binary(Infix(And), TreeId(8), TreeId(9)) Number(7) Binary(Infix(Xor), TreeId(10), TreeId(11)) Number(8) Binary(Infix(ShiftLeft), TreeId(12), TreeId(13)) Number(9) Binary(Infix(ShiftRight), TreeId(14), TreeId(15)) Constant(0, TreeId(16)) List([TreeId(17)])",
+            "Number(1) Number(2) Binary(Infix(Delay), TreeId(0), TreeId(1)) Number(3) Binary(Infix(Multiply), TreeId(2), TreeId(3)) Number(4) \
+             Binary(Infix(Divide), TreeId(4), TreeId(5)) Number(5) Binary(Infix(Remainder), TreeId(6), TreeId(7)) Number(6) \
+             Binary(Infix(And), TreeId(8), TreeId(9)) Number(7) Binary(Infix(Xor), TreeId(10), TreeId(11)) Number(8) \
+             Binary(Infix(ShiftLeft), TreeId(12), TreeId(13)) Number(9) Binary(Infix(ShiftRight), TreeId(14), TreeId(15)) Constant(0, TreeId(16)) \
+             List([TreeId(17)])",
         ),
         (
             b"process = 1 | 2 < 3 <= 4 > 5 >= 6 == 7 != 8;",
-            "Number(1) Number(2) Binary(Infix(Or), TreeId(0), TreeId(1)) Number(3) Binary(Infix(Less), TreeId(2), TreeId(3)) Number(4) Binary(Infix(LessEqual), TreeId(4), TreeId(5)) Number(5) Binary(Infix(Greater), TreeId(6), TreeId(7)) Number(6) Binary(Infix(GreaterEqual), TreeId(8), TreeId(9)) Number(7) Binary(Infix(Equal), TreeId(10), TreeId(11)) Number(8) Binary(Infix(NotEqual), TreeId(12), TreeId(13)) Constant(0, TreeId(14)) List([TreeId(15)])",
+            "Number(1) Number(2) Binary(Infix(Or), TreeId(0), TreeId(1)) Number(3) Binary(Infix(Less), TreeId(2), TreeId(3)) Number(4) \
+             Binary(Infix(LessEqual), TreeId(4), TreeId(5)) Number(5) Binary(Infix(Greater), TreeId(6), TreeId(7)) Number(6) \
+             Binary(Infix(GreaterEqual), TreeId(8), TreeId(9)) Number(7) Binary(Infix(Equal), TreeId(10), TreeId(11)) Number(8) \
+             Binary(Infix(NotEqual), TreeId(12), TreeId(13)) Constant(0, TreeId(14)) List([TreeId(15)])",
         ),
         (
             b"process = f(*, /, %, &, |, xor, <<, >>);",
-            "Named(2) Primitive(Multiply) Primitive(Divide) Primitive(Remainder) Primitive(And) Primitive(Or) Primitive(Xor) Primitive(ShiftLeft) Primitive(ShiftRight) List([TreeId(1), TreeId(2), TreeId(3), TreeId(4), TreeId(5), TreeId(6), TreeId(7), TreeId(8)]) Apply(TreeId(0), TreeId(9)) Constant(0, TreeId(10)) List([TreeId(11)])",
+            "Named(2) Primitive(Multiply) Primitive(Divide) Primitive(Remainder) Primitive(And) Primitive(Or) Primitive(Xor) Primitive(ShiftLeft) \
+             Primitive(ShiftRight) List([TreeId(1), TreeId(2), TreeId(3), TreeId(4), TreeId(5), TreeId(6), TreeId(7), TreeId(8)]) \
+             Apply(TreeId(0), TreeId(9)) Constant(0, TreeId(10)) List([TreeId(11)])",
         ),
         (
             b"process = f(<, <=, >, >=, ==, !=, @, -);",
-            "Named(2) Primitive(Less) Primitive(LessEqual) Primitive(Greater) Primitive(GreaterEqual) Primitive(Equal) Primitive(NotEqual) Primitive(Delay) Primitive(Subtract) List([TreeId(1), TreeId(2), TreeId(3), TreeId(4), TreeId(5), TreeId(6), TreeId(7), TreeId(8)]) Apply(TreeId(0), TreeId(9)) Constant(0, TreeId(10)) List([TreeId(11)])",
+            "Named(2) Primitive(Less) Primitive(LessEqual) Primitive(Greater) Primitive(GreaterEqual) Primitive(Equal) Primitive(NotEqual) Primitive(Delay) \
+             Primitive(Subtract) List([TreeId(1), TreeId(2), TreeId(3), TreeId(4), TreeId(5), TreeId(6), TreeId(7), TreeId(8)]) Apply(TreeId(0), TreeId(9)) \
+             Constant(0, TreeId(10)) List([TreeId(11)])",
         ),
         (
             b"process = f(prefix, int, attach, select2, select3, min, max, abs);",
-            "Named(2) Primitive(Prefix) Primitive(Int) Primitive(Attach) Primitive(Select2) Primitive(Select3) Primitive(Min) Primitive(Max) Primitive(Abs) List([TreeId(1), TreeId(2), TreeId(3), TreeId(4), TreeId(5), TreeId(6), TreeId(7), TreeId(8)]) Apply(TreeId(0), TreeId(9)) Constant(0, TreeId(10)) List([TreeId(11)])",
+            "Named(2) Primitive(Prefix) Primitive(Int) Primitive(Attach) Primitive(Select2) Primitive(Select3) Primitive(Min) Primitive(Max) Primitive(Abs) \
+             List([TreeId(1), TreeId(2), TreeId(3), TreeId(4), TreeId(5), TreeId(6), TreeId(7), TreeId(8)]) Apply(TreeId(0), TreeId(9)) \
+             Constant(0, TreeId(10)) List([TreeId(11)])",
         ),
         (
             b"process = vgroup(\"v\", tgroup(\"t\", hslider(\"h\", 1, 2, 3, 4) + nentry(\"n\", 5, 6, 7, 8)));",
-            "Number(1) Number(2) Number(3) Number(4) Slider(Horizontal, 12, TreeId(0), TreeId(1), TreeId(2), TreeId(3)) Number(5) Number(6) Number(7) Number(8) Slider(Number, 25, TreeId(5), TreeId(6), TreeId(7), TreeId(8)) Binary(Infix(Add), TreeId(4), TreeId(9)) Panel(Tabs, 8, TreeId(10)) Panel(Vertical, 4, TreeId(11)) Constant(0, TreeId(12)) List([TreeId(13)])",
+            "Number(1) Number(2) Number(3) Number(4) Slider(Horizontal, 12, TreeId(0), TreeId(1), TreeId(2), TreeId(3)) Number(5) Number(6) Number(7) \
+             Number(8) Slider(Number, 25, TreeId(5), TreeId(6), TreeId(7), TreeId(8)) Binary(Infix(Add), TreeId(4), TreeId(9)) Panel(Tabs, 8, TreeId(10)) \
+             Panel(Vertical, 4, TreeId(11)) Constant(0, TreeId(12)) List([TreeId(13)])",
         ),
         (
             b"f(-1, +2, (x, y) <: z) = x; process = f;",
-            "Negative(1) Number(2) Named(9) Named(11) Binary(Parallel, TreeId(2), TreeId(3)) Named(14) Binary(Split, TreeId(4), TreeId(5)) List([TreeId(0), TreeId(1), TreeId(6)]) Named(17) Function(0, TreeId(7), TreeId(8)) Named(21) Constant(19, TreeId(10)) List([TreeId(9), TreeId(11)])",
+            "Negative(1) Number(2) Named(9) Named(11) Binary(Parallel, TreeId(2), TreeId(3)) Named(14) Binary(Split, TreeId(4), TreeId(5)) \
+             List([TreeId(0), TreeId(1), TreeId(6)]) Named(17) Function(0, TreeId(7), TreeId(8)) Named(21) Constant(19, TreeId(10)) \
+             List([TreeId(9), TreeId(11)])",
         ),
     ];
     for (text, expected) in table {

@@ -4,7 +4,8 @@
 ghost use Rattle.std.specs.Prelude.{◌≡◌, ◌-◌, ◌<◌, ◌≤◌, ◌∷◌, true, false, length, OnOk, IfOk, OnSome};
 ghost use Rattle.fv_grammar.specs.declared.symbol.Inside.TheVariants as insides;
 ghost use Rattle.fv_grammar.specs.declared.symbol.Items.TheVariants.{Rules, Parts};
-ghost use Rattle.fv_grammar.specs.Descent.{within, enclosed, argument, group, abstraction, case_of, iteration, ports, slider, panel, by_head, primary, applied_to, postfix_turn, postfix, atom_by_head, operand, run};
+ghost use Rattle.fv_grammar.specs.Descent.{within, enclosed, argument, group, abstraction, case_of, iteration, ports, slider, panel, by_head, primary};
+ghost use Rattle.fv_grammar.specs.Descent.{applied_to, postfix_turn, postfix, atom_by_head, operand, run};
 ghost use Rattle.fv_tree.specs.Arena.{tree_at, trees};
 ghost use Rattle.fv_tree.specs.Gives.{Gives, GivesTurn};
 

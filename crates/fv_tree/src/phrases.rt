@@ -57,7 +57,9 @@ impl Reader<'_> {
     ) -> Result<TreeId, Stop>
         requires height { (0 < precedence) × (precedence ≤ 5) }
         requires inside { first < length (trees self.old.arena) }
-        ensures is { Gives self.old self.new result (run (left_turn (phrase (within room) operands commas (precedence - 1)) operands commas (precedence + 1) start) (tree_at (trees self.old.arena) first) self.old.symbols.rest.now) }
+        ensures is { Gives self.old self.new result
+            (run (left_turn (phrase (within room) operands commas (precedence - 1)) operands commas (precedence + 1) start)
+            (tree_at (trees self.old.arena) first) self.old.symbols.rest.now) }
         ensures shorter { OnOk result (length self.new.symbols.rest.now ≤ length self.old.symbols.rest.now) }
     {
         let mut tree = first;
@@ -79,7 +81,9 @@ impl Reader<'_> {
     ) -> Result<Option<TreeId>, Stop>
         requires height { (0 < precedence) × (precedence ≤ 5) }
         requires inside { tree < length (trees self.old.arena) }
-        ensures is { GivesTurn self.old self.new result (left_turn (phrase (within room) operands commas (precedence - 1)) operands commas (precedence + 1) start (tree_at (trees self.old.arena) tree) self.old.symbols.rest.now) }
+        ensures is { GivesTurn self.old self.new result
+            (left_turn (phrase (within room) operands commas (precedence - 1)) operands commas (precedence + 1) start
+            (tree_at (trees self.old.arena) tree) self.old.symbols.rest.now) }
         ensures shorter { IfOk result (λ o. OnSome o (length self.new.symbols.rest.now < length self.old.symbols.rest.now)) }
     {
         match self.symbols.operator_of(operands, commas, precedence + 1) {
@@ -100,7 +104,8 @@ impl Reader<'_> {
         precedence: Precedence,
     ) -> Result<TreeId, Stop>
         requires { (5 < precedence) × (precedence ≤ 8) }
-        ensures is { Gives self.old self.new result (chain (phrase (within room) operands commas (precedence - 1)) operands commas (precedence + 1) self.old.symbols.rest.now) }
+        ensures is { Gives self.old self.new result
+            (chain (phrase (within room) operands commas (precedence - 1)) operands commas (precedence + 1) self.old.symbols.rest.now) }
         ensures shorter { OnOk result (length self.new.symbols.rest.now < length self.old.symbols.rest.now) }
     {
         let mut pending = Vec::new(self.alloc);

@@ -1,7 +1,8 @@
 // Definitions, rules and lists.
 
 ghost use Rattle.std.specs.Prelude.{◌≡◌, ◌<◌, ◌≤◌, ◌++◌, length, OnOk, IfOk, OnSome};
-ghost use Rattle.fv_grammar.specs.Descent.{within, ended, function_after, constant_after, after_name, definition, one_rule, statement, inner_definition, next_rule, next_part, item, further, first_item, listed};
+ghost use Rattle.fv_grammar.specs.Descent.{within, ended, function_after, constant_after, after_name, definition, one_rule, statement, inner_definition};
+ghost use Rattle.fv_grammar.specs.Descent.{next_rule, next_part, item, further, first_item, listed};
 ghost use Rattle.fv_tree.specs.Arena.{trees, AllBelow};
 ghost use Rattle.fv_tree.specs.Gives.{Gives, GivesItem, in_front, list_of};
 

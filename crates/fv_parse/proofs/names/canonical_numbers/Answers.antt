@@ -17,8 +17,10 @@ loop-i-preserved c =
     let got = c.copied.ensures ∙ c.get.ensures.value ∙ c.loop-i.invariant.known text in
     let number : c.unwrap_or-number.result ≡ unwrap_or c.copied.result i = c.unwrap_or-number.ensures ∙ ap (unwrap_or c.copied.result) c.from.ensures in
     record {
-      so_far = numbers_on ts i text c.loop-i.numbers.items _ c.unwrap_or-number.result inside is (number ∙ number_is ts i text c.copied.result inside is got) c.in_ok-push.ensures.items c.loop-i.invariant.so_far;
-      known = λ cs. keeps_first c.loop-i.seen c.insert.new.self (seen_in (take i ts)) text c.copied.result i c.loop-i.invariant.known got (rw number at c.in_ok-insert.ensures.updates) cs ∙ seen_on ts i text cs inside is;
+      so_far = numbers_on ts i text inside is c.loop-i.numbers.items _ c.unwrap_or-number.result
+          (number ∙ number_is ts i text inside is c.copied.result got) c.in_ok-push.ensures.items c.loop-i.invariant.so_far;
+      known = λ cs. keeps_first c.loop-i.seen c.insert.new.self (seen_in (take i ts)) text c.copied.result i c.loop-i.invariant.known got
+          (rw number at c.in_ok-insert.ensures.updates) cs ∙ seen_on ts i text inside is cs;
     }
 
 pub returns : goal.returns
@@ -27,4 +29,5 @@ returns c =
     let len = length-map l.tokens (λ (t : Token). t.text) in
     let count : c.from-2.result ≡ length (texts_of l.tokens) = c.from-2.ensures ∙ c.len.ensures ∙ sym len in
     numbers_end l c.loop-i.i c.loop-i.numbers.items _ c.copied-2.result (omega (arith, c.loop-i-test.false, c.len-i-end.ensures, len))
-    (rw (c.unwrap_or-last.ensures, count) at c.in_ok-push-2.ensures.items) (c.copied-2.ensures ∙ c.get-2.ensures.value ∙ c.loop-i.invariant.known []) c.loop-i.invariant.so_far
+    (rw (c.unwrap_or-last.ensures, count) at c.in_ok-push-2.ensures.items)
+    (c.copied-2.ensures ∙ c.get-2.ensures.value ∙ c.loop-i.invariant.known []) c.loop-i.invariant.so_far

@@ -11,10 +11,14 @@ pub returns-in-Some-clause-refusal : goal.returns-in-Some-clause-refusal
 returns-in-Some-clause-refusal c = inr (unsupported (sym c.in_ok-word.ensures ∙ c.in-Some.is))
 
 pub returns-in-Ok-clause-tree : goal.returns-in-Ok-clause-tree
-returns-in-Ok-clause-tree c = tree_answer c.reads_what_is_spelled.ensures.sound c.args.tokens.now _ c.finish.result (sym c.in_ok-word.ensures ∙ c.in_default.is) (ap (program deepest) (sym c.symbols.ensures.symbols) ∙ c.in-Ok.ensures.0) c.finish.ensures
+returns-in-Ok-clause-tree c =
+    tree_answer c.reads_what_is_spelled.ensures.sound c.args.tokens.now _ c.finish.result
+    (sym c.in_ok-word.ensures ∙ c.in_default.is) (ap (program deepest) (sym c.symbols.ensures.symbols) ∙ c.in-Ok.ensures.0) c.finish.ensures
 
 pub returns-in-Ok-clause-refusal : goal.returns-in-Ok-clause-refusal
-returns-in-Ok-clause-refusal c = refusal_answer c.reads_what_is_spelled.ensures.sound c.args.tokens.now _ c.finish.result (sym c.in_ok-word.ensures ∙ c.in_default.is) (ap (program deepest) (sym c.symbols.ensures.symbols) ∙ c.in-Ok.ensures.0) c.finish.ensures
+returns-in-Ok-clause-refusal c =
+    refusal_answer c.reads_what_is_spelled.ensures.sound c.args.tokens.now _ c.finish.result
+    (sym c.in_ok-word.ensures ∙ c.in_default.is) (ap (program deepest) (sym c.symbols.ensures.symbols) ∙ c.in-Ok.ensures.0) c.finish.ensures
 
 pub returns-in-Err-Syntax-clause-refusal : goal.returns-in-Err-Syntax-clause-refusal
 returns-in-Err-Syntax-clause-refusal c =

@@ -4,7 +4,8 @@ use Rattle.fv_tree.proofs.Progress.{Folds}
 use Rattle.fv_tree.proofs.pending.join.Given as goal
 
 abbrev pub invariant-loop-part : goal.invariant-loop-part
-invariant-loop-part l = Folds (trees l.fn.arena) (trees l.arena) l.pending.items l.tree (lean (trees l.fn.arena) l.initial.pending.items (tree_at (trees l.fn.arena) l.fn.last))
+invariant-loop-part l =
+    Folds (trees l.fn.arena) (trees l.arena) l.pending.items l.tree (lean (trees l.fn.arena) l.initial.pending.items (tree_at (trees l.fn.arena) l.fn.last))
 
 abbrev pub decreases-loop-part : goal.decreases-loop-part
 decreases-loop-part l = length l.pending.items

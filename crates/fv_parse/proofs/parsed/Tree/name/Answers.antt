@@ -4,7 +4,8 @@ use Rattle.fv_parse.proofs.CanonicalNumbers.{length_canonical, name_is}
 use Rattle.fv_parse.proofs.parsed.Tree.name.Goals as goal
 
 pub index-requires : goal.index-requires
-index-requires c = omega (arith, c.min-i.ensures, c.from-count.ensures, c.len.ensures, ap length c.self.invariant.numbers, length_canonical c.self.inside.tokens.now)
+index-requires c =
+    omega (arith, c.min-i.ensures, c.from-count.ensures, c.len.ensures, ap length c.self.invariant.numbers, length_canonical c.self.inside.tokens.now)
 
 pub returns : goal.returns
 returns c =

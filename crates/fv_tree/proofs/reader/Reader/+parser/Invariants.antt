@@ -127,25 +127,36 @@ abbrev pub decreases-listed : goal.decreases-listed
 decreases-listed l = l.room * 64 + 48
 
 abbrev pub invariant-postfixes-loop-next : goal.invariant-postfixes-loop-next
-invariant-postfixes-loop-next l = Goes (postfix_turn (within l.room) l.start) (trees l.fn.self.arena) (trees l.self.arena) l.tree l.fn.self.symbols.rest.now l.self.symbols.rest.now (run (postfix_turn (within l.room) l.start) (tree_at (trees l.fn.self.arena) l.fn.first) l.fn.self.symbols.rest.now)
+invariant-postfixes-loop-next l =
+    Goes (postfix_turn (within l.room) l.start) (trees l.fn.self.arena) (trees l.self.arena) l.tree l.fn.self.symbols.rest.now l.self.symbols.rest.now
+    (run (postfix_turn (within l.room) l.start) (tree_at (trees l.fn.self.arena) l.fn.first) l.fn.self.symbols.rest.now)
 
 abbrev pub decreases-postfixes-loop-next : goal.decreases-postfixes-loop-next
 decreases-postfixes-loop-next l = length l.self.symbols.rest.now
 
 abbrev pub invariant-withs-loop-next : goal.invariant-withs-loop-next
-invariant-withs-loop-next l = Goes (with_turn (within l.room) l.start) (trees l.fn.self.arena) (trees l.self.arena) l.tree l.fn.self.symbols.rest.now l.self.symbols.rest.now (run (with_turn (within l.room) l.start) (tree_at (trees l.fn.self.arena) l.fn.first) l.fn.self.symbols.rest.now)
+invariant-withs-loop-next l =
+    Goes (with_turn (within l.room) l.start) (trees l.fn.self.arena) (trees l.self.arena) l.tree l.fn.self.symbols.rest.now l.self.symbols.rest.now
+    (run (with_turn (within l.room) l.start) (tree_at (trees l.fn.self.arena) l.fn.first) l.fn.self.symbols.rest.now)
 
 abbrev pub decreases-withs-loop-next : goal.decreases-withs-loop-next
 decreases-withs-loop-next l = length l.self.symbols.rest.now
 
 abbrev pub invariant-lefts-loop-next : goal.invariant-lefts-loop-next
-invariant-lefts-loop-next l = Goes (left_turn (phrase (within l.room) l.operands l.commas (l.precedence - 1)) l.operands l.commas (l.precedence + 1) l.start) (trees l.fn.self.arena) (trees l.self.arena) l.tree l.fn.self.symbols.rest.now l.self.symbols.rest.now (run (left_turn (phrase (within l.room) l.operands l.commas (l.precedence - 1)) l.operands l.commas (l.precedence + 1) l.start) (tree_at (trees l.fn.self.arena) l.fn.first) l.fn.self.symbols.rest.now)
+invariant-lefts-loop-next l =
+    Goes (left_turn (phrase (within l.room) l.operands l.commas (l.precedence - 1)) l.operands l.commas (l.precedence + 1) l.start)
+    (trees l.fn.self.arena) (trees l.self.arena) l.tree l.fn.self.symbols.rest.now l.self.symbols.rest.now
+    (run (left_turn (phrase (within l.room) l.operands l.commas (l.precedence - 1)) l.operands l.commas (l.precedence + 1) l.start)
+    (tree_at (trees l.fn.self.arena) l.fn.first) l.fn.self.symbols.rest.now)
 
 abbrev pub decreases-lefts-loop-next : goal.decreases-lefts-loop-next
 decreases-lefts-loop-next l = length l.self.symbols.rest.now
 
 abbrev pub invariant-further-loop-parts : goal.invariant-further-loop-parts
-invariant-further-loop-parts l = Gathers (trees l.fn.self.arena) (trees l.self.arena) l.parts.items l.fn.self.symbols.rest.now l.self.symbols.rest.now (all_of (item (within l.room) l.items) l.self.symbols.rest.now) (in_front (trees l.fn.self.arena) (list_of l.fn.first) (all_of (item (within l.room) l.items) l.fn.self.symbols.rest.now))
+invariant-further-loop-parts l =
+    Gathers (trees l.fn.self.arena) (trees l.self.arena) l.parts.items l.fn.self.symbols.rest.now l.self.symbols.rest.now
+    (all_of (item (within l.room) l.items) l.self.symbols.rest.now)
+    (in_front (trees l.fn.self.arena) (list_of l.fn.first) (all_of (item (within l.room) l.items) l.fn.self.symbols.rest.now))
 
 abbrev pub decreases-further-loop-parts : goal.decreases-further-loop-parts
 decreases-further-loop-parts l = length l.self.symbols.rest.now
