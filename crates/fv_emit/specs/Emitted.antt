@@ -40,16 +40,6 @@ pub record AreTables (n : ℕ) (t : Tables) : Type 0 where
   pub base_lanes : All (λ k. IsKindWithin (length t.owners.items) k) t.bases.items
   pub kind_lanes : All (λ k. IsKindWithin (length t.owners.items) k) t.kinds.items
 
--- the operands of a computed signal are there
-abbrev pub AreWithin : (n : ℕ) → Signal → Type 0
-AreWithin n (signal.Input i) = Unit {0}
-AreWithin n (signal.Const z) = Unit {0}
-AreWithin n (signal.Control k) = Unit {0}
-AreWithin n (signal.Point op args) = All (λ a. a < n) args
-AreWithin n (signal.Delay x d max) = (x < n) × (d < n)
-AreWithin n (signal.Back group i) = Unit {0}
-AreWithin n (signal.Member group i) = Unit {0}
-
 -- o is among the operands of signal s
 pub record IsOperand (g : Graph) (s o : ℕ) : Type 0 where
   pub place : ℕ

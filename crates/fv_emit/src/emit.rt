@@ -4,7 +4,8 @@ ghost use Rattle.std.specs.Prelude.{◌≡◌, [], ◌++◌, ◌∷◌, ℕ, suc
 ghost use Rattle.fv_components.specs.Reach.{at};
 ghost use Rattle.fv_signal.specs.declared.signal.Signal.{Signal};
 ghost use Rattle.fv_signal.specs.declared.signal.Signal.TheVariants as signal;
-ghost use Rattle.fv_emit.specs.Emitted.{AreTables, ComputesNow, OwnNow, AddsNow, AreCodes, AreWithin, with_append, code_in};
+ghost use Rattle.fv_plan.specs.Separated.{OperandsWithin};
+ghost use Rattle.fv_emit.specs.Emitted.{AreTables, ComputesNow, OwnNow, AddsNow, AreCodes, with_append, code_in};
 
 use crate::kind::Kind;
 use crate::operand::{operand, operands, push};
@@ -139,7 +140,7 @@ fn computed(
     node: Signal,
 ) -> Result<u64, AllocError>
     requires tables { AreTables (length registers.now) tables.now }
-    requires operands { AreWithin (length registers.now) node }
+    requires operands { OperandsWithin (length registers.now) node }
     ensures { IfOk result (λ w. ComputesNow tables.now registers.now own code.old.items code.new.items node w) }
 {
     match node {
@@ -169,7 +170,7 @@ fn own_step(
     node: Signal,
 ) -> Result<u64, AllocError>
     requires tables { AreTables (length registers.now) tables.now }
-    requires operands { AreWithin (length registers.now) node }
+    requires operands { OperandsWithin (length registers.now) node }
     requires signal { s < length registers.now }
     ensures { IfOk result (λ w. OwnNow tables.now registers.now own s code.old.items code.new.items node w) }
 {
@@ -209,7 +210,7 @@ fn add(
     node: Signal,
 ) -> Result<(), AllocError>
     requires tables { AreTables (length registers.old.items) tables.now }
-    requires operands { AreWithin (length registers.old.items) node }
+    requires operands { OperandsWithin (length registers.old.items) node }
     requires signal { s < length registers.old.items }
     ensures { OnOk result (AddsNow tables.now own s node registers.old.items code.old.items registers.new.items code.new.items) }
 {

@@ -3,7 +3,7 @@ use Rattle.std.proofs.Common.{◌≡◌, inl, inr, ℕ, zero, suc, ◌+◌, ◌<
 use Rattle.std.specs.Prelude.{nat_lt, ◌↔◌}
 use Rattle.std.proofs.lemmas.Bool.{cases_lt, cond-true, cond-false, lt-ltb, le-ltb}
 use Rattle.std.proofs.lemmas.List.{length_push, get_or_push, get_or_append_left, get_or_past, get_or_default, get_or_read}
-use Rattle.std.proofs.lemmas.List.Elements.{All-get_or, All-take, All-weaker}
+use Rattle.std.proofs.lemmas.List.Elements.{All-get_or, All-take}
 use mathlib.Core.Path.{fun_ext}
 use Rattle.fv_num.specs.Words.{inputs_of}
 use Rattle.fv_signal.specs.declared.signal.Signal.{Signal}
@@ -15,7 +15,7 @@ use Rattle.fv_analysis.specs.Stands.{node, stand}
 use Rattle.fv_analysis.proofs.StandLemmas.{standing, Itself, Another, stands_well}
 use Rattle.fv_plan.specs.Separated.{operands, found_from, links_of, ReadsSignal}
 use Rattle.fv_plan.proofs.FitsLemmas.{map_get}
-use Rattle.fv_lanes.specs.Rows.{AreOver, reads_of, AreRows}
+use Rattle.fv_lanes.specs.Rows.{reads_of, AreRows}
 
 -- ---- lists
 
@@ -75,15 +75,6 @@ operand_below g (signal.Delay x d max) q (suc zero) b l = b.1
 operand_below g (signal.Delay x d max) q (suc (suc k)) b l = absurd (omega arith)
 operand_below g (signal.Back group i) q k b l = absurd (omega arith)
 operand_below g (signal.Member group i) q k b l = absurd (omega arith)
-
-pub operands_over : (g : Graph) (n : Signal) (q m : ℕ) → q ≤ m → OperandsBelow g q n → AreOver m n
-operands_over g (signal.Input i) q m l b = tt
-operands_over g (signal.Const i) q m l b = tt
-operands_over g (signal.Control i) q m l b = tt
-operands_over g (signal.Point op args) q m l b = All-weaker (λ a. a < q) (λ a. a < m) (λ a k. omega (arith, l, k)) args b
-operands_over g (signal.Delay x d max) q m l b = (omega (arith, b.0), omega (arith, b.1))
-operands_over g (signal.Back group i) q m l b = tt
-operands_over g (signal.Member group i) q m l b = tt
 
 length_map_at : (f : ℕ → ℕ) (ws : List ℕ) → length (map f ws) ≡ length ws
 length_map_at f [] = refl

@@ -1,2 +1,3 @@
+pub mod OperandLemmas
 pub mod FitsLemmas
 pub mod TaskLemmas

@@ -1,11 +1,10 @@
 use Rattle.std.proofs.Common.{◌≡◌, ◌+◌, suc, length, sym, ◌∙◌, subst, ap, arith, set, pos, get_or}
 use Rattle.std.proofs.lemmas.List.{get_or_read, length-set}
 use Rattle.fv_signal.specs.declared.signal.Signal.TheVariants as signal
-use Rattle.fv_signal.specs.Value.{OperandsBelow}
 use Rattle.fv_components.specs.Reach.{at}
 use Rattle.fv_analysis.specs.Stands.{StandsAt}
 use Rattle.fv_emit.specs.Emitted.{AllServe, AddsNow, code_in}
-use Rattle.fv_emit.proofs.AddLemmas.{all_serve_more, all_serve_none, all_serve_begins, all_serve_ends, code_read, within_of}
+use Rattle.fv_emit.proofs.AddLemmas.{all_serve_more, all_serve_none, all_serve_begins, all_serve_ends, code_read}
 use Rattle.fv_emit.proofs.emit.codes.Goals.{then-own-loops+in_ok-add, else-own-loops}
 use Rattle.fv_emit.proofs.emit.codes.Goals as goal
 
