@@ -16,7 +16,8 @@ use Rattle.fv_plan.specs.Tasks.{DoesTasks, PlansAreApart, OutputsNeedLoops, Hist
 
 pub plans_do_tasks : (g : Graph) (p : PlanView) → DoesTasks g p
 plans_do_tasks g p s X c start from count rest j held inputs lanes l eh ei ready =
-    tasks_are_done (roles_of p j) (window s.names.history (λ l u. value g (s.names.lane l) X c u) start) (code_of p j) held inputs from count rest lanes obeys ready
+    tasks_are_done (roles_of p j) (window s.names.history (λ l u. value g (s.names.lane l) X c u) start)
+    (code_of p j) held inputs from count rest lanes obeys ready
   where
     obeys : (n : ℕ) → n < count → ObeysAt (roles_of p j) (window s.names.history (λ l u. value g (s.names.lane l) X c u) start) held (inputs (from + n))
         (from + n) (code_of p j)
