@@ -1,9 +1,10 @@
 -- Code with one signal more.
-use Rattle.std.proofs.Common.{◌≡◌, ◌≢◌, ◌⊎◌, inl, inr, ℕ, zero, suc, ◌<◌, ◌≤◌, List, [], ◌∷◌, ◌++◌, length, get_or, set, refl, sym, ap, ◌∙◌, subst, arith, pos, Bool, true, false}
+use Rattle.std.proofs.Common.{◌≡◌, ◌≢◌, ◌⊎◌, inl, inr, ℕ, zero, suc, ◌<◌, ◌≤◌, List, [], ◌∷◌, ◌++◌, length, get_or, set, refl, sym, ap, ◌∙◌, subst, arith, pos}
+use Rattle.std.proofs.Common.{Bool, true, false}
 use Rattle.std.specs.Prelude.{◌&&◌, ◌||◌, nat_lt, nat_eq, Vec, Option, None, Some}
 use Rattle.std.specs.declared.alloc.Global.{Global}
 use Rattle.std.proofs.lemmas.List.{get_or-set_same, get_or-set_other}
-use Rattle.std.proofs.lemmas.Bool.{cases_lt, cases_eq, eq-eqb, ne_eqb, lt-ltb, le-ltb}
+use Rattle.std.proofs.lemmas.Bool.{and_right, cases_lt, cases_eq, eq-eqb, ne_eqb, lt-ltb, le-ltb}
 use Rattle.fv_signal.specs.declared.signal.Signal.{Signal}
 use Rattle.fv_signal.specs.declared.signal.Signal.TheVariants as signal
 use Rattle.fv_signal.specs.Value.{Graph}
@@ -34,13 +35,9 @@ knowing homes j s q = elim (cases_eq (at homes q) j) [
     | inl l ↦ Yes l e (known_yes homes j s q l e)
     | inr l ↦ Later (omega arith) (ap (λ b. b && nat_eq (at homes q) j) (not_lower (omega arith)))
   ]
-  | inr e ↦ Elsewhere e (and_false (nat_lt q s) (ne_eqb (at homes q) j e))
+  | inr e ↦ Elsewhere e (and_right (nat_lt q s) (nat_eq (at homes q) j) (ne_eqb (at homes q) j e))
 ]
   where
-    and_false : (b : Bool) {d : Bool} → d ≡ false → (b && d) ≡ false
-    and_false true e = e
-    and_false false e = refl
-
     not_lower : s ≤ q → nat_lt q s ≡ false
     not_lower l = le-ltb q s l
 
@@ -157,7 +154,8 @@ adds t j s n old_regs new_regs old mid new w k ek own er en = ((w, er), λ g p r
                     ∙ sym (ap (known_at t.homes.items j (suc s)) (ap p.lane z ∙ is) ∙ known_yes t.homes.items j (suc s) s (omega arith) home)
                 | inr z ↦
                     ap (λ b. b || h.1 l) (ne_eqb l m z) ∙ h.3 l o
-                    ∙ sym (known_more t.homes.items j s (p.lane l) (inl (λ y. z (lane_same (sym ((u.lanes l o).1) ∙ ap (lane_at t.lanes.items) y ∙ sym ek ∙ e)))))
+                    ∙ sym (known_more t.homes.items j s (p.lane l)
+                    (inl (λ y. z (lane_same (sym ((u.lanes l o).1) ∙ ap (lane_at t.lanes.items) y ∙ sym ek ∙ e)))))
               ],
             )
 

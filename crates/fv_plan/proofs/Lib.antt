@@ -1,3 +1,3 @@
-pub mod OperandLemmas
+pub mod NodeLemmas
 pub mod FitsLemmas
 pub mod TaskLemmas

@@ -3,9 +3,9 @@ use Rattle.fv_components.specs.Reach.{at}
 use Rattle.fv_analysis.specs.Stands.{stand}
 use Rattle.fv_analysis.proofs.StandLemmas.{stands_long}
 use Rattle.fv_plan.specs.Separated.{operands}
-use Rattle.fv_plan.proofs.OperandLemmas.{operands_within}
 use Rattle.fv_lanes.specs.Rows.{reads_of}
-use Rattle.fv_lanes.proofs.RowLemmas.{rows_more, node_read, reads_are}
+use Rattle.fv_plan.proofs.NodeLemmas.{node_read, operands_within}
+use Rattle.fv_lanes.proofs.RowLemmas.{rows_more, reads_are}
 use Rattle.fv_lanes.proofs.rows.reads.Goals as goal
 
 pub add_reads-requires : goal.add_reads-requires
