@@ -46,7 +46,8 @@ bases_more g stands rates lanes numbers n bases new k h e is = record {
   ];
 }
 
-pub kinds_more : (bases : List Kind) (lanes : List (Option ℕ)) (n : ℕ) (kinds new : List Kind) (k : Kind) → AreKinds bases lanes n kinds → new ≡ kinds ++ k ∷ [] →
+pub kinds_more : (bases : List Kind) (lanes : List (Option ℕ)) (n : ℕ) (kinds new : List Kind) (k : Kind) →
+    AreKinds bases lanes n kinds → new ≡ kinds ++ k ∷ [] →
     k ≡ kind_with (kind_of bases n) (lane_at lanes n) → AreKinds bases lanes (n + 1) new
 kinds_more bases lanes n kinds new k h e is = record {
   long = omega (arith, ap length e, length_push kinds k, h.long);

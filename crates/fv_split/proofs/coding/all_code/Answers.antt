@@ -12,5 +12,5 @@ code-requires c =
 pub loop-steps-preserved : goal.loop-steps-preserved
 loop-steps-preserved c =
     let read = c.deref.ensures.value ∙ code_read c.args.codes.now c.loop-steps.steps-index c.steps-item.result c.loop-steps-test.true c.steps-item.is in
-    coded_more c.args.codes.now c.loop-steps.steps-index c.loop-steps.all.items c.push.new.self.items c.in_ok-code.field-0 c.loop-steps.invariant c.in_ok-push.ensures.items
-    (c.in_ok-code.ensures ∙ read)
+    coded_more c.args.codes.now c.loop-steps.steps-index c.loop-steps.all.items c.push.new.self.items c.in_ok-code.field-0 c.loop-steps.invariant
+    c.in_ok-push.ensures.items (c.in_ok-code.ensures ∙ read)

@@ -111,9 +111,11 @@ new-requires c =
 pub returns-clause-stands : goal.returns-clause-stands
 returns-clause-stands c =
     let held = c.in_ok-held.ensures ∙ c.deref-14.ensures.value in
-    subst (PlanStands c.args.graph.now) (sym c.new.ensures) (with_held held (plan (goal.at.returns-clause-stands c).In_ok-held (passes (goal.at.returns-clause-stands c).After-tables-1))).stands
+    let there = goal.at.returns-clause-stands c in
+    subst (PlanStands c.args.graph.now) (sym c.new.ensures) (with_held held (plan there.In_ok-held (passes there.After-tables-1))).stands
 
 pub returns-clause-names : goal.returns-clause-names
 returns-clause-names c =
     let held = c.in_ok-held.ensures ∙ c.deref-14.ensures.value in
-    subst (PlanNames c.args.graph.now) (sym c.new.ensures) (with_held held (plan (goal.at.returns-clause-names c).In_ok-held (passes (goal.at.returns-clause-names c).After-tables-1))).names
+    let there = goal.at.returns-clause-names c in
+    subst (PlanNames c.args.graph.now) (sym c.new.ensures) (with_held held (plan there.In_ok-held (passes there.After-tables-1))).names
