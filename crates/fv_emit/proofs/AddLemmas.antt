@@ -1,13 +1,13 @@
 -- Code with one signal more.
-use Rattle.std.proofs.Common.{◌≡◌, ◌≢◌, ◌⊎◌, inl, inr, ℕ, zero, suc, ◌<◌, ◌≤◌, List, [], ◌∷◌, ◌++◌, length, get_or, set, refl, sym, ap, ◌∙◌, subst, arith, pos, Bool, true, false}
+use Rattle.std.proofs.Common.{◌≡◌, ◌≢◌, ◌⊎◌, inl, inr, ℕ, zero, suc, ◌<◌, ◌≤◌, List, [], ◌∷◌, ◌++◌, length, get_or, set, refl, sym, ap, ◌∙◌, subst, arith, pos}
+use Rattle.std.proofs.Common.{Bool, true, false}
 use Rattle.std.specs.Prelude.{◌&&◌, ◌||◌, nat_lt, nat_eq, Vec, Option, None, Some}
 use Rattle.std.specs.declared.alloc.Global.{Global}
 use Rattle.std.proofs.lemmas.List.{get_or-set_same, get_or-set_other}
-use Rattle.std.proofs.lemmas.List.Elements.{All-weaker}
-use Rattle.std.proofs.lemmas.Bool.{cases_lt, cases_eq, eq-eqb, ne_eqb, lt-ltb, le-ltb}
+use Rattle.std.proofs.lemmas.Bool.{and_right, cases_lt, cases_eq, eq-eqb, ne_eqb, lt-ltb, le-ltb}
 use Rattle.fv_signal.specs.declared.signal.Signal.{Signal}
 use Rattle.fv_signal.specs.declared.signal.Signal.TheVariants as signal
-use Rattle.fv_signal.specs.Value.{Graph, OperandsBelow}
+use Rattle.fv_signal.specs.Value.{Graph}
 use Rattle.fv_components.specs.Reach.{at}
 use Rattle.fv_loopcode.specs.declared.step.Step.{Step}
 use Rattle.fv_loopcode.specs.declared.step.Step.TheVariants as step
@@ -20,7 +20,7 @@ use Rattle.fv_emit.specs.Emits.{Serves, KindFits, IsKnown, IsLoaded, kind_of, ow
 use Rattle.fv_emit.proofs.StepLemmas.{serves_push, fits_whole}
 use Rattle.fv_emit.specs.declared.tables.Tables.{Tables}
 use Rattle.fv_plan.specs.Separated.{IsComputed, lane_at}
-use Rattle.fv_emit.specs.Emitted.{known_at, AreWithin, IsBase, Suits, ComputesNow, OwnNow, ServesUpTo, with_append, AddsNow, code_in, AllServe, AreCodes}
+use Rattle.fv_emit.specs.Emitted.{known_at, IsBase, Suits, ComputesNow, OwnNow, ServesUpTo, with_append, AddsNow, code_in, AllServe, AreCodes}
 use Rattle.fv_emit.proofs.ComputeLemmas.{known_yes}
 
 -- what it says that a signal is known
@@ -35,13 +35,9 @@ knowing homes j s q = elim (cases_eq (at homes q) j) [
     | inl l ↦ Yes l e (known_yes homes j s q l e)
     | inr l ↦ Later (omega arith) (ap (λ b. b && nat_eq (at homes q) j) (not_lower (omega arith)))
   ]
-  | inr e ↦ Elsewhere e (and_false (nat_lt q s) (ne_eqb (at homes q) j e))
+  | inr e ↦ Elsewhere e (and_right (nat_lt q s) (nat_eq (at homes q) j) (ne_eqb (at homes q) j e))
 ]
   where
-    and_false : (b : Bool) {d : Bool} → d ≡ false → (b && d) ≡ false
-    and_false true e = e
-    and_false false e = refl
-
     not_lower : s ≤ q → nat_lt q s ≡ false
     not_lower l = le-ltb q s l
 
@@ -158,7 +154,8 @@ adds t j s n old_regs new_regs old mid new w k ek own er en = ((w, er), λ g p r
                     ∙ sym (ap (known_at t.homes.items j (suc s)) (ap p.lane z ∙ is) ∙ known_yes t.homes.items j (suc s) s (omega arith) home)
                 | inr z ↦
                     ap (λ b. b || h.1 l) (ne_eqb l m z) ∙ h.3 l o
-                    ∙ sym (known_more t.homes.items j s (p.lane l) (inl (λ y. z (lane_same (sym ((u.lanes l o).1) ∙ ap (lane_at t.lanes.items) y ∙ sym ek ∙ e)))))
+                    ∙ sym (known_more t.homes.items j s (p.lane l)
+                    (inl (λ y. z (lane_same (sym ((u.lanes l o).1) ∙ ap (lane_at t.lanes.items) y ∙ sym ek ∙ e)))))
               ],
             )
 
@@ -248,13 +245,3 @@ all_serve_ends g t loops n regs codes en lc h = record {
       fits_whole g p r nothing [] (code_in codes j) k.0 k.1 k.2.fits
       (λ l o. let q = u.lanes l o in k.3 l o ∙ known_yes t.homes.items j n (p.lane l) (omega (arith, en, q.0)) q.2);
 }
-
--- an earlier operand is there
-pub within_of : (g : Graph) (s n : ℕ) (x : Signal) → s < n → OperandsBelow g s x → AreWithin n x
-within_of g s n (signal.Input i) l b = tt
-within_of g s n (signal.Const z) l b = tt
-within_of g s n (signal.Control k) l b = tt
-within_of g s n (signal.Point op args) l b = All-weaker (λ a. a < s) (λ a. a < n) (λ a m. omega arith) args b
-within_of g s n (signal.Delay x d max) l b = (omega (arith, b.0), omega (arith, b.1))
-within_of g s n (signal.Back group i) l b = tt
-within_of g s n (signal.Member group i) l b = tt

@@ -1,7 +1,8 @@
 -- The steps of signals that are computed.
-use Rattle.std.proofs.Common.{◌≡◌, inl, inr, ℕ, zero, suc, ◌+◌, ◌<◌, ◌≤◌, List, [], ◌∷◌, ◌++◌, length, take, get_or, map, refl, sym, ap, ap₂, ◌∙◌, subst, arith, pos, Bool, true}
+use Rattle.std.proofs.Common.{◌≡◌, inl, inr, ℕ, zero, suc, ◌+◌, ◌<◌, ◌≤◌, List, [], ◌∷◌, ◌++◌, length, take, get_or, map, refl, sym, ap, ap₂, ◌∙◌, subst, arith}
+use Rattle.std.proofs.Common.{pos, Bool, true}
 use Rattle.std.specs.Prelude.{All, ◌&&◌, nat_eq, unwrap_or, Option, None}
-use Rattle.std.proofs.lemmas.List.{length-take-le, length_push, append_assoc, get_or-take, get_or_default, get_or_read}
+use Rattle.std.proofs.lemmas.List.{length-map, length-take-le, length_push, append_assoc, get_or-take, get_or_default, get_or_read}
 use Rattle.std.proofs.lemmas.List.Elements.{All-get_or, All-weaker, All-take, All-map}
 use Rattle.std.proofs.lemmas.Bool.{cases_lt, eq-eqb, lt-ltb}
 use Rattle.fv_num.specs.declared.op.Op.{Op}
@@ -23,16 +24,8 @@ use Rattle.fv_analysis.proofs.StandLemmas.{stands_well}
 use Rattle.fv_emit.proofs.StepLemmas.{serves_push, means_last, long_means}
 use Rattle.fv_emit.specs.declared.tables.Tables.{Tables}
 use Rattle.fv_plan.specs.Separated.{operands, lane_at}
-use Rattle.fv_emit.specs.Emitted.{AreTables, known_at, IsOperand, Suits, ComputesNow}
-
-length_map : (f : ℕ → ℕ) (xs : List ℕ) → length (map f xs) ≡ length xs
-length_map f [] = refl
-length_map f (x ∷ xs) = let h = length_map f xs in omega (arith, h)
-
-map_get : (f : ℕ → ℕ) (xs : List ℕ) (i d : ℕ) → get_or (map f xs) i (f d) ≡ f (get_or xs i d)
-map_get f [] i d = refl
-map_get f (x ∷ xs) zero d = refl
-map_get f (x ∷ xs) (suc i) d = map_get f xs i d
+use Rattle.fv_plan.proofs.FitsLemmas.{map_get}
+use Rattle.fv_emit.specs.Emitted.{AreTables, known_at, IsOperand, Suits, StoodNow, ComputesNow}
 
 -- what a signal stands for is no higher
 pub stand_below : (g : Graph) → IsOrdered g → (n s : ℕ) → n ≤ length g.signals → s < n → stand g s ≤ s
@@ -50,8 +43,9 @@ module _ (g : Graph) (p : Names) (r : Roles) (t : Tables) (j s : ℕ) (u : Suits
 
   -- a lane of this loop that stands for a lower signal
   pub lane_known : (x lane : ℕ) → x < s → p.lane lane ≡ stand g x → r.own lane ≡ true → known (stand g x) ≡ true
-  lane_known x lane b e o = known_yes t.homes.items j s (stand g x) (omega (arith, stand_below g u.ordered (length g.signals) x (omega arith) (omega arith))) (ap
-      (at t.homes.items) (sym e) ∙ (u.lanes lane o).2)
+  lane_known x lane b e o =
+      known_yes t.homes.items j s (stand g x) (omega (arith, stand_below g u.ordered (length g.signals) x (omega arith) (omega arith)))
+      (ap (at t.homes.items) (sym e) ∙ (u.lanes lane o).2)
 
   -- an operand is known where its register is read
   pub operand_known : (o : ℕ) → o < s → IsOperand g s o → IsKnown r known (kind_of t.kinds.items (stand g o)) (stand g o)
@@ -70,6 +64,16 @@ module _ (g : Graph) (p : Names) (r : Roles) (t : Tables) (j s : ℕ) (u : Suits
 
   pub operand_fits : (o : ℕ) → o < s → KindFits g p (kind_of t.kinds.items (stand g o)) (stand g o)
   operand_fits o b = u.kinds (stand g o) (omega (arith, stand_below g u.ordered (length g.signals) o (omega arith) (omega arith)))
+
+  -- the register of an operand means it
+  pub operand_stands : (regs : List ℕ) (old mid : List Step) (o v : ℕ) → o < s → IsOperand g s o → StoodNow t regs j old mid o v →
+      (means : List Mean) (ended : ℕ → Bool) → Serves g p r known regs old means ended →
+      (more : List Mean) × Serves g p r known regs mid (means ++ more) ended
+      × (mean_at (means ++ more) v ≡ Value (stand g o)) × (v < length (means ++ more))
+  operand_stands regs old mid o v b is mean means ended h =
+      let z = u.stands o (omega arith) in
+      subst (λ q. MeansNow regs old mid q v (kind_of t.kinds.items q) (owned_by t.owners.items j)) z mean
+      g p r known means ended u.own (u.loaded s o l home is) (operand_fits o b) (operand_known o b is) h
 
 -- one step more, which means the signal
 pub pushed : (g : Graph) (p : Names) (r : Roles) (known : ℕ → Bool) (regs : List ℕ) (mid new : List Step) (means more : List Mean) (ended : ℕ →
@@ -112,12 +116,12 @@ computes_point t regs j old mid new op args those found w et la lf four one mean
     arg k l = All-get_or (λ a. a < s) args k 0 (omega (arith, la)) lower
 
     those_long : length those ≡ inputs_of op
-    those_long = ap length et ∙ length-take-le (inputs_of op) (map (at t.stands.items) args) (omega (arith, length_map (at t.stands.items) args, la))
+    those_long = ap length et ∙ length-take-le (inputs_of op) (map (at t.stands.items) args) (omega (arith, length-map args (at t.stands.items), la))
 
     those_at : (k : ℕ) → k < inputs_of op → at those k ≡ stand g (at args k)
     those_at k l =
         ap (λ xs. at xs k) et ∙ get_or-take (inputs_of op) (map (at t.stands.items) args) k 0 l
-        ∙ get_or_default (map (at t.stands.items) args) k 0 (at t.stands.items 0) (omega (arith, length_map (at t.stands.items) args, la))
+        ∙ get_or_default (map (at t.stands.items) args) k 0 (at t.stands.items 0) (omega (arith, length-map args (at t.stands.items), la))
         ∙ map_get (at t.stands.items) args k 0 ∙ u.stands (at args k) (omega (arith, arg k l, n.within))
 
     is_operand : (k : ℕ) → k < inputs_of op → IsOperand g s (at args k)
@@ -159,46 +163,35 @@ computes_point t regs j old mid new op args those found w et la lf four one mean
         ap (mean_at (means ++ x.0)) (get_or-take (inputs_of op) found k 0 m) ∙ (x.2 k (omega (arith, those_long))).1 ∙ ap Value (those_at k m)
         ∙ ap (λ o. Value (stand g o)) (sym (get_or-take (inputs_of op) args k 0 m)))
 
-pub computes_still : (t : Tables) (regs : List ℕ) (j : ℕ) (old mid new : List Step) (x d q v w : ℕ) (k : Kind) →
-    q ≡ at t.stands.items x → k ≡ kind_of t.kinds.items q → MeansNow regs old mid q v k (owned_by t.owners.items j) →
-    new ≡ mid ++ step.Point Max (v ∷ v ∷ v ∷ v ∷ []) ∷ [] → w ≡ length mid →
-    ComputesNow t regs j old new (signal.Delay x d 0) w
-computes_still t regs j old mid new x d q v w k eq ek mean e f g p r s u n home c means ended h en =
+pub computes_still : (t : Tables) (regs : List ℕ) (j : ℕ) (old mid new : List Step) (x d v w : ℕ) → StoodNow t regs j old mid x v →
+    new ≡ mid ++ step.Point Max (v ∷ v ∷ v ∷ v ∷ []) ∷ [] → w ≡ length mid → ComputesNow t regs j old new (signal.Delay x d 0) w
+computes_still t regs j old mid new x d v w mean e f g p r s u n home c means ended h en =
     let b = below g u.ordered s (signal.Delay x d 0) n in
     let lx : x < length g.signals = omega (arith, b.0, n.within) in
-    let z : q ≡ stand g x = eq ∙ u.stands x lx in
-    let is : IsOperand g s x = record { place = 0; within = subst (λ m. 0 < length (operands m)) (sym n.is) (omega arith); is = ap (λ m. at (operands m) 0) n.is } in
-    let ez : k ≡ kind_of t.kinds.items (stand g x) = ek ∙ ap (kind_of t.kinds.items) z in
-    let y = mean g p r (known_at t.homes.items j s) means ended u.own (subst (IsLoaded r) (sym ez) (u.loaded s x n.within home is))
-    (subst (λ a. KindFits g p a q) (sym ez) (subst (KindFits g p (kind_of t.kinds.items (stand g x))) (sym z) (operand_fits g p r t j s u n.within home x b.0)))
-    (subst (λ a. IsKnown r (known_at t.homes.items j s) a q) (sym ez) (subst (IsKnown r (known_at t.homes.items j s) (kind_of t.kinds.items (stand g x))) (sym z)
-    (operand_known g p r t j s u n.within home x b.0 is))) h in
-    pushed g p r (known_at t.homes.items j s) regs mid new means y.0 ended (step.Point Max (v ∷ v ∷ v ∷ v ∷ [])) s w e f y.1 (OfStill s x d v n lx refl refl
-    (y.2 ∙ ap Value z) refl) refl
+    let is : IsOperand g s x =
+    record { place = 0; within = subst (λ m. 0 < length (operands m)) (sym n.is) (omega arith); is = ap (λ m. at (operands m) 0) n.is } in
+    let y = operand_stands g p r t j s u n.within home regs old mid x v b.0 is mean means ended h in
+    pushed g p r (known_at t.homes.items j s) regs mid new means y.0 ended (step.Point Max (v ∷ v ∷ v ∷ v ∷ [])) s w e f y.1
+    (OfStill s x d v n lx refl refl y.2 refl) refl
 
-pub computes_delay : (t : Tables) (regs : List ℕ) (j : ℕ) (old mid new : List Step) (x d max q v w lane : ℕ) (k : Kind) → 1 ≤ max →
-    q ≡ at t.stands.items d → k ≡ kind_of t.kinds.items q → lane ≡ unwrap_or (lane_at t.lanes.items (at t.stands.items x)) 0 →
-    MeansNow regs old mid q v k (owned_by t.owners.items j) → new ≡ mid ++ step.Load lane v max ∷ [] → w ≡ length mid →
-    ComputesNow t regs j old new (signal.Delay x d max) w
-computes_delay t regs j old mid new x d max q v w lane k one eq ek el mean e f g p r s u n home c means ended h en =
+pub computes_delay : (t : Tables) (regs : List ℕ) (j : ℕ) (old mid new : List Step) (x d max v w lane : ℕ) → 1 ≤ max →
+    lane ≡ unwrap_or (lane_at t.lanes.items (at t.stands.items x)) 0 → StoodNow t regs j old mid d v →
+    new ≡ mid ++ step.Load lane v max ∷ [] → w ≡ length mid → ComputesNow t regs j old new (signal.Delay x d max) w
+computes_delay t regs j old mid new x d max v w lane one el mean e f g p r s u n home c means ended h en =
     let b = below g u.ordered s (signal.Delay x d max) n in
     let lx : x < length g.signals = omega (arith, b.0, n.within) in
     let ld : d < length g.signals = omega (arith, b.1, n.within) in
-    let z : q ≡ stand g d = eq ∙ u.stands d ld in
-    let is : IsOperand g s d = record { place = 1; within = subst (λ m. 1 < length (operands m)) (sym n.is) (omega arith); is = ap (λ m. at (operands m) 1) n.is } in
-    let ez : k ≡ kind_of t.kinds.items (stand g d) = ek ∙ ap (kind_of t.kinds.items) z in
-    let y = mean g p r (known_at t.homes.items j s) means ended u.own (subst (IsLoaded r) (sym ez) (u.loaded s d n.within home is))
-    (subst (λ a. KindFits g p a q) (sym ez) (subst (KindFits g p (kind_of t.kinds.items (stand g d))) (sym z) (operand_fits g p r t j s u n.within home d b.1)))
-    (subst (λ a. IsKnown r (known_at t.homes.items j s) a q) (sym ez) (subst (IsKnown r (known_at t.homes.items j s) (kind_of t.kinds.items (stand g d))) (sym z)
-    (operand_known g p r t j s u n.within home d b.1 is))) h in
+    let is : IsOperand g s d =
+    record { place = 1; within = subst (λ m. 1 < length (operands m)) (sym n.is) (omega arith); is = ap (λ m. at (operands m) 1) n.is } in
+    let y = operand_stands g p r t j s u n.within home regs old mid d v b.1 is mean means ended h in
     let o = u.delays s x d max n home one in
     let lane_is : lane ≡ o.lane = el ∙ ap (λ a. unwrap_or (lane_at t.lanes.items a) 0) (u.stands x lx) ∙ ap (λ a. unwrap_or a 0) o.has in
     let names : p.lane lane ≡ stand g x = ap p.lane lane_is ∙ o.names in
     let few : max ≤ p.history lane = subst (λ a. max ≤ p.history a) (sym lane_is) o.far in
     pushed g p r (known_at t.homes.items j s) regs mid new means y.0 ended (step.Load lane v max) s w e f y.1 (
       subst (λ a. r.loaded a ≡ true) (sym lane_is) o.loaded,
-      OfDelay s x d n lx ld (sym names) (y.2 ∙ ap Value z) few (λ own. en lane own
-          ∙ ap (known_at t.homes.items j s) names ∙ lane_known g p r t j s u n.within home x lane b.0 names own) refl,
+      OfDelay s x d n lx ld (sym names) y.2 few
+          (λ own. en lane own ∙ ap (known_at t.homes.items j s) names ∙ lane_known g p r t j s u n.within home x lane b.0 names own) refl,
     ) refl
 
 -- ---- what the code reads in the tables

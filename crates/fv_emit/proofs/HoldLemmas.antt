@@ -1,6 +1,8 @@
 -- Held values, one after another.
-use Rattle.std.proofs.Common.{◌≡◌, ◌≢◌, ◌⊎◌, inl, inr, ℕ, zero, suc, ◌+◌, ◌-◌, ◌<◌, ◌≤◌, List, [], ◌∷◌, ◌++◌, length, take, map, get_or, set, refl, sym, ap, ap₂, ◌∙◌, subst, arith, ℤ, pos}
-use Rattle.std.proofs.lemmas.List.{length_push, get_or_push, get_or_append_left, get_or-set_same, get_or-set_other, get_or_default, length-set, map_push}
+use Rattle.std.proofs.Common.{◌≡◌, ◌≢◌, ◌⊎◌, inl, inr, ℕ, zero, suc, ◌+◌, ◌-◌, ◌<◌, ◌≤◌, List, [], ◌∷◌, ◌++◌, length, take, map, get_or, set, refl, sym, ap}
+use Rattle.std.proofs.Common.{ap₂, ◌∙◌, subst, arith, ℤ, pos}
+use Rattle.std.proofs.lemmas.List.{length_push, get_or_push, get_or_append_left, get_or-set_same, get_or-set_other, get_or_default, length-map, length-set}
+use Rattle.std.proofs.lemmas.List.{map_push}
 use Rattle.std.proofs.lemmas.List.Elements.{All-head, All-tail, All-take, All-push, All-map, All-get_or}
 use Rattle.std.proofs.lemmas.Bool.{cases_eq, cases_lt}
 use Rattle.std.specs.Prelude.{All}
@@ -41,10 +43,6 @@ registers_push : (controls : ℕ → ℤ) (xs : List Step) (x : Step) →
     ≡ held_registers controls xs ++ step_value controls (λ i. pos 0) (loads (passed controls (λ i. pos 0) 0 (opening []) xs).lanes 0) (argument
     (held_registers controls xs)) x ∷ []
 registers_push controls xs x = ap (λ p. p.numbers) (passed_push controls (λ i. pos 0) 0 (opening []) xs x)
-
-length_map_at : (f : ℕ → ℤ) (ws : List ℕ) → length (map f ws) ≡ length ws
-length_map_at f [] = refl
-length_map_at f (w ∷ ws) = let h = length_map_at f ws in omega (arith, h)
 
 -- ---- names
 
@@ -143,7 +141,8 @@ module _ (g : Graph) (ordered : IsOrdered g) (s : ℕ) (l : s < length g.signals
       gives x controls ≡ value g s X c t
 
   -- one that is, whose step gives its value
-  holds_more : (x : Step) → rate_of g s ≢ rate.Sample → Gives x → MayHold g (length steps) x → HoldsUpTo g (suc s) (set numbers s (length steps)) (steps ++ x ∷ [])
+  holds_more : (x : Step) →
+      rate_of g s ≢ rate.Sample → Gives x → MayHold g (length steps) x → HoldsUpTo g (suc s) (set numbers s (length steps)) (steps ++ x ∷ [])
   holds_more x slow is may = record {
     signals = signals;
     long = omega (arith, length_push h.signals s, length_push steps x, h.long);
@@ -158,7 +157,10 @@ module _ (g : Graph) (ordered : IsOrdered g) (s : ℕ) (l : s < length g.signals
         ∙ sym (map_push (λ q. value g q X c t) h.signals s);
     within = λ q. elim (cases_eq q s) [
       | inl z ↦ let e : at new q ≡ length steps = ap (at new) z ∙ get_or-set_same numbers s (length steps) 0 long in omega (arith, e, length_push steps x)
-      | inr z ↦ let e : at new q ≡ at numbers q = get_or-set_other numbers s q (length steps) 0 z in let b = h.within q in omega (arith, e, b, length_push steps x)
+      | inr z ↦
+          let e : at new q ≡ at numbers q = get_or-set_other numbers s q (length steps) 0 z in
+          let b = h.within q in
+          omega (arith, e, b, length_push steps x)
     ];
     numbered = λ q m r. elim (cases_eq q s) [
       | inl z ↦
@@ -201,11 +203,9 @@ module _ (g : Graph) (ordered : IsOrdered g) (s : ℕ) (l : s < length g.signals
       ap (λ xs. argument xs (at numbers w)) (h.values X c t controls same) ∙ held_at (at numbers w) (omega (arith, k.0, h.long)) ∙ ap (λ q. value g q X c t) k.1
     where
       held_at : (i : ℕ) → i < length h.signals → argument (map (λ q. value g q X c t) h.signals) i ≡ value g (at h.signals i) X c t
-      held_at i m = get_or_default (map (λ q. value g q X c t) h.signals) i (pos 0) (value g 0 X c t) (omega (
-        arith,
-        length_map_at
-            (λ q. value g q X c t) h.signals,
-      )) ∙ map_get (λ q. value g q X c t) h.signals i 0
+      held_at i m =
+          get_or_default (map (λ q. value g q X c t) h.signals) i (pos 0) (value g 0 X c t) (omega (arith, length-map h.signals (λ q. value g q X c t)))
+          ∙ map_get (λ q. value g q X c t) h.signals i 0
 
   -- an operation whose operands are held values
   module _ (op : Op) (args : List ℕ) (e : node g s ≡ signal.Point op args) (slow : rate_of g s ≢ rate.Sample) where
@@ -230,14 +230,16 @@ module _ (g : Graph) (ordered : IsOrdered g) (s : ℕ) (l : s < length g.signals
         first ws f = head (inputs_of op) args (some_inputs op) four slow_operands
 
     operands_there : length args ≡ 4 → All (λ a. a < length steps) (map (at numbers) args)
-    operands_there four = All-map (λ a. a < length steps) (at numbers) args (λ k d m. let b = h.within (get_or args k d) in let z = some four in omega (arith, b, z))
+    operands_there four =
+        All-map (λ a. a < length steps) (at numbers) args (λ k d m. let b = h.within (get_or args k d) in let z = some four in omega (arith, b, z))
 
     holds_point : length args ≡ 4 → HoldsUpTo g (suc s) (set numbers s (length steps)) (steps ++ step.Point op (map (at numbers) args) ∷ [])
     holds_point four = holds_more (step.Point op (map (at numbers) args)) slow (λ X c t controls same more.
         ap (apply_of op) (map_take (inputs_of op) (argument (held_registers controls steps)) (map (at numbers) args)
         ∙ ap (map (argument (held_registers controls steps))) (map_take (inputs_of op) (at numbers) args)
         ∙ map_map (argument (held_registers controls steps)) (at numbers) (take (inputs_of op) args)
-        ∙ operands_held (rate_of g) (λ w. argument (held_registers controls steps) (at numbers w)) (λ w. value g w X c t) (take (inputs_of op) args) slow_operands s
+        ∙ operands_held (rate_of g) (λ w. argument (held_registers controls steps) (at numbers w)) (λ w. value g w X c t)
+        (take (inputs_of op) args) slow_operands s
         (All-take (λ a. a < s) (inputs_of op) args lower) (λ w m r. earlier X c t controls same w m r)
         ∙ sym (map_take (inputs_of op) (λ w. value g w X c t) args))
         ∙ sym (node_value (signal.Point op args) e X c t))

@@ -1,5 +1,6 @@
 -- What code that fits loads and names.
-use Rattle.std.proofs.Common.{◌≡◌, ◌⊎◌, inl, inr, ℕ, zero, suc, ◌+◌, ◌<◌, ◌≤◌, List, [], ◌∷◌, ◌++◌, length, get_or, refl, sym, ap, ◌∙◌, subst, arith, pos, Bool, true, false}
+use Rattle.std.proofs.Common.{◌≡◌, ◌⊎◌, inl, inr, ℕ, zero, suc, ◌+◌, ◌<◌, ◌≤◌, List, [], ◌∷◌, ◌++◌, length, get_or, refl, sym, ap, ◌∙◌, subst, arith, pos, Bool}
+use Rattle.std.proofs.Common.{true, false}
 use Rattle.std.specs.Prelude.{◌||◌, ◌&&◌, nat_eq, nat_lt, nat_le, All}
 use Rattle.std.proofs.lemmas.Bool.{eq-eqb, ne_eqb, cases_eq, cases_lt}
 use Rattle.std.proofs.lemmas.List.{length_push}
@@ -18,7 +19,8 @@ use Rattle.fv_plan.specs.View.{PlanView, lane_info, loads_lane}
 use Rattle.fv_plan.specs.Plans.{LoadsWithin, NamesChannel}
 
 module _ (g : Graph) (p : Names) (r q : Roles) (own : (l : ℕ) → q.own l ≡ r.own l) where
-  load_fits : (done : ℕ → Bool) (ms : List Mean) (lane back max : ℕ) (m : Mean) → LoadFits g p r done ms lane back max m → LoadFits g p q done ms lane back max m
+  load_fits : (done : ℕ → Bool) (ms : List Mean) (lane back max : ℕ) (m : Mean) →
+      LoadFits g p r done ms lane back max m → LoadFits g p q done ms lane back max m
   load_fits done ms lane back max m (OfDelay s x d n lx ld ex ed few mine e) = OfDelay s x d n lx ld ex ed few (λ h. mine (sym (own lane) ∙ h)) e
   load_fits done ms lane back max m (OfBack s group i n lx ex eb one few e) = OfBack s group i n lx ex eb one few e
   load_fits done ms lane back max m (OfLane there eb none other e) = OfLane there eb none (own lane ∙ other) e
@@ -62,7 +64,8 @@ one_there ms w e = elim (cases_lt w (length ms)) [ inl l ↦ l | inr l ↦ absur
 
 module _ (g : Graph) (p : Names) (r : Roles) where
   -- what the code loads, it may load
-  pub loads_may : (done : ℕ → Bool) (ms : List Mean) (steps : List Step) → CodeFits g p r done ms steps → (l : ℕ) → loads_lane l steps ≡ true → r.loaded l ≡ true
+  pub loads_may : (done : ℕ → Bool) (ms : List Mean) (steps : List Step) →
+      CodeFits g p r done ms steps → (l : ℕ) → loads_lane l steps ≡ true → r.loaded l ≡ true
   loads_may done ms [] h l e = absurd cc
   loads_may done ms (step.Number n ∷ ss) h l e = loads_may done (ms ++ h.0 ∷ []) ss h.2 l e
   loads_may done ms (step.Held k ∷ ss) h l e = loads_may done (ms ++ h.0 ∷ []) ss h.2 l e

@@ -1,6 +1,8 @@
 -- Steps that are added for operands.
-use Rattle.std.proofs.Common.{◌≡◌, ◌≢◌, inl, inr, ℕ, zero, suc, ◌+◌, ◌<◌, ◌≤◌, List, [], ◌∷◌, ◌++◌, length, get_or, set, refl, sym, ap, ◌∙◌, subst, arith, ℤ, pos, Bool, true, false}
-use Rattle.std.proofs.lemmas.List.{length_push, length-append, get_or_push, get_or_append_left, append-nil, append_assoc, get_or-set_same, get_or-set_other, length-set}
+use Rattle.std.proofs.Common.{◌≡◌, ◌≢◌, inl, inr, ℕ, zero, suc, ◌+◌, ◌<◌, ◌≤◌, List, [], ◌∷◌, ◌++◌, length, get_or, set, refl, sym, ap, ◌∙◌, subst, arith, ℤ}
+use Rattle.std.proofs.Common.{pos, Bool, true, false}
+use Rattle.std.proofs.lemmas.List.{length_push, length-append, get_or_push, get_or_append_left, append-nil, append_assoc, get_or-set_same, get_or-set_other}
+use Rattle.std.proofs.lemmas.List.{length-set}
 use Rattle.fv_signal.specs.declared.signal.Signal.TheVariants as signal
 use Rattle.fv_signal.specs.Value.{Graph, definition}
 use Rattle.fv_loopcode.specs.declared.step.Step.{Step}
@@ -15,125 +17,127 @@ use Rattle.fv_emit.specs.Emits.{FitsUpTo, Serves, KindFits, IsKnown, IsLoaded, I
 use Rattle.std.proofs.lemmas.Bool.{eq-eqb, ne_eqb, lt-ltb, cases_eq}
 use Rattle.std.specs.Prelude.{◌&&◌, nat_eq}
 
--- one more step
-pub fits_push : (g : Graph) (p : Names) (r : Roles) (done : ℕ → Bool) (ms : List Mean) (steps : List Step) (ends : List Mean) (ended : ℕ →
-    Bool) (s : Step) (m : Mean) →
-    FitsUpTo g p r done ms steps ends ended → StepFits g p r ended ends s m → FitsUpTo g p r done ms (steps ++ s ∷ []) (ends ++ m ∷ []) (done_after ended s)
-fits_push g p r done ms [] ends ended s m h k =
-    (m, subst (λ d. StepFits g p r d ms s m) h.1 (subst (λ e. StepFits g p r ended e s m) h.0 k), (ap (λ e. e ++ m ∷ []) h.0, ap (λ d. done_after d s) h.1))
-fits_push g p r done ms (x ∷ xs) ends ended s m h k = (h.0, h.1, fits_push g p r (done_after done x) (ms ++ h.0 ∷ []) xs ends ended s m h.2 k)
+module _ (g : Graph) (p : Names) (r : Roles) where
+  -- one more step
+  fits_push : (done : ℕ → Bool) (ms : List Mean) (steps : List Step) (ends : List Mean) (ended : ℕ → Bool) (s : Step) (m : Mean) →
+      FitsUpTo g p r done ms steps ends ended → StepFits g p r ended ends s m →
+      FitsUpTo g p r done ms (steps ++ s ∷ []) (ends ++ m ∷ []) (done_after ended s)
+  fits_push done ms [] ends ended s m h k =
+      (m, subst (λ d. StepFits g p r d ms s m) h.1 (subst (λ e. StepFits g p r ended e s m) h.0 k), (ap (λ e. e ++ m ∷ []) h.0, ap (λ d. done_after d s) h.1))
+  fits_push done ms (x ∷ xs) ends ended s m h k = (h.0, h.1, fits_push (done_after done x) (ms ++ h.0 ∷ []) xs ends ended s m h.2 k)
 
--- no step more
-pub fits_whole : (g : Graph) (p : Names) (r : Roles) (done : ℕ → Bool) (ms : List Mean) (steps : List Step) (ends : List Mean) (ended : ℕ → Bool) →
-    FitsUpTo g p r done ms steps ends ended → ((l : ℕ) → r.own l ≡ true → ended l ≡ true) → CodeFits g p r done ms steps
-fits_whole g p r done ms [] ends ended h k = λ l o. sym (ap (λ d. d l) h.1) ∙ k l o
-fits_whole g p r done ms (x ∷ xs) ends ended h k = (h.0, h.1, fits_whole g p r (done_after done x) (ms ++ h.0 ∷ []) xs ends ended h.2 k)
+  -- no step more
+  pub fits_whole : (done : ℕ → Bool) (ms : List Mean) (steps : List Step) (ends : List Mean) (ended : ℕ → Bool) →
+      FitsUpTo g p r done ms steps ends ended → ((l : ℕ) → r.own l ≡ true → ended l ≡ true) → CodeFits g p r done ms steps
+  fits_whole done ms [] ends ended h k = λ l o. sym (ap (λ d. d l) h.1) ∙ k l o
+  fits_whole done ms (x ∷ xs) ends ended h k = (h.0, h.1, fits_whole (done_after done x) (ms ++ h.0 ∷ []) xs ends ended h.2 k)
 
-pub length_fits : (g : Graph) (p : Names) (r : Roles) (done : ℕ → Bool) (ms : List Mean) (steps : List Step) (ends : List Mean) (ended : ℕ → Bool) →
-    FitsUpTo g p r done ms steps ends ended → length ends ≡ length ms + length steps
-length_fits g p r done ms [] ends ended h = omega (arith, ap length h.0)
-length_fits g p r done ms (s ∷ ss) ends ended h = omega (arith, length_fits g p r (done_after done s) (ms ++ h.0 ∷ []) ss ends ended h.2, length_push ms h.0)
+  length_fits : (done : ℕ → Bool) (ms : List Mean) (steps : List Step) (ends : List Mean) (ended : ℕ → Bool) →
+      FitsUpTo g p r done ms steps ends ended → length ends ≡ length ms + length steps
+  length_fits done ms [] ends ended h = omega (arith, ap length h.0)
+  length_fits done ms (s ∷ ss) ends ended h = omega (arith, length_fits (done_after done s) (ms ++ h.0 ∷ []) ss ends ended h.2, length_push ms h.0)
 
--- one step more
-pub serves_push : (g : Graph) (p : Names) (r : Roles) (known : ℕ → Bool) (regs : List ℕ) (steps : List Step) (means : List Mean) (ended : ℕ →
-    Bool) (s : Step) (m : Mean) →
-    Serves g p r known regs steps means ended → StepFits g p r ended means s m → Serves g p r known regs (steps ++ s ∷ []) (means ++ m ∷ []) (done_after ended s)
-serves_push g p r known regs steps means ended s m h k = record {
-  fits = fits_push g p r nothing [] steps means ended s m h.fits k;
-  there = λ q e. let t = h.there q e in (omega (arith, length_push means m, t.0), get_or_append_left means (m ∷ []) (Literal (pos 0)) (at regs q) t.0 ∙ t.1);
-}
+module _ (g : Graph) (p : Names) (r : Roles) (known : ℕ → Bool) (regs : List ℕ) (steps : List Step) (means : List Mean) (ended : ℕ → Bool) where
+  -- one step more
+  pub serves_push : (s : Step) (m : Mean) → Serves g p r known regs steps means ended → StepFits g p r ended means s m →
+      Serves g p r known regs (steps ++ s ∷ []) (means ++ m ∷ []) (done_after ended s)
+  serves_push s m h k = record {
+    fits = fits_push g p r nothing [] steps means ended s m h.fits k;
+    there = λ q e. let t = h.there q e in (omega (arith, length_push means m, t.0), get_or_append_left means (m ∷ []) (Literal (pos 0)) (at regs q) t.0 ∙ t.1);
+  }
 
-pub means_last : (g : Graph) (p : Names) (r : Roles) (known : ℕ → Bool) (regs : List ℕ) (steps : List Step) (means : List Mean) (ended : ℕ → Bool) (m : Mean) →
-    Serves g p r known regs steps means ended → mean_at (means ++ m ∷ []) (length steps) ≡ m
-means_last g p r known regs steps means ended m h = get_or_push means m (Literal (pos 0)) (length steps) (length_fits g p r nothing [] steps means ended h.fits
-    ∙ (let z : 0 + length steps ≡ length steps = omega arith in z))
+  pub long_means : Serves g p r known regs steps means ended → length means ≡ length steps
+  long_means h = length_fits g p r nothing [] steps means ended h.fits ∙ (let z : 0 + length steps ≡ length steps = omega arith in z)
 
-pub long_means : (g : Graph) (p : Names) (r : Roles) (known : ℕ → Bool) (regs : List ℕ) (steps : List Step) (means : List Mean) (ended : ℕ → Bool) →
-    Serves g p r known regs steps means ended → length means ≡ length steps
-long_means g p r known regs steps means ended h = length_fits g p r nothing [] steps means ended h.fits ∙ (let z : 0 + length steps ≡ length steps =
-    omega arith in z)
+  pub means_last : (m : Mean) → Serves g p r known regs steps means ended → mean_at (means ++ m ∷ []) (length steps) ≡ m
+  means_last m h = get_or_push means m (Literal (pos 0)) (length steps) (long_means h)
 
--- a register that is there
-pub means_known : (regs : List ℕ) (steps : List Step) (s : ℕ) (k : Kind) (own : ℕ → Bool) → ((g : Graph) (p : Names) (r : Roles) (known : ℕ → Bool) → ((l : ℕ) →
-    r.own l ≡ own l) → IsKnown r known k s → known s ≡ true) →
-    MeansNow regs steps steps s (at regs s) k own
-means_known regs steps s k own is g p r known means ended o l f i h =
-    let t = h.there s (is g p r known o i) in (
-      [],
-      subst (λ ms. Serves g p r known regs steps ms ended) (sym (append-nil means)) h,
-      ap (λ ms. mean_at ms (at regs s)) (append-nil means)
-          ∙ t.1,
-      subst (λ ms. at regs s < length ms) (sym (append-nil means)) t.0,
-    )
+module _ (regs : List ℕ) (steps : List Step) (s : ℕ) where
+  -- a register that is there
+  means_known : (k : Kind) (own : ℕ → Bool) →
+      ((g : Graph) (p : Names) (r : Roles) (known : ℕ → Bool) → ((l : ℕ) → r.own l ≡ own l) → IsKnown r known k s → known s ≡ true) →
+      MeansNow regs steps steps s (at regs s) k own
+  means_known k own is g p r known means ended o l f i h =
+      let t = h.there s (is g p r known o i) in (
+        [],
+        subst (λ ms. Serves g p r known regs steps ms ended) (sym (append-nil means)) h,
+        ap (λ ms. mean_at ms (at regs s)) (append-nil means) ∙ t.1,
+        subst (λ ms. at regs s < length ms) (sym (append-nil means)) t.0,
+      )
 
--- one step
-pub means_step : (regs : List ℕ) (steps : List Step) (s : ℕ) (k : Kind) (own : ℕ → Bool) (x : Step) →
-    ((g : Graph) (p : Names) (r : Roles) (means : List Mean) (ended : ℕ → Bool) → IsLoaded r k → KindFits g p k s → StepFits g p r ended means x (Value s)
-    × (done_after ended x ≡ ended)) →
-    MeansNow regs steps (steps ++ x ∷ []) s (length steps) k own
-means_step regs steps s k own x is g p r known means ended o l f i h =
-    let q = is g p r means ended l f in (
-      Value s ∷ [],
-      subst (Serves g p r known regs (steps ++ x ∷ []) (means ++ Value s ∷ [])) q.1 (serves_push g p r known regs steps means ended x (Value s) h q.0),
-      means_last g p r known regs steps means ended (Value s) h,
-      omega (arith, length_push means (Value s), long_means g p r known regs steps means ended h),
-    )
+  -- one step
+  means_step : (k : Kind) (own : ℕ → Bool) (x : Step) →
+      ((g : Graph) (p : Names) (r : Roles) (means : List Mean) (ended : ℕ → Bool) → IsLoaded r k → KindFits g p k s →
+      StepFits g p r ended means x (Value s) × (done_after ended x ≡ ended)) →
+      MeansNow regs steps (steps ++ x ∷ []) s (length steps) k own
+  means_step k own x is g p r known means ended o l f i h =
+      let q = is g p r means ended l f in (
+        Value s ∷ [],
+        subst (Serves g p r known regs (steps ++ x ∷ []) (means ++ Value s ∷ [])) q.1 (serves_push g p r known regs steps means ended x (Value s) h q.0),
+        means_last g p r known regs steps means ended (Value s) h,
+        omega (arith, length_push means (Value s), long_means g p r known regs steps means ended h),
+      )
 
--- a number, and a load of a lane by it
-pub means_load : (regs : List ℕ) (steps : List Step) (s : ℕ) (k : Kind) (own : ℕ → Bool) (n l max : ℕ) → ((r : Roles) → ((j : ℕ) → r.own j ≡ own j) →
-    IsLoaded r k → r.loaded l ≡ true) →
-    ((g : Graph) (p : Names) (r : Roles) (means : List Mean) (ended : ℕ → Bool) → ((j : ℕ) → r.own j ≡ own j) → KindFits g p k s →
-    length steps < length means → mean_at means (length steps) ≡ Literal (pos n) → LoadFits g p r ended means l (length steps) max (Value s)) →
-    MeansNow regs steps ((steps ++ step.Number (pos n) ∷ []) ++ step.Load l (length steps) max ∷ []) s (length steps + 1) k own
-means_load regs steps s k own n l max may is g p r known means ended o loaded f i h =
-    let one = serves_push g p r known regs steps means ended (step.Number (pos n)) (Literal (pos n)) h (inl refl) in
-    let lit = means_last g p r known regs steps means ended (Literal (pos n)) h in
-    let there : length steps < length (means ++ Literal (pos n) ∷ []) =
-    omega (arith, length_push means (Literal (pos n)), long_means g p r known regs steps means ended h) in
-    let two = serves_push g p r known regs (steps ++ step.Number (pos n) ∷ []) (means ++ Literal (pos n) ∷ []) ended (step.Load l (length steps) max)
-    (Value s) one (may r o loaded, is g p r (means ++ Literal (pos n) ∷ []) ended o f there lit) in
-    let z = append_assoc means (Literal (pos n) ∷ []) (Value s ∷ []) in
-    let e : length (steps ++ step.Number (pos n) ∷ []) ≡ length steps + 1 = length_push steps (step.Number (pos n)) in (
-      Literal (pos n) ∷ Value s ∷ [],
-      subst (λ ms. Serves g p r known regs ((steps ++ step.Number (pos n) ∷ []) ++ step.Load l (length steps) max ∷ []) ms ended) z two,
-      ap (λ ms. mean_at ms (length steps + 1)) (sym z) ∙ ap (mean_at ((means ++ Literal (pos n) ∷ []) ++ Value s ∷ [])) (sym e)
-          ∙ means_last g p r known regs (steps ++ step.Number (pos n) ∷ []) (means ++ Literal (pos n) ∷ []) ended (Value s) one,
-      omega (arith, length-append means (Literal (pos n) ∷ Value s ∷ []), long_means g p r known regs steps means ended h),
-    )
+  -- a number, and a load of a lane by it
+  means_load : (k : Kind) (own : ℕ → Bool) (n l max : ℕ) → ((r : Roles) → ((j : ℕ) → r.own j ≡ own j) → IsLoaded r k → r.loaded l ≡ true) →
+      ((g : Graph) (p : Names) (r : Roles) (means : List Mean) (ended : ℕ → Bool) → ((j : ℕ) → r.own j ≡ own j) → KindFits g p k s →
+      length steps < length means → mean_at means (length steps) ≡ Literal (pos n) → LoadFits g p r ended means l (length steps) max (Value s)) →
+      MeansNow regs steps ((steps ++ step.Number (pos n) ∷ []) ++ step.Load l (length steps) max ∷ []) s (length steps + 1) k own
+  means_load k own n l max may is g p r known means ended o loaded f i h =
+      let number = step.Number (pos n) in
+      let literal = Literal (pos n) in
+      let load = step.Load l (length steps) max in
+      let one = serves_push g p r known regs steps means ended number literal h (inl refl) in
+      let lit = means_last g p r known regs steps means ended literal h in
+      let long = long_means g p r known regs steps means ended h in
+      let there : length steps < length (means ++ literal ∷ []) = omega (arith, length_push means literal, long) in
+      let two = serves_push g p r known regs (steps ++ number ∷ []) (means ++ literal ∷ []) ended load (Value s) one
+      (may r o loaded, is g p r (means ++ literal ∷ []) ended o f there lit) in
+      let z = append_assoc means (literal ∷ []) (Value s ∷ []) in
+      let e : length (steps ++ number ∷ []) ≡ length steps + 1 = length_push steps number in (
+        literal ∷ Value s ∷ [],
+        subst (λ ms. Serves g p r known regs ((steps ++ number ∷ []) ++ load ∷ []) ms ended) z two,
+        ap (λ ms. mean_at ms (length steps + 1)) (sym z) ∙ ap (mean_at ((means ++ literal ∷ []) ++ Value s ∷ [])) (sym e)
+            ∙ means_last g p r known regs (steps ++ number ∷ []) (means ++ literal ∷ []) ended (Value s) one,
+        omega (arith, length-append means (literal ∷ Value s ∷ []), long),
+      )
 
--- ---- the kinds
+  -- ---- the kinds
 
-pub means_number : (regs : List ℕ) (steps : List Step) (s : ℕ) (n : ℤ) (own : ℕ → Bool) →
-    MeansNow regs steps (steps ++ step.Number n ∷ []) s (length steps) (kind.Number n) own
-means_number regs steps s n own = means_step regs steps s (kind.Number n) own (step.Number n) (λ g p r means ended l f. (inr (s, f, refl), refl))
+  pub means_number : (n : ℤ) (own : ℕ → Bool) → MeansNow regs steps (steps ++ step.Number n ∷ []) s (length steps) (kind.Number n) own
+  means_number n own = means_step (kind.Number n) own (step.Number n) (λ g p r means ended l f. (inr (s, f, refl), refl))
 
-pub means_held : (regs : List ℕ) (steps : List Step) (s k : ℕ) (own : ℕ → Bool) → MeansNow regs steps (steps ++ step.Held k ∷ []) s (length steps) (kind.Held k) own
-means_held regs steps s k own = means_step regs steps s (kind.Held k) own (step.Held k) (λ g p r means ended l f. ((f.0, ap Value (sym f.1)), refl))
+  pub means_held : (k : ℕ) (own : ℕ → Bool) → MeansNow regs steps (steps ++ step.Held k ∷ []) s (length steps) (kind.Held k) own
+  means_held k own = means_step (kind.Held k) own (step.Held k) (λ g p r means ended l f. ((f.0, ap Value (sym f.1)), refl))
 
-pub means_input : (regs : List ℕ) (steps : List Step) (s i : ℕ) (own : ℕ → Bool) →
-    MeansNow regs steps (steps ++ step.Input i ∷ []) s (length steps) (kind.Input i) own
-means_input regs steps s i own = means_step regs steps s (kind.Input i) own (step.Input i) (λ g p r means ended l f. ((s, f, refl), refl))
+  pub means_input : (i : ℕ) (own : ℕ → Bool) → MeansNow regs steps (steps ++ step.Input i ∷ []) s (length steps) (kind.Input i) own
+  means_input i own = means_step (kind.Input i) own (step.Input i) (λ g p r means ended l f. ((s, f, refl), refl))
 
-pub means_back : (regs : List ℕ) (steps : List Step) (s l : ℕ) (own : ℕ → Bool) →
-    MeansNow regs steps ((steps ++ step.Number (pos 1) ∷ []) ++ step.Load l (length steps) 1 ∷ []) s (length steps + 1) (kind.Back l) own
-means_back regs steps s l own = means_load regs steps s (kind.Back l) own 1 l 1 (λ r o q. q)
-    (λ g p r means ended o f i e. OfBack s f.0 f.1 f.2 f.3 f.4 e refl f.5 refl)
+  pub means_back : (l : ℕ) (own : ℕ → Bool) →
+      MeansNow regs steps ((steps ++ step.Number (pos 1) ∷ []) ++ step.Load l (length steps) 1 ∷ []) s (length steps + 1) (kind.Back l) own
+  means_back l own = means_load (kind.Back l) own 1 l 1 (λ r o q. q) (λ g p r means ended o f i e. OfBack s f.0 f.1 f.2 f.3 f.4 e refl f.5 refl)
 
-pub means_other : (regs : List ℕ) (steps : List Step) (s l : ℕ) (own : ℕ → Bool) → own l ≡ false →
-    MeansNow regs steps ((steps ++ step.Number (pos 0) ∷ []) ++ step.Load l (length steps) 0 ∷ []) s (length steps + 1) (kind.Lane l) own
-means_other regs steps s l own n = means_load regs steps s (kind.Lane l) own 0 l 0 (λ r o q. q (o l ∙ n)) (λ g p r means ended o f i e. OfLane i e refl (o l
-    ∙ n) (ap Value (sym f)))
+  pub means_other : (l : ℕ) (own : ℕ → Bool) → own l ≡ false →
+      MeansNow regs steps ((steps ++ step.Number (pos 0) ∷ []) ++ step.Load l (length steps) 0 ∷ []) s (length steps + 1) (kind.Lane l) own
+  means_other l own n =
+      means_load (kind.Lane l) own 0 l 0 (λ r o q. q (o l ∙ n)) (λ g p r means ended o f i e. OfLane i e refl (o l ∙ n) (ap Value (sym f)))
 
-pub means_own : (regs : List ℕ) (steps : List Step) (s l : ℕ) (own : ℕ → Bool) → own l ≡ true → MeansNow regs steps steps s (at regs s) (kind.Lane l) own
-means_own regs steps s l own y = means_known regs steps s (kind.Lane l) own (λ g p r known o i. i (o l ∙ y))
+  pub means_own : (l : ℕ) (own : ℕ → Bool) → own l ≡ true → MeansNow regs steps steps s (at regs s) (kind.Lane l) own
+  means_own l own y = means_known (kind.Lane l) own (λ g p r known o i. i (o l ∙ y))
 
-pub means_inner : (regs : List ℕ) (steps : List Step) (s : ℕ) (own : ℕ → Bool) → MeansNow regs steps steps s (at regs s) kind.Inner own
-means_inner regs steps s own = means_known regs steps s kind.Inner own (λ g p r known o i. i)
+  pub means_inner : (own : ℕ → Bool) → MeansNow regs steps steps s (at regs s) kind.Inner own
+  means_inner own = means_known kind.Inner own (λ g p r known o i. i)
 
--- the same of equal code and an equal register
-pub moved : (regs : List ℕ) (old : List Step) (a new : List Step) (s w v : ℕ) (k : Kind) (own : ℕ → Bool) → v ≡ w → new ≡ a → MeansNow regs old a s w k own →
-    MeansNow regs old new s v k own
-moved regs old a new s w v k own e f h = subst (λ x. MeansNow regs old x s v k own) (sym f) (subst (λ y. MeansNow regs old a s y k own) (sym e) h)
+-- the same of an equal kind
+pub of_kind : (regs : List ℕ) (old new : List Step) (s w : ℕ) (k q : Kind) (own : ℕ → Bool) → k ≡ q → MeansNow regs old new s w q own →
+    MeansNow regs old new s w k own
+of_kind regs old new s w k q own e h = subst (λ x. MeansNow regs old new s w x own) (sym e) h
+
+-- the same of an equal kind, an equal register and equal code
+pub moved : (regs : List ℕ) (old a new : List Step) (s w v : ℕ) (k q : Kind) (own : ℕ → Bool) → k ≡ q → v ≡ w → new ≡ a →
+    MeansNow regs old a s w q own → MeansNow regs old new s v k own
+moved regs old a new s w v k q own ek e f h =
+    subst (λ x. MeansNow regs old x s v k own) (sym f) (subst (λ y. MeansNow regs old a s y k own) (sym e) (of_kind regs old a s w k q own ek h))
 
 -- a lane of the loop, and of another
 pub owned_yes : (owners : List ℕ) (j l : ℕ) → l < length owners → get_or owners l 0 ≡ j → owned_by owners j l ≡ true
@@ -144,10 +148,6 @@ owned_no owners j l h e = ap (λ b. b && nat_eq (get_or owners l 0) j) (lt-ltb l
 
 pub lane_within : (n l : ℕ) (k : Kind) → k ≡ kind.Lane l → IsKindWithin n k → l < n
 lane_within n l k e h = subst (IsKindWithin n) e h
-
-pub of_kind : (regs : List ℕ) (old new : List Step) (s w : ℕ) (k q : Kind) (own : ℕ → Bool) → k ≡ q → MeansNow regs old new s w q own →
-    MeansNow regs old new s w k own
-of_kind regs old new s w k q own e h = subst (λ x. MeansNow regs old new s w x own) (sym e) h
 
 -- ---- several operands
 

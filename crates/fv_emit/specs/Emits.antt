@@ -16,7 +16,8 @@ FitsUpTo g p r done ms [] ends ended = (ends ≡ ms) × (ended ≡ done)
 FitsUpTo g p r done ms (s ∷ ss) ends ended = (m : Mean) × StepFits g p r done ms s m × FitsUpTo g p r (done_after done s) (ms ++ m ∷ []) ss ends ended
 
 -- The code so far serves: its steps have these uses, and the registers of the signals that are known mean them.
-pub record Serves (g : Graph) (p : Names) (r : Roles) (known : ℕ → Bool) (regs : List ℕ) (steps : List Step) (means : List Mean) (ended : ℕ → Bool) : Type 0 where
+pub record Serves (g : Graph) (p : Names) (r : Roles) (known : ℕ → Bool)
+    (regs : List ℕ) (steps : List Step) (means : List Mean) (ended : ℕ → Bool) : Type 0 where
   pub fits : FitsUpTo g p r nothing [] steps means ended
   pub there : (q : ℕ) → known q ≡ true → (at regs q < length means) × (mean_at means (at regs q) ≡ Value q)
 
@@ -27,7 +28,8 @@ KindFits g p (kind.Held k) s = (k < p.count) × (p.held k ≡ s)
 KindFits g p (kind.Lane l) s = p.lane l ≡ s
 KindFits g p (kind.Input i) s = StandsAt g s (signal.Input i)
 KindFits g p (kind.Back l) s =
-    (group i : ℕ) × StandsAt g s (signal.Back group i) × (definition g group i < length g.signals) × (stand g (definition g group i) ≡ p.lane l) × (1 ≤ p.history l)
+    (group i : ℕ) × StandsAt g s (signal.Back group i) × (definition g group i < length g.signals)
+    × (stand g (definition g group i) ≡ p.lane l) × (1 ≤ p.history l)
 KindFits g p kind.Inner s = Unit {0}
 
 -- it has to be known, where its register is read

@@ -1,5 +1,6 @@
 -- The code of all loops, signal by signal.
-use Rattle.std.specs.Prelude.{◌≡◌, ℕ, suc, ◌<◌, ◌≤◌, List, [], ◌∷◌, ◌++◌, length, slice_set, slice_get, slice_index_or, Option, None, Some, Vec, Bool, true, ◌&&◌, nat_lt, nat_eq, All}
+use Rattle.std.specs.Prelude.{◌≡◌, ℕ, suc, ◌<◌, ◌≤◌, List, [], ◌∷◌, ◌++◌, length, slice_set, slice_get, slice_index_or, Option, None, Some, Vec, Bool, true}
+use Rattle.std.specs.Prelude.{◌&&◌, nat_lt, nat_eq, All}
 use Rattle.std.specs.declared.alloc.Global.{Global}
 use Rattle.fv_signal.specs.declared.signal.Signal.{Signal}
 use Rattle.fv_signal.specs.declared.signal.Signal.TheVariants as signal
@@ -14,7 +15,7 @@ use Rattle.fv_plan.specs.Fits.{Mean, Value, mean_at, Names, CodeFits}
 use Rattle.fv_emit.specs.declared.kind.Kind.{Kind}
 use Rattle.fv_emit.specs.declared.kind.Kind.TheVariants as kind
 use Rattle.fv_emit.specs.declared.tables.Tables.{Tables}
-use Rattle.fv_emit.specs.Emits.{Serves, KindFits, IsLoaded, IsKindWithin, kind_of, owned_by}
+use Rattle.fv_emit.specs.Emits.{Serves, KindFits, IsLoaded, IsKindWithin, MeansNow, kind_of, owned_by}
 
 -- what a signal is without its lane
 abbrev pub IsBase : Kind → Type 0
@@ -39,16 +40,6 @@ pub record AreTables (n : ℕ) (t : Tables) : Type 0 where
   pub within : All (λ s. s < n) t.stands.items
   pub base_lanes : All (λ k. IsKindWithin (length t.owners.items) k) t.bases.items
   pub kind_lanes : All (λ k. IsKindWithin (length t.owners.items) k) t.kinds.items
-
--- the operands of a computed signal are there
-abbrev pub AreWithin : (n : ℕ) → Signal → Type 0
-AreWithin n (signal.Input i) = Unit {0}
-AreWithin n (signal.Const z) = Unit {0}
-AreWithin n (signal.Control k) = Unit {0}
-AreWithin n (signal.Point op args) = All (λ a. a < n) args
-AreWithin n (signal.Delay x d max) = (x < n) × (d < n)
-AreWithin n (signal.Back group i) = Unit {0}
-AreWithin n (signal.Member group i) = Unit {0}
 
 -- o is among the operands of signal s
 pub record IsOperand (g : Graph) (s o : ℕ) : Type 0 where
@@ -85,6 +76,11 @@ pub record Suits (g : Graph) (p : Names) (r : Roles) (t : Tables) (j : ℕ) : Ty
   -- a signal at home here that is nothing else is computed
   pub computed : (s : ℕ) → s < length g.signals → at t.homes.items s ≡ j → kind_of t.bases.items s ≡ kind.Inner → IsComputed (node g s)
 
+-- the code has grown so that register w means what signal x stands for, as loop j reads it
+abbrev pub StoodNow : Tables → (regs : List ℕ) → (j : ℕ) → (old new : List Step) → (x w : ℕ) → Type 0
+StoodNow t regs j old new x w =
+    MeansNow regs old new (at t.stands.items x) w (kind_of t.kinds.items (at t.stands.items x)) (owned_by t.owners.items j)
+
 -- just the lanes of known signals were appended
 abbrev pub EndedAre : Names → Roles → (known : ℕ → Bool) → (ended : ℕ → Bool) → Type 0
 EndedAre p r known ended = (l : ℕ) → r.own l ≡ true → ended l ≡ known (p.lane l)
@@ -111,7 +107,8 @@ OwnNow t regs j s old new n w =
 -- the code serves the signals that are at home in loop j and lower than s
 abbrev pub ServesUpTo : Graph → Names → Roles → Tables → (j s : ℕ) → (regs : List ℕ) → List Step → Type 0
 ServesUpTo g p r t j s regs steps =
-    (means : List Mean) × (ended : ℕ → Bool) × Serves g p r (known_at t.homes.items j s) regs steps means ended × EndedAre p r (known_at t.homes.items j s) ended
+    (means : List Mean) × (ended : ℕ → Bool) × Serves g p r (known_at t.homes.items j s) regs steps means ended
+    × EndedAre p r (known_at t.homes.items j s) ended
 
 -- the code behind the append to a signal's lane, where it has one
 abbrev pub with_append : List Step → Option ℕ → (w : ℕ) → List Step

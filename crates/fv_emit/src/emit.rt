@@ -4,7 +4,8 @@ ghost use Rattle.std.specs.Prelude.{◌≡◌, [], ◌++◌, ◌∷◌, ℕ, suc
 ghost use Rattle.fv_components.specs.Reach.{at};
 ghost use Rattle.fv_signal.specs.declared.signal.Signal.{Signal};
 ghost use Rattle.fv_signal.specs.declared.signal.Signal.TheVariants as signal;
-ghost use Rattle.fv_emit.specs.Emitted.{AreTables, ComputesNow, OwnNow, AddsNow, AreCodes, AreWithin, with_append, code_in};
+ghost use Rattle.fv_plan.specs.Separated.{OperandsWithin};
+ghost use Rattle.fv_emit.specs.Emitted.{AreTables, StoodNow, ComputesNow, OwnNow, AddsNow, AreCodes, with_append, code_in};
 
 use crate::kind::Kind;
 use crate::operand::{operand, operands, push};
@@ -34,6 +35,29 @@ fn stand(stands: &[SignalId], x: SignalId) -> u64
     ensures { result ≡ at stands.now x }
 {
     stands[x.number() as usize].number()
+}
+
+// The register of what a signal stands for.
+fn operand_of(
+    code: &mut Vec<Step>,
+    tables: &Tables,
+    registers: &[u64],
+    own: u64,
+    x: SignalId,
+) -> Result<u64, AllocError>
+    requires tables { AreTables (length registers.now) tables.now }
+    requires x { x < length registers.now }
+    ensures { IfOk result (λ w. StoodNow tables.now registers.now own code.old.items code.new.items x w) }
+{
+    let s = stand(&tables.stands, x);
+    operand(
+        code,
+        tables.kinds[s as usize],
+        registers,
+        &tables.owners,
+        own,
+        s,
+    )
 }
 
 // An operation.
@@ -75,15 +99,7 @@ fn still(
     requires x { x < length registers.now }
     ensures { IfOk result (λ w. ComputesNow tables.now registers.now own code.old.items code.new.items (signal.Delay x d 0) w) }
 {
-    let s = stand(&tables.stands, x);
-    let w = operand(
-        code,
-        tables.kinds[s as usize],
-        registers,
-        &tables.owners,
-        own,
-        s,
-    )?;
+    let w = operand_of(code, tables, registers, own, x)?;
     push(
         code,
         Step::Point {
@@ -109,15 +125,7 @@ fn delayed(
     requires max { 1 ≤ max }
     ensures { IfOk result (λ w. ComputesNow tables.now registers.now own code.old.items code.new.items (signal.Delay x d max) w) }
 {
-    let s = stand(&tables.stands, d);
-    let back = operand(
-        code,
-        tables.kinds[s as usize],
-        registers,
-        &tables.owners,
-        own,
-        s,
-    )?;
+    let back = operand_of(code, tables, registers, own, d)?;
     let source = stand(&tables.stands, x);
     let lane = tables.lanes[source as usize].unwrap_or(0);
     push(
@@ -139,7 +147,7 @@ fn computed(
     node: Signal,
 ) -> Result<u64, AllocError>
     requires tables { AreTables (length registers.now) tables.now }
-    requires operands { AreWithin (length registers.now) node }
+    requires operands { OperandsWithin (length registers.now) node }
     ensures { IfOk result (λ w. ComputesNow tables.now registers.now own code.old.items code.new.items node w) }
 {
     match node {
@@ -169,7 +177,7 @@ fn own_step(
     node: Signal,
 ) -> Result<u64, AllocError>
     requires tables { AreTables (length registers.now) tables.now }
-    requires operands { AreWithin (length registers.now) node }
+    requires operands { OperandsWithin (length registers.now) node }
     requires signal { s < length registers.now }
     ensures { IfOk result (λ w. OwnNow tables.now registers.now own s code.old.items code.new.items node w) }
 {
@@ -209,7 +217,7 @@ fn add(
     node: Signal,
 ) -> Result<(), AllocError>
     requires tables { AreTables (length registers.old.items) tables.now }
-    requires operands { AreWithin (length registers.old.items) node }
+    requires operands { OperandsWithin (length registers.old.items) node }
     requires signal { s < length registers.old.items }
     ensures { OnOk result (AddsNow tables.now own s node registers.old.items code.old.items registers.new.items code.new.items) }
 {

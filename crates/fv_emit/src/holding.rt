@@ -5,7 +5,7 @@ ghost use Rattle.fv_components.specs.Reach.{at};
 ghost use Rattle.fv_signal.specs.Value.{IsOrdered};
 ghost use Rattle.fv_signal.specs.Rates.{rates as rates_of};
 ghost use Rattle.fv_loopcode.specs.Code.{IsWhole};
-ghost use Rattle.fv_emit.specs.Emitted.{AreWithin};
+ghost use Rattle.fv_plan.specs.Separated.{OperandsWithin};
 ghost use Rattle.fv_emit.specs.Held.{StepIs, HoldsNow, HoldsIf, HoldsUpTo};
 
 use fv_analysis::Rates;
@@ -35,7 +35,7 @@ fn numbered(numbers: &[u64], args: [SignalId; 4]) -> [u64; 4]
 
 // The step of a held value.
 fn held_step(node: Signal, numbers: &[u64]) -> Step
-    requires { AreWithin (length numbers.now) node }
+    requires { OperandsWithin (length numbers.now) node }
     ensures is { StepIs numbers.now node result }
     ensures whole { IsWhole result }
 {
@@ -61,7 +61,7 @@ fn hold(
     node: Signal,
 ) -> Result<(), AllocError>
     requires signal { s < length numbers.old.items }
-    requires operands { AreWithin (length numbers.old.items) node }
+    requires operands { OperandsWithin (length numbers.old.items) node }
     ensures { OnOk result (HoldsNow s node numbers.old.items steps.old.items numbers.new.items steps.new.items) }
 {
     let step = held_step(node, numbers);
@@ -79,7 +79,7 @@ fn hold_if(
     rate: Rate,
 ) -> Result<(), AllocError>
     requires signal { s < length numbers.old.items }
-    requires operands { AreWithin (length numbers.old.items) node }
+    requires operands { OperandsWithin (length numbers.old.items) node }
     ensures { OnOk result (HoldsIf s node rate numbers.old.items steps.old.items numbers.new.items steps.new.items) }
 {
     match rate {

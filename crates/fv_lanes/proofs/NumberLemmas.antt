@@ -1,5 +1,6 @@
 -- Signals are numbered, one after another.
-use Rattle.std.proofs.Common.{◌≡◌, inl, inr, ℕ, zero, suc, ◌+◌, ◌<◌, ◌≤◌, List, [], ◌∷◌, ◌++◌, length, get_or, refl, sym, ap, ◌∙◌, subst, arith, Bool, true, false, if◌then◌else◌}
+use Rattle.std.proofs.Common.{◌≡◌, inl, inr, ℕ, zero, suc, ◌+◌, ◌<◌, ◌≤◌, List, [], ◌∷◌, ◌++◌, length, get_or, refl, sym, ap, ◌∙◌, subst, arith, Bool, true}
+use Rattle.std.proofs.Common.{false, if◌then◌else◌}
 use Rattle.std.specs.Prelude.{None, Some, ◌↔◌, IsTrue}
 use Rattle.std.proofs.lemmas.Bool.{cases_lt}
 use Rattle.std.proofs.lemmas.List.{length_push, get_or_push, get_or_append_left}
@@ -46,7 +47,14 @@ module _ (marks : List Bool) (numbers ranks : List ℕ) (n : ℕ) (old new : Num
   lane_more marked a = record {
     long = omega (arith, ap length a.lanes, length_push old.lanes.items (Some (length old.signals.items)), h.long);
     placed = omega (arith, ap length a.places, length_push old.places.items (at ranks (at numbers n)), h.placed);
-    owned = omega (arith, ap length a.owners, length_push old.owners.items (at ranks (at numbers n)), ap length a.signals, length_push old.signals.items n, h.owned);
+    owned = omega (
+      arith,
+      ap length a.owners,
+      length_push old.owners.items (at ranks (at numbers n)),
+      ap length a.signals,
+      length_push old.signals.items n,
+      h.owned,
+    );
     has = has;
     all = all;
     named = named;
@@ -117,7 +125,8 @@ module _ (marks : List Bool) (numbers ranks : List ℕ) (n : ℕ) (old new : Num
         | inl k ↦ ap (λ xs. at xs s) a.places ∙ get_or_append_left old.places.items (at ranks (at numbers n) ∷ []) 0 s (omega (arith, h.placed)) ∙ h.places s k
         | inr k ↦
             let z : s ≡ n = omega arith in
-            ap (λ xs. at xs s) a.places ∙ get_or_push old.places.items (at ranks (at numbers n)) 0 s (h.placed ∙ sym z) ∙ ap (λ q. at ranks (at numbers q)) (sym z)
+            ap (λ xs. at xs s) a.places ∙ get_or_push old.places.items (at ranks (at numbers n)) 0 s (h.placed ∙ sym z)
+            ∙ ap (λ q. at ranks (at numbers q)) (sym z)
             ∙ sym (ap (λ b. if b then at ranks (at numbers s) else at ranks (length marks)) (ap (bit_at marks) z ∙ marked))
       ]
 
@@ -130,7 +139,8 @@ module _ (marks : List Bool) (numbers ranks : List ℕ) (n : ℕ) (old new : Num
     has = has;
     all = all;
     named = named;
-    owners = λ l m. ap (λ xs. at xs l) a.owners ∙ h.owners l (omega (arith, m, ap length a.signals)) ∙ ap (λ xs. at ranks (at numbers (at xs l))) (sym a.signals);
+    owners =
+        λ l m. ap (λ xs. at xs l) a.owners ∙ h.owners l (omega (arith, m, ap length a.signals)) ∙ ap (λ xs. at ranks (at numbers (at xs l))) (sym a.signals);
     places = places;
   }
     where
@@ -167,11 +177,14 @@ module _ (marks : List Bool) (numbers ranks : List ℕ) (n : ℕ) (old new : Num
             ∙ sym (ap (λ b. if b then at ranks (at numbers s) else at ranks (length marks)) (ap (bit_at marks) z ∙ unmarked))
       ]
 
-pub signal_more : (marks : List Bool) (numbers ranks : List ℕ) (n : ℕ) (old new : Numbering) (b : Bool) (owner none : ℕ) → NumberedUpTo marks numbers ranks n old →
+pub signal_more : (marks : List Bool) (numbers ranks : List ℕ) (n : ℕ) (old new : Numbering) (b : Bool) (owner none : ℕ) →
+    NumberedUpTo marks numbers ranks n old →
     b ≡ bit_at marks n → owner ≡ at ranks (at numbers n) → none ≡ at ranks (length marks) → AddsSignal old n b owner none new →
     NumberedUpTo marks numbers ranks (n + 1) new
-signal_more marks numbers ranks n old new true owner none h eb eo en a = lane_more marks numbers ranks n old new h (sym eb) (subst (λ x. AddsLane old n x new) eo a)
-signal_more marks numbers ranks n old new false owner none h eb eo en a = none_more marks numbers ranks n old new h (sym eb) (subst (λ x. AddsNone old x new) en a)
+signal_more marks numbers ranks n old new true owner none h eb eo en a =
+    lane_more marks numbers ranks n old new h (sym eb) (subst (λ x. AddsLane old n x new) eo a)
+signal_more marks numbers ranks n old new false owner none h eb eo en a =
+    none_more marks numbers ranks n old new h (sym eb) (subst (λ x. AddsNone old x new) en a)
 
 pub none_numbered : (marks : List Bool) (numbers ranks : List ℕ) (p : Numbering) → p.lanes.items ≡ [] → p.signals.items ≡ [] → p.owners.items ≡ [] →
     p.places.items ≡ [] →

@@ -1,5 +1,6 @@
 -- Loops are counted.
-use Rattle.std.proofs.Common.{◌≡◌, ◌≢◌, inl, inr, ℕ, zero, suc, ◌+◌, ◌<◌, ◌≤◌, List, [], ◌∷◌, ◌++◌, length, set, refl, sym, ap, ◌∙◌, subst, arith, Bool, true, false, if◌then◌else◌}
+use Rattle.std.proofs.Common.{◌≡◌, ◌≢◌, inl, inr, ℕ, zero, suc, ◌+◌, ◌<◌, ◌≤◌, List, [], ◌∷◌, ◌++◌, length, set, refl, sym, ap, ◌∙◌, subst, arith, Bool, true}
+use Rattle.std.proofs.Common.{false, if◌then◌else◌}
 use Rattle.std.specs.Prelude.{All}
 use Rattle.std.proofs.lemmas.List.{get_or-set_same, get_or-set_other, length-set, length_push, get_or_push, get_or_append_left}
 use Rattle.std.proofs.lemmas.List.Elements.{All-get_or}
@@ -125,7 +126,8 @@ meets numbers marked met s l inside e m = record { long = length-set met (at num
       | inr z ↦ m.only c (sym (get_or-set_other met (at numbers s) c true false z) ∙ h)
     ]
 
-pub meets_none : (numbers : List ℕ) (marked met : List Bool) (s : ℕ) → bit_at marked s ≡ false → MetUpTo numbers marked met s → MetUpTo numbers marked met (suc s)
+pub meets_none : (numbers : List ℕ) (marked met : List Bool) (s : ℕ) →
+    bit_at marked s ≡ false → MetUpTo numbers marked met s → MetUpTo numbers marked met (suc s)
 meets_none numbers marked met s e m = record {
   long = m.long;
   all = λ q h k. elim (cases_eq q s) [ inl z ↦ absurd (let y = sym e ∙ ap (bit_at marked) (sym z) ∙ k in cc) | inr z ↦ m.all q (omega arith) k ];

@@ -45,7 +45,10 @@ reader_row R readers (s ∷ ss) r x l h = elim (cases_eq x s) [
       ap (reader_at (set readers s (met_by (reader_at readers s) r))) e ∙ get_or-set_same readers s (met_by (reader_at readers s) r) Nobody (l 0 (omega arith))
       ∙ ap (λ y. met_by (reader_at readers y) r) (sym e) in
       reader_same (λ p. (R p ⊎ (p ≡ r)) ⊎ ((p ≡ r) × Named ss x)) (λ p. R p ⊎ ((p ≡ r) × Named (s ∷ ss) x)) (reader_at (with_row readers (s ∷ ss) r) x)
-      (λ p y. elim y [ inl z ↦ elim z [ inl w ↦ inl w | inr w ↦ inr (w, record { place = 0; within = omega arith; is = sym e }) ] | inr z ↦ inr (z.0, later z.1) ])
+      (λ p y. elim y [
+        | inl z ↦ elim z [ inl w ↦ inl w | inr w ↦ inr (w, record { place = 0; within = omega arith; is = sym e }) ]
+        | inr z ↦ inr (z.0, later z.1)
+      ])
       (λ p y. elim y [ inl z ↦ inl (inl z) | inr z ↦ inl (inr z.0) ])
       (reader_row (λ p. R p ⊎ (p ≡ r)) (set readers s (met_by (reader_at readers s) r)) ss r x rest (subst (IsReader (λ p. R p ⊎ (p ≡ r))) (sym k) (reader_met R
       (reader_at readers x) r h)))

@@ -1,9 +1,10 @@
 -- Rows of what each signal leads to and reads.
-use Rattle.std.proofs.Common.{◌≡◌, inl, inr, ℕ, zero, suc, ◌+◌, ◌<◌, ◌≤◌, List, [], ◌∷◌, ◌++◌, length, take, map, replicate, get_or, refl, sym, ap, ◌∙◌, subst, arith, pos}
+use Rattle.std.proofs.Common.{◌≡◌, inl, inr, ℕ, zero, suc, ◌+◌, ◌<◌, ◌≤◌, List, [], ◌∷◌, ◌++◌, length, take, map, replicate, get_or, refl, sym, ap, ◌∙◌, subst}
+use Rattle.std.proofs.Common.{arith, pos}
 use Rattle.std.specs.Prelude.{nat_lt, ◌↔◌}
 use Rattle.std.proofs.lemmas.Bool.{cases_lt, cond-true, cond-false, lt-ltb, le-ltb}
-use Rattle.std.proofs.lemmas.List.{length_push, get_or_push, get_or_append_left, get_or_past, get_or_default, get_or_read}
-use Rattle.std.proofs.lemmas.List.Elements.{All-get_or, All-take, All-weaker}
+use Rattle.std.proofs.lemmas.List.{length-map, length_push, get_or_push, get_or_append_left, get_or_past, get_or_default}
+use Rattle.std.proofs.lemmas.List.Elements.{All-get_or, All-take}
 use mathlib.Core.Path.{fun_ext}
 use Rattle.fv_num.specs.Words.{inputs_of}
 use Rattle.fv_signal.specs.declared.signal.Signal.{Signal}
@@ -15,7 +16,7 @@ use Rattle.fv_analysis.specs.Stands.{node, stand}
 use Rattle.fv_analysis.proofs.StandLemmas.{standing, Itself, Another, stands_well}
 use Rattle.fv_plan.specs.Separated.{operands, found_from, links_of, ReadsSignal}
 use Rattle.fv_plan.proofs.FitsLemmas.{map_get}
-use Rattle.fv_lanes.specs.Rows.{AreOver, reads_of, AreRows}
+use Rattle.fv_lanes.specs.Rows.{reads_of, AreRows}
 
 -- ---- lists
 
@@ -46,10 +47,6 @@ rows_are f n rows h none = fun_ext (λ s. elim (cases_lt s n) [
   | inr l ↦ get_or_past rows s [] (omega (arith, h.long)) ∙ sym (none s l)
 ])
 
--- a signal that was read
-pub node_read : (g : Graph) (s n : ℕ) (x : Signal) → s < length g.signals → n ≡ s → x ≡ get_or g.signals n x → x ≡ node g s
-node_read g s n x l e h = get_or_read g.signals s x l (subst (λ m. x ≡ get_or g.signals m x) e h) (signal.Const (pos 0))
-
 -- ---- links
 
 pub links_are : (g : Graph) (s : ℕ) → s < length g.signals → links_of g s ≡ found_from g (node g s)
@@ -76,33 +73,20 @@ operand_below g (signal.Delay x d max) q (suc (suc k)) b l = absurd (omega arith
 operand_below g (signal.Back group i) q k b l = absurd (omega arith)
 operand_below g (signal.Member group i) q k b l = absurd (omega arith)
 
-pub operands_over : (g : Graph) (n : Signal) (q m : ℕ) → q ≤ m → OperandsBelow g q n → AreOver m n
-operands_over g (signal.Input i) q m l b = tt
-operands_over g (signal.Const i) q m l b = tt
-operands_over g (signal.Control i) q m l b = tt
-operands_over g (signal.Point op args) q m l b = All-weaker (λ a. a < q) (λ a. a < m) (λ a k. omega (arith, l, k)) args b
-operands_over g (signal.Delay x d max) q m l b = (omega (arith, b.0), omega (arith, b.1))
-operands_over g (signal.Back group i) q m l b = tt
-operands_over g (signal.Member group i) q m l b = tt
-
-length_map_at : (f : ℕ → ℕ) (ws : List ℕ) → length (map f ws) ≡ length ws
-length_map_at f [] = refl
-length_map_at f (w ∷ ws) = let h = length_map_at f ws in omega (arith, h)
-
 -- what a row leads to is what its signal reads
 pub leads_read : (g : Graph) (q s : ℕ) → (Leads (reads_of g) q s) ↔ ReadsSignal g q s
 leads_read g q s = (to, of)
   where
     at_place : (k : ℕ) → k < length (operands (node g q)) → at (map (stand g) (operands (node g q))) k ≡ stand g (at (operands (node g q)) k)
     at_place k l =
-        get_or_default (map (stand g) (operands (node g q))) k 0 (stand g 0) (omega (arith, length_map_at (stand g) (operands (node g q))))
+        get_or_default (map (stand g) (operands (node g q))) k 0 (stand g 0) (omega (arith, length-map (operands (node g q)) (stand g)))
         ∙ map_get (stand g) (operands (node g q)) k 0
 
     to : Leads (reads_of g) q s → ReadsSignal g q s
     to h = elim (cases_lt q (length g.signals)) [
       | inl l ↦
           let e = reads_are g q l in
-          let w : h.place < length (operands (node g q)) = omega (arith, h.within, ap length e, length_map_at (stand g) (operands (node g q))) in
+          let w : h.place < length (operands (node g q)) = omega (arith, h.within, ap length e, length-map (operands (node g q)) (stand g)) in
           record { within = l; place = h.place; is_operand = w; is = sym (at_place h.place w) ∙ sym (ap (λ xs. at xs h.place) e) ∙ h.is }
       | inr l ↦ let w = subst (λ xs. h.place < length xs) (reads_none g q l) h.within in absurd (omega arith)
     ]
@@ -112,7 +96,7 @@ leads_read g q s = (to, of)
         let e = reads_are g q h.within in
         record {
           place = h.place;
-          within = let w = h.is_operand in omega (arith, w, ap length e, length_map_at (stand g) (operands (node g q)));
+          within = let w = h.is_operand in omega (arith, w, ap length e, length-map (operands (node g q)) (stand g));
           is = ap (λ xs. at xs h.place) e ∙ at_place h.place h.is_operand ∙ h.is;
         }
 

@@ -6,6 +6,7 @@ ghost use Rattle.fv_signal.specs.Rates.{rates as rates_of};
 ghost use Rattle.fv_components.specs.Reach.{at};
 ghost use Rattle.fv_analysis.specs.Stands.{stands_of};
 ghost use Rattle.fv_analysis.specs.Reaching.{IsOver};
+ghost use Rattle.fv_plan.specs.Separated.{IsComputed};
 ghost use Rattle.fv_lanes.specs.Rows.{reads_of};
 ghost use Rattle.fv_lanes.specs.Homes.{bit_at};
 ghost use Rattle.fv_lanes.specs.Readers.{AreReaders};
@@ -80,11 +81,11 @@ fn mark_groups(marks: &mut Vec<bool>, stands: &[SignalId], graph: &Graph)
     }
 }
 
-// It is computed at each sample, and read by many.
-fn is_shared(node: Signal, rate: Rate, reader: Reader) -> bool
-    ensures { IsTrue result ↔ IsSharedBy node rate reader }
+// An operation or a delay.
+pub(crate) fn is_computed(node: Signal) -> bool
+    ensures { IsTrue result ↔ IsComputed node }
 {
-    let computed = match node {
+    match node {
         Signal::Point { op: _, args: _ } => true,
         Signal::Delay { x: _, d: _, max: _ } => true,
         Signal::Input(_) => false,
@@ -92,8 +93,14 @@ fn is_shared(node: Signal, rate: Rate, reader: Reader) -> bool
         Signal::Control(_) => false,
         Signal::Back { group: _, i: _ } => false,
         Signal::Member { group: _, i: _ } => false,
-    };
-    computed && matches!(rate, Rate::Sample) && matches!(reader, Reader::Many)
+    }
+}
+
+// It is computed at each sample, and read by many.
+fn is_shared(node: Signal, rate: Rate, reader: Reader) -> bool
+    ensures { IsTrue result ↔ IsSharedBy node rate reader }
+{
+    is_computed(node) && matches!(rate, Rate::Sample) && matches!(reader, Reader::Many)
 }
 
 // Marks one signal, or none.

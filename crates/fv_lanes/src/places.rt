@@ -11,7 +11,7 @@ ghost use Rattle.fv_lanes.specs.Placed.{ArePlaced};
 ghost use Rattle.fv_lanes.specs.Numbered.{AddsSignal, AreNumbered, AreInner};
 
 use crate::home::homes;
-use crate::mark::separated;
+use crate::mark::{is_computed, separated};
 use crate::rank::ranks;
 use crate::reader::readers;
 use crate::rows::{links, reads};
@@ -98,16 +98,7 @@ fn number(
 fn is_inner(node: Signal, often: Rate, separated: bool) -> bool
     ensures { IsTrue result ↔ (IsComputed node × (often ≡ rate.Sample) × (separated ≡ false)) }
 {
-    let computed = match node {
-        Signal::Point { op: _, args: _ } => true,
-        Signal::Delay { x: _, d: _, max: _ } => true,
-        Signal::Input(_) => false,
-        Signal::Const(_) => false,
-        Signal::Control(_) => false,
-        Signal::Back { group: _, i: _ } => false,
-        Signal::Member { group: _, i: _ } => false,
-    };
-    computed && matches!(often, Rate::Sample) && !separated
+    is_computed(node) && matches!(often, Rate::Sample) && !separated
 }
 
 // Which signals are computed inside the code that reads them.

@@ -4,8 +4,8 @@ ghost use Rattle.std.specs.Prelude.{◌≡◌, ◌<◌, ◌++◌, ◌∷◌, [],
 ghost use Rattle.fv_components.specs.Reach.{at};
 ghost use Rattle.fv_signal.specs.Value.{NamesWithin};
 ghost use Rattle.fv_analysis.specs.Stands.{stands_of};
-ghost use Rattle.fv_plan.specs.Separated.{operands as operands_of, found_from, links_of};
-ghost use Rattle.fv_lanes.specs.Rows.{reads_of, AreRows, AreOver};
+ghost use Rattle.fv_plan.specs.Separated.{operands as operands_of, OperandsWithin, found_from, links_of};
+ghost use Rattle.fv_lanes.specs.Rows.{reads_of, AreRows};
 
 use fv_components::Rows;
 use fv_signal::{Graph, Signal, SignalId};
@@ -62,7 +62,7 @@ fn add_links(rows: &mut Rows, graph: &Graph, node: Signal) -> Result<(), AllocEr
 
 // One row more: what a node reads.
 fn add_reads(rows: &mut Rows, stands: &[SignalId], node: Signal) -> Result<(), AllocError>
-    requires { AreOver (length stands.now) node }
+    requires { OperandsWithin (length stands.now) node }
     ensures { OnOk result (rows.new ≡ rows.old ++ map (at stands.now) (operands_of node) ∷ []) }
 {
     match node {

@@ -1,5 +1,6 @@
 -- Code that fits obeys the values of its lanes' signals.
-use Rattle.std.proofs.Common.{◌≡◌, ℕ, zero, suc, ◌-◌, ◌<◌, ◌≤◌, List, [], ◌∷◌, ◌++◌, length, take, get_or, map, refl, sym, ap, ap₂, ◌∙◌, subst, arith, inl, inr, All, ℤ, pos, negsuc, Bool, true, false, nat_le}
+use Rattle.std.proofs.Common.{◌≡◌, ℕ, zero, suc, ◌-◌, ◌<◌, ◌≤◌, List, [], ◌∷◌, ◌++◌, length, take, get_or, map, refl, sym, ap, ap₂, ◌∙◌, subst, arith, inl, inr}
+use Rattle.std.proofs.Common.{All, ℤ, pos, negsuc, Bool, true, false, nat_le, if◌then◌else◌}
 use Rattle.std.proofs.lemmas.List.{map-append}
 use Rattle.std.proofs.lemmas.List.Elements.{All-head, All-tail, All-take}
 use Rattle.std.proofs.lemmas.Bool.{cond-true, le-leb}
@@ -18,7 +19,8 @@ use Rattle.fv_loopcode.specs.Lanes.{back_by}
 use Rattle.fv_loopcode.specs.Code.{step_value}
 use Rattle.fv_loopcode.specs.Obeys.{Roles, nothing, done_after, StepObeys, Obeys}
 use Rattle.fv_analysis.specs.Stands.{stand, StandsAt}
-use Rattle.fv_plan.specs.Fits.{Mean, Value, Literal, mean_at, Names, LoadFits, OfDelay, OfBack, OfLane, PointFits, OfPoint, OfStill, StepFits, CodeFits, CodesObey}
+use Rattle.fv_plan.specs.Fits.{Mean, Value, Literal, mean_at, Names, LoadFits, OfDelay, OfBack, OfLane, PointFits, OfPoint, OfStill, StepFits, CodeFits}
+use Rattle.fv_plan.specs.Fits.{CodesObey}
 use Rattle.fv_analysis.proofs.StandLemmas.{stands_alike}
 
 -- the delay is the clamp
@@ -80,8 +82,8 @@ module _ (g : Graph) (ordered : IsOrdered g) (p : Names) (r : Roles) (X : List F
   register ms w = map_get meant ms w (Literal (pos 0))
 
   same_stream : (x y : ℕ) → ((u : ℕ) → v x u ≡ v y u) → (b : ℕ) → back (v x) t (pos b) ≡ back (v y) t (pos b)
-  same_stream x y e b = elim (nat_le b t) as (λ q. Rattle.std.specs.Prelude.if◌then◌else◌ q (v x (t - b)) (pos 0) ≡ Rattle.std.specs.Prelude.if◌then◌else◌ q (v y
-      (t - b)) (pos 0)) [ true ↦ e (t - b) | false ↦ refl ]
+  same_stream x y e b =
+      elim (nat_le b t) as (λ q. (if q then v x (t - b) else pos 0) ≡ (if q then v y (t - b) else pos 0)) [ true ↦ e (t - b) | false ↦ refl ]
 
   -- what a step that fits gives, and that it obeys
   record StepGives (done : ℕ → Bool) (ms : List Mean) (s : Step) (m : Mean) : Type 0 where
@@ -170,7 +172,8 @@ module _ (g : Graph) (ordered : IsOrdered g) (p : Names) (r : Roles) (X : List F
       let q : argument (map meant ms) a ≡ v (p.lane l) t = register ms a ∙ ap meant h.2 in
       record { obeys = (h.0, h.1, back_now (v (p.lane l)) t ∙ sym q); gives = q ∙ sym (ap meant h.3) }
 
-  code_obeys : (done : ℕ → Bool) (ms : List Mean) (steps : List Step) → CodeFits g p r done ms steps → Obeys r p.history load held input done (map meant ms) steps
+  code_obeys : (done : ℕ → Bool) (ms : List Mean) (steps : List Step) →
+      CodeFits g p r done ms steps → Obeys r p.history load held input done (map meant ms) steps
   code_obeys done ms [] h = h
   code_obeys done ms (s ∷ ss) h =
       let q = step_gives done ms s h.0 h.1 in (

@@ -1,7 +1,7 @@
 -- What plans do, and what they have.
 use Rattle.std.proofs.Common.{◌≡◌, inl, inr, ℕ, zero, suc, ◌+◌, ◌<◌, ◌≤◌, length, refl, sym, ap, ◌∙◌, subst, arith, Bool, true, false}
 use Rattle.std.specs.Prelude.{◌&&◌, nat_lt, nat_eq}
-use Rattle.std.proofs.lemmas.Bool.{cases_eq, eq-eqb, eqb-true, ne_eqb, lt-ltb, ltb-true}
+use Rattle.std.proofs.lemmas.Bool.{and_parts, and_right, cases_eq, eq-eqb, eqb-true, ne_eqb, lt-ltb, ltb-true}
 use Rattle.fv_num.specs.Frames.{column}
 use Rattle.fv_signal.specs.Value.{Graph, value}
 use Rattle.fv_components.specs.Reach.{at}
@@ -16,7 +16,8 @@ use Rattle.fv_plan.specs.Tasks.{DoesTasks, PlansAreApart, OutputsNeedLoops, Hist
 
 pub plans_do_tasks : (g : Graph) (p : PlanView) → DoesTasks g p
 plans_do_tasks g p s X c start from count rest j held inputs lanes l eh ei ready =
-    tasks_are_done (roles_of p j) (window s.names.history (λ l u. value g (s.names.lane l) X c u) start) (code_of p j) held inputs from count rest lanes obeys ready
+    tasks_are_done (roles_of p j) (window s.names.history (λ l u. value g (s.names.lane l) X c u) start)
+    (code_of p j) held inputs from count rest lanes obeys ready
   where
     obeys : (n : ℕ) → n < count → ObeysAt (roles_of p j) (window s.names.history (λ l u. value g (s.names.lane l) X c u) start) held (inputs (from + n))
         (from + n) (code_of p j)
@@ -35,23 +36,10 @@ pub record Owns (p : PlanView) (j l : ℕ) : Type 0 where
   pub within : l < length p.lanes
   pub is : (lane_info p l).owner ≡ j
 
-and_left : (a b : Bool) → (a && b) ≡ true → a ≡ true
-and_left true b e = refl
-and_left false b e = absurd cc
-
-and_right : (a b : Bool) → (a && b) ≡ true → b ≡ true
-and_right true b e = e
-and_right false b e = absurd cc
-
-and_false : (a b : Bool) → b ≡ false → (a && b) ≡ false
-and_false true b e = e
-and_false false b e = refl
-
 pub owns : (p : PlanView) (j l : ℕ) → (roles_of p j).own l ≡ true → Owns p j l
-owns p j l e = record {
-  within = ltb-true l (length p.lanes) (and_left (nat_lt l (length p.lanes)) (nat_eq (lane_info p l).owner j) e);
-  is = eqb-true (lane_info p l).owner j (and_right (nat_lt l (length p.lanes)) (nat_eq (lane_info p l).owner j) e);
-}
+owns p j l e =
+    let both = and_parts (nat_lt l (length p.lanes)) (nat_eq (lane_info p l).owner j) e in
+    record { within = ltb-true l (length p.lanes) both.0; is = eqb-true (lane_info p l).owner j both.1 }
 
 pub own_of : (p : PlanView) (j l : ℕ) → l < length p.lanes → (lane_info p l).owner ≡ j → (roles_of p j).own l ≡ true
 own_of p j l h e = ap (λ b. b && nat_eq (lane_info p l).owner j) (lt-ltb l (length p.lanes) h) ∙ eq-eqb (lane_info p l).owner j e
@@ -59,7 +47,7 @@ own_of p j l h e = ap (λ b. b && nat_eq (lane_info p l).owner j) (lt-ltb l (len
 pub plans_are_apart : PlansAreApart
 plans_are_apart p r = record {
   one = λ j k l d o.
-      and_false (nat_lt l (length p.lanes)) (nat_eq (lane_info p l).owner k) (ne_eqb (lane_info p l).owner k (λ e. d (sym (owns p j l o).is ∙ e)));
+      and_right (nat_lt l (length p.lanes)) (nat_eq (lane_info p l).owner k) (ne_eqb (lane_info p l).owner k (λ e. d (sym (owns p j l o).is ∙ e)));
   there = λ j l o. (owns p j l o).within;
   loaded = λ j l o.
       let there = r.loaded j l o in

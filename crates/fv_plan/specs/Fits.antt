@@ -34,7 +34,8 @@ pub data LoadFits (g : Graph) (p : Names) (r : Roles) (done : ℕ → Bool) (ms 
       mean_at ms back ≡ Value (stand g d) → max ≤ p.history lane → (r.own lane ≡ true → done lane ≡ true) → m ≡ Value s → LoadFits g p r done ms lane back max m
   OfBack : (s group i : ℕ) → StandsAt g s (signal.Back group i) → definition g group i < length g.signals → stand g (definition g group i) ≡ p.lane lane →
       mean_at ms back ≡ Literal (pos 1) → max ≡ 1 → 1 ≤ p.history lane → m ≡ Value s → LoadFits g p r done ms lane back max m
-  OfLane : back < length ms → mean_at ms back ≡ Literal (pos 0) → max ≡ 0 → r.own lane ≡ false → m ≡ Value (p.lane lane) → LoadFits g p r done ms lane back max m
+  OfLane : back < length ms →
+      mean_at ms back ≡ Literal (pos 0) → max ≡ 0 → r.own lane ≡ false → m ≡ Value (p.lane lane) → LoadFits g p r done ms lane back max m
 
 -- What an operation is for: a signal's own operation, or a delay that never goes back, whose first operand is the greater
 -- one of itself and itself.

@@ -29,7 +29,8 @@ pub record LanesStand (g : Graph) (p : PlanView) (names : Names) : Type 0 where
 -- signal reaches has no greater loop.
 pub record LoopsStand (g : Graph) (p : PlanView) (names : Names) : Type 0 where
   pub together : (l m : ℕ) → l < length p.lanes → m < length p.lanes →
-      ((lane_info p l).owner ≡ (lane_info p m).owner) ↔ (Reaches (links_of g) (names.lane l) (names.lane m) × Reaches (links_of g) (names.lane m) (names.lane l))
+      ((lane_info p l).owner ≡ (lane_info p m).owner) ↔
+      (Reaches (links_of g) (names.lane l) (names.lane m) × Reaches (links_of g) (names.lane m) (names.lane l))
   pub owners : (l : ℕ) → l < length p.lanes → (lane_info p l).owner < p.loops
   pub some : (j : ℕ) → j < p.loops → (l : ℕ) × (l < length p.lanes) × ((lane_info p l).owner ≡ j)
   pub order : (l m : ℕ) → l < length p.lanes → m < length p.lanes → Reaches (links_of g) (names.lane l) (names.lane m) →

@@ -1,5 +1,5 @@
 -- The separated signals of a graph, which have lanes, and what each signal reads and reaches (this project's profile).
-use Rattle.std.specs.Prelude.{◌≡◌, ◌≢◌, ℕ, ◌<◌, ◌≤◌, List, [], ◌∷◌, length, take, slice_index_or, Option, None, nat_lt, if◌then◌else◌}
+use Rattle.std.specs.Prelude.{◌≡◌, ◌≢◌, ℕ, ◌<◌, ◌≤◌, List, [], ◌∷◌, length, take, slice_index_or, Option, None, nat_lt, if◌then◌else◌, All}
 use Rattle.fv_num.specs.Words.{inputs_of}
 use Rattle.fv_signal.specs.declared.signal.Signal.{Signal}
 use Rattle.fv_signal.specs.declared.signal.Signal.TheVariants.{Input, Const, Control, Point, Delay, Back, Member}
@@ -18,6 +18,16 @@ operands (Point op args) = take (inputs_of op) args
 operands (Delay x d max) = x ∷ d ∷ []
 operands (Back group i) = []
 operands (Member group i) = []
+
+-- the operands of a node are below n
+abbrev pub OperandsWithin : (n : ℕ) → Signal → Type 0
+OperandsWithin n (Input i) = Unit {0}
+OperandsWithin n (Const z) = Unit {0}
+OperandsWithin n (Control k) = Unit {0}
+OperandsWithin n (Point op args) = All (λ a. a < n) args
+OperandsWithin n (Delay x d max) = (x < n) × (d < n)
+OperandsWithin n (Back group i) = Unit {0}
+OperandsWithin n (Member group i) = Unit {0}
 
 -- what a node leads to in one step: what it reads, and what the member is defined as that a Back or a Member names
 abbrev pub found_from : Graph → Signal → List ℕ

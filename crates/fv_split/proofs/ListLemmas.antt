@@ -46,7 +46,8 @@ bases_more g stands rates lanes numbers n bases new k h e is = record {
   ];
 }
 
-pub kinds_more : (bases : List Kind) (lanes : List (Option ℕ)) (n : ℕ) (kinds new : List Kind) (k : Kind) → AreKinds bases lanes n kinds → new ≡ kinds ++ k ∷ [] →
+pub kinds_more : (bases : List Kind) (lanes : List (Option ℕ)) (n : ℕ) (kinds new : List Kind) (k : Kind) →
+    AreKinds bases lanes n kinds → new ≡ kinds ++ k ∷ [] →
     k ≡ kind_with (kind_of bases n) (lane_at lanes n) → AreKinds bases lanes (n + 1) new
 kinds_more bases lanes n kinds new k h e is = record {
   long = omega (arith, ap length e, length_push kinds k, h.long);
@@ -79,6 +80,11 @@ coded_more codes n all new x h e is = record {
     | inr m ↦ let z : j ≡ n = omega arith in get_or_push all x [] j (h.long ∙ sym z) ∙ is ∙ ap (code_in codes) (sym z)
   ];
 }
+
+-- the steps behind the first codes
+pub code_behind : (front rest : List (Vec Step Global)) (v : Vec Step Global) → code_in (front ++ v ∷ rest) (length front) ≡ v.items
+code_behind [] rest v = refl
+code_behind (c ∷ cs) rest v = code_behind cs rest v
 
 -- ---- the same of equal tables
 

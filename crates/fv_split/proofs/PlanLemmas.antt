@@ -1,9 +1,10 @@
 -- The parts that the passes make are a plan of the graph.
-use Rattle.std.proofs.Common.{◌≡◌, ◌≢◌, ◌⊎◌, inl, inr, ℕ, zero, suc, ◌+◌, ◌*◌, ◌<◌, ◌≤◌, List, [], ◌∷◌, length, map, get_or, refl, sym, ap, ap₂, ◌∙◌, subst, arith, pos, ℤ, Bool, true, false}
+use Rattle.std.proofs.Common.{◌≡◌, ◌≢◌, ◌⊎◌, inl, inr, ℕ, zero, suc, ◌+◌, ◌*◌, ◌<◌, ◌≤◌, List, [], ◌∷◌, length, map, get_or, refl, sym, ap, ap₂, ◌∙◌, subst}
+use Rattle.std.proofs.Common.{arith, pos, ℤ, Bool, true, false}
 use Rattle.std.specs.Prelude.{All, Vec, Option, None, Some, unwrap_or, nat_lt, nat_eq, ◌==◌, ◌&&◌, ◌↔◌}
 use Rattle.std.specs.declared.alloc.Global.{Global}
 use Rattle.std.proofs.lemmas.Bool.{cases_lt, lt-ltb, le-ltb}
-use Rattle.std.proofs.lemmas.List.{get_or_default}
+use Rattle.std.proofs.lemmas.List.{get_or_default, length-map}
 use Rattle.std.proofs.lemmas.List.Elements.{All-get_or, All-from_get_or, All-nil}
 use Rattle.std.proofs.lemmas.Option.{slice_get_past}
 use Rattle.fv_base.proofs.Lists.{length_table, get_or_table, table_items, map_table}
@@ -39,10 +40,6 @@ use Rattle.fv_split.proofs.SuitLemmas.{Passes, tables_of, names_of, lower_loaded
 
 map_items : (f : ℕ → ℤ) (xs : List ℕ) → map f xs ≡ table (length xs) (λ k. f (at xs k))
 map_items f xs = ap (map f) (sym (table_items xs 0)) ∙ map_table f (length xs) (λ i. get_or xs i 0)
-
-length_map_at : (f : ℕ → ℕ) (ws : List ℕ) → length (map f ws) ≡ length ws
-length_map_at f [] = refl
-length_map_at f (w ∷ ws) = let h = length_map_at f ws in omega (arith, h)
 
 module _ (g : Graph) (p : Places) (stands : Vec ℕ Global) (bases kinds : Vec Kind Global) (numbers : List ℕ) (steps : List Step)
     (passes : Passes g p stands bases kinds numbers steps)
@@ -107,7 +104,8 @@ module _ (g : Graph) (p : Places) (stands : Vec ℕ Global) (bases kinds : Vec K
 
     -- ---- lanes
 
-    info : (l : ℕ) → l < length signals → lane_info plan l ≡ record { owner = at owners l; history = at (table (length g.signals) (history_of g)) (at signals l) }
+    info : (l : ℕ) →
+        l < length signals → lane_info plan l ≡ record { owner = at owners l; history = at (table (length g.signals) (history_of g)) (at signals l) }
     info l m = are_infos.each l (record { owner = 0; history = 0 }) m
 
     owner_is : (l : ℕ) → l < length signals → (lane_info plan l).owner ≡ at owners l
@@ -211,11 +209,12 @@ module _ (g : Graph) (p : Places) (stands : Vec ℕ Global) (bases kinds : Vec K
       histories = λ l m. sym (history_is l (lane_within l m));
       obeys = λ j l X c t. codes_obey g graph.ordered names (roles_of plan j) (code_of plan j) (fits_plan j l) X c t;
       held = λ X c t controls same.
-          held.values X c t controls same ∙ map_items (λ q. value g q X c t) held.signals ∙ ap (λ n. table n (λ k. value g (at held.signals k) X c t)) held.long;
+          held.values X c t controls same
+          ∙ map_items (λ q. value g q X c t) held.signals ∙ ap (λ n. table n (λ k. value g (at held.signals k) X c t)) held.long;
       counted = refl;
       steady = held.steady;
       outputs = (
-        ap length are_outputs ∙ length_map_at (lane_of (stands_of g) p.lanes.items) g.outputs,
+        ap length are_outputs ∙ length-map g.outputs (lane_of (stands_of g) p.lanes.items),
         λ j l. ap (at signals) (output_is j l) ∙ (lane_stands (at g.outputs j) (graph.outputs j l) (AsOutput j l refl)).1,
       );
       ends = λ j l. (
@@ -228,7 +227,7 @@ module _ (g : Graph) (p : Places) (stands : Vec ℕ Global) (bases kinds : Vec K
         output_is j l =
             ap (λ xs. at xs j) are_outputs
             ∙ get_or_default (map (lane_of (stands_of g) p.lanes.items) g.outputs) j 0 (lane_of (stands_of g) p.lanes.items 0)
-            (omega (arith, l, length_map_at (lane_of (stands_of g) p.lanes.items) g.outputs))
+            (omega (arith, l, length-map g.outputs (lane_of (stands_of g) p.lanes.items)))
             ∙ map_get (lane_of (stands_of g) p.lanes.items) g.outputs j 0
 
     -- ---- reads
@@ -264,7 +263,8 @@ module _ (g : Graph) (p : Places) (stands : Vec ℕ Global) (bases kinds : Vec K
           omega (arith, w, are_infos.long, owned);
     }
       where
-        to : (j i : ℕ) → reads_loop reads j i ≡ true → (i ≢ j) × (l : ℕ) × (l < length infos) × ((roles_of plan j).loaded l ≡ true) × ((lane_info plan l).owner ≡ i)
+        to : (j i : ℕ) →
+            reads_loop reads j i ≡ true → (i ≢ j) × (l : ℕ) × (l < length infos) × ((roles_of plan j).loaded l ≡ true) × ((lane_info plan l).owner ≡ i)
         to j i e =
             let k = reads_sound j i e in
             let w = (loaded_low j k.loads.lane k.loads.loads).1.within in
@@ -277,7 +277,8 @@ module _ (g : Graph) (p : Places) (stands : Vec ℕ Global) (bases kinds : Vec K
                   ∙ k.loads.owner,
             )
 
-        of : (j i : ℕ) → (i ≢ j) × (l : ℕ) × (l < length infos) × ((roles_of plan j).loaded l ≡ true) × ((lane_info plan l).owner ≡ i) → reads_loop reads j i ≡ true
+        of : (j i : ℕ) →
+            (i ≢ j) × (l : ℕ) × (l < length infos) × ((roles_of plan j).loaded l ≡ true) × ((lane_info plan l).owner ≡ i) → reads_loop reads j i ≡ true
         of j i h =
             let e = sym (ap (loads_lane h.1) (code_is j)) ∙ h.3 in
             let m = (loaded_low j h.1 e).0 in

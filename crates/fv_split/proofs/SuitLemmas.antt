@@ -1,8 +1,9 @@
 -- The tables that the passes make suit the graph.
-use Rattle.std.proofs.Common.{◌≡◌, ◌≢◌, ◌⊎◌, inl, inr, ℕ, zero, suc, ◌<◌, ◌≤◌, List, [], ◌∷◌, length, get_or, refl, sym, ap, ap₂, ◌∙◌, subst, arith, ℤ, pos, Bool, true, false}
+use Rattle.std.proofs.Common.{◌≡◌, ◌≢◌, ◌⊎◌, inl, inr, ℕ, zero, suc, ◌<◌, ◌≤◌, List, [], ◌∷◌, length, get_or, refl, sym, ap, ap₂, ◌∙◌, subst, arith, ℤ, pos}
+use Rattle.std.proofs.Common.{Bool, true, false}
 use Rattle.std.specs.Prelude.{Vec, Option, None, Some, unwrap_or, nat_lt, nat_le, nat_eq, ◌&&◌}
 use Rattle.std.specs.declared.alloc.Global.{Global}
-use Rattle.std.proofs.lemmas.Bool.{lt-ltb, ltb-true, le-leb, leb-true, eq-eqb, eqb-true}
+use Rattle.std.proofs.lemmas.Bool.{and_parts, lt-ltb, ltb-true, le-leb, leb-true, eq-eqb, eqb-true}
 use Rattle.std.proofs.lemmas.List.Elements.{All-from_get_or}
 use Rattle.fv_signal.specs.declared.signal.Signal.{Signal}
 use Rattle.fv_signal.specs.declared.signal.Signal.TheVariants as signal
@@ -45,29 +46,19 @@ pub record InLoop (owners : List ℕ) (j l : ℕ) : Type 0 where
   pub within : l < length owners
   pub is : at owners l ≡ j
 
-and_left : (a b : Bool) → (a && b) ≡ true → a ≡ true
-and_left true b e = refl
-and_left false b e = absurd cc
-
-and_right : (a b : Bool) → (a && b) ≡ true → b ≡ true
-and_right true b e = e
-and_right false b e = absurd cc
-
 pub in_loop : (owners : List ℕ) (j l : ℕ) → owned_by owners j l ≡ true → InLoop owners j l
-in_loop owners j l e = record {
-  within = ltb-true l (length owners) (and_left (nat_lt l (length owners)) (nat_eq (at owners l) j) e);
-  is = eqb-true (at owners l) j (and_right (nat_lt l (length owners)) (nat_eq (at owners l) j) e);
-}
+in_loop owners j l e =
+    let both = and_parts (nat_lt l (length owners)) (nat_eq (at owners l) j) e in
+    record { within = ltb-true l (length owners) both.0; is = eqb-true (at owners l) j both.1 }
 
 pub record MayLoad (owners : List ℕ) (j l : ℕ) : Type 0 where
   pub within : l < length owners
   pub lower : at owners l ≤ j
 
 pub may_load : (owners : List ℕ) (j l : ℕ) → (lower_loaded owners j).loaded l ≡ true → MayLoad owners j l
-may_load owners j l e = record {
-  within = ltb-true l (length owners) (and_left (nat_lt l (length owners)) (nat_le (at owners l) j) e);
-  lower = leb-true (at owners l) j (and_right (nat_lt l (length owners)) (nat_le (at owners l) j) e);
-}
+may_load owners j l e =
+    let both = and_parts (nat_lt l (length owners)) (nat_le (at owners l) j) e in
+    record { within = ltb-true l (length owners) both.0; lower = leb-true (at owners l) j both.1 }
 
 -- what the passes say of their tables
 pub record Passes (g : Graph) (p : Places) (stands : Vec ℕ Global) (bases kinds : Vec Kind Global) (numbers : List ℕ) (steps : List Step) : Type 0 where
@@ -214,7 +205,8 @@ module _ (g : Graph) (p : Places) (stands : Vec ℕ Global) (bases kinds : Vec K
       slow : (n : Signal) → node g s ≡ n → rate_of g s ≡ rate_in (rate_of g) n
       slow n e = rate_is g ordered s (signal.Const (pos 0)) l ∙ ap (rate_in (rate_of g)) e
 
-      inner : (n : Signal) → node g s ≡ n → rate_of g s ≡ rate.Sample → (IsNoMember n → IsComputed n) → sample_base g (stands_of g) lanes n ≡ kind.Inner → Based s
+      inner : (n : Signal) →
+          node g s ≡ n → rate_of g s ≡ rate.Sample → (IsNoMember n → IsComputed n) → sample_base g (stands_of g) lanes n ≡ kind.Inner → Based s
       inner n e r c b = AsInner r (λ k. subst IsComputed (sym e) (c (subst IsNoMember e k))) (plain n e r ∙ b)
 
       at_node : (n : Signal) → node g s ≡ n → rate_of g s ≡ rate.Sample → Based s
@@ -341,7 +333,8 @@ module _ (g : Graph) (p : Places) (stands : Vec ℕ Global) (bases kinds : Vec K
     lanes = placed.lanes.long;
     homes = placed.homes.long;
     within = All-from_get_or (λ s. s < count) stands.items 0 (λ s m. let z = stand_within s (omega (arith, stands_long)) in omega (arith, z, stand_at s));
-    base_lanes = All-from_get_or (IsKindWithin (length owners)) bases.items kind.Inner (λ s m. kind_within (base s) (base_fits s (omega (arith, bases_long))).1);
+    base_lanes =
+        All-from_get_or (IsKindWithin (length owners)) bases.items kind.Inner (λ s m. kind_within (base s) (base_fits s (omega (arith, bases_long))).1);
     kind_lanes = All-from_get_or (IsKindWithin (length owners)) kinds.items kind.Inner (λ s m. lane_within s (omega (arith, kinds_long)));
   }
 

@@ -1,8 +1,9 @@
 -- What is told is just what the codes load, each once.
-use Rattle.std.proofs.Common.{◌≡◌, ◌≢◌, ◌⊎◌, inl, inr, ℕ, zero, suc, ◌+◌, ◌*◌, ◌<◌, ◌≤◌, List, [], ◌∷◌, ◌++◌, length, get_or, refl, sym, ap, ap₂, ◌∙◌, subst, arith, Bool, true, false}
+use Rattle.std.proofs.Common.{◌≡◌, ◌≢◌, ◌⊎◌, inl, inr, ℕ, zero, suc, ◌+◌, ◌*◌, ◌<◌, ◌≤◌, List, [], ◌∷◌, ◌++◌, length, get_or, refl, sym, ap, ap₂, ◌∙◌, subst}
+use Rattle.std.proofs.Common.{arith, Bool, true, false}
 use Rattle.std.specs.Prelude.{All, Vec, Option, None, Some, replicate, slice_set, nat_eq, if◌then◌else◌, ◌==◌, ◌&&◌, ◌||◌, ◌↔◌}
 use Rattle.std.specs.declared.alloc.Global.{Global}
-use Rattle.std.proofs.lemmas.Bool.{cases_eq, eq-eqb, eqb-true, ne_eqb, cond-true, cond-false}
+use Rattle.std.proofs.lemmas.Bool.{and_parts, cases_eq, eq-eqb, eqb-true, ne_eqb, cond-true, cond-false}
 use Rattle.std.proofs.lemmas.List.{length-set, length-replicate, get_or-set_same, get_or-set_other}
 use Rattle.std.proofs.lemmas.List.Elements.{All-head, All-tail, All-get_or}
 use Rattle.fv_outside.specs.declared.tasks.Reads.{Reads}
@@ -76,7 +77,8 @@ pub record IsTold (P : ℕ → ℕ → Type 0) (j loops : ℕ) (t : Told) : Type
   pub before : (i r : ℕ) → lane_at t.last i ≡ Some r → r ≤ j
 
 -- the same pairs, said otherwise
-same_told : (P Q : ℕ → ℕ → Type 0) (j loops : ℕ) (t : Told) → ((r i : ℕ) → P r i → Q r i) → ((r i : ℕ) → Q r i → P r i) → IsTold P j loops t → IsTold Q j loops t
+same_told : (P Q : ℕ → ℕ → Type 0) (j loops : ℕ) (t : Told) →
+    ((r i : ℕ) → P r i → Q r i) → ((r i : ℕ) → Q r i → P r i) → IsTold P j loops t → IsTold Q j loops t
 same_told P Q j loops t f h k = record {
   long = k.long;
   sound = λ r i e. f r i (k.sound r i e);
@@ -154,18 +156,10 @@ module _ (P : ℕ → ℕ → Type 0) (j i loops : ℕ) (t : Told) (h : IsTold P
           ∙ or_true (reads_loop t.reads j i)
 
       is_reader : (r k : ℕ) → is_pair r k pair ≡ true → r ≡ j
-      is_reader r k e = sym (eqb-true j r (left_of (j == r) (i == k) e))
-        where
-          left_of : (a b : Bool) → (a && b) ≡ true → a ≡ true
-          left_of true b e = refl
-          left_of false b e = absurd cc
+      is_reader r k e = sym (eqb-true j r (and_parts (j == r) (i == k) e).0)
 
       is_source : (r k : ℕ) → is_pair r k pair ≡ true → k ≡ i
-      is_source r k e = sym (eqb-true i k (right_of (j == r) (i == k) e))
-        where
-          right_of : (a b : Bool) → (a && b) ≡ true → b ≡ true
-          right_of true b e = e
-          right_of false b e = absurd cc
+      is_source r k e = sym (eqb-true i k (and_parts (j == r) (i == k) e).1)
 
       left : (k : ℕ) → k ≢ i → reads_loop t.reads j k || is_pair j k pair ≡ true → reads_loop t.reads j k ≡ true
       left k z e = elim (or_cases (reads_loop t.reads j k) (is_pair j k pair) e) [ inl y ↦ y | inr y ↦ absurd (z (is_source j k y)) ]
@@ -204,7 +198,8 @@ module _ (P : ℕ → ℕ → Type 0) (j i loops : ℕ) (t : Told) (h : IsTold P
           ∙ or_true (nat_eq i j))))
           (known (λ z. h.marks i e))
       go d false e =
-          subst (IsTold (WithSource P j i) j loops) (sym (cond-false (nat_eq i j || was_told (lane_at t.last i) j) t more (ap₂ (λ a b. a || b) (ne_eqb i j d) e)))
+          subst (IsTold (WithSource P j i) j loops)
+          (sym (cond-false (nat_eq i j || was_told (lane_at t.last i) j) t more (ap₂ (λ a b. a || b) (ne_eqb i j d) e)))
           (told_now d e)
 
 -- ---- the steps of a loop
@@ -235,9 +230,11 @@ module _ (owners : List ℕ) (j loops : ℕ) (owned : All (λ k. k < loops) owne
     | inr y ↦ absurd (let z : false ≡ true =
         y.2.loads in cc)
   ]) h
-  steps_told P (step.Number n ∷ ss) t a h = skip P (step.Number n) ss _ (λ l. refl) (steps_told P ss t (All-tail (NamesLane (length owners)) (step.Number n) ss a) h)
+  steps_told P (step.Number n ∷ ss) t a h =
+      skip P (step.Number n) ss _ (λ l. refl) (steps_told P ss t (All-tail (NamesLane (length owners)) (step.Number n) ss a) h)
   steps_told P (step.Held n ∷ ss) t a h = skip P (step.Held n) ss _ (λ l. refl) (steps_told P ss t (All-tail (NamesLane (length owners)) (step.Held n) ss a) h)
-  steps_told P (step.Input n ∷ ss) t a h = skip P (step.Input n) ss _ (λ l. refl) (steps_told P ss t (All-tail (NamesLane (length owners)) (step.Input n) ss a) h)
+  steps_told P (step.Input n ∷ ss) t a h =
+      skip P (step.Input n) ss _ (λ l. refl) (steps_told P ss t (All-tail (NamesLane (length owners)) (step.Input n) ss a) h)
   steps_told P (step.Point op args ∷ ss) t a h = skip P (step.Point op args) ss _ (λ l. refl) (steps_told P ss t (All-tail (NamesLane (length owners))
       (step.Point op args) ss a) h)
   steps_told P (step.Append lane value ∷ ss) t a h = skip P (step.Append lane value) ss _ (λ l. refl) (steps_told P ss t (All-tail (NamesLane (length owners))
@@ -253,7 +250,11 @@ module _ (owners : List ℕ) (j loops : ℕ) (owned : All (λ k. k < loops) owne
       (λ r k q. elim q [
         | inl y ↦ elim y [
           | inl z ↦ inl z
-          | inr z ↦ inr (z.0, (λ e. z.2 (sym z.1 ∙ e)), record { lane = lane; loads = ap (λ b. b || loads_lane lane ss) (eq-eqb lane lane refl); owner = sym z.1 })
+          | inr z ↦ inr (
+            z.0,
+            (λ e. z.2 (sym z.1 ∙ e)),
+            record { lane = lane; loads = ap (λ b. b || loads_lane lane ss) (eq-eqb lane lane refl); owner = sym z.1 },
+          )
         ]
         | inr y ↦ inr (
           y.0,

@@ -1,11 +1,10 @@
-use Rattle.std.proofs.Common.{◌≡◌, ◌+◌, suc, length, sym, ◌∙◌, subst, ap, arith, set, pos, get_or}
+use Rattle.std.proofs.Common.{◌≡◌, ◌+◌, suc, length, sym, ◌∙◌, subst, ap, arith, set}
 use Rattle.std.proofs.lemmas.List.{get_or_read, length-set}
-use Rattle.fv_signal.specs.declared.signal.Signal.TheVariants as signal
-use Rattle.fv_signal.specs.Value.{OperandsBelow}
 use Rattle.fv_components.specs.Reach.{at}
 use Rattle.fv_analysis.specs.Stands.{StandsAt}
+use Rattle.fv_plan.proofs.NodeLemmas.{node_read, operands_within}
 use Rattle.fv_emit.specs.Emitted.{AllServe, AddsNow, code_in}
-use Rattle.fv_emit.proofs.AddLemmas.{all_serve_more, all_serve_none, all_serve_begins, all_serve_ends, code_read, within_of}
+use Rattle.fv_emit.proofs.AddLemmas.{all_serve_more, all_serve_none, all_serve_begins, all_serve_ends, code_read}
 use Rattle.fv_emit.proofs.emit.codes.Goals.{then-own-loops+in_ok-add, else-own-loops}
 use Rattle.fv_emit.proofs.emit.codes.Goals as goal
 
@@ -33,8 +32,7 @@ loop-s-preserved c =
           let node = w.signal-node.result in
           let stands : StandsAt g s node = record {
             within = omega arith;
-            is = sym (get_or_read g.signals s node (omega arith) (subst (λ n. node ≡ get_or g.signals n node) w.new.ensures w.signal-node.ensures.node)
-                (signal.Const (pos 0)));
+            is = sym (node_read g s w.new.result node (omega arith) w.new.ensures w.signal-node.ensures.node);
           } in
           record {
             long = ap length codes ∙ length-set c.loop-s.codes.items own w.add.new.code ∙ c.loop-s.invariant.long;
@@ -44,8 +42,8 @@ loop-s-preserved c =
                 subst (λ n. AllServe g t c.args.loops n c.if-own-loops.registers.items c.if-own-loops.codes.items) z
                 (subst (λ cs. AllServe g t c.args.loops (suc s) c.if-own-loops.registers.items cs) (sym codes)
                 (subst (λ rs. AllServe g t c.args.loops (suc s) rs (set c.loop-s.codes.items own w.add.new.code)) (sym registers)
-                (all_serve_more g t c.args.loops s own c.loop-s.registers.items w.add.new.registers.items c.loop-s.codes.items w.add.new.code node w.if-own-loops.true
-                c.loop-s.invariant.long stands c.loop-s.invariant.registers home
+                (all_serve_more g t c.args.loops s own c.loop-s.registers.items w.add.new.registers.items c.loop-s.codes.items w.add.new.code node
+                w.if-own-loops.true c.loop-s.invariant.long stands c.loop-s.invariant.registers home
                 (subst (λ old. AddsNow t own s node c.loop-s.registers.items old w.add.new.registers.items w.add.new.code.items) read w.in_ok-add.ensures)
                 c.loop-s.invariant.serve)));
           }

@@ -28,5 +28,6 @@ returns c = IfOk-weaker c.push.result _ _ (λ w h.
     ∙ ap (λ k. take k (map (at t.stands.items) c.args.args)) c.inputs-n.ensures)
     c.stood-signals.ensures.four c.in_ok-found.ensures.0 (at_most_four c.args.op) (some_inputs c.args.op)
     (subst (λ ks. MeanNow ks regs old mid those found (length those) (owned_by t.owners.items c.args.own)) c.deref-2.ensures.value
-    (subst (λ os. MeanNow c.deref-2.result.now regs old mid those found (length those) (owned_by os c.args.own)) c.deref-3.ensures.value c.in_ok-found.ensures.1))
+    (subst (λ os. MeanNow c.deref-2.result.now regs old mid those found (length those) (owned_by os c.args.own)) c.deref-3.ensures.value
+    c.in_ok-found.ensures.1))
     h.1 h.0) c.push.ensures

@@ -1,9 +1,8 @@
-use Rattle.std.proofs.Common.{◌≡◌, ◌+◌, suc, [], length, get_or, sym, ap, ◌∙◌, subst, arith, pos}
-use Rattle.std.proofs.lemmas.List.{get_or_read}
-use Rattle.fv_signal.specs.declared.signal.Signal.TheVariants as signal
+use Rattle.std.proofs.Common.{◌≡◌, ◌+◌, suc, [], length, sym, ap, ◌∙◌, subst, arith}
 use Rattle.fv_signal.specs.Rates.{rate_in, rate_at}
 use Rattle.fv_signal.proofs.Grown.{length_grown}
 use Rattle.fv_analysis.specs.Stands.{StandsAt}
+use Rattle.fv_plan.proofs.NodeLemmas.{node_read}
 use Rattle.fv_emit.proofs.HoldLemmas.{AreHeld, holds_if}
 use Rattle.fv_emit.proofs.holding.held_code.Goals as goal
 
@@ -19,10 +18,10 @@ loop-s-preserved c =
     let node = c.signal-node.result in
     let stands : StandsAt g s node = record {
       within = omega arith;
-      is = sym (get_or_read g.signals s node (omega arith) (subst (λ n. node ≡ get_or g.signals n node) c.new.ensures c.signal-node.ensures.node) (signal.Const (pos 0)));
+      is = sym (node_read g s c.new.result node (omega arith) c.new.ensures c.signal-node.ensures.node);
     } in
     let rate = c.get-rate.ensures ∙ ap (rate_at c.args.rates.now) c.new-in-loop-s.ensures ∙ ap (λ rs. rate_at rs s) c.requires.rates in
     let z : suc s ≡ s + 1 = omega arith in
     subst (λ n. AreHeld g n c.hold_if.new.numbers.items c.hold_if.new.steps.items) z
-    (holds_if g c.requires.ordered s node c.get-rate.result c.loop-s.numbers.items c.loop-s.steps.items c.hold_if.new.numbers.items c.hold_if.new.steps.items stands rate
-    c.in_ok-hold_if.ensures c.loop-s.invariant)
+    (holds_if g c.requires.ordered s node c.get-rate.result c.loop-s.numbers.items c.loop-s.steps.items
+    c.hold_if.new.numbers.items c.hold_if.new.steps.items stands rate c.in_ok-hold_if.ensures c.loop-s.invariant)

@@ -25,7 +25,8 @@ loop-k-preserved c =
     All-get_or (λ s. s < length c.args.registers.now) c.args.signals.now c.loop-k.k 0 c.loop-k-test.true c.requires.signals in
     record {
       found = found_more c.loop-k.found c.loop-k.k c.in_ok-register.register c.loop-k.invariant.found;
-      mean = mean_more c.args.kinds.now c.args.registers.now c.args.code.now.items c.loop-k.code.items c.operand.new.code.items c.args.signals.now c.loop-k.found
+      mean =
+          mean_more c.args.kinds.now c.args.registers.now c.args.code.now.items c.loop-k.code.items c.operand.new.code.items c.args.signals.now c.loop-k.found
           c.loop-k.k c.in_ok-register.register own (omega (arith, four)) c.loop-k.invariant.mean
           (of_kind c.args.registers.now c.loop-k.code.items c.operand.new.code.items signal c.in_ok-register.register _ (get_or c.args.kinds.now signal
           (kind.Number (pos 0))) own

@@ -48,4 +48,5 @@ loop-s-preserved c =
 pub returns : goal.returns
 returns c =
     let z : c.loop-s.s ≡ 0 = omega arith in
-    subst (λ k. AreHomesFrom (next_of c.args.reads.now) (bit_at c.args.inner.now) c.args.owners.now c.args.loops k c.loop-s.homes.items) z c.loop-s.invariant.homes
+    subst (λ k. AreHomesFrom (next_of c.args.reads.now) (bit_at c.args.inner.now) c.args.owners.now c.args.loops k c.loop-s.homes.items)
+    z c.loop-s.invariant.homes

@@ -1,6 +1,6 @@
 use Rattle.std.proofs.Common.{subst, arith}
 use Rattle.fv_lanes.specs.Marked.{Marks, DelaysTo, Delayed}
-use Rattle.fv_lanes.proofs.RowLemmas.{node_read}
+use Rattle.fv_plan.proofs.NodeLemmas.{node_read}
 use Rattle.fv_lanes.proofs.MarkLemmas.{marks_more}
 use Rattle.fv_lanes.proofs.mark.mark_delays.Goals as goal
 

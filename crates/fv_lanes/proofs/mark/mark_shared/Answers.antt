@@ -4,7 +4,7 @@ use Rattle.fv_signal.specs.Rates.{rate_at}
 use Rattle.fv_analysis.specs.Stands.{node}
 use Rattle.fv_lanes.specs.Readers.{reader_at}
 use Rattle.fv_lanes.specs.Marked.{Shared, IsSharedBy}
-use Rattle.fv_lanes.proofs.RowLemmas.{node_read}
+use Rattle.fv_plan.proofs.NodeLemmas.{node_read}
 use Rattle.fv_lanes.proofs.MarkLemmas.{marks_more, marks_where}
 use Rattle.fv_lanes.proofs.mark.mark_shared.Goals as goal
 

@@ -5,7 +5,7 @@ use Rattle.fv_signal.specs.Rates.{rate_at}
 use Rattle.fv_analysis.specs.Stands.{node}
 use Rattle.fv_plan.specs.Separated.{IsComputed}
 use Rattle.fv_lanes.specs.Homes.{bit_at}
-use Rattle.fv_lanes.proofs.RowLemmas.{node_read}
+use Rattle.fv_plan.proofs.NodeLemmas.{node_read}
 use Rattle.fv_lanes.proofs.NumberLemmas.{inner_more}
 use Rattle.fv_lanes.proofs.places.inner.Goals as goal
 

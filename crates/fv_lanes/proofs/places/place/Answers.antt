@@ -75,7 +75,8 @@ returns c =
     (λ bs. AreRanks c.deref-2.result.now bs ranks) c.deref-3.ensures.value c.in_ok-ranks.ensures) in
     let last : c.len.result ≡ length marks = omega (arith, c.len.ensures, c.in_ok-marks.marks.ok.0) in
     let is : loops ≡ at ranks (length marks) =
-    get_or_read ranks c.len.result loops (omega (arith, last, ranked.long, found.long, c.in_ok-marks.ensures.long)) c.index-loops.ensures 0 ∙ ap (at ranks) last in
+    get_or_read ranks c.len.result loops (omega (arith, last, ranked.long, found.long, c.in_ok-marks.ensures.long)) c.index-loops.ensures 0
+    ∙ ap (at ranks) last in
     let numbered = subst (λ bs. AreNumbered bs numbers ranks numbering) c.deref-4.ensures.value
     (subst (λ xs. AreNumbered c.deref-4.result.now xs ranks numbering) c.deref-5.ensures.value
     (subst (λ xs. AreNumbered c.deref-4.result.now c.deref-5.result.now xs numbering) c.deref-6.ensures.value c.in_ok-numbering.ensures)) in

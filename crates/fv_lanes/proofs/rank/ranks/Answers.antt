@@ -6,6 +6,9 @@ use Rattle.fv_lanes.proofs.RankLemmas.{are_ranks}
 use Rattle.fv_lanes.proofs.rank.ranks.Goals as goal
 
 pub returns : goal.returns
-returns c = IfOk-weaker c.counts.result _ _ (λ v h. are_ranks c.args.numbers.now c.args.marked.now c.in_ok-met.met.items v.items c.requires.numbers c.in_ok-met.ensures
-    (h.0 ∙ ap (λ xs. length xs + 1) c.deref.ensures.value) (subst (λ bs. (k : ℕ) → k ≤ length bs →
-    at v.items k ≡ rank_of bs k) c.deref.ensures.value h.1)) c.counts.ensures
+returns c =
+    IfOk-weaker c.counts.result _ _
+    (λ v h. are_ranks c.args.numbers.now c.args.marked.now c.in_ok-met.met.items v.items c.requires.numbers c.in_ok-met.ensures
+    (h.0 ∙ ap (λ xs. length xs + 1) c.deref.ensures.value)
+    (subst (λ bs. (k : ℕ) → k ≤ length bs → at v.items k ≡ rank_of bs k) c.deref.ensures.value h.1))
+    c.counts.ensures

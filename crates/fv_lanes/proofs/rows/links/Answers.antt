@@ -1,6 +1,7 @@
 use Rattle.std.proofs.Common.{sym, ap, ◌∙◌, arith}
 use Rattle.fv_plan.specs.Separated.{found_from, links_of}
-use Rattle.fv_lanes.proofs.RowLemmas.{rows_more, node_read, links_are}
+use Rattle.fv_plan.proofs.NodeLemmas.{node_read}
+use Rattle.fv_lanes.proofs.RowLemmas.{rows_more, links_are}
 use Rattle.fv_lanes.proofs.rows.links.Goals as goal
 
 pub loop-s-preserved : goal.loop-s-preserved

@@ -4,7 +4,8 @@ use Rattle.fv_analysis.specs.Stands.{stand}
 use Rattle.fv_analysis.proofs.StandLemmas.{stands_long}
 use Rattle.fv_plan.specs.Separated.{operands}
 use Rattle.fv_lanes.specs.Rows.{reads_of}
-use Rattle.fv_lanes.proofs.RowLemmas.{rows_more, node_read, reads_are, operands_over}
+use Rattle.fv_plan.proofs.NodeLemmas.{node_read, operands_within}
+use Rattle.fv_lanes.proofs.RowLemmas.{rows_more, reads_are}
 use Rattle.fv_lanes.proofs.rows.reads.Goals as goal
 
 pub add_reads-requires : goal.add_reads-requires
@@ -14,7 +15,7 @@ add_reads-requires c =
     let long = ap length c.requires ∙ stands_long g in
     let e = c.new.ensures in
     let few : c.new.result ≤ length stands = omega (arith, e, long) in
-    operands_over g c.signal.result c.new.result (length stands) few c.signal.ensures.operands
+    operands_within g c.new.result (length stands) c.signal.result few c.signal.ensures.operands
 
 pub loop-s-preserved : goal.loop-s-preserved
 loop-s-preserved c =
