@@ -13,7 +13,7 @@ use Rattle.fv_lines.specs.Hold.{from_start}
 use Rattle.fv_lines.specs.Solo.{history_at, block_at, len_at, start_at, first_at, held_from}
 use Rattle.fv_lines.specs.declared.shape.LaneShape.{LaneShape}
 use Rattle.fv_lines.specs.declared.shape.LaneState.{LaneState}
-use Rattle.fv_lines.proofs.Parts.{replaced, part_written, part_kept}
+use Rattle.fv_lines.proofs.Parts.{IsNewPart, with_part, part_written, part_kept}
 
 -- what stands for a state where there is none
 abbrev pub no_state : LaneState
@@ -32,7 +32,8 @@ table_set {A} n i f g v l at others =
     ext_get_or v (table n g) (set (table n f) i v) long (λ j k.
     let jn : j < n = omega (arith, k, length_table n g) in
     get_or_table n g j v jn ∙ elim (same_or_not i j) [
-      | inl e ↦ ap g e ∙ at ∙ sym (get_or-set_same (table n f) i v v (omega (arith, l, length_table n f))) ∙ sym (ap (λ (m : ℕ). get_or (set (table n f) i v) m v) e)
+      | inl e ↦ ap g e ∙ at ∙ sym (get_or-set_same (table n f) i v v (omega (arith, l, length_table n f)))
+          ∙ sym (ap (λ (m : ℕ). get_or (set (table n f) i v) m v) e)
       | inr ne ↦ others j jn ne ∙ sym (get_or_table n f j v jn) ∙ sym (get_or-set_other (table n f) i j v v ne)
     ])
 
@@ -64,15 +65,13 @@ with_one t i new = record {
   states = t.states;
   written = set t.written i (slice_index t.written i + 1);
   frames = t.frames;
-  cells = replaced t.cells (sum (take i t.lengths)) (sum (take i t.lengths) + slice_index t.lengths i) new;
+  cells = with_part t.lengths t.cells i new;
 }
 
--- lane i is there, and these cells of its part hold its samples and one more
+-- these cells of lane i's part hold its samples and one more
 pub record Grows (t : Lists) (i : ℕ) (new : List ℤ) (v : ℤ) : Type 0 where
-  pub there : i < length t.lengths
+  pub new_part : IsNewPart t.lengths i t.cells new
   pub written_long : length t.written ≡ length t.lengths
-  pub fits : sum t.lengths ≤ length t.cells
-  pub size : length new ≡ slice_index t.lengths i
   pub grown : take (count_in t i + 1) (from_start (first_at t.shapes t.states i) new) ≡ items_in t i ++ v ∷ []
 
 abbrev pub made : ℕ → List ℤ → ℕ → Lane
@@ -86,17 +85,18 @@ pub one_more : (t : Lists) (i : ℕ) (new : List ℤ) (v : ℤ) → Grows t i ne
 one_more t i new v one =
     let more : Lists = with_one t i new in
     let count : slice_index more.written i ≡ slice_index t.written i + 1 =
-    get_or-set_same t.written i (slice_index t.written i + 1) 0 (omega (arith, one.there, one.written_long)) in
+    get_or-set_same t.written i (slice_index t.written i + 1) 0 (omega (arith, one.new_part.there, one.written_long)) in
     let longer : count_in more i ≡ count_in t i + 1 = omega (arith, count) in
-    table_set (length t.lengths) i (lane_in t) (lane_in more) (appended (lane_in t i) v) one.there
+    table_set (length t.lengths) i (lane_in t) (lane_in more) (appended (lane_in t i) v) one.new_part.there
     (made_one (history_at t.shapes i) t.frames (slice_index t.written i) (slice_index more.written i) (items_in t i) (items_in more i) v
-    (ap (λ (xs : List ℤ). take (count_in more i) (from_start (first_at t.shapes t.states i) xs)) (part_written t.lengths i t.cells new one.there one.fits one.size)
+    (ap (λ (xs : List ℤ). take (count_in more i) (from_start (first_at t.shapes t.states i) xs))
+    (part_written one.new_part)
     ∙ ap (λ (n : ℕ). take n (from_start (first_at t.shapes t.states i) new)) longer ∙ one.grown) count)
     (λ j k ne.
     let other : slice_index more.written j ≡ slice_index t.written j = get_or-set_other t.written i j (slice_index t.written i + 1) 0 ne in
     ap₂ (λ (n : ℕ) (xs : List ℤ). made (history_at t.shapes j)
     (take (history_at t.shapes j + n) (from_start (first_at t.shapes t.states j) xs)) (t.frames - n))
-    other (part_kept t.lengths i j t.cells new ne one.there k one.fits one.size))
+    other (part_kept one.new_part j ne k))
 
 pub start_is : (states : List LaneState) (i : ℕ) (d : LaneState) → i < length states → start_at states i ≡ (get_or states i d).start
 start_is states i d l = get_or-map (λ (s : LaneState). s.start) states i d 0 l
@@ -110,7 +110,7 @@ pub same_part : (ls : List ℕ) (i p n : ℕ) (cells : List ℤ) → p ≡ sum (
 same_part ls i p n cells e k = ap₂ (λ (a b : ℕ). take a (drop b cells)) (let q : p + n - p ≡ slice_index ls i = omega (arith, k) in q) e
 
 pub same_rest : (ls : List ℕ) (i p n : ℕ) (cells new : List ℤ) → p ≡ sum (take i ls) → n ≡ slice_index ls i
-    → put_mid p (p + n - p) cells new ≡ replaced cells (sum (take i ls)) (sum (take i ls) + slice_index ls i) new
+    → put_mid p (p + n - p) cells new ≡ with_part ls cells i new
 same_rest ls i p n cells new e k =
     ap (λ (r : List ℤ). take p cells ++ (new ++ r)) (drop-drop (p + n - p) p cells)
     ∙ ap₂ (λ (a b : ℕ). take a cells ++ (new ++ drop b cells)) e

@@ -22,7 +22,8 @@ impl<'a, 'l, 's, 'b, 'c> Solo<'a, 'l, 's, 'b, 'c> {
     ghost use Rattle.std.specs.Prelude.{◌≡◌, ◌↔◌, ◌^◌, ◌<◌, ◌≤◌, length, slice_set, slice_index, IsTrue, ℕ};
     ghost use Rattle.fv_loopcode.specs.Lanes.{lane_of, appended, sample_at, HasSample};
     ghost use Rattle.fv_pool.specs.Lengths.{lengths_of};
-    ghost use Rattle.fv_lines.specs.Solo.{lanes_of, lane_at, lengths_in, shapes_in, cells_in, frames_in, opening_lanes, AreLists, AreHeld, AreFramed, AreFull, HoldNext, IsSolo, rest_of, rest_in};
+    ghost use Rattle.fv_lines.specs.Solo.{lanes_of, lane_at, lengths_in, shapes_in, cells_in, frames_in, opening_lanes, AreLists, AreHeld, AreFramed, AreFull};
+    ghost use Rattle.fv_lines.specs.Solo.{HoldNext, IsSolo, rest_of, rest_in};
 
     /// Every lane begins with the history that its cells and its state hold. `written` has one number for each lane, whatever they are.
     pub fn begin(
@@ -37,7 +38,8 @@ impl<'a, 'l, 's, 'b, 'c> Solo<'a, 'l, 's, 'b, 'c> {
         requires lanes { AreHeld (lengths_of layout.now) shapes.now states.old }
         requires frames { AreFramed (lengths_of layout.now) shapes.now frames }
         ensures sound { IsSolo result }
-        ensures kept { rest_of result ≡ rest_in cells.entry.ghost_name states.entry.ghost_name written.entry.ghost_name (lengths_of layout.now) shapes.now frames }
+        ensures kept { rest_of result
+            ≡ rest_in cells.entry.ghost_name states.entry.ghost_name written.entry.ghost_name (lengths_of layout.now) shapes.now frames }
         ensures lanes { lanes_of result ≡ opening_lanes (lengths_of layout.now) shapes.now states.old frames cells.old }
     {
         let places = layout.places();

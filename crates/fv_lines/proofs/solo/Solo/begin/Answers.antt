@@ -31,13 +31,15 @@ loop-lane-preserved c =
     subst (λ (after : List ℤ). AreOpened b (set states i (record { start = c.settle-origin.result })) (set written i 0) after (i + 1))
     (sym (same_rest ls i p n now new place c.length-len.ensures))
     (one_opened (record {
-      there = l;
+      new_part = record {
+        there = l;
+        fits = fits;
+        size = c.settle-origin.auto.cells ∙ ap length before ∙ length_part ls i now l fits;
+      };
       shapes_long = c.requires.lists.0;
       states_long = c.loop-lane.auto.states ∙ c.requires.lists.1;
       written_long = c.loop-lane.auto.written ∙ c.requires.lists.2;
-      fits = fits;
       shape_is = c.index-shapes-i.is;
-      size = c.settle-origin.auto.cells ∙ ap length before ∙ length_part ls i now l fits;
       placed = c.settle-origin.ensures.begun.1;
       same = c.settle-origin.ensures.held
           ∙ ap (λ (xs : List ℤ). take x.history (from_start (get_or states i no_state).start xs)) before;

@@ -1,5 +1,5 @@
 use Rattle.std.proofs.Common.{◌≡◌, ◌+◌, ◌-◌, ◌++◌, [], ◌∷◌, ℕ, ℤ, List, length, take, set, sym, ap, ap₂, ◌∙◌, arith, to_z-of_z}
-use Rattle.std.specs.Prelude.{slice_index, sum}
+use Rattle.std.specs.Prelude.{slice_index}
 use Rattle.std.proofs.lemmas.List.{length-set}
 use Rattle.fv_base.specs.Lists.{table}
 use Rattle.fv_pool.specs.Layout.{part}
@@ -7,7 +7,7 @@ use Rattle.fv_pool.specs.Lengths.{lengths_of}
 use Rattle.fv_lines.specs.Hold.{from_start}
 use Rattle.fv_lines.specs.declared.shape.LaneShape.{LaneShape}
 use Rattle.fv_lines.specs.declared.solo.Solo.{Solo}
-use Rattle.fv_lines.proofs.Parts.{length_part, length_replaced, place_fits}
+use Rattle.fv_lines.proofs.Parts.{IsNewPart, length_part, length_with}
 use Rattle.fv_lines.proofs.Tables.{Lists, count_in, lane_in, one_more, same_rest}
 use Rattle.fv_lines.proofs.Reached.{origin_found, shape_found, reached, counted}
 use Rattle.fv_lines.proofs.solo.Solo.write.Goals as goal
@@ -49,10 +49,12 @@ returns-clause-lanes c =
       cells = xs;
     }))) (same_rest ls i p n t.cells new at.place c.length-len.ensures)
     ∙ one_more t i new c.args.value (record {
-      there = c.requires.there;
+      new_part = record {
+        there = c.requires.there;
+        fits = c.requires.sound.fits;
+        size = c.put.ensures.len ∙ ap length at.cells ∙ length_part ls i t.cells c.requires.there c.requires.sound.fits;
+      };
       written_long = c.requires.sound.written;
-      fits = c.requires.sound.fits;
-      size = c.put.ensures.len ∙ ap length at.cells ∙ length_part ls i t.cells c.requires.there c.requires.sound.fits;
       grown =
           ap₂ (λ (k s : ℕ). take (k + 1) (from_start s new)) count at.first
           ∙ c.put.ensures.list
@@ -72,14 +74,16 @@ returns-clause-sound c =
     let p : ℕ = slice_index s.places.now i in
     let n : ℕ = c.length-len.result in
     let at = reached s i c.index-self-i.result n c.requires.sound c.requires.there c.length-len.ensures in
-    let size : length new ≡ slice_index ls i = c.put.ensures.len ∙ ap length at.cells ∙ length_part ls i s.cells.now c.requires.there c.requires.sound.fits in
-    let q : ℕ = sum (take i ls) + slice_index ls i in
-    let kept = length_replaced s.cells.now (sum (take i ls)) q new (omega (arith, size)) (omega (arith, place_fits ls i c.requires.there, c.requires.sound.fits)) in
+    let new_part : IsNewPart ls i s.cells.now new = record {
+      there = c.requires.there;
+      fits = c.requires.sound.fits;
+      size = c.put.ensures.len ∙ ap length at.cells ∙ length_part ls i s.cells.now c.requires.there c.requires.sound.fits;
+    } in
     record {
       shapes = c.requires.sound.shapes;
       states = c.requires.sound.states;
       written = length-set w i (slice_index w i + 1) ∙ c.requires.sound.written;
-      fits = omega (arith, c.requires.sound.fits, kept, ap length (same_rest ls i p n s.cells.now new at.place c.length-len.ensures));
+      fits = omega (arith, c.requires.sound.fits, length_with new_part, ap length (same_rest ls i p n s.cells.now new at.place c.length-len.ensures));
       places = c.requires.sound.places;
       lanes = λ j l.
           let lane = c.requires.sound.lanes j l in
