@@ -1,7 +1,13 @@
 -- One lane among the cells of all.
-use Rattle.std.specs.Prelude.{ℕ, ◌≡◌, ◌≤◌, ◌<◌, List, length, ℤ}
+use Rattle.std.specs.Prelude.{ℕ, ◌≡◌, ◌+◌, ◌≤◌, ◌<◌, List, length, ℤ}
 use Rattle.fv_lines.specs.Shape.{copied_history}
 
--- a lane of this history and so many cells whose first cell in order is s: the front, where it is copied
-abbrev pub IsBegun : (history cells s : ℕ) → List ℤ → Type 0
-IsBegun h m s cells = (length cells ≡ m) × (h ≤ copied_history → s ≡ 0) × (copied_history < h → s < m)
+-- so many cells before the first sample of a block: the history, which begins at the front where it is copied, and else at a cell of the ring
+pub record HasOrigin (history cells origin : ℕ) : Type 0 where
+  pub behind : history ≤ origin
+  pub copied : history ≤ copied_history → origin ≡ history
+  pub ring : copied_history < history → origin < history + cells
+
+-- a lane of this history and so many cells that has this origin
+abbrev pub IsBegun : (history cells origin : ℕ) → List ℤ → Type 0
+IsBegun h m o cells = (length cells ≡ m) × HasOrigin h m o

@@ -17,4 +17,5 @@ begun_at shape s = if (nat_le shape.history copied_history) then 0 else s
 
 -- the start s names a history there: within the cells where it is copied, at a cell where the lane is a ring
 abbrev pub Holds : LaneShape → ℕ → List ℤ → Type 0
-Holds shape s cells = (length cells ≡ shape.len) × (shape.history ≤ copied_history → s + shape.history ≤ shape.len) × (copied_history < shape.history → s < shape.len)
+Holds shape s cells =
+    (length cells ≡ shape.len) × (shape.history ≤ copied_history → s + shape.history ≤ shape.len) × (copied_history < shape.history → s < shape.len)

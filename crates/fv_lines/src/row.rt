@@ -44,7 +44,8 @@ impl<'a> Row<'a> {
     /// Fills the next `count` cells with what they hold.
     pub(crate) fn keep(&mut self, count: usize)
         requires { count ≤ length self.old.rest.items }
-        ensures { (self.new.front.now ≡ self.old.front.now ++ take count self.old.rest.items) × (self.new.rest.items ≡ drop count self.old.rest.items) × (self.new.link.whole ≡ self.old.link.whole) }
+        ensures { (self.new.front.now ≡ self.old.front.now ++ take count self.old.rest.items)
+            × (self.new.rest.items ≡ drop count self.old.rest.items) × (self.new.link.whole ≡ self.old.link.whole) }
     {
         let rest = replace(&mut self.rest, Cells::of(&mut [])).into_slice(self.left);
         let (front, rest) = self.link.share(self.front, rest, count);
@@ -56,7 +57,8 @@ impl<'a> Row<'a> {
     /// Fills the next cell.
     pub(crate) fn push(&mut self, value: i32)
         requires { 0 < length self.old.rest.items }
-        ensures { (self.new.front.now ≡ self.old.front.now ++ value ∷ []) × (self.new.rest.items ≡ drop 1 self.old.rest.items) × (self.new.link.whole ≡ self.old.link.whole) }
+        ensures { (self.new.front.now ≡ self.old.front.now ++ value ∷ [])
+            × (self.new.rest.items ≡ drop 1 self.old.rest.items) × (self.new.link.whole ≡ self.old.link.whole) }
     {
         let rest = replace(&mut self.rest, Cells::of(&mut [])).into_slice(self.left);
         rest[0] = value;

@@ -58,16 +58,17 @@ impl LaneShape {
         self.len
     }
 
-    /// The cell that comes `n` cells after `start`, where a ring begins anew behind its last cell.
-    pub(crate) fn cell(&self, start: u64, n: u64) -> u64
-        requires { (self.now.history ≤ copied_history → start + n ≤ self.now.len) × (copied_history < self.now.history → (start < self.now.len) × (n ≤ self.now.len)) }
-        ensures copied { self.now.history ≤ copied_history → result ≡ start + n }
-        ensures ring { copied_history < self.now.history → Turned self.now.len (start + n) result }
+    /// The cell that comes after `n` cells, where a ring begins anew behind its last cell.
+    pub(crate) fn cell(&self, n: u64) -> u64
+        requires copied { self.now.history ≤ copied_history → n ≤ self.now.len }
+        requires ring { copied_history < self.now.history → n < self.now.len + self.now.len }
+        ensures copied { self.now.history ≤ copied_history → result ≡ n }
+        ensures ring { copied_history < self.now.history → Turned self.now.len n result }
     {
         let shape = *self;
         // The length's range is needed in the proof.
         let _len = shape.len;
-        (start + n) & shape.mask
+        n & shape.mask
     }
 
     /// Where the history lies once a block has begun, as long as nothing is appended.

@@ -6,6 +6,7 @@ use fv_loopcode::Store;
 use fv_pool::Layout;
 
 /// All lanes of a layout, lent to one worker for a block. Each of its loans has a lifetime of its own, so that who lent them knows what they end with.
+/// While it lives, a lane's state holds not where its history begins, but its origin: the number of cells before the block's first sample.
 #[derive(Drop)]
 pub struct Solo<'a, 'l, 's, 'b, 'c> {
     cells: &'a mut [i32],
@@ -14,13 +15,15 @@ pub struct Solo<'a, 'l, 's, 'b, 'c> {
     states: &'b mut [LaneState],
     written: &'c mut [u32],
     frames: u32,
+    places: &'l [u64],
 }
 
 impl<'a, 'l, 's, 'b, 'c> Solo<'a, 'l, 's, 'b, 'c> {
     ghost use Rattle.std.specs.Prelude.{◌≡◌, ◌↔◌, ◌^◌, ◌<◌, ◌≤◌, length, slice_set, slice_index, IsTrue, ℕ};
     ghost use Rattle.fv_loopcode.specs.Lanes.{lane_of, appended, sample_at, HasSample};
     ghost use Rattle.fv_pool.specs.Lengths.{lengths_of};
-    ghost use Rattle.fv_lines.specs.Solo.{lanes_of, lane_at, lengths_in, shapes_in, cells_in, frames_in, opening_lanes, AreLists, AreHeld, AreFramed, AreFull, HoldNext, IsSolo, rest_of, rest_in};
+    ghost use Rattle.fv_lines.specs.Solo.{lanes_of, lane_at, lengths_in, shapes_in, cells_in, frames_in, opening_lanes, AreLists, AreHeld, AreFramed, AreFull};
+    ghost use Rattle.fv_lines.specs.Solo.{HoldNext, IsSolo, rest_of, rest_in};
 
     /// Every lane begins with the history that its cells and its state hold. `written` has one number for each lane, whatever they are.
     pub fn begin(
@@ -35,14 +38,17 @@ impl<'a, 'l, 's, 'b, 'c> Solo<'a, 'l, 's, 'b, 'c> {
         requires lanes { AreHeld (lengths_of layout.now) shapes.now states.old }
         requires frames { AreFramed (lengths_of layout.now) shapes.now frames }
         ensures sound { IsSolo result }
-        ensures kept { rest_of result ≡ rest_in cells.entry.ghost_name states.entry.ghost_name written.entry.ghost_name (lengths_of layout.now) shapes.now frames }
+        ensures kept { rest_of result
+            ≡ rest_in cells.entry.ghost_name states.entry.ghost_name written.entry.ghost_name (lengths_of layout.now) shapes.now frames }
         ensures lanes { lanes_of result ≡ opening_lanes (lengths_of layout.now) shapes.now states.old frames cells.old }
     {
+        let places = layout.places();
         for lane in 0..layout.len() {
             let i = lane as usize;
-            let place = layout.place(lane) as usize;
+            let place = places[i] as usize;
             let len = layout.length(lane) as usize;
-            states[i] = settle(&mut cells[place..place + len], &shapes[i], states[i]);
+            let origin = settle(&mut cells[place..place + len], &shapes[i], states[i]);
+            states[i] = LaneState { start: origin };
             written[i] = 0;
         }
         Solo {
@@ -52,6 +58,7 @@ impl<'a, 'l, 's, 'b, 'c> Solo<'a, 'l, 's, 'b, 'c> {
             states,
             written,
             frames,
+            places,
         }
     }
 
@@ -129,7 +136,7 @@ impl<'a, 'l, 's, 'b, 'c> Solo<'a, 'l, 's, 'b, 'c> {
         let states = self.states;
         let frames = self.frames;
         for i in 0..shapes.len() {
-            states[i] = advance(&shapes[i], states[i], frames);
+            states[i] = advance(&shapes[i], states[i].start, frames);
         }
     }
 
@@ -143,22 +150,22 @@ impl<'a, 'l, 's, 'b, 'c> Solo<'a, 'l, 's, 'b, 'c> {
         ensures lanes { lanes_of self.new ≡ slice_set (lanes_of self.old) lane (appended (lane_at self.old lane) value) }
     {
         let i = lane as usize;
-        let shape = &self.shapes[i];
-        let place = self.layout.place(lane) as usize;
+        let place = self.places[i] as usize;
         let len = self.layout.length(lane) as usize;
-        let start = self.states[i].start;
-        let count = u64::from(shape.history) + u64::from(self.written[i]);
+        let shape = &self.shapes[i];
+        let origin = self.states[i].start;
+        let index = u64::from(self.written[i]);
         put(
             &mut self.cells[place..place + len],
             shape,
-            start,
-            count,
+            origin,
+            index,
             value,
         );
         self.written[i] += 1;
     }
 
-    // A sample of a lane, in ring order from its start.
+    // A sample of a lane, from its origin.
     fn read(&self, lane: u64, index: u64, back: u64) -> i32
         requires sound { IsSolo self.now }
         requires there { lane < length (lengths_in self.now) }
@@ -167,16 +174,11 @@ impl<'a, 'l, 's, 'b, 'c> Solo<'a, 'l, 's, 'b, 'c> {
         ensures { result ≡ sample_at (lane_at self.now lane) index back }
     {
         let i = lane as usize;
-        let shape = &self.shapes[i];
-        let place = self.layout.place(lane) as usize;
+        let place = self.places[i] as usize;
         let len = self.layout.length(lane) as usize;
-        let n = u64::from(shape.history) + index - back;
-        get(
-            &self.cells[place..place + len],
-            shape,
-            self.states[i].start,
-            n,
-        )
+        let shape = &self.shapes[i];
+        let origin = self.states[i].start;
+        get(&self.cells[place..place + len], shape, origin, index, back)
     }
 }
 

@@ -37,7 +37,8 @@ impl<'a> LaneWriter<'a> {
         requires { written_by self.old < frames_of self.old }
         ensures list { list_of self.new ≡ list_of self.old ++ value ∷ [] }
         ensures written { written_by self.new ≡ written_by self.old + 1 }
-        ensures rest { (frames_of self.new ≡ frames_of self.old) × (shape_of self.new ≡ shape_of self.old) × (part_of self.new ≡ part_of self.old) × (outer_of self.new ≡ outer_of self.old) }
+        ensures rest { (frames_of self.new ≡ frames_of self.old)
+            × (shape_of self.new ≡ shape_of self.old) × (part_of self.new ≡ part_of self.old) × (outer_of self.new ≡ outer_of self.old) }
     {
         if self.high.is_full() {
             self.low.push(value);
@@ -67,7 +68,8 @@ impl<'a> LaneWriter<'a> {
         ensures list { list_of result ≡ held shape state.start part.entry.cells.items }
         ensures again { held shape (begun_at shape state.start) (content_of result) ≡ list_of result }
         ensures holds { Holds shape (begun_at shape state.start) (content_of result) }
-        ensures rest { (written_by result ≡ 0) × (frames_of result ≡ frames) × (shape_of result ≡ shape) × (part_of result ≡ part.entry.cells.name) × (outer_of result ≡ part.entry.halves) }
+        ensures rest { (written_by result ≡ 0)
+            × (frames_of result ≡ frames) × (shape_of result ≡ shape) × (part_of result ≡ part.entry.cells.name) × (outer_of result ≡ part.entry.halves) }
     {
         let Part {
             cells,
@@ -96,7 +98,8 @@ impl<'a> LaneWriter<'a> {
         requires { Holds shape start cells.now × (frames ≤ shape.block) × (shape.history ≤ copied_history → start ≡ 0) × (outer.low ≡ cells.ghost_name) }
         ensures list { list_of result ≡ held shape start cells.old }
         ensures content { content_of result ≡ cells.old }
-        ensures rest { (written_by result ≡ 0) × (frames_of result ≡ frames) × (shape_of result ≡ shape) × (part_of result ≡ cells.entry.ghost_name) × (outer_of result ≡ outer) }
+        ensures rest { (written_by result ≡ 0)
+            × (frames_of result ≡ frames) × (shape_of result ≡ shape) × (part_of result ≡ cells.entry.ghost_name) × (outer_of result ≡ outer) }
     {
         let history = shape.history as usize;
         let (low, high, halves) = Halves::cut(cells, start);

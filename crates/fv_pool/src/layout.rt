@@ -74,4 +74,11 @@ impl Layout {
     {
         self.places[i as usize]
     }
+
+    /// Where the parts begin, one after another.
+    pub fn places(&self) -> &[u64]
+        ensures { ArePlaces (lengths_of self.now) result.now }
+    {
+        &self.places
+    }
 }

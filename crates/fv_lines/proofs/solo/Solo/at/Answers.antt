@@ -7,7 +7,8 @@ pub read-requires-clause-there : goal.read-requires-clause-there
 read-requires-clause-there c = there_of c.args.self.now c.args.lane c.requires.there
 
 pub read-requires-clause-sample : goal.read-requires-clause-sample
-read-requires-clause-sample c = subst (λ (l : Lane). HasSample l c.args.index c.args.back) (lane_is c.args.self.now c.args.lane c.requires.there) c.requires.sample
+read-requires-clause-sample c =
+    subst (λ (l : Lane). HasSample l c.args.index c.args.back) (lane_is c.args.self.now c.args.lane c.requires.there) c.requires.sample
 
 pub returns : goal.returns
 returns c =

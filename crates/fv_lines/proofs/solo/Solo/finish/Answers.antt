@@ -1,21 +1,29 @@
-use Rattle.fv_pool.specs.Lengths.{lengths_of}
-use Rattle.std.proofs.Common.{◌≡◌, ◌<◌, ℕ, ℤ, List, length, drop, get_or, sym, ap, ◌∙◌, arith}
+use Rattle.std.proofs.Common.{◌≡◌, ◌<◌, ℕ, ℤ, List, length, drop, get_or, sym, ap, ◌∙◌, arith, subst, refl}
 use Rattle.std.specs.Prelude.{slice_index}
 use Rattle.fv_pool.specs.Layout.{part}
-use Rattle.fv_lines.specs.Solo.{history_at, len_at, start_at}
+use Rattle.fv_pool.specs.Lengths.{lengths_of}
+use Rattle.fv_lines.specs.Flat.{HasOrigin}
+use Rattle.fv_lines.specs.Solo.{history_at, len_at, start_at, lengths_in, shapes_in, frames_in, IsSolo}
 use Rattle.fv_lines.specs.declared.shape.LaneShape.{LaneShape}
+use Rattle.fv_lines.specs.declared.shape.LaneState.{LaneState}
+use Rattle.fv_lines.specs.declared.solo.Solo.{Solo}
 use Rattle.fv_lines.proofs.Parts.{length_part}
-use Rattle.fv_lines.proofs.Tables.{history_is, len_is, block_is, start_is}
+use Rattle.fv_lines.proofs.Tables.{no_state, history_is, len_is, block_is, start_is}
 use Rattle.fv_lines.proofs.Stored.{there_of, lane_is, all_written}
 use Rattle.fv_loopcode.specs.Lanes.{Lane}
-use Rattle.fv_lines.proofs.Ends.{one_ended, next_held, stays_within}
+use Rattle.fv_lines.proofs.Ends.{IsEnded, IsNext, one_ended, next_held, stays_within}
 use Rattle.fv_lines.proofs.solo.Solo.finish.Goals as goal
 
 pub loop-i-preserved : goal.loop-i-preserved
 loop-i-preserved c =
-    one_ended (length c.args.self.shapes.now) c.args.self.shapes.now c.args.self.states.now c.args.self.frames c.loop-i.states c.loop-i.i c.advance.result c.index-shapes-i.result
-    c.loop-i-test.true (let e : length c.args.self.shapes.now ≡ length c.args.self.shapes.now = omega arith in e) (c.loop-i.auto.states ∙ c.requires.sound.states ∙ sym c.requires.sound.shapes) c.index-shapes-i.is
-    c.advance.ensures.copied c.advance.ensures.ring c.loop-i.invariant
+    one_ended (record {
+      there = c.loop-i-test.true;
+      shapes_long = refl;
+      states_long = c.loop-i.auto.states ∙ c.requires.sound.states ∙ sym c.requires.sound.shapes;
+      shape_is = c.index-shapes-i.is;
+      copied = c.advance.ensures.copied;
+      ring = c.advance.ensures.ring;
+    }) c.loop-i.invariant
 
 pub advance-requires : goal.advance-requires
 advance-requires c =
@@ -28,12 +36,28 @@ advance-requires c =
     let history : history_at shapes i ≡ x.history = history_is shapes i x k ∙ sym (ap (λ (y : LaneShape). y.history) c.index-shapes-i.is) in
     let len : len_at shapes i ≡ x.len = len_is shapes i x k ∙ sym (ap (λ (y : LaneShape). y.len) c.index-shapes-i.is) in
     let block = block_is shapes i x k ∙ sym (ap (λ (y : LaneShape). y.block) c.index-shapes-i.is) in
-    let start : (get_or c.loop-i.states i (record { start = 0 })).start ≡ start_at c.args.self.states.now i =
-    sym (start_is c.loop-i.states i (record { start = 0 }) (omega (arith, k, c.loop-i.auto.states, c.requires.sound.states, c.requires.sound.shapes))) ∙ c.loop-i.invariant.waiting i (omega arith) k in (
-      (λ small. start ∙ lane.copied (omega (arith, small, history))),
-      (λ large. let r : start_at c.args.self.states.now i < len_at shapes i = lane.ring (omega (arith, large, history)) in omega (arith, r, start, len)),
-      omega (arith, lane.framed, block),
-    )
+    let of_state : i < length c.loop-i.states = omega (arith, k, c.loop-i.auto.states, c.requires.sound.states, c.requires.sound.shapes) in
+    let start : (get_or c.loop-i.states i no_state).start ≡ start_at c.args.self.states.now i =
+    sym (start_is c.loop-i.states i no_state of_state) ∙ c.loop-i.invariant.waiting i (omega arith) k in
+    record {
+      begun = subst (λ (o : ℕ). HasOrigin x.history x.len o) (sym start)
+          (subst (λ (h : ℕ). HasOrigin h x.len (start_at c.args.self.states.now i)) history
+          (subst (λ (m : ℕ). HasOrigin (history_at shapes i) m (start_at c.args.self.states.now i)) len lane.placed));
+      frames = omega (arith, lane.framed, block);
+    }
+
+-- what comes after the block of a lane that has ended
+next : (s : Solo) (states : List LaneState) (i : ℕ) → IsSolo s → i < length (lengths_in s)
+    → IsEnded (shapes_in s) s.states.now (frames_in s) states i
+    → IsNext (history_at (shapes_in s) i) (len_at (shapes_in s) i) (start_at s.states.now i) (frames_in s) (start_at states i)
+next s states i sound l now =
+    let lane = sound.lanes i l in
+    record {
+      placed = lane.placed;
+      fits = omega (arith, lane.framed, lane.shaped);
+      copied = now.copied;
+      ring = now.ring;
+    }
 
 pub returns-clause-states : goal.returns-clause-states
 returns-clause-states c = λ i l.
@@ -42,17 +66,17 @@ returns-clause-states c = λ i l.
     let now = c.loop-i.invariant.ended i (omega (arith, k, c.loop-i-test.false)) k in (
       lane.long,
       (λ small. omega (arith, now.copied small, lane.framed, lane.shaped)),
-      (λ large. stays_within (history_at c.args.self.shapes.now i) (len_at c.args.self.shapes.now i) (start_at c.args.self.states.now i) c.args.self.frames (start_at c.loop-i.states i) lane.ring (omega (arith, lane.framed, lane.shaped)) now.ring large),
+      (λ large. stays_within (next c.args.self c.loop-i.states i c.requires.sound l now) large),
     )
 
 pub returns-clause-held : goal.returns-clause-held
 returns-clause-held c = λ i there.
     let l : i < length (lengths_of c.args.self.layout.now) = there_of c.args.self i there in
-    let ls : List ℕ = (lengths_of c.args.self.layout.now) in
+    let ls : List ℕ = lengths_of c.args.self.layout.now in
     let cells : List ℤ = c.args.self.cells.now in
     let lane = c.requires.sound.lanes i l in
     let k : i < length c.args.self.shapes.now = omega (arith, l, c.requires.sound.shapes) in
     let now = c.loop-i.invariant.ended i (omega (arith, k, c.loop-i-test.false)) k in
-    next_held (part ls i cells) (history_at c.args.self.shapes.now i) (len_at c.args.self.shapes.now i) (start_at c.args.self.states.now i) c.args.self.frames (start_at c.loop-i.states i) (slice_index c.args.self.written.now i)
-    (length_part ls i cells l c.requires.sound.fits ∙ lane.long) (all_written c.args.self i c.requires.sound c.requires.full l) lane.copied lane.ring (omega (arith, lane.framed, lane.shaped)) now.copied now.ring
+    next_held (part ls i cells) (slice_index c.args.self.written.now i) (next c.args.self c.loop-i.states i c.requires.sound l now)
+    (length_part ls i cells l c.requires.sound.fits ∙ lane.long) (all_written c.args.self i c.requires.sound c.requires.full l)
     ∙ ap (λ (x : Lane). drop c.args.self.frames x.items) (sym (lane_is c.args.self i there))

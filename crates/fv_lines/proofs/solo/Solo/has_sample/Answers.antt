@@ -8,7 +8,8 @@ use Rattle.fv_lines.proofs.solo.Solo.has_sample.Goals as goal
 
 pub offset_bounds-self-i : goal.offset_bounds-self-i
 offset_bounds-self-i c =
-    let there : c.args.lane < length c.args.self.now.shapes.now = omega (arith, c.requires.sound.shapes, there_of c.args.self.now c.args.lane c.requires.there) in
+    let there : c.args.lane < length c.args.self.now.shapes.now =
+    omega (arith, c.requires.sound.shapes, there_of c.args.self.now c.args.lane c.requires.there) in
     search rules
 
 pub bounds-self-i : goal.bounds-self-i
@@ -16,7 +17,8 @@ bounds-self-i c = omega (arith, c.requires.sound.shapes, there_of c.args.self.no
 
 pub offset_bounds-self-i-then-back-newest : goal.offset_bounds-self-i-then-back-newest
 offset_bounds-self-i-then-back-newest c =
-    let there : c.args.lane < length c.args.self.now.written.now = omega (arith, c.requires.sound.written, there_of c.args.self.now c.args.lane c.requires.there) in
+    let there : c.args.lane < length c.args.self.now.written.now =
+    omega (arith, c.requires.sound.written, there_of c.args.self.now c.args.lane c.requires.there) in
     search rules
 
 pub bounds-self-i-then-back-newest : goal.bounds-self-i-then-back-newest
@@ -28,15 +30,19 @@ returns-then-back-newest c =
     let i = c.args.lane in
     let there = there_of s i c.requires.there in
     let is = lane_is s i c.requires.there in
-    let history : c.from-history.result ≡ history_at s.shapes.now i = c.from-history.ensures ∙ sym (history_is s.shapes.now i c.index-self-i.result (omega (arith, c.requires.sound.shapes, there))) in
+    let history : c.from-history.result ≡ history_at s.shapes.now i =
+    c.from-history.ensures ∙ sym (history_is s.shapes.now i c.index-self-i.result (omega (arith, c.requires.sound.shapes, there))) in
     let long = length_list s i c.requires.sound there in (
       (λ t. subst (λ (l : Lane). HasSample l c.args.index c.args.back) (sym is) (record {
         not_before = omega (arith, history);
-        written = (let k : c.from-history.result + c.args.index - c.args.back < c.from-history.result + c.from.result = grind (arith, nat_tests, t) in omega (arith, k, history, long, c.from.ensures));
+        written =
+            let k : c.from-history.result + c.args.index - c.args.back < c.from-history.result + c.from.result = grind (arith, nat_tests, t) in
+            omega (arith, k, history, long, c.from.ensures);
       })),
       (λ h.
           let k = subst (λ (l : Lane). HasSample l c.args.index c.args.back) is h in
-          let m : c.from-history.result + c.args.index - c.args.back < c.from-history.result + c.from.result = omega (arith, k.not_before, k.written, history, long, c.from.ensures) in
+          let m : c.from-history.result + c.args.index - c.args.back < c.from-history.result + c.from.result =
+          omega (arith, k.not_before, k.written, history, long, c.from.ensures) in
           grind (arith, nat_tests, m)),
     )
 
@@ -46,7 +52,8 @@ returns-else-back-newest c =
     let i = c.args.lane in
     let there = there_of s i c.requires.there in
     let is = lane_is s i c.requires.there in
-    let history : c.from-history.result ≡ history_at s.shapes.now i = c.from-history.ensures ∙ sym (history_is s.shapes.now i c.index-self-i.result (omega (arith, c.requires.sound.shapes, there))) in (
+    let history : c.from-history.result ≡ history_at s.shapes.now i =
+    c.from-history.ensures ∙ sym (history_is s.shapes.now i c.index-self-i.result (omega (arith, c.requires.sound.shapes, there))) in (
       (λ t. absurd (let k : c.args.back ≤ c.from-history.result + c.args.index = grind (arith, nat_tests, t) in omega arith)),
       (λ h. absurd (let k = subst (λ (l : Lane). HasSample l c.args.index c.args.back) is h in omega (arith, k.not_before, history))),
     )

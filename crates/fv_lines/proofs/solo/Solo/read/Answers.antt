@@ -1,32 +1,42 @@
-use Rattle.fv_pool.specs.Lengths.{lengths_of}
-use Rattle.std.proofs.Common.{rules, ◌≡◌, ◌+◌, ◌-◌, ◌<◌, ℕ, ℤ, pos, List, get_or, sym, ap, ap₂, ◌∙◌, arith, w32, SFits, to_z-of_z}
+use Rattle.std.proofs.Common.{rules, ◌+◌, ◌-◌, ◌<◌, ℕ, ℤ, pos, List, get_or, sym, ap, ap₂, ◌∙◌, arith, w32, SFits, to_z-of_z}
 use Rattle.std.proofs.lemmas.List.{get_or-take, length-take}
 use Rattle.std.specs.Prelude.{slice_index}
 use Rattle.fv_pool.specs.Layout.{part}
 use Rattle.fv_lines.specs.Hold.{from_start}
-use Rattle.fv_lines.specs.Solo.{history_at, start_at}
-use Rattle.fv_lines.specs.declared.shape.LaneShape.{LaneShape}
-use Rattle.fv_lines.specs.declared.shape.LaneState.{LaneState}
-use Rattle.fv_lines.proofs.Tables.{start_is, history_is, same_part}
+use Rattle.fv_lines.specs.Solo.{history_at, first_at, lengths_in, shapes_in, cells_in}
+use Rattle.fv_lines.specs.declared.solo.Solo.{Solo}
+use Rattle.fv_lines.proofs.Stored.{length_list}
+use Rattle.fv_lines.proofs.Reached.{shape_found, reached}
 use Rattle.fv_lines.proofs.solo.Solo.read.Goals as goal
+
+pub slice_bounds-get-end : goal.slice_bounds-get-end
+slice_bounds-get-end c =
+    (reached c.args.self.now c.args.lane c.index-self-i.result c.length-len.result c.requires.sound c.requires.there c.length-len.ensures).ends
+
+pub get-requires-clause-begun : goal.get-requires-clause-begun
+get-requires-clause-begun c =
+    (reached c.args.self.now c.args.lane c.index-self-i.result c.length-len.result c.requires.sound c.requires.there c.length-len.ensures).begun
+
+pub get-requires-clause-room : goal.get-requires-clause-room
+get-requires-clause-room c =
+    let s : Solo = c.args.self.now in
+    let at = reached s c.args.lane c.index-self-i.result c.length-len.result c.requires.sound c.requires.there c.length-len.ensures in
+    let lane = c.requires.sound.lanes c.args.lane c.requires.there in
+    let long = length_list s c.args.lane c.requires.sound c.requires.there in
+    omega (arith, c.requires.sample.written, long, lane.upto, lane.framed, lane.shaped, at.history, at.len)
 
 pub returns : goal.returns
 returns c =
     let f : SFits w32 c.get.result = search rules in
+    let s : Solo = c.args.self.now in
     let i : ℕ = c.args.lane in
-    let ls : List ℕ = (lengths_of c.args.self.now.layout.now) in
-    let shapes : List LaneShape = c.args.self.now.shapes.now in
-    let states : List LaneState = c.args.self.now.states.now in
-    let w : List ℕ = c.args.self.now.written.now in
-    let cells : List ℤ = c.args.self.now.cells.now in
-    let before = same_part ls i c.place-place.result c.length-len.result cells c.place-place.ensures c.length-len.ensures in
-    let start : start_at states i ≡ _ = start_is states i (record { start = 0 }) (omega (arith, c.requires.there, c.requires.sound.states)) in
-    let history : c.from.result ≡ history_at shapes i = c.from.ensures ∙ sym (history_is shapes i c.index-self-i.result (omega (arith, c.requires.there, c.requires.sound.shapes))) in
-    let ring : List ℤ = from_start (start_at states i) (part ls i cells) in
-    let k : ℕ = history_at shapes i + slice_index w i in
-    let n : ℕ = history_at shapes i + c.args.index - c.args.back in
+    let at = reached s i c.index-self-i.result c.length-len.result c.requires.sound c.requires.there c.length-len.ensures in
+    let h : ℕ = (shape_found s i c.index-self-i.result).history in
+    let ring : List ℤ = from_start (first_at (shapes_in s) s.states.now i) (part (lengths_in s) i (cells_in s)) in
+    let k : ℕ = history_at (shapes_in s) i + slice_index s.written.now i in
+    let n : ℕ = history_at (shapes_in s) i + c.args.index - c.args.back in
     let there : n < k = omega (arith, c.requires.sample.written, c.requires.sample.not_before, length-take k ring) in
     to_z-of_z f ∙ c.get.ensures
-    ∙ ap₂ (λ (s : ℕ) (xs : List ℤ). get_or (from_start s xs) (c.from.result + c.args.index - c.args.back) (pos 0)) (sym start) before
-    ∙ ap (λ (h : ℕ). get_or ring (h + c.args.index - c.args.back) (pos 0)) history
+    ∙ ap₂ (λ (a : ℕ) (xs : List ℤ). get_or (from_start a xs) (h + c.args.index - c.args.back) (pos 0)) (sym at.first) at.cells
+    ∙ ap (λ (m : ℕ). get_or ring (m + c.args.index - c.args.back) (pos 0)) (sym at.history)
     ∙ sym (get_or-take k ring n (pos 0) there)

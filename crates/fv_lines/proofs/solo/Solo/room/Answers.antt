@@ -5,7 +5,8 @@ use Rattle.fv_lines.proofs.solo.Solo.room.Goals as goal
 
 pub offset_bounds-self-lane : goal.offset_bounds-self-lane
 offset_bounds-self-lane c =
-    let there : c.args.lane < length c.args.self.now.written.now = omega (arith, c.requires.sound.written, there_of c.args.self.now c.args.lane c.requires.there) in
+    let there : c.args.lane < length c.args.self.now.written.now =
+    omega (arith, c.requires.sound.written, there_of c.args.self.now c.args.lane c.requires.there) in
     search rules
 
 pub bounds-self-lane : goal.bounds-self-lane
