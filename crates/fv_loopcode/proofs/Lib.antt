@@ -7,4 +7,4 @@ pub mod Blocks
 pub mod Moving
 pub mod Instructions
 pub mod Led
-pub mod Pairs
+pub mod Passes

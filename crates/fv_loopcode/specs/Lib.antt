@@ -1,5 +1,6 @@
 pub mod Lanes
 pub mod Code
 pub mod Instructions
+pub mod Passes
 pub mod Obeys
 pub mod Blocks

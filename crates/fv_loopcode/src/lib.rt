@@ -1,12 +1,16 @@
 // The code of loops, the lanes that it loads and appends, and the laws of tasks that run it.
 #![tactic(auto)]
 
+mod act;
 mod code;
 mod instruction;
 mod laws;
 mod machine;
+mod operate;
+mod sample;
 mod step;
 mod store;
+mod turn;
 
 pub use code::Code;
 pub use laws::{
