@@ -81,6 +81,11 @@ coded_more codes n all new x h e is = record {
   ];
 }
 
+-- the steps behind the first codes
+pub code_behind : (front rest : List (Vec Step Global)) (v : Vec Step Global) → code_in (front ++ v ∷ rest) (length front) ≡ v.items
+code_behind [] rest v = refl
+code_behind (c ∷ cs) rest v = code_behind cs rest v
+
 -- ---- the same of equal tables
 
 pub same_bases : (g : Graph) (stands stands' : List ℕ) (rates rates' : List Rate) (lanes lanes' : List (Option ℕ)) (numbers numbers' : List ℕ) (n : ℕ)

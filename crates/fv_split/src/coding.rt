@@ -19,18 +19,19 @@ pub(crate) fn code(alloc: Global, steps: &[Step], lanes: u64) -> Result<Code, Al
     }
 }
 
-/// The code of each loop.
+/// The code of each loop. The list of a loop's steps is let go once its code is made, so that its room serves the codes that
+/// follow.
 pub(crate) fn all_code(
     alloc: Global,
-    codes: &[Vec<Step>],
+    codes: Vec<Vec<Step>>,
     lanes: u64,
 ) -> Result<Vec<Code>, AllocError>
-    requires { (j : ℕ) → AreSound lanes (code_in codes.now j) }
-    ensures { IfOk result (λ all. AreCoded codes.now (length codes.now) all.items) }
+    requires { (j : ℕ) → AreSound lanes (code_in codes.items j) }
+    ensures { IfOk result (λ all. AreCoded codes.items (length codes.items) all.items) }
 {
     let mut all = Vec::with_capacity(alloc, codes.len())?;
     for steps in codes {
-        all.push(code(alloc, steps, lanes)?)?;
+        all.push(code(alloc, &steps, lanes)?)?;
     }
     Ok(all)
 }

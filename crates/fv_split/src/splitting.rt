@@ -52,7 +52,7 @@ pub fn split(
     };
     let steps = codes(alloc, graph, &tables, loops)?;
     let told = reads(alloc, &steps, &tables.owners)?;
-    let codes = all_code(alloc, &steps, lanes.len() as u64)?;
+    let codes = all_code(alloc, steps, lanes.len() as u64)?;
     let held = code(alloc, &values.steps, 0)?;
     Ok(Plan::new(loops, lanes, codes, told, outputs, held))
 }

@@ -9,7 +9,7 @@ use Rattle.fv_analysis.proofs.StandLemmas.{stands_long}
 use Rattle.fv_plan.specs.Rows.{plan_with}
 use Rattle.fv_plan.specs.Plans.{PlanStands, PlanReads, PlanNames, IsPlanOf}
 use Rattle.fv_emit.specs.Emitted.{code_in}
-use Rattle.fv_split.specs.Lists.{lane_of, AreCoded}
+use Rattle.fv_split.specs.Lists.{lane_of}
 use Rattle.fv_split.specs.Told.{told_all}
 use Rattle.fv_split.proofs.ListLemmas.{same_bases, same_kinds, same_infos}
 use Rattle.fv_split.proofs.SplitLemmas.{rates_long, outputs_there, signals_there}
@@ -78,9 +78,8 @@ all_code-requires c =
     let tables = passes (goal.at.all_code-requires c).After-tables-1 in
     let long : c.len.result ≡ length p.owners.items =
     omega (arith, c.len.ensures, c.in_ok-lanes.lanes.ok.0, c.in_ok-lanes.ensures.long, ap length c.deref-9.ensures.value, tables.placed.lanes.owned) in
-    λ j. subst (λ n. AreSound n (code_in c.deref-13.result.now j)) (sym long)
-    (subst (λ xs. AreSound (length p.owners.items) (code_in xs j)) (sym c.deref-13.ensures.value)
-    (all_sound _ _ _ _ _ _ _ tables c.in_ok-steps.steps.items c.in_ok-steps.ensures j))
+    λ j. subst (λ n. AreSound n (code_in c.in_ok-steps.steps.items j)) (sym long)
+    (all_sound _ _ _ _ _ _ _ tables c.in_ok-steps.steps.items c.in_ok-steps.ensures j)
 
 -- the plan, with the steps of the held values for their code
 plan : (c : In_ok-held) → Passes c.args.graph.now c.in_ok-places.places c.in_ok-stands.stands c.in_ok-bases.bases c.in_ok-kinds.kinds
@@ -94,7 +93,6 @@ plan c tables =
     let are_infos = same_infos c.deref-9.result.now p.signals.items c.deref-10.result.now p.owners.items c.args.histories.now histories
     (length c.deref-9.result.now) (length p.signals.items) c.in_ok-lanes.lanes.items c.deref-9.ensures.value c.deref-10.ensures.value c.requires.histories
     (ap length c.deref-9.ensures.value) c.in_ok-lanes.ensures in
-    let coded = subst (λ xs. AreCoded xs (length xs) c.in_ok-codes.codes.items) c.deref-13.ensures.value c.in_ok-codes.ensures in
     let is_told = c.in_ok-told.ensures ∙ ap (λ os. (told_all os c.deref-11.result.now (length c.deref-11.result.now)).reads) c.deref-12.ensures.value
     ∙ ap (λ xs. (told_all p.owners.items xs (length xs)).reads) c.deref-11.ensures.value in
     let are_outputs = c.in_ok-outputs.ensures ∙ ap (λ os. map (lane_of c.deref-7.result.now c.deref-8.result.now) os) c.outputs-named.ensures.list
@@ -102,20 +100,20 @@ plan c tables =
     ∙ ap (λ ls. map (lane_of (stands_of g) ls) g.outputs) c.deref-8.ensures.value in
     is_plan g p c.in_ok-stands.stands c.in_ok-bases.bases c.in_ok-kinds.kinds c.in_ok-values.values.numbers.items c.in_ok-values.values.steps.items
     tables c.in_ok-steps.steps.items c.in_ok-steps.ensures c.in_ok-lanes.lanes.items c.in_ok-codes.codes.items c.in_ok-told.told.items
-    c.in_ok-outputs.outputs.items are_infos coded is_told are_outputs
+    c.in_ok-outputs.outputs.items are_infos c.in_ok-codes.ensures is_told are_outputs
 
 pub new-requires : goal.new-requires
 new-requires c =
-    (c.args.graph.now, with_held (c.in_ok-held.ensures ∙ c.deref-14.ensures.value) (plan c (passes (goal.at.new-requires c).After-tables-1)))
+    (c.args.graph.now, with_held (c.in_ok-held.ensures ∙ c.deref-13.ensures.value) (plan c (passes (goal.at.new-requires c).After-tables-1)))
 
 pub returns-clause-stands : goal.returns-clause-stands
 returns-clause-stands c =
-    let held = c.in_ok-held.ensures ∙ c.deref-14.ensures.value in
+    let held = c.in_ok-held.ensures ∙ c.deref-13.ensures.value in
     let there = goal.at.returns-clause-stands c in
     subst (PlanStands c.args.graph.now) (sym c.new.ensures) (with_held held (plan there.In_ok-held (passes there.After-tables-1))).stands
 
 pub returns-clause-names : goal.returns-clause-names
 returns-clause-names c =
-    let held = c.in_ok-held.ensures ∙ c.deref-14.ensures.value in
+    let held = c.in_ok-held.ensures ∙ c.deref-13.ensures.value in
     let there = goal.at.returns-clause-names c in
     subst (PlanNames c.args.graph.now) (sym c.new.ensures) (with_held held (plan there.In_ok-held (passes there.After-tables-1))).names
