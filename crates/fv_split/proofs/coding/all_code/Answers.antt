@@ -1,15 +1,11 @@
-use Rattle.std.proofs.Common.{◌≡◌, [], ◌∷◌, ◌++◌, List, length, refl, sym, ap, ◌∙◌, subst, append_assoc, append-nil, arith}
-use Rattle.std.proofs.lemmas.List.{length_push}
+use Rattle.std.proofs.Common.{◌≡◌, [], ◌∷◌, ◌++◌, length, sym, ap, ◌∙◌, subst, append_assoc, append-nil, arith}
+use Rattle.std.proofs.lemmas.List.{length_push, nil_from_length}
 use Rattle.std.specs.Vec.Iter.{into_iter_items}
 use Rattle.fv_loopcode.specs.Code.{AreSound}
 use Rattle.fv_emit.specs.Emitted.{code_in}
 use Rattle.fv_split.specs.Lists.{AreCoded}
 use Rattle.fv_split.proofs.ListLemmas.{coded_more, code_behind}
 use Rattle.fv_split.proofs.coding.all_code.Goals as goal
-
-nothing_left : {X : Type 0} (l : List X) → length l ≡ 0 → l ≡ []
-nothing_left [] h = refl
-nothing_left (x ∷ xs) h = absurd (omega arith)
 
 pub code-requires : goal.code-requires
 code-requires c =
@@ -38,7 +34,7 @@ loop-steps-preserved c =
 pub returns : goal.returns
 returns c =
     let at = c.loop-steps in
-    let empty : into_iter_items at.steps-iterator ≡ [] = nothing_left _ (sym at.invariant.long ∙ c.in-None.ensures.steps.0) in
+    let empty : into_iter_items at.steps-iterator ≡ [] = nil_from_length _ (sym at.invariant.long ∙ c.in-None.ensures.steps.0) in
     let all = sym (append-nil at.yielded) ∙ ap (λ xs. at.yielded ++ xs) (sym empty) ∙ at.invariant.all in
     let given = c.into_iter-steps-iterator.ensures.into_iter_gives.0 in
     let codes = into_iter_items c.into_iter-steps-iterator.result in
