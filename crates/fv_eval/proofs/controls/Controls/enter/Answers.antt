@@ -1,5 +1,5 @@
-use Rattle.std.proofs.Common.{◌≡◌, ◌<◌, ◌&&◌, ◌++◌, ◌∷◌, [], ℕ, length, get_or, true, false, Some, None, Ok, Option, List, Bool, rules, subst, sym, arith, ap}
-use Rattle.std.proofs.Common.{◌∙◌, Vec, vec_len}
+use Rattle.std.proofs.Common.{◌≡◌, ◌&&◌, ◌++◌, ◌∷◌, [], ℕ, length, get_or, true, false, Ok, List, rules, subst, sym, arith}
+use Rattle.std.proofs.Common.{Vec}
 use Rattle.std.proofs.lemmas.Grind.{common_steps}
 use Rattle.std.specs.Prelude.{int_le, bytes_eq}
 use Rattle.std.specs.List.{list_any}
@@ -9,7 +9,7 @@ use Rattle.fv_diagram.specs.declared.control.ControlInfo.{ControlInfo}
 use Rattle.fv_rules.specs.Steps.{is_alike, labelled}
 use Rattle.fv_eval.specs.Controls.{AreLabels, Enters}
 use Rattle.fv_eval.proofs.Labels.{IsFound, found, added}
-use Rattle.fv_eval.proofs.Entered.{Meets, met_alike, met_unlike, met_none, numbered_inside}
+use Rattle.fv_eval.proofs.Entered.{met_alike, met_unlike, met_none, numbered_inside}
 use Rattle.fv_eval.proofs.Parameters.{get_within}
 use Rattle.fv_eval.proofs.controls.Controls.enter.Goals.{After-get_index_of}
 use Rattle.fv_eval.proofs.controls.Controls.enter.Goals as goal
