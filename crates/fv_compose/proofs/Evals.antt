@@ -19,7 +19,8 @@ after_give (Ok x) = refl
 after_give (Err r) = refl
 
 -- where the first part gives a result, the rest goes on with it
-pub given_then : {A B : Type 0} (m : Eval A) (x : A) (whole : Eval B) (f : A → Eval B) → ((s : State) → whole s ≡ after (m s) f) → ((s : State) → m s ≡ Ok (x, s)) → (s : State) → whole s ≡ f x s
+pub given_then : {A B : Type 0} (m : Eval A) (x : A) (whole : Eval B) (f : A → Eval B)
+    → ((s : State) → whole s ≡ after (m s) f) → ((s : State) → m s ≡ Ok (x, s)) → (s : State) → whole s ≡ f x s
 given_then m x whole f w h s = w s ∙ ap (λ o. after o f) (h s)
 
 -- where it refuses, so does the whole

@@ -19,7 +19,8 @@ use Rattle.fv_compose.proofs.Kept.{Binds, Links, Operates}
 
 -- ---- binds
 
-bind_so : (slot left inner : ℕ) (d : Diagram) (s : State) → 0 < left → slot + (left - 1) ≡ inner → bind_all slot left d s ≡ after (put (Bind inner d) s) (λ b. bind_all slot (left - 1) b)
+bind_so : (slot left inner : ℕ) (d : Diagram) (s : State)
+    → 0 < left → slot + (left - 1) ≡ inner → bind_all slot left d s ≡ after (put (Bind inner d) s) (λ b. bind_all slot (left - 1) b)
 bind_so slot left inner d s p e =
     let l : left ≡ suc (left - 1) = omega (arith, p) in
     ap (λ n. bind_all slot n d s) l ∙ bind_turn slot (left - 1) d s ∙ ap (λ n. after (put (Bind n d) s) (λ b. bind_all slot (left - 1) b)) e
@@ -33,7 +34,8 @@ binds_on a0 a b slot slots left inner body whole id inv p e m k = record {
       (λ s. inv.same s ∙ bind_so slot left inner (tree_of a whole) s p e) m.1;
 }
 
-pub binds_refused : (a0 a b : Arena) (slot slots left inner body whole : ℕ) (r : EvalRefusal) → Binds a0 a slot slots left body whole → 0 < left → slot + (left - 1) ≡ inner
+pub binds_refused : (a0 a b : Arena) (slot slots left inner body whole : ℕ) (r : EvalRefusal)
+    → Binds a0 a slot slots left body whole → 0 < left → slot + (left - 1) ≡ inner
     → Makes b (put (Bind inner (tree_of a whole))) (Err r) → Makes b (bind_all slot slots (tree_of a0 body)) (Err r)
 binds_refused a0 a b slot slots left inner body whole r inv p e m =
     refused_then r (put (Bind inner (tree_of a whole))) (bind_all slot slots (tree_of a0 body)) (λ d. bind_all slot (left - 1) d)
@@ -57,7 +59,8 @@ link_so a0 a link all parts rest part whole inv e s =
     ∙ ap (λ ds. all_from_right (linked link) (ds ++ tree_of a whole ∷ []) s) (map-append (tree_of a0) rest (part ∷ []))
     ∙ ap (λ ds. all_from_right (linked link) ds s) (append_assoc (trees_of a0 rest) (tree_of a0 part ∷ []) (tree_of a whole ∷ []))
     ∙ right_turn (linked link) (trees_of a0 rest) (tree_of a0 part) (tree_of a whole) s
-    ∙ ap (λ d. after (put (linked link d (tree_of a whole)) s) (λ r. all_from_right (linked link) (trees_of a0 rest ++ r ∷ []))) (sym (inv.keeps.trees part (back a0 rest part there)))
+    ∙ ap (λ d. after (put (linked link d (tree_of a whole)) s) (λ r. all_from_right (linked link) (trees_of a0 rest ++ r ∷ [])))
+    (sym (inv.keeps.trees part (back a0 rest part there)))
 
 pub links_on : (a0 a b : Arena) (link : Link) (all parts rest : List ℕ) (part whole id : ℕ) → Links a0 a link all parts whole → parts ≡ rest ++ part ∷ []
     → Makes b (put (linked link (tree_of a part) (tree_of a whole))) (Ok id) → Extends a b → Links a0 b link all rest id
@@ -69,7 +72,8 @@ links_on a0 a b link all parts rest part whole id inv e m k = record {
       (λ r. all_from_right (linked link) (trees_of a0 rest ++ r ∷ [])) (link_so a0 a link all parts rest part whole inv e) m.1;
 }
 
-pub links_refused : (a0 a b : Arena) (link : Link) (all parts rest : List ℕ) (part whole : ℕ) (r : EvalRefusal) → Links a0 a link all parts whole → parts ≡ rest ++ part ∷ []
+pub links_refused : (a0 a b : Arena) (link : Link) (all parts rest : List ℕ) (part whole : ℕ) (r : EvalRefusal)
+    → Links a0 a link all parts whole → parts ≡ rest ++ part ∷ []
     → Makes b (put (linked link (tree_of a part) (tree_of a whole))) (Err r) → Makes b (all_from_right (linked link) (trees_of a0 all)) (Err r)
 links_refused a0 a b link all parts rest part whole r inv e m =
     refused_then r (put (linked link (tree_of a part) (tree_of a whole))) (all_from_right (linked link) (trees_of a0 all))
@@ -77,7 +81,8 @@ links_refused a0 a b link all parts rest part whole r inv e m =
 
 -- ---- from the left
 
-pub operates_on : (a0 a b : Arena) (op : Op) (first : ℕ) (others left rest : List ℕ) (part whole id : ℕ) → Operates a0 a op first others left whole → left ≡ part ∷ rest
+pub operates_on : (a0 a b : Arena) (op : Op) (first : ℕ) (others left rest : List ℕ) (part whole id : ℕ)
+    → Operates a0 a op first others left whole → left ≡ part ∷ rest
     → AreThere a0 left → Makes b (operated (prim.Point op) (tree_of a whole) (tree_of a part)) (Ok id) → Extends a b → Operates a0 b op first others rest id
 operates_on a0 a b op first others left rest part whole id inv e h m k =
     let p = prim.Point op in
@@ -85,7 +90,9 @@ operates_on a0 a b op first others left rest part whole id inv e h m k =
     record {
       keeps = extends_on a0 a b inv.keeps k;
       there = m.0;
-      same = given_then (operated p (tree_of a whole) (tree_of a part)) (tree_of b id) (from_left p (tree_of a0 first) (trees_of a0 others)) (λ r. from_left p r (trees_of a0 rest))
+      same =
+          given_then (operated p (tree_of a whole) (tree_of a part))
+          (tree_of b id) (from_left p (tree_of a0 first) (trees_of a0 others)) (λ r. from_left p r (trees_of a0 rest))
           (λ s. inv.same s ∙ ap (λ is. from_left p (tree_of a whole) (trees_of a0 is) s) e
           ∙ ap (λ d. after (operated p (tree_of a whole) d s) (λ r. from_left p r (trees_of a0 rest))) (sym (inv.keeps.trees part here))) m.1;
     }

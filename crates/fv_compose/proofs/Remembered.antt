@@ -53,7 +53,8 @@ one_more a n h k i l =
 
 -- a node was put, or nothing has changed
 pub put_well : (a b : Arena) (n : Node) (r : Result ℕ EvalRefusal) → AreWellFormed a → ChildrenBelow (count_of a) n
-    → IfOk r (λ i. (i ≡ count_of a) × (b ≡ with_node a n)) → OnOk r (HasWellFormedParts (tree_with a n) → IsWellFormed (tree_with a n)) → OnErr r (b ≡ a) → AreWellFormed b
+    → IfOk r (λ i. (i ≡ count_of a) × (b ≡ with_node a n))
+    → OnOk r (HasWellFormedParts (tree_with a n) → IsWellFormed (tree_with a n)) → OnErr r (b ≡ a) → AreWellFormed b
 put_well a b n (Ok i) h c added well err = subst AreWellFormed (sym added.1) (one_more a n h (well (parts_well a n h c)))
 put_well a b n (Err e) h c added well err = subst AreWellFormed (sym err) h
 
@@ -85,7 +86,8 @@ adds_well a b g h = subst AreWellFormed (sym (ap of_nodes g.nodes)) (more_well a
 
 -- ---- a settled diagram, and values that are there
 
-pub settled_draws : {E : Type 0} (a : Arena) (d : Diagram) (r : Result ℕ E) → IfOk r (λ i. i < count_of a) → IfOk r (λ i. tree_of a i ≡ d) → IfOk r (λ i. Draws a i d)
+pub settled_draws : {E : Type 0} (a : Arena) (d : Diagram) (r : Result ℕ E)
+    → IfOk r (λ i. i < count_of a) → IfOk r (λ i. tree_of a i ≡ d) → IfOk r (λ i. Draws a i d)
 settled_draws a d (Ok i) h k = record { inside = h; is = k }
 settled_draws a d (Err e) h k = tt
 

@@ -21,7 +21,8 @@ right_turn c (x ∷ xs) y z s =
     further c x y xs (z ∷ []) s
     ∙ ap (λ o. after o above) (right_turn c xs y z s)
     ∙ after_after (put (c y z) s) (λ r. all_from_right c (xs ++ r ∷ [])) above
-    ∙ same_after (put (c y z) s) (λ r. all_from_right c (xs ++ r ∷ []) >>= above) (λ r. all_from_right c (x ∷ (xs ++ r ∷ []))) (λ r t. sym (further c x r xs [] t))
+    ∙ same_after (put (c y z) s) (λ r. all_from_right c (xs ++ r ∷ []) >>= above)
+    (λ r. all_from_right c (x ∷ (xs ++ r ∷ []))) (λ r t. sym (further c x r xs [] t))
 
 -- the last slot is bound first
 pub bind_turn : (slot k : ℕ) (d : Diagram) (s : State) → bind_all slot (suc k) d s ≡ after (put (Bind (slot + k) d) s) (λ b. bind_all slot k b)

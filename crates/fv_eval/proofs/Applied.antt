@@ -19,7 +19,8 @@ none_then true u e = absurd (none-some u (sym e))
 none_then false u e = refl
 
 -- one argument was taken, and the others wait
-pub apply_took : (l : Lexed) (start : ℕ) (v a u : Value) (vs : List Value) (fs : List Frame) (s : State) → took v a ≡ Some u → apply l start v (a ∷ vs) fs s ≡ apply l start u vs fs s
+pub apply_took : (l : Lexed) (start : ℕ) (v a u : Value) (vs : List Value) (fs : List Frame) (s : State)
+    → took v a ≡ Some u → apply l start v (a ∷ vs) fs s ≡ apply l start u vs fs s
 apply_took l start (Flat f) a u vs fs s e = absurd (none-some u e)
 apply_took l start (Abstraction x [] b E) a u vs fs s e = absurd (none-some u e)
 apply_took l start (Abstraction x (y ∷ ys) b E) a u vs fs s e = let h : Abstraction y ys b (Bound x a E) ≡ u = cc in ap (λ w. apply l start w vs fs s) h
@@ -29,7 +30,8 @@ apply_took l start (Rules r rs E T) a u vs fs s e =
     ∙ ap (λ w. apply l start w vs fs s) h.1
 
 -- the last argument that is wanted
-pub apply_completes : (l : Lexed) (start : ℕ) (v a : Value) (vs : List Value) (fs : List Frame) (s : State) → took v a ≡ None → apply l start v (a ∷ vs) fs s ≡ completed l start v a vs fs s
+pub apply_completes : (l : Lexed) (start : ℕ) (v a : Value) (vs : List Value) (fs : List Frame) (s : State)
+    → took v a ≡ None → apply l start v (a ∷ vs) fs s ≡ completed l start v a vs fs s
 apply_completes l start (Flat f) a vs fs s e = refl
 apply_completes l start (Abstraction x [] b E) a vs fs s e = refl
 apply_completes l start (Abstraction x (y ∷ ys) b E) a vs fs s e = absurd (none-some _ (sym e))

@@ -14,7 +14,8 @@ use Rattle.fv_rules.specs.Matching.{settled, value_number}
 use Rattle.fv_rules.specs.Rules.{read_number, slider_kind}
 use Rattle.fv_rules.specs.Shows.{ShowsTree, ShowsValue, ShowsValues, ShowsEnv}
 use Rattle.fv_rules.proofs.Grown.{tree_grows, value_grows, env_grows, values_grow}
-use Rattle.fv_machine.specs.Machine.{ForValue, Function, Argument, Leftover, Parameter, ForDiagram, Frame, Valued, Drawn, apply, arrives, next_argument, parameter_read, to_diagram, value_arrives}
+use Rattle.fv_machine.specs.Machine.{ForValue, Function, Argument, Leftover, Parameter, ForDiagram, Frame, Valued, Drawn, apply, arrives, next_argument}
+use Rattle.fv_machine.specs.Machine.{parameter_read, to_diagram, value_arrives}
 use Rattle.fv_eval.specs.declared.frame.Frame as code_frame
 use Rattle.fv_eval.specs.declared.frame.Frame.TheVariants as frame
 use Rattle.fv_eval.specs.declared.frame.Focus as code_focus
@@ -23,7 +24,8 @@ use Rattle.fv_eval.specs.declared.frame.ForValue as code_for_value
 use Rattle.fv_eval.specs.declared.frame.ForValue.TheVariants as valued
 use Rattle.fv_eval.specs.declared.frame.ForDiagram as code_for_diagram
 use Rattle.fv_eval.specs.declared.machine.Machine as code_machine
-use Rattle.fv_eval.specs.Frames.{DrawnThere, Goes, Grew, IsShown, Keeps, Runs, ShowsForDiagram, ShowsForValue, ShowsFrame, ShowsFrames, ShowsSlider, Steps, ValuedShown, state_of, world}
+use Rattle.fv_eval.specs.Frames.{DrawnThere, Goes, Grew, IsShown, Keeps, Runs, ShowsForDiagram, ShowsForValue, ShowsFrame, ShowsFrames, ShowsSlider, Steps}
+use Rattle.fv_eval.specs.Frames.{ValuedShown, state_of, world}
 use Rattle.fv_eval.proofs.Moves.{steps_on}
 use Rattle.fv_eval.proofs.There.{drawn_there, values_push}
 
@@ -45,11 +47,13 @@ Reads p m n r a e ns u = (k : SliderKind) (label : List ℕ) (E : Env) (x : Tree
 
 -- what a frame makes of a value
 abbrev pub Resumes : Parsed → (m n : code_machine.Machine) → Result code_focus.Focus EvalRefusal → code_for_value.ForValue → code_value.Value → Type 0
-Resumes p m n r f u = (F : ForValue) (v : Value) → ShowsForValue (world p m) f F → ShowsValue (world p m) u v → Steps p m n r (λ Fs s. value_arrives p.tokens F v Fs s)
+Resumes p m n r f u =
+    (F : ForValue) (v : Value) → ShowsForValue (world p m) f F → ShowsValue (world p m) u v → Steps p m n r (λ Fs s. value_arrives p.tokens F v Fs s)
 
 -- ---- the frames
 
-pub function_resumes : (p : Parsed) (m n : code_machine.Machine) (r : Result code_focus.Focus EvalRefusal) (a e : ℕ) (u : code_value.Value) (us : List code_value.Value)
+pub function_resumes : (p : Parsed)
+    (m n : code_machine.Machine) (r : Result code_focus.Focus EvalRefusal) (a e : ℕ) (u : code_value.Value) (us : List code_value.Value)
     → us ≡ [] → Argues p m n r a u e us → Resumes p m n r (valued.Function a e) u
 function_resumes p m n r a e u us is go (Function s args E) v h k =
     subst (λ ts. Steps p m n r (λ Fs t. next_argument p.tokens s v ts E [] Fs t)) (sym h.3)
@@ -57,10 +61,12 @@ function_resumes p m n r a e u us is go (Function s args E) v h k =
 function_resumes p m n r a e u us is go F v h k = absurd h
 
 -- the rest of the arguments is one shorter
-rest_behind : (us vs : List code_value.Value) (u : code_value.Value) (ts more : List Tree) → vs ≡ us ++ u ∷ [] → more ≡ drop (suc (length us)) ts → drop (length vs) ts ≡ more
+rest_behind : (us vs : List code_value.Value) (u : code_value.Value) (ts more : List Tree)
+    → vs ≡ us ++ u ∷ [] → more ≡ drop (suc (length us)) ts → drop (length vs) ts ≡ more
 rest_behind us vs u ts more e is = let n : length vs ≡ suc (length us) = omega (arith, ap length e, length_push us u) in ap (λ i. drop i ts) n ∙ sym is
 
-pub argument_resumes : (p : Parsed) (m m1 n : code_machine.Machine) (r : Result code_focus.Focus EvalRefusal) (a e : ℕ) (f u w : code_value.Value) (us : Vec code_value.Value Global)
+pub argument_resumes : (p : Parsed)
+    (m m1 n : code_machine.Machine) (r : Result code_focus.Focus EvalRefusal) (a e : ℕ) (f u w : code_value.Value) (us : Vec code_value.Value Global)
     (vs : List code_value.Value) → Grew p m m1 → ((v : Value) → ShowsValue (world p m) u v → ShowsValue (world p m1) w (settled v)) → vs ≡ us.items ++ w ∷ []
     → Argues p m1 n r a f e vs → Resumes p m n r (valued.Argument a f e us) u
 argument_resumes p m m1 n r a e f u w us vs g shows is go (Argument s v more E done) x h k =
@@ -68,13 +74,16 @@ argument_resumes p m m1 n r a e f u w us vs g shows is go (Argument s v more E d
     let new = world p m1 in
     let done' = done ++ settled x ∷ [] in
     let all : ShowsValues new vs done' =
-    subst (λ xs. ShowsValues new xs done') (sym is) (values_push new us.items done w (settled x) (values_grow old new g.lists us.items done h.done) (shows x k)) in
-    let q = go s h.f h.ys v E done' (tree_grows old new g.lists a (tree.Apply s h.f h.ys) h.tree) (value_grows old new g.lists f v h.function) (env_grows old new g.lists e E h.env) all in
+    subst (λ xs. ShowsValues new xs done')
+    (sym is) (values_push new us.items done w (settled x) (values_grow old new g.lists us.items done h.done) (shows x k)) in
+    let q = go s h.f h.ys v E done' (tree_grows old new g.lists a (tree.Apply s h.f h.ys) h.tree)
+    (value_grows old new g.lists f v h.function) (env_grows old new g.lists e E h.env) all in
     steps_on p m m1 n r (λ Fs t. next_argument p.tokens s v more E done' Fs t) g
     (subst (λ ts. Steps p m1 n r (λ Fs t. next_argument p.tokens s v ts E done' Fs t)) (rest_behind us.items vs w (items h.ys) more is h.more_are) q)
 argument_resumes p m m1 n r a e f u w us vs g shows is go F x h k = absurd h
 
-pub leftover_resumes : (p : Parsed) (m n : code_machine.Machine) (r : Result code_focus.Focus EvalRefusal) (a : ℕ) (u : code_value.Value) (us : Vec code_value.Value Global) (next : ℕ)
+pub leftover_resumes : (p : Parsed)
+    (m n : code_machine.Machine) (r : Result code_focus.Focus EvalRefusal) (a : ℕ) (u : code_value.Value) (us : Vec code_value.Value Global) (next : ℕ)
     → Applies p m n r a u (drop next us.items) → Resumes p m n r (valued.Leftover a us next) u
 leftover_resumes p m n r a u us next go (Leftover s vs) v h k = go s h.f h.ys v vs h.tree k h.arguments
 leftover_resumes p m n r a u us next go F v h k = absurd h
@@ -83,8 +92,10 @@ pub parameter_resumes : (p : Parsed) (m n : code_machine.Machine) (r : Result co
     → Reads p m n r a e ns.items u → Resumes p m n r (valued.Parameter a e ns) u
 parameter_resumes p m n r a e u ns go (Parameter kind label s more E ms) v h k =
     let q = go h.0 label E h.1 more v h.5 k in
-    let q1 = subst (λ (i : ℕ). Steps p m n r (λ Fs t. parameter_read (slider_kind h.0) label more E ns.items (read_number p.tokens i (value_number v) t) Fs)) (sym h.3) q in
-    let q2 = subst (λ (xs : List ℤ). Steps p m n r (λ Fs t. parameter_read (slider_kind h.0) label more E xs (read_number p.tokens s (value_number v) t) Fs)) h.4 q1 in
+    let q1 = subst (λ (i : ℕ). Steps p m n r (λ Fs t. parameter_read (slider_kind h.0) label more E ns.items (read_number p.tokens i (value_number v) t) Fs))
+    (sym h.3) q in
+    let q2 = subst
+    (λ (xs : List ℤ). Steps p m n r (λ Fs t. parameter_read (slider_kind h.0) label more E xs (read_number p.tokens s (value_number v) t) Fs)) h.4 q1 in
     subst (λ (c : ControlKind). Steps p m n r (λ Fs t. parameter_read c label more E ms (read_number p.tokens s (value_number v) t) Fs)) (sym h.2) q2
 parameter_resumes p m n r a e u ns go F v h k = absurd h
 
@@ -95,19 +106,27 @@ no_push [] x e = cc
 no_push (y ∷ xs) x e = cc
 
 -- the innermost frame and the others
-pub popped : (p : Parsed) (m : code_machine.Machine) (fs : List code_frame.Frame) (f : code_frame.Frame) (Fs : List Frame) → m.frames ≡ fs ++ f ∷ [] → Keeps p m Fs
+pub popped : (p : Parsed) (m : code_machine.Machine) (fs : List code_frame.Frame) (f : code_frame.Frame) (Fs : List Frame)
+    → m.frames ≡ fs ++ f ∷ [] → Keeps p m Fs
     → (F : Frame) × (Gs : List Frame) × (Fs ≡ F ∷ Gs) × ShowsFrame (world p m) f F × ShowsFrames (world p m) fs Gs
 popped p m fs f [] e k = absurd (no_push fs f (sym e ∙ k))
 popped p m fs f (F ∷ Gs) e k =
-    let same = same_from_push k.0 fs k.1 f (sym k.2 ∙ e) in
-    (F, Gs, refl, subst (λ (x : code_frame.Frame). ShowsFrame (world p m) x F) same.1 k.3, subst (λ (xs : List code_frame.Frame). ShowsFrames (world p m) xs Gs) same.0 k.4)
+    let same = same_from_push k.0 fs k.1 f (sym k.2 ∙ e) in (
+      F,
+      Gs,
+      refl,
+      subst (λ (x : code_frame.Frame). ShowsFrame (world p m) x F) same.1 k.3,
+      subst (λ (xs : List code_frame.Frame). ShowsFrames (world p m) xs Gs) same.0 k.4,
+    )
 
 -- it is shown
-pub first_shown : (p : Parsed) (m : code_machine.Machine) (fs : List code_frame.Frame) (f : code_frame.Frame) (u : code_value.Value) → m.frames ≡ fs ++ f ∷ [] → Runs p m (focus.Give u)
+pub first_shown : (p : Parsed) (m : code_machine.Machine) (fs : List code_frame.Frame) (f : code_frame.Frame) (u : code_value.Value)
+    → m.frames ≡ fs ++ f ∷ [] → Runs p m (focus.Give u)
     → (F : Frame) × ShowsFrame (world p m) f F
 first_shown p m fs f u e h = let t = popped p m fs f h.1.1 e h.1.4 in (t.0, t.3)
 
-pub first_valued : (p : Parsed) (m : code_machine.Machine) (fs : List code_frame.Frame) (f : code_for_value.ForValue) (u : code_value.Value) → m.frames ≡ fs ++ frame.Valued f ∷ []
+pub first_valued : (p : Parsed) (m : code_machine.Machine) (fs : List code_frame.Frame) (f : code_for_value.ForValue) (u : code_value.Value)
+    → m.frames ≡ fs ++ frame.Valued f ∷ []
     → Runs p m (focus.Give u) → ValuedShown (world p m) f
 first_valued p m fs f u e h = let t = first_shown p m fs (frame.Valued f) u e h in parts t.0 t.1
   where
@@ -115,7 +134,8 @@ first_valued p m fs f u e h = let t = first_shown p m fs (frame.Valued f) u e h 
     parts (Valued G) k = (G, k)
     parts (Drawn G) k = absurd k
 
-pub first_drawn : (p : Parsed) (m : code_machine.Machine) (fs : List code_frame.Frame) (f : code_for_diagram.ForDiagram) (u : code_value.Value) → m.frames ≡ fs ++ frame.Drawn f ∷ []
+pub first_drawn : (p : Parsed) (m : code_machine.Machine) (fs : List code_frame.Frame) (f : code_for_diagram.ForDiagram) (u : code_value.Value)
+    → m.frames ≡ fs ++ frame.Drawn f ∷ []
     → Runs p m (focus.Give u) → DrawnThere (world p m) f
 first_drawn p m fs f u e h = let t = first_shown p m fs (frame.Drawn f) u e h in parts t.0 t.1
   where
@@ -130,19 +150,23 @@ given_shown p m u h = (h.1.0, h.1.3)
 -- ---- a value is given
 
 -- nothing waits
-pub arrives_last : (p : Parsed) (m : code_machine.Machine) (fs : List code_frame.Frame) (u : code_value.Value) → m.frames ≡ [] → (v : Value) → ShowsValue (world p m) u v
+pub arrives_last : (p : Parsed) (m : code_machine.Machine) (fs : List code_frame.Frame) (u : code_value.Value)
+    → m.frames ≡ [] → (v : Value) → ShowsValue (world p m) u v
     → Steps p m (record m { frames = fs }) (Ok (focus.Done u)) (λ Fs s. arrives p.tokens v Fs s)
 arrives_last p m fs u e v h [] k = (v, refl, h)
 arrives_last p m fs u e v h (F ∷ Gs) k = absurd (no_push k.0 k.1 (sym k.2 ∙ e))
 
-valued_first : (p : Parsed) (m n : code_machine.Machine) (fs : List code_frame.Frame) (f : code_for_value.ForValue) (r : Result code_focus.Focus EvalRefusal) (u : code_value.Value)
-    → Resumes p (record m { frames = fs }) n r f u → (v : Value) → ShowsValue (world p m) u v → (F : Frame) (Gs : List Frame) → ShowsFrame (world p m) (frame.Valued f) F
+valued_first : (p : Parsed) (m n : code_machine.Machine)
+    (fs : List code_frame.Frame) (f : code_for_value.ForValue) (r : Result code_focus.Focus EvalRefusal) (u : code_value.Value)
+    → Resumes p (record m { frames = fs }) n r f u
+    → (v : Value) → ShowsValue (world p m) u v → (F : Frame) (Gs : List Frame) → ShowsFrame (world p m) (frame.Valued f) F
     → ShowsFrames (world p m) fs Gs → Goes p n r (arrives p.tokens v (F ∷ Gs) (state_of m))
 valued_first p m n fs f r u go v h (Valued G) Gs k ks = go G v k h Gs ks
 valued_first p m n fs f r u go v h (Drawn G) Gs k ks = absurd k
 
 -- a value is waited for
-pub arrives_valued : (p : Parsed) (m n : code_machine.Machine) (fs : List code_frame.Frame) (f : code_for_value.ForValue) (r : Result code_focus.Focus EvalRefusal) (u : code_value.Value)
+pub arrives_valued : (p : Parsed)
+    (m n : code_machine.Machine) (fs : List code_frame.Frame) (f : code_for_value.ForValue) (r : Result code_focus.Focus EvalRefusal) (u : code_value.Value)
     → m.frames ≡ fs ++ frame.Valued f ∷ [] → Resumes p (record m { frames = fs }) n r f u → (v : Value) → ShowsValue (world p m) u v
     → Steps p m n r (λ Fs s. arrives p.tokens v Fs s)
 arrives_valued p m n fs f r u e go v h Fs k =
@@ -151,16 +175,20 @@ arrives_valued p m n fs f r u e go v h Fs k =
 
 -- what a frame makes of a value that is turned into a diagram
 abbrev pub Turns : Parsed → (m n : code_machine.Machine) → Result code_focus.Focus EvalRefusal → code_for_diagram.ForDiagram → code_value.Value → Type 0
-Turns p m n r f u = (F : ForDiagram) (v : Value) → ShowsForDiagram (world p m) f F → ShowsValue (world p m) u v → Steps p m n r (λ Fs s. to_diagram p.tokens F v Fs s)
+Turns p m n r f u =
+    (F : ForDiagram) (v : Value) → ShowsForDiagram (world p m) f F → ShowsValue (world p m) u v → Steps p m n r (λ Fs s. to_diagram p.tokens F v Fs s)
 
-drawn_first : (p : Parsed) (m n : code_machine.Machine) (fs : List code_frame.Frame) (f : code_for_diagram.ForDiagram) (r : Result code_focus.Focus EvalRefusal) (u : code_value.Value)
-    → Turns p (record m { frames = fs }) n r f u → (v : Value) → ShowsValue (world p m) u v → (F : Frame) (Gs : List Frame) → ShowsFrame (world p m) (frame.Drawn f) F
+drawn_first : (p : Parsed) (m n : code_machine.Machine)
+    (fs : List code_frame.Frame) (f : code_for_diagram.ForDiagram) (r : Result code_focus.Focus EvalRefusal) (u : code_value.Value)
+    → Turns p (record m { frames = fs }) n r f u
+    → (v : Value) → ShowsValue (world p m) u v → (F : Frame) (Gs : List Frame) → ShowsFrame (world p m) (frame.Drawn f) F
     → ShowsFrames (world p m) fs Gs → Goes p n r (arrives p.tokens v (F ∷ Gs) (state_of m))
 drawn_first p m n fs f r u go v h (Drawn G) Gs k ks = go G v k h Gs ks
 drawn_first p m n fs f r u go v h (Valued G) Gs k ks = absurd k
 
 -- a diagram is waited for
-pub arrives_drawn : (p : Parsed) (m n : code_machine.Machine) (fs : List code_frame.Frame) (f : code_for_diagram.ForDiagram) (r : Result code_focus.Focus EvalRefusal) (u : code_value.Value)
+pub arrives_drawn : (p : Parsed)
+    (m n : code_machine.Machine) (fs : List code_frame.Frame) (f : code_for_diagram.ForDiagram) (r : Result code_focus.Focus EvalRefusal) (u : code_value.Value)
     → m.frames ≡ fs ++ frame.Drawn f ∷ [] → Turns p (record m { frames = fs }) n r f u → (v : Value) → ShowsValue (world p m) u v
     → Steps p m n r (λ Fs s. arrives p.tokens v Fs s)
 arrives_drawn p m n fs f r u e go v h Fs k =

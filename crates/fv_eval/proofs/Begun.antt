@@ -33,20 +33,25 @@ pub among_goes : (p : Parsed) (m : code_machine.Machine) (new : Environments) (l
 among_goes p m new list id e inner ds x E i is t u h =
     let n : code_machine.Machine = record m { scopes = new } in
     let k : suc (length m.scopes.scopes) ≡ inner = omega (arith, i) in
-    let opened : ShowsEnv (world p (record m { scopes = with_scope m.scopes (scope.Definitions list e) })) (suc (length m.scopes.scopes)) (Scope ds E) = opened_shows (world p m) list ds e E t h in
+    let opened : ShowsEnv (world p (record m { scopes = with_scope m.scopes (scope.Definitions list e) })) (suc (length m.scopes.scopes)) (Scope ds E) =
+    opened_shows (world p m) list ds e E t h in
     let shown : ShowsEnv (world p n) inner (Scope ds E) =
     subst (λ (j : ℕ). ShowsEnv (world p n) j (Scope ds E)) k
     (subst (λ (w : Environments). ShowsEnv (world p (record m { scopes = w })) (suc (length m.scopes.scopes)) (Scope ds E)) (sym is) opened) in
-    steps_on p m n n (Ok (focus.Visit id inner)) (λ Fs s. Running (Visit x (Scope ds E)) Fs s) (scoped_grew p m new (scope.Definitions list e) is) (visits p n id inner x (Scope ds E) u shown)
+    steps_on p m n n (Ok (focus.Visit id inner))
+    (λ Fs s. Running (Visit x (Scope ds E)) Fs s) (scoped_grew p m new (scope.Definitions list e) is) (visits p n id inner x (Scope ds E) u shown)
 
 -- an abstraction with parameters is a value
-abstraction_shown : (p : Parsed) (m : code_machine.Machine) (id e start : ℕ) (ns : List ℕ) (b : Tree) → id < size_of p → tree_in p id ≡ tree.Abstraction start ns b → (ns ≡ [] → ⊥)
-    → (E : Env) → ShowsEnv (world p m) e E → Steps p m m (Ok (focus.Give (value.Abstraction id 0 e))) (λ Fs s. begin p.tokens (tree.Abstraction start ns b) E Fs s)
+abstraction_shown : (p : Parsed) (m : code_machine.Machine) (id e start : ℕ) (ns : List ℕ) (b : Tree)
+    → id < size_of p → tree_in p id ≡ tree.Abstraction start ns b → (ns ≡ [] → ⊥)
+    → (E : Env)
+    → ShowsEnv (world p m) e E → Steps p m m (Ok (focus.Give (value.Abstraction id 0 e))) (λ Fs s. begin p.tokens (tree.Abstraction start ns b) E Fs s)
 abstraction_shown p m id e start [] b l t n E h Fs k = absurd (n refl)
 abstraction_shown p m id e start (x ∷ xs) b l t n E h Fs k =
     (Abstraction (text_of p.tokens x) (map (text_of p.tokens) xs) b E, Fs, refl, (l, ap (λ u. drop 0 (parameters_in p.tokens u)) t, ap body_in t, h), k)
 
-pub abstraction_begins : (p : Parsed) (m : code_machine.Machine) (id e start : ℕ) (ns : List ℕ) (b : Tree) → id < size_of p → tree_in p id ≡ tree.Abstraction start ns b → (ns ≡ [] → ⊥)
+pub abstraction_begins : (p : Parsed) (m : code_machine.Machine) (id e start : ℕ) (ns : List ℕ) (b : Tree)
+    → id < size_of p → tree_in p id ≡ tree.Abstraction start ns b → (ns ≡ [] → ⊥)
     → Begins p m m (Ok (focus.Give (value.Abstraction id 0 e))) e (tree_in p id)
 abstraction_begins p m id e start ns b l t n =
     subst (Begins p m m (Ok (focus.Give (value.Abstraction id 0 e))) e) (sym t) (abstraction_shown p m id e start ns b l t n)
@@ -75,7 +80,8 @@ case_begins p m id e start rs l t =
     (λ E h Fs k. (Rules start (map rule_of (items rs)) E Nothing, Fs, refl, (l, ap start_of t, ap (λ u. map rule_of (case_in u)) t, h, refl), k))
 
 -- a list is no expression
-list_ends : (l : Lexed) (ts : List Tree) (ids : List TreeId) (E : Env) (Fs : List Frame) (s : State) → begin l (forest ts ids End) E Fs s ≡ Ended (Err (no_diagram l (start_of (forest ts ids End))))
+list_ends : (l : Lexed) (ts : List Tree) (ids : List TreeId) (E : Env) (Fs : List Frame) (s : State)
+    → begin l (forest ts ids End) E Fs s ≡ Ended (Err (no_diagram l (start_of (forest ts ids End))))
 list_ends l ts [] E Fs s = refl
 list_ends l ts (i ∷ is) E Fs s = refl
 
@@ -87,7 +93,8 @@ list_begins p m n id e ids r t is =
     ∙ ap (λ (q : EvalRefusal). Ended (Err q)) (sym (is ∙ ap (λ (x : Tree). no_diagram p.tokens (start_of x)) t)))
 
 -- a slider begins with its first parameter
-pub slider_begins : (p : Parsed) (m n : code_machine.Machine) (r : Result code_focus.Focus EvalRefusal) (id e start l : ℕ) (k : SliderKind) (x0 x1 x2 x3 : Tree) (ns : List ℤ)
+pub slider_begins : (p : Parsed)
+    (m n : code_machine.Machine) (r : Result code_focus.Focus EvalRefusal) (id e start l : ℕ) (k : SliderKind) (x0 x1 x2 x3 : Tree) (ns : List ℤ)
     → id < size_of p → tree_in p id ≡ tree.Slider start k l x0 x1 x2 x3 → ns ≡ []
     → GoesOn p m n r id e ns → Begins p m n r e (tree_in p id)
 slider_begins p m n r id e start l k x0 x1 x2 x3 ns inside t none next = λ E h.
@@ -105,4 +112,5 @@ slider_begins p m n r id e start l k x0 x1 x2 x3 ns inside t none next = λ E h.
       env = h;
     } in
     subst (λ (x : Tree). Steps p m n r (λ Fs s. begin p.tokens x E Fs s)) (sym t)
-    (subst (λ (xs : List ℤ). Steps p m n r (λ Fs s. next_parameter (slider_kind k) (label_of p.tokens l) four E xs Fs s)) none (next k (label_of p.tokens l) E four shown))
+    (subst (λ (xs : List ℤ). Steps p m n r (λ Fs s. next_parameter (slider_kind k) (label_of p.tokens l) four E xs Fs s)) none
+    (next k (label_of p.tokens l) E four shown))

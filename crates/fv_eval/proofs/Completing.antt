@@ -19,7 +19,8 @@ use Rattle.fv_rules.specs.Environments.{Environments, with_argument, with_scope}
 use Rattle.fv_rules.specs.Values.{Value, Flat, Abstraction, Rules, Env, Bound, Taken, And, in_order}
 use Rattle.fv_rules.specs.Matching.{Bindings, bound_in, chosen}
 use Rattle.fv_rules.specs.Steps.{no_rule}
-use Rattle.fv_rules.specs.Shows.{World, Grows, IsInside, ShowsBindings, ShowsEnv, ShowsTaken, ShowsTree, ShowsValue, ShowsValues, body_in, parameters_in, rules_in}
+use Rattle.fv_rules.specs.Shows.{World, Grows, IsInside, ShowsBindings, ShowsEnv, ShowsTaken, ShowsTree, ShowsValue, ShowsValues, body_in, parameters_in}
+use Rattle.fv_rules.specs.Shows.{rules_in}
 use Rattle.fv_rules.specs.Choosing.{with_diagrams}
 use Rattle.fv_rules.specs.Chosen.{ShowsChoice}
 use Rattle.fv_rules.proofs.Grown.{env_grows, tree_grows, values_grow}
@@ -35,7 +36,8 @@ use Rattle.fv_eval.proofs.There.{first_left, values_drawn}
 
 -- the clause of `leave`
 abbrev pub Leaves : Parsed → (m n : code_machine.Machine) → Result code_focus.Focus EvalRefusal → (app body : ℕ) → ℕ → List code_value.Value → ℕ → Type 0
-Leaves p m n r app body e us at = (s : ℕ) (f ys x : Tree) (E : Env) (a : Value) (more : List Value) → ShowsTree (world p m) app (tree.Apply s f ys) → ShowsTree (world p m) body x
+Leaves p m n r app body e us at =
+    (s : ℕ) (f ys x : Tree) (E : Env) (a : Value) (more : List Value) → ShowsTree (world p m) app (tree.Apply s f ys) → ShowsTree (world p m) body x
     → ShowsEnv (world p m) e E → ShowsValues (world p m) (drop at us) (a ∷ more) → Steps p m n r (λ Fs t. Running (Visit x E) (Valued (Leftover s more) ∷ Fs) t)
 
 pub diagram_completes : (p : Parsed) (m n : code_machine.Machine) (r : Result code_focus.Focus EvalRefusal) (app i : ℕ) (us : List code_value.Value)
@@ -46,7 +48,8 @@ diagram_completes p m n r app i us at js e go s f ys (Flat d) a more t h k g =
     go d (a ∷ more) [] h g none
 diagram_completes p m n r app i us at js e go s f ys v a more t h k g = absurd h
 
-pub abstraction_completes : (p : Parsed) (m n : code_machine.Machine) (r : Result code_focus.Focus EvalRefusal) (new : Environments) (app f k e i name body : ℕ) (u : code_value.Value)
+pub abstraction_completes : (p : Parsed)
+    (m n : code_machine.Machine) (r : Result code_focus.Focus EvalRefusal) (new : Environments) (app f k e i name body : ℕ) (u : code_value.Value)
     (us : List code_value.Value) (at : ℕ)
     → (0 < length (parameters_in p.tokens (tree_in p f)) → ShowsName p.tokens (Some name) (slice_get (parameters_in p.tokens (tree_in p f)) k))
     → slice_get us at ≡ Some u → i ≡ length m.scopes.scopes + 1 → new ≡ with_scope m.scopes (scope.Bound name u e)
@@ -70,7 +73,8 @@ Orders s count last xs = (w : World) (T : Taken) → w.taken ≡ s.taken → Sho
 -- what choosing a rule answers
 abbrev pub ChoosesOf : Parsed → (old new : Arena) → Ruled → List code_value.Value → Option (TreeId × List code_binding.Binding) → Type 0
 ChoosesOf p old new r xs o =
-    (w : World) (vs : List Value) → w.tree ≡ p → w.diagrams ≡ old → ShowsValues w xs vs → ShowsChoice (with_diagrams w new) o (chosen p.tokens (rules_in p r) vs)
+    (w : World) (vs : List Value) → w.tree ≡ p
+    → w.diagrams ≡ old → ShowsValues w xs vs → ShowsChoice (with_diagrams w new) o (chosen p.tokens (rules_in p r) vs)
 
 -- a rule that has taken one argument more, and the machine then
 pub record Takes (m : code_machine.Machine) (new : Environments) (n i count j : ℕ) (u : code_value.Value) (xs : List code_value.Value) : Type 0 where
@@ -80,29 +84,28 @@ pub record Takes (m : code_machine.Machine) (new : Environments) (n i count j : 
   pub all : Orders new count j xs
 
 -- the arguments that rules have taken are shown
-ordered : (p : Parsed) (m : code_machine.Machine) (new : Environments) (n i count j : ℕ) (u : code_value.Value) (xs : List code_value.Value) (a : Value) (T : Taken)
-    → Takes m new n i count j u xs → ShowsTaken (world p m) n i T → ShowsValue (world p m) u a
+ordered : (p : Parsed) {m : code_machine.Machine} {new : Environments} {n i count j : ℕ} {u : code_value.Value} {xs : List code_value.Value}
+    → Takes m new n i count j u xs → (a : Value) (T : Taken) → ShowsTaken (world p m) n i T → ShowsValue (world p m) u a
     → ShowsValues (world p (record m { scopes = new })) xs (in_order (And a T) [])
-ordered p m new n i count j u xs a T t h k =
+ordered p {m} {new} {n} {i} {count} {j} {u} t a T h k =
     t.all (world p (record m { scopes = new })) (And a T) refl (take_shows p m new u a n count i j T t.place t.is t.one k h)
 
-pub taken_drawn : (p : Parsed) (m : code_machine.Machine) (new : Environments) (n i count j : ℕ) (u : code_value.Value) (xs : List code_value.Value)
+pub taken_drawn : (p : Parsed) {m : code_machine.Machine} {new : Environments} {n i count j : ℕ} {u : code_value.Value} {xs : List code_value.Value}
     → Takes m new n i count j u xs → (T : Taken) × ShowsTaken (world p m) n i T → IsShown (world p m) u → All (IsDrawn m.drawing) xs
-taken_drawn p m new n i count j u xs t T a =
-    values_drawn (world p (record m { scopes = new })) xs (in_order (And a.0 T.0) []) (ordered p m new n i count j u xs a.0 T.0 t T.1 a.1)
+taken_drawn p {m} {new} {xs = xs} t T a =
+    values_drawn (world p (record m { scopes = new })) xs (in_order (And a.0 T.0) []) (ordered p t a.0 T.0 T.1 a.1)
 
 -- the machine has grown, and the choice is the one among the rules
-pub choice_grew : (p : Parsed) (m : code_machine.Machine) (new : Environments) (d : Arena) (n i count j : ℕ) (u : code_value.Value) (xs : List code_value.Value)
-    → Takes m new n i count j u xs → Extends m.drawing d → Grew p m (record m { scopes = new; drawing = d })
-choice_grew p m new d n i count j u xs t ext =
+pub choice_grew : (p : Parsed) (d : Arena) {m : code_machine.Machine} {new : Environments} {n i count j : ℕ} {u : code_value.Value}
+    {xs : List code_value.Value} → Takes m new n i count j u xs → Extends m.drawing d → Grew p m (record m { scopes = new; drawing = d })
+choice_grew p d {m} {new} {i = i} {u = u} t ext =
     let m1 : code_machine.Machine = record m { scopes = new } in
     grew_on p m m1 (record m { scopes = new; drawing = d }) (argument_grew p m new (record { value = u; before = i }) t.is) (drawn_grew p m1 d ext)
 
-pub choice_shows : (p : Parsed) (m : code_machine.Machine) (new : Environments) (d : Arena) (r : Ruled) (n i count j : ℕ) (u : code_value.Value) (xs : List code_value.Value)
-    (o : Option (TreeId × List code_binding.Binding)) → Takes m new n i count j u xs → ChoosesOf p m.drawing d r xs o
+pub choice_shows : (p : Parsed) (d : Arena) (r : Ruled) (o : Option (TreeId × List code_binding.Binding)) {m : code_machine.Machine} {new : Environments}
+    {n i count j : ℕ} {u : code_value.Value} {xs : List code_value.Value} → Takes m new n i count j u xs → ChoosesOf p m.drawing d r xs o
     → Chooses p m (record m { scopes = new; drawing = d }) r n i u o
-choice_shows p m new d r n i count j u xs o t choice T a h k =
-    choice (world p (record m { scopes = new })) (in_order (And a T) []) refl refl (ordered p m new n i count j u xs a T t h k)
+choice_shows p d r o {m} {new} t choice T a h k = choice (world p (record m { scopes = new })) (in_order (And a T) []) refl refl (ordered p t a T h k)
 
 -- what rules have, and what stands first among arguments
 pub rules_inside : (p : Parsed) (m : code_machine.Machine) (r : Ruled) (e n i : ℕ) → IsShown (world p m) (value.Rules r e n i) → IsInside p r
@@ -135,7 +138,8 @@ pub record BindsAll (m : code_machine.Machine) (new : Environments) (e i : ℕ) 
       → ShowsEnv (record w { scopes = new.scopes }) i (bound_in F bs)
 
 -- the right side of the rule that was chosen
-pub chose : (p : Parsed) (m n : code_machine.Machine) (r : Result code_focus.Focus EvalRefusal) (new : Environments) (app body e i : ℕ) (bindings : List code_binding.Binding)
+pub chose : (p : Parsed) (m n : code_machine.Machine)
+    (r : Result code_focus.Focus EvalRefusal) (new : Environments) (app body e i : ℕ) (bindings : List code_binding.Binding)
     (us : List code_value.Value) (at : ℕ) → BindsAll m new e i bindings → Leaves p (record m { scopes = new }) n r app body i us at
     → Selects p m n r app (Some (body, bindings)) e us at
 chose p m n r new app body e i bindings us at binds go s f ys E a more (Some xb) t env g h =
@@ -143,7 +147,8 @@ chose p m n r new app body e i bindings us at binds go s f ys E a more (Some xb)
     let n1 : code_machine.Machine = record m { scopes = new } in
     let w : World = record (world p m) { scopes = new.scopes } in
     let with_taken : List code_argument.Argument → World = λ q. record w { taken = q } in
-    let lists : Grows (world p m) (world p n1) = subst (λ (q : List code_argument.Argument). Grows (world p m) (with_taken q)) (sym same) (grows (world p m) refl) in
+    let lists : Grows (world p m) (world p n1) =
+    subst (λ (q : List code_argument.Argument). Grows (world p m) (with_taken q)) (sym same) (grows (world p m) refl) in
     let grew : Grew p m n1 = record { lists = lists; frames = refl; state = refl } in
     let inner : ShowsEnv (world p n1) i (bound_in E xb.1) =
     subst (λ (q : List code_argument.Argument). ShowsEnv (with_taken q) i (bound_in E xb.1)) (sym same) (bound (world p m) E xb.1 refl env h.1) in

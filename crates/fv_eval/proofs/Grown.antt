@@ -12,7 +12,8 @@ use Rattle.fv_rules.specs.declared.value.Value as code_value
 use Rattle.fv_rules.specs.Values.{Name, Value, Env}
 use Rattle.fv_rules.specs.Shows.{World, Draws, Grows}
 use Rattle.fv_rules.proofs.Grown.{tree_grows, value_grows, env_grows, values_grow}
-use Rattle.fv_machine.specs.Machine.{ForValue, Function, Argument, Leftover, Parameter, ForDiagram, Left, Right, Later, Negated, Ports, Binding, Turning, Counting, Body, Finish, Frame, Valued, Drawn}
+use Rattle.fv_machine.specs.Machine.{ForValue, Function, Argument, Leftover, Parameter, ForDiagram, Left, Right, Later, Negated, Ports, Binding, Turning}
+use Rattle.fv_machine.specs.Machine.{Counting, Body, Finish, Frame, Valued, Drawn}
 use Rattle.fv_compose.specs.Makes.{trees_of}
 use Rattle.fv_eval.specs.declared.frame.Frame as code_frame
 use Rattle.fv_eval.specs.declared.frame.Frame.TheVariants as frame
@@ -54,7 +55,8 @@ module _ (a b : World) (g : Grows a b) where
     arguments = values_grow a b g (drop next us) vs h.arguments;
   }
 
-  slider_grows : (i e done : ℕ) (k : SliderKind) (label : List ℕ) (E : Env) (xs : List Tree) → ShowsSlider a i e done k label E xs → ShowsSlider b i e done k label E xs
+  slider_grows : (i e done : ℕ) (k : SliderKind) (label : List ℕ) (E : Env) (xs : List Tree)
+      → ShowsSlider a i e done k label E xs → ShowsSlider b i e done k label E xs
   slider_grows i e done k label E xs h = record {
     s = h.s;
     n = h.n;
@@ -76,7 +78,8 @@ module _ (a b : World) (g : Grows a b) where
       (h.0, h.1, h.2, h.3, h.4, slider_grows i e (length ns.items) h.0 label E (h.1 ∷ more) h.5)
   for_value_grows f F h = absurd h
 
-  bodies_grow : (i e : ℕ) (is : List ℕ) (r : Repetition) (x : Name) (t : Tree) (E : Env) (ds : List Diagram) → ShowsBodies a i e is r x t E ds → ShowsBodies b i e is r x t E ds
+  bodies_grow : (i e : ℕ) (is : List ℕ) (r : Repetition) (x : Name) (t : Tree) (E : Env) (ds : List Diagram)
+      → ShowsBodies a i e is r x t E ds → ShowsBodies b i e is r x t E ds
   bodies_grow i e is r x t E ds h = record {
     s = h.s;
     n = h.n;
@@ -94,9 +97,17 @@ module _ (a b : World) (g : Grows a b) where
   for_diagram_grows drawn.Negated Negated h = h
   for_diagram_grows (drawn.Ports s) (Ports t) h = h
   for_diagram_grows (drawn.Binding s n) (Binding t m) h = h
-  for_diagram_grows (drawn.Turning i us next is) (Turning f vs ds) h = (g.diagrams i f h.0, values_grow a b g (drop next us.items) vs h.1, draws_grow is.items ds h.2)
-  for_diagram_grows (drawn.Counting i e) (Counting r x s t E) h =
-      (h.0, h.1, h.2, tree_grows a b g i (tree.Iteration h.0 r h.1 h.2 t) h.3, subst (λ (p : Parsed). x ≡ text_of p.tokens h.1) (sym g.tree) h.4, h.5, env_grows a b g e E h.6)
+  for_diagram_grows (drawn.Turning i us next is) (Turning f vs ds) h =
+      (g.diagrams i f h.0, values_grow a b g (drop next us.items) vs h.1, draws_grow is.items ds h.2)
+  for_diagram_grows (drawn.Counting i e) (Counting r x s t E) h = (
+    h.0,
+    h.1,
+    h.2,
+    tree_grows a b g i (tree.Iteration h.0 r h.1 h.2 t) h.3,
+    subst (λ (p : Parsed). x ≡ text_of p.tokens h.1) (sym g.tree) h.4,
+    h.5,
+    env_grows a b g e E h.6,
+  )
   for_diagram_grows (drawn.Body i e left is) (Body r x t E k n ds) h = (bodies_grow i e is.items r x t E ds h.0, h.1, h.2)
   for_diagram_grows drawn.Finish Finish h = h
   for_diagram_grows f F h = absurd h

@@ -32,7 +32,8 @@ use Rattle.fv_eval.proofs.Taking.{bind_shows}
 
 -- the clause of `count`
 abbrev pub Counts : Parsed → (m n : code_machine.Machine) → Result code_focus.Focus EvalRefusal → (a e i : ℕ) → Type 0
-Counts p m n r a e i = (s : ℕ) (q : Repetition) (x : ℕ) (c b : Tree) (E : Env) (d : Diagram) → ShowsTree (world p m) a (tree.Iteration s q x c b) → ShowsEnv (world p m) e E
+Counts p m n r a e i =
+    (s : ℕ) (q : Repetition) (x : ℕ) (c b : Tree) (E : Env) (d : Diagram) → ShowsTree (world p m) a (tree.Iteration s q x c b) → ShowsEnv (world p m) e E
     → Draws (world p m) i d → Steps p m n r (λ Fs t. first_body q (text_of p.tokens x) b E (counted p.tokens (start_of c) (number_of d) t) Fs)
 
 same_kind : (s t : ℕ) (q r : Repetition) (x y : ℕ) (c d a b : Tree) → tree.Iteration s q x c a ≡ tree.Iteration t r y d b → q ≡ r
@@ -47,7 +48,8 @@ same_body s t q r x y c d a b e = cc
 -- ---- the count
 
 -- the first body comes
-pub count_goes : (p : Parsed) (m n : code_machine.Machine) (r : Result code_focus.Focus EvalRefusal) (a e i left k : ℕ) (is : List ℕ) → Some (pos (suc k)) ≡ number_of (tree_of m.drawing i)
+pub count_goes : (p : Parsed) (m n : code_machine.Machine) (r : Result code_focus.Focus EvalRefusal) (a e i left k : ℕ) (is : List ℕ)
+    → Some (pos (suc k)) ≡ number_of (tree_of m.drawing i)
     → left ≡ suc k → is ≡ [] → Repeats p m n r a e left is → Counts p m n r a e i
 count_goes p m n r a e i left k is some count none go s q y c b E d t h g =
     let w = world p m in
@@ -55,10 +57,12 @@ count_goes p m n r a e i left k is some count none go s q y c b E d t h g =
     let go1 = subst (λ (js : List ℕ). Repeats p m n r a e left js) none go in
     let go2 = subst (λ (j : ℕ). Repeats p m n r a e j []) count go1 in
     let step = go2 q (text_of p.tokens y) b E [] (record { s = s; n = y; count = c; tree = t; name = refl; env = h; done = empty }) in
-    subst (λ (o : Option ℤ). Steps p m n r (λ Fs u. first_body q (text_of p.tokens y) b E (counted p.tokens (start_of c) o u) Fs)) (some ∙ ap number_of g.1) step
+    subst (λ (o : Option ℤ). Steps p m n r (λ Fs u. first_body q (text_of p.tokens y) b E (counted p.tokens (start_of c) o u) Fs))
+    (some ∙ ap number_of g.1) step
 
 -- the same, where the number is not below 1
-pub count_from : (p : Parsed) (m n : code_machine.Machine) (r : Result code_focus.Focus EvalRefusal) (a e i left : ℕ) (is : List ℕ) (z : ℤ) → Some z ≡ number_of (tree_of m.drawing i)
+pub count_from : (p : Parsed) (m n : code_machine.Machine) (r : Result code_focus.Focus EvalRefusal) (a e i left : ℕ) (is : List ℕ) (z : ℤ)
+    → Some z ≡ number_of (tree_of m.drawing i)
     → lt_z z (pos 1) ≡ false → ((k : ℕ) → z ≡ pos (suc k) → left ≡ suc k) → is ≡ [] → Repeats p m n r a e left is → Counts p m n r a e i
 count_from p m n r a e i left is (pos zero) some low count none go = absurd (cc)
 count_from p m n r a e i left is (pos (suc k)) some low count none go = count_goes p m n r a e i left k is some (count k refl) none go
@@ -68,7 +72,8 @@ count_from p m n r a e i left is (negsuc k) some low count none go = absurd (cc)
 
 -- all are there
 pub bodies_end : (p : Parsed) (m : code_machine.Machine) (new : Arena) (r : Result ℕ EvalRefusal) (a e t0 y0 : ℕ) (q0 : Repetition) (c0 b0 : Tree) (is : List ℕ)
-    → tree_in p a ≡ tree.Iteration t0 q0 y0 c0 b0 → Extends m.drawing new → MakesValue new (gathered q0 (trees_of m.drawing is)) r → Repeats p m (record m { drawing = new }) (gave r) a e 0 is
+    → tree_in p a ≡ tree.Iteration t0 q0 y0 c0 b0
+    → Extends m.drawing new → MakesValue new (gathered q0 (trees_of m.drawing is)) r → Repeats p m (record m { drawing = new }) (gave r) a e 0 is
 bodies_end p m new r a e t0 y0 q0 c0 b0 is node g made q x b E ds h =
     let kind : q0 ≡ q = sym (same_kind h.s t0 q q0 h.n y0 h.count c0 b b0 (sym h.tree.1 ∙ node)) in
     let made1 = subst (λ (k : Repetition). MakesValue new (gathered k (trees_of m.drawing is)) r) kind made in
@@ -86,7 +91,8 @@ pub body_waits : (p : Parsed) (m n : code_machine.Machine) (r : Result code_focu
     → ShowsTree (world p (record m { drawing = d; scopes = s })) body x → ShowsEnv (world p (record m { drawing = d; scopes = s })) inner E
     → Steps p (record m { drawing = d; scopes = s }) n r (λ Fs t. Running (Visit x E) (F ∷ Fs) t))
     → Repeats p m n r a e left done.items
-body_waits p m n r d s a e left left1 inner number name body t0 y0 q0 c0 b0 index done node one index_is g drawn_is text canonical place is inside body_is wait q x b E ds h =
+body_waits p m n r d s a e left
+    left1 inner number name body t0 y0 q0 c0 b0 index done node one index_is g drawn_is text canonical place is inside body_is wait q x b E ds h =
     let m1 : code_machine.Machine = record m { drawing = d } in
     let m2 : code_machine.Machine = record m { drawing = d; scopes = s } in
     let grew : Grew p m m2 = grew_on p m m1 m2 (drawn_grew p m d g) (scoped_grew p m1 s (scope.Bound name (value.Diagram number) e) is) in

@@ -15,6 +15,7 @@ pub mod Applied
 pub mod Parameters
 pub mod Others
 pub mod Named
+pub mod Labels
 pub mod Entered
 pub mod Controlled
 pub mod Begun

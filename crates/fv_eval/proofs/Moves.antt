@@ -35,7 +35,8 @@ pub drawn_grew : (p : Parsed) (m : code_machine.Machine) (new : Arena) → Exten
 drawn_grew p m new g = record { lists = diagrams_come (world p m) new g.longer g.trees; frames = refl; state = refl }
 
 -- an environment was made
-pub scoped_grew : (p : Parsed) (m : code_machine.Machine) (new : Environments) (x : code_scope.Scope) → new ≡ with_scope m.scopes x → Grew p m (record m { scopes = new })
+pub scoped_grew : (p : Parsed) (m : code_machine.Machine) (new : Environments) (x : code_scope.Scope)
+    → new ≡ with_scope m.scopes x → Grew p m (record m { scopes = new })
 scoped_grew p m new x e =
     subst (λ (s : Environments). Grew p m (record m { scopes = s })) (sym e)
     (record { lists = scope_opens (world p m) x; frames = refl; state = refl })
@@ -45,7 +46,8 @@ pub keeps_on : (p : Parsed) (a b : code_machine.Machine) → Grew p a b → (Fs 
 keeps_on p a b g Fs k = subst (λ fs. ShowsFrames (world p b) fs Fs) (sym g.frames) (frames_grow (world p a) (world p b) g.lists a.frames Fs k)
 
 -- after growing the rest goes on as from the start
-pub steps_on : (p : Parsed) (a b c : code_machine.Machine) (r : Result code_focus.Focus EvalRefusal) (next : List Frame → State → Config) → Grew p a b → Steps p b c r next → Steps p a c r next
+pub steps_on : (p : Parsed) (a b c : code_machine.Machine) (r : Result code_focus.Focus EvalRefusal) (next : List Frame → State → Config)
+    → Grew p a b → Steps p b c r next → Steps p a c r next
 steps_on p a b c r next g h Fs k = subst (λ s. Goes p c r (next Fs s)) g.state (h Fs (keeps_on p a b g Fs k))
 
 -- ---- where it goes
@@ -54,7 +56,8 @@ pub visits : (p : Parsed) (m : code_machine.Machine) (i e : ℕ) (x : Tree) (E :
     → Steps p m m (Ok (focus.Visit i e)) (λ Fs s. Running (Visit x E) Fs s)
 visits p m i e x E t h Fs k = (x, E, Fs, refl, t, h, k)
 
-pub gives : (p : Parsed) (m : code_machine.Machine) (u : code_value.Value) (v : Value) → ShowsValue (world p m) u v → Steps p m m (Ok (focus.Give u)) (λ Fs s. Running (Give v) Fs s)
+pub gives : (p : Parsed) (m : code_machine.Machine) (u : code_value.Value) (v : Value)
+    → ShowsValue (world p m) u v → Steps p m m (Ok (focus.Give u)) (λ Fs s. Running (Give v) Fs s)
 gives p m u v h Fs k = (v, Fs, refl, h, k)
 
 pub refused : (p : Parsed) (old new : code_machine.Machine) (e r : EvalRefusal) → e ≡ r → Steps p old new (Err e) (λ Fs s. Ended (Err r))
@@ -68,11 +71,13 @@ pub put_goes : (p : Parsed) (m : code_machine.Machine) (new : Arena) (i : ℕ) (
 put_goes p m new i o g h =
     let n : code_machine.Machine = record m { drawing = new } in
     let v : Value = Flat (tree_of new i) in
-    let q = steps_on p m n n (Ok (focus.Give (value.Diagram i))) (λ Fs s. Running (Give v) Fs s) (drawn_grew p m new g) (gives p n (value.Diagram i) v (h.0, refl)) in
+    let q = steps_on p m n n (Ok (focus.Give (value.Diagram i)))
+    (λ Fs s. Running (Give v) Fs s) (drawn_grew p m new g) (gives p n (value.Diagram i) v (h.0, refl)) in
     λ Fs k. subst (λ (c : Config). Goes p n (Ok (focus.Give (value.Diagram i))) c) (sym (ap (λ (x : Outcome Value). given x Fs) (h.1 (state_of m)))) (q Fs k)
 
 -- one that was refused
-pub put_refused : (p : Parsed) (m new : code_machine.Machine) (a : Arena) (e : EvalRefusal) (o : Eval Value) → MakesValue a o (Err e) → Steps p m new (Err e) (λ Fs s. given (o s) Fs)
+pub put_refused : (p : Parsed) (m new : code_machine.Machine) (a : Arena) (e : EvalRefusal) (o : Eval Value)
+    → MakesValue a o (Err e) → Steps p m new (Err e) (λ Fs s. given (o s) Fs)
 put_refused p m new a e o (inl h) Fs k = inl h
 put_refused p m new a e o (inr h) Fs k = inr (ap (λ (x : Outcome Value). given x Fs) (h (state_of m)))
 
@@ -81,10 +86,12 @@ pub leaf_goes : (p : Parsed) (m : code_machine.Machine) (new : Arena) (i : ℕ) 
     → Steps p m (record m { drawing = new }) (Ok (focus.Give (value.Diagram i))) (λ Fs s. Running (Give (Flat d)) Fs s)
 leaf_goes p m new i d g h =
     let n : code_machine.Machine = record m { drawing = new } in
-    steps_on p m n n (Ok (focus.Give (value.Diagram i))) (λ Fs s. Running (Give (Flat d)) Fs s) (drawn_grew p m new g) (gives p n (value.Diagram i) (Flat d) (h.inside, h.is))
+    steps_on p m n n (Ok (focus.Give (value.Diagram i)))
+    (λ Fs s. Running (Give (Flat d)) Fs s) (drawn_grew p m new g) (gives p n (value.Diagram i) (Flat d) (h.inside, h.is))
 
 -- ---- nodes
 
 -- what is said of a node's tree is said by its form
-pub at_node : (p : Parsed) (id start : ℕ) (node form : TreeNode) (P : Tree → Type 0) → tree_in p id ≡ node_tree p node start → node ≡ form → P (node_tree p form start) → P (tree_in p id)
+pub at_node : (p : Parsed) (id start : ℕ) (node form : TreeNode) (P : Tree → Type 0)
+    → tree_in p id ≡ node_tree p node start → node ≡ form → P (node_tree p form start) → P (tree_in p id)
 at_node p id start node form P t e h = subst P (sym (t ∙ ap (λ n. node_tree p n start) e)) h

@@ -11,7 +11,8 @@ use Rattle.fv_eval.specs.declared.frame.Focus.TheVariants as focus
 use Rattle.fv_eval.specs.declared.machine.Machine as code_machine
 use Rattle.fv_eval.specs.Frames.{world, state_of, Keeps, Goes}
 
-pub known_goes : (p : Parsed) (m : code_machine.Machine) (u : code_value.Value) (x : Name) (M : Meaning) (Fs : List Frame) → ShowsMeaning (world p m) (meaning.Known u) M → Keeps p m Fs
+pub known_goes : (p : Parsed) (m : code_machine.Machine) (u : code_value.Value) (x : Name) (M : Meaning) (Fs : List Frame)
+    → ShowsMeaning (world p m) (meaning.Known u) M → Keeps p m Fs
     → Goes p m (Ok (focus.Give u)) (begin_name x M Fs (state_of m))
 known_goes p m u x (IsValue v) Fs h k = (v, Fs, refl, h, k)
 known_goes p m u x (IsDefined (Parameters y ys b) E) Fs h k = (Abstraction y ys b E, Fs, refl, h, k)
@@ -19,7 +20,8 @@ known_goes p m u x (IsDefined (Cases s rs) E) Fs h k = (Rules s rs E Nothing, Fs
 known_goes p m u x (IsDefined (Plain b) E) Fs h k = absurd h
 known_goes p m u x Unknown Fs h k = absurd h
 
-pub body_goes : (p : Parsed) (m : code_machine.Machine) (id e : ℕ) (x : Name) (M : Meaning) (Fs : List Frame) → ShowsMeaning (world p m) (meaning.Body id e) M → Keeps p m Fs
+pub body_goes : (p : Parsed) (m : code_machine.Machine) (id e : ℕ) (x : Name) (M : Meaning) (Fs : List Frame)
+    → ShowsMeaning (world p m) (meaning.Body id e) M → Keeps p m Fs
     → Goes p m (Ok (focus.Visit id e)) (begin_name x M Fs (state_of m))
 body_goes p m id e x (IsDefined (Plain b) E) Fs h k = (b, E, Fs, refl, h.0, h.1, k)
 body_goes p m id e x (IsDefined (Parameters y ys b) E) Fs h k = absurd h

@@ -43,7 +43,8 @@ no_name l ts (nodes.List ids) start a = other ids.items
     other (i ∷ is) = refl
 no_name l ts node start a = refl
 
-pub no_slider : (ts : List Tree) (node : TreeNode) (start : ℕ) → ((k : SliderKind) (n : ℕ) (a b c d : TreeId) → node ≡ nodes.Slider k n a b c d → ⊥) → parameters_of (tree_of ts node start) ≡ []
+pub no_slider : (ts : List Tree) (node : TreeNode) (start : ℕ)
+    → ((k : SliderKind) (n : ℕ) (a b c d : TreeId) → node ≡ nodes.Slider k n a b c d → ⊥) → parameters_of (tree_of ts node start) ≡ []
 no_slider ts (nodes.Slider k n a b c d) start h = absurd (h k n a b c d refl)
 no_slider ts (nodes.List ids) start h = other ids.items
   where

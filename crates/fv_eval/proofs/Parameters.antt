@@ -53,7 +53,8 @@ get_map f (x ∷ xs) (suc i) = get_map f xs i
 pub get_within : {A : Type 0} (xs : List A) (i : ℕ) (x : A) → i < length xs → x ≡ get_or xs i x → slice_get xs i ≡ Some x
 get_within xs i x l e = get_at_drop xs i (get_or xs i x) (drop (suc i) xs) (drop-cons xs i x l) ∙ ap Some (sym e)
 
-shown_at : (l : Lexed) (t : Tree) (r : Option ℕ) (o : Option Name) → ((x : Name) → name_of l t ≡ Some x → ShowsName l r (Some x)) → NameAt l (Some t) o → ShowsName l r o
+shown_at : (l : Lexed) (t : Tree) (r : Option ℕ) (o : Option Name)
+    → ((x : Name) → name_of l t ≡ Some x → ShowsName l r (Some x)) → NameAt l (Some t) o → ShowsName l r o
 shown_at l t r (Some x) h n = h x n
 shown_at l t r None h n = absurd n
 
@@ -62,23 +63,27 @@ none_at l None n = tt
 none_at l (Some x) n = absurd n
 
 pub parameter_named : (l : Lexed) (ts : List Tree) (f : ℕ → Tree) (ids : List ℕ) (i id : ℕ) (r : Option ℕ) → map f ids ≡ ts → slice_get ids i ≡ Some id
-    → ((x : Name) → name_of l (f id) ≡ Some x → ShowsName l r (Some x)) → 0 < length (given_names (names_of l ts)) → ShowsName l r (slice_get (given_names (names_of l ts)) i)
+    → ((x : Name) → name_of l (f id) ≡ Some x → ShowsName l r (Some x))
+    → 0 < length (given_names (names_of l ts)) → ShowsName l r (slice_get (given_names (names_of l ts)) i)
 parameter_named l ts f ids i id r e g h some =
     let at : slice_get ts i ≡ Some (f id) = ap (λ us. slice_get us i) (sym e) ∙ get_map f ids i ∙ ap (option_map f) g in
     shown_at l (f id) r (slice_get (given_names (names_of l ts)) i) h
-    (subst (λ (o : Option Tree). NameAt l o (slice_get (given_names (names_of l ts)) i)) at (names_at l ts (given_names (names_of l ts)) (all_names (names_of l ts) some) i))
+    (subst (λ (o : Option Tree). NameAt l o (slice_get (given_names (names_of l ts)) i)) at
+    (names_at l ts (given_names (names_of l ts)) (all_names (names_of l ts) some) i))
 
 pub parameter_none : (l : Lexed) (ts : List Tree) (f : ℕ → Tree) (ids : List ℕ) (i : ℕ) → map f ids ≡ ts → slice_get ids i ≡ None
     → 0 < length (given_names (names_of l ts)) → ShowsName l None (slice_get (given_names (names_of l ts)) i)
 parameter_none l ts f ids i e g some =
     let at : slice_get ts i ≡ None = ap (λ us. slice_get us i) (sym e) ∙ get_map f ids i ∙ ap (option_map f) g in
     none_at l (slice_get (given_names (names_of l ts)) i)
-    (subst (λ (o : Option Tree). NameAt l o (slice_get (given_names (names_of l ts)) i)) at (names_at l ts (given_names (names_of l ts)) (all_names (names_of l ts) some) i))
+    (subst (λ (o : Option Tree). NameAt l o (slice_get (given_names (names_of l ts)) i)) at
+    (names_at l ts (given_names (names_of l ts)) (all_names (names_of l ts) some) i))
 
 map_length : (f : ℕ → Tree) (ids : List ℕ) → length (map f ids) ≡ length ids
 map_length f [] = refl
 map_length f (i ∷ ids) = ap suc (map_length f ids)
 
-pub parameter_count : (l : Lexed) (ts : List Tree) (f : ℕ → Tree) (ids : List ℕ) → map f ids ≡ ts → 0 < length (given_names (names_of l ts)) → length ids ≡ length (given_names (names_of l ts))
+pub parameter_count : (l : Lexed) (ts : List Tree) (f : ℕ → Tree) (ids : List ℕ)
+    → map f ids ≡ ts → 0 < length (given_names (names_of l ts)) → length ids ≡ length (given_names (names_of l ts))
 parameter_count l ts f ids e some =
     let n = names_count l ts (given_names (names_of l ts)) (all_names (names_of l ts) some) in omega (arith, n, ap length e, map_length f ids)

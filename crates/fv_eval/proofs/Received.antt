@@ -24,7 +24,8 @@ use Rattle.fv_rules.specs.Matching.{number_or, settled}
 use Rattle.fv_rules.specs.Steps.{Eval, put}
 use Rattle.fv_rules.specs.Rules.{bind_all, counted, fed, flat, joined, operated, ports}
 use Rattle.fv_rules.specs.Shows.{World, Draws, ShowsTree, ShowsValue, ShowsValues, ShowsEnv}
-use Rattle.fv_machine.specs.Machine.{ForDiagram, Left, Right, Later, Negated, Ports, Binding, Turning, Counting, Body, Finish, Drawn, Visit, Give, Running, diagram_arrives, first_body, given, next_body, next_turned}
+use Rattle.fv_machine.specs.Machine.{ForDiagram, Left, Right, Later, Negated, Ports, Binding, Turning, Counting, Body, Finish, Drawn, Visit, Give, Running}
+use Rattle.fv_machine.specs.Machine.{diagram_arrives, first_body, given, next_body, next_turned}
 use Rattle.fv_eval.specs.declared.frame.Frame as code_frame
 use Rattle.fv_eval.specs.declared.frame.Frame.TheVariants as frame
 use Rattle.fv_eval.specs.declared.frame.Focus as code_focus
@@ -45,7 +46,8 @@ stays_settled w (value.Abstraction f k e) (Abstraction x xs b E) n h = h
 stays_settled w (value.Rules r e k i) (Rules s rs E T) n h = h
 stays_settled w u v n h = absurd h
 
-pub settled_shows : (p : Parsed) (m : code_machine.Machine) (new : Arena) (i j : ℕ) (v : Value) → IsDrawn new j (number_or (number_of (tree_of m.drawing i)) (tree_of m.drawing i))
+pub settled_shows : (p : Parsed) (m : code_machine.Machine) (new : Arena) (i j : ℕ) (v : Value)
+    → IsDrawn new j (number_or (number_of (tree_of m.drawing i)) (tree_of m.drawing i))
     → ShowsValue (world p m) (value.Diagram i) v → ShowsValue (world p (record m { drawing = new })) (value.Diagram j) (settled v)
 settled_shows p m new i j (Flat d) g h = (g.inside, g.is ∙ ap (λ (x : Diagram). number_or (number_of x) x) h.1)
 settled_shows p m new i j v g h = absurd h
@@ -61,10 +63,12 @@ made_goes p m new (Err e) o g h = put_refused p m (record m { drawing = new }) n
 
 -- what a frame makes of a diagram
 abbrev pub Receives : Parsed → (m n : code_machine.Machine) → Result code_focus.Focus EvalRefusal → code_for_diagram.ForDiagram → ℕ → Type 0
-Receives p m n r f i = (F : ForDiagram) (d : Diagram) → ShowsForDiagram (world p m) f F → Draws (world p m) i d → Steps p m n r (λ Fs s. diagram_arrives p.tokens F d Fs s)
+Receives p m n r f i =
+    (F : ForDiagram) (d : Diagram) → ShowsForDiagram (world p m) f F → Draws (world p m) i d → Steps p m n r (λ Fs s. diagram_arrives p.tokens F d Fs s)
 
 pub left_receives : (p : Parsed) (m n : code_machine.Machine) (r : Result code_focus.Focus EvalRefusal) (b e i : ℕ)
-    → ((s : ℕ) (o : Operator) (x y : Tree) (E : Env) (a : Diagram) → ShowsTree (world p m) b (tree.Binary s o x y) → ShowsEnv (world p m) e E → Draws (world p m) i a
+    → ((s : ℕ) (o : Operator) (x y : Tree) (E : Env) (a : Diagram)
+    → ShowsTree (world p m) b (tree.Binary s o x y) → ShowsEnv (world p m) e E → Draws (world p m) i a
     → Steps p m n r (λ Fs t. Running (Visit y E) (Drawn (Right o a) ∷ Fs) t)) → Receives p m n r (drawn.Left b e) i
 left_receives p m n r b e i go (Left o y E) d h k = go h.0 o h.1 y E d h.2 h.3 k
 left_receives p m n r b e i go F d h k = absurd h
@@ -119,8 +123,10 @@ turning_receives p m n r f us next is js i e go (Turning g vs ds) d k h =
 turning_receives p m n r f us next is js i e go F d k h = absurd k
 
 pub counting_receives : (p : Parsed) (m n : code_machine.Machine) (r : Result code_focus.Focus EvalRefusal) (a e i : ℕ)
-    → ((s : ℕ) (q : Repetition) (x : ℕ) (c b : Tree) (E : Env) (d : Diagram) → ShowsTree (world p m) a (tree.Iteration s q x c b) → ShowsEnv (world p m) e E → Draws (world p m) i d
-    → Steps p m n r (λ Fs t. first_body q (text_of p.tokens x) b E (counted p.tokens (start_of c) (number_of d) t) Fs)) → Receives p m n r (drawn.Counting a e) i
+    → ((s : ℕ) (q : Repetition) (x : ℕ) (c b : Tree) (E : Env) (d : Diagram)
+    → ShowsTree (world p m) a (tree.Iteration s q x c b) → ShowsEnv (world p m) e E → Draws (world p m) i d
+    → Steps p m n r (λ Fs t. first_body q (text_of p.tokens x) b E (counted p.tokens (start_of c) (number_of d) t) Fs))
+    → Receives p m n r (drawn.Counting a e) i
 counting_receives p m n r a e i go (Counting q x s b E) d k h =
     let g = go k.0 q k.1 k.2 b E d k.3 k.6 h in
     let g1 = subst (λ (y : Name). Steps p m n r (λ Fs t. first_body q y b E (counted p.tokens (start_of k.2) (number_of d) t) Fs)) (sym k.4) g in
@@ -132,7 +138,8 @@ abbrev pub Repeats : Parsed → (m n : code_machine.Machine) → Result code_foc
 Repeats p m n r a e left is = (q : Repetition) (x : Name) (b : Tree) (E : Env) (ds : List Diagram) → ShowsBodies (world p m) a e is q x b E ds
     → Steps p m n r (λ Fs t. next_body q x b E (length is) left ds Fs t)
 
-one_body_more : (w : World) (a e : ℕ) (is : List ℕ) (q : Repetition) (x : Name) (b : Tree) (E : Env) (ds : List Diagram) (i : ℕ) (d : Diagram) → ShowsBodies w a e is q x b E ds → Draws w i d
+one_body_more : (w : World) (a e : ℕ) (is : List ℕ) (q : Repetition) (x : Name) (b : Tree) (E : Env) (ds : List Diagram) (i : ℕ) (d : Diagram)
+    → ShowsBodies w a e is q x b E ds → Draws w i d
     → ShowsBodies w a e (is ++ i ∷ []) q x b E (ds ++ d ∷ [])
 one_body_more w a e is q x b E ds i d h k =
     record { s = h.s; n = h.n; count = h.count; tree = h.tree; name = h.name; env = h.env; done = draws_push w is ds i d h.done k }
@@ -141,7 +148,8 @@ pub body_receives : (p : Parsed) (m n : code_machine.Machine) (r : Result code_f
     → js ≡ is.items ++ i ∷ [] → Repeats p m n r a e left js → Receives p m n r (drawn.Body a e left is) i
 body_receives p m n r a e left is js i is_more go (Body q x b E next k ds) d h g =
     let all = ds ++ d ∷ [] in
-    let shown = subst (λ (xs : List ℕ). ShowsBodies (world p m) a e xs q x b E all) (sym is_more) (one_body_more (world p m) a e is.items q x b E ds i d h.0 g) in
+    let shown =
+    subst (λ (xs : List ℕ). ShowsBodies (world p m) a e xs q x b E all) (sym is_more) (one_body_more (world p m) a e is.items q x b E ds i d h.0 g) in
     let count : length js ≡ next = omega (arith, ap length is_more, length_push is.items i, h.1) in
     let t = go q x b E all shown in
     let t1 = subst (λ (j : ℕ). Steps p m n r (λ Fs s. next_body q x b E j left all Fs s)) count t in
@@ -156,27 +164,36 @@ finish_receives p m i F d h g = absurd h
 pub received : (p : Parsed) (m n : code_machine.Machine) (r s : Result code_focus.Focus EvalRefusal) (f g : code_for_diagram.ForDiagram) (i : ℕ) → s ≡ r → f ≡ g
     → Receives p m n r g i → Receives p m n s f i
 received p m n r s f g i e k go =
-    subst (λ (x : Result code_focus.Focus EvalRefusal). Receives p m n x f i) (sym e) (subst (λ (x : code_for_diagram.ForDiagram). Receives p m n r x i) (sym k) go)
+    subst (λ (x : Result code_focus.Focus EvalRefusal). Receives p m n x f i)
+    (sym e) (subst (λ (x : code_for_diagram.ForDiagram). Receives p m n r x i) (sym k) go)
 
 -- ---- the arguments of a diagram
 
 -- the next one is turned
-pub next_turns : (p : Parsed) (m : code_machine.Machine) (fs : List code_frame.Frame) (f at next : ℕ) (us : Vec code_value.Value Global) (is : Vec ℕ Global) (u : code_value.Value)
+pub next_turns : (p : Parsed) (m : code_machine.Machine)
+    (fs : List code_frame.Frame) (f at next : ℕ) (us : Vec code_value.Value Global) (is : Vec ℕ Global) (u : code_value.Value)
     → slice_get us.items at ≡ Some u → next ≡ at + 1 → fs ≡ m.frames ++ frame.Drawn (drawn.Turning f us next is) ∷ []
     → Feeds p m (record m { frames = fs }) (Ok (focus.Give u)) f (drop at us.items) is.items
 next_turns p m fs f at next us is u got one pushed d [] ds h k g Fs kept = let here = drop_at_get us.items at u got in absurd (cc)
 next_turns p m fs f at next us is u got one pushed d (v ∷ more) ds h k g Fs kept =
     let next_is : next ≡ suc at = omega (arith, one) in
     let left : drop next us.items ≡ k.1 = ap (λ (j : ℕ). drop j us.items) next_is ∙ drop_behind us.items at k.0 k.1 k.2 in
-    let rest : ShowsValues (world p m) (drop next us.items) more = subst (λ (xs : List code_value.Value). ShowsValues (world p m) xs more) (sym left) k.4 in
-    (v, Drawn (Turning d more ds) ∷ Fs, refl, first_left (world p m) us.items at u v more got k, (m.frames, frame.Drawn (drawn.Turning f us next is), pushed, (h, rest, g), kept))
+    let rest : ShowsValues (world p m) (drop next us.items) more = subst (λ (xs : List code_value.Value). ShowsValues (world p m) xs more) (sym left) k.4 in (
+      v,
+      Drawn (Turning d more ds) ∷ Fs,
+      refl,
+      first_left (world p m) us.items at u v more got k,
+      (m.frames, frame.Drawn (drawn.Turning f us next is), pushed, (h, rest, g), kept),
+    )
 
 -- all are turned, and the diagram is fed with them
-pub feeds_all : (p : Parsed) (m : code_machine.Machine) (new : Arena) (r : Result ℕ EvalRefusal) (res : Result code_focus.Focus EvalRefusal) (f at : ℕ) (us : List code_value.Value) (is : List ℕ)
+pub feeds_all : (p : Parsed) (m : code_machine.Machine)
+    (new : Arena) (r : Result ℕ EvalRefusal) (res : Result code_focus.Focus EvalRefusal) (f at : ℕ) (us : List code_value.Value) (is : List ℕ)
     → slice_get us at ≡ None → Extends m.drawing new → MakesValue new (fed (tree_of m.drawing f) (trees_of m.drawing is)) r → res ≡ gave r
     → Feeds p m (record m { drawing = new }) res f (drop at us) is
 feeds_all p m new r res f at us is none g made res_is d [] ds h k shown =
     let made1 = subst (λ (x : Diagram). MakesValue new (fed x (trees_of m.drawing is)) r) h.1 made in
     let made2 = subst (λ (xs : List Diagram). MakesValue new (fed d xs) r) shown.1 made1 in
-    subst (λ (x : Result code_focus.Focus EvalRefusal). Steps p m (record m { drawing = new }) x (λ Fs s. next_turned d [] ds Fs s)) (sym res_is) (made_goes p m new r (fed d ds) g made2)
+    subst (λ (x : Result code_focus.Focus EvalRefusal). Steps p m (record m { drawing = new }) x (λ Fs s. next_turned d [] ds Fs s))
+    (sym res_is) (made_goes p m new r (fed d ds) g made2)
 feeds_all p m new r res f at us is none g made res_is d (v ∷ more) ds h k shown = let ended = drop_at_end us at none in let here = k.2 in absurd (cc)

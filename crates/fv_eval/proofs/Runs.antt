@@ -58,7 +58,11 @@ done p m i mean h = shown h.0 (sym (mean p.tokens (program_of p) start) ∙ h.1)
   where
     shown : (v : Value) → flat (of_process p.tokens (program_of p)) start ≡ Ok (v, state_of m) → ShowsValue (world p m) (value.Diagram i) v
         → (i < count_of m.drawing) × (program_value p.tokens (program_of p) ≡ Ok (tree_of m.drawing i, m.controls))
-    shown (Flat d) e k = (k.0, finished_ok (of_process p.tokens (program_of p) start) (tree_of m.drawing i) (state_of m) (e ∙ ap (λ (x : Diagram). Ok (Flat x, state_of m)) (sym k.1)))
+    shown (Flat d) e k = (
+      k.0,
+      finished_ok (of_process p.tokens (program_of p) start)
+          (tree_of m.drawing i) (state_of m) (e ∙ ap (λ (x : Diagram). Ok (Flat x, state_of m)) (sym k.1)),
+    )
     shown v e k = absurd k
 
 -- one that is refused, the program's refusal
@@ -70,7 +74,8 @@ refused p m r mean (inr h) = inr (finished_err (of_process p.tokens (program_of 
 -- ---- steps of a run
 
 -- the configuration that a run has come to has ended
-pub run_done : (p : Parsed) (m : code_machine.Machine) (u : code_value.Value) (o : Outcome Value) → Continues p.tokens p m (Ok (focus.Done u)) o → Ends p m (Ok u) o
+pub run_done : (p : Parsed) (m : code_machine.Machine) (u : code_value.Value) (o : Outcome Value)
+    → Continues p.tokens p m (Ok (focus.Done u)) o → Ends p m (Ok u) o
 run_done p m u o h = (h.1.0, sym h.2 ∙ ap (meaning p.tokens) h.1.1, h.1.2)
 
 pub run_refused : (p : Parsed) (m : code_machine.Machine) (r : EvalRefusal) (o : Outcome Value) → Continues p.tokens p m (Err r) o → Ends p m (Err r) o
@@ -113,7 +118,8 @@ pub runs_first : (p q : Parsed) (m : code_machine.Machine) (f : code_focus.Focus
 runs_first p q m f o e h = subst (λ (x : Parsed). Runs x m f) (sym e) (h.0, h.1)
 
 -- and its end is that of the program
-pub run_ends : (p q : Parsed) (m n : code_machine.Machine) (f : code_focus.Focus) (r s : Result code_value.Value EvalRefusal) (o : Outcome Value) → q ≡ p → r ≡ s
+pub run_ends : (p q : Parsed) (m n : code_machine.Machine) (f : code_focus.Focus) (r s : Result code_value.Value EvalRefusal) (o : Outcome Value)
+    → q ≡ p → r ≡ s
     → Continues p.tokens p m (Ok f) o → ((w : Outcome Value) → Continues q.tokens q m (Ok f) w → Ends q n r w) → Ends p n s o
 run_ends p q m n f r s o e is h run =
     subst (λ (t : Result code_value.Value EvalRefusal). Ends p n t o) is

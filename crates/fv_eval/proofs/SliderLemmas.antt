@@ -24,7 +24,8 @@ use Rattle.fv_eval.proofs.Places.{get_at_drop, drop_behind, drop_at_end}
 
 -- ---- numbers of values
 
-pub diagram_number : (w : World) (i : ℕ) (o : Option ℤ) → o ≡ number_of (tree_of w.diagrams i) → (v : Value) → ShowsValue w (value.Diagram i) v → o ≡ value_number v
+pub diagram_number : (w : World) (i : ℕ) (o : Option ℤ)
+    → o ≡ number_of (tree_of w.diagrams i) → (v : Value) → ShowsValue w (value.Diagram i) v → o ≡ value_number v
 diagram_number w i o e (Flat d) h = e ∙ ap number_of h.1
 diagram_number w i o e (Abstraction x xs b E) h = absurd h
 diagram_number w i o e (Rules s rs E T) h = absurd h
@@ -64,7 +65,8 @@ all_done p m n r slider e ns none finish k label E xs h =
     (finish h.s k h.n h.x0 h.x1 h.x2 h.x3 h.tree.1))
 
 -- all are done, and the slider is given
-pub slider_ends : (p q : Parsed) (m n : code_machine.Machine) (r : Result code_focus.Focus EvalRefusal) (slider e : ℕ) (ns numbers : List ℤ) → q ≡ p → numbers ≡ ns
+pub slider_ends : (p q : Parsed) (m n : code_machine.Machine) (r : Result code_focus.Focus EvalRefusal) (slider e : ℕ) (ns numbers : List ℤ)
+    → q ≡ p → numbers ≡ ns
     → None ≡ slice_get (parameters_of (tree_in q slider)) (length ns) → Finishes q m n r slider numbers → GoesOn p m n r slider e ns
 slider_ends p q m n r slider e ns numbers same numbered none finish =
     subst (λ (t : Parsed). GoesOn t m n r slider e ns) same
@@ -91,20 +93,23 @@ slider_more w slider e ns number k label E x more h =
     }
 
 -- a parameter with a number was read
-pub parameter_goes : (p : Parsed) (m n : code_machine.Machine) (r : Result code_focus.Focus EvalRefusal) (slider e : ℕ) (ns ms : List ℤ) (number : ℤ) → ms ≡ ns ++ number ∷ []
+pub parameter_goes : (p : Parsed) (m n : code_machine.Machine) (r : Result code_focus.Focus EvalRefusal) (slider e : ℕ) (ns ms : List ℤ) (number : ℤ)
+    → ms ≡ ns ++ number ∷ []
     → GoesOn p m n r slider e ms → (k : SliderKind) (label : List ℕ) (E : Env) (x : Tree) (more : List Tree) (o : Option ℤ) → Some number ≡ o
     → ShowsSlider (world p m) slider e (length ns) k label E (x ∷ more)
     → Steps p m n r (λ Fs s. parameter_read (slider_kind k) label more E ns (read_number p.tokens (start_of x) o s) Fs)
 parameter_goes p m n r slider e ns ms number pushed next k label E x more o known h =
     let shown : ShowsSlider (world p m) slider e (length ms) k label E more =
-    subst (λ (xs : List ℤ). ShowsSlider (world p m) slider e (length xs) k label E more) (sym pushed) (slider_more (world p m) slider e ns number k label E x more h) in
+    subst (λ (xs : List ℤ). ShowsSlider (world p m) slider e (length xs) k label E more)
+    (sym pushed) (slider_more (world p m) slider e ns number k label E x more h) in
     subst (λ (q : Option ℤ). Steps p m n r (λ Fs s. parameter_read (slider_kind k) label more E ns (read_number p.tokens (start_of x) q s) Fs)) known
     (subst (λ (xs : List ℤ). Steps p m n r (λ Fs s. next_parameter (slider_kind k) label more E xs Fs s)) pushed (next k label E more shown))
 
 -- one that has none is refused at its place
 pub parameter_refused : (p : Parsed) (m n : code_machine.Machine) (slider e id : ℕ) (ns : List ℤ) (r : EvalRefusal)
     → Some (tree_in p id) ≡ slice_get (parameters_of (tree_in p slider)) (length ns) → r ≡ no_number p.tokens (start_of (tree_in p id))
-    → (k : SliderKind) (label : List ℕ) (E : Env) (x : Tree) (more : List Tree) (o : Option ℤ) → None ≡ o → ShowsSlider (world p m) slider e (length ns) k label E (x ∷ more)
+    → (k : SliderKind) (label : List ℕ) (E : Env) (x : Tree) (more : List Tree) (o : Option ℤ)
+    → None ≡ o → ShowsSlider (world p m) slider e (length ns) k label E (x ∷ more)
     → Steps p m n (Err r) (λ Fs s. parameter_read (slider_kind k) label more E ns (read_number p.tokens (start_of x) o s) Fs)
 parameter_refused p m n slider e id ns r part is k label E x more o none h =
     let four : List Tree = h.x0 ∷ h.x1 ∷ h.x2 ∷ h.x3 ∷ [] in

@@ -1,5 +1,6 @@
 -- An abstraction is turned into a diagram: its parameters are bound to new slots.
-use Rattle.std.proofs.Common.{inr, ◌≡◌, ℕ, suc, ◌+◌, ◌-◌, ◌<◌, ◌≤◌, List, [], ◌∷◌, ◌++◌, length, drop, get_or, Some, Result, Ok, Err, refl, sym, ap, subst, ◌∙◌, arith, length-drop}
+use Rattle.std.proofs.Common.{inr, ◌≡◌, ℕ, suc, ◌+◌, ◌-◌, ◌<◌, ◌≤◌, List, [], ◌∷◌, ◌++◌, length, drop, get_or, Some, Result, Ok, Err, refl, sym, ap, subst, ◌∙◌}
+use Rattle.std.proofs.Common.{arith, length-drop}
 use Rattle.std.specs.Prelude.{slice_get}
 use Rattle.std.proofs.Math.Seq.{drop-cons}
 use Rattle.fv_parse.specs.Trees.{Parsed, size_of, tree_in}
@@ -56,7 +57,8 @@ slot_grew p m d s name slot inner g is =
     let m1 : code_machine.Machine = record m { drawing = d } in
     grew_on p m m1 (record m { drawing = d; scopes = s }) (drawn_grew p m d g) (scoped_grew p m1 s (scope.Bound name (value.Diagram slot) inner) is)
 
-one_slot : (p : Parsed) (m0 m : code_machine.Machine) (d : Arena) (s : Environments) (bound i i1 next : ℕ) → Grew p m (record m { drawing = d; scopes = s }) → Slots p m0 m (i - bound) → bound ≤ i
+one_slot : (p : Parsed) (m0 m : code_machine.Machine) (d : Arena) (s : Environments) (bound i i1 next : ℕ)
+    → Grew p m (record m { drawing = d; scopes = s }) → Slots p m0 m (i - bound) → bound ≤ i
     → i1 ≡ i + 1 → next ≡ m.slot + 1 → Slots p m0 (with_slot m d s next) (i1 - bound)
 one_slot p m0 m d s bound i i1 next g h low one more =
     let before : m.slot ≡ m0.slot + (i - bound) = ap (λ (t : State). t.slot) h.state in
@@ -69,8 +71,10 @@ one_slot p m0 m d s bound i i1 next g h low one more =
 
 one_inner : (p : Parsed) (m : code_machine.Machine) (d : Arena) (s : Environments) (f i i1 next name slot inner e1 slot0 : ℕ) (all : List Name) (E0 : Env)
     → (0 < length (parameters_in p.tokens (tree_in p f)) → ShowsName p.tokens (Some name) (slice_get (parameters_in p.tokens (tree_in p f)) i))
-    → Extends m.drawing d → IsDrawn d slot (Slot m.slot) → e1 ≡ length m.scopes.scopes + 1 → s ≡ with_scope m.scopes (scope.Bound name (value.Diagram slot) inner)
-    → i < length (parameters_in p.tokens (tree_in p f)) → i1 ≡ i + 1 → next ≡ m.slot + 1 → Inner p m inner (drop i (parameters_in p.tokens (tree_in p f))) all slot0 E0
+    → Extends m.drawing d
+    → IsDrawn d slot (Slot m.slot) → e1 ≡ length m.scopes.scopes + 1 → s ≡ with_scope m.scopes (scope.Bound name (value.Diagram slot) inner)
+    → i < length (parameters_in p.tokens (tree_in p f))
+    → i1 ≡ i + 1 → next ≡ m.slot + 1 → Inner p m inner (drop i (parameters_in p.tokens (tree_in p f))) all slot0 E0
     → Inner p (with_slot m d s next) e1 (drop i1 (parameters_in p.tokens (tree_in p f))) all slot0 E0
 one_inner p m d s f i i1 next name slot inner e1 slot0 all E0 named g drawn place is below one more h =
     let names = parameters_in p.tokens (tree_in p f) in
@@ -83,7 +87,9 @@ one_inner p m d s f i i1 next name slot inner e1 slot0 all E0 named g drawn plac
     let i1_is : i1 ≡ suc i = omega (arith, one) in
     record {
       E = E;
-      shows = bind_shows p m1 s name (value.Diagram slot) inner e1 x (Flat (Slot m.slot)) h.E place is (named_at p f i (Some name) x (drop (suc i) names) named rest) (drawn.inside, drawn.is)
+      shows =
+          bind_shows p m1 s name (value.Diagram slot) inner e1 x
+          (Flat (Slot m.slot)) h.E place is (named_at p f i (Some name) x (drop (suc i) names) named rest) (drawn.inside, drawn.is)
           (env_grows (world p m) (world p m1) grew.lists inner h.E h.shows);
       same = ap (λ (j : ℕ). on_slots (drop j names) next E) i1_is ∙ ap (λ (k : ℕ). on_slots (drop (suc i) names) k E) (sym next_is)
           ∙ ap (λ (xs : List Name). on_slots xs m.slot h.E) (sym rest) ∙ h.same;
@@ -92,7 +98,8 @@ one_inner p m d s f i i1 next name slot inner e1 slot0 all E0 named g drawn plac
 pub binds_on : (p : Parsed) (m0 m : code_machine.Machine) (d : Arena) (s : Environments) (f bound i i1 count env inner e1 next name slot : ℕ)
     → Binds p m0 m (parameters_in p.tokens (tree_in p f)) bound i count env inner → bound ≤ i → i < count
     → (0 < length (parameters_in p.tokens (tree_in p f)) → ShowsName p.tokens (Some name) (slice_get (parameters_in p.tokens (tree_in p f)) i))
-    → Extends m.drawing d → IsDrawn d slot (Slot m.slot) → e1 ≡ length m.scopes.scopes + 1 → s ≡ with_scope m.scopes (scope.Bound name (value.Diagram slot) inner)
+    → Extends m.drawing d
+    → IsDrawn d slot (Slot m.slot) → e1 ≡ length m.scopes.scopes + 1 → s ≡ with_scope m.scopes (scope.Bound name (value.Diagram slot) inner)
     → i1 ≡ i + 1 → next ≡ m.slot + 1 → Binds p m0 (with_slot m d s next) (parameters_in p.tokens (tree_in p f)) bound i1 count env e1
 binds_on p m0 m d s f bound i i1 count env inner e1 next name slot inv low below named g drawn place is one more = record {
   slots = one_slot p m0 m d s bound i i1 next (slot_grew p m d s name slot inner g is) inv.slots low one more;
@@ -104,7 +111,8 @@ binds_on p m0 m d s f bound i i1 count env inner e1 next name slot inv low below
 
 -- ---- an abstraction is turned
 
-pub abstraction_turns : (p : Parsed) (m m1 : code_machine.Machine) (fs gs : List code_frame.Frame) (g : code_for_diagram.ForDiagram) (f bound env count inner body slots : ℕ)
+pub abstraction_turns : (p : Parsed)
+    (m m1 : code_machine.Machine) (fs gs : List code_frame.Frame) (g : code_for_diagram.ForDiagram) (f bound env count inner body slots : ℕ)
     → (0 < length (parameters_in p.tokens (tree_in p f)) → count ≡ length (parameters_in p.tokens (tree_in p f))) → Slots p m m1 (count - bound)
     → ((E : Env) → count ≡ length (parameters_in p.tokens (tree_in p f)) → 0 < count → ShowsEnv (world p m) env E
     → ShowsEnv (world p m1) inner (on_slots (drop bound (parameters_in p.tokens (tree_in p f))) m.slot E))
@@ -120,13 +128,23 @@ abstraction_turns p m m1 fs gs g f bound env count inner body slots counted take
     let some : 0 < length names = omega (arith, left) in
     let all : count ≡ length names = counted some in
     let number : count - bound ≡ length (x ∷ xs) = omega (arith, all, left) in
-    let inner_shown : ShowsEnv new inner (on_slots (x ∷ xs) m.slot E) = subst (λ (ys : List Name). ShowsEnv new inner (on_slots ys m.slot E)) k.1 (shows E all (omega (arith, all, some)) k.3) in
-    let state : state_of n ≡ record (state_of m) { slot = m.slot + length (x ∷ xs) } = taken.state ∙ ap (λ (j : ℕ). record (state_of m) { slot = m.slot + j }) number in
-    let below : ShowsFrames new m1.frames Fs = subst (λ (ys : List code_frame.Frame). ShowsFrames new ys Fs) (sym taken.frames) (frames_grow old new taken.lists m.frames Fs kept) in
+    let inner_shown : ShowsEnv new inner (on_slots (x ∷ xs) m.slot E) =
+    subst (λ (ys : List Name). ShowsEnv new inner (on_slots ys m.slot E)) k.1 (shows E all (omega (arith, all, some)) k.3) in
+    let state : state_of n ≡ record (state_of m) { slot = m.slot + length (x ∷ xs) } =
+    taken.state ∙ ap (λ (j : ℕ). record (state_of m) { slot = m.slot + j }) number in
+    let below : ShowsFrames new m1.frames Fs =
+    subst (λ (ys : List code_frame.Frame). ShowsFrames new ys Fs) (sym taken.frames) (frames_grow old new taken.lists m.frames Fs kept) in
     let waits : ShowsFrames new fs (Drawn F ∷ Fs) = (m1.frames, frame.Drawn g, first, for_diagram_grows old new taken.lists g F h, below) in
     let Gs : List Frame = Drawn (Binding m.slot (length (x ∷ xs))) ∷ Drawn F ∷ Fs in
-    let binds : ShowsFrames new gs Gs = (fs, frame.Drawn (drawn.Binding m.slot slots), second, (refl, many ∙ number), waits) in
-    (b, on_slots (x ∷ xs) m.slot E, Gs, ap (λ (t : State). Running (Visit b (on_slots (x ∷ xs) m.slot E)) Gs t) (sym state), (inside, is ∙ k.2), inner_shown, binds)
+    let binds : ShowsFrames new gs Gs = (fs, frame.Drawn (drawn.Binding m.slot slots), second, (refl, many ∙ number), waits) in (
+      b,
+      on_slots (x ∷ xs) m.slot E,
+      Gs,
+      ap (λ (t : State). Running (Visit b (on_slots (x ∷ xs) m.slot E)) Gs t) (sym state),
+      (inside, is ∙ k.2),
+      inner_shown,
+      binds,
+    )
 abstraction_turns p m m1 fs gs g f bound env count inner body slots counted taken shows first second many inside is F v h k Fs kept = absurd k
 
 pub diagram_turns : (p : Parsed) (m n : code_machine.Machine) (r : Result code_focus.Focus EvalRefusal) (g : code_for_diagram.ForDiagram) (i : ℕ)
@@ -134,7 +152,8 @@ pub diagram_turns : (p : Parsed) (m n : code_machine.Machine) (r : Result code_f
 diagram_turns p m n r g i go F (Flat d) h k = go F d h k
 diagram_turns p m n r g i go F v h k = absurd k
 
-pub rules_turn : (p : Parsed) (m n : code_machine.Machine) (x : EvalRefusal) (g : code_for_diagram.ForDiagram) (r : Ruled) (e k i : ℕ) → x ≡ no_diagram p.tokens (begins_in p r)
+pub rules_turn : (p : Parsed) (m n : code_machine.Machine) (x : EvalRefusal) (g : code_for_diagram.ForDiagram) (r : Ruled) (e k i : ℕ)
+    → x ≡ no_diagram p.tokens (begins_in p r)
     → Turns p m n (Err x) g (value.Rules r e k i)
 rules_turn p m n x g r e k i is F (Rules s rs E T) h q Fs kept = inr (ap (λ (y : EvalRefusal). Ended (Err y)) (sym (is ∙ ap (no_diagram p.tokens) q.1)))
 rules_turn p m n x g r e k i is F v h q Fs kept = absurd q

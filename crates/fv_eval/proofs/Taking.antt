@@ -1,5 +1,6 @@
 -- One argument is taken.
-use Rattle.std.proofs.Common.{◌≡◌, ℕ, zero, suc, ◌+◌, ◌-◌, ◌<◌, ◌≤◌, Bool, true, false, List, [], ◌∷◌, length, drop, Option, Some, None, refl, sym, ap, subst, ◌∙◌, arith}
+use Rattle.std.proofs.Common.{◌≡◌, ℕ, zero, suc, ◌+◌, ◌-◌, ◌<◌, ◌≤◌, Bool, true, false, List, [], ◌∷◌, length, drop, Option, Some, None, refl, sym, ap, subst}
+use Rattle.std.proofs.Common.{◌∙◌, arith}
 use Rattle.std.specs.Prelude.{not, is_some, slice_get, if◌then◌else◌}
 use Rattle.std.proofs.lemmas.Option.{none-some}
 use Rattle.std.proofs.lemmas.Bool.{le-ltb, lt-ltb}
@@ -25,7 +26,8 @@ Takes p m n u x o = (v a : Value) → ShowsValue (world p m) u v → ShowsValue 
 -- ---- what `bind` and `take` of the environments give
 
 pub bind_shows : (p : Parsed) (m : code_machine.Machine) (new : Environments) (name : ℕ) (u : code_value.Value) (outer i : ℕ) (x : Name) (v : Value) (E : Env)
-    → i ≡ length m.scopes.scopes + 1 → new ≡ with_scope m.scopes (scope.Bound name u outer) → IsNamed (world p m) name x → ShowsValue (world p m) u v → ShowsEnv (world p m) outer E
+    → i ≡ length m.scopes.scopes + 1
+    → new ≡ with_scope m.scopes (scope.Bound name u outer) → IsNamed (world p m) name x → ShowsValue (world p m) u v → ShowsEnv (world p m) outer E
     → ShowsEnv (world p (record m { scopes = new })) i (Bound x v E)
 bind_shows p m new name u outer i x v E at is named shown env =
     let k : suc (length m.scopes.scopes) ≡ i = omega (arith, at) in
@@ -34,18 +36,21 @@ bind_shows p m new name u outer i x v E at is named shown env =
     subst (λ (j : ℕ). ShowsEnv (world p (record m { scopes = new })) j (Bound x v E)) k
     (subst (λ (s : Environments). ShowsEnv (world p (record m { scopes = s })) (suc (length m.scopes.scopes)) (Bound x v E)) (sym is) bound)
 
-pub argument_grew : (p : Parsed) (m : code_machine.Machine) (new : Environments) (a : code_argument.Argument) → new ≡ with_argument m.scopes a → Grew p m (record m { scopes = new })
+pub argument_grew : (p : Parsed) (m : code_machine.Machine) (new : Environments) (a : code_argument.Argument)
+    → new ≡ with_argument m.scopes a → Grew p m (record m { scopes = new })
 argument_grew p m new a e =
     subst (λ (s : Environments). Grew p m (record m { scopes = s })) (sym e)
     (record { lists = argument_comes (world p m) a; frames = refl; state = refl })
 
 pub take_shows : (p : Parsed) (m : code_machine.Machine) (new : Environments) (u : code_value.Value) (v : Value) (n k before i : ℕ) (T : Taken)
-    → i ≡ length m.scopes.taken → new ≡ with_argument m.scopes (record { value = u; before = before }) → k ≡ n + 1 → ShowsValue (world p m) u v → ShowsTaken (world p m) n before T
+    → i ≡ length m.scopes.taken
+    → new ≡ with_argument m.scopes (record { value = u; before = before }) → k ≡ n + 1 → ShowsValue (world p m) u v → ShowsTaken (world p m) n before T
     → ShowsTaken (world p (record m { scopes = new })) k i (And v T)
 take_shows p m new u v n k before i T at is count shown taken =
     let a : code_argument.Argument = record { value = u; before = before } in
     let more : suc n ≡ k = omega (arith, count) in
-    let all : ShowsTaken (world p (record m { scopes = with_argument m.scopes a })) (suc n) (length m.scopes.taken) (And v T) = taken_shows (world p m) u v n before T shown taken in
+    let all : ShowsTaken (world p (record m { scopes = with_argument m.scopes a })) (suc n) (length m.scopes.taken) (And v T) =
+    taken_shows (world p m) u v n before T shown taken in
     subst (λ (j : ℕ). ShowsTaken (world p (record m { scopes = new })) j i (And v T)) more
     (subst (λ (j : ℕ). ShowsTaken (world p (record m { scopes = new })) (suc n) j (And v T)) (sym at)
     (subst (λ (s : Environments). ShowsTaken (world p (record m { scopes = s })) (suc n) (length m.scopes.taken) (And v T)) (sym is) all))
@@ -107,11 +112,13 @@ last_parameter p m f n k e o (Abstraction x (y ∷ ys) b E) a more h none s =
 last_parameter p m f n k e o v a more h none s = absurd s
 
 -- it has others behind this one
-pub parameter_takes : (p : Parsed) (m : code_machine.Machine) (new : Environments) (f n k e i name : ℕ) (o : Option ℕ) (u : code_value.Value) (v a : Value) → k ≡ n + 1
+pub parameter_takes : (p : Parsed) (m : code_machine.Machine) (new : Environments) (f n k e i name : ℕ) (o : Option ℕ) (u : code_value.Value) (v a : Value)
+    → k ≡ n + 1
     → (0 < length (parameters_in p.tokens (tree_in p f)) → ShowsName p.tokens o (slice_get (parameters_in p.tokens (tree_in p f)) k)) → (o ≡ None → ⊥)
     → (0 < length (parameters_in p.tokens (tree_in p f)) → ShowsName p.tokens (Some name) (slice_get (parameters_in p.tokens (tree_in p f)) n))
     → i ≡ length m.scopes.scopes + 1 → new ≡ with_scope m.scopes (scope.Bound name u e)
-    → ShowsValue (world p m) (value.Abstraction f n e) v → ShowsValue (world p m) u a → ShowsTaking (world p (record m { scopes = new })) (Some (value.Abstraction f k i)) (took v a)
+    → ShowsValue (world p m) (value.Abstraction f n e) v
+    → ShowsValue (world p m) u a → ShowsTaking (world p (record m { scopes = new })) (Some (value.Abstraction f k i)) (took v a)
 parameter_takes p m new f n k e i name o u (Abstraction x [] b E) a more h some named at is s t =
     let names = parameters_in p.tokens (tree_in p f) in
     let next : suc n ≡ k = omega (arith, more) in
@@ -155,7 +162,8 @@ last_of_rules w r e n i k left v a wide is few h = absurd h
 pub rules_take : (p : Parsed) (m : code_machine.Machine) (new : Environments) (r : Ruled) (e n i k left count j : ℕ) (u : code_value.Value) (v a : Value)
     → k ≡ width (rules_in p r) → left ≡ k - n → 1 < left
     → count ≡ n + 1 → j ≡ length m.scopes.taken → new ≡ with_argument m.scopes (record { value = u; before = i })
-    → ShowsValue (world p m) (value.Rules r e n i) v → ShowsValue (world p m) u a → ShowsTaking (world p (record m { scopes = new })) (Some (value.Rules r e count j)) (took v a)
+    → ShowsValue (world p m) (value.Rules r e n i) v
+    → ShowsValue (world p m) u a → ShowsTaking (world p (record m { scopes = new })) (Some (value.Rules r e count j)) (took v a)
 rules_take p m new r e n i k left count j u (Rules s rs E T) a wide is more one at made h t =
     let n1 : code_machine.Machine = record m { scopes = new } in
     let c = taken_count (world p m) n i T h.4 in

@@ -78,7 +78,8 @@ drawn_there w (drawn.Counting a e) (Counting r x s b E) h = h.3.0
 drawn_there w (drawn.Body a e left is) (Body r x b E i n ds) h = (h.0.tree.0, h.0.done.0)
 drawn_there w f F h = absurd h
 
-pub argument_shown : (w : World) (a : ℕ) (u : code_value.Value) (e : ℕ) (us : Vec code_value.Value Global) → ValuedShown w (valued.Argument a u e us) → IsShown w u × AreShown w us.items
+pub argument_shown : (w : World) (a : ℕ) (u : code_value.Value) (e : ℕ) (us : Vec code_value.Value Global)
+    → ValuedShown w (valued.Argument a u e us) → IsShown w u × AreShown w us.items
 argument_shown w a u e us h = parts h.0 h.1
   where
     parts : (F : ForValue) → ShowsForValue w (valued.Argument a u e us) F → IsShown w u × AreShown w us.items
@@ -86,12 +87,18 @@ argument_shown w a u e us h = parts h.0 h.1
     parts F k = absurd k
 
 -- the same after lists have grown
-pub function_stays_shown : (a b : World) → Grows a b → (app : ℕ) (u : code_value.Value) (e : ℕ) (us : Vec code_value.Value Global) → ValuedShown a (valued.Argument app u e us) → IsShown b u
+pub function_stays_shown : (a b : World)
+    → Grows a b → (app : ℕ) (u : code_value.Value) (e : ℕ) (us : Vec code_value.Value Global) → ValuedShown a (valued.Argument app u e us) → IsShown b u
 function_stays_shown a b g app u e us h = let q = (argument_shown a app u e us h).0 in (q.0, value_grows a b g u q.0 q.1)
 
-pub arguments_more_shown : (a b : World) → Grows a b → (app : ℕ) (u : code_value.Value) (e : ℕ) (us : Vec code_value.Value Global) (x y : code_value.Value) (ys : List code_value.Value)
-    → ValuedShown a (valued.Argument app u e us) → IsShown a x → ((v : Value) → ShowsValue a x v → ShowsValue b y (settled v)) → ys ≡ us.items ++ y ∷ [] → AreShown b ys
+pub arguments_more_shown : (a b : World)
+    → Grows a b → (app : ℕ) (u : code_value.Value) (e : ℕ) (us : Vec code_value.Value Global) (x y : code_value.Value) (ys : List code_value.Value)
+    → ValuedShown a (valued.Argument app u e us)
+    → IsShown a x → ((v : Value) → ShowsValue a x v → ShowsValue b y (settled v)) → ys ≡ us.items ++ y ∷ [] → AreShown b ys
 arguments_more_shown a b g app u e us x y ys h k shows is =
     let q = (argument_shown a app u e us h).1 in
-    let vs = q.0 ++ settled k.0 ∷ [] in
-    (vs, subst (λ (xs : List code_value.Value). ShowsValues b xs vs) (sym is) (values_push b us.items q.0 y (settled k.0) (values_grow a b g us.items q.0 q.1) (shows k.0 k.1)))
+    let vs = q.0 ++ settled k.0 ∷ [] in (
+      vs,
+      subst (λ (xs : List code_value.Value). ShowsValues b xs vs)
+          (sym is) (values_push b us.items q.0 y (settled k.0) (values_grow a b g us.items q.0 q.1) (shows k.0 k.1)),
+    )

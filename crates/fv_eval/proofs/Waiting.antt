@@ -23,9 +23,11 @@ Waits p m n r f id e = (F : Frame) (x : Tree) (E : Env) → ShowsFrame (world p 
     → Steps p m n r (λ Fs s. Running (Visit x E) (F ∷ Fs) s)
 
 -- the arguments behind a place wait
-pub leave_waits : (p : Parsed) (m n : code_machine.Machine) (r : Result code_focus.Focus EvalRefusal) (app body e at next : ℕ) (us : Vec code_value.Value Global) → next ≡ at + 1
+pub leave_waits : (p : Parsed)
+    (m n : code_machine.Machine) (r : Result code_focus.Focus EvalRefusal) (app body e at next : ℕ) (us : Vec code_value.Value Global) → next ≡ at + 1
     → Waits p m n r (frame.Valued (valued.Leftover app us next)) body e → Leaves p m n r app body e us.items at
 leave_waits p m n r app body e at next us one wait s f ys x E a more t b h k =
     let next_is : next ≡ suc at = omega (arith, one) in
     let left : drop next us.items ≡ k.1 = ap (λ (i : ℕ). drop i us.items) next_is ∙ drop_behind us.items at k.0 k.1 k.2 in
-    wait (Valued (Leftover s more)) x E (record { f = f; ys = ys; tree = t; arguments = subst (λ (vs : List code_value.Value). ShowsValues (world p m) vs more) (sym left) k.4 }) b h
+    wait (Valued (Leftover s more)) x E
+    (record { f = f; ys = ys; tree = t; arguments = subst (λ (vs : List code_value.Value). ShowsValues (world p m) vs more) (sym left) k.4 }) b h

@@ -18,7 +18,9 @@ use Rattle.fv_rules.specs.Matching.{Bindings, chosen}
 use Rattle.fv_rules.specs.Steps.{State, Outcome}
 use Rattle.fv_rules.specs.Rules.{slider_kind, width}
 use Rattle.fv_rules.specs.Shows.{World, ShowsTree, Draws, ShowsValue, ShowsValues, ShowsEnv, ShowsTaken, IsNamed, IsInside, Grows, rules_in}
-use Rattle.fv_machine.specs.Machine.{ForValue, Function, Argument, Leftover, Parameter, ForDiagram, Left, Right, Later, Negated, Ports, Binding, Turning, Counting, Body, Finish, Frame, Valued, Drawn, Visit, Call, Give, Config, Running, Ended, meaning, begin, next_turned, select}
+use Rattle.fv_machine.specs.Machine.{ForValue, Function, Argument, Leftover, Parameter, ForDiagram, Left, Right, Later, Negated, Ports, Binding, Turning}
+use Rattle.fv_machine.specs.Machine.{Counting, Body, Finish, Frame, Valued, Drawn, Visit, Call, Give, Config, Running, Ended, meaning, begin, next_turned}
+use Rattle.fv_machine.specs.Machine.{select}
 use Rattle.fv_eval.specs.declared.frame.Frame as code_frame
 use Rattle.fv_eval.specs.declared.frame.Frame.TheVariants as frame
 use Rattle.fv_eval.specs.declared.frame.ForValue as code_for_value
@@ -47,7 +49,8 @@ AllDraw w is ds = AreThere w.diagrams is × (trees_of w.diagrams is ≡ ds)
 -- ---- what waits for a value is that
 
 -- an application, whose first arguments are done
-pub record ShowsArgument (w : World) (apply : ℕ) (u : code_value.Value) (e : ℕ) (us : List code_value.Value) (start : ℕ) (v : Value) (more : List Tree) (E : Env) (vs : List Value) : Type 0 where
+pub record ShowsArgument (w : World) (apply : ℕ)
+    (u : code_value.Value) (e : ℕ) (us : List code_value.Value) (start : ℕ) (v : Value) (more : List Tree) (E : Env) (vs : List Value) : Type 0 where
   pub f : Tree
   pub ys : Tree
   pub tree : ShowsTree w apply (tree.Apply start f ys)
@@ -132,8 +135,10 @@ Keeps p m Fs = ShowsFrames (world p m) m.frames Fs
 
 -- What the machine does next is that configuration, unless memory ran out.
 abbrev pub Goes : Parsed → code_machine.Machine → Result code_focus.Focus EvalRefusal → Config → Type 0
-Goes p m (Ok (focus.Visit i e)) c = (x : Tree) × (E : Env) × (Fs : List Frame) × (c ≡ Running (Visit x E) Fs (state_of m)) × ShowsTree (world p m) i x × ShowsEnv (world p m) e E × Keeps p m Fs
-Goes p m (Ok (focus.Call n e)) c = (x : List ℕ) × (E : Env) × (Fs : List Frame) × (c ≡ Running (Call x E) Fs (state_of m)) × IsNamed (world p m) n x × ShowsEnv (world p m) e E × Keeps p m Fs
+Goes p m (Ok (focus.Visit i e)) c =
+    (x : Tree) × (E : Env) × (Fs : List Frame) × (c ≡ Running (Visit x E) Fs (state_of m)) × ShowsTree (world p m) i x × ShowsEnv (world p m) e E × Keeps p m Fs
+Goes p m (Ok (focus.Call n e)) c =
+    (x : List ℕ) × (E : Env) × (Fs : List Frame) × (c ≡ Running (Call x E) Fs (state_of m)) × IsNamed (world p m) n x × ShowsEnv (world p m) e E × Keeps p m Fs
 Goes p m (Ok (focus.Give u)) c = (v : Value) × (Fs : List Frame) × (c ≡ Running (Give v) Fs (state_of m)) × ShowsValue (world p m) u v × Keeps p m Fs
 Goes p m (Ok (focus.Done u)) c = (v : Value) × (c ≡ Ended (Ok (v, state_of m))) × ShowsValue (world p m) u v
 Goes p m (Err r) c = (r ≡ NoMemory) ⊎ (c ≡ Ended (Err r))

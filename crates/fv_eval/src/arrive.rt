@@ -10,7 +10,8 @@ ghost use Rattle.fv_rules.specs.Values.{Env, Flat, Value as Meant};
 ghost use Rattle.fv_rules.specs.Matching.{settled};
 ghost use Rattle.fv_rules.specs.Rules.{ports};
 ghost use Rattle.fv_rules.specs.Shows.{Draws, ShowsEnv, ShowsTree, ShowsValue};
-ghost use Rattle.fv_machine.specs.Machine.{Drawn, ForDiagram as Drawing, ForValue as Valuing, Give, Right, Running, Visit, arrives, diagram_arrives, value_arrives};
+ghost use Rattle.fv_machine.specs.Machine.{Drawn, ForDiagram as Drawing, ForValue as Valuing, Give, Right, Running, Visit, arrives, diagram_arrives};
+ghost use Rattle.fv_machine.specs.Machine.{value_arrives};
 ghost use Rattle.fv_compose.specs.Makes.{IsThere as IsDrawn};
 ghost use Rattle.fv_eval.specs.declared.frame.Focus.TheVariants.{Give as Gives};
 ghost use Rattle.fv_eval.specs.Frames.{DrawnThere, gave, Grew, IsShown, Runs, ShowsForDiagram, ShowsForValue, Steps, ValuedShown, world};
@@ -27,7 +28,8 @@ impl Machine {
     /// A value is given to the innermost frame.
     pub fn arrive(&mut self, text: &Definitions, value: Value) -> Result<Focus, EvalRefusal>
         requires { Runs text.now self.old (Gives value) }
-        ensures { (v : Meant) → ShowsValue (world text.now self.old) value v → Steps text.now self.old self.new result (λ Fs s. arrives text.now.tokens v Fs s) }
+        ensures { (v : Meant) → ShowsValue (world text.now self.old) value v
+            → Steps text.now self.old self.new result (λ Fs s. arrives text.now.tokens v Fs s) }
     {
         match self.frames.pop() {
             None => Ok(Focus::Done(value)),
@@ -142,7 +144,8 @@ impl Machine {
         left: DiagramId,
     ) -> Result<Focus, EvalRefusal>
         requires { binary < size_of text.now }
-        ensures { (s : ℕ) (o : Op) (x y : Tree) (E : Env) (a : Diagram) → ShowsTree (world text.now self.old) binary (Binary s o x y) → ShowsEnv (world text.now self.old) env E
+        ensures { (s : ℕ) (o : Op) (x y : Tree) (E : Env) (a : Diagram) → ShowsTree (world text.now self.old) binary (Binary s o x y)
+            → ShowsEnv (world text.now self.old) env E
             → Draws (world text.now self.old) left a → Steps text.now self.old self.new result (λ Fs t. Running (Visit y E) (Drawn (Right o a) ∷ Fs) t) }
     {
         let TreeNode::Binary(operator, _, y) = text.tree().node(binary) else {
@@ -158,7 +161,8 @@ impl Machine {
     // The number of a diagram's inputs or outputs.
     fn ports(&mut self, side: Side, diagram: DiagramId) -> Result<Focus, EvalRefusal>
         requires { diagram < count_of self.old.drawing }
-        ensures { (p : Parsed) (d : Diagram) → Draws (world p self.old) diagram d → Steps p self.old self.new result (λ Fs s. Running (Give (Flat (ports side d))) Fs s) }
+        ensures { (p : Parsed) (d : Diagram) → Draws (world p self.old) diagram d
+            → Steps p self.old self.new result (λ Fs s. Running (Give (Flat (ports side d))) Fs s) }
     {
         let arity = self.drawing.arity(diagram);
         match side {

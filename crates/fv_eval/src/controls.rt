@@ -2,11 +2,12 @@
 
 ghost use Rattle.std.specs.Prelude.{ℕ, ◌≡◌, [], MatchResult};
 ghost use Rattle.fv_rules.specs.declared.refusal.EvalRefusal.TheVariants.{NoMemory};
-ghost use Rattle.fv_rules.specs.Steps.{is_alike, is_kind, labelled};
-ghost use Rattle.fv_eval.specs.Controls.{Enters, IsNumbered};
+ghost use Rattle.fv_rules.specs.Steps.{is_alike, is_kind};
+ghost use Rattle.fv_eval.specs.Controls.{Enters};
 
 use fv_diagram::{ControlInfo, ControlKind};
 use fv_rules::EvalRefusal;
+use indexmap::IndexSet;
 use std::alloc::Global;
 use std::marker::Model;
 
@@ -14,15 +15,21 @@ use std::marker::Model;
 #[derive(Drop)]
 pub struct Controls {
     list: Vec<ControlInfo>,
+    // The label of each, in the same order.
+    labels: IndexSet<Vec<u8>>,
+    alloc: Global,
 }
 
 impl Model for Controls {
     ghost use Rattle.std.specs.Prelude.{List};
     ghost use Rattle.fv_diagram.specs.declared.control.ControlInfo.{ControlInfo};
+    ghost use Rattle.fv_eval.specs.Controls.{AreLabels};
 
     ghost Value = { List ControlInfo };
 
     ghost view = { λ c. c.list.items };
+
+    ghost invariant = { λ c. AreLabels c.labels.keys c.list.items };
 }
 
 impl Controls {
@@ -32,6 +39,8 @@ impl Controls {
     {
         Controls {
             list: Vec::new(alloc),
+            labels: IndexSet::new(alloc),
+            alloc,
         }
     }
 
@@ -42,18 +51,6 @@ impl Controls {
         self.list.as_slice()
     }
 
-    // The number of the control with a label.
-    fn labelled(&self, label: &[u8]) -> Option<usize>
-        ensures { IsNumbered self.now result (labelled 0 self.now label.now) }
-    {
-        'searching: for i in 0..self.list.len() {
-            if self.list[i].label.bytes() == label {
-                return Some(i);
-            }
-        }
-        None
-    }
-
     /// The number of a control, which is a new one where its label is.
     pub fn enter(&mut self, info: ControlInfo) -> Result<u32, EvalRefusal>
         ensures { Enters self.old self.new info result }
@@ -61,7 +58,7 @@ impl Controls {
         if info.init < info.min || info.init > info.max {
             return Err(EvalRefusal::ControlBounds { label: info.label });
         }
-        match self.labelled(info.label.bytes()) {
+        match self.labels.get_index_of(info.label.bytes()) {
             Some(i) => {
                 if !is_alike(&info, &self.list[i]) {
                     return Err(EvalRefusal::ControlClash { label: info.label });
@@ -70,7 +67,12 @@ impl Controls {
             }
             None => {
                 let i = number(self.list.len())?;
+                let label = Vec::from_slice(self.alloc, info.label.bytes())?;
                 self.list.push(info)?;
+                if self.labels.insert(label).is_err() {
+                    let _ = self.list.pop();
+                    return Err(EvalRefusal::NoMemory);
+                }
                 Ok(i)
             }
         }

@@ -36,7 +36,8 @@ impl Machine {
         requires diagram { diagram < count_of self.old.drawing }
         ensures { (s : ℕ) (r : Repetition) (n : ℕ) (c b : Spelled) (E : Env) (d : Diagram) → ShowsTree (world text.now self.old) iteration (Iteration s r n c b)
             → ShowsEnv (world text.now self.old) env E → Draws (world text.now self.old) diagram d
-            → Steps text.now self.old self.new result (λ Fs t. first_body r (text_of text.now.tokens n) b E (counted text.now.tokens (start_of c) (number_of d) t) Fs) }
+            → Steps text.now self.old self.new result
+            (λ Fs t. first_body r (text_of text.now.tokens n) b E (counted text.now.tokens (start_of c) (number_of d) t) Fs) }
     {
         let tree = text.tree();
         let TreeNode::Iteration(_, _, x, _) = tree.node(iteration) else {
@@ -65,7 +66,8 @@ impl Machine {
     ) -> Result<Focus, EvalRefusal>
         requires iteration { iteration < size_of text.now }
         requires done { AreThere self.old.drawing done.items }
-        ensures { (r : Repetition) (x : Name) (b : Spelled) (E : Env) (ds : List Diagram) → ShowsBodies (world text.now self.old) iteration env done.items r x b E ds
+        ensures { (r : Repetition) (x : Name) (b : Spelled) (E : Env) (ds : List Diagram)
+            → ShowsBodies (world text.now self.old) iteration env done.items r x b E ds
             → Steps text.now self.old self.new result (λ Fs t. next_body r x b E (length done.items) left ds Fs t) }
     {
         let tree = text.tree();

@@ -51,7 +51,8 @@ impl Machine {
 
     /// A tree is visited, and this waits for it.
     pub fn wait(&mut self, frame: Frame, id: TreeId, env: u64) -> Result<Focus, EvalRefusal>
-        ensures { (p : Parsed) (F : Waiting) (x : Tree) (E : Env) → ShowsFrame (world p self.old) frame F → ShowsTree (world p self.old) id x → ShowsEnv (world p self.old) env E
+        ensures { (p : Parsed) (F : Waiting) (x : Tree) (E : Env) → ShowsFrame (world p self.old) frame F → ShowsTree (world p self.old) id x
+            → ShowsEnv (world p self.old) env E
             → Steps p self.old self.new result (λ Fs s. Running (Visit x E) (F ∷ Fs) s) }
     {
         self.frames.push(frame)?;
@@ -60,7 +61,8 @@ impl Machine {
 
     /// A name is called, and this waits for it.
     pub fn wait_for_name(&mut self, frame: Frame, name: u64, env: u64) -> Result<Focus, EvalRefusal>
-        ensures { (p : Parsed) (F : Waiting) (x : Name) (E : Env) → ShowsFrame (world p self.old) frame F → IsNamed (world p self.old) name x → ShowsEnv (world p self.old) env E
+        ensures { (p : Parsed) (F : Waiting) (x : Name) (E : Env) → ShowsFrame (world p self.old) frame F → IsNamed (world p self.old) name x
+            → ShowsEnv (world p self.old) env E
             → Steps p self.old self.new result (λ Fs s. Running (Call x E) (F ∷ Fs) s) }
     {
         self.frames.push(frame)?;
@@ -69,7 +71,8 @@ impl Machine {
 
     /// A tree is visited among definitions.
     pub fn visit_among(&mut self, list: TreeId, id: TreeId, env: u64) -> Result<Focus, EvalRefusal>
-        ensures { (p : Parsed) (ds x : Tree) (E : Env) → ShowsTree (world p self.old) list ds → ShowsTree (world p self.old) id x → ShowsEnv (world p self.old) env E
+        ensures { (p : Parsed) (ds x : Tree) (E : Env) → ShowsTree (world p self.old) list ds → ShowsTree (world p self.old) id x
+            → ShowsEnv (world p self.old) env E
             → Steps p self.old self.new result (λ Fs s. Running (Visit x (Scope ds E)) Fs s) }
     {
         let inner = self.scopes.open(list, env)?;

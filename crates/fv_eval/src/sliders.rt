@@ -98,7 +98,8 @@ impl Machine {
         done: Vec<i32>,
     ) -> Result<Focus, EvalRefusal>
         requires { slider < size_of text.now }
-        ensures { (k : SliderKind) (label : List ℕ) (E : Env) (xs : List Spelled) → ShowsSlider (world text.now self.old) slider env (length done.items) k label E xs
+        ensures { (k : SliderKind) (label : List ℕ) (E : Env) (xs : List Spelled)
+            → ShowsSlider (world text.now self.old) slider env (length done.items) k label E xs
             → Steps text.now self.old self.new result (λ Fs s. next_parameter (slider_kind k) label xs E done.items Fs s) }
     {
         let tree = text.tree();
@@ -120,7 +121,8 @@ impl Machine {
     ) -> Result<Focus, EvalRefusal>
         requires { slider < size_of tree.now }
         ensures { (s : ℕ) (k : SliderKind) (n : ℕ) (x0 x1 x2 x3 : Spelled) → tree_in tree.now slider ≡ SliderTree s k n x0 x1 x2 x3
-            → Steps tree.now self.old self.new result (λ Fs t. given (flat (control (slider_info (slider_kind k) (label_of tree.now.tokens n) numbers.now)) t) Fs) }
+            → Steps tree.now self.old self.new result
+            (λ Fs t. given (flat (control (slider_info (slider_kind k) (label_of tree.now.tokens n) numbers.now)) t) Fs) }
     {
         let TreeNode::Slider(kind, n, _, _, _, _) = tree.node(slider) else {
             return Err(EvalRefusal::NoMemory);

@@ -67,7 +67,8 @@ impl Machine {
     ) -> Result<u64, AllocError>
         requires { node < size_of tree.now }
         ensures slots { IfOk result (λ e. Slots tree.now self.old self.new (count - bound)) }
-        ensures env { IfOk result (λ e. (E : Env) → count ≡ length (parameters_in tree.now.tokens (tree_in tree.now node)) → 0 < count → ShowsEnv (world tree.now self.old) env E
+        ensures env { IfOk result (λ e. (E : Env) → count ≡ length (parameters_in tree.now.tokens (tree_in tree.now node)) → 0 < count
+            → ShowsEnv (world tree.now self.old) env E
             → ShowsEnv (world tree.now self.new) e (on_slots (drop bound (parameters_in tree.now.tokens (tree_in tree.now node))) self.old.slot E)) }
     {
         let mut inner = env;
@@ -95,7 +96,8 @@ impl Machine {
     ) -> Result<Focus, EvalRefusal>
         requires function { function < count_of self.old.drawing }
         requires done { AreThere self.old.drawing done.items }
-        ensures { (p : Parsed) (f : Diagram) (vs : List Meant) (ds : List Diagram) → Draws (world p self.old) function f → ShowsValues (world p self.old) (drop at arguments.items) vs
+        ensures { (p : Parsed) (f : Diagram) (vs : List Meant) (ds : List Diagram) → Draws (world p self.old) function f
+            → ShowsValues (world p self.old) (drop at arguments.items) vs
             → AllDraw (world p self.old) done.items ds → Steps p self.old self.new result (λ Fs s. next_turned f vs ds Fs s) }
     {
         match arguments.get(at as usize) {

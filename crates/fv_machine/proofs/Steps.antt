@@ -11,12 +11,19 @@ use Rattle.fv_diagram.specs.Diagram.{Diagram, Primitive, Constant, Seq}
 use Rattle.fv_diagram.specs.declared.control.ControlKind.{ControlKind}
 use Rattle.fv_grammar.specs.Tree.{items, start_of}
 use Rattle.fv_parse.specs.Trees.{text_of, label_of}
-use Rattle.fv_rules.specs.Values.{Name, Value, Flat, Abstraction, Rules, Env, Outermost, Bound, Scope, And, Definition, Plain, Parameters, Cases, Meaning, IsValue, IsDefined, Unknown, lookup, in_order, count_taken}
+use Rattle.fv_rules.specs.Values.{Name, Value, Flat, Abstraction, Rules, Env, Outermost, Bound, Scope, And, Definition, Plain, Parameters, Cases, Meaning}
+use Rattle.fv_rules.specs.Values.{IsValue, IsDefined, Unknown, lookup, in_order, count_taken}
 use Rattle.fv_rules.specs.Numbers.{number_of}
 use Rattle.fv_rules.specs.Matching.{Bindings, settled, value_number, bound_in, chosen}
 use Rattle.fv_rules.specs.Steps.{State, Outcome, Eval, after, ◌>>=◌, give, spent, put, control}
-use Rattle.fv_rules.specs.Rules.{switch_kind, slider_kind, flat, on_slots, bind_all, turned, operated, joined, defined_value, meant, name_value, arguments, all_turned, fed, width, selected, applied, bodies, gathered, counted, read_number, parameters, slider_info, switch_info, abstraction, rule, ev, FollowsValue, FollowsDiagram}
-use Rattle.fv_machine.specs.Machine.{ForValue, Function, Argument, Leftover, Parameter, ForDiagram, Left, Right, Later, Negated, Ports, Binding, Turning, Counting, Body, Finish, Frame, Valued, Drawn, Visit, Call, Give, Config, Running, Ended, valued, drawn, resumed, unwound, meaning, given, begin_definition, begin_name, begin_abstraction, next_parameter, begin, visiting, calling, next_turned, select, apply, next_argument, next_body, first_body, parameter_read, value_arrives, diagram_arrives, to_diagram, arrives, step, first}
+use Rattle.fv_rules.specs.Rules.{switch_kind, slider_kind, flat, on_slots, bind_all, turned, operated, joined, defined_value, meant, name_value, arguments}
+use Rattle.fv_rules.specs.Rules.{all_turned, fed, width, selected, applied, bodies, gathered, counted, read_number, parameters, slider_info, switch_info}
+use Rattle.fv_rules.specs.Rules.{abstraction, rule, ev, FollowsValue, FollowsDiagram}
+use Rattle.fv_machine.specs.Machine.{ForValue, Function, Argument, Leftover, Parameter, ForDiagram, Left, Right, Later, Negated, Ports, Binding, Turning}
+use Rattle.fv_machine.specs.Machine.{Counting, Body, Finish, Frame, Valued, Drawn, Visit, Call, Give, Config, Running, Ended, valued, drawn, resumed, unwound}
+use Rattle.fv_machine.specs.Machine.{meaning, given, begin_definition, begin_name, begin_abstraction, next_parameter, begin, visiting, calling, next_turned}
+use Rattle.fv_machine.specs.Machine.{select, apply, next_argument, next_body, first_body, parameter_read, value_arrives, diagram_arrives, to_diagram, arrives}
+use Rattle.fv_machine.specs.Machine.{step, first}
 
 after_after : {A B C : Type 0} (r : Outcome A) (f : A → Eval B) (g : B → Eval C) → after (after r f) g ≡ after r (λ x. f x >>= g)
 after_after (Ok x) f g = refl

@@ -1,5 +1,6 @@
 -- Evaluation by a machine that keeps its pending work in a list (this project's profile).
-use Rattle.std.specs.Prelude.{◌≡◌, ℕ, zero, suc, ◌+◌, nat_lt, List, [], ◌∷◌, ◌++◌, length, map, codes, ℤ, pos, neg_ℤ, Option, Some, None, Ok, Err, if◌then◌else◌}
+use Rattle.std.specs.Prelude.{◌≡◌, ℕ, zero, suc, ◌+◌, nat_lt, List, [], ◌∷◌, ◌++◌, length, map, codes, ℤ, pos, neg_ℤ, Option, Some, None, Ok, Err}
+use Rattle.std.specs.Prelude.{if◌then◌else◌}
 use Rattle.fv_lex.specs.Token.{Lexed}
 use Rattle.fv_num.specs.Words.{wrap}
 use Rattle.fv_num.specs.declared.op.Op.TheVariants as op
@@ -14,11 +15,13 @@ use Rattle.fv_diagram.specs.declared.control.ControlKind.{ControlKind}
 use Rattle.fv_rules.specs.declared.refusal.EvalRefusal.TheVariants.{UnknownName}
 use Rattle.fv_grammar.specs.Tree.{items, start_of}
 use Rattle.fv_parse.specs.Trees.{text_of, label_of}
-use Rattle.fv_rules.specs.Values.{Name, Value, Flat, Abstraction, Rules, Env, Outermost, Bound, Scope, Nothing, And, Definition, Plain, Parameters, Cases, Meaning, IsValue, IsDefined, Unknown, lookup, rule_of, in_order, count_taken}
+use Rattle.fv_rules.specs.Values.{Name, Value, Flat, Abstraction, Rules, Env, Outermost, Bound, Scope, Nothing, And, Definition, Plain, Parameters, Cases}
+use Rattle.fv_rules.specs.Values.{Meaning, IsValue, IsDefined, Unknown, lookup, rule_of, in_order, count_taken}
 use Rattle.fv_rules.specs.Numbers.{number_of}
 use Rattle.fv_rules.specs.Matching.{Bindings, settled, value_number, bound_in, chosen}
 use Rattle.fv_rules.specs.Steps.{State, Outcome, Eval, ◌>>=◌, give, no_rule, no_diagram, spent, put, control}
-use Rattle.fv_rules.specs.Rules.{primitive_of, switch_kind, slider_kind, Evaluator, flat, on_slots, bind_all, turned, operated, joined, name_value, arguments, all_turned, fed, width, applied, bodies, gathered, counted, ports, read_number, parameters, slider_info, switch_info, ev}
+use Rattle.fv_rules.specs.Rules.{primitive_of, switch_kind, slider_kind, Evaluator, flat, on_slots, bind_all, turned, operated, joined, name_value, arguments}
+use Rattle.fv_rules.specs.Rules.{all_turned, fed, width, applied, bodies, gathered, counted, ports, read_number, parameters, slider_info, switch_info, ev}
 
 -- What waits for a value.
 pub data ForValue : Type 0 where

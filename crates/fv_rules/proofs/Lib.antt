@@ -1,4 +1,6 @@
 pub mod Fuel
+pub mod SoundValues
+pub mod SoundCompositions
 pub mod Sound
 pub mod FirstValues
 pub mod Grown

@@ -1,357 +1,46 @@
 -- Every diagram of evaluation is well formed, has only the free slots of its environment, and names only the controls so far.
-use Rattle.std.proofs.Common.{inl, inr, ◌≡◌, ◌⊎◌, ℕ, zero, suc, ◌+◌, ◌-◌, ◌%◌, ◌≤◌, ◌<◌, Bool, true, false, List, [], ◌∷◌, ◌++◌, length, Option}
-use Rattle.std.proofs.Common.{Some, None, Result, Ok, Err, ℤ, pos, negsuc, refl, sym, subst, arith}
+use Rattle.std.proofs.Common.{inl, inr, ◌≡◌, ◌⊎◌, ℕ, zero, suc, ◌+◌, ◌≤◌, ◌<◌, Bool, true, false, List, [], ◌∷◌, ◌++◌, length, Option}
+use Rattle.std.proofs.Common.{Some, None, Result, Ok, Err, ℤ, pos, negsuc, refl, subst, arith}
 use Rattle.std.proofs.lemmas.Int.{ints}
 use Rattle.std.proofs.lemmas.List.{length-append}
 use Rattle.std.proofs.Math.Dec.{eqb}
-use Rattle.std.specs.Prelude.{nat_le, nat_lt, nat_eq, ◌&&◌, ◌≢◌, int_le, All, codes, if◌then◌else◌}
-use Rattle.std.proofs.lemmas.Bool.{and_parts, leb-true, eqb-true}
+use Rattle.std.specs.Prelude.{nat_lt, ◌&&◌, ◌≢◌, int_le, codes, if◌then◌else◌}
+use Rattle.std.proofs.lemmas.Bool.{and_parts}
 use Rattle.std.proofs.lemmas.Bool.Decides.{eqb_tells}
-use Rattle.std.proofs.lemmas.Option.{none-some}
 use Rattle.std.proofs.lemmas.List.Elements.{All-push, All-nil}
 use Rattle.fv_lex.specs.Token.{Lexed}
 use Rattle.fv_grammar.specs.Tree.{Tree}
 use Rattle.fv_grammar.specs.Tree as tree
 use Rattle.fv_grammar.specs.declared.form.Operator.{Operator}
 use Rattle.fv_grammar.specs.declared.form.Operator.TheVariants as operators
-use Rattle.fv_grammar.specs.declared.form.Iteration.{Iteration as Repetition}
-use Rattle.fv_grammar.specs.declared.form.Iteration.TheVariants as repetitions
 use Rattle.fv_grammar.specs.declared.form.Side.{Side}
 use Rattle.fv_grammar.specs.declared.form.Side.TheVariants as sides
 use Rattle.fv_num.specs.declared.op.Op.TheVariants as op
-use Rattle.fv_diagram.specs.declared.node.Primitive.{Primitive as Prim}
 use Rattle.fv_diagram.specs.declared.node.Primitive.TheVariants as prim
-use Rattle.fv_diagram.specs.Diagram.{Diagram, Primitive, Constant, Control, Slot, Bind, Par, Seq, Split, Merge, Rec, size, inputs, outputs}
-use Rattle.fv_diagram.specs.Diagram.{control_bound, IsWellFormed, IsFree}
-use Rattle.fv_diagram.specs.Arena.{size_limit}
+use Rattle.fv_diagram.specs.Diagram.{Diagram, Primitive, Constant, Control, Slot, Bind, Par, Seq, Split, Merge, Rec}
 use Rattle.fv_diagram.specs.declared.control.ControlInfo.{ControlInfo}
 use Rattle.fv_rules.specs.declared.refusal.EvalRefusal.{EvalRefusal}
-use Rattle.fv_rules.specs.declared.refusal.EvalRefusal.TheVariants.{SizeBudget, Arity, IterationCount, TooManyArguments, UnknownName, EvalBudget}
+use Rattle.fv_rules.specs.declared.refusal.EvalRefusal.TheVariants.{IterationCount, UnknownName, EvalBudget}
 use Rattle.fv_rules.specs.declared.refusal.EvalRefusal.TheVariants.{ControlClash, ControlBounds, NoMemory}
-use Rattle.fv_arity.specs.declared.refusal.ArityKind.TheVariants as kind
 use Rattle.fv_grammar.specs.Tree.{items, start_of}
 use Rattle.fv_parse.specs.Trees.{text_of, label_of}
 use Rattle.fv_rules.specs.Values.{Name, Rule, Value, Flat, Abstraction, Rules, Env, Outermost, Bound, Scope, Taken, Nothing, And, Definition, Plain}
-use Rattle.fv_rules.specs.Values.{Parameters, Cases, Meaning, IsValue, IsDefined, Unknown, lookup, or_else as meant_or, in_order}
-use Rattle.fv_rules.specs.Values.{count_taken}
+use Rattle.fv_rules.specs.Values.{Parameters, Cases, Meaning, IsValue, IsDefined, Unknown, lookup, or_else as meant_or, in_order, count_taken}
 use Rattle.fv_rules.specs.Numbers.{number_of}
-use Rattle.fv_rules.specs.Matching.{Bindings, number_or, settled, and_then, parts_of, parts_without, value_parts, value_number, matched, all_matched}
-use Rattle.fv_rules.specs.Matching.{bound_in, or_next, chosen}
-use Rattle.fv_rules.specs.Steps.{State, Outcome, Eval, after, ◌>>=◌, give, refuse, no_number, no_rule, no_diagram, spent, visit, fresh_slots}
-use Rattle.fv_rules.specs.Steps.{is_multiple, unless, or_else, misfit, put_after, put, is_alike, labelled, entered, control}
-use Rattle.fv_rules.specs.Rules.{primitive_of, switch_kind, slider_kind, Evaluator, flat, on_slots, bind_all, turned, operated, joined, from_right, from_left}
-use Rattle.fv_rules.specs.Rules.{defined_value, meant, name_value, arguments, all_turned, wires, all_outputs, takes_the_right, led, fed_by, fed}
-use Rattle.fv_rules.specs.Rules.{width, selected, applied}
-use Rattle.fv_rules.specs.Rules.{bodies, gathered, counted, ports, read_number, parameters, slider_info, switch_info, abstraction, rule, descend}
+use Rattle.fv_rules.specs.Matching.{Bindings, number_or, settled, and_then, parts_of, parts_without, value_parts, value_number}
+use Rattle.fv_rules.specs.Matching.{matched, all_matched, bound_in, or_next, chosen}
+use Rattle.fv_rules.specs.Steps.{State, Outcome, Eval, after, ◌>>=◌, no_number, no_rule, no_diagram, spent, visit, fresh_slots}
+use Rattle.fv_rules.specs.Steps.{is_alike, labelled, entered, control}
+use Rattle.fv_rules.specs.Rules.{primitive_of, switch_kind, slider_kind, Evaluator, flat, on_slots, bind_all, turned, operated}
+use Rattle.fv_rules.specs.Rules.{defined_value, meant, name_value, arguments, all_turned, width, selected, applied}
+use Rattle.fv_rules.specs.Rules.{bodies, counted, ports, read_number, parameters, slider_info, switch_info, abstraction, rule, descend}
 use Rattle.fv_rules.specs.Rules.{within, ev, finished, start, program_value}
 use Rattle.fv_rules.specs.Sound.{IsSoundProgram}
 use Rattle.fv_diagram.specs.Controls.{IsBounded}
-
--- ---- diagrams, values, environments and states
-
-pub record IsSound (S : ℕ → Type 0) (k : ℕ) (d : Diagram) : Type 0 where
-  pub well : IsWellFormed d
-  pub within : size d ≤ size_limit
-  pub free : (s : ℕ) → IsFree s d → S s
-  pub reads : control_bound d ≤ k
-
-abbrev mutual
-  pub SoundValue : (ℕ → Type 0) → ℕ → Value → Type 0
-  SoundValue S k (Flat d) = IsSound S k d
-  SoundValue S k (Abstraction x xs body env) = SoundEnv S k env
-  SoundValue S k (Rules s rs env taken) = SoundEnv S k env × SoundTaken S k taken
-
-  pub SoundEnv : (ℕ → Type 0) → ℕ → Env → Type 0
-  SoundEnv S k Outermost = Unit {0}
-  SoundEnv S k (Bound x v env) = SoundValue S k v × SoundEnv S k env
-  SoundEnv S k (Scope ds env) = SoundEnv S k env
-
-  pub SoundTaken : (ℕ → Type 0) → ℕ → Taken → Type 0
-  SoundTaken S k Nothing = Unit {0}
-  SoundTaken S k (And v before) = SoundValue S k v × SoundTaken S k before
-
-abbrev pub SoundState : State → Type 0
-SoundState s = All IsBounded s.controls
-
--- more slots and more controls
-sound_grows : (S T : ℕ → Type 0) (k n : ℕ) (d : Diagram) → ((s : ℕ) → S s → T s) → k ≤ n → IsSound S k d → IsSound T n d
-sound_grows S T k n d f h g = let r = g.reads in record { well = g.well; within = g.within; free = λ s i. f s (g.free s i); reads = omega arith }
-
-mutual
-  pub value_grows : (S T : ℕ → Type 0) (k n : ℕ) → ((s : ℕ) → S s → T s) → k ≤ n → (v : Value) → SoundValue S k v → SoundValue T n v
-  value_grows S T k n f h (Flat d) g = sound_grows S T k n d f h g
-  value_grows S T k n f h (Abstraction x xs body env) g = env_grows S T k n f h env g
-  value_grows S T k n f h (Rules s rs env taken) g = (env_grows S T k n f h env g.0, taken_grows S T k n f h taken g.1)
-
-  pub env_grows : (S T : ℕ → Type 0) (k n : ℕ) → ((s : ℕ) → S s → T s) → k ≤ n → (env : Env) → SoundEnv S k env → SoundEnv T n env
-  env_grows S T k n f h Outermost g = tt
-  env_grows S T k n f h (Bound x v env) g = (value_grows S T k n f h v g.0, env_grows S T k n f h env g.1)
-  env_grows S T k n f h (Scope ds env) g = env_grows S T k n f h env g
-
-  pub taken_grows : (S T : ℕ → Type 0) (k n : ℕ) → ((s : ℕ) → S s → T s) → k ≤ n → (t : Taken) → SoundTaken S k t → SoundTaken T n t
-  taken_grows S T k n f h Nothing g = tt
-  taken_grows S T k n f h (And v before) g = (value_grows S T k n f h v g.0, taken_grows S T k n f h before g.1)
-
--- the same slots
-keep : (S : ℕ → Type 0) (k n : ℕ) (d : Diagram) → k ≤ n → IsSound S k d → IsSound S n d
-keep S k n d h g = sound_grows S S k n d (λ s i. i) h g
-
-keep_value : (S : ℕ → Type 0) (k n : ℕ) (v : Value) → k ≤ n → SoundValue S k v → SoundValue S n v
-keep_value S k n v h g = value_grows S S k n (λ s i. i) h v g
-
-keep_env : (S : ℕ → Type 0) (k n : ℕ) (env : Env) → k ≤ n → SoundEnv S k env → SoundEnv S n env
-keep_env S k n env h g = env_grows S S k n (λ s i. i) h env g
-
--- lists of them
-abbrev AllSound : (ℕ → Type 0) → ℕ → List Diagram → Type 0
-AllSound S k [] = Unit {0}
-AllSound S k (d ∷ ds) = IsSound S k d × AllSound S k ds
-
-abbrev AllValues : (ℕ → Type 0) → ℕ → List Value → Type 0
-AllValues S k [] = Unit {0}
-AllValues S k (v ∷ vs) = SoundValue S k v × AllValues S k vs
-
-keep_all : (S : ℕ → Type 0) (k n : ℕ) (ds : List Diagram) → k ≤ n → AllSound S k ds → AllSound S n ds
-keep_all S k n [] h g = tt
-keep_all S k n (d ∷ ds) h g = (keep S k n d h g.0, keep_all S k n ds h g.1)
-
-keep_values : (S : ℕ → Type 0) (k n : ℕ) (vs : List Value) → k ≤ n → AllValues S k vs → AllValues S n vs
-keep_values S k n [] h g = tt
-keep_values S k n (v ∷ vs) h g = (keep_value S k n v h g.0, keep_values S k n vs h g.1)
-
-all_snoc : (S : ℕ → Type 0) (k : ℕ) (ds : List Diagram) (d : Diagram) → AllSound S k ds → IsSound S k d → AllSound S k (ds ++ d ∷ [])
-all_snoc S k [] d g h = (h, tt)
-all_snoc S k (e ∷ ds) d g h = (g.0, all_snoc S k ds d g.1 h)
-
-all_append : (S : ℕ → Type 0) (k : ℕ) (ds es : List Diagram) → AllSound S k ds → AllSound S k es → AllSound S k (ds ++ es)
-all_append S k [] es g h = h
-all_append S k (d ∷ ds) es g h = (g.0, all_append S k ds es g.1 h)
-
-values_snoc : (S : ℕ → Type 0) (k : ℕ) (vs : List Value) (v : Value) → AllValues S k vs → SoundValue S k v → AllValues S k (vs ++ v ∷ [])
-values_snoc S k [] v g h = (h, tt)
-values_snoc S k (w ∷ vs) v g h = (g.0, values_snoc S k vs v g.1 h)
-
--- every refusal of a rule has a cause: none is want of memory
-abbrev IsCause : EvalRefusal → Type 0
-IsCause NoMemory = ⊥
-IsCause r = Unit {0}
-
--- ---- evaluations: controls only grow, visits and controls together do not (but for a credit), and the result has a property
-
--- visits and controls together
-abbrev spare : State → ℕ
-spare s = s.visits + length s.controls
-
-abbrev pub Stays : {A : Type 0} → (ℕ → A → Type 0) → ℕ → State → Outcome A → Type 0
-Stays P c s (Ok x) = (length s.controls ≤ length x.1.controls) × (spare x.1 ≤ spare s + c) × SoundState x.1 × P (length x.1.controls) x.0
-Stays P c s (Err r) = IsCause r
-
-pub record Does {A : Type 0} (P : ℕ → A → Type 0) (c k : ℕ) (m : Eval A) : Type 0 where
-  pub stays : (s : State) → k ≤ length s.controls → SoundState s → Stays P c s (m s)
-
-passes : {A : Type 0} (P : ℕ → A → Type 0) (c : ℕ) (s t : State) (r : Outcome A) → length s.controls ≤ length t.controls → spare t ≤ spare s + 0
-    → Stays P c t r → Stays P c s r
-passes P c s t (Ok x) h g a = let u = a.0 in let v = a.1 in (omega arith, omega arith, a.2, a.3)
-passes P c s t (Err r) h g a = a
-
-then_stays : {A B : Type 0} (P : ℕ → A → Type 0) (Q : ℕ → B → Type 0) (c k : ℕ) (s : State) (r : Outcome A) (f : A → Eval B)
-    → k ≤ length s.controls → Stays P 0 s r → ((x : A) (n : ℕ) → k ≤ n → P n x → Does Q c n (f x)) → Stays Q c s (after r f)
-then_stays P Q c k s (Ok x) f h a g =
-    let u = a.0 in
-    passes Q c s x.1 (f x.0 x.1) a.0 a.1 ((g x.0 (length x.1.controls) (omega arith) a.3).stays x.1 (omega arith) a.2)
-then_stays P Q c k s (Err r) f h a g = a
-
-bind_does : {A B : Type 0} {P : ℕ → A → Type 0} {Q : ℕ → B → Type 0} {c k : ℕ} {m : Eval A} {f : A → Eval B} → Does P 0 k m
-    → ((x : A) (n : ℕ) → k ≤ n → P n x → Does Q c n (f x)) → Does Q c k (m >>= f)
-bind_does {P = P} {Q = Q} {c = c} {k = k} {m = m} {f = f} a g = record { stays = λ s h b. then_stays P Q c k s (m s) f h (a.stays s h b) g }
-
-give_does : {A : Type 0} {P : ℕ → A → Type 0} {c k : ℕ} {x : A} → ((n : ℕ) → k ≤ n → P n x) → Does P c k (give x)
-give_does g = record { stays = λ s h b. (omega arith, omega arith, b, g (length s.controls) h) }
-
-refuse_does : {A : Type 0} {P : ℕ → A → Type 0} {c k : ℕ} (r : EvalRefusal) → IsCause r → Does P c k (refuse r)
-refuse_does r i = record { stays = λ s h b. i }
-
--- a credit may be had, and more controls known
-lends : {A : Type 0} (P : ℕ → A → Type 0) (s : State) (r : Outcome A) → Stays P 0 s r → Stays P 1 s r
-lends P s (Ok x) a = let v = a.1 in (a.0, omega arith, a.2, a.3)
-lends P s (Err r) a = a
-
-lend : {A : Type 0} {P : ℕ → A → Type 0} {k : ℕ} {m : Eval A} → Does P 0 k m → Does P 1 k m
-lend {P = P} {m = m} a = record { stays = λ s h b. lends P s (m s) (a.stays s h b) }
-
-choice : {A : Type 0} {P : ℕ → A → Type 0} {c k : ℕ} {m n : Eval A} (b : Bool) → Does P c k m → Does P c k n → Does P c k (if b then m else n)
-choice true p q = p
-choice false p q = q
-
--- ---- putting
-
-unless_none : (b : Bool) (r : EvalRefusal) → unless b r ≡ None → b ≡ true
-unless_none true r e = refl
-unless_none false r e = absurd (none-some r (sym e))
-
-or_none : (o p : Option EvalRefusal) → or_else o p ≡ None → (o ≡ None) × (p ≡ None)
-or_none None p e = (refl, e)
-or_none (Some r) p e = absurd (none-some r (sym e))
-
-abbrev HasSoundParts : (ℕ → Type 0) → ℕ → Diagram → Type 0
-HasSoundParts S k (Bind s a) = IsSound (λ t. (t ≡ s) ⊎ S t) k a
-HasSoundParts S k (Par a b) = IsSound S k a × IsSound S k b
-HasSoundParts S k (Seq a b) = IsSound S k a × IsSound S k b
-HasSoundParts S k (Split a b) = IsSound S k a × IsSound S k b
-HasSoundParts S k (Merge a b) = IsSound S k a × IsSound S k b
-HasSoundParts S k (Rec a b) = IsSound S k a × IsSound S k b
-HasSoundParts S k d = ⊥
-
-multiple : (n m : ℕ) → is_multiple n m ≡ true → (1 ≤ n) × (1 ≤ m) × (n % m ≡ 0)
-multiple n m e =
-    let p = and_parts (nat_le 1 n && nat_le 1 m) (nat_eq (n % m) 0) e in
-    let q = and_parts (nat_le 1 n) (nat_le 1 m) p.0 in (leb-true 1 n q.0, leb-true 1 m q.1, eqb-true (n % m) 0 p.1)
-
-both_free : (S : ℕ → Type 0) (k : ℕ) (a b : Diagram) (s : ℕ) → IsSound S k a → IsSound S k b → IsFree s a ⊎ IsFree s b → S s
-both_free S k a b s p q (inl i) = p.free s i
-both_free S k a b s p q (inr i) = q.free s i
-
-bind_free : (S : ℕ → Type 0) (s t : ℕ) → (t ≡ s) ⊎ S t → t ≢ s → S t
-bind_free S s t (inl e) n = absurd (n e)
-bind_free S s t (inr i) n = i
-
--- two sound diagrams side by side are sound, unless they are too large
-both_sound : (S : ℕ → Type 0) (k : ℕ) (a b : Diagram) → IsSound S k a → IsSound S k b → size (Par a b) ≤ size_limit → IsSound S k (Par a b)
-both_sound S k a b p q h =
-    let r = p.reads in let s = q.reads in
-    record { well = (p.well, q.well); within = h; free = λ s i. both_free S k a b s p q i; reads = omega arith }
-
-put_sound : (S : ℕ → Type 0) (k : ℕ) (d : Diagram) → HasSoundParts S k d → misfit d ≡ None → size d ≤ size_limit → IsSound S k d
-put_sound S k (Bind s a) g e h =
-    let r = g.reads in record { well = g.well; within = h; free = λ t i. bind_free S s t (g.free t i.0) i.1; reads = omega arith }
-put_sound S k (Par a b) g e h = both_sound S k a b g.0 g.1 h
-put_sound S k (Seq a b) g e h =
-    let p = both_sound S k a b g.0 g.1 h in
-    let t = unless_none (nat_eq (outputs a) (inputs b)) _ e in
-    record { well = (g.0.well, g.1.well, eqb-true (outputs a) (inputs b) t); within = h; free = p.free; reads = p.reads }
-put_sound S k (Split a b) g e h =
-    let p = both_sound S k a b g.0 g.1 h in
-    let t = multiple (inputs b) (outputs a) (unless_none (is_multiple (inputs b) (outputs a)) _ e) in
-    record { well = (g.0.well, g.1.well, t.1, t.0, t.2); within = h; free = p.free; reads = p.reads }
-put_sound S k (Merge a b) g e h =
-    let p = both_sound S k a b g.0 g.1 h in
-    let t = multiple (outputs a) (inputs b) (unless_none (is_multiple (outputs a) (inputs b)) _ e) in
-    record { well = (g.0.well, g.1.well, t.0, t.1, t.2); within = h; free = p.free; reads = p.reads }
-put_sound S k (Rec a b) g e h =
-    let p = both_sound S k a b g.0 g.1 h in
-    let t = or_none (unless (nat_le (inputs b) (outputs a)) _) (unless (nat_le (outputs b) (inputs a)) _) e in
-    let u = leb-true (inputs b) (outputs a) (unless_none (nat_le (inputs b) (outputs a)) _ t.0) in
-    let v = leb-true (outputs b) (inputs a) (unless_none (nat_le (outputs b) (inputs a)) _ t.1) in
-    record { well = (g.0.well, g.1.well, u, v); within = h; free = p.free; reads = p.reads }
-put_sound S k d g e h = absurd g
-
-abbrev MayCause : Option EvalRefusal → Type 0
-MayCause None = Unit {0}
-MayCause (Some r) = IsCause r
-
-unless_cause : (b : Bool) (r : EvalRefusal) → IsCause r → MayCause (unless b r)
-unless_cause true r i = tt
-unless_cause false r i = i
-
-or_cause : (o p : Option EvalRefusal) → MayCause o → MayCause p → MayCause (or_else o p)
-or_cause None p i j = j
-or_cause (Some r) p i j = i
-
-misfit_cause : (d : Diagram) → MayCause (misfit d)
-misfit_cause (Seq a b) = unless_cause (nat_eq (outputs a) (inputs b)) (Arity kind.Seq (outputs a) (inputs b)) tt
-misfit_cause (Split a b) = unless_cause (is_multiple (inputs b) (outputs a)) (Arity kind.Split (outputs a) (inputs b)) tt
-misfit_cause (Merge a b) = unless_cause (is_multiple (outputs a) (inputs b)) (Arity kind.Merge (outputs a) (inputs b)) tt
-misfit_cause (Rec a b) =
-    let out = Arity kind.RecOut (outputs a) (inputs b) in
-    let into = Arity kind.RecIn (inputs a) (outputs b) in
-    or_cause (unless (nat_le (inputs b) (outputs a)) out) (unless (nat_le (outputs b) (inputs a)) into)
-    (unless_cause (nat_le (inputs b) (outputs a)) out tt) (unless_cause (nat_le (outputs b) (inputs a)) into tt)
-misfit_cause d = tt
-
-put_tried : (S : ℕ → Type 0) (k : ℕ) (d : Diagram) (b : Bool) (r : EvalRefusal) → IsCause r → HasSoundParts S k d → misfit d ≡ None
-    → nat_le (size d) size_limit ≡ b → Does (IsSound S) 0 k (if b then give d else refuse r)
-put_tried S k d true r i g e t = give_does (λ n h. keep S k n d h (put_sound S k d g e (leb-true (size d) size_limit t)))
-put_tried S k d false r i g e t = refuse_does r i
-
-put_by : (S : ℕ → Type 0) (k : ℕ) (d : Diagram) (o : Option EvalRefusal) → HasSoundParts S k d → misfit d ≡ o → Does (IsSound S) 0 k (put_after o d)
-put_by S k d (Some r) g e = refuse_does r (subst MayCause e (misfit_cause d))
-put_by S k d None g e = put_tried S k d (nat_le (size d) size_limit) (SizeBudget (size d)) tt g e refl
-
-put_does : (S : ℕ → Type 0) (k : ℕ) (d : Diagram) → HasSoundParts S k d → Does (IsSound S) 0 k (put d)
-put_does S k d g = put_by S k d (misfit d) g refl
-
--- ---- leaves and folds
-leaf_sound : (S : ℕ → Type 0) (k : ℕ) (d : Diagram) → IsWellFormed d → size d ≡ 1 → control_bound d ≡ 0 → ((s : ℕ) → IsFree s d → S s) → IsSound S k d
-leaf_sound S k d w z c f = record { well = w; within = omega arith; free = f; reads = omega arith }
-
-prim_sound : (S : ℕ → Type 0) (k : ℕ) (p : Prim) → IsSound S k (Primitive p)
-prim_sound S k p = leaf_sound S k (Primitive p) tt refl refl (λ s f. absurd f)
-
-constant_sound : (S : ℕ → Type 0) (k : ℕ) (n : ℤ) → IsSound S k (Constant n)
-constant_sound S k n = leaf_sound S k (Constant n) tt refl refl (λ s f. absurd f)
-
-slot_sound : (S : ℕ → Type 0) (k slot : ℕ) → S slot → IsSound S k (Slot slot)
-slot_sound S k slot h = leaf_sound S k (Slot slot) tt refl refl (λ s e. subst S (sym e) h)
-
-flat_stays : (S : ℕ → Type 0) (c : ℕ) (s : State) (r : Outcome Diagram) → Stays (IsSound S) c s r → Stays (SoundValue S) c s (after r (λ d. give (Flat d)))
-flat_stays S c s (Ok x) a = a
-flat_stays S c s (Err r) a = a
-
-flat_does : {S : ℕ → Type 0} {c k : ℕ} {m : Eval Diagram} → Does (IsSound S) c k m → Does (SoundValue S) c k (flat m)
-flat_does {S} {c} {k} {m} a = record { stays = λ s h b. flat_stays S c s (m s) (a.stays s h b) }
-
-operated_does : (S : ℕ → Type 0) (k : ℕ) (p : Prim) (a b : Diagram) → IsSound S k a → IsSound S k b → Does (IsSound S) 0 k (operated p a b)
-operated_does S k p a b g h = bind_does (put_does S k (Par a b) (g, h)) (λ ab n i j. put_does S n (Seq ab (Primitive p)) (j, prim_sound S n p))
-
-joined_does : (S : ℕ → Type 0) (k : ℕ) (o : Operator) (a b : Diagram) → IsSound S k a → IsSound S k b → Does (IsSound S) 0 k (joined o a b)
-joined_does S k (operators.Infix p) a b g h = operated_does S k (primitive_of p) a b g h
-joined_does S k operators.Recursion a b g h = put_does S k (Rec a b) (g, h)
-joined_does S k operators.Parallel a b g h = put_does S k (Par a b) (g, h)
-joined_does S k operators.Sequence a b g h = put_does S k (Seq a b) (g, h)
-joined_does S k operators.Split a b g h = put_does S k (Split a b) (g, h)
-joined_does S k operators.Merge a b g h = put_does S k (Merge a b) (g, h)
-
--- two sound diagrams are sound parts of a composition
-abbrev Composes : (ℕ → Type 0) → (Diagram → Diagram → Diagram) → Type 0
-Composes S compose = (n : ℕ) (x y : Diagram) → IsSound S n x → IsSound S n y → HasSoundParts S n (compose x y)
-
-from_right_does : (S : ℕ → Type 0) (k : ℕ) (compose : Diagram → Diagram → Diagram) → Composes S compose → (d : Diagram) (ds : List Diagram)
-    → IsSound S k d → AllSound S k ds → Does (IsSound S) 0 k (from_right compose d ds)
-from_right_does S k compose parts d [] g h = give_does (λ n i. keep S k n d i g)
-from_right_does S k compose parts d (x ∷ xs) g h =
-    bind_does (from_right_does S k compose parts x xs h.0 h.1) (λ r n i j. put_does S n (compose d r) (parts n d r (keep S k n d i g) j))
-
-from_left_does : (S : ℕ → Type 0) (k : ℕ) (p : Prim) (d : Diagram) (ds : List Diagram) → IsSound S k d → AllSound S k ds
-    → Does (IsSound S) 0 k (from_left p d ds)
-from_left_does S k p d [] g h = give_does (λ n i. keep S k n d i g)
-from_left_does S k p d (x ∷ xs) g h = bind_does (operated_does S k p d x g h.0) (λ r n i j. from_left_does S n p r xs j (keep_all S k n xs i h.1))
-
-gathered_does : (S : ℕ → Type 0) (k : ℕ) (r : Repetition) (ds : List Diagram) → AllSound S k ds → Does (SoundValue S) 0 k (gathered r ds)
-gathered_does S k r [] g = refuse_does (IterationCount (pos 0)) tt
-gathered_does S k repetitions.Parallel (d ∷ ds) g = flat_does (from_right_does S k Par (λ n x y i j. (i, j)) d ds g.0 g.1)
-gathered_does S k repetitions.Sequence (d ∷ ds) g = flat_does (from_right_does S k Seq (λ n x y i j. (i, j)) d ds g.0 g.1)
-gathered_does S k repetitions.Sum (d ∷ ds) g = flat_does (from_left_does S k (prim.Point op.Add) d ds g.0 g.1)
-gathered_does S k repetitions.Product (d ∷ ds) g = flat_does (from_left_does S k (prim.Point op.Mul) d ds g.0 g.1)
-
-wires_sound : (S : ℕ → Type 0) (k n : ℕ) → AllSound S k (wires n)
-wires_sound S k zero = tt
-wires_sound S k (suc n) = (prim_sound S k prim.Wire, wires_sound S k n)
-
-led_does : (S : ℕ → Type 0) (k : ℕ) (d : Diagram) (ds : List Diagram) (f : Diagram) → IsSound S k d → AllSound S k ds → IsSound S k f
-    → Does (IsSound S) 0 k (led d ds f)
-led_does S k d ds f g h i =
-    bind_does (from_right_does S k Par (λ n x y p q. (p, q)) d ds g h) (λ p n j q. put_does S n (Seq p f) (q, keep S k n f j i))
-
-fed_by_does : (S : ℕ → Type 0) (k w : ℕ) (f d : Diagram) (ds : List Diagram) → IsSound S k f → IsSound S k d → AllSound S k ds
-    → Does (IsSound S) 0 k (fed_by w f d ds)
-fed_by_does S k w f d ds g h i =
-    choice (nat_lt (inputs f) w) (refuse_does (TooManyArguments w (inputs f)) tt)
-    (choice (takes_the_right f && nat_eq w 1) (led_does S k (Primitive prim.Wire) (d ∷ ds) f (prim_sound S k prim.Wire) (h, i) g)
-    (led_does S k d (ds ++ wires (inputs f - w)) f h (all_append S k ds (wires (inputs f - w)) i (wires_sound S k (inputs f - w))) g))
-
-fed_does : (S : ℕ → Type 0) (k : ℕ) (f : Diagram) (ds : List Diagram) → IsSound S k f → AllSound S k ds → Does (SoundValue S) 0 k (fed f ds)
-fed_does S k f [] g h = give_does (λ n i. keep S k n f i g)
-fed_does S k f (d ∷ ds) g h = flat_does (fed_by_does S k (all_outputs (d ∷ ds)) f d ds g h.0 h.1)
+use Rattle.fv_rules.proofs.SoundValues.{IsSound, SoundValue, SoundEnv, SoundTaken, SoundState, AllSound, AllValues, sound_grows, env_grows}
+use Rattle.fv_rules.proofs.SoundValues.{keep, keep_value, keep_env, keep_all, keep_values, all_snoc, values_snoc}
+use Rattle.fv_rules.proofs.SoundValues.{IsCause, spare, Stays, Does, bind_does, give_does, refuse_does, lend, choice}
+use Rattle.fv_rules.proofs.SoundCompositions.{put_does, prim_sound, constant_sound, slot_sound, flat_does, operated_does, joined_does, gathered_does, fed_does}
 
 -- ---- slots
 abbrev Within : ℕ → ℕ → (ℕ → Type 0) → ℕ → Type 0

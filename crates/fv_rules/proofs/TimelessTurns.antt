@@ -94,11 +94,15 @@ pub record HasRoom (at count : ℕ) (ns ms : List ℤ) : Type 0 where
   pub long : length ms ≡ length ns + count
   pub stays : (i : ℕ) → argument ms i ≡ argument ns i
 
+pub has_room : {at k count : ℕ} {ns ms : List ℤ} → at ≡ length ns → length ms ≡ length ns + k → k ≡ count
+    → ((i : ℕ) → argument ms i ≡ argument ns i) → HasRoom at count ns ms
+has_room {ns = ns} here long many stays = record { here = here; long = long ∙ ap (λ n. length ns + n) many; stays = stays }
+
 -- ---- one behind the other
-pub seq_turn : (a : Arena) (id x y from to at : ℕ) (ts : List Task) (ns ms : List ℤ) → IsOver a id x y (Seq (tree_of a x) (tree_of a y))
+pub seq_turn : {a : Arena} {id x y from to at : ℕ} {ts : List Task} {ns ms : List ℤ} → IsOver a id x y (Seq (tree_of a x) (tree_of a y))
     → HasRoom at (outputs (tree_of a x)) ns ms → IsReady a (task.Visit id from to ∷ ts) ns
     → Advances a (task.Visit id from to ∷ ts) ns (task.Visit x from at ∷ task.Visit y at to ∷ ts) ms
-seq_turn a id x y from to at ts ns ms over room f =
+seq_turn {a} {id} {x} {y} {from} {to} {at} {ts} {ns} {ms} over room f =
     let e = over.is in let hx = over.left in let hy = over.right in
     let here = room.here in let more = room.long in let stays = room.stays in
     let v = visits a id from to (length ns) (Seq (tree_of a x) (tree_of a y)) e f.0 in
@@ -115,10 +119,10 @@ seq_turn a id x y from to at ts ns ms over room f =
     (omega (arith, ap size e))
 
 -- ---- both side by side
-pub par_turn : (a : Arena) (id x y from to next behind : ℕ) (ts : List Task) (ns : List ℤ) → IsOver a id x y (Par (tree_of a x) (tree_of a y))
+pub par_turn : {a : Arena} {id x y from to next behind : ℕ} {ts : List Task} {ns : List ℤ} → IsOver a id x y (Par (tree_of a x) (tree_of a y))
     → next ≡ from + inputs (tree_of a x) → behind ≡ to + outputs (tree_of a x) → IsReady a (task.Visit id from to ∷ ts) ns
     → Advances a (task.Visit id from to ∷ ts) ns (task.Visit x from to ∷ task.Visit y next behind ∷ ts) ns
-par_turn a id x y from to next behind ts ns over enters leaves f =
+par_turn {a} {id} {x} {y} {from} {to} {next} {behind} {ts} {ns} over enters leaves f =
     let e = over.is in let hx = over.left in let hy = over.right in
     let v = visits a id from to (length ns) (Par (tree_of a x) (tree_of a y)) e f.0 in
     two_parts a (task.Visit id from to) (task.Visit x from to) (task.Visit y next behind) ts ns ns f
@@ -170,11 +174,11 @@ in_turn l k from at to x y f wide far more m n o r p q s =
     (follow l X S m n o (width x) far refl refl (narrowed l k X m m n more (λ i. refl) p) (narrowed l k S n n o more (λ i. refl) q))
     (narrowed l k Y o o r more (λ i. refl) s)
 
-pub split_turn : (a : Arena) (id x y from to at : ℕ) (ts : List Task) (ns ms : List ℤ) → IsOver a id x y (Split (tree_of a x) (tree_of a y))
+pub split_turn : {a : Arena} {id x y from to at : ℕ} {ts : List Task} {ns ms : List ℤ} → IsOver a id x y (Split (tree_of a x) (tree_of a y))
     → HasRoom at (inputs (tree_of a y)) ns ms → IsReady a (task.Visit id from to ∷ ts) ns
     → Advances a (task.Visit id from to ∷ ts) ns
     (task.Visit x from at ∷ task.Deal at (outputs (tree_of a x)) (inputs (tree_of a y)) ∷ task.Visit y at to ∷ ts) ms
-split_turn a id x y from to at ts ns ms over room f =
+split_turn {a} {id} {x} {y} {from} {to} {at} {ts} {ns} {ms} over room f =
     let e = over.is in let here = room.here in let more = room.long in
     let l = length ns in
     let c = outputs (tree_of a x) in
@@ -192,11 +196,11 @@ split_turn a id x y from to at ts ns ms over room f =
     (both_timeless a id x y (Split (tree_of a x) (tree_of a y)) (are_timeless a ts) e refl)
     (omega (arith, ap size e, some_size (tree_of a x)))
 
-pub merge_turn : (a : Arena) (id x y from to at : ℕ) (ts : List Task) (ns ms : List ℤ) → IsOver a id x y (Merge (tree_of a x) (tree_of a y))
+pub merge_turn : {a : Arena} {id x y from to at : ℕ} {ts : List Task} {ns ms : List ℤ} → IsOver a id x y (Merge (tree_of a x) (tree_of a y))
     → HasRoom at (outputs (tree_of a x)) ns ms → IsReady a (task.Visit id from to ∷ ts) ns
     → Advances a (task.Visit id from to ∷ ts) ns
     (task.Visit x from at ∷ task.Sum at (outputs (tree_of a x)) (inputs (tree_of a y)) ∷ task.Visit y at to ∷ ts) ms
-merge_turn a id x y from to at ts ns ms over room f =
+merge_turn {a} {id} {x} {y} {from} {to} {at} {ts} {ns} {ms} over room f =
     let e = over.is in let here = room.here in let more = room.long in
     let l = length ns in
     let c = outputs (tree_of a x) in
@@ -215,5 +219,5 @@ merge_turn a id x y from to at ts ns ms over room f =
     (omega (arith, ap size e, some_size (tree_of a x)))
 
 -- the same turn, where tasks and numbers are called otherwise
-pub so_called : (a : Arena) (ts us vs : List Task) (ns ms os : List ℤ) → vs ≡ us → os ≡ ms → Advances a ts ns us ms → Advances a ts ns vs os
-so_called a ts us vs ns ms os e f s = subst (λ vs. Advances a ts ns vs os) (sym e) (subst (λ os. Advances a ts ns us os) (sym f) s)
+pub so_called : {a : Arena} {ts us vs : List Task} {ns ms os : List ℤ} → vs ≡ us → os ≡ ms → Advances a ts ns us ms → Advances a ts ns vs os
+so_called {a} {ts} {us} {vs} {ns} {ms} {os} e f s = subst (λ vs. Advances a ts ns vs os) (sym e) (subst (λ os. Advances a ts ns us os) (sym f) s)

@@ -39,5 +39,6 @@ returns-in-None-get c =
 pub returns-in_default : goal.returns-in_default
 returns-in_default c =
     let p = c.args.tree.now in
-    let e = ap (parameters_in p.tokens) c.node.ensures.tree ∙ no_parameters p.tokens (trees p.entries) c.node.result.now _ c.in_default.not-Abstraction c.in_default.not-Function in
+    let e = ap (parameters_in p.tokens) c.node.ensures.tree
+    ∙ no_parameters p.tokens (trees p.entries) c.node.result.now _ c.in_default.not-Abstraction c.in_default.not-Function in
     λ h. absurd (omega (arith, h, ap length e))

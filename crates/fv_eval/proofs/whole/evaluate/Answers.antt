@@ -18,7 +18,8 @@ finished-requires c =
     let n = c.run.new.self in
     let w = c.in_ok-machine in
     λ i e.
-    let ends = run_ends p c.in_ok-text.text w.machine n w.first c.run.result (Ok (Diagram i)) (whole p.tokens (program_of p)) c.in_ok-text.ensures (c.in-Ok.is ∙ ap Ok e) w.ensures c.run.ensures in
+    let ends = run_ends p c.in_ok-text.text w.machine n w.first c.run.result
+    (Ok (Diagram i)) (whole p.tokens (program_of p)) c.in_ok-text.ensures (c.in-Ok.is ∙ ap Ok e) w.ensures c.run.ensures in
     let h = done p n i c.steps_mean.ensures.starts ends in
     (h.0, c.evaluates_soundly.ensures.sound p.tokens (program_of p) (tree_of n.drawing i) n.controls h.1)
 
@@ -30,7 +31,8 @@ returns-in-Ok-clause-program c =
     IfOk-weaker c.finished.result _ _
     (λ x h.
     let ends =
-    run_ends p c.in_ok-text.text w.machine n w.first c.run.result (Ok (Diagram x.root)) (whole p.tokens (program_of p)) c.in_ok-text.ensures (c.in-Ok.is ∙ ap Ok h.0) w.ensures
+    run_ends p c.in_ok-text.text w.machine n w.first c.run.result
+    (Ok (Diagram x.root)) (whole p.tokens (program_of p)) c.in_ok-text.ensures (c.in-Ok.is ∙ ap Ok h.0) w.ensures
     c.run.ensures in
     (done p n x.root c.steps_mean.ensures.starts ends).1
     ∙ ap (λ (a : Arena). Ok (tree_of a x.root, n.controls)) (sym h.1) ∙ ap (λ (cs : List ControlInfo). Ok (tree_of x.diagrams x.root, cs)) (sym h.2))
@@ -42,4 +44,5 @@ returns-clause-refusal c =
     let n = c.run.new.self in
     let w = c.in_ok-machine in
     refused p n c.in-Err.refusal c.steps_mean.ensures.starts
-    (run_ends p c.in_ok-text.text w.machine n w.first c.run.result (Err c.in-Err.refusal) (whole p.tokens (program_of p)) c.in_ok-text.ensures c.in-Err.is w.ensures c.run.ensures)
+    (run_ends p c.in_ok-text.text w.machine n w.first c.run.result
+    (Err c.in-Err.refusal) (whole p.tokens (program_of p)) c.in_ok-text.ensures c.in-Err.is w.ensures c.run.ensures)

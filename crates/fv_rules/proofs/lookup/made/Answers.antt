@@ -8,17 +8,22 @@ use Rattle.fv_rules.specs.Lookup.{are_names}
 use Rattle.fv_rules.proofs.RuleNodes.{node_is}
 use Rattle.fv_rules.proofs.Lookups.{HasPatterns, abstraction_made, rules_made, nothing_made, not_a_definition}
 use Rattle.fv_rules.proofs.lookup.made.Goals.{else-count-eq1-via-then-count-eq1+else-are_names, else-count-eq1-via-else-count-eq1}
+use Rattle.fv_rules.proofs.lookup.made.Goals.{In-Function}
 use Rattle.fv_rules.proofs.lookup.made.Goals as goal
 
-pub returns-then-are_names : goal.returns-then-are_names
-returns-then-are_names c =
-    let p = c.args.tree.now in
-    let has : HasPatterns p c.args.first c.in-Function.patterns c.in-Function.field-2 = record {
+-- the patterns of the first rule, which is a function
+patterns : (c : In-Function) → HasPatterns c.args.tree.now c.args.first c.in-Function.patterns c.in-Function.field-2
+patterns c =
+    let p = c.args.tree.now in record {
       start = start_in p c.args.first;
       name = c.in-Function.field-0;
       is = node_is p c.args.first c.node.ensures.tree c.in-Function.is;
       inside = c.requires;
-    } in
+    }
+
+pub returns-then-are_names : goal.returns-then-are_names
+returns-then-are_names c =
+    let has = patterns (goal.at.returns-then-are_names c).In-Function in
     abstraction_made c.args.list c.args.count c.args.env has c.if-count-eq1.true (sym c.are_names.ensures ∙ c.if-are_names.true)
 
 pub returns-else-count-eq1 : goal.returns-else-count-eq1
@@ -28,13 +33,7 @@ returns-else-count-eq1 c =
       | else-count-eq1-via-then-count-eq1+else-are_names w ↦ λ one. sym w.are_names.ensures ∙ w.if-are_names.false
       | else-count-eq1-via-else-count-eq1 w ↦ λ one. absurd (w.if-count-eq1.false one)
     ] in
-    let has : HasPatterns p c.args.first c.in-Function.patterns c.in-Function.field-2 = record {
-      start = start_in p c.args.first;
-      name = c.in-Function.field-0;
-      is = node_is p c.args.first c.node.ensures.tree c.in-Function.is;
-      inside = c.requires;
-    } in
-    rules_made c.args.list c.args.count c.args.env has other
+    rules_made c.args.list c.args.count c.args.env (patterns (goal.at.returns-else-count-eq1 c).In-Function) other
 
 pub returns-in_default : goal.returns-in_default
 returns-in_default c =

@@ -11,7 +11,8 @@ pub returns-clause-draws : goal.returns-clause-draws
 returns-clause-draws c =
     let a = c.self.inside.diagrams in
     let d = tree_of a c.args.id in
-    subst (λ (x : Arena). IfOk c.settle.result (λ i. Draws c.settle.new.diagrams i (number_or (number_of (tree_of x c.args.id)) (tree_of x c.args.id)))) c.self.view_is
+    subst (λ (x : Arena). IfOk c.settle.result (λ i. Draws c.settle.new.diagrams i (number_or (number_of (tree_of x c.args.id)) (tree_of x c.args.id))))
+    c.self.view_is
     (settled_draws c.settle.new.diagrams (number_or (number_of d) d) c.settle.result c.settle.ensures.inside c.settle.ensures.tree)
 
 pub returns-clause-keeps : goal.returns-clause-keeps

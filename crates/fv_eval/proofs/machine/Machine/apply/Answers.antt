@@ -17,18 +17,22 @@ applying-preserved c =
     let us = c.args.arguments.items in
     let x = c.index.result.now in
     let inside : c.applying.at < length us = omega (arith, c.args.arguments.ok.0) in
-    let takes = subst (λ (o : Option code_value.Value). Takes p c.applying.self c.take.new.self c.applying.function x o) c.in-Some.is c.in_ok-value.ensures.took in
-    applies_on p c.args.self.now c.applying.self c.take.new.self c.args.function c.applying.function x c.in-Some.value us c.args.next c.applying.at _ c.applying.invariant
+    let takes =
+    subst (λ (o : Option code_value.Value). Takes p c.applying.self c.take.new.self c.applying.function x o) c.in-Some.is c.in_ok-value.ensures.took in
+    applies_on p c.args.self.now c.applying.self
+    c.take.new.self c.args.function c.applying.function x c.in-Some.value us c.args.next c.applying.at _ c.applying.invariant
     (get_within us c.applying.at x inside c.index.ensures) refl c.in_ok-value.ensures.grew takes
 
 pub complete-requires-clause-function : goal.complete-requires-clause-function
 complete-requires-clause-function c =
-    function_shown c.args.text.now c.args.self.now c.applying.self c.take.new.self c.args.function c.applying.function c.args.arguments.items c.args.next c.applying.at c.applying.invariant
+    function_shown c.args.text.now c.args.self.now
+    c.applying.self c.take.new.self c.args.function c.applying.function c.args.arguments.items c.args.next c.applying.at c.applying.invariant
     c.in_ok-value.ensures.grew c.requires.function c.requires.arguments
 
 pub complete-requires-clause-arguments : goal.complete-requires-clause-arguments
 complete-requires-clause-arguments c =
-    arguments_shown c.args.text.now c.args.self.now c.applying.self c.take.new.self c.args.function c.applying.function c.args.arguments.items c.args.next c.applying.at c.applying.invariant
+    arguments_shown c.args.text.now c.args.self.now
+    c.applying.self c.take.new.self c.args.function c.applying.function c.args.arguments.items c.args.next c.applying.at c.applying.invariant
     c.in_ok-value.ensures.grew c.requires.function c.requires.arguments
 
 pub returns-in-None : goal.returns-in-None
@@ -37,12 +41,15 @@ returns-in-None c =
     let us = c.args.arguments.items in
     let x = c.index.result.now in
     let inside : c.applying.at < length us = omega (arith, c.args.arguments.ok.0) in
-    let takes = subst (λ (o : Option code_value.Value). Takes p c.applying.self c.take.new.self c.applying.function x o) c.in-None.is c.in_ok-value.ensures.took in
-    last_taken p c.args.self.now c.applying.self c.take.new.self c.complete.new.self c.complete.result c.args.application c.args.function c.applying.function x us c.args.next c.applying.at
+    let takes =
+    subst (λ (o : Option code_value.Value). Takes p c.applying.self c.take.new.self c.applying.function x o) c.in-None.is c.in_ok-value.ensures.took in
+    last_taken p c.args.self.now c.applying.self
+    c.take.new.self c.complete.new.self c.complete.result c.args.application c.args.function c.applying.function x us c.args.next c.applying.at
     c.applying.invariant (get_within us c.applying.at x inside c.index.ensures) c.in_ok-value.ensures.grew takes c.complete.ensures
 
 pub returns : goal.returns
 returns c =
     let us = c.args.arguments.items in
     let past : length us ≤ c.applying.at = omega (arith, c.args.arguments.ok.0) in
-    all_taken c.args.text.now c.args.self.now c.applying.self c.args.application c.args.function c.applying.function us c.args.next c.applying.at c.applying.invariant past
+    all_taken c.args.text.now c.args.self.now
+    c.applying.self c.args.application c.args.function c.applying.function us c.args.next c.applying.at c.applying.invariant past

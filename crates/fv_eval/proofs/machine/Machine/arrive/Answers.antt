@@ -17,14 +17,16 @@ returns-in-Some-Drawn c =
 
 pub value_arrives-requires-clause-frame : goal.value_arrives-requires-clause-frame
 value_arrives-requires-clause-frame c =
-    first_valued c.args.text.now c.args.self.now c.pop.new.self c.in-Some-Valued.frame c.args.value (rw c.in-Some-Valued.field-0-is at c.in-Some-Valued.ensures) c.requires
+    first_valued c.args.text.now c.args.self.now c.pop.new.self c.in-Some-Valued.frame c.args.value
+    (rw c.in-Some-Valued.field-0-is at c.in-Some-Valued.ensures) c.requires
 
 pub value_arrives-requires-clause-value : goal.value_arrives-requires-clause-value
 value_arrives-requires-clause-value c = given_shown c.args.text.now c.args.self.now c.args.value c.requires
 
 pub turn-requires-clause-frame : goal.turn-requires-clause-frame
 turn-requires-clause-frame c =
-    first_drawn c.args.text.now c.args.self.now c.pop.new.self c.in-Some-Drawn.frame c.args.value (rw c.in-Some-Drawn.field-0-is at c.in-Some-Drawn.ensures) c.requires
+    first_drawn c.args.text.now c.args.self.now c.pop.new.self c.in-Some-Drawn.frame c.args.value
+    (rw c.in-Some-Drawn.field-0-is at c.in-Some-Drawn.ensures) c.requires
 
 pub turn-requires-clause-value : goal.turn-requires-clause-value
 turn-requires-clause-value c = shown_there _ c.args.value (given_shown c.args.text.now c.args.self.now c.args.value c.requires)

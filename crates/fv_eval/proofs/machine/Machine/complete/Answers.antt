@@ -12,7 +12,8 @@ returns-in-Diagram c =
     let m = c.args.self.now in
     let r = c.next_turned.result in
     subst (λ (u : code_value.Value). Completes p m c.next_turned.new.self r c.args.application u c.args.arguments.items c.args.at) (sym c.in-Diagram.is)
-    (diagram_completes p m c.next_turned.new.self r c.args.application c.in-Diagram.id c.args.arguments.items c.args.at c.new-done.result.items c.new-done.ensures.items (c.next_turned.ensures p))
+    (diagram_completes p m c.next_turned.new.self
+    r c.args.application c.in-Diagram.id c.args.arguments.items c.args.at c.new-done.result.items c.new-done.ensures.items (c.next_turned.ensures p))
 
 pub returns-in_ok-inner-in-Abstraction : goal.returns-in_ok-inner-in-Abstraction
 returns-in_ok-inner-in-Abstraction c =
@@ -27,8 +28,10 @@ returns-in_ok-inner-in-Abstraction c =
     let u = c.index.result.now in
     let inner = c.in_ok-inner-in-Abstraction in
     let done = abstraction_completes q m n r c.bind.new.self a f.node f.bound f.env inner.inner c.in-Some.name c.body_of.result u us at c.in-Some.ensures
-    (get_within us at u c.requires.at c.index.ensures) inner.ensures.ok.0 inner.ensures.ok.1 c.body_of.ensures.inside c.body_of.ensures.body (c.leave.ensures q) in
-    subst (λ (x : Parsed). Completes x m n r a c.args.function us at) c.tree-tree.ensures (subst (λ (v : code_value.Value). Completes q m n r a v us at) (sym f.is) done)
+    (get_within us at u c.requires.at c.index.ensures)
+    inner.ensures.ok.0 inner.ensures.ok.1 c.body_of.ensures.inside c.body_of.ensures.body (c.leave.ensures q) in
+    subst (λ (x : Parsed). Completes x m n r a c.args.function us at) c.tree-tree.ensures
+    (subst (λ (v : code_value.Value). Completes q m n r a v us at) (sym f.is) done)
 
 pub choose-requires : goal.choose-requires
 choose-requires c =

@@ -20,4 +20,5 @@ returns-else-n-lt1 c =
     let some = subst (λ (x : Arena). Some z ≡ number_of (tree_of x i)) (sym same) (sym c.in-Some.is ∙ c.in_ok-number_of.ensures.number) in
     let low = rw (to_z-of_z fits) at c.if-n-lt1.false in
     subst (λ (x : Arena). Counts p (record m { drawing = x }) n r a c.args.env i) same
-    (count_from p (record m { drawing = d }) n r a c.args.env i _ c.new-done.result.items z some low (λ k e. ap nat_abs (to_z-of_z fits ∙ e)) c.new-done.ensures.items c.next_body.ensures)
+    (count_from p (record m { drawing = d }) n r a c.args.env i _ c.new-done.result.items z some low
+    (λ k e. ap nat_abs (to_z-of_z fits ∙ e)) c.new-done.ensures.items c.next_body.ensures)

@@ -3,7 +3,8 @@ use Rattle.fv_eval.specs.declared.frame.ForDiagram as code_for_diagram
 use Rattle.fv_eval.specs.declared.frame.Focus.TheVariants as focus
 use Rattle.fv_rules.specs.declared.value.Value.TheVariants as value
 use Rattle.fv_eval.specs.Frames.{gave}
-use Rattle.fv_eval.proofs.Received.{Receives, received, left_receives, right_receives, later_receives, negated_receives, binding_receives, ports_receives, turning_receives, counting_receives, body_receives, finish_receives}
+use Rattle.fv_eval.proofs.Received.{Receives, received, left_receives, right_receives, later_receives, negated_receives, binding_receives, ports_receives}
+use Rattle.fv_eval.proofs.Received.{turning_receives, counting_receives, body_receives, finish_receives}
 use Rattle.fv_eval.proofs.machine.Machine.diagram_arrives.Goals as goal
 
 pub returns-in-Left : goal.returns-in-Left
@@ -83,7 +84,8 @@ returns-in_ok-push-in-Turning c =
     let r = c.next_turned.result in
     let f = c.in-Turning in
     subst (λ (x : code_for_diagram.ForDiagram). Receives p m c.next_turned.new.self r x c.args.diagram) (sym f.is)
-    (turning_receives p m c.next_turned.new.self r f.function f.arguments f.next f.done c.push.new.self.items c.args.diagram c.in_ok-push-in-Turning.ensures.items (c.next_turned.ensures p))
+    (turning_receives p m c.next_turned.new.self
+    r f.function f.arguments f.next f.done c.push.new.self.items c.args.diagram c.in_ok-push-in-Turning.ensures.items (c.next_turned.ensures p))
 
 pub returns-in_ok-push-in-Body : goal.returns-in_ok-push-in-Body
 returns-in_ok-push-in-Body c =
@@ -92,4 +94,5 @@ returns-in_ok-push-in-Body c =
     let r = c.next_body.result in
     let f = c.in-Body in
     subst (λ (x : code_for_diagram.ForDiagram). Receives p m c.next_body.new.self r x c.args.diagram) (sym f.is)
-    (body_receives p m c.next_body.new.self r f.iteration f.env f.left f.done c.push-in-Body.new.self.items c.args.diagram c.in_ok-push-in-Body.ensures.items c.next_body.ensures)
+    (body_receives p m c.next_body.new.self
+    r f.iteration f.env f.left f.done c.push-in-Body.new.self.items c.args.diagram c.in_ok-push-in-Body.ensures.items c.next_body.ensures)

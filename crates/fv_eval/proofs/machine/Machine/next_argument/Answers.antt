@@ -24,7 +24,8 @@ returns-in-Some c =
     let g0 = get_within ids c.len.result id c.in-Some.ensures.lookup.3.0 c.in-Some.ensures.lookup.1 in
     let got = rw count at g0 in
     let here = subst (λ (x : Parsed). a < size_of x) (sym c.tree-tree.ensures) c.requires.application in
-    let inside = below_list q a f.field-0 f.list id ids c.len.result here (subst (λ (n : TreeNode). PartsBelow a n) f.is c.node.ensures.parts) c.items.ensures.below g0 in
+    let inside = below_list q a f.field-0 f.list id ids c.len.result here
+    (subst (λ (n : TreeNode). PartsBelow a n) f.is c.node.ensures.parts) c.items.ensures.below g0 in
     subst (λ (x : Parsed). Argues x m c.wait.new.self c.wait.result a c.args.function c.args.env c.args.done.items) c.tree-tree.ensures
     (next_waits q m c.wait.new.self c.wait.result a c.args.function c.args.env c.args.done start (tree_in q f.field-0) (tree_in q f.list) ids id node
     c.items.ensures.items got inside (c.wait.ensures q))

@@ -46,6 +46,7 @@ returns c =
     let fits : SFits w32 c.in-Ok.index = search rules in
     let drawn = subst (λ (z : ℤ). Draws c.leaf.new.self number.number (Constant z)) (to_z-of_z fits) number.ensures.draws in
     subst (λ (x : Parsed). Repeats x m c.wait.new.self c.wait.result a c.args.env c.args.left c.args.done.items) c.tree-tree.ensures
-    (body_waits q m c.wait.new.self c.wait.result c.leaf.new.self c.bind.new.self a c.args.env c.args.left (c.args.left - 1) inner.inner number.number name.result f.body start f.name f.kind
+    (body_waits q m c.wait.new.self c.wait.result c.leaf.new.self c.bind.new.self a c.args.env c.args.left
+    (c.args.left - 1) inner.inner number.number name.result f.body start f.name f.kind
     (tree_in q f.field-2) (tree_in q f.body) c.in-Ok.index c.args.done node one index number.ensures.keeps drawn name.ensures.text
     name.ensures.first inner.ensures.ok.0 inner.ensures.ok.1 inside refl (c.wait.ensures q))

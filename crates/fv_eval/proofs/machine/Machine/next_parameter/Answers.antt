@@ -11,5 +11,6 @@ returns-in-None c =
     let slider = c.args.slider in
     let done = c.args.done.items in
     let counted : c.len.result ≡ length done = search rules in
-    slider_ends c.args.text.now q c.args.self.now c.finish_slider.new.self c.finish_slider.result slider c.args.env done c.as_slice.result.now c.tree-tree.ensures c.as_slice.ensures.value
+    slider_ends c.args.text.now q c.args.self.now
+    c.finish_slider.new.self c.finish_slider.result slider c.args.env done c.as_slice.result.now c.tree-tree.ensures c.as_slice.ensures.value
     (c.in-None.ensures.part ∙ ap (λ (i : ℕ). slice_get (parameters_of (tree_in q slider)) i) counted) c.finish_slider.ensures

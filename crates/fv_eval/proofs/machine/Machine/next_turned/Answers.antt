@@ -7,11 +7,13 @@ pub returns-in_ok-push-in-Some : goal.returns-in_ok-push-in-Some
 returns-in_ok-push-in-Some c =
     let us = c.args.arguments in
     let g = get_within c.deref.result.now c.args.at c.in-Some.value.now c.in-Some.ensures.lookup.3.0 c.in-Some.ensures.lookup.1 in
-    λ p. next_turns p c.args.self.now c.push.new.self c.args.function c.args.at c.in-Some-checked_add.next us c.args.done c.in-Some.value.now (rw c.deref.ensures.value at g)
+    λ p. next_turns p c.args.self.now c.push.new.self c.args.function c.args.at c.in-Some-checked_add.next us c.args.done c.in-Some.value.now
+    (rw c.deref.ensures.value at g)
     c.in-Some-checked_add.ensures.1 c.in_ok-push-in-Some.ensures.ok
 
 pub returns-in-None : goal.returns-in-None
 returns-in-None c =
     let g = slice_get_past c.deref.result.now c.args.at c.in-None.ensures.lookup.3 in
-    λ p. feeds_all p c.args.self.now c.feed.new.self c.feed.result c.give.result c.args.function c.args.at c.args.arguments.items c.args.done.items (rw c.deref.ensures.value at g)
+    λ p. feeds_all p c.args.self.now c.feed.new.self c.feed.result c.give.result c.args.function c.args.at c.args.arguments.items c.args.done.items
+    (rw c.deref.ensures.value at g)
     c.feed.ensures.keeps c.feed.ensures.makes c.give.ensures

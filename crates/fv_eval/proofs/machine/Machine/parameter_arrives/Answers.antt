@@ -37,4 +37,5 @@ returns-in-Some-part_of c =
     subst (λ (x : Parsed). Some (tree_in x id) ≡ slice_get (parameters_of (tree_in x slider)) (length done)) c.tree-tree.ensures
     (c.in-Some-part_of.ensures.part ∙ ap (λ (i : ℕ). slice_get (parameters_of (tree_in q slider)) i) counted) in
     let is = subst (λ (x : Parsed). r ≡ no_number x.tokens (start_of (tree_in x id))) c.tree-tree.ensures c.not_a_number.ensures in
-    λ k label E x more v h u. parameter_refused p m m slider c.args.env id done r part is k label E x more (value_number v) (sym c.in-None.is ∙ c.in_ok-n.ensures.number p v u) h
+    λ k label E x more v h u. parameter_refused p m m slider c.args.env id done r part is k label E x more
+    (value_number v) (sym c.in-None.is ∙ c.in_ok-n.ensures.number p v u) h

@@ -6,7 +6,9 @@ use Rattle.fv_eval.proofs.Stepped.{visit_there, visit_steps, call_steps, done_st
 use Rattle.fv_eval.proofs.machine.Machine.step.Goals as goal
 
 pub visit-requires : goal.visit-requires
-visit-requires c = visit_there c.args.text.now c.args.self.now c.in-Visit.id c.in-Visit.env (subst (λ (f : Focus). Runs c.args.text.now c.args.self.now f) c.in-Visit.is c.requires)
+visit-requires c =
+    visit_there c.args.text.now c.args.self.now c.in-Visit.id c.in-Visit.env
+    (subst (λ (f : Focus). Runs c.args.text.now c.args.self.now f) c.in-Visit.is c.requires)
 
 pub arrive-requires : goal.arrive-requires
 arrive-requires c = subst (λ (f : Focus). Runs c.args.text.now c.args.self.now f) c.in-Give.is c.requires
@@ -24,7 +26,8 @@ returns-then-spend-2 c =
     let p = c.args.text.now in
     let m = c.args.self.now in
     let some = subst (λ (b : Bool). MatchBool b (0 < m.visits) (m.visits ≡ 0)) c.if-spend-2.true c.spend-in-Call.ensures.left in
-    λ d g. call_steps p m c.spend-in-Call.new.self c.name.new.self c.in-Call.name c.in-Call.env c.name.result some c.spend-in-Call.ensures.spent c.name.ensures d
+    λ d g.
+    call_steps p m c.spend-in-Call.new.self c.name.new.self c.in-Call.name c.in-Call.env c.name.result some c.spend-in-Call.ensures.spent c.name.ensures d
     (subst (λ (f : Focus). Goes p m (Ok f) d) c.in-Call.is g)
 
 pub returns-in-Done : goal.returns-in-Done

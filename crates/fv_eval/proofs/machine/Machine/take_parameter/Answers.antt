@@ -5,7 +5,8 @@ use Rattle.fv_eval.proofs.machine.Machine.take_parameter.Goals as goal
 
 pub returns-then-is_none-clause-took : goal.returns-then-is_none-clause-took
 returns-then-is_none-clause-took c =
-    λ v a h k. last_parameter c.args.tree.now c.args.self.now c.args.node c.args.bound c.in-Some.more c.args.env c.parameter.result v a c.in-Some.ensures.1 c.parameter.ensures
+    λ v a h k. last_parameter c.args.tree.now
+    c.args.self.now c.args.node c.args.bound c.in-Some.more c.args.env c.parameter.result v a c.in-Some.ensures.1 c.parameter.ensures
     (is_missing c.parameter.result c.is_none.result c.is_none.ensures c.if-is_none.true) h
 
 pub returns-clause-grew : goal.returns-clause-grew

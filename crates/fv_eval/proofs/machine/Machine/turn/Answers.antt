@@ -16,7 +16,9 @@ returns-in_ok-push-in-Abstraction-2 c =
     let inner = c.in_ok-inner-in-Abstraction in
     let n = record m1 { frames = c.push-in-Abstraction.new.self } in
     let r = Ok (focus.Visit c.body_of.result inner.inner) in
-    let done = abstraction_turns q m m1 c.push.new.self c.push-in-Abstraction.new.self g f.node f.bound f.env c.parameters-count.result inner.inner c.body_of.result c.saturating_sub.result
-    c.parameters-count.ensures inner.ensures.slots inner.ensures.env c.in_ok-push-in-Abstraction.ensures.ok c.in_ok-push-in-Abstraction-2.ensures.ok c.saturating_sub.ensures
+    let done = abstraction_turns q m m1
+    c.push.new.self c.push-in-Abstraction.new.self g f.node f.bound f.env c.parameters-count.result inner.inner c.body_of.result c.saturating_sub.result
+    c.parameters-count.ensures inner.ensures.slots
+    inner.ensures.env c.in_ok-push-in-Abstraction.ensures.ok c.in_ok-push-in-Abstraction-2.ensures.ok c.saturating_sub.ensures
     c.body_of.ensures.inside c.body_of.ensures.body in
     subst (λ (x : Parsed). Turns x m n r g c.args.value) c.tree-tree.ensures (subst (λ (u : code_value.Value). Turns q m n r g u) (sym f.is) done)

@@ -11,7 +11,8 @@ returns-in-Function c =
     let n = c.next_argument.new.self in
     let f = c.in-Function in
     subst (λ (x : code_for_value.ForValue). Resumes p c.args.self.now n c.next_argument.result x c.args.value) (sym f.is)
-    (function_resumes p c.args.self.now n c.next_argument.result f.apply f.env c.args.value c.new-done.result.items c.new-done.ensures.items c.next_argument.ensures)
+    (function_resumes p c.args.self.now
+    n c.next_argument.result f.apply f.env c.args.value c.new-done.result.items c.new-done.ensures.items c.next_argument.ensures)
 
 pub returns-in-Leftover : goal.returns-in-Leftover
 returns-in-Leftover c =
@@ -38,14 +39,16 @@ returns-in_ok-push-in-Argument c =
     let r = c.next_argument-in-Argument.result in
     let f = c.in-Argument in
     subst (λ (x : code_for_value.ForValue). Resumes p m n r x c.args.value) (sym f.is)
-    (argument_resumes p m m1 n r f.apply f.env f.function c.args.value c.in_ok-settled-in-Argument.settled f.done c.push.new.self.items (c.in_ok-settled-in-Argument.ensures.grew p)
+    (argument_resumes p m m1 n r f.apply f.env f.function c.args.value c.in_ok-settled-in-Argument.settled f.done c.push.new.self.items
+    (c.in_ok-settled-in-Argument.ensures.grew p)
     (c.in_ok-settled-in-Argument.ensures.shows p) c.in_ok-push-in-Argument.ensures.items c.next_argument-in-Argument.ensures)
 
 pub next_argument-requires-in-Argument-clause-function : goal.next_argument-requires-in-Argument-clause-function
 next_argument-requires-in-Argument-clause-function c =
     let p = c.args.text.now in
     let f = c.in-Argument in
-    function_stays_shown (world p c.args.self.now) (world p c.settle.new.self) (c.in_ok-settled-in-Argument.ensures.grew p).lists f.apply f.function f.env f.done
+    function_stays_shown (world p c.args.self.now)
+    (world p c.settle.new.self) (c.in_ok-settled-in-Argument.ensures.grew p).lists f.apply f.function f.env f.done
     (subst (λ (x : code_for_value.ForValue). ValuedShown (world p c.args.self.now) x) f.is c.requires.frame)
 
 pub next_argument-requires-in-Argument-clause-done : goal.next_argument-requires-in-Argument-clause-done

@@ -62,4 +62,5 @@ returns-in-List c =
     let e = c.args.env in
     let r = c.not_a_diagram.result in
     subst (λ (x : Parsed). Begins x m m (Err r) e (tree_in x id)) c.tree-tree.ensures
-    (list_begins q m m id e c.in-List.field-0.items r (c.node.ensures.tree ∙ ap (λ (n : TreeNode). node_tree q n (start_in q id)) c.in-List.is) c.not_a_diagram.ensures)
+    (list_begins q m m id e c.in-List.field-0.items r
+    (c.node.ensures.tree ∙ ap (λ (n : TreeNode). node_tree q n (start_in q id)) c.in-List.is) c.not_a_diagram.ensures)

@@ -1,0 +1,194 @@
+-- Compositions of sound diagrams: each is sound, or refused for a cause.
+use Rattle.std.proofs.Common.{inl, inr, ◌≡◌, ◌⊎◌, ℕ, zero, suc, ◌-◌, ◌%◌, ◌≤◌, Bool, true, false, List, [], ◌∷◌, ◌++◌, Option}
+use Rattle.std.proofs.Common.{Some, None, Ok, Err, ℤ, pos, refl, sym, subst, arith}
+use Rattle.std.specs.Prelude.{nat_le, nat_lt, nat_eq, ◌&&◌, ◌≢◌, if◌then◌else◌}
+use Rattle.std.proofs.lemmas.Bool.{and_parts, leb-true, eqb-true}
+use Rattle.std.proofs.lemmas.Option.{none-some}
+use Rattle.fv_grammar.specs.declared.form.Operator.{Operator}
+use Rattle.fv_grammar.specs.declared.form.Operator.TheVariants as operators
+use Rattle.fv_grammar.specs.declared.form.Iteration.{Iteration as Repetition}
+use Rattle.fv_grammar.specs.declared.form.Iteration.TheVariants as repetitions
+use Rattle.fv_num.specs.declared.op.Op.TheVariants as op
+use Rattle.fv_diagram.specs.declared.node.Primitive.{Primitive as Prim}
+use Rattle.fv_diagram.specs.declared.node.Primitive.TheVariants as prim
+use Rattle.fv_diagram.specs.Diagram.{Diagram, Primitive, Constant, Slot, Bind, Par, Seq, Split, Merge, Rec, size, inputs, outputs}
+use Rattle.fv_diagram.specs.Diagram.{control_bound, IsWellFormed, IsFree}
+use Rattle.fv_diagram.specs.Arena.{size_limit}
+use Rattle.fv_rules.specs.declared.refusal.EvalRefusal.{EvalRefusal}
+use Rattle.fv_rules.specs.declared.refusal.EvalRefusal.TheVariants.{SizeBudget, Arity, IterationCount, TooManyArguments}
+use Rattle.fv_arity.specs.declared.refusal.ArityKind.TheVariants as kind
+use Rattle.fv_rules.specs.Values.{Flat}
+use Rattle.fv_rules.specs.Steps.{State, Outcome, Eval, after, give, refuse, is_multiple, unless, or_else, misfit, put_after, put}
+use Rattle.fv_rules.specs.Rules.{primitive_of, flat, operated, joined, from_right, from_left, gathered, wires, all_outputs, takes_the_right, led, fed_by, fed}
+use Rattle.fv_rules.proofs.SoundValues.{IsSound, SoundValue, keep, AllSound, keep_all, all_append, IsCause, Stays, Does}
+use Rattle.fv_rules.proofs.SoundValues.{bind_does, give_does, refuse_does, choice}
+
+-- ---- putting
+
+unless_none : (b : Bool) (r : EvalRefusal) → unless b r ≡ None → b ≡ true
+unless_none true r e = refl
+unless_none false r e = absurd (none-some r (sym e))
+
+or_none : (o p : Option EvalRefusal) → or_else o p ≡ None → (o ≡ None) × (p ≡ None)
+or_none None p e = (refl, e)
+or_none (Some r) p e = absurd (none-some r (sym e))
+
+abbrev HasSoundParts : (ℕ → Type 0) → ℕ → Diagram → Type 0
+HasSoundParts S k (Bind s a) = IsSound (λ t. (t ≡ s) ⊎ S t) k a
+HasSoundParts S k (Par a b) = IsSound S k a × IsSound S k b
+HasSoundParts S k (Seq a b) = IsSound S k a × IsSound S k b
+HasSoundParts S k (Split a b) = IsSound S k a × IsSound S k b
+HasSoundParts S k (Merge a b) = IsSound S k a × IsSound S k b
+HasSoundParts S k (Rec a b) = IsSound S k a × IsSound S k b
+HasSoundParts S k d = ⊥
+
+multiple : (n m : ℕ) → is_multiple n m ≡ true → (1 ≤ n) × (1 ≤ m) × (n % m ≡ 0)
+multiple n m e =
+    let p = and_parts (nat_le 1 n && nat_le 1 m) (nat_eq (n % m) 0) e in
+    let q = and_parts (nat_le 1 n) (nat_le 1 m) p.0 in (leb-true 1 n q.0, leb-true 1 m q.1, eqb-true (n % m) 0 p.1)
+
+both_free : (S : ℕ → Type 0) (k : ℕ) (a b : Diagram) (s : ℕ) → IsSound S k a → IsSound S k b → IsFree s a ⊎ IsFree s b → S s
+both_free S k a b s p q (inl i) = p.free s i
+both_free S k a b s p q (inr i) = q.free s i
+
+bind_free : (S : ℕ → Type 0) (s t : ℕ) → (t ≡ s) ⊎ S t → t ≢ s → S t
+bind_free S s t (inl e) n = absurd (n e)
+bind_free S s t (inr i) n = i
+
+-- two sound diagrams side by side are sound, unless they are too large
+both_sound : (S : ℕ → Type 0) (k : ℕ) (a b : Diagram) → IsSound S k a → IsSound S k b → size (Par a b) ≤ size_limit → IsSound S k (Par a b)
+both_sound S k a b p q h =
+    let r = p.reads in let s = q.reads in
+    record { well = (p.well, q.well); within = h; free = λ s i. both_free S k a b s p q i; reads = omega arith }
+
+put_sound : (S : ℕ → Type 0) (k : ℕ) (d : Diagram) → HasSoundParts S k d → misfit d ≡ None → size d ≤ size_limit → IsSound S k d
+put_sound S k (Bind s a) g e h =
+    let r = g.reads in record { well = g.well; within = h; free = λ t i. bind_free S s t (g.free t i.0) i.1; reads = omega arith }
+put_sound S k (Par a b) g e h = both_sound S k a b g.0 g.1 h
+put_sound S k (Seq a b) g e h =
+    let p = both_sound S k a b g.0 g.1 h in
+    let t = unless_none (nat_eq (outputs a) (inputs b)) _ e in
+    record { well = (g.0.well, g.1.well, eqb-true (outputs a) (inputs b) t); within = h; free = p.free; reads = p.reads }
+put_sound S k (Split a b) g e h =
+    let p = both_sound S k a b g.0 g.1 h in
+    let t = multiple (inputs b) (outputs a) (unless_none (is_multiple (inputs b) (outputs a)) _ e) in
+    record { well = (g.0.well, g.1.well, t.1, t.0, t.2); within = h; free = p.free; reads = p.reads }
+put_sound S k (Merge a b) g e h =
+    let p = both_sound S k a b g.0 g.1 h in
+    let t = multiple (outputs a) (inputs b) (unless_none (is_multiple (outputs a) (inputs b)) _ e) in
+    record { well = (g.0.well, g.1.well, t.0, t.1, t.2); within = h; free = p.free; reads = p.reads }
+put_sound S k (Rec a b) g e h =
+    let p = both_sound S k a b g.0 g.1 h in
+    let t = or_none (unless (nat_le (inputs b) (outputs a)) _) (unless (nat_le (outputs b) (inputs a)) _) e in
+    let u = leb-true (inputs b) (outputs a) (unless_none (nat_le (inputs b) (outputs a)) _ t.0) in
+    let v = leb-true (outputs b) (inputs a) (unless_none (nat_le (outputs b) (inputs a)) _ t.1) in
+    record { well = (g.0.well, g.1.well, u, v); within = h; free = p.free; reads = p.reads }
+put_sound S k d g e h = absurd g
+
+abbrev MayCause : Option EvalRefusal → Type 0
+MayCause None = Unit {0}
+MayCause (Some r) = IsCause r
+
+unless_cause : (b : Bool) (r : EvalRefusal) → IsCause r → MayCause (unless b r)
+unless_cause true r i = tt
+unless_cause false r i = i
+
+or_cause : (o p : Option EvalRefusal) → MayCause o → MayCause p → MayCause (or_else o p)
+or_cause None p i j = j
+or_cause (Some r) p i j = i
+
+misfit_cause : (d : Diagram) → MayCause (misfit d)
+misfit_cause (Seq a b) = unless_cause (nat_eq (outputs a) (inputs b)) (Arity kind.Seq (outputs a) (inputs b)) tt
+misfit_cause (Split a b) = unless_cause (is_multiple (inputs b) (outputs a)) (Arity kind.Split (outputs a) (inputs b)) tt
+misfit_cause (Merge a b) = unless_cause (is_multiple (outputs a) (inputs b)) (Arity kind.Merge (outputs a) (inputs b)) tt
+misfit_cause (Rec a b) =
+    let out = Arity kind.RecOut (outputs a) (inputs b) in
+    let into = Arity kind.RecIn (inputs a) (outputs b) in
+    or_cause (unless (nat_le (inputs b) (outputs a)) out) (unless (nat_le (outputs b) (inputs a)) into)
+    (unless_cause (nat_le (inputs b) (outputs a)) out tt) (unless_cause (nat_le (outputs b) (inputs a)) into tt)
+misfit_cause d = tt
+
+put_tried : (S : ℕ → Type 0) (k : ℕ) (d : Diagram) (b : Bool) (r : EvalRefusal) → IsCause r → HasSoundParts S k d → misfit d ≡ None
+    → nat_le (size d) size_limit ≡ b → Does (IsSound S) 0 k (if b then give d else refuse r)
+put_tried S k d true r i g e t = give_does (λ n h. keep S k n d h (put_sound S k d g e (leb-true (size d) size_limit t)))
+put_tried S k d false r i g e t = refuse_does r i
+
+put_by : (S : ℕ → Type 0) (k : ℕ) (d : Diagram) (o : Option EvalRefusal) → HasSoundParts S k d → misfit d ≡ o → Does (IsSound S) 0 k (put_after o d)
+put_by S k d (Some r) g e = refuse_does r (subst MayCause e (misfit_cause d))
+put_by S k d None g e = put_tried S k d (nat_le (size d) size_limit) (SizeBudget (size d)) tt g e refl
+
+pub put_does : (S : ℕ → Type 0) (k : ℕ) (d : Diagram) → HasSoundParts S k d → Does (IsSound S) 0 k (put d)
+put_does S k d g = put_by S k d (misfit d) g refl
+
+-- ---- leaves and folds
+leaf_sound : (S : ℕ → Type 0) (k : ℕ) (d : Diagram) → IsWellFormed d → size d ≡ 1 → control_bound d ≡ 0 → ((s : ℕ) → IsFree s d → S s) → IsSound S k d
+leaf_sound S k d w z c f = record { well = w; within = omega arith; free = f; reads = omega arith }
+
+pub prim_sound : (S : ℕ → Type 0) (k : ℕ) (p : Prim) → IsSound S k (Primitive p)
+prim_sound S k p = leaf_sound S k (Primitive p) tt refl refl (λ s f. absurd f)
+
+pub constant_sound : (S : ℕ → Type 0) (k : ℕ) (n : ℤ) → IsSound S k (Constant n)
+constant_sound S k n = leaf_sound S k (Constant n) tt refl refl (λ s f. absurd f)
+
+pub slot_sound : (S : ℕ → Type 0) (k slot : ℕ) → S slot → IsSound S k (Slot slot)
+slot_sound S k slot h = leaf_sound S k (Slot slot) tt refl refl (λ s e. subst S (sym e) h)
+
+flat_stays : (S : ℕ → Type 0) (c : ℕ) (s : State) (r : Outcome Diagram) → Stays (IsSound S) c s r → Stays (SoundValue S) c s (after r (λ d. give (Flat d)))
+flat_stays S c s (Ok x) a = a
+flat_stays S c s (Err r) a = a
+
+pub flat_does : {S : ℕ → Type 0} {c k : ℕ} {m : Eval Diagram} → Does (IsSound S) c k m → Does (SoundValue S) c k (flat m)
+flat_does {S} {c} {k} {m} a = record { stays = λ s h b. flat_stays S c s (m s) (a.stays s h b) }
+
+pub operated_does : (S : ℕ → Type 0) (k : ℕ) (p : Prim) (a b : Diagram) → IsSound S k a → IsSound S k b → Does (IsSound S) 0 k (operated p a b)
+operated_does S k p a b g h = bind_does (put_does S k (Par a b) (g, h)) (λ ab n i j. put_does S n (Seq ab (Primitive p)) (j, prim_sound S n p))
+
+pub joined_does : (S : ℕ → Type 0) (k : ℕ) (o : Operator) (a b : Diagram) → IsSound S k a → IsSound S k b → Does (IsSound S) 0 k (joined o a b)
+joined_does S k (operators.Infix p) a b g h = operated_does S k (primitive_of p) a b g h
+joined_does S k operators.Recursion a b g h = put_does S k (Rec a b) (g, h)
+joined_does S k operators.Parallel a b g h = put_does S k (Par a b) (g, h)
+joined_does S k operators.Sequence a b g h = put_does S k (Seq a b) (g, h)
+joined_does S k operators.Split a b g h = put_does S k (Split a b) (g, h)
+joined_does S k operators.Merge a b g h = put_does S k (Merge a b) (g, h)
+
+-- two sound diagrams are sound parts of a composition
+abbrev Composes : (ℕ → Type 0) → (Diagram → Diagram → Diagram) → Type 0
+Composes S compose = (n : ℕ) (x y : Diagram) → IsSound S n x → IsSound S n y → HasSoundParts S n (compose x y)
+
+from_right_does : (S : ℕ → Type 0) (k : ℕ) (compose : Diagram → Diagram → Diagram) → Composes S compose → (d : Diagram) (ds : List Diagram)
+    → IsSound S k d → AllSound S k ds → Does (IsSound S) 0 k (from_right compose d ds)
+from_right_does S k compose parts d [] g h = give_does (λ n i. keep S k n d i g)
+from_right_does S k compose parts d (x ∷ xs) g h =
+    bind_does (from_right_does S k compose parts x xs h.0 h.1) (λ r n i j. put_does S n (compose d r) (parts n d r (keep S k n d i g) j))
+
+from_left_does : (S : ℕ → Type 0) (k : ℕ) (p : Prim) (d : Diagram) (ds : List Diagram) → IsSound S k d → AllSound S k ds
+    → Does (IsSound S) 0 k (from_left p d ds)
+from_left_does S k p d [] g h = give_does (λ n i. keep S k n d i g)
+from_left_does S k p d (x ∷ xs) g h = bind_does (operated_does S k p d x g h.0) (λ r n i j. from_left_does S n p r xs j (keep_all S k n xs i h.1))
+
+pub gathered_does : (S : ℕ → Type 0) (k : ℕ) (r : Repetition) (ds : List Diagram) → AllSound S k ds → Does (SoundValue S) 0 k (gathered r ds)
+gathered_does S k r [] g = refuse_does (IterationCount (pos 0)) tt
+gathered_does S k repetitions.Parallel (d ∷ ds) g = flat_does (from_right_does S k Par (λ n x y i j. (i, j)) d ds g.0 g.1)
+gathered_does S k repetitions.Sequence (d ∷ ds) g = flat_does (from_right_does S k Seq (λ n x y i j. (i, j)) d ds g.0 g.1)
+gathered_does S k repetitions.Sum (d ∷ ds) g = flat_does (from_left_does S k (prim.Point op.Add) d ds g.0 g.1)
+gathered_does S k repetitions.Product (d ∷ ds) g = flat_does (from_left_does S k (prim.Point op.Mul) d ds g.0 g.1)
+
+wires_sound : (S : ℕ → Type 0) (k n : ℕ) → AllSound S k (wires n)
+wires_sound S k zero = tt
+wires_sound S k (suc n) = (prim_sound S k prim.Wire, wires_sound S k n)
+
+led_does : (S : ℕ → Type 0) (k : ℕ) (d : Diagram) (ds : List Diagram) (f : Diagram) → IsSound S k d → AllSound S k ds → IsSound S k f
+    → Does (IsSound S) 0 k (led d ds f)
+led_does S k d ds f g h i =
+    bind_does (from_right_does S k Par (λ n x y p q. (p, q)) d ds g h) (λ p n j q. put_does S n (Seq p f) (q, keep S k n f j i))
+
+fed_by_does : (S : ℕ → Type 0) (k w : ℕ) (f d : Diagram) (ds : List Diagram) → IsSound S k f → IsSound S k d → AllSound S k ds
+    → Does (IsSound S) 0 k (fed_by w f d ds)
+fed_by_does S k w f d ds g h i =
+    choice (nat_lt (inputs f) w) (refuse_does (TooManyArguments w (inputs f)) tt)
+    (choice (takes_the_right f && nat_eq w 1) (led_does S k (Primitive prim.Wire) (d ∷ ds) f (prim_sound S k prim.Wire) (h, i) g)
+    (led_does S k d (ds ++ wires (inputs f - w)) f h (all_append S k ds (wires (inputs f - w)) i (wires_sound S k (inputs f - w))) g))
+
+pub fed_does : (S : ℕ → Type 0) (k : ℕ) (f : Diagram) (ds : List Diagram) → IsSound S k f → AllSound S k ds → Does (SoundValue S) 0 k (fed f ds)
+fed_does S k f [] g h = give_does (λ n i. keep S k n f i g)
+fed_does S k f (d ∷ ds) g h = flat_does (fed_by_does S k (all_outputs (d ∷ ds)) f d ds g h.0 h.1)
