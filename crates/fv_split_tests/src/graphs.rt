@@ -1,6 +1,7 @@
 // Small graphs, with their loops.
 
 use fv_analysis::{largest_delays, rates};
+use fv_hand_graphs::{delayed, difference, late, pair};
 use fv_num::Op;
 use fv_outside::Reads;
 use fv_plan::{LaneInfo, Plan};
@@ -34,17 +35,7 @@ fn assert_steps(rt: &impl Abort, plan: &Plan, wanted: &[u64]) {
 // A signal less its `mem`: the input and the difference, which reads the input's lane.
 #[test]
 fn a_signal_less_its_mem(rt: HostRuntime) -> Result<(), Fail> {
-    let mut builder = Builder::new(rt.alloc());
-    let input = builder.node(Signal::Input(0))?;
-    let one = builder.node(Signal::Const(1))?;
-    let last = builder.node(Signal::Delay {
-        x: input,
-        d: one,
-        max: 1,
-    })?;
-    let args = [input, last, input, input];
-    let difference = builder.node(Signal::Point { op: Op::Sub, args })?;
-    let graph = builder.finish(&[difference])?;
+    let graph = difference(rt.alloc())?;
     let plan = plan_of(rt.alloc(), &graph)?;
     let read = Reads {
         reader: 1,
@@ -64,12 +55,10 @@ fn two_loops_that_read_nothing(rt: HostRuntime) -> Result<(), Fail> {
     let mut builder = Builder::new(rt.alloc());
     let first = builder.node(Signal::Input(0))?;
     let one = builder.node(Signal::Const(1))?;
-    let args = [first, one, first, first];
-    let sum = builder.node(Signal::Point { op: Op::Add, args })?;
+    let sum = pair(&mut builder, Op::Add, first, one)?;
     let second = builder.node(Signal::Input(1))?;
     let two = builder.node(Signal::Const(2))?;
-    let args = [second, two, first, first];
-    let product = builder.node(Signal::Point { op: Op::Mul, args })?;
+    let product = pair(&mut builder, Op::Mul, second, two)?;
     let graph = builder.finish(&[sum, product])?;
     let plan = plan_of(rt.alloc(), &graph)?;
     assert!(rt; plan.reads().is_empty());
@@ -85,17 +74,8 @@ fn two_loops_that_read_nothing(rt: HostRuntime) -> Result<(), Fail> {
 fn three_loops_in_a_row(rt: HostRuntime) -> Result<(), Fail> {
     let mut builder = Builder::new(rt.alloc());
     let input = builder.node(Signal::Input(0))?;
-    let one = builder.node(Signal::Const(1))?;
-    let last = builder.node(Signal::Delay {
-        x: input,
-        d: one,
-        max: 1,
-    })?;
-    let older = builder.node(Signal::Delay {
-        x: last,
-        d: one,
-        max: 1,
-    })?;
+    let last = late(&mut builder, input, 1)?;
+    let older = late(&mut builder, last, 1)?;
     let graph = builder.finish(&[older])?;
     let plan = plan_of(rt.alloc(), &graph)?;
     assert_eq!(rt;
@@ -122,12 +102,7 @@ fn three_loops_in_a_row(rt: HostRuntime) -> Result<(), Fail> {
 fn a_number_one_sample_late(rt: HostRuntime) -> Result<(), Fail> {
     let mut builder = Builder::new(rt.alloc());
     let five = builder.node(Signal::Const(5))?;
-    let one = builder.node(Signal::Const(1))?;
-    let last = builder.node(Signal::Delay {
-        x: five,
-        d: one,
-        max: 1,
-    })?;
+    let last = late(&mut builder, five, 1)?;
     let graph = builder.finish(&[last])?;
     let plan = plan_of(rt.alloc(), &graph)?;
     assert_eq!(rt; plan.lanes(), [lane(0, 1), lane(1, 0)].as_slice());
@@ -141,8 +116,7 @@ fn a_constant_output(rt: HostRuntime) -> Result<(), Fail> {
     let mut builder = Builder::new(rt.alloc());
     let seven = builder.node(Signal::Const(7))?;
     let input = builder.node(Signal::Input(0))?;
-    let args = [seven, input, input, input];
-    let sum = builder.node(Signal::Point { op: Op::Add, args })?;
+    let sum = pair(&mut builder, Op::Add, seven, input)?;
     let graph = builder.finish(&[seven, sum])?;
     let plan = plan_of(rt.alloc(), &graph)?;
     assert!(rt; plan.reads().is_empty());
@@ -153,15 +127,7 @@ fn a_constant_output(rt: HostRuntime) -> Result<(), Fail> {
 // A delay of at most 0 is its operand.
 #[test]
 fn a_delay_of_nothing(rt: HostRuntime) -> Result<(), Fail> {
-    let mut builder = Builder::new(rt.alloc());
-    let input = builder.node(Signal::Input(0))?;
-    let zero = builder.node(Signal::Const(0))?;
-    let same = builder.node(Signal::Delay {
-        x: input,
-        d: zero,
-        max: 0,
-    })?;
-    let graph = builder.finish(&[same])?;
+    let graph = delayed(rt.alloc(), 0)?;
     let plan = plan_of(rt.alloc(), &graph)?;
     assert_eq!(rt; plan.lanes(), [lane(0, 0)].as_slice());
     assert_steps(&rt, &plan, &[3]);
@@ -180,10 +146,8 @@ fn nested_feedback(rt: HostRuntime) -> Result<(), Fail> {
         group: second,
         i: 0,
     })?;
-    let args = [input, two, input, input];
-    let sum = builder.node(Signal::Point { op: Op::Add, args })?;
-    let args = [input, one, input, input];
-    let product = builder.node(Signal::Point { op: Op::Mul, args })?;
+    let sum = pair(&mut builder, Op::Add, input, two)?;
+    let product = pair(&mut builder, Op::Mul, input, one)?;
     builder.close_group(first, &[sum])?;
     builder.close_group(second, &[product])?;
     let output = builder.node(Signal::Member { group: first, i: 0 })?;
@@ -204,8 +168,7 @@ fn a_member_of_a_member(rt: HostRuntime) -> Result<(), Fail> {
     let inner = builder.group()?;
     let outer = builder.group()?;
     let last = builder.node(Signal::Back { group: outer, i: 0 })?;
-    let args = [input, last, input, input];
-    let sum = builder.node(Signal::Point { op: Op::Add, args })?;
+    let sum = pair(&mut builder, Op::Add, input, last)?;
     builder.close_group(inner, &[sum])?;
     let member = builder.node(Signal::Member { group: inner, i: 0 })?;
     builder.close_group(outer, &[member])?;
@@ -224,12 +187,7 @@ fn a_member_of_a_member(rt: HostRuntime) -> Result<(), Fail> {
 fn a_delay_of_nothing_beside_its_signal(rt: HostRuntime) -> Result<(), Fail> {
     let mut builder = Builder::new(rt.alloc());
     let input = builder.node(Signal::Input(0))?;
-    let zero = builder.node(Signal::Const(0))?;
-    let same = builder.node(Signal::Delay {
-        x: input,
-        d: zero,
-        max: 0,
-    })?;
+    let same = late(&mut builder, input, 0)?;
     let graph = builder.finish(&[same, input])?;
     let plan = plan_of(rt.alloc(), &graph)?;
     assert_eq!(rt; plan.lanes(), [lane(0, 0), lane(1, 0)].as_slice());
@@ -247,11 +205,9 @@ fn feedback_around_feedback(rt: HostRuntime) -> Result<(), Fail> {
     let outer = builder.group()?;
     let last = builder.node(Signal::Back { group: outer, i: 0 })?;
     let one = builder.node(Signal::Const(1))?;
-    let args = [last, one, last, last];
-    let more = builder.node(Signal::Point { op: Op::Add, args })?;
+    let more = pair(&mut builder, Op::Add, last, one)?;
     let before = builder.node(Signal::Back { group: inner, i: 0 })?;
-    let args = [before, more, before, before];
-    let sum = builder.node(Signal::Point { op: Op::Add, args })?;
+    let sum = pair(&mut builder, Op::Add, before, more)?;
     builder.close_group(inner, &[sum])?;
     let member = builder.node(Signal::Member { group: inner, i: 0 })?;
     builder.close_group(outer, &[member])?;
