@@ -1,5 +1,6 @@
 -- How far back signals are read.
-use Rattle.std.proofs.Common.{◌≡◌, ◌⊎◌, inl, inr, ℕ, zero, suc, ◌+◌, ◌<◌, ◌≤◌, List, [], ◌∷◌, ◌++◌, length, take, map, max, get_or, All, refl, sym, ap, ap₂, ◌∙◌, subst, arith, Bool, true, false, nat_eq, nat_lt, cond, if◌then◌else◌, pos}
+use Rattle.std.proofs.Common.{◌≡◌, ◌⊎◌, inl, inr, ℕ, zero, suc, ◌+◌, ◌<◌, ◌≤◌, List, [], ◌∷◌, ◌++◌, length, take, map, max, get_or, All, refl, sym, ap, ap₂}
+use Rattle.std.proofs.Common.{◌∙◌, subst, arith, Bool, true, false, nat_eq, nat_lt, cond, if◌then◌else◌, pos}
 use Rattle.std.specs.Prelude.{◌||◌, slice_set}
 use Rattle.std.proofs.lemmas.Bool.{cases_lt, cases_eq, eq-eqb, ne_eqb, eqb-true, lt-ltb, cond-true, cond-false}
 use Rattle.std.proofs.lemmas.List.{take_more, take_all, length-set, get_or-set_same, get_or-set_other}
@@ -11,7 +12,8 @@ use Rattle.fv_signal.specs.declared.signal.Signal.TheVariants.{Input, Const, Con
 use Rattle.fv_signal.specs.Value.{Graph, definition}
 use Rattle.fv_signal.proofs.Grown.{length_grown}
 use Rattle.fv_analysis.specs.Stands.{node, stand, stand_in, stands_of, StandsAt}
-use Rattle.fv_analysis.specs.Reaching.{delay_of, is_back_of, greatest_delay, is_fed_back, history_from, history_of, HasReason, OfDelay, OfBack, HistoriesCover, Tell, TellMore}
+use Rattle.fv_analysis.specs.Reaching.{delay_of, is_back_of, greatest_delay, is_fed_back, history_from, history_of, HasReason, OfDelay, OfBack}
+use Rattle.fv_analysis.specs.Reaching.{HistoriesCover, Tell, TellMore}
 
 -- ---- one signal more
 
@@ -143,7 +145,8 @@ find_greatest g r (x ∷ ss) h = elim (cases_lt (delay_of g r x) (greatest_delay
   | inr l ↦ (0, omega arith, λ d. omega (arith, l))
 ]
 
-find_back : (g : Graph) (r : ℕ) (ss : List Signal) → is_fed_back g r ss ≡ true → (i : ℕ) × (i < length ss) × ((d : Signal) → is_back_of g r (get_or ss i d) ≡ true)
+find_back : (g : Graph) (r : ℕ) (ss : List Signal) → is_fed_back g r ss ≡ true → (i : ℕ) × (i < length ss)
+    × ((d : Signal) → is_back_of g r (get_or ss i d) ≡ true)
 find_back g r [] h = absurd cc
 find_back g r (x ∷ ss) h = go (is_back_of g r x) refl (find_back g r ss)
   where

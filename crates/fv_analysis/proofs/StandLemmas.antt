@@ -86,6 +86,10 @@ stands_well g ordered (suc n) s m l = elim (cases_lt s n) [
     | Itself k e ↦ record { no_member = subst (λ x. IsNoMember (node g x)) (sym e) k; again = ap (stand g) e; below = omega (arith, e) }
     | Another group i e b f ↦
         let h = stands_well g ordered n (definition g group i) (omega arith) b in
-        record { no_member = subst (λ x. IsNoMember (node g x)) (sym f) h.no_member; again = ap (stand g) f ∙ h.again ∙ sym f; below = omega (arith, f, b, h.below) }
+        record {
+          no_member = subst (λ x. IsNoMember (node g x)) (sym f) h.no_member;
+          again = ap (stand g) f ∙ h.again ∙ sym f;
+          below = omega (arith, f, b, h.below);
+        }
   ])
 ]

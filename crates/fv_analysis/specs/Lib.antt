@@ -1,2 +1,6 @@
 pub mod Stands
 pub mod Reaching
+-- what its public clauses cite of crates below
+pub use Rattle.fv_num.specs.Frames
+pub use Rattle.fv_signal.specs.Value
+pub use Rattle.fv_signal.specs.Rates

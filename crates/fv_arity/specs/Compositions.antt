@@ -1,6 +1,7 @@
 -- When diagrams compose, and which condition fails where they do not.
 use Rattle.std.specs.Prelude.{◌≡◌, ◌≢◌, ℕ, ◌%◌, ◌<◌, ◌≤◌}
-use Rattle.fv_diagram.specs.Diagram.{Diagram, Bind, Par, Seq, Split, Merge, Rec, inputs, outputs, IsWellFormed}
+use Rattle.fv_diagram.specs.Diagram.{Diagram, Bind, Par, Seq, Split, Merge, Rec, inputs, outputs}
+use Rattle.fv_diagram.specs.Composed.{IsComposed}
 use Rattle.fv_arity.specs.declared.refusal.ArityKind.{ArityKind}
 use Rattle.fv_arity.specs.declared.refusal.ArityKind.TheVariants as kind
 use Rattle.fv_arity.specs.declared.refusal.ArityRefusal.{ArityRefusal}
@@ -18,15 +19,15 @@ Composes (Merge a b) = IsMultiple (outputs a) (inputs b)
 Composes (Rec a b) = (inputs b ≤ outputs a) × (outputs b ≤ inputs a)
 Composes _ = Unit {0}
 
--- the parts of the outermost node are well formed
-abbrev pub HasWellFormedParts : Diagram → Type 0
-HasWellFormedParts (Bind s a) = IsWellFormed a
-HasWellFormedParts (Par a b) = IsWellFormed a × IsWellFormed b
-HasWellFormedParts (Seq a b) = IsWellFormed a × IsWellFormed b
-HasWellFormedParts (Split a b) = IsWellFormed a × IsWellFormed b
-HasWellFormedParts (Merge a b) = IsWellFormed a × IsWellFormed b
-HasWellFormedParts (Rec a b) = IsWellFormed a × IsWellFormed b
-HasWellFormedParts _ = Unit {0}
+-- the parts of the outermost node are composed
+abbrev pub HasComposedParts : Diagram → Type 0
+HasComposedParts (Bind s a) = IsComposed a
+HasComposedParts (Par a b) = IsComposed a × IsComposed b
+HasComposedParts (Seq a b) = IsComposed a × IsComposed b
+HasComposedParts (Split a b) = IsComposed a × IsComposed b
+HasComposedParts (Merge a b) = IsComposed a × IsComposed b
+HasComposedParts (Rec a b) = IsComposed a × IsComposed b
+HasComposedParts _ = Unit {0}
 
 -- the condition of this kind is that of the outermost composition, and fails at these numbers of streams
 abbrev pub Fails : ArityKind → (left right : ℕ) → Diagram → Type 0

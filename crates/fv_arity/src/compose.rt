@@ -1,9 +1,10 @@
 // The arity of a node over earlier diagrams.
 
 ghost use Rattle.std.specs.Prelude.{◌≡◌, ◌≢◌, ◌-◌, ◌<◌, ◌≤◌, ◌↔◌, ◌⊎◌, IfOk, IfErr, OnOk, MatchResult, IsTrue};
-ghost use Rattle.fv_diagram.specs.Diagram.{primitive_inputs, primitive_outputs, IsWellFormed};
+ghost use Rattle.fv_diagram.specs.Diagram.{primitive_inputs, primitive_outputs};
+ghost use Rattle.fv_diagram.specs.Composed.{IsComposed};
 ghost use Rattle.fv_diagram.specs.Arena.{count_of, tree_with, ChildrenBelow, IsArity};
-ghost use Rattle.fv_arity.specs.Compositions.{IsMultiple, Composes, HasWellFormedParts, IsRefused};
+ghost use Rattle.fv_arity.specs.Compositions.{IsMultiple, Composes, HasComposedParts, IsRefused};
 
 use crate::refusal::{ArityKind, ArityRefusal};
 use fv_diagram::{Arity, Diagrams, Node, Prim};
@@ -14,7 +15,7 @@ pub fn arity_of(diagrams: &Diagrams, node: Node) -> Result<Arity, ArityRefusal>
     requires { ChildrenBelow (count_of diagrams.now) node }
     ensures arity { IfOk result (λ a. IsArity (tree_with diagrams.now node) a) }
     ensures composes { OnOk result (Composes (tree_with diagrams.now node)) }
-    ensures well { OnOk result (HasWellFormedParts (tree_with diagrams.now node) → IsWellFormed (tree_with diagrams.now node)) }
+    ensures composed { OnOk result (HasComposedParts (tree_with diagrams.now node) → IsComposed (tree_with diagrams.now node)) }
     ensures refused { IfErr result (λ e. IsRefused e (tree_with diagrams.now node)) }
 {
     match node {

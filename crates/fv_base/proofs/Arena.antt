@@ -14,7 +14,8 @@ keeps_push free ts t = record { longer = omega (arith, length_push ts t); same =
 
 module _ {N T : Type 0} (build : List T → N → T) where
   -- one node more
-  pub trees_from_snoc : (ts : List T) (ns : List N) (n : N) → trees_from build ts (ns ++ n ∷ []) ≡ trees_from build ts ns ++ build (trees_from build ts ns) n ∷ []
+  pub trees_from_snoc : (ts : List T) (ns : List N) (n : N) → trees_from build ts (ns ++ n ∷ []) ≡ trees_from build ts ns ++ build
+      (trees_from build ts ns) n ∷ []
   trees_from_snoc ts [] n = refl
   trees_from_snoc ts (m ∷ ns) n = trees_from_snoc (ts ++ build ts m ∷ []) ns n
 
@@ -40,9 +41,11 @@ module _ {N T : Type 0} (build : List T → N → T) where
       ∙ get_or_push (trees build ns) (build (trees build ns) n) free (length ns) (length_trees ns)
 
   pub push_keeps : (free : T) (ns ms : List N) (n : N) → ms ≡ ns ++ n ∷ [] → KeepsTrees free (trees build ns) (trees build ms)
-  push_keeps free ns ms n e = subst (KeepsTrees free (trees build ns)) (sym (ap (trees build) e ∙ trees_snoc ns n)) (keeps_push free (trees build ns) (build (trees build ns) n))
+  push_keeps free ns ms n e = subst (KeepsTrees free (trees build ns)) (sym (ap (trees build) e ∙ trees_snoc ns n))
+      (keeps_push free (trees build ns) (build (trees build ns) n))
 
-  below_from_snoc : (Below : ℕ → N → Type 0) (i : ℕ) (ns : List N) (n : N) → AreBelowFrom Below i ns → Below (i + length ns) n → AreBelowFrom Below i (ns ++ n ∷ [])
+  below_from_snoc : (Below : ℕ → N → Type 0) (i : ℕ) (ns : List N) (n : N) → AreBelowFrom Below i ns → Below (i + length ns) n
+      → AreBelowFrom Below i (ns ++ n ∷ [])
   below_from_snoc Below i [] n h p = let same : i + 0 ≡ i = omega arith in (subst (λ k. Below k n) same p, tt)
   below_from_snoc Below i (m ∷ ns) n h p =
       let same : i + length (m ∷ ns) ≡ suc i + length ns = omega arith in (h.0, below_from_snoc Below (suc i) ns n h.1 (subst (λ k. Below k n) same p))
@@ -60,7 +63,8 @@ module _ {N T : Type 0} (build : List T → N → T) where
       let all = trees_from build (ts ++ t ∷ []) ns in
       let keeps = keeps_trans free ts (ts ++ t ∷ []) all (keeps_push free ts t) (trees_keep free (ts ++ t ∷ []) ns) in
       let plus : length ts + 0 ≡ length ts = omega arith in
-      ap (λ k. get_or all k free) plus ∙ (trees_keep free (ts ++ t ∷ []) ns).same (length ts) (omega (arith, length_push ts t)) ∙ get_or_push ts t free (length ts) refl
+      ap (λ k. get_or all k free) plus ∙ (trees_keep free (ts ++ t ∷ []) ns).same (length ts) (omega (arith, length_push ts t))
+      ∙ get_or_push ts t free (length ts) refl
       ∙ parts ts all (length ts) n h.0 (λ j m. sym (keeps.same j m))
   tree_from Below free parts ts (n ∷ ns) (suc i) d h l =
       let t = build ts n in
@@ -75,7 +79,8 @@ module _ {N T : Type 0} (build : List T → N → T) where
       let place : i ≡ 0 + i = omega arith in ap (λ k. get_or (trees build ns) k free) place ∙ tree_from Below free parts [] ns i d h l
 
   -- a table over the arena, one node further: what is known of the first nodes' trees, and of the tree of the next
-  pub table_grows : {V : Type 0} (f : T → V) (ns ms : List N) (n : N) (vs : List V) (v : V) → ms ≡ ns ++ n ∷ [] → vs ≡ map f (trees build ns) → v ≡ f (build (trees build ns) n)
+  pub table_grows : {V : Type 0} (f : T → V) (ns ms : List N) (n : N) (vs : List V) (v : V) → ms ≡ ns ++ n ∷ [] → vs ≡ map f (trees build ns)
+      → v ≡ f (build (trees build ns) n)
       → vs ++ v ∷ [] ≡ map f (trees build ms)
   table_grows f ns ms n vs v e all last =
       ap₂ (λ l x. l ++ x ∷ []) all last ∙ sym (map_push f (trees build ns) (build (trees build ns) n)) ∙ ap (map f) (sym (ap (trees build) e ∙ trees_snoc ns n))

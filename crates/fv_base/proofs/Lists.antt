@@ -1,5 +1,6 @@
 -- Lemmas on lists: those that grow at their end, fronts and backs, tables.
-use Rattle.std.proofs.Common.{◌≡◌, ℕ, zero, suc, ◌+◌, ◌<◌, ◌≤◌, List, [], ◌∷◌, ◌++◌, length, map, reverse, get_or, take, drop, refl, sym, ap, ◌∙◌, subst, arith, ap₂, ◌⊎◌, inl, inr, add-one, drop-cons, append_assoc}
+use Rattle.std.proofs.Common.{◌≡◌, ℕ, zero, suc, ◌+◌, ◌<◌, ◌≤◌, List, [], ◌∷◌, ◌++◌, length, map, reverse, get_or, take, drop, refl, sym, ap, ◌∙◌}
+use Rattle.std.proofs.Common.{subst, arith, ap₂, ◌⊎◌, inl, inr, add-one, drop-cons, append_assoc}
 use Rattle.std.proofs.lemmas.Bool.{cases_lt}
 use Rattle.std.proofs.lemmas.List.{reverse-reverse, length_push, length-append, get_or_append_left, get_or_push, map_push, take_at, drop_at, append-nil}
 use mathlib.Core.List.{reverse-cons}

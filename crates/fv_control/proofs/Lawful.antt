@@ -4,6 +4,7 @@ use Rattle.std.specs.Prelude.{if◌then◌else◌, not, nat_le, nat_lt, position
 use Rattle.std.specs.List.{AllByRecursion, position_or_len}
 use Rattle.std.specs.Str.Lines.{strip_carriage_return}
 use Rattle.std.proofs.lemmas.Bool.{leb-true, ltb-true}
+use Rattle.fv_base.specs.declared.limits.TheConstants.{LONGEST_TEXT}
 use Rattle.fv_diagram.specs.declared.control.ControlInfo.{ControlInfo}
 use Rattle.fv_control.specs.declared.script.Change.{Change}
 use Rattle.fv_control.specs.declared.refusal.ScriptRefusal.{ScriptRefusal}
@@ -98,7 +99,7 @@ chosen P false x y f g = g
 
 good_script : (controls : List ControlInfo) (bytes : List ℕ) → AllGood controls 0 (script controls bytes)
 unfolding script
-good_script controls bytes = chosen (AllGood controls 0) (nat_le (length bytes) 1048576) (lines_say controls 0 1 (lines_of bytes)) (Err (TextTooLong Controls))
+good_script controls bytes = chosen (AllGood controls 0) (nat_le (length bytes) LONGEST_TEXT) (lines_say controls 0 1 (lines_of bytes)) (Err (TextTooLong Controls))
     (good_lines controls 0 1 (lines_of bytes)) tt
 
 pub lawful : IsLawful

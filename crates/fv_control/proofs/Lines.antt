@@ -5,6 +5,7 @@ use Rattle.std.specs.List.{position_or_len, slice_split}
 use Rattle.std.proofs.lemmas.Bool.{cases_lt, le-leb, lt-leb}
 use Rattle.std.proofs.lemmas.List.{take_all}
 use Rattle.std.proofs.lemmas.List.Splits.{slice_split_first}
+use Rattle.fv_base.specs.declared.limits.TheConstants.{LONGEST_TEXT}
 use Rattle.fv_diagram.specs.declared.control.ControlInfo.{ControlInfo}
 use Rattle.fv_control.specs.declared.script.Change.{Change}
 use Rattle.fv_control.specs.declared.refusal.ScriptRefusal.{ScriptRefusal}
@@ -98,10 +99,10 @@ module _ (bytes : List ℕ) (at : ℕ) where
     }
 
 -- a script of lawful length is its lines
-pub script_is : (cs : List ControlInfo) (bytes : List ℕ) → length bytes ≤ 1048576 → script cs bytes ≡ lines_say cs 0 1 (lines_of bytes)
+pub script_is : (cs : List ControlInfo) (bytes : List ℕ) → length bytes ≤ LONGEST_TEXT → script cs bytes ≡ lines_say cs 0 1 (lines_of bytes)
 unfolding script
-script_is cs bytes h = let t = le-leb (length bytes) 1048576 h in rw t refl
+script_is cs bytes h = let t = le-leb (length bytes) LONGEST_TEXT h in rw t refl
 
-pub script_long : (cs : List ControlInfo) (bytes : List ℕ) → 1048576 < length bytes → script cs bytes ≡ Err (TextTooLong Controls)
+pub script_long : (cs : List ControlInfo) (bytes : List ℕ) → LONGEST_TEXT < length bytes → script cs bytes ≡ Err (TextTooLong Controls)
 unfolding script
-script_long cs bytes h = let t = lt-leb (length bytes) 1048576 h in rw t refl
+script_long cs bytes h = let t = lt-leb (length bytes) LONGEST_TEXT h in rw t refl

@@ -1,5 +1,5 @@
 -- Laws of the control streams.
-use Rattle.std.specs.Prelude.{◌≡◌, ℕ, ◌<◌, ◌≤◌, true, List, [], ◌∷◌, length, take, drop, slice_set, slice_index_or, ◌++◌, Some, Ok, ℤ}
+use Rattle.std.specs.Prelude.{◌≡◌, ℕ, ◌<◌, ◌≤◌, true, List, [], ◌∷◌, length, take, drop, slice_set, slice_index_or, ◌++◌, Some, Ok, ℤ, pos}
 use Rattle.fv_num.specs.Words.{argument}
 use Rattle.fv_diagram.specs.declared.control.ControlInfo.{ControlInfo}
 use Rattle.fv_control.specs.Script.{script, is_within, no_control, Request, request_of, frame_of, value_of}
@@ -32,6 +32,10 @@ abbrev pub IsLawful : Type 0
 IsLawful =
     (controls : List ControlInfo) (bytes : List ℕ) (changes : List Change) → script controls bytes ≡ Ok changes
     → NeverFall 0 changes × AllByRecursion (IsOfControls controls) changes
+
+-- some change
+abbrev pub no_change : Change
+no_change = record { frame = 0; control = 0; value = pos 0 }
 
 -- the numbers of the controls after some changes, one after another
 abbrev pub applied : List ℤ → List Change → List ℤ

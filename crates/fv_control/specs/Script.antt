@@ -3,6 +3,8 @@ use Rattle.std.specs.Prelude.{ℕ, ◌+◌, ◌-◌, ◌*◌, ◌^◌, Bool, tru
 use Rattle.std.specs.Prelude.{None, Result, Ok, Err, ℤ, pos, neg_ℤ, int_le, position, bytes_eq, slice_index, slice_index_or, if◌then◌else◌}
 use Rattle.std.specs.List.{list_all, slice_split, before_first, after_first}
 use Rattle.std.specs.Str.Lines.{strip_carriage_return}
+pub use Rattle.fv_base.specs.Digits.{is_digit, is_decimal, decimal_after}
+use Rattle.fv_base.specs.declared.limits.TheConstants.{LONGEST_TEXT}
 use Rattle.fv_base.specs.declared.role.Role.TheVariants.{Controls}
 use Rattle.fv_diagram.specs.declared.control.ControlInfo.{ControlInfo}
 use Rattle.fv_diagram.specs.declared.control.ControlKind.TheVariants.{Button}
@@ -24,19 +26,7 @@ abbrev pub last_space : List ℕ → Option ℕ
 last_space [] = None
 last_space (b ∷ bs) = one_more (last_space bs) (if is_space b then Some 0 else None)
 
-abbrev pub is_digit : ℕ → Bool
-is_digit d = nat_le 48 d && nat_le d 57
-
--- 1 to 10 digits
-abbrev pub is_decimal : List ℕ → Bool
-is_decimal ds = nat_le 1 (length ds) && nat_le (length ds) 10 && list_all is_digit ds
-
--- the number that digits write behind this one
-abbrev pub decimal_after : ℕ → List ℕ → ℕ
-decimal_after n [] = n
-decimal_after n (d ∷ ds) = decimal_after (n * 10 + (d - 48)) ds
-
--- the number that such digits write, if it is not above this
+-- the number that one to ten digits write, if it is not above this
 abbrev pub natural_to : ℕ → List ℕ → Option ℕ
 natural_to most ds = if is_decimal ds && nat_le (decimal_after 0 ds) most then Some (decimal_after 0 ds) else None
 
@@ -131,7 +121,7 @@ lines_of bytes = slice_split (λ b. b == 10) bytes
 
 -- The changes that a script spells, or why it is refused: for its length, or for its first bad line.
 unfoldable pub script : List ControlInfo → List ℕ → Result (List Change) ScriptRefusal
-script controls bytes = if nat_le (length bytes) 1048576 then lines_say controls 0 1 (lines_of bytes) else Err (TextTooLong Controls)
+script controls bytes = if nat_le (length bytes) LONGEST_TEXT then lines_say controls 0 1 (lines_of bytes) else Err (TextTooLong Controls)
 
 -- the refusal speaks of the script, and not of memory
 abbrev pub IsOfScript : ScriptRefusal → Type 0

@@ -1,14 +1,15 @@
 // One line of a script.
 
-ghost use Rattle.std.specs.Prelude.{◌≡◌, ◌+◌, ◌^◌, ◌<◌, ◌≤◌, ◌==◌, length, true, None, Some, Ok, Err};
+ghost use Rattle.std.specs.Prelude.{◌≡◌, ◌+◌, ◌^◌, ◌<◌, ◌≤◌, ◌==◌, length, None, Some, Ok, Err};
 ghost use Rattle.std.specs.Prelude.{IfOk, IfErr, IfSome, MatchOption, take, drop, position, bytes_eq, slice_index_or};
-ghost use Rattle.std.specs.List.{position_or_len, list_all};
+ghost use Rattle.std.specs.List.{position_or_len};
 ghost use Rattle.std.specs.Str.Lines.{strip_carriage_return};
-ghost use Rattle.fv_control.specs.Script.{line_says, request_of, is_space, last_space, natural_to, value_of, is_digit, is_decimal, decimal_after};
+ghost use Rattle.fv_control.specs.Script.{line_says, request_of, is_space, last_space, natural_to, value_of};
 ghost use Rattle.fv_control.specs.Script.{asked, Request as Asked};
 
 use crate::refusal::ScriptRefusal;
 use crate::script::Change;
+use fv_base::decimal_of;
 use fv_diagram::ControlInfo;
 
 /// What a line asks for.
@@ -107,45 +108,18 @@ fn last_space(rest: &[u8]) -> Option<usize>
     last
 }
 
-// The number that 1 to 10 digits write, if it is not above `most`.
+// The number that one to ten digits write, if it is not above `most`.
 fn natural_to(digits: &[u8], most: u64) -> Option<u64>
     ensures number { result ≡ natural_to most digits.now }
     ensures within { IfSome result (λ n. n ≤ most) }
 {
-    if !is_decimal(digits) {
+    let Some(n) = decimal_of(digits) else {
         return None;
-    }
-    let n = decimal(digits);
+    };
     if n > most {
         return None;
     }
     Some(n)
-}
-
-// Whether these are 1 to 10 digits.
-fn is_decimal(digits: &[u8]) -> bool
-    ensures { result ≡ is_decimal digits.now }
-{
-    !digits.is_empty() && digits.len() <= 10 && all_digits(digits)
-}
-
-// Whether all bytes are digits.
-fn all_digits(bytes: &[u8]) -> bool
-    ensures { result ≡ list_all is_digit bytes.now }
-{
-    bytes.iter().all(|d| 48 <= *d && *d <= 57)
-}
-
-// The number that the digits write.
-fn decimal(digits: &[u8]) -> u64
-    requires { is_decimal digits.now ≡ true }
-    ensures { result ≡ decimal_after 0 digits.now }
-{
-    let mut n = 0u64;
-    for d in digits {
-        n = n * 10 + u64::from(*d - b'0');
-    }
-    n
 }
 
 // An optional sign and digits, within 32 bits.

@@ -7,6 +7,7 @@ ghost use Rattle.fv_control.specs.Script.{script, IsOfScript, line_says, listed,
 use crate::line::{first_place, read_line};
 use crate::refusal::ScriptRefusal;
 use fv_base::Role;
+use fv_base::limits::LONGEST_TEXT;
 use fv_diagram::ControlInfo;
 use std::alloc::Global;
 use std::marker::Model;
@@ -34,9 +35,6 @@ impl Model for Script {
 
     ghost view = { λ s. s.changes.items };
 }
-
-/// The most bytes of a script.
-const MOST_BYTES: usize = 1048576;
 
 impl Script {
     /// The script that the bytes spell for these controls.
@@ -71,7 +69,7 @@ fn read_changes(
     ensures spelled { IfOk result (λ v. script controls.now bytes.now ≡ Ok v.items) }
     ensures refused { IfErr result (λ e. IsOfScript e → script controls.now bytes.now ≡ Err e) }
 {
-    if bytes.len() > MOST_BYTES {
+    if bytes.len() > LONGEST_TEXT {
         return Err(ScriptRefusal::TextTooLong {
             role: Role::Controls,
         });

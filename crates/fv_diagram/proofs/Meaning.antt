@@ -1,8 +1,10 @@
 -- What the walk makes of a diagram is wired as the diagram, by one induction on the tree.
-use Rattle.std.proofs.Common.{◌≡◌, ℕ, suc, ◌+◌, ◌%◌, ◌<◌, ◌≤◌, get_or, List, [], ◌∷◌, ◌++◌, length, take, drop, replicate, refl, sym, ap, ap₂, ◌∙◌, arith, pos, ℤ, length-append, nat_eq, inl, inr}
+use Rattle.std.proofs.Common.{◌≡◌, ℕ, suc, ◌+◌, ◌%◌, ◌<◌, ◌≤◌, get_or, List, [], ◌∷◌, ◌++◌, length, take, drop, replicate, refl, sym, ap, ap₂, ◌∙◌}
+use Rattle.std.proofs.Common.{arith, pos, ℤ, length-append, nat_eq, inl, inr}
 use Rattle.std.specs.Prelude.{slice_set}
 use Rattle.std.proofs.lemmas.Bool.{cases_eq, eq-eqb, ne_eqb, cond-true, cond-false}
-use Rattle.std.proofs.lemmas.List.{length-take-le, length-drop, length-set, length-map, map-append, get_or-set_same, get_or-set_other, get_or-take, get_or-map, drop-map}
+use Rattle.std.proofs.lemmas.List.{length-take-le, length-drop, length-set, length-map, map-append, get_or-set_same, get_or-set_other, get_or-take}
+use Rattle.std.proofs.lemmas.List.{get_or-map, drop-map}
 use Rattle.std.proofs.Math.Nat.{mod-lt}
 use Rattle.fv_base.proofs.Lists.{length_table, table_same, get_or_table}
 use Rattle.fv_num.specs.declared.op.Op.TheVariants.{Add}
@@ -12,7 +14,8 @@ use Rattle.fv_diagram.specs.declared.node.Primitive.{Primitive as Prim}
 use Rattle.fv_diagram.specs.declared.node.Primitive.TheVariants as prim
 use Rattle.fv_diagram.specs.declared.signals.Leaf.{Leaf}
 use Rattle.fv_diagram.specs.declared.signals.Leaf.TheVariants as leaf
-use Rattle.fv_diagram.specs.Diagram.{Diagram, Primitive, Constant, Control, Slot, Bind, Par, Seq, Split, Merge, Rec, inputs, outputs, primitive_inputs, primitive_outputs, IsWellFormed}
+use Rattle.fv_diagram.specs.Diagram.{Diagram, Primitive, Constant, Control, Slot, Bind, Par, Seq, Split, Merge, Rec, inputs, outputs}
+use Rattle.fv_diagram.specs.Diagram.{primitive_inputs, primitive_outputs, IsWellFormed}
 use Rattle.fv_diagram.specs.Streams.{Stream, dealt, every, wrapped_sum, merged}
 use Rattle.fv_diagram.specs.Streams.{added as add}
 use Rattle.fv_diagram.specs.Wires.{Wired, carried}

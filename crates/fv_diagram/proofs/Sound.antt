@@ -1,7 +1,9 @@
 -- The runner meets the laws of the walk.
-use Rattle.std.proofs.Common.{◌≡◌, ◌⊎◌, ℕ, zero, suc, ◌+◌, ◌<◌, ◌≤◌, List, [], ◌∷◌, ◌++◌, length, get_or, take, map, refl, sym, ap, ap₂, ◌∙◌, subst, arith, All, pos, replicate, inl, inr}
+use Rattle.std.proofs.Common.{◌≡◌, ◌⊎◌, ℕ, zero, suc, ◌+◌, ◌<◌, ◌≤◌, List, [], ◌∷◌, ◌++◌, length, get_or, take, map, refl, sym, ap, ap₂, ◌∙◌, subst}
+use Rattle.std.proofs.Common.{arith, All, pos, replicate, inl, inr}
 use Rattle.std.specs.Prelude.{slice_set}
-use Rattle.std.proofs.lemmas.List.{get_or_append_left, get_or_push, length_push, length-append, length-set, length-take-le, length-take, get_or-take, get_or-append-add, get_or-set_same, get_or-set_other, take-map}
+use Rattle.std.proofs.lemmas.List.{get_or_append_left, get_or_push, length_push, length-append, length-set, length-take-le, length-take, get_or-take}
+use Rattle.std.proofs.lemmas.List.{get_or-append-add, get_or-set_same, get_or-set_other, take-map}
 use Rattle.std.proofs.lemmas.List.Elements.{All-weaker, All-cons, All-head, All-tail}
 use Rattle.fv_base.specs.Lists.{IsPrefixOf}
 use Rattle.fv_base.proofs.Lists.{prefix_trans, length_table, table_same, map_table, get_or_table}
@@ -20,7 +22,8 @@ use Rattle.fv_diagram.specs.declared.node.Primitive.TheVariants as prim
 use Rattle.fv_diagram.specs.Diagram.{Primitive, primitive_inputs}
 use Rattle.fv_diagram.specs.Walked.{primitive}
 use Rattle.fv_diagram.specs.Steps.{step_at, wires, AreOrdered}
-use Rattle.fv_diagram.specs.Code.{Code, HasLoops, put, put_cell, put_back, put_prefix, padded, with_step, with_cells, leaf_of, opened_of, closed_of, shut, written, runner_hooks}
+use Rattle.fv_diagram.specs.Code.{Code, HasLoops, put, put_cell, put_back, put_prefix, padded, with_step, with_cells, leaf_of, opened_of, closed_of}
+use Rattle.fv_diagram.specs.Code.{shut, written, runner_hooks}
 use Rattle.fv_diagram.proofs.Causality.{delayed_same, back_same}
 use Rattle.fv_diagram.proofs.Carried.{column_carries}
 use Rattle.fv_diagram.proofs.Places.{prefix_snoc, prefix_long, prefix_get, table_replicate, carried_first}

@@ -1,5 +1,6 @@
 -- What a turn of the walk does.
-use Rattle.std.proofs.Common.{◌≡◌, ℕ, ◌+◌, ◌-◌, ◌%◌, ◌<◌, ◌≤◌, List, [], ◌∷◌, ◌++◌, zero, suc, Bool, true, false, if◌then◌else◌, nat_eq, length, take, drop, get_or, refl, sym, ap, ◌∙◌, subst, arith, All, Global, inl, inr, length-append}
+use Rattle.std.proofs.Common.{◌≡◌, ℕ, ◌+◌, ◌-◌, ◌%◌, ◌<◌, ◌≤◌, List, [], ◌∷◌, ◌++◌, zero, suc, Bool, true, false, if◌then◌else◌, nat_eq, length, take}
+use Rattle.std.proofs.Common.{drop, get_or, refl, sym, ap, ◌∙◌, subst, arith, All, Global, inl, inr, length-append}
 use Rattle.std.specs.declared.collections.VecDeque.{VecDeque}
 use Rattle.std.proofs.lemmas.List.Elements.{All-weaker, All-cons, All-head, All-tail, All-nil, All-take, All-drop, All-append}
 use Rattle.std.proofs.lemmas.List.{length-take-le, length-drop}

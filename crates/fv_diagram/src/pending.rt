@@ -90,7 +90,8 @@ fn turn<S: Signals>(
     now: VecDeque<S::Wire>,
     free: S::Wire,
 ) -> Result<VecDeque<S::Wire>, AllocError>
-    requires { IsReady (rules S.hooks S.is_wire S.fed free diagrams.now) (stage (task ∷ pending.old.tasks.items) pending.old.plugs.items now.items signals.old) }
+    requires { IsReady (rules S.hooks S.is_wire S.fed free diagrams.now)
+        (stage (task ∷ pending.old.tasks.items) pending.old.plugs.items now.items signals.old) }
     ensures { IfOk result (λ v. Advances (rules S.hooks S.is_wire S.fed free diagrams.now)
         (stage (task ∷ pending.old.tasks.items) pending.old.plugs.items now.items signals.old)
         (stage pending.new.tasks.items pending.new.plugs.items v.items signals.new)) }
@@ -128,7 +129,8 @@ fn visit<S: Signals>(
     now: VecDeque<S::Wire>,
     free: S::Wire,
 ) -> Result<VecDeque<S::Wire>, AllocError>
-    requires { IsReady (rules S.hooks S.is_wire S.fed free diagrams.now) (stage (Visit id ∷ pending.old.tasks.items) pending.old.plugs.items now.items signals.old) }
+    requires { IsReady (rules S.hooks S.is_wire S.fed free diagrams.now)
+        (stage (Visit id ∷ pending.old.tasks.items) pending.old.plugs.items now.items signals.old) }
     ensures { IfOk result (λ v. Advances (rules S.hooks S.is_wire S.fed free diagrams.now)
         (stage (Visit id ∷ pending.old.tasks.items) pending.old.plugs.items now.items signals.old)
         (stage pending.new.tasks.items pending.new.plugs.items v.items signals.new)) }
@@ -299,7 +301,8 @@ fn primitive<S: Signals>(
 ) -> Result<VecDeque<S::Wire>, AllocError>
     requires width { length now.items ≡ primitive_inputs prim }
     requires wires { All (S.is_wire signals.old) now.items }
-    ensures { IfOk result (λ v. Gives S.is_wire S.fed signals.old signals.new (walked_primitive S.hooks prim now.items signals.old) v.items (primitive_outputs prim)) }
+    ensures { IfOk result (λ v. Gives S.is_wire S.fed signals.old signals.new
+        (walked_primitive S.hooks prim now.items signals.old) v.items (primitive_outputs prim)) }
 {
     match prim {
         Prim::Wire => listed(alloc, now[0]),

@@ -2,8 +2,8 @@
 
 use fv_arity::{ArityKind, ArityRefusal};
 use fv_diagram::Prim;
-use fv_hand_built::{Build, Item, Unput, WIRE};
 use std::test::Fail;
+use test_diagrams::{Build, Item, Unput, WIRE};
 
 #[test]
 fn arities_are_refused(rt: HostRuntime) -> Result<(), Fail> {

@@ -3,11 +3,11 @@
 ghost use Rattle.std.specs.Prelude.{◌≡◌, length, IfOk};
 
 use fv_diagram::{Arity, DiagramId, Diagrams, Node, Prim, PutRefusal, Stepper};
-use fv_hand_built::{Build, Item, PLUS, WIRE};
 use fv_num::Op;
 use std::alloc::{AllocError, Global};
 use std::process::Abort;
 use std::test::Fail;
+use test_diagrams::{Build, Item, PLUS, WIRE};
 
 // A diagram, frames that stand one after another, and what it answers on them.
 struct Row {

@@ -1,12 +1,12 @@
 // The delays of diagrams, and which of them are refused.
 
 use fv_diagram::{DiagramId, Prim};
-use fv_hand_built::{Build, Item, PLUS, WIRE};
 use fv_interval::{DelayRefusal, Delays, spans};
 use fv_num::{Op, Span};
 use std::alloc::Global;
 use std::process::Abort;
 use std::test::Fail;
+use test_diagrams::{Build, Item, PLUS, WIRE};
 
 // A diagram, and its delays or their refusal. The controls are 0 to 10, and all numbers.
 struct Row {

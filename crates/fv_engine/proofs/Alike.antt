@@ -4,7 +4,7 @@ use Rattle.fv_num.specs.Frames.{back}
 use Rattle.fv_base.proofs.Lists.{table_same}
 use Rattle.fv_signal.specs.Value.{value}
 use Rattle.fv_signal.proofs.Solutions.{values_look_back}
-use Rattle.fv_plan.specs.View.{lane_info}
+use Rattle.fv_split_plan.specs.View.{lane_info}
 use Rattle.fv_engine.specs.Stands.{StandsAlike}
 use Rattle.fv_engine.proofs.Values.{back_past}
 

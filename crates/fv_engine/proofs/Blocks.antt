@@ -12,16 +12,16 @@ use Rattle.fv_outside.specs.declared.gate.Line.{Line}
 use Rattle.fv_outside.specs.declared.tasks.Task.{Task}
 use Rattle.fv_graph.specs.Graph.{Graph, edges_of}
 use Rattle.fv_loopcode.specs.Code.{NamesHeld}
-use Rattle.fv_loopcode.specs.Lanes.{Lane}
+use Rattle.fv_loopcode.specs.State.{State, lanes_alone}
 use Rattle.fv_pool.specs.Region.{cells_of}
 use Rattle.fv_pool.specs.Lengths.{lengths_of}
 use Rattle.fv_lines.specs.Solo.{opening_lanes}
 use Rattle.fv_lines.specs.declared.shape.LaneShape.{LaneShape}
 use Rattle.fv_lines.specs.declared.shape.LaneState.{LaneState}
-use Rattle.fv_plan.specs.View.{PlanView}
-use Rattle.fv_plan.specs.Plans.{IsPlanOf}
-use Rattle.fv_turns.specs.Block.{Block, IsReal, vectors_of}
-use Rattle.fv_turns.specs.Jobs.{IsJob}
+use Rattle.fv_split_plan.specs.View.{PlanView}
+use Rattle.fv_split_plan.specs.Plans.{IsPlanOf}
+use Rattle.fv_engine_tasks.specs.Block.{Block, IsReal, vectors_of}
+use Rattle.fv_engine_tasks.specs.Jobs.{IsJob}
 use Rattle.fv_engine.specs.Plans.{NamesThere, held_by, block_from}
 use Rattle.fv_engine.specs.Stands.{EngineView, AreBegun, GoesOn, Standing}
 use Rattle.fv_engine.specs.Over.{Ran}
@@ -139,8 +139,8 @@ module _ {e : Inside} {v : EngineView} {frames : ℕ} {input controls : List ℤ
   lengths = lengths_of e.layout
 
   -- the lanes as they open
-  abbrev first : List Lane
-  first = opening_lanes lengths e.shapes.items e.states.items frames (cells_of e.region)
+  abbrev first : State
+  first = lanes_alone (opening_lanes lengths e.shapes.items e.states.items frames (cells_of e.region))
 
   many : length lengths ≡ length e.plan.lanes
   many = sym inv.lists.0 ∙ inv.shapes.count
@@ -177,15 +177,15 @@ module _ {e : Inside} {v : EngineView} {frames : ℕ} {input controls : List ℤ
 
     -- the lanes that the block begins with are real
     pub first_is : {shapes : List LaneShape} {states : List LaneState} {cells : List ℤ} {outputs : List ℕ} → AreHanded e shapes states cells outputs
-        → IsReal b (opening_lanes lengths shapes states frames cells)
+        → IsReal b (lanes_alone (opening_lanes lengths shapes states frames cells))
     first_is {shapes} {states} {cells} h =
         let is_real = subst (λ (x : Block). IsReal x first) (sym block_is) (real (view_of e) inv.standing frames input controls names first is_begun) in
-        subst (λ (x : List LaneShape). IsReal b (opening_lanes lengths x states frames cells)) (sym h.shapes_are)
-        (subst (λ (x : List LaneState). IsReal b (opening_lanes lengths e.shapes.items x frames cells)) (sym h.states_are)
-        (subst (λ (x : List ℤ). IsReal b (opening_lanes lengths e.shapes.items e.states.items frames x)) (sym h.cells_are) is_real))
+        subst (λ (x : List LaneShape). IsReal b (lanes_alone (opening_lanes lengths x states frames cells))) (sym h.shapes_are)
+        (subst (λ (x : List LaneState). IsReal b (lanes_alone (opening_lanes lengths e.shapes.items x frames cells))) (sym h.states_are)
+        (subst (λ (x : List ℤ). IsReal b (lanes_alone (opening_lanes lengths e.shapes.items e.states.items frames x))) (sym h.cells_are) is_real))
 
     -- the block ran from these lanes on, and left these cells and states
-    abbrev pub RanFrom : List LaneShape → (first : List Lane) → (cells : List ℤ) → List LaneState → List Line → (outputs : List ℕ)
+    abbrev pub RanFrom : List LaneShape → (first : State) → (cells : List ℤ) → List LaneState → List Line → (outputs : List ℕ)
         → (output : List ℤ) → Type 0
     RanFrom shapes first cells states lines outputs output = Ran t.tasks b lengths shapes first cells states lines outputs output
 
@@ -193,17 +193,17 @@ module _ {e : Inside} {v : EngineView} {frames : ℕ} {input controls : List ℤ
     pub ran_as : {shapes : List LaneShape} {states : List LaneState} {cells : List ℤ} {outputs : List ℕ} → AreHanded e shapes states cells outputs
         → {new_cells kept_cells : List ℤ} {new_states kept_states : List LaneState} {lines : List Line} {output : List ℤ}
         → kept_cells ≡ new_cells → kept_states ≡ new_states
-        → RanFrom shapes (opening_lanes lengths shapes states frames cells) new_cells new_states lines outputs output
+        → RanFrom shapes (lanes_alone (opening_lanes lengths shapes states frames cells)) new_cells new_states lines outputs output
         → RanFrom e.shapes.items first kept_cells kept_states lines e.plan.outputs output
     ran_as {shapes} {states} {cells} {outputs} h {new_cells} {kept_cells} {new_states} {kept_states} {lines} {output} p q ran =
         let own = e.shapes.items in
-        let left : List LaneShape → List Lane → List ℕ → Type 0 = λ xs lanes os. RanFrom xs lanes kept_cells kept_states lines os output in
+        let left : List LaneShape → State → List ℕ → Type 0 = λ xs now os. RanFrom xs now kept_cells kept_states lines os output in
         subst (λ (x : List ℕ). left own first x) h.outputs_are
-        (subst (λ (x : List ℤ). left own (opening_lanes lengths own e.states.items frames x) outputs) h.cells_are
-        (subst (λ (x : List LaneState). left own (opening_lanes lengths own x frames cells) outputs) h.states_are
-        (subst (λ (x : List LaneShape). left x (opening_lanes lengths x states frames cells) outputs) h.shapes_are
-        (subst (λ (x : List ℤ). RanFrom shapes (opening_lanes lengths shapes states frames cells) x kept_states lines outputs output) (sym p)
-        (subst (λ (x : List LaneState). RanFrom shapes (opening_lanes lengths shapes states frames cells) new_cells x lines outputs output) (sym q) ran)))))
+        (subst (λ (x : List ℤ). left own (lanes_alone (opening_lanes lengths own e.states.items frames x)) outputs) h.cells_are
+        (subst (λ (x : List LaneState). left own (lanes_alone (opening_lanes lengths own x frames cells)) outputs) h.states_are
+        (subst (λ (x : List LaneShape). left x (lanes_alone (opening_lanes lengths x states frames cells)) outputs) h.shapes_are
+        (subst (λ (x : List ℤ). RanFrom shapes (lanes_alone (opening_lanes lengths shapes states frames cells)) x kept_states lines outputs output) (sym p)
+        (subst (λ (x : List LaneState). RanFrom shapes (lanes_alone (opening_lanes lengths shapes states frames cells)) new_cells x lines outputs output) (sym q) ran)))))
 
     module _ {cells : List ℤ} {states : List LaneState} {lines : List Line} {output : List ℤ}
         (ran : RanFrom e.shapes.items first cells states lines e.plan.outputs output) where
@@ -221,7 +221,7 @@ module _ {e : Inside} {v : EngineView} {frames : ℕ} {input controls : List ℤ
         vectors = alike.vectors;
         begun = is_begun;
         ends = ran_so.ends;
-        ended = ended (record { shapes_are = inv.shapes; many = many; starts = refl }) frames ran_so.lanes ran_so.next;
+        ended = ended (record { shapes_are = inv.shapes; many = many; starts = refl }) frames ran_so.now ran_so.next;
         samples = ran_so.samples;
       })
 

@@ -5,15 +5,15 @@ use Rattle.fv_num.specs.Frames.{Frame, Stream, table, rows}
 use Rattle.fv_base.proofs.Lists.{table_same}
 use Rattle.fv_signal.specs.Value.{Graph, value}
 use Rattle.fv_analysis.proofs.StandLemmas.{stands_alike}
-use Rattle.fv_loopcode.specs.Lanes.{Lane}
+use Rattle.fv_loopcode.specs.State.{State}
 use Rattle.fv_outside.specs.Tasks.{Tasks}
 use Rattle.fv_outside.specs.declared.gate.Line.{Line}
-use Rattle.fv_components.specs.Reach.{at}
-use Rattle.fv_plan.specs.Plans.{PlanStands}
-use Rattle.fv_turns.specs.Block.{vectors_of, HoldUpTo}
-use Rattle.fv_turns.specs.Outputs.{sample_of}
-use Rattle.fv_turns.specs.Underway.{EndsBlock}
-use Rattle.fv_turns.proofs.Numbers.{enough}
+use Rattle.fv_split_components.specs.Reach.{at}
+use Rattle.fv_split_plan.specs.Plans.{PlanStands}
+use Rattle.fv_engine_tasks.specs.Block.{vectors_of, HoldUpTo}
+use Rattle.fv_engine_tasks.specs.Outputs.{sample_of}
+use Rattle.fv_engine_tasks.specs.Underway.{EndsBlock}
+use Rattle.fv_engine_tasks.proofs.Numbers.{enough}
 use Rattle.fv_engine.specs.Plans.{NamesThere}
 use Rattle.fv_engine.specs.Stands.{EngineView, StandsFor, AreGiven, GoesOn, AreBegun, AreEnded, played}
 use Rattle.fv_engine.proofs.Values.{GoesBehind, block_in, heard, content, values_obey, begins, sample_is, next_past}
@@ -24,7 +24,7 @@ with_state e region starts = record e { region = region; starts = starts }
 
 -- a block of n frames ran between these lanes, and the engine is then with these cells and starts
 pub record HasRun (old : EngineView) (region : List ℤ) (starts : List ℕ) (n : ℕ) (input controls output : List ℤ) (tasks : Tasks)
-    (first now : List Lane) (lines : List Line) : Type 0 where
+    (first now : State) (lines : List Line) : Type 0 where
   pub names : NamesThere old.plan old.channels (length controls)
   pub some : 1 ≤ old.vector
   pub loops : tasks.loops ≡ old.plan.loops
@@ -33,9 +33,9 @@ pub record HasRun (old : EngineView) (region : List ℤ) (starts : List ℕ) (n 
   pub ends : EndsBlock tasks (block_in old n controls input) first now lines
   pub ended : AreEnded (with_state old region starts) n now
   pub samples : (t j : ℕ) → t < n → j < length old.plan.outputs
-      → argument output (t * length old.plan.outputs + j) ≡ sample_of now t (at old.plan.outputs j)
+      → argument output (t * length old.plan.outputs + j) ≡ sample_of now.lanes t (at old.plan.outputs j)
 
-module _ {old : EngineView} {region : List ℤ} {starts : List ℕ} {n : ℕ} {input controls output : List ℤ} {tasks : Tasks} {first now : List Lane}
+module _ {old : EngineView} {region : List ℤ} {starts : List ℕ} {n : ℕ} {input controls output : List ℤ} {tasks : Tasks} {first now : State}
     {lines : List Line} (run : HasRun old region starts n input controls output tasks first now lines) where
   module _ (g : Graph) (s : PlanStands g old.plan) (X : List Frame) (c : ℕ → Stream) (stands : StandsFor old g s.names X c)
       (given : AreGiven controls c (length X) n) where
@@ -65,7 +65,7 @@ module _ {old : EngineView} {region : List ℤ} {starts : List ℕ} {n : ℕ} {i
         let w = s.outputs.0 in let e = s.ends j m in
         ap (λ (k : ℕ). argument output (t * k + j)) (sym w) ∙ run.samples t j l (omega (arith, w, m))
         ∙ sample_is behind input full holds (at old.plan.outputs j) t e.1 l
-        ∙ ap (λ (x : ℕ). value g x all c (length X + t)) (s.outputs.1 j m) ∙ stands_alike g s.ordered (at g.outputs j) e.0 all c (length X + t)
+        ∙ ap (λ (x : ℕ). value g x all c (length X + t)) (s.outputs.1 j m) ∙ stands_alike g s.graph.ordered (at g.outputs j) e.0 all c (length X + t)
 
     samples : rows (length g.outputs) n output ≡ played g all c (length X) n
     samples = table_same n (λ t. table (length g.outputs) (out t)) (λ t. table (length g.outputs) (wanted t))

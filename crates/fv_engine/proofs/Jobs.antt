@@ -9,16 +9,17 @@ use Rattle.fv_graph.specs.Graph.{stride, edges_of}
 use Rattle.fv_graph.proofs.Counts.{both_of}
 use Rattle.fv_loopcode.specs.Code.{NamesInput}
 use Rattle.fv_loopcode.specs.Lanes.{Lane, lane_of, no_lane}
+use Rattle.fv_loopcode.specs.State.{State, lanes_alone}
 use Rattle.fv_pool.specs.Layout.{part}
 use Rattle.fv_lines.specs.Hold.{from_start}
 use Rattle.fv_lines.specs.Solo.{opening_lanes, history_at, held_at}
 use Rattle.fv_lines.specs.declared.shape.LaneShape.{LaneShape}
 use Rattle.fv_lines.specs.declared.shape.LaneState.{LaneState}
-use Rattle.fv_plan.specs.View.{PlanView, lane_info, code_of}
-use Rattle.fv_plan.specs.Plans.{IsPlanOf}
-use Rattle.fv_plan.proofs.TaskLemmas.{plans_are_apart}
-use Rattle.fv_turns.specs.Block.{vectors_of}
-use Rattle.fv_turns.specs.Jobs.{IsJob}
+use Rattle.fv_split_plan.specs.View.{PlanView, lane_info, code_of}
+use Rattle.fv_split_plan.specs.Plans.{IsPlanOf}
+use Rattle.fv_split_plan.proofs.TaskLemmas.{plans_are_apart}
+use Rattle.fv_engine_tasks.specs.Block.{vectors_of}
+use Rattle.fv_engine_tasks.specs.Jobs.{IsJob}
 use Rattle.fv_engine.specs.Plans.{block_from}
 use Rattle.fv_engine.specs.Stands.{EngineView, AreBegun, AreEnded, history_in}
 use Rattle.fv_engine.specs.Made.{AreShapes}
@@ -74,7 +75,7 @@ module _ {e : EngineView} {block : ℕ} {shapes : List LaneShape} {states : List
       ap (λ h. held_at e.lengths states h l e.region) (listed.shapes_are.histories l i)
       ∙ ap (λ (xs : List ℕ). take (lane_info e.plan l).history (from_start (slice_index xs l) (part e.lengths l e.region))) (sym listed.starts)
 
-  pub begun : AreBegun e n (opening_lanes e.lengths shapes states n e.region)
+  pub begun : AreBegun e n (lanes_alone (opening_lanes e.lengths shapes states n e.region))
   begun = record {
     count = length_table (length e.lengths) opening ∙ listed.many;
     histories = λ l i. ap (λ (x : Lane). x.history) (lane_is l i) ∙ listed.shapes_are.histories l i;
@@ -88,7 +89,7 @@ module _ {e : EngineView} {block : ℕ} {shapes : List LaneShape} {states : List
       lane_is : (l : ℕ) → l < length e.plan.lanes → lane_of (opening_lanes e.lengths shapes states n e.region) l ≡ opening l
       lane_is l i = get_or_table (length e.lengths) opening l no_lane (omega (arith, listed.many, i))
 
-  pub ended : (lanes : List Lane)
-      → ((i : ℕ) → i < length e.lengths → held_at e.lengths states (history_at shapes i) i e.region ≡ drop n (lane_of lanes i).items)
-      → AreEnded e n lanes
-  ended lanes next = record { items = λ l i. sym (held_is l i) ∙ next l (omega (arith, listed.many, i)) }
+  pub ended : (now : State)
+      → ((i : ℕ) → i < length e.lengths → held_at e.lengths states (history_at shapes i) i e.region ≡ drop n (lane_of now.lanes i).items)
+      → AreEnded e n now
+  ended now next = record { items = λ l i. sym (held_is l i) ∙ next l (omega (arith, listed.many, i)) }

@@ -7,3 +7,4 @@ pub mod Names
 pub mod Made
 pub mod Jobs
 pub mod Blocks
+pub mod Shown

@@ -18,14 +18,15 @@ use Rattle.fv_graph.proofs.Counts.{either_left, either_right, both_of}
 use Rattle.std.proofs.lemmas.Bool.{eq-eqb}
 use Rattle.fv_pool.specs.Layout.{part}
 use Rattle.fv_lines.specs.Hold.{from_start}
-use Rattle.fv_lines.specs.Solo.{history_at, block_at, start_at, AreHeld}
+use Rattle.fv_lines.specs.Shape.{IsLaneLength}
+use Rattle.fv_lines.specs.Solo.{history_at, block_at, len_at, start_at, AreHeld}
 use Rattle.fv_lines.specs.declared.shape.LaneShape.{LaneShape}
 use Rattle.fv_lines.specs.declared.shape.LaneState.{LaneState}
-use Rattle.fv_lines.proofs.Tables.{history_is, block_is, start_is, shapes_fit}
+use Rattle.fv_lines.proofs.Tables.{history_is, block_is, len_is, start_is, shapes_fit}
 use Rattle.fv_lines.proofs.Parts.{length_part}
-use Rattle.fv_plan.specs.View.{PlanView, lane_info}
-use Rattle.fv_plan.specs.Plans.{PlanReads}
-use Rattle.fv_turns.specs.Block.{vectors_of}
+use Rattle.fv_split_plan.specs.View.{PlanView, lane_info}
+use Rattle.fv_split_plan.specs.Plans.{PlanReads}
+use Rattle.fv_engine_tasks.specs.Block.{vectors_of}
 use Rattle.fv_engine.specs.Past.{past}
 
 -- ---- vectors
@@ -52,6 +53,7 @@ pub record ShapesSoFar (p : PlanView) (block n : ℕ) (shapes : List LaneShape) 
   pub long : length shapes ≡ n
   pub histories : (l : ℕ) → l < n → history_at shapes l ≡ (lane_info p l).history
   pub blocks : (l : ℕ) → l < n → block_at shapes l ≡ block
+  pub lengths : (l : ℕ) → l < n → IsLaneLength (lane_info p l).history block (len_at shapes l)
 
 -- a number that is read off each shape, of the first n and of one more
 read_more : (read : List LaneShape → ℕ → ℕ) (field : LaneShape → ℕ)
@@ -65,13 +67,31 @@ read_more read field is shapes s wanted old new l i =
       | inr m ↦ let z : length shapes ≡ l = omega (arith, i, m) in ap field (get_or_push shapes s s l z) ∙ new ∙ ap wanted z
     ]
 
+-- the lengths of the lanes so far, and of one more
+len_kept : (shapes : List LaneShape) (s : LaneShape) (l : ℕ) → l < length shapes → len_at shapes l ≡ len_at (shapes ++ s ∷ []) l
+len_kept shapes s l m =
+    len_is shapes l s m ∙ sym (ap (λ (x : LaneShape). x.len) (get_or_append_left shapes (s ∷ []) s l m))
+    ∙ sym (len_is (shapes ++ s ∷ []) l s (let q = length_push shapes s in omega (arith, q, m)))
+
+len_new : (shapes : List LaneShape) (s : LaneShape) (l : ℕ) → length shapes ≡ l → s.len ≡ len_at (shapes ++ s ∷ []) l
+len_new shapes s l z =
+    sym (ap (λ (x : LaneShape). x.len) (get_or_push shapes s s l z))
+    ∙ sym (len_is (shapes ++ s ∷ []) l s (let q = length_push shapes s in omega (arith, q, z)))
+
 pub more_shapes : (p : PlanView) (block n : ℕ) (shapes : List LaneShape) (s : LaneShape) → ShapesSoFar p block n shapes
-    → s.history ≡ (lane_info p n).history → s.block ≡ block → ShapesSoFar p block (n + 1) (shapes ++ s ∷ [])
-more_shapes p block n shapes s h e f = subst (λ m. ShapesSoFar p block (m + 1) (shapes ++ s ∷ [])) h.long (record {
+    → s.history ≡ (lane_info p n).history → s.block ≡ block → IsLaneLength (lane_info p n).history block s.len
+    → ShapesSoFar p block (n + 1) (shapes ++ s ∷ [])
+more_shapes p block n shapes s h e f long = subst (λ m. ShapesSoFar p block (m + 1) (shapes ++ s ∷ [])) h.long (record {
   long = length_push shapes s;
   histories = read_more history_at (λ (x : LaneShape). x.history) history_is shapes s (λ l. (lane_info p l).history)
       (λ l m. h.histories l (omega (arith, m, h.long))) (e ∙ ap (λ k. (lane_info p k).history) (sym h.long));
   blocks = read_more block_at (λ (x : LaneShape). x.block) block_is shapes s (λ l. block) (λ l m. h.blocks l (omega (arith, m, h.long))) f;
+  lengths = λ l i. elim (cases_lt l (length shapes)) [
+    | inl m ↦ subst (λ k. IsLaneLength (lane_info p l).history block k) (len_kept shapes s l m) (h.lengths l (omega (arith, m, h.long)))
+    | inr m ↦ let z : length shapes ≡ l = omega (arith, i, m) in
+        subst (λ k. IsLaneLength (lane_info p l).history block k) (len_new shapes s l z)
+        (subst (λ k. IsLaneLength (lane_info p k).history block s.len) (sym h.long ∙ z) long)
+  ];
 })
 
 -- ---- what the lists hold

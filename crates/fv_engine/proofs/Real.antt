@@ -3,8 +3,8 @@ use Rattle.std.proofs.Common.{ℕ, ◌+◌, List, length, sym, arith, ℤ, nat_l
 use Rattle.std.proofs.lemmas.Bool.{cond-true, cond-false, le-ltb}
 use Rattle.fv_num.specs.Words.{argument}
 use Rattle.fv_num.specs.Frames.{Stream}
-use Rattle.fv_loopcode.specs.Lanes.{Lane}
-use Rattle.fv_turns.specs.Block.{IsReal}
+use Rattle.fv_loopcode.specs.State.{State}
+use Rattle.fv_engine_tasks.specs.Block.{IsReal}
 use Rattle.fv_engine.specs.Plans.{NamesThere}
 use Rattle.fv_engine.specs.Stands.{EngineView, StandsFor, AreGiven, AreBegun, Standing, GoesOn, continued}
 use Rattle.fv_engine.proofs.Values.{GoesBehind, block_in, heard, content, values_obey, begins}
@@ -26,7 +26,7 @@ module _ (e : EngineView) (h : Standing e) (n : ℕ) (input controls : List ℤ)
   stands = stands_alike e h.graph h.plan.stands.names h.frames h.controls d
       (λ k u l. sym (cond-true (nat_lt u time) (h.controls k u) (argument controls k) (lt-ltb u time l))) h.stands
 
-  pub real : NamesThere e.plan e.channels (length controls) → (first : List Lane) → AreBegun e n first → IsReal (block_in e n controls input) first
+  pub real : NamesThere e.plan e.channels (length controls) → (first : State) → AreBegun e n first → IsReal (block_in e n controls input) first
   real names first begun = record { content = content behind input; obeys = values_obey behind input; begins = begins behind input begun stands }
     where
       behind : GoesBehind e n controls h.graph h.frames d

@@ -4,16 +4,17 @@ use Rattle.fv_base.proofs.Lists.{length_table}
 use Rattle.fv_outside.specs.Tasks.{Tasks}
 use Rattle.fv_outside.specs.declared.gate.Line.{Line}
 use Rattle.fv_graph.specs.Graph.{net_of}
-use Rattle.fv_core.specs.Core.{Now, opening}
+use Rattle.fv_graph_core.specs.Core.{Now, opening}
 use Rattle.fv_loopcode.specs.Lanes.{Lane, lane_of}
+use Rattle.fv_loopcode.specs.State.{State}
 use Rattle.fv_lines.specs.Solo.{lanes_of, lane_at, held_at, history_at, lengths_in, shapes_in, cells_in, frames_in, opening_lanes, IsSolo, AreFull}
 use Rattle.fv_lines.specs.declared.solo.Solo.{Solo}
 use Rattle.fv_lines.specs.declared.shape.LaneShape.{LaneShape}
 use Rattle.fv_lines.specs.declared.shape.LaneState.{LaneState}
 use Rattle.fv_lines.proofs.Stored.{lane_is, length_list, there_of}
-use Rattle.fv_turns.specs.Block.{Block}
-use Rattle.fv_turns.specs.Underway.{IsUnderway}
-use Rattle.fv_turns.proofs.Opening.{opens}
+use Rattle.fv_engine_tasks.specs.Block.{Block}
+use Rattle.fv_engine_tasks.specs.Underway.{IsUnderway}
+use Rattle.fv_engine_tasks.proofs.Opening.{opens}
 
 -- as many opening lanes as parts
 pub opening_long : (lengths : List ℕ) (shapes : List LaneShape) (states : List LaneState) (frames : ℕ) (cells : List ℤ)
@@ -22,17 +23,17 @@ opening_long lengths shapes states frames cells =
     length_table (length lengths) (λ i. record { history = history_at shapes i; items = held_at lengths states (history_at shapes i) i cells; room = frames })
 
 -- the opening state, as many opening lanes as the block has, and no lines
-pub record IsOpening (g : Tasks) (b : Block) (first : List Lane) (s : Now) (lanes : List Lane) (lines : List Line) : Type 0 where
-  pub long : length first ≡ b.plan.lanes
+pub record IsOpening (g : Tasks) (b : Block) (first : State) (s : Now) (now : State) (lines : List Line) : Type 0 where
+  pub long : length first.lanes ≡ b.plan.lanes
   pub state : s ≡ opening (net_of g) 1
-  pub lanes_are : lanes ≡ first
+  pub places_are : now ≡ first
   pub none : lines ≡ []
 
 -- they are under way
-pub starts : {g : Tasks} {b : Block} {first : List Lane} {s : Now} {lanes : List Lane} {lines : List Line} → IsOpening g b first s lanes lines
-    → IsUnderway g b first s lanes lines
-starts {g} {b} {first} {s} {lanes} {lines} o =
-    subst (λ x. IsUnderway g b first x lanes lines) (sym o.state) (subst (λ y. IsUnderway g b first (opening (net_of g) 1) y lines) (sym o.lanes_are)
+pub starts : {g : Tasks} {b : Block} {first : State} {s : Now} {now : State} {lines : List Line} → IsOpening g b first s now lines
+    → IsUnderway g b first s now lines
+starts {g} {b} {first} {s} {now} {lines} o =
+    subst (λ x. IsUnderway g b first x now lines) (sym o.state) (subst (λ y. IsUnderway g b first (opening (net_of g) 1) y lines) (sym o.places_are)
     (subst (λ z. IsUnderway g b first (opening (net_of g) 1) first z) (sym o.none) (opens g b first o.long)))
 
 -- where each lane's list is its history and so many samples, no lane takes one more

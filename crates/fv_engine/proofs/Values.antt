@@ -11,14 +11,16 @@ use Rattle.fv_signal.specs.Value.{Graph, value}
 use Rattle.fv_signal.proofs.Solutions.{values_look_back}
 use Rattle.fv_graph.proofs.Counts.{both_true, both_of}
 use Rattle.fv_loopcode.specs.Code.{frame_of}
-use Rattle.fv_loopcode.specs.Obeys.{Content, ObeysAt, window, HoldsJust}
-use Rattle.fv_loopcode.specs.Lanes.{Lane, lane_of, sample_at}
+use Rattle.fv_loopcode.specs.Obeys.{Content, Place, OfLane, Flows, ObeysAt, window, HoldsJust, HoldsAt}
+use Rattle.fv_loopcode.specs.Lanes.{lane_of, sample_at}
+use Rattle.fv_loopcode.specs.State.{State}
 use Rattle.fv_loopcode.specs.Blocks.{before}
 use Rattle.fv_loopcode.proofs.Streams.{streams_obey}
 use Rattle.fv_loopcode.proofs.Named.{named_alone_count}
-use Rattle.fv_plan.specs.View.{PlanView, code_of, roles_of, lane_info}
-use Rattle.fv_plan.specs.Plans.{PlanStands}
-use Rattle.fv_turns.specs.Block.{Block, ObeysBlock, HoldUpTo, none_done}
+use Rattle.fv_split_plan.specs.View.{PlanView, code_of, roles_of, lane_info}
+use Rattle.fv_split_plan.specs.Fits.{flows}
+use Rattle.fv_split_plan.specs.Plans.{PlanStands}
+use Rattle.fv_engine_tasks.specs.Block.{Block, ObeysBlock, HoldUpTo, none_done}
 use Rattle.fv_engine.specs.Plans.{NamesThere, held_by, block_from}
 use Rattle.fv_engine.specs.Stands.{EngineView, StandsFor, AreBegun, AreGiven}
 use Rattle.fv_engine.specs.Past.{past}
@@ -78,9 +80,13 @@ module _ {e : EngineView} {n : ℕ} {controls : List ℤ} {g : Graph} {X : List 
   abbrev v : ℕ → Stream
   v l u = value g (s.names.lane l) all c u
 
+  -- what the places carry
+  abbrev carried : Flows
+  carried = flows g s.names all c
+
   -- the values of the lanes' signals
   abbrev pub content : Content
-  content = window s.names.history v (length X)
+  content = window s.names.history carried (length X)
 
   abbrev f : Content
   f = content
@@ -109,18 +115,21 @@ module _ {e : EngineView} {n : ℕ} {controls : List ℤ} {g : Graph} {X : List 
       named_alone_count roles f (held m) (argument b.held) (row m) (frame m) m (code_of p j)
       (λ k named. held_is k m (h.names.held j k named) i)
       (λ k named. row_at X e.channels n input k m (h.names.inputs j k named) i)
-      (streams_obey roles s.names.history v (held m) (row m) (length X) m (code_of p j) (s.obeys j l all c (length X + m)))
+      (streams_obey roles s.names.history carried (held m) (row m) (length X) m (code_of p j) (s.obeys j l all c (length X + m)))
 
   -- a lane of a loop's roles is there, and so is the loop
-  fits : (j l : ℕ) → (roles_of p j).own l ≡ true → (l < length p.lanes) × (j < p.loops)
+  fits : (j l : ℕ) → (roles_of p j).own (OfLane l) ≡ true → (l < length p.lanes) × (j < p.loops)
   fits j l o =
       let q = both_true (nat_lt l (length p.lanes)) (nat_eq (lane_info p l).owner j) o in let i = ltb-true l (length p.lanes) q.0 in
       (i, (let w = s.loops.owners l i in let e = eqb-true (lane_info p l).owner j q.1 in omega (arith, w, e)))
 
-  -- a loop that is not there has no code and no lanes
+  fits_there : (j : ℕ) (q : Place) → (roles_of p j).own q ≡ true → j < p.loops
+  fits_there j (OfLane l) o = (fits j l o).1
+
+  -- a loop that is not there has no code and no places
   obeys_none : (j m : ℕ) → p.loops ≤ j → ObeysAt (roles_of p j) f (argument b.held) (frame m) m (code_of p j)
   obeys_none j m l = subst (λ steps. ObeysAt (roles_of p j) f (argument b.held) (frame m) m steps) (sym no_code)
-      (λ lane o. absurd (let q = fits j lane o in omega (arith, q.1, l)))
+      (λ place o. absurd (let q = fits_there j place o in omega (arith, q, l)))
     where
       no_code : code_of p j ≡ []
       no_code = get_or-eq_default p.codes [] (omega (arith, s.codes, l))
@@ -138,24 +147,24 @@ module _ {e : EngineView} {n : ℕ} {controls : List ℤ} {g : Graph} {X : List 
       values_look_back g X all c c (length X) (λ i u m. before_same X (rows e.channels n input) i u m) (λ k u m. refl) (s.names.lane lane) u l
 
   -- what the lanes hold as the block begins are the last values before it
-  module _ {first : List Lane} (begun : AreBegun e n first) (stands : StandsFor e g s.names X c) where
+  module _ {first : State} (begun : AreBegun e n first) (stands : StandsFor e g s.names X c) where
     -- what a lane's signal was
     abbrev was : ℕ → Stream
     was l = value g (s.names.lane l) X c
 
-    items : (l : ℕ) → l < length p.lanes → (lane_of first l).items ≡ past (lane_info p l).history (was l) (length X)
+    items : (l : ℕ) → l < length p.lanes → (lane_of first.lanes l).items ≡ past (lane_info p l).history (was l) (length X)
     items l i = begun.items l i ∙ stands.histories l i
 
-    number : (l k : ℕ) → l < length p.lanes → k < (lane_info p l).history → argument (lane_of first l).items k ≡ f.numbers l k
+    number : (l k : ℕ) → l < length p.lanes → k < (lane_info p l).history → argument (lane_of first.lanes l).items k ≡ f.numbers l k
     number l k i m =
         let hist = (lane_info p l).history in
         ap (λ (xs : List ℤ). argument xs k) (items l i) ∙ get_or_table hist (λ k. back (was l) (length X + k) (pos hist)) k (pos 0) m
         ∙ back_past (was l) (v l) (length X) hist k m (value_before l) ∙ ap (λ (x : ℕ). back (v l) (length X + k) (pos x)) (sym (s.histories l i))
 
-    begun_just : (l : ℕ) → l < length p.lanes → HoldsJust f l (before e.vector n 0) (n - before e.vector n 0) (lane_of first l)
+    begun_just : (l : ℕ) → l < length p.lanes → HoldsJust f l (before e.vector n 0) (n - before e.vector n 0) (lane_of first.lanes l)
     begun_just l i =
         let hist = (lane_info p l).history in
-        let long : length (lane_of first l).items ≡ hist = ap length (items l i) ∙ length_table hist (λ k. back (was l) (length X + k) (pos hist)) in
+        let long : length (lane_of first.lanes l).items ≡ hist = ap length (items l i) ∙ length_table hist (λ k. back (was l) (length X + k) (pos hist)) in
         record {
           holds = record {
             history = begun.histories l i ∙ sym (s.histories l i);
@@ -166,29 +175,32 @@ module _ {e : EngineView} {n : ℕ} {controls : List ℤ} {g : Graph} {X : List 
           room = omega (arith, begun.room l i);
         }
 
+    begun_holds : (j : ℕ) (q : Place) → (roles_of p j).own q ≡ true → HoldsAt f q (before e.vector n 0) (n - before e.vector n 0) first
+    begun_holds j (OfLane l) o = begun_just l (fits j l o).0
+
     pub begins : HoldUpTo b f none_done first
-    begins = record { holds = λ j l o. begun_just l (fits j l o).0 }
+    begins = record { holds = λ j q o. begun_holds j q o }
 
   -- what they hold as it ends are its values
-  module _ {now : List Lane} {vectors : ℕ → ℕ} (full : (j : ℕ) → j < p.loops → n ≤ vectors j * e.vector) (holds : HoldUpTo b f vectors now) where
-    ended : (l : ℕ) → l < length p.lanes → HoldsJust f l n 0 (lane_of now l)
+  module _ {now : State} {vectors : ℕ → ℕ} (full : (j : ℕ) → j < p.loops → n ≤ vectors j * e.vector) (holds : HoldUpTo b f vectors now) where
+    ended : (l : ℕ) → l < length p.lanes → HoldsJust f l n 0 (lane_of now.lanes l)
     ended l i =
         let j = (lane_info p l).owner in
-        let q = holds.holds j l (both_of (nat_lt l (length p.lanes)) (nat_eq j j) (lt-ltb l (length p.lanes) i) (eq-eqb j j refl)) in
+        let q = holds.holds j (OfLane l) (both_of (nat_lt l (length p.lanes)) (nat_eq j j) (lt-ltb l (length p.lanes) i) (eq-eqb j j refl)) in
         let end : before e.vector n (vectors j) ≡ n = let z = full j (s.loops.owners l i) in omega (arith, z) in
-        let k = subst (λ x. HoldsJust f l x (n - x) (lane_of now l)) end q in record { holds = k.holds; just = k.just; room = omega arith }
+        let k = subst (λ x. HoldsJust f l x (n - x) (lane_of now.lanes l)) end q in record { holds = k.holds; just = k.just; room = omega arith }
 
-    pub sample_is : (l t : ℕ) → l < length p.lanes → t < n → sample_at (lane_of now l) t 0 ≡ value g (s.names.lane l) all c (length X + t)
+    pub sample_is : (l t : ℕ) → l < length p.lanes → t < n → sample_at (lane_of now.lanes l) t 0 ≡ value g (s.names.lane l) all c (length X + t)
     sample_is l t i m =
         let k = ended l i in let a = k.holds.history in
-        let z : (lane_of now l).history + t - 0 ≡ s.names.history l + t = omega (arith, a) in
-        k.holds.same ((lane_of now l).history + t - 0) (omega (arith, k.just, a, m)) ∙ ap (f.numbers l) z
+        let z : (lane_of now.lanes l).history + t - 0 ≡ s.names.history l + t = omega (arith, a) in
+        k.holds.same ((lane_of now.lanes l).history + t - 0) (omega (arith, k.just, a, m)) ∙ ap (f.numbers l) z
         ∙ back_here (v l) (length X) (s.names.history l) t
 
     pub next_past : (l : ℕ) → l < length p.lanes
-        → drop n (lane_of now l).items ≡ past (lane_info p l).history (value g (s.names.lane l) all c) (length all)
+        → drop n (lane_of now.lanes l).items ≡ past (lane_info p l).history (value g (s.names.lane l) all c) (length all)
     next_past l i =
-        let k = ended l i in let hist = (lane_info p l).history in let items = (lane_of now l).items in let left = drop n items in
+        let k = ended l i in let hist = (lane_info p l).history in let items = (lane_of now.lanes l).items in let left = drop n items in
         let z : length items - n ≡ hist = omega (arith, k.just, s.histories l i) in
         let long : length left ≡ hist = length-drop n items ∙ z in
         sym (table_items left (pos 0)) ∙ ap (λ m. table m (λ u. get_or left u (pos 0))) long
@@ -200,8 +212,8 @@ module _ {e : EngineView} {n : ℕ} {controls : List ℤ} {g : Graph} {X : List 
             ∙ ap (λ m. length X + m) (length_table n (λ t. table e.channels (λ i. argument input (t * e.channels + i))))
 
         number_left : (l : ℕ) → l < length p.lanes → (u : ℕ) → u < (lane_info p l).history
-            → get_or (drop n (lane_of now l).items) u (pos 0) ≡ back (v l) (length all + u) (pos (lane_info p l).history)
+            → get_or (drop n (lane_of now.lanes l).items) u (pos 0) ≡ back (v l) (length all + u) (pos (lane_info p l).history)
         number_left l i u m =
             let k = ended l i in let z : length X + (n + u) ≡ length all + u = omega (arith, all_long) in
-            get_or-drop n (lane_of now l).items u (pos 0) ∙ k.holds.same (n + u) (omega (arith, k.just, s.histories l i, m))
+            get_or-drop n (lane_of now.lanes l).items u (pos 0) ∙ k.holds.same (n + u) (omega (arith, k.just, s.histories l i, m))
             ∙ ap (λ x. back (v l) x (pos (s.names.history l))) z ∙ ap (λ (y : ℕ). back (v l) (length all + u) (pos y)) (s.histories l i)

@@ -4,25 +4,27 @@ use Rattle.std.specs.Vec.{vec_capacity}
 use Rattle.fv_num.specs.Frames.{Stream}
 use Rattle.fv_outside.specs.Tasks.{task_count, reads_loop}
 use Rattle.fv_graph.specs.Graph.{Graph, edges_of}
-use Rattle.fv_core.specs.Running.{Running}
+use Rattle.fv_graph_core.specs.Running.{Running}
 use Rattle.fv_pool.specs.Layout.{part}
 use Rattle.fv_pool.specs.Lengths.{lengths_of}
 use Rattle.fv_pool.specs.Region.{cells_of}
 use Rattle.fv_lines.specs.Hold.{from_start}
-use Rattle.fv_lines.specs.Solo.{history_at, block_at, start_at, AreLists, AreHeld}
+use Rattle.fv_lines.specs.Shape.{IsLaneLength}
+use Rattle.fv_lines.specs.Solo.{history_at, block_at, len_at, start_at, AreLists, AreHeld}
 use Rattle.fv_lines.specs.declared.shape.LaneShape.{LaneShape}
-use Rattle.fv_plan.specs.View.{PlanView, lane_info}
-use Rattle.fv_turns.specs.Jobs.{RegistersFit}
+use Rattle.fv_split_plan.specs.View.{PlanView, lane_info}
+use Rattle.fv_engine_tasks.specs.Jobs.{RegistersFit}
 use Rattle.fv_engine.specs.Plans.{parts_of}
 use Rattle.fv_engine.specs.Past.{past}
 use Rattle.fv_engine.specs.declared.make.Lanes.{Lanes}
 use Rattle.fv_engine.specs.declared.make.Machine.{Machine}
 
--- each lane has a shape, of its history and this block
+-- each lane has a shape, of its history and this block, and the length for both
 pub record AreShapes (p : PlanView) (block : ℕ) (shapes : List LaneShape) : Type 0 where
   pub count : length shapes ≡ length p.lanes
   pub histories : (l : ℕ) → l < length p.lanes → history_at shapes l ≡ (lane_info p l).history
   pub blocks : (l : ℕ) → l < length p.lanes → block_at shapes l ≡ block
+  pub lengths : (l : ℕ) → l < length p.lanes → IsLaneLength (lane_info p l).history block (len_at shapes l)
 
 -- the tasks are those of the plan's loops, for as many vectors as a whole block has
 pub record AreTasksOf (p : PlanView) (most : ℕ) (t : Graph) : Type 0 where

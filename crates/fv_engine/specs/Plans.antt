@@ -1,9 +1,10 @@
 -- A plan as a block sees it (this project's profile).
 use Rattle.std.specs.Prelude.{ℕ, ◌<◌, List, [], length, ℤ, pos}
 use Rattle.fv_num.specs.Words.{argument}
+use Rattle.fv_loopcode.specs.State.{lanes_alone}
 use Rattle.fv_loopcode.specs.Code.{registers_after, NamesHeld, NamesInput}
-use Rattle.fv_plan.specs.View.{PlanView, lane_info, code_of, loops_of}
-use Rattle.fv_turns.specs.Block.{Parts, Block}
+use Rattle.fv_split_plan.specs.View.{PlanView, lane_info, code_of, loops_of}
+use Rattle.fv_engine_tasks.specs.Block.{Parts, Block}
 
 -- what a block needs of a plan
 abbrev pub parts_of : PlanView → Parts
@@ -16,7 +17,7 @@ block_from p vector frames channels held input =
 
 -- the held values that these controls give: the registers of their code
 abbrev pub held_by : PlanView → (controls : List ℤ) → List ℤ
-held_by p controls = registers_after p.held (argument controls) (λ n i. pos 0) 0 1 []
+held_by p controls = registers_after p.held (argument controls) (λ n i. pos 0) 0 1 (lanes_alone [])
 
 -- the codes name held values and channels that are there, and the held values' code names controls that are there
 pub record NamesThere (p : PlanView) (channels controls : ℕ) : Type 0 where

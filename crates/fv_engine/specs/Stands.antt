@@ -4,12 +4,14 @@ use Rattle.std.specs.Prelude.{nat_lt, if◌then◌else◌}
 use Rattle.fv_num.specs.Words.{argument}
 use Rattle.fv_num.specs.Frames.{Frame, Stream, table, rows}
 use Rattle.fv_signal.specs.Value.{Graph, value}
-use Rattle.fv_loopcode.specs.Lanes.{Lane, lane_of}
+use Rattle.fv_loopcode.specs.Lanes.{lane_of}
+use Rattle.fv_loopcode.specs.State.{State}
 use Rattle.fv_pool.specs.Layout.{part}
 use Rattle.fv_lines.specs.Hold.{from_start}
-use Rattle.fv_plan.specs.Fits.{Names}
-use Rattle.fv_plan.specs.View.{PlanView, lane_info}
-use Rattle.fv_plan.specs.Plans.{PlanStands, IsPlanOf}
+use Rattle.fv_lines.specs.Shape.{copied_history, IsLaneLength}
+use Rattle.fv_split_plan.specs.Fits.{Names}
+use Rattle.fv_split_plan.specs.View.{PlanView, lane_info}
+use Rattle.fv_split_plan.specs.Plans.{PlanStands, IsPlanOf}
 use Rattle.fv_engine.specs.Past.{past}
 
 -- What an engine keeps: its plan and sizes, the cells of its one region, the lengths of the lanes' parts there, and the cell of
@@ -23,6 +25,16 @@ pub record EngineView : Type 0 where
   pub region : List ℤ
   pub lengths : List ℕ
   pub starts : List ℕ
+
+-- Each lane has a part, of the length for its history and a block of so many frames.
+pub record HaveLengths (p : PlanView) (block : ℕ) (lengths : List ℕ) : Type 0 where
+  pub count : length lengths ≡ length p.lanes
+  pub each : (l : ℕ) → l < length p.lanes → IsLaneLength (lane_info p l).history block (slice_index lengths l)
+
+-- A history of h samples starts at this cell of a part of n cells: where it is copied it lies within the part, and where its lane is a
+-- ring it starts in it.
+abbrev pub StartsIn : (h n start : ℕ) → Type 0
+StartsIn h n start = (h ≤ copied_history → start + h ≤ n) × (copied_history < h → start < n)
 
 -- a lane's history, as the region holds it
 abbrev pub history_in : EngineView → ℕ → List ℤ
@@ -67,15 +79,15 @@ pub record Standing (e : EngineView) : Type 0 where
   pub stands : StandsFor e graph plan.stands.names frames controls
 
 -- the lanes as a block of n frames begins: the histories that the region holds, and room for the block
-pub record AreBegun (e : EngineView) (n : ℕ) (lanes : List Lane) : Type 0 where
-  pub count : length lanes ≡ length e.plan.lanes
-  pub histories : (l : ℕ) → l < length e.plan.lanes → (lane_of lanes l).history ≡ (lane_info e.plan l).history
-  pub items : (l : ℕ) → l < length e.plan.lanes → (lane_of lanes l).items ≡ history_in e l
-  pub room : (l : ℕ) → l < length e.plan.lanes → n ≤ (lane_of lanes l).room
+pub record AreBegun (e : EngineView) (n : ℕ) (s : State) : Type 0 where
+  pub count : length s.lanes ≡ length e.plan.lanes
+  pub histories : (l : ℕ) → l < length e.plan.lanes → (lane_of s.lanes l).history ≡ (lane_info e.plan l).history
+  pub items : (l : ℕ) → l < length e.plan.lanes → (lane_of s.lanes l).items ≡ history_in e l
+  pub room : (l : ℕ) → l < length e.plan.lanes → n ≤ (lane_of s.lanes l).room
 
 -- the lanes as it ends: what the region then holds of each is what lies behind so many samples
-pub record AreEnded (e : EngineView) (n : ℕ) (lanes : List Lane) : Type 0 where
-  pub items : (l : ℕ) → l < length e.plan.lanes → history_in e l ≡ drop n (lane_of lanes l).items
+pub record AreEnded (e : EngineView) (n : ℕ) (s : State) : Type 0 where
+  pub items : (l : ℕ) → l < length e.plan.lanes → history_in e l ≡ drop n (lane_of s.lanes l).items
 
 -- the plan and the sizes stay
 abbrev pub SameParts : (old new : EngineView) → Type 0

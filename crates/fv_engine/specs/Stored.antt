@@ -1,15 +1,16 @@
 -- How an engine is stored (this project's profile).
 use Rattle.std.specs.Prelude.{◌≡◌, ℕ, ◌<◌, ◌≤◌, length, map}
 use Rattle.std.specs.Vec.{vec_capacity}
+use Rattle.fv_base.specs.declared.limits.TheConstants.{MOST_BLOCK, MOST_CHANNELS, MOST_VECTORS}
 use Rattle.fv_outside.specs.Tasks.{task_count}
 use Rattle.fv_loopcode.specs.Code.{NamesInput}
 use Rattle.fv_pool.specs.Region.{cells_of}
 use Rattle.fv_pool.specs.Lengths.{lengths_of}
 use Rattle.fv_lines.specs.Solo.{AreLists, AreHeld}
 use Rattle.fv_lines.specs.declared.shape.LaneState.{LaneState}
-use Rattle.fv_plan.specs.View.{PlanView, code_of}
-use Rattle.fv_turns.specs.Block.{vectors_of}
-use Rattle.fv_turns.specs.Jobs.{RegistersFit}
+use Rattle.fv_split_plan.specs.View.{PlanView, code_of}
+use Rattle.fv_engine_tasks.specs.Block.{vectors_of}
+use Rattle.fv_engine_tasks.specs.Jobs.{RegistersFit}
 use Rattle.fv_engine.specs.Plans.{parts_of}
 use Rattle.fv_engine.specs.Stands.{EngineView, Standing}
 use Rattle.fv_engine.specs.Made.{AreShapes, AreTasksOf, HasCore}
@@ -32,10 +33,10 @@ view_of e = record {
 pub record HasSizes (p : PlanView) (channels block vector : ℕ) : Type 0 where
   pub some : 0 < p.loops
   pub block_low : 1 ≤ block
-  pub block_high : block ≤ 4096
+  pub block_high : block ≤ MOST_BLOCK
   pub vector_low : 1 ≤ vector
-  pub vectors_high : vectors_of block vector ≤ 64
-  pub channels_high : channels ≤ 256
+  pub vectors_high : vectors_of block vector ≤ MOST_VECTORS
+  pub channels_high : channels ≤ MOST_CHANNELS
   pub inputs : (j i : ℕ) → NamesInput (code_of p j) i → i < channels
 
 -- all of it: the lists have an entry for each lane, their shapes are those of the plan, the parts hold the histories, and the

@@ -1,16 +1,17 @@
 // The engine.
 
-ghost use Rattle.std.specs.Prelude.{◌≡◌, ℕ, ◌*◌, ◌++◌, ◌∷◌, [], ◌<◌, ◌≤◌, length, slice_index, IfOk, IfSome, IsSome, Some};
+ghost use Rattle.std.specs.Prelude.{◌≡◌, ℕ, ◌*◌, ◌++◌, ◌∷◌, [], ◌<◌, ◌≤◌, length, slice_index, false, IfOk, IfSome, IsSome, Some};
+ghost use Rattle.fv_base.specs.declared.limits.TheConstants.{DELAY_BUDGET, MOST_BLOCK, MOST_CHANNELS, MOST_VECTORS};
 ghost use Rattle.fv_num.specs.Frames.{Stream};
 ghost use Rattle.fv_signal.specs.Value.{Graph};
 ghost use Rattle.fv_outside.specs.Journal.{Told, BlockEntry, room_after};
 ghost use Rattle.fv_loopcode.specs.Code.{NamesHeld, NamesInput};
 ghost use Rattle.fv_pool.specs.Region.{cells_of};
 ghost use Rattle.fv_pool.specs.Lengths.{lengths_of};
-ghost use Rattle.fv_plan.specs.View.{lane_info, code_of};
-ghost use Rattle.fv_plan.specs.Plans.{PlanStands};
-ghost use Rattle.fv_turns.specs.Block.{vectors_of};
-ghost use Rattle.fv_engine.specs.Stands.{StandsFor, GoesOn, SameParts};
+ghost use Rattle.fv_split_plan.specs.View.{lane_info, code_of};
+ghost use Rattle.fv_split_plan.specs.Plans.{PlanStands};
+ghost use Rattle.fv_engine_tasks.specs.Block.{vectors_of};
+ghost use Rattle.fv_engine.specs.Stands.{StandsFor, GoesOn, SameParts, HaveLengths, StartsIn};
 ghost use Rattle.fv_engine.specs.Told.{tasks_told, IsEntry, HasRoomForBlock};
 
 use crate::error::NoMemory;
@@ -18,13 +19,13 @@ use crate::hold::hold;
 use crate::make::{Lanes, Machine, blank_lanes, machine_for, vectors};
 use crate::over::over;
 use crate::plan_codes::PlanCodes;
-use fv_core::Core;
+use fv_engine_tasks::Job;
 use fv_graph::Tasks;
+use fv_graph_core::Core;
 use fv_lines::{LaneShape, LaneState};
 use fv_outside::{Gate, Line};
-use fv_plan::Plan;
 use fv_pool::{Layout, Region};
-use fv_turns::Job;
+use fv_split_plan::Plan;
 use std::alloc::Global;
 use std::marker::{Model, Sync};
 use std::sync::Wait;
@@ -82,11 +83,11 @@ impl Engine {
         vector: u32,
     ) -> Result<Engine, NoMemory>
         requires loops { 0 < plan.loops }
-        requires channels { channels ≤ 256 }
+        requires channels { channels ≤ MOST_CHANNELS }
         requires inputs { (j i : ℕ) → NamesInput (code_of plan j) i → i < channels }
-        requires histories { (l : ℕ) → l < length plan.lanes → (lane_info plan l).history ≤ 16777216 }
-        requires block { (1 ≤ block) × (block ≤ 4096) }
-        requires vector { (1 ≤ vector) × (vectors_of block vector ≤ 64) }
+        requires histories { (l : ℕ) → l < length plan.lanes → (lane_info plan l).history ≤ DELAY_BUDGET }
+        requires block { (1 ≤ block) × (block ≤ MOST_BLOCK) }
+        requires vector { (1 ≤ vector) × (vectors_of block vector ≤ MOST_VECTORS) }
         requires workers { (1 ≤ workers) × (workers ≤ 16) }
         ensures parts { IfOk result (λ e. (e.plan ≡ plan) × (e.channels ≡ channels) × (e.workers ≡ workers) × (e.block ≡ block) × (e.vector ≡ vector)) }
 
@@ -153,6 +154,7 @@ impl Engine {
         // Where the block is within its room, it is still told afterwards.
         ensures room { IfSome (G.told gate.old) (λ t. HasRoomForBlock t.room (tasks_told self.old frames) → IsSome (G.told gate.new)) }
         ensures tasks { result.tasks ≡ self.old.plan.loops * vectors_of frames self.old.vector }
+        ensures alone { self.old.workers ≡ 1 → result.alone ≡ false }
     {
         let vectors = vectors(frames, self.vector);
         self.tasks.set_vectors(vectors);
@@ -199,7 +201,8 @@ impl Engine {
 
     /// The parts of the region, one for each lane.
     pub fn layout(&self) -> &Layout
-        ensures { lengths_of result.now ≡ self.now.lengths }
+        ensures value { lengths_of result.now ≡ self.now.lengths }
+        ensures lanes { HaveLengths self.now.plan self.now.block (lengths_of result.now) }
     {
         &self.layout
     }
@@ -207,7 +210,8 @@ impl Engine {
     /// Where the history of a lane starts in its part.
     pub fn state(&self, lane: u64) -> LaneState
         requires { lane < length self.now.plan.lanes }
-        ensures { result.start ≡ slice_index self.now.starts lane }
+        ensures value { result.start ≡ slice_index self.now.starts lane }
+        ensures inside { StartsIn (lane_info self.now.plan lane).history (slice_index self.now.lengths lane) result.start }
     {
         self.states[lane as usize]
     }

@@ -2,11 +2,11 @@
 
 ghost use Rattle.std.specs.Prelude.{◌≡◌, ℕ, ◌<◌, length};
 ghost use Rattle.fv_loopcode.specs.Code.{NamesHeld};
-ghost use Rattle.fv_plan.specs.Plans.{IsHeldCode};
+ghost use Rattle.fv_split_plan.specs.Plans.{IsHeldCode};
 ghost use Rattle.fv_engine.specs.Plans.{held_by};
 
 use fv_loopcode::{Store, run, still_code_is_free};
-use fv_plan::Plan;
+use fv_split_plan::Plan;
 
 // One lane of one sample. The code of held values neither loads nor appends, so nobody looks at it.
 #[derive(Drop)]
@@ -17,9 +17,10 @@ struct OneSample {
 
 impl Store for OneSample {
     ghost use Rattle.std.specs.Prelude.{[], ◌∷◌};
+    ghost use Rattle.fv_loopcode.specs.State.{lanes_alone};
     ghost use Rattle.fv_engine.specs.OneLane.{lane_with};
 
-    ghost lanes = { λ s. lane_with s.is_written s.sample ∷ [] };
+    ghost state = { λ s. lanes_alone (lane_with s.is_written s.sample ∷ []) };
 
     ghost rest = { λ _. tt };
 

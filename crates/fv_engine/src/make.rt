@@ -1,19 +1,20 @@
 // What an engine is made of.
 
 ghost use Rattle.std.specs.Prelude.{◌≡◌, ℕ, ◌^◌, ◌<◌, ◌≤◌, true, IfOk, length, map, sum};
+ghost use Rattle.fv_base.specs.declared.limits.TheConstants.{DELAY_BUDGET, MOST_BLOCK};
 ghost use Rattle.fv_lines.specs.declared.shape.LaneShape.{LaneShape as Shape};
-ghost use Rattle.fv_plan.specs.View.{lane_info};
-ghost use Rattle.fv_turns.specs.Block.{vectors_of};
-ghost use Rattle.fv_turns.specs.Jobs.{RegistersFit};
+ghost use Rattle.fv_split_plan.specs.View.{lane_info};
+ghost use Rattle.fv_engine_tasks.specs.Block.{vectors_of};
+ghost use Rattle.fv_engine_tasks.specs.Jobs.{RegistersFit};
 ghost use Rattle.fv_engine.specs.Plans.{parts_of};
 ghost use Rattle.fv_engine.specs.Made.{AreShapes, AreLanes, IsMachine};
 
-use fv_core::Core;
 use fv_graph::Tasks;
+use fv_graph_core::Core;
 use fv_lines::{LaneShape, LaneState};
 use fv_outside::Line;
-use fv_plan::Plan;
 use fv_pool::{Layout, Region};
+use fv_split_plan::Plan;
 use std::alloc::{AllocError, Global};
 
 /// The lanes: the region that they lie in, where each of them lies, its shape and where its history starts, and by lane how many
@@ -49,8 +50,8 @@ pub(crate) fn vectors(frames: u32, vector: u32) -> u32
 
 /// The shape of each lane, for blocks of so many frames.
 pub(crate) fn shapes(alloc: Global, plan: &Plan, block: u32) -> Result<Vec<LaneShape>, AllocError>
-    requires block { (1 ≤ block) × (block ≤ 4096) }
-    requires histories { (l : ℕ) → l < length plan.now.lanes → (lane_info plan.now l).history ≤ 16777216 }
+    requires block { (1 ≤ block) × (block ≤ MOST_BLOCK) }
+    requires histories { (l : ℕ) → l < length plan.now.lanes → (lane_info plan.now l).history ≤ DELAY_BUDGET }
     ensures { IfOk result (λ v. AreShapes plan.now block v.items) }
 {
     let lanes = plan.lanes();
@@ -99,8 +100,8 @@ pub(crate) fn most_steps(plan: &Plan) -> u64
 
 /// The lanes of a plan, which hold zeros.
 pub(crate) fn blank_lanes(alloc: Global, plan: &Plan, block: u32) -> Result<Lanes, AllocError>
-    requires block { (1 ≤ block) × (block ≤ 4096) }
-    requires histories { (l : ℕ) → l < length plan.now.lanes → (lane_info plan.now l).history ≤ 16777216 }
+    requires block { (1 ≤ block) × (block ≤ MOST_BLOCK) }
+    requires histories { (l : ℕ) → l < length plan.now.lanes → (lane_info plan.now l).history ≤ DELAY_BUDGET }
     ensures { IfOk result (λ lanes. AreLanes plan.now block lanes) }
 {
     let shapes = shapes(alloc, plan, block)?;

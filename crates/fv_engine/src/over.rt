@@ -3,20 +3,21 @@
 ghost use Rattle.std.specs.Prelude.{◌≡◌, ℕ, ◌*◌, ◌<◌, ◌≤◌, length, [], All, vec_capacity};
 ghost use Rattle.fv_outside.specs.Tasks.{task_count};
 ghost use Rattle.fv_graph.specs.Graph.{net_of};
-ghost use Rattle.fv_core.specs.Core.{opening};
+ghost use Rattle.fv_graph_core.specs.Core.{opening};
+ghost use Rattle.fv_loopcode.specs.State.{lanes_alone};
 ghost use Rattle.fv_pool.specs.Lengths.{lengths_of};
 ghost use Rattle.fv_lines.specs.Solo.{AreLists, AreHeld, AreFramed, opening_lanes};
-ghost use Rattle.fv_turns.specs.Block.{IsReal};
-ghost use Rattle.fv_turns.specs.Events.{KeepsCore};
-ghost use Rattle.fv_turns.specs.Jobs.{IsJob, block_of, RegistersFit};
+ghost use Rattle.fv_engine_tasks.specs.Block.{IsReal};
+ghost use Rattle.fv_engine_tasks.specs.Events.{KeepsCore};
+ghost use Rattle.fv_engine_tasks.specs.Jobs.{IsJob, block_of, RegistersFit};
 ghost use Rattle.fv_engine.specs.Over.{Ran};
 
-use fv_core::Core;
+use fv_engine_tasks::{Codes, Job, copy_outputs, run_tasks};
 use fv_graph::Tasks;
+use fv_graph_core::Core;
 use fv_lines::{LaneShape, LaneState, Solo};
 use fv_outside::{Gate, Line};
 use fv_pool::Layout;
-use fv_turns::{Codes, Job, copy_outputs, run_tasks};
 
 /// Runs a block's tasks over the lanes in these cells, and copies the lanes of the outputs.
 pub(crate) fn over<P: Codes, G: Gate>(
@@ -39,7 +40,8 @@ pub(crate) fn over<P: Codes, G: Gate>(
     requires framed { AreFramed (lengths_of layout.now) shapes.now job.now.frames }
     requires count { length (lengths_of layout.now) ≡ (P.parts job.now.plan.now).lanes }
     requires job { IsJob (block_of P.parts job.now) tasks.now.tasks }
-    requires real { IsReal (block_of P.parts job.now) (opening_lanes (lengths_of layout.now) shapes.now states.old job.now.frames cells.old) }
+    requires real { IsReal (block_of P.parts job.now)
+        (lanes_alone (opening_lanes (lengths_of layout.now) shapes.now states.old job.now.frames cells.old)) }
     requires same { core.old.tasks ≡ tasks.now.tasks }
     requires one { core.old.workers ≡ 1 }
     requires opening { core.old.now ≡ opening (net_of tasks.now.tasks) 1 }
@@ -49,7 +51,7 @@ pub(crate) fn over<P: Codes, G: Gate>(
     requires there { All (λ l. l < (P.parts job.now.plan.now).lanes) outputs.now }
     requires output { length output.old ≡ job.now.frames * length outputs.now }
     ensures ran { Ran tasks.now.tasks (block_of P.parts job.now) (lengths_of layout.now) shapes.now
-        (opening_lanes (lengths_of layout.now) shapes.now states.old job.now.frames cells.old) cells.new states.new lines.new.items outputs.now output.new }
+        (lanes_alone (opening_lanes (lengths_of layout.now) shapes.now states.old job.now.frames cells.old)) cells.new states.new lines.new.items outputs.now output.new }
     ensures lists { AreLists (lengths_of layout.now) shapes.now states.new written.new cells.new }
     ensures lanes { AreHeld (lengths_of layout.now) shapes.now states.new }
     ensures core { KeepsCore core.old core.new }

@@ -1,8 +1,8 @@
 // The codes of a plan, for its blocks.
 
+use fv_engine_tasks::Codes;
 use fv_loopcode::Code;
-use fv_plan::Plan;
-use fv_turns::Codes;
+use fv_split_plan::Plan;
 
 /// A plan, as blocks use it.
 #[derive(Drop)]

@@ -1,21 +1,21 @@
 // Rows of blocks.
 
 ghost use Rattle.std.specs.Prelude.{◌≡◌, ◌<◌, ◌≤◌, length};
-ghost use Rattle.fv_turns.specs.Block.{vectors_of};
+ghost use Rattle.fv_engine_tasks.specs.Block.{vectors_of};
 ghost use Rattle.fv_engine_tests.specs.Runs.{IsSquare};
 
 use crate::engines::{Sizes, engine_of, play, play_graph};
 use fv_engine::{Engine, NoMemory};
-use fv_hand_graphs::{by_a_control, delayed, difference, echo_left};
 use fv_outside::{FreeGate, Gate, Line, Reads, Recorder, Task};
 use fv_signal::Graph;
-use fv_test_gates::{Counter, block_of};
 use std::alloc::Global;
 use std::marker::Sync;
 use std::process::Abort;
 use std::sync::Wait;
 use std::test::Fail;
 use std::thread::Threads;
+use test_gates::{Counter, block_of};
+use test_graphs::{by_a_control, delayed, difference, echo_left};
 
 // A line of the first vector of a loop.
 fn line(loop_no: u64, start: u64) -> Line
@@ -285,5 +285,25 @@ fn an_engine_after_want_of_memory(rt: HostRuntime) -> Result<(), Fail> {
         Err(_) => play_difference(&rt, rt.alloc(), &mut FreeGate)?,
     };
     assert_eq!(rt; output, [5, 2, -3]);
+    Ok(())
+}
+
+// Each lane has a part, of a history and a block, and its history starts there.
+#[test]
+fn lanes_have_parts(rt: HostRuntime) -> Result<(), Fail> {
+    let graph = difference(rt.alloc())?;
+    let sizes = Sizes {
+        width: 1,
+        block: 4,
+        vector: 2,
+    };
+    let Some(engine) = engine_of(rt.alloc(), &graph, sizes, 0)? else {
+        panic!(rt; "no engine");
+    };
+    let layout = engine.layout();
+    assert_eq!(rt; layout.len(), 2);
+    assert_eq!(rt; (layout.length(0), layout.length(1)), (5, 4));
+    assert_eq!(rt; engine.region().len(), 9);
+    assert_eq!(rt; (engine.state(0).start, engine.state(1).start), (0, 0));
     Ok(())
 }

@@ -2,12 +2,12 @@
 
 ghost use Rattle.std.specs.Prelude.{◌≡◌, ℕ, ◌<◌, ◌≤◌, false, length};
 ghost use Rattle.fv_signal.specs.Rates.{NamesControl};
-ghost use Rattle.fv_plan.specs.Plans.{NamesChannel};
-ghost use Rattle.fv_plan.specs.View.{lane_info};
+ghost use Rattle.fv_split_plan.specs.Plans.{NamesChannel};
+ghost use Rattle.fv_split_plan.specs.View.{lane_info};
 ghost use Rattle.fv_engine_tests.specs.Runs.{IsNamedWithin};
 
-use fv_plan::Plan;
 use fv_signal::{Graph, Signal, SignalId};
+use fv_split_plan::Plan;
 
 // The longest history of a lane that an engine allows.
 const LONGEST: u64 = 16_777_216;

@@ -7,7 +7,7 @@ use Rattle.fv_rules.specs.Values.{Value, Flat, Abstraction, Rules, Bound, And, c
 use Rattle.fv_rules.specs.Matching.{chosen}
 use Rattle.fv_rules.specs.Steps.{State}
 use Rattle.fv_rules.specs.Rules.{width}
-use Rattle.fv_machine.specs.Machine.{Frame, apply, select}
+use Rattle.fv_eval_machine.specs.Machine.{Frame, apply, select}
 use Rattle.fv_eval.specs.Frames.{took, completed}
 
 some_then : (b : Bool) (u v : Value) → (if b then Some u else None) ≡ Some v → (b ≡ true) × (u ≡ v)

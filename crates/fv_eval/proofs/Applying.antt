@@ -5,8 +5,8 @@ use Rattle.std.specs.Prelude.{slice_get, option_map}
 use Rattle.std.specs.declared.alloc.Global.{Global}
 use Rattle.std.proofs.lemmas.List.{drop_all}
 use Rattle.std.proofs.lemmas.Option.{none-some, slice_get_within}
-use Rattle.fv_grammar.specs.Tree.{Tree, items}
-use Rattle.fv_grammar.specs.Tree as tree
+use Rattle.fv_parse_grammar.specs.Tree.{Tree, items}
+use Rattle.fv_parse_grammar.specs.Tree as tree
 use Rattle.fv_parse.specs.Trees.{Parsed, size_of, tree_in}
 use Rattle.fv_rules.specs.declared.refusal.EvalRefusal.{EvalRefusal}
 use Rattle.fv_rules.specs.declared.value.Value as code_value
@@ -14,13 +14,13 @@ use Rattle.fv_rules.specs.Values.{Value, Env}
 use Rattle.fv_rules.specs.Steps.{State}
 use Rattle.fv_rules.specs.Shows.{ShowsEnv, ShowsTree, ShowsValue, ShowsValues}
 use Rattle.fv_rules.proofs.Grown.{tree_grows, value_grows, values_grow}
-use Rattle.fv_machine.specs.Machine.{Argument, Frame, Valued, Visit, Config, Running, apply, next_argument}
+use Rattle.fv_eval_machine.specs.Machine.{Argument, Frame, Valued, Visit, Config, Running, apply, next_argument}
 use Rattle.fv_eval.specs.declared.frame.Frame.TheVariants as frame
 use Rattle.fv_eval.specs.declared.frame.ForValue.TheVariants as valued
 use Rattle.fv_eval.specs.declared.frame.Focus as code_focus
 use Rattle.fv_eval.specs.declared.frame.Focus.TheVariants as focus
 use Rattle.fv_eval.specs.declared.machine.Machine as code_machine
-use Rattle.fv_eval.specs.Frames.{AreShown, Goes, Grew, IsShown, IsThere, ShowsFrame, ShowsTaking, Steps, completed, state_of, took, world}
+use Rattle.fv_eval.specs.Frames.{AreShown, Goes, Grew, IsShown, ShowsFrame, ShowsTaking, Steps, completed, state_of, took, world}
 use Rattle.fv_eval.proofs.Applied.{apply_completes, apply_took}
 use Rattle.fv_eval.proofs.Arrived.{Applies, Argues}
 use Rattle.fv_eval.specs.Frames.{Completes}
@@ -28,7 +28,7 @@ use Rattle.fv_eval.proofs.Moves.{gives, grew_on, steps_on}
 use Rattle.fv_eval.proofs.Parameters.{get_map}
 use Rattle.fv_eval.proofs.Places.{drop_at_end, drop_at_get, drop_behind}
 use Rattle.fv_eval.proofs.Taking.{Takes}
-use Rattle.fv_eval.proofs.There.{first_left, value_there}
+use Rattle.fv_eval.proofs.There.{first_left}
 
 -- ---- the next argument
 
@@ -108,10 +108,10 @@ left_shown : (p : Parsed) (m0 m : code_machine.Machine) (u0 u : code_value.Value
     → AreShown (world p m0) (drop next us) → IsShown (world p m) u × AreShown (world p m) (drop at us)
 left_shown p m0 m u0 u us next at inv h k = let q = inv.goes_on h.0 k.0 h.1 k.1 in ((q.v, q.function), (q.vs, q.arguments))
 
-pub function_there : (p : Parsed) (m0 m : code_machine.Machine) (u0 u : code_value.Value) (us : List code_value.Value) (next at : ℕ)
+pub function_stays : (p : Parsed) (m0 m : code_machine.Machine) (u0 u : code_value.Value) (us : List code_value.Value) (next at : ℕ)
     → AppliesOn p m0 m u0 u us next at → IsShown (world p m0) u0
-    → AreShown (world p m0) (drop next us) → IsThere (world p m) u
-function_there p m0 m u0 u us next at inv h k = let q = left_shown p m0 m u0 u us next at inv h k in value_there (world p m) u q.0.0 q.0.1
+    → AreShown (world p m0) (drop next us) → IsShown (world p m) u
+function_stays p m0 m u0 u us next at inv h k = (left_shown p m0 m u0 u us next at inv h k).0
 
 -- and stays shown where lists have grown
 pub function_shown : (p : Parsed) (m0 m n : code_machine.Machine) (u0 u : code_value.Value) (us : List code_value.Value) (next at : ℕ)

@@ -2,9 +2,9 @@
 use Rattle.std.proofs.Common.{◌≡◌, ℕ, suc, List, [], ◌∷◌, ◌++◌, length, drop, Vec, Result, Ok, ℤ, refl, sym, ap, subst, ◌∙◌, arith}
 use Rattle.std.specs.declared.alloc.Global.{Global}
 use Rattle.std.proofs.lemmas.List.{length_push, same_from_push}
-use Rattle.fv_grammar.specs.Tree.{Tree, items, start_of}
-use Rattle.fv_grammar.specs.Tree as tree
-use Rattle.fv_grammar.specs.declared.form.Slider.{Slider as SliderKind}
+use Rattle.fv_parse_grammar.specs.Tree.{Tree, items, start_of}
+use Rattle.fv_parse_grammar.specs.Tree as tree
+use Rattle.fv_parse_grammar.specs.declared.form.Slider.{Slider as SliderKind}
 use Rattle.fv_parse.specs.Trees.{Parsed}
 use Rattle.fv_diagram.specs.declared.control.ControlKind.{ControlKind}
 use Rattle.fv_rules.specs.declared.refusal.EvalRefusal.{EvalRefusal}
@@ -14,8 +14,8 @@ use Rattle.fv_rules.specs.Matching.{settled, value_number}
 use Rattle.fv_rules.specs.Rules.{read_number, slider_kind}
 use Rattle.fv_rules.specs.Shows.{ShowsTree, ShowsValue, ShowsValues, ShowsEnv}
 use Rattle.fv_rules.proofs.Grown.{tree_grows, value_grows, env_grows, values_grow}
-use Rattle.fv_machine.specs.Machine.{ForValue, Function, Argument, Leftover, Parameter, ForDiagram, Frame, Valued, Drawn, apply, arrives, next_argument}
-use Rattle.fv_machine.specs.Machine.{parameter_read, to_diagram, value_arrives}
+use Rattle.fv_eval_machine.specs.Machine.{ForValue, Function, Argument, Leftover, Parameter, ForDiagram, Frame, Valued, Drawn, apply, arrives, next_argument}
+use Rattle.fv_eval_machine.specs.Machine.{parameter_read, to_diagram, value_arrives}
 use Rattle.fv_eval.specs.declared.frame.Frame as code_frame
 use Rattle.fv_eval.specs.declared.frame.Frame.TheVariants as frame
 use Rattle.fv_eval.specs.declared.frame.Focus as code_focus

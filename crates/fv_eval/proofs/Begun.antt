@@ -2,11 +2,11 @@
 use Rattle.std.proofs.Common.{inr, ◌≡◌, ℕ, suc, ◌+◌, ◌<◌, List, [], ◌∷◌, length, drop, map, Result, Ok, Err, refl, sym, ap, subst, ◌∙◌, arith}
 use Rattle.std.specs.Prelude.{ℤ}
 use Rattle.fv_lex.specs.Token.{Lexed}
-use Rattle.fv_grammar.specs.Tree.{Tree, items, start_of, End}
-use Rattle.fv_grammar.specs.Tree as tree
-use Rattle.fv_grammar.specs.declared.form.Slider.{Slider as SliderKind}
-use Rattle.fv_tree.specs.Arena.{forest, trees}
-use Rattle.fv_tree.specs.declared.node.TreeId.{TreeId}
+use Rattle.fv_parse_grammar.specs.Tree.{Tree, items, start_of, End}
+use Rattle.fv_parse_grammar.specs.Tree as tree
+use Rattle.fv_parse_grammar.specs.declared.form.Slider.{Slider as SliderKind}
+use Rattle.fv_parse_tree.specs.Arena.{forest, trees}
+use Rattle.fv_parse_tree.specs.declared.node.TreeId.{TreeId}
 use Rattle.fv_parse.specs.Trees.{Parsed, size_of, tree_in, text_of, label_of}
 use Rattle.fv_rules.specs.declared.refusal.EvalRefusal.{EvalRefusal}
 use Rattle.fv_rules.specs.declared.value.Value.TheVariants as value
@@ -18,7 +18,7 @@ use Rattle.fv_rules.specs.Steps.{State, no_diagram}
 use Rattle.fv_rules.specs.Rules.{slider_kind}
 use Rattle.fv_rules.specs.Shows.{ShowsTree, ShowsEnv, body_in, parameters_in, case_in}
 use Rattle.fv_rules.proofs.Grown.{opened_shows}
-use Rattle.fv_machine.specs.Machine.{Frame, Visit, Running, Ended, begin, next_parameter}
+use Rattle.fv_eval_machine.specs.Machine.{Frame, Visit, Running, Ended, begin, next_parameter}
 use Rattle.fv_eval.specs.declared.frame.Focus as code_focus
 use Rattle.fv_eval.specs.declared.frame.Focus.TheVariants as focus
 use Rattle.fv_eval.specs.declared.machine.Machine as code_machine

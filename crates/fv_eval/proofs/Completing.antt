@@ -1,13 +1,13 @@
 -- The last argument that a function wants.
-use Rattle.std.proofs.Common.{inr, ◌≡◌, ℕ, ◌+◌, ◌<◌, List, [], ◌∷◌, length, drop, Option, Some, None, Result, Err, All, refl, sym, ap, subst, ◌∙◌}
+use Rattle.std.proofs.Common.{inr, ◌≡◌, ℕ, ◌+◌, ◌<◌, List, [], ◌∷◌, ◌++◌, length, drop, Option, Some, None, Result, Err, All, refl, sym, ap, subst, ◌∙◌}
 use Rattle.std.specs.Prelude.{slice_get}
 use Rattle.std.proofs.lemmas.List.Elements.{All-nil}
-use Rattle.fv_grammar.specs.Tree.{Tree, start_of}
-use Rattle.fv_grammar.specs.Tree as tree
+use Rattle.fv_parse_grammar.specs.Tree.{Tree, start_of}
+use Rattle.fv_parse_grammar.specs.Tree as tree
 use Rattle.fv_parse.specs.Trees.{Parsed, size_of, tree_in}
-use Rattle.fv_tree.specs.declared.node.TreeId.{TreeId}
+use Rattle.fv_parse_tree.specs.declared.node.TreeId.{TreeId}
 use Rattle.fv_diagram.specs.Arena.{Arena, count_of}
-use Rattle.fv_compose.specs.Makes.{Extends, IsThere as IsDrawn}
+use Rattle.fv_eval_drawing.specs.Makes.{IsThere as IsDrawn}
 use Rattle.fv_rules.specs.declared.refusal.EvalRefusal.{EvalRefusal}
 use Rattle.fv_rules.specs.declared.value.Value as code_value
 use Rattle.fv_rules.specs.declared.value.Value.TheVariants as value
@@ -15,8 +15,8 @@ use Rattle.fv_rules.specs.declared.value.Ruled.{Ruled}
 use Rattle.fv_rules.specs.declared.value.Scope.TheVariants as scope
 use Rattle.fv_rules.specs.declared.value.Argument as code_argument
 use Rattle.fv_rules.specs.declared.value.Binding as code_binding
-use Rattle.fv_rules.specs.Environments.{Environments, with_argument, with_scope}
-use Rattle.fv_rules.specs.Values.{Value, Flat, Abstraction, Rules, Env, Bound, Taken, And, in_order}
+use Rattle.fv_rules.specs.Environments.{Environments, with_scope}
+use Rattle.fv_rules.specs.Values.{Value, Flat, Abstraction, Rules, Env, Bound, Taken, Nothing, And, in_order}
 use Rattle.fv_rules.specs.Matching.{Bindings, bound_in, chosen}
 use Rattle.fv_rules.specs.Steps.{no_rule}
 use Rattle.fv_rules.specs.Shows.{World, Grows, IsInside, ShowsBindings, ShowsEnv, ShowsTaken, ShowsTree, ShowsValue, ShowsValues, body_in, parameters_in}
@@ -24,15 +24,15 @@ use Rattle.fv_rules.specs.Shows.{rules_in}
 use Rattle.fv_rules.specs.Choosing.{with_diagrams}
 use Rattle.fv_rules.specs.Chosen.{ShowsChoice}
 use Rattle.fv_rules.proofs.Grown.{env_grows, tree_grows, values_grow}
-use Rattle.fv_machine.specs.Machine.{Leftover, Valued, Visit, Running, Ended, select}
+use Rattle.fv_eval_machine.specs.Machine.{Leftover, Valued, Visit, Running, Ended, select}
 use Rattle.fv_eval.specs.declared.frame.Focus as code_focus
 use Rattle.fv_eval.specs.declared.machine.Machine as code_machine
 use Rattle.fv_eval.specs.Frames.{AllDraw, AreShown, Chooses, Completes, Grew, IsShown, Selects, ShowsName, Steps, completed, world}
-use Rattle.fv_eval.proofs.Moves.{drawn_grew, grew_on, scoped_grew, steps_on}
+use Rattle.fv_eval.proofs.Moves.{scoped_grew, steps_on}
 use Rattle.fv_eval.proofs.Places.{drop_at_get}
 use Rattle.fv_eval.proofs.Received.{Feeds}
-use Rattle.fv_eval.proofs.Taking.{argument_grew, bind_shows, named_at, take_shows}
-use Rattle.fv_eval.proofs.There.{first_left, values_drawn}
+use Rattle.fv_eval.proofs.Taking.{bind_shows, named_at}
+use Rattle.fv_eval.proofs.There.{first_left, values_drawn, values_push}
 
 -- the clause of `leave`
 abbrev pub Leaves : Parsed → (m n : code_machine.Machine) → Result code_focus.Focus EvalRefusal → (app body : ℕ) → ℕ → List code_value.Value → ℕ → Type 0
@@ -76,36 +76,30 @@ ChoosesOf p old new r xs o =
     (w : World) (vs : List Value) → w.tree ≡ p
     → w.diagrams ≡ old → ShowsValues w xs vs → ShowsChoice (with_diagrams w new) o (chosen p.tokens (rules_in p r) vs)
 
--- a rule that has taken one argument more, and the machine then
-pub record Takes (m : code_machine.Machine) (new : Environments) (n i count j : ℕ) (u : code_value.Value) (xs : List code_value.Value) : Type 0 where
-  pub place : j ≡ length m.scopes.taken
-  pub is : new ≡ with_argument m.scopes (record { value = u; before = i })
-  pub one : count ≡ n + 1
-  pub all : Orders new count j xs
+in_order_push : (T : Taken) (xs ys : List Value) → in_order T (xs ++ ys) ≡ in_order T xs ++ ys
+in_order_push Nothing xs ys = refl
+in_order_push (And v T) xs ys = in_order_push T (v ∷ xs) ys
 
--- the arguments that rules have taken are shown
-ordered : (p : Parsed) {m : code_machine.Machine} {new : Environments} {n i count j : ℕ} {u : code_value.Value} {xs : List code_value.Value}
-    → Takes m new n i count j u xs → (a : Value) (T : Taken) → ShowsTaken (world p m) n i T → ShowsValue (world p m) u a
-    → ShowsValues (world p (record m { scopes = new })) xs (in_order (And a T) [])
-ordered p {m} {new} {n} {i} {count} {j} {u} t a T h k =
-    t.all (world p (record m { scopes = new })) (And a T) refl (take_shows p m new u a n count i j T t.place t.is t.one k h)
+-- the arguments that rules have taken, and one more, are shown
+pub all_shown : (p : Parsed) (m : code_machine.Machine) (n i : ℕ) (u : code_value.Value) (us all : List code_value.Value)
+    → Orders m.scopes n i us → all ≡ us ++ u ∷ [] → (a : Value) (T : Taken)
+    → ShowsTaken (world p m) n i T → ShowsValue (world p m) u a → ShowsValues (world p m) all (in_order (And a T) [])
+all_shown p m n i u us all orders pushed a T h k =
+    subst (λ (vs : List Value). ShowsValues (world p m) all vs) (sym (in_order_push T [] (a ∷ [])))
+    (subst (λ (xs : List code_value.Value). ShowsValues (world p m) xs (in_order T [] ++ a ∷ [])) (sym pushed)
+    (values_push (world p m) us (in_order T []) u a (orders (world p m) T refl h) k))
 
-pub taken_drawn : (p : Parsed) {m : code_machine.Machine} {new : Environments} {n i count j : ℕ} {u : code_value.Value} {xs : List code_value.Value}
-    → Takes m new n i count j u xs → (T : Taken) × ShowsTaken (world p m) n i T → IsShown (world p m) u → All (IsDrawn m.drawing) xs
-taken_drawn p {m} {new} {xs = xs} t T a =
-    values_drawn (world p (record m { scopes = new })) xs (in_order (And a.0 T.0) []) (ordered p t a.0 T.0 T.1 a.1)
+pub taken_drawn : (p : Parsed) (m : code_machine.Machine) (n i : ℕ) (u : code_value.Value) (us all : List code_value.Value)
+    → Orders m.scopes n i us → all ≡ us ++ u ∷ [] → (T : Taken) × ShowsTaken (world p m) n i T → IsShown (world p m) u → All (IsDrawn m.drawing) all
+taken_drawn p m n i u us all orders pushed T a =
+    values_drawn (world p m) all (in_order (And a.0 T.0) []) (all_shown p m n i u us all orders pushed a.0 T.0 T.1 a.1)
 
--- the machine has grown, and the choice is the one among the rules
-pub choice_grew : (p : Parsed) (d : Arena) {m : code_machine.Machine} {new : Environments} {n i count j : ℕ} {u : code_value.Value}
-    {xs : List code_value.Value} → Takes m new n i count j u xs → Extends m.drawing d → Grew p m (record m { scopes = new; drawing = d })
-choice_grew p d {m} {new} {i = i} {u = u} t ext =
-    let m1 : code_machine.Machine = record m { scopes = new } in
-    grew_on p m m1 (record m { scopes = new; drawing = d }) (argument_grew p m new (record { value = u; before = i }) t.is) (drawn_grew p m1 d ext)
-
-pub choice_shows : (p : Parsed) (d : Arena) (r : Ruled) (o : Option (TreeId × List code_binding.Binding)) {m : code_machine.Machine} {new : Environments}
-    {n i count j : ℕ} {u : code_value.Value} {xs : List code_value.Value} → Takes m new n i count j u xs → ChoosesOf p m.drawing d r xs o
-    → Chooses p m (record m { scopes = new; drawing = d }) r n i u o
-choice_shows p d r o {m} {new} t choice T a h k = choice (world p (record m { scopes = new })) (in_order (And a T) []) refl refl (ordered p t a T h k)
+-- the choice is the one among the rules
+pub choice_shows : (p : Parsed) (m : code_machine.Machine) (d : Arena) (r : Ruled) (n i : ℕ) (u : code_value.Value) (us all : List code_value.Value)
+    (o : Option (TreeId × List code_binding.Binding)) → Orders m.scopes n i us → all ≡ us ++ u ∷ [] → ChoosesOf p m.drawing d r all o
+    → Chooses p m (record m { drawing = d }) r n i u o
+choice_shows p m d r n i u us all o orders pushed choice T a h k =
+    choice (world p m) (in_order (And a T) []) refl refl (all_shown p m n i u us all orders pushed a T h k)
 
 -- what rules have, and what stands first among arguments
 pub rules_inside : (p : Parsed) (m : code_machine.Machine) (r : Ruled) (e n i : ℕ) → IsShown (world p m) (value.Rules r e n i) → IsInside p r

@@ -4,13 +4,13 @@ use Rattle.fv_parse.specs.Trees.{Parsed}
 use Rattle.fv_diagram.specs.Diagram.{Control}
 use Rattle.fv_diagram.specs.Arena.{Arena}
 use Rattle.fv_diagram.specs.declared.control.ControlInfo.{ControlInfo}
-use Rattle.fv_compose.specs.Makes.{Draws, Extends}
+use Rattle.fv_eval_drawing.specs.Makes.{Draws, Extends}
 use Rattle.fv_rules.specs.declared.refusal.EvalRefusal.{EvalRefusal}
 use Rattle.fv_rules.specs.declared.value.Value.TheVariants as value
 use Rattle.fv_rules.specs.Values.{Flat}
 use Rattle.fv_rules.specs.Steps.{after, give, control}
 use Rattle.fv_rules.specs.Rules.{flat}
-use Rattle.fv_machine.specs.Machine.{given}
+use Rattle.fv_eval_machine.specs.Machine.{given}
 use Rattle.fv_eval.specs.declared.frame.Focus.TheVariants as focus
 use Rattle.fv_eval.specs.declared.machine.Machine as code_machine
 use Rattle.fv_eval.specs.Controls.{Enters}

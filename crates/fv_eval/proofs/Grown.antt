@@ -1,10 +1,10 @@
 -- Lists that have grown show the pending work that they showed.
 use Rattle.std.proofs.Common.{◌≡◌, ℕ, ◌<◌, List, [], ◌∷◌, length, drop, refl, sym, ap, subst, ◌∙◌}
 use Rattle.std.proofs.lemmas.List.Elements.{All-head, All-tail, All-cons, All-nil}
-use Rattle.fv_grammar.specs.Tree.{Tree}
-use Rattle.fv_grammar.specs.Tree as tree
-use Rattle.fv_grammar.specs.declared.form.Slider.{Slider as SliderKind}
-use Rattle.fv_grammar.specs.declared.form.Iteration.{Iteration as Repetition}
+use Rattle.fv_parse_grammar.specs.Tree.{Tree}
+use Rattle.fv_parse_grammar.specs.Tree as tree
+use Rattle.fv_parse_grammar.specs.declared.form.Slider.{Slider as SliderKind}
+use Rattle.fv_parse_grammar.specs.declared.form.Iteration.{Iteration as Repetition}
 use Rattle.fv_parse.specs.Trees.{Parsed, text_of, label_of}
 use Rattle.fv_diagram.specs.Diagram.{Diagram}
 use Rattle.fv_diagram.specs.Arena.{count_of, tree_of}
@@ -12,9 +12,9 @@ use Rattle.fv_rules.specs.declared.value.Value as code_value
 use Rattle.fv_rules.specs.Values.{Name, Value, Env}
 use Rattle.fv_rules.specs.Shows.{World, Draws, Grows}
 use Rattle.fv_rules.proofs.Grown.{tree_grows, value_grows, env_grows, values_grow}
-use Rattle.fv_machine.specs.Machine.{ForValue, Function, Argument, Leftover, Parameter, ForDiagram, Left, Right, Later, Negated, Ports, Binding, Turning}
-use Rattle.fv_machine.specs.Machine.{Counting, Body, Finish, Frame, Valued, Drawn}
-use Rattle.fv_compose.specs.Makes.{trees_of}
+use Rattle.fv_eval_machine.specs.Machine.{ForValue, Function, Argument, Leftover, Parameter, ForDiagram, Left, Right, Later, Negated, Ports, Binding, Turning}
+use Rattle.fv_eval_machine.specs.Machine.{Counting, Body, Finish, Frame, Valued, Drawn}
+use Rattle.fv_eval_drawing.specs.Makes.{trees_of}
 use Rattle.fv_eval.specs.declared.frame.Frame as code_frame
 use Rattle.fv_eval.specs.declared.frame.Frame.TheVariants as frame
 use Rattle.fv_eval.specs.declared.frame.ForValue as code_for_value
@@ -108,7 +108,7 @@ module _ (a b : World) (g : Grows a b) where
     h.5,
     env_grows a b g e E h.6,
   )
-  for_diagram_grows (drawn.Body i e left is) (Body r x t E k n ds) h = (bodies_grow i e is.items r x t E ds h.0, h.1, h.2)
+  for_diagram_grows (drawn.Body i e left is) (Body r x t E k n ds) h = (bodies_grow i e is.items r x t E ds h.0, h.1, h.2, h.3)
   for_diagram_grows drawn.Finish Finish h = h
   for_diagram_grows f F h = absurd h
 

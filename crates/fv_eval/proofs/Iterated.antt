@@ -3,13 +3,13 @@ use Rattle.std.proofs.Common.{◌≡◌, ℕ, zero, suc, ◌+◌, ◌<◌, false
 use Rattle.std.specs.declared.alloc.Global.{Global}
 use lib.Signed.{lt_z}
 use Rattle.std.proofs.lemmas.List.Elements.{All-nil}
-use Rattle.fv_grammar.specs.Tree.{Tree, start_of}
-use Rattle.fv_grammar.specs.Tree as tree
-use Rattle.fv_grammar.specs.declared.form.Iteration.{Iteration as Repetition}
+use Rattle.fv_parse_grammar.specs.Tree.{Tree, start_of}
+use Rattle.fv_parse_grammar.specs.Tree as tree
+use Rattle.fv_parse_grammar.specs.declared.form.Iteration.{Iteration as Repetition}
 use Rattle.fv_parse.specs.Trees.{Parsed, first_named, size_of, text_of, tree_in}
 use Rattle.fv_diagram.specs.Diagram.{Diagram, Constant}
 use Rattle.fv_diagram.specs.Arena.{Arena, count_of, tree_of}
-use Rattle.fv_compose.specs.Makes.{Draws as IsDrawn, Extends, MakesValue, trees_of}
+use Rattle.fv_eval_drawing.specs.Makes.{Draws as IsDrawn, Extends, MakesValue, trees_of}
 use Rattle.fv_rules.specs.declared.refusal.EvalRefusal.{EvalRefusal}
 use Rattle.fv_rules.specs.declared.value.Value.TheVariants as value
 use Rattle.fv_rules.specs.declared.value.Scope.TheVariants as scope
@@ -19,12 +19,12 @@ use Rattle.fv_rules.specs.Numbers.{number_of}
 use Rattle.fv_rules.specs.Rules.{counted, gathered}
 use Rattle.fv_rules.specs.Shows.{Draws, IsNamed, ShowsEnv, ShowsTree}
 use Rattle.fv_rules.proofs.Grown.{env_grows}
-use Rattle.fv_machine.specs.Machine.{Body, Frame, Drawn, Visit, Running, first_body, next_body}
+use Rattle.fv_eval_machine.specs.Machine.{Body, Frame, Drawn, Visit, Running, first_body, next_body}
 use Rattle.fv_eval.specs.declared.frame.Frame.TheVariants as frame
 use Rattle.fv_eval.specs.declared.frame.ForDiagram.TheVariants as drawn
 use Rattle.fv_eval.specs.declared.frame.Focus as code_focus
 use Rattle.fv_eval.specs.declared.machine.Machine as code_machine
-use Rattle.fv_eval.specs.Frames.{AllDraw, gave, Grew, ShowsForDiagram, ShowsFrame, Steps, world}
+use Rattle.fv_eval.specs.Frames.{AllDraw, AreIndexed, gave, Grew, ShowsForDiagram, ShowsFrame, Steps, world}
 use Rattle.fv_eval.proofs.Grown.{for_diagram_grows}
 use Rattle.fv_eval.proofs.Moves.{drawn_grew, grew_on, scoped_grew, steps_on}
 use Rattle.fv_eval.proofs.Received.{Repeats, made_goes}
@@ -86,13 +86,13 @@ pub body_waits : (p : Parsed) (m n : code_machine.Machine) (r : Result code_focu
     (index : ℤ) (done : Vec ℕ Global) → tree_in p a ≡ tree.Iteration t0 q0 y0 c0 b0 → left ≡ suc left1 → index ≡ pos (length done.items)
     → Extends m.drawing d → IsDrawn d number (Constant index) → text_of p.tokens name ≡ text_of p.tokens y0 → first_named p.tokens name ≡ name
     → inner ≡ length m.scopes.scopes + 1 → s ≡ with_scope m.scopes (scope.Bound name (value.Diagram number) e)
-    → body < size_of p → tree_in p body ≡ b0
+    → body < size_of p → tree_in p body ≡ b0 → AreIndexed (suc (length done.items)) left1
     → ((F : Frame) (x : Tree) (E : Env) → ShowsFrame (world p (record m { drawing = d; scopes = s })) (frame.Drawn (drawn.Body a e left1 done)) F
     → ShowsTree (world p (record m { drawing = d; scopes = s })) body x → ShowsEnv (world p (record m { drawing = d; scopes = s })) inner E
     → Steps p (record m { drawing = d; scopes = s }) n r (λ Fs t. Running (Visit x E) (F ∷ Fs) t))
     → Repeats p m n r a e left done.items
 body_waits p m n r d s a e left
-    left1 inner number name body t0 y0 q0 c0 b0 index done node one index_is g drawn_is text canonical place is inside body_is wait q x b E ds h =
+    left1 inner number name body t0 y0 q0 c0 b0 index done node one index_is g drawn_is text canonical place is inside body_is indexed wait q x b E ds h =
     let m1 : code_machine.Machine = record m { drawing = d } in
     let m2 : code_machine.Machine = record m { drawing = d; scopes = s } in
     let grew : Grew p m m2 = grew_on p m m1 m2 (drawn_grew p m d g) (scoped_grew p m1 s (scope.Bound name (value.Diagram number) e) is) in
@@ -105,7 +105,7 @@ body_waits p m n r d s a e left
     bind_shows p m1 s name (value.Diagram number) e inner x (Flat (Constant i)) E place is named (drawn_is.inside, drawn_is.is ∙ ap Constant index_is) env1 in
     let F : Frame = Drawn (Body q x b E (suc (length done.items)) left1 ds) in
     let waits : ShowsForDiagram (world p m2) (drawn.Body a e left1 done) (Body q x b E (suc (length done.items)) left1 ds) =
-    for_diagram_grows (world p m) (world p m2) grew.lists (drawn.Body a e left1 done) (Body q x b E (suc (length done.items)) left1 ds) (h, refl, refl) in
+    for_diagram_grows (world p m) (world p m2) grew.lists (drawn.Body a e left1 done) (Body q x b E (suc (length done.items)) left1 ds) (h, refl, refl, indexed) in
     let shown : tree_in p body ≡ b = body_is ∙ sym (same_body h.s t0 q q0 h.n y0 h.count c0 b b0 node_is) in
     let step = wait F b (Bound x (Flat (Constant i)) E) waits (inside, shown) bound in
     subst (λ (j : ℕ). Steps p m n r (λ Fs t. next_body q x b E (length done.items) j ds Fs t)) (sym one)

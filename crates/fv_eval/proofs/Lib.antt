@@ -1,3 +1,4 @@
+pub mod Forms
 pub mod There
 pub mod Arrived
 pub mod Received

@@ -1,11 +1,11 @@
 -- Where the machine goes.
 use Rattle.std.proofs.Common.{inl, inr, ◌≡◌, ℕ, List, Result, Ok, Err, refl, sym, ap, subst, ◌∙◌}
-use Rattle.fv_grammar.specs.Tree.{Tree}
+use Rattle.fv_parse_grammar.specs.Tree.{Tree}
 use Rattle.fv_parse.specs.Trees.{Parsed, tree_in, node_tree}
-use Rattle.fv_tree.specs.declared.node.TreeNode.{TreeNode}
+use Rattle.fv_parse_tree.specs.declared.node.TreeNode.{TreeNode}
 use Rattle.fv_diagram.specs.Diagram.{Diagram}
 use Rattle.fv_diagram.specs.Arena.{Arena, tree_of}
-use Rattle.fv_compose.specs.Makes.{Extends, Draws as IsDrawn, MakesValue}
+use Rattle.fv_eval_drawing.specs.Makes.{Extends, Draws as IsDrawn, MakesValue}
 use Rattle.fv_rules.specs.declared.refusal.EvalRefusal.{EvalRefusal}
 use Rattle.fv_rules.specs.declared.value.Value as code_value
 use Rattle.fv_rules.specs.declared.value.Value.TheVariants as value
@@ -15,7 +15,7 @@ use Rattle.fv_rules.specs.Values.{Value, Flat, Env}
 use Rattle.fv_rules.specs.Steps.{State, Outcome, Eval}
 use Rattle.fv_rules.specs.Shows.{ShowsTree, ShowsValue, ShowsEnv}
 use Rattle.fv_rules.proofs.Grown.{diagrams_come, scope_opens, grows_on}
-use Rattle.fv_machine.specs.Machine.{Frame, Visit, Give, Config, Running, Ended, given}
+use Rattle.fv_eval_machine.specs.Machine.{Frame, Visit, Give, Config, Running, Ended, given}
 use Rattle.fv_eval.specs.declared.frame.Focus as code_focus
 use Rattle.fv_eval.specs.declared.frame.Focus.TheVariants as focus
 use Rattle.fv_eval.specs.declared.machine.Machine as code_machine

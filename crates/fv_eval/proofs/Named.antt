@@ -6,7 +6,7 @@ use Rattle.fv_rules.specs.declared.value.Value as code_value
 use Rattle.fv_rules.specs.declared.value.Meaning.TheVariants as meaning
 use Rattle.fv_rules.specs.Values.{Name, Abstraction, Rules, Nothing, Plain, Parameters, Cases, Meaning, IsValue, IsDefined, Unknown}
 use Rattle.fv_rules.specs.Shows.{ShowsMeaning}
-use Rattle.fv_machine.specs.Machine.{Frame, Ended, begin_name}
+use Rattle.fv_eval_machine.specs.Machine.{Frame, Ended, begin_name}
 use Rattle.fv_eval.specs.declared.frame.Focus.TheVariants as focus
 use Rattle.fv_eval.specs.declared.machine.Machine as code_machine
 use Rattle.fv_eval.specs.Frames.{world, state_of, Keeps, Goes}

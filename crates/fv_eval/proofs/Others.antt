@@ -2,12 +2,12 @@
 use Rattle.std.proofs.Common.{◌≡◌, ℕ, List, [], ◌∷◌, None, Vec, refl}
 use Rattle.std.specs.declared.alloc.Global.{Global}
 use Rattle.fv_lex.specs.Token.{Lexed}
-use Rattle.fv_tree.specs.declared.node.TreeId.{TreeId}
-use Rattle.fv_tree.specs.declared.node.TreeNode.{TreeNode}
-use Rattle.fv_tree.specs.declared.node.TreeNode.TheVariants as nodes
-use Rattle.fv_tree.specs.Arena.{tree_of, forest}
-use Rattle.fv_grammar.specs.declared.form.Slider.{Slider as SliderKind}
-use Rattle.fv_grammar.specs.Tree.{Tree, End}
+use Rattle.fv_parse_tree.specs.declared.node.TreeId.{TreeId}
+use Rattle.fv_parse_tree.specs.declared.node.TreeNode.{TreeNode}
+use Rattle.fv_parse_tree.specs.declared.node.TreeNode.TheVariants as nodes
+use Rattle.fv_parse_tree.specs.Arena.{tree_of, forest}
+use Rattle.fv_parse_grammar.specs.declared.form.Slider.{Slider as SliderKind}
+use Rattle.fv_parse_grammar.specs.Tree.{Tree, End}
 use Rattle.fv_rules.specs.Shows.{body_in, parameters_in}
 use Rattle.fv_eval.specs.Frames.{name_of, parameters_of}
 use Rattle.fv_eval.specs.Names.{defined_by}

@@ -4,8 +4,8 @@ use Rattle.std.specs.Prelude.{slice_get, option_map}
 use Rattle.std.proofs.lemmas.Option.{none-some}
 use Rattle.std.proofs.Math.Seq.{drop-cons}
 use Rattle.fv_lex.specs.Token.{Lexed}
-use Rattle.fv_grammar.specs.Tree.{Tree}
-use Rattle.fv_grammar.specs.Tree as tree
+use Rattle.fv_parse_grammar.specs.Tree.{Tree}
+use Rattle.fv_parse_grammar.specs.Tree as tree
 use Rattle.fv_rules.specs.Values.{Name, with_name, names_of}
 use Rattle.fv_rules.specs.Shows.{given_names}
 use Rattle.fv_eval.specs.Frames.{ShowsName, name_of}

@@ -3,18 +3,18 @@ use Rattle.std.proofs.Common.{◌≡◌, ℕ, suc, ◌+◌, List, [], ◌∷◌,
 use Rattle.std.specs.Prelude.{slice_get}
 use Rattle.std.specs.declared.alloc.Global.{Global}
 use Rattle.std.proofs.lemmas.List.{length_push}
-use Rattle.fv_grammar.specs.Tree.{Tree, start_of}
-use Rattle.fv_grammar.specs.Tree as tree
-use Rattle.fv_grammar.specs.declared.form.Operator.{Operator}
-use Rattle.fv_grammar.specs.declared.form.Iteration.{Iteration as Repetition}
-use Rattle.fv_grammar.specs.declared.form.Side.{Side}
+use Rattle.fv_parse_grammar.specs.Tree.{Tree, start_of}
+use Rattle.fv_parse_grammar.specs.Tree as tree
+use Rattle.fv_parse_grammar.specs.declared.form.Operator.{Operator}
+use Rattle.fv_parse_grammar.specs.declared.form.Iteration.{Iteration as Repetition}
+use Rattle.fv_parse_grammar.specs.declared.form.Side.{Side}
 use Rattle.fv_num.specs.declared.op.Op.TheVariants as op
 use Rattle.fv_parse.specs.Trees.{Parsed, text_of}
 use Rattle.fv_diagram.specs.declared.node.Primitive.TheVariants as prim
 use Rattle.fv_diagram.specs.Diagram.{Diagram, Primitive, Constant, Seq}
 use Rattle.fv_diagram.specs.Arena.{Arena, tree_of}
-use Rattle.fv_compose.specs.Makes.{Draws as IsDrawn, Extends, Makes, MakesValue, trees_of}
-use Rattle.fv_compose.proofs.Gathered.{as_value}
+use Rattle.fv_eval_drawing.specs.Makes.{Draws as IsDrawn, Extends, Makes, MakesValue, trees_of}
+use Rattle.fv_eval_drawing.proofs.Gathered.{as_value}
 use Rattle.fv_rules.specs.declared.refusal.EvalRefusal.{EvalRefusal}
 use Rattle.fv_rules.specs.declared.value.Value as code_value
 use Rattle.fv_rules.specs.declared.value.Value.TheVariants as value
@@ -24,8 +24,8 @@ use Rattle.fv_rules.specs.Matching.{number_or, settled}
 use Rattle.fv_rules.specs.Steps.{Eval, put}
 use Rattle.fv_rules.specs.Rules.{bind_all, counted, fed, flat, joined, operated, ports}
 use Rattle.fv_rules.specs.Shows.{World, Draws, ShowsTree, ShowsValue, ShowsValues, ShowsEnv}
-use Rattle.fv_machine.specs.Machine.{ForDiagram, Left, Right, Later, Negated, Ports, Binding, Turning, Counting, Body, Finish, Drawn, Visit, Give, Running}
-use Rattle.fv_machine.specs.Machine.{diagram_arrives, first_body, given, next_body, next_turned}
+use Rattle.fv_eval_machine.specs.Machine.{ForDiagram, Left, Right, Later, Negated, Ports, Binding, Turning, Counting, Body, Finish, Drawn, Visit, Give, Running}
+use Rattle.fv_eval_machine.specs.Machine.{diagram_arrives, first_body, given, next_body, next_turned}
 use Rattle.fv_eval.specs.declared.frame.Frame as code_frame
 use Rattle.fv_eval.specs.declared.frame.Frame.TheVariants as frame
 use Rattle.fv_eval.specs.declared.frame.Focus as code_focus

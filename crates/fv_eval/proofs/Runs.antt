@@ -2,7 +2,7 @@
 use Rattle.std.proofs.Common.{inl, inr, ◌≡◌, ◌⊎◌, ℕ, ◌+◌, ◌<◌, List, [], ◌∷◌, ◌++◌, length, Result, Some, Ok, Err, refl, sym, ap, subst, ◌∙◌, arith}
 use Rattle.std.specs.Prelude.{codes}
 use Rattle.fv_lex.specs.Token.{Lexed}
-use Rattle.fv_grammar.specs.Tree.{Tree}
+use Rattle.fv_parse_grammar.specs.Tree.{Tree}
 use Rattle.fv_parse.specs.Trees.{Parsed, program_of, size_of, text_of, first_named}
 use Rattle.fv_diagram.specs.Diagram.{Diagram}
 use Rattle.fv_diagram.specs.Arena.{count_of, empty_arena, tree_of}
@@ -17,7 +17,7 @@ use Rattle.fv_rules.specs.Values.{Value, Flat, Outermost, Scope}
 use Rattle.fv_rules.specs.Steps.{State, Outcome, Eval, after, ◌>>=◌, give}
 use Rattle.fv_rules.specs.Rules.{ev, flat, finished, name_value, program_value, start, turned}
 use Rattle.fv_rules.specs.Shows.{ShowsValue, ShowsEnv}
-use Rattle.fv_machine.specs.Machine.{Config, Drawn, Finish, Ended, StartsMean, StepsMean, first, meaning, step}
+use Rattle.fv_eval_machine.specs.Machine.{Config, Drawn, Finish, Ended, StartsMean, StepsMean, first, meaning, step}
 use Rattle.fv_eval.specs.declared.frame.Frame as code_frame
 use Rattle.fv_eval.specs.declared.frame.Frame.TheVariants as frame
 use Rattle.fv_eval.specs.declared.frame.ForDiagram.TheVariants as drawn
@@ -64,6 +64,23 @@ done p m i mean h = shown h.0 (sym (mean p.tokens (program_of p) start) ∙ h.1)
           (tree_of m.drawing i) (state_of m) (e ∙ ap (λ (x : Diagram). Ok (Flat x, state_of m)) (sym k.1)),
     )
     shown v e k = absurd k
+
+flat_value : (o : Outcome Diagram) (v : Value) (s : State) → after o (λ x. give (Flat x)) ≡ Ok (v, s) → (d : Diagram) × (v ≡ Flat d)
+flat_value (Ok x) v s e =
+    let both : ◌≡◌ {A = Value × State} (Flat x.0, x.1) (v, s) = cc in
+    (x.0, sym (ap (λ (q : Value × State). q.0) both))
+flat_value (Err r) v s e = absurd (cc)
+
+diagram_shown : (p : Parsed) (m : code_machine.Machine) (u : code_value.Value) (d : Diagram) → ShowsValue (world p m) u (Flat d) → (i : ℕ) × (u ≡ value.Diagram i)
+diagram_shown p m (value.Diagram i) d h = (i, refl)
+diagram_shown p m u d h = absurd h
+
+-- and its value is a diagram
+pub done_flat : (p : Parsed) (m : code_machine.Machine) (u : code_value.Value) → StartsMean → Ends p m (Ok u) (whole p.tokens (program_of p))
+    → (i : ℕ) × (u ≡ value.Diagram i)
+done_flat p m u mean h =
+    let v = flat_value (of_process p.tokens (program_of p) start) h.0 (state_of m) (sym (mean p.tokens (program_of p) start) ∙ h.1) in
+    diagram_shown p m u v.0 (subst (ShowsValue (world p m) u) v.1 h.2)
 
 -- one that is refused, the program's refusal
 pub refused : (p : Parsed) (m : code_machine.Machine) (r : EvalRefusal) → StartsMean → Ends p m (Err r) (whole p.tokens (program_of p))

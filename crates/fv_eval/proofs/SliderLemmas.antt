@@ -2,9 +2,9 @@
 use Rattle.std.proofs.Common.{inr, ◌≡◌, ℕ, suc, List, [], ◌∷◌, ◌++◌, length, drop, Option, Some, None, Result, Err, refl, sym, ap, subst, ◌∙◌, arith}
 use Rattle.std.specs.Prelude.{ℤ, slice_get}
 use Rattle.std.proofs.lemmas.List.{length_push}
-use Rattle.fv_grammar.specs.Tree.{Tree, start_of}
-use Rattle.fv_grammar.specs.Tree as tree
-use Rattle.fv_grammar.specs.declared.form.Slider.{Slider as SliderKind}
+use Rattle.fv_parse_grammar.specs.Tree.{Tree, start_of}
+use Rattle.fv_parse_grammar.specs.Tree as tree
+use Rattle.fv_parse_grammar.specs.declared.form.Slider.{Slider as SliderKind}
 use Rattle.fv_parse.specs.Trees.{Parsed, label_of, tree_in}
 use Rattle.fv_diagram.specs.Arena.{tree_of}
 use Rattle.fv_rules.specs.declared.refusal.EvalRefusal.{EvalRefusal}
@@ -16,7 +16,7 @@ use Rattle.fv_rules.specs.Matching.{value_number}
 use Rattle.fv_rules.specs.Steps.{control, no_number}
 use Rattle.fv_rules.specs.Rules.{flat, read_number, slider_info, slider_kind}
 use Rattle.fv_rules.specs.Shows.{World, ShowsValue}
-use Rattle.fv_machine.specs.Machine.{Ended, given, next_parameter, parameter_read}
+use Rattle.fv_eval_machine.specs.Machine.{Ended, given, next_parameter, parameter_read}
 use Rattle.fv_eval.specs.declared.frame.Focus as code_focus
 use Rattle.fv_eval.specs.declared.machine.Machine as code_machine
 use Rattle.fv_eval.specs.Frames.{ShowsSlider, Steps, parameters_of, state_of, world}

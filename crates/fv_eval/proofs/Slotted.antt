@@ -6,7 +6,7 @@ use Rattle.std.proofs.Math.Seq.{drop-cons}
 use Rattle.fv_parse.specs.Trees.{Parsed, size_of, tree_in}
 use Rattle.fv_diagram.specs.Diagram.{Slot}
 use Rattle.fv_diagram.specs.Arena.{Arena}
-use Rattle.fv_compose.specs.Makes.{Draws as IsDrawn, Extends}
+use Rattle.fv_eval_drawing.specs.Makes.{Draws as IsDrawn, Extends}
 use Rattle.fv_rules.specs.declared.refusal.EvalRefusal.{EvalRefusal}
 use Rattle.fv_rules.specs.declared.value.Value.TheVariants as value
 use Rattle.fv_rules.specs.declared.value.Ruled.{Ruled}
@@ -17,7 +17,7 @@ use Rattle.fv_rules.specs.Steps.{State, no_diagram}
 use Rattle.fv_rules.specs.Rules.{on_slots}
 use Rattle.fv_rules.specs.Shows.{ShowsEnv, begins_in, body_in, parameters_in}
 use Rattle.fv_rules.proofs.Grown.{env_grows, grows_on}
-use Rattle.fv_machine.specs.Machine.{Binding, Frame, Drawn, Visit, Running, Ended}
+use Rattle.fv_eval_machine.specs.Machine.{Binding, Frame, Drawn, Visit, Running, Ended}
 use Rattle.fv_eval.specs.declared.frame.Frame as code_frame
 use Rattle.fv_eval.specs.declared.frame.Frame.TheVariants as frame
 use Rattle.fv_eval.specs.declared.frame.ForDiagram as code_for_diagram
@@ -25,7 +25,7 @@ use Rattle.fv_eval.specs.declared.frame.ForDiagram.TheVariants as drawn
 use Rattle.fv_eval.specs.declared.frame.Focus as code_focus
 use Rattle.fv_eval.specs.declared.frame.Focus.TheVariants as focus
 use Rattle.fv_eval.specs.declared.machine.Machine as code_machine
-use Rattle.fv_eval.specs.Frames.{Grew, ShowsFrames, ShowsName, Slots, state_of, world}
+use Rattle.fv_eval.specs.Frames.{AreNumbered, Grew, ShowsFrames, ShowsName, Slots, state_of, world}
 use Rattle.fv_eval.proofs.Grown.{for_diagram_grows, frames_grow}
 use Rattle.fv_eval.proofs.Moves.{drawn_grew, grew_on, scoped_grew}
 use Rattle.fv_eval.proofs.Arrived.{Turns}
@@ -116,10 +116,10 @@ pub abstraction_turns : (p : Parsed)
     → (0 < length (parameters_in p.tokens (tree_in p f)) → count ≡ length (parameters_in p.tokens (tree_in p f))) → Slots p m m1 (count - bound)
     → ((E : Env) → count ≡ length (parameters_in p.tokens (tree_in p f)) → 0 < count → ShowsEnv (world p m) env E
     → ShowsEnv (world p m1) inner (on_slots (drop bound (parameters_in p.tokens (tree_in p f))) m.slot E))
-    → fs ≡ m1.frames ++ frame.Drawn g ∷ [] → gs ≡ fs ++ frame.Drawn (drawn.Binding m.slot slots) ∷ [] → slots ≡ count - bound
+    → fs ≡ m1.frames ++ frame.Drawn g ∷ [] → gs ≡ fs ++ frame.Drawn (drawn.Binding m.slot slots) ∷ [] → slots ≡ count - bound → AreNumbered m.slot slots
     → body < size_of p → tree_in p body ≡ body_in (tree_in p f)
     → Turns p m (record m1 { frames = gs }) (Ok (focus.Visit body inner)) g (value.Abstraction f bound env)
-abstraction_turns p m m1 fs gs g f bound env count inner body slots counted taken shows first second many inside is F (Abstraction x xs b E) h k Fs kept =
+abstraction_turns p m m1 fs gs g f bound env count inner body slots counted taken shows first second many numbered inside is F (Abstraction x xs b E) h k Fs kept =
     let names = parameters_in p.tokens (tree_in p f) in
     let n : code_machine.Machine = record m1 { frames = gs } in
     let old = world p m in
@@ -136,7 +136,7 @@ abstraction_turns p m m1 fs gs g f bound env count inner body slots counted take
     subst (λ (ys : List code_frame.Frame). ShowsFrames new ys Fs) (sym taken.frames) (frames_grow old new taken.lists m.frames Fs kept) in
     let waits : ShowsFrames new fs (Drawn F ∷ Fs) = (m1.frames, frame.Drawn g, first, for_diagram_grows old new taken.lists g F h, below) in
     let Gs : List Frame = Drawn (Binding m.slot (length (x ∷ xs))) ∷ Drawn F ∷ Fs in
-    let binds : ShowsFrames new gs Gs = (fs, frame.Drawn (drawn.Binding m.slot slots), second, (refl, many ∙ number), waits) in (
+    let binds : ShowsFrames new gs Gs = (fs, frame.Drawn (drawn.Binding m.slot slots), second, (refl, many ∙ number, numbered), waits) in (
       b,
       on_slots (x ∷ xs) m.slot E,
       Gs,
@@ -145,7 +145,7 @@ abstraction_turns p m m1 fs gs g f bound env count inner body slots counted take
       inner_shown,
       binds,
     )
-abstraction_turns p m m1 fs gs g f bound env count inner body slots counted taken shows first second many inside is F v h k Fs kept = absurd k
+abstraction_turns p m m1 fs gs g f bound env count inner body slots counted taken shows first second many numbered inside is F v h k Fs kept = absurd k
 
 pub diagram_turns : (p : Parsed) (m n : code_machine.Machine) (r : Result code_focus.Focus EvalRefusal) (g : code_for_diagram.ForDiagram) (i : ℕ)
     → Receives p m n r g i → Turns p m n r g (value.Diagram i)

@@ -1,6 +1,6 @@
 -- One step of the machine.
 use Rattle.std.proofs.Common.{◌≡◌, ℕ, zero, suc, ◌<◌, ◌-◌, Result, Ok, Err, sym, ap, subst, ◌∙◌, arith}
-use Rattle.fv_grammar.specs.Tree.{Tree}
+use Rattle.fv_parse_grammar.specs.Tree.{Tree}
 use Rattle.fv_parse.specs.Trees.{Parsed, size_of, tree_in}
 use Rattle.fv_rules.specs.declared.refusal.EvalRefusal.{EvalRefusal}
 use Rattle.fv_rules.specs.declared.refusal.EvalRefusal.TheVariants.{EvalBudget}
@@ -8,7 +8,7 @@ use Rattle.fv_rules.specs.declared.value.Value as code_value
 use Rattle.fv_rules.specs.Values.{Name, Env, lookup}
 use Rattle.fv_rules.specs.Steps.{State, Outcome, spent}
 use Rattle.fv_rules.specs.Shows.{ShowsEnv, IsNamed}
-use Rattle.fv_machine.specs.Machine.{Config, begin, begin_name, calling, step, visiting}
+use Rattle.fv_eval_machine.specs.Machine.{Config, begin, begin_name, calling, step, visiting}
 use Rattle.fv_eval.specs.declared.frame.Focus as code_focus
 use Rattle.fv_eval.specs.declared.frame.Focus.TheVariants as focus
 use Rattle.fv_eval.specs.declared.machine.Machine as code_machine

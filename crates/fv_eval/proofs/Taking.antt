@@ -1,8 +1,8 @@
 -- One argument is taken.
-use Rattle.std.proofs.Common.{◌≡◌, ℕ, zero, suc, ◌+◌, ◌-◌, ◌<◌, ◌≤◌, Bool, true, false, List, [], ◌∷◌, length, drop, Option, Some, None, refl, sym, ap, subst}
-use Rattle.std.proofs.Common.{◌∙◌, arith}
-use Rattle.std.specs.Prelude.{not, is_some, slice_get, if◌then◌else◌}
-use Rattle.std.proofs.lemmas.Option.{none-some}
+use Rattle.std.proofs.Common.{◌≡◌, ℕ, zero, suc, ◌+◌, ◌-◌, ◌<◌, ◌≤◌, Bool, List, [], ◌∷◌, length, drop, Option, Some, None, refl, sym, ap, subst}
+use Rattle.std.proofs.Common.{◌∙◌, arith, length-drop}
+use Rattle.std.specs.Prelude.{slice_get, if◌then◌else◌}
+use Rattle.std.proofs.lemmas.Option.{slice_get-get_or}
 use Rattle.std.proofs.lemmas.Bool.{le-ltb, lt-ltb}
 use Rattle.fv_parse.specs.Trees.{Parsed, tree_in}
 use Rattle.fv_rules.specs.declared.value.Value as code_value
@@ -16,8 +16,8 @@ use Rattle.fv_rules.specs.Rules.{width}
 use Rattle.fv_rules.specs.Shows.{World, IsNamed, ShowsEnv, ShowsTaken, ShowsValue, parameters_in, rules_in}
 use Rattle.fv_rules.proofs.Grown.{argument_comes, bound_shows, env_grows, taken_shows}
 use Rattle.fv_eval.specs.declared.machine.Machine as code_machine
-use Rattle.fv_eval.specs.Frames.{Grew, ShowsName, ShowsTaking, took, world}
-use Rattle.fv_eval.proofs.Places.{drop_at_end, drop_behind, get_at_drop}
+use Rattle.fv_eval.specs.Frames.{Grew, IsShown, ShowsName, ShowsTaking, took, world}
+use Rattle.fv_eval.proofs.Places.{drop_behind, get_at_drop}
 
 -- the clause of `take`
 abbrev pub Takes : Parsed → (m n : code_machine.Machine) → code_value.Value → code_value.Value → Option code_value.Value → Type 0
@@ -61,17 +61,6 @@ pub diagram_takes : (w : World) (i : ℕ) (v a : Value) → ShowsValue w (value.
 diagram_takes w i (Flat d) a h = tt
 diagram_takes w i v a h = absurd h
 
--- what `is_none` of an option says
-pub is_missing : {A : Type 0} (o : Option A) (b : Bool) → is_some o ≡ not b → b ≡ true → o ≡ None
-is_missing None b e h = refl
-is_missing (Some x) true e h = absurd (cc)
-is_missing (Some x) false e h = absurd (cc)
-
-pub is_present : {A : Type 0} (o : Option A) (b : Bool) → is_some o ≡ not b → b ≡ false → o ≡ None → ⊥
-is_present None true e h n = cc
-is_present None false e h n = cc
-is_present (Some x) b e h n = none-some x (sym n)
-
 -- ---- an abstraction
 
 some_left : {A : Type 0} (xs : List A) (n : ℕ) (y : A) (ys : List A) → drop n xs ≡ y ∷ ys → 0 < length xs
@@ -87,61 +76,66 @@ named_at p f n o x xs h e =
     let names = parameters_in p.tokens (tree_in p f) in
     subst (λ (q : Option Name). ShowsName p.tokens o q) (get_at_drop names n x xs e) (h (some_left names n x xs e))
 
-none_behind : (p : Parsed) (f n k : ℕ) (x : Name) (xs : List Name) → k ≡ n + 1
-    → (0 < length (parameters_in p.tokens (tree_in p f)) → ShowsName p.tokens None (slice_get (parameters_in p.tokens (tree_in p f)) k))
-    → drop n (parameters_in p.tokens (tree_in p f)) ≡ x ∷ xs → xs ≡ []
-none_behind p f n k x xs more h e =
+-- it has as many parameters left as it wants
+left_over : (p : Parsed) (f n : ℕ) (x : Name) (xs : List Name) → drop n (parameters_in p.tokens (tree_in p f)) ≡ x ∷ xs
+    → n + suc (length xs) ≡ length (parameters_in p.tokens (tree_in p f))
+left_over p f n x xs e =
     let names = parameters_in p.tokens (tree_in p f) in
-    let next : suc n ≡ k = omega (arith, more) in
-    sym (drop_behind names n x xs e) ∙ ap (λ (i : ℕ). drop i names) next ∙ drop_at_end names k (is_none (slice_get names k) (h (some_left names n x xs e)))
+    let left : length names - n ≡ suc (length xs) = sym (length-drop n names) ∙ ap length e in
+    omega (arith, left)
+
+-- its next parameter is one of them
+pub bound_below : (p : Parsed) (m : code_machine.Machine) (f n e : ℕ) → IsShown (world p m) (value.Abstraction f n e)
+    → n < length (parameters_in p.tokens (tree_in p f))
+bound_below p m f n e h = parts h.0 h.1
   where
-    is_none : (o : Option Name) → ShowsName p.tokens None o → o ≡ None
-    is_none None k = refl
-    is_none (Some y) k = absurd k
+    parts : (v : Value) → ShowsValue (world p m) (value.Abstraction f n e) v → n < length (parameters_in p.tokens (tree_in p f))
+    parts (Abstraction x xs b E) k = let left = left_over p f n x xs k.1 in omega (arith, left)
+    parts v k = absurd k
+
+-- and has a name
+pub name_is_there : (p : Parsed) (f n : ℕ) (o : Option ℕ) → n < length (parameters_in p.tokens (tree_in p f))
+    → (0 < length (parameters_in p.tokens (tree_in p f)) → ShowsName p.tokens o (slice_get (parameters_in p.tokens (tree_in p f)) n)) → o ≡ None → ⊥
+name_is_there p f n o below named none =
+    let names = parameters_in p.tokens (tree_in p f) in
+    let some : 0 < length names = omega (arith, below) in
+    subst (λ (q : Option Name). ShowsName p.tokens None q) (slice_get-get_or names n [] below)
+    (subst (λ (q : Option ℕ). ShowsName p.tokens q (slice_get names n)) none (named some))
 
 -- it has one parameter left
-pub last_parameter : (p : Parsed) (m : code_machine.Machine) (f n k e : ℕ) (o : Option ℕ) (v a : Value) → k ≡ n + 1
-    → (0 < length (parameters_in p.tokens (tree_in p f)) → ShowsName p.tokens o (slice_get (parameters_in p.tokens (tree_in p f)) k)) → o ≡ None
+pub last_parameter : (p : Parsed) (m : code_machine.Machine) (f n count e : ℕ) (v a : Value)
+    → (0 < length (parameters_in p.tokens (tree_in p f)) → count ≡ length (parameters_in p.tokens (tree_in p f))) → count ≤ n + 1
     → ShowsValue (world p m) (value.Abstraction f n e) v → ShowsTaking (world p m) None (took v a)
-last_parameter p m f n k e o (Abstraction x [] b E) a more h none s = tt
-last_parameter p m f n k e o (Abstraction x (y ∷ ys) b E) a more h none s =
+last_parameter p m f n count e (Abstraction x [] b E) a counted few s = tt
+last_parameter p m f n count e (Abstraction x (y ∷ ys) b E) a counted few s =
     let names = parameters_in p.tokens (tree_in p f) in
-    let h0 = subst (λ (q : Option ℕ). 0 < length names → ShowsName p.tokens q (slice_get names k)) none h in
-    let e = none_behind p f n k x (y ∷ ys) more h0 s.1 in
-    absurd (cc)
-last_parameter p m f n k e o v a more h none s = absurd s
+    let left = left_over p f n x (y ∷ ys) s.1 in
+    let all = counted (some_left names n x (y ∷ ys) s.1) in
+    absurd (omega (arith, left, all, few))
+last_parameter p m f n count e v a counted few s = absurd s
 
 -- it has others behind this one
-pub parameter_takes : (p : Parsed) (m : code_machine.Machine) (new : Environments) (f n k e i name : ℕ) (o : Option ℕ) (u : code_value.Value) (v a : Value)
+pub parameter_takes : (p : Parsed) (m : code_machine.Machine) (new : Environments) (f n k count e i name : ℕ) (u : code_value.Value) (v a : Value)
     → k ≡ n + 1
-    → (0 < length (parameters_in p.tokens (tree_in p f)) → ShowsName p.tokens o (slice_get (parameters_in p.tokens (tree_in p f)) k)) → (o ≡ None → ⊥)
+    → (0 < length (parameters_in p.tokens (tree_in p f)) → count ≡ length (parameters_in p.tokens (tree_in p f))) → k < count
     → (0 < length (parameters_in p.tokens (tree_in p f)) → ShowsName p.tokens (Some name) (slice_get (parameters_in p.tokens (tree_in p f)) n))
     → i ≡ length m.scopes.scopes + 1 → new ≡ with_scope m.scopes (scope.Bound name u e)
     → ShowsValue (world p m) (value.Abstraction f n e) v
     → ShowsValue (world p m) u a → ShowsTaking (world p (record m { scopes = new })) (Some (value.Abstraction f k i)) (took v a)
-parameter_takes p m new f n k e i name o u (Abstraction x [] b E) a more h some named at is s t =
+parameter_takes p m new f n k count e i name u (Abstraction x [] b E) a one counted more named at is s t =
     let names = parameters_in p.tokens (tree_in p f) in
-    let next : suc n ≡ k = omega (arith, more) in
-    let ended : drop k names ≡ [] = ap (λ (j : ℕ). drop j names) (sym next) ∙ drop_behind names n x [] s.1 in
-    absurd (some (is_none o (subst (λ (q : Option Name). ShowsName p.tokens o q) (past names k ended) (h (some_left names n x [] s.1)))))
-  where
-    past : (xs : List Name) (j : ℕ) → drop j xs ≡ [] → slice_get xs j ≡ None
-    past [] j e = refl
-    past (y ∷ ys) zero e = absurd (cc)
-    past (y ∷ ys) (suc j) e = past ys j e
-
-    is_none : (q : Option ℕ) → ShowsName p.tokens q None → q ≡ None
-    is_none None g = refl
-    is_none (Some y) g = absurd g
-parameter_takes p m new f n k e i name o u (Abstraction x (y ∷ ys) b E) a more h some named at is s t =
+    let left = left_over p f n x [] s.1 in
+    let all = counted (some_left names n x [] s.1) in
+    absurd (omega (arith, left, all, one, more))
+parameter_takes p m new f n k count e i name u (Abstraction x (y ∷ ys) b E) a one counted more named at is s t =
     let names = parameters_in p.tokens (tree_in p f) in
-    let next : suc n ≡ k = omega (arith, more) in (
+    let next : suc n ≡ k = omega (arith, one) in (
       s.0,
       ap (λ (j : ℕ). drop j names) (sym next) ∙ drop_behind names n x (y ∷ ys) s.1,
       s.2,
       bind_shows p m new name u e i x a E at is (named_at p f n (Some name) x (y ∷ ys) named s.1) t s.3,
     )
-parameter_takes p m new f n k e i name o u v a more h some named at is s t = absurd s
+parameter_takes p m new f n k count e i name u v a one counted more named at is s t = absurd s
 
 -- ---- rules
 

@@ -12,11 +12,12 @@ use Rattle.fv_rules.specs.Values.{Value, Flat, Abstraction, Rules}
 use Rattle.fv_rules.specs.Shows.{World, Draws, Grows, ShowsValue, ShowsValues}
 use Rattle.fv_rules.specs.Matching.{settled}
 use Rattle.fv_rules.proofs.Grown.{value_grows, values_grow}
-use Rattle.fv_machine.specs.Machine.{ForValue, Argument, ForDiagram, Left, Right, Turning, Counting, Body}
-use Rattle.fv_compose.specs.Makes.{IsThere as IsDrawn}
+use Rattle.fv_eval_machine.specs.Machine.{ForValue, Argument, ForDiagram, Left, Right, Binding, Turning, Counting, Body}
+use Rattle.fv_eval_drawing.specs.Makes.{IsThere as IsDrawn}
 use Rattle.fv_eval.specs.declared.frame.ForValue.TheVariants as valued
 use Rattle.fv_eval.specs.declared.frame.ForDiagram as code_for_diagram
 use Rattle.fv_eval.specs.declared.frame.ForDiagram.TheVariants as drawn
+use Rattle.fv_eval.proofs.Forms.{is_binary, is_iteration}
 use Rattle.fv_eval.proofs.Places.{get_at_drop}
 use Rattle.fv_eval.specs.Frames.{AllDraw, AreShown, DrawnThere, IsShown, IsThere, ShowsForDiagram, ShowsForValue, ValuedShown}
 
@@ -69,13 +70,13 @@ pub drawn_there : (w : World) (f : code_for_diagram.ForDiagram) (F : ForDiagram)
 drawn_there w drawn.Later F h = tt
 drawn_there w drawn.Negated F h = tt
 drawn_there w (drawn.Ports s) F h = tt
-drawn_there w (drawn.Binding s n) F h = tt
+drawn_there w (drawn.Binding s n) (Binding t m) h = h.2
 drawn_there w drawn.Finish F h = tt
-drawn_there w (drawn.Left b e) (Left o y E) h = h.2.0
+drawn_there w (drawn.Left b e) (Left o y E) h = (h.2.0, is_binary h.2.1)
 drawn_there w (drawn.Right o i) (Right q a) h = h.1.0
 drawn_there w (drawn.Turning i us next is) (Turning f vs ds) h = (h.0.0, h.2.0)
-drawn_there w (drawn.Counting a e) (Counting r x s b E) h = h.3.0
-drawn_there w (drawn.Body a e left is) (Body r x b E i n ds) h = (h.0.tree.0, h.0.done.0)
+drawn_there w (drawn.Counting a e) (Counting r x s b E) h = (h.3.0, is_iteration h.3.1)
+drawn_there w (drawn.Body a e left is) (Body r x b E i n ds) h = (h.0.tree.0, is_iteration h.0.tree.1, h.0.done.0, h.3)
 drawn_there w f F h = absurd h
 
 pub argument_shown : (w : World) (a : ℕ) (u : code_value.Value) (e : ℕ) (us : Vec code_value.Value Global)

@@ -1,13 +1,13 @@
 -- What is waited for, where a tree is visited.
 use Rattle.std.proofs.Common.{◌≡◌, ℕ, suc, ◌+◌, List, ◌∷◌, drop, Vec, Result, sym, ap, subst, ◌∙◌, arith}
 use Rattle.std.specs.declared.alloc.Global.{Global}
-use Rattle.fv_grammar.specs.Tree.{Tree}
+use Rattle.fv_parse_grammar.specs.Tree.{Tree}
 use Rattle.fv_parse.specs.Trees.{Parsed}
 use Rattle.fv_rules.specs.declared.refusal.EvalRefusal.{EvalRefusal}
 use Rattle.fv_rules.specs.declared.value.Value as code_value
 use Rattle.fv_rules.specs.Values.{Env}
 use Rattle.fv_rules.specs.Shows.{ShowsEnv, ShowsTree, ShowsValues}
-use Rattle.fv_machine.specs.Machine.{Leftover, Frame, Valued, Visit, Running}
+use Rattle.fv_eval_machine.specs.Machine.{Leftover, Frame, Valued, Visit, Running}
 use Rattle.fv_eval.specs.declared.frame.Frame as code_frame
 use Rattle.fv_eval.specs.declared.frame.Frame.TheVariants as frame
 use Rattle.fv_eval.specs.declared.frame.ForValue.TheVariants as valued

@@ -1,14 +1,14 @@
 -- What the machine's lists and pending work stand for.
-use Rattle.std.specs.Prelude.{◌≡◌, ◌⊎◌, ℕ, suc, ◌+◌, ◌<◌, nat_lt, List, [], ◌∷◌, ◌++◌, length, drop, Option, Some, None, Result, Ok, Err, if◌then◌else◌}
+use Rattle.std.specs.Prelude.{◌≡◌, ◌⊎◌, ℕ, suc, ◌+◌, ◌<◌, ◌^◌, nat_lt, List, [], ◌∷◌, ◌++◌, length, drop, Option, Some, None, Result, Ok, Err, if◌then◌else◌}
 use Rattle.fv_lex.specs.Token.{Lexed}
-use Rattle.fv_grammar.specs.Tree.{Tree, items, start_of}
-use Rattle.fv_grammar.specs.Tree as tree
-use Rattle.fv_grammar.specs.declared.form.Slider.{Slider as SliderKind}
-use Rattle.fv_grammar.specs.declared.form.Iteration.{Iteration as Repetition}
-use Rattle.fv_parse.specs.Trees.{Parsed, size_of, text_of, label_of, first_named}
+use Rattle.fv_parse_grammar.specs.Tree.{Tree, items, start_of}
+use Rattle.fv_parse_grammar.specs.Tree as tree
+use Rattle.fv_parse_grammar.specs.declared.form.Slider.{Slider as SliderKind}
+use Rattle.fv_parse_grammar.specs.declared.form.Iteration.{Iteration as Repetition}
+use Rattle.fv_parse.specs.Trees.{Parsed, size_of, tree_in, text_of, label_of, first_named}
 use Rattle.fv_diagram.specs.Diagram.{Diagram}
 use Rattle.fv_diagram.specs.Arena.{count_of}
-use Rattle.fv_compose.specs.Makes.{AreThere, trees_of}
+use Rattle.fv_eval_drawing.specs.Makes.{AreThere, trees_of}
 use Rattle.fv_rules.specs.declared.refusal.EvalRefusal.{EvalRefusal}
 use Rattle.fv_rules.specs.declared.refusal.EvalRefusal.TheVariants.{NoMemory}
 use Rattle.fv_rules.specs.declared.value.Value as code_value
@@ -18,9 +18,9 @@ use Rattle.fv_rules.specs.Matching.{Bindings, chosen}
 use Rattle.fv_rules.specs.Steps.{State, Outcome}
 use Rattle.fv_rules.specs.Rules.{slider_kind, width}
 use Rattle.fv_rules.specs.Shows.{World, ShowsTree, Draws, ShowsValue, ShowsValues, ShowsEnv, ShowsTaken, IsNamed, IsInside, Grows, rules_in}
-use Rattle.fv_machine.specs.Machine.{ForValue, Function, Argument, Leftover, Parameter, ForDiagram, Left, Right, Later, Negated, Ports, Binding, Turning}
-use Rattle.fv_machine.specs.Machine.{Counting, Body, Finish, Frame, Valued, Drawn, Visit, Call, Give, Config, Running, Ended, meaning, begin, next_turned}
-use Rattle.fv_machine.specs.Machine.{select}
+use Rattle.fv_eval_machine.specs.Machine.{ForValue, Function, Argument, Leftover, Parameter, ForDiagram, Left, Right, Later, Negated, Ports, Binding, Turning}
+use Rattle.fv_eval_machine.specs.Machine.{Counting, Body, Finish, Frame, Valued, Drawn, Visit, Call, Give, Config, Running, Ended, meaning, begin, next_turned}
+use Rattle.fv_eval_machine.specs.Machine.{select}
 use Rattle.fv_eval.specs.declared.frame.Frame as code_frame
 use Rattle.fv_eval.specs.declared.frame.Frame.TheVariants as frame
 use Rattle.fv_eval.specs.declared.frame.ForValue as code_for_value
@@ -30,7 +30,7 @@ use Rattle.fv_eval.specs.declared.frame.ForDiagram.TheVariants as drawn
 use Rattle.fv_eval.specs.declared.frame.Focus as code_focus
 use Rattle.fv_eval.specs.declared.frame.Focus.TheVariants as focus
 use Rattle.fv_eval.specs.declared.machine.Machine as code_machine
-use Rattle.fv_tree.specs.declared.node.TreeId.{TreeId}
+use Rattle.fv_parse_tree.specs.declared.node.TreeId.{TreeId}
 use Rattle.fv_rules.specs.declared.value.Ruled.{Ruled}
 use Rattle.fv_rules.specs.declared.value.Binding as code_binding
 use Rattle.fv_rules.specs.Chosen.{ShowsChoice}
@@ -45,6 +45,25 @@ state_of m = record { visits = m.visits; controls = m.controls; slot = m.slot }
 -- these numbers are these diagrams, in order
 abbrev pub AllDraw : World → List ℕ → List Diagram → Type 0
 AllDraw w is ds = AreThere w.diagrams is × (trees_of w.diagrams is ≡ ds)
+
+-- ---- the form of a node
+
+-- two parts with an operator between them
+abbrev pub IsBinary : Tree → Type 0
+IsBinary (tree.Binary s o x y) = Unit {0}
+IsBinary x = ⊥
+
+abbrev pub IsIteration : Tree → Type 0
+IsIteration (tree.Iteration s r n c b) = Unit {0}
+IsIteration x = ⊥
+
+abbrev pub IsApplication : Tree → Type 0
+IsApplication (tree.Apply s f ys) = Unit {0}
+IsApplication x = ⊥
+
+abbrev pub IsSlider : Tree → Type 0
+IsSlider (tree.Slider s k n x0 x1 x2 x3) = Unit {0}
+IsSlider x = ⊥
 
 -- ---- what waits for a value is that
 
@@ -104,17 +123,26 @@ pub record ShowsBodies (w : World) (iteration e : ℕ) (is : List ℕ) (kind : R
   pub env : ShowsEnv w e E
   pub done : AllDraw w is ds
 
+-- the slots from this one on have numbers
+abbrev pub AreNumbered : (slot slots : ℕ) → Type 0
+AreNumbered slot slots = slot + slots < 2 ^ 64
+
+-- the indices of bodies that are done and of bodies that are left are integers
+abbrev pub AreIndexed : (done left : ℕ) → Type 0
+AreIndexed done left = done + left < 2 ^ 31
+
 abbrev pub ShowsForDiagram : World → code_for_diagram.ForDiagram → ForDiagram → Type 0
 ShowsForDiagram w (drawn.Left b e) (Left o y E) = (s : ℕ) × (x : Tree) × ShowsTree w b (tree.Binary s o x y) × ShowsEnv w e E
 ShowsForDiagram w (drawn.Right o i) (Right p a) = (o ≡ p) × Draws w i a
 ShowsForDiagram w drawn.Later Later = Unit {0}
 ShowsForDiagram w drawn.Negated Negated = Unit {0}
 ShowsForDiagram w (drawn.Ports s) (Ports t) = s ≡ t
-ShowsForDiagram w (drawn.Binding s n) (Binding t m) = (s ≡ t) × (n ≡ m)
+ShowsForDiagram w (drawn.Binding s n) (Binding t m) = (s ≡ t) × (n ≡ m) × AreNumbered s n
 ShowsForDiagram w (drawn.Turning i us next is) (Turning f vs ds) = Draws w i f × ShowsValues w (drop next us.items) vs × AllDraw w is.items ds
 ShowsForDiagram w (drawn.Counting a e) (Counting r x s b E) =
     (t n : ℕ) × (c : Tree) × ShowsTree w a (tree.Iteration t r n c b) × (x ≡ text_of w.tree.tokens n) × (s ≡ start_of c) × ShowsEnv w e E
-ShowsForDiagram w (drawn.Body a e left is) (Body r x b E i n ds) = ShowsBodies w a e is.items r x b E ds × (i ≡ suc (length is.items)) × (left ≡ n)
+ShowsForDiagram w (drawn.Body a e left is) (Body r x b E i n ds) =
+    ShowsBodies w a e is.items r x b E ds × (i ≡ suc (length is.items)) × (left ≡ n) × AreIndexed (suc (length is.items)) left
 ShowsForDiagram w drawn.Finish Finish = Unit {0}
 ShowsForDiagram w f g = ⊥
 
@@ -185,12 +213,15 @@ AreShown w us = (vs : List Value) × ShowsValues w us vs
 abbrev pub ValuedShown : World → code_for_value.ForValue → Type 0
 ValuedShown w f = (F : ForValue) × ShowsForValue w f F
 
+-- What waits for a diagram is there: nodes of their forms, diagrams, and numbers that have their types.
 abbrev pub DrawnThere : World → code_for_diagram.ForDiagram → Type 0
-DrawnThere w (drawn.Left b e) = b < size_of w.tree
+DrawnThere w (drawn.Left b e) = (b < size_of w.tree) × IsBinary (tree_in w.tree b)
 DrawnThere w (drawn.Right o i) = i < count_of w.diagrams
+DrawnThere w (drawn.Binding s n) = AreNumbered s n
 DrawnThere w (drawn.Turning i us next is) = (i < count_of w.diagrams) × AreThere w.diagrams is.items
-DrawnThere w (drawn.Counting a e) = a < size_of w.tree
-DrawnThere w (drawn.Body a e left is) = (a < size_of w.tree) × AreThere w.diagrams is.items
+DrawnThere w (drawn.Counting a e) = (a < size_of w.tree) × IsIteration (tree_in w.tree a)
+DrawnThere w (drawn.Body a e left is) =
+    (a < size_of w.tree) × IsIteration (tree_in w.tree a) × AreThere w.diagrams is.items × AreIndexed (suc (length is.items)) left
 DrawnThere w f = Unit {0}
 
 -- ---- machines

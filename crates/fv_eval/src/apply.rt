@@ -1,17 +1,17 @@
 // Application.
 
 ghost use Rattle.std.specs.Prelude.{ℕ, ◌≡◌, ◌<◌, ◌∷◌, List, None, IfOk, drop, length};
-ghost use Rattle.fv_grammar.specs.Tree.{Tree as Spelled, Apply, items, start_of};
+ghost use Rattle.fv_parse_grammar.specs.Tree.{Tree as Spelled, Apply, items, start_of};
 ghost use Rattle.fv_parse.specs.Trees.{Parsed, size_of, tree_in};
 ghost use Rattle.fv_rules.specs.Values.{Env, Taken, Value as Meant};
 ghost use Rattle.fv_rules.specs.Steps.{no_rule};
 ghost use Rattle.fv_rules.specs.Shows.{IsInside, ShowsEnv, ShowsTaken, ShowsTree, ShowsValue, ShowsValues};
-ghost use Rattle.fv_machine.specs.Machine.{Leftover as Left, Running, Valued, Visit, apply, next_argument};
-ghost use Rattle.fv_eval.specs.Frames.{AreShown, Chooses, Completes, Grew, IsShown, IsThere, Selects, ShowsTaking, Steps, completed, took, world};
+ghost use Rattle.fv_eval_machine.specs.Machine.{Leftover as Left, Running, Valued, Visit, apply, next_argument};
+ghost use Rattle.fv_eval.specs.Frames.{AreShown, Chooses, Completes, Grew, IsApplication, IsShown, Selects, ShowsTaking, Steps, completed, took, world};
 
 use crate::frame::{Focus, ForValue, Frame};
 use crate::machine::Machine;
-use crate::names::{body_of, parameter};
+use crate::names::{body_of, parameter, parameters};
 use fv_parse::{Tree, TreeId, TreeNode};
 use fv_rules::{Bindings, Definitions, EvalRefusal, Ruled, Value};
 use std::alloc::AllocError;
@@ -27,6 +27,7 @@ impl Machine {
         done: Vec<Value>,
     ) -> Result<Focus, EvalRefusal>
         requires application { application < size_of text.now }
+        requires form { IsApplication (tree_in text.now application) }
         requires function { IsShown (world text.now self.old) function }
         requires done { AreShown (world text.now self.old) done.items }
         ensures { (s : ℕ) (f ys : Spelled) (v : Meant) (E : Env) (vs : List Meant) → ShowsTree (world text.now self.old) application (Apply s f ys)
@@ -35,7 +36,7 @@ impl Machine {
     {
         let tree = text.tree();
         let TreeNode::Apply(_, list) = tree.node(application) else {
-            return Err(EvalRefusal::NoMemory);
+            unreachable!();
         };
         match tree.items(*list).get(done.len()) {
             Some(id) => {
@@ -89,7 +90,7 @@ impl Machine {
         function: &Value,
         argument: Value,
     ) -> Result<Option<Value>, AllocError>
-        requires { IsThere (world text.now self.old) function.now }
+        requires { IsShown (world text.now self.old) function.now }
         ensures grew { Grew text.now self.old self.new }
         ensures took { IfOk result (λ o. (v a : Meant) → ShowsValue (world text.now self.old) function.now v → ShowsValue (world text.now self.old) argument a
             → ShowsTaking (world text.now self.new) o (took v a)) }
@@ -128,19 +129,18 @@ impl Machine {
         env: u64,
         argument: Value,
     ) -> Result<Option<Value>, AllocError>
-        requires { node < size_of tree.now }
+        requires { IsShown (world tree.now self.old) (Value.Abstraction node bound env) }
         ensures grew { Grew tree.now self.old self.new }
         ensures took { IfOk result (λ o. (v a : Meant) → ShowsValue (world tree.now self.old) (Value.Abstraction node bound env) v
             → ShowsValue (world tree.now self.old) argument a → ShowsTaking (world tree.now self.new) o (took v a)) }
     {
-        let Some(more) = bound.checked_add(1) else {
-            return Err(AllocError);
-        };
-        if parameter(tree, node, more).is_none() {
+        let count = parameters(tree, node);
+        let more = bound + 1;
+        if count <= more {
             return Ok(None);
         }
         let Some(name) = parameter(tree, node, bound) else {
-            return Err(AllocError);
+            unreachable!();
         };
         let inner = self.scopes.bind(name, argument, env)?;
         Ok(Some(Value::Abstraction {
@@ -173,7 +173,7 @@ impl Machine {
             Value::Abstraction { node, bound, env } => {
                 let tree = text.tree();
                 let Some(name) = parameter(tree, node, bound) else {
-                    return Err(EvalRefusal::NoMemory);
+                    unreachable!();
                 };
                 let inner = self.scopes.bind(name, arguments[at], env)?;
                 self.leave(application, arguments, at, body_of(tree, node), inner)
@@ -205,14 +205,11 @@ impl Machine {
         ensures grew { IfOk result (λ o. Grew text.now self.old self.new) }
         ensures chosen { IfOk result (Chooses text.now self.old self.new ruled count last argument) }
     {
-        let last = self.scopes.take(argument, last)?;
-        let Some(count) = count.checked_add(1) else {
-            return Err(AllocError);
-        };
-        let taken = self.scopes.arguments(self.alloc, count, last)?;
+        let mut all = self.scopes.arguments(self.alloc, count, last)?;
+        all.push(argument)?;
         let choice = self
             .drawing
-            .choose(self.alloc, text, ruled, taken.as_slice())?;
+            .choose(self.alloc, text, ruled, all.as_slice())?;
         Ok(choice)
     }
 

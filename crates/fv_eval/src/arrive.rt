@@ -2,25 +2,25 @@
 
 ghost use Rattle.std.specs.Prelude.{ℕ, ◌≡◌, ◌<◌, ◌∷◌, IfOk};
 ghost use Rattle.fv_parse.specs.Trees.{Parsed, size_of, tree_in};
-ghost use Rattle.fv_grammar.specs.Tree.{Tree, Binary};
-ghost use Rattle.fv_grammar.specs.declared.form.Operator.{Operator as Op};
+ghost use Rattle.fv_parse_grammar.specs.Tree.{Tree, Binary};
+ghost use Rattle.fv_parse_grammar.specs.declared.form.Operator.{Operator as Op};
 ghost use Rattle.fv_diagram.specs.Diagram.{Diagram};
 ghost use Rattle.fv_diagram.specs.Arena.{count_of};
 ghost use Rattle.fv_rules.specs.Values.{Env, Flat, Value as Meant};
 ghost use Rattle.fv_rules.specs.Matching.{settled};
 ghost use Rattle.fv_rules.specs.Rules.{ports};
 ghost use Rattle.fv_rules.specs.Shows.{Draws, ShowsEnv, ShowsTree, ShowsValue};
-ghost use Rattle.fv_machine.specs.Machine.{Drawn, ForDiagram as Drawing, ForValue as Valuing, Give, Right, Running, Visit, arrives, diagram_arrives};
-ghost use Rattle.fv_machine.specs.Machine.{value_arrives};
-ghost use Rattle.fv_compose.specs.Makes.{IsThere as IsDrawn};
+ghost use Rattle.fv_eval_machine.specs.Machine.{Drawn, ForDiagram as Drawing, ForValue as Valuing, Give, Right, Running, Visit, arrives, diagram_arrives};
+ghost use Rattle.fv_eval_machine.specs.Machine.{value_arrives};
+ghost use Rattle.fv_eval_drawing.specs.Makes.{IsThere as IsDrawn};
 ghost use Rattle.fv_eval.specs.declared.frame.Focus.TheVariants.{Give as Gives};
-ghost use Rattle.fv_eval.specs.Frames.{DrawnThere, gave, Grew, IsShown, Runs, ShowsForDiagram, ShowsForValue, Steps, ValuedShown, world};
+ghost use Rattle.fv_eval.specs.Frames.{DrawnThere, gave, Grew, IsBinary, IsShown, Runs, ShowsForDiagram, ShowsForValue, Steps, ValuedShown, world};
 
 use crate::frame::{Focus, ForDiagram, ForValue, Frame};
 use crate::machine::Machine;
 use fv_diagram::DiagramId;
-use fv_grammar::Side;
 use fv_parse::{TreeId, TreeNode};
+use fv_parse_grammar::Side;
 use fv_rules::{Definitions, EvalRefusal, Value};
 use std::alloc::AllocError;
 
@@ -143,13 +143,14 @@ impl Machine {
         env: u64,
         left: DiagramId,
     ) -> Result<Focus, EvalRefusal>
-        requires { binary < size_of text.now }
+        requires inside { binary < size_of text.now }
+        requires form { IsBinary (tree_in text.now binary) }
         ensures { (s : ℕ) (o : Op) (x y : Tree) (E : Env) (a : Diagram) → ShowsTree (world text.now self.old) binary (Binary s o x y)
             → ShowsEnv (world text.now self.old) env E
             → Draws (world text.now self.old) left a → Steps text.now self.old self.new result (λ Fs t. Running (Visit y E) (Drawn (Right o a) ∷ Fs) t) }
     {
         let TreeNode::Binary(operator, _, y) = text.tree().node(binary) else {
-            return Err(EvalRefusal::NoMemory);
+            unreachable!();
         };
         let frame = ForDiagram::Right {
             operator: *operator,

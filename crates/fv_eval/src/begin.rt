@@ -1,22 +1,22 @@
 // The visit of a tree.
 
 ghost use Rattle.std.specs.Prelude.{ℕ, ◌≡◌, ◌<◌, List, [], ◌∷◌};
-ghost use Rattle.fv_grammar.specs.Tree.{Tree};
-ghost use Rattle.fv_grammar.specs.declared.form.Slider.{Slider as SliderKind};
+ghost use Rattle.fv_parse_grammar.specs.Tree.{Tree};
+ghost use Rattle.fv_parse_grammar.specs.declared.form.Slider.{Slider as SliderKind};
 ghost use Rattle.fv_parse.specs.Trees.{Parsed, size_of, tree_in};
 ghost use Rattle.fv_diagram.specs.Diagram.{Constant, Primitive as Leaf};
 ghost use Rattle.fv_rules.specs.Values.{Env, Flat, Name};
 ghost use Rattle.fv_rules.specs.Rules.{slider_kind};
 ghost use Rattle.fv_rules.specs.Shows.{IsNamed, ShowsEnv, ShowsTree};
-ghost use Rattle.fv_machine.specs.Machine.{Call, Frame as Waiting, Give, Running, Visit, next_parameter};
-ghost use Rattle.fv_eval.specs.Frames.{Begins, ShowsFrame, ShowsSlider, Steps, world};
+ghost use Rattle.fv_eval_machine.specs.Machine.{Call, Frame as Waiting, Give, Running, Visit, next_parameter};
+ghost use Rattle.fv_eval.specs.Frames.{Begins, IsSlider, ShowsFrame, ShowsSlider, Steps, world};
 
 use crate::frame::{Focus, ForDiagram, ForValue, Frame};
 use crate::machine::Machine;
 use crate::names::canonical;
 use crate::turn::not_a_diagram;
-use fv_compose::primitive_of;
 use fv_diagram::{Node, Prim};
+use fv_eval_drawing::primitive_of;
 use fv_parse::{TreeId, TreeNode};
 use fv_rules::{Definitions, EvalRefusal, Ruled, Value, literal, negative_literal};
 
@@ -57,7 +57,8 @@ impl Machine {
 
     // The first parameter of a slider is visited.
     fn slider(&mut self, text: &Definitions, id: TreeId, env: u64) -> Result<Focus, EvalRefusal>
-        requires { id < size_of text.now }
+        requires inside { id < size_of text.now }
+        requires form { IsSlider (tree_in text.now id) }
         ensures { (k : SliderKind) (label : List ℕ) (E : Env) (xs : List Tree) → ShowsSlider (world text.now self.old) id env 0 k label E xs
             → Steps text.now self.old self.new result (λ Fs s. next_parameter (slider_kind k) label xs E [] Fs s) }
     {

@@ -6,7 +6,7 @@ ghost use Rattle.fv_rules.specs.Steps.{is_alike, is_kind};
 ghost use Rattle.fv_eval.specs.Controls.{Enters};
 
 use fv_diagram::{ControlInfo, ControlKind};
-use fv_rules::EvalRefusal;
+use fv_rules::{EvalRefusal, too_many_to_count};
 use indexmap::IndexSet;
 use std::alloc::Global;
 use std::marker::Model;
@@ -85,7 +85,7 @@ fn number(i: usize) -> Result<u32, EvalRefusal>
 {
     match u32::try_from(i) {
         Ok(n) => Ok(n),
-        Err(_too_large) => Err(EvalRefusal::NoMemory),
+        Err(_too_large) => Err(EvalRefusal::from(too_many_to_count())),
     }
 }
 

@@ -1,8 +1,8 @@
 // Iteration.
 
 ghost use Rattle.std.specs.Prelude.{ℕ, ◌≡◌, ◌<◌, List, length};
-ghost use Rattle.fv_grammar.specs.Tree.{Tree as Spelled, Iteration, start_of};
-ghost use Rattle.fv_grammar.specs.declared.form.Iteration.{Iteration as Repetition};
+ghost use Rattle.fv_parse_grammar.specs.Tree.{Tree as Spelled, Iteration, start_of};
+ghost use Rattle.fv_parse_grammar.specs.declared.form.Iteration.{Iteration as Repetition};
 ghost use Rattle.fv_parse.specs.Trees.{size_of, text_of, tree_in};
 ghost use Rattle.fv_diagram.specs.Diagram.{Diagram};
 ghost use Rattle.fv_diagram.specs.Arena.{count_of};
@@ -11,9 +11,9 @@ ghost use Rattle.fv_rules.specs.Numbers.{number_of};
 ghost use Rattle.fv_rules.specs.Steps.{no_number};
 ghost use Rattle.fv_rules.specs.Rules.{counted};
 ghost use Rattle.fv_rules.specs.Shows.{Draws, ShowsEnv, ShowsTree};
-ghost use Rattle.fv_machine.specs.Machine.{first_body, next_body};
-ghost use Rattle.fv_compose.specs.Makes.{AreThere};
-ghost use Rattle.fv_eval.specs.Frames.{ShowsBodies, Steps, world};
+ghost use Rattle.fv_eval_machine.specs.Machine.{first_body, next_body};
+ghost use Rattle.fv_eval_drawing.specs.Makes.{AreThere};
+ghost use Rattle.fv_eval.specs.Frames.{AreIndexed, IsIteration, ShowsBodies, Steps, world};
 
 use crate::arrive::give;
 use crate::frame::{Focus, ForDiagram, Frame};
@@ -33,6 +33,7 @@ impl Machine {
         diagram: DiagramId,
     ) -> Result<Focus, EvalRefusal>
         requires iteration { iteration < size_of text.now }
+        requires form { IsIteration (tree_in text.now iteration) }
         requires diagram { diagram < count_of self.old.drawing }
         ensures { (s : ℕ) (r : Repetition) (n : ℕ) (c b : Spelled) (E : Env) (d : Diagram) → ShowsTree (world text.now self.old) iteration (Iteration s r n c b)
             → ShowsEnv (world text.now self.old) env E → Draws (world text.now self.old) diagram d
@@ -41,7 +42,7 @@ impl Machine {
     {
         let tree = text.tree();
         let TreeNode::Iteration(_, _, x, _) = tree.node(iteration) else {
-            return Err(EvalRefusal::NoMemory);
+            unreachable!();
         };
         match self.drawing.number_of(self.alloc, diagram)? {
             None => Err(not_a_number(tree, *x)),
@@ -65,21 +66,21 @@ impl Machine {
         done: Vec<DiagramId>,
     ) -> Result<Focus, EvalRefusal>
         requires iteration { iteration < size_of text.now }
+        requires form { IsIteration (tree_in text.now iteration) }
         requires done { AreThere self.old.drawing done.items }
+        requires indexed { AreIndexed (length done.items) left }
         ensures { (r : Repetition) (x : Name) (b : Spelled) (E : Env) (ds : List Diagram)
             → ShowsBodies (world text.now self.old) iteration env done.items r x b E ds
             → Steps text.now self.old self.new result (λ Fs t. next_body r x b E (length done.items) left ds Fs t) }
     {
         let tree = text.tree();
         let TreeNode::Iteration(kind, name, _, body) = tree.node(iteration) else {
-            return Err(EvalRefusal::NoMemory);
+            unreachable!();
         };
         if left == 0 {
             return give(self.drawing.gather(*kind, done));
         }
-        let Ok(index) = i32::try_from(done.len()) else {
-            return Err(EvalRefusal::NoMemory);
-        };
+        let index = done.len() as i32;
         let number = self.drawing.leaf(&Node::Number(index))?;
         let name = canonical(tree, *name);
         let inner = self.scopes.bind(name, Value::Diagram(number), env)?;

@@ -1,21 +1,21 @@
 // The machine: its lists, and one step.
 
 ghost use Rattle.std.specs.Prelude.{ℕ, ◌≡◌, ◌<◌, ◌-◌, [], ◌∷◌, MatchBool};
-ghost use Rattle.fv_grammar.specs.Tree.{Tree};
+ghost use Rattle.fv_parse_grammar.specs.Tree.{Tree};
 ghost use Rattle.fv_parse.specs.Trees.{Parsed};
 ghost use Rattle.fv_diagram.specs.Arena.{empty_arena};
 ghost use Rattle.fv_rules.specs.Values.{Env, Name, Scope, Value as Meant};
 ghost use Rattle.fv_rules.specs.Steps.{Outcome};
 ghost use Rattle.fv_rules.specs.Shows.{IsNamed, ShowsEnv, ShowsTree};
-ghost use Rattle.fv_machine.specs.Machine.{Call, Config, Frame as Waiting, Running, Visit, step};
+ghost use Rattle.fv_eval_machine.specs.Machine.{Call, Config, Frame as Waiting, Running, Visit, step};
 ghost use Rattle.fv_eval.specs.Frames.{Continues, Ends, Goes, Runs, ShowsFrame, Steps, state_of, world};
 
 use crate::controls::Controls;
 use crate::frame::{Focus, Frame, Frames};
-use fv_compose::Drawing;
-use fv_machine::steps_mean;
+use fv_eval_drawing::Drawing;
+use fv_eval_machine::steps_mean;
 use fv_parse::TreeId;
-use fv_rules::{Definitions, EvalRefusal, Scopes, Value};
+use fv_rules::{Definitions, EvalRefusal, Scopes, Value, too_many_to_count};
 use std::alloc::Global;
 
 /// The lists of an evaluation.
@@ -122,7 +122,6 @@ impl Machine {
     {
         steps_mean();
         let mut focus = first;
-        // The steps of an evaluation never end this range.
         'stepping: for _ in 0..u64::MAX {
             match self.step(text, focus) {
                 Ok(Focus::Done(value)) => return Ok(value),
@@ -130,6 +129,6 @@ impl Machine {
                 Err(refusal) => return Err(refusal),
             }
         }
-        Err(EvalRefusal::NoMemory)
+        Err(EvalRefusal::from(too_many_to_count()))
     }
 }

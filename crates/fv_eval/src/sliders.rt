@@ -1,24 +1,24 @@
 // Buttons, checkboxes and sliders.
 
-ghost use Rattle.std.specs.Prelude.{ℕ, ◌≡◌, ◌<◌, ◌∷◌, List, IfOk, IfSome, length, option_map, slice_get};
-ghost use Rattle.fv_grammar.specs.Tree.{Tree as Spelled, Slider as SliderTree, start_of};
-ghost use Rattle.fv_grammar.specs.declared.form.Slider.{Slider as SliderKind};
+ghost use Rattle.std.specs.Prelude.{ℕ, ◌≡◌, ◌<◌, ◌≤◌, ◌∷◌, List, IfOk, IfSome, length, option_map, slice_get};
+ghost use Rattle.fv_parse_grammar.specs.Tree.{Tree as Spelled, Slider as SliderTree, start_of};
+ghost use Rattle.fv_parse_grammar.specs.declared.form.Slider.{Slider as SliderKind};
 ghost use Rattle.fv_parse.specs.Trees.{Parsed, label_of, size_of, tree_in};
 ghost use Rattle.fv_rules.specs.Values.{Env, Value as Meant};
 ghost use Rattle.fv_rules.specs.Matching.{value_number};
 ghost use Rattle.fv_rules.specs.Steps.{control};
 ghost use Rattle.fv_rules.specs.Rules.{flat, read_number, slider_info, slider_kind, switch_info, switch_kind};
 ghost use Rattle.fv_rules.specs.Shows.{ShowsValue};
-ghost use Rattle.fv_compose.specs.Makes.{IsThere as IsDrawn};
-ghost use Rattle.fv_machine.specs.Machine.{given, next_parameter, parameter_read};
-ghost use Rattle.fv_eval.specs.Frames.{IsThere, ShowsSlider, Steps, parameters_of, world};
+ghost use Rattle.fv_eval_drawing.specs.Makes.{IsThere as IsDrawn};
+ghost use Rattle.fv_eval_machine.specs.Machine.{given, next_parameter, parameter_read};
+ghost use Rattle.fv_eval.specs.Frames.{IsSlider, IsThere, ShowsSlider, Steps, parameters_of, world};
 
 use crate::frame::{Focus, ForValue, Frame};
 use crate::iterate::not_a_number;
 use crate::machine::Machine;
 use fv_diagram::{ControlInfo, ControlKind, Label, Node};
-use fv_grammar::{Slider, Switch};
 use fv_parse::{Tree, TreeId, TreeNode};
+use fv_parse_grammar::{Slider, Switch};
 use fv_rules::{Definitions, EvalRefusal, Value};
 use std::alloc::AllocError;
 
@@ -97,7 +97,8 @@ impl Machine {
         env: u64,
         done: Vec<i32>,
     ) -> Result<Focus, EvalRefusal>
-        requires { slider < size_of text.now }
+        requires slider { slider < size_of text.now }
+        requires form { IsSlider (tree_in text.now slider) }
         ensures { (k : SliderKind) (label : List ℕ) (E : Env) (xs : List Spelled)
             → ShowsSlider (world text.now self.old) slider env (length done.items) k label E xs
             → Steps text.now self.old self.new result (λ Fs s. next_parameter (slider_kind k) label xs E done.items Fs s) }
@@ -119,16 +120,18 @@ impl Machine {
         slider: TreeId,
         numbers: &[i32],
     ) -> Result<Focus, EvalRefusal>
-        requires { slider < size_of tree.now }
+        requires slider { slider < size_of tree.now }
+        requires form { IsSlider (tree_in tree.now slider) }
+        requires numbers { 4 ≤ length numbers.now }
         ensures { (s : ℕ) (k : SliderKind) (n : ℕ) (x0 x1 x2 x3 : Spelled) → tree_in tree.now slider ≡ SliderTree s k n x0 x1 x2 x3
             → Steps tree.now self.old self.new result
             (λ Fs t. given (flat (control (slider_info (slider_kind k) (label_of tree.now.tokens n) numbers.now)) t) Fs) }
     {
         let TreeNode::Slider(kind, n, _, _, _, _) = tree.node(slider) else {
-            return Err(EvalRefusal::NoMemory);
+            unreachable!();
         };
         let [init, min, max, ..] = numbers else {
-            return Err(EvalRefusal::NoMemory);
+            unreachable!();
         };
         let label = Label::new(self.alloc, tree.label(*n))?;
         self.control(ControlInfo {
@@ -162,6 +165,8 @@ impl Machine {
         value: Value,
     ) -> Result<Focus, EvalRefusal>
         requires slider { slider < size_of text.now }
+        requires form { IsSlider (tree_in text.now slider) }
+        requires left { length done.items < 4 }
         requires value { IsThere (world text.now self.old) value }
         ensures { (k : SliderKind) (label : List ℕ) (E : Env) (x : Spelled) (more : List Spelled) (v : Meant)
             → ShowsSlider (world text.now self.old) slider env (length done.items) k label E (x ∷ more) → ShowsValue (world text.now self.old) value v
@@ -177,7 +182,7 @@ impl Machine {
                 let tree = text.tree();
                 match part_of(tree, slider, done.len()) {
                     Some(id) => Err(not_a_number(tree, id)),
-                    None => Err(EvalRefusal::NoMemory),
+                    None => unreachable!(),
                 }
             }
         }

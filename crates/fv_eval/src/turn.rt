@@ -1,7 +1,7 @@
 // Values that are turned into diagrams.
 
 ghost use Rattle.std.specs.Prelude.{ℕ, ◌≡◌, ◌<◌, ◌-◌, ◌+◌, List, IfOk, drop, length};
-ghost use Rattle.fv_grammar.specs.Tree.{start_of};
+ghost use Rattle.fv_parse_grammar.specs.Tree.{start_of};
 ghost use Rattle.fv_parse.specs.Trees.{Parsed, size_of, tree_in};
 ghost use Rattle.fv_diagram.specs.Diagram.{Diagram};
 ghost use Rattle.fv_diagram.specs.Arena.{count_of};
@@ -9,9 +9,9 @@ ghost use Rattle.fv_rules.specs.Values.{Env, Value as Meant};
 ghost use Rattle.fv_rules.specs.Steps.{no_diagram};
 ghost use Rattle.fv_rules.specs.Rules.{on_slots};
 ghost use Rattle.fv_rules.specs.Shows.{Draws, IsInside, ShowsEnv, ShowsValue, ShowsValues, begins_in, parameters_in};
-ghost use Rattle.fv_machine.specs.Machine.{ForDiagram as Drawing, next_turned, to_diagram};
-ghost use Rattle.fv_compose.specs.Makes.{AreThere};
-ghost use Rattle.fv_eval.specs.Frames.{AllDraw, DrawnThere, IsThere, ShowsForDiagram, Slots, Steps, world};
+ghost use Rattle.fv_eval_machine.specs.Machine.{ForDiagram as Drawing, next_turned, to_diagram};
+ghost use Rattle.fv_eval_drawing.specs.Makes.{AreThere};
+ghost use Rattle.fv_eval.specs.Frames.{AllDraw, DrawnThere, IsShown, ShowsForDiagram, Slots, Steps, world};
 
 use crate::arrive::give;
 use crate::frame::{Focus, ForDiagram, Frame};
@@ -19,7 +19,7 @@ use crate::machine::Machine;
 use crate::names::{body_of, parameter, parameters};
 use fv_diagram::{DiagramId, Node};
 use fv_parse::{Tree, TreeId};
-use fv_rules::{Definitions, EvalRefusal, Ruled, Value};
+use fv_rules::{Definitions, EvalRefusal, Ruled, Value, too_many_to_count};
 use std::alloc::AllocError;
 
 impl Machine {
@@ -31,7 +31,7 @@ impl Machine {
         value: Value,
     ) -> Result<Focus, EvalRefusal>
         requires frame { DrawnThere (world text.now self.old) frame }
-        requires value { IsThere (world text.now self.old) value }
+        requires value { IsShown (world text.now self.old) value }
         ensures { (F : Drawing) (v : Meant) → ShowsForDiagram (world text.now self.old) frame F → ShowsValue (world text.now self.old) value v
             → Steps text.now self.old self.new result (λ Fs s. to_diagram text.now.tokens F v Fs s) }
     {
@@ -42,11 +42,10 @@ impl Machine {
                 let slot = self.slot;
                 let count = parameters(tree, node);
                 let inner = self.on_slots(tree, node, bound, count, env)?;
+                let slots = self.slot - slot;
                 self.frames.push(Frame::Drawn(frame))?;
-                self.frames.push(Frame::Drawn(ForDiagram::Binding {
-                    slot,
-                    slots: count.saturating_sub(bound),
-                }))?;
+                self.frames
+                    .push(Frame::Drawn(ForDiagram::Binding { slot, slots }))?;
                 Ok(Focus::Visit {
                     id: body_of(tree, node),
                     env: inner,
@@ -65,7 +64,8 @@ impl Machine {
         count: u64,
         env: u64,
     ) -> Result<u64, AllocError>
-        requires { node < size_of tree.now }
+        requires node { node < size_of tree.now }
+        requires count { count ≡ length (parameters_in tree.now.tokens (tree_in tree.now node)) }
         ensures slots { IfOk result (λ e. Slots tree.now self.old self.new (count - bound)) }
         ensures env { IfOk result (λ e. (E : Env) → count ≡ length (parameters_in tree.now.tokens (tree_in tree.now node)) → 0 < count
             → ShowsEnv (world tree.now self.old) env E
@@ -74,10 +74,10 @@ impl Machine {
         let mut inner = env;
         'binding: for i in bound..count {
             let Some(name) = parameter(tree, node, i) else {
-                return Err(AllocError);
+                unreachable!();
             };
             let Some(next) = self.slot.checked_add(1) else {
-                return Err(AllocError);
+                return Err(too_many_to_count());
             };
             let slot = self.drawing.leaf(&Node::Slot(self.slot))?;
             inner = self.scopes.bind(name, Value::Diagram(slot), inner)?;
@@ -103,9 +103,7 @@ impl Machine {
         match arguments.get(at as usize) {
             Some(value) => {
                 let value = *value;
-                let Some(next) = at.checked_add(1) else {
-                    return Err(EvalRefusal::NoMemory);
-                };
+                let next = at + 1;
                 self.frames.push(Frame::Drawn(ForDiagram::Turning {
                     function,
                     arguments,

@@ -1,7 +1,7 @@
 // The evaluation of a whole program.
 
 ghost use Rattle.std.specs.Prelude.{ℕ, ◌≡◌, ◌⊎◌, ◌<◌, [], false, codes, filter, IfErr, IfNone, IfOk, IfSome, Ok, Err};
-ghost use Rattle.fv_grammar.specs.Tree.{items};
+ghost use Rattle.fv_parse_grammar.specs.Tree.{items};
 ghost use Rattle.fv_parse.specs.Trees.{first_named, program_of, size_of, text_of, tree_in};
 ghost use Rattle.fv_diagram.specs.Diagram.{HasNumbers};
 ghost use Rattle.fv_diagram.specs.Arena.{count_of, tree_of};
@@ -10,7 +10,7 @@ ghost use Rattle.fv_rules.specs.declared.value.Value.TheVariants.{Diagram};
 ghost use Rattle.fv_rules.specs.Values.{is_of};
 ghost use Rattle.fv_rules.specs.Rules.{program_value, start};
 ghost use Rattle.fv_rules.specs.Sound.{IsSoundProgram};
-ghost use Rattle.fv_machine.specs.Machine.{first, meaning};
+ghost use Rattle.fv_eval_machine.specs.Machine.{first, meaning};
 ghost use Rattle.fv_eval.specs.Frames.{Continues};
 ghost use Rattle.fv_eval.specs.Names.{defined_by};
 
@@ -19,15 +19,13 @@ use crate::frame::{Focus, ForDiagram, Frame};
 use crate::machine::Machine;
 use crate::names::canonical;
 use fv_base::Word;
+use fv_base::limits::VISIT_LIMIT;
 use fv_diagram::{DiagramId, Diagrams};
-use fv_machine::steps_mean;
+use fv_eval_machine::steps_mean;
 use fv_parse::{Tree, TreeId, TreeNode};
 use fv_rules::{Definitions, EvalRefusal, Value, evaluates_soundly};
 use std::alloc::{AllocError, Global};
 use std::marker::Model;
-
-/// The visits of an evaluation.
-const VISIT_LIMIT: u32 = 1_000_000;
 
 /// A program's diagram, with the arena that it is in, and its controls. It can run: all that it is composed of fits, each of
 /// its slots is bound, and it reads no control but these.
@@ -103,13 +101,14 @@ fn started(alloc: Global, tree: &Tree, name: u64) -> Result<(Machine, Focus), Al
 
 // The program of a machine that is done.
 fn finished(machine: Machine, value: Value) -> Result<Program, EvalRefusal>
-    requires { (i : ℕ) → value ≡ Diagram i → (i < count_of machine.drawing) × IsSoundProgram (tree_of machine.drawing i) machine.controls }
+    requires flat { (i : ℕ) × (value ≡ Diagram i) }
+    requires sound { (i : ℕ) → value ≡ Diagram i → (i < count_of machine.drawing) × IsSoundProgram (tree_of machine.drawing i) machine.controls }
     ensures program { IfOk result (λ p. (value ≡ Diagram p.root) × (p.diagrams ≡ machine.drawing) × (p.controls ≡ machine.controls)) }
     ensures refusal { IfErr result (λ e. e ≡ NoMemory) }
     ensures numbers { IfOk result (λ p. HasNumbers (tree_of p.diagrams p.root)) }
 {
     let Value::Diagram(root) = value else {
-        return Err(EvalRefusal::NoMemory);
+        unreachable!();
     };
     let diagrams = machine.drawing.finish();
     // The arena says here that every number in the diagram has 32 bits.

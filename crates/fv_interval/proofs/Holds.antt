@@ -1,5 +1,6 @@
 -- The answers of a diagram lie in the spans of its outputs.
-use Rattle.std.proofs.Common.{◌≡◌, ℕ, zero, suc, ◌+◌, ◌-◌, ◌%◌, ◌<◌, ◌≤◌, List, [], ◌∷◌, ◌++◌, length, map, reverse, take, drop, get_or, replicate, refl, sym, ap, ap₂, ◌∙◌, subst, arith, All, ℤ, pos, negsuc, true, false, if◌then◌else◌, nat_eq, nat_le, w32, FitsSigned}
+use Rattle.std.proofs.Common.{◌≡◌, ℕ, zero, suc, ◌+◌, ◌-◌, ◌%◌, ◌<◌, ◌≤◌, List, [], ◌∷◌, ◌++◌, length, map, reverse, take, drop, get_or, replicate}
+use Rattle.std.proofs.Common.{refl, sym, ap, ap₂, ◌∙◌, subst, arith, All, ℤ, pos, negsuc, true, false, if◌then◌else◌, nat_eq, nat_le, w32, FitsSigned}
 use Rattle.std.proofs.lemmas.List.{length-append, length-take-le, length-drop, length-replicate, length-map, length-reverse, get_or-replicate, get_or-take}
 use Rattle.std.proofs.lemmas.List.Elements.{All-get_or, All-cons, All-take}
 use Rattle.std.proofs.lemmas.Int.{ints, clamps}
@@ -13,7 +14,8 @@ use Rattle.fv_base.proofs.Lists.{length_table, table_items}
 use Rattle.fv_num.proofs.Closed.{holds, closed}
 use Rattle.fv_diagram.specs.declared.node.Primitive.{Primitive as Prim}
 use Rattle.fv_diagram.specs.declared.node.Primitive.TheVariants as prim
-use Rattle.fv_diagram.specs.Diagram.{Diagram, Primitive, Constant, Control, Slot, Bind, Par, Seq, Split, Merge, Rec, inputs, outputs, primitive_inputs, IsWellFormed}
+use Rattle.fv_diagram.specs.Diagram.{Diagram, Primitive, Constant, Control, Slot, Bind, Par, Seq, Split, Merge, Rec, inputs, outputs}
+use Rattle.fv_diagram.specs.Diagram.{primitive_inputs, IsWellFormed}
 use Rattle.fv_diagram.specs.Laws.{fed_back_over}
 use Rattle.fv_diagram.specs.Streams.{primitive_at, beside, dealt, every, added, wrapped_sum, merged, bound, fed_back, run}
 use Rattle.fv_diagram.proofs.Lists.{length_beside}

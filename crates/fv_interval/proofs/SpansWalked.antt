@@ -1,5 +1,6 @@
 -- What the walk makes of spans is what the definitions of the spans of wires and of delays say.
-use Rattle.std.proofs.Common.{◌≡◌, ℕ, suc, ◌%◌, ◌<◌, ◌≤◌, List, [], ◌∷◌, ◌++◌, length, get_or, take, drop, refl, sym, ap, ap₂, ◌∙◌, arith, append_assoc, append-nil, pos, nat_eq, inl, inr}
+use Rattle.std.proofs.Common.{◌≡◌, ℕ, suc, ◌%◌, ◌<◌, ◌≤◌, List, [], ◌∷◌, ◌++◌, length, get_or, take, drop, refl, sym, ap, ap₂, ◌∙◌, arith}
+use Rattle.std.proofs.Common.{append_assoc, append-nil, pos, nat_eq, inl, inr}
 use Rattle.std.specs.Prelude.{slice_set}
 use Rattle.std.proofs.lemmas.Bool.{cases_eq, eq-eqb, ne_eqb, cond-true, cond-false}
 use Rattle.std.proofs.lemmas.List.{length-append, length-take-le, length-drop, length-set, get_or_default, get_or-set_same, get_or-set_other, get_or-take}
@@ -11,7 +12,8 @@ use Rattle.fv_num.specs.Interval.{Interval, full, point}
 use Rattle.fv_num.specs.Spans.{span_of}
 use Rattle.fv_diagram.specs.declared.node.Primitive.{Primitive as Prim}
 use Rattle.fv_diagram.specs.declared.node.Primitive.TheVariants as prim
-use Rattle.fv_diagram.specs.Diagram.{Diagram, Primitive, Constant, Control, Slot, Bind, Par, Seq, Split, Merge, Rec, inputs, outputs, primitive_inputs, IsWellFormed}
+use Rattle.fv_diagram.specs.Diagram.{Diagram, Primitive, Constant, Control, Slot, Bind, Par, Seq, Split, Merge, Rec, inputs, outputs}
+use Rattle.fv_diagram.specs.Diagram.{primitive_inputs, IsWellFormed}
 use Rattle.fv_diagram.specs.Streams.{dealt, every}
 use Rattle.fv_diagram.specs.Walked.{walked, added, summed}
 use Rattle.fv_diagram.proofs.Sums.{every_front}

@@ -1,5 +1,6 @@
 -- The delays of a diagram, and which of them are refused (this project's profile).
 use Rattle.std.specs.Prelude.{◌≡◌, ℕ, ◌<◌, ◌≤◌, List, ◌∷◌, ◌++◌, map, sum, All, pos, ◌≤ℤ◌, ◌<ℤ◌, unsigned_abs}
+use Rattle.fv_base.specs.declared.limits.TheConstants.{DELAY_BUDGET, DELAY_LIMIT}
 use Rattle.fv_num.specs.Frames.{table}
 use Rattle.fv_num.specs.Interval.{Interval, full}
 use Rattle.fv_diagram.specs.Diagram.{Diagram, inputs}
@@ -14,11 +15,11 @@ delays_of d controls = delay_spans d (control_span controls) (λ s. full) (table
 
 -- no delay is greater
 abbrev pub delay_limit : ℕ
-delay_limit = 1048575
+delay_limit = DELAY_LIMIT
 
 -- no sum of delays is greater
 abbrev pub delay_budget : ℕ
-delay_budget = 16777216
+delay_budget = DELAY_BUDGET
 
 -- a diagram has no more delays: each node of at most 16384 has one, or one for each of at most 81920 wires that are fed back
 abbrev pub most_delays : ℕ

@@ -4,11 +4,13 @@ ghost use Rattle.std.specs.Prelude.{◌≡◌, ◌<◌, ◌≤◌, ℕ, length, 
 ghost use Rattle.fv_num.specs.Interval.{Interval};
 ghost use Rattle.fv_diagram.specs.Diagram.{inputs, control_bound, IsWellFormed, HasNoFreeSlot};
 ghost use Rattle.fv_diagram.specs.Arena.{count_of, tree_of};
-ghost use Rattle.fv_interval.specs.Delays.{delays_of, amounts, amount, IsDelay, AreDelays, AreAccepted, IsRefused, IsSpanRefused, IsDelayRefusal, delay_limit, most_delays};
+ghost use Rattle.fv_interval.specs.Delays.{delays_of, amounts, amount, IsDelay, AreDelays, AreAccepted, IsRefused, IsSpanRefused, IsDelayRefusal};
+ghost use Rattle.fv_interval.specs.Delays.{delay_limit, most_delays};
 ghost use Rattle.fv_interval.specs.Laws.{AnswersHold, AllDelaysHold};
 
-use crate::refusal::{DELAY_BUDGET, DELAY_LIMIT, DelayRefusal};
+use crate::refusal::DelayRefusal;
 use crate::walked::{Walked, full_spans};
+use fv_base::limits::{DELAY_BUDGET, DELAY_LIMIT};
 use fv_diagram::{DiagramId, Diagrams, walk};
 use fv_num::Span;
 use std::alloc::Global;
@@ -127,7 +129,7 @@ fn delay_of(span: Span) -> Result<u32, DelayRefusal>
     if span.lo < 0 {
         return Err(DelayRefusal::DelayNegative { least: span.lo });
     }
-    if span.hi > DELAY_LIMIT {
+    if span.hi > DELAY_LIMIT as i32 {
         return Err(DelayRefusal::DelayTooLong { greatest: span.hi });
     }
     Ok(span.hi as u32)

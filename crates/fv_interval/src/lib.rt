@@ -8,4 +8,4 @@ mod walked;
 
 pub use delays::{Delays, spans};
 pub use laws::{answers_hold, delays_hold};
-pub use refusal::{DELAY_BUDGET, DELAY_LIMIT, DelayRefusal};
+pub use refusal::DelayRefusal;

@@ -5,12 +5,6 @@ ghost use Rattle.fv_interval.specs.declared.refusal.DelayRefusal.TheVariants.{No
 
 use std::alloc::{AllocError, AllocFailed};
 
-/// The greatest delay.
-pub const DELAY_LIMIT: i32 = 1_048_575;
-
-/// The greatest sum of the delays of a diagram.
-pub const DELAY_BUDGET: u64 = 16_777_216;
-
 /// Why the delays of a diagram are refused.
 #[derive(Clone, Copy, PartialEq, Eq, Debug)]
 pub enum DelayRefusal {

@@ -3,7 +3,7 @@ use Rattle.std.proofs.Common.{◌≡◌, ℕ, suc, ◌+◌, ◌-◌, ◌*◌, �
 use Rattle.std.proofs.Common.{subst, ◌∙◌, arith}
 use Rattle.std.specs.List.{list_all, prefix_len}
 use Rattle.std.proofs.lemmas.Bool.{and_parts}
-use Rattle.fv_lex.specs.Symbols.{value_from}
+use Rattle.fv_base.specs.Digits.{decimal_after}
 
 -- a test, as the choice that hangs on it went
 pub either : {A : Type 0} {y : A} (Q : Type 0) (b : Bool) (u v : A) → (b ≡ true → u ≡ y → Q) → (b ≡ false → v ≡ y → Q) → cond b u v ≡ y → Q
@@ -69,10 +69,10 @@ list_all_more p [] c e h = rw h refl
 list_all_more p (b ∷ body) c e h = let both = and_parts (p b) (list_all p body) e in rw (both.0, list_all_more p body c both.1 h) refl
 
 -- ---- numbers
-pub value_from-ge : (n : ℕ) (ds : List ℕ) → n ≤ value_from n ds
-value_from-ge n [] = omega arith
-value_from-ge n (d ∷ ds) = omega (arith, value_from-ge (n * 10 + (d - 48)) ds)
+pub decimal_after-ge : (n : ℕ) (ds : List ℕ) → n ≤ decimal_after n ds
+decimal_after-ge n [] = omega arith
+decimal_after-ge n (d ∷ ds) = omega (arith, decimal_after-ge (n * 10 + (d - 48)) ds)
 
-pub value_from-first : (n : ℕ) (ds : List ℕ) → 1 ≤ length ds → n * 10 + (get_or ds 0 0 - 48) ≤ value_from n ds
-value_from-first n [] h = absurd (omega arith)
-value_from-first n (d ∷ ds) h = value_from-ge (n * 10 + (d - 48)) ds
+pub decimal_after-first : (n : ℕ) (ds : List ℕ) → 1 ≤ length ds → n * 10 + (get_or ds 0 0 - 48) ≤ decimal_after n ds
+decimal_after-first n [] h = absurd (omega arith)
+decimal_after-first n (d ∷ ds) h = decimal_after-ge (n * 10 + (d - 48)) ds

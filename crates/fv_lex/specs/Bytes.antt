@@ -1,5 +1,6 @@
 -- Bytes and classes of bytes. Source: this project's profile.
 use Rattle.std.specs.Prelude.{ℕ, Bool, false, not, ◌&&◌, ◌||◌, nat_eq, nat_le, List, [], ◌∷◌}
+pub use Rattle.fv_base.specs.Digits.{is_digit}
 
 -- ---- bytes by their names (ASCII)
 -- a line feed
@@ -70,10 +71,6 @@ is_blank b = nat_eq b 9 || (nat_eq b line_feed || (nat_eq b 13 || nat_eq b 32))
 -- a letter of ASCII (this project's profile)
 abbrev pub is_letter : ℕ → Bool
 is_letter b = (nat_le 65 b && nat_le b 90) || (nat_le 97 b && nat_le b 122)
-
--- a digit (this project's profile)
-abbrev pub is_digit : ℕ → Bool
-is_digit b = nat_le 48 b && nat_le b 57
 
 -- `_` (this project's profile)
 abbrev pub is_underscore : ℕ → Bool

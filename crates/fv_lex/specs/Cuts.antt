@@ -5,7 +5,7 @@ use Rattle.fv_lex.specs.declared.token.Kind.{Kind}
 use Rattle.fv_lex.specs.declared.token.Place.{Place}
 use Rattle.fv_lex.specs.declared.refusal.Fault.{Fault}
 use Rattle.fv_lex.specs.declared.refusal.Fault.TheVariants as faults
-use Rattle.fv_lex.specs.declared.lexer.TheConstants.{LONGEST_TEXT, DEEPEST_NESTING}
+use Rattle.fv_base.specs.declared.limits.TheConstants.{LONGEST_TEXT, DEEPEST_NESTING}
 use Rattle.fv_lex.specs.declared.refusal.LexRefusal.{LexRefusal}
 use Rattle.fv_lex.specs.declared.refusal.LexRefusal.TheVariants as refusals
 use Rattle.fv_lex.specs.Token.{Token, Lexed}

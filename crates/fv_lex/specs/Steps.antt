@@ -9,7 +9,8 @@ use Rattle.fv_lex.specs.declared.scan.Class.TheVariants as classes
 use Rattle.fv_lex.specs.declared.next.Next.{Next}
 use Rattle.fv_lex.specs.declared.next.Next.TheVariants.{End, Found, Refused}
 use Rattle.fv_lex.specs.Bytes.{is_blank, is_letter, is_digit, is_underscore, is_name_byte, is_quote, is_in_line, begins, star, dot, slash}
-use Rattle.fv_lex.specs.Symbols.{singles, at_byte, double, value_from}
+use Rattle.fv_base.specs.Digits.{decimal_after}
+use Rattle.fv_lex.specs.Symbols.{singles, at_byte, double}
 use Rattle.fv_lex.specs.Pieces.{is_real_tail, greatest_literal}
 
 -- the byte is of the class (this project's profile)
@@ -50,7 +51,7 @@ found_or f (Some n) = f n
 abbrev pub number_next : List ℕ → Next
 number_next text =
     if is_real_tail (drop (prefix_len is_digit text) text) then Refused RealLiteral
-    else (if nat_lt greatest_literal (value_from 0 (take (prefix_len is_digit text) text)) then Refused LiteralTooLarge
+    else (if nat_lt greatest_literal (decimal_after 0 (take (prefix_len is_digit text) text)) then Refused LiteralTooLarge
     else Found (prefix_len is_digit text) (Some Integer))
 
 -- what begins with `/`, by what is behind that

@@ -2,6 +2,7 @@
 use Rattle.std.specs.Prelude.{ℕ, ◌+◌, ◌-◌, ◌*◌, Bool, ◌||◌, nat_eq, codes, List, [], ◌∷◌, Option, Some, None, unwrap_or, if◌then◌else◌}
 use Rattle.std.specs.List.{list_any}
 use Rattle.std.specs.Str.{bytes_eq}
+use Rattle.fv_base.specs.Digits.{decimal_after}
 use Rattle.fv_lex.specs.declared.token.Kind.{Kind}
 use Rattle.fv_lex.specs.declared.token.Kind.TheVariants as kinds
 use Rattle.fv_lex.specs.declared.token.Symbol.{Symbol}
@@ -103,14 +104,9 @@ word_symbol n word =
     (unwrap_or (at_word control_words word)
     (if is_unsupported word then symbols.Unsupported n else symbols.Name n)))
 
--- the number that decimal digits spell, behind digits that spell n
-abbrev pub value_from : ℕ → List ℕ → ℕ
-value_from n [] = n
-value_from n (d ∷ ds) = value_from (n * 10 + (d - 48)) ds
-
 -- the number that digits are (this project's profile)
 abbrev pub value : List ℕ → ℕ
-value digits = value_from 0 digits
+value digits = decimal_after 0 digits
 
 -- what the grammar sees of token n, of this kind and with these bytes
 abbrev pub symbol_of : ℕ → Kind → List ℕ → Symbol

@@ -1,6 +1,7 @@
 // Cutting a whole text into tokens.
 
 ghost use Rattle.std.specs.Prelude.{◌≡◌, ◌⊎◌, ◌+◌, ◌<◌, ◌≤◌, ◌^◌, ◌++◌, Result, length, IfOk, IfErr, OnOk, IsOkUnless, vec_len};
+ghost use Rattle.fv_base.specs.declared.limits.TheConstants.{DEEPEST_NESTING};
 ghost use Rattle.fv_lex.specs.declared.refusal.LexRefusal.{LexRefusal};
 ghost use Rattle.fv_lex.specs.declared.refusal.LexRefusal.TheVariants.{NoMemory};
 ghost use Rattle.fv_lex.specs.Token.{Lexed};
@@ -12,13 +13,8 @@ use crate::refusal::{Fault, LexRefusal, refusal_at};
 use crate::symbol::symbol_of;
 use crate::token::{Kind, Place, Span, Symbol, Tokens};
 use fv_base::Role;
+use fv_base::limits::{DEEPEST_NESTING, LONGEST_TEXT};
 use std::alloc::Global;
-
-/// How many bytes a text may have (this project's profile).
-pub const LONGEST_TEXT: usize = 1048576;
-
-/// How many brackets may be open at once (this project's profile).
-pub const DEEPEST_NESTING: u32 = 128;
 
 /// The place behind some bytes that begin at a place.
 fn place_after(place: Place, bytes: &[u8]) -> Place
@@ -47,7 +43,7 @@ fn place_after(place: Place, bytes: &[u8]) -> Place
 
 /// How many brackets are open behind a piece.
 fn depth_after(depth: u32, bytes: &[u8]) -> u32
-    requires { depth < 1000 }
+    requires { depth ≤ DEEPEST_NESTING }
     ensures { result ≡ depth_after depth bytes.now }
 {
     match bytes {

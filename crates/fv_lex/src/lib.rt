@@ -8,6 +8,6 @@ mod scan;
 mod symbol;
 mod token;
 
-pub use lexer::{DEEPEST_NESTING, LONGEST_TEXT, one_answer, tokens};
+pub use lexer::{one_answer, tokens};
 pub use refusal::LexRefusal;
 pub use token::{Kind, Place, Symbol, Tokens};

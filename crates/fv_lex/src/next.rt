@@ -7,11 +7,12 @@ ghost use Rattle.fv_lex.specs.Steps.{bare_underscores, IsBare, number_next, slas
 
 use crate::refusal::Fault;
 use crate::scan::{
-    Class, begins_with_digit, begins_with_letter, is_blank, is_digit, is_in, is_letter, number,
-    prefix_len, to_close, to_quote,
+    Class, begins_with_digit, begins_with_letter, is_blank, is_in, is_letter, number, prefix_len,
+    to_close, to_quote,
 };
 use crate::symbol::{double, single};
 use crate::token::Kind;
+use fv_base::is_digit;
 
 /// What a text begins with.
 #[derive(Clone, Copy, PartialEq, Eq, Debug)]

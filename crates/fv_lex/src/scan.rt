@@ -7,6 +7,8 @@ ghost use Rattle.fv_lex.specs.Symbols.{value};
 ghost use Rattle.fv_lex.specs.Pieces.{greatest_literal};
 ghost use Rattle.fv_lex.specs.Steps.{is_in, to_quote, to_close};
 
+use fv_base::is_digit;
+
 /// The greatest integer literal (this project's profile).
 pub(crate) const GREATEST_LITERAL: u64 = 2147483647;
 
@@ -20,12 +22,6 @@ pub(crate) fn is_letter(b: u8) -> bool
     ensures { result ≡ is_letter b }
 {
     (65 <= b && b <= 90) || (97 <= b && b <= 122)
-}
-
-pub(crate) fn is_digit(b: u8) -> bool
-    ensures { result ≡ is_digit b }
-{
-    48 <= b && b <= 57
 }
 
 pub(crate) fn begins_with_letter(text: &[u8]) -> bool

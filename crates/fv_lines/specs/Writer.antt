@@ -1,6 +1,7 @@
 -- What the writer of a lane shows.
 use Rattle.std.specs.Prelude.{ℕ, List, ◌++◌, ℤ}
 use base.Fml.{GName}
+use Rattle.fv_loopcode.specs.Lanes.{Lane}
 use Rattle.fv_pool.specs.declared.loan.Halves.{Halves}
 use Rattle.fv_lines.specs.declared.shape.LaneShape.{LaneShape}
 use Rattle.fv_lines.specs.declared.writer.LaneWriter.{LaneWriter}
@@ -30,3 +31,7 @@ shape_of w = w.shape
 -- what ties its part's loan to the loan that the part was cut from
 abbrev pub outer_of : LaneWriter → Halves
 outer_of w = w.outer
+
+-- the lane as one sees it now, which takes no more (this project's profile)
+abbrev pub lane_written : LaneWriter → Lane
+lane_written w = record { history = (shape_of w).history; items = list_of w; room = 0 }

@@ -140,10 +140,36 @@ impl<'a> LaneWriter<'a> {
         } else {
             start
         };
+        let (ended, outer) = self.end();
+        (seen, LaneState { start }, ended, outer)
+    }
+
+    /// The history that the lane began with, whatever is written behind it: where it lies, how the part's loan ends, and what ties it to
+    /// the loan that it was cut from.
+    pub fn stop(self) -> (LaneState, Ended, Halves)
+        ensures ended { (result.1.name ≡ part_of self.entry) × (result.1.last ≡ content_of self.entry) }
+        ensures outer { (result.2 ≡ outer_of self.entry) × (result.2.low ≡ result.1.name) }
+        ensures held { held (shape_of self.entry) result.0.start result.1.last ≡ take (shape_of self.entry).history (list_of self.entry) }
+        ensures holds { Holds (shape_of self.entry) result.0.start result.1.last }
+    {
+        let start = self.low.len() as u64;
+        let start = if start >= self.shape.len {
+            start - self.shape.len
+        } else {
+            start
+        };
+        let (ended, outer) = self.end();
+        (LaneState { start }, ended, outer)
+    }
+
+    // How the part's loan ends where nothing more is written, and what ties it to the loan that the part was cut from.
+    fn end(self) -> (Ended, Halves)
+        ensures ended { (result.0.name ≡ part_of self.entry) × (result.0.last ≡ content_of self.entry) }
+        ensures outer { (result.1 ≡ outer_of self.entry) × (result.1.low ≡ result.0.name) }
+    {
         let (_, low) = self.low.end();
         let (_, high) = self.high.end();
-        let ended = self.halves.end(low, high);
-        (seen, LaneState { start }, ended, self.outer)
+        (self.halves.end(low, high), self.outer)
     }
 
     /// Where the next history lies.

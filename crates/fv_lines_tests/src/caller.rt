@@ -1,15 +1,15 @@
 // A block of one worker over the region's cells.
 
-ghost use Rattle.std.specs.Prelude.{◌≡◌, ◌<◌, ◌≤◌, ℕ, [], length, drop, All};
+ghost use Rattle.std.specs.Prelude.{◌≡◌, ◌<◌, ◌≤◌, ◌++◌, ℕ, [], ◌∷◌, length, drop, All};
 ghost use Rattle.fv_num.specs.Words.{argument};
 ghost use Rattle.fv_loopcode.specs.Lanes.{lane_of, sample_at, HasSample};
+ghost use Rattle.fv_loopcode.specs.State.{lanes_alone};
 ghost use Rattle.fv_loopcode.specs.Code.{MayRun, ran, frame_of, IsWithin};
 ghost use Rattle.fv_pool.specs.Layout.{HaveRoom};
 ghost use Rattle.fv_pool.specs.Lengths.{lengths_of};
 ghost use Rattle.fv_pool.specs.Region.{cells_of};
 ghost use Rattle.fv_lines.specs.Seen.{lane_seen};
-ghost use Rattle.fv_lines.specs.Writer.{written_by, frames_of};
-ghost use Rattle.fv_lines_tests.specs.Lane.{lane_written};
+ghost use Rattle.fv_lines.specs.Writer.{list_of, written_by, frames_of, lane_written};
 ghost use Rattle.fv_lines.specs.Solo.{AreLists, AreHeld, AreFramed, AreFull, held_at, history_at, opening_lanes};
 
 use fv_lines::{LaneShape, LaneState, LaneWriter, Solo};
@@ -33,11 +33,11 @@ pub fn block_on(
     requires frames { AreFramed (lengths_of layout.now) shapes.now frames }
     requires registers { length registers.old ≡ length code.now }
     requires within { All (λ s. IsWithin 0 0 s) code.now }
-    requires may { MayRun code.now (argument []) (frame_of [] 0) 0 frames (opening_lanes (lengths_of layout.now) shapes.now states.old frames cells.old) }
-    requires full { AreFull (ran code.now (argument []) (frame_of [] 0) 0 frames (opening_lanes (lengths_of layout.now) shapes.now states.old frames cells.old)) }
+    requires may { MayRun code.now (argument []) (frame_of [] 0) 0 frames (lanes_alone (opening_lanes (lengths_of layout.now) shapes.now states.old frames cells.old)) }
+    requires full { AreFull (ran code.now (argument []) (frame_of [] 0) 0 frames (lanes_alone (opening_lanes (lengths_of layout.now) shapes.now states.old frames cells.old))).lanes }
     ensures count { length states.new ≡ length states.old }
     ensures states { AreHeld (lengths_of layout.now) shapes.now states.new }
-    ensures held { (i : ℕ) → i < length (lengths_of layout.now) → held_at (lengths_of layout.now) states.new (history_at shapes.now i) i cells.new ≡ drop frames (lane_of (ran code.now (argument []) (frame_of [] 0) 0 frames (opening_lanes (lengths_of layout.now) shapes.now states.old frames cells.old)) i).items }
+    ensures held { (i : ℕ) → i < length (lengths_of layout.now) → held_at (lengths_of layout.now) states.new (history_at shapes.now i) i cells.new ≡ drop frames (lane_of (ran code.now (argument []) (frame_of [] 0) 0 frames (lanes_alone (opening_lanes (lengths_of layout.now) shapes.now states.old frames cells.old))).lanes i).items }
 {
     let mut solo = Solo::begin(cells, layout, shapes, states, written, frames);
     run(
@@ -69,12 +69,12 @@ pub fn block(
     requires frames { AreFramed (lengths_of layout.now) shapes.now frames }
     requires registers { length registers.old ≡ length code.now }
     requires within { All (λ s. IsWithin 0 0 s) code.now }
-    requires may { MayRun code.now (argument []) (frame_of [] 0) 0 frames (opening_lanes (lengths_of layout.now) shapes.now states.old frames (cells_of region.old)) }
-    requires full { AreFull (ran code.now (argument []) (frame_of [] 0) 0 frames (opening_lanes (lengths_of layout.now) shapes.now states.old frames (cells_of region.old))) }
+    requires may { MayRun code.now (argument []) (frame_of [] 0) 0 frames (lanes_alone (opening_lanes (lengths_of layout.now) shapes.now states.old frames (cells_of region.old))) }
+    requires full { AreFull (ran code.now (argument []) (frame_of [] 0) 0 frames (lanes_alone (opening_lanes (lengths_of layout.now) shapes.now states.old frames (cells_of region.old)))).lanes }
     ensures cells { length (cells_of region.new) ≡ length (cells_of region.old) }
     ensures count { length states.new ≡ length states.old }
     ensures states { AreHeld (lengths_of layout.now) shapes.now states.new }
-    ensures held { (i : ℕ) → i < length (lengths_of layout.now) → held_at (lengths_of layout.now) states.new (history_at shapes.now i) i (cells_of region.new) ≡ drop frames (lane_of (ran code.now (argument []) (frame_of [] 0) 0 frames (opening_lanes (lengths_of layout.now) shapes.now states.old frames (cells_of region.old))) i).items }
+    ensures held { (i : ℕ) → i < length (lengths_of layout.now) → held_at (lengths_of layout.now) states.new (history_at shapes.now i) i (cells_of region.new) ≡ drop frames (lane_of (ran code.now (argument []) (frame_of [] 0) 0 frames (lanes_alone (opening_lanes (lengths_of layout.now) shapes.now states.old frames (cells_of region.old)))).lanes i).items }
 {
     let cells = region.cells();
     block_on(
@@ -120,4 +120,37 @@ pub fn read_while_written<R: Threads + Sync>(rt: &R, writer: &mut LaneWriter<'_>
         { writer.append(value) },
     );
     sample
+}
+
+fn appended<'a>(writer: LaneWriter<'a>, value: i32) -> LaneWriter<'a>
+    requires { written_by writer < frames_of writer }
+    ensures { list_of result ≡ list_of writer.entry ++ value ∷ [] }
+{
+    let mut writer = writer;
+    writer.append(value);
+    writer
+}
+
+/// Two threads, of which each takes a lane, append to it and hand it back.
+pub fn append_side_by_side<'a, R: Threads + Sync>(
+    rt: &R,
+    first: LaneWriter<'a>,
+    second: LaneWriter<'a>,
+    value: i32,
+) -> (LaneWriter<'a>, LaneWriter<'a>)
+    requires room { (written_by first < frames_of first) × (written_by second < frames_of second) }
+    ensures first { list_of result.0 ≡ list_of first.entry ++ value ∷ [] }
+    ensures second { list_of result.1 ≡ list_of second.entry ++ value ∷ [] }
+{
+    join(
+        rt,
+        move || -> LaneWriter
+            requires { written_by first < frames_of first }
+            ensures { list_of result ≡ list_of first.entry ++ value ∷ [] }
+        { appended(first, value) },
+        move || -> LaneWriter
+            requires { written_by second < frames_of second }
+            ensures { list_of result ≡ list_of second.entry ++ value ∷ [] }
+        { appended(second, value) },
+    )
 }

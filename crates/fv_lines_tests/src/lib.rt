@@ -1,10 +1,14 @@
-// A caller of lanes, which shows what is known after a block, and tests of lanes over the parts of a region.
+//! A caller of lanes, which shows what is known after a block, and tests of the region, of its parts and of lanes over them.
 #![tactic(auto)]
 
 #[cfg(test)]
 mod blocks;
 mod caller;
 #[cfg(test)]
+mod parts;
+#[cfg(test)]
 mod writers;
 
-pub use caller::{block, block_on, read_while_written, seen_before_the_next_cut};
+pub use caller::{
+    append_side_by_side, block, block_on, read_while_written, seen_before_the_next_cut,
+};

@@ -1,7 +1,8 @@
 // Shapes, and lanes that one writer has.
 
+use crate::caller::append_side_by_side;
 use fv_lines::{LaneShape, LaneState, LaneWriter, Seen};
-use fv_pool::{Layout, Part, Region};
+use fv_pool::{Layout, Part, Region, Uncut};
 use std::process::Abort;
 use std::test::Fail;
 
@@ -101,5 +102,31 @@ fn a_history_begins_again(rt: HostRuntime) -> Result<(), Fail> {
         }
         state = shape.begun(state);
     }
+    Ok(())
+}
+
+#[test]
+fn lanes_end_where_they_stand(rt: HostRuntime) -> Result<(), Fail> {
+    let shape = LaneShape::new(2, 3);
+    let state = LaneState { start: 3 };
+    let mut region = Region::new(rt.alloc(), 10)?;
+    let cells = region.cells();
+    assert!(rt; cells.len() == 10);
+    cells.copy_from_slice(&[9, 9, 9, 4, 5, 9, 9, 9, 6, 7]);
+    let mut uncut = Uncut::of(region.cells());
+    assert!(rt; uncut.len() == 10);
+    let first = begin(Some(uncut.next(5)), shape, state, 3)?;
+    let second = begin(Some(uncut.next(5)), shape, state, 3)?;
+    assert!(rt; uncut.is_empty());
+    assert!(rt; !first.is_full() && !second.is_full());
+    let (first, second) = append_side_by_side(&rt, first, second, 8);
+    let seen = first.seen();
+    assert!(rt; seen.has_sample(0, 0));
+    assert_eq!(rt; seen.sample(0, 0), 8);
+    let (state, _ended, _outer) = first.stop();
+    assert_eq!(rt; state.start, 0);
+    let (state, _ended, _outer) = second.stop();
+    assert_eq!(rt; state.start, 0);
+    assert_eq!(rt; &*region.cells(), [4, 5, 8, 4, 5, 6, 7, 8, 6, 7].as_slice());
     Ok(())
 }

@@ -3,6 +3,7 @@ pub mod Tasks
 pub mod Streams
 pub mod Named
 pub mod Still
+pub mod Appends
 pub mod Blocks
 pub mod Moving
 pub mod Instructions

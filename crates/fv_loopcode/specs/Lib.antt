@@ -1,4 +1,5 @@
 pub mod Lanes
+pub mod State
 pub mod Code
 pub mod Instructions
 pub mod Passes

@@ -1,6 +1,7 @@
 // A lane in a vector.
 
 ghost use Rattle.std.specs.Prelude.{[], ◌∷◌};
+ghost use Rattle.fv_loopcode.specs.State.{lanes_alone};
 ghost use Rattle.fv_loopcode_tests.specs.Line.{lane_in};
 
 use fv_loopcode::Store;
@@ -14,7 +15,7 @@ pub struct Line {
 }
 
 impl Store for Line {
-    ghost lanes = { λ s. lane_in s ∷ [] };
+    ghost state = { λ s. lanes_alone (lane_in s ∷ []) };
 
     ghost rest = { λ _. tt };
 

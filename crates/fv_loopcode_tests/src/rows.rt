@@ -117,6 +117,7 @@ fn a_running_sum(rt: HostRuntime) -> Result<(), Fail> {
     };
     assert_eq!(rt; code.len(), 5);
     assert!(rt; !code.is_empty());
+    assert_eq!(rt; code.steps(), SUM.as_slice());
     let mut registers = [0; 5];
     let mut line = Line {
         cells: vec![in rt.alloc(); 0; 4]?,

@@ -1,5 +1,6 @@
 -- One more block is kept behind those before it, whose pairs and lines stay in their places.
-use Rattle.std.proofs.Common.{◌≡◌, ℕ, zero, suc, ◌+◌, ◌-◌, ◌<◌, ◌≤◌, List, [], ◌∷◌, ◌++◌, length, map, get_or, take, drop, true, nat_le, refl, sym, ap, ap₂, ◌∙◌, arith, subst, Some, length-append}
+use Rattle.std.proofs.Common.{◌≡◌, ℕ, zero, suc, ◌+◌, ◌-◌, ◌<◌, ◌≤◌, List, [], ◌∷◌, ◌++◌, length, map, get_or, take, drop, true, nat_le, refl, sym}
+use Rattle.std.proofs.Common.{ap, ap₂, ◌∙◌, arith, subst, Some, length-append}
 use Rattle.std.specs.Prelude.{All, slice_range, ◌&&◌}
 use Rattle.std.proofs.lemmas.List.{take-append-le, drop-append-le, take_all, drop_at, map_push, length_push, length-drop}
 use Rattle.std.proofs.lemmas.Bool.{le-leb}
@@ -39,9 +40,11 @@ pub record IsLast (reads rs : List Reads) (lines ls : List Line) (block : KeptBl
   pub lines_end : block.lines.end ≡ length (lines ++ ls)
 
 pub recorded_more : (blocks : List KeptBlock) (reads rs : List Reads) (lines ls : List Line) (most_blocks most_lines : ℕ) (b : KeptBlock)
-    → IsRecorded blocks reads lines → IsLast reads rs lines ls b → length blocks < most_blocks → length rs ≤ most_lines - length reads → length ls ≤ most_lines - length lines
+    → IsRecorded blocks reads lines → IsLast reads rs lines ls b → length blocks < most_blocks → length rs ≤ most_lines - length reads
+    → length ls ≤ most_lines - length lines
     → told_of true (blocks ++ b ∷ []) (reads ++ rs) (lines ++ ls) most_blocks most_lines
-    ≡ told_after (told_of true blocks reads lines most_blocks most_lines) (record { tasks = record { loops = b.loops; vectors = b.vectors; reads = rs }; lines = ls })
+    ≡ told_after (told_of true blocks reads lines most_blocks most_lines)
+    (record { tasks = record { loops = b.loops; vectors = b.vectors; reads = rs }; lines = ls })
 recorded_more blocks reads rs lines ls most_blocks most_lines b kept last one pairs more =
     let entry : BlockEntry = record { tasks = record { loops = b.loops; vectors = b.vectors; reads = rs }; lines = ls } in
     let mine : entry_of (reads ++ rs) (lines ++ ls) b ≡ entry =

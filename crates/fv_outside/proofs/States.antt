@@ -1,5 +1,6 @@
 -- Relations between states of a desk go on from one call to the next.
-use Rattle.std.proofs.Common.{◌≡◌, ℕ, ◌+◌, ◌≤◌, ◌<◌, List, [], ◌∷◌, ◌++◌, length, take, drop, sym, ◌∙◌, ap, arith, subst, append_assoc, refl, get_or, zero, suc, length-take, length-append}
+use Rattle.std.proofs.Common.{◌≡◌, ℕ, ◌+◌, ◌≤◌, ◌<◌, List, [], ◌∷◌, ◌++◌, length, take, drop, sym, ◌∙◌, ap, arith, subst, append_assoc, refl, get_or}
+use Rattle.std.proofs.Common.{zero, suc, length-take, length-append}
 use denote.Ref.{Bor}
 use Rattle.std.proofs.lemmas.List.{append-nil, take_all, drop_all, take-append-le, drop_at}
 use Rattle.std.proofs.lemmas.Slice.{take-put_mid_below}
@@ -17,11 +18,20 @@ pub told_before : {a b : DeskState} → GoesOn a b → IsTrue a.tells → IsTrue
 told_before p t = subst IsTrue (sym p.tells) t
 
 pub goes_on_self : (a : DeskState) → GoesOn a a
-goes_on_self a = record { tells = refl; files = λ _. refl; room = λ _ r. refl; failing = λ _ r. refl; calls = λ _ r. omega arith; faults = λ r. omega arith }
+goes_on_self a = record {
+  tells = refl;
+  beneath = refl;
+  files = λ _. refl;
+  room = λ _ r. refl;
+  failing = λ _ r. refl;
+  calls = λ _ r. omega arith;
+  faults = λ r. omega arith;
+}
 
 pub goes_on_then : {a b c : DeskState} → GoesOn a b → GoesOn b c → GoesOn a c
 goes_on_then {a} {b} {c} p q = record {
   tells = q.tells ∙ p.tells;
+  beneath = q.beneath ∙ p.beneath;
   files = λ t. q.files (told_before p t) ∙ p.files t;
   room = λ t r. q.room (told_before p t) r ∙ p.room t r;
   failing = λ t r. q.failing (told_before p t) r ∙ p.failing t r;
@@ -117,7 +127,22 @@ pub some_quiet : {role : Role} {a b : DeskState} → TakesSome role a b → Keep
 some_quiet p = takes_quiet p.takes
 
 -- for the functions that call a desk again and again
-pub ruleset steps = (quiet_self, quiet_then, appends_nothing, appends_then, takes_nothing, takes_then, takes_some, some_then, takes_quiet, some_quiet, fault_earlier, fault_later, goes_on_self, goes_on_then)
+pub ruleset steps = (
+  quiet_self,
+  quiet_then,
+  appends_nothing,
+  appends_then,
+  takes_nothing,
+  takes_then,
+  takes_some,
+  some_then,
+  takes_quiet,
+  some_quiet,
+  fault_earlier,
+  fault_later,
+  goes_on_self,
+  goes_on_then,
+)
 
 -- ---- where no later call of the role is told to fail
 under_all : (a b : ℕ) (ns : List ℕ) → a ≤ b → All (λ n. n < a) ns → All (λ n. n < b) ns
@@ -126,7 +151,8 @@ under_all a b ns le h = λ k d l. let less = h k d l in omega arith
 -- a later state of it is one too
 pub unfailing_later : {a b : DeskState} (role : Role) → GoesOn a b → IsTrue a.tells → IsUnfailing role a → IsUnfailing role b
 unfailing_later {a} {b} role p t h =
-    subst (λ (ns : List ℕ). All (λ n. n < b.calls role) ns) (sym (p.failing t role)) (under_all (a.calls role) (b.calls role) (a.failing role) (p.calls t role) h)
+    subst (λ (ns : List ℕ). All (λ n. n < b.calls role) ns) (sym (p.failing t role))
+    (under_all (a.calls role) (b.calls role) (a.failing role) (p.calls t role) h)
 
 none_now : (calls : ℕ) (ns : List ℕ) → All (λ n. n < calls) ns → fails_now calls ns ≡ false
 none_now calls [] h = refl
@@ -143,20 +169,27 @@ answers_next {b = b} role p t h = none_now (b.calls role) (b.failing role) (unfa
 pub part_front : (xs ys : List ℕ) (a n k : ℕ) → a ≤ length xs → n ≤ length ys → take (a + n) (put_mid a k xs ys) ≡ take a xs ++ take n ys
 part_front xs ys a n k h m =
     let front : take a (put_mid a k xs ys) ≡ take a xs = take-put_mid_below a k xs ys a (omega arith) h in
-    let back : drop a (put_mid a k xs ys) ≡ ys ++ post_of a k xs = drop_at (take a xs) (ys ++ post_of a k xs) a (let e = length-take a xs in omega (arith, e)) in
+    let back : drop a (put_mid a k xs ys) ≡ ys ++ post_of a k xs = drop_at (take a xs) (ys ++ post_of a k xs) a
+    (let e = length-take a xs in omega (arith, e)) in
     take-add a n (put_mid a k xs ys) ∙ ap (λ w. w ++ take n (drop a (put_mid a k xs ys))) front ∙ ap (λ w. take a xs ++ take n w) back
     ∙ ap (λ w. take a xs ++ w) (take-append-le n ys (post_of a k xs) m)
 
 -- what is a part from the front of one piece is, behind the pieces before it, a part from the front of all of them
-pub joined_part : (pieces : List (Bor (List ℕ))) (i : ℕ) (d : Bor (List ℕ)) (part : List ℕ) → i < length pieces → IsPrefixOf part (get_or pieces i d).now → IsPrefixOf (joined (take i pieces) ++ part) (joined pieces)
+pub joined_part : (pieces : List (Bor (List ℕ))) (i : ℕ) (d : Bor (List ℕ)) (part : List ℕ) → i < length pieces
+    → IsPrefixOf part (get_or pieces i d).now → IsPrefixOf (joined (take i pieces) ++ part) (joined pieces)
 joined_part [] i d part h p = absurd (omega arith)
 joined_part (x ∷ xs) zero d part h p = record { rest = p.rest ++ joined xs; is = ap (λ w. w ++ joined xs) p.is ∙ append_assoc part p.rest (joined xs) }
 joined_part (x ∷ xs) (suc i) d part h p =
     let q = joined_part xs i d part (omega arith) p in
-    record { rest = q.rest; is = ap (λ w. x.now ++ w) q.is ∙ sym (append_assoc x.now (joined (take i xs) ++ part) q.rest) ∙ ap (λ w. w ++ q.rest) (sym (append_assoc x.now (joined (take i xs)) part)) }
+    record {
+      rest = q.rest;
+      is = ap (λ w. x.now ++ w) q.is ∙ sym (append_assoc x.now (joined (take i xs) ++ part) q.rest)
+          ∙ ap (λ w. w ++ q.rest) (sym (append_assoc x.now (joined (take i xs)) part));
+    }
 
 -- and no longer than they are
-pub joined_room : (pieces : List (Bor (List ℕ))) (i : ℕ) (d : Bor (List ℕ)) → i < length pieces → length (joined (take i pieces)) + length (get_or pieces i d).now ≤ length (joined pieces)
+pub joined_room : (pieces : List (Bor (List ℕ))) (i : ℕ) (d : Bor (List ℕ)) → i < length pieces
+    → length (joined (take i pieces)) + length (get_or pieces i d).now ≤ length (joined pieces)
 joined_room pieces i d h =
     let p = joined_part pieces i d (get_or pieces i d).now h (prefix_refl (get_or pieces i d).now) in
     let e = ap length p.is in

@@ -1,5 +1,5 @@
 -- What a desk of real files means: its counts, and what it was asked for (this project's profile).
-use Rattle.std.specs.Prelude.{◌≡◌, ◌≢◌, ℕ, ◌+◌, ◌%◌, ◌^◌, false, List, [], ◌∷◌, ◌++◌, slice_index, replicate}
+use Rattle.std.specs.Prelude.{◌≡◌, ◌≢◌, ℕ, ◌+◌, ◌%◌, ◌^◌, false, None, List, [], ◌∷◌, ◌++◌, slice_index, replicate}
 use Rattle.fv_outside.specs.Requests.{Request, place_of}
 use Rattle.fv_outside.specs.Desk.{DeskState, raised}
 use Rattle.fv_outside.specs.declared.counts.Counts.{Counts}
@@ -46,4 +46,5 @@ file_state f = record {
   faults = λ r. count_of f.counts.faults r;
   begins = λ r. count_of f.counts.begins r;
   requests = f.requests;
+  beneath = None;
 }

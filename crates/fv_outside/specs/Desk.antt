@@ -1,6 +1,8 @@
 -- What a desk means: its files, the bytes of each role, its counts, and what it was asked for (this project's profile).
-use Rattle.std.specs.Prelude.{◌≡◌, ◌≢◌, ℕ, ◌-◌, ◌^◌, ◌<◌, ◌≤◌, ◌==◌, suc, min, Bool, IsTrue, List, [], ◌∷◌, ◌++◌, All, Option, Some, None, bytes_eq, if◌then◌else◌}
+use Rattle.std.specs.Prelude.{◌≡◌, ◌≢◌, ℕ, ◌-◌, ◌^◌, ◌<◌, ◌≤◌, ◌==◌, suc, min, Bool, IsTrue, List, [], ◌∷◌, ◌++◌, All, Option, Some, None, bytes_eq}
+use Rattle.std.specs.Prelude.{if◌then◌else◌}
 use Rattle.std.specs.List.{list_any}
+use Rattle.std.specs.Borrow.{GName}
 use denote.Ref.{Bor}
 use Rattle.std.specs.Prelude.{flat_map}
 use Rattle.fv_base.specs.declared.role.Role.{Role}
@@ -42,10 +44,14 @@ pub record DeskState : Type 0 where
   pub begins : Role → ℕ
   -- what it was asked to begin, in order, whether it could or not
   pub requests : List Request
+  -- the reference to another desk that it holds, if it stands over one
+  pub beneath : Option GName
 
--- No call changes whether it tells, its files, its room or what will fail, and no count of calls or faults falls.
+-- No call changes whether it tells, what it stands over, its files, its room or what will fail, and no count of calls or faults
+-- falls.
 pub record GoesOn (old new : DeskState) : Type 0 where
   pub tells : new.tells ≡ old.tells
+  pub beneath : new.beneath ≡ old.beneath
   pub files : IsTrue old.tells → new.files ≡ old.files
   pub room : IsTrue old.tells → (r : Role) → new.room r ≡ old.room r
   pub failing : IsTrue old.tells → (r : Role) → new.failing r ≡ old.failing r

@@ -2,7 +2,8 @@
 use Rattle.std.specs.Prelude.{◌≡◌, true, List, [], ◌∷◌, Some, None, refl, codes}
 use Rattle.fv_outside.specs.Requests.{to_read, to_write}
 use Rattle.fv_outside.specs.Desk.{File, file_named, raised, last_count, fails_next}
-use Rattle.fv_outside.specs.Memory.{no_memory, empty_memory, memory_after, memory_state, asked, is_failing, is_full, after_fail, after_fault, after_begin_read, after_read, after_write}
+use Rattle.fv_outside.specs.Memory.{no_memory, empty_memory, memory_after, memory_state, asked, is_failing, is_full, after_fail, after_fault}
+use Rattle.fv_outside.specs.Memory.{after_begin_read, after_read, after_write}
 use Rattle.fv_outside.specs.Tasks.{task_count}
 use Rattle.fv_outside.specs.Journal.{BlockEntry, Told, told_after}
 use Rattle.fv_base.specs.declared.role.Role.TheVariants.{Output, Report}
@@ -39,7 +40,8 @@ second_fails : is_failing (after_write [] (after_fail 1 no_memory)) ≡ true
 second_fails = refl
 
 -- a request is told whether it could be met or not
-asked_in_order : (memory_state (asked (to_write Output (codes "o")) (asked (to_read Report (codes "x")) empty_memory))).requests ≡ to_read Report (codes "x") ∷ to_write Output (codes "o") ∷ []
+asked_in_order : (memory_state (asked (to_write Output (codes "o")) (asked (to_read Report (codes "x")) empty_memory))).requests ≡ to_read Report
+    (codes "x") ∷ to_write Output (codes "o") ∷ []
 asked_in_order = refl
 
 -- the third call of a role fails, where its number is told

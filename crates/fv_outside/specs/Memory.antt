@@ -1,5 +1,5 @@
 -- What a desk in memory means (this project's profile).
-use Rattle.std.specs.Prelude.{ℕ, ◌+◌, ◌%◌, ◌^◌, max, nat_le, Bool, true, List, [], ◌∷◌, ◌++◌, length, drop}
+use Rattle.std.specs.Prelude.{ℕ, ◌+◌, ◌%◌, ◌^◌, max, nat_le, Bool, true, None, List, [], ◌∷◌, ◌++◌, length, drop}
 use Rattle.fv_outside.specs.Requests.{Request}
 use Rattle.fv_outside.specs.Desk.{File, DeskState, raised, last_count, fails_now}
 use Rattle.fv_base.specs.declared.role.Role.{Role}
@@ -76,6 +76,7 @@ memory_state m = record {
   faults = λ r. (memory_of m r).faults;
   begins = λ r. (memory_of m r).begins;
   requests = m.requests;
+  beneath = None;
 }
 
 -- the call that comes now stands on the list of those that fail

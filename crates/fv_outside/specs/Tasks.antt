@@ -17,7 +17,8 @@ coded_reads = code_by (ℕ × ℕ) (coded× coded_ℕ coded_ℕ) (λ r. (r.reade
 -- as a tuple of its fields
 abbrev pub coded_tasks : Coded Tasks
 coded_tasks =
-    code_by (ℕ × (ℕ × List Reads)) (coded× coded_ℕ (coded× coded_ℕ (coded_list coded_reads))) (λ t. (t.loops, (t.vectors, t.reads))) (λ p. record { loops = p.0; vectors = p.1.0; reads = p.1.1 }) (λ _. refl)
+    code_by (ℕ × (ℕ × List Reads)) (coded× coded_ℕ (coded× coded_ℕ (coded_list coded_reads))) (λ t. (t.loops, (t.vectors, t.reads)))
+    (λ p. record { loops = p.0; vectors = p.1.0; reads = p.1.1 }) (λ _. refl)
 
 -- how many tasks there are
 abbrev pub task_count : Tasks → ℕ

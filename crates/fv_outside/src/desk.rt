@@ -2,7 +2,8 @@
 
 ghost use Rattle.std.specs.Prelude.{◌≡◌, ◌≢◌, ◌+◌, ◌%◌, ◌^◌, ◌<◌, ◌≤◌, [], ◌∷◌, ◌++◌, length, take, false, Some, IsTrue, IsSome, IsOk, IfOk, OnOk, OnErr};
 ghost use Rattle.fv_outside.specs.Requests.{to_read, to_write};
-ghost use Rattle.fv_outside.specs.Desk.{DeskState, GoesOn, CountsCall, HasFault, KeepsFaults, KeepsBytes, KeepsLeft, KeepsLeftBut, KeepsWritten, KeepsWrittenBut, KeepsBegins, fails_next, file_named};
+ghost use Rattle.fv_outside.specs.Desk.{DeskState, GoesOn, CountsCall, HasFault, KeepsFaults, KeepsBytes, KeepsLeft, KeepsLeftBut, KeepsWritten};
+ghost use Rattle.fv_outside.specs.Desk.{KeepsWrittenBut, KeepsBegins, fails_next, file_named};
 
 use fv_base::Role;
 

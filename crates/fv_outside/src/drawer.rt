@@ -1,6 +1,7 @@
 // What a desk in memory keeps of one role.
 
-ghost use Rattle.std.specs.Prelude.{◌≡◌, ℕ, ◌+◌, ◌-◌, ◌%◌, ◌^◌, ◌<◌, ◌≤◌, ◌||◌, min, max, length, take, drop, ◌++◌, ◌∷◌, [], Some, None, is_none, is_err, nat_le, OnOk, OnErr, IfOk};
+ghost use Rattle.std.specs.Prelude.{◌≡◌, ℕ, ◌+◌, ◌-◌, ◌%◌, ◌^◌, ◌<◌, ◌≤◌, ◌||◌, min, max, length, take, drop, ◌++◌, ◌∷◌, [], Some, None, is_none};
+ghost use Rattle.std.specs.Prelude.{is_err, nat_le, OnOk, OnErr, IfOk};
 ghost use Rattle.fv_outside.specs.Desk.{fails_now};
 ghost use Rattle.fv_outside.specs.Drawer.{bytes_at, left_at, nothing_kept, called, faulted, ReadsWithin, DrawerGoesOn};
 

@@ -17,8 +17,9 @@ use std::rt::Files;
 /// Real files, and standard output for Report. It tells no bytes.
 ///
 /// `begin_read` opens the named file, and `begin_write` creates or empties it; each role has one file open to read and
-/// one to write. Faults are all that the system refuses, a write or a print that takes nothing, and a read or a write of
-/// a role that was not begun. Report is printed without a begin, and beginning to write it is a fault.
+/// one to write. Faults are all that the system refuses, a write or a print that takes nothing, and a write of
+/// a role that was not begun; of such a role nothing is left to read. Report is printed without a begin, and beginning to write
+/// it is a fault.
 pub struct FileDesk<'r, R: Files + Print> {
     rt: &'r R,
     open: OpenFiles<R::File>,
@@ -76,7 +77,8 @@ impl<R: Files + Print> Desk for FileDesk<'_, R> {
         ensures file { OnOk result (IsTrue (file_state self.old).tells →
             file_named name.now (file_state self.old).files ≡ Some ((file_state self.new).left role)) }
         ensures begins { KeepsBegins (file_state self.old) (file_state self.new) }
-        ensures answers { IsTrue (file_state self.old).tells → fails_next role (file_state self.old) ≡ false → IsSome (file_named name.now (file_state self.old).files) → IsOk result }
+        ensures answers { IsTrue (file_state self.old).tells → fails_next role (file_state self.old) ≡ false
+            → IsSome (file_named name.now (file_state self.old).files) → IsOk result }
         ensures steady { OnOk result (KeepsFaults (file_state self.old) (file_state self.new)) }
         ensures counts { CountsCall role (file_state self.old) (file_state self.new) }
         ensures asked { self.new.requests ≡ self.old.requests ++ to_read role name.now ∷ [] }
@@ -157,7 +159,8 @@ impl<R: Files + Print> Desk for FileDesk<'_, R> {
         ensures appended { IfOk result (λ n. IsTrue (file_state self.old).tells →
             (file_state self.new).written role ≡ (file_state self.old).written role ++ take n piece.now) }
         ensures begins { KeepsBegins (file_state self.old) (file_state self.new) }
-        ensures answers { IsTrue (file_state self.old).tells → fails_next role (file_state self.old) ≡ false → length ((file_state self.old).written role) < (file_state self.old).room role → IsOk result }
+        ensures answers { IsTrue (file_state self.old).tells → fails_next role (file_state self.old) ≡ false
+            → length ((file_state self.old).written role) < (file_state self.old).room role → IsOk result }
         ensures steady { OnOk result (KeepsFaults (file_state self.old) (file_state self.new)) }
         ensures counts { CountsCall role (file_state self.old) (file_state self.new) }
         ensures asked { self.new.requests ≡ self.old.requests }
@@ -216,13 +219,13 @@ impl<F> OpenPair<F> {
 }
 
 impl<F: Read + Write> OpenPair<F> {
-    // Reads, where the role was begun.
+    // Reads; where the role was not begun, nothing is left.
     fn read(&mut self, to: &mut [u8]) -> Result<usize, Failed>
         ensures { IfOk result (λ n. n ≤ length to.new) }
     {
         match &mut self.reader {
             Some(file) => file.read(to).map_err(|_| Failed),
-            None => Err(Failed),
+            None => Ok(0),
         }
     }
 

@@ -164,7 +164,8 @@ fn append_next<D: Desk>(
 ) -> Result<usize, ReadError>
     requires room { want ≤ length chunk.old }
     ensures count { IfOk result (λ n. (n ≤ want) × (length bytes.new.items ≡ length bytes.old.items + n)) }
-    ensures taken { IfOk result (λ n. (piece : List ℕ) × (bytes.new.items ≡ bytes.old.items ++ piece) × Takes role piece (D.state desk.old) (D.state desk.new)) }
+    ensures taken { IfOk result (λ n. (piece : List ℕ) × (bytes.new.items ≡ bytes.old.items ++ piece)
+        × Takes role piece (D.state desk.old) (D.state desk.new)) }
     ensures end { IfOk result (λ n. n < want → IsTrue (D.state desk.old).tells → (D.state desk.new).left role ≡ []) }
     ensures err { OnErr result (TakesSome role (D.state desk.old) (D.state desk.new)) }
     ensures failed { IsErrOf result ReadError.Failed → HasFault role (D.state desk.old) (D.state desk.new) }

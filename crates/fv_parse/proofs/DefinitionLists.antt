@@ -3,11 +3,11 @@ use Rattle.std.proofs.Common.{◌≡◌, ℕ, ◌+◌, ◌<◌, ◌≤◌, List,
 use Rattle.std.specs.List.{filter_map, cons_option}
 use Rattle.std.proofs.lemmas.List.{take_more, take_all, map_push}
 use Rattle.std.proofs.lemmas.List.Elements.{filter_map-append}
-use Rattle.fv_tree.specs.declared.node.TreeId.{TreeId}
-use Rattle.fv_tree.specs.declared.node.TreeNode.{TreeNode}
-use Rattle.fv_tree.specs.declared.node.TreeNode.TheVariants as nodes
-use Rattle.fv_grammar.specs.Tree.{Tree, End, items}
-use Rattle.fv_tree.specs.Arena.{tree_of, forest}
+use Rattle.fv_parse_tree.specs.declared.node.TreeId.{TreeId}
+use Rattle.fv_parse_tree.specs.declared.node.TreeNode.{TreeNode}
+use Rattle.fv_parse_tree.specs.declared.node.TreeNode.TheVariants as nodes
+use Rattle.fv_parse_grammar.specs.Tree.{Tree, End, items}
+use Rattle.fv_parse_tree.specs.Arena.{tree_of, forest}
 use Rattle.fv_parse.specs.declared.definitions.Defined.{Defined}
 use Rattle.fv_parse.specs.Trees.{Parsed, tree_in}
 use Rattle.fv_parse.specs.Definitions.{defined_by, definitions_of}

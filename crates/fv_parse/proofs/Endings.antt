@@ -3,11 +3,11 @@ use Rattle.std.proofs.Common.{◌≡◌, List, None, Result, Ok, Err, inl, inr, 
 use Rattle.std.specs.Prelude.{IfOk, IfErr}
 use Rattle.fv_lex.specs.declared.token.Symbol.{Symbol}
 use Rattle.fv_lex.specs.Token.{Lexed, symbols_of}
-use Rattle.fv_grammar.specs.Tree.{Tree as Spelled}
-use Rattle.fv_grammar.specs.Nesting.{Nests}
-use Rattle.fv_grammar.specs.Descent.{program}
-use Rattle.fv_grammar.specs.Grammar.{SpelledOnce}
-use Rattle.fv_grammar.specs.Laws.{ReadsOnlySpelled, ReadsAllSpelled}
+use Rattle.fv_parse_grammar.specs.Tree.{Tree as Spelled}
+use Rattle.fv_parse_grammar.specs.Nesting.{Nests}
+use Rattle.fv_parse_grammar.specs.Descent.{program}
+use Rattle.fv_parse_grammar.specs.Grammar.{SpelledOnce}
+use Rattle.fv_parse_grammar.specs.Laws.{ReadsOnlySpelled, ReadsAllSpelled}
 use Rattle.fv_parse.specs.declared.refusal.ParseRefusal.{ParseRefusal}
 use Rattle.fv_parse.specs.declared.refusal.ParseRefusal.TheVariants as refusals
 use Rattle.fv_parse.specs.Trees.{Parsed, program_of}

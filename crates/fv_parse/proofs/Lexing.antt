@@ -18,7 +18,7 @@ use Rattle.fv_lex.specs.Symbols.{is_unsupported, word_symbol, symbol_of}
 use Rattle.fv_lex.specs.Pieces.{is_token, IsPiece, blank_byte, line_comment, block_comment, longest_token}
 use Rattle.fv_lex.specs.Cuts.{depth_after, Cut, Cuts, nothing_more, piece_first, tokens_of, token_of, place_after, first_place, end_of, Has, HasTokens}
 use Rattle.fv_lex.specs.Cuts.{too_long, cut, deepest}
-use Rattle.fv_grammar.specs.Nesting.{Nests, lowered}
+use Rattle.fv_parse_grammar.specs.Nesting.{Nests, lowered}
 
 -- a symbol that is no bracket
 abbrev plain : Symbol → Bool

@@ -2,12 +2,12 @@
 use Rattle.std.proofs.Common.{◌≡◌, ℕ, ◌<◌, List, [], ◌∷◌, map, get_or, Vec, refl, sym, ap, ap₂, subst, ◌∙◌}
 use Rattle.std.proofs.lemmas.List.{get_or-map}
 use Rattle.std.specs.declared.alloc.Global.{Global}
-use Rattle.fv_tree.specs.declared.node.TreeId.{TreeId}
-use Rattle.fv_tree.specs.declared.node.TreeNode.{TreeNode}
-use Rattle.fv_tree.specs.declared.node.TreeNode.TheVariants as nodes
-use Rattle.fv_grammar.specs.Tree.{Tree, End, items, start_of}
-use Rattle.fv_tree.specs.declared.arena.Entry.{Entry}
-use Rattle.fv_tree.specs.Arena.{tree_at, tree_of, forest, IsBuilt, AreBuilt}
+use Rattle.fv_parse_tree.specs.declared.node.TreeId.{TreeId}
+use Rattle.fv_parse_tree.specs.declared.node.TreeNode.{TreeNode}
+use Rattle.fv_parse_tree.specs.declared.node.TreeNode.TheVariants as nodes
+use Rattle.fv_parse_grammar.specs.Tree.{Tree, End, items, start_of}
+use Rattle.fv_parse_tree.specs.declared.arena.Entry.{Entry}
+use Rattle.fv_parse_tree.specs.Arena.{tree_at, tree_of, forest, IsBuilt, AreBuilt}
 use Rattle.fv_parse.specs.Trees.{Parsed, size_of, tree_in, node_tree, start_in, PartsBelow}
 
 -- the node is no list

@@ -3,15 +3,15 @@ use Rattle.std.proofs.Common.{◌≡◌, ◌⊎◌, ℕ, List, length, Option, S
 use Rattle.fv_lex.specs.declared.token.Place.{Place}
 use Rattle.fv_lex.specs.declared.token.Symbol.{Symbol}
 use Rattle.fv_lex.specs.Token.{Lexed, symbols_of}
-use Rattle.fv_grammar.specs.Tree.{Tree as Spelled}
-use Rattle.fv_grammar.specs.Grammar.{SpelledOnce}
-use Rattle.fv_grammar.specs.Descent.{program}
-use Rattle.fv_grammar.specs.Laws.{ReadsOnlySpelled, ReadsAllSpelled}
+use Rattle.fv_parse_grammar.specs.Tree.{Tree as Spelled}
+use Rattle.fv_parse_grammar.specs.Grammar.{SpelledOnce}
+use Rattle.fv_parse_grammar.specs.Descent.{program}
+use Rattle.fv_parse_grammar.specs.Laws.{ReadsOnlySpelled, ReadsAllSpelled}
 use Rattle.fv_lex.specs.Cuts.{HasTokens, deepest}
 use Rattle.fv_parse.specs.Unsupported.{first_unsupported}
 use Rattle.fv_parse.proofs.Lexing.{tokens_nest}
 use Rattle.fv_parse.proofs.Endings.{no_tree}
-use Rattle.fv_begins.specs.Beginnings.{OnePlace, StopsAtThePlace}
+use Rattle.fv_parse_prefixes.specs.Beginnings.{OnePlace, StopsAtThePlace}
 use Rattle.fv_parse.specs.declared.refusal.ParseRefusal.{ParseRefusal}
 use Rattle.fv_parse.specs.declared.refusal.ParseRefusal.TheVariants.{Syntax, Unsupported}
 use Rattle.fv_parse.specs.Trees.{place_from}

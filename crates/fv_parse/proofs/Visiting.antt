@@ -5,12 +5,12 @@ use Rattle.std.proofs.lemmas.List.{append-nil, reverse-append, reverse-reverse, 
 use Rattle.std.proofs.lemmas.List.Elements.{All-append, All-weaker, All-cons, All-nil, All-get_or, All-from_get_or}
 use Rattle.std.proofs.lemmas.List.Sums.{sum_by-append}
 use Rattle.std.proofs.lemmas.Grind.{flat_map-append}
-use Rattle.fv_tree.specs.declared.node.TreeId.{TreeId}
-use Rattle.fv_tree.specs.declared.node.TreeNode.{TreeNode}
-use Rattle.fv_tree.specs.declared.node.TreeNode.TheVariants as nodes
+use Rattle.fv_parse_tree.specs.declared.node.TreeId.{TreeId}
+use Rattle.fv_parse_tree.specs.declared.node.TreeNode.{TreeNode}
+use Rattle.fv_parse_tree.specs.declared.node.TreeNode.TheVariants as nodes
 use Rattle.fv_parse.specs.declared.definitions.Defined.{Defined}
-use Rattle.fv_grammar.specs.Tree.{Tree, End, Binary, More}
-use Rattle.fv_tree.specs.Arena.{tree_at, tree_of, forest}
+use Rattle.fv_parse_grammar.specs.Tree.{Tree, End, Binary, More}
+use Rattle.fv_parse_tree.specs.Arena.{tree_at, tree_of, forest}
 use Rattle.fv_parse.specs.Trees.{AllBelow, PartsBelow}
 use Rattle.fv_parse.specs.Definitions.{names_in}
 use Rattle.fv_parse.specs.Visits.{parts_left, own_names}

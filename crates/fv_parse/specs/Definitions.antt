@@ -4,7 +4,7 @@ use Rattle.std.specs.List.{filter_map, list_any}
 use Rattle.std.specs.Str.{bytes_eq}
 use Rattle.fv_lex.specs.Token.{Lexed}
 use Rattle.fv_parse.specs.declared.definitions.Defined.{Defined}
-use Rattle.fv_grammar.specs.Tree.{Tree, Named, Binary, Constant, Function, Rule, More, items}
+use Rattle.fv_parse_grammar.specs.Tree.{Tree, Named, Binary, Constant, Function, Rule, More, items}
 use Rattle.fv_parse.specs.Trees.{text_of}
 
 -- What a tree defines: the number of its name's token, and how many patterns stand behind it. A rule has no name: it has the

@@ -4,9 +4,9 @@ use Rattle.fv_lex.specs.declared.token.Place.{Place}
 use Rattle.fv_lex.specs.declared.token.Symbol.{Symbol}
 use Rattle.fv_lex.specs.Token.{Lexed, symbols_of}
 use Rattle.fv_lex.specs.Cuts.{HasTokens}
-use Rattle.fv_grammar.specs.Tree.{Tree as Spelled}
-use Rattle.fv_grammar.specs.Grammar.{SpellsProgram}
-use Rattle.fv_begins.specs.Beginnings.{IsErrorPlace}
+use Rattle.fv_parse_grammar.specs.Tree.{Tree as Spelled}
+use Rattle.fv_parse_grammar.specs.Grammar.{SpellsProgram}
+use Rattle.fv_parse_prefixes.specs.Beginnings.{IsErrorPlace}
 use Rattle.fv_parse.specs.declared.refusal.ParseRefusal.{ParseRefusal}
 use Rattle.fv_parse.specs.declared.refusal.ParseRefusal.TheVariants as refusals
 use Rattle.fv_parse.specs.Trees.{Parsed, program_of, place_from}

@@ -12,8 +12,8 @@ use Rattle.fv_parse.specs.declared.clash.Among.{Among}
 use Rattle.fv_parse.specs.declared.clash.Among.TheVariants as among
 use Rattle.fv_parse.specs.declared.refusal.ParseRefusal.{ParseRefusal}
 use Rattle.fv_parse.specs.declared.refusal.ParseRefusal.TheVariants as refusals
-use Rattle.fv_grammar.specs.Tree.{Tree, Group, Abstraction, Case, Iteration, Ports, Slider, Panel, Delayed, Apply, Binary, Where, Rule, Constant, Function}
-use Rattle.fv_grammar.specs.Tree.{More}
+use Rattle.fv_parse_grammar.specs.Tree.{Tree, Group, Abstraction, Case, Iteration, Ports, Slider, Panel, Delayed, Apply, Binary, Where, Rule, Constant, Function}
+use Rattle.fv_parse_grammar.specs.Tree.{More}
 use Rattle.fv_parse.specs.Trees.{Parsed, tree_in, text_of, place_at}
 use Rattle.fv_parse.specs.Definitions.{definitions_of, as_name, names_in, has_process}
 

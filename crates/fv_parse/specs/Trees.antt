@@ -3,12 +3,12 @@ use Rattle.std.specs.Prelude.{◌≡◌, ℕ, suc, ◌-◌, ◌<◌, if◌then�
 use Rattle.std.specs.Str.{bytes_eq}
 use Rattle.fv_lex.specs.declared.token.Place.{Place}
 use Rattle.fv_lex.specs.Token.{Lexed, places_of, texts_of}
-use Rattle.fv_grammar.specs.Tree.{Tree as Spelled}
-use Rattle.fv_tree.specs.declared.node.TreeId.{TreeId}
-use Rattle.fv_tree.specs.declared.node.TreeNode.{TreeNode}
-use Rattle.fv_tree.specs.declared.arena.Entry.{Entry}
-use Rattle.fv_tree.specs.Arena.{tree_at, tree_of, trees, AreBuilt}
-pub use Rattle.fv_tree.specs.Arena.{PartsBelow, AllBelow}
+use Rattle.fv_parse_grammar.specs.Tree.{Tree as Spelled}
+use Rattle.fv_parse_tree.specs.declared.node.TreeId.{TreeId}
+use Rattle.fv_parse_tree.specs.declared.node.TreeNode.{TreeNode}
+use Rattle.fv_parse_tree.specs.declared.arena.Entry.{Entry}
+use Rattle.fv_parse_tree.specs.Arena.{tree_at, tree_of, trees, AreBuilt}
+pub use Rattle.fv_parse_tree.specs.Arena.{PartsBelow, AllBelow}
 
 pub record Parsed : Type 0 where
   pub tokens : Lexed

@@ -1,8 +1,8 @@
 -- What is left to visit of patterns.
 use Rattle.std.specs.Prelude.{List, [], ◌∷◌}
-use Rattle.fv_tree.specs.declared.node.TreeId.{TreeId}
-use Rattle.fv_tree.specs.declared.node.TreeNode.{TreeNode}
-use Rattle.fv_tree.specs.declared.node.TreeNode.TheVariants as nodes
+use Rattle.fv_parse_tree.specs.declared.node.TreeId.{TreeId}
+use Rattle.fv_parse_tree.specs.declared.node.TreeNode.{TreeNode}
+use Rattle.fv_parse_tree.specs.declared.node.TreeNode.TheVariants as nodes
 use Rattle.fv_parse.specs.declared.definitions.Defined.{Defined}
 use Rattle.fv_parse.specs.Definitions.{as_name}
 

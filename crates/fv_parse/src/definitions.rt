@@ -9,7 +9,7 @@ ghost use Rattle.fv_parse.specs.Visits.{own_names, parts_left};
 
 use crate::parsed::{Tree, text_of};
 use fv_lex::Tokens;
-use fv_tree::{TreeId, TreeNode};
+use fv_parse_tree::{TreeId, TreeNode};
 use std::alloc::{AllocError, Global};
 
 /// A definition: the number of its name's token, and how many patterns stand behind it.

@@ -11,7 +11,7 @@ mod refusal;
 mod static_errors;
 mod unsupported;
 
-pub use fv_tree::{TreeId, TreeNode};
+pub use fv_parse_tree::{TreeId, TreeNode};
 pub use laws::{one_outcome, same_names};
 pub use parsed::Tree;
 pub use parser::parse;

@@ -2,12 +2,12 @@
 
 ghost use Rattle.std.specs.Prelude.{◌≡◌, ◌<◌, ◌-◌, length, map, codes};
 ghost use Rattle.std.specs.Str.{bytes_eq};
-ghost use Rattle.fv_grammar.specs.Tree.{items, start_of};
+ghost use Rattle.fv_parse_grammar.specs.Tree.{items, start_of};
 ghost use Rattle.fv_parse.specs.Trees.{size_of, tree_in, node_tree, start_in, PartsBelow, AllBelow, place_from, place_at, text_of, label_of, first_named};
 
 use crate::definitions::is_process;
 use fv_lex::{Place, Tokens};
-use fv_tree::{Entry, TreeId, TreeNode};
+use fv_parse_tree::{Entry, TreeId, TreeNode};
 use std::marker::Model;
 
 /// The tree of a program, over its tokens.

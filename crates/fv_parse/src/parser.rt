@@ -1,10 +1,10 @@
 // The parser's call.
 
 ghost use Rattle.std.specs.Prelude.{◌≡◌, ◌<◌, ◌⊎◌, length, IfOk, IfErr};
-ghost use Rattle.fv_grammar.specs.Tree.{Tree as Spelled};
+ghost use Rattle.fv_parse_grammar.specs.Tree.{Tree as Spelled};
 ghost use Rattle.fv_parse.specs.declared.refusal.ParseRefusal.{ParseRefusal as Refusal};
 ghost use Rattle.fv_parse.specs.declared.refusal.ParseRefusal.TheVariants.{NoMemory};
-ghost use Rattle.fv_tree.specs.Arena.{trees, tree_at};
+ghost use Rattle.fv_parse_tree.specs.Arena.{trees, tree_at};
 ghost use Rattle.fv_parse.specs.Trees.{program_of};
 ghost use Rattle.fv_parse.specs.Outcomes.{Finishes, HasTree, HasRefusal, IsSpelled, IsAccepted, IsRefusedOrWants};
 
@@ -14,10 +14,10 @@ use crate::parsed::{Tree, place_from};
 use crate::refusal::ParseRefusal;
 use crate::static_errors::refused;
 use crate::unsupported::first_unsupported;
-use fv_begins::stops_at_the_place;
-use fv_grammar::{reads_what_is_spelled, spelled_once};
 use fv_lex::Tokens;
-use fv_tree::{Arena, Fault, TreeId, read};
+use fv_parse_grammar::{reads_what_is_spelled, spelled_once};
+use fv_parse_prefixes::stops_at_the_place;
+use fv_parse_tree::{Arena, Fault, TreeId, read};
 use std::alloc::Global;
 
 /// What is left to see of a program that is spelled.

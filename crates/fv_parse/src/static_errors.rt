@@ -1,8 +1,8 @@
 // The first static error of a program: that of each node, by those of its parts.
 
 ghost use Rattle.std.specs.Prelude.{◌≡◌, ◌⊎◌, ◌<◌, length, map, Some, IfOk};
-ghost use Rattle.fv_grammar.specs.Tree.{End};
-ghost use Rattle.fv_tree.specs.Arena.{trees, forest};
+ghost use Rattle.fv_parse_grammar.specs.Tree.{End};
+ghost use Rattle.fv_parse_tree.specs.Arena.{trees, forest};
 ghost use Rattle.fv_parse.specs.declared.refusal.ParseRefusal.TheVariants.{NoMemory};
 ghost use Rattle.fv_parse.specs.Trees.{size_of, tree_in, program_of, AllBelow};
 ghost use Rattle.fv_parse.specs.Definitions.{definitions_of, as_name, names_in};
@@ -14,7 +14,7 @@ use crate::parsed::{Tree, place_at, text_of};
 use crate::refusal::ParseRefusal;
 use fv_base::Word;
 use fv_lex::Tokens;
-use fv_tree::{TreeId, TreeNode};
+use fv_parse_tree::{TreeId, TreeNode};
 use std::alloc::{AllocError, Global};
 
 /// The first error of a part.

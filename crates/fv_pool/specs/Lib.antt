@@ -2,6 +2,7 @@ pub mod Row
 pub mod Link
 pub mod Layout
 pub mod Lengths
+pub mod Uncut
 pub mod Parts
 pub mod Region
 pub mod Cells

@@ -17,11 +17,11 @@ given_by c = c.given
 pub record IsCutter (lengths : List ℕ) (given : ℕ) (cells : List ℤ) (cutter : Cutter) : Type 0 where
   pub lengths_are : parts_of cutter ≡ lengths
   pub given_are : given_by cutter ≡ given
-  pub left : cutter.rest.now ≡ drop (sum (take given lengths)) cells
+  pub left : cutter.rest.cells.now ≡ drop (sum (take given lengths)) cells
 
 -- the next part of the cells, which lies apart from those to come: the loan of what was left was cut in these two
 pub record Gives (old new : Cutter) (p : Part) : Type 0 where
   pub cells : (cells : List ℤ) → IsCutter (parts_of old) (given_by old) cells old → p.cells.items ≡ part (parts_of old) (given_by old) cells
   pub left : (cells : List ℤ) → IsCutter (parts_of old) (given_by old) cells old → IsCutter (parts_of old) (given_by old + 1) cells new
-  pub whole : p.halves.whole ≡ old.rest.ghost_name
-  pub high : p.halves.high ≡ new.rest.ghost_name
+  pub whole : p.halves.whole ≡ old.rest.cells.ghost_name
+  pub high : p.halves.high ≡ new.rest.cells.ghost_name

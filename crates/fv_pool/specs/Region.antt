@@ -21,4 +21,4 @@ LendsCells s r = Lends the_row (Array i32 0) s r (with_cells s.now)
 
 -- the region ends with the cells that the loan of the cutter's rest ends with
 abbrev pub LendsParts : MutBor Region → Cutter → Fml
-LendsParts s c = follows the_row (Array i32 0) s.ghost_name c.rest.ghost_name (with_cells s.now)
+LendsParts s c = follows the_row (Array i32 0) s.ghost_name c.rest.cells.ghost_name (with_cells s.now)

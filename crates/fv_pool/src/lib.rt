@@ -10,5 +10,5 @@ mod region;
 pub use cells::Cells;
 pub use layout::Layout;
 pub use loan::{Ended, Halves, Link};
-pub use part::{Cutter, Part};
+pub use part::{Cutter, Part, Uncut};
 pub use region::Region;

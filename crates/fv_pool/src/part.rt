@@ -1,12 +1,12 @@
-// A part of the region, and the cutter that gives the parts in their order.
+// A part of the region, cells of which parts are cut, and the cutter that gives the parts of a layout in their order.
 
-ghost use Rattle.std.specs.Prelude.{◌≡◌, ◌≤◌, ◌<◌, ◌↔◌, length, take, drop, sum, IfSome, IfNone, IsSome};
+ghost use Rattle.std.specs.Prelude.{◌≡◌, ◌≤◌, ◌<◌, ◌↔◌, length, take, drop, sum, IfSome, IfNone, IsSome, IsTrue};
 ghost use Rattle.fv_pool.specs.Layout.{HaveRoom};
 ghost use Rattle.fv_pool.specs.Lengths.{lengths_of};
 
 use crate::cells::Cells;
 use crate::layout::Layout;
-use crate::loan::Halves;
+use crate::loan::{Ended, Halves, Link};
 use std::mem::take as taken;
 
 /// One part: its cells, how many they are, and how the loan that it was cut from ends.
@@ -18,13 +18,19 @@ pub struct Part<'a> {
     ghost is_low: { (halves.low ≡ cells.name) × (len ≡ length cells.items) },
 }
 
+/// Cells of which parts are cut, one after the other.
+#[derive(Drop)]
+pub struct Uncut<'a> {
+    cells: &'a mut [i32],
+}
+
 /// Gives the parts of a layout, one after the other.
 #[derive(Drop)]
 pub struct Cutter<'a> {
-    rest: &'a mut [i32],
+    rest: Uncut<'a>,
     layout: &'a Layout,
     given: u64,
-    ghost fits: { HaveRoom (drop given (lengths_of layout.now)) rest.now },
+    ghost fits: { HaveRoom (drop given (lengths_of layout.now)) rest.cells.now },
 }
 
 impl<'a> Part<'a> {
@@ -42,17 +48,67 @@ impl<'a> Part<'a> {
     }
 }
 
+impl<'a> Uncut<'a> {
+    ghost use Rattle.fv_pool.specs.Uncut.{left_of, loan_of, IsCut};
+
+    /// Nothing is cut off yet.
+    pub fn of(cells: &'a mut [i32]) -> Uncut<'a>
+        ensures cells { left_of result ≡ cells.old }
+        ensures loan { loan_of result ≡ cells.entry.ghost_name }
+    {
+        Uncut { cells }
+    }
+
+    /// The number of cells that are left.
+    pub fn len(&self) -> usize
+        ensures { result ≡ length (left_of self.now) }
+    {
+        self.cells.len()
+    }
+
+    /// No cells are left.
+    pub fn is_empty(&self) -> bool
+        ensures { IsTrue result ↔ (length (left_of self.now) ≡ 0) }
+    {
+        self.cells.is_empty()
+    }
+
+    /// The next so many cells, as they are.
+    pub fn next(&mut self, len: usize) -> Part<'a>
+        requires { len ≤ length (left_of self.old) }
+        ensures { IsCut self.old self.new len result }
+    {
+        let cells = taken(&mut self.cells);
+        let (low, high, halves) = Halves::cut(cells, len);
+        self.cells = high;
+        Part {
+            cells: Cells::of(low),
+            len,
+            halves,
+        }
+    }
+
+    /// How the loan of what is left ends: as it is. It is shared from then on.
+    pub fn end(self) -> (&'a [i32], Ended)
+        ensures cells { result.0.now ≡ left_of self.entry }
+        ensures ended { (result.1.name ≡ loan_of self.entry) × (result.1.last ≡ left_of self.entry) }
+    {
+        let (_none, rest, link) = Link::start(self.cells);
+        link.end(rest)
+    }
+}
+
 impl<'a> Cutter<'a> {
     ghost use Rattle.fv_pool.specs.Parts.{parts_of, given_by, IsCutter, Gives};
 
     // Over the whole of the cells.
     pub(crate) fn over(cells: &'a mut [i32], layout: &'a Layout) -> Cutter<'a>
         requires { HaveRoom (lengths_of layout.now) cells.old }
-        ensures loan { result.rest.ghost_name ≡ cells.entry.ghost_name }
+        ensures loan { result.rest.cells.ghost_name ≡ cells.entry.ghost_name }
         ensures cutter { IsCutter (lengths_of layout.now) 0 cells.old result }
     {
         Cutter {
-            rest: cells,
+            rest: Uncut::of(cells),
             layout,
             given: 0,
         }
@@ -68,14 +124,7 @@ impl<'a> Cutter<'a> {
             return None;
         }
         let length = self.layout.length(self.given) as usize;
-        let cells = taken(&mut self.rest);
-        let (low, high, halves) = Halves::cut(cells, length);
-        self.rest = high;
         self.given += 1;
-        Some(Part {
-            cells: Cells::of(low),
-            len: length,
-            halves,
-        })
+        Some(self.rest.next(length))
     }
 }

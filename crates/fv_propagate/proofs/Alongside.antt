@@ -1,5 +1,6 @@
 -- A walk beside another one, whose wires and signals stay related, where something holds of the signals at its end.
-use Rattle.std.proofs.Common.{◌≡◌, ℕ, zero, suc, ◌%◌, ◌<◌, ◌≤◌, List, [], ◌∷◌, ◌++◌, length, take, drop, get_or, refl, ap, ◌∙◌, subst, arith, nat_eq, true, false, if◌then◌else◌, ℤ, length-append}
+use Rattle.std.proofs.Common.{◌≡◌, ℕ, zero, suc, ◌%◌, ◌<◌, ◌≤◌, List, [], ◌∷◌, ◌++◌, length, take, drop, get_or, refl, ap, ◌∙◌, subst, arith, nat_eq, true}
+use Rattle.std.proofs.Common.{false, if◌then◌else◌, ℤ, length-append}
 use Rattle.std.specs.Prelude.{slice_set}
 use Rattle.std.proofs.lemmas.List.{length-take-le, length-drop, length-set}
 use Rattle.fv_base.specs.Lists.{table}
@@ -9,7 +10,8 @@ use Rattle.fv_diagram.specs.declared.node.Primitive.{Primitive as Prim}
 use Rattle.fv_diagram.specs.declared.node.Primitive.TheVariants as prim
 use Rattle.fv_diagram.specs.declared.signals.Leaf.{Leaf}
 use Rattle.fv_diagram.specs.declared.signals.Leaf.TheVariants as leaf
-use Rattle.fv_diagram.specs.Diagram.{Diagram, Primitive, Constant, Control, Slot, Bind, Par, Seq, Split, Merge, Rec, inputs, outputs, primitive_inputs, IsWellFormed}
+use Rattle.fv_diagram.specs.Diagram.{Diagram, Primitive, Constant, Control, Slot, Bind, Par, Seq, Split, Merge, Rec, inputs, outputs, primitive_inputs}
+use Rattle.fv_diagram.specs.Diagram.{IsWellFormed}
 use Rattle.fv_diagram.specs.Streams.{dealt}
 use Rattle.fv_diagram.specs.Wires.{plugged}
 use Rattle.fv_diagram.specs.Hooks.{Hooks, takes}
@@ -170,7 +172,8 @@ pub record KeepAlong {V S T : Type 0} (h : Hooks ℕ S) (g : Hooks V T) (N : ℤ
   pub leaf : (l : Leaf) (ws : List ℕ) (vs : List V) (s : S) (t : T) → IsOfLeaf N C l → length ws ≡ takes l → Good s → Holds (h.leaf l ws s).1 → R s t →
       AreRelated Q ws vs → Q (h.leaf l ws s).0 (g.leaf l vs t).0 × R (h.leaf l ws s).1 (g.leaf l vs t).1
   pub opened : (n : ℕ) (s : S) (t : T) → Good s → Holds (h.opened n s).1 → R s t → Gives Q R (h.opened n s) (g.opened n t)
-  pub closed : (ws : List ℕ) (vs : List V) (s : S) (t : T) → Good s → Holds (h.closed ws s).1 → R s t → AreRelated Q ws vs → Gives Q R (h.closed ws s) (g.closed vs t)
+  pub closed : (ws : List ℕ) (vs : List V) (s : S) (t : T) → Good s → Holds (h.closed ws s).1 → R s t → AreRelated Q ws vs
+      → Gives Q R (h.closed ws s) (g.closed vs t)
 
 module _ {V S T : Type 0} (h : Hooks ℕ S) (g : Hooks V T) (N : ℤ → Type 0) (C : ℕ → Type 0) (Good : S → Type 0) (Onward : S → S → Type 0) (Holds : S → Type 0)
     (Q : ℕ → V → Type 0) (R : S → T → Type 0) (orderly : AreOrderly h Good Onward) (backs : HoldBack h Holds) (keeps : KeepAlong h g N C Good Holds Q R)
@@ -202,7 +205,8 @@ module _ {V S T : Type 0} (h : Hooks ℕ S) (g : Hooks V T) (N : ℤ → Type 0)
       let m = keeps.leaf (leaf.Point Add) both (get_or xs (i % n) v ∷ y ∷ []) s t tt refl k
       (added_back h Holds backs n (suc i) ws (slice_set us (i % n) a.0) a.1 o) r
       (related_get Q us xs (i % n) 0 v free u, (q.0, tt)) in
-      added_along n (suc i) ws (slice_set us (i % n) a.0) vs (slice_set xs (i % n) b.0) a.1 b.1 (orderly.stays_good _ _ (orderly.leaf_on (leaf.Point Add) both s) k)
+      added_along n (suc i) ws (slice_set us (i % n) a.0) vs (slice_set xs (i % n) b.0) a.1 b.1
+      (orderly.stays_good _ _ (orderly.leaf_on (leaf.Point Add) both s) k)
       o m.1 q.1 (related_set Q us xs (i % n) a.0 b.0 m.0 u)
 
   summed_along : (n : ℕ) (ws : List ℕ) (vs : List V) (s : S) (t : T) → Good s → Holds (summed h 0 n ws s).1 → R s t → AreRelated Q ws vs →
@@ -228,7 +232,8 @@ module _ {V S T : Type 0} (h : Hooks ℕ S) (g : Hooks V T) (N : ℤ → Type 0)
   walked_along (Control n) slots places ws vs s t wf w a k o e r q = let m = keeps.leaf (leaf.Control n) [] [] s t a refl k o r tt in ((m.0, tt), m.1)
   walked_along (Slot i) slots places ws vs s t wf w a k o e r q = ((e i, tt), r)
   walked_along (Bind i b) slots places ws vs s t wf w a k o e r q =
-      walked_along b (plugged slots i (get_or ws 0 0)) (plugged places i (get_or vs 0 v)) (drop 1 ws) (drop 1 vs) s t wf (length-drop 1 ws ∙ omega (arith, w)) a k o
+      walked_along b (plugged slots i (get_or ws 0 0)) (plugged places i (get_or vs 0 v)) (drop 1 ws) (drop 1 vs) s t wf (length-drop 1 ws ∙ omega (arith, w))
+      a k o
       (related_plugged Q slots places i (get_or ws 0 0) (get_or vs 0 v) (related_get Q ws vs 0 0 v free q) e) r (related_drop Q 1 ws vs q)
   walked_along (Par b c) slots places ws vs s t wf w a k o e r q =
       let n = inputs b in
@@ -236,8 +241,10 @@ module _ {V S T : Type 0} (h : Hooks ℕ S) (g : Hooks V T) (N : ℤ → Type 0)
       let y = walked g v b places (take n vs) t in
       let nb = length-take-le n ws (omega (arith, w)) in
       let kb = orderly.stays_good _ _ (goes b slots (take n ws) s wf.0 nb k).1 k in
-      let l = walked_along b slots places (take n ws) (take n vs) s t wf.0 nb a.0 k (walk_back h Holds backs c slots (drop n ws) x.1 o) e r (related_take Q n ws vs q) in
-      let m = walked_along c slots places (drop n ws) (drop n vs) x.1 y.1 wf.1 (length-drop n ws ∙ omega (arith, w)) a.1 kb o e l.1 (related_drop Q n ws vs q) in
+      let l = walked_along b slots places (take n ws) (take n vs) s t wf.0 nb a.0 k (walk_back h Holds backs c slots (drop n ws) x.1 o) e r
+      (related_take Q n ws vs q) in
+      let m = walked_along c slots places (drop n ws) (drop n vs) x.1 y.1 wf.1 (length-drop n ws ∙ omega (arith, w)) a.1 kb o e l.1 (related_drop Q n ws vs q)
+      in
       (related_append Q x.0 (walked h 0 c slots (drop n ws) x.1).0 y.0 (walked g v c places (drop n vs) y.1).0 l.0 m.0, m.1)
   walked_along (Seq b c) slots places ws vs s t wf w a k o e r q =
       let x = walked h 0 b slots ws s in

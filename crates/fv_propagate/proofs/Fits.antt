@@ -1,5 +1,6 @@
 -- The values of a graph have 32 bits.
-use Rattle.std.proofs.Common.{◌≡◌, ℕ, zero, suc, ◌-◌, ◌<◌, ◌≤◌, List, [], ◌∷◌, length, take, map, get_or, replicate, All, refl, sym, subst, arith, ℤ, pos, negsuc, inl, inr, true, false, if◌then◌else◌, nat_le, w32, FitsSigned}
+use Rattle.std.proofs.Common.{◌≡◌, ℕ, zero, suc, ◌-◌, ◌<◌, ◌≤◌, List, [], ◌∷◌, length, take, map, get_or, replicate, All, refl, sym, subst, arith, ℤ, pos}
+use Rattle.std.proofs.Common.{negsuc, inl, inr, true, false, if◌then◌else◌, nat_le, w32, FitsSigned}
 use Rattle.std.proofs.lemmas.Bool.{cases_lt}
 use Rattle.std.proofs.lemmas.Int.{ints}
 use Rattle.std.proofs.lemmas.List.Elements.{All-head, All-tail}
@@ -48,7 +49,8 @@ point_fits op z h =
     omega (arith, ints, s.lo_fits, s.hi_fits, w.above, w.below)
 
 module _ (F : Graph) (ordered : IsOrdered F) (shut : IsClosed F) (X : List Frame) (c : ℕ → Stream) (small : (i t : ℕ) → FitsSigned w32 (column X i t))
-    (controls : (k t : ℕ) → FitsSigned w32 (c k t)) (numbers : (s : ℕ) (n : ℤ) → s < length F.signals → get_or F.signals s (Const (pos 0)) ≡ Const n → FitsSigned w32 n) where
+    (controls : (k t : ℕ) → FitsSigned w32 (c k t))
+    (numbers : (s : ℕ) (n : ℤ) → s < length F.signals → get_or F.signals s (Const (pos 0)) ≡ Const n → FitsSigned w32 n) where
   -- the values before time t have 32 bits
   abbrev FitBefore : ℕ → Type 0
   FitBefore t = (s u : ℕ) → s < length F.signals → u < t → FitsSigned w32 (value F s X c u)
@@ -62,7 +64,11 @@ module _ (F : Graph) (ordered : IsOrdered F) (shut : IsClosed F) (X : List Frame
       point_fits op (take (inputs_of op) (carried (λ r. value F r X c) args t)) (λ i. items_fit (λ r. value F r X c t) (inputs_of op) s args i o h)
   node_fits t s (Delay x d max) l e o n b h =
       back_fits (λ u. value F x X c u) t (clamped max (value F d X c t))
-      (λ u m. elim (cases_lt u t) [ inl k ↦ b x u (omega (arith, o.0)) k | inr k ↦ let f : t ≡ u = omega arith in subst (λ w. FitsSigned w32 (value F x X c w)) f (h x o.0) ])
+      (λ u m. elim (cases_lt u t) [
+        | inl k ↦ b x u (omega (arith, o.0)) k
+        | inr k ↦ let f : t ≡ u = omega arith in
+            subst (λ w. FitsSigned w32 (value F x X c w)) f (h x o.0)
+      ])
   node_fits zero s (Back group k) l e o n b h = zero_fits
   node_fits (suc t) s (Back group k) l e o n b h = b (definition F group k) t n.2 (omega arith)
   node_fits t s (Member group k) l e o n b h = h (definition F group k) o

@@ -1,5 +1,6 @@
 -- How progress goes on, and what a graph has that goes on from it.
-use Rattle.std.proofs.Common.{◌≡◌, ℕ, zero, suc, ◌+◌, ◌<◌, ◌≤◌, List, [], ◌∷◌, ◌++◌, length, get_or, pos, refl, sym, ap, ◌∙◌, subst, arith, Bool, true, false, inl, inr}
+use Rattle.std.proofs.Common.{◌≡◌, ℕ, zero, suc, ◌+◌, ◌<◌, ◌≤◌, List, [], ◌∷◌, ◌++◌, length, get_or, pos, refl, sym, ap, ◌∙◌, subst, arith, Bool, true, false}
+use Rattle.std.proofs.Common.{inl, inr}
 use Rattle.std.specs.Prelude.{slice_set}
 use Rattle.std.proofs.lemmas.Bool.{cases_lt, cases_eq}
 use Rattle.std.proofs.lemmas.List.{length_push, get_or_append_left, length-set, get_or-set_same, get_or-set_other}
@@ -118,7 +119,8 @@ fill_on n outs z s g o =
       marked = λ h. length-set s.draft.closed k true ∙ marked ∙ sym (length-set s.draft.groups k outs);
       stays = λ j h. set_stays s.draft.closed k j (o.stays j (ap (λ l. get_or l j false) (opened_closed n z) ∙ push_stays z.draft.closed false j h));
       closed = λ j a b. elim (cases_eq j k) [
-        | inl e ↦ ap (λ i. get_or (slice_set s.draft.closed k true) i false) e ∙ get_or-set_same s.draft.closed k true false (omega (arith, marked, o.groups, more))
+        | inl e ↦ ap (λ i. get_or (slice_set s.draft.closed k true) i false) e
+            ∙ get_or-set_same s.draft.closed k true false (omega (arith, marked, o.groups, more))
         | inr ne ↦ set_stays s.draft.closed k j (o.closed j (omega (arith, a, more)) (omega (arith, b, length-set s.draft.groups k outs)))
       ];
     }
@@ -182,7 +184,8 @@ module _ (F : Graph) where
       let one = put s (signal.Const (pos 1)) in
       let begun = put_mem one.1 one.0 in
       let late = put_mem begun.1 y in
-      before_put s (signal.Const (pos 1)) (before_mem one.1 one.0 (before_mem begun.1 y (before_put late.1 (signal.Point Select2 (begun.0 ∷ x ∷ late.0 ∷ begun.0 ∷ [])) g)))
+      before_put s (signal.Const (pos 1)) (before_mem one.1 one.0
+      (before_mem begun.1 y (before_put late.1 (signal.Point Select2 (begun.0 ∷ x ∷ late.0 ∷ begun.0 ∷ [])) g)))
 
   before_leaf : (l : Leaf) (ws : List ℕ) (s : Progress) → GoesOn F (leaf_of l ws s).1 → GoesOn F s
   before_leaf (leaf.Number n) ws s g = before_put s (signal.Const n) g

@@ -1,5 +1,6 @@
 -- What holds of all progress stays so.
-use Rattle.std.proofs.Common.{◌≡◌, ℕ, zero, suc, ◌<◌, ◌≤◌, List, [], ◌∷◌, ◌++◌, length, get_or, map, drop, refl, sym, ap, ◌∙◌, subst, arith, All, Bool, true, false, inl, inr, pos}
+use Rattle.std.proofs.Common.{◌≡◌, ℕ, zero, suc, ◌<◌, ◌≤◌, List, [], ◌∷◌, ◌++◌, length, get_or, map, drop, refl, sym, ap, ◌∙◌, subst, arith, All, Bool, true}
+use Rattle.std.proofs.Common.{false, inl, inr, pos}
 use Rattle.std.specs.Prelude.{slice_set}
 use Rattle.std.proofs.lemmas.List.{length_push, length-set, get_or-set_other}
 use Rattle.std.proofs.lemmas.List.Elements.{All-from_get_or}
@@ -12,8 +13,10 @@ use Rattle.fv_diagram.specs.declared.signals.Leaf.TheVariants as leaf
 use Rattle.fv_diagram.specs.Code.{padded}
 use Rattle.fv_diagram.proofs.Places.{prefix_long}
 use Rattle.fv_propagate.specs.declared.progress.Feedback.{Feedback}
-use Rattle.fv_propagate.specs.Progress.{Progress, put, puts, put_mem, put_prefix, passed, grouped, leaf_of, opened_of, shut, closed_of, fed_of, IsThere, IsWireOf, IsAdmitted, AreNested, AreOpen, IsProgress}
+use Rattle.fv_propagate.specs.Progress.{Progress, put, puts, put_mem, put_prefix, passed, grouped, leaf_of, opened_of, shut, closed_of, fed_of, IsThere}
+use Rattle.fv_propagate.specs.Progress.{IsWireOf, IsAdmitted, AreNested, AreOpen, IsProgress}
 use Rattle.fv_propagate.proofs.Puts.{put_cases, put_there, put_keeps, puts_keep, puts_groups, puts_closed, puts_feedbacks, puts_wide, puts_there}
+use Rattle.fv_share.proofs.Puts.{backs_stay_within}
 use Rattle.fv_propagate.proofs.Goes.{filled}
 
 pub wider : (m n : ℕ) (fs : List Feedback) → m ≤ n → AreNested m fs → AreNested n fs
@@ -31,11 +34,9 @@ admitted_tail (Back g j) f fs a = a.1
 admitted_tail n f fs a = tt
 
 -- the Backs of a group are as few as before
-pub backs_put : (s : Progress) (n : Signal) (g count : ℕ) → ((k : ℕ) → n ≡ Back g k → k < count) → BacksWithin s.draft g count → BacksWithin (put s n).1.draft g count
-backs_put s n g count h b i k x l e = elim (put_cases s n i x l) [
-  | inl p ↦ b i k x p.0 (sym p.1 ∙ e)
-  | inr p ↦ h k (sym p ∙ e)
-]
+pub backs_put : (s : Progress) (n : Signal) (g count : ℕ) → ((k : ℕ) → n ≡ Back g k → k < count) → BacksWithin s.draft g count
+    → BacksWithin (put s n).1.draft g count
+backs_put s n g count h b = backs_stay_within s.draft n g count h b
 
 open_put : (s : Progress) (n : Signal) (fs : List Feedback) → IsAdmitted fs n → AreOpen s.draft fs → AreOpen (put s n).1.draft fs
 open_put s n [] a h = tt
@@ -122,7 +123,8 @@ members_keep_progress s f fs members e h =
     let nested : AreNested (length s.draft.groups) (f ∷ fs) = subst (AreNested (length s.draft.groups)) e h.nested in
     let pending : AreOpen s.draft (f ∷ fs) = subst (AreOpen s.draft) e h.pending in
     record {
-      nested = wider f.group (length (slice_set s.draft.groups f.group members)) fs (omega (arith, nested.0, length-set s.draft.groups f.group members)) nested.1;
+      nested = wider f.group (length (slice_set s.draft.groups f.group members)) fs (omega (arith, nested.0, length-set s.draft.groups f.group members))
+          nested.1;
       pending = open_members s.draft f.group f.group members fs (omega arith) nested.1 pending.2;
     }
 

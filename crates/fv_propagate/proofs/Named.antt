@@ -1,5 +1,5 @@
 -- What the signals of a graph name: inputs and controls that are there, numbers of 32 bits, and delays of the list.
-use Rattle.std.proofs.Common.{ℕ, zero, suc, ◌<◌, ◌≤◌, List, [], ◌∷◌, length, get_or, sym, ◌∙◌, subst, arith, All, pos, inl, inr, w32, FitsSigned}
+use Rattle.std.proofs.Common.{ℕ, zero, suc, ◌<◌, ◌≤◌, List, [], ◌∷◌, length, get_or, refl, sym, ◌∙◌, subst, arith, All, pos, inl, inr, w32, FitsSigned}
 use Rattle.std.proofs.lemmas.List.Elements.{All-drop, All-get_or}
 use Rattle.std.proofs.lemmas.Int.{ints}
 use Rattle.fv_base.proofs.Lists.{length_table}
@@ -15,6 +15,7 @@ use Rattle.fv_diagram.specs.Diagram as diagram
 use Rattle.fv_diagram.specs.Hooks.{Hooks}
 use Rattle.fv_diagram.specs.Code.{padded}
 use Rattle.fv_propagate.specs.declared.progress.Feedback.{Feedback}
+use Rattle.fv_propagate.specs.Propagated.{HasControl}
 use Rattle.fv_propagate.specs.Progress.{Progress, put, puts, passed, grouped, put_mem, put_prefix, leaf_of, opened_of, shut, signal_hooks}
 use Rattle.fv_propagate.proofs.Alongside.{AreOfLeaves, IsOfLeaf, KeepAlong, related_places, related_length}
 use Rattle.fv_propagate.proofs.Puts.{put_cases, puts_wide}
@@ -28,12 +29,12 @@ still = record { leaf = λ l vs t. (tt, tt); opened = λ n t. (table n (λ i. tt
 abbrev pub Any : ℕ → Unit {0} → Type 0
 Any w u = Unit {0}
 
-module _ (ins controls : ℕ) (IsLimit : ℕ → Type 0) (none : IsLimit 0) (one : IsLimit 1) where
+module _ (ins : ℕ) (IsControl : ℕ → Type 0) (IsLimit : ℕ → Type 0) (none : IsLimit 0) (one : IsLimit 1) where
   -- the signal names what is there
   abbrev pub IsNamed : Signal → Type 0
   IsNamed (Input k) = k < ins
   IsNamed (Const n) = FitsSigned w32 n
-  IsNamed (Control k) = k < controls
+  IsNamed (Control k) = IsControl k
   IsNamed (Point op args) = Unit {0}
   IsNamed (Delay x d max) = IsLimit max
   IsNamed (Back group k) = Unit {0}
@@ -84,10 +85,7 @@ module _ (ins controls : ℕ) (IsLimit : ℕ → Type 0) (none : IsLimit 0) (one
   abbrev Named : Progress → Unit {0} → Type 0
   Named s u = AreNamed s
 
-  abbrev IsBound : ℕ → Type 0
-  IsBound k = k < controls
-
-  named_leaf : (l : Leaf) (ws : List ℕ) (s : Progress) → IsOfLeaf (FitsSigned w32) IsBound l → AreNamed s → AreNamed (leaf_of l ws s).1
+  named_leaf : (l : Leaf) (ws : List ℕ) (s : Progress) → IsOfLeaf (FitsSigned w32) IsControl l → AreNamed s → AreNamed (leaf_of l ws s).1
   named_leaf (leaf.Number n) ws s a g = named_put s (signal.Const n) a g
   named_leaf (leaf.Control k) ws s a g = named_put s (signal.Control k) a g
   named_leaf leaf.Mem ws s a g = named_mem (passed 1 s) (get_or ws 0 0) (named_passed 1 s g)
@@ -107,7 +105,7 @@ module _ (ins controls : ℕ) (IsLimit : ℕ → Type 0) (none : IsLimit 0) (one
   named_shut (f ∷ fs) ws s g =
       named_puts (signal.Member f.group) (length ws) (filled f fs ws s) (λ i l. tt) (record { signals = g.signals; delays = g.delays })
 
-  pub names_keep : (Holds : Progress → Type 0) → KeepAlong signal_hooks still (FitsSigned w32) IsBound IsGood Holds Any Named
+  pub names_keep : (Holds : Progress → Type 0) → KeepAlong signal_hooks still (FitsSigned w32) IsControl IsGood Holds Any Named
   unfolding still
   names_keep Holds = record {
     leaf = λ l ws vs s t a w k o r q. (tt, named_leaf l ws s a r);
@@ -123,14 +121,28 @@ module _ (ins controls : ℕ) (IsLimit : ℕ → Type 0) (none : IsLimit 0) (one
 
 -- ---- the numbers and controls of a diagram
 
-pub leaves_bounded : (controls : ℕ) (d : Diagram) → diagram.HasNumbers d → diagram.control_bound d ≤ controls → AreOfLeaves (FitsSigned w32) (λ k. k < controls) d
-leaves_bounded n (diagram.Primitive p) h l = tt
-leaves_bounded n (diagram.Constant z) h l = h
-leaves_bounded n (diagram.Control k) h l = omega arith
-leaves_bounded n (diagram.Slot s) h l = tt
-leaves_bounded n (diagram.Bind s a) h l = leaves_bounded n a h l
-leaves_bounded n (diagram.Par a b) h l = (leaves_bounded n a h.0 (omega arith), leaves_bounded n b h.1 (omega arith))
-leaves_bounded n (diagram.Seq a b) h l = (leaves_bounded n a h.0 (omega arith), leaves_bounded n b h.1 (omega arith))
-leaves_bounded n (diagram.Split a b) h l = (leaves_bounded n a h.0 (omega arith), leaves_bounded n b h.1 (omega arith))
-leaves_bounded n (diagram.Merge a b) h l = (leaves_bounded n a h.0 (omega arith), leaves_bounded n b h.1 (omega arith))
-leaves_bounded n (diagram.Rec a b) h l = (leaves_bounded n a h.0 (omega arith), leaves_bounded n b h.1 (omega arith))
+pub leaves_had : (IsControl : ℕ → Type 0) (d : Diagram) → diagram.HasNumbers d → ((k : ℕ) → HasControl d k → IsControl k)
+    → AreOfLeaves (FitsSigned w32) IsControl d
+leaves_had C (diagram.Primitive p) h l = tt
+leaves_had C (diagram.Constant z) h l = h
+leaves_had C (diagram.Control k) h l = l k refl
+leaves_had C (diagram.Slot s) h l = tt
+leaves_had C (diagram.Bind s a) h l = leaves_had C a h l
+leaves_had C (diagram.Par a b) h l = (leaves_had C a h.0 (λ k m. l k (inl m)), leaves_had C b h.1 (λ k m. l k (inr m)))
+leaves_had C (diagram.Seq a b) h l = (leaves_had C a h.0 (λ k m. l k (inl m)), leaves_had C b h.1 (λ k m. l k (inr m)))
+leaves_had C (diagram.Split a b) h l = (leaves_had C a h.0 (λ k m. l k (inl m)), leaves_had C b h.1 (λ k m. l k (inr m)))
+leaves_had C (diagram.Merge a b) h l = (leaves_had C a h.0 (λ k m. l k (inl m)), leaves_had C b h.1 (λ k m. l k (inr m)))
+leaves_had C (diagram.Rec a b) h l = (leaves_had C a h.0 (λ k m. l k (inl m)), leaves_had C b h.1 (λ k m. l k (inr m)))
+
+-- a control that the diagram has is below the bound of its controls
+pub control_below : (d : Diagram) (k : ℕ) → HasControl d k → k < diagram.control_bound d
+control_below (diagram.Primitive p) k h = absurd h
+control_below (diagram.Constant z) k h = absurd h
+control_below (diagram.Control j) k h = omega (arith, h)
+control_below (diagram.Slot s) k h = absurd h
+control_below (diagram.Bind s a) k h = control_below a k h
+control_below (diagram.Par a b) k h = elim h [ inl m ↦ omega (arith, control_below a k m) | inr m ↦ omega (arith, control_below b k m) ]
+control_below (diagram.Seq a b) k h = elim h [ inl m ↦ omega (arith, control_below a k m) | inr m ↦ omega (arith, control_below b k m) ]
+control_below (diagram.Split a b) k h = elim h [ inl m ↦ omega (arith, control_below a k m) | inr m ↦ omega (arith, control_below b k m) ]
+control_below (diagram.Merge a b) k h = elim h [ inl m ↦ omega (arith, control_below a k m) | inr m ↦ omega (arith, control_below b k m) ]
+control_below (diagram.Rec a b) k h = elim h [ inl m ↦ omega (arith, control_below a k m) | inr m ↦ omega (arith, control_below b k m) ]

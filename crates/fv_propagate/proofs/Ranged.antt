@@ -1,5 +1,6 @@
 -- The values of the graph lie in the spans of the diagram's wires, and no delay is clamped.
-use Rattle.std.proofs.Common.{◌≡◌, ℕ, zero, suc, ◌+◌, ◌-◌, ◌<◌, ◌≤◌, List, [], ◌∷◌, ◌++◌, length, drop, map, get_or, refl, sym, ap, ◌∙◌, subst, arith, ℤ, pos, negsuc, inl, inr, true, false, if◌then◌else◌, nat_le, w32, FitsSigned, unsigned_abs, ◌≤ℤ◌}
+use Rattle.std.proofs.Common.{◌≡◌, ℕ, zero, suc, ◌+◌, ◌-◌, ◌<◌, ◌≤◌, List, [], ◌∷◌, ◌++◌, length, drop, map, get_or, refl, sym, ap, ◌∙◌, subst, arith, ℤ, pos}
+use Rattle.std.proofs.Common.{negsuc, inl, inr, true, false, if◌then◌else◌, nat_le, w32, FitsSigned, unsigned_abs, ◌≤ℤ◌}
 use Rattle.std.proofs.lemmas.Int.{ints, clamps}
 use Rattle.std.proofs.lemmas.List.{length_push, length-append, drop-drop, get_or-drop, get_or-map, get_or_push, take-map}
 use Rattle.std.proofs.lemmas.List.Elements.{All-get_or}
@@ -165,7 +166,8 @@ module _ (C : ℕ → Type 0) (F : Graph) (ordered : IsOrdered F) (X : List Fram
       let last = Point Select2 (begun.0 ∷ x ∷ late.0 ∷ begun.0 ∷ []) in
       let g3 : GoesOn F late.1 = before_put F late.1 last g in
       let g2 : GoesOn F begun.1 = before_mem F begun.1 y g3 in
-      ranged_put late.1 last (λ x d max e. absurd cc) (ranged_mem begun.1 y g3 (ranged_mem one.1 one.0 g2 (ranged_put s (Const (pos 1)) (const_ranged (pos 1)) h)))
+      ranged_put late.1 last (λ x d max e. absurd cc)
+      (ranged_mem begun.1 y g3 (ranged_mem one.1 one.0 g2 (ranged_put s (Const (pos 1)) (const_ranged (pos 1)) h)))
 
   -- ---- the delays to come
 
@@ -180,7 +182,8 @@ module _ (C : ℕ → Type 0) (F : Graph) (ordered : IsOrdered F) (X : List Fram
       let long : n < length L = omega (arith, prefix_long (u.delays ++ x ∷ []) L p, length_push u.delays x) in
       let plus : n + 0 ≡ n = omega arith in
       let at : get_or L n x ≡ x = prefix_get (u.delays ++ x ∷ []) L n x p (omega (arith, length_push u.delays x)) ∙ get_or_push u.delays x x n refl in (
-        ap (λ l. get_or l 0 0) e ∙ get_or-drop n D 0 0 ∙ ap (λ k. get_or D k 0) plus ∙ ap (λ l. get_or l n 0) are ∙ get_or-map amount L n x 0 long ∙ ap amount at,
+        ap (λ l. get_or l 0 0) e ∙ get_or-drop n D 0 0 ∙ ap (λ k. get_or D k 0) plus ∙ ap (λ l. get_or l n 0) are ∙ get_or-map amount L n x 0 long
+            ∙ ap amount at,
         subst IsDelay at (All-get_or IsDelay L n x long each),
       )
 
@@ -291,7 +294,8 @@ module _ (C : ℕ → Type 0) (F : Graph) (ordered : IsOrdered F) (X : List Fram
       let late = (opened_of n s).0 in
       let wide = puts_wide (Back group) n p in
       let ones = table n (λ i. point (pos 1)) in
-      let long : length (u.delays ++ ones) ≡ length u.delays + n = length-append u.delays ones ∙ ap (λ k. length u.delays + k) (length_table n (λ i. point (pos 1))) in (
+      let long : length (u.delays ++ ones) ≡ length u.delays + n = length-append u.delays ones
+      ∙ ap (λ k. length u.delays + k) (length_table n (λ i. point (pos 1))) in (
         related_places LiesIn late (table n (λ i. full)) 0 full (wide ∙ sym (length_table n (λ i. full)))
             (λ i l.
             let m : i < n = omega (arith, l, wide) in

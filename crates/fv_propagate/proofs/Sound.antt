@@ -1,5 +1,6 @@
 -- A graph that goes on from the walk's progress is wired as the diagram.
-use Rattle.std.proofs.Common.{◌≡◌, ℕ, zero, suc, ◌-◌, ◌<◌, ◌≤◌, List, [], ◌∷◌, length, take, get_or, map, replicate, refl, sym, ap, ap₂, ◌∙◌, subst, arith, pos, nat_le}
+use Rattle.std.proofs.Common.{◌≡◌, ℕ, zero, suc, ◌-◌, ◌<◌, ◌≤◌, List, [], ◌∷◌, length, take, get_or, map, replicate, refl, sym, ap, ap₂, ◌∙◌, subst, arith}
+use Rattle.std.proofs.Common.{pos, nat_le}
 use Rattle.std.proofs.lemmas.List.{take-map, length-set, get_or-set_same}
 use Rattle.std.proofs.lemmas.Bool.{cond-true, le-leb}
 use Rattle.std.proofs.lemmas.Int.{ints}
@@ -23,9 +24,11 @@ use Rattle.fv_diagram.proofs.Places.{table_replicate, carried_items, carried_fir
 use Rattle.fv_diagram.proofs.Meaning.{Means, AreSound}
 use Rattle.fv_diagram.proofs.Sound.{takes_some}
 use Rattle.fv_propagate.specs.declared.progress.Feedback.{Feedback}
-use Rattle.fv_propagate.specs.Progress.{Progress, put, puts, passed, grouped, put_mem, put_prefix, put_delay, opened_of, shut, closed_of, signal_hooks, AreNested}
+use Rattle.fv_propagate.specs.Progress.{Progress, put, puts, passed, grouped, put_mem, put_prefix, put_delay, opened_of, shut, closed_of, signal_hooks}
+use Rattle.fv_propagate.specs.Progress.{AreNested}
 use Rattle.fv_propagate.proofs.Puts.{StandsAt, put_at, puts_at, puts_wide}
-use Rattle.fv_propagate.proofs.Goes.{IsGood, Onward, GoesOn, filled, opened_long, nested_not_open, before_put, before_passed, before_puts, before_mem, before_prefix, before_opened, before_closed}
+use Rattle.fv_propagate.proofs.Goes.{IsGood, Onward, GoesOn, filled, opened_long, nested_not_open, before_put, before_passed, before_puts, before_mem}
+use Rattle.fv_propagate.proofs.Goes.{before_prefix, before_opened, before_closed}
 
 -- four operands, of which those that are there are the first
 pub padded_first : (n : ℕ) (ws : List ℕ) → 1 ≤ n → n ≤ 4 → length ws ≡ n → take n (padded ws) ≡ ws
@@ -194,7 +197,8 @@ module _ (F : Graph) (ordered : IsOrdered F) (X : List Frame) (c : ℕ → Strea
               ∙ ap (back (column (carries v ins k) 0) t) (sym (column_carries v ins k 1 t l)));
         }
 
-    shows : (p : Prim) (slots : ℕ → ℕ) (ins : List ℕ) (s : Progress) → IsGood s → length ins ≡ primitive_inputs p → GoesOn F (primitive signal_hooks p ins s).1 →
+    shows : (p : Prim) (slots : ℕ → ℕ) (ins : List ℕ) (s : Progress) → IsGood s → length ins ≡ primitive_inputs p
+        → GoesOn F (primitive signal_hooks p ins s).1 →
         Shows p slots ins s
     shows prim.Wire slots [] s good e g = absurd (omega arith)
     shows prim.Wire slots (w ∷ ws) s good e g = record { holds = g; wired = λ n t l. first_at w ws n t l }

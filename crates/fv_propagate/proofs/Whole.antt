@@ -14,7 +14,7 @@ use Rattle.fv_signal.specs.declared.signal.Signal.{Signal}
 use Rattle.fv_signal.specs.declared.signal.Signal.TheVariants.{Input, Const, Control, Point, Delay, Back, Member}
 use Rattle.fv_signal.specs.Value.{Graph, value, IsGraph}
 use Rattle.fv_share.specs.Drafts.{AreClosed, graph_of}
-use Rattle.fv_diagram.specs.Diagram.{Diagram, inputs, outputs, control_bound, IsWellFormed, HasNoFreeSlot, HasNumbers}
+use Rattle.fv_diagram.specs.Diagram.{Diagram, inputs, outputs, IsWellFormed, HasNoFreeSlot, HasNumbers}
 use Rattle.fv_diagram.specs.Streams.{run}
 use Rattle.fv_diagram.specs.Wires.{Wired}
 use Rattle.fv_diagram.specs.Steps.{no_slots}
@@ -29,27 +29,28 @@ use Rattle.fv_interval.specs.Laws.{IsOf}
 use Rattle.fv_interval.specs.Delays.{delays_of, AreAccepted}
 use Rattle.fv_interval.proofs.Refused.{delays_are}
 use Rattle.fv_propagate.specs.Progress.{Progress, puts, unstarted, started, signal_hooks, IsThere}
-use Rattle.fv_propagate.specs.Propagated.{Propagates, DelaysStayWithin, AreShort, NamesOf, NamesWithin}
+use Rattle.fv_propagate.specs.Propagated.{Propagates, DelaysStayWithin, AreShort, HasControl, NamesOf, NamesWithin}
 use Rattle.fv_propagate.proofs.Alongside.{walk_back, walked_along, related_places}
 use Rattle.fv_propagate.proofs.Puts.{put_there, puts_at, puts_wide, puts_groups, puts_closed, puts_delays, puts_feedbacks, puts_keep}
 use Rattle.fv_propagate.proofs.Kept.{puts_all_there}
 use Rattle.fv_propagate.proofs.Goes.{IsGood, Onward, GoesOn, on_same_groups, stays_good, signals_are_orderly, signals_hold_back}
 use Rattle.fv_propagate.proofs.Sound.{AreWide, node_is, signals_are_sound}
-use Rattle.fv_propagate.proofs.Named.{still, Any, IsNamed, AreNamed, named_put, named_puts, names_keep, leaves_bounded}
+use Rattle.fv_propagate.proofs.Named.{still, Any, IsNamed, AreNamed, named_put, named_puts, names_keep, leaves_had}
 use Rattle.fv_propagate.proofs.Fits.{full_of, values_fit}
 use Rattle.fv_propagate.proofs.Ranged.{LiesIn, AreRanged, Beside, ranged_put, ranged_puts, not_clamped, spans_keep}
 
 of_fits : (s : Interval) (z : ℤ) → IsOf s z → FitsSigned w32 z
 of_fits s z h = omega (arith, ints, h.0.lo_fits, h.0.hi_fits, h.1.above, h.1.below)
 
-names_of : (ins controls : ℕ) (IsLimit : ℕ → Type 0) (none : IsLimit 0) (one : IsLimit 1) (x : Signal) → IsNamed ins controls IsLimit none one x → NamesOf ins controls x
-names_of ins controls IsLimit none one (Input k) h = h
-names_of ins controls IsLimit none one (Const n) h = tt
-names_of ins controls IsLimit none one (Control k) h = h
-names_of ins controls IsLimit none one (Point op args) h = tt
-names_of ins controls IsLimit none one (Delay x back max) h = tt
-names_of ins controls IsLimit none one (Back group k) h = tt
-names_of ins controls IsLimit none one (Member group k) h = tt
+names_of : (d : Diagram) (IsLimit : ℕ → Type 0) (none : IsLimit 0) (one : IsLimit 1) (x : Signal)
+    → IsNamed (inputs d) (HasControl d) IsLimit none one x → NamesOf d x
+names_of d IsLimit none one (Input k) h = h
+names_of d IsLimit none one (Const n) h = tt
+names_of d IsLimit none one (Control k) h = h
+names_of d IsLimit none one (Point op args) h = tt
+names_of d IsLimit none one (Delay x back max) h = tt
+names_of d IsLimit none one (Back group k) h = tt
+names_of d IsLimit none one (Member group k) h = tt
 
 module _ (d : Diagram) (delays : List ℕ) (wf : IsWellFormed d) (free : HasNoFreeSlot d) (numbers : HasNumbers d) where
   -- the inputs, and what the walk makes of them
@@ -105,18 +106,18 @@ module _ (d : Diagram) (delays : List ℕ) (wf : IsWellFormed d) (free : HasNoFr
   -- ---- what the graph names
 
   module _ (IsLimit : ℕ → Type 0) (none : IsLimit 0) (one : IsLimit 1) (within : All IsLimit delays) where
-    made_named : AreNamed (inputs d) (control_bound d) IsLimit none one made.1
+    made_named : AreNamed (inputs d) (HasControl d) IsLimit none one made.1
     made_named =
         let n = inputs d in
-        let b = control_bound d in
+        let b = HasControl d in
         let named = AreNamed n b IsLimit none one in
         let empty : named (unstarted delays) = record { signals = λ i x l. absurd (omega (arith, l)); delays = within } in
         let begun : named first.1 =
         named_puts n b IsLimit none one Input n (started delays) (λ i l. l)
         (named_put n b IsLimit none one (unstarted delays) (Const (pos 0)) zero_fits empty) in
-        (walked_along signal_hooks still (FitsSigned w32) (λ k. k < b) IsGood Onward (GoesOn graph) Any (λ s u. named s) signals_are_orderly (signals_hold_back graph)
+        (walked_along signal_hooks still (FitsSigned w32) b IsGood Onward (GoesOn graph) Any (λ s u. named s) signals_are_orderly (signals_hold_back graph)
         (names_keep n b IsLimit none one (GoesOn graph)) tt tt d no_slots (λ i. tt) first.0 (table n (λ i. tt)) first.1 tt wf first_wide
-        (leaves_bounded b d numbers (omega arith)) first_good goes_on (λ i. tt) begun
+        (leaves_had b d numbers (λ k h. h)) first_good goes_on (λ i. tt) begun
         (related_places Any first.0 (table n (λ i. tt)) 0 tt (first_wide ∙ sym (length_table n (λ i. tt))) (λ i l. tt))).1
 
   -- any delay is allowed
@@ -126,11 +127,11 @@ module _ (d : Diagram) (delays : List ℕ) (wf : IsWellFormed d) (free : HasNoFr
   all_allowed : (ds : List ℕ) → All AnyLimit ds
   all_allowed ds = All-from_get_or AnyLimit ds 0 (λ i l. tt)
 
-  any_named : AreNamed (inputs d) (control_bound d) AnyLimit tt tt made.1
+  any_named : AreNamed (inputs d) (HasControl d) AnyLimit tt tt made.1
   any_named = made_named AnyLimit tt tt (all_allowed delays)
 
-  pub names_within : NamesWithin (inputs d) (control_bound d) graph
-  names_within s x l = names_of (inputs d) (control_bound d) AnyLimit tt tt (get_or graph.signals s x) (any_named.signals s x l)
+  pub names_within : NamesWithin d graph
+  names_within s x l = names_of d AnyLimit tt tt (get_or graph.signals s x) (any_named.signals s x l)
 
   -- ---- its values
 
@@ -138,15 +139,15 @@ module _ (d : Diagram) (delays : List ℕ) (wf : IsWellFormed d) (free : HasNoFr
       (small : (i t : ℕ) → FitsSigned w32 (column X i t)) (held : (k t : ℕ) → IsOf (control_span spans k) (c k t)) where
     fits : (s t : ℕ) → s < length graph.signals → FitsSigned w32 (value graph s X c t)
     fits = values_fit graph whole.ordered whole.closed X c small (λ k t. of_fits (control_span spans k) (c k t) (held k t))
-        (λ s n l e. subst (IsNamed (inputs d) (control_bound d) AnyLimit tt tt) e (any_named.signals s (Const (pos 0)) l))
+        (λ s n l e. subst (IsNamed (inputs d) (HasControl d) AnyLimit tt tt) e (any_named.signals s (Const (pos 0)) l))
 
-    ranged : AreRanged (λ k. k < control_bound d) graph whole.ordered X c spans (delays_of d spans) delays accepted.are accepted.each held fits made.1
+    ranged : AreRanged (HasControl d) graph whole.ordered X c spans (delays_of d spans) delays accepted.are accepted.each held fits made.1
     ranged =
         let n = inputs d in
-        let b = control_bound d in
+        let b = HasControl d in
         let L = delays_of d spans in
         let F = table n (λ i. full) in
-        let C : ℕ → Type 0 = λ k. k < b in
+        let C : ℕ → Type 0 = b in
         let u : Noted = record { controls = spans; delays = []; fed = [] } in
         let Q = LiesIn C graph whole.ordered X c spans L delays accepted.are accepted.each held fits in
         let R = Beside C graph whole.ordered X c spans L delays accepted.are accepted.each held fits in
@@ -157,7 +158,8 @@ module _ (d : Diagram) (delays : List ℕ) (wf : IsWellFormed d) (free : HasNoFr
           controls_are = refl;
           ranged = λ p.
               ranged_puts C graph whole.ordered X c spans L delays accepted.are accepted.each held fits Input n (started delays) (λ i x d max e. absurd cc)
-              (ranged_put C graph whole.ordered X c spans L delays accepted.are accepted.each held fits (unstarted delays) (Const (pos 0)) (λ x d max e. absurd cc)
+              (ranged_put C graph whole.ordered X c spans L delays accepted.are accepted.each held fits (unstarted delays) (Const (pos 0))
+              (λ x d max e. absurd cc)
               (λ i x d max l e. absurd (omega (arith, l))));
         } in
         let there : AreRelated Q first.0 F = related_places Q first.0 F 0 full (first_wide ∙ sym (length_table n (λ i. full)))
@@ -166,8 +168,9 @@ module _ (d : Diagram) (delays : List ℕ) (wf : IsWellFormed d) (free : HasNoFr
         subst (Q (get_or first.0 i 0)) (sym (get_or_table n (λ i. full) i full m))
         (anywhere (get_or first.0 i 0) (puts_at graph Input n (started delays) i m first_goes_on.signals).within)) in
         let end = walked span_hooks full d (λ i. full) F u in
-        let all = walked_along signal_hooks span_hooks (FitsSigned w32) C IsGood Onward (GoesOn graph) Q R signals_are_orderly (signals_hold_back graph) keeps full
-        (anywhere 0 some) d no_slots (λ i. full) first.0 F first.1 u wf first_wide (leaves_bounded b d numbers (omega arith)) first_good goes_on
+        let all = walked_along signal_hooks span_hooks (FitsSigned w32) C IsGood Onward (GoesOn graph) Q R signals_are_orderly (signals_hold_back graph) keeps
+        full
+        (anywhere 0 some) d no_slots (λ i. full) first.0 F first.1 u wf first_wide (leaves_had b d numbers (λ k h. h)) first_good goes_on
         (λ i. anywhere 0 some) begun there in
         let noted : end.1.delays ≡ L = delays_are d spans F end.0 n full u end.1 wf refl refl refl refl refl in
         all.1.ranged (subst (λ l. IsPrefixOf l L) (sym noted) (prefix_refl L))
@@ -178,7 +181,8 @@ module _ (d : Diagram) (delays : List ℕ) (wf : IsWellFormed d) (free : HasNoFr
 
     wired : Wired (λ s. value graph s X c) c d no_slots first.0 made.0
     wired =
-        (walk_means signal_hooks IsGood Onward (GoesOn graph) (λ s. value graph s X c) c signals_are_orderly (signals_are_sound graph whole.ordered X c wide) d no_slots
+        (walk_means signal_hooks IsGood Onward (GoesOn graph) (λ s. value graph s X c) c signals_are_orderly (signals_are_sound graph whole.ordered X c wide)
+        d no_slots
         first.0 first.1 wf first_wide first_good goes_on).wired
 
     -- the signals of the inputs carry the frames
@@ -186,7 +190,8 @@ module _ (d : Diagram) (delays : List ℕ) (wf : IsWellFormed d) (free : HasNoFr
     entered t =
         let n = inputs d in
         carried_items (λ s. value graph s X c) first.0 t ∙ ap (λ k. table k (λ i. value graph (get_or first.0 i 0) X c t)) first_wide
-        ∙ table_same n _ _ (λ i l. node_is graph whole.ordered X c (get_or first.0 i 0) (Input i) t (puts_at graph Input n (started delays) i l first_goes_on.signals))
+        ∙ table_same n _ _ (λ i l. node_is graph whole.ordered X c (get_or first.0 i 0) (Input i) t
+        (puts_at graph Input n (started delays) i l first_goes_on.signals))
 
     answers : (e : ℕ → Stream) → All (λ x. length x ≡ inputs d) X → (j t : ℕ) → j < length made.0 → t < length X →
         value graph (slice_index made.0 j) X c t ≡ column (run d c e X) j t
@@ -231,7 +236,8 @@ made_is d delays ins outs n first_id s p q en es ep ez eq =
     eq ∙ ap (λ f. walked signal_hooks f d (λ i. f) ins p) ez ∙ ap (λ (r : List ℕ × Progress). walked signal_hooks 0 d no_slots r.0 r.1) first_is
 
 -- the inputs' signals, and the number 0
-pub inputs_there : (delays ins : List ℕ) (n : ℕ) (s p : Progress) → s ≡ started delays → (ins, p) ≡ puts Input n s → (length ins ≡ n) × All (IsThere p) ins × IsThere p 0
+pub inputs_there : (delays ins : List ℕ) (n : ℕ) (s p : Progress) → s ≡ started delays → (ins, p) ≡ puts Input n s → (length ins ≡ n) × All (IsThere p) ins
+    × IsThere p 0
 inputs_there delays ins n s p es ep =
     subst (λ (r : List ℕ × Progress). (length r.0 ≡ n) × All (IsThere r.1) r.0 × IsThere r.1 0) (sym (ep ∙ ap (puts Input n) es)) (
       puts_wide Input n (started delays),

@@ -1,3 +1,10 @@
 pub mod Progress
 pub mod Inside
 pub mod Propagated
+-- what its public clauses cite of crates below
+pub use Rattle.fv_diagram.specs.Diagram
+pub use Rattle.fv_diagram.specs.Arena
+pub use Rattle.fv_interval.specs.Delays
+pub use Rattle.fv_num.specs.Interval
+pub use Rattle.fv_num.specs.SpanLaws
+pub use Rattle.fv_signal.specs.Value

@@ -1,5 +1,5 @@
 -- When a graph of signals gives what a diagram gives.
-use Rattle.std.specs.Prelude.{◌≡◌, ℕ, ◌<◌, ◌≤◌, List, length, All, pos, slice_index, slice_index_or, FitsSigned}
+use Rattle.std.specs.Prelude.{◌≡◌, ◌⊎◌, ℕ, ◌<◌, ◌≤◌, List, length, All, pos, slice_index, slice_index_or, FitsSigned}
 use Rattle.std.specs.Int.{w32}
 use Rattle.fv_num.specs.Frames.{Frame, Stream, column}
 use Rattle.fv_num.specs.Interval.{Interval, IsWithin}
@@ -7,6 +7,7 @@ use Rattle.fv_signal.specs.declared.signal.Signal.{Signal}
 use Rattle.fv_signal.specs.declared.signal.Signal.TheVariants.{Input, Const, Control, Point, Delay, Back, Member}
 use Rattle.fv_signal.specs.Value.{Graph, value}
 use Rattle.fv_diagram.specs.Diagram.{Diagram, inputs}
+use Rattle.fv_diagram.specs.Diagram as diagram
 use Rattle.fv_diagram.specs.Streams.{run}
 use Rattle.fv_interval.specs.SpanHooks.{control_span}
 use Rattle.fv_interval.specs.Laws.{IsOf}
@@ -35,16 +36,29 @@ DelaysStayWithin d spans g =
 abbrev pub AreShort : Graph → Type 0
 AreShort g = (s x back max : ℕ) → s < length g.signals → slice_index_or g.signals s (Const (pos 0)) ≡ Delay x back max → max ≤ delay_limit
 
--- a signal names an input and a control that are there
-abbrev pub NamesOf : (ins controls : ℕ) → Signal → Type 0
-NamesOf ins controls (Input k) = k < ins
-NamesOf ins controls (Const n) = Unit {0}
-NamesOf ins controls (Control k) = k < controls
-NamesOf ins controls (Point op args) = Unit {0}
-NamesOf ins controls (Delay x back max) = Unit {0}
-NamesOf ins controls (Back group k) = Unit {0}
-NamesOf ins controls (Member group k) = Unit {0}
+-- the diagram has the control
+abbrev pub HasControl : Diagram → ℕ → Type 0
+HasControl (diagram.Primitive p) k = ⊥
+HasControl (diagram.Constant n) k = ⊥
+HasControl (diagram.Control j) k = j ≡ k
+HasControl (diagram.Slot s) k = ⊥
+HasControl (diagram.Bind s a) k = HasControl a k
+HasControl (diagram.Par a b) k = HasControl a k ⊎ HasControl b k
+HasControl (diagram.Seq a b) k = HasControl a k ⊎ HasControl b k
+HasControl (diagram.Split a b) k = HasControl a k ⊎ HasControl b k
+HasControl (diagram.Merge a b) k = HasControl a k ⊎ HasControl b k
+HasControl (diagram.Rec a b) k = HasControl a k ⊎ HasControl b k
 
--- the graph names only inputs and controls that are there
-abbrev pub NamesWithin : (ins controls : ℕ) → Graph → Type 0
-NamesWithin ins controls g = (s : ℕ) (x : Signal) → s < length g.signals → NamesOf ins controls (slice_index_or g.signals s x)
+-- a signal names an input and a control that the diagram has
+abbrev pub NamesOf : Diagram → Signal → Type 0
+NamesOf d (Input k) = k < inputs d
+NamesOf d (Const n) = Unit {0}
+NamesOf d (Control k) = HasControl d k
+NamesOf d (Point op args) = Unit {0}
+NamesOf d (Delay x back max) = Unit {0}
+NamesOf d (Back group k) = Unit {0}
+NamesOf d (Member group k) = Unit {0}
+
+-- the graph names only inputs and controls that the diagram has
+abbrev pub NamesWithin : Diagram → Graph → Type 0
+NamesWithin d g = (s : ℕ) (x : Signal) → s < length g.signals → NamesOf d (slice_index_or g.signals s x)

@@ -5,7 +5,8 @@ ghost use Rattle.fv_signal.specs.declared.signal.Signal.TheVariants.{Input, Back
 ghost use Rattle.fv_signal.specs.Value.{IsGraph};
 ghost use Rattle.fv_share.specs.Drafts.{CanPut, IsPending, IsShut, BacksWithin, AreClosed, width_of, graph_of};
 ghost use Rattle.fv_diagram.specs.Code.{padded as padded_of};
-ghost use Rattle.fv_propagate.specs.Progress.{started, put, puts, put_mem, put_prefix, signal_hooks, IsThere, IsAdmitted, AreNested, fed_of, put_delay, leaf_of, passed, grouped, opened_of, closed_of};
+ghost use Rattle.fv_propagate.specs.Progress.{started, put, puts, put_mem, put_prefix, signal_hooks, IsThere, IsAdmitted};
+ghost use Rattle.fv_propagate.specs.Progress.{AreNested, fed_of, put_delay, leaf_of, passed, grouped, opened_of, closed_of};
 ghost use Rattle.fv_diagram.specs.Hooks.{takes};
 
 use fv_diagram::{Leaf, Signals};

@@ -3,7 +3,7 @@
 ghost use Rattle.std.specs.Prelude.{◌≡◌, ℕ, ◌<◌, List, length, IfOk};
 ghost use Rattle.fv_num.specs.Interval.{Interval};
 ghost use Rattle.fv_num.specs.SpanLaws.{AreSpans};
-ghost use Rattle.fv_diagram.specs.Diagram.{inputs, outputs, control_bound, IsWellFormed, HasNoFreeSlot};
+ghost use Rattle.fv_diagram.specs.Diagram.{inputs, outputs, IsWellFormed, HasNoFreeSlot};
 ghost use Rattle.fv_diagram.specs.Arena.{count_of, tree_of};
 ghost use Rattle.fv_interval.specs.Delays.{delays_of, AreAccepted};
 ghost use Rattle.fv_propagate.specs.Propagated.{Propagates, DelaysStayWithin, AreShort, NamesWithin};
@@ -25,12 +25,15 @@ pub fn propagate(
     requires well { IsWellFormed (tree_of diagrams.now root) }
     requires closed { HasNoFreeSlot (tree_of diagrams.now root) }
     // Each output is that of the diagram, where the controls lie in the spans of which the delays are.
-    ensures values { IfOk result (λ g. (spans : List Interval) → AreAccepted (delays_of (tree_of diagrams.now root) spans) delays.now → Propagates (tree_of diagrams.now root) spans g) }
+    ensures values { IfOk result (λ g. (spans : List Interval) → AreAccepted (delays_of (tree_of diagrams.now root) spans) delays.now
+        → Propagates (tree_of diagrams.now root) spans g) }
     // And no delay goes back further than its greatest number.
-    ensures delays { IfOk result (λ g. (spans : List Interval) → AreAccepted (delays_of (tree_of diagrams.now root) spans) delays.now → DelaysStayWithin (tree_of diagrams.now root) spans g) }
-    ensures short { IfOk result (λ g. (spans : List Interval) → AreSpans spans → AreAccepted (delays_of (tree_of diagrams.now root) spans) delays.now → AreShort g) }
+    ensures delays { IfOk result (λ g. (spans : List Interval) → AreAccepted (delays_of (tree_of diagrams.now root) spans) delays.now
+        → DelaysStayWithin (tree_of diagrams.now root) spans g) }
+    ensures short { IfOk result (λ g. (spans : List Interval) → AreSpans spans → AreAccepted (delays_of (tree_of diagrams.now root) spans) delays.now
+        → AreShort g) }
     ensures width { IfOk result (λ g. length g.outputs ≡ outputs (tree_of diagrams.now root)) }
-    ensures names { IfOk result (λ g. NamesWithin (inputs (tree_of diagrams.now root)) (control_bound (tree_of diagrams.now root)) g) }
+    ensures names { IfOk result (λ g. NamesWithin (tree_of diagrams.now root) g) }
 {
     let count = u64::from(diagrams.arity(root).inputs);
     let mut progress = Progress::new(alloc, delays)?;

@@ -1,15 +1,15 @@
 // What graphs of signals give, beside what their diagrams answer.
 
 use fv_diagram::{DiagramId, Prim};
-use fv_hand_built::{Build, Item, PLUS, WIRE};
+use fv_diagram_play::play;
 use fv_interval::spans;
 use fv_num::{Op, Span, apply};
-use fv_play::play;
 use fv_propagate::propagate;
 use fv_signal::{Graph, Signal, SignalId};
 use std::alloc::Global;
 use std::process::Abort;
 use std::test::Fail;
+use test_diagrams::{Build, Item, PLUS, WIRE};
 
 // A diagram of at most six inputs, which is its last item.
 struct Row {

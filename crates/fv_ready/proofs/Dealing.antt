@@ -7,18 +7,23 @@ use Rattle.fv_graph.specs.Graph.{Graph}
 use Rattle.fv_graph.specs.Wires.{Wires}
 use Rattle.std.specs.Global.{Vec}
 use Rattle.fv_graph.specs.Graph.{inward, outward}
-use Rattle.fv_graph.proofs.Counts.{bit_right}
-use Rattle.fv_rule.specs.Wired.{graph_wires}
-use Rattle.fv_rule.specs.Rule.{places}
-use Rattle.fv_rule.specs.Carried.{IsFree, IsBusy}
+use Rattle.fv_graph.proofs.Counts.{bit_right, bit_same, bit_apart}
+use Rattle.fv_outside.specs.Tasks.{times}
+use mathlib.Core.Logic.{dite}
+use native.Mathlib.Decide.{ℕ_discrete}
+use Rattle.fv_ready_rule.specs.Wired.{graph_wires}
+use Rattle.fv_ready_rule.specs.Rule.{places}
+use Rattle.fv_ready_rule.specs.Carried.{IsFree, IsBusy}
 use Rattle.fv_ready.specs.declared.seat.InHand.{InHand}
-use Rattle.fv_rule.proofs.Numbers.{long_numbers}
-use Rattle.fv_rule.proofs.Splits.{splits}
+use Rattle.fv_ready_rule.proofs.Numbers.{long_numbers}
+use Rattle.fv_ready_rule.proofs.Splits.{splits}
 use Rattle.fv_graph.specs.Words.{passing}
-use Rattle.fv_rule.specs.declared.About.{About}
-use Rattle.fv_rule.specs.declared.View.{View}
+use Rattle.fv_ready_rule.specs.declared.About.{About}
+use Rattle.fv_ready_rule.specs.declared.View.{View}
 use Rattle.fv_ready.specs.declared.seat.WorkerSeat.{WorkerSeat}
-use Rattle.fv_rule.specs.Whole.{first_number, other_numbers, left_part, right_part, IsWhole}
+use Rattle.fv_ready_rule.specs.Whole.{first_number, other_numbers, left_part, right_part, IsWhole}
+use Rattle.fv_ready.specs.Told.{having}
+use Rattle.fv_ready.specs.Closed.{AreSeats}
 use Rattle.fv_ready.specs.Begun.{IsNewSeat, AreNewSeats, IsFirstSeat, AreFirstSeats, AreRoomy}
 
 pub cut_first : (from n : ℕ) → 0 < n → first_number (passing (λ _. true) from n) ≡ from ∷ []
@@ -104,6 +109,23 @@ module _ {C Key : Type 0} (edge_of : C → ℕ) (key_of : C → Key) (id : Table
   pub first_seats : (k : ℕ) (ss : List (WorkerSeat C)) → AreNewSeats id a room k ss → AreFirstSeats edge_of key_of id a k ss
   first_seats k [] h = tt
   first_seats k (s ∷ ss) h = (first_seat k s h.0, first_seats (suc k) ss h.1)
+
+-- the first seats are seats of the board, and have each number once
+module _ {C Key : Type 0} (edge_of : C → ℕ) (key_of : C → Key) (id : TableId) (a : About C) where
+  pub are_seats : (k : ℕ) (ss : List (WorkerSeat C)) → AreFirstSeats edge_of key_of id a k ss → AreSeats edge_of key_of id a ss
+  are_seats k [] h = tt
+  are_seats k (s ∷ ss) h = (h.0.seat, are_seats (suc k) ss h.1)
+
+  none_below : (k x : ℕ) (ss : List (WorkerSeat C)) → AreFirstSeats edge_of key_of id a k ss → x < k → having x ss ≡ 0
+  none_below k x [] h low = refl
+  none_below k x (s ∷ ss) h low = let v = ap (λ (u : View C). times x u.numbers) h.0.view in let b = bit_apart k x (λ e. omega arith) in
+      let r = none_below (suc k) x ss h.1 (omega arith) in omega arith
+
+  pub having_one : (k x : ℕ) (ss : List (WorkerSeat C)) → AreFirstSeats edge_of key_of id a k ss → k ≤ x → x < k + length ss → having x ss ≡ 1
+  having_one k x [] h low high = absurd (omega arith)
+  having_one k x (s ∷ ss) h low high = let v = ap (λ (u : View C). times x u.numbers) h.0.view in dite (ℕ_discrete k x)
+      (λ e. let b = bit_same k x e in let r = none_below (suc k) x ss h.1 (omega arith) in omega arith)
+      (λ n. let b = bit_apart k x n in let r = having_one (suc k) x ss h.1 (omega arith) (omega arith) in omega arith)
 
 pub splits_last : {C Key : Type 0} (wires : Graph → Wires) (edge_of : C → ℕ) (key_of : C → Key) (a : About C) (id : ℕ)
     (m : Me (Option C) (View C)) (from n : ℕ) → m ≡ fresh a (passing (λ _. true) from n) → 1 < n

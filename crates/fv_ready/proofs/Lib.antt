@@ -5,3 +5,4 @@ pub mod Dealing
 pub mod Laying
 pub mod Emptying
 pub mod Ends
+pub mod LeftOver

@@ -3,10 +3,10 @@ use Rattle.std.specs.Prelude.{◌≡◌, ℕ, ◌+◌, ◌-◌, ◌<◌, List, [
 use Rattle.atomic_table.specs.Seated.{TableId}
 use Rattle.fv_outside.specs.Tasks.{Tasks, times}
 use Rattle.fv_graph.specs.Graph.{Graph, inward, outward, feeds_of}
-use Rattle.fv_rule.specs.declared.About.{About}
-use Rattle.fv_rule.specs.Wired.{graph_wires}
-use Rattle.fv_rule.specs.Rule.{Took}
-use Rattle.fv_rule.specs.Carried.{slot_at}
+use Rattle.fv_ready_rule.specs.declared.About.{About}
+use Rattle.fv_ready_rule.specs.Wired.{graph_wires}
+use Rattle.fv_ready_rule.specs.Rule.{Took}
+use Rattle.fv_ready_rule.specs.Carried.{slot_at}
 use Rattle.fv_ready.specs.declared.board.Board.{Board}
 use Rattle.fv_ready.specs.declared.seat.WorkerSeat.{WorkerSeat}
 use Rattle.fv_ready.specs.Seats.{IsSeat, slots_of}

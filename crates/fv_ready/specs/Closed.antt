@@ -5,10 +5,10 @@ use lib.ListN.{get_elem?}
 use Rattle.atomic_table.specs.Seated.{TableId}
 use Rattle.fv_outside.specs.Tasks.{Tasks, task_count}
 use Rattle.fv_graph.specs.Graph.{net_of, edges_of}
-use Rattle.fv_rule.specs.declared.Deed.{Deed}
-use Rattle.fv_rule.specs.declared.About.{About}
-use Rattle.fv_rule.specs.Rule.{claim_word, wins, finishes}
-use Rattle.fv_rule.specs.Told.{Tells}
+use Rattle.fv_ready_rule.specs.declared.Deed.{Deed}
+use Rattle.fv_ready_rule.specs.declared.About.{About}
+use Rattle.fv_ready_rule.specs.Rule.{claim_word, wins, finishes}
+use Rattle.fv_ready_rule.specs.Told.{Tells}
 use Rattle.fv_ready.specs.declared.seat.WorkerSeat.{WorkerSeat}
 use Rattle.fv_ready.specs.Seats.{IsSeat}
 

@@ -3,11 +3,11 @@ use Rattle.std.specs.Prelude.{◌≡◌, ℕ, ◌+◌, ◌<◌, ◌≤◌, List,
 use Rattle.atomic_table.specs.Seated.{TableId}
 use Rattle.fv_outside.specs.Tasks.{times, task_count}
 use Rattle.fv_graph.specs.Graph.{inward, outward}
-use Rattle.fv_rule.specs.declared.About.{About}
-use Rattle.fv_rule.specs.declared.View.{View}
-use Rattle.fv_rule.specs.Wired.{graph_wires}
-use Rattle.fv_rule.specs.Rule.{places}
-use Rattle.fv_rule.specs.Carried.{IsFree, IsBusy}
+use Rattle.fv_ready_rule.specs.declared.About.{About}
+use Rattle.fv_ready_rule.specs.declared.View.{View}
+use Rattle.fv_ready_rule.specs.Wired.{graph_wires}
+use Rattle.fv_ready_rule.specs.Rule.{places}
+use Rattle.fv_ready_rule.specs.Carried.{IsFree, IsBusy}
 use Rattle.fv_ready.specs.declared.seat.InHand.{InHand}
 use Rattle.fv_ready.specs.declared.seat.WorkerSeat.{WorkerSeat}
 
@@ -24,16 +24,27 @@ module _ {C : Type 0} where
   abbrev pub slots_of : WorkerSeat C → List (ℕ × Option C)
   slots_of s = s.seat.me.1
 
+  -- which board the seat is of
+  abbrev pub board_of : WorkerSeat C → TableId
+  board_of s = s.seat.table_id
+
+  -- the edges of its slots, as the seat has them listed, and for how many it has room
+  abbrev pub listed_of : WorkerSeat C → List ℕ
+  listed_of s = s.edges.items
+
+  abbrev pub room_of : WorkerSeat C → ℕ
+  room_of s = vec_capacity s.edges
+
   -- the task that the seat has in hand, if any
   abbrev pub hand_of : WorkerSeat C → Option InHand
   hand_of s = s.in_hand
 
 -- a seat of this board, whatever it has in hand
 pub record IsSeat {C Key : Type 0} (edge_of : C → ℕ) (key_of : C → Key) (id : TableId) (a : About C) (s : WorkerSeat C) : Type 0 where
-  pub name : s.seat.table_id ≡ id
+  pub name : board_of s ≡ id
   pub board : (view_of s).board ≡ Some a
-  pub mirror : places (slots_of s) ≡ s.edges.items
+  pub mirror : places (slots_of s) ≡ listed_of s
   pub room : (t : ℕ) → t < task_count a.tasks.value.tasks → length (inward a.tasks.value.tasks t) + length (outward a.tasks.value.tasks t)
-      ≤ vec_capacity s.edges
+      ≤ room_of s
   pub hand : MatchOption (hand_of s) (IsFree graph_wires edge_of key_of a (view_of s) (slots_of s))
       (λ r. IsBusy graph_wires edge_of key_of a r.task r.started (view_of s) (slots_of s))

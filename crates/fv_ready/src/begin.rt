@@ -3,16 +3,17 @@
 ghost use Rattle.std.specs.Prelude.{◌≡◌, ℕ, ◌+◌, ◌*◌, ◌-◌, ◌^◌, ◌<◌, ◌≤◌, length, List, []};
 ghost use Rattle.std.specs.Prelude.{◌∷◌, ◌++◌, map, replicate, slice_index_or, Some, None, IfOk, IfErr, vec_len, vec_capacity};
 ghost use Rattle.fv_graph.specs.Graph.{net_of};
-ghost use Rattle.fv_rule.specs.Whole.{first_words, first_view};
+ghost use Rattle.fv_ready_rule.specs.Whole.{first_words, first_view};
 ghost use Rattle.fv_ready.specs.Begun.{first_slots, parcels_of, AreRoomy, AreNewSeats, AreEntries};
-ghost use Rattle.fv_ready.specs.Boards.{about_of, graph_of, AreFirstSeatsOf};
+ghost use Rattle.fv_ready.specs.Told.{HaveAll};
+ghost use Rattle.fv_ready.specs.Boards.{about_of, graph_of, AreSeatsOf, AreFirstSeatsOf};
 
 use crate::board::Board;
 use crate::rule::{ByNumber, Whole};
 use crate::seat::WorkerSeat;
 use atomic_table::{Refused, Seat, Shared, Table};
 use fv_graph::Tasks;
-use fv_rule::{About, Parcel, View};
+use fv_ready_rule::{About, Parcel, View};
 use std::alloc::{AllocError, Global};
 use std::snapshot::Snapshot;
 
@@ -137,6 +138,8 @@ impl<'t, C: Parcel + Drop> Board<'t, C> {
             → C.key_of (slice_index_or entries.items k d) ≡ C.key_of (about_of r.0).sample.value) }
         ensures count { IfOk result (λ r. vec_len r.1 ≡ workers) }
         ensures seats { IfOk result (λ r. AreFirstSeatsOf C.edge_of C.key_of r.0 r.1.items) }
+        // They are all that the board has.
+        ensures all { IfOk result (λ r. AreSeatsOf C.edge_of C.key_of r.0 r.1.items × HaveAll (about_of r.0).workers r.1.items) }
         ensures err { IfErr result (λ r. r.0.items ≡ entries.items) }
     {
         let loops = tasks.loops();

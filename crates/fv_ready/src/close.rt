@@ -6,10 +6,10 @@ ghost use mathlib.Core.Option.{some};
 ghost use lib.ListN.{get_elem?};
 ghost use Rattle.fv_outside.specs.Tasks.{times, task_count};
 ghost use Rattle.fv_graph.specs.Graph.{IsGraph, edges_of, net_of};
-ghost use Rattle.fv_rule.specs.Rule.{done_by, finishes, wins, claim_word};
-ghost use Rattle.fv_rule.specs.Told.{Tells};
-ghost use Rattle.fv_rule.specs.declared.Deed.{Deed};
-ghost use Rattle.fv_ready.specs.Told.{told_by, having, HaveAll};
+ghost use Rattle.fv_ready_rule.specs.Rule.{done_by, finishes, wins, loses, claim_word};
+ghost use Rattle.fv_ready_rule.specs.Told.{Tells};
+ghost use Rattle.fv_ready_rule.specs.declared.Deed.{Deed};
+ghost use Rattle.fv_ready.specs.Told.{told_by, having, HaveAll, NothingLeft};
 ghost use Rattle.fv_ready.specs.Closed.{AreSeats, AreSlots, IsTaken, Ended};
 ghost use Rattle.fv_ready.specs.Boards.{about_of, tasks_of, AreSeatsOf, GainsParcels};
 
@@ -17,7 +17,7 @@ use crate::board::Board;
 use crate::rule::{GivesBack, Together, Whole};
 use crate::seat::WorkerSeat;
 use atomic_table::{Closed, Seat, Shared, Table};
-use fv_rule::{About, Parcel, View};
+use fv_ready_rule::{About, Parcel, View};
 use std::alloc::Global;
 
 // One seat for all.
@@ -147,6 +147,9 @@ impl<'t, C: Parcel + Drop> Board<'t, C> {
             → GainsParcels C.edge_of C.key_of self.entry 0 exits.old.items exits.new.items }
         ensures nothing { (IsTrue result → ⊥)
             → (t : ℕ) → t < task_count (tasks_of self.entry) → 0 < told_by (wins t) seats.items → exits.new.items ≡ exits.old.items }
+        // Where nothing is left over, every task is done, and no claim came too late.
+        ensures whole { NothingLeft (net_of (tasks_of self.entry)) seats.items
+            → IsTrue result × ((t : ℕ) → t < task_count (tasks_of self.entry) → told_by (loses t) seats.items ≡ 0) }
     {
         let Board { tasks, table } = self;
         let loops = tasks.loops();

@@ -10,5 +10,5 @@ mod slots;
 mod steps;
 
 pub use board::Board;
-pub use fv_rule::Parcel;
+pub use fv_ready_rule::Parcel;
 pub use seat::{InHand, WorkerSeat};

@@ -1,12 +1,12 @@
 // The rule of a board's table, and what each step tells the seat that makes it.
 
 ghost use Rattle.std.specs.Prelude.{◌≡◌, ℕ, []};
-ghost use Rattle.fv_rule.specs.Wired.{graph_wires};
-ghost use Rattle.fv_rule.specs.Rule.{Looks, Claims, Starts, Ends, Gives, together, spent};
-ghost use Rattle.fv_rule.specs.Whole.{IsWhole, first_view, left_part, right_part};
+ghost use Rattle.fv_ready_rule.specs.Wired.{graph_wires};
+ghost use Rattle.fv_ready_rule.specs.Rule.{Looks, Claims, Starts, Ends, Gives, together, spent};
+ghost use Rattle.fv_ready_rule.specs.Whole.{IsWhole, first_view, left_part, right_part};
 
 use atomic_table::{Join, Play, Split, TableRule};
-use fv_rule::{About, Parcel, View};
+use fv_ready_rule::{About, Parcel, View};
 use std::marker::PhantomData;
 
 /// The rule of a board.
@@ -84,7 +84,7 @@ pub struct Arriving<C> {
 }
 
 impl<C> Play<Option<C>, View<C>> for Arriving<C> {
-    ghost then = { λ st m n k. Gives st m n k };
+    ghost then = { λ st m n k. Gives graph_wires st m n k };
 }
 
 /// A load by which a seat gives all its slots back.

@@ -2,11 +2,11 @@
 
 ghost use Rattle.std.specs.Prelude.{◌≡◌, ℕ, ◌+◌, ◌<◌, ◌≤◌, length, ◌++◌, ◌==◌, position, vec_len, vec_capacity};
 ghost use Rattle.fv_outside.specs.Tasks.{times};
-ghost use Rattle.fv_rule.specs.Spun.{spun};
+ghost use Rattle.fv_ready_rule.specs.Spun.{spun};
 ghost use Rattle.fv_ready.specs.Seats.{IsPlaceOf};
 
 use atomic_table::Seat;
-use fv_rule::View;
+use fv_ready_rule::View;
 
 /// The task that a seat took last and has not finished.
 #[derive(Clone, Copy, PartialEq, Eq, Debug)]

@@ -3,16 +3,16 @@
 ghost use Rattle.std.specs.Prelude.{◌≡◌, ℕ, ◌<◌, ◌==◌, not, Some, None, [], true, false, MatchBool, IfSome, IsSomeAnd};
 ghost use Rattle.fv_outside.specs.Tasks.{task_count};
 ghost use Rattle.fv_graph.specs.Graph.{net_of};
-ghost use Rattle.fv_rule.specs.Rule.{noted, done_by, sees, stamps, finishes, arrives};
-ghost use Rattle.fv_rule.specs.Carried.{but_slot};
-ghost use Rattle.fv_rule.specs.declared.Deed.TheVariants.{Stamped, Arrived, Saw, Claimed};
+ghost use Rattle.fv_ready_rule.specs.Rule.{noted, done_by, sees, stamps, finishes, arrives, zeroes};
+ghost use Rattle.fv_ready_rule.specs.Carried.{but_slot};
+ghost use Rattle.fv_ready_rule.specs.declared.Deed.TheVariants.{Stamped, Arrived, Saw, Claimed};
 ghost use Rattle.fv_ready.specs.Seats.{view_of, slots_of, hand_of};
 ghost use Rattle.fv_ready.specs.Boards.{tasks_of, IsSeatOf, AreTaken, IsHanded, slots_left};
 
 use crate::board::Board;
 use crate::rule::{Arriving, Claiming, Finishing, Look, Starting};
 use crate::seat::{InHand, WorkerSeat, append, place_of, spin};
-use fv_rule::Parcel;
+use fv_ready_rule::Parcel;
 
 impl<'t, C: Parcel> Board<'t, C> {
     /// The task's count is 0 at this step.
@@ -129,6 +129,8 @@ impl<'t, C: Parcel> Board<'t, C> {
         requires owed { (0 < done_by (finishes ((net_of (tasks_of self.now)).source edge)) (view_of seat.old))
             × (done_by (arrives edge) (view_of seat.old) ≡ 0) }
         ensures list { view_of seat.new ≡ noted (view_of seat.old) (Arrived edge result) }
+        // No arrival of this seat had the count 0 of that reader before.
+        ensures first { done_by (zeroes (net_of (tasks_of self.now)) ((net_of (tasks_of self.now)).reader edge)) (view_of seat.old) ≡ 0 }
         ensures slots { slots_of seat.new ≡ but_slot (slots_of seat.old) edge }
         ensures hand { (hand_of seat.old ≡ None) × (hand_of seat.new ≡ None) }
         ensures seat { IsSeatOf C.edge_of C.key_of self.now seat.new }

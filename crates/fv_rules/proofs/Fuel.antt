@@ -3,12 +3,12 @@ use Rattle.std.proofs.Common.{◌≡◌, ℕ, zero, suc, ◌-◌, ◌≤◌, Boo
 use Rattle.std.proofs.Common.{negsuc, refl, sym, ap, ◌∙◌, arith}
 use Rattle.std.specs.Prelude.{nat_le, nat_lt, nat_eq, ◌&&◌, int_le, if◌then◌else◌}
 use Rattle.fv_lex.specs.Token.{Lexed}
-use Rattle.fv_grammar.specs.Tree.{Tree}
-use Rattle.fv_grammar.specs.Tree as tree
-use Rattle.fv_grammar.specs.declared.form.Operator.{Operator}
-use Rattle.fv_grammar.specs.declared.form.Operator.TheVariants as operators
-use Rattle.fv_grammar.specs.declared.form.Iteration.{Iteration as Repetition}
-use Rattle.fv_grammar.specs.declared.form.Iteration.TheVariants as repetitions
+use Rattle.fv_parse_grammar.specs.Tree.{Tree}
+use Rattle.fv_parse_grammar.specs.Tree as tree
+use Rattle.fv_parse_grammar.specs.declared.form.Operator.{Operator}
+use Rattle.fv_parse_grammar.specs.declared.form.Operator.TheVariants as operators
+use Rattle.fv_parse_grammar.specs.declared.form.Iteration.{Iteration as Repetition}
+use Rattle.fv_parse_grammar.specs.declared.form.Iteration.TheVariants as repetitions
 use Rattle.fv_num.specs.declared.op.Op.TheVariants as op
 use Rattle.fv_diagram.specs.declared.node.Primitive.{Primitive as Prim}
 use Rattle.fv_diagram.specs.declared.node.Primitive.TheVariants as prim
@@ -17,7 +17,7 @@ use Rattle.fv_diagram.specs.Arena.{size_limit}
 use Rattle.fv_diagram.specs.declared.control.ControlInfo.{ControlInfo}
 use Rattle.fv_rules.specs.declared.refusal.EvalRefusal.{EvalRefusal}
 use Rattle.fv_rules.specs.declared.refusal.EvalRefusal.TheVariants.{EvalBudget}
-use Rattle.fv_grammar.specs.Tree.{items, start_of}
+use Rattle.fv_parse_grammar.specs.Tree.{items, start_of}
 use Rattle.fv_parse.specs.Trees.{text_of, label_of}
 use Rattle.fv_rules.specs.Values.{Name, Value, Flat, Abstraction, Rules, Env, Bound, Scope, And, Definition, Plain, Parameters, Cases, Meaning}
 use Rattle.fv_rules.specs.Values.{IsValue, IsDefined, Unknown, lookup, in_order, count_taken}

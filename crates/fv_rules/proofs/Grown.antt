@@ -13,7 +13,7 @@ use Rattle.fv_rules.specs.declared.value.Binding as code_binding
 use Rattle.fv_rules.specs.Environments.{scope_in}
 use Rattle.fv_rules.specs.Values.{Name, Value, Flat, Abstraction, Rules, Env, Outermost, Bound, Scope, Taken, Nothing, And}
 use Rattle.fv_rules.specs.Matching.{Bindings}
-use Rattle.fv_grammar.specs.Tree.{Tree}
+use Rattle.fv_parse_grammar.specs.Tree.{Tree}
 use Rattle.fv_rules.specs.Shows.{World, IsNamed, IsInside, parameters_in, body_in, rules_in, begins_in, ShowsTree, ShowsValue, ShowsValues, ShowsEnv}
 use Rattle.fv_rules.specs.Shows.{ShowsTaken, ShowsBindings, Grows}
 

@@ -1,5 +1,5 @@
 -- The steps of a look-up.
-use Rattle.std.proofs.Common.{◌≡◌, ℕ, zero, suc, ◌<◌, ◌≤◌, arith, Bool, true, false, List, [], ◌∷◌, length, map, get_or, Option, Some, None, refl}
+use Rattle.std.proofs.Common.{◌≡◌, ℕ, zero, suc, ◌<◌, ◌≤◌, arith, Bool, true, false, List, [], ◌∷◌, length, map, get_or, cond, Option, Some, None, refl}
 use Rattle.std.proofs.Common.{sym, ap, subst, ◌∙◌, All}
 use Rattle.std.specs.Prelude.{filter, slice_get}
 use Rattle.std.proofs.lemmas.List.{length-map}
@@ -10,16 +10,17 @@ use Rattle.std.proofs.lemmas.Bool.{and_parts, false≢true}
 use Rattle.std.proofs.lemmas.List.Elements.{filter_passes}
 use Rattle.std.proofs.lemmas.Option.{none-some, same_Some}
 use Rattle.std.proofs.lemmas.Slice.Eq.{bytes_eq-Decides}
-use Rattle.fv_lex.specs.Token.{Lexed}
-use Rattle.fv_grammar.specs.Tree.{Tree, items, start_of}
-use Rattle.fv_grammar.specs.Tree as tree
-use Rattle.fv_parse.specs.Trees.{Parsed, size_of, tree_in, text_of, first_named}
-use Rattle.fv_tree.specs.Arena.{forest, tree_of}
-use Rattle.fv_tree.specs.declared.node.TreeId.{TreeId}
-use Rattle.fv_tree.specs.declared.node.TreeNode.{TreeNode}
-use Rattle.fv_tree.specs.declared.node.TreeNode.TheVariants as nodes
+use Rattle.fv_lex.specs.Token.{Lexed, texts_of}
+use Rattle.fv_parse_grammar.specs.Tree.{Tree, items, start_of}
+use Rattle.fv_parse_grammar.specs.Tree as tree
+use Rattle.fv_parse.specs.Trees.{Parsed, size_of, tree_in, text_of, first_named, first_with}
+use Rattle.fv_parse_tree.specs.Arena.{forest, tree_of}
+use Rattle.fv_parse_tree.specs.declared.node.TreeId.{TreeId}
+use Rattle.fv_parse_tree.specs.declared.node.TreeNode.{TreeNode}
+use Rattle.fv_parse_tree.specs.declared.node.TreeNode.TheVariants as nodes
 use Rattle.fv_rules.specs.declared.by_name.Defined.{Defined}
 use Rattle.fv_rules.specs.declared.value.Value.TheVariants as value
+use Rattle.fv_rules.specs.declared.value.Value as code_value
 use Rattle.fv_rules.specs.declared.value.Scope as code_scope
 use Rattle.fv_rules.specs.declared.value.Scope.TheVariants as scope
 use Rattle.fv_rules.specs.declared.value.Ruled.TheVariants as ruled
@@ -32,7 +33,7 @@ use Rattle.fv_rules.specs.Shows.{World, IsNamed, IsFunction, IsInside, given_nam
 use Rattle.fv_rules.specs.Shows.{ShowsTaken, ShowsMeaning}
 use Rattle.fv_rules.specs.declared.value.Ruled.{Ruled}
 use Rattle.fv_rules.proofs.RuleNodes.{IsNoFunction, AreOfName}
-use Rattle.fv_rules.specs.Lookup.{SaysOrPasses, IsMade, outer, is_name, are_names}
+use Rattle.fv_rules.specs.Lookup.{SaysOrPasses, IsMade, BindsAnother, StillReaches, outer, is_name, are_names}
 
 -- ---- what definitions make of a name
 
@@ -221,10 +222,6 @@ no_scope w env (Scope ds E) h m = absurd (none-some _ (sym h ∙ m.2))
 
 -- ---- the loop: what the name stands for is what it stands for from a further environment
 
-pub record StillReaches (p : Parsed) (scopes : List code_scope.Scope) (name env at : ℕ) : Type 0 where
-  pub further : (w : World) (x : Name) (E : Env) → w.tree ≡ p → w.scopes ≡ scopes → IsNamed w name x → ShowsEnv w env E
-      → (F : Env) × ShowsEnv w at F × (lookup p.tokens E x ≡ lookup p.tokens F x)
-
 pub look_begins : (p : Parsed) (scopes : List code_scope.Scope) (name env : ℕ) → StillReaches p scopes name env env
 look_begins p scopes name env = record { further = λ w x E same there named shown. (E, shown, refl) }
 
@@ -291,6 +288,50 @@ look_goes_on {at = at} {s = s} reaches is says out = record {
       let r = reaches.further w x E same there named shown in
       let e = ap (λ ss. scope_in ss at) there ∙ sym is in
       (outer r.0, subst (λ n. ShowsEnv w n (outer r.0)) (sym out) (outer_shows w s at r.0 e r.1).1, r.2 ∙ says w x r.0 same e named r.1);
+}
+
+-- from there on further
+pub look_further : {p : Parsed} {scopes : List code_scope.Scope} {name env at next : ℕ} → StillReaches p scopes name env at
+    → StillReaches p scopes name at next → StillReaches p scopes name env next
+look_further near far = record {
+  further = λ w x E same there named shown.
+      let r = near.further w x E same there named shown in
+      let q = far.further w x r.0 same there named r.1 in
+      (q.0, q.1, r.2 ∙ q.2);
+}
+
+-- a name has one number
+one_number : (l : Lexed) (n m : ℕ) (x : Name) → (text_of l n ≡ x) × (first_named l n ≡ n) → (text_of l m ≡ x) × (first_named l m ≡ m) → n ≡ m
+one_number l n m x a b =
+    sym a.1 ∙ ap (first_with (texts_of l.tokens)) (a.0 ∙ sym b.0) ∙ b.1
+
+-- a scope that binds another name
+other_name : (w : World) (n name o at : ℕ) (u : code_value.Value) (x : Name) (F : Env) → scope_in w.scopes at ≡ Some (scope.Bound n u o)
+    → (n ≡ name → ⊥) → IsNamed w name x → ShowsEnv w at F → lookup w.tree.tokens F x ≡ lookup w.tree.tokens (outer F) x
+other_name w n name o zero u x F h other named m = absurd (none-some _ h)
+other_name w n name o (suc i) u x Outermost h other named m = refl
+other_name w n name o (suc i) u x (Scope ds E) h other named m =
+    let q : scope.Definitions m.0 m.1 ≡ scope.Bound n u o = same_Some _ _ (sym m.2 ∙ h) in absurd (cc)
+other_name w n name o (suc i) u x (Bound y v E) h other named m =
+    let q : scope.Bound m.0 m.1 m.2 ≡ scope.Bound n u o = same_Some _ _ (sym m.3 ∙ h) in
+    let a : m.0 ≡ n = cc in
+    passes (bytes_eq y x) _ _ (λ t. other (sym a ∙ one_number w.tree.tokens m.0 name x (m.5.0 ∙ (bytes_eq-Decides y x).0 t, m.5.1) named))
+  where
+    passes : (b : Bool) (p q : Meaning) → (b ≡ true → ⊥) → cond b p q ≡ q
+    passes true p q h = absurd (h refl)
+    passes false p q h = refl
+
+pub look_passes : {p : Parsed} {scopes : List code_scope.Scope} {name env at next : ℕ} → StillReaches p scopes name env at
+    → BindsAnother scopes name at next → StillReaches p scopes name env next
+look_passes {p} {name = name} {at = at} {next = next} reaches another = record {
+  further = λ w x E same there named shown.
+      let r = reaches.further w x E same there named shown in
+      let e = ap (λ ss. scope_in ss at) there ∙ another.2 in
+      let passed = other_name w another.0 name next at another.1 x r.0 e another.3 named r.1 in (
+        outer r.0,
+        (outer_shows w (scope.Bound another.0 another.1 next) at r.0 e r.1).1,
+        r.2 ∙ subst (λ (q : Parsed). lookup q.tokens r.0 x ≡ lookup q.tokens (outer r.0) x) same passed,
+      );
 }
 
 -- no environment stands around itself

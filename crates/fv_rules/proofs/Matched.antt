@@ -9,17 +9,18 @@ use Rattle.std.proofs.lemmas.List.Sorted.{All-permutation, IsPermutation-reverse
 use Rattle.std.proofs.lemmas.List.Sums.{sum_by-append, sum_by_push}
 use Rattle.fv_base.proofs.Arena.{trees_keep, length_trees}
 use Rattle.fv_base.specs.Arena.{KeepsTrees, trees_from}
-use Rattle.fv_tree.specs.Arena.{forest, tree_of as node_in}
-use Rattle.fv_tree.specs.declared.node.TreeId.{TreeId}
-use Rattle.fv_tree.specs.declared.node.TreeNode.{TreeNode}
-use Rattle.fv_tree.specs.declared.node.TreeNode.TheVariants as nodes
+use Rattle.fv_parse_tree.specs.Arena.{forest, tree_of as node_in}
+use Rattle.fv_parse_tree.specs.declared.node.TreeId.{TreeId}
+use Rattle.fv_parse_tree.specs.declared.node.TreeNode.{TreeNode}
+use Rattle.fv_parse_tree.specs.declared.node.TreeNode.TheVariants as nodes
 use Rattle.fv_lex.specs.Token.{Lexed}
-use Rattle.fv_grammar.specs.Tree.{Tree}
-use Rattle.fv_grammar.specs.Tree as tree
-use Rattle.fv_grammar.specs.declared.form.Operator.{Operator}
+use Rattle.fv_parse_grammar.specs.Tree.{Tree}
+use Rattle.fv_parse_grammar.specs.Tree as tree
+use Rattle.fv_parse_grammar.specs.declared.form.Operator.{Operator}
 use Rattle.fv_diagram.specs.declared.node.Node.{Node}
 use Rattle.fv_diagram.specs.declared.node.DiagramId.{DiagramId}
-use Rattle.fv_diagram.specs.Diagram.{Diagram, Constant, size, IsWellFormed}
+use Rattle.fv_diagram.specs.Diagram.{Diagram, Constant, size}
+use Rattle.fv_diagram.specs.Composed.{IsComposed}
 use Rattle.fv_diagram.specs.Arena.{Arena, count_of, tree_of, tree_with, trees, ChildrenBelow, tree_in as node_diagram}
 use Rattle.fv_parse.specs.Trees.{Parsed, size_of, tree_in, text_of}
 use Rattle.fv_rules.specs.declared.value.Value as code_value
@@ -94,7 +95,7 @@ and_then_on (Some x) f g = refl
 pub pair_stays : (p : Parsed) (a b : Arena) (x : Pair) → AddsIntegers a b → IsPair p a x → IsPair p b x
 pair_stays p a b x g h =
     let l = adds_longer a b g in
-    record { pattern = h.pattern; diagram = omega (arith, h.diagram, l); well = subst IsWellFormed (sym (adds_keeps a b g x.diagram h.diagram)) h.well }
+    record { pattern = h.pattern; diagram = omega (arith, h.diagram, l); composed = subst IsComposed (sym (adds_keeps a b g x.diagram h.diagram)) h.composed }
 
 -- a binding that was added shows the name with the value
 pub bound_shows_more : (w : World) (n : ℕ) (u : code_value.Value) (v : Value) (before after : List code_binding.Binding) (bs : Bindings)
@@ -161,7 +162,7 @@ number_refuses p a x k is fails rest bs =
     let d = tree_of a x.diagram in ap (λ o. and_then o (matched_on p.tokens rest)) (is bs d ∙ ap (λ c. cond c (Some bs) None) fails)
 
 -- the pattern is a composition of two others
-pub record IsComposed (p : Parsed) (x : Pair) (o : Operator) (l r : ℕ) : Type 0 where
+pub record IsPaired (p : Parsed) (x : Pair) (o : Operator) (l r : ℕ) : Type 0 where
   pub start : ℕ
   pub is : tree_in p x.pattern ≡ tree.Binary start o (tree_in p l) (tree_in p r)
 
@@ -170,7 +171,7 @@ abbrev both_matched : Parsed → (l r : ℕ) → Bindings → Diagram × Diagram
 both_matched p l r bs ab = and_then (matched p.tokens (tree_in p l) (Flat ab.0) bs) (λ cs. matched p.tokens (tree_in p r) (Flat ab.1) cs)
 
 -- what a composition answers with the parts of the diagram
-by_parts : (p : Parsed) (a : Arena) (x : Pair) (o : Operator) (l r : ℕ) (parts : Option (Diagram × Diagram)) → IsComposed p x o l r
+by_parts : (p : Parsed) (a : Arena) (x : Pair) (o : Operator) (l r : ℕ) (parts : Option (Diagram × Diagram)) → IsPaired p x o l r
     → parts_without (number_of (tree_of a x.diagram)) o (tree_of a x.diagram) ≡ parts → (rest : List (Tree × Diagram)) (bs : Bindings)
     → matched_on p.tokens (pair_of p a x ∷ rest) bs ≡ and_then (and_then parts (both_matched p l r bs)) (matched_on p.tokens rest)
 by_parts p a x o l r parts composed is rest bs =
@@ -188,12 +189,12 @@ pub record BothWait (p : Parsed) (a : Arena) (x : Pair) (o : Operator) (l r : �
 
 -- a composition: both parts wait
 pub parts_leave : {p : Parsed} {a : Arena} {x : Pair} {waits now : List Pair} {o : Operator} {l r : ℕ} {ij : DiagramId × DiagramId}
-    (before : List code_binding.Binding) → IsComposed p x o l r → BothWait p a x o l r ij waits now → Leaves p a a x waits now before before
+    (before : List code_binding.Binding) → IsPaired p x o l r → BothWait p a x o l r ij waits now → Leaves p a a x waits now before before
 parts_leave {p} {a} {x} {waits = waits} {o = o} {l = l} {r = r} {ij = ij} before is both = record {
   more = right ∷ left ∷ [];
   pushed = both.pushed ∙ append_assoc waits (right ∷ []) (left ∷ []);
-  there = two (IsPair p a) (record { pattern = both.right; diagram = omega (arith, below.right, there); well = below.right_well })
-      (record { pattern = both.left; diagram = omega (arith, below.left, there); well = below.left_well });
+  there = two (IsPair p a) (record { pattern = both.right; diagram = omega (arith, below.right, there); composed = below.right_composed })
+      (record { pattern = both.left; diagram = omega (arith, below.left, there); composed = below.left_composed });
   below = two (λ (y : Pair). y.diagram < x.diagram) below.right below.left;
   smaller = let z = below.sizes in omega (arith, z);
   meant = λ w bs e f h. (
@@ -229,15 +230,15 @@ number_answers p a x waits before k false is e = number_refuses p a x k is (sym 
 
 -- the parts of a node, where it is a composition
 pub are_parts_of : (a : Arena) (id : ℕ) (n : Node) (ij : DiagramId × DiagramId) → tree_of a id ≡ tree_with a n → ChildrenBelow id n
-    → IsWellFormed (tree_of a id) → both_parts n ≡ Some ij → ArePartsOf a id ij
-are_parts_of a id n ij is below well e = go n e below (subst IsWellFormed is well) (ap size is)
+    → IsComposed (tree_of a id) → both_parts n ≡ Some ij → ArePartsOf a id ij
+are_parts_of a id n ij is below composed e = go n e below (subst IsComposed is composed) (ap size is)
   where
-    parts : {i j : ℕ} → Some (i, j) ≡ Some ij → (i < id) × (j < id) → IsWellFormed (tree_of a i) → IsWellFormed (tree_of a j)
+    parts : {i j : ℕ} → Some (i, j) ≡ Some ij → (i < id) × (j < id) → IsComposed (tree_of a i) → IsComposed (tree_of a j)
         → size (tree_of a id) ≡ 1 + size (tree_of a i) + size (tree_of a j) → ArePartsOf a id ij
     parts e c u v s =
-        subst (ArePartsOf a id) (same_Some _ _ e) (record { left = c.0; right = c.1; left_well = u; right_well = v; sizes = omega (arith, s) })
+        subst (ArePartsOf a id) (same_Some _ _ e) (record { left = c.0; right = c.1; left_composed = u; right_composed = v; sizes = omega (arith, s) })
 
-    go : (n : Node) → both_parts n ≡ Some ij → ChildrenBelow id n → IsWellFormed (tree_with a n) → size (tree_of a id) ≡ size (tree_with a n)
+    go : (n : Node) → both_parts n ≡ Some ij → ChildrenBelow id n → IsComposed (tree_with a n) → size (tree_of a id) ≡ size (tree_with a n)
         → ArePartsOf a id ij
     go (node.Par i j) e c h s = parts e c h.0 h.1 s
     go (node.Seq i j) e c h s = parts e c h.0 h.1 s
@@ -247,9 +248,9 @@ are_parts_of a id n ij is below well e = go n e below (subst IsWellFormed is wel
     go n e c h s = absurd (none-some ij e)
 
 pub all_parts_of : (a : Arena) (id : ℕ) (n : Node) (o : Option (DiagramId × DiagramId)) → tree_of a id ≡ tree_with a n → ChildrenBelow id n
-    → IsWellFormed (tree_of a id) → IfSome o (λ ij. both_parts n ≡ Some ij) → IfSome o (ArePartsOf a id)
-all_parts_of a id n None is below well h = h
-all_parts_of a id n (Some ij) is below well h = are_parts_of a id n ij is below well h
+    → IsComposed (tree_of a id) → IfSome o (λ ij. both_parts n ≡ Some ij) → IfSome o (ArePartsOf a id)
+all_parts_of a id n None is below composed h = h
+all_parts_of a id n (Some ij) is below composed h = are_parts_of a id n ij is below composed h
 
 -- the node is no name
 abbrev pub IsNoName : TreeNode → Type 0
@@ -349,7 +350,7 @@ more_first : (p : Parsed) (a b : Arena) (i : ℕ) → AddsIntegers a b → i < c
 more_first p a b i g l xs h below k d m =
     let q = h k d m in let z = below k d m in
     let lt : (get_or xs k d).diagram < count_of a = omega (arith, z, l) in
-    record { pattern = q.pattern; diagram = lt; well = subst IsWellFormed (adds_keeps a b g (get_or xs k d).diagram lt) q.well }
+    record { pattern = q.pattern; diagram = lt; composed = subst IsComposed (adds_keeps a b g (get_or xs k d).diagram lt) q.composed }
 
 last_pair : (p : Parsed) (a : Arena) (rest : List Pair) (x : Pair) → All (IsPair p a) (rest ++ x ∷ []) → IsPair p a x
 last_pair p a rest x h =

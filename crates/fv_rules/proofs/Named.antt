@@ -13,13 +13,13 @@ use Rattle.std.proofs.lemmas.List.{take_more, get_or-drop, get_or_push, get_or_a
 use Rattle.std.proofs.lemmas.List.Sorted.{All-permutation}
 use Rattle.std.proofs.lemmas.Slice.Eq.{bytes_eq-Decides}
 use Rattle.fv_lex.specs.Token.{Lexed}
-use Rattle.fv_grammar.specs.Tree.{Tree, Constant, Function, End, items}
+use Rattle.fv_parse_grammar.specs.Tree.{Tree, Constant, Function, End, items}
 use Rattle.fv_parse.specs.Trees.{Parsed, size_of, tree_in, text_of, first_named}
 use Rattle.fv_parse.specs.Laws.{SameNumbersSameBytes}
-use Rattle.fv_tree.specs.Arena.{tree_of, forest}
-use Rattle.fv_tree.specs.declared.node.TreeId.{TreeId}
-use Rattle.fv_tree.specs.declared.node.TreeNode.{TreeNode}
-use Rattle.fv_tree.specs.declared.node.TreeNode.TheVariants as nodes
+use Rattle.fv_parse_tree.specs.Arena.{tree_of, forest}
+use Rattle.fv_parse_tree.specs.declared.node.TreeId.{TreeId}
+use Rattle.fv_parse_tree.specs.declared.node.TreeNode.{TreeNode}
+use Rattle.fv_parse_tree.specs.declared.node.TreeNode.TheVariants as nodes
 use Rattle.fv_rules.specs.declared.by_name.Defined.{Defined}
 use Rattle.fv_rules.specs.Values.{is_of}
 use Rattle.fv_rules.proofs.RuleNodes.{IsNoFunction, AreOfName}

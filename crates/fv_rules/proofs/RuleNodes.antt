@@ -4,13 +4,13 @@ use Rattle.std.specs.Prelude.{filter, slice_get}
 use Rattle.std.proofs.lemmas.Simd.{map-map}
 use Rattle.std.proofs.lemmas.Option.{none-some, same_Some}
 use Rattle.std.proofs.lemmas.List.Elements.{All-nil, All-cons, All-tail}
-use Rattle.fv_grammar.specs.Tree.{Tree, items}
+use Rattle.fv_parse_grammar.specs.Tree.{Tree, items}
 use Rattle.fv_parse.specs.Trees.{Parsed, size_of, tree_in, start_in, text_of, first_named}
-use Rattle.fv_grammar.specs.Tree as tree
-use Rattle.fv_tree.specs.Arena.{forest, trees, tree_of}
-use Rattle.fv_tree.specs.declared.node.TreeId.{TreeId}
-use Rattle.fv_tree.specs.declared.node.TreeNode.{TreeNode}
-use Rattle.fv_tree.specs.declared.node.TreeNode.TheVariants as nodes
+use Rattle.fv_parse_grammar.specs.Tree as tree
+use Rattle.fv_parse_tree.specs.Arena.{forest, trees, tree_of}
+use Rattle.fv_parse_tree.specs.declared.node.TreeId.{TreeId}
+use Rattle.fv_parse_tree.specs.declared.node.TreeNode.{TreeNode}
+use Rattle.fv_parse_tree.specs.declared.node.TreeNode.TheVariants as nodes
 use Rattle.fv_rules.specs.declared.by_name.Defined.{Defined}
 use Rattle.fv_rules.specs.declared.value.Ruled.TheVariants as ruled
 use Rattle.fv_rules.specs.Values.{Rule, rule_of, is_of}
@@ -92,16 +92,16 @@ first_is p X node (y ∷ ys) x rs e h is =
     (subst (λ z. node z < size_of p) same (h 0 y (omega arith)), others, sym e ∙ ap (λ z. rule_of (tree_in p (node z)) ∷ others) same)
 
 -- the rules of a `case`
-pub case_rules_are : (t p : Parsed) (id : ℕ) (xs ys : List TreeId) → t ≡ p → map (tree_in t) xs ≡ case_in (tree_in t id) → ys ≡ xs
-    → rules_at p ys ≡ rules_in p (ruled.Case id)
-case_rules_are t p id xs ys same e is =
-    ap (rules_at p) is ∙ sym (map-map rule_of (tree_in p) xs)
+pub case_rules_are : (t p : Parsed) (id : ℕ) (xs : List TreeId) → t ≡ p → map (tree_in t) xs ≡ case_in (tree_in t id)
+    → rules_at p xs ≡ rules_in p (ruled.Case id)
+case_rules_are t p id xs same e =
+    sym (map-map rule_of (tree_in p) xs)
     ∙ ap (map rule_of) (subst (λ (r : Parsed). map (tree_in r) xs ≡ case_in (tree_in r id)) same e)
 
-pub functions_nodes : (p : Parsed) (found : List Defined) (ys : List TreeId) (rs : List Rule) → rules_of p found ≡ rs
-    → ys ≡ map (λ (d : Defined). d.node) found → rules_at p ys ≡ rs
-functions_nodes p found ys rs e is =
-    ap (rules_at p) is ∙ map-map (λ (i : TreeId). rule_of (tree_in p i)) (λ (d : Defined). d.node) found ∙ e
+pub functions_nodes : (p : Parsed) (found : List Defined) (rs : List Rule) → rules_of p found ≡ rs
+    → rules_at p (map (λ (d : Defined). d.node) found) ≡ rs
+functions_nodes p found rs e =
+    map-map (λ (i : TreeId). rule_of (tree_in p i)) (λ (d : Defined). d.node) found ∙ e
 
 -- the nodes are there
 abbrev pub AreNodes : Parsed → List TreeId → Type 0

@@ -5,9 +5,9 @@ use Rattle.std.specs.Prelude.{slice_get}
 use Rattle.std.proofs.lemmas.Option.{none-some, slice_get_within, slice_get_read, get_or_from_slice_get, same_Some}
 use Rattle.std.proofs.lemmas.List.{drop_all}
 use Rattle.fv_diagram.specs.Arena.{Arena}
-use Rattle.fv_diagram.specs.Diagram.{IsWellFormed}
+use Rattle.fv_diagram.specs.Composed.{IsComposed}
 use Rattle.fv_parse.specs.Trees.{Parsed, size_of, tree_in}
-use Rattle.fv_tree.specs.declared.node.TreeId.{TreeId}
+use Rattle.fv_parse_tree.specs.declared.node.TreeId.{TreeId}
 use Rattle.fv_rules.specs.declared.value.Value as code_value
 use Rattle.fv_rules.specs.declared.value.Value.TheVariants as value
 use Rattle.fv_rules.specs.declared.value.Binding as code_binding
@@ -48,7 +48,7 @@ shown_past w us (v ∷ vs) (suc i) h e = shown_past w h.1 vs i h.4 (ap (λ xs. s
 -- a value stays sound
 pub still_sound : (a b : Arena) (u : code_value.Value) → AddsIntegers a b → IsSound a u → IsSound b u
 still_sound a b (value.Diagram i) g h =
-    let l = adds_longer a b g in (omega (arith, h.0, l), subst IsWellFormed (sym (adds_keeps a b g i h.0)) h.1)
+    let l = adds_longer a b g in (omega (arith, h.0, l), subst IsComposed (sym (adds_keeps a b g i h.0)) h.1)
 still_sound a b (value.Abstraction f n e) g h = tt
 still_sound a b (value.Rules r e n i) g h = tt
 
@@ -191,6 +191,9 @@ pub record NextRule (p : Parsed) (rules : List TreeId) (i : ℕ) (x : TreeId) (r
   pub inside : i < length rules
   pub here : x ≡ get_or rules i x
   pub is : IsRuleAt p x r
+
+pub next_at : {p : Parsed} (rules : List TreeId) (i : ℕ) (x : TreeId) (r : RuleAt) → slice_get rules i ≡ Some x → IsRuleAt p x r → NextRule p rules i x r
+next_at rules i x r got is = record { inside = slice_get_within rules i x got; here = sym (get_or_from_slice_get rules i x x got); is = is }
 
 next_rule : {p : Parsed} {rules : List TreeId} {i : ℕ} {x : TreeId} {r : RuleAt} → NextRule p rules i x r
     → map (rule_in p) (drop i rules) ≡ rule_in p x ∷ map (rule_in p) (drop (suc i) rules)

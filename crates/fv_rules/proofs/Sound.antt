@@ -1,4 +1,4 @@
--- Every diagram of evaluation is well formed, has only the free slots of its environment, and names only the controls so far.
+-- Every diagram of evaluation is composed, has only the free slots of its environment, and names only the controls so far.
 use Rattle.std.proofs.Common.{inl, inr, ◌≡◌, ◌⊎◌, ℕ, zero, suc, ◌+◌, ◌≤◌, ◌<◌, Bool, true, false, List, [], ◌∷◌, ◌++◌, length, Option}
 use Rattle.std.proofs.Common.{Some, None, Result, Ok, Err, ℤ, pos, negsuc, refl, subst, arith}
 use Rattle.std.proofs.lemmas.Int.{ints}
@@ -9,20 +9,21 @@ use Rattle.std.proofs.lemmas.Bool.{and_parts}
 use Rattle.std.proofs.lemmas.Bool.Decides.{eqb_tells}
 use Rattle.std.proofs.lemmas.List.Elements.{All-push, All-nil}
 use Rattle.fv_lex.specs.Token.{Lexed}
-use Rattle.fv_grammar.specs.Tree.{Tree}
-use Rattle.fv_grammar.specs.Tree as tree
-use Rattle.fv_grammar.specs.declared.form.Operator.{Operator}
-use Rattle.fv_grammar.specs.declared.form.Operator.TheVariants as operators
-use Rattle.fv_grammar.specs.declared.form.Side.{Side}
-use Rattle.fv_grammar.specs.declared.form.Side.TheVariants as sides
+use Rattle.fv_parse_grammar.specs.Tree.{Tree}
+use Rattle.fv_parse_grammar.specs.Tree as tree
+use Rattle.fv_parse_grammar.specs.declared.form.Operator.{Operator}
+use Rattle.fv_parse_grammar.specs.declared.form.Operator.TheVariants as operators
+use Rattle.fv_parse_grammar.specs.declared.form.Side.{Side}
+use Rattle.fv_parse_grammar.specs.declared.form.Side.TheVariants as sides
 use Rattle.fv_num.specs.declared.op.Op.TheVariants as op
+use Rattle.fv_diagram.proofs.Composed.{composed_is_well}
 use Rattle.fv_diagram.specs.declared.node.Primitive.TheVariants as prim
 use Rattle.fv_diagram.specs.Diagram.{Diagram, Primitive, Constant, Control, Slot, Bind, Par, Seq, Split, Merge, Rec}
 use Rattle.fv_diagram.specs.declared.control.ControlInfo.{ControlInfo}
 use Rattle.fv_rules.specs.declared.refusal.EvalRefusal.{EvalRefusal}
 use Rattle.fv_rules.specs.declared.refusal.EvalRefusal.TheVariants.{IterationCount, UnknownName, EvalBudget}
 use Rattle.fv_rules.specs.declared.refusal.EvalRefusal.TheVariants.{ControlClash, ControlBounds, NoMemory}
-use Rattle.fv_grammar.specs.Tree.{items, start_of}
+use Rattle.fv_parse_grammar.specs.Tree.{items, start_of}
 use Rattle.fv_parse.specs.Trees.{text_of, label_of}
 use Rattle.fv_rules.specs.Values.{Name, Rule, Value, Flat, Abstraction, Rules, Env, Outermost, Bound, Scope, Taken, Nothing, And, Definition, Plain}
 use Rattle.fv_rules.specs.Values.{Parameters, Cases, Meaning, IsValue, IsDefined, Unknown, lookup, or_else as meant_or, in_order, count_taken}
@@ -105,16 +106,16 @@ SomeParts S k (Some ab) = IsSound S k ab.0 × IsSound S k ab.1
 halves : (S : ℕ → Type 0) (k : ℕ) (a b : Diagram) → IsSound S k (Par a b) → IsSound S k a × IsSound S k b
 halves S k a b g =
     let r = g.reads in let z = g.within in (
-      record { well = g.well.0; within = omega arith; free = λ s i. g.free s (inl i); reads = omega arith },
-      record { well = g.well.1; within = omega arith; free = λ s i. g.free s (inr i); reads = omega arith },
+      record { composed = g.composed.0; within = omega arith; free = λ s i. g.free s (inl i); reads = omega arith },
+      record { composed = g.composed.1; within = omega arith; free = λ s i. g.free s (inr i); reads = omega arith },
     )
 
 parts_sound : (S : ℕ → Type 0) (k : ℕ) (o : Operator) (d : Diagram) → IsSound S k d → SomeParts S k (parts_of o d)
-parts_sound S k operators.Recursion (Rec a b) g = halves S k a b (record { well = (g.well.0, g.well.1); within = g.within; free = g.free; reads = g.reads })
+parts_sound S k operators.Recursion (Rec a b) g = halves S k a b (record { composed = (g.composed.0, g.composed.1); within = g.within; free = g.free; reads = g.reads })
 parts_sound S k operators.Parallel (Par a b) g = halves S k a b g
-parts_sound S k operators.Sequence (Seq a b) g = halves S k a b (record { well = (g.well.0, g.well.1); within = g.within; free = g.free; reads = g.reads })
-parts_sound S k operators.Split (Split a b) g = halves S k a b (record { well = (g.well.0, g.well.1); within = g.within; free = g.free; reads = g.reads })
-parts_sound S k operators.Merge (Merge a b) g = halves S k a b (record { well = (g.well.0, g.well.1); within = g.within; free = g.free; reads = g.reads })
+parts_sound S k operators.Sequence (Seq a b) g = halves S k a b (record { composed = (g.composed.0, g.composed.1); within = g.within; free = g.free; reads = g.reads })
+parts_sound S k operators.Split (Split a b) g = halves S k a b (record { composed = (g.composed.0, g.composed.1); within = g.within; free = g.free; reads = g.reads })
+parts_sound S k operators.Merge (Merge a b) g = halves S k a b (record { composed = (g.composed.0, g.composed.1); within = g.within; free = g.free; reads = g.reads })
 parts_sound S k o d g = tt
 
 without_sound : (S : ℕ → Type 0) (k : ℕ) (n : Option ℤ) (o : Operator) (d : Diagram) → IsSound S k d → SomeParts S k (parts_without n o d)
@@ -237,7 +238,7 @@ labelled_below k n (c ∷ cs) label h =
     if_below n _ (Some (k, c)) (labelled (suc k) cs label) (omega arith) (labelled_below (suc k) n cs label (omega arith))
 
 control_sound : (S : ℕ → Type 0) (n k : ℕ) → k < n → IsSound S n (Control k)
-control_sound S n k h = record { well = tt; within = omega arith; free = λ s f. absurd f; reads = omega arith }
+control_sound S n k h = record { composed = tt; within = omega arith; free = λ s f. absurd f; reads = omega arith }
 
 alike_stays : (S : ℕ → Type 0) (s : State) (k : ℕ) (b : Bool) (r : EvalRefusal) → IsCause r → k < length s.controls → SoundState s
     → Stays (IsSound S) 1 s (if b then Ok (Control k, s) else Err r)
@@ -459,7 +460,7 @@ finished_sound (Ok x) d cs g e =
     let v = g.1 in
     let z = g.0 in
     subst (λ (o : Result (Diagram × List ControlInfo) EvalRefusal). IfSound o) e
-    (record { well = g.3.well; within = g.3.within; closed = g.3.free; reads = g.3.reads; bounded = g.2; few = omega arith })
+    (record { well = composed_is_well x.0 g.3.composed; within = g.3.within; closed = g.3.free; reads = g.3.reads; bounded = g.2; few = omega arith })
   where
     IfSound : Result (Diagram × List ControlInfo) EvalRefusal → Type 0
     IfSound (Ok p) = IsSoundProgram p.0 p.1

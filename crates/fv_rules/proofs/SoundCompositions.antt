@@ -4,15 +4,16 @@ use Rattle.std.proofs.Common.{Some, None, Ok, Err, ℤ, pos, refl, sym, subst, a
 use Rattle.std.specs.Prelude.{nat_le, nat_lt, nat_eq, ◌&&◌, ◌≢◌, if◌then◌else◌}
 use Rattle.std.proofs.lemmas.Bool.{and_parts, leb-true, eqb-true}
 use Rattle.std.proofs.lemmas.Option.{none-some}
-use Rattle.fv_grammar.specs.declared.form.Operator.{Operator}
-use Rattle.fv_grammar.specs.declared.form.Operator.TheVariants as operators
-use Rattle.fv_grammar.specs.declared.form.Iteration.{Iteration as Repetition}
-use Rattle.fv_grammar.specs.declared.form.Iteration.TheVariants as repetitions
+use Rattle.fv_parse_grammar.specs.declared.form.Operator.{Operator}
+use Rattle.fv_parse_grammar.specs.declared.form.Operator.TheVariants as operators
+use Rattle.fv_parse_grammar.specs.declared.form.Iteration.{Iteration as Repetition}
+use Rattle.fv_parse_grammar.specs.declared.form.Iteration.TheVariants as repetitions
 use Rattle.fv_num.specs.declared.op.Op.TheVariants as op
 use Rattle.fv_diagram.specs.declared.node.Primitive.{Primitive as Prim}
 use Rattle.fv_diagram.specs.declared.node.Primitive.TheVariants as prim
 use Rattle.fv_diagram.specs.Diagram.{Diagram, Primitive, Constant, Slot, Bind, Par, Seq, Split, Merge, Rec, size, inputs, outputs}
-use Rattle.fv_diagram.specs.Diagram.{control_bound, IsWellFormed, IsFree}
+use Rattle.fv_diagram.specs.Diagram.{control_bound, IsFree}
+use Rattle.fv_diagram.specs.Composed.{IsComposed}
 use Rattle.fv_diagram.specs.Arena.{size_limit}
 use Rattle.fv_rules.specs.declared.refusal.EvalRefusal.{EvalRefusal}
 use Rattle.fv_rules.specs.declared.refusal.EvalRefusal.TheVariants.{SizeBudget, Arity, IterationCount, TooManyArguments}
@@ -59,30 +60,30 @@ bind_free S s t (inr i) n = i
 both_sound : (S : ℕ → Type 0) (k : ℕ) (a b : Diagram) → IsSound S k a → IsSound S k b → size (Par a b) ≤ size_limit → IsSound S k (Par a b)
 both_sound S k a b p q h =
     let r = p.reads in let s = q.reads in
-    record { well = (p.well, q.well); within = h; free = λ s i. both_free S k a b s p q i; reads = omega arith }
+    record { composed = (p.composed, q.composed); within = h; free = λ s i. both_free S k a b s p q i; reads = omega arith }
 
 put_sound : (S : ℕ → Type 0) (k : ℕ) (d : Diagram) → HasSoundParts S k d → misfit d ≡ None → size d ≤ size_limit → IsSound S k d
 put_sound S k (Bind s a) g e h =
-    let r = g.reads in record { well = g.well; within = h; free = λ t i. bind_free S s t (g.free t i.0) i.1; reads = omega arith }
+    let r = g.reads in record { composed = g.composed; within = h; free = λ t i. bind_free S s t (g.free t i.0) i.1; reads = omega arith }
 put_sound S k (Par a b) g e h = both_sound S k a b g.0 g.1 h
 put_sound S k (Seq a b) g e h =
     let p = both_sound S k a b g.0 g.1 h in
     let t = unless_none (nat_eq (outputs a) (inputs b)) _ e in
-    record { well = (g.0.well, g.1.well, eqb-true (outputs a) (inputs b) t); within = h; free = p.free; reads = p.reads }
+    record { composed = (g.0.composed, g.1.composed, eqb-true (outputs a) (inputs b) t); within = h; free = p.free; reads = p.reads }
 put_sound S k (Split a b) g e h =
     let p = both_sound S k a b g.0 g.1 h in
     let t = multiple (inputs b) (outputs a) (unless_none (is_multiple (inputs b) (outputs a)) _ e) in
-    record { well = (g.0.well, g.1.well, t.1, t.0, t.2); within = h; free = p.free; reads = p.reads }
+    record { composed = (g.0.composed, g.1.composed, t.1, t.0, t.2); within = h; free = p.free; reads = p.reads }
 put_sound S k (Merge a b) g e h =
     let p = both_sound S k a b g.0 g.1 h in
     let t = multiple (outputs a) (inputs b) (unless_none (is_multiple (outputs a) (inputs b)) _ e) in
-    record { well = (g.0.well, g.1.well, t.0, t.1, t.2); within = h; free = p.free; reads = p.reads }
+    record { composed = (g.0.composed, g.1.composed, t.0, t.1, t.2); within = h; free = p.free; reads = p.reads }
 put_sound S k (Rec a b) g e h =
     let p = both_sound S k a b g.0 g.1 h in
     let t = or_none (unless (nat_le (inputs b) (outputs a)) _) (unless (nat_le (outputs b) (inputs a)) _) e in
     let u = leb-true (inputs b) (outputs a) (unless_none (nat_le (inputs b) (outputs a)) _ t.0) in
     let v = leb-true (outputs b) (inputs a) (unless_none (nat_le (outputs b) (inputs a)) _ t.1) in
-    record { well = (g.0.well, g.1.well, u, v); within = h; free = p.free; reads = p.reads }
+    record { composed = (g.0.composed, g.1.composed, u, v); within = h; free = p.free; reads = p.reads }
 put_sound S k d g e h = absurd g
 
 abbrev MayCause : Option EvalRefusal → Type 0
@@ -121,8 +122,8 @@ pub put_does : (S : ℕ → Type 0) (k : ℕ) (d : Diagram) → HasSoundParts S 
 put_does S k d g = put_by S k d (misfit d) g refl
 
 -- ---- leaves and folds
-leaf_sound : (S : ℕ → Type 0) (k : ℕ) (d : Diagram) → IsWellFormed d → size d ≡ 1 → control_bound d ≡ 0 → ((s : ℕ) → IsFree s d → S s) → IsSound S k d
-leaf_sound S k d w z c f = record { well = w; within = omega arith; free = f; reads = omega arith }
+leaf_sound : (S : ℕ → Type 0) (k : ℕ) (d : Diagram) → IsComposed d → size d ≡ 1 → control_bound d ≡ 0 → ((s : ℕ) → IsFree s d → S s) → IsSound S k d
+leaf_sound S k d w z c f = record { composed = w; within = omega arith; free = f; reads = omega arith }
 
 pub prim_sound : (S : ℕ → Type 0) (k : ℕ) (p : Prim) → IsSound S k (Primitive p)
 prim_sound S k p = leaf_sound S k (Primitive p) tt refl refl (λ s f. absurd f)

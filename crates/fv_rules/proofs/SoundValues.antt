@@ -1,7 +1,8 @@
 -- Sound diagrams, values, environments and states, and evaluations that keep them so.
 use Rattle.std.proofs.Common.{ℕ, ◌+◌, ◌≤◌, Bool, true, false, List, [], ◌∷◌, ◌++◌, length, Ok, Err, arith}
 use Rattle.std.specs.Prelude.{All, if◌then◌else◌}
-use Rattle.fv_diagram.specs.Diagram.{Diagram, size, control_bound, IsWellFormed, IsFree}
+use Rattle.fv_diagram.specs.Diagram.{Diagram, size, control_bound, IsFree}
+use Rattle.fv_diagram.specs.Composed.{IsComposed}
 use Rattle.fv_diagram.specs.Arena.{size_limit}
 use Rattle.fv_rules.specs.declared.refusal.EvalRefusal.{EvalRefusal}
 use Rattle.fv_rules.specs.declared.refusal.EvalRefusal.TheVariants.{NoMemory}
@@ -12,7 +13,7 @@ use Rattle.fv_diagram.specs.Controls.{IsBounded}
 -- ---- diagrams, values, environments and states
 
 pub record IsSound (S : ℕ → Type 0) (k : ℕ) (d : Diagram) : Type 0 where
-  pub well : IsWellFormed d
+  pub composed : IsComposed d
   pub within : size d ≤ size_limit
   pub free : (s : ℕ) → IsFree s d → S s
   pub reads : control_bound d ≤ k
@@ -37,7 +38,7 @@ SoundState s = All IsBounded s.controls
 
 -- more slots and more controls
 pub sound_grows : (S T : ℕ → Type 0) (k n : ℕ) (d : Diagram) → ((s : ℕ) → S s → T s) → k ≤ n → IsSound S k d → IsSound T n d
-sound_grows S T k n d f h g = let r = g.reads in record { well = g.well; within = g.within; free = λ s i. f s (g.free s i); reads = omega arith }
+sound_grows S T k n d f h g = let r = g.reads in record { composed = g.composed; within = g.within; free = λ s i. f s (g.free s i); reads = omega arith }
 
 mutual
   pub value_grows : (S T : ℕ → Type 0) (k n : ℕ) → ((s : ℕ) → S s → T s) → k ≤ n → (v : Value) → SoundValue S k v → SoundValue T n v

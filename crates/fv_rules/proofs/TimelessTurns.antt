@@ -3,7 +3,8 @@ use Rattle.std.proofs.Common.{◌≡◌, ◌⊎◌, ℕ, ◌+◌, ◌<◌, ◌�
 use Rattle.std.proofs.Math.Bool.{and_assoc}
 use Rattle.fv_base.proofs.Lists.{length_table}
 use Rattle.fv_num.specs.Words.{argument}
-use Rattle.fv_diagram.specs.Diagram.{Diagram, Par, Seq, Split, Merge, inputs, outputs, size, IsWellFormed}
+use Rattle.fv_diagram.specs.Diagram.{Diagram, Par, Seq, Split, Merge, inputs, outputs, size}
+use Rattle.fv_diagram.specs.Composed.{IsComposed}
 use Rattle.fv_diagram.specs.Arena.{Arena, count_of, tree_of}
 use Rattle.fv_rules.specs.declared.timeless.Task.{Task}
 use Rattle.fv_rules.specs.declared.timeless.Task.TheVariants as task
@@ -33,7 +34,7 @@ moved a (t ∷ ts) l k m r n h s p = λ m' d. moved a ts l k m' m' n h (λ i. re
 -- what a visit of diagram d asks
 abbrev pub Visits : (from to l : ℕ) → Diagram → Type 0
 Visits from to l d =
-    IsWellFormed d × (from + inputs d ≤ l) × (to + outputs d ≤ l) × ((from + inputs d ≤ to) ⊎ (to + outputs d ≤ from))
+    IsComposed d × (from + inputs d ≤ l) × (to + outputs d ≤ l) × ((from + inputs d ≤ to) ⊎ (to + outputs d ≤ from))
 
 visits : (a : Arena) (id from to l : ℕ) (d : Diagram) → tree_of a id ≡ d → Fits a l (task.Visit id from to) → Visits from to l d
 visits a id from to l d e f = subst (Visits from to l) e (f.1, f.2, f.3, f.4)

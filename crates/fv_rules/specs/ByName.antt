@@ -1,9 +1,9 @@
 -- The definitions of a list of a tree, by the canonical numbers of their names (this project's profile).
 use Rattle.std.specs.Prelude.{◌≡◌, ℕ, ◌<◌, Bool, nat_eq, List, length, map, filter, filter_map, All, Option, Some, None, slice_index_or}
 use Rattle.fv_lex.specs.Token.{Lexed}
-use Rattle.fv_grammar.specs.Tree.{Tree, Constant, Function, items}
+use Rattle.fv_parse_grammar.specs.Tree.{Tree, Constant, Function, items}
 use Rattle.fv_parse.specs.Trees.{Parsed, size_of, tree_in, text_of, first_named}
-use Rattle.fv_tree.specs.declared.node.TreeId.{TreeId}
+use Rattle.fv_parse_tree.specs.declared.node.TreeId.{TreeId}
 use Rattle.fv_rules.specs.declared.by_name.Defined.{Defined}
 use Rattle.fv_rules.specs.Values.{is_of}
 

@@ -2,11 +2,12 @@
 use Rattle.std.specs.Prelude.{◌≡◌, ℕ, ◌+◌, ◌<◌, Bool, true, false, List, [], ◌∷◌, ◌++◌, map, reverse, All, Option, Some, None}
 use Rattle.std.specs.List.{sum_by}
 use Rattle.fv_lex.specs.Token.{Lexed}
-use Rattle.fv_grammar.specs.Tree.{Tree}
+use Rattle.fv_parse_grammar.specs.Tree.{Tree}
 use Rattle.fv_diagram.specs.declared.node.DiagramId.{DiagramId}
 use Rattle.fv_diagram.specs.declared.node.Node.{Node}
 use Rattle.fv_diagram.specs.declared.node.Node.TheVariants as node
-use Rattle.fv_diagram.specs.Diagram.{Diagram, size, IsWellFormed}
+use Rattle.fv_diagram.specs.Diagram.{Diagram, size}
+use Rattle.fv_diagram.specs.Composed.{IsComposed}
 use Rattle.fv_diagram.specs.Arena.{Arena, count_of, tree_of}
 use Rattle.fv_parse.specs.Trees.{Parsed, size_of, tree_in, text_of, first_named}
 use Rattle.fv_rules.specs.declared.value.Value as code_value
@@ -19,9 +20,9 @@ use Rattle.fv_rules.specs.declared.memo.Known.{Known}
 use Rattle.fv_rules.specs.Memo.{Remembers, AddsIntegers}
 use Rattle.fv_rules.specs.Shows.{World, ShowsBindings}
 
--- a value that is a diagram is one of the arena, and well formed
+-- a value that is a diagram is one of the arena, and composed
 abbrev pub IsSound : Arena → code_value.Value → Type 0
-IsSound a (value.Diagram i) = (i < count_of a) × IsWellFormed (tree_of a i)
+IsSound a (value.Diagram i) = (i < count_of a) × IsComposed (tree_of a i)
 IsSound a u = Unit {0}
 
 -- a value is no diagram
@@ -58,11 +59,11 @@ pair_of p a x = (tree_in p x.pattern, tree_of a x.diagram)
 abbrev pub waiting : Parsed → Arena → List Pair → List (Tree × Diagram)
 waiting p a pending = map (pair_of p a) (reverse pending)
 
--- both are there, and the diagram is well formed
+-- both are there, and the diagram is composed
 pub record IsPair (p : Parsed) (a : Arena) (x : Pair) : Type 0 where
   pub pattern : x.pattern < size_of p
   pub diagram : x.diagram < count_of a
-  pub well : IsWellFormed (tree_of a x.diagram)
+  pub composed : IsComposed (tree_of a x.diagram)
 
 -- the name of a token was bound to a value behind the bindings so far
 pub record BindsName (p : Parsed) (n : ℕ) (u : code_value.Value) (before after : List code_binding.Binding) : Type 0 where
@@ -99,12 +100,12 @@ both_parts (node.Merge i j) = Some (i, j)
 both_parts (node.Rec i j) = Some (i, j)
 both_parts n = None
 
--- two parts of a diagram are there, and well formed
+-- two parts of a diagram are there, and composed
 pub record ArePartsOf (a : Arena) (id : ℕ) (ij : DiagramId × DiagramId) : Type 0 where
   pub left : ij.0 < id
   pub right : ij.1 < id
-  pub left_well : IsWellFormed (tree_of a ij.0)
-  pub right_well : IsWellFormed (tree_of a ij.1)
+  pub left_composed : IsComposed (tree_of a ij.0)
+  pub right_composed : IsComposed (tree_of a ij.1)
   pub sizes : size (tree_of a ij.0) + size (tree_of a ij.1) < size (tree_of a id)
 
 -- what stays true while pairs wait: the rest of them, with the bindings so far, is the whole

@@ -1,9 +1,12 @@
 -- What choosing a rule answers (this project's profile).
 use Rattle.std.specs.Prelude.{◌≡◌, ◌<◌, All, List, [], ◌∷◌, map, Option, Some, None}
-use Rattle.fv_grammar.specs.Tree.{Tree}
+use Rattle.fv_parse_grammar.specs.Tree.{Tree}
 use Rattle.fv_parse.specs.Trees.{Parsed, size_of, tree_in}
-use Rattle.fv_tree.specs.declared.node.TreeId.{TreeId}
+use Rattle.fv_parse_tree.specs.declared.node.TreeId.{TreeId}
+use Rattle.fv_rules.specs.declared.by_name.Defined.{Defined}
 use Rattle.fv_rules.specs.declared.choosing.RuleAt.{RuleAt}
+use Rattle.fv_rules.specs.declared.choosing.Rules.{Rules}
+use Rattle.fv_rules.specs.declared.choosing.Rules.TheVariants as rules
 use Rattle.fv_diagram.specs.Arena.{Arena}
 use Rattle.fv_rules.specs.declared.value.Value as code_value
 use Rattle.fv_rules.specs.declared.value.Binding as code_binding
@@ -17,6 +20,11 @@ abbrev pub ShowsChoice : World → Option (TreeId × List code_binding.Binding) 
 ShowsChoice w (Some idb) (Some xb) = ShowsTree w idb.0 xb.0 × ShowsBindings w idb.1 xb.1
 ShowsChoice w None None = Unit {0}
 ShowsChoice w o p = ⊥
+
+-- the nodes of the rules that stand at a place
+abbrev pub nodes_of : Rules → List TreeId
+nodes_of (rules.Case ids) = ids.now
+nodes_of (rules.Definitions ds) = map (λ (d : Defined). d.node) ds.now
 
 -- the patterns and the right side of the rule that a node is
 pub record IsRuleAt (p : Parsed) (id : TreeId) (r : RuleAt) : Type 0 where

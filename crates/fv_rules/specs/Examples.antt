@@ -5,13 +5,13 @@ use Rattle.fv_lex.specs.declared.token.Kind.TheVariants.{Name as a_name}
 use Rattle.fv_lex.specs.declared.token.Symbol.TheVariants as symbols
 use Rattle.fv_lex.specs.Token.{Token, Lexed}
 use Rattle.fv_num.specs.declared.op.Op.TheVariants as op
-use Rattle.fv_grammar.specs.Tree.{Tree}
-use Rattle.fv_grammar.specs.Tree as tree
-use Rattle.fv_grammar.specs.declared.form.Primitive.TheVariants as operations
-use Rattle.fv_grammar.specs.declared.form.Operator.TheVariants as operators
-use Rattle.fv_grammar.specs.declared.form.Iteration.TheVariants as repetitions
-use Rattle.fv_grammar.specs.declared.form.Side.TheVariants as sides
-use Rattle.fv_grammar.specs.declared.form.Slider.TheVariants as sliders
+use Rattle.fv_parse_grammar.specs.Tree.{Tree}
+use Rattle.fv_parse_grammar.specs.Tree as tree
+use Rattle.fv_parse_grammar.specs.declared.form.Primitive.TheVariants as operations
+use Rattle.fv_parse_grammar.specs.declared.form.Operator.TheVariants as operators
+use Rattle.fv_parse_grammar.specs.declared.form.Iteration.TheVariants as repetitions
+use Rattle.fv_parse_grammar.specs.declared.form.Side.TheVariants as sides
+use Rattle.fv_parse_grammar.specs.declared.form.Slider.TheVariants as sliders
 use Rattle.fv_diagram.specs.declared.node.Primitive.TheVariants as prim
 use Rattle.fv_diagram.specs.Diagram.{Diagram, Primitive, Constant, Slot, Bind, Par, Seq}
 use Rattle.fv_rules.specs.declared.refusal.EvalRefusal.TheVariants.{UnknownName, NotANumber, IterationCount, NoRule, NotADiagram, TooManyArguments}

@@ -3,10 +3,10 @@ use Rattle.std.specs.Prelude.{Bool, false, List, [], ◌∷◌, ℤ, pos, neg_�
 use Rattle.std.specs.Ordering.{int_eq}
 use Rattle.fv_lex.specs.Token.{Lexed}
 use Rattle.fv_num.specs.Words.{wrap}
-use Rattle.fv_grammar.specs.Tree.{Tree}
-use Rattle.fv_grammar.specs.Tree as tree
-use Rattle.fv_grammar.specs.declared.form.Operator.{Operator}
-use Rattle.fv_grammar.specs.declared.form.Operator.TheVariants as operators
+use Rattle.fv_parse_grammar.specs.Tree.{Tree}
+use Rattle.fv_parse_grammar.specs.Tree as tree
+use Rattle.fv_parse_grammar.specs.declared.form.Operator.{Operator}
+use Rattle.fv_parse_grammar.specs.declared.form.Operator.TheVariants as operators
 use Rattle.fv_diagram.specs.Diagram.{Diagram, Constant, Par, Seq, Split, Merge, Rec}
 use Rattle.fv_parse.specs.Trees.{text_of}
 use Rattle.fv_rules.specs.Values.{Name, Rule, Value, Flat, Env, Bound}

@@ -1,23 +1,24 @@
 -- Evaluation: the rules (Faust manual; this project's profile).
 use Rattle.std.specs.Prelude.{◌≡◌, ℕ, zero, suc, ◌+◌, ◌-◌, Bool, false, ◌&&◌, nat_eq, nat_lt, List, [], ◌∷◌, ◌++◌, length, map, replicate, codes, ℤ}
 use Rattle.std.specs.Prelude.{pos, negsuc, neg_ℤ, Option, Some, None, Result, Ok, Err, if◌then◌else◌}
+use Rattle.fv_base.specs.declared.limits.TheConstants.{VISIT_LIMIT}
 use Rattle.fv_lex.specs.Token.{Lexed}
 use Rattle.fv_num.specs.Words.{wrap, argument}
 use Rattle.fv_num.specs.declared.op.Op.TheVariants as op
-use Rattle.fv_grammar.specs.Tree.{Tree}
-use Rattle.fv_grammar.specs.Tree as tree
-use Rattle.fv_grammar.specs.declared.form.Primitive.{Primitive as Operation}
-use Rattle.fv_grammar.specs.declared.form.Primitive.TheVariants as operations
-use Rattle.fv_grammar.specs.declared.form.Operator.{Operator}
-use Rattle.fv_grammar.specs.declared.form.Operator.TheVariants as operators
-use Rattle.fv_grammar.specs.declared.form.Iteration.{Iteration as Repetition}
-use Rattle.fv_grammar.specs.declared.form.Iteration.TheVariants as repetitions
-use Rattle.fv_grammar.specs.declared.form.Side.{Side}
-use Rattle.fv_grammar.specs.declared.form.Side.TheVariants as sides
-use Rattle.fv_grammar.specs.declared.form.Switch.{Switch as SwitchKind}
-use Rattle.fv_grammar.specs.declared.form.Switch.TheVariants as switches
-use Rattle.fv_grammar.specs.declared.form.Slider.{Slider as SliderKind}
-use Rattle.fv_grammar.specs.declared.form.Slider.TheVariants as sliders
+use Rattle.fv_parse_grammar.specs.Tree.{Tree}
+use Rattle.fv_parse_grammar.specs.Tree as tree
+use Rattle.fv_parse_grammar.specs.declared.form.Primitive.{Primitive as Operation}
+use Rattle.fv_parse_grammar.specs.declared.form.Primitive.TheVariants as operations
+use Rattle.fv_parse_grammar.specs.declared.form.Operator.{Operator}
+use Rattle.fv_parse_grammar.specs.declared.form.Operator.TheVariants as operators
+use Rattle.fv_parse_grammar.specs.declared.form.Iteration.{Iteration as Repetition}
+use Rattle.fv_parse_grammar.specs.declared.form.Iteration.TheVariants as repetitions
+use Rattle.fv_parse_grammar.specs.declared.form.Side.{Side}
+use Rattle.fv_parse_grammar.specs.declared.form.Side.TheVariants as sides
+use Rattle.fv_parse_grammar.specs.declared.form.Switch.{Switch as SwitchKind}
+use Rattle.fv_parse_grammar.specs.declared.form.Switch.TheVariants as switches
+use Rattle.fv_parse_grammar.specs.declared.form.Slider.{Slider as SliderKind}
+use Rattle.fv_parse_grammar.specs.declared.form.Slider.TheVariants as sliders
 use Rattle.fv_diagram.specs.declared.node.Primitive.{Primitive as Prim}
 use Rattle.fv_diagram.specs.declared.node.Primitive.TheVariants as prim
 use Rattle.fv_diagram.specs.Diagram.{Diagram, Primitive, Constant, Slot, Bind, Par, Seq, Split, Merge, Rec, inputs, outputs, primitive_inputs}
@@ -26,7 +27,7 @@ use Rattle.fv_diagram.specs.declared.control.ControlKind.{ControlKind}
 use Rattle.fv_diagram.specs.declared.control.ControlKind.TheVariants.{Button, Checkbox, HSlider, VSlider, NEntry}
 use Rattle.fv_rules.specs.declared.refusal.EvalRefusal.{EvalRefusal}
 use Rattle.fv_rules.specs.declared.refusal.EvalRefusal.TheVariants.{UnknownName, IterationCount, TooManyArguments, EvalBudget}
-use Rattle.fv_grammar.specs.Tree.{items, start_of}
+use Rattle.fv_parse_grammar.specs.Tree.{items, start_of}
 use Rattle.fv_parse.specs.Trees.{text_of, label_of}
 use Rattle.fv_rules.specs.Values.{Name, Rule, Value, Flat, Abstraction, Rules, Env, Outermost, Bound, Scope, Nothing, And, Definition, Plain}
 use Rattle.fv_rules.specs.Values.{Parameters, Cases, Meaning, IsValue, IsDefined, Unknown, lookup, rule_of, in_order, count_taken}
@@ -355,7 +356,7 @@ ev l = record {
 
 -- no program has more visits
 abbrev pub visit_limit : ℕ
-visit_limit = 1000000
+visit_limit = VISIT_LIMIT
 
 -- the state before a program
 abbrev pub start : State

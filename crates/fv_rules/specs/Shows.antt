@@ -1,12 +1,12 @@
 -- What the numbers of an evaluation's lists stand for (this project's profile).
 use Rattle.std.specs.Prelude.{◌≡◌, ℕ, suc, ◌<◌, List, [], ◌∷◌, ◌++◌, map, filter, drop, Option, Some, None, slice_get}
 use Rattle.fv_lex.specs.Token.{Lexed}
-use Rattle.fv_grammar.specs.Tree.{Tree, items, start_of}
-use Rattle.fv_grammar.specs.Tree as tree
+use Rattle.fv_parse_grammar.specs.Tree.{Tree, items, start_of}
+use Rattle.fv_parse_grammar.specs.Tree as tree
 use Rattle.fv_diagram.specs.Diagram.{Diagram}
 use Rattle.fv_diagram.specs.Arena.{Arena, count_of, tree_of}
 use Rattle.fv_parse.specs.Trees.{Parsed, size_of, tree_in, text_of, first_named}
-use Rattle.fv_tree.specs.declared.node.TreeId.{TreeId}
+use Rattle.fv_parse_tree.specs.declared.node.TreeId.{TreeId}
 use Rattle.fv_rules.specs.declared.value.Ruled.{Ruled}
 use Rattle.fv_rules.specs.declared.value.Ruled.TheVariants as ruled
 use Rattle.fv_rules.specs.declared.value.Value as code_value

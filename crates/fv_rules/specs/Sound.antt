@@ -1,7 +1,7 @@
 -- What every diagram that evaluation gives is.
 use Rattle.std.specs.Prelude.{◌≡◌, ◌≤◌, List, length, All, Ok, Err}
 use Rattle.fv_lex.specs.Token.{Lexed}
-use Rattle.fv_grammar.specs.Tree.{Tree}
+use Rattle.fv_parse_grammar.specs.Tree.{Tree}
 use Rattle.fv_diagram.specs.Diagram.{Diagram, size, control_bound, IsWellFormed, HasNoFreeSlot}
 use Rattle.fv_diagram.specs.Arena.{size_limit}
 use Rattle.fv_diagram.specs.Controls.{IsBounded}

@@ -3,7 +3,8 @@
 use Rattle.std.specs.Prelude.{◌≡◌, ◌⊎◌, ℕ, ◌+◌, ◌*◌, ◌<◌, ◌≤◌, Bool, true, false, ◌&&◌, List, [], ◌∷◌, ◌++◌, length, take, drop, ℤ, pos}
 use Rattle.fv_num.specs.Words.{argument}
 use Rattle.fv_num.specs.Frames.{Frame, table}
-use Rattle.fv_diagram.specs.Diagram.{Diagram, Primitive, Constant, Par, Seq, Split, Merge, inputs, outputs, size, IsWellFormed}
+use Rattle.fv_diagram.specs.Diagram.{Diagram, Primitive, Constant, Par, Seq, Split, Merge, inputs, outputs, size}
+use Rattle.fv_diagram.specs.Composed.{IsComposed}
 use Rattle.fv_diagram.specs.Streams.{primitive_at, dealt, merged}
 use Rattle.fv_diagram.specs.Arena.{Arena, count_of, tree_of}
 use Rattle.fv_rules.specs.declared.timeless.Task.{Task}
@@ -59,7 +60,7 @@ Leads a l (t ∷ ts) m n = (m' : ℕ → ℤ) → Does l (action a t) m m' → L
 -- a task speaks of places before place l alone, and a diagram does not write what it takes
 abbrev pub Fits : Arena → ℕ → Task → Type 0
 Fits a l (task.Visit id from to) =
-    (id < count_of a) × IsWellFormed (tree_of a id) × (from + inputs (tree_of a id) ≤ l) × (to + outputs (tree_of a id) ≤ l)
+    (id < count_of a) × IsComposed (tree_of a id) × (from + inputs (tree_of a id) ≤ l) × (to + outputs (tree_of a id) ≤ l)
     × ((from + inputs (tree_of a id) ≤ to) ⊎ (to + outputs (tree_of a id) ≤ from))
 Fits a l (task.Deal at count many) = (0 < count) × (count ≤ many) × (at + many ≤ l)
 Fits a l (task.Sum at count many) = (0 < many) × (many ≤ count) × (at + count ≤ l)

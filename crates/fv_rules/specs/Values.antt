@@ -5,10 +5,10 @@ use Rattle.std.specs.Str.{bytes_eq}
 use Rattle.fv_lex.specs.Token.{Lexed}
 use Rattle.fv_lex.specs.Pieces.{greatest_literal}
 use Rattle.fv_num.specs.Words.{wrap}
-use Rattle.fv_grammar.specs.Tree.{Tree}
-use Rattle.fv_grammar.specs.Tree as tree
+use Rattle.fv_parse_grammar.specs.Tree.{Tree}
+use Rattle.fv_parse_grammar.specs.Tree as tree
 use Rattle.fv_diagram.specs.Diagram.{Diagram}
-use Rattle.fv_grammar.specs.Tree.{items}
+use Rattle.fv_parse_grammar.specs.Tree.{items}
 use Rattle.fv_parse.specs.Trees.{text_of}
 
 -- a name is its bytes

@@ -1,6 +1,6 @@
 // The rules that stand at a place, and the first one that matches.
 
-ghost use Rattle.std.specs.Prelude.{◌≡◌, ◌<◌, List, IfOk, All, map};
+ghost use Rattle.std.specs.Prelude.{◌≡◌, ◌<◌, List, Some, IfOk, All, length, map, slice_get};
 ghost use Rattle.fv_parse.specs.Trees.{size_of, tree_in};
 ghost use Rattle.fv_rules.specs.declared.by_name.Defined.{Defined as AnItem};
 ghost use Rattle.fv_rules.specs.Values.{Value as PureValue, rule_of};
@@ -9,7 +9,7 @@ ghost use Rattle.fv_rules.specs.Rules.{width};
 ghost use Rattle.fv_rules.specs.Shows.{World, IsInside, ShowsValues, ShowsBindings, case_in, rules_in};
 ghost use Rattle.fv_rules.specs.Memo.{Remembers, AddsIntegers};
 ghost use Rattle.fv_rules.specs.Choosing.{IsSound, with_diagrams, ShowsMatched};
-ghost use Rattle.fv_rules.specs.Chosen.{ShowsChoice, IsRuleAt, IsFirstRule, Chooses};
+ghost use Rattle.fv_rules.specs.Chosen.{ShowsChoice, IsRuleAt, IsFirstRule, Chooses, nodes_of};
 
 use crate::by_name::Defined;
 use crate::lookup::Definitions;
@@ -25,6 +25,38 @@ use std::alloc::{AllocError, Global};
 pub(crate) struct RuleAt<'t> {
     patterns: &'t [TreeId],
     body: TreeId,
+}
+
+/// The rules that stand at a place, where they stand: a look at them copies nothing.
+#[derive(Clone, Copy)]
+pub(crate) enum Rules<'t> {
+    /// The nodes of a `case`.
+    Case(&'t [TreeId]),
+    /// Definitions of one name.
+    Definitions(&'t [Defined]),
+}
+
+impl Rules<'_> {
+    // How many there are.
+    fn len(self) -> usize
+        ensures { result ≡ length (nodes_of self.entry) }
+    {
+        match self {
+            Rules::Case(nodes) => nodes.len(),
+            Rules::Definitions(all) => all.len(),
+        }
+    }
+
+    // The node of one of them.
+    fn node(self, i: usize) -> TreeId
+        requires { i < length (nodes_of self) }
+        ensures { slice_get (nodes_of self.entry) i ≡ Some result }
+    {
+        match self {
+            Rules::Case(nodes) => nodes[i],
+            Rules::Definitions(all) => all[i].node,
+        }
+    }
 }
 
 // The rule that a node is.
@@ -75,21 +107,15 @@ impl Definitions<'_> {
         }
     }
 
-    // The nodes of the rules that stand at a place, in order.
-    fn rules(&self, alloc: Global, ruled: Ruled) -> Result<Vec<TreeId>, AllocError>
+    // The rules that stand at a place, in order.
+    fn rules(&self, ruled: Ruled) -> Rules<'_>
         requires { IsInside self.now ruled }
-        ensures rules { IfOk result (λ v. map (λ id. rule_of (tree_in self.now id)) v.items ≡ rules_in self.now ruled) }
-        ensures there { IfOk result (λ v. All (λ id. id < size_of self.now) v.items) }
+        ensures rules { map (λ id. rule_of (tree_in self.now id)) (nodes_of result) ≡ rules_in self.now ruled }
+        ensures there { All (λ id. id < size_of self.now) (nodes_of result) }
     {
         match ruled {
-            Ruled::Case(id) => {
-                let nodes = Vec::from_slice(alloc, case_rules(self.tree(), id))?;
-                Ok(nodes)
-            }
-            Ruled::Definitions { list, first } => {
-                let nodes = nodes_of(alloc, self.functions(list, first))?;
-                Ok(nodes)
-            }
+            Ruled::Case(id) => Rules::Case(case_rules(self.tree(), id)),
+            Ruled::Definitions { list, first } => Rules::Definitions(self.functions(list, first)),
         }
     }
 
@@ -141,9 +167,8 @@ impl Definitions<'_> {
             → ShowsChoice (with_diagrams w diagrams.new) o (chosen self.now.tokens (rules_in self.now ruled) vs)) }
     {
         let tree = self.tree();
-        let rules = self.rules(alloc, ruled)?;
-        let nodes = rules.as_slice();
-        let choice = first_match(alloc, tree, nodes, diagrams, numbers, arguments)?;
+        let rules = self.rules(ruled);
+        let choice = first_match(alloc, tree, rules, diagrams, numbers, arguments)?;
         Ok(choice)
     }
 }
@@ -152,20 +177,21 @@ impl Definitions<'_> {
 fn first_match(
     alloc: Global,
     tree: &Tree,
-    rules: &[TreeId],
+    rules: Rules,
     diagrams: &mut Diagrams,
     numbers: &mut Numbers,
     arguments: &[Value],
 ) -> Result<Option<(TreeId, Bindings)>, AllocError>
-    requires inside { All (λ id. id < size_of tree.now) rules.now }
+    requires inside { All (λ id. id < size_of tree.now) (nodes_of rules) }
     requires sound { All (IsSound diagrams.old) arguments.now }
     requires known { Remembers diagrams.old numbers.old }
     ensures adds { AddsIntegers diagrams.old diagrams.new }
     ensures known { Remembers diagrams.new numbers.new }
-    ensures chosen { IfOk result (Chooses tree.now rules.now arguments.now diagrams.old diagrams.new) }
+    ensures chosen { IfOk result (Chooses tree.now (nodes_of rules.entry) arguments.now diagrams.old diagrams.new) }
 {
-    for id in rules {
-        let rule = rule_at(tree, *id);
+    for i in 0..rules.len() {
+        let id = rules.node(i);
+        let rule = rule_at(tree, id);
         let mut list = Vec::new(alloc);
         if all_match(
             alloc,
@@ -180,17 +206,6 @@ fn first_match(
         }
     }
     Ok(None)
-}
-
-// The nodes of definitions.
-fn nodes_of(alloc: Global, definitions: &[Defined]) -> Result<Vec<TreeId>, AllocError>
-    ensures { IfOk result (λ v. v.items ≡ map (λ (d : AnItem). d.node) definitions.now) }
-{
-    let mut nodes = Vec::new(alloc);
-    for definition in definitions {
-        nodes.push(definition.node)?;
-    }
-    Ok(nodes)
 }
 
 // Tries patterns on as many values: whether they match. The bindings are added to those so far.

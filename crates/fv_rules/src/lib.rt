@@ -23,6 +23,6 @@ pub use matching::{Bindings, matches};
 pub use memo::{Known, Numbers};
 pub use number::number_of;
 pub use putting::put;
-pub use refusal::EvalRefusal;
+pub use refusal::{EvalRefusal, too_many_to_count};
 pub use scopes::Scopes;
 pub use value::{Argument, Binding, Meaning, Ruled, Scope, Value};

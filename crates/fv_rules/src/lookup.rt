@@ -1,7 +1,7 @@
 // What a name stands for.
 
 ghost use Rattle.std.specs.Prelude.{ℕ, ◌≡◌, ◌<◌, IfOk, Some, All, map, filter};
-ghost use Rattle.fv_grammar.specs.Tree.{items};
+ghost use Rattle.fv_parse_grammar.specs.Tree.{items};
 ghost use Rattle.fv_parse.specs.Trees.{size_of, tree_in, text_of, first_named};
 ghost use Rattle.fv_rules.specs.Values.{Name, Env, Meaning as PureMeaning, lookup, is_of, definition_of, or_else};
 ghost use Rattle.fv_rules.specs.declared.by_name.Defined.{Defined as AnItem};
@@ -54,7 +54,7 @@ impl<'a> Definitions<'a> {
             → w.tree ≡ self.now → w.scopes ≡ scopes.now.scopes → IsNamed w name x → ShowsEnv w env E
             → ShowsMeaning w result (lookup self.now.tokens E x) }
     {
-        let mut at = env;
+        let mut at = scopes.pass(name, env);
         'outward: while let Some(scope) = scopes.scope(at) {
             if let Some(meaning) = self.in_scope(&scope, name, at) {
                 return meaning;
@@ -64,7 +64,7 @@ impl<'a> Definitions<'a> {
             if outer >= at {
                 return Meaning::Unknown;
             }
-            at = outer;
+            at = scopes.pass(name, outer);
         }
         Meaning::Unknown
     }

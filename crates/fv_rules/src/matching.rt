@@ -1,7 +1,7 @@
 // Patterns against values.
 
 ghost use Rattle.std.specs.Prelude.{◌≡◌, ◌<◌, [], Some, IfOk, OnOk, IfSome, MatchBool, option_map};
-ghost use Rattle.fv_diagram.specs.Diagram.{IsWellFormed};
+ghost use Rattle.fv_diagram.specs.Composed.{IsComposed};
 ghost use Rattle.fv_diagram.specs.Arena.{Arena, count_of, tree_of, tree_with};
 ghost use Rattle.fv_parse.specs.Trees.{size_of, tree_in};
 ghost use Rattle.fv_rules.specs.Values.{Value as PureValue, Flat};
@@ -16,8 +16,8 @@ use crate::literals::{literal, negative_literal};
 use crate::memo::Numbers;
 use crate::value::{Binding, Value};
 use fv_diagram::{DiagramId, Diagrams, Node};
-use fv_grammar::Operator;
 use fv_parse::{Tree, TreeId, TreeNode, same_names};
+use fv_parse_grammar::Operator;
 use std::alloc::{AllocError, Global};
 use std::marker::Model;
 
@@ -178,8 +178,11 @@ fn matches_diagram(
         → ShowsMatched (with_diagrams w diagrams.new) b found.new.items
         (matched tree.now.tokens (tree_in tree.now whole.pattern) (Flat (tree_of diagrams.old whole.diagram)) bs)) }
 {
+    // A name and a number wait for nothing, so no memory is taken for them.
     let mut pending = Vec::new(alloc);
-    pending.push(whole)?;
+    if !advance(alloc, tree, whole, diagrams, numbers, &mut pending, found)? {
+        return Ok(false);
+    }
     while let Some(pair) = pending.pop() {
         if !advance(alloc, tree, pair, diagrams, numbers, &mut pending, found)? {
             return Ok(false);
@@ -252,7 +255,7 @@ fn has_number(
     k: i32,
 ) -> Result<bool, AllocError>
     requires inside { id < count_of diagrams.now }
-    requires well { IsWellFormed (tree_of diagrams.now id) }
+    requires composed { IsComposed (tree_of diagrams.now id) }
     requires known { Remembers diagrams.now numbers.old }
     ensures known { Remembers diagrams.now numbers.new }
     ensures number { IfOk result (λ b. b ≡ is_number k (number_of (tree_of diagrams.now id))) }
@@ -272,7 +275,7 @@ fn parts_of(
     id: DiagramId,
 ) -> Result<Option<(DiagramId, DiagramId)>, AllocError>
     requires inside { id < count_of diagrams.now }
-    requires well { IsWellFormed (tree_of diagrams.now id) }
+    requires composed { IsComposed (tree_of diagrams.now id) }
     requires known { Remembers diagrams.now numbers.old }
     ensures known { Remembers diagrams.now numbers.new }
     ensures parts { IfOk result (λ o. option_map (are_parts diagrams.now) o

@@ -1,7 +1,8 @@
 // The numbers of diagrams, remembered.
 
 ghost use Rattle.std.specs.Prelude.{◌≡◌, ◌<◌, ◌≤◌, ◌++◌, [], length, IfOk, ℕ, List};
-ghost use Rattle.fv_diagram.specs.Diagram.{IsWellFormed, Constant};
+ghost use Rattle.fv_diagram.specs.Diagram.{Constant};
+ghost use Rattle.fv_diagram.specs.Composed.{IsComposed};
 ghost use Rattle.fv_diagram.specs.Arena.{Arena, count_of, tree_of};
 ghost use Rattle.fv_rules.specs.Numbers.{number_of};
 ghost use Rattle.fv_rules.specs.Matching.{number_or};
@@ -55,7 +56,7 @@ impl Numbers {
         id: DiagramId,
     ) -> Result<Option<i32>, AllocError>
         requires inside { id < count_of diagrams.now }
-        requires well { IsWellFormed (tree_of diagrams.now id) }
+        requires composed { IsComposed (tree_of diagrams.now id) }
         requires known { Remembers diagrams.now self.old }
         ensures number { IfOk result (λ o. o ≡ number_of (tree_of diagrams.now id)) }
         ensures known { Remembers diagrams.now self.new }
@@ -79,7 +80,7 @@ impl Numbers {
         id: DiagramId,
     ) -> Result<DiagramId, AllocError>
         requires inside { id < count_of diagrams.old }
-        requires well { IsWellFormed (tree_of diagrams.old id) }
+        requires composed { IsComposed (tree_of diagrams.old id) }
         requires known { Remembers diagrams.old self.old }
         ensures inside { IfOk result (λ i. i < count_of diagrams.new) }
         ensures tree { IfOk result (λ i. tree_of diagrams.new i

@@ -1,7 +1,7 @@
 // The number of a diagram.
 
 ghost use Rattle.std.specs.Prelude.{◌≡◌, ◌<◌, IfOk, IfSome, Some};
-ghost use Rattle.fv_diagram.specs.Diagram.{IsWellFormed};
+ghost use Rattle.fv_diagram.specs.Composed.{IsComposed};
 ghost use Rattle.fv_diagram.specs.Arena.{count_of, tree_of};
 ghost use Rattle.fv_rules.specs.Numbers.{number_of};
 
@@ -17,7 +17,7 @@ pub fn number_of(
     id: DiagramId,
 ) -> Result<Option<i32>, AllocError>
     requires inside { id < count_of diagrams.now }
-    requires well { IsWellFormed (tree_of diagrams.now id) }
+    requires composed { IsComposed (tree_of diagrams.now id) }
     ensures { IfOk result (λ o. o ≡ number_of (tree_of diagrams.now id)) }
 {
     let arity = diagrams.arity(id);
@@ -33,7 +33,7 @@ pub fn number_of(
 // The number of an integer, or of an operation on two integers: most of the diagrams that are asked for. It takes no memory.
 fn at_sight(diagrams: &Diagrams, id: DiagramId) -> Option<i32>
     requires inside { id < count_of diagrams.now }
-    requires well { IsWellFormed (tree_of diagrams.now id) }
+    requires composed { IsComposed (tree_of diagrams.now id) }
     ensures { IfSome result (λ n. number_of (tree_of diagrams.now id) ≡ Some n) }
 {
     match diagrams.node(id) {

@@ -1,8 +1,8 @@
 // Putting a diagram.
 
 ghost use Rattle.std.specs.Prelude.{ℕ, ◌≡◌, ◌<◌, IfOk, OnOk, OnErr};
-ghost use Rattle.fv_arity.specs.Compositions.{HasWellFormedParts};
-ghost use Rattle.fv_diagram.specs.Diagram.{IsWellFormed};
+ghost use Rattle.fv_arity.specs.Compositions.{HasComposedParts};
+ghost use Rattle.fv_diagram.specs.Composed.{IsComposed};
 ghost use Rattle.fv_diagram.specs.Arena.{count_of, tree_with, tree_of, with_node, ChildrenBelow};
 ghost use Rattle.fv_rules.specs.Puts.{Puts};
 
@@ -14,10 +14,10 @@ use fv_diagram::{DiagramId, Diagrams, Node, PutRefusal};
 pub fn put(diagrams: &mut Diagrams, node: &Node) -> Result<DiagramId, EvalRefusal>
     requires children { ChildrenBelow (count_of diagrams.old) node.now }
     ensures put { Puts diagrams.new (tree_with diagrams.old node.now) result }
-    // Just that node is added, and it is well formed where its parts are.
+    // Just that node is added, and it is composed where its parts are.
     ensures added { IfOk result (λ i. (i ≡ count_of diagrams.old) × (diagrams.new ≡ with_node diagrams.old node.now)) }
-    ensures well { OnOk result (HasWellFormedParts (tree_with diagrams.old node.now)
-        → IsWellFormed (tree_with diagrams.old node.now)) }
+    ensures composed { OnOk result (HasComposedParts (tree_with diagrams.old node.now)
+        → IsComposed (tree_with diagrams.old node.now)) }
     ensures keeps { (i : ℕ) → i < count_of diagrams.old → tree_of diagrams.new i ≡ tree_of diagrams.old i }
     ensures err { OnErr result (diagrams.new ≡ diagrams.old) }
 {

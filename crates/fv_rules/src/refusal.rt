@@ -1,6 +1,6 @@
 // Why a program has no diagram.
 
-ghost use Rattle.std.specs.Prelude.{◌≡◌};
+ghost use Rattle.std.specs.Prelude.{◌≡◌, alloc_error};
 ghost use Rattle.fv_rules.specs.declared.refusal.EvalRefusal.TheVariants.{NoMemory};
 
 use fv_arity::ArityKind;
@@ -61,6 +61,13 @@ pub enum EvalRefusal {
     },
     /// Memory ran out.
     NoMemory,
+}
+
+/// There is more of something than its type counts, which no memory holds: a want of memory that is no allocation's.
+pub fn too_many_to_count() -> AllocError
+    ensures { result ≡ alloc_error }
+{
+    AllocError
 }
 
 impl From<AllocError> for EvalRefusal {

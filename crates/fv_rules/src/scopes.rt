@@ -1,7 +1,9 @@
 // The environments of an evaluation, and the arguments that rules have taken.
 
-ghost use Rattle.std.specs.Prelude.{◌≡◌, ◌+◌, [], length, IfOk, OnErr, slice_get};
+ghost use Rattle.std.specs.Prelude.{◌≡◌, ◌+◌, ◌<◌, ◌≤◌, [], length, IfOk, IfSome, OnErr, slice_get};
 ghost use Rattle.fv_rules.specs.declared.value.Scope.TheVariants.{Bound, Definitions};
+ghost use Rattle.fv_parse.specs.Trees.{Parsed};
+ghost use Rattle.fv_rules.specs.Lookup.{BindsAnother, StillReaches};
 ghost use Rattle.fv_rules.specs.Environments.{scope_in, with_scope, with_argument};
 ghost use Rattle.fv_rules.specs.Values.{Env, Taken, in_order};
 ghost use Rattle.fv_rules.specs.Matching.{Bindings, bound_in};
@@ -80,6 +82,43 @@ impl Scopes {
             return None;
         }
         self.scopes.get((env - 1) as usize).copied()
+    }
+
+    /// The first environment from one outward whose innermost scope does not bind another name: it binds this one, it has
+    /// definitions, or there is none.
+    pub(crate) fn pass(&self, name: u64, env: u64) -> u64
+        ensures reaches { (p : Parsed) → StillReaches p self.now.scopes name env result }
+        ensures outward { result ≤ env }
+    {
+        let mut at = env;
+        'passing: while let Some(outer) = self.around_another(name, at) {
+            at = outer;
+        }
+        at
+    }
+
+    // The environment around one whose innermost scope binds another name.
+    fn around_another(&self, name: u64, env: u64) -> Option<u64>
+        ensures { IfSome result (λ outer. (outer < env) × BindsAnother self.now.scopes name env outer) }
+    {
+        if env == 0 {
+            return None;
+        }
+        match self.scopes.get((env - 1) as usize)? {
+            Scope::Definitions { .. } => None,
+            Scope::Bound {
+                name: bound,
+                outer,
+                ..
+            } => {
+                // No environment stands around itself.
+                if *bound == name || *outer >= env {
+                    None
+                } else {
+                    Some(*outer)
+                }
+            }
+        }
     }
 
     /// The arguments that rules have taken, in order: so many, of which the last one has this number.

@@ -4,7 +4,8 @@
 ghost use Rattle.std.specs.Prelude.{◌≡◌, ◌+◌, ◌<◌, ◌≤◌, ◌∷◌, ℕ, length, reverse, true, slice_set, IfOk, OnOk};
 ghost use Rattle.fv_num.specs.Words.{argument, apply_of, inputs_of};
 ghost use Rattle.fv_num.specs.Frames.{table};
-ghost use Rattle.fv_diagram.specs.Diagram.{Primitive, inputs, outputs, primitive_inputs, primitive_outputs, IsWellFormed};
+ghost use Rattle.fv_diagram.specs.Diagram.{Primitive, inputs, outputs, primitive_inputs, primitive_outputs};
+ghost use Rattle.fv_diagram.specs.Composed.{IsComposed};
 ghost use Rattle.fv_diagram.specs.Arena.{count_of, tree_of};
 ghost use Rattle.fv_rules.specs.Numbers.{is_pointwise, number_of};
 ghost use Rattle.fv_rules.specs.declared.timeless.Task.TheVariants.{Visit};
@@ -51,7 +52,7 @@ pub fn value_of(
     root: DiagramId,
 ) -> Result<Option<i32>, AllocError>
     requires inside { root < count_of diagrams.now }
-    requires well { IsWellFormed (tree_of diagrams.now root) }
+    requires composed { IsComposed (tree_of diagrams.now root) }
     requires closed { inputs (tree_of diagrams.now root) ≡ 0 }
     requires one { outputs (tree_of diagrams.now root) ≡ 1 }
     ensures { IfOk result (λ o. o ≡ number_of (tree_of diagrams.now root)) }

@@ -2,7 +2,7 @@
 
 ghost use Rattle.std.specs.Prelude.{◌≡◌, ◌<◌, ◌≤◌, IfOk};
 ghost use Rattle.fv_diagram.specs.Arena.{count_of, ChildrenBelow};
-ghost use Rattle.fv_rules_tests.specs.Built.{AreWell};
+ghost use Rattle.fv_rules_tests.specs.Built.{AreComposed};
 
 use fv_diagram::{DiagramId, Diagrams, Node, Prim};
 use fv_num::Op;
@@ -23,9 +23,9 @@ pub enum Item {
 
 // Puts a node over diagrams.
 fn over(diagrams: &mut Diagrams, node: &Node) -> Result<DiagramId, EvalRefusal>
-    requires well { AreWell diagrams.old }
+    requires composed { AreComposed diagrams.old }
     requires children { ChildrenBelow (count_of diagrams.old) node.now }
-    ensures well { AreWell diagrams.new }
+    ensures composed { AreComposed diagrams.new }
     ensures there { IfOk result (λ i. i < count_of diagrams.new) }
     ensures grows { count_of diagrams.old ≤ count_of diagrams.new }
 {
@@ -39,10 +39,10 @@ fn put_item(
     left: DiagramId,
     right: DiagramId,
 ) -> Result<DiagramId, EvalRefusal>
-    requires well { AreWell diagrams.old }
+    requires composed { AreComposed diagrams.old }
     requires left { left < count_of diagrams.old }
     requires right { right < count_of diagrams.old }
-    ensures well { AreWell diagrams.new }
+    ensures composed { AreComposed diagrams.new }
     ensures there { IfOk result (λ i. i < count_of diagrams.new) }
     ensures grows { count_of diagrams.old ≤ count_of diagrams.new }
 {
@@ -63,8 +63,8 @@ pub fn built(
     diagrams: &mut Diagrams,
     items: &[Item],
 ) -> Result<DiagramId, EvalRefusal>
-    requires { AreWell diagrams.old }
-    ensures well { AreWell diagrams.new }
+    requires { AreComposed diagrams.old }
+    ensures composed { AreComposed diagrams.new }
     ensures there { IfOk result (λ i. i < count_of diagrams.new) }
 {
     let mut last = over(diagrams, &Node::Prim(Prim::Wire))?;

@@ -1,6 +1,6 @@
 // Diagrams that are put by hand, and their numbers.
 
-ghost use Rattle.fv_rules_tests.specs.Built.{AreWell};
+ghost use Rattle.fv_rules_tests.specs.Built.{AreComposed};
 
 use crate::built::{Item, built};
 use fv_arity::ArityKind;
@@ -151,7 +151,7 @@ fn asked(
     diagrams: &mut Diagrams,
     items: &[Item],
 ) -> Result<(Option<i32>, Option<i32>, Node), EvalRefusal>
-    requires { AreWell diagrams.old }
+    requires { AreComposed diagrams.old }
 {
     let id = built(alloc, diagrams, items)?;
     let mut numbers = Numbers::new(alloc);

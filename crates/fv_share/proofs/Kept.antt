@@ -7,14 +7,16 @@ use Rattle.std.proofs.lemmas.List.Elements.{All-get_or}
 use Rattle.indexmap.specs.IndexSet.{insert_key}
 use Rattle.fv_signal.specs.declared.signal.Signal.{Signal}
 use Rattle.fv_signal.specs.declared.signal.Signal.TheVariants.{Input, Const, Control, Point, Delay, Back, Member}
-use Rattle.fv_signal.specs.Value.{OperandsBelow, NamesWithin, IsGraph}
-use Rattle.fv_share.specs.Drafts.{Draft, graph_of, IsShut, IsPending, AreClosed, NamesSoFar, CanPut, BacksWithin, IsDraft, same, put, with_group, with_members}
+use Rattle.fv_signal.specs.Value.{OperandsBelow, NamesWithin, HasNumber, IsGraph}
+use Rattle.fv_share.specs.Drafts.{Draft, graph_of, IsShut, IsPending, AreClosed, NamesSoFar, OperandsThere, CanPut, BacksWithin, IsDraft, same, put}
+use Rattle.fv_share.specs.Drafts.{with_group, with_members}
 use Rattle.fv_share.proofs.Puts.{inserted}
 
 -- ---- one signal more
 
 -- operands and names are a matter of the groups alone
-below_same : (d : Draft) (ss : List Signal) (i : ℕ) (s : Signal) → OperandsBelow (graph_of d []) i s → OperandsBelow (graph_of (record d { signals = ss }) []) i s
+below_same : (d : Draft) (ss : List Signal) (i : ℕ) (s : Signal) → OperandsBelow (graph_of d []) i s
+    → OperandsBelow (graph_of (record d { signals = ss }) []) i s
 below_same d ss i (Member group k) h = h
 below_same d ss i s h = h
 
@@ -31,9 +33,9 @@ below_there d (Delay x back max) h p = p.operands
 below_there d (Back group k) h p = tt
 below_there d (Member group k) h p = h.defined group k p.names.0.0 p.names.1
 
-pushed_keeps : (d : Draft) (s : Signal) → IsDraft d → CanPut d s → (ss : List Signal) → ss ≡ d.signals ++ s ∷ [] →
+pushed_keeps : (d : Draft) (s : Signal) → IsDraft d → CanPut d s → HasNumber s → (ss : List Signal) → ss ≡ d.signals ++ s ∷ [] →
     ((i j : ℕ) (x : Signal) → i < length ss → j < length ss → get_or ss i x ≡ get_or ss j x → i ≡ j) → IsDraft (record d { signals = ss })
-pushed_keeps d s h p ss e distinct = record {
+pushed_keeps d s h p fits ss e distinct = record {
   distinct = distinct;
   ordered = λ i x l. elim (cases_lt i (length d.signals)) [
     | inl m ↦ subst (OperandsBelow (graph_of (record d { signals = ss }) []) i) (sym (old i x m)) (below_same d ss i _ (h.ordered i x m))
@@ -46,6 +48,10 @@ pushed_keeps d s h p ss e distinct = record {
   ];
   defined = λ group i l m. omega (arith, h.defined group i l m, more);
   marked = h.marked;
+  numbers = λ i x l. elim (cases_lt i (length d.signals)) [
+    | inl m ↦ subst HasNumber (sym (old i x m)) (h.numbers i x m)
+    | inr m ↦ subst HasNumber (sym (last i x (at i l m))) fits
+  ];
 }
   where
     more : length ss ≡ length d.signals + 1
@@ -60,16 +66,16 @@ pushed_keeps d s h p ss e distinct = record {
     last : (i : ℕ) (x : Signal) → i ≡ length d.signals → get_or ss i x ≡ s
     last i x m = ap (λ l. get_or l i x) e ∙ get_or_push d.signals s x i (sym m)
 
-pub put_keeps : (d : Draft) (s : Signal) → IsDraft d → CanPut d s → IsDraft (put d s).1
-put_keeps d s h p =
+pub put_keeps : (d : Draft) (s : Signal) → IsDraft d → CanPut d s → HasNumber s → IsDraft (put d s).1
+put_keeps d s h p fits =
     let r = inserted d.signals s h.distinct in elim r.1 [
       | inl e ↦ subst (λ ss. IsDraft (record d { signals = ss })) (sym e) h
-      | inr e ↦ pushed_keeps d s h p (insert_key same d.signals s) e r.0
+      | inr e ↦ pushed_keeps d s h p fits (insert_key same d.signals s) e r.0
     ]
 
 -- ---- a group more
 
-names_group : (d : Draft) (s : Signal) (g k : ℕ) → NamesSoFar d s → s ≡ Back g k → g < length d.groups
+pub names_group : (d : Draft) (s : Signal) (g k : ℕ) → NamesSoFar d s → s ≡ Back g k → g < length d.groups
 names_group d (Back h j) g k n e = let same : h ≡ g = cc in subst (λ i. i < length d.groups) same n.0
 names_group d s g k n e = absurd cc
 
@@ -134,6 +140,7 @@ module _ (d : Draft) (group : ℕ) (members : List ℕ) (h : IsDraft d) (pending
           (h.defined g i (omega (arith, l, length-set d.groups group members)) (omega (arith, m, ap length (other_members g ne))))
     ];
     marked = length-set d.closed group true ∙ h.marked ∙ sym (length-set d.groups group members);
+    numbers = h.numbers;
   }
 
 -- ---- a graph
@@ -153,6 +160,7 @@ finished d outs h shut there = record {
   closed = λ i x l. graph_names d outs _ h shut (h.named i x l);
   defined = h.defined;
   outputs = λ j l. All-get_or (λ s. s < length d.signals) outs j 0 l there;
+  numbers = h.numbers;
 }
 
 -- a group that was given its members is shut
@@ -161,3 +169,13 @@ shut_group d group members h p = (
   omega (arith, p.0, length-set d.groups group members),
   get_or-set_same d.closed group true false (omega (arith, h.marked, p.0)),
 )
+
+-- the operands of a signal that was put are earlier ones
+pub earlier : (d : Draft) (i : ℕ) (s : Signal) → OperandsBelow (graph_of d []) i s → OperandsThere i s
+earlier d i (Input k) h = tt
+earlier d i (Const n) h = tt
+earlier d i (Control k) h = tt
+earlier d i (Point op args) h = h
+earlier d i (Delay x back max) h = h
+earlier d i (Back group k) h = tt
+earlier d i (Member group k) h = tt

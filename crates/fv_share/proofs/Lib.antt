@@ -1,3 +1,4 @@
 pub mod Same
 pub mod Puts
 pub mod Kept
+pub mod Groups

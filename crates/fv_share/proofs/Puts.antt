@@ -1,5 +1,6 @@
 -- A list in which each item stands once, and one that is inserted.
-use Rattle.std.proofs.Common.{◌≡◌, ◌⊎◌, inl, inr, ℕ, zero, suc, ◌+◌, ◌<◌, cond, List, [], ◌∷◌, ◌++◌, length, get_or, refl, sym, ap, ◌∙◌, subst, arith, Bool, true, false, slice_get, Some, if◌then◌else◌}
+use Rattle.std.proofs.Common.{◌≡◌, ◌⊎◌, inl, inr, ℕ, zero, suc, ◌+◌, ◌<◌, cond, List, [], ◌∷◌, ◌++◌, length, get_or, refl, sym, ap, ◌∙◌, subst, arith, Bool}
+use Rattle.std.proofs.Common.{true, false, slice_get, Some, if◌then◌else◌}
 use Rattle.std.specs.Prelude.{◌||◌, not}
 use Rattle.std.specs.List.{list_any, position_or_len}
 use Rattle.std.proofs.lemmas.Bool.{cases_lt}
@@ -9,7 +10,7 @@ use Rattle.indexmap.specs.IndexSet.{insert_key}
 use Rattle.fv_base.specs.Lists.{IsPrefixOf}
 use Rattle.fv_base.proofs.Lists.{prefix_refl}
 use Rattle.fv_signal.specs.declared.signal.Signal.{Signal}
-use Rattle.fv_share.specs.Drafts.{Draft, AreDistinct, IsPut, put, same}
+use Rattle.fv_share.specs.Drafts.{Draft, AreDistinct, IsPut, BacksStayWithin, put, same}
 use Rattle.fv_share.proofs.Same.{same_equal, same_self}
 
 or_false : (a b : Bool) → a || b ≡ false → (a ≡ false) × (b ≡ false)
@@ -38,12 +39,14 @@ distinct_push ns n none h i j d a b e = elim (cases_lt i (length ns)) [
     other k d l f = absurd (let x = none_any n ns none k d l in let y = ap (same n) f ∙ same_self n in cc)
 
 -- what is inserted stands once, and the others stay
-pub inserted : (ns : List Signal) (n : Signal) → AreDistinct ns → AreDistinct (insert_key same ns n) × ((insert_key same ns n ≡ ns) ⊎ (insert_key same ns n ≡ ns ++ n ∷ []))
+pub inserted : (ns : List Signal) (n : Signal) → AreDistinct ns → AreDistinct (insert_key same ns n)
+    × ((insert_key same ns n ≡ ns) ⊎ (insert_key same ns n ≡ ns ++ n ∷ []))
 inserted ns n h = go (list_any (same n) ns) refl
   where
     go : (b : Bool) → list_any (same n) ns ≡ b → AreDistinct (insert_key same ns n) × ((insert_key same ns n ≡ ns) ⊎ (insert_key same ns n ≡ ns ++ n ∷ []))
     go true f = let g : insert_key same ns n ≡ ns = ap (λ c. if c then ns else ns ++ n ∷ []) f in (subst AreDistinct (sym g) h, inl g)
-    go false f = let g : insert_key same ns n ≡ ns ++ n ∷ [] = ap (λ c. if c then ns else ns ++ n ∷ []) f in (subst AreDistinct (sym g) (distinct_push ns n f h), inr g)
+    go false f = let g : insert_key same ns n ≡ ns ++ n ∷ [] = ap (λ c. if c then ns else ns ++ n ∷ []) f in
+        (subst AreDistinct (sym g) (distinct_push ns n f h), inr g)
 
 pub got : (ns : List Signal) (i : ℕ) (k d : Signal) → slice_get ns i ≡ Some k → get_or ns i d ≡ k
 got [] i k d e = absurd cc
@@ -84,6 +87,23 @@ stands_by d n false f =
       keeps = subst (IsPrefixOf ss) (sym all) (record { rest = n ∷ []; is = refl });
       alone = λ k l m. omega (arith, l, m, last, ap length all, length_push ss n);
     }
+
+-- what stands in a draft into which a signal was put: what stood there, or the signal
+put_cases : (d : Draft) (n : Signal) (i : ℕ) (x : Signal) → i < length (put d n).1.signals →
+    ((i < length d.signals) × (get_or (put d n).1.signals i x ≡ get_or d.signals i x)) ⊎ (get_or (put d n).1.signals i x ≡ n)
+put_cases d n i x l = elim (cases_lt i (length d.signals)) [
+  | inl m ↦ inl (m, ap (λ ss. get_or ss i x) p.keeps.is ∙ get_or_append_left d.signals p.keeps.rest x i m)
+  | inr m ↦ inr (ap (λ k. get_or (put d n).1.signals k x) (p.alone i l m) ∙ p.stands x)
+]
+  where
+    p : IsPut d n (put d n)
+    p = stands_by d n (list_any (same n) d.signals) refl
+
+pub backs_stay_within : BacksStayWithin
+backs_stay_within d n g count h b i k x l e = elim (put_cases d n i x l) [
+  | inl p ↦ b i k x p.0 (sym p.1 ∙ e)
+  | inr p ↦ h k (sym p ∙ e)
+]
 
 pub put_stands : (d : Draft) (n : Signal) → IsPut d n (put d n)
 put_stands d n = stands_by d n (list_any (same n) d.signals) refl

@@ -1,11 +1,11 @@
 -- Graphs that are being built, in which equal signals stand once (this project's profile).
-use Rattle.std.specs.Prelude.{◌≡◌, ℕ, ◌<◌, ◌≤◌, List, [], ◌∷◌, ◌++◌, length, All, Bool, true, false, slice_index_or, slice_set}
+use Rattle.std.specs.Prelude.{◌≡◌, ◌≢◌, ℕ, zero, suc, ◌+◌, ◌<◌, ◌≤◌, List, [], ◌∷◌, ◌++◌, length, All, Bool, true, false, slice_index_or, slice_set}
 use Rattle.std.specs.List.{position_or_len}
 use Rattle.indexmap.specs.IndexSet.{insert_key}
 use Rattle.fv_base.specs.Lists.{IsPrefixOf}
 use Rattle.fv_signal.specs.declared.signal.Signal.{Signal}
 use Rattle.fv_signal.specs.declared.signal.Signal.TheVariants.{Input, Const, Control, Point, Delay, Back, Member}
-use Rattle.fv_signal.specs.Value.{Graph, IsOrdered}
+use Rattle.fv_signal.specs.Value.{Graph, IsOrdered, HasNumbers}
 
 -- the signals, the definitions of each group's members, which an open group has not, and which groups are closed
 pub record Draft : Type 0 where
@@ -73,6 +73,7 @@ pub record IsDraft (d : Draft) : Type 0 where
   pub named : (i : ℕ) (x : Signal) → i < length d.signals → NamesSoFar d (slice_index_or d.signals i x)
   pub defined : (group i : ℕ) → group < length d.groups → i < width_of d group → slice_index_or (slice_index_or d.groups group []) i 0 < length d.signals
   pub marked : length d.closed ≡ length d.groups
+  pub numbers : HasNumbers (graph_of d [])
 
 -- two signals are equal
 abbrev pub same : Signal → Signal → Bool
@@ -93,10 +94,45 @@ pub record IsPut (d : Draft) (signal : Signal) (put : ℕ × Draft) : Type 0 whe
 abbrev pub PutsStand : Type 0
 PutsStand = (d : Draft) (signal : Signal) → IsPut d signal (put d signal)
 
+-- where each Back of a group names one of so many members, it does once such a signal is put
+abbrev pub BacksStayWithin : Type 0
+BacksStayWithin =
+    (d : Draft) (signal : Signal) (group members : ℕ) → ((k : ℕ) → signal ≡ Back group k → k < members) → BacksWithin d group members →
+    BacksWithin (put d signal).1 group members
+
 -- an open group more, and its number
 abbrev pub with_group : Draft → ℕ × Draft
 with_group d = (length d.groups, record d { groups = d.groups ++ [] ∷ []; closed = d.closed ++ false ∷ [] })
 
+-- so many open groups more
+abbrev pub with_groups : Draft → (count : ℕ) → Draft
+with_groups d zero = d
+with_groups d (suc n) = (with_group (with_groups d n)).1
+
 -- a group gets its definitions
 abbrev pub with_members : Draft → (group : ℕ) → List ℕ → Draft
 with_members d group members = record d { groups = slice_set d.groups group members; closed = slice_set d.closed group true }
+
+-- What opening groups does: so many are new, each waits for its members, and no Back names it; those that were there stay.
+pub record AreOpened (d new : Draft) (count : ℕ) : Type 0 where
+  pub long : length new.groups ≡ length d.groups + count
+  pub signals : new.signals ≡ d.signals
+  pub pending : (g : ℕ) → g < count → IsPending new (length d.groups + g)
+  pub fresh : (g : ℕ) → g < count → BacksWithin new (length d.groups + g) 0
+  pub groups : (g : ℕ) → g < length d.groups → slice_index_or new.groups g [] ≡ slice_index_or d.groups g []
+  pub closed : (g : ℕ) → g < length d.groups → slice_index_or new.closed g false ≡ slice_index_or d.closed g false
+
+-- What closing a group does: it is shut and has just these members, and every other group stays.
+pub record IsClosed (d new : Draft) (group : ℕ) (members : List ℕ) : Type 0 where
+  pub long : length new.groups ≡ length d.groups
+  pub signals : new.signals ≡ d.signals
+  pub shut : IsShut new group
+  pub its : slice_index_or new.groups group [] ≡ members
+  pub groups : (g : ℕ) → g ≢ group → slice_index_or new.groups g [] ≡ slice_index_or d.groups g []
+  pub closed : (g : ℕ) → g ≢ group → slice_index_or new.closed g false ≡ slice_index_or d.closed g false
+
+-- so it is with each draft
+abbrev pub GroupsStay : Type 0
+GroupsStay =
+    (d : Draft) → IsDraft d → ((count : ℕ) → AreOpened d (with_groups d count) count)
+    × ((group : ℕ) (members : List ℕ) → IsPending d group → IsClosed d (with_members d group members) group members)

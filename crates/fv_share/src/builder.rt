@@ -2,8 +2,8 @@
 
 ghost use Rattle.std.specs.Prelude.{◌≡◌, ◌↔◌, ℕ, ◌+◌, ◌<◌, [], ◌∷◌, ◌++◌, length, All, IfOk, OnOk, OnErr, slice_index_or, slice_set, true, false};
 ghost use Rattle.fv_signal.specs.declared.signal.Signal.{Signal as Node};
-ghost use Rattle.fv_signal.specs.Value.{IsGraph};
-ghost use Rattle.fv_share.specs.Drafts.{CanPut, IsPending, IsShut, BacksWithin, AreClosed, put, with_group, with_members, graph_of};
+ghost use Rattle.fv_signal.specs.Value.{HasNumber, IsGraph};
+ghost use Rattle.fv_share.specs.Drafts.{CanPut, OperandsThere, IsPending, IsShut, BacksWithin, AreClosed, put, with_group, with_groups, with_members, graph_of};
 
 use fv_signal::{Graph, Signal, SignalId};
 use indexmap::IndexSet;
@@ -30,6 +30,23 @@ impl Model for Builder {
     ghost invariant = { λ a. IsDraft (draft_of a) };
 }
 
+// A number has 32 bits. That is known where the signal is looked into, and a draft says it of all.
+fn number_fits(signal: &Signal)
+    ensures { HasNumber signal.now }
+{
+    match *signal {
+        Signal::Const(number) => {
+            let _number = number;
+        }
+        Signal::Input(_)
+        | Signal::Control(_)
+        | Signal::Point { .. }
+        | Signal::Delay { .. }
+        | Signal::Back { .. }
+        | Signal::Member { .. } => (),
+    }
+}
+
 impl Builder {
     /// No signals and no groups.
     pub fn new(alloc: Global) -> Builder
@@ -51,8 +68,22 @@ impl Builder {
         ensures shared { IfOk result (λ id. (i : ℕ) (d : Node) → i < length self.new.signals → (slice_index_or self.new.signals i d ≡ signal) ↔ (i ≡ id)) }
         ensures err { OnErr result (self.new ≡ self.old) }
     {
+        number_fits(&signal);
         let (place, _) = self.signals.insert_full(signal)?;
         Ok(SignalId::new(place as u64))
+    }
+
+    /// A signal that was put.
+    pub fn signal(&self, id: SignalId) -> Signal
+        requires { id < length self.now.signals }
+        ensures node { result ≡ slice_index_or self.now.signals id result }
+        // Its operands are earlier ones.
+        ensures operands { OperandsThere id result }
+    {
+        match self.signals.get_index(id.number() as usize) {
+            Some(signal) => *signal,
+            None => unreachable!(),
+        }
     }
 
     /// The number of a new group.
@@ -70,6 +101,20 @@ impl Builder {
             return Err(AllocError);
         }
         Ok(group)
+    }
+
+    /// So many new groups, numbered one after another. The first one's number.
+    pub fn open_groups(&mut self, count: u64) -> Result<u64, AllocError>
+        ensures first { IfOk result (λ first. first ≡ length self.old.groups) }
+        ensures ok { OnOk result (self.new ≡ with_groups self.old count) }
+        // Where one finds no room, those before it are there.
+        ensures err { OnErr result ((n : ℕ) × (n < count) × (self.new ≡ with_groups self.old n)) }
+    {
+        let first = self.groups.len() as u64;
+        for _ in 0..count {
+            let _ = self.group()?;
+        }
+        Ok(first)
     }
 
     /// Gives a group the definitions of its members.

@@ -1,8 +1,18 @@
-// A law on what is put.
+// Laws on what is put.
 
-ghost use Rattle.fv_share.specs.Drafts.{PutsStand};
+ghost use Rattle.fv_share.specs.Drafts.{PutsStand, BacksStayWithin, GroupsStay};
 
 /// A signal that is put stands at its place, and the others stay where they are.
 pub fn puts_stand()
     ensures { PutsStand }
+{}
+
+/// The Backs of a group stay within so many members, where what is put does.
+pub fn backs_stay_within()
+    ensures { BacksStayWithin }
+{}
+
+/// Opening groups and closing one leaves all other groups as they are.
+pub fn groups_stay()
+    ensures { GroupsStay }
 {}

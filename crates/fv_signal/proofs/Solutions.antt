@@ -1,58 +1,101 @@
 -- Streams that the nodes give are the values.
-use Rattle.std.proofs.Common.{◌≡◌, ℕ, zero, suc, ◌<◌, ◌≤◌, List, length, get_or, refl, sym, ap, ◌∙◌, subst, arith, inl, inr, pos}
+use Rattle.std.proofs.Common.{◌≡◌, ℕ, zero, suc, ◌<◌, ◌≤◌, List, [], ◌∷◌, length, map, get_or, refl, sym, ap, ap₂, ◌∙◌, subst, arith, inl, inr, pos, All, true}
 use Rattle.std.proofs.lemmas.Bool.{cases_lt}
 use Rattle.std.proofs.lemmas.List.{get_or_append_left, length-append}
+use Rattle.std.proofs.lemmas.List.Elements.{All-head, All-tail}
 use Rattle.fv_num.specs.Words.{apply_of, inputs_of}
 use Rattle.fv_num.specs.Frames.{Frame, Stream, back, delayed}
 use Rattle.fv_signal.specs.declared.signal.Signal.{Signal}
 use Rattle.fv_signal.specs.declared.signal.Signal.TheVariants.{Input, Const, Control, Point, Delay, Back, Member}
-use Rattle.fv_signal.specs.Value.{Graph, definition, clamped, signal_at, value, OperandsBelow, IsOrdered, NamesWithin, IsClosed, Solves, SolutionsAreValues, ValuesLookBack, GrowthKeepsValues}
+use Rattle.fv_signal.specs.Value.{Graph, definition, clamped, signal_at, value, OperandsBelow, IsOrdered, NamesWithin, IsClosed, Solves, SolutionsAreValues}
+use Rattle.fv_signal.specs.Value.{ReadsOnly, AreClosedSet, SolvesOn, SolutionsAreValuesOn, ValuesLookBack, GrowthKeepsValues}
 use Rattle.fv_num.proofs.Valued.{valuation_same}
-use Rattle.fv_signal.proofs.Values.{map_same, back_same, delayed_same, values_are_given}
+use Rattle.fv_signal.proofs.Values.{back_same, delayed_same, values_are_given}
 use Rattle.std.specs.Prelude.{take}
 
-module _ (g : Graph) (ordered : IsOrdered g) (closed : IsClosed g) (X : List Frame) (c v : ℕ → Stream) (solves : Solves g X c v) where
+-- the operands that an operation takes
+taken_same : {B : Type 0} (n i : ℕ) (P : ℕ → Type 0) (f h : ℕ → B) (args : List ℕ) → All (λ a. a < i) args → All P (take n args)
+    → ((r : ℕ) → r < i → P r → f r ≡ h r) → take n (map f args) ≡ take n (map h args)
+taken_same zero i P f h args b q same = refl
+taken_same (suc n) i P f h [] b q same = refl
+taken_same (suc n) i P f h (a ∷ args) b q same =
+    ap₂ (λ x xs. x ∷ xs) (same a (All-head (λ a. a < i) a args b) (All-head P a (take n args) q))
+    (taken_same n i P f h args (All-tail (λ a. a < i) a args b) (All-tail P a (take n args) q) same)
+
+module _ (g : Graph) (ordered : IsOrdered g) (closed : IsClosed g) (P : ℕ → Type 0) (among : AreClosedSet g P) (X : List Frame) (c v : ℕ → Stream)
+    (solves : SolvesOn g P X c v) where
   abbrev w : ℕ → Stream
   w s t = value g s X c t
 
-  -- at one time and for one signal, from all earlier times and the lower signals
-  here : (i t : ℕ) (s : Signal) → OperandsBelow g i s → NamesWithin g s → i ≤ length g.signals → ((r u : ℕ) → r < length g.signals → u < t → v r u ≡ w r u) → ((r : ℕ) → r < i → v r t ≡ w r t) → signal_at g X c v s t ≡ signal_at g X c w s t
-  here i t (Input k) h d m p q = refl
-  here i t (Const n) h d m p q = refl
-  here i t (Control k) h d m p q = refl
-  here i t (Point op args) h d m p q = ap (λ x. apply_of op (take (inputs_of op) x)) (map_same i (λ r. v r t) (λ r. w r t) args h q)
-  here i t (Delay x y max) h d m p q =
-      back_same (v x) (w x) t (clamped max (v y t)) (λ u l. elim (cases_lt u t) [ inl n ↦ p x u (omega (arith, h.0)) n | inr n ↦ let e : t ≡ u = omega arith in subst (λ k. v x k ≡ w x k) e (q x h.0) ])
-      ∙ ap (λ k. back (w x) t (clamped max k)) (q y h.1)
-  here i t (Back group k) h d m p q = delayed_same (v (definition g group k)) (w (definition g group k)) t (λ u l. p (definition g group k) u d.2 l)
-  here i t (Member group k) h d m p q = q (definition g group k) h
+  -- they agree before a time, and below a signal at that time
+  abbrev AgreeBefore : ℕ → Type 0
+  AgreeBefore t = (r u : ℕ) → r < length g.signals → P r → u < t → v r u ≡ w r u
+
+  abbrev AgreeBelow : (i t : ℕ) → Type 0
+  AgreeBelow i t = (r : ℕ) → r < i → P r → v r t ≡ w r t
+
+  -- so they do at one time and for one signal
+  here : (i t : ℕ) (s : Signal) → OperandsBelow g i s → NamesWithin g s → ReadsOnly g P s → i ≤ length g.signals → AgreeBefore t → AgreeBelow i t
+      → signal_at g X c v s t ≡ signal_at g X c w s t
+  here i t (Input k) h d o m p q = refl
+  here i t (Const n) h d o m p q = refl
+  here i t (Control k) h d o m p q = refl
+  here i t (Point op args) h d o m p q = ap (apply_of op) (taken_same (inputs_of op) i P (λ r. v r t) (λ r. w r t) args h o q)
+  here i t (Delay x y max) h d o m p q =
+      back_same (v x) (w x) t (clamped max (v y t)) (λ u l. elim (cases_lt u t) [
+        | inl n ↦ p x u (omega (arith, h.0)) o.0 n
+        | inr n ↦ let e : t ≡ u = omega arith in subst (λ k. v x k ≡ w x k) e (q x h.0 o.0)
+      ])
+      ∙ ap (λ k. back (w x) t (clamped max k)) (q y h.1 o.1)
+  here i t (Back group k) h d o m p q = delayed_same (v (definition g group k)) (w (definition g group k)) t (λ u l. p (definition g group k) u d.2 o l)
+  here i t (Member group k) h d o m p q = q (definition g group k) h o
 
   none : Signal
   none = Const (pos 0)
 
   -- up to time t, and at time t below signal n
-  upto : (t : ℕ) → ((r u : ℕ) → r < length g.signals → u < t → v r u ≡ w r u) → (n : ℕ) → n ≤ length g.signals → (r : ℕ) → r < n → v r t ≡ w r t
-  upto t p zero l r m = absurd (omega arith)
-  upto t p (suc n) l r m = elim (cases_lt r n) [
-    | inl k ↦ upto t p n (omega arith) r k
+  upto : (t : ℕ) → AgreeBefore t → (n : ℕ) → n ≤ length g.signals → AgreeBelow n t
+  unfolding none
+  upto t p zero l r m o = absurd (omega arith)
+  upto t p (suc n) l r m o = elim (cases_lt r n) [
+    | inl k ↦ upto t p n (omega arith) r k o
     | inr k ↦
-        let e : n ≡ r = omega arith in
-        subst (λ x. v x t ≡ w x t) e
-        (solves n (Const (pos 0)) t (omega arith) ∙ here n t (get_or g.signals n (Const (pos 0))) (ordered n (Const (pos 0)) (omega arith)) (closed n (Const (pos 0)) (omega arith)) (omega arith) p (upto t p n (omega arith)) ∙ sym (values_are_given g ordered X c n (Const (pos 0)) t (omega arith)))
+        let e : r ≡ n = omega arith in let there : n < length g.signals = omega arith in let on = subst P e o in
+        subst (λ x. v x t ≡ w x t) (sym e)
+        (solves n none t there on
+        ∙ here n t (get_or g.signals n none) (ordered n none there) (closed n none there) (among n none there on) (omega arith) p (upto t p n (omega arith))
+        ∙ sym (values_are_given g ordered X c n none t there))
   ]
 
-  before : (t r u : ℕ) → r < length g.signals → u < t → v r u ≡ w r u
-  before zero r u m l = absurd (omega arith)
-  before (suc t) r u m l = elim (cases_lt u t) [
-    | inl k ↦ before t r u m k
-    | inr k ↦ let e : t ≡ u = omega arith in subst (λ x. v r x ≡ w r x) e (upto t (λ r u a b. before t r u a b) (length g.signals) (omega arith) r m)
+  before : (t : ℕ) → AgreeBefore t
+  before zero r u m o l = absurd (omega arith)
+  before (suc t) r u m o l = elim (cases_lt u t) [
+    | inl k ↦ before t r u m o k
+    | inr k ↦ let e : t ≡ u = omega arith in subst (λ x. v r x ≡ w r x) e (upto t (before t) (length g.signals) (omega arith) r m o)
   ]
 
-  pub agree : (s t : ℕ) → s < length g.signals → v s t ≡ w s t
-  agree s t l = before (suc t) s t l (omega arith)
+  pub agree : (s t : ℕ) → s < length g.signals → P s → v s t ≡ w s t
+  agree s t l o = before (suc t) s t l o (omega arith)
+
+pub solutions_are_values_on : (g : Graph) → SolutionsAreValuesOn g
+solutions_are_values_on g ordered closed among set X c v solves s t l o = agree g ordered closed (λ s. among s ≡ true) set X c v solves s t l o
+
+-- each signal is one of all
+abbrev Any : ℕ → Type 0
+Any s = Unit {0}
+
+reads_any : (g : Graph) (s : Signal) → ReadsOnly g Any s
+reads_any g (Input k) = tt
+reads_any g (Const n) = tt
+reads_any g (Control k) = tt
+reads_any g (Point op args) = λ k d l. tt
+reads_any g (Delay x d max) = (tt, tt)
+reads_any g (Back group k) = tt
+reads_any g (Member group k) = tt
 
 pub solutions_are_values : (g : Graph) → SolutionsAreValues g
-solutions_are_values g ordered closed X c v solves s t l = agree g ordered closed X c v solves s t l
+solutions_are_values g ordered closed X c v solves s t l =
+    agree g ordered closed Any (λ s d l o. reads_any g (get_or g.signals s d)) X c v (λ s d t l o. solves s d t l) s t l tt
 
 pub values_look_back : (g : Graph) → ValuesLookBack g
 values_look_back g X Y c d n p q s t l = valuation_same (signal_at g X c) (signal_at g Y d) g.signals n same s t l

@@ -14,16 +14,23 @@ running_sum = record { signals = Input 0 ∷ Back 0 0 ∷ Point Add (1 ∷ 0 ∷
 
 -- the input less itself two samples earlier, and a control and one
 abbrev difference : Graph
-difference = record { signals = Input 0 ∷ Const (pos 2) ∷ Delay 0 1 2 ∷ Point Sub (0 ∷ 2 ∷ 2 ∷ 2 ∷ []) ∷ Control 0 ∷ Const (pos 1) ∷ Point Add (4 ∷ 5 ∷ 5 ∷ 5 ∷ []) ∷ []; groups = []; outputs = 3 ∷ 6 ∷ [] }
+difference = record {
+  signals = Input 0 ∷ Const (pos 2) ∷ Delay 0 1 2 ∷ Point Sub (0 ∷ 2 ∷ 2 ∷ 2 ∷ []) ∷ Control 0 ∷ Const (pos 1) ∷ Point Add
+      (4 ∷ 5 ∷ 5 ∷ 5 ∷ []) ∷ [];
+  groups = [];
+  outputs = 3 ∷ 6 ∷ [];
+}
 
 abbrev frames : List Frame
 frames = (pos 5 ∷ []) ∷ (pos 7 ∷ []) ∷ (pos 4 ∷ []) ∷ []
 
-sums : (value running_sum 3 frames (λ k t. pos 0) 0 ≡ pos 5) × (value running_sum 3 frames (λ k t. pos 0) 1 ≡ pos 12) × (value running_sum 3 frames (λ k t. pos 0) 2 ≡ pos 16)
+sums : (value running_sum 3 frames (λ k t. pos 0) 0 ≡ pos 5) × (value running_sum 3 frames (λ k t. pos 0) 1 ≡ pos 12)
+    × (value running_sum 3 frames (λ k t. pos 0) 2 ≡ pos 16)
 unfolding int_wrap
 sums = (refl, refl, refl)
 
-differences : (value difference 3 frames (λ k t. pos 9) 1 ≡ pos 7) × (value difference 3 frames (λ k t. pos 9) 2 ≡ negsuc 0) × (value difference 6 frames (λ k t. pos 9) 2 ≡ pos 10)
+differences : (value difference 3 frames (λ k t. pos 9) 1 ≡ pos 7) × (value difference 3 frames (λ k t. pos 9) 2 ≡ negsuc 0)
+    × (value difference 6 frames (λ k t. pos 9) 2 ≡ pos 10)
 unfolding int_wrap
 differences = (refl, refl, refl)
 

@@ -1,6 +1,6 @@
 -- The values of a graph of signals (this project's profile).
-use Rattle.std.specs.Prelude.{◌≡◌, ℕ, ◌<◌, List, [], ◌++◌, length, take, All, ℤ, pos, slice_index_or}
-use Rattle.std.specs.Int.{int_max, int_min}
+use Rattle.std.specs.Prelude.{◌≡◌, ℕ, ◌<◌, List, [], ◌++◌, length, take, All, ℤ, pos, slice_index_or, FitsSigned, Bool, true}
+use Rattle.std.specs.Int.{int_max, int_min, w32}
 use Rattle.fv_num.specs.Words.{apply_of, inputs_of}
 use Rattle.fv_num.specs.Frames.{Frame, Stream, column, delayed, back, carried}
 use Rattle.fv_num.specs.Valuation.{Meaning, valuation}
@@ -67,12 +67,27 @@ NamesWithin g (Member group k) = (group < length g.groups) × (k < length (membe
 abbrev pub IsClosed : Graph → Type 0
 IsClosed g = (i : ℕ) (d : Signal) → i < length g.signals → NamesWithin g (slice_index_or g.signals i d)
 
+-- a number has 32 bits (so it is with each value of the type)
+abbrev pub HasNumber : Signal → Type 0
+HasNumber (Input k) = Unit {0}
+HasNumber (Const n) = FitsSigned w32 n
+HasNumber (Control k) = Unit {0}
+HasNumber (Point op args) = Unit {0}
+HasNumber (Delay x d max) = Unit {0}
+HasNumber (Back group k) = Unit {0}
+HasNumber (Member group k) = Unit {0}
+
+-- so it is with each signal
+abbrev pub HasNumbers : Graph → Type 0
+HasNumbers g = (i : ℕ) (d : Signal) → i < length g.signals → HasNumber (slice_index_or g.signals i d)
+
 -- a finished graph
 pub record IsGraph (g : Graph) : Type 0 where
   pub ordered : IsOrdered g
   pub closed : IsClosed g
   pub defined : (group i : ℕ) → group < length g.groups → i < length (members g group) → definition g group i < length g.signals
   pub outputs : (j : ℕ) → j < length g.outputs → slice_index_or g.outputs j 0 < length g.signals
+  pub numbers : HasNumbers g
 
 -- the value of each signal is what its node gives
 abbrev pub ValuesAreGiven : Graph → Type 0
@@ -89,6 +104,30 @@ abbrev pub SolutionsAreValues : Graph → Type 0
 SolutionsAreValues g =
     IsOrdered g → IsClosed g → (X : List Frame) (c v : ℕ → Stream) → Solves g X c v → (s t : ℕ) → s < length g.signals → v s t ≡ value g s X c t
 
+-- what a signal takes, or the definition that it names, is among these
+abbrev pub ReadsOnly : Graph → (P : ℕ → Type 0) → Signal → Type 0
+ReadsOnly g P (Input k) = Unit {0}
+ReadsOnly g P (Const n) = Unit {0}
+ReadsOnly g P (Control k) = Unit {0}
+ReadsOnly g P (Point op args) = All P (take (inputs_of op) args)
+ReadsOnly g P (Delay x d max) = P x × P d
+ReadsOnly g P (Back group k) = P (definition g group k)
+ReadsOnly g P (Member group k) = P (definition g group k)
+
+-- these signals read nothing but one another
+abbrev pub AreClosedSet : Graph → (P : ℕ → Type 0) → Type 0
+AreClosedSet g P = (s : ℕ) (d : Signal) → s < length g.signals → P s → ReadsOnly g P (slice_index_or g.signals s d)
+
+-- streams that the nodes of these signals give at each time
+abbrev pub SolvesOn : Graph → (P : ℕ → Type 0) → (X : List Frame) → (c : ℕ → Stream) → (v : ℕ → Stream) → Type 0
+SolvesOn g P X c v = (s : ℕ) (d : Signal) (t : ℕ) → s < length g.signals → P s → v s t ≡ signal_at g X c v (slice_index_or g.signals s d) t
+
+-- there are no other streams that the nodes of such signals give, whatever the other streams are
+abbrev pub SolutionsAreValuesOn : Graph → Type 0
+SolutionsAreValuesOn g =
+    IsOrdered g → IsClosed g → (among : ℕ → Bool) → AreClosedSet g (λ s. among s ≡ true) → (X : List Frame) (c v : ℕ → Stream) →
+    SolvesOn g (λ s. among s ≡ true) X c v → (s t : ℕ) → s < length g.signals → among s ≡ true → v s t ≡ value g s X c t
+
 -- a value at a time depends on no later frame and no later control
 abbrev pub ValuesLookBack : Graph → Type 0
 ValuesLookBack g =
@@ -104,4 +143,5 @@ pub record Extends (g h : Graph) : Type 0 where
 -- where a graph grows, its signals keep their values
 abbrev pub GrowthKeepsValues : Graph → Graph → Type 0
 GrowthKeepsValues g h =
-    IsOrdered g → IsClosed g → IsOrdered h → Extends g h → (X : List Frame) (c : ℕ → Stream) (s t : ℕ) → s < length g.signals → value h s X c t ≡ value g s X c t
+    IsOrdered g → IsClosed g → IsOrdered h → Extends g h → (X : List Frame) (c : ℕ → Stream) (s t : ℕ) → s < length g.signals
+    → value h s X c t ≡ value g s X c t

@@ -1,6 +1,6 @@
 // The laws of a graph's values and rates.
 
-ghost use Rattle.fv_signal.specs.Value.{Graph, ValuesAreGiven, SolutionsAreValues, ValuesLookBack, GrowthKeepsValues};
+ghost use Rattle.fv_signal.specs.Value.{Graph, ValuesAreGiven, SolutionsAreValues, SolutionsAreValuesOn, ValuesLookBack, GrowthKeepsValues};
 ghost use Rattle.fv_signal.specs.Rates.{ConstantsStay, ControlsDecide};
 
 /// The value of each signal is what its node gives.
@@ -11,6 +11,11 @@ pub fn values_are_given()
 /// There are no other streams that the nodes give.
 pub fn solutions_are_values()
     ensures { (g : Graph) → SolutionsAreValues g }
+{}
+
+/// So it is with signals that read nothing but one another, whatever the others are.
+pub fn solutions_are_values_on()
+    ensures { (g : Graph) → SolutionsAreValuesOn g }
 {}
 
 /// A constant has one value.

@@ -1,5 +1,9 @@
-// Tests of graphs of signals.
+//! Tests of graphs of signals: their values, the builder, rates and histories.
 #![tactic(auto)]
 
 #[cfg(test)]
-mod graphs;
+mod builder;
+#[cfg(test)]
+mod histories;
+#[cfg(test)]
+mod values;

@@ -7,15 +7,15 @@ use Rattle.std.proofs.lemmas.List.{length_push, get_or_push, get_or_append_left}
 use Rattle.fv_signal.specs.declared.rate.Rate.{Rate}
 use Rattle.fv_signal.specs.Value.{Graph}
 use Rattle.fv_signal.specs.Rates.{rate_at}
-use Rattle.fv_components.specs.Reach.{at}
+use Rattle.fv_split_components.specs.Reach.{at}
 use Rattle.fv_loopcode.specs.declared.step.Step.{Step}
 use Rattle.fv_analysis.specs.Stands.{node}
-use Rattle.fv_plan.specs.declared.lane.LaneInfo.{LaneInfo}
-use Rattle.fv_plan.specs.Separated.{lane_at}
-use Rattle.fv_emit.specs.declared.kind.Kind.{Kind}
-use Rattle.fv_emit.specs.declared.kind.Kind.TheVariants as kind
-use Rattle.fv_emit.specs.Emits.{kind_of}
-use Rattle.fv_emit.specs.Emitted.{code_in}
+use Rattle.fv_split_plan.specs.declared.lane.LaneInfo.{LaneInfo}
+use Rattle.fv_split_plan.specs.Separated.{lane_at}
+use Rattle.fv_split_code.specs.declared.kind.Kind.{Kind}
+use Rattle.fv_split_code.specs.declared.kind.Kind.TheVariants as kind
+use Rattle.fv_split_code.specs.Emits.{kind_of}
+use Rattle.fv_split_code.specs.Emitted.{code_in}
 use Rattle.fv_split.specs.Bases.{base_of, kind_with, AreBases, AreKinds}
 use Rattle.fv_split.specs.Lists.{AreInfos, AreCoded}
 

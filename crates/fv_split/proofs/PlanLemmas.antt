@@ -13,30 +13,29 @@ use Rattle.fv_outside.specs.declared.tasks.Reads.{Reads}
 use Rattle.fv_outside.specs.Tasks.{bit, total, reads_loop}
 use Rattle.fv_signal.specs.declared.signal.Signal.TheVariants as signal
 use Rattle.fv_signal.specs.Value.{Graph, value, IsGraph}
-use Rattle.fv_components.specs.Reach.{at, Reaches}
+use Rattle.fv_split_components.specs.Reach.{at, Reaches}
 use Rattle.fv_loopcode.specs.declared.step.Step.{Step}
 use Rattle.fv_loopcode.specs.declared.step.Step.TheVariants as step
 use Rattle.fv_loopcode.specs.Code.{registers_after, NamesHeld, NamesInput, NamesLane, AreSound, IsSound, OperandsBelow}
-use Rattle.fv_loopcode.specs.Obeys.{Roles, nothing, ObeysStreams}
+use Rattle.fv_loopcode.specs.Obeys.{Roles, Place, OfLane, nothing, ObeysStreams}
 use Rattle.fv_analysis.specs.Stands.{stand, stands_of}
 use Rattle.fv_analysis.specs.Reaching.{history_of}
-use Rattle.fv_plan.specs.declared.lane.LaneInfo.{LaneInfo}
-use Rattle.fv_plan.specs.Separated.{lane_at, links_of, IsSeparated, AsOutput}
-use Rattle.fv_plan.specs.Fits.{Names, CodeFits}
-use Rattle.fv_plan.specs.View.{PlanView, lane_info, code_of, loads_lane, roles_of}
-use Rattle.fv_plan.specs.Rows.{plan_with}
-use Rattle.fv_plan.specs.Plans.{LanesStand, LoopsStand, PlanStands, PlanReads, PlanNames, NamesChannel, LoadsWithin, IsPlanOf}
-use Rattle.fv_plan.proofs.FitsLemmas.{codes_obey, map_get}
-use Rattle.fv_lanes.specs.declared.places.Places.{Places}
-use Rattle.fv_emit.specs.declared.kind.Kind.{Kind}
-use Rattle.fv_emit.specs.Emits.{owned_by}
-use Rattle.fv_emit.specs.Emitted.{steps_of, code_in, AreCodes}
-use Rattle.fv_emit.specs.Held.{HoldsUpTo}
-use Rattle.fv_emit.proofs.LoadLemmas.{fits_loaded, loads_may, held_counted, inputs_named, loads_within, code_sound}
+use Rattle.fv_split_plan.specs.declared.lane.LaneInfo.{LaneInfo}
+use Rattle.fv_split_plan.specs.Separated.{lane_at, links_of, IsSeparated, AsOutput}
+use Rattle.fv_split_plan.specs.Fits.{Names, CodeFits}
+use Rattle.fv_split_plan.specs.View.{PlanView, lane_info, code_of, loads_lane, roles_of}
+use Rattle.fv_split_plan.specs.Rows.{plan_with}
+use Rattle.fv_split_plan.specs.Plans.{LanesStand, LoopsStand, PlanStands, PlanReads, PlanNames, NamesChannel, LoadsWithin, IsPlanOf}
+use Rattle.fv_split_plan.proofs.FitsLemmas.{codes_obey, map_get}
+use Rattle.fv_split_lanes.specs.declared.places.Places.{Places}
+use Rattle.fv_split_code.specs.declared.kind.Kind.{Kind}
+use Rattle.fv_split_code.specs.Emitted.{steps_of, code_in, AreCodes}
+use Rattle.fv_split_code.specs.Held.{HoldsUpTo}
+use Rattle.fv_split_code.proofs.LoadLemmas.{fits_loaded, loads_may, held_counted, inputs_named, loads_within, code_sound}
 use Rattle.fv_split.specs.Lists.{AreInfos, AreCoded, lane_of}
 use Rattle.fv_split.specs.Told.{Told, told_all}
 use Rattle.fv_split.proofs.TellLemmas.{IsTold, LoadsFrom, LoopReads, all_told, few_pairs}
-use Rattle.fv_split.proofs.SuitLemmas.{Passes, tables_of, names_of, lower_loaded, MayLoad, may_load, in_loop, suits, separated_lane}
+use Rattle.fv_split.proofs.SuitLemmas.{Passes, tables_of, names_of, own_places, lower_loaded, MayLoad, may_load, in_loop, suits, separated_lane}
 
 map_items : (f : ℕ → ℤ) (xs : List ℕ) → map f xs ≡ table (length xs) (λ k. f (at xs k))
 map_items f xs = ap (map f) (sym (table_items xs 0)) ∙ map_table f (length xs) (λ i. get_or xs i 0)
@@ -120,8 +119,8 @@ module _ (g : Graph) (p : Places) (stands : Vec ℕ Global) (bases kinds : Vec K
     lane_within : (l : ℕ) → l < length infos → l < length signals
     lane_within l m = omega (arith, are_infos.long)
 
-    same_owner : (j l : ℕ) → (roles_of plan j).own l ≡ owned_by owners j l
-    same_owner j l = elim (cases_lt l (length signals)) [
+    same_owner : (j : ℕ) (q : Place) → (roles_of plan j).own q ≡ own_places owners j q
+    same_owner j (OfLane l) = elim (cases_lt l (length signals)) [
       | inl m ↦ ap₂ (λ a b. a && b) (ap (nat_lt l) long) (ap (λ x. nat_eq x j) (owner_is l m))
       | inr m ↦
           ap (λ b. b && nat_eq (lane_info plan l).owner j) (le-ltb l (length infos) (omega (arith, are_infos.long)))
@@ -202,7 +201,7 @@ module _ (g : Graph) (p : Places) (stands : Vec ℕ Global) (bases kinds : Vec K
     plan_stands : PlanStands g plan
     plan_stands = record {
       names = names;
-      ordered = graph.ordered;
+      graph = graph;
       lanes = lanes_stand;
       loops = loops_stand;
       codes = coded.long ∙ are_codes.long;

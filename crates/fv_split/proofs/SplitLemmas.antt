@@ -5,15 +5,15 @@ use Rattle.std.proofs.lemmas.List.Elements.{All-from_get_or, All-weaker}
 use Rattle.fv_signal.specs.Value.{Graph, IsGraph}
 use Rattle.fv_signal.specs.Rates.{rate_in, rate_at, rates}
 use Rattle.fv_signal.proofs.Grown.{length_grown}
-use Rattle.fv_components.specs.Reach.{at}
+use Rattle.fv_split_components.specs.Reach.{at}
 use Rattle.fv_loopcode.specs.declared.step.Step.{Step}
 use Rattle.fv_loopcode.specs.declared.step.Step.TheVariants as step
 use Rattle.fv_loopcode.specs.Code.{AreSound, NamesLane, IsStill}
 use Rattle.fv_analysis.specs.Stands.{stands_of}
 use Rattle.fv_analysis.proofs.StandLemmas.{stands_long}
-use Rattle.fv_lanes.specs.declared.places.Places.{Places}
-use Rattle.fv_lanes.specs.Placed.{ArePlaced}
-use Rattle.fv_emit.specs.Held.{HoldsUpTo}
+use Rattle.fv_split_lanes.specs.declared.places.Places.{Places}
+use Rattle.fv_split_lanes.specs.Placed.{ArePlaced}
+use Rattle.fv_split_code.specs.Held.{HoldsUpTo}
 
 pub rates_long : (g : Graph) → length (rates g.signals) ≡ length g.signals
 rates_long g = omega (arith, length_grown (λ now. rate_in (rate_at now)) [] g.signals)

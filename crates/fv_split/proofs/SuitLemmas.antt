@@ -13,30 +13,34 @@ use Rattle.fv_signal.specs.Value.{Graph, definition, value, signal_at, IsGraph, 
 use Rattle.fv_signal.specs.Rates.{rate_in, rate_of, rates}
 use Rattle.fv_signal.proofs.Rates.{rate_is}
 use Rattle.fv_signal.proofs.Values.{values_are_given}
-use Rattle.fv_components.specs.Reach.{at, Reaches}
-use Rattle.fv_components.proofs.Walks.{reaches_self, reaches_trans}
+use Rattle.fv_split_components.specs.Reach.{at, Reaches}
+use Rattle.fv_split_components.proofs.Walks.{reaches_self, reaches_trans}
 use Rattle.fv_loopcode.specs.declared.step.Step.{Step}
-use Rattle.fv_loopcode.specs.Obeys.{Roles}
+use Rattle.fv_loopcode.specs.Obeys.{Roles, Place, OfLane}
 use Rattle.fv_analysis.specs.Stands.{node, stand, stands_of, StandsAt}
 use Rattle.fv_analysis.specs.Reaching.{history_of, history_from, greatest_delay, is_fed_back}
 use Rattle.fv_analysis.proofs.StandLemmas.{IsNoMember, stands_well, stands_long as all_stand}
 use Rattle.fv_analysis.proofs.HistoryLemmas.{histories_cover}
-use Rattle.fv_plan.specs.Separated.{operands, lane_at, links_of, IsComputed, IsSeparated, AsOutput, AsDelayed, AsDefinition, AsShared, ReadsSignal}
-use Rattle.fv_plan.specs.Fits.{Names, IsAlways}
-use Rattle.fv_lanes.specs.declared.places.Places.{Places}
-use Rattle.fv_lanes.specs.Placed.{ArePlaced, IsInner}
-use Rattle.fv_lanes.proofs.RowLemmas.{operand_below, reads_reach, back_reaches, read_lower}
-use Rattle.fv_emit.specs.declared.kind.Kind.{Kind}
-use Rattle.fv_emit.specs.declared.kind.Kind.TheVariants as kind
-use Rattle.fv_emit.specs.declared.tables.Tables.{Tables}
-use Rattle.fv_emit.specs.Emits.{KindFits, IsLoaded, IsKindWithin, kind_of, owned_by}
-use Rattle.fv_emit.specs.Emitted.{AreTables, IsBase, IsOperand, DelayLane, Suits}
-use Rattle.fv_emit.specs.Held.{HoldsUpTo}
+use Rattle.fv_split_plan.specs.Separated.{operands, lane_at, links_of, IsComputed, IsSeparated, AsOutput, AsDelayed, AsDefinition, AsShared, ReadsSignal}
+use Rattle.fv_split_plan.specs.Fits.{Names, IsAlways}
+use Rattle.fv_split_lanes.specs.declared.places.Places.{Places}
+use Rattle.fv_split_lanes.specs.Placed.{ArePlaced, IsInner}
+use Rattle.fv_split_lanes.proofs.RowLemmas.{operand_below, reads_reach, back_reaches, read_lower}
+use Rattle.fv_split_code.specs.declared.kind.Kind.{Kind}
+use Rattle.fv_split_code.specs.declared.kind.Kind.TheVariants as kind
+use Rattle.fv_split_code.specs.declared.tables.Tables.{Tables}
+use Rattle.fv_split_code.specs.Emits.{KindFits, IsLoaded, IsKindWithin, kind_of, owned_by}
+use Rattle.fv_split_code.specs.Emitted.{AreTables, IsBase, IsOperand, DelayLane, Suits}
+use Rattle.fv_split_code.specs.Held.{HoldsUpTo}
 use Rattle.fv_split.specs.Bases.{sample_base, constant_base, base_of, kind_with, AreBases, AreKinds}
+
+-- a loop's own places
+abbrev pub own_places : (owners : List ℕ) → (j : ℕ) → Place → Bool
+own_places owners j (OfLane l) = owned_by owners j l
 
 -- the lanes of loops up to a loop may be loaded
 abbrev pub lower_loaded : (owners : List ℕ) → (j : ℕ) → Roles
-lower_loaded owners j = record { own = owned_by owners j; loaded = λ l. nat_lt l (length owners) && nat_le (at owners l) j }
+lower_loaded owners j = record { own = own_places owners j; loaded = λ l. nat_lt l (length owners) && nat_le (at owners l) j }
 
 pub lower_is : (owners : List ℕ) (j l : ℕ) → l < length owners → at owners l ≤ j → (lower_loaded owners j).loaded l ≡ true
 lower_is owners j l h k = ap (λ b. b && nat_le (at owners l) j) (lt-ltb l (length owners) h) ∙ le-leb (at owners l) j k

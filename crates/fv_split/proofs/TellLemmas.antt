@@ -8,13 +8,13 @@ use Rattle.std.proofs.lemmas.List.{length-set, length-replicate, get_or-set_same
 use Rattle.std.proofs.lemmas.List.Elements.{All-head, All-tail, All-get_or}
 use Rattle.fv_outside.specs.declared.tasks.Reads.{Reads}
 use Rattle.fv_outside.specs.Tasks.{bit, total, reads_loop}
-use Rattle.fv_components.specs.Reach.{at}
+use Rattle.fv_split_components.specs.Reach.{at}
 use Rattle.fv_loopcode.specs.declared.step.Step.{Step}
 use Rattle.fv_loopcode.specs.declared.step.Step.TheVariants as step
 use Rattle.fv_loopcode.specs.Code.{NamesLane}
-use Rattle.fv_plan.specs.Separated.{lane_at}
-use Rattle.fv_plan.specs.View.{loads_lane}
-use Rattle.fv_emit.specs.Emitted.{code_in}
+use Rattle.fv_split_plan.specs.Separated.{lane_at}
+use Rattle.fv_split_plan.specs.View.{loads_lane}
+use Rattle.fv_split_code.specs.Emitted.{code_in}
 use Rattle.fv_split.specs.Told.{Told, was_told, told_with, told_step, told_steps, told_all}
 
 -- ---- lists of reads

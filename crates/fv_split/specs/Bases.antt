@@ -6,12 +6,12 @@ use Rattle.fv_signal.specs.declared.rate.Rate.{Rate}
 use Rattle.fv_signal.specs.declared.rate.Rate.TheVariants as rate
 use Rattle.fv_signal.specs.Value.{Graph, definition}
 use Rattle.fv_signal.specs.Rates.{rate_at}
-use Rattle.fv_components.specs.Reach.{at}
+use Rattle.fv_split_components.specs.Reach.{at}
 use Rattle.fv_analysis.specs.Stands.{node}
-use Rattle.fv_plan.specs.Separated.{lane_at}
-use Rattle.fv_emit.specs.declared.kind.Kind.{Kind}
-use Rattle.fv_emit.specs.declared.kind.Kind.TheVariants as kind
-use Rattle.fv_emit.specs.Emits.{kind_of}
+use Rattle.fv_split_plan.specs.Separated.{lane_at}
+use Rattle.fv_split_code.specs.declared.kind.Kind.{Kind}
+use Rattle.fv_split_code.specs.declared.kind.Kind.TheVariants as kind
+use Rattle.fv_split_code.specs.Emits.{kind_of}
 
 -- what a node that changes at each sample is without its lane
 abbrev pub sample_base : Graph → (stands : List ℕ) → (lanes : List (Option ℕ)) → Signal → Kind

@@ -1,11 +1,11 @@
 -- The lists of a plan: its lanes, the lanes of its outputs, and its codes.
 use Rattle.std.specs.Prelude.{◌≡◌, ℕ, ◌<◌, List, [], length, slice_index_or, Option, unwrap_or, Vec}
 use Rattle.std.specs.declared.alloc.Global.{Global}
-use Rattle.fv_components.specs.Reach.{at}
+use Rattle.fv_split_components.specs.Reach.{at}
 use Rattle.fv_loopcode.specs.declared.step.Step.{Step}
-use Rattle.fv_plan.specs.declared.lane.LaneInfo.{LaneInfo}
-use Rattle.fv_plan.specs.Separated.{lane_at}
-use Rattle.fv_emit.specs.Emitted.{code_in}
+use Rattle.fv_split_plan.specs.declared.lane.LaneInfo.{LaneInfo}
+use Rattle.fv_split_plan.specs.Separated.{lane_at}
+use Rattle.fv_split_code.specs.Emitted.{code_in}
 
 -- the first n lanes have the loops and the histories of their signals
 pub record AreInfos (signals owners histories : List ℕ) (n : ℕ) (infos : List LaneInfo) : Type 0 where

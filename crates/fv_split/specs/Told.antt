@@ -3,11 +3,11 @@ use Rattle.std.specs.Prelude.{◌≡◌, ℕ, zero, suc, ◌<◌, ◌≤◌, Lis
 use Rattle.std.specs.Prelude.{◌||◌, if◌then◌else◌}
 use Rattle.std.specs.declared.alloc.Global.{Global}
 use Rattle.fv_outside.specs.declared.tasks.Reads.{Reads}
-use Rattle.fv_components.specs.Reach.{at}
+use Rattle.fv_split_components.specs.Reach.{at}
 use Rattle.fv_loopcode.specs.declared.step.Step.{Step}
 use Rattle.fv_loopcode.specs.declared.step.Step.TheVariants as step
-use Rattle.fv_plan.specs.Separated.{lane_at}
-use Rattle.fv_emit.specs.Emitted.{code_in}
+use Rattle.fv_split_plan.specs.Separated.{lane_at}
+use Rattle.fv_split_code.specs.Emitted.{code_in}
 use Rattle.fv_split.specs.declared.telling.Telling.{Telling}
 
 -- what is told so far, and for each loop the last one that was told to read it

@@ -1,15 +1,15 @@
 // What each signal is to its own code, and to code that reads it.
 
 ghost use Rattle.std.specs.Prelude.{◌≡◌, ◌<◌, ℕ, length, map, All, IfOk, unwrap_or};
-ghost use Rattle.fv_components.specs.Reach.{at};
+ghost use Rattle.fv_split_components.specs.Reach.{at};
 ghost use Rattle.fv_signal.specs.Value.{NamesWithin};
 ghost use Rattle.fv_signal.specs.Rates.{rates as rates_of};
-ghost use Rattle.fv_plan.specs.Separated.{lane_at};
+ghost use Rattle.fv_split_plan.specs.Separated.{lane_at};
 ghost use Rattle.fv_split.specs.Bases.{base_of as base_in, kind_with as kind_in, AreBases, AreKinds};
 
 use fv_analysis::Rates;
-use fv_emit::Kind;
 use fv_signal::{Graph, Rate, Signal, SignalId};
+use fv_split_code::Kind;
 use std::alloc::{AllocError, Global};
 
 // What a signal is without its lane. Its number is that of a held value.

@@ -4,8 +4,8 @@ ghost use Rattle.std.specs.Prelude.{◌≡◌, ◌<◌, ℕ, length, map, All, I
 ghost use Rattle.fv_split.specs.Lists.{AreInfos, lane_of as lane_of_output};
 
 use fv_analysis::Histories;
-use fv_plan::LaneInfo;
 use fv_signal::SignalId;
+use fv_split_plan::LaneInfo;
 use std::alloc::{AllocError, Global};
 
 /// Each lane's loop and history.

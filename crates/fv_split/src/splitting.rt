@@ -4,17 +4,17 @@ ghost use Rattle.std.specs.Prelude.{◌≡◌, length, IfOk};
 ghost use Rattle.fv_num.specs.Frames.{table};
 ghost use Rattle.fv_signal.specs.Rates.{rates as rates_of};
 ghost use Rattle.fv_analysis.specs.Reaching.{history_of};
-ghost use Rattle.fv_plan.specs.Plans.{PlanStands, PlanReads, PlanNames};
+ghost use Rattle.fv_split_plan.specs.Plans.{PlanStands, PlanReads, PlanNames};
 
 use crate::basing::{bases, kinds};
 use crate::coding::{all_code, code};
 use crate::lists::{infos, output_lanes};
 use crate::telling::reads;
 use fv_analysis::{Histories, Rates, stands};
-use fv_emit::{Tables, codes, held_code};
-use fv_lanes::place;
-use fv_plan::Plan;
 use fv_signal::Graph;
+use fv_split_code::{Tables, codes, held_code};
+use fv_split_lanes::place;
+use fv_split_plan::Plan;
 use std::alloc::{AllocError, Global};
 
 /// The loops of a graph, whose rates and histories these are.

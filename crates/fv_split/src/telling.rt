@@ -1,9 +1,9 @@
 // Which loops read which others.
 
 ghost use Rattle.std.specs.Prelude.{◌≡◌, ◌<◌, ◌≤◌, ℕ, length, All, IfOk, OnOk, IsTrue};
-ghost use Rattle.fv_components.specs.Reach.{at};
+ghost use Rattle.fv_split_components.specs.Reach.{at};
 ghost use Rattle.fv_loopcode.specs.Code.{NamesLane};
-ghost use Rattle.fv_emit.specs.Emitted.{code_in};
+ghost use Rattle.fv_split_code.specs.Emitted.{code_in};
 ghost use Rattle.fv_split.specs.Told.{was_told as was_told_by, told_with, told_step, told_steps, told_all, view_of};
 
 use fv_loopcode::Step;

@@ -1,16 +1,16 @@
 // Small graphs, with their loops.
 
 use fv_analysis::{largest_delays, rates};
-use fv_hand_graphs::{delayed, difference, late, pair};
 use fv_num::Op;
 use fv_outside::Reads;
-use fv_plan::{LaneInfo, Plan};
 use fv_share::Builder;
 use fv_signal::{Graph, Signal};
 use fv_split::split;
+use fv_split_plan::{LaneInfo, Plan};
 use std::alloc::{AllocError, Global};
 use std::process::Abort;
 use std::test::Fail;
+use test_graphs::{delayed, difference, late, pair};
 
 // The plan of a graph.
 pub fn plan_of(alloc: Global, graph: &Graph) -> Result<Plan, AllocError> {

@@ -6,26 +6,20 @@ use Rattle.fv_base.specs.declared.role.Role.TheVariants.{Program, Input, Control
 use Rattle.fv_base.specs.Lists.{IsPrefixOf}
 use Rattle.fv_outside.specs.Desk.{DeskState, HasFault, KeepsFaults, IsUnfailing, Appends}
 use Rattle.fv_outside.proofs.States.{goes_on_then, fault_earlier, told_before, unfailing_later}
-use Rattle.fv_top.specs.declared.refusal.Refusal.{Refusal}
-use Rattle.fv_top.specs.declared.refusal.Refusal.TheVariants.{WriteFault}
-use Rattle.fv_top.specs.Program.{IsProgram}
-use Rattle.fv_top.specs.Sources.{Compiled}
-use Rattle.fv_top.specs.Lines.{check_line}
+use Rattle.fv_top_report.specs.declared.refusal.Refusal.{Refusal}
+use Rattle.fv_top_report.specs.declared.refusal.Refusal.TheVariants.{WriteFault}
+use Rattle.fv_top_text.specs.Program.{IsProgram}
+use Rattle.fv_top_text.specs.Compiled.{Compiled}
+use Rattle.fv_top_report.specs.Lines.{check_line}
 use Rattle.fv_top.specs.Meant.{check_meant}
-use Rattle.fv_top.specs.Parts.{AppendsPart}
+use Rattle.fv_top_report.specs.Parts.{AppendsPart}
 use Rattle.fv_top.specs.Loading.{ReadsFile, StopsLoading, IsFile}
 use Rattle.fv_top.specs.Steps.{Halts, fault, judged, want_of_memory, reads, writes, here, later}
 use Rattle.fv_top.specs.Promise.{ReadProgram, HasProgram, HasNoProgram, HasRefusal, check_rules}
 use Rattle.fv_top.specs.Running.{Checks, StopsCheck}
 use Rattle.fv_top.proofs.Reaching.{FailsToLoad, load_faults}
 
--- the line, piece by piece
-pub numbers_line : (i o n s d : ℕ) {p1 p2 p3 p4 p5 p6 p7 p8 p9 p10 p11 : List ℕ} → p1 ≡ codes "inputs " → p2 ≡ decimal i
-    → p3 ≡ codes " outputs " → p4 ≡ decimal o → p5 ≡ codes " controls " → p6 ≡ decimal n
-    → p7 ≡ codes " size " → p8 ≡ decimal s → p9 ≡ codes " delays " → p10 ≡ decimal d → p11 ≡ codes "\n"
-    → p1 ++ (p2 ++ (p3 ++ (p4 ++ (p5 ++ (p6 ++ (p7 ++ (p8 ++ (p9 ++ (p10 ++ (p11 ++ [])))))))))) ≡ check_line i o n s d
-numbers_line i o n s d e1 e2 e3 e4 e5 e6 e7 e8 e9 e10 e11 = rw (e1, e2, e3, e4, e5, e6, e7, e8, e9, e10, e11) (simp (append_assoc, append-nil))
-
+-- numbers that are the same give the same line
 pub numbers_same : {i j o p n m s t d e : ℕ} → i ≡ j → o ≡ p → n ≡ m → s ≡ t → d ≡ e → check_line i o n s d ≡ check_line j p m t e
 numbers_same a b c d e = rw (a, b, c, d, e) refl
 

@@ -4,16 +4,17 @@ use Rattle.std.specs.Prelude.{Some, Option, Ok, Err}
 use Rattle.fv_outside.specs.Requests.{Request}
 use Rattle.fv_outside.specs.Desk.{DeskState, File, file_named}
 use Rattle.fv_diagram.specs.declared.control.ControlInfo.{ControlInfo}
-use Rattle.fv_words.specs.Runs.{Run}
-use Rattle.fv_words.specs.Commands.{Job, Playing, Checking, Making}
-use Rattle.fv_make.specs.Made.{text_of}
-use Rattle.fv_top.specs.declared.refusal.Refusal.{Refusal}
-use Rattle.fv_top.specs.declared.refusal.Refusal.TheVariants.{NoMemory}
-use Rattle.fv_top.specs.declared.status.Tally.{Tally}
-use Rattle.fv_top.specs.declared.status.Status.TheVariants.{Done, Refused}
-use Rattle.fv_top.specs.Program.{TextIs, IsRefusedText, IsOneText}
-use Rattle.fv_top.specs.Sources.{Compiled, Source, found, script_of, source_of}
-use Rattle.fv_top.specs.Sound.{mono, sound_of, cut_in}
+use Rattle.fv_top_words.specs.Runs.{Run}
+use Rattle.fv_top_words.specs.Commands.{Job, Playing, Checking, Making}
+use Rattle.fv_top_make.specs.Made.{text_of}
+use Rattle.fv_top_report.specs.declared.refusal.Refusal.{Refusal}
+use Rattle.fv_top_report.specs.declared.refusal.Refusal.TheVariants.{NoMemory}
+use Rattle.fv_top_report.specs.declared.status.Tally.{Tally}
+use Rattle.fv_top_report.specs.declared.status.Status.TheVariants.{Done, Refused}
+use Rattle.fv_top_text.specs.Program.{TextIs, IsRefusedText, IsOneText}
+use Rattle.fv_top_text.specs.Compiled.{Compiled}
+use Rattle.fv_top.specs.Sources.{Source, found, script_of, source_of}
+use Rattle.fv_top.specs.Output.{mono, format_of, cut_in}
 use Rattle.fv_top.specs.Loading.{HasScript, HasInput}
 use Rattle.fv_top.specs.Steps.{Ends, Rules, IsJudge}
 use Rattle.fv_top.specs.Promise.{Asks, HasProgram, HasNoProgram, Plays, IsWhole, Step, ReadProgram, ReadScript, ReadHead, Fit, ReadSamples, Write, Tell}
@@ -58,20 +59,20 @@ one_input {name} {files} p q = sym p.is ∙ ap source_of (one_found name files _
 one_source : {name : Option (List ℕ)} {files : List File} {a b : Source} → HasInput name files (Ok a) → HasInput name files (Ok b) → a ≡ b
 one_source p q = let e = one_input p q in cc
 
--- the sound of a program on an input
-one_sound : (run : Run) (files : List File) → IsOneText → (p q : HasProgram run.program files) (s u : Source)
+-- the format of a program on an input
+one_format : (run : Run) (files : List File) → IsOneText → (p q : HasProgram run.program files) (s u : Source)
     → HasInput run.input files (Ok s) → HasInput run.input files (Ok u)
-    → sound_of run.settings p.compiled.diagram s.head ≡ sound_of run.settings q.compiled.diagram u.head
-one_sound run files once p q s u h k =
-    ap (λ (c : Compiled). sound_of run.settings c.diagram s.head) (one_program run.program files once p q)
-    ∙ ap (λ (w : Source). sound_of run.settings q.compiled.diagram w.head) (one_source h k)
+    → format_of run.settings p.compiled.diagram s.head ≡ format_of run.settings q.compiled.diagram u.head
+one_format run files once p q s u h k =
+    ap (λ (c : Compiled). format_of run.settings c.diagram s.head) (one_program run.program files once p q)
+    ∙ ap (λ (w : Source). format_of run.settings q.compiled.diagram w.head) (one_source h k)
 
 -- two runs of the same files are cut short alike
-one_cut : (run : Run) (files : List File) → IsOneText → (p q : Plays run files) → cut_in p.sound p.source ≡ cut_in q.sound q.source
+one_cut : (run : Run) (files : List File) → IsOneText → (p q : Plays run files) → cut_in p.format p.source ≡ cut_in q.format q.source
 one_cut run files once p q =
-    let e = sym p.fits ∙ one_sound run files once p.of q.of p.source q.source p.on q.on ∙ q.fits in
-    let same : p.sound ≡ q.sound = cc in
-    ap (λ s. cut_in s p.source) same ∙ ap (λ (w : Source). cut_in q.sound w) (one_source p.on q.on)
+    let e = sym p.fits ∙ one_format run files once p.of q.of p.source q.source p.on q.on ∙ q.fits in
+    let same : p.format ≡ q.format = cc in
+    ap (λ s. cut_in s p.source) same ∙ ap (λ (w : Source). cut_in q.format w) (one_source p.on q.on)
 
 -- ---- the steps of a run judge
 
@@ -80,7 +81,7 @@ once_in run files once ReadProgram a b h k = one_text run.program files a b once
 once_in run files once ReadScript a b h k =
     let e = one_script (ap (λ (c : Compiled). c.controls) (one_program run.program files once h.0 k.0)) h.1 k.1 in cc
 once_in run files once ReadHead a b h k = let e = one_input h k in cc
-once_in run files once Fit a b h k = let e = sym h.3 ∙ one_sound run files once h.0 k.0 h.1 k.1 h.2 k.2 ∙ k.3 in cc
+once_in run files once Fit a b h k = let e = sym h.3 ∙ one_format run files once h.0 k.0 h.1 k.1 h.2 k.2 ∙ k.3 in cc
 once_in run files once ReadSamples a b h k = absurd h
 once_in run files once Write a b h k = let e = sym h.1 ∙ one_cut run files once h.0 k.0 ∙ k.1 in cc
 once_in run files once Tell a b h k = absurd h
@@ -90,7 +91,7 @@ apart_in run files once ReadProgram a p h = program_apart run.program files a on
 apart_in run files once ReadScript a p h =
     let e = one_script (ap (λ (c : Compiled). c.controls) (one_program run.program files once p.0 h.0)) p.2 h.1 in absurd cc
 apart_in run files once ReadHead a p h = let e = one_input p.1 h in absurd cc
-apart_in run files once Fit a p h = let e = sym p.fits ∙ one_sound run files once p.of h.0 p.source h.1 p.on h.2 ∙ h.3 in absurd cc
+apart_in run files once Fit a p h = let e = sym p.fits ∙ one_format run files once p.of h.0 p.source h.1 p.on h.2 ∙ h.3 in absurd cc
 apart_in run files once ReadSamples a p h = h
 apart_in run files once Write a p h = let e = sym p.1 ∙ one_cut run files once p.0 h.0 ∙ h.1 in absurd cc
 apart_in run files once Tell a p h = h

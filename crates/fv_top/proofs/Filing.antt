@@ -5,9 +5,9 @@ use Rattle.fv_base.specs.declared.role.Role.TheVariants.{Output}
 use Rattle.fv_outside.specs.Desk.{DeskState, Appends}
 use Rattle.fv_outside.proofs.States.{appends_then}
 use Rattle.fv_wav.specs.Samples.{head_bytes, sample_bytes}
-use Rattle.fv_top.specs.Parts.{AppendsPart}
-use Rattle.fv_top.specs.Sound.{file_of}
-use Rattle.fv_top.proofs.Parts.{part_before, part_behind}
+use Rattle.fv_top_report.specs.Parts.{AppendsPart}
+use Rattle.fv_top.specs.Output.{file_of}
+use Rattle.fv_top_report.proofs.Parts.{part_before, part_behind}
 
 -- the pieces of a file: its head states a size, which is the one that is meant; the samples, as they are spelled; and the pad behind them
 pub record Pieces : Type 0 where

@@ -11,9 +11,10 @@ use Rattle.fv_wav.specs.declared.refusal.WaveRefusal.TheVariants as head
 use Rattle.fv_wav.specs.Reading.{wave}
 use Rattle.fv_wav.specs.Samples.{whole_bytes}
 use Rattle.fv_wav.specs.Stopping.{Stops}
-use Rattle.fv_top.specs.declared.refusal.Refusal.{Refusal}
-use Rattle.fv_top.specs.declared.refusal.Refusal.TheVariants.{ReadFault}
-use Rattle.fv_top.specs.Sources.{Source, of_wave, headed, data_of}
+use Rattle.fv_top_report.specs.declared.refusal.Refusal.{Refusal}
+use Rattle.fv_top_report.specs.declared.refusal.Refusal.TheVariants.{ReadFault}
+use Rattle.fv_top.specs.Sources.{Source, headed, data_of}
+use Rattle.fv_top_report.specs.Layers.{of_wave}
 use Rattle.fv_top.specs.Loading.{ReadsFile, StopsLoading, HasInput, HasHead, IsLeft, wanted}
 use Rattle.fv_top.specs.Promise.{HasRefusal, ReadHead}
 use Rattle.fv_top.proofs.Loads.{cannot_later}

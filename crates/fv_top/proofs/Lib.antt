@@ -1,7 +1,3 @@
-pub mod Texts
-pub mod AnswerLaws
-pub mod Programs
-pub mod Delayed
 pub mod Loads
 pub mod Scripts
 pub mod Filing
@@ -15,4 +11,3 @@ pub mod Making
 pub mod Ran
 pub mod Stopping
 pub mod Completing
-pub mod Parts

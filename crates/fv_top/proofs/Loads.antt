@@ -5,8 +5,8 @@ use Rattle.std.proofs.lemmas.List.{append-nil}
 use Rattle.fv_base.specs.declared.role.Role.{Role}
 use Rattle.fv_outside.specs.Desk.{DeskState, HasFault, IsUnfailing, Takes, TakesSome}
 use Rattle.fv_outside.proofs.States.{quiet_self, quiet_then, takes_quiet, told_before, fault_earlier, unfailing_later}
-use Rattle.fv_top.specs.declared.refusal.Refusal.{Refusal}
-use Rattle.fv_top.specs.declared.refusal.Refusal.TheVariants.{NoMemory}
+use Rattle.fv_top_report.specs.declared.refusal.Refusal.{Refusal}
+use Rattle.fv_top_report.specs.declared.refusal.Refusal.TheVariants.{NoMemory}
 use Rattle.fv_outside.specs.declared.transfer.ReadError.{ReadError}
 use Rattle.fv_outside.specs.declared.transfer.ReadError.TheVariants.{Failed, NoMemory as OutOfMemory}
 use Rattle.fv_top.specs.Loading.{ReadsFile, CannotRead, StopsLoading, refusal_of_read}

@@ -8,28 +8,19 @@ use Rattle.fv_base.specs.declared.role.Role.TheVariants.{Program, Input, Control
 use Rattle.fv_base.specs.Lists.{IsPrefixOf}
 use Rattle.fv_outside.specs.Desk.{DeskState, HasFault, KeepsFaults, IsUnfailing, Appends}
 use Rattle.fv_outside.proofs.States.{goes_on_self}
-use Rattle.fv_top.specs.declared.refusal.Refusal.{Refusal}
-use Rattle.fv_top.specs.declared.refusal.Refusal.TheVariants.{WriteFault, NoMemory}
+use Rattle.fv_top_report.specs.declared.refusal.Refusal.{Refusal}
+use Rattle.fv_top_report.specs.declared.refusal.Refusal.TheVariants.{WriteFault, NoMemory}
 use Rattle.fv_diagram.specs.Diagram.{Diagram}
 use Rattle.fv_control.specs.Streams.{control_streams}
-use Rattle.fv_play.specs.Play.{answer_on}
-use Rattle.fv_make.specs.Made.{text_of, next_state, noise_behind}
-use Rattle.fv_top.specs.Program.{IsRefusedText, IsOfText}
-use Rattle.fv_top.specs.Lines.{made_line}
+use Rattle.fv_diagram_play.specs.Play.{answer_on}
+use Rattle.fv_top_make.specs.Made.{text_of, next_state, noise_behind}
+use Rattle.fv_top_text.specs.Program.{IsRefusedText, IsOfText}
+use Rattle.fv_top_report.specs.Lines.{made_line}
 use Rattle.fv_top.specs.Meant.{make_meant}
-use Rattle.fv_top.specs.Parts.{AppendsPart}
+use Rattle.fv_top_report.specs.Parts.{AppendsPart}
 use Rattle.fv_top.specs.Steps.{Ends, fault, judged, want_of_memory, writes, here, later}
 use Rattle.fv_top.specs.Promise.{make_rules, make_steps}
 use Rattle.fv_top.specs.Running.{Makes, StopsMake, HasSum, IsNotMade}
-
--- the line, piece by piece; the sum comes back from its 32 bits
-pub made_pieces : (v f : ℕ) (s : ℤ) → SFits w32 s → {p1 p2 p3 p4 p5 p6 p7 : List ℕ} → p1 ≡ codes "made " → p2 ≡ decimal v → p3 ≡ codes " voices, "
-    → p4 ≡ decimal f
-    → p5 ≡ codes " frames, sum " → p6 ≡ signed_decimal (to_z w32 (of_z w32 s)) → p7 ≡ codes "\n"
-    → p1 ++ (p2 ++ (p3 ++ (p4 ++ (p5 ++ (p6 ++ (p7 ++ [])))))) ≡ made_line v f s
-made_pieces v f s fits e1 e2 e3 e4 e5 e6 e7 =
-    let e : _ ≡ signed_decimal s = e6 ∙ ap signed_decimal (to_z-of_z fits) in
-    rw (e1, e2, e3, e4, e5, e, e7) (simp (append_assoc, append-nil))
 
 -- ---- the program and its noise
 

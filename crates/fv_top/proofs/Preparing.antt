@@ -8,15 +8,16 @@ use Rattle.fv_outside.specs.Journal.{Told}
 use Rattle.fv_outside.specs.Desk.{DeskState, File, KeepsFaults, TakesSome}
 use Rattle.fv_outside.proofs.States.{told_before}
 use Rattle.fv_control.specs.declared.script.Change.{Change}
-use Rattle.fv_render.specs.Render.{RanWhole}
-use Rattle.fv_words.specs.Runs.{Run}
-use Rattle.fv_words.specs.Commands.{Playing}
+use Rattle.fv_engine_render.specs.Render.{RanWhole}
+use Rattle.fv_top_words.specs.Runs.{Run}
+use Rattle.fv_top_words.specs.Commands.{Playing}
 use Rattle.fv_wav.specs.declared.head.Head.{Head}
-use Rattle.fv_top.specs.declared.refusal.Refusal.{Refusal}
-use Rattle.fv_top.specs.declared.refusal.Refusal.TheVariants.{ReadFault, NoMemory}
-use Rattle.fv_top.specs.Program.{IsProgram}
-use Rattle.fv_top.specs.Sources.{Compiled, frames_of, data_of}
-use Rattle.fv_top.specs.Sound.{Sound, sound_of, present_in}
+use Rattle.fv_top_report.specs.declared.refusal.Refusal.{Refusal}
+use Rattle.fv_top_report.specs.declared.refusal.Refusal.TheVariants.{ReadFault, NoMemory}
+use Rattle.fv_top_text.specs.Program.{IsProgram}
+use Rattle.fv_top_text.specs.Compiled.{Compiled}
+use Rattle.fv_top.specs.Sources.{frames_of, data_of}
+use Rattle.fv_top.specs.Output.{OutputFormat, format_of, present_in}
 use Rattle.fv_top.specs.Loading.{ReadsFile, StopsSamples, IsFile, HasScript, HasInput, HasHead, IsPlaced, wanted, reading}
 use Rattle.fv_top.specs.Steps.{Ends, Halts, here, later, judged, want_of_memory}
 use Rattle.fv_top.specs.Promise.{ReadProgram, ReadScript, ReadHead, Fit, ReadSamples, HasProgram, HasNoProgram, HasRefusal, Plays, Step, run_rules}
@@ -150,15 +151,15 @@ module _ {run : Run} {p : Compiled} {changes : List Change} {head : Option Head}
   passed c e rest asked h =
       later (has w.of) (later (λ t. (has w.of t, changes, w.under t)) (later (λ t. ((w.on t).source, (w.on t).input)) h))
 
-  -- the sound of what was read
-  pub sound_is : (r : Result Sound Refusal) → sound_of run.settings p.diagram head ≡ r → (t : IsTrue a.tells)
-      → sound_of run.settings p.diagram (w.on t).source.head ≡ r
-  sound_is r is t = ap (λ (h : Option Head). sound_of run.settings p.diagram h) (w.on t).is ∙ is
+  -- the format of what was read
+  pub format_is : (r : Result OutputFormat Refusal) → format_of run.settings p.diagram head ≡ r → (t : IsTrue a.tells)
+      → format_of run.settings p.diagram (w.on t).source.head ≡ r
+  format_is r is t = ap (λ (h : Option Head). format_of run.settings p.diagram h) (w.on t).is ∙ is
 
-  -- the sound does not fit
-  pub stops_fit : (e : Refusal) → sound_of run.settings p.diagram head ≡ Err e → StopsBefore run a b e
+  -- the format does not fit
+  pub stops_fit : (e : Refusal) → format_of run.settings p.diagram head ≡ Err e → StopsBefore run a b e
   stops_fit e is =
-      let refused = judged (fit_kind run.settings p.diagram head e is) (λ t. (has w.of t, (w.on t).source, (w.on t).input, sound_is (Err e) is t)) in
+      let refused = judged (fit_kind run.settings p.diagram head e is) (λ t. (has w.of t, (w.on t).source, (w.on t).input, format_is (Err e) is t)) in
       record {
         asked = to_read Program run.program ∷ (reading Controls run.controls ++ (reading Input run.input ++ []));
         reaches = reaches_on run a b w.reaches;
@@ -166,7 +167,7 @@ module _ {run : Run} {p : Compiled} {changes : List Change} {head : Option Head}
         faults = λ r other. w.before r;
       }
 
-  module _ (sound : Sound) (is : sound_of run.settings p.diagram head ≡ Ok sound) where
+  module _ (format : OutputFormat) (is : format_of run.settings p.diagram head ≡ Ok format) where
     -- it does
     abbrev pub plays : IsTrue a.tells → Plays run a.files
     plays t = record {
@@ -175,8 +176,8 @@ module _ {run : Run} {p : Compiled} {changes : List Change} {head : Option Head}
       under = w.under t;
       source = (w.on t).source;
       on = (w.on t).input;
-      sound = sound;
-      fits = sound_is (Ok sound) is t;
+      format = format;
+      fits = format_is (Ok format) is t;
     }
 
     -- the samples are not read, or memory runs out
@@ -205,24 +206,25 @@ module _ {run : Run} {p : Compiled} {changes : List Change} {head : Option Head}
 
     -- what was made of the samples
     pub ready_is : ForSome head IsPlaced → (raw : List ℕ) (r : Ready) → (IsTrue b.tells → raw ≡ wanted head (b.left Input))
-        → r ≡ made_of p changes head sound raw → IsReady run a r
+        → r ≡ made_of p changes head format raw → IsReady run a r
     ready_is ranges raw r got made = λ t.
         let h = w.on t in
         let q = plays t in
-        let same = made ∙ ap (λ (k : Option Head). made_of p changes k sound raw) (sym h.is) in
+        let same = made ∙ ap (λ (k : Option Head). made_of p changes k format raw) (sym h.is) in
         let x = made_is a run a.files q raw r (λ k named. placed_in head h.source (b.left Input) k h.is h.behind ranges named) (is_wanted raw got t) same in
         (q, x.0, x.1, x.2)
 
     -- the blocks that ran are those of the frames that were read
     pub ran_is : (raw : List ℕ) → (IsTrue b.tells → raw ≡ wanted head (b.left Input)) → {blocks loops runs : ℕ} {before after : Option Told}
-        → RanWhole p.diagram p.controls changes (sizes_of run.settings (length (frames_of sound.frames head raw))) blocks loops runs before after
-        → (x : AllRan (Playing run) a blocks loops runs before after) × (x.played.sizes.frames ≡ length (frames_of sound.frames head raw))
+        → RanWhole p.diagram p.controls changes (sizes_of run.settings (length (frames_of format.frames head raw)))
+        (record { blocks = blocks; loops = loops; loop_runs = runs }) before after
+        → (x : AllRan (Playing run) a blocks loops runs before after) × (x.played.sizes.frames ≡ length (frames_of format.frames head raw))
     ran_is raw got ran =
-        let there : (t : IsTrue a.tells) → length (present_in sound (w.on t).source) ≡ length (frames_of sound.frames head raw) = λ t.
+        let there : (t : IsTrue a.tells) → length (present_in format (w.on t).source) ≡ length (frames_of format.frames head raw) = λ t.
         let h = w.on t in
-        ap length (ap (frames_of sound.frames h.source.head) (sym (is_wanted raw got t)) ∙ ap (λ (k : Option Head). frames_of sound.frames k raw) h.is) in (
+        ap length (ap (frames_of format.frames h.source.head) (sym (is_wanted raw got t)) ∙ ap (λ (k : Option Head). frames_of format.frames k raw) h.is) in (
           record {
-            played = record { program = p; changes = changes; sizes = sizes_of run.settings (length (frames_of sound.frames head raw)) };
+            played = record { program = p; changes = changes; sizes = sizes_of run.settings (length (frames_of format.frames head raw)) };
             is = (refl, λ t. (plays t, refl, refl, there t));
             ran = ran;
           },

@@ -13,16 +13,16 @@ use Rattle.fv_control.specs.declared.script.Change.{Change}
 use Rattle.fv_control.specs.Laws.{NeverFall, IsOfControls}
 use Rattle.fv_interval.specs.Delays.{AreAccepted}
 use Rattle.fv_eval.specs.Evaluated.{Evaluated}
-use Rattle.fv_render.specs.Render.{CanRender, CanHave}
+use Rattle.fv_engine_render.specs.Render.{CanRender, CanHave}
 use Rattle.fv_wav.specs.declared.head.Head.{Head}
 use Rattle.fv_wav.specs.Reading.{frame_size, unknown_size}
 use Rattle.fv_wav.specs.Samples.{whole_bytes}
 use Rattle.fv_wav.specs.Stopping.{IsHead}
-use Rattle.fv_words.specs.Runs.{Settings, AreSound}
-use Rattle.fv_words.specs.Commands.{Making}
+use Rattle.fv_top_words.specs.Runs.{Settings, AreSound}
+use Rattle.fv_top_words.specs.Commands.{Making}
 use Rattle.fv_top.specs.Sources.{frames_of}
-use Rattle.fv_top.specs.Program.{delays_in}
-use Rattle.fv_top.specs.Playable.{compiled_of, CanPlay}
+use Rattle.fv_top_text.specs.Program.{delays_in}
+use Rattle.fv_top_text.specs.Compiled.{compiled_of, CanPlay}
 use Rattle.fv_top.specs.Promise.{Asks}
 use Rattle.fv_top.specs.Played.{sizes_of, make_sizes, AllRan, MakeRan, MakeSoFar, RanSoFar}
 use Rattle.fv_top.specs.Prepared.{cut_at}

@@ -8,12 +8,12 @@ use Rattle.fv_outside.specs.Requests.{Request, to_read}
 use Rattle.fv_outside.specs.Desk.{DeskState, KeepsFaults, TakesSome, IsUnfailing}
 use Rattle.fv_outside.proofs.States.{quiet_self, quiet_then, some_quiet, told_before, fault_earlier, unfailing_later}
 use Rattle.fv_diagram.specs.Diagram.{Diagram, inputs, outputs}
-use Rattle.fv_words.specs.Runs.{Run, Settings}
+use Rattle.fv_top_words.specs.Runs.{Run, Settings}
 use Rattle.fv_wav.specs.declared.head.Head.{Head}
 use Rattle.fv_wav.specs.Samples.{data_size, data_limit}
-use Rattle.fv_top.specs.declared.refusal.Refusal.{Refusal}
-use Rattle.fv_top.specs.declared.refusal.Refusal.TheVariants.{ReadFault, Channels, FramesNeeded, OutputTooLong}
-use Rattle.fv_top.specs.Sound.{Sound, sound_of, counted, channels_in, bits_in, frames_in}
+use Rattle.fv_top_report.specs.declared.refusal.Refusal.{Refusal}
+use Rattle.fv_top_report.specs.declared.refusal.Refusal.TheVariants.{ReadFault, Channels, FramesNeeded, OutputTooLong}
+use Rattle.fv_top.specs.Output.{OutputFormat, format_of, counted, channels_in, bits_in, frames_in}
 use Rattle.fv_top.specs.Loading.{ReadsFile, StopsLoading, StopsSamples, IsThere, reading}
 use Rattle.fv_top.specs.Steps.{Halts, fault, judged, want_of_memory, reads}
 use Rattle.fv_top.specs.Promise.{Step, Fit, ReadSamples, TakesTurn, IsAnswered, HasRefusal, StepRefuses, run_rules}
@@ -91,10 +91,10 @@ pub samples_faults : (a b c : DeskState) (head : Option Head) (e : Refusal) → 
 samples_faults a b c head e before q steady (inl h) = λ r other. q.takes.other_faults r (λ same. other (inl (h.0 ∙ ap ReadFault (sym same)))) ∙ before r
 samples_faults a b c head e before q steady (inr m) = λ r other. steady (λ is. absurd cc) r ∙ before r
 
--- ---- a sound that does not fit
+-- ---- a format that does not fit
 
-kind_sized : (b : Bool) (a : Sound) (n : ℕ) (e : Refusal)
-    → (let r : Result Sound Refusal = if b then Ok a else Err (OutputTooLong n) in r ≡ Err e) → HasRefusal Fit e
+kind_sized : (b : Bool) (a : OutputFormat) (n : ℕ) (e : Refusal)
+    → (let r : Result OutputFormat Refusal = if b then Ok a else Err (OutputTooLong n) in r ≡ Err e) → HasRefusal Fit e
 kind_sized true a n e is = absurd cc
 kind_sized false a n e is = let same : OutputTooLong n ≡ e = cc in subst (HasRefusal Fit) same refl
 
@@ -102,13 +102,13 @@ kind_counted : (s : Settings) (d : Diagram) (head : Option Head) (frames : Optio
 kind_counted s d head None e is = let same : FramesNeeded ≡ e = cc in subst (HasRefusal Fit) same refl
 kind_counted s d head (Some n) e is = kind_sized (nat_le (data_size (outputs d) (bits_in s head) n) data_limit) _ _ e is
 
-kind_chosen : (b : Bool) (r : Result Sound Refusal) (have want : ℕ) (e : Refusal) → (r ≡ Err e → HasRefusal Fit e)
+kind_chosen : (b : Bool) (r : Result OutputFormat Refusal) (have want : ℕ) (e : Refusal) → (r ≡ Err e → HasRefusal Fit e)
     → (if b then r else Err (Channels have want)) ≡ Err e → HasRefusal Fit e
 kind_chosen true r have want e k is = k is
 kind_chosen false r have want e k is = let same : Channels have want ≡ e = cc in subst (HasRefusal Fit) same refl
 
 -- its refusals are those of its step
-pub fit_kind : (s : Settings) (d : Diagram) (head : Option Head) (e : Refusal) → sound_of s d head ≡ Err e → HasRefusal Fit e
+pub fit_kind : (s : Settings) (d : Diagram) (head : Option Head) (e : Refusal) → format_of s d head ≡ Err e → HasRefusal Fit e
 fit_kind s d head e is =
     let frames = frames_in s head in
     kind_chosen (channels_in head == inputs d) (counted s d head frames) (channels_in head) (inputs d) e (kind_counted s d head frames e) is

@@ -17,19 +17,19 @@ use Rattle.fv_diagram.specs.Diagram.{Diagram, inputs, outputs}
 use Rattle.fv_diagram.specs.Streams.{run}
 use Rattle.fv_control.specs.declared.script.Change.{Change}
 use Rattle.fv_control.specs.Streams.{control_streams}
-use Rattle.fv_play.specs.Play.{joined, no_slots, answer_on}
-use Rattle.fv_words.specs.Runs.{Run, Settings}
+use Rattle.fv_diagram_play.specs.Play.{joined, no_slots, answer_on}
+use Rattle.fv_top_words.specs.Runs.{Run, Settings}
 use Rattle.fv_wav.specs.declared.head.Head.{Head}
 use Rattle.fv_wav.specs.Reading.{frame_size}
 use Rattle.fv_wav.specs.Samples.{sample_bytes, frame_bytes, sample_at, samples_in, present, whole_bytes, stated_frames, pad_bytes, data_size, data_limit}
 use Rattle.fv_wav.specs.Samples.{head_bytes}
 use Rattle.fv_wav.specs.Stopping.{IsHead}
 use Rattle.fv_wav.proofs.SampleLemmas.{at_width, samples_first}
-use Rattle.fv_top.specs.declared.refusal.Refusal.{Refusal}
-use Rattle.fv_top.specs.declared.refusal.Refusal.TheVariants.{WaveTruncated}
-use Rattle.fv_render.specs.Render.{initial_of}
+use Rattle.fv_top_report.specs.declared.refusal.Refusal.{Refusal}
+use Rattle.fv_top_report.specs.declared.refusal.Refusal.TheVariants.{WaveTruncated}
+use Rattle.fv_engine_render.specs.Render.{initial_of}
 use Rattle.fv_top.specs.Sources.{Source, frames_of, data_of}
-use Rattle.fv_top.specs.Sound.{Sound, sound_of, counted, frames_in, present_in, cut_in, output_file}
+use Rattle.fv_top.specs.Output.{OutputFormat, format_of, counted, frames_in, present_in, cut_in, output_file}
 use Rattle.fv_top.specs.Loading.{IsLeft, IsPlaced}
 use Rattle.fv_top.specs.Meant.{written_by}
 use Rattle.fv_top.specs.Promise.{Plays, meant}
@@ -118,19 +118,20 @@ cut_length h bytes p place cut =
     absurd cc)
     (cases_lt (length (drop h.place bytes)) (whole_bytes h))
 
--- the frames of a sound on an input are those that its head states
-sized_frames : (b : Bool) (a sound : Sound) (e : Refusal) → (let r : Result Sound Refusal = if b then Ok a else Err e in r ≡ Ok sound) → sound.frames ≡ a.frames
-sized_frames true a sound e is = let same : a ≡ sound = cc in ap (λ (s : Sound). s.frames) (sym same)
-sized_frames false a sound e is = absurd cc
+-- the frames of a format on an input are those that its head states
+sized_frames : (b : Bool) (a format : OutputFormat) (e : Refusal)
+    → (let r : Result OutputFormat Refusal = if b then Ok a else Err e in r ≡ Ok format) → format.frames ≡ a.frames
+sized_frames true a format e is = let same : a ≡ format = cc in ap (λ (s : OutputFormat). s.frames) (sym same)
+sized_frames false a format e is = absurd cc
 
-chosen : (b : Bool) (r : Result Sound Refusal) (e : Refusal) (sound : Sound) → (if b then r else Err e) ≡ Ok sound → r ≡ Ok sound
-chosen true r e sound is = is
-chosen false r e sound is = absurd cc
+chosen : (b : Bool) (r : Result OutputFormat Refusal) (e : Refusal) (format : OutputFormat) → (if b then r else Err e) ≡ Ok format → r ≡ Ok format
+chosen true r e format is = is
+chosen false r e format is = absurd cc
 
-pub fits_frames : (s : Settings) (d : Diagram) (h : Head) (sound : Sound) → sound_of s d (Some h) ≡ Ok sound → sound.frames ≡ stated_frames h
-fits_frames s d h sound is =
-    let r = chosen (h.channels == inputs d) (counted s d (Some h) (frames_in s (Some h))) _ sound is in
-    sized_frames (nat_le (data_size (outputs d) _ (stated_frames h)) data_limit) _ sound _ r
+pub fits_frames : (s : Settings) (d : Diagram) (h : Head) (format : OutputFormat) → format_of s d (Some h) ≡ Ok format → format.frames ≡ stated_frames h
+fits_frames s d h format is =
+    let r = chosen (h.channels == inputs d) (counted s d (Some h) (frames_in s (Some h))) _ format is in
+    sized_frames (nat_le (data_size (outputs d) _ (stated_frames h)) data_limit) _ format _ r
 
 -- ---- what is ready
 
@@ -146,16 +147,16 @@ all_there : (n : ℕ) → (length (table {A = Frame} n (λ t. [])) == n) ≡ tru
 all_there n = eq-eqb _ n (length_table {A = Frame} n (λ t. []))
 
 -- the refusal of an input that is cut short
-cut_is : (h : Option Head) (bytes : List ℕ) (sound : Sound)
-    → ((k : Head) → h ≡ Some k → IsHead k × (k.place ≤ length bytes) × (sound.frames ≡ stated_frames k)) →
-    cut_in sound (record { head = h; bytes = bytes }) ≡ option_map WaveTruncated (cut_at h sound.frames (data_of h bytes))
-cut_is None bytes sound k = let t = all_there sound.frames in rw t refl
-cut_is (Some h) bytes sound k =
+cut_is : (h : Option Head) (bytes : List ℕ) (format : OutputFormat)
+    → ((k : Head) → h ≡ Some k → IsHead k × (k.place ≤ length bytes) × (format.frames ≡ stated_frames k)) →
+    cut_in format (record { head = h; bytes = bytes }) ≡ option_map WaveTruncated (cut_at h format.frames (data_of h bytes))
+cut_is None bytes format k = let t = all_there format.frames in rw t refl
+cut_is (Some h) bytes format k =
     let p = k h refl in
     let raw = present h bytes in
     let n = length_table (length raw / frame_size h.channels h.bits) (λ t. table h.channels (λ i. sample_at h.bits raw (t * h.channels + i))) in
-    cut_by (length (frames_of sound.frames (Some h) raw) == sound.frames) (h.place + length raw) (length bytes)
-    (λ f. cut_length h bytes p.0 p.1 (ap (λ m. m == stated_frames h) (sym n) ∙ ap (λ m. length (frames_of sound.frames (Some h) raw) == m) (sym p.2) ∙ f))
+    cut_by (length (frames_of format.frames (Some h) raw) == format.frames) (h.place + length raw) (length bytes)
+    (λ f. cut_length h bytes p.0 p.1 (ap (λ m. m == stated_frames h) (sym n) ∙ ap (λ m. length (frames_of format.frames (Some h) raw) == m) (sym p.2) ∙ f))
 
 -- no byte stands behind the samples where some are missing
 pad_is : (h : Option Head) (raw : List ℕ) (frames size : ℕ) →
@@ -164,32 +165,32 @@ pad_is None raw frames size = let t = all_there frames in rw t refl
 pad_is (Some h) raw frames size = pad_by (length (frames_of frames (Some h) raw) == frames) (h.place + length raw) size
 
 -- the file of what is made
-file_is : (d : Diagram) (c : ℕ → Stream) (sound : Sound) (X : List Frame) (pad : List ℕ) →
-    pad ≡ (if length X == sound.frames then pad_bytes (data_size (outputs d) sound.bits sound.frames) else []) →
-    head_bytes (outputs d) sound.rate sound.bits (data_size (outputs d) sound.bits sound.frames)
-    ++ flat_map (sample_bytes sound.bits) (joined (run d c no_slots X)) ++ pad
-    ≡ output_file d c sound X
-file_is d c sound X pad e =
-    let front = head_bytes (outputs d) sound.rate sound.bits (data_size (outputs d) sound.bits sound.frames) in
-    ap (λ w. front ++ w ++ pad) (samples_joined sound.bits (run d c no_slots X))
-    ∙ ap (λ w. front ++ flat_map (frame_bytes sound.bits) (run d c no_slots X) ++ w) e
+file_is : (d : Diagram) (c : ℕ → Stream) (format : OutputFormat) (X : List Frame) (pad : List ℕ) →
+    pad ≡ (if length X == format.frames then pad_bytes (data_size (outputs d) format.bits format.frames) else []) →
+    head_bytes (outputs d) format.rate format.bits (data_size (outputs d) format.bits format.frames)
+    ++ flat_map (sample_bytes format.bits) (joined (run d c no_slots X)) ++ pad
+    ≡ output_file d c format X
+file_is d c format X pad e =
+    let front = head_bytes (outputs d) format.rate format.bits (data_size (outputs d) format.bits format.frames) in
+    ap (λ w. front ++ w ++ pad) (samples_joined format.bits (run d c no_slots X))
+    ∙ ap (λ w. front ++ flat_map (frame_bytes format.bits) (run d c no_slots X) ++ w) e
 
 -- what was made of what was read is what the files mean
 pub made_is : (old : DeskState) (run : Run) (files : List File) (p : Plays run files) (raw : List ℕ) (r : Ready) →
     ((k : Head) → p.source.head ≡ Some k → IsHead k × (k.place ≤ length p.source.bytes)) → raw ≡ data_of p.source.head p.source.bytes →
-    r ≡ made_of p.of.compiled p.changes p.source.head p.sound raw →
-    (cut_in p.sound p.source ≡ r.cut) × (r.sound.frames ≡ (meant p).frames) × (file_in r ≡ written_by (meant p) old Output)
+    r ≡ made_of p.of.compiled p.changes p.source.head p.format raw →
+    (cut_in p.format p.source ≡ r.cut) × (r.format.frames ≡ (meant p).frames) × (file_in r ≡ written_by (meant p) old Output)
 made_is old run files p raw r k e is =
     let d = p.of.compiled.diagram in
     let c = control_streams p.changes (initial_of p.of.compiled.controls) in
     let all = data_of p.source.head p.source.bytes in
-    let made : r ≡ made_of p.of.compiled p.changes p.source.head p.sound all = is ∙ ap (made_of p.of.compiled p.changes p.source.head p.sound) e in (
-      cut_is p.source.head p.source.bytes p.sound
-          (λ h named. let x = k h named in (x.0, x.1, fits_frames run.settings d h p.sound (ap (sound_of run.settings d) (sym named) ∙ p.fits)))
+    let made : r ≡ made_of p.of.compiled p.changes p.source.head p.format all = is ∙ ap (made_of p.of.compiled p.changes p.source.head p.format) e in (
+      cut_is p.source.head p.source.bytes p.format
+          (λ h named. let x = k h named in (x.0, x.1, fits_frames run.settings d h p.format (ap (format_of run.settings d) (sym named) ∙ p.fits)))
           ∙ sym (ap (λ (w : Ready). w.cut) made),
-      ap (λ (w : Ready). w.sound.frames) made,
-      ap file_in made ∙ file_is d c p.sound (present_in p.sound p.source) _
-          (pad_is p.source.head all p.sound.frames (data_size (outputs d) p.sound.bits p.sound.frames)),
+      ap (λ (w : Ready). w.format.frames) made,
+      ap file_in made ∙ file_is d c p.format (present_in p.format p.source) _
+          (pad_is p.source.head all p.format.frames (data_size (outputs d) p.format.bits p.format.frames)),
     )
 
 -- the samples of a head that was read stand within its file

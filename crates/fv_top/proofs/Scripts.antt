@@ -9,9 +9,10 @@ use Rattle.fv_control.specs.declared.script.Change.{Change}
 use Rattle.fv_control.specs.declared.refusal.ScriptRefusal.{ScriptRefusal}
 use Rattle.fv_control.specs.declared.refusal.ScriptRefusal.TheVariants as lines
 use Rattle.fv_control.specs.Script.{script, line_says, IsOfScript}
-use Rattle.fv_top.specs.declared.refusal.Refusal.{Refusal}
-use Rattle.fv_top.specs.declared.refusal.Refusal.TheVariants.{NoMemory}
-use Rattle.fv_top.specs.Sources.{of_script, scripted}
+use Rattle.fv_top_report.specs.declared.refusal.Refusal.{Refusal}
+use Rattle.fv_top_report.specs.declared.refusal.Refusal.TheVariants.{NoMemory}
+use Rattle.fv_top_report.specs.Layers.{of_script}
+use Rattle.fv_top.specs.Sources.{scripted}
 use Rattle.fv_top.specs.Loading.{HasScript}
 use Rattle.fv_top.specs.Promise.{HasRefusal, ReadScript}
 

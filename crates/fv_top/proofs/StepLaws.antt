@@ -3,8 +3,8 @@ use Rattle.std.proofs.Common.{◌≡◌, ◌⊎◌, List, [], ◌∷◌, refl, i
 use Rattle.std.specs.Prelude.{IsTrue}
 use Rattle.fv_outside.specs.Requests.{Request}
 use Rattle.fv_outside.specs.Desk.{DeskState, HasFault}
-use Rattle.fv_top.specs.declared.refusal.Refusal.{Refusal}
-use Rattle.fv_top.specs.declared.refusal.Refusal.TheVariants.{NoMemory}
+use Rattle.fv_top_report.specs.declared.refusal.Refusal.{Refusal}
+use Rattle.fv_top_report.specs.declared.refusal.Refusal.TheVariants.{NoMemory}
 use Rattle.fv_top.specs.Steps.{Rules, Turn, role_of, Halts, fault, judged, want_of_memory, Ends, here, later, IsQuiet, Stops, at, behind, PassesAll, more}
 use Rattle.fv_top.specs.Steps.{IsJudge}
 

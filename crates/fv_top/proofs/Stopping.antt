@@ -9,13 +9,13 @@ use Rattle.fv_base.specs.Lists.{IsPrefixOf}
 use Rattle.fv_outside.specs.Requests.{Request, to_read, to_write}
 use Rattle.fv_outside.specs.Desk.{DeskState, GoesOn, HasFault, KeepsFaults, IsUnfailing, Appends}
 use Rattle.fv_outside.proofs.States.{goes_on_then, fault_earlier, fault_later, told_before, unfailing_later}
-use Rattle.fv_words.specs.declared.cause.Cause.{Cause}
-use Rattle.fv_words.specs.Runs.{Run}
-use Rattle.fv_words.specs.Commands.{Playing, Checking, Making, job_in}
-use Rattle.fv_top.specs.declared.refusal.Refusal.{Refusal}
-use Rattle.fv_top.specs.declared.refusal.Refusal.TheVariants.{Usage, WriteFault, WaveTruncated}
-use Rattle.fv_top.specs.Lines.{refused_line, done_line}
-use Rattle.fv_top.specs.Parts.{AppendsPart}
+use Rattle.fv_top_words.specs.declared.cause.Cause.{Cause}
+use Rattle.fv_top_words.specs.Runs.{Run}
+use Rattle.fv_top_words.specs.Commands.{Playing, Checking, Making, job_in}
+use Rattle.fv_top_report.specs.declared.refusal.Refusal.{Refusal}
+use Rattle.fv_top_report.specs.declared.refusal.Refusal.TheVariants.{Usage, WriteFault, WaveTruncated}
+use Rattle.fv_top_report.specs.Lines.{refused_line, done_line}
+use Rattle.fv_top_report.specs.Parts.{AppendsPart}
 use Rattle.fv_top.specs.Steps.{Rules, role_of, writes, Halts, fault, judged, want_of_memory, Ends, here, later}
 use Rattle.fv_top.specs.Loading.{reading}
 use Rattle.fv_top.specs.Promise.{Asks, Write, Tell, HasRoom, meant, run_rules, run_steps, rules_of, steps_of, CanDo, meant_of, HasCause, bad_words, of_job}
@@ -192,13 +192,13 @@ module _ {words : List (List ℕ)} {run : Run} {r : Ready} {a b c : DeskState} (
 
   module _ (whole : r.cut ≡ None) where
     -- it was written, and not reported
-    pub stopped_telling : (d : DeskState) → AppendsPart Report (done_line r.sound.frames) c d → HasFault Report c d →
-        (IsTrue c.tells → IsUnfailing Report c → length (c.written Report) + length (done_line r.sound.frames) ≤ c.room Report → ⊥)
+    pub stopped_telling : (d : DeskState) → AppendsPart Report (done_line r.format.frames) c d → HasFault Report c d →
+        (IsTrue c.tells → IsUnfailing Report c → length (c.written Report) + length (done_line r.format.frames) ≤ c.room Report → ⊥)
         → Stopped words a d (WriteFault Report)
     stopped_telling d part failed unsure =
         let on = goes w.begins in
         let q = part.2 in
-        let done = done_line r.sound.frames in
+        let done = done_line r.format.frames in
         let unanswered : IsTrue a.tells → IsUnfailing Report a × HasRoom run a Report → ⊥ = λ t sure.
         let x = w.begins.ready t in
         let line : a.written Report ++ done ≡ a.written Report ++ (meant x.0).line = ap (λ n. a.written Report ++ done_line n) x.2 in
@@ -236,7 +236,7 @@ module _ {words : List (List ℕ)} {run : Run} {r : Ready} {a b c : DeskState} (
         }
 
     -- it was written and reported
-    pub played_whole : (d : DeskState) → Appends Report (done_line r.sound.frames) c d → KeepsFaults c d → EndsDone words r.sound.frames a d
+    pub played_whole : (d : DeskState) → Appends Report (done_line r.format.frames) c d → KeepsFaults c d → EndsDone words r.format.frames a d
     played_whole d q steady =
         let on = goes w.begins in
         record {
@@ -260,7 +260,7 @@ module _ {words : List (List ℕ)} {run : Run} {r : Ready} {a b c : DeskState} (
                         | Input ↦ q.others later Input (λ e. absurd cc) ∙ kept.written t Input (λ e. absurd cc) (λ e. absurd cc)
                         | Controls ↦ q.others later Controls (λ e. absurd cc) ∙ kept.written t Controls (λ e. absurd cc) (λ e. absurd cc)
                         | Output ↦ q.others later Output (λ e. absurd cc) ∙ w.written told ∙ x.3
-                        | Report ↦ q.appended later ∙ ap (λ v. v ++ done_line r.sound.frames) (report_by w.begins t)
+                        | Report ↦ q.appended later ∙ ap (λ v. v ++ done_line r.format.frames) (report_by w.begins t)
                             ∙ ap (λ n. a.written Report ++ done_line n) x.2
                       ],
                 );

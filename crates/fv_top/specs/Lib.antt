@@ -1,12 +1,7 @@
 pub mod Sources
-pub mod Sound
-pub mod Playable
-pub mod Lines
+pub mod Output
+pub mod Formats
 pub mod Meant
-pub mod Fields
-pub mod Parts
-pub mod Answers
-pub mod Program
 pub mod Steps
 pub mod Loading
 pub mod Promise

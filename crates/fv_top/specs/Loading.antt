@@ -12,8 +12,8 @@ use Rattle.fv_wav.specs.declared.head.Head.{Head}
 use Rattle.fv_wav.specs.Stopping.{IsHead, IsFaultOfInput}
 use Rattle.fv_wav.specs.Samples.{whole_bytes}
 use Rattle.fv_top.specs.Sources.{Source, found, script_of, source_of}
-use Rattle.fv_top.specs.declared.refusal.Refusal.{Refusal}
-use Rattle.fv_top.specs.declared.refusal.Refusal.TheVariants.{ReadFault, NoMemory}
+use Rattle.fv_top_report.specs.declared.refusal.Refusal.{Refusal}
+use Rattle.fv_top_report.specs.declared.refusal.Refusal.TheVariants.{ReadFault, NoMemory}
 
 -- a file that may be named is asked for where it is
 abbrev pub reading : Role → Option (List ℕ) → List Request

@@ -5,14 +5,14 @@ use Rattle.fv_base.specs.declared.role.Role.TheVariants.{Program, Input, Control
 use Rattle.fv_outside.specs.Desk.{DeskState}
 use Rattle.fv_num.specs.Frames.{Frame, Stream}
 use Rattle.fv_diagram.specs.Diagram.{Diagram, inputs, outputs, size}
-use Rattle.fv_top.specs.Sound.{Sound, output_file}
+use Rattle.fv_top.specs.Output.{OutputFormat, output_file}
 use Rattle.fv_control.specs.Streams.{control_streams}
-use Rattle.fv_play.specs.Play.{answer_on}
-use Rattle.fv_make.specs.Made.{noise_of, sum_of}
-use Rattle.fv_top.specs.Lines.{check_line, made_line, done_line}
-use Rattle.fv_top.specs.Program.{delay_in}
-use Rattle.fv_render.specs.Render.{initial_of}
-use Rattle.fv_top.specs.Sources.{Compiled}
+use Rattle.fv_diagram_play.specs.Play.{answer_on}
+use Rattle.fv_top_make.specs.Made.{noise_of, sum_of}
+use Rattle.fv_top_report.specs.Lines.{check_line, made_line, done_line}
+use Rattle.fv_top_text.specs.Program.{delay_in}
+use Rattle.fv_engine_render.specs.Render.{initial_of}
+use Rattle.fv_top_text.specs.Compiled.{Compiled}
 
 -- the frames that it counts, the bytes of the output, if it writes one, and the line that it reports
 pub record Meant : Type 0 where
@@ -20,9 +20,9 @@ pub record Meant : Type 0 where
   pub output : Option (List ℕ)
   pub line : List ℕ
 
--- that of a diagram on the frames that are present, of those of the sound
-abbrev pub run_meant : Diagram → (c : ℕ → Stream) → Sound → (present : List Frame) → Meant
-run_meant d c sound present = record { frames = sound.frames; output = Some (output_file d c sound present); line = done_line sound.frames }
+-- that of a diagram on the frames that are present, of those that the format counts
+abbrev pub run_meant : Diagram → (c : ℕ → Stream) → OutputFormat → (present : List Frame) → Meant
+run_meant d c format present = record { frames = format.frames; output = Some (output_file d c format present); line = done_line format.frames }
 
 -- that of a program that is checked
 abbrev pub check_meant : Compiled → Meant

@@ -3,13 +3,13 @@ use Rattle.std.specs.Prelude.{◌≡◌, ◌⊎◌, ℕ, IsTrue, List, [], lengt
 use Rattle.fv_outside.specs.Journal.{Told}
 use Rattle.fv_outside.specs.Desk.{DeskState}
 use Rattle.fv_control.specs.declared.script.Change.{Change}
-use Rattle.fv_render.specs.declared.rendering.RunSizes.{RunSizes}
-use Rattle.fv_render.specs.Render.{RanWhole}
-use Rattle.fv_words.specs.Runs.{Settings}
-use Rattle.fv_words.specs.Commands.{Job, Playing, Checking, Making}
-use Rattle.fv_top.specs.declared.status.Tally.{Tally}
-use Rattle.fv_top.specs.Sources.{Compiled}
-use Rattle.fv_top.specs.Sound.{present_in}
+use Rattle.fv_engine_render.specs.declared.blocks.RunSizes.{RunSizes}
+use Rattle.fv_engine_render.specs.Render.{RanWhole}
+use Rattle.fv_top_words.specs.Runs.{Settings}
+use Rattle.fv_top_words.specs.Commands.{Job, Playing, Checking, Making}
+use Rattle.fv_top_report.specs.declared.status.Tally.{Tally}
+use Rattle.fv_top_text.specs.Compiled.{Compiled}
+use Rattle.fv_top.specs.Output.{present_in}
 use Rattle.fv_top.specs.Promise.{Asks, Plays, IsMade}
 
 -- what is played: a program under these changes of its controls, so many frames, in blocks and vectors of these sizes
@@ -32,7 +32,7 @@ abbrev pub IsPlayed : Job → DeskState → Played → Type 0
 IsPlayed (Playing run) old x =
     (x.sizes ≡ sizes_of run.settings x.sizes.frames)
     × (IsTrue old.tells → (p : Plays run old.files) × (p.of.compiled ≡ x.program) × (p.changes ≡ x.changes)
-    × (length (present_in p.sound p.source) ≡ x.sizes.frames))
+    × (length (present_in p.format p.source) ≡ x.sizes.frames))
 IsPlayed (Checking name) old x = ⊥
 IsPlayed (Making voices frames) old x = (x.sizes ≡ make_sizes frames) × (x.changes ≡ []) × IsMade voices x.program
 
@@ -40,12 +40,14 @@ IsPlayed (Making voices frames) old x = (x.sizes ≡ make_sizes frames) × (x.ch
 pub record AllRan (job : Job) (old : DeskState) (blocks loops runs : ℕ) (before after : Option Told) : Type 0 where
   pub played : Played
   pub is : IsPlayed job old played
-  pub ran : RanWhole played.program.diagram played.program.controls played.changes played.sizes blocks loops runs before after
+  pub ran : RanWhole played.program.diagram played.program.controls played.changes played.sizes
+      (record { blocks = blocks; loops = loops; loop_runs = runs }) before after
 
 -- the blocks of a make
 abbrev pub MakeRan : (voices frames blocks loops runs : ℕ) → (before after : Option Told) → Type 0
 MakeRan voices frames blocks loops runs before after =
-    (p : Compiled) × IsMade voices p × RanWhole p.diagram p.controls [] (make_sizes frames) blocks loops runs before after
+    (p : Compiled) × IsMade voices p × RanWhole p.diagram p.controls [] (make_sizes frames)
+    (record { blocks = blocks; loops = loops; loop_runs = runs }) before after
 
 -- the same, however many
 pub record MakeSoFar (voices frames : ℕ) (before after : Option Told) : Type 0 where

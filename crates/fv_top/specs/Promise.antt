@@ -8,22 +8,23 @@ use Rattle.fv_outside.specs.Requests.{Request, to_read, to_write}
 use Rattle.fv_outside.specs.Desk.{DeskState, File, file_named, HasFault, KeepsFaults, IsUnfailing}
 use Rattle.fv_control.specs.declared.script.Change.{Change}
 use Rattle.fv_control.specs.Streams.{control_streams}
-use Rattle.fv_make.specs.Made.{text_of}
-use Rattle.fv_words.specs.declared.cause.Cause.{Cause}
-use Rattle.fv_words.specs.Runs.{Run}
-use Rattle.fv_words.specs.Commands.{Job, Playing, Checking, Making, job_in}
-use Rattle.fv_top.specs.declared.status.Tally.{Tally}
-use Rattle.fv_top.specs.declared.refusal.Refusal.{Refusal}
-use Rattle.fv_top.specs.declared.refusal.Refusal.TheVariants.{Usage, ReadFault, WriteFault, WaveTruncated, NoMemory}
-use Rattle.fv_top.specs.declared.status.Status.{Status}
-use Rattle.fv_top.specs.declared.status.Status.TheVariants.{Done, Refused}
-use Rattle.fv_top.specs.Program.{IsProgram, IsRefusedText, is_of_program}
-use Rattle.fv_render.specs.Render.{initial_of}
-use Rattle.fv_top.specs.Sources.{Compiled, Source}
-use Rattle.fv_top.specs.Sound.{Sound, mono, sound_of, present_in, cut_in}
+use Rattle.fv_top_make.specs.Made.{text_of}
+use Rattle.fv_top_words.specs.declared.cause.Cause.{Cause}
+use Rattle.fv_top_words.specs.Runs.{Run}
+use Rattle.fv_top_words.specs.Commands.{Job, Playing, Checking, Making, job_in}
+use Rattle.fv_top_report.specs.declared.status.Tally.{Tally}
+use Rattle.fv_top_report.specs.declared.refusal.Refusal.{Refusal}
+use Rattle.fv_top_report.specs.declared.refusal.Refusal.TheVariants.{Usage, ReadFault, WriteFault, WaveTruncated, NoMemory}
+use Rattle.fv_top_report.specs.declared.status.Status.{Status}
+use Rattle.fv_top_report.specs.declared.status.Status.TheVariants.{Done, Refused}
+use Rattle.fv_top_text.specs.Program.{IsProgram, IsRefusedText, is_of_program}
+use Rattle.fv_engine_render.specs.Render.{initial_of}
+use Rattle.fv_top_text.specs.Compiled.{Compiled}
+use Rattle.fv_top.specs.Sources.{Source}
+use Rattle.fv_top.specs.Output.{OutputFormat, mono, format_of, present_in, cut_in}
 use Rattle.fv_top.specs.Loading.{HasScript, HasInput, IsThere, reading}
 use Rattle.fv_top.specs.Meant.{Meant, run_meant, check_meant, make_meant, written_by}
-use Rattle.fv_top.specs.Lines.{row_of, refused_line}
+use Rattle.fv_top_report.specs.Lines.{row_of, refused_line}
 use Rattle.fv_top.specs.Steps.{Turn, reads, writes, Rules, Ends, Stops, PassesAll, all_requests}
 
 -- the words are of the form, and ask for this
@@ -47,23 +48,23 @@ pub record HasNoProgram (name : List ℕ) (files : List File) (refusal : Refusal
   pub file : file_named name files ≡ Some text
   pub refused : IsRefusedText text refusal
 
--- The files of a run: a program, a script of its controls, an input, and the sound that it makes.
+-- The files of a run: a program, a script of its controls, an input, and the format of its output.
 pub record Plays (run : Run) (files : List File) : Type 0 where
   pub of : HasProgram run.program files
   pub changes : List Change
   pub under : HasScript run.controls files of.compiled.controls (Ok changes)
   pub source : Source
   pub on : HasInput run.input files (Ok source)
-  pub sound : Sound
-  pub fits : sound_of run.settings of.compiled.diagram source.head ≡ Ok sound
+  pub format : OutputFormat
+  pub fits : format_of run.settings of.compiled.diagram source.head ≡ Ok format
 
 -- what it means that they are played
 abbrev pub meant : {run : Run} {files : List File} → Plays run files → Meant
-meant p = run_meant p.of.compiled.diagram (control_streams p.changes (initial_of p.of.compiled.controls)) p.sound (present_in p.sound p.source)
+meant p = run_meant p.of.compiled.diagram (control_streams p.changes (initial_of p.of.compiled.controls)) p.format (present_in p.format p.source)
 
 -- no whole frame of the input is missing
 abbrev pub IsWhole : {run : Run} {files : List File} → Plays run files → Type 0
-IsWhole p = cut_in p.sound p.source ≡ None
+IsWhole p = cut_in p.format p.source ≡ None
 
 -- ---- the steps of a run, in order
 
@@ -74,7 +75,7 @@ pub data Step : Type 0 where
   ReadScript : Step
   -- the head of the input is read and judged
   ReadHead : Step
-  -- the sound that the program makes on the input is judged
+  -- the format of what the program makes on the input is judged
   Fit : Step
   -- the samples are read, and the output computed
   ReadSamples : Step
@@ -151,9 +152,9 @@ StepRefuses run files ReadScript refusal = (p : HasProgram run.program files) ×
 StepRefuses run files ReadHead refusal = HasInput run.input files (Err refusal)
 StepRefuses run files Fit refusal =
     (p : HasProgram run.program files) × (source : Source) × HasInput run.input files (Ok source)
-    × (sound_of run.settings p.compiled.diagram source.head ≡ Err refusal)
+    × (format_of run.settings p.compiled.diagram source.head ≡ Err refusal)
 StepRefuses run files ReadSamples refusal = ⊥
-StepRefuses run files Write refusal = (p : Plays run files) × (cut_in p.sound p.source ≡ Some refusal)
+StepRefuses run files Write refusal = (p : Plays run files) × (cut_in p.format p.source ≡ Some refusal)
 StepRefuses run files Tell refusal = ⊥
 
 -- the rules of a run's steps

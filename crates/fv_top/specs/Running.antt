@@ -5,17 +5,17 @@ use Rattle.fv_base.specs.declared.role.Role.TheVariants.{Program, Controls, Inpu
 use Rattle.fv_base.specs.Lists.{IsPrefixOf}
 use Rattle.fv_outside.specs.Requests.{Request, to_read, to_write}
 use Rattle.fv_outside.specs.Desk.{DeskState, GoesOn, HasFault, KeepsQuiet, KeepsLeft, KeepsFaults, IsUnfailing, Appends}
-use Rattle.fv_words.specs.Runs.{Run}
+use Rattle.fv_top_words.specs.Runs.{Run}
 use Rattle.fv_wav.specs.Samples.{pad_bytes, data_size}
-use Rattle.fv_top.specs.declared.refusal.Refusal.{Refusal}
-use Rattle.fv_top.specs.declared.refusal.Refusal.TheVariants.{WriteFault, NoMemory}
-use Rattle.fv_top.specs.Sound.{Sound, mono, file_of, cut_in}
+use Rattle.fv_top_report.specs.declared.refusal.Refusal.{Refusal}
+use Rattle.fv_top_report.specs.declared.refusal.Refusal.TheVariants.{WriteFault, NoMemory}
+use Rattle.fv_top.specs.Output.{OutputFormat, mono, file_of, cut_in}
 use Rattle.fv_top.specs.Loading.{reading}
 use Rattle.fv_top.specs.Meant.{check_meant, make_meant, made_sum, written_by}
-use Rattle.fv_make.specs.Made.{text_of}
-use Rattle.fv_top.specs.Program.{IsProgram, IsRefusedText}
-use Rattle.fv_top.specs.Sources.{Compiled}
-use Rattle.fv_top.specs.Lines.{refused_line}
+use Rattle.fv_top_make.specs.Made.{text_of}
+use Rattle.fv_top_text.specs.Program.{IsProgram, IsRefusedText}
+use Rattle.fv_top_text.specs.Compiled.{Compiled}
+use Rattle.fv_top_report.specs.Lines.{refused_line}
 use Rattle.fv_top.specs.Steps.{Ends}
 use Rattle.fv_top.specs.Promise.{Plays, HasProgram, meant, run_rules, run_steps, check_rules, check_steps, HasMade, HasRefusal, ReadProgram, Fit, make_rules}
 use Rattle.fv_top.specs.Promise.{make_steps, HasBegun, KeepsOutput, KeepsOthers, IsBegunLine, IsRefusedFor, HasDone, LeavesOutput, Reports, IsFaultOf, HandsOn}
@@ -54,10 +54,10 @@ CountsFaultOf refusal old new = (r : Role) → (IsFaultOf r refusal → ⊥) →
 abbrev pub asked_before : Run → List Request
 asked_before run = to_read Program run.program ∷ (reading Controls run.controls ++ reading Input run.input)
 
--- What is ready to be written: a sound of so many channels, its samples, and the refusal where its input ends too early.
+-- What is ready to be written: so many channels of a format, their samples, and the refusal where its input ends too early.
 pub record Ready : Type 0 where
   pub channels : ℕ
-  pub sound : Sound
+  pub format : OutputFormat
   pub samples : List ℤ
   pub cut : Option Refusal
 
@@ -68,13 +68,13 @@ pad_of (Some refusal) size = []
 
 abbrev pub file_in : Ready → List ℕ
 file_in r =
-    let size = data_size r.channels r.sound.bits r.sound.frames in
-    file_of r.channels r.sound.rate r.sound.bits size r.samples (pad_of r.cut size)
+    let size = data_size r.channels r.format.bits r.format.frames in
+    file_of r.channels r.format.rate r.format.bits size r.samples (pad_of r.cut size)
 
 -- What is ready is what the files of the run mean, where the desk tells them.
 abbrev pub IsReady : Run → DeskState → Ready → Type 0
 IsReady run old r =
-    IsTrue old.tells → (p : Plays run old.files) × (cut_in p.sound p.source ≡ r.cut) × (r.sound.frames ≡ (meant p).frames)
+    IsTrue old.tells → (p : Plays run old.files) × (cut_in p.format p.source ≡ r.cut) × (r.format.frames ≡ (meant p).frames)
     × (file_in r ≡ written_by (meant p) old Output)
 
 -- A step that reads cannot go on.

@@ -6,21 +6,13 @@ use Rattle.fv_diagram.specs.Diagram.{Diagram}
 use Rattle.fv_diagram.specs.declared.control.ControlInfo.{ControlInfo}
 use Rattle.fv_control.specs.declared.script.Change.{Change}
 use Rattle.fv_control.specs.declared.refusal.ScriptRefusal.{ScriptRefusal}
-use Rattle.fv_control.specs.declared.refusal.ScriptRefusal.TheVariants as lines
 use Rattle.fv_control.specs.Script.{script}
 use Rattle.fv_wav.specs.declared.head.Head.{Head}
 use Rattle.fv_wav.specs.declared.refusal.WaveRefusal.{WaveRefusal}
-use Rattle.fv_wav.specs.declared.refusal.WaveRefusal.TheVariants as head
 use Rattle.fv_wav.specs.Reading.{wave, frame_size}
 use Rattle.fv_wav.specs.Samples.{present, sample_at}
-use Rattle.fv_top.specs.declared.refusal.Refusal.{Refusal}
-use Rattle.fv_top.specs.declared.refusal.Refusal.TheVariants.{ReadFault, TextTooLong, ControlLine, ControlUnknown, ControlRange, ControlOrder, NotWave}
-use Rattle.fv_top.specs.declared.refusal.Refusal.TheVariants.{WaveTruncated, WaveFormat, WaveChunks, NoMemory}
-
--- a program: its diagram, and its controls
-pub record Compiled : Type 0 where
-  pub diagram : Diagram
-  pub controls : List ControlInfo
+use Rattle.fv_top_report.specs.declared.refusal.Refusal.{Refusal}
+use Rattle.fv_top_report.specs.Layers.{of_script, of_wave}
 
 -- ---- files that may be named
 
@@ -30,15 +22,6 @@ found files None = Some None
 found files (Some name) = option_map Some (file_named name files)
 
 -- ---- scripts
-
--- the refusals of a script, as those of a run
-abbrev pub of_script : ScriptRefusal → Refusal
-of_script (lines.TextTooLong role) = TextTooLong role
-of_script (lines.ControlLine line) = ControlLine line
-of_script (lines.ControlUnknown line) = ControlUnknown line
-of_script (lines.ControlRange line) = ControlRange line
-of_script (lines.ControlOrder line) = ControlOrder line
-of_script lines.NoMemory = NoMemory
 
 abbrev pub scripted : Result (List Change) ScriptRefusal → Result (List Change) Refusal
 scripted (Ok changes) = Ok changes
@@ -55,14 +38,6 @@ script_of controls (Some bytes) = scripted (script controls bytes)
 pub record Source : Type 0 where
   pub head : Option Head
   pub bytes : List ℕ
-
--- the refusals of a head, as those of a run
-abbrev pub of_wave : WaveRefusal → Refusal
-of_wave (head.ReadFault role) = ReadFault role
-of_wave (head.NotWave place) = NotWave place
-of_wave (head.WaveTruncated place) = WaveTruncated place
-of_wave (head.WaveFormat place) = WaveFormat place
-of_wave (head.WaveChunks place) = WaveChunks place
 
 abbrev pub headed : List ℕ → Result Head WaveRefusal → Result Source Refusal
 headed bytes (Ok h) = Ok (record { head = Some h; bytes = bytes })

@@ -4,9 +4,8 @@ ghost use Rattle.std.specs.Prelude.{OnOk, IfErr};
 ghost use Rattle.fv_top.specs.Running.{Checks, StopsCheck};
 
 use crate::program::load_program;
-use crate::refusal::Refusal;
-use crate::report::report_numbers;
 use fv_outside::{Desk, Role};
+use fv_top_report::{Refusal, report_numbers};
 use std::alloc::Global;
 
 /// Reads the program of this name, and reports its inputs, outputs and controls, its size and the sum of its delays.

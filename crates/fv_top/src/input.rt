@@ -4,16 +4,15 @@ ghost use Rattle.std.specs.Prelude.{◌≡◌, ◌≤◌, length, option_copied,
 ghost use Rattle.std.specs.Option.{ForSome};
 ghost use Rattle.fv_base.specs.declared.role.Role.TheVariants.{Input};
 ghost use Rattle.fv_outside.specs.Desk.{KeepsFaults, TakesSome};
-ghost use Rattle.fv_wav.specs.Stopping.{IsHead};
-ghost use Rattle.fv_wav.specs.Reading.{frame_size};
 ghost use Rattle.fv_wav.specs.Samples.{whole_bytes};
-ghost use Rattle.fv_top.specs.declared.refusal.Refusal.TheVariants.{ReadFault};
+ghost use Rattle.fv_top_report.specs.declared.refusal.Refusal.TheVariants.{ReadFault};
 ghost use Rattle.fv_top.specs.Promise.{HasRefusal, ReadHead};
 ghost use Rattle.fv_top.specs.Loading.{ReadsFile, StopsLoading, StopsSamples, HasInput, HasHead, IsPlaced, wanted};
 
-use crate::program::read_refusal;
-use crate::refusal::Refusal;
+use crate::files::read_refusal;
+use crate::frames::whole_bytes;
 use fv_outside::{Desk, Role, read_up_to};
+use fv_top_report::Refusal;
 use fv_wav::{Head, read_head};
 use std::alloc::Global;
 
@@ -63,23 +62,4 @@ pub fn load_samples<D: Desk>(
         Ok(bytes) => Ok(bytes),
         Err(error) => Err(read_refusal(Role::Input, error)),
     }
-}
-
-// The bytes of the whole frames that it states.
-fn whole_bytes(head: &Head) -> usize
-    requires { IsHead head.now }
-    ensures { result ≡ whole_bytes head.now }
-{
-    let size = frame_size(head);
-    (head.data_bytes / size * size) as usize
-}
-
-/// The bytes of a frame.
-pub fn frame_size(head: &Head) -> u32
-    requires { IsHead head.now }
-    ensures size { result ≡ frame_size head.now.channels head.now.bits }
-    ensures some { 1 ≤ result }
-    ensures few { result ≤ 1024 }
-{
-    head.channels * (head.bits / 8)
 }

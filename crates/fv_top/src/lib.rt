@@ -2,22 +2,18 @@
 #![tactic(auto)]
 
 mod check;
+mod files;
+mod format;
+mod frames;
 mod input;
 mod make;
 mod output;
 mod prepare;
 mod program;
-mod refusal;
-mod report;
-mod row;
 mod run;
+mod samples;
 mod script;
-mod sound;
-mod status;
-mod text;
 
-pub use fv_words::Cause;
-pub use refusal::Refusal;
+pub use fv_top_report::{Cause, Refusal, Status, Tally};
+pub use fv_top_text::one_program;
 pub use run::run_faustvec;
-pub use status::{Status, Tally};
-pub use text::one_program;

@@ -3,25 +3,23 @@
 ghost use Rattle.std.specs.Prelude.{◌≡◌, ◌⊎◌, ◌≤◌, [], Ok, Err, IfOk, IfErr, OnOk, OnErr};
 ghost use Rattle.fv_interval.specs.Delays.{AreAccepted};
 ghost use Rattle.fv_diagram.specs.Diagram.{inputs};
-ghost use Rattle.fv_render.specs.Render.{RanWhole};
-ghost use Rattle.fv_words.specs.Commands.{most_voices};
+ghost use Rattle.fv_engine_render.specs.Render.{RanWhole};
+ghost use Rattle.fv_top_words.specs.Commands.{most_voices};
 ghost use Rattle.fv_top.specs.Played.{make_sizes, MakeRan, MakeSoFar};
 ghost use Rattle.fv_top.specs.Meant.{made_sum};
-ghost use Rattle.fv_top.specs.Playable.{compiled_of, CanPlay};
-ghost use Rattle.fv_top.specs.Program.{delays_in};
+ghost use Rattle.fv_top_text.specs.Compiled.{compiled_of, CanPlay};
+ghost use Rattle.fv_top_text.specs.Program.{delays_in};
 ghost use Rattle.fv_top.specs.Promise.{HasRefusal, Fit, IsMade};
 ghost use Rattle.fv_top.specs.Running.{Makes, StopsMake, HasSum, IsNotMade};
-ghost use Rattle.fv_top.specs.Sound.{mono};
+ghost use Rattle.fv_top.specs.Output.{mono};
 
-use crate::refusal::Refusal;
-use crate::report::report_made;
-use crate::status::Ran;
-use crate::text::read_program;
+use fv_engine_render::{Ran, Rendered, RunSizes, Source};
 use fv_eval::Program;
 use fv_interval::Delays;
-use fv_make::{noise, sum_of, text_of};
 use fv_outside::{Desk, Gate, Role};
-use fv_render::{Rendered, RunSizes, Source};
+use fv_top_make::{noise, sum_of, text_of};
+use fv_top_report::{Refusal, report_made};
+use fv_top_text::read_program;
 use std::alloc::{AllocError, Global};
 use std::sync::Wait;
 use std::thread::Threads;
@@ -40,7 +38,7 @@ struct Made {
 }
 
 /// Makes a program of so many voices and so many frames of noise, and reports the sum of what it gives.
-pub fn make<R: Threads + Wait + Sync, D: Desk, G: Gate + Sync>(
+pub fn run_make<R: Threads + Wait + Sync, D: Desk, G: Gate + Sync>(
     rt: &R,
     alloc: Global,
     desk: &mut D,
@@ -127,7 +125,7 @@ fn sum_on_noise<R: Threads + Wait + Sync, G: Gate + Sync>(
     requires one { inputs (compiled_of program.now).diagram ≡ 1 }
     ensures sum { IfOk result (λ m. m.sum ≡ made_sum (compiled_of program.now) voices frames) }
     ensures ran { IfOk result (λ m. RanWhole (compiled_of program.now).diagram (compiled_of program.now).controls [] (make_sizes frames)
-        m.ran.blocks m.ran.loops m.ran.loop_runs (G.told gate.old) (G.told gate.new)) }
+        m.ran (G.told gate.old) (G.told gate.new)) }
     ensures err { OnErr result (gate.new ≡ gate.old) }
 {
     let heard = noise(alloc, voices, frames)?;
@@ -143,17 +141,15 @@ fn sum_on_noise<R: Threads + Wait + Sync, G: Gate + Sync>(
         vector: VECTOR,
         workers: 1,
     };
-    let Rendered {
-        samples,
-        blocks,
-        loops,
-        loop_runs,
-    } = fv_render::render(rt, alloc, &source, &[], &sizes, &heard, gate)?;
-    let ran = Ran {
-        blocks,
-        loops,
-        loop_runs,
-    };
+    let Rendered { samples, ran } = fv_engine_render::render(
+        rt,
+        alloc,
+        &source,
+        &[],
+        &sizes,
+        &heard,
+        gate,
+    )?;
     Ok(Made {
         sum: sum_of(&samples),
         ran,

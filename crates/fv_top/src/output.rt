@@ -3,7 +3,7 @@
 ghost use Rattle.std.specs.Prelude.{◌≡◌, ◌+◌, ◌*◌, ◌/◌, ◌≤◌, length, IsTrue, IsOk, OnOk, OnErr};
 ghost use Rattle.fv_base.specs.declared.role.Role.TheVariants.{Output};
 ghost use Rattle.fv_outside.specs.Desk.{HasFault, KeepsFaults, IsUnfailing, Appends};
-ghost use Rattle.fv_top.specs.Parts.{AppendsPart};
+ghost use Rattle.fv_top_report.specs.Parts.{AppendsPart};
 ghost use Rattle.fv_top.specs.Promise.{HasBegun};
 ghost use Rattle.fv_top.specs.Running.{Delivers, CannotWrite, LeavesPart, file_in};
 ghost use Rattle.fv_top.specs.Prepared.{CanWrite, ready_of};
@@ -21,7 +21,7 @@ pub fn write_output<D: Desk>(
     bytes: &mut [u8],
 ) -> Result<(), WriteRefusal>
     requires writes { CanWrite prepared.now }
-    requires room { length prepared.now.samples.items * (prepared.now.sound.bits / 8) ≤ length bytes.old }
+    requires room { length prepared.now.samples.items * (prepared.now.format.bits / 8) ≤ length bytes.old }
     ensures delivers { Delivers output.now (D.state desk.old) (D.state desk.new) }
     ensures begun { OnOk result (HasBegun (D.state desk.old) (D.state desk.new)) }
     ensures written { OnOk result (IsTrue (D.state desk.old).tells → (D.state desk.new).written Output ≡ file_in (ready_of prepared.now)) }
@@ -42,7 +42,7 @@ fn write_file<D: Desk>(
     bytes: &mut [u8],
 ) -> Result<(), WriteRefusal>
     requires writes { CanWrite prepared.now }
-    requires room { length prepared.now.samples.items * (prepared.now.sound.bits / 8) ≤ length bytes.old }
+    requires room { length prepared.now.samples.items * (prepared.now.format.bits / 8) ≤ length bytes.old }
     ensures ok { OnOk result (Appends Output (file_in (ready_of prepared.now)) (D.state desk.old) (D.state desk.new)) }
     ensures err { OnErr result (AppendsPart Output (file_in (ready_of prepared.now)) (D.state desk.old) (D.state desk.new)) }
     ensures failed { OnErr result (HasFault Output (D.state desk.old) (D.state desk.new)) }
@@ -50,13 +50,19 @@ fn write_file<D: Desk>(
     ensures answers { IsTrue (D.state desk.old).tells → IsUnfailing Output (D.state desk.old) →
         length ((D.state desk.old).written Output) + length (file_in (ready_of prepared.now)) ≤ (D.state desk.old).room Output → IsOk result }
 {
-    let sound = prepared.sound;
-    write_head(desk, prepared.channels, sound.rate, sound.bits, sound.size)?;
-    write_frames(desk, sound.bits, &prepared.samples, bytes)?;
+    let format = prepared.format;
+    write_head(
+        desk,
+        prepared.channels,
+        format.rate,
+        format.bits,
+        format.size,
+    )?;
+    write_frames(desk, format.bits, &prepared.samples, bytes)?;
     match prepared.cut {
         Some(_) => return Ok(()),
         None => {}
     }
-    write_pad(desk, sound.size)?;
+    write_pad(desk, format.size)?;
     Ok(())
 }

@@ -9,31 +9,33 @@ ghost use Rattle.fv_diagram.specs.Diagram.{inputs, outputs};
 ghost use Rattle.fv_control.specs.Laws.{NeverFall, IsOfControls};
 ghost use Rattle.fv_interval.specs.Delays.{AreAccepted};
 ghost use Rattle.fv_wav.specs.Samples.{data_size, data_limit, whole_bytes};
-ghost use Rattle.fv_render.specs.Render.{RanWhole};
-ghost use Rattle.fv_words.specs.Runs.{AreSound};
-ghost use Rattle.fv_words.specs.Views.{run_in as run_view, settings_in};
+ghost use Rattle.fv_engine_render.specs.Render.{RanWhole};
+ghost use Rattle.fv_top_words.specs.Runs.{AreSound};
+ghost use Rattle.fv_top_words.specs.Views.{run_in as run_view, settings_in};
 ghost use Rattle.fv_top.specs.Sources.{frames_of};
-ghost use Rattle.fv_top.specs.Program.{delays_in};
+ghost use Rattle.fv_top_text.specs.Program.{delays_in};
 ghost use Rattle.fv_top.specs.Played.{sizes_of};
-ghost use Rattle.fv_top.specs.Sound.{channels_in};
-ghost use Rattle.fv_top.specs.Playable.{compiled_of, CanPlay, sound_in};
+ghost use Rattle.fv_top.specs.Output.{channels_in};
+ghost use Rattle.fv_top_text.specs.Compiled.{compiled_of, CanPlay};
+ghost use Rattle.fv_top.specs.Formats.{format_in};
 ghost use Rattle.fv_top.specs.Loading.{IsPlaced};
 ghost use Rattle.fv_top.specs.Running.{Reaches, StopsBefore, IsReady, asked_before};
 ghost use Rattle.fv_top.specs.Prepared.{ready_of, CanWrite, made_of, cut_at, IsRan};
 
+use crate::format::{OutputFormat, fit};
+use crate::frames::count_frames;
 use crate::input::{load_head, load_samples};
 use crate::program::load_program;
-use crate::refusal::Refusal;
+use crate::samples::output_samples;
 use crate::script::load_script;
-use crate::sound::{Sound, count_frames, fit, render};
-use crate::status::Ran;
 use fv_control::Change;
+use fv_engine_render::{Ran, Rendered};
 use fv_eval::Program;
 use fv_interval::Delays;
 use fv_outside::{Desk, Gate};
-use fv_render::Rendered;
+use fv_top_report::Refusal;
+use fv_top_words::{Run, Settings};
 use fv_wav::Head;
-use fv_words::{Run, Settings};
 use std::alloc::{AllocError, Global};
 use std::sync::Wait;
 use std::thread::Threads;
@@ -43,7 +45,7 @@ use std::thread::Threads;
 pub struct Prepared {
     /// How many samples a frame has.
     pub channels: u32,
-    pub sound: Sound,
+    pub format: OutputFormat,
     /// The samples, one frame after another.
     pub samples: Vec<i32>,
     /// The length of the input, where it ends within its whole frames.
@@ -63,7 +65,7 @@ pub fn prepare<R: Threads + Wait + Sync, D: Desk, G: Gate + Sync>(
     ensures reaches { OnOk result (Reaches (asked_before (run_view run.now)) (D.state desk.old) (D.state desk.new)) }
     ensures steady { OnOk result (KeepsFaults (D.state desk.old) (D.state desk.new)) }
     ensures writes { IfOk result (λ p. CanWrite p.0) }
-    ensures room { IfOk result (λ p. length p.0.samples.items * (p.0.sound.bits / 8) ≤ length p.1.items) }
+    ensures room { IfOk result (λ p. length p.0.samples.items * (p.0.format.bits / 8) ≤ length p.1.items) }
     ensures ready { IfOk result (λ p. IsReady (run_view run.now) (D.state desk.old) (ready_of p.0)) }
     // The blocks that ran, of all frames where none is missing.
     ensures ran { IfOk result (λ p. IsRan (run_view run.now) (D.state desk.old) p.0 (G.told gate.old) (G.told gate.new)) }
@@ -73,16 +75,16 @@ pub fn prepare<R: Threads + Wait + Sync, D: Desk, G: Gate + Sync>(
     let (program, delays) = load_program(alloc, desk, run.program)?;
     let script = load_script(alloc, desk, run.controls, program.controls.as_slice())?;
     let head = load_head(desk, run.input)?;
-    let sound = fit(&program, head, &run.settings)?;
+    let format = fit(&program, head, &run.settings)?;
     let raw = load_samples(alloc, desk, head)?;
-    let prepared = make(
+    let prepared = compute_output(
         rt,
         alloc,
         &program,
         &delays,
         script.changes(),
         head,
-        sound,
+        format,
         &raw,
         &run.settings,
         gate,
@@ -91,14 +93,14 @@ pub fn prepare<R: Threads + Wait + Sync, D: Desk, G: Gate + Sync>(
 }
 
 // The output of a program on the bytes of an input's samples, and the bytes that its samples take.
-fn make<R: Threads + Wait + Sync, G: Gate + Sync>(
+fn compute_output<R: Threads + Wait + Sync, G: Gate + Sync>(
     rt: &R,
     alloc: Global,
     program: &Program,
     delays: &Delays,
     changes: &[Change],
     head: Option<Head>,
-    sound: Sound,
+    format: OutputFormat,
     raw: &[u8],
     settings: &Settings,
     gate: &mut G,
@@ -109,28 +111,23 @@ fn make<R: Threads + Wait + Sync, G: Gate + Sync>(
     requires channels { channels_in head ≡ inputs (compiled_of program.now).diagram }
     requires order { NeverFall 0 changes.now }
     requires lawful { AllByRecursion (IsOfControls (compiled_of program.now).controls) changes.now }
-    requires bits { is_sample_width sound.bits ≡ true }
-    requires size { (sound.size ≡ data_size (outputs (compiled_of program.now).diagram) sound.bits sound.frames) × (sound.size ≤ data_limit) }
+    requires bits { is_sample_width format.bits ≡ true }
+    requires size { (format.size ≡ data_size (outputs (compiled_of program.now).diagram) format.bits format.frames) × (format.size ≤ data_limit) }
     requires raw { ForSome head (λ h. length raw.now ≤ whole_bytes h) }
     requires sizes { AreSound (settings_in settings.now) }
     ensures writes { IfOk result (λ p. CanWrite p.0) }
-    ensures room { IfOk result (λ p. length p.0.samples.items * (p.0.sound.bits / 8) ≤ length p.1.items) }
-    ensures made { IfOk result (λ p. ready_of p.0 ≡ made_of (compiled_of program.now) changes.now head (sound_in sound) raw.now) }
+    ensures room { IfOk result (λ p. length p.0.samples.items * (p.0.format.bits / 8) ≤ length p.1.items) }
+    ensures made { IfOk result (λ p. ready_of p.0 ≡ made_of (compiled_of program.now) changes.now head (format_in format) raw.now) }
     ensures ran { IfOk result (λ p. RanWhole (compiled_of program.now).diagram (compiled_of program.now).controls changes.now
-        (sizes_of (settings_in settings.now) (length (frames_of sound.frames head raw.now)))
-        p.0.ran.blocks p.0.ran.loops p.0.ran.loop_runs (G.told gate.old) (G.told gate.new)) }
-    ensures whole { IfOk result (λ p. p.0.cut ≡ None → length (frames_of sound.frames head raw.now) ≡ p.0.sound.frames) }
+        (sizes_of (settings_in settings.now) (length (frames_of format.frames head raw.now)))
+        p.0.ran (G.told gate.old) (G.told gate.new)) }
+    ensures whole { IfOk result (λ p. p.0.cut ≡ None → length (frames_of format.frames head raw.now) ≡ p.0.format.frames) }
     ensures err { OnErr result (gate.new ≡ gate.old) }
 {
     let channels = program.diagrams.arity(program.root).outputs;
-    let frames = count_frames(head, raw, sound.frames);
-    let bytes = room_for(alloc, frames, channels, sound.bits)?;
-    let Rendered {
-        samples,
-        blocks,
-        loops,
-        loop_runs,
-    } = render(
+    let frames = count_frames(head, raw, format.frames);
+    let bytes = room_for(alloc, frames, channels, format.bits)?;
+    let Rendered { samples, ran } = output_samples(
         rt,
         alloc,
         program,
@@ -138,20 +135,16 @@ fn make<R: Threads + Wait + Sync, G: Gate + Sync>(
         changes,
         head,
         raw,
-        sound.frames,
+        format.frames,
         settings,
         gate,
     )?;
     let prepared = Prepared {
         channels,
-        sound,
+        format,
         samples,
-        cut: cut_at(head, raw, sound.frames),
-        ran: Ran {
-            blocks,
-            loops,
-            loop_runs,
-        },
+        cut: cut_at(head, raw, format.frames),
+        ran,
     };
     Ok((prepared, bytes))
 }

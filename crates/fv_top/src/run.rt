@@ -2,24 +2,22 @@
 
 ghost use Rattle.std.specs.Prelude.{map, string_bytes, IfOk, IfErr, OnErr};
 ghost use Rattle.fv_outside.specs.Desk.{GoesOn};
-ghost use Rattle.fv_words.specs.Commands.{Playing};
-ghost use Rattle.fv_words.specs.Runs.{AreSound};
-ghost use Rattle.fv_words.specs.Views.{run_in as run_view};
+ghost use Rattle.fv_top_words.specs.Commands.{Playing};
+ghost use Rattle.fv_top_words.specs.Runs.{AreSound};
+ghost use Rattle.fv_top_words.specs.Views.{run_in as run_view};
 ghost use Rattle.fv_top.specs.Promise.{OfWords, IfDone, IfRefused, HasDone, IsRefusedFor, LeavesOutput, KeepsOthers, Reports, HandsOn, IsComplete, IsStrict};
 ghost use Rattle.fv_top.specs.Promise.{IsExact};
 ghost use Rattle.fv_top.specs.Played.{HasBlocks, HasBlocksSoFar};
 ghost use Rattle.fv_top.specs.Running.{EndsDone, Stopped, ReportsLine};
 
 use crate::check::check;
-use crate::make::make;
+use crate::make::run_make;
 use crate::output::write_output;
 use crate::prepare::prepare;
-use crate::refusal::Refusal;
-use crate::report::{report_done, report_refusal};
-use crate::status::{Status, Tally};
-use crate::text::one_program;
 use fv_outside::{Desk, Gate, Role};
-use fv_words::{Job, Run, job_in};
+use fv_top_report::{Refusal, Status, Tally, report_done, report_refusal};
+use fv_top_text::one_program;
+use fv_top_words::{Job, Run, job_in};
 use std::alloc::Global;
 use std::sync::Wait;
 use std::thread::Threads;
@@ -46,7 +44,7 @@ fn perform<R: Threads + Wait + Sync, D: Desk, G: Gate + Sync>(
 {
     let job = job_in(words)?;
     match job {
-        Job::Run(run) => play(rt, alloc, run, desk, gate),
+        Job::Run(run) => play_run(rt, alloc, run, desk, gate),
         Job::Check { program } => {
             check(alloc, desk, program)?;
             Ok(Tally {
@@ -57,7 +55,7 @@ fn perform<R: Threads + Wait + Sync, D: Desk, G: Gate + Sync>(
             })
         }
         Job::Make { voices, frames } => {
-            let ran = make(rt, alloc, desk, voices, frames, gate)?;
+            let ran = run_make(rt, alloc, desk, voices, frames, gate)?;
             Ok(Tally {
                 frames,
                 blocks: ran.blocks,
@@ -69,7 +67,7 @@ fn perform<R: Threads + Wait + Sync, D: Desk, G: Gate + Sync>(
 }
 
 // Plays a program: its output is written as far as its input goes, and reported where that is all of it.
-fn play<R: Threads + Wait + Sync, D: Desk, G: Gate + Sync>(
+fn play_run<R: Threads + Wait + Sync, D: Desk, G: Gate + Sync>(
     rt: &R,
     alloc: Global,
     run: Run<'_>,
@@ -95,7 +93,7 @@ fn play<R: Threads + Wait + Sync, D: Desk, G: Gate + Sync>(
         Some(place) => return Err(Refusal::WaveTruncated { place }),
         None => {}
     }
-    let frames = prepared.sound.frames;
+    let frames = prepared.format.frames;
     match report_done(desk, frames) {
         Ok(()) => Ok(Tally {
             frames,

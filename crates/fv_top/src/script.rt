@@ -5,19 +5,20 @@ ghost use Rattle.std.specs.List.{AllByRecursion};
 ghost use Rattle.fv_base.specs.declared.role.Role.TheVariants.{Controls};
 ghost use Rattle.fv_outside.specs.Desk.{KeepsFaults};
 ghost use Rattle.fv_control.specs.Laws.{NeverFall, IsOfControls};
-ghost use Rattle.fv_top.specs.declared.refusal.Refusal.TheVariants.{ReadFault};
+ghost use Rattle.fv_top_report.specs.declared.refusal.Refusal.TheVariants.{ReadFault};
 ghost use Rattle.fv_top.specs.Promise.{HasRefusal, ReadScript};
 ghost use Rattle.fv_top.specs.Loading.{ReadsFile, StopsLoading, HasScript};
 
-use crate::program::{read_front, read_refusal};
-use crate::refusal::Refusal;
+use crate::files::{read_front, read_refusal};
+use fv_base::limits::LONGEST_TEXT;
 use fv_control::{Script, scripts_are_lawful};
 use fv_diagram::ControlInfo;
 use fv_outside::{Desk, Role};
+use fv_top_report::Refusal;
 use std::alloc::Global;
 
 /// A script has at most 1,048,576 bytes, and one byte more shows that it is too long.
-const SCRIPT_BYTES: usize = 1048577;
+const SCRIPT_BYTES: usize = LONGEST_TEXT + 1;
 
 /// Loads the script of this name for these controls; without a name, one that changes nothing.
 #[tactic(auto, using(fv_outside::proofs::States::steps, crate::proofs::Loads::reading))]

@@ -2,8 +2,8 @@
 use Rattle.std.specs.Prelude.{ℕ, IsTrue, List}
 use Rattle.fv_base.specs.declared.role.Role.{Role}
 use Rattle.fv_outside.specs.Desk.{DeskState, IsUnfailing}
-use Rattle.fv_words.specs.Runs.{Run}
-use Rattle.fv_words.specs.Commands.{Playing}
+use Rattle.fv_top_words.specs.Runs.{Run}
+use Rattle.fv_top_words.specs.Commands.{Playing}
 use Rattle.fv_top.specs.Promise.{Asks, Plays, IsWhole, HasRoom}
 
 -- The words ask for a run whose files can be played; the desk tells its bytes, fails no later call, and has room for what

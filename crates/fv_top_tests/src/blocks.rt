@@ -3,12 +3,12 @@
 use crate::language::{BLOCKS_OF_FOUR, file_of};
 use crate::runs::{THREE, desk_of};
 use fv_outside::{Gate, Line, MemoryDesk, Reads, Recorder, Role};
-use fv_test_gates::Counter;
 use fv_top::{Status, Tally, run_faustvec};
 use std::alloc::{AllocError, Global};
 use std::sync::Wait;
 use std::test::Fail;
 use std::thread::Threads;
+use test_gates::Counter;
 
 // What a gate was told of a block.
 #[derive(Drop)]

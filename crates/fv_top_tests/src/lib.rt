@@ -1,4 +1,4 @@
-//! Tests of fv_top's public call, and a caller of it.
+//! Tests of fv_top's public call and of what is made for `make`, and a caller of the top call.
 #![tactic(auto)]
 
 mod sure;
@@ -11,6 +11,8 @@ mod blocks;
 mod files;
 #[cfg(test)]
 mod language;
+#[cfg(test)]
+mod made;
 #[cfg(test)]
 mod makes;
 #[cfg(test)]

@@ -2,6 +2,7 @@
 use Rattle.std.proofs.Common.{◌≡◌, ℕ, zero, suc, ◌+◌, ◌-◌, ◌≤◌, ◌<◌, ◌==◌, List, true, false, refl}
 use Rattle.std.proofs.lemmas.Bool.{le-leb, lt-leb}
 use Rattle.std.specs.Prelude.{Option, Ok, Err, bytes_eq}
+use Rattle.fv_base.specs.declared.limits.TheConstants.{MOST_CHANNELS}
 use Rattle.fv_num.specs.Words.{is_sample_width}
 use Rattle.fv_wav.specs.Reading.{◌>>=◌, Rest, past, number, tag_at, shape_at, sound_at, extension, fields, behind_body, format_chunk, other_chunk}
 use Rattle.fv_wav.specs.Reading.{walk, next, chunk_at, kind_of, is_channels, frame_size, extensible_tag, plain_samples, padded}
@@ -124,8 +125,8 @@ unfolding other_chunk
 other_is size n r r1 r2 r3 a m b e = rw (a, m, b, e) refl
 
 -- a number of channels that may be
-pub channels_within : (n : ℕ) → 1 ≤ n → n ≤ 256 → is_channels n ≡ true
-channels_within n h m = let a = le-leb 1 n h in let b = le-leb n 256 m in rw (a, b) refl
+pub channels_within : (n : ℕ) → 1 ≤ n → n ≤ MOST_CHANNELS → is_channels n ≡ true
+channels_within n h m = let a = le-leb 1 n h in let b = le-leb n MOST_CHANNELS m in rw (a, b) refl
 
 pub channels_few : (n : ℕ) → n < 1 → is_channels n ≡ false
 channels_few n h = let a = lt-leb 1 n h in rw a refl

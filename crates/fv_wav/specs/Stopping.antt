@@ -1,5 +1,6 @@
 -- How readers of a WAV file go on and stop.
 use Rattle.std.specs.Prelude.{◌≡◌, ℕ, ◌+◌, ◌^◌, ◌<◌, ◌≤◌, true, IsTrue, List, length, IfSome, Result, Ok}
+use Rattle.fv_base.specs.declared.limits.TheConstants.{MOST_CHANNELS}
 use Rattle.fv_outside.specs.Desk.{DeskState, HasFault, KeepsFaults, IsUnfailing}
 use Rattle.fv_base.specs.declared.role.Role.TheVariants.{Input}
 use Rattle.fv_num.specs.Words.{is_sample_width}
@@ -48,13 +49,13 @@ pub record Stops (says : Type 0) (old new : DeskState) (refusal : WaveRefusal) :
 -- the ranges of a format's fields
 pub record IsFormat (format : Format) : Type 0 where
   pub some : 1 ≤ format.channels
-  pub few : format.channels ≤ 256
+  pub few : format.channels ≤ MOST_CHANNELS
   pub bits : is_sample_width format.bits ≡ true
 
 -- the ranges of a head's fields
 pub record IsHead (head : Head) : Type 0 where
   pub some : 1 ≤ head.channels
-  pub few : head.channels ≤ 256
+  pub few : head.channels ≤ MOST_CHANNELS
   pub bits : is_sample_width head.bits ≡ true
   pub size : head.data_bytes < unknown_size
 

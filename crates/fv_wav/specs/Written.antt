@@ -1,5 +1,6 @@
 -- What is written is read again (RIFF WAVE 1991; this project's profile).
 use Rattle.std.specs.Prelude.{◌≡◌, ℕ, ◌+◌, ◌*◌, ◌/◌, ◌^◌, ◌<◌, ◌≤◌, true, List, ◌++◌, length, get_or, flat_map, Ok, ℤ, pos}
+use Rattle.fv_base.specs.declared.limits.TheConstants.{MOST_CHANNELS}
 use Rattle.fv_num.specs.Words.{is_sample_width, clamped}
 use Rattle.fv_num.specs.Frames.{table}
 use Rattle.fv_wav.specs.declared.head.Head.{Head}
@@ -18,7 +19,7 @@ head_of channels rate bits frames = record { channels = channels; rate = rate; b
 -- a file that can be written: its fields are in their ranges, its frames are whole, and a head can state them
 pub record CanBeWritten (channels rate bits frames : ℕ) (samples : List ℤ) : Type 0 where
   pub some : 1 ≤ channels
-  pub few : channels ≤ 256
+  pub few : channels ≤ MOST_CHANNELS
   pub rated : rate < 2 ^ 32
   pub bits_are : is_sample_width bits ≡ true
   pub whole : length samples ≡ frames * channels

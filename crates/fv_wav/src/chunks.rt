@@ -1,6 +1,7 @@
 // The chunks of a WAV file.
 
 ghost use Rattle.std.specs.Prelude.{◌≡◌, ℕ, ◌+◌, ◌^◌, ◌<◌, ◌≤◌, List, length, IsTrue, Ok, Err, Some, IfOk, IfErr, IfSome, OnOk};
+ghost use Rattle.fv_base.specs.declared.limits.TheConstants.{MOST_CHUNKS};
 ghost use Rattle.fv_base.specs.declared.role.Role.TheVariants.{Input};
 ghost use Rattle.fv_outside.specs.Desk.{Takes, KeepsFaults};
 ghost use Rattle.fv_wav.specs.declared.head.Kind.TheVariants as kind;
@@ -11,6 +12,7 @@ use crate::format::read_format;
 use crate::head::{Format, Head, Kind};
 use crate::input::{pass, read_u32, take_all};
 use crate::refusal::WaveRefusal;
+use fv_base::limits::MOST_CHUNKS;
 use fv_outside::Desk;
 
 /// Where the walk over the chunks stands: how many may still stand before `data`, the format if it was seen, and the place
@@ -28,9 +30,6 @@ pub enum Step {
     Data(Head),
     Chunk(Walk),
 }
-
-/// The most chunks before `data`.
-const MOST_CHUNKS: u32 = 4096;
 
 /// The size of `data` that says that its length was not known.
 const UNKNOWN: u32 = 4294967295;

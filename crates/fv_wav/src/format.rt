@@ -1,6 +1,7 @@
 // The `fmt ` chunk.
 
 ghost use Rattle.std.specs.Prelude.{◌≡◌, ℕ, ◌+◌, ◌^◌, ◌<◌, ◌≤◌, ◌==◌, Ok, Err, IfOk, IfErr, true, bytes_eq};
+ghost use Rattle.fv_base.specs.declared.limits.TheConstants.{MOST_CHANNELS};
 ghost use Rattle.fv_base.specs.declared.role.Role.TheVariants.{Input};
 ghost use Rattle.fv_num.specs.Words.{is_sample_width};
 ghost use Rattle.fv_wav.specs.Reading.{rest_of, tag_at, shape_at, sound_at, extension, fields, format_chunk, is_tag, is_channels};
@@ -10,6 +11,7 @@ ghost use Rattle.fv_wav.specs.Stopping.{Passes, Stops, IsFormat};
 use crate::head::Format;
 use crate::input::{pass, read_u16, read_u32, take_all};
 use crate::refusal::WaveRefusal;
+use fv_base::limits::MOST_CHANNELS;
 use fv_outside::Desk;
 
 /// The tag of plain samples.
@@ -70,7 +72,7 @@ fn read_sound<D: Desk>(desk: &mut D, place: u64) -> Result<Format, WaveRefusal>
 // The fields behind the rate: the bits of a sample.
 fn read_shape<D: Desk>(desk: &mut D, place: u64, channels: u16) -> Result<u16, WaveRefusal>
     requires place { place < 2 ^ 63 }
-    requires channels { channels ≤ 256 }
+    requires channels { channels ≤ MOST_CHANNELS }
     ensures ok { IfOk result (λ bits. Passes 8
         (shape_at channels (rest_of place ((D.state desk.old).left Input)) ≡ Ok (bits, rest_of (place + 8) ((D.state desk.new).left Input)))
         (D.state desk.old) (D.state desk.new)) }
@@ -94,7 +96,7 @@ fn read_shape<D: Desk>(desk: &mut D, place: u64, channels: u16) -> Result<u16, W
 fn is_channel_count(channels: u16) -> bool
     ensures { result ≡ is_channels channels }
 {
-    1 <= channels && channels <= 256
+    1 <= channels && u32::from(channels) <= MOST_CHANNELS
 }
 
 // Whether samples may have so many bits.

@@ -1,17 +1,18 @@
 // Reading frames.
 
-ghost use Rattle.std.specs.Prelude.{◌≡◌, ◌+◌, ◌-◌, ◌*◌, ◌/◌, ◌%◌, ◌^◌, ◌<◌, ◌≤◌, length, drop, true, IfErr, OnOk};
+ghost use Rattle.std.specs.Prelude.{◌≡◌, ◌+◌, ◌-◌, ◌*◌, ◌/◌, ◌%◌, ◌^◌, ◌<◌, ◌≤◌, length, true, IfErr, OnOk};
+ghost use Rattle.fv_base.specs.declared.limits.TheConstants.{MOST_CHANNELS};
 ghost use Rattle.fv_base.specs.declared.role.Role.TheVariants.{Input};
 ghost use Rattle.fv_num.specs.Words.{is_sample_width};
 ghost use Rattle.fv_wav.specs.declared.refusal.WaveRefusal.TheVariants.{WaveTruncated};
 ghost use Rattle.fv_wav.specs.Stopping.{Passes, Stops};
-ghost use Rattle.fv_wav.specs.Samples.{sample_of, samples_in, whole_bytes};
+ghost use Rattle.fv_wav.specs.Samples.{samples_in, whole_bytes};
 
 use crate::head::Head;
 use crate::input::take_all;
 use crate::refusal::WaveRefusal;
-use byteorder::{ByteOrder, LittleEndian};
 use fv_outside::Desk;
+use fv_pcm::Coding;
 
 /// Fills `to` with the next whole frames of the input, through `bytes`. A place is how many bytes of the file were taken.
 pub fn read_frames<D: Desk>(
@@ -22,7 +23,7 @@ pub fn read_frames<D: Desk>(
     to: &mut [i32],
 ) -> Result<(), WaveRefusal>
     requires some { 1 ≤ head.now.channels }
-    requires few { head.now.channels ≤ 256 }
+    requires few { head.now.channels ≤ MOST_CHANNELS }
     requires bits { is_sample_width head.now.bits ≡ true }
     requires low { head.now.place ≤ place }
     requires high { place < 2 ^ 63 }
@@ -66,22 +67,5 @@ pub fn decode(bits: u32, bytes: &[u8], to: &mut [i32])
     requires room { length bytes.now ≡ length to.old * (bits / 8) }
     ensures { to.new ≡ samples_in bits (length to.new) bytes.now }
 {
-    let size = (bits / 8) as usize;
-    for i in 0..to.len() {
-        to[i] = sample(bits, &bytes[i * size..]);
-    }
-}
-
-// The sample in the first bytes.
-fn sample(bits: u32, bytes: &[u8]) -> i32
-    requires bits { is_sample_width bits ≡ true }
-    requires room { bits / 8 ≤ length bytes.now }
-    ensures { result ≡ sample_of bits bytes.now }
-{
-    match bits {
-        8 => i32::from(bytes[0]) - 128,
-        16 => i32::from(LittleEndian::read_i16(bytes)),
-        24 => LittleEndian::read_i24(bytes),
-        _ => LittleEndian::read_i32(bytes),
-    }
+    fv_pcm::decode(Coding::Wave, bits, bytes, to);
 }

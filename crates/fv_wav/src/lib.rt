@@ -12,7 +12,8 @@ mod writing;
 
 pub use chunks::read_head;
 pub use frames::{decode, read_frames};
+pub use fv_pcm::data_length;
 pub use head::Head;
 pub use laws::{ends_at_its_length, one_outcome, samples_follow, written_is_read};
 pub use refusal::{WaveRefusal, WriteRefusal};
-pub use writing::{data_length, write_frames, write_head, write_pad};
+pub use writing::{write_frames, write_head, write_pad};

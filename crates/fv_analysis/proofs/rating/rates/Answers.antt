@@ -23,7 +23,8 @@ loop-place-preserved c =
     let all = c.loop-place.all.items in
     let pushed : c.push.new.self.items ≡ all ++ c.rate_of-rate.result ∷ [] = c.in_ok-push.ensures.items in
     let at : c.signal-signal.result ≡ node g place =
-    get_or_read g.signals place c.signal-signal.result (omega arith) (subst (λ n. c.signal-signal.result ≡ get_or g.signals n c.signal-signal.result) c.new.ensures c.signal-signal.ensures.node)
+    get_or_read g.signals place c.signal-signal.result (omega arith)
+    (subst (λ n. c.signal-signal.result ≡ get_or g.signals n c.signal-signal.result) c.new.ensures c.signal-signal.ensures.node)
     (Const (pos 0)) in
     pushed
     ∙ ap (λ x. all ++ x ∷ [])

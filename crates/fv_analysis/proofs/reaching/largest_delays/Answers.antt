@@ -11,7 +11,8 @@ returns-clause-histories c =
     ∙ ap (λ ss. listed c.deref-3.result.now c.deref-4.result.now ss) c.deref-2.ensures.value
     ∙ ap (λ ds. listed ds c.deref-4.result.now c.in_ok-stands.stands.items) c.deref-3.ensures.value
     ∙ ap (λ bs. listed c.tell_all.new.delays.items bs c.in_ok-stands.stands.items) c.deref-4.ensures.value
-    ∙ all_histories c.args.graph.now c.in_ok-stands.stands.items c.tell_all.new.delays.items c.tell_all.new.backs.items c.in_ok-stands.ensures.stands c.in_ok-stands.ensures.there c.tell_all.ensures
+    ∙ all_histories c.args.graph.now c.in_ok-stands.stands.items c.tell_all.new.delays.items c.tell_all.new.backs.items c.in_ok-stands.ensures.stands
+    c.in_ok-stands.ensures.there c.tell_all.ensures
 
 pub returns-clause-long : goal.returns-clause-long
 returns-clause-long c =

@@ -1,7 +1,7 @@
 use Rattle.std.proofs.Common.{◌≡◌, ◌∙◌, arith, List, [], ◌∷◌, length, false, pos, All, sym, subst}
 use Rattle.fv_num.specs.Words.{argument}
 use Rattle.fv_loopcode.specs.declared.step.Step.{Step}
-use Rattle.fv_loopcode.specs.Lanes.{Lane}
+use Rattle.fv_loopcode.specs.State.{State, lanes_alone}
 use Rattle.fv_loopcode.specs.Code.{IsWithin, MayRun, frame_of, registers_after}
 use Rattle.fv_engine.specs.OneLane.{lane_with}
 use Rattle.fv_engine.proofs.Names.{names_within}
@@ -14,13 +14,13 @@ run-requires-clause-within c =
 
 pub run-requires-clause-may : goal.run-requires-clause-may
 run-requires-clause-may c =
-    let held = argument c.args.controls.now in let frame = frame_of [] 0 in let lanes : List Lane = lane_with false (pos 0) ∷ [] in
-    subst (λ (steps : List Step). MayRun steps held frame 0 1 lanes) (sym c.held.ensures)
-    (c.still_code_is_free.ensures c.args.plan.now.held held frame 0 1 lanes [] c.requires.code.still).0
+    let held = argument c.args.controls.now in let frame = frame_of [] 0 in let state : State = lanes_alone (lane_with false (pos 0) ∷ []) in
+    subst (λ (steps : List Step). MayRun steps held frame 0 1 state) (sym c.held.ensures)
+    (c.still_code_is_free.ensures c.args.plan.now.held held frame 0 1 state (lanes_alone []) c.requires.code.still).0
 
 pub returns : goal.returns
 returns c =
-    let held = argument c.args.controls.now in let frame = frame_of [] 0 in let lanes : List Lane = lane_with false (pos 0) ∷ [] in
-    let law = c.still_code_is_free.ensures c.args.plan.now.held held frame 0 1 lanes [] c.requires.code.still in
-    subst (λ (steps : List Step). c.run.new.regs ≡ registers_after steps held frame 0 1 lanes) c.held.ensures (c.run.ensures.regs (omega arith))
+    let held = argument c.args.controls.now in let frame = frame_of [] 0 in let state : State = lanes_alone (lane_with false (pos 0) ∷ []) in
+    let law = c.still_code_is_free.ensures c.args.plan.now.held held frame 0 1 state (lanes_alone []) c.requires.code.still in
+    subst (λ (steps : List Step). c.run.new.regs ≡ registers_after steps held frame 0 1 state) c.held.ensures (c.run.ensures.regs (omega arith))
     ∙ law.2

@@ -2,7 +2,7 @@ use Rattle.std.proofs.Common.{List, length, sym, ap, ◌∙◌, subst, arith}
 use Rattle.fv_outside.specs.Tasks.{task_count, reads_loop}
 use Rattle.fv_outside.specs.declared.tasks.Reads.{Reads}
 use Rattle.fv_graph.specs.Graph.{ArePairs, edges_of}
-use Rattle.fv_core.specs.Running.{Running}
+use Rattle.fv_graph_core.specs.Running.{Running}
 use Rattle.fv_loopcode.specs.declared.step.Step.{Step}
 use Rattle.fv_engine.proofs.Made.{are_pairs}
 use Rattle.fv_engine.proofs.make.machine_for.Goals as goal

@@ -1,12 +1,12 @@
 use Rattle.std.proofs.Common.{rules, ◌≡◌, ◌∙◌, ◌<◌, ℕ, List, length, ap, sym, subst, arith}
-use Rattle.fv_loopcode.specs.Lanes.{Lane}
+use Rattle.fv_loopcode.specs.State.{State, lanes_alone}
 use Rattle.fv_pool.specs.Lengths.{lengths_of}
 use Rattle.fv_lines.specs.Solo.{SoloRest, opening_lanes, lanes_of, lengths_in, rest_of}
 use Rattle.fv_lines.specs.declared.solo.Solo.{Solo}
-use Rattle.fv_turns.specs.Block.{Block, IsReal}
-use Rattle.fv_turns.specs.Jobs.{block_of}
-use Rattle.fv_turns.specs.Underway.{IsUnderway}
-use Rattle.fv_turns.proofs.Full.{IsDone, lane_full, can_read}
+use Rattle.fv_engine_tasks.specs.Block.{Block, IsReal}
+use Rattle.fv_engine_tasks.specs.Jobs.{block_of}
+use Rattle.fv_engine_tasks.specs.Underway.{IsUnderway}
+use Rattle.fv_engine_tasks.proofs.Full.{IsDone, lane_full, can_read}
 use Rattle.fv_engine.proofs.Runs.{LiesOver, opening_long, starts, are_full, holds_next, there_in}
 use Rattle.fv_engine.proofs.over.over.Given.{Over}
 use Rattle.fv_engine.proofs.over.over.Goals.{After-begin-solo, After-run_tasks}
@@ -17,14 +17,14 @@ module _ (g : Over) (c : After-begin-solo g) where
   abbrev b : Block
   b = block_of g.P.Codes.parts c.args.job.now
 
-  abbrev first : List Lane
-  first = opening_lanes (lengths_of c.args.layout.now) c.args.shapes.now c.args.states.now c.args.job.now.frames c.args.cells.now
+  abbrev first : State
+  first = lanes_alone (opening_lanes (lengths_of c.args.layout.now) c.args.shapes.now c.args.states.now c.args.job.now.frames c.args.cells.now)
 
-  underway : IsUnderway c.args.tasks.now.tasks b first c.args.core.now.now (lanes_of c.begin-solo.result) c.args.lines.now.items
+  underway : IsUnderway c.args.tasks.now.tasks b first c.args.core.now.now (lanes_alone (lanes_of c.begin-solo.result)) c.args.lines.now.items
   underway = starts (record {
     long = opening_long (lengths_of c.args.layout.now) c.args.shapes.now c.args.states.now c.args.job.now.frames c.args.cells.now ∙ c.requires.count;
     state = c.requires.opening;
-    lanes_are = c.begin-solo.ensures.lanes;
+    places_are = ap lanes_alone c.begin-solo.ensures.lanes;
     none = c.requires.lines;
   })
 
@@ -33,9 +33,9 @@ module _ (g : Over) (c : After-run_tasks g) where
   abbrev block : Block
   block = block_of g.P.Codes.parts c.args.job.now
 
-  done : {first : List Lane} → IsReal block first
-      → IsUnderway c.args.tasks.now.tasks block first c.args.core.now.now (lanes_of c.begin-solo.result) c.args.lines.now.items
-      → IsDone c.args.tasks.now.tasks block first (lanes_of c.run_tasks.new.store) c.run_tasks.new.lines.items
+  done : {first : State} → IsReal block first
+      → IsUnderway c.args.tasks.now.tasks block first c.args.core.now.now (lanes_alone (lanes_of c.begin-solo.result)) c.args.lines.now.items
+      → IsDone c.args.tasks.now.tasks block first (lanes_alone (lanes_of c.run_tasks.new.store)) c.run_tasks.new.lines.items
   done {first} real u = record { job = c.requires.job; real = real; ends = c.run_tasks.ensures.ends first real u }
 
 pub run_tasks-requires-clause-underway : goal.run_tasks-requires-clause-underway
@@ -63,7 +63,7 @@ returns-clause-ran g c =
     let states = sym (ap (λ (r : SoloRest). r.states) kept) in
     let cells = sym (ap (λ (r : SoloRest). r.cells) kept) in
     record {
-      lanes = lanes_of s;
+      now = lanes_alone (lanes_of s);
       ends = (done g d.After-run_tasks c.requires.real (underway g d.After-begin-solo)).ends;
       next = λ i l.
           let over : LiesOver s (lengths_of c.args.layout.now) c.args.shapes.now c.args.job.now.frames _ c.finish.new.self.1.1.1.0 _ = record {

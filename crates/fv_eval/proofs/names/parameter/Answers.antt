@@ -1,9 +1,9 @@
 use Rattle.std.proofs.Common.{◌<◌, length, None, ap, ◌∙◌, arith}
 use Rattle.std.specs.Prelude.{slice_get}
 use Rattle.std.proofs.lemmas.Option.{slice_get_past}
-use Rattle.fv_grammar.specs.Tree.{Tree, items}
-use Rattle.fv_tree.specs.Arena.{trees}
-use Rattle.fv_tree.specs.declared.node.TreeNode.TheVariants as nodes
+use Rattle.fv_parse_grammar.specs.Tree.{Tree, items}
+use Rattle.fv_parse_tree.specs.Arena.{trees}
+use Rattle.fv_parse_tree.specs.declared.node.TreeNode.TheVariants as nodes
 use Rattle.fv_parse.specs.Trees.{tree_in, start_in}
 use Rattle.fv_rules.specs.Shows.{parameters_in}
 use Rattle.fv_eval.specs.Frames.{ShowsName}

@@ -4,7 +4,7 @@ use Rattle.fv_parse.specs.Trees.{program_of}
 use Rattle.fv_diagram.specs.Arena.{Arena, tree_of}
 use Rattle.fv_diagram.specs.declared.control.ControlInfo.{ControlInfo}
 use Rattle.fv_rules.specs.declared.value.Value.TheVariants.{Diagram}
-use Rattle.fv_eval.proofs.Runs.{done, refused, run_ends, runs_first, whole}
+use Rattle.fv_eval.proofs.Runs.{done, done_flat, refused, run_ends, runs_first, whole}
 use Rattle.fv_eval.proofs.whole.evaluate.Goals as goal
 
 pub run-requires : goal.run-requires
@@ -12,8 +12,17 @@ run-requires c =
     let p = c.args.tree.now in
     runs_first p c.in_ok-text.text c.in_ok-machine.machine c.in_ok-machine.first (whole p.tokens (program_of p)) c.in_ok-text.ensures c.in_ok-machine.ensures
 
-pub finished-requires : goal.finished-requires
-finished-requires c =
+pub finished-requires-clause-flat : goal.finished-requires-clause-flat
+finished-requires-clause-flat c =
+    let p = c.args.tree.now in
+    let n = c.run.new.self in
+    let w = c.in_ok-machine in
+    let u = c.in-Ok.value in
+    done_flat p n u c.steps_mean.ensures.starts
+    (run_ends p c.in_ok-text.text w.machine n w.first c.run.result (Ok u) (whole p.tokens (program_of p)) c.in_ok-text.ensures c.in-Ok.is w.ensures c.run.ensures)
+
+pub finished-requires-clause-sound : goal.finished-requires-clause-sound
+finished-requires-clause-sound c =
     let p = c.args.tree.now in
     let n = c.run.new.self in
     let w = c.in_ok-machine in

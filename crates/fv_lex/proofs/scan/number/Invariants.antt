@@ -1,12 +1,13 @@
 use Rattle.std.proofs.Common.{◌≡◌, ◌≤◌, true, length}
 use Rattle.std.specs.List.{list_all}
 use Rattle.fv_lex.specs.Bytes.{is_digit}
-use Rattle.fv_lex.specs.Symbols.{value, value_from}
+use Rattle.fv_base.specs.Digits.{decimal_after}
+use Rattle.fv_lex.specs.Symbols.{value}
 use Rattle.fv_lex.specs.Pieces.{greatest_literal}
 use Rattle.fv_lex.proofs.scan.number.Given as goal
 
 abbrev pub invariant-loop-rest : goal.invariant-loop-rest
-invariant-loop-rest l = record { same : value_from l.n l.rest ≡ value l.digits; small : l.n ≤ greatest_literal; digits_left : list_all is_digit l.rest ≡ true }
+invariant-loop-rest l = record { same : decimal_after l.n l.rest ≡ value l.digits; small : l.n ≤ greatest_literal; digits_left : list_all is_digit l.rest ≡ true }
 
 abbrev pub decreases-loop-rest : goal.decreases-loop-rest
 decreases-loop-rest l = length l.rest

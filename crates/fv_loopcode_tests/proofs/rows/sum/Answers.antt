@@ -2,6 +2,7 @@ use Rattle.std.proofs.Common.{◌≡◌, ℕ, zero, suc, ◌+◌, ◌-◌, ◌�
 use Rattle.std.proofs.lemmas.List.{length_push, length-take-le}
 use Rattle.fv_num.specs.Words.{argument}
 use Rattle.fv_loopcode.specs.Lanes.{Lane, lane_of}
+use Rattle.fv_loopcode.specs.State.{lanes_alone}
 use Rattle.fv_loopcode.specs.Code.{MayPass, MayRun, passed, opening, ran, frame_of}
 use Rattle.fv_loopcode_tests.specs.Line.{lane_in, running_sum}
 use Rattle.fv_loopcode_tests.proofs.rows.sum.Goals as goal
@@ -15,11 +16,11 @@ record Holds (n : ℕ) (lane : Lane) : Type 0 where
 module _ (held : ℕ → ℤ) (inputs : ℕ → ℕ → ℤ) (first : Lane) (begins : Holds 0 first) where
   -- the lane after one sample more
   next : ℕ → Lane → Lane
-  next n lane = lane_of (passed held (inputs (0 + n)) (0 + n) (opening (lane ∷ [])) running_sum).lanes 0
+  next n lane = lane_of (passed held (inputs (0 + n)) (0 + n) (opening (lanes_alone (lane ∷ []))) running_sum).state.lanes 0
 
   record Sums (n : ℕ) : Type 0 where
     lane : Lane
-    is : ran running_sum held inputs 0 n (first ∷ []) ≡ lane ∷ []
+    is : ran running_sum held inputs 0 n (lanes_alone (first ∷ [])) ≡ lanes_alone (lane ∷ [])
     holds : Holds n lane
 
   sums : (n : ℕ) → n ≤ 3 → Sums n
@@ -29,15 +30,15 @@ module _ (held : ℕ → ℤ) (inputs : ℕ → ℕ → ℤ) (first : Lane) (beg
       let s = sums n (omega arith) in
       record {
         lane = next n s.lane;
-        is = ap (λ lanes. (passed held (inputs (0 + n)) (0 + n) (opening lanes) running_sum).lanes) s.is;
+        is = ap (λ state. (passed held (inputs (0 + n)) (0 + n) (opening state) running_sum).state) s.is;
         holds = record { history = s.holds.history; long = length_push s.lane.items _ ∙ (let h = s.holds.long in omega arith); room = let h = s.holds.room in omega arith };
       }
 
-  sums_may : MayRun running_sum held inputs 0 3 (first ∷ [])
+  sums_may : MayRun running_sum held inputs 0 3 (lanes_alone (first ∷ []))
   sums_may n l =
       let s = sums n (omega arith) in
       let h = s.holds in
-      subst (λ lanes. MayPass held (inputs (0 + n)) (0 + n) (opening lanes) running_sum) (sym s.is)
+      subst (λ state. MayPass held (inputs (0 + n)) (0 + n) (opening state) running_sum) (sym s.is)
       (tt, (tt, ((omega arith, record { not_before = omega (arith, h.history); written = omega (arith, h.history, h.long) }), (tt, ((omega arith, omega (arith, h.room)), tt)))))
 
 pub run-requires-clause-may : goal.run-requires-clause-may
@@ -45,5 +46,5 @@ run-requires-clause-may c =
     let line = c.args.line.now in
     let q = c.requires in
     let first : Holds 0 (lane_in line) = record { history = q.history; long = length-take-le line.written line.cells.items (omega arith) ∙ (let e = q.written in omega arith); room = omega arith } in
-    subst (λ steps. MayRun steps (argument []) (frame_of c.args.input.now 1) 0 3 (lane_in line ∷ [])) (sym q.code)
+    subst (λ steps. MayRun steps (argument []) (frame_of c.args.input.now 1) 0 3 (lanes_alone (lane_in line ∷ []))) (sym q.code)
     (sums_may (argument []) (frame_of c.args.input.now 1) (lane_in line) first)

@@ -12,7 +12,8 @@ returns-in_err-at-clause-err g c =
     rw p.1 (
       take c.pieces.at c.args.bytes.now,
       record { rest = drop c.pieces.at c.args.bytes.now; is = sym (take-append-drop c.pieces.at c.args.bytes.now) },
-      subst (λ (w : List ℕ). Appends c.args.role w (g.D.Desk.state c.args.desk.now) (g.D.Desk.state c.write_part.new.desk)) (append-nil _) (appends_then c.pieces.invariant.written c.in_err-at.ensures.err),
+      subst (λ (w : List ℕ). Appends c.args.role w (g.D.Desk.state c.args.desk.now) (g.D.Desk.state c.write_part.new.desk)) (append-nil _)
+          (appends_then c.pieces.invariant.written c.in_err-at.ensures.err),
     )
 
 pub returns-in_err-at-clause-answers : goal.returns-in_err-at-clause-answers
@@ -21,7 +22,14 @@ returns-in_err-at-clause-answers g c = λ t safe room.
     let so_far = c.pieces.invariant.written in
     let longer = ap length (so_far.appended t) in
     let free = so_far.goes_on.room t c.args.role in
-    let within : length ((state c.pieces.desk).written c.args.role) < (state c.pieces.desk).room c.args.role = omega (arith, longer, free, length-append ((state c.args.desk.now).written c.args.role) (take c.pieces.at c.args.bytes.now), length-take c.pieces.at c.args.bytes.now) in
+    let within : length ((state c.pieces.desk).written c.args.role) < (state c.pieces.desk).room c.args.role = omega (
+      arith,
+      longer,
+      free,
+      length-append ((state c.args.desk.now).written c.args.role)
+          (take c.pieces.at c.args.bytes.now),
+      length-take c.pieces.at c.args.bytes.now,
+    ) in
     let answered = c.in_err-at.ensures.answers (told_before so_far.goes_on t) (answers_next c.args.role so_far.goes_on t safe) within in
     absurd cc
 
@@ -31,7 +39,8 @@ pieces-preserved g c =
     record {
       within = omega (arith, c.in_ok-at.ensures.count.1);
       steady = λ r. c.in_ok-at.ensures.steady r ∙ c.pieces.invariant.steady r;
-      written = subst (λ (w : List ℕ). Appends c.args.role w (g.D.Desk.state c.args.desk.now) (g.D.Desk.state c.write_part.new.desk)) (sym joined) (appends_then c.pieces.invariant.written c.in_ok-at.ensures.ok);
+      written = subst (λ (w : List ℕ). Appends c.args.role w (g.D.Desk.state c.args.desk.now) (g.D.Desk.state c.write_part.new.desk)) (sym joined)
+          (appends_then c.pieces.invariant.written c.in_ok-at.ensures.ok);
     }
 
 pub returns-clause-ok : goal.returns-clause-ok

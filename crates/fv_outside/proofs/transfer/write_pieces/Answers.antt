@@ -9,7 +9,11 @@ returns-in_err-write_all-clause-err g c =
     let p = err_from_is_err_and c.from_residual.result c.from_residual.ensures.1 in
     let e = c.in_err-write_all.ensures.err in
     let before = joined (take c.loop-piece.piece-index c.args.pieces.now) in
-    rw p.1 (before ++ e.0, joined_part c.args.pieces.now c.loop-piece.piece-index _ e.0 c.loop-piece-test.true e.1, appends_then c.loop-piece.invariant.written e.2)
+    rw p.1 (
+      before ++ e.0,
+      joined_part c.args.pieces.now c.loop-piece.piece-index _ e.0 c.loop-piece-test.true e.1,
+      appends_then c.loop-piece.invariant.written e.2,
+    )
 
 pub returns-in_err-write_all-clause-answers : goal.returns-in_err-write_all-clause-answers
 returns-in_err-write_all-clause-answers g c = λ t safe room.

@@ -1,7 +1,7 @@
 use Rattle.std.proofs.Common.{◌<◌, Some}
 use Rattle.std.proofs.lemmas.List.Elements.{All-pop}
-use Rattle.fv_tree.specs.declared.node.TreeId.{TreeId}
-use Rattle.fv_tree.specs.Arena.{trees}
+use Rattle.fv_parse_tree.specs.declared.node.TreeId.{TreeId}
+use Rattle.fv_parse_tree.specs.Arena.{trees}
 use Rattle.fv_parse.specs.Trees.{size_of}
 use Rattle.fv_parse.proofs.Visiting.{visit, below_pushed}
 use Rattle.fv_parse.proofs.definitions.names_in.Goals as goal

@@ -1,6 +1,6 @@
 use Rattle.std.proofs.Common.{◌≡◌, ◌++◌}
 use Rattle.std.specs.List.{flat_map}
-use Rattle.fv_tree.specs.Arena.{trees}
+use Rattle.fv_parse_tree.specs.Arena.{trees}
 use Rattle.fv_parse.specs.Trees.{size_of, tree_in, AllBelow}
 use Rattle.fv_parse.specs.Definitions.{names_in}
 use Rattle.fv_parse.proofs.Visiting.{left, weight}

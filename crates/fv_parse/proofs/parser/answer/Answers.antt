@@ -1,6 +1,6 @@
 use Rattle.std.proofs.Common.{◌∙◌, ap, sym, inr}
 use Rattle.fv_lex.specs.Token.{symbols_of}
-use Rattle.fv_grammar.specs.Descent.{program}
+use Rattle.fv_parse_grammar.specs.Descent.{program}
 use Rattle.fv_parse.specs.Outcomes.{unsupported, syntax_error}
 use Rattle.fv_parse.proofs.Lexing.{tokens_nest}
 use Rattle.fv_parse.proofs.Endings.{tree_answer, refusal_answer, no_tree}

@@ -1,5 +1,5 @@
 use Rattle.std.proofs.Common.{◌∙◌, ap, arith}
-use Rattle.fv_tree.specs.Arena.{trees}
+use Rattle.fv_parse_tree.specs.Arena.{trees}
 use Rattle.fv_parse.specs.Trees.{tree_in}
 use Rattle.fv_parse.specs.StaticErrors.{error_of}
 use Rattle.fv_parse.proofs.Errors.{among_on}

@@ -1,6 +1,6 @@
 use Rattle.std.proofs.Common.{◌≡◌, ◌≤◌, length, drop}
-use Rattle.fv_grammar.specs.Tree.{End}
-use Rattle.fv_tree.specs.Arena.{trees, forest}
+use Rattle.fv_parse_grammar.specs.Tree.{End}
+use Rattle.fv_parse_tree.specs.Arena.{trees, forest}
 use Rattle.fv_parse.specs.StaticErrors.{error_of}
 use Rattle.fv_parse.proofs.static_errors.error_among.Given as goal
 

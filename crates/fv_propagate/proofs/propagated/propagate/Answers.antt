@@ -3,7 +3,7 @@ use Rattle.fv_num.specs.Interval.{Interval}
 use Rattle.fv_num.specs.SpanLaws.{AreSpans}
 use Rattle.fv_signal.specs.Value.{Graph, IsGraph}
 use Rattle.fv_share.specs.Drafts.{AreClosed, graph_of}
-use Rattle.fv_diagram.specs.Diagram.{inputs, control_bound}
+use Rattle.fv_diagram.specs.Diagram.{inputs}
 use Rattle.fv_diagram.specs.Arena.{tree_of}
 use Rattle.fv_interval.specs.Delays.{delays_of, AreAccepted}
 use Rattle.fv_propagate.specs.Progress.{Progress, IsThere}
@@ -13,17 +13,20 @@ use Rattle.fv_propagate.proofs.propagated.propagate.Goals as goal
 
 pub walk-requires-clause-width : goal.walk-requires-clause-width
 walk-requires-clause-width c =
-    (inputs_there c.args.delays.now c.in_ok-ins.ins.items c.from-count.result c.in_ok-progress.progress c.inputs.new.self c.in_ok-progress.ensures c.in_ok-ins.ensures).0
+    (inputs_there c.args.delays.now c.in_ok-ins.ins.items c.from-count.result c.in_ok-progress.progress c.inputs.new.self c.in_ok-progress.ensures
+    c.in_ok-ins.ensures).0
     ∙ c.from-count.ensures ∙ c.arity.ensures.arity.0
 
 pub walk-requires-clause-wires : goal.walk-requires-clause-wires
 walk-requires-clause-wires c =
-    (inputs_there c.args.delays.now c.in_ok-ins.ins.items c.from-count.result c.in_ok-progress.progress c.inputs.new.self c.in_ok-progress.ensures c.in_ok-ins.ensures).1
+    (inputs_there c.args.delays.now c.in_ok-ins.ins.items c.from-count.result c.in_ok-progress.progress c.inputs.new.self c.in_ok-progress.ensures
+    c.in_ok-ins.ensures).1
 
 pub walk-requires-clause-free : goal.walk-requires-clause-free
 walk-requires-clause-free c =
     subst (IsThere c.inputs.new.self) (sym c.new-2.ensures)
-    (inputs_there c.args.delays.now c.in_ok-ins.ins.items c.from-count.result c.in_ok-progress.progress c.inputs.new.self c.in_ok-progress.ensures c.in_ok-ins.ensures).2
+    (inputs_there c.args.delays.now c.in_ok-ins.ins.items c.from-count.result c.in_ok-progress.progress c.inputs.new.self c.in_ok-progress.ensures
+    c.in_ok-ins.ensures).2
 
 pub finish-requires-clause-closed : goal.finish-requires-clause-closed
 finish-requires-clause-closed c =
@@ -95,4 +98,4 @@ returns-clause-names c =
     let same : graph_of c.walk.new.signals.draft c.deref.result.now ≡ graph d ds c.requires.well c.requires.closed c.arity.ensures.numbers =
     ap (graph_of c.walk.new.signals.draft) c.deref.ensures.value ∙ ap (λ (r : List ℕ × Progress). graph_of r.1.draft r.0) is in
     let g : c.in_ok-graph.graph ≡ graph d ds c.requires.well c.requires.closed c.arity.ensures.numbers = c.in_ok-graph.ensures.graph ∙ same in
-    subst (NamesWithin (inputs d) (control_bound d)) (sym g) (names_within d ds c.requires.well c.requires.closed c.arity.ensures.numbers)
+    subst (NamesWithin d) (sym g) (names_within d ds c.requires.well c.requires.closed c.arity.ensures.numbers)

@@ -2,10 +2,10 @@ use Rattle.std.proofs.Common.{◌≡◌, [], ◌∷◌, ◌++◌, ap, ◌∙◌,
 use Rattle.std.specs.Option.{option_to_list}
 use Rattle.fv_outside.specs.Tasks.{times, bit}
 use Rattle.fv_graph.proofs.Counts.{total_append}
-use Rattle.fv_rule.specs.Wired.{graph_wires}
-use Rattle.fv_rule.specs.Rule.{done_by}
+use Rattle.fv_ready_rule.specs.Wired.{graph_wires}
+use Rattle.fv_ready_rule.specs.Rule.{done_by}
 use Rattle.fv_ready.specs.Closed.{AreSeats}
-use Rattle.fv_rule.proofs.Closing.{gives_back, whole_joins}
+use Rattle.fv_ready_rule.proofs.Closing.{gives_back, whole_joins}
 use Rattle.fv_graph.proofs.Graphs.{is_wires}
 use Rattle.fv_ready.proofs.Seated.{hand_mine}
 use Rattle.fv_ready.proofs.Emptying.{seats_front, told_snoc, having_snoc}

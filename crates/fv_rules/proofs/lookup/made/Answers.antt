@@ -1,6 +1,6 @@
 use Rattle.std.proofs.Common.{◌≡◌, ◌∙◌, false, sym, ap}
-use Rattle.fv_grammar.specs.Tree.{items}
-use Rattle.fv_tree.specs.Arena.{trees}
+use Rattle.fv_parse_grammar.specs.Tree.{items}
+use Rattle.fv_parse_tree.specs.Arena.{trees}
 use Rattle.fv_parse.specs.Trees.{tree_in, start_in}
 use Rattle.fv_rules.specs.declared.value.Meaning.TheVariants as meaning
 use Rattle.fv_rules.specs.Values.{Name, is_of}

@@ -1,16 +1,16 @@
 use Rattle.std.proofs.Common.{◌∙◌, ◌++◌, ◌∷◌, [], ap, sym, subst, pos, neg_ℤ, arith, rules, SFits, w32, to_z-of_z}
 use Rattle.std.specs.Prelude.{IfSome, option_map}
-use Rattle.fv_tree.specs.declared.node.TreeNode.TheVariants as nodes
+use Rattle.fv_parse_tree.specs.declared.node.TreeNode.TheVariants as nodes
 use Rattle.fv_rules.specs.Choosing.{are_parts, ArePartsOf}
 use Rattle.fv_num.specs.Words.{wrap}
 use Rattle.fv_diagram.specs.Arena.{tree_of as diagram_of}
 use Rattle.fv_rules.specs.Values.{Flat}
 use Rattle.fv_rules.specs.Numbers.{number_of}
 use Rattle.fv_rules.specs.Matching.{matched, is_number}
-use Rattle.fv_tree.specs.Arena.{trees}
+use Rattle.fv_parse_tree.specs.Arena.{trees}
 use Rattle.fv_parse.specs.Trees.{start_in, PartsBelow}
 use Rattle.fv_rules.proofs.RuleNodes.{node_is}
-use Rattle.fv_rules.proofs.Matched.{IsComposed, BothWait, MatchesNothing, name_leaves, number_answers, parts_leave, other_refuses, other_pattern}
+use Rattle.fv_rules.proofs.Matched.{IsPaired, BothWait, MatchesNothing, name_leaves, number_answers, parts_leave, other_refuses, other_pattern}
 use Rattle.fv_rules.proofs.matching.advance.Goals as goal
 
 pub returns-in_ok-bind-in-Named-clause-matched : goal.returns-in_ok-bind-in-Named-clause-matched
@@ -51,7 +51,7 @@ returns-in_ok-push-in-Some-2-clause-matched c =
     let b = c.in-Binary in
     let below : PartsBelow x.pattern (nodes.Binary b.operator b.p b.q) = subst (PartsBelow x.pattern) b.is c.node.ensures.parts in
     let inside = c.requires.pair.pattern in
-    let is : IsComposed p x b.operator b.p b.q = record { start = start_in p x.pattern; is = node_is p x.pattern c.node.ensures.tree b.is } in
+    let is : IsPaired p x b.operator b.p b.q = record { start = start_in p x.pattern; is = node_is p x.pattern c.node.ensures.tree b.is } in
     let wait : BothWait p a x b.operator b.p b.q c.in-Some.both c.args.pending.now.items c.push-in-Some.new.self.items = record {
       left = omega (arith, below.0, inside);
       right = omega (arith, below.1, inside);

@@ -1,11 +1,11 @@
 use Rattle.std.proofs.Common.{ℕ, ◌<◌, All, List}
 use Rattle.fv_diagram.specs.Arena.{Arena, count_of}
-use Rattle.fv_rules_tests.specs.Built.{AreWell}
+use Rattle.fv_rules_tests.specs.Built.{AreComposed}
 use Rattle.fv_rules_tests.proofs.built.built.Given as goal
 
 -- the diagrams that were put, and those that wait for a composition
 pub record Waits (a : Arena) (last : ℕ) (before : List ℕ) : Type 0 where
-  pub well : AreWell a
+  pub composed : AreComposed a
   pub there : last < count_of a
   pub waiting : All (λ i. i < count_of a) before
 

@@ -2,7 +2,7 @@ use Rattle.std.proofs.Common.{◌≡◌, [], ◌∷◌, ◌++◌, length, sym, a
 use Rattle.std.proofs.lemmas.List.{length_push, nil_from_length}
 use Rattle.std.specs.Vec.Iter.{into_iter_items}
 use Rattle.fv_loopcode.specs.Code.{AreSound}
-use Rattle.fv_emit.specs.Emitted.{code_in}
+use Rattle.fv_split_code.specs.Emitted.{code_in}
 use Rattle.fv_split.specs.Lists.{AreCoded}
 use Rattle.fv_split.proofs.ListLemmas.{coded_more, code_behind}
 use Rattle.fv_split.proofs.coding.all_code.Goals as goal

@@ -6,9 +6,9 @@ use Rattle.fv_loopcode.specs.Code.{AreSound, NamesLane}
 use Rattle.fv_analysis.specs.Stands.{stands_of}
 use Rattle.fv_analysis.specs.Reaching.{history_of}
 use Rattle.fv_analysis.proofs.StandLemmas.{stands_long}
-use Rattle.fv_plan.specs.Rows.{plan_with}
-use Rattle.fv_plan.specs.Plans.{PlanStands, PlanReads, PlanNames, IsPlanOf}
-use Rattle.fv_emit.specs.Emitted.{code_in}
+use Rattle.fv_split_plan.specs.Rows.{plan_with}
+use Rattle.fv_split_plan.specs.Plans.{PlanStands, PlanReads, PlanNames, IsPlanOf}
+use Rattle.fv_split_code.specs.Emitted.{code_in}
 use Rattle.fv_split.specs.Lists.{lane_of}
 use Rattle.fv_split.specs.Told.{told_all}
 use Rattle.fv_split.proofs.ListLemmas.{same_bases, same_kinds, same_infos}

@@ -1,7 +1,7 @@
 use Rattle.std.proofs.Common.{◌≡◌, ◌+◌, suc, ◌<◌, length, sym, ap, ◌∙◌, subst, arith, All}
 use Rattle.fv_loopcode.specs.Code.{NamesLane}
-use Rattle.fv_emit.specs.Emitted.{code_in}
-use Rattle.fv_emit.proofs.AddLemmas.{code_read}
+use Rattle.fv_split_code.specs.Emitted.{code_in}
+use Rattle.fv_split_code.proofs.AddLemmas.{code_read}
 use Rattle.fv_split.specs.Told.{view_of, told_steps, told_all}
 use Rattle.fv_split.proofs.TellLemmas.{length_all}
 use Rattle.fv_split.proofs.telling.reads.Goals as goal

@@ -4,11 +4,11 @@ use Rattle.std.proofs.lemmas.Result.{err_from_is_err_and}
 use Rattle.fv_diagram.specs.Arena.{tree_of}
 use Rattle.fv_diagram.specs.Diagram.{inputs, outputs, size}
 use Rattle.fv_eval.specs.Evaluated.{Evaluated}
-use Rattle.fv_top.specs.Lines.{check_line}
+use Rattle.fv_top_report.specs.Lines.{check_line}
 use Rattle.fv_top.specs.Meant.{check_meant}
 use Rattle.fv_top.specs.Promise.{HasNoProgram, HasRefusal, ReadProgram}
 use Rattle.fv_base.specs.declared.role.Role.TheVariants.{Program}
-use Rattle.fv_top.specs.Playable.{compiled_of}
+use Rattle.fv_top_text.specs.Compiled.{compiled_of}
 use Rattle.fv_top.proofs.Reaching.{FailsToLoad}
 use Rattle.fv_top.proofs.Checking.{check_stops, check_tells, check_done, numbers_same}
 use Rattle.fv_top.proofs.check.check.Given.{Over}

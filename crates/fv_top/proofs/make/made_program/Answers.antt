@@ -1,8 +1,8 @@
 use Rattle.std.proofs.Common.{◌≡◌, List, ℕ, inl, inr, ◌∙◌, subst}
 use Rattle.std.proofs.lemmas.Result.{err_from_is_err_and}
-use Rattle.fv_make.specs.Made.{text_of}
-use Rattle.fv_top.specs.Playable.{compiled_of}
-use Rattle.fv_top.specs.Program.{IsProgram}
+use Rattle.fv_top_make.specs.Made.{text_of}
+use Rattle.fv_top_text.specs.Compiled.{compiled_of}
+use Rattle.fv_top_text.specs.Program.{IsProgram}
 use Rattle.fv_top.proofs.Making.{not_program}
 use Rattle.fv_top.proofs.make.made_program.Goals as goal
 

@@ -1,6 +1,6 @@
 use Rattle.std.proofs.Common.{inl}
 use Rattle.std.proofs.lemmas.Result.{err_from_is_err_and}
-use Rattle.fv_top.specs.Playable.{compiled_of}
+use Rattle.fv_top_text.specs.Compiled.{compiled_of}
 use Rattle.fv_top.proofs.make.made_sum.Goals as goal
 
 pub returns-in_err-made-clause-none : goal.returns-in_err-made-clause-none

@@ -2,12 +2,12 @@ use Rattle.std.proofs.Common.{◌≡◌, List, [], length, pos, arith, sym, ◌�
 use Rattle.fv_diagram.specs.Arena.{tree_of}
 use Rattle.fv_diagram.specs.Diagram.{inputs}
 use Rattle.fv_diagram.specs.declared.control.ControlInfo.{ControlInfo}
-use Rattle.fv_make.specs.Made.{sum_of, noise_of}
+use Rattle.fv_top_make.specs.Made.{sum_of, noise_of}
 use Rattle.fv_eval.specs.Evaluated.{Evaluated}
-use Rattle.fv_render.specs.Render.{CanRender, RanWhole}
-use Rattle.fv_render.specs.Render.{initial_of}
+use Rattle.fv_engine_render.specs.Render.{CanRender, RanWhole}
+use Rattle.fv_engine_render.specs.Render.{initial_of}
 use Rattle.fv_top.specs.Meant.{made_sum}
-use Rattle.fv_top.specs.Playable.{compiled_of}
+use Rattle.fv_top_text.specs.Compiled.{compiled_of}
 use Rattle.fv_top.specs.Played.{make_sizes}
 use Rattle.fv_top.proofs.Making.{noise_long, answer_alike}
 use Rattle.fv_top.proofs.Ran.{can_render, makes_fit}
@@ -51,5 +51,5 @@ returns-clause-ran g c =
     let before = g.G.Gate.told c.args.gate.now in
     let after = g.G.Gate.told c.render.new.gate in
     let R : Evaluated → List ControlInfo → Type 0 =
-    λ p ks. RanWhole (tree_of p.diagrams p.root) ks [] (make_sizes c.args.frames) r.blocks r.loops r.loop_runs before after in
+    λ p ks. RanWhole (tree_of p.diagrams p.root) ks [] (make_sizes c.args.frames) r.ran before after in
     subst (λ (p : Evaluated). R p p.controls) c.program.view_is (subst (R q) c.as_slice.ensures c.in_ok-samples.ensures.ran)

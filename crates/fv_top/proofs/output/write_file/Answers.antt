@@ -5,9 +5,9 @@ use Rattle.fv_base.specs.declared.role.Role.TheVariants.{Output}
 use Rattle.fv_outside.specs.Desk.{Appends}
 use Rattle.fv_outside.proofs.States.{appends_nothing}
 use Rattle.fv_wav.specs.Samples.{pad_bytes, data_size}
-use Rattle.fv_top.specs.declared.refusal.Refusal.TheVariants.{WaveTruncated}
+use Rattle.fv_top_report.specs.declared.refusal.Refusal.TheVariants.{WaveTruncated}
 use Rattle.fv_top.specs.declared.prepare.Prepared.{Prepared}
-use Rattle.fv_top.specs.Parts.{AppendsPart}
+use Rattle.fv_top_report.specs.Parts.{AppendsPart}
 use Rattle.fv_top.specs.Prepared.{CanWrite}
 use Rattle.fv_top.specs.Running.{pad_of}
 use Rattle.fv_top.proofs.Filing.{Pieces, head_part, samples_part, pad_part, file_whole}
@@ -17,21 +17,21 @@ use Rattle.fv_top.proofs.output.write_file.Goals as goal
 abbrev pieces : (p : Prepared) → CanWrite p → (spelling : List ℤ) → spelling ≡ p.samples.items → Pieces
 pieces p can spelling spelled = record {
   channels = p.channels;
-  rate = p.sound.rate;
-  bits = p.sound.bits;
-  stated = p.sound.size;
-  size = data_size p.channels p.sound.bits p.sound.frames;
+  rate = p.format.rate;
+  bits = p.format.bits;
+  stated = p.format.size;
+  size = data_size p.channels p.format.bits p.format.frames;
   same = can.size;
   samples = p.samples.items;
   spelling = spelling;
   spelled = spelled;
-  pad = pad_of (option_map WaveTruncated p.cut) (data_size p.channels p.sound.bits p.sound.frames);
+  pad = pad_of (option_map WaveTruncated p.cut) (data_size p.channels p.format.bits p.format.frames);
 }
 
 -- a byte stands behind the samples where no frame is missing
 pad_is : (p : Prepared) → CanWrite p → p.cut ≡ None
-    → pad_of (option_map WaveTruncated p.cut) (data_size p.channels p.sound.bits p.sound.frames) ≡ pad_bytes p.sound.size
-pad_is p can whole = ap (λ k. pad_of (option_map WaveTruncated k) (data_size p.channels p.sound.bits p.sound.frames)) whole ∙ ap pad_bytes (sym can.size)
+    → pad_of (option_map WaveTruncated p.cut) (data_size p.channels p.format.bits p.format.frames) ≡ pad_bytes p.format.size
+pad_is p can whole = ap (λ k. pad_of (option_map WaveTruncated k) (data_size p.channels p.format.bits p.format.frames)) whole ∙ ap pad_bytes (sym can.size)
 
 pub returns-in_err-write_head-clause-err : goal.returns-in_err-write_head-clause-err
 returns-in_err-write_head-clause-err g c =
@@ -49,7 +49,7 @@ pub returns-in-Some-clause-ok : goal.returns-in-Some-clause-ok
 returns-in-Some-clause-ok g c =
     let p = c.args.prepared.now in
     let f = pieces p c.requires.writes c.deref.result.now c.deref.ensures.value in
-    let none : f.pad ≡ [] = ap (λ k. pad_of (option_map WaveTruncated k) (data_size p.channels p.sound.bits p.sound.frames)) c.in-Some.is in
+    let none : f.pad ≡ [] = ap (λ k. pad_of (option_map WaveTruncated k) (data_size p.channels p.format.bits p.format.frames)) c.in-Some.is in
     let d = g.D.Desk.state c.write_frames.new.desk in
     let nothing = subst (λ (xs : List ℕ). Appends Output xs d d) (sym none) (appends_nothing Output d) in
     file_whole f c.in_ok-write_head.ensures.ok c.in_ok-write_frames.ensures.ok nothing

@@ -7,14 +7,15 @@ use Rattle.fv_outside.specs.Desk.{KeepsFaults}
 use Rattle.fv_diagram.specs.declared.control.ControlInfo.{ControlInfo}
 use Rattle.fv_control.specs.declared.script.Change.{Change}
 use Rattle.fv_control.specs.Laws.{IsOfControls}
-use Rattle.fv_render.specs.Render.{RanWhole}
-use Rattle.fv_words.specs.Runs.{Run}
-use Rattle.fv_words.specs.Views.{run_in as run_view}
-use Rattle.fv_top.specs.declared.refusal.Refusal.{Refusal}
+use Rattle.fv_engine_render.specs.Render.{RanWhole}
+use Rattle.fv_top_words.specs.Runs.{Run}
+use Rattle.fv_top_words.specs.Views.{run_in as run_view}
+use Rattle.fv_top_report.specs.declared.refusal.Refusal.{Refusal}
 use Rattle.fv_top.specs.Loading.{StopsLoading, HasScript, HasInput}
 use Rattle.fv_eval.specs.Evaluated.{Evaluated}
 use Rattle.fv_top.specs.Sources.{frames_of}
-use Rattle.fv_top.specs.Playable.{compiled_of, sound_in}
+use Rattle.fv_top_text.specs.Compiled.{compiled_of}
+use Rattle.fv_top.specs.Formats.{format_in}
 use Rattle.fv_top.specs.Played.{sizes_of}
 use Rattle.fv_top.specs.Prepared.{ready_of, made_of}
 use Rattle.fv_top.specs.Promise.{HasRefusal, HasNoProgram, ReadProgram, ReadScript, ReadHead}
@@ -95,19 +96,19 @@ returns-in_err-head-clause-stops g c =
     let q = err_from_is_err_and c.from_residual-in_err-head.result c.from_residual-in_err-head.ensures.1 in
     rw (q.1, q.2) (stops_head (script_read g at.In_ok-script (program_read g at.In_ok-program)) fails)
 
-pub returns-in_err-sound-clause-stops : goal.returns-in_err-sound-clause-stops
-returns-in_err-sound-clause-stops g c =
-    let at = goal.at.returns-in_err-sound-clause-stops g c in
+pub returns-in_err-format-clause-stops : goal.returns-in_err-format-clause-stops
+returns-in_err-format-clause-stops g c =
+    let at = goal.at.returns-in_err-format-clause-stops g c in
     let w = head_read g at.In_ok-head (script_read g at.In_ok-script (program_read g at.In_ok-program)) in
-    let q = err_from_is_err_and c.from_residual-in_err-sound.result c.from_residual-in_err-sound.ensures.1 in
-    rw (q.1, q.2) (stops_fit w c.in_err-sound.field-0.0 (sym c.in_err-sound.ensures.sound))
+    let q = err_from_is_err_and c.from_residual-in_err-format.result c.from_residual-in_err-format.ensures.1 in
+    rw (q.1, q.2) (stops_fit w c.in_err-format.field-0.0 (sym c.in_err-format.ensures.format))
 
 pub returns-in_err-raw-clause-stops : goal.returns-in_err-raw-clause-stops
 returns-in_err-raw-clause-stops g c =
     let at = goal.at.returns-in_err-raw-clause-stops g c in
     let w = head_read g at.In_ok-head (script_read g at.In_ok-script (program_read g at.In_ok-program)) in
     let q = err_from_is_err_and c.from_residual-in_err-raw.result c.from_residual-in_err-raw.ensures.1 in
-    rw (q.1, q.2) (stops_samples w (sound_in c.in_ok-sound.sound) (sym c.in_ok-sound.ensures.sound) (g.D.Desk.state c.load_samples.new.desk)
+    rw (q.1, q.2) (stops_samples w (format_in c.in_ok-format.format) (sym c.in_ok-format.ensures.format) (g.D.Desk.state c.load_samples.new.desk)
     c.in_err-raw.field-0.0 (λ some. sym c.in_ok-head.ensures.named ∙ some) c.load_samples.ensures.takes c.in_err-raw.ensures.err
     (λ other. c.in_err-raw.ensures.steady (λ is. other cc)))
 
@@ -119,7 +120,7 @@ returns-in_err-prepared-clause-stops g c =
     let h = g.D.Desk.state c.load_samples.new.desk in
     let steady : KeepsFaults f h = c.in_ok-raw.ensures.steady (λ is. absurd cc) in
     let q = err_from_is_err_and c.from_residual-in_err-prepared.result c.from_residual-in_err-prepared.ensures.1 in
-    rw (q.1, q.2) (stops_memory w (sound_in c.in_ok-sound.sound) (sym c.in_ok-sound.ensures.sound) h c.load_samples.ensures.takes steady)
+    rw (q.1, q.2) (stops_memory w (format_in c.in_ok-format.format) (sym c.in_ok-format.ensures.format) h c.load_samples.ensures.takes steady)
 
 pub returns-in_err-prepared-clause-untold : goal.returns-in_err-prepared-clause-untold
 returns-in_err-prepared-clause-untold g c =
@@ -131,8 +132,8 @@ returns-in_err-prepared-clause-untold g c =
 pub fit-requires-clause-head : goal.fit-requires-clause-head
 fit-requires-clause-head g c = λ x e. (c.in_ok-head.ensures.ranges x e).0
 
-pub make-requires-clause-lawful : goal.make-requires-clause-lawful
-make-requires-clause-lawful g c = λ κs lives.
+pub compute_output-requires-clause-lawful : goal.compute_output-requires-clause-lawful
+compute_output-requires-clause-lawful g c = λ κs lives.
     let P : List ControlInfo → List Change → Type 0 = λ cs ks. AllByRecursion (IsOfControls cs) ks in
     let same = c.as_slice.ensures ∙ ap (λ (e : Evaluated). e.controls) c.program.view_is in
     let lawful = subst (λ (cs : List ControlInfo). P cs c.in_ok-script.script) same c.in_ok-script.ensures.lawful in
@@ -159,10 +160,10 @@ returns-clause-ready g c =
     let w = head_read g at.In_ok-head (script_read g at.In_ok-script (program_read g at.In_ok-program)) in
     let p = compiled_of c.in_ok-program.program in
     let head = c.in_ok-head.head in
-    let sound = sound_in c.in_ok-sound.sound in
-    let made = c.in_ok-prepared.ensures.made ∙ ap (λ (cs : List Change). made_of p cs head sound c.deref.result.now) c.changes.ensures
-    ∙ ap (λ (raw : List ℕ). made_of p c.in_ok-script.script head sound raw) c.deref.ensures.value in
-    ready_is w sound (sym c.in_ok-sound.ensures.sound) c.in_ok-head.ensures.ranges c.in_ok-raw.raw.items (ready_of c.in_ok-prepared.prepared.0)
+    let format = format_in c.in_ok-format.format in
+    let made = c.in_ok-prepared.ensures.made ∙ ap (λ (cs : List Change). made_of p cs head format c.deref.result.now) c.changes.ensures
+    ∙ ap (λ (raw : List ℕ). made_of p c.in_ok-script.script head format raw) c.deref.ensures.value in
+    ready_is w format (sym c.in_ok-format.ensures.format) c.in_ok-head.ensures.ranges c.in_ok-raw.raw.items (ready_of c.in_ok-prepared.prepared.0)
     c.in_ok-raw.ensures.raw made
 
 pub returns-clause-ran : goal.returns-clause-ran
@@ -171,13 +172,13 @@ returns-clause-ran g c =
     let w = head_read g at.In_ok-head (script_read g at.In_ok-script (program_read g at.In_ok-program)) in
     let p = compiled_of c.in_ok-program.program in
     let head = c.in_ok-head.head in
-    let sound = sound_in c.in_ok-sound.sound in
+    let format = format_in c.in_ok-format.format in
     let prepared = c.in_ok-prepared.prepared.0 in
-    let there : List ℕ → ℕ = λ raw. length (frames_of sound.frames head raw) in
+    let there : List ℕ → ℕ = λ raw. length (frames_of format.frames head raw) in
     let R : List Change → List ℕ → Type 0 = λ cs raw. RanWhole p.diagram p.controls cs (sizes_of (run_view c.args.run.now).settings (there raw))
-    prepared.ran.blocks prepared.ran.loops prepared.ran.loop_runs (g.G.Gate.told c.args.gate.now) (g.G.Gate.told c.make.new.gate) in
+    prepared.ran (g.G.Gate.told c.args.gate.now) (g.G.Gate.told c.compute_output.new.gate) in
     let played = subst (R c.changes.result.now) c.deref.ensures.value c.in_ok-prepared.ensures.ran in
     let ran = subst (λ (cs : List Change). R cs c.in_ok-raw.raw.items) c.changes.ensures played in
-    let x = ran_is w sound (sym c.in_ok-sound.ensures.sound) c.in_ok-raw.raw.items c.in_ok-raw.ensures.raw ran in
-    let Whole : List ℕ → Type 0 = λ raw. prepared.cut ≡ None → there raw ≡ prepared.sound.frames in
+    let x = ran_is w format (sym c.in_ok-format.ensures.format) c.in_ok-raw.raw.items c.in_ok-raw.ensures.raw ran in
+    let Whole : List ℕ → Type 0 = λ raw. prepared.cut ≡ None → there raw ≡ prepared.format.frames in
     (x.0, λ none. x.1 ∙ subst Whole c.deref.ensures.value c.in_ok-prepared.ensures.whole none)

@@ -1,9 +1,9 @@
 use Rattle.std.proofs.Common.{◌∙◌, Ok, map, sym, ap, refl, inl, inr, ⊎_elim}
 use Rattle.std.specs.Prelude.{string_bytes}
 use Rattle.std.proofs.lemmas.Result.{err_from_is_err_and, IfOk-weaker, IfErr-weaker, on_err_weaker}
-use Rattle.fv_words.specs.declared.command.Job.{Job as Jobs}
-use Rattle.fv_words.specs.Commands.{Playing, Checking, Making}
-use Rattle.fv_words.specs.Views.{run_in as run_view, job_view}
+use Rattle.fv_top_words.specs.declared.command.Job.{Job as Jobs}
+use Rattle.fv_top_words.specs.Commands.{Playing, Checking, Making}
+use Rattle.fv_top_words.specs.Views.{run_in as run_view, job_view}
 use Rattle.fv_top.specs.Promise.{Asks}
 use Rattle.fv_top.proofs.Stopping.{stopped_usage, stopped_check, checked, stopped_make, made}
 use Rattle.fv_top.proofs.Ran.{make_ran, make_so_far}
@@ -24,22 +24,22 @@ run_asked g c = sym c.in_ok-job.ensures.job ∙ ap (λ (j : Jobs). Ok (job_view 
 pub returns-in-Run-clause-done : goal.returns-in-Run-clause-done
 returns-in-Run-clause-done g c =
     let asks = run_asked g (goal.at.returns-in-Run-clause-done g c).In-Run in
-    IfOk-weaker c.play.result _ _ (λ tally h. h _ asks) c.play.ensures.done
+    IfOk-weaker c.play_run.result _ _ (λ tally h. h _ asks) c.play_run.ensures.done
 
 pub returns-in-Run-clause-blocks : goal.returns-in-Run-clause-blocks
 returns-in-Run-clause-blocks g c =
     let asks = run_asked g (goal.at.returns-in-Run-clause-blocks g c).In-Run in
-    IfOk-weaker c.play.result _ _ (λ tally h. h _ asks) c.play.ensures.blocks
+    IfOk-weaker c.play_run.result _ _ (λ tally h. h _ asks) c.play_run.ensures.blocks
 
 pub returns-in-Run-clause-stops : goal.returns-in-Run-clause-stops
 returns-in-Run-clause-stops g c =
     let asks = run_asked g (goal.at.returns-in-Run-clause-stops g c).In-Run in
-    IfErr-weaker c.play.result _ _ (λ refusal h. h _ asks) c.play.ensures.stops
+    IfErr-weaker c.play_run.result _ _ (λ refusal h. h _ asks) c.play_run.ensures.stops
 
 pub returns-in-Run-clause-so_far : goal.returns-in-Run-clause-so_far
 returns-in-Run-clause-so_far g c =
     let asks = run_asked g (goal.at.returns-in-Run-clause-so_far g c).In-Run in
-    on_err_weaker c.play.result (λ h. h _ asks) c.play.ensures.so_far
+    on_err_weaker c.play_run.result (λ h. h _ asks) c.play_run.ensures.so_far
 
 -- ---- a check
 

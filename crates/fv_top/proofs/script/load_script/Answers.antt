@@ -3,8 +3,9 @@ use Rattle.std.specs.Prelude.{Err, Ok, Some, None}
 use Rattle.std.proofs.lemmas.Result.{err_from_is_err_and}
 use Rattle.fv_base.specs.declared.role.Role.TheVariants.{Controls}
 use Rattle.fv_control.specs.Script.{script}
-use Rattle.fv_top.specs.declared.refusal.Refusal.{Refusal}
-use Rattle.fv_top.specs.Sources.{scripted, of_script}
+use Rattle.fv_top_report.specs.declared.refusal.Refusal.{Refusal}
+use Rattle.fv_top.specs.Sources.{scripted}
+use Rattle.fv_top_report.specs.Layers.{of_script}
 use Rattle.fv_top.specs.Loading.{HasScript}
 use Rattle.fv_top.specs.Promise.{HasRefusal, ReadScript}
 use Rattle.fv_top.proofs.Loads.{stops_refused}

@@ -2,7 +2,7 @@ use Rattle.std.proofs.Common.{◌≡◌, ℕ, List, Option, Some, None, refl, in
 use Rattle.std.specs.Prelude.{IsSome, option_map}
 use Rattle.fv_base.specs.declared.role.Role.TheVariants.{Program, Controls, Input, Output, Report}
 use Rattle.fv_outside.specs.Desk.{File, file_named}
-use Rattle.fv_words.specs.Commands.{Playing}
+use Rattle.fv_top_words.specs.Commands.{Playing}
 use Rattle.fv_top.specs.Sources.{found}
 use Rattle.fv_top.specs.Loading.{IsThere}
 use Rattle.fv_top.specs.Steps.{more, none}

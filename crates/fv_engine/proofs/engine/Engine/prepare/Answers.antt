@@ -1,7 +1,7 @@
 use Rattle.std.proofs.Common.{[], pos, ◌∙◌, subst}
 use Rattle.fv_signal.specs.Value.{value}
-use Rattle.fv_plan.specs.View.{PlanView}
-use Rattle.fv_plan.specs.Plans.{IsPlan}
+use Rattle.fv_split_plan.specs.View.{PlanView}
+use Rattle.fv_split_plan.specs.Plans.{IsPlan}
 use Rattle.fv_engine.proofs.engine.Engine.prepare.Goals as goal
 
 pub invariant_of-result : goal.invariant_of-result

@@ -7,12 +7,12 @@ use Rattle.fv_outside.specs.Journal.{BlockEntry, IsOrdered}
 use Rattle.fv_outside.specs.declared.gate.Line.{Line}
 use Rattle.fv_outside.specs.declared.tasks.Reads.{Reads}
 use Rattle.fv_graph.specs.Graph.{Graph, edges_of}
-use Rattle.fv_core.specs.Running.{Running}
+use Rattle.fv_graph_core.specs.Running.{Running}
 use Rattle.fv_pool.specs.Lengths.{lengths_of}
 use Rattle.fv_lines.specs.Solo.{AreHeld, AreLists}
 use Rattle.fv_lines.specs.declared.shape.LaneShape.{LaneShape}
 use Rattle.fv_lines.specs.declared.shape.LaneState.{LaneState}
-use Rattle.fv_turns.specs.Block.{vectors_of}
+use Rattle.fv_engine_tasks.specs.Block.{vectors_of}
 use Rattle.fv_engine.specs.Plans.{held_by, block_from}
 use Rattle.fv_engine.specs.Stands.{EngineView, GoesOn}
 use Rattle.fv_engine.specs.Stored.{view_of}

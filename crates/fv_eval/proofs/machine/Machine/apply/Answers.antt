@@ -1,14 +1,14 @@
 use Rattle.std.proofs.Common.{◌≤◌, ◌<◌, length, refl, subst, arith}
 use Rattle.std.specs.Prelude.{Option}
 use Rattle.fv_rules.specs.declared.value.Value as code_value
-use Rattle.fv_eval.proofs.Applying.{all_taken, applies_on, arguments_shown, function_shown, function_there, last_taken}
+use Rattle.fv_eval.proofs.Applying.{all_taken, applies_on, arguments_shown, function_shown, function_stays, last_taken}
 use Rattle.fv_eval.proofs.Parameters.{get_within}
 use Rattle.fv_eval.proofs.Taking.{Takes}
 use Rattle.fv_eval.proofs.machine.Machine.apply.Goals as goal
 
 pub take-requires : goal.take-requires
 take-requires c =
-    function_there c.args.text.now c.args.self.now c.applying.self c.args.function c.applying.function c.args.arguments.items c.args.next c.applying.at
+    function_stays c.args.text.now c.args.self.now c.applying.self c.args.function c.applying.function c.args.arguments.items c.args.next c.applying.at
     c.applying.invariant c.requires.function c.requires.arguments
 
 pub applying-preserved : goal.applying-preserved

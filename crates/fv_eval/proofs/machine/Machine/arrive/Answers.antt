@@ -1,5 +1,4 @@
 use Rattle.fv_eval.proofs.Arrived.{arrives_last, arrives_valued, arrives_drawn, first_valued, first_drawn, given_shown}
-use Rattle.fv_eval.proofs.There.{shown_there}
 use Rattle.fv_eval.proofs.machine.Machine.arrive.Goals as goal
 
 pub returns-in-None : goal.returns-in-None
@@ -29,4 +28,4 @@ turn-requires-clause-frame c =
     (rw c.in-Some-Drawn.field-0-is at c.in-Some-Drawn.ensures) c.requires
 
 pub turn-requires-clause-value : goal.turn-requires-clause-value
-turn-requires-clause-value c = shown_there _ c.args.value (given_shown c.args.text.now c.args.self.now c.args.value c.requires)
+turn-requires-clause-value c = given_shown c.args.text.now c.args.self.now c.args.value c.requires

@@ -1,9 +1,11 @@
 use Rattle.std.proofs.Common.{sym, subst}
 use Rattle.fv_parse.specs.Trees.{Parsed}
 use Rattle.fv_rules.specs.declared.value.Value as code_value
+use Rattle.fv_rules.specs.declared.value.Value.TheVariants as value
 use Rattle.fv_eval.specs.Frames.{Completes, IsShown, world}
 use Rattle.fv_eval.proofs.Completing.{abstraction_completes, diagram_completes, first_shown, rules_complete, rules_inside, rules_took}
 use Rattle.fv_eval.proofs.Parameters.{get_within}
+use Rattle.fv_eval.proofs.Taking.{bound_below, name_is_there}
 use Rattle.fv_eval.proofs.machine.Machine.complete.Goals as goal
 
 pub returns-in-Diagram : goal.returns-in-Diagram
@@ -60,3 +62,13 @@ returns-in_ok-choice-in-Rules c =
     subst (λ (v : code_value.Value). Completes p m c.select.new.self c.select.result a v us at) (sym f.is)
     (rules_complete p m c.choose.new.self c.select.new.self c.select.result f.ruled a f.env f.count f.last u us at o.choice
     (get_within us at u c.requires.at c.index-in-Rules.ensures) o.ensures.grew o.ensures.chosen c.select.ensures)
+
+pub unreachable-requires : goal.unreachable-requires
+unreachable-requires c =
+    let p = c.args.text.now in
+    let q = c.tree-tree.result.now in
+    let m = c.args.self.now in
+    let f = c.in-Abstraction in
+    let shown = subst (λ (u : code_value.Value). IsShown (world p m) u) f.is c.requires.function in
+    let lent = subst (λ (x : Parsed). IsShown (world x m) (value.Abstraction f.node f.bound f.env)) (sym c.tree-tree.ensures) shown in
+    name_is_there q f.node f.bound c.parameter.result (bound_below q m f.node f.bound f.env lent) c.parameter.ensures c.in_default.is

@@ -3,6 +3,7 @@ use lib.IntN.{nat_abs}
 use Rattle.fv_diagram.specs.Arena.{Arena, tree_of}
 use Rattle.fv_rules.specs.Numbers.{number_of}
 use Rattle.fv_eval.proofs.Iterated.{Counts, count_from}
+use Rattle.fv_eval.proofs.Forms.{is_no_other_iteration}
 use Rattle.fv_eval.proofs.machine.Machine.count.Goals as goal
 
 pub returns-else-n-lt1 : goal.returns-else-n-lt1
@@ -22,3 +23,7 @@ returns-else-n-lt1 c =
     subst (λ (x : Arena). Counts p (record m { drawing = x }) n r a c.args.env i) same
     (count_from p (record m { drawing = d }) n r a c.args.env i _ c.new-done.result.items z some low
     (λ k e. ap nat_abs (to_z-of_z fits ∙ e)) c.new-done.ensures.items c.next_body.ensures)
+
+pub unreachable-requires : goal.unreachable-requires
+unreachable-requires c =
+    is_no_other_iteration c.args.text.now c.tree-tree.result.now c.args.iteration c.node.result.now _ c.tree-tree.ensures c.node.ensures.tree c.requires.form c.in_default.not-Iteration

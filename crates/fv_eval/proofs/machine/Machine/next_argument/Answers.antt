@@ -1,13 +1,14 @@
 use Rattle.std.proofs.Common.{◌≡◌, ◌<◌, length, map, sym, ap, subst, ◌∙◌, arith}
 use Rattle.std.proofs.lemmas.Option.{slice_get_past}
-use Rattle.fv_tree.specs.Arena.{PartsBelow}
-use Rattle.fv_tree.specs.declared.node.TreeNode.{TreeNode}
+use Rattle.fv_parse_tree.specs.Arena.{PartsBelow}
+use Rattle.fv_parse_tree.specs.declared.node.TreeNode.{TreeNode}
 use Rattle.fv_parse.specs.Trees.{Parsed, node_tree, size_of, start_in, tree_in}
-use Rattle.fv_grammar.specs.Tree as tree
-use Rattle.fv_grammar.specs.Tree.{Tree, items}
+use Rattle.fv_parse_grammar.specs.Tree as tree
+use Rattle.fv_parse_grammar.specs.Tree.{Tree, items}
 use Rattle.fv_eval.proofs.Applying.{below_list, next_applies, next_waits}
 use Rattle.fv_eval.proofs.Arrived.{Argues}
 use Rattle.fv_eval.proofs.Parameters.{get_within}
+use Rattle.fv_eval.proofs.Forms.{is_no_other_application}
 use Rattle.fv_eval.proofs.machine.Machine.next_argument.Goals as goal
 
 pub returns-in-Some : goal.returns-in-Some
@@ -47,3 +48,7 @@ returns-in-None c =
     let node = subst (λ (x : Parsed). tree_in x a ≡ tree.Apply start g zs) c.tree-tree.ensures node0 in
     let all = subst (λ (x : Parsed). map (tree_in x) ids ≡ items zs) c.tree-tree.ensures c.items.ensures.items in
     next_applies p m c.apply.new.self c.apply.result a c.args.function c.args.env c.args.done.items start g zs ids node all got c.apply.ensures
+
+pub unreachable-requires : goal.unreachable-requires
+unreachable-requires c =
+    is_no_other_application c.args.text.now c.tree-tree.result.now c.args.application c.node.result.now _ c.tree-tree.ensures c.node.ensures.tree c.requires.form c.in_default.not-Apply

@@ -1,14 +1,15 @@
-use Rattle.std.proofs.Common.{◌≡◌, ◌<◌, ◌-◌, ℕ, suc, Result, ℤ, pos, length, arith, rules, refl, sym, ap, subst, ◌∙◌, SFits, w32, to_z-of_z}
-use Rattle.std.proofs.lemmas.Int.{ints}
+use Rattle.std.proofs.Common.{◌≡◌, ◌<◌, ◌-◌, ◌^◌, ℕ, suc, Result, ℤ, pos, length, arith, refl, sym, ap, subst, ◌∙◌, w32}
+use Rattle.std.proofs.Math.Facts.{to_z_pos}
 use Rattle.fv_diagram.specs.Diagram.{Constant}
-use Rattle.fv_compose.specs.Makes.{Draws}
-use Rattle.fv_tree.specs.Arena.{PartsBelow}
-use Rattle.fv_tree.specs.declared.node.TreeNode.{TreeNode}
+use Rattle.fv_eval_drawing.specs.Makes.{Draws}
+use Rattle.fv_parse_tree.specs.Arena.{PartsBelow}
+use Rattle.fv_parse_tree.specs.declared.node.TreeNode.{TreeNode}
 use Rattle.fv_parse.specs.Trees.{Parsed, node_tree, size_of, start_in, tree_in}
 use Rattle.fv_rules.specs.declared.refusal.EvalRefusal.{EvalRefusal}
 use Rattle.fv_eval.specs.declared.frame.Focus as code_focus
 use Rattle.fv_eval.proofs.Received.{Repeats}
 use Rattle.fv_eval.proofs.Iterated.{bodies_end, body_waits}
+use Rattle.fv_eval.proofs.Forms.{is_no_other_iteration}
 use Rattle.fv_eval.proofs.machine.Machine.next_body.Goals as goal
 
 pub returns-then-left-eq0 : goal.returns-then-left-eq0
@@ -42,11 +43,17 @@ returns c =
     let name = c.canonical-name in
     let inner = c.in_ok-inner in
     let number = c.in_ok-number in
-    let index : c.in-Ok.index ≡ pos (length c.args.done.items) = omega (arith, ints, c.in-Ok.ensures, c.len.ensures, c.args.done.ok.0) in
-    let fits : SFits w32 c.in-Ok.index = search rules in
-    let drawn = subst (λ (z : ℤ). Draws c.leaf.new.self number.number (Constant z)) (to_z-of_z fits) number.ensures.draws in
+    let count : c.len-index.result ≡ length c.args.done.items = omega (arith, c.len-index.ensures, c.args.done.ok.0) in
+    let indexed = c.requires.indexed in
+    let within : c.len-index.result < 2 ^ 31 = omega (arith, indexed, count) in
+    let drawn : Draws c.leaf.new.self number.number (Constant (pos (length c.args.done.items))) =
+    subst (λ (z : ℤ). Draws c.leaf.new.self number.number (Constant z)) (to_z_pos w32 within ∙ ap pos count) number.ensures.draws in
     subst (λ (x : Parsed). Repeats x m c.wait.new.self c.wait.result a c.args.env c.args.left c.args.done.items) c.tree-tree.ensures
     (body_waits q m c.wait.new.self c.wait.result c.leaf.new.self c.bind.new.self a c.args.env c.args.left
     (c.args.left - 1) inner.inner number.number name.result f.body start f.name f.kind
-    (tree_in q f.field-2) (tree_in q f.body) c.in-Ok.index c.args.done node one index number.ensures.keeps drawn name.ensures.text
-    name.ensures.first inner.ensures.ok.0 inner.ensures.ok.1 inside refl (c.wait.ensures q))
+    (tree_in q f.field-2) (tree_in q f.body) (pos (length c.args.done.items)) c.args.done node one refl number.ensures.keeps drawn name.ensures.text
+    name.ensures.first inner.ensures.ok.0 inner.ensures.ok.1 inside refl (omega (arith, indexed, one)) (c.wait.ensures q))
+
+pub unreachable-requires : goal.unreachable-requires
+unreachable-requires c =
+    is_no_other_iteration c.args.text.now c.tree-tree.result.now c.args.iteration c.node.result.now _ c.tree-tree.ensures c.node.ensures.tree c.requires.form c.in_default.not-Iteration

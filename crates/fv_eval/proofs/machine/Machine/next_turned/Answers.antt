@@ -1,3 +1,4 @@
+use Rattle.std.proofs.Common.{refl}
 use Rattle.std.proofs.lemmas.Option.{slice_get_past}
 use Rattle.fv_eval.proofs.Parameters.{get_within}
 use Rattle.fv_eval.proofs.Received.{feeds_all, next_turns}
@@ -7,9 +8,9 @@ pub returns-in_ok-push-in-Some : goal.returns-in_ok-push-in-Some
 returns-in_ok-push-in-Some c =
     let us = c.args.arguments in
     let g = get_within c.deref.result.now c.args.at c.in-Some.value.now c.in-Some.ensures.lookup.3.0 c.in-Some.ensures.lookup.1 in
-    λ p. next_turns p c.args.self.now c.push.new.self c.args.function c.args.at c.in-Some-checked_add.next us c.args.done c.in-Some.value.now
+    λ p. next_turns p c.args.self.now c.push.new.self c.args.function c.args.at _ us c.args.done c.in-Some.value.now
     (rw c.deref.ensures.value at g)
-    c.in-Some-checked_add.ensures.1 c.in_ok-push-in-Some.ensures.ok
+    refl c.in_ok-push-in-Some.ensures.ok
 
 pub returns-in-None : goal.returns-in-None
 returns-in-None c =

@@ -1,8 +1,8 @@
 use Rattle.std.proofs.Common.{◌≡◌, Err, List, ap, rules, sym, subst, ◌∙◌}
 use Rattle.std.specs.Prelude.{Option}
-use Rattle.fv_grammar.specs.Tree.{start_of}
+use Rattle.fv_parse_grammar.specs.Tree.{start_of}
 use Rattle.fv_parse.specs.Trees.{Parsed, tree_in}
-use Rattle.fv_tree.specs.declared.node.TreeId.{TreeId}
+use Rattle.fv_parse_tree.specs.declared.node.TreeId.{TreeId}
 use Rattle.fv_rules.specs.declared.value.Binding as code_binding
 use Rattle.fv_rules.specs.Steps.{no_rule}
 use Rattle.fv_eval.specs.Frames.{Selects}

@@ -1,4 +1,5 @@
-use Rattle.std.proofs.Common.{Ok, sym, subst}
+use Rattle.std.proofs.Common.{◌≡◌, ◌+◌, ◌-◌, ◌<◌, ◌^◌, Ok, sym, ap, subst, arith, rules}
+use Rattle.fv_rules.specs.Steps.{State}
 use Rattle.fv_parse.specs.Trees.{Parsed}
 use Rattle.fv_rules.specs.declared.value.Value as code_value
 use Rattle.fv_eval.specs.declared.frame.Focus.TheVariants as focus
@@ -16,9 +17,12 @@ returns-in_ok-push-in-Abstraction-2 c =
     let inner = c.in_ok-inner-in-Abstraction in
     let n = record m1 { frames = c.push-in-Abstraction.new.self } in
     let r = Ok (focus.Visit c.body_of.result inner.inner) in
+    let taken : m1.slot ≡ m.slot + (c.parameters-count.result - f.bound) = ap (λ (t : State). t.slot) inner.ensures.slots.state in
+    let slots : m1.slot - m.slot ≡ c.parameters-count.result - f.bound = omega (arith, taken) in
+    let numbered : m.slot + (m1.slot - m.slot) < 2 ^ 64 = (let end : m1.slot < 2 ^ 64 = search rules in omega (arith, taken, end)) in
     let done = abstraction_turns q m m1
-    c.push.new.self c.push-in-Abstraction.new.self g f.node f.bound f.env c.parameters-count.result inner.inner c.body_of.result c.saturating_sub.result
+    c.push.new.self c.push-in-Abstraction.new.self g f.node f.bound f.env c.parameters-count.result inner.inner c.body_of.result (m1.slot - m.slot)
     c.parameters-count.ensures inner.ensures.slots
-    inner.ensures.env c.in_ok-push-in-Abstraction.ensures.ok c.in_ok-push-in-Abstraction-2.ensures.ok c.saturating_sub.ensures
+    inner.ensures.env c.in_ok-push-in-Abstraction.ensures.ok c.in_ok-push-in-Abstraction-2.ensures.ok slots numbered
     c.body_of.ensures.inside c.body_of.ensures.body in
     subst (λ (x : Parsed). Turns x m n r g c.args.value) c.tree-tree.ensures (subst (λ (u : code_value.Value). Turns q m n r g u) (sym f.is) done)

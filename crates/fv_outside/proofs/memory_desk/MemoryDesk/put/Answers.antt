@@ -10,4 +10,5 @@ returns-clause-named c =
 
 pub returns-clause-others : goal.returns-clause-others
 returns-clause-others c =
-    λ n ne. rw (c.in_ok-push.ensures.items, c.in_ok-file.ensures) (file_named-push_other c.self.inside.files.items c.args.name.now c.args.bytes.now n ne ∙ ap (λ (m : Memory). file_named n m.files) c.self.view_is)
+    λ n ne. rw (c.in_ok-push.ensures.items, c.in_ok-file.ensures)
+    (file_named-push_other c.self.inside.files.items c.args.name.now c.args.bytes.now n ne ∙ ap (λ (m : Memory). file_named n m.files) c.self.view_is)

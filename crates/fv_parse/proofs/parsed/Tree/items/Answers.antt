@@ -1,6 +1,6 @@
 use Rattle.std.proofs.Common.{◌∙◌, map, sym, ap}
-use Rattle.fv_grammar.specs.Tree.{items}
-use Rattle.fv_tree.specs.Arena.{trees}
+use Rattle.fv_parse_grammar.specs.Tree.{items}
+use Rattle.fv_parse_tree.specs.Arena.{trees}
 use Rattle.fv_parse.specs.Trees.{tree_in, node_tree, start_in}
 use Rattle.fv_parse.proofs.Nodes.{items_forest, items_form}
 use Rattle.fv_parse.proofs.parsed.Tree.items.Goals as goal

@@ -11,5 +11,6 @@ invariant_of-self-2 c =
     let f = c.args.feedback in
     let is = sym c.self.view_is in
     opened_is_progress s _ f (ap (λ fs. let p : Progress = record s { feedbacks = fs } in p) c.in_ok-push_front.ensures.items) c.self.invariant
-    (subst (λ (p : Progress). IsPending p.draft f.group) is c.requires.pending) (subst (λ (p : Progress). BacksWithin p.draft f.group f.count) is c.requires.backs)
+    (subst (λ (p : Progress). IsPending p.draft f.group) is c.requires.pending)
+    (subst (λ (p : Progress). BacksWithin p.draft f.group f.count) is c.requires.backs)
     (subst (λ (p : Progress). AreNested f.group p.feedbacks) is c.requires.nested)

@@ -9,4 +9,5 @@ pub invariant_of-self-2 : goal.invariant_of-self-2
 invariant_of-self-2 c =
     let s = progress_of c.self.inside in
     subst (λ (d : Draft). IsProgress (record s { draft = d })) (sym (ap (λ r. r.1) c.in_ok-id.ensures.put))
-    (put_keeps_progress s c.args.signal (subst (λ (p : Progress). IsAdmitted p.feedbacks c.args.signal) (sym c.self.view_is) c.requires.admitted) c.self.invariant)
+    (put_keeps_progress s c.args.signal (subst (λ (p : Progress). IsAdmitted p.feedbacks c.args.signal) (sym c.self.view_is) c.requires.admitted)
+    c.self.invariant)

@@ -26,7 +26,8 @@ put-requires-2-clause-can c =
     let begun : P c.in_ok-begun.begun = omega (arith, second.there, third.longer) in
     let b = c.in_ok-begun.begun in
     let l = c.in_ok-late.late in record {
-      operands = All-cons P b (c.args.x ∷ l ∷ b ∷ []) begun (All-cons P c.args.x (l ∷ b ∷ []) x (All-cons P l (b ∷ []) third.there (All-cons P b [] begun (All-nil P))));
+      operands = All-cons P b (c.args.x ∷ l ∷ b ∷ []) begun
+          (All-cons P c.args.x (l ∷ b ∷ []) x (All-cons P l (b ∷ []) third.there (All-cons P b [] begun (All-nil P))));
       names = tt;
     }
 

@@ -12,7 +12,8 @@ returns-clause-wires c =
 
 pub returns-clause-keeps : goal.returns-clause-keeps
 returns-clause-keeps c =
-    let longer = (grown_closed c.args.outs.now c.args.self.now c.end.new.self c.in_ok-members.members.items c.in_ok-members.ensures c.requires.wires).0.longer in
+    let longer = (grown_closed c.args.outs.now c.args.self.now c.end.new.self c.in_ok-members.members.items c.in_ok-members.ensures c.requires.wires).0.longer
+    in
     λ w h. omega (arith, h, longer)
 
 pub returns-clause-fed : goal.returns-clause-fed

@@ -10,7 +10,8 @@ returns-clause-wires c = (grown_opened c.args.count c.args.self.now c.begin.new.
 
 pub returns-clause-keeps : goal.returns-clause-keeps
 returns-clause-keeps c =
-    let longer = (grown_opened c.args.count c.args.self.now c.begin.new.self c.in_ok-late.late.items c.in_ok-late.ensures).0.longer in λ w h. omega (arith, h, longer)
+    let longer = (grown_opened c.args.count c.args.self.now c.begin.new.self c.in_ok-late.late.items c.in_ok-late.ensures).0.longer in
+    λ w h. omega (arith, h, longer)
 
 pub returns-clause-fed : goal.returns-clause-fed
 returns-clause-fed c = (grown_opened c.args.count c.args.self.now c.begin.new.self c.in_ok-late.late.items c.in_ok-late.ensures).1

@@ -1,16 +1,16 @@
-use Rattle.std.proofs.Common.{◌+◌, ◌-◌, ◌%◌, ◌^◌, ◌<◌, ◌++◌, ap, sym, ◌∙◌, refl, subst, arith}
+use Rattle.std.proofs.Common.{◌≡◌, ◌+◌, ◌-◌, ◌%◌, ◌^◌, ◌<◌, ◌++◌, ap, sym, ◌∙◌, refl, subst, arith}
 use mathlib.Core.Option.{none}
 use Rattle.atomic_table.specs.Table.{Allows, step, rest}
 use Rattle.fv_outside.specs.Tasks.{times}
 use Rattle.fv_graph.specs.Graph.{Graph, reader_of}
 use Rattle.fv_graph.proofs.Graphs.{is_wires}
-use Rattle.fv_rule.specs.Wired.{graph_wires}
-use Rattle.fv_rule.specs.Rule.{Gives, front_edge, noted}
-use Rattle.fv_rule.specs.Spun.{spun}
-use Rattle.fv_rule.specs.Carried.{but_slot}
-use Rattle.fv_rule.specs.Whole.{IsWhole}
-use Rattle.fv_rule.specs.declared.Deed.TheVariants.{Arrived}
-use Rattle.fv_rule.proofs.Arriving.{arriving}
+use Rattle.fv_ready_rule.specs.Wired.{graph_wires}
+use Rattle.fv_ready_rule.specs.Rule.{Gives, front_edge, noted, zeroes, done_by}
+use Rattle.fv_ready_rule.specs.Spun.{spun}
+use Rattle.fv_ready_rule.specs.Carried.{but_slot}
+use Rattle.fv_ready_rule.specs.Whole.{IsWhole}
+use Rattle.fv_ready_rule.specs.declared.Deed.TheVariants.{Arrived}
+use Rattle.fv_ready_rule.proofs.Arriving.{arriving}
 use Rattle.fv_ready.proofs.Found.{at_place, placed, in_front, long_items, back_but, mirror_but}
 use Rattle.fv_ready.proofs.Seated.{told_graph, owes_of, inner_fits, hand_none, free_front, hand_arrived, seat_after}
 use Rattle.fv_ready.proofs.board.Board.arrive.Goals as goal
@@ -39,7 +39,7 @@ fetch_sub-found-requires g c =
       c.spin.ensures.0 ∙ h.name,
       (let z = b.sized.0 in let r = (inner_fits b.tasks.now.tasks b.graph c.args.edge c.requires.inner).1 in let e = c.reader-reader.ensures in omega arith),
       subst (λ m. Allows (λ st. IsWhole graph_wires g.C.Parcel.edge_of g.C.Parcel.key_of a st) slots c.spin.new.seat.id m word
-          (λ k. (k + (2 ^ 64 - 1)) % 2 ^ 64) (Gives (step slots word 1 0 none) m)) (sym m)
+          (λ k. (k + (2 ^ 64 - 1)) % 2 ^ 64) (Gives graph_wires (step slots word 1 0 none) m)) (sym m)
           (arriving graph_wires g.C.Parcel.edge_of g.C.Parcel.key_of a (is_wires a.tasks.value.tasks (told_graph b)) s.seat.me.0 c.args.edge
           (placed at).x ((placed at).back ++ (placed at).front) c.spin.new.seat.id slots word h.board o.inner o.done o.new front.full.0
           (ap (λ k. 1 + k) (c.reader-reader.ensures ∙ ap (λ (k : Graph). reader_of k.tasks c.args.edge) (sym b.told)))),
@@ -80,3 +80,12 @@ pub returns-clause-hand : goal.returns-clause-hand
 returns-clause-hand g c = let b = c.args.self.now in let s = c.args.seat.now in let h = c.requires.seat in
     let o = owes_of g.C.Parcel.edge_of g.C.Parcel.key_of b s c.args.edge h c.requires.inner c.requires.owed in
     (o.hand, o.hand)
+
+pub returns-clause-first : goal.returns-clause-first
+returns-clause-first g c = let b = c.args.self.now in let s = c.args.seat.now in let h = c.requires.seat in
+    let at = at_place s _ c.args.edge c.place_of-place.result h.mirror c.as_slice.ensures.value c.place_of-place.ensures in
+    let m = c.spin.ensures.2 ∙ ap (λ l. (s.seat.me.0, l)) (in_front at _ refl) in
+    let f = c.fetch_sub-found.ensures.2.3 b.table.shared.key (ap (λ m. m.0.board) m ∙ h.board) in
+    subst (λ (k : Graph). done_by (zeroes (graph_wires k).net ((graph_wires k).net.reader c.args.edge)) s.seat.me.0 ≡ 0) b.told
+    (subst (λ m. done_by (zeroes (graph_wires b.table.shared.key.tasks.value).net
+    ((graph_wires b.table.shared.key.tasks.value).net.reader (front_edge m.1))) m.0 ≡ 0) m f)

@@ -1,10 +1,10 @@
 use Rattle.std.proofs.Common.{◌≡◌, ◌+◌, ◌*◌, length, vec_len, ap, sym, ◌∙◌, arith, None}
 use Rattle.fv_graph.specs.Graph.{Graph, net_of, edges_of}
-use Rattle.fv_core.proofs.Opens.{length_same}
+use Rattle.fv_graph_core.proofs.Opens.{length_same}
 use Rattle.fv_ready.specs.Begun.{first_slots, parcels_of}
 use Rattle.fv_ready.proofs.Laying.{begins_so, key_is, words_long, slots_long}
 use Rattle.fv_ready.proofs.Moving.{parcels_first}
-use Rattle.fv_ready.proofs.Dealing.{first_seats}
+use Rattle.fv_ready.proofs.Dealing.{first_seats, are_seats, having_one}
 use Rattle.fv_ready.proofs.Seated.{edges_fit}
 use Rattle.fv_ready.proofs.board.Board.begin.Goals as goal
 
@@ -61,3 +61,15 @@ returns-in-Ok-new-clause-seats g c =
     first_seats g.C.Parcel.edge_of g.C.Parcel.key_of table.table_id table.key room (λ t. let f = edges_fit table.key.tasks.value.tasks t in
     let l = ap (λ (k : Graph). length k.tasks.reads) told in let r = ap length c.reads.ensures in omega arith) 0 c.deal.new.seats.items
     (c.deal.ensures.seats room c.in-Ok-roomy_lists.ensures.1)
+
+pub returns-in-Ok-new-clause-all : goal.returns-in-Ok-new-clause-all
+returns-in-Ok-new-clause-all g c =
+    let table = c.in-Ok-new.table.shared in let first = returns-in-Ok-new-clause-seats g c in
+    let w = ap (λ k. k.workers) c.in-Ok-new.ensures.ok.5 in (
+      are_seats g.C.Parcel.edge_of g.C.Parcel.key_of table.table_id table.key 0 c.deal.new.seats.items first,
+      (
+        (let r = c.requires.workers.0 in omega arith),
+        λ k l. having_one g.C.Parcel.edge_of g.C.Parcel.key_of table.table_id table.key 0 k c.deal.new.seats.items first (omega arith)
+            (let n = c.deal.ensures.count in let o = c.deal.new.seats.ok.0 in omega arith),
+      ),
+    )

@@ -3,9 +3,10 @@ use Rattle.std.specs.Slots.{slots_items}
 use mathlib.Core.Option.{some}
 use lib.ListN.{get_elem?}
 use Rattle.fv_graph.specs.Graph.{edges_of, net_of}
-use Rattle.fv_rule.specs.Rule.{claim_word}
+use Rattle.fv_ready_rule.specs.Rule.{claim_word}
 use Rattle.fv_ready.specs.Told.{told_by}
 use Rattle.fv_ready.specs.Closed.{AreSlots}
+use Rattle.fv_ready.proofs.LeftOver.{whole}
 use Rattle.fv_ready.proofs.Moving.{no_items}
 use Rattle.fv_ready.proofs.Ends.{ended_as, none_taken, some_task, done_taken, are_parcels}
 use Rattle.fv_ready.proofs.board.Board.close.Goals as goal
@@ -118,3 +119,23 @@ returns-clause-entries g c = λ z. let b = c.args.self in
 pub returns-clause-nothing : goal.returns-clause-nothing
 returns-clause-nothing g c = λ no t l w. let p = c.hand_out-2.ensures in
     p.1 ∙ ap (λ k. c.args.exits.now.items ++ k) (no_items p.0 p.2) ∙ append-nil c.args.exits.now.items
+
+pub returns-then-stamps-n-clause-whole : goal.returns-then-stamps-n-clause-whole
+returns-then-stamps-n-clause-whole g c = λ left. (
+  refl,
+  (λ t l. (whole g.C.Parcel.edge_of g.C.Parcel.key_of c.args.self c.args.seats.items c.requires.seats (returns-then-stamps-n-clause-tells g c) left t l).1),
+)
+
+pub returns-then-is_untouched-clause-whole : goal.returns-then-is_untouched-clause-whole
+returns-then-is_untouched-clause-whole g c = λ left.
+    let w = whole g.C.Parcel.edge_of g.C.Parcel.key_of c.args.self c.args.seats.items c.requires.seats (returns-then-is_untouched-clause-tells g c) left in (
+      (returns-then-is_untouched-clause-done g c).1 (λ t l. (w t l).0),
+      (λ t l. (w t l).1),
+    )
+
+pub returns-clause-whole : goal.returns-clause-whole
+returns-clause-whole g c = λ left.
+    let w = whole g.C.Parcel.edge_of g.C.Parcel.key_of c.args.self c.args.seats.items c.requires.seats (returns-clause-tells g c) left in (
+      (returns-clause-done g c).1 (λ t l. (w t l).0),
+      (λ t l. (w t l).1),
+    )

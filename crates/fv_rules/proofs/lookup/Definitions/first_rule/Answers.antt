@@ -1,5 +1,5 @@
-use Rattle.std.proofs.Common.{◌∙◌, ap, refl, sym}
-use Rattle.fv_tree.specs.declared.node.TreeId.{TreeId}
+use Rattle.std.proofs.Common.{◌∙◌, ap, sym}
+use Rattle.fv_parse_tree.specs.declared.node.TreeId.{TreeId}
 use Rattle.fv_rules.specs.declared.by_name.Defined.{Defined}
 use Rattle.fv_rules.specs.Shows.{rules_in}
 use Rattle.fv_rules.proofs.RuleNodes.{first_is, case_rules_are, all_over}
@@ -18,6 +18,6 @@ returns-in_ok-first-in-Case c =
     let p = c.args.self.now in
     let t = c.tree.result.now in
     let xs = c.case_rules.result.now in
-    let are = case_rules_are t p c.in-Case.id xs xs c.tree.ensures c.case_rules.ensures.rules refl ∙ ap (rules_in p) (sym c.in-Case.is) in
+    let are = case_rules_are t p c.in-Case.id xs c.tree.ensures c.case_rules.ensures.rules ∙ ap (rules_in p) (sym c.in-Case.is) in
     let there = all_over t p xs c.tree.ensures c.case_rules.ensures.there in
     first_is p TreeId (λ i. i) xs c.in_ok-first-in-Case.first.now (rules_in p c.args.ruled) are there c.in_ok-first-in-Case.ensures.value

@@ -1,5 +1,5 @@
 use Rattle.std.proofs.Common.{sym, subst}
-use Rattle.fv_tree.specs.Arena.{trees}
+use Rattle.fv_parse_tree.specs.Arena.{trees}
 use Rattle.fv_parse.specs.Trees.{Parsed, tree_in, start_in}
 use Rattle.fv_rules.specs.Shows.{IsFunction}
 use Rattle.fv_rules.proofs.RuleNodes.{functions_are, not_a_function, node_is}

@@ -8,12 +8,14 @@ use Rattle.fv_share.proofs.builder.Builder.close_group.Goals as goal
 -- the list that was made, and the fields after it is written
 listed : (groups : List (Vec ℕ Global)) (group : ℕ) (list : Vec ℕ Global) (members : List ℕ) → list.items ≡ members →
     map (λ (row : Vec ℕ Global). row.items) (slice_set groups group list) ≡ slice_set (map (λ (row : Vec ℕ Global). row.items) groups) group members
-listed groups group list members e = map-set (λ (row : Vec ℕ Global). row.items) groups group list ∙ ap (slice_set (map (λ (row : Vec ℕ Global). row.items) groups) group) e
+listed groups group list members e = map-set (λ (row : Vec ℕ Global). row.items) groups group list
+    ∙ ap (slice_set (map (λ (row : Vec ℕ Global). row.items) groups) group) e
 
 pub returns-clause-ok : goal.returns-clause-ok
 returns-clause-ok c =
     let made : c.in_ok-list.list.items ≡ c.args.members.now = search rules in
-    ap (λ (gs : List (List ℕ)). let d : Draft = record { signals = c.self.inside.signals.keys; groups = gs; closed = slice_set c.self.inside.closed.items c.args.group true } in d)
+    ap (λ (gs : List (List ℕ)). let d : Draft =
+    record { signals = c.self.inside.signals.keys; groups = gs; closed = slice_set c.self.inside.closed.items c.args.group true } in d)
     (listed c.self.inside.groups.items c.args.group c.in_ok-list.list c.args.members.now made)
     ∙ ap (λ (d : Draft). with_members d c.args.group c.args.members.now) c.self.view_is
 

@@ -11,7 +11,7 @@ pub invariant_of-self-2 : goal.invariant_of-self-2
 invariant_of-self-2 c =
     let d = draft_of c.self.inside in
     subst (λ (ss : List Signal). IsDraft (record d { signals = ss })) (sym c.in_ok-place.ensures.keys)
-    (put_keeps d c.args.signal c.self.invariant (subst (λ (e : Draft). CanPut e c.args.signal) (sym c.self.view_is) c.requires))
+    (put_keeps d c.args.signal c.self.invariant (subst (λ (e : Draft). CanPut e c.args.signal) (sym c.self.view_is) c.requires) c.number_fits.ensures)
 
 pub returns-clause-shared : goal.returns-clause-shared
 returns-clause-shared c =

@@ -1,5 +1,0 @@
-// Tests of rates and histories.
-#![tactic(auto)]
-
-#[cfg(test)]
-mod graphs;

@@ -1,0 +1,4 @@
+pub mod Going
+pub mod Heads
+pub mod Again
+pub mod Fronts

@@ -1,0 +1,66 @@
+// Reading frames.
+
+ghost use Rattle.std.specs.Prelude.{◌≡◌, ◌+◌, ◌-◌, ◌*◌, ◌/◌, ◌%◌, ◌^◌, ◌<◌, ◌≤◌, length, true, IfErr, IsSome, OnOk};
+ghost use Rattle.fv_base.specs.declared.limits.TheConstants.{MOST_CHANNELS};
+ghost use Rattle.fv_base.specs.declared.role.Role.TheVariants.{Input};
+ghost use Rattle.fv_num.specs.Words.{is_sample_width};
+ghost use Rattle.fv_pcm.specs.declared.coding.Coding.TheVariants.{Au};
+ghost use Rattle.fv_pcm.specs.Coded.{samples_in};
+ghost use Rattle.fv_wav.specs.Stopping.{Passes};
+ghost use Rattle.fv_au.specs.declared.refusal.AuRefusal.TheVariants.{AuTruncated};
+ghost use Rattle.fv_au.specs.Reading.{stated_bytes};
+ghost use Rattle.fv_au.specs.Stopping.{AuStops};
+
+use crate::head::AuHead;
+use crate::input::take_all;
+use crate::refusal::AuRefusal;
+use fv_outside::Desk;
+use fv_pcm::{Coding, decode};
+
+/// Fills `to` with the next whole frames of the input, through `bytes`. A place is how many bytes of the file were taken.
+pub fn read_au_frames<D: Desk>(
+    desk: &mut D,
+    head: &AuHead,
+    place: u64,
+    bytes: &mut [u8],
+    to: &mut [i32],
+) -> Result<(), AuRefusal>
+    requires known { IsSome head.now.data_bytes }
+    requires some { 1 ≤ head.now.channels }
+    requires few { head.now.channels ≤ MOST_CHANNELS }
+    requires bits { is_sample_width head.now.bits ≡ true }
+    requires low { head.now.offset ≤ place }
+    requires high { place < 2 ^ 63 }
+    requires frames { length to.old % head.now.channels ≡ 0 }
+    requires within { (place - head.now.offset) + length to.old * (head.now.bits / 8) ≤ stated_bytes head.now }
+    requires room { length to.old * (head.now.bits / 8) ≤ length bytes.old }
+    ensures ok { OnOk result (Passes (length to.new * (head.now.bits / 8))
+        (to.new ≡ samples_in Au head.now.bits (length to.new) ((D.state desk.old).left Input)) (D.state desk.old) (D.state desk.new)) }
+    ensures err { IfErr result (λ e. AuStops ((length ((D.state desk.old).left Input) < length to.new * (head.now.bits / 8))
+        × (e ≡ AuTruncated (place + length ((D.state desk.old).left Input)))) (D.state desk.old) (D.state desk.new) e) }
+{
+    let size = (head.bits / 8) as usize;
+    let n = to.len() * size;
+    read_samples(desk, head.bits, place, &mut bytes[..n], to)
+}
+
+// Fills `to` with the next samples; `bytes` has just their length.
+fn read_samples<D: Desk>(
+    desk: &mut D,
+    bits: u32,
+    place: u64,
+    bytes: &mut [u8],
+    to: &mut [i32],
+) -> Result<(), AuRefusal>
+    requires bits { is_sample_width bits ≡ true }
+    requires high { place < 2 ^ 63 }
+    requires room { length bytes.old ≡ length to.old * (bits / 8) }
+    ensures ok { OnOk result (Passes (length to.new * (bits / 8))
+        (to.new ≡ samples_in Au bits (length to.new) ((D.state desk.old).left Input)) (D.state desk.old) (D.state desk.new)) }
+    ensures err { IfErr result (λ e. AuStops ((length ((D.state desk.old).left Input) < length to.new * (bits / 8))
+        × (e ≡ AuTruncated (place + length ((D.state desk.old).left Input)))) (D.state desk.old) (D.state desk.new) e) }
+{
+    take_all(desk, place, bytes)?;
+    decode(Coding::Au, bits, bytes, to);
+    Ok(())
+}

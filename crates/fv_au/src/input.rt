@@ -1,0 +1,71 @@
+// The next bytes of the input. A place is how many bytes of the file are before them.
+
+ghost use Rattle.std.specs.Prelude.{◌≡◌, ◌+◌, ◌-◌, ◌^◌, ◌<◌, ◌≤◌, ℕ, List, length, take, IsTrue, Ok, Err, IfOk, IfErr, OnOk};
+ghost use Rattle.fv_base.specs.declared.role.Role.TheVariants.{Input};
+ghost use Rattle.fv_outside.specs.Desk.{Takes, KeepsFaults};
+ghost use Rattle.fv_wav.specs.Stopping.{Passes};
+ghost use Rattle.fv_au.specs.declared.refusal.AuRefusal.TheVariants.{AuTruncated};
+ghost use Rattle.fv_au.specs.Reading.{IsAu, head_of, au};
+ghost use Rattle.fv_au.specs.Stopping.{IsAuHead, AuStops};
+
+use crate::head::AuHead;
+use crate::judging::judge;
+use crate::refusal::AuRefusal;
+use fv_outside::{Desk, Role, fill, skip};
+
+/// Fills `to` with the next bytes.
+pub fn take_all<D: Desk>(desk: &mut D, place: u64, to: &mut [u8]) -> Result<(), AuRefusal>
+    requires { place + length to.old < 2 ^ 64 }
+    ensures ok { IfOk result (λ _. Passes (length to.new) (to.new ≡ take (length to.new) ((D.state desk.old).left Input))
+        (D.state desk.old) (D.state desk.new)) }
+    ensures err { IfErr result (λ e. AuStops ((length ((D.state desk.old).left Input) < length to.new)
+        × (e ≡ AuTruncated (place + length ((D.state desk.old).left Input)))) (D.state desk.old) (D.state desk.new) e) }
+{
+    let n = fill(desk, Role::Input, to)?;
+    if n < to.len() {
+        return Err(AuRefusal::AuTruncated {
+            place: place + n as u64,
+        });
+    }
+    Ok(())
+}
+
+// Passes over the next `count` bytes.
+fn pass<D: Desk>(desk: &mut D, place: u64, count: u64) -> Result<(), AuRefusal>
+    requires { place + count < 2 ^ 64 }
+    ensures ok { IfOk result (λ _. Passes count (count ≤ length ((D.state desk.old).left Input)) (D.state desk.old) (D.state desk.new)) }
+    ensures err { IfErr result (λ e. AuStops ((length ((D.state desk.old).left Input) < count)
+        × (e ≡ AuTruncated (place + length ((D.state desk.old).left Input)))) (D.state desk.old) (D.state desk.new) e) }
+{
+    let n = skip(desk, Role::Input, count)?;
+    if n < count {
+        return Err(AuRefusal::AuTruncated { place: place + n });
+    }
+    Ok(())
+}
+
+// What the first 24 bytes say.
+fn read_front<D: Desk>(desk: &mut D) -> Result<AuHead, AuRefusal>
+    ensures ok { IfOk result (λ head. Passes 24 ((head_of ((D.state desk.old).left Input) ≡ Ok head)
+        × (length ((D.state desk.old).left Input) ≡ 24 + length ((D.state desk.new).left Input))) (D.state desk.old) (D.state desk.new)) }
+    ensures ranges { IfOk result IsAuHead }
+    ensures err { IfErr result (λ e. AuStops (head_of ((D.state desk.old).left Input) ≡ Err e) (D.state desk.old) (D.state desk.new) e) }
+{
+    let mut front = [0u8; 24];
+    let n = fill(desk, Role::Input, &mut front)?;
+    judge(&front[..n])
+}
+
+/// The head of the AU file whose bytes are left to read of the input; its samples are left next.
+pub fn read_au_head<D: Desk>(desk: &mut D) -> Result<AuHead, AuRefusal>
+    requires begins { IsTrue (D.state desk.old).tells → IsAu ((D.state desk.old).left Input) }
+    ensures head { IfOk result (λ head. IsTrue (D.state desk.old).tells → au ((D.state desk.old).left Input) ≡ Ok head) }
+    ensures taken { IfOk result (λ head. (bytes : List ℕ) × (length bytes ≡ head.offset) × Takes Input bytes (D.state desk.old) (D.state desk.new)) }
+    ensures ranges { IfOk result IsAuHead }
+    ensures steady { OnOk result (KeepsFaults (D.state desk.old) (D.state desk.new)) }
+    ensures err { IfErr result (λ e. AuStops (au ((D.state desk.old).left Input) ≡ Err e) (D.state desk.old) (D.state desk.new) e) }
+{
+    let head = read_front(desk)?;
+    pass(desk, 24, u64::from(head.offset) - 24)?;
+    Ok(head)
+}

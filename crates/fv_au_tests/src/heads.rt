@@ -1,0 +1,85 @@
+// The heads of AU files, or why they have none.
+
+use fv_au::{AuHead, AuRefusal, read_au_head};
+use fv_outside::{Desk, MemoryDesk, Role};
+use std::alloc::Global;
+use std::test::Fail;
+
+/// Three samples of 16 bits, 1, -2 and 3, behind the first four bytes of their file.
+pub const THREE: [u8; 26] = [
+    0, 0, 0, 24, 0, 0, 0, 6, 0, 0, 0, 3, 0, 0, 172, 68, 0, 0, 0, 1, 0, 1, 255, 254, 0, 3,
+];
+
+/// Their head.
+pub const HEAD: AuHead = AuHead {
+    channels: 1,
+    rate: 44100,
+    bits: 16,
+    data_bytes: Some(6),
+    offset: 24,
+};
+
+/// The head of the file of these bytes behind its first four.
+fn head_of(alloc: Global, behind: &[u8]) -> Result<Result<AuHead, AuRefusal>, Fail> {
+    let mut bytes = Vec::from_slice(alloc, b".snd")?;
+    bytes.extend_from_slice(behind)?;
+    let mut desk = MemoryDesk::new(alloc);
+    desk.put("file", &bytes)?;
+    match desk.begin_read(Role::Input, "file") {
+        Ok(()) => Ok(read_au_head(&mut desk)),
+        Err(_failed) => Ok(Err(AuRefusal::ReadFault { role: Role::Input })),
+    }
+}
+
+/// The head of the file with the byte at this place changed, cut at a length.
+fn changed(
+    alloc: Global,
+    place: usize,
+    value: u8,
+    length: usize,
+) -> Result<Result<AuHead, AuRefusal>, Fail> {
+    let mut behind = Vec::from_slice(alloc, &THREE)?;
+    if let Some(byte) = behind.get_mut(place.saturating_sub(4)) {
+        *byte = value;
+    }
+    behind.truncate(length.saturating_sub(4));
+    head_of(alloc, &behind)
+}
+
+#[test]
+fn heads(rt: HostRuntime) -> Result<(), Fail> {
+    let alloc = rt.alloc();
+    assert_eq!(rt; head_of(alloc, &THREE)?, Ok(HEAD));
+    assert_eq!(rt; changed(alloc, 7, 24, 24)?, Ok(HEAD));
+    let rows: [(usize, u8, usize, AuRefusal); 10] = [
+        (7, 24, 7, AuRefusal::AuTruncated { place: 7 }),
+        (7, 23, 8, AuRefusal::AuFormat { place: 4 }),
+        (7, 24, 15, AuRefusal::AuTruncated { place: 15 }),
+        (15, 1, 16, AuRefusal::AuFormat { place: 12 }),
+        (15, 6, 16, AuRefusal::AuFormat { place: 12 }),
+        (7, 24, 23, AuRefusal::AuTruncated { place: 23 }),
+        (23, 0, 30, AuRefusal::AuFormat { place: 20 }),
+        (21, 1, 30, AuRefusal::AuFormat { place: 20 }),
+        (7, 31, 30, AuRefusal::AuTruncated { place: 30 }),
+        (4, 1, 30, AuRefusal::AuTruncated { place: 30 }),
+    ];
+    for (place, value, length, refusal) in rows {
+        assert_eq!(rt; changed(alloc, place, value, length)?, Err(refusal));
+    }
+    Ok(())
+}
+
+#[test]
+fn an_unknown_size(rt: HostRuntime) -> Result<(), Fail> {
+    let alloc = rt.alloc();
+    let behind = b"\0\0\0\x1c\xff\xff\xff\xff\0\0\0\x02\0\0\0\x01\0\0\x01\0none";
+    let head = AuHead {
+        channels: 256,
+        rate: 1,
+        bits: 8,
+        data_bytes: None,
+        offset: 28,
+    };
+    assert_eq!(rt; head_of(alloc, behind)?, Ok(head));
+    Ok(())
+}

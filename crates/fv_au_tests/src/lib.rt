@@ -1,0 +1,7 @@
+//! Tests of fv_au's public calls.
+#![tactic(auto)]
+
+#[cfg(test)]
+mod frames;
+#[cfg(test)]
+mod heads;

@@ -1,0 +1,40 @@
+// How large things may be: each limit that a user can meet, once (this project's profile).
+
+/// How many bytes the text of a program may have, and a script of changes.
+pub const LONGEST_TEXT: usize = 1_048_576;
+
+/// How many brackets may be open at once.
+pub const DEEPEST_NESTING: u32 = 128;
+
+/// How many nodes a diagram may have.
+pub const SIZE_LIMIT: u32 = 16_384;
+
+/// How many visits an evaluation may make.
+pub const VISIT_LIMIT: u32 = 1_000_000;
+
+/// How many samples a delay may be long.
+pub const DELAY_LIMIT: u32 = 1_048_575;
+
+/// How many samples all delays of a diagram may be long together.
+pub const DELAY_BUDGET: u64 = 16_777_216;
+
+/// How many channels a file may have, and how many inputs and outputs a program that is run.
+pub const MOST_CHANNELS: u32 = 256;
+
+/// How many frames a block may have.
+pub const MOST_BLOCK: u32 = 4096;
+
+/// How many vectors a block may have.
+pub const MOST_VECTORS: u32 = 64;
+
+/// How many workers a run may ask for.
+pub const MOST_WORKERS: u32 = 1;
+
+/// How many voices may be made.
+pub const MOST_VOICES: u32 = 64;
+
+/// How many frames may be made.
+pub const MOST_MADE: u32 = 262_144;
+
+/// How many chunks a file may have in front of its samples.
+pub const MOST_CHUNKS: u32 = 4096;

@@ -1,0 +1,5 @@
+// Tests of a worker's deque.
+#![tactic(auto)]
+
+#[cfg(test)]
+mod ends;

@@ -1,0 +1,51 @@
+-- The answer grows by a frame at a time.
+use Rattle.std.proofs.Common.{◌≡◌, ℕ, zero, suc, ◌+◌, ◌<◌, ◌≤◌, List, [], ◌∷◌, ◌++◌, length, take, drop, get_or, ℤ, pos}
+use Rattle.std.proofs.Common.{sym, ◌∙◌, ap, arith, refl, add-one}
+use Rattle.std.proofs.lemmas.List.{append-nil, nil_from_length, take_more, get_or-drop, length-drop}
+use Rattle.std.proofs.lemmas.Grind.{flat_map-append}
+use Rattle.fv_num.specs.Words.{argument}
+use Rattle.fv_num.specs.Frames.{Frame, Stream, table, column}
+use Rattle.fv_diagram.specs.Diagram.{Diagram, control_bound}
+use Rattle.fv_diagram.specs.Streams.{run, last}
+use Rattle.fv_diagram.specs.Laws.{AnswersEach, AnswersOneMore, AnswersAlike}
+use Rattle.fv_base.proofs.Lists.{get_or_table}
+use Rattle.fv_control.specs.declared.script.Change.{Change}
+use Rattle.fv_control.specs.Streams.{control_streams}
+use Rattle.fv_diagram_play.specs.Play.{joined, no_slots}
+use Rattle.fv_control.proofs.Listening.{heard_at}
+
+-- a part of a list is its numbers from a place on
+pub part_is : (xs : List ℤ) (a n : ℕ) → a + n ≤ length xs → take n (drop a xs) ≡ table n (λ j. argument xs (a + j))
+part_is xs a zero h = refl
+part_is xs a (suc n) h =
+    let within : n < length (drop a xs) = omega (arith, length-drop a xs) in
+    ap (λ k. take k (drop a xs)) (sym (add-one n)) ∙ take_more (drop a xs) n (pos 0) within
+    ∙ ap (λ w. w ++ get_or (drop a xs) n (pos 0) ∷ []) (part_is xs a n (omega arith))
+    ∙ ap (λ x. table n (λ j. argument xs (a + j)) ++ x ∷ []) (get_or-drop a xs n (pos 0))
+
+-- on no frames nothing is answered
+pub answers_none : (d : Diagram) (c e : ℕ → Stream) → AnswersEach d → run d c e [] ≡ []
+answers_none d c e each = nil_from_length (run d c e []) (each c e [])
+
+-- the samples with those of one frame more
+pub played_more : (d : Diagram) (controls : Frame) (C X : List Frame) (x y : Frame) (old new : List ℤ) → AnswersOneMore d → length C ≡ length X →
+    y ≡ last (run d (column (C ++ controls ∷ [])) no_slots (X ++ x ∷ [])) →
+    old ≡ joined (run d (column C) no_slots X) → new ≡ old ++ y →
+    new ≡ joined (run d (column (C ++ controls ∷ [])) no_slots (X ++ x ∷ []))
+played_more d controls C X x y old new more long given so_far written =
+    let one = more no_slots C X controls x long in
+    let whole = run d (column (C ++ controls ∷ [])) no_slots (X ++ x ∷ []) in
+    let first = run d (column C) no_slots X in
+    let samples : joined whole ≡ joined first ++ y =
+    ap joined one ∙ flat_map-append (λ (w : Frame). w) first (last whole ∷ []) ∙ ap (λ w. joined first ++ w) (append-nil (last whole) ∙ sym given) in
+    written ∙ ap (λ w. w ++ y) so_far ∙ sym samples
+
+-- the controls' frames are those of the streams
+pub played_heard : (d : Diagram) (changes : List Change) (initial : Frame) (n : ℕ) (X : List Frame) → AnswersAlike d → control_bound d ≤ length initial → length X ≡ n →
+    run d (column (table n (heard_at changes initial))) no_slots X ≡ run d (control_streams changes initial) no_slots X
+played_heard d changes initial n X same reads long =
+    same (column (table n (heard_at changes initial))) (control_streams changes initial) no_slots no_slots X
+    (λ k t bound time.
+    ap (λ (c : Frame). get_or c k (pos 0)) (get_or_table n (heard_at changes initial) t [] (omega arith))
+    ∙ get_or_table (length initial) (λ j. control_streams changes initial j t) k (pos 0) (omega arith))
+    (λ s t free time. refl)

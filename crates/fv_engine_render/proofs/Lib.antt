@@ -1,0 +1,9 @@
+pub mod Cuts
+pub mod Told
+pub mod Parts
+pub mod Samples
+pub mod Playing
+pub mod Frames
+pub mod Taken
+pub mod Planned
+pub mod Whole

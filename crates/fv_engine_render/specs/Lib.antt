@@ -1,0 +1,5 @@
+pub mod Blocks
+pub mod Runs
+pub mod Plans
+pub mod Render
+pub mod Examples

@@ -1,0 +1,75 @@
+-- A diagram that is played in blocks, and a graph that is (this project's profile).
+use Rattle.std.specs.Prelude.{ℕ, ◌≤◌, List, length, map, ℤ, All, Option}
+use Rattle.std.specs.List.{AllByRecursion}
+use Rattle.fv_base.specs.declared.limits.TheConstants.{MOST_BLOCK, MOST_CHANNELS, MOST_VECTORS}
+use Rattle.fv_num.specs.Interval.{Interval}
+use Rattle.fv_outside.specs.Journal.{Told}
+use Rattle.fv_diagram.specs.Diagram.{Diagram, inputs, outputs, control_bound, IsWellFormed, HasNoFreeSlot}
+use Rattle.fv_diagram.specs.declared.control.ControlInfo.{ControlInfo}
+use Rattle.fv_control.specs.declared.script.Change.{Change}
+use Rattle.fv_control.specs.Laws.{NeverFall, IsOfControls}
+use Rattle.fv_diagram.specs.Controls.{IsBounded}
+use Rattle.fv_interval.specs.Delays.{delays_of, AreAccepted}
+use Rattle.fv_signal.specs.Value.{Graph}
+use Rattle.fv_propagate.specs.Propagated.{AreShort}
+use Rattle.fv_engine_tasks.specs.Block.{vectors_of}
+use Rattle.fv_engine_render.specs.Plans.{IsGraphOf, NamesOnly}
+use Rattle.fv_engine_render.specs.Runs.{RanGraph}
+use Rattle.fv_engine_render.specs.declared.blocks.RunSizes.{RunSizes}
+use Rattle.fv_engine_render.specs.declared.blocks.Ran.{Ran}
+
+-- the numbers with which the controls begin
+abbrev pub initial_of : List ControlInfo → List ℤ
+initial_of cs = map (λ c. c.init) cs
+
+-- the numbers that a control may have
+abbrev pub span_of : ControlInfo → Interval
+span_of c = record { lo = c.min; hi = c.max }
+
+-- and those that each of them may have
+abbrev pub spans_of : List ControlInfo → List Interval
+spans_of cs = map span_of cs
+
+-- A diagram that can be played in blocks: it has an output, its controls begin within their bounds and stay there under the
+-- script, whose frames never fall, and these are its delays, none of which is refused.
+pub record CanRender (d : Diagram) (controls : List ControlInfo) (delays : List ℕ) (changes : List Change) : Type 0 where
+  pub well : IsWellFormed d
+  pub closed : HasNoFreeSlot d
+  pub some : 1 ≤ outputs d
+  pub few : inputs d ≤ MOST_CHANNELS
+  pub reads : control_bound d ≤ length controls
+  pub bounded : All IsBounded controls
+  pub accepted : AreAccepted (delays_of d (spans_of controls)) delays
+  pub order : NeverFall 0 changes
+  pub lawful : AllByRecursion (IsOfControls controls) changes
+
+-- A graph that can be played in blocks, with so many inputs and these controls: it has an output, names only what is there, and delays
+-- by no more than an engine keeps.
+pub record CanPlayGraph (g : Graph) (channels : ℕ) (controls : List ControlInfo) (changes : List Change) : Type 0 where
+  pub some : 1 ≤ length g.outputs
+  pub few : channels ≤ MOST_CHANNELS
+  pub names : NamesOnly g channels (length controls)
+  pub short : AreShort g
+  pub order : NeverFall 0 changes
+  pub lawful : AllByRecursion (IsOfControls controls) changes
+
+-- sizes that an engine takes
+pub record CanHave (s : RunSizes) : Type 0 where
+  pub some : 1 ≤ s.block
+  pub block : s.block ≤ MOST_BLOCK
+  pub vector : 1 ≤ s.vector
+  pub vectors : vectors_of s.block s.vector ≤ MOST_VECTORS
+  pub one : 1 ≤ s.workers
+  pub workers : s.workers ≤ 16
+
+-- The blocks of a diagram's run: those of a graph that gives what the diagram gives, output by output.
+pub record RanWhole (d : Diagram) (cs : List ControlInfo) (changes : List Change) (s : RunSizes) (r : Ran) (old new : Option Told) : Type 0 where
+  pub graph : Graph
+  pub of : IsGraphOf d (spans_of cs) graph
+  pub blocks : RanGraph graph changes s r old new
+
+-- where a diagram has an output, each run of it that has a block has a loop
+abbrev pub RunsHaveLoops : Type 0
+RunsHaveLoops =
+    (d : Diagram) (cs : List ControlInfo) (changes : List Change) (s : RunSizes) (r : Ran) (old new : Option Told) → RanWhole d cs changes s r old new
+    → 1 ≤ outputs d → 1 ≤ r.blocks → 1 ≤ r.loops

@@ -1,0 +1,49 @@
+-- What a run of an engine over blocks answers (this project's profile).
+use Rattle.std.specs.Prelude.{◌≡◌, ℕ, ◌*◌, nat_lt, if◌then◌else◌, List, [], length, ℤ, Option, IfSome, IsSome}
+use Rattle.fv_num.specs.Frames.{Stream, rows}
+use Rattle.fv_signal.specs.Value.{Graph}
+use Rattle.fv_outside.specs.Journal.{Told}
+use Rattle.fv_control.specs.declared.script.Change.{Change}
+use Rattle.fv_split_plan.specs.View.{PlanView}
+use Rattle.fv_split_plan.specs.Plans.{PlanStands, IsPlanOf}
+use Rattle.fv_engine.specs.Stands.{EngineView, StandsFor, played}
+use Rattle.fv_engine_render.specs.Blocks.{AreBlocks, RanBlocks, HasRoomForRun, loop_runs_of}
+use Rattle.fv_engine_render.specs.declared.blocks.RunSizes.{RunSizes}
+use Rattle.fv_engine_render.specs.declared.blocks.Ran.{Ran}
+use Rattle.fv_engine_render.specs.declared.blocks.PlanSizes.{PlanSizes}
+
+-- the loops of the engine's plan, and the numbers in its frames
+pub record IsSizeOf (e : EngineView) (p : PlanSizes) : Type 0 where
+  pub loops : p.loops ≡ e.plan.loops
+  pub channels : p.channels ≡ e.channels
+  pub outputs : p.outputs ≡ length e.plan.outputs
+
+-- The output is that of a graph for which the engine stood at the beginning, on all frames of the input, under these controls.
+abbrev pub PlaysAll : EngineView → (ℕ → Stream) → (frames : ℕ) → (input output : List ℤ) → Type 0
+PlaysAll e c frames input output =
+    (g : Graph) (s : PlanStands g e.plan) → StandsFor e g s.names [] c
+    → rows (length g.outputs) frames output ≡ played g (rows e.channels frames input) c 0 frames
+
+-- the loops of so many blocks: 0 where there is no block
+abbrev pub loops_in : (blocks loops : ℕ) → ℕ
+loops_in blocks loops = if nat_lt 0 blocks then loops else 0
+
+-- The blocks of a plan's run up to frame f, what was told of them and what is counted.
+pub record HasRun (p : PlanView) (s : RunSizes) (changes : List Change) (f : ℕ) (r : Ran) (old new : Option Told) : Type 0 where
+  -- the blocks' lengths: they are cut at the block size, at the end and at each change
+  pub lengths : List ℕ
+  pub cut : AreBlocks s.block s.frames changes 0 f lengths
+  -- where the gate still tells its list, it was told one entry for each block: the plan's loops and reads, the block's vectors,
+  -- and a journal in which each loop ran once on each vector, after all that it reads
+  pub told : RanBlocks p.loops p.reads s.vector lengths old new
+  pub blocks_are : r.blocks ≡ length lengths
+  pub loops_are : r.loops ≡ loops_in r.blocks p.loops
+  pub runs_are : r.loop_runs ≡ loop_runs_of p.loops s.vector lengths
+
+-- The blocks of a graph's run, of a plan of the graph.
+pub record RanGraph (g : Graph) (changes : List Change) (s : RunSizes) (r : Ran) (old new : Option Told) : Type 0 where
+  pub plan : PlanView
+  pub planned : IsPlanOf g plan
+  pub run : HasRun plan s changes s.frames r old new
+  -- a gate that has room for a call for each block, a line for each loop that ran and the pairs of each block still tells it
+  pub room : IfSome old (λ t. HasRoomForRun t.room r.blocks r.loop_runs (r.blocks * (r.loops * r.loops)) → IsSome new)

@@ -1,0 +1,16 @@
+//! The samples that a diagram answers on an input while its controls change as a script says, by an engine, block by block: a block
+//! ends where the next change of a control comes.
+#![tactic(auto)]
+
+mod blocks;
+mod controls;
+mod cut;
+mod engines;
+mod laws;
+mod rendering;
+
+pub use blocks::{Ran, RunSizes};
+pub use controls::{initial_of, spans_of};
+pub use cut::next_block;
+pub use laws::runs_have_loops;
+pub use rendering::{GraphSource, Rendered, Source, compile, render, render_graph};

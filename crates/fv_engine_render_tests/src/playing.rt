@@ -1,0 +1,140 @@
+// Programs that are played.
+
+ghost use Rattle.std.specs.Prelude.{◌^◌, ◌<◌, IfOk, length};
+ghost use Rattle.std.specs.List.{AllByRecursion};
+ghost use Rattle.fv_control.specs.Laws.{NeverFall, IsOfControls};
+
+use fv_control::{Script, scripts_are_lawful};
+use fv_diagram::ControlInfo;
+use fv_diagram_play::play_script;
+use fv_engine_render::{Rendered, RunSizes, Source, initial_of, render, spans_of};
+use fv_eval::{Program, evaluate};
+use fv_interval::{Delays, spans};
+use fv_lex::tokens;
+use fv_num::Span;
+use fv_outside::Gate;
+use fv_parse::parse;
+use std::alloc::Global;
+use std::marker::Sync;
+use std::sync::Wait;
+use std::test::Fail;
+use std::thread::Threads;
+
+/// A program, the changes of its controls, and an input of one channel, or of none.
+#[derive(Clone, Copy)]
+pub(crate) struct Case {
+    pub(crate) program: &'static str,
+    pub(crate) script: &'static str,
+    pub(crate) input: &'static [i32],
+    pub(crate) frames: u32,
+}
+
+// The program of a text.
+fn program_of(alloc: Global, text: &str) -> Result<Program, Fail> {
+    let Ok(found) = tokens(alloc, text.as_bytes()) else {
+        return Err("no tokens".into());
+    };
+    let Ok(tree) = parse(alloc, &found) else {
+        return Err("no tree".into());
+    };
+    match evaluate(alloc, &tree) {
+        Ok(program) => Ok(program),
+        Err(_) => Err("no value".into()),
+    }
+}
+
+// The script of a text.
+fn script_of(alloc: Global, text: &str, controls: &[ControlInfo]) -> Result<Script, Fail>
+    requires { length controls.now < 2 ^ 32 }
+    ensures order { IfOk result (NeverFall 0) }
+    ensures lawful { IfOk result (AllByRecursion (IsOfControls controls.now)) }
+    ensures named { IfOk result (AllByRecursion (λ c. c.control < length controls.now)) }
+{
+    scripts_are_lawful();
+    let Ok(script) = Script::read(alloc, text.as_bytes(), controls) else {
+        return Err("no script".into());
+    };
+    Ok(script)
+}
+
+/// The numbers with which a program's controls begin, and those that they may have.
+pub(crate) fn numbers_of(alloc: Global, text: &str) -> Result<(Vec<i32>, Vec<Span>), Fail> {
+    let program = program_of(alloc, text)?;
+    let controls = program.controls.as_slice();
+    let initial = initial_of(alloc, controls)?;
+    let spans = spans_of(alloc, controls)?;
+    Ok((initial, spans))
+}
+
+/// What a run in blocks gives.
+pub(crate) fn rendered<R: Threads + Wait + Sync, G: Gate + Sync>(
+    rt: &R,
+    alloc: Global,
+    case: &Case,
+    block: u32,
+    vector: u32,
+    gate: &mut G,
+) -> Result<Rendered, Fail> {
+    let program = program_of(alloc, case.program)?;
+    let controls = program.controls.as_slice();
+    let script = script_of(alloc, case.script, controls)?;
+    let arity = program.diagrams.arity(program.root);
+    if arity.outputs == 0 || arity.inputs > 256 {
+        return Err("channels".into());
+    }
+    if case.input.len() != case.frames as usize * arity.inputs as usize {
+        return Err("input".into());
+    }
+    if block == 0 || block > 4096 || vector == 0 || block.div_ceil(vector) > 64 {
+        return Err("sizes".into());
+    }
+    let bounds = spans_of(alloc, controls)?;
+    let Ok(delays) = spans(alloc, &program.diagrams, program.root, &bounds) else {
+        return Err("delays".into());
+    };
+    let source = Source {
+        diagrams: &program.diagrams,
+        root: program.root,
+        delays: &delays,
+        controls,
+    };
+    let sizes = RunSizes {
+        frames: case.frames,
+        block,
+        vector,
+        workers: 1,
+    };
+    let answer = render(
+        rt,
+        alloc,
+        &source,
+        script.changes(),
+        &sizes,
+        case.input,
+        gate,
+    )?;
+    Ok(answer)
+}
+
+/// What the runner of diagrams gives.
+pub(crate) fn stepped(alloc: Global, case: &Case) -> Result<Vec<i32>, Fail> {
+    let program = program_of(alloc, case.program)?;
+    let controls = program.controls.as_slice();
+    let script = script_of(alloc, case.script, controls)?;
+    let initial = initial_of(alloc, controls)?;
+    let arity = program.diagrams.arity(program.root);
+    let frames = case.frames as usize;
+    if case.input.len() != frames * arity.inputs as usize {
+        return Err("input".into());
+    }
+    let answer = play_script(
+        alloc,
+        &program.diagrams,
+        program.root,
+        &initial,
+        script.changes(),
+        case.input,
+        frames,
+    )?;
+    Ok(answer)
+}

@@ -1,0 +1,179 @@
+// Rows of programs.
+
+use crate::playing::{Case, numbers_of, rendered, stepped};
+use fv_num::Span;
+use fv_outside::{FreeGate, Line, Reads, Recorder, Task};
+use std::process::Abort;
+use std::test::Fail;
+use test_gates::{Counter, block_of};
+
+// An echo three frames later, half as loud each time.
+const ECHO: Case = Case {
+    program: "process = + ~ (@(2) : /(2));",
+    script: "",
+    input: &[80, 0, 0, -7, 3, 0, 0, 0, 12, 0, 0, 5, 0],
+    frames: 13,
+};
+
+// A signal less its `mem`.
+const DIFFERENCE: Case = Case {
+    program: "process = _ <: _,mem : -;",
+    script: "",
+    input: &[5, 7, 4],
+    frames: 3,
+};
+
+// A fader that moves within a block.
+const FADER: Case = Case {
+    program: "process = _ * hslider(\"gain\", 1, 0, 10, 1);",
+    script: "2 gain 3\n3 gain 0\n",
+    input: &[5, 5, 5, 5, 5],
+    frames: 5,
+};
+
+// A clock and a noise, without an input.
+const NOISE: Case = Case {
+    program: "random = +(12345) ~ *(1103515245); clock = +(1) ~ _; process = random, clock, random - clock;",
+    script: "",
+    input: &[],
+    frames: 700,
+};
+
+// How many frames a block and a vector have at most.
+const SIZES: [(u32, u32); 5] = [(1, 1), (7, 7), (7, 3), (512, 32), (4096, 64)];
+
+#[test]
+fn blocks_give_what_the_runner_gives(rt: HostRuntime) -> Result<(), Fail> {
+    let alloc = rt.alloc();
+    for case in &[ECHO, DIFFERENCE, FADER, NOISE] {
+        let wanted = stepped(alloc, case)?;
+        for (block, vector) in &SIZES {
+            let answer = rendered(&rt, alloc, case, *block, *vector, &mut FreeGate)?;
+            assert!(rt;
+                answer.samples.as_slice() == wanted.as_slice(),
+                "{} {block} {vector}",
+                case.program
+            );
+        }
+    }
+    Ok(())
+}
+
+#[test]
+fn an_echo(rt: HostRuntime) -> Result<(), Fail> {
+    let answer = rendered(&rt, rt.alloc(), &ECHO, 7, 7, &mut FreeGate)?;
+    let wanted = [80, 0, 0, 33, 3, 0, 16, 1, 12, 8, 0, 11, 4];
+    assert_eq!(rt; answer.samples.as_slice(), wanted.as_slice());
+    assert_eq!(rt; answer.ran.blocks, 2);
+    Ok(())
+}
+
+// A change cuts a block: frames 0 and 1, frame 2, frames 3 and 4.
+#[test]
+fn changes_cut_blocks(rt: HostRuntime) -> Result<(), Fail> {
+    let mut recorder = Recorder::new(rt.alloc(), 3, 100)?;
+    let answer = rendered(&rt, rt.alloc(), &FADER, 4, 4, &mut recorder)?;
+    assert_eq!(rt; answer.samples.as_slice(), [5, 5, 15, 0, 0].as_slice());
+    assert_eq!(rt; answer.ran.blocks, 3);
+    assert_eq!(rt; recorder.calls(), Some(3));
+    for i in 0..3u32 {
+        let Some((loops, vectors, _, _)) = block_of(&recorder, i) else {
+            panic!(rt; "no block");
+        };
+        assert_eq!(rt; (loops, vectors), (answer.ran.loops, 1));
+    }
+    Ok(())
+}
+
+// One entry, of two loops, of which the second reads the first, and the first has finished before the second starts.
+#[test]
+fn loops_run_after_what_they_read(rt: HostRuntime) -> Result<(), Fail> {
+    let mut recorder = Recorder::new(rt.alloc(), 1, 2)?;
+    let answer = rendered(&rt, rt.alloc(), &DIFFERENCE, 512, 32, &mut recorder)?;
+    assert_eq!(rt; answer.samples.as_slice(), [5, 2, -3].as_slice());
+    assert_eq!(rt;
+        (answer.ran.blocks, answer.ran.loops, answer.ran.loop_runs),
+        (1, 2, 2)
+    );
+    assert_eq!(rt; recorder.calls(), Some(1));
+    let Some((loops, vectors, reads, lines)) = block_of(&recorder, 0) else {
+        panic!(rt; "no block");
+    };
+    assert_eq!(rt; (loops, vectors), (2, 1));
+    let read = Reads {
+        reader: 1,
+        source: 0,
+    };
+    assert_eq!(rt; reads, [read].as_slice());
+    let first = Line {
+        task: Task {
+            loop_no: 0,
+            vector: 0,
+        },
+        worker: 0,
+        start: 0,
+        finish: 1,
+    };
+    let second = Line {
+        task: Task {
+            loop_no: 1,
+            vector: 0,
+        },
+        worker: 0,
+        start: 2,
+        finish: 3,
+    };
+    assert_eq!(rt; lines, [first, second].as_slice());
+    Ok(())
+}
+
+// Without room for the second line nothing is told.
+#[test]
+fn a_gate_without_room(rt: HostRuntime) -> Result<(), Fail> {
+    let mut recorder = Recorder::new(rt.alloc(), 1, 1)?;
+    let answer = rendered(&rt, rt.alloc(), &DIFFERENCE, 512, 32, &mut recorder)?;
+    assert_eq!(rt; answer.ran.blocks, 1);
+    assert_eq!(rt; recorder.calls(), None);
+    Ok(())
+}
+
+// The gate sees each loop before it runs, as often as is counted.
+#[test]
+fn each_run_is_seen(rt: HostRuntime) -> Result<(), Fail> {
+    for case in &[ECHO, DIFFERENCE, FADER, NOISE] {
+        for (block, vector) in &SIZES {
+            let mut counter = Counter::new();
+            let answer = rendered(&rt, rt.alloc(), case, *block, *vector, &mut counter)?;
+            assert_eq!(rt; u128::from(counter.tasks()), answer.ran.loop_runs);
+        }
+    }
+    Ok(())
+}
+
+// A slider begins where it says and stays between its bounds; a button is 0 or 1.
+#[test]
+fn numbers_of_controls(rt: HostRuntime) -> Result<(), Fail> {
+    let text = "process = hslider(\"a\", 4, -3, 10, 1), button(\"b\");";
+    let (initial, spans) = numbers_of(rt.alloc(), text)?;
+    assert_eq!(rt; initial.as_slice(), [4, 0].as_slice());
+    let wanted = [Span { lo: -3, hi: 10 }, Span { lo: 0, hi: 1 }];
+    assert_eq!(rt; spans.as_slice(), wanted.as_slice());
+    Ok(())
+}
+
+// No frame, no block.
+#[test]
+fn no_frames(rt: HostRuntime) -> Result<(), Fail> {
+    let case = Case {
+        input: &[],
+        frames: 0,
+        ..ECHO
+    };
+    let answer = rendered(&rt, rt.alloc(), &case, 512, 32, &mut FreeGate)?;
+    assert!(rt; answer.samples.is_empty());
+    assert_eq!(rt;
+        (answer.ran.blocks, answer.ran.loops, answer.ran.loop_runs),
+        (0, 0, 0)
+    );
+    Ok(())
+}

@@ -1,0 +1,41 @@
+-- What the tasks of a block need.
+use Rattle.std.specs.Prelude.{◌≡◌, ℕ, ◌*◌, ◌<◌, ◌≤◌, true, List, length, All, Bool, not}
+use Rattle.fv_outside.specs.Tasks.{Tasks, reads_loop, bit, total}
+use Rattle.fv_loopcode.specs.Code.{IsWithin}
+use Rattle.fv_loopcode.specs.Obeys.{OfLane}
+use Rattle.fv_loopcode.specs.Blocks.{AreApart}
+use Rattle.fv_engine_tasks.specs.Block.{Parts, Block, vectors_of}
+use Rattle.fv_engine_tasks.specs.declared.turns.Job.{Job}
+
+-- the block of a job
+abbrev pub block_of : {P : Type 0} → (P → Parts) → Job P → Block
+block_of parts j = record {
+  plan = parts j.plan.now;
+  vector = j.vector;
+  frames = j.frames;
+  channels = j.channels;
+  held = j.held.now;
+  input = j.input.now;
+}
+
+-- the tasks are the block's, and its codes read what is there
+pub record IsJob (b : Block) (g : Tasks) : Type 0 where
+  pub some : 0 < g.loops
+  pub loops : g.loops ≡ b.plan.count
+  pub vectors : g.vectors ≡ vectors_of b.frames b.vector
+  pub same : (k i : ℕ) → b.plan.loops.reads k i ≡ reads_loop g.reads k i
+  pub lower : (k i : ℕ) → reads_loop g.reads k i ≡ true → i < k
+  pub apart : AreApart b.plan.loops b.plan.lanes
+  -- each lane has a loop
+  pub owned : (l : ℕ) → l < b.plan.lanes → (j : ℕ) × (j < b.plan.count) × ((b.plan.loops.roles j).own (OfLane l) ≡ true)
+  pub vector : 1 ≤ b.vector
+  pub within : (j : ℕ) → j < b.plan.count → All (λ s. IsWithin (length b.held) b.channels s) (b.plan.loops.code j)
+  pub input : b.frames * b.channels ≤ length b.input
+
+-- there is a register for each step of each loop's code
+abbrev pub RegistersFit : Parts → ℕ → Type 0
+RegistersFit p n = (j : ℕ) → j < p.count → length (p.loops.code j) ≤ n
+
+-- how many tasks are not done
+abbrev pub left_to_do : List Bool → ℕ
+left_to_do done = total (λ d. bit (not d)) done

@@ -1,0 +1,228 @@
+// The tasks of a block, one after another by one worker.
+
+ghost use Rattle.std.specs.Prelude.{◌≡◌, ℕ, suc, ◌+◌, ◌-◌, ◌*◌, ◌<◌, ◌≤◌, true, All, length, List, [], ◌∷◌, set, vec_capacity, Some, None};
+ghost use Rattle.fv_num.specs.Words.{argument};
+ghost use Rattle.fv_outside.specs.Tasks.{task_count};
+ghost use Rattle.fv_graph.specs.Graph.{net_of, feeds_of};
+ghost use Rattle.fv_graph_core.specs.Core.{is_legal, after, deque_of, is_done};
+ghost use Rattle.fv_graph_core.specs.Ends.{back_of};
+ghost use Rattle.fv_graph_core.specs.Ready.{TakesReady};
+ghost use Rattle.fv_loopcode.specs.State.{State};
+ghost use Rattle.fv_loopcode.specs.Code.{MayRun, ran, frame_of, IsWithin};
+ghost use Rattle.fv_loopcode.specs.Blocks.{before};
+ghost use Rattle.fv_engine_tasks.specs.Block.{IsReal};
+ghost use Rattle.fv_engine_tasks.specs.Jobs.{IsJob, block_of, RegistersFit, left_to_do};
+ghost use Rattle.fv_engine_tasks.specs.Events.{IsFree, Runs, Owes, KeepsCore};
+ghost use Rattle.fv_engine_tasks.specs.Underway.{IsUnderway, EndsBlock};
+
+use crate::codes::Codes;
+use fv_graph::Tasks;
+use fv_graph_core::{Core, Event};
+use fv_loopcode::{Store, run, task_is_free};
+use fv_outside::{Gate, Line, Task};
+
+/// What the tasks of a block are of: the plan's codes, the held values, and the input in frames of so many channels, cut in
+/// vectors of so many frames.
+#[derive(Drop)]
+pub struct Job<'p, 'h, 'i, P> {
+    pub plan: &'p P,
+    pub held: &'h [i32],
+    pub input: &'i [i32],
+    pub channels: u64,
+    pub vector: u32,
+    pub frames: u32,
+}
+
+// An event that is legal.
+fn act(core: &mut Core, tasks: &Tasks, event: Event)
+    requires same { core.old.tasks ≡ tasks.now.tasks }
+    requires legal { is_legal (net_of tasks.now.tasks) core.old.now event ≡ true }
+    ensures { core.new ≡ record core.old { now = after (net_of tasks.now.tasks) core.old.now event } }
+{
+    let _ = core.step(tasks, event);
+}
+
+// The code of one task.
+fn run_task<P: Codes, S: Store>(
+    job: &Job<'_, '_, '_, P>,
+    task: Task,
+    regs: &mut [i32],
+    store: &mut S,
+)
+    requires sound { S.is_sound store.old }
+    requires there { task.loop_no < (P.parts job.now.plan.now).count }
+    requires inside { task.vector * job.now.vector < job.now.frames }
+    requires regs { length ((P.parts job.now.plan.now).loops.code task.loop_no) ≤ length regs.old }
+    requires within { All (λ s. IsWithin (length job.now.held.now) job.now.channels s)
+        ((P.parts job.now.plan.now).loops.code task.loop_no) }
+    requires input { job.now.frames * job.now.channels ≤ length job.now.input.now }
+    requires may { MayRun ((P.parts job.now.plan.now).loops.code task.loop_no) (argument job.now.held.now)
+        (frame_of job.now.input.now job.now.channels) (before job.now.vector job.now.frames task.vector)
+        (before job.now.vector job.now.frames (suc task.vector) - before job.now.vector job.now.frames task.vector)
+        (S.state store.old) }
+    ensures state { S.state store.new ≡ ran ((P.parts job.now.plan.now).loops.code task.loop_no) (argument job.now.held.now)
+        (frame_of job.now.input.now job.now.channels) (before job.now.vector job.now.frames task.vector)
+        (before job.now.vector job.now.frames (suc task.vector) - before job.now.vector job.now.frames task.vector)
+        (S.state store.old) }
+    ensures sound { S.is_sound store.new }
+    ensures kept { S.rest store.new ≡ S.rest store.old }
+    ensures regs { length regs.new ≡ length regs.old }
+{
+    let code = job.plan.code(task.loop_no);
+    let from = u64::from(task.vector) * u64::from(job.vector);
+    let count = u64::from(job.vector).min(u64::from(job.frames) - from);
+    let steps = code.len() as usize;
+    run(
+        code,
+        job.held,
+        job.input,
+        job.channels,
+        from,
+        count,
+        &mut regs[..steps],
+        store,
+    );
+}
+
+// The worker takes a task.
+fn take(core: &mut Core, tasks: &Tasks, t: u64)
+    requires same { core.old.tasks ≡ tasks.now.tasks }
+    requires free { IsFree core.old.now }
+    requires back { back_of (deque_of core.old.now 0) ≡ Some t }
+    ensures kept { KeepsCore core.old core.new }
+    ensures ready { TakesReady tasks.now.tasks core.old.now t }
+    ensures runs { Runs core.new.now t }
+    ensures done { core.new.now.done ≡ core.old.now.done }
+{
+    // It is legal, so there is no error.
+    let _ = core.step(tasks, Event::Take { worker: 0, task: t });
+}
+
+// The worker has done its task, and owes what it feeds.
+fn finish(core: &mut Core, tasks: &Tasks, t: u64)
+    requires same { core.old.tasks ≡ tasks.now.tasks }
+    requires runs { Runs core.old.now t }
+    ensures kept { KeepsCore core.old core.new }
+    ensures owes { Owes core.new.now (feeds_of tasks.now.tasks t) }
+    ensures done { core.new.now.done ≡ set core.old.now.done t true }
+{
+    act(core, tasks, Event::Finish { worker: 0, task: t });
+}
+
+// The worker arrives at an edge.
+fn arrive(core: &mut Core, tasks: &Tasks, edge: u64)
+    requires same { core.old.tasks ≡ tasks.now.tasks }
+    requires owes { (es : List ℕ) × Owes core.old.now (edge ∷ es) }
+    ensures kept { KeepsCore core.old core.new }
+    ensures owes { (es : List ℕ) → Owes core.old.now (edge ∷ es) → Owes core.new.now es }
+    ensures done { core.new.now.done ≡ core.old.now.done }
+{
+    act(core, tasks, Event::Arrive { worker: 0, edge });
+}
+
+// The worker arrives at all edges that it owes.
+fn arrive_all(core: &mut Core, tasks: &Tasks, t: u64)
+    requires same { core.old.tasks ≡ tasks.now.tasks }
+    requires task { t < task_count tasks.now.tasks }
+    requires owes { Owes core.old.now (feeds_of tasks.now.tasks t) }
+    ensures kept { KeepsCore core.old core.new }
+    ensures free { IsFree core.new.now }
+    ensures done { core.new.now.done ≡ core.old.now.done }
+{
+    let feeds = tasks.feeds(t);
+    for i in 0..feeds.len() {
+        arrive(core, tasks, feeds[i]);
+    }
+}
+
+// One task: the worker takes it, runs its code, and arrives at what it feeds.
+fn turn<P: Codes, S: Store, G: Gate>(
+    job: &Job<'_, '_, '_, P>,
+    tasks: &Tasks,
+    core: &mut Core,
+    regs: &mut [i32],
+    lines: &mut Vec<Line>,
+    store: &mut S,
+    gate: &G,
+    t: u64,
+)
+    requires same { core.old.tasks ≡ tasks.now.tasks }
+    requires back { back_of (deque_of core.old.now 0) ≡ Some t }
+    requires job { IsJob (block_of P.parts job.now) tasks.now.tasks }
+    requires regs { RegistersFit (P.parts job.now.plan.now) (length regs.old) }
+    requires room { task_count tasks.now.tasks ≤ vec_capacity lines.old }
+    requires sound { S.is_sound store.old }
+    requires underway { (first : State) × IsReal (block_of P.parts job.now) first
+        × IsUnderway tasks.now.tasks (block_of P.parts job.now) first core.old.now (S.state store.old) lines.old.items }
+    ensures core { KeepsCore core.old core.new }
+    ensures kept { S.rest store.new ≡ S.rest store.old }
+    ensures sound { S.is_sound store.new }
+    ensures regs { length regs.new ≡ length regs.old }
+    ensures room { vec_capacity lines.new ≡ vec_capacity lines.old }
+    ensures underway { (first : State) → IsReal (block_of P.parts job.now) first
+        → IsUnderway tasks.now.tasks (block_of P.parts job.now) first core.old.now (S.state store.old) lines.old.items
+        → IsUnderway tasks.now.tasks (block_of P.parts job.now) first core.new.now (S.state store.new) lines.new.items }
+    ensures less { left_to_do core.new.now.done < left_to_do core.old.now.done }
+{
+    task_is_free();
+    take(core, tasks, t);
+    let task = tasks.task(t);
+    let start = 2 * lines.len() as u64;
+    gate.at(0, task);
+    run_task(job, task, regs, store);
+    finish(core, tasks, t);
+    arrive_all(core, tasks, t);
+    lines.push_reserved(Line {
+        task,
+        worker: 0,
+        start,
+        finish: start + 1,
+    });
+}
+
+// The worker leaves, and all is done.
+fn leave(core: &mut Core, tasks: &Tasks)
+    requires same { core.old.tasks ≡ tasks.now.tasks }
+    requires one { core.old.workers ≡ 1 }
+    requires free { IsFree core.old.now }
+    requires empty { back_of (deque_of core.old.now 0) ≡ None }
+    ensures kept { KeepsCore core.old core.new }
+    ensures done { (t : ℕ) → t < task_count tasks.now.tasks → is_done core.old.now t ≡ true }
+{
+    // It is legal, so there is no error.
+    let _ = core.step(tasks, Event::Leave { worker: 0 });
+}
+
+/// Runs all tasks of a block, each after all that it reads. The gate sees each before it runs, and the lines are the block's journal.
+pub fn run_tasks<P: Codes, S: Store, G: Gate>(
+    job: &Job<'_, '_, '_, P>,
+    tasks: &Tasks,
+    core: &mut Core,
+    regs: &mut [i32],
+    lines: &mut Vec<Line>,
+    store: &mut S,
+    gate: &G,
+)
+    requires same { core.old.tasks ≡ tasks.now.tasks }
+    requires one { core.old.workers ≡ 1 }
+    requires job { IsJob (block_of P.parts job.now) tasks.now.tasks }
+    requires regs { RegistersFit (P.parts job.now.plan.now) (length regs.old) }
+    requires room { task_count tasks.now.tasks ≤ vec_capacity lines.old }
+    requires sound { S.is_sound store.old }
+    requires underway { (first : State) × IsReal (block_of P.parts job.now) first
+        × IsUnderway tasks.now.tasks (block_of P.parts job.now) first core.old.now (S.state store.old) lines.old.items }
+    ensures core { KeepsCore core.old core.new }
+    ensures kept { S.rest store.new ≡ S.rest store.old }
+    ensures sound { S.is_sound store.new }
+    ensures regs { length regs.new ≡ length regs.old }
+    ensures room { vec_capacity lines.new ≡ vec_capacity lines.old }
+    // Each lane holds its numbers of the whole block, and the journal is in order.
+    ensures ends { (first : State) → IsReal (block_of P.parts job.now) first
+        → IsUnderway tasks.now.tasks (block_of P.parts job.now) first core.old.now (S.state store.old) lines.old.items
+        → EndsBlock tasks.now.tasks (block_of P.parts job.now) first (S.state store.new) lines.new.items }
+{
+    while let Some(t) = core.next_of(0) {
+        turn(job, tasks, core, regs, lines, store, gate, t);
+    }
+    leave(core, tasks);
+}

@@ -1,0 +1,100 @@
+-- Arenas that nodes were put into: the diagrams stay composed, and what is remembered of them stays true.
+use Rattle.std.proofs.Common.{◌≡◌, ℕ, ◌<◌, ◌++◌, List, [], ◌∷◌, Result, Ok, Err, refl, sym, ap, subst, ◌∙◌, arith, below_more, append_assoc, append-nil}
+use Rattle.std.specs.Prelude.{All, get_or, IfOk, OnOk, OnErr}
+use Rattle.std.proofs.lemmas.List.{length_push}
+use Rattle.std.proofs.lemmas.List.Elements.{All-head, All-tail}
+use Rattle.fv_diagram.specs.declared.node.Node.{Node}
+use Rattle.fv_diagram.specs.declared.node.Node.TheVariants as node
+use Rattle.fv_diagram.specs.Diagram.{Diagram}
+use Rattle.fv_diagram.specs.Composed.{IsComposed}
+use Rattle.fv_diagram.specs.Arena.{Arena, ChildrenBelow, count_of, tree_of, tree_with, with_node}
+use Rattle.fv_diagram.proofs.Trees.{put_tree, put_tree_keeps}
+use Rattle.fv_arity.specs.Compositions.{HasComposedParts}
+use Rattle.fv_rules.specs.declared.refusal.EvalRefusal.{EvalRefusal}
+use Rattle.fv_rules.specs.declared.memo.Known.{Known}
+use Rattle.fv_rules.specs.declared.memo.Known.TheVariants as known
+use Rattle.fv_rules.specs.declared.value.Value as code_value
+use Rattle.fv_rules.specs.declared.value.Value.TheVariants as value
+use Rattle.fv_rules.specs.Numbers.{number_of}
+use Rattle.fv_rules.specs.Memo.{AddsIntegers, IsInteger, IsKnown, Remembers}
+use Rattle.fv_rules.specs.Choosing.{IsSound}
+use Rattle.fv_rules.proofs.Matched.{adds_keeps, adds_longer}
+use Rattle.fv_eval_drawing.specs.Makes.{AreComposed, Draws, Extends, IsThere}
+
+-- ---- what is remembered
+
+known_stays : (a b : Arena) (i : ℕ) (k : Known) → Extends a b → IsKnown a i k → IsKnown b i k
+known_stays a b i known.Unasked g h = h
+known_stays a b i known.Without g h = let l = g.longer in (omega (arith, h.0, l), ap number_of (g.trees i h.0) ∙ h.1)
+known_stays a b i (known.Number n) g h = let l = g.longer in (omega (arith, h.0, l), ap number_of (g.trees i h.0) ∙ h.1)
+
+pub still_remembers : (a b : Arena) (ks : List Known) → Extends a b → Remembers a ks → Remembers b ks
+still_remembers a b ks g h i k e = known_stays a b i k g (h i k e)
+
+-- ---- one node more
+
+parts_composed : (a : Arena) (n : Node) → AreComposed a → ChildrenBelow (count_of a) n → HasComposedParts (tree_with a n)
+parts_composed a (node.Prim p) h c = tt
+parts_composed a (node.Number n) h c = tt
+parts_composed a (node.Control k) h c = tt
+parts_composed a (node.Slot s) h c = tt
+parts_composed a (node.Bind s x) h c = h x c
+parts_composed a (node.Par x y) h c = (h x c.0, h y c.1)
+parts_composed a (node.Seq x y) h c = (h x c.0, h y c.1)
+parts_composed a (node.Split x y) h c = (h x c.0, h y c.1)
+parts_composed a (node.Merge x y) h c = (h x c.0, h y c.1)
+parts_composed a (node.Rec x y) h c = (h x c.0, h y c.1)
+
+one_more : (a : Arena) (n : Node) → AreComposed a → IsComposed (tree_with a n) → AreComposed (with_node a n)
+one_more a n h k i l =
+    let b : Arena = with_node a n in
+    let e = length_push a.nodes n in
+    below_more (λ j. IsComposed (tree_of b j)) (count_of a) (λ j q. subst IsComposed (sym (put_tree_keeps a b n j refl q)) (h j q))
+    (subst IsComposed (sym (put_tree a b n (count_of a) refl refl)) k) i (omega (arith, l, e))
+
+-- a node was put, or nothing has changed
+pub put_composed : (a b : Arena) (n : Node) (r : Result ℕ EvalRefusal) → AreComposed a → ChildrenBelow (count_of a) n
+    → IfOk r (λ i. (i ≡ count_of a) × (b ≡ with_node a n))
+    → OnOk r (HasComposedParts (tree_with a n) → IsComposed (tree_with a n)) → OnErr r (b ≡ a) → AreComposed b
+put_composed a b n (Ok i) h c added composed err = subst AreComposed (sym added.1) (one_more a n h (composed (parts_composed a n h c)))
+put_composed a b n (Err e) h c added composed err = subst AreComposed (sym err) h
+
+pub put_extends : (a b : Arena) (n : Node) (r : Result ℕ EvalRefusal) → IfOk r (λ i. (i ≡ count_of a) × (b ≡ with_node a n)) → OnErr r (b ≡ a)
+    → ((i : ℕ) → i < count_of a → tree_of b i ≡ tree_of a i) → Extends a b
+put_extends a b n (Ok i) added err keeps = let e = length_push a.nodes n in record { longer = omega (arith, e, ap count_of added.1); trees = keeps }
+put_extends a b n (Err e) added err keeps = record { longer = omega (arith, ap count_of err); trees = keeps }
+
+-- ---- integers more
+
+pub adds_extends : (a b : Arena) → AddsIntegers a b → Extends a b
+adds_extends a b g = record { longer = adds_longer a b g; trees = adds_keeps a b g }
+
+integer_composed : (a : Arena) (n : Node) → IsInteger n → IsComposed (tree_with a n)
+integer_composed a (node.Number n) h = tt
+integer_composed a n h = absurd h
+
+abbrev of_nodes : List Node → Arena
+of_nodes ns = record { nodes = ns }
+
+more_composed : (a : Arena) (more : List Node) → AreComposed a → All IsInteger more → AreComposed (of_nodes (a.nodes ++ more))
+more_composed a [] h k = subst AreComposed (sym (ap of_nodes (append-nil a.nodes))) h
+more_composed a (n ∷ more) h k =
+    subst AreComposed (ap of_nodes (append_assoc a.nodes (n ∷ []) more))
+    (more_composed (with_node a n) more (one_more a n h (integer_composed a n (All-head IsInteger n more k))) (All-tail IsInteger n more k))
+
+pub adds_composed : (a b : Arena) → AddsIntegers a b → AreComposed a → AreComposed b
+adds_composed a b g h = subst AreComposed (sym (ap of_nodes g.nodes)) (more_composed a g.more h g.integers)
+
+-- ---- a settled diagram, and values that are there
+
+pub settled_draws : {E : Type 0} (a : Arena) (d : Diagram) (r : Result ℕ E)
+    → IfOk r (λ i. i < count_of a) → IfOk r (λ i. tree_of a i ≡ d) → IfOk r (λ i. Draws a i d)
+settled_draws a d (Ok i) h k = record { inside = h; is = k }
+settled_draws a d (Err e) h k = tt
+
+one_sound : (a : Arena) (u : code_value.Value) → AreComposed a → IsThere a u → IsSound a u
+one_sound a (value.Diagram i) h k = (k, h i k)
+one_sound a u h k = tt
+
+pub there_sound : (a : Arena) (us : List code_value.Value) → AreComposed a → All (IsThere a) us → All (IsSound a) us
+there_sound a us h k i u l = one_sound a (get_or us i u) h (k i u l)

@@ -1,0 +1,37 @@
+-- Compositions of whole lists of diagrams.
+use Rattle.std.specs.Prelude.{◌≡◌, ℕ, ◌-◌, ◌&&◌, nat_eq, List, [], ◌∷◌, ◌++◌, pos, if◌then◌else◌}
+use Rattle.fv_num.specs.declared.op.Op.{Op}
+use Rattle.fv_diagram.specs.declared.node.Primitive.TheVariants as prim
+use Rattle.fv_diagram.specs.Diagram.{Diagram, Primitive, Par, Seq, inputs}
+use Rattle.fv_diagram.specs.Arena.{Arena}
+use Rattle.fv_rules.specs.declared.refusal.EvalRefusal.TheVariants.{IterationCount}
+use Rattle.fv_rules.specs.Steps.{Eval, refuse}
+use Rattle.fv_rules.specs.Rules.{from_right, from_left, takes_the_right, wires}
+use Rattle.fv_eval_drawing.specs.Makes.{AreThere, trees_of}
+use Rattle.fv_eval_drawing.specs.declared.lists.Link.{Link}
+use Rattle.fv_eval_drawing.specs.declared.lists.Link.TheVariants as link
+
+-- the composition that puts parts side by side, or behind one another
+abbrev pub linked : Link → Diagram → Diagram → Diagram
+linked link.Parallel a b = Par a b
+linked link.Sequence a b = Seq a b
+
+-- a list put from the right; none of no diagrams
+abbrev pub all_from_right : (Diagram → Diagram → Diagram) → List Diagram → Eval Diagram
+all_from_right compose [] = refuse (IterationCount (pos 0))
+all_from_right compose (d ∷ ds) = from_right compose d ds
+
+-- a list put from the left; none of no diagrams
+abbrev pub all_from_left : Op → List Diagram → Eval Diagram
+all_from_left op [] = refuse (IterationCount (pos 0))
+all_from_left op (d ∷ ds) = from_left (prim.Point op) d ds
+
+-- What a diagram is fed with, where so many of its inputs are given by arguments: the arguments, with wires for the others. A
+-- primitive of two inputs takes one argument as its second input.
+abbrev pub filled : ℕ → Diagram → List Diagram → List Diagram
+filled k f ds = if takes_the_right f && nat_eq k 1 then Primitive prim.Wire ∷ ds else ds ++ wires (inputs f - k)
+
+-- the numbers of what a diagram is fed with, where these are the numbers of its arguments
+pub record Fills (old new : Arena) (k : ℕ) (f : Diagram) (ids all : List ℕ) : Type 0 where
+  pub there : AreThere new all
+  pub trees : trees_of new all ≡ filled k f (trees_of old ids)

@@ -1,0 +1,142 @@
+// The diagrams of an evaluation.
+
+ghost use Rattle.std.specs.Prelude.{◌≡◌, ◌*◌, ◌<◌, ◌≤◌, All, IfOk, List};
+ghost use Rattle.fv_diagram.specs.Arena.{ChildrenBelow, IsArity, count_of, empty_arena, size_limit, tree_of, tree_with};
+ghost use Rattle.fv_rules.specs.Numbers.{number_of};
+ghost use Rattle.fv_rules.specs.Values.{Value as Meant};
+ghost use Rattle.fv_rules.specs.Matching.{chosen, number_or};
+ghost use Rattle.fv_rules.specs.Shows.{World, IsInside, ShowsValues, rules_in};
+ghost use Rattle.fv_rules.specs.Choosing.{with_diagrams};
+ghost use Rattle.fv_rules.specs.Chosen.{ShowsChoice};
+ghost use Rattle.fv_rules.specs.Steps.{put};
+ghost use Rattle.fv_eval_drawing.specs.Makes.{AreComposed, Draws, Extends, IsLeaf, IsThere, Makes};
+
+use fv_diagram::{Arity, DiagramId, Diagrams, Node};
+use fv_parse::TreeId;
+use fv_rules::{Bindings, Definitions, EvalRefusal, Numbers, Ruled, Value, put};
+use std::alloc::{AllocError, Global};
+use std::marker::Model;
+
+/// The diagrams of an evaluation, with the numbers of those that were asked for. Each is composed.
+#[derive(Drop)]
+pub struct Drawing {
+    diagrams: Diagrams,
+    numbers: Numbers,
+}
+
+impl Model for Drawing {
+    ghost use Rattle.fv_diagram.specs.Arena.{Arena};
+    ghost use Rattle.fv_rules.specs.Memo.{Remembers};
+    ghost use Rattle.fv_eval_drawing.specs.Makes.{AreComposed};
+
+    ghost Value = { Arena };
+
+    ghost view = { λ d. d.diagrams };
+
+    ghost invariant = { λ d. AreComposed d.diagrams × Remembers d.diagrams d.numbers };
+}
+
+impl Drawing {
+    /// No diagrams.
+    pub fn new(alloc: Global) -> Drawing
+        ensures { result ≡ empty_arena }
+    {
+        Drawing {
+            diagrams: Diagrams::new(alloc),
+            numbers: Numbers::new(alloc),
+        }
+    }
+
+    /// The diagrams as they stand.
+    pub fn finish(self) -> Diagrams
+        ensures diagrams { result ≡ self }
+        ensures composed { AreComposed result }
+    {
+        self.diagrams
+    }
+
+    /// Puts a node over diagrams: its arity is tried first, then its size.
+    pub fn put(&mut self, node: &Node) -> Result<DiagramId, EvalRefusal>
+        requires children { ChildrenBelow (count_of self.old) node.now }
+        ensures makes { Makes self.new (put (tree_with self.old node.now)) result }
+        ensures keeps { Extends self.old self.new }
+    {
+        put(&mut self.diagrams, node)
+    }
+
+    /// Puts a node without parts, which always fits.
+    pub fn leaf(&mut self, node: &Node) -> Result<DiagramId, AllocError>
+        requires { IsLeaf node.now }
+        ensures draws { IfOk result (λ i. Draws self.new i (tree_with self.old node.now)) }
+        ensures keeps { Extends self.old self.new }
+    {
+        match self.put(node) {
+            Ok(id) => Ok(id),
+            Err(refusal) => match refusal {
+                EvalRefusal::NoMemory => Err(AllocError),
+                _other => unreachable!(),
+            },
+        }
+    }
+
+    /// How many streams a diagram takes and gives.
+    pub fn arity(&self, id: DiagramId) -> Arity
+        requires { id < count_of self.now }
+        ensures arity { IsArity (tree_of self.now id) result }
+        ensures inputs { result.inputs ≤ 5 * size_limit }
+        ensures outputs { result.outputs ≤ 2 * size_limit }
+    {
+        self.diagrams.arity(id)
+    }
+
+    /// A node.
+    pub fn node(&self, id: DiagramId) -> Node
+        requires { id < count_of self.now }
+        ensures { tree_of self.now id ≡ tree_with self.now result }
+    {
+        self.diagrams.node(id)
+    }
+
+    /// The number of a diagram, its value at time 0; `None` where it has none.
+    pub fn number_of(&mut self, alloc: Global, id: DiagramId) -> Result<Option<i32>, AllocError>
+        requires { id < count_of self.old }
+        ensures number { IfOk result (λ o. o ≡ number_of (tree_of self.old id)) }
+        ensures same { self.new ≡ self.old }
+    {
+        self.numbers.number_of(alloc, &self.diagrams, id)
+    }
+
+    /// A diagram, or the integer that it is where it has a number.
+    pub fn settle(&mut self, alloc: Global, id: DiagramId) -> Result<DiagramId, AllocError>
+        requires { id < count_of self.old }
+        ensures draws { IfOk result
+            (λ i. Draws self.new i (number_or (number_of (tree_of self.old id)) (tree_of self.old id))) }
+        ensures keeps { Extends self.old self.new }
+    {
+        self.numbers.settle(alloc, &mut self.diagrams, id)
+    }
+
+    /// The right side and the bindings of the first rule that matches arguments; `None` where none does.
+    pub fn choose(
+        &mut self,
+        alloc: Global,
+        text: &Definitions,
+        ruled: Ruled,
+        arguments: &[Value],
+    ) -> Result<Option<(TreeId, Bindings)>, AllocError>
+        requires inside { IsInside text.now ruled }
+        requires there { All (IsThere self.old) arguments.now }
+        ensures chosen { IfOk result (λ o. (w : World) (vs : List Meant) → w.tree ≡ text.now → w.diagrams ≡ self.old
+            → ShowsValues w arguments.now vs
+            → ShowsChoice (with_diagrams w self.new) o (chosen text.now.tokens (rules_in text.now ruled) vs)) }
+        ensures keeps { Extends self.old self.new }
+    {
+        text.choose(
+            alloc,
+            ruled,
+            &mut self.diagrams,
+            &mut self.numbers,
+            arguments,
+        )
+    }
+}

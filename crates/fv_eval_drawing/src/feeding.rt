@@ -1,0 +1,125 @@
+// A diagram on its arguments.
+
+ghost use Rattle.std.specs.Prelude.{◌≡◌, ◌<◌, ◌&&◌, ◌∷◌, ◌++◌, IfOk, nat_eq, replicate};
+ghost use Rattle.fv_diagram.specs.Arena.{count_of, tree_of};
+ghost use Rattle.fv_rules.specs.Rules.{all_outputs, fed, takes_the_right};
+ghost use Rattle.fv_eval_drawing.specs.Makes.{AreThere, Extends, MakesValue, trees_of};
+ghost use Rattle.fv_eval_drawing.specs.Lists.{Fills};
+
+use crate::drawing::Drawing;
+use crate::lists::Link;
+use fv_diagram::{DiagramId, Node, Prim};
+use fv_rules::{EvalRefusal, too_many_to_count};
+use std::alloc::AllocError;
+
+impl Drawing {
+    // How many streams diagrams give together.
+    fn all_outputs(&self, parts: &[DiagramId]) -> Result<u64, AllocError>
+        requires { AreThere self.now parts.now }
+        ensures { IfOk result (λ n. n ≡ all_outputs (trees_of self.now parts.now)) }
+    {
+        let mut sum = 0u64;
+        for part in parts {
+            let outputs = u64::from(self.arity(*part).outputs);
+            let Some(more) = sum.checked_add(outputs) else {
+                return Err(too_many_to_count());
+            };
+            sum = more;
+        }
+        Ok(sum)
+    }
+
+    // Whether a diagram is a primitive of two inputs other than `prefix`.
+    fn takes_the_right(&self, diagram: DiagramId) -> bool
+        requires { diagram < count_of self.now }
+        ensures { result ≡ takes_the_right (tree_of self.now diagram) }
+    {
+        match self.node(diagram) {
+            Node::Prim(Prim::Prefix) => false,
+            Node::Prim(_) => self.arity(diagram).inputs == 2,
+            _ => false,
+        }
+    }
+
+    // Whether so many outputs are the second input of a diagram.
+    fn takes_one(&self, function: DiagramId, given: u64) -> bool
+        requires { function < count_of self.now }
+        ensures { result ≡ (takes_the_right (tree_of self.now function) && nat_eq given 1) }
+    {
+        self.takes_the_right(function) && given == 1
+    }
+
+    // The arguments, with wires for the inputs that they leave.
+    fn fill(
+        &mut self,
+        function: DiagramId,
+        given: u64,
+        parts: Vec<DiagramId>,
+    ) -> Result<Vec<DiagramId>, AllocError>
+        requires function { function < count_of self.old }
+        requires there { AreThere self.old parts.items }
+        ensures fills { IfOk result
+            (λ v. Fills self.old self.new given (tree_of self.old function) parts.items v.items) }
+        ensures keeps { Extends self.old self.new }
+    {
+        let inputs = u64::from(self.arity(function).inputs);
+        let wire = self.leaf(&Node::Prim(Prim::Wire))?;
+        if self.takes_one(function, given) {
+            with_one_before(parts, wire)
+        } else {
+            with_more_behind(parts, wire, inputs.saturating_sub(given))
+        }
+    }
+
+    /// A diagram on its arguments; on none it is itself.
+    pub fn feed(
+        &mut self,
+        function: DiagramId,
+        arguments: Vec<DiagramId>,
+    ) -> Result<DiagramId, EvalRefusal>
+        requires function { function < count_of self.old }
+        requires there { AreThere self.old arguments.items }
+        ensures makes { MakesValue self.new
+            (fed (tree_of self.old function) (trees_of self.old arguments.items)) result }
+        ensures keeps { Extends self.old self.new }
+    {
+        if arguments.is_empty() {
+            return Ok(function);
+        }
+        let given = self.all_outputs(arguments.as_slice())?;
+        let inputs = u64::from(self.arity(function).inputs);
+        if inputs < given {
+            return Err(EvalRefusal::TooManyArguments { given, inputs });
+        }
+        let parts = self.fill(function, given, arguments)?;
+        match self.from_right(Link::Parallel, parts) {
+            Ok(all) => self.put(&Node::Seq {
+                left: all,
+                right: function,
+            }),
+            Err(refusal) => Err(refusal),
+        }
+    }
+}
+
+// A part in front of others.
+fn with_one_before(mut parts: Vec<DiagramId>, part: DiagramId) -> Result<Vec<DiagramId>, AllocError>
+    ensures { IfOk result (λ v. v.items ≡ part ∷ parts.items) }
+{
+    parts.insert(0, part)?;
+    Ok(parts)
+}
+
+// A part so many times behind others.
+fn with_more_behind(
+    mut parts: Vec<DiagramId>,
+    part: DiagramId,
+    count: u64,
+) -> Result<Vec<DiagramId>, AllocError>
+    ensures { IfOk result (λ v. v.items ≡ parts.items ++ replicate count part) }
+{
+    'filling: for _i in 0..count {
+        parts.push(part)?;
+    }
+    Ok(parts)
+}

@@ -1,0 +1,115 @@
+// Compositions of lists.
+
+ghost use Rattle.std.specs.Prelude.{◌≡◌, ◌<◌};
+ghost use Rattle.fv_diagram.specs.declared.node.Primitive.TheVariants as prim;
+ghost use Rattle.fv_diagram.specs.Arena.{count_of, tree_of};
+ghost use Rattle.fv_rules.specs.Steps.{put};
+ghost use Rattle.fv_rules.specs.Rules.{from_left, gathered};
+ghost use Rattle.fv_eval_drawing.specs.Makes.{AreThere, Extends, Makes, MakesValue, trees_of};
+ghost use Rattle.fv_eval_drawing.specs.Lists.{all_from_left, all_from_right, linked};
+
+use crate::drawing::Drawing;
+use fv_diagram::{DiagramId, Node, Prim};
+use fv_num::Op;
+use fv_parse_grammar::Iteration;
+use fv_rules::EvalRefusal;
+
+/// How the parts of a list are put together: side by side, or behind one another.
+#[derive(Clone, Copy, Debug)]
+pub enum Link {
+    Parallel,
+    Sequence,
+}
+
+impl Drawing {
+    // Two parts put together.
+    fn link(
+        &mut self,
+        link: Link,
+        left: DiagramId,
+        right: DiagramId,
+    ) -> Result<DiagramId, EvalRefusal>
+        requires left { left < count_of self.old }
+        requires right { right < count_of self.old }
+        ensures makes { Makes self.new (put (linked link (tree_of self.old left) (tree_of self.old right))) result }
+        ensures keeps { Extends self.old self.new }
+    {
+        match link {
+            Link::Parallel => self.put(&Node::Par { left, right }),
+            Link::Sequence => self.put(&Node::Seq { left, right }),
+        }
+    }
+
+    /// A list put together from the right.
+    pub fn from_right(
+        &mut self,
+        link: Link,
+        mut parts: Vec<DiagramId>,
+    ) -> Result<DiagramId, EvalRefusal>
+        requires { AreThere self.old parts.items }
+        ensures makes { Makes self.new (all_from_right (linked link) (trees_of self.old parts.items)) result }
+        ensures keeps { Extends self.old self.new }
+    {
+        let Some(last) = parts.pop() else {
+            return Err(EvalRefusal::IterationCount { count: 0 });
+        };
+        let mut whole = last;
+        'linking: while let Some(part) = parts.pop() {
+            match self.link(link, part, whole) {
+                Ok(id) => whole = id,
+                Err(refusal) => return Err(refusal),
+            }
+        }
+        Ok(whole)
+    }
+
+    // A part and others put together from the left by an operation.
+    fn from_left(
+        &mut self,
+        op: Op,
+        first: DiagramId,
+        others: &[DiagramId],
+    ) -> Result<DiagramId, EvalRefusal>
+        requires first { first < count_of self.old }
+        requires others { AreThere self.old others.now }
+        ensures makes { Makes self.new
+            (from_left (prim.Point op) (tree_of self.old first) (trees_of self.old others.now)) result }
+        ensures keeps { Extends self.old self.new }
+    {
+        let mut whole = first;
+        'operating: for part in others {
+            whole = self.operate(Prim::Point(op), whole, *part)?;
+        }
+        Ok(whole)
+    }
+
+    // A list put together from the left by an operation.
+    fn all_from_left(&mut self, op: Op, parts: &[DiagramId]) -> Result<DiagramId, EvalRefusal>
+        requires { AreThere self.old parts.now }
+        ensures makes { Makes self.new (all_from_left op (trees_of self.old parts.now)) result }
+        ensures keeps { Extends self.old self.new }
+    {
+        match parts.split_first() {
+            None => Err(EvalRefusal::IterationCount { count: 0 }),
+            Some((first, others)) => self.from_left(op, *first, others),
+        }
+    }
+
+    /// The bodies of an iteration put together.
+    pub fn gather(
+        &mut self,
+        kind: Iteration,
+        bodies: Vec<DiagramId>,
+    ) -> Result<DiagramId, EvalRefusal>
+        requires { AreThere self.old bodies.items }
+        ensures makes { MakesValue self.new (gathered kind (trees_of self.old bodies.items)) result }
+        ensures keeps { Extends self.old self.new }
+    {
+        match kind {
+            Iteration::Parallel => self.from_right(Link::Parallel, bodies),
+            Iteration::Sequence => self.from_right(Link::Sequence, bodies),
+            Iteration::Sum => self.all_from_left(Op::Add, bodies.as_slice()),
+            Iteration::Product => self.all_from_left(Op::Mul, bodies.as_slice()),
+        }
+    }
+}

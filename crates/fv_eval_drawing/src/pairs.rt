@@ -1,0 +1,146 @@
+// Compositions of two parts, and binds.
+
+ghost use Rattle.std.specs.Prelude.{ℕ, ◌≡◌, ◌+◌, ◌<◌, ◌^◌, pos};
+ghost use Rattle.fv_diagram.specs.declared.node.Primitive.TheVariants as prim;
+ghost use Rattle.fv_diagram.specs.Diagram.{Constant, Primitive as Leaf, Seq};
+ghost use Rattle.fv_diagram.specs.Arena.{count_of, tree_of};
+ghost use Rattle.fv_num.specs.declared.op.Op.TheVariants as op;
+ghost use Rattle.fv_rules.specs.Steps.{put};
+ghost use Rattle.fv_rules.specs.Rules.{bind_all, joined, operated, primitive_of};
+ghost use Rattle.fv_eval_drawing.specs.Makes.{Extends, Makes};
+
+use crate::drawing::Drawing;
+use fv_diagram::{DiagramId, Node, Prim};
+use fv_num::Op;
+use fv_parse_grammar::{Operator, Primitive};
+use fv_rules::EvalRefusal;
+
+/// The diagrams' primitive that a primitive of the grammar is.
+pub fn primitive_of(primitive: Primitive) -> Prim
+    ensures { result ≡ primitive_of primitive }
+{
+    match primitive {
+        Primitive::Mem => Prim::Mem,
+        Primitive::Prefix => Prim::Prefix,
+        Primitive::Int => Prim::Int,
+        Primitive::Attach => Prim::Attach,
+        Primitive::Delay => Prim::Delay,
+        Primitive::Add => Prim::Point(Op::Add),
+        Primitive::Subtract => Prim::Point(Op::Sub),
+        Primitive::Multiply => Prim::Point(Op::Mul),
+        Primitive::Divide => Prim::Point(Op::Div),
+        Primitive::Remainder => Prim::Point(Op::Rem),
+        Primitive::And => Prim::Point(Op::And),
+        Primitive::Or => Prim::Point(Op::Or),
+        Primitive::Xor => Prim::Point(Op::Xor),
+        Primitive::ShiftLeft => Prim::Point(Op::Shl),
+        Primitive::ShiftRight => Prim::Point(Op::Shr),
+        Primitive::Less => Prim::Point(Op::Lt),
+        Primitive::LessEqual => Prim::Point(Op::Le),
+        Primitive::Greater => Prim::Point(Op::Gt),
+        Primitive::GreaterEqual => Prim::Point(Op::Ge),
+        Primitive::Equal => Prim::Point(Op::Eq),
+        Primitive::NotEqual => Prim::Point(Op::Ne),
+        Primitive::Min => Prim::Point(Op::Min),
+        Primitive::Max => Prim::Point(Op::Max),
+        Primitive::Abs => Prim::Point(Op::Abs),
+        Primitive::Select2 => Prim::Point(Op::Select2),
+        Primitive::Select3 => Prim::Point(Op::Select3),
+    }
+}
+
+impl Drawing {
+    /// An operation on two parts: `a op b` is `a,b : op`.
+    pub fn operate(
+        &mut self,
+        primitive: Prim,
+        left: DiagramId,
+        right: DiagramId,
+    ) -> Result<DiagramId, EvalRefusal>
+        requires left { left < count_of self.old }
+        requires right { right < count_of self.old }
+        ensures makes { Makes self.new (operated primitive (tree_of self.old left) (tree_of self.old right)) result }
+        ensures keeps { Extends self.old self.new }
+    {
+        let operation = self.leaf(&Node::Prim(primitive))?;
+        let both = self.put(&Node::Par { left, right })?;
+        self.put(&Node::Seq {
+            left: both,
+            right: operation,
+        })
+    }
+
+    /// Two parts joined.
+    pub fn join(
+        &mut self,
+        operator: Operator,
+        left: DiagramId,
+        right: DiagramId,
+    ) -> Result<DiagramId, EvalRefusal>
+        requires left { left < count_of self.old }
+        requires right { right < count_of self.old }
+        ensures makes { Makes self.new (joined operator (tree_of self.old left) (tree_of self.old right)) result }
+        ensures keeps { Extends self.old self.new }
+    {
+        match operator {
+            Operator::Infix(p) => self.operate(primitive_of(p), left, right),
+            Operator::Recursion => self.put(&Node::Rec { left, right }),
+            Operator::Parallel => self.put(&Node::Par { left, right }),
+            Operator::Sequence => self.put(&Node::Seq { left, right }),
+            Operator::Split => self.put(&Node::Split { left, right }),
+            Operator::Merge => self.put(&Node::Merge { left, right }),
+        }
+    }
+
+    /// `d : mem`.
+    pub fn delay(&mut self, diagram: DiagramId) -> Result<DiagramId, EvalRefusal>
+        requires { diagram < count_of self.old }
+        ensures makes { Makes self.new (put (Seq (tree_of self.old diagram) (Leaf prim.Mem))) result }
+        ensures keeps { Extends self.old self.new }
+    {
+        let right = self.leaf(&Node::Prim(Prim::Mem))?;
+        self.put(&Node::Seq {
+            left: diagram,
+            right,
+        })
+    }
+
+    /// `0 - d`.
+    pub fn negate(&mut self, diagram: DiagramId) -> Result<DiagramId, EvalRefusal>
+        requires { diagram < count_of self.old }
+        ensures makes { Makes self.new
+            (operated (prim.Point op.Sub) (Constant (pos 0)) (tree_of self.old diagram)) result }
+        ensures keeps { Extends self.old self.new }
+    {
+        let zero = self.leaf(&Node::Number(0))?;
+        self.operate(Prim::Point(Op::Sub), zero, diagram)
+    }
+
+    /// So many binds around a body, of the slots from this one on.
+    pub fn bind_all(
+        &mut self,
+        slot: u64,
+        slots: u64,
+        body: DiagramId,
+    ) -> Result<DiagramId, EvalRefusal>
+        requires body { body < count_of self.old }
+        requires slots { slot + slots < 2 ^ 64 }
+        ensures makes { Makes self.new (bind_all slot slots (tree_of self.old body)) result }
+        ensures keeps { Extends self.old self.new }
+    {
+        let mut whole = body;
+        let mut left = slots;
+        'binding: while left > 0 {
+            left -= 1;
+            let node = Node::Bind {
+                slot: slot + left,
+                body: whole,
+            };
+            match self.put(&node) {
+                Ok(id) => whole = id,
+                Err(refusal) => return Err(refusal),
+            }
+        }
+        Ok(whole)
+    }
+}

@@ -1,5 +1,0 @@
-use Rattle.fv_grammar.proofs.Complete.{one_program}
-use Rattle.fv_grammar.proofs.laws.spelled_once.Goals as goal
-
-pub returns : goal.returns
-returns c = one_program

@@ -1,5 +1,0 @@
-use Rattle.fv_lanes.specs.Marked.{Marks, ByOne, Named}
-use Rattle.fv_lanes.proofs.mark.mark_named.Given as goal
-
-abbrev pub invariant-loop-k : goal.invariant-loop-k
-invariant-loop-k l = Marks l.fn.marks.items l.marks.items (ByOne (Named l.stands l.signals) l.k)

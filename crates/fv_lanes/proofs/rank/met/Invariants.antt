@@ -1,5 +1,0 @@
-use Rattle.fv_lanes.proofs.RankLemmas.{MetUpTo}
-use Rattle.fv_lanes.proofs.rank.met.Given as goal
-
-abbrev pub invariant-loop-s : goal.invariant-loop-s
-invariant-loop-s l = MetUpTo l.numbers l.marked l.met.items l.s

@@ -1,6 +1,0 @@
-use Rattle.fv_plan.specs.Separated.{links_of}
-use Rattle.fv_lanes.specs.Rows.{AreRows}
-use Rattle.fv_lanes.proofs.rows.links.Given as goal
-
-abbrev pub invariant-loop-s : goal.invariant-loop-s
-invariant-loop-s l = AreRows (links_of l.graph) l.s l.rows

@@ -1,5 +1,0 @@
-use Rattle.fv_lanes.specs.Rows.{reads_of, AreRows}
-use Rattle.fv_lanes.proofs.rows.reads.Given as goal
-
-abbrev pub invariant-loop-s : goal.invariant-loop-s
-invariant-loop-s l = AreRows (reads_of l.graph) l.s l.rows

@@ -1,5 +1,0 @@
-//! Tests of fv_make's public calls.
-#![tactic(auto)]
-
-#[cfg(test)]
-mod made;

@@ -1,0 +1,13 @@
+use Rattle.std.proofs.Common.{arith}
+use Rattle.fv_parse_grammar.proofs.Sound.{program_sound}
+use Rattle.fv_parse_grammar.proofs.Complete.{program_complete, nests_among}
+use Rattle.fv_parse_grammar.proofs.laws.reads_what_is_spelled.Goals as goal
+
+pub returns-clause-sound : goal.returns-clause-sound
+returns-clause-sound c = program_sound
+
+pub returns-clause-complete : goal.returns-clause-complete
+returns-clause-complete c = λ limit ts x. program_complete ts x limit
+
+pub returns-clause-room : goal.returns-clause-room
+returns-clause-room c = λ limit ts h. nests_among limit 0 ts (omega arith)

@@ -1,0 +1,5 @@
+use Rattle.fv_parse_grammar.proofs.Complete.{one_program}
+use Rattle.fv_parse_grammar.proofs.laws.spelled_once.Goals as goal
+
+pub returns : goal.returns
+returns c = one_program

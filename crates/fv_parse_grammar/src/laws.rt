@@ -1,0 +1,16 @@
+// Laws of the grammar.
+
+ghost use Rattle.fv_parse_grammar.specs.Grammar.{SpelledOnce};
+ghost use Rattle.fv_parse_grammar.specs.Laws.{ReadsOnlySpelled, ReadsAllSpelled, NestsWithinLength};
+
+/// Tokens spell at most one program, so how operators rank and associate is settled.
+pub fn spelled_once()
+    ensures { SpelledOnce }
+{}
+
+/// The descent reads what is spelled, and nothing else.
+pub fn reads_what_is_spelled()
+    ensures sound { ReadsOnlySpelled }
+    ensures complete { ReadsAllSpelled }
+    ensures room { NestsWithinLength }
+{}

@@ -1,0 +1,186 @@
+-- What begins an operand, by its first token, and what stands behind it.
+use Rattle.std.proofs.Common.{◌≡◌, ℕ, List, [], ◌∷◌, Ok, refl, sym, subst}
+use Rattle.fv_lex.specs.declared.token.Symbol.{Symbol}
+use Rattle.fv_lex.specs.declared.token.Symbol.TheVariants.{Name, Text, Integer, Comma, Open, Close, OpenBrace, CloseBrace, Dot, Tick}
+use Rattle.fv_lex.specs.declared.token.Symbol.TheVariants as symbols
+use Rattle.fv_parse_grammar.specs.declared.form.Iteration.{Iteration as Repetition}
+use Rattle.fv_parse_grammar.specs.declared.form.Side.{Side}
+use Rattle.fv_parse_grammar.specs.declared.form.Switch.{Switch as SwitchKind}
+use Rattle.fv_parse_grammar.specs.declared.form.Slider.{Slider as SliderKind}
+use Rattle.fv_parse_grammar.specs.declared.form.Panel.{Panel as PanelKind}
+use Rattle.fv_parse_grammar.specs.declared.symbol.Head.{Head}
+use Rattle.fv_parse_grammar.specs.declared.symbol.Head.TheVariants as heads
+use Rattle.fv_parse_grammar.specs.declared.symbol.Inside.TheVariants as insides
+use Rattle.fv_parse_grammar.specs.Symbols.{head}
+use Rattle.fv_parse_grammar.specs.Tree.{Tree}
+use Rattle.fv_parse_grammar.specs.Grammar.{Primary, number, plus_number, minus_number, minus_name, named, wire, cut, plus, minus, primitive, grouped, abstracted}
+use Rattle.fv_parse_grammar.specs.Grammar.{cased, iterated, ported, switched, slid, paneled}
+use Rattle.fv_parse_grammar.proofs.Sound.{is_integer, is_name, is_plus, is_minus, is_underscore, is_exclamation, is_open, is_backslash, is_case}
+use Rattle.fv_parse_grammar.specs.Descent as descent
+use Rattle.fv_parse_grammar.specs.declared.symbol.Mark.TheVariants as marks
+use Rattle.fv_parse_grammar.specs.Descent.{Step, ◌>>=◌, Reader, group, abstraction, case_of, iteration, ports, switch, slider, panel, by_head, primary}
+use Rattle.fv_parse_prefixes.proofs.Plans.{called, worded, called_all, both, signed, Spelled, spelled, Plan, Sign, AName, AText, NameList, Inner, APrimary, Then, Spans}
+use Rattle.fv_parse_prefixes.proofs.Plans.{took, behind, next, made, done, as_plan, unread, one_taken, Reads}
+use Rattle.fv_parse_prefixes.proofs.Pieces.{expect_passes, a_name_reads, a_text_reads, label_reads, name_list_reads, ReadsInside, enclosed_reads, argument_reads}
+
+-- ---- the forms that a first token begins
+-- behind a token
+pub headed : {p : Plan} (t : Symbol) (ts : List Symbol) {r : Step Tree} → Reads p ts r → Reads (Then (Sign t) p) (t ∷ ts) r
+headed t ts f = behind (Sign t) (one_taken t ts) f
+
+-- one token that is an operand
+pub leaf : (p : Plan) (t : Symbol) (ts : List Symbol) {x : Tree} → ((tail : List Symbol) → Spans p (t ∷ tail) tail) → Reads p (t ∷ ts) (Ok (x, ts))
+leaf p t ts s = took (record { used = t ∷ []; whole = refl; spans = s })
+
+-- two tokens
+pub pair : (p : Plan) (t u : Symbol) (ts : List Symbol) {x : Tree} → ((tail : List Symbol) → Spans p (t ∷ u ∷ tail) tail) → Reads p (t ∷ u ∷ ts) (Ok (x, ts))
+pair p t u ts s = took (record { used = t ∷ u ∷ []; whole = refl; spans = s })
+
+-- "(" expression ")"
+is_group : (a b : List Symbol) → Spans (Then (Sign Open) (Then (Inner insides.Expression) (Sign Close))) a b → Spelled Primary a b
+is_group a b (both signed (both (spelled x) signed)) = spelled (grouped x)
+
+group_reads : (inner : Reader) → ReadsInside inner → (start : ℕ) (ts : List Symbol) → Reads APrimary (Open ∷ ts) (group inner start ts)
+group_reads inner reads start ts = as_plan APrimary (headed Open ts (made (enclosed_reads inner reads insides.Expression ts) (λ x. done))) is_group
+
+-- "\" "(" names ")" "." "(" expression ")"
+is_abstraction : (a b : List Symbol) → Spans (Then (Sign symbols.Backslash) (Then (Sign Open)
+    (Then NameList (Then (Sign Close) (Then (Sign Dot) (Then (Sign Open) (Then (Inner insides.Expression) (Sign Close)))))))) a b → Spelled Primary a b
+is_abstraction a b (both signed (both signed (both (called_all ns) (both signed (both signed (both signed (both (spelled x) signed))))))) =
+    spelled (abstracted ns x)
+
+abstraction_reads : (inner : Reader) → ReadsInside inner → (start : ℕ) (ts : List Symbol) → Reads APrimary (symbols.Backslash ∷ ts) (abstraction inner start ts)
+unfolding abstraction
+abstraction_reads inner reads start ts = as_plan APrimary (headed symbols.Backslash ts
+    (next (expect_passes marks.Open ts) (λ opened.
+    next (name_list_reads opened) (λ ns.
+    next (expect_passes marks.Close ns.1) (λ closed.
+    next (expect_passes marks.Dot closed) (λ dotted.
+    next (expect_passes marks.Open dotted) (λ again.
+    made (enclosed_reads inner reads insides.Expression again) (λ x. done)))))))) is_abstraction
+
+-- "case" "{" rules "}"
+is_case_of : (a b : List Symbol)
+    → Spans (Then (Sign symbols.Case) (Then (Sign OpenBrace) (Then (Inner insides.Rules) (Sign CloseBrace)))) a b → Spelled Primary a b
+is_case_of a b (both signed (both signed (both (spelled x) signed))) = spelled (cased x)
+
+case_reads : (inner : Reader) → ReadsInside inner → (start : ℕ) (ts : List Symbol) → Reads APrimary (symbols.Case ∷ ts) (case_of inner start ts)
+unfolding case_of
+case_reads inner reads start ts = as_plan APrimary (headed symbols.Case ts
+    (next (expect_passes marks.OpenBrace ts) (λ opened.
+    next (reads insides.Rules opened) (λ x.
+    made (expect_passes marks.CloseBrace x.1) (λ rest. done))))) is_case_of
+
+-- ("par" | "seq" | "sum" | "prod") "(" name "," argument "," expression ")"
+is_iteration : (t : Symbol) (i : Repetition) → head t ≡ heads.Iteration i → (a b : List Symbol)
+    → Spans (Then (Sign t) (Then (Sign Open) (Then AName
+    (Then (Sign Comma) (Then (Then (Inner insides.Argument) (Sign Comma)) (Then (Inner insides.Expression) (Sign Close))))))) a b → Spelled Primary a b
+is_iteration t i h a b (both signed (both signed (both called (both signed (both (both (spelled x) signed) (both (spelled y) signed)))))) =
+    spelled (iterated t i h x y)
+
+iteration_reads : (inner : Reader) → ReadsInside inner
+    → (start : ℕ) (t : Symbol) (i : Repetition) → head t ≡ heads.Iteration i → (ts : List Symbol) → Reads APrimary (t ∷ ts) (iteration inner start i ts)
+unfolding iteration
+iteration_reads inner reads start t i h ts = as_plan APrimary (headed t ts
+    (next (expect_passes marks.Open ts) (λ opened.
+    next (a_name_reads opened) (λ n.
+    next (expect_passes marks.Comma n.1) (λ rest.
+    next (argument_reads inner reads rest) (λ x.
+    made (enclosed_reads inner reads insides.Expression x.1) (λ y. done)))))))
+    (is_iteration t i h)
+
+-- ("inputs" | "outputs") "(" expression ")"
+is_port : (t : Symbol) (s : Side) → head t ≡ heads.Ports s
+    → (a b : List Symbol) → Spans (Then (Sign t) (Then (Sign Open) (Then (Inner insides.Expression) (Sign Close)))) a b → Spelled Primary a b
+is_port t s h a b (both signed (both signed (both (spelled x) signed))) = spelled (ported t s h x)
+
+ports_reads : (inner : Reader)
+    → ReadsInside inner → (start : ℕ) (t : Symbol) (s : Side) → head t ≡ heads.Ports s → (ts : List Symbol) → Reads APrimary (t ∷ ts) (ports inner start s ts)
+unfolding ports
+ports_reads inner reads start t s h ts = as_plan APrimary (headed t ts
+    (next (expect_passes marks.Open ts) (λ opened. made (enclosed_reads inner reads insides.Expression opened) (λ x. done))))
+    (is_port t s h)
+
+-- ("button" | "checkbox") "(" string ")"
+is_switch : (t : Symbol) (k : SwitchKind)
+    → head t ≡ heads.Switch k → (a b : List Symbol) → Spans (Then (Sign t) (Then (Sign Open) (Then AText (Sign Close)))) a b → Spelled Primary a b
+is_switch t k h a b (both signed (both signed (both worded signed))) = spelled (switched t k h)
+
+switch_reads : (start : ℕ) (t : Symbol) (k : SwitchKind) → head t ≡ heads.Switch k → (ts : List Symbol) → Reads APrimary (t ∷ ts) (switch start k ts)
+unfolding switch
+switch_reads start t k h ts = as_plan APrimary (headed t ts
+    (next (expect_passes marks.Open ts) (λ opened. next (a_text_reads opened) (λ text. made (expect_passes marks.Close text.1) (λ rest. done)))))
+    (is_switch t k h)
+
+-- ("hslider" | "vslider" | "nentry") "(" string "," argument "," argument "," argument "," argument ")"
+is_slider : (t : Symbol) (k : SliderKind) → head t ≡ heads.Slider k → (a b : List Symbol)
+    → Spans (Then (Sign t) (Then (Then (Sign Open) (Then AText (Sign Comma))) (Then (Then (Inner insides.Argument) (Sign Comma)) (Then (Then
+    (Inner insides.Argument) (Sign Comma)) (Then (Then (Inner insides.Argument) (Sign Comma)) (Then (Inner insides.Argument) (Sign Close))))))) a b
+    → Spelled Primary a b
+is_slider t k h a b (both signed (both (both signed (both worded signed))
+    (both (both (spelled x0) signed) (both (both (spelled x1) signed) (both (both (spelled x2) signed) (both (spelled x3) signed)))))) =
+    spelled (slid t k h x0 x1 x2 x3)
+
+slider_reads : (inner : Reader) → ReadsInside inner
+    → (start : ℕ) (t : Symbol) (k : SliderKind) → head t ≡ heads.Slider k → (ts : List Symbol) → Reads APrimary (t ∷ ts) (slider inner start k ts)
+unfolding slider
+slider_reads inner reads start t k h ts = as_plan APrimary (headed t ts
+    (next (label_reads ts) (λ text.
+    next (argument_reads inner reads text.1) (λ x0.
+    next (argument_reads inner reads x0.1) (λ x1.
+    next (argument_reads inner reads x1.1) (λ x2.
+    made (enclosed_reads inner reads insides.Argument x2.1) (λ x3. done)))))))
+    (is_slider t k h)
+
+-- ("hgroup" | "vgroup" | "tgroup") "(" string "," expression ")"
+is_panel : (t : Symbol) (k : PanelKind) → head t ≡ heads.Panel k → (a b : List Symbol)
+    → Spans (Then (Sign t) (Then (Then (Sign Open) (Then AText (Sign Comma))) (Then (Inner insides.Expression) (Sign Close)))) a b → Spelled Primary a b
+is_panel t k h a b (both signed (both (both signed (both worded signed)) (both (spelled x) signed))) = spelled (paneled t k h x)
+
+panel_reads : (inner : Reader) → ReadsInside inner
+    → (start : ℕ) (t : Symbol) (k : PanelKind) → head t ≡ heads.Panel k → (ts : List Symbol) → Reads APrimary (t ∷ ts) (panel inner start k ts)
+unfolding panel
+panel_reads inner reads start t k h ts = as_plan APrimary (headed t ts
+    (next (label_reads ts) (λ text. made (enclosed_reads inner reads insides.Expression text.1) (λ x. done))))
+    (is_panel t k h)
+
+-- ---- by the first token
+-- what is read from a token on, at a token that is equal
+pub begun : (p : Plan) (t u : Symbol) (ts : List Symbol) (r : Step Tree) → t ≡ u → Reads p (u ∷ ts) r → Reads p (t ∷ ts) r
+begun p t u ts r e f = subst (λ v. Reads p (v ∷ ts) r) (sym e) f
+
+after_plus_reads : (start : ℕ) (ts : List Symbol) → Reads APrimary (symbols.Plus ∷ ts) (descent.after_plus start ts)
+after_plus_reads start [] = leaf APrimary symbols.Plus [] (λ tail. spelled plus)
+after_plus_reads start (Integer n ∷ ts) = pair APrimary symbols.Plus (Integer n) ts (λ tail. spelled plus_number)
+after_plus_reads start (t ∷ ts) = leaf APrimary symbols.Plus (t ∷ ts) (λ tail. spelled plus)
+
+after_minus_reads : (start : ℕ) (ts : List Symbol) → Reads APrimary (symbols.Minus ∷ ts) (descent.after_minus start ts)
+after_minus_reads start [] = leaf APrimary symbols.Minus [] (λ tail. spelled minus)
+after_minus_reads start (Integer n ∷ ts) = pair APrimary symbols.Minus (Integer n) ts (λ tail. spelled minus_number)
+after_minus_reads start (Name n ∷ ts) = pair APrimary symbols.Minus (Name n) ts (λ tail. spelled minus_name)
+after_minus_reads start (t ∷ ts) = leaf APrimary symbols.Minus (t ∷ ts) (λ tail. spelled minus)
+
+-- by a reader that reads inside brackets
+module _ (inner : Reader) (reads : ReadsInside inner) where
+  by_head_reads : (h : Head) (t : Symbol) (ts : List Symbol) → head t ≡ h → Reads APrimary (t ∷ ts) (by_head inner h (t ∷ ts) ts)
+  unfolding by_head
+  by_head_reads (heads.Integer n) t ts h = begun APrimary t (Integer n) ts _ (is_integer t n h) (leaf APrimary (Integer n) ts (λ tail. spelled number))
+  by_head_reads (heads.Name n) t ts h = begun APrimary t (Name n) ts _ (is_name t n h) (leaf APrimary (Name n) ts (λ tail. spelled named))
+  by_head_reads heads.Plus t ts h = begun APrimary t symbols.Plus ts _ (is_plus t h) (after_plus_reads _ ts)
+  by_head_reads heads.Minus t ts h = begun APrimary t symbols.Minus ts _ (is_minus t h) (after_minus_reads _ ts)
+  by_head_reads heads.Wire t ts h = begun APrimary t symbols.Underscore ts _ (is_underscore t h) (leaf APrimary symbols.Underscore ts (λ tail. spelled wire))
+  by_head_reads heads.Cut t ts h = begun APrimary t symbols.Exclamation ts _ (is_exclamation t h) (leaf APrimary symbols.Exclamation ts (λ tail. spelled cut))
+  by_head_reads (heads.Primitive p) t ts h = leaf APrimary t ts (λ tail. spelled (primitive t p h))
+  by_head_reads heads.Group t ts h = begun APrimary t Open ts _ (is_open t h) (group_reads inner reads _ ts)
+  by_head_reads heads.Abstraction t ts h = begun APrimary t symbols.Backslash ts _ (is_backslash t h) (abstraction_reads inner reads _ ts)
+  by_head_reads heads.Case t ts h = begun APrimary t symbols.Case ts _ (is_case t h) (case_reads inner reads _ ts)
+  by_head_reads (heads.Iteration i) t ts h = iteration_reads inner reads _ t i h ts
+  by_head_reads (heads.Ports s) t ts h = ports_reads inner reads _ t s h ts
+  by_head_reads (heads.Switch k) t ts h = switch_reads _ t k h ts
+  by_head_reads (heads.Slider k) t ts h = slider_reads inner reads _ t k h ts
+  by_head_reads (heads.Panel k) t ts h = panel_reads inner reads _ t k h ts
+  by_head_reads heads.Nothing t ts h = unread APrimary
+
+  pub primary_reads : (ts : List Symbol) → Reads APrimary ts (primary inner ts)
+  primary_reads [] = unread APrimary
+  primary_reads (t ∷ ts) = by_head_reads (head t) t ts refl

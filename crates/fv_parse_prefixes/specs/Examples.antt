@@ -1,0 +1,48 @@
+-- Small beginnings, and places where the descent stops.
+use Rattle.std.specs.Prelude.{◌≡◌, List, [], ◌∷◌, Err, refl}
+use Rattle.fv_lex.specs.declared.token.Symbol.{Symbol}
+use Rattle.fv_lex.specs.declared.token.Symbol.TheVariants.{Name, Comma, Open, Close, Equals, Semicolon, Underscore}
+use Rattle.fv_parse_grammar.specs.declared.symbol.Items.TheVariants.{Statements}
+use Rattle.fv_parse_grammar.specs.Tree.{Tree, End}
+use Rattle.fv_parse_grammar.specs.Grammar.{Spells, Further, Definition, Expression, Primary, IsViablePrefix, stated, no_more, constant, plain, tighter, operand, bare}
+use Rattle.fv_parse_grammar.specs.Grammar.{wire, grouped}
+use Rattle.fv_parse_grammar.specs.Descent.{program, within, further, many, definition, constant_after, ended, expression, phrase, chain, rights, postfix, by_head}
+use Rattle.fv_parse_grammar.specs.Descent.{turns, run}
+use Rattle.fv_parse_prefixes.specs.Beginnings.{IsErrorPlace}
+
+-- an operand is an expression
+of_operand : {ts rest : List Symbol} {x : Tree} → Spells Primary ts x rest → Spells Expression ts x rest
+of_operand s = plain (tighter (tighter (tighter (tighter (tighter (tighter (tighter (tighter (operand (bare s))))))))))
+
+-- `process = _`
+a_wire : IsViablePrefix (Name 0 ∷ Equals ∷ Underscore ∷ [])
+a_wire = (Semicolon ∷ [], _, stated (constant (of_operand wire)) no_more)
+
+-- `process = (_`
+an_open_group : IsViablePrefix (Name 0 ∷ Equals ∷ Open ∷ Underscore ∷ [])
+an_open_group = (Close ∷ Semicolon ∷ [], _, stated (constant (of_operand (grouped (of_operand wire)))) no_more)
+
+-- `process = (_;` stops at `;`
+a_group_not_closed : program 128 (Name 0 ∷ Equals ∷ Open ∷ Underscore ∷ Semicolon ∷ []) ≡ Err (Semicolon ∷ [])
+unfolding program within further many definition constant_after ended expression phrase chain rights postfix by_head turns run
+a_group_not_closed = refl
+
+-- `process = (_);`, where no bracket may be opened, stops behind the bracket
+no_room_for_a_group : program 0 (Name 0 ∷ Equals ∷ Open ∷ Underscore ∷ Close ∷ Semicolon ∷ []) ≡ Err (Underscore ∷ Close ∷ Semicolon ∷ [])
+unfolding program within further many definition constant_after ended expression phrase chain rights postfix by_head turns run
+no_room_for_a_group = refl
+
+-- no definition begins with `,`
+no_definition : {ts rest : List Symbol} {x : Tree} → Spells Definition (Comma ∷ ts) x rest → ⊥
+no_definition s = elim s [ ]
+
+no_program : {ts : List Symbol} {x : Tree} → Spells (Further Statements) (Comma ∷ ts) x [] → ⊥
+no_program (stated p q) = no_definition p
+
+-- the place of the error in `,` is before it
+a_comma_alone : IsErrorPlace [] (Comma ∷ [])
+a_comma_alone = (([], End, no_more), λ begins. no_program begins.2)
+
+-- the empty text is a program, and has no such place
+no_place_in_nothing : IsErrorPlace [] [] → ⊥
+no_place_in_nothing place = place.1 End no_more

@@ -1,0 +1,309 @@
+// Reading from left to right, with one token of lookahead: what stands in an operand's place.
+// What stands in brackets is read by a call that has one bracket less to open; nothing else recurses.
+
+ghost use Rattle.std.specs.Prelude.{◌≡◌, ◌-◌, ◌<◌, ◌≤◌, ◌∷◌, true, false, length, OnOk, IfOk, OnSome};
+ghost use Rattle.fv_parse_grammar.specs.declared.symbol.Inside.TheVariants as insides;
+ghost use Rattle.fv_parse_grammar.specs.declared.symbol.Items.TheVariants.{Rules, Parts};
+ghost use Rattle.fv_parse_grammar.specs.Descent.{within, enclosed, argument, group, abstraction, case_of, iteration, ports, slider, panel, by_head, primary};
+ghost use Rattle.fv_parse_grammar.specs.Descent.{applied_to, postfix_turn, postfix, atom_by_head, operand, run};
+ghost use Rattle.fv_parse_tree.specs.Arena.{tree_at, trees};
+ghost use Rattle.fv_parse_tree.specs.Gives.{Gives, GivesTurn};
+
+use crate::node::{TreeId, TreeNode};
+use crate::phrases::LOOSEST;
+use crate::reader::{Reader, Stop};
+use crate::tables::head;
+use fv_lex::Symbol;
+use fv_parse_grammar::{
+    Commas, Head, Inside, Items, Iteration, Mark, Operands, Panel, Side, Slider,
+};
+
+impl<'a> Reader<'a> {
+    /// What stands behind an open bracket. All recursion goes by here.
+    #[cycle(parser)]
+    pub(crate) fn inside(&mut self, room: usize, what: Inside) -> Result<TreeId, Stop>
+        ensures is { Gives self.old self.new result (within room what self.old.symbols.rest.now) }
+        ensures shorter { OnOk result (length self.new.symbols.rest.now ≤ length self.old.symbols.rest.now) }
+    {
+        if room == 0 {
+            return Err(Stop::Syntax);
+        }
+        match what {
+            Inside::Expression => self.expression(room - 1),
+            Inside::Argument => self.phrase(
+                room - 1,
+                Operands::Expressions,
+                Commas::Separate,
+                LOOSEST,
+            ),
+            Inside::Pattern => self.phrase(room - 1, Operands::Patterns, Commas::Join, LOOSEST),
+            Inside::Arguments => self.listed(room - 1, Items::Parts(Operands::Expressions)),
+            Inside::Patterns => self.listed(room - 1, Items::Parts(Operands::Patterns)),
+            Inside::Rules => self.listed(room - 1, Items::Rules),
+            Inside::Definitions => self.further(room - 1, Items::Definitions, None),
+        }
+    }
+
+    /// What stands behind an open bracket, and the bracket that closes it.
+    #[cycle(parser)]
+    pub(crate) fn enclosed(&mut self, room: usize, what: Inside) -> Result<TreeId, Stop>
+        ensures is { Gives self.old self.new result (enclosed (within room) what self.old.symbols.rest.now) }
+        ensures shorter { OnOk result (length self.new.symbols.rest.now < length self.old.symbols.rest.now) }
+    {
+        let tree = self.inside(room, what)?;
+        self.symbols.take(Mark::Close)?;
+        Ok(tree)
+    }
+
+    /// An argument, and the comma behind it.
+    #[cycle(parser)]
+    fn argument(&mut self, room: usize) -> Result<TreeId, Stop>
+        ensures is { Gives self.old self.new result (argument (within room) self.old.symbols.rest.now) }
+        ensures shorter { OnOk result (length self.new.symbols.rest.now < length self.old.symbols.rest.now) }
+    {
+        let tree = self.inside(room, Inside::Argument)?;
+        self.symbols.take(Mark::Comma)?;
+        Ok(tree)
+    }
+
+    #[cycle(parser)]
+    fn group(&mut self, room: usize, start: usize) -> Result<TreeId, Stop>
+        ensures is { Gives self.old self.new result (group (within room) start self.old.symbols.rest.now) }
+        ensures shorter { OnOk result (length self.new.symbols.rest.now < length self.old.symbols.rest.now) }
+    {
+        let tree = self.enclosed(room, Inside::Expression)?;
+        Ok(self.arena.push(TreeNode::Group(tree), start)?)
+    }
+
+    #[tactic(auto, unfolding(fv_parse_grammar::specs::Descent::abstraction))]
+    #[cycle(parser)]
+    fn abstraction(&mut self, room: usize, start: usize) -> Result<TreeId, Stop>
+        ensures is { Gives self.old self.new result (abstraction (within room) start self.old.symbols.rest.now) }
+        ensures shorter { OnOk result (length self.new.symbols.rest.now < length self.old.symbols.rest.now) }
+    {
+        self.symbols.take(Mark::Open)?;
+        let parameters = self.symbols.names(self.alloc)?;
+        self.symbols.take(Mark::Close)?;
+        self.symbols.take(Mark::Dot)?;
+        self.symbols.take(Mark::Open)?;
+        let body = self.enclosed(room, Inside::Expression)?;
+        Ok(
+            self.arena
+                .push(TreeNode::Abstraction(parameters, body), start)?,
+        )
+    }
+
+    #[tactic(auto, unfolding(fv_parse_grammar::specs::Descent::case_of))]
+    #[cycle(parser)]
+    fn case_of(&mut self, room: usize, start: usize) -> Result<TreeId, Stop>
+        ensures is { Gives self.old self.new result (case_of (within room) start self.old.symbols.rest.now) }
+        ensures shorter { OnOk result (length self.new.symbols.rest.now < length self.old.symbols.rest.now) }
+    {
+        self.symbols.take(Mark::OpenBrace)?;
+        let rules = self.inside(room, Inside::Rules)?;
+        self.symbols.take(Mark::CloseBrace)?;
+        Ok(self.arena.push(TreeNode::Case(rules), start)?)
+    }
+
+    #[tactic(auto, unfolding(fv_parse_grammar::specs::Descent::iteration))]
+    #[cycle(parser)]
+    fn iteration(&mut self, room: usize, start: usize, kind: Iteration) -> Result<TreeId, Stop>
+        ensures is { Gives self.old self.new result (iteration (within room) start kind self.old.symbols.rest.now) }
+        ensures shorter { OnOk result (length self.new.symbols.rest.now < length self.old.symbols.rest.now) }
+    {
+        self.symbols.take(Mark::Open)?;
+        let index = self.symbols.name()?;
+        self.symbols.take(Mark::Comma)?;
+        let count = self.argument(room)?;
+        let body = self.enclosed(room, Inside::Expression)?;
+        Ok(
+            self.arena
+                .push(TreeNode::Iteration(kind, index, count, body), start)?,
+        )
+    }
+
+    #[tactic(auto, unfolding(fv_parse_grammar::specs::Descent::ports))]
+    #[cycle(parser)]
+    fn ports(&mut self, room: usize, start: usize, side: Side) -> Result<TreeId, Stop>
+        ensures is { Gives self.old self.new result (ports (within room) start side self.old.symbols.rest.now) }
+        ensures shorter { OnOk result (length self.new.symbols.rest.now < length self.old.symbols.rest.now) }
+    {
+        self.symbols.take(Mark::Open)?;
+        let tree = self.enclosed(room, Inside::Expression)?;
+        Ok(self.arena.push(TreeNode::Ports(side, tree), start)?)
+    }
+
+    #[tactic(auto, unfolding(fv_parse_grammar::specs::Descent::slider))]
+    #[cycle(parser)]
+    fn slider(&mut self, room: usize, start: usize, kind: Slider) -> Result<TreeId, Stop>
+        ensures is { Gives self.old self.new result (slider (within room) start kind self.old.symbols.rest.now) }
+        ensures shorter { OnOk result (length self.new.symbols.rest.now < length self.old.symbols.rest.now) }
+    {
+        let text = self.symbols.label()?;
+        let init = self.argument(room)?;
+        let min = self.argument(room)?;
+        let max = self.argument(room)?;
+        let step = self.enclosed(room, Inside::Argument)?;
+        Ok(
+            self.arena
+                .push(TreeNode::Slider(kind, text, init, min, max, step), start)?,
+        )
+    }
+
+    #[tactic(auto, unfolding(fv_parse_grammar::specs::Descent::panel))]
+    #[cycle(parser)]
+    fn panel(&mut self, room: usize, start: usize, kind: Panel) -> Result<TreeId, Stop>
+        ensures is { Gives self.old self.new result (panel (within room) start kind self.old.symbols.rest.now) }
+        ensures shorter { OnOk result (length self.new.symbols.rest.now < length self.old.symbols.rest.now) }
+    {
+        let text = self.symbols.label()?;
+        let tree = self.enclosed(room, Inside::Expression)?;
+        Ok(self.arena.push(TreeNode::Panel(kind, text, tree), start)?)
+    }
+
+    /// An operand, by what the first of all its symbols begins, which was passed.
+    #[tactic(auto, unfolding(fv_parse_grammar::specs::Descent::by_head))]
+    #[cycle(parser)]
+    fn by_head(&mut self, room: usize, head: Head, all: &'a [Symbol]) -> Result<TreeId, Stop>
+        requires { length self.old.symbols.rest.now < length all.now }
+        ensures is { Gives self.old self.new result (by_head (within room) head all.now self.old.symbols.rest.now) }
+        ensures shorter { OnOk result (length self.new.symbols.rest.now < length all.now) }
+    {
+        let start = all.len();
+        match head {
+            Head::Integer(n) => Ok(self.arena.push(TreeNode::Number(n), start)?),
+            Head::Name(n) => Ok(self.arena.push(TreeNode::Named(n), start)?),
+            Head::Plus => self.plus(start),
+            Head::Minus => self.minus(start),
+            Head::Wire => Ok(self.arena.push(TreeNode::Wire, start)?),
+            Head::Cut => Ok(self.arena.push(TreeNode::Cut, start)?),
+            Head::Primitive(p) => Ok(self.arena.push(TreeNode::Primitive(p), start)?),
+            Head::Group => self.group(room, start),
+            Head::Abstraction => self.abstraction(room, start),
+            Head::Case => self.case_of(room, start),
+            Head::Iteration(kind) => self.iteration(room, start, kind),
+            Head::Ports(side) => self.ports(room, start, side),
+            Head::Switch(kind) => self.switch(start, kind),
+            Head::Slider(kind) => self.slider(room, start, kind),
+            Head::Panel(kind) => self.panel(room, start, kind),
+            Head::Nothing => {
+                self.symbols.rest = all;
+                Err(Stop::Syntax)
+            }
+        }
+    }
+
+    #[cycle(parser)]
+    fn primary(&mut self, room: usize) -> Result<TreeId, Stop>
+        ensures is { Gives self.old self.new result (primary (within room) self.old.symbols.rest.now) }
+        ensures shorter { OnOk result (length self.new.symbols.rest.now < length self.old.symbols.rest.now) }
+    {
+        let all = self.symbols.rest;
+        match all {
+            [] => Err(Stop::Syntax),
+            [symbol, after @ ..] => {
+                self.symbols.rest = after;
+                self.by_head(room, head(*symbol), all)
+            }
+        }
+    }
+
+    #[tactic(auto, unfolding(fv_parse_grammar::specs::Descent::postfix))]
+    #[cycle(parser)]
+    fn postfix(&mut self, room: usize) -> Result<TreeId, Stop>
+        ensures is { Gives self.old self.new result (postfix (within room) self.old.symbols.rest.now) }
+        ensures shorter { OnOk result (length self.new.symbols.rest.now < length self.old.symbols.rest.now) }
+    {
+        let start = self.symbols.rest.len();
+        let first = self.primary(room)?;
+        self.postfixes(room, start, first)
+    }
+
+    #[cycle(parser)]
+    fn postfixes(&mut self, room: usize, start: usize, first: TreeId) -> Result<TreeId, Stop>
+        requires { first < length (trees self.old.arena) }
+        ensures is { Gives self.old self.new result (run (postfix_turn (within room) start) (tree_at (trees self.old.arena) first) self.old.symbols.rest.now) }
+        ensures shorter { OnOk result (length self.new.symbols.rest.now ≤ length self.old.symbols.rest.now) }
+    {
+        let mut tree = first;
+        while let Some(next) = self.next_postfix(room, start, tree)? {
+            tree = next;
+        }
+        Ok(tree)
+    }
+
+    #[cycle(parser)]
+    fn next_postfix(
+        &mut self,
+        room: usize,
+        start: usize,
+        tree: TreeId,
+    ) -> Result<Option<TreeId>, Stop>
+        requires { tree < length (trees self.old.arena) }
+        ensures is { GivesTurn self.old self.new result (postfix_turn (within room) start (tree_at (trees self.old.arena) tree) self.old.symbols.rest.now) }
+        ensures shorter { IfOk result (λ o. OnSome o (length self.new.symbols.rest.now < length self.old.symbols.rest.now)) }
+    {
+        match self.symbols.rest {
+            [Symbol::Tick, after @ ..] => {
+                self.symbols.rest = after;
+                Ok(Some(self.arena.push(TreeNode::Delayed(tree), start)?))
+            }
+            [Symbol::Open, after @ ..] => {
+                self.symbols.rest = after;
+                self.applied(room, start, tree)
+            }
+            _ => Ok(None),
+        }
+    }
+
+    /// What follows the bracket of an application.
+    #[cycle(parser)]
+    fn applied(&mut self, room: usize, start: usize, tree: TreeId) -> Result<Option<TreeId>, Stop>
+        requires { tree < length (trees self.old.arena) }
+        ensures is { GivesTurn self.old self.new result (applied_to (within room) start (tree_at (trees self.old.arena) tree) self.old.symbols.rest.now) }
+        ensures shorter { IfOk result (λ o. OnSome o (length self.new.symbols.rest.now < length self.old.symbols.rest.now)) }
+    {
+        let arguments = self.enclosed(room, Inside::Arguments)?;
+        Ok(Some(self.arena.push(TreeNode::Apply(tree, arguments), start)?))
+    }
+
+    /// What stands in a pattern, by what the first of all its symbols begins, which was passed.
+    #[cycle(parser)]
+    fn atom_by_head(&mut self, room: usize, head: Head, all: &'a [Symbol]) -> Result<TreeId, Stop>
+        requires { length self.old.symbols.rest.now < length all.now }
+        ensures is { Gives self.old self.new result (atom_by_head (within room) head all.now self.old.symbols.rest.now) }
+        ensures shorter { OnOk result (length self.new.symbols.rest.now < length all.now) }
+    {
+        let start = all.len();
+        match head {
+            Head::Integer(n) => Ok(self.arena.push(TreeNode::Number(n), start)?),
+            Head::Name(n) => Ok(self.arena.push(TreeNode::Named(n), start)?),
+            Head::Plus => self.plus_in_pattern(start),
+            Head::Minus => self.minus_in_pattern(start),
+            Head::Group => self.enclosed(room, Inside::Pattern),
+            _ => {
+                self.symbols.rest = all;
+                Err(Stop::Syntax)
+            }
+        }
+    }
+
+    /// What the operators join.
+    #[cycle(parser)]
+    pub(crate) fn operand(&mut self, room: usize, operands: Operands) -> Result<TreeId, Stop>
+        ensures is { Gives self.old self.new result (operand (within room) operands self.old.symbols.rest.now) }
+        ensures shorter { OnOk result (length self.new.symbols.rest.now < length self.old.symbols.rest.now) }
+    {
+        if operands == Operands::Expressions {
+            return self.postfix(room);
+        }
+        let all = self.symbols.rest;
+        match all {
+            [] => Err(Stop::Syntax),
+            [symbol, after @ ..] => {
+                self.symbols.rest = after;
+                self.atom_by_head(room, head(*symbol), all)
+            }
+        }
+    }
+}

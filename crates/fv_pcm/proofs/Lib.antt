@@ -1,0 +1,4 @@
+pub mod Widths
+pub mod Samples
+pub mod Again
+pub mod Following

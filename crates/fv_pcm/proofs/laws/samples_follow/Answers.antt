@@ -1,0 +1,5 @@
+use Rattle.fv_pcm.proofs.Following.{follow}
+use Rattle.fv_pcm.proofs.laws.samples_follow.Goals as goal
+
+pub returns : goal.returns
+returns c = follow

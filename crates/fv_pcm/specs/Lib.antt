@@ -1,0 +1,4 @@
+pub mod Coded
+pub mod Sizes
+pub mod ReadAgain
+pub mod Examples

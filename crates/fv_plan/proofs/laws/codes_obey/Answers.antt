@@ -1,5 +1,0 @@
-use Rattle.fv_plan.proofs.FitsLemmas.{codes_obey}
-use Rattle.fv_plan.proofs.laws.codes_obey.Goals as goal
-
-pub returns : goal.returns
-returns c = codes_obey

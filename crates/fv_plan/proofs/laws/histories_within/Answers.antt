@@ -1,5 +1,0 @@
-use Rattle.fv_plan.proofs.TaskLemmas.{histories_within}
-use Rattle.fv_plan.proofs.laws.histories_within.Goals as goal
-
-pub returns : goal.returns
-returns c = histories_within

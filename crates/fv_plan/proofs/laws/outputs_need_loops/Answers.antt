@@ -1,5 +1,0 @@
-use Rattle.fv_plan.proofs.TaskLemmas.{outputs_need_loops}
-use Rattle.fv_plan.proofs.laws.outputs_need_loops.Goals as goal
-
-pub returns : goal.returns
-returns c = outputs_need_loops

@@ -1,5 +1,0 @@
-use Rattle.fv_plan.proofs.TaskLemmas.{plans_are_apart}
-use Rattle.fv_plan.proofs.laws.plans_are_apart.Goals as goal
-
-pub returns : goal.returns
-returns c = plans_are_apart

@@ -1,5 +1,0 @@
-use Rattle.fv_plan.proofs.TaskLemmas.{plans_do_tasks}
-use Rattle.fv_plan.proofs.laws.plans_do_tasks.Goals as goal
-
-pub returns : goal.returns
-returns c = plans_do_tasks

@@ -1,4 +1,0 @@
-pub mod Frames
-pub mod Taken
-pub mod Planned
-pub mod Whole

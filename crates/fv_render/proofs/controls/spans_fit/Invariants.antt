@@ -1,8 +1,0 @@
-use Rattle.std.proofs.Common.{◌<◌, ℕ, get_or}
-use Rattle.fv_num.specs.Interval.{IsSpan}
-use Rattle.fv_control.specs.Script.{no_control}
-use Rattle.fv_render.specs.Render.{span_of}
-use Rattle.fv_render.proofs.controls.spans_fit.Given as goal
-
-abbrev pub invariant-loop-control : goal.invariant-loop-control
-invariant-loop-control l = (k : ℕ) → k < l.control-index → IsSpan (span_of (get_or l.controls k no_control))

@@ -1,7 +1,0 @@
-//! Tests of fv_render's public call: programs that are played in blocks, beside the runner of diagrams.
-#![tactic(auto)]
-
-#[cfg(test)]
-mod playing;
-#[cfg(test)]
-mod rows;

@@ -1,0 +1,5 @@
+use Rattle.fv_share.proofs.Puts.{backs_stay_within}
+use Rattle.fv_share.proofs.laws.backs_stay_within.Goals as goal
+
+pub returns : goal.returns
+returns c = backs_stay_within

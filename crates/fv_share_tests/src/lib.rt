@@ -1,5 +1,0 @@
-// Tests of the builder of graphs.
-#![tactic(auto)]
-
-#[cfg(test)]
-mod graphs;

@@ -1,0 +1,5 @@
+use Rattle.fv_signal.proofs.Solutions.{solutions_are_values_on}
+use Rattle.fv_signal.proofs.laws.solutions_are_values_on.Goals as goal
+
+pub returns : goal.returns
+returns c = solutions_are_values_on

@@ -1,0 +1,5 @@
+pub mod Put
+pub mod Images
+pub mod Along
+pub mod Made
+pub mod Whole

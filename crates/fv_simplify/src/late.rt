@@ -1,0 +1,183 @@
+// Delays over signals that were put.
+
+ghost use Rattle.std.specs.Prelude.{◌≡◌, ◌<◌, ◌≤◌, ◌^◌, length, pos, if◌then◌else◌, IfOk};
+ghost use Rattle.fv_share.specs.Drafts.{put as put_of};
+ghost use Rattle.fv_signal.specs.declared.signal.Signal.TheVariants.{Const as const_node, Delay as delay_node};
+ghost use Rattle.fv_simplify_rules.specs.Nodes.{number_at};
+ghost use Rattle.fv_simplify_rules.specs.Reducible.{limit};
+ghost use Rattle.fv_simplify_rules.specs.Rebuilt.{back_by as back_by_of, taken as taken_of, base as base_of};
+ghost use Rattle.fv_simplify.specs.Passing.{so_far, is_zero as is_zero_of, put_late, late as late_of, by_number as by_number_of, delayed as delayed_of};
+
+use fv_base::limits::DELAY_BUDGET;
+use fv_share::Builder;
+use fv_signal::{Signal, SignalId};
+use std::alloc::AllocError;
+
+// The number that a signal is, where it is written there.
+fn number(builder: &Builder, id: SignalId) -> Option<i32>
+    requires { id < length builder.now.signals }
+    ensures { result ≡ number_at (so_far builder.now) id }
+{
+    match builder.signal(id) {
+        Signal::Const(n) => Some(n),
+        _ => None,
+    }
+}
+
+// Whether a signal is the number 0.
+fn is_zero(builder: &Builder, id: SignalId) -> bool
+    requires { id < length builder.now.signals }
+    ensures { result ≡ is_zero_of (number_at (so_far builder.now) id) }
+{
+    match number(builder, id) {
+        Some(n) => n == 0,
+        None => false,
+    }
+}
+
+// Signal x so many samples later.
+fn late(builder: &mut Builder, x: SignalId, by: u32) -> Result<SignalId, AllocError>
+    requires there { x < length builder.old.signals }
+    requires small { by < 2 ^ 31 }
+    ensures { IfOk result (λ id. (id, builder.new) ≡ late_of builder.old x by) }
+{
+    if is_zero(builder, x) {
+        return Ok(x);
+    }
+    put_delay(builder, x, by)
+}
+
+// A small number with a sign.
+fn signed(n: u32) -> i32
+    requires { n < 2 ^ 31 }
+    ensures { result ≡ pos n }
+{
+    n as i32
+}
+
+// Puts a number.
+fn put_number(builder: &mut Builder, n: i32) -> Result<SignalId, AllocError>
+    ensures { IfOk result (λ id. (id, builder.new) ≡ put_of builder.old (const_node n)) }
+{
+    builder.node(Signal::Const(n))
+}
+
+// Puts x so many samples later.
+fn put_delay(builder: &mut Builder, x: SignalId, by: u32) -> Result<SignalId, AllocError>
+    requires there { x < length builder.old.signals }
+    requires small { by < 2 ^ 31 }
+    ensures { IfOk result (λ id. (id, builder.new) ≡ put_late builder.old x by) }
+{
+    let n = signed(by);
+    let d = put_number(builder, n)?;
+    let id = builder.node(Signal::Delay { x, d, max: by })?;
+    Ok(id)
+}
+
+// How many samples a delay by the number c goes back, at most so many.
+fn back_by(most: u32, c: i32) -> u32
+    ensures value { result ≡ back_by_of most c }
+    ensures small { result < 2 ^ 31 }
+    ensures within { result ≤ most }
+{
+    if c < 0 {
+        return 0;
+    }
+    most.min(c.cast_unsigned())
+}
+
+// The signal of which x is taken as a delay, and by how many samples.
+fn base(builder: &Builder, x: SignalId, room: Option<u32>) -> (SignalId, u32)
+    requires { x < length builder.now.signals }
+    ensures value { result ≡ base_of (so_far builder.now) room x }
+    ensures there { result.0 < length builder.now.signals }
+    ensures small { result.1 ≤ limit }
+{
+    match builder.signal(x) {
+        Signal::Delay { x: s, d, max } => taken(builder, x, s, d, max, room),
+        _ => (x, 0),
+    }
+}
+
+// The same, of a signal that is this delay.
+fn taken(
+    builder: &Builder,
+    x: SignalId,
+    s: SignalId,
+    d: SignalId,
+    max: u32,
+    room: Option<u32>,
+) -> (SignalId, u32)
+    requires x { x < length builder.now.signals }
+    requires s { s < length builder.now.signals }
+    requires d { d < length builder.now.signals }
+    ensures value { result ≡ taken_of x s max (number_at (so_far builder.now) d) room }
+    ensures there { result.0 < length builder.now.signals }
+    ensures small { result.1 ≤ limit }
+{
+    match (number(builder, d), room) {
+        (Some(_), Some(most)) => {
+            if u64::from(max) + u64::from(most) <= DELAY_BUDGET {
+                (s, max)
+            } else {
+                (x, 0)
+            }
+        }
+        _ => (x, 0),
+    }
+}
+
+// Signal x by samples later, or what it is taken as a delay of, by as many more.
+fn by_number(
+    builder: &mut Builder,
+    x: SignalId,
+    by: u32,
+    room: Option<u32>,
+) -> Result<SignalId, AllocError>
+    requires there { x < length builder.old.signals }
+    requires small { by ≤ 1073741824 }
+    ensures { IfOk result (λ id. (id, builder.new) ≡ by_number_of builder.old room x by) }
+{
+    if by == 0 {
+        return Ok(x);
+    }
+    let (from, already) = base(builder, x, room);
+    late(builder, from, already + by)
+}
+
+/// Signal x as many samples later as d says, up to so many.
+pub fn delayed(
+    builder: &mut Builder,
+    x: SignalId,
+    d: SignalId,
+    most: u32,
+    room: Option<u32>,
+) -> Result<SignalId, AllocError>
+    requires x { x < length builder.old.signals }
+    requires d { d < length builder.old.signals }
+    requires short { most ≤ limit }
+    ensures { IfOk result (λ id. (id, builder.new) ≡ delayed_of builder.old room x d most) }
+{
+    match number(builder, d) {
+        Some(c) => by_number(builder, x, back_by(most, c), room),
+        None => varying(builder, x, d, most),
+    }
+}
+
+// The same, where d is no number.
+fn varying(
+    builder: &mut Builder,
+    x: SignalId,
+    d: SignalId,
+    most: u32,
+) -> Result<SignalId, AllocError>
+    requires x { x < length builder.old.signals }
+    requires d { d < length builder.old.signals }
+    ensures { IfOk result (λ id. (id, builder.new)
+        ≡ (if is_zero_of (number_at (so_far builder.old) x) then (x, builder.old) else put_of builder.old (delay_node x d most))) }
+{
+    if is_zero(builder, x) {
+        return Ok(x);
+    }
+    builder.node(Signal::Delay { x, d, max: most })
+}

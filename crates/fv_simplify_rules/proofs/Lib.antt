@@ -1,0 +1,10 @@
+pub mod Choices
+pub mod Fits
+pub mod Values
+pub mod Origins
+pub mod Stays
+pub mod Irreducible
+pub mod Totals
+pub mod Reaches
+pub mod Chains
+pub mod Twice

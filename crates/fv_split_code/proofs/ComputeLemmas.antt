@@ -1,0 +1,222 @@
+-- The steps of signals that are computed.
+use Rattle.std.proofs.Common.{◌≡◌, inl, inr, ℕ, zero, suc, ◌+◌, ◌<◌, ◌≤◌, List, [], ◌∷◌, ◌++◌, length, take, get_or, map, refl, sym, ap, ap₂, ◌∙◌, subst, arith}
+use Rattle.std.proofs.Common.{pos, Bool, true}
+use Rattle.std.specs.Prelude.{All, ◌&&◌, nat_eq, unwrap_or, Option, None}
+use Rattle.std.proofs.lemmas.List.{length-map, length-take-le, length_push, append_assoc, get_or-take, get_or_default, get_or_read}
+use Rattle.std.proofs.lemmas.List.Elements.{All-get_or, All-weaker, All-take, All-map}
+use Rattle.std.proofs.lemmas.Bool.{cases_lt, eq-eqb, lt-ltb}
+use Rattle.fv_num.specs.declared.op.Op.{Op}
+use Rattle.fv_num.specs.declared.op.Op.TheVariants.{Max, Abs, Select2, Select3}
+use Rattle.fv_num.specs.Words.{inputs_of}
+use Rattle.fv_signal.specs.declared.signal.Signal.{Signal}
+use Rattle.fv_signal.specs.declared.signal.Signal.TheVariants as signal
+use Rattle.fv_signal.specs.Value.{Graph, IsOrdered, OperandsBelow}
+use Rattle.fv_split_components.specs.Reach.{at}
+use Rattle.fv_loopcode.specs.declared.step.Step.{Step}
+use Rattle.fv_loopcode.specs.declared.step.Step.TheVariants as step
+use Rattle.fv_loopcode.specs.Obeys.{Roles, Place, OfLane, nothing, done_after}
+use Rattle.fv_split_code.specs.declared.kind.Kind.{Kind}
+use Rattle.fv_split_code.specs.declared.kind.Kind.TheVariants as kind
+use Rattle.fv_analysis.specs.Stands.{stand, StandsAt}
+use Rattle.fv_split_plan.specs.Fits.{Mean, Value, mean_at, Names, OfDelay, OfPoint, OfStill, StepFits}
+use Rattle.fv_split_code.specs.Emits.{Serves, KindFits, IsKnown, IsLoaded, kind_of, owned_by, MeansNow, MeanNow, AreFound}
+use Rattle.fv_analysis.proofs.StandLemmas.{stands_well}
+use Rattle.fv_split_code.proofs.StepLemmas.{serves_push, means_last, long_means}
+use Rattle.fv_split_code.specs.declared.tables.Tables.{Tables}
+use Rattle.fv_split_plan.specs.Separated.{operands, lane_at}
+use Rattle.fv_split_plan.proofs.FitsLemmas.{map_get}
+use Rattle.fv_split_code.specs.Emitted.{AreTables, known_at, IsOperand, Suits, StoodNow, ComputesNow}
+
+-- what a signal stands for is no higher
+pub stand_below : (g : Graph) → IsOrdered g → (n s : ℕ) → n ≤ length g.signals → s < n → stand g s ≤ s
+stand_below g ordered n s m l = (stands_well g ordered n s m l).below
+
+pub known_yes : (homes : List ℕ) (j s q : ℕ) → q < s → at homes q ≡ j → known_at homes j s q ≡ true
+known_yes homes j s q h e = ap (λ b. b && nat_eq (at homes q) j) (lt-ltb q s h) ∙ eq-eqb (at homes q) j e
+
+below : (g : Graph) → IsOrdered g → (s : ℕ) (n : Signal) → StandsAt g s n → OperandsBelow g s n
+below g ordered s n h = subst (OperandsBelow g s) h.is (ordered s (signal.Const (pos 0)) h.within)
+
+module _ (g : Graph) (p : Names) (r : Roles) (t : Tables) (j s : ℕ) (u : Suits g p r t j) (l : s < length g.signals) (home : at t.homes.items s ≡ j) where
+  abbrev known : ℕ → Bool
+  known = known_at t.homes.items j s
+
+  -- a lane of this loop that stands for a lower signal
+  pub lane_known : (x lane : ℕ) → x < s → p.lane lane ≡ stand g x → r.own (OfLane lane) ≡ true → known (stand g x) ≡ true
+  lane_known x lane b e o =
+      known_yes t.homes.items j s (stand g x) (omega (arith, stand_below g u.ordered (length g.signals) x (omega arith) (omega arith)))
+      (ap (at t.homes.items) (sym e) ∙ (u.lanes lane o).2)
+
+  -- an operand is known where its register is read
+  pub operand_known : (o : ℕ) → o < s → IsOperand g s o → IsKnown r known (kind_of t.kinds.items (stand g o)) (stand g o)
+  operand_known o b is = go (kind_of t.kinds.items (stand g o)) refl
+    where
+      inside : stand g o ≤ o
+      inside = stand_below g u.ordered (length g.signals) o (omega arith) (omega arith)
+
+      go : (k : Kind) → kind_of t.kinds.items (stand g o) ≡ k → IsKnown r known k (stand g o)
+      go (kind.Number n) e = tt
+      go (kind.Held n) e = tt
+      go (kind.Lane m) e = λ own. lane_known o m b (subst (λ k. KindFits g p k (stand g o)) e (u.kinds (stand g o) (omega (arith, inside)))) own
+      go (kind.Input i) e = tt
+      go (kind.Back m) e = tt
+      go kind.Inner e = known_yes t.homes.items j s (stand g o) (omega (arith, inside)) (u.inner s o l home is e)
+
+  pub operand_fits : (o : ℕ) → o < s → KindFits g p (kind_of t.kinds.items (stand g o)) (stand g o)
+  operand_fits o b = u.kinds (stand g o) (omega (arith, stand_below g u.ordered (length g.signals) o (omega arith) (omega arith)))
+
+  -- the register of an operand means it
+  pub operand_stands : (regs : List ℕ) (old mid : List Step) (o v : ℕ) → o < s → IsOperand g s o → StoodNow t regs j old mid o v →
+      (means : List Mean) (ended : Place → Bool) → Serves g p r known regs old means ended →
+      (more : List Mean) × Serves g p r known regs mid (means ++ more) ended
+      × (mean_at (means ++ more) v ≡ Value (stand g o)) × (v < length (means ++ more))
+  operand_stands regs old mid o v b is mean means ended h =
+      let z = u.stands o (omega arith) in
+      subst (λ q. MeansNow regs old mid q v (kind_of t.kinds.items q) (owned_by t.owners.items j)) z mean
+      g p r known means ended u.own (u.loaded s o l home is) (operand_fits o b) (operand_known o b is) h
+
+-- one step more, which means the signal
+pub pushed : (g : Graph) (p : Names) (r : Roles) (known : ℕ → Bool) (regs : List ℕ) (mid new : List Step) (means more : List Mean) (ended : Place →
+    Bool) (x : Step) (s w : ℕ) →
+    new ≡ mid ++ x ∷ [] → w ≡ length mid → Serves g p r known regs mid (means ++ more) ended → StepFits g p r ended (means ++ more) x (Value s) →
+    done_after ended x ≡ ended →
+    (after : List Mean) × Serves g p r known regs new (means ++ after) ended × (mean_at (means ++ after) w ≡ Value s) × (w < length (means ++ after))
+pushed g p r known regs mid new means more ended x s w e f h fits same =
+    let one = subst (Serves g p r known regs (mid ++ x ∷ []) ((means ++ more) ++ Value s ∷ [])) same (serves_push g p r known regs mid (means ++ more) ended x
+    (Value s) h fits) in
+    let last = means_last g p r known regs mid (means ++ more) ended (Value s) h in
+    let long = long_means g p r known regs mid (means ++ more) ended h in
+    let z = append_assoc means more (Value s ∷ []) in (
+      more ++ Value s ∷ [],
+      subst (λ ms. Serves g p r known regs new ms ended) z (subst (λ c. Serves g p r known regs c ((means ++ more) ++ Value s ∷ []) ended) (sym e) one),
+      ap (mean_at (means ++ (more ++ Value s ∷ []))) f ∙ ap (λ ms. mean_at ms (length mid)) (sym z) ∙ last,
+      subst (λ ms. w < length ms) z (omega (arith, f, long, length_push (means ++ more) (Value s))),
+    )
+
+maps_alike : (f h : ℕ → Mean) (xs ys : List ℕ) → length xs ≡ length ys → ((k : ℕ) → k < length xs → f (at xs k) ≡ h (at ys k)) → map f xs ≡ map h ys
+maps_alike f h [] [] e a = refl
+maps_alike f h [] (y ∷ ys) e a = absurd (omega arith)
+maps_alike f h (x ∷ xs) [] e a = absurd (omega arith)
+maps_alike f h (x ∷ xs) (y ∷ ys) e a = ap₂ (λ v vs. v ∷ vs) (a 0 (omega arith)) (maps_alike f h xs ys (omega arith) (λ k l. a (suc k) (omega arith)))
+
+pub computes_point : (t : Tables) (regs : List ℕ) (j : ℕ) (old mid new : List Step) (op : Op) (args those found : List ℕ) (w : ℕ) →
+    those ≡ take (inputs_of op) (map (at t.stands.items) args) → length args ≡ 4 → AreFound found (length those) → inputs_of op ≤ 4 → 1 ≤ inputs_of op →
+    MeanNow t.kinds.items regs old mid those found (length those) (owned_by t.owners.items j) → new ≡ mid ++ step.Point op found ∷ [] → w ≡ length mid →
+    ComputesNow t regs j old new (signal.Point op args) w
+computes_point t regs j old mid new op args those found w et la lf four one mean e f g p r s u n home c means ended h en =
+    pushed g p r known regs mid new means x.0 ended (step.Point op found) s w e f x.1 (OfPoint s args n within there same refl) refl
+  where
+    known : ℕ → Bool
+    known = known_at t.homes.items j s
+
+    lower : All (λ a. a < s) args
+    lower = below g u.ordered s (signal.Point op args) n
+
+    arg : (k : ℕ) → k < inputs_of op → at args k < s
+    arg k l = All-get_or (λ a. a < s) args k 0 (omega (arith, la)) lower
+
+    those_long : length those ≡ inputs_of op
+    those_long = ap length et ∙ length-take-le (inputs_of op) (map (at t.stands.items) args) (omega (arith, length-map args (at t.stands.items), la))
+
+    those_at : (k : ℕ) → k < inputs_of op → at those k ≡ stand g (at args k)
+    those_at k l =
+        ap (λ xs. at xs k) et ∙ get_or-take (inputs_of op) (map (at t.stands.items) args) k 0 l
+        ∙ get_or_default (map (at t.stands.items) args) k 0 (at t.stands.items 0) (omega (arith, length-map args (at t.stands.items), la))
+        ∙ map_get (at t.stands.items) args k 0 ∙ u.stands (at args k) (omega (arith, arg k l, n.within))
+
+    is_operand : (k : ℕ) → k < inputs_of op → IsOperand g s (at args k)
+    is_operand k l = record {
+      place = k;
+      within = subst (λ m. k < length (operands m)) (sym n.is) (omega (arith, length-take-le (inputs_of op) args (omega (arith, la))));
+      is = ap (λ m. at (operands m) k) n.is ∙ get_or-take (inputs_of op) args k 0 l;
+    }
+
+    conds : (k : ℕ) → k < length those → KindFits g p (kind_of t.kinds.items (at those k)) (at those k)
+        × IsKnown r (known_at t.homes.items j s) (kind_of t.kinds.items (at those k)) (at those k) × IsLoaded r (kind_of t.kinds.items (at those k))
+    conds k l =
+        let m : k < inputs_of op = omega (arith, those_long) in
+        subst (λ q. KindFits g p (kind_of t.kinds.items q) q × IsKnown r (known_at t.homes.items j s) (kind_of t.kinds.items q) q
+        × IsLoaded r (kind_of t.kinds.items q)) (sym (those_at k m)) (
+          operand_fits g p r t j s u n.within home (at args k) (arg k m),
+          operand_known g p r t j s u n.within home (at args k) (arg k m)
+              (is_operand k m),
+          u.loaded s (at args k) n.within home (is_operand k m),
+        )
+
+    x : (more : List Mean) × Serves g p r (known_at t.homes.items j s) regs mid (means ++ more) ended
+        × ((k : ℕ) → k < length those → (at found k < length (means ++ more)) × (mean_at (means ++ more) (at found k) ≡ Value (at those k)))
+    x = mean g p r (known_at t.homes.items j s) means ended u.own conds h
+
+    within : All (λ a. a < length g.signals) args
+    within = All-weaker (λ a. a < s) (λ a. a < length g.signals) (λ a m. omega (arith, n.within)) args lower
+
+    there : All (λ a. a < length (means ++ x.0)) found
+    there k d l = subst (λ q. q < length (means ++ x.0)) (get_or_default found k 0 d l) (elim (cases_lt k (length those)) [
+      | inl m ↦ (x.2 k m).0
+      | inr m ↦ let z = lf.rest k m in let y = (x.2 0 (omega (arith, those_long, one))).0 in omega (arith, z, y)
+    ])
+
+    same : map (mean_at (means ++ x.0)) (take (inputs_of op) found) ≡ map (λ o. Value (stand g o)) (take (inputs_of op) args)
+    same = maps_alike (mean_at (means ++ x.0)) (λ o. Value (stand g o)) (take (inputs_of op) found) (take (inputs_of op) args)
+        (length-take-le (inputs_of op) found (omega (arith, lf.four)) ∙ sym (length-take-le (inputs_of op) args (omega (arith, la))))
+        (λ k l. let m : k < inputs_of op = omega (arith, length-take-le (inputs_of op) found (omega (arith, lf.four))) in
+        ap (mean_at (means ++ x.0)) (get_or-take (inputs_of op) found k 0 m) ∙ (x.2 k (omega (arith, those_long))).1 ∙ ap Value (those_at k m)
+        ∙ ap (λ o. Value (stand g o)) (sym (get_or-take (inputs_of op) args k 0 m)))
+
+pub computes_still : (t : Tables) (regs : List ℕ) (j : ℕ) (old mid new : List Step) (x d v w : ℕ) → StoodNow t regs j old mid x v →
+    new ≡ mid ++ step.Point Max (v ∷ v ∷ v ∷ v ∷ []) ∷ [] → w ≡ length mid → ComputesNow t regs j old new (signal.Delay x d 0) w
+computes_still t regs j old mid new x d v w mean e f g p r s u n home c means ended h en =
+    let b = below g u.ordered s (signal.Delay x d 0) n in
+    let lx : x < length g.signals = omega (arith, b.0, n.within) in
+    let is : IsOperand g s x =
+    record { place = 0; within = subst (λ m. 0 < length (operands m)) (sym n.is) (omega arith); is = ap (λ m. at (operands m) 0) n.is } in
+    let y = operand_stands g p r t j s u n.within home regs old mid x v b.0 is mean means ended h in
+    pushed g p r (known_at t.homes.items j s) regs mid new means y.0 ended (step.Point Max (v ∷ v ∷ v ∷ v ∷ [])) s w e f y.1
+    (OfStill s x d v n lx refl refl y.2 refl) refl
+
+pub computes_delay : (t : Tables) (regs : List ℕ) (j : ℕ) (old mid new : List Step) (x d max v w lane : ℕ) → 1 ≤ max →
+    lane ≡ unwrap_or (lane_at t.lanes.items (at t.stands.items x)) 0 → StoodNow t regs j old mid d v →
+    new ≡ mid ++ step.Load lane v max ∷ [] → w ≡ length mid → ComputesNow t regs j old new (signal.Delay x d max) w
+computes_delay t regs j old mid new x d max v w lane one el mean e f g p r s u n home c means ended h en =
+    let b = below g u.ordered s (signal.Delay x d max) n in
+    let lx : x < length g.signals = omega (arith, b.0, n.within) in
+    let ld : d < length g.signals = omega (arith, b.1, n.within) in
+    let is : IsOperand g s d =
+    record { place = 1; within = subst (λ m. 1 < length (operands m)) (sym n.is) (omega arith); is = ap (λ m. at (operands m) 1) n.is } in
+    let y = operand_stands g p r t j s u n.within home regs old mid d v b.1 is mean means ended h in
+    let o = u.delays s x d max n home one in
+    let lane_is : lane ≡ o.lane = el ∙ ap (λ a. unwrap_or (lane_at t.lanes.items a) 0) (u.stands x lx) ∙ ap (λ a. unwrap_or a 0) o.has in
+    let names : p.lane lane ≡ stand g x = ap p.lane lane_is ∙ o.names in
+    let few : max ≤ p.history lane = subst (λ a. max ≤ p.history a) (sym lane_is) o.far in
+    pushed g p r (known_at t.homes.items j s) regs mid new means y.0 ended (step.Load lane v max) s w e f y.1 (
+      subst (λ a. r.loaded a ≡ true) (sym lane_is) o.loaded,
+      OfDelay s x d n lx ld (sym names) y.2 few
+          (λ own. en lane own ∙ ap (known_at t.homes.items j s) names ∙ lane_known g p r t j s u n.within home x lane b.0 names own) refl,
+    ) refl
+
+-- ---- what the code reads in the tables
+
+pub some_inputs : (op : Op) → 1 ≤ inputs_of op
+some_inputs Abs = omega arith
+some_inputs Select2 = omega arith
+some_inputs Select3 = omega arith
+some_inputs op = omega arith
+
+stand_within : (t : Tables) (n : ℕ) → AreTables n t → (x : ℕ) → x < n → at t.stands.items x < n
+stand_within t n a x l = All-get_or (λ s. s < n) t.stands.items x 0 (omega (arith, a.stands)) a.within
+
+pub read_kind : (t : Tables) (n : ℕ) → AreTables n t → (x q : ℕ) (k : Kind) → x < n → q ≡ at t.stands.items x → k ≡ get_or t.kinds.items q k →
+    k ≡ kind_of t.kinds.items q
+read_kind t n a x q k l z i = get_or_read t.kinds.items q k (omega (arith, a.kinds, z, stand_within t n a x l)) i kind.Inner
+
+pub read_lane : (t : Tables) (n : ℕ) → AreTables n t → (x q : ℕ) (o : Option ℕ) → x < n → q ≡ at t.stands.items x → o ≡ get_or t.lanes.items q o →
+    o ≡ lane_at t.lanes.items (at t.stands.items x)
+read_lane t n a x q o l z i = get_or_read t.lanes.items q o (omega (arith, a.lanes, z, stand_within t n a x l)) i None ∙ ap (lane_at t.lanes.items) z
+
+pub stood_within : (stands args those : List ℕ) (m n : ℕ) → those ≡ take m (map (at stands) args) → length stands ≡ n → All (λ a. a < n) args →
+    All (λ s. s < n) stands → (k d : ℕ) → k < length those → get_or those k d < n
+stood_within stands args those m n e long within inside k d l = subst (λ xs. get_or xs k d < n) (sym e) (all k d (subst (λ xs. k < length xs) e l))
+  where
+    all : All (λ s. s < n) (take m (map (at stands) args))
+    all = All-take (λ s. s < n) m (map (at stands) args) (All-map (λ s. s < n) (at stands) args (All-weaker (λ a. a < n) (λ a. at stands a < n)
+        (λ a h. All-get_or (λ s. s < n) stands a 0 (omega (arith, long)) inside) args within))

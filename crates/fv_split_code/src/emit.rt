@@ -1,0 +1,270 @@
+// The code of the loops, signal by signal.
+
+ghost use Rattle.std.specs.Prelude.{◌≡◌, [], ◌++◌, ◌∷◌, ℕ, suc, ◌<◌, ◌≤◌, length, take, map, All, IfOk, OnOk};
+ghost use Rattle.fv_split_components.specs.Reach.{at};
+ghost use Rattle.fv_signal.specs.declared.signal.Signal.{Signal};
+ghost use Rattle.fv_signal.specs.declared.signal.Signal.TheVariants as signal;
+ghost use Rattle.fv_split_plan.specs.Separated.{OperandsWithin};
+ghost use Rattle.fv_split_code.specs.Emitted.{AreTables, StoodNow, ComputesNow, OwnNow, AddsNow, AreCodes, with_append, code_in};
+
+use crate::kind::Kind;
+use crate::operand::{operand, operands, push};
+use crate::tables::Tables;
+use fv_loopcode::Step;
+use fv_num::Op;
+use fv_signal::{Graph, Signal, SignalId};
+use std::alloc::{AllocError, Global};
+
+// What four signals stand for.
+fn stood(stands: &[SignalId], args: [SignalId; 4]) -> [u64; 4]
+    requires { All (λ a. a < length stands.now) args }
+    ensures value { result ≡ map (at stands.now) args }
+    ensures four { length args ≡ 4 }
+{
+    [
+        stands[args[0].number() as usize].number(),
+        stands[args[1].number() as usize].number(),
+        stands[args[2].number() as usize].number(),
+        stands[args[3].number() as usize].number(),
+    ]
+}
+
+// What a signal stands for.
+fn stand(stands: &[SignalId], x: SignalId) -> u64
+    requires { x < length stands.now }
+    ensures { result ≡ at stands.now x }
+{
+    stands[x.number() as usize].number()
+}
+
+// The register of what a signal stands for.
+fn operand_of(
+    code: &mut Vec<Step>,
+    tables: &Tables,
+    registers: &[u64],
+    own: u64,
+    x: SignalId,
+) -> Result<u64, AllocError>
+    requires tables { AreTables (length registers.now) tables.now }
+    requires x { x < length registers.now }
+    ensures { IfOk result (λ w. StoodNow tables.now registers.now own code.old.items code.new.items x w) }
+{
+    let s = stand(&tables.stands, x);
+    operand(
+        code,
+        tables.kinds[s as usize],
+        registers,
+        &tables.owners,
+        own,
+        s,
+    )
+}
+
+// An operation.
+fn point(
+    code: &mut Vec<Step>,
+    tables: &Tables,
+    registers: &[u64],
+    own: u64,
+    op: Op,
+    args: [SignalId; 4],
+) -> Result<u64, AllocError>
+    requires tables { AreTables (length registers.now) tables.now }
+    requires args { All (λ a. a < length registers.now) args }
+    ensures { IfOk result (λ w. ComputesNow tables.now registers.now own code.old.items code.new.items (signal.Point op args) w) }
+{
+    let signals = stood(&tables.stands, args);
+    let n = op.inputs() as usize;
+    let found = operands(
+        code,
+        &tables.kinds,
+        registers,
+        &tables.owners,
+        own,
+        &signals[..n],
+    )?;
+    push(code, Step::Point { op, args: found })
+}
+
+// A delay that never goes back.
+fn still(
+    code: &mut Vec<Step>,
+    tables: &Tables,
+    registers: &[u64],
+    own: u64,
+    x: SignalId,
+    d: SignalId,
+) -> Result<u64, AllocError>
+    requires tables { AreTables (length registers.now) tables.now }
+    requires x { x < length registers.now }
+    ensures { IfOk result (λ w. ComputesNow tables.now registers.now own code.old.items code.new.items (signal.Delay x d 0) w) }
+{
+    let w = operand_of(code, tables, registers, own, x)?;
+    push(
+        code,
+        Step::Point {
+            op: Op::Max,
+            args: [w, w, w, w],
+        },
+    )
+}
+
+// A delay that may go back.
+fn delayed(
+    code: &mut Vec<Step>,
+    tables: &Tables,
+    registers: &[u64],
+    own: u64,
+    x: SignalId,
+    d: SignalId,
+    max: u32,
+) -> Result<u64, AllocError>
+    requires tables { AreTables (length registers.now) tables.now }
+    requires x { x < length registers.now }
+    requires d { d < length registers.now }
+    requires max { 1 ≤ max }
+    ensures { IfOk result (λ w. ComputesNow tables.now registers.now own code.old.items code.new.items (signal.Delay x d max) w) }
+{
+    let back = operand_of(code, tables, registers, own, d)?;
+    let source = stand(&tables.stands, x);
+    let lane = tables.lanes[source as usize].unwrap_or(0);
+    push(
+        code,
+        Step::Load {
+            lane,
+            back,
+            max: max as u64,
+        },
+    )
+}
+
+// An operation or a delay.
+fn computed(
+    code: &mut Vec<Step>,
+    tables: &Tables,
+    registers: &[u64],
+    own: u64,
+    node: Signal,
+) -> Result<u64, AllocError>
+    requires tables { AreTables (length registers.now) tables.now }
+    requires operands { OperandsWithin (length registers.now) node }
+    ensures { IfOk result (λ w. ComputesNow tables.now registers.now own code.old.items code.new.items node w) }
+{
+    match node {
+        Signal::Point { op, args } => point(code, tables, registers, own, op, args),
+        Signal::Delay { x, d, max } => {
+            if max == 0 {
+                still(code, tables, registers, own, x, d)
+            } else {
+                delayed(code, tables, registers, own, x, d, max)
+            }
+        }
+        Signal::Input(_) => Ok(0),
+        Signal::Const(_) => Ok(0),
+        Signal::Control(_) => Ok(0),
+        Signal::Back { group: _, i: _ } => Ok(0),
+        Signal::Member { group: _, i: _ } => Ok(0),
+    }
+}
+
+// A signal's own step.
+fn own_step(
+    code: &mut Vec<Step>,
+    tables: &Tables,
+    registers: &[u64],
+    own: u64,
+    s: u64,
+    node: Signal,
+) -> Result<u64, AllocError>
+    requires tables { AreTables (length registers.now) tables.now }
+    requires operands { OperandsWithin (length registers.now) node }
+    requires signal { s < length registers.now }
+    ensures { IfOk result (λ w. OwnNow tables.now registers.now own s code.old.items code.new.items node w) }
+{
+    let base = tables.bases[s as usize];
+    match base {
+        Kind::Inner => computed(code, tables, registers, own, node),
+        _ => operand(code, base, registers, &tables.owners, own, s),
+    }
+}
+
+// Appends to a signal's lane, where it has one.
+fn append(code: &mut Vec<Step>, lane: Option<u64>, register: u64) -> Result<(), AllocError>
+    ensures { OnOk result (code.new.items ≡ with_append code.old.items lane register) }
+{
+    match lane {
+        Some(lane) => {
+            push(
+                code,
+                Step::Append {
+                    lane,
+                    value: register,
+                },
+            )?;
+            Ok(())
+        }
+        None => Ok(()),
+    }
+}
+
+// One signal more.
+fn add(
+    code: &mut Vec<Step>,
+    registers: &mut Vec<u64>,
+    tables: &Tables,
+    own: u64,
+    s: u64,
+    node: Signal,
+) -> Result<(), AllocError>
+    requires tables { AreTables (length registers.old.items) tables.now }
+    requires operands { OperandsWithin (length registers.old.items) node }
+    requires signal { s < length registers.old.items }
+    ensures { OnOk result (AddsNow tables.now own s node registers.old.items code.old.items registers.new.items code.new.items) }
+{
+    let register = own_step(code, tables, registers, own, s, node)?;
+    registers[s as usize] = register;
+    append(code, tables.lanes[s as usize], register)
+}
+
+// Few loops have more steps: so many have room before the code of a loop grows.
+const STEPS_AT_FIRST: usize = 16;
+
+// No code for each loop.
+fn no_codes(alloc: Global, loops: u64) -> Result<Vec<Vec<Step>>, AllocError>
+    ensures { IfOk result (λ codes. (length codes.items ≡ loops) × ((j : ℕ) → code_in codes.items j ≡ [])) }
+{
+    let mut codes = Vec::with_capacity(alloc, loops as usize)?;
+    for _ in 0..loops {
+        codes.push(Vec::with_capacity(alloc, STEPS_AT_FIRST)?)?;
+    }
+    Ok(codes)
+}
+
+/// The code of each loop, whose signals are computed in their order.
+pub fn codes(
+    alloc: Global,
+    graph: &Graph,
+    tables: &Tables,
+    loops: u64,
+) -> Result<Vec<Vec<Step>>, AllocError>
+    requires { AreTables (length graph.now.signals) tables.now }
+    ensures { IfOk result (λ codes. AreCodes graph.now tables.now loops codes.items) }
+{
+    let mut codes = no_codes(alloc, loops)?;
+    let mut registers = vec![in alloc; 0_u64; graph.len() as usize]?;
+    for s in 0..graph.len() {
+        let own = tables.homes[s as usize];
+        if own < loops {
+            let node = graph.signal(SignalId::new(s));
+            add(
+                &mut codes[own as usize],
+                &mut registers,
+                tables,
+                own,
+                s,
+                node,
+            )?;
+        }
+    }
+    Ok(codes)
+}

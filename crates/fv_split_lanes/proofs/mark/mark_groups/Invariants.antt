@@ -1,0 +1,5 @@
+use Rattle.fv_split_lanes.specs.Marked.{Marks, ByOne, Defined}
+use Rattle.fv_split_lanes.proofs.mark.mark_groups.Given as goal
+
+abbrev pub invariant-loop-k : goal.invariant-loop-k
+invariant-loop-k l = Marks l.fn.marks.items l.marks.items (ByOne (Defined l.graph l.stands) l.k)

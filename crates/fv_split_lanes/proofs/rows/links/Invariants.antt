@@ -1,0 +1,6 @@
+use Rattle.fv_split_plan.specs.Separated.{links_of}
+use Rattle.fv_split_lanes.specs.Rows.{AreRows}
+use Rattle.fv_split_lanes.proofs.rows.links.Given as goal
+
+abbrev pub invariant-loop-s : goal.invariant-loop-s
+invariant-loop-s l = AreRows (links_of l.graph) l.s l.rows

@@ -1,0 +1,5 @@
+use Rattle.fv_split_plan.proofs.FitsLemmas.{codes_obey}
+use Rattle.fv_split_plan.proofs.laws.codes_obey.Goals as goal
+
+pub returns : goal.returns
+returns c = codes_obey

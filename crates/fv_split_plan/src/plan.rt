@@ -1,0 +1,103 @@
+// Plans.
+
+ghost use Rattle.std.specs.Prelude.{◌≡◌, ◌<◌, length};
+ghost use Rattle.fv_split_plan.specs.View.{code_of};
+ghost use Rattle.fv_split_plan.specs.Plans.{IsPlan};
+ghost use Rattle.fv_split_plan.specs.Rows.{plan_with};
+
+use crate::lane::LaneInfo;
+use fv_loopcode::Code;
+use fv_outside::Reads;
+use std::marker::Model;
+
+/// The loops of a graph: their lanes and code, which of them read lanes of which others, the lane of each of the program's
+/// outputs, and the code of the held values. It stands for some graph.
+#[derive(Drop)]
+pub struct Plan {
+    loops: u64,
+    lanes: Vec<LaneInfo>,
+    codes: Vec<Code>,
+    reads: Vec<Reads>,
+    outputs: Vec<u64>,
+    held: Code,
+}
+
+impl Model for Plan {
+    ghost use Rattle.fv_split_plan.specs.View.{PlanView};
+    ghost use Rattle.fv_split_plan.specs.Plans.{IsPlan};
+    ghost use Rattle.fv_split_plan.specs.Rows.{plan_with};
+
+    ghost Value = { PlanView };
+
+    ghost view = { λ a. plan_with a.loops a.lanes.items a.codes.items a.reads.items a.outputs.items a.held };
+
+    ghost invariant = { λ a. IsPlan (plan_with a.loops a.lanes.items a.codes.items a.reads.items a.outputs.items a.held) };
+}
+
+impl Plan {
+    /// The plan of these parts.
+    pub fn new(
+        loops: u64,
+        lanes: Vec<LaneInfo>,
+        codes: Vec<Code>,
+        reads: Vec<Reads>,
+        outputs: Vec<u64>,
+        held: Code,
+    ) -> Plan
+        requires { IsPlan (plan_with loops lanes.items codes.items reads.items outputs.items held) }
+        ensures { result ≡ plan_with loops lanes.items codes.items reads.items outputs.items held }
+    {
+        Plan {
+            loops,
+            lanes,
+            codes,
+            reads,
+            outputs,
+            held,
+        }
+    }
+
+    /// The number of its loops. The plan stands for some graph.
+    pub fn loops(&self) -> u64
+        ensures loops { result ≡ self.now.loops }
+        ensures plan { IsPlan self.now }
+    {
+        self.loops
+    }
+
+    /// The code of a loop.
+    pub fn code(&self, loop_no: u64) -> &Code
+        requires { loop_no < self.now.loops }
+        ensures { result.now ≡ code_of self.now loop_no }
+    {
+        &self.codes[loop_no as usize]
+    }
+
+    /// The pairs of different loops of which the first loads lanes of the second.
+    pub fn reads(&self) -> &[Reads]
+        ensures { result.now ≡ self.now.reads }
+    {
+        &self.reads
+    }
+
+    /// Each lane's loop and history.
+    pub fn lanes(&self) -> &[LaneInfo]
+        ensures { result.now ≡ self.now.lanes }
+    {
+        &self.lanes
+    }
+
+    /// The lane of each of the program's outputs.
+    pub fn outputs(&self) -> &[u64]
+        ensures { result.now ≡ self.now.outputs }
+    {
+        &self.outputs
+    }
+
+    /// The code of the held values.
+    pub fn held(&self) -> &Code
+        ensures { result.now ≡ self.now.held }
+    {
+        &self.held
+    }
+}

@@ -1,0 +1,107 @@
+-- What workers are between their turns, and a crew of them (this project's profile).
+use Rattle.std.specs.Prelude.{◌≡◌, ℕ, ◌+◌, ◌<◌, ◌≤◌, List, [], ◌∷◌, map, length, All, None, vec_capacity, slice_index_or}
+use Rattle.std.specs.Global.{Global}
+use Rattle.atomic_blocks.specs.Lent.{RowsId}
+use Rattle.atomic_table.specs.Seated.{TableId}
+use Rattle.fv_outside.specs.Tasks.{Tasks, total, times, task_count}
+use Rattle.fv_outside.specs.Journal.{stamped}
+use Rattle.fv_outside.specs.declared.gate.Line.{Line}
+use Rattle.fv_graph.specs.Net.{Net}
+use Rattle.fv_graph.specs.Graph.{Graph, net_of, inward, outward, task_at}
+use Rattle.fv_graph_core.specs.Core.{opening, deque_of}
+use Rattle.fv_ready_rule.specs.declared.About.{About}
+use Rattle.fv_ready_rule.specs.declared.View.{View}
+use Rattle.fv_ready_rule.specs.Rule.{done_by, wins, claims, stamps, zeroes}
+use Rattle.fv_ready_rule.specs.Whole.{starts_at, finishes_at}
+use Rattle.fv_ready.specs.declared.seat.WorkerSeat.{WorkerSeat}
+use Rattle.fv_ready.specs.declared.board.Board.{Board}
+use Rattle.fv_ready.specs.Seats.{view_of, slots_of, hand_of, IsSeat}
+use Rattle.fv_ready.specs.Begun.{AreFirstSeats}
+use Rattle.fv_ready.specs.Boards.{name_of, about_of}
+use Rattle.fv_deque.specs.Deques.{account_of, lies_at, robs, taken_by}
+use Rattle.fv_steal.specs.declared.worker.Worker.{Worker}
+
+module _ {C : Type 0} where
+  abbrev pub seat_of : Worker C → WorkerSeat C
+  seat_of w = w.seat
+
+  -- the worker's part of the journal
+  abbrev pub lines_of : Worker C → List Line
+  lines_of w = w.lines.items
+
+  -- what its seat did
+  abbrev pub did : Worker C → View C
+  did w = view_of w.seat
+
+  -- how often it took a number, from its own deque and from the others
+  abbrev pub took : Worker C → ℕ → ℕ
+  took w x = times x (account_of w.deque).taken + total (λ v. times x (taken_by v)) w.victims.items
+
+  -- on which deques it has a hold
+  abbrev pub holds_on : Worker C → List (RowsId × Global)
+  holds_on w = map robs w.victims.items
+
+-- the number of a line's task
+abbrev pub number_in : Tasks → Line → ℕ
+number_in g line = task_at g line.task.loop_no line.task.vector
+
+-- a line of a task that this list of steps started and finished, with both stamps
+pub record IsLineOf {C : Type 0} (g : Tasks) (worker : ℕ) (v : View C) (line : Line) : Type 0 where
+  pub there : (line.task.loop_no < g.loops) × (line.task.vector < g.vectors)
+  pub who : line.worker ≡ worker
+  pub start : 0 < done_by (starts_at line.start (number_in g line)) v
+  pub finish : 0 < done_by (finishes_at line.finish (number_in g line)) v
+  pub spans : line.start < line.finish
+
+-- one line for each task that this list won, and each stamp of the list once
+pub record IsJournalOf {C : Type 0} (g : Tasks) (worker : ℕ) (v : View C) (lines : List Line) : Type 0 where
+  pub each : (t : ℕ) → times t (map (number_in g) lines) ≡ done_by (wins t) v
+  pub stamps : (n : ℕ) → stamped n lines ≡ done_by (stamps n) v
+  pub each_line : All (IsLineOf g worker v) lines
+
+-- A worker between its turns: its seat has nothing in hand and owes nothing, it put into its deque what it was dealt and what its
+-- arrivals brought down to the count 0, its lines are those of the tasks that its seat won, and there is room for all that can come.
+pub record IsWorker {C Key : Type 0} (edge_of : C → ℕ) (key_of : C → Key) (id : TableId) (a : About C) (w : Worker C) : Type 0 where
+  pub seat : IsSeat edge_of key_of id a w.seat
+  pub free : (hand_of w.seat ≡ None) × (slots_of w.seat ≡ [])
+  pub number : (did w).numbers ≡ w.number ∷ []
+  pub put : (x : ℕ) → times x (account_of w.deque).put ≡ times x (deque_of (opening (net_of a.tasks.value.tasks) a.workers) w.number)
+      + done_by (zeroes (net_of a.tasks.value.tasks) x) (did w)
+  pub once : (t : ℕ) → done_by (wins t) (did w) < 2
+  pub within : (t : ℕ) → task_count a.tasks.value.tasks ≤ t → done_by (wins t) (did w) ≡ 0
+  pub journal : IsJournalOf a.tasks.value.tasks w.number (did w) (lines_of w)
+  pub deque_room : w.deque.room ≡ task_count a.tasks.value.tasks
+  pub lines_room : task_count a.tasks.value.tasks ≤ vec_capacity w.lines
+  pub parcels_room : (t : ℕ) → t < task_count a.tasks.value.tasks → (length (inward a.tasks.value.tasks t) ≤ vec_capacity w.parcels)
+      × (length (outward a.tasks.value.tasks t) ≤ vec_capacity w.parcels)
+  pub no_parcels : w.parcels.items ≡ []
+
+-- each number that it took it claimed, and nothing else
+abbrev pub IsEven : {C : Type 0} → Net → Worker C → Type 0
+IsEven net w = (x : ℕ) → x < net.tasks → done_by (claims x) (did w) ≡ took w x
+
+-- what a worker's turns leave as it was: which worker it is, and which deques it has holds on
+pub record IsSame {C : Type 0} (old new : Worker C) : Type 0 where
+  pub number : new.number ≡ old.number
+  pub place : lies_at new.deque ≡ lies_at old.deque
+  pub lent : (account_of new.deque).lent ≡ (account_of old.deque).lent
+  pub holds : holds_on new ≡ holds_on old
+
+module _ {C Key : Type 0} (edge_of : C → ℕ) (key_of : C → Key) where
+  -- a worker of this board
+  abbrev pub IsWorkerOf : Board C Key → Worker C → Type 0
+  IsWorkerOf b w = IsWorker edge_of key_of (name_of b) (about_of b) w
+
+  -- The seats of a board of these tasks before its work: that at each place has this one number, and has done nothing.
+  abbrev pub AreFreshSeats : Graph → TableId → About C → List (WorkerSeat C) → Type 0
+  AreFreshSeats g id a seats = (a.tasks.value ≡ g) × (a.workers ≡ length seats) × AreFirstSeats edge_of key_of id a 0 seats
+
+  -- A crew before its work: as many workers as the board has, in the order of their numbers, each with a hold on each deque, that
+  -- of its own too, which are all that are out.
+  pub record IsCrew (id : TableId) (a : About C) (ws : List (Worker C)) : Type 0 where
+    pub count : length ws ≡ a.workers
+    pub workers : All (λ w. IsWorker edge_of key_of id a w) ws
+    pub even : All (λ w. IsEven (net_of a.tasks.value.tasks) w) ws
+    pub numbers : (i : ℕ) (d : Worker C) → i < length ws → (slice_index_or ws i d).number ≡ i
+    pub holds : All (λ w. holds_on w ≡ map (λ u. lies_at u.deque) ws) ws
+    pub lent : All (λ w. (account_of w.deque).lent ≡ length ws) ws

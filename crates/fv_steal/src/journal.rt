@@ -1,0 +1,13 @@
+// The law of the workers' lines.
+
+ghost use Rattle.fv_steal.specs.Journals.{JournalLaw};
+
+use fv_graph::edges_follow_reads;
+
+/// The lines of all workers, sorted by their starts, are the ordered journal of a block whose tasks are all done: one line for each
+/// task and no other, and each task after all that it reads.
+pub fn journal_law<C>()
+    ensures { JournalLaw C }
+{
+    edges_follow_reads();
+}

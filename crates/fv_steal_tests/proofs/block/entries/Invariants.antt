@@ -1,0 +1,10 @@
+use Rattle.std.proofs.Common.{◌≡◌, ◌≤◌, vec_len, vec_capacity}
+use Rattle.fv_steal_tests.proofs.Noting.{AreAt}
+use Rattle.fv_steal_tests.proofs.block.entries.Given as goal
+
+abbrev pub invariant-loop-edge : goal.invariant-loop-edge
+invariant-loop-edge l = record {
+  notes : AreAt (λ n. n.edge) (λ n. n.block) 9 l.list.items;
+  long : vec_len l.list ≡ l.edge;
+  room : l.loops ≤ vec_capacity l.list;
+}

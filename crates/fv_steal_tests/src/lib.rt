@@ -1,0 +1,9 @@
+// Tests of workers that steal.
+#![tactic(auto)]
+
+#[cfg(test)]
+mod block;
+#[cfg(test)]
+mod held;
+#[cfg(test)]
+mod rows;

@@ -1,0 +1,75 @@
+-- The output that a run makes: its format, which is its rate, its width and its length, and its file (RIFF WAVE 1991; this project's profile).
+use Rattle.std.specs.Prelude.{ℕ, ◌==◌, nat_le, List, [], ◌++◌, length, flat_map, ℤ, Option, Some, None, Result, Ok, Err, unwrap_or, if◌then◌else◌}
+use Rattle.fv_num.specs.Frames.{Frame, Stream}
+use Rattle.fv_diagram.specs.Diagram.{Diagram, inputs, outputs}
+use Rattle.fv_diagram.specs.Streams.{run}
+use Rattle.fv_diagram_play.specs.Play.{no_slots}
+use Rattle.fv_top_words.specs.Runs.{Settings}
+use Rattle.fv_wav.specs.declared.head.Head.{Head}
+use Rattle.fv_wav.specs.Samples.{head_bytes, sample_bytes, frame_bytes, pad_bytes, data_size, data_limit, stated_frames}
+use Rattle.fv_top_report.specs.declared.refusal.Refusal.{Refusal}
+use Rattle.fv_top_report.specs.declared.refusal.Refusal.TheVariants.{Channels, OutputTooLong, FramesNeeded, WaveTruncated}
+use Rattle.fv_top_text.specs.Compiled.{Compiled}
+use Rattle.fv_top.specs.Sources.{Source, data_of, frames_of}
+
+-- the format of an output: frames a second, bits of a sample, and the number of frames
+pub record OutputFormat : Type 0 where
+  pub rate : ℕ
+  pub bits : ℕ
+  pub frames : ℕ
+
+-- no input has no channels
+abbrev pub channels_in : Option Head → ℕ
+channels_in None = 0
+channels_in (Some h) = h.channels
+
+-- without an input there are as many frames as are asked for
+abbrev pub frames_in : Settings → Option Head → Option ℕ
+frames_in s None = s.frames
+frames_in s (Some h) = Some (stated_frames h)
+
+abbrev pub rate_in : Settings → Option Head → ℕ
+rate_in s None = unwrap_or s.rate 44100
+rate_in s (Some h) = h.rate
+
+abbrev pub bits_in : Settings → Option Head → ℕ
+bits_in s None = unwrap_or s.bits 16
+bits_in s (Some h) = unwrap_or s.bits h.bits
+
+-- a head can state so many bytes, or it cannot
+abbrev pub sized : OutputFormat → (size : ℕ) → Result OutputFormat Refusal
+sized format size = if nat_le size data_limit then Ok format else Err (OutputTooLong size)
+
+-- a format of so many frames, each as wide as the diagram's outputs
+abbrev pub counted : Settings → Diagram → Option Head → Option ℕ → Result OutputFormat Refusal
+counted s d head None = Err FramesNeeded
+counted s d head (Some n) = sized (record { rate = rate_in s head; bits = bits_in s head; frames = n }) (data_size (outputs d) (bits_in s head) n)
+
+-- a program that takes one stream
+abbrev pub mono : Compiled → Result Compiled Refusal
+mono p = if inputs p.diagram == 1 then Ok p else Err (Channels 1 (inputs p.diagram))
+
+-- The format of what a diagram makes on an input, or why it does not fit: first the channels, then the frames, then the bytes.
+abbrev pub format_of : Settings → Diagram → Option Head → Result OutputFormat Refusal
+format_of s d head =
+    if channels_in head == inputs d then counted s d head (frames_in s head) else Err (Channels (channels_in head) (inputs d))
+
+-- the frames of an input that are whole and present
+abbrev pub present_in : OutputFormat → Source → List Frame
+present_in format source = frames_of format.frames source.head (data_of source.head source.bytes)
+
+-- an input of which some whole frame is missing
+abbrev pub cut_in : OutputFormat → Source → Option Refusal
+cut_in format source = if length (present_in format source) == format.frames then None else Some (WaveTruncated (length source.bytes))
+
+-- a file of these samples, of which so many bytes are stated; where all are there, a zero byte stands behind an odd number of them
+abbrev pub file_of : (channels rate bits size : ℕ) → (samples : List ℤ) → (pad : List ℕ) → List ℕ
+file_of channels rate bits size samples pad = head_bytes channels rate bits size ++ flat_map (sample_bytes bits) samples ++ pad
+
+-- The output file of a diagram on the frames X, which are those that are there of the stated number: the head, the
+-- answer's frames and, where all frames are there, a zero byte behind an odd number of bytes.
+abbrev pub output_file : Diagram → (c : ℕ → Stream) → OutputFormat → (X : List Frame) → List ℕ
+output_file d c format X =
+    let size = data_size (outputs d) format.bits format.frames in
+    head_bytes (outputs d) format.rate format.bits size ++ flat_map (frame_bytes format.bits) (run d c no_slots X)
+    ++ (if length X == format.frames then pad_bytes size else [])

@@ -1,0 +1,116 @@
+// The format of the output that a program makes on an input.
+
+ghost use Rattle.std.specs.Prelude.{◌≡◌, ◌≤◌, true, IfOk};
+ghost use Rattle.std.specs.Option.{ForSome};
+ghost use Rattle.fv_num.specs.Words.{is_sample_width};
+ghost use Rattle.fv_diagram.specs.Diagram.{inputs, outputs};
+ghost use Rattle.fv_top_words.specs.Views.{settings_in};
+ghost use Rattle.fv_wav.specs.Stopping.{IsHead};
+ghost use Rattle.fv_wav.specs.Samples.{data_size, data_limit};
+ghost use Rattle.fv_top_text.specs.Compiled.{compiled_of, CanPlay};
+ghost use Rattle.fv_top.specs.Output.{format_of, channels_in, rate_in, bits_in, frames_in};
+ghost use Rattle.fv_top.specs.Formats.{format_answered};
+
+use crate::frames::frame_size;
+use fv_eval::Program;
+use fv_top_report::Refusal;
+use fv_top_words::Settings;
+use fv_wav::{Head, data_length};
+
+/// The format of an output.
+#[derive(Clone, Copy)]
+pub struct OutputFormat {
+    /// Frames a second.
+    pub rate: u32,
+    /// Bits of a sample.
+    pub bits: u32,
+    /// The number of frames.
+    pub frames: u32,
+    /// The bytes of their samples.
+    pub size: u32,
+}
+
+/// The frames a second where neither an input nor a word says so.
+const USUAL_RATE: u32 = 44100;
+
+/// The bits of a sample where neither an input nor a word says so.
+const USUAL_BITS: u32 = 16;
+
+/// The format of the output that a program makes on an input with this head, or why it does not fit.
+pub fn fit(
+    program: &Program,
+    head: Option<Head>,
+    settings: &Settings,
+) -> Result<OutputFormat, Refusal>
+    requires plays { CanPlay program.now }
+    requires head { ForSome head IsHead }
+    ensures format { format_answered result ≡ format_of (settings_in settings.now) (compiled_of program.now).diagram head }
+    ensures bits { IfOk result (λ s. is_sample_width s.bits ≡ true) }
+    ensures size { IfOk result (λ s. (s.size ≡ data_size (outputs (compiled_of program.now).diagram) s.bits s.frames) × (s.size ≤ data_limit)) }
+    ensures channels { IfOk result (λ _. channels_in head ≡ inputs (compiled_of program.now).diagram) }
+{
+    let arity = program.diagrams.arity(program.root);
+    let channels = channels_in(head);
+    if channels != arity.inputs {
+        return Err(Refusal::Channels {
+            have: channels,
+            want: arity.inputs,
+        });
+    }
+    let Some(frames) = frames_in(settings, head) else {
+        return Err(Refusal::FramesNeeded);
+    };
+    let rate = rate_in(settings, head);
+    let bits = bits_in(settings, head);
+    match data_length(arity.outputs, bits, frames) {
+        Some(size) => Ok(OutputFormat {
+            rate,
+            bits,
+            frames,
+            size,
+        }),
+        None => Err(Refusal::OutputTooLong {
+            bytes: u64::from(frames) * (u64::from(arity.outputs) * u64::from(bits / 8)),
+        }),
+    }
+}
+
+fn channels_in(head: Option<Head>) -> u32
+    ensures { result ≡ channels_in head }
+{
+    match head {
+        Some(head) => head.channels,
+        None => 0,
+    }
+}
+
+// The number of frames, if it is said.
+fn frames_in(settings: &Settings, head: Option<Head>) -> Option<u32>
+    requires { ForSome head IsHead }
+    ensures { result ≡ frames_in (settings_in settings.now) head }
+{
+    match head {
+        Some(head) => Some(head.data_bytes / frame_size(&head)),
+        None => settings.frames,
+    }
+}
+
+fn rate_in(settings: &Settings, head: Option<Head>) -> u32
+    ensures { result ≡ rate_in (settings_in settings.now) head }
+{
+    match head {
+        Some(head) => head.rate,
+        None => settings.rate.unwrap_or(USUAL_RATE),
+    }
+}
+
+fn bits_in(settings: &Settings, head: Option<Head>) -> u32
+    requires { ForSome head IsHead }
+    ensures bits { result ≡ bits_in (settings_in settings.now) head }
+    ensures is_width { is_sample_width result ≡ true }
+{
+    match head {
+        Some(head) => settings.bits.unwrap_or(head.bits),
+        None => settings.bits.unwrap_or(USUAL_BITS),
+    }
+}

@@ -1,0 +1,5 @@
+pub mod Lines
+pub mod Layers
+pub mod Fields
+pub mod Parts
+pub mod Examples

@@ -1,0 +1,4 @@
+pub mod AnswerLaws
+pub mod Texts
+pub mod Programs
+pub mod Delayed

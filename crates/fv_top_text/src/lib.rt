@@ -1,0 +1,8 @@
+//! What a program's text is: its tokens, their tree, the tree's value, its channels and its delays.
+#![tactic(auto)]
+
+mod laws;
+mod text;
+
+pub use laws::{front_is_enough, one_program};
+pub use text::read_program;

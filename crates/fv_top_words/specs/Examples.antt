@@ -1,0 +1,129 @@
+-- Small command lines, which hold by computing.
+use Rattle.std.specs.Prelude.{◌≡◌, refl, ℕ, List, [], ◌∷◌, Some, None, Result, Ok, Err, codes}
+use Rattle.fv_top_words.specs.declared.cause.Cause.{Cause}
+use Rattle.fv_top_words.specs.declared.cause.Cause.TheVariants.{Form, Number, Range, Vectors, Together, Same}
+use Rattle.fv_top_words.specs.Pieces.{cut, Any, Plain, Given}
+use Rattle.fv_top_words.specs.Runs.{Settings, default_vector}
+use Rattle.fv_top_words.specs.Commands.{Command, Play, Check, Make, Checking, Making, command_of, job_in}
+
+-- of these words behind the program's own name
+abbrev asked : List (List ℕ) → Result Command Cause
+asked words = command_of (codes "faustvec" ∷ words)
+
+abbrev run : List (List ℕ) → Result Command Cause
+run words = asked (codes "run" ∷ words)
+
+abbrev plain : Settings
+plain = record { block = 512; vector = 32; workers = 1; bits = None; frames = None; rate = None }
+
+abbrev from_file : Settings → Command
+from_file s = Play (record { program = codes "p.dsp"; input = Some (codes "in.wav"); output = codes "o.wav"; controls = None; settings = s })
+
+-- ---- the three commands
+
+defaults : run (codes "p.dsp" ∷ codes "in.wav" ∷ codes "o.wav" ∷ []) ≡ Ok (from_file plain)
+defaults = refl
+
+checks : asked (codes "check" ∷ codes "p.dsp" ∷ []) ≡ Ok (Check (codes "p.dsp"))
+checks = refl
+
+makes : asked (codes "make" ∷ codes "16" ∷ codes "32768" ∷ codes "1" ∷ []) ≡ Ok (Make 16 32768 1)
+makes = refl
+
+-- ---- where options stand
+
+pieces : cut Any (codes "--block" ∷ codes "-8" ∷ codes "a" ∷ codes "--rate=1=2" ∷ codes "-" ∷ codes "--" ∷ codes "-b" ∷ codes "--" ∷ [])
+    ≡ Some (Given (codes "--block") (codes "-8") ∷ Plain (codes "a") ∷ Given (codes "--rate") (codes "1=2") ∷ Plain (codes "-") ∷ Plain (codes "-b") ∷ Plain
+    (codes "--") ∷ [])
+pieces = refl
+
+no_value : cut Any (codes "a" ∷ codes "--block" ∷ []) ≡ None
+no_value = refl
+
+anywhere : run (codes "--block" ∷ codes "8" ∷ codes "p.dsp" ∷ codes "--vector=2" ∷ codes "in.wav" ∷ codes "o.wav" ∷ codes "--bits" ∷ codes "24" ∷ [])
+    ≡ Ok (from_file (record { block = 8; vector = 2; workers = 1; bits = Some 24; frames = None; rate = None }))
+anywhere = refl
+
+no_input : run (codes "p.dsp" ∷ codes "-" ∷ codes "o.wav" ∷ codes "--frames=0" ∷ codes "--controls" ∷ codes "c.txt" ∷ [])
+    ≡ Ok (Play (record {
+      program = codes "p.dsp";
+      input = None;
+      output = codes "o.wav";
+      controls = Some (codes "c.txt");
+      settings = record plain { frames = Some 0 };
+    }))
+no_input = refl
+
+dashes_behind : run (codes "--" ∷ codes "-p" ∷ codes "in.wav" ∷ codes "--o" ∷ [])
+    ≡ Ok (Play (record { program = codes "-p"; input = Some (codes "in.wav"); output = codes "--o"; controls = None; settings = plain }))
+dashes_behind = refl
+
+-- ---- causes, in their order
+
+abbrev with : List (List ℕ) → Result Command Cause
+with options = run (codes "p.dsp" ∷ codes "in.wav" ∷ codes "o.wav" ∷ options)
+
+twice : with (codes "--block=1" ∷ codes "--block=1" ∷ []) ≡ Err Form
+twice = refl
+
+unknown : with (codes "--help" ∷ codes "1" ∷ []) ≡ Err Form
+unknown = refl
+
+one_dash : with (codes "-b" ∷ codes "1" ∷ []) ≡ Err Form
+one_dash = refl
+
+four_words : with (codes "more" ∷ []) ≡ Err Form
+four_words = refl
+
+no_options : asked (codes "check" ∷ codes "p.dsp" ∷ codes "--block=1" ∷ []) ≡ Err Form
+no_options = refl
+
+number_first : with (codes "--vector=99999" ∷ codes "--block=" ∷ []) ≡ Err Number
+number_first = refl
+
+signed : with (codes "--block=+1" ∷ []) ≡ Err Number
+signed = refl
+
+eleven_digits : with (codes "--frames=00000000001" ∷ []) ≡ Err Number
+eleven_digits = refl
+
+over_block : with (codes "--block=8" ∷ codes "--vector=9" ∷ []) ≡ Err Range
+over_block = refl
+
+twelve_bits : with (codes "--bits=12" ∷ []) ≡ Err Range
+twelve_bits = refl
+
+no_voices : asked (codes "make" ∷ codes "0" ∷ codes "1" ∷ codes "1" ∷ []) ≡ Err Range
+no_voices = refl
+
+too_many : with (codes "--vector" ∷ codes "1" ∷ codes "--block" ∷ codes "4096" ∷ []) ≡ Err Vectors
+too_many = refl
+
+rate_of_file : with (codes "--rate" ∷ codes "1" ∷ []) ≡ Err Together
+rate_of_file = refl
+
+output_is_script : run (codes "p.dsp" ∷ codes "-" ∷ codes "o.wav" ∷ codes "--controls=o.wav" ∷ []) ≡ Err Same
+output_is_script = refl
+
+output_is_dash : run (codes "p.dsp" ∷ codes "-" ∷ codes "-" ∷ codes "--frames" ∷ codes "1" ∷ []) ≡ Err Same
+output_is_dash = refl
+
+short_block : default_vector 31 ≡ 31
+short_block = refl
+
+long_block : default_vector 4096 ≡ 64
+long_block = refl
+
+-- ---- what is enabled
+
+not_made : job_in (codes "faustvec" ∷ codes "make" ∷ codes "0" ∷ codes "x" ∷ codes "1" ∷ []) ≡ Err Number
+not_made = refl
+
+made_of_one : job_in (codes "faustvec" ∷ codes "make" ∷ codes "1" ∷ codes "3" ∷ codes "1" ∷ []) ≡ Ok (Making 1 3)
+made_of_one = refl
+
+checked : job_in (codes "faustvec" ∷ codes "check" ∷ codes "p.dsp" ∷ []) ≡ Ok (Checking (codes "p.dsp"))
+checked = refl
+
+one_worker : with (codes "--workers=2" ∷ []) ≡ Err Range
+one_worker = refl

@@ -1,0 +1,138 @@
+-- What the code's types mean.
+use Rattle.std.specs.Prelude.{ℕ, ◌≤◌, List, [], ◌∷◌, Option, Result, Ok, Err, option_map, option_and_then, option_copied}
+use Rattle.fv_top_words.specs.declared.cause.Cause.{Cause}
+use Rattle.fv_top_words.specs.declared.word.Kind.{Kind as Kinds}
+use Rattle.fv_top_words.specs.declared.word.Kind.TheVariants as kinds
+use Rattle.fv_top_words.specs.declared.texts.Plain.{Plain as Plains}
+use Rattle.fv_top_words.specs.declared.texts.Plain.TheVariants as plains
+use Rattle.fv_top_words.specs.declared.texts.State.{State as States}
+use Rattle.fv_top_words.specs.declared.texts.State.TheVariants as states
+use Rattle.fv_top_words.specs.declared.texts.Texts.{Texts as Given}
+use Rattle.fv_top_words.specs.declared.texts.Reader.{Reader}
+use Rattle.fv_top_words.specs.declared.numbers.Numbers.{Numbers as Found}
+use Rattle.fv_top_words.specs.declared.settings.Settings.{Settings as How}
+use Rattle.fv_top_words.specs.declared.run.Run.{Run as Runs}
+use Rattle.fv_top_words.specs.declared.command.Command.{Command as Commands}
+use Rattle.fv_top_words.specs.declared.command.Command.TheVariants as commands
+use Rattle.fv_top_words.specs.declared.command.Job.{Job as Jobs}
+use Rattle.fv_top_words.specs.declared.command.Job.TheVariants as jobs
+use Rattle.fv_top_words.specs.Pieces.{Kind, Bare, Ends, Apart, Joined, State, Any, Value, Names as NamesAlone, piece_of, state_after, cut}
+use Rattle.fv_top_words.specs.Texts.{Texts, take_piece, gathered}
+use Rattle.fv_top_words.specs.Numbers.{Numbers}
+use Rattle.fv_top_words.specs.Runs.{Settings, Run, AreSound}
+use Rattle.fv_top_words.specs.Commands.{Command, Play, Check, Make, Job, Playing, Checking, Making, most_voices}
+
+-- the kind of a word
+abbrev pub kind_in : Kinds → Kind
+kind_in kinds.Plain = Bare
+kind_in kinds.Ends = Ends
+kind_in kinds.Apart = Apart
+kind_in (kinds.Joined name value) = Joined name.now value.now
+
+-- the plain words
+abbrev pub plain_in : Plains → List (List ℕ)
+plain_in plains.None = []
+plain_in (plains.One a) = a.now ∷ []
+plain_in (plains.Two a b) = a.now ∷ b.now ∷ []
+plain_in (plains.Three a b c) = a.now ∷ b.now ∷ c.now ∷ []
+
+-- the texts
+abbrev pub texts_in : Given → Texts
+texts_in t = record {
+  plain = plain_in t.plain;
+  has_options = t.has_options;
+  controls = option_copied t.controls;
+  block = option_copied t.block;
+  vector = option_copied t.vector;
+  workers = option_copied t.workers;
+  bits = option_copied t.bits;
+  frames = option_copied t.frames;
+  rate = option_copied t.rate;
+}
+
+-- what may stand next
+abbrev pub state_in : States → State
+state_in states.Any = Any
+state_in (states.Value name) = Value name.now
+state_in states.Names = NamesAlone
+
+-- the words so far
+pub record Read : Type 0 where
+  pub state : State
+  pub texts : Texts
+
+-- the words so far
+abbrev pub read_in : Reader → Read
+read_in r = record { state = state_in r.state; texts = texts_in r.texts }
+
+-- with one word more
+abbrev pub read_more : Read → List ℕ → Option Read
+read_more r w = option_map (λ t. record { state = state_after r.state w; texts = t }) (take_piece (piece_of r.state w) r.texts)
+
+-- what the words that are left make of those so far
+abbrev pub finished : Read → List (List ℕ) → Option Texts
+finished r ws = option_and_then (gathered r.texts) (cut r.state ws)
+
+-- ---- what was read
+
+-- the numbers of the options
+abbrev pub numbers_in : Found → Numbers
+numbers_in n = record { block = n.block; vector = n.vector; workers = n.workers; bits = n.bits; frames = n.frames; rate = n.rate }
+
+-- how a run is done
+abbrev pub settings_in : How → Settings
+settings_in s = record { block = s.block; vector = s.vector; workers = s.workers; bits = s.bits; frames = s.frames; rate = s.rate }
+
+-- the same as an answer
+abbrev pub settings_answered : Result How Cause → Result Settings Cause
+settings_answered (Ok s) = Ok (settings_in s)
+settings_answered (Err e) = Err e
+
+-- a run
+abbrev pub run_in : Runs → Run
+run_in r = record {
+  program = r.program.now;
+  input = option_copied r.input;
+  output = r.output.now;
+  controls = option_copied r.controls;
+  settings = settings_in r.settings;
+}
+
+-- the same as an answer
+abbrev pub run_answered : Result Runs Cause → Result Run Cause
+run_answered (Ok r) = Ok (run_in r)
+run_answered (Err e) = Err e
+
+-- what is asked for
+abbrev pub job_view : Jobs → Job
+job_view (jobs.Run run) = Playing (run_in run)
+job_view (jobs.Check program) = Checking program.now
+job_view (jobs.Make voices frames) = Making voices frames
+
+-- the same as an answer
+abbrev pub job_answered : Result Jobs Cause → Result Job Cause
+job_answered (Ok j) = Ok (job_view j)
+job_answered (Err e) = Err e
+
+-- a command
+abbrev pub command_view : Commands → Command
+command_view (commands.Run run) = Play (run_in run)
+command_view (commands.Check program) = Check program.now
+command_view (commands.Make voices frames workers) = Make voices frames workers
+
+-- a command's numbers are within their ranges: the settings of a run, and the voices of a make
+abbrev pub IsInRange : Commands → Type 0
+IsInRange (commands.Run run) = AreSound (settings_in run.settings)
+IsInRange (commands.Check program) = Unit {0}
+IsInRange (commands.Make voices frames workers) = voices ≤ most_voices
+
+-- and so are those of what is asked for
+abbrev pub IsJobInRange : Jobs → Type 0
+IsJobInRange (jobs.Run run) = AreSound (settings_in run.settings)
+IsJobInRange (jobs.Check program) = Unit {0}
+IsJobInRange (jobs.Make voices frames) = voices ≤ most_voices
+
+-- the same as an answer
+abbrev pub command_answered : Result Commands Cause → Result Command Cause
+command_answered (Ok c) = Ok (command_view c)
+command_answered (Err e) = Err e

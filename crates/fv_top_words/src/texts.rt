@@ -1,0 +1,195 @@
+// The plain words and the values of the options, as they are spelled.
+
+ghost use Rattle.std.specs.Prelude.{◌≡◌, map, string_bytes, option_map, option_copied};
+ghost use Rattle.fv_top_words.specs.Pieces.{Any as any_word};
+ghost use Rattle.fv_top_words.specs.Texts.{add, put, row, once, texts_of, no_texts};
+ghost use Rattle.fv_top_words.specs.Views.{texts_in, read_in, read_more};
+
+use crate::word::{Kind, kind_of};
+
+/// The plain words, in order; no command has more than three.
+#[derive(Clone, Copy)]
+pub enum Plain<'a> {
+    None,
+    One(&'a str),
+    Two(&'a str, &'a str),
+    Three(&'a str, &'a str, &'a str),
+}
+
+/// The words behind the command word, as they are spelled.
+#[derive(Clone, Copy)]
+pub struct Texts<'a> {
+    pub plain: Plain<'a>,
+    /// Whether an option is given.
+    pub has_options: bool,
+    pub controls: Option<&'a str>,
+    pub block: Option<&'a str>,
+    pub vector: Option<&'a str>,
+    pub workers: Option<&'a str>,
+    pub bits: Option<&'a str>,
+    pub frames: Option<&'a str>,
+    pub rate: Option<&'a str>,
+}
+
+// What may stand next.
+#[derive(Clone, Copy)]
+enum State<'a> {
+    Any,
+    Value(&'a str),
+    Names,
+}
+
+// The words so far.
+#[derive(Clone, Copy)]
+struct Reader<'a> {
+    state: State<'a>,
+    texts: Texts<'a>,
+}
+
+/// The texts of these words, or nothing where they are of no form.
+pub fn texts_of(words: &[String]) -> Option<Texts<'_>>
+    ensures { option_map texts_in result ≡ texts_of (map string_bytes words.now) }
+{
+    let mut reader = Reader {
+        state: State::Any,
+        texts: no_texts(),
+    };
+    for word in words {
+        reader = reader.take(word.as_str())?;
+    }
+    match reader.state {
+        State::Value(_) => None,
+        State::Any | State::Names => Some(reader.texts),
+    }
+}
+
+fn no_texts<'a>() -> Texts<'a>
+    ensures { texts_in result ≡ no_texts }
+{
+    Texts {
+        plain: Plain::None,
+        has_options: false,
+        controls: None,
+        block: None,
+        vector: None,
+        workers: None,
+        bits: None,
+        frames: None,
+        rate: None,
+    }
+}
+
+impl<'a> Reader<'a> {
+    // With one word more.
+    fn take(self, word: &'a str) -> Option<Reader<'a>>
+        ensures { option_map read_in result ≡ read_more (read_in self.entry) word.now }
+    {
+        match self.state {
+            State::Any => self.take_any(word),
+            State::Value(name) => Some(Reader {
+                state: State::Any,
+                texts: self.texts.put(name, word)?,
+            }),
+            State::Names => Some(Reader {
+                state: State::Names,
+                texts: self.texts.add(word)?,
+            }),
+        }
+    }
+
+    // With a word where options may stand.
+    fn take_any(self, word: &'a str) -> Option<Reader<'a>>
+        ensures { option_map read_in result
+            ≡ read_more (record { state = any_word; texts = texts_in self.entry.texts }) word.now }
+    {
+        match kind_of(word) {
+            Kind::Plain => Some(Reader {
+                state: State::Any,
+                texts: self.texts.add(word)?,
+            }),
+            Kind::Ends => Some(Reader {
+                state: State::Names,
+                texts: self.texts,
+            }),
+            Kind::Apart => Some(Reader {
+                state: State::Value(word),
+                texts: self.texts,
+            }),
+            Kind::Joined { name, value } => Some(Reader {
+                state: State::Any,
+                texts: self.texts.put(name, value)?,
+            }),
+        }
+    }
+}
+
+impl<'a> Texts<'a> {
+    // With a plain word more.
+    fn add(self, word: &'a str) -> Option<Texts<'a>>
+        ensures { option_map texts_in result ≡ add word.now (texts_in self.entry) }
+    {
+        let plain = match self.plain {
+            Plain::None => Plain::One(word),
+            Plain::One(a) => Plain::Two(a, word),
+            Plain::Two(a, b) => Plain::Three(a, b, word),
+            Plain::Three(_, _, _) => return None,
+        };
+        Some(Texts { plain, ..self })
+    }
+
+    // With an option more.
+    fn put(self, name: &str, value: &'a str) -> Option<Texts<'a>>
+        ensures { option_map texts_in result ≡ put name.now value.now (texts_in self.entry) }
+    {
+        let texts = Texts {
+            has_options: true,
+            ..self
+        };
+        texts.row(name, value)
+    }
+
+    // The options, one row each.
+    fn row(self, name: &str, value: &'a str) -> Option<Texts<'a>>
+        ensures { option_map texts_in result ≡ row name.now value.now (texts_in self.entry) }
+    {
+        if name == "--controls" {
+            let controls = once(self.controls, value)?;
+            return Some(Texts { controls, ..self });
+        }
+        if name == "--block" {
+            let block = once(self.block, value)?;
+            return Some(Texts { block, ..self });
+        }
+        if name == "--vector" {
+            let vector = once(self.vector, value)?;
+            return Some(Texts { vector, ..self });
+        }
+        if name == "--workers" {
+            let workers = once(self.workers, value)?;
+            return Some(Texts { workers, ..self });
+        }
+        if name == "--bits" {
+            let bits = once(self.bits, value)?;
+            return Some(Texts { bits, ..self });
+        }
+        if name == "--frames" {
+            let frames = once(self.frames, value)?;
+            return Some(Texts { frames, ..self });
+        }
+        if name == "--rate" {
+            let rate = once(self.rate, value)?;
+            return Some(Texts { rate, ..self });
+        }
+        None
+    }
+}
+
+// The value of an option, which is given once.
+fn once<'a>(before: Option<&'a str>, value: &'a str) -> Option<Option<&'a str>>
+    ensures { option_map option_copied result ≡ once (option_copied before.entry) value.now }
+{
+    match before {
+        None => Some(Some(value)),
+        Some(_) => None,
+    }
+}

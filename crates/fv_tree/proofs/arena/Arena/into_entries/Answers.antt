@@ -1,5 +1,0 @@
-use Rattle.fv_tree.proofs.Arenas.{are_built}
-use Rattle.fv_tree.proofs.arena.Arena.into_entries.Goals as goal
-
-pub returns-clause-built : goal.returns-clause-built
-returns-clause-built c = are_built _ c.self.invariant

@@ -1,5 +1,0 @@
-use Rattle.fv_words.proofs.Ranges.{keep_ranges}
-use Rattle.fv_words.proofs.laws.settings_keep_ranges.Goals as goal
-
-pub returns : goal.returns
-returns c = keep_ranges
