@@ -12,8 +12,8 @@ use Rattle.fv_signal.specs.declared.signal.Signal.TheVariants.{Input, Const, Con
 use Rattle.fv_signal.specs.Value.{Graph, definition}
 use Rattle.fv_signal.proofs.Grown.{length_grown}
 use Rattle.fv_analysis.specs.Stands.{node, stand, stand_in, stands_of, StandsAt}
-use Rattle.fv_analysis.specs.Reaching.{delay_of, is_back_of, greatest_delay, is_fed_back, history_from, history_of, HasReason, OfDelay, OfBack}
-use Rattle.fv_analysis.specs.Reaching.{HistoriesCover, Tell, TellMore}
+use Rattle.fv_analysis.specs.History.{delay_of, is_back_of, greatest_delay, is_fed_back, history_from, history_of, HasReason, OfDelay, OfBack}
+use Rattle.fv_analysis.specs.History.{HistoriesCover, Tell, TellMore}
 
 -- ---- one signal more
 

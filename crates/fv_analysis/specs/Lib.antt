@@ -1,5 +1,5 @@
 pub mod Stands
-pub mod Reaching
+pub mod History
 -- what its public clauses cite of crates below
 pub use Rattle.fv_num.specs.Frames
 pub use Rattle.fv_signal.specs.Value

@@ -2,7 +2,7 @@
 
 ghost use Rattle.fv_signal.specs.Value.{Graph};
 ghost use Rattle.fv_analysis.specs.Stands.{StandsAlike, DelaysAreSample};
-ghost use Rattle.fv_analysis.specs.Reaching.{HistoriesCover};
+ghost use Rattle.fv_analysis.specs.History.{HistoriesCover};
 
 /// What a member stands for has its values.
 pub fn stands_alike()

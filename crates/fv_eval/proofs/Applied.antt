@@ -7,8 +7,8 @@ use Rattle.fv_rules.specs.Values.{Value, Flat, Abstraction, Rules, Bound, And, c
 use Rattle.fv_rules.specs.Matching.{chosen}
 use Rattle.fv_rules.specs.Steps.{State}
 use Rattle.fv_rules.specs.Rules.{width}
-use Rattle.fv_eval_machine.specs.Machine.{Frame, apply, select}
-use Rattle.fv_eval.specs.Frames.{took, completed}
+use Rattle.fv_eval_machine.specs.Machine.{Continuation, apply, select}
+use Rattle.fv_eval.specs.Continuations.{took, completed}
 
 some_then : (b : Bool) (u v : Value) → (if b then Some u else None) ≡ Some v → (b ≡ true) × (u ≡ v)
 some_then true u v e = (refl, cc)
@@ -19,7 +19,7 @@ none_then true u e = absurd (none-some u (sym e))
 none_then false u e = refl
 
 -- one argument was taken, and the others wait
-pub apply_took : (l : Lexed) (start : ℕ) (v a u : Value) (vs : List Value) (fs : List Frame) (s : State)
+pub apply_took : (l : Lexed) (start : ℕ) (v a u : Value) (vs : List Value) (fs : List Continuation) (s : State)
     → took v a ≡ Some u → apply l start v (a ∷ vs) fs s ≡ apply l start u vs fs s
 apply_took l start (Flat f) a u vs fs s e = absurd (none-some u e)
 apply_took l start (Abstraction x [] b E) a u vs fs s e = absurd (none-some u e)
@@ -30,7 +30,7 @@ apply_took l start (Rules r rs E T) a u vs fs s e =
     ∙ ap (λ w. apply l start w vs fs s) h.1
 
 -- the last argument that is wanted
-pub apply_completes : (l : Lexed) (start : ℕ) (v a : Value) (vs : List Value) (fs : List Frame) (s : State)
+pub apply_completes : (l : Lexed) (start : ℕ) (v a : Value) (vs : List Value) (fs : List Continuation) (s : State)
     → took v a ≡ None → apply l start v (a ∷ vs) fs s ≡ completed l start v a vs fs s
 apply_completes l start (Flat f) a vs fs s e = refl
 apply_completes l start (Abstraction x [] b E) a vs fs s e = refl

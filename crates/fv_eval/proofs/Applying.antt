@@ -14,16 +14,16 @@ use Rattle.fv_rules.specs.Values.{Value, Env}
 use Rattle.fv_rules.specs.Steps.{State}
 use Rattle.fv_rules.specs.Shows.{ShowsEnv, ShowsTree, ShowsValue, ShowsValues}
 use Rattle.fv_rules.proofs.Grown.{tree_grows, value_grows, values_grow}
-use Rattle.fv_eval_machine.specs.Machine.{Argument, Frame, Valued, Visit, Config, Running, apply, next_argument}
-use Rattle.fv_eval.specs.declared.frame.Frame.TheVariants as frame
-use Rattle.fv_eval.specs.declared.frame.ForValue.TheVariants as valued
-use Rattle.fv_eval.specs.declared.frame.Focus as code_focus
-use Rattle.fv_eval.specs.declared.frame.Focus.TheVariants as focus
+use Rattle.fv_eval_machine.specs.Machine.{Argument, Continuation, Valued, Visit, Config, Running, apply, next_argument}
+use Rattle.fv_eval.specs.declared.continuation.Continuation.TheVariants as continuation
+use Rattle.fv_eval.specs.declared.continuation.ForValue.TheVariants as valued
+use Rattle.fv_eval.specs.declared.continuation.Focus as code_focus
+use Rattle.fv_eval.specs.declared.continuation.Focus.TheVariants as focus
 use Rattle.fv_eval.specs.declared.machine.Machine as code_machine
-use Rattle.fv_eval.specs.Frames.{AreShown, Goes, Grew, IsShown, ShowsFrame, ShowsTaking, Steps, completed, state_of, took, world}
+use Rattle.fv_eval.specs.Continuations.{AreShown, Goes, Grew, IsShown, ShowsContinuation, ShowsTaking, Steps, completed, state_of, took, world}
 use Rattle.fv_eval.proofs.Applied.{apply_completes, apply_took}
 use Rattle.fv_eval.proofs.Arrived.{Applies, Argues}
-use Rattle.fv_eval.specs.Frames.{Completes}
+use Rattle.fv_eval.specs.Continuations.{Completes}
 use Rattle.fv_eval.proofs.Moves.{gives, grew_on, steps_on}
 use Rattle.fv_eval.proofs.Parameters.{get_map}
 use Rattle.fv_eval.proofs.Places.{drop_at_end, drop_at_get, drop_behind}
@@ -63,8 +63,8 @@ pub next_waits : (p : Parsed) (m n : code_machine.Machine)
     (r : Result code_focus.Focus EvalRefusal) (a : ℕ) (u : code_value.Value) (e : ℕ) (done : Vec code_value.Value Global)
     (start : ℕ) (g zs : Tree) (ids : List ℕ) (id : ℕ)
     → tree_in p a ≡ tree.Apply start g zs → map (tree_in p) ids ≡ items zs → slice_get ids (length done.items) ≡ Some id → id < size_of p
-    → ((F : Frame) (x : Tree) (E : Env)
-    → ShowsFrame (world p m) (frame.Valued (valued.Argument a u e done)) F → ShowsTree (world p m) id x → ShowsEnv (world p m) e E
+    → ((F : Continuation) (x : Tree) (E : Env)
+    → ShowsContinuation (world p m) (continuation.Valued (valued.Argument a u e done)) F → ShowsTree (world p m) id x → ShowsEnv (world p m) e E
     → Steps p m n r (λ Fs s. Running (Visit x E) (F ∷ Fs) s))
     → Argues p m n r a u e done.items
 next_waits p m n r a u e done start g zs ids id node all got inside wait s f ys v E vs t h k w =
@@ -72,7 +72,7 @@ next_waits p m n r a u e done start g zs ids id node all got inside wait s f ys 
     let same : ys ≡ zs = same_list s start f g ys zs (sym t.1 ∙ node) in
     let place : slice_get (items ys) count ≡ Some (tree_in p id) = at_place p ids (items ys) count id (all ∙ ap items (sym same)) got in
     let rest : drop count (items ys) ≡ tree_in p id ∷ drop (suc count) (items ys) = drop_at_get (items ys) count (tree_in p id) place in
-    let F : Frame = Valued (Argument s v (drop (suc count) (items ys)) E vs) in
+    let F : Continuation = Valued (Argument s v (drop (suc count) (items ys)) E vs) in
     subst (λ ts. Steps p m n r (λ Fs q. next_argument p.tokens s v ts E vs Fs q)) (sym rest)
     (wait F (tree_in p id) E (record { f = f; ys = ys; tree = t; more_are = refl; function = h; env = k; done = w }) (inside, refl) k)
 
@@ -95,7 +95,7 @@ pub record Same (p : Parsed) (m : code_machine.Machine) (u : code_value.Value) (
   pub vs : List Value
   pub function : ShowsValue (world p m) u v
   pub arguments : ShowsValues (world p m) us vs
-  pub same : (s : ℕ) (Fs : List Frame) (t : State) → apply p.tokens s v vs Fs t ≡ apply p.tokens s v0 vs0 Fs t
+  pub same : (s : ℕ) (Fs : List Continuation) (t : State) → apply p.tokens s v vs Fs t ≡ apply p.tokens s v0 vs0 Fs t
 
 -- the function that is left on the arguments that are left is the whole application
 pub record AppliesOn (p : Parsed) (m0 m : code_machine.Machine) (u0 u : code_value.Value) (us : List code_value.Value) (next at : ℕ) : Type 0 where
@@ -135,7 +135,8 @@ took_one p m n u x y us at v0 vs0 got g takes q = parts q.vs q.arguments q.same
   where
     taken : (a : Value) (more : List Value) (o : Option Value)
         → took q.v a ≡ o → ShowsTaking (world p n) (Some y) o → ShowsValues (world p n) (drop (suc at) us) more
-        → ((s : ℕ) (Fs : List Frame) (t : State) → apply p.tokens s q.v (a ∷ more) Fs t ≡ apply p.tokens s v0 vs0 Fs t) → Same p n y (drop (suc at) us) v0 vs0
+        → ((s : ℕ) (Fs : List Continuation) (t : State) → apply p.tokens s q.v (a ∷ more) Fs t ≡ apply p.tokens s v0 vs0 Fs t)
+        → Same p n y (drop (suc at) us) v0 vs0
     taken a more None e h k same = absurd h
     taken a more (Some w) e h k same = record {
       v = w;
@@ -146,7 +147,8 @@ took_one p m n u x y us at v0 vs0 got g takes q = parts q.vs q.arguments q.same
     }
 
     parts : (vs : List Value)
-        → ShowsValues (world p m) (drop at us) vs → ((s : ℕ) (Fs : List Frame) (t : State) → apply p.tokens s q.v vs Fs t ≡ apply p.tokens s v0 vs0 Fs t)
+        → ShowsValues (world p m) (drop at us) vs → ((s : ℕ) (Fs : List Continuation) (t : State)
+        → apply p.tokens s q.v vs Fs t ≡ apply p.tokens s v0 vs0 Fs t)
         → Same p n y (drop (suc at) us) v0 vs0
     parts [] h same = let here = drop_at_get us at x got in absurd (cc)
     parts (a ∷ more) h same =
@@ -172,7 +174,7 @@ gives_whole : (p : Parsed) (m : code_machine.Machine) (u : code_value.Value) (v0
 gives_whole p m u v0 vs0 s q = parts q.vs q.arguments q.same
   where
     parts : (vs : List Value)
-        → ShowsValues (world p m) [] vs → ((i : ℕ) (Fs : List Frame) (t : State) → apply p.tokens i q.v vs Fs t ≡ apply p.tokens i v0 vs0 Fs t)
+        → ShowsValues (world p m) [] vs → ((i : ℕ) (Fs : List Continuation) (t : State) → apply p.tokens i q.v vs Fs t ≡ apply p.tokens i v0 vs0 Fs t)
         → Steps p m m (Ok (focus.Give u)) (λ Fs t. apply p.tokens s v0 vs0 Fs t)
     parts [] h same = λ Fs k. subst (λ (c : Config). Goes p m (Ok (focus.Give u)) c) (same s Fs (state_of m)) (gives p m u q.v q.function Fs k)
     parts (a ∷ more) h same = let e = h.2 in absurd (cc)
@@ -199,7 +201,8 @@ completes_whole p m m1 n r app u x us at s f ys v0 vs0 got g takes go t q = part
     none (Some w) h = absurd h
 
     parts : (vs : List Value)
-        → ShowsValues (world p m) (drop at us) vs → ((i : ℕ) (Fs : List Frame) (z : State) → apply p.tokens i q.v vs Fs z ≡ apply p.tokens i v0 vs0 Fs z)
+        → ShowsValues (world p m) (drop at us) vs → ((i : ℕ) (Fs : List Continuation) (z : State)
+        → apply p.tokens i q.v vs Fs z ≡ apply p.tokens i v0 vs0 Fs z)
         → Steps p m n r (λ Fs z. apply p.tokens s v0 vs0 Fs z)
     parts [] h same = let here = drop_at_get us at x got in absurd (cc)
     parts (a ∷ more) h same =

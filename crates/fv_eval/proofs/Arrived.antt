@@ -14,18 +14,20 @@ use Rattle.fv_rules.specs.Matching.{settled, value_number}
 use Rattle.fv_rules.specs.Rules.{read_number, slider_kind}
 use Rattle.fv_rules.specs.Shows.{ShowsTree, ShowsValue, ShowsValues, ShowsEnv}
 use Rattle.fv_rules.proofs.Grown.{tree_grows, value_grows, env_grows, values_grow}
-use Rattle.fv_eval_machine.specs.Machine.{ForValue, Function, Argument, Leftover, Parameter, ForDiagram, Frame, Valued, Drawn, apply, arrives, next_argument}
+use Rattle.fv_eval_machine.specs.Machine.{ForValue, Function, Argument, Leftover, Parameter, ForDiagram, Continuation, Valued, Drawn}
+use Rattle.fv_eval_machine.specs.Machine.{apply, arrives, next_argument}
 use Rattle.fv_eval_machine.specs.Machine.{parameter_read, to_diagram, value_arrives}
-use Rattle.fv_eval.specs.declared.frame.Frame as code_frame
-use Rattle.fv_eval.specs.declared.frame.Frame.TheVariants as frame
-use Rattle.fv_eval.specs.declared.frame.Focus as code_focus
-use Rattle.fv_eval.specs.declared.frame.Focus.TheVariants as focus
-use Rattle.fv_eval.specs.declared.frame.ForValue as code_for_value
-use Rattle.fv_eval.specs.declared.frame.ForValue.TheVariants as valued
-use Rattle.fv_eval.specs.declared.frame.ForDiagram as code_for_diagram
+use Rattle.fv_eval.specs.declared.continuation.Continuation as code_continuation
+use Rattle.fv_eval.specs.declared.continuation.Continuation.TheVariants as continuation
+use Rattle.fv_eval.specs.declared.continuation.Focus as code_focus
+use Rattle.fv_eval.specs.declared.continuation.Focus.TheVariants as focus
+use Rattle.fv_eval.specs.declared.continuation.ForValue as code_for_value
+use Rattle.fv_eval.specs.declared.continuation.ForValue.TheVariants as valued
+use Rattle.fv_eval.specs.declared.continuation.ForDiagram as code_for_diagram
 use Rattle.fv_eval.specs.declared.machine.Machine as code_machine
-use Rattle.fv_eval.specs.Frames.{DrawnThere, Goes, Grew, IsShown, Keeps, Runs, ShowsForDiagram, ShowsForValue, ShowsFrame, ShowsFrames, ShowsSlider, Steps}
-use Rattle.fv_eval.specs.Frames.{ValuedShown, state_of, world}
+use Rattle.fv_eval.specs.Continuations.{DrawnThere, Goes, Grew, IsShown, Keeps, Runs, ShowsForDiagram, ShowsForValue, ShowsContinuation}
+use Rattle.fv_eval.specs.Continuations.{ShowsContinuations, ShowsSlider, Steps}
+use Rattle.fv_eval.specs.Continuations.{ValuedShown, state_of, world}
 use Rattle.fv_eval.proofs.Moves.{steps_on}
 use Rattle.fv_eval.proofs.There.{drawn_there, values_push}
 
@@ -45,12 +47,12 @@ Reads p m n r a e ns u = (k : SliderKind) (label : List ℕ) (E : Env) (x : Tree
     → ShowsSlider (world p m) a e (length ns) k label E (x ∷ more) → ShowsValue (world p m) u v
     → Steps p m n r (λ Fs s. parameter_read (slider_kind k) label more E ns (read_number p.tokens (start_of x) (value_number v) s) Fs)
 
--- what a frame makes of a value
+-- what a continuation makes of a value
 abbrev pub Resumes : Parsed → (m n : code_machine.Machine) → Result code_focus.Focus EvalRefusal → code_for_value.ForValue → code_value.Value → Type 0
 Resumes p m n r f u =
     (F : ForValue) (v : Value) → ShowsForValue (world p m) f F → ShowsValue (world p m) u v → Steps p m n r (λ Fs s. value_arrives p.tokens F v Fs s)
 
--- ---- the frames
+-- ---- the continuations
 
 pub function_resumes : (p : Parsed)
     (m n : code_machine.Machine) (r : Result code_focus.Focus EvalRefusal) (a e : ℕ) (u : code_value.Value) (us : List code_value.Value)
@@ -99,47 +101,47 @@ parameter_resumes p m n r a e u ns go (Parameter kind label s more E ms) v h k =
     subst (λ (c : ControlKind). Steps p m n r (λ Fs t. parameter_read c label more E ms (read_number p.tokens s (value_number v) t) Fs)) (sym h.2) q2
 parameter_resumes p m n r a e u ns go F v h k = absurd h
 
--- ---- the innermost frame
+-- ---- the innermost continuation
 
 no_push : {A : Type 0} (xs : List A) (x : A) → xs ++ x ∷ [] ≡ [] → ⊥
 no_push [] x e = cc
 no_push (y ∷ xs) x e = cc
 
--- the innermost frame and the others
-pub popped : (p : Parsed) (m : code_machine.Machine) (fs : List code_frame.Frame) (f : code_frame.Frame) (Fs : List Frame)
-    → m.frames ≡ fs ++ f ∷ [] → Keeps p m Fs
-    → (F : Frame) × (Gs : List Frame) × (Fs ≡ F ∷ Gs) × ShowsFrame (world p m) f F × ShowsFrames (world p m) fs Gs
+-- the innermost continuation and the others
+pub popped : (p : Parsed) (m : code_machine.Machine) (fs : List code_continuation.Continuation) (f : code_continuation.Continuation) (Fs : List Continuation)
+    → m.continuations ≡ fs ++ f ∷ [] → Keeps p m Fs
+    → (F : Continuation) × (Gs : List Continuation) × (Fs ≡ F ∷ Gs) × ShowsContinuation (world p m) f F × ShowsContinuations (world p m) fs Gs
 popped p m fs f [] e k = absurd (no_push fs f (sym e ∙ k))
 popped p m fs f (F ∷ Gs) e k =
     let same = same_from_push k.0 fs k.1 f (sym k.2 ∙ e) in (
       F,
       Gs,
       refl,
-      subst (λ (x : code_frame.Frame). ShowsFrame (world p m) x F) same.1 k.3,
-      subst (λ (xs : List code_frame.Frame). ShowsFrames (world p m) xs Gs) same.0 k.4,
+      subst (λ (x : code_continuation.Continuation). ShowsContinuation (world p m) x F) same.1 k.3,
+      subst (λ (xs : List code_continuation.Continuation). ShowsContinuations (world p m) xs Gs) same.0 k.4,
     )
 
 -- it is shown
-pub first_shown : (p : Parsed) (m : code_machine.Machine) (fs : List code_frame.Frame) (f : code_frame.Frame) (u : code_value.Value)
-    → m.frames ≡ fs ++ f ∷ [] → Runs p m (focus.Give u)
-    → (F : Frame) × ShowsFrame (world p m) f F
+pub first_shown : (p : Parsed) (m : code_machine.Machine) (fs : List code_continuation.Continuation) (f : code_continuation.Continuation) (u : code_value.Value)
+    → m.continuations ≡ fs ++ f ∷ [] → Runs p m (focus.Give u)
+    → (F : Continuation) × ShowsContinuation (world p m) f F
 first_shown p m fs f u e h = let t = popped p m fs f h.1.1 e h.1.4 in (t.0, t.3)
 
-pub first_valued : (p : Parsed) (m : code_machine.Machine) (fs : List code_frame.Frame) (f : code_for_value.ForValue) (u : code_value.Value)
-    → m.frames ≡ fs ++ frame.Valued f ∷ []
+pub first_valued : (p : Parsed) (m : code_machine.Machine) (fs : List code_continuation.Continuation) (f : code_for_value.ForValue) (u : code_value.Value)
+    → m.continuations ≡ fs ++ continuation.Valued f ∷ []
     → Runs p m (focus.Give u) → ValuedShown (world p m) f
-first_valued p m fs f u e h = let t = first_shown p m fs (frame.Valued f) u e h in parts t.0 t.1
+first_valued p m fs f u e h = let t = first_shown p m fs (continuation.Valued f) u e h in parts t.0 t.1
   where
-    parts : (F : Frame) → ShowsFrame (world p m) (frame.Valued f) F → ValuedShown (world p m) f
+    parts : (F : Continuation) → ShowsContinuation (world p m) (continuation.Valued f) F → ValuedShown (world p m) f
     parts (Valued G) k = (G, k)
     parts (Drawn G) k = absurd k
 
-pub first_drawn : (p : Parsed) (m : code_machine.Machine) (fs : List code_frame.Frame) (f : code_for_diagram.ForDiagram) (u : code_value.Value)
-    → m.frames ≡ fs ++ frame.Drawn f ∷ []
+pub first_drawn : (p : Parsed) (m : code_machine.Machine) (fs : List code_continuation.Continuation) (f : code_for_diagram.ForDiagram) (u : code_value.Value)
+    → m.continuations ≡ fs ++ continuation.Drawn f ∷ []
     → Runs p m (focus.Give u) → DrawnThere (world p m) f
-first_drawn p m fs f u e h = let t = first_shown p m fs (frame.Drawn f) u e h in parts t.0 t.1
+first_drawn p m fs f u e h = let t = first_shown p m fs (continuation.Drawn f) u e h in parts t.0 t.1
   where
-    parts : (F : Frame) → ShowsFrame (world p m) (frame.Drawn f) F → DrawnThere (world p m) f
+    parts : (F : Continuation) → ShowsContinuation (world p m) (continuation.Drawn f) F → DrawnThere (world p m) f
     parts (Drawn G) k = drawn_there (world p m) f G k
     parts (Valued G) k = absurd k
 
@@ -150,47 +152,50 @@ given_shown p m u h = (h.1.0, h.1.3)
 -- ---- a value is given
 
 -- nothing waits
-pub arrives_last : (p : Parsed) (m : code_machine.Machine) (fs : List code_frame.Frame) (u : code_value.Value)
-    → m.frames ≡ [] → (v : Value) → ShowsValue (world p m) u v
-    → Steps p m (record m { frames = fs }) (Ok (focus.Done u)) (λ Fs s. arrives p.tokens v Fs s)
+pub arrives_last : (p : Parsed) (m : code_machine.Machine) (fs : List code_continuation.Continuation) (u : code_value.Value)
+    → m.continuations ≡ [] → (v : Value) → ShowsValue (world p m) u v
+    → Steps p m (record m { continuations = fs }) (Ok (focus.Done u)) (λ Fs s. arrives p.tokens v Fs s)
 arrives_last p m fs u e v h [] k = (v, refl, h)
 arrives_last p m fs u e v h (F ∷ Gs) k = absurd (no_push k.0 k.1 (sym k.2 ∙ e))
 
 valued_first : (p : Parsed) (m n : code_machine.Machine)
-    (fs : List code_frame.Frame) (f : code_for_value.ForValue) (r : Result code_focus.Focus EvalRefusal) (u : code_value.Value)
-    → Resumes p (record m { frames = fs }) n r f u
-    → (v : Value) → ShowsValue (world p m) u v → (F : Frame) (Gs : List Frame) → ShowsFrame (world p m) (frame.Valued f) F
-    → ShowsFrames (world p m) fs Gs → Goes p n r (arrives p.tokens v (F ∷ Gs) (state_of m))
+    (fs : List code_continuation.Continuation) (f : code_for_value.ForValue) (r : Result code_focus.Focus EvalRefusal) (u : code_value.Value)
+    → Resumes p (record m { continuations = fs }) n r f u
+    → (v : Value) → ShowsValue (world p m) u v → (F : Continuation) (Gs : List Continuation) → ShowsContinuation (world p m) (continuation.Valued f) F
+    → ShowsContinuations (world p m) fs Gs → Goes p n r (arrives p.tokens v (F ∷ Gs) (state_of m))
 valued_first p m n fs f r u go v h (Valued G) Gs k ks = go G v k h Gs ks
 valued_first p m n fs f r u go v h (Drawn G) Gs k ks = absurd k
 
 -- a value is waited for
 pub arrives_valued : (p : Parsed)
-    (m n : code_machine.Machine) (fs : List code_frame.Frame) (f : code_for_value.ForValue) (r : Result code_focus.Focus EvalRefusal) (u : code_value.Value)
-    → m.frames ≡ fs ++ frame.Valued f ∷ [] → Resumes p (record m { frames = fs }) n r f u → (v : Value) → ShowsValue (world p m) u v
+    (m n : code_machine.Machine) (fs : List code_continuation.Continuation) (f : code_for_value.ForValue)
+    (r : Result code_focus.Focus EvalRefusal) (u : code_value.Value)
+    → m.continuations ≡ fs ++ continuation.Valued f ∷ [] → Resumes p (record m { continuations = fs }) n r f u → (v : Value)
+    → ShowsValue (world p m) u v
     → Steps p m n r (λ Fs s. arrives p.tokens v Fs s)
 arrives_valued p m n fs f r u e go v h Fs k =
-    let t = popped p m fs (frame.Valued f) Fs e k in
-    subst (λ (Hs : List Frame). Goes p n r (arrives p.tokens v Hs (state_of m))) (sym t.2) (valued_first p m n fs f r u go v h t.0 t.1 t.3 t.4)
+    let t = popped p m fs (continuation.Valued f) Fs e k in
+    subst (λ (Hs : List Continuation). Goes p n r (arrives p.tokens v Hs (state_of m))) (sym t.2) (valued_first p m n fs f r u go v h t.0 t.1 t.3 t.4)
 
--- what a frame makes of a value that is turned into a diagram
+-- what a continuation makes of a value that is turned into a diagram
 abbrev pub Turns : Parsed → (m n : code_machine.Machine) → Result code_focus.Focus EvalRefusal → code_for_diagram.ForDiagram → code_value.Value → Type 0
 Turns p m n r f u =
     (F : ForDiagram) (v : Value) → ShowsForDiagram (world p m) f F → ShowsValue (world p m) u v → Steps p m n r (λ Fs s. to_diagram p.tokens F v Fs s)
 
 drawn_first : (p : Parsed) (m n : code_machine.Machine)
-    (fs : List code_frame.Frame) (f : code_for_diagram.ForDiagram) (r : Result code_focus.Focus EvalRefusal) (u : code_value.Value)
-    → Turns p (record m { frames = fs }) n r f u
-    → (v : Value) → ShowsValue (world p m) u v → (F : Frame) (Gs : List Frame) → ShowsFrame (world p m) (frame.Drawn f) F
-    → ShowsFrames (world p m) fs Gs → Goes p n r (arrives p.tokens v (F ∷ Gs) (state_of m))
+    (fs : List code_continuation.Continuation) (f : code_for_diagram.ForDiagram) (r : Result code_focus.Focus EvalRefusal) (u : code_value.Value)
+    → Turns p (record m { continuations = fs }) n r f u
+    → (v : Value) → ShowsValue (world p m) u v → (F : Continuation) (Gs : List Continuation) → ShowsContinuation (world p m) (continuation.Drawn f) F
+    → ShowsContinuations (world p m) fs Gs → Goes p n r (arrives p.tokens v (F ∷ Gs) (state_of m))
 drawn_first p m n fs f r u go v h (Drawn G) Gs k ks = go G v k h Gs ks
 drawn_first p m n fs f r u go v h (Valued G) Gs k ks = absurd k
 
 -- a diagram is waited for
 pub arrives_drawn : (p : Parsed)
-    (m n : code_machine.Machine) (fs : List code_frame.Frame) (f : code_for_diagram.ForDiagram) (r : Result code_focus.Focus EvalRefusal) (u : code_value.Value)
-    → m.frames ≡ fs ++ frame.Drawn f ∷ [] → Turns p (record m { frames = fs }) n r f u → (v : Value) → ShowsValue (world p m) u v
+    (m n : code_machine.Machine) (fs : List code_continuation.Continuation) (f : code_for_diagram.ForDiagram)
+    (r : Result code_focus.Focus EvalRefusal) (u : code_value.Value)
+    → m.continuations ≡ fs ++ continuation.Drawn f ∷ [] → Turns p (record m { continuations = fs }) n r f u → (v : Value) → ShowsValue (world p m) u v
     → Steps p m n r (λ Fs s. arrives p.tokens v Fs s)
 arrives_drawn p m n fs f r u e go v h Fs k =
-    let t = popped p m fs (frame.Drawn f) Fs e k in
-    subst (λ (Hs : List Frame). Goes p n r (arrives p.tokens v Hs (state_of m))) (sym t.2) (drawn_first p m n fs f r u go v h t.0 t.1 t.3 t.4)
+    let t = popped p m fs (continuation.Drawn f) Fs e k in
+    subst (λ (Hs : List Continuation). Goes p n r (arrives p.tokens v Hs (state_of m))) (sym t.2) (drawn_first p m n fs f r u go v h t.0 t.1 t.3 t.4)

@@ -18,11 +18,11 @@ use Rattle.fv_rules.specs.Steps.{State, no_diagram}
 use Rattle.fv_rules.specs.Rules.{slider_kind}
 use Rattle.fv_rules.specs.Shows.{ShowsTree, ShowsEnv, body_in, parameters_in, case_in}
 use Rattle.fv_rules.proofs.Grown.{opened_shows}
-use Rattle.fv_eval_machine.specs.Machine.{Frame, Visit, Running, Ended, begin, next_parameter}
-use Rattle.fv_eval.specs.declared.frame.Focus as code_focus
-use Rattle.fv_eval.specs.declared.frame.Focus.TheVariants as focus
+use Rattle.fv_eval_machine.specs.Machine.{Continuation, Visit, Running, Ended, begin, next_parameter}
+use Rattle.fv_eval.specs.declared.continuation.Focus as code_focus
+use Rattle.fv_eval.specs.declared.continuation.Focus.TheVariants as focus
 use Rattle.fv_eval.specs.declared.machine.Machine as code_machine
-use Rattle.fv_eval.specs.Frames.{Begins, ShowsSlider, Steps, state_of, world}
+use Rattle.fv_eval.specs.Continuations.{Begins, ShowsSlider, Steps, state_of, world}
 use Rattle.fv_eval.proofs.Moves.{scoped_grew, steps_on, visits}
 use Rattle.fv_eval.proofs.SliderLemmas.{GoesOn}
 
@@ -80,7 +80,7 @@ case_begins p m id e start rs l t =
     (λ E h Fs k. (Rules start (map rule_of (items rs)) E Nothing, Fs, refl, (l, ap start_of t, ap (λ u. map rule_of (case_in u)) t, h, refl), k))
 
 -- a list is no expression
-list_ends : (l : Lexed) (ts : List Tree) (ids : List TreeId) (E : Env) (Fs : List Frame) (s : State)
+list_ends : (l : Lexed) (ts : List Tree) (ids : List TreeId) (E : Env) (Fs : List Continuation) (s : State)
     → begin l (forest ts ids End) E Fs s ≡ Ended (Err (no_diagram l (start_of (forest ts ids End))))
 list_ends l ts [] E Fs s = refl
 list_ends l ts (i ∷ is) E Fs s = refl

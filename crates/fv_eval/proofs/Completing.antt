@@ -25,9 +25,9 @@ use Rattle.fv_rules.specs.Choosing.{with_diagrams}
 use Rattle.fv_rules.specs.Chosen.{ShowsChoice}
 use Rattle.fv_rules.proofs.Grown.{env_grows, tree_grows, values_grow}
 use Rattle.fv_eval_machine.specs.Machine.{Leftover, Valued, Visit, Running, Ended, select}
-use Rattle.fv_eval.specs.declared.frame.Focus as code_focus
+use Rattle.fv_eval.specs.declared.continuation.Focus as code_focus
 use Rattle.fv_eval.specs.declared.machine.Machine as code_machine
-use Rattle.fv_eval.specs.Frames.{AllDraw, AreShown, Chooses, Completes, Grew, IsShown, Selects, ShowsName, Steps, completed, world}
+use Rattle.fv_eval.specs.Continuations.{AllDraw, AreShown, Chooses, Completes, Grew, IsShown, Selects, ShowsName, Steps, completed, world}
 use Rattle.fv_eval.proofs.Moves.{scoped_grew, steps_on}
 use Rattle.fv_eval.proofs.Places.{drop_at_get}
 use Rattle.fv_eval.proofs.Received.{Feeds}
@@ -143,7 +143,7 @@ chose p m n r new app body e i bindings us at binds go s f ys E a more (Some xb)
     let with_taken : List code_argument.Argument → World = λ q. record w { taken = q } in
     let lists : Grows (world p m) (world p n1) =
     subst (λ (q : List code_argument.Argument). Grows (world p m) (with_taken q)) (sym same) (grows (world p m) refl) in
-    let grew : Grew p m n1 = record { lists = lists; frames = refl; state = refl } in
+    let grew : Grew p m n1 = record { lists = lists; continuations = refl; state = refl } in
     let inner : ShowsEnv (world p n1) i (bound_in E xb.1) =
     subst (λ (q : List code_argument.Argument). ShowsEnv (with_taken q) i (bound_in E xb.1)) (sym same) (bound (world p m) E xb.1 refl env h.1) in
     steps_on p m n1 n r (λ Fs q. select p.tokens s E (Some xb) more Fs q) grew

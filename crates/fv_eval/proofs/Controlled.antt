@@ -11,10 +11,10 @@ use Rattle.fv_rules.specs.Values.{Flat}
 use Rattle.fv_rules.specs.Steps.{after, give, control}
 use Rattle.fv_rules.specs.Rules.{flat}
 use Rattle.fv_eval_machine.specs.Machine.{given}
-use Rattle.fv_eval.specs.declared.frame.Focus.TheVariants as focus
+use Rattle.fv_eval.specs.declared.continuation.Focus.TheVariants as focus
 use Rattle.fv_eval.specs.declared.machine.Machine as code_machine
 use Rattle.fv_eval.specs.Controls.{Enters}
-use Rattle.fv_eval.specs.Frames.{Steps, state_of}
+use Rattle.fv_eval.specs.Continuations.{Steps, state_of}
 use Rattle.fv_eval.proofs.Moves.{drawn_grew, keeps_on}
 
 -- the control is given, and the controls are what the rules make them

@@ -13,15 +13,16 @@ use Rattle.fv_rules.specs.Values.{Name, Value, Env}
 use Rattle.fv_rules.specs.Shows.{World, Draws, Grows}
 use Rattle.fv_rules.proofs.Grown.{tree_grows, value_grows, env_grows, values_grow}
 use Rattle.fv_eval_machine.specs.Machine.{ForValue, Function, Argument, Leftover, Parameter, ForDiagram, Left, Right, Later, Negated, Ports, Binding, Turning}
-use Rattle.fv_eval_machine.specs.Machine.{Counting, Body, Finish, Frame, Valued, Drawn}
+use Rattle.fv_eval_machine.specs.Machine.{Counting, Body, Finish, Continuation, Valued, Drawn}
 use Rattle.fv_eval_drawing.specs.Makes.{trees_of}
-use Rattle.fv_eval.specs.declared.frame.Frame as code_frame
-use Rattle.fv_eval.specs.declared.frame.Frame.TheVariants as frame
-use Rattle.fv_eval.specs.declared.frame.ForValue as code_for_value
-use Rattle.fv_eval.specs.declared.frame.ForValue.TheVariants as valued
-use Rattle.fv_eval.specs.declared.frame.ForDiagram as code_for_diagram
-use Rattle.fv_eval.specs.declared.frame.ForDiagram.TheVariants as drawn
-use Rattle.fv_eval.specs.Frames.{AllDraw, ShowsArgument, ShowsLeftover, ShowsSlider, ShowsBodies, ShowsForValue, ShowsForDiagram, ShowsFrame, ShowsFrames}
+use Rattle.fv_eval.specs.declared.continuation.Continuation as code_continuation
+use Rattle.fv_eval.specs.declared.continuation.Continuation.TheVariants as continuation
+use Rattle.fv_eval.specs.declared.continuation.ForValue as code_for_value
+use Rattle.fv_eval.specs.declared.continuation.ForValue.TheVariants as valued
+use Rattle.fv_eval.specs.declared.continuation.ForDiagram as code_for_diagram
+use Rattle.fv_eval.specs.declared.continuation.ForDiagram.TheVariants as drawn
+use Rattle.fv_eval.specs.Continuations.{AllDraw, ShowsArgument, ShowsLeftover, ShowsSlider, ShowsBodies, ShowsForValue, ShowsForDiagram}
+use Rattle.fv_eval.specs.Continuations.{ShowsContinuation, ShowsContinuations}
 
 module _ (a b : World) (g : Grows a b) where
   -- diagrams that are there stay
@@ -112,11 +113,12 @@ module _ (a b : World) (g : Grows a b) where
   for_diagram_grows drawn.Finish Finish h = h
   for_diagram_grows f F h = absurd h
 
-  pub frame_grows : (f : code_frame.Frame) (F : Frame) → ShowsFrame a f F → ShowsFrame b f F
-  frame_grows (frame.Valued f) (Valued F) h = for_value_grows f F h
-  frame_grows (frame.Drawn f) (Drawn F) h = for_diagram_grows f F h
-  frame_grows f F h = absurd h
+  pub continuation_grows : (f : code_continuation.Continuation) (F : Continuation) → ShowsContinuation a f F → ShowsContinuation b f F
+  continuation_grows (continuation.Valued f) (Valued F) h = for_value_grows f F h
+  continuation_grows (continuation.Drawn f) (Drawn F) h = for_diagram_grows f F h
+  continuation_grows f F h = absurd h
 
-  pub frames_grow : (fs : List code_frame.Frame) (Fs : List Frame) → ShowsFrames a fs Fs → ShowsFrames b fs Fs
-  frames_grow fs [] h = h
-  frames_grow fs (F ∷ Fs) h = (h.0, h.1, h.2, frame_grows h.1 F h.3, frames_grow h.0 Fs h.4)
+  pub continuations_grow : (fs : List code_continuation.Continuation) (Fs : List Continuation) → ShowsContinuations a fs Fs
+      → ShowsContinuations b fs Fs
+  continuations_grow fs [] h = h
+  continuations_grow fs (F ∷ Fs) h = (h.0, h.1, h.2, continuation_grows h.1 F h.3, continuations_grow h.0 Fs h.4)

@@ -19,12 +19,12 @@ use Rattle.fv_rules.specs.Numbers.{number_of}
 use Rattle.fv_rules.specs.Rules.{counted, gathered}
 use Rattle.fv_rules.specs.Shows.{Draws, IsNamed, ShowsEnv, ShowsTree}
 use Rattle.fv_rules.proofs.Grown.{env_grows}
-use Rattle.fv_eval_machine.specs.Machine.{Body, Frame, Drawn, Visit, Running, first_body, next_body}
-use Rattle.fv_eval.specs.declared.frame.Frame.TheVariants as frame
-use Rattle.fv_eval.specs.declared.frame.ForDiagram.TheVariants as drawn
-use Rattle.fv_eval.specs.declared.frame.Focus as code_focus
+use Rattle.fv_eval_machine.specs.Machine.{Body, Continuation, Drawn, Visit, Running, first_body, next_body}
+use Rattle.fv_eval.specs.declared.continuation.Continuation.TheVariants as continuation
+use Rattle.fv_eval.specs.declared.continuation.ForDiagram.TheVariants as drawn
+use Rattle.fv_eval.specs.declared.continuation.Focus as code_focus
 use Rattle.fv_eval.specs.declared.machine.Machine as code_machine
-use Rattle.fv_eval.specs.Frames.{AllDraw, AreIndexed, gave, Grew, ShowsForDiagram, ShowsFrame, Steps, world}
+use Rattle.fv_eval.specs.Continuations.{AllDraw, AreIndexed, gave, Grew, ShowsForDiagram, ShowsContinuation, Steps, world}
 use Rattle.fv_eval.proofs.Grown.{for_diagram_grows}
 use Rattle.fv_eval.proofs.Moves.{drawn_grew, grew_on, scoped_grew, steps_on}
 use Rattle.fv_eval.proofs.Received.{Repeats, made_goes}
@@ -87,7 +87,8 @@ pub body_waits : (p : Parsed) (m n : code_machine.Machine) (r : Result code_focu
     → Extends m.drawing d → IsDrawn d number (Constant index) → text_of p.tokens name ≡ text_of p.tokens y0 → first_named p.tokens name ≡ name
     → inner ≡ length m.scopes.scopes + 1 → s ≡ with_scope m.scopes (scope.Bound name (value.Diagram number) e)
     → body < size_of p → tree_in p body ≡ b0 → AreIndexed (suc (length done.items)) left1
-    → ((F : Frame) (x : Tree) (E : Env) → ShowsFrame (world p (record m { drawing = d; scopes = s })) (frame.Drawn (drawn.Body a e left1 done)) F
+    → ((F : Continuation) (x : Tree) (E : Env) → ShowsContinuation (world p (record m { drawing = d; scopes = s }))
+    (continuation.Drawn (drawn.Body a e left1 done)) F
     → ShowsTree (world p (record m { drawing = d; scopes = s })) body x → ShowsEnv (world p (record m { drawing = d; scopes = s })) inner E
     → Steps p (record m { drawing = d; scopes = s }) n r (λ Fs t. Running (Visit x E) (F ∷ Fs) t))
     → Repeats p m n r a e left done.items
@@ -103,7 +104,7 @@ body_waits p m n r d s a e left
     let env1 = env_grows (world p m) (world p m1) (drawn_grew p m d g).lists e E h.env in
     let bound : ShowsEnv (world p m2) inner (Bound x (Flat (Constant i)) E) =
     bind_shows p m1 s name (value.Diagram number) e inner x (Flat (Constant i)) E place is named (drawn_is.inside, drawn_is.is ∙ ap Constant index_is) env1 in
-    let F : Frame = Drawn (Body q x b E (suc (length done.items)) left1 ds) in
+    let F : Continuation = Drawn (Body q x b E (suc (length done.items)) left1 ds) in
     let waits : ShowsForDiagram (world p m2) (drawn.Body a e left1 done) (Body q x b E (suc (length done.items)) left1 ds) =
     for_diagram_grows (world p m) (world p m2) grew.lists (drawn.Body a e left1 done) (Body q x b E (suc (length done.items)) left1 ds) (h, refl, refl, indexed) in
     let shown : tree_in p body ≡ b = body_is ∙ sym (same_body h.s t0 q q0 h.n y0 h.count c0 b b0 node_is) in

@@ -15,38 +15,44 @@ use Rattle.fv_rules.specs.Values.{Value, Flat, Env}
 use Rattle.fv_rules.specs.Steps.{State, Outcome, Eval}
 use Rattle.fv_rules.specs.Shows.{ShowsTree, ShowsValue, ShowsEnv}
 use Rattle.fv_rules.proofs.Grown.{diagrams_come, scope_opens, grows_on}
-use Rattle.fv_eval_machine.specs.Machine.{Frame, Visit, Give, Config, Running, Ended, given}
-use Rattle.fv_eval.specs.declared.frame.Focus as code_focus
-use Rattle.fv_eval.specs.declared.frame.Focus.TheVariants as focus
+use Rattle.fv_eval_machine.specs.Machine.{Continuation, Visit, Give, Config, Running, Ended, given}
+use Rattle.fv_eval.specs.declared.continuation.Focus as code_focus
+use Rattle.fv_eval.specs.declared.continuation.Focus.TheVariants as focus
 use Rattle.fv_eval.specs.declared.machine.Machine as code_machine
-use Rattle.fv_eval.specs.Frames.{world, state_of, ShowsFrames, Keeps, Goes, Steps, Grew}
-use Rattle.fv_eval.proofs.Grown.{frames_grow}
+use Rattle.fv_eval.specs.Continuations.{world, state_of, ShowsContinuations, Keeps, Goes, Steps, Grew}
+use Rattle.fv_eval.proofs.Grown.{continuations_grow}
 
 -- ---- lists that grow
 
 pub grew_on : (p : Parsed) (a b c : code_machine.Machine) → Grew p a b → Grew p b c → Grew p a c
-grew_on p a b c g h = record { lists = grows_on (world p a) (world p b) (world p c) g.lists h.lists; frames = h.frames ∙ g.frames; state = h.state ∙ g.state }
+grew_on p a b c g h = record {
+  lists = grows_on (world p a) (world p b) (world p c) g.lists h.lists;
+  continuations = h.continuations
+      ∙ g.continuations;
+  state = h.state ∙ g.state;
+}
 
 pub grew_itself : (p : Parsed) (m : code_machine.Machine) → Grew p m m
-grew_itself p m = record { lists = record { tree = refl; diagrams = λ i d h. h; scopes = λ i x h. h; taken = λ i x h. h }; frames = refl; state = refl }
+grew_itself p m = record { lists = record { tree = refl; diagrams = λ i d h. h; scopes = λ i x h. h; taken = λ i x h. h }; continuations = refl; state = refl }
 
 -- diagrams were put
 pub drawn_grew : (p : Parsed) (m : code_machine.Machine) (new : Arena) → Extends m.drawing new → Grew p m (record m { drawing = new })
-drawn_grew p m new g = record { lists = diagrams_come (world p m) new g.longer g.trees; frames = refl; state = refl }
+drawn_grew p m new g = record { lists = diagrams_come (world p m) new g.longer g.trees; continuations = refl; state = refl }
 
 -- an environment was made
 pub scoped_grew : (p : Parsed) (m : code_machine.Machine) (new : Environments) (x : code_scope.Scope)
     → new ≡ with_scope m.scopes x → Grew p m (record m { scopes = new })
 scoped_grew p m new x e =
     subst (λ (s : Environments). Grew p m (record m { scopes = s })) (sym e)
-    (record { lists = scope_opens (world p m) x; frames = refl; state = refl })
+    (record { lists = scope_opens (world p m) x; continuations = refl; state = refl })
 
 -- pending work is still shown
-pub keeps_on : (p : Parsed) (a b : code_machine.Machine) → Grew p a b → (Fs : List Frame) → Keeps p a Fs → Keeps p b Fs
-keeps_on p a b g Fs k = subst (λ fs. ShowsFrames (world p b) fs Fs) (sym g.frames) (frames_grow (world p a) (world p b) g.lists a.frames Fs k)
+pub keeps_on : (p : Parsed) (a b : code_machine.Machine) → Grew p a b → (Fs : List Continuation) → Keeps p a Fs → Keeps p b Fs
+keeps_on p a b g Fs k = subst (λ fs. ShowsContinuations (world p b) fs Fs) (sym g.continuations)
+    (continuations_grow (world p a) (world p b) g.lists a.continuations Fs k)
 
 -- after growing the rest goes on as from the start
-pub steps_on : (p : Parsed) (a b c : code_machine.Machine) (r : Result code_focus.Focus EvalRefusal) (next : List Frame → State → Config)
+pub steps_on : (p : Parsed) (a b c : code_machine.Machine) (r : Result code_focus.Focus EvalRefusal) (next : List Continuation → State → Config)
     → Grew p a b → Steps p b c r next → Steps p a c r next
 steps_on p a b c r next g h Fs k = subst (λ s. Goes p c r (next Fs s)) g.state (h Fs (keeps_on p a b g Fs k))
 

@@ -9,7 +9,7 @@ use Rattle.fv_parse_tree.specs.Arena.{tree_of, forest}
 use Rattle.fv_parse_grammar.specs.declared.form.Slider.{Slider as SliderKind}
 use Rattle.fv_parse_grammar.specs.Tree.{Tree, End}
 use Rattle.fv_rules.specs.Shows.{body_in, parameters_in}
-use Rattle.fv_eval.specs.Frames.{name_of, parameters_of}
+use Rattle.fv_eval.specs.Continuations.{name_of, parameters_of}
 use Rattle.fv_eval.specs.Names.{defined_by}
 
 pub no_parameters : (l : Lexed) (ts : List Tree) (node : TreeNode) (start : ℕ) → ((ns : Vec ℕ Global) (x : TreeId) → node ≡ nodes.Abstraction ns x → ⊥)

@@ -26,14 +26,14 @@ use Rattle.fv_rules.specs.Rules.{bind_all, counted, fed, flat, joined, operated,
 use Rattle.fv_rules.specs.Shows.{World, Draws, ShowsTree, ShowsValue, ShowsValues, ShowsEnv}
 use Rattle.fv_eval_machine.specs.Machine.{ForDiagram, Left, Right, Later, Negated, Ports, Binding, Turning, Counting, Body, Finish, Drawn, Visit, Give, Running}
 use Rattle.fv_eval_machine.specs.Machine.{diagram_arrives, first_body, given, next_body, next_turned}
-use Rattle.fv_eval.specs.declared.frame.Frame as code_frame
-use Rattle.fv_eval.specs.declared.frame.Frame.TheVariants as frame
-use Rattle.fv_eval.specs.declared.frame.Focus as code_focus
-use Rattle.fv_eval.specs.declared.frame.Focus.TheVariants as focus
-use Rattle.fv_eval.specs.declared.frame.ForDiagram as code_for_diagram
-use Rattle.fv_eval.specs.declared.frame.ForDiagram.TheVariants as drawn
+use Rattle.fv_eval.specs.declared.continuation.Continuation as code_continuation
+use Rattle.fv_eval.specs.declared.continuation.Continuation.TheVariants as continuation
+use Rattle.fv_eval.specs.declared.continuation.Focus as code_focus
+use Rattle.fv_eval.specs.declared.continuation.Focus.TheVariants as focus
+use Rattle.fv_eval.specs.declared.continuation.ForDiagram as code_for_diagram
+use Rattle.fv_eval.specs.declared.continuation.ForDiagram.TheVariants as drawn
 use Rattle.fv_eval.specs.declared.machine.Machine as code_machine
-use Rattle.fv_eval.specs.Frames.{AllDraw, gave, ShowsBodies, ShowsForDiagram, Steps, world}
+use Rattle.fv_eval.specs.Continuations.{AllDraw, gave, ShowsBodies, ShowsForDiagram, Steps, world}
 use Rattle.fv_eval.proofs.Moves.{gives, put_goes, put_refused}
 use Rattle.fv_eval.proofs.Places.{drop_at_end, drop_at_get, drop_behind}
 use Rattle.fv_eval.proofs.There.{draws_push, first_left}
@@ -59,9 +59,9 @@ pub made_goes : (p : Parsed) (m : code_machine.Machine) (new : Arena) (r : Resul
 made_goes p m new (Ok i) o g h = put_goes p m new i o g h
 made_goes p m new (Err e) o g h = put_refused p m (record m { drawing = new }) new e o h
 
--- ---- the frames
+-- ---- the continuations
 
--- what a frame makes of a diagram
+-- what a continuation makes of a diagram
 abbrev pub Receives : Parsed → (m n : code_machine.Machine) → Result code_focus.Focus EvalRefusal → code_for_diagram.ForDiagram → ℕ → Type 0
 Receives p m n r f i =
     (F : ForDiagram) (d : Diagram) → ShowsForDiagram (world p m) f F → Draws (world p m) i d → Steps p m n r (λ Fs s. diagram_arrives p.tokens F d Fs s)
@@ -160,7 +160,7 @@ pub finish_receives : (p : Parsed) (m : code_machine.Machine) (i : ℕ) → Rece
 finish_receives p m i Finish d h g = gives p m (value.Diagram i) (Flat d) g
 finish_receives p m i F d h g = absurd h
 
--- the same of another name for the frame and for what is done next
+-- the same of another name for the continuation and for what is done next
 pub received : (p : Parsed) (m n : code_machine.Machine) (r s : Result code_focus.Focus EvalRefusal) (f g : code_for_diagram.ForDiagram) (i : ℕ) → s ≡ r → f ≡ g
     → Receives p m n r g i → Receives p m n s f i
 received p m n r s f g i e k go =
@@ -171,9 +171,9 @@ received p m n r s f g i e k go =
 
 -- the next one is turned
 pub next_turns : (p : Parsed) (m : code_machine.Machine)
-    (fs : List code_frame.Frame) (f at next : ℕ) (us : Vec code_value.Value Global) (is : Vec ℕ Global) (u : code_value.Value)
-    → slice_get us.items at ≡ Some u → next ≡ at + 1 → fs ≡ m.frames ++ frame.Drawn (drawn.Turning f us next is) ∷ []
-    → Feeds p m (record m { frames = fs }) (Ok (focus.Give u)) f (drop at us.items) is.items
+    (fs : List code_continuation.Continuation) (f at next : ℕ) (us : Vec code_value.Value Global) (is : Vec ℕ Global) (u : code_value.Value)
+    → slice_get us.items at ≡ Some u → next ≡ at + 1 → fs ≡ m.continuations ++ continuation.Drawn (drawn.Turning f us next is) ∷ []
+    → Feeds p m (record m { continuations = fs }) (Ok (focus.Give u)) f (drop at us.items) is.items
 next_turns p m fs f at next us is u got one pushed d [] ds h k g Fs kept = let here = drop_at_get us.items at u got in absurd (cc)
 next_turns p m fs f at next us is u got one pushed d (v ∷ more) ds h k g Fs kept =
     let next_is : next ≡ suc at = omega (arith, one) in
@@ -183,7 +183,7 @@ next_turns p m fs f at next us is u got one pushed d (v ∷ more) ds h k g Fs ke
       Drawn (Turning d more ds) ∷ Fs,
       refl,
       first_left (world p m) us.items at u v more got k,
-      (m.frames, frame.Drawn (drawn.Turning f us next is), pushed, (h, rest, g), kept),
+      (m.continuations, continuation.Drawn (drawn.Turning f us next is), pushed, (h, rest, g), kept),
     )
 
 -- all are turned, and the diagram is fed with them

@@ -18,13 +18,13 @@ use Rattle.fv_rules.specs.Steps.{State, Outcome, Eval, after, ◌>>=◌, give}
 use Rattle.fv_rules.specs.Rules.{ev, flat, finished, name_value, program_value, start, turned}
 use Rattle.fv_rules.specs.Shows.{ShowsValue, ShowsEnv}
 use Rattle.fv_eval_machine.specs.Machine.{Config, Drawn, Finish, Ended, StartsMean, StepsMean, first, meaning, step}
-use Rattle.fv_eval.specs.declared.frame.Frame as code_frame
-use Rattle.fv_eval.specs.declared.frame.Frame.TheVariants as frame
-use Rattle.fv_eval.specs.declared.frame.ForDiagram.TheVariants as drawn
-use Rattle.fv_eval.specs.declared.frame.Focus as code_focus
-use Rattle.fv_eval.specs.declared.frame.Focus.TheVariants as focus
+use Rattle.fv_eval.specs.declared.continuation.Continuation as code_continuation
+use Rattle.fv_eval.specs.declared.continuation.Continuation.TheVariants as continuation
+use Rattle.fv_eval.specs.declared.continuation.ForDiagram.TheVariants as drawn
+use Rattle.fv_eval.specs.declared.continuation.Focus as code_focus
+use Rattle.fv_eval.specs.declared.continuation.Focus.TheVariants as focus
 use Rattle.fv_eval.specs.declared.machine.Machine as code_machine
-use Rattle.fv_eval.specs.Frames.{world, state_of, Goes, Continues, Ends, Runs}
+use Rattle.fv_eval.specs.Continuations.{world, state_of, Goes, Continues, Ends, Runs}
 
 -- what `process` is, as a diagram
 abbrev pub of_process : Lexed → Tree → Eval Diagram
@@ -108,25 +108,27 @@ goes_on p m n f r o mean goes h = (step p.tokens h.0, goes h.0 h.1, mean p.token
 
 -- ---- a whole run
 
--- a new machine to which its first environment and its first frame were added
-pub starts : (p : Parsed) (m : code_machine.Machine) (s : Environments) (fs : List code_frame.Frame) (root name env : ℕ)
-    → (m.drawing ≡ empty_arena) × (m.scopes ≡ record { scopes = []; taken = [] }) × (m.frames ≡ []) × (state_of m ≡ start)
-    → (env ≡ length m.scopes.scopes + 1) × (s ≡ with_scope m.scopes (scope.Definitions root 0)) → fs ≡ m.frames ++ frame.Drawn drawn.Finish ∷ [] → root ≡ p.root
+-- a new machine to which its first environment and its first continuation were added
+pub starts : (p : Parsed) (m : code_machine.Machine) (s : Environments) (fs : List code_continuation.Continuation) (root name env : ℕ)
+    → (m.drawing ≡ empty_arena) × (m.scopes ≡ record { scopes = []; taken = [] }) × (m.continuations ≡ []) × (state_of m ≡ start)
+    → (env ≡ length m.scopes.scopes + 1) × (s ≡ with_scope m.scopes (scope.Definitions root 0))
+    → fs ≡ m.continuations ++ continuation.Drawn drawn.Finish ∷ [] → root ≡ p.root
     → root < size_of p → (text_of p.tokens name ≡ codes "process") × (first_named p.tokens name ≡ name)
-    → Continues p.tokens p (record m { scopes = s; frames = fs }) (Ok (focus.Call name env)) (whole p.tokens (program_of p))
+    → Continues p.tokens p (record m { scopes = s; continuations = fs }) (Ok (focus.Call name env)) (whole p.tokens (program_of p))
 starts p m s fs root name env new opened pushed rooted inside named =
     let x : Tree = program_of p in
-    let n : code_machine.Machine = record m { scopes = s; frames = fs } in
+    let n : code_machine.Machine = record m { scopes = s; continuations = fs } in
     let outermost : ℕ → Environments = λ i. record { scopes = scope.Definitions i 0 ∷ []; taken = [] } in
     let one : env ≡ 1 = opened.0 ∙ ap (λ (e : Environments). length e.scopes + 1) new.1 in
     let scopes : s ≡ outermost p.root = opened.1 ∙ ap (λ (e : Environments). with_scope e (scope.Definitions root 0)) new.1 ∙ ap outermost rooted in
-    let frames : fs ≡ frame.Drawn drawn.Finish ∷ [] = pushed ∙ ap (λ (xs : List code_frame.Frame). xs ++ frame.Drawn drawn.Finish ∷ []) new.2 in
+    let continuations : fs ≡ continuation.Drawn drawn.Finish ∷ [] = pushed
+    ∙ ap (λ (xs : List code_continuation.Continuation). xs ++ continuation.Drawn drawn.Finish ∷ []) new.2 in
     let found : scope_in s.scopes env ≡ Some (scope.Definitions p.root 0) =
     ap (λ (e : Environments). scope_in e.scopes env) scopes ∙ ap (λ (i : ℕ). scope_in (scope.Definitions p.root 0 ∷ []) i) one in
     let there : p.root < size_of p = subst (λ (i : ℕ). i < size_of p) rooted inside in
     let shown : ShowsEnv (world p n) env (Scope x Outermost) = (p.root, 0, found, omega (arith, one), (there, refl), refl) in (
       first x (state_of m),
-      (codes "process", Scope x Outermost, Drawn Finish ∷ [], refl, named, shown, ([], frame.Drawn drawn.Finish, frames, tt, refl)),
+      (codes "process", Scope x Outermost, Drawn Finish ∷ [], refl, named, shown, ([], continuation.Drawn drawn.Finish, continuations, tt, refl)),
       ap (λ (t : State). meaning p.tokens (first x t)) new.3,
     )
 

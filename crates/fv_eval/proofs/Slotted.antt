@@ -17,16 +17,16 @@ use Rattle.fv_rules.specs.Steps.{State, no_diagram}
 use Rattle.fv_rules.specs.Rules.{on_slots}
 use Rattle.fv_rules.specs.Shows.{ShowsEnv, begins_in, body_in, parameters_in}
 use Rattle.fv_rules.proofs.Grown.{env_grows, grows_on}
-use Rattle.fv_eval_machine.specs.Machine.{Binding, Frame, Drawn, Visit, Running, Ended}
-use Rattle.fv_eval.specs.declared.frame.Frame as code_frame
-use Rattle.fv_eval.specs.declared.frame.Frame.TheVariants as frame
-use Rattle.fv_eval.specs.declared.frame.ForDiagram as code_for_diagram
-use Rattle.fv_eval.specs.declared.frame.ForDiagram.TheVariants as drawn
-use Rattle.fv_eval.specs.declared.frame.Focus as code_focus
-use Rattle.fv_eval.specs.declared.frame.Focus.TheVariants as focus
+use Rattle.fv_eval_machine.specs.Machine.{Binding, Continuation, Drawn, Visit, Running, Ended}
+use Rattle.fv_eval.specs.declared.continuation.Continuation as code_continuation
+use Rattle.fv_eval.specs.declared.continuation.Continuation.TheVariants as continuation
+use Rattle.fv_eval.specs.declared.continuation.ForDiagram as code_for_diagram
+use Rattle.fv_eval.specs.declared.continuation.ForDiagram.TheVariants as drawn
+use Rattle.fv_eval.specs.declared.continuation.Focus as code_focus
+use Rattle.fv_eval.specs.declared.continuation.Focus.TheVariants as focus
 use Rattle.fv_eval.specs.declared.machine.Machine as code_machine
-use Rattle.fv_eval.specs.Frames.{AreNumbered, Grew, ShowsFrames, ShowsName, Slots, state_of, world}
-use Rattle.fv_eval.proofs.Grown.{for_diagram_grows, frames_grow}
+use Rattle.fv_eval.specs.Continuations.{AreNumbered, Grew, ShowsContinuations, ShowsName, Slots, state_of, world}
+use Rattle.fv_eval.proofs.Grown.{for_diagram_grows, continuations_grow}
 use Rattle.fv_eval.proofs.Moves.{drawn_grew, grew_on, scoped_grew}
 use Rattle.fv_eval.proofs.Arrived.{Turns}
 use Rattle.fv_eval.proofs.Received.{Receives}
@@ -65,7 +65,7 @@ one_slot p m0 m d s bound i i1 next g h low one more =
     let e : next ≡ m0.slot + (i1 - bound) = omega (arith, before, low, one, more) in
     record {
       lists = grows_on (world p m0) (world p m) (world p (with_slot m d s next)) h.lists g.lists;
-      frames = g.frames ∙ h.frames;
+      continuations = g.continuations ∙ h.continuations;
       state = ap (λ (t : State). record t { slot = next }) h.state ∙ ap (λ (k : ℕ). record (state_of m0) { slot = k }) e;
     }
 
@@ -112,16 +112,17 @@ binds_on p m0 m d s f bound i i1 count env inner e1 next name slot inv low below
 -- ---- an abstraction is turned
 
 pub abstraction_turns : (p : Parsed)
-    (m m1 : code_machine.Machine) (fs gs : List code_frame.Frame) (g : code_for_diagram.ForDiagram) (f bound env count inner body slots : ℕ)
+    (m m1 : code_machine.Machine) (fs gs : List code_continuation.Continuation) (g : code_for_diagram.ForDiagram) (f bound env count inner body slots : ℕ)
     → (0 < length (parameters_in p.tokens (tree_in p f)) → count ≡ length (parameters_in p.tokens (tree_in p f))) → Slots p m m1 (count - bound)
     → ((E : Env) → count ≡ length (parameters_in p.tokens (tree_in p f)) → 0 < count → ShowsEnv (world p m) env E
     → ShowsEnv (world p m1) inner (on_slots (drop bound (parameters_in p.tokens (tree_in p f))) m.slot E))
-    → fs ≡ m1.frames ++ frame.Drawn g ∷ [] → gs ≡ fs ++ frame.Drawn (drawn.Binding m.slot slots) ∷ [] → slots ≡ count - bound → AreNumbered m.slot slots
+    → fs ≡ m1.continuations ++ continuation.Drawn g ∷ [] → gs ≡ fs ++ continuation.Drawn (drawn.Binding m.slot slots) ∷ []
+    → slots ≡ count - bound → AreNumbered m.slot slots
     → body < size_of p → tree_in p body ≡ body_in (tree_in p f)
-    → Turns p m (record m1 { frames = gs }) (Ok (focus.Visit body inner)) g (value.Abstraction f bound env)
+    → Turns p m (record m1 { continuations = gs }) (Ok (focus.Visit body inner)) g (value.Abstraction f bound env)
 abstraction_turns p m m1 fs gs g f bound env count inner body slots counted taken shows first second many numbered inside is F (Abstraction x xs b E) h k Fs kept =
     let names = parameters_in p.tokens (tree_in p f) in
-    let n : code_machine.Machine = record m1 { frames = gs } in
+    let n : code_machine.Machine = record m1 { continuations = gs } in
     let old = world p m in
     let new = world p n in
     let left : length names - bound ≡ length (x ∷ xs) = sym (length-drop bound names) ∙ ap length k.1 in
@@ -132,11 +133,30 @@ abstraction_turns p m m1 fs gs g f bound env count inner body slots counted take
     subst (λ (ys : List Name). ShowsEnv new inner (on_slots ys m.slot E)) k.1 (shows E all (omega (arith, all, some)) k.3) in
     let state : state_of n ≡ record (state_of m) { slot = m.slot + length (x ∷ xs) } =
     taken.state ∙ ap (λ (j : ℕ). record (state_of m) { slot = m.slot + j }) number in
-    let below : ShowsFrames new m1.frames Fs =
-    subst (λ (ys : List code_frame.Frame). ShowsFrames new ys Fs) (sym taken.frames) (frames_grow old new taken.lists m.frames Fs kept) in
-    let waits : ShowsFrames new fs (Drawn F ∷ Fs) = (m1.frames, frame.Drawn g, first, for_diagram_grows old new taken.lists g F h, below) in
-    let Gs : List Frame = Drawn (Binding m.slot (length (x ∷ xs))) ∷ Drawn F ∷ Fs in
-    let binds : ShowsFrames new gs Gs = (fs, frame.Drawn (drawn.Binding m.slot slots), second, (refl, many ∙ number, numbered), waits) in (
+    let below : ShowsContinuations new m1.continuations Fs =
+    subst (λ (ys : List code_continuation.Continuation). ShowsContinuations new ys Fs) (sym taken.continuations)
+    (continuations_grow old new taken.lists m.continuations Fs kept) in
+    let waits : ShowsContinuations new fs (Drawn F ∷ Fs) = (
+      m1.continuations,
+      continuation.Drawn g,
+      first,
+      for_diagram_grows old new
+          taken.lists g F h,
+      below,
+    ) in
+    let Gs : List Continuation = Drawn (Binding m.slot (length (x ∷ xs))) ∷ Drawn F ∷ Fs in
+    let binds : ShowsContinuations new gs Gs = (
+      fs,
+      continuation.Drawn (drawn.Binding m.slot slots),
+      second,
+      (
+        refl,
+        many
+            ∙ number,
+        numbered,
+      ),
+      waits,
+    ) in (
       b,
       on_slots (x ∷ xs) m.slot E,
       Gs,

@@ -9,10 +9,10 @@ use Rattle.fv_rules.specs.Values.{Name, Env, lookup}
 use Rattle.fv_rules.specs.Steps.{State, Outcome, spent}
 use Rattle.fv_rules.specs.Shows.{ShowsEnv, IsNamed}
 use Rattle.fv_eval_machine.specs.Machine.{Config, begin, begin_name, calling, step, visiting}
-use Rattle.fv_eval.specs.declared.frame.Focus as code_focus
-use Rattle.fv_eval.specs.declared.frame.Focus.TheVariants as focus
+use Rattle.fv_eval.specs.declared.continuation.Focus as code_focus
+use Rattle.fv_eval.specs.declared.continuation.Focus.TheVariants as focus
 use Rattle.fv_eval.specs.declared.machine.Machine as code_machine
-use Rattle.fv_eval.specs.Frames.{Begins, Goes, Runs, Steps, state_of, world}
+use Rattle.fv_eval.specs.Continuations.{Begins, Goes, Runs, Steps, state_of, world}
 
 -- ---- visits that are spent
 

@@ -16,7 +16,7 @@ use Rattle.fv_rules.specs.Rules.{width}
 use Rattle.fv_rules.specs.Shows.{World, IsNamed, ShowsEnv, ShowsTaken, ShowsValue, parameters_in, rules_in}
 use Rattle.fv_rules.proofs.Grown.{argument_comes, bound_shows, env_grows, taken_shows}
 use Rattle.fv_eval.specs.declared.machine.Machine as code_machine
-use Rattle.fv_eval.specs.Frames.{Grew, IsShown, ShowsName, ShowsTaking, took, world}
+use Rattle.fv_eval.specs.Continuations.{Grew, IsShown, ShowsName, ShowsTaking, took, world}
 use Rattle.fv_eval.proofs.Places.{drop_behind, get_at_drop}
 
 -- the clause of `take`
@@ -40,7 +40,7 @@ pub argument_grew : (p : Parsed) (m : code_machine.Machine) (new : Environments)
     → new ≡ with_argument m.scopes a → Grew p m (record m { scopes = new })
 argument_grew p m new a e =
     subst (λ (s : Environments). Grew p m (record m { scopes = s })) (sym e)
-    (record { lists = argument_comes (world p m) a; frames = refl; state = refl })
+    (record { lists = argument_comes (world p m) a; continuations = refl; state = refl })
 
 pub take_shows : (p : Parsed) (m : code_machine.Machine) (new : Environments) (u : code_value.Value) (v : Value) (n k before i : ℕ) (T : Taken)
     → i ≡ length m.scopes.taken

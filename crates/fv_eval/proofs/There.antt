@@ -14,12 +14,12 @@ use Rattle.fv_rules.specs.Matching.{settled}
 use Rattle.fv_rules.proofs.Grown.{value_grows, values_grow}
 use Rattle.fv_eval_machine.specs.Machine.{ForValue, Argument, ForDiagram, Left, Right, Binding, Turning, Counting, Body}
 use Rattle.fv_eval_drawing.specs.Makes.{IsThere as IsDrawn}
-use Rattle.fv_eval.specs.declared.frame.ForValue.TheVariants as valued
-use Rattle.fv_eval.specs.declared.frame.ForDiagram as code_for_diagram
-use Rattle.fv_eval.specs.declared.frame.ForDiagram.TheVariants as drawn
+use Rattle.fv_eval.specs.declared.continuation.ForValue.TheVariants as valued
+use Rattle.fv_eval.specs.declared.continuation.ForDiagram as code_for_diagram
+use Rattle.fv_eval.specs.declared.continuation.ForDiagram.TheVariants as drawn
 use Rattle.fv_eval.proofs.Forms.{is_binary, is_iteration}
 use Rattle.fv_eval.proofs.Places.{get_at_drop}
-use Rattle.fv_eval.specs.Frames.{AllDraw, AreShown, DrawnThere, IsShown, IsThere, ShowsForDiagram, ShowsForValue, ValuedShown}
+use Rattle.fv_eval.specs.Continuations.{AllDraw, AreShown, DrawnThere, IsShown, IsThere, ShowsForDiagram, ShowsForValue, ValuedShown}
 
 -- ---- values
 
@@ -64,7 +64,7 @@ draws_push w is ds i d h k = (
   map-append (λ j. tree_of w.diagrams j) is (i ∷ []) ∙ ap (λ xs. xs ++ tree_of w.diagrams i ∷ []) h.1 ∙ ap (λ (x : Diagram). ds ++ x ∷ []) k.1,
 )
 
--- ---- frames
+-- ---- continuations
 
 pub drawn_there : (w : World) (f : code_for_diagram.ForDiagram) (F : ForDiagram) → ShowsForDiagram w f F → DrawnThere w f
 drawn_there w drawn.Later F h = tt

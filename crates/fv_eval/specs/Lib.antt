@@ -1,4 +1,4 @@
 pub mod Names
-pub mod Frames
+pub mod Continuations
 pub mod Controls
 pub mod Evaluated

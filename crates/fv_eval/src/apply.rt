@@ -7,9 +7,10 @@ ghost use Rattle.fv_rules.specs.Values.{Env, Taken, Value as Meant};
 ghost use Rattle.fv_rules.specs.Steps.{no_rule};
 ghost use Rattle.fv_rules.specs.Shows.{IsInside, ShowsEnv, ShowsTaken, ShowsTree, ShowsValue, ShowsValues};
 ghost use Rattle.fv_eval_machine.specs.Machine.{Leftover as Left, Running, Valued, Visit, apply, next_argument};
-ghost use Rattle.fv_eval.specs.Frames.{AreShown, Chooses, Completes, Grew, IsApplication, IsShown, Selects, ShowsTaking, Steps, completed, took, world};
+ghost use Rattle.fv_eval.specs.Continuations.{AreShown, Chooses, Completes, Grew, IsApplication, IsShown, Selects, ShowsTaking, Steps};
+ghost use Rattle.fv_eval.specs.Continuations.{completed, took, world};
 
-use crate::frame::{Focus, ForValue, Frame};
+use crate::continuation::{Continuation, Focus, ForValue};
 use crate::machine::Machine;
 use crate::names::{body_of, parameter, parameters};
 use fv_parse::{Tree, TreeId, TreeNode};
@@ -41,13 +42,13 @@ impl Machine {
         match tree.items(*list).get(done.len()) {
             Some(id) => {
                 let id = *id;
-                let frame = ForValue::Argument {
+                let continuation = ForValue::Argument {
                     apply: application,
                     function,
                     env,
                     done,
                 };
-                self.wait(Frame::Valued(frame), id, env)
+                self.wait(Continuation::Valued(continuation), id, env)
             }
             None => self.apply(text, application, function, done, 0),
         }
@@ -250,12 +251,12 @@ impl Machine {
             → ShowsTree (world p self.old) body x → ShowsEnv (world p self.old) env E → ShowsValues (world p self.old) (drop at arguments.items) (a ∷ more)
             → Steps p self.old self.new result (λ Fs t. Running (Visit x E) (Valued (Left s more) ∷ Fs) t) }
     {
-        let frame = ForValue::Leftover {
+        let continuation = ForValue::Leftover {
             apply: application,
             arguments,
             next: at as u64 + 1,
         };
-        self.wait(Frame::Valued(frame), body, env)
+        self.wait(Continuation::Valued(continuation), body, env)
     }
 }
 

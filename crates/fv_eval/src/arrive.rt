@@ -13,10 +13,11 @@ ghost use Rattle.fv_rules.specs.Shows.{Draws, ShowsEnv, ShowsTree, ShowsValue};
 ghost use Rattle.fv_eval_machine.specs.Machine.{Drawn, ForDiagram as Drawing, ForValue as Valuing, Give, Right, Running, Visit, arrives, diagram_arrives};
 ghost use Rattle.fv_eval_machine.specs.Machine.{value_arrives};
 ghost use Rattle.fv_eval_drawing.specs.Makes.{IsThere as IsDrawn};
-ghost use Rattle.fv_eval.specs.declared.frame.Focus.TheVariants.{Give as Gives};
-ghost use Rattle.fv_eval.specs.Frames.{DrawnThere, gave, Grew, IsBinary, IsShown, Runs, ShowsForDiagram, ShowsForValue, Steps, ValuedShown, world};
+ghost use Rattle.fv_eval.specs.declared.continuation.Focus.TheVariants.{Give as Gives};
+ghost use Rattle.fv_eval.specs.Continuations.{DrawnThere, gave, Grew, IsBinary, IsShown, Runs, ShowsForDiagram, ShowsForValue, Steps};
+ghost use Rattle.fv_eval.specs.Continuations.{ValuedShown, world};
 
-use crate::frame::{Focus, ForDiagram, ForValue, Frame};
+use crate::continuation::{Continuation, Focus, ForDiagram, ForValue};
 use crate::machine::Machine;
 use fv_diagram::DiagramId;
 use fv_parse::{TreeId, TreeNode};
@@ -25,16 +26,20 @@ use fv_rules::{Definitions, EvalRefusal, Value};
 use std::alloc::AllocError;
 
 impl Machine {
-    /// A value is given to the innermost frame.
+    /// A value is given to the innermost continuation.
     pub fn arrive(&mut self, text: &Definitions, value: Value) -> Result<Focus, EvalRefusal>
         requires { Runs text.now self.old (Gives value) }
         ensures { (v : Meant) → ShowsValue (world text.now self.old) value v
             → Steps text.now self.old self.new result (λ Fs s. arrives text.now.tokens v Fs s) }
     {
-        match self.frames.pop() {
+        match self.continuations.pop() {
             None => Ok(Focus::Done(value)),
-            Some(Frame::Valued(frame)) => self.value_arrives(text, frame, value),
-            Some(Frame::Drawn(frame)) => self.turn(text, frame, value),
+            Some(Continuation::Valued(continuation)) => self.value_arrives(
+                text,
+                continuation,
+                value,
+            ),
+            Some(Continuation::Drawn(continuation)) => self.turn(text, continuation, value),
         }
     }
 
@@ -55,15 +60,15 @@ impl Machine {
     fn value_arrives(
         &mut self,
         text: &Definitions,
-        frame: ForValue,
+        continuation: ForValue,
         value: Value,
     ) -> Result<Focus, EvalRefusal>
-        requires frame { ValuedShown (world text.now self.old) frame }
+        requires continuation { ValuedShown (world text.now self.old) continuation }
         requires value { IsShown (world text.now self.old) value }
-        ensures { (F : Valuing) (v : Meant) → ShowsForValue (world text.now self.old) frame F → ShowsValue (world text.now self.old) value v
+        ensures { (F : Valuing) (v : Meant) → ShowsForValue (world text.now self.old) continuation F → ShowsValue (world text.now self.old) value v
             → Steps text.now self.old self.new result (λ Fs s. value_arrives text.now.tokens F v Fs s) }
     {
-        match frame {
+        match continuation {
             ForValue::Function { apply, env } => {
                 let done = Vec::new(self.alloc);
                 self.next_argument(text, apply, value, env, done)
@@ -93,15 +98,15 @@ impl Machine {
     pub fn diagram_arrives(
         &mut self,
         text: &Definitions,
-        frame: ForDiagram,
+        continuation: ForDiagram,
         diagram: DiagramId,
     ) -> Result<Focus, EvalRefusal>
-        requires frame { DrawnThere (world text.now self.old) frame }
+        requires continuation { DrawnThere (world text.now self.old) continuation }
         requires diagram { diagram < count_of self.old.drawing }
-        ensures { (F : Drawing) (d : Diagram) → ShowsForDiagram (world text.now self.old) frame F → Draws (world text.now self.old) diagram d
+        ensures { (F : Drawing) (d : Diagram) → ShowsForDiagram (world text.now self.old) continuation F → Draws (world text.now self.old) diagram d
             → Steps text.now self.old self.new result (λ Fs s. diagram_arrives text.now.tokens F d Fs s) }
     {
-        match frame {
+        match continuation {
             ForDiagram::Left { binary, env } => self.right(text, binary, env, diagram),
             ForDiagram::Right { operator, left } => {
                 give(self.drawing.join(operator, left, diagram))
@@ -152,11 +157,11 @@ impl Machine {
         let TreeNode::Binary(operator, _, y) = text.tree().node(binary) else {
             unreachable!();
         };
-        let frame = ForDiagram::Right {
+        let continuation = ForDiagram::Right {
             operator: *operator,
             left,
         };
-        self.wait(Frame::Drawn(frame), *y, env)
+        self.wait(Continuation::Drawn(continuation), *y, env)
     }
 
     // The number of a diagram's inputs or outputs.

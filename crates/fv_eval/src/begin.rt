@@ -8,10 +8,10 @@ ghost use Rattle.fv_diagram.specs.Diagram.{Constant, Primitive as Leaf};
 ghost use Rattle.fv_rules.specs.Values.{Env, Flat, Name};
 ghost use Rattle.fv_rules.specs.Rules.{slider_kind};
 ghost use Rattle.fv_rules.specs.Shows.{IsNamed, ShowsEnv, ShowsTree};
-ghost use Rattle.fv_eval_machine.specs.Machine.{Call, Frame as Waiting, Give, Running, Visit, next_parameter};
-ghost use Rattle.fv_eval.specs.Frames.{Begins, IsSlider, ShowsFrame, ShowsSlider, Steps, world};
+ghost use Rattle.fv_eval_machine.specs.Machine.{Call, Continuation as Waiting, Give, Running, Visit, next_parameter};
+ghost use Rattle.fv_eval.specs.Continuations.{Begins, IsSlider, ShowsContinuation, ShowsSlider, Steps, world};
 
-use crate::frame::{Focus, ForDiagram, ForValue, Frame};
+use crate::continuation::{Continuation, Focus, ForDiagram, ForValue};
 use crate::machine::Machine;
 use crate::names::canonical;
 use crate::turn::not_a_diagram;
@@ -38,21 +38,21 @@ impl Machine {
     }
 
     // A part is visited, and this waits for its diagram.
-    fn draw(&mut self, frame: ForDiagram, id: TreeId, env: u64) -> Result<Focus, EvalRefusal>
-        ensures { (p : Parsed) (F : Waiting) (x : Tree) (E : Env) → ShowsFrame (world p self.old) (Frame.Drawn frame) F
+    fn draw(&mut self, continuation: ForDiagram, id: TreeId, env: u64) -> Result<Focus, EvalRefusal>
+        ensures { (p : Parsed) (F : Waiting) (x : Tree) (E : Env) → ShowsContinuation (world p self.old) (Continuation.Drawn continuation) F
             → ShowsTree (world p self.old) id x → ShowsEnv (world p self.old) env E
             → Steps p self.old self.new result (λ Fs s. Running (Visit x E) (F ∷ Fs) s) }
     {
-        self.wait(Frame::Drawn(frame), id, env)
+        self.wait(Continuation::Drawn(continuation), id, env)
     }
 
     // A name is called, to be negated.
     fn negated(&mut self, name: u64, env: u64) -> Result<Focus, EvalRefusal>
-        ensures { (p : Parsed) (F : Waiting) (x : Name) (E : Env) → ShowsFrame (world p self.old) (Frame.Drawn ForDiagram.Negated) F
+        ensures { (p : Parsed) (F : Waiting) (x : Name) (E : Env) → ShowsContinuation (world p self.old) (Continuation.Drawn ForDiagram.Negated) F
             → IsNamed (world p self.old) name x → ShowsEnv (world p self.old) env E
             → Steps p self.old self.new result (λ Fs s. Running (Call x E) (F ∷ Fs) s) }
     {
-        self.wait_for_name(Frame::Drawn(ForDiagram::Negated), name, env)
+        self.wait_for_name(Continuation::Drawn(ForDiagram::Negated), name, env)
     }
 
     // The first parameter of a slider is visited.
@@ -94,8 +94,8 @@ impl Machine {
             }
             TreeNode::Ports(side, x) => self.draw(ForDiagram::Ports(*side), *x, env),
             TreeNode::Apply(x, _) => {
-                let frame = ForValue::Function { apply: id, env };
-                self.wait(Frame::Valued(frame), *x, env)
+                let continuation = ForValue::Function { apply: id, env };
+                self.wait(Continuation::Valued(continuation), *x, env)
             }
             TreeNode::Switch(kind, n) => self.switch(*kind, tree.label(*n)),
             TreeNode::Slider(_, _, _, _, _, _) => self.slider(text, id, env),

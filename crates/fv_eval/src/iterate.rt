@@ -13,10 +13,10 @@ ghost use Rattle.fv_rules.specs.Rules.{counted};
 ghost use Rattle.fv_rules.specs.Shows.{Draws, ShowsEnv, ShowsTree};
 ghost use Rattle.fv_eval_machine.specs.Machine.{first_body, next_body};
 ghost use Rattle.fv_eval_drawing.specs.Makes.{AreThere};
-ghost use Rattle.fv_eval.specs.Frames.{AreIndexed, IsIteration, ShowsBodies, Steps, world};
+ghost use Rattle.fv_eval.specs.Continuations.{AreIndexed, IsIteration, ShowsBodies, Steps, world};
 
 use crate::arrive::give;
-use crate::frame::{Focus, ForDiagram, Frame};
+use crate::continuation::{Continuation, Focus, ForDiagram};
 use crate::machine::Machine;
 use crate::names::canonical;
 use fv_diagram::{DiagramId, Node};
@@ -84,13 +84,13 @@ impl Machine {
         let number = self.drawing.leaf(&Node::Number(index))?;
         let name = canonical(tree, *name);
         let inner = self.scopes.bind(name, Value::Diagram(number), env)?;
-        let frame = ForDiagram::Body {
+        let continuation = ForDiagram::Body {
             iteration,
             env,
             left: left - 1,
             done,
         };
-        self.wait(Frame::Drawn(frame), *body, inner)
+        self.wait(Continuation::Drawn(continuation), *body, inner)
     }
 }
 

@@ -4,8 +4,8 @@
 mod apply;
 mod arrive;
 mod begin;
+mod continuation;
 mod controls;
-mod frame;
 mod iterate;
 mod machine;
 mod names;

@@ -7,11 +7,11 @@ ghost use Rattle.fv_diagram.specs.Arena.{empty_arena};
 ghost use Rattle.fv_rules.specs.Values.{Env, Name, Scope, Value as Meant};
 ghost use Rattle.fv_rules.specs.Steps.{Outcome};
 ghost use Rattle.fv_rules.specs.Shows.{IsNamed, ShowsEnv, ShowsTree};
-ghost use Rattle.fv_eval_machine.specs.Machine.{Call, Config, Frame as Waiting, Running, Visit, step};
-ghost use Rattle.fv_eval.specs.Frames.{Continues, Ends, Goes, Runs, ShowsFrame, Steps, state_of, world};
+ghost use Rattle.fv_eval_machine.specs.Machine.{Call, Config, Continuation as Waiting, Running, Visit, step};
+ghost use Rattle.fv_eval.specs.Continuations.{Continues, Ends, Goes, Runs, ShowsContinuation, Steps, state_of, world};
 
+use crate::continuation::{Continuation, Continuations, Focus};
 use crate::controls::Controls;
-use crate::frame::{Focus, Frame, Frames};
 use fv_eval_drawing::Drawing;
 use fv_eval_machine::steps_mean;
 use fv_parse::TreeId;
@@ -25,7 +25,7 @@ pub struct Machine {
     pub drawing: Drawing,
     pub scopes: Scopes,
     pub controls: Controls,
-    pub frames: Frames,
+    pub continuations: Continuations,
     /// The visits that are left.
     pub visits: u32,
     /// The next slot.
@@ -36,36 +36,46 @@ impl Machine {
     /// A machine with so many visits, in which nothing waits.
     pub fn new(alloc: Global, visits: u32) -> Machine
         ensures { (result.drawing ≡ empty_arena) × (result.scopes ≡ record { scopes = []; taken = [] })
-            × (result.frames ≡ []) × (state_of result ≡ record { visits = visits; controls = []; slot = 0 }) }
+            × (result.continuations ≡ []) × (state_of result ≡ record { visits = visits; controls = []; slot = 0 }) }
     {
         Machine {
             alloc,
             drawing: Drawing::new(alloc),
             scopes: Scopes::new(alloc),
             controls: Controls::new(alloc),
-            frames: Frames::new(alloc),
+            continuations: Continuations::new(alloc),
             visits,
             slot: 0,
         }
     }
 
     /// A tree is visited, and this waits for it.
-    pub fn wait(&mut self, frame: Frame, id: TreeId, env: u64) -> Result<Focus, EvalRefusal>
-        ensures { (p : Parsed) (F : Waiting) (x : Tree) (E : Env) → ShowsFrame (world p self.old) frame F → ShowsTree (world p self.old) id x
+    pub fn wait(
+        &mut self,
+        continuation: Continuation,
+        id: TreeId,
+        env: u64,
+    ) -> Result<Focus, EvalRefusal>
+        ensures { (p : Parsed) (F : Waiting) (x : Tree) (E : Env) → ShowsContinuation (world p self.old) continuation F → ShowsTree (world p self.old) id x
             → ShowsEnv (world p self.old) env E
             → Steps p self.old self.new result (λ Fs s. Running (Visit x E) (F ∷ Fs) s) }
     {
-        self.frames.push(frame)?;
+        self.continuations.push(continuation)?;
         Ok(Focus::Visit { id, env })
     }
 
     /// A name is called, and this waits for it.
-    pub fn wait_for_name(&mut self, frame: Frame, name: u64, env: u64) -> Result<Focus, EvalRefusal>
-        ensures { (p : Parsed) (F : Waiting) (x : Name) (E : Env) → ShowsFrame (world p self.old) frame F → IsNamed (world p self.old) name x
+    pub fn wait_for_name(
+        &mut self,
+        continuation: Continuation,
+        name: u64,
+        env: u64,
+    ) -> Result<Focus, EvalRefusal>
+        ensures { (p : Parsed) (F : Waiting) (x : Name) (E : Env) → ShowsContinuation (world p self.old) continuation F → IsNamed (world p self.old) name x
             → ShowsEnv (world p self.old) env E
             → Steps p self.old self.new result (λ Fs s. Running (Call x E) (F ∷ Fs) s) }
     {
-        self.frames.push(frame)?;
+        self.continuations.push(continuation)?;
         Ok(Focus::Call { name, env })
     }
 

@@ -11,9 +11,9 @@ ghost use Rattle.fv_rules.specs.Rules.{flat, read_number, slider_info, slider_ki
 ghost use Rattle.fv_rules.specs.Shows.{ShowsValue};
 ghost use Rattle.fv_eval_drawing.specs.Makes.{IsThere as IsDrawn};
 ghost use Rattle.fv_eval_machine.specs.Machine.{given, next_parameter, parameter_read};
-ghost use Rattle.fv_eval.specs.Frames.{IsSlider, IsThere, ShowsSlider, Steps, parameters_of, world};
+ghost use Rattle.fv_eval.specs.Continuations.{IsSlider, IsThere, ShowsSlider, Steps, parameters_of, world};
 
-use crate::frame::{Focus, ForValue, Frame};
+use crate::continuation::{Continuation, Focus, ForValue};
 use crate::iterate::not_a_number;
 use crate::machine::Machine;
 use fv_diagram::{ControlInfo, ControlKind, Label, Node};
@@ -106,8 +106,8 @@ impl Machine {
         let tree = text.tree();
         match part_of(tree, slider, done.len()) {
             Some(id) => {
-                let frame = ForValue::Parameter { slider, env, done };
-                self.wait(Frame::Valued(frame), id, env)
+                let continuation = ForValue::Parameter { slider, env, done };
+                self.wait(Continuation::Valued(continuation), id, env)
             }
             None => self.finish_slider(tree, slider, done.as_slice()),
         }

@@ -11,10 +11,10 @@ ghost use Rattle.fv_rules.specs.Rules.{on_slots};
 ghost use Rattle.fv_rules.specs.Shows.{Draws, IsInside, ShowsEnv, ShowsValue, ShowsValues, begins_in, parameters_in};
 ghost use Rattle.fv_eval_machine.specs.Machine.{ForDiagram as Drawing, next_turned, to_diagram};
 ghost use Rattle.fv_eval_drawing.specs.Makes.{AreThere};
-ghost use Rattle.fv_eval.specs.Frames.{AllDraw, DrawnThere, IsShown, ShowsForDiagram, Slots, Steps, world};
+ghost use Rattle.fv_eval.specs.Continuations.{AllDraw, DrawnThere, IsShown, ShowsForDiagram, Slots, Steps, world};
 
 use crate::arrive::give;
-use crate::frame::{Focus, ForDiagram, Frame};
+use crate::continuation::{Continuation, Focus, ForDiagram};
 use crate::machine::Machine;
 use crate::names::{body_of, parameter, parameters};
 use fv_diagram::{DiagramId, Node};
@@ -27,25 +27,25 @@ impl Machine {
     pub fn turn(
         &mut self,
         text: &Definitions,
-        frame: ForDiagram,
+        continuation: ForDiagram,
         value: Value,
     ) -> Result<Focus, EvalRefusal>
-        requires frame { DrawnThere (world text.now self.old) frame }
+        requires continuation { DrawnThere (world text.now self.old) continuation }
         requires value { IsShown (world text.now self.old) value }
-        ensures { (F : Drawing) (v : Meant) → ShowsForDiagram (world text.now self.old) frame F → ShowsValue (world text.now self.old) value v
+        ensures { (F : Drawing) (v : Meant) → ShowsForDiagram (world text.now self.old) continuation F → ShowsValue (world text.now self.old) value v
             → Steps text.now self.old self.new result (λ Fs s. to_diagram text.now.tokens F v Fs s) }
     {
         match value {
-            Value::Diagram(id) => self.diagram_arrives(text, frame, id),
+            Value::Diagram(id) => self.diagram_arrives(text, continuation, id),
             Value::Abstraction { node, bound, env } => {
                 let tree = text.tree();
                 let slot = self.slot;
                 let count = parameters(tree, node);
                 let inner = self.on_slots(tree, node, bound, count, env)?;
                 let slots = self.slot - slot;
-                self.frames.push(Frame::Drawn(frame))?;
-                self.frames
-                    .push(Frame::Drawn(ForDiagram::Binding { slot, slots }))?;
+                self.continuations.push(Continuation::Drawn(continuation))?;
+                self.continuations
+                    .push(Continuation::Drawn(ForDiagram::Binding { slot, slots }))?;
                 Ok(Focus::Visit {
                     id: body_of(tree, node),
                     env: inner,
@@ -104,7 +104,7 @@ impl Machine {
             Some(value) => {
                 let value = *value;
                 let next = at + 1;
-                self.frames.push(Frame::Drawn(ForDiagram::Turning {
+                self.continuations.push(Continuation::Drawn(ForDiagram::Turning {
                     function,
                     arguments,
                     next,

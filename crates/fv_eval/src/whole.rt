@@ -11,11 +11,11 @@ ghost use Rattle.fv_rules.specs.Values.{is_of};
 ghost use Rattle.fv_rules.specs.Rules.{program_value, start};
 ghost use Rattle.fv_rules.specs.Sound.{IsSoundProgram};
 ghost use Rattle.fv_eval_machine.specs.Machine.{first, meaning};
-ghost use Rattle.fv_eval.specs.Frames.{Continues};
+ghost use Rattle.fv_eval.specs.Continuations.{Continues};
 ghost use Rattle.fv_eval.specs.Names.{defined_by};
 
+use crate::continuation::{Continuation, Focus, ForDiagram};
 use crate::controls::Controls;
-use crate::frame::{Focus, ForDiagram, Frame};
 use crate::machine::Machine;
 use crate::names::canonical;
 use fv_base::Word;
@@ -95,7 +95,9 @@ fn started(alloc: Global, tree: &Tree, name: u64) -> Result<(Machine, Focus), Al
 {
     let mut machine = Machine::new(alloc, VISIT_LIMIT);
     let env = machine.scopes.open(tree.root(), 0)?;
-    machine.frames.push(Frame::Drawn(ForDiagram::Finish))?;
+    machine
+        .continuations
+        .push(Continuation::Drawn(ForDiagram::Finish))?;
     Ok((machine, Focus::Call { name, env }))
 }
 

@@ -2,8 +2,8 @@
 //! and a diagram on its arguments.
 #![tactic(auto)]
 
+mod application;
 mod drawing;
-mod feeding;
 mod lists;
 mod pairs;
 

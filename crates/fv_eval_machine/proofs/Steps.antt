@@ -20,7 +20,8 @@ use Rattle.fv_rules.specs.Rules.{switch_kind, slider_kind, flat, on_slots, bind_
 use Rattle.fv_rules.specs.Rules.{all_turned, fed, width, selected, applied, bodies, gathered, counted, read_number, parameters, slider_info, switch_info}
 use Rattle.fv_rules.specs.Rules.{abstraction, rule, ev, FollowsValue, FollowsDiagram}
 use Rattle.fv_eval_machine.specs.Machine.{ForValue, Function, Argument, Leftover, Parameter, ForDiagram, Left, Right, Later, Negated, Ports, Binding, Turning}
-use Rattle.fv_eval_machine.specs.Machine.{Counting, Body, Finish, Frame, Valued, Drawn, Visit, Call, Give, Config, Running, Ended, valued, drawn, resumed, unwound}
+use Rattle.fv_eval_machine.specs.Machine.{Counting, Body, Finish, Continuation, Valued, Drawn, Visit, Call, Give, Config, Running, Ended}
+use Rattle.fv_eval_machine.specs.Machine.{valued, drawn, resumed, unwound}
 use Rattle.fv_eval_machine.specs.Machine.{meaning, given, begin_definition, begin_name, begin_abstraction, next_parameter, begin, visiting, calling, next_turned}
 use Rattle.fv_eval_machine.specs.Machine.{select, apply, next_argument, next_body, first_body, parameter_read, value_arrives, diagram_arrives, to_diagram, arrives}
 use Rattle.fv_eval_machine.specs.Machine.{step, first}
@@ -45,8 +46,8 @@ module _ (value : FollowsValue) (diagram : FollowsDiagram) where
   choice_means l true c d m n K s p q = p
   choice_means l false c d m n K s p q = q
 
-  -- a tree that is to be turned into a diagram is visited with a frame for its diagram
-  drawn_next : (l : Lexed) (g : ForDiagram) (x : Tree) (env : Env) (fs : List Frame) (s : State)
+  -- a tree that is to be turned into a diagram is visited with a continuation for its diagram
+  drawn_next : (l : Lexed) (g : ForDiagram) (x : Tree) (env : Env) (fs : List Continuation) (s : State)
       → meaning l (Running (Visit x env) (Drawn g ∷ fs) s) ≡ (((ev l).diagram x env >>= drawn l (ev l) g) >>= unwound l (ev l) fs) s
   drawn_next l g x env fs s =
       let e = ev l in
@@ -54,33 +55,33 @@ module _ (value : FollowsValue) (diagram : FollowsDiagram) where
       sym (assoc (e.value x env) (resumed l e (Drawn g)) K s)
       ∙ ap (λ r. after r K) (sym (assoc (e.value x env) (turned l e) (drawn l e g) s) ∙ ap (λ r. after r (drawn l e g)) (sym (diagram l x env s)))
 
-  -- and a tree whose value a frame waits for
-  valued_next : (l : Lexed) (f : ForValue) (x : Tree) (env : Env) (fs : List Frame) (s : State)
+  -- and a tree whose value a continuation waits for
+  valued_next : (l : Lexed) (f : ForValue) (x : Tree) (env : Env) (fs : List Continuation) (s : State)
       → meaning l (Running (Visit x env) (Valued f ∷ fs) s) ≡ (((ev l).value x env >>= valued l (ev l) f) >>= unwound l (ev l) fs) s
   valued_next l f x env fs s = sym (assoc ((ev l).value x env) (valued l (ev l) f) (unwound l (ev l) fs) s)
 
-  given_means : (l : Lexed) (o : Outcome Value) (fs : List Frame) → meaning l (given o fs) ≡ after o (unwound l (ev l) fs)
+  given_means : (l : Lexed) (o : Outcome Value) (fs : List Continuation) → meaning l (given o fs) ≡ after o (unwound l (ev l) fs)
   given_means l (Ok x) fs = refl
   given_means l (Err r) fs = refl
 
-  definition_means : (l : Lexed) (d : Definition) (env : Env) (fs : List Frame) (s : State)
+  definition_means : (l : Lexed) (d : Definition) (env : Env) (fs : List Continuation) (s : State)
       → meaning l (begin_definition d env fs s) ≡ (defined_value (ev l) d env >>= unwound l (ev l) fs) s
   definition_means l (Plain body) env fs s = refl
   definition_means l (Parameters x xs body) env fs s = refl
   definition_means l (Cases start rs) env fs s = refl
 
-  name_means : (l : Lexed) (x : Name) (m : Meaning) (fs : List Frame) (s : State)
+  name_means : (l : Lexed) (x : Name) (m : Meaning) (fs : List Continuation) (s : State)
       → meaning l (begin_name x m fs s) ≡ (meant (ev l) x m >>= unwound l (ev l) fs) s
   name_means l x (IsValue v) fs s = refl
   name_means l x (IsDefined d env) fs s = definition_means l d env fs s
   name_means l x Unknown fs s = refl
 
-  abstraction_means : (l : Lexed) (xs : List ℕ) (b : Tree) (env : Env) (fs : List Frame) (s : State)
+  abstraction_means : (l : Lexed) (xs : List ℕ) (b : Tree) (env : Env) (fs : List Continuation) (s : State)
       → meaning l (begin_abstraction l xs b env fs s) ≡ (abstraction l (ev l) xs b env >>= unwound l (ev l) fs) s
   abstraction_means l [] b env fs s = refl
   abstraction_means l (x ∷ xs) b env fs s = refl
 
-  parameter_means : (l : Lexed) (kind : ControlKind) (label : List ℕ) (xs : List Tree) (env : Env) (done : List ℤ) (fs : List Frame) (s : State)
+  parameter_means : (l : Lexed) (kind : ControlKind) (label : List ℕ) (xs : List Tree) (env : Env) (done : List ℤ) (fs : List Continuation) (s : State)
       → meaning l (next_parameter kind label xs env done fs s)
       ≡ ((parameters l (ev l) xs env done >>= λ ns. flat (control (slider_info kind label ns))) >>= unwound l (ev l) fs) s
   parameter_means l kind label [] env done fs s = given_means l (flat (control (slider_info kind label done)) s) fs
@@ -93,7 +94,7 @@ module _ (value : FollowsValue) (diagram : FollowsDiagram) where
       same_after (e.value x env s) _ _ (λ v t. sym (assoc (read v) (λ n. parameters l e more env (done ++ n ∷ [])) finish t))
       ∙ sym (assoc (e.value x env) (λ v. read v >>= λ n. parameters l e more env (done ++ n ∷ [])) finish s))
 
-  begin_means : (l : Lexed) (x : Tree) (env : Env) (fs : List Frame) (t : State)
+  begin_means : (l : Lexed) (x : Tree) (env : Env) (fs : List Continuation) (t : State)
       → meaning l (begin l x env fs t) ≡ (rule l (ev l) x env >>= unwound l (ev l) fs) t
   begin_means l (tree.Number s n) env fs t = refl
   begin_means l (tree.Negative s n) env fs t = refl
@@ -120,28 +121,28 @@ module _ (value : FollowsValue) (diagram : FollowsDiagram) where
   begin_means l (tree.Slider s k n x0 x1 x2 x3) env fs t = parameter_means l (slider_kind k) (label_of l n) (x0 ∷ x1 ∷ x2 ∷ x3 ∷ []) env [] fs t
   begin_means l x env fs t = refl
 
-  visiting_means : (l : Lexed) (o : Outcome Unit) (x : Tree) (env : Env) (fs : List Frame)
+  visiting_means : (l : Lexed) (o : Outcome Unit) (x : Tree) (env : Env) (fs : List Continuation)
       → meaning l (visiting l o x env fs) ≡ after o (λ u. rule l (ev l) x env >>= unwound l (ev l) fs)
   visiting_means l (Ok u) x env fs = begin_means l x env fs u.1
   visiting_means l (Err r) x env fs = refl
 
-  calling_means : (l : Lexed) (o : Outcome Unit) (x : Name) (env : Env) (fs : List Frame)
+  calling_means : (l : Lexed) (o : Outcome Unit) (x : Name) (env : Env) (fs : List Continuation)
       → meaning l (calling l o x env fs) ≡ after o (λ u. meant (ev l) x (lookup l env x) >>= unwound l (ev l) fs)
   calling_means l (Ok u) x env fs = name_means l x (lookup l env x) fs u.1
   calling_means l (Err r) x env fs = refl
 
-  turned_means : (l : Lexed) (f : Diagram) (vs : List Value) (done : List Diagram) (fs : List Frame) (s : State)
+  turned_means : (l : Lexed) (f : Diagram) (vs : List Value) (done : List Diagram) (fs : List Continuation) (s : State)
       → meaning l (next_turned f vs done fs s) ≡ ((all_turned l (ev l) vs done >>= fed f) >>= unwound l (ev l) fs) s
   turned_means l f [] done fs s = given_means l (fed f done s) fs
   turned_means l f (v ∷ more) done fs s =
       ap (λ r. after r (unwound l (ev l) fs)) (sym (assoc (turned l (ev l) v) (λ d. all_turned l (ev l) more (done ++ d ∷ [])) (fed f) s))
 
-  select_means : (l : Lexed) (start : ℕ) (env : Env) (o : Option (Tree × Bindings)) (more : List Value) (fs : List Frame) (s : State)
+  select_means : (l : Lexed) (start : ℕ) (env : Env) (o : Option (Tree × Bindings)) (more : List Value) (fs : List Continuation) (s : State)
       → meaning l (select l start env o more fs s) ≡ ((selected l (ev l) start env o >>= λ v. applied l (ev l) start v more) >>= unwound l (ev l) fs) s
   select_means l start env None more fs s = refl
   select_means l start env (Some xb) more fs s = valued_next l (Leftover start more) xb.0 (bound_in env xb.1) fs s
 
-  apply_means : (l : Lexed) (start : ℕ) (v : Value) (vs : List Value) (fs : List Frame) (s : State)
+  apply_means : (l : Lexed) (start : ℕ) (v : Value) (vs : List Value) (fs : List Continuation) (s : State)
       → meaning l (apply l start v vs fs s) ≡ (applied l (ev l) start v vs >>= unwound l (ev l) fs) s
   apply_means l start v [] fs s = refl
   apply_means l start (Flat f) (a ∷ more) fs s = turned_means l f (a ∷ more) [] fs s
@@ -152,7 +153,7 @@ module _ (value : FollowsValue) (diagram : FollowsDiagram) where
       (apply_means l start (Rules p rs env (And a taken)) more fs s)
       (select_means l start env (chosen l rs (in_order (And a taken) [])) more fs s)
 
-  argument_means : (l : Lexed) (start : ℕ) (f : Value) (xs : List Tree) (env : Env) (done : List Value) (fs : List Frame) (s : State)
+  argument_means : (l : Lexed) (start : ℕ) (f : Value) (xs : List Tree) (env : Env) (done : List Value) (fs : List Continuation) (s : State)
       → meaning l (next_argument l start f xs env done fs s) ≡ ((arguments (ev l) xs env done >>= applied l (ev l) start f) >>= unwound l (ev l) fs) s
   argument_means l start f [] env done fs s = apply_means l start f done fs s
   argument_means l start f (x ∷ xs) env done fs s =
@@ -160,7 +161,7 @@ module _ (value : FollowsValue) (diagram : FollowsDiagram) where
       ∙ ap (λ r. after r (unwound l (ev l) fs)) (sym (assoc ((ev l).value x env) (λ w. arguments (ev l) xs env (done ++ settled w ∷ [])) (applied l (ev l)
       start f) s))
 
-  body_means : (l : Lexed) (r : Repetition) (x : Name) (b : Tree) (env : Env) (i k : ℕ) (done : List Diagram) (fs : List Frame) (s : State)
+  body_means : (l : Lexed) (r : Repetition) (x : Name) (b : Tree) (env : Env) (i k : ℕ) (done : List Diagram) (fs : List Continuation) (s : State)
       → meaning l (next_body r x b env i k done fs s) ≡ ((bodies (ev l) x b env i k done >>= gathered r) >>= unwound l (ev l) fs) s
   body_means l r x b env i zero done fs s = given_means l (gathered r done s) fs
   body_means l r x b env i (suc k) done fs s =
@@ -168,25 +169,25 @@ module _ (value : FollowsValue) (diagram : FollowsDiagram) where
       drawn_next l (Body r x b env (suc i) k done) b inside fs s
       ∙ ap (λ o. after o (unwound l (ev l) fs)) (sym (assoc ((ev l).diagram b inside) (λ d. bodies (ev l) x b env (suc i) k (done ++ d ∷ [])) (gathered r) s))
 
-  first_body_means : (l : Lexed) (r : Repetition) (x : Name) (b : Tree) (env : Env) (o : Outcome ℕ) (fs : List Frame)
+  first_body_means : (l : Lexed) (r : Repetition) (x : Name) (b : Tree) (env : Env) (o : Outcome ℕ) (fs : List Continuation)
       → meaning l (first_body r x b env o fs) ≡ after (after o (λ k. bodies (ev l) x b env 0 k [] >>= gathered r)) (unwound l (ev l) fs)
   first_body_means l r x b env (Ok k) fs = body_means l r x b env 0 k.0 [] fs k.1
   first_body_means l r x b env (Err e) fs = refl
 
-  read_means : (l : Lexed) (kind : ControlKind) (label : List ℕ) (more : List Tree) (env : Env) (done : List ℤ) (o : Outcome ℤ) (fs : List Frame)
+  read_means : (l : Lexed) (kind : ControlKind) (label : List ℕ) (more : List Tree) (env : Env) (done : List ℤ) (o : Outcome ℤ) (fs : List Continuation)
       → meaning l (parameter_read kind label more env done o fs)
       ≡ after (after o (λ n. parameters l (ev l) more env (done ++ n ∷ []) >>= λ ns. flat (control (slider_info kind label ns)))) (unwound l (ev l) fs)
   read_means l kind label more env done (Ok n) fs = parameter_means l kind label more env (done ++ n.0 ∷ []) fs n.1
   read_means l kind label more env done (Err r) fs = refl
 
-  value_means : (l : Lexed) (f : ForValue) (v : Value) (fs : List Frame) (s : State)
+  value_means : (l : Lexed) (f : ForValue) (v : Value) (fs : List Continuation) (s : State)
       → meaning l (value_arrives l f v fs s) ≡ (valued l (ev l) f v >>= unwound l (ev l) fs) s
   value_means l (Function start args env) v fs s = argument_means l start v args env [] fs s
   value_means l (Argument start f more env done) v fs s = argument_means l start f more env (done ++ settled v ∷ []) fs s
   value_means l (Leftover start args) v fs s = apply_means l start v args fs s
   value_means l (Parameter kind label start more env done) v fs s = read_means l kind label more env done (read_number l start (value_number v) s) fs
 
-  diagram_means : (l : Lexed) (g : ForDiagram) (d : Diagram) (fs : List Frame) (s : State)
+  diagram_means : (l : Lexed) (g : ForDiagram) (d : Diagram) (fs : List Continuation) (s : State)
       → meaning l (diagram_arrives l g d fs s) ≡ (drawn l (ev l) g d >>= unwound l (ev l) fs) s
   diagram_means l (Left o y env) a fs s = drawn_next l (Right o a) y env fs s
   diagram_means l (Right o a) b fs s = given_means l (flat (joined o a b) s) fs
@@ -199,7 +200,7 @@ module _ (value : FollowsValue) (diagram : FollowsDiagram) where
   diagram_means l (Body r x b env i n done) d fs s = body_means l r x b env i n (done ++ d ∷ []) fs s
   diagram_means l Finish d fs s = refl
 
-  to_diagram_means : (l : Lexed) (g : ForDiagram) (v : Value) (fs : List Frame) (s : State)
+  to_diagram_means : (l : Lexed) (g : ForDiagram) (v : Value) (fs : List Continuation) (s : State)
       → meaning l (to_diagram l g v fs s) ≡ ((turned l (ev l) v >>= drawn l (ev l) g) >>= unwound l (ev l) fs) s
   to_diagram_means l g (Flat d) fs s = diagram_means l g d fs s
   to_diagram_means l g (Abstraction x xs b env) fs s =
@@ -217,7 +218,7 @@ module _ (value : FollowsValue) (diagram : FollowsDiagram) where
       ∙ sym (after_after ((e.diagram b inside) t) (λ d. bind_all s.slot n d) (drawn l e g)))
   to_diagram_means l g (Rules start rs env taken) fs s = refl
 
-  arrives_means : (l : Lexed) (v : Value) (fs : List Frame) (s : State) → meaning l (arrives l v fs s) ≡ unwound l (ev l) fs v s
+  arrives_means : (l : Lexed) (v : Value) (fs : List Continuation) (s : State) → meaning l (arrives l v fs s) ≡ unwound l (ev l) fs v s
   arrives_means l v [] s = refl
   arrives_means l v (Valued f ∷ fs) s = value_means l f v fs s
   arrives_means l v (Drawn g ∷ fs) s = to_diagram_means l g v fs s

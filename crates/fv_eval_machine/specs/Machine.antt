@@ -43,18 +43,18 @@ pub data ForDiagram : Type 0 where
   Body : (kind : Repetition) → (name : Name) → (body : Tree) → (env : Env) → (next : ℕ) → (left : ℕ) → (done : List Diagram) → ForDiagram
   Finish : ForDiagram
 
-pub data Frame : Type 0 where
-  Valued : ForValue → Frame
-  Drawn : ForDiagram → Frame
+pub data Continuation : Type 0 where
+  Valued : ForValue → Continuation
+  Drawn : ForDiagram → Continuation
 
--- What is done next: a tree or a name is visited, or a value is given to the first frame.
+-- What is done next: a tree or a name is visited, or a value is given to the first continuation.
 pub data Focus : Type 0 where
   Visit : (tree : Tree) → (env : Env) → Focus
   Call : (name : Name) → (env : Env) → Focus
   Give : (value : Value) → Focus
 
 pub data Config : Type 0 where
-  Running : Focus → List Frame → State → Config
+  Running : Focus → List Continuation → State → Config
   Ended : Outcome Value → Config
 
 -- ---- what a configuration stands for, by the rules
@@ -78,18 +78,18 @@ drawn l e (Counting r x start b env) d = counted l start (number_of d) >>= λ k.
 drawn l e (Body r x b env i n done) d = bodies e x b env i n (done ++ d ∷ []) >>= gathered r
 drawn l e Finish d = give (Flat d)
 
--- A frame goes on with a value, which is turned into a diagram where it waits for one.
-abbrev pub resumed : Lexed → Evaluator → Frame → Value → Eval Value
+-- A continuation goes on with a value, which is turned into a diagram where it waits for one.
+abbrev pub resumed : Lexed → Evaluator → Continuation → Value → Eval Value
 resumed l e (Valued f) v = valued l e f v
 resumed l e (Drawn g) v = turned l e v >>= drawn l e g
 
--- all frames go on, the first one first
-abbrev pub unwound : Lexed → Evaluator → List Frame → Value → Eval Value
+-- all continuations go on, the first one first
+abbrev pub unwound : Lexed → Evaluator → List Continuation → Value → Eval Value
 unwound l e [] v = give v
 unwound l e (f ∷ fs) v = resumed l e f v >>= unwound l e fs
 
--- what is done next, and then the frames
-abbrev pub focused : Lexed → Evaluator → Focus → List Frame → Eval Value
+-- what is done next, and then the continuations
+abbrev pub focused : Lexed → Evaluator → Focus → List Continuation → Eval Value
 focused l e (Visit x env) fs = e.value x env >>= unwound l e fs
 focused l e (Call name env) fs = name_value l e name env >>= unwound l e fs
 focused l e (Give v) fs = unwound l e fs v
@@ -100,34 +100,34 @@ meaning l (Running focus fs s) = focused l (ev l) focus fs s
 meaning l (Ended o) = o
 
 -- ---- one step
-abbrev pub given : Outcome Value → List Frame → Config
+abbrev pub given : Outcome Value → List Continuation → Config
 given (Ok x) fs = Running (Give x.0) fs x.1
 given (Err r) fs = Ended (Err r)
 
 -- a definition that a name stands for: its right side is visited, or it is a value
-abbrev pub begin_definition : Definition → Env → List Frame → State → Config
+abbrev pub begin_definition : Definition → Env → List Continuation → State → Config
 begin_definition (Plain body) env fs s = Running (Visit body env) fs s
 begin_definition (Parameters x xs body) env fs s = Running (Give (Abstraction x xs body env)) fs s
 begin_definition (Cases start rs) env fs s = Running (Give (Rules start rs env Nothing)) fs s
 
 -- what a name stands for is given or visited, or the name is unknown
-abbrev pub begin_name : Name → Meaning → List Frame → State → Config
+abbrev pub begin_name : Name → Meaning → List Continuation → State → Config
 begin_name x (IsValue v) fs s = Running (Give v) fs s
 begin_name x (IsDefined d env) fs s = begin_definition d env fs s
 begin_name x Unknown fs s = Ended (Err (UnknownName x))
 
 -- an abstraction is a value; one without parameters is its body
-abbrev pub begin_abstraction : Lexed → List ℕ → Tree → Env → List Frame → State → Config
+abbrev pub begin_abstraction : Lexed → List ℕ → Tree → Env → List Continuation → State → Config
 begin_abstraction l [] body env fs s = Running (Visit body env) fs s
 begin_abstraction l (n ∷ ns) body env fs s = Running (Give (Abstraction (text_of l n) (map (text_of l) ns) body env)) fs s
 
 -- the next parameter of a slider is visited, or the slider is given
-abbrev pub next_parameter : ControlKind → List ℕ → List Tree → Env → List ℤ → List Frame → State → Config
+abbrev pub next_parameter : ControlKind → List ℕ → List Tree → Env → List ℤ → List Continuation → State → Config
 next_parameter kind label [] env done fs s = given (flat (control (slider_info kind label done)) s) fs
 next_parameter kind label (x ∷ more) env done fs s = Running (Visit x env) (Valued (Parameter kind label (start_of x) more env done) ∷ fs) s
 
 -- The rule of each form, up to the next visit or value.
-abbrev pub begin : Lexed → Tree → Env → List Frame → State → Config
+abbrev pub begin : Lexed → Tree → Env → List Continuation → State → Config
 begin l (tree.Number s n) env fs t = Running (Give (Flat (Constant (wrap (pos n))))) fs t
 begin l (tree.Negative s n) env fs t = Running (Give (Flat (Constant (wrap (neg_ℤ (pos n)))))) fs t
 begin l (tree.Wire s) env fs t = Running (Give (Flat (Primitive prim.Wire))) fs t
@@ -150,27 +150,27 @@ begin l (tree.Slider s k n x0 x1 x2 x3) env fs t = next_parameter (slider_kind k
 begin l x env fs t = Ended (Err (no_diagram l (start_of x)))
 
 -- a tree is visited where a visit was left
-abbrev pub visiting : Lexed → Outcome Unit → Tree → Env → List Frame → Config
+abbrev pub visiting : Lexed → Outcome Unit → Tree → Env → List Continuation → Config
 visiting l (Ok u) x env fs = begin l x env fs u.1
 visiting l (Err r) x env fs = Ended (Err r)
 
 -- the same of a name
-abbrev pub calling : Lexed → Outcome Unit → Name → Env → List Frame → Config
+abbrev pub calling : Lexed → Outcome Unit → Name → Env → List Continuation → Config
 calling l (Ok u) name env fs = begin_name name (lookup l env name) fs u.1
 calling l (Err r) name env fs = Ended (Err r)
 
 -- the next argument of a diagram is turned into a diagram, or the diagram is fed with all of them
-abbrev pub next_turned : Diagram → List Value → List Diagram → List Frame → State → Config
+abbrev pub next_turned : Diagram → List Value → List Diagram → List Continuation → State → Config
 next_turned f [] done fs s = given (fed f done s) fs
 next_turned f (v ∷ more) done fs s = Running (Give v) (Drawn (Turning f more done) ∷ fs) s
 
 -- the right side of the rule that was chosen is visited, and the arguments that are left wait
-abbrev pub select : Lexed → ℕ → Env → Option (Tree × Bindings) → List Value → List Frame → State → Config
+abbrev pub select : Lexed → ℕ → Env → Option (Tree × Bindings) → List Value → List Continuation → State → Config
 select l start env None more fs s = Ended (Err (no_rule l start))
 select l start env (Some xb) more fs s = Running (Visit xb.0 (bound_in env xb.1)) (Valued (Leftover start more) ∷ fs) s
 
 -- A value is applied to arguments, up to the next visit or value.
-abbrev pub apply : Lexed → ℕ → Value → List Value → List Frame → State → Config
+abbrev pub apply : Lexed → ℕ → Value → List Value → List Continuation → State → Config
 apply l start v [] fs s = Running (Give v) fs s
 apply l start (Flat f) (a ∷ more) fs s = next_turned f (a ∷ more) [] fs s
 apply l start (Abstraction x [] body env) (a ∷ more) fs s = Running (Visit body (Bound x a env)) (Valued (Leftover start more) ∷ fs) s
@@ -180,34 +180,34 @@ apply l start (Rules p rs env taken) (a ∷ more) fs s =
     else select l start env (chosen l rs (in_order (And a taken) [])) more fs s
 
 -- the next argument of an application is visited, or its function is applied to all of them
-abbrev pub next_argument : Lexed → ℕ → Value → List Tree → Env → List Value → List Frame → State → Config
+abbrev pub next_argument : Lexed → ℕ → Value → List Tree → Env → List Value → List Continuation → State → Config
 next_argument l start f [] env done fs s = apply l start f done fs s
 next_argument l start f (a ∷ more) env done fs s = Running (Visit a env) (Valued (Argument start f more env done) ∷ fs) s
 
 -- the next body of an iteration is visited, or the bodies are put together
-abbrev pub next_body : Repetition → Name → Tree → Env → ℕ → ℕ → List Diagram → List Frame → State → Config
+abbrev pub next_body : Repetition → Name → Tree → Env → ℕ → ℕ → List Diagram → List Continuation → State → Config
 next_body r x b env i zero done fs s = given (gathered r done s) fs
 next_body r x b env i (suc n) done fs s = Running (Visit b (Bound x (Flat (Constant (pos i))) env)) (Drawn (Body r x b env (suc i) n done) ∷ fs) s
 
 -- the first one, where the count is a number
-abbrev pub first_body : Repetition → Name → Tree → Env → Outcome ℕ → List Frame → Config
+abbrev pub first_body : Repetition → Name → Tree → Env → Outcome ℕ → List Continuation → Config
 first_body r x b env (Ok k) fs = next_body r x b env 0 k.0 [] fs k.1
 first_body r x b env (Err e) fs = Ended (Err e)
 
 -- a slider goes on where its parameter has a number
-abbrev pub parameter_read : ControlKind → List ℕ → List Tree → Env → List ℤ → Outcome ℤ → List Frame → Config
+abbrev pub parameter_read : ControlKind → List ℕ → List Tree → Env → List ℤ → Outcome ℤ → List Continuation → Config
 parameter_read kind label more env done (Ok n) fs = next_parameter kind label more env (done ++ n.0 ∷ []) fs n.1
 parameter_read kind label more env done (Err r) fs = Ended (Err r)
 
 -- a value arrives where one is waited for
-abbrev pub value_arrives : Lexed → ForValue → Value → List Frame → State → Config
+abbrev pub value_arrives : Lexed → ForValue → Value → List Continuation → State → Config
 value_arrives l (Function start args env) v fs s = next_argument l start v args env [] fs s
 value_arrives l (Argument start f more env done) v fs s = next_argument l start f more env (done ++ settled v ∷ []) fs s
 value_arrives l (Leftover start args) v fs s = apply l start v args fs s
 value_arrives l (Parameter kind label start more env done) v fs s = parameter_read kind label more env done (read_number l start (value_number v) s) fs
 
 -- a diagram arrives where one is waited for
-abbrev pub diagram_arrives : Lexed → ForDiagram → Diagram → List Frame → State → Config
+abbrev pub diagram_arrives : Lexed → ForDiagram → Diagram → List Continuation → State → Config
 diagram_arrives l (Left o y env) a fs s = Running (Visit y env) (Drawn (Right o a) ∷ fs) s
 diagram_arrives l (Right o a) b fs s = given (flat (joined o a b) s) fs
 diagram_arrives l Later d fs s = given (flat (put (Seq d (Primitive prim.Mem))) s) fs
@@ -220,15 +220,15 @@ diagram_arrives l (Body r x b env i n done) d fs s = next_body r x b env i n (do
 diagram_arrives l Finish d fs s = Running (Give (Flat d)) fs s
 
 -- a diagram arrives; an abstraction is turned into one first
-abbrev pub to_diagram : Lexed → ForDiagram → Value → List Frame → State → Config
+abbrev pub to_diagram : Lexed → ForDiagram → Value → List Continuation → State → Config
 to_diagram l g (Flat d) fs s = diagram_arrives l g d fs s
 to_diagram l g (Abstraction x xs body env) fs s =
     Running (Visit body (on_slots (x ∷ xs) s.slot env)) (Drawn (Binding s.slot (length (x ∷ xs))) ∷ Drawn g ∷ fs)
     (record s { slot = s.slot + length (x ∷ xs) })
 to_diagram l g (Rules start rs env taken) fs s = Ended (Err (no_diagram l start))
 
--- a value is given to the first frame; with none the machine has ended
-abbrev pub arrives : Lexed → Value → List Frame → State → Config
+-- a value is given to the first continuation; with none the machine has ended
+abbrev pub arrives : Lexed → Value → List Continuation → State → Config
 arrives l v [] s = Ended (Ok (v, s))
 arrives l v (Valued f ∷ fs) s = value_arrives l f v fs s
 arrives l v (Drawn g ∷ fs) s = to_diagram l g v fs s

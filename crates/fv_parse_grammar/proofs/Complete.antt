@@ -18,7 +18,7 @@ use Rattle.fv_parse_grammar.specs.declared.symbol.Inside.{Inside}
 use Rattle.fv_parse_grammar.specs.declared.symbol.Inside.TheVariants as insides
 use Rattle.fv_parse_grammar.specs.declared.symbol.Items.{Items}
 use Rattle.fv_parse_grammar.specs.declared.symbol.Items.TheVariants.{Statements, Definitions, Rules, Parts}
-use Rattle.fv_parse_grammar.specs.Symbols.{head, rank, operator, is_left}
+use Rattle.fv_parse_grammar.specs.Symbols.{head, power, operator, is_left}
 use Rattle.fv_parse_grammar.specs.Tree.{Tree, Number, Negative, Named, MinusNamed, Wire, Cut, Primitive, Group, Abstraction, Case, Iteration, Ports, Switch, Slider}
 use Rattle.fv_parse_grammar.specs.Tree.{Panel, Delayed, Apply, Binary, Where, Rule, Constant, Function, End, More}
 use Rattle.fv_parse_grammar.specs.Grammar.{Level, Further, Definition, Expression, Listed, OneRule, Phrase, Postfix, Primary, Atom, SpellsNames, one_name, more_names}
@@ -27,7 +27,8 @@ use Rattle.fv_parse_grammar.specs.Grammar.{function, rule, plain, qualified, tig
 use Rattle.fv_parse_grammar.specs.Grammar.{plus_number, minus_number, minus_name, named, wire, cut, plus, minus, primitive, grouped, abstracted, cased, iterated}
 use Rattle.fv_parse_grammar.specs.Grammar.{ported, switched, slid, paneled, atom_number, atom_plus_number, atom_minus_number, atom_name, atom_grouped}
 use Rattle.fv_parse_grammar.specs.Nesting.{Nests}
-use Rattle.fv_parse_grammar.specs.Descent.{Step, Done, Next, One, Skip, run, chain, Reader, rank_at, primary, postfix, postfix_turn, phrase, left_turn, expression}
+use Rattle.fv_parse_grammar.specs.Descent.{Step, Done, Next, One, Skip, run, chain, Reader, power_at, primary, postfix, postfix_turn}
+use Rattle.fv_parse_grammar.specs.Descent.{phrase, left_turn, expression}
 use Rattle.fv_parse_grammar.specs.Descent.{with_turn, at_comma, a_name, name_list, definition, one_rule, further, listed, item, atom, enclosed, argument, within, program}
 use Rattle.fv_parse_grammar.specs.Descent.{after_plus, after_minus, by_head, group, abstraction, case_of, iteration, ports, switch, slider, panel, label, ended}
 use Rattle.fv_parse_grammar.specs.Descent.{function_after, constant_after, Item, descend}
@@ -49,7 +50,7 @@ stops items ts = true
 
 -- what may stand behind a list
 abbrev pub Ends : Items → List Symbol → Type 0
-Ends (Parts kind) rest = (stops (Parts kind) rest ≡ true) × (9 < rank_at kind commas.Separate rest)
+Ends (Parts kind) rest = (stops (Parts kind) rest ≡ true) × (9 < power_at kind commas.Separate rest)
 Ends items rest = stops items rest ≡ true
 
 -- What reading does at tokens that are what spells a tree and then a rest, by level, in terms of the loop that goes on with that tree.
@@ -58,38 +59,38 @@ Reads (Further items) inner ts x rest = Ends items rest → further inner items 
 Reads (Listed items) inner ts x rest = Ends items rest → listed inner items ts ≡ Ok (x, rest)
 Reads Definition inner ts x rest = definition inner ts ≡ Ok (x, rest)
 Reads OneRule inner ts x rest = one_rule inner ts ≡ Ok (x, rest)
-Reads Expression inner ts x rest = 9 < rank_at operands.Expressions commas.Join rest → expression inner ts ≡ run (with_turn inner (length ts)) x rest
-Reads (Phrase kind comma zero) inner ts x rest = 1 < rank_at kind comma rest → phrase inner kind comma zero ts ≡ Ok (x, rest)
+Reads Expression inner ts x rest = 9 < power_at operands.Expressions commas.Join rest → expression inner ts ≡ run (with_turn inner (length ts)) x rest
+Reads (Phrase kind comma zero) inner ts x rest = 1 < power_at kind comma rest → phrase inner kind comma zero ts ≡ Ok (x, rest)
 Reads (Phrase kind comma (suc h)) inner ts x rest =
-    (is_left (suc h) ≡ true → suc h < rank_at kind comma rest
+    (is_left (suc h) ≡ true → suc h < power_at kind comma rest
     → phrase inner kind comma (suc h) ts ≡ run (left_turn (phrase inner kind comma h) kind comma (suc (suc h)) (length ts)) x rest)
-    × (is_left (suc h) ≡ false → suc (suc h) < rank_at kind comma rest → phrase inner kind comma (suc h) ts ≡ Ok (x, rest))
-Reads Postfix inner ts x rest = 0 < rank_at operands.Expressions commas.Join rest → postfix inner ts ≡ run (postfix_turn inner (length ts)) x rest
-Reads Primary inner ts x rest = 0 < rank_at operands.Expressions commas.Join rest → primary inner ts ≡ Ok (x, rest)
+    × (is_left (suc h) ≡ false → suc (suc h) < power_at kind comma rest → phrase inner kind comma (suc h) ts ≡ Ok (x, rest))
+Reads Postfix inner ts x rest = 0 < power_at operands.Expressions commas.Join rest → postfix inner ts ≡ run (postfix_turn inner (length ts)) x rest
+Reads Primary inner ts x rest = 0 < power_at operands.Expressions commas.Join rest → primary inner ts ≡ Ok (x, rest)
 Reads Atom inner ts x rest = atom inner ts ≡ Ok (x, rest)
 
 -- ---- what a follow token rules out
 no_postfix : (inner : Reader) (comma : Commas) (start : ℕ) (x : Tree) (rest : List Symbol)
-    → 1 < rank_at operands.Expressions comma rest → postfix_turn inner start x rest ≡ Done
+    → 1 < power_at operands.Expressions comma rest → postfix_turn inner start x rest ≡ Done
 no_postfix inner comma start x [] h = refl
 no_postfix inner comma start x (Tick ∷ ts) h = absurd (omega arith)
 no_postfix inner comma start x (Open ∷ ts) h = absurd (omega arith)
 no_postfix inner comma start x (t ∷ ts) h = refl
 
-apart : (comma : Commas) (rest : List Symbol) → 0 < rank_at operands.Expressions comma rest → 0 < rank_at operands.Expressions commas.Join rest
+apart : (comma : Commas) (rest : List Symbol) → 0 < power_at operands.Expressions comma rest → 0 < power_at operands.Expressions commas.Join rest
 apart commas.Join rest h = h
 apart commas.Separate [] h = h
 apart commas.Separate (Comma ∷ ts) h = omega arith
 apart commas.Separate (t ∷ ts) h = h
 
 at_plus : (start : ℕ) (rest : List Symbol)
-    → 0 < rank_at operands.Expressions commas.Join rest → after_plus start rest ≡ Ok (Primitive start primitives.Add, rest)
+    → 0 < power_at operands.Expressions commas.Join rest → after_plus start rest ≡ Ok (Primitive start primitives.Add, rest)
 at_plus start [] h = refl
 at_plus start (Integer n ∷ ts) h = absurd (omega arith)
 at_plus start (t ∷ ts) h = refl
 
 at_minus : (start : ℕ) (rest : List Symbol)
-    → 0 < rank_at operands.Expressions commas.Join rest → after_minus start rest ≡ Ok (Primitive start primitives.Subtract, rest)
+    → 0 < power_at operands.Expressions commas.Join rest → after_minus start rest ≡ Ok (Primitive start primitives.Subtract, rest)
 at_minus start [] h = refl
 at_minus start (Integer n ∷ ts) h = absurd (omega arith)
 at_minus start (Name n ∷ ts) h = absurd (omega arith)
@@ -179,13 +180,13 @@ rule_shorter (rule p q) = let a = no_longer p in let b = no_longer q in omega ar
 -- ---- operators
 closes : (inner : Reader) (kind : Operands) (comma : Commas) (h : ℕ) (ts : List Symbol) (x : Tree) (rest : List Symbol)
     → Reads (Phrase kind comma h) inner ts x rest
-    → suc h < rank_at kind comma rest → phrase inner kind comma h ts ≡ Ok (x, rest)
+    → suc h < power_at kind comma rest → phrase inner kind comma h ts ≡ Ok (x, rest)
 closes inner kind comma zero ts x rest reads follows = reads follows
 closes inner kind comma (suc h) ts x rest reads follows = go (is_left (suc h)) refl
   where
     go : (b : Bool) → is_left (suc h) ≡ b → phrase inner kind comma (suc h) ts ≡ Ok (x, rest)
     go true e =
-        let ne : nat_eq (rank_at kind comma rest) (suc (suc h)) ≡ false = ne_eqb (rank_at kind comma rest) (suc (suc h)) (λ q. omega arith) in
+        let ne : nat_eq (power_at kind comma rest) (suc (suc h)) ≡ false = ne_eqb (power_at kind comma rest) (suc (suc h)) (λ q. omega arith) in
         reads.0 e (omega arith) ∙ run_done (left_turn (phrase inner kind comma h) kind comma (suc (suc h)) (length ts)) x rest (rw ne refl)
     go false e = reads.1 e follows
 
@@ -195,19 +196,19 @@ unfolding phrase
 tighter_reads inner kind comma h ts x rest reads = (
   (λ e follows. rw (e, closes inner kind comma h ts x rest reads follows) refl),
   (λ e follows.
-      let ne : nat_eq (rank_at kind comma rest) (suc (suc h)) ≡ false = ne_eqb (rank_at kind comma rest) (suc (suc h)) (λ q. omega arith) in
+      let ne : nat_eq (power_at kind comma rest) (suc (suc h)) ≡ false = ne_eqb (power_at kind comma rest) (suc (suc h)) (λ q. omega arith) in
       rw e (chain_done (phrase inner kind comma h) kind comma (suc (suc h)) ts x rest (closes inner kind comma h ts x rest reads (omega arith)) ne)),
 )
 
 leftward_reads : (inner : Reader) (kind : Operands) (comma : Commas) (h : ℕ) (ts mid rest : List Symbol) (t : Symbol) (x y : Tree)
-    → is_left (suc h) ≡ true → rank kind comma t ≡ suc (suc h) → length rest ≤ length mid
+    → is_left (suc h) ≡ true → power kind comma t ≡ suc (suc h) → length rest ≤ length mid
     → Reads (Phrase kind comma (suc h)) inner ts x (t ∷ mid)
     → Reads (Phrase kind comma h) inner mid y rest → Reads (Phrase kind comma (suc h)) inner ts (Binary (length ts) (operator t) x y) rest
 leftward_reads inner kind comma h ts mid rest t x y is_left_one r fewer p q = (
   (λ e follows.
       let part = phrase inner kind comma h in
       let body = left_turn part kind comma (suc (suc h)) (length ts) in
-      let yes : nat_eq (rank kind comma t) (suc (suc h)) ≡ true = eq-eqb (rank kind comma t) (suc (suc h)) r in
+      let yes : nat_eq (power kind comma t) (suc (suc h)) ≡ true = eq-eqb (power kind comma t) (suc (suc h)) r in
       let second : part mid ≡ Ok (y, rest) = closes inner kind comma h mid y rest q follows in
       let one : body x (t ∷ mid) ≡ Next (Binary (length ts) (operator t) x y) rest = rw (yes, second) refl in
       p.0 e (omega arith) ∙ run_next body x (t ∷ mid) (Binary (length ts) (operator t) x y) rest one (omega arith)),
@@ -215,7 +216,7 @@ leftward_reads inner kind comma h ts mid rest t x y is_left_one r fewer p q = (
 )
 
 rightward_reads : (inner : Reader) (kind : Operands) (comma : Commas) (h : ℕ) (ts mid rest : List Symbol) (t : Symbol) (x y : Tree)
-    → is_left (suc h) ≡ false → rank kind comma t ≡ suc (suc h) → length (t ∷ mid) ≤ length ts
+    → is_left (suc h) ≡ false → power kind comma t ≡ suc (suc h) → length (t ∷ mid) ≤ length ts
     → Reads (Phrase kind comma h) inner ts x (t ∷ mid)
     → Reads (Phrase kind comma (suc h)) inner mid y rest → Reads (Phrase kind comma (suc h)) inner ts (Binary (length ts) (operator t) x y) rest
 unfolding phrase
@@ -223,7 +224,7 @@ rightward_reads inner kind comma h ts mid rest t x y is_right r fewer p q = (
   (λ e follows. absurd cc),
   (λ e follows.
       let part = phrase inner kind comma h in
-      let yes : nat_eq (rank kind comma t) (suc (suc h)) ≡ true = eq-eqb (rank kind comma t) (suc (suc h)) r in
+      let yes : nat_eq (power kind comma t) (suc (suc h)) ≡ true = eq-eqb (power kind comma t) (suc (suc h)) r in
       let first : part ts ≡ Ok (x, t ∷ mid) = closes inner kind comma h ts x (t ∷ mid) p (omega arith) in
       let second : chain part kind comma (suc (suc h)) mid ≡ Ok (y, rest) = rw e at (q.1 e follows) in
       let all : chain part kind comma (suc (suc h)) ts ≡ Ok (Binary (length ts) (operator t) x y, rest) =
@@ -243,41 +244,46 @@ unfolding phrase
 pattern_operand_reads inner comma ts x rest p = λ follows. p
 
 -- ---- inside brackets
-pub lower : (room : ℕ) (what : Inside) (ts : List Symbol) → 0 < room → within room what ts ≡ descend (within (room - 1)) what ts
+pub lower : (nesting : ℕ) (what : Inside) (ts : List Symbol) → 0 < nesting → within nesting what ts ≡ descend (within (nesting - 1)) what ts
 unfolding within
-lower room what ts h = let e : room ≡ suc (room - 1) = omega arith in ap (λ n. within n what ts) e
+lower nesting what ts h = let e : nesting ≡ suc (nesting - 1) = omega arith in ap (λ n. within n what ts) e
 
--- by a reader with room for one bracket more than the deeper one
-module _ (room : ℕ) (ts : List Symbol) (x : Tree) (rest : List Symbol) (some : 0 < room) where
+-- by a reader with nesting for one bracket more than the deeper one
+module _ (nesting : ℕ) (ts : List Symbol) (x : Tree) (rest : List Symbol) (some : 0 < nesting) where
   abbrev deeper : Reader
-  deeper = within (room - 1)
+  deeper = within (nesting - 1)
 
-  in_expression : Reads Expression deeper ts x (Close ∷ rest) → enclosed (within room) insides.Expression ts ≡ Ok (x, rest)
+  in_expression : Reads Expression deeper ts x (Close ∷ rest) → enclosed (within nesting) insides.Expression ts ≡ Ok (x, rest)
   in_expression p =
       let read : expression deeper ts ≡ Ok (x, Close ∷ rest) = p (omega arith) ∙ run_done (with_turn deeper (length ts)) x (Close ∷ rest) refl in
-      rw (lower room insides.Expression ts some, read) refl
+      rw (lower nesting insides.Expression ts some, read) refl
 
-  in_argument : Reads (Phrase operands.Expressions commas.Separate 8) deeper ts x (Comma ∷ rest) → argument (within room) ts ≡ Ok (x, rest)
-  in_argument p = rw (lower room insides.Argument ts some, closes deeper operands.Expressions commas.Separate 8 ts x (Comma ∷ rest) p (omega arith)) refl
+  in_argument : Reads (Phrase operands.Expressions commas.Separate 8) deeper ts x (Comma ∷ rest) → argument (within nesting) ts ≡ Ok (x, rest)
+  in_argument p = rw (lower nesting insides.Argument ts some, closes deeper operands.Expressions commas.Separate 8 ts x (Comma ∷ rest) p (omega arith)) refl
 
   in_last_argument : Reads (Phrase operands.Expressions commas.Separate 8) deeper ts x (Close ∷ rest)
-      → enclosed (within room) insides.Argument ts ≡ Ok (x, rest)
-  in_last_argument p = rw (lower room insides.Argument ts some, closes deeper operands.Expressions commas.Separate 8 ts x (Close ∷ rest) p (omega arith)) refl
+      → enclosed (within nesting) insides.Argument ts ≡ Ok (x, rest)
+  in_last_argument p = rw (
+    lower nesting insides.Argument ts some,
+    closes deeper operands.Expressions commas.Separate 8 ts x (Close ∷ rest)
+        p (omega arith),
+  ) refl
 
-  in_pattern : Reads (Phrase operands.Patterns commas.Join 8) deeper ts x (Close ∷ rest) → enclosed (within room) insides.Pattern ts ≡ Ok (x, rest)
-  in_pattern p = rw (lower room insides.Pattern ts some, closes deeper operands.Patterns commas.Join 8 ts x (Close ∷ rest) p (omega arith)) refl
+  in_pattern : Reads (Phrase operands.Patterns commas.Join 8) deeper ts x (Close ∷ rest) → enclosed (within nesting) insides.Pattern ts ≡ Ok (x, rest)
+  in_pattern p = rw (lower nesting insides.Pattern ts some, closes deeper operands.Patterns commas.Join 8 ts x (Close ∷ rest) p (omega arith)) refl
 
-  in_arguments : Reads (Listed (Parts operands.Expressions)) deeper ts x (Close ∷ rest) → enclosed (within room) insides.Arguments ts ≡ Ok (x, rest)
-  in_arguments p = let read = p (refl, omega arith) in rw (lower room insides.Arguments ts some, read) refl
+  in_arguments : Reads (Listed (Parts operands.Expressions)) deeper ts x (Close ∷ rest)
+      → enclosed (within nesting) insides.Arguments ts ≡ Ok (x, rest)
+  in_arguments p = let read = p (refl, omega arith) in rw (lower nesting insides.Arguments ts some, read) refl
 
-  in_patterns : Reads (Listed (Parts operands.Patterns)) deeper ts x (Close ∷ rest) → enclosed (within room) insides.Patterns ts ≡ Ok (x, rest)
-  in_patterns p = let read = p (refl, omega arith) in rw (lower room insides.Patterns ts some, read) refl
+  in_patterns : Reads (Listed (Parts operands.Patterns)) deeper ts x (Close ∷ rest) → enclosed (within nesting) insides.Patterns ts ≡ Ok (x, rest)
+  in_patterns p = let read = p (refl, omega arith) in rw (lower nesting insides.Patterns ts some, read) refl
 
-  in_rules : Reads (Listed Rules) deeper ts x (CloseBrace ∷ rest) → within room insides.Rules ts ≡ Ok (x, CloseBrace ∷ rest)
-  in_rules p = lower room insides.Rules ts some ∙ p refl
+  in_rules : Reads (Listed Rules) deeper ts x (CloseBrace ∷ rest) → within nesting insides.Rules ts ≡ Ok (x, CloseBrace ∷ rest)
+  in_rules p = lower nesting insides.Rules ts some ∙ p refl
 
-  in_definitions : Reads (Further Definitions) deeper ts x (CloseBrace ∷ rest) → within room insides.Definitions ts ≡ Ok (x, CloseBrace ∷ rest)
-  in_definitions p = lower room insides.Definitions ts some ∙ p refl
+  in_definitions : Reads (Further Definitions) deeper ts x (CloseBrace ∷ rest) → within nesting insides.Definitions ts ≡ Ok (x, CloseBrace ∷ rest)
+  in_definitions p = lower nesting insides.Definitions ts some ∙ p refl
 
 -- ---- postfix
 bare_reads : (inner : Reader) (ts : List Symbol) (x : Tree) (rest : List Symbol) → Reads Primary inner ts x rest → Reads Postfix inner ts x rest
@@ -374,12 +380,12 @@ rule_item inner ts x mid (us, e) r =
 
 -- what follows a part: a comma, or what follows the list
 part_follows : (kind : Operands) {ts rest : List Symbol} {x : Tree}
-    → Spells (Further (Parts kind)) ts x rest → 9 < rank_at kind commas.Separate rest → 9 < rank_at kind commas.Separate ts
+    → Spells (Further (Parts kind)) ts x rest → 9 < power_at kind commas.Separate rest → 9 < power_at kind commas.Separate ts
 part_follows kind no_more h = h
 part_follows kind (parted p q) h = omega arith
 
 parted_reads : (inner : Reader) (kind : Operands) (ts mid rest : List Symbol) (x y : Tree)
-    → length mid ≤ length ts → (9 < rank_at kind commas.Separate rest → 9 < rank_at kind commas.Separate mid)
+    → length mid ≤ length ts → (9 < power_at kind commas.Separate rest → 9 < power_at kind commas.Separate mid)
     → Reads (Phrase kind commas.Separate 8) inner ts x mid
     → Reads (Further (Parts kind)) inner mid y rest → Reads (Further (Parts kind)) inner (Comma ∷ ts) (More x y) rest
 parted_reads inner kind ts mid rest x y fewer follows p q = λ ends.
@@ -387,7 +393,7 @@ parted_reads inner kind ts mid rest x y fewer follows p q = λ ends.
     item_reads inner (Parts kind) (Comma ∷ ts) mid rest x y (rw read refl) (omega arith) q ends
 
 first_part_reads : (inner : Reader) (kind : Operands) (ts mid rest : List Symbol) (x y : Tree)
-    → (9 < rank_at kind commas.Separate rest → 9 < rank_at kind commas.Separate mid)
+    → (9 < power_at kind commas.Separate rest → 9 < power_at kind commas.Separate mid)
     → Reads (Phrase kind commas.Separate 8) inner ts x mid
     → Reads (Further (Parts kind)) inner mid y rest → Reads (Listed (Parts kind)) inner ts (More x y) rest
 unfolding listed
@@ -438,12 +444,12 @@ cut_is : (inner : Reader) {rest : List Symbol} → primary inner (symbols.Exclam
 unfolding by_head
 cut_is inner = refl
 
-plus_is : (inner : Reader) (rest : List Symbol) → 0 < rank_at operands.Expressions commas.Join rest
+plus_is : (inner : Reader) (rest : List Symbol) → 0 < power_at operands.Expressions commas.Join rest
     → primary inner (symbols.Plus ∷ rest) ≡ Ok (Primitive (length (symbols.Plus ∷ rest)) primitives.Add, rest)
 unfolding by_head
 plus_is inner rest h = at_plus (length (symbols.Plus ∷ rest)) rest h
 
-minus_is : (inner : Reader) (rest : List Symbol) → 0 < rank_at operands.Expressions commas.Join rest
+minus_is : (inner : Reader) (rest : List Symbol) → 0 < power_at operands.Expressions commas.Join rest
     → primary inner (symbols.Minus ∷ rest) ≡ Ok (Primitive (length (symbols.Minus ∷ rest)) primitives.Subtract, rest)
 unfolding by_head
 minus_is inner rest h = at_minus (length (symbols.Minus ∷ rest)) rest h
@@ -502,7 +508,7 @@ paneled_reads inner s ts rest t k x e p = ap (λ h. by_head inner h (t ∷ Open 
 -- ---- brackets
 -- an operator is no bracket
 operator_nests : (limit depth : ℕ) (kind : Operands) (comma : Commas) (t : Symbol) (ts : List Symbol)
-    → 1 < rank kind comma t → rank kind comma t < 99 → Nests limit depth (t ∷ ts) → Nests limit depth ts
+    → 1 < power kind comma t → power kind comma t < 99 → Nests limit depth (t ∷ ts) → Nests limit depth ts
 operator_nests limit depth operands.Patterns comma Open ts h k n = absurd (omega arith)
 operator_nests limit depth operands.Expressions comma Open ts h k n = absurd (omega arith)
 operator_nests limit depth kind comma OpenBrace ts h k n = absurd (omega arith)
@@ -524,156 +530,164 @@ names_nest one_name limit depth h = h
 names_nest (more_names p) limit depth h = names_nest p limit depth h
 
 -- ---- by induction on how a tree is spelled
--- What is spelled within the limit is read with the room that is left, and what follows it is within the limit.
+-- What is spelled within the limit is read with the nesting that is left, and what follows it is within the limit.
 pub complete : {level : Level} {ts rest : List Symbol} {x : Tree}
-    → Spells level ts x rest → (limit d room : ℕ) → room + d ≡ limit → Nests limit d ts → Reads level (within room) ts x rest × Nests limit d rest
-complete (no_more {items = items} {rest = rest}) limit d room e n = (no_more_reads (within room) items rest, n)
-complete (stated {ts = ts} {mid = mid} {rest = rest} {x = x} {y = y} p q) limit d room e n =
-    let a = complete p limit d room e n in
-    let b = complete q limit d room e a.1 in
-    (item_reads (within room) Statements ts mid rest x y (statement_item (within room) ts x mid (definition_begins p) a.0) (definition_shorter p) b.0, b.1)
-complete (declared {n = m} {s = s} {ts = ts} {rest = rest} {x = x} p) limit d room e n =
-    let a = complete p limit d room e n in
-    (skip_reads (within room) Statements (Declare ∷ Name m ∷ Text s ∷ Semicolon ∷ ts) ts rest x refl (omega arith) a.0, a.1)
-complete (declared_for {n = m} {m = k} {s = s} {ts = ts} {rest = rest} {x = x} p) limit d room e n =
-    let a = complete p limit d room e n in
-    (skip_reads (within room) Statements (Declare ∷ Name m ∷ Name k ∷ Text s ∷ Semicolon ∷ ts) ts rest x refl (omega arith) a.0, a.1)
-complete (defined {ts = ts} {mid = mid} {rest = rest} {x = x} {y = y} p q) limit d room e n =
-    let a = complete p limit d room e n in
-    let b = complete q limit d room e a.1 in
-    (item_reads (within room) Definitions ts mid rest x y (definition_item (within room) ts x mid (definition_begins p) a.0) (definition_shorter p) b.0, b.1)
-complete (ruled {ts = ts} {mid = mid} {rest = rest} {x = x} {y = y} p q) limit d room e n =
-    let a = complete p limit d room e n in
-    let b = complete q limit d room e a.1 in
-    (item_reads (within room) Rules ts mid rest x y (rule_item (within room) ts x mid (rule_begins p) a.0) (rule_shorter p) b.0, b.1)
-complete (parted {kind = kind} {ts = ts} {mid = mid} {rest = rest} {x = x} {y = y} p q) limit d room e n =
-    let a = complete p limit d room e n in
-    let b = complete q limit d room e a.1 in
-    (parted_reads (within room) kind ts mid rest x y (no_longer p) (part_follows kind q) a.0 b.0, b.1)
-complete (first_rule {ts = ts} {mid = mid} {rest = rest} {x = x} {y = y} p q) limit d room e n =
-    let a = complete p limit d room e n in
-    let b = complete q limit d room e a.1 in
-    (first_rule_reads (within room) ts mid rest x y a.0 b.0, b.1)
-complete (first_part {kind = kind} {ts = ts} {mid = mid} {rest = rest} {x = x} {y = y} p q) limit d room e n =
-    let a = complete p limit d room e n in
-    let b = complete q limit d room e a.1 in
-    (first_part_reads (within room) kind ts mid rest x y (part_follows kind q) a.0 b.0, b.1)
-complete (constant {n = m} {ts = ts} {rest = rest} {x = x} p) limit d room e n =
-    let a = complete p limit d room e n in
-    (constant_reads (within room) m ts x rest a.0, a.1)
-complete (function {n = m} {ts = ts} {mid = mid} {rest = rest} {ps = ps} {x = x} p q) limit d room e n =
-    let le : d + 1 ≤ limit = n.0 in
-    let a = complete p limit (suc d) (room - 1) (omega arith) n.1 in
-    let b = complete q limit d room e a.1 in
-    (function_reads (within room) m ts mid ps x rest (in_patterns room ts ps (Equals ∷ mid) (omega arith) a.0) b.0, b.1)
-complete (rule {ts = ts} {mid = mid} {rest = rest} {ps = ps} {x = x} p q) limit d room e n =
-    let le : d + 1 ≤ limit = n.0 in
-    let a = complete p limit (suc d) (room - 1) (omega arith) n.1 in
-    let b = complete q limit d room e a.1 in
-    (rule_reads (within room) ts mid ps x rest (in_patterns room ts ps (Arrow ∷ mid) (omega arith) a.0) b.0, b.1)
-complete (plain {ts = ts} {rest = rest} {x = x} p) limit d room e n =
-    let a = complete p limit d room e n in
-    (plain_reads (within room) ts x rest a.0, a.1)
-complete (qualified {ts = ts} {mid = mid} {rest = rest} {x = x} {y = y} p q) limit d room e n =
-    let a = complete p limit d room e n in
-    let le : d + 1 ≤ limit = a.1.0 in
-    let b = complete q limit (suc d) (room - 1) (omega arith) a.1.1 in
-    let fewer = no_longer q in
-    (qualified_reads (within room) ts mid rest x y (omega arith) a.0 (in_definitions room mid y rest (omega arith) b.0), b.1)
-complete (tighter {kind = kind} {comma = comma} {h = h} {ts = ts} {rest = rest} {x = x} p) limit d room e n =
-    let a = complete p limit d room e n in
-    (tighter_reads (within room) kind comma h ts x rest a.0, a.1)
-complete (leftward {kind = kind} {comma = comma} {h = h} {ts = ts} {mid = mid} {rest = rest} t {x = x} {y = y} low left r p q) limit d room e n =
-    let a = complete p limit d room e n in
-    let b = complete q limit d room e (operator_nests limit d kind comma t mid (omega arith) (omega arith) a.1) in
-    (leftward_reads (within room) kind comma h ts mid rest t x y left r (no_longer q) a.0 b.0, b.1)
-complete (rightward {kind = kind} {comma = comma} {h = h} {ts = ts} {mid = mid} {rest = rest} t {x = x} {y = y} low right r p q) limit d room e n =
-    let a = complete p limit d room e n in
-    let b = complete q limit d room e (operator_nests limit d kind comma t mid (omega arith) (omega arith) a.1) in
-    (rightward_reads (within room) kind comma h ts mid rest t x y right r (no_longer p) a.0 b.0, b.1)
-complete (operand {comma = comma} {ts = ts} {rest = rest} {x = x} p) limit d room e n =
-    let a = complete p limit d room e n in
-    (operand_reads (within room) comma ts x rest a.0, a.1)
-complete (pattern_operand {comma = comma} {ts = ts} {rest = rest} {x = x} p) limit d room e n =
-    let a = complete p limit d room e n in
-    (pattern_operand_reads (within room) comma ts x rest a.0, a.1)
-complete (bare {ts = ts} {rest = rest} {x = x} p) limit d room e n =
-    let a = complete p limit d room e n in
-    (bare_reads (within room) ts x rest a.0, a.1)
-complete (delayed {ts = ts} {rest = rest} {x = x} p) limit d room e n =
-    let a = complete p limit d room e n in
-    (delayed_reads (within room) ts x rest a.0, a.1)
-complete (applied {ts = ts} {mid = mid} {rest = rest} {x = x} {y = y} p q) limit d room e n =
-    let a = complete p limit d room e n in
-    let le : d + 1 ≤ limit = a.1.0 in
-    let b = complete q limit (suc d) (room - 1) (omega arith) a.1.1 in
-    let fewer = no_longer q in
-    (applied_reads (within room) ts mid rest x y (omega arith) a.0 (in_arguments room mid y rest (omega arith) b.0), b.1)
-complete number limit d room e n = ((λ follows. number_is (within room)), n)
-complete plus_number limit d room e n = ((λ follows. plus_number_is (within room)), n)
-complete minus_number limit d room e n = ((λ follows. minus_number_is (within room)), n)
-complete minus_name limit d room e n = ((λ follows. minus_name_is (within room)), n)
-complete named limit d room e n = ((λ follows. named_is (within room)), n)
-complete wire limit d room e n = ((λ follows. wire_is (within room)), n)
-complete cut limit d room e n = ((λ follows. cut_is (within room)), n)
-complete (plus {rest = rest}) limit d room e n = ((λ follows. plus_is (within room) rest follows), n)
-complete (minus {rest = rest}) limit d room e n = ((λ follows. minus_is (within room) rest follows), n)
-complete (primitive {rest = rest} t p h) limit d room e n =
-    ((λ follows. primitive_reads (within room) t p rest h), keyword_nests limit d t rest (λ g. cc) (λ g. cc) n)
-complete (grouped {ts = ts} {rest = rest} {x = x} p) limit d room e n =
-    let le : d + 1 ≤ limit = n.0 in
-    let a = complete p limit (suc d) (room - 1) (omega arith) n.1 in
-    ((λ follows. grouped_reads (within room) ts x rest (in_expression room ts x rest (omega arith) a.0)), a.1)
-complete (abstracted {ts = ts} {mid = mid} {rest = rest} {ns = ns} {x = x} names p) limit d room e n =
-    let le : d + 1 ≤ limit = n.0 in
-    let front = names_nest names limit (suc d) n.1 in
-    let a = complete p limit (suc d) (room - 1) (omega arith) front.1 in
-    ((λ follows. abstracted_reads (within room) ts mid ns x rest (complete_names names refl) (in_expression room mid x rest (omega arith) a.0)), a.1)
-complete (cased {ts = ts} {rest = rest} {x = x} p) limit d room e n =
-    let le : d + 1 ≤ limit = n.0 in
-    let a = complete p limit (suc d) (room - 1) (omega arith) n.1 in
-    ((λ follows. cased_reads (within room) ts x rest (in_rules room ts x rest (omega arith) a.0)), a.1)
-complete (iterated {n = m} {ts = ts} {mid = mid} {rest = rest} t i {x = x} {y = y} h p q) limit d room e n =
-    let front = keyword_nests limit d t (Open ∷ Name m ∷ Comma ∷ ts) (λ g. cc) (λ g. cc) n in
-    let le : d + 1 ≤ limit = front.0 in
-    let a = complete p limit (suc d) (room - 1) (omega arith) front.1 in
-    let b = complete q limit (suc d) (room - 1) (omega arith) a.1 in (
-      (λ follows. iterated_reads (within room) m ts mid rest t i x y h
-          (in_argument room ts x mid (omega arith) a.0) (in_expression room mid y rest (omega arith) b.0)),
+    → Spells level ts x rest → (limit d nesting : ℕ) → nesting + d ≡ limit → Nests limit d ts
+    → Reads level (within nesting) ts x rest × Nests limit d rest
+complete (no_more {items = items} {rest = rest}) limit d nesting e n = (no_more_reads (within nesting) items rest, n)
+complete (stated {ts = ts} {mid = mid} {rest = rest} {x = x} {y = y} p q) limit d nesting e n =
+    let a = complete p limit d nesting e n in
+    let b = complete q limit d nesting e a.1 in (
+      item_reads (within nesting) Statements ts mid rest x y (statement_item (within nesting) ts x mid (definition_begins p) a.0)
+          (definition_shorter p) b.0,
       b.1,
     )
-complete (ported {ts = ts} {rest = rest} t s {x = x} h p) limit d room e n =
+complete (declared {n = m} {s = s} {ts = ts} {rest = rest} {x = x} p) limit d nesting e n =
+    let a = complete p limit d nesting e n in
+    (skip_reads (within nesting) Statements (Declare ∷ Name m ∷ Text s ∷ Semicolon ∷ ts) ts rest x refl (omega arith) a.0, a.1)
+complete (declared_for {n = m} {m = k} {s = s} {ts = ts} {rest = rest} {x = x} p) limit d nesting e n =
+    let a = complete p limit d nesting e n in
+    (skip_reads (within nesting) Statements (Declare ∷ Name m ∷ Name k ∷ Text s ∷ Semicolon ∷ ts) ts rest x refl (omega arith) a.0, a.1)
+complete (defined {ts = ts} {mid = mid} {rest = rest} {x = x} {y = y} p q) limit d nesting e n =
+    let a = complete p limit d nesting e n in
+    let b = complete q limit d nesting e a.1 in (
+      item_reads (within nesting) Definitions ts mid rest x y (definition_item (within nesting) ts x mid (definition_begins p) a.0)
+          (definition_shorter p) b.0,
+      b.1,
+    )
+complete (ruled {ts = ts} {mid = mid} {rest = rest} {x = x} {y = y} p q) limit d nesting e n =
+    let a = complete p limit d nesting e n in
+    let b = complete q limit d nesting e a.1 in
+    (item_reads (within nesting) Rules ts mid rest x y (rule_item (within nesting) ts x mid (rule_begins p) a.0) (rule_shorter p) b.0, b.1)
+complete (parted {kind = kind} {ts = ts} {mid = mid} {rest = rest} {x = x} {y = y} p q) limit d nesting e n =
+    let a = complete p limit d nesting e n in
+    let b = complete q limit d nesting e a.1 in
+    (parted_reads (within nesting) kind ts mid rest x y (no_longer p) (part_follows kind q) a.0 b.0, b.1)
+complete (first_rule {ts = ts} {mid = mid} {rest = rest} {x = x} {y = y} p q) limit d nesting e n =
+    let a = complete p limit d nesting e n in
+    let b = complete q limit d nesting e a.1 in
+    (first_rule_reads (within nesting) ts mid rest x y a.0 b.0, b.1)
+complete (first_part {kind = kind} {ts = ts} {mid = mid} {rest = rest} {x = x} {y = y} p q) limit d nesting e n =
+    let a = complete p limit d nesting e n in
+    let b = complete q limit d nesting e a.1 in
+    (first_part_reads (within nesting) kind ts mid rest x y (part_follows kind q) a.0 b.0, b.1)
+complete (constant {n = m} {ts = ts} {rest = rest} {x = x} p) limit d nesting e n =
+    let a = complete p limit d nesting e n in
+    (constant_reads (within nesting) m ts x rest a.0, a.1)
+complete (function {n = m} {ts = ts} {mid = mid} {rest = rest} {ps = ps} {x = x} p q) limit d nesting e n =
+    let le : d + 1 ≤ limit = n.0 in
+    let a = complete p limit (suc d) (nesting - 1) (omega arith) n.1 in
+    let b = complete q limit d nesting e a.1 in
+    (function_reads (within nesting) m ts mid ps x rest (in_patterns nesting ts ps (Equals ∷ mid) (omega arith) a.0) b.0, b.1)
+complete (rule {ts = ts} {mid = mid} {rest = rest} {ps = ps} {x = x} p q) limit d nesting e n =
+    let le : d + 1 ≤ limit = n.0 in
+    let a = complete p limit (suc d) (nesting - 1) (omega arith) n.1 in
+    let b = complete q limit d nesting e a.1 in
+    (rule_reads (within nesting) ts mid ps x rest (in_patterns nesting ts ps (Arrow ∷ mid) (omega arith) a.0) b.0, b.1)
+complete (plain {ts = ts} {rest = rest} {x = x} p) limit d nesting e n =
+    let a = complete p limit d nesting e n in
+    (plain_reads (within nesting) ts x rest a.0, a.1)
+complete (qualified {ts = ts} {mid = mid} {rest = rest} {x = x} {y = y} p q) limit d nesting e n =
+    let a = complete p limit d nesting e n in
+    let le : d + 1 ≤ limit = a.1.0 in
+    let b = complete q limit (suc d) (nesting - 1) (omega arith) a.1.1 in
+    let fewer = no_longer q in
+    (qualified_reads (within nesting) ts mid rest x y (omega arith) a.0 (in_definitions nesting mid y rest (omega arith) b.0), b.1)
+complete (tighter {kind = kind} {comma = comma} {h = h} {ts = ts} {rest = rest} {x = x} p) limit d nesting e n =
+    let a = complete p limit d nesting e n in
+    (tighter_reads (within nesting) kind comma h ts x rest a.0, a.1)
+complete (leftward {kind = kind} {comma = comma} {h = h} {ts = ts} {mid = mid} {rest = rest} t {x = x} {y = y} low left r p q) limit d nesting e n =
+    let a = complete p limit d nesting e n in
+    let b = complete q limit d nesting e (operator_nests limit d kind comma t mid (omega arith) (omega arith) a.1) in
+    (leftward_reads (within nesting) kind comma h ts mid rest t x y left r (no_longer q) a.0 b.0, b.1)
+complete (rightward {kind = kind} {comma = comma} {h = h} {ts = ts} {mid = mid} {rest = rest} t {x = x} {y = y} low right r p q) limit d nesting e n =
+    let a = complete p limit d nesting e n in
+    let b = complete q limit d nesting e (operator_nests limit d kind comma t mid (omega arith) (omega arith) a.1) in
+    (rightward_reads (within nesting) kind comma h ts mid rest t x y right r (no_longer p) a.0 b.0, b.1)
+complete (operand {comma = comma} {ts = ts} {rest = rest} {x = x} p) limit d nesting e n =
+    let a = complete p limit d nesting e n in
+    (operand_reads (within nesting) comma ts x rest a.0, a.1)
+complete (pattern_operand {comma = comma} {ts = ts} {rest = rest} {x = x} p) limit d nesting e n =
+    let a = complete p limit d nesting e n in
+    (pattern_operand_reads (within nesting) comma ts x rest a.0, a.1)
+complete (bare {ts = ts} {rest = rest} {x = x} p) limit d nesting e n =
+    let a = complete p limit d nesting e n in
+    (bare_reads (within nesting) ts x rest a.0, a.1)
+complete (delayed {ts = ts} {rest = rest} {x = x} p) limit d nesting e n =
+    let a = complete p limit d nesting e n in
+    (delayed_reads (within nesting) ts x rest a.0, a.1)
+complete (applied {ts = ts} {mid = mid} {rest = rest} {x = x} {y = y} p q) limit d nesting e n =
+    let a = complete p limit d nesting e n in
+    let le : d + 1 ≤ limit = a.1.0 in
+    let b = complete q limit (suc d) (nesting - 1) (omega arith) a.1.1 in
+    let fewer = no_longer q in
+    (applied_reads (within nesting) ts mid rest x y (omega arith) a.0 (in_arguments nesting mid y rest (omega arith) b.0), b.1)
+complete number limit d nesting e n = ((λ follows. number_is (within nesting)), n)
+complete plus_number limit d nesting e n = ((λ follows. plus_number_is (within nesting)), n)
+complete minus_number limit d nesting e n = ((λ follows. minus_number_is (within nesting)), n)
+complete minus_name limit d nesting e n = ((λ follows. minus_name_is (within nesting)), n)
+complete named limit d nesting e n = ((λ follows. named_is (within nesting)), n)
+complete wire limit d nesting e n = ((λ follows. wire_is (within nesting)), n)
+complete cut limit d nesting e n = ((λ follows. cut_is (within nesting)), n)
+complete (plus {rest = rest}) limit d nesting e n = ((λ follows. plus_is (within nesting) rest follows), n)
+complete (minus {rest = rest}) limit d nesting e n = ((λ follows. minus_is (within nesting) rest follows), n)
+complete (primitive {rest = rest} t p h) limit d nesting e n =
+    ((λ follows. primitive_reads (within nesting) t p rest h), keyword_nests limit d t rest (λ g. cc) (λ g. cc) n)
+complete (grouped {ts = ts} {rest = rest} {x = x} p) limit d nesting e n =
+    let le : d + 1 ≤ limit = n.0 in
+    let a = complete p limit (suc d) (nesting - 1) (omega arith) n.1 in
+    ((λ follows. grouped_reads (within nesting) ts x rest (in_expression nesting ts x rest (omega arith) a.0)), a.1)
+complete (abstracted {ts = ts} {mid = mid} {rest = rest} {ns = ns} {x = x} names p) limit d nesting e n =
+    let le : d + 1 ≤ limit = n.0 in
+    let front = names_nest names limit (suc d) n.1 in
+    let a = complete p limit (suc d) (nesting - 1) (omega arith) front.1 in
+    ((λ follows. abstracted_reads (within nesting) ts mid ns x rest (complete_names names refl) (in_expression nesting mid x rest (omega arith) a.0)), a.1)
+complete (cased {ts = ts} {rest = rest} {x = x} p) limit d nesting e n =
+    let le : d + 1 ≤ limit = n.0 in
+    let a = complete p limit (suc d) (nesting - 1) (omega arith) n.1 in
+    ((λ follows. cased_reads (within nesting) ts x rest (in_rules nesting ts x rest (omega arith) a.0)), a.1)
+complete (iterated {n = m} {ts = ts} {mid = mid} {rest = rest} t i {x = x} {y = y} h p q) limit d nesting e n =
+    let front = keyword_nests limit d t (Open ∷ Name m ∷ Comma ∷ ts) (λ g. cc) (λ g. cc) n in
+    let le : d + 1 ≤ limit = front.0 in
+    let a = complete p limit (suc d) (nesting - 1) (omega arith) front.1 in
+    let b = complete q limit (suc d) (nesting - 1) (omega arith) a.1 in (
+      (λ follows. iterated_reads (within nesting) m ts mid rest t i x y h
+          (in_argument nesting ts x mid (omega arith) a.0) (in_expression nesting mid y rest (omega arith) b.0)),
+      b.1,
+    )
+complete (ported {ts = ts} {rest = rest} t s {x = x} h p) limit d nesting e n =
     let front = keyword_nests limit d t (Open ∷ ts) (λ g. cc) (λ g. cc) n in
     let le : d + 1 ≤ limit = front.0 in
-    let a = complete p limit (suc d) (room - 1) (omega arith) front.1 in
-    ((λ follows. ported_reads (within room) ts rest t s x h (in_expression room ts x rest (omega arith) a.0)), a.1)
-complete (switched {s = s} {rest = rest} t k h) limit d room e n =
+    let a = complete p limit (suc d) (nesting - 1) (omega arith) front.1 in
+    ((λ follows. ported_reads (within nesting) ts rest t s x h (in_expression nesting ts x rest (omega arith) a.0)), a.1)
+complete (switched {s = s} {rest = rest} t k h) limit d nesting e n =
     let front = keyword_nests limit d t (Open ∷ Text s ∷ Close ∷ rest) (λ g. cc) (λ g. cc) n in
-    ((λ follows. switched_reads (within room) s rest t k h), front.1)
-complete (slid {s = s} {ts = ts} {t1 = t1} {t2 = t2} {t3 = t3} {rest = rest} t k {x0 = x0} {x1 = x1} {x2 = x2} {x3 = x3} h p q r u) limit d room e n =
+    ((λ follows. switched_reads (within nesting) s rest t k h), front.1)
+complete (slid {s = s} {ts = ts} {t1 = t1} {t2 = t2} {t3 = t3} {rest = rest} t k {x0 = x0} {x1 = x1} {x2 = x2} {x3 = x3} h p q r u) limit d nesting e n =
     let front = keyword_nests limit d t (Open ∷ Text s ∷ Comma ∷ ts) (λ g. cc) (λ g. cc) n in
     let le : d + 1 ≤ limit = front.0 in
-    let a = complete p limit (suc d) (room - 1) (omega arith) front.1 in
-    let b = complete q limit (suc d) (room - 1) (omega arith) a.1 in
-    let c = complete r limit (suc d) (room - 1) (omega arith) b.1 in
-    let f = complete u limit (suc d) (room - 1) (omega arith) c.1 in (
-      (λ follows. slid_reads (within room) s ts t1 t2 t3 rest t k x0 x1 x2 x3 h (in_argument room ts x0 t1 (omega arith) a.0) (in_argument room t1 x1 t2
-          (omega arith) b.0) (in_argument room t2 x2 t3 (omega arith) c.0) (in_last_argument room t3 x3 rest (omega arith) f.0)),
+    let a = complete p limit (suc d) (nesting - 1) (omega arith) front.1 in
+    let b = complete q limit (suc d) (nesting - 1) (omega arith) a.1 in
+    let c = complete r limit (suc d) (nesting - 1) (omega arith) b.1 in
+    let f = complete u limit (suc d) (nesting - 1) (omega arith) c.1 in (
+      (λ follows. slid_reads (within nesting) s ts t1 t2 t3 rest t k x0 x1 x2 x3 h (in_argument nesting ts x0 t1 (omega arith) a.0)
+          (in_argument nesting t1 x1 t2
+          (omega arith) b.0) (in_argument nesting t2 x2 t3 (omega arith) c.0) (in_last_argument nesting t3 x3 rest (omega arith) f.0)),
       f.1,
     )
-complete (paneled {s = s} {ts = ts} {rest = rest} t k {x = x} h p) limit d room e n =
+complete (paneled {s = s} {ts = ts} {rest = rest} t k {x = x} h p) limit d nesting e n =
     let front = keyword_nests limit d t (Open ∷ Text s ∷ Comma ∷ ts) (λ g. cc) (λ g. cc) n in
     let le : d + 1 ≤ limit = front.0 in
-    let a = complete p limit (suc d) (room - 1) (omega arith) front.1 in
-    ((λ follows. paneled_reads (within room) s ts rest t k x h (in_expression room ts x rest (omega arith) a.0)), a.1)
-complete atom_number limit d room e n = (refl, n)
-complete atom_plus_number limit d room e n = (refl, n)
-complete atom_minus_number limit d room e n = (refl, n)
-complete atom_name limit d room e n = (refl, n)
-complete (atom_grouped {ts = ts} {rest = rest} {x = x} p) limit d room e n =
+    let a = complete p limit (suc d) (nesting - 1) (omega arith) front.1 in
+    ((λ follows. paneled_reads (within nesting) s ts rest t k x h (in_expression nesting ts x rest (omega arith) a.0)), a.1)
+complete atom_number limit d nesting e n = (refl, n)
+complete atom_plus_number limit d nesting e n = (refl, n)
+complete atom_minus_number limit d nesting e n = (refl, n)
+complete atom_name limit d nesting e n = (refl, n)
+complete (atom_grouped {ts = ts} {rest = rest} {x = x} p) limit d nesting e n =
     let le : d + 1 ≤ limit = n.0 in
-    let a = complete p limit (suc d) (room - 1) (omega arith) n.1 in
-    (in_pattern room ts x rest (omega arith) a.0, a.1)
+    let a = complete p limit (suc d) (nesting - 1) (omega arith) n.1 in
+    (in_pattern nesting ts x rest (omega arith) a.0, a.1)
 
 -- A program that is spelled is read, and read as that tree.
 pub program_complete : (ts : List Symbol) (x : Tree) (limit : ℕ) → SpellsProgram ts x → Nests limit 0 ts → program limit ts ≡ Ok x

@@ -4,7 +4,8 @@ use Rattle.std.specs.Prelude.{nat_lt, nat_eq}
 use Rattle.std.proofs.lemmas.Bool.{cases_lt, le-ltb, lt-ltb}
 use Rattle.fv_lex.specs.declared.token.Symbol.{Symbol}
 use Rattle.fv_parse_grammar.specs.Tree.{Tree, Binary, End, More}
-use Rattle.fv_parse_grammar.specs.Descent.{Step, ◌>>=◌, Turn, Done, Next, Stop, after, turns, run, rank_at, operator_at, rights, chain, at_comma, separated, all_separated}
+use Rattle.fv_parse_grammar.specs.Descent.{Step, ◌>>=◌, Turn, Done, Next, Stop, after, turns, run, power_at, operator_at, rights, chain}
+use Rattle.fv_parse_grammar.specs.Descent.{at_comma, separated, all_separated}
 use Rattle.fv_parse_grammar.specs.Descent.{Item, Nothing, Skip, One, Fault, with_item, many}
 use Rattle.fv_parse_grammar.specs.declared.symbol.Operands.{Operands}
 use Rattle.fv_parse_grammar.specs.declared.symbol.Commas.{Commas}
@@ -46,18 +47,18 @@ abbrev pub joined : List Symbol → List Symbol → Tree → Step Tree → Step 
 joined ts at x read = read >>= λ y. Ok (Binary (length ts) (operator_at at) x y.0, y.1)
 
 one_part : (part : List Symbol → Step Tree) (kind : Operands) (comma : Commas) (r : ℕ) (ts : List Symbol) → chain part kind comma r ts
-    ≡ (part ts >>= λ x. cond (nat_eq (rank_at kind comma x.1) r) (joined ts x.1 x.0 (rights (length ts) part kind comma r (drop 1 x.1))) (Ok (x.0, x.1)))
+    ≡ (part ts >>= λ x. cond (nat_eq (power_at kind comma x.1) r) (joined ts x.1 x.0 (rights (length ts) part kind comma r (drop 1 x.1))) (Ok (x.0, x.1)))
 unfolding rights chain
 one_part part kind comma r ts = let no : nat_lt (length ts) (length ts) ≡ false = le-ltb (length ts) (length ts) (omega arith) in rw no refl
 
 pub chain_next : (part : List Symbol → Step Tree) (kind : Operands) (comma : Commas) (r : ℕ) (ts : List Symbol) (x : Tree) (rest : List Symbol)
-    → part ts ≡ Ok (x, rest) → nat_eq (rank_at kind comma rest) r ≡ true → length (drop 1 rest) < length ts
+    → part ts ≡ Ok (x, rest) → nat_eq (power_at kind comma rest) r ≡ true → length (drop 1 rest) < length ts
     → chain part kind comma r ts ≡ joined ts rest x (chain part kind comma r (drop 1 rest))
 chain_next part kind comma r ts x rest e on h =
     one_part part kind comma r ts ∙ (rw (e, on) (ap (λ z. joined ts rest x z) (rights_again (length ts) part kind comma r (drop 1 rest) h)))
 
 pub chain_done : (part : List Symbol → Step Tree) (kind : Operands) (comma : Commas) (r : ℕ) (ts : List Symbol) (x : Tree) (rest : List Symbol)
-    → part ts ≡ Ok (x, rest) → nat_eq (rank_at kind comma rest) r ≡ false → chain part kind comma r ts ≡ Ok (x, rest)
+    → part ts ≡ Ok (x, rest) → nat_eq (power_at kind comma rest) r ≡ false → chain part kind comma r ts ≡ Ok (x, rest)
 chain_done part kind comma r ts x rest e off = one_part part kind comma r ts ∙ rw (e, off) refl
 
 pub chain_stop : (part : List Symbol → Step Tree) (kind : Operands) (comma : Commas) (r : ℕ) (ts at : List Symbol)

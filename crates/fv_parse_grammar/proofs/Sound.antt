@@ -21,7 +21,7 @@ use Rattle.fv_parse_grammar.specs.declared.symbol.Items.{Items}
 use Rattle.fv_parse_grammar.specs.declared.symbol.Items.TheVariants.{Statements, Definitions, Rules, Parts}
 use Rattle.fv_parse_grammar.specs.declared.symbol.Mark.{Mark}
 use Rattle.fv_parse_grammar.specs.declared.symbol.Mark.TheVariants as marks
-use Rattle.fv_parse_grammar.specs.Symbols.{head, rank, operator, is_left, sign, is_mark}
+use Rattle.fv_parse_grammar.specs.Symbols.{head, power, operator, is_left, sign, is_mark}
 use Rattle.fv_parse_grammar.specs.Tree.{Tree, Number, Negative, Named, MinusNamed, Wire, Cut, Primitive, Group, Abstraction, Case, Iteration, Ports, Switch, Slider}
 use Rattle.fv_parse_grammar.specs.Tree.{Panel, Delayed, Binary, Where, Rule, Constant, Function, End, More}
 use Rattle.fv_parse_grammar.specs.Grammar.{Level, Further, Definition, Expression, Listed, OneRule, Phrase, Postfix, Primary, Atom, SpellsNames, one_name, more_names}
@@ -30,7 +30,8 @@ use Rattle.fv_parse_grammar.specs.Grammar.{function, rule, plain, qualified, tig
 use Rattle.fv_parse_grammar.specs.Grammar.{plus_number, minus_number, minus_name, named, wire, cut, plus, minus, primitive, grouped, abstracted, cased, iterated}
 use Rattle.fv_parse_grammar.specs.Grammar.{ported, switched, slid, paneled, atom_number, atom_plus_number, atom_minus_number, atom_name, atom_grouped}
 use Rattle.fv_parse_grammar.specs.Descent as descent
-use Rattle.fv_parse_grammar.specs.Descent.{Step, ◌>>=◌, Turn, Done, Next, Stop, turn, after, turns, run, rights, chain, Reader, rank_at, operator_at, expect, a_name}
+use Rattle.fv_parse_grammar.specs.Descent.{Step, ◌>>=◌, Turn, Done, Next, Stop, turn, after, turns, run, rights, chain, Reader, power_at}
+use Rattle.fv_parse_grammar.specs.Descent.{operator_at, expect, a_name}
 use Rattle.fv_parse_grammar.specs.Descent.{a_text, at_comma, separated, name_list, enclosed, argument, group, abstraction, case_of, iteration, ports, switch, label}
 use Rattle.fv_parse_grammar.specs.Descent.{slider, panel, by_head, primary, postfix, postfix_turn, atom_by_head, atom, phrase, left_turn, expression, with_turn}
 use Rattle.fv_parse_grammar.specs.Descent.{ended, function_after, constant_after, after_name, definition, one_rule, declared_text, declaration, Item, Nothing, Skip}
@@ -471,23 +472,24 @@ module _ (inner : Reader) (sound : IsSoundInside inner) where
   operand_sound operands.Expressions comma ts x rest e = operand (postfix_sound inner sound ts x rest e)
 
 -- ---- operators
-operator_rank : (kind : Operands) (comma : Commas) (h : ℕ) (ts : List Symbol) → h < 8 → nat_eq (rank_at kind comma ts) (suc (suc h)) ≡ true
-    → (t : Symbol) × (ts ≡ t ∷ drop 1 ts) × (rank kind comma t ≡ suc (suc h)) × (operator_at ts ≡ operator t)
-operator_rank kind comma h [] small e = let p : rank_at kind comma [] ≡ suc (suc h) = eqb-true (rank_at kind comma []) (suc (suc h)) e in absurd (omega arith)
-operator_rank kind comma h (t ∷ ts) small e = (t, refl, eqb-true (rank kind comma t) (suc (suc h)) e, refl)
+operator_power : (kind : Operands) (comma : Commas) (h : ℕ) (ts : List Symbol) → h < 8 → nat_eq (power_at kind comma ts) (suc (suc h)) ≡ true
+    → (t : Symbol) × (ts ≡ t ∷ drop 1 ts) × (power kind comma t ≡ suc (suc h)) × (operator_at ts ≡ operator t)
+operator_power kind comma h [] small e = let p : power_at kind comma [] ≡ suc (suc h) = eqb-true (power_at kind comma []) (suc (suc h)) e in
+    absurd (omega arith)
+operator_power kind comma h (t ∷ ts) small e = (t, refl, eqb-true (power kind comma t) (suc (suc h)) e, refl)
 
 left_step : (part : List Symbol → Step Tree) (kind : Operands) (comma : Commas) (h : ℕ)
     → h < 8 → is_left (suc h) ≡ true → IsSound (Phrase kind comma h) part → (all : List Symbol) (x : Tree) (ts : List Symbol) (y : Tree) (rest : List Symbol)
     → Spells (Phrase kind comma (suc h)) all x ts
     → left_turn part kind comma (suc (suc h)) (length all) x ts ≡ Next y rest → Spells (Phrase kind comma (suc h)) all y rest
 left_step part kind comma h small left sound all x ts y rest p e =
-    either (Spells (Phrase kind comma (suc h)) all y rest) (nat_eq (rank_at kind comma ts) (suc (suc h))) _ _
+    either (Spells (Phrase kind comma (suc h)) all y rest) (nat_eq (power_at kind comma ts) (suc (suc h))) _ _
     (λ on now.
     let (z, was, tree) = turn_next _ _ _ _ now in
-    let (t, is, ranked, named_) = operator_rank kind comma h ts small on in
+    let (t, is, powered, named_) = operator_power kind comma h ts small on in
     let second = sound (drop 1 ts) z rest was in
     subst (λ q. Spells (Phrase kind comma (suc h)) all q rest) (ap (λ o. Binary (length all) o x z) (sym named_) ∙ tree)
-    (leftward t small left ranked (subst (λ r. Spells (Phrase kind comma (suc h)) all x r) is p) second))
+    (leftward t small left powered (subst (λ r. Spells (Phrase kind comma (suc h)) all x r) is p) second))
     (λ off now. absurd cc)
     e
 
@@ -500,13 +502,13 @@ rights_sound part kind comma h small right sound (suc k) ts x rest e = either (S
     (λ _ now.
     let (z, was, then) = bind_ok _ _ _ now in
     let first = sound ts z.0 z.1 was in
-    either (Spells (Phrase kind comma (suc h)) ts x rest) (nat_eq (rank_at kind comma z.1) (suc (suc h))) _ _
+    either (Spells (Phrase kind comma (suc h)) ts x rest) (nat_eq (power_at kind comma z.1) (suc (suc h))) _ _
     (λ on again.
     let (y, got, end) = bind_ok _ _ _ again in
-    let (t, is, ranked, named_) = operator_rank kind comma h z.1 small on in
+    let (t, is, powered, named_) = operator_power kind comma h z.1 small on in
     let second = rights_sound part kind comma h small right sound k (drop 1 z.1) y.0 y.1 got in
     let both : Spells (Phrase kind comma (suc h)) ts (Binary (length ts) (operator t) z.0 y.0) y.1 =
-    rightward t small right ranked (subst (λ r. Spells (Phrase kind comma h) ts z.0 r) is first) second in
+    rightward t small right powered (subst (λ r. Spells (Phrase kind comma h) ts z.0 r) is first) second in
     moved (Phrase kind comma (suc h)) ts (Binary (length ts) (operator_at z.1) z.0 y.0) x y.1 rest
     (subst (λ o. Spells (Phrase kind comma (suc h)) ts (Binary (length ts) o z.0 y.0) y.1) (sym named_) both) end)
     (λ off end. moved (Phrase kind comma (suc h)) ts z.0 x z.1 rest (tighter first) end)
@@ -735,27 +737,28 @@ module _ (inner : Reader) (sound : IsSoundInside inner) where
   listed_sound Definitions ts x rest e = absurd cc
 
 -- ---- inside brackets
-pub sound_within : (room : ℕ) → IsSoundInside (within room)
+pub sound_within : (nesting : ℕ) → IsSoundInside (within nesting)
 unfolding within
 sound_within zero what ts x rest e = absurd cc
-sound_within (suc room) insides.Expression ts x rest e = expression_sound (within room) (sound_within room) ts x rest e
-sound_within (suc room) insides.Argument ts x rest e =
-    phrase_sound (within room) (sound_within room) operands.Expressions commas.Separate 8 (omega arith) ts x rest e
-sound_within (suc room) insides.Pattern ts x rest e = phrase_sound (within room) (sound_within room) operands.Patterns commas.Join 8 (omega arith) ts x rest e
-sound_within (suc room) insides.Arguments ts x rest e = listed_sound (within room) (sound_within room) (Parts operands.Expressions) ts x rest e
-sound_within (suc room) insides.Patterns ts x rest e = listed_sound (within room) (sound_within room) (Parts operands.Patterns) ts x rest e
-sound_within (suc room) insides.Rules ts x rest e = listed_sound (within room) (sound_within room) Rules ts x rest e
-sound_within (suc room) insides.Definitions ts x rest e = further_sound (within room) (sound_within room) Definitions ts x rest e
+sound_within (suc nesting) insides.Expression ts x rest e = expression_sound (within nesting) (sound_within nesting) ts x rest e
+sound_within (suc nesting) insides.Argument ts x rest e =
+    phrase_sound (within nesting) (sound_within nesting) operands.Expressions commas.Separate 8 (omega arith) ts x rest e
+sound_within (suc nesting) insides.Pattern ts x rest e = phrase_sound (within nesting) (sound_within nesting) operands.Patterns commas.Join
+    8 (omega arith) ts x rest e
+sound_within (suc nesting) insides.Arguments ts x rest e = listed_sound (within nesting) (sound_within nesting) (Parts operands.Expressions) ts x rest e
+sound_within (suc nesting) insides.Patterns ts x rest e = listed_sound (within nesting) (sound_within nesting) (Parts operands.Patterns) ts x rest e
+sound_within (suc nesting) insides.Rules ts x rest e = listed_sound (within nesting) (sound_within nesting) Rules ts x rest e
+sound_within (suc nesting) insides.Definitions ts x rest e = further_sound (within nesting) (sound_within nesting) Definitions ts x rest e
 
 whole_ok : (x y : Tree) (ts : List Symbol) → whole_text (x, ts) ≡ Ok y → (ts ≡ []) × (x ≡ y)
 whole_ok x y [] e = (refl, cc)
 whole_ok x y (t ∷ ts) e = absurd cc
 
 -- A program that is read is spelled.
-pub program_sound : (room : ℕ) (ts : List Symbol) (x : Tree) → program room ts ≡ Ok x → SpellsProgram ts x
+pub program_sound : (nesting : ℕ) (ts : List Symbol) (x : Tree) → program nesting ts ≡ Ok x → SpellsProgram ts x
 unfolding program
-program_sound room ts x e =
+program_sound nesting ts x e =
     let (z, was, then) = bind_ok _ _ _ e in
-    let all = further_sound (within room) (sound_within room) Statements ts z.0 z.1 was in
+    let all = further_sound (within nesting) (sound_within nesting) Statements ts z.0 z.1 was in
     let end = whole_ok z.0 x z.1 then in
     subst (λ y. SpellsProgram ts y) end.1 (subst (λ r. Spells (Further Statements) ts z.0 r) end.0 all)

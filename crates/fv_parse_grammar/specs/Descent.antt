@@ -19,7 +19,7 @@ use Rattle.fv_parse_grammar.specs.declared.symbol.Items.{Items}
 use Rattle.fv_parse_grammar.specs.declared.symbol.Items.TheVariants.{Statements, Definitions, Rules, Parts}
 use Rattle.fv_parse_grammar.specs.declared.symbol.Mark.{Mark}
 use Rattle.fv_parse_grammar.specs.declared.symbol.Mark.TheVariants as marks
-use Rattle.fv_parse_grammar.specs.Symbols.{head, rank, operator, is_left, is_mark}
+use Rattle.fv_parse_grammar.specs.Symbols.{head, power, operator, is_left, is_mark}
 use Rattle.fv_parse_grammar.specs.Tree.{Tree, Number, Negative, Named, MinusNamed, Wire, Cut, Primitive, Group, Abstraction, Case, Iteration, Ports, Switch, Slider}
 use Rattle.fv_parse_grammar.specs.Tree.{Panel, Delayed, Apply, Binary, Where, Rule, Constant, Function, End, More}
 use Rattle.fv_parse_grammar.specs.declared.symbol.Operands.{Operands}
@@ -42,9 +42,9 @@ abbrev pub Reader : Type 0
 Reader = Inside → List Symbol → Step Tree
 
 -- how loosely the first token joins what stands before it; the end of the text ends every phrase
-abbrev pub rank_at : Operands → Commas → List Symbol → ℕ
-rank_at kind comma [] = 99
-rank_at kind comma (t ∷ ts) = rank kind comma t
+abbrev pub power_at : Operands → Commas → List Symbol → ℕ
+power_at kind comma [] = 99
+power_at kind comma (t ∷ ts) = power kind comma t
 
 -- the operator that the first token is
 abbrev pub operator_at : List Symbol → Operator
@@ -291,10 +291,10 @@ operand inner operands.Patterns ts = atom inner ts
 operand inner operands.Expressions ts = postfix inner ts
 
 -- ---- operators
--- an operator of this rank and what stands behind it, joined to the left
+-- an operator of this power and what stands behind it, joined to the left
 abbrev pub left_turn : (List Symbol → Step Tree) → Operands → Commas → ℕ → ℕ → Tree → List Symbol → Turn
 left_turn part kind comma r start x ts =
-    if nat_eq (rank_at kind comma ts) r then turn (part (drop 1 ts)) (λ y. Binary start (operator_at ts) x y) else Done
+    if nat_eq (power_at kind comma ts) r then turn (part (drop 1 ts)) (λ y. Binary start (operator_at ts) x y) else Done
 
 -- so many parts at most, joined to the right
 unfoldable pub rights : ℕ → (List Symbol → Step Tree) → Operands → Commas → ℕ → List Symbol → Step Tree
@@ -302,7 +302,7 @@ rights zero part kind comma r ts = Err ts
 rights (suc k) part kind comma r ts =
     if nat_lt (length ts) k then rights k part kind comma r ts
     else (part ts >>= λ x.
-    if nat_eq (rank_at kind comma x.1) r then (rights k part kind comma r (drop 1 x.1) >>= λ y. Ok (Binary (length ts) (operator_at x.1) x.0 y.0, y.1))
+    if nat_eq (power_at kind comma x.1) r then (rights k part kind comma r (drop 1 x.1) >>= λ y. Ok (Binary (length ts) (operator_at x.1) x.0 y.0, y.1))
     else Ok (x.0, x.1))
 
 -- parts that are joined to the right
@@ -482,7 +482,7 @@ descend inner insides.Definitions ts = further inner Definitions ts
 -- with so many brackets that may still be opened
 unfoldable pub within : ℕ → Reader
 within zero what ts = Err ts
-within (suc room) what ts = descend (within room) what ts
+within (suc nesting) what ts = descend (within nesting) what ts
 
 -- nothing stands behind a program
 abbrev pub whole_text : Tree × List Symbol → Result Tree (List Symbol)
@@ -491,4 +491,4 @@ whole_text (x, t ∷ ts) = Err (t ∷ ts)
 
 -- a whole program
 unfoldable pub program : ℕ → List Symbol → Result Tree (List Symbol)
-program room ts = further (within room) Statements ts >>= whole_text
+program nesting ts = further (within nesting) Statements ts >>= whole_text

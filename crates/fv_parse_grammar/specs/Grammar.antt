@@ -14,7 +14,7 @@ use Rattle.fv_parse_grammar.specs.declared.form.Panel.{Panel as PanelKind}
 use Rattle.fv_parse_grammar.specs.declared.symbol.Head.TheVariants as heads
 use Rattle.fv_parse_grammar.specs.declared.symbol.Items.{Items}
 use Rattle.fv_parse_grammar.specs.declared.symbol.Items.TheVariants.{Statements, Definitions, Rules, Parts}
-use Rattle.fv_parse_grammar.specs.Symbols.{head, rank, operator, is_left}
+use Rattle.fv_parse_grammar.specs.Symbols.{head, power, operator, is_left}
 use Rattle.fv_parse_grammar.specs.Tree.{Tree, Number, Negative, Named, MinusNamed, Wire, Cut, Primitive, Group, Abstraction, Case, Iteration, Ports, Switch, Slider}
 use Rattle.fv_parse_grammar.specs.Tree.{Panel, Delayed, Apply, Binary, Where, Rule, Constant, Function, End, More}
 use Rattle.fv_parse_grammar.specs.declared.symbol.Operands.{Operands}
@@ -84,11 +84,11 @@ pub data Spells : Level → List Symbol → Tree → List Symbol → Type 0 wher
   tighter : {kind : Operands} {comma : Commas} {h : ℕ} {ts rest : List Symbol} {x : Tree}
       → Spells (Phrase kind comma h) ts x rest → Spells (Phrase kind comma (suc h)) ts x rest
   leftward : {kind : Operands} {comma : Commas} {h : ℕ} {ts mid rest : List Symbol} (t : Symbol) {x y : Tree}
-      → h < 8 → is_left (suc h) ≡ true → rank kind comma t ≡ suc (suc h)
+      → h < 8 → is_left (suc h) ≡ true → power kind comma t ≡ suc (suc h)
       → Spells (Phrase kind comma (suc h)) ts x (t ∷ mid)
       → Spells (Phrase kind comma h) mid y rest → Spells (Phrase kind comma (suc h)) ts (Binary (length ts) (operator t) x y) rest
   rightward : {kind : Operands} {comma : Commas} {h : ℕ} {ts mid rest : List Symbol} (t : Symbol) {x y : Tree}
-      → h < 8 → is_left (suc h) ≡ false → rank kind comma t ≡ suc (suc h)
+      → h < 8 → is_left (suc h) ≡ false → power kind comma t ≡ suc (suc h)
       → Spells (Phrase kind comma h) ts x (t ∷ mid)
       → Spells (Phrase kind comma (suc h)) mid y rest → Spells (Phrase kind comma (suc h)) ts (Binary (length ts) (operator t) x y) rest
   operand : {comma : Commas} {ts rest : List Symbol} {x : Tree} → Spells Postfix ts x rest → Spells (Phrase operands.Expressions comma zero) ts x rest

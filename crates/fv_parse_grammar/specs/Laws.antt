@@ -8,7 +8,7 @@ use Rattle.fv_parse_grammar.specs.Descent.{program}
 
 -- What the descent reads is spelled, however many brackets it may open (this project's profile).
 abbrev pub ReadsOnlySpelled : Type 0
-ReadsOnlySpelled = (room : ℕ) (ts : List Symbol) (x : Tree) → program room ts ≡ Ok x → SpellsProgram ts x
+ReadsOnlySpelled = (nesting : ℕ) (ts : List Symbol) (x : Tree) → program nesting ts ≡ Ok x → SpellsProgram ts x
 
 -- What is spelled, and opens no more brackets at once than the descent may, is read (this project's profile).
 abbrev pub ReadsAllSpelled : Type 0

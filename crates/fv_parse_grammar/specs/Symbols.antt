@@ -70,7 +70,7 @@ head symbols.Vgroup = heads.Panel panels.Vertical
 head symbols.Tgroup = heads.Panel panels.Tabs
 head t = heads.Nothing
 
--- how an operator of expressions ranks: in a pattern it ends what stands before it
+-- how an operator of expressions powers: in a pattern it ends what stands before it
 abbrev pub outside : Operands → ℕ → ℕ
 outside operands.Patterns r = 99
 outside operands.Expressions r = r
@@ -78,34 +78,34 @@ outside operands.Expressions r = r
 -- How loosely a token joins what stands before it, in a pattern or not, where commas join or not:
 -- an operator of precedence h has 1 + h, a postfix has 1, what a sign would swallow has 0, and what ends every phrase has 99.
 -- (Faust manual, priorities and associations)
-abbrev pub rank : Operands → Commas → Symbol → ℕ
-rank kind comma (symbols.Name n) = 0
-rank kind comma (symbols.Integer n) = 0
-rank kind comma symbols.Tick = outside kind 1
-rank kind comma symbols.Open = outside kind 1
-rank kind comma symbols.At = outside kind 2
-rank kind comma symbols.Times = outside kind 3
-rank kind comma symbols.Divide = outside kind 3
-rank kind comma symbols.Percent = outside kind 3
-rank kind comma symbols.Ampersand = outside kind 3
-rank kind comma symbols.Xor = outside kind 3
-rank kind comma symbols.ShiftLeft = outside kind 3
-rank kind comma symbols.ShiftRight = outside kind 3
-rank kind comma symbols.Plus = outside kind 4
-rank kind comma symbols.Minus = outside kind 4
-rank kind comma symbols.Bar = outside kind 4
-rank kind comma symbols.Less = outside kind 5
-rank kind comma symbols.LessEqual = outside kind 5
-rank kind comma symbols.Greater = outside kind 5
-rank kind comma symbols.GreaterEqual = outside kind 5
-rank kind comma symbols.EqualEqual = outside kind 5
-rank kind comma symbols.NotEqual = outside kind 5
-rank kind comma symbols.Tilde = 6
-rank kind commas.Join symbols.Comma = 7
-rank kind comma symbols.Colon = 8
-rank kind comma symbols.Split = 9
-rank kind comma symbols.Merge = 9
-rank kind comma t = 99
+abbrev pub power : Operands → Commas → Symbol → ℕ
+power kind comma (symbols.Name n) = 0
+power kind comma (symbols.Integer n) = 0
+power kind comma symbols.Tick = outside kind 1
+power kind comma symbols.Open = outside kind 1
+power kind comma symbols.At = outside kind 2
+power kind comma symbols.Times = outside kind 3
+power kind comma symbols.Divide = outside kind 3
+power kind comma symbols.Percent = outside kind 3
+power kind comma symbols.Ampersand = outside kind 3
+power kind comma symbols.Xor = outside kind 3
+power kind comma symbols.ShiftLeft = outside kind 3
+power kind comma symbols.ShiftRight = outside kind 3
+power kind comma symbols.Plus = outside kind 4
+power kind comma symbols.Minus = outside kind 4
+power kind comma symbols.Bar = outside kind 4
+power kind comma symbols.Less = outside kind 5
+power kind comma symbols.LessEqual = outside kind 5
+power kind comma symbols.Greater = outside kind 5
+power kind comma symbols.GreaterEqual = outside kind 5
+power kind comma symbols.EqualEqual = outside kind 5
+power kind comma symbols.NotEqual = outside kind 5
+power kind comma symbols.Tilde = 6
+power kind commas.Join symbols.Comma = 7
+power kind comma symbols.Colon = 8
+power kind comma symbols.Split = 9
+power kind comma symbols.Merge = 9
+power kind comma t = 99
 
 -- the operator that a token is
 abbrev pub operator : Symbol → Operator

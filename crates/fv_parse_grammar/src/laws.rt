@@ -3,7 +3,7 @@
 ghost use Rattle.fv_parse_grammar.specs.Grammar.{SpelledOnce};
 ghost use Rattle.fv_parse_grammar.specs.Laws.{ReadsOnlySpelled, ReadsAllSpelled, NestsWithinLength};
 
-/// Tokens spell at most one program, so how operators rank and associate is settled.
+/// Tokens spell at most one program, so how operators power and associate is settled.
 pub fn spelled_once()
     ensures { SpelledOnce }
 {}
@@ -12,5 +12,5 @@ pub fn spelled_once()
 pub fn reads_what_is_spelled()
     ensures sound { ReadsOnlySpelled }
     ensures complete { ReadsAllSpelled }
-    ensures room { NestsWithinLength }
+    ensures nesting { NestsWithinLength }
 {}

@@ -6,7 +6,7 @@ use Rattle.fv_lex.specs.declared.token.Symbol.{Symbol}
 use Rattle.fv_lex.specs.declared.token.Symbol.TheVariants.{Open, Close, OpenBrace, CloseBrace}
 use Rattle.fv_parse_grammar.specs.declared.symbol.Inside.{Inside}
 use Rattle.fv_parse_grammar.specs.declared.symbol.Head.TheVariants as heads
-use Rattle.fv_parse_grammar.specs.Symbols.{head, rank}
+use Rattle.fv_parse_grammar.specs.Symbols.{head, power}
 use Rattle.fv_parse_grammar.specs.Nesting.{Nests}
 use Rattle.fv_parse_grammar.specs.Descent.{Step, ◌>>=◌, Reader}
 use Rattle.fv_parse_grammar.specs.declared.symbol.Operands.{Operands}
@@ -199,7 +199,8 @@ pub no_bracket : {k : Fork} {d : ℕ} {t : Symbol} → ((p : List Symbol) → Ne
 no_bracket h = record { passed = λ p low n. (low, h p n) }
 
 -- an operator is no bracket
-pub operator_passing : {k : Fork} {d : ℕ} (kind : Operands) (comma : Commas) (t : Symbol) → 1 < rank kind comma t → rank kind comma t < 99 → Passing k d d t
+pub operator_passing : {k : Fork} {d : ℕ} (kind : Operands) (comma : Commas) (t : Symbol) → 1 < power kind comma t
+    → power kind comma t < 99 → Passing k d d t
 operator_passing operands.Patterns comma Open loose tight = absurd (omega arith)
 operator_passing operands.Expressions comma Open loose tight = absurd (omega arith)
 operator_passing kind comma OpenBrace loose tight = absurd (omega arith)

@@ -8,13 +8,14 @@ use Rattle.fv_lex.specs.declared.token.Symbol.TheVariants as symbols
 use Rattle.fv_parse_grammar.specs.declared.symbol.Head.{Head}
 use Rattle.fv_parse_grammar.specs.declared.symbol.Head.TheVariants as heads
 use Rattle.fv_parse_grammar.specs.declared.symbol.Inside.TheVariants as insides
-use Rattle.fv_parse_grammar.specs.Symbols.{head, rank, is_left}
+use Rattle.fv_parse_grammar.specs.Symbols.{head, power, is_left}
 use Rattle.fv_parse_grammar.specs.Tree.{Tree}
 use Rattle.fv_parse_grammar.specs.Grammar.{Expression, Phrase, Postfix, Atom, plain, qualified, tighter, leftward, rightward, operand, pattern_operand, bare, delayed}
 use Rattle.fv_parse_grammar.specs.Grammar.{applied, atom_number, atom_plus_number, atom_minus_number, atom_name, atom_grouped}
 use Rattle.fv_parse_grammar.specs.Descent as descent
 use Rattle.fv_parse_grammar.specs.declared.symbol.Mark.TheVariants as marks
-use Rattle.fv_parse_grammar.specs.Descent.{Step, ◌>>=◌, Turn, Done, Reader, rank_at, primary, postfix, postfix_turn, atom_by_head, atom, rights, chain, phrase}
+use Rattle.fv_parse_grammar.specs.Descent.{Step, ◌>>=◌, Turn, Done, Reader, power_at, primary, postfix, postfix_turn, atom_by_head, atom}
+use Rattle.fv_parse_grammar.specs.Descent.{rights, chain, phrase}
 use Rattle.fv_parse_grammar.specs.Descent.{left_turn, expression, with_turn}
 use Rattle.fv_parse_prefixes.proofs.Plans.{both, nought, signed, Onward, stay, onward, Spelled, spelled, Nothing, Sign, Inner, Joined, APostfix, APrimary, AnAtom}
 use Rattle.fv_parse_prefixes.proofs.Plans.{GoesOn, Then, Spans, Takes, stuck, behind, next, made, done, joins, as_takes, as_plan, onward_from, unread, one_taken}
@@ -98,10 +99,11 @@ operand_reads inner reads operands.Patterns comma ts = as_plan (Joined operands.
 operand_reads inner reads operands.Expressions comma ts = as_plan (Joined operands.Expressions comma zero) (postfix_reads inner reads ts) (is_operand comma)
 
 -- ---- operators
-operator_rank : (kind : Operands) (comma : Commas) (h : ℕ) (ts : List Symbol)
-    → h < 8 → nat_eq (rank_at kind comma ts) (suc (suc h)) ≡ true → (t : Symbol) × (ts ≡ t ∷ drop 1 ts) × (rank kind comma t ≡ suc (suc h))
-operator_rank kind comma h [] small e = let p : rank_at kind comma [] ≡ suc (suc h) = eqb-true (rank_at kind comma []) (suc (suc h)) e in absurd (omega arith)
-operator_rank kind comma h (t ∷ ts) small e = (t, refl, eqb-true (rank kind comma t) (suc (suc h)) e)
+operator_power : (kind : Operands) (comma : Commas) (h : ℕ) (ts : List Symbol)
+    → h < 8 → nat_eq (power_at kind comma ts) (suc (suc h)) ≡ true → (t : Symbol) × (ts ≡ t ∷ drop 1 ts) × (power kind comma t ≡ suc (suc h))
+operator_power kind comma h [] small e = let p : power_at kind comma [] ≡ suc (suc h) = eqb-true (power_at kind comma []) (suc (suc h)) e in
+    absurd (omega arith)
+operator_power kind comma h (t ∷ ts) small e = (t, refl, eqb-true (power kind comma t) (suc (suc h)) e)
 
 sign_taken : (t : Symbol) (ts : List Symbol) → ts ≡ t ∷ drop 1 ts → Takes (Spans (Sign t)) ts (drop 1 ts)
 sign_taken t ts e = record { used = t ∷ []; whole = e; spans = λ tail. signed }
@@ -109,28 +111,28 @@ sign_taken t ts e = record { used = t ∷ []; whole = e; spans = λ tail. signed
 is_tighter : (kind : Operands) (comma : Commas) (h : ℕ) (a b : List Symbol) → Spelled (Phrase kind comma h) a b → Spelled (Phrase kind comma (suc h)) a b
 is_tighter kind comma h a b (spelled x) = spelled (tighter x)
 
-is_leftward : (kind : Operands) (comma : Commas) (h : ℕ) (t : Symbol) → h < 8 → is_left (suc h) ≡ true → rank kind comma t ≡ suc (suc h)
+is_leftward : (kind : Operands) (comma : Commas) (h : ℕ) (t : Symbol) → h < 8 → is_left (suc h) ≡ true → power kind comma t ≡ suc (suc h)
     → (a b : List Symbol) → Spans (Then (Joined kind comma (suc h)) (Then (Sign t) (Joined kind comma h))) a b → Spelled (Phrase kind comma (suc h)) a b
-is_leftward kind comma h t small left ranked a b (both (spelled x) (both signed (spelled y))) = spelled (leftward t small left ranked x y)
+is_leftward kind comma h t small left powered a b (both (spelled x) (both signed (spelled y))) = spelled (leftward t small left powered x y)
 
 left_turns : (part : List Symbol → Step Tree) (kind : Operands) (comma : Commas) (h : ℕ)
     → h < 8 → is_left (suc h) ≡ true → ((ts : List Symbol) → Reads (Joined kind comma h) ts (part ts))
     → (start : ℕ) (all : List Symbol) (x : Tree) (ts : List Symbol)
     → Takes (Spans (Joined kind comma (suc h))) all ts → Turns (Joined kind comma (suc h)) all (left_turn part kind comma (suc (suc h)) start x ts)
-left_turns part kind comma h small left reads start all x ts s = turn_by_test (nat_eq (rank_at kind comma ts) (suc (suc h)))
-    (λ on. let (t, is, ranked) = operator_rank kind comma h ts small on in
+left_turns part kind comma h small left reads start all x ts s = turn_by_test (nat_eq (power_at kind comma ts) (suc (suc h)))
+    (λ on. let (t, is, powered) = operator_power kind comma h ts small on in
     turn_of _ (as_plan (Joined kind comma (suc h))
-    (behind (Joined kind comma (suc h)) s (behind (Sign t) (sign_taken t ts is) (reads (drop 1 ts)))) (is_leftward kind comma h t small left ranked)))
+    (behind (Joined kind comma (suc h)) s (behind (Sign t) (sign_taken t ts is) (reads (drop 1 ts)))) (is_leftward kind comma h t small left powered)))
     (λ off. no_turn)
 
 is_rightward : (kind : Operands) (comma : Commas) (h : ℕ) → h < 8
     → is_left (suc h) ≡ false → (a b : List Symbol) → Spans (Then (Joined kind comma h) (GoesOn kind comma h)) a b → Spelled (Phrase kind comma (suc h)) a b
 is_rightward kind comma h small right a b (both (spelled x) stay) = spelled (tighter x)
-is_rightward kind comma h small right a b (both (spelled x) (onward t ranked (spelled y))) = spelled (rightward t small right ranked x y)
+is_rightward kind comma h small right a b (both (spelled x) (onward t powered (spelled y))) = spelled (rightward t small right powered x y)
 
 goes_on : (kind : Operands) (comma : Commas) (h : ℕ) (t : Symbol)
-    → rank kind comma t ≡ suc (suc h) → (a b : List Symbol) → Spans (Then (Sign t) (Joined kind comma (suc h))) a b → Onward kind comma h a b
-goes_on kind comma h t ranked a b (both signed y) = onward t ranked y
+    → power kind comma t ≡ suc (suc h) → (a b : List Symbol) → Spans (Then (Sign t) (Joined kind comma (suc h))) a b → Onward kind comma h a b
+goes_on kind comma h t powered a b (both signed y) = onward t powered y
 
 stays_there : (kind : Operands) (comma : Commas) (h : ℕ) (a b : List Symbol) → Spans Nothing a b → Onward kind comma h a b
 stays_there kind comma h a b nought = stay
@@ -142,10 +144,10 @@ unfolding rights
 rights_read part kind comma h small right reads zero ts = unread (Joined kind comma (suc h))
 rights_read part kind comma h small right reads (suc k) ts = by_test (nat_lt (length ts) k)
     (λ _. rights_read part kind comma h small right reads k ts)
-    (λ _. as_plan (Joined kind comma (suc h)) (next (reads ts) (λ x. by_test (nat_eq (rank_at kind comma x.1) (suc (suc h)))
-    (λ on. let (t, is, ranked) = operator_rank kind comma h x.1 small on in
+    (λ _. as_plan (Joined kind comma (suc h)) (next (reads ts) (λ x. by_test (nat_eq (power_at kind comma x.1) (suc (suc h)))
+    (λ on. let (t, is, powered) = operator_power kind comma h x.1 small on in
     as_plan (GoesOn kind comma h) (made (behind (Sign t) (sign_taken t x.1 is) (rights_read part kind comma h small right reads k (drop 1 x.1))) (λ y. done))
-    (goes_on kind comma h t ranked))
+    (goes_on kind comma h t powered))
     (λ off. as_plan (GoesOn kind comma h) done (stays_there kind comma h)))) (is_rightward kind comma h small right))
 
 pub phrase_reads : (inner : Reader) → ReadsInside inner

@@ -7,10 +7,11 @@ use Rattle.fv_lex.specs.declared.token.Symbol.TheVariants.{Integer, Open, With, 
 use Rattle.fv_parse_grammar.specs.declared.symbol.Head.{Head}
 use Rattle.fv_parse_grammar.specs.declared.symbol.Head.TheVariants as heads
 use Rattle.fv_parse_grammar.specs.declared.symbol.Inside.TheVariants as insides
-use Rattle.fv_parse_grammar.specs.Symbols.{head, rank, operator, is_left}
+use Rattle.fv_parse_grammar.specs.Symbols.{head, power, operator, is_left}
 use Rattle.fv_parse_grammar.specs.Tree.{Tree, Delayed, Apply, Binary, Where}
 use Rattle.fv_parse_grammar.specs.declared.symbol.Mark.TheVariants as marks
-use Rattle.fv_parse_grammar.specs.Descent.{Step, ◌>>=◌, Turn, Done, turn, run, Reader, rank_at, expect, enclosed, plus_number, minus_number, postfix, postfix_turn}
+use Rattle.fv_parse_grammar.specs.Descent.{Step, ◌>>=◌, Turn, Done, turn, run, Reader, power_at, expect, enclosed, plus_number}
+use Rattle.fv_parse_grammar.specs.Descent.{minus_number, postfix, postfix_turn}
 use Rattle.fv_parse_grammar.specs.Descent.{atom_by_head, atom, operand, chain, phrase, left_turn, expression, with_turn}
 use Rattle.fv_parse_grammar.proofs.Loops.{run_next, run_done, run_stop, joined, chain_next, chain_done, chain_stop}
 use Rattle.fv_parse_prefixes.proofs.Agreement.{Fork, Same, remains, BothRead, also, given, halted, both_test, of_test, of_equal, unrolled, Looks, takes, stays_at}
@@ -109,12 +110,13 @@ module _ {k : Fork} {d : ℕ} {inner inner' : Reader} (inside : AgreesInside k (
 record AgreesPart (k : Fork) (d : ℕ) (part part' : List Symbol → Step Tree) : Type 0 where
   agree : (ts us : List Symbol) → Same k d ts us → BothRead k d ts (part ts) (part' us)
 
-ranked : (kind : Operands) (comma : Commas) (h : ℕ) (t : Symbol) → nat_eq (rank kind comma t) (suc (suc h)) ≡ true → rank kind comma t ≡ suc (suc h)
-ranked kind comma h t e = eqb-true (rank kind comma t) (suc (suc h)) e
+powered : (kind : Operands) (comma : Commas) (h : ℕ) (t : Symbol) → nat_eq (power kind comma t) (suc (suc h)) ≡ true
+    → power kind comma t ≡ suc (suc h)
+powered kind comma h t e = eqb-true (power kind comma t) (suc (suc h)) e
 
-no_rank : (kind : Operands) (comma : Commas) (h : ℕ) → h < 8 → nat_eq (rank_at kind comma []) (suc (suc h)) ≡ false
-no_rank kind comma h small = of_test (nat_eq (rank_at kind comma []) (suc (suc h)))
-    (λ on. let p : rank_at kind comma [] ≡ suc (suc h) = eqb-true (rank_at kind comma []) (suc (suc h)) on in absurd (omega arith))
+no_power : (kind : Operands) (comma : Commas) (h : ℕ) → h < 8 → nat_eq (power_at kind comma []) (suc (suc h)) ≡ false
+no_power kind comma h small = of_test (nat_eq (power_at kind comma []) (suc (suc h)))
+    (λ on. let p : power_at kind comma [] ≡ suc (suc h) = eqb-true (power_at kind comma []) (suc (suc h)) on in absurd (omega arith))
     (λ off. off)
 
 -- to the left
@@ -124,8 +126,8 @@ left_look : {k : Fork} {d : ℕ} {part part' : List Symbol → Step Tree}
     → (x y : Tree) (t : Symbol) (ts us : List Symbol) → length (t ∷ ts) ≤ n
     → Looks k d d (λ z. z.1) t ts us
     (run (left_turn part kind comma (suc (suc h)) start) x (t ∷ ts)) (run (left_turn part' kind comma (suc (suc h)) start') y (t ∷ us))
-left_look {part = part} {part' = part'} parts kind comma h small start start' n go x y t ts us few = of_test (nat_eq (rank kind comma t) (suc (suc h)))
-    (λ on. let r = ranked kind comma h t on in takes _ (operator_passing kind comma t (omega arith) (omega arith))
+left_look {part = part} {part' = part'} parts kind comma h small start start' n go x y t ts us few = of_test (nat_eq (power kind comma t) (suc (suc h)))
+    (λ on. let r = powered kind comma h t on in takes _ (operator_passing kind comma t (omega arith) (omega arith))
     (λ s. turn_both n (left_turn part kind comma (suc (suc h)) start) (left_turn part' kind comma (suc (suc h)) start') x y t ts us (part ts) (part' us)
     (λ z. Binary start (operator t) x z) (λ z. Binary start' (operator t) y z) go few (rw on refl) (rw on refl) s (parts.agree ts us s)))
     (λ off. stays_at (λ s. of_equal (run_done (left_turn part kind comma (suc (suc h)) start) x (t ∷ ts) (rw off refl))
@@ -133,17 +135,18 @@ left_look {part = part} {part' = part'} parts kind comma h small start start' n 
 
 -- to the right: an operator behind a part, and what follows it
 abbrev behind_part : (List Symbol → Step Tree) → Operands → Commas → ℕ → List Symbol → Tree → List Symbol → Step Tree
-behind_part part kind comma r all x at = cond (nat_eq (rank_at kind comma at) r) (joined all at x (chain part kind comma r (drop 1 at))) (Ok (x, at))
+behind_part part kind comma r all x at = cond (nat_eq (power_at kind comma at) r) (joined all at x (chain part kind comma r (drop 1 at))) (Ok (x, at))
 
 operator_fewer : (kind : Operands) (comma : Commas) (h : ℕ) (at : List Symbol)
-    → h < 8 → nat_eq (rank_at kind comma at) (suc (suc h)) ≡ true → length (drop 1 at) < length at
-operator_fewer kind comma h [] small e = let p : rank_at kind comma [] ≡ suc (suc h) = eqb-true (rank_at kind comma []) (suc (suc h)) e in absurd (omega arith)
+    → h < 8 → nat_eq (power_at kind comma at) (suc (suc h)) ≡ true → length (drop 1 at) < length at
+operator_fewer kind comma h [] small e = let p : power_at kind comma [] ≡ suc (suc h) = eqb-true (power_at kind comma []) (suc (suc h)) e in
+    absurd (omega arith)
 operator_fewer kind comma h (t ∷ ts) small e = omega arith
 
 chain_law : (part : List Symbol → Step Tree) (kind : Operands) (comma : Commas) (h : ℕ)
     → h < 8 → (ts : List Symbol) (q : Step Tree) → part ts ≡ q → length (remains (λ z. z.1) q) ≤ length ts
     → chain part kind comma (suc (suc h)) ts ≡ (q >>= λ x. behind_part part kind comma (suc (suc h)) ts x.0 x.1)
-chain_law part kind comma h small ts (Ok x) e few = of_test (nat_eq (rank_at kind comma x.1) (suc (suc h)))
+chain_law part kind comma h small ts (Ok x) e few = of_test (nat_eq (power_at kind comma x.1) (suc (suc h)))
     (λ on. let f = operator_fewer kind comma h x.1 small on in chain_next part kind comma (suc (suc h)) ts x.0 x.1 e on (omega arith) ∙ rw on refl)
     (λ off. chain_done part kind comma (suc (suc h)) ts x.0 x.1 e off ∙ rw off refl)
 chain_law part kind comma h small ts (Err at) e few = chain_stop part kind comma (suc (suc h)) ts at e
@@ -160,8 +163,8 @@ behind_look : {k : Fork} {d : ℕ} (part part' : List Symbol → Step Tree) (kin
     → h < 8 → (n : ℕ) → ChainsAgree k d part part' kind comma (suc (suc h)) n
     → (all all' : List Symbol) (x y : Tree) (t : Symbol) (ts us : List Symbol) → length (t ∷ ts) ≤ n
     → Looks k d d (λ z. z.1) t ts us (behind_part part kind comma (suc (suc h)) all x (t ∷ ts)) (behind_part part' kind comma (suc (suc h)) all' y (t ∷ us))
-behind_look part part' kind comma h small n go all all' x y t ts us few = of_test (nat_eq (rank kind comma t) (suc (suc h)))
-    (λ on. let r = ranked kind comma h t on in takes _ (operator_passing kind comma t (omega arith) (omega arith))
+behind_look part part' kind comma h small n go all all' x y t ts us few = of_test (nat_eq (power kind comma t) (suc (suc h)))
+    (λ on. let r = powered kind comma h t on in takes _ (operator_passing kind comma t (omega arith) (omega arith))
     (λ s. of_equal (rw on refl) (rw on refl) (joined_both all all' (t ∷ ts) (t ∷ us) x y (go ts us (omega arith) s))))
     (λ off. stays_at (λ s. of_equal (rw off refl) (rw off refl) (given {x = (x, t ∷ ts)} {y = (y, t ∷ us)} s)))
 
@@ -174,7 +177,7 @@ chain_among k d part part' parts kind comma h small (suc n) ts us few same =
     (λ le. chain_law part kind comma h small ts (part ts) refl le)
     (λ le. chain_law part' kind comma h small us (part' us) refl le)
     (λ x y le s. looked_among n (behind_part part kind comma (suc (suc h)) ts x.0)
-    (behind_part part' kind comma (suc (suc h)) us y.0) (let off = no_rank kind comma h small in rw off refl)
+    (behind_part part' kind comma (suc (suc h)) us y.0) (let off = no_power kind comma h small in rw off refl)
     (behind_look part part' kind comma h small n (chain_among k d part part' parts kind comma h small n) ts us x.0 y.0) (omega arith) s)
 
 pub phrase_both : {k : Fork} {d : ℕ} {inner inner' : Reader}
@@ -188,7 +191,7 @@ phrase_both {k = k} {d = d} {inner = inner} {inner' = inner'} inside kind comma 
     (λ left. also (parts.agree ts us same) (λ x y s. turns_among _ _ (left_turn (phrase inner kind comma h) kind comma (suc (suc h)) (length ts))
     (left_turn (phrase inner' kind comma h) kind comma (suc (suc h)) (length us))
     (left_look parts kind comma h (omega arith) (length ts) (length us))
-    (λ z. let off = no_rank kind comma h (omega arith) in rw off refl) (suc (length x.1)) x.0 y.0 x.1 y.1 (omega arith) s))
+    (λ z. let off = no_power kind comma h (omega arith) in rw off refl) (suc (length x.1)) x.0 y.0 x.1 y.1 (omega arith) s))
     (λ right. chain_among _ _ (phrase inner kind comma h)
     (phrase inner' kind comma h) parts kind comma h (omega arith) (suc (length ts)) ts us (omega arith) same)
 

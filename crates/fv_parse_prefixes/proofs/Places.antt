@@ -57,32 +57,36 @@ not_alike k (Err at) s (beyond le) e x f =
 none_goes_on : ReadsAllSpelled → NestsWithinLength → (limit : ℕ) (before rest more : List Symbol) (t : Symbol) (x : Tree)
     → Nests limit 0 before → program limit (before ++ t ∷ rest) ≡ Err (t ∷ rest) → SpellsProgram (before ++ t ∷ more) x → ⊥
 unfolding program
-none_goes_on reads room limit before rest more t x n e p =
+none_goes_on reads nesting limit before rest more t x n e p =
     let k : Fork = record { limit = limit; token = t; one = rest; other = more } in
     let big = limit + length (before ++ t ∷ more) in
     let a : BothRead k 0 (before ++ t ∷ rest) (further (within limit) Statements (before ++ t ∷ rest)) (further (within big) Statements (before ++ t ∷ more))
     = further_both (within_both k limit big 0 (omega arith) (omega arith)) Statements (abreast before (omega arith) n) in
-    not_alike k _ _ a.alike e x (reads big (before ++ t ∷ more) x p (room big (before ++ t ∷ more) (omega arith)))
+    not_alike k _ _ a.alike e x (reads big (before ++ t ∷ more) x p (nesting big (before ++ t ∷ more) (omega arith)))
 
 pub stops_where_none_goes_on : ReadsAllSpelled → NestsWithinLength → StopsWhereNoneGoesOn
-stops_where_none_goes_on reads room limit before rest t n e (more, x, p) =
-    none_goes_on reads room limit before rest more t x n e (subst (λ l. SpellsProgram l x) (append_assoc before (t ∷ []) more) p)
+stops_where_none_goes_on reads nesting limit before rest t n e (more, x, p) =
+    none_goes_on reads nesting limit before rest more t x n e (subst (λ l. SpellsProgram l x) (append_assoc before (t ∷ []) more) p)
 
 -- ---- the place
 is_place : ReadsAllSpelled → NestsWithinLength → (limit : ℕ) (before rest : List Symbol)
     → Nests limit 0 (before ++ rest) → program limit (before ++ rest) ≡ Err rest → IsViablePrefix before → IsErrorPlace before rest
-is_place reads room limit before [] n e b = (
+is_place reads nesting limit before [] n e b = (
   b,
   λ x p.
       let q : program limit (before ++ []) ≡ Ok x = reads limit (before ++ []) x (subst (λ l. SpellsProgram l x) (sym (append-nil before)) p) n in
       absurd cc,
 )
-is_place reads room limit before (t ∷ rest) n e b = (b, stops_where_none_goes_on reads room limit before rest t (nests_before limit 0 before (t ∷ rest) n) e)
+is_place reads nesting limit before (t ∷ rest) n e b = (
+  b,
+  stops_where_none_goes_on reads nesting limit before rest t
+      (nests_before limit 0 before (t ∷ rest) n) e,
+)
 
 pub stops_at_the_place : ReadsAllSpelled → NestsWithinLength → StopsAtThePlace
-stops_at_the_place reads room limit ts rest n e =
+stops_at_the_place reads nesting limit ts rest n e =
     let (before, is, b) = stops_behind_a_beginning limit ts rest e in
-    (before, is, is_place reads room limit before rest (subst (λ l. Nests limit 0 l) is n) (subst (λ l. program limit l ≡ Err rest) is e) b)
+    (before, is, is_place reads nesting limit before rest (subst (λ l. Nests limit 0 l) is n) (subst (λ l. program limit l ≡ Err rest) is e) b)
 
 -- ---- one place
 -- of two beginnings of one list the shorter goes on

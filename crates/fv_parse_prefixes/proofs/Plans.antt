@@ -7,7 +7,7 @@ use Rattle.fv_parse_grammar.specs.declared.symbol.Inside.{Inside}
 use Rattle.fv_parse_grammar.specs.declared.symbol.Inside.TheVariants as insides
 use Rattle.fv_parse_grammar.specs.declared.symbol.Items.{Items}
 use Rattle.fv_parse_grammar.specs.declared.symbol.Items.TheVariants.{Parts}
-use Rattle.fv_parse_grammar.specs.Symbols.{rank}
+use Rattle.fv_parse_grammar.specs.Symbols.{power}
 use Rattle.fv_parse_grammar.specs.Tree.{Tree}
 use Rattle.fv_parse_grammar.specs.Grammar.{Level, Further, Definition, Expression, Listed, OneRule, Phrase, Postfix, Primary, Atom, SpellsNames, one_name, Spells}
 use Rattle.fv_parse_grammar.specs.Grammar.{no_more, first_rule, first_part, constant, rule, plain, tighter, operand, pattern_operand, bare, named, atom_name}
@@ -54,7 +54,7 @@ pub record Adds (items : Items) (ts mid : List Symbol) : Type 0 where
 pub data Onward (kind : Operands) (comma : Commas) (h : ℕ) : List Symbol → List Symbol → Type 0 where
   stay : {ts : List Symbol} → Onward kind comma h ts ts
   onward : {mid rest : List Symbol} (t : Symbol)
-      → rank kind comma t ≡ suc (suc h) → Spelled (Phrase kind comma (suc h)) mid rest → Onward kind comma h (t ∷ mid) rest
+      → power kind comma t ≡ suc (suc h) → Spelled (Phrase kind comma (suc h)) mid rest → Onward kind comma h (t ∷ mid) rest
 
 -- one and then the other
 pub data Both (P Q : Span) : List Symbol → List Symbol → Type 0 where

@@ -184,21 +184,21 @@ module _ (inner : Reader) (reads : ReadsInside inner) where
       next (phrase_reads inner reads kind commas.Separate 8 (omega arith) ts) (λ x. made (further_reads inner reads (Parts kind) x.1) (λ y. done))
 
 -- ---- inside brackets
-within_reads : (room : ℕ) → ReadsInside (within room)
+within_reads : (nesting : ℕ) → ReadsInside (within nesting)
 unfolding within
 within_reads zero what ts = unread (Inner what)
-within_reads (suc room) insides.Expression ts = expression_reads (within room) (within_reads room) ts
-within_reads (suc room) insides.Argument ts =
-    as_plan (Inner insides.Argument) (phrase_reads (within room) (within_reads room) operands.Expressions commas.Separate 8 (omega arith) ts) (λ a b s. s)
-within_reads (suc room) insides.Pattern ts =
-    as_plan (Inner insides.Pattern) (phrase_reads (within room) (within_reads room) operands.Patterns commas.Join 8 (omega arith) ts) (λ a b s. s)
-within_reads (suc room) insides.Arguments ts =
-    as_plan (Inner insides.Arguments) (parts_read (within room) (within_reads room) operands.Expressions ts) (lists_parts operands.Expressions)
-within_reads (suc room) insides.Patterns ts =
-    as_plan (Inner insides.Patterns) (parts_read (within room) (within_reads room) operands.Patterns ts) (lists_parts operands.Patterns)
-within_reads (suc room) insides.Rules ts = as_plan (Inner insides.Rules) (rules_read (within room) (within_reads room) ts) lists_rules
-within_reads (suc room) insides.Definitions ts =
-    as_plan (Inner insides.Definitions) (further_reads (within room) (within_reads room) Definitions ts) (λ a b s. s)
+within_reads (suc nesting) insides.Expression ts = expression_reads (within nesting) (within_reads nesting) ts
+within_reads (suc nesting) insides.Argument ts =
+    as_plan (Inner insides.Argument) (phrase_reads (within nesting) (within_reads nesting) operands.Expressions commas.Separate 8 (omega arith) ts) (λ a b s. s)
+within_reads (suc nesting) insides.Pattern ts =
+    as_plan (Inner insides.Pattern) (phrase_reads (within nesting) (within_reads nesting) operands.Patterns commas.Join 8 (omega arith) ts) (λ a b s. s)
+within_reads (suc nesting) insides.Arguments ts =
+    as_plan (Inner insides.Arguments) (parts_read (within nesting) (within_reads nesting) operands.Expressions ts) (lists_parts operands.Expressions)
+within_reads (suc nesting) insides.Patterns ts =
+    as_plan (Inner insides.Patterns) (parts_read (within nesting) (within_reads nesting) operands.Patterns ts) (lists_parts operands.Patterns)
+within_reads (suc nesting) insides.Rules ts = as_plan (Inner insides.Rules) (rules_read (within nesting) (within_reads nesting) ts) lists_rules
+within_reads (suc nesting) insides.Definitions ts =
+    as_plan (Inner insides.Definitions) (further_reads (within nesting) (within_reads nesting) Definitions ts) (λ a b s. s)
 
 -- ---- the whole program
 stops_behind : (ts : List Symbol) (x : Tree) (left rest : List Symbol)
@@ -216,8 +216,8 @@ begins ts (more, spelled x) = (more, _, x)
 
 pub stops_behind_a_beginning : StopsBehindABeginning
 unfolding program
-stops_behind_a_beginning room ts rest e =
-    let s = stops ts (further (within room) Statements ts) rest (further_reads (within room) (within_reads room) Statements ts) e in
+stops_behind_a_beginning nesting ts rest e =
+    let s = stops ts (further (within nesting) Statements ts) rest (further_reads (within nesting) (within_reads nesting) Statements ts) e in
     (s.used, s.whole, begins s.used (s.completed []))
 
 -- ---- beginnings

@@ -183,14 +183,14 @@ module _ {k : Fork} {d : ℕ} {inner inner' : Reader} (inside : AgreesInside k (
   descend_both insides.Definitions same = further_both Definitions same
 
 -- where no bracket may be opened the token is passed, or more are open than may be
-no_room : {k : Fork} {d : ℕ} {ts us : List Symbol} (s : Step Tree) → d ≡ k.limit → Same k (suc d) ts us → BothRead k (suc d) ts (Err ts) s
-no_room s e (abreast p low n) = absurd (omega arith)
-no_room s e (past le) = record { fewer = omega arith; alike = beyond le }
+no_nesting : {k : Fork} {d : ℕ} {ts us : List Symbol} (s : Step Tree) → d ≡ k.limit → Same k (suc d) ts us → BothRead k (suc d) ts (Err ts) s
+no_nesting s e (abreast p low n) = absurd (omega arith)
+no_nesting s e (past le) = record { fewer = omega arith; alike = beyond le }
 
 -- The one may open as many brackets as the limit leaves, and the other at least as many.
-pub within_both : (k : Fork) (room more d : ℕ) → room + d ≡ k.limit → room ≤ more → AgreesInside k (suc d) (within room) (within more)
+pub within_both : (k : Fork) (nesting more d : ℕ) → nesting + d ≡ k.limit → nesting ≤ more → AgreesInside k (suc d) (within nesting) (within more)
 unfolding within
-within_both k zero more d e le = record { agree = λ what same. no_room _ (omega arith) same }
-within_both k (suc room) zero d e le = absurd (omega arith)
-within_both k (suc room) (suc more) d e le =
-    record { agree = λ what same. descend_both (within_both k room more (suc d) (omega arith) (omega arith)) what same }
+within_both k zero more d e le = record { agree = λ what same. no_nesting _ (omega arith) same }
+within_both k (suc nesting) zero d e le = absurd (omega arith)
+within_both k (suc nesting) (suc more) d e le =
+    record { agree = λ what same. descend_both (within_both k nesting more (suc d) (omega arith) (omega arith)) what same }

@@ -8,7 +8,8 @@ use Rattle.fv_parse_grammar.specs.Descent.{program}
 
 -- Where the descent stops, however many brackets it may open, the tokens before begin a program (this project's profile).
 abbrev pub StopsBehindABeginning : Type 0
-StopsBehindABeginning = (room : ℕ) (ts rest : List Symbol) → program room ts ≡ Err rest → (before : List Symbol) × (ts ≡ before ++ rest) × IsViablePrefix before
+StopsBehindABeginning = (nesting : ℕ) (ts rest : List Symbol) → program nesting ts ≡ Err rest
+    → (before : List Symbol) × (ts ≡ before ++ rest) × IsViablePrefix before
 
 -- A beginning of what begins a program begins one too (this project's profile).
 abbrev pub BeginningsAreClosed : Type 0

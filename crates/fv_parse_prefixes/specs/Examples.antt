@@ -28,9 +28,9 @@ unfolding program within further many definition constant_after ended expression
 a_group_not_closed = refl
 
 -- `process = (_);`, where no bracket may be opened, stops behind the bracket
-no_room_for_a_group : program 0 (Name 0 ∷ Equals ∷ Open ∷ Underscore ∷ Close ∷ Semicolon ∷ []) ≡ Err (Underscore ∷ Close ∷ Semicolon ∷ [])
+no_nesting_for_a_group : program 0 (Name 0 ∷ Equals ∷ Open ∷ Underscore ∷ Close ∷ Semicolon ∷ []) ≡ Err (Underscore ∷ Close ∷ Semicolon ∷ [])
 unfolding program within further many definition constant_after ended expression phrase chain rights postfix by_head turns run
-no_room_for_a_group = refl
+no_nesting_for_a_group = refl
 
 -- no definition begins with `,`
 no_definition : {ts rest : List Symbol} {x : Tree} → Spells Definition (Comma ∷ ts) x rest → ⊥

@@ -12,7 +12,7 @@ use Rattle.fv_parse_tree.specs.declared.reader.Reader.{Reader}
 use Rattle.fv_parse_tree.specs.declared.reader.Stop.{Stop}
 use Rattle.fv_parse_grammar.specs.Tree.{Tree, End}
 use Rattle.fv_parse_grammar.specs.Symbols.{is_left}
-use Rattle.fv_parse_grammar.specs.Descent.{Step, ◌>>=◌, run, chain, rank_at, operand, phrase, left_turn, descend, within, further, item}
+use Rattle.fv_parse_grammar.specs.Descent.{Step, ◌>>=◌, run, chain, power_at, operand, phrase, left_turn, descend, within, further, item}
 use Rattle.fv_parse_grammar.specs.Descent.{Reader as Descent}
 use Rattle.fv_parse_grammar.proofs.Complete.{lower}
 use Rattle.fv_parse_grammar.proofs.Loops.{chain_next, chain_done, all_of}
@@ -23,9 +23,9 @@ use Rattle.fv_parse_grammar.specs.declared.symbol.Operands.{Operands}
 use Rattle.fv_parse_grammar.specs.declared.symbol.Commas.{Commas}
 
 -- ---- brackets
-pub no_room : (room : ℕ) (what : Inside) (ts : List Symbol) → room ≡ 0 → within room what ts ≡ Err ts
+pub no_nesting : (nesting : ℕ) (what : Inside) (ts : List Symbol) → nesting ≡ 0 → within nesting what ts ≡ Err ts
 unfolding within
-no_room room what ts e = ap (λ n. within n what ts) e
+no_nesting nesting what ts e = ap (λ n. within n what ts) e
 
 -- ---- phrases
 left_at : (inner : Descent) (kind : Operands) (comma : Commas) (k : ℕ) (ts : List Symbol) → suc k ≤ 5
@@ -92,7 +92,7 @@ module _ (part : List Symbol → Step Tree) (kind : Operands) (comma : Commas) (
       let fewer : length (drop 1 rest) < length ts = subst (λ l. length l < length ts) op.after h in
       chain_next part kind comma r ts x rest is op.there fewer ∙ rw (op.is, op.after) refl
 
-  pub right_off : nat_eq (rank_at kind comma rest) r ≡ false → chain part kind comma r ts ≡ Ok (x, rest)
+  pub right_off : nat_eq (power_at kind comma rest) r ≡ false → chain part kind comma r ts ≡ Ok (x, rest)
   right_off off = chain_done part kind comma r ts x rest is off
 
 -- ---- lists
@@ -101,9 +101,10 @@ unfolding further
 further_is inner items ts = refl
 
 -- what stands in a pair of brackets is read with one bracket less to open
-pub descended : (old new : Reader) (r : Result TreeId Stop) (room : ℕ) (what w : Inside) (ts : List Symbol) → what ≡ w → 0 < room
-    → Gives old new r (descend (within (room - 1)) w ts) → Gives old new r (within room what ts)
-descended old new r room what w ts e h g = subst (λ v. Gives old new r (within room v ts)) (sym e) (subst (λ s. Gives old new r s) (sym (lower room w ts h)) g)
+pub descended : (old new : Reader) (r : Result TreeId Stop) (nesting : ℕ) (what w : Inside) (ts : List Symbol) → what ≡ w → 0 < nesting
+    → Gives old new r (descend (within (nesting - 1)) w ts) → Gives old new r (within nesting what ts)
+descended old new r nesting what w ts e h g = subst (λ v. Gives old new r (within nesting v ts)) (sym e)
+    (subst (λ s. Gives old new r s) (sym (lower nesting w ts h)) g)
 
 -- a list that begins with nothing
 pub of_front : (ts : List Tree) (read : Step Tree) → in_front ts [] read ≡ read

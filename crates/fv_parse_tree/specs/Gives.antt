@@ -11,7 +11,7 @@ use Rattle.fv_parse_tree.specs.declared.reader.Stop.TheVariants as stops
 use Rattle.fv_parse_tree.specs.declared.text.Fault.{Fault}
 use Rattle.fv_parse_tree.specs.declared.text.Fault.TheVariants as faults
 use Rattle.fv_parse_grammar.specs.Tree.{Tree}
-use Rattle.fv_parse_grammar.specs.Descent.{Step, ◌>>=◌, Turn, Done, Next, Item, Nothing, Skip, One, rank_at, operator_at}
+use Rattle.fv_parse_grammar.specs.Descent.{Step, ◌>>=◌, Turn, Done, Next, Item, Nothing, Skip, One, power_at, operator_at}
 use Rattle.fv_parse_grammar.specs.Descent.{Stop as Halts, Fault as Refused}
 use Rattle.fv_parse_tree.specs.Arena.{tree_at, trees, forest, Keeps}
 use Rattle.fv_parse_grammar.specs.declared.symbol.Operands.{Operands}
@@ -32,16 +32,16 @@ abbrev pub Skips : (List Symbol → Bool) → Symbols → Symbols → Bool → T
 Skips test old new true = (test old.rest.now ≡ true) × (new.rest.now ≡ drop 1 old.rest.now) × (length new.rest.now < length old.rest.now)
 Skips test old new false = (test old.rest.now ≡ false) × (new.rest.now ≡ old.rest.now)
 
--- the operator of this rank was passed
+-- the operator of this power was passed
 pub record Operates (op : Operator) (kind : Operands) (comma : Commas) (wanted : ℕ) (tokens rest : List Symbol) : Type 0 where
-  pub there : nat_eq (rank_at kind comma tokens) wanted ≡ true
+  pub there : nat_eq (power_at kind comma tokens) wanted ≡ true
   pub is : op ≡ operator_at tokens
   pub after : rest ≡ drop 1 tokens
   pub shorter : length rest < length tokens
 
--- an operator of this rank was passed, if it stood there
+-- an operator of this power was passed, if it stood there
 abbrev pub IsOperatorAt : Operands → Commas → ℕ → Symbols → Symbols → Option Operator → Type 0
-IsOperatorAt kind comma wanted old new None = (nat_eq (rank_at kind comma old.rest.now) wanted ≡ false) × (new.rest.now ≡ old.rest.now)
+IsOperatorAt kind comma wanted old new None = (nat_eq (power_at kind comma old.rest.now) wanted ≡ false) × (new.rest.now ≡ old.rest.now)
 IsOperatorAt kind comma wanted old new (Some op) = Operates op kind comma wanted old.rest.now new.rest.now
 
 -- the tree was found, and those before it are still there

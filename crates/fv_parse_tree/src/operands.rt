@@ -21,64 +21,64 @@ use fv_parse_grammar::{
 impl<'a> Reader<'a> {
     /// What stands behind an open bracket. All recursion goes by here.
     #[cycle(parser)]
-    pub(crate) fn inside(&mut self, room: usize, what: Inside) -> Result<TreeId, Stop>
-        ensures is { Gives self.old self.new result (within room what self.old.symbols.rest.now) }
+    pub(crate) fn inside(&mut self, nesting: usize, what: Inside) -> Result<TreeId, Stop>
+        ensures is { Gives self.old self.new result (within nesting what self.old.symbols.rest.now) }
         ensures shorter { OnOk result (length self.new.symbols.rest.now ≤ length self.old.symbols.rest.now) }
     {
-        if room == 0 {
+        if nesting == 0 {
             return Err(Stop::Syntax);
         }
         match what {
-            Inside::Expression => self.expression(room - 1),
+            Inside::Expression => self.expression(nesting - 1),
             Inside::Argument => self.phrase(
-                room - 1,
+                nesting - 1,
                 Operands::Expressions,
                 Commas::Separate,
                 LOOSEST,
             ),
-            Inside::Pattern => self.phrase(room - 1, Operands::Patterns, Commas::Join, LOOSEST),
-            Inside::Arguments => self.listed(room - 1, Items::Parts(Operands::Expressions)),
-            Inside::Patterns => self.listed(room - 1, Items::Parts(Operands::Patterns)),
-            Inside::Rules => self.listed(room - 1, Items::Rules),
-            Inside::Definitions => self.further(room - 1, Items::Definitions, None),
+            Inside::Pattern => self.phrase(nesting - 1, Operands::Patterns, Commas::Join, LOOSEST),
+            Inside::Arguments => self.listed(nesting - 1, Items::Parts(Operands::Expressions)),
+            Inside::Patterns => self.listed(nesting - 1, Items::Parts(Operands::Patterns)),
+            Inside::Rules => self.listed(nesting - 1, Items::Rules),
+            Inside::Definitions => self.further(nesting - 1, Items::Definitions, None),
         }
     }
 
     /// What stands behind an open bracket, and the bracket that closes it.
     #[cycle(parser)]
-    pub(crate) fn enclosed(&mut self, room: usize, what: Inside) -> Result<TreeId, Stop>
-        ensures is { Gives self.old self.new result (enclosed (within room) what self.old.symbols.rest.now) }
+    pub(crate) fn enclosed(&mut self, nesting: usize, what: Inside) -> Result<TreeId, Stop>
+        ensures is { Gives self.old self.new result (enclosed (within nesting) what self.old.symbols.rest.now) }
         ensures shorter { OnOk result (length self.new.symbols.rest.now < length self.old.symbols.rest.now) }
     {
-        let tree = self.inside(room, what)?;
+        let tree = self.inside(nesting, what)?;
         self.symbols.take(Mark::Close)?;
         Ok(tree)
     }
 
     /// An argument, and the comma behind it.
     #[cycle(parser)]
-    fn argument(&mut self, room: usize) -> Result<TreeId, Stop>
-        ensures is { Gives self.old self.new result (argument (within room) self.old.symbols.rest.now) }
+    fn argument(&mut self, nesting: usize) -> Result<TreeId, Stop>
+        ensures is { Gives self.old self.new result (argument (within nesting) self.old.symbols.rest.now) }
         ensures shorter { OnOk result (length self.new.symbols.rest.now < length self.old.symbols.rest.now) }
     {
-        let tree = self.inside(room, Inside::Argument)?;
+        let tree = self.inside(nesting, Inside::Argument)?;
         self.symbols.take(Mark::Comma)?;
         Ok(tree)
     }
 
     #[cycle(parser)]
-    fn group(&mut self, room: usize, start: usize) -> Result<TreeId, Stop>
-        ensures is { Gives self.old self.new result (group (within room) start self.old.symbols.rest.now) }
+    fn group(&mut self, nesting: usize, start: usize) -> Result<TreeId, Stop>
+        ensures is { Gives self.old self.new result (group (within nesting) start self.old.symbols.rest.now) }
         ensures shorter { OnOk result (length self.new.symbols.rest.now < length self.old.symbols.rest.now) }
     {
-        let tree = self.enclosed(room, Inside::Expression)?;
+        let tree = self.enclosed(nesting, Inside::Expression)?;
         Ok(self.arena.push(TreeNode::Group(tree), start)?)
     }
 
     #[tactic(auto, unfolding(fv_parse_grammar::specs::Descent::abstraction))]
     #[cycle(parser)]
-    fn abstraction(&mut self, room: usize, start: usize) -> Result<TreeId, Stop>
-        ensures is { Gives self.old self.new result (abstraction (within room) start self.old.symbols.rest.now) }
+    fn abstraction(&mut self, nesting: usize, start: usize) -> Result<TreeId, Stop>
+        ensures is { Gives self.old self.new result (abstraction (within nesting) start self.old.symbols.rest.now) }
         ensures shorter { OnOk result (length self.new.symbols.rest.now < length self.old.symbols.rest.now) }
     {
         self.symbols.take(Mark::Open)?;
@@ -86,7 +86,7 @@ impl<'a> Reader<'a> {
         self.symbols.take(Mark::Close)?;
         self.symbols.take(Mark::Dot)?;
         self.symbols.take(Mark::Open)?;
-        let body = self.enclosed(room, Inside::Expression)?;
+        let body = self.enclosed(nesting, Inside::Expression)?;
         Ok(
             self.arena
                 .push(TreeNode::Abstraction(parameters, body), start)?,
@@ -95,27 +95,27 @@ impl<'a> Reader<'a> {
 
     #[tactic(auto, unfolding(fv_parse_grammar::specs::Descent::case_of))]
     #[cycle(parser)]
-    fn case_of(&mut self, room: usize, start: usize) -> Result<TreeId, Stop>
-        ensures is { Gives self.old self.new result (case_of (within room) start self.old.symbols.rest.now) }
+    fn case_of(&mut self, nesting: usize, start: usize) -> Result<TreeId, Stop>
+        ensures is { Gives self.old self.new result (case_of (within nesting) start self.old.symbols.rest.now) }
         ensures shorter { OnOk result (length self.new.symbols.rest.now < length self.old.symbols.rest.now) }
     {
         self.symbols.take(Mark::OpenBrace)?;
-        let rules = self.inside(room, Inside::Rules)?;
+        let rules = self.inside(nesting, Inside::Rules)?;
         self.symbols.take(Mark::CloseBrace)?;
         Ok(self.arena.push(TreeNode::Case(rules), start)?)
     }
 
     #[tactic(auto, unfolding(fv_parse_grammar::specs::Descent::iteration))]
     #[cycle(parser)]
-    fn iteration(&mut self, room: usize, start: usize, kind: Iteration) -> Result<TreeId, Stop>
-        ensures is { Gives self.old self.new result (iteration (within room) start kind self.old.symbols.rest.now) }
+    fn iteration(&mut self, nesting: usize, start: usize, kind: Iteration) -> Result<TreeId, Stop>
+        ensures is { Gives self.old self.new result (iteration (within nesting) start kind self.old.symbols.rest.now) }
         ensures shorter { OnOk result (length self.new.symbols.rest.now < length self.old.symbols.rest.now) }
     {
         self.symbols.take(Mark::Open)?;
         let index = self.symbols.name()?;
         self.symbols.take(Mark::Comma)?;
-        let count = self.argument(room)?;
-        let body = self.enclosed(room, Inside::Expression)?;
+        let count = self.argument(nesting)?;
+        let body = self.enclosed(nesting, Inside::Expression)?;
         Ok(
             self.arena
                 .push(TreeNode::Iteration(kind, index, count, body), start)?,
@@ -124,26 +124,26 @@ impl<'a> Reader<'a> {
 
     #[tactic(auto, unfolding(fv_parse_grammar::specs::Descent::ports))]
     #[cycle(parser)]
-    fn ports(&mut self, room: usize, start: usize, side: Side) -> Result<TreeId, Stop>
-        ensures is { Gives self.old self.new result (ports (within room) start side self.old.symbols.rest.now) }
+    fn ports(&mut self, nesting: usize, start: usize, side: Side) -> Result<TreeId, Stop>
+        ensures is { Gives self.old self.new result (ports (within nesting) start side self.old.symbols.rest.now) }
         ensures shorter { OnOk result (length self.new.symbols.rest.now < length self.old.symbols.rest.now) }
     {
         self.symbols.take(Mark::Open)?;
-        let tree = self.enclosed(room, Inside::Expression)?;
+        let tree = self.enclosed(nesting, Inside::Expression)?;
         Ok(self.arena.push(TreeNode::Ports(side, tree), start)?)
     }
 
     #[tactic(auto, unfolding(fv_parse_grammar::specs::Descent::slider))]
     #[cycle(parser)]
-    fn slider(&mut self, room: usize, start: usize, kind: Slider) -> Result<TreeId, Stop>
-        ensures is { Gives self.old self.new result (slider (within room) start kind self.old.symbols.rest.now) }
+    fn slider(&mut self, nesting: usize, start: usize, kind: Slider) -> Result<TreeId, Stop>
+        ensures is { Gives self.old self.new result (slider (within nesting) start kind self.old.symbols.rest.now) }
         ensures shorter { OnOk result (length self.new.symbols.rest.now < length self.old.symbols.rest.now) }
     {
         let text = self.symbols.label()?;
-        let init = self.argument(room)?;
-        let min = self.argument(room)?;
-        let max = self.argument(room)?;
-        let step = self.enclosed(room, Inside::Argument)?;
+        let init = self.argument(nesting)?;
+        let min = self.argument(nesting)?;
+        let max = self.argument(nesting)?;
+        let step = self.enclosed(nesting, Inside::Argument)?;
         Ok(
             self.arena
                 .push(TreeNode::Slider(kind, text, init, min, max, step), start)?,
@@ -152,21 +152,21 @@ impl<'a> Reader<'a> {
 
     #[tactic(auto, unfolding(fv_parse_grammar::specs::Descent::panel))]
     #[cycle(parser)]
-    fn panel(&mut self, room: usize, start: usize, kind: Panel) -> Result<TreeId, Stop>
-        ensures is { Gives self.old self.new result (panel (within room) start kind self.old.symbols.rest.now) }
+    fn panel(&mut self, nesting: usize, start: usize, kind: Panel) -> Result<TreeId, Stop>
+        ensures is { Gives self.old self.new result (panel (within nesting) start kind self.old.symbols.rest.now) }
         ensures shorter { OnOk result (length self.new.symbols.rest.now < length self.old.symbols.rest.now) }
     {
         let text = self.symbols.label()?;
-        let tree = self.enclosed(room, Inside::Expression)?;
+        let tree = self.enclosed(nesting, Inside::Expression)?;
         Ok(self.arena.push(TreeNode::Panel(kind, text, tree), start)?)
     }
 
     /// An operand, by what the first of all its symbols begins, which was passed.
     #[tactic(auto, unfolding(fv_parse_grammar::specs::Descent::by_head))]
     #[cycle(parser)]
-    fn by_head(&mut self, room: usize, head: Head, all: &'a [Symbol]) -> Result<TreeId, Stop>
+    fn by_head(&mut self, nesting: usize, head: Head, all: &'a [Symbol]) -> Result<TreeId, Stop>
         requires { length self.old.symbols.rest.now < length all.now }
-        ensures is { Gives self.old self.new result (by_head (within room) head all.now self.old.symbols.rest.now) }
+        ensures is { Gives self.old self.new result (by_head (within nesting) head all.now self.old.symbols.rest.now) }
         ensures shorter { OnOk result (length self.new.symbols.rest.now < length all.now) }
     {
         let start = all.len();
@@ -178,14 +178,14 @@ impl<'a> Reader<'a> {
             Head::Wire => Ok(self.arena.push(TreeNode::Wire, start)?),
             Head::Cut => Ok(self.arena.push(TreeNode::Cut, start)?),
             Head::Primitive(p) => Ok(self.arena.push(TreeNode::Primitive(p), start)?),
-            Head::Group => self.group(room, start),
-            Head::Abstraction => self.abstraction(room, start),
-            Head::Case => self.case_of(room, start),
-            Head::Iteration(kind) => self.iteration(room, start, kind),
-            Head::Ports(side) => self.ports(room, start, side),
+            Head::Group => self.group(nesting, start),
+            Head::Abstraction => self.abstraction(nesting, start),
+            Head::Case => self.case_of(nesting, start),
+            Head::Iteration(kind) => self.iteration(nesting, start, kind),
+            Head::Ports(side) => self.ports(nesting, start, side),
             Head::Switch(kind) => self.switch(start, kind),
-            Head::Slider(kind) => self.slider(room, start, kind),
-            Head::Panel(kind) => self.panel(room, start, kind),
+            Head::Slider(kind) => self.slider(nesting, start, kind),
+            Head::Panel(kind) => self.panel(nesting, start, kind),
             Head::Nothing => {
                 self.symbols.rest = all;
                 Err(Stop::Syntax)
@@ -194,8 +194,8 @@ impl<'a> Reader<'a> {
     }
 
     #[cycle(parser)]
-    fn primary(&mut self, room: usize) -> Result<TreeId, Stop>
-        ensures is { Gives self.old self.new result (primary (within room) self.old.symbols.rest.now) }
+    fn primary(&mut self, nesting: usize) -> Result<TreeId, Stop>
+        ensures is { Gives self.old self.new result (primary (within nesting) self.old.symbols.rest.now) }
         ensures shorter { OnOk result (length self.new.symbols.rest.now < length self.old.symbols.rest.now) }
     {
         let all = self.symbols.rest;
@@ -203,30 +203,30 @@ impl<'a> Reader<'a> {
             [] => Err(Stop::Syntax),
             [symbol, after @ ..] => {
                 self.symbols.rest = after;
-                self.by_head(room, head(*symbol), all)
+                self.by_head(nesting, head(*symbol), all)
             }
         }
     }
 
     #[tactic(auto, unfolding(fv_parse_grammar::specs::Descent::postfix))]
     #[cycle(parser)]
-    fn postfix(&mut self, room: usize) -> Result<TreeId, Stop>
-        ensures is { Gives self.old self.new result (postfix (within room) self.old.symbols.rest.now) }
+    fn postfix(&mut self, nesting: usize) -> Result<TreeId, Stop>
+        ensures is { Gives self.old self.new result (postfix (within nesting) self.old.symbols.rest.now) }
         ensures shorter { OnOk result (length self.new.symbols.rest.now < length self.old.symbols.rest.now) }
     {
         let start = self.symbols.rest.len();
-        let first = self.primary(room)?;
-        self.postfixes(room, start, first)
+        let first = self.primary(nesting)?;
+        self.postfixes(nesting, start, first)
     }
 
     #[cycle(parser)]
-    fn postfixes(&mut self, room: usize, start: usize, first: TreeId) -> Result<TreeId, Stop>
+    fn postfixes(&mut self, nesting: usize, start: usize, first: TreeId) -> Result<TreeId, Stop>
         requires { first < length (trees self.old.arena) }
-        ensures is { Gives self.old self.new result (run (postfix_turn (within room) start) (tree_at (trees self.old.arena) first) self.old.symbols.rest.now) }
+        ensures is { Gives self.old self.new result (run (postfix_turn (within nesting) start) (tree_at (trees self.old.arena) first) self.old.symbols.rest.now) }
         ensures shorter { OnOk result (length self.new.symbols.rest.now ≤ length self.old.symbols.rest.now) }
     {
         let mut tree = first;
-        while let Some(next) = self.next_postfix(room, start, tree)? {
+        while let Some(next) = self.next_postfix(nesting, start, tree)? {
             tree = next;
         }
         Ok(tree)
@@ -235,12 +235,12 @@ impl<'a> Reader<'a> {
     #[cycle(parser)]
     fn next_postfix(
         &mut self,
-        room: usize,
+        nesting: usize,
         start: usize,
         tree: TreeId,
     ) -> Result<Option<TreeId>, Stop>
         requires { tree < length (trees self.old.arena) }
-        ensures is { GivesTurn self.old self.new result (postfix_turn (within room) start (tree_at (trees self.old.arena) tree) self.old.symbols.rest.now) }
+        ensures is { GivesTurn self.old self.new result (postfix_turn (within nesting) start (tree_at (trees self.old.arena) tree) self.old.symbols.rest.now) }
         ensures shorter { IfOk result (λ o. OnSome o (length self.new.symbols.rest.now < length self.old.symbols.rest.now)) }
     {
         match self.symbols.rest {
@@ -250,7 +250,7 @@ impl<'a> Reader<'a> {
             }
             [Symbol::Open, after @ ..] => {
                 self.symbols.rest = after;
-                self.applied(room, start, tree)
+                self.applied(nesting, start, tree)
             }
             _ => Ok(None),
         }
@@ -258,20 +258,30 @@ impl<'a> Reader<'a> {
 
     /// What follows the bracket of an application.
     #[cycle(parser)]
-    fn applied(&mut self, room: usize, start: usize, tree: TreeId) -> Result<Option<TreeId>, Stop>
+    fn applied(
+        &mut self,
+        nesting: usize,
+        start: usize,
+        tree: TreeId,
+    ) -> Result<Option<TreeId>, Stop>
         requires { tree < length (trees self.old.arena) }
-        ensures is { GivesTurn self.old self.new result (applied_to (within room) start (tree_at (trees self.old.arena) tree) self.old.symbols.rest.now) }
+        ensures is { GivesTurn self.old self.new result (applied_to (within nesting) start (tree_at (trees self.old.arena) tree) self.old.symbols.rest.now) }
         ensures shorter { IfOk result (λ o. OnSome o (length self.new.symbols.rest.now < length self.old.symbols.rest.now)) }
     {
-        let arguments = self.enclosed(room, Inside::Arguments)?;
+        let arguments = self.enclosed(nesting, Inside::Arguments)?;
         Ok(Some(self.arena.push(TreeNode::Apply(tree, arguments), start)?))
     }
 
     /// What stands in a pattern, by what the first of all its symbols begins, which was passed.
     #[cycle(parser)]
-    fn atom_by_head(&mut self, room: usize, head: Head, all: &'a [Symbol]) -> Result<TreeId, Stop>
+    fn atom_by_head(
+        &mut self,
+        nesting: usize,
+        head: Head,
+        all: &'a [Symbol],
+    ) -> Result<TreeId, Stop>
         requires { length self.old.symbols.rest.now < length all.now }
-        ensures is { Gives self.old self.new result (atom_by_head (within room) head all.now self.old.symbols.rest.now) }
+        ensures is { Gives self.old self.new result (atom_by_head (within nesting) head all.now self.old.symbols.rest.now) }
         ensures shorter { OnOk result (length self.new.symbols.rest.now < length all.now) }
     {
         let start = all.len();
@@ -280,7 +290,7 @@ impl<'a> Reader<'a> {
             Head::Name(n) => Ok(self.arena.push(TreeNode::Named(n), start)?),
             Head::Plus => self.plus_in_pattern(start),
             Head::Minus => self.minus_in_pattern(start),
-            Head::Group => self.enclosed(room, Inside::Pattern),
+            Head::Group => self.enclosed(nesting, Inside::Pattern),
             _ => {
                 self.symbols.rest = all;
                 Err(Stop::Syntax)
@@ -290,19 +300,19 @@ impl<'a> Reader<'a> {
 
     /// What the operators join.
     #[cycle(parser)]
-    pub(crate) fn operand(&mut self, room: usize, operands: Operands) -> Result<TreeId, Stop>
-        ensures is { Gives self.old self.new result (operand (within room) operands self.old.symbols.rest.now) }
+    pub(crate) fn operand(&mut self, nesting: usize, operands: Operands) -> Result<TreeId, Stop>
+        ensures is { Gives self.old self.new result (operand (within nesting) operands self.old.symbols.rest.now) }
         ensures shorter { OnOk result (length self.new.symbols.rest.now < length self.old.symbols.rest.now) }
     {
         if operands == Operands::Expressions {
-            return self.postfix(room);
+            return self.postfix(nesting);
         }
         let all = self.symbols.rest;
         match all {
             [] => Err(Stop::Syntax),
             [symbol, after @ ..] => {
                 self.symbols.rest = after;
-                self.atom_by_head(room, head(*symbol), all)
+                self.atom_by_head(nesting, head(*symbol), all)
             }
         }
     }

@@ -25,30 +25,30 @@ impl Reader<'_> {
     #[cycle(parser)]
     pub(crate) fn phrase(
         &mut self,
-        room: usize,
+        nesting: usize,
         operands: Operands,
         commas: Commas,
         precedence: Precedence,
     ) -> Result<TreeId, Stop>
         requires { precedence ≤ 8 }
-        ensures is { Gives self.old self.new result (phrase (within room) operands commas precedence self.old.symbols.rest.now) }
+        ensures is { Gives self.old self.new result (phrase (within nesting) operands commas precedence self.old.symbols.rest.now) }
         ensures shorter { OnOk result (length self.new.symbols.rest.now < length self.old.symbols.rest.now) }
     {
         if precedence == 0 {
-            self.operand(room, operands)
+            self.operand(nesting, operands)
         } else if precedence <= LAST_LEFT {
             let start = self.symbols.rest.len();
-            let first = self.phrase(room, operands, commas, precedence - 1)?;
-            self.lefts(room, operands, commas, precedence, start, first)
+            let first = self.phrase(nesting, operands, commas, precedence - 1)?;
+            self.lefts(nesting, operands, commas, precedence, start, first)
         } else {
-            self.rights(room, operands, commas, precedence)
+            self.rights(nesting, operands, commas, precedence)
         }
     }
 
     #[cycle(parser)]
     fn lefts(
         &mut self,
-        room: usize,
+        nesting: usize,
         operands: Operands,
         commas: Commas,
         precedence: Precedence,
@@ -58,12 +58,12 @@ impl Reader<'_> {
         requires height { (0 < precedence) × (precedence ≤ 5) }
         requires inside { first < length (trees self.old.arena) }
         ensures is { Gives self.old self.new result
-            (run (left_turn (phrase (within room) operands commas (precedence - 1)) operands commas (precedence + 1) start)
+            (run (left_turn (phrase (within nesting) operands commas (precedence - 1)) operands commas (precedence + 1) start)
             (tree_at (trees self.old.arena) first) self.old.symbols.rest.now) }
         ensures shorter { OnOk result (length self.new.symbols.rest.now ≤ length self.old.symbols.rest.now) }
     {
         let mut tree = first;
-        while let Some(next) = self.next_left(room, operands, commas, precedence, start, tree)? {
+        while let Some(next) = self.next_left(nesting, operands, commas, precedence, start, tree)? {
             tree = next;
         }
         Ok(tree)
@@ -72,7 +72,7 @@ impl Reader<'_> {
     #[cycle(parser)]
     fn next_left(
         &mut self,
-        room: usize,
+        nesting: usize,
         operands: Operands,
         commas: Commas,
         precedence: Precedence,
@@ -82,14 +82,14 @@ impl Reader<'_> {
         requires height { (0 < precedence) × (precedence ≤ 5) }
         requires inside { tree < length (trees self.old.arena) }
         ensures is { GivesTurn self.old self.new result
-            (left_turn (phrase (within room) operands commas (precedence - 1)) operands commas (precedence + 1) start
+            (left_turn (phrase (within nesting) operands commas (precedence - 1)) operands commas (precedence + 1) start
             (tree_at (trees self.old.arena) tree) self.old.symbols.rest.now) }
         ensures shorter { IfOk result (λ o. OnSome o (length self.new.symbols.rest.now < length self.old.symbols.rest.now)) }
     {
         match self.symbols.operator_of(operands, commas, precedence + 1) {
             None => Ok(None),
             Some(op) => {
-                let second = self.phrase(room, operands, commas, precedence - 1)?;
+                let second = self.phrase(nesting, operands, commas, precedence - 1)?;
                 Ok(Some(self.arena.push(TreeNode::Binary(op, tree, second), start)?))
             }
         }
@@ -98,20 +98,20 @@ impl Reader<'_> {
     #[cycle(parser)]
     fn rights(
         &mut self,
-        room: usize,
+        nesting: usize,
         operands: Operands,
         commas: Commas,
         precedence: Precedence,
     ) -> Result<TreeId, Stop>
         requires { (5 < precedence) × (precedence ≤ 8) }
         ensures is { Gives self.old self.new result
-            (chain (phrase (within room) operands commas (precedence - 1)) operands commas (precedence + 1) self.old.symbols.rest.now) }
+            (chain (phrase (within nesting) operands commas (precedence - 1)) operands commas (precedence + 1) self.old.symbols.rest.now) }
         ensures shorter { OnOk result (length self.new.symbols.rest.now < length self.old.symbols.rest.now) }
     {
         let mut pending = Vec::new(self.alloc);
         loop {
             let start = self.symbols.rest.len();
-            let tree = self.phrase(room, operands, commas, precedence - 1)?;
+            let tree = self.phrase(nesting, operands, commas, precedence - 1)?;
             match self.symbols.operator_of(operands, commas, precedence + 1) {
                 None => return Ok(join(&mut self.arena, pending, tree)?),
                 Some(op) => pending.push(Pending {
@@ -125,51 +125,61 @@ impl Reader<'_> {
 
     #[tactic(auto, unfolding(fv_parse_grammar::specs::Descent::expression))]
     #[cycle(parser)]
-    pub(crate) fn expression(&mut self, room: usize) -> Result<TreeId, Stop>
-        ensures is { Gives self.old self.new result (expression (within room) self.old.symbols.rest.now) }
+    pub(crate) fn expression(&mut self, nesting: usize) -> Result<TreeId, Stop>
+        ensures is { Gives self.old self.new result (expression (within nesting) self.old.symbols.rest.now) }
         ensures shorter { OnOk result (length self.new.symbols.rest.now < length self.old.symbols.rest.now) }
     {
         let start = self.symbols.rest.len();
-        let first = self.phrase(room, Operands::Expressions, Commas::Join, LOOSEST)?;
-        self.withs(room, start, first)
+        let first = self.phrase(nesting, Operands::Expressions, Commas::Join, LOOSEST)?;
+        self.withs(nesting, start, first)
     }
 
     #[cycle(parser)]
-    fn withs(&mut self, room: usize, start: usize, first: TreeId) -> Result<TreeId, Stop>
+    fn withs(&mut self, nesting: usize, start: usize, first: TreeId) -> Result<TreeId, Stop>
         requires { first < length (trees self.old.arena) }
-        ensures is { Gives self.old self.new result (run (with_turn (within room) start) (tree_at (trees self.old.arena) first) self.old.symbols.rest.now) }
+        ensures is { Gives self.old self.new result (run (with_turn (within nesting) start) (tree_at (trees self.old.arena) first) self.old.symbols.rest.now) }
         ensures shorter { OnOk result (length self.new.symbols.rest.now ≤ length self.old.symbols.rest.now) }
     {
         let mut tree = first;
-        while let Some(next) = self.next_with(room, start, tree)? {
+        while let Some(next) = self.next_with(nesting, start, tree)? {
             tree = next;
         }
         Ok(tree)
     }
 
     #[cycle(parser)]
-    fn next_with(&mut self, room: usize, start: usize, tree: TreeId) -> Result<Option<TreeId>, Stop>
+    fn next_with(
+        &mut self,
+        nesting: usize,
+        start: usize,
+        tree: TreeId,
+    ) -> Result<Option<TreeId>, Stop>
         requires { tree < length (trees self.old.arena) }
-        ensures is { GivesTurn self.old self.new result (with_turn (within room) start (tree_at (trees self.old.arena) tree) self.old.symbols.rest.now) }
+        ensures is { GivesTurn self.old self.new result (with_turn (within nesting) start (tree_at (trees self.old.arena) tree) self.old.symbols.rest.now) }
         ensures shorter { IfOk result (λ o. OnSome o (length self.new.symbols.rest.now < length self.old.symbols.rest.now)) }
     {
         match self.symbols.rest {
             [Symbol::With, after @ ..] => {
                 self.symbols.rest = after;
-                self.with_part(room, start, tree)
+                self.with_part(nesting, start, tree)
             }
             _ => Ok(None),
         }
     }
 
     #[cycle(parser)]
-    fn with_part(&mut self, room: usize, start: usize, tree: TreeId) -> Result<Option<TreeId>, Stop>
+    fn with_part(
+        &mut self,
+        nesting: usize,
+        start: usize,
+        tree: TreeId,
+    ) -> Result<Option<TreeId>, Stop>
         requires { tree < length (trees self.old.arena) }
-        ensures is { GivesTurn self.old self.new result (with_part (within room) start (tree_at (trees self.old.arena) tree) self.old.symbols.rest.now) }
+        ensures is { GivesTurn self.old self.new result (with_part (within nesting) start (tree_at (trees self.old.arena) tree) self.old.symbols.rest.now) }
         ensures shorter { IfOk result (λ o. OnSome o (length self.new.symbols.rest.now < length self.old.symbols.rest.now)) }
     {
         self.symbols.take(Mark::OpenBrace)?;
-        let definitions = self.inside(room, Inside::Definitions)?;
+        let definitions = self.inside(nesting, Inside::Definitions)?;
         self.symbols.take(Mark::CloseBrace)?;
         Ok(Some(self.arena.push(TreeNode::Where(tree, definitions), start)?))
     }

@@ -39,24 +39,24 @@ impl Reader<'_> {
     /// An expression, and the semicolon behind it.
     #[tactic(auto, unfolding(fv_parse_grammar::specs::Descent::ended))]
     #[cycle(parser)]
-    fn ended(&mut self, room: usize) -> Result<TreeId, Stop>
-        ensures is { Gives self.old self.new result (ended (within room) self.old.symbols.rest.now) }
+    fn ended(&mut self, nesting: usize) -> Result<TreeId, Stop>
+        ensures is { Gives self.old self.new result (ended (within nesting) self.old.symbols.rest.now) }
         ensures shorter { OnOk result (length self.new.symbols.rest.now < length self.old.symbols.rest.now) }
     {
-        let tree = self.expression(room)?;
+        let tree = self.expression(nesting)?;
         self.symbols.take(Mark::Semicolon)?;
         Ok(tree)
     }
 
     #[tactic(auto, unfolding(fv_parse_grammar::specs::Descent::function_after))]
     #[cycle(parser)]
-    fn function_after(&mut self, room: usize, start: usize, name: u64) -> Result<TreeId, Stop>
-        ensures is { Gives self.old self.new result (function_after (within room) start name self.old.symbols.rest.now) }
+    fn function_after(&mut self, nesting: usize, start: usize, name: u64) -> Result<TreeId, Stop>
+        ensures is { Gives self.old self.new result (function_after (within nesting) start name self.old.symbols.rest.now) }
         ensures shorter { OnOk result (length self.new.symbols.rest.now < length self.old.symbols.rest.now) }
     {
-        let patterns = self.enclosed(room, Inside::Patterns)?;
+        let patterns = self.enclosed(nesting, Inside::Patterns)?;
         self.symbols.take(Mark::Equals)?;
-        let side = self.ended(room)?;
+        let side = self.ended(nesting)?;
         Ok(
             self.arena
                 .push(TreeNode::Function(name, patterns, side), start)?,
@@ -65,61 +65,61 @@ impl Reader<'_> {
 
     #[tactic(auto, unfolding(fv_parse_grammar::specs::Descent::constant_after))]
     #[cycle(parser)]
-    fn constant_after(&mut self, room: usize, start: usize, name: u64) -> Result<TreeId, Stop>
-        ensures is { Gives self.old self.new result (constant_after (within room) start name self.old.symbols.rest.now) }
+    fn constant_after(&mut self, nesting: usize, start: usize, name: u64) -> Result<TreeId, Stop>
+        ensures is { Gives self.old self.new result (constant_after (within nesting) start name self.old.symbols.rest.now) }
         ensures shorter { OnOk result (length self.new.symbols.rest.now < length self.old.symbols.rest.now) }
     {
         self.symbols.take(Mark::Equals)?;
-        let side = self.ended(room)?;
+        let side = self.ended(nesting)?;
         Ok(self.arena.push(TreeNode::Constant(name, side), start)?)
     }
 
     #[cycle(parser)]
-    fn after_name(&mut self, room: usize, start: usize, name: u64) -> Result<TreeId, Stop>
-        ensures is { Gives self.old self.new result (after_name (within room) start name self.old.symbols.rest.now) }
+    fn after_name(&mut self, nesting: usize, start: usize, name: u64) -> Result<TreeId, Stop>
+        ensures is { Gives self.old self.new result (after_name (within nesting) start name self.old.symbols.rest.now) }
         ensures shorter { OnOk result (length self.new.symbols.rest.now < length self.old.symbols.rest.now) }
     {
         match self.symbols.rest {
             [Symbol::Open, after @ ..] => {
                 self.symbols.rest = after;
-                self.function_after(room, start, name)
+                self.function_after(nesting, start, name)
             }
-            _ => self.constant_after(room, start, name),
+            _ => self.constant_after(nesting, start, name),
         }
     }
 
     #[tactic(auto, unfolding(fv_parse_grammar::specs::Descent::definition))]
     #[cycle(parser)]
-    fn definition(&mut self, room: usize) -> Result<TreeId, Stop>
-        ensures is { Gives self.old self.new result (definition (within room) self.old.symbols.rest.now) }
+    fn definition(&mut self, nesting: usize) -> Result<TreeId, Stop>
+        ensures is { Gives self.old self.new result (definition (within nesting) self.old.symbols.rest.now) }
         ensures shorter { OnOk result (length self.new.symbols.rest.now < length self.old.symbols.rest.now) }
     {
         let start = self.symbols.rest.len();
         let name = self.symbols.name()?;
-        self.after_name(room, start, name)
+        self.after_name(nesting, start, name)
     }
 
     #[tactic(auto, unfolding(fv_parse_grammar::specs::Descent::one_rule))]
     #[cycle(parser)]
-    fn one_rule(&mut self, room: usize) -> Result<TreeId, Stop>
-        ensures is { Gives self.old self.new result (one_rule (within room) self.old.symbols.rest.now) }
+    fn one_rule(&mut self, nesting: usize) -> Result<TreeId, Stop>
+        ensures is { Gives self.old self.new result (one_rule (within nesting) self.old.symbols.rest.now) }
         ensures shorter { OnOk result (length self.new.symbols.rest.now < length self.old.symbols.rest.now) }
     {
         let start = self.symbols.rest.len();
         self.symbols.take(Mark::Open)?;
-        let patterns = self.enclosed(room, Inside::Patterns)?;
+        let patterns = self.enclosed(nesting, Inside::Patterns)?;
         self.symbols.take(Mark::Arrow)?;
-        let side = self.ended(room)?;
+        let side = self.ended(nesting)?;
         Ok(self.arena.push(TreeNode::Rule(patterns, side), start)?)
     }
 
     #[cycle(parser)]
-    fn statement(&mut self, room: usize) -> Result<Option<Option<TreeId>>, Stop>
-        ensures is { GivesItem self.old self.new result (statement (within room) self.old.symbols.rest.now) }
+    fn statement(&mut self, nesting: usize) -> Result<Option<Option<TreeId>>, Stop>
+        ensures is { GivesItem self.old self.new result (statement (within nesting) self.old.symbols.rest.now) }
         ensures shorter { IfOk result (λ o. OnSome o (length self.new.symbols.rest.now < length self.old.symbols.rest.now)) }
     {
         match self.symbols.rest {
-            [Symbol::Name(_), ..] => Ok(Some(Some(self.definition(room)?))),
+            [Symbol::Name(_), ..] => Ok(Some(Some(self.definition(nesting)?))),
             [Symbol::Declare, after @ ..] => {
                 self.symbols.rest = after;
                 self.symbols.declaration()?;
@@ -130,51 +130,55 @@ impl Reader<'_> {
     }
 
     #[cycle(parser)]
-    fn inner_definition(&mut self, room: usize) -> Result<Option<Option<TreeId>>, Stop>
-        ensures is { GivesItem self.old self.new result (inner_definition (within room) self.old.symbols.rest.now) }
+    fn inner_definition(&mut self, nesting: usize) -> Result<Option<Option<TreeId>>, Stop>
+        ensures is { GivesItem self.old self.new result (inner_definition (within nesting) self.old.symbols.rest.now) }
         ensures shorter { IfOk result (λ o. OnSome o (length self.new.symbols.rest.now < length self.old.symbols.rest.now)) }
     {
         match self.symbols.rest {
-            [Symbol::Name(_), ..] => Ok(Some(Some(self.definition(room)?))),
+            [Symbol::Name(_), ..] => Ok(Some(Some(self.definition(nesting)?))),
             _ => Ok(None),
         }
     }
 
     #[cycle(parser)]
-    fn next_rule(&mut self, room: usize) -> Result<Option<Option<TreeId>>, Stop>
-        ensures is { GivesItem self.old self.new result (next_rule (within room) self.old.symbols.rest.now) }
+    fn next_rule(&mut self, nesting: usize) -> Result<Option<Option<TreeId>>, Stop>
+        ensures is { GivesItem self.old self.new result (next_rule (within nesting) self.old.symbols.rest.now) }
         ensures shorter { IfOk result (λ o. OnSome o (length self.new.symbols.rest.now < length self.old.symbols.rest.now)) }
     {
         match self.symbols.rest {
-            [Symbol::Open, ..] => Ok(Some(Some(self.one_rule(room)?))),
+            [Symbol::Open, ..] => Ok(Some(Some(self.one_rule(nesting)?))),
             _ => Ok(None),
         }
     }
 
     #[cycle(parser)]
-    fn next_part(&mut self, room: usize, operands: Operands) -> Result<Option<Option<TreeId>>, Stop>
-        ensures is { GivesItem self.old self.new result (next_part (within room) operands self.old.symbols.rest.now) }
+    fn next_part(
+        &mut self,
+        nesting: usize,
+        operands: Operands,
+    ) -> Result<Option<Option<TreeId>>, Stop>
+        ensures is { GivesItem self.old self.new result (next_part (within nesting) operands self.old.symbols.rest.now) }
         ensures shorter { IfOk result (λ o. OnSome o (length self.new.symbols.rest.now < length self.old.symbols.rest.now)) }
     {
         match self.symbols.rest {
             [Symbol::Comma, after @ ..] => {
                 self.symbols.rest = after;
-                Ok(Some(Some(self.phrase(room, operands, Commas::Separate, LOOSEST)?)))
+                Ok(Some(Some(self.phrase(nesting, operands, Commas::Separate, LOOSEST)?)))
             }
             _ => Ok(None),
         }
     }
 
     #[cycle(parser)]
-    fn next_item(&mut self, room: usize, items: Items) -> Result<Option<Option<TreeId>>, Stop>
-        ensures is { GivesItem self.old self.new result (item (within room) items self.old.symbols.rest.now) }
+    fn next_item(&mut self, nesting: usize, items: Items) -> Result<Option<Option<TreeId>>, Stop>
+        ensures is { GivesItem self.old self.new result (item (within nesting) items self.old.symbols.rest.now) }
         ensures shorter { IfOk result (λ o. OnSome o (length self.new.symbols.rest.now < length self.old.symbols.rest.now)) }
     {
         match items {
-            Items::Statements => self.statement(room),
-            Items::Definitions => self.inner_definition(room),
-            Items::Rules => self.next_rule(room),
-            Items::Parts(operands) => self.next_part(room, operands),
+            Items::Statements => self.statement(nesting),
+            Items::Definitions => self.inner_definition(nesting),
+            Items::Rules => self.next_rule(nesting),
+            Items::Parts(operands) => self.next_part(nesting, operands),
         }
     }
 
@@ -182,29 +186,29 @@ impl Reader<'_> {
     #[cycle(parser)]
     pub(crate) fn further(
         &mut self,
-        room: usize,
+        nesting: usize,
         items: Items,
         first: Option<TreeId>,
     ) -> Result<TreeId, Stop>
         requires { AllBelow (length (trees self.old.arena)) (list_of first) }
-        ensures is { Gives self.old self.new result (in_front (trees self.old.arena) (list_of first) (further (within room) items self.old.symbols.rest.now)) }
+        ensures is { Gives self.old self.new result (in_front (trees self.old.arena) (list_of first) (further (within nesting) items self.old.symbols.rest.now)) }
         ensures shorter { OnOk result (length self.new.symbols.rest.now ≤ length self.old.symbols.rest.now) }
     {
         let mut parts = begun(self.alloc, first)?;
-        while let Some(found) = self.next_item(room, items)? {
+        while let Some(found) = self.next_item(nesting, items)? {
             keep(&mut parts, found)?;
         }
         Ok(self.arena.push(TreeNode::List(parts), 0)?)
     }
 
     #[cycle(parser)]
-    fn first_item(&mut self, room: usize, items: Items) -> Result<TreeId, Stop>
-        ensures is { Gives self.old self.new result (first_item (within room) items self.old.symbols.rest.now) }
+    fn first_item(&mut self, nesting: usize, items: Items) -> Result<TreeId, Stop>
+        ensures is { Gives self.old self.new result (first_item (within nesting) items self.old.symbols.rest.now) }
         ensures shorter { OnOk result (length self.new.symbols.rest.now < length self.old.symbols.rest.now) }
     {
         match items {
-            Items::Rules => self.one_rule(room),
-            Items::Parts(operands) => self.phrase(room, operands, Commas::Separate, LOOSEST),
+            Items::Rules => self.one_rule(nesting),
+            Items::Parts(operands) => self.phrase(nesting, operands, Commas::Separate, LOOSEST),
             _ => Err(Stop::Syntax),
         }
     }
@@ -212,11 +216,11 @@ impl Reader<'_> {
     /// A list that has a part.
     #[tactic(auto, unfolding(fv_parse_grammar::specs::Descent::listed))]
     #[cycle(parser)]
-    pub(crate) fn listed(&mut self, room: usize, items: Items) -> Result<TreeId, Stop>
-        ensures is { Gives self.old self.new result (listed (within room) items self.old.symbols.rest.now) }
+    pub(crate) fn listed(&mut self, nesting: usize, items: Items) -> Result<TreeId, Stop>
+        ensures is { Gives self.old self.new result (listed (within nesting) items self.old.symbols.rest.now) }
         ensures shorter { OnOk result (length self.new.symbols.rest.now < length self.old.symbols.rest.now) }
     {
-        let first = self.first_item(room, items)?;
-        self.further(room, items, Some(first))
+        let first = self.first_item(nesting, items)?;
+        self.further(nesting, items, Some(first))
     }
 }

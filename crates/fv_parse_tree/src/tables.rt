@@ -1,7 +1,7 @@
 // What a single token means.
 
 ghost use Rattle.std.specs.Prelude.{◌≡◌, None};
-ghost use Rattle.fv_parse_grammar.specs.Symbols.{head, outside, rank, operator};
+ghost use Rattle.fv_parse_grammar.specs.Symbols.{head, outside, power, operator};
 ghost use Rattle.fv_parse_grammar.specs.declared.symbol.Operands.TheVariants.{Expressions};
 ghost use Rattle.fv_lex.specs.declared.token.Symbol.TheVariants.{Comma};
 ghost use Rattle.fv_parse_tree.specs.Heads.{primitive_in};
@@ -87,19 +87,19 @@ pub(crate) fn head(token: Symbol) -> Head
     }
 }
 
-/// How an operator of expressions ranks, in a pattern or not.
-fn outside(operands: Operands, rank: usize) -> usize
-    ensures { result ≡ outside operands rank }
+/// How an operator of expressions powers, in a pattern or not.
+fn outside(operands: Operands, power: usize) -> usize
+    ensures { result ≡ outside operands power }
 {
     match operands {
-        Operands::Expressions => rank,
+        Operands::Expressions => power,
         Operands::Patterns => 99,
     }
 }
 
-/// How a comma ranks.
-fn comma_rank(commas: Commas) -> usize
-    ensures { result ≡ rank Expressions commas Comma }
+/// How a comma powers.
+fn comma_power(commas: Commas) -> usize
+    ensures { result ≡ power Expressions commas Comma }
 {
     match commas {
         Commas::Join => 7,
@@ -108,8 +108,8 @@ fn comma_rank(commas: Commas) -> usize
 }
 
 /// How loosely a token joins what stands before it: an operator one more than its precedence.
-pub(crate) fn rank(operands: Operands, commas: Commas, token: Symbol) -> usize
-    ensures { result ≡ rank operands commas token }
+pub(crate) fn power(operands: Operands, commas: Commas, token: Symbol) -> usize
+    ensures { result ≡ power operands commas token }
 {
     match token {
         Symbol::Name(_) | Symbol::Integer(_) => 0,
@@ -130,7 +130,7 @@ pub(crate) fn rank(operands: Operands, commas: Commas, token: Symbol) -> usize
         | Symbol::EqualEqual
         | Symbol::NotEqual => outside(operands, 5),
         Symbol::Tilde => 6,
-        Symbol::Comma => comma_rank(commas),
+        Symbol::Comma => comma_power(commas),
         Symbol::Colon => 8,
         Symbol::Split | Symbol::Merge => 9,
         _ => 99,

@@ -6,7 +6,7 @@ ghost use Rattle.fv_parse_grammar.specs.Descent.{expect, a_name, a_text, at_comm
 ghost use Rattle.fv_parse_tree.specs.Gives.{Takes, Skips, IsOperatorAt};
 
 use crate::reader::{Stop, Symbols};
-use crate::tables::{operator, rank};
+use crate::tables::{operator, power};
 use fv_lex::Symbol;
 use fv_parse_grammar::{Commas, Mark, Operands, Operator};
 use std::alloc::Global;
@@ -87,7 +87,7 @@ impl Symbols<'_> {
         }
     }
 
-    /// Passes the operator of this rank, if it stands there.
+    /// Passes the operator of this power, if it stands there.
     pub(crate) fn operator_of(
         &mut self,
         operands: Operands,
@@ -100,7 +100,7 @@ impl Symbols<'_> {
         match self.rest {
             [] => None,
             [symbol, after @ ..] => {
-                if rank(operands, commas, *symbol) == wanted {
+                if power(operands, commas, *symbol) == wanted {
                     self.rest = after;
                     Some(operator(*symbol))
                 } else {

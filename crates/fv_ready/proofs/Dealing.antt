@@ -22,7 +22,7 @@ use Rattle.fv_ready_rule.specs.declared.About.{About}
 use Rattle.fv_ready_rule.specs.declared.View.{View}
 use Rattle.fv_ready.specs.declared.seat.WorkerSeat.{WorkerSeat}
 use Rattle.fv_ready_rule.specs.Whole.{first_number, other_numbers, left_part, right_part, IsWhole}
-use Rattle.fv_ready.specs.Told.{having}
+use Rattle.fv_ready.specs.Counted.{having}
 use Rattle.fv_ready.specs.Closed.{AreSeats}
 use Rattle.fv_ready.specs.Begun.{IsNewSeat, AreNewSeats, IsFirstSeat, AreFirstSeats, AreRoomy}
 

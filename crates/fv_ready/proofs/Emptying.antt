@@ -13,7 +13,7 @@ use Rattle.fv_ready_rule.specs.declared.About.{About}
 use Rattle.fv_ready_rule.specs.declared.View.{View}
 use Rattle.fv_ready.specs.declared.seat.WorkerSeat.{WorkerSeat}
 use Rattle.fv_ready_rule.specs.Rule.{done_by}
-use Rattle.fv_ready.specs.Told.{told_by, having}
+use Rattle.fv_ready.specs.Counted.{told_by, having}
 use Rattle.fv_ready.specs.Closed.{AreSeats, AreSlots, IsTaken}
 use Rattle.fv_ready.specs.Seats.{IsSeat}
 

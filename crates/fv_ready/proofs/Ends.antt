@@ -17,12 +17,12 @@ use Rattle.fv_ready_rule.specs.declared.About.{About}
 use Rattle.fv_ready_rule.specs.declared.View.{View}
 use Rattle.fv_ready_rule.specs.Rule.{claim_word, wins, finishes, done_by, all}
 use Rattle.fv_ready_rule.specs.Whole.{IsWhole}
-use Rattle.fv_ready_rule.specs.Told.{Tells}
+use Rattle.fv_ready_rule.specs.Promised.{Tells}
 use Rattle.fv_ready_rule.proofs.Closing.{whole_is, tells, all_finished, finished_all}
 use Rattle.fv_ready.specs.declared.board.Board.{Board}
 use Rattle.fv_ready.specs.declared.seat.WorkerSeat.{WorkerSeat}
 use Rattle.fv_ready.specs.Boards.{about_of, tasks_of}
-use Rattle.fv_ready.specs.Told.{told_by, having, HaveAll}
+use Rattle.fv_ready.specs.Counted.{told_by, having, HaveAll}
 use Rattle.fv_ready.specs.Closed.{AreSlots, AreParcels, HasParcel, Ended}
 
 word_is : (ws : List ℕ) (i x : ℕ) → get_elem? ws i ≡ some x → slice_index ws i ≡ x

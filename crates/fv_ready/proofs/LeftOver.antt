@@ -16,7 +16,7 @@ use Rattle.fv_ready_rule.specs.declared.About.{About}
 use Rattle.fv_ready_rule.specs.declared.View.{View}
 use Rattle.fv_ready_rule.specs.Wired.{graph_wires}
 use Rattle.fv_ready_rule.specs.Rule.{wins, loses, claims, arrives, finishes, zeroes, done_by}
-use Rattle.fv_ready_rule.specs.Told.{Tells}
+use Rattle.fv_ready_rule.specs.Promised.{Tells}
 use Rattle.fv_ready_rule.specs.Carried.{IsFree, IsBusy}
 use Rattle.fv_ready.specs.declared.seat.InHand.{InHand}
 use Rattle.fv_ready.specs.declared.seat.WorkerSeat.{WorkerSeat}
@@ -24,7 +24,7 @@ use Rattle.fv_ready.specs.Seats.{view_of, slots_of, hand_of, IsSeat}
 use Rattle.fv_ready.specs.Closed.{AreSeats}
 use Rattle.fv_ready.specs.declared.board.Board.{Board}
 use Rattle.fv_ready.specs.Boards.{name_of, about_of, tasks_of}
-use Rattle.fv_ready.specs.Told.{told_by, NothingLeft}
+use Rattle.fv_ready.specs.Counted.{told_by, NothingLeft}
 
 -- ---- lists of deeds
 claimed_as : (t : ℕ) (ds : List Deed) → total (claims t) ds ≡ total (wins t) ds + total (loses t) ds

@@ -8,7 +8,7 @@ use Rattle.fv_graph.specs.Graph.{net_of, edges_of}
 use Rattle.fv_ready_rule.specs.declared.Deed.{Deed}
 use Rattle.fv_ready_rule.specs.declared.About.{About}
 use Rattle.fv_ready_rule.specs.Rule.{claim_word, wins, finishes}
-use Rattle.fv_ready_rule.specs.Told.{Tells}
+use Rattle.fv_ready_rule.specs.Promised.{Tells}
 use Rattle.fv_ready.specs.declared.seat.WorkerSeat.{WorkerSeat}
 use Rattle.fv_ready.specs.Seats.{IsSeat}
 

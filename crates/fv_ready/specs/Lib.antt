@@ -1,5 +1,5 @@
 pub mod Seats
 pub mod Begun
-pub mod Told
+pub mod Counted
 pub mod Closed
 pub mod Boards

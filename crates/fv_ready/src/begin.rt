@@ -5,7 +5,7 @@ ghost use Rattle.std.specs.Prelude.{◌∷◌, ◌++◌, map, replicate, slice_i
 ghost use Rattle.fv_graph.specs.Graph.{net_of};
 ghost use Rattle.fv_ready_rule.specs.Whole.{first_words, first_view};
 ghost use Rattle.fv_ready.specs.Begun.{first_slots, parcels_of, AreRoomy, AreNewSeats, AreEntries};
-ghost use Rattle.fv_ready.specs.Told.{HaveAll};
+ghost use Rattle.fv_ready.specs.Counted.{HaveAll};
 ghost use Rattle.fv_ready.specs.Boards.{about_of, graph_of, AreSeatsOf, AreFirstSeatsOf};
 
 use crate::board::Board;

@@ -7,9 +7,9 @@ ghost use lib.ListN.{get_elem?};
 ghost use Rattle.fv_outside.specs.Tasks.{times, task_count};
 ghost use Rattle.fv_graph.specs.Graph.{IsGraph, edges_of, net_of};
 ghost use Rattle.fv_ready_rule.specs.Rule.{done_by, finishes, wins, loses, claim_word};
-ghost use Rattle.fv_ready_rule.specs.Told.{Tells};
+ghost use Rattle.fv_ready_rule.specs.Promised.{Tells};
 ghost use Rattle.fv_ready_rule.specs.declared.Deed.{Deed};
-ghost use Rattle.fv_ready.specs.Told.{told_by, having, HaveAll, NothingLeft};
+ghost use Rattle.fv_ready.specs.Counted.{told_by, having, HaveAll, NothingLeft};
 ghost use Rattle.fv_ready.specs.Closed.{AreSeats, AreSlots, IsTaken, Ended};
 ghost use Rattle.fv_ready.specs.Boards.{about_of, tasks_of, AreSeatsOf, GainsParcels};
 

@@ -22,7 +22,7 @@ use Rattle.fv_ready_rule.specs.declared.About.{About}
 use Rattle.fv_ready_rule.specs.declared.View.{View}
 use Rattle.fv_ready_rule.specs.Rule.{count_word, wins, loses, sees, arrives, stamps, starts, finishes, done_by, all, together, spent, Each, IsSpent, zeroes}
 use Rattle.fv_ready_rule.specs.Whole.{starts_at, finishes_at, AllKnow, IsWhole}
-use Rattle.fv_ready_rule.specs.Told.{Tells}
+use Rattle.fv_ready_rule.specs.Promised.{Tells}
 use Rattle.fv_ready_rule.proofs.Numbers.{long_numbers}
 use Rattle.fv_ready_rule.proofs.Claim.{all_le}
 use Rattle.fv_ready_rule.proofs.Taking.{give_all, none_left, valid_gives, at_below}

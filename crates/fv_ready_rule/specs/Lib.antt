@@ -3,6 +3,6 @@ pub mod Rule
 pub mod Shown
 pub mod Whole
 pub mod Carried
-pub mod Told
+pub mod Promised
 pub mod Spun
 pub mod Steps

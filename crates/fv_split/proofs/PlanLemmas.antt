@@ -19,7 +19,7 @@ use Rattle.fv_loopcode.specs.declared.step.Step.TheVariants as step
 use Rattle.fv_loopcode.specs.Code.{registers_after, NamesHeld, NamesInput, NamesLane, AreSound, IsSound, OperandsBelow}
 use Rattle.fv_loopcode.specs.Obeys.{Roles, Place, OfLane, nothing, ObeysStreams}
 use Rattle.fv_analysis.specs.Stands.{stand, stands_of}
-use Rattle.fv_analysis.specs.Reaching.{history_of}
+use Rattle.fv_analysis.specs.History.{history_of}
 use Rattle.fv_split_plan.specs.declared.lane.LaneInfo.{LaneInfo}
 use Rattle.fv_split_plan.specs.Separated.{lane_at, links_of, IsSeparated, AsOutput}
 use Rattle.fv_split_plan.specs.Fits.{Names, CodeFits}
@@ -27,20 +27,20 @@ use Rattle.fv_split_plan.specs.View.{PlanView, lane_info, code_of, loads_lane, r
 use Rattle.fv_split_plan.specs.Rows.{plan_with}
 use Rattle.fv_split_plan.specs.Plans.{LanesStand, LoopsStand, PlanStands, PlanReads, PlanNames, NamesChannel, LoadsWithin, IsPlanOf}
 use Rattle.fv_split_plan.proofs.FitsLemmas.{codes_obey, map_get}
-use Rattle.fv_split_lanes.specs.declared.places.Places.{Places}
+use Rattle.fv_split_lanes.specs.declared.lanes.Lanes.{Lanes}
 use Rattle.fv_split_code.specs.declared.kind.Kind.{Kind}
 use Rattle.fv_split_code.specs.Emitted.{steps_of, code_in, AreCodes}
 use Rattle.fv_split_code.specs.Held.{HoldsUpTo}
 use Rattle.fv_split_code.proofs.LoadLemmas.{fits_loaded, loads_may, held_counted, inputs_named, loads_within, code_sound}
 use Rattle.fv_split.specs.Lists.{AreInfos, AreCoded, lane_of}
-use Rattle.fv_split.specs.Told.{Told, told_all}
+use Rattle.fv_split.specs.ToldReads.{ReadsSoFar, reads_of_loops}
 use Rattle.fv_split.proofs.TellLemmas.{IsTold, LoadsFrom, LoopReads, all_told, few_pairs}
 use Rattle.fv_split.proofs.SuitLemmas.{Passes, tables_of, names_of, own_places, lower_loaded, MayLoad, may_load, in_loop, suits, separated_lane}
 
 map_items : (f : ℕ → ℤ) (xs : List ℕ) → map f xs ≡ table (length xs) (λ k. f (at xs k))
 map_items f xs = ap (map f) (sym (table_items xs 0)) ∙ map_table f (length xs) (λ i. get_or xs i 0)
 
-module _ (g : Graph) (p : Places) (stands : Vec ℕ Global) (bases kinds : Vec Kind Global) (numbers : List ℕ) (steps : List Step)
+module _ (g : Graph) (p : Lanes) (stands : Vec ℕ Global) (bases kinds : Vec Kind Global) (numbers : List ℕ) (steps : List Step)
     (passes : Passes g p stands bases kinds numbers steps)
     (codes : List (Vec Step Global)) (are_codes : AreCodes g (tables_of p stands bases kinds) p.loops codes) where
   abbrev graph : IsGraph g
@@ -97,7 +97,7 @@ module _ (g : Graph) (p : Places) (stands : Vec ℕ Global) (bases kinds : Vec K
 
   module _ (infos : List LaneInfo) (all : List (List Step)) (reads : List Reads) (outputs : List ℕ)
       (are_infos : AreInfos signals owners (table (length g.signals) (history_of g)) (length signals) infos) (coded : AreCoded codes (length codes) all)
-      (is_told : reads ≡ (told_all owners codes (length codes)).reads) (are_outputs : outputs ≡ map (lane_of (stands_of g) p.lanes.items) g.outputs) where
+      (is_told : reads ≡ (reads_of_loops owners codes (length codes)).reads) (are_outputs : outputs ≡ map (lane_of (stands_of g) p.lanes.items) g.outputs) where
     abbrev plan : PlanView
     plan = plan_with p.loops infos all reads outputs steps
 
@@ -231,7 +231,7 @@ module _ (g : Graph) (p : Places) (stands : Vec ℕ Global) (bases kinds : Vec K
 
     -- ---- reads
 
-    told : IsTold (LoopReads owners codes (length codes)) (length codes) (length codes) (told_all owners codes (length codes))
+    told : IsTold (LoopReads owners codes (length codes)) (length codes) (length codes) (reads_of_loops owners codes (length codes))
     told = all_told owners codes all_owned all_named (length codes)
 
     reads_sound : (j i : ℕ) → reads_loop reads j i ≡ true → LoopReads owners codes (length codes) j i

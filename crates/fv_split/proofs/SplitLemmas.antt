@@ -11,7 +11,7 @@ use Rattle.fv_loopcode.specs.declared.step.Step.TheVariants as step
 use Rattle.fv_loopcode.specs.Code.{AreSound, NamesLane, IsStill}
 use Rattle.fv_analysis.specs.Stands.{stands_of}
 use Rattle.fv_analysis.proofs.StandLemmas.{stands_long}
-use Rattle.fv_split_lanes.specs.declared.places.Places.{Places}
+use Rattle.fv_split_lanes.specs.declared.lanes.Lanes.{Lanes}
 use Rattle.fv_split_lanes.specs.Placed.{ArePlaced}
 use Rattle.fv_split_code.specs.Held.{HoldsUpTo}
 
@@ -29,7 +29,8 @@ pub stands_there : (n : ℕ) (stands : List ℕ) (lanes : List (Option ℕ)) →
 stands_there n stands lanes a e = All-weaker (λ s. s < n) (λ s. s < length lanes) (λ s l. omega (arith, l, e)) stands a
 
 -- the lanes' signals are there
-pub signals_there : (g : Graph) (p : Places) → ArePlaced g p → (signals histories : List ℕ) → signals ≡ p.signals.items → length histories ≡ length g.signals →
+pub signals_there : (g : Graph) (p : Lanes) → ArePlaced g p → (signals histories : List ℕ) → signals ≡ p.signals.items
+    → length histories ≡ length g.signals →
     All (λ s. s < length histories) signals
 signals_there g p placed signals histories es eh =
     subst (All (λ s. s < length histories)) (sym es)

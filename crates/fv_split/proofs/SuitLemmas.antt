@@ -18,12 +18,12 @@ use Rattle.fv_split_components.proofs.Walks.{reaches_self, reaches_trans}
 use Rattle.fv_loopcode.specs.declared.step.Step.{Step}
 use Rattle.fv_loopcode.specs.Obeys.{Roles, Place, OfLane}
 use Rattle.fv_analysis.specs.Stands.{node, stand, stands_of, StandsAt}
-use Rattle.fv_analysis.specs.Reaching.{history_of, history_from, greatest_delay, is_fed_back}
+use Rattle.fv_analysis.specs.History.{history_of, history_from, greatest_delay, is_fed_back}
 use Rattle.fv_analysis.proofs.StandLemmas.{IsNoMember, stands_well, stands_long as all_stand}
 use Rattle.fv_analysis.proofs.HistoryLemmas.{histories_cover}
 use Rattle.fv_split_plan.specs.Separated.{operands, lane_at, links_of, IsComputed, IsSeparated, AsOutput, AsDelayed, AsDefinition, AsShared, ReadsSignal}
 use Rattle.fv_split_plan.specs.Fits.{Names, IsAlways}
-use Rattle.fv_split_lanes.specs.declared.places.Places.{Places}
+use Rattle.fv_split_lanes.specs.declared.lanes.Lanes.{Lanes}
 use Rattle.fv_split_lanes.specs.Placed.{ArePlaced, IsInner}
 use Rattle.fv_split_lanes.proofs.RowLemmas.{operand_below, reads_reach, back_reaches, read_lower}
 use Rattle.fv_split_code.specs.declared.kind.Kind.{Kind}
@@ -65,7 +65,7 @@ may_load owners j l e =
     record { within = ltb-true l (length owners) both.0; lower = leb-true (at owners l) j both.1 }
 
 -- what the passes say of their tables
-pub record Passes (g : Graph) (p : Places) (stands : Vec ℕ Global) (bases kinds : Vec Kind Global) (numbers : List ℕ) (steps : List Step) : Type 0 where
+pub record Passes (g : Graph) (p : Lanes) (stands : Vec ℕ Global) (bases kinds : Vec Kind Global) (numbers : List ℕ) (steps : List Step) : Type 0 where
   pub graph : IsGraph g
   pub placed : ArePlaced g p
   pub is_stands : stands.items ≡ stands_of g
@@ -74,11 +74,11 @@ pub record Passes (g : Graph) (p : Places) (stands : Vec ℕ Global) (bases kind
   pub are_kinds : AreKinds bases.items p.lanes.items (length g.signals) kinds.items
 
 -- the tables of the emission
-abbrev pub tables_of : Places → (stands : Vec ℕ Global) → (bases kinds : Vec Kind Global) → Tables
+abbrev pub tables_of : Lanes → (stands : Vec ℕ Global) → (bases kinds : Vec Kind Global) → Tables
 tables_of p stands bases kinds = record { stands = stands; bases = bases; kinds = kinds; lanes = p.lanes; homes = p.homes; owners = p.owners }
 
 -- the names of the plan
-abbrev pub names_of : Graph → Places → (count : ℕ) → (signals : List ℕ) → Names
+abbrev pub names_of : Graph → Lanes → (count : ℕ) → (signals : List ℕ) → Names
 names_of g p count signals = record {
   lane = λ l. at p.signals.items l;
   history = λ l. history_of g (at p.signals.items l);
@@ -86,7 +86,7 @@ names_of g p count signals = record {
   held = λ k. at signals k;
 }
 
-module _ (g : Graph) (p : Places) (stands : Vec ℕ Global) (bases kinds : Vec Kind Global) (numbers : List ℕ) (steps : List Step)
+module _ (g : Graph) (p : Lanes) (stands : Vec ℕ Global) (bases kinds : Vec Kind Global) (numbers : List ℕ) (steps : List Step)
     (passes : Passes g p stands bases kinds numbers steps) where
   abbrev graph : IsGraph g
   graph = passes.graph

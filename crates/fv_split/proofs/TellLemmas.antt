@@ -15,7 +15,7 @@ use Rattle.fv_loopcode.specs.Code.{NamesLane}
 use Rattle.fv_split_plan.specs.Separated.{lane_at}
 use Rattle.fv_split_plan.specs.View.{loads_lane}
 use Rattle.fv_split_code.specs.Emitted.{code_in}
-use Rattle.fv_split.specs.Told.{Told, was_told, told_with, told_step, told_steps, told_all}
+use Rattle.fv_split.specs.ToldReads.{ReadsSoFar, was_told, with_read, reads_of_step, reads_of_steps, reads_of_loops}
 
 -- ---- lists of reads
 
@@ -67,7 +67,7 @@ told_at (r ∷ rs) (suc k) d l = ap (λ b. is_pair (get_or rs k d).reader (get_o
 -- ---- what is told so far
 
 -- just the pairs with P are told, each once, and of loop j, which is told last, each loop knows whether it reads it
-pub record IsTold (P : ℕ → ℕ → Type 0) (j loops : ℕ) (t : Told) : Type 0 where
+pub record IsTold (P : ℕ → ℕ → Type 0) (j loops : ℕ) (t : ReadsSoFar) : Type 0 where
   pub long : length t.last ≡ loops
   pub sound : (r i : ℕ) → reads_loop t.reads r i ≡ true → P r i
   pub all : (r i : ℕ) → P r i → reads_loop t.reads r i ≡ true
@@ -77,7 +77,7 @@ pub record IsTold (P : ℕ → ℕ → Type 0) (j loops : ℕ) (t : Told) : Type
   pub before : (i r : ℕ) → lane_at t.last i ≡ Some r → r ≤ j
 
 -- the same pairs, said otherwise
-same_told : (P Q : ℕ → ℕ → Type 0) (j loops : ℕ) (t : Told) →
+same_told : (P Q : ℕ → ℕ → Type 0) (j loops : ℕ) (t : ReadsSoFar) →
     ((r i : ℕ) → P r i → Q r i) → ((r i : ℕ) → Q r i → P r i) → IsTold P j loops t → IsTold Q j loops t
 same_told P Q j loops t f h k = record {
   long = k.long;
@@ -93,7 +93,7 @@ same_told P Q j loops t f h k = record {
 abbrev WithSource : (P : ℕ → ℕ → Type 0) → (j i : ℕ) → ℕ → ℕ → Type 0
 WithSource P j i r k = P r k ⊎ ((r ≡ j) × (k ≡ i) × (i ≢ j))
 
-module _ (P : ℕ → ℕ → Type 0) (j i loops : ℕ) (t : Told) (h : IsTold P j loops t) (l : i < loops) where
+module _ (P : ℕ → ℕ → Type 0) (j i loops : ℕ) (t : ReadsSoFar) (h : IsTold P j loops t) (l : i < loops) where
   -- it is the loop itself, or was told before
   known : (i ≢ j → reads_loop t.reads j i ≡ true) → IsTold (WithSource P j i) j loops t
   known told = record {
@@ -112,7 +112,7 @@ module _ (P : ℕ → ℕ → Type 0) (j i loops : ℕ) (t : Told) (h : IsTold P
   abbrev pair : Reads
   pair = record { reader = j; source = i }
 
-  abbrev more : Told
+  abbrev more : ReadsSoFar
   more = record { reads = t.reads ++ pair ∷ []; last = slice_set t.last i (Some j) }
 
   -- it is told now
@@ -183,7 +183,7 @@ module _ (P : ℕ → ℕ → Type 0) (j i loops : ℕ) (t : Told) (h : IsTold P
               omega (arith, pushed, ap bit e, z)
           go false e = let z = h.once r k in omega (arith, pushed, ap bit e, z)
 
-  pub told_more : IsTold (WithSource P j i) j loops (told_with j i t)
+  pub told_more : IsTold (WithSource P j i) j loops (with_read j i t)
   told_more = elim (cases_eq i j) [
     | inl e ↦
         subst (IsTold (WithSource P j i) j loops) (sym (cond-true (nat_eq i j || was_told (lane_at t.last i) j) t more (ap (λ b. b || was_told
@@ -192,7 +192,7 @@ module _ (P : ℕ → ℕ → Type 0) (j i loops : ℕ) (t : Told) (h : IsTold P
     | inr d ↦ go d (was_told (lane_at t.last i) j) refl
   ]
     where
-      go : i ≢ j → (b : Bool) → was_told (lane_at t.last i) j ≡ b → IsTold (WithSource P j i) j loops (told_with j i t)
+      go : i ≢ j → (b : Bool) → was_told (lane_at t.last i) j ≡ b → IsTold (WithSource P j i) j loops (with_read j i t)
       go d true e =
           subst (IsTold (WithSource P j i) j loops) (sym (cond-true (nat_eq i j || was_told (lane_at t.last i) j) t more (ap (λ b. nat_eq i j || b) e
           ∙ or_true (nat_eq i j))))
@@ -216,15 +216,15 @@ WithSteps P owners j steps r k = P r k ⊎ ((r ≡ j) × (k ≢ j) × LoadsFrom 
 
 module _ (owners : List ℕ) (j loops : ℕ) (owned : All (λ k. k < loops) owners) where
   -- a step that loads nothing
-  skip : (P : ℕ → ℕ → Type 0) (s : Step) (ss : List Step) (t : Told) → ((l : ℕ) → loads_lane l (s ∷ ss) ≡ loads_lane l ss) →
+  skip : (P : ℕ → ℕ → Type 0) (s : Step) (ss : List Step) (t : ReadsSoFar) → ((l : ℕ) → loads_lane l (s ∷ ss) ≡ loads_lane l ss) →
       IsTold (WithSteps P owners j ss) j loops t →
       IsTold (WithSteps P owners j (s ∷ ss)) j loops t
   skip P s ss t e h = same_told (WithSteps P owners j ss) (WithSteps P owners j (s ∷ ss)) j loops t
       (λ r k q. elim q [ inl y ↦ inl y | inr y ↦ inr (y.0, y.1, record { lane = y.2.lane; loads = e y.2.lane ∙ y.2.loads; owner = y.2.owner }) ])
       (λ r k q. elim q [ inl y ↦ inl y | inr y ↦ inr (y.0, y.1, record { lane = y.2.lane; loads = sym (e y.2.lane) ∙ y.2.loads; owner = y.2.owner }) ]) h
 
-  pub steps_told : (P : ℕ → ℕ → Type 0) (steps : List Step) (t : Told) → All (λ s. NamesLane (length owners) s) steps → IsTold P j loops t →
-      IsTold (WithSteps P owners j steps) j loops (told_steps owners j t steps)
+  pub steps_told : (P : ℕ → ℕ → Type 0) (steps : List Step) (t : ReadsSoFar) → All (λ s. NamesLane (length owners) s) steps → IsTold P j loops t →
+      IsTold (WithSteps P owners j steps) j loops (reads_of_steps owners j t steps)
   steps_told P [] t a h = same_told P (WithSteps P owners j []) j loops t (λ r k q. inl q) (λ r k q. elim q [
     | inl y ↦ y
     | inr y ↦ absurd (let z : false ≡ true =
@@ -244,9 +244,9 @@ module _ (owners : List ℕ) (j loops : ℕ) (owned : All (λ k. k < loops) owne
       let there : lane < length owners = All-head (NamesLane (length owners)) (step.Load lane back max) ss a in
       let l : source < loops = All-get_or (λ k. k < loops) owners lane 0 there owned in
       let one = told_more P j source loops t h l in
-      let rest = steps_told (WithSource P j source) ss (told_with j source t) (All-tail (NamesLane (length owners)) (step.Load lane back max) ss a) one in
-      same_told (WithSteps (WithSource P j source) owners j ss) (WithSteps P owners j (step.Load lane back max ∷ ss)) j loops (told_steps owners j
-      (told_with j source t) ss)
+      let rest = steps_told (WithSource P j source) ss (with_read j source t) (All-tail (NamesLane (length owners)) (step.Load lane back max) ss a) one in
+      same_told (WithSteps (WithSource P j source) owners j ss) (WithSteps P owners j (step.Load lane back max ∷ ss)) j loops (reads_of_steps owners j
+      (with_read j source t) ss)
       (λ r k q. elim q [
         | inl y ↦ elim y [
           | inl z ↦ inl z
@@ -299,7 +299,7 @@ module _ (owners : List ℕ) (codes : List (Vec Step Global)) (owned : All (λ k
   loops = length codes
 
   -- nothing is told
-  nothing : IsTold (LoopReads owners codes 0) 0 loops (told_all owners codes 0)
+  nothing : IsTold (LoopReads owners codes 0) 0 loops (reads_of_loops owners codes 0)
   nothing = record {
     long = length-replicate loops None;
     sound = λ r i e. absurd (let z : false ≡ true = e in cc);
@@ -316,7 +316,7 @@ module _ (owners : List ℕ) (codes : List (Vec Step Global)) (owned : All (λ k
       none (suc n) (suc i) = none n i
 
   -- the next loop was told nothing yet
-  next : (P : ℕ → ℕ → Type 0) (j : ℕ) (t : Told) → ((r i : ℕ) → P r i → r ≤ j) → IsTold P j loops t → IsTold P (suc j) loops t
+  next : (P : ℕ → ℕ → Type 0) (j : ℕ) (t : ReadsSoFar) → ((r i : ℕ) → P r i → r ≤ j) → IsTold P j loops t → IsTold P (suc j) loops t
   next P j t low h = record {
     long = h.long;
     sound = h.sound;
@@ -331,12 +331,13 @@ module _ (owners : List ℕ) (codes : List (Vec Step Global)) (owned : All (λ k
       none i None z e = cc
       none i (Some r) z e = let y = h.before i r z in let w = eqb-true r (suc j) e in omega arith
 
-  pub all_told : (n : ℕ) → IsTold (LoopReads owners codes n) n loops (told_all owners codes n)
+  pub all_told : (n : ℕ) → IsTold (LoopReads owners codes n) n loops (reads_of_loops owners codes n)
   all_told zero = nothing
   all_told (suc n) =
-      let h = steps_told owners n loops owned (LoopReads owners codes n) (code_in codes n) (told_all owners codes n) (named n) (all_told n) in
-      next (LoopReads owners codes (suc n)) n (told_all owners codes (suc n)) (λ r i q. let b = q.below in omega arith)
-      (same_told (WithSteps (LoopReads owners codes n) owners n (code_in codes n)) (LoopReads owners codes (suc n)) n loops (told_all owners codes (suc n))
+      let h = steps_told owners n loops owned (LoopReads owners codes n) (code_in codes n) (reads_of_loops owners codes n) (named n) (all_told n) in
+      next (LoopReads owners codes (suc n)) n (reads_of_loops owners codes (suc n)) (λ r i q. let b = q.below in omega arith)
+      (same_told (WithSteps (LoopReads owners codes n) owners n (code_in codes n)) (LoopReads owners codes (suc n)) n loops
+      (reads_of_loops owners codes (suc n))
       (λ r i q. elim q [
         | inl y ↦ record { below = (let b = y.below in omega arith); other = y.other; loads = y.loads }
         | inr y ↦ record { below = omega (arith, y.0); other = (λ e. y.1 (e ∙ y.0)); loads = subst (λ k. LoadsFrom owners i (code_in codes k)) (sym y.0) y.2 }
@@ -402,23 +403,23 @@ few_pairs n rs low once =
 
 -- ---- the lists of last readers stay as long
 
-length_with : (j i : ℕ) (t : Told) → length (told_with j i t).last ≡ length t.last
+length_with : (j i : ℕ) (t : ReadsSoFar) → length (with_read j i t).last ≡ length t.last
 length_with j i t =
-    let more : Told = record { reads = t.reads ++ record { reader = j; source = i } ∷ []; last = slice_set t.last i (Some j) } in
+    let more : ReadsSoFar = record { reads = t.reads ++ record { reader = j; source = i } ∷ []; last = slice_set t.last i (Some j) } in
     elim (nat_eq i j || was_told (lane_at t.last i) j) as (λ b. length (if b then t else more).last ≡ length t.last) [
       | true ↦ refl
       | false ↦ length-set t.last i (Some j)
     ]
 
-pub length_steps : (owners : List ℕ) (j : ℕ) (t : Told) (steps : List Step) → length (told_steps owners j t steps).last ≡ length t.last
+pub length_steps : (owners : List ℕ) (j : ℕ) (t : ReadsSoFar) (steps : List Step) → length (reads_of_steps owners j t steps).last ≡ length t.last
 length_steps owners j t [] = refl
 length_steps owners j t (step.Number n ∷ ss) = length_steps owners j t ss
 length_steps owners j t (step.Held k ∷ ss) = length_steps owners j t ss
 length_steps owners j t (step.Input i ∷ ss) = length_steps owners j t ss
 length_steps owners j t (step.Point op args ∷ ss) = length_steps owners j t ss
-length_steps owners j t (step.Load lane back max ∷ ss) = length_steps owners j (told_with j (at owners lane) t) ss ∙ length_with j (at owners lane) t
+length_steps owners j t (step.Load lane back max ∷ ss) = length_steps owners j (with_read j (at owners lane) t) ss ∙ length_with j (at owners lane) t
 length_steps owners j t (step.Append lane value ∷ ss) = length_steps owners j t ss
 
-pub length_all : (owners : List ℕ) (codes : List (Vec Step Global)) (n : ℕ) → length (told_all owners codes n).last ≡ length codes
+pub length_all : (owners : List ℕ) (codes : List (Vec Step Global)) (n : ℕ) → length (reads_of_loops owners codes n).last ≡ length codes
 length_all owners codes zero = length-replicate (length codes) None
-length_all owners codes (suc n) = length_steps owners n (told_all owners codes n) (code_in codes n) ∙ length_all owners codes n
+length_all owners codes (suc n) = length_steps owners n (reads_of_loops owners codes n) (code_in codes n) ∙ length_all owners codes n

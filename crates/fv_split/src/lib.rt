@@ -1,10 +1,10 @@
 // How a graph is split into loops.
 #![tactic(auto)]
 
-mod basing;
-mod coding;
+mod kinds;
 mod lists;
+mod loop_code;
 mod splitting;
-mod telling;
+mod told_reads;
 
 pub use splitting::split;

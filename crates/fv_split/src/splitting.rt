@@ -3,17 +3,17 @@
 ghost use Rattle.std.specs.Prelude.{◌≡◌, length, IfOk};
 ghost use Rattle.fv_num.specs.Frames.{table};
 ghost use Rattle.fv_signal.specs.Rates.{rates as rates_of};
-ghost use Rattle.fv_analysis.specs.Reaching.{history_of};
+ghost use Rattle.fv_analysis.specs.History.{history_of};
 ghost use Rattle.fv_split_plan.specs.Plans.{PlanStands, PlanReads, PlanNames};
 
-use crate::basing::{bases, kinds};
-use crate::coding::{all_code, code};
+use crate::kinds::{bases, kinds};
 use crate::lists::{infos, output_lanes};
-use crate::telling::reads;
+use crate::loop_code::{all_code, code};
+use crate::told_reads::reads;
 use fv_analysis::{Histories, Rates, stands};
 use fv_signal::Graph;
 use fv_split_code::{Tables, codes, held_code};
-use fv_split_lanes::place;
+use fv_split_lanes::assign_lanes;
 use fv_split_plan::Plan;
 use std::alloc::{AllocError, Global};
 

@@ -2,12 +2,12 @@
 #![tactic(auto)]
 
 mod emit;
-mod holding;
+mod held;
 mod kind;
 mod operand;
 mod tables;
 
 pub use emit::codes;
-pub use holding::{HeldValues, held_code};
+pub use held::{HeldValues, held_code};
 pub use kind::Kind;
 pub use tables::Tables;

@@ -9,8 +9,8 @@ use Rattle.fv_signal.specs.Rates.{rates}
 use Rattle.fv_split_components.specs.Reach.{next_of, at, AreLinks, AreComponents}
 use Rattle.fv_split_components.proofs.Walks.{reaches_trans}
 use Rattle.fv_split_plan.specs.Separated.{AsShared, links_of}
-use Rattle.fv_split_lanes.specs.declared.places.Places.{Places}
-use Rattle.fv_split_lanes.specs.declared.places.Numbering.{Numbering}
+use Rattle.fv_split_lanes.specs.declared.lanes.Lanes.{Lanes}
+use Rattle.fv_split_lanes.specs.declared.lanes.Numbering.{Numbering}
 use Rattle.fv_split_lanes.specs.declared.reader.Reader.{Reader}
 use Rattle.fv_split_lanes.specs.declared.reader.Reader.TheVariants.{Many}
 use Rattle.fv_split_lanes.specs.Rows.{reads_of, AreRows}
@@ -99,7 +99,7 @@ module _ (g : Graph) (graph : IsGraph g) (marks inner : List Bool) (numbers rank
   abbrev signal : ℕ → ℕ
   signal l = at p.signals.items l
 
-  abbrev placed : Places
+  abbrev placed : Lanes
   placed = record { lanes = p.lanes; signals = p.signals; owners = p.owners; loops = loops; homes = homes }
 
   many : length marks ≡ length g.signals

@@ -7,7 +7,7 @@ use Rattle.fv_signal.specs.Rates.{rate_at}
 use Rattle.fv_split_components.specs.Reach.{at}
 use Rattle.fv_analysis.specs.Stands.{node}
 use Rattle.fv_split_plan.specs.Separated.{lane_at, IsComputed}
-use Rattle.fv_split_lanes.specs.declared.places.Numbering.{Numbering}
+use Rattle.fv_split_lanes.specs.declared.lanes.Numbering.{Numbering}
 use Rattle.fv_split_lanes.specs.Homes.{bit_at}
 
 -- one signal more, with a lane of its loop

@@ -6,7 +6,7 @@ use Rattle.fv_signal.specs.Rates.{rate_of}
 use Rattle.fv_split_components.specs.Reach.{at, Reaches}
 use Rattle.fv_analysis.specs.Stands.{node}
 use Rattle.fv_split_plan.specs.Separated.{lane_at, IsSeparated, IsComputed, ReadsSignal, links_of}
-use Rattle.fv_split_lanes.specs.declared.places.Places.{Places}
+use Rattle.fv_split_lanes.specs.declared.lanes.Lanes.{Lanes}
 
 -- a signal that is computed inside the code of the one that reads it
 pub record IsInner (g : Graph) (s : ℕ) : Type 0 where
@@ -16,7 +16,7 @@ pub record IsInner (g : Graph) (s : ℕ) : Type 0 where
   pub alone : ¬ IsSeparated g s
 
 -- Just the separated signals have lanes, each its own.
-pub record LanesArePlaced (g : Graph) (p : Places) : Type 0 where
+pub record LanesArePlaced (g : Graph) (p : Lanes) : Type 0 where
   pub long : length p.lanes.items ≡ length g.signals
   pub owned : length p.owners.items ≡ length p.signals.items
   pub named : (l : ℕ) → l < length p.signals.items → (at p.signals.items l < length g.signals) × (lane_at p.lanes.items (at p.signals.items l) ≡ Some l)
@@ -24,7 +24,7 @@ pub record LanesArePlaced (g : Graph) (p : Places) : Type 0 where
   pub all : (s : ℕ) → IsSeparated g s → (l : ℕ) × (lane_at p.lanes.items s ≡ Some l)
 
 -- Two lanes have one loop exactly where each of their signals reaches the other, and what a lane's signal reaches has no greater loop.
-pub record LoopsArePlaced (g : Graph) (p : Places) : Type 0 where
+pub record LoopsArePlaced (g : Graph) (p : Lanes) : Type 0 where
   pub below : (l : ℕ) → l < length p.signals.items → at p.owners.items l < p.loops
   pub together : (l m : ℕ) → l < length p.signals.items → m < length p.signals.items →
       (at p.owners.items l ≡ at p.owners.items m)
@@ -34,7 +34,7 @@ pub record LoopsArePlaced (g : Graph) (p : Places) : Type 0 where
   pub some : (j : ℕ) → j < p.loops → (l : ℕ) × (l < length p.signals.items) × (at p.owners.items l ≡ j)
 
 -- Where signals are at home. A home that is not below loops is none.
-pub record HomesArePlaced (g : Graph) (p : Places) : Type 0 where
+pub record HomesArePlaced (g : Graph) (p : Lanes) : Type 0 where
   pub long : length p.homes.items ≡ length g.signals
   -- a signal with a lane is at home in its loop
   pub lanes : (l : ℕ) → l < length p.signals.items → at p.homes.items (at p.signals.items l) ≡ at p.owners.items l
@@ -47,7 +47,7 @@ pub record HomesArePlaced (g : Graph) (p : Places) : Type 0 where
       at p.owners.items l ≤ at p.homes.items s
 
 -- the places of all signals
-pub record ArePlaced (g : Graph) (p : Places) : Type 0 where
+pub record ArePlaced (g : Graph) (p : Lanes) : Type 0 where
   pub lanes : LanesArePlaced g p
   pub loops : LoopsArePlaced g p
   pub homes : HomesArePlaced g p

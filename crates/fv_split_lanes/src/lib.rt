@@ -2,10 +2,10 @@
 #![tactic(auto)]
 
 mod home;
+mod lanes;
 mod mark;
-mod places;
 mod rank;
 mod reader;
 mod rows;
 
-pub use places::{Places, place};
+pub use lanes::{Lanes, place};

@@ -5,7 +5,7 @@ ghost use Rattle.fv_signal.specs.Value.{IsGraph};
 ghost use Rattle.fv_signal.specs.Rates.{rates as rates_of};
 ghost use Rattle.fv_split_components.specs.Reach.{at};
 ghost use Rattle.fv_analysis.specs.Stands.{stands_of};
-ghost use Rattle.fv_analysis.specs.Reaching.{IsOver};
+ghost use Rattle.fv_analysis.specs.History.{IsOver};
 ghost use Rattle.fv_split_plan.specs.Separated.{IsComputed};
 ghost use Rattle.fv_split_lanes.specs.Rows.{reads_of};
 ghost use Rattle.fv_split_lanes.specs.Homes.{bit_at};

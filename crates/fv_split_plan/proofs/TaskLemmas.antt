@@ -9,7 +9,7 @@ use Rattle.fv_loopcode.specs.Obeys.{Place, OfLane, IsAmong, ObeysAt, window}
 use Rattle.fv_loopcode.proofs.Tasks.{tasks_are_done}
 use Rattle.fv_loopcode.proofs.Streams.{streams_obey}
 use Rattle.fv_loopcode.proofs.Named.{named_alone_count}
-use Rattle.fv_analysis.specs.Reaching.{history_of, HasReason, OfDelay, OfBack}
+use Rattle.fv_analysis.specs.History.{history_of, HasReason, OfDelay, OfBack}
 use Rattle.fv_analysis.proofs.HistoryLemmas.{histories_cover}
 use Rattle.fv_split_plan.specs.Fits.{flows}
 use Rattle.fv_split_plan.specs.View.{PlanView, lane_info, code_of, roles_of}

@@ -13,7 +13,7 @@ use Rattle.fv_loopcode.specs.Code.{registers_after, NamesHeld, NamesInput, IsSti
 use Rattle.fv_loopcode.specs.State.{lanes_alone}
 use Rattle.fv_loopcode.specs.Obeys.{ObeysStreams}
 use Rattle.fv_analysis.specs.Stands.{stand, StandsAt}
-use Rattle.fv_analysis.specs.Reaching.{history_of}
+use Rattle.fv_analysis.specs.History.{history_of}
 use Rattle.fv_split_plan.specs.Separated.{IsSeparated, links_of}
 use Rattle.fv_split_plan.specs.Fits.{Names, flows}
 use Rattle.fv_split_plan.specs.View.{PlanView, lane_info, code_of, roles_of}

@@ -10,7 +10,7 @@ use Rattle.fv_ready_rule.specs.Rule.{done_by, claims, zeroes}
 use Rattle.fv_ready.specs.declared.board.Board.{Board}
 use Rattle.fv_ready.specs.Seats.{view_of, slots_of, hand_of}
 use Rattle.fv_ready.specs.Boards.{about_of, name_of}
-use Rattle.fv_ready.specs.Told.{NothingLeft}
+use Rattle.fv_ready.specs.Counted.{NothingLeft}
 use Rattle.fv_deque.specs.Deques.{account_of, lies_at, robs, taken_by}
 use Rattle.fv_steal.specs.declared.worker.Worker.{Worker}
 use Rattle.fv_steal.specs.Crews.{did, took, seat_of, IsWorkerOf, IsEven, IsSame, IsCrew}

@@ -11,7 +11,7 @@ use Rattle.fv_graph.specs.Graph.{Graph, net_of}
 use Rattle.fv_ready_rule.specs.Shown.{OwesNothing}
 use Rattle.fv_ready.specs.Boards.{about_of, graph_of, AreSeatsOf}
 use Rattle.fv_ready.proofs.Seated.{owes_nothing}
-use Rattle.fv_ready.specs.Told.{HaveAll}
+use Rattle.fv_ready.specs.Counted.{HaveAll}
 use Rattle.fv_steal.specs.declared.worker.Worker.{Worker}
 use Rattle.fv_steal.specs.Crews.{did, seat_of, IsWorkerOf}
 use Rattle.fv_steal.proofs.Drainings.{total_map}

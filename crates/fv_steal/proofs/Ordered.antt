@@ -29,7 +29,7 @@ use Rattle.fv_ready_rule.specs.Whole.{starts_at, finishes_at}
 use Rattle.fv_ready_rule.proofs.Claim.{total_ext}
 use Rattle.fv_ready.specs.declared.seat.WorkerSeat.{WorkerSeat}
 use Rattle.fv_ready.specs.Seats.{view_of}
-use Rattle.fv_ready.specs.Told.{told_by}
+use Rattle.fv_ready.specs.Counted.{told_by}
 use Rattle.fv_steal.specs.declared.worker.Worker.{Worker}
 use Rattle.fv_steal.specs.Crews.{did, seat_of, lines_of, number_in, IsLineOf, IsJournalOf}
 use Rattle.fv_steal.specs.Journals.{AreThrough, AreSortedLines}

@@ -8,7 +8,7 @@ ghost use Rattle.fv_ready_rule.specs.Rule.{done_by, claims, zeroes};
 ghost use Rattle.fv_ready_rule.specs.Shown.{OwesNothing};
 ghost use Rattle.fv_ready.specs.Boards.{name_of, about_of, graph_of, AreSeatsOf};
 ghost use Rattle.fv_deque.specs.Deques.{account_of, robs, taken_by};
-ghost use Rattle.fv_ready.specs.Told.{NothingLeft, HaveAll};
+ghost use Rattle.fv_ready.specs.Counted.{NothingLeft, HaveAll};
 ghost use Rattle.fv_steal.specs.Crews.{did, took, seat_of, IsWorkerOf, IsSame, IsEven, IsCrew};
 ghost use Rattle.fv_steal.specs.Drains.{HaveNone, AreDrained};
 

@@ -9,5 +9,5 @@ returns-clause-sound c = program_sound
 pub returns-clause-complete : goal.returns-clause-complete
 returns-clause-complete c = λ limit ts x. program_complete ts x limit
 
-pub returns-clause-room : goal.returns-clause-room
-returns-clause-room c = λ limit ts h. nests_among limit 0 ts (omega arith)
+pub returns-clause-nesting : goal.returns-clause-nesting
+returns-clause-nesting c = λ limit ts h. nests_among limit 0 ts (omega arith)

@@ -4,13 +4,13 @@ use Rattle.fv_base.proofs.Lists.{length_table}
 use Rattle.fv_signal.specs.Rates.{rates}
 use Rattle.fv_loopcode.specs.Code.{AreSound, NamesLane}
 use Rattle.fv_analysis.specs.Stands.{stands_of}
-use Rattle.fv_analysis.specs.Reaching.{history_of}
+use Rattle.fv_analysis.specs.History.{history_of}
 use Rattle.fv_analysis.proofs.StandLemmas.{stands_long}
 use Rattle.fv_split_plan.specs.Rows.{plan_with}
 use Rattle.fv_split_plan.specs.Plans.{PlanStands, PlanReads, PlanNames, IsPlanOf}
 use Rattle.fv_split_code.specs.Emitted.{code_in}
 use Rattle.fv_split.specs.Lists.{lane_of}
-use Rattle.fv_split.specs.Told.{told_all}
+use Rattle.fv_split.specs.ToldReads.{reads_of_loops}
 use Rattle.fv_split.proofs.ListLemmas.{same_bases, same_kinds, same_infos}
 use Rattle.fv_split.proofs.SplitLemmas.{rates_long, outputs_there, signals_there}
 use Rattle.fv_split.proofs.SuitLemmas.{Passes, are_tables}
@@ -93,8 +93,8 @@ plan c tables =
     let are_infos = same_infos c.deref-9.result.now p.signals.items c.deref-10.result.now p.owners.items c.args.histories.now histories
     (length c.deref-9.result.now) (length p.signals.items) c.in_ok-lanes.lanes.items c.deref-9.ensures.value c.deref-10.ensures.value c.requires.histories
     (ap length c.deref-9.ensures.value) c.in_ok-lanes.ensures in
-    let is_told = c.in_ok-told.ensures ∙ ap (λ os. (told_all os c.deref-11.result.now (length c.deref-11.result.now)).reads) c.deref-12.ensures.value
-    ∙ ap (λ xs. (told_all p.owners.items xs (length xs)).reads) c.deref-11.ensures.value in
+    let is_told = c.in_ok-told.ensures ∙ ap (λ os. (reads_of_loops os c.deref-11.result.now (length c.deref-11.result.now)).reads) c.deref-12.ensures.value
+    ∙ ap (λ xs. (reads_of_loops p.owners.items xs (length xs)).reads) c.deref-11.ensures.value in
     let are_outputs = c.in_ok-outputs.ensures ∙ ap (λ os. map (lane_of c.deref-7.result.now c.deref-8.result.now) os) c.outputs-named.ensures.list
     ∙ ap (λ ss. map (lane_of ss c.deref-8.result.now) g.outputs) (c.deref-7.ensures.value ∙ c.in_ok-stands.ensures.stands)
     ∙ ap (λ ls. map (lane_of (stands_of g) ls) g.outputs) c.deref-8.ensures.value in

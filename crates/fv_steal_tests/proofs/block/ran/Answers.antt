@@ -1,6 +1,6 @@
 use Rattle.std.proofs.Common.{◌≡◌, ◌<◌, map, length, refl, sym, ap, ◌∙◌, subst, arith, vec_len}
 use Rattle.fv_ready.specs.Boards.{about_of}
-use Rattle.fv_ready.specs.Told.{HaveAll}
+use Rattle.fv_ready.specs.Counted.{HaveAll}
 use Rattle.fv_steal.specs.Crews.{seat_of}
 use Rattle.fv_steal_tests.proofs.Noting.{written}
 use Rattle.fv_steal_tests.proofs.block.ran.Goals as goal

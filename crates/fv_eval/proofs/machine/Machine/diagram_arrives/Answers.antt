@@ -1,8 +1,8 @@
 use Rattle.std.proofs.Common.{Ok, sym, subst}
-use Rattle.fv_eval.specs.declared.frame.ForDiagram as code_for_diagram
-use Rattle.fv_eval.specs.declared.frame.Focus.TheVariants as focus
+use Rattle.fv_eval.specs.declared.continuation.ForDiagram as code_for_diagram
+use Rattle.fv_eval.specs.declared.continuation.Focus.TheVariants as focus
 use Rattle.fv_rules.specs.declared.value.Value.TheVariants as value
-use Rattle.fv_eval.specs.Frames.{gave}
+use Rattle.fv_eval.specs.Continuations.{gave}
 use Rattle.fv_eval.proofs.Received.{Receives, received, left_receives, right_receives, later_receives, negated_receives, binding_receives, ports_receives}
 use Rattle.fv_eval.proofs.Received.{turning_receives, counting_receives, body_receives, finish_receives}
 use Rattle.fv_eval.proofs.machine.Machine.diagram_arrives.Goals as goal
@@ -47,7 +47,7 @@ returns-in-Right c =
     let m = c.args.self.now in
     let r = c.join.result in
     let f = c.in-Right in
-    received p m (record m { drawing = c.join.new.self }) (gave r) c.give.result c.args.frame _ c.args.diagram c.give.ensures f.is
+    received p m (record m { drawing = c.join.new.self }) (gave r) c.give.result c.args.continuation _ c.args.diagram c.give.ensures f.is
     (right_receives p m c.join.new.self r f.operator f.left c.args.diagram c.join.ensures.keeps c.join.ensures.makes)
 
 pub returns-in-Later : goal.returns-in-Later
@@ -56,7 +56,7 @@ returns-in-Later c =
     let m = c.args.self.now in
     let r = c.delay.result in
     let f = c.in-Later in
-    received p m (record m { drawing = c.delay.new.self }) (gave r) c.give-in-Later.result c.args.frame _ c.args.diagram c.give-in-Later.ensures f.is
+    received p m (record m { drawing = c.delay.new.self }) (gave r) c.give-in-Later.result c.args.continuation _ c.args.diagram c.give-in-Later.ensures f.is
     (later_receives p m c.delay.new.self r c.args.diagram c.delay.ensures.keeps c.delay.ensures.makes)
 
 pub returns-in-Negated : goal.returns-in-Negated
@@ -65,7 +65,8 @@ returns-in-Negated c =
     let m = c.args.self.now in
     let r = c.negate.result in
     let f = c.in-Negated in
-    received p m (record m { drawing = c.negate.new.self }) (gave r) c.give-in-Negated.result c.args.frame _ c.args.diagram c.give-in-Negated.ensures f.is
+    received p m (record m { drawing = c.negate.new.self }) (gave r) c.give-in-Negated.result c.args.continuation _ c.args.diagram
+    c.give-in-Negated.ensures f.is
     (negated_receives p m c.negate.new.self r c.args.diagram c.negate.ensures.keeps c.negate.ensures.makes)
 
 pub returns-in-Binding : goal.returns-in-Binding
@@ -74,7 +75,8 @@ returns-in-Binding c =
     let m = c.args.self.now in
     let r = c.bind_all.result in
     let f = c.in-Binding in
-    received p m (record m { drawing = c.bind_all.new.self }) (gave r) c.give-in-Binding.result c.args.frame _ c.args.diagram c.give-in-Binding.ensures f.is
+    received p m (record m { drawing = c.bind_all.new.self }) (gave r) c.give-in-Binding.result c.args.continuation _ c.args.diagram
+    c.give-in-Binding.ensures f.is
     (binding_receives p m c.bind_all.new.self r f.slot f.slots c.args.diagram c.bind_all.ensures.keeps c.bind_all.ensures.makes)
 
 pub returns-in_ok-push-in-Turning : goal.returns-in_ok-push-in-Turning

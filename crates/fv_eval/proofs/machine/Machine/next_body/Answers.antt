@@ -6,7 +6,7 @@ use Rattle.fv_parse_tree.specs.Arena.{PartsBelow}
 use Rattle.fv_parse_tree.specs.declared.node.TreeNode.{TreeNode}
 use Rattle.fv_parse.specs.Trees.{Parsed, node_tree, size_of, start_in, tree_in}
 use Rattle.fv_rules.specs.declared.refusal.EvalRefusal.{EvalRefusal}
-use Rattle.fv_eval.specs.declared.frame.Focus as code_focus
+use Rattle.fv_eval.specs.declared.continuation.Focus as code_focus
 use Rattle.fv_eval.proofs.Received.{Repeats}
 use Rattle.fv_eval.proofs.Iterated.{bodies_end, body_waits}
 use Rattle.fv_eval.proofs.Forms.{is_no_other_iteration}

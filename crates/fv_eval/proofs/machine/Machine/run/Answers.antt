@@ -1,8 +1,8 @@
 use Rattle.std.proofs.Common.{Result, Ok, ap, subst, ◌∙◌}
 use Rattle.fv_rules.specs.declared.refusal.EvalRefusal.{EvalRefusal}
 use Rattle.fv_eval_machine.specs.Machine.{step}
-use Rattle.fv_eval.specs.declared.frame.Focus.{Focus}
-use Rattle.fv_eval.specs.Frames.{Continues, Goes}
+use Rattle.fv_eval.specs.declared.continuation.Focus.{Focus}
+use Rattle.fv_eval.specs.Continuations.{Continues, Goes}
 use Rattle.fv_eval.proofs.Runs.{goes_on, run_done, run_refused}
 use Rattle.fv_eval.proofs.machine.Machine.run.Goals as goal
 

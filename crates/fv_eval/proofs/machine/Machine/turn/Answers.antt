@@ -2,7 +2,7 @@ use Rattle.std.proofs.Common.{◌≡◌, ◌+◌, ◌-◌, ◌<◌, ◌^◌, Ok,
 use Rattle.fv_rules.specs.Steps.{State}
 use Rattle.fv_parse.specs.Trees.{Parsed}
 use Rattle.fv_rules.specs.declared.value.Value as code_value
-use Rattle.fv_eval.specs.declared.frame.Focus.TheVariants as focus
+use Rattle.fv_eval.specs.declared.continuation.Focus.TheVariants as focus
 use Rattle.fv_eval.proofs.Arrived.{Turns}
 use Rattle.fv_eval.proofs.Slotted.{abstraction_turns}
 use Rattle.fv_eval.proofs.machine.Machine.turn.Goals as goal
@@ -12,10 +12,10 @@ returns-in_ok-push-in-Abstraction-2 c =
     let q = c.tree-tree.result.now in
     let m = c.args.self.now in
     let m1 = c.on_slots.new.self in
-    let g = c.args.frame in
+    let g = c.args.continuation in
     let f = c.in-Abstraction in
     let inner = c.in_ok-inner-in-Abstraction in
-    let n = record m1 { frames = c.push-in-Abstraction.new.self } in
+    let n = record m1 { continuations = c.push-in-Abstraction.new.self } in
     let r = Ok (focus.Visit c.body_of.result inner.inner) in
     let taken : m1.slot ≡ m.slot + (c.parameters-count.result - f.bound) = ap (λ (t : State). t.slot) inner.ensures.slots.state in
     let slots : m1.slot - m.slot ≡ c.parameters-count.result - f.bound = omega (arith, taken) in

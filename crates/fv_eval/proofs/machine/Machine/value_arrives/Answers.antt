@@ -1,6 +1,6 @@
 use Rattle.std.proofs.Common.{sym, subst}
-use Rattle.fv_eval.specs.declared.frame.ForValue as code_for_value
-use Rattle.fv_eval.specs.Frames.{ValuedShown, world}
+use Rattle.fv_eval.specs.declared.continuation.ForValue as code_for_value
+use Rattle.fv_eval.specs.Continuations.{ValuedShown, world}
 use Rattle.fv_eval.proofs.There.{arguments_more_shown, function_stays_shown}
 use Rattle.fv_eval.proofs.Arrived.{Resumes, function_resumes, argument_resumes, leftover_resumes, parameter_resumes}
 use Rattle.fv_eval.proofs.machine.Machine.value_arrives.Goals as goal
@@ -49,7 +49,7 @@ next_argument-requires-in-Argument-clause-function c =
     let f = c.in-Argument in
     function_stays_shown (world p c.args.self.now)
     (world p c.settle.new.self) (c.in_ok-settled-in-Argument.ensures.grew p).lists f.apply f.function f.env f.done
-    (subst (λ (x : code_for_value.ForValue). ValuedShown (world p c.args.self.now) x) f.is c.requires.frame)
+    (subst (λ (x : code_for_value.ForValue). ValuedShown (world p c.args.self.now) x) f.is c.requires.continuation)
 
 pub next_argument-requires-in-Argument-clause-done : goal.next_argument-requires-in-Argument-clause-done
 next_argument-requires-in-Argument-clause-done c =
@@ -57,5 +57,5 @@ next_argument-requires-in-Argument-clause-done c =
     let f = c.in-Argument in
     arguments_more_shown (world p c.args.self.now) (world p c.settle.new.self) (c.in_ok-settled-in-Argument.ensures.grew p).lists
     f.apply f.function f.env f.done c.args.value c.in_ok-settled-in-Argument.settled c.push.new.self.items
-    (subst (λ (x : code_for_value.ForValue). ValuedShown (world p c.args.self.now) x) f.is c.requires.frame) c.requires.value
+    (subst (λ (x : code_for_value.ForValue). ValuedShown (world p c.args.self.now) x) f.is c.requires.continuation) c.requires.value
     (c.in_ok-settled-in-Argument.ensures.shows p) c.in_ok-push-in-Argument.ensures.items

@@ -1,5 +1,0 @@
-use Rattle.fv_analysis.specs.Reaching.{Tell}
-use Rattle.fv_analysis.proofs.reaching.tell_all.Given as goal
-
-abbrev pub invariant-loop-place : goal.invariant-loop-place
-invariant-loop-place l = Tell l.graph l.place l.delays.items l.backs.items

@@ -1,0 +1,145 @@
+// Pending work, and what is done next.
+
+ghost use Rattle.std.specs.Prelude.{◌≡◌, ◌++◌, ◌∷◌, [], MatchOption, OnOk, OnErr};
+
+use fv_diagram::DiagramId;
+use fv_parse::TreeId;
+use fv_parse_grammar::{Operator, Side};
+use fv_rules::Value;
+use std::alloc::{AllocError, Global};
+use std::marker::Model;
+
+/// What waits for a value.
+#[derive(Debug, Drop)]
+pub enum ForValue {
+    /// An application, whose function comes next, and the environment of its arguments.
+    Function {
+        apply: TreeId,
+        env: u64,
+    },
+    /// An application, whose next argument comes: its function, its environment, and the arguments that are done.
+    Argument {
+        apply: TreeId,
+        function: Value,
+        env: u64,
+        done: Vec<Value>,
+    },
+    /// Arguments that an application has left, from this place on.
+    Leftover {
+        apply: TreeId,
+        arguments: Vec<Value>,
+        next: u64,
+    },
+    /// A slider, whose next parameter comes: the environment, and the numbers that are done.
+    Parameter {
+        slider: TreeId,
+        env: u64,
+        done: Vec<i32>,
+    },
+}
+
+/// What waits for a diagram.
+#[derive(Debug, Drop)]
+pub enum ForDiagram {
+    /// A node of two parts, whose left one comes.
+    Left {
+        binary: TreeId,
+        env: u64,
+    },
+    /// The right part comes, behind the left one.
+    Right {
+        operator: Operator,
+        left: DiagramId,
+    },
+    /// `'`
+    Later,
+    /// `-` before a name.
+    Negated,
+    Ports(Side),
+    /// A body, around which so many slots from this one on are bound.
+    Binding {
+        slot: u64,
+        slots: u64,
+    },
+    /// A diagram, whose next argument comes: all its arguments, the place of the one after the next, and those that are done.
+    Turning {
+        function: DiagramId,
+        arguments: Vec<Value>,
+        next: u64,
+        done: Vec<DiagramId>,
+    },
+    /// An iteration, whose count comes.
+    Counting {
+        iteration: TreeId,
+        env: u64,
+    },
+    /// An iteration, whose next body comes: how many are left behind it, and those that are done.
+    Body {
+        iteration: TreeId,
+        env: u64,
+        left: u64,
+        done: Vec<DiagramId>,
+    },
+    /// The whole program's diagram.
+    Finish,
+}
+
+/// What waits.
+#[derive(Debug, Drop)]
+pub enum Continuation {
+    Valued(ForValue),
+    Drawn(ForDiagram),
+}
+
+/// What is done next. An environment is a number of `Scopes`, a name a canonical number.
+#[derive(Clone, Copy, Debug)]
+pub enum Focus {
+    Visit { id: TreeId, env: u64 },
+    Call { name: u64, env: u64 },
+    Give(Value),
+    Done(Value),
+}
+
+/// What waits, the innermost last.
+#[derive(Drop)]
+pub struct Continuations {
+    list: Vec<Continuation>,
+}
+
+impl Model for Continuations {
+    ghost use Rattle.std.specs.Prelude.{List};
+    ghost use Rattle.fv_eval.specs.declared.continuation.Continuation.{Continuation};
+
+    ghost Value = { List Continuation };
+
+    ghost view = { λ f. f.list.items };
+}
+
+impl Continuations {
+    /// Nothing waits.
+    pub fn new(alloc: Global) -> Continuations
+        ensures { result ≡ [] }
+    {
+        Continuations {
+            list: Vec::new(alloc),
+        }
+    }
+
+    /// One more.
+    pub fn push(&mut self, continuation: Continuation) -> Result<(), AllocError>
+        ensures ok { OnOk result (self.new ≡ self.old ++ continuation ∷ []) }
+        ensures err { OnErr result (self.new ≡ self.old) }
+    {
+        let _within: Option<(Value, ForValue, ForDiagram)> = None;
+        self.list.push(continuation)?;
+        Ok(())
+    }
+
+    /// The innermost one is taken; `None` where nothing waits.
+    pub fn pop(&mut self) -> Option<Continuation>
+        ensures { MatchOption result (self.old ≡ []) (λ f. self.old ≡ self.new ++ f ∷ []) }
+    {
+        let _within: Option<(Value, ForValue, ForDiagram)> = None;
+        self.list.pop()
+    }
+}

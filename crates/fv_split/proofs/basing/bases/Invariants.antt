@@ -1,5 +1,0 @@
-use Rattle.fv_split.specs.Bases.{AreBases}
-use Rattle.fv_split.proofs.basing.bases.Given as goal
-
-abbrev pub invariant-loop-s : goal.invariant-loop-s
-invariant-loop-s l = AreBases l.graph l.stands l.rates l.lanes l.numbers l.s l.bases.items

@@ -1,5 +1,0 @@
-use Rattle.fv_split.specs.Bases.{AreKinds}
-use Rattle.fv_split.proofs.basing.kinds.Given as goal
-
-abbrev pub invariant-loop-s : goal.invariant-loop-s
-invariant-loop-s l = AreKinds l.bases l.lanes l.s l.kinds.items

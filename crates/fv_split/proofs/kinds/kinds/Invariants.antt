@@ -1,0 +1,5 @@
+use Rattle.fv_split.specs.Bases.{AreKinds}
+use Rattle.fv_split.proofs.kinds.kinds.Given as goal
+
+abbrev pub invariant-loop-s : goal.invariant-loop-s
+invariant-loop-s l = AreKinds l.bases l.lanes l.s l.kinds.items

@@ -1,5 +1,0 @@
-use Rattle.fv_split_code.proofs.HoldLemmas.{AreHeld}
-use Rattle.fv_split_code.proofs.holding.held_code.Given as goal
-
-abbrev pub invariant-loop-s : goal.invariant-loop-s
-invariant-loop-s l = AreHeld l.graph l.s l.numbers.items l.steps.items

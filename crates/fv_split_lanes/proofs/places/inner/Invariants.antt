@@ -1,5 +1,0 @@
-use Rattle.fv_split_lanes.specs.Numbered.{AreInner}
-use Rattle.fv_split_lanes.proofs.places.inner.Given as goal
-
-abbrev pub invariant-loop-s : goal.invariant-loop-s
-invariant-loop-s l = AreInner l.graph l.rates l.marks l.s l.inner.items

@@ -1,5 +1,0 @@
-use Rattle.fv_split_lanes.specs.Numbered.{NumberedUpTo}
-use Rattle.fv_split_lanes.proofs.places.number.Given as goal
-
-abbrev pub invariant-loop-s : goal.invariant-loop-s
-invariant-loop-s l = NumberedUpTo l.marks l.numbers l.ranks l.s l.numbering
