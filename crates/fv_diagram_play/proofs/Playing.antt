@@ -11,17 +11,8 @@ use Rattle.fv_diagram.specs.Laws.{AnswersEach, AnswersOneMore, AnswersAlike}
 use Rattle.fv_base.proofs.Lists.{get_or_table}
 use Rattle.fv_control.specs.declared.script.Change.{Change}
 use Rattle.fv_control.specs.Streams.{control_streams}
-use Rattle.fv_diagram_play.specs.Play.{joined, no_slots}
+use Rattle.fv_diagram.specs.Samples.{joined, no_slots}
 use Rattle.fv_control.proofs.Listening.{heard_at}
-
--- a part of a list is its numbers from a place on
-pub part_is : (xs : List ℤ) (a n : ℕ) → a + n ≤ length xs → take n (drop a xs) ≡ table n (λ j. argument xs (a + j))
-part_is xs a zero h = refl
-part_is xs a (suc n) h =
-    let within : n < length (drop a xs) = omega (arith, length-drop a xs) in
-    ap (λ k. take k (drop a xs)) (sym (add-one n)) ∙ take_more (drop a xs) n (pos 0) within
-    ∙ ap (λ w. w ++ get_or (drop a xs) n (pos 0) ∷ []) (part_is xs a n (omega arith))
-    ∙ ap (λ x. table n (λ j. argument xs (a + j)) ++ x ∷ []) (get_or-drop a xs n (pos 0))
 
 -- on no frames nothing is answered
 pub answers_none : (d : Diagram) (c e : ℕ → Stream) → AnswersEach d → run d c e [] ≡ []

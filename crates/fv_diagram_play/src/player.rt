@@ -8,7 +8,7 @@ ghost use Rattle.fv_diagram.specs.Arena.{count_of, tree_of};
 ghost use Rattle.fv_diagram.specs.Diagram.{inputs, outputs, control_bound, HasNoFreeSlot, IsWellFormed};
 ghost use Rattle.fv_control.specs.Laws.{NeverFall};
 ghost use Rattle.fv_control.specs.Streams.{control_streams};
-ghost use Rattle.fv_diagram_play.specs.Play.{answer_on};
+ghost use Rattle.fv_diagram.specs.Samples.{answer_on};
 
 use fv_control::{Change, listen, values_held};
 use fv_diagram::{DiagramId, Diagrams, Stepper, answers_alike, answers_each, answers_one_more};

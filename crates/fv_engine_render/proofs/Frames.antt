@@ -16,7 +16,7 @@ use Rattle.fv_signal.specs.Value.{Graph, value}
 use Rattle.fv_propagate.specs.Propagated.{AreTaken, Propagates}
 use Rattle.fv_engine.specs.Stands.{played}
 use Rattle.fv_num.specs.Frames.{joined}
-use Rattle.fv_diagram_play.proofs.Playing.{part_is}
+use Rattle.fv_num.proofs.Parts.{part_is}
 use Rattle.fv_engine_render.proofs.Samples.{cells_same}
 
 -- frames of one width are a table

@@ -23,7 +23,8 @@ use Rattle.fv_interval.specs.SpanHooks.{control_span}
 use Rattle.fv_propagate.specs.Propagated.{AreTaken}
 use Rattle.fv_diagram.specs.Controls.{IsBounded}
 use Rattle.fv_engine_render.specs.Plans.{AreNumbers}
-use Rattle.fv_engine_render.specs.Render.{initial_of, span_of, spans_of}
+use Rattle.fv_interval.specs.Controls.{span_of, spans_of}
+use Rattle.fv_engine_render.specs.Render.{initial_of}
 
 zero_fits : FitsSigned w32 (pos 0)
 zero_fits = omega (arith, ints)

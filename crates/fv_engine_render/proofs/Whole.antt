@@ -17,13 +17,14 @@ use Rattle.fv_control.specs.Streams.{control_streams}
 use Rattle.fv_split_plan.specs.View.{PlanView}
 use Rattle.fv_split_plan.specs.Plans.{PlanStands, IsPlanOf}
 use Rattle.fv_engine.specs.Stands.{EngineView, played}
-use Rattle.fv_diagram_play.specs.Play.{answer_on, joined, no_slots}
+use Rattle.fv_diagram.specs.Samples.{answer_on, joined, no_slots}
 use Rattle.fv_engine_render.specs.Blocks.{HasRoomForRun}
 use Rattle.fv_engine_render.specs.Runs.{HasRun, PlaysAll, RanGraph, loops_in}
 use Rattle.fv_engine_render.specs.declared.blocks.RunSizes.{RunSizes}
 use Rattle.fv_engine_render.specs.declared.blocks.Ran.{Ran}
 use Rattle.fv_engine_render.specs.Plans.{AreNumbers, IsGraphOf, IsNew}
-use Rattle.fv_engine_render.specs.Render.{CanRender, initial_of, spans_of}
+use Rattle.fv_interval.specs.Controls.{spans_of}
+use Rattle.fv_engine_render.specs.Render.{CanRender, initial_of}
 use Rattle.fv_engine_render.proofs.Frames.{GivesOn, joined_all, played_is_run}
 use Rattle.fv_engine_render.proofs.Taken.{StayWithin, taken}
 

@@ -2,7 +2,6 @@
 use Rattle.std.specs.Prelude.{ℕ, ◌≤◌, List, length, map, ℤ, All, Option}
 use Rattle.std.specs.List.{AllByRecursion}
 use Rattle.fv_base.specs.declared.limits.TheConstants.{MOST_BLOCK, MOST_CHANNELS, MOST_VECTORS}
-use Rattle.fv_num.specs.Interval.{Interval}
 use Rattle.fv_outside.specs.Journal.{Told}
 use Rattle.fv_diagram.specs.Diagram.{Diagram, inputs, outputs, control_bound, IsWellFormed, HasNoFreeSlot}
 use Rattle.fv_diagram.specs.declared.control.ControlInfo.{ControlInfo}
@@ -10,6 +9,7 @@ use Rattle.fv_control.specs.declared.script.Change.{Change}
 use Rattle.fv_control.specs.Laws.{NeverFall, IsOfControls}
 use Rattle.fv_diagram.specs.Controls.{IsBounded}
 use Rattle.fv_interval.specs.Delays.{delays_of, AreAccepted}
+use Rattle.fv_interval.specs.Controls.{spans_of}
 use Rattle.fv_signal.specs.Value.{Graph}
 use Rattle.fv_propagate.specs.Propagated.{AreShort}
 use Rattle.fv_engine_tasks.specs.Block.{vectors_of}
@@ -21,14 +21,6 @@ use Rattle.fv_engine_render.specs.declared.blocks.Ran.{Ran}
 -- the numbers with which the controls begin
 abbrev pub initial_of : List ControlInfo → List ℤ
 initial_of cs = map (λ c. c.init) cs
-
--- the numbers that a control may have
-abbrev pub span_of : ControlInfo → Interval
-span_of c = record { lo = c.min; hi = c.max }
-
--- and those that each of them may have
-abbrev pub spans_of : List ControlInfo → List Interval
-spans_of cs = map span_of cs
 
 -- A diagram that can be played in blocks: it has an output, its controls begin within their bounds and stay there under the
 -- script, whose frames never fall, and these are its delays, none of which is refused.

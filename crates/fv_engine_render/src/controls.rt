@@ -5,10 +5,10 @@ ghost use Rattle.std.specs.Int.{w32};
 ghost use Rattle.fv_num.specs.SpanLaws.{AreSpans};
 ghost use Rattle.fv_diagram.specs.Controls.{IsBounded};
 ghost use Rattle.fv_engine_render.specs.Plans.{AreNumbers};
-ghost use Rattle.fv_engine_render.specs.Render.{initial_of, spans_of};
+ghost use Rattle.fv_interval.specs.Controls.{spans_of};
+ghost use Rattle.fv_engine_render.specs.Render.{initial_of};
 
 use fv_diagram::ControlInfo;
-use fv_num::Span;
 use std::alloc::{AllocError, Global};
 
 /// The numbers with which the controls begin.
@@ -16,21 +16,6 @@ pub fn initial_of(alloc: Global, controls: &[ControlInfo]) -> Result<Vec<i32>, A
     ensures { IfOk result (λ v. v.items ≡ initial_of controls.now) }
 {
     controls.iter().map(|c| c.init).collect(alloc)
-}
-
-/// The numbers that the controls may have.
-pub fn spans_of(alloc: Global, controls: &[ControlInfo]) -> Result<Vec<Span>, AllocError>
-    requires { All IsBounded controls.now }
-    ensures { IfOk result (λ v. v.items ≡ spans_of controls.now) }
-{
-    let mut all = Vec::new(alloc);
-    for i in 0..controls.len() {
-        all.push(Span {
-            lo: controls[i].min,
-            hi: controls[i].max,
-        })?;
-    }
-    Ok(all)
 }
 
 // For the prover: the bounds have 32 bits.

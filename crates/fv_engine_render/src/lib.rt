@@ -10,7 +10,7 @@ mod laws;
 mod rendering;
 
 pub use blocks::{Ran, RunSizes};
-pub use controls::{initial_of, spans_of};
+pub use controls::initial_of;
 pub use cut::next_block;
 pub use laws::runs_have_loops;
 pub use rendering::{GraphSource, Rendered, Source, compile, render, render_graph};

@@ -7,11 +7,12 @@ ghost use Rattle.fv_diagram.specs.Arena.{count_of, tree_of};
 ghost use Rattle.fv_diagram.specs.Diagram.{inputs, outputs, IsWellFormed, HasNoFreeSlot};
 ghost use Rattle.fv_control.specs.Streams.{control_streams};
 ghost use Rattle.fv_interval.specs.Delays.{delays_of, AreAccepted};
-ghost use Rattle.fv_diagram_play.specs.Play.{answer_on};
+ghost use Rattle.fv_diagram.specs.Samples.{answer_on};
 ghost use Rattle.fv_engine.specs.Stands.{played};
 ghost use Rattle.fv_engine_render.specs.Plans.{IsGraphOf};
 ghost use Rattle.fv_engine_render.specs.Runs.{RanGraph};
-ghost use Rattle.fv_engine_render.specs.Render.{CanRender, CanPlayGraph, CanHave, RanWhole, initial_of, spans_of};
+ghost use Rattle.fv_interval.specs.Controls.{spans_of};
+ghost use Rattle.fv_engine_render.specs.Render.{CanRender, CanPlayGraph, CanHave, RanWhole, initial_of};
 
 use crate::blocks::{PlanSizes, Ran, RunSizes, play_blocks};
 use crate::controls::{initial_of, numbers_fit, spans_fit};

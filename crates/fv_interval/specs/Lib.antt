@@ -3,3 +3,4 @@ pub mod Laws
 pub mod SpanHooks
 pub mod Inside
 pub mod Delays
+pub mod Controls

@@ -3,7 +3,6 @@ pub mod Puts
 pub mod Goes
 pub mod Sound
 pub mod Named
-pub mod Fits
 pub mod Ranged
 pub mod Kept
 pub mod Whole

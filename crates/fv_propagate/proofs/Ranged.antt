@@ -32,7 +32,7 @@ use Rattle.fv_propagate.proofs.Alongside.{IsOfLeaf, KeepAlong, related_at, relat
 use Rattle.fv_propagate.proofs.Puts.{put_cases, puts_at, puts_wide, puts_delays}
 use Rattle.fv_propagate.proofs.Goes.{IsGood, GoesOn, filled, before_put, before_mem}
 use Rattle.fv_propagate.proofs.Sound.{padded_first, put_gives, mem_gives, prefix_gives, member_gives}
-use Rattle.fv_propagate.proofs.Fits.{full_of}
+use Rattle.fv_signal.proofs.Fits.{full_of}
 
 -- ---- numbers in spans
 

@@ -36,7 +36,7 @@ use Rattle.fv_propagate.proofs.Kept.{puts_all_there}
 use Rattle.fv_propagate.proofs.Goes.{IsGood, Onward, GoesOn, on_same_groups, stays_good, signals_are_orderly, signals_hold_back}
 use Rattle.fv_propagate.proofs.Sound.{AreWide, node_is, signals_are_sound}
 use Rattle.fv_propagate.proofs.Named.{still, Any, IsNamed, AreNamed, named_put, named_puts, names_keep, leaves_had}
-use Rattle.fv_propagate.proofs.Fits.{full_of, values_fit}
+use Rattle.fv_signal.proofs.Fits.{full_of, values_fit}
 use Rattle.fv_propagate.proofs.Ranged.{LiesIn, AreRanged, Beside, ranged_put, ranged_puts, not_clamped, spans_keep}
 
 of_fits : (s : Interval) (z : ℤ) → IsOf s z → FitsSigned w32 z

@@ -4,7 +4,7 @@ use Rattle.std.specs.Prelude.{slice_set}
 use Rattle.std.proofs.lemmas.Bool.{cases_lt}
 use Rattle.std.proofs.lemmas.List.{length_push, get_or_push, get_or_append_left, length-set, get_or-set_same, get_or-set_other}
 use Rattle.fv_signal.specs.declared.signal.Signal.{Signal}
-use Rattle.fv_share.specs.Drafts.{Draft, IsShut, IsPending, BacksWithin, IsDraft, with_group, with_groups, with_members, AreOpened, IsClosed, GroupsStay}
+use Rattle.fv_share.specs.Drafts.{Draft, IsShut, IsPending, BacksWithin, IsDraft, with_group, with_groups, with_members, AreOpened, ClosesGroup, GroupsStay}
 use Rattle.fv_share.proofs.Kept.{names_group}
 
 -- no Back names a group that is still to come
@@ -39,7 +39,7 @@ opened d h (suc n) = let p = opened d h n in let q = with_groups d n in record {
     marked zero = h.marked
     marked (suc n) = let q = with_groups d n in omega (arith, length_push q.closed false, length_push q.groups [], marked n)
 
-closed : (d : Draft) → IsDraft d → (group : ℕ) (members : List ℕ) → IsPending d group → IsClosed d (with_members d group members) group members
+closed : (d : Draft) → IsDraft d → (group : ℕ) (members : List ℕ) → IsPending d group → ClosesGroup d (with_members d group members) group members
 closed d h group members p = record {
   long = length-set d.groups group members;
   signals = refl;

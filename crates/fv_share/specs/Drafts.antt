@@ -123,7 +123,7 @@ pub record AreOpened (d new : Draft) (count : ℕ) : Type 0 where
   pub closed : (g : ℕ) → g < length d.groups → slice_index_or new.closed g false ≡ slice_index_or d.closed g false
 
 -- What closing a group does: it is shut and has just these members, and every other group stays.
-pub record IsClosed (d new : Draft) (group : ℕ) (members : List ℕ) : Type 0 where
+pub record ClosesGroup (d new : Draft) (group : ℕ) (members : List ℕ) : Type 0 where
   pub long : length new.groups ≡ length d.groups
   pub signals : new.signals ≡ d.signals
   pub shut : IsShut new group
@@ -135,4 +135,4 @@ pub record IsClosed (d new : Draft) (group : ℕ) (members : List ℕ) : Type 0 
 abbrev pub GroupsStay : Type 0
 GroupsStay =
     (d : Draft) → IsDraft d → ((count : ℕ) → AreOpened d (with_groups d count) count)
-    × ((group : ℕ) (members : List ℕ) → IsPending d group → IsClosed d (with_members d group members) group members)
+    × ((group : ℕ) (members : List ℕ) → IsPending d group → ClosesGroup d (with_members d group members) group members)

@@ -1,5 +1,4 @@
 pub mod Choices
-pub mod Fits
 pub mod Values
 pub mod Origins
 pub mod Stays

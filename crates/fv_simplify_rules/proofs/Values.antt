@@ -20,7 +20,7 @@ use Rattle.fv_simplify_rules.specs.Rebuilt.{back_by, base, AsNumber, AsOperand, 
 use Rattle.fv_simplify_rules.specs.Rebuilt.{IsRebuilt}
 use Rattle.fv_simplify_rules.proofs.Choices.{choice_is, choice_within}
 use Rattle.fv_signal.proofs.Solutions.{agree}
-use Rattle.fv_simplify_rules.proofs.Fits.{values_fit}
+use Rattle.fv_signal.proofs.Fits.{values_fit}
 use Rattle.fv_simplify_rules.proofs.Origins.{number_node, arg_on, delay_on, tight, Taken, Itself, Over, base_cases}
 
 -- how far a delay goes back is a natural number

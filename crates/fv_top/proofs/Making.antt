@@ -12,7 +12,7 @@ use Rattle.fv_top_report.specs.declared.refusal.Refusal.{Refusal}
 use Rattle.fv_top_report.specs.declared.refusal.Refusal.TheVariants.{WriteFault, NoMemory}
 use Rattle.fv_diagram.specs.Diagram.{Diagram}
 use Rattle.fv_control.specs.Streams.{control_streams}
-use Rattle.fv_diagram_play.specs.Play.{answer_on}
+use Rattle.fv_diagram.specs.Samples.{answer_on}
 use Rattle.fv_top_make.specs.Made.{text_of, next_state, noise_behind}
 use Rattle.fv_top_text.specs.Program.{IsRefusedText, IsOfText}
 use Rattle.fv_top_report.specs.Lines.{made_line}

@@ -17,7 +17,7 @@ use Rattle.fv_diagram.specs.Diagram.{Diagram, inputs, outputs}
 use Rattle.fv_diagram.specs.Streams.{run}
 use Rattle.fv_control.specs.declared.script.Change.{Change}
 use Rattle.fv_control.specs.Streams.{control_streams}
-use Rattle.fv_diagram_play.specs.Play.{joined, no_slots, answer_on}
+use Rattle.fv_diagram.specs.Samples.{joined, no_slots, answer_on}
 use Rattle.fv_top_words.specs.Runs.{Run, Settings}
 use Rattle.fv_wav.specs.declared.head.Head.{Head}
 use Rattle.fv_wav.specs.Reading.{frame_size}

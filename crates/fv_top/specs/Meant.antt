@@ -7,7 +7,7 @@ use Rattle.fv_num.specs.Frames.{Frame, Stream}
 use Rattle.fv_diagram.specs.Diagram.{Diagram, inputs, outputs, size}
 use Rattle.fv_top.specs.Output.{OutputFormat, output_file}
 use Rattle.fv_control.specs.Streams.{control_streams}
-use Rattle.fv_diagram_play.specs.Play.{answer_on}
+use Rattle.fv_diagram.specs.Samples.{answer_on}
 use Rattle.fv_top_make.specs.Made.{noise_of, sum_of}
 use Rattle.fv_top_report.specs.Lines.{check_line, made_line, done_line}
 use Rattle.fv_top_text.specs.Program.{delay_in}

@@ -3,7 +3,7 @@ use Rattle.std.specs.Prelude.{ℕ, ◌==◌, nat_le, List, [], ◌++◌, length,
 use Rattle.fv_num.specs.Frames.{Frame, Stream}
 use Rattle.fv_diagram.specs.Diagram.{Diagram, inputs, outputs}
 use Rattle.fv_diagram.specs.Streams.{run}
-use Rattle.fv_diagram_play.specs.Play.{no_slots}
+use Rattle.fv_diagram.specs.Samples.{no_slots}
 use Rattle.fv_top_words.specs.Runs.{Settings}
 use Rattle.fv_wav.specs.declared.head.Head.{Head}
 use Rattle.fv_wav.specs.Samples.{head_bytes, sample_bytes, frame_bytes, pad_bytes, data_size, data_limit, stated_frames}

@@ -5,7 +5,7 @@ use Rattle.fv_diagram.specs.Diagram.{outputs}
 use Rattle.fv_diagram.specs.Streams.{run}
 use Rattle.fv_control.specs.declared.script.Change.{Change}
 use Rattle.fv_control.specs.Streams.{control_streams}
-use Rattle.fv_diagram_play.specs.Play.{joined, no_slots}
+use Rattle.fv_diagram.specs.Samples.{joined, no_slots}
 use Rattle.fv_wav.specs.declared.head.Head.{Head}
 use Rattle.fv_num.specs.Words.{is_sample_width}
 use Rattle.fv_wav.specs.Samples.{data_size, data_limit}

@@ -10,7 +10,7 @@ ghost use Rattle.fv_diagram.specs.Streams.{run};
 ghost use Rattle.fv_control.specs.Laws.{NeverFall, IsOfControls};
 ghost use Rattle.fv_control.specs.Streams.{control_streams};
 ghost use Rattle.fv_interval.specs.Delays.{AreAccepted};
-ghost use Rattle.fv_diagram_play.specs.Play.{joined, no_slots};
+ghost use Rattle.fv_diagram.specs.Samples.{joined, no_slots};
 ghost use Rattle.fv_engine_render.specs.Render.{RanWhole, initial_of};
 ghost use Rattle.fv_top_words.specs.Runs.{AreSound};
 ghost use Rattle.fv_top_words.specs.Views.{settings_in};

@@ -14,7 +14,7 @@ use Rattle.fv_diagram.specs.declared.control.ControlInfo.{ControlInfo}
 use Rattle.fv_rules.specs.declared.refusal.EvalRefusal.{EvalRefusal}
 use Rattle.fv_rules.specs.Rules.{program_value}
 use Rattle.fv_interval.specs.Delays.{delays_of, amounts, delay_limit, delay_budget}
-use Rattle.fv_engine_render.specs.Render.{spans_of}
+use Rattle.fv_interval.specs.Controls.{spans_of}
 use Rattle.fv_top_report.specs.Layers.{of_bytes, of_tokens, of_value}
 use Rattle.fv_top_text.specs.Answers.{Then, Turned, IsOnce, RefusesOthers}
 use Rattle.fv_top_report.specs.Lines.{row_of}

@@ -10,9 +10,8 @@ ghost use Rattle.fv_top_text.specs.Compiled.{compiled_of, CanPlay};
 ghost use Rattle.fv_top_text.specs.Program.{IsProgram, IsRefusedText, IsOfText, narrow, delayed, first_bad, delays_in};
 
 use fv_base::limits::MOST_CHANNELS;
-use fv_engine_render::spans_of;
 use fv_eval::{Program, evaluate};
-use fv_interval::{Delays, spans};
+use fv_interval::{Delays, spans, spans_of};
 use fv_lex::tokens;
 use fv_parse::parse;
 use fv_top_report::Refusal;

@@ -6,7 +6,7 @@ use Rattle.fv_control.specs.Streams.{control_streams}
 use Rattle.fv_diagram.specs.Arena.{tree_of}
 use Rattle.fv_diagram.specs.Steps.{StandsFor}
 use Rattle.fv_diagram.specs.Streams.{run}
-use Rattle.fv_diagram_play.specs.Play.{joined, no_slots}
+use Rattle.fv_diagram.specs.Samples.{joined, no_slots}
 use Rattle.fv_control.proofs.Listening.{heard_at, values_are, come_later}
 use Rattle.fv_diagram_play.proofs.Playing.{answers_none, played_more, played_heard}
 use Rattle.fv_diagram_play.proofs.player.play_with.Goals as goal

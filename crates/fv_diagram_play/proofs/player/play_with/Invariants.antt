@@ -6,7 +6,7 @@ use Rattle.fv_diagram.specs.Arena.{tree_of}
 use Rattle.fv_diagram.specs.Diagram.{outputs}
 use Rattle.fv_diagram.specs.Steps.{StandsFor}
 use Rattle.fv_diagram.specs.Streams.{run}
-use Rattle.fv_diagram_play.specs.Play.{joined, no_slots}
+use Rattle.fv_diagram.specs.Samples.{joined, no_slots}
 use Rattle.fv_control.proofs.Listening.{heard_at}
 use Rattle.fv_diagram_play.proofs.player.play_with.Given as goal
 

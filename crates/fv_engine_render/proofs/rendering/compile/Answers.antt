@@ -1,4 +1,4 @@
-use Rattle.fv_engine_render.specs.Render.{spans_of}
+use Rattle.fv_interval.specs.Controls.{spans_of}
 use Rattle.fv_engine_render.proofs.rendering.compile.Goals as goal
 
 pub returns : goal.returns

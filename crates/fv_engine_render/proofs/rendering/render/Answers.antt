@@ -5,9 +5,10 @@ use Rattle.fv_control.specs.Streams.{control_streams}
 use Rattle.fv_diagram.specs.Arena.{tree_of}
 use Rattle.fv_diagram.specs.Diagram.{inputs}
 use Rattle.fv_engine.specs.Stands.{played}
-use Rattle.fv_diagram_play.specs.Play.{answer_on}
+use Rattle.fv_diagram.specs.Samples.{answer_on}
 use Rattle.fv_engine_render.specs.Plans.{NamesOnly}
-use Rattle.fv_engine_render.specs.Render.{initial_of, spans_of}
+use Rattle.fv_interval.specs.Controls.{spans_of}
+use Rattle.fv_engine_render.specs.Render.{initial_of}
 use Rattle.fv_engine_render.specs.declared.rendering.Rendered.{Rendered}
 use Rattle.fv_engine_render.proofs.Planned.{names_only}
 use Rattle.fv_engine_render.proofs.Whole.{samples}

@@ -5,7 +5,7 @@ use Rattle.fv_diagram.specs.Diagram.{inputs, outputs}
 use Rattle.fv_diagram.specs.Streams.{run}
 use Rattle.fv_diagram.specs.declared.control.ControlInfo.{ControlInfo}
 use Rattle.fv_control.specs.Streams.{control_streams}
-use Rattle.fv_diagram_play.specs.Play.{joined, no_slots}
+use Rattle.fv_diagram.specs.Samples.{joined, no_slots}
 use Rattle.fv_engine_render.specs.Render.{CanRender, RanWhole}
 use Rattle.fv_top_words.specs.Views.{settings_in}
 use Rattle.fv_engine_render.specs.Render.{initial_of}

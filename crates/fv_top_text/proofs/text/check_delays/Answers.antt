@@ -4,7 +4,7 @@ use Rattle.fv_num.specs.Interval.{Interval}
 use Rattle.fv_diagram.specs.Arena.{tree_of}
 use Rattle.fv_interval.specs.Delays.{delays_of, AreAccepted, IsDelayRefusal}
 use Rattle.fv_eval.specs.Evaluated.{Evaluated}
-use Rattle.fv_engine_render.specs.Render.{spans_of}
+use Rattle.fv_interval.specs.Controls.{spans_of}
 use Rattle.fv_top_text.specs.Compiled.{compiled_of}
 use Rattle.fv_top_report.specs.declared.refusal.Refusal.TheVariants.{NoMemory}
 use Rattle.fv_top_text.specs.Program.{IsOfText, delayed, first_bad, delays_in}

@@ -1,6 +1,6 @@
 -- The values of a graph have 32 bits.
 use Rattle.std.proofs.Common.{◌≡◌, ℕ, zero, suc, ◌-◌, ◌<◌, ◌≤◌, List, [], ◌∷◌, length, take, map, get_or, replicate, All, refl, sym, subst, arith, ℤ, pos}
-use Rattle.std.proofs.Common.{negsuc, inl, inr, true, false, if◌then◌else◌, nat_le, w32, FitsSigned}
+use Rattle.std.proofs.Common.{negsuc, inl, inr, true, false, if◌then◌else◌, nat_le, FitsSigned, w32}
 use Rattle.std.proofs.lemmas.Bool.{cases_lt}
 use Rattle.std.proofs.lemmas.Int.{ints}
 use Rattle.std.proofs.lemmas.List.Elements.{All-head, All-tail}
@@ -14,12 +14,11 @@ use Rattle.fv_signal.specs.declared.signal.Signal.{Signal}
 use Rattle.fv_signal.specs.declared.signal.Signal.TheVariants.{Input, Const, Control, Point, Delay, Back, Member}
 use Rattle.fv_signal.specs.Value.{Graph, definition, clamped, signal_at, value, OperandsBelow, NamesWithin, IsOrdered, IsClosed}
 use Rattle.fv_signal.proofs.Values.{values_are_given}
-use Rattle.fv_interval.specs.Laws.{IsOf}
 
 zero_fits : FitsSigned w32 (pos 0)
 zero_fits = omega (arith, ints)
 
-pub full_of : (z : ℤ) → FitsSigned w32 z → IsOf full z
+pub full_of : (z : ℤ) → FitsSigned w32 z → IsSpan full × IsWithin full z
 full_of z f = (
   record { ordered = omega (arith, ints); lo_fits = omega (arith, ints); hi_fits = omega (arith, ints) },
   record { above = omega (arith, ints); below = omega (arith, ints) },
