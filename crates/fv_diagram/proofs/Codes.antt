@@ -11,7 +11,7 @@ use Rattle.fv_diagram.specs.declared.step.Step.TheVariants as step
 use Rattle.fv_diagram.specs.declared.step.Change.{Change}
 use Rattle.fv_diagram.specs.declared.draft.Loop.{Loop}
 use Rattle.fv_diagram.specs.Steps.{OperandsBelow, ReadsWithin, IsKept, register_of}
-use Rattle.fv_diagram.specs.Code.{Code, IsCode, input_code, put_cell, with_step, with_cells, written}
+use Rattle.fv_diagram.specs.inner.Code.{Code, IsCode, input_code, put_cell, with_step, with_cells, written}
 use Rattle.fv_diagram.proofs.Each.{each_table}
 
 -- one step more

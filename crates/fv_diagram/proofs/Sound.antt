@@ -22,8 +22,8 @@ use Rattle.fv_diagram.specs.declared.node.Primitive.TheVariants as prim
 use Rattle.fv_diagram.specs.Diagram.{Primitive, primitive_inputs}
 use Rattle.fv_diagram.specs.Walked.{primitive}
 use Rattle.fv_diagram.specs.Steps.{step_at, wires, AreOrdered}
-use Rattle.fv_diagram.specs.Code.{Code, HasLoops, put, put_cell, put_back, put_prefix, padded, with_step, with_cells, leaf_of, opened_of, closed_of}
-use Rattle.fv_diagram.specs.Code.{shut, written, runner_hooks}
+use Rattle.fv_diagram.specs.inner.Code.{Code, HasLoops, put, put_cell, put_back, put_prefix, padded, with_step, with_cells, leaf_of, opened_of, closed_of}
+use Rattle.fv_diagram.specs.inner.Code.{shut, written, runner_hooks}
 use Rattle.fv_diagram.proofs.Causality.{delayed_same, back_same}
 use Rattle.fv_diagram.proofs.Carried.{column_carries}
 use Rattle.fv_diagram.proofs.Places.{prefix_snoc, prefix_long, prefix_get, table_replicate, carried_first}

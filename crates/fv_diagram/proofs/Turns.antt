@@ -15,7 +15,7 @@ use Rattle.fv_diagram.specs.declared.pending.Task.TheVariants as task
 use Rattle.fv_diagram.specs.declared.pending.Plug.{Plug}
 use Rattle.fv_diagram.specs.Hooks.{Keeps}
 use Rattle.fv_diagram.specs.Walked.{walked, summed}
-use Rattle.fv_diagram.specs.Pending.{slots_of, finished, stage, kept, AreReady, AreKept, weight, Rules, Gives, IsReady, Advances}
+use Rattle.fv_diagram.specs.inner.Pending.{slots_of, finished, stage, kept, AreReady, AreKept, weight, Rules, Gives, IsReady, Advances}
 
 pub some_size : (d : Diagram) → 1 ≤ size d
 some_size (Primitive p) = omega arith

@@ -7,7 +7,7 @@ ghost use Rattle.fv_diagram.specs.Arena.{count_of, tree_of};
 ghost use Rattle.fv_diagram.specs.declared.pending.Task.TheVariants.{Visit};
 ghost use Rattle.fv_diagram.specs.Hooks.{takes};
 ghost use Rattle.fv_diagram.specs.Walked.{walked, one, primitive as walked_primitive, summed};
-ghost use Rattle.fv_diagram.specs.Pending.{slots_of, rules, stage, Gives, IsReady, Advances};
+ghost use Rattle.fv_diagram.specs.inner.Pending.{slots_of, rules, stage, Gives, IsReady, Advances};
 
 use crate::arena::Diagrams;
 use crate::node::{DiagramId, Node, Prim};

@@ -24,7 +24,7 @@ use Rattle.fv_engine_tasks.specs.Block.{Block, IsReal, vectors_of}
 use Rattle.fv_engine_tasks.specs.Jobs.{IsJob}
 use Rattle.fv_engine.specs.Plans.{NamesThere, held_by, block_from}
 use Rattle.fv_engine.specs.Stands.{EngineView, AreBegun, GoesOn, Standing}
-use Rattle.fv_engine.specs.Over.{Ran}
+use Rattle.fv_engine.specs.inner.Over.{Ran}
 use Rattle.fv_engine.specs.Stored.{IsStored, view_of}
 use Rattle.fv_engine.specs.Told.{tasks_told}
 use Rattle.fv_engine.specs.declared.engine.Engine.TheInside.{Inside}

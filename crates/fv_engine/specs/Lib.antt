@@ -1,8 +1,7 @@
 pub mod Past
 pub mod Plans
 pub mod Stands
-pub mod Over
 pub mod Made
 pub mod Told
 pub mod Stored
-pub mod OneLane
+pub mod inner

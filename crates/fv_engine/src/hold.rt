@@ -18,7 +18,7 @@ struct OneSample {
 impl Store for OneSample {
     ghost use Rattle.std.specs.Prelude.{[], ◌∷◌};
     ghost use Rattle.fv_loopcode.specs.State.{lanes_alone};
-    ghost use Rattle.fv_engine.specs.OneLane.{lane_with};
+    ghost use Rattle.fv_engine.specs.inner.OneLane.{lane_with};
 
     ghost state = { λ s. lanes_alone (lane_with s.is_written s.sample ∷ []) };
 

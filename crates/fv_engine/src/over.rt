@@ -10,7 +10,7 @@ ghost use Rattle.fv_lines.specs.Solo.{AreLists, AreHeld, AreFramed, opening_lane
 ghost use Rattle.fv_engine_tasks.specs.Block.{IsReal};
 ghost use Rattle.fv_engine_tasks.specs.Events.{KeepsCore};
 ghost use Rattle.fv_engine_tasks.specs.Jobs.{IsJob, block_of, RegistersFit};
-ghost use Rattle.fv_engine.specs.Over.{Ran};
+ghost use Rattle.fv_engine.specs.inner.Over.{Ran};
 
 use fv_engine_tasks::{Codes, Job, copy_outputs, run_tasks};
 use fv_graph::Tasks;

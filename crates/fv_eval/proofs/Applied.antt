@@ -8,7 +8,7 @@ use Rattle.fv_rules.specs.Matching.{chosen}
 use Rattle.fv_rules.specs.Steps.{State}
 use Rattle.fv_rules.specs.Rules.{width}
 use Rattle.fv_eval_machine.specs.Machine.{Continuation, apply, select}
-use Rattle.fv_eval.specs.Continuations.{took, completed}
+use Rattle.fv_eval.specs.inner.Continuations.{took, completed}
 
 some_then : (b : Bool) (u v : Value) → (if b then Some u else None) ≡ Some v → (b ≡ true) × (u ≡ v)
 some_then true u v e = (refl, cc)

@@ -20,10 +20,10 @@ use Rattle.fv_eval.specs.declared.continuation.ForValue.TheVariants as valued
 use Rattle.fv_eval.specs.declared.continuation.Focus as code_focus
 use Rattle.fv_eval.specs.declared.continuation.Focus.TheVariants as focus
 use Rattle.fv_eval.specs.declared.machine.Machine as code_machine
-use Rattle.fv_eval.specs.Continuations.{AreShown, Goes, Grew, IsShown, ShowsContinuation, ShowsTaking, Steps, completed, state_of, took, world}
+use Rattle.fv_eval.specs.inner.Continuations.{AreShown, Goes, Grew, IsShown, ShowsContinuation, ShowsTaking, Steps, completed, state_of, took, world}
 use Rattle.fv_eval.proofs.Applied.{apply_completes, apply_took}
 use Rattle.fv_eval.proofs.Arrived.{Applies, Argues}
-use Rattle.fv_eval.specs.Continuations.{Completes}
+use Rattle.fv_eval.specs.inner.Continuations.{Completes}
 use Rattle.fv_eval.proofs.Moves.{gives, grew_on, steps_on}
 use Rattle.fv_eval.proofs.Parameters.{get_map}
 use Rattle.fv_eval.proofs.Places.{drop_at_end, drop_at_get, drop_behind}

@@ -25,9 +25,9 @@ use Rattle.fv_eval.specs.declared.continuation.ForValue as code_for_value
 use Rattle.fv_eval.specs.declared.continuation.ForValue.TheVariants as valued
 use Rattle.fv_eval.specs.declared.continuation.ForDiagram as code_for_diagram
 use Rattle.fv_eval.specs.declared.machine.Machine as code_machine
-use Rattle.fv_eval.specs.Continuations.{DrawnThere, Goes, Grew, IsShown, Keeps, Runs, ShowsForDiagram, ShowsForValue, ShowsContinuation}
-use Rattle.fv_eval.specs.Continuations.{ShowsContinuations, ShowsSlider, Steps}
-use Rattle.fv_eval.specs.Continuations.{ValuedShown, state_of, world}
+use Rattle.fv_eval.specs.inner.Continuations.{DrawnThere, Goes, Grew, IsShown, Keeps, Runs, ShowsForDiagram, ShowsForValue, ShowsContinuation}
+use Rattle.fv_eval.specs.inner.Continuations.{ShowsContinuations, ShowsSlider, Steps}
+use Rattle.fv_eval.specs.inner.Continuations.{ValuedShown, state_of, world}
 use Rattle.fv_eval.proofs.Moves.{steps_on}
 use Rattle.fv_eval.proofs.There.{drawn_there, values_push}
 

@@ -22,7 +22,7 @@ use Rattle.fv_eval_machine.specs.Machine.{Continuation, Visit, Running, Ended, b
 use Rattle.fv_eval.specs.declared.continuation.Focus as code_focus
 use Rattle.fv_eval.specs.declared.continuation.Focus.TheVariants as focus
 use Rattle.fv_eval.specs.declared.machine.Machine as code_machine
-use Rattle.fv_eval.specs.Continuations.{Begins, ShowsSlider, Steps, state_of, world}
+use Rattle.fv_eval.specs.inner.Continuations.{Begins, ShowsSlider, Steps, state_of, world}
 use Rattle.fv_eval.proofs.Moves.{scoped_grew, steps_on, visits}
 use Rattle.fv_eval.proofs.SliderLemmas.{GoesOn}
 

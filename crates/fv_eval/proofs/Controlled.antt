@@ -14,7 +14,7 @@ use Rattle.fv_eval_machine.specs.Machine.{given}
 use Rattle.fv_eval.specs.declared.continuation.Focus.TheVariants as focus
 use Rattle.fv_eval.specs.declared.machine.Machine as code_machine
 use Rattle.fv_eval.specs.Controls.{Enters}
-use Rattle.fv_eval.specs.Continuations.{Steps, state_of}
+use Rattle.fv_eval.specs.inner.Continuations.{Steps, state_of}
 use Rattle.fv_eval.proofs.Moves.{drawn_grew, keeps_on}
 
 -- the control is given, and the controls are what the rules make them

@@ -12,7 +12,7 @@ use Rattle.fv_parse_tree.specs.declared.node.TreeNode.{TreeNode}
 use Rattle.fv_parse_tree.specs.declared.node.TreeNode.TheVariants as nodes
 use Rattle.fv_parse_tree.specs.Arena.{forest, tree_of}
 use Rattle.fv_parse.specs.Trees.{Parsed, node_tree, tree_in}
-use Rattle.fv_eval.specs.Continuations.{IsApplication, IsBinary, IsIteration, IsSlider, parameters_of}
+use Rattle.fv_eval.specs.inner.Continuations.{IsApplication, IsBinary, IsIteration, IsSlider, parameters_of}
 
 -- ---- a tree that is spelled so has its form
 

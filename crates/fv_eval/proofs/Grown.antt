@@ -21,8 +21,8 @@ use Rattle.fv_eval.specs.declared.continuation.ForValue as code_for_value
 use Rattle.fv_eval.specs.declared.continuation.ForValue.TheVariants as valued
 use Rattle.fv_eval.specs.declared.continuation.ForDiagram as code_for_diagram
 use Rattle.fv_eval.specs.declared.continuation.ForDiagram.TheVariants as drawn
-use Rattle.fv_eval.specs.Continuations.{AllDraw, ShowsArgument, ShowsLeftover, ShowsSlider, ShowsBodies, ShowsForValue, ShowsForDiagram}
-use Rattle.fv_eval.specs.Continuations.{ShowsContinuation, ShowsContinuations}
+use Rattle.fv_eval.specs.inner.Continuations.{AllDraw, ShowsArgument, ShowsLeftover, ShowsSlider, ShowsBodies, ShowsForValue, ShowsForDiagram}
+use Rattle.fv_eval.specs.inner.Continuations.{ShowsContinuation, ShowsContinuations}
 
 module _ (a b : World) (g : Grows a b) where
   -- diagrams that are there stay

@@ -24,7 +24,7 @@ use Rattle.fv_eval.specs.declared.continuation.Continuation.TheVariants as conti
 use Rattle.fv_eval.specs.declared.continuation.ForDiagram.TheVariants as drawn
 use Rattle.fv_eval.specs.declared.continuation.Focus as code_focus
 use Rattle.fv_eval.specs.declared.machine.Machine as code_machine
-use Rattle.fv_eval.specs.Continuations.{AllDraw, AreIndexed, gave, Grew, ShowsForDiagram, ShowsContinuation, Steps, world}
+use Rattle.fv_eval.specs.inner.Continuations.{AllDraw, AreIndexed, gave, Grew, ShowsForDiagram, ShowsContinuation, Steps, world}
 use Rattle.fv_eval.proofs.Grown.{for_diagram_grows}
 use Rattle.fv_eval.proofs.Moves.{drawn_grew, grew_on, scoped_grew, steps_on}
 use Rattle.fv_eval.proofs.Received.{Repeats, made_goes}

@@ -19,7 +19,7 @@ use Rattle.fv_eval_machine.specs.Machine.{Continuation, Visit, Give, Config, Run
 use Rattle.fv_eval.specs.declared.continuation.Focus as code_focus
 use Rattle.fv_eval.specs.declared.continuation.Focus.TheVariants as focus
 use Rattle.fv_eval.specs.declared.machine.Machine as code_machine
-use Rattle.fv_eval.specs.Continuations.{world, state_of, ShowsContinuations, Keeps, Goes, Steps, Grew}
+use Rattle.fv_eval.specs.inner.Continuations.{world, state_of, ShowsContinuations, Keeps, Goes, Steps, Grew}
 use Rattle.fv_eval.proofs.Grown.{continuations_grow}
 
 -- ---- lists that grow

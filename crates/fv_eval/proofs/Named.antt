@@ -9,7 +9,7 @@ use Rattle.fv_rules.specs.Shows.{ShowsMeaning}
 use Rattle.fv_eval_machine.specs.Machine.{Continuation, Ended, begin_name}
 use Rattle.fv_eval.specs.declared.continuation.Focus.TheVariants as focus
 use Rattle.fv_eval.specs.declared.machine.Machine as code_machine
-use Rattle.fv_eval.specs.Continuations.{world, state_of, Keeps, Goes}
+use Rattle.fv_eval.specs.inner.Continuations.{world, state_of, Keeps, Goes}
 
 pub known_goes : (p : Parsed) (m : code_machine.Machine) (u : code_value.Value) (x : Name) (M : Meaning) (Fs : List Continuation)
     → ShowsMeaning (world p m) (meaning.Known u) M → Keeps p m Fs

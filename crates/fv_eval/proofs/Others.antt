@@ -9,8 +9,8 @@ use Rattle.fv_parse_tree.specs.Arena.{tree_of, forest}
 use Rattle.fv_parse_grammar.specs.declared.form.Slider.{Slider as SliderKind}
 use Rattle.fv_parse_grammar.specs.Tree.{Tree, End}
 use Rattle.fv_rules.specs.Shows.{body_in, parameters_in}
-use Rattle.fv_eval.specs.Continuations.{name_of, parameters_of}
-use Rattle.fv_eval.specs.Names.{defined_by}
+use Rattle.fv_eval.specs.inner.Continuations.{name_of, parameters_of}
+use Rattle.fv_eval.specs.inner.Names.{defined_by}
 
 pub no_parameters : (l : Lexed) (ts : List Tree) (node : TreeNode) (start : ℕ) → ((ns : Vec ℕ Global) (x : TreeId) → node ≡ nodes.Abstraction ns x → ⊥)
     → ((n : ℕ) (ps x : TreeId) → node ≡ nodes.Function n ps x → ⊥) → parameters_in l (tree_of ts node start) ≡ []

@@ -33,7 +33,7 @@ use Rattle.fv_eval.specs.declared.continuation.Focus.TheVariants as focus
 use Rattle.fv_eval.specs.declared.continuation.ForDiagram as code_for_diagram
 use Rattle.fv_eval.specs.declared.continuation.ForDiagram.TheVariants as drawn
 use Rattle.fv_eval.specs.declared.machine.Machine as code_machine
-use Rattle.fv_eval.specs.Continuations.{AllDraw, gave, ShowsBodies, ShowsForDiagram, Steps, world}
+use Rattle.fv_eval.specs.inner.Continuations.{AllDraw, gave, ShowsBodies, ShowsForDiagram, Steps, world}
 use Rattle.fv_eval.proofs.Moves.{gives, put_goes, put_refused}
 use Rattle.fv_eval.proofs.Places.{drop_at_end, drop_at_get, drop_behind}
 use Rattle.fv_eval.proofs.There.{draws_push, first_left}

@@ -24,7 +24,7 @@ use Rattle.fv_eval.specs.declared.continuation.ForDiagram.TheVariants as drawn
 use Rattle.fv_eval.specs.declared.continuation.Focus as code_focus
 use Rattle.fv_eval.specs.declared.continuation.Focus.TheVariants as focus
 use Rattle.fv_eval.specs.declared.machine.Machine as code_machine
-use Rattle.fv_eval.specs.Continuations.{world, state_of, Goes, Continues, Ends, Runs}
+use Rattle.fv_eval.specs.inner.Continuations.{world, state_of, Goes, Continues, Ends, Runs}
 
 -- what `process` is, as a diagram
 abbrev pub of_process : Lexed → Tree → Eval Diagram

@@ -19,7 +19,7 @@ use Rattle.fv_rules.specs.Shows.{World, ShowsValue}
 use Rattle.fv_eval_machine.specs.Machine.{Ended, given, next_parameter, parameter_read}
 use Rattle.fv_eval.specs.declared.continuation.Focus as code_focus
 use Rattle.fv_eval.specs.declared.machine.Machine as code_machine
-use Rattle.fv_eval.specs.Continuations.{ShowsSlider, Steps, parameters_of, state_of, world}
+use Rattle.fv_eval.specs.inner.Continuations.{ShowsSlider, Steps, parameters_of, state_of, world}
 use Rattle.fv_eval.proofs.Places.{get_at_drop, drop_behind, drop_at_end}
 
 -- ---- numbers of values

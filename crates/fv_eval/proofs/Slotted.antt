@@ -25,7 +25,7 @@ use Rattle.fv_eval.specs.declared.continuation.ForDiagram.TheVariants as drawn
 use Rattle.fv_eval.specs.declared.continuation.Focus as code_focus
 use Rattle.fv_eval.specs.declared.continuation.Focus.TheVariants as focus
 use Rattle.fv_eval.specs.declared.machine.Machine as code_machine
-use Rattle.fv_eval.specs.Continuations.{AreNumbered, Grew, ShowsContinuations, ShowsName, Slots, state_of, world}
+use Rattle.fv_eval.specs.inner.Continuations.{AreNumbered, Grew, ShowsContinuations, ShowsName, Slots, state_of, world}
 use Rattle.fv_eval.proofs.Grown.{for_diagram_grows, continuations_grow}
 use Rattle.fv_eval.proofs.Moves.{drawn_grew, grew_on, scoped_grew}
 use Rattle.fv_eval.proofs.Arrived.{Turns}

@@ -12,7 +12,7 @@ use Rattle.fv_eval_machine.specs.Machine.{Config, begin, begin_name, calling, st
 use Rattle.fv_eval.specs.declared.continuation.Focus as code_focus
 use Rattle.fv_eval.specs.declared.continuation.Focus.TheVariants as focus
 use Rattle.fv_eval.specs.declared.machine.Machine as code_machine
-use Rattle.fv_eval.specs.Continuations.{Begins, Goes, Runs, Steps, state_of, world}
+use Rattle.fv_eval.specs.inner.Continuations.{Begins, Goes, Runs, Steps, state_of, world}
 
 -- ---- visits that are spent
 

@@ -16,7 +16,7 @@ use Rattle.fv_rules.specs.Rules.{width}
 use Rattle.fv_rules.specs.Shows.{World, IsNamed, ShowsEnv, ShowsTaken, ShowsValue, parameters_in, rules_in}
 use Rattle.fv_rules.proofs.Grown.{argument_comes, bound_shows, env_grows, taken_shows}
 use Rattle.fv_eval.specs.declared.machine.Machine as code_machine
-use Rattle.fv_eval.specs.Continuations.{Grew, IsShown, ShowsName, ShowsTaking, took, world}
+use Rattle.fv_eval.specs.inner.Continuations.{Grew, IsShown, ShowsName, ShowsTaking, took, world}
 use Rattle.fv_eval.proofs.Places.{drop_behind, get_at_drop}
 
 -- the clause of `take`

@@ -19,7 +19,7 @@ use Rattle.fv_eval.specs.declared.continuation.ForDiagram as code_for_diagram
 use Rattle.fv_eval.specs.declared.continuation.ForDiagram.TheVariants as drawn
 use Rattle.fv_eval.proofs.Forms.{is_binary, is_iteration}
 use Rattle.fv_eval.proofs.Places.{get_at_drop}
-use Rattle.fv_eval.specs.Continuations.{AllDraw, AreShown, DrawnThere, IsShown, IsThere, ShowsForDiagram, ShowsForValue, ValuedShown}
+use Rattle.fv_eval.specs.inner.Continuations.{AllDraw, AreShown, DrawnThere, IsShown, IsThere, ShowsForDiagram, ShowsForValue, ValuedShown}
 
 -- ---- values
 

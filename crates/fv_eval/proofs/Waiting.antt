@@ -13,7 +13,7 @@ use Rattle.fv_eval.specs.declared.continuation.Continuation.TheVariants as conti
 use Rattle.fv_eval.specs.declared.continuation.ForValue.TheVariants as valued
 use Rattle.fv_eval.specs.declared.continuation.Focus as code_focus
 use Rattle.fv_eval.specs.declared.machine.Machine as code_machine
-use Rattle.fv_eval.specs.Continuations.{ShowsContinuation, Steps, world}
+use Rattle.fv_eval.specs.inner.Continuations.{ShowsContinuation, Steps, world}
 use Rattle.fv_eval.proofs.Completing.{Leaves}
 use Rattle.fv_eval.proofs.Places.{drop_behind}
 

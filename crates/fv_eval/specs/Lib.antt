@@ -1,4 +1,3 @@
-pub mod Names
-pub mod Continuations
 pub mod Controls
 pub mod Evaluated
+pub mod inner

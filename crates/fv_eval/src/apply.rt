@@ -7,8 +7,8 @@ ghost use Rattle.fv_rules.specs.Values.{Env, Taken, Value as Meant};
 ghost use Rattle.fv_rules.specs.Steps.{no_rule};
 ghost use Rattle.fv_rules.specs.Shows.{IsInside, ShowsEnv, ShowsTaken, ShowsTree, ShowsValue, ShowsValues};
 ghost use Rattle.fv_eval_machine.specs.Machine.{Leftover as Left, Running, Valued, Visit, apply, next_argument};
-ghost use Rattle.fv_eval.specs.Continuations.{AreShown, Chooses, Completes, Grew, IsApplication, IsShown, Selects, ShowsTaking, Steps};
-ghost use Rattle.fv_eval.specs.Continuations.{completed, took, world};
+ghost use Rattle.fv_eval.specs.inner.Continuations.{AreShown, Chooses, Completes, Grew, IsApplication, IsShown, Selects, ShowsTaking, Steps};
+ghost use Rattle.fv_eval.specs.inner.Continuations.{completed, took, world};
 
 use crate::continuation::{Continuation, Focus, ForValue};
 use crate::machine::Machine;

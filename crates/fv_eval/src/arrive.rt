@@ -14,8 +14,8 @@ ghost use Rattle.fv_eval_machine.specs.Machine.{Drawn, ForDiagram as Drawing, Fo
 ghost use Rattle.fv_eval_machine.specs.Machine.{value_arrives};
 ghost use Rattle.fv_eval_drawing.specs.Makes.{IsThere as IsDrawn};
 ghost use Rattle.fv_eval.specs.declared.continuation.Focus.TheVariants.{Give as Gives};
-ghost use Rattle.fv_eval.specs.Continuations.{DrawnThere, gave, Grew, IsBinary, IsShown, Runs, ShowsForDiagram, ShowsForValue, Steps};
-ghost use Rattle.fv_eval.specs.Continuations.{ValuedShown, world};
+ghost use Rattle.fv_eval.specs.inner.Continuations.{DrawnThere, gave, Grew, IsBinary, IsShown, Runs, ShowsForDiagram, ShowsForValue, Steps};
+ghost use Rattle.fv_eval.specs.inner.Continuations.{ValuedShown, world};
 
 use crate::continuation::{Continuation, Focus, ForDiagram, ForValue};
 use crate::machine::Machine;

@@ -9,7 +9,7 @@ ghost use Rattle.fv_rules.specs.Values.{Env, Flat, Name};
 ghost use Rattle.fv_rules.specs.Rules.{slider_kind};
 ghost use Rattle.fv_rules.specs.Shows.{IsNamed, ShowsEnv, ShowsTree};
 ghost use Rattle.fv_eval_machine.specs.Machine.{Call, Continuation as Waiting, Give, Running, Visit, next_parameter};
-ghost use Rattle.fv_eval.specs.Continuations.{Begins, IsSlider, ShowsContinuation, ShowsSlider, Steps, world};
+ghost use Rattle.fv_eval.specs.inner.Continuations.{Begins, IsSlider, ShowsContinuation, ShowsSlider, Steps, world};
 
 use crate::continuation::{Continuation, Focus, ForDiagram, ForValue};
 use crate::machine::Machine;

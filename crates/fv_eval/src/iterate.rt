@@ -13,7 +13,7 @@ ghost use Rattle.fv_rules.specs.Rules.{counted};
 ghost use Rattle.fv_rules.specs.Shows.{Draws, ShowsEnv, ShowsTree};
 ghost use Rattle.fv_eval_machine.specs.Machine.{first_body, next_body};
 ghost use Rattle.fv_eval_drawing.specs.Makes.{AreThere};
-ghost use Rattle.fv_eval.specs.Continuations.{AreIndexed, IsIteration, ShowsBodies, Steps, world};
+ghost use Rattle.fv_eval.specs.inner.Continuations.{AreIndexed, IsIteration, ShowsBodies, Steps, world};
 
 use crate::arrive::give;
 use crate::continuation::{Continuation, Focus, ForDiagram};

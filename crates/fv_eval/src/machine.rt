@@ -8,7 +8,7 @@ ghost use Rattle.fv_rules.specs.Values.{Env, Name, Scope, Value as Meant};
 ghost use Rattle.fv_rules.specs.Steps.{Outcome};
 ghost use Rattle.fv_rules.specs.Shows.{IsNamed, ShowsEnv, ShowsTree};
 ghost use Rattle.fv_eval_machine.specs.Machine.{Call, Config, Continuation as Waiting, Running, Visit, step};
-ghost use Rattle.fv_eval.specs.Continuations.{Continues, Ends, Goes, Runs, ShowsContinuation, Steps, state_of, world};
+ghost use Rattle.fv_eval.specs.inner.Continuations.{Continues, Ends, Goes, Runs, ShowsContinuation, Steps, state_of, world};
 
 use crate::continuation::{Continuation, Continuations, Focus};
 use crate::controls::Controls;

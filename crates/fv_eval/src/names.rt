@@ -5,7 +5,7 @@ ghost use Rattle.fv_parse.specs.Trees.{first_named, size_of, text_of, tree_in};
 ghost use Rattle.fv_rules.specs.Values.{Env, Name, lookup};
 ghost use Rattle.fv_rules.specs.Shows.{IsNamed, ShowsEnv, body_in, parameters_in};
 ghost use Rattle.fv_eval_machine.specs.Machine.{begin_name};
-ghost use Rattle.fv_eval.specs.Continuations.{ShowsName, Steps, name_of, world};
+ghost use Rattle.fv_eval.specs.inner.Continuations.{ShowsName, Steps, name_of, world};
 
 use crate::continuation::Focus;
 use crate::machine::Machine;

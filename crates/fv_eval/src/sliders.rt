@@ -11,7 +11,7 @@ ghost use Rattle.fv_rules.specs.Rules.{flat, read_number, slider_info, slider_ki
 ghost use Rattle.fv_rules.specs.Shows.{ShowsValue};
 ghost use Rattle.fv_eval_drawing.specs.Makes.{IsThere as IsDrawn};
 ghost use Rattle.fv_eval_machine.specs.Machine.{given, next_parameter, parameter_read};
-ghost use Rattle.fv_eval.specs.Continuations.{IsSlider, IsThere, ShowsSlider, Steps, parameters_of, world};
+ghost use Rattle.fv_eval.specs.inner.Continuations.{IsSlider, IsThere, ShowsSlider, Steps, parameters_of, world};
 
 use crate::continuation::{Continuation, Focus, ForValue};
 use crate::iterate::not_a_number;

@@ -11,7 +11,7 @@ ghost use Rattle.fv_rules.specs.Rules.{on_slots};
 ghost use Rattle.fv_rules.specs.Shows.{Draws, IsInside, ShowsEnv, ShowsValue, ShowsValues, begins_in, parameters_in};
 ghost use Rattle.fv_eval_machine.specs.Machine.{ForDiagram as Drawing, next_turned, to_diagram};
 ghost use Rattle.fv_eval_drawing.specs.Makes.{AreThere};
-ghost use Rattle.fv_eval.specs.Continuations.{AllDraw, DrawnThere, IsShown, ShowsForDiagram, Slots, Steps, world};
+ghost use Rattle.fv_eval.specs.inner.Continuations.{AllDraw, DrawnThere, IsShown, ShowsForDiagram, Slots, Steps, world};
 
 use crate::arrive::give;
 use crate::continuation::{Continuation, Focus, ForDiagram};

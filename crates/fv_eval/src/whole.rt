@@ -11,8 +11,8 @@ ghost use Rattle.fv_rules.specs.Values.{is_of};
 ghost use Rattle.fv_rules.specs.Rules.{program_value, start};
 ghost use Rattle.fv_rules.specs.Sound.{IsSoundProgram};
 ghost use Rattle.fv_eval_machine.specs.Machine.{first, meaning};
-ghost use Rattle.fv_eval.specs.Continuations.{Continues};
-ghost use Rattle.fv_eval.specs.Names.{defined_by};
+ghost use Rattle.fv_eval.specs.inner.Continuations.{Continues};
+ghost use Rattle.fv_eval.specs.inner.Names.{defined_by};
 
 use crate::continuation::{Continuation, Focus, ForDiagram};
 use crate::controls::Controls;

@@ -3,7 +3,7 @@ use Rattle.std.proofs.Common.{◌≡◌, ℕ, zero, suc, ◌+◌, ◌<◌, Bool,
 use Rattle.std.proofs.Common.{refl, sym, ap, ◌∙◌, arith, ◌==◌, eq-eqb, ne_eqb, append-nil}
 use Rattle.std.specs.Global.{Vec}
 use Rattle.fv_graph.specs.Words.{passing}
-use Rattle.fv_graph.specs.Lists.{Grouped}
+use Rattle.fv_graph.specs.inner.Lists.{Grouped}
 use Rattle.fv_graph.proofs.Counts.{get_set}
 
 pub passing_next : (p : ℕ → Bool) (from k : ℕ) → passing p from (k + 1) ≡ passing p from k ++ cond (p (from + k)) ((from + k) ∷ []) []

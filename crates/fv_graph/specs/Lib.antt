@@ -3,4 +3,4 @@ pub mod Net
 pub mod Graph
 pub mod Wires
 pub mod Reads
-pub mod Lists
+pub mod inner

@@ -1,7 +1,7 @@
 // Which pairs are of which loop.
 
 ghost use Rattle.std.specs.Prelude.{◌≡◌, ℕ, ◌+◌, ◌<◌, length, map, IfOk, slice_index_or, vec_len};
-ghost use Rattle.fv_graph.specs.Lists.{Grouped};
+ghost use Rattle.fv_graph.specs.inner.Lists.{Grouped};
 ghost use Rattle.fv_outside.specs.declared.tasks.Reads.{Reads};
 
 use fv_outside::Reads;

@@ -2,7 +2,7 @@
 
 ghost use Rattle.std.specs.Prelude.{◌≡◌, ℕ, ◌+◌, ◌*◌, ◌^◌, ◌<◌, ◌≤◌, length, List, [], ◌∷◌, map, IfOk, slice_index, slice_index_or};
 ghost use Rattle.std.specs.Bool.{OnTrue};
-ghost use Rattle.fv_graph.specs.Lists.{AreLists, edges_at, group_of};
+ghost use Rattle.fv_graph.specs.inner.Lists.{AreLists, edges_at, group_of};
 
 use std::alloc::{AllocError, Global};
 

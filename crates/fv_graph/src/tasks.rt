@@ -29,7 +29,7 @@ impl Model for Tasks {
     ghost use Rattle.std.specs.Prelude.{◌≤◌, ◌*◌, ◌^◌};
     ghost use Rattle.std.specs.Prelude.{◌<◌};
     ghost use Rattle.fv_graph.specs.Graph.{Graph, IsGraph, coded_graph, edges_of};
-    ghost use Rattle.fv_graph.specs.Lists.{AreInward, AreOutward};
+    ghost use Rattle.fv_graph.specs.inner.Lists.{AreInward, AreOutward};
 
     ghost Value = { Graph };
 

@@ -22,7 +22,7 @@ pub struct Walked {
 
 impl Model for Walked {
     ghost use Rattle.fv_interval.specs.SpanHooks.{Noted};
-    ghost use Rattle.fv_interval.specs.Inside.{noted_of};
+    ghost use Rattle.fv_interval.specs.inner.Inside.{noted_of};
 
     ghost Value = { Noted };
 

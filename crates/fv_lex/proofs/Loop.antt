@@ -19,7 +19,7 @@ use Rattle.fv_lex.specs.Pieces.{IsPiece, longest_token}
 use Rattle.fv_lex.specs.Bytes.{is_letter, is_underscore, begins}
 use Rattle.fv_lex.specs.Symbols.{symbol_of}
 use Rattle.std.specs.List.{prefix_len}
-use Rattle.fv_lex.specs.Steps.{bare_underscores, IsBare, next_piece}
+use Rattle.fv_lex.specs.inner.Steps.{bare_underscores, IsBare, next_piece}
 use Rattle.fv_lex.specs.Cuts.{deepest, depth_after, Cut, Cuts, nothing_more, piece_first, Ends, whole, faulty, too_deep, first_place, place_after, token_of}
 use Rattle.fv_lex.specs.Cuts.{tokens_of, end_of, refusal_at, answer_of, longest_text, Has, cut}
 use Rattle.fv_lex.proofs.TokenLists.{length-tokens_in}

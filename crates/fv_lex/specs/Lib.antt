@@ -4,6 +4,6 @@ pub mod Bytes
 pub mod Symbols
 pub mod Pieces
 pub mod Cuts
-pub mod Steps
 pub mod Carried
 pub mod Examples
+pub mod inner

@@ -2,6 +2,6 @@ pub mod Lanes
 pub mod State
 pub mod Code
 pub mod Instructions
-pub mod Passes
 pub mod Obeys
 pub mod Blocks
+pub mod inner

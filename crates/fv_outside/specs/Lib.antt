@@ -1,5 +1,4 @@
 pub mod Requests
-pub mod Asked
 pub mod Desk
 pub mod Drawer
 pub mod Stored
@@ -9,3 +8,4 @@ pub mod Tasks
 pub mod Journal
 pub mod Recorded
 pub mod Examples
+pub mod inner

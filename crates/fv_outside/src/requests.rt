@@ -25,7 +25,7 @@ pub enum Request<'a> {
 }
 
 impl Requests {
-    ghost use Rattle.fv_outside.specs.Asked.{request_of};
+    ghost use Rattle.fv_outside.specs.inner.Asked.{request_of};
 
     /// Nothing was asked for yet.
     pub fn new() -> Requests

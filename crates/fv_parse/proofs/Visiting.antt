@@ -13,7 +13,7 @@ use Rattle.fv_parse_grammar.specs.Tree.{Tree, End, Binary, More}
 use Rattle.fv_parse_tree.specs.Arena.{tree_at, tree_of, forest}
 use Rattle.fv_parse.specs.Trees.{AllBelow, PartsBelow}
 use Rattle.fv_parse.specs.Definitions.{names_in}
-use Rattle.fv_parse.specs.Visits.{parts_left, own_names}
+use Rattle.fv_parse.specs.inner.Visits.{parts_left, own_names}
 
 -- the trees of a stack, from its top on
 abbrev pub left : List Tree → List TreeId → List Tree

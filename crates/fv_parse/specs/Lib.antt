@@ -1,7 +1,7 @@
 pub mod Trees
 pub mod Unsupported
 pub mod Definitions
-pub mod Visits
 pub mod StaticErrors
 pub mod Outcomes
 pub mod Laws
+pub mod inner

@@ -1,3 +1,3 @@
 pub mod Arena
 pub mod Gives
-pub mod Heads
+pub mod inner

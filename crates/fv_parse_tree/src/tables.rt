@@ -4,7 +4,7 @@ ghost use Rattle.std.specs.Prelude.{◌≡◌, None};
 ghost use Rattle.fv_parse_grammar.specs.Symbols.{head, outside, power, operator};
 ghost use Rattle.fv_parse_grammar.specs.declared.symbol.Operands.TheVariants.{Expressions};
 ghost use Rattle.fv_lex.specs.declared.token.Symbol.TheVariants.{Comma};
-ghost use Rattle.fv_parse_tree.specs.Heads.{primitive_in};
+ghost use Rattle.fv_parse_tree.specs.inner.Heads.{primitive_in};
 
 use fv_lex::Symbol;
 use fv_parse_grammar::{

@@ -13,10 +13,10 @@ use Rattle.fv_signal.specs.Value.{Graph, members}
 use Rattle.fv_share.specs.Drafts.{with_members}
 use Rattle.fv_diagram.specs.declared.signals.Leaf.{Leaf}
 use Rattle.fv_diagram.specs.declared.signals.Leaf.TheVariants as leaf
-use Rattle.fv_diagram.specs.Code.{padded}
+use Rattle.fv_diagram.specs.inner.Code.{padded}
 use Rattle.fv_diagram.proofs.Meaning.{AreOrderly}
 use Rattle.fv_propagate.specs.declared.progress.Feedback.{Feedback}
-use Rattle.fv_propagate.specs.Progress.{Progress, put, puts, passed, grouped, put_mem, put_prefix, leaf_of, opened_of, shut, closed_of, signal_hooks, AreNested}
+use Rattle.fv_propagate.specs.inner.Progress.{Progress, put, puts, passed, grouped, put_mem, put_prefix, leaf_of, opened_of, shut, closed_of, signal_hooks, AreNested}
 use Rattle.fv_propagate.proofs.Puts.{put_keeps, puts_keep, puts_wide, puts_groups, puts_closed, puts_feedbacks}
 use Rattle.fv_propagate.proofs.Alongside.{HoldBack}
 

@@ -10,11 +10,11 @@ use Rattle.fv_share.specs.Drafts.{Draft, NamesSoFar, IsPending, IsShut, BacksWit
 use Rattle.fv_num.specs.declared.op.Op.TheVariants.{Select2}
 use Rattle.fv_diagram.specs.declared.signals.Leaf.{Leaf}
 use Rattle.fv_diagram.specs.declared.signals.Leaf.TheVariants as leaf
-use Rattle.fv_diagram.specs.Code.{padded}
+use Rattle.fv_diagram.specs.inner.Code.{padded}
 use Rattle.fv_diagram.proofs.Places.{prefix_long}
 use Rattle.fv_propagate.specs.declared.progress.Feedback.{Feedback}
-use Rattle.fv_propagate.specs.Progress.{Progress, put, puts, put_mem, put_prefix, passed, grouped, leaf_of, opened_of, shut, closed_of, fed_of, IsThere}
-use Rattle.fv_propagate.specs.Progress.{IsWireOf, IsAdmitted, AreNested, AreOpen, IsProgress}
+use Rattle.fv_propagate.specs.inner.Progress.{Progress, put, puts, put_mem, put_prefix, passed, grouped, leaf_of, opened_of, shut, closed_of, fed_of, IsThere}
+use Rattle.fv_propagate.specs.inner.Progress.{IsWireOf, IsAdmitted, AreNested, AreOpen, IsProgress}
 use Rattle.fv_propagate.proofs.Puts.{put_cases, put_there, put_keeps, puts_keep, puts_groups, puts_closed, puts_feedbacks, puts_wide, puts_there}
 use Rattle.fv_share.proofs.Puts.{backs_stay_within}
 use Rattle.fv_propagate.proofs.Goes.{filled}

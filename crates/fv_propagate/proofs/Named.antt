@@ -13,10 +13,10 @@ use Rattle.fv_diagram.specs.declared.signals.Leaf.TheVariants as leaf
 use Rattle.fv_diagram.specs.Diagram.{Diagram}
 use Rattle.fv_diagram.specs.Diagram as diagram
 use Rattle.fv_diagram.specs.Hooks.{Hooks}
-use Rattle.fv_diagram.specs.Code.{padded}
+use Rattle.fv_diagram.specs.inner.Code.{padded}
 use Rattle.fv_propagate.specs.declared.progress.Feedback.{Feedback}
 use Rattle.fv_propagate.specs.Propagated.{HasControl}
-use Rattle.fv_propagate.specs.Progress.{Progress, put, puts, passed, grouped, put_mem, put_prefix, leaf_of, opened_of, shut, signal_hooks}
+use Rattle.fv_propagate.specs.inner.Progress.{Progress, put, puts, passed, grouped, put_mem, put_prefix, leaf_of, opened_of, shut, signal_hooks}
 use Rattle.fv_propagate.proofs.Alongside.{AreOfLeaves, IsOfLeaf, KeepAlong, related_places, related_length}
 use Rattle.fv_propagate.proofs.Puts.{put_cases, puts_wide}
 use Rattle.fv_propagate.proofs.Goes.{IsGood, filled, close_wide}

@@ -8,7 +8,7 @@ use Rattle.fv_diagram.proofs.Places.{prefix_long, prefix_get}
 use Rattle.fv_signal.specs.declared.signal.Signal.{Signal}
 use Rattle.fv_signal.specs.Value.{Graph}
 use Rattle.fv_share.proofs.Puts.{put_stands}
-use Rattle.fv_propagate.specs.Progress.{Progress, put, puts}
+use Rattle.fv_propagate.specs.inner.Progress.{Progress, put, puts}
 
 -- the signal stands at place s of the graph
 pub record StandsAt (g : Graph) (s : ℕ) (signal : Signal) : Type 0 where

@@ -19,7 +19,7 @@ use Rattle.fv_signal.specs.Value.{Graph, clamped, value, IsOrdered}
 use Rattle.fv_diagram.specs.declared.signals.Leaf.{Leaf}
 use Rattle.fv_diagram.specs.declared.signals.Leaf.TheVariants as leaf
 use Rattle.fv_diagram.specs.Hooks.{takes}
-use Rattle.fv_diagram.specs.Code.{padded}
+use Rattle.fv_diagram.specs.inner.Code.{padded}
 use Rattle.fv_diagram.proofs.Places.{prefix_long, prefix_get, prefix_snoc}
 use Rattle.fv_diagram.proofs.Related.{AreRelated, Gives}
 use Rattle.fv_diagram.proofs.Sound.{takes_some}
@@ -27,7 +27,7 @@ use Rattle.fv_interval.specs.SpanHooks.{Noted, control_span, span_hooks}
 use Rattle.fv_interval.specs.Laws.{IsOf}
 use Rattle.fv_interval.specs.Delays.{amount, amounts, AreDelays, IsDelay, delay_limit}
 use Rattle.fv_propagate.specs.declared.progress.Feedback.{Feedback}
-use Rattle.fv_propagate.specs.Progress.{Progress, put, puts, passed, grouped, put_mem, put_prefix, leaf_of, opened_of, shut, signal_hooks, AreNested}
+use Rattle.fv_propagate.specs.inner.Progress.{Progress, put, puts, passed, grouped, put_mem, put_prefix, leaf_of, opened_of, shut, signal_hooks, AreNested}
 use Rattle.fv_propagate.proofs.Alongside.{IsOfLeaf, KeepAlong, related_at, related_places, related_length}
 use Rattle.fv_propagate.proofs.Puts.{put_cases, puts_at, puts_wide, puts_delays}
 use Rattle.fv_propagate.proofs.Goes.{IsGood, GoesOn, filled, before_put, before_mem}

@@ -17,15 +17,15 @@ use Rattle.fv_diagram.specs.declared.node.Primitive.{Primitive as Prim}
 use Rattle.fv_diagram.specs.declared.node.Primitive.TheVariants as prim
 use Rattle.fv_diagram.specs.Diagram.{Primitive, primitive_inputs}
 use Rattle.fv_diagram.specs.Walked.{primitive}
-use Rattle.fv_diagram.specs.Code.{padded}
+use Rattle.fv_diagram.specs.inner.Code.{padded}
 use Rattle.fv_diagram.proofs.Causality.{delayed_same, back_same}
 use Rattle.fv_diagram.proofs.Carried.{column_carries}
 use Rattle.fv_diagram.proofs.Places.{table_replicate, carried_items, carried_first}
 use Rattle.fv_diagram.proofs.Meaning.{Means, AreSound}
 use Rattle.fv_diagram.proofs.Sound.{takes_some}
 use Rattle.fv_propagate.specs.declared.progress.Feedback.{Feedback}
-use Rattle.fv_propagate.specs.Progress.{Progress, put, puts, passed, grouped, put_mem, put_prefix, put_delay, opened_of, shut, closed_of, signal_hooks}
-use Rattle.fv_propagate.specs.Progress.{AreNested}
+use Rattle.fv_propagate.specs.inner.Progress.{Progress, put, puts, passed, grouped, put_mem, put_prefix, put_delay, opened_of, shut, closed_of, signal_hooks}
+use Rattle.fv_propagate.specs.inner.Progress.{AreNested}
 use Rattle.fv_propagate.proofs.Puts.{StandsAt, put_at, puts_at, puts_wide}
 use Rattle.fv_propagate.proofs.Goes.{IsGood, Onward, GoesOn, filled, opened_long, nested_not_open, before_put, before_passed, before_puts, before_mem}
 use Rattle.fv_propagate.proofs.Goes.{before_prefix, before_opened, before_closed}

@@ -28,7 +28,7 @@ use Rattle.fv_interval.specs.SpanHooks.{Noted, control_span, span_hooks}
 use Rattle.fv_interval.specs.Laws.{IsOf}
 use Rattle.fv_interval.specs.Delays.{delays_of, AreAccepted}
 use Rattle.fv_interval.proofs.Refused.{delays_are}
-use Rattle.fv_propagate.specs.Progress.{Progress, puts, unstarted, started, signal_hooks, IsThere}
+use Rattle.fv_propagate.specs.inner.Progress.{Progress, puts, unstarted, started, signal_hooks, IsThere}
 use Rattle.fv_propagate.specs.Propagated.{Propagates, DelaysStayWithin, AreShort, HasControl, NamesOf, NamesWithin}
 use Rattle.fv_propagate.proofs.Alongside.{walk_back, walked_along, related_places}
 use Rattle.fv_propagate.proofs.Puts.{put_there, puts_at, puts_wide, puts_groups, puts_closed, puts_delays, puts_feedbacks, puts_keep}

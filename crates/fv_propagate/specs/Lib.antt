@@ -1,5 +1,3 @@
-pub mod Progress
-pub mod Inside
 pub mod Propagated
 -- what its public clauses cite of crates below
 pub use Rattle.fv_diagram.specs.Diagram
@@ -8,3 +6,4 @@ pub use Rattle.fv_interval.specs.Delays
 pub use Rattle.fv_num.specs.Interval
 pub use Rattle.fv_num.specs.SpanLaws
 pub use Rattle.fv_signal.specs.Value
+pub mod inner

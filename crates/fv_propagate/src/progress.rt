@@ -4,9 +4,9 @@ ghost use Rattle.std.specs.Prelude.{◌≡◌, ℕ, ◌<◌, ◌≤◌, List, �
 ghost use Rattle.fv_signal.specs.declared.signal.Signal.TheVariants.{Input, Back, Member};
 ghost use Rattle.fv_signal.specs.Value.{IsGraph};
 ghost use Rattle.fv_share.specs.Drafts.{CanPut, IsPending, IsShut, BacksWithin, AreClosed, width_of, graph_of};
-ghost use Rattle.fv_diagram.specs.Code.{padded as padded_of};
-ghost use Rattle.fv_propagate.specs.Progress.{started, put, puts, put_mem, put_prefix, signal_hooks, IsThere, IsAdmitted};
-ghost use Rattle.fv_propagate.specs.Progress.{AreNested, fed_of, put_delay, leaf_of, passed, grouped, opened_of, closed_of};
+ghost use Rattle.fv_diagram.specs.inner.Code.{padded as padded_of};
+ghost use Rattle.fv_propagate.specs.inner.Progress.{started, put, puts, put_mem, put_prefix, signal_hooks, IsThere, IsAdmitted};
+ghost use Rattle.fv_propagate.specs.inner.Progress.{AreNested, fed_of, put_delay, leaf_of, passed, grouped, opened_of, closed_of};
 ghost use Rattle.fv_diagram.specs.Hooks.{takes};
 
 use fv_diagram::{Leaf, Signals};
@@ -35,8 +35,8 @@ pub struct Progress {
 }
 
 impl Model for Progress {
-    ghost use Rattle.fv_propagate.specs.Progress.{Progress as Growing, IsProgress};
-    ghost use Rattle.fv_propagate.specs.Inside.{progress_of};
+    ghost use Rattle.fv_propagate.specs.inner.Progress.{Progress as Growing, IsProgress};
+    ghost use Rattle.fv_propagate.specs.inner.Inside.{progress_of};
 
     ghost Value = { Growing };
 

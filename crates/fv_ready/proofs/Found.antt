@@ -7,7 +7,7 @@ use native.Mathlib.Decide.{ℕ_discrete}
 use Rattle.fv_outside.specs.Tasks.{times}
 use Rattle.fv_graph.proofs.Counts.{bit_apart}
 use Rattle.fv_ready_rule.specs.Rule.{places}
-use Rattle.fv_ready_rule.specs.Spun.{spun}
+use Rattle.fv_ready_rule.specs.inner.Spun.{spun}
 use Rattle.fv_ready_rule.specs.Carried.{slot_at, with_slot, but_slot}
 use Rattle.fv_ready_rule.proofs.Taking.{places_append}
 use Rattle.fv_ready_rule.proofs.Hands.{cut_at, long_places, slot_first, with_first, but_first}

@@ -2,7 +2,7 @@
 
 ghost use Rattle.std.specs.Prelude.{◌≡◌, ℕ, ◌+◌, ◌<◌, ◌≤◌, length, ◌++◌, ◌==◌, position, vec_len, vec_capacity};
 ghost use Rattle.fv_outside.specs.Tasks.{times};
-ghost use Rattle.fv_ready_rule.specs.Spun.{spun};
+ghost use Rattle.fv_ready_rule.specs.inner.Spun.{spun};
 ghost use Rattle.fv_ready.specs.Seats.{IsPlaceOf};
 
 use atomic_table::Seat;

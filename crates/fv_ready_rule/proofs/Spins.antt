@@ -1,7 +1,7 @@
 -- Turning brings each slot to the front, and back.
 use Rattle.std.proofs.Common.{◌≡◌, ℕ, zero, suc, List, [], ◌∷◌, ◌++◌, length, refl, sym, ap, ◌∙◌, append_assoc, append-nil}
 use Rattle.atomic_table.specs.Table.{turned}
-use Rattle.fv_ready_rule.specs.Spun.{spun}
+use Rattle.fv_ready_rule.specs.inner.Spun.{spun}
 
 module _ {S : Type 0} where
   spun_first : (n : ℕ) (xs : List (ℕ × S)) → spun n (turned xs) ≡ turned (spun n xs)

@@ -4,5 +4,5 @@ pub mod Shown
 pub mod Whole
 pub mod Carried
 pub mod Promised
-pub mod Spun
 pub mod Steps
+pub mod inner

@@ -11,7 +11,7 @@ use Rattle.fv_rules.specs.declared.timeless.Task.TheVariants as task
 use Rattle.fv_rules.specs.Numbers.{is_timeless}
 use Rattle.fv_num.specs.Frames.{Frame}
 use Rattle.fv_diagram.specs.Streams.{dealt, merged}
-use Rattle.fv_rules.specs.Timeless.{Action, given, whole, action, Does, Leads, Fits, AllFit, IsReady, are_timeless, weight, Advances}
+use Rattle.fv_rules.specs.inner.Timeless.{Action, given, whole, action, Does, Leads, Fits, AllFit, IsReady, are_timeless, weight, Advances}
 use Rattle.fv_diagram.proofs.Turns.{some_size, not_below}
 use Rattle.fv_rules.proofs.Actions.{narrowed, after, follow, beside}
 use Rattle.fv_rules.proofs.FirstValues.{width}

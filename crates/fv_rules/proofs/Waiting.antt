@@ -6,7 +6,7 @@ use Rattle.fv_diagram.specs.Diagram.{inputs, outputs}
 use Rattle.fv_diagram.specs.Arena.{Arena, tree_of}
 use Rattle.fv_rules.specs.declared.timeless.Task.{Task}
 use Rattle.fv_rules.specs.Numbers.{is_timeless, number_of}
-use Rattle.fv_rules.specs.Timeless.{IsReady, Leads, are_timeless, given}
+use Rattle.fv_rules.specs.inner.Timeless.{IsReady, Leads, are_timeless, given}
 use Rattle.fv_rules.proofs.FirstValues.{has_number}
 
 -- The tasks can be done, and lead to the value of the diagram, where it is timeless.

@@ -1,6 +1,5 @@
 pub mod Values
 pub mod Numbers
-pub mod Timeless
 pub mod Matching
 pub mod Steps
 pub mod Rules
@@ -10,7 +9,7 @@ pub mod Examples
 pub mod Environments
 pub mod Shows
 pub mod ByName
-pub mod Lookup
 pub mod Memo
 pub mod Choosing
 pub mod Chosen
+pub mod inner

@@ -7,7 +7,7 @@ ghost use Rattle.fv_rules.specs.Values.{Name, Env, Meaning as PureMeaning, looku
 ghost use Rattle.fv_rules.specs.declared.by_name.Defined.{Defined as AnItem};
 ghost use Rattle.fv_rules.specs.Environments.{scope_in, outer_number};
 ghost use Rattle.fv_rules.specs.Shows.{World, IsNamed, ShowsEnv, ShowsMeaning};
-ghost use Rattle.fv_rules.specs.Lookup.{SaysOrPasses, IsMade, outer, is_name, are_names};
+ghost use Rattle.fv_rules.specs.inner.Lookup.{SaysOrPasses, IsMade, outer, is_name, are_names};
 
 use crate::by_name::{ByName, Defined, by_name};
 use crate::scopes::Scopes;

@@ -3,7 +3,7 @@
 ghost use Rattle.std.specs.Prelude.{◌≡◌, ◌+◌, ◌<◌, ◌≤◌, [], length, IfOk, IfSome, OnErr, slice_get};
 ghost use Rattle.fv_rules.specs.declared.value.Scope.TheVariants.{Bound, Definitions};
 ghost use Rattle.fv_parse.specs.Trees.{Parsed};
-ghost use Rattle.fv_rules.specs.Lookup.{BindsAnother, StillReaches};
+ghost use Rattle.fv_rules.specs.inner.Lookup.{BindsAnother, StillReaches};
 ghost use Rattle.fv_rules.specs.Environments.{scope_in, with_scope, with_argument};
 ghost use Rattle.fv_rules.specs.Values.{Env, Taken, in_order};
 ghost use Rattle.fv_rules.specs.Matching.{Bindings, bound_in};

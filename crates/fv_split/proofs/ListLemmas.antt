@@ -16,8 +16,8 @@ use Rattle.fv_split_code.specs.declared.kind.Kind.{Kind}
 use Rattle.fv_split_code.specs.declared.kind.Kind.TheVariants as kind
 use Rattle.fv_split_code.specs.Emits.{kind_of}
 use Rattle.fv_split_code.specs.Emitted.{code_in}
-use Rattle.fv_split.specs.Bases.{base_of, kind_with, AreBases, AreKinds}
-use Rattle.fv_split.specs.Lists.{AreInfos, AreCoded}
+use Rattle.fv_split.specs.inner.Bases.{base_of, kind_with, AreBases, AreKinds}
+use Rattle.fv_split.specs.inner.Lists.{AreInfos, AreCoded}
 
 -- the first n items are those of f
 pub record AreOf {A : Type 0} (f : ℕ → A) (n : ℕ) (xs : List A) : Type 0 where

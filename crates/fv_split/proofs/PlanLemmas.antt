@@ -32,8 +32,8 @@ use Rattle.fv_split_code.specs.declared.kind.Kind.{Kind}
 use Rattle.fv_split_code.specs.Emitted.{steps_of, code_in, AreCodes}
 use Rattle.fv_split_code.specs.Held.{HoldsUpTo}
 use Rattle.fv_split_code.proofs.LoadLemmas.{fits_loaded, loads_may, held_counted, inputs_named, loads_within, code_sound}
-use Rattle.fv_split.specs.Lists.{AreInfos, AreCoded, lane_of}
-use Rattle.fv_split.specs.ToldReads.{ReadsSoFar, reads_of_loops}
+use Rattle.fv_split.specs.inner.Lists.{AreInfos, AreCoded, lane_of}
+use Rattle.fv_split.specs.inner.ToldReads.{ReadsSoFar, reads_of_loops}
 use Rattle.fv_split.proofs.TellLemmas.{IsTold, LoadsFrom, LoopReads, all_told, few_pairs}
 use Rattle.fv_split.proofs.SuitLemmas.{Passes, tables_of, names_of, own_places, lower_loaded, MayLoad, may_load, in_loop, suits, separated_lane}
 

@@ -15,7 +15,7 @@ use Rattle.fv_loopcode.specs.Code.{NamesLane}
 use Rattle.fv_split_plan.specs.Separated.{lane_at}
 use Rattle.fv_split_plan.specs.View.{loads_lane}
 use Rattle.fv_split_code.specs.Emitted.{code_in}
-use Rattle.fv_split.specs.ToldReads.{ReadsSoFar, was_told, with_read, reads_of_step, reads_of_steps, reads_of_loops}
+use Rattle.fv_split.specs.inner.ToldReads.{ReadsSoFar, was_told, with_read, reads_of_step, reads_of_steps, reads_of_loops}
 
 -- ---- lists of reads
 

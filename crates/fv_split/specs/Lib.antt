@@ -1,3 +1,1 @@
-pub mod Bases
-pub mod ToldReads
-pub mod Lists
+pub mod inner

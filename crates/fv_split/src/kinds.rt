@@ -5,7 +5,7 @@ ghost use Rattle.fv_split_components.specs.Reach.{at};
 ghost use Rattle.fv_signal.specs.Value.{NamesWithin};
 ghost use Rattle.fv_signal.specs.Rates.{rates as rates_of};
 ghost use Rattle.fv_split_plan.specs.Separated.{lane_at};
-ghost use Rattle.fv_split.specs.Bases.{base_of as base_in, kind_with as kind_in, AreBases, AreKinds};
+ghost use Rattle.fv_split.specs.inner.Bases.{base_of as base_in, kind_with as kind_in, AreBases, AreKinds};
 
 use fv_analysis::Rates;
 use fv_signal::{Graph, Rate, Signal, SignalId};

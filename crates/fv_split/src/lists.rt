@@ -1,7 +1,7 @@
 // The lanes of a plan and of its outputs.
 
 ghost use Rattle.std.specs.Prelude.{◌≡◌, ◌<◌, ℕ, length, map, All, IfOk};
-ghost use Rattle.fv_split.specs.Lists.{AreInfos, lane_of as lane_of_output};
+ghost use Rattle.fv_split.specs.inner.Lists.{AreInfos, lane_of as lane_of_output};
 
 use fv_analysis::Histories;
 use fv_signal::SignalId;

@@ -3,7 +3,7 @@
 ghost use Rattle.std.specs.Prelude.{◌≡◌, ◌<◌, ◌≤◌, ℕ, length, IfOk};
 ghost use Rattle.fv_loopcode.specs.Code.{AreSound};
 ghost use Rattle.fv_split_code.specs.Emitted.{code_in};
-ghost use Rattle.fv_split.specs.Lists.{AreCoded};
+ghost use Rattle.fv_split.specs.inner.Lists.{AreCoded};
 
 use fv_loopcode::{Code, Step};
 use std::alloc::{AllocError, Global};

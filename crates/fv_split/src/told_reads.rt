@@ -4,7 +4,7 @@ ghost use Rattle.std.specs.Prelude.{◌≡◌, ◌<◌, ◌≤◌, ℕ, length, 
 ghost use Rattle.fv_split_components.specs.Reach.{at};
 ghost use Rattle.fv_loopcode.specs.Code.{NamesLane};
 ghost use Rattle.fv_split_code.specs.Emitted.{code_in};
-ghost use Rattle.fv_split.specs.ToldReads.{was_told as was_told_by, with_read, reads_of_step, reads_of_steps, reads_of_loops, view_of};
+ghost use Rattle.fv_split.specs.inner.ToldReads.{was_told as was_told_by, with_read, reads_of_step, reads_of_steps, reads_of_loops, view_of};
 
 use fv_loopcode::Step;
 use fv_outside::Reads;

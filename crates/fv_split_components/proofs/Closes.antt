@@ -6,8 +6,8 @@ use Rattle.fv_split_components.specs.Reach.{Links, at, Leads, Reaches}
 use Rattle.fv_split_components.specs.declared.search.Mark.{Mark}
 use Rattle.fv_split_components.specs.declared.search.Mark.TheVariants.{New, Open, Done}
 use Rattle.fv_split_components.specs.declared.search.Class.{Class}
-use Rattle.fv_split_components.specs.Search.{State, no_class, mark, class, Together, Followed, Finished, Before, Waiting, IsMarked}
-use Rattle.fv_split_components.specs.Search.{IsStacked, IsReaching, IsDone, AreFollowed, IsSearch, IsClosed}
+use Rattle.fv_split_components.specs.inner.Search.{State, no_class, mark, class, Together, Followed, Finished, Before, Waiting, IsMarked}
+use Rattle.fv_split_components.specs.inner.Search.{IsStacked, IsReaching, IsDone, AreFollowed, IsSearch, IsClosed}
 use Rattle.fv_split_components.proofs.Held.{no_later}
 
 -- what a node's mark comes to where the class that begins at place first is done

@@ -8,8 +8,8 @@ use Rattle.fv_split_components.specs.Reach.{Links, at, Walk, AreLinks, AreCompon
 use Rattle.fv_split_components.specs.declared.search.Mark.{Mark}
 use Rattle.fv_split_components.specs.declared.search.Mark.TheVariants.{New, Open, Done}
 use Rattle.fv_split_components.specs.declared.search.Class.{Class}
-use Rattle.fv_split_components.specs.Search.{State, no_class, mark, class, IsHeld, IsClosed, IsRunning, IsCountUpTo, GoesOn, left, one}
-use Rattle.fv_split_components.specs.Search.{weight, work, none, only, visited, collapsed, closed, IsNumbered}
+use Rattle.fv_split_components.specs.inner.Search.{State, no_class, mark, class, IsHeld, IsClosed, IsRunning, IsCountUpTo, GoesOn, left, one}
+use Rattle.fv_split_components.specs.inner.Search.{weight, work, none, only, visited, collapsed, closed, IsNumbered}
 use Rattle.fv_split_components.proofs.Weights.{left_met, left_finished, finished_met, length_finished, finished_other, finished_given}
 use Rattle.fv_split_components.proofs.Visits.{visits}
 use Rattle.fv_split_components.proofs.Turns.{popped, held_popped, search_popped, skips, collapses}

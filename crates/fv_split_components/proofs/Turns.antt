@@ -4,8 +4,8 @@ use Rattle.std.proofs.lemmas.List.{length_push, get_or_push, get_or_append_left,
 use Rattle.std.proofs.lemmas.Bool.{cases_eq, cases_lt}
 use Rattle.fv_split_components.specs.Reach.{Links, at, Reaches}
 use Rattle.fv_split_components.specs.declared.search.Mark.TheVariants.{Open, Done}
-use Rattle.fv_split_components.specs.Search.{State, no_class, mark, class, Together, Followed, Finished, Before, Waiting, IsSearch, IsHeld, IsCountUpTo}
-use Rattle.fv_split_components.specs.Search.{collapsed}
+use Rattle.fv_split_components.specs.inner.Search.{State, no_class, mark, class, Together, Followed, Finished, Before, Waiting, IsSearch, IsHeld, IsCountUpTo}
+use Rattle.fv_split_components.specs.inner.Search.{collapsed}
 use Rattle.fv_split_components.proofs.Walks.{reaches_trans}
 use Rattle.fv_split_components.proofs.Held.{to_held}
 

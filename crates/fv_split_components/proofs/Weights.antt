@@ -5,7 +5,7 @@ use Rattle.std.proofs.lemmas.Bool.{cases_eq}
 use Rattle.fv_split_components.specs.Reach.{at}
 use Rattle.fv_split_components.specs.declared.search.Mark.{Mark}
 use Rattle.fv_split_components.specs.declared.search.Mark.TheVariants.{New, Open, Done}
-use Rattle.fv_split_components.specs.Search.{left, finished}
+use Rattle.fv_split_components.specs.inner.Search.{left, finished}
 
 -- a new node that is met no longer counts
 pub left_met : (f : ℕ → ℕ) (i : ℕ) (ms : List Mark) (w p : ℕ) → w < length ms → get_or ms w New ≡ New → left f i (set ms w (Open p)) + f (i + w) ≡ left f i ms

@@ -1,3 +1,3 @@
 pub mod Packed
 pub mod Reach
-pub mod Search
+pub mod inner

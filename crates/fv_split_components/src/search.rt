@@ -3,8 +3,8 @@
 ghost use Rattle.std.specs.Prelude.{◌≡◌, ◌≢◌, ℕ, ◌<◌, ◌≤◌, ◌-◌, List, [], length, replicate, All, IfOk, OnOk, IsTrue, ◌↔◌};
 ghost use Rattle.fv_split_components.specs.Reach.{next_of, AreLinks, AreComponents};
 ghost use Rattle.fv_split_components.specs.declared.search.Mark.TheVariants.{New};
-ghost use Rattle.fv_split_components.specs.Search.{IsHeld, IsRunning, GoesOn, StaysMet, mark, class, work, none, only, visited};
-ghost use Rattle.fv_split_components.specs.Search.{IsWalked, IsNumbered, AreNumbers, IsCountUpTo, collapsed, finished, closed, state_of};
+ghost use Rattle.fv_split_components.specs.inner.Search.{IsHeld, IsRunning, GoesOn, StaysMet, mark, class, work, none, only, visited};
+ghost use Rattle.fv_split_components.specs.inner.Search.{IsWalked, IsNumbered, AreNumbers, IsCountUpTo, collapsed, finished, closed, state_of};
 
 use crate::packed::Rows;
 use std::alloc::{AllocError, Global};

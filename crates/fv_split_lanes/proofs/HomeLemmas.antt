@@ -5,7 +5,7 @@ use Rattle.std.proofs.lemmas.List.{length-set, get_or-set_same, get_or-set_other
 use Rattle.std.proofs.lemmas.Bool.{cases_eq}
 use Rattle.fv_split_components.specs.Reach.{Links, at, Leads, Reaches}
 use Rattle.fv_split_components.proofs.Walks.{reaches_self, reaches_trans, reaches_step}
-use Rattle.fv_split_lanes.specs.Homes.{AreLower, AreSingle, AreLaneless, given, AreHomesFrom}
+use Rattle.fv_split_lanes.specs.inner.Homes.{AreLower, AreSingle, AreLaneless, given, AreHomesFrom}
 
 abbrev one_given : (inner : ℕ → Bool) → List ℕ → ℕ → ℕ → List ℕ
 one_given inner homes r home = if inner r then set homes r home else homes

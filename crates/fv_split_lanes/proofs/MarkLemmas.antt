@@ -12,10 +12,10 @@ use Rattle.fv_analysis.specs.Stands.{node, stands_of}
 use Rattle.fv_split_plan.specs.Separated.{ReadsSignal, IsSeparated, AsOutput, AsDelayed, AsDefinition, AsShared}
 use Rattle.fv_split_lanes.specs.declared.reader.Reader.{Reader}
 use Rattle.fv_split_lanes.specs.declared.reader.Reader.TheVariants.{Nobody, One, Many}
-use Rattle.fv_split_lanes.specs.Rows.{reads_of}
-use Rattle.fv_split_lanes.specs.Homes.{bit_at}
-use Rattle.fv_split_lanes.specs.Readers.{reader_at, IsReader, ReadsBelow, AreReaders}
-use Rattle.fv_split_lanes.specs.Marked.{Marks, ByOne, Named, DelaysTo, Delayed, Defined, Shared, AreMarked}
+use Rattle.fv_split_lanes.specs.inner.Rows.{reads_of}
+use Rattle.fv_split_lanes.specs.inner.Homes.{bit_at}
+use Rattle.fv_split_lanes.specs.inner.Readers.{reader_at, IsReader, ReadsBelow, AreReaders}
+use Rattle.fv_split_lanes.specs.inner.Marked.{Marks, ByOne, Named, DelaysTo, Delayed, Defined, Shared, AreMarked}
 use Rattle.fv_split_lanes.proofs.RowLemmas.{leads_read, read_lower}
 
 pub marks_set : (old new : List Bool) (x : ℕ) → x < length old → new ≡ set old x true → Marks old new (λ s. x ≡ s)

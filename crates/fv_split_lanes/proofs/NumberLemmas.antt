@@ -12,8 +12,8 @@ use Rattle.fv_split_components.specs.Reach.{at}
 use Rattle.fv_analysis.specs.Stands.{node}
 use Rattle.fv_split_plan.specs.Separated.{lane_at, IsComputed}
 use Rattle.fv_split_lanes.specs.declared.lanes.Numbering.{Numbering}
-use Rattle.fv_split_lanes.specs.Homes.{bit_at}
-use Rattle.fv_split_lanes.specs.Numbered.{AddsLane, AddsNone, AddsSignal, NumberedUpTo, IsInnerBy, AreInner}
+use Rattle.fv_split_lanes.specs.inner.Homes.{bit_at}
+use Rattle.fv_split_lanes.specs.inner.Numbered.{AddsLane, AddsNone, AddsSignal, NumberedUpTo, IsInnerBy, AreInner}
 
 -- what stands at a place of a list that has one item more
 pub data Pushed {A : Type 0} (xs : List A) (x d : A) (k : ℕ) : Type 0 where

@@ -6,8 +6,8 @@ use Rattle.std.proofs.lemmas.List.{get_or-set_same, get_or-set_other, length-set
 use Rattle.std.proofs.lemmas.List.Elements.{All-get_or}
 use Rattle.std.proofs.lemmas.Bool.{cases_lt, cases_eq}
 use Rattle.fv_split_components.specs.Reach.{Links, at, Reaches, AreComponents}
-use Rattle.fv_split_lanes.specs.Homes.{bit_at}
-use Rattle.fv_split_lanes.specs.Ranks.{rank_of, HasMarked, AreMet, AreRanks, AreLoops}
+use Rattle.fv_split_lanes.specs.inner.Homes.{bit_at}
+use Rattle.fv_split_lanes.specs.inner.Ranks.{rank_of, HasMarked, AreMet, AreRanks, AreLoops}
 
 abbrev pub bit : Bool → ℕ
 bit b = if b then 1 else 0

@@ -6,7 +6,7 @@ use Rattle.std.proofs.lemmas.Bool.{cases_eq, cond-true, cond-false, eq-eqb, ne_e
 use Rattle.fv_split_components.specs.Reach.{Links, at, Leads, AreLinks}
 use Rattle.fv_split_lanes.specs.declared.reader.Reader.{Reader}
 use Rattle.fv_split_lanes.specs.declared.reader.Reader.TheVariants.{Nobody, One, Many}
-use Rattle.fv_split_lanes.specs.Readers.{reader_at, IsReader, met_by, with_row, ReadsBelow, AreReaders}
+use Rattle.fv_split_lanes.specs.inner.Readers.{reader_at, IsReader, met_by, with_row, ReadsBelow, AreReaders}
 
 -- the same readers, said otherwise
 pub reader_same : (R S : ℕ → Type 0) (k : Reader) → ((p : ℕ) → R p → S p) → ((p : ℕ) → S p → R p) → IsReader R k → IsReader S k

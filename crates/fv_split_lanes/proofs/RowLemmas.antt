@@ -16,7 +16,7 @@ use Rattle.fv_analysis.specs.Stands.{node, stand}
 use Rattle.fv_analysis.proofs.StandLemmas.{standing, Itself, Another, stands_well}
 use Rattle.fv_split_plan.specs.Separated.{operands, found_from, links_of, ReadsSignal}
 use Rattle.fv_split_plan.proofs.FitsLemmas.{map_get}
-use Rattle.fv_split_lanes.specs.Rows.{reads_of, AreRows}
+use Rattle.fv_split_lanes.specs.inner.Rows.{reads_of, AreRows}
 
 -- ---- lists
 

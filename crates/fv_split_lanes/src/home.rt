@@ -2,7 +2,7 @@
 
 ghost use Rattle.std.specs.Prelude.{◌≡◌, ◌<◌, ◌≤◌, length, All, IfOk};
 ghost use Rattle.fv_split_components.specs.Reach.{next_of};
-ghost use Rattle.fv_split_lanes.specs.Homes.{bit_at, AreLower, AreSingle, AreLaneless, given, AreHomes};
+ghost use Rattle.fv_split_lanes.specs.inner.Homes.{bit_at, AreLower, AreSingle, AreLaneless, given, AreHomes};
 
 use fv_split_components::Rows;
 use std::alloc::{AllocError, Global};

@@ -7,10 +7,10 @@ ghost use Rattle.fv_split_components.specs.Reach.{at};
 ghost use Rattle.fv_analysis.specs.Stands.{stands_of};
 ghost use Rattle.fv_analysis.specs.History.{IsOver};
 ghost use Rattle.fv_split_plan.specs.Separated.{IsComputed};
-ghost use Rattle.fv_split_lanes.specs.Rows.{reads_of};
-ghost use Rattle.fv_split_lanes.specs.Homes.{bit_at};
-ghost use Rattle.fv_split_lanes.specs.Readers.{AreReaders};
-ghost use Rattle.fv_split_lanes.specs.Marked.{Marks, ByOne, Named, DelaysTo, Delayed, Defined, Shared, IsSharedBy, AreMarked};
+ghost use Rattle.fv_split_lanes.specs.inner.Rows.{reads_of};
+ghost use Rattle.fv_split_lanes.specs.inner.Homes.{bit_at};
+ghost use Rattle.fv_split_lanes.specs.inner.Readers.{AreReaders};
+ghost use Rattle.fv_split_lanes.specs.inner.Marked.{Marks, ByOne, Named, DelaysTo, Delayed, Defined, Shared, IsSharedBy, AreMarked};
 
 use crate::reader::Reader;
 use fv_analysis::Rates;

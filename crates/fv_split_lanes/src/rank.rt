@@ -2,7 +2,7 @@
 
 ghost use Rattle.std.specs.Prelude.{◌≡◌, ℕ, ◌+◌, ◌<◌, ◌≤◌, length, All, IfOk};
 ghost use Rattle.fv_split_components.specs.Reach.{at};
-ghost use Rattle.fv_split_lanes.specs.Ranks.{rank_of, AreMet, AreRanks};
+ghost use Rattle.fv_split_lanes.specs.inner.Ranks.{rank_of, AreMet, AreRanks};
 
 use std::alloc::{AllocError, Global};
 

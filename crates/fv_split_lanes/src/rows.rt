@@ -5,7 +5,7 @@ ghost use Rattle.fv_split_components.specs.Reach.{at};
 ghost use Rattle.fv_signal.specs.Value.{NamesWithin};
 ghost use Rattle.fv_analysis.specs.Stands.{stands_of};
 ghost use Rattle.fv_split_plan.specs.Separated.{operands as operands_of, OperandsWithin, found_from, links_of};
-ghost use Rattle.fv_split_lanes.specs.Rows.{reads_of, AreRows};
+ghost use Rattle.fv_split_lanes.specs.inner.Rows.{reads_of, AreRows};
 
 use fv_signal::{Graph, Signal, SignalId};
 use fv_split_components::Rows;

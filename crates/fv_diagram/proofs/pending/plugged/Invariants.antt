@@ -1,5 +1,5 @@
 use Rattle.std.proofs.Common.{◌≡◌, drop}
-use Rattle.fv_diagram.specs.Pending.{slots_of}
+use Rattle.fv_diagram.specs.inner.Pending.{slots_of}
 use Rattle.fv_diagram.proofs.pending.plugged.Given as goal
 
 abbrev pub invariant-loop-i : goal.invariant-loop-i

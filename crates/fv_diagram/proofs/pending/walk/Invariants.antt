@@ -1,7 +1,7 @@
 use Rattle.std.proofs.Common.{◌≡◌}
 use Rattle.fv_diagram.specs.Arena.{tree_of}
 use Rattle.fv_diagram.specs.Walked.{walked}
-use Rattle.fv_diagram.specs.Pending.{rules, stage, outcome, IsReady, weight}
+use Rattle.fv_diagram.specs.inner.Pending.{rules, stage, outcome, IsReady, weight}
 use Rattle.fv_diagram.proofs.pending.walk.Given as goal
 
 abbrev pub invariant-loop-task : goal.invariant-loop-task

@@ -1,5 +1,5 @@
 use Rattle.std.proofs.Common.{◌≡◌, ℕ, ◌<◌, ◌≤◌, [], slice_index_or, vec_len, vec_capacity}
-use Rattle.fv_graph.specs.Lists.{Grouped}
+use Rattle.fv_graph.specs.inner.Lists.{Grouped}
 use Rattle.fv_graph.proofs.groups.group.Given as goal
 
 abbrev pub invariant-loop-j : goal.invariant-loop-j

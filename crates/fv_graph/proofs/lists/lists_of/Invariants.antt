@@ -1,4 +1,4 @@
-use Rattle.fv_graph.specs.Lists.{AreLists, edges_at}
+use Rattle.fv_graph.specs.inner.Lists.{AreLists, edges_at}
 use Rattle.fv_graph.proofs.lists.lists_of.Given as goal
 
 abbrev pub invariant-loop-task : goal.invariant-loop-task

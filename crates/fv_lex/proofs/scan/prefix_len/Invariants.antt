@@ -1,6 +1,6 @@
 use Rattle.std.proofs.Common.{◌≡◌, ◌+◌, length}
 use Rattle.std.specs.List.{prefix_len}
-use Rattle.fv_lex.specs.Steps.{is_in}
+use Rattle.fv_lex.specs.inner.Steps.{is_in}
 use Rattle.fv_lex.proofs.scan.prefix_len.Given as goal
 
 abbrev pub invariant-loop-rest : goal.invariant-loop-rest

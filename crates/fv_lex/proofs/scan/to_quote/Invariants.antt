@@ -1,5 +1,5 @@
 use Rattle.std.proofs.Common.{◌≡◌, ◌+◌, length}
-use Rattle.fv_lex.specs.Steps.{to_quote, more_by}
+use Rattle.fv_lex.specs.inner.Steps.{to_quote, more_by}
 use Rattle.fv_lex.proofs.scan.to_quote.Given as goal
 
 abbrev pub invariant-loop-rest : goal.invariant-loop-rest

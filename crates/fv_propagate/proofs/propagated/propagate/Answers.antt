@@ -6,7 +6,7 @@ use Rattle.fv_share.specs.Drafts.{AreClosed, graph_of}
 use Rattle.fv_diagram.specs.Diagram.{inputs}
 use Rattle.fv_diagram.specs.Arena.{tree_of}
 use Rattle.fv_interval.specs.Delays.{delays_of, AreAccepted}
-use Rattle.fv_propagate.specs.Progress.{Progress, IsThere}
+use Rattle.fv_propagate.specs.inner.Progress.{Progress, IsThere}
 use Rattle.fv_propagate.specs.Propagated.{Propagates, DelaysStayWithin, AreShort, NamesWithin}
 use Rattle.fv_propagate.proofs.Whole.{made, graph, propagates, stays_within, stays_short, names_within, made_wide, made_closed, made_is, inputs_there}
 use Rattle.fv_propagate.proofs.propagated.propagate.Goals as goal

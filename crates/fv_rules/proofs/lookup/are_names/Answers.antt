@@ -1,7 +1,7 @@
 use Rattle.std.proofs.Common.{◌≡◌, ◌<◌, ◌∙◌, false, length, map, get_or, sym, ap, arith}
 use Rattle.std.proofs.lemmas.List.{get_or-map, length-map}
 use Rattle.fv_parse.specs.Trees.{tree_in}
-use Rattle.fv_rules.specs.Lookup.{is_name, are_names}
+use Rattle.fv_rules.specs.inner.Lookup.{is_name, are_names}
 use Rattle.fv_rules.proofs.Lookups.{not_all_names}
 use Rattle.fv_rules.proofs.lookup.are_names.Goals as goal
 

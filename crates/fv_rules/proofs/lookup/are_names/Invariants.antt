@@ -1,7 +1,7 @@
 use Rattle.std.proofs.Common.{◌≡◌, take, map, true}
 use Rattle.std.specs.List.{list_all}
 use Rattle.fv_parse.specs.Trees.{tree_in}
-use Rattle.fv_rules.specs.Lookup.{is_name}
+use Rattle.fv_rules.specs.inner.Lookup.{is_name}
 use Rattle.fv_rules.proofs.lookup.are_names.Given as goal
 
 abbrev pub invariant-loop-id : goal.invariant-loop-id

@@ -1,7 +1,7 @@
 use Rattle.std.proofs.Common.{ap, sym, ◌∙◌}
 use Rattle.fv_parse_tree.specs.Arena.{trees}
 use Rattle.fv_parse.specs.Trees.{start_in}
-use Rattle.fv_rules.specs.Lookup.{is_name}
+use Rattle.fv_rules.specs.inner.Lookup.{is_name}
 use Rattle.fv_rules.proofs.Lookups.{not_a_name}
 use Rattle.fv_rules.proofs.lookup.is_name.Goals as goal
 

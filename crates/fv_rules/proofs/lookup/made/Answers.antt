@@ -4,7 +4,7 @@ use Rattle.fv_parse_tree.specs.Arena.{trees}
 use Rattle.fv_parse.specs.Trees.{tree_in, start_in}
 use Rattle.fv_rules.specs.declared.value.Meaning.TheVariants as meaning
 use Rattle.fv_rules.specs.Values.{Name, is_of}
-use Rattle.fv_rules.specs.Lookup.{are_names}
+use Rattle.fv_rules.specs.inner.Lookup.{are_names}
 use Rattle.fv_rules.proofs.RuleNodes.{node_is}
 use Rattle.fv_rules.proofs.Lookups.{HasPatterns, abstraction_made, rules_made, nothing_made, not_a_definition}
 use Rattle.fv_rules.proofs.lookup.made.Goals.{else-count-eq1-via-then-count-eq1+else-are_names, else-count-eq1-via-else-count-eq1}

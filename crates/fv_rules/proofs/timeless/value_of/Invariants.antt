@@ -1,5 +1,5 @@
 use Rattle.std.proofs.Common.{reverse}
-use Rattle.fv_rules.specs.Timeless.{weight}
+use Rattle.fv_rules.specs.inner.Timeless.{weight}
 use Rattle.fv_rules.proofs.Waiting.{Waits}
 use Rattle.fv_rules.proofs.timeless.value_of.Given as goal
 

@@ -3,7 +3,7 @@ use Rattle.fv_signal.specs.Rates.{rate_at}
 use Rattle.fv_split_components.specs.Reach.{at}
 use Rattle.fv_analysis.specs.Stands.{node}
 use Rattle.fv_split_plan.proofs.NodeLemmas.{node_read}
-use Rattle.fv_split.specs.Bases.{base_of}
+use Rattle.fv_split.specs.inner.Bases.{base_of}
 use Rattle.fv_split.proofs.ListLemmas.{bases_more}
 use Rattle.fv_split.proofs.kinds.bases.Goals as goal
 

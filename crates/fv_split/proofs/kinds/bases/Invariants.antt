@@ -1,4 +1,4 @@
-use Rattle.fv_split.specs.Bases.{AreBases}
+use Rattle.fv_split.specs.inner.Bases.{AreBases}
 use Rattle.fv_split.proofs.kinds.bases.Given as goal
 
 abbrev pub invariant-loop-s : goal.invariant-loop-s

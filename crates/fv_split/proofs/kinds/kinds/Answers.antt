@@ -2,7 +2,7 @@ use Rattle.std.proofs.Common.{◌+◌, ap, ◌∙◌, arith, pos}
 use Rattle.std.proofs.lemmas.List.{get_or_default}
 use Rattle.fv_split_plan.specs.Separated.{lane_at}
 use Rattle.fv_split_code.specs.declared.kind.Kind.TheVariants as kind
-use Rattle.fv_split.specs.Bases.{kind_with}
+use Rattle.fv_split.specs.inner.Bases.{kind_with}
 use Rattle.fv_split.proofs.ListLemmas.{kinds_more}
 use Rattle.fv_split.proofs.kinds.kinds.Goals as goal
 

@@ -1,4 +1,4 @@
-use Rattle.fv_split.specs.Bases.{AreKinds}
+use Rattle.fv_split.specs.inner.Bases.{AreKinds}
 use Rattle.fv_split.proofs.kinds.kinds.Given as goal
 
 abbrev pub invariant-loop-s : goal.invariant-loop-s

@@ -1,4 +1,4 @@
-use Rattle.fv_split.specs.Lists.{AreInfos}
+use Rattle.fv_split.specs.inner.Lists.{AreInfos}
 use Rattle.fv_split.proofs.lists.infos.Given as goal
 
 abbrev pub invariant-loop-l : goal.invariant-loop-l

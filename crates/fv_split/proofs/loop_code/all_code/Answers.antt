@@ -3,7 +3,7 @@ use Rattle.std.proofs.lemmas.List.{length_push, nil_from_length}
 use Rattle.std.specs.Vec.Iter.{into_iter_items}
 use Rattle.fv_loopcode.specs.Code.{AreSound}
 use Rattle.fv_split_code.specs.Emitted.{code_in}
-use Rattle.fv_split.specs.Lists.{AreCoded}
+use Rattle.fv_split.specs.inner.Lists.{AreCoded}
 use Rattle.fv_split.proofs.ListLemmas.{coded_more, code_behind}
 use Rattle.fv_split.proofs.loop_code.all_code.Goals as goal
 

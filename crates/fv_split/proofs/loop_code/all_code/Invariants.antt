@@ -1,6 +1,6 @@
 use Rattle.std.proofs.Common.{◌≡◌, ◌++◌, length}
 use Rattle.std.specs.Vec.Iter.{into_iter_items, into_iter_len}
-use Rattle.fv_split.specs.Lists.{AreCoded}
+use Rattle.fv_split.specs.inner.Lists.{AreCoded}
 use Rattle.fv_split.proofs.loop_code.all_code.Given as goal
 
 abbrev pub invariant-loop-steps : goal.invariant-loop-steps

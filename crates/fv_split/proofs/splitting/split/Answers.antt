@@ -9,8 +9,8 @@ use Rattle.fv_analysis.proofs.StandLemmas.{stands_long}
 use Rattle.fv_split_plan.specs.Rows.{plan_with}
 use Rattle.fv_split_plan.specs.Plans.{PlanStands, PlanReads, PlanNames, IsPlanOf}
 use Rattle.fv_split_code.specs.Emitted.{code_in}
-use Rattle.fv_split.specs.Lists.{lane_of}
-use Rattle.fv_split.specs.ToldReads.{reads_of_loops}
+use Rattle.fv_split.specs.inner.Lists.{lane_of}
+use Rattle.fv_split.specs.inner.ToldReads.{reads_of_loops}
 use Rattle.fv_split.proofs.ListLemmas.{same_bases, same_kinds, same_infos}
 use Rattle.fv_split.proofs.SplitLemmas.{rates_long, outputs_there, signals_there}
 use Rattle.fv_split.proofs.SuitLemmas.{Passes, are_tables}

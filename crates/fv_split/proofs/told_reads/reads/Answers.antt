@@ -2,7 +2,7 @@ use Rattle.std.proofs.Common.{◌≡◌, ◌+◌, suc, ◌<◌, length, sym, ap,
 use Rattle.fv_loopcode.specs.Code.{NamesLane}
 use Rattle.fv_split_code.specs.Emitted.{code_in}
 use Rattle.fv_split_code.proofs.AddLemmas.{code_read}
-use Rattle.fv_split.specs.ToldReads.{view_of, reads_of_steps, reads_of_loops}
+use Rattle.fv_split.specs.inner.ToldReads.{view_of, reads_of_steps, reads_of_loops}
 use Rattle.fv_split.proofs.TellLemmas.{length_all}
 use Rattle.fv_split.proofs.told_reads.reads.Goals as goal
 

@@ -1,5 +1,5 @@
 use Rattle.std.proofs.Common.{◌≡◌}
-use Rattle.fv_split.specs.ToldReads.{reads_of_loops, view_of}
+use Rattle.fv_split.specs.inner.ToldReads.{reads_of_loops, view_of}
 use Rattle.fv_split.proofs.told_reads.reads.Given as goal
 
 abbrev pub invariant-loop-j : goal.invariant-loop-j

@@ -1,8 +1,8 @@
 use Rattle.std.proofs.Common.{◌≡◌, ◌≢◌, ℕ, ◌<◌, length}
 use Rattle.fv_split_components.specs.declared.search.Mark.TheVariants.{New}
-use Rattle.fv_split_components.specs.Search.{IsRunning, mark, none}
+use Rattle.fv_split_components.specs.inner.Search.{IsRunning, mark, none}
 use Rattle.fv_split_components.specs.Reach.{next_of}
-use Rattle.fv_split_components.specs.Search.{state_of}
+use Rattle.fv_split_components.specs.inner.Search.{state_of}
 use Rattle.fv_split_components.proofs.search.components.Given as goal
 
 abbrev pub invariant-loop-root : goal.invariant-loop-root

@@ -1,5 +1,5 @@
 use Rattle.std.proofs.Common.{◌≡◌, drop}
-use Rattle.fv_split_components.specs.Search.{finished}
+use Rattle.fv_split_components.specs.inner.Search.{finished}
 use Rattle.fv_split_components.proofs.search.finish.Given as goal
 
 abbrev pub invariant-loop-node : goal.invariant-loop-node

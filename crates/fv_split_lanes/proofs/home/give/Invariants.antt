@@ -1,5 +1,5 @@
 use Rattle.std.proofs.Common.{◌≡◌, drop}
-use Rattle.fv_split_lanes.specs.Homes.{bit_at, given}
+use Rattle.fv_split_lanes.specs.inner.Homes.{bit_at, given}
 use Rattle.fv_split_lanes.proofs.home.give.Given as goal
 
 abbrev pub invariant-loop-r : goal.invariant-loop-r

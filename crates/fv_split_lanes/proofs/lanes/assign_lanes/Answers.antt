@@ -3,12 +3,12 @@ use Rattle.std.proofs.lemmas.List.{get_or_read}
 use Rattle.fv_signal.specs.Rates.{rate_in, rate_at}
 use Rattle.fv_signal.proofs.Grown.{length_grown}
 use Rattle.fv_split_components.specs.Reach.{next_of, at}
-use Rattle.fv_split_lanes.specs.Rows.{reads_of}
-use Rattle.fv_split_lanes.specs.Homes.{bit_at, AreLower, AreSingle, AreHomes}
-use Rattle.fv_split_lanes.specs.Ranks.{AreRanks}
-use Rattle.fv_split_lanes.specs.Readers.{AreReaders}
-use Rattle.fv_split_lanes.specs.Numbered.{AreNumbered, AreInner}
-use Rattle.fv_split_lanes.specs.Placed.{ArePlaced}
+use Rattle.fv_split_lanes.specs.inner.Rows.{reads_of}
+use Rattle.fv_split_lanes.specs.inner.Homes.{bit_at, AreLower, AreSingle, AreHomes}
+use Rattle.fv_split_lanes.specs.inner.Ranks.{AreRanks}
+use Rattle.fv_split_lanes.specs.inner.Readers.{AreReaders}
+use Rattle.fv_split_lanes.specs.inner.Numbered.{AreNumbered, AreInner}
+use Rattle.fv_split_lanes.specs.inner.Placed.{ArePlaced}
 use Rattle.fv_split_lanes.proofs.PlaceLemmas.{read_rows, row_links, link_row_links, row_readers, row_components, are_lower, are_single, numbers_within}
 use Rattle.fv_split_lanes.proofs.PlaceLemmas.{are_placed}
 use Rattle.fv_split_lanes.proofs.lanes.assign_lanes.Goals as goal

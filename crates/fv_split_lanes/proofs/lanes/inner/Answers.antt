@@ -4,7 +4,7 @@ use Rattle.fv_signal.specs.declared.rate.Rate.TheVariants as rate
 use Rattle.fv_signal.specs.Rates.{rate_at}
 use Rattle.fv_analysis.specs.Stands.{node}
 use Rattle.fv_split_plan.specs.Separated.{IsComputed}
-use Rattle.fv_split_lanes.specs.Homes.{bit_at}
+use Rattle.fv_split_lanes.specs.inner.Homes.{bit_at}
 use Rattle.fv_split_plan.proofs.NodeLemmas.{node_read}
 use Rattle.fv_split_lanes.proofs.NumberLemmas.{inner_more}
 use Rattle.fv_split_lanes.proofs.lanes.inner.Goals as goal

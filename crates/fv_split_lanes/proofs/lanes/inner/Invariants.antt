@@ -1,4 +1,4 @@
-use Rattle.fv_split_lanes.specs.Numbered.{AreInner}
+use Rattle.fv_split_lanes.specs.inner.Numbered.{AreInner}
 use Rattle.fv_split_lanes.proofs.lanes.inner.Given as goal
 
 abbrev pub invariant-loop-s : goal.invariant-loop-s

@@ -1,4 +1,4 @@
-use Rattle.fv_split_lanes.specs.Numbered.{NumberedUpTo}
+use Rattle.fv_split_lanes.specs.inner.Numbered.{NumberedUpTo}
 use Rattle.fv_split_lanes.proofs.lanes.number.Given as goal
 
 abbrev pub invariant-loop-s : goal.invariant-loop-s

@@ -1,4 +1,4 @@
-use Rattle.fv_split_lanes.specs.Marked.{Marks, ByOne, Defined}
+use Rattle.fv_split_lanes.specs.inner.Marked.{Marks, ByOne, Defined}
 use Rattle.fv_split_lanes.proofs.mark.mark_groups.Given as goal
 
 abbrev pub invariant-loop-k : goal.invariant-loop-k

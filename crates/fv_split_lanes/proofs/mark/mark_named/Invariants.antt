@@ -1,4 +1,4 @@
-use Rattle.fv_split_lanes.specs.Marked.{Marks, ByOne, Named}
+use Rattle.fv_split_lanes.specs.inner.Marked.{Marks, ByOne, Named}
 use Rattle.fv_split_lanes.proofs.mark.mark_named.Given as goal
 
 abbrev pub invariant-loop-k : goal.invariant-loop-k

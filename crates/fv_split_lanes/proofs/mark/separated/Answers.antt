@@ -4,8 +4,8 @@ use Rattle.fv_signal.specs.Value.{Graph}
 use Rattle.fv_signal.specs.Rates.{rate_in, rate_at, rates}
 use Rattle.fv_signal.proofs.Grown.{length_grown}
 use Rattle.fv_analysis.proofs.StandLemmas.{stands_long}
-use Rattle.fv_split_lanes.specs.Homes.{bit_at}
-use Rattle.fv_split_lanes.specs.Marked.{Marks, ByOne, Named}
+use Rattle.fv_split_lanes.specs.inner.Homes.{bit_at}
+use Rattle.fv_split_lanes.specs.inner.Marked.{Marks, ByOne, Named}
 use Rattle.fv_split_lanes.proofs.RowLemmas.{each_same}
 use Rattle.fv_split_lanes.proofs.MarkLemmas.{are_marked}
 use Rattle.fv_split_lanes.proofs.mark.separated.Goals as goal

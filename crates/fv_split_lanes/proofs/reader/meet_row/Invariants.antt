@@ -1,5 +1,5 @@
 use Rattle.std.proofs.Common.{◌≡◌, drop, length}
-use Rattle.fv_split_lanes.specs.Readers.{with_row}
+use Rattle.fv_split_lanes.specs.inner.Readers.{with_row}
 use Rattle.fv_split_lanes.proofs.reader.meet_row.Given as goal
 
 abbrev pub invariant-loop-s : goal.invariant-loop-s

@@ -1,5 +1,5 @@
 use Rattle.fv_split_plan.specs.Separated.{links_of}
-use Rattle.fv_split_lanes.specs.Rows.{AreRows}
+use Rattle.fv_split_lanes.specs.inner.Rows.{AreRows}
 use Rattle.fv_split_lanes.proofs.rows.links.Given as goal
 
 abbrev pub invariant-loop-s : goal.invariant-loop-s

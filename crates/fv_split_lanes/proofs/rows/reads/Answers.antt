@@ -3,7 +3,7 @@ use Rattle.fv_split_components.specs.Reach.{at}
 use Rattle.fv_analysis.specs.Stands.{stand}
 use Rattle.fv_analysis.proofs.StandLemmas.{stands_long}
 use Rattle.fv_split_plan.specs.Separated.{operands}
-use Rattle.fv_split_lanes.specs.Rows.{reads_of}
+use Rattle.fv_split_lanes.specs.inner.Rows.{reads_of}
 use Rattle.fv_split_plan.proofs.NodeLemmas.{node_read, operands_within}
 use Rattle.fv_split_lanes.proofs.RowLemmas.{rows_more, reads_are}
 use Rattle.fv_split_lanes.proofs.rows.reads.Goals as goal

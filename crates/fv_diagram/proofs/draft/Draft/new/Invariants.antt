@@ -1,5 +1,5 @@
 use Rattle.std.proofs.Common.{◌≡◌}
-use Rattle.fv_diagram.specs.Code.{input_code}
+use Rattle.fv_diagram.specs.inner.Code.{input_code}
 use Rattle.fv_diagram.proofs.draft.Draft.new.Given as goal
 
 abbrev pub invariant-loop-i : goal.invariant-loop-i

@@ -1,6 +1,6 @@
 use Rattle.std.proofs.Common.{◌≡◌, ◌+◌, length}
 use Rattle.fv_num.specs.Frames.{table}
-use Rattle.fv_diagram.specs.Code.{with_cells}
+use Rattle.fv_diagram.specs.inner.Code.{with_cells}
 use Rattle.fv_diagram.proofs.draft.Draft.put_cells.Given as goal
 
 abbrev pub invariant-loop : goal.invariant-loop

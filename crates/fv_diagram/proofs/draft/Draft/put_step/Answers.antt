@@ -1,4 +1,4 @@
-use Rattle.fv_diagram.specs.Code.{code_of}
+use Rattle.fv_diagram.specs.inner.Code.{code_of}
 use Rattle.fv_diagram.proofs.Codes.{code_put}
 use Rattle.fv_diagram.proofs.draft.Draft.put_step.Goals as goal
 

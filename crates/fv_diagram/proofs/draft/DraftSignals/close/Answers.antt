@@ -1,7 +1,7 @@
 use Rattle.std.proofs.Common.{◌≡◌, ◌∷◌, length, map, take, drop, sym, ap, ◌∙◌, subst, All}
 use Rattle.std.proofs.lemmas.List.{with_items_is, drop-map}
 use Rattle.std.proofs.lemmas.List.Elements.{All-take}
-use Rattle.fv_diagram.specs.Code.{code_of, written, IsRegister, fed_of}
+use Rattle.fv_diagram.specs.inner.Code.{code_of, written, IsRegister, fed_of}
 use Rattle.fv_diagram.proofs.Codes.{code_shuts}
 use Rattle.fv_diagram.proofs.Histories.{on_ok_always}
 use Rattle.fv_diagram.proofs.draft.DraftSignals.close.Goals as goal

@@ -1,6 +1,6 @@
 use Rattle.std.proofs.Common.{◌+◌, length, ap, ◌∙◌, arith}
 use Rattle.fv_base.proofs.Lists.{length_table}
-use Rattle.fv_diagram.specs.Code.{code_of, with_cells}
+use Rattle.fv_diagram.specs.inner.Code.{code_of, with_cells}
 use Rattle.fv_diagram.proofs.Codes.{steps_long, late_registers, code_opens}
 use Rattle.fv_diagram.proofs.Sound.{cells_long}
 use Rattle.fv_diagram.proofs.draft.DraftSignals.open.Goals as goal

@@ -1,7 +1,7 @@
 use Rattle.std.proofs.Common.{◌≡◌, ℕ, length, rules, ap, ◌∙◌}
 use Rattle.std.specs.Prelude.{slice_get}
 use Rattle.fv_parse.specs.Trees.{tree_in}
-use Rattle.fv_eval.specs.Continuations.{parameters_of}
+use Rattle.fv_eval.specs.inner.Continuations.{parameters_of}
 use Rattle.fv_eval.proofs.SliderLemmas.{slider_ends}
 use Rattle.fv_eval.proofs.machine.Machine.next_parameter.Goals as goal
 

@@ -5,7 +5,7 @@ use Rattle.fv_parse.specs.Trees.{Parsed, tree_in}
 use Rattle.fv_rules.specs.Matching.{value_number}
 use Rattle.fv_rules.specs.Steps.{no_number}
 use Rattle.fv_eval.specs.declared.machine.Machine as code_machine
-use Rattle.fv_eval.specs.Continuations.{IsSlider, parameters_of}
+use Rattle.fv_eval.specs.inner.Continuations.{IsSlider, parameters_of}
 use Rattle.fv_eval.proofs.SliderLemmas.{GoesOn, parameter_goes, parameter_refused}
 use Rattle.fv_eval.proofs.Forms.{slider_is_done}
 use Rattle.fv_eval.proofs.machine.Machine.parameter_arrives.Goals as goal

@@ -1,7 +1,7 @@
 use Rattle.std.proofs.Common.{Ok}
 use Rattle.fv_rules.specs.Values.{Value}
 use Rattle.fv_rules.specs.Steps.{Outcome}
-use Rattle.fv_eval.specs.Continuations.{Continues, Runs}
+use Rattle.fv_eval.specs.inner.Continuations.{Continues, Runs}
 use Rattle.fv_eval.proofs.machine.Machine.run.Given as goal
 
 abbrev pub invariant-stepping : goal.invariant-stepping

@@ -5,7 +5,7 @@ use Rattle.fv_parse.specs.Trees.{Parsed, tree_in}
 use Rattle.fv_parse_tree.specs.declared.node.TreeId.{TreeId}
 use Rattle.fv_rules.specs.declared.value.Binding as code_binding
 use Rattle.fv_rules.specs.Steps.{no_rule}
-use Rattle.fv_eval.specs.Continuations.{Selects}
+use Rattle.fv_eval.specs.inner.Continuations.{Selects}
 use Rattle.fv_eval.proofs.Completing.{BindsAll, chose, refuses}
 use Rattle.fv_eval.proofs.machine.Machine.select.Goals as goal
 

@@ -1,7 +1,7 @@
 use Rattle.std.proofs.Common.{◌≡◌, ◌<◌, Ok, subst}
 use Rattle.std.specs.Prelude.{Bool, MatchBool}
 use Rattle.fv_eval.specs.declared.continuation.Focus.{Focus}
-use Rattle.fv_eval.specs.Continuations.{Goes, Runs}
+use Rattle.fv_eval.specs.inner.Continuations.{Goes, Runs}
 use Rattle.fv_eval.proofs.Stepped.{visit_there, visit_steps, call_steps, done_steps}
 use Rattle.fv_eval.proofs.machine.Machine.step.Goals as goal
 

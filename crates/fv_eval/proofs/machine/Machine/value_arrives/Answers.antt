@@ -1,6 +1,6 @@
 use Rattle.std.proofs.Common.{sym, subst}
 use Rattle.fv_eval.specs.declared.continuation.ForValue as code_for_value
-use Rattle.fv_eval.specs.Continuations.{ValuedShown, world}
+use Rattle.fv_eval.specs.inner.Continuations.{ValuedShown, world}
 use Rattle.fv_eval.proofs.There.{arguments_more_shown, function_stays_shown}
 use Rattle.fv_eval.proofs.Arrived.{Resumes, function_resumes, argument_resumes, leftover_resumes, parameter_resumes}
 use Rattle.fv_eval.proofs.machine.Machine.value_arrives.Goals as goal

@@ -7,7 +7,7 @@ use Rattle.fv_rules.specs.declared.value.Value.TheVariants as value
 use Rattle.fv_rules.specs.declared.value.Ruled.TheVariants as ruled
 use Rattle.fv_eval.specs.declared.continuation.Focus as code_focus
 use Rattle.fv_eval.specs.declared.continuation.Focus.TheVariants as focus
-use Rattle.fv_eval.specs.Continuations.{Begins}
+use Rattle.fv_eval.specs.inner.Continuations.{Begins}
 use Rattle.fv_eval.proofs.Begun.{IsAbstraction, case_begins, list_begins, names_begin, slider_begins}
 use Rattle.fv_eval.proofs.machine.Machine.visit.Goals as goal
 

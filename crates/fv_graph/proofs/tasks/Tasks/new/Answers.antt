@@ -2,7 +2,7 @@ use Rattle.std.proofs.Common.{◌≡◌, ℕ, ◌+◌, ◌*◌, ◌<◌, List, m
 use Rattle.std.specs.Global.{Vec}
 use Rattle.fv_outside.specs.Tasks.{Tasks}
 use Rattle.fv_outside.specs.declared.tasks.Reads.{Reads}
-use Rattle.fv_graph.specs.Lists.{AreLists, group_of, edges_at}
+use Rattle.fv_graph.specs.inner.Lists.{AreLists, group_of, edges_at}
 use Rattle.fv_graph.proofs.Rising.{makes_graph, same_loops}
 use Rattle.fv_graph.proofs.Made.{keys_low, made_low, are_inward, are_outward}
 use Rattle.fv_graph.proofs.tasks.Tasks.new.Goals as goal

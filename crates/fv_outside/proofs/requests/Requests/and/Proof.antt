@@ -28,7 +28,7 @@ use denote.Triple.Walked.{says, Stays, stay_dropped, walk_of, ends_at, walk_Meet
 use Rattle.fv_outside.proofs.Walks.{none, none_made}
 use Rattle.fv_outside.specs.contracts.requests.Requests as Requests
 use Rattle.fv_outside.specs.contracts.requests.Request as Request
-use Rattle.fv_outside.specs.Asked.{request_of}
+use Rattle.fv_outside.specs.inner.Asked.{request_of}
 use Rattle.fv_outside.specs.contracts.requests.Requests.and as F
 use Rattle.fv_outside.specs.contracts.requests.Requests.and.Key.{name as #self}
 use Rattle.fv_outside.proofs.requests.Requests.and.Statement as stated

@@ -1,6 +1,6 @@
 use Rattle.std.proofs.Common.{sym, ap, ◌∙◌, subst, arith}
 use Rattle.fv_signal.specs.declared.signal.Signal.TheVariants.{Back}
-use Rattle.fv_propagate.specs.Progress.{AreNested}
+use Rattle.fv_propagate.specs.inner.Progress.{AreNested}
 use Rattle.fv_propagate.proofs.Kept.{begun_so}
 use Rattle.fv_propagate.proofs.Puts.{puts_feedbacks}
 use Rattle.fv_propagate.proofs.progress.Progress.begin.Goals as goal

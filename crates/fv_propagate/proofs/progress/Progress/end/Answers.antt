@@ -2,8 +2,8 @@ use Rattle.std.proofs.Common.{◌≡◌, ◌∷◌, [], length, map, sym, ap, �
 use Rattle.std.proofs.lemmas.List.{get_or-set_same}
 use Rattle.fv_signal.specs.declared.signal.Signal.TheVariants.{Member}
 use Rattle.fv_share.specs.Drafts.{Draft, width_of}
-use Rattle.fv_propagate.specs.Progress.{Progress, puts, shut, IsThere, IsProgress, AreOpen, fed_of}
-use Rattle.fv_propagate.specs.Inside.{progress_of}
+use Rattle.fv_propagate.specs.inner.Progress.{Progress, puts, shut, IsThere, IsProgress, AreOpen, fed_of}
+use Rattle.fv_propagate.specs.inner.Inside.{progress_of}
 use Rattle.fv_propagate.proofs.Kept.{members_keep_progress, popped_is_progress}
 use Rattle.fv_propagate.proofs.progress.Progress.end.Goals as goal
 

@@ -1,7 +1,7 @@
 use Rattle.std.proofs.Common.{length, sym, ap, ◌∙◌, subst}
 use Rattle.fv_share.specs.Drafts.{Draft}
-use Rattle.fv_propagate.specs.Progress.{Progress, IsProgress, AreNested, grouped}
-use Rattle.fv_propagate.specs.Inside.{progress_of}
+use Rattle.fv_propagate.specs.inner.Progress.{Progress, IsProgress, AreNested, grouped}
+use Rattle.fv_propagate.specs.inner.Inside.{progress_of}
 use Rattle.fv_propagate.proofs.Kept.{group_keeps_progress}
 use Rattle.fv_propagate.proofs.progress.Progress.group.Goals as goal
 

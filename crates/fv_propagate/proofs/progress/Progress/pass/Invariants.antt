@@ -1,5 +1,5 @@
 use Rattle.std.proofs.Common.{◌≡◌}
-use Rattle.fv_propagate.specs.Progress.{passed}
+use Rattle.fv_propagate.specs.inner.Progress.{passed}
 use Rattle.fv_propagate.proofs.progress.Progress.pass.Given as goal
 
 abbrev pub invariant-loop : goal.invariant-loop

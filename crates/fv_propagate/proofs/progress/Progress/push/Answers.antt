@@ -1,6 +1,6 @@
 use Rattle.std.proofs.Common.{sym, ap, subst}
-use Rattle.fv_propagate.specs.Progress.{Progress, AreNested}
-use Rattle.fv_propagate.specs.Inside.{progress_of}
+use Rattle.fv_propagate.specs.inner.Progress.{Progress, AreNested}
+use Rattle.fv_propagate.specs.inner.Inside.{progress_of}
 use Rattle.fv_propagate.proofs.Kept.{opened_is_progress}
 use Rattle.fv_share.specs.Drafts.{IsPending, BacksWithin}
 use Rattle.fv_propagate.proofs.progress.Progress.push.Goals as goal

@@ -1,7 +1,7 @@
 use Rattle.std.proofs.Common.{sym, ap, subst}
 use Rattle.fv_share.specs.Drafts.{Draft}
-use Rattle.fv_propagate.specs.Progress.{Progress, IsAdmitted, IsProgress}
-use Rattle.fv_propagate.specs.Inside.{progress_of}
+use Rattle.fv_propagate.specs.inner.Progress.{Progress, IsAdmitted, IsProgress}
+use Rattle.fv_propagate.specs.inner.Inside.{progress_of}
 use Rattle.fv_propagate.proofs.Kept.{put_keeps_progress}
 use Rattle.fv_propagate.proofs.progress.Progress.put.Goals as goal
 

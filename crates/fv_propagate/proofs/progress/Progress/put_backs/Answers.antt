@@ -2,7 +2,7 @@ use Rattle.std.proofs.Common.{◌≡◌, ℕ, ◌≤◌, List, sym, ap, ◌∙�
 use Rattle.fv_signal.specs.declared.signal.Signal.TheVariants.{Back}
 use Rattle.fv_share.specs.Drafts.{IsPending, BacksWithin}
 use Rattle.fv_propagate.specs.declared.progress.Feedback.{Feedback}
-use Rattle.fv_propagate.specs.Progress.{Progress, puts, IsWireOf}
+use Rattle.fv_propagate.specs.inner.Progress.{Progress, puts, IsWireOf}
 use Rattle.fv_propagate.proofs.Puts.{puts_more, puts_feedbacks}
 use Rattle.fv_propagate.proofs.Kept.{puts_pending, pending_names, nested_wires, backs_puts}
 use Rattle.fv_propagate.proofs.progress.Progress.put_backs.Goals as goal

@@ -1,6 +1,6 @@
 use Rattle.std.proofs.Common.{ap₂, ◌∙◌}
 use Rattle.fv_signal.specs.declared.signal.Signal.TheVariants.{Delay}
-use Rattle.fv_propagate.specs.Progress.{put}
+use Rattle.fv_propagate.specs.inner.Progress.{put}
 use Rattle.fv_propagate.proofs.progress.Progress.put_delay.Goals as goal
 
 pub returns : goal.returns

@@ -2,7 +2,7 @@ use Rattle.std.proofs.Common.{◌≡◌, length, get_or, sym, ap, ap₂, ◌∙�
 use Rattle.std.proofs.lemmas.Result.{IfOk-weaker}
 use Rattle.std.proofs.lemmas.List.{get_or_default}
 use Rattle.fv_diagram.specs.Hooks.{takes}
-use Rattle.fv_propagate.specs.Progress.{Progress, put_prefix, passed, leaf_of}
+use Rattle.fv_propagate.specs.inner.Progress.{Progress, put_prefix, passed, leaf_of}
 use Rattle.fv_propagate.proofs.progress.Progress.put_leaf.Goals as goal
 
 pub returns-in-Prefix : goal.returns-in-Prefix

@@ -1,6 +1,6 @@
 use Rattle.std.proofs.Common.{ap, ◌∙◌, arith, pos}
 use Rattle.fv_signal.specs.declared.signal.Signal.TheVariants.{Const, Delay}
-use Rattle.fv_propagate.specs.Progress.{put}
+use Rattle.fv_propagate.specs.inner.Progress.{put}
 use Rattle.fv_propagate.proofs.Kept.{grown_put}
 use Rattle.fv_propagate.proofs.progress.Progress.put_mem.Goals as goal
 

@@ -1,7 +1,7 @@
 use Rattle.std.proofs.Common.{◌≡◌, length, get_or, sym, ap, ◌∙◌, subst, arith, []}
 use Rattle.fv_signal.specs.declared.signal.Signal.TheVariants.{Member}
 use Rattle.fv_share.specs.Drafts.{IsShut, width_of}
-use Rattle.fv_propagate.specs.Progress.{Progress}
+use Rattle.fv_propagate.specs.inner.Progress.{Progress}
 use Rattle.fv_propagate.proofs.Puts.{puts_more, puts_groups}
 use Rattle.fv_propagate.proofs.Kept.{puts_shut}
 use Rattle.fv_propagate.proofs.progress.Progress.put_members.Goals as goal

@@ -2,7 +2,7 @@ use Rattle.std.proofs.Common.{ℕ, [], ◌∷◌, ap, ◌∙◌, arith, pos}
 use Rattle.std.proofs.lemmas.List.Elements.{All-cons, All-nil}
 use Rattle.fv_num.specs.declared.op.Op.TheVariants.{Select2}
 use Rattle.fv_signal.specs.declared.signal.Signal.TheVariants.{Const, Point}
-use Rattle.fv_propagate.specs.Progress.{Progress, put, put_mem, IsThere}
+use Rattle.fv_propagate.specs.inner.Progress.{Progress, put, put_mem, IsThere}
 use Rattle.fv_propagate.proofs.Kept.{grown_put, grown_mem}
 use Rattle.fv_propagate.proofs.progress.Progress.put_prefix.Goals as goal
 

@@ -6,7 +6,7 @@ use Rattle.fv_graph.specs.Graph.{Graph, reader_of}
 use Rattle.fv_graph.proofs.Graphs.{is_wires}
 use Rattle.fv_ready_rule.specs.Wired.{graph_wires}
 use Rattle.fv_ready_rule.specs.Rule.{Gives, front_edge, noted, zeroes, done_by}
-use Rattle.fv_ready_rule.specs.Spun.{spun}
+use Rattle.fv_ready_rule.specs.inner.Spun.{spun}
 use Rattle.fv_ready_rule.specs.Carried.{but_slot}
 use Rattle.fv_ready_rule.specs.Whole.{IsWhole}
 use Rattle.fv_ready_rule.specs.declared.Deed.TheVariants.{Arrived}

@@ -1,6 +1,6 @@
 use Rattle.std.proofs.Common.{length, refl, subst}
 use Rattle.fv_parse.specs.Trees.{Parsed}
-use Rattle.fv_rules.specs.Lookup.{IsMade}
+use Rattle.fv_rules.specs.inner.Lookup.{IsMade}
 use Rattle.fv_rules.proofs.Lookups.{IsFound, defined_says}
 use Rattle.fv_rules.proofs.lookup.Definitions.defined.Goals as goal
 

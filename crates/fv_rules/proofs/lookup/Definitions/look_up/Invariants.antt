@@ -1,4 +1,4 @@
-use Rattle.fv_rules.specs.Lookup.{StillReaches}
+use Rattle.fv_rules.specs.inner.Lookup.{StillReaches}
 use Rattle.fv_rules.proofs.lookup.Definitions.look_up.Given as goal
 
 abbrev pub invariant-outward : goal.invariant-outward

@@ -1,6 +1,6 @@
 use Rattle.std.proofs.Common.{◌≤◌}
 use Rattle.fv_parse.specs.Trees.{Parsed}
-use Rattle.fv_rules.specs.Lookup.{StillReaches}
+use Rattle.fv_rules.specs.inner.Lookup.{StillReaches}
 use Rattle.fv_rules.proofs.scopes.Scopes.pass.Given as goal
 
 abbrev pub invariant-passing : goal.invariant-passing

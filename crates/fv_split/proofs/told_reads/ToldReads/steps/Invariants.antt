@@ -1,5 +1,5 @@
 use Rattle.std.proofs.Common.{◌≡◌, drop}
-use Rattle.fv_split.specs.ToldReads.{reads_of_steps, view_of}
+use Rattle.fv_split.specs.inner.ToldReads.{reads_of_steps, view_of}
 use Rattle.fv_split.proofs.told_reads.ToldReads.steps.Given as goal
 
 abbrev pub invariant-loop-step : goal.invariant-loop-step

@@ -2,9 +2,9 @@ use Rattle.std.proofs.Common.{◌≡◌, ◌<◌, length, sym, ◌∙◌, subst}
 use Rattle.std.proofs.lemmas.List.{get_or_read}
 use Rattle.std.proofs.lemmas.Result.{on_ok_weaker}
 use Rattle.fv_split_components.specs.declared.search.Mark.TheVariants.{New, Open, Done}
-use Rattle.fv_split_components.specs.Search.{GoesOn, mark, work}
+use Rattle.fv_split_components.specs.inner.Search.{GoesOn, mark, work}
 use Rattle.fv_split_components.specs.Reach.{next_of}
-use Rattle.fv_split_components.specs.Search.{state_of}
+use Rattle.fv_split_components.specs.inner.Search.{state_of}
 use Rattle.fv_split_components.proofs.Runs.{run_visits, run_collapses, run_skips}
 use Rattle.fv_split_components.proofs.search.Search.look.Goals as goal
 

@@ -1,8 +1,8 @@
 use Rattle.std.proofs.Common.{◌≡◌, ℕ, ◌<◌, length}
 use Rattle.fv_split_components.specs.Reach.{at}
 use Rattle.fv_split_components.specs.declared.search.Mark.TheVariants.{Done}
-use Rattle.fv_split_components.specs.Search.{mark}
-use Rattle.fv_split_components.specs.Search.{state_of}
+use Rattle.fv_split_components.specs.inner.Search.{mark}
+use Rattle.fv_split_components.specs.inner.Search.{state_of}
 use Rattle.fv_split_components.proofs.search.Search.numbers.Given as goal
 
 abbrev pub invariant-loop-mark : goal.invariant-loop-mark

@@ -1,9 +1,9 @@
 use Rattle.std.proofs.Common.{◌≡◌, ◌<◌, ◌≤◌, ◌-◌, length, sym, ◌∙◌, subst, arith, ap}
 use Rattle.std.proofs.lemmas.List.{get_or_read}
 use Rattle.fv_split_components.specs.declared.search.Class.{Class}
-use Rattle.fv_split_components.specs.Search.{no_class, GoesOn, class, work}
+use Rattle.fv_split_components.specs.inner.Search.{no_class, GoesOn, class, work}
 use Rattle.fv_split_components.specs.Reach.{next_of}
-use Rattle.fv_split_components.specs.Search.{state_of}
+use Rattle.fv_split_components.specs.inner.Search.{state_of}
 use Rattle.fv_split_components.proofs.Runs.{run_closes, run_held, run_popped}
 use Rattle.fv_split_components.proofs.search.Search.turn.Goals as goal
 

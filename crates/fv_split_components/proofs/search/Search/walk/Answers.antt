@@ -1,8 +1,8 @@
 use Rattle.std.proofs.Common.{◌≢◌, ◌<◌, length, sym, subst}
 use Rattle.fv_split_components.specs.declared.search.Mark.TheVariants.{New}
-use Rattle.fv_split_components.specs.Search.{GoesOn, mark, work}
+use Rattle.fv_split_components.specs.inner.Search.{GoesOn, mark, work}
 use Rattle.fv_split_components.specs.Reach.{next_of}
-use Rattle.fv_split_components.specs.Search.{state_of}
+use Rattle.fv_split_components.specs.inner.Search.{state_of}
 use Rattle.fv_split_components.proofs.Runs.{root_goes, root_met}
 use Rattle.fv_split_components.proofs.search.Search.walk.Goals as goal
 

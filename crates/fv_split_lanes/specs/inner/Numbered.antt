@@ -8,7 +8,7 @@ use Rattle.fv_split_components.specs.Reach.{at}
 use Rattle.fv_analysis.specs.Stands.{node}
 use Rattle.fv_split_plan.specs.Separated.{lane_at, IsComputed}
 use Rattle.fv_split_lanes.specs.declared.lanes.Numbering.{Numbering}
-use Rattle.fv_split_lanes.specs.Homes.{bit_at}
+use Rattle.fv_split_lanes.specs.inner.Homes.{bit_at}
 
 -- one signal more, with a lane of its loop
 pub record AddsLane (old : Numbering) (signal owner : ℕ) (new : Numbering) : Type 0 where

@@ -1,7 +1,7 @@
 -- The numbers of loops: components that have a lane, counted from below.
 use Rattle.std.specs.Prelude.{◌≡◌, ◌↔◌, ℕ, zero, suc, ◌+◌, ◌<◌, ◌≤◌, List, [], ◌∷◌, length, Bool, true, if◌then◌else◌}
 use Rattle.fv_split_components.specs.Reach.{Links, at, Reaches}
-use Rattle.fv_split_lanes.specs.Homes.{bit_at}
+use Rattle.fv_split_lanes.specs.inner.Homes.{bit_at}
 
 -- how many of the bits before a place are true
 abbrev pub rank_of : List Bool → ℕ → ℕ

@@ -11,8 +11,8 @@ use Rattle.fv_analysis.specs.Stands.{node}
 use Rattle.fv_split_plan.specs.Separated.{IsComputed, IsSeparated}
 use Rattle.fv_split_lanes.specs.declared.reader.Reader.{Reader}
 use Rattle.fv_split_lanes.specs.declared.reader.Reader.TheVariants.{Many}
-use Rattle.fv_split_lanes.specs.Homes.{bit_at}
-use Rattle.fv_split_lanes.specs.Readers.{reader_at}
+use Rattle.fv_split_lanes.specs.inner.Homes.{bit_at}
+use Rattle.fv_split_lanes.specs.inner.Readers.{reader_at}
 
 -- just those with P are marked more
 pub record Marks (old new : List Bool) (P : ℕ → Type 0) : Type 0 where

@@ -1,6 +1,6 @@
 -- The fields of a graph that grows.
 use Rattle.fv_propagate.specs.declared.progress.Progress.TheInside.{Inside}
-use Rattle.fv_propagate.specs.Progress.{Progress}
+use Rattle.fv_propagate.specs.inner.Progress.{Progress}
 
 -- what the fields hold
 abbrev pub progress_of : Inside → Progress
