@@ -1,0 +1,139 @@
+"""The definitions of the crates, read by their text alone: which there are, what each names, and all that some of them need.
+
+A name that an operator or a tactic brings in can be missing. Types that code declares and words of std are counted, and not followed."""
+import collections
+import os
+import re
+
+ROOT = os.path.join(os.path.dirname(os.path.abspath(__file__)), "..", "crates")
+TOKEN = re.compile(r"[^\s(){}\[\],;λ→×⊎:]+")
+
+texts = {}
+for crate in sorted(os.listdir(ROOT)):
+    for kind in ("specs", "proofs"):
+        base = os.path.join(ROOT, crate, kind)
+        for folder, _, names in os.walk(base):
+            for name in names:
+                if name.endswith(".antt"):
+                    path = os.path.join(folder, name)
+                    module = f"{crate}.{kind}." + os.path.relpath(path, base)[:-5].replace("/", ".")
+                    texts[module] = open(path, encoding="utf-8").read()
+
+definitions, imports, comments, constructors, heads = {}, {}, {}, {}, {}
+
+
+def plain_lines(text):
+    """The lines, with those of an anonymous module moved to the left."""
+    inside = False
+    for line in text.split("\n"):
+        if re.match(r"^module _.*where", line):
+            inside = True
+            continue
+        if inside and line and not line.startswith((" ", "--")):
+            inside = False
+        yield line[2:] if inside and line.startswith("  ") else line
+
+
+def first_sentence(lines):
+    """The first sentence of a comment, of which these are the lines."""
+    text = " ".join(line.strip().lstrip("-").strip() for line in lines).strip()
+    text = re.sub(r"^(---- )?", "", text)
+    end = re.search(r"(?<!\b[ei])[.:](?= [A-Z`]|$)", text)
+    return text[: end.start()] if end else text
+
+
+def parse(module):
+    found, known, said, current, comment = collections.OrderedDict(), {}, {}, None, []
+    begun = False
+    for line in plain_lines(texts[module]):
+        if line.startswith("--"):
+            if not begun:
+                heads.setdefault(module, []).append(line)
+            comment = comment + [line] if not line.startswith("-- ----") else []
+        elif line.startswith(("use ", "pub use ")):
+            begun, comment = True, []
+            some = re.match(r"(?:pub )?use (?:Rattle\.)?([\w.]+)\.\{(.*)\}", line)
+            if some:
+                for word in some.group(2).split(","):
+                    old, _, new = word.strip().partition(" as ")
+                    known[(new or old).strip()] = (some.group(1), old.strip())
+        elif line.strip():
+            begun = True
+            if line.startswith(" "):
+                if current and not line.lstrip().startswith("--"):
+                    found[current] += line + "\n"
+            else:
+                name = re.match(r"(?:abbrev |opaque |total |unfoldable )*(?:pub )?(?:record |data |mod )?(\S+)", line).group(1)
+                current = name
+                found[current] = found.get(current, "") + line + "\n"
+                if comment:
+                    said.setdefault(current, first_sentence(comment))
+                comment = []
+        else:
+            comment = []
+            begun = begun or bool(heads.get(module))
+    definitions[module], imports[module], comments[module] = found, known, said
+    for name, body in found.items():
+        if re.match(r"(?:abbrev )?(?:pub )?data ", body):
+            for word in re.findall(r"^  (\S+)\s*:", body, re.M):
+                constructors[module, word] = name
+
+
+def place_of(module, name):
+    """Where a name is defined, through files that hand it on."""
+    for _ in range(8):
+        if module not in definitions:
+            return None
+        if name in definitions[module]:
+            return module, name
+        if (module, name) in constructors:
+            return module, constructors[module, name]
+        if name not in imports[module]:
+            return None
+        module, name = imports[module][name]
+    return None
+
+
+for module in texts:
+    parse(module)
+
+
+def ghost_imports(text):
+    """The definitions that a file of code imports, by the names that it gives them."""
+    known = {}
+    for path, names in re.findall(r"^\s*ghost use Rattle\.([\w.]+)\.\{([^}]*)\};", text, re.M):
+        for word in names.split(","):
+            old, _, new = word.strip().partition(" as ")
+            known[(new or old).strip()] = (path, old.strip())
+    return known
+
+
+def named(line, known):
+    """The definitions that a line of code names."""
+    return [place for word in TOKEN.findall(line) if word in known for place in [place_of(*known[word])] if place]
+
+
+def needed(begin):
+    """All definitions that these need, with their lines, the nearest first; and what they name beside definitions."""
+    queue, seen, outside = collections.deque(begin), collections.OrderedDict(), set()
+    while queue:
+        here = queue.popleft()
+        if here in seen:
+            continue
+        module, name = here
+        body = definitions[module][name]
+        seen[here] = body.count("\n")
+        words = TOKEN.findall(body)
+        words += [part for word in words for part in word.split(".") if part != word]
+        for word in dict.fromkeys(words):
+            if word == name:
+                continue
+            if word in definitions[module]:
+                queue.append((module, word))
+            elif word in imports[module]:
+                place = place_of(*imports[module][word])
+                if place:
+                    queue.append(place)
+                else:
+                    outside.add(imports[module][word])
+    return seen, outside
