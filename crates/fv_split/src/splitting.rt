@@ -35,7 +35,7 @@ pub fn split(
 {
     let named = graph.outputs();
     let stands = stands(alloc, graph)?;
-    let places = place(alloc, graph, &stands, rates)?;
+    let places = assign_lanes(alloc, graph, &stands, rates)?;
     let values = held_code(alloc, graph, rates)?;
     let bases = bases(alloc, graph, &stands, rates, &places.lanes, &values.numbers)?;
     let kinds = kinds(alloc, &bases, &places.lanes)?;

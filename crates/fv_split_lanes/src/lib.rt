@@ -8,4 +8,4 @@ mod rank;
 mod reader;
 mod rows;
 
-pub use lanes::{Lanes, place};
+pub use lanes::{Lanes, assign_lanes};
