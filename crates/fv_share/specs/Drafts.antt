@@ -1,5 +1,6 @@
 -- Graphs that are being built, in which equal signals stand once (this project's profile).
-use Rattle.std.specs.Prelude.{◌≡◌, ◌≢◌, ℕ, zero, suc, ◌+◌, ◌<◌, ◌≤◌, List, [], ◌∷◌, ◌++◌, length, All, Bool, true, false, slice_index_or, slice_set}
+use Rattle.std.specs.Prelude.{◌≡◌, ◌≢◌, ℕ, zero, suc, ◌+◌, ◌<◌, ◌≤◌, List, [], ◌∷◌, ◌++◌, length, All, Bool, true, false, slice_index_or, slice_set, map, Vec}
+use Rattle.std.specs.declared.alloc.Global.{Global}
 use Rattle.std.specs.List.{position_or_len}
 use Rattle.indexmap.specs.IndexSet.{insert_key}
 use Rattle.fv_base.specs.Lists.{IsPrefixOf}
@@ -12,6 +13,10 @@ pub record Draft : Type 0 where
   pub signals : List Signal
   pub groups : List (List ℕ)
   pub closed : List Bool
+
+-- the lists that rows hold
+abbrev pub lists_in : List (Vec ℕ Global) → List (List ℕ)
+lists_in rows = map (λ (row : Vec ℕ Global). row.items) rows
 
 -- the draft as a graph
 abbrev pub graph_of : Draft → (outputs : List ℕ) → Graph
@@ -122,17 +127,29 @@ pub record AreOpened (d new : Draft) (count : ℕ) : Type 0 where
   pub groups : (g : ℕ) → g < length d.groups → slice_index_or new.groups g [] ≡ slice_index_or d.groups g []
   pub closed : (g : ℕ) → g < length d.groups → slice_index_or new.closed g false ≡ slice_index_or d.closed g false
 
--- What closing a group does: it is shut and has just these members, and every other group stays.
-pub record ClosesGroup (d new : Draft) (group : ℕ) (members : List ℕ) : Type 0 where
+-- groups from this one on get their definitions, one after another, a list each
+abbrev pub with_all_members : Draft → (first : ℕ) → List (List ℕ) → Draft
+with_all_members d first [] = d
+with_all_members d first (members ∷ lists) = with_all_members (with_members d first members) (suc first) lists
+
+-- What that asks: each of the groups waits for its members, these are there, and no Back names one beyond them.
+pub record CanClose (d : Draft) (first : ℕ) (lists : List (List ℕ)) : Type 0 where
+  pub pending : (g : ℕ) → g < length lists → IsPending d (first + g)
+  pub members : (g : ℕ) → g < length lists → All (λ s. s < length d.signals) (slice_index_or lists g [])
+  pub backs : (g : ℕ) → g < length lists → BacksWithin d (first + g) (length (slice_index_or lists g []))
+
+-- What that does: each of the groups is shut and has just these members, and every other group stays.
+pub record AreShut (d new : Draft) (first : ℕ) (lists : List (List ℕ)) : Type 0 where
   pub long : length new.groups ≡ length d.groups
   pub signals : new.signals ≡ d.signals
-  pub shut : IsShut new group
-  pub its : slice_index_or new.groups group [] ≡ members
-  pub groups : (g : ℕ) → g ≢ group → slice_index_or new.groups g [] ≡ slice_index_or d.groups g []
-  pub closed : (g : ℕ) → g ≢ group → slice_index_or new.closed g false ≡ slice_index_or d.closed g false
+  pub shut : (g : ℕ) → g < length lists → IsShut new (first + g)
+  pub its : (g : ℕ) → g < length lists → slice_index_or new.groups (first + g) [] ≡ slice_index_or lists g []
+  pub groups : (g : ℕ) → ((k : ℕ) → k < length lists → g ≢ first + k) → slice_index_or new.groups g [] ≡ slice_index_or d.groups g []
+  pub closed : (g : ℕ) → ((k : ℕ) → k < length lists → g ≢ first + k) → slice_index_or new.closed g false ≡ slice_index_or d.closed g false
 
--- so it is with each draft
+-- so it is with each draft in which each group has its mark
 abbrev pub GroupsStay : Type 0
 GroupsStay =
-    (d : Draft) → IsDraft d → ((count : ℕ) → AreOpened d (with_groups d count) count)
-    × ((group : ℕ) (members : List ℕ) → IsPending d group → ClosesGroup d (with_members d group members) group members)
+    (d : Draft) → (IsDraft d → (count : ℕ) → AreOpened d (with_groups d count) count)
+    × (length d.closed ≡ length d.groups → (first : ℕ) (lists : List (List ℕ)) → ((g : ℕ) → g < length lists → IsPending d (first + g))
+    → AreShut d (with_all_members d first lists) first lists)

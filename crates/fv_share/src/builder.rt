@@ -1,9 +1,9 @@
 // The builder.
 
-ghost use Rattle.std.specs.Prelude.{◌≡◌, ◌↔◌, ℕ, ◌+◌, ◌<◌, [], ◌∷◌, ◌++◌, length, All, IfOk, OnOk, OnErr, slice_index_or, slice_set, true, false};
+ghost use Rattle.std.specs.Prelude.{◌≡◌, ◌↔◌, ℕ, ◌+◌, ◌<◌, [], ◌∷◌, ◌++◌, length, All, IfOk, OnOk, OnErr, slice_index_or, slice_set, true, false, vec_len, ◌^◌};
 ghost use Rattle.fv_signal.specs.declared.signal.Signal.{Signal as Node};
 ghost use Rattle.fv_signal.specs.Value.{HasNumber, IsGraph};
-ghost use Rattle.fv_share.specs.Drafts.{CanPut, OperandsThere, IsPending, IsShut, BacksWithin, AreClosed, put, with_group, with_groups, with_members, graph_of};
+ghost use Rattle.fv_share.specs.Drafts.{CanPut, OperandsThere, IsPending, IsShut, BacksWithin, AreClosed, put, with_group, with_groups, with_members, graph_of, lists_in, CanClose, with_all_members};
 
 use fv_signal::{Graph, Signal, SignalId};
 use indexmap::IndexSet;
@@ -127,9 +127,36 @@ impl Builder {
         ensures err { OnErr result (self.new ≡ self.old) }
     {
         let list = members.iter().copied().collect(self.alloc)?;
-        self.groups[group as usize] = list;
-        self.closed[group as usize] = true;
+        self.shut(group, list);
         Ok(())
+    }
+
+    /// Gives groups, from this one on, the definitions of their members, a list each.
+    pub fn close_groups(&mut self, first: u64, lists: Vec<Vec<SignalId>>)
+        requires { CanClose self.old first (lists_in lists.items) }
+        ensures all { self.new ≡ with_all_members self.old first (lists_in lists.items) }
+        ensures shut { (g : ℕ) → g < vec_len lists → IsShut self.new (first + g) }
+    {
+        // This reads what holds of all drafts, for the proof that each group is shut.
+        let _draft = &self.closed;
+        let mut group = first;
+        for list in lists {
+            self.shut(group, list);
+            group += 1;
+        }
+    }
+
+    // Gives a group the definitions of its members.
+    fn shut(&mut self, group: u64, members: Vec<SignalId>)
+        requires pending { IsPending self.old group }
+        requires members { All (λ s. s < length self.old.signals) members.items }
+        requires backs { BacksWithin self.old group (length members.items) }
+        ensures all { self.new ≡ with_members self.old group members.items }
+        ensures shut { IsShut self.new group }
+        ensures fits { group + 1 < 2 ^ 64 }
+    {
+        self.groups[group as usize] = members;
+        self.closed[group as usize] = true;
     }
 
     /// The graph of the signals and groups, with these outputs.

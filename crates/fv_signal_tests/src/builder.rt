@@ -73,3 +73,19 @@ fn what_was_put_is_read(rt: HostRuntime) -> Result<(), Fail> {
     assert_eq!(rt; builder.open_groups(1)?, 3);
     Ok(())
 }
+
+#[test]
+fn groups_are_closed_together(rt: HostRuntime) -> Result<(), Fail> {
+    let mut builder = Builder::new(rt.alloc());
+    let input = builder.node(Signal::Input(0))?;
+    let first = builder.open_groups(3)?;
+    let back = builder.node(Signal::Back { group: 2, i: 0 })?;
+    builder.close_group(first, &[])?;
+    let members = vec![in rt.alloc(); vec![in rt.alloc(); input, back]?, vec![in rt.alloc(); input]?]?;
+    builder.close_groups(first + 1, members);
+    let graph = builder.finish(&[back])?;
+    assert_eq!(rt; graph.groups(), 3);
+    assert_eq!(rt; graph.group(1), [input, back].as_slice());
+    assert_eq!(rt; graph.group(2), [input].as_slice());
+    Ok(())
+}

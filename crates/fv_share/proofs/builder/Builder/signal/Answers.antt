@@ -1,4 +1,4 @@
-use Rattle.std.proofs.Common.{rules, ◌≡◌, ◌<◌, ℕ, List, [], length, get_or, sym, ap, ◌∙◌, subst, slice_get}
+use Rattle.std.proofs.Common.{◌≡◌, ◌<◌, [], length, get_or, sym, ap, ◌∙◌, subst, slice_get}
 use Rattle.fv_signal.specs.Value.{OperandsBelow}
 use Rattle.fv_share.specs.Drafts.{Draft, graph_of}
 use Rattle.fv_share.specs.Inside.{draft_of}
