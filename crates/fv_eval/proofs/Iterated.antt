@@ -15,7 +15,7 @@ use Rattle.fv_rules.specs.declared.value.Value.TheVariants as value
 use Rattle.fv_rules.specs.declared.value.Scope.TheVariants as scope
 use Rattle.fv_rules.specs.Environments.{Environments, with_scope}
 use Rattle.fv_rules.specs.Values.{Flat, Env, Bound}
-use Rattle.fv_rules.specs.Numbers.{number_of}
+use Rattle.fv_diagram_number.specs.Numbers.{number_of}
 use Rattle.fv_rules.specs.Rules.{counted, gathered}
 use Rattle.fv_rules.specs.Shows.{Draws, IsNamed, ShowsEnv, ShowsTree}
 use Rattle.fv_rules.proofs.Grown.{env_grows}

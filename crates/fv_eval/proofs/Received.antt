@@ -19,7 +19,7 @@ use Rattle.fv_rules.specs.declared.refusal.EvalRefusal.{EvalRefusal}
 use Rattle.fv_rules.specs.declared.value.Value as code_value
 use Rattle.fv_rules.specs.declared.value.Value.TheVariants as value
 use Rattle.fv_rules.specs.Values.{Name, Value, Flat, Abstraction, Rules, Env}
-use Rattle.fv_rules.specs.Numbers.{number_of}
+use Rattle.fv_diagram_number.specs.Numbers.{number_of}
 use Rattle.fv_rules.specs.Matching.{number_or, settled}
 use Rattle.fv_rules.specs.Steps.{Eval, put}
 use Rattle.fv_rules.specs.Rules.{bind_all, counted, fed, flat, joined, operated, ports}

@@ -11,7 +11,7 @@ use Rattle.fv_rules.specs.declared.refusal.EvalRefusal.{EvalRefusal}
 use Rattle.fv_rules.specs.declared.value.Value.TheVariants as value
 use Rattle.fv_rules.specs.declared.value.Ruled.{Ruled}
 use Rattle.fv_rules.specs.Values.{Value, Flat, Abstraction, Rules, Env}
-use Rattle.fv_rules.specs.Numbers.{number_of}
+use Rattle.fv_diagram_number.specs.Numbers.{number_of}
 use Rattle.fv_rules.specs.Matching.{value_number}
 use Rattle.fv_rules.specs.Steps.{control, no_number}
 use Rattle.fv_rules.specs.Rules.{flat, read_number, slider_info, slider_kind}

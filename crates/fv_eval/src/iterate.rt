@@ -7,7 +7,7 @@ ghost use Rattle.fv_parse.specs.Trees.{size_of, text_of, tree_in};
 ghost use Rattle.fv_diagram.specs.Diagram.{Diagram};
 ghost use Rattle.fv_diagram.specs.Arena.{count_of};
 ghost use Rattle.fv_rules.specs.Values.{Env, Name};
-ghost use Rattle.fv_rules.specs.Numbers.{number_of};
+ghost use Rattle.fv_diagram_number.specs.Numbers.{number_of};
 ghost use Rattle.fv_rules.specs.Steps.{no_number};
 ghost use Rattle.fv_rules.specs.Rules.{counted};
 ghost use Rattle.fv_rules.specs.Shows.{Draws, ShowsEnv, ShowsTree};

@@ -15,7 +15,7 @@ use Rattle.fv_rules.specs.declared.memo.Known.{Known}
 use Rattle.fv_rules.specs.declared.memo.Known.TheVariants as known
 use Rattle.fv_rules.specs.declared.value.Value as code_value
 use Rattle.fv_rules.specs.declared.value.Value.TheVariants as value
-use Rattle.fv_rules.specs.Numbers.{number_of}
+use Rattle.fv_diagram_number.specs.Numbers.{number_of}
 use Rattle.fv_rules.specs.Memo.{AddsIntegers, IsInteger, IsKnown, Remembers}
 use Rattle.fv_rules.specs.Choosing.{IsSound}
 use Rattle.fv_rules.proofs.Matched.{adds_keeps, adds_longer}

@@ -2,7 +2,7 @@
 
 ghost use Rattle.std.specs.Prelude.{◌≡◌, ◌*◌, ◌<◌, ◌≤◌, All, IfOk, List};
 ghost use Rattle.fv_diagram.specs.Arena.{ChildrenBelow, IsArity, count_of, empty_arena, size_limit, tree_of, tree_with};
-ghost use Rattle.fv_rules.specs.Numbers.{number_of};
+ghost use Rattle.fv_diagram_number.specs.Numbers.{number_of};
 ghost use Rattle.fv_rules.specs.Values.{Value as Meant};
 ghost use Rattle.fv_rules.specs.Matching.{chosen, number_or};
 ghost use Rattle.fv_rules.specs.Shows.{World, IsInside, ShowsValues, rules_in};

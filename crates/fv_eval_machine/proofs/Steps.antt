@@ -13,7 +13,7 @@ use Rattle.fv_parse_grammar.specs.Tree.{items, start_of}
 use Rattle.fv_parse.specs.Trees.{text_of, label_of}
 use Rattle.fv_rules.specs.Values.{Name, Value, Flat, Abstraction, Rules, Env, Outermost, Bound, Scope, And, Definition, Plain, Parameters, Cases, Meaning}
 use Rattle.fv_rules.specs.Values.{IsValue, IsDefined, Unknown, lookup, in_order, count_taken}
-use Rattle.fv_rules.specs.Numbers.{number_of}
+use Rattle.fv_diagram_number.specs.Numbers.{number_of}
 use Rattle.fv_rules.specs.Matching.{Bindings, settled, value_number, bound_in, chosen}
 use Rattle.fv_rules.specs.Steps.{State, Outcome, Eval, after, ◌>>=◌, give, spent, put, control}
 use Rattle.fv_rules.specs.Rules.{switch_kind, slider_kind, flat, on_slots, bind_all, turned, operated, joined, defined_value, meant, name_value, arguments}

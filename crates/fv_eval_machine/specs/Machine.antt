@@ -17,7 +17,7 @@ use Rattle.fv_parse_grammar.specs.Tree.{items, start_of}
 use Rattle.fv_parse.specs.Trees.{text_of, label_of}
 use Rattle.fv_rules.specs.Values.{Name, Value, Flat, Abstraction, Rules, Env, Outermost, Bound, Scope, Nothing, And, Definition, Plain, Parameters, Cases}
 use Rattle.fv_rules.specs.Values.{Meaning, IsValue, IsDefined, Unknown, lookup, rule_of, in_order, count_taken}
-use Rattle.fv_rules.specs.Numbers.{number_of}
+use Rattle.fv_diagram_number.specs.Numbers.{number_of}
 use Rattle.fv_rules.specs.Matching.{Bindings, settled, value_number, bound_in, chosen}
 use Rattle.fv_rules.specs.Steps.{State, Outcome, Eval, ◌>>=◌, give, no_rule, no_diagram, spent, put, control}
 use Rattle.fv_rules.specs.Rules.{primitive_of, switch_kind, slider_kind, Evaluator, flat, on_slots, bind_all, turned, operated, joined, name_value, arguments}

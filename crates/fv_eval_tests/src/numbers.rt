@@ -1,9 +1,9 @@
 // Closed expressions, and the numbers that their diagrams have.
 
+use fv_diagram_number::number_of;
 use fv_eval::evaluate;
 use fv_lex::tokens;
 use fv_parse::parse;
-use fv_rules::number_of;
 use std::alloc::{AllocError, Global};
 use std::test::Fail;
 

@@ -21,7 +21,7 @@ use Rattle.fv_parse_grammar.specs.Tree.{items, start_of}
 use Rattle.fv_parse.specs.Trees.{text_of, label_of}
 use Rattle.fv_rules.specs.Values.{Name, Value, Flat, Abstraction, Rules, Env, Bound, Scope, And, Definition, Plain, Parameters, Cases, Meaning}
 use Rattle.fv_rules.specs.Values.{IsValue, IsDefined, Unknown, lookup, in_order, count_taken}
-use Rattle.fv_rules.specs.Numbers.{number_of}
+use Rattle.fv_diagram_number.specs.Numbers.{number_of}
 use Rattle.fv_rules.specs.Matching.{Bindings, settled, value_number, bound_in, chosen}
 use Rattle.fv_rules.specs.Steps.{State, Outcome, Eval, after, ◌>>=◌, give, refuse, spent, visit, fresh_slots, misfit, put_after, put, is_alike}
 use Rattle.fv_rules.specs.Steps.{labelled, entered, control}

@@ -2,7 +2,6 @@ pub mod Fuel
 pub mod SoundValues
 pub mod SoundCompositions
 pub mod Sound
-pub mod FirstValues
 pub mod Grown
 pub mod Named
 pub mod Lookups
@@ -11,7 +10,3 @@ pub mod Scoped
 pub mod LiteralNumbers
 pub mod RulesChosen
 pub mod RuleNodes
-pub mod Actions
-pub mod TimelessTurns
-pub mod InPlace
-pub mod Waiting

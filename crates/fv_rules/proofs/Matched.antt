@@ -30,7 +30,7 @@ use Rattle.fv_rules.specs.declared.matching.Pair.{Pair}
 use Rattle.fv_rules.specs.declared.memo.Known.{Known}
 use Rattle.fv_rules.specs.declared.memo.Known.TheVariants as known
 use Rattle.fv_rules.specs.Values.{Value, Flat, Abstraction, Rules}
-use Rattle.fv_rules.specs.Numbers.{number_of}
+use Rattle.fv_diagram_number.specs.Numbers.{number_of}
 use Rattle.fv_rules.specs.Matching.{Bindings, and_then, number_or, is_number, parts_without, matched}
 use Rattle.std.specs.Bool.{MatchBool}
 use Rattle.std.proofs.lemmas.Option.{none-some, same_Some}

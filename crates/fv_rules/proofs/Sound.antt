@@ -27,7 +27,7 @@ use Rattle.fv_parse_grammar.specs.Tree.{items, start_of}
 use Rattle.fv_parse.specs.Trees.{text_of, label_of}
 use Rattle.fv_rules.specs.Values.{Name, Rule, Value, Flat, Abstraction, Rules, Env, Outermost, Bound, Scope, Taken, Nothing, And, Definition, Plain}
 use Rattle.fv_rules.specs.Values.{Parameters, Cases, Meaning, IsValue, IsDefined, Unknown, lookup, or_else as meant_or, in_order, count_taken}
-use Rattle.fv_rules.specs.Numbers.{number_of}
+use Rattle.fv_diagram_number.specs.Numbers.{number_of}
 use Rattle.fv_rules.specs.Matching.{Bindings, number_or, settled, and_then, parts_of, parts_without, value_parts, value_number}
 use Rattle.fv_rules.specs.Matching.{matched, all_matched, bound_in, or_next, chosen}
 use Rattle.fv_rules.specs.Steps.{State, Outcome, Eval, after, ◌>>=◌, no_number, no_rule, no_diagram, spent, visit, fresh_slots}

@@ -17,7 +17,7 @@ use Rattle.fv_diagram.specs.Diagram.{Diagram, Primitive, Constant, Slot, Bind, P
 use Rattle.fv_rules.specs.declared.refusal.EvalRefusal.TheVariants.{UnknownName, NotANumber, IterationCount, NoRule, NotADiagram, TooManyArguments}
 use Rattle.fv_rules.specs.declared.refusal.EvalRefusal.TheVariants.{EvalBudget, ControlClash, ControlBounds}
 use Rattle.fv_rules.specs.Values.{Outermost, Scope}
-use Rattle.fv_rules.specs.Numbers.{number_of}
+use Rattle.fv_diagram_number.specs.Numbers.{number_of}
 use Rattle.fv_diagram.specs.declared.control.ControlInfo.{ControlInfo}
 use Rattle.fv_rules.specs.declared.refusal.EvalRefusal.{EvalRefusal}
 use Rattle.fv_rules.specs.Steps.{State, ◌>>=◌}

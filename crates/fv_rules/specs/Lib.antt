@@ -1,5 +1,4 @@
 pub mod Values
-pub mod Numbers
 pub mod Matching
 pub mod Steps
 pub mod Rules

@@ -31,7 +31,7 @@ use Rattle.fv_parse_grammar.specs.Tree.{items, start_of}
 use Rattle.fv_parse.specs.Trees.{text_of, label_of}
 use Rattle.fv_rules.specs.Values.{Name, Rule, Value, Flat, Abstraction, Rules, Env, Outermost, Bound, Scope, Nothing, And, Definition, Plain}
 use Rattle.fv_rules.specs.Values.{Parameters, Cases, Meaning, IsValue, IsDefined, Unknown, lookup, rule_of, in_order, count_taken}
-use Rattle.fv_rules.specs.Numbers.{number_of}
+use Rattle.fv_diagram_number.specs.Numbers.{number_of}
 use Rattle.fv_rules.specs.Matching.{Bindings, settled, value_number, bound_in, chosen}
 use Rattle.fv_rules.specs.Steps.{State, Outcome, Eval, ◌>>=◌, give, refuse, no_number, no_rule, no_diagram, visit, fresh_slots, put, control}
 

@@ -1,5 +1,5 @@
 //! The rules of evaluation: what a program's text means as a block diagram, and the laws of the rules; values and
-//! environments as numbers of lists, look-up of names, numbers of diagrams, and patterns.
+//! environments as numbers of lists, look-up of names, the memo of diagrams' numbers, and patterns.
 #![tactic(auto)]
 
 mod by_name;
@@ -9,11 +9,9 @@ mod literals;
 mod lookup;
 mod matching;
 mod memo;
-mod number;
 mod putting;
 mod refusal;
 mod scopes;
-mod timeless;
 mod value;
 
 pub use laws::{evaluates_soundly, evaluation_follows, literals_stay};
@@ -21,7 +19,6 @@ pub use literals::{literal, negative_literal};
 pub use lookup::Definitions;
 pub use matching::{Bindings, matches};
 pub use memo::{Known, Numbers};
-pub use number::number_of;
 pub use putting::put;
 pub use refusal::{EvalRefusal, too_many_to_count};
 pub use scopes::Scopes;

@@ -4,12 +4,12 @@ ghost use Rattle.std.specs.Prelude.{◌≡◌, ◌<◌, ◌≤◌, ◌++◌, [],
 ghost use Rattle.fv_diagram.specs.Diagram.{Constant};
 ghost use Rattle.fv_diagram.specs.Composed.{IsComposed};
 ghost use Rattle.fv_diagram.specs.Arena.{Arena, count_of, tree_of};
-ghost use Rattle.fv_rules.specs.Numbers.{number_of};
+ghost use Rattle.fv_diagram_number.specs.Numbers.{number_of};
 ghost use Rattle.fv_rules.specs.Matching.{number_or};
 ghost use Rattle.fv_rules.specs.Memo.{Remembers, AddsIntegers, IsKnown};
 
-use crate::number::number_of;
 use fv_diagram::{Arity, DiagramId, Diagrams, Node, PutRefusal};
+use fv_diagram_number::number_of;
 use std::alloc::{AllocError, Global};
 use std::marker::Model;
 

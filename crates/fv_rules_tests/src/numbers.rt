@@ -5,8 +5,9 @@ ghost use Rattle.fv_rules_tests.specs.Built.{AreComposed};
 use crate::built::{Item, built};
 use fv_arity::ArityKind;
 use fv_diagram::{Diagrams, Node, Prim};
+use fv_diagram_number::number_of;
 use fv_num::Op;
-use fv_rules::{EvalRefusal, Numbers, literal, negative_literal, number_of, put};
+use fv_rules::{EvalRefusal, Numbers, literal, negative_literal, put};
 use std::alloc::Global;
 use std::test::Fail;
 

@@ -5,7 +5,7 @@ use Rattle.fv_rules.specs.Choosing.{are_parts, ArePartsOf}
 use Rattle.fv_num.specs.Words.{wrap}
 use Rattle.fv_diagram.specs.Arena.{tree_of as diagram_of}
 use Rattle.fv_rules.specs.Values.{Flat}
-use Rattle.fv_rules.specs.Numbers.{number_of}
+use Rattle.fv_diagram_number.specs.Numbers.{number_of}
 use Rattle.fv_rules.specs.Matching.{matched, is_number}
 use Rattle.fv_parse_tree.specs.Arena.{trees}
 use Rattle.fv_parse.specs.Trees.{start_in, PartsBelow}

@@ -1,7 +1,7 @@
 use Rattle.std.proofs.Common.{subst}
 use Rattle.std.specs.Prelude.{IfOk}
 use Rattle.fv_rules.specs.Matching.{number_or}
-use Rattle.fv_rules.specs.Numbers.{number_of}
+use Rattle.fv_diagram_number.specs.Numbers.{number_of}
 use Rattle.fv_diagram.specs.Arena.{Arena, tree_of}
 use Rattle.fv_eval_drawing.specs.Makes.{Draws, Extends}
 use Rattle.fv_eval_drawing.proofs.Remembered.{adds_extends, adds_composed, settled_draws}

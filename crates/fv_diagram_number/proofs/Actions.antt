@@ -6,7 +6,7 @@ use Rattle.std.proofs.lemmas.List.{get_or_append_left, get_or-append_right, get_
 use Rattle.fv_base.proofs.Lists.{table_same, length_table, table_items}
 use Rattle.fv_num.specs.Words.{argument}
 use Rattle.fv_num.specs.Frames.{Frame, table}
-use Rattle.fv_rules.specs.inner.Timeless.{Action, Does}
+use Rattle.fv_diagram_number.specs.inner.Timeless.{Action, Does}
 
 -- ---- rows of numbers
 table_split : {A : Type 0} (n k : ℕ) (f : ℕ → A) → table (n + k) f ≡ table n f ++ table k (λ i. f (n + i))

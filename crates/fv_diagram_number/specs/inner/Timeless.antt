@@ -7,9 +7,9 @@ use Rattle.fv_diagram.specs.Diagram.{Diagram, Primitive, Constant, Par, Seq, Spl
 use Rattle.fv_diagram.specs.Composed.{IsComposed}
 use Rattle.fv_diagram.specs.Streams.{primitive_at, dealt, merged}
 use Rattle.fv_diagram.specs.Arena.{Arena, count_of, tree_of}
-use Rattle.fv_rules.specs.declared.timeless.Task.{Task}
-use Rattle.fv_rules.specs.declared.timeless.Task.TheVariants as task
-use Rattle.fv_rules.specs.Numbers.{is_timeless}
+use Rattle.fv_diagram_number.specs.declared.timeless.Task.{Task}
+use Rattle.fv_diagram_number.specs.declared.timeless.Task.TheVariants as task
+use Rattle.fv_diagram_number.specs.Numbers.{is_timeless}
 
 -- what a timeless diagram gives at a time, from what it takes at that time (0 for the others, which nothing asks)
 abbrev pub given : Diagram → Frame → Frame

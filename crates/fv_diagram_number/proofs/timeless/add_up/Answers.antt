@@ -1,8 +1,8 @@
 use Rattle.std.proofs.Common.{◌≡◌, ◌+◌, ◌%◌, ◌∙◌, [], ◌∷◌, ap₂, arith, rules, refl, subst, SFits, w32, to_z-of_z}
 use Rattle.fv_num.specs.declared.op.Op.TheVariants.{Add}
 use Rattle.fv_num.specs.Words.{argument, apply_of}
-use Rattle.fv_rules.proofs.InPlace.{AddedTo, added_none, added_more, added_all}
-use Rattle.fv_rules.proofs.timeless.add_up.Goals as goal
+use Rattle.fv_diagram_number.proofs.InPlace.{AddedTo, added_none, added_more, added_all}
+use Rattle.fv_diagram_number.proofs.timeless.add_up.Goals as goal
 
 pub loop-i-init : goal.loop-i-init
 loop-i-init c = added_none c.args.at c.args.count c.args.many c.args.numbers.now c.requires.fewer

@@ -9,8 +9,8 @@ use Rattle.fv_diagram.specs.declared.node.Primitive.{Primitive as Prim}
 use Rattle.fv_diagram.specs.declared.node.Primitive.TheVariants.{Wire, Cut, Mem, Prefix, Delay, Int, Attach, Point}
 use Rattle.fv_diagram.specs.Diagram.{Diagram, Primitive, Constant, Control, Slot, Bind, Par, Seq, Split, Merge, Rec, inputs, outputs, primitive_outputs}
 use Rattle.fv_diagram.specs.Streams.{Stream, run, last, beside, dealt, merged, primitive_at}
-use Rattle.fv_rules.specs.Numbers.{is_timeless, silent, number_of}
-use Rattle.fv_rules.specs.inner.Timeless.{given}
+use Rattle.fv_diagram_number.specs.Numbers.{is_timeless, silent, number_of}
+use Rattle.fv_diagram_number.specs.inner.Timeless.{given}
 
 abbrev IsOn : Bool → Type 0
 IsOn true = ⊥

@@ -1,8 +1,8 @@
 use Rattle.std.proofs.Common.{◌+◌, ◌∷◌, ap, ap₂, ◌∙◌}
-use Rattle.fv_rules.specs.declared.timeless.Task.TheVariants as task
-use Rattle.fv_rules.proofs.TimelessTurns.{over_two, has_room, seq_turn, par_turn, split_turn, merge_turn, so_called}
-use Rattle.fv_rules.proofs.Waiting.{three_tasks}
-use Rattle.fv_rules.proofs.timeless.visit.Goals as goal
+use Rattle.fv_diagram_number.specs.declared.timeless.Task.TheVariants as task
+use Rattle.fv_diagram_number.proofs.TimelessTurns.{over_two, has_room, seq_turn, par_turn, split_turn, merge_turn, so_called}
+use Rattle.fv_diagram_number.proofs.Waiting.{three_tasks}
+use Rattle.fv_diagram_number.proofs.timeless.visit.Goals as goal
 
 pub returns-in_ok-put-in-Par-2 : goal.returns-in_ok-put-in-Par-2
 returns-in_ok-put-in-Par-2 c =

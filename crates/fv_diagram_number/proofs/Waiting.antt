@@ -4,10 +4,10 @@ use Rattle.std.proofs.lemmas.List.{reverse-append}
 use Rattle.fv_num.specs.Words.{argument}
 use Rattle.fv_diagram.specs.Diagram.{inputs, outputs}
 use Rattle.fv_diagram.specs.Arena.{Arena, tree_of}
-use Rattle.fv_rules.specs.declared.timeless.Task.{Task}
-use Rattle.fv_rules.specs.Numbers.{is_timeless, number_of}
-use Rattle.fv_rules.specs.inner.Timeless.{IsReady, Leads, are_timeless, given}
-use Rattle.fv_rules.proofs.FirstValues.{has_number}
+use Rattle.fv_diagram_number.specs.declared.timeless.Task.{Task}
+use Rattle.fv_diagram_number.specs.Numbers.{is_timeless, number_of}
+use Rattle.fv_diagram_number.specs.inner.Timeless.{IsReady, Leads, are_timeless, given}
+use Rattle.fv_diagram_number.proofs.FirstValues.{has_number}
 
 -- The tasks can be done, and lead to the value of the diagram, where it is timeless.
 pub record Waits (a : Arena) (ts : List Task) (ns : List ℤ) (root : ℕ) : Type 0 where

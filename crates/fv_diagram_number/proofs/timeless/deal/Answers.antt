@@ -1,7 +1,7 @@
 use Rattle.std.proofs.Common.{◌≡◌, ◌+◌, ◌%◌, arith, rules, refl, subst, SFits, w32, to_z-of_z}
 use Rattle.fv_num.specs.Words.{argument}
-use Rattle.fv_rules.proofs.InPlace.{DealtTo, dealt_none, dealt_more, dealt_all}
-use Rattle.fv_rules.proofs.timeless.deal.Goals as goal
+use Rattle.fv_diagram_number.proofs.InPlace.{DealtTo, dealt_none, dealt_more, dealt_all}
+use Rattle.fv_diagram_number.proofs.timeless.deal.Goals as goal
 
 pub loop-i-init : goal.loop-i-init
 loop-i-init c = dealt_none c.args.at c.args.count c.args.numbers.now

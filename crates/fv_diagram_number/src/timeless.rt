@@ -7,9 +7,9 @@ ghost use Rattle.fv_num.specs.Frames.{table};
 ghost use Rattle.fv_diagram.specs.Diagram.{Primitive, inputs, outputs, primitive_inputs, primitive_outputs};
 ghost use Rattle.fv_diagram.specs.Composed.{IsComposed};
 ghost use Rattle.fv_diagram.specs.Arena.{count_of, tree_of};
-ghost use Rattle.fv_rules.specs.Numbers.{is_pointwise, number_of};
-ghost use Rattle.fv_rules.specs.declared.timeless.Task.TheVariants.{Visit};
-ghost use Rattle.fv_rules.specs.inner.Timeless.{whole, dealing, summing, Does, IsReady, Turns};
+ghost use Rattle.fv_diagram_number.specs.Numbers.{is_pointwise, number_of};
+ghost use Rattle.fv_diagram_number.specs.declared.timeless.Task.TheVariants.{Visit};
+ghost use Rattle.fv_diagram_number.specs.inner.Timeless.{whole, dealing, summing, Does, IsReady, Turns};
 
 use fv_diagram::{DiagramId, Diagrams, Node, Prim};
 use fv_num::{Op, apply};

@@ -1,7 +1,7 @@
 use Rattle.std.proofs.Common.{◌≡◌, ◌∙◌, [], ap, rules, reverse, arith, SFits, w32, to_z-of_z, Some}
 use Rattle.std.proofs.lemmas.Grind.{common_steps}
-use Rattle.fv_rules.proofs.Waiting.{ended, front}
-use Rattle.fv_rules.proofs.timeless.value_of.Goals as goal
+use Rattle.fv_diagram_number.proofs.Waiting.{ended, front}
+use Rattle.fv_diagram_number.proofs.timeless.value_of.Goals as goal
 
 pub returns : goal.returns
 returns c =

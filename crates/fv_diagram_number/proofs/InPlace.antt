@@ -11,7 +11,7 @@ use Rattle.fv_num.specs.Words.{argument, apply_of}
 use Rattle.fv_num.specs.Frames.{Frame, table}
 use Rattle.fv_diagram.specs.Streams.{wrapped_sum, added, every}
 use Rattle.fv_diagram.proofs.Sums.{every_front}
-use Rattle.fv_rules.specs.inner.Timeless.{Does, dealing, summing}
+use Rattle.fv_diagram_number.specs.inner.Timeless.{Does, dealing, summing}
 
 -- so many numbers came, and each place has what it had
 pub record Extends (count : ℕ) (old new : List ℤ) : Type 0 where

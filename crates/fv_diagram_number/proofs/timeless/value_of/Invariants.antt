@@ -1,7 +1,7 @@
 use Rattle.std.proofs.Common.{reverse}
-use Rattle.fv_rules.specs.inner.Timeless.{weight}
-use Rattle.fv_rules.proofs.Waiting.{Waits}
-use Rattle.fv_rules.proofs.timeless.value_of.Given as goal
+use Rattle.fv_diagram_number.specs.inner.Timeless.{weight}
+use Rattle.fv_diagram_number.proofs.Waiting.{Waits}
+use Rattle.fv_diagram_number.proofs.timeless.value_of.Given as goal
 
 abbrev pub invariant-loop-task : goal.invariant-loop-task
 invariant-loop-task l = Waits l.diagrams (reverse l.work.tasks.items) l.work.numbers.items l.fn.root

@@ -6,15 +6,15 @@ use Rattle.fv_num.specs.Words.{argument}
 use Rattle.fv_diagram.specs.Diagram.{Diagram, Par, Seq, Split, Merge, inputs, outputs, size}
 use Rattle.fv_diagram.specs.Composed.{IsComposed}
 use Rattle.fv_diagram.specs.Arena.{Arena, count_of, tree_of}
-use Rattle.fv_rules.specs.declared.timeless.Task.{Task}
-use Rattle.fv_rules.specs.declared.timeless.Task.TheVariants as task
-use Rattle.fv_rules.specs.Numbers.{is_timeless}
+use Rattle.fv_diagram_number.specs.declared.timeless.Task.{Task}
+use Rattle.fv_diagram_number.specs.declared.timeless.Task.TheVariants as task
+use Rattle.fv_diagram_number.specs.Numbers.{is_timeless}
 use Rattle.fv_num.specs.Frames.{Frame}
 use Rattle.fv_diagram.specs.Streams.{dealt, merged}
-use Rattle.fv_rules.specs.inner.Timeless.{Action, given, whole, action, Does, Leads, Fits, AllFit, IsReady, are_timeless, weight, Advances}
+use Rattle.fv_diagram_number.specs.inner.Timeless.{Action, given, whole, action, Does, Leads, Fits, AllFit, IsReady, are_timeless, weight, Advances}
 use Rattle.fv_diagram.proofs.Turns.{some_size, not_below}
-use Rattle.fv_rules.proofs.Actions.{narrowed, after, follow, beside}
-use Rattle.fv_rules.proofs.FirstValues.{width}
+use Rattle.fv_diagram_number.proofs.Actions.{narrowed, after, follow, beside}
+use Rattle.fv_diagram_number.proofs.FirstValues.{width}
 
 -- ---- more places
 fits_more : (a : Arena) (t : Task) (l k : ℕ) → l ≤ k → Fits a l t → Fits a k t

@@ -1,0 +1,5 @@
+mod Actions
+mod FirstValues
+mod InPlace
+mod TimelessTurns
+mod Waiting
