@@ -7,7 +7,7 @@ use Rattle.fv_deque.specs.declared.handles.Victim.{Victim}
 use Rattle.fv_ready.specs.declared.seat.WorkerSeat.{WorkerSeat}
 use Rattle.fv_steal.specs.declared.part.Part.{Part}
 use Rattle.fv_steal.specs.declared.worker.Worker.{Worker}
-use Rattle.fv_steal.specs.Assembled.{IsPart, AreParts, IsFrom, AreFrom}
+use Rattle.fv_steal.specs.inner.Assembled.{IsPart, AreParts, IsFrom, AreFrom}
 
 pub each_push : {X : Type 0} (P : ℕ → X → Type 0) (xs : List X) (x : X) → ((j : ℕ) (d : X) → j < length xs → P j (get_or xs j d)) → P (length xs) x
     → (j : ℕ) (d : X) → j < length (xs ++ x ∷ []) → P j (get_or (xs ++ x ∷ []) j d)

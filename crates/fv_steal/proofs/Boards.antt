@@ -22,7 +22,7 @@ use Rattle.fv_ready.specs.Boards.{about_of, graph_of, tasks_of, IsSeatOf, AreTak
 use Rattle.fv_ready.proofs.Seated.{busy_of}
 use Rattle.fv_deque.specs.declared.handles.Victim.{Victim}
 use Rattle.fv_deque.specs.Deques.{taken_by}
-use Rattle.fv_steal.specs.Moves.{AreFull, AreEmpty, PutAsZeroed}
+use Rattle.fv_steal.specs.inner.Steps.{AreFull, AreEmpty, PutAsZeroed}
 use Rattle.fv_steal.proofs.Lists.{times_at, times_drop, times_take}
 use Rattle.fv_steal.proofs.Edges.{reader_needs, not_inward}
 use Rattle.fv_steal.proofs.Slots.{in_front, behind}

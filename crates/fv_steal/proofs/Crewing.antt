@@ -1,11 +1,11 @@
 -- Workers with the parts of a crew are a crew.
-use Rattle.std.proofs.Common.{◌≡◌, ℕ, zero, suc, ◌+◌, ◌<◌, List, [], ◌∷◌, map, length, get_or, replicate, refl, sym, ap, ◌∙◌, subst, arith, All}
+use Rattle.std.proofs.Common.{◌≡◌, ℕ, zero, suc, ◌+◌, ◌<◌, ◌≤◌, List, [], ◌∷◌, map, length, get_or, replicate, refl, sym, ap, ◌∙◌, subst, arith, All}
 use Rattle.std.proofs.lemmas.List.{length-map, length-replicate, get_or-replicate}
 use Rattle.std.specs.Global.{Vec}
 use Rattle.atomic_table.specs.Seated.{TableId}
 use Rattle.fv_outside.specs.Tasks.{Tasks, total, times, task_count}
 use Rattle.fv_outside.specs.Journal.{stamped}
-use Rattle.fv_graph.specs.Graph.{net_of}
+use Rattle.fv_graph.specs.Graph.{net_of, inward, outward}
 use Rattle.fv_graph.proofs.Counts.{get_map}
 use Rattle.fv_graph_core.specs.Core.{opening, deque_of, dealt, ready}
 use Rattle.fv_ready_rule.specs.declared.Deed.{Deed}
@@ -18,10 +18,21 @@ use Rattle.fv_deque.specs.declared.handles.TaskDeque.{TaskDeque}
 use Rattle.fv_deque.specs.declared.handles.Victim.{Victim}
 use Rattle.fv_deque.specs.Deques.{account_of, lies_at, robs, taken_by}
 use Rattle.fv_steal.specs.declared.worker.Worker.{Worker}
-use Rattle.fv_steal.specs.Crews.{did, number_in, IsLineOf, IsWorker, IsEven, IsCrew}
-use Rattle.fv_steal.specs.Made.{puts_of, rest_of, rests_of, kept_of, HaveLent}
-use Rattle.fv_steal.specs.Parts.{IsMade}
+use Rattle.fv_steal.specs.Crews.{did, number_of, seat_of, lines_of, lines_held, parcels_of, parcels_held, number_in, IsLineOf, IsWorker, IsEven, IsCrew}
+use Rattle.fv_steal.specs.inner.Made.{puts_of, rest_of, rests_of, kept_of, HaveLent}
 use Rattle.fv_steal.proofs.Deals.{kept_places, Kept}
+
+-- worker i has the parts at place i, and room for all that can come
+pub record IsMade {C : Type 0} (g : Tasks) (seats : List (WorkerSeat C)) (deques : List TaskDeque) (victims : List (Vec Victim)) (i : ℕ)
+    (w : Worker C) : Type 0 where
+  pub number : number_of w ≡ i
+  pub seat : (d : WorkerSeat C) → seat_of w ≡ get_or seats i d
+  pub deque : (d : TaskDeque) → w.deque ≡ get_or deques i d
+  pub holds : (d : Vec Victim) → w.victims ≡ get_or victims i d
+  pub no_lines : lines_of w ≡ []
+  pub lines_room : task_count g ≤ lines_held w
+  pub no_parcels : parcels_of w ≡ []
+  pub parcels_room : (t : ℕ) → t < task_count g → (length (inward g t) ≤ parcels_held w) × (length (outward g t) ≤ parcels_held w)
 
 -- two lists that agree place by place
 pub map_two : {X Y Z : Type 0} (f : X → Z) (h : Y → Z) (xs : List X) (ys : List Y) → length xs ≡ length ys

@@ -10,7 +10,7 @@ use Rattle.fv_graph.proofs.Counts.{get_set, get_map, bit_apart, total_append}
 use Rattle.fv_deque.specs.declared.handles.TaskDeque.{TaskDeque}
 use Rattle.fv_deque.specs.declared.handles.Victim.{Victim}
 use Rattle.fv_deque.specs.Deques.{account_of, lies_at, robs, taken_by}
-use Rattle.fv_steal.specs.Made.{puts_of, rest_of, rests_of, kept_of, HasLent, HaveLent}
+use Rattle.fv_steal.specs.inner.Made.{puts_of, rest_of, rests_of, kept_of, HasLent, HaveLent}
 
 -- a room that all deques have
 pub rooms : (ds : List TaskDeque) (n room : ℕ) → rests_of ds ≡ replicate n (room, 0, []) → (t : ℕ) → t < room → All (λ d. t < d.room) ds

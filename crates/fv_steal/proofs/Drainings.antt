@@ -13,13 +13,14 @@ use Rattle.fv_ready.specs.Boards.{about_of, name_of}
 use Rattle.fv_ready.specs.Counted.{NothingLeft}
 use Rattle.fv_deque.specs.Deques.{account_of, lies_at, robs, taken_by}
 use Rattle.fv_steal.specs.declared.worker.Worker.{Worker}
-use Rattle.fv_steal.specs.Crews.{did, took, seat_of, IsWorkerOf, IsEven, IsSame, IsCrew}
-use Rattle.fv_steal.specs.Gathers.{HoldAll, HaveGiven}
-use Rattle.fv_steal.specs.Drains.{HaveNone, AreDrained}
+use Rattle.fv_steal.specs.Crews.{did, took, seat_of, IsWorkerOf, IsSame, IsCrew}
+use Rattle.fv_steal.specs.inner.Gathers.{HoldAll, HaveGiven}
+use Rattle.fv_steal.specs.inner.Drains.{HaveNone, AreDrained}
+use Rattle.fv_steal.specs.inner.Turns.{HasTurned}
 use Rattle.fv_steal.proofs.GivenBack.{map_each, none_of_map, below}
 use Rattle.fv_steal.proofs.Giving.{same_or}
 use Rattle.fv_steal.proofs.Sums.{total_each, total_plus, dealt_in_all}
-use Rattle.fv_steal.proofs.TurnSteps.{worker_found}
+use Rattle.fv_steal.proofs.TurnSteps.{worker_found, same_then}
 
 -- totals of two lists that agree place by place
 pub total_pair : {X : Type 0} (f : X → ℕ) (xs ys : List X) → length ys ≡ length xs → ((i : ℕ) (d : X) → i < length xs → f (get_or ys i d) ≡ f (get_or xs i d))
@@ -39,9 +40,6 @@ all_map P m (x ∷ xs) h zero d l = h 0 x (omega arith)
 all_map P m (x ∷ xs) h (suc k) d l = all_map P m xs (λ i e j. h (suc i) e (omega arith)) k d (omega arith)
 
 module _ {C Key : Type 0} (edge_of : C → ℕ) (key_of : C → Key) (b : Board C Key) where
-  pub same_then : (x y z : Worker C) → IsSame x y → IsSame y z → IsSame x z
-  same_then x y z h k = record { number = k.number ∙ h.number; place = k.place ∙ h.place; lent = k.lent ∙ h.lent; holds = k.holds ∙ h.holds }
-
   module _ (g : Tasks) (old : List (Worker C)) where
     pub none_drained : All (λ w. IsWorkerOf edge_of key_of b w) old → AreDrained edge_of key_of b g 0 old old
     none_drained h = record {
@@ -53,8 +51,7 @@ module _ {C Key : Type 0} (edge_of : C → ℕ) (key_of : C → Key) (b : Board 
     }
 
     module _ (k : ℕ) (now : List (Worker C)) (h : AreDrained edge_of key_of b g k old now) (there : k < length old) (r u : Worker C)
-        (worker : IsWorkerOf edge_of key_of b u) (same : IsSame (get_or now k r) u)
-        (step : (x : ℕ) → x < task_count g → done_by (claims x) (did u) + took (get_or now k r) x ≡ done_by (claims x) (did (get_or now k r)) + took u x)
+        (turned : HasTurned edge_of key_of b g (get_or now k r) u)
         (emptied : (x : ℕ) → times x (account_of u.deque).put ≡ times x (account_of u.deque).taken) where
       low : k < length now
       low = let c = h.count in omega arith
@@ -62,13 +59,13 @@ module _ {C Key : Type 0} (edge_of : C → ℕ) (key_of : C → Key) (b : Board 
       pub one_drained : AreDrained edge_of key_of b g (k + 1) old (set now k u)
       one_drained = record {
         count = length-set now k u ∙ h.count;
-        workers = λ i d l. get_set (λ w. IsWorkerOf edge_of key_of b w) now k i u d low (λ _. worker) (λ _. h.workers i d (let s = length-set now k u in
+        workers = λ i d l. get_set (λ w. IsWorkerOf edge_of key_of b w) now k i u d low (λ _. turned.worker) (λ _. h.workers i d (let s = length-set now k u in
             omega arith));
         same = λ i d l. get_set (λ w. IsSame (get_or old i d) w) now k i u d low
             (λ e. same_then (get_or old i d) (get_or now k r) u (subst (λ w. IsSame (get_or old i d) w) (ap (λ j. get_or now j d) e
-            ∙ same_or now k d r low) (h.same i d l)) same)
+            ∙ same_or now k d r low) (h.same i d l)) turned.same)
             (λ _. h.same i d l);
-        step = λ x l. let s = step x l in let q = h.step x l in let a = total_set (λ w. done_by (claims x) (did w)) now k u r low in
+        step = λ x l. let s = turned.even x l in let q = h.step x l in let a = total_set (λ w. done_by (claims x) (did w)) now k u r low in
             let t = total_set (λ w. took w x) now k u r low in omega arith;
         emptied = λ i d l s x. get_set (λ w. times x (account_of w.deque).put ≡ times x (account_of w.deque).taken) now k i u d low
             (λ _. emptied x) (λ ne. h.emptied i d l (below i k s ne) x);
@@ -76,27 +73,26 @@ module _ {C Key : Type 0} (edge_of : C → ℕ) (key_of : C → Key) (b : Board 
 
   -- all workers, before their holds go back
   module _ (g : Tasks) (ws ws1 : List (Worker C)) (crew : IsCrew edge_of key_of (name_of b) (about_of b) ws) (long1 : length ws1 ≡ length ws)
-      (same1 : (i : ℕ) (d : Worker C) → i < length ws → IsSame (get_or ws i d) (get_or ws1 i d)) where
+      (turned1 : (i : ℕ) (d : Worker C) → i < length ws → HasTurned edge_of key_of b g (get_or ws i d) (get_or ws1 i d)) where
     pub hold_all : HoldAll ws1
     hold_all = record {
       holds = λ i d l. let j : i < length ws = let n = long1 in omega arith in
-          (same1 i d j).holds ∙ crew.holds i d j ∙ sym (map_each (λ (u : Worker C). lies_at u.deque) ws ws1 long1 (λ i d l. (same1 i d l).place));
-      lent = λ i d l. let j : i < length ws = let n = long1 in omega arith in (same1 i d j).lent ∙ crew.lent i d j ∙ sym long1;
+          (turned1 i d j).same.holds ∙ crew.holds i d j ∙ sym (map_each (λ (u : Worker C). lies_at u.deque) ws ws1 long1 (λ i d l. (turned1 i d l).same.place));
+      lent = λ i d l. let j : i < length ws = let n = long1 in omega arith in (turned1 i d j).same.lent ∙ crew.lent i d j ∙ sym long1;
     }
 
-    module _ (ws2 : List (Worker C)) (all1 : All (λ w. IsWorkerOf edge_of key_of b w) ws1) (gave : HaveGiven (length ws1) ws1 ws2) where
+    module _ (ws2 : List (Worker C)) (gave : HaveGiven (length ws1) ws1 ws2) where
       pub all_given : All (λ w. IsWorkerOf edge_of key_of b w) ws2
       all_given i d l = let j : i < length ws1 = let n = gave.count in omega arith in let k = gave.keeps i d j in
-          worker_found edge_of key_of b (get_or ws1 i d) (get_or ws2 i d) (all1 i d j) k.rest.1 k.rest.0 k.rest.2 k.rest.3 k.room k.put
+          worker_found edge_of key_of b (get_or ws1 i d) (get_or ws2 i d) (turned1 i d (let n = long1 in omega arith)).worker k
 
       pub none_out : HaveNone ws2
       none_out i d l = let n = gave.count in let q = gave.lent i d (omega arith) in omega arith
 
-      module _ (some : 0 < length ws) (even : All (λ w. IsEven (net_of g) w) ws1) (ws3 : List (Worker C)) (drained : AreDrained edge_of key_of b g
-          (length ws2) ws2 ws3) where
+      module _ (some : 0 < length ws) (ws3 : List (Worker C)) (drained : AreDrained edge_of key_of b g (length ws2) ws2 ws3) where
         pub number_3 : (i : ℕ) (d : Worker C) → i < length ws → (get_or ws3 i d).number ≡ (get_or ws i d).number
         number_3 i d l = let n1 = long1 in let n2 = gave.count in
-            (drained.same i d (omega arith)).number ∙ (gave.keeps i d (omega arith)).rest.1 ∙ (same1 i d l).number
+            (drained.same i d (omega arith)).number ∙ (gave.keeps i d (omega arith)).rest.1 ∙ (turned1 i d l).same.number
 
         pub long3 : length ws3 ≡ length ws
         long3 = drained.count ∙ gave.count ∙ long1
@@ -115,11 +111,17 @@ module _ {C Key : Type 0} (edge_of : C → ℕ) (key_of : C → Key) (b : Board 
             (λ i d l. let n3 = drained.count in let e = drained.emptied i d (omega arith) (omega arith) x in
             let z = ap (λ vs. total (λ v. times x (taken_by v)) vs) (no_holds i d l) in omega arith)
 
-        claims_took : (x : ℕ) → x < task_count g → total (λ w. done_by (claims x) (did w)) ws3 ≡ total (λ w. took w x) ws3
-        claims_took x l = let s = drained.step x l in let t = gave.took_all x in
+        -- while the workers lived
+        even1 : (x : ℕ) → x < task_count g → x < task_count (about_of b).tasks.value.tasks → (i : ℕ) (d : Worker C) → i < length ws1
+            → done_by (claims x) (did (get_or ws1 i d)) ≡ took (get_or ws1 i d) x
+        even1 x l l' i d j = let n = long1 in let e = (turned1 i d (omega arith)).even x l in let c = crew.even i d (omega arith) x l' in omega arith
+
+        claims_took : (x : ℕ) → x < task_count g → x < task_count (about_of b).tasks.value.tasks
+            → total (λ w. done_by (claims x) (did w)) ws3 ≡ total (λ w. took w x) ws3
+        claims_took x l l' = let s = drained.step x l in let t = gave.took_all x in
             let c = total_pair (λ w. done_by (claims x) (did w)) ws1 ws2 gave.count (λ i d j. ap (λ s. done_by (claims x) (view_of s))
             (gave.keeps i d j).rest.0) in
-            let e = total_each (λ w. done_by (claims x) (did w)) (λ w. took w x) ws1 (λ i d j. even i d j x l) in omega arith
+            let e = total_each (λ w. done_by (claims x) (did w)) (λ w. took w x) ws1 (λ i d j. even1 x l l' i d j) in omega arith
 
         put_dealt : (x : ℕ) → x < task_count (about_of b).tasks.value.tasks → total (λ w. times x (account_of w.deque).put) ws3
             ≡ bit (need_count (net_of (about_of b).tasks.value.tasks) x == 0) + total (λ w. done_by (zeroes (net_of (about_of b).tasks.value.tasks) x)
@@ -139,7 +141,7 @@ module _ {C Key : Type 0} (edge_of : C → ℕ) (key_of : C → Key) (b : Board 
           claimed = λ x l. let n = net_of (about_of b).tasks.value.tasks in
               let a = total_map (λ s. done_by (claims x) (view_of s)) (λ (w : Worker C). w.seat) ws3 in
               let z = total_map (λ s. done_by (zeroes n x) (view_of s)) (λ (w : Worker C). w.seat) ws3 in
-              let c = claims_took x (subst (λ (t : Tasks). x < task_count t) (sym is) l) in let t = took_put x in let p = put_dealt x l in omega arith;
+              let c = claims_took x (subst (λ (t : Tasks). x < task_count t) (sym is) l) l in let t = took_put x in let p = put_dealt x l in omega arith;
         }
 
         pub nothing_left : g ≡ (about_of b).tasks.value.tasks → NothingLeft (net_of g) (map seat_of ws3)

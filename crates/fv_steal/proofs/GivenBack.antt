@@ -6,7 +6,7 @@ use native.Mathlib.Decide.{ℕ_discrete, dec_le}
 use Rattle.fv_deque.specs.declared.handles.Victim.{Victim}
 use Rattle.fv_deque.specs.Deques.{lies_at, robs}
 use Rattle.fv_steal.specs.declared.worker.Worker.{Worker}
-use Rattle.fv_steal.specs.Gathers.{places, IsBefore, HasGiven, HoldAll, HaveGiven}
+use Rattle.fv_steal.specs.inner.Gathers.{places, IsBefore, HasGiven, HoldAll, HaveGiven}
 use Rattle.fv_steal.proofs.Giving.{leb_bit, rest_then}
 
 pub map_each : {X Y : Type 0} (f : X → Y) (xs ys : List X) → length ys ≡ length xs → ((i : ℕ) (d : X) → i < length xs → f (get_or ys i d) ≡ f (get_or xs i d))

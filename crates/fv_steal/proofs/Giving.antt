@@ -14,7 +14,7 @@ use Rattle.fv_deque.specs.Balance.{account}
 use Rattle.fv_deque.specs.Deques.{account_of, lies_at, robs, taken_by}
 use Rattle.fv_steal.specs.declared.worker.Worker.{Worker}
 use Rattle.fv_steal.specs.Crews.{took}
-use Rattle.fv_steal.specs.Gathers.{places, SameRest, Keeps, HasGiven}
+use Rattle.fv_steal.specs.inner.Gathers.{places, SameRest, Keeps, HasGiven}
 
 -- a member loses its last hold, and one gets it back: no total changes
 pub moved : {X : Type 0} (f : X → ℕ) (xs : List X) (i j n : ℕ) (a b d : X) → i < length xs → j < length xs → f a + n ≡ f (get_or xs i d)

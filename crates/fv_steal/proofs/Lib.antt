@@ -18,3 +18,4 @@ pub mod Assembling
 pub mod Together
 pub mod Ordered
 pub mod Handed
+pub mod Stolen

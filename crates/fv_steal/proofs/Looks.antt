@@ -7,7 +7,7 @@ use Rattle.fv_ready_rule.specs.declared.Deed.TheVariants.{Arrived, Saw}
 use Rattle.fv_ready_rule.specs.declared.View.{View}
 use Rattle.fv_ready_rule.specs.Rule.{done_by, noted, sees, arrives, zeroes}
 use Rattle.fv_ready_rule.proofs.Hands.{done_noted}
-use Rattle.fv_steal.specs.Moves.{Looked, HasArrived}
+use Rattle.fv_steal.specs.inner.Steps.{Looked, HasArrived}
 
 module _ {C : Type 0} where
   -- one look more

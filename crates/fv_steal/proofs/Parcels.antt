@@ -11,7 +11,8 @@ use Rattle.fv_graph.specs.Wires.{IsWires, wires_of}
 use Rattle.fv_graph.proofs.Counts.{bit_apart}
 use Rattle.fv_ready_rule.specs.Rule.{places}
 use Rattle.fv_ready_rule.specs.Carried.{slot_at, with_slot}
-use Rattle.fv_steal.specs.Moves.{AreParcelsOf, AreFull, AreEmpty}
+use Rattle.fv_steal.specs.Moves.{AreParcelsOf}
+use Rattle.fv_steal.specs.inner.Steps.{AreFull, AreEmpty}
 use Rattle.fv_steal.proofs.Lists.{times_at, times_cut, times_drop, times_take, apart_behind, apart_before}
 use Rattle.fv_steal.proofs.Slots.{slot_with, slot_else}
 use Rattle.fv_steal.proofs.Edges.{inward_once, outward_once, not_inward}

@@ -12,10 +12,9 @@ use Rattle.fv_deque.specs.Deques.{account_of}
 use Rattle.fv_steal.specs.declared.part.Part.{Part}
 use Rattle.fv_steal.specs.declared.worker.Worker.{Worker}
 use Rattle.fv_steal.specs.Crews.{seat_of, AreFreshSeats, IsCrew}
-use Rattle.fv_steal.specs.Made.{puts_of, rest_of}
-use Rattle.fv_steal.specs.Parts.{IsMade}
-use Rattle.fv_steal.specs.Assembled.{IsPart, AreFrom, AreCrewParts}
-use Rattle.fv_steal.proofs.Crewing.{crew_made, map_two}
+use Rattle.fv_steal.specs.inner.Made.{puts_of, rest_of}
+use Rattle.fv_steal.specs.inner.Assembled.{IsPart, AreFrom, AreCrewParts}
+use Rattle.fv_steal.proofs.Crewing.{IsMade, crew_made, map_two}
 
 map_self : {X : Type 0} (xs : List X) → map (λ x. x) xs ≡ xs
 map_self [] = refl

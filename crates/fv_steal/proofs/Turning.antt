@@ -15,7 +15,7 @@ use Rattle.fv_ready_rule.specs.declared.View.{View}
 use Rattle.fv_ready_rule.specs.Rule.{done_by, noted, wins, claims, arrives, finishes, stamps, zeroes}
 use Rattle.fv_ready_rule.specs.Whole.{starts_at, finishes_at}
 use Rattle.fv_ready_rule.proofs.Hands.{done_noted}
-use Rattle.fv_steal.specs.Moves.{Looked, HasArrived, PutBetween}
+use Rattle.fv_steal.specs.inner.Steps.{Looked, HasArrived, PutBetween}
 use Rattle.fv_steal.specs.Crews.{number_in, IsLineOf, IsJournalOf}
 
 gone : (i : Bool) (fo fn left ao an fed : ℕ) (same : Bool) → ao ≡ bit (i && ltb 0 fo) → left + an ≡ bit (i && ltb 0 fn) → an ≡ ao + fed

@@ -21,7 +21,7 @@ use Rattle.fv_ready.specs.declared.seat.WorkerSeat.{WorkerSeat}
 use Rattle.fv_ready.specs.Seats.{view_of, slots_of, hand_of, IsSeat}
 use Rattle.fv_deque.specs.Deques.{account_of}
 use Rattle.fv_steal.specs.declared.worker.Worker.{Worker}
-use Rattle.fv_steal.specs.Moves.{PutBetween}
+use Rattle.fv_steal.specs.inner.Steps.{PutBetween}
 use Rattle.std.specs.Global.{Vec}
 use Rattle.fv_deque.specs.declared.handles.TaskDeque.{TaskDeque}
 use Rattle.fv_ready_rule.specs.Whole.{starts_at, finishes_at}

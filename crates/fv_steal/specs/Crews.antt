@@ -18,16 +18,43 @@ use Rattle.fv_ready.specs.declared.board.Board.{Board}
 use Rattle.fv_ready.specs.Seats.{view_of, slots_of, hand_of, IsSeat}
 use Rattle.fv_ready.specs.Begun.{AreFirstSeats}
 use Rattle.fv_ready.specs.Boards.{name_of, about_of}
-use Rattle.fv_deque.specs.Deques.{account_of, lies_at, robs, taken_by}
+use Rattle.fv_deque.specs.declared.rule.Account.{Account}
+use Rattle.fv_deque.specs.Deques.{account_of, room_of, lies_at, robs, taken_by}
 use Rattle.fv_steal.specs.declared.worker.Worker.{Worker}
 
+-- what contracts see of a worker: nothing else of it is named
 module _ {C : Type 0} where
+  -- which worker of its crew it is
+  abbrev pub number_of : Worker C → ℕ
+  number_of w = w.number
+
   abbrev pub seat_of : Worker C → WorkerSeat C
   seat_of w = w.seat
 
-  -- the worker's part of the journal
+  -- the worker's part of the journal, and for how many lines it has room
   abbrev pub lines_of : Worker C → List Line
   lines_of w = w.lines.items
+
+  abbrev pub lines_held : Worker C → ℕ
+  lines_held w = vec_capacity w.lines
+
+  -- the parcels that it has between its turns, and for how many it has room
+  abbrev pub parcels_of : Worker C → List C
+  parcels_of w = w.parcels.items
+
+  abbrev pub parcels_held : Worker C → ℕ
+  parcels_held w = vec_capacity w.parcels
+
+  -- what was put into its own deque and taken by itself, and how many holds on it are out; which deque it is, and below which number
+  -- it has room
+  abbrev pub own_account : Worker C → Account
+  own_account w = account_of w.deque
+
+  abbrev pub place_of : Worker C → RowsId × Global
+  place_of w = lies_at w.deque
+
+  abbrev pub numbers_held : Worker C → ℕ
+  numbers_held w = room_of w.deque
 
   -- what its seat did
   abbrev pub did : Worker C → View C
@@ -35,7 +62,7 @@ module _ {C : Type 0} where
 
   -- how often it took a number, from its own deque and from the others
   abbrev pub took : Worker C → ℕ → ℕ
-  took w x = times x (account_of w.deque).taken + total (λ v. times x (taken_by v)) w.victims.items
+  took w x = times x (own_account w).taken + total (λ v. times x (taken_by v)) w.victims.items
 
   -- on which deques it has a hold
   abbrev pub holds_on : Worker C → List (RowsId × Global)
@@ -62,19 +89,19 @@ pub record IsJournalOf {C : Type 0} (g : Tasks) (worker : ℕ) (v : View C) (lin
 -- A worker between its turns: its seat has nothing in hand and owes nothing, it put into its deque what it was dealt and what its
 -- arrivals brought down to the count 0, its lines are those of the tasks that its seat won, and there is room for all that can come.
 pub record IsWorker {C Key : Type 0} (edge_of : C → ℕ) (key_of : C → Key) (id : TableId) (a : About C) (w : Worker C) : Type 0 where
-  pub seat : IsSeat edge_of key_of id a w.seat
-  pub free : (hand_of w.seat ≡ None) × (slots_of w.seat ≡ [])
-  pub number : (did w).numbers ≡ w.number ∷ []
-  pub put : (x : ℕ) → times x (account_of w.deque).put ≡ times x (deque_of (opening (net_of a.tasks.value.tasks) a.workers) w.number)
+  pub seat : IsSeat edge_of key_of id a (seat_of w)
+  pub free : (hand_of (seat_of w) ≡ None) × (slots_of (seat_of w) ≡ [])
+  pub number : (did w).numbers ≡ number_of w ∷ []
+  pub put : (x : ℕ) → times x (own_account w).put ≡ times x (deque_of (opening (net_of a.tasks.value.tasks) a.workers) (number_of w))
       + done_by (zeroes (net_of a.tasks.value.tasks) x) (did w)
   pub once : (t : ℕ) → done_by (wins t) (did w) < 2
   pub within : (t : ℕ) → task_count a.tasks.value.tasks ≤ t → done_by (wins t) (did w) ≡ 0
-  pub journal : IsJournalOf a.tasks.value.tasks w.number (did w) (lines_of w)
-  pub deque_room : w.deque.room ≡ task_count a.tasks.value.tasks
-  pub lines_room : task_count a.tasks.value.tasks ≤ vec_capacity w.lines
-  pub parcels_room : (t : ℕ) → t < task_count a.tasks.value.tasks → (length (inward a.tasks.value.tasks t) ≤ vec_capacity w.parcels)
-      × (length (outward a.tasks.value.tasks t) ≤ vec_capacity w.parcels)
-  pub no_parcels : w.parcels.items ≡ []
+  pub journal : IsJournalOf a.tasks.value.tasks (number_of w) (did w) (lines_of w)
+  pub deque_room : numbers_held w ≡ task_count a.tasks.value.tasks
+  pub lines_room : task_count a.tasks.value.tasks ≤ lines_held w
+  pub parcels_room : (t : ℕ) → t < task_count a.tasks.value.tasks → (length (inward a.tasks.value.tasks t) ≤ parcels_held w)
+      × (length (outward a.tasks.value.tasks t) ≤ parcels_held w)
+  pub no_parcels : parcels_of w ≡ []
 
 -- each number that it took it claimed, and nothing else
 abbrev pub IsEven : {C : Type 0} → Net → Worker C → Type 0
@@ -82,9 +109,9 @@ IsEven net w = (x : ℕ) → x < net.tasks → done_by (claims x) (did w) ≡ to
 
 -- what a worker's turns leave as it was: which worker it is, and which deques it has holds on
 pub record IsSame {C : Type 0} (old new : Worker C) : Type 0 where
-  pub number : new.number ≡ old.number
-  pub place : lies_at new.deque ≡ lies_at old.deque
-  pub lent : (account_of new.deque).lent ≡ (account_of old.deque).lent
+  pub number : number_of new ≡ number_of old
+  pub place : place_of new ≡ place_of old
+  pub lent : (own_account new).lent ≡ (own_account old).lent
   pub holds : holds_on new ≡ holds_on old
 
 module _ {C Key : Type 0} (edge_of : C → ℕ) (key_of : C → Key) where
@@ -102,6 +129,6 @@ module _ {C Key : Type 0} (edge_of : C → ℕ) (key_of : C → Key) where
     pub count : length ws ≡ a.workers
     pub workers : All (λ w. IsWorker edge_of key_of id a w) ws
     pub even : All (λ w. IsEven (net_of a.tasks.value.tasks) w) ws
-    pub numbers : (i : ℕ) (d : Worker C) → i < length ws → (slice_index_or ws i d).number ≡ i
-    pub holds : All (λ w. holds_on w ≡ map (λ u. lies_at u.deque) ws) ws
-    pub lent : All (λ w. (account_of w.deque).lent ≡ length ws) ws
+    pub numbers : (i : ℕ) (d : Worker C) → i < length ws → number_of (slice_index_or ws i d) ≡ i
+    pub holds : All (λ w. holds_on w ≡ map place_of ws) ws
+    pub lent : All (λ w. (own_account w).lent ≡ length ws) ws

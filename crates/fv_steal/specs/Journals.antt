@@ -10,14 +10,14 @@ use Rattle.fv_ready_rule.specs.Rule.{finishes}
 use Rattle.fv_ready_rule.specs.Promised.{Tells}
 use Rattle.fv_ready.specs.Counted.{told_by}
 use Rattle.fv_steal.specs.declared.worker.Worker.{Worker}
-use Rattle.fv_steal.specs.Crews.{did, seat_of, lines_of, IsJournalOf}
+use Rattle.fv_steal.specs.Crews.{did, number_of, seat_of, lines_of, IsJournalOf}
 
 -- What is known of a crew whose board is closed with every task done: what the rule says of its seats' lists, and that each worker's
 -- lines are those of its seat.
 pub record AreThrough {C : Type 0} (g : Tasks) (ws : List (Worker C)) : Type 0 where
   pub tells : Tells (net_of g) (λ f. told_by f (map seat_of ws))
   pub done : (t : ℕ) → t < task_count g → told_by (finishes t) (map seat_of ws) ≡ 1
-  pub journals : All (λ w. IsJournalOf g w.number (did w) (lines_of w)) ws
+  pub journals : All (λ w. IsJournalOf g (number_of w) (did w) (lines_of w)) ws
 
 -- these are the lines of all workers, sorted by their starts
 pub record AreSortedLines {C : Type 0} (ws : List (Worker C)) (lines : List Line) : Type 0 where

@@ -1,8 +1,4 @@
 pub mod Moves
 pub mod Crews
-pub mod Gathers
-pub mod Drains
-pub mod Made
-pub mod Parts
-pub mod Assembled
+pub mod inner
 pub mod Journals

@@ -1,38 +1,7 @@
--- What a worker does in one turn (this project's profile).
-use Rattle.std.specs.Prelude.{◌≡◌, ℕ, ◌+◌, ◌<◌, ◌≤◌, List, map, All, Some, None}
-use Rattle.fv_outside.specs.Tasks.{times}
-use Rattle.fv_graph.specs.Net.{Net, need_count}
-use Rattle.fv_ready_rule.specs.declared.Deed.{Deed}
-use Rattle.fv_ready_rule.specs.declared.Deed.TheVariants.{Arrived, Saw}
-use Rattle.fv_ready_rule.specs.declared.View.{View}
-use Rattle.fv_ready_rule.specs.Rule.{done_by, arrives, zeroes}
-use Rattle.fv_ready_rule.specs.Carried.{slot_at}
+-- The parcels that a body is given and leaves (this project's profile).
+use Rattle.std.specs.Prelude.{◌≡◌, ℕ, List, map, All}
 
 -- the parcels are those of these edges, in order, and all have the key
 pub record AreParcelsOf {C Key : Type 0} (edge_of : C → ℕ) (key_of : C → Key) (key : Key) (edges : List ℕ) (parcels : List C) : Type 0 where
   pub edges_are : map edge_of parcels ≡ edges
   pub keys : All (λ p. key_of p ≡ key) parcels
-
--- the slots of these edges are full, or empty
-abbrev pub AreFull : {C : Type 0} → List (ℕ × Rattle.std.specs.Prelude.Option C) → List ℕ → Type 0
-AreFull {C} slots edges = (e : ℕ) → 0 < times e edges → (p : C) × (slot_at slots e ≡ Some p)
-
-abbrev pub AreEmpty : {C : Type 0} → List (ℕ × Rattle.std.specs.Prelude.Option C) → List ℕ → Type 0
-AreEmpty slots edges = (e : ℕ) → 0 < times e edges → slot_at slots e ≡ None
-
--- between two views there are looks alone
-abbrev pub Looked : {C : Type 0} → (old new : View C) → Type 0
-Looked old new = (f : Deed → ℕ) → ((t c : ℕ) → f (Saw t c) ≡ 0) → done_by f new ≡ done_by f old
-
--- between two views there are the arrivals at these edges alone
-pub record HasArrived {C : Type 0} (edges : List ℕ) (old new : View C) : Type 0 where
-  pub others : (f : Deed → ℕ) → ((e c : ℕ) → f (Arrived e c) ≡ 0) → done_by f new ≡ done_by f old
-  pub arrived : (e : ℕ) → done_by (arrives e) new ≡ done_by (arrives e) old + times e edges
-
--- of the tasks that read others, so many were put as arrivals had the count 0
-abbrev pub PutAsZeroed : {C : Type 0} → Net → View C → List ℕ → Type 0
-PutAsZeroed net v put = (x : ℕ) → x < net.tasks → 0 < need_count net x → times x put ≡ done_by (zeroes net x) v
-
--- what was put between two views is what the arrivals between them brought down to the count 0
-abbrev pub PutBetween : {C : Type 0} → Net → (old new : View C) → (before after : List ℕ) → Type 0
-PutBetween net old new before after = (x : ℕ) → times x after + done_by (zeroes net x) old ≡ times x before + done_by (zeroes net x) new

@@ -5,7 +5,8 @@ ghost use Rattle.std.specs.Prelude.{length, replicate, All, IfOk, vec_len, slice
 ghost use Rattle.fv_outside.specs.Tasks.{times, task_count};
 ghost use Rattle.fv_graph.specs.Graph.{net_of, inward, outward};
 ghost use Rattle.fv_graph_core.specs.Core.{ready, dealt};
-ghost use Rattle.fv_steal.specs.Made.{puts_of, rests_of, HasLent, HaveLent};
+ghost use Rattle.fv_deque.specs.Deques.{room_of};
+ghost use Rattle.fv_steal.specs.inner.Made.{puts_of, rests_of, HasLent, HaveLent};
 
 use fv_deque::{TaskDeque, Victim};
 use fv_graph::Tasks;
@@ -30,7 +31,7 @@ pub(crate) fn empty_deques(
 // A task goes to the back of a worker's deque.
 fn put_in(deques: &mut Vec<TaskDeque>, w: usize, task: u64)
     requires there { w < vec_len deques.old }
-    requires below { All (λ d. task < d.room) deques.old.items }
+    requires below { All (λ d. task < room_of d) deques.old.items }
     requires fresh { times task (slice_index_or (puts_of deques.old.items) w []) ≡ 0 }
     ensures puts { puts_of deques.new.items ≡ slice_set (puts_of deques.old.items) w (slice_index_or (puts_of deques.old.items) w [] ++ task ∷ []) }
     ensures rests { rests_of deques.new.items ≡ rests_of deques.old.items }
@@ -42,7 +43,7 @@ fn put_in(deques: &mut Vec<TaskDeque>, w: usize, task: u64)
 // A task goes to the deque of a worker if it waits for none. The worker whose turn it is then.
 fn deal_one(deques: &mut Vec<TaskDeque>, worker: usize, task: u64, count: u64) -> usize
     requires there { worker < vec_len deques.old }
-    requires below { All (λ d. task < d.room) deques.old.items }
+    requires below { All (λ d. task < room_of d) deques.old.items }
     requires fresh { times task (slice_index_or (puts_of deques.old.items) worker []) ≡ 0 }
     ensures next { result ≡ (if count == 0 then (worker + 1) % vec_len deques.old else worker) }
     ensures puts { puts_of deques.new.items ≡ (if count == 0

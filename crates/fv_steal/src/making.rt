@@ -3,7 +3,7 @@
 ghost use Rattle.std.specs.Prelude.{◌≡◌, ◌<◌, ◌≤◌, ◌^◌, map, IfOk, IfErr, vec_len, vec_capacity};
 ghost use Rattle.atomic_table.specs.Seated.{TableId};
 ghost use Rattle.fv_ready_rule.specs.declared.About.{About};
-ghost use Rattle.fv_steal.specs.Assembled.{AreParts, AreFrom, AreCrewParts};
+ghost use Rattle.fv_steal.specs.inner.Assembled.{AreParts, AreFrom, AreCrewParts};
 ghost use Rattle.fv_steal.specs.Crews.{seat_of, AreFreshSeats, IsCrew};
 
 use crate::dealing::{deal, empty_deques, holds_of_all, most_edges};

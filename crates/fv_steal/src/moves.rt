@@ -9,8 +9,9 @@ ghost use Rattle.fv_ready_rule.specs.Rule.{done_by, sees, finishes, arrives, not
 ghost use Rattle.fv_ready_rule.specs.declared.Deed.TheVariants.{Stamped};
 ghost use Rattle.fv_ready.specs.Seats.{view_of, slots_of, hand_of};
 ghost use Rattle.fv_ready.specs.Boards.{about_of, graph_of, tasks_of, IsSeatOf, IsHanded, AreTaken};
-ghost use Rattle.fv_deque.specs.Deques.{account_of, lies_at};
-ghost use Rattle.fv_steal.specs.Moves.{AreParcelsOf, AreFull, AreEmpty, Looked, HasArrived, PutAsZeroed, PutBetween};
+ghost use Rattle.fv_deque.specs.Deques.{account_of, room_of, lies_at};
+ghost use Rattle.fv_steal.specs.Moves.{AreParcelsOf};
+ghost use Rattle.fv_steal.specs.inner.Steps.{AreFull, AreEmpty, Looked, HasArrived, PutAsZeroed, PutBetween};
 
 use crate::body::Body;
 use fv_deque::TaskDeque;
@@ -114,7 +115,7 @@ pub(crate) fn arrive_at<C: Parcel>(
     requires seat { IsSeatOf C.edge_of C.key_of board.now seat.old }
     requires inner { (net_of tasks.now.tasks).is_inner edge ≡ true }
     requires owed { (0 < done_by (finishes ((net_of tasks.now.tasks).source edge)) (view_of seat.old)) × (done_by (arrives edge) (view_of seat.old) ≡ 0) }
-    requires room { deque.old.room ≡ task_count tasks.now.tasks }
+    requires room { room_of deque.old ≡ task_count tasks.now.tasks }
     requires put { PutAsZeroed (net_of tasks.now.tasks) (view_of seat.old) (account_of deque.old).put }
     ensures seat { IsSeatOf C.edge_of C.key_of board.now seat.new }
     ensures hand { hand_of seat.new ≡ None }
@@ -122,7 +123,7 @@ pub(crate) fn arrive_at<C: Parcel>(
     ensures numbers { (view_of seat.new).numbers ≡ (view_of seat.old).numbers }
     ensures put { PutAsZeroed (net_of tasks.now.tasks) (view_of seat.new) (account_of deque.new).put }
     ensures between { PutBetween (net_of tasks.now.tasks) (view_of seat.old) (view_of seat.new) (account_of deque.old).put (account_of deque.new).put }
-    ensures deque { (lies_at deque.new ≡ lies_at deque.old) × (deque.new.room ≡ deque.old.room) × ((account_of deque.new).lent ≡ (account_of deque.old).lent)
+    ensures deque { (lies_at deque.new ≡ lies_at deque.old) × (room_of deque.new ≡ room_of deque.old) × ((account_of deque.new).lent ≡ (account_of deque.old).lent)
         × ((account_of deque.new).taken ≡ (account_of deque.old).taken) }
 {
     let reader = tasks.reader(edge);
@@ -148,14 +149,14 @@ pub(crate) fn arrive_all<C: Parcel>(
     requires hand { hand_of seat.old ≡ None }
     requires done { 0 < done_by (finishes t) (view_of seat.old) }
     requires owed { (e : ℕ) → 0 < times e (feeds_of tasks.now.tasks t) → done_by (arrives e) (view_of seat.old) ≡ 0 }
-    requires room { deque.old.room ≡ task_count tasks.now.tasks }
+    requires room { room_of deque.old ≡ task_count tasks.now.tasks }
     requires put { PutAsZeroed (net_of tasks.now.tasks) (view_of seat.old) (account_of deque.old).put }
     ensures seat { IsSeatOf C.edge_of C.key_of board.now seat.new }
     ensures hand { hand_of seat.new ≡ None }
     ensures arrived { HasArrived (feeds_of tasks.now.tasks t) (view_of seat.old) (view_of seat.new) }
     ensures numbers { (view_of seat.new).numbers ≡ (view_of seat.old).numbers }
     ensures between { PutBetween (net_of tasks.now.tasks) (view_of seat.old) (view_of seat.new) (account_of deque.old).put (account_of deque.new).put }
-    ensures deque { (lies_at deque.new ≡ lies_at deque.old) × (deque.new.room ≡ deque.old.room) × ((account_of deque.new).lent ≡ (account_of deque.old).lent)
+    ensures deque { (lies_at deque.new ≡ lies_at deque.old) × (room_of deque.new ≡ room_of deque.old) × ((account_of deque.new).lent ≡ (account_of deque.old).lent)
         × ((account_of deque.new).taken ≡ (account_of deque.old).taken) }
 {
     let edges = tasks.feeds(t);

@@ -1,16 +1,15 @@
 // The work of a crew: all workers side by side, and then what is left in their deques.
 
-ghost use Rattle.std.specs.Prelude.{◌≡◌, ℕ, ◌+◌, ◌<◌, ◌≤◌, ◌==◌, map, length, All, MatchOption, vec_len, get_or};
-ghost use Rattle.fv_outside.specs.Tasks.{bit, times, total, task_count};
+ghost use Rattle.std.specs.Prelude.{◌≡◌, ℕ, ◌+◌, ◌<◌, ◌==◌, map, length, All, MatchOption, vec_len, get_or};
+ghost use Rattle.fv_outside.specs.Tasks.{bit, times};
 ghost use Rattle.fv_graph.specs.Graph.{net_of};
-ghost use Rattle.fv_graph.specs.Net.{need_count};
-ghost use Rattle.fv_ready_rule.specs.Rule.{done_by, claims, zeroes};
 ghost use Rattle.fv_ready_rule.specs.Shown.{OwesNothing};
 ghost use Rattle.fv_ready.specs.Boards.{name_of, about_of, graph_of, AreSeatsOf};
-ghost use Rattle.fv_deque.specs.Deques.{account_of, robs, taken_by};
 ghost use Rattle.fv_ready.specs.Counted.{NothingLeft, HaveAll};
-ghost use Rattle.fv_steal.specs.Crews.{did, took, seat_of, IsWorkerOf, IsSame, IsEven, IsCrew};
-ghost use Rattle.fv_steal.specs.Drains.{HaveNone, AreDrained};
+ghost use Rattle.fv_steal.specs.Crews.{did, took, number_of, seat_of, own_account, IsWorkerOf, IsSame, IsCrew};
+ghost use Rattle.fv_steal.specs.inner.Turns.{HasStolen, HasTurned};
+ghost use Rattle.fv_steal.specs.inner.Gathers.{Keeps};
+ghost use Rattle.fv_steal.specs.inner.Drains.{HaveNone, AreDrained};
 
 use crate::body::Body;
 use crate::gathering::gather;
@@ -31,11 +30,7 @@ const ROUNDS: u32 = 64;
 /// A number of the deque at a place, if it is not the worker's own.
 fn steal_from(victims: &mut Vec<Victim>, i: usize, own: u64) -> Option<u64>
     requires there { i < vec_len victims.old }
-    ensures found { MatchOption result
-        ((x : ℕ) → total (λ v. times x (taken_by v)) victims.new.items ≡ total (λ v. times x (taken_by v)) victims.old.items)
-        (λ t. (x : ℕ) → total (λ v. times x (taken_by v)) victims.new.items ≡ total (λ v. times x (taken_by v)) victims.old.items + bit (t == x)) }
-    ensures same { map robs victims.new.items ≡ map robs victims.old.items }
-    ensures count { vec_len victims.new ≡ vec_len victims.old }
+    ensures { HasStolen result victims.old victims.new }
 {
     if i as u64 == own {
         return None;
@@ -45,11 +40,7 @@ fn steal_from(victims: &mut Vec<Victim>, i: usize, own: u64) -> Option<u64>
 
 /// Tries each deque but the worker's own once.
 fn steal_round(victims: &mut Vec<Victim>, own: u64) -> Option<u64>
-    ensures found { MatchOption result
-        ((x : ℕ) → total (λ v. times x (taken_by v)) victims.new.items ≡ total (λ v. times x (taken_by v)) victims.old.items)
-        (λ t. (x : ℕ) → total (λ v. times x (taken_by v)) victims.new.items ≡ total (λ v. times x (taken_by v)) victims.old.items + bit (t == x)) }
-    ensures same { map robs victims.new.items ≡ map robs victims.old.items }
-    ensures count { vec_len victims.new ≡ vec_len victims.old }
+    ensures { HasStolen result victims.old victims.new }
 {
     for i in 0..victims.len() {
         let found = steal_from(victims, i, own);
@@ -62,10 +53,7 @@ fn steal_round(victims: &mut Vec<Victim>, own: u64) -> Option<u64>
 
 /// A number of another worker's, if there is one in some of the rounds.
 fn steal(victims: &mut Vec<Victim>, own: u64) -> Option<u64>
-    ensures found { MatchOption result
-        ((x : ℕ) → total (λ v. times x (taken_by v)) victims.new.items ≡ total (λ v. times x (taken_by v)) victims.old.items)
-        (λ t. (x : ℕ) → total (λ v. times x (taken_by v)) victims.new.items ≡ total (λ v. times x (taken_by v)) victims.old.items + bit (t == x)) }
-    ensures same { map robs victims.new.items ≡ map robs victims.old.items }
+    ensures { HasStolen result victims.old victims.new }
 {
     for _ in 0..ROUNDS {
         let found = steal_round(victims, own);
@@ -80,8 +68,7 @@ fn steal(victims: &mut Vec<Victim>, own: u64) -> Option<u64>
 fn find<C>(worker: &mut Worker<C>) -> Option<u64>
     ensures found { MatchOption result ((x : ℕ) → took worker.new x ≡ took worker.old x) (λ t. (x : ℕ) → took worker.new x ≡ took worker.old x + bit (t == x)) }
     ensures same { IsSame worker.old worker.new }
-    ensures rest { (worker.new.seat ≡ worker.old.seat) × (worker.new.lines ≡ worker.old.lines) × (worker.new.parcels ≡ worker.old.parcels)
-        × (worker.new.deque.room ≡ worker.old.deque.room) × ((account_of worker.new.deque).put ≡ (account_of worker.old.deque).put) }
+    ensures keeps { Keeps worker.old worker.new }
 {
     let own = worker.deque.pop();
     if own.is_some() {
@@ -102,10 +89,7 @@ fn live<R: Wait, C: Parcel + Drop, B: Body<C>, G: Gate>(
     requires tasks { graph_of board.now ≡ tasks.now }
     requires body { (B.tasks body.now ≡ tasks.now.tasks) × (B.key body.now ≡ C.key_of (about_of board.now).sample.value) }
     requires worker { IsWorkerOf C.edge_of C.key_of board.now worker.old }
-    requires even { IsEven (net_of tasks.now.tasks) worker.old }
-    ensures worker { IsWorkerOf C.edge_of C.key_of board.now worker.new }
-    ensures even { IsEven (net_of tasks.now.tasks) worker.new }
-    ensures same { IsSame worker.old worker.new }
+    ensures { HasTurned C.edge_of C.key_of board.now tasks.now.tasks worker.old worker.new }
 {
     for _ in rt.forever() {
         match find(worker) {
@@ -128,12 +112,9 @@ fn drain<R: Wait, C: Parcel + Drop, B: Body<C>, G: Gate>(
     requires tasks { graph_of board.now ≡ tasks.now }
     requires body { (B.tasks body.now ≡ tasks.now.tasks) × (B.key body.now ≡ C.key_of (about_of board.now).sample.value) }
     requires worker { IsWorkerOf C.edge_of C.key_of board.now worker.old }
-    requires none { (account_of worker.old.deque).lent ≡ 0 }
-    ensures worker { IsWorkerOf C.edge_of C.key_of board.now worker.new }
-    ensures same { IsSame worker.old worker.new }
-    ensures step { (x : ℕ) → x < task_count tasks.now.tasks
-        → done_by (claims x) (did worker.new) + took worker.old x ≡ done_by (claims x) (did worker.old) + took worker.new x }
-    ensures emptied { (x : ℕ) → times x (account_of worker.new.deque).put ≡ times x (account_of worker.new.deque).taken }
+    requires none { (own_account worker.old).lent ≡ 0 }
+    ensures turned { HasTurned C.edge_of C.key_of board.now tasks.now.tasks worker.old worker.new }
+    ensures emptied { (x : ℕ) → times x (own_account worker.new).put ≡ times x (own_account worker.new).taken }
 {
     for _ in rt.forever() {
         match worker.deque.pop() {
@@ -157,11 +138,9 @@ fn live_all<R: Threads + Wait + Sync, C: Parcel + Send + Drop, B: Body<C> + Sync
     requires body { (B.tasks body.now ≡ tasks.now.tasks) × (B.key body.now ≡ C.key_of (about_of board.now).sample.value) }
     requires some { 0 < length workers.old }
     requires workers { All (λ w. IsWorkerOf C.edge_of C.key_of board.now w) workers.old }
-    requires even { All (λ w. IsEven (net_of tasks.now.tasks) w) workers.old }
-    ensures workers { All (λ w. IsWorkerOf C.edge_of C.key_of board.now w) workers.new }
-    ensures even { All (λ w. IsEven (net_of tasks.now.tasks) w) workers.new }
     ensures count { length workers.new ≡ length workers.old }
-    ensures same { (i : ℕ) (d : Worker C) → i < length workers.old → IsSame (get_or workers.old i d) (get_or workers.new i d) }
+    ensures turned { (i : ℕ) (d : Worker C) → i < length workers.old
+        → HasTurned C.edge_of C.key_of board.now tasks.now.tasks (get_or workers.old i d) (get_or workers.new i d) }
 {
     let count = workers.len();
     thread::for_each_mut(
@@ -206,7 +185,7 @@ pub fn work<R: Threads + Wait + Sync, C: Parcel + Send + Drop, B: Body<C> + Sync
     requires some { 0 < length workers.old }
     requires crew { IsCrew C.edge_of C.key_of (name_of board.now) (about_of board.now) workers.old }
     ensures workers { All (λ w. IsWorkerOf C.edge_of C.key_of board.now w) workers.new }
-    ensures numbers { map (λ w. w.number) workers.new ≡ map (λ w. w.number) workers.old }
+    ensures numbers { map number_of workers.new ≡ map number_of workers.old }
     ensures left { NothingLeft (net_of tasks.now.tasks) (map seat_of workers.new) }
     // Each task that a seat took is finished, and each inner edge out of it has arrived.
     ensures owes { All (λ w. OwesNothing (net_of tasks.now.tasks) (did w)) workers.new }

@@ -8,7 +8,7 @@ use Rattle.fv_graph_core.specs.Core.{dealt}
 use Rattle.fv_graph_core.proofs.Dealing.{dealt_next, one_of_two}
 use Rattle.fv_deque.specs.declared.handles.TaskDeque.{TaskDeque}
 use Rattle.fv_deque.specs.Deques.{account_of}
-use Rattle.fv_steal.specs.Made.{puts_of}
+use Rattle.fv_steal.specs.inner.Made.{puts_of}
 use Rattle.fv_steal.proofs.Deals.{rooms, fresh_after}
 use Rattle.fv_steal.proofs.dealing.deal.Goals as goal
 

@@ -1,5 +1,5 @@
 use Rattle.std.proofs.Common.{subst, sym, ◌+◌}
-use Rattle.fv_steal.specs.Made.{HaveLent}
+use Rattle.fv_steal.specs.inner.Made.{HaveLent}
 use Rattle.fv_steal.proofs.Deals.{one_has}
 use Rattle.fv_steal.proofs.dealing.holds_of_all.Goals as goal
 

@@ -1,4 +1,4 @@
-use Rattle.fv_steal.specs.Made.{HaveLent}
+use Rattle.fv_steal.specs.inner.Made.{HaveLent}
 use Rattle.fv_steal.proofs.dealing.holds_of_all.Given as goal
 
 abbrev pub invariant-loop-w : goal.invariant-loop-w

@@ -1,4 +1,4 @@
-use Rattle.fv_steal.specs.Made.{HasLent}
+use Rattle.fv_steal.specs.inner.Made.{HasLent}
 use Rattle.fv_steal.proofs.dealing.holds_on_all.Given as goal
 
 abbrev pub invariant-loop-i : goal.invariant-loop-i

@@ -5,7 +5,7 @@ use Rattle.fv_graph_core.proofs.Places.{map_at, map_same}
 use Rattle.fv_deque.specs.declared.rule.Account.{Account}
 use Rattle.fv_deque.specs.declared.handles.TaskDeque.{TaskDeque}
 use Rattle.fv_deque.specs.Deques.{account_of}
-use Rattle.fv_steal.specs.Made.{rest_of}
+use Rattle.fv_steal.specs.inner.Made.{rest_of}
 use Rattle.fv_steal.proofs.dealing.put_in.Goals as goal
 
 pub push-requires : goal.push-requires

@@ -1,4 +1,4 @@
-use Rattle.fv_steal.specs.Gathers.{HaveGiven}
+use Rattle.fv_steal.specs.inner.Gathers.{HaveGiven}
 use Rattle.fv_steal.proofs.gathering.gather.Given as goal
 
 abbrev pub invariant-loop-w : goal.invariant-loop-w

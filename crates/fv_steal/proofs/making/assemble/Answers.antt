@@ -1,5 +1,5 @@
 use Rattle.std.proofs.Common.{◌≡◌, ◌+◌, ◌≤◌, ap, length, length-append, [], ◌∷◌, arith, sym, subst, ◌∙◌}
-use Rattle.fv_steal.specs.Assembled.{AreFrom}
+use Rattle.fv_steal.specs.inner.Assembled.{AreFrom}
 use Rattle.fv_steal.proofs.Assembling.{popped_take, worker_more}
 use Rattle.fv_steal.proofs.making.assemble.Goals as goal
 

@@ -4,8 +4,8 @@ use Rattle.std.specs.Global.{Vec}
 use Rattle.fv_graph.specs.Graph.{net_of}
 use Rattle.fv_graph_core.specs.Core.{ready, dealt}
 use Rattle.fv_steal.specs.declared.part.Part.{Part}
-use Rattle.fv_steal.specs.Made.{puts_of}
-use Rattle.fv_steal.specs.Assembled.{AreParts, AreCrewParts}
+use Rattle.fv_steal.specs.inner.Made.{puts_of}
+use Rattle.fv_steal.specs.inner.Assembled.{AreParts, AreCrewParts}
 use Rattle.fv_steal.proofs.Together.{long_puts}
 use Rattle.fv_steal.proofs.making.crew_parts.Goals as goal
 

@@ -1,5 +1,5 @@
 use Rattle.std.proofs.Common.{◌≡◌, ◌+◌, ◌≤◌, ap, length, length-append, [], ◌∷◌, arith, sym, subst}
-use Rattle.fv_steal.specs.Assembled.{AreParts}
+use Rattle.fv_steal.specs.inner.Assembled.{AreParts}
 use Rattle.fv_steal.specs.declared.part.Part.{Part}
 use Rattle.fv_steal.proofs.Assembling.{popped_take, part_more}
 use Rattle.fv_steal.proofs.making.parts_of.Goals as goal

@@ -3,7 +3,8 @@ use Rattle.fv_graph.specs.Graph.{outward}
 use Rattle.fv_ready_rule.specs.Carried.{slot_at, with_slot}
 use Rattle.fv_ready.specs.Seats.{slots_of, hand_of}
 use Rattle.fv_ready.specs.Boards.{about_of}
-use Rattle.fv_steal.specs.Moves.{AreParcelsOf, AreFull, AreEmpty}
+use Rattle.fv_steal.specs.Moves.{AreParcelsOf}
+use Rattle.fv_steal.specs.inner.Steps.{AreFull, AreEmpty}
 use Rattle.fv_steal.proofs.Boards.{edge_out, at_index, low_back, is_popped, last_empty, has_slot}
 use Rattle.fv_steal.proofs.Lists.{times_at}
 use Rattle.fv_steal.proofs.Parcels.{parcels_less, empty_before, full_more}

@@ -11,7 +11,7 @@ use Rattle.fv_ready.specs.Boards.{name_of, about_of}
 use Rattle.fv_ready.proofs.Seated.{told_graph}
 use Rattle.fv_ready.proofs.Moving.{no_items}
 use Rattle.fv_deque.specs.Deques.{account_of}
-use Rattle.fv_steal.specs.Moves.{HasArrived, PutBetween}
+use Rattle.fv_steal.specs.inner.Steps.{HasArrived, PutBetween}
 use Rattle.fv_steal.proofs.Sums.{dealt_none}
 use Rattle.fv_steal.proofs.Turning.{IsTurn, claims_more, line_room}
 use Rattle.fv_steal.proofs.Workers.{worker_after, worker_lost}

@@ -1,25 +1,33 @@
-use Rattle.std.proofs.Common.{◌∙◌, ◌==◌, ◌∷◌, [], ap, arith}
-use Rattle.fv_outside.specs.Tasks.{bit, times}
-use Rattle.fv_graph.proofs.Counts.{total_append}
-use Rattle.fv_deque.specs.declared.rule.Account.{Account}
-use Rattle.fv_deque.specs.Deques.{account_of}
+use Rattle.std.proofs.Common.{Some, None}
+use Rattle.fv_steal.proofs.TurnSteps.{not_turned, worker_found, popped, popped_keeps, found_none, found_one}
 use Rattle.fv_steal.proofs.working.drain.Goals as goal
+
+pub loop-init : goal.loop-init
+loop-init g c = (
+  tt,
+  tt,
+  record { turned = not_turned g.C.Parcel.edge_of g.C.Parcel.key_of c.args.board.now c.args.tasks.now.tasks c.args.worker.now c.requires.worker },
+)
+
+pub turn-requires-clause-worker : goal.turn-requires-clause-worker
+turn-requires-clause-worker g c = let w = c.loop.worker in let d = c.pop.new.self in let p = c.in-Some-pop.ensures in
+    worker_found g.C.Parcel.edge_of g.C.Parcel.key_of c.args.board.now w (record w { deque = d }) c.loop.invariant.2.turned.worker
+    (popped_keeps (Some c.in-Some-pop.t) w d ⊥ p.room p.place p.found).0
 
 pub loop-preserved : goal.loop-preserved
 loop-preserved g c =
-    let v = c.loop.invariant.2 in let s = c.turn.ensures.same in let p = c.in-Some-pop.ensures.found in let t = c.in-Some-pop.t in (
+    let w = c.loop.worker in let d = c.pop.new.self in let p = c.in-Some-pop.ensures in let t = c.turn.ensures in
+    let k = popped_keeps (Some c.in-Some-pop.t) w d ⊥ p.room p.place p.found in (
       tt,
       tt,
       record {
-        worker = c.turn.ensures.worker;
-        same = record {
-          number = s.number ∙ v.same.number;
-          place = s.place ∙ c.in-Some-pop.ensures.place ∙ v.same.place;
-          lent = s.lent ∙ ap (λ (a : Account). a.lent) p ∙ v.same.lent;
-          holds = s.holds ∙ v.same.holds;
-        };
-        step = λ x l. let q = c.turn.ensures.claimed x l in let k = c.turn.ensures.took x in let m = v.step x l in
-            let a = ap (λ (a : Account). times x a.taken) p in
-            let b = total_append (λ y. bit (y == x)) (account_of c.loop.worker.deque).taken (t ∷ []) in omega arith;
+        turned = found_one g.C.Parcel.edge_of g.C.Parcel.key_of c.args.board.now c.args.tasks.now.tasks c.args.worker.now w (record w { deque = d })
+            c.loop.invariant.2.turned k.0 k.1 c.in-Some-pop.t c.turn.new.worker (popped (Some c.in-Some-pop.t) w d ⊥ p.found) t.worker t.same t.took t.claimed;
       },
     )
+
+pub returns-in-None-pop-clause-turned : goal.returns-in-None-pop-clause-turned
+returns-in-None-pop-clause-turned g c =
+    let w = c.loop.worker in let d = c.pop.new.self in let p = c.in-None-pop.ensures in let k = popped_keeps None w d _ p.room p.place p.found in
+    found_none g.C.Parcel.edge_of g.C.Parcel.key_of c.args.board.now c.args.tasks.now.tasks c.args.worker.now w (record w { deque = d })
+    c.loop.invariant.2.turned k.0 k.1 (popped None w d _ p.found)

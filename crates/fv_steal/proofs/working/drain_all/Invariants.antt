@@ -1,4 +1,4 @@
-use Rattle.fv_steal.specs.Drains.{AreDrained}
+use Rattle.fv_steal.specs.inner.Drains.{AreDrained}
 use Rattle.fv_steal.proofs.working.drain_all.Given as goal
 
 abbrev pub invariant-loop-k : goal.invariant-loop-k

@@ -1,5 +1,5 @@
 use Rattle.std.proofs.Common.{◌≡◌, sym, ◌∙◌, subst, length, arith}
-use Rattle.fv_steal.specs.Assembled.{AreFrom}
+use Rattle.fv_steal.specs.inner.Assembled.{AreFrom}
 use Rattle.fv_steal.proofs.Together.{long_parts, crew_is, seats_are}
 use Rattle.fv_steal.proofs.worker.Worker.crew.Goals as goal
 

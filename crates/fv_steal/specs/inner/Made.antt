@@ -5,7 +5,7 @@ use Rattle.atomic_blocks.specs.Lent.{RowsId}
 use Rattle.fv_outside.specs.Tasks.{bit, total, times}
 use Rattle.fv_deque.specs.declared.handles.TaskDeque.{TaskDeque}
 use Rattle.fv_deque.specs.declared.handles.Victim.{Victim}
-use Rattle.fv_deque.specs.Deques.{account_of, lies_at, robs, taken_by}
+use Rattle.fv_deque.specs.Deques.{account_of, room_of, lies_at, robs, taken_by}
 
 -- what was put into the deques
 abbrev pub puts_of : List TaskDeque → List (List ℕ)
@@ -13,14 +13,14 @@ puts_of ds = map (λ d. (account_of d).put) ds
 
 -- how many holds are out, what was taken, and how much room there is
 abbrev pub rest_of : TaskDeque → ℕ × ℕ × List ℕ
-rest_of d = (d.room, (account_of d).lent, (account_of d).taken)
+rest_of d = (room_of d, (account_of d).lent, (account_of d).taken)
 
 abbrev pub rests_of : List TaskDeque → List (ℕ × ℕ × List ℕ)
 rests_of ds = map rest_of ds
 
 -- what a deque keeps while holds are given out
 abbrev pub kept_of : TaskDeque → ℕ × List ℕ × List ℕ × (RowsId × Global)
-kept_of d = (d.room, (account_of d).taken, (account_of d).put, lies_at d)
+kept_of d = (room_of d, (account_of d).taken, (account_of d).put, lies_at d)
 
 -- holds on the first so many deques were given out, and nothing was taken by them
 pub record HasLent (k : ℕ) (old new : List TaskDeque) (vs : List Victim) : Type 0 where

@@ -3,13 +3,12 @@ use Rattle.std.specs.Prelude.{◌≡◌, ℕ, ◌+◌, ◌<◌, List, length, Al
 use Rattle.fv_outside.specs.Tasks.{Tasks, total, times, task_count}
 use Rattle.fv_ready_rule.specs.Rule.{done_by, claims}
 use Rattle.fv_ready.specs.declared.board.Board.{Board}
-use Rattle.fv_deque.specs.Deques.{account_of}
 use Rattle.fv_steal.specs.declared.worker.Worker.{Worker}
-use Rattle.fv_steal.specs.Crews.{did, took, IsWorkerOf, IsSame}
+use Rattle.fv_steal.specs.Crews.{did, took, own_account, IsWorkerOf, IsSame}
 
 -- no hold on a worker's deque is out
 abbrev pub HaveNone : {C : Type 0} → List (Worker C) → Type 0
-HaveNone {C} ws = (i : ℕ) (d : Worker C) → i < length ws → (account_of (get_or ws i d).deque).lent ≡ 0
+HaveNone {C} ws = (i : ℕ) (d : Worker C) → i < length ws → (own_account (get_or ws i d)).lent ≡ 0
 
 -- all that lay in the deques of the first so many workers was taken, and what was taken was claimed
 pub record AreDrained {C Key : Type 0} (edge_of : C → ℕ) (key_of : C → Key) (b : Board C Key) (g : Tasks) (k : ℕ) (old new : List (Worker C)) : Type 0 where
@@ -18,5 +17,5 @@ pub record AreDrained {C Key : Type 0} (edge_of : C → ℕ) (key_of : C → Key
   pub same : (i : ℕ) (d : Worker C) → i < length old → IsSame (get_or old i d) (get_or new i d)
   pub step : (x : ℕ) → x < task_count g → total (λ w. done_by (claims x) (did w)) new + total (λ w. took w x) old
       ≡ total (λ w. done_by (claims x) (did w)) old + total (λ w. took w x) new
-  pub emptied : (i : ℕ) (d : Worker C) → i < length old → i < k → (x : ℕ) → times x (account_of (get_or new i d).deque).put ≡ times x (account_of
-      (get_or new i d).deque).taken
+  pub emptied : (i : ℕ) (d : Worker C) → i < length old → i < k → (x : ℕ) → times x (own_account (get_or new i d)).put
+      ≡ times x (own_account (get_or new i d)).taken

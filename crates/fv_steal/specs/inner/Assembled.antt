@@ -9,7 +9,7 @@ use Rattle.fv_deque.specs.declared.handles.Victim.{Victim}
 use Rattle.fv_ready.specs.declared.seat.WorkerSeat.{WorkerSeat}
 use Rattle.fv_steal.specs.declared.part.Part.{Part}
 use Rattle.fv_steal.specs.declared.worker.Worker.{Worker}
-use Rattle.fv_steal.specs.Made.{puts_of, rests_of, HaveLent}
+use Rattle.fv_steal.specs.inner.Made.{puts_of, rests_of, HaveLent}
 
 -- the part of worker i, with so much room
 pub record IsPart {C : Type 0} (room most : ℕ) (deques : List TaskDeque) (victims : List (Vec Victim)) (i : ℕ) (p : Part C) : Type 0 where

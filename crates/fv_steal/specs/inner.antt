@@ -1,0 +1,6 @@
+pub mod Steps
+pub mod Turns
+pub mod Gathers
+pub mod Drains
+pub mod Made
+pub mod Assembled
