@@ -1,0 +1,52 @@
+-- The tree that the tokens spell.
+use Rattle.std.proofs.Common.{◌≡◌, ℕ, List, Ok, refl}
+use Rattle.fv_lex.specs.Token.{symbols_of}
+use Rattle.fv_lex.specs.Symbols.{value}
+use Rattle.fv_parse_grammar.specs.declared.form.Primitive.TheVariants as primitives
+use Rattle.fv_parse_grammar.specs.declared.form.Operator.TheVariants.{Infix, Recursion, Sequence, Split, Merge}
+use Rattle.fv_parse_grammar.specs.declared.form.Iteration.TheVariants.{Parallel}
+use Rattle.fv_parse_grammar.specs.Tree.{Tree, Number, Named, Wire, Primitive, Group, Iteration, Apply, Binary, Constant, Function, End}
+use Rattle.fv_parse_grammar.specs.Tree.{More}
+use Rattle.fv_parse_grammar.specs.Laws.{ReadsOnlySpelled}
+use Rattle.fv_parse_grammar.specs.Descent.{program, within, further, many, listed, definition, function_after, constant_after, ended}
+use Rattle.fv_parse_grammar.specs.Descent.{expression, phrase, chain, rights, postfix, by_head, iteration, turns, run}
+use Rattle.fv_parse.specs.Outcomes.{IsAccepted}
+use Rattle.fv_top_voices.proofs.Tokens.{lexed}
+
+-- `+ ~ (@(i*37+1) : *(i+3) : /(8))`
+abbrev pub body : Tree
+body = Binary 43 Recursion (Primitive 43 primitives.Add) (Group 41 (Binary 40 Sequence
+    (Apply 40 (Primitive 40 primitives.Delay)
+    (More (Binary 38 (Infix primitives.Add) (Binary 38 (Infix primitives.Multiply) (Named 38 10) (Number 36 37)) (Number 34 1)) End))
+    (Binary 31 Sequence
+    (Apply 31 (Primitive 31 primitives.Multiply) (More (Binary 29 (Infix primitives.Add) (Named 29 19) (Number 27 3)) End))
+    (Apply 24 (Primitive 24 primitives.Divide) (More (Number 22 8) End)))))
+
+-- `v(i)`, behind the number of voices
+abbrev pub one_voice : Tree
+one_voice = Apply 8 (Named 8 40) (More (Named 6 42) End)
+
+-- `par(i,N,v(i))`
+abbrev pub all_voices : ℕ → Tree
+all_voices n = Iteration 14 Parallel 36 (Number 10 n) one_voice
+
+-- `_ <: par(i,N,v(i)) :> _`
+abbrev pub process : ℕ → Tree
+process n = Binary 16 Split (Wire 16) (Binary 14 Merge (all_voices n) (Wire 2))
+
+-- the whole text
+abbrev pub tree : ℕ → Tree
+tree n = More (Function 48 0 (More (Named 46 2) End) body) (More (Constant 18 30 (process n)) End)
+
+-- the descent reads it
+read : (digits : List ℕ) → program 128 (symbols_of (lexed digits).tokens) ≡ Ok (tree (value digits))
+unfolding program within further many listed definition function_after constant_after ended
+    expression phrase chain rights postfix by_head iteration turns run
+read digits = refl
+
+pub accepted : ReadsOnlySpelled → (digits : List ℕ) → IsAccepted (lexed digits) (tree (value digits))
+accepted only digits = record {
+  supported = refl;
+  spelled = only 128 (symbols_of (lexed digits).tokens) (tree (value digits)) (read digits);
+  accepted = refl;
+}
