@@ -12,7 +12,7 @@ use Rattle.fv_loopcode.specs.Code.{AreSound, NamesLane, IsStill}
 use Rattle.fv_analysis.specs.Stands.{stands_of}
 use Rattle.fv_analysis.proofs.StandLemmas.{stands_long}
 use Rattle.fv_split_lanes.specs.declared.lanes.Lanes.{Lanes}
-use Rattle.fv_split_lanes.specs.inner.Placed.{ArePlaced}
+use Rattle.fv_split_lanes.specs.Placed.{ArePlaced}
 use Rattle.fv_split_code.specs.Held.{HoldsUpTo}
 
 pub rates_long : (g : Graph) → length (rates g.signals) ≡ length g.signals

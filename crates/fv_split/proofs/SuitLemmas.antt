@@ -24,7 +24,7 @@ use Rattle.fv_analysis.proofs.HistoryLemmas.{histories_cover}
 use Rattle.fv_split_plan.specs.Separated.{operands, lane_at, links_of, IsComputed, IsSeparated, AsOutput, AsDelayed, AsDefinition, AsShared, ReadsSignal}
 use Rattle.fv_split_plan.specs.Fits.{Names, IsAlways}
 use Rattle.fv_split_lanes.specs.declared.lanes.Lanes.{Lanes}
-use Rattle.fv_split_lanes.specs.inner.Placed.{ArePlaced, IsInner}
+use Rattle.fv_split_lanes.specs.Placed.{ArePlaced, IsInner}
 use Rattle.fv_split_lanes.proofs.RowLemmas.{operand_below, reads_reach, back_reaches, read_lower}
 use Rattle.fv_split_code.specs.declared.kind.Kind.{Kind}
 use Rattle.fv_split_code.specs.declared.kind.Kind.TheVariants as kind

@@ -19,7 +19,7 @@ use Rattle.fv_split_lanes.specs.inner.Ranks.{AreRanks, AreLoops}
 use Rattle.fv_split_lanes.specs.inner.Readers.{reader_at, IsReader, ReadsBelow, AreReaders}
 use Rattle.fv_split_lanes.specs.inner.Marked.{AreMarked}
 use Rattle.fv_split_lanes.specs.inner.Numbered.{AreNumbered, IsInnerBy, AreInner}
-use Rattle.fv_split_lanes.specs.inner.Placed.{IsInner, LanesArePlaced, LoopsArePlaced, HomesArePlaced, ArePlaced}
+use Rattle.fv_split_lanes.specs.Placed.{IsInner, LanesArePlaced, LoopsArePlaced, HomesArePlaced, ArePlaced}
 use Rattle.fv_split_lanes.proofs.RowLemmas.{rows_are, links_none, reads_none, leads_read, read_lower, links_within, reach_within, all_reach}
 use Rattle.fv_split_lanes.proofs.ReaderLemmas.{one_reader}
 use Rattle.fv_split_lanes.proofs.RankLemmas.{are_loops}

@@ -1,7 +1,6 @@
 pub mod Homes
 pub mod Marked
 pub mod Numbered
-pub mod Placed
 pub mod Ranks
 pub mod Readers
 pub mod Rows

@@ -7,7 +7,7 @@ ghost use Rattle.fv_signal.specs.declared.rate.Rate.TheVariants as rate;
 ghost use Rattle.fv_split_components.specs.Reach.{at};
 ghost use Rattle.fv_analysis.specs.Stands.{stands_of};
 ghost use Rattle.fv_split_plan.specs.Separated.{IsComputed};
-ghost use Rattle.fv_split_lanes.specs.inner.Placed.{ArePlaced};
+ghost use Rattle.fv_split_lanes.specs.Placed.{ArePlaced};
 ghost use Rattle.fv_split_lanes.specs.inner.Numbered.{AddsSignal, AreNumbered, AreInner};
 
 use crate::home::homes;

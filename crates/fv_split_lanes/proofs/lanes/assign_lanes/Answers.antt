@@ -8,7 +8,7 @@ use Rattle.fv_split_lanes.specs.inner.Homes.{bit_at, AreLower, AreSingle, AreHom
 use Rattle.fv_split_lanes.specs.inner.Ranks.{AreRanks}
 use Rattle.fv_split_lanes.specs.inner.Readers.{AreReaders}
 use Rattle.fv_split_lanes.specs.inner.Numbered.{AreNumbered, AreInner}
-use Rattle.fv_split_lanes.specs.inner.Placed.{ArePlaced}
+use Rattle.fv_split_lanes.specs.Placed.{ArePlaced}
 use Rattle.fv_split_lanes.proofs.PlaceLemmas.{read_rows, row_links, link_row_links, row_readers, row_components, are_lower, are_single, numbers_within}
 use Rattle.fv_split_lanes.proofs.PlaceLemmas.{are_placed}
 use Rattle.fv_split_lanes.proofs.lanes.assign_lanes.Goals as goal
