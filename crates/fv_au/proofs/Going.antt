@@ -1,5 +1,5 @@
 -- Readings go on from one call to the next.
-use Rattle.std.proofs.Common.{◌≡◌, ℕ, [], ◌∙◌, refl}
+use Rattle.std.proofs.Common.{ℕ, ◌∙◌}
 use Rattle.std.specs.Prelude.{IsTrue}
 use Rattle.fv_outside.specs.Desk.{DeskState}
 use Rattle.fv_base.specs.declared.role.Role.TheVariants.{Input}

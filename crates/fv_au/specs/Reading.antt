@@ -3,7 +3,7 @@ use Rattle.std.specs.Prelude.{◌≡◌, ℕ, ◌+◌, ◌*◌, ◌/◌, ◌-◌
 use Rattle.std.specs.Prelude.{Option, Some, None, Result, Ok, Err, codes, if◌then◌else◌}
 use Rattle.fv_base.specs.declared.limits.TheConstants.{MOST_CHANNELS}
 use Rattle.byteorder.specs.Endian.{big_number, big_bytes}
-use Rattle.fv_pcm.specs.Sizes.{Layout, whole_bytes}
+use Rattle.fv_pcm.specs.Sizes.{Layout, frame_size, whole_bytes}
 use Rattle.fv_au.specs.declared.head.AuHead.{AuHead}
 use Rattle.fv_au.specs.declared.refusal.AuRefusal.{AuRefusal}
 use Rattle.fv_au.specs.declared.refusal.AuRefusal.TheVariants.{AuFormat, AuTruncated}
@@ -80,6 +80,10 @@ size_of None = 0
 -- the bytes of the whole frames that a head states, of a size that is known
 abbrev pub stated_bytes : AuHead → ℕ
 stated_bytes head = whole_bytes (layout_of head (size_of head.data_bytes))
+
+-- the samples of the whole frames in so many bytes
+abbrev pub whole_samples : AuHead → ℕ → ℕ
+whole_samples head size = size / frame_size head.channels head.bits * head.channels
 
 -- the 24 bytes before so many bytes of samples
 abbrev pub head_bytes : (channels rate bits size : ℕ) → List ℕ

@@ -1,9 +1,12 @@
 -- How readers of an AU file go on and stop.
-use Rattle.std.specs.Prelude.{◌≡◌, ◌≤◌, true}
+use Rattle.std.specs.Prelude.{◌≡◌, ◌<◌, ◌≤◌, true, length}
 use Rattle.fv_base.specs.declared.limits.TheConstants.{MOST_CHANNELS}
 use Rattle.fv_base.specs.declared.role.Role.TheVariants.{Input}
 use Rattle.fv_num.specs.Words.{is_sample_width}
-use Rattle.fv_outside.specs.Desk.{DeskState, TakesSome}
+use Rattle.fv_outside.specs.Desk.{DeskState, TakesSome, KeepsFaults}
+use Rattle.fv_outside.specs.declared.transfer.ReadError.{ReadError}
+use Rattle.fv_outside.specs.declared.transfer.ReadError.TheVariants.{Failed, NoMemory as OutOfMemory}
+use Rattle.fv_pcm.specs.Sizes.{data_limit}
 use Rattle.fv_wav.specs.Stopping.{IsFaultOfInput, IsSaid}
 use Rattle.fv_au.specs.declared.head.AuHead.{AuHead}
 use Rattle.fv_au.specs.declared.refusal.AuRefusal.{AuRefusal}
@@ -34,3 +37,21 @@ IsOfBytes NoMemory = ⊥
 pub record AuStops (says : Type 0) (old new : DeskState) (refusal : AuRefusal) : Type 0 where
   pub some : TakesSome Input old new
   pub cause : IsAuCause refusal says old new
+
+-- the refusal of what could not be read
+abbrev pub refusal_of_read : ReadError → AuRefusal
+refusal_of_read Failed = ReadFault Input
+refusal_of_read OutOfMemory = NoMemory
+
+-- The cause of a refusal of samples up to the file's end: a fault that the desk counted, more bytes than a head can state, or
+-- want of memory, which is free.
+abbrev pub IsRestCause : AuRefusal → (old new : DeskState) → Type 0
+IsRestCause (ReadFault role) old new = (role ≡ Input) × IsFaultOfInput old new
+IsRestCause (AuFormat place) old new = (place ≡ 8) × IsSaid (data_limit < length (old.left Input)) old new
+IsRestCause (AuTruncated place) old new = ⊥
+IsRestCause NoMemory old new = KeepsFaults old new
+
+-- Such a reading stopped: some bytes of the input were taken, nothing else changed, and the refusal has its cause.
+pub record RestStops (old new : DeskState) (refusal : AuRefusal) : Type 0 where
+  pub some : TakesSome Input old new
+  pub cause : IsRestCause refusal old new

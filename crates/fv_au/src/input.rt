@@ -1,6 +1,6 @@
 // The next bytes of the input. A place is how many bytes of the file are before them.
 
-ghost use Rattle.std.specs.Prelude.{◌≡◌, ◌+◌, ◌-◌, ◌^◌, ◌<◌, ◌≤◌, ℕ, List, length, take, IsTrue, Ok, Err, IfOk, IfErr, OnOk};
+ghost use Rattle.std.specs.Prelude.{◌≡◌, ◌+◌, ◌-◌, ◌^◌, ◌<◌, ◌≤◌, ℕ, List, ◌++◌, length, take, IsTrue, Ok, Err, IfOk, IfErr, OnOk};
 ghost use Rattle.fv_base.specs.declared.role.Role.TheVariants.{Input};
 ghost use Rattle.fv_outside.specs.Desk.{Takes, KeepsFaults};
 ghost use Rattle.fv_wav.specs.Stopping.{Passes};
@@ -44,16 +44,19 @@ fn pass<D: Desk>(desk: &mut D, place: u64, count: u64) -> Result<(), AuRefusal>
     Ok(())
 }
 
-// What the first 24 bytes say.
-fn read_front<D: Desk>(desk: &mut D) -> Result<AuHead, AuRefusal>
-    ensures ok { IfOk result (λ head. Passes 24 ((head_of ((D.state desk.old).left Input) ≡ Ok head)
-        × (length ((D.state desk.old).left Input) ≡ 24 + length ((D.state desk.new).left Input))) (D.state desk.old) (D.state desk.new)) }
+// What the first 24 bytes say, which begin with these.
+fn read_front<D: Desk>(desk: &mut D, begun: &[u8]) -> Result<AuHead, AuRefusal>
+    requires { length begun.now ≤ 24 }
+    ensures ok { IfOk result (λ head. Passes (24 - length begun.now) ((head_of (begun.now ++ (D.state desk.old).left Input) ≡ Ok head)
+        × (length (begun.now ++ (D.state desk.old).left Input) ≡ 24 + length ((D.state desk.new).left Input))) (D.state desk.old) (D.state desk.new)) }
     ensures ranges { IfOk result IsAuHead }
-    ensures err { IfErr result (λ e. AuStops (head_of ((D.state desk.old).left Input) ≡ Err e) (D.state desk.old) (D.state desk.new) e) }
+    ensures err { IfErr result (λ e. AuStops (head_of (begun.now ++ (D.state desk.old).left Input) ≡ Err e) (D.state desk.old) (D.state desk.new) e) }
 {
+    let start = begun.len();
     let mut front = [0u8; 24];
-    let n = fill(desk, Role::Input, &mut front)?;
-    judge(&front[..n])
+    front[..start].copy_from_slice(begun);
+    let n = fill(desk, Role::Input, &mut front[start..])?;
+    judge(&front[..start + n])
 }
 
 /// The head of the AU file whose bytes are left to read of the input; its samples are left next.
@@ -65,7 +68,22 @@ pub fn read_au_head<D: Desk>(desk: &mut D) -> Result<AuHead, AuRefusal>
     ensures steady { OnOk result (KeepsFaults (D.state desk.old) (D.state desk.new)) }
     ensures err { IfErr result (λ e. AuStops (au ((D.state desk.old).left Input) ≡ Err e) (D.state desk.old) (D.state desk.new) e) }
 {
-    let head = read_front(desk)?;
+    read_au_head_behind(desk, &[])
+}
+
+/// The head of the AU file that begins with these bytes, which were taken, and goes on with those that are left to read of the
+/// input; its samples are left next.
+pub fn read_au_head_behind<D: Desk>(desk: &mut D, begun: &[u8]) -> Result<AuHead, AuRefusal>
+    requires few { length begun.now ≤ 24 }
+    requires begins { IsTrue (D.state desk.old).tells → IsAu (begun.now ++ (D.state desk.old).left Input) }
+    ensures head { IfOk result (λ head. IsTrue (D.state desk.old).tells → au (begun.now ++ (D.state desk.old).left Input) ≡ Ok head) }
+    ensures taken { IfOk result (λ head. (bytes : List ℕ) × (length begun.now + length bytes ≡ head.offset)
+        × Takes Input bytes (D.state desk.old) (D.state desk.new)) }
+    ensures ranges { IfOk result IsAuHead }
+    ensures steady { OnOk result (KeepsFaults (D.state desk.old) (D.state desk.new)) }
+    ensures err { IfErr result (λ e. AuStops (au (begun.now ++ (D.state desk.old).left Input) ≡ Err e) (D.state desk.old) (D.state desk.new) e) }
+{
+    let head = read_front(desk, begun)?;
     pass(desk, 24, u64::from(head.offset) - 24)?;
     Ok(head)
 }

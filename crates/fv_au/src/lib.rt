@@ -1,18 +1,23 @@
 //! AU files: the head and the samples, read and written through a desk.
 #![tactic(auto)]
 
+mod ahead;
 mod frames;
 mod head;
 mod input;
 mod judging;
+mod kept;
 mod laws;
 mod refusal;
+mod rest;
 mod writing;
 
+pub use ahead::Ahead;
 pub use frames::read_au_frames;
 pub use fv_wav::WriteRefusal;
 pub use head::AuHead;
-pub use input::read_au_head;
-pub use laws::au_written_is_read;
+pub use input::{read_au_head, read_au_head_behind};
+pub use laws::{au_ends_at_its_length, au_written_is_read, one_au_outcome};
 pub use refusal::AuRefusal;
+pub use rest::{read_au_bytes, read_au_rest};
 pub use writing::{write_au_frames, write_au_head};

@@ -1,8 +1,16 @@
 // Samples that are read, and files that are written.
 
+ghost use Rattle.std.specs.Prelude.{◌≡◌, ◌≤◌, true};
+ghost use Rattle.fv_base.specs.declared.limits.TheConstants.{MOST_CHANNELS};
+ghost use Rattle.fv_num.specs.Words.{is_sample_width};
+
 use crate::heads::{HEAD, THREE};
-use fv_au::{AuRefusal, WriteRefusal, read_au_frames, write_au_frames, write_au_head};
+use fv_au::{
+    AuHead, AuRefusal, WriteRefusal, read_au_frames, read_au_head, read_au_rest, write_au_frames,
+    write_au_head,
+};
 use fv_outside::{Desk, MemoryDesk, Role};
+use std::alloc::Global;
 use std::test::Fail;
 
 #[test]
@@ -42,5 +50,99 @@ fn frames_are_read_to_the_cut(rt: HostRuntime) -> Result<(), Fail> {
         read_au_frames(&mut desk, &HEAD, 28, &mut bytes, &mut one),
         Err(cut)
     );
+    Ok(())
+}
+
+// The file of three samples, on a desk that may fail.
+fn write_three(desk: &mut MemoryDesk) -> Result<(), WriteRefusal> {
+    if desk.begin_write(Role::Output, "file").is_err() {
+        return Err(WriteRefusal::WriteFault { role: Role::Output });
+    }
+    let mut bytes = [0; 6];
+    write_au_head(desk, 1, 44100, 16, 6)?;
+    write_au_frames(desk, 16, &[1, -2, 3], &mut bytes)
+}
+
+/// What is answered where the call of Output with this number fails, and how many bytes were written.
+fn faulty(alloc: Global, call: u32) -> Result<(Result<(), WriteRefusal>, usize), Fail> {
+    let mut desk = MemoryDesk::new(alloc);
+    desk.room(Role::Output, 30)?;
+    desk.fail(Role::Output, call)?;
+    let answer = write_three(&mut desk);
+    Ok((answer, desk.written(Role::Output).len()))
+}
+
+#[test]
+fn write_faults(rt: HostRuntime) -> Result<(), Fail> {
+    let alloc = rt.alloc();
+    let fault = Err(WriteRefusal::WriteFault { role: Role::Output });
+    assert_eq!(rt; faulty(alloc, 0)?, (fault, 0));
+    assert_eq!(rt; faulty(alloc, 2)?, (fault, 4));
+    assert_eq!(rt; faulty(alloc, 7)?, (fault, 24));
+    assert_eq!(rt; faulty(alloc, 8)?, (Ok(()), 30));
+    Ok(())
+}
+
+/// Three samples of an unknown size behind the first four bytes of their file.
+const OPEN: [u8; 26] = [
+    0, 0, 0, 24, 255, 255, 255, 255, 0, 0, 0, 3, 0, 0, 172, 68, 0, 0, 0, 1, 0, 1, 255, 254, 0, 3,
+];
+
+/// The samples up to the end of the file of these bytes behind its first four, where they come in pieces of a size and the call of
+/// this number fails.
+fn rest_of(
+    alloc: Global,
+    behind: &[u8],
+    piece: u32,
+    call: u32,
+) -> Result<Result<Vec<i32>, AuRefusal>, Fail>
+    requires { 1 ≤ piece }
+{
+    let mut bytes = Vec::from_slice(alloc, b".snd")?;
+    bytes.extend_from_slice(behind)?;
+    let mut desk = MemoryDesk::new(alloc);
+    desk.put("file", &bytes)?;
+    desk.pieces(Role::Input, piece);
+    desk.fail(Role::Input, call)?;
+    match desk.begin_read(Role::Input, "file") {
+        Ok(()) => match read_au_head(&mut desk) {
+            Ok(head) => Ok(rest_behind(alloc, &mut desk, &head)),
+            Err(refusal) => Ok(Err(refusal)),
+        },
+        Err(_failed) => Ok(Err(AuRefusal::ReadFault { role: Role::Input })),
+    }
+}
+
+// The samples behind a head, which does not say how many they are.
+fn rest_behind(alloc: Global, desk: &mut MemoryDesk, head: &AuHead) -> Result<Vec<i32>, AuRefusal>
+    requires some { 1 ≤ head.now.channels }
+    requires few { head.now.channels ≤ MOST_CHANNELS }
+    requires bits { is_sample_width head.now.bits ≡ true }
+{
+    if head.data_bytes.is_some() {
+        return Err(AuRefusal::AuFormat { place: 8 });
+    }
+    read_au_rest(alloc, desk, head)
+}
+
+#[test]
+fn samples_up_to_the_end(rt: HostRuntime) -> Result<(), Fail> {
+    let alloc = rt.alloc();
+    for piece in 1..4 {
+        let whole = rest_of(alloc, &OPEN, piece, 99)??;
+        assert!(rt; whole.as_slice() == [1, -2, 3].as_slice());
+        let cut = rest_of(alloc, &OPEN[..25], piece, 99)??;
+        assert!(rt; cut.as_slice() == [1, -2].as_slice());
+    }
+    Ok(())
+}
+
+#[test]
+fn each_reading_fails(rt: HostRuntime) -> Result<(), Fail> {
+    let fault = AuRefusal::ReadFault { role: Role::Input };
+    for call in 0..4 {
+        assert_eq!(rt; rest_of(rt.alloc(), &OPEN, 60, call)?.err(), Some(fault));
+    }
+    assert_eq!(rt; rest_of(rt.alloc(), &OPEN, 60, 4)?.err(), None);
     Ok(())
 }

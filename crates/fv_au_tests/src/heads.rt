@@ -1,5 +1,7 @@
 // The heads of AU files, or why they have none.
 
+ghost use Rattle.std.specs.Prelude.{◌≤◌};
+
 use fv_au::{AuHead, AuRefusal, read_au_head};
 use fv_outside::{Desk, MemoryDesk, Role};
 use std::alloc::Global;
@@ -81,5 +83,34 @@ fn an_unknown_size(rt: HostRuntime) -> Result<(), Fail> {
         offset: 28,
     };
     assert_eq!(rt; head_of(alloc, behind)?, Ok(head));
+    Ok(())
+}
+
+/// The head of three samples, where its bytes come in pieces of a size and the call of this number fails.
+fn faulty(alloc: Global, piece: u32, call: u32) -> Result<Result<AuHead, AuRefusal>, Fail>
+    requires { 1 ≤ piece }
+{
+    let mut bytes = Vec::from_slice(alloc, b".snd")?;
+    bytes.extend_from_slice(&THREE)?;
+    let mut desk = MemoryDesk::new(alloc);
+    desk.put("file", &bytes)?;
+    desk.pieces(Role::Input, piece);
+    desk.fail(Role::Input, call)?;
+    match desk.begin_read(Role::Input, "file") {
+        Ok(()) => Ok(read_au_head(&mut desk)),
+        Err(_failed) => Ok(Err(AuRefusal::ReadFault { role: Role::Input })),
+    }
+}
+
+#[test]
+fn pieces_and_faults(rt: HostRuntime) -> Result<(), Fail> {
+    let alloc = rt.alloc();
+    let fault = AuRefusal::ReadFault { role: Role::Input };
+    for call in 0..5 {
+        assert_eq!(rt; faulty(alloc, 7, call)?, Err(fault));
+    }
+    for piece in 1..8 {
+        assert_eq!(rt; faulty(alloc, piece, 99)?, Ok(HEAD));
+    }
     Ok(())
 }

@@ -1,5 +1,5 @@
 -- Samples as bytes and back, which compute.
-use Rattle.std.specs.Prelude.{◌≡◌, refl, ℕ, List, [], ◌∷◌, flat_map, ℤ, pos, negsuc}
+use Rattle.std.specs.Prelude.{◌≡◌, refl, List, [], ◌∷◌, flat_map, ℤ, pos, negsuc}
 use Rattle.fv_pcm.specs.declared.coding.Coding.TheVariants as coding
 use Rattle.fv_pcm.specs.Coded.{sample_of, sample_at, sample_bytes, samples_in}
 use Rattle.fv_pcm.specs.Sizes.{Layout, frames_in}

@@ -3,6 +3,7 @@ use Rattle.std.specs.Prelude.{◌≡◌, ℕ, true, ◌≤◌, ◌+◌, ◌*◌,
 use Rattle.fv_num.specs.Words.{argument, is_sample_width}
 use Rattle.fv_num.specs.Frames.{Frame, table}
 use Rattle.fv_pcm.specs.declared.coding.Coding.{Coding}
+use Rattle.fv_pcm.specs.declared.writing.TheConstants.{DATA_LIMIT}
 use Rattle.fv_pcm.specs.Coded.{sample_at, samples_in}
 
 -- the bytes of a frame
@@ -49,7 +50,7 @@ SamplesFollow =
 
 -- the most bytes of samples that a head can state
 abbrev pub data_limit : ℕ
-data_limit = 4294967258
+data_limit = DATA_LIMIT
 
 -- the bytes of so many frames, if a head can state them
 abbrev pub data_size : (channels bits frames : ℕ) → ℕ

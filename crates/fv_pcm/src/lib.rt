@@ -8,5 +8,5 @@ mod writing;
 
 pub use coding::Coding;
 pub use laws::{sample_is_read_again, samples_are_read_again, samples_follow};
-pub use reading::decode;
-pub use writing::{data_length, encode};
+pub use reading::{decode, decoded};
+pub use writing::{DATA_LIMIT, data_length, encode};

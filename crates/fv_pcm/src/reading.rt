@@ -1,12 +1,13 @@
 // Samples out of their bytes.
 
-ghost use Rattle.std.specs.Prelude.{◌≡◌, ◌*◌, ◌/◌, ◌≤◌, length, true};
+ghost use Rattle.std.specs.Prelude.{◌≡◌, ◌*◌, ◌/◌, ◌≤◌, length, true, IfOk};
 ghost use Rattle.fv_num.specs.Words.{is_sample_width};
 ghost use Rattle.fv_pcm.specs.declared.coding.Coding.TheVariants as coding_is;
 ghost use Rattle.fv_pcm.specs.Coded.{sample_of, samples_in};
 
 use crate::coding::Coding;
 use byteorder::{BigEndian, ByteOrder, LittleEndian};
+use std::alloc::{AllocError, Global};
 
 /// The samples in the bytes, which have bits / 8 for each place of `to`.
 pub fn decode(coding: Coding, bits: u32, bytes: &[u8], to: &mut [i32])
@@ -18,6 +19,23 @@ pub fn decode(coding: Coding, bits: u32, bytes: &[u8], to: &mut [i32])
     for i in 0..to.len() {
         to[i] = sample(coding, bits, &bytes[i * size..]);
     }
+}
+
+/// So many samples, which are in the bytes.
+pub fn decoded(
+    alloc: Global,
+    coding: Coding,
+    bits: u32,
+    bytes: &[u8],
+    count: usize,
+) -> Result<Vec<i32>, AllocError>
+    requires bits { is_sample_width bits ≡ true }
+    requires room { length bytes.now ≡ count * (bits / 8) }
+    ensures { IfOk result (λ v. v.items ≡ samples_in coding bits count bytes.now) }
+{
+    let mut samples = vec![in alloc; 0i32; count]?;
+    decode(coding, bits, bytes, &mut samples);
+    Ok(samples)
 }
 
 // The sample in the first bytes.

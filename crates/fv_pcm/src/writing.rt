@@ -11,7 +11,7 @@ use byteorder::{BigEndian, ByteOrder, LittleEndian};
 use fv_num::clamp;
 
 /// The most bytes of samples that a head can state.
-const DATA_LIMIT: u128 = 4294967258;
+pub const DATA_LIMIT: u32 = 4294967258;
 
 /// The bytes of so many frames, unless they are more than a head can state.
 pub fn data_length(channels: u32, bits: u32, frames: u32) -> Option<u32>
@@ -19,7 +19,7 @@ pub fn data_length(channels: u32, bits: u32, frames: u32) -> Option<u32>
     ensures { result ≡ data_length_of channels bits frames }
 {
     let size = u128::from(frames) * (u128::from(channels) * u128::from(bits / 8));
-    if size > DATA_LIMIT {
+    if size > u128::from(DATA_LIMIT) {
         return None;
     }
     Some(size as u32)

@@ -7,3 +7,4 @@ pub mod Following
 pub mod SampleLemmas
 pub mod Outcomes
 pub mod Endings
+pub mod Begun

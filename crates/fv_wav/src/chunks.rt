@@ -1,6 +1,6 @@
 // The chunks of a WAV file.
 
-ghost use Rattle.std.specs.Prelude.{◌≡◌, ℕ, ◌+◌, ◌^◌, ◌<◌, ◌≤◌, List, length, IsTrue, Ok, Err, Some, IfOk, IfErr, IfSome, OnOk};
+ghost use Rattle.std.specs.Prelude.{◌≡◌, ℕ, ◌+◌, ◌-◌, ◌^◌, ◌<◌, ◌≤◌, List, ◌++◌, length, IsTrue, Ok, Err, Some, IfOk, IfErr, IfSome, OnOk};
 ghost use Rattle.fv_base.specs.declared.limits.TheConstants.{MOST_CHUNKS};
 ghost use Rattle.fv_base.specs.declared.role.Role.TheVariants.{Input};
 ghost use Rattle.fv_outside.specs.Desk.{Takes, KeepsFaults};
@@ -56,7 +56,22 @@ pub fn read_head<D: Desk>(desk: &mut D) -> Result<Head, WaveRefusal>
     ensures steady { OnOk result (KeepsFaults (D.state desk.old) (D.state desk.new)) }
     ensures err { IfErr result (λ e. Stops (wave ((D.state desk.old).left Input) ≡ Err e) (D.state desk.old) (D.state desk.new) e) }
 {
-    read_form(desk)?;
+    read_head_behind(desk, &[])
+}
+
+/// The head of the file that begins with these bytes, which were taken, and goes on with those that are left to read of the
+/// input; its samples are left next.
+pub fn read_head_behind<D: Desk>(desk: &mut D, begun: &[u8]) -> Result<Head, WaveRefusal>
+    requires { length begun.now ≤ 12 }
+    ensures head { IfOk result (λ head. IsTrue (D.state desk.old).tells → wave (begun.now ++ (D.state desk.old).left Input) ≡ Ok head) }
+    ensures taken { IfOk result (λ head. (bytes : List ℕ) × (length begun.now + length bytes ≡ head.place)
+        × Takes Input bytes (D.state desk.old) (D.state desk.new)) }
+    ensures ranges { IfOk result IsHead }
+    ensures place { IfOk result (λ head. head.place < 2 ^ 45) }
+    ensures steady { OnOk result (KeepsFaults (D.state desk.old) (D.state desk.new)) }
+    ensures err { IfErr result (λ e. Stops (wave (begun.now ++ (D.state desk.old).left Input) ≡ Err e) (D.state desk.old) (D.state desk.new) e) }
+{
+    read_form(desk, begun)?;
     let mut walk = Walk {
         room: MOST_CHUNKS,
         seen: None,
@@ -70,15 +85,18 @@ pub fn read_head<D: Desk>(desk: &mut D) -> Result<Head, WaveRefusal>
     }
 }
 
-// The first twelve bytes.
-fn read_form<D: Desk>(desk: &mut D) -> Result<(), WaveRefusal>
-    ensures ok { IfOk result (λ _. Passes 12
-        (wave ((D.state desk.old).left Input) ≡ walk_from (record { room = MOST_CHUNKS; seen = None; place = 12 }) ((D.state desk.new).left Input))
+// The first twelve bytes, which begin with these.
+fn read_form<D: Desk>(desk: &mut D, begun: &[u8]) -> Result<(), WaveRefusal>
+    requires { length begun.now ≤ 12 }
+    ensures ok { IfOk result (λ _. Passes (12 - length begun.now)
+        (wave (begun.now ++ (D.state desk.old).left Input) ≡ walk_from (record { room = MOST_CHUNKS; seen = None; place = 12 }) ((D.state desk.new).left Input))
         (D.state desk.old) (D.state desk.new)) }
-    ensures err { IfErr result (λ e. Stops (wave ((D.state desk.old).left Input) ≡ Err e) (D.state desk.old) (D.state desk.new) e) }
+    ensures err { IfErr result (λ e. Stops (wave (begun.now ++ (D.state desk.old).left Input) ≡ Err e) (D.state desk.old) (D.state desk.new) e) }
 {
+    let n = begun.len();
     let mut form = [0u8; 12];
-    take_all(desk, 0, &mut form)?;
+    form[..n].copy_from_slice(begun);
+    take_all(desk, n as u64, &mut form[n..])?;
     if !is_form(&form) {
         return Err(WaveRefusal::NotWave { place: 0 });
     }

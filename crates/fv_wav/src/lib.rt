@@ -10,7 +10,7 @@ mod laws;
 mod refusal;
 mod writing;
 
-pub use chunks::read_head;
+pub use chunks::{read_head, read_head_behind};
 pub use frames::{decode, read_frames};
 pub use fv_pcm::data_length;
 pub use head::Head;

@@ -1,10 +1,9 @@
-use Rattle.std.proofs.Common.{◌≡◌, ◌++◌, arith, length-append}
+use Rattle.std.proofs.Common.{◌++◌, arith, length-append}
 use Rattle.std.proofs.lemmas.Result.{err_from_is_err_and}
-use Rattle.fv_base.specs.declared.role.Role.TheVariants.{Input}
 use Rattle.fv_outside.proofs.States.{takes_then}
 use Rattle.fv_au.proofs.Going.{stops_then}
 use Rattle.fv_au.proofs.Heads.{head_cut_at}
-use Rattle.fv_au.proofs.input.read_au_head.Goals as goal
+use Rattle.fv_au.proofs.input.read_au_head_behind.Goals as goal
 
 pub returns-in_err-pass-clause-err : goal.returns-in_err-pass-clause-err
 returns-in_err-pass-clause-err g c =
@@ -17,4 +16,4 @@ returns-clause-taken g c =
     let p = c.in_ok-head.ensures.ok in
     let q = c.in_ok-pass.ensures.ok in
     let low = c.in_ok-head.ensures.ranges.low in
-    (p.bytes ++ q.bytes, omega (arith, length-append p.bytes q.bytes, p.long, q.long, c.from.ensures, low), takes_then p.takes q.takes)
+    (p.bytes ++ q.bytes, omega (arith, length-append p.bytes q.bytes, p.long, q.long, c.from.ensures, low, c.requires.few), takes_then p.takes q.takes)
