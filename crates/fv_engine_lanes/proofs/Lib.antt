@@ -1,0 +1,3 @@
+pub mod Renumbering
+pub mod Sound
+pub mod Writing

@@ -1,0 +1,57 @@
+-- A lane of a loop that is appended.
+use Rattle.std.proofs.Common.{◌≡◌, ℕ, zero, suc, ◌+◌, ◌-◌, ◌<◌, ◌≤◌, List, [], ◌∷◌, ◌++◌, length, map, set, get_or, refl, sym, ap, subst, ◌∙◌, arith, ℤ}
+use Rattle.std.proofs.lemmas.List.{length-map, map-set, get_or_append_left, get_or-append_right, get_or-map, set-append_left}
+use Rattle.std.proofs.Math.Seq.{map-set_same}
+use Rattle.fv_loopcode.specs.Lanes.{Lane, lane_of, no_lane, appended}
+use Rattle.fv_lines.specs.Writer.{list_of, part_of, outer_of, written_by, frames_of, shape_of}
+use Rattle.fv_lines.specs.Seen.{lane_seen}
+use Rattle.fv_lines.specs.declared.writer.LaneWriter.{LaneWriter}
+use Rattle.fv_lines.specs.declared.seen.Seen.{Seen}
+use Rattle.fv_engine_lanes.specs.Lanes.{lane_open, rest_of_writer}
+
+-- one sample more
+pub record OneMore (old new : LaneWriter) (x : ℤ) : Type 0 where
+  pub list : list_of new ≡ list_of old ++ x ∷ []
+  pub written : written_by new ≡ written_by old + 1
+  pub frames : frames_of new ≡ frames_of old
+  pub shape : shape_of new ≡ shape_of old
+  pub part : part_of new ≡ part_of old
+  pub outer : outer_of new ≡ outer_of old
+
+written_more : {old new : LaneWriter} {x : ℤ} → OneMore old new x → lane_open new ≡ appended (lane_open old) x
+written_more {old} {new} {x} m =
+    let room : frames_of new - written_by new ≡ frames_of old - written_by old - 1 = omega (arith, m.frames, m.written) in
+    λ i. record { history = (m.shape i).history; items = m.list i; room = room i }
+
+rest_same : {old new : LaneWriter} {x : ℤ} → OneMore old new x → rest_of_writer new ≡ rest_of_writer old
+rest_same m = λ i. record { part = m.part i; outer = m.outer i; shape = m.shape i; frames = m.frames i }
+
+pub lane_set : (ws : List LaneWriter) (ss : List Seen) (l : ℕ) (old new : LaneWriter) (x : ℤ) → l < length ws
+    → old ≡ get_or ws l old → OneMore old new x
+    → map lane_open (set ws l new) ++ map lane_seen ss
+    ≡ set (map lane_open ws ++ map lane_seen ss) l (appended (lane_of (map lane_open ws ++ map lane_seen ss) l) x)
+lane_set ws ss l old new x there at m =
+    let fs : List Lane = map lane_open ws in
+    let gs : List Lane = map lane_seen ss in
+    let long : l < length fs = subst (λ (n : ℕ). l < n) (sym (length-map ws lane_open)) there in
+    let is : lane_of (fs ++ gs) l ≡ lane_open old =
+    get_or_append_left fs gs no_lane l long ∙ get_or-map lane_open ws l old no_lane there ∙ ap lane_open (sym at) in
+    ap (λ (zs : List Lane). zs ++ gs) (map-set lane_open ws l new) ∙ sym (set-append_left fs gs l (lane_open new) long)
+    ∙ ap (λ (y : Lane). set (fs ++ gs) l y) (written_more m ∙ ap (λ (z : Lane). appended z x) (sym is))
+
+pub rest_set : (ws : List LaneWriter) (l : ℕ) (old new : LaneWriter) (x : ℤ) → old ≡ get_or ws l old → OneMore old new x
+    → map rest_of_writer (set ws l new) ≡ map rest_of_writer ws
+rest_set ws l old new x at m = map-set_same rest_of_writer ws l new old (rest_same m ∙ ap rest_of_writer at)
+
+-- a seen lane takes no more
+seen_full : (ss : List Seen) (k : ℕ) → (get_or (map lane_seen ss) k no_lane).room ≡ 0
+seen_full [] zero = refl
+seen_full [] (suc k) = refl
+seen_full (s ∷ ss) zero = refl
+seen_full (s ∷ ss) (suc k) = seen_full ss k
+
+pub no_room : (ws : List LaneWriter) (ss : List Seen) (l : ℕ) → length ws ≤ l → (lane_of (map lane_open ws ++ map lane_seen ss) l).room ≡ 0
+no_room ws ss l le =
+    let same : length (map lane_open ws) ≡ length ws = length-map ws lane_open in
+    ap (λ (z : Lane). z.room) (get_or-append_right (map lane_open ws) (map lane_seen ss) (length ws) l no_lane same le)
+    ∙ seen_full ss (l - length ws)

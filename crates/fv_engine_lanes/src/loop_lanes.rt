@@ -1,0 +1,38 @@
+// The lanes of one loop: its own, which it appends, and those of other loops that it loads, as they were seen.
+
+use fv_lines::{LaneWriter, Seen};
+use fv_loopcode::Store;
+
+/// What the code of one loop loads and appends. Its lanes are numbered anew: first its own ones, then the seen ones.
+#[derive(Drop)]
+pub struct LoopLanes<'a> {
+    pub own: Vec<LaneWriter<'a>>,
+    pub seen: Vec<Seen<'a>>,
+}
+
+impl<'a> Store for LoopLanes<'a> {
+    ghost use Rattle.fv_engine_lanes.specs.Lanes.{state_in, LanesRest, rest_in};
+
+    ghost state = { λ s. state_in s };
+
+    ghost Rest = { LanesRest };
+
+    ghost rest = { λ s. rest_in s };
+
+    fn load(&self, lane: u64, index: u64, back: u64) -> i32 {
+        let i = lane as usize;
+        let own = self.own.len();
+        if i < own {
+            self.own[i].seen().sample(index, back)
+        } else {
+            self.seen[i - own].sample(index, back)
+        }
+    }
+
+    fn append(&mut self, lane: u64, value: i32) {
+        let i = lane as usize;
+        if i < self.own.len() {
+            self.own[i].append(value);
+        }
+    }
+}
