@@ -11,6 +11,8 @@ use Rattle.fv_control.specs.declared.refusal.ScriptRefusal.{ScriptRefusal}
 use Rattle.fv_control.specs.declared.refusal.ScriptRefusal.TheVariants as lines
 use Rattle.fv_wav.specs.declared.refusal.WaveRefusal.{WaveRefusal}
 use Rattle.fv_wav.specs.declared.refusal.WaveRefusal.TheVariants as head
+use Rattle.fv_au.specs.declared.refusal.AuRefusal.{AuRefusal}
+use Rattle.fv_au.specs.declared.refusal.AuRefusal.TheVariants as au
 use Rattle.fv_top_report.specs.declared.refusal.Refusal.{Refusal}
 use Rattle.fv_top_report.specs.declared.refusal.Refusal.TheVariants as no
 
@@ -65,10 +67,17 @@ of_script (lines.ControlRange line) = no.ControlRange line
 of_script (lines.ControlOrder line) = no.ControlOrder line
 of_script lines.NoMemory = no.NoMemory
 
--- the refusals of a head
+-- the refusals of a WAV file's head
 abbrev pub of_wave : WaveRefusal → Refusal
 of_wave (head.ReadFault role) = no.ReadFault role
 of_wave (head.NotWave place) = no.NotWave place
 of_wave (head.WaveTruncated place) = no.WaveTruncated place
 of_wave (head.WaveFormat place) = no.WaveFormat place
 of_wave (head.WaveChunks place) = no.WaveChunks place
+
+-- the refusals of an AU file
+abbrev pub of_au : AuRefusal → Refusal
+of_au (au.ReadFault role) = no.ReadFault role
+of_au (au.AuFormat place) = no.AuFormat place
+of_au (au.AuTruncated place) = no.AuTruncated place
+of_au au.NoMemory = no.NoMemory

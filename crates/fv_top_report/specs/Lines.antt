@@ -30,7 +30,7 @@ usage_status = 2
 abbrev pub program_status : ℕ
 program_status = 3
 
--- the WAV file or the control script is refused
+-- the WAV or AU file or the control script is refused
 abbrev pub file_status : ℕ
 file_status = 4
 
@@ -129,6 +129,8 @@ row_of (no.OutputTooLong bytes) = row 38 file_status (codes "OutputTooLong") (de
 row_of no.FramesNeeded = row 39 usage_status (codes "FramesNeeded") []
 row_of no.NoMemory = row 40 memory_status (codes "NoMemory") []
 row_of (no.Nesting line column) = row 43 program_status (codes "Nesting") (decimal line ∷ decimal column ∷ [])
+row_of (no.AuFormat place) = row 44 file_status (codes "AuFormat") (decimal place ∷ [])
+row_of (no.AuTruncated place) = row 45 file_status (codes "AuTruncated") (decimal place ∷ [])
 
 -- the exit status of a refusal
 abbrev pub status_of : Refusal → ℕ

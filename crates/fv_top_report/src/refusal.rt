@@ -3,10 +3,11 @@
 ghost use Rattle.std.specs.Prelude.{◌≡◌};
 ghost use Rattle.fv_top_report.specs.Lines.{row_of, status_of};
 ghost use Rattle.fv_top_report.specs.Layers.{of_bytes, of_tokens, of_value, of_delay};
-ghost use Rattle.fv_top_report.specs.Layers.{of_script, of_wave};
+ghost use Rattle.fv_top_report.specs.Layers.{of_script, of_wave, of_au};
 ghost use Rattle.fv_top_report.specs.declared.refusal.Refusal.TheVariants.{Usage, NoMemory};
 
 use fv_arity::ArityKind;
+use fv_au::AuRefusal;
 use fv_control::ScriptRefusal;
 use fv_diagram::Label;
 use fv_interval::DelayRefusal;
@@ -191,6 +192,14 @@ pub enum Refusal {
         line: u32,
         column: u32,
     },
+    /// An AU file is not of a form that can be read.
+    AuFormat {
+        place: u64,
+    },
+    /// It ends before a byte that is needed.
+    AuTruncated {
+        place: u64,
+    },
 }
 
 impl Refusal {
@@ -320,6 +329,19 @@ impl From<WaveRefusal> for Refusal {
             WaveRefusal::WaveTruncated { place } => Refusal::WaveTruncated { place },
             WaveRefusal::WaveFormat { place } => Refusal::WaveFormat { place },
             WaveRefusal::WaveChunks { place } => Refusal::WaveChunks { place },
+        }
+    }
+}
+
+impl From<AuRefusal> for Refusal {
+    ghost from_gives = { λ e refusal. refusal ≡ of_au e };
+
+    fn from(e: AuRefusal) -> Refusal {
+        match e {
+            AuRefusal::ReadFault { role } => Refusal::ReadFault { role },
+            AuRefusal::AuFormat { place } => Refusal::AuFormat { place },
+            AuRefusal::AuTruncated { place } => Refusal::AuTruncated { place },
+            AuRefusal::NoMemory => Refusal::NoMemory,
         }
     }
 }

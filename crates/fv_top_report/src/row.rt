@@ -19,7 +19,7 @@ const USAGE: u8 = 2;
 /// The exit status where the program is refused.
 const PROGRAM: u8 = 3;
 
-/// The exit status where a WAV file or a control script is refused.
+/// The exit status where a WAV or AU file or a control script is refused.
 const FILE: u8 = 4;
 
 /// The exit status where memory ran out.
@@ -177,6 +177,8 @@ impl Refusal {
             Refusal::FramesNeeded => row(39, USAGE, "FramesNeeded", Fields::None),
             Refusal::NoMemory => row(40, MEMORY, "NoMemory", Fields::None),
             Refusal::Nesting { line, column } => row(43, PROGRAM, "Nesting", place(*line, *column)),
+            Refusal::AuFormat { place } => row(44, FILE, "AuFormat", natural(*place)),
+            Refusal::AuTruncated { place } => row(45, FILE, "AuTruncated", natural(*place)),
         }
     }
 }
