@@ -2,7 +2,7 @@
 use Rattle.std.proofs.Common.{◌≡◌, ◌≢◌, ℕ, zero, suc, ◌+◌, ◌<◌, ◌≤◌, Bool, true, false, not, ◌&&◌, ⊎_elim, List, [], ◌∷◌, map, length}
 use Rattle.std.proofs.Common.{get_or, All, Contains, refl, sym, ap, ◌∙◌, subst, arith, ◌==◌, eq-eqb}
 use Rattle.std.specs.List.{sum_by, flat_map}
-use Rattle.std.specs.List.Sorted.{IsPermutation}
+use Rattle.std.specs.List.Sorted.{IsPermutation, IsNonDecreasingBy}
 use Rattle.std.proofs.lemmas.List.{length-map}
 use Rattle.std.proofs.lemmas.List.Concat.{flat_map-cons}
 use Rattle.std.proofs.lemmas.List.Elements.{Contains-append_cases}
@@ -32,7 +32,7 @@ use Rattle.fv_ready.specs.Seats.{view_of}
 use Rattle.fv_ready.specs.Counted.{told_by}
 use Rattle.fv_steal.specs.declared.worker.Worker.{Worker}
 use Rattle.fv_steal.specs.Crews.{did, seat_of, lines_of, number_in, IsLineOf, IsJournalOf}
-use Rattle.fv_steal.specs.Journals.{AreThrough, AreSortedLines}
+use Rattle.fv_steal.specs.Journals.{AreThrough}
 use Rattle.fv_steal.proofs.Drainings.{total_map}
 use Rattle.fv_steal.proofs.Sums.{total_each}
 
@@ -127,21 +127,20 @@ module _ {C : Type 0} (g : Tasks) where
       record { there = r.there; start = let s = r.start in omega arith; finish = let s = r.finish in omega arith; spans = r.spans })
       (Contains-append_cases (lines_of w) (flat_map lines_of ws) line (subst (λ ls. Contains ls line) (flat_map-cons lines_of w ws) c))
 
-  module _ (graph : IsGraph g) (reads : (t : ℕ) → t < task_count g → ReadsLaw g t) (ws : List (Worker C)) (lines : List Line) (h : AreThrough g ws)
-      (sorted : AreSortedLines ws lines) where
+  module _ (ws : List (Worker C)) (lines : List Line) (h : AreThrough g ws) (same : IsPermutation (flat_map lines_of ws) lines) where
     -- the same count of the seats and of the workers
     told_is : (f : Deed → ℕ) → told_by f (map seat_of ws) ≡ said f ws
     told_is f = total_map (λ (s : WorkerSeat C). done_by f (view_of s)) (λ (w : Worker C). w.seat) ws
 
     of_line : (line : Line) → Contains lines line → IsFound ws line
     of_line line c = found ws h.journals line
-        (Contains-permutation lines (flat_map lines_of ws) line (IsPermutation-sym (flat_map lines_of ws) lines sorted.permutation) c)
+        (Contains-permutation lines (flat_map lines_of ws) line (IsPermutation-sym (flat_map lines_of ws) lines same) c)
 
     -- of each task there is one line
     once : (t : ℕ) → t < task_count g → times t (map (number_in g) lines) ≡ 1
     once t there =
         let m = total_map (λ y. bit (y == t)) (number_in g) lines in
-        let p = permuted (λ (line : Line). bit (number_in g line == t)) (flat_map lines_of ws) lines sorted.permutation in
+        let p = permuted (λ (line : Line). bit (number_in g line == t)) (flat_map lines_of ws) lines same in
         let f = total_flat (λ (line : Line). bit (number_in g line == t)) (lines_of {C = C}) ws in
         let e = total_each (λ (w : Worker C). total (λ (line : Line). bit (number_in g line == t)) (lines_of w)) (λ w. done_by (wins t) (did w)) ws
         (λ k d l. sym (total_map (λ y. bit (y == t)) (number_in g) (lines_of (get_or ws k d))) ∙ (h.journals k d l).each t) in
@@ -160,7 +159,7 @@ module _ {C : Type 0} (g : Tasks) where
     -- no stamp stands twice
     stamps_once : (n : ℕ) → stamped n lines ≤ 1
     stamps_once n =
-        let p = permuted (λ (line : Line). bit (line.start == n) + bit (line.finish == n)) (flat_map lines_of ws) lines sorted.permutation in
+        let p = permuted (λ (line : Line). bit (line.start == n) + bit (line.finish == n)) (flat_map lines_of ws) lines same in
         let f = total_flat (λ (line : Line). bit (line.start == n) + bit (line.finish == n)) (lines_of {C = C}) ws in
         let e = total_each (λ (w : Worker C). stamped n (lines_of w)) (λ w. done_by (stamps n) (did w)) ws (λ k d l. (h.journals k d l).stamps n) in
         let s = told_is (stamps n) in let o = h.tells.stamped_once n in omega arith
@@ -172,9 +171,18 @@ module _ {C : Type 0} (g : Tasks) where
         (λ w. at_most (finishes_at k t) (finishes_at m t) (finishes t) (two_finishes t k m ne) (did w).deeds) ws in
         let d = h.done t there in let s = told_is (finishes t) in omega arith))
 
+    numbers_low : All (λ x. x < task_count g) (map (number_in g) lines)
+    numbers_low = Rattle.fv_steal.proofs.Drainings.all_map (λ x. x < task_count g) (number_in g) lines
+        (λ k d l. number_low g (get_or lines k d).task (at_place k d l).there)
+
+    -- so there are as many as tasks
+    pub as_many : length lines ≡ task_count g
+    as_many = sym (length-map lines (number_in g)) ∙ sym (counted (task_count g) (map (number_in g) lines) numbers_low)
+        ∙ ones (λ t. times t (map (number_in g) lines)) 0 (task_count g) (λ t l. once t (omega arith))
+
     -- a line of a task starts after those of the tasks that it reads
-    after : (a b : Line) → IsFound ws a → IsFound ws b → reads_task g b.task a.task ≡ true → a.finish < b.start
-    after a b fa fb r =
+    after : (reads : (t : ℕ) → t < task_count g → ReadsLaw g t) → (a b : Line) → IsFound ws a → IsFound ws b → reads_task g b.task a.task ≡ true → a.finish < b.start
+    after reads a b fa fb r =
         let t = number_in g b in let s = number_in g a in let tl = number_low g b.task fb.there in let sl = number_low g a.task fa.there in
         let law = (reads t tl).reads s sl in
         let e : reads_task g (task_of g t) (task_of g s) ≡ true = ap (λ (p : Task × Task). reads_task g p.0 p.1)
@@ -192,24 +200,20 @@ module _ {C : Type 0} (g : Tasks) where
         edge_from (e ∷ es) f s pos = dite (ℕ_discrete (f e) s) (λ is. (e, is, (let b = bit_same e e refl in omega arith)))
             (λ n. let b = bit_apart (f e) s n in let r = edge_from es f s (omega arith) in (r.0, r.1, (let k = r.2 in omega arith)))
 
-    pub ordered : IsOrdered g lines × (length lines ≡ task_count g)
-    ordered = (
+    pub ordered : ((t : ℕ) → t < task_count g → ReadsLaw g t) → IsNonDecreasingBy (λ (line : Line). line.start) lines
+        → IsOrdered g lines × (length lines ≡ task_count g)
+    ordered reads starts = (
       record {
         each_once = λ t l v. each_line t lines l (λ k d j. (at_place k d j).there.0) ∙ once (task_at g t.loop_no t.vector) (number_low g t (l, v));
         no_other = λ line c. (of_line line c).there;
         stamps = stamps_once;
         spans = λ line c. (of_line line c).spans;
-        after_reads = λ a b c d r. after a b (of_line a c) (of_line b d) r;
+        after_reads = λ a b c d r. after reads a b (of_line a c) (of_line b d) r;
         starts = λ i j d l k. dite (ℕ_discrete (get_or lines i d).start (get_or lines j d).start)
             (λ e. absurd (
             let n = (get_or lines j d).start in let q = two_at (λ (line : Line). bit (line.start == n) + bit (line.finish == n)) lines i j d l k in
             let a = bit_same (get_or lines i d).start n e in let b = bit_same (get_or lines j d).start n refl in let s = stamps_once n in omega arith))
-            (λ ne. let q = sorted.starts i j d (omega arith) k in omega arith);
+            (λ ne. let q = starts i j d (omega arith) k in omega arith);
       },
-      sym (length-map lines (number_in g)) ∙ sym (counted (task_count g) (map (number_in g) lines) numbers_low)
-          ∙ ones (λ t. times t (map (number_in g) lines)) 0 (task_count g) (λ t l. once t (omega arith)),
+      as_many,
     )
-      where
-        numbers_low : All (λ x. x < task_count g) (map (number_in g) lines)
-        numbers_low = Rattle.fv_steal.proofs.Drainings.all_map (λ x. x < task_count g) (number_in g) lines
-            (λ k d l. number_low g (get_or lines k d).task (at_place k d l).there)

@@ -24,7 +24,11 @@ pub record AreSortedLines {C : Type 0} (ws : List (Worker C)) (lines : List Line
   pub permutation : IsPermutation (flat_map lines_of ws) lines
   pub starts : IsNonDecreasingBy (λ (line : Line). line.start) lines
 
--- then they are the ordered journal, with as many lines as tasks
+-- then these are the ordered journal, with as many lines as tasks
 abbrev pub JournalLaw : Type 0 → Type 0
 JournalLaw C = (g : Tasks) (ws : List (Worker C)) (lines : List Line) → IsGraph g → AreThrough g ws → AreSortedLines ws lines
     → IsOrdered g lines × (length lines ≡ task_count g)
+
+-- then they are as many as tasks, in whatever order
+abbrev pub CountLaw : Type 0 → Type 0
+CountLaw C = (g : Tasks) (ws : List (Worker C)) → IsGraph g → AreThrough g ws → length (flat_map lines_of ws) ≡ task_count g
