@@ -7,7 +7,7 @@ use Rattle.fv_parse_grammar.specs.Tree as tree
 use Rattle.fv_parse.specs.Trees.{Parsed, size_of, tree_in}
 use Rattle.fv_parse_tree.specs.declared.node.TreeId.{TreeId}
 use Rattle.fv_diagram.specs.Arena.{Arena, count_of}
-use Rattle.fv_eval_drawing.specs.Makes.{IsThere as IsDrawn}
+use Rattle.fv_eval_drawing.specs.Makes.{Canvas, IsThere as IsDrawn}
 use Rattle.fv_rules.specs.declared.refusal.EvalRefusal.{EvalRefusal}
 use Rattle.fv_rules.specs.declared.value.Value as code_value
 use Rattle.fv_rules.specs.declared.value.Value.TheVariants as value
@@ -44,7 +44,8 @@ pub diagram_completes : (p : Parsed) (m n : code_machine.Machine) (r : Result co
     (at : ℕ) (js : List ℕ) → js ≡ []
     → Feeds p m n r i (drop at us) js → Completes p m n r app (value.Diagram i) us at
 diagram_completes p m n r app i us at js e go s f ys (Flat d) a more t h k g =
-    let none : AllDraw (world p m) js [] = subst (λ (xs : List ℕ). AllDraw (world p m) xs []) (sym e) (All-nil (λ j. j < count_of m.drawing), refl) in
+    let none : AllDraw (world p m) js [] = subst (λ (xs : List ℕ). AllDraw (world p m) xs []) (sym e)
+    (All-nil (λ j. j < count_of m.drawing.diagrams), refl) in
     go d (a ∷ more) [] h g none
 diagram_completes p m n r app i us at js e go s f ys v a more t h k g = absurd h
 
@@ -90,13 +91,16 @@ all_shown p m n i u us all orders pushed a T h k =
     (values_push (world p m) us (in_order T []) u a (orders (world p m) T refl h) k))
 
 pub taken_drawn : (p : Parsed) (m : code_machine.Machine) (n i : ℕ) (u : code_value.Value) (us all : List code_value.Value)
-    → Orders m.scopes n i us → all ≡ us ++ u ∷ [] → (T : Taken) × ShowsTaken (world p m) n i T → IsShown (world p m) u → All (IsDrawn m.drawing) all
+    → Orders m.scopes n i us → all ≡ us ++ u ∷ [] → (T : Taken) × ShowsTaken (world p m) n i T → IsShown (world p m) u
+    → All (IsDrawn m.drawing.diagrams) all
 taken_drawn p m n i u us all orders pushed T a =
     values_drawn (world p m) all (in_order (And a.0 T.0) []) (all_shown p m n i u us all orders pushed a.0 T.0 T.1 a.1)
 
 -- the choice is the one among the rules
-pub choice_shows : (p : Parsed) (m : code_machine.Machine) (d : Arena) (r : Ruled) (n i : ℕ) (u : code_value.Value) (us all : List code_value.Value)
-    (o : Option (TreeId × List code_binding.Binding)) → Orders m.scopes n i us → all ≡ us ++ u ∷ [] → ChoosesOf p m.drawing d r all o
+pub choice_shows : (p : Parsed) (m : code_machine.Machine) (d : Canvas) (r : Ruled) (n i : ℕ) (u : code_value.Value)
+    (us all : List code_value.Value)
+    (o : Option (TreeId × List code_binding.Binding)) → Orders m.scopes n i us → all ≡ us ++ u ∷ []
+    → ChoosesOf p m.drawing.diagrams d.diagrams r all o
     → Chooses p m (record m { drawing = d }) r n i u o
 choice_shows p m d r n i u us all o orders pushed choice T a h k =
     choice (world p m) (in_order (And a T) []) refl refl (all_shown p m n i u us all orders pushed a T h k)

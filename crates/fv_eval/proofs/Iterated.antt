@@ -8,8 +8,8 @@ use Rattle.fv_parse_grammar.specs.Tree as tree
 use Rattle.fv_parse_grammar.specs.declared.form.Iteration.{Iteration as Repetition}
 use Rattle.fv_parse.specs.Trees.{Parsed, first_named, size_of, text_of, tree_in}
 use Rattle.fv_diagram.specs.Diagram.{Diagram, Constant}
-use Rattle.fv_diagram.specs.Arena.{Arena, count_of, tree_of}
-use Rattle.fv_eval_drawing.specs.Makes.{Draws as IsDrawn, Extends, MakesValue, trees_of}
+use Rattle.fv_diagram.specs.Arena.{count_of, tree_of}
+use Rattle.fv_eval_drawing.specs.Makes.{AddsDiagrams, Canvas, Draws as IsDrawn, Extends, MakesValue, trees_of}
 use Rattle.fv_rules.specs.declared.refusal.EvalRefusal.{EvalRefusal}
 use Rattle.fv_rules.specs.declared.value.Value.TheVariants as value
 use Rattle.fv_rules.specs.declared.value.Scope.TheVariants as scope
@@ -49,7 +49,7 @@ same_body s t q r x y c d a b e = cc
 
 -- the first body comes
 pub count_goes : (p : Parsed) (m n : code_machine.Machine) (r : Result code_focus.Focus EvalRefusal) (a e i left k : ℕ) (is : List ℕ)
-    → Some (pos (suc k)) ≡ number_of (tree_of m.drawing i)
+    → Some (pos (suc k)) ≡ number_of (tree_of m.drawing.diagrams i)
     → left ≡ suc k → is ≡ [] → Repeats p m n r a e left is → Counts p m n r a e i
 count_goes p m n r a e i left k is some count none go s q y c b E d t h g =
     let w = world p m in
@@ -62,7 +62,7 @@ count_goes p m n r a e i left k is some count none go s q y c b E d t h g =
 
 -- the same, where the number is not below 1
 pub count_from : (p : Parsed) (m n : code_machine.Machine) (r : Result code_focus.Focus EvalRefusal) (a e i left : ℕ) (is : List ℕ) (z : ℤ)
-    → Some z ≡ number_of (tree_of m.drawing i)
+    → Some z ≡ number_of (tree_of m.drawing.diagrams i)
     → lt_z z (pos 1) ≡ false → ((k : ℕ) → z ≡ pos (suc k) → left ≡ suc k) → is ≡ [] → Repeats p m n r a e left is → Counts p m n r a e i
 count_from p m n r a e i left is (pos zero) some low count none go = absurd (cc)
 count_from p m n r a e i left is (pos (suc k)) some low count none go = count_goes p m n r a e i left k is some (count k refl) none go
@@ -71,20 +71,23 @@ count_from p m n r a e i left is (negsuc k) some low count none go = absurd (cc)
 -- ---- the bodies
 
 -- all are there
-pub bodies_end : (p : Parsed) (m : code_machine.Machine) (new : Arena) (r : Result ℕ EvalRefusal) (a e t0 y0 : ℕ) (q0 : Repetition) (c0 b0 : Tree) (is : List ℕ)
+pub bodies_end : (p : Parsed) (m : code_machine.Machine) (new : Canvas) (r : Result ℕ EvalRefusal) (a e t0 y0 : ℕ) (q0 : Repetition)
+    (c0 b0 : Tree) (is : List ℕ)
     → tree_in p a ≡ tree.Iteration t0 q0 y0 c0 b0
-    → Extends m.drawing new → MakesValue new (gathered q0 (trees_of m.drawing is)) r → Repeats p m (record m { drawing = new }) (gave r) a e 0 is
+    → Extends m.drawing new → MakesValue m.drawing new (gathered q0 (trees_of m.drawing.diagrams is)) r
+    → Repeats p m (record m { drawing = new }) (gave r) a e 0 is
 bodies_end p m new r a e t0 y0 q0 c0 b0 is node g made q x b E ds h =
     let kind : q0 ≡ q = sym (same_kind h.s t0 q q0 h.n y0 h.count c0 b b0 (sym h.tree.1 ∙ node)) in
-    let made1 = subst (λ (k : Repetition). MakesValue new (gathered k (trees_of m.drawing is)) r) kind made in
-    let made2 = subst (λ (xs : List Diagram). MakesValue new (gathered q xs) r) h.done.1 made1 in
+    let made1 = subst (λ (k : Repetition). MakesValue m.drawing new (gathered k (trees_of m.drawing.diagrams is)) r) kind made in
+    let made2 = subst (λ (xs : List Diagram). MakesValue m.drawing new (gathered q xs) r) h.done.1 made1 in
     made_goes p m new r (gathered q ds) g made2
 
 -- the next one is visited
-pub body_waits : (p : Parsed) (m n : code_machine.Machine) (r : Result code_focus.Focus EvalRefusal) (d : Arena) (s : Environments)
+pub body_waits : (p : Parsed) (m n : code_machine.Machine) (r : Result code_focus.Focus EvalRefusal) (d : Canvas) (s : Environments)
     (a e left left1 inner number name body t0 y0 : ℕ) (q0 : Repetition) (c0 b0 : Tree)
     (index : ℤ) (done : Vec ℕ Global) → tree_in p a ≡ tree.Iteration t0 q0 y0 c0 b0 → left ≡ suc left1 → index ≡ pos (length done.items)
-    → Extends m.drawing d → IsDrawn d number (Constant index) → text_of p.tokens name ≡ text_of p.tokens y0 → first_named p.tokens name ≡ name
+    → AddsDiagrams m.drawing d → IsDrawn d.diagrams number (Constant index) → text_of p.tokens name ≡ text_of p.tokens y0
+    → first_named p.tokens name ≡ name
     → inner ≡ length m.scopes.scopes + 1 → s ≡ with_scope m.scopes (scope.Bound name (value.Diagram number) e)
     → body < size_of p → tree_in p body ≡ b0 → AreIndexed (suc (length done.items)) left1
     → ((F : Continuation) (x : Tree) (E : Env) → ShowsContinuation (world p (record m { drawing = d; scopes = s }))

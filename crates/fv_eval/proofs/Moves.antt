@@ -4,8 +4,8 @@ use Rattle.fv_parse_grammar.specs.Tree.{Tree}
 use Rattle.fv_parse.specs.Trees.{Parsed, tree_in, node_tree}
 use Rattle.fv_parse_tree.specs.declared.node.TreeNode.{TreeNode}
 use Rattle.fv_diagram.specs.Diagram.{Diagram}
-use Rattle.fv_diagram.specs.Arena.{Arena, tree_of}
-use Rattle.fv_eval_drawing.specs.Makes.{Extends, Draws as IsDrawn, MakesValue}
+use Rattle.fv_diagram.specs.Arena.{tree_of}
+use Rattle.fv_eval_drawing.specs.Makes.{AddsDiagrams, Canvas, Extends, Draws as IsDrawn, MakesValue}
 use Rattle.fv_rules.specs.declared.refusal.EvalRefusal.{EvalRefusal}
 use Rattle.fv_rules.specs.declared.value.Value as code_value
 use Rattle.fv_rules.specs.declared.value.Value.TheVariants as value
@@ -13,7 +13,7 @@ use Rattle.fv_rules.specs.declared.value.Scope as code_scope
 use Rattle.fv_rules.specs.Environments.{Environments, with_scope}
 use Rattle.fv_rules.specs.Values.{Value, Flat, Env}
 use Rattle.fv_rules.specs.Steps.{State, Outcome, Eval}
-use Rattle.fv_rules.specs.Shows.{ShowsTree, ShowsValue, ShowsEnv}
+use Rattle.fv_rules.specs.Shows.{Grows, ShowsTree, ShowsValue, ShowsEnv}
 use Rattle.fv_rules.proofs.Grown.{diagrams_come, scope_opens, grows_on}
 use Rattle.fv_eval_machine.specs.Machine.{Continuation, Visit, Give, Config, Running, Ended, given}
 use Rattle.fv_eval.specs.declared.continuation.Focus as code_focus
@@ -36,8 +36,17 @@ pub grew_itself : (p : Parsed) (m : code_machine.Machine) → Grew p m m
 grew_itself p m = record { lists = record { tree = refl; diagrams = λ i d h. h; scopes = λ i x h. h; taken = λ i x h. h }; continuations = refl; state = refl }
 
 -- diagrams were put
-pub drawn_grew : (p : Parsed) (m : code_machine.Machine) (new : Arena) → Extends m.drawing new → Grew p m (record m { drawing = new })
-drawn_grew p m new g = record { lists = diagrams_come (world p m) new g.longer g.trees; continuations = refl; state = refl }
+pub drawn_grows : (p : Parsed) (m : code_machine.Machine) (new : Canvas) → Extends m.drawing new
+    → Grows (world p m) (world p (record m { drawing = new }))
+drawn_grows p m new g = diagrams_come (world p m) new.diagrams g.longer g.trees
+
+-- and the table sum is the same
+pub drawn_grew : (p : Parsed) (m : code_machine.Machine) (new : Canvas) → AddsDiagrams m.drawing new → Grew p m (record m { drawing = new })
+drawn_grew p m new g = record {
+  lists = drawn_grows p m new g.keeps;
+  continuations = refl;
+  state = ap (λ (n : ℕ). record (state_of m) { tables = n }) g.tables;
+}
 
 -- an environment was made
 pub scoped_grew : (p : Parsed) (m : code_machine.Machine) (new : Environments) (x : code_scope.Scope)
@@ -72,23 +81,26 @@ refused p old new e r h Fs k = inr (ap (λ x. Ended (Err x)) (sym h))
 -- ---- what was put is given
 
 -- a diagram that was put
-pub put_goes : (p : Parsed) (m : code_machine.Machine) (new : Arena) (i : ℕ) (o : Eval Value) → Extends m.drawing new → MakesValue new o (Ok i)
+pub put_goes : (p : Parsed) (m : code_machine.Machine) (new : Canvas) (i : ℕ) (o : Eval Value) → Extends m.drawing new
+    → MakesValue m.drawing new o (Ok i)
     → Steps p m (record m { drawing = new }) (Ok (focus.Give (value.Diagram i))) (λ Fs s. given (o s) Fs)
-put_goes p m new i o g h =
-    let n : code_machine.Machine = record m { drawing = new } in
-    let v : Value = Flat (tree_of new i) in
-    let q = steps_on p m n n (Ok (focus.Give (value.Diagram i)))
-    (λ Fs s. Running (Give v) Fs s) (drawn_grew p m new g) (gives p n (value.Diagram i) v (h.0, refl)) in
-    λ Fs k. subst (λ (c : Config). Goes p n (Ok (focus.Give (value.Diagram i))) c) (sym (ap (λ (x : Outcome Value). given x Fs) (h.1 (state_of m)))) (q Fs k)
+put_goes p m new i o g h Fs k = (
+  Flat (tree_of new.diagrams i),
+  Fs,
+  ap (λ (x : Outcome Value). given x Fs) (h.1 (state_of m)),
+  (h.0, refl),
+  continuations_grow (world p m) (world p (record m { drawing = new })) (drawn_grows p m new g) m.continuations Fs k,
+)
 
 -- one that was refused
-pub put_refused : (p : Parsed) (m new : code_machine.Machine) (a : Arena) (e : EvalRefusal) (o : Eval Value)
-    → MakesValue a o (Err e) → Steps p m new (Err e) (λ Fs s. given (o s) Fs)
-put_refused p m new a e o (inl h) Fs k = inl h
-put_refused p m new a e o (inr h) Fs k = inr (ap (λ (x : Outcome Value). given x Fs) (h (state_of m)))
+pub put_refused : (p : Parsed) (m n : code_machine.Machine) (new : Canvas) (e : EvalRefusal) (o : Eval Value)
+    → MakesValue m.drawing new o (Err e) → Steps p m n (Err e) (λ Fs s. given (o s) Fs)
+put_refused p m n new e o (inl h) Fs k = inl h
+put_refused p m n new e o (inr h) Fs k = inr (ap (λ (x : Outcome Value). given x Fs) (h (state_of m)))
 
 -- a leaf that was put
-pub leaf_goes : (p : Parsed) (m : code_machine.Machine) (new : Arena) (i : ℕ) (d : Diagram) → Extends m.drawing new → IsDrawn new i d
+pub leaf_goes : (p : Parsed) (m : code_machine.Machine) (new : Canvas) (i : ℕ) (d : Diagram) → AddsDiagrams m.drawing new
+    → IsDrawn new.diagrams i d
     → Steps p m (record m { drawing = new }) (Ok (focus.Give (value.Diagram i))) (λ Fs s. Running (Give (Flat d)) Fs s)
 leaf_goes p m new i d g h =
     let n : code_machine.Machine = record m { drawing = new } in

@@ -12,15 +12,14 @@ use Rattle.fv_num.specs.declared.op.Op.TheVariants as op
 use Rattle.fv_parse.specs.Trees.{Parsed, text_of}
 use Rattle.fv_diagram.specs.declared.node.Primitive.TheVariants as prim
 use Rattle.fv_diagram.specs.Diagram.{Diagram, Primitive, Constant, Seq}
-use Rattle.fv_diagram.specs.Arena.{Arena, tree_of}
-use Rattle.fv_eval_drawing.specs.Makes.{Draws as IsDrawn, Extends, Makes, MakesValue, trees_of}
+use Rattle.fv_diagram.specs.Arena.{tree_of}
+use Rattle.fv_eval_drawing.specs.Makes.{Canvas, Extends, Makes, MakesValue, trees_of}
 use Rattle.fv_eval_drawing.proofs.Gathered.{as_value}
 use Rattle.fv_rules.specs.declared.refusal.EvalRefusal.{EvalRefusal}
 use Rattle.fv_rules.specs.declared.value.Value as code_value
 use Rattle.fv_rules.specs.declared.value.Value.TheVariants as value
-use Rattle.fv_rules.specs.Values.{Name, Value, Flat, Abstraction, Rules, Env}
+use Rattle.fv_rules.specs.Values.{Name, Value, Flat, Env}
 use Rattle.fv_diagram_number.specs.Numbers.{number_of}
-use Rattle.fv_rules.specs.Matching.{number_or, settled}
 use Rattle.fv_rules.specs.Steps.{Eval, put}
 use Rattle.fv_rules.specs.Rules.{bind_all, counted, fed, flat, joined, operated, ports}
 use Rattle.fv_rules.specs.Shows.{World, Draws, ShowsTree, ShowsValue, ShowsValues, ShowsEnv}
@@ -38,23 +37,10 @@ use Rattle.fv_eval.proofs.Moves.{gives, put_goes, put_refused}
 use Rattle.fv_eval.proofs.Places.{drop_at_end, drop_at_get, drop_behind}
 use Rattle.fv_eval.proofs.There.{draws_push, first_left}
 
--- ---- a settled value
-
-pub stays_settled : (w : World) (u : code_value.Value) (v : Value) → ((i : ℕ) → u ≡ value.Diagram i → ⊥) → ShowsValue w u v → ShowsValue w u (settled v)
-stays_settled w (value.Diagram i) v n h = absurd (n i refl)
-stays_settled w (value.Abstraction f k e) (Abstraction x xs b E) n h = h
-stays_settled w (value.Rules r e k i) (Rules s rs E T) n h = h
-stays_settled w u v n h = absurd h
-
-pub settled_shows : (p : Parsed) (m : code_machine.Machine) (new : Arena) (i j : ℕ) (v : Value)
-    → IsDrawn new j (number_or (number_of (tree_of m.drawing i)) (tree_of m.drawing i))
-    → ShowsValue (world p m) (value.Diagram i) v → ShowsValue (world p (record m { drawing = new })) (value.Diagram j) (settled v)
-settled_shows p m new i j (Flat d) g h = (g.inside, g.is ∙ ap (λ (x : Diagram). number_or (number_of x) x) h.1)
-settled_shows p m new i j v g h = absurd h
-
 -- ---- what was put
 
-pub made_goes : (p : Parsed) (m : code_machine.Machine) (new : Arena) (r : Result ℕ EvalRefusal) (o : Eval Value) → Extends m.drawing new → MakesValue new o r
+pub made_goes : (p : Parsed) (m : code_machine.Machine) (new : Canvas) (r : Result ℕ EvalRefusal) (o : Eval Value) → Extends m.drawing new
+    → MakesValue m.drawing new o r
     → Steps p m (record m { drawing = new }) (gave r) (λ Fs s. given (o s) Fs)
 made_goes p m new (Ok i) o g h = put_goes p m new i o g h
 made_goes p m new (Err e) o g h = put_refused p m (record m { drawing = new }) new e o h
@@ -73,36 +59,44 @@ pub left_receives : (p : Parsed) (m n : code_machine.Machine) (r : Result code_f
 left_receives p m n r b e i go (Left o y E) d h k = go h.0 o h.1 y E d h.2 h.3 k
 left_receives p m n r b e i go F d h k = absurd h
 
-pub right_receives : (p : Parsed) (m : code_machine.Machine) (new : Arena) (r : Result ℕ EvalRefusal) (o : Operator) (left i : ℕ) → Extends m.drawing new
-    → Makes new (joined o (tree_of m.drawing left) (tree_of m.drawing i)) r → Receives p m (record m { drawing = new }) (gave r) (drawn.Right o left) i
+pub right_receives : (p : Parsed) (m : code_machine.Machine) (new : Canvas) (r : Result ℕ EvalRefusal) (o : Operator) (left i : ℕ)
+    → Extends m.drawing new
+    → Makes m.drawing new (joined o (tree_of m.drawing.diagrams left) (tree_of m.drawing.diagrams i)) r
+    → Receives p m (record m { drawing = new }) (gave r) (drawn.Right o left) i
 right_receives p m new r o left i g h (Right q a) d k e =
-    let h0 = subst (λ (x : Operator). Makes new (joined x (tree_of m.drawing left) (tree_of m.drawing i)) r) k.0 h in
-    let h1 = subst (λ (x : Diagram). Makes new (joined q x (tree_of m.drawing i)) r) k.1.1 h0 in
-    let h2 = subst (λ (x : Diagram). Makes new (joined q a x) r) e.1 h1 in
-    made_goes p m new r (flat (joined q a d)) g (as_value new (joined q a d) r h2)
+    let h0 = subst (λ (x : Operator). Makes m.drawing new
+    (joined x (tree_of m.drawing.diagrams left) (tree_of m.drawing.diagrams i)) r) k.0 h in
+    let h1 = subst (λ (x : Diagram). Makes m.drawing new (joined q x (tree_of m.drawing.diagrams i)) r) k.1.1 h0 in
+    let h2 = subst (λ (x : Diagram). Makes m.drawing new (joined q a x) r) e.1 h1 in
+    made_goes p m new r (flat (joined q a d)) g (as_value m.drawing new (joined q a d) r h2)
 right_receives p m new r o left i g h F d k e = absurd k
 
-pub later_receives : (p : Parsed) (m : code_machine.Machine) (new : Arena) (r : Result ℕ EvalRefusal) (i : ℕ) → Extends m.drawing new
-    → Makes new (put (Seq (tree_of m.drawing i) (Primitive prim.Mem))) r → Receives p m (record m { drawing = new }) (gave r) drawn.Later i
+pub later_receives : (p : Parsed) (m : code_machine.Machine) (new : Canvas) (r : Result ℕ EvalRefusal) (i : ℕ) → Extends m.drawing new
+    → Makes m.drawing new (put (Seq (tree_of m.drawing.diagrams i) (Primitive prim.Mem))) r
+    → Receives p m (record m { drawing = new }) (gave r) drawn.Later i
 later_receives p m new r i g h Later d k e =
-    let h1 = subst (λ (x : Diagram). Makes new (put (Seq x (Primitive prim.Mem))) r) e.1 h in
-    made_goes p m new r (flat (put (Seq d (Primitive prim.Mem)))) g (as_value new (put (Seq d (Primitive prim.Mem))) r h1)
+    let h1 = subst (λ (x : Diagram). Makes m.drawing new (put (Seq x (Primitive prim.Mem))) r) e.1 h in
+    made_goes p m new r (flat (put (Seq d (Primitive prim.Mem)))) g (as_value m.drawing new (put (Seq d (Primitive prim.Mem))) r h1)
 later_receives p m new r i g h F d k e = absurd k
 
-pub negated_receives : (p : Parsed) (m : code_machine.Machine) (new : Arena) (r : Result ℕ EvalRefusal) (i : ℕ) → Extends m.drawing new
-    → Makes new (operated (prim.Point op.Sub) (Constant (pos 0)) (tree_of m.drawing i)) r → Receives p m (record m { drawing = new }) (gave r) drawn.Negated i
+pub negated_receives : (p : Parsed) (m : code_machine.Machine) (new : Canvas) (r : Result ℕ EvalRefusal) (i : ℕ) → Extends m.drawing new
+    → Makes m.drawing new (operated (prim.Point op.Sub) (Constant (pos 0)) (tree_of m.drawing.diagrams i)) r
+    → Receives p m (record m { drawing = new }) (gave r) drawn.Negated i
 negated_receives p m new r i g h Negated d k e =
-    let h1 = subst (λ (x : Diagram). Makes new (operated (prim.Point op.Sub) (Constant (pos 0)) x) r) e.1 h in
-    made_goes p m new r (flat (operated (prim.Point op.Sub) (Constant (pos 0)) d)) g (as_value new (operated (prim.Point op.Sub) (Constant (pos 0)) d) r h1)
+    let h1 = subst (λ (x : Diagram). Makes m.drawing new (operated (prim.Point op.Sub) (Constant (pos 0)) x) r) e.1 h in
+    made_goes p m new r (flat (operated (prim.Point op.Sub) (Constant (pos 0)) d)) g
+    (as_value m.drawing new (operated (prim.Point op.Sub) (Constant (pos 0)) d) r h1)
 negated_receives p m new r i g h F d k e = absurd k
 
-pub binding_receives : (p : Parsed) (m : code_machine.Machine) (new : Arena) (r : Result ℕ EvalRefusal) (slot slots i : ℕ) → Extends m.drawing new
-    → Makes new (bind_all slot slots (tree_of m.drawing i)) r → Receives p m (record m { drawing = new }) (gave r) (drawn.Binding slot slots) i
+pub binding_receives : (p : Parsed) (m : code_machine.Machine) (new : Canvas) (r : Result ℕ EvalRefusal) (slot slots i : ℕ)
+    → Extends m.drawing new
+    → Makes m.drawing new (bind_all slot slots (tree_of m.drawing.diagrams i)) r
+    → Receives p m (record m { drawing = new }) (gave r) (drawn.Binding slot slots) i
 binding_receives p m new r slot slots i g h (Binding t n) d k e =
-    let h0 = subst (λ (x : ℕ). Makes new (bind_all x slots (tree_of m.drawing i)) r) k.0 h in
-    let h1 = subst (λ (x : ℕ). Makes new (bind_all t x (tree_of m.drawing i)) r) k.1 h0 in
-    let h2 = subst (λ (x : Diagram). Makes new (bind_all t n x) r) e.1 h1 in
-    made_goes p m new r (flat (bind_all t n d)) g (as_value new (bind_all t n d) r h2)
+    let h0 = subst (λ (x : ℕ). Makes m.drawing new (bind_all x slots (tree_of m.drawing.diagrams i)) r) k.0 h in
+    let h1 = subst (λ (x : ℕ). Makes m.drawing new (bind_all t x (tree_of m.drawing.diagrams i)) r) k.1 h0 in
+    let h2 = subst (λ (x : Diagram). Makes m.drawing new (bind_all t n x) r) e.1 h1 in
+    made_goes p m new r (flat (bind_all t n d)) g (as_value m.drawing new (bind_all t n d) r h2)
 binding_receives p m new r slot slots i g h F d k e = absurd k
 
 pub ports_receives : (p : Parsed) (m n : code_machine.Machine) (r : Result code_focus.Focus EvalRefusal) (side : Side) (i : ℕ)
@@ -188,12 +182,14 @@ next_turns p m fs f at next us is u got one pushed d (v ∷ more) ds h k g Fs ke
 
 -- all are turned, and the diagram is fed with them
 pub feeds_all : (p : Parsed) (m : code_machine.Machine)
-    (new : Arena) (r : Result ℕ EvalRefusal) (res : Result code_focus.Focus EvalRefusal) (f at : ℕ) (us : List code_value.Value) (is : List ℕ)
-    → slice_get us at ≡ None → Extends m.drawing new → MakesValue new (fed (tree_of m.drawing f) (trees_of m.drawing is)) r → res ≡ gave r
+    (new : Canvas) (r : Result ℕ EvalRefusal) (res : Result code_focus.Focus EvalRefusal) (f at : ℕ) (us : List code_value.Value)
+    (is : List ℕ)
+    → slice_get us at ≡ None → Extends m.drawing new
+    → MakesValue m.drawing new (fed (tree_of m.drawing.diagrams f) (trees_of m.drawing.diagrams is)) r → res ≡ gave r
     → Feeds p m (record m { drawing = new }) res f (drop at us) is
 feeds_all p m new r res f at us is none g made res_is d [] ds h k shown =
-    let made1 = subst (λ (x : Diagram). MakesValue new (fed x (trees_of m.drawing is)) r) h.1 made in
-    let made2 = subst (λ (xs : List Diagram). MakesValue new (fed d xs) r) shown.1 made1 in
+    let made1 = subst (λ (x : Diagram). MakesValue m.drawing new (fed x (trees_of m.drawing.diagrams is)) r) h.1 made in
+    let made2 = subst (λ (xs : List Diagram). MakesValue m.drawing new (fed d xs) r) shown.1 made1 in
     subst (λ (x : Result code_focus.Focus EvalRefusal). Steps p m (record m { drawing = new }) x (λ Fs s. next_turned d [] ds Fs s))
     (sym res_is) (made_goes p m new r (fed d ds) g made2)
 feeds_all p m new r res f at us is none g made res_is d (v ∷ more) ds h k shown = let ended = drop_at_end us at none in let here = k.2 in absurd (cc)

@@ -53,15 +53,15 @@ finished_err (Err q) r e = let h : q ≡ r = cc in ap Err h
 
 -- a run that is done has the program's diagram and its controls
 pub done : (p : Parsed) (m : code_machine.Machine) (i : ℕ) → StartsMean → Ends p m (Ok (value.Diagram i)) (whole p.tokens (program_of p))
-    → (i < count_of m.drawing) × (program_value p.tokens (program_of p) ≡ Ok (tree_of m.drawing i, m.controls))
+    → (i < count_of m.drawing.diagrams) × (program_value p.tokens (program_of p) ≡ Ok (tree_of m.drawing.diagrams i, m.controls))
 done p m i mean h = shown h.0 (sym (mean p.tokens (program_of p) start) ∙ h.1) h.2
   where
     shown : (v : Value) → flat (of_process p.tokens (program_of p)) start ≡ Ok (v, state_of m) → ShowsValue (world p m) (value.Diagram i) v
-        → (i < count_of m.drawing) × (program_value p.tokens (program_of p) ≡ Ok (tree_of m.drawing i, m.controls))
+        → (i < count_of m.drawing.diagrams) × (program_value p.tokens (program_of p) ≡ Ok (tree_of m.drawing.diagrams i, m.controls))
     shown (Flat d) e k = (
       k.0,
       finished_ok (of_process p.tokens (program_of p) start)
-          (tree_of m.drawing i) (state_of m) (e ∙ ap (λ (x : Diagram). Ok (Flat x, state_of m)) (sym k.1)),
+          (tree_of m.drawing.diagrams i) (state_of m) (e ∙ ap (λ (x : Diagram). Ok (Flat x, state_of m)) (sym k.1)),
     )
     shown v e k = absurd k
 
@@ -110,7 +110,7 @@ goes_on p m n f r o mean goes h = (step p.tokens h.0, goes h.0 h.1, mean p.token
 
 -- a new machine to which its first environment and its first continuation were added
 pub starts : (p : Parsed) (m : code_machine.Machine) (s : Environments) (fs : List code_continuation.Continuation) (root name env : ℕ)
-    → (m.drawing ≡ empty_arena) × (m.scopes ≡ record { scopes = []; taken = [] }) × (m.continuations ≡ []) × (state_of m ≡ start)
+    → (m.drawing.diagrams ≡ empty_arena) × (m.scopes ≡ record { scopes = []; taken = [] }) × (m.continuations ≡ []) × (state_of m ≡ start)
     → (env ≡ length m.scopes.scopes + 1) × (s ≡ with_scope m.scopes (scope.Definitions root 0))
     → fs ≡ m.continuations ++ continuation.Drawn drawn.Finish ∷ [] → root ≡ p.root
     → root < size_of p → (text_of p.tokens name ≡ codes "process") × (first_named p.tokens name ≡ name)

@@ -5,8 +5,7 @@ use Rattle.std.specs.Prelude.{slice_get}
 use Rattle.std.proofs.Math.Seq.{drop-cons}
 use Rattle.fv_parse.specs.Trees.{Parsed, size_of, tree_in}
 use Rattle.fv_diagram.specs.Diagram.{Slot}
-use Rattle.fv_diagram.specs.Arena.{Arena}
-use Rattle.fv_eval_drawing.specs.Makes.{Draws as IsDrawn, Extends}
+use Rattle.fv_eval_drawing.specs.Makes.{AddsDiagrams, Canvas, Draws as IsDrawn}
 use Rattle.fv_rules.specs.declared.refusal.EvalRefusal.{EvalRefusal}
 use Rattle.fv_rules.specs.declared.value.Value.TheVariants as value
 use Rattle.fv_rules.specs.declared.value.Ruled.{Ruled}
@@ -47,17 +46,17 @@ pub record Binds (p : Parsed) (m0 m : code_machine.Machine) (names : List Name) 
 -- ---- one parameter
 
 -- the machine after one
-abbrev pub with_slot : code_machine.Machine → Arena → Environments → ℕ → code_machine.Machine
+abbrev pub with_slot : code_machine.Machine → Canvas → Environments → ℕ → code_machine.Machine
 with_slot m d s next = record m { drawing = d; scopes = s; slot = next }
 
-slot_grew : (p : Parsed) (m : code_machine.Machine) (d : Arena) (s : Environments) (name slot inner : ℕ) → Extends m.drawing d
+slot_grew : (p : Parsed) (m : code_machine.Machine) (d : Canvas) (s : Environments) (name slot inner : ℕ) → AddsDiagrams m.drawing d
     → s ≡ with_scope m.scopes (scope.Bound name (value.Diagram slot) inner)
     → Grew p m (record m { drawing = d; scopes = s })
 slot_grew p m d s name slot inner g is =
     let m1 : code_machine.Machine = record m { drawing = d } in
     grew_on p m m1 (record m { drawing = d; scopes = s }) (drawn_grew p m d g) (scoped_grew p m1 s (scope.Bound name (value.Diagram slot) inner) is)
 
-one_slot : (p : Parsed) (m0 m : code_machine.Machine) (d : Arena) (s : Environments) (bound i i1 next : ℕ)
+one_slot : (p : Parsed) (m0 m : code_machine.Machine) (d : Canvas) (s : Environments) (bound i i1 next : ℕ)
     → Grew p m (record m { drawing = d; scopes = s }) → Slots p m0 m (i - bound) → bound ≤ i
     → i1 ≡ i + 1 → next ≡ m.slot + 1 → Slots p m0 (with_slot m d s next) (i1 - bound)
 one_slot p m0 m d s bound i i1 next g h low one more =
@@ -66,13 +65,15 @@ one_slot p m0 m d s bound i i1 next g h low one more =
     record {
       lists = grows_on (world p m0) (world p m) (world p (with_slot m d s next)) h.lists g.lists;
       continuations = g.continuations ∙ h.continuations;
-      state = ap (λ (t : State). record t { slot = next }) h.state ∙ ap (λ (k : ℕ). record (state_of m0) { slot = k }) e;
+      state = ap (λ (t : State). record t { slot = next }) (g.state ∙ h.state) ∙ ap (λ (k : ℕ). record (state_of m0) { slot = k }) e;
     }
 
-one_inner : (p : Parsed) (m : code_machine.Machine) (d : Arena) (s : Environments) (f i i1 next name slot inner e1 slot0 : ℕ) (all : List Name) (E0 : Env)
+one_inner : (p : Parsed) (m : code_machine.Machine) (d : Canvas) (s : Environments) (f i i1 next name slot inner e1 slot0 : ℕ)
+    (all : List Name) (E0 : Env)
     → (0 < length (parameters_in p.tokens (tree_in p f)) → ShowsName p.tokens (Some name) (slice_get (parameters_in p.tokens (tree_in p f)) i))
-    → Extends m.drawing d
-    → IsDrawn d slot (Slot m.slot) → e1 ≡ length m.scopes.scopes + 1 → s ≡ with_scope m.scopes (scope.Bound name (value.Diagram slot) inner)
+    → AddsDiagrams m.drawing d
+    → IsDrawn d.diagrams slot (Slot m.slot) → e1 ≡ length m.scopes.scopes + 1
+    → s ≡ with_scope m.scopes (scope.Bound name (value.Diagram slot) inner)
     → i < length (parameters_in p.tokens (tree_in p f))
     → i1 ≡ i + 1 → next ≡ m.slot + 1 → Inner p m inner (drop i (parameters_in p.tokens (tree_in p f))) all slot0 E0
     → Inner p (with_slot m d s next) e1 (drop i1 (parameters_in p.tokens (tree_in p f))) all slot0 E0
@@ -95,11 +96,13 @@ one_inner p m d s f i i1 next name slot inner e1 slot0 all E0 named g drawn plac
           ∙ ap (λ (xs : List Name). on_slots xs m.slot h.E) (sym rest) ∙ h.same;
     }
 
-pub binds_on : (p : Parsed) (m0 m : code_machine.Machine) (d : Arena) (s : Environments) (f bound i i1 count env inner e1 next name slot : ℕ)
+pub binds_on : (p : Parsed) (m0 m : code_machine.Machine) (d : Canvas) (s : Environments)
+    (f bound i i1 count env inner e1 next name slot : ℕ)
     → Binds p m0 m (parameters_in p.tokens (tree_in p f)) bound i count env inner → bound ≤ i → i < count
     → (0 < length (parameters_in p.tokens (tree_in p f)) → ShowsName p.tokens (Some name) (slice_get (parameters_in p.tokens (tree_in p f)) i))
-    → Extends m.drawing d
-    → IsDrawn d slot (Slot m.slot) → e1 ≡ length m.scopes.scopes + 1 → s ≡ with_scope m.scopes (scope.Bound name (value.Diagram slot) inner)
+    → AddsDiagrams m.drawing d
+    → IsDrawn d.diagrams slot (Slot m.slot) → e1 ≡ length m.scopes.scopes + 1
+    → s ≡ with_scope m.scopes (scope.Bound name (value.Diagram slot) inner)
     → i1 ≡ i + 1 → next ≡ m.slot + 1 → Binds p m0 (with_slot m d s next) (parameters_in p.tokens (tree_in p f)) bound i1 count env e1
 binds_on p m0 m d s f bound i i1 count env inner e1 next name slot inv low below named g drawn place is one more = record {
   slots = one_slot p m0 m d s bound i i1 next (slot_grew p m d s name slot inner g is) inv.slots low one more;

@@ -45,7 +45,7 @@ impl Machine {
 
     // A value with a number as that integer.
     fn settle(&mut self, value: Value) -> Result<Value, AllocError>
-        requires { IsDrawn self.old.drawing value }
+        requires { IsDrawn self.old.drawing.diagrams value }
         ensures grew { (p : Parsed) → Grew p self.old self.new }
         ensures shows { IfOk result (λ u. (p : Parsed) (v : Meant) → ShowsValue (world p self.old) value v → ShowsValue (world p self.new) u (settled v)) }
     {
@@ -102,7 +102,7 @@ impl Machine {
         diagram: DiagramId,
     ) -> Result<Focus, EvalRefusal>
         requires continuation { DrawnThere (world text.now self.old) continuation }
-        requires diagram { diagram < count_of self.old.drawing }
+        requires diagram { diagram < count_of self.old.drawing.diagrams }
         ensures { (F : Drawing) (d : Diagram) → ShowsForDiagram (world text.now self.old) continuation F → Draws (world text.now self.old) diagram d
             → Steps text.now self.old self.new result (λ Fs s. diagram_arrives text.now.tokens F d Fs s) }
     {
@@ -166,7 +166,7 @@ impl Machine {
 
     // The number of a diagram's inputs or outputs.
     fn ports(&mut self, side: Side, diagram: DiagramId) -> Result<Focus, EvalRefusal>
-        requires { diagram < count_of self.old.drawing }
+        requires { diagram < count_of self.old.drawing.diagrams }
         ensures { (p : Parsed) (d : Diagram) → Draws (world p self.old) diagram d
             → Steps p self.old self.new result (λ Fs s. Running (Give (Flat (ports side d))) Fs s) }
     {

@@ -34,7 +34,7 @@ impl Machine {
     ) -> Result<Focus, EvalRefusal>
         requires iteration { iteration < size_of text.now }
         requires form { IsIteration (tree_in text.now iteration) }
-        requires diagram { diagram < count_of self.old.drawing }
+        requires diagram { diagram < count_of self.old.drawing.diagrams }
         ensures { (s : ℕ) (r : Repetition) (n : ℕ) (c b : Spelled) (E : Env) (d : Diagram) → ShowsTree (world text.now self.old) iteration (Iteration s r n c b)
             → ShowsEnv (world text.now self.old) env E → Draws (world text.now self.old) diagram d
             → Steps text.now self.old self.new result
@@ -67,7 +67,7 @@ impl Machine {
     ) -> Result<Focus, EvalRefusal>
         requires iteration { iteration < size_of text.now }
         requires form { IsIteration (tree_in text.now iteration) }
-        requires done { AreThere self.old.drawing done.items }
+        requires done { AreThere self.old.drawing.diagrams done.items }
         requires indexed { AreIndexed (length done.items) left }
         ensures { (r : Repetition) (x : Name) (b : Spelled) (E : Env) (ds : List Diagram)
             → ShowsBodies (world text.now self.old) iteration env done.items r x b E ds

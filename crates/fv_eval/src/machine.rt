@@ -35,8 +35,8 @@ pub struct Machine {
 impl Machine {
     /// A machine with so many visits, in which nothing waits.
     pub fn new(alloc: Global, visits: u32) -> Machine
-        ensures { (result.drawing ≡ empty_arena) × (result.scopes ≡ record { scopes = []; taken = [] })
-            × (result.continuations ≡ []) × (state_of result ≡ record { visits = visits; controls = []; slot = 0 }) }
+        ensures { (result.drawing.diagrams ≡ empty_arena) × (result.scopes ≡ record { scopes = []; taken = [] })
+            × (result.continuations ≡ []) × (state_of result ≡ record { visits = visits; controls = []; slot = 0; tables = 0 }) }
     {
         Machine {
             alloc,

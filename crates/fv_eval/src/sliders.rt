@@ -145,7 +145,7 @@ impl Machine {
 
     // The number of a value; `None` where it has none.
     fn number_in(&mut self, value: Value) -> Result<Option<i32>, AllocError>
-        requires { IsDrawn self.old.drawing value }
+        requires { IsDrawn self.old.drawing.diagrams value }
         ensures number { IfOk result (λ o. (p : Parsed) (v : Meant) → ShowsValue (world p self.old) value v → o ≡ value_number v) }
         ensures same { self.new ≡ self.old }
     {

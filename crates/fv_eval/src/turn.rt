@@ -94,8 +94,8 @@ impl Machine {
         at: u64,
         done: Vec<DiagramId>,
     ) -> Result<Focus, EvalRefusal>
-        requires function { function < count_of self.old.drawing }
-        requires done { AreThere self.old.drawing done.items }
+        requires function { function < count_of self.old.drawing.diagrams }
+        requires done { AreThere self.old.drawing.diagrams done.items }
         ensures { (p : Parsed) (f : Diagram) (vs : List Meant) (ds : List Diagram) → Draws (world p self.old) function f
             → ShowsValues (world p self.old) (drop at arguments.items) vs
             → AllDraw (world p self.old) done.items ds → Steps p self.old self.new result (λ Fs s. next_turned f vs ds Fs s) }

@@ -104,8 +104,10 @@ fn started(alloc: Global, tree: &Tree, name: u64) -> Result<(Machine, Focus), Al
 // The program of a machine that is done.
 fn finished(machine: Machine, value: Value) -> Result<Program, EvalRefusal>
     requires flat { (i : ℕ) × (value ≡ Diagram i) }
-    requires sound { (i : ℕ) → value ≡ Diagram i → (i < count_of machine.drawing) × IsSoundProgram (tree_of machine.drawing i) machine.controls }
-    ensures program { IfOk result (λ p. (value ≡ Diagram p.root) × (p.diagrams ≡ machine.drawing) × (p.controls ≡ machine.controls)) }
+    requires sound { (i : ℕ) → value ≡ Diagram i
+        → (i < count_of machine.drawing.diagrams) × IsSoundProgram (tree_of machine.drawing.diagrams i) machine.controls }
+    ensures program { IfOk result
+        (λ p. (value ≡ Diagram p.root) × (p.diagrams ≡ machine.drawing.diagrams) × (p.controls ≡ machine.controls)) }
     ensures refusal { IfErr result (λ e. e ≡ NoMemory) }
     ensures numbers { IfOk result (λ p. HasNumbers (tree_of p.diagrams p.root)) }
 {

@@ -2,7 +2,8 @@
 use Rattle.std.proofs.Common.{inl, inr, ◌≡◌, ◌⊎◌, Ok, Err, refl, ap, ◌∙◌}
 use Rattle.fv_rules.specs.declared.refusal.EvalRefusal.{EvalRefusal}
 use Rattle.fv_rules.specs.declared.refusal.EvalRefusal.TheVariants.{NoMemory}
-use Rattle.fv_rules.specs.Steps.{State, Outcome, Eval, after, ◌>>=◌, give}
+use Rattle.fv_rules.specs.Steps.{State, Outcome, Eval, after, ◌>>=◌, give, refuse}
+use Rattle.fv_eval_drawing.specs.Makes.{Becomes, Canvas}
 
 -- how evaluations one after another group
 pub after_after : {A B C : Type 0} (r : Outcome A) (f : A → Eval B) (g : B → Eval C) → after (after r f) g ≡ after r (λ x. f x >>= g)
@@ -19,12 +20,13 @@ after_give (Ok x) = refl
 after_give (Err r) = refl
 
 -- where the first part gives a result, the rest goes on with it
-pub given_then : {A B : Type 0} (m : Eval A) (x : A) (whole : Eval B) (f : A → Eval B)
-    → ((s : State) → whole s ≡ after (m s) f) → ((s : State) → m s ≡ Ok (x, s)) → (s : State) → whole s ≡ f x s
-given_then m x whole f w h s = w s ∙ ap (λ o. after o f) (h s)
+pub given_then : {A B : Type 0} (a b c : Canvas) (m : Eval A) (x : A) (whole : Eval B) (f : A → Eval B)
+    → Becomes a b whole (m >>= f) → Becomes b c m (give x) → Becomes a c whole (f x)
+given_then a b c m x whole f w h s = w s ∙ ap (λ o. after o f) (h s)
 
 -- where it refuses, so does the whole
-pub refused_then : {A B : Type 0} (e : EvalRefusal) (m : Eval A) (whole : Eval B) (f : A → Eval B) → ((s : State) → whole s ≡ after (m s) f)
-    → (e ≡ NoMemory) ⊎ ((s : State) → m s ≡ Err e) → (e ≡ NoMemory) ⊎ ((s : State) → whole s ≡ Err e)
-refused_then e m whole f w (inl h) = inl h
-refused_then e m whole f w (inr h) = inr (λ s. w s ∙ ap (λ o. after o f) (h s))
+pub refused_then : {A B : Type 0} (a b c : Canvas) (e : EvalRefusal) (m : Eval A) (whole : Eval B) (f : A → Eval B)
+    → Becomes a b whole (m >>= f)
+    → (e ≡ NoMemory) ⊎ Becomes b c m (refuse e) → (e ≡ NoMemory) ⊎ Becomes a c whole (refuse e)
+refused_then a b c e m whole f w (inl h) = inl h
+refused_then a b c e m whole f w (inr h) = inr (λ s. w s ∙ ap (λ o. after o f) (h s))

@@ -3,7 +3,7 @@ use Rattle.std.proofs.Common.{◌≡◌, ℕ, ◌<◌, ◌≤◌, Bool, true, fa
 use Rattle.std.specs.Prelude.{nat_lt, ◌==◌}
 use Rattle.std.proofs.lemmas.Bool.{ltb-true}
 use Rattle.fv_diagram.specs.Arena.{Arena, count_of, tree_of}
-use Rattle.fv_eval_drawing.specs.Makes.{Extends, trees_of}
+use Rattle.fv_eval_drawing.specs.Makes.{Canvas, Extends, trees_of}
 
 not_true : (b : Bool) → (b ≡ true → ⊥) → b ≡ false
 not_true true n = absurd (n refl)
@@ -21,5 +21,6 @@ pub none_of : (a : Arena) (is : List ℕ) → (length is ≡ 0 → ⊥) → tree
 none_of a [] h e = h refl
 none_of a (i ∷ is) h e = absurd (cc)
 
-pub function_stays : (a b c : Arena) (f : ℕ) → f < count_of a → Extends a b → Extends b c → tree_of c f ≡ tree_of a f
+pub function_stays : (a b c : Canvas) (f : ℕ) → f < count_of a.diagrams → Extends a b → Extends b c
+    → tree_of c.diagrams f ≡ tree_of a.diagrams f
 function_stays a b c f l g h = h.trees f (omega (arith, l, g.longer)) ∙ g.trees f l

@@ -12,47 +12,44 @@ use Rattle.fv_diagram.specs.Arena.{Arena, count_of, tree_of}
 use Rattle.fv_rules.specs.declared.refusal.EvalRefusal.{EvalRefusal}
 use Rattle.fv_rules.specs.declared.refusal.EvalRefusal.TheVariants.{TooManyArguments}
 use Rattle.fv_rules.specs.Values.{Value, Flat}
-use Rattle.fv_rules.specs.Steps.{State, Eval, after, give, put, refuse}
-use Rattle.fv_rules.specs.Rules.{all_outputs, fed, flat, from_right, gathered, led, takes_the_right, wires}
+use Rattle.fv_rules.specs.Steps.{Eval, after, give, put, refuse}
+use Rattle.fv_rules.specs.Rules.{all_outputs, fed, flat, from_right, gathered, led, start, takes_the_right, wires}
 use Rattle.fv_eval_drawing.specs.declared.lists.Link.TheVariants as link
-use Rattle.fv_eval_drawing.specs.Makes.{AreThere, Draws, Extends, Makes, MakesValue, trees_of}
+use Rattle.fv_eval_drawing.specs.Makes.{AreThere, Canvas, Draws, Extends, Makes, MakesValue, trees_of}
 use Rattle.fv_eval_drawing.specs.Lists.{Fills, all_from_left, all_from_right, filled, linked}
 use Rattle.fv_eval_drawing.proofs.Arenas.{there_stays, trees_stay}
 use Rattle.fv_eval_drawing.proofs.Operated.{made_then}
 
-no_state : State
-no_state = record { visits = 0; controls = []; slot = 0 }
-
 -- a diagram as a value
-pub as_value : (a : Arena) (m : Eval Diagram) (r : Result ℕ EvalRefusal) → Makes a m r → MakesValue a (flat m) r
-as_value a m (Ok i) h = (h.0, λ s. ap (λ o. after o (λ d. give (Flat d))) (h.1 s))
-as_value a m (Err e) (inl h) = inl h
-as_value a m (Err e) (inr h) = inr (λ s. ap (λ o. after o (λ d. give (Flat d))) (h s))
+pub as_value : (a b : Canvas) (m : Eval Diagram) (r : Result ℕ EvalRefusal) → Makes a b m r → MakesValue a b (flat m) r
+as_value a b m (Ok i) h = (h.0, λ s. ap (λ o. after o (λ d. give (Flat d))) (h.1 s))
+as_value a b m (Err e) (inl h) = inl h
+as_value a b m (Err e) (inr h) = inr (λ s. ap (λ o. after o (λ d. give (Flat d))) (h s))
 
-refused_value : (a : Arena) (e : EvalRefusal) (r : Result ℕ EvalRefusal) → Makes a (refuse e) r → MakesValue a (refuse e) r
-refused_value a e (Ok i) h = let q = h.1 no_state in absurd (cc)
-refused_value a e (Err x) (inl h) = inl h
-refused_value a e (Err x) (inr h) = inr (λ s. let q = h s in let k : e ≡ x = cc in ap Err k)
+refused_value : (a b : Canvas) (e : EvalRefusal) (r : Result ℕ EvalRefusal) → Makes a b (refuse e) r → MakesValue a b (refuse e) r
+refused_value a b e (Ok i) h = let q = h.1 start in absurd (cc)
+refused_value a b e (Err x) (inl h) = inl h
+refused_value a b e (Err x) (inr h) = inr (λ s. let q = h s in let k : e ≡ x = cc in ap Err k)
 
-pub gathers_parallel : (a : Arena) (ds : List Diagram) (r : Result ℕ EvalRefusal)
-    → Makes a (all_from_right (linked link.Parallel) ds) r → MakesValue a (gathered repetitions.Parallel ds) r
-gathers_parallel a [] r h = refused_value a _ r h
-gathers_parallel a (d ∷ ds) r h = as_value a (from_right Par d ds) r h
+pub gathers_parallel : (a b : Canvas) (ds : List Diagram) (r : Result ℕ EvalRefusal)
+    → Makes a b (all_from_right (linked link.Parallel) ds) r → MakesValue a b (gathered repetitions.Parallel ds) r
+gathers_parallel a b [] r h = refused_value a b _ r h
+gathers_parallel a b (d ∷ ds) r h = as_value a b (from_right Par d ds) r h
 
-pub gathers_sequence : (a : Arena) (ds : List Diagram) (r : Result ℕ EvalRefusal)
-    → Makes a (all_from_right (linked link.Sequence) ds) r → MakesValue a (gathered repetitions.Sequence ds) r
-gathers_sequence a [] r h = refused_value a _ r h
-gathers_sequence a (d ∷ ds) r h = as_value a (from_right Seq d ds) r h
+pub gathers_sequence : (a b : Canvas) (ds : List Diagram) (r : Result ℕ EvalRefusal)
+    → Makes a b (all_from_right (linked link.Sequence) ds) r → MakesValue a b (gathered repetitions.Sequence ds) r
+gathers_sequence a b [] r h = refused_value a b _ r h
+gathers_sequence a b (d ∷ ds) r h = as_value a b (from_right Seq d ds) r h
 
-pub gathers_sum : (a : Arena) (ds : List Diagram) (r : Result ℕ EvalRefusal)
-    → Makes a (all_from_left op.Add ds) r → MakesValue a (gathered repetitions.Sum ds) r
-gathers_sum a [] r h = refused_value a _ r h
-gathers_sum a (d ∷ ds) r h = as_value a (all_from_left op.Add (d ∷ ds)) r h
+pub gathers_sum : (a b : Canvas) (ds : List Diagram) (r : Result ℕ EvalRefusal)
+    → Makes a b (all_from_left op.Add ds) r → MakesValue a b (gathered repetitions.Sum ds) r
+gathers_sum a b [] r h = refused_value a b _ r h
+gathers_sum a b (d ∷ ds) r h = as_value a b (all_from_left op.Add (d ∷ ds)) r h
 
-pub gathers_product : (a : Arena) (ds : List Diagram) (r : Result ℕ EvalRefusal)
-    → Makes a (all_from_left op.Mul ds) r → MakesValue a (gathered repetitions.Product ds) r
-gathers_product a [] r h = refused_value a _ r h
-gathers_product a (d ∷ ds) r h = as_value a (all_from_left op.Mul (d ∷ ds)) r h
+pub gathers_product : (a b : Canvas) (ds : List Diagram) (r : Result ℕ EvalRefusal)
+    → Makes a b (all_from_left op.Mul ds) r → MakesValue a b (gathered repetitions.Product ds) r
+gathers_product a b [] r h = refused_value a b _ r h
+gathers_product a b (d ∷ ds) r h = as_value a b (all_from_left op.Mul (d ∷ ds)) r h
 
 -- ---- what a diagram is fed with
 
@@ -60,23 +57,28 @@ replicated : (a : Arena) (n w : ℕ) (d : Diagram) → tree_of a w ≡ d → tre
 replicated a zero w d e = refl
 replicated a (suc n) w d e = ap₂ (λ (x : Diagram) xs. x ∷ xs) e (replicated a n w d e)
 
-pub fills_right : (a b : Arena) (k w : ℕ) (f : Diagram) (ids all : List ℕ) → Extends a b → Draws b w (Primitive prim.Wire) → AreThere a ids
+pub fills_right : (a b : Canvas) (k w : ℕ) (f : Diagram) (ids all : List ℕ) → Extends a b → Draws b.diagrams w (Primitive prim.Wire)
+    → AreThere a.diagrams ids
     → (takes_the_right f && nat_eq k 1) ≡ true → all ≡ w ∷ ids → Fills a b k f ids all
 fills_right a b k w f ids all g d h c e = record {
-  there = subst (AreThere b) (sym e) (All-cons (λ i. i < count_of b) w ids d.inside (there_stays a b g ids h));
-  trees = ap (trees_of b) e ∙ ap₂ (λ (x : Diagram) xs. x ∷ xs) d.is (trees_stay a b g ids h)
-      ∙ ap (λ (t : Bool). if t then Primitive prim.Wire ∷ trees_of a ids else trees_of a ids ++ wires (inputs f - k)) (sym c);
+  there = subst (AreThere b.diagrams) (sym e) (All-cons (λ i. i < count_of b.diagrams) w ids d.inside (there_stays a b g ids h));
+  trees = ap (trees_of b.diagrams) e ∙ ap₂ (λ (x : Diagram) xs. x ∷ xs) d.is (trees_stay a b g ids h)
+      ∙ ap (λ (t : Bool). if t then Primitive prim.Wire ∷ trees_of a.diagrams ids else trees_of a.diagrams ids ++ wires (inputs f - k))
+      (sym c);
 }
 
-pub fills_left : (a b : Arena) (k n w : ℕ) (f : Diagram) (ids all : List ℕ) → Extends a b → Draws b w (Primitive prim.Wire) → AreThere a ids
+pub fills_left : (a b : Canvas) (k n w : ℕ) (f : Diagram) (ids all : List ℕ) → Extends a b → Draws b.diagrams w (Primitive prim.Wire)
+    → AreThere a.diagrams ids
     → (takes_the_right f && nat_eq k 1) ≡ false → n ≡ inputs f - k → all ≡ ids ++ replicate n w → Fills a b k f ids all
 fills_left a b k n w f ids all g d h c m e = record {
-  there = subst (AreThere b) (sym e)
-      (All-append (λ i. i < count_of b) ids (replicate n w) (there_stays a b g ids h) (All-replicate (λ i. i < count_of b) n w d.inside));
-  trees = ap (trees_of b) e ∙ map-append (tree_of b) ids (replicate n w)
+  there = subst (AreThere b.diagrams) (sym e)
+      (All-append (λ i. i < count_of b.diagrams) ids (replicate n w) (there_stays a b g ids h)
+      (All-replicate (λ i. i < count_of b.diagrams) n w d.inside));
+  trees = ap (trees_of b.diagrams) e ∙ map-append (tree_of b.diagrams) ids (replicate n w)
       ∙ ap₂ (λ (xs ys : List Diagram). xs ++ ys)
-      (trees_stay a b g ids h) (replicated b n w (Primitive prim.Wire) d.is ∙ ap (λ j. replicate j (Primitive prim.Wire)) m)
-      ∙ ap (λ (t : Bool). if t then Primitive prim.Wire ∷ trees_of a ids else trees_of a ids ++ wires (inputs f - k)) (sym c);
+      (trees_stay a b g ids h) (replicated b.diagrams n w (Primitive prim.Wire) d.is ∙ ap (λ j. replicate j (Primitive prim.Wire)) m)
+      ∙ ap (λ (t : Bool). if t then Primitive prim.Wire ∷ trees_of a.diagrams ids else trees_of a.diagrams ids ++ wires (inputs f - k))
+      (sym c);
 }
 
 -- side by side, and then the function
@@ -104,28 +106,30 @@ pub record AreFor (f : Diagram) (k : ℕ) (xs : List Diagram) : Type 0 where
   pub few : nat_lt (inputs f) k ≡ false
   pub some : xs ≡ [] → ⊥
 
-feeds_with : (m : Arena) (f : Diagram) (xs : List Diagram) (r : Result ℕ EvalRefusal) (k : ℕ)
-    → Makes m (feeding f (filled k f xs)) r → AreFor f k xs → MakesValue m (fed f xs) r
-feeds_with m f [] r k h fit = absurd (fit.some refl)
-feeds_with m f (d ∷ ds) r k h fit =
-    let h' : Makes m (feeding f (filled (all_outputs (d ∷ ds)) f (d ∷ ds))) r =
-    subst (λ j. Makes m (feeding f (filled j f (d ∷ ds))) r) fit.given h in
+feeds_with : (a b : Canvas) (f : Diagram) (xs : List Diagram) (r : Result ℕ EvalRefusal) (k : ℕ)
+    → Makes a b (feeding f (filled k f xs)) r → AreFor f k xs → MakesValue a b (fed f xs) r
+feeds_with a b f [] r k h fit = absurd (fit.some refl)
+feeds_with a b f (d ∷ ds) r k h fit =
+    let h' : Makes a b (feeding f (filled (all_outputs (d ∷ ds)) f (d ∷ ds))) r =
+    subst (λ j. Makes a b (feeding f (filled j f (d ∷ ds))) r) fit.given h in
     let l' : nat_lt (inputs f) (all_outputs (d ∷ ds)) ≡ false = subst (λ j. nat_lt (inputs f) j ≡ false) fit.given fit.few in
-    subst (λ (x : Eval Value). MakesValue m x r) (sym (fed_filled f d ds l')) (as_value m (feeding f (filled (all_outputs (d ∷ ds)) f (d ∷ ds))) r h')
+    subst (λ (x : Eval Value). MakesValue a b x r) (sym (fed_filled f d ds l'))
+    (as_value a b (feeding f (filled (all_outputs (d ∷ ds)) f (d ∷ ds))) r h')
 
 -- the inputs were put side by side, and then the function was put behind them
-pub feeds : (b c : Arena) (f : Diagram) (all : ℕ) (r : Result ℕ EvalRefusal) (k : ℕ) (xs ys : List Diagram)
-    → Makes b (all_from_right (linked link.Parallel) ys) (Ok all) → ys ≡ filled k f xs
-    → Makes c (put (Seq (tree_of b all) f)) r → AreFor f k xs → MakesValue c (fed f xs) r
+pub feeds : (a b c : Canvas) (f : Diagram) (all : ℕ) (r : Result ℕ EvalRefusal) (k : ℕ) (xs ys : List Diagram)
+    → Makes a b (all_from_right (linked link.Parallel) ys) (Ok all) → ys ≡ filled k f xs
+    → Makes b c (put (Seq (tree_of b.diagrams all) f)) r → AreFor f k xs → MakesValue a c (fed f xs) r
 unfolding feeding
-feeds b c f all r k xs ys m y p fit =
-    let side : Makes b (all_from_right Par (filled k f xs)) (Ok all) = subst (λ zs. Makes b (all_from_right Par zs) (Ok all)) y m in
-    feeds_with c f xs r k (made_then b c (all_from_right Par (filled k f xs)) (λ d. put (Seq d f)) all (tree_of b all) r side refl p) fit
+feeds a b c f all r k xs ys m y p fit =
+    let side : Makes a b (all_from_right Par (filled k f xs)) (Ok all) = subst (λ zs. Makes a b (all_from_right Par zs) (Ok all)) y m in
+    feeds_with a c f xs r k (made_then a b c (all_from_right Par (filled k f xs)) (λ d. put (Seq d f)) all r side p) fit
 
 -- they were refused
-pub feeds_refused : (b : Arena) (f : Diagram) (x : EvalRefusal) (k : ℕ) (xs ys : List Diagram)
-    → Makes b (all_from_right (linked link.Parallel) ys) (Err x) → ys ≡ filled k f xs → AreFor f k xs → MakesValue b (fed f xs) (Err x)
+pub feeds_refused : (a b : Canvas) (f : Diagram) (x : EvalRefusal) (k : ℕ) (xs ys : List Diagram)
+    → Makes a b (all_from_right (linked link.Parallel) ys) (Err x) → ys ≡ filled k f xs → AreFor f k xs → MakesValue a b (fed f xs) (Err x)
 unfolding feeding
-feeds_refused b f x k xs ys (inl h) y fit = feeds_with b f xs (Err x) k (inl h) fit
-feeds_refused b f x k xs ys (inr h) y fit =
-    feeds_with b f xs (Err x) k (inr (λ s. ap (λ o. after o (λ p. put (Seq p f))) (ap (λ zs. all_from_right Par zs s) (sym y) ∙ h s))) fit
+feeds_refused a b f x k xs ys (inl h) y fit = feeds_with a b f xs (Err x) k (inl h) fit
+feeds_refused a b f x k xs ys (inr h) y fit = feeds_with a b f xs (Err x) k
+    (inr (λ s. ap (λ o. after o (λ p. put (Seq p f)))
+    (ap (λ zs. all_from_right Par zs (record s { tables = a.tables })) (sym y) ∙ h s))) fit

@@ -1,27 +1,32 @@
 -- An operation on two parts.
-use Rattle.std.proofs.Common.{inl, inr, ◌≡◌, ℕ, ◌<◌, Result, Ok, Err, refl, sym, ap, ap₂, subst, ◌∙◌}
+use Rattle.std.proofs.Common.{inl, inr, ◌≡◌, ℕ, ◌<◌, Result, Ok, Err, ap, ap₂, subst, ◌∙◌}
 use Rattle.fv_diagram.specs.declared.node.Primitive.{Primitive as Prim}
 use Rattle.fv_diagram.specs.Diagram.{Diagram, Primitive, Par, Seq}
-use Rattle.fv_diagram.specs.Arena.{Arena, count_of, tree_of}
+use Rattle.fv_diagram.specs.Arena.{count_of, tree_of}
 use Rattle.fv_rules.specs.declared.refusal.EvalRefusal.{EvalRefusal}
-use Rattle.fv_rules.specs.Steps.{Eval, after, put}
+use Rattle.fv_rules.specs.Steps.{Eval, after, ◌>>=◌, put}
 use Rattle.fv_rules.specs.Rules.{operated}
-use Rattle.fv_eval_drawing.specs.Makes.{Draws, Extends, Makes}
+use Rattle.fv_eval_drawing.specs.Makes.{AddsDiagrams, Canvas, Draws, Extends, Makes}
+use Rattle.fv_eval_drawing.proofs.Leaves.{makes_of}
 
 -- A first part was made, and what makes the rest of it makes the whole.
-pub made_then : (a b : Arena) (m : Eval Diagram) (f : Diagram → Eval Diagram) (i : ℕ) (d : Diagram) (r : Result ℕ EvalRefusal)
-    → Makes a m (Ok i) → d ≡ tree_of a i
-    → Makes b (f d) r → Makes b (λ s. after (m s) f) r
-made_then a b m f i d (Ok k) h e q = (q.0, λ s. ap (λ o. after o f) (h.1 s) ∙ ap (λ (x : Diagram). f x s) (sym e) ∙ q.1 s)
-made_then a b m f i d (Err r) h e (inl n) = inl n
-made_then a b m f i d (Err r) h e (inr q) = inr (λ s. ap (λ o. after o f) (h.1 s) ∙ ap (λ (x : Diagram). f x s) (sym e) ∙ q s)
+pub made_then : (a b c : Canvas) (m : Eval Diagram) (f : Diagram → Eval Diagram) (i : ℕ) (r : Result ℕ EvalRefusal)
+    → Makes a b m (Ok i) → Makes b c (f (tree_of b.diagrams i)) r → Makes a c (m >>= f) r
+made_then a b c m f i (Ok k) h q = (q.0, λ s. ap (λ o. after o f) (h.1 s) ∙ q.1 s)
+made_then a b c m f i (Err r) h (inl n) = inl n
+made_then a b c m f i (Err r) h (inr q) = inr (λ s. ap (λ o. after o f) (h.1 s) ∙ q s)
 
-pub operated_makes : (a b c d : Arena) (p : Prim) (left right operation both : ℕ) (r : Result ℕ EvalRefusal) → left < count_of a → right < count_of a
-    → Extends a b → Draws b operation (Primitive p) → Extends b c → Makes c (put (Par (tree_of b left) (tree_of b right))) (Ok both)
-    → Makes d (put (Seq (tree_of c both) (tree_of c operation))) r → Makes d (operated p (tree_of a left) (tree_of a right)) r
+pub operated_makes : (a b c d : Canvas) (p : Prim) (left right operation both : ℕ) (r : Result ℕ EvalRefusal)
+    → left < count_of a.diagrams → right < count_of a.diagrams → AddsDiagrams a b → Draws b.diagrams operation (Primitive p)
+    → Extends b c → Makes b c (put (Par (tree_of b.diagrams left) (tree_of b.diagrams right))) (Ok both)
+    → Makes c d (put (Seq (tree_of c.diagrams both) (tree_of c.diagrams operation))) r
+    → Makes a d (operated p (tree_of a.diagrams left) (tree_of a.diagrams right)) r
 operated_makes a b c d p left right operation both r l q g w k m n =
-    let m' : Makes c (put (Par (tree_of a left) (tree_of a right))) (Ok both) =
-    subst (λ (x : Eval Diagram). Makes c x (Ok both)) (ap₂ (λ (x y : Diagram). put (Par x y)) (g.trees left l) (g.trees right q)) m in
-    let op : tree_of c operation ≡ Primitive p = k.trees operation w.inside ∙ w.is in
-    let n' : Makes d (put (Seq (tree_of c both) (Primitive p))) r = subst (λ (x : Diagram). Makes d (put (Seq (tree_of c both) x)) r) op n in
-    made_then c d (put (Par (tree_of a left) (tree_of a right))) (λ ab. put (Seq ab (Primitive p))) both (tree_of c both) r m' refl n'
+    let pair : Eval Diagram = put (Par (tree_of a.diagrams left) (tree_of a.diagrams right)) in
+    let m' : Makes a c pair (Ok both) =
+    makes_of a b c (put (Par (tree_of b.diagrams left) (tree_of b.diagrams right))) pair (Ok both) g.tables
+    (ap₂ (λ (x y : Diagram). put (Par x y)) (g.keeps.trees left l) (g.keeps.trees right q)) m in
+    let op : tree_of c.diagrams operation ≡ Primitive p = k.trees operation w.inside ∙ w.is in
+    let n' : Makes c d (put (Seq (tree_of c.diagrams both) (Primitive p))) r =
+    subst (λ (x : Diagram). Makes c d (put (Seq (tree_of c.diagrams both) x)) r) op n in
+    made_then a c d pair (λ ab. put (Seq ab (Primitive p))) both r m' n'

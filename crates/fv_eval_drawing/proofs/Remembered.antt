@@ -19,16 +19,16 @@ use Rattle.fv_diagram_number.specs.Numbers.{number_of}
 use Rattle.fv_rules.specs.Memo.{AddsIntegers, IsInteger, IsKnown, Remembers}
 use Rattle.fv_rules.specs.Choosing.{IsSound}
 use Rattle.fv_rules.proofs.Matched.{adds_keeps, adds_longer}
-use Rattle.fv_eval_drawing.specs.Makes.{AreComposed, Draws, Extends, IsThere}
+use Rattle.fv_eval_drawing.specs.Makes.{AreComposed, Canvas, Draws, Extends, IsThere}
 
 -- ---- what is remembered
 
-known_stays : (a b : Arena) (i : ℕ) (k : Known) → Extends a b → IsKnown a i k → IsKnown b i k
+known_stays : (a b : Canvas) (i : ℕ) (k : Known) → Extends a b → IsKnown a.diagrams i k → IsKnown b.diagrams i k
 known_stays a b i known.Unasked g h = h
 known_stays a b i known.Without g h = let l = g.longer in (omega (arith, h.0, l), ap number_of (g.trees i h.0) ∙ h.1)
 known_stays a b i (known.Number n) g h = let l = g.longer in (omega (arith, h.0, l), ap number_of (g.trees i h.0) ∙ h.1)
 
-pub still_remembers : (a b : Arena) (ks : List Known) → Extends a b → Remembers a ks → Remembers b ks
+pub still_remembers : (a b : Canvas) (ks : List Known) → Extends a b → Remembers a.diagrams ks → Remembers b.diagrams ks
 still_remembers a b ks g h i k e = known_stays a b i k g (h i k e)
 
 -- ---- one node more
@@ -59,15 +59,17 @@ pub put_composed : (a b : Arena) (n : Node) (r : Result ℕ EvalRefusal) → Are
 put_composed a b n (Ok i) h c added composed err = subst AreComposed (sym added.1) (one_more a n h (composed (parts_composed a n h c)))
 put_composed a b n (Err e) h c added composed err = subst AreComposed (sym err) h
 
-pub put_extends : (a b : Arena) (n : Node) (r : Result ℕ EvalRefusal) → IfOk r (λ i. (i ≡ count_of a) × (b ≡ with_node a n)) → OnErr r (b ≡ a)
-    → ((i : ℕ) → i < count_of a → tree_of b i ≡ tree_of a i) → Extends a b
-put_extends a b n (Ok i) added err keeps = let e = length_push a.nodes n in record { longer = omega (arith, e, ap count_of added.1); trees = keeps }
+pub put_extends : (a b : Canvas) (n : Node) (r : Result ℕ EvalRefusal)
+    → IfOk r (λ i. (i ≡ count_of a.diagrams) × (b.diagrams ≡ with_node a.diagrams n)) → OnErr r (b.diagrams ≡ a.diagrams)
+    → ((i : ℕ) → i < count_of a.diagrams → tree_of b.diagrams i ≡ tree_of a.diagrams i) → Extends a b
+put_extends a b n (Ok i) added err keeps =
+    let e = length_push a.diagrams.nodes n in record { longer = omega (arith, e, ap count_of added.1); trees = keeps }
 put_extends a b n (Err e) added err keeps = record { longer = omega (arith, ap count_of err); trees = keeps }
 
 -- ---- integers more
 
-pub adds_extends : (a b : Arena) → AddsIntegers a b → Extends a b
-adds_extends a b g = record { longer = adds_longer a b g; trees = adds_keeps a b g }
+pub adds_extends : (a b : Canvas) → AddsIntegers a.diagrams b.diagrams → Extends a b
+adds_extends a b g = record { longer = adds_longer a.diagrams b.diagrams g; trees = adds_keeps a.diagrams b.diagrams g }
 
 integer_composed : (a : Arena) (n : Node) → IsInteger n → IsComposed (tree_with a n)
 integer_composed a (node.Number n) h = tt

@@ -3,11 +3,10 @@ use Rattle.std.specs.Prelude.{◌≡◌, ℕ, ◌-◌, ◌&&◌, nat_eq, List, [
 use Rattle.fv_num.specs.declared.op.Op.{Op}
 use Rattle.fv_diagram.specs.declared.node.Primitive.TheVariants as prim
 use Rattle.fv_diagram.specs.Diagram.{Diagram, Primitive, Par, Seq, inputs}
-use Rattle.fv_diagram.specs.Arena.{Arena}
 use Rattle.fv_rules.specs.declared.refusal.EvalRefusal.TheVariants.{IterationCount}
 use Rattle.fv_rules.specs.Steps.{Eval, refuse}
 use Rattle.fv_rules.specs.Rules.{from_right, from_left, takes_the_right, wires}
-use Rattle.fv_eval_drawing.specs.Makes.{AreThere, trees_of}
+use Rattle.fv_eval_drawing.specs.Makes.{AreThere, Canvas, trees_of}
 use Rattle.fv_eval_drawing.specs.declared.lists.Link.{Link}
 use Rattle.fv_eval_drawing.specs.declared.lists.Link.TheVariants as link
 
@@ -32,6 +31,6 @@ abbrev pub filled : ℕ → Diagram → List Diagram → List Diagram
 filled k f ds = if takes_the_right f && nat_eq k 1 then Primitive prim.Wire ∷ ds else ds ++ wires (inputs f - k)
 
 -- the numbers of what a diagram is fed with, where these are the numbers of its arguments
-pub record Fills (old new : Arena) (k : ℕ) (f : Diagram) (ids all : List ℕ) : Type 0 where
-  pub there : AreThere new all
-  pub trees : trees_of new all ≡ filled k f (trees_of old ids)
+pub record Fills (old new : Canvas) (k : ℕ) (f : Diagram) (ids all : List ℕ) : Type 0 where
+  pub there : AreThere new.diagrams all
+  pub trees : trees_of new.diagrams all ≡ filled k f (trees_of old.diagrams ids)

@@ -1,4 +1,4 @@
--- What putting compositions over an arena of diagrams answers, against what the rules of evaluation give.
+-- What putting compositions over the diagrams of an evaluation answers, against what the rules give (this project's profile).
 use Rattle.std.specs.Prelude.{◌≡◌, ◌⊎◌, ℕ, ◌<◌, ◌≤◌, List, map, All, Result, Ok, Err}
 use Rattle.fv_diagram.specs.declared.node.Node.{Node}
 use Rattle.fv_diagram.specs.declared.node.Node.TheVariants as node
@@ -10,16 +10,26 @@ use Rattle.fv_rules.specs.declared.refusal.EvalRefusal.TheVariants.{NoMemory}
 use Rattle.fv_rules.specs.declared.value.Value as code_value
 use Rattle.fv_rules.specs.declared.value.Value.TheVariants as value
 use Rattle.fv_rules.specs.Values.{Value, Flat}
-use Rattle.fv_rules.specs.Steps.{State, Eval}
+use Rattle.fv_rules.specs.Steps.{State, Eval, give, refuse}
+
+-- the diagrams of an evaluation, and the table sum
+pub record Canvas : Type 0 where
+  pub diagrams : Arena
+  pub tables : ℕ
 
 -- each diagram of the arena is composed
 abbrev pub AreComposed : Arena → Type 0
 AreComposed a = (i : ℕ) → i < count_of a → IsComposed (tree_of a i)
 
--- the arena has grown: the diagrams that are there stay
-pub record Extends (old new : Arena) : Type 0 where
-  pub longer : count_of old ≤ count_of new
-  pub trees : (i : ℕ) → i < count_of old → tree_of new i ≡ tree_of old i
+-- the diagrams that are there stay
+pub record Extends (old new : Canvas) : Type 0 where
+  pub longer : count_of old.diagrams ≤ count_of new.diagrams
+  pub trees : (i : ℕ) → i < count_of old.diagrams → tree_of new.diagrams i ≡ tree_of old.diagrams i
+
+-- nothing was added but diagrams
+pub record AddsDiagrams (old new : Canvas) : Type 0 where
+  pub keeps : Extends old new
+  pub tables : new.tables ≡ old.tables
 
 -- this number is this diagram
 pub record Draws (a : Arena) (i : ℕ) (d : Diagram) : Type 0 where
@@ -42,15 +52,20 @@ IsLeaf (node.Control k) = Unit {0}
 IsLeaf (node.Slot s) = Unit {0}
 IsLeaf n = ⊥
 
--- The evaluation gives the diagram with this number and changes nothing else; or it refuses so, or memory ran out.
-abbrev pub Makes : Arena → Eval Diagram → Result ℕ EvalRefusal → Type 0
-Makes a m (Ok i) = (i < count_of a) × ((s : State) → m s ≡ Ok (tree_of a i, s))
-Makes a m (Err e) = (e ≡ NoMemory) ⊎ ((s : State) → m s ≡ Err e)
+-- An evaluation becomes another one: in each state with the old table sum, it comes to what the other comes to in the same
+-- state with the new sum.
+abbrev pub Becomes : {A : Type 0} → (old new : Canvas) → Eval A → Eval A → Type 0
+Becomes old new m n = (s : State) → m (record s { tables = old.tables }) ≡ n (record s { tables = new.tables })
+
+-- The evaluation gives the diagram with this number, and changes nothing else than the table sum; or it refuses so, or memory ran out.
+abbrev pub Makes : (old new : Canvas) → Eval Diagram → Result ℕ EvalRefusal → Type 0
+Makes old new m (Ok i) = (i < count_of new.diagrams) × Becomes old new m (give (tree_of new.diagrams i))
+Makes old new m (Err e) = (e ≡ NoMemory) ⊎ Becomes old new m (refuse e)
 
 -- the same of an evaluation that gives it as a value
-abbrev pub MakesValue : Arena → Eval Value → Result ℕ EvalRefusal → Type 0
-MakesValue a m (Ok i) = (i < count_of a) × ((s : State) → m s ≡ Ok (Flat (tree_of a i), s))
-MakesValue a m (Err e) = (e ≡ NoMemory) ⊎ ((s : State) → m s ≡ Err e)
+abbrev pub MakesValue : (old new : Canvas) → Eval Value → Result ℕ EvalRefusal → Type 0
+MakesValue old new m (Ok i) = (i < count_of new.diagrams) × Becomes old new m (give (Flat (tree_of new.diagrams i)))
+MakesValue old new m (Err e) = (e ≡ NoMemory) ⊎ Becomes old new m (refuse e)
 
 -- a value that is a diagram is one of the arena
 abbrev pub IsThere : Arena → code_value.Value → Type 0

@@ -3,7 +3,7 @@
 ghost use Rattle.std.specs.Prelude.{◌≡◌, ◌<◌, ◌&&◌, ◌∷◌, ◌++◌, IfOk, nat_eq, replicate};
 ghost use Rattle.fv_diagram.specs.Arena.{count_of, tree_of};
 ghost use Rattle.fv_rules.specs.Rules.{all_outputs, fed, takes_the_right};
-ghost use Rattle.fv_eval_drawing.specs.Makes.{AreThere, Extends, MakesValue, trees_of};
+ghost use Rattle.fv_eval_drawing.specs.Makes.{AddsDiagrams, AreThere, Extends, MakesValue, trees_of};
 ghost use Rattle.fv_eval_drawing.specs.Lists.{Fills};
 
 use crate::drawing::Drawing;
@@ -15,8 +15,8 @@ use std::alloc::AllocError;
 impl Drawing {
     // How many streams diagrams give together.
     fn all_outputs(&self, parts: &[DiagramId]) -> Result<u64, AllocError>
-        requires { AreThere self.now parts.now }
-        ensures { IfOk result (λ n. n ≡ all_outputs (trees_of self.now parts.now)) }
+        requires { AreThere self.now.diagrams parts.now }
+        ensures { IfOk result (λ n. n ≡ all_outputs (trees_of self.now.diagrams parts.now)) }
     {
         let mut sum = 0u64;
         for part in parts {
@@ -31,8 +31,8 @@ impl Drawing {
 
     // Whether a diagram is a primitive of two inputs other than `prefix`.
     fn takes_the_right(&self, diagram: DiagramId) -> bool
-        requires { diagram < count_of self.now }
-        ensures { result ≡ takes_the_right (tree_of self.now diagram) }
+        requires { diagram < count_of self.now.diagrams }
+        ensures { result ≡ takes_the_right (tree_of self.now.diagrams diagram) }
     {
         match self.node(diagram) {
             Node::Prim(Prim::Prefix) => false,
@@ -43,8 +43,8 @@ impl Drawing {
 
     // Whether so many outputs are the second input of a diagram.
     fn takes_one(&self, function: DiagramId, given: u64) -> bool
-        requires { function < count_of self.now }
-        ensures { result ≡ (takes_the_right (tree_of self.now function) && nat_eq given 1) }
+        requires { function < count_of self.now.diagrams }
+        ensures { result ≡ (takes_the_right (tree_of self.now.diagrams function) && nat_eq given 1) }
     {
         self.takes_the_right(function) && given == 1
     }
@@ -56,11 +56,11 @@ impl Drawing {
         given: u64,
         parts: Vec<DiagramId>,
     ) -> Result<Vec<DiagramId>, AllocError>
-        requires function { function < count_of self.old }
-        requires there { AreThere self.old parts.items }
+        requires function { function < count_of self.old.diagrams }
+        requires there { AreThere self.old.diagrams parts.items }
         ensures fills { IfOk result
-            (λ v. Fills self.old self.new given (tree_of self.old function) parts.items v.items) }
-        ensures keeps { Extends self.old self.new }
+            (λ v. Fills self.old self.new given (tree_of self.old.diagrams function) parts.items v.items) }
+        ensures adds { AddsDiagrams self.old self.new }
     {
         let inputs = u64::from(self.arity(function).inputs);
         let wire = self.leaf(&Node::Prim(Prim::Wire))?;
@@ -77,10 +77,10 @@ impl Drawing {
         function: DiagramId,
         arguments: Vec<DiagramId>,
     ) -> Result<DiagramId, EvalRefusal>
-        requires function { function < count_of self.old }
-        requires there { AreThere self.old arguments.items }
-        ensures makes { MakesValue self.new
-            (fed (tree_of self.old function) (trees_of self.old arguments.items)) result }
+        requires function { function < count_of self.old.diagrams }
+        requires there { AreThere self.old.diagrams arguments.items }
+        ensures makes { MakesValue self.old self.new
+            (fed (tree_of self.old.diagrams function) (trees_of self.old.diagrams arguments.items)) result }
         ensures keeps { Extends self.old self.new }
     {
         if arguments.is_empty() {

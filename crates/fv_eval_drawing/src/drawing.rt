@@ -9,7 +9,8 @@ ghost use Rattle.fv_rules.specs.Shows.{World, IsInside, ShowsValues, rules_in};
 ghost use Rattle.fv_rules.specs.Choosing.{with_diagrams};
 ghost use Rattle.fv_rules.specs.Chosen.{ShowsChoice};
 ghost use Rattle.fv_rules.specs.Steps.{put};
-ghost use Rattle.fv_eval_drawing.specs.Makes.{AreComposed, Draws, Extends, IsLeaf, IsThere, Makes};
+ghost use Rattle.fv_rules.specs.Puts.{Puts};
+ghost use Rattle.fv_eval_drawing.specs.Makes.{AddsDiagrams, AreComposed, Draws, Extends, IsLeaf, IsThere, Makes};
 
 use fv_diagram::{Arity, DiagramId, Diagrams, Node};
 use fv_parse::TreeId;
@@ -22,34 +23,36 @@ use std::marker::Model;
 pub struct Drawing {
     diagrams: Diagrams,
     numbers: Numbers,
+    // The table sum.
+    tables: u64,
 }
 
 impl Model for Drawing {
-    ghost use Rattle.fv_diagram.specs.Arena.{Arena};
     ghost use Rattle.fv_rules.specs.Memo.{Remembers};
-    ghost use Rattle.fv_eval_drawing.specs.Makes.{AreComposed};
+    ghost use Rattle.fv_eval_drawing.specs.Makes.{AreComposed, Canvas};
 
-    ghost Value = { Arena };
+    ghost Value = { Canvas };
 
-    ghost view = { λ d. d.diagrams };
+    ghost view = { λ d. record { diagrams = d.diagrams; tables = d.tables } };
 
     ghost invariant = { λ d. AreComposed d.diagrams × Remembers d.diagrams d.numbers };
 }
 
 impl Drawing {
-    /// No diagrams.
+    /// No diagrams, and no tables.
     pub fn new(alloc: Global) -> Drawing
-        ensures { result ≡ empty_arena }
+        ensures { result ≡ record { diagrams = empty_arena; tables = 0 } }
     {
         Drawing {
             diagrams: Diagrams::new(alloc),
             numbers: Numbers::new(alloc),
+            tables: 0,
         }
     }
 
     /// The diagrams as they stand.
     pub fn finish(self) -> Diagrams
-        ensures diagrams { result ≡ self }
+        ensures diagrams { result ≡ self.diagrams }
         ensures composed { AreComposed result }
     {
         self.diagrams
@@ -57,9 +60,18 @@ impl Drawing {
 
     /// Puts a node over diagrams: its arity is tried first, then its size.
     pub fn put(&mut self, node: &Node) -> Result<DiagramId, EvalRefusal>
-        requires children { ChildrenBelow (count_of self.old) node.now }
-        ensures makes { Makes self.new (put (tree_with self.old node.now)) result }
+        requires children { ChildrenBelow (count_of self.old.diagrams) node.now }
+        ensures makes { Makes self.old self.new (put (tree_with self.old.diagrams node.now)) result }
         ensures keeps { Extends self.old self.new }
+    {
+        self.put_node(node)
+    }
+
+    // Puts a node that is no table.
+    fn put_node(&mut self, node: &Node) -> Result<DiagramId, EvalRefusal>
+        requires { ChildrenBelow (count_of self.old.diagrams) node.now }
+        ensures puts { Puts self.new.diagrams (tree_with self.old.diagrams node.now) result }
+        ensures adds { AddsDiagrams self.old self.new }
     {
         put(&mut self.diagrams, node)
     }
@@ -67,10 +79,10 @@ impl Drawing {
     /// Puts a node without parts, which always fits.
     pub fn leaf(&mut self, node: &Node) -> Result<DiagramId, AllocError>
         requires { IsLeaf node.now }
-        ensures draws { IfOk result (λ i. Draws self.new i (tree_with self.old node.now)) }
-        ensures keeps { Extends self.old self.new }
+        ensures draws { IfOk result (λ i. Draws self.new.diagrams i (tree_with self.old.diagrams node.now)) }
+        ensures adds { AddsDiagrams self.old self.new }
     {
-        match self.put(node) {
+        match self.put_node(node) {
             Ok(id) => Ok(id),
             Err(refusal) => match refusal {
                 EvalRefusal::NoMemory => Err(AllocError),
@@ -81,8 +93,8 @@ impl Drawing {
 
     /// How many streams a diagram takes and gives.
     pub fn arity(&self, id: DiagramId) -> Arity
-        requires { id < count_of self.now }
-        ensures arity { IsArity (tree_of self.now id) result }
+        requires { id < count_of self.now.diagrams }
+        ensures arity { IsArity (tree_of self.now.diagrams id) result }
         ensures inputs { result.inputs ≤ 5 * size_limit }
         ensures outputs { result.outputs ≤ 2 * size_limit }
     {
@@ -91,16 +103,16 @@ impl Drawing {
 
     /// A node.
     pub fn node(&self, id: DiagramId) -> Node
-        requires { id < count_of self.now }
-        ensures { tree_of self.now id ≡ tree_with self.now result }
+        requires { id < count_of self.now.diagrams }
+        ensures { tree_of self.now.diagrams id ≡ tree_with self.now.diagrams result }
     {
         self.diagrams.node(id)
     }
 
     /// The number of a diagram, its value at time 0; `None` where it has none.
     pub fn number_of(&mut self, alloc: Global, id: DiagramId) -> Result<Option<i32>, AllocError>
-        requires { id < count_of self.old }
-        ensures number { IfOk result (λ o. o ≡ number_of (tree_of self.old id)) }
+        requires { id < count_of self.old.diagrams }
+        ensures number { IfOk result (λ o. o ≡ number_of (tree_of self.old.diagrams id)) }
         ensures same { self.new ≡ self.old }
     {
         self.numbers.number_of(alloc, &self.diagrams, id)
@@ -108,10 +120,10 @@ impl Drawing {
 
     /// A diagram, or the integer that it is where it has a number.
     pub fn settle(&mut self, alloc: Global, id: DiagramId) -> Result<DiagramId, AllocError>
-        requires { id < count_of self.old }
+        requires { id < count_of self.old.diagrams }
         ensures draws { IfOk result
-            (λ i. Draws self.new i (number_or (number_of (tree_of self.old id)) (tree_of self.old id))) }
-        ensures keeps { Extends self.old self.new }
+            (λ i. Draws self.new.diagrams i (number_or (number_of (tree_of self.old.diagrams id)) (tree_of self.old.diagrams id))) }
+        ensures adds { AddsDiagrams self.old self.new }
     {
         self.numbers.settle(alloc, &mut self.diagrams, id)
     }
@@ -125,11 +137,11 @@ impl Drawing {
         arguments: &[Value],
     ) -> Result<Option<(TreeId, Bindings)>, AllocError>
         requires inside { IsInside text.now ruled }
-        requires there { All (IsThere self.old) arguments.now }
-        ensures chosen { IfOk result (λ o. (w : World) (vs : List Meant) → w.tree ≡ text.now → w.diagrams ≡ self.old
+        requires there { All (IsThere self.old.diagrams) arguments.now }
+        ensures chosen { IfOk result (λ o. (w : World) (vs : List Meant) → w.tree ≡ text.now → w.diagrams ≡ self.old.diagrams
             → ShowsValues w arguments.now vs
-            → ShowsChoice (with_diagrams w self.new) o (chosen text.now.tokens (rules_in text.now ruled) vs)) }
-        ensures keeps { Extends self.old self.new }
+            → ShowsChoice (with_diagrams w self.new.diagrams) o (chosen text.now.tokens (rules_in text.now ruled) vs)) }
+        ensures adds { AddsDiagrams self.old self.new }
     {
         text.choose(
             alloc,

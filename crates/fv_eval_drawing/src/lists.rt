@@ -29,9 +29,10 @@ impl Drawing {
         left: DiagramId,
         right: DiagramId,
     ) -> Result<DiagramId, EvalRefusal>
-        requires left { left < count_of self.old }
-        requires right { right < count_of self.old }
-        ensures makes { Makes self.new (put (linked link (tree_of self.old left) (tree_of self.old right))) result }
+        requires left { left < count_of self.old.diagrams }
+        requires right { right < count_of self.old.diagrams }
+        ensures makes { Makes self.old self.new
+            (put (linked link (tree_of self.old.diagrams left) (tree_of self.old.diagrams right))) result }
         ensures keeps { Extends self.old self.new }
     {
         match link {
@@ -46,8 +47,8 @@ impl Drawing {
         link: Link,
         mut parts: Vec<DiagramId>,
     ) -> Result<DiagramId, EvalRefusal>
-        requires { AreThere self.old parts.items }
-        ensures makes { Makes self.new (all_from_right (linked link) (trees_of self.old parts.items)) result }
+        requires { AreThere self.old.diagrams parts.items }
+        ensures makes { Makes self.old self.new (all_from_right (linked link) (trees_of self.old.diagrams parts.items)) result }
         ensures keeps { Extends self.old self.new }
     {
         let Some(last) = parts.pop() else {
@@ -70,10 +71,10 @@ impl Drawing {
         first: DiagramId,
         others: &[DiagramId],
     ) -> Result<DiagramId, EvalRefusal>
-        requires first { first < count_of self.old }
-        requires others { AreThere self.old others.now }
-        ensures makes { Makes self.new
-            (from_left (prim.Point op) (tree_of self.old first) (trees_of self.old others.now)) result }
+        requires first { first < count_of self.old.diagrams }
+        requires others { AreThere self.old.diagrams others.now }
+        ensures makes { Makes self.old self.new
+            (from_left (prim.Point op) (tree_of self.old.diagrams first) (trees_of self.old.diagrams others.now)) result }
         ensures keeps { Extends self.old self.new }
     {
         let mut whole = first;
@@ -85,8 +86,8 @@ impl Drawing {
 
     // A list put together from the left by an operation.
     fn all_from_left(&mut self, op: Op, parts: &[DiagramId]) -> Result<DiagramId, EvalRefusal>
-        requires { AreThere self.old parts.now }
-        ensures makes { Makes self.new (all_from_left op (trees_of self.old parts.now)) result }
+        requires { AreThere self.old.diagrams parts.now }
+        ensures makes { Makes self.old self.new (all_from_left op (trees_of self.old.diagrams parts.now)) result }
         ensures keeps { Extends self.old self.new }
     {
         match parts.split_first() {
@@ -101,8 +102,8 @@ impl Drawing {
         kind: Iteration,
         bodies: Vec<DiagramId>,
     ) -> Result<DiagramId, EvalRefusal>
-        requires { AreThere self.old bodies.items }
-        ensures makes { MakesValue self.new (gathered kind (trees_of self.old bodies.items)) result }
+        requires { AreThere self.old.diagrams bodies.items }
+        ensures makes { MakesValue self.old self.new (gathered kind (trees_of self.old.diagrams bodies.items)) result }
         ensures keeps { Extends self.old self.new }
     {
         match kind {

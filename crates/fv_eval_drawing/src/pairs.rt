@@ -57,9 +57,10 @@ impl Drawing {
         left: DiagramId,
         right: DiagramId,
     ) -> Result<DiagramId, EvalRefusal>
-        requires left { left < count_of self.old }
-        requires right { right < count_of self.old }
-        ensures makes { Makes self.new (operated primitive (tree_of self.old left) (tree_of self.old right)) result }
+        requires left { left < count_of self.old.diagrams }
+        requires right { right < count_of self.old.diagrams }
+        ensures makes { Makes self.old self.new
+            (operated primitive (tree_of self.old.diagrams left) (tree_of self.old.diagrams right)) result }
         ensures keeps { Extends self.old self.new }
     {
         let operation = self.leaf(&Node::Prim(primitive))?;
@@ -77,9 +78,10 @@ impl Drawing {
         left: DiagramId,
         right: DiagramId,
     ) -> Result<DiagramId, EvalRefusal>
-        requires left { left < count_of self.old }
-        requires right { right < count_of self.old }
-        ensures makes { Makes self.new (joined operator (tree_of self.old left) (tree_of self.old right)) result }
+        requires left { left < count_of self.old.diagrams }
+        requires right { right < count_of self.old.diagrams }
+        ensures makes { Makes self.old self.new
+            (joined operator (tree_of self.old.diagrams left) (tree_of self.old.diagrams right)) result }
         ensures keeps { Extends self.old self.new }
     {
         match operator {
@@ -94,8 +96,8 @@ impl Drawing {
 
     /// `d : mem`.
     pub fn delay(&mut self, diagram: DiagramId) -> Result<DiagramId, EvalRefusal>
-        requires { diagram < count_of self.old }
-        ensures makes { Makes self.new (put (Seq (tree_of self.old diagram) (Leaf prim.Mem))) result }
+        requires { diagram < count_of self.old.diagrams }
+        ensures makes { Makes self.old self.new (put (Seq (tree_of self.old.diagrams diagram) (Leaf prim.Mem))) result }
         ensures keeps { Extends self.old self.new }
     {
         let right = self.leaf(&Node::Prim(Prim::Mem))?;
@@ -107,9 +109,9 @@ impl Drawing {
 
     /// `0 - d`.
     pub fn negate(&mut self, diagram: DiagramId) -> Result<DiagramId, EvalRefusal>
-        requires { diagram < count_of self.old }
-        ensures makes { Makes self.new
-            (operated (prim.Point op.Sub) (Constant (pos 0)) (tree_of self.old diagram)) result }
+        requires { diagram < count_of self.old.diagrams }
+        ensures makes { Makes self.old self.new
+            (operated (prim.Point op.Sub) (Constant (pos 0)) (tree_of self.old.diagrams diagram)) result }
         ensures keeps { Extends self.old self.new }
     {
         let zero = self.leaf(&Node::Number(0))?;
@@ -123,9 +125,9 @@ impl Drawing {
         slots: u64,
         body: DiagramId,
     ) -> Result<DiagramId, EvalRefusal>
-        requires body { body < count_of self.old }
+        requires body { body < count_of self.old.diagrams }
         requires slots { slot + slots < 2 ^ 64 }
-        ensures makes { Makes self.new (bind_all slot slots (tree_of self.old body)) result }
+        ensures makes { Makes self.old self.new (bind_all slot slots (tree_of self.old.diagrams body)) result }
         ensures keeps { Extends self.old self.new }
     {
         let mut whole = body;

@@ -24,7 +24,7 @@ use Rattle.fv_rules.specs.Steps.{State, ◌>>=◌}
 use Rattle.fv_rules.specs.Rules.{ev, turned, name_value, finished, within}
 
 state : ℕ → ℕ → State
-state n s = record { visits = n; controls = []; slot = s }
+state n s = record { visits = n; controls = []; slot = s; tables = 0 }
 
 word : List ℕ → Token
 word text = record { symbol = symbols.Name 0; kind = a_name; text = text; place = record { line = 1; column = 1 } }

@@ -360,7 +360,7 @@ visit_limit = VISIT_LIMIT
 
 -- the state before a program
 abbrev pub start : State
-start = record { visits = visit_limit; controls = []; slot = 0 }
+start = record { visits = visit_limit; controls = []; slot = 0; tables = 0 }
 
 -- what a whole program's value is made of: its diagram and its controls
 abbrev pub finished : Outcome Diagram → Result (Diagram × List ControlInfo) EvalRefusal

@@ -14,11 +14,12 @@ use Rattle.fv_rules.specs.declared.refusal.EvalRefusal.{EvalRefusal}
 use Rattle.fv_rules.specs.declared.refusal.EvalRefusal.TheVariants.{SizeBudget, Arity, NotANumber, NoRule, NotADiagram, EvalBudget, ControlClash, ControlBounds}
 use Rattle.fv_parse.specs.Trees.{place_from}
 
--- the visits that are left, the controls so far, and the next slot
+-- the visits that are left, the controls so far, the next slot, and the table sum, which no rule raises yet
 pub record State : Type 0 where
   pub visits : ℕ
   pub controls : List ControlInfo
   pub slot : ℕ
+  pub tables : ℕ
 
 -- a result with a further state, or a refusal
 abbrev pub Outcome : Type 0 → Type 0

@@ -27,7 +27,7 @@ use Rattle.fv_top_voices.proofs.Trees.{tree, process, all_voices, one_voice}
 
 -- with so many visits left, no controls and no slots
 abbrev pub state : ℕ → State
-state n = record { visits = n; controls = []; slot = 0 }
+state n = record { visits = n; controls = []; slot = 0; tables = 0 }
 
 -- so many more
 abbrev pub more : ℕ → ℕ → ℕ

@@ -38,10 +38,10 @@ use Rattle.fv_rules.specs.Chosen.{ShowsChoice}
 
 -- the lists of a machine over a tree
 abbrev pub world : Parsed → code_machine.Machine → World
-world p m = record { tree = p; diagrams = m.drawing; scopes = m.scopes.scopes; taken = m.scopes.taken }
+world p m = record { tree = p; diagrams = m.drawing.diagrams; scopes = m.scopes.scopes; taken = m.scopes.taken }
 
 abbrev pub state_of : code_machine.Machine → State
-state_of m = record { visits = m.visits; controls = m.controls; slot = m.slot }
+state_of m = record { visits = m.visits; controls = m.controls; slot = m.slot; tables = m.drawing.tables }
 
 -- these numbers are these diagrams, in order
 abbrev pub AllDraw : World → List ℕ → List Diagram → Type 0

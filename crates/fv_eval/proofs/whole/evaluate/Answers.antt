@@ -30,7 +30,7 @@ finished-requires-clause-sound c =
     let ends = run_ends p c.in_ok-text.text w.machine n w.first c.run.result
     (Ok (Diagram i)) (whole p.tokens (program_of p)) c.in_ok-text.ensures (c.in-Ok.is ∙ ap Ok e) w.ensures c.run.ensures in
     let h = done p n i c.steps_mean.ensures.starts ends in
-    (h.0, c.evaluates_soundly.ensures.sound p.tokens (program_of p) (tree_of n.drawing i) n.controls h.1)
+    (h.0, c.evaluates_soundly.ensures.sound p.tokens (program_of p) (tree_of n.drawing.diagrams i) n.controls h.1)
 
 pub returns-in-Ok-clause-program : goal.returns-in-Ok-clause-program
 returns-in-Ok-clause-program c =

@@ -7,12 +7,12 @@ use Rattle.fv_eval.proofs.machine.Machine.choose.Goals as goal
 pub choose-requires-clause-there : goal.choose-requires-clause-there
 choose-requires-clause-there c =
     let m = c.args.self.now in
-    subst (λ xs. All (IsDrawn m.drawing) xs) (sym c.as_slice.ensures.value)
+    subst (λ xs. All (IsDrawn m.drawing.diagrams) xs) (sym c.as_slice.ensures.value)
     (taken_drawn c.args.text.now m c.args.count c.args.last c.args.argument c.in_ok-all.all.items c.push.new.self.items
     c.in_ok-all.ensures c.in_ok-push.ensures.items c.requires.taken c.requires.argument)
 
 pub returns-clause-grew : goal.returns-clause-grew
-returns-clause-grew c = drawn_grew c.args.text.now c.args.self.now c.choose.new.self c.in_ok-choice.ensures.keeps
+returns-clause-grew c = drawn_grew c.args.text.now c.args.self.now c.choose.new.self c.in_ok-choice.ensures.adds
 
 pub returns-clause-chosen : goal.returns-clause-chosen
 returns-clause-chosen c =
@@ -22,4 +22,4 @@ returns-clause-chosen c =
     let o = c.in_ok-choice in
     choice_shows p m new c.args.ruled c.args.count c.args.last c.args.argument c.in_ok-all.all.items c.push.new.self.items o.choice
     c.in_ok-all.ensures c.in_ok-push.ensures.items
-    (subst (λ xs. ChoosesOf p m.drawing new c.args.ruled xs o.choice) c.as_slice.ensures.value o.ensures.chosen)
+    (subst (λ xs. ChoosesOf p m.drawing.diagrams new.diagrams c.args.ruled xs o.choice) c.as_slice.ensures.value o.ensures.chosen)

@@ -9,5 +9,5 @@ returns c =
     let fits : SFits w32 c.args.n = search rules in
     let new = c.leaf.new.self in
     let i = c.in_ok-id.id in
-    λ p. leaf_goes p c.args.self.now new i (Constant c.args.n) c.in_ok-id.ensures.keeps
-    (subst (λ (n : ℤ). Draws new i (Constant n)) (to_z-of_z fits) c.in_ok-id.ensures.draws)
+    λ p. leaf_goes p c.args.self.now new i (Constant c.args.n) c.in_ok-id.ensures.adds
+    (subst (λ (n : ℤ). Draws new.diagrams i (Constant n)) (to_z-of_z fits) c.in_ok-id.ensures.draws)

@@ -46,12 +46,14 @@ returns c =
     let count : c.len-index.result ≡ length c.args.done.items = omega (arith, c.len-index.ensures, c.args.done.ok.0) in
     let indexed = c.requires.indexed in
     let within : c.len-index.result < 2 ^ 31 = omega (arith, indexed, count) in
-    let drawn : Draws c.leaf.new.self number.number (Constant (pos (length c.args.done.items))) =
-    subst (λ (z : ℤ). Draws c.leaf.new.self number.number (Constant z)) (to_z_pos w32 within ∙ ap pos count) number.ensures.draws in
+    let drawn : Draws c.leaf.new.self.diagrams number.number (Constant (pos (length c.args.done.items))) =
+    subst (λ (z : ℤ). Draws c.leaf.new.self.diagrams number.number (Constant z)) (to_z_pos w32 within
+    ∙ ap pos count) number.ensures.draws in
     subst (λ (x : Parsed). Repeats x m c.wait.new.self c.wait.result a c.args.env c.args.left c.args.done.items) c.tree-tree.ensures
     (body_waits q m c.wait.new.self c.wait.result c.leaf.new.self c.bind.new.self a c.args.env c.args.left
     (c.args.left - 1) inner.inner number.number name.result f.body start f.name f.kind
-    (tree_in q f.field-2) (tree_in q f.body) (pos (length c.args.done.items)) c.args.done node one refl number.ensures.keeps drawn name.ensures.text
+    (tree_in q f.field-2) (tree_in q f.body)
+    (pos (length c.args.done.items)) c.args.done node one refl number.ensures.adds drawn name.ensures.text
     name.ensures.first inner.ensures.ok.0 inner.ensures.ok.1 inside refl (omega (arith, indexed, one)) (c.wait.ensures q))
 
 pub unreachable-requires : goal.unreachable-requires

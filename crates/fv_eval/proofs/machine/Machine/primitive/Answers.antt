@@ -3,4 +3,6 @@ use Rattle.fv_eval.proofs.Moves.{leaf_goes}
 use Rattle.fv_eval.proofs.machine.Machine.primitive.Goals as goal
 
 pub returns : goal.returns
-returns c = λ p. leaf_goes p c.args.self.now c.leaf.new.self c.in_ok-id.id (Primitive c.args.primitive) c.in_ok-id.ensures.keeps c.in_ok-id.ensures.draws
+returns c =
+    λ p. leaf_goes p c.args.self.now c.leaf.new.self c.in_ok-id.id
+    (Primitive c.args.primitive) c.in_ok-id.ensures.adds c.in_ok-id.ensures.draws

@@ -5,5 +5,7 @@ use Rattle.fv_eval_drawing.proofs.drawing.Drawing.all_from_left.Goals as goal
 
 pub returns-in-Some-clause-makes : goal.returns-in-Some-clause-makes
 returns-in-Some-clause-makes c =
-    subst (λ is. Makes c.from_left.new.self (all_from_left c.args.op (trees_of c.args.self.now is)) c.from_left.result) (sym c.in-Some.ensures.cases.0)
+    subst (λ is. Makes c.args.self.now c.from_left.new.self
+    (all_from_left c.args.op (trees_of c.args.self.now.diagrams is)) c.from_left.result)
+    (sym c.in-Some.ensures.cases.0)
     c.from_left.ensures.makes

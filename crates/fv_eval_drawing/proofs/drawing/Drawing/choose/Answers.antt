@@ -1,6 +1,6 @@
-use Rattle.std.proofs.Common.{All, sym, subst}
+use Rattle.std.proofs.Common.{All, refl, sym, subst}
 use Rattle.fv_diagram.specs.Arena.{Arena}
-use Rattle.fv_eval_drawing.specs.Makes.{Extends, IsThere}
+use Rattle.fv_eval_drawing.specs.Makes.{AddsDiagrams, Canvas, IsThere}
 use Rattle.fv_eval_drawing.proofs.Remembered.{adds_extends, adds_composed, there_sound}
 use Rattle.fv_eval_drawing.proofs.drawing.Drawing.choose.Goals as goal
 
@@ -8,11 +8,14 @@ pub choose-requires-clause-sound : goal.choose-requires-clause-sound
 choose-requires-clause-sound c =
     let a = c.self.inside.diagrams in
     let us = c.args.arguments.now in
-    there_sound a us c.self.invariant.0 (subst (λ (x : Arena). All (IsThere x) us) (sym c.self.view_is) c.requires.there)
+    there_sound a us c.self.invariant.0 (subst (λ (x : Canvas). All (IsThere x.diagrams) us) (sym c.self.view_is) c.requires.there)
 
-pub returns-clause-keeps : goal.returns-clause-keeps
-returns-clause-keeps c =
-    subst (λ (x : Arena). Extends x c.choose.new.diagrams) c.self.view_is (adds_extends c.self.inside.diagrams c.choose.new.diagrams c.choose.ensures.adds)
+pub returns-clause-adds : goal.returns-clause-adds
+returns-clause-adds c =
+    let canvas : Arena → Canvas = λ a. record { diagrams = a; tables = c.self.inside.tables } in
+    let b = canvas c.choose.new.diagrams in
+    let grown = adds_extends (canvas c.self.inside.diagrams) b c.choose.ensures.adds in
+    subst (λ (x : Canvas). AddsDiagrams x b) c.self.view_is (record { keeps = grown; tables = refl })
 
 pub invariant_of-self : goal.invariant_of-self
 invariant_of-self c = (adds_composed c.self.inside.diagrams c.choose.new.diagrams c.choose.ensures.adds c.self.invariant.0, c.choose.ensures.known)

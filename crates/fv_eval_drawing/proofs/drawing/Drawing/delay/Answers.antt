@@ -8,7 +8,10 @@ use Rattle.fv_eval_drawing.proofs.drawing.Drawing.delay.Goals as goal
 
 pub returns-clause-makes : goal.returns-clause-makes
 returns-clause-makes c =
-    let a = c.leaf.new.self in
-    makes_of c.put.new.self (put (Seq (tree_of a c.args.diagram) (tree_of a c.in_ok-right.right))) (put (Seq (tree_of c.args.self.now c.args.diagram)
-    (Primitive prim.Mem))) c.put.result
-    (ap₂ (λ (x y : Diagram). put (Seq x y)) (c.in_ok-right.ensures.keeps.trees c.args.diagram c.requires) c.in_ok-right.ensures.draws.is) c.put.ensures.makes
+    let a = c.args.self.now in
+    let b = c.leaf.new.self in
+    let right = c.in_ok-right in
+    makes_of a b c.put.new.self (put (Seq (tree_of b.diagrams c.args.diagram) (tree_of b.diagrams right.right)))
+    (put (Seq (tree_of a.diagrams c.args.diagram) (Primitive prim.Mem))) c.put.result right.ensures.adds.tables
+    (ap₂ (λ (x y : Diagram). put (Seq x y))
+    (right.ensures.adds.keeps.trees c.args.diagram c.requires) right.ensures.draws.is) c.put.ensures.makes

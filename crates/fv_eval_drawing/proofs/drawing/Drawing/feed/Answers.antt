@@ -1,18 +1,23 @@
-use Rattle.std.proofs.Common.{◌≡◌, length, ap, subst, ◌∙◌, arith, vec_len}
+use Rattle.std.proofs.Common.{◌≡◌, Ok, Err, length, refl, ap, subst, ◌∙◌, arith, vec_len}
 use Rattle.fv_diagram.specs.Diagram.{Diagram, inputs, Seq}
 use Rattle.fv_diagram.specs.Arena.{tree_of}
 use Rattle.fv_rules.specs.Steps.{put}
 use Rattle.fv_rules.specs.Rules.{all_outputs}
+use Rattle.fv_eval_drawing.specs.declared.lists.Link.TheVariants as link
+use Rattle.fv_eval_drawing.specs.Lists.{all_from_right, linked}
 use Rattle.fv_eval_drawing.specs.Makes.{Makes, trees_of}
+use Rattle.fv_eval_drawing.proofs.Leaves.{makes_of}
 use Rattle.fv_eval_drawing.proofs.Gathered.{AreFor, feeds, feeds_refused}
 use Rattle.fv_eval_drawing.proofs.Fed.{not_empty, not_less, none_of, function_stays}
 use Rattle.fv_eval_drawing.proofs.drawing.Drawing.feed.Goals.{In_ok-parts}
 use Rattle.fv_eval_drawing.proofs.drawing.Drawing.feed.Goals as goal
 
 -- the function takes the arguments
-are_for : (c : In_ok-parts) → AreFor (tree_of c.args.self.now c.args.function) c.in_ok-given.given (trees_of c.args.self.now c.args.arguments.items)
+are_for : (c : In_ok-parts)
+    → AreFor (tree_of c.args.self.now.diagrams c.args.function) c.in_ok-given.given
+    (trees_of c.args.self.now.diagrams c.args.arguments.items)
 are_for c =
-    let a = c.args.self.now in
+    let a = c.args.self.now.diagrams in
     let given = c.args.arguments in
     let f = tree_of a c.args.function in record {
       given = c.in_ok-given.ensures ∙ ap (λ is. all_outputs (trees_of a is)) c.as_slice.ensures.value;
@@ -25,18 +30,27 @@ are_for c =
 pub returns-in-Ok-clause-makes : goal.returns-in-Ok-clause-makes
 returns-in-Ok-clause-makes c =
     let a = c.args.self.now in
+    let a1 = c.fill.new.self in
     let b = c.from_right.new.self in
-    let f = tree_of a c.args.function in
-    let g : tree_of b c.args.function ≡ f =
-    function_stays a c.fill.new.self b c.args.function c.requires.function c.in_ok-parts.ensures.keeps c.in-Ok.ensures.keeps in
-    feeds b c.put.new.self f c.in-Ok.all c.put.result c.in_ok-given.given (trees_of a c.args.arguments.items)
-    (trees_of c.fill.new.self c.in_ok-parts.parts.items) c.in-Ok.ensures.makes c.in_ok-parts.ensures.fills.trees
-    (subst (λ (d : Diagram). Makes c.put.new.self (put (Seq (tree_of b c.in-Ok.all) d)) c.put.result) g c.put.ensures.makes)
+    let f = tree_of a.diagrams c.args.function in
+    let adds = c.in_ok-parts.ensures.adds in
+    let g : tree_of b.diagrams c.args.function ≡ f =
+    function_stays a a1 b c.args.function c.requires.function adds.keeps c.in-Ok.ensures.keeps in
+    let parts = trees_of a1.diagrams c.in_ok-parts.parts.items in
+    let side = all_from_right (linked link.Parallel) parts in
+    feeds a b c.put.new.self f c.in-Ok.all c.put.result c.in_ok-given.given (trees_of a.diagrams c.args.arguments.items)
+    parts (makes_of a a1 b side side (Ok c.in-Ok.all) adds.tables refl c.in-Ok.ensures.makes) c.in_ok-parts.ensures.fills.trees
+    (subst (λ (d : Diagram). Makes b c.put.new.self (put (Seq (tree_of b.diagrams c.in-Ok.all) d)) c.put.result) g c.put.ensures.makes)
     (are_for (goal.at.returns-in-Ok-clause-makes c).In_ok-parts)
 
 pub returns-in-Err-clause-makes : goal.returns-in-Err-clause-makes
 returns-in-Err-clause-makes c =
     let a = c.args.self.now in
-    feeds_refused c.from_right.new.self (tree_of a c.args.function) c.in-Err.refusal c.in_ok-given.given (trees_of a c.args.arguments.items)
-    (trees_of c.fill.new.self c.in_ok-parts.parts.items) c.in-Err.ensures.makes c.in_ok-parts.ensures.fills.trees
+    let a1 = c.fill.new.self in
+    let b = c.from_right.new.self in
+    let parts = trees_of a1.diagrams c.in_ok-parts.parts.items in
+    let side = all_from_right (linked link.Parallel) parts in
+    feeds_refused a b (tree_of a.diagrams c.args.function) c.in-Err.refusal c.in_ok-given.given (trees_of a.diagrams c.args.arguments.items)
+    parts (makes_of a a1 b side side
+    (Err c.in-Err.refusal) c.in_ok-parts.ensures.adds.tables refl c.in-Err.ensures.makes) c.in_ok-parts.ensures.fills.trees
     (are_for (goal.at.returns-in-Err-clause-makes c).In_ok-parts)

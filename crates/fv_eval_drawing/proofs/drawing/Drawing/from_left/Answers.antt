@@ -15,4 +15,5 @@ operating-preserved c =
     drop-cons others i c.part-item.result here ∙ ap (λ x. x ∷ drop (suc i) others) (sym c.part-item.is) ∙ ap (λ n. c.part-item.result ∷ drop n others) more in
     operates_on c.args.self.now c.operating.self c.operate.new.self c.args.op c.args.first others
     (drop i others) (drop (i + 1) others) c.part-item.result c.operating.whole c.in_ok-whole.whole
-    c.operating.invariant e (All-drop (λ k. k < count_of c.args.self.now) i others c.requires.others) c.in_ok-whole.ensures.makes c.in_ok-whole.ensures.keeps
+    c.operating.invariant e
+    (All-drop (λ k. k < count_of c.args.self.now.diagrams) i others c.requires.others) c.in_ok-whole.ensures.makes c.in_ok-whole.ensures.keeps

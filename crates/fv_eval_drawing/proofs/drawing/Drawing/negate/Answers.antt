@@ -9,8 +9,11 @@ use Rattle.fv_eval_drawing.proofs.drawing.Drawing.negate.Goals as goal
 
 pub returns-clause-makes : goal.returns-clause-makes
 returns-clause-makes c =
-    let a = c.leaf.new.self in
+    let a = c.args.self.now in
+    let b = c.leaf.new.self in
     let p = prim.Point op.Sub in
-    makes_of c.operate.new.self (operated p (tree_of a c.in_ok-zero.zero) (tree_of a c.args.diagram)) (operated p (Constant (pos 0)) (tree_of
-    c.args.self.now c.args.diagram)) c.operate.result
-    (ap₂ (λ (x y : Diagram). operated p x y) c.in_ok-zero.ensures.draws.is (c.in_ok-zero.ensures.keeps.trees c.args.diagram c.requires)) c.operate.ensures.makes
+    let zero = c.in_ok-zero in
+    makes_of a b c.operate.new.self (operated p (tree_of b.diagrams zero.zero) (tree_of b.diagrams c.args.diagram))
+    (operated p (Constant (pos 0)) (tree_of a.diagrams c.args.diagram)) c.operate.result zero.ensures.adds.tables
+    (ap₂ (λ (x y : Diagram). operated p x y) zero.ensures.draws.is
+    (zero.ensures.adds.keeps.trees c.args.diagram c.requires)) c.operate.ensures.makes
