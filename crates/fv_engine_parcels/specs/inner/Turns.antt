@@ -1,0 +1,64 @@
+-- A task of a loop, between the parcels that it takes and those that it leaves (this project's profile).
+use Rattle.std.specs.Prelude.{◌≡◌, ℕ, suc, ◌+◌, ◌-◌, ◌/◌, ◌<◌, ◌≤◌, List, length, map, slice_index}
+use Rattle.fv_outside.specs.Tasks.{Tasks}
+use Rattle.fv_graph.specs.Graph.{stride, place_in, pair_at}
+use Rattle.fv_loopcode.specs.declared.step.Step.{Step}
+use Rattle.fv_loopcode.specs.Lanes.{Lane, lane_of}
+use Rattle.fv_loopcode.specs.Obeys.{Content, Holds, HoldsJust}
+use Rattle.fv_engine_lanes.specs.Plans.{own_lanes, locals_of, lanes_of_all, IsLocalCode}
+use Rattle.fv_engine_parcels.specs.Contents.{tasks_in, IsContentOf, upto}
+use Rattle.fv_engine_parcels.specs.declared.start.Start.{Start}
+
+-- an edge of a pair, at a vector
+pub record IsPairAt (g : Tasks) (v e : ℕ) : Type 0 where
+  pub pair : g.loops ≤ place_in g e
+  pub vector : e / stride g ≡ v
+
+-- the loop whose lanes go over an edge of a pair
+abbrev pub source_by : Tasks → ℕ → ℕ
+source_by g e = (pair_at g (place_in g e - g.loops)).source
+
+-- an edge of a pair out of loop j, at a vector
+pub record IsPairFrom (g : Tasks) (j v e : ℕ) : Type 0 where
+  pub at : IsPairAt g v e
+  pub source : source_by g e ≡ j
+
+-- an edge into loop j from itself, at a vector
+pub record IsChainAt (g : Tasks) (j v e : ℕ) : Type 0 where
+  pub inside : j < g.loops
+  pub place : place_in g e ≡ j
+  pub vector : e / stride g ≡ v
+
+-- all lanes that go over these edges
+abbrev pub lanes_by : Start → List ℕ → List ℕ
+lanes_by k es = lanes_of_all k.plan.now (map (source_by (tasks_in k)) es)
+
+module _ (k : Start) (j v : ℕ) where
+  abbrev pub own : List ℕ
+  own = own_lanes k.plan.now j
+
+  abbrev pub locals : List ℕ
+  locals = locals_of k.plan.now (tasks_in k) j
+
+  abbrev pub from : ℕ
+  from = upto k v
+
+  abbrev pub to : ℕ
+  to = upto k (suc v)
+
+  -- before the task: the loop's own lanes hold their values up to the vector, the seen ones up to the next
+  pub record Before (lanes : List Lane) : Type 0 where
+    pub long : length lanes ≡ length locals
+    pub mine : (f : Content) → IsContentOf k f → (i : ℕ) → i < length own → HoldsJust f (slice_index locals i) from (k.frames - from) (lane_of lanes i)
+    pub seen : (f : Content) → IsContentOf k f → (i : ℕ) → length own ≤ i → i < length locals → Holds f (slice_index locals i) to (lane_of lanes i)
+
+  -- what is known of the vector and of the code
+  pub record Known (code : List Step) : Type 0 where
+    pub inside : j < (tasks_in k).loops
+    pub le : from ≤ to
+    pub few : length own ≤ length locals
+    pub codes : IsLocalCode k.plan.now (tasks_in k) j code
+
+  -- after it the loop's own lanes hold theirs up to the next
+  abbrev pub After : List Lane → Type 0
+  After lanes = (f : Content) → IsContentOf k f → (i : ℕ) → i < length own → HoldsJust f (slice_index locals i) to (k.frames - to) (lane_of lanes i)

@@ -1,0 +1,20 @@
+// What goes over the edges.
+
+use fv_engine_lanes::LoopLanes;
+use fv_lines::Seen;
+
+/// What a loop's task hands to the loop's next task: its lane writers, its registers, and, still empty, the lists that its seen
+/// parcels will fill.
+#[derive(Drop)]
+pub struct Writers<'a> {
+    pub lanes: LoopLanes<'a>,
+    pub regs: Vec<i32>,
+    pub lists: Vec<Vec<Seen<'a>>>,
+}
+
+/// What goes over an edge: to the loop's next task its lane writers, to a task of another loop the loop's lanes, as they were seen.
+#[derive(Drop)]
+pub enum Content<'a> {
+    Writers(Box<Writers<'a>>),
+    Seen(Vec<Seen<'a>>),
+}

@@ -1,0 +1,20 @@
+// What determines a block.
+
+use fv_graph::Tasks;
+use fv_lines::LaneWriter;
+use fv_split_plan::Plan;
+use std::snapshot::Snapshot;
+
+/// What a block starts with: the plan, its tasks, the held values and the input in frames of so many channels, the vector size and
+/// the frames, and the lanes as they were begun.
+#[derive(Drop)]
+pub struct Start<'a, 'b> {
+    pub plan: &'b Plan,
+    pub tasks: &'b Tasks,
+    pub held: &'b [i32],
+    pub input: &'b [i32],
+    pub channels: u64,
+    pub vector: u32,
+    pub frames: u32,
+    pub lanes: Snapshot<Vec<LaneWriter<'a>>>,
+}
