@@ -6,6 +6,7 @@ use Rattle.fv_base.specs.declared.role.Role.TheVariants.{Program, Input, Control
 use Rattle.fv_base.specs.Lists.{IsPrefixOf}
 use Rattle.fv_outside.specs.Desk.{DeskState, HasFault, KeepsFaults, IsUnfailing, Appends}
 use Rattle.fv_outside.proofs.States.{goes_on_then, fault_earlier, told_before, unfailing_later}
+use Rattle.fv_top_words.specs.Commands.{Checking}
 use Rattle.fv_top_report.specs.declared.refusal.Refusal.{Refusal}
 use Rattle.fv_top_report.specs.declared.refusal.Refusal.TheVariants.{WriteFault}
 use Rattle.fv_top_text.specs.Program.{IsProgram}
@@ -15,9 +16,9 @@ use Rattle.fv_top.specs.Meant.{check_meant}
 use Rattle.fv_top_report.specs.Parts.{AppendsPart}
 use Rattle.fv_top.specs.Loading.{ReadsFile, StopsLoading, IsFile}
 use Rattle.fv_top.specs.Steps.{Halts, fault, judged, want_of_memory, reads, writes, here, later}
-use Rattle.fv_top.specs.Promise.{ReadProgram, HasProgram, HasNoProgram, HasRefusal, check_rules}
+use Rattle.fv_top.specs.Promise.{IsReadBy, ReadProgram, HasProgram, HasNoProgram, HasRefusal, check_rules}
 use Rattle.fv_top.specs.Running.{Checks, StopsCheck}
-use Rattle.fv_top.proofs.Reaching.{FailsToLoad, load_faults}
+use Rattle.fv_top.proofs.Reaching.{FailsToLoad, load_faults, is_another}
 
 -- numbers that are the same give the same line
 pub numbers_same : {i j o p n m s t d e : ℕ} → i ≡ j → o ≡ p → n ≡ m → s ≡ t → d ≡ e → check_line i o n s d ≡ check_line j p m t e
@@ -30,7 +31,7 @@ load_halts : (name : List ℕ) (a b : DeskState) (e : Refusal) → StopsLoading 
 load_halts name a b e (inl h) =
     subst (Halts (check_rules name a) a b ReadProgram) (sym h.0) (fault (reads Program) refl h.1.fault (λ t sure. h.1.unsure t sure))
 load_halts name a b e (inr (inl h)) = judged h.0 h.1
-load_halts name a b e (inr (inr m)) = subst (Halts (check_rules name a) a b ReadProgram) (sym m) want_of_memory
+load_halts name a b e (inr (inr m)) = subst (Halts (check_rules name a) a b ReadProgram) (sym m) (want_of_memory tt)
 
 pub check_stops : {name : List ℕ} {a b : DeskState} {e : Refusal}
     → FailsToLoad Program (Some name) (HasRefusal ReadProgram) (HasNoProgram name a.files) a b e → StopsCheck name a b e
@@ -38,7 +39,11 @@ check_stops {name} {a} {b} {e} f =
     let q = f.reads in
     record {
       goes_on = q.quiet.goes_on;
-      others = record { left = λ t r n m k. q.others t r n; written = λ t r n m. q.quiet.written t r; begins = λ r n. q.quiet.begins r };
+      others = record {
+        left = λ t r none. q.others t r (λ named. is_another (IsReadBy (Checking name)) {role = Program} tt none);
+        written = λ t r n m. q.quiet.written t r;
+        begins = λ r n. q.quiet.begins r;
+      };
       requests = q.requests;
       ends = here (load_halts name a b e f.stops);
       output = record { begins = q.quiet.begins Output; written = λ t. q.quiet.written t Output };
@@ -65,7 +70,7 @@ module _ (name : List ℕ) (p : Compiled) (a b c : DeskState) (q : ReadsFile Pro
         record {
           goes_on = goes_on_then on r.goes_on;
           others = record {
-            left = λ t x n m k. r.left (told_before on t) x ∙ q.others t x n;
+            left = λ t x none. r.left (told_before on t) x ∙ q.others t x (λ named. is_another (IsReadBy (Checking name)) {role = Program} tt none);
             written = λ t x n m. r.others (told_before on t) x m ∙ q.quiet.written t x;
             begins = λ x n. r.begins x ∙ q.quiet.begins x;
           };
@@ -92,12 +97,13 @@ module _ (name : List ℕ) (p : Compiled) (a b c : DeskState) (q : ReadsFile Pro
         record {
           goes_on = goes_on_then on r.goes_on;
           others = record {
-            left = λ t x n m k. r.left (told_before on t) x ∙ q.others t x n;
+            left = λ t x none. r.left (told_before on t) x ∙ q.others t x (λ named. is_another (IsReadBy (Checking name)) {role = Program} tt none);
             written = λ t x n m. r.others (told_before on t) x m ∙ q.quiet.written t x;
             begins = λ x n. r.begins x ∙ q.quiet.begins x;
           };
           requests = r.requests ∙ q.requests;
           faults = λ x. calm x ∙ steady x;
+          begins = r.begins Output ∙ q.quiet.begins Output;
           told = λ t.
               let later = told_before on t in (
                 has t,

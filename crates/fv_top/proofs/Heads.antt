@@ -1,7 +1,7 @@
 -- The head of an input, and the bytes behind it.
-use Rattle.std.proofs.Common.{◌≡◌, ℕ, List, [], ◌++◌, length, take, drop, sym, ◌∙◌, ap, arith, refl, inl, inr, length-append}
+use Rattle.std.proofs.Common.{◌≡◌, ℕ, List, [], ◌++◌, length, take, drop, sym, ◌∙◌, ap, subst, arith, refl, inl, inr, length-append}
 use Rattle.std.specs.Prelude.{IsTrue, Result, Ok, Err, Option, Some, None}
-use Rattle.std.proofs.lemmas.List.{drop_at}
+use Rattle.std.proofs.lemmas.List.{drop_at, drop-drop}
 use Rattle.fv_base.specs.declared.role.Role.TheVariants.{Input}
 use Rattle.fv_outside.specs.Desk.{DeskState, File, file_named}
 use Rattle.fv_outside.proofs.States.{told_before}
@@ -15,7 +15,7 @@ use Rattle.fv_top_report.specs.declared.refusal.Refusal.{Refusal}
 use Rattle.fv_top_report.specs.declared.refusal.Refusal.TheVariants.{ReadFault}
 use Rattle.fv_top.specs.Sources.{Source, headed, data_of}
 use Rattle.fv_top_report.specs.Layers.{of_wave}
-use Rattle.fv_top.specs.Loading.{ReadsFile, StopsLoading, HasInput, HasHead, IsLeft, wanted}
+use Rattle.fv_top.specs.Loading.{ReadsFile, StopsLoading, HasInput, HasHead, IsLeft, wanted, behind_wanted, IsRest, LeavesRest}
 use Rattle.fv_top.specs.Promise.{HasRefusal, ReadHead}
 use Rattle.fv_top.proofs.Loads.{cannot_later}
 
@@ -59,3 +59,14 @@ pub wanted_is : (h : Option Head) (source : Source) (left : List ℕ) → source
     → wanted h left ≡ data_of source.head source.bytes
 wanted_is None source left e l = sym (ap (λ (w : Option Head). data_of w source.bytes) e)
 wanted_is (Some h) source left e l = ap (take (whole_bytes h)) l.0 ∙ sym (ap (λ (w : Option Head). data_of w source.bytes) e)
+
+-- what is left behind what was wanted is left behind the whole frames
+pub rest_is : (head : Option Head) (bytes left new : List ℕ) → IsLeft head bytes left → new ≡ behind_wanted head left → IsRest head bytes new
+rest_is None bytes left new l e = tt
+rest_is (Some h) bytes left new l e = e ∙ ap (drop (whole_bytes h)) l.0 ∙ drop-drop (whole_bytes h) h.place bytes
+
+pub rest_left : {name : Option (List ℕ)} {files : List File} {head : Option Head} {left : List ℕ} (new : List ℕ) → HasHead name files head left
+    → new ≡ behind_wanted head left → LeavesRest name files new
+rest_left {head} {left} new h e =
+    let same = subst (λ (k : Option Head). IsRest k h.source.bytes new) (sym h.is) (rest_is head h.source.bytes left new h.behind e) in
+    record { source = h.source; input = h.input; rest = same }

@@ -19,7 +19,7 @@ use Rattle.fv_top_report.specs.Lines.{made_line}
 use Rattle.fv_top.specs.Meant.{make_meant}
 use Rattle.fv_top_report.specs.Parts.{AppendsPart}
 use Rattle.fv_top.specs.Steps.{Ends, fault, judged, want_of_memory, writes, here, later}
-use Rattle.fv_top.specs.Promise.{make_rules, make_steps}
+use Rattle.fv_top.specs.Promise.{HasRefusal, ReadProgram, Fit, make_rules, make_steps}
 use Rattle.fv_top.specs.Running.{Makes, StopsMake, HasSum, IsNotMade}
 
 -- ---- the program and its noise
@@ -42,14 +42,14 @@ answer_alike d xs ys frames got samples e f =
 -- ---- there is no sum
 
 no_sum : (voices frames : ℕ) (a : DeskState) (e : Refusal) → IsNotMade voices e → Ends (make_rules voices frames a) a a make_steps e []
-no_sum voices frames a e (inl m) = subst (λ (r : Refusal). Ends (make_rules voices frames a) a a make_steps r []) (sym m) (here want_of_memory)
+no_sum voices frames a e (inl m) = subst (λ (r : Refusal). Ends (make_rules voices frames a) a a make_steps r []) (sym m) (here (want_of_memory tt))
 no_sum voices frames a e (inr (inl h)) = here (judged h.0 (λ t. h.1))
 no_sum voices frames a e (inr (inr h)) = later (λ t. (h.1.0, h.1.1)) (here (judged h.0 (λ t. h.1)))
 
 pub make_stops : (voices frames : ℕ) (a : DeskState) (e : Refusal) → IsNotMade voices e → StopsMake voices frames a a e
 make_stops voices frames a e h = record {
   goes_on = goes_on_self a;
-  others = record { left = λ t r n m k. refl; written = λ t r n m. refl; begins = λ r n. refl };
+  others = record { left = λ t r none. refl; written = λ t r n m. refl; begins = λ r n. refl };
   requests = sym (append-nil a.requests);
   ends = no_sum voices frames a e h;
   output = record { begins = refl; written = λ t. refl };
@@ -58,6 +58,12 @@ make_stops voices frames a e h = record {
   is_begun = inl refl;
   faults = λ r other. refl;
 }
+
+-- want of memory and what a text is refused for are no fault of the report
+pub not_the_report : (voices : ℕ) (e : Refusal) → IsNotMade voices e → e ≡ WriteFault Report → ⊥
+not_the_report voices e (inl m) is = let same : NoMemory ≡ WriteFault Report = sym m ∙ is in absurd cc
+not_the_report voices e (inr (inl h)) is = let no = subst (HasRefusal ReadProgram) is h.0 in absurd cc
+not_the_report voices e (inr (inr h)) is = let no = subst (HasRefusal Fit) is h.0 in absurd cc
 
 -- ---- there is one, and it is reported
 
@@ -75,7 +81,7 @@ module _ (voices frames : ℕ) (sum : ℤ) (h : HasSum voices frames sum) (a c :
       let r = part.2 in
       record {
         goes_on = r.goes_on;
-        others = record { left = λ t x n m k. r.left t x; written = λ t x n m. r.others t x m; begins = λ x n. r.begins x };
+        others = record { left = λ t x none. r.left t x; written = λ t x n m. r.others t x m; begins = λ x n. r.begins x };
         requests = r.requests ∙ sym (append-nil a.requests);
         ends = later (λ t. (h.made.compiled, h.made.program)) (later (λ t. h.made) (here (fault (writes Report) refl failed (λ t sure.
             let size = ap length is in
@@ -91,9 +97,10 @@ module _ (voices frames : ℕ) (sum : ℤ) (h : HasSum voices frames sum) (a c :
   pub make_done : Appends Report (made_line voices frames sum) a c → KeepsFaults a c → Makes voices frames a c
   make_done r calm = record {
     goes_on = r.goes_on;
-    others = record { left = λ t x n m k. r.left t x; written = λ t x n m. r.others t x m; begins = λ x n. r.begins x };
+    others = record { left = λ t x none. r.left t x; written = λ t x n m. r.others t x m; begins = λ x n. r.begins x };
     requests = r.requests ∙ sym (append-nil a.requests);
     faults = calm;
+    begins = r.begins Output;
     made = h.made;
     told = λ t.
         elim [

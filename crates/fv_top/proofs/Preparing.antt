@@ -20,23 +20,14 @@ use Rattle.fv_top.specs.Sources.{frames_of, data_of}
 use Rattle.fv_top.specs.Output.{OutputFormat, format_of, present_in}
 use Rattle.fv_top.specs.Loading.{ReadsFile, StopsSamples, IsFile, HasScript, HasInput, HasHead, IsPlaced, wanted, reading}
 use Rattle.fv_top.specs.Steps.{Ends, Halts, here, later, judged, want_of_memory}
-use Rattle.fv_top.specs.Promise.{ReadProgram, ReadScript, ReadHead, Fit, ReadSamples, HasProgram, HasNoProgram, HasRefusal, Plays, Step, run_rules}
+use Rattle.fv_top.specs.Promise.{IsReadBy, ReadProgram, ReadScript, ReadHead, Fit, ReadSamples, HasProgram, HasNoProgram, HasRefusal, Plays, Step, run_rules}
 use Rattle.fv_top.specs.Running.{Reaches, CountsFaultOf, StopsBefore, Ready, IsReady, asked_before}
 use Rattle.fv_top.specs.Played.{sizes_of, AllRan}
 use Rattle.fv_top.specs.Prepared.{made_of}
 use Rattle.fv_top.proofs.Heads.{wanted_is}
 use Rattle.fv_top.proofs.Rendering.{made_is, placed_in}
-use Rattle.fv_top.proofs.Reaching.{FailsToLoad, IsRead, reaches_nothing, reaches_file, reaches_taken, reaches_on, loading_halts, samples_halt, load_faults}
+use Rattle.fv_top.proofs.Reaching.{FailsToLoad, reaches_nothing, reaches_file, reaches_taken, reaches_on, loading_halts, samples_halt, load_faults}
 use Rattle.fv_top.proofs.Reaching.{samples_faults, fit_kind}
-
-program_is_read : IsRead Program
-program_is_read r n m k = n
-
-controls_are_read : IsRead Controls
-controls_are_read r n m k = m
-
-input_is_read : IsRead Input
-input_is_read r n m k = k
 
 -- ---- what was read so far
 
@@ -49,14 +40,14 @@ pub record HasText (run : Run) (p : Compiled) (a : DeskState) : Type 0 where
 -- this program
 pub record AfterProgram (run : Run) (p : Compiled) (a b : DeskState) : Type 0 where
   pub of : HasText run p a
-  pub reaches : Reaches (to_read Program run.program ∷ []) a b
+  pub reaches : Reaches (IsReadBy (Playing run)) (to_read Program run.program ∷ []) a b
   pub before : KeepsFaults a b
 
 -- and the changes of its controls
 pub record AfterScript (run : Run) (p : Compiled) (changes : List Change) (a b : DeskState) : Type 0 where
   pub of : HasText run p a
   pub under : IsTrue a.tells → HasScript run.controls a.files p.controls (Ok changes)
-  pub reaches : Reaches (to_read Program run.program ∷ reading Controls run.controls) a b
+  pub reaches : Reaches (IsReadBy (Playing run)) (to_read Program run.program ∷ reading Controls run.controls) a b
   pub before : KeepsFaults a b
 
 -- and the head of the input
@@ -64,7 +55,7 @@ pub record AfterHead (run : Run) (p : Compiled) (changes : List Change) (head : 
   pub of : HasText run p a
   pub under : IsTrue a.tells → HasScript run.controls a.files p.controls (Ok changes)
   pub on : IsTrue a.tells → HasHead run.input a.files head (b.left Input)
-  pub reaches : Reaches (asked_before run) a b
+  pub reaches : Reaches (IsReadBy (Playing run)) (asked_before run) a b
   pub before : KeepsFaults a b
 
 abbrev has : {run : Run} {p : Compiled} {a : DeskState} → HasText run p a → IsTrue a.tells → HasProgram run.program a.files
@@ -72,9 +63,9 @@ has {p = p} of t = record { text = of.text; file = of.file t; compiled = p; prog
 
 pub after_program : {run : Run} {p : Compiled} {a b : DeskState} → ReadsFile Program (Some run.program) a b → KeepsFaults a b
     → (text : List ℕ) × IsFile run.program text a × IsProgram text p → AfterProgram run p a b
-after_program {a = a} q steady s = record {
+after_program {run} {a = a} q steady s = record {
   of = record { text = s.0; file = s.1; program = s.2 };
-  reaches = reaches_file program_is_read (reaches_nothing a) q;
+  reaches = reaches_file {Reads = IsReadBy (Playing run)} {role = Program} (λ named. tt) (reaches_nothing (IsReadBy (Playing run)) a) q;
   before = steady;
 }
 
@@ -85,7 +76,7 @@ after_script {run} {p} {changes} w q steady says = record {
   under = λ t.
       let on = w.reaches.quiet.goes_on in
       subst (λ (fs : List File). HasScript run.controls fs p.controls (Ok changes)) (on.files t) (says (told_before on t));
-  reaches = reaches_file controls_are_read w.reaches q;
+  reaches = reaches_file {Reads = IsReadBy (Playing run)} {role = Controls} (λ named. named) w.reaches q;
   before = λ r. steady r ∙ w.before r;
 }
 
@@ -97,7 +88,7 @@ after_head {run} {head = head} {c = c} w q steady says = record {
   on = λ t.
       let on = w.reaches.quiet.goes_on in
       subst (λ (fs : List File). HasHead run.input fs head (c.left Input)) (on.files t) (says (told_before on t));
-  reaches = reaches_file input_is_read w.reaches q;
+  reaches = reaches_file {Reads = IsReadBy (Playing run)} {role = Input} (λ named. named) w.reaches q;
   before = λ r. steady r ∙ w.before r;
 }
 
@@ -109,8 +100,9 @@ stops_program {run} {a} {b} {e} f =
     let P = HasNoProgram run.program a.files in
     record {
       asked = to_read Program run.program ∷ [];
-      reaches = reaches_file program_is_read (reaches_nothing a) f.reads;
-      ends = here (loading_halts run ReadProgram Program (Some run.program) P (reaches_nothing a) (λ s. refl) (λ x. x) (λ t r h. h) f.stops);
+      reaches = reaches_file {Reads = IsReadBy (Playing run)} {role = Program} (λ named. tt) (reaches_nothing (IsReadBy (Playing run)) a) f.reads;
+      ends = here (loading_halts run ReadProgram Program (Some run.program) P tt (reaches_nothing (IsReadBy (Playing run)) a) (λ s. refl) (λ x. x)
+          (λ t r h. h) f.stops);
       faults = load_faults a f (λ h. absurd cc) (λ r. refl);
     }
 
@@ -121,8 +113,8 @@ stops_script {run} {p} {a} {b} {c} {e} w f =
     let on = w.reaches.quiet.goes_on in
     record {
       asked = to_read Program run.program ∷ reading Controls run.controls;
-      reaches = reaches_file controls_are_read w.reaches f.reads;
-      ends = later (has w.of) (here (loading_halts run ReadScript Controls run.controls P w.reaches (λ s. (refl, s)) (λ x. x)
+      reaches = reaches_file {Reads = IsReadBy (Playing run)} {role = Controls} (λ named. named) w.reaches f.reads;
+      ends = later (has w.of) (here (loading_halts run ReadScript Controls run.controls P tt w.reaches (λ s. (refl, s)) (λ x. x)
           (λ t r h. (has w.of t, subst (λ (fs : List File). HasScript run.controls fs p.controls (Err r)) (on.files t) h)) f.stops));
       faults = load_faults a f (λ h. absurd cc) w.before;
     }
@@ -134,14 +126,18 @@ stops_head {run} {p} {changes} {a} {b} {c} {e} w f =
     let on = w.reaches.quiet.goes_on in
     record {
       asked = asked_before run;
-      reaches = reaches_file input_is_read w.reaches f.reads;
+      reaches = reaches_file {Reads = IsReadBy (Playing run)} {role = Input} (λ named. named) w.reaches f.reads;
       ends = later (has w.of) (later (λ t. (has w.of t, changes, w.under t))
-          (here (loading_halts run ReadHead Input run.input P w.reaches (λ s. (refl, s)) (λ x. x)
+          (here (loading_halts run ReadHead Input run.input P tt w.reaches (λ s. (refl, s)) (λ x. x)
           (λ t r h. subst (λ (fs : List File). HasInput run.input fs (Err r)) (on.files t) h) f.stops)));
       faults = load_faults a f (λ h. absurd cc) w.before;
     }
 
 -- ---- behind the head
+
+-- where the input is not read, no bytes of it are taken
+abbrev pub KeepsUnread : Run → (b c : DeskState) → Type 0
+KeepsUnread run b c = IsTrue b.tells → (IsSome run.input → ⊥) → c.left Input ≡ b.left Input
 
 module _ {run : Run} {p : Compiled} {changes : List Change} {head : Option Head} {a b : DeskState} (w : AfterHead run p changes head a b) where
   -- the steps up to the head passed
@@ -181,21 +177,23 @@ module _ {run : Run} {p : Compiled} {changes : List Change} {head : Option Head}
     }
 
     -- the samples are not read, or memory runs out
-    stops_then : (c : DeskState) (e : Refusal) → TakesSome Input b c → Halts (run_rules run a) a c ReadSamples e → CountsFaultOf e a c → StopsBefore run a c e
-    stops_then c e q halts faults = record {
+    stops_then : (c : DeskState) (e : Refusal) → TakesSome Input b c → KeepsUnread run b c → Halts (run_rules run a) a c ReadSamples e
+        → CountsFaultOf e a c → StopsBefore run a c e
+    stops_then c e q kept halts faults = record {
       asked = to_read Program run.program ∷ (reading Controls run.controls ++ (reading Input run.input ++ []));
-      reaches = reaches_taken (reaches_on run a b w.reaches) q;
+      reaches = reaches_taken (reaches_on run a b w.reaches) q kept;
       ends = passed c e _ [] (later plays (here halts));
       faults = faults;
     }
 
-    pub stops_samples : (c : DeskState) (e : Refusal) → (IsSome head → IsSome run.input) → TakesSome Input b c → StopsSamples head b c e
+    pub stops_samples : (c : DeskState) (e : Refusal) → (IsSome head → IsSome run.input) → IsSome head → TakesSome Input b c → StopsSamples head b c e
         → ((e ≡ ReadFault Input → ⊥) → KeepsFaults b c) → StopsBefore run a c e
-    stops_samples c e named q stops steady =
-        stops_then c e q (samples_halt run a b c head e w.reaches named stops) (samples_faults a b c head e w.before q steady stops)
+    stops_samples c e named some q stops steady =
+        stops_then c e q (λ t none. absurd (none (named some))) (samples_halt run a b c head e w.reaches named stops)
+        (samples_faults a b c head e w.before q steady stops)
 
-    pub stops_memory : (c : DeskState) → TakesSome Input b c → KeepsFaults b c → StopsBefore run a c NoMemory
-    stops_memory c q steady = stops_then c NoMemory q want_of_memory (λ r other. steady r ∙ w.before r)
+    pub stops_memory : (c : DeskState) → TakesSome Input b c → KeepsUnread run b c → KeepsFaults b c → StopsBefore run a c NoMemory
+    stops_memory c q kept steady = stops_then c NoMemory q kept (want_of_memory tt) (λ r other. steady r ∙ w.before r)
 
     -- what is there of the samples is what the head wants
     is_wanted : (raw : List ℕ) → (IsTrue b.tells → raw ≡ wanted head (b.left Input)) → (t : IsTrue a.tells)

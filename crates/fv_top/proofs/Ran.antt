@@ -1,10 +1,11 @@
 -- The blocks of a run and of a make, from those that were rendered.
-use Rattle.std.proofs.Common.{◌≡◌, ℕ, ◌+◌, ◌-◌, ◌*◌, ◌/◌, ◌^◌, ◌<◌, ◌≤◌, Bool, true, false, List, [], length, subst, refl, arith}
-use Rattle.std.specs.Prelude.{Option, Some, None, ◌==◌, if◌then◌else◌}
+use Rattle.std.proofs.Common.{◌≡◌, ℕ, ◌+◌, ◌-◌, ◌*◌, ◌/◌, ◌^◌, ◌<◌, ◌≤◌, Bool, true, false, List, [], length, subst, refl, inl, inr, sym, ◌∙◌, arith}
+use Rattle.std.specs.Prelude.{Option, Some, None, Result, Ok, Err, ◌==◌, if◌then◌else◌}
 use Rattle.std.specs.List.{AllByRecursion}
 use Rattle.std.proofs.Math.Nat.{div-mul-le_self, mul-le-mul_left}
 use Rattle.std.proofs.lemmas.Bool.{eqb-true}
 use Rattle.fv_base.proofs.Lists.{length_table}
+use Rattle.fv_base.specs.declared.role.Role.TheVariants.{Output}
 use Rattle.fv_num.specs.Frames.{Frame}
 use Rattle.fv_outside.specs.Journal.{Told}
 use Rattle.fv_outside.specs.Desk.{DeskState}
@@ -19,12 +20,14 @@ use Rattle.fv_wav.specs.Reading.{frame_size, unknown_size}
 use Rattle.fv_wav.specs.Samples.{whole_bytes}
 use Rattle.fv_wav.specs.Stopping.{IsHead}
 use Rattle.fv_top_words.specs.Runs.{Settings, AreSound}
-use Rattle.fv_top_words.specs.Commands.{Making}
+use Rattle.fv_top_words.specs.declared.cause.Cause.{Cause}
+use Rattle.fv_top_words.specs.Commands.{Job, Playing, Checking, Making, job_in}
+use Rattle.fv_top_report.specs.declared.refusal.Refusal.{Refusal}
 use Rattle.fv_top.specs.Sources.{frames_of}
 use Rattle.fv_top_text.specs.Program.{delays_in}
 use Rattle.fv_top_text.specs.Compiled.{compiled_of, CanPlay}
 use Rattle.fv_top.specs.Promise.{Asks}
-use Rattle.fv_top.specs.Played.{sizes_of, make_sizes, AllRan, MakeRan, MakeSoFar, RanSoFar}
+use Rattle.fv_top.specs.Played.{sizes_of, make_sizes, AllRan, MakeRan, MakeSoFar, RanSoFar, ComesFirst, HasBlocksSoFar}
 use Rattle.fv_top.specs.Prepared.{cut_at}
 use Rattle.fv_top.proofs.Rendering.{frame_some}
 
@@ -106,3 +109,31 @@ make_so_far {words} {voices} {frames} asks m = record {
   runs = m.runs;
   ran = (make_ran {voices = voices} {frames = frames} m.ran).0;
 }
+
+-- ---- what is told of a run that is refused
+
+-- words ask for one thing
+asks_once : (words : List (List ℕ)) (j k : Job) → Asks words j → Asks words k → j ≡ k
+asks_once words j k a b = let same = sym a ∙ b in cc
+
+-- a refusal that comes before any block
+pub untold_first : {words : List (List ℕ)} {job : Job} {e : Refusal} {old new : DeskState} {before after : Option Told} → Asks words job
+    → ComesFirst job e old new → after ≡ before → HasBlocksSoFar words e old new before after
+untold_first {words} {job} {e} {old} {new} asks first none =
+    inl (none, λ other also. subst (λ (j : Job). ComesFirst j e old new) (asks_once words job other asks also) first)
+
+-- words that ask for nothing
+pub untold_words : {words : List (List ℕ)} {cause : Cause} {e : Refusal} {old new : DeskState} {before after : Option Told} → job_in words ≡ Err cause
+    → after ≡ before → HasBlocksSoFar words e old new before after
+untold_words is none = inl (none, λ job asks. let wrong = sym is ∙ asks in absurd cc)
+
+-- a line of the report changes nothing of it
+first_later : (job : Job) (e : Refusal) (a b c : DeskState) → c.begins Output ≡ b.begins Output → ComesFirst job e a b → ComesFirst job e a c
+first_later (Playing run) e a b c same first = same ∙ first
+first_later (Checking name) e a b c same first = tt
+first_later (Making voices frames) e a b c same first = first
+
+pub so_far_later : {words : List (List ℕ)} {e : Refusal} {a b c : DeskState} {before after : Option Told} → c.begins Output ≡ b.begins Output
+    → HasBlocksSoFar words e a b before after → HasBlocksSoFar words e a c before after
+so_far_later {words} {e} {a} {b} {c} same (inl h) = inl (h.0, λ job asks. first_later job e a b c same (h.1 job asks))
+so_far_later same (inr h) = inr h

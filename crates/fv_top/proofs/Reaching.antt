@@ -3,45 +3,60 @@ use Rattle.std.proofs.Common.{◌≡◌, ◌≢◌, ℕ, ◌==◌, Bool, true, f
 use Rattle.std.specs.Prelude.{IsTrue, IsSome, Some, None, Option, Ok, Err, Result, if◌then◌else◌, nat_le}
 use Rattle.std.proofs.lemmas.List.{append-nil}
 use Rattle.fv_base.specs.declared.role.Role.{Role}
-use Rattle.fv_base.specs.declared.role.Role.TheVariants.{Program, Controls, Input}
+use Rattle.fv_base.specs.declared.role.Role.TheVariants.{Program, Controls, Input, Output, Report}
 use Rattle.fv_outside.specs.Requests.{Request, to_read}
 use Rattle.fv_outside.specs.Desk.{DeskState, KeepsFaults, TakesSome, IsUnfailing}
 use Rattle.fv_outside.proofs.States.{quiet_self, quiet_then, some_quiet, told_before, fault_earlier, unfailing_later}
 use Rattle.fv_diagram.specs.Diagram.{Diagram, inputs, outputs}
 use Rattle.fv_top_words.specs.Runs.{Run, Settings}
+use Rattle.fv_top_words.specs.Commands.{Playing}
 use Rattle.fv_wav.specs.declared.head.Head.{Head}
 use Rattle.fv_wav.specs.Samples.{data_size, data_limit}
 use Rattle.fv_top_report.specs.declared.refusal.Refusal.{Refusal}
 use Rattle.fv_top_report.specs.declared.refusal.Refusal.TheVariants.{ReadFault, Channels, FramesNeeded, OutputTooLong}
 use Rattle.fv_top.specs.Output.{OutputFormat, format_of, counted, channels_in, bits_in, frames_in}
-use Rattle.fv_top.specs.Loading.{ReadsFile, StopsLoading, StopsSamples, IsThere, reading}
+use Rattle.fv_top.specs.Loading.{ReadsFile, StopsLoading, StopsSamples, IsThere, reading, behind_wanted}
 use Rattle.fv_top.specs.Steps.{Halts, fault, judged, want_of_memory, reads}
-use Rattle.fv_top.specs.Promise.{Step, Fit, ReadSamples, TakesTurn, IsAnswered, HasRefusal, StepRefuses, run_rules}
+use Rattle.fv_top.specs.Promise.{WantsMemory, IsReadBy, Step, Fit, ReadSamples, TakesTurn, IsAnswered, HasRefusal, StepRefuses, run_rules}
 use Rattle.fv_top.specs.Running.{Reaches, CountsFaultOf, asked_before}
 
-pub reaches_nothing : (a : DeskState) → Reaches [] a a
-reaches_nothing a = record { quiet = quiet_self a; requests = sym (append-nil a.requests); left = λ t r n m k. refl }
+pub reaches_nothing : (Reads : Role → Type 0) (a : DeskState) → Reaches Reads [] a a
+reaches_nothing Reads a = record { quiet = quiet_self a; requests = sym (append-nil a.requests); left = λ t r none. refl }
 
--- one of the roles that a run reads
-abbrev pub IsRead : Role → Type 0
-IsRead role = (r : Role) → r ≢ Program → r ≢ Controls → r ≢ Input → r ≢ role
+-- a role that is not read is not this one, which is
+pub is_another : (Reads : Role → Type 0) {role r : Role} → Reads role → (Reads r → ⊥) → r ≢ role
+is_another Reads is none same = none (subst Reads (sym same) is)
 
 -- a file more was read
-pub reaches_file : {role : Role} {name : Option (List ℕ)} {asked : List Request} {a b c : DeskState} → IsRead role → Reaches asked a b
-    → ReadsFile role name b c → Reaches (asked ++ reading role name) a c
-reaches_file {role} {name} {asked} {a} is p q = record {
+pub reaches_file : {Reads : Role → Type 0} {role : Role} {name : Option (List ℕ)} {asked : List Request} {a b c : DeskState} → (IsSome name → Reads role)
+    → Reaches Reads asked a b → ReadsFile role name b c → Reaches Reads (asked ++ reading role name) a c
+reaches_file {Reads} {role} {name} {asked} {a} is p q = record {
   quiet = quiet_then p.quiet q.quiet;
   requests = q.requests ∙ ap (λ (rs : List Request). rs ++ reading role name) p.requests ∙ append_assoc a.requests asked (reading role name);
-  left = λ t r n m k. q.others (told_before p.quiet.goes_on t) r (is r n m k) ∙ p.left t r n m k;
+  left = λ t r none. q.others (told_before p.quiet.goes_on t) r (λ named. is_another Reads (is named) none) ∙ p.left t r none;
 }
 
--- and bytes of the input
-pub reaches_taken : {asked : List Request} {a b c : DeskState} → Reaches asked a b → TakesSome Input b c → Reaches asked a c
-reaches_taken p q = record {
+-- and bytes of the input, where it is read
+pub reaches_taken : {Reads : Role → Type 0} {asked : List Request} {a b c : DeskState} → Reaches Reads asked a b → TakesSome Input b c
+    → (IsTrue b.tells → (Reads Input → ⊥) → c.left Input ≡ b.left Input) → Reaches Reads asked a c
+reaches_taken p q kept = record {
   quiet = quiet_then p.quiet (some_quiet q);
   requests = q.takes.requests ∙ p.requests;
-  left = λ t r n m k. q.takes.others (told_before p.quiet.goes_on t) r k ∙ p.left t r n m k;
+  left = λ t.
+      let later = told_before p.quiet.goes_on t in
+      elim [
+        | Program ↦ λ none. q.takes.others later Program (λ e. absurd cc) ∙ p.left t Program none
+        | Input ↦ λ none. kept later none ∙ p.left t Input none
+        | Controls ↦ λ none. q.takes.others later Controls (λ e. absurd cc) ∙ p.left t Controls none
+        | Output ↦ λ none. q.takes.others later Output (λ e. absurd cc) ∙ p.left t Output none
+        | Report ↦ λ none. q.takes.others later Report (λ e. absurd cc) ∙ p.left t Report none
+      ];
 }
+
+-- where there is no head, no bytes were taken
+pub behind_kept : (head : Option Head) (old new : List ℕ) → new ≡ behind_wanted head old → (IsSome head → ⊥) → new ≡ old
+behind_kept None old new e none = e
+behind_kept (Some h) old new e none = absurd (none refl)
 
 -- ---- why a step halts
 
@@ -54,26 +69,27 @@ pub record FailsToLoad (role : Role) (name : Option (List ℕ)) (Kind P : Refusa
 -- what stops the loading of a file halts its step
 pub loading_halts : (run : Run) (s : Step) (role : Role) (name : Option (List ℕ)) (P : Refusal → Type 0)
     {asked : List Request} {a b c : DeskState} {e : Refusal}
-    → Reaches asked a b → (IsSome name → TakesTurn run s (reads role)) → (IsAnswered run a s (reads role) → IsUnfailing role a × IsThere name a.files)
+    → WantsMemory s → Reaches (IsReadBy (Playing run)) asked a b → (IsSome name → TakesTurn run s (reads role))
+    → (IsAnswered run a s (reads role) → IsUnfailing role a × IsThere name a.files)
     → (IsTrue a.tells → (r : Refusal) → P r → StepRefuses run a.files s r) → StopsLoading role name (HasRefusal s) P b c e
     → Halts (run_rules run a) a c s e
-loading_halts run s role name P {a = a} {c = c} p takes answers refuses (inl h) =
+loading_halts run s role name P {a = a} {c = c} m p takes answers refuses (inl h) =
     let on = p.quiet.goes_on in
     subst (Halts (run_rules run a) a c s) (sym h.0)
     (fault (reads role) (takes h.1.named) (fault_earlier c role on h.1.fault) (λ t sure.
     let w = answers sure in
     h.1.unsure (told_before on t) (unfailing_later role on t w.0, subst (IsThere name) (sym (on.files t)) w.1)))
-loading_halts run s role name P {e = e} p takes answers refuses (inr (inl h)) = judged h.0 (λ t. refuses t e (h.1 (told_before p.quiet.goes_on t)))
-loading_halts run s role name P {a = a} {c = c} p takes answers refuses (inr (inr m)) = subst (Halts (run_rules run a) a c s) (sym m) want_of_memory
+loading_halts run s role name P {e = e} m p takes answers refuses (inr (inl h)) = judged h.0 (λ t. refuses t e (h.1 (told_before p.quiet.goes_on t)))
+loading_halts run s role name P {a = a} {c = c} w p takes answers refuses (inr (inr m)) = subst (Halts (run_rules run a) a c s) (sym m) (want_of_memory w)
 
 -- and so does what stops the samples
-pub samples_halt : (run : Run) {asked : List Request} (a b c : DeskState) (head : Option Head) (e : Refusal) → Reaches asked a b
+pub samples_halt : (run : Run) {asked : List Request} (a b c : DeskState) (head : Option Head) (e : Refusal) → Reaches (IsReadBy (Playing run)) asked a b
     → (IsSome head → IsSome run.input) → StopsSamples head b c e → Halts (run_rules run a) a c ReadSamples e
 samples_halt run a b c head e p named (inl h) =
     let on = p.quiet.goes_on in
     subst (Halts (run_rules run a) a c ReadSamples) (sym h.0)
     (fault (reads Input) (refl, named h.1) (fault_earlier c Input on h.2.counted) (λ t sure. h.2.due (told_before on t) (unfailing_later Input on t sure)))
-samples_halt run a b c head e p named (inr m) = subst (Halts (run_rules run a) a c ReadSamples) (sym m) want_of_memory
+samples_halt run a b c head e p named (inr m) = subst (Halts (run_rules run a) a c ReadSamples) (sym m) (want_of_memory tt)
 
 -- no fault is counted but the one that stops it
 pub load_faults : {role : Role} {name : Option (List ℕ)} {Kind P : Refusal → Type 0} (a : DeskState) {b c : DeskState} {e : Refusal}
@@ -114,8 +130,8 @@ fit_kind s d head e is =
     kind_chosen (channels_in head == inputs d) (counted s d head frames) (channels_in head) (inputs d) e (kind_counted s d head frames e) is
 
 -- nothing more is asked for by the steps that judge and compute
-pub reaches_on : (run : Run) (a b : DeskState) → Reaches (asked_before run) a b
-    → Reaches (to_read Program run.program ∷ (reading Controls run.controls ++ (reading Input run.input ++ []))) a b
+pub reaches_on : (run : Run) (a b : DeskState) → Reaches (IsReadBy (Playing run)) (asked_before run) a b
+    → Reaches (IsReadBy (Playing run)) (to_read Program run.program ∷ (reading Controls run.controls ++ (reading Input run.input ++ []))) a b
 reaches_on run a b p =
-    let Asked : List Request → Type 0 = λ rs. Reaches (to_read Program run.program ∷ (reading Controls run.controls ++ rs)) a b in
+    let Asked : List Request → Type 0 = λ rs. Reaches (IsReadBy (Playing run)) (to_read Program run.program ∷ (reading Controls run.controls ++ rs)) a b in
     subst Asked (sym (append-nil (reading Input run.input))) p

@@ -1,34 +1,36 @@
 -- How a run ends, from how its steps do.
 use Rattle.std.proofs.Common.{◌≡◌, ◌⊎◌, ℕ, ◌+◌, ◌%◌, ◌^◌, ◌≤◌, List, [], ◌∷◌, ◌++◌, length, length-append, sym, ◌∙◌, ap, subst, refl, inl, inr, ⊎_elim}
 use Rattle.std.proofs.Common.{append_assoc, arith}
-use Rattle.std.specs.Prelude.{IsTrue, Some, None, Ok, Err, OnOk, OnErr, Result}
+use Rattle.std.specs.Prelude.{IsTrue, Option, Some, None, Ok, Err, OnOk, OnErr, Result}
 use Rattle.std.proofs.lemmas.List.{append-nil}
 use Rattle.fv_outside.specs.declared.desk.Failed.{Failed}
+use Rattle.fv_base.specs.declared.role.Role.{Role}
 use Rattle.fv_base.specs.declared.role.Role.TheVariants.{Program, Input, Controls, Output, Report}
 use Rattle.fv_base.specs.Lists.{IsPrefixOf}
 use Rattle.fv_outside.specs.Requests.{Request, to_read, to_write}
-use Rattle.fv_outside.specs.Desk.{DeskState, GoesOn, HasFault, KeepsFaults, IsUnfailing, Appends}
+use Rattle.fv_outside.specs.Desk.{DeskState, File, GoesOn, HasFault, KeepsFaults, IsUnfailing, Appends}
 use Rattle.fv_outside.proofs.States.{goes_on_then, fault_earlier, fault_later, told_before, unfailing_later}
 use Rattle.fv_top_words.specs.declared.cause.Cause.{Cause}
 use Rattle.fv_top_words.specs.Runs.{Run}
-use Rattle.fv_top_words.specs.Commands.{Playing, Checking, Making, job_in}
+use Rattle.fv_top_words.specs.Commands.{Job, Playing, Checking, Making, job_in}
 use Rattle.fv_top_report.specs.declared.refusal.Refusal.{Refusal}
-use Rattle.fv_top_report.specs.declared.refusal.Refusal.TheVariants.{Usage, WriteFault, WaveTruncated}
+use Rattle.fv_top_report.specs.declared.refusal.Refusal.TheVariants.{Usage, WriteFault, WaveTruncated, NoMemory}
 use Rattle.fv_top_report.specs.Lines.{refused_line, done_line}
 use Rattle.fv_top_report.specs.Parts.{AppendsPart}
-use Rattle.fv_top.specs.Steps.{Rules, role_of, writes, Halts, fault, judged, want_of_memory, Ends, here, later}
-use Rattle.fv_top.specs.Loading.{reading}
+use Rattle.fv_top.specs.Steps.{Rules, Turn, role_of, fault_of, reads, writes, Halts, fault, judged, want_of_memory, Ends, here, later}
+use Rattle.fv_top.specs.Loading.{HasInput, LeavesRest, reading}
 use Rattle.fv_top.specs.Promise.{Asks, Write, Tell, HasRoom, meant, run_rules, run_steps, rules_of, steps_of, CanDo, meant_of, HasCause, bad_words, of_job}
-use Rattle.fv_top.specs.Promise.{HasBegun, LeavesOutput, KeepsOthers}
+use Rattle.fv_top.specs.Promise.{check_rules, check_steps, make_rules, make_steps, HasBegun, LeavesOutput, HasPlayedPresent, CutsShort, IsReadBy, IsRead, KeepsOthers}
 use Rattle.fv_top.specs.Running.{Reaches, Delivers, CannotWrite, LeavesPart, CountsFaultOf, Ready, IsReady, file_in, StopsBefore, Checks, StopsCheck, Makes}
-use Rattle.fv_top.specs.Running.{StopsMake, asked_before, EndsDone, Stopped, ReportsLine, EndsRefused}
+use Rattle.fv_top.specs.Running.{StopsMake, steps_before, asked_before, EndsDone, Stopped, ReportsLine, EndsRefused}
 use Rattle.fv_top.proofs.Reaching.{reaches_nothing}
+use Rattle.fv_top.proofs.StepLaws.{OfSome, Judges, ends_more, judged_in}
 
 -- a cause between two states is one up to any later state
 halts_later : {S : Type 0} (k : Rules S) (a b c : DeskState) (s : S) (e : Refusal) → GoesOn b c → Halts k a b s e → Halts k a c s e
 halts_later k a b c s e g (fault t takes f unsure) = fault t takes (fault_later a (role_of t) g f) unsure
 halts_later k a b c s e g (judged of r) = judged of r
-halts_later k a b c s e g want_of_memory = want_of_memory
+halts_later k a b c s e g (want_of_memory w) = want_of_memory w
 
 ends_later : {S : Type 0} (k : Rules S) (a b c : DeskState) (steps : List S) (e : Refusal) (asked : List Request) → GoesOn b c
     → Ends k a b steps e asked → Ends k a c steps e asked
@@ -42,22 +44,77 @@ cause_later words a b c e asked g (bad_words h) = bad_words h
 cause_later words a b c e asked g (of_job job asks h) = of_job job asks (ends_later (rules_of job a) a b c (steps_of job) e asked g h)
 
 -- a line of the report leaves the others alone
-others_told : {line : List ℕ} {a b c : DeskState} → GoesOn a b → KeepsOthers a b → Appends Report line b c → KeepsOthers a c
+others_told : {Reads : Role → Type 0} {line : List ℕ} {a b c : DeskState} → GoesOn a b → KeepsOthers Reads a b → Appends Report line b c
+    → KeepsOthers Reads a c
 others_told on kept q = record {
-  left = λ t x n m k. q.left (told_before on t) x ∙ kept.left t x n m k;
+  left = λ t x none. q.left (told_before on t) x ∙ kept.left t x none;
   written = λ t x n m. q.others (told_before on t) x m ∙ kept.written t x n m;
   begins = λ x n. q.begins x ∙ kept.begins x n;
 }
 
+-- and the input
+rest_told : {name : Option (List ℕ)} {files : List File} {line : List ℕ} {a b : DeskState} → IsTrue a.tells → Appends Report line a b
+    → LeavesRest name files (a.left Input) → LeavesRest name files (b.left Input)
+rest_told {name} {files} t q rest = subst (LeavesRest name files) (sym (q.left t Input)) rest
+
+-- what is asked for reads no more than the words ask for
+others_for : (words : List (List ℕ)) {job : Job} {a b : DeskState} → Asks words job → KeepsOthers (IsReadBy job) a b → KeepsOthers (IsRead words) a b
+others_for words {job = job} asks kept = record {
+  left = λ t x none. kept.left t x (λ is. none (job, asks, is));
+  written = kept.written;
+  begins = kept.begins;
+}
+
+-- ---- an input that ends too early
+
+no_fault : (place : ℕ) (t : Turn) → WaveTruncated place ≡ fault_of t → ⊥
+no_fault place (reads role) is = absurd cc
+no_fault place (writes role) is = absurd cc
+
+judged_cut : {S : Type 0} (k : Rules S) (a b : DeskState) (steps : List S) (e : Refusal) (place : ℕ) (asked : List Request) → e ≡ WaveTruncated place
+    → Ends k a b steps e asked → OfSome (Judges k (WaveTruncated place)) steps
+judged_cut k a b steps e place asked is h =
+    judged_in k a b steps (WaveTruncated place) asked (no_fault place) (λ m. absurd cc) (subst (λ (r : Refusal). Ends k a b steps r asked) is h)
+
+-- before anything is written, of its steps only that of the head judges it so
+head_judged : (run : Run) (a : DeskState) (place : ℕ) → IsTrue a.tells → OfSome (Judges (run_rules run a) (WaveTruncated place)) steps_before
+    → HasInput run.input a.files (Err (WaveTruncated place))
+head_judged run a place t (inl h) = let no = h.0 in absurd cc
+head_judged run a place t (inr (inl h)) = let no = h.0 in absurd cc
+head_judged run a place t (inr (inr (inl h))) = h.1 t
+head_judged run a place t (inr (inr (inr (inl h)))) = let no = h.0 in absurd cc
+head_judged run a place t (inr (inr (inr (inr (inl h))))) = let no = h.0 in absurd cc
+head_judged run a place t (inr (inr (inr (inr (inr h))))) = absurd h
+
+head_cut : (run : Run) (a b : DeskState) (e : Refusal) (place : ℕ) (asked : List Request) → e ≡ WaveTruncated place → IsTrue a.tells
+    → Ends (run_rules run a) a b steps_before e asked → HasInput run.input a.files (Err e)
+head_cut run a b e place asked is t h =
+    let head = head_judged run a place t (judged_cut (run_rules run a) a b steps_before e place asked is h) in
+    subst (λ (r : Refusal). HasInput run.input a.files (Err r)) (sym is) head
+
+-- a check reads no input
+check_judged : (name : List ℕ) (a : DeskState) (place : ℕ) → OfSome (Judges (check_rules name a) (WaveTruncated place)) check_steps → ⊥
+check_judged name a place (inl h) = let no = h.0 in absurd cc
+check_judged name a place (inr (inl h)) = let no = h.0 in absurd cc
+check_judged name a place (inr (inr h)) = h
+
+-- and neither does a make
+make_judged : (voices frames : ℕ) (a : DeskState) (place : ℕ) → OfSome (Judges (make_rules voices frames a) (WaveTruncated place)) make_steps → ⊥
+make_judged voices frames a place (inl h) = let no = h.0 in absurd cc
+make_judged voices frames a place (inr (inl h)) = let no = h.0 in absurd cc
+make_judged voices frames a place (inr (inr (inl h))) = let no = h.0 in absurd cc
+make_judged voices frames a place (inr (inr (inr h))) = h
+
 -- ---- before anything is written
 
-stopped_by : (words : List (List ℕ)) (a b : DeskState) (e : Refusal) (asked : List Request) → Reaches asked a b → HasCause words a b e asked
-    → CountsFaultOf e a b → Stopped words a b e
-stopped_by words a b e asked p cause faults = record {
+stopped_by : (words : List (List ℕ)) (a b : DeskState) (e : Refusal) (asked : List Request) → Reaches (IsRead words) asked a b
+    → HasCause words a b e asked → CutsShort words e a b → CountsFaultOf e a b → Stopped words a b e
+stopped_by words a b e asked p cause cut faults = record {
   goes_on = p.quiet.goes_on;
   others = record { left = p.left; written = λ t r n m. p.quiet.written t r; begins = λ r n. p.quiet.begins r };
   cause = record { asked = asked; requests = p.requests; cause = cause };
   output = inl (record { begins = p.quiet.begins Output; written = λ t. p.quiet.written t Output });
+  cut = cut;
   begun = [];
   appended = λ t. p.quiet.written t Report ∙ sym (append-nil (a.written Report));
   is_begun = inl refl;
@@ -66,20 +123,30 @@ stopped_by words a b e asked p cause faults = record {
 
 -- the words are refused
 pub stopped_usage : (words : List (List ℕ)) (a : DeskState) (cause : Cause) → job_in words ≡ Err cause → Stopped words a a (Usage cause)
-stopped_usage words a cause is = stopped_by words a a (Usage cause) [] (reaches_nothing a) (bad_words is) (λ r other. refl)
+stopped_usage words a cause is = stopped_by words a a (Usage cause) [] (reaches_nothing (IsRead words) a) (bad_words is) (λ place is. absurd cc) (λ r other. refl)
 
 -- a step that reads cannot go on
 pub stopped_before : {words : List (List ℕ)} {run : Run} {a b : DeskState} {e : Refusal} → Asks words (Playing run) → StopsBefore run a b e
     → Stopped words a b e
-stopped_before {words} {run} {a} {b} {e} asks s = stopped_by words a b e s.asked s.reaches (of_job (Playing run) asks s.ends) s.faults
+stopped_before {words} {run} {a} {b} {e} asks s =
+    let p = s.reaches in
+    let reaches : Reaches (IsRead words) s.asked a b = record {
+      quiet = p.quiet;
+      requests = p.requests;
+      left = λ t x none. p.left t x (λ is. none (Playing run, asks, is));
+    } in
+    let ends = ends_more (run_rules run a) a b steps_before (Write ∷ Tell ∷ []) e s.asked s.ends in
+    stopped_by words a b e s.asked reaches (of_job (Playing run) asks ends) (λ place is t. (run, asks, inl (head_cut run a b e place s.asked is t s.ends)))
+    s.faults
 
 -- ---- when the output is written
 
 -- from a, all was read in b, and the output was begun by c
 pub record Begins (words : List (List ℕ)) (run : Run) (r : Ready) (a b c : DeskState) : Type 0 where
   pub asks : Asks words (Playing run)
-  pub reaches : Reaches (asked_before run) a b
+  pub reaches : Reaches (IsReadBy (Playing run)) (asked_before run) a b
   pub before : KeepsFaults a b
+  pub rest : IsTrue a.tells → LeavesRest run.input a.files (b.left Input)
   pub ready : IsReady run a r
   pub delivers : Delivers run.output b c
 
@@ -108,9 +175,9 @@ module _ {words : List (List ℕ)} {run : Run} {r : Ready} {a b c : DeskState} (
       w.delivers.requests ∙ ap (λ (rs : List Request). rs ++ output) w.reaches.requests ∙ append_assoc a.requests (asked_before run) output
       ∙ ap (λ (rs : List Request). a.requests ++ (to_read Program run.program ∷ rs)) behind_controls
 
-  others_by : KeepsOthers a c
+  others_by : KeepsOthers (IsRead words) a c
   others_by = record {
-    left = λ t x n m k. w.delivers.left (told_by t) x ∙ w.reaches.left t x n m k;
+    left = λ t x none. w.delivers.left (told_by t) x ∙ w.reaches.left t x (λ is. none (Playing run, w.asks, is));
     written = λ t x n m. w.delivers.written (told_by t) x n ∙ w.reaches.quiet.written t x;
     begins = λ x n. w.delivers.begins x n ∙ w.reaches.quiet.begins x;
   }
@@ -129,20 +196,24 @@ module _ {words : List (List ℕ)} {run : Run} {r : Ready} {a b c : DeskState} (
   report_by : IsTrue a.tells → c.written Report ≡ a.written Report
   report_by t = w.delivers.written (told_by t) Report (λ e. absurd cc) ∙ w.reaches.quiet.written t Report
 
-  part_by : (e : Refusal) → LeavesPart (file_in r) b c → ((place : ℕ) → e ≡ WaveTruncated place → IsTrue b.tells → c.written Output ≡ file_in r)
-      → LeavesOutput words e a c
-  part_by e (inl k) all = inl (record {
+  rest_by : IsTrue a.tells → LeavesRest run.input a.files (c.left Input)
+  rest_by t = subst (LeavesRest run.input a.files) (sym (w.delivers.left (told_by t) Input)) (w.rest t)
+
+  part_by : (e : Refusal) → (e ≡ NoMemory → ⊥) → LeavesPart (file_in r) b c → LeavesOutput words e a c
+  part_by e some (inl k) = inl (record {
     begins = k.begins ∙ w.reaches.quiet.begins Output;
     written = λ t. k.written (told_by t) ∙ w.reaches.quiet.written t Output;
   })
-  part_by e (inr k) all = inr (record {
+  part_by e some (inr k) = inr (record {
     run = run;
     asks = w.asks;
     begun = k.0 ∙ ap (λ n. (n + 1) % 2 ^ 64) (w.reaches.quiet.begins Output);
+    memory = some;
+    rest = rest_by;
     told = λ t.
         let x = w.ready t in
         let q = k.1 (told_by t) in
-        (x.0, record { rest = q.rest; is = sym x.3 ∙ q.is }, λ place is. all place is (told_by t) ∙ x.3);
+        (x.0, record { rest = q.rest; is = sym x.3 ∙ q.is });
   })
 
   -- it was not written
@@ -161,7 +232,8 @@ module _ {words : List (List ℕ)} {run : Run} {r : Ready} {a b c : DeskState} (
           let room = w.reaches.quiet.goes_on.room t Output in
           cannot.unsure (told_by t) (unfailing_later Output w.reaches.quiet.goes_on t sure.0, omega arith)))));
     };
-    output = part_by (WriteFault Output) part (λ place is. absurd cc);
+    output = part_by (WriteFault Output) (λ m. absurd cc) part;
+    cut = λ place is. absurd cc;
     begun = [];
     appended = λ t. report_by t ∙ sym (append-nil (a.written Report));
     is_begun = inl refl;
@@ -169,6 +241,9 @@ module _ {words : List (List ℕ)} {run : Run} {r : Ready} {a b c : DeskState} (
   }
 
 module _ {words : List (List ℕ)} {run : Run} {r : Ready} {a b c : DeskState} (w : Writes words run r a b c) where
+  begun_by : HasBegun a c
+  begun_by = w.begun ∙ ap (λ n. (n + 1) % 2 ^ 64) (w.begins.reaches.quiet.begins Output)
+
   whole_part : LeavesPart (file_in r) b c
   whole_part = inr (w.begun, λ t. record { rest = []; is = sym (w.written t) ∙ sym (append-nil (c.written Output)) })
 
@@ -183,7 +258,10 @@ module _ {words : List (List ℕ)} {run : Run} {r : Ready} {a b c : DeskState} (
       cause = of_job (Playing run) w.begins.asks (behind w.begins c (WaveTruncated place) (to_write Output run.output ∷ [])
           (here (judged refl (λ t. let x = w.begins.ready t in (x.0, x.1 ∙ cut)))));
     };
-    output = part_by w.begins (WaveTruncated place) whole_part (λ at is t. w.written t);
+    output = part_by w.begins (WaveTruncated place) (λ m. absurd cc) whole_part;
+    cut = λ at is t.
+        let x = w.begins.ready t in
+        (run, w.begins.asks, inr (record { begun = begun_by; plays = x.0; written = w.written (told_by w.begins t) ∙ x.3 }));
     begun = [];
     appended = λ t. report_by w.begins t ∙ sym (append-nil (a.written Report));
     is_begun = inl refl;
@@ -223,12 +301,15 @@ module _ {words : List (List ℕ)} {run : Run} {r : Ready} {a b c : DeskState} (
           output = inr (record {
             run = run;
             asks = w.begins.asks;
-            begun = q.begins Output ∙ w.begun ∙ ap (λ n. (n + 1) % 2 ^ 64) (w.begins.reaches.quiet.begins Output);
+            begun = q.begins Output ∙ begun_by;
+            memory = λ m. absurd cc;
+            rest = λ t. rest_told (told_before on t) q (rest_by w.begins t);
             told = λ t.
                 let x = w.begins.ready t in
                 let same = q.others (told_before on t) Output (λ e. absurd cc) ∙ w.written (told_by w.begins t) ∙ x.3 in
-                (x.0, record { rest = []; is = sym same ∙ sym (append-nil (d.written Output)) }, λ place is. absurd cc);
+                (x.0, record { rest = []; is = sym same ∙ sym (append-nil (d.written Output)) });
           });
+          cut = λ place is. absurd cc;
           begun = part.0;
           appended = λ t. q.appended (told_before on t) ∙ ap (λ v. v ++ part.0) (report_by w.begins t);
           is_begun = inr (refl, (Playing run, w.begins.asks, begun_line));
@@ -247,6 +328,8 @@ module _ {words : List (List ℕ)} {run : Run} {r : Ready} {a b c : DeskState} (
             asks = w.begins.asks;
             requests = q.requests ∙ requests_by w.begins;
             faults = λ x. steady x ∙ w.steady x ∙ w.begins.before x;
+            begins = q.begins Output ∙ begun_by;
+            rest = λ t. rest_told (told_before on t) q (rest_by w.begins t);
             told = λ t.
                 let x = w.begins.ready t in
                 let told = told_by w.begins t in
@@ -271,11 +354,12 @@ module _ {words : List (List ℕ)} {run : Run} {r : Ready} {a b c : DeskState} (
 
 pub stopped_check : {words : List (List ℕ)} {name : List ℕ} {a b : DeskState} {e : Refusal} → Asks words (Checking name) → StopsCheck name a b e
     → Stopped words a b e
-stopped_check {words} {name} asks s = record {
+stopped_check {words} {name} {a} {b} {e} asks s = record {
   goes_on = s.goes_on;
-  others = s.others;
+  others = others_for words asks s.others;
   cause = record { asked = to_read Program name ∷ []; requests = s.requests; cause = of_job (Checking name) asks s.ends };
   output = inl s.output;
+  cut = λ place is t. absurd (check_judged name a place (judged_cut (check_rules name a) a b check_steps e place _ is s.ends));
   begun = s.begun;
   appended = s.appended;
   is_begun = ⊎_elim inl (λ h. inr (h.0, (Checking name, asks, h.1))) s.is_begun;
@@ -285,19 +369,28 @@ stopped_check {words} {name} asks s = record {
 pub checked : {words : List (List ℕ)} {name : List ℕ} {a b : DeskState} → Asks words (Checking name) → Checks name a b → EndsDone words 0 a b
 checked {words} {name} asks c = record {
   goes_on = c.goes_on;
-  others = c.others;
-  played = record { job = Checking name; asks = asks; requests = c.requests; faults = c.faults; told = λ t. let x = c.told t in (x.0, refl, λ u. x.1) };
+  others = others_for words asks c.others;
+  played = record {
+    job = Checking name;
+    asks = asks;
+    requests = c.requests;
+    faults = c.faults;
+    begins = c.begins;
+    rest = λ t. tt;
+    told = λ t. let x = c.told t in (x.0, refl, λ u. x.1);
+  };
 }
 
 -- ---- a make
 
 pub stopped_make : {words : List (List ℕ)} {voices frames : ℕ} {a b : DeskState} {e : Refusal} → Asks words (Making voices frames)
     → StopsMake voices frames a b e → Stopped words a b e
-stopped_make {words} {voices} {frames} asks s = record {
+stopped_make {words} {voices} {frames} {a} {b} {e} asks s = record {
   goes_on = s.goes_on;
-  others = s.others;
+  others = others_for words asks s.others;
   cause = record { asked = []; requests = s.requests; cause = of_job (Making voices frames) asks s.ends };
   output = inl s.output;
+  cut = λ place is t. absurd (make_judged voices frames a place (judged_cut (make_rules voices frames a) a b make_steps e place _ is s.ends));
   begun = s.begun;
   appended = s.appended;
   is_begun = ⊎_elim inl (λ h. inr (h.0, (Making voices frames, asks, h.1))) s.is_begun;
@@ -308,8 +401,16 @@ pub made : {words : List (List ℕ)} {voices frames : ℕ} {a b : DeskState} →
     → EndsDone words frames a b
 made {words} {voices} {frames} asks c = record {
   goes_on = c.goes_on;
-  others = c.others;
-  played = record { job = Making voices frames; asks = asks; requests = c.requests; faults = c.faults; told = λ t. (c.made, refl, c.told) };
+  others = others_for words asks c.others;
+  played = record {
+    job = Making voices frames;
+    asks = asks;
+    requests = c.requests;
+    faults = c.faults;
+    begins = c.begins;
+    rest = λ t. tt;
+    told = λ t. (c.made, refl, c.told);
+  };
 }
 
 -- ---- and when a refusal was reported
@@ -339,11 +440,28 @@ output_later words line a b c e g r (inr k) = inr (record {
   run = k.run;
   asks = k.asks;
   begun = r.begins Output ∙ k.begun;
+  memory = k.memory;
+  rest = λ t. rest_told (told_before g t) r (k.rest t);
   told = λ t.
       let p = k.told t in
       let same = r.others (told_before g t) Output (λ f. absurd cc) in
-      (p.0, record { rest = p.1.rest; is = p.1.is ∙ ap (λ w. w ++ p.1.rest) (sym same) }, λ place is. same ∙ p.2 place is);
+      (p.0, record { rest = p.1.rest; is = p.1.is ∙ ap (λ w. w ++ p.1.rest) (sym same) });
 })
+
+-- and as much of it as was played
+present_later : {run : Run} {line : List ℕ} {a b c : DeskState} → IsTrue b.tells → Appends Report line b c → HasPlayedPresent run a b
+    → HasPlayedPresent run a c
+present_later t r k = record {
+  begun = r.begins Output ∙ k.begun;
+  plays = k.plays;
+  written = r.others t Output (λ f. absurd cc) ∙ k.written;
+}
+
+cut_later : (words : List (List ℕ)) {line : List ℕ} {a b c : DeskState} (e : Refusal) → GoesOn a b → Appends Report line b c
+    → CutsShort words e a b → CutsShort words e a c
+cut_later words e g r cut = λ place is t.
+    let x = cut place is t in
+    (x.0, x.1, ⊎_elim inl (λ k. inr (present_later (told_before g t) r k)) x.2)
 
 pub ends_refused : {words : List (List ℕ)} {a b c : DeskState} {e : Refusal} → Stopped words a b e → ReportsLine e b c → EndsRefused words a c e
 ends_refused {words} {a} {b} {c} {e} s r = record {
@@ -355,6 +473,7 @@ ends_refused {words} {a} {b} {c} {e} s r = record {
     cause = cause_later words a b c e s.cause.asked r.appends.goes_on s.cause.cause;
   };
   output = output_later words r.line a b c e s.goes_on r.appends s.output;
+  cut = cut_later words e s.goes_on r.appends s.cut;
   report = record {
     begun = s.begun;
     line = r.line;

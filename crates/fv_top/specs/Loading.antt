@@ -1,9 +1,9 @@
 -- What loading of a file leaves of the desk, and why it stops.
-use Rattle.std.specs.Prelude.{◌≡◌, ◌⊎◌, ℕ, ◌<◌, ◌≤◌, ◌^◌, IsTrue, IsSome, List, [], ◌∷◌, ◌++◌, length, take, drop, Option, Some, None, Result, Ok}
+use Rattle.std.specs.Prelude.{◌≡◌, ◌≢◌, ◌⊎◌, ℕ, ◌+◌, ◌<◌, ◌≤◌, ◌^◌, IsTrue, IsSome, List, [], ◌∷◌, ◌++◌, length, take, drop, Option, Some, None, Result, Ok}
 use Rattle.fv_base.specs.declared.role.Role.{Role}
 use Rattle.fv_base.specs.declared.role.Role.TheVariants.{Input}
 use Rattle.fv_outside.specs.Requests.{Request, to_read}
-use Rattle.fv_outside.specs.Desk.{DeskState, File, file_named, HasFault, KeepsQuiet, KeepsLeftBut, KeepsFaultsBut, IsUnfailing}
+use Rattle.fv_outside.specs.Desk.{DeskState, File, file_named, HasFault, KeepsQuiet, KeepsFaultsBut, IsUnfailing}
 use Rattle.fv_outside.specs.declared.transfer.ReadError.{ReadError}
 use Rattle.fv_outside.specs.declared.transfer.ReadError.TheVariants.{Failed, NoMemory as OutOfMemory}
 use Rattle.fv_diagram.specs.declared.control.ControlInfo.{ControlInfo}
@@ -25,11 +25,11 @@ abbrev pub IsThere : Option (List ℕ) → List File → Type 0
 IsThere None files = Unit {0}
 IsThere (Some name) files = IsSome (file_named name files)
 
--- The desk was asked for this file alone, and nothing changed but the bytes left of the role and its counts.
+-- The desk was asked for this file alone, and nothing changed but the bytes left of the role, where a file is named, and its counts.
 pub record ReadsFile (role : Role) (name : Option (List ℕ)) (old new : DeskState) : Type 0 where
   pub quiet : KeepsQuiet old new
   pub requests : new.requests ≡ old.requests ++ reading role name
-  pub others : KeepsLeftBut role old new
+  pub others : IsTrue old.tells → (r : Role) → (IsSome name → r ≢ role) → new.left r ≡ old.left r
   pub other_faults : KeepsFaultsBut role old new
 
 -- a fault of the role was counted, and it was not sure that the file is there and no call fails
@@ -82,6 +82,22 @@ pub record HasHead (name : Option (List ℕ)) (files : List File) (head : Option
 abbrev pub wanted : Option Head → List ℕ → List ℕ
 wanted None left = []
 wanted (Some h) left = take (whole_bytes h) left
+
+-- and what is left behind it
+abbrev pub behind_wanted : Option Head → List ℕ → List ℕ
+behind_wanted None left = left
+behind_wanted (Some h) left = drop (whole_bytes h) left
+
+-- of a file with this head, what stands behind its whole frames is left
+abbrev pub IsRest : Option Head → (bytes left : List ℕ) → Type 0
+IsRest None bytes left = Unit {0}
+IsRest (Some h) bytes left = left ≡ drop (h.place + whole_bytes h) bytes
+
+-- Nothing was read of the input behind its whole frames.
+pub record LeavesRest (name : Option (List ℕ)) (files : List File) (left : List ℕ) : Type 0 where
+  pub source : Source
+  pub input : HasInput name files (Ok source)
+  pub rest : IsRest source.head source.bytes left
 
 -- a head, and the place of its samples, which no sum of them and their bytes goes beyond
 abbrev pub IsPlaced : Head → Type 0

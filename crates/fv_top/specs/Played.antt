@@ -1,5 +1,6 @@
 -- The blocks of what is asked for (this project's profile).
 use Rattle.std.specs.Prelude.{◌≡◌, ◌⊎◌, ℕ, IsTrue, List, [], length, Option}
+use Rattle.fv_base.specs.declared.role.Role.TheVariants.{Output, Report}
 use Rattle.fv_outside.specs.Journal.{Told}
 use Rattle.fv_outside.specs.Desk.{DeskState}
 use Rattle.fv_control.specs.declared.script.Change.{Change}
@@ -7,6 +8,8 @@ use Rattle.fv_engine_render.specs.declared.blocks.RunSizes.{RunSizes}
 use Rattle.fv_engine_render.specs.Render.{RanWhole}
 use Rattle.fv_top_words.specs.Runs.{Settings}
 use Rattle.fv_top_words.specs.Commands.{Job, Playing, Checking, Making}
+use Rattle.fv_top_report.specs.declared.refusal.Refusal.{Refusal}
+use Rattle.fv_top_report.specs.declared.refusal.Refusal.TheVariants.{WriteFault}
 use Rattle.fv_top_report.specs.declared.status.Tally.{Tally}
 use Rattle.fv_top_text.specs.Compiled.{Compiled}
 use Rattle.fv_top.specs.Output.{present_in}
@@ -77,6 +80,16 @@ pub record RanSoFar (words : List (List ℕ)) (old : DeskState) (before after : 
   pub runs : ℕ
   pub ran : AllRan job old blocks loops runs before after
 
--- What is told by a run that is refused: nothing, or all its blocks.
-abbrev pub HasBlocksSoFar : (words : List (List ℕ)) → (old : DeskState) → (before after : Option Told) → Type 0
-HasBlocksSoFar words old before after = (after ≡ before) ⊎ RanSoFar words old before after
+-- A refusal that comes before any block: of a run before its output is begun, of a make before its report.
+abbrev pub ComesFirst : Job → Refusal → (old new : DeskState) → Type 0
+ComesFirst (Playing run) refusal old new = new.begins Output ≡ old.begins Output
+ComesFirst (Checking name) refusal old new = Unit {0}
+ComesFirst (Making voices frames) refusal old new = refusal ≡ WriteFault Report → ⊥
+
+-- and for these words
+abbrev pub MayBeUntold : (words : List (List ℕ)) → Refusal → (old new : DeskState) → Type 0
+MayBeUntold words refusal old new = (job : Job) → Asks words job → ComesFirst job refusal old new
+
+-- What is told by a run that is refused: nothing, where its refusal comes first, or all its blocks.
+abbrev pub HasBlocksSoFar : (words : List (List ℕ)) → Refusal → (old new : DeskState) → (before after : Option Told) → Type 0
+HasBlocksSoFar words refusal old new before after = ((after ≡ before) × MayBeUntold words refusal old new) ⊎ RanSoFar words old before after

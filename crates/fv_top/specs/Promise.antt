@@ -22,7 +22,7 @@ use Rattle.fv_engine_render.specs.Render.{initial_of}
 use Rattle.fv_top_text.specs.Compiled.{Compiled}
 use Rattle.fv_top.specs.Sources.{Source}
 use Rattle.fv_top.specs.Output.{OutputFormat, mono, format_of, present_in, cut_in}
-use Rattle.fv_top.specs.Loading.{HasScript, HasInput, IsThere, reading}
+use Rattle.fv_top.specs.Loading.{HasScript, HasInput, LeavesRest, IsThere, reading}
 use Rattle.fv_top.specs.Meant.{Meant, run_meant, check_meant, make_meant, written_by}
 use Rattle.fv_top_report.specs.Lines.{row_of, refused_line}
 use Rattle.fv_top.specs.Steps.{Turn, reads, writes, Rules, Ends, Stops, PassesAll, all_requests}
@@ -135,6 +135,16 @@ is_of_step Tell n = false
 abbrev pub HasRefusal : Step → Refusal → Type 0
 HasRefusal s refusal = IsTrue (is_of_step s (row_of refusal).number)
 
+-- The steps that take memory. Once it was begun to write, none is wanted.
+abbrev pub WantsMemory : Step → Type 0
+WantsMemory ReadProgram = Unit {0}
+WantsMemory ReadScript = Unit {0}
+WantsMemory ReadHead = Unit {0}
+WantsMemory Fit = Unit {0}
+WantsMemory ReadSamples = Unit {0}
+WantsMemory Write = ⊥
+WantsMemory Tell = ⊥
+
 -- what a step judges passes
 abbrev pub StepPasses : Run → List File → Step → Type 0
 StepPasses run files ReadProgram = HasProgram run.program files
@@ -164,6 +174,7 @@ run_rules run old = record {
   Takes = TakesTurn run;
   Answers = IsAnswered run old;
   Has = HasRefusal;
+  Wants = WantsMemory;
   Passes = StepPasses run old.files;
   Refuses = StepRefuses run old.files;
   Known = IsTrue old.tells;
@@ -213,6 +224,7 @@ check_rules name old = record {
   Takes = CheckTakes;
   Answers = λ s t. CheckAnswered name old s;
   Has = HasRefusal;
+  Wants = WantsMemory;
   Passes = CheckPasses name old.files;
   Refuses = CheckRefuses name old.files;
   Known = IsTrue old.tells;
@@ -265,6 +277,7 @@ make_rules voices frames old = record {
   Takes = MakeTakes;
   Answers = λ s t. MakeAnswered voices frames old s;
   Has = HasRefusal;
+  Wants = WantsMemory;
   Passes = MakePasses voices;
   Refuses = MakeRefuses voices;
   Known = Unit {0};
@@ -315,27 +328,42 @@ pub record IsRefusedFor (words : List (List ℕ)) (old new : DeskState) (refusal
   pub requests : new.requests ≡ old.requests ++ asked
   pub cause : HasCause words old new refusal asked
 
+-- writing of the output began once
+abbrev pub HasBegun : (old new : DeskState) → Type 0
+HasBegun old new = new.begins Output ≡ (old.begins Output + 1) % 2 ^ 64
+
+-- a run that is done began its output, and nothing else begins one
+abbrev pub BeginsOutput : Job → (old new : DeskState) → Type 0
+BeginsOutput (Playing run) old new = HasBegun old new
+BeginsOutput (Checking name) old new = new.begins Output ≡ old.begins Output
+BeginsOutput (Making voices frames) old new = new.begins Output ≡ old.begins Output
+
+-- of the input of a run nothing was read behind its whole frames
+abbrev pub LeavesRestOf : Job → (old new : DeskState) → Type 0
+LeavesRestOf (Playing run) old new = LeavesRest run.input old.files (new.left Input)
+LeavesRestOf (Checking name) old new = Unit {0}
+LeavesRestOf (Making voices frames) old new = Unit {0}
+
 -- The desk was asked for the files of what was asked for, in their order; all that was meant was written, and nothing else.
 pub record HasDone (words : List (List ℕ)) (frames : ℕ) (old new : DeskState) : Type 0 where
   pub job : Job
   pub asks : Asks words job
   pub requests : new.requests ≡ old.requests ++ all_requests (rules_of job old) (steps_of job)
   pub faults : KeepsFaults old new
+  pub begins : BeginsOutput job old new
+  pub rest : IsTrue old.tells → LeavesRestOf job old new
   pub told : IsKnown job old → (can : CanDo job old.files) × (frames ≡ (meant_of job old.files can).frames)
       × (IsTrue old.tells → (r : Role) → new.written r ≡ written_by (meant_of job old.files can) old r)
 
--- writing of the output began once
-abbrev pub HasBegun : (old new : DeskState) → Type 0
-HasBegun old new = new.begins Output ≡ (old.begins Output + 1) % 2 ^ 64
-
--- A part of the output file from its front was written; where the input ends within its whole frames, all that the frames
--- that are present make.
+-- A part of the output file from its front was written, memory was not wanted, and of the input nothing was read behind its
+-- whole frames.
 pub record HasPlayedPart (words : List (List ℕ)) (refusal : Refusal) (old new : DeskState) : Type 0 where
   pub run : Run
   pub asks : Asks words (Playing run)
   pub begun : HasBegun old new
+  pub memory : refusal ≡ NoMemory → ⊥
+  pub rest : IsTrue old.tells → LeavesRest run.input old.files (new.left Input)
   pub told : IsTrue old.tells → (p : Plays run old.files) × IsPrefixOf (new.written Output) (written_by (meant p) old Output)
-      × ((place : ℕ) → refusal ≡ WaveTruncated place → new.written Output ≡ written_by (meant p) old Output)
 
 -- Writing of the output did not begin, and what was written of it before still stands.
 pub record KeepsOutput (old new : DeskState) : Type 0 where
@@ -346,10 +374,36 @@ pub record KeepsOutput (old new : DeskState) : Type 0 where
 abbrev pub LeavesOutput : (words : List (List ℕ)) → Refusal → (old new : DeskState) → Type 0
 LeavesOutput words refusal old new = KeepsOutput old new ⊎ HasPlayedPart words refusal old new
 
--- What no run touches: bytes left of other roles than those that it reads, bytes written of other roles than the output and the
--- report, and begins of other roles than the output.
-pub record KeepsOthers (old new : DeskState) : Type 0 where
-  pub left : IsTrue old.tells → (r : Role) → r ≢ Program → r ≢ Controls → r ≢ Input → new.left r ≡ old.left r
+-- The output was begun, and has the head and all that the frames that are present make.
+pub record HasPlayedPresent (run : Run) (old new : DeskState) : Type 0 where
+  pub begun : HasBegun old new
+  pub plays : Plays run old.files
+  pub written : new.written Output ≡ written_by (meant plays) old Output
+
+-- Where the input ends too early, its head does not say all, or the frames that are present were played.
+abbrev pub CutsShort : (words : List (List ℕ)) → Refusal → (old new : DeskState) → Type 0
+CutsShort words refusal old new =
+    (place : ℕ) → refusal ≡ WaveTruncated place → IsTrue old.tells
+    → (run : Run) × Asks words (Playing run) × (HasInput run.input old.files (Err refusal) ⊎ HasPlayedPresent run old new)
+
+-- the roles that are read for what is asked for: files that it names
+abbrev pub IsReadBy : Job → Role → Type 0
+IsReadBy (Playing run) Program = Unit {0}
+IsReadBy (Playing run) Controls = IsSome run.controls
+IsReadBy (Playing run) Input = IsSome run.input
+IsReadBy (Playing run) r = ⊥
+IsReadBy (Checking name) Program = Unit {0}
+IsReadBy (Checking name) r = ⊥
+IsReadBy (Making voices frames) r = ⊥
+
+-- and for these words
+abbrev pub IsRead : (words : List (List ℕ)) → Role → Type 0
+IsRead words r = (job : Job) × Asks words job × IsReadBy job r
+
+-- What is not touched: bytes left of roles that are not read, bytes written of other roles than the output and the report, and
+-- begins of other roles than the output.
+pub record KeepsOthers (Reads : Role → Type 0) (old new : DeskState) : Type 0 where
+  pub left : IsTrue old.tells → (r : Role) → (Reads r → ⊥) → new.left r ≡ old.left r
   pub written : IsTrue old.tells → (r : Role) → r ≢ Output → r ≢ Report → new.written r ≡ old.written r
   pub begins : (r : Role) → r ≢ Output → new.begins r ≡ old.begins r
 

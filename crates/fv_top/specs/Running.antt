@@ -6,6 +6,7 @@ use Rattle.fv_base.specs.Lists.{IsPrefixOf}
 use Rattle.fv_outside.specs.Requests.{Request, to_read, to_write}
 use Rattle.fv_outside.specs.Desk.{DeskState, GoesOn, HasFault, KeepsQuiet, KeepsLeft, KeepsFaults, IsUnfailing, Appends}
 use Rattle.fv_top_words.specs.Runs.{Run}
+use Rattle.fv_top_words.specs.Commands.{Playing, Checking, Making}
 use Rattle.fv_wav.specs.Samples.{pad_bytes, data_size}
 use Rattle.fv_top_report.specs.declared.refusal.Refusal.{Refusal}
 use Rattle.fv_top_report.specs.declared.refusal.Refusal.TheVariants.{WriteFault, NoMemory}
@@ -17,14 +18,15 @@ use Rattle.fv_top_text.specs.Program.{IsProgram, IsRefusedText}
 use Rattle.fv_top_text.specs.Compiled.{Compiled}
 use Rattle.fv_top_report.specs.Lines.{refused_line}
 use Rattle.fv_top.specs.Steps.{Ends}
-use Rattle.fv_top.specs.Promise.{Plays, HasProgram, meant, run_rules, run_steps, check_rules, check_steps, HasMade, HasRefusal, ReadProgram, Fit, make_rules}
-use Rattle.fv_top.specs.Promise.{make_steps, HasBegun, KeepsOutput, KeepsOthers, IsBegunLine, IsRefusedFor, HasDone, LeavesOutput, Reports, IsFaultOf, HandsOn}
+use Rattle.fv_top.specs.Promise.{Plays, HasProgram, meant, Step, ReadProgram, ReadScript, ReadHead, Fit, ReadSamples, run_rules, check_rules, check_steps, HasMade}
+use Rattle.fv_top.specs.Promise.{HasRefusal, make_rules, make_steps, HasBegun, KeepsOutput, IsReadBy, IsRead, KeepsOthers, IsBegunLine, IsRefusedFor, HasDone}
+use Rattle.fv_top.specs.Promise.{LeavesOutput, CutsShort, Reports, IsFaultOf, HandsOn}
 
--- The desk was asked for this, and nothing was written.
-pub record Reaches (asked : List Request) (old new : DeskState) : Type 0 where
+-- The desk was asked for this, nothing was written, and only these roles were read.
+pub record Reaches (Reads : Role → Type 0) (asked : List Request) (old new : DeskState) : Type 0 where
   pub quiet : KeepsQuiet old new
   pub requests : new.requests ≡ old.requests ++ asked
-  pub left : IsTrue old.tells → (r : Role) → r ≢ Program → r ≢ Controls → r ≢ Input → new.left r ≡ old.left r
+  pub left : IsTrue old.tells → (r : Role) → (Reads r → ⊥) → new.left r ≡ old.left r
 
 -- The desk was asked for this output alone, and only the output was written.
 pub record Delivers (name : List ℕ) (old new : DeskState) : Type 0 where
@@ -77,11 +79,15 @@ IsReady run old r =
     IsTrue old.tells → (p : Plays run old.files) × (cut_in p.format p.source ≡ r.cut) × (r.format.frames ≡ (meant p).frames)
     × (file_in r ≡ written_by (meant p) old Output)
 
+-- the steps before anything is written
+abbrev pub steps_before : List Step
+steps_before = ReadProgram ∷ ReadScript ∷ ReadHead ∷ Fit ∷ ReadSamples ∷ []
+
 -- A step that reads cannot go on.
 pub record StopsBefore (run : Run) (old new : DeskState) (refusal : Refusal) : Type 0 where
   pub asked : List Request
-  pub reaches : Reaches asked old new
-  pub ends : Ends (run_rules run old) old new run_steps refusal asked
+  pub reaches : Reaches (IsReadBy (Playing run)) asked old new
+  pub ends : Ends (run_rules run old) old new steps_before refusal asked
   pub faults : CountsFaultOf refusal old new
 
 -- ---- a check
@@ -90,14 +96,15 @@ pub record StopsBefore (run : Run) (old new : DeskState) (refusal : Refusal) : T
 pub record Checks (name : List ℕ) (old new : DeskState) : Type 0 where
   pub goes_on : GoesOn old new
   pub requests : new.requests ≡ old.requests ++ to_read Program name ∷ []
-  pub others : KeepsOthers old new
+  pub others : KeepsOthers (IsReadBy (Checking name)) old new
   pub faults : KeepsFaults old new
+  pub begins : new.begins Output ≡ old.begins Output
   pub told : IsTrue old.tells → (p : HasProgram name old.files) × ((r : Role) → new.written r ≡ written_by (check_meant p.compiled) old r)
 
 -- It could not be, before its refusal is reported.
 pub record StopsCheck (name : List ℕ) (old new : DeskState) (refusal : Refusal) : Type 0 where
   pub goes_on : GoesOn old new
-  pub others : KeepsOthers old new
+  pub others : KeepsOthers (IsReadBy (Checking name)) old new
   pub requests : new.requests ≡ old.requests ++ to_read Program name ∷ []
   pub ends : Ends (check_rules name old) old new check_steps refusal (to_read Program name ∷ [])
   pub output : KeepsOutput old new
@@ -113,15 +120,16 @@ pub record StopsCheck (name : List ℕ) (old new : DeskState) (refusal : Refusal
 pub record Makes (voices frames : ℕ) (old new : DeskState) : Type 0 where
   pub goes_on : GoesOn old new
   pub requests : new.requests ≡ old.requests ++ []
-  pub others : KeepsOthers old new
+  pub others : KeepsOthers (IsReadBy (Making voices frames)) old new
   pub faults : KeepsFaults old new
+  pub begins : new.begins Output ≡ old.begins Output
   pub made : HasMade voices
   pub told : IsTrue old.tells → (r : Role) → new.written r ≡ written_by (make_meant made.compiled voices frames) old r
 
 -- It could not be, before its refusal is reported.
 pub record StopsMake (voices frames : ℕ) (old new : DeskState) (refusal : Refusal) : Type 0 where
   pub goes_on : GoesOn old new
-  pub others : KeepsOthers old new
+  pub others : KeepsOthers (IsReadBy (Making voices frames)) old new
   pub requests : new.requests ≡ old.requests ++ []
   pub ends : Ends (make_rules voices frames old) old new make_steps refusal []
   pub output : KeepsOutput old new
@@ -147,15 +155,16 @@ pub record HasSum (voices frames : ℕ) (sum : ℤ) : Type 0 where
 -- how a run that is done ends
 pub record EndsDone (words : List (List ℕ)) (frames : ℕ) (old new : DeskState) : Type 0 where
   pub goes_on : GoesOn old new
-  pub others : KeepsOthers old new
+  pub others : KeepsOthers (IsRead words) old new
   pub played : HasDone words frames old new
 
 -- how a run stops, before its refusal is reported
 pub record Stopped (words : List (List ℕ)) (old new : DeskState) (refusal : Refusal) : Type 0 where
   pub goes_on : GoesOn old new
-  pub others : KeepsOthers old new
+  pub others : KeepsOthers (IsRead words) old new
   pub cause : IsRefusedFor words old new refusal
   pub output : LeavesOutput words refusal old new
+  pub cut : CutsShort words refusal old new
   pub begun : List ℕ
   pub appended : IsTrue old.tells → new.written Report ≡ old.written Report ++ begun
   pub is_begun : (begun ≡ []) ⊎ ((refusal ≡ WriteFault Report) × IsBegunLine words old begun)
@@ -170,8 +179,9 @@ pub record ReportsLine (refusal : Refusal) (old new : DeskState) : Type 0 where
 -- how a run that is refused ends
 pub record EndsRefused (words : List (List ℕ)) (old new : DeskState) (refusal : Refusal) : Type 0 where
   pub goes_on : GoesOn old new
-  pub others : KeepsOthers old new
+  pub others : KeepsOthers (IsRead words) old new
   pub cause : IsRefusedFor words old new refusal
   pub output : LeavesOutput words refusal old new
+  pub cut : CutsShort words refusal old new
   pub report : Reports words refusal old new
   pub hands_on : HandsOn refusal old new

@@ -32,17 +32,19 @@ pub record Rules (S : Type 0) : Type 1 where
   pub Answers : S → Turn → Type 0
   -- the refusals that a step has
   pub Has : S → Refusal → Type 0
+  -- it takes memory
+  pub Wants : S → Type 0
   -- what the step judges passes, or is refused for this
   pub Passes : S → Type 0
   pub Refuses : S → Refusal → Type 0
   -- it is known what the steps judge: where they judge files, the desk tells them
   pub Known : Type 0
 
--- Why a step ends all: a fault of a turn that was not sure to be answered, or it refuses what it judges, or memory runs out.
+-- Why a step ends all: a fault of a turn that was not sure to be answered, or it refuses what it judges, or memory runs out in a step that takes some.
 pub data Halts {S : Type 0} (k : Rules S) (old new : DeskState) (s : S) : Refusal → Type 0 where
   fault : (t : Turn) → k.Takes s t → HasFault (role_of t) old new → (IsTrue old.tells → k.Answers s t → ⊥) → Halts k old new s (fault_of t)
   judged : {refusal : Refusal} → k.Has s refusal → (k.Known → k.Refuses s refusal) → Halts k old new s refusal
-  want_of_memory : Halts k old new s NoMemory
+  want_of_memory : k.Wants s → Halts k old new s NoMemory
 
 -- Why steps in order end, and what the desk was asked for by then: a step halts, and all before it passed.
 pub data Ends {S : Type 0} (k : Rules S) (old new : DeskState) : List S → Refusal → List Request → Type 0 where

@@ -1,13 +1,13 @@
 // The input's head and samples.
 
-ghost use Rattle.std.specs.Prelude.{◌≡◌, ◌≤◌, length, option_copied, is_some, IsTrue, IfOk, IfErr, IfSome, IsErrOf, Err};
+ghost use Rattle.std.specs.Prelude.{◌≡◌, ◌≤◌, length, option_copied, is_some, IsTrue, IfOk, IfErr, IfSome, OnErr, IsErrOf, IsSome, Err};
 ghost use Rattle.std.specs.Option.{ForSome};
 ghost use Rattle.fv_base.specs.declared.role.Role.TheVariants.{Input};
 ghost use Rattle.fv_outside.specs.Desk.{KeepsFaults, TakesSome};
 ghost use Rattle.fv_wav.specs.Samples.{whole_bytes};
 ghost use Rattle.fv_top_report.specs.declared.refusal.Refusal.TheVariants.{ReadFault};
 ghost use Rattle.fv_top.specs.Promise.{HasRefusal, ReadHead};
-ghost use Rattle.fv_top.specs.Loading.{ReadsFile, StopsLoading, StopsSamples, HasInput, HasHead, IsPlaced, wanted};
+ghost use Rattle.fv_top.specs.Loading.{ReadsFile, StopsLoading, StopsSamples, HasInput, HasHead, IsPlaced, wanted, behind_wanted};
 
 use crate::files::read_refusal;
 use crate::frames::whole_bytes;
@@ -50,6 +50,9 @@ pub fn load_samples<D: Desk>(
     requires { ForSome head IsPlaced }
     ensures takes { TakesSome Input (D.state desk.old) (D.state desk.new) }
     ensures raw { IfOk result (λ v. IsTrue (D.state desk.old).tells → v.items ≡ wanted head ((D.state desk.old).left Input)) }
+    ensures rest { IfOk result (λ _. IsTrue (D.state desk.old).tells →
+        (D.state desk.new).left Input ≡ behind_wanted head ((D.state desk.old).left Input)) }
+    ensures some { OnErr result (IsSome head) }
     ensures count { IfOk result (λ v. IfSome head (λ h. length v.items ≤ whole_bytes h)) }
     ensures err { IfErr result (StopsSamples head (D.state desk.old) (D.state desk.new)) }
     ensures steady { (IsErrOf result (ReadFault Input) → ⊥) → KeepsFaults (D.state desk.old) (D.state desk.new) }

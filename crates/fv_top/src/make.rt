@@ -1,10 +1,12 @@
 // A program that is made, and played on its noise.
 
 ghost use Rattle.std.specs.Prelude.{◌≡◌, ◌⊎◌, ◌≤◌, [], Ok, Err, IfOk, IfErr, OnOk, OnErr};
+ghost use Rattle.fv_base.specs.declared.role.Role.TheVariants.{Report};
 ghost use Rattle.fv_interval.specs.Delays.{AreAccepted};
 ghost use Rattle.fv_diagram.specs.Diagram.{inputs};
 ghost use Rattle.fv_engine_render.specs.Render.{RanWhole};
 ghost use Rattle.fv_top_words.specs.Commands.{most_voices};
+ghost use Rattle.fv_top_report.specs.declared.refusal.Refusal.TheVariants.{WriteFault};
 ghost use Rattle.fv_top.specs.Played.{make_sizes, MakeRan, MakeSoFar};
 ghost use Rattle.fv_top.specs.Meant.{made_sum};
 ghost use Rattle.fv_top_text.specs.Compiled.{compiled_of, CanPlay};
@@ -51,7 +53,8 @@ pub fn run_make<R: Threads + Wait + Sync, D: Desk, G: Gate + Sync>(
     ensures ran { IfOk result (λ r. MakeRan voices frames r.blocks r.loops r.loop_runs (G.told gate.old) (G.told gate.new)) }
     ensures stops { IfErr result (StopsMake voices frames (D.state desk.old) (D.state desk.new)) }
     // A report that fails comes behind all blocks, and every other refusal before them.
-    ensures so_far { OnErr result ((G.told gate.new ≡ G.told gate.old) ⊎ MakeSoFar voices frames (G.told gate.old) (G.told gate.new)) }
+    ensures so_far { IfErr result (λ e. ((G.told gate.new ≡ G.told gate.old) × (e ≡ WriteFault Report → ⊥))
+        ⊎ MakeSoFar voices frames (G.told gate.old) (G.told gate.new)) }
 {
     let made = made_sum(rt, alloc, voices, frames, gate)?;
     match report_made(desk, voices, frames, made.sum) {

@@ -1,8 +1,9 @@
 // What is ready before anything is written.
 
-ghost use Rattle.std.specs.Prelude.{◌≡◌, ◌*◌, ◌/◌, ◌≤◌, length, true, IfOk, IfErr, OnOk, OnErr, None};
+ghost use Rattle.std.specs.Prelude.{◌≡◌, ◌*◌, ◌/◌, ◌≤◌, length, true, IsTrue, IfOk, IfErr, OnOk, OnErr, None};
 ghost use Rattle.std.specs.Option.{ForSome};
 ghost use Rattle.std.specs.List.{AllByRecursion};
+ghost use Rattle.fv_base.specs.declared.role.Role.TheVariants.{Input};
 ghost use Rattle.fv_num.specs.Words.{is_sample_width};
 ghost use Rattle.fv_outside.specs.Desk.{KeepsFaults};
 ghost use Rattle.fv_diagram.specs.Diagram.{inputs, outputs};
@@ -10,6 +11,7 @@ ghost use Rattle.fv_control.specs.Laws.{NeverFall, IsOfControls};
 ghost use Rattle.fv_interval.specs.Delays.{AreAccepted};
 ghost use Rattle.fv_wav.specs.Samples.{data_size, data_limit, whole_bytes};
 ghost use Rattle.fv_engine_render.specs.Render.{RanWhole};
+ghost use Rattle.fv_top_words.specs.Commands.{Playing};
 ghost use Rattle.fv_top_words.specs.Runs.{AreSound};
 ghost use Rattle.fv_top_words.specs.Views.{run_in as run_view, settings_in};
 ghost use Rattle.fv_top.specs.Sources.{frames_of};
@@ -18,7 +20,8 @@ ghost use Rattle.fv_top.specs.Played.{sizes_of};
 ghost use Rattle.fv_top.specs.Output.{channels_in};
 ghost use Rattle.fv_top_text.specs.Compiled.{compiled_of, CanPlay};
 ghost use Rattle.fv_top.specs.Formats.{format_in};
-ghost use Rattle.fv_top.specs.Loading.{IsPlaced};
+ghost use Rattle.fv_top.specs.Loading.{IsPlaced, LeavesRest};
+ghost use Rattle.fv_top.specs.Promise.{IsReadBy};
 ghost use Rattle.fv_top.specs.Running.{Reaches, StopsBefore, IsReady, asked_before};
 ghost use Rattle.fv_top.specs.Prepared.{ready_of, CanWrite, made_of, cut_at, IsRan};
 
@@ -62,8 +65,10 @@ pub fn prepare<R: Threads + Wait + Sync, D: Desk, G: Gate + Sync>(
     gate: &mut G,
 ) -> Result<(Prepared, Vec<u8>), Refusal>
     requires { AreSound (run_view run.now).settings }
-    ensures reaches { OnOk result (Reaches (asked_before (run_view run.now)) (D.state desk.old) (D.state desk.new)) }
+    ensures reaches { OnOk result (Reaches (IsReadBy (Playing (run_view run.now))) (asked_before (run_view run.now)) (D.state desk.old) (D.state desk.new)) }
     ensures steady { OnOk result (KeepsFaults (D.state desk.old) (D.state desk.new)) }
+    ensures rest { OnOk result (IsTrue (D.state desk.old).tells →
+        LeavesRest (run_view run.now).input (D.state desk.old).files ((D.state desk.new).left Input)) }
     ensures writes { IfOk result (λ p. CanWrite p.0) }
     ensures room { IfOk result (λ p. length p.0.samples.items * (p.0.format.bits / 8) ≤ length p.1.items) }
     ensures ready { IfOk result (λ p. IsReady (run_view run.now) (D.state desk.old) (ready_of p.0)) }

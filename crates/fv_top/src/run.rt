@@ -1,12 +1,12 @@
 // The one call that does all that the command does.
 
-ghost use Rattle.std.specs.Prelude.{map, string_bytes, IfOk, IfErr, OnErr};
+ghost use Rattle.std.specs.Prelude.{map, string_bytes, IfOk, IfErr};
 ghost use Rattle.fv_outside.specs.Desk.{GoesOn};
 ghost use Rattle.fv_top_words.specs.Commands.{Playing};
 ghost use Rattle.fv_top_words.specs.Runs.{AreSound};
 ghost use Rattle.fv_top_words.specs.Views.{run_in as run_view};
-ghost use Rattle.fv_top.specs.Promise.{OfWords, IfDone, IfRefused, HasDone, IsRefusedFor, LeavesOutput, KeepsOthers, Reports, HandsOn, IsComplete, IsStrict};
-ghost use Rattle.fv_top.specs.Promise.{IsExact};
+ghost use Rattle.fv_top.specs.Promise.{OfWords, IfDone, IfRefused, HasDone, IsRefusedFor, LeavesOutput, CutsShort, IsRead, KeepsOthers, Reports};
+ghost use Rattle.fv_top.specs.Promise.{HandsOn, IsComplete, IsStrict, IsExact};
 ghost use Rattle.fv_top.specs.Played.{HasBlocks, HasBlocksSoFar};
 ghost use Rattle.fv_top.specs.Running.{EndsDone, Stopped, ReportsLine};
 
@@ -40,7 +40,8 @@ fn perform<R: Threads + Wait + Sync, D: Desk, G: Gate + Sync>(
     ensures done { IfOk result (λ tally. EndsDone (map string_bytes words.now) tally.frames (D.state desk.old) (D.state desk.new)) }
     ensures blocks { IfOk result (λ tally. HasBlocks (map string_bytes words.now) tally (D.state desk.old) (G.told gate.old) (G.told gate.new)) }
     ensures stops { IfErr result (Stopped (map string_bytes words.now) (D.state desk.old) (D.state desk.new)) }
-    ensures so_far { OnErr result (HasBlocksSoFar (map string_bytes words.now) (D.state desk.old) (G.told gate.old) (G.told gate.new)) }
+    ensures so_far { IfErr result (λ refusal. HasBlocksSoFar (map string_bytes words.now) refusal (D.state desk.old) (D.state desk.new)
+        (G.told gate.old) (G.told gate.new)) }
 {
     let job = job_in(words)?;
     match job {
@@ -81,8 +82,8 @@ fn play_run<R: Threads + Wait + Sync, D: Desk, G: Gate + Sync>(
         HasBlocks words tally (D.state desk.old) (G.told gate.old) (G.told gate.new))) }
     ensures stops { IfErr result (λ refusal. OfWords (Playing (run_view run.entry)) (λ words.
         Stopped words (D.state desk.old) (D.state desk.new) refusal)) }
-    ensures so_far { OnErr result (OfWords (Playing (run_view run.entry)) (λ words.
-        HasBlocksSoFar words (D.state desk.old) (G.told gate.old) (G.told gate.new))) }
+    ensures so_far { IfErr result (λ refusal. OfWords (Playing (run_view run.entry)) (λ words.
+        HasBlocksSoFar words refusal (D.state desk.old) (D.state desk.new) (G.told gate.old) (G.told gate.new))) }
 {
     let (prepared, mut bytes) = prepare(rt, alloc, desk, &run, gate)?;
     match write_output(desk, run.output, &prepared, &mut bytes) {
@@ -117,14 +118,15 @@ pub fn run_faustvec<R: Threads + Wait + Sync, D: Desk, G: Gate + Sync>(
 ) -> Status
     // The desk goes on: its files stay, and no count of faults falls.
     ensures goes_on { GoesOn (D.state desk.old) (D.state desk.new) }
-    // Nothing is read but the program, the script and the input, nothing written but the output and the report.
-    ensures others { KeepsOthers (D.state desk.old) (D.state desk.new) }
+    // Nothing is read but the files that the words name for it, nothing written but the output and the report.
+    ensures others { KeepsOthers (IsRead (map string_bytes words.now)) (D.state desk.old) (D.state desk.new) }
     // A run that is done has asked for its files in order, and has written exactly the file whose samples are the stream
     // function of the program's diagram, under its script and on its input; a check that is done has reported its numbers.
     ensures done { IfDone result (λ tally. HasDone (map string_bytes words.now) tally.frames (D.state desk.old) (D.state desk.new)) }
     // In every block each loop ran once on each vector, after all that it reads; and so it did in the blocks of a refused run.
     ensures blocks { IfDone result (λ tally. HasBlocks (map string_bytes words.now) tally (D.state desk.old) (G.told gate.old) (G.told gate.new)) }
-    ensures so_far { IfRefused result (λ _. HasBlocksSoFar (map string_bytes words.now) (D.state desk.old) (G.told gate.old) (G.told gate.new)) }
+    ensures so_far { IfRefused result (λ refusal. HasBlocksSoFar (map string_bytes words.now) refusal (D.state desk.old) (D.state desk.new)
+        (G.told gate.old) (G.told gate.new)) }
     // Every other answer has its stated cause in the first step that cannot go on, or is want of memory; and the desk was
     // asked for the files up to that step, in order, and for no other.
     ensures cause { IfRefused result (IsRefusedFor (map string_bytes words.now) (D.state desk.old) (D.state desk.new)) }
@@ -132,6 +134,7 @@ pub fn run_faustvec<R: Threads + Wait + Sync, D: Desk, G: Gate + Sync>(
     ensures hands_on { IfRefused result (λ refusal. HandsOn refusal (D.state desk.old) (D.state desk.new)) }
     // What a refusal leaves of the output, and what it reports.
     ensures output { IfRefused result (λ refusal. LeavesOutput (map string_bytes words.now) refusal (D.state desk.old) (D.state desk.new)) }
+    ensures cut { IfRefused result (λ refusal. CutsShort (map string_bytes words.now) refusal (D.state desk.old) (D.state desk.new)) }
     ensures report { IfRefused result (λ refusal. Reports (map string_bytes words.now) refusal (D.state desk.old) (D.state desk.new)) }
     // What can be done is done, where the desk is sure to answer or no call fails, unless memory runs out.
     ensures complete { IsComplete (map string_bytes words.now) (D.state desk.old) (D.state desk.new) result }

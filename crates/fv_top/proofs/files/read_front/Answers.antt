@@ -3,7 +3,7 @@ use Rattle.std.proofs.lemmas.Result.{err_from_is_err_and}
 use Rattle.fv_outside.specs.declared.transfer.ReadError.TheVariants.{Failed}
 use Rattle.fv_outside.proofs.States.{told_before, goes_on_self, answers_next}
 use Rattle.fv_top.specs.Loading.{ReadsFile}
-use Rattle.fv_top.proofs.Loads.{cannot_later}
+use Rattle.fv_top.proofs.Loads.{reads_begun, cannot_later}
 use Rattle.fv_top.proofs.files.read_front.Goals as goal
 
 pub returns-in_err-begin_read-clause-failed : goal.returns-in_err-begin_read-clause-failed
@@ -19,12 +19,8 @@ pub returns-in_err-bytes-clause-failed : goal.returns-in_err-bytes-clause-failed
 returns-in_err-bytes-clause-failed g c = λ is.
     let state = g.D.Desk.state in
     let begun = c.in_ok-begin_read.ensures in
-    let reads : ReadsFile c.args.role (Some c.args.name.now) (state c.args.desk.now) (state c.begin_read.new.self) = record {
-      quiet = record { goes_on = begun.goes_on; written = begun.written; begins = begun.begins };
-      requests = begun.asked;
-      others = begun.others;
-      other_faults = begun.counts.other_faults;
-    } in
+    let reads : ReadsFile c.args.role (Some c.args.name.now) (state c.args.desk.now) (state c.begin_read.new.self) =
+    reads_begun begun.goes_on begun.counts begun.asked begun.others begun.written begun.begins in
     let p = err_from_is_err_and c.from_residual-in_err-bytes.result c.from_residual-in_err-bytes.ensures.1 in
     let failed : c.read_up_to.result ≡ Err Failed = cc (p.1, p.2, is) in
     cannot_later reads (c.read_up_to.ensures.failed failed) (λ u safe. c.read_up_to.ensures.answers u safe failed)

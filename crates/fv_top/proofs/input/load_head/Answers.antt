@@ -5,6 +5,7 @@ use Rattle.fv_base.specs.declared.role.Role.TheVariants.{Input}
 use Rattle.fv_outside.proofs.States.{told_before, goes_on_self, answers_next}
 use Rattle.fv_top.specs.Loading.{ReadsFile}
 use Rattle.fv_top.proofs.Heads.{head_none, head_is, head_refused}
+use Rattle.fv_top.proofs.Loads.{reads_begun}
 use Rattle.fv_top.proofs.input.load_head.Goals as goal
 
 pub returns-in-None-clause-headed : goal.returns-in-None-clause-headed
@@ -27,12 +28,8 @@ pub returns-in_err-head-clause-err : goal.returns-in_err-head-clause-err
 returns-in_err-head-clause-err g c =
     let state = g.D.Desk.state in
     let begun = c.in-Ok.ensures in
-    let reads : ReadsFile Input (Some c.in-Some.name.now) (state c.args.desk.now) (state c.begin_read.new.self) = record {
-      quiet = record { goes_on = begun.goes_on; written = begun.written; begins = begun.begins };
-      requests = begun.asked;
-      others = begun.others;
-      other_faults = begun.counts.other_faults;
-    } in
+    let reads : ReadsFile Input (Some c.in-Some.name.now) (state c.args.desk.now) (state c.begin_read.new.self) =
+    reads_begun begun.goes_on begun.counts begun.asked begun.others begun.written begun.begins in
     let p = err_from_is_err_and c.from_residual.result c.from_residual.ensures.1 in
     rw (p.1, c.in-Some.is) (head_refused c.in_err-head.field-0.0 _ p.2 reads begun.file c.in_err-head.ensures.err)
 

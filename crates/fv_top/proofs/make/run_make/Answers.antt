@@ -1,6 +1,6 @@
 use Rattle.std.proofs.Common.{ap, inl, inr, to_z, of_z, to_z-of_z, SFits, w32, rules}
 use Rattle.std.proofs.lemmas.Result.{err_from_is_err_and}
-use Rattle.fv_top.proofs.Making.{same_sum, make_stops, make_tells, make_done}
+use Rattle.fv_top.proofs.Making.{same_sum, not_the_report, make_stops, make_tells, make_done}
 use Rattle.fv_top.proofs.make.run_make.Goals as goal
 
 pub returns-in_err-made-clause-stops : goal.returns-in_err-made-clause-stops
@@ -11,7 +11,7 @@ returns-in_err-made-clause-stops g c =
 pub returns-in_err-made-clause-so_far : goal.returns-in_err-made-clause-so_far
 returns-in_err-made-clause-so_far g c =
     let q = err_from_is_err_and c.from_residual.result c.from_residual.ensures.1 in
-    rw q.1 (inl (ap g.G.Gate.told c.in_err-made.ensures.err))
+    rw (q.1, q.2) (inl (ap g.G.Gate.told c.in_err-made.ensures.err, not_the_report c.args.voices _ c.in_err-made.ensures.none))
 
 pub returns-in-Ok-clause-done : goal.returns-in-Ok-clause-done
 returns-in-Ok-clause-done g c =

@@ -4,6 +4,7 @@ use Rattle.std.specs.List.{AllByRecursion}
 use Rattle.std.proofs.lemmas.Result.{err_from_is_err_and}
 use Rattle.fv_base.specs.declared.role.Role.TheVariants.{Program, Controls, Input}
 use Rattle.fv_outside.specs.Desk.{KeepsFaults}
+use Rattle.fv_outside.proofs.States.{told_before}
 use Rattle.fv_diagram.specs.declared.control.ControlInfo.{ControlInfo}
 use Rattle.fv_control.specs.declared.script.Change.{Change}
 use Rattle.fv_control.specs.Laws.{IsOfControls}
@@ -21,7 +22,8 @@ use Rattle.fv_top.specs.Prepared.{ready_of, made_of}
 use Rattle.fv_top.specs.Promise.{HasRefusal, HasNoProgram, ReadProgram, ReadScript, ReadHead}
 use Rattle.fv_top.proofs.Preparing.{AfterProgram, AfterScript, AfterHead, after_program, after_script, after_head}
 use Rattle.fv_top.proofs.Preparing.{stops_program, stops_script, stops_head, stops_fit, stops_samples, stops_memory, ready_is, ran_is}
-use Rattle.fv_top.proofs.Reaching.{FailsToLoad, reaches_taken}
+use Rattle.fv_top.proofs.Heads.{rest_left}
+use Rattle.fv_top.proofs.Reaching.{FailsToLoad, reaches_taken, behind_kept}
 use Rattle.fv_top.proofs.prepare.prepare.Given.{Over}
 use Rattle.fv_top.proofs.prepare.prepare.Goals as goal
 use Rattle.fv_top.proofs.prepare.prepare.Goals.{In_ok-program, In_ok-script, In_ok-head}
@@ -109,7 +111,7 @@ returns-in_err-raw-clause-stops g c =
     let w = head_read g at.In_ok-head (script_read g at.In_ok-script (program_read g at.In_ok-program)) in
     let q = err_from_is_err_and c.from_residual-in_err-raw.result c.from_residual-in_err-raw.ensures.1 in
     rw (q.1, q.2) (stops_samples w (format_in c.in_ok-format.format) (sym c.in_ok-format.ensures.format) (g.D.Desk.state c.load_samples.new.desk)
-    c.in_err-raw.field-0.0 (λ some. sym c.in_ok-head.ensures.named ∙ some) c.load_samples.ensures.takes c.in_err-raw.ensures.err
+    c.in_err-raw.field-0.0 (λ some. sym c.in_ok-head.ensures.named ∙ some) c.in_err-raw.ensures.some c.load_samples.ensures.takes c.in_err-raw.ensures.err
     (λ other. c.in_err-raw.ensures.steady (λ is. other cc)))
 
 pub returns-in_err-prepared-clause-stops : goal.returns-in_err-prepared-clause-stops
@@ -120,7 +122,9 @@ returns-in_err-prepared-clause-stops g c =
     let h = g.D.Desk.state c.load_samples.new.desk in
     let steady : KeepsFaults f h = c.in_ok-raw.ensures.steady (λ is. absurd cc) in
     let q = err_from_is_err_and c.from_residual-in_err-prepared.result c.from_residual-in_err-prepared.ensures.1 in
-    rw (q.1, q.2) (stops_memory w (format_in c.in_ok-format.format) (sym c.in_ok-format.ensures.format) h c.load_samples.ensures.takes steady)
+    rw (q.1, q.2) (stops_memory w (format_in c.in_ok-format.format) (sym c.in_ok-format.ensures.format) h c.load_samples.ensures.takes
+    (λ t none. behind_kept c.in_ok-head.head (f.left Input) (h.left Input) (c.in_ok-raw.ensures.rest t) (λ some. none (sym c.in_ok-head.ensures.named ∙ some)))
+    steady)
 
 pub returns-in_err-prepared-clause-untold : goal.returns-in_err-prepared-clause-untold
 returns-in_err-prepared-clause-untold g c =
@@ -145,7 +149,17 @@ pub returns-clause-reaches : goal.returns-clause-reaches
 returns-clause-reaches g c =
     let at = goal.at.returns-clause-reaches g c in
     let w = head_read g at.In_ok-head (script_read g at.In_ok-script (program_read g at.In_ok-program)) in
+    let b = g.D.Desk.state c.load_head.new.desk in
+    let d = g.D.Desk.state c.load_samples.new.desk in
     reaches_taken w.reaches c.load_samples.ensures.takes
+    (λ t none. behind_kept c.in_ok-head.head (b.left Input) (d.left Input) (c.in_ok-raw.ensures.rest t) (λ some. none (sym c.in_ok-head.ensures.named ∙ some)))
+
+-- nothing was read behind the whole frames
+pub returns-clause-rest : goal.returns-clause-rest
+returns-clause-rest g c = λ t.
+    let at = goal.at.returns-clause-rest g c in
+    let w = head_read g at.In_ok-head (script_read g at.In_ok-script (program_read g at.In_ok-program)) in
+    rest_left _ (w.on t) (c.in_ok-raw.ensures.rest (told_before w.reaches.quiet.goes_on t))
 
 pub returns-clause-steady : goal.returns-clause-steady
 returns-clause-steady g c =

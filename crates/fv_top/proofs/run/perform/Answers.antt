@@ -1,12 +1,12 @@
-use Rattle.std.proofs.Common.{◌∙◌, Ok, map, sym, ap, refl, inl, inr, ⊎_elim}
+use Rattle.std.proofs.Common.{◌∙◌, Ok, map, sym, ap, refl, inr, ⊎_elim}
 use Rattle.std.specs.Prelude.{string_bytes}
-use Rattle.std.proofs.lemmas.Result.{err_from_is_err_and, IfOk-weaker, IfErr-weaker, on_err_weaker}
+use Rattle.std.proofs.lemmas.Result.{err_from_is_err_and, IfOk-weaker, IfErr-weaker}
 use Rattle.fv_top_words.specs.declared.command.Job.{Job as Jobs}
 use Rattle.fv_top_words.specs.Commands.{Playing, Checking, Making}
 use Rattle.fv_top_words.specs.Views.{run_in as run_view, job_view}
 use Rattle.fv_top.specs.Promise.{Asks}
 use Rattle.fv_top.proofs.Stopping.{stopped_usage, stopped_check, checked, stopped_make, made}
-use Rattle.fv_top.proofs.Ran.{make_ran, make_so_far}
+use Rattle.fv_top.proofs.Ran.{make_ran, make_so_far, untold_first, untold_words}
 use Rattle.fv_top.proofs.run.perform.Given.{Over}
 use Rattle.fv_top.proofs.run.perform.Goals as goal
 use Rattle.fv_top.proofs.run.perform.Goals.{In-Run, In-Check, In-Make}
@@ -15,6 +15,11 @@ pub returns-in_err-job-clause-stops : goal.returns-in_err-job-clause-stops
 returns-in_err-job-clause-stops g c =
     let p = err_from_is_err_and c.from_residual.result c.from_residual.ensures.1 in
     rw (p.1, p.2) (stopped_usage (map string_bytes c.args.words.now) (g.D.Desk.state c.args.desk.now) _ (sym c.in_err-job.ensures.job))
+
+pub returns-in_err-job-clause-so_far : goal.returns-in_err-job-clause-so_far
+returns-in_err-job-clause-so_far g c =
+    let p = err_from_is_err_and c.from_residual.result c.from_residual.ensures.1 in
+    rw (p.1, p.2) (untold_words (sym c.in_err-job.ensures.job) refl)
 
 -- ---- a run
 
@@ -39,7 +44,7 @@ returns-in-Run-clause-stops g c =
 pub returns-in-Run-clause-so_far : goal.returns-in-Run-clause-so_far
 returns-in-Run-clause-so_far g c =
     let asks = run_asked g (goal.at.returns-in-Run-clause-so_far g c).In-Run in
-    on_err_weaker c.play_run.result (λ h. h _ asks) c.play_run.ensures.so_far
+    IfErr-weaker c.play_run.result _ _ (λ refusal h. h _ asks) c.play_run.ensures.so_far
 
 -- ---- a check
 
@@ -51,6 +56,12 @@ returns-in_err-check-in-Check-clause-stops g c =
     let asks = check_asked g (goal.at.returns-in_err-check-in-Check-clause-stops g c).In-Check in
     let p = err_from_is_err_and c.from_residual-in_err-check-in-Check.result c.from_residual-in_err-check-in-Check.ensures.1 in
     rw (p.1, p.2) (stopped_check asks c.in_err-check-in-Check.ensures.stops)
+
+pub returns-in_err-check-in-Check-clause-so_far : goal.returns-in_err-check-in-Check-clause-so_far
+returns-in_err-check-in-Check-clause-so_far g c =
+    let asks = check_asked g (goal.at.returns-in_err-check-in-Check-clause-so_far g c).In-Check in
+    let p = err_from_is_err_and c.from_residual-in_err-check-in-Check.result c.from_residual-in_err-check-in-Check.ensures.1 in
+    rw (p.1, p.2) (untold_first asks tt refl)
 
 pub returns-in_ok-check-in-Check-clause-done : goal.returns-in_ok-check-in-Check-clause-done
 returns-in_ok-check-in-Check-clause-done g c =
@@ -82,7 +93,7 @@ pub returns-in_err-ran-in-Make-clause-so_far : goal.returns-in_err-ran-in-Make-c
 returns-in_err-ran-in-Make-clause-so_far g c =
     let asks = make_asked g (goal.at.returns-in_err-ran-in-Make-clause-so_far g c).In-Make in
     let p = err_from_is_err_and c.from_residual-in_err-ran-in-Make.result c.from_residual-in_err-ran-in-Make.ensures.1 in
-    rw p.1 (⊎_elim inl (λ m. inr (make_so_far asks m)) c.in_err-ran-in-Make.ensures.so_far)
+    rw (p.1, p.2) (⊎_elim (λ h. untold_first asks h.1 h.0) (λ m. inr (make_so_far asks m)) c.in_err-ran-in-Make.ensures.so_far)
 
 pub returns-in_ok-ran-in-Make-clause-blocks : goal.returns-in_ok-ran-in-Make-clause-blocks
 returns-in_ok-ran-in-Make-clause-blocks g c = record {

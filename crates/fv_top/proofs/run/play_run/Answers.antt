@@ -6,8 +6,12 @@ use Rattle.fv_top_words.specs.Views.{run_in as run_view}
 use Rattle.fv_top.specs.Promise.{Asks, OfWords}
 use Rattle.fv_top.specs.Played.{HasBlocksSoFar}
 use Rattle.fv_top.specs.Prepared.{ready_of}
+use Rattle.fv_base.specs.declared.role.Role.TheVariants.{Output}
+use Rattle.fv_outside.specs.Desk.{DeskState}
+use Rattle.fv_top_report.specs.declared.refusal.Refusal.{Refusal}
 use Rattle.fv_top_report.specs.declared.refusal.Refusal.TheVariants.{WaveTruncated}
 use Rattle.fv_top.proofs.Stopping.{Begins, Writes, stopped_before, stopped_writing, stopped_cut, stopped_telling, played_whole}
+use Rattle.fv_top.proofs.Ran.{untold_first}
 use Rattle.fv_top.proofs.run.play_run.Given.{Over}
 use Rattle.fv_top.proofs.run.play_run.Goals as goal
 use Rattle.fv_top.proofs.run.play_run.Goals.{In_ok-prepared, After-write_output, In-Ok}
@@ -27,6 +31,7 @@ begins g c words asks = record {
   asks = asks;
   reaches = c.in_ok-prepared.ensures.reaches;
   before = c.in_ok-prepared.ensures.steady;
+  rest = c.in_ok-prepared.ensures.rest;
   ready = c.in_ok-prepared.ensures.ready;
   delivers = c.write_output.ensures.delivers;
 }
@@ -69,10 +74,11 @@ returns-clause-stops g c = λ words asks.
 -- ---- the blocks that ran
 
 -- those of all frames that are there
-so_far : (g : Over) (c : In_ok-prepared g) →
+so_far : (g : Over) (c : In_ok-prepared g) (e : Refusal) (new : DeskState) →
     let told = g.G.Gate.told in
-    OfWords (Playing (run_view c.args.run)) (λ words. HasBlocksSoFar words (g.D.Desk.state c.args.desk.now) (told c.args.gate.now) (told c.prepare.new.gate))
-so_far g c words asks =
+    OfWords (Playing (run_view c.args.run)) (λ words.
+    HasBlocksSoFar words e (g.D.Desk.state c.args.desk.now) new (told c.args.gate.now) (told c.prepare.new.gate))
+so_far g c e new words asks =
     let ran = c.in_ok-prepared.prepared.ran in
     inr (record {
       job = Playing (run_view c.args.run);
@@ -86,13 +92,13 @@ so_far g c words asks =
 pub returns-in_err-prepared-clause-so_far : goal.returns-in_err-prepared-clause-so_far
 returns-in_err-prepared-clause-so_far g c =
     let p = err_from_is_err_and c.from_residual.result c.from_residual.ensures.1 in
-    rw p.1 (λ words asks. inl c.in_err-prepared.ensures.untold)
+    rw (p.1, p.2) (λ words asks. untold_first asks (c.in_err-prepared.ensures.stops.reaches.quiet.begins Output) c.in_err-prepared.ensures.untold)
 
 pub returns-in-Err-clause-so_far : goal.returns-in-Err-clause-so_far
-returns-in-Err-clause-so_far g c = so_far g (goal.at.returns-in-Err-clause-so_far g c).In_ok-prepared
+returns-in-Err-clause-so_far g c = so_far g (goal.at.returns-in-Err-clause-so_far g c).In_ok-prepared _ _
 
 pub returns-in-Some-clause-so_far : goal.returns-in-Some-clause-so_far
-returns-in-Some-clause-so_far g c = so_far g (goal.at.returns-in-Some-clause-so_far g c).In_ok-prepared
+returns-in-Some-clause-so_far g c = so_far g (goal.at.returns-in-Some-clause-so_far g c).In_ok-prepared _ _
 
 pub returns-in-Ok-report_done-clause-blocks : goal.returns-in-Ok-report_done-clause-blocks
 returns-in-Ok-report_done-clause-blocks g c = λ words asks.
@@ -100,4 +106,4 @@ returns-in-Ok-report_done-clause-blocks g c = λ words asks.
     record { job = Playing (run_view c.args.run); asks = asks; blocks = (ran.0, ran.1 c.in-None.is) }
 
 pub returns-clause-so_far : goal.returns-clause-so_far
-returns-clause-so_far g c = so_far g (goal.at.returns-clause-so_far g c).In_ok-prepared
+returns-clause-so_far g c = so_far g (goal.at.returns-clause-so_far g c).In_ok-prepared _ _

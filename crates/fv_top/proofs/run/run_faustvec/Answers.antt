@@ -1,6 +1,8 @@
 use Rattle.std.proofs.Common.{map}
 use Rattle.std.specs.Prelude.{string_bytes}
 use Rattle.fv_top.specs.Running.{EndsRefused}
+use Rattle.fv_base.specs.declared.role.Role.TheVariants.{Output}
+use Rattle.fv_top.proofs.Ran.{so_far_later}
 use Rattle.fv_top.proofs.Stopping.{ends_refused}
 use Rattle.fv_top.proofs.Completing.{done_exact, done_strict, refused_exact, refused_strict, refused_complete}
 use Rattle.fv_top.proofs.run.run_faustvec.Given.{Over}
@@ -22,11 +24,17 @@ returns-in-Err-clause-others g c = (ends g (goal.at.returns-in-Err-clause-others
 pub returns-in-Err-clause-cause : goal.returns-in-Err-clause-cause
 returns-in-Err-clause-cause g c = (ends g (goal.at.returns-in-Err-clause-cause g c).After-refuse).cause
 
+pub returns-in-Err-clause-so_far : goal.returns-in-Err-clause-so_far
+returns-in-Err-clause-so_far g c = so_far_later (c.refuse.ensures.appends.begins Output) c.in-Err.ensures.so_far
+
 pub returns-in-Err-clause-hands_on : goal.returns-in-Err-clause-hands_on
 returns-in-Err-clause-hands_on g c = (ends g (goal.at.returns-in-Err-clause-hands_on g c).After-refuse).hands_on
 
 pub returns-in-Err-clause-output : goal.returns-in-Err-clause-output
 returns-in-Err-clause-output g c = (ends g (goal.at.returns-in-Err-clause-output g c).After-refuse).output
+
+pub returns-in-Err-clause-cut : goal.returns-in-Err-clause-cut
+returns-in-Err-clause-cut g c = (ends g (goal.at.returns-in-Err-clause-cut g c).After-refuse).cut
 
 pub returns-in-Err-clause-report : goal.returns-in-Err-clause-report
 returns-in-Err-clause-report g c = (ends g (goal.at.returns-in-Err-clause-report g c).After-refuse).report
