@@ -8,17 +8,15 @@ use fv_control::{Script, scripts_are_lawful};
 use fv_diagram::ControlInfo;
 use fv_diagram_play::play_script;
 use fv_engine_render::{Rendered, RunSizes, Source, initial_of, render};
-use fv_eval::{Program, evaluate};
 use fv_interval::{Delays, spans, spans_of};
-use fv_lex::tokens;
 use fv_num::Span;
 use fv_outside::Gate;
-use fv_parse::parse;
 use std::alloc::Global;
 use std::marker::Sync;
 use std::sync::Wait;
 use std::test::Fail;
 use std::thread::Threads;
+use test_programs::program_of;
 
 /// A program, the changes of its controls, and an input of one channel, or of none.
 #[derive(Clone, Copy)]
@@ -27,20 +25,6 @@ pub(crate) struct Case {
     pub(crate) script: &'static str,
     pub(crate) input: &'static [i32],
     pub(crate) frames: u32,
-}
-
-// The program of a text.
-fn program_of(alloc: Global, text: &str) -> Result<Program, Fail> {
-    let Ok(found) = tokens(alloc, text.as_bytes()) else {
-        return Err("no tokens".into());
-    };
-    let Ok(tree) = parse(alloc, &found) else {
-        return Err("no tree".into());
-    };
-    match evaluate(alloc, &tree) {
-        Ok(program) => Ok(program),
-        Err(_) => Err("no value".into()),
-    }
 }
 
 // The script of a text.

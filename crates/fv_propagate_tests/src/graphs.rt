@@ -1,21 +1,14 @@
 // What graphs of signals give, beside what their diagrams answer.
 
-use fv_diagram::{DiagramId, Prim};
 use fv_diagram_play::play;
-use fv_interval::spans;
-use fv_num::{Op, Span, apply};
+use fv_interval::{spans, spans_of};
+use fv_num::{Op, apply};
 use fv_propagate::propagate;
 use fv_signal::{Graph, Signal, SignalId};
 use std::alloc::Global;
 use std::process::Abort;
 use std::test::Fail;
-use test_diagrams::{Build, Item, PLUS, WIRE};
-
-// A diagram of at most six inputs, which is its last item.
-struct Row {
-    name: &'static str,
-    items: &'static [Item],
-}
+use test_programs::program_with_controls;
 
 // The controls' numbers.
 const CONTROLS: [i32; 2] = [3, -2];
@@ -99,271 +92,33 @@ static SAMPLES: [i32; 72] = [
     8,
 ];
 
-static ROWS: [Row; 25] = [
-    Row {
-        name: "_ <: _ + 1, _ + 1 :> _",
-        items: &[
-            WIRE,
-            Item::Number(1),
-            Item::Par(0, 1),
-            PLUS,
-            Item::Seq(2, 3),
-            Item::Par(4, 4),
-            Item::Split(0, 5),
-            Item::Merge(6, 0),
-        ],
-    },
-    Row {
-        name: "+ ~ _",
-        items: &[PLUS, WIRE, Item::Rec(0, 1)],
-    },
-    Row {
-        name: "_ <: _, mem : -",
-        items: &[
-            WIRE,
-            Item::Prim(Prim::Mem),
-            Item::Par(0, 1),
-            Item::Point(Op::Sub),
-            Item::Seq(2, 3),
-            Item::Split(0, 4),
-        ],
-    },
-    Row {
-        name: "_,1 : -",
-        items: &[
-            WIRE,
-            Item::Number(1),
-            Item::Par(0, 1),
-            Item::Point(Op::Sub),
-            Item::Seq(2, 3),
-        ],
-    },
-    Row {
-        name: "_ / 0",
-        items: &[
-            WIRE,
-            Item::Number(0),
-            Item::Par(0, 1),
-            Item::Point(Op::Div),
-            Item::Seq(2, 3),
-        ],
-    },
-    Row {
-        name: "_,_ <: _,_,_,_ :> _,_",
-        items: &[
-            WIRE,
-            Item::Par(0, 0),
-            Item::Par(1, 1),
-            Item::Merge(2, 1),
-            Item::Split(1, 3),
-        ],
-    },
-    Row {
-        name: "_,_ <: _,_,_,_",
-        items: &[WIRE, Item::Par(0, 0), Item::Par(1, 1), Item::Split(1, 2)],
-    },
-    Row {
-        name: "_,_,_,_,_,_ :> _,_",
-        items: &[
-            WIRE,
-            Item::Par(0, 0),
-            Item::Par(1, 1),
-            Item::Par(2, 1),
-            Item::Merge(3, 1),
-        ],
-    },
-    Row {
-        name: "(+,+) ~ (_,_)",
-        items: &[
-            PLUS,
-            WIRE,
-            Item::Par(0, 0),
-            Item::Par(1, 1),
-            Item::Rec(2, 3),
-        ],
-    },
-    Row {
-        name: "(+ ~ _) ~ (_,1 : +)",
-        items: &[
-            PLUS,
-            WIRE,
-            Item::Rec(0, 1),
-            Item::Number(1),
-            Item::Par(1, 3),
-            Item::Seq(4, 0),
-            Item::Rec(2, 5),
-        ],
-    },
-    Row {
-        name: "7,_ : prefix",
-        items: &[
-            WIRE,
-            Item::Number(7),
-            Item::Par(1, 0),
-            Item::Prim(Prim::Prefix),
-            Item::Seq(2, 3),
-        ],
-    },
-    Row {
-        name: "_,10,20,30 : select3",
-        items: &[
-            WIRE,
-            Item::Number(10),
-            Item::Number(20),
-            Item::Number(30),
-            Item::Par(2, 3),
-            Item::Par(1, 4),
-            Item::Par(0, 5),
-            Item::Point(Op::Select3),
-            Item::Seq(6, 7),
-        ],
-    },
-    Row {
-        name: "-2147483647 - 1 : _ <: /(-1), %(-1), abs",
-        items: &[
-            WIRE,
-            Item::Number(-2147483647),
-            Item::Number(1),
-            Item::Par(1, 2),
-            Item::Point(Op::Sub),
-            Item::Seq(3, 4),
-            Item::Seq(5, 0),
-            Item::Number(-1),
-            Item::Par(0, 7),
-            Item::Point(Op::Div),
-            Item::Seq(8, 9),
-            Item::Point(Op::Rem),
-            Item::Seq(8, 11),
-            Item::Point(Op::Abs),
-            Item::Par(12, 13),
-            Item::Par(10, 14),
-            Item::Split(6, 15),
-        ],
-    },
-    Row {
-        name: "-8 >> 33",
-        items: &[
-            Item::Number(-8),
-            Item::Number(33),
-            Item::Par(0, 1),
-            Item::Point(Op::Shr),
-            Item::Seq(2, 3),
-        ],
-    },
-    Row {
-        name: "(attach : int), !",
-        items: &[
-            Item::Prim(Prim::Attach),
-            Item::Prim(Prim::Int),
-            Item::Seq(0, 1),
-            Item::Prim(Prim::Cut),
-            Item::Par(2, 3),
-        ],
-    },
-    Row {
-        name: "(_, control 0 : *), control 1",
-        items: &[
-            WIRE,
-            Item::Control(0),
-            Item::Par(0, 1),
-            Item::Point(Op::Mul),
-            Item::Seq(2, 3),
-            Item::Control(1),
-            Item::Par(4, 5),
-        ],
-    },
-    Row {
-        name: "a bind of a slot that does not occur, over _",
-        items: &[WIRE, Item::Bind(0)],
-    },
-    Row {
-        name: "+ ~ (_,2 : @ : _,128 : * : _,256 : /)",
-        items: &[
-            PLUS,
-            WIRE,
-            Item::Number(2),
-            Item::Par(1, 2),
-            Item::Prim(Prim::Delay),
-            Item::Seq(3, 4),
-            Item::Number(128),
-            Item::Par(1, 6),
-            Item::Point(Op::Mul),
-            Item::Seq(7, 8),
-            Item::Number(256),
-            Item::Par(1, 10),
-            Item::Point(Op::Div),
-            Item::Seq(11, 12),
-            Item::Seq(5, 9),
-            Item::Seq(14, 13),
-            Item::Rec(0, 15),
-        ],
-    },
-    Row {
-        name: "_,3 : @",
-        items: &[
-            WIRE,
-            Item::Number(3),
-            Item::Par(0, 1),
-            Item::Prim(Prim::Delay),
-            Item::Seq(2, 3),
-        ],
-    },
-    Row {
-        name: "_, (_,7 : &) : @",
-        items: &[
-            WIRE,
-            Item::Number(7),
-            Item::Par(0, 1),
-            Item::Point(Op::And),
-            Item::Seq(2, 3),
-            Item::Par(0, 4),
-            Item::Prim(Prim::Delay),
-            Item::Seq(5, 6),
-        ],
-    },
-    Row {
-        name: "_ : mem : mem",
-        items: &[
-            WIRE,
-            Item::Prim(Prim::Mem),
-            Item::Seq(1, 1),
-            Item::Seq(0, 2),
-        ],
-    },
-    Row {
-        name: "prefix",
-        items: &[Item::Prim(Prim::Prefix)],
-    },
-    Row {
-        name: "_ @ hslider, _ @ 2",
-        items: &[
-            WIRE,
-            Item::Control(0),
-            Item::Par(0, 1),
-            Item::Prim(Prim::Delay),
-            Item::Seq(2, 3),
-            Item::Number(2),
-            Item::Par(0, 5),
-            Item::Seq(6, 3),
-            Item::Par(4, 7),
-        ],
-    },
-    Row {
-        name: "(+,_ : +) ~ _ ~ mem",
-        items: &[
-            PLUS,
-            WIRE,
-            Item::Par(0, 1),
-            Item::Seq(2, 0),
-            Item::Rec(3, 1),
-            Item::Prim(Prim::Mem),
-            Item::Rec(4, 5),
-        ],
-    },
-    Row {
-        name: "_, _, _ :> _",
-        items: &[WIRE, Item::Par(0, 0), Item::Par(1, 0), Item::Merge(2, 0)],
-    },
+// Expressions of at most six inputs.
+static EXPRESSIONS: [&str; 25] = [
+    "_ <: _ + 1, _ + 1 :> _",
+    "+ ~ _",
+    "_ <: _, mem : -",
+    "_,1 : -",
+    "_ / 0",
+    "_,_ <: _,_,_,_ :> _,_",
+    "_,_ <: _,_,_,_",
+    "_,_,_,_,_,_ :> _,_",
+    "(+,+) ~ (_,_)",
+    "(+ ~ _) ~ (_,1 : +)",
+    "7,_ : prefix",
+    "_,10,20,30 : select3",
+    "-2147483647 - 1 : _ <: /(-1), %(-1), abs",
+    "-8 >> 33",
+    "(attach : int), !",
+    "(_, a : *), b",
+    "\\(x).(_)",
+    "+ ~ (_,2 : @ : _,128 : * : _,256 : /)",
+    "_,3 : @",
+    "_, (_,7 : &) : @",
+    "_ : mem : mem",
+    "prefix",
+    "_ @ a, _ @ 2",
+    "(+,_ : +) ~ _ ~ mem",
+    "_, _, _ :> _",
 ];
 
 // A number of a list, 0 where there is none.
@@ -474,37 +229,38 @@ fn given(
     Ok(answer)
 }
 
-// The graph of the last diagram, which gives what the diagram answers.
-fn agrees(rt: &impl Abort, alloc: Global, build: &Build, row: &Row) -> Result<Graph, Fail> {
-    let count = build.count();
-    let diagrams = build.diagrams();
-    assert!(rt; count > 0);
-    let root = DiagramId::new(count - 1);
-    let controls = [Span { lo: 0, hi: 10 }, Span::full()];
-    let delays = match spans(alloc, diagrams, root, &controls) {
+// The graph of an expression, which gives what its diagram answers.
+fn agrees(rt: &impl Abort, alloc: Global, expression: &str) -> Result<Graph, Fail> {
+    let program = program_with_controls(alloc, expression)?;
+    let controls = program.controls.as_slice();
+    assert!(rt; controls.len() <= CONTROLS.len());
+    let bounds = spans_of(alloc, controls)?;
+    let delays = match spans(alloc, &program.diagrams, program.root, &bounds) {
         Ok(delays) => delays,
         Err(_) => return Err("refused".into()),
     };
-    let graph = propagate(alloc, diagrams, root, &delays)?;
-    let width = diagrams.arity(root).inputs as usize;
+    let graph = propagate(alloc, &program.diagrams, program.root, &delays)?;
+    let width = program.diagrams.arity(program.root).inputs as usize;
     assert!(rt; width <= 6);
     let samples = &SAMPLES[..FRAMES * width];
-    let want = play(alloc, diagrams, root, &CONTROLS, samples, FRAMES)?;
+    let want = play(
+        alloc,
+        &program.diagrams,
+        program.root,
+        &CONTROLS,
+        samples,
+        FRAMES,
+    )?;
     let answer = given(alloc, &graph, samples, width, FRAMES)?;
-    assert!(rt; answer.as_slice() == want.as_slice(), "{}", row.name);
+    assert!(rt; answer.as_slice() == want.as_slice(), "{expression}");
     Ok(graph)
 }
 
 #[test]
 fn graphs_give_what_diagrams_answer(rt: HostRuntime) -> Result<(), Fail> {
-    let alloc = rt.alloc();
-    for row in &ROWS {
-        let mut build = Build::new(alloc);
-        for item in row.items {
-            build.put(*item)?;
-        }
-        let graph = agrees(&rt, alloc, &build, row)?;
-        assert!(rt; graph.len() > 0);
+    for expression in &EXPRESSIONS {
+        let graph = agrees(&rt, rt.alloc(), expression)?;
+        assert!(rt; graph.len() > 0, "{expression}");
     }
     Ok(())
 }
@@ -521,12 +277,7 @@ fn is_double(signal: Signal) -> bool {
 #[test]
 fn equal_operands_are_shared(rt: HostRuntime) -> Result<(), Fail> {
     let alloc = rt.alloc();
-    let row = &ROWS[0];
-    let mut build = Build::new(alloc);
-    for item in row.items {
-        build.put(*item)?;
-    }
-    let graph = agrees(&rt, alloc, &build, row)?;
+    let graph = agrees(&rt, alloc, "_ <: _ + 1, _ + 1 :> _")?;
     let [sum] = graph.outputs() else {
         return Err("not one output".into());
     };

@@ -1,15 +1,12 @@
 // Items.
 
 use fv_diagram::{DiagramId, Node, Prim};
-use fv_num::Op;
 
 /// A node whose parts are the items at these places.
 #[derive(Clone, Copy)]
 pub enum Item {
     Prim(Prim),
-    Point(Op),
     Number(i32),
-    Control(u32),
     Bind(u64),
     Par(u64, u64),
     Seq(u64, u64),
@@ -21,16 +18,11 @@ pub enum Item {
 /// A wire.
 pub const WIRE: Item = Item::Prim(Prim::Wire);
 
-/// A sum.
-pub const PLUS: Item = Item::Point(Op::Add);
-
 // The node of an item.
 pub(crate) fn node_of(item: Item) -> Node {
     match item {
         Item::Prim(prim) => Node::Prim(prim),
-        Item::Point(op) => Node::Prim(Prim::Point(op)),
         Item::Number(n) => Node::Number(n),
-        Item::Control(k) => Node::Control(k),
         Item::Bind(a) => Node::Bind {
             slot: 9,
             body: DiagramId::new(a),

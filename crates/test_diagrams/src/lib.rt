@@ -5,4 +5,4 @@ mod build;
 mod item;
 
 pub use build::{Build, Unput};
-pub use item::{Item, PLUS, WIRE};
+pub use item::{Item, WIRE};

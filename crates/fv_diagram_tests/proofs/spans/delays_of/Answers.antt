@@ -1,8 +1,0 @@
-use Rattle.std.proofs.Common.{◌<◌, rules}
-use Rattle.fv_diagram.specs.Arena.{count_of}
-use Rattle.fv_diagram_tests.proofs.spans.delays_of.Goals as goal
-
-pub spans-requires-clause-closed : goal.spans-requires-clause-closed
-spans-requires-clause-closed g c =
-    let l : c.new-root.result < count_of c.diagrams-diagrams.result.now = search rules in
-    (c.diagrams-diagrams.ensures.run c.new-root.result l).closed
