@@ -15,6 +15,11 @@ abbrev pub noise_behind : ℤ → ℕ → List ℤ
 noise_behind s zero = []
 noise_behind s (suc n) = shifted_right (next_state s) (pos 16) ∷ noise_behind (next_state s) n
 
+-- the state behind so many samples
+abbrev pub state_behind : ℤ → ℕ → ℤ
+state_behind s zero = s
+state_behind s (suc n) = state_behind (next_state s) n
+
 -- the noise of a program with so many voices
 abbrev pub noise_of : (voices frames : ℕ) → List ℤ
 noise_of voices frames = noise_behind (pos voices) frames
@@ -22,3 +27,8 @@ noise_of voices frames = noise_behind (pos voices) frames
 -- the sum of samples, which wraps
 abbrev pub sum_of : List ℤ → ℤ
 sum_of samples = wrap (fold ◌+ℤ◌ (pos 0) samples)
+
+-- a sum, and these samples added to it one by one
+abbrev pub sum_from : ℤ → List ℤ → ℤ
+sum_from sum [] = sum
+sum_from sum (x ∷ xs) = sum_from (wrap (sum +ℤ x)) xs

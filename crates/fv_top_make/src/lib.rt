@@ -5,8 +5,11 @@ ghost use Rattle.std.specs.Prelude.{◌≡◌, ◌^◌, ◌<◌, pos, ◌+ℤ◌
 ghost use Rattle.fv_num.specs.Words.{wrap, shifted_right};
 ghost use Rattle.fv_top_make.specs.Made.{next_state, noise_of, sum_of, text_of};
 
+mod noise_tape;
+
 use fv_num::{Op, apply};
 use itoa::Buffer;
+pub use noise_tape::{Noise, NoiseTape};
 use std::alloc::{AllocError, Global};
 
 /// The text of a program of so many voices, two lines.
@@ -36,7 +39,7 @@ pub fn noise(alloc: Global, voices: u32, frames: u32) -> Result<Vec<i32>, AllocE
 }
 
 // The state of the noise behind this one.
-fn next_state(state: i32) -> i32
+pub(crate) fn next_state(state: i32) -> i32
     ensures { result ≡ next_state state }
 {
     added(apply(Op::Mul, &[state, 1_103_515_245]), 12_345)
@@ -54,7 +57,7 @@ pub fn sum_of(samples: &[i32]) -> i32
 }
 
 // Two numbers added.
-fn added(x: i32, y: i32) -> i32
+pub(crate) fn added(x: i32, y: i32) -> i32
     ensures { result ≡ wrap (x +ℤ y) }
 {
     apply(Op::Add, &[x, y])

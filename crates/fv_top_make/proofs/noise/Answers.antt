@@ -1,7 +1,7 @@
 use Rattle.std.proofs.Common.{◌≡◌, suc, ◌+◌, ℤ, pos, ◌∷◌, [], ◌++◌, sym, ap, ◌∙◌, rules, arith, SFits, w32, to_z-of_z}
 use Rattle.fv_num.specs.Words.{shifted_right}
-use Rattle.fv_top_make.specs.Made.{next_state, noise_behind}
-use Rattle.fv_top_make.proofs.Sounding.{noise_more, state_behind, state_more}
+use Rattle.fv_top_make.specs.Made.{next_state, noise_behind, state_behind}
+use Rattle.fv_top_make.proofs.Sounding.{noise_more, state_more}
 use Rattle.fv_top_make.proofs.noise.Goals as goal
 
 pub sounding-preserved : goal.sounding-preserved

@@ -1,6 +1,5 @@
 use Rattle.std.proofs.Common.{◌≡◌, pos}
-use Rattle.fv_top_make.specs.Made.{noise_behind}
-use Rattle.fv_top_make.proofs.Sounding.{state_behind}
+use Rattle.fv_top_make.specs.Made.{noise_behind, state_behind}
 use Rattle.fv_top_make.proofs.noise.Given as goal
 
 abbrev pub invariant-sounding : goal.invariant-sounding
