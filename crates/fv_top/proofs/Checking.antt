@@ -1,6 +1,6 @@
 -- How a check ends, from how its two steps do.
-use Rattle.std.proofs.Common.{◌≡◌, ℕ, ◌+◌, ◌≤◌, List, [], ◌++◌, length, length-append, sym, ◌∙◌, ap, subst, refl, inl, inr, append_assoc, arith}
-use Rattle.std.specs.Prelude.{IsTrue, Some, codes, decimal}
+use Rattle.std.proofs.Common.{◌≡◌, ℕ, ◌+◌, ◌≤◌, List, [], ◌++◌, length, length-append, sym, ◌∙◌, ap, subst, refl, inl, inr, arith}
+use Rattle.std.specs.Prelude.{IsTrue, Some}
 use Rattle.std.proofs.lemmas.List.{append-nil}
 use Rattle.fv_base.specs.declared.role.Role.TheVariants.{Program, Input, Controls, Output, Report}
 use Rattle.fv_base.specs.Lists.{IsPrefixOf}
@@ -17,7 +17,7 @@ use Rattle.fv_top_report.specs.Parts.{AppendsPart}
 use Rattle.fv_top.specs.Loading.{ReadsFile, StopsLoading, IsFile}
 use Rattle.fv_top.specs.Steps.{Halts, fault, judged, want_of_memory, reads, writes, here, later}
 use Rattle.fv_top.specs.Promise.{IsReadBy, ReadProgram, HasProgram, HasNoProgram, HasRefusal, check_rules}
-use Rattle.fv_top.specs.Running.{Checks, StopsCheck}
+use Rattle.fv_top.specs.inner.Running.{Checks, StopsCheck}
 use Rattle.fv_top.proofs.Reaching.{FailsToLoad, load_faults, is_another}
 
 -- numbers that are the same give the same line

@@ -1,8 +1,7 @@
 -- How a make ends, from how its parts do.
 use Rattle.std.proofs.Common.{◌≡◌, ◌⊎◌, ℕ, zero, suc, ◌+◌, ◌≤◌, ℤ, List, [], ◌++◌, length, length-append, sym, ◌∙◌, ap, subst, refl, inl, inr}
-use Rattle.std.proofs.Common.{append_assoc, arith, to_z, of_z, to_z-of_z, SFits, w32}
-use Rattle.std.specs.Prelude.{IsTrue, codes, decimal}
-use Rattle.std.specs.Fmt.{signed_decimal}
+use Rattle.std.proofs.Common.{arith}
+use Rattle.std.specs.Prelude.{IsTrue}
 use Rattle.std.proofs.lemmas.List.{append-nil}
 use Rattle.fv_base.specs.declared.role.Role.TheVariants.{Program, Input, Controls, Output, Report}
 use Rattle.fv_base.specs.Lists.{IsPrefixOf}
@@ -20,7 +19,7 @@ use Rattle.fv_top.specs.Meant.{make_meant}
 use Rattle.fv_top_report.specs.Parts.{AppendsPart}
 use Rattle.fv_top.specs.Steps.{Ends, fault, judged, want_of_memory, writes, here, later}
 use Rattle.fv_top.specs.Promise.{HasRefusal, ReadProgram, Fit, make_rules, make_steps}
-use Rattle.fv_top.specs.Running.{Makes, StopsMake, HasSum, IsNotMade}
+use Rattle.fv_top.specs.inner.Running.{Makes, StopsMake, HasSum, IsNotMade}
 
 -- ---- the program and its noise
 

@@ -21,9 +21,9 @@ use Rattle.fv_top.specs.Output.{OutputFormat, format_of, present_in}
 use Rattle.fv_top.specs.Loading.{ReadsFile, StopsSamples, IsFile, HasScript, HasInput, HasHead, IsPlaced, wanted, reading}
 use Rattle.fv_top.specs.Steps.{Ends, Halts, here, later, judged, want_of_memory}
 use Rattle.fv_top.specs.Promise.{IsReadBy, ReadProgram, ReadScript, ReadHead, Fit, ReadSamples, HasProgram, HasNoProgram, HasRefusal, Plays, Step, run_rules}
-use Rattle.fv_top.specs.Running.{Reaches, CountsFaultOf, StopsBefore, Ready, IsReady, asked_before}
+use Rattle.fv_top.specs.inner.Running.{Reaches, CountsFaultOf, StopsBefore, Ready, IsReady, asked_before}
 use Rattle.fv_top.specs.Played.{sizes_of, AllRan}
-use Rattle.fv_top.specs.Prepared.{made_of}
+use Rattle.fv_top.specs.inner.Prepared.{made_of}
 use Rattle.fv_top.proofs.Heads.{wanted_is}
 use Rattle.fv_top.proofs.Rendering.{made_is, placed_in}
 use Rattle.fv_top.proofs.Reaching.{FailsToLoad, reaches_nothing, reaches_file, reaches_taken, reaches_on, loading_halts, samples_halt, load_faults}

@@ -1,6 +1,6 @@
 -- The blocks of a run and of a make, from those that were rendered.
 use Rattle.std.proofs.Common.{◌≡◌, ℕ, ◌+◌, ◌-◌, ◌*◌, ◌/◌, ◌^◌, ◌<◌, ◌≤◌, Bool, true, false, List, [], length, subst, refl, inl, inr, sym, ◌∙◌, arith}
-use Rattle.std.specs.Prelude.{Option, Some, None, Result, Ok, Err, ◌==◌, if◌then◌else◌}
+use Rattle.std.specs.Prelude.{Option, Some, None, Err, ◌==◌, if◌then◌else◌}
 use Rattle.std.specs.List.{AllByRecursion}
 use Rattle.std.proofs.Math.Nat.{div-mul-le_self, mul-le-mul_left}
 use Rattle.std.proofs.lemmas.Bool.{eqb-true}
@@ -28,7 +28,7 @@ use Rattle.fv_top_text.specs.Program.{delays_in}
 use Rattle.fv_top_text.specs.Compiled.{compiled_of, CanPlay}
 use Rattle.fv_top.specs.Promise.{Asks}
 use Rattle.fv_top.specs.Played.{sizes_of, make_sizes, AllRan, MakeRan, MakeSoFar, RanSoFar, ComesFirst, HasBlocksSoFar}
-use Rattle.fv_top.specs.Prepared.{cut_at}
+use Rattle.fv_top.specs.inner.Prepared.{cut_at}
 use Rattle.fv_top.proofs.Rendering.{frame_some}
 
 -- a quotient is no more than what is divided

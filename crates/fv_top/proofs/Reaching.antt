@@ -18,7 +18,7 @@ use Rattle.fv_top.specs.Output.{OutputFormat, format_of, counted, channels_in, b
 use Rattle.fv_top.specs.Loading.{ReadsFile, StopsLoading, StopsSamples, IsThere, reading, behind_wanted}
 use Rattle.fv_top.specs.Steps.{Halts, fault, judged, want_of_memory, reads}
 use Rattle.fv_top.specs.Promise.{WantsMemory, IsReadBy, Step, Fit, ReadSamples, TakesTurn, IsAnswered, HasRefusal, StepRefuses, run_rules}
-use Rattle.fv_top.specs.Running.{Reaches, CountsFaultOf, asked_before}
+use Rattle.fv_top.specs.inner.Running.{Reaches, CountsFaultOf, asked_before}
 
 pub reaches_nothing : (Reads : Role → Type 0) (a : DeskState) → Reaches Reads [] a a
 reaches_nothing Reads a = record { quiet = quiet_self a; requests = sym (append-nil a.requests); left = λ t r none. refl }

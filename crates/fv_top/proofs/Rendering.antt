@@ -33,8 +33,8 @@ use Rattle.fv_top.specs.Output.{OutputFormat, format_of, counted, frames_in, pre
 use Rattle.fv_top.specs.Loading.{IsLeft, IsPlaced}
 use Rattle.fv_top.specs.Meant.{written_by}
 use Rattle.fv_top.specs.Promise.{Plays, meant}
-use Rattle.fv_top.specs.Running.{Ready, file_in, pad_of}
-use Rattle.fv_top.specs.Prepared.{made_of, cut_at}
+use Rattle.fv_top.specs.inner.Running.{Ready, file_in, pad_of}
+use Rattle.fv_top.specs.inner.Prepared.{made_of, cut_at}
 
 -- ---- samples and frames
 

@@ -21,8 +21,8 @@ use Rattle.fv_top.specs.Steps.{Rules, Turn, role_of, fault_of, reads, writes, Ha
 use Rattle.fv_top.specs.Loading.{HasInput, LeavesRest, reading}
 use Rattle.fv_top.specs.Promise.{Asks, Write, Tell, HasRoom, meant, run_rules, run_steps, rules_of, steps_of, CanDo, meant_of, HasCause, bad_words, of_job}
 use Rattle.fv_top.specs.Promise.{check_rules, check_steps, make_rules, make_steps, HasBegun, LeavesOutput, HasPlayedPresent, CutsShort, IsReadBy, IsRead, KeepsOthers}
-use Rattle.fv_top.specs.Running.{Reaches, Delivers, CannotWrite, LeavesPart, CountsFaultOf, Ready, IsReady, file_in, StopsBefore, Checks, StopsCheck, Makes}
-use Rattle.fv_top.specs.Running.{StopsMake, steps_before, asked_before, EndsDone, Stopped, ReportsLine, EndsRefused}
+use Rattle.fv_top.specs.inner.Running.{Reaches, Delivers, CannotWrite, LeavesPart, CountsFaultOf, Ready, IsReady, file_in, StopsBefore, Checks, StopsCheck, Makes}
+use Rattle.fv_top.specs.inner.Running.{StopsMake, steps_before, asked_before, EndsDone, Stopped, ReportsLine, EndsRefused}
 use Rattle.fv_top.proofs.Reaching.{reaches_nothing}
 use Rattle.fv_top.proofs.StepLaws.{OfSome, Judges, ends_more, judged_in}
 

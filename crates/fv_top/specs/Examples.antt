@@ -1,13 +1,13 @@
 -- Small files, which hold by computing.
-use Rattle.std.specs.Prelude.{◌≡◌, refl, ℕ, List, [], ◌∷◌, take, drop, Some, None, Ok, Err, codes, decimal}
+use Rattle.std.specs.Prelude.{◌≡◌, refl, ℕ, List, [], ◌∷◌, take, drop, Some, None, Ok, Err}
 use Rattle.fv_diagram.specs.declared.node.Primitive.TheVariants.{Wire}
 use Rattle.fv_diagram.specs.Diagram.{Primitive}
 use Rattle.fv_control.specs.Streams.{control_streams}
 use Rattle.fv_wav.specs.declared.head.Head.{Head}
 use Rattle.fv_pcm.specs.Coded.{sample_at}
 use Rattle.fv_top_words.specs.Runs.{Settings}
-use Rattle.fv_top_report.specs.declared.refusal.Refusal.TheVariants.{TextTooLong, Arity, Channels}
-use Rattle.fv_top_report.specs.Lines.{row, row_of, status_of, done_line}
+use Rattle.fv_top_report.specs.declared.refusal.Refusal.TheVariants.{Channels}
+use Rattle.fv_top_report.specs.Lines.{done_line}
 use Rattle.fv_top.specs.Sources.{frames_of}
 use Rattle.fv_top.specs.Output.{OutputFormat, format_of}
 use Rattle.fv_top.specs.Meant.{run_meant}

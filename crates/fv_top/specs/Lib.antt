@@ -1,11 +1,9 @@
 pub mod Sources
 pub mod Output
-pub mod Formats
 pub mod Meant
 pub mod Steps
 pub mod Loading
 pub mod Promise
 pub mod Played
-pub mod Running
-pub mod Prepared
 pub mod Examples
+pub mod inner

@@ -1,7 +1,7 @@
 // A program that is compiled alone.
 
 ghost use Rattle.std.specs.Prelude.{OnOk, IfErr};
-ghost use Rattle.fv_top.specs.Running.{Checks, StopsCheck};
+ghost use Rattle.fv_top.specs.inner.Running.{Checks, StopsCheck};
 
 use crate::program::load_program;
 use fv_outside::{Desk, Role};

@@ -9,7 +9,7 @@ ghost use Rattle.fv_wav.specs.Stopping.{IsHead};
 ghost use Rattle.fv_wav.specs.Samples.{data_size, data_limit};
 ghost use Rattle.fv_top_text.specs.Compiled.{compiled_of, CanPlay};
 ghost use Rattle.fv_top.specs.Output.{format_of, channels_in, rate_in, bits_in, frames_in};
-ghost use Rattle.fv_top.specs.Formats.{format_answered};
+ghost use Rattle.fv_top.specs.inner.Formats.{format_answered};
 
 use crate::frames::frame_size;
 use fv_eval::Program;

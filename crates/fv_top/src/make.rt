@@ -12,7 +12,7 @@ ghost use Rattle.fv_top.specs.Meant.{made_sum};
 ghost use Rattle.fv_top_text.specs.Compiled.{compiled_of, CanPlay};
 ghost use Rattle.fv_top_text.specs.Program.{delays_in};
 ghost use Rattle.fv_top.specs.Promise.{HasRefusal, Fit, IsMade};
-ghost use Rattle.fv_top.specs.Running.{Makes, StopsMake, HasSum, IsNotMade};
+ghost use Rattle.fv_top.specs.inner.Running.{Makes, StopsMake, HasSum, IsNotMade};
 ghost use Rattle.fv_top.specs.Output.{mono};
 
 use fv_engine_render::{Ran, Rendered, RunSizes, Source};

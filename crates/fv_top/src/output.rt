@@ -5,8 +5,8 @@ ghost use Rattle.fv_base.specs.declared.role.Role.TheVariants.{Output};
 ghost use Rattle.fv_outside.specs.Desk.{HasFault, KeepsFaults, IsUnfailing, Appends};
 ghost use Rattle.fv_top_report.specs.Parts.{AppendsPart};
 ghost use Rattle.fv_top.specs.Promise.{HasBegun};
-ghost use Rattle.fv_top.specs.Running.{Delivers, CannotWrite, LeavesPart, file_in};
-ghost use Rattle.fv_top.specs.Prepared.{CanWrite, ready_of};
+ghost use Rattle.fv_top.specs.inner.Running.{Delivers, CannotWrite, LeavesPart, file_in};
+ghost use Rattle.fv_top.specs.inner.Prepared.{CanWrite, ready_of};
 
 use crate::prepare::Prepared;
 use fv_outside::{Desk, Role};

@@ -19,11 +19,11 @@ ghost use Rattle.fv_top_text.specs.Program.{delays_in};
 ghost use Rattle.fv_top.specs.Played.{sizes_of};
 ghost use Rattle.fv_top.specs.Output.{channels_in};
 ghost use Rattle.fv_top_text.specs.Compiled.{compiled_of, CanPlay};
-ghost use Rattle.fv_top.specs.Formats.{format_in};
+ghost use Rattle.fv_top.specs.inner.Formats.{format_in};
 ghost use Rattle.fv_top.specs.Loading.{IsPlaced, LeavesRest};
 ghost use Rattle.fv_top.specs.Promise.{IsReadBy};
-ghost use Rattle.fv_top.specs.Running.{Reaches, StopsBefore, IsReady, asked_before};
-ghost use Rattle.fv_top.specs.Prepared.{ready_of, CanWrite, made_of, cut_at, IsRan};
+ghost use Rattle.fv_top.specs.inner.Running.{Reaches, StopsBefore, IsReady, asked_before};
+ghost use Rattle.fv_top.specs.inner.Prepared.{ready_of, CanWrite, made_of, cut_at, IsRan};
 
 use crate::format::{OutputFormat, fit};
 use crate::frames::count_frames;

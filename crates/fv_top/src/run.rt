@@ -8,7 +8,7 @@ ghost use Rattle.fv_top_words.specs.Views.{run_in as run_view};
 ghost use Rattle.fv_top.specs.Promise.{OfWords, IfDone, IfRefused, HasDone, IsRefusedFor, LeavesOutput, CutsShort, IsRead, KeepsOthers, Reports};
 ghost use Rattle.fv_top.specs.Promise.{HandsOn, IsComplete, IsStrict, IsExact};
 ghost use Rattle.fv_top.specs.Played.{HasBlocks, HasBlocksSoFar};
-ghost use Rattle.fv_top.specs.Running.{EndsDone, Stopped, ReportsLine};
+ghost use Rattle.fv_top.specs.inner.Running.{EndsDone, Stopped, ReportsLine};
 
 use crate::check::check;
 use crate::make::run_make;

@@ -8,8 +8,8 @@ use Rattle.fv_wav.specs.Samples.{pad_bytes, data_size}
 use Rattle.fv_top_report.specs.declared.refusal.Refusal.TheVariants.{WaveTruncated}
 use Rattle.fv_top.specs.declared.prepare.Prepared.{Prepared}
 use Rattle.fv_top_report.specs.Parts.{AppendsPart}
-use Rattle.fv_top.specs.Prepared.{CanWrite}
-use Rattle.fv_top.specs.Running.{pad_of}
+use Rattle.fv_top.specs.inner.Prepared.{CanWrite}
+use Rattle.fv_top.specs.inner.Running.{pad_of}
 use Rattle.fv_top.proofs.Filing.{Pieces, head_part, samples_part, pad_part, file_whole}
 use Rattle.fv_top.proofs.output.write_file.Goals as goal
 

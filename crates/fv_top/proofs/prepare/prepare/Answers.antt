@@ -16,9 +16,9 @@ use Rattle.fv_top.specs.Loading.{StopsLoading, HasScript, HasInput}
 use Rattle.fv_eval.specs.Evaluated.{Evaluated}
 use Rattle.fv_top.specs.Sources.{frames_of}
 use Rattle.fv_top_text.specs.Compiled.{compiled_of}
-use Rattle.fv_top.specs.Formats.{format_in}
+use Rattle.fv_top.specs.inner.Formats.{format_in}
 use Rattle.fv_top.specs.Played.{sizes_of}
-use Rattle.fv_top.specs.Prepared.{ready_of, made_of}
+use Rattle.fv_top.specs.inner.Prepared.{ready_of, made_of}
 use Rattle.fv_top.specs.Promise.{HasRefusal, HasNoProgram, ReadProgram, ReadScript, ReadHead}
 use Rattle.fv_top.proofs.Preparing.{AfterProgram, AfterScript, AfterHead, after_program, after_script, after_head}
 use Rattle.fv_top.proofs.Preparing.{stops_program, stops_script, stops_head, stops_fit, stops_samples, stops_memory, ready_is, ran_is}

@@ -1,11 +1,11 @@
-use Rattle.std.proofs.Common.{◌≡◌, ap, inl, inr}
+use Rattle.std.proofs.Common.{◌≡◌, ap, inr}
 use Rattle.std.specs.Prelude.{List, ℕ, option_map, None}
 use Rattle.std.proofs.lemmas.Result.{err_from_is_err_and}
 use Rattle.fv_top_words.specs.Commands.{Playing}
 use Rattle.fv_top_words.specs.Views.{run_in as run_view}
 use Rattle.fv_top.specs.Promise.{Asks, OfWords}
 use Rattle.fv_top.specs.Played.{HasBlocksSoFar}
-use Rattle.fv_top.specs.Prepared.{ready_of}
+use Rattle.fv_top.specs.inner.Prepared.{ready_of}
 use Rattle.fv_base.specs.declared.role.Role.TheVariants.{Output}
 use Rattle.fv_outside.specs.Desk.{DeskState}
 use Rattle.fv_top_report.specs.declared.refusal.Refusal.{Refusal}

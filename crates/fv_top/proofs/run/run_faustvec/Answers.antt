@@ -1,6 +1,6 @@
 use Rattle.std.proofs.Common.{map}
 use Rattle.std.specs.Prelude.{string_bytes}
-use Rattle.fv_top.specs.Running.{EndsRefused}
+use Rattle.fv_top.specs.inner.Running.{EndsRefused}
 use Rattle.fv_base.specs.declared.role.Role.TheVariants.{Output}
 use Rattle.fv_top.proofs.Ran.{so_far_later}
 use Rattle.fv_top.proofs.Stopping.{ends_refused}

@@ -15,13 +15,13 @@ use Rattle.fv_engine_render.specs.Render.{initial_of}
 use Rattle.fv_top_text.specs.Compiled.{Compiled}
 use Rattle.fv_top.specs.Sources.{frames_of}
 use Rattle.fv_top.specs.Output.{OutputFormat}
-use Rattle.fv_top.specs.Formats.{format_in}
+use Rattle.fv_top.specs.inner.Formats.{format_in}
 use Rattle.fv_outside.specs.Journal.{Told}
 use Rattle.fv_outside.specs.Desk.{DeskState}
 use Rattle.fv_top_words.specs.Runs.{Run}
 use Rattle.fv_top_words.specs.Commands.{Playing}
 use Rattle.fv_top.specs.Played.{AllRan}
-use Rattle.fv_top.specs.Running.{Ready}
+use Rattle.fv_top.specs.inner.Running.{Ready}
 
 -- what it is
 abbrev pub ready_of : Prepared → Ready
