@@ -2,8 +2,6 @@
 #![tactic(auto)]
 
 #[cfg(test)]
-mod block;
-#[cfg(test)]
 mod held;
 #[cfg(test)]
 mod rows;

@@ -1,10 +1,10 @@
 // Worked examples.
 
-use crate::block::ran;
 use crate::held::Held;
 use fv_graph::Tasks;
 use fv_outside::{FreeGate, Reads};
 use std::test::Fail;
+use test_blocks::ran;
 
 // Two loops, one vector, and loop 1 reads loop 0. Sixteen workers leave both done, and task 0 finished before task 1 started.
 #[test]

@@ -2,8 +2,8 @@ use Rattle.std.proofs.Common.{◌≡◌, ◌<◌, map, length, refl, sym, ap, �
 use Rattle.fv_ready.specs.Boards.{about_of}
 use Rattle.fv_ready.specs.Counted.{HaveAll}
 use Rattle.fv_steal.specs.Crews.{seat_of}
-use Rattle.fv_steal_tests.proofs.Noting.{written}
-use Rattle.fv_steal_tests.proofs.block.ran.Goals as goal
+use Rattle.test_blocks.proofs.Noting.{written}
+use Rattle.test_blocks.proofs.block.ran.Goals as goal
 
 pub work-requires-clause-body : goal.work-requires-clause-body
 work-requires-clause-body g c κs within =

@@ -1,5 +1,5 @@
 use Rattle.std.proofs.Common.{◌≡◌, ◌≤◌, length, map, take, All, vec_len, vec_capacity}
-use Rattle.fv_steal_tests.proofs.block.NotesBodyNote.run.Given as goal
+use Rattle.test_blocks.proofs.notes.NotesBodyNote.run.Given as goal
 
 abbrev pub invariant-loop-edge : goal.invariant-loop-edge
 invariant-loop-edge l = record {

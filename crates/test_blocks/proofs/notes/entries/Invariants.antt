@@ -1,6 +1,6 @@
 use Rattle.std.proofs.Common.{◌≡◌, ◌≤◌, vec_len, vec_capacity}
-use Rattle.fv_steal_tests.proofs.Noting.{AreAt}
-use Rattle.fv_steal_tests.proofs.block.entries.Given as goal
+use Rattle.test_blocks.proofs.Noting.{AreAt}
+use Rattle.test_blocks.proofs.notes.entries.Given as goal
 
 abbrev pub invariant-loop-edge : goal.invariant-loop-edge
 invariant-loop-edge l = record {
