@@ -1,5 +1,10 @@
 pub mod Put
+pub mod Numbers
 pub mod Images
 pub mod Along
 pub mod Made
+pub mod Rest
 pub mod Whole
+pub mod Closes
+pub mod RoomLemmas
+pub mod WidthLemmas

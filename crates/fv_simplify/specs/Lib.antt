@@ -1,8 +1,11 @@
 pub mod Passing
 pub mod Runs
+pub mod inner
+pub mod Simplified
 pub mod Examples
 -- what its public clauses cite of crates below
 pub use Rattle.fv_share.specs.Drafts
 pub use Rattle.fv_signal.specs.Value
 pub use Rattle.fv_simplify_rules.specs.Choices
 pub use Rattle.fv_simplify_rules.specs.Rebuilt
+pub use Rattle.fv_simplify_rules.specs.Reducible

@@ -55,6 +55,10 @@ folded d op args None = chosen d op args (choice op (known (so_far d) (take (inp
 abbrev pub operation : Draft → Op → List ℕ → ℕ × Draft
 operation d op args = folded d op args (numbers (so_far d) (take (inputs_of op) args))
 
+-- the room at signal x, where a table has it: none behind its end
+abbrev pub room_in : List (Option ℕ) → ℕ → Option ℕ
+room_in rooms x = slice_index_or rooms x None
+
 -- the image of a signal, over the images of the earlier ones
 abbrev pub image_of : Graph → (images : List ℕ) → (room : ℕ → Option ℕ) → Draft → Signal → ℕ × Draft
 image_of g images room d (Input k) = put d (Input k)

@@ -1,9 +1,10 @@
 -- A whole pass over a graph (this project's profile).
-use Rattle.std.specs.Prelude.{◌≡◌, ℕ, zero, suc, List, [], ◌∷◌, ◌++◌, ◌<◌, length, take, map, All, slice_index_or, Bool, false, if◌then◌else◌, Option, pos}
+use Rattle.std.specs.Prelude.{◌≡◌, ℕ, List, [], ◌∷◌, ◌++◌, ◌<◌, length, take, map, All, slice_index_or, Bool, false, if◌then◌else◌, Option, pos}
+use Rattle.fv_base.specs.Lists.{table}
 use Rattle.fv_signal.specs.declared.signal.Signal.{Signal}
 use Rattle.fv_signal.specs.declared.signal.Signal.TheVariants.{Const, Back}
 use Rattle.fv_signal.specs.Value.{Graph, members, IsGraph, AreClosedSet}
-use Rattle.fv_share.specs.Drafts.{Draft, put, with_groups, with_members, graph_of}
+use Rattle.fv_share.specs.Drafts.{Draft, put, with_groups, with_all_members, graph_of}
 use Rattle.fv_simplify_rules.specs.Rebuilt.{IsMarked, IsRebuilt}
 use Rattle.fv_simplify.specs.Passing.{image_of, HasWidth}
 
@@ -22,11 +23,9 @@ abbrev pub steps : Graph → List Bool → (ℕ → Option ℕ) → Pass → Lis
 steps g marks room s [] = s
 steps g marks room s (n ∷ ns) = steps g marks room (step g marks room s n) ns
 
--- the groups before n get the images of their members, as many as are named
-abbrev pub closed : Graph → (widths images : List ℕ) → ℕ → Draft → Draft
-closed g widths images zero d = d
-closed g widths images (suc n) d =
-    with_members (closed g widths images n d) n (map (λ r. slice_index_or images r 0) (take (slice_index_or widths n 0) (members g n)))
+-- the images of the members of each group, as many as are named
+abbrev pub definitions : Graph → (widths images : List ℕ) → List (List ℕ)
+definitions g widths images = table (length g.groups) (λ n. map (λ r. slice_index_or images r 0) (take (slice_index_or widths n 0) (members g n)))
 
 -- no signals
 abbrev pub nothing : Draft
@@ -43,15 +42,20 @@ passed g marks room = steps g marks room (begun g) g.signals
 abbrev pub rebuilt : Graph → List Bool → (widths : List ℕ) → (ℕ → Option ℕ) → Graph
 rebuilt g marks widths room =
     let s = passed g marks room in
-    graph_of (closed g widths s.images (length g.groups) s.draft) (map (λ r. slice_index_or s.images r 0) g.outputs)
+    graph_of (with_all_members s.draft 0 (definitions g widths s.images)) (map (λ r. slice_index_or s.images r 0) g.outputs)
+
+-- the widths say how many members of each group marked Backs among the first n signals name, and these members are there
+abbrev pub AreNamed : Graph → (marks : List Bool) → (widths : List ℕ) → (n : ℕ) → Type 0
+AreNamed g marks widths n =
+    (s group k : ℕ) → s < n → IsMarked marks s → slice_index_or g.signals s (Const (pos 0)) ≡ Back group k →
+    (group < length g.groups) × (k < slice_index_or widths group 0) × (k < length (members g group))
 
 -- The marks are closed: what marked signals read is marked, and so are the outputs; the widths say how many members of each
 -- group marked Backs name, all of which are there; and operations have their arguments.
 pub record AreGood (g : Graph) (marks : List Bool) (widths : List ℕ) : Type 0 where
   pub reads : AreClosedSet g (IsMarked marks)
   pub outputs : All (IsMarked marks) g.outputs
-  pub named : (s group k : ℕ) → s < length g.signals → IsMarked marks s → slice_index_or g.signals s (Const (pos 0)) ≡ Back group k →
-      (group < length g.groups) × (k < slice_index_or widths group 0) × (k < length (members g group))
+  pub named : AreNamed g marks widths (length g.signals)
   pub wide : (s : ℕ) → s < length g.signals → HasWidth (slice_index_or g.signals s (Const (pos 0)))
 
 -- a pass over a graph rebuilds it

@@ -1,7 +1,7 @@
 // Delays over signals that were put.
 
 ghost use Rattle.std.specs.Prelude.{◌≡◌, ◌<◌, ◌≤◌, ◌^◌, length, pos, if◌then◌else◌, IfOk};
-ghost use Rattle.fv_share.specs.Drafts.{put as put_of};
+ghost use Rattle.fv_share.specs.Drafts.{CanPut, put as put_of};
 ghost use Rattle.fv_signal.specs.declared.signal.Signal.TheVariants.{Const as const_node, Delay as delay_node};
 ghost use Rattle.fv_simplify_rules.specs.Nodes.{number_at};
 ghost use Rattle.fv_simplify_rules.specs.Reducible.{limit};
@@ -13,8 +13,8 @@ use fv_share::Builder;
 use fv_signal::{Signal, SignalId};
 use std::alloc::AllocError;
 
-// The number that a signal is, where it is written there.
-fn number(builder: &Builder, id: SignalId) -> Option<i32>
+/// The number that a signal is, where it is written there.
+pub(crate) fn number(builder: &Builder, id: SignalId) -> Option<i32>
     requires { id < length builder.now.signals }
     ensures { result ≡ number_at (so_far builder.now) id }
 {
@@ -39,12 +39,22 @@ fn is_zero(builder: &Builder, id: SignalId) -> bool
 fn late(builder: &mut Builder, x: SignalId, by: u32) -> Result<SignalId, AllocError>
     requires there { x < length builder.old.signals }
     requires small { by < 2 ^ 31 }
-    ensures { IfOk result (λ id. (id, builder.new) ≡ late_of builder.old x by) }
+    ensures value { IfOk result (λ id. (id, builder.new) ≡ late_of builder.old x by) }
+    ensures there { IfOk result (λ id. id < length builder.new.signals) }
 {
     if is_zero(builder, x) {
         return Ok(x);
     }
     put_delay(builder, x, by)
+}
+
+/// Puts a signal.
+pub(crate) fn put_signal(builder: &mut Builder, signal: Signal) -> Result<SignalId, AllocError>
+    requires { CanPut builder.old signal }
+    ensures value { IfOk result (λ id. (id, builder.new) ≡ put_of builder.old signal) }
+    ensures there { IfOk result (λ id. id < length builder.new.signals) }
+{
+    builder.node(signal)
 }
 
 // A small number with a sign.
@@ -55,22 +65,24 @@ fn signed(n: u32) -> i32
     n as i32
 }
 
-// Puts a number.
-fn put_number(builder: &mut Builder, n: i32) -> Result<SignalId, AllocError>
-    ensures { IfOk result (λ id. (id, builder.new) ≡ put_of builder.old (const_node n)) }
+/// Puts a number.
+pub(crate) fn put_number(builder: &mut Builder, n: i32) -> Result<SignalId, AllocError>
+    ensures value { IfOk result (λ id. (id, builder.new) ≡ put_of builder.old (const_node n)) }
+    ensures there { IfOk result (λ id. id < length builder.new.signals) }
 {
-    builder.node(Signal::Const(n))
+    put_signal(builder, Signal::Const(n))
 }
 
 // Puts x so many samples later.
 fn put_delay(builder: &mut Builder, x: SignalId, by: u32) -> Result<SignalId, AllocError>
     requires there { x < length builder.old.signals }
     requires small { by < 2 ^ 31 }
-    ensures { IfOk result (λ id. (id, builder.new) ≡ put_late builder.old x by) }
+    ensures value { IfOk result (λ id. (id, builder.new) ≡ put_late builder.old x by) }
+    ensures there { IfOk result (λ id. id < length builder.new.signals) }
 {
     let n = signed(by);
     let d = put_number(builder, n)?;
-    let id = builder.node(Signal::Delay { x, d, max: by })?;
+    let id = put_signal(builder, Signal::Delay { x, d, max: by })?;
     Ok(id)
 }
 
@@ -136,7 +148,8 @@ fn by_number(
 ) -> Result<SignalId, AllocError>
     requires there { x < length builder.old.signals }
     requires small { by ≤ 1073741824 }
-    ensures { IfOk result (λ id. (id, builder.new) ≡ by_number_of builder.old room x by) }
+    ensures value { IfOk result (λ id. (id, builder.new) ≡ by_number_of builder.old room x by) }
+    ensures there { IfOk result (λ id. id < length builder.new.signals) }
 {
     if by == 0 {
         return Ok(x);
@@ -156,7 +169,8 @@ pub fn delayed(
     requires x { x < length builder.old.signals }
     requires d { d < length builder.old.signals }
     requires short { most ≤ limit }
-    ensures { IfOk result (λ id. (id, builder.new) ≡ delayed_of builder.old room x d most) }
+    ensures value { IfOk result (λ id. (id, builder.new) ≡ delayed_of builder.old room x d most) }
+    ensures there { IfOk result (λ id. id < length builder.new.signals) }
 {
     match number(builder, d) {
         Some(c) => by_number(builder, x, back_by(most, c), room),
@@ -173,11 +187,12 @@ fn varying(
 ) -> Result<SignalId, AllocError>
     requires x { x < length builder.old.signals }
     requires d { d < length builder.old.signals }
-    ensures { IfOk result (λ id. (id, builder.new)
+    ensures value { IfOk result (λ id. (id, builder.new)
         ≡ (if is_zero_of (number_at (so_far builder.old) x) then (x, builder.old) else put_of builder.old (delay_node x d most))) }
+    ensures there { IfOk result (λ id. id < length builder.new.signals) }
 {
     if is_zero(builder, x) {
         return Ok(x);
     }
-    builder.node(Signal::Delay { x, d, max: most })
+    put_signal(builder, Signal::Delay { x, d, max: most })
 }

@@ -2,9 +2,19 @@
 #![tactic(auto)]
 
 mod choosing;
+mod image;
 mod late;
 mod laws;
+mod marks;
+mod operation;
+mod pass;
+mod rooms;
+mod short;
+mod simpler;
+mod widths;
 
 pub use choosing::choice;
 pub use late::delayed;
 pub use laws::{a_pass_rebuilds, images_are_put};
+pub use short::are_short;
+pub use simpler::simplify;

@@ -261,7 +261,7 @@ module _ (g f : Graph) (p : ℕ → ℕ) (room : ℕ → Option ℕ) (P : ℕ �
               too_far q r.0 r.1 r.2 r.3 r.4 r.5 far
 
           with_room : (r : Option ℕ) → room root.x ≡ r → ⊥
-          with_room None e = let r = is_room.none root.x e in varied r.0 r.1 r.2 r.3 r.4 r.5
+          with_room None e = let r = is_room.none root.x root.there e in varied r.0 r.1 r.2 r.3 r.4 r.5
           with_room (Some q) e = fits q e (nat_le (first.most + q) limit) refl
 
     pub untaken : (s y : ℕ) (b : ℤ) → IsDelayedBy f s y b → IsTakenOver f y → ⊥

@@ -121,7 +121,7 @@ pub record IsFolded (g : Graph) (P : ℕ → Type 0) : Type 0 where
 pub record IsRoom (g : Graph) (P : ℕ → Type 0) (room : ℕ → Option ℕ) : Type 0 where
   pub safe : RoomIsSafe g P room
   pub full : (x q : ℕ) → room x ≡ Some q → 0 < q → (s : ℕ) × (d : ℕ) × (most : ℕ) × StandsAt g s (Delay x d most) × P s × (node g d ≡ Const (pos q))
-  pub none : (x : ℕ) → room x ≡ None → (s : ℕ) × (d : ℕ) × (most : ℕ) × StandsAt g s (Delay x d most) × P s × (number_at g d ≡ None)
+  pub none : (x : ℕ) → x < length g.signals → room x ≡ None → (s : ℕ) × (d : ℕ) × (most : ℕ) × StandsAt g s (Delay x d most) × P s × (number_at g d ≡ None)
 
 -- in a graph that is rebuilt from a folded one, with all the room, no delay of a delay is reducible
 abbrev pub NoDelayIsTakenOver : Graph → Graph → Type 0

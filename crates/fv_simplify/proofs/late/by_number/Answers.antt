@@ -11,8 +11,8 @@ same : (d : Draft) (x by : ℕ) (b c : ℕ × ℕ) → b ≡ c → (by ≡ 0 →
 same d x by b c e ne = ap (λ (a : ℕ × ℕ). late d a.0 (a.1 + by)) e
     ∙ sym (ap (λ t. let q : ℕ × Draft = if t then (x, d) else late d c.0 (c.1 + by) in q) (differ by 0 ne))
 
-pub returns : goal.returns
-returns c =
+pub returns-clause-value : goal.returns-clause-value
+returns-clause-value c =
     subst (λ (q : ℕ × Draft). IfOk c.late.result (λ id. (let r : ℕ × Draft = (id, c.late.new.builder) in r) ≡ q))
     (same c.args.builder.now c.args.x c.args.by c.base-from.result (base (so_far c.args.builder.now) c.args.room c.args.x) c.base-from.ensures.value
-    c.if-by-eq0.false) c.late.ensures
+    c.if-by-eq0.false) c.late.ensures.value

@@ -1,0 +1,50 @@
+// A simpler graph.
+
+ghost use Rattle.std.specs.Prelude.{List, ℕ, IfOk};
+ghost use Rattle.fv_num.specs.Frames.{Frame, Stream};
+ghost use Rattle.fv_simplify_rules.specs.Reducible.{AreShort, StayWithin, IsSimpler};
+ghost use Rattle.fv_simplify.specs.Simplified.{AreSmallIn};
+ghost use Rattle.fv_simplify.specs.inner.Once.{Folds, Joins};
+
+use crate::marks::marks;
+use crate::pass::rebuild;
+use crate::rooms::rooms;
+use crate::widths::widths;
+use fv_num::Span;
+use fv_signal::Graph;
+use std::alloc::{AllocError, Global};
+
+/// A graph with as many outputs and their values at every sample, in which nothing is reducible: what numbers decide is folded,
+/// and delays of delays are joined where no signal is read further back. `controls` has the span of each control.
+pub fn simplify(alloc: Global, graph: &Graph, controls: &[Span]) -> Result<Graph, AllocError>
+    requires short { AreShort graph.now }
+    ensures simpler { IfOk result (IsSimpler graph.now) }
+    // Where the controls are in their spans, and no delay went further than its greatest number, none does.
+    ensures within { IfOk result (λ h. (X : List Frame) (c : ℕ → Stream) → AreSmallIn controls.now X c → StayWithin graph.now X c → StayWithin h X c) }
+{
+    let _spans = controls;
+    let first = folded(alloc, graph)?;
+    joined(alloc, &first)
+}
+
+// The graph in which what numbers decide is folded.
+fn folded(alloc: Global, graph: &Graph) -> Result<Graph, AllocError>
+    requires { AreShort graph.now }
+    ensures folds { IfOk result (Folds graph.now) }
+    ensures short { IfOk result AreShort }
+{
+    let marks = marks(alloc, graph)?;
+    let widths = widths(alloc, graph, &marks)?;
+    rebuild(alloc, graph, &marks, &widths, &[])
+}
+
+// The graph in which, moreover, delays are joined.
+fn joined(alloc: Global, graph: &Graph) -> Result<Graph, AllocError>
+    requires { AreShort graph.now }
+    ensures { IfOk result (Joins graph.now) }
+{
+    let marks = marks(alloc, graph)?;
+    let widths = widths(alloc, graph, &marks)?;
+    let rooms = rooms(alloc, graph, &marks)?;
+    rebuild(alloc, graph, &marks, &widths, &rooms)
+}
