@@ -1,0 +1,74 @@
+// A block by a crew.
+
+ghost use Rattle.std.specs.Prelude.{◌≡◌, ◌-◌, ◌<◌, ◌≤◌, [], length, IfOk, IfErr, OnOk, OnErr, vec_capacity};
+ghost use Rattle.fv_outside.specs.Tasks.{task_count};
+ghost use Rattle.fv_outside.specs.Journal.{IsOrdered};
+ghost use Rattle.fv_graph.specs.Graph.{edges_of};
+ghost use Rattle.fv_steal_block.specs.Parcels.{AreParcelsFrom};
+
+use crate::lines::{copy_lines, sort_lines};
+use crate::seats::seats_of;
+use fv_graph::Tasks;
+use fv_outside::{Gate, Line};
+use fv_ready::{Board, Parcel};
+use fv_steal::{Body, Worker, journal_law, work};
+use std::alloc::Global;
+use std::marker::{Send, Sync};
+use std::sync::Wait;
+use std::thread::Threads;
+
+/// Runs the tasks of a block by so many workers side by side, in whatever order their steals make of it. `entries` has the parcel of
+/// each loop's entry edge, loop by loop; the answer has those of the exit edges, and `lines` becomes the block's journal. Where
+/// memory is refused no task is run, and the entries come back.
+pub fn run_crew<
+    R: Threads + Wait + Sync,
+    C: Parcel + Send + Drop,
+    B: Body<C> + Sync,
+    G: Gate + Sync,
+>(
+    rt: &R,
+    alloc: Global,
+    tasks: &Tasks,
+    workers: u32,
+    entries: Vec<C>,
+    body: &B,
+    lines: &mut Vec<Line>,
+    gate: &G,
+) -> Result<Vec<C>, Vec<C>>
+    requires workers { (0 < workers) × (workers ≤ 16) }
+    requires body { B.tasks body.now ≡ tasks.now.tasks }
+    requires entries { AreParcelsFrom C.edge_of C.key_of (B.key body.now) 0 tasks.now.tasks.loops entries.items }
+    requires none { lines.old.items ≡ [] }
+    requires room { task_count tasks.now.tasks ≤ vec_capacity lines.old }
+    ensures exits { IfOk result (λ v. AreParcelsFrom C.edge_of C.key_of (B.key body.now)
+        (edges_of tasks.now.tasks - tasks.now.tasks.loops) tasks.now.tasks.loops v.items) }
+    ensures journal { OnOk result (IsOrdered tasks.now.tasks lines.new.items) }
+    ensures count { OnOk result (length lines.new.items ≡ task_count tasks.now.tasks) }
+    ensures entries { IfErr result (λ v. AreParcelsFrom C.edge_of C.key_of (B.key body.now) 0 tasks.now.tasks.loops v.items) }
+    ensures untold { OnErr result (lines.new.items ≡ []) }
+    ensures room { vec_capacity lines.old ≤ vec_capacity lines.new }
+{
+    journal_law::<C>();
+    let Ok(mut exits) = Vec::with_capacity(alloc, tasks.loops() as usize) else {
+        return Err(entries);
+    };
+    let Ok(seats_room) = Vec::with_capacity(alloc, workers as usize) else {
+        return Err(entries);
+    };
+    let (board, seats) = match Board::begin(alloc, tasks, workers, entries) {
+        Ok(made) => made,
+        Err((entries, _error)) => return Err(entries),
+    };
+    let mut crew = match Worker::crew(alloc, tasks, seats) {
+        Ok(crew) => crew,
+        Err((seats, _error)) => {
+            board.close(seats, &mut exits);
+            return Err(exits);
+        }
+    };
+    work(rt, tasks, &board, crew.as_mut_slice(), body, gate);
+    copy_lines(crew.as_slice(), lines);
+    sort_lines(lines);
+    board.close(seats_of(crew, seats_room), &mut exits);
+    Ok(exits)
+}
