@@ -6,7 +6,6 @@ use Rattle.fv_outside.specs.Desk.{DeskState, File, file_named}
 use Rattle.fv_diagram.specs.declared.control.ControlInfo.{ControlInfo}
 use Rattle.fv_top_words.specs.Runs.{Run}
 use Rattle.fv_top_words.specs.Commands.{Job, Playing, Checking, Making}
-use Rattle.fv_top_make.specs.Made.{text_of}
 use Rattle.fv_top_report.specs.declared.refusal.Refusal.{Refusal}
 use Rattle.fv_top_report.specs.declared.refusal.Refusal.TheVariants.{NoMemory}
 use Rattle.fv_top_report.specs.declared.status.Tally.{Tally}
@@ -14,11 +13,11 @@ use Rattle.fv_top_report.specs.declared.status.Status.TheVariants.{Done, Refused
 use Rattle.fv_top_text.specs.Program.{TextIs, IsRefusedText, IsOneText}
 use Rattle.fv_top_text.specs.Compiled.{Compiled}
 use Rattle.fv_top.specs.Sources.{Source, found, script_of, source_of}
-use Rattle.fv_top.specs.Output.{mono, format_of, cut_in}
+use Rattle.fv_top.specs.Output.{format_of, cut_in}
 use Rattle.fv_top.specs.Loading.{HasScript, HasInput}
 use Rattle.fv_top.specs.Steps.{Ends, Rules, IsJudge}
 use Rattle.fv_top.specs.Promise.{Asks, HasProgram, HasNoProgram, Plays, IsWhole, Step, ReadProgram, ReadScript, ReadHead, Fit, ReadSamples, Write, Tell}
-use Rattle.fv_top.specs.Promise.{StepPasses, StepRefuses, CheckPasses, CheckRefuses, HasMade, MakePasses, MakeRefuses, rules_of, steps_of, IsKnown, CanDo}
+use Rattle.fv_top.specs.Promise.{StepPasses, StepRefuses, CheckPasses, CheckRefuses, rules_of, steps_of, IsKnown, CanDo}
 use Rattle.fv_top.specs.Promise.{HasCause, bad_words, of_job, HasDone, IsComplete, IsStrict, IsExact, IsRefusedOrNoMemory}
 use Rattle.fv_top.proofs.StepLaws.{exactly, completes, passes_apart}
 
@@ -115,37 +114,10 @@ check_apart name files once ReadSamples a p h = h
 check_apart name files once Write a p h = h
 check_apart name files once Tell a p h = h
 
--- and those of a make
-make_once : (voices : ℕ) → IsOneText → (s : Step) (a b : Refusal) → MakeRefuses voices s a → MakeRefuses voices s b → a ≡ b
-make_once voices once ReadProgram a b h k = let e = once (text_of voices) (Err a) (Err b) h k in cc
-make_once voices once Fit a b h k =
-    let e = once (text_of voices) (Ok h.0) (Ok k.0) h.1 k.1 in
-    let same : h.0 ≡ k.0 = cc in
-    let f = sym h.2 ∙ ap mono same ∙ k.2 in
-    cc
-make_once voices once ReadScript a b h k = absurd h
-make_once voices once ReadHead a b h k = absurd h
-make_once voices once ReadSamples a b h k = absurd h
-make_once voices once Write a b h k = absurd h
-make_once voices once Tell a b h k = absurd h
-
-make_apart : (voices : ℕ) → IsOneText → (s : Step) (a : Refusal) → MakePasses voices s → MakeRefuses voices s a → ⊥
-make_apart voices once ReadProgram a p h = let e = once (text_of voices) (Ok p.0) (Err a) p.1 h in absurd cc
-make_apart voices once Fit a p h =
-    let e = once (text_of voices) (Ok p.compiled) (Ok h.0) p.program h.1 in
-    let same : p.compiled ≡ h.0 = cc in
-    let f = sym p.mono ∙ ap mono same ∙ h.2 in
-    absurd cc
-make_apart voices once ReadScript a p h = h
-make_apart voices once ReadHead a p h = h
-make_apart voices once ReadSamples a p h = h
-make_apart voices once Write a p h = h
-make_apart voices once Tell a p h = h
-
 judges : (job : Job) (old : DeskState) → IsOneText → IsJudge (rules_of job old)
 judges (Playing run) old once = record { once = once_in run old.files once; apart = apart_in run old.files once }
 judges (Checking name) old once = record { once = check_once name old.files once; apart = check_apart name old.files once }
-judges (Making voices frames) old once = record { once = make_once voices once; apart = make_apart voices once }
+judges (Making voices frames) old once = record { once = λ s a b h k. absurd h; apart = λ s a p h. h }
 
 -- words ask for one thing
 one_command : (words : List (List ℕ)) (a b : Job) → Asks words a → Asks words b → a ≡ b
@@ -180,20 +152,11 @@ check_passes name files p ReadSamples = tt
 check_passes name files p Write = tt
 check_passes name files p Tell = tt
 
-make_passes : (voices : ℕ) → HasMade voices → (s : Step) → MakePasses voices s
-make_passes voices p ReadProgram = (p.compiled, p.program)
-make_passes voices p ReadScript = tt
-make_passes voices p ReadHead = tt
-make_passes voices p Fit = p
-make_passes voices p ReadSamples = tt
-make_passes voices p Write = tt
-make_passes voices p Tell = tt
-
 -- each step of what can be done passes
 passes_of : (job : Job) (old : DeskState) → CanDo job old.files → (s : Step) → Rules.Passes (rules_of job old) s
 passes_of (Playing run) old can s = passes_in run old.files can.0 can.1 s
 passes_of (Checking name) old can s = check_passes name old.files can s
-passes_of (Making voices frames) old can s = make_passes voices can s
+passes_of (Making voices frames) old can s = tt
 
 pub done_strict : {words : List (List ℕ)} {frames : ℕ} {old new : DeskState} (tally : Tally) → IsOneText → HasDone words frames old new
     → IsStrict words old new (Done tally)

@@ -14,18 +14,22 @@ use Rattle.fv_control.specs.Streams.{control_streams}
 use Rattle.fv_diagram.specs.Samples.{answer_on}
 use Rattle.fv_top_make.specs.Made.{text_of, next_state, noise_behind}
 use Rattle.fv_top_text.specs.Program.{IsRefusedText, IsOfText}
+use Rattle.fv_top_words.specs.Commands.{most_voices}
+use Rattle.fv_top_voices.specs.Voices.{VoicesAreNotRefused}
 use Rattle.fv_top_report.specs.Lines.{made_line}
 use Rattle.fv_top.specs.Meant.{make_meant}
 use Rattle.fv_top_report.specs.Parts.{AppendsPart}
-use Rattle.fv_top.specs.Steps.{Ends, fault, judged, want_of_memory, writes, here, later}
-use Rattle.fv_top.specs.Promise.{HasRefusal, ReadProgram, Fit, make_rules, make_steps}
-use Rattle.fv_top.specs.inner.Running.{Makes, StopsMake, HasSum, IsNotMade}
+use Rattle.fv_top.specs.Steps.{Ends, fault, want_of_memory, writes, here, later}
+use Rattle.fv_top.specs.Promise.{make_rules, make_steps}
+use Rattle.fv_top.specs.inner.Running.{Makes, StopsMake, HasSum}
 
 -- ---- the program and its noise
 
-pub not_program : (voices : ℕ) (text : List ℕ) (e : Refusal) → text ≡ text_of voices → (e ≡ NoMemory) ⊎ (IsOfText e × IsRefusedText text e) → IsNotMade voices e
-not_program voices text e same (inl m) = inl m
-not_program voices text e same (inr h) = inr (inl (h.0, subst (λ (t : List ℕ). IsRefusedText t e) same h.1))
+-- only want of memory stops the reading of its text
+pub only_memory : VoicesAreNotRefused → (voices : ℕ) (text : List ℕ) (e : Refusal) → 1 ≤ voices → voices ≤ most_voices → text ≡ text_of voices
+    → (e ≡ NoMemory) ⊎ (IsOfText e × IsRefusedText text e) → e ≡ NoMemory
+only_memory accepted voices text e some few same (inl m) = m
+only_memory accepted voices text e some few same (inr h) = absurd (accepted voices e some few (subst (λ (t : List ℕ). IsRefusedText t e) same h.1))
 
 -- as many samples as frames
 pub noise_long : (s : ℤ) (frames : ℕ) → length (noise_behind s frames) ≡ frames
@@ -40,17 +44,12 @@ answer_alike d xs ys frames got samples e f =
 
 -- ---- there is no sum
 
-no_sum : (voices frames : ℕ) (a : DeskState) (e : Refusal) → IsNotMade voices e → Ends (make_rules voices frames a) a a make_steps e []
-no_sum voices frames a e (inl m) = subst (λ (r : Refusal). Ends (make_rules voices frames a) a a make_steps r []) (sym m) (here (want_of_memory tt))
-no_sum voices frames a e (inr (inl h)) = here (judged h.0 (λ t. h.1))
-no_sum voices frames a e (inr (inr h)) = later (λ t. (h.1.0, h.1.1)) (here (judged h.0 (λ t. h.1)))
-
-pub make_stops : (voices frames : ℕ) (a : DeskState) (e : Refusal) → IsNotMade voices e → StopsMake voices frames a a e
-make_stops voices frames a e h = record {
+pub make_stops : (voices frames : ℕ) (a : DeskState) (e : Refusal) → e ≡ NoMemory → StopsMake voices frames a a e
+make_stops voices frames a e m = record {
   goes_on = goes_on_self a;
   others = record { left = λ t r none. refl; written = λ t r n m. refl; begins = λ r n. refl };
   requests = sym (append-nil a.requests);
-  ends = no_sum voices frames a e h;
+  ends = subst (λ (r : Refusal). Ends (make_rules voices frames a) a a make_steps r []) (sym m) (here (want_of_memory tt));
   output = record { begins = refl; written = λ t. refl };
   begun = [];
   appended = λ t. sym (append-nil (a.written Report));
@@ -58,19 +57,17 @@ make_stops voices frames a e h = record {
   faults = λ r other. refl;
 }
 
--- want of memory and what a text is refused for are no fault of the report
-pub not_the_report : (voices : ℕ) (e : Refusal) → IsNotMade voices e → e ≡ WriteFault Report → ⊥
-not_the_report voices e (inl m) is = let same : NoMemory ≡ WriteFault Report = sym m ∙ is in absurd cc
-not_the_report voices e (inr (inl h)) is = let no = subst (HasRefusal ReadProgram) is h.0 in absurd cc
-not_the_report voices e (inr (inr h)) is = let no = subst (HasRefusal Fit) is h.0 in absurd cc
+-- want of memory is no fault of the report
+pub not_the_report : (e : Refusal) → e ≡ NoMemory → e ≡ WriteFault Report → ⊥
+not_the_report e m is = let same : NoMemory ≡ WriteFault Report = sym m ∙ is in absurd cc
 
 -- ---- there is one, and it is reported
 
 pub same_sum : {voices frames : ℕ} {n m : ℤ} → n ≡ m → HasSum voices frames m → HasSum voices frames n
-same_sum e h = record { made = h.made; is = e ∙ h.is }
+same_sum e h = record { compiled = h.compiled; made = h.made; is = e ∙ h.is }
 
 module _ (voices frames : ℕ) (sum : ℤ) (h : HasSum voices frames sum) (a c : DeskState) where
-  abbrev is : made_line voices frames sum ≡ (make_meant h.made.compiled voices frames).line
+  abbrev is : made_line voices frames sum ≡ (make_meant h.compiled voices frames).line
   is = ap (made_line voices frames) h.is
 
   pub make_tells : AppendsPart Report (made_line voices frames sum) a c → HasFault Report a c →
@@ -82,14 +79,14 @@ module _ (voices frames : ℕ) (sum : ℤ) (h : HasSum voices frames sum) (a c :
         goes_on = r.goes_on;
         others = record { left = λ t x none. r.left t x; written = λ t x n m. r.others t x m; begins = λ x n. r.begins x };
         requests = r.requests ∙ sym (append-nil a.requests);
-        ends = later (λ t. (h.made.compiled, h.made.program)) (later (λ t. h.made) (here (fault (writes Report) refl failed (λ t sure.
+        ends = later (λ t. tt) (here (fault (writes Report) refl failed (λ t sure.
             let size = ap length is in
-            let fits = sure.1 h.made in
-            unsure t sure.0 (omega (arith, length-append (a.written Report) (make_meant h.made.compiled voices frames).line))))));
+            let fits = sure.1 h.compiled h.made in
+            unsure t sure.0 (omega (arith, length-append (a.written Report) (make_meant h.compiled voices frames).line)))));
         output = record { begins = r.begins Output; written = λ t. r.others t Output (λ e. absurd cc) };
         begun = part.0;
         appended = λ t. r.appended t;
-        is_begun = inr (refl, λ t. (h.made, subst (IsPrefixOf part.0) is part.1));
+        is_begun = inr (refl, λ t. ((h.compiled, h.made), subst (IsPrefixOf part.0) is part.1));
         faults = λ x other. r.other_faults x (λ same. other (inr (ap WriteFault (sym same))));
       }
 
@@ -100,6 +97,7 @@ module _ (voices frames : ℕ) (sum : ℤ) (h : HasSum voices frames sum) (a c :
     requests = r.requests ∙ sym (append-nil a.requests);
     faults = calm;
     begins = r.begins Output;
+    compiled = h.compiled;
     made = h.made;
     told = λ t.
         elim [

@@ -102,8 +102,7 @@ check_judged name a place (inr (inr h)) = h
 make_judged : (voices frames : ℕ) (a : DeskState) (place : ℕ) → OfSome (Judges (make_rules voices frames a) (WaveTruncated place)) make_steps → ⊥
 make_judged voices frames a place (inl h) = let no = h.0 in absurd cc
 make_judged voices frames a place (inr (inl h)) = let no = h.0 in absurd cc
-make_judged voices frames a place (inr (inr (inl h))) = let no = h.0 in absurd cc
-make_judged voices frames a place (inr (inr (inr h))) = h
+make_judged voices frames a place (inr (inr h)) = h
 
 -- ---- before anything is written
 
@@ -409,7 +408,7 @@ made {words} {voices} {frames} asks c = record {
     faults = c.faults;
     begins = c.begins;
     rest = λ t. tt;
-    told = λ t. (c.made, refl, c.told);
+    told = λ t. ((c.compiled, c.made), refl, c.told);
   };
 }
 

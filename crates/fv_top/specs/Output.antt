@@ -9,7 +9,6 @@ use Rattle.fv_wav.specs.declared.head.Head.{Head}
 use Rattle.fv_wav.specs.Samples.{head_bytes, sample_bytes, frame_bytes, pad_bytes, data_size, data_limit, stated_frames}
 use Rattle.fv_top_report.specs.declared.refusal.Refusal.{Refusal}
 use Rattle.fv_top_report.specs.declared.refusal.Refusal.TheVariants.{Channels, OutputTooLong, FramesNeeded, WaveTruncated}
-use Rattle.fv_top_text.specs.Compiled.{Compiled}
 use Rattle.fv_top.specs.Sources.{Source, data_of, frames_of}
 
 -- the format of an output: frames a second, bits of a sample, and the number of frames
@@ -44,10 +43,6 @@ sized format size = if nat_le size data_limit then Ok format else Err (OutputToo
 abbrev pub counted : Settings → Diagram → Option Head → Option ℕ → Result OutputFormat Refusal
 counted s d head None = Err FramesNeeded
 counted s d head (Some n) = sized (record { rate = rate_in s head; bits = bits_in s head; frames = n }) (data_size (outputs d) (bits_in s head) n)
-
--- a program that takes one stream
-abbrev pub mono : Compiled → Result Compiled Refusal
-mono p = if inputs p.diagram == 1 then Ok p else Err (Channels 1 (inputs p.diagram))
 
 -- The format of what a diagram makes on an input, or why it does not fit: first the channels, then the frames, then the bytes.
 abbrev pub format_of : Settings → Diagram → Option Head → Result OutputFormat Refusal

@@ -21,7 +21,7 @@ use Rattle.fv_top_text.specs.Program.{IsProgram, IsRefusedText, is_of_program}
 use Rattle.fv_engine_render.specs.Render.{initial_of}
 use Rattle.fv_top_text.specs.Compiled.{Compiled}
 use Rattle.fv_top.specs.Sources.{Source}
-use Rattle.fv_top.specs.Output.{OutputFormat, mono, format_of, present_in, cut_in}
+use Rattle.fv_top.specs.Output.{OutputFormat, format_of, present_in, cut_in}
 use Rattle.fv_top.specs.Loading.{HasScript, HasInput, LeavesRest, IsThere, reading}
 use Rattle.fv_top.specs.Meant.{Meant, run_meant, check_meant, make_meant, written_by}
 use Rattle.fv_top_report.specs.Lines.{row_of, refused_line}
@@ -232,20 +232,13 @@ check_rules name old = record {
 
 -- ---- the steps of a make
 
--- this is the program of so many voices, which takes one stream
-pub record IsMade (voices : ℕ) (p : Compiled) : Type 0 where
-  pub program : IsProgram (text_of voices) p
-  pub mono : mono p ≡ Ok p
-
--- there is one
-pub record HasMade (voices : ℕ) : Type 0 where
-  pub compiled : Compiled
-  pub program : IsProgram (text_of voices) compiled
-  pub mono : mono compiled ≡ Ok compiled
+-- this is the program of so many voices
+abbrev pub IsMade : (voices : ℕ) → Compiled → Type 0
+IsMade voices p = IsProgram (text_of voices) p
 
 -- the steps, in their order
 abbrev pub make_steps : List Step
-make_steps = ReadProgram ∷ Fit ∷ Tell ∷ []
+make_steps = ReadProgram ∷ Tell ∷ []
 
 -- the roles that a step of a make reads or writes
 abbrev pub MakeTakes : Step → Turn → Type 0
@@ -255,22 +248,11 @@ MakeTakes s t = ⊥
 -- what a turn of it needs
 abbrev pub MakeAnswered : (voices frames : ℕ) → DeskState → Step → Type 0
 MakeAnswered voices frames old Tell =
-    IsUnfailing Report old × ((p : HasMade voices) → length (written_by (make_meant p.compiled voices frames) old Report) ≤ old.room Report)
+    IsUnfailing Report old
+    × ((p : Compiled) → IsMade voices p → length (written_by (make_meant p voices frames) old Report) ≤ old.room Report)
 MakeAnswered voices frames old s = Unit {0}
 
--- what it judges passes
-abbrev pub MakePasses : (voices : ℕ) → Step → Type 0
-MakePasses voices ReadProgram = (p : Compiled) × IsProgram (text_of voices) p
-MakePasses voices Fit = HasMade voices
-MakePasses voices s = Unit {0}
-
--- or is refused for this
-abbrev pub MakeRefuses : (voices : ℕ) → Step → Refusal → Type 0
-MakeRefuses voices ReadProgram refusal = IsRefusedText (text_of voices) refusal
-MakeRefuses voices Fit refusal = (p : Compiled) × IsProgram (text_of voices) p × (mono p ≡ Err refusal)
-MakeRefuses voices s refusal = ⊥
-
--- the rules of a make's steps, which ask the desk for no file and judge none
+-- The rules of a make's steps, which ask the desk for no file. They refuse nothing: the text of so many voices is a program.
 abbrev pub make_rules : (voices frames : ℕ) → DeskState → Rules Step
 make_rules voices frames old = record {
   requests = λ s. [];
@@ -278,8 +260,8 @@ make_rules voices frames old = record {
   Answers = λ s t. MakeAnswered voices frames old s;
   Has = HasRefusal;
   Wants = WantsMemory;
-  Passes = MakePasses voices;
-  Refuses = MakeRefuses voices;
+  Passes = λ s. Unit {0};
+  Refuses = λ s refusal. ⊥;
   Known = Unit {0};
 }
 
@@ -305,13 +287,13 @@ IsKnown job old = Rules.Known (rules_of job old)
 abbrev pub CanDo : Job → List File → Type 0
 CanDo (Playing run) files = (p : Plays run files) × IsWhole p
 CanDo (Checking name) files = HasProgram name files
-CanDo (Making voices frames) files = HasMade voices
+CanDo (Making voices frames) files = (p : Compiled) × IsMade voices p
 
 -- what it means that it is
 abbrev pub meant_of : (job : Job) (files : List File) → CanDo job files → Meant
 meant_of (Playing run) files can = meant can.0
 meant_of (Checking name) files can = check_meant can.compiled
-meant_of (Making voices frames) files can = make_meant can.compiled voices frames
+meant_of (Making voices frames) files can = make_meant can.0 voices frames
 
 -- ---- how a run ends
 

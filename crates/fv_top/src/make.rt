@@ -6,14 +6,13 @@ ghost use Rattle.fv_interval.specs.Delays.{AreAccepted};
 ghost use Rattle.fv_diagram.specs.Diagram.{inputs};
 ghost use Rattle.fv_engine_render.specs.Render.{RanWhole};
 ghost use Rattle.fv_top_words.specs.Commands.{most_voices};
-ghost use Rattle.fv_top_report.specs.declared.refusal.Refusal.TheVariants.{WriteFault};
+ghost use Rattle.fv_top_report.specs.declared.refusal.Refusal.TheVariants.{WriteFault, NoMemory};
 ghost use Rattle.fv_top.specs.Played.{make_sizes, MakeRan, MakeSoFar};
 ghost use Rattle.fv_top.specs.Meant.{made_sum};
 ghost use Rattle.fv_top_text.specs.Compiled.{compiled_of, CanPlay};
 ghost use Rattle.fv_top_text.specs.Program.{delays_in};
-ghost use Rattle.fv_top.specs.Promise.{HasRefusal, Fit, IsMade};
-ghost use Rattle.fv_top.specs.inner.Running.{Makes, StopsMake, HasSum, IsNotMade};
-ghost use Rattle.fv_top.specs.Output.{mono};
+ghost use Rattle.fv_top.specs.Promise.{IsMade};
+ghost use Rattle.fv_top.specs.inner.Running.{Makes, StopsMake, HasSum};
 
 use fv_engine_render::{Ran, Rendered, RunSizes, Source};
 use fv_eval::Program;
@@ -22,6 +21,7 @@ use fv_outside::{Desk, Gate, Role};
 use fv_top_make::{noise, sum_of, text_of};
 use fv_top_report::{Refusal, report_made};
 use fv_top_text::read_program;
+use fv_top_voices::voices_are_a_program;
 use std::alloc::{AllocError, Global};
 use std::sync::Wait;
 use std::thread::Threads;
@@ -48,7 +48,8 @@ pub fn run_make<R: Threads + Wait + Sync, D: Desk, G: Gate + Sync>(
     frames: u32,
     gate: &mut G,
 ) -> Result<Ran, Refusal>
-    requires { voices ≤ most_voices }
+    requires some { 1 ≤ voices }
+    requires few { voices ≤ most_voices }
     ensures done { OnOk result (Makes voices frames (D.state desk.old) (D.state desk.new)) }
     ensures ran { IfOk result (λ r. MakeRan voices frames r.blocks r.loops r.loop_runs (G.told gate.old) (G.told gate.new)) }
     ensures stops { IfErr result (StopsMake voices frames (D.state desk.old) (D.state desk.new)) }
@@ -71,10 +72,12 @@ fn made_sum<R: Threads + Wait + Sync, G: Gate + Sync>(
     frames: u32,
     gate: &mut G,
 ) -> Result<Made, Refusal>
-    requires { voices ≤ most_voices }
+    requires some { 1 ≤ voices }
+    requires few { voices ≤ most_voices }
     ensures sum { IfOk result (λ m. HasSum voices frames m.sum) }
     ensures ran { IfOk result (λ m. MakeRan voices frames m.ran.blocks m.ran.loops m.ran.loop_runs (G.told gate.old) (G.told gate.new)) }
-    ensures none { IfErr result (IsNotMade voices) }
+    // Its text is a program, so only memory is wanted.
+    ensures none { IfErr result (λ e. e ≡ NoMemory) }
     ensures err { OnErr result (gate.new ≡ gate.old) }
 {
     let (program, delays) = made_program(alloc, voices)?;
@@ -84,32 +87,18 @@ fn made_sum<R: Threads + Wait + Sync, G: Gate + Sync>(
 
 // The program of so many voices, with its delays.
 fn made_program(alloc: Global, voices: u32) -> Result<(Program, Delays), Refusal>
+    requires some { 1 ≤ voices }
+    requires few { voices ≤ most_voices }
     ensures made { IfOk result (λ p. IsMade voices (compiled_of p.0)) }
     ensures plays { IfOk result (λ p. CanPlay p.0) }
     ensures delays { IfOk result (λ p. AreAccepted (delays_in (compiled_of p.0)) p.1) }
     ensures one { IfOk result (λ p. inputs (compiled_of p.0).diagram ≡ 1) }
-    ensures none { IfErr result (IsNotMade voices) }
+    ensures none { IfErr result (λ e. e ≡ NoMemory) }
 {
+    voices_are_a_program();
     let text = text_of(alloc, voices)?;
     let (program, delays) = read_program(alloc, &text)?;
-    check_mono(&program)?;
     Ok((program, delays))
-}
-
-// Whether it takes one stream.
-fn check_mono(program: &Program) -> Result<(), Refusal>
-    ensures ok { OnOk result (mono (compiled_of program.now) ≡ Ok (compiled_of program.now)) }
-    ensures one { OnOk result (inputs (compiled_of program.now).diagram ≡ 1) }
-    ensures err { IfErr result (λ e. HasRefusal Fit e × (mono (compiled_of program.now) ≡ Err e)) }
-{
-    let inputs = program.diagrams.arity(program.root).inputs;
-    if inputs != 1 {
-        return Err(Refusal::Channels {
-            have: 1,
-            want: inputs,
-        });
-    }
-    Ok(())
 }
 
 // The sum of what it gives on the noise of so many voices.

@@ -25,7 +25,7 @@ use Rattle.fv_top_voices.specs.Voices.{voice, voices_from}
 use Rattle.fv_top_voices.proofs.Tokens.{lexed}
 use Rattle.fv_top_voices.proofs.Trees.{tree, process, all_voices, one_voice}
 
--- with so many visits left, no controls and no slots
+-- with so many visits left, no controls, no slots and no tables
 abbrev pub state : ℕ → State
 state n = record { visits = n; controls = []; slot = 0; tables = 0 }
 

@@ -124,13 +124,13 @@ command_view (commands.Make voices frames workers) = Make voices frames workers
 abbrev pub IsInRange : Commands → Type 0
 IsInRange (commands.Run run) = AreSound (settings_in run.settings)
 IsInRange (commands.Check program) = Unit {0}
-IsInRange (commands.Make voices frames workers) = voices ≤ most_voices
+IsInRange (commands.Make voices frames workers) = (1 ≤ voices) × (voices ≤ most_voices)
 
 -- and so are those of what is asked for
 abbrev pub IsJobInRange : Jobs → Type 0
 IsJobInRange (jobs.Run run) = AreSound (settings_in run.settings)
 IsJobInRange (jobs.Check program) = Unit {0}
-IsJobInRange (jobs.Make voices frames) = voices ≤ most_voices
+IsJobInRange (jobs.Make voices frames) = (1 ≤ voices) × (voices ≤ most_voices)
 
 -- the same as an answer
 abbrev pub command_answered : Result Commands Cause → Result Command Cause

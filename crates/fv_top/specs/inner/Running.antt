@@ -1,5 +1,5 @@
 -- How the parts of a run end.
-use Rattle.std.specs.Prelude.{◌≡◌, ◌≢◌, ◌⊎◌, ℕ, ◌≤◌, IsTrue, List, [], ◌∷◌, ◌++◌, length, Option, Some, None, Err, ℤ}
+use Rattle.std.specs.Prelude.{◌≡◌, ◌≢◌, ◌⊎◌, ℕ, ◌≤◌, IsTrue, List, [], ◌∷◌, ◌++◌, length, Option, Some, None, ℤ}
 use Rattle.fv_base.specs.declared.role.Role.{Role}
 use Rattle.fv_base.specs.declared.role.Role.TheVariants.{Program, Controls, Input, Output, Report}
 use Rattle.fv_base.specs.Lists.{IsPrefixOf}
@@ -9,17 +9,15 @@ use Rattle.fv_top_words.specs.Runs.{Run}
 use Rattle.fv_top_words.specs.Commands.{Playing, Checking, Making}
 use Rattle.fv_wav.specs.Samples.{pad_bytes, data_size}
 use Rattle.fv_top_report.specs.declared.refusal.Refusal.{Refusal}
-use Rattle.fv_top_report.specs.declared.refusal.Refusal.TheVariants.{WriteFault, NoMemory}
-use Rattle.fv_top.specs.Output.{OutputFormat, mono, file_of, cut_in}
+use Rattle.fv_top_report.specs.declared.refusal.Refusal.TheVariants.{WriteFault}
+use Rattle.fv_top.specs.Output.{OutputFormat, file_of, cut_in}
 use Rattle.fv_top.specs.Loading.{reading}
 use Rattle.fv_top.specs.Meant.{check_meant, make_meant, made_sum, written_by}
-use Rattle.fv_top_make.specs.Made.{text_of}
-use Rattle.fv_top_text.specs.Program.{IsProgram, IsRefusedText}
 use Rattle.fv_top_text.specs.Compiled.{Compiled}
 use Rattle.fv_top_report.specs.Lines.{refused_line}
 use Rattle.fv_top.specs.Steps.{Ends}
-use Rattle.fv_top.specs.Promise.{Plays, HasProgram, meant, Step, ReadProgram, ReadScript, ReadHead, Fit, ReadSamples, run_rules, check_rules, check_steps, HasMade}
-use Rattle.fv_top.specs.Promise.{HasRefusal, make_rules, make_steps, HasBegun, KeepsOutput, IsReadBy, IsRead, KeepsOthers, IsBegunLine, IsRefusedFor, HasDone}
+use Rattle.fv_top.specs.Promise.{Plays, HasProgram, meant, Step, ReadProgram, ReadScript, ReadHead, Fit, ReadSamples, run_rules, check_rules, check_steps}
+use Rattle.fv_top.specs.Promise.{IsMade, make_rules, make_steps, HasBegun, KeepsOutput, IsReadBy, IsRead, KeepsOthers, IsBegunLine, IsRefusedFor, HasDone}
 use Rattle.fv_top.specs.Promise.{LeavesOutput, CutsShort, Reports, IsFaultOf, HandsOn}
 
 -- The desk was asked for this, nothing was written, and only these roles were read.
@@ -123,8 +121,9 @@ pub record Makes (voices frames : ℕ) (old new : DeskState) : Type 0 where
   pub others : KeepsOthers (IsReadBy (Making voices frames)) old new
   pub faults : KeepsFaults old new
   pub begins : new.begins Output ≡ old.begins Output
-  pub made : HasMade voices
-  pub told : IsTrue old.tells → (r : Role) → new.written r ≡ written_by (make_meant made.compiled voices frames) old r
+  pub compiled : Compiled
+  pub made : IsMade voices compiled
+  pub told : IsTrue old.tells → (r : Role) → new.written r ≡ written_by (make_meant compiled voices frames) old r
 
 -- It could not be, before its refusal is reported.
 pub record StopsMake (voices frames : ℕ) (old new : DeskState) (refusal : Refusal) : Type 0 where
@@ -136,19 +135,15 @@ pub record StopsMake (voices frames : ℕ) (old new : DeskState) (refusal : Refu
   pub begun : List ℕ
   pub appended : IsTrue old.tells → new.written Report ≡ old.written Report ++ begun
   pub is_begun : (begun ≡ [])
-      ⊎ ((refusal ≡ WriteFault Report) × (IsTrue old.tells → (p : HasMade voices) × IsPrefixOf begun (make_meant p.compiled voices frames).line))
+      ⊎ ((refusal ≡ WriteFault Report)
+      × (IsTrue old.tells → (can : (p : Compiled) × IsMade voices p) × IsPrefixOf begun (make_meant can.0 voices frames).line))
   pub faults : CountsFaultOf refusal old new
-
--- why there is none: its text is refused, or it takes more or fewer streams than one, or memory ran out
-abbrev pub IsNotMade : (voices : ℕ) → Refusal → Type 0
-IsNotMade voices e =
-    (e ≡ NoMemory) ⊎ (HasRefusal ReadProgram e × IsRefusedText (text_of voices) e)
-    ⊎ (HasRefusal Fit e × ((p : Compiled) × IsProgram (text_of voices) p × (mono p ≡ Err e)))
 
 -- the sum of what the program gives on its noise
 pub record HasSum (voices frames : ℕ) (sum : ℤ) : Type 0 where
-  pub made : HasMade voices
-  pub is : sum ≡ made_sum made.compiled voices frames
+  pub compiled : Compiled
+  pub made : IsMade voices compiled
+  pub is : sum ≡ made_sum compiled voices frames
 
 -- ---- how it ends
 

@@ -11,7 +11,7 @@ returns-in_err-made-clause-stops g c =
 pub returns-in_err-made-clause-so_far : goal.returns-in_err-made-clause-so_far
 returns-in_err-made-clause-so_far g c =
     let q = err_from_is_err_and c.from_residual.result c.from_residual.ensures.1 in
-    rw (q.1, q.2) (inl (ap g.G.Gate.told c.in_err-made.ensures.err, not_the_report c.args.voices _ c.in_err-made.ensures.none))
+    rw (q.1, q.2) (inl (ap g.G.Gate.told c.in_err-made.ensures.err, not_the_report _ c.in_err-made.ensures.none))
 
 pub returns-in-Ok-clause-done : goal.returns-in-Ok-clause-done
 returns-in-Ok-clause-done g c =
