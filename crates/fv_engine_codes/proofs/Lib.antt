@@ -1,0 +1,7 @@
+pub mod Keys
+pub mod Named
+pub mod Numbering
+pub mod Once
+pub mod Placing
+pub mod Prefixes
+pub mod Sources
