@@ -1,6 +1,6 @@
 -- The lanes that a loop's code names have places.
-use Rattle.std.proofs.Common.{◌≡◌, ℕ, zero, suc, ◌<◌, List, [], ◌∷◌, ◌++◌, length, get_or, refl, arith, Bool, true, ℤ, pos, inl, inr}
-use Rattle.std.specs.Prelude.{slice_index, All, ◌||◌}
+use Rattle.std.proofs.Common.{◌≡◌, ℕ, zero, suc, ◌<◌, List, [], ◌∷◌, ◌++◌, length, arith, Bool, true, ℤ, pos, inl, inr}
+use Rattle.std.specs.Prelude.{All}
 use Rattle.fv_num.specs.Words.{argument}
 use Rattle.fv_num.specs.Frames.{Frame, Stream, column}
 use Rattle.fv_signal.specs.Value.{value}

@@ -1,16 +1,15 @@
 -- Each lane that a loop sees stands once among them, and each lane that its code names does.
-use Rattle.std.proofs.Common.{◌≡◌, ◌≢◌, ℕ, zero, suc, ◌+◌, ◌*◌, ◌<◌, ◌≤◌, Bool, true, false, List, []}
-use Rattle.std.proofs.Common.{◌∷◌, ◌++◌, length, map, get_or, refl, sym, ap, ◌∙◌, arith, ltb, ltb-true, eq-eqb, inl, inr}
-use Rattle.std.specs.Prelude.{◌==◌, ◌||◌, ◌&&◌, slice_index, nat_lt, nat_eq}
-use Rattle.std.specs.List.{flat_map}
+use Rattle.std.proofs.Common.{◌≡◌, ◌≢◌, ℕ, ◌<◌, ◌≤◌, Bool, true, List, []}
+use Rattle.std.proofs.Common.{◌∷◌, length, refl, sym, ap, ◌∙◌, arith, ltb, ltb-true, eq-eqb, inl, inr}
+use Rattle.std.specs.Prelude.{◌==◌, ◌&&◌, nat_lt, nat_eq}
 use Rattle.std.proofs.lemmas.List.{length-map, get_or-map}
 use mathlib.Core.Logic.{dite}
 use native.Mathlib.Decide.{ℕ_discrete, dec_le}
-use Rattle.fv_outside.specs.Tasks.{Tasks, bit, total, times, reads_loop}
+use Rattle.fv_outside.specs.Tasks.{Tasks, bit, times, reads_loop}
 use Rattle.fv_graph.specs.Words.{passing}
-use Rattle.fv_graph.specs.Graph.{IsGraph, pair_at, is_before, no_reads}
+use Rattle.fv_graph.specs.Graph.{IsGraph, pair_at}
 use Rattle.fv_graph.proofs.Counts.{bit_le, bit_same, bit_apart, bit_swap, bit_true, both_true, eq_of, one_of, map_miss, times_above, times_passing}
-use Rattle.fv_graph.proofs.ReadsLemmas.{get_passing, map_rises, rises_once, stands, place, IsAt, loop_place}
+use Rattle.fv_graph.proofs.ReadsLemmas.{map_rises, rises_once, stands, place, loop_place}
 use Rattle.fv_graph_core.proofs.Few.{few}
 use Rattle.fv_loopcode.specs.Obeys.{OfLane}
 use Rattle.fv_split_plan.specs.View.{PlanView, lane_info, roles_of}

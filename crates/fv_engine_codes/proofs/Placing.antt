@@ -1,10 +1,10 @@
 -- Numbered lanes are places for a loop's code.
-use Rattle.std.proofs.Common.{◌≡◌, ℕ, ◌<◌, ◌≤◌, List, ◌++◌, length, get_or, refl, sym, ap, ◌∙◌, subst, arith, true, lt-ltb, eq-eqb, inl, inr}
+use Rattle.std.proofs.Common.{◌≡◌, ℕ, ◌<◌, ◌≤◌, List, length, sym, ap, ◌∙◌, arith, lt-ltb}
 use Rattle.std.specs.Prelude.{slice_index, ◌==◌, nat_lt, nat_eq}
 use Rattle.std.proofs.lemmas.List.{length-append, get_or_append_left}
-use Rattle.fv_outside.specs.Tasks.{Tasks, bit, times}
+use Rattle.fv_outside.specs.Tasks.{Tasks, times}
 use Rattle.fv_graph.specs.Graph.{IsGraph}
-use Rattle.fv_graph.proofs.Counts.{bit_same, both_of, eq_of}
+use Rattle.fv_graph.proofs.Counts.{bit_same, both_of}
 use Rattle.fv_graph.proofs.ReadsLemmas.{get_passing, place}
 use Rattle.fv_loopcode.specs.Obeys.{OfLane}
 use Rattle.fv_split_plan.specs.View.{PlanView, lane_info, roles_of}

@@ -1,13 +1,10 @@
 -- The lanes of the first of the loops that a loop reads.
-use Rattle.std.proofs.Common.{◌≡◌, ℕ, suc, ◌+◌, ◌<◌, ◌≤◌, List, [], ◌∷◌, ◌++◌, length, take, drop, get_or, refl, sym, ap, ◌∙◌, subst, arith, append-nil}
+use Rattle.std.proofs.Common.{◌≡◌, ℕ, suc, ◌+◌, ◌<◌, ◌≤◌, List, [], ◌∷◌, ◌++◌, length, take, drop, get_or, sym, ap, ◌∙◌, arith, append-nil}
 use Rattle.std.specs.Prelude.{slice_index, All, ◌==◌}
-use Rattle.std.specs.List.{flat_map}
 use Rattle.std.proofs.lemmas.Grind.{flat_map-append}
 use Rattle.std.proofs.lemmas.List.{append_assoc, length-append, take-append-drop}
-use Rattle.std.proofs.lemmas.List.Elements.{All-from_get_or}
 use Rattle.std.proofs.Math.Seq.{take-suc, take-length}
 use Rattle.fv_outside.specs.Tasks.{Tasks, times}
-use Rattle.fv_graph.specs.Words.{passing}
 use Rattle.fv_graph.specs.Graph.{IsGraph}
 use Rattle.fv_graph.proofs.ReadsLemmas.{get_passing}
 use Rattle.fv_split_plan.specs.View.{PlanView, lane_info}

@@ -6,7 +6,7 @@ use Rattle.std.proofs.lemmas.List.{length-map, get_or-map}
 use Rattle.std.proofs.Math.Nat.{mul-le-mul_right}
 use Rattle.fv_outside.specs.Tasks.{Tasks, task_count}
 use Rattle.fv_graph.specs.Words.{passing}
-use Rattle.fv_graph.specs.Graph.{IsGraph, stride, pair_at, pair_edge, chain_edge, loop_of, vector_of, inward}
+use Rattle.fv_graph.specs.Graph.{IsGraph, pair_at, pair_edge, chain_edge, loop_of, vector_of, inward}
 use Rattle.fv_graph.proofs.ReadsLemmas.{get_passing}
 use Rattle.fv_engine_lanes.specs.Plans.{sources_of}
 

@@ -1,13 +1,13 @@
 -- One lane more begins.
-use Rattle.std.proofs.Common.{◌≡◌, ℕ, zero, suc, ◌+◌, ◌-◌, ◌<◌, ◌≤◌, List, [], ◌∷◌, ◌++◌, length, map, sum, take, drop, get_or, refl, sym, ap, ap₂, ◌∙◌, subst, arith, ℤ, inl, inr}
+use Rattle.std.proofs.Common.{◌≡◌, ℕ, zero, suc, ◌+◌, ◌<◌, List, [], ◌∷◌, ◌++◌, length}
+use Rattle.std.proofs.Common.{sum, take, drop, get_or, refl, sym, ap, ap₂, ◌∙◌, subst, arith, ℤ, inl, inr}
 use Rattle.std.specs.Prelude.{slice_index}
 use Rattle.std.proofs.lemmas.Bool.{cases_lt}
-use Rattle.std.proofs.lemmas.List.{length-append, length-map, length-drop, get_or-map, get_or_append_left, drop-drop}
+use Rattle.std.proofs.lemmas.List.{length-append, length-map, get_or-map, get_or_append_left, drop-drop}
 use Rattle.std.proofs.Math.Seq.{get_or-append_seam}
 use Rattle.fv_pool.specs.Layout.{part}
-use Rattle.fv_lines.specs.Hold.{Holds}
 use Rattle.fv_lines.specs.Solo.{start_at}
-use Rattle.fv_lines.proofs.Parts.{place_more, place_fits}
+use Rattle.fv_lines.proofs.Parts.{place_more}
 use Rattle.fv_lines.specs.declared.shape.LaneShape.{LaneShape}
 use Rattle.fv_lines.specs.declared.shape.LaneState.{LaneState}
 use Rattle.fv_lines.specs.declared.writer.LaneWriter.{LaneWriter}
@@ -36,7 +36,8 @@ module _ (shapes : List LaneShape) (states : List LaneState) (frames : ℕ) (cel
   pub part_is : (left items : List ℤ) (len : ℕ) → len ≡ x.len → left ≡ drop before cells → items ≡ take len left → items ≡ part lengths i cells
   part_is left items len l e is = is ∙ ap₂ (λ (n : ℕ) (ys : List ℤ). take n ys) (l ∙ sym len_is) e
 
-  pub left_next : (left rest : List ℤ) (len : ℕ) → len ≡ x.len → left ≡ drop before cells → rest ≡ drop len left → rest ≡ drop (sum (take (i + 1) lengths)) cells
+  pub left_next : (left rest : List ℤ) (len : ℕ) → len ≡ x.len → left ≡ drop before cells → rest ≡ drop len left
+      → rest ≡ drop (sum (take (i + 1) lengths)) cells
   left_next left rest len l e is =
       let many : i < length lengths = let m = length-map shapes (λ (z : LaneShape). z.len) in omega arith in
       is ∙ ap₂ (λ (n : ℕ) (ys : List ℤ). drop n ys) (l ∙ sym len_is) e ∙ drop-drop (slice_index lengths i) before cells

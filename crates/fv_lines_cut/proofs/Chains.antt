@@ -21,7 +21,8 @@ pub chain_pop : (ws : List LaneWriter) (w : LaneWriter) (γ δ : GName) → IsCh
 chain_pop [] w γ δ c = record { others = sym c.0; last = c.1 }
 chain_pop (v ∷ vs) w γ δ c = let p = chain_pop vs w (outer_of v).high δ c.1 in record { others = (c.0, p.others); last = p.last }
 
-pub contents_pop : (ws : List LaneWriter) (w : LaneWriter) (xs : List ℤ) → flat_map content_of (ws ++ w ∷ []) ++ xs ≡ flat_map content_of ws ++ (content_of w ++ xs)
+pub contents_pop : (ws : List LaneWriter) (w : LaneWriter) (xs : List ℤ)
+    → flat_map content_of (ws ++ w ∷ []) ++ xs ≡ flat_map content_of ws ++ (content_of w ++ xs)
 contents_pop [] w xs = ap (λ (ys : List ℤ). ys ++ xs) (append-nil (content_of w))
 contents_pop (v ∷ vs) w xs =
     append_assoc (content_of v) (flat_map content_of (vs ++ w ∷ [])) xs ∙ ap (λ (ys : List ℤ). content_of v ++ ys) (contents_pop vs w xs)

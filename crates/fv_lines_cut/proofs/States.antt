@@ -1,5 +1,5 @@
 -- The states, while lanes end from the last one on.
-use Rattle.std.proofs.Common.{◌≡◌, ◌≢◌, ℕ, suc, ◌+◌, ◌<◌, ◌≤◌, List, [], ◌∷◌, ◌++◌, length, map, set, get_or, refl, sym, ap, ◌∙◌, subst, arith, inl, inr}
+use Rattle.std.proofs.Common.{◌≡◌, ◌≢◌, ℕ, ◌+◌, ◌<◌, ◌≤◌, List, [], ◌∷◌, ◌++◌, length, map, set, get_or, refl, sym, ap, ◌∙◌, subst, arith, inl, inr}
 use Rattle.std.proofs.lemmas.Bool.{cases_lt}
 use Rattle.std.proofs.lemmas.List.{length-append, length-map, length-set, map-set, get_or_append_left, get_or-set_other, get_or-set_same}
 use Rattle.std.proofs.Math.Seq.{get_or-append_seam}
@@ -41,7 +41,8 @@ module _ (P : LaneWriter → ℕ → Type 0) (all : List LaneWriter) where
           | inl above ↦ subst (P (get_or all i d)) (sym (start_kept states n i s (λ e. omega arith))) (h.ended i d (omega arith) m)
           | inr low ↦
               let e : i ≡ n = omega arith in
-              let w_is : get_or all i d ≡ w = sym (h.same i d (omega arith)) ∙ ap (λ (k : ℕ). get_or (left ++ w ∷ []) k d) (e ∙ at) ∙ get_or-append_seam left w [] d in
+              let w_is : get_or all i d ≡ w = sym (h.same i d (omega arith)) ∙ ap (λ (k : ℕ). get_or (left ++ w ∷ []) k d) (e ∙ at)
+              ∙ get_or-append_seam left w [] d in
               subst (λ (x : LaneWriter). P x (start_at (set states n s) i)) (sym w_is)
               (subst (P w) (sym (ap (start_at (set states n s)) e ∙ start_set states n s (let c = h.count in let f = h.fewer in omega arith))) is)
         ];

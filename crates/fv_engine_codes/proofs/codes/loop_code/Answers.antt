@@ -1,15 +1,14 @@
 use Rattle.std.proofs.Common.{◌≡◌, ℕ, List, length, map, get_or, ap, ◌∙◌, subst, sym, arith}
-use Rattle.std.specs.Prelude.{All, slice_index, IfOk}
+use Rattle.std.specs.Prelude.{All, slice_index}
 use Rattle.std.proofs.lemmas.Result.{IfOk-weaker}
-use Rattle.fv_num.specs.Words.{argument}
 use Rattle.fv_outside.specs.Tasks.{Tasks}
 use Rattle.fv_loopcode.specs.declared.step.Step.{Step}
 use Rattle.fv_loopcode.specs.Code.{NamesLane}
 use Rattle.fv_split_plan.specs.View.{PlanView, code_of, roles_of}
 use Rattle.fv_split_plan.specs.Plans.{IsPlan}
 use Rattle.fv_engine_lanes.specs.Renumbered.{renumbered, Places}
-use Rattle.fv_engine_lanes.specs.Plans.{own_lanes, locals_of, IsLocalCode}
-use Rattle.fv_engine_codes.proofs.Named.{HasRole, have_roles, names_there, names_placed, plan_roles}
+use Rattle.fv_engine_lanes.specs.Plans.{own_lanes, locals_of}
+use Rattle.fv_engine_codes.proofs.Named.{HasRole, names_there, names_placed, plan_roles}
 use Rattle.fv_engine_codes.proofs.Placing.{are_places}
 use Rattle.fv_engine_codes.proofs.codes.loop_code.Goals as goal
 

@@ -2,11 +2,10 @@ use Rattle.std.proofs.Common.{◌≡◌, ◌<◌, ℕ, ◌+◌, List, [], ◌∷
 use Rattle.std.specs.Global.{Vec}
 use Rattle.std.specs.Prelude.{slice_index, ◌==◌}
 use Rattle.fv_graph.specs.Words.{passing}
-use Rattle.fv_split_plan.specs.View.{PlanView, lane_info}
+use Rattle.fv_split_plan.specs.View.{PlanView}
 use Rattle.fv_split_plan.specs.declared.lane.LaneInfo.{LaneInfo}
 use Rattle.fv_graph.specs.inner.Lists.{Grouped}
 use Rattle.fv_graph.proofs.Grouping.{grouped_next, get_any}
-use Rattle.fv_engine_codes.specs.inner.Numbered.{AreLanesByLoop}
 use Rattle.fv_engine_codes.proofs.Keys.{owners_of, owner_is, own_by_keys}
 use Rattle.fv_engine_codes.proofs.owners.lanes_by_loop.Goals as goal
 
@@ -19,14 +18,16 @@ loop-l-preserved c =
     let inside : k < length p.lanes = omega (arith, c.loop-l-test.true, ap length c.lanes-lanes.ensures) in
     let is : (get_or c.lanes-lanes.result.now k none).owner ≡ r =
     ap (λ (xs : List LaneInfo). (get_or xs k none).owner) c.lanes-lanes.ensures ∙ sym (owner_is p k inside) in
-    let low : r < c.loops-loops.result = omega (arith, owner_is p k inside, c.loops-loops.ensures.plan.1.stands.loops.owners k inside, c.loops-loops.ensures.loops) in
+    let low : r < c.loops-loops.result = omega
+    (arith, owner_is p k inside, c.loops-loops.ensures.plan.1.stands.loops.owners k inside, c.loops-loops.ensures.loops) in
     let i1 = c.loop-l.invariant.1 in
     let there : r < length c.loop-l.lists.items = omega (arith, low, i1, c.loop-l.lists.ok) in
     let lists : List (Vec ℕ) = c.loop-l.lists.items in
     let same : Grouped (owners_of p) c.loops-loops.result (k + 1) (set lists r c.push.new.self) =
     grouped_next (owners_of p) c.loops-loops.result k r lists c.push.new.self c.loop-l.invariant.0 refl there
     (λ d. c.in_ok-push.ensures.items ∙ ap (λ (v : Vec ℕ). v.items ++ k ∷ [])
-    (c.index_mut-list.ensures.value ∙ ap (λ (n : ℕ). get_or lists n c.index_mut-list.result.now) is ∙ get_any lists r c.index_mut-list.result.now d there)) low in
+    (c.index_mut-list.ensures.value ∙ ap (λ (n : ℕ). get_or lists n c.index_mut-list.result.now) is
+    ∙ get_any lists r c.index_mut-list.result.now d there)) low in
     (subst (λ (n : ℕ). Grouped (owners_of p) c.loops-loops.result (k + 1) (set lists n c.push.new.self)) (sym is) same, i1)
 
 pub returns : goal.returns

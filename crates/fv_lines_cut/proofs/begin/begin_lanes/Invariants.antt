@@ -1,4 +1,4 @@
-use Rattle.std.proofs.Common.{◌≡◌, ◌≤◌, length, sum, take, drop, vec_len, vec_capacity}
+use Rattle.std.proofs.Common.{◌≡◌, sum, take, drop, vec_capacity}
 use Rattle.fv_pool.specs.Uncut.{left_of, loan_of}
 use Rattle.fv_lines_cut.specs.Cut.{lengths_by, IsChain, AreBegun}
 use Rattle.fv_lines_cut.proofs.begin.begin_lanes.Given as goal

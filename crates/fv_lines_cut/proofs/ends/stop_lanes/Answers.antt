@@ -1,14 +1,13 @@
-use Rattle.std.proofs.Common.{◌≡◌, ◌++◌, ℕ, List, [], ◌∷◌, length, take, refl, sym, ap, subst, ◌∙◌, arith, ℤ}
+use Rattle.std.proofs.Common.{◌≡◌, ◌++◌, List, [], ◌∷◌, take, refl, sym, ap, subst, ◌∙◌, arith, ℤ}
 use Rattle.std.specs.List.{flat_map}
-use Rattle.std.proofs.lemmas.List.{length-append}
 use base.Fml.{GName}
 use Rattle.fv_pool.specs.declared.loan.Halves.{Halves}
 use Rattle.fv_lines.specs.Hold.{held, Holds}
-use Rattle.fv_lines.specs.Writer.{content_of, outer_of, shape_of, frames_of, written_by, list_of}
+use Rattle.fv_lines.specs.Writer.{content_of, outer_of, shape_of, list_of}
 use Rattle.fv_lines.specs.declared.writer.LaneWriter.{LaneWriter}
 use Rattle.fv_lines_cut.specs.Cut.{IsChain, HoldsStart}
 use Rattle.fv_lines_cut.proofs.Chains.{Popped, chain_pop, contents_pop}
-use Rattle.fv_lines_cut.proofs.States.{AreLeft, all_left, one_fewer, last_left}
+use Rattle.fv_lines_cut.proofs.States.{AreLeft, all_left, one_fewer}
 use Rattle.fv_lines_cut.proofs.ends.stop_lanes.Goals as goal
 
 pub loop-writer-init : goal.loop-writer-init

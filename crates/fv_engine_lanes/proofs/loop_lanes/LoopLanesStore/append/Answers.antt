@@ -32,4 +32,5 @@ returns-then-i-len-clause-kept c =
 
 pub returns-else-i-len-clause-state : goal.returns-else-i-len-clause-state
 returns-else-i-len-clause-state c =
-    absurd (omega (arith, c.requires.room, no_room c.args.self.now.own.items c.args.self.now.seen.items c.args.lane (omega (arith, c.if-i-len.false, c.len.ensures))))
+    absurd (omega
+    (arith, c.requires.room, no_room c.args.self.now.own.items c.args.self.now.seen.items c.args.lane (omega (arith, c.if-i-len.false, c.len.ensures))))
