@@ -85,7 +85,8 @@ edges_reverse (p ∷ ps) =
     ap (map (λ (q : LoopParcel). q.edge)) (reverse-append (p ∷ []) ps) ∙ edges_push (reverse ps) p p.edge refl
     ∙ ap (λ (l : List ℕ). l ++ p.edge ∷ []) (edges_reverse ps) ∙ sym (reverse-append (p.edge ∷ []) (map (λ (q : LoopParcel). q.edge) ps))
 
-pub keys_reverse : (k : Start) (ps : List LoopParcel) → All (λ (p : LoopParcel). p.start.value ≡ k) ps → All (λ (p : LoopParcel). p.start.value ≡ k) (reverse ps)
+pub keys_reverse : (k : Start) (ps : List LoopParcel) → All (λ (p : LoopParcel). p.start.value ≡ k) ps
+    → All (λ (p : LoopParcel). p.start.value ≡ k) (reverse ps)
 keys_reverse k ps a = λ i d m.
     let l : i < length ps = omega (arith, m, length-reverse ps) in
     ap (λ (p : LoopParcel). p.start.value) (get_or-reverse ps i d l) ∙ a (length ps - 1 - i) d (omega arith)

@@ -1,5 +1,6 @@
 -- What a task hands on.
-use Rattle.std.proofs.Common.{◌≡◌, ℕ, zero, suc, ◌+◌, ◌-◌, ◌/◌, ◌<◌, ◌≤◌, List, [], ◌∷◌, ◌++◌, length, map, drop, get_or, refl, sym, ap, ◌∙◌, subst, arith, Bool, true, false, true≢false, vec_capacity, inl, inr}
+use Rattle.std.proofs.Common.{◌≡◌, ℕ, zero, suc, ◌+◌, ◌-◌, ◌/◌, ◌<◌, ◌≤◌, List, [], ◌∷◌, ◌++◌, length, map}
+use Rattle.std.proofs.Common.{drop, get_or, refl, sym, ap, ◌∙◌, subst, arith, Bool, true, false, true≢false, vec_capacity, inl, inr}
 use Rattle.std.proofs.lemmas.Bool.{cases_lt}
 use Rattle.std.specs.Prelude.{reverse, All, slice_index}
 use Rattle.std.specs.Global.{Vec, Box}
@@ -40,7 +41,8 @@ seen_written k lanes v ws ss e a =
           record {
             holds = λ f c.
                 let h : HoldsJust f (slice_index lanes i) (upto k v) (k.frames - upto k v) _ = (a.each i w m).holds f c in
-                subst (λ (l : Lane). Holds f (slice_index lanes i) (upto k v) l) (sym is) (record { history = h.holds.history; long = h.holds.long; same = h.holds.same });
+                subst (λ (l : Lane). Holds f (slice_index lanes i) (upto k v) l) (sym is)
+                (record { history = h.holds.history; long = h.holds.long; same = h.holds.same });
           };
     }
 
@@ -62,7 +64,8 @@ content_seen k j v e ss p a = record {
   writers = λ w q. absurd (true≢false (ap is_seen q));
   seen = λ ts q. (
     p.at.pair,
-    subst (λ (t : Vec Seen). AreSeenOf k (own_lanes k.plan.now (pair_at (tasks_in k) (place_in (tasks_in k) e - (tasks_in k).loops)).source) (e / stride (tasks_in k) + 1) t.items) (ap (seen_in ss) q)
+    subst (λ (t : Vec Seen). AreSeenOf k (own_lanes k.plan.now (pair_at (tasks_in k) (place_in (tasks_in k) e - (tasks_in k).loops)).source)
+        (e / stride (tasks_in k) + 1) t.items) (ap (seen_in ss) q)
         (subst (λ (i : ℕ). AreSeenOf k (own_lanes k.plan.now i) (e / stride (tasks_in k) + 1) ss.items) (sym p.source)
         (subst (λ (n : ℕ). AreSeenOf k (own_lanes k.plan.now j) (n + 1) ss.items) (sym p.at.vector) a)),
   );
@@ -108,7 +111,8 @@ drop_all (e ∷ es) zero l = absurd (omega arith)
 drop_all (e ∷ es) (suc n) l = drop_all es n (omega arith)
 
 -- one parcel more
-pub edges_push : (ps : List LoopParcel) (p : LoopParcel) (e : ℕ) → p.edge ≡ e → map (λ (q : LoopParcel). q.edge) (ps ++ p ∷ []) ≡ map (λ (q : LoopParcel). q.edge) ps ++ e ∷ []
+pub edges_push : (ps : List LoopParcel) (p : LoopParcel) (e : ℕ) → p.edge ≡ e
+    → map (λ (q : LoopParcel). q.edge) (ps ++ p ∷ []) ≡ map (λ (q : LoopParcel). q.edge) ps ++ e ∷ []
 edges_push [] p e q = ap (λ (x : ℕ). x ∷ []) q
 edges_push (r ∷ rs) p e q = ap (λ (xs : List ℕ). r.edge ∷ xs) (edges_push rs p e q)
 

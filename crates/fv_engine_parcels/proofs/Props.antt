@@ -33,12 +33,14 @@ pass_prop : (held input : ℕ → ℤ) (index : ℕ) (p : Pass) (ss : List Step)
 pass_prop held input index p [] = Unit-prop
 pass_prop held input index p (s ∷ ss) = ×_prop (step_prop p.state index (argument p.numbers) s) (pass_prop held input index (stepped held input index p s) ss)
 
-pub run_prop : (steps : List Step) (held : ℕ → ℤ) (inputs : ℕ → ℕ → ℤ) (start count : ℕ) (state : State) (x y : MayRun steps held inputs start count state) → x ≡ y
+pub run_prop : (steps : List Step) (held : ℕ → ℤ) (inputs : ℕ → ℕ → ℤ) (start count : ℕ) (state : State)
+    (x y : MayRun steps held inputs start count state) → x ≡ y
 run_prop steps held inputs start count state x y =
     λ i n m. pass_prop held (inputs (start + n)) (start + n) (opening (ran steps held inputs start n state)) steps (x n m) (y n m) i
 
 -- where there merely are such numbers, the code may run
-pub may_run_merely : (laws : Laws) (k : Start) (j v : ℕ) → ∥ IsRealStart k ∥₁ → (code : List Step) (lanes : List Lane) → ∥ Known k j v code ∥₁ → Before k j v lanes
+pub may_run_merely : (laws : Laws) (k : Start) (j v : ℕ) → ∥ IsRealStart k ∥₁ → (code : List Step) (lanes : List Lane)
+    → ∥ Known k j v code ∥₁ → Before k j v lanes
     → MayRun code (argument k.held.now) (frame_of k.input.now k.channels) (from k j v) (to k j v - from k j v) (lanes_alone lanes)
 may_run_merely laws k j v real code lanes known before =
     ∥∥₁_elim real (run_prop code (argument k.held.now) (frame_of k.input.now k.channels) (from k j v) (to k j v - from k j v) (lanes_alone lanes)) (λ r.

@@ -1,5 +1,5 @@
 -- A task of a loop over its own lanes and the seen ones: it may run, and its own lanes then hold their values up to the next vector.
-use Rattle.std.proofs.Common.{◌≡◌, ℕ, ◌+◌, ◌-◌, ◌<◌, ◌≤◌, List, length, map, sym, subst, arith, true}
+use Rattle.std.proofs.Common.{◌≡◌, ℕ, ◌+◌, ◌-◌, ◌<◌, ◌≤◌, List, length, sym, subst, arith, true}
 use Rattle.std.specs.Prelude.{slice_index}
 use Rattle.std.proofs.lemmas.Bool.{lt-ltb, ltb-true, ltb-false}
 use Rattle.std.proofs.Math.Nat.{min-le_right}
@@ -10,8 +10,8 @@ use Rattle.fv_loopcode.specs.State.{State, lanes_alone}
 use Rattle.fv_loopcode.specs.Code.{MayRun, ran, frame_of}
 use Rattle.fv_loopcode.specs.Obeys.{Place, OfLane, Content, ObeysAt, HoldsAt, HoldsJust, IsThere, IsReady, TasksAreDone}
 use Rattle.fv_split_plan.specs.View.{code_of, roles_of}
-use Rattle.fv_engine_lanes.specs.Renumbered.{renumbered, is_among, roles_over, content_over, RenumberedCodeObeys}
-use Rattle.fv_engine_parcels.specs.Contents.{tasks_in, IsContentOf}
+use Rattle.fv_engine_lanes.specs.Renumbered.{is_among, roles_over, content_over, RenumberedCodeObeys}
+use Rattle.fv_engine_parcels.specs.Contents.{IsContentOf}
 use Rattle.fv_engine_parcels.specs.inner.Turns.{own, locals, from, to, Known, Before}
 use Rattle.fv_engine_parcels.specs.declared.start.Start.{Start}
 
@@ -33,7 +33,8 @@ module _ (laws : Laws) (k : Start) (j v : ℕ) where
   abbrev end : ℕ
   end = to k j v
 
-  there : {code : List Step} (lanes : List Lane) → Known k j v code → Before k j v lanes → (p : Place) → is_among (length mine) p ≡ true → IsThere (lanes_alone lanes) p
+  there : {code : List Step} (lanes : List Lane) → Known k j v code → Before k j v lanes → (p : Place) → is_among (length mine) p ≡ true
+      → IsThere (lanes_alone lanes) p
   there lanes n b (OfLane l) o = omega (arith, ltb-true l (length mine) o, n.few, b.long)
 
   owned : (f : Content) → IsContentOf k f → {code : List Step} (lanes : List Lane) → Known k j v code → Before k j v lanes
@@ -41,7 +42,12 @@ module _ (laws : Laws) (k : Start) (j v : ℕ) where
   owned f c lanes n b (OfLane l) o =
       let below : end ≤ k.frames = min-le_right _ k.frames in
       let h = b.mine f c l (ltb-true l (length mine) o) in
-      record { holds = record { history = h.holds.history; long = h.holds.long; same = h.holds.same }; just = h.just; room = omega (arith, h.room, n.le, below) }
+      record {
+        holds = record { history = h.holds.history; long = h.holds.long; same = h.holds.same };
+        just = h.just;
+        room = omega
+            (arith, h.room, n.le, below);
+      }
 
   ready : (f : Content) → IsContentOf k f → {code : List Step} (lanes : List Lane) → Known k j v code → Before k j v lanes
       → IsReady (roles_over (length mine) (length all)) (content_over all f) start (end - start) (k.frames - end) (lanes_alone lanes)
@@ -55,7 +61,8 @@ module _ (laws : Laws) (k : Start) (j v : ℕ) where
   }
 
   obeys : (f : Content) → IsContentOf k f → {code : List Step} → Known k j v code → (n : ℕ) → n < end - start
-      → ObeysAt (roles_over (length mine) (length all)) (content_over all f) (argument k.held.now) (frame_of k.input.now k.channels (start + n)) (start + n) code
+      → ObeysAt (roles_over (length mine) (length all)) (content_over all f) (argument k.held.now)
+      (frame_of k.input.now k.channels (start + n)) (start + n) code
   obeys f c {code} known n m =
       let below : end ≤ k.frames = min-le_right _ k.frames in
       subst (λ (steps : List Step). ObeysAt (roles_over (length mine) (length all)) (content_over all f) (argument k.held.now)

@@ -82,14 +82,17 @@ after_of k j v ws us ss real a kept after =
           sym (get_or-map rest_of_writer us i d r (omega (arith, m, count))) ∙ ap (λ (rs : List WriterRest). get_or rs i r) kept
           ∙ get_or-map rest_of_writer ws i d r (omega (arith, m, a.count)) in
           let is : lane_of (fs ++ gs) i ≡ lane_open u =
-          get_or_append_left fs gs no_lane i (omega (arith, m, count, length-map us lane_open)) ∙ get_or-map lane_open us i d no_lane (omega (arith, m, count)) in
+          get_or_append_left fs gs no_lane i (omega (arith, m, count, length-map us lane_open))
+          ∙ get_or-map lane_open us i d no_lane (omega (arith, m, count)) in
           let holds : (f : Content) → IsContentOf k f → HoldsJust f (get_or own i 0) (upto k (suc v)) (k.frames - upto k (suc v)) (lane_open u) = λ f c.
           subst (λ (x : Lane). HoldsJust f (get_or own i 0) (upto k (suc v)) (k.frames - upto k (suc v)) x) is
-          (subst (λ (l : ℕ). HoldsJust f l (upto k (suc v)) (k.frames - upto k (suc v)) (lane_of (fs ++ gs) i)) (get_or_append_left own rest 0 i m) (after f c i m)) in
+          (subst (λ (l : ℕ). HoldsJust f l (upto k (suc v)) (k.frames - upto k (suc v)) (lane_of (fs ++ gs) i))
+          (get_or_append_left own rest 0 i m) (after f c i m)) in
           record {
             same = λ b. same_after w u (get_or k.lanes.value.items (get_or own i 0) b) same ((a.each i d m).same b);
             written = ∥∥₁_elim real (ℕ_set (written_by u) (upto k (suc v))) (λ r.
-                let h = holds r.content (record { obeys = r.obeys; begins = r.begins }) in written_is u (r.content.history (get_or own i 0)) (upto k (suc v)) h.holds.history h.just);
+                let h = holds r.content (record { obeys = r.obeys; begins = r.begins }) in written_is u (r.content.history (get_or own i 0))
+                (upto k (suc v)) h.holds.history h.just);
             holds = holds;
           };
     }

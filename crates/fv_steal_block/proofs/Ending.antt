@@ -43,7 +43,8 @@ module _ {C Key : Type 0} (edge_of : C → ℕ) (key_of : C → Key) where
   }
 
   -- seats that have done nothing tell nothing
-  pub told_none : (f : Deed → ℕ) (id : TableId) (a : About C) (k : ℕ) (seats : List (WorkerSeat C)) → AreFirstSeats edge_of key_of id a k seats → told_by f seats ≡ 0
+  pub told_none : (f : Deed → ℕ) (id : TableId) (a : About C) (k : ℕ) (seats : List (WorkerSeat C))
+      → AreFirstSeats edge_of key_of id a k seats → told_by f seats ≡ 0
   told_none f id a k [] h = refl
   told_none f id a k (s ∷ ss) h =
       let e : done_by f (view_of s) ≡ 0 = ap (done_by f) h.0.view in

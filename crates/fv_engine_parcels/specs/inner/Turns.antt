@@ -1,5 +1,5 @@
 -- A task of a loop, between the parcels that it takes and those that it leaves (this project's profile).
-use Rattle.std.specs.Prelude.{◌≡◌, ℕ, suc, ◌+◌, ◌-◌, ◌/◌, ◌<◌, ◌≤◌, List, length, map, slice_index}
+use Rattle.std.specs.Prelude.{◌≡◌, ℕ, suc, ◌-◌, ◌/◌, ◌<◌, ◌≤◌, List, length, map, slice_index}
 use Rattle.fv_outside.specs.Tasks.{Tasks}
 use Rattle.fv_graph.specs.Graph.{stride, place_in, pair_at}
 use Rattle.fv_loopcode.specs.declared.step.Step.{Step}

@@ -1,12 +1,9 @@
-use Rattle.std.proofs.Common.{◌≡◌, ◌<◌, ◌≤◌, ℕ, ◌-◌, List, [], ◌++◌, length, map, sym, ap, ◌∙◌, subst, arith, vec_len, vec_capacity}
+use Rattle.std.proofs.Common.{◌≡◌, ◌<◌, ◌≤◌, ◌-◌, ◌++◌, length, map, sym, ap, ◌∙◌, subst, arith, vec_len, vec_capacity}
 use Rattle.std.specs.List.{flat_map}
-use Rattle.fv_outside.specs.Tasks.{task_count}
-use Rattle.fv_outside.specs.declared.gate.Line.{Line}
 use Rattle.fv_graph.specs.Graph.{Graph, edges_of}
 use Rattle.fv_ready_rule.specs.Rule.{wins}
 use Rattle.fv_ready.specs.Boards.{about_of, name_of, tasks_of}
 use Rattle.fv_ready.specs.Counted.{HaveAll, told_by}
-use Rattle.fv_steal.specs.declared.worker.Worker.{Worker}
 use Rattle.fv_steal.specs.Crews.{seat_of, lines_of, IsCrew}
 use Rattle.fv_steal.specs.Journals.{AreThrough, AreSortedLines}
 use Rattle.fv_steal_block.specs.Parcels.{AreParcelsFrom}
@@ -22,7 +19,8 @@ returns-in-Err-crew-clause-entries g c =
     let d = (about_of b).sample.value in
     let some : 0 < length c.args.entries.items = omega (arith, c.requires.entries.count, c.loops.ensures.graph.some_loop) in
     let same : key d ≡ g.B.Body.key c.args.body.now =
-    sym (c.in-Ok-begin.ensures.key 0 d (omega (arith, some, c.args.entries.ok))) ∙ c.requires.entries.keys 0 d (omega (arith, some, c.requires.entries.count)) in
+    sym (c.in-Ok-begin.ensures.key 0 d (omega (arith, some, c.args.entries.ok)))
+    ∙ c.requires.entries.keys 0 d (omega (arith, some, c.requires.entries.count)) in
     let back = c.close.ensures.entries (λ t l. ap (told_by (wins t)) c.in-Err-crew.ensures.err
     ∙ told_none of key (wins t) (name_of b) (about_of b) 0 c.in-Ok-begin.made.1.items c.in-Ok-begin.ensures.seats) in
     let ps = back.0 in
@@ -37,7 +35,8 @@ work-requires-clause-body g c κs within =
     let d = (about_of b).sample.value in
     let some : 0 < length c.args.entries.items = omega (arith, c.requires.entries.count, c.loops.ensures.graph.some_loop) in
     let same : key d ≡ g.B.Body.key c.args.body.now =
-    sym (c.in-Ok-begin.ensures.key 0 d (omega (arith, some, c.args.entries.ok))) ∙ c.requires.entries.keys 0 d (omega (arith, some, c.requires.entries.count)) in
+    sym (c.in-Ok-begin.ensures.key 0 d (omega (arith, some, c.args.entries.ok)))
+    ∙ c.requires.entries.keys 0 d (omega (arith, some, c.requires.entries.count)) in
     (c.requires.body, sym same)
 
 pub work-requires-clause-crew : goal.work-requires-clause-crew
@@ -83,7 +82,8 @@ returns-clause-exits g c =
     subst (AreParcelsFrom of key (g.B.Body.key c.args.body.now) (edges_of c.args.tasks.now.tasks - c.args.tasks.now.tasks.loops) c.args.tasks.now.tasks.loops)
     (sym (gains.1 ∙ ap (λ xs. xs ++ ps) c.in-Ok.ensures.items))
     (subst (λ n. AreParcelsFrom of key (g.B.Body.key c.args.body.now) n c.args.tasks.now.tasks.loops ps) from
-    (parcels_from of key (about_of b) (g.B.Body.key c.args.body.now) (edges_of (tasks_of b) - (tasks_of b).loops) c.args.tasks.now.tasks.loops ps loops gains.3 same))
+    (parcels_from of key (about_of b) (g.B.Body.key c.args.body.now)
+    (edges_of (tasks_of b) - (tasks_of b).loops) c.args.tasks.now.tasks.loops ps loops gains.3 same))
 
 pub returns-clause-journal : goal.returns-clause-journal
 returns-clause-journal g c =
@@ -106,7 +106,8 @@ returns-clause-journal g c =
     let s : AreSortedLines new c.sort_lines.new.lines.items =
     sorted h c.journal_law.ensures.count c.loops.ensures.graph t (vec_capacity c.args.lines.now) c.requires.room c.copy_lines.new.lines.items
     c.sort_lines.new.lines.items (λ fits. c.copy_lines.ensures.lines (subst (λ us. length (flat_map lines_of us) ≤ vec_capacity c.args.lines.now)
-    (sym (c.as_slice.ensures.value ∙ whole)) fits) ∙ ap (flat_map lines_of) (c.as_slice.ensures.value ∙ whole)) c.sort_lines.ensures.permutation c.sort_lines.ensures.starts in
+    (sym (c.as_slice.ensures.value ∙ whole)) fits) ∙ ap (flat_map lines_of) (c.as_slice.ensures.value ∙ whole))
+    c.sort_lines.ensures.permutation c.sort_lines.ensures.starts in
     (c.journal_law.ensures.journal c.args.tasks.now.tasks new c.sort_lines.new.lines.items c.loops.ensures.graph t s).0
 
 pub returns-clause-count : goal.returns-clause-count
@@ -130,5 +131,6 @@ returns-clause-count g c =
     let s : AreSortedLines new c.sort_lines.new.lines.items =
     sorted h c.journal_law.ensures.count c.loops.ensures.graph t (vec_capacity c.args.lines.now) c.requires.room c.copy_lines.new.lines.items
     c.sort_lines.new.lines.items (λ fits. c.copy_lines.ensures.lines (subst (λ us. length (flat_map lines_of us) ≤ vec_capacity c.args.lines.now)
-    (sym (c.as_slice.ensures.value ∙ whole)) fits) ∙ ap (flat_map lines_of) (c.as_slice.ensures.value ∙ whole)) c.sort_lines.ensures.permutation c.sort_lines.ensures.starts in
+    (sym (c.as_slice.ensures.value ∙ whole)) fits) ∙ ap (flat_map lines_of) (c.as_slice.ensures.value ∙ whole))
+    c.sort_lines.ensures.permutation c.sort_lines.ensures.starts in
     (c.journal_law.ensures.journal c.args.tasks.now.tasks new c.sort_lines.new.lines.items c.loops.ensures.graph t s).1

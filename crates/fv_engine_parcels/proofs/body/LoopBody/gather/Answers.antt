@@ -24,15 +24,18 @@ loop-parcel-preserved c =
     let next : suc i ≡ i + 1 = omega arith in
     let inside : i < length ps = search (rules, c.loop-parcel-test.true) in
     let is : get_or ps i p ≡ p = sym c.parcel-item.is in
-    let key : p.start.value ≡ k = subst (λ (q : LoopParcel). q.start.value ≡ k) is (All-get_or (λ (q : LoopParcel). q.start.value ≡ k) ps i p inside c.requires.keys) in
+    let key : p.start.value ≡ k = subst (λ (q : LoopParcel). q.start.value ≡ k) is
+    (All-get_or (λ (q : LoopParcel). q.start.value ≡ k) ps i p inside c.requires.keys) in
     let pair : IsPairAt (tasks_in k) c.args.vector p.edge =
-    subst (λ (q : LoopParcel). IsPairAt (tasks_in k) c.args.vector q.edge) is (All-get_or (λ (q : LoopParcel). IsPairAt (tasks_in k) c.args.vector q.edge) ps i p inside c.requires.pairs) in
+    subst (λ (q : LoopParcel). IsPairAt (tasks_in k) c.args.vector q.edge) is
+    (All-get_or (λ (q : LoopParcel). IsPairAt (tasks_in k) c.args.vector q.edge) ps i p inside c.requires.pairs) in
     elim c.match-content.branch [
       | in-Seen w ↦
           let old : Vec Seen = c.loop-parcel.seen in
           let more : Vec Seen = w.in-Seen.list in
           let own : List ℕ = own_lanes k.plan.now (source_by (tasks_in k) p.edge) in
-          let named : AreSeenOf p.start.value (own_lanes p.start.value.plan.now (source_by (tasks_in p.start.value) p.edge)) (p.edge / stride (tasks_in p.start.value) + 1) more.items =
+          let named : AreSeenOf p.start.value (own_lanes p.start.value.plan.now (source_by (tasks_in p.start.value) p.edge))
+          (p.edge / stride (tasks_in p.start.value) + 1) more.items =
           (c.content.ensures.seen more w.in-Seen.is).1 in
           let here : AreSeenOf k own (p.edge / stride (tasks_in k) + 1) more.items =
           subst (λ (s : Start). AreSeenOf s (own_lanes s.plan.now (source_by (tasks_in s) p.edge)) (p.edge / stride (tasks_in s) + 1) more.items) key named in
@@ -49,7 +52,8 @@ loop-parcel-preserved c =
             ap length lanes,
             length-append (lanes_of_parcels k (take i ps)) own,
           ) in
-          let ok : is_ok w.extend_from_slice.result ≡ true = w.extend_from_slice.ensures.succeeds (omega (arith, fits, old.ok, ap length w.as_slice.ensures.value)) in
+          let ok : is_ok w.extend_from_slice.result ≡ true = w.extend_from_slice.ensures.succeeds
+          (omega (arith, fits, old.ok, ap length w.as_slice.ensures.value)) in
           let items : c.match-content.seen.items ≡ old.items ++ more.items =
           ap (λ (v : Vec Seen). v.items) w.seen-is ∙ w.extend_from_slice.ensures.items ∙ cond-true (is_ok w.extend_from_slice.result) _ _ ok
           ∙ ap (λ (xs : List Seen). old.items ++ xs) w.as_slice.ensures.value in

@@ -24,11 +24,13 @@ run-requires-clause-may c =
     let from : c.from.result * c.from-2.result ≡ upto k v = at ∙ sym (starts_at v k.vector k.frames c.requires.inside) in
     let count : c.min-count.result ≡ upto k (suc v) - upto k v =
     c.min-count.ensures ∙ ap₂ min c.from-3.ensures (ap₂ (λ (a b : ℕ). a - b) c.from-4.ensures at) ∙ sym (window_is v k.vector k.frames c.requires.inside) in
-    subst (λ (steps : List Step). MayRun steps (argument k.held.now) (frame_of k.input.now k.channels) (c.from.result * c.from-2.result) c.min-count.result (lanes_alone lanes))
+    subst (λ (steps : List Step). MayRun steps (argument k.held.now) (frame_of k.input.now k.channels)
+    (c.from.result * c.from-2.result) c.min-count.result (lanes_alone lanes))
     (sym c.code-code.ensures)
     (subst (λ (x : ℕ). MayRun code (argument k.held.now) (frame_of k.input.now k.channels) x c.min-count.result (lanes_alone lanes)) (sym from)
     (subst (λ (y : ℕ). MayRun code (argument k.held.now) (frame_of k.input.now k.channels) (upto k v) y (lanes_alone lanes)) (sym count)
-    (may_run_merely (record { tasks = c.tasks_are_done.ensures; numbers = c.renumbered_code_obeys.ensures }) k c.args.task.loop_no v c.requires.real code lanes c.requires.known c.requires.before)))
+    (may_run_merely (record { tasks = c.tasks_are_done.ensures; numbers = c.renumbered_code_obeys.ensures }) k c.args.task.loop_no v
+    c.requires.real code lanes c.requires.known c.requires.before)))
 
 pub returns-clause-after : goal.returns-clause-after
 returns-clause-after c =
@@ -40,12 +42,15 @@ returns-clause-after c =
     let from : c.from.result * c.from-2.result ≡ upto k v = at ∙ sym (starts_at v k.vector k.frames c.requires.inside) in
     let count : c.min-count.result ≡ upto k (suc v) - upto k v =
     c.min-count.ensures ∙ ap₂ min c.from-3.ensures (ap₂ (λ (a b : ℕ). a - b) c.from-4.ensures at) ∙ sym (window_is v k.vector k.frames c.requires.inside) in
-    let is : lanes_in c.run.new.store ≡ (ran code (argument k.held.now) (frame_of k.input.now k.channels) (upto k v) (upto k (suc v) - upto k v) (lanes_alone lanes)).lanes =
+    let is : lanes_in c.run.new.store ≡
+    (ran code (argument k.held.now) (frame_of k.input.now k.channels) (upto k v) (upto k (suc v) - upto k v) (lanes_alone lanes)).lanes =
     ap (λ (s : State). s.lanes) c.run.ensures.state
-    ∙ ap (λ (steps : List Step). (ran steps (argument k.held.now) (frame_of k.input.now k.channels) (c.from.result * c.from-2.result) c.min-count.result (lanes_alone lanes)).lanes) c.code-code.ensures
+    ∙ ap (λ (steps : List Step). (ran steps (argument k.held.now) (frame_of k.input.now k.channels)
+    (c.from.result * c.from-2.result) c.min-count.result (lanes_alone lanes)).lanes) c.code-code.ensures
     ∙ ap₂ (λ (x y : ℕ). (ran code (argument k.held.now) (frame_of k.input.now k.channels) x y (lanes_alone lanes)).lanes) from count in
     subst (λ (ls : List Lane). After k c.args.task.loop_no v ls) (sym is)
-    (own_after_merely (record { tasks = c.tasks_are_done.ensures; numbers = c.renumbered_code_obeys.ensures }) k c.args.task.loop_no v code lanes c.requires.known c.requires.before)
+    (own_after_merely (record { tasks = c.tasks_are_done.ensures; numbers = c.renumbered_code_obeys.ensures }) k c.args.task.loop_no v code
+    lanes c.requires.known c.requires.before)
 
 pub run-requires-clause-input : goal.run-requires-clause-input
 run-requires-clause-input c = λ i named.

@@ -1,4 +1,5 @@
-use Rattle.std.proofs.Common.{◌≡◌, ℕ, suc, ◌+◌, ◌-◌, ◌*◌, ◌<◌, List, [], ◌∷◌, length, map, get_or, subst, sym, ap, ap₂, ◌∙◌, arith, vec_capacity, slice_index_or}
+use Rattle.std.proofs.Common.{◌≡◌, ℕ, suc, ◌+◌, ◌-◌, ◌*◌, ◌<◌, List, [], ◌∷◌}
+use Rattle.std.proofs.Common.{length, map, get_or, subst, sym, ap, ap₂, ◌∙◌, arith, vec_capacity, slice_index_or}
 use Rattle.std.specs.Prelude.{All, ◌==◌, reverse}
 use Rattle.std.specs.Coded.{le_prop}
 use Rattle.std.proofs.Math.Logic.{∥∥₁_elim, ∥∥₁_map}
@@ -156,7 +157,8 @@ hand-requires-clause-pairs c =
     let v : ℕ = c.args.task.vector in
     let number : c.from.result * c.loops.result + j ≡ task_at (tasks_in k) j v = ap₂ (λ (a b : ℕ). a * b + j) c.from.ensures c.loops.ensures.value in
     let out : c.outward.result.now
-    ≡ chain_edge (tasks_in k) j (v + 1) ∷ map (λ (i : ℕ). pair_edge (tasks_in k) i v) (passing (λ i. (pair_at (tasks_in k) i).source == j) 0 (length (tasks_in k).reads)) =
+    ≡ chain_edge (tasks_in k) j (v + 1) ∷ map (λ (i : ℕ). pair_edge (tasks_in k) i v)
+    (passing (λ i. (pair_at (tasks_in k) i).source == j) 0 (length (tasks_in k).reads)) =
     c.outward.ensures ∙ ap (outward (tasks_in k)) number ∙ outward_is (tasks_in k) j v c.requires.task.0 in
     λ i some m. subst (λ (l : List ℕ). IsPairFrom (tasks_in k) j v (get_or l i 0)) (sym out)
     (pairs_out (tasks_in k) j v (chain_edge (tasks_in k) j (v + 1)) i some (subst (λ (l : List ℕ). i < length l) out m))
@@ -187,7 +189,8 @@ hand-requires-clause-writers c =
     ap (λ (w : Writers). w.lists) c.deref_mut-3.ensures.value ∙ c.run_code.ensures.lists ∙ ap (λ (w : Writers). w.lists) c.deref_mut-2.ensures.value in
     let next : suc v ≡ v + 1 = omega arith in
     let after : AreWritersOf k own (suc v) c.run_code.new.writers.lanes.own.items =
-    after_of k j v c.deref_mut.result.now.lanes.own.items c.run_code.new.writers.lanes.own.items c.run_code.new.writers.lanes.seen.items c.args.self.now.real now.writers
+    after_of k j v c.deref_mut.result.now.lanes.own.items c.run_code.new.writers.lanes.own.items c.run_code.new.writers.lanes.seen.items
+    c.args.self.now.real now.writers
     (ap (λ (r : LanesRest). r.own) c.run_code.ensures.kept ∙ ap (λ (w : Writers). map rest_of_writer w.lanes.own.items) c.deref_mut-2.ensures.value)
     c.run_code.ensures.after in
     record {
@@ -205,7 +208,8 @@ hand-requires-clause-writers c =
       );
       regs = ap (λ (w : Writers). length w.regs.items) c.deref_mut-3.ensures.value ∙ c.run_code.ensures.regs
           ∙ ap (λ (w : Writers). length w.regs.items) c.deref_mut-2.ensures.value ∙ now.regs;
-      lists = omega (arith, now.lists, step, ap length out, length-map ks (λ (i : ℕ). pair_edge (tasks_in k) i v), ap (λ (l : Vec (Vec Seen)). length l.items) lists);
+      lists = omega
+          (arith, now.lists, step, ap length out, length-map ks (λ (i : ℕ). pair_edge (tasks_in k) i v), ap (λ (l : Vec (Vec Seen)). length l.items) lists);
       roomy = subst (λ (l : Vec (Vec Seen)). AreRoomy l.items (length own)) (sym lists) now.roomy;
     }
 
