@@ -12,8 +12,9 @@ use Rattle.fv_top_report.specs.declared.status.Tally.{Tally}
 use Rattle.fv_top_report.specs.declared.status.Status.TheVariants.{Done, Refused}
 use Rattle.fv_top_text.specs.Program.{TextIs, IsRefusedText, IsOneText}
 use Rattle.fv_top_text.specs.Compiled.{Compiled}
+use Rattle.fv_top_words.specs.declared.manner.InputKind.{InputKind}
 use Rattle.fv_top.specs.Sources.{Source, found, script_of, source_of}
-use Rattle.fv_top.specs.Output.{format_of, cut_in}
+use Rattle.fv_top.specs.Output.{coding_of, format_of, cut_in}
 use Rattle.fv_top.specs.Loading.{HasScript, HasInput}
 use Rattle.fv_top.specs.Steps.{Ends, Rules, IsJudge}
 use Rattle.fv_top.specs.Promise.{Asks, HasProgram, HasNoProgram, Plays, IsWhole, Step, ReadProgram, ReadScript, ReadHead, Fit, ReadSamples, Write, Tell}
@@ -52,19 +53,21 @@ one_script : {name : Option (List ℕ)} {files : List File} {cs ds : List Contro
 one_script {name} {files} {cs} {ds} same p q =
     sym p.is ∙ ap (λ w. script_of cs w) (one_found name files _ _ p.file q.file) ∙ ap (λ (w : List ControlInfo). script_of w q.bytes) same ∙ q.is
 
-one_input : {name : Option (List ℕ)} {files : List File} {a b : _} → HasInput name files a → HasInput name files b → a ≡ b
-one_input {name} {files} p q = sym p.is ∙ ap source_of (one_found name files _ _ p.file q.file) ∙ q.is
+one_input : {kind : InputKind} {name : Option (List ℕ)} {files : List File} {a b : _} → HasInput kind name files a → HasInput kind name files b → a ≡ b
+one_input {kind} {name} {files} p q = sym p.is ∙ ap (source_of kind) (one_found name files _ _ p.file q.file) ∙ q.is
 
-one_source : {name : Option (List ℕ)} {files : List File} {a b : Source} → HasInput name files (Ok a) → HasInput name files (Ok b) → a ≡ b
+one_source : {kind : InputKind} {name : Option (List ℕ)} {files : List File} {a b : Source} → HasInput kind name files (Ok a)
+    → HasInput kind name files (Ok b) → a ≡ b
 one_source p q = let e = one_input p q in cc
 
 -- the format of a program on an input
 one_format : (run : Run) (files : List File) → IsOneText → (p q : HasProgram run.program files) (s u : Source)
-    → HasInput run.input files (Ok s) → HasInput run.input files (Ok u)
-    → format_of run.settings p.compiled.diagram s.head ≡ format_of run.settings q.compiled.diagram u.head
+    → HasInput run.manner.input run.input files (Ok s) → HasInput run.manner.input run.input files (Ok u)
+    → format_of (coding_of run.manner.output) run.settings p.compiled.diagram s.head
+    ≡ format_of (coding_of run.manner.output) run.settings q.compiled.diagram u.head
 one_format run files once p q s u h k =
-    ap (λ (c : Compiled). format_of run.settings c.diagram s.head) (one_program run.program files once p q)
-    ∙ ap (λ (w : Source). format_of run.settings q.compiled.diagram w.head) (one_source h k)
+    ap (λ (c : Compiled). format_of (coding_of run.manner.output) run.settings c.diagram s.head) (one_program run.program files once p q)
+    ∙ ap (λ (w : Source). format_of (coding_of run.manner.output) run.settings q.compiled.diagram w.head) (one_source h k)
 
 -- two runs of the same files are cut short alike
 one_cut : (run : Run) (files : List File) → IsOneText → (p q : Plays run files) → cut_in p.format p.source ≡ cut_in q.format q.source

@@ -4,13 +4,15 @@ use Rattle.std.specs.Prelude.{flat_map}
 use Rattle.fv_base.specs.declared.role.Role.TheVariants.{Output}
 use Rattle.fv_outside.specs.Desk.{DeskState, Appends}
 use Rattle.fv_outside.proofs.States.{appends_then}
-use Rattle.fv_wav.specs.Samples.{head_bytes, sample_bytes}
+use Rattle.fv_pcm.specs.declared.coding.Coding.{Coding}
+use Rattle.fv_pcm.specs.Coded.{sample_bytes}
 use Rattle.fv_top_report.specs.Parts.{AppendsPart}
-use Rattle.fv_top.specs.Output.{file_of}
+use Rattle.fv_top.specs.Output.{head_in, file_of}
 use Rattle.fv_top_report.proofs.Parts.{part_before, part_behind}
 
 -- the pieces of a file: its head states a size, which is the one that is meant; the samples, as they are spelled; and the pad behind them
 pub record Pieces : Type 0 where
+  pub coding : Coding
   pub channels : ℕ
   pub rate : ℕ
   pub bits : ℕ
@@ -24,20 +26,20 @@ pub record Pieces : Type 0 where
 
 -- the pieces that are written, and the file that they are
 abbrev pub head_of : Pieces → List ℕ
-head_of f = head_bytes f.channels f.rate f.bits f.stated
+head_of f = head_in f.coding f.channels f.rate f.bits f.stated
 
 abbrev pub samples_of : Pieces → List ℕ
-samples_of f = flat_map (sample_bytes f.bits) f.spelling
+samples_of f = flat_map (sample_bytes f.coding f.bits) f.spelling
 
 abbrev pub whole_of : Pieces → List ℕ
-whole_of f = file_of f.channels f.rate f.bits f.size f.samples f.pad
+whole_of f = file_of f.coding f.channels f.rate f.bits f.size f.samples f.pad
 
 module _ (f : Pieces) where
   -- a file of the stated size is that of the size that was meant
   sized : (P : List ℕ → Type 0) → P (head_of f ++ (samples_of f ++ f.pad)) → P (whole_of f)
   sized P p =
-      subst (λ (m : ℕ). P (head_bytes f.channels f.rate f.bits m ++ (flat_map (sample_bytes f.bits) f.samples ++ f.pad))) f.same
-      (subst (λ (zs : List ℤ). P (head_of f ++ (flat_map (sample_bytes f.bits) zs ++ f.pad))) f.spelled p)
+      subst (λ (m : ℕ). P (head_in f.coding f.channels f.rate f.bits m ++ (flat_map (sample_bytes f.coding f.bits) f.samples ++ f.pad))) f.same
+      (subst (λ (zs : List ℤ). P (head_of f ++ (flat_map (sample_bytes f.coding f.bits) zs ++ f.pad))) f.spelled p)
 
   -- a part of the head
   pub head_part : {a b : DeskState} → AppendsPart Output (head_of f) a b → AppendsPart Output (whole_of f) a b

@@ -11,13 +11,13 @@ use Rattle.fv_control.specs.declared.script.Change.{Change}
 use Rattle.fv_engine_render.specs.Render.{RanWhole}
 use Rattle.fv_top_words.specs.Runs.{Run}
 use Rattle.fv_top_words.specs.Commands.{Playing}
-use Rattle.fv_wav.specs.declared.head.Head.{Head}
+use Rattle.fv_top.specs.declared.incoming.Incoming.{Incoming}
 use Rattle.fv_top_report.specs.declared.refusal.Refusal.{Refusal}
 use Rattle.fv_top_report.specs.declared.refusal.Refusal.TheVariants.{ReadFault, NoMemory}
 use Rattle.fv_top_text.specs.Program.{IsProgram}
 use Rattle.fv_top_text.specs.Compiled.{Compiled}
 use Rattle.fv_top.specs.Sources.{frames_of, data_of}
-use Rattle.fv_top.specs.Output.{OutputFormat, format_of, present_in}
+use Rattle.fv_top.specs.Output.{OutputFormat, coding_of, format_of, present_in}
 use Rattle.fv_top.specs.Loading.{ReadsFile, StopsSamples, IsFile, HasScript, HasInput, HasHead, IsPlaced, wanted, reading}
 use Rattle.fv_top.specs.Steps.{Ends, Halts, here, later, judged, want_of_memory}
 use Rattle.fv_top.specs.Promise.{IsReadBy, ReadProgram, ReadScript, ReadHead, Fit, ReadSamples, HasProgram, HasNoProgram, HasRefusal, Plays, Step, run_rules}
@@ -51,10 +51,10 @@ pub record AfterScript (run : Run) (p : Compiled) (changes : List Change) (a b :
   pub before : KeepsFaults a b
 
 -- and the head of the input
-pub record AfterHead (run : Run) (p : Compiled) (changes : List Change) (head : Option Head) (a b : DeskState) : Type 0 where
+pub record AfterHead (run : Run) (p : Compiled) (changes : List Change) (head : Option Incoming) (held : Option (List ℕ)) (a b : DeskState) : Type 0 where
   pub of : HasText run p a
   pub under : IsTrue a.tells → HasScript run.controls a.files p.controls (Ok changes)
-  pub on : IsTrue a.tells → HasHead run.input a.files head (b.left Input)
+  pub on : IsTrue a.tells → HasHead run.manner.input run.input a.files head held (b.left Input)
   pub reaches : Reaches (IsReadBy (Playing run)) (asked_before run) a b
   pub before : KeepsFaults a b
 
@@ -80,14 +80,15 @@ after_script {run} {p} {changes} w q steady says = record {
   before = λ r. steady r ∙ w.before r;
 }
 
-pub after_head : {run : Run} {p : Compiled} {changes : List Change} {head : Option Head} {a b c : DeskState} → AfterScript run p changes a b
-    → ReadsFile Input run.input b c → KeepsFaults b c → (IsTrue b.tells → HasHead run.input b.files head (c.left Input)) → AfterHead run p changes head a c
-after_head {run} {head = head} {c = c} w q steady says = record {
+pub after_head : {run : Run} {p : Compiled} {changes : List Change} {head : Option Incoming} {held : Option (List ℕ)} {a b c : DeskState}
+    → AfterScript run p changes a b → ReadsFile Input run.input b c → KeepsFaults b c
+    → (IsTrue b.tells → HasHead run.manner.input run.input b.files head held (c.left Input)) → AfterHead run p changes head held a c
+after_head {run} {head = head} {held = held} {c = c} w q steady says = record {
   of = w.of;
   under = w.under;
   on = λ t.
       let on = w.reaches.quiet.goes_on in
-      subst (λ (fs : List File). HasHead run.input fs head (c.left Input)) (on.files t) (says (told_before on t));
+      subst (λ (fs : List File). HasHead run.manner.input run.input fs head held (c.left Input)) (on.files t) (says (told_before on t));
   reaches = reaches_file {Reads = IsReadBy (Playing run)} {role = Input} (λ named. named) w.reaches q;
   before = λ r. steady r ∙ w.before r;
 }
@@ -120,16 +121,16 @@ stops_script {run} {p} {a} {b} {c} {e} w f =
     }
 
 pub stops_head : {run : Run} {p : Compiled} {changes : List Change} {a b c : DeskState} {e : Refusal} → AfterScript run p changes a b
-    → FailsToLoad Input run.input (HasRefusal ReadHead) (λ r. HasInput run.input b.files (Err r)) b c e → StopsBefore run a c e
+    → FailsToLoad Input run.input (HasRefusal ReadHead) (λ r. HasInput run.manner.input run.input b.files (Err r)) b c e → StopsBefore run a c e
 stops_head {run} {p} {changes} {a} {b} {c} {e} w f =
-    let P : Refusal → Type 0 = λ r. HasInput run.input b.files (Err r) in
+    let P : Refusal → Type 0 = λ r. HasInput run.manner.input run.input b.files (Err r) in
     let on = w.reaches.quiet.goes_on in
     record {
       asked = asked_before run;
       reaches = reaches_file {Reads = IsReadBy (Playing run)} {role = Input} (λ named. named) w.reaches f.reads;
       ends = later (has w.of) (later (λ t. (has w.of t, changes, w.under t))
           (here (loading_halts run ReadHead Input run.input P tt w.reaches (λ s. (refl, s)) (λ x. x)
-          (λ t r h. subst (λ (fs : List File). HasInput run.input fs (Err r)) (on.files t) h) f.stops)));
+          (λ t r h. subst (λ (fs : List File). HasInput run.manner.input run.input fs (Err r)) (on.files t) h) f.stops)));
       faults = load_faults a f (λ h. absurd cc) w.before;
     }
 
@@ -139,7 +140,8 @@ stops_head {run} {p} {changes} {a} {b} {c} {e} w f =
 abbrev pub KeepsUnread : Run → (b c : DeskState) → Type 0
 KeepsUnread run b c = IsTrue b.tells → (IsSome run.input → ⊥) → c.left Input ≡ b.left Input
 
-module _ {run : Run} {p : Compiled} {changes : List Change} {head : Option Head} {a b : DeskState} (w : AfterHead run p changes head a b) where
+module _ {run : Run} {p : Compiled} {changes : List Change} {head : Option Incoming} {held : Option (List ℕ)} {a b : DeskState}
+    (w : AfterHead run p changes head held a b) where
   -- the steps up to the head passed
   passed : (c : DeskState) (e : Refusal) (rest : List Step) (asked : List Request) → Ends (run_rules run a) a c (Fit ∷ rest) e asked
       → Ends (run_rules run a) a c (ReadProgram ∷ ReadScript ∷ ReadHead ∷ Fit ∷ rest) e
@@ -148,14 +150,16 @@ module _ {run : Run} {p : Compiled} {changes : List Change} {head : Option Head}
       later (has w.of) (later (λ t. (has w.of t, changes, w.under t)) (later (λ t. ((w.on t).source, (w.on t).input)) h))
 
   -- the format of what was read
-  pub format_is : (r : Result OutputFormat Refusal) → format_of run.settings p.diagram head ≡ r → (t : IsTrue a.tells)
-      → format_of run.settings p.diagram (w.on t).source.head ≡ r
-  format_is r is t = ap (λ (h : Option Head). format_of run.settings p.diagram h) (w.on t).is ∙ is
+  pub format_is : (r : Result OutputFormat Refusal) → format_of (coding_of run.manner.output) run.settings p.diagram head ≡ r → (t : IsTrue a.tells)
+      → format_of (coding_of run.manner.output) run.settings p.diagram (w.on t).source.head ≡ r
+  format_is r is t = ap (λ (h : Option Incoming). format_of (coding_of run.manner.output) run.settings p.diagram h) (w.on t).is ∙ is
 
   -- the format does not fit
-  pub stops_fit : (e : Refusal) → format_of run.settings p.diagram head ≡ Err e → StopsBefore run a b e
+  pub stops_fit : (e : Refusal) → format_of (coding_of run.manner.output) run.settings p.diagram head ≡ Err e → StopsBefore run a b e
   stops_fit e is =
-      let refused = judged (fit_kind run.settings p.diagram head e is) (λ t. (has w.of t, (w.on t).source, (w.on t).input, format_is (Err e) is t)) in
+      let refused =
+      judged (fit_kind (coding_of run.manner.output) run.settings p.diagram head e is)
+      (λ t. (has w.of t, (w.on t).source, (w.on t).input, format_is (Err e) is t)) in
       record {
         asked = to_read Program run.program ∷ (reading Controls run.controls ++ (reading Input run.input ++ []));
         reaches = reaches_on run a b w.reaches;
@@ -163,7 +167,7 @@ module _ {run : Run} {p : Compiled} {changes : List Change} {head : Option Head}
         faults = λ r other. w.before r;
       }
 
-  module _ (format : OutputFormat) (is : format_of run.settings p.diagram head ≡ Ok format) where
+  module _ (format : OutputFormat) (is : format_of (coding_of run.manner.output) run.settings p.diagram head ≡ Ok format) where
     -- it does
     abbrev pub plays : IsTrue a.tells → Plays run a.files
     plays t = record {
@@ -196,31 +200,33 @@ module _ {run : Run} {p : Compiled} {changes : List Change} {head : Option Head}
     stops_memory c q kept steady = stops_then c NoMemory q kept (want_of_memory tt) (λ r other. steady r ∙ w.before r)
 
     -- what is there of the samples is what the head wants
-    is_wanted : (raw : List ℕ) → (IsTrue b.tells → raw ≡ wanted head (b.left Input)) → (t : IsTrue a.tells)
+    is_wanted : (raw : List ℕ) → (IsTrue b.tells → raw ≡ wanted head held (b.left Input)) → (t : IsTrue a.tells)
         → raw ≡ data_of (w.on t).source.head (w.on t).source.bytes
     is_wanted raw got t =
         let h = w.on t in
-        got (told_before w.reaches.quiet.goes_on t) ∙ wanted_is head h.source (b.left Input) h.is h.behind
+        got (told_before w.reaches.quiet.goes_on t) ∙ wanted_is head held h.source (b.left Input) h.is h.behind
 
     -- what was made of the samples
-    pub ready_is : ForSome head IsPlaced → (raw : List ℕ) (r : Ready) → (IsTrue b.tells → raw ≡ wanted head (b.left Input))
+    pub ready_is : ForSome head IsPlaced → (raw : List ℕ) (r : Ready) → (IsTrue b.tells → raw ≡ wanted head held (b.left Input))
         → r ≡ made_of p changes head format raw → IsReady run a r
     ready_is ranges raw r got made = λ t.
         let h = w.on t in
         let q = plays t in
-        let same = made ∙ ap (λ (k : Option Head). made_of p changes k format raw) (sym h.is) in
-        let x = made_is a run a.files q raw r (λ k named. placed_in head h.source (b.left Input) k h.is h.behind ranges named) (is_wanted raw got t) same in
+        let same = made ∙ ap (λ (k : Option Incoming). made_of p changes k format raw) (sym h.is) in
+        let x =
+        made_is a run a.files q raw r (λ k named. placed_in head held h.source (b.left Input) k h.is h.behind ranges named) (is_wanted raw got t) same in
         (q, x.0, x.1, x.2)
 
     -- the blocks that ran are those of the frames that were read
-    pub ran_is : (raw : List ℕ) → (IsTrue b.tells → raw ≡ wanted head (b.left Input)) → {blocks loops runs : ℕ} {before after : Option Told}
+    pub ran_is : (raw : List ℕ) → (IsTrue b.tells → raw ≡ wanted head held (b.left Input)) → {blocks loops runs : ℕ} {before after : Option Told}
         → RanWhole p.diagram p.controls changes (sizes_of run.settings (length (frames_of format.frames head raw)))
         (record { blocks = blocks; loops = loops; loop_runs = runs }) before after
         → (x : AllRan (Playing run) a blocks loops runs before after) × (x.played.sizes.frames ≡ length (frames_of format.frames head raw))
     ran_is raw got ran =
         let there : (t : IsTrue a.tells) → length (present_in format (w.on t).source) ≡ length (frames_of format.frames head raw) = λ t.
         let h = w.on t in
-        ap length (ap (frames_of format.frames h.source.head) (sym (is_wanted raw got t)) ∙ ap (λ (k : Option Head). frames_of format.frames k raw) h.is) in (
+        ap length (ap (frames_of format.frames h.source.head) (sym (is_wanted raw got t))
+        ∙ ap (λ (k : Option Incoming). frames_of format.frames k raw) h.is) in (
           record {
             played = record { program = p; changes = changes; sizes = sizes_of run.settings (length (frames_of format.frames head raw)) };
             is = (refl, λ t. (plays t, refl, refl, there t));

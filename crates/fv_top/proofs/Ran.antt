@@ -15,10 +15,9 @@ use Rattle.fv_control.specs.Laws.{NeverFall, IsOfControls}
 use Rattle.fv_interval.specs.Delays.{AreAccepted}
 use Rattle.fv_eval.specs.Evaluated.{Evaluated}
 use Rattle.fv_engine_render.specs.Render.{CanRender, CanHave}
-use Rattle.fv_wav.specs.declared.head.Head.{Head}
-use Rattle.fv_wav.specs.Reading.{frame_size, unknown_size}
-use Rattle.fv_wav.specs.Samples.{whole_bytes}
-use Rattle.fv_wav.specs.Stopping.{IsHead}
+use Rattle.fv_top.specs.declared.incoming.Incoming.{Incoming}
+use Rattle.fv_pcm.specs.Sizes.{frame_size}
+use Rattle.fv_top.specs.Inputs.{IsIncoming, whole_bytes}
 use Rattle.fv_top_words.specs.Runs.{Settings, AreSound}
 use Rattle.fv_top_words.specs.declared.cause.Cause.{Cause}
 use Rattle.fv_top_words.specs.Commands.{Job, Playing, Checking, Making, job_in}
@@ -39,13 +38,13 @@ quotient_least long size some =
     omega arith
 
 -- 32 bits count the whole frames in no more bytes than a head states
-pub frames_small : (h : Head) (long : ℕ) → IsHead h → long ≤ whole_bytes h → long / frame_size h.channels h.bits < 2 ^ 32
+pub frames_small : (h : Incoming) (long : ℕ) → IsIncoming h → long ≤ whole_bytes h → long / frame_size h.channels h.bits < 2 ^ 32
 frames_small h long p most =
     let size = frame_size h.channels h.bits in
     let some : 0 < size = frame_some h p in
     let least = quotient_least long size (omega arith) in
     let whole = div-mul-le_self h.data_bytes size in
-    let stated : h.data_bytes < unknown_size = p.size in
+    let stated : h.data_bytes < 2 ^ 32 = p.size in
     omega arith
 
 -- where an input is not cut short, all its frames are there
@@ -53,7 +52,7 @@ test_by : (b : Bool) (k : ℕ) → (let r : Option ℕ = if b then None else Som
 test_by true k e = refl
 test_by false k e = absurd cc
 
-pub whole_frames : (head : Option Head) (stated : ℕ) (raw : List ℕ) → cut_at head stated raw ≡ None → length (frames_of stated head raw) ≡ stated
+pub whole_frames : (head : Option Incoming) (stated : ℕ) (raw : List ℕ) → cut_at head stated raw ≡ None → length (frames_of stated head raw) ≡ stated
 whole_frames None stated raw e = length_table {A = Frame} stated (λ t. [])
 whole_frames (Some h) stated raw e =
     eqb-true (length (frames_of stated (Some h) raw)) stated (test_by (length (frames_of stated (Some h) raw) == stated) (h.place + length raw) e)

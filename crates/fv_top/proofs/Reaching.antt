@@ -10,8 +10,9 @@ use Rattle.fv_outside.proofs.States.{quiet_self, quiet_then, some_quiet, told_be
 use Rattle.fv_diagram.specs.Diagram.{Diagram, inputs, outputs}
 use Rattle.fv_top_words.specs.Runs.{Run, Settings}
 use Rattle.fv_top_words.specs.Commands.{Playing}
-use Rattle.fv_wav.specs.declared.head.Head.{Head}
-use Rattle.fv_wav.specs.Samples.{data_size, data_limit}
+use Rattle.fv_top.specs.declared.incoming.Incoming.{Incoming}
+use Rattle.fv_pcm.specs.declared.coding.Coding.{Coding}
+use Rattle.fv_pcm.specs.Sizes.{data_size, data_limit}
 use Rattle.fv_top_report.specs.declared.refusal.Refusal.{Refusal}
 use Rattle.fv_top_report.specs.declared.refusal.Refusal.TheVariants.{ReadFault, Channels, FramesNeeded, OutputTooLong}
 use Rattle.fv_top.specs.Output.{OutputFormat, format_of, counted, channels_in, bits_in, frames_in}
@@ -54,9 +55,9 @@ reaches_taken p q kept = record {
 }
 
 -- where there is no head, no bytes were taken
-pub behind_kept : (head : Option Head) (old new : List ℕ) → new ≡ behind_wanted head old → (IsSome head → ⊥) → new ≡ old
-behind_kept None old new e none = e
-behind_kept (Some h) old new e none = absurd (none refl)
+pub behind_kept : (head : Option Incoming) (held : Option (List ℕ)) (old new : List ℕ) → new ≡ behind_wanted head held old → (IsSome head → ⊥) → new ≡ old
+behind_kept None held old new e none = e
+behind_kept (Some h) held old new e none = absurd (none refl)
 
 -- ---- why a step halts
 
@@ -83,7 +84,7 @@ loading_halts run s role name P {e = e} m p takes answers refuses (inr (inl h)) 
 loading_halts run s role name P {a = a} {c = c} w p takes answers refuses (inr (inr m)) = subst (Halts (run_rules run a) a c s) (sym m) (want_of_memory w)
 
 -- and so does what stops the samples
-pub samples_halt : (run : Run) {asked : List Request} (a b c : DeskState) (head : Option Head) (e : Refusal) → Reaches (IsReadBy (Playing run)) asked a b
+pub samples_halt : (run : Run) {asked : List Request} (a b c : DeskState) (head : Option Incoming) (e : Refusal) → Reaches (IsReadBy (Playing run)) asked a b
     → (IsSome head → IsSome run.input) → StopsSamples head b c e → Halts (run_rules run a) a c ReadSamples e
 samples_halt run a b c head e p named (inl h) =
     let on = p.quiet.goes_on in
@@ -102,7 +103,7 @@ load_faults {Kind = Kind} a f apart before =
       | inr (inr m) ↦ λ r other. f.steady (λ is. absurd cc) r ∙ before r
     ]
 
-pub samples_faults : (a b c : DeskState) (head : Option Head) (e : Refusal) → KeepsFaults a b → TakesSome Input b c
+pub samples_faults : (a b c : DeskState) (head : Option Incoming) (e : Refusal) → KeepsFaults a b → TakesSome Input b c
     → ((e ≡ ReadFault Input → ⊥) → KeepsFaults b c) → StopsSamples head b c e → CountsFaultOf e a c
 samples_faults a b c head e before q steady (inl h) = λ r other. q.takes.other_faults r (λ same. other (inl (h.0 ∙ ap ReadFault (sym same)))) ∙ before r
 samples_faults a b c head e before q steady (inr m) = λ r other. steady (λ is. absurd cc) r ∙ before r
@@ -114,9 +115,10 @@ kind_sized : (b : Bool) (a : OutputFormat) (n : ℕ) (e : Refusal)
 kind_sized true a n e is = absurd cc
 kind_sized false a n e is = let same : OutputTooLong n ≡ e = cc in subst (HasRefusal Fit) same refl
 
-kind_counted : (s : Settings) (d : Diagram) (head : Option Head) (frames : Option ℕ) (e : Refusal) → counted s d head frames ≡ Err e → HasRefusal Fit e
-kind_counted s d head None e is = let same : FramesNeeded ≡ e = cc in subst (HasRefusal Fit) same refl
-kind_counted s d head (Some n) e is = kind_sized (nat_le (data_size (outputs d) (bits_in s head) n) data_limit) _ _ e is
+kind_counted : (out : Coding) (s : Settings) (d : Diagram) (head : Option Incoming) (frames : Option ℕ) (e : Refusal) → counted out s d head frames ≡ Err e
+    → HasRefusal Fit e
+kind_counted out s d head None e is = let same : FramesNeeded ≡ e = cc in subst (HasRefusal Fit) same refl
+kind_counted out s d head (Some n) e is = kind_sized (nat_le (data_size (outputs d) (bits_in s head) n) data_limit) _ _ e is
 
 kind_chosen : (b : Bool) (r : Result OutputFormat Refusal) (have want : ℕ) (e : Refusal) → (r ≡ Err e → HasRefusal Fit e)
     → (if b then r else Err (Channels have want)) ≡ Err e → HasRefusal Fit e
@@ -124,10 +126,10 @@ kind_chosen true r have want e k is = k is
 kind_chosen false r have want e k is = let same : Channels have want ≡ e = cc in subst (HasRefusal Fit) same refl
 
 -- its refusals are those of its step
-pub fit_kind : (s : Settings) (d : Diagram) (head : Option Head) (e : Refusal) → format_of s d head ≡ Err e → HasRefusal Fit e
-fit_kind s d head e is =
+pub fit_kind : (out : Coding) (s : Settings) (d : Diagram) (head : Option Incoming) (e : Refusal) → format_of out s d head ≡ Err e → HasRefusal Fit e
+fit_kind out s d head e is =
     let frames = frames_in s head in
-    kind_chosen (channels_in head == inputs d) (counted s d head frames) (channels_in head) (inputs d) e (kind_counted s d head frames e) is
+    kind_chosen (channels_in head == inputs d) (counted out s d head frames) (channels_in head) (inputs d) e (kind_counted out s d head frames e) is
 
 -- nothing more is asked for by the steps that judge and compute
 pub reaches_on : (run : Run) (a b : DeskState) → Reaches (IsReadBy (Playing run)) (asked_before run) a b

@@ -14,13 +14,18 @@ use Rattle.fv_top_words.specs.declared.cause.Cause.{Cause}
 use Rattle.fv_top_words.specs.Runs.{Run}
 use Rattle.fv_top_words.specs.Commands.{Job, Playing, Checking, Making, job_in}
 use Rattle.fv_top_report.specs.declared.refusal.Refusal.{Refusal}
-use Rattle.fv_top_report.specs.declared.refusal.Refusal.TheVariants.{Usage, WriteFault, WaveTruncated, NoMemory}
+use Rattle.fv_top_report.specs.declared.refusal.Refusal.TheVariants.{Usage, WriteFault, NoMemory}
+use Rattle.fv_pcm.specs.declared.coding.Coding.{Coding}
+use Rattle.fv_pcm.specs.declared.coding.Coding.TheVariants as coding
+use Rattle.fv_top_words.specs.declared.manner.InputKind.{InputKind}
+use Rattle.fv_top.specs.Inputs.{truncated}
 use Rattle.fv_top_report.specs.Lines.{refused_line, done_line}
 use Rattle.fv_top_report.specs.Parts.{AppendsPart}
 use Rattle.fv_top.specs.Steps.{Rules, Turn, role_of, fault_of, reads, writes, Halts, fault, judged, want_of_memory, Ends, here, later}
 use Rattle.fv_top.specs.Loading.{HasInput, LeavesRest, reading}
 use Rattle.fv_top.specs.Promise.{Asks, Write, Tell, HasRoom, meant, run_rules, run_steps, rules_of, steps_of, CanDo, meant_of, HasCause, bad_words, of_job}
-use Rattle.fv_top.specs.Promise.{check_rules, check_steps, make_rules, make_steps, HasBegun, LeavesOutput, HasPlayedPresent, CutsShort, IsReadBy, IsRead, KeepsOthers}
+use Rattle.fv_top.specs.Promise.{HasRefusal, check_rules, check_steps, make_rules, make_steps, HasBegun, LeavesOutput, HasPlayedPresent}
+use Rattle.fv_top.specs.Promise.{CutsShort, IsReadBy, IsRead, KeepsOthers}
 use Rattle.fv_top.specs.inner.Running.{Reaches, Delivers, CannotWrite, LeavesPart, CountsFaultOf, Ready, IsReady, file_in, StopsBefore, Checks, StopsCheck, Makes}
 use Rattle.fv_top.specs.inner.Running.{StopsMake, steps_before, asked_before, EndsDone, Stopped, ReportsLine, EndsRefused}
 use Rattle.fv_top.proofs.Reaching.{reaches_nothing}
@@ -53,9 +58,9 @@ others_told on kept q = record {
 }
 
 -- and the input
-rest_told : {name : Option (List ℕ)} {files : List File} {line : List ℕ} {a b : DeskState} → IsTrue a.tells → Appends Report line a b
-    → LeavesRest name files (a.left Input) → LeavesRest name files (b.left Input)
-rest_told {name} {files} t q rest = subst (LeavesRest name files) (sym (q.left t Input)) rest
+rest_told : {kind : InputKind} {name : Option (List ℕ)} {files : List File} {line : List ℕ} {a b : DeskState} → IsTrue a.tells → Appends Report line a b
+    → LeavesRest kind name files (a.left Input) → LeavesRest kind name files (b.left Input)
+rest_told {kind} {name} {files} t q rest = subst (LeavesRest kind name files) (sym (q.left t Input)) rest
 
 -- what is asked for reads no more than the words ask for
 others_for : (words : List (List ℕ)) {job : Job} {a b : DeskState} → Asks words job → KeepsOthers (IsReadBy job) a b → KeepsOthers (IsRead words) a b
@@ -67,42 +72,69 @@ others_for words {job = job} asks kept = record {
 
 -- ---- an input that ends too early
 
-no_fault : (place : ℕ) (t : Turn) → WaveTruncated place ≡ fault_of t → ⊥
-no_fault place (reads role) is = absurd cc
-no_fault place (writes role) is = absurd cc
+no_fault : (c : Coding) (place : ℕ) (t : Turn) → truncated c place ≡ fault_of t → ⊥
+no_fault coding.Wave place (reads role) is = absurd cc
+no_fault coding.Wave place (writes role) is = absurd cc
+no_fault coding.Au place (reads role) is = absurd cc
+no_fault coding.Au place (writes role) is = absurd cc
 
-judged_cut : {S : Type 0} (k : Rules S) (a b : DeskState) (steps : List S) (e : Refusal) (place : ℕ) (asked : List Request) → e ≡ WaveTruncated place
-    → Ends k a b steps e asked → OfSome (Judges k (WaveTruncated place)) steps
-judged_cut k a b steps e place asked is h =
-    judged_in k a b steps (WaveTruncated place) asked (no_fault place) (λ m. absurd cc) (subst (λ (r : Refusal). Ends k a b steps r asked) is h)
+no_want : (c : Coding) (place : ℕ) → truncated c place ≡ NoMemory → ⊥
+no_want coding.Wave place is = absurd cc
+no_want coding.Au place is = absurd cc
+
+no_usage : (c : Coding) (place : ℕ) (cause : Cause) → Usage cause ≡ truncated c place → ⊥
+no_usage coding.Wave place cause is = absurd cc
+no_usage coding.Au place cause is = absurd cc
+
+written_cut : (c : Coding) (place : ℕ) → HasRefusal Write (truncated c place)
+written_cut coding.Wave place = refl
+written_cut coding.Au place = refl
+
+judged_cut : {S : Type 0} (k : Rules S) (a b : DeskState) (steps : List S) (e : Refusal) (c : Coding) (place : ℕ) (asked : List Request)
+    → e ≡ truncated c place → Ends k a b steps e asked → OfSome (Judges k (truncated c place)) steps
+judged_cut k a b steps e c place asked is h =
+    judged_in k a b steps (truncated c place) asked (no_fault c place) (no_want c place) (subst (λ (r : Refusal). Ends k a b steps r asked) is h)
 
 -- before anything is written, of its steps only that of the head judges it so
-head_judged : (run : Run) (a : DeskState) (place : ℕ) → IsTrue a.tells → OfSome (Judges (run_rules run a) (WaveTruncated place)) steps_before
-    → HasInput run.input a.files (Err (WaveTruncated place))
-head_judged run a place t (inl h) = let no = h.0 in absurd cc
-head_judged run a place t (inr (inl h)) = let no = h.0 in absurd cc
-head_judged run a place t (inr (inr (inl h))) = h.1 t
-head_judged run a place t (inr (inr (inr (inl h)))) = let no = h.0 in absurd cc
-head_judged run a place t (inr (inr (inr (inr (inl h))))) = let no = h.0 in absurd cc
-head_judged run a place t (inr (inr (inr (inr (inr h))))) = absurd h
+head_judged : (run : Run) (a : DeskState) (c : Coding) (place : ℕ) → IsTrue a.tells → OfSome (Judges (run_rules run a) (truncated c place)) steps_before
+    → HasInput run.manner.input run.input a.files (Err (truncated c place))
+head_judged run a coding.Wave place t (inl h) = let no = h.0 in absurd cc
+head_judged run a coding.Wave place t (inr (inl h)) = let no = h.0 in absurd cc
+head_judged run a coding.Wave place t (inr (inr (inl h))) = h.1 t
+head_judged run a coding.Wave place t (inr (inr (inr (inl h)))) = let no = h.0 in absurd cc
+head_judged run a coding.Wave place t (inr (inr (inr (inr (inl h))))) = let no = h.0 in absurd cc
+head_judged run a coding.Wave place t (inr (inr (inr (inr (inr h))))) = absurd h
+head_judged run a coding.Au place t (inl h) = let no = h.0 in absurd cc
+head_judged run a coding.Au place t (inr (inl h)) = let no = h.0 in absurd cc
+head_judged run a coding.Au place t (inr (inr (inl h))) = h.1 t
+head_judged run a coding.Au place t (inr (inr (inr (inl h)))) = let no = h.0 in absurd cc
+head_judged run a coding.Au place t (inr (inr (inr (inr (inl h))))) = let no = h.0 in absurd cc
+head_judged run a coding.Au place t (inr (inr (inr (inr (inr h))))) = absurd h
 
-head_cut : (run : Run) (a b : DeskState) (e : Refusal) (place : ℕ) (asked : List Request) → e ≡ WaveTruncated place → IsTrue a.tells
-    → Ends (run_rules run a) a b steps_before e asked → HasInput run.input a.files (Err e)
-head_cut run a b e place asked is t h =
-    let head = head_judged run a place t (judged_cut (run_rules run a) a b steps_before e place asked is h) in
-    subst (λ (r : Refusal). HasInput run.input a.files (Err r)) (sym is) head
+head_cut : (run : Run) (a b : DeskState) (e : Refusal) (c : Coding) (place : ℕ) (asked : List Request) → e ≡ truncated c place → IsTrue a.tells
+    → Ends (run_rules run a) a b steps_before e asked → HasInput run.manner.input run.input a.files (Err e)
+head_cut run a b e c place asked is t h =
+    let head = head_judged run a c place t (judged_cut (run_rules run a) a b steps_before e c place asked is h) in
+    subst (λ (r : Refusal). HasInput run.manner.input run.input a.files (Err r)) (sym is) head
 
 -- a check reads no input
-check_judged : (name : List ℕ) (a : DeskState) (place : ℕ) → OfSome (Judges (check_rules name a) (WaveTruncated place)) check_steps → ⊥
-check_judged name a place (inl h) = let no = h.0 in absurd cc
-check_judged name a place (inr (inl h)) = let no = h.0 in absurd cc
-check_judged name a place (inr (inr h)) = h
+check_judged : (name : List ℕ) (a : DeskState) (c : Coding) (place : ℕ) → OfSome (Judges (check_rules name a) (truncated c place)) check_steps → ⊥
+check_judged name a coding.Wave place (inl h) = let no = h.0 in absurd cc
+check_judged name a coding.Wave place (inr (inl h)) = let no = h.0 in absurd cc
+check_judged name a coding.Wave place (inr (inr h)) = h
+check_judged name a coding.Au place (inl h) = let no = h.0 in absurd cc
+check_judged name a coding.Au place (inr (inl h)) = let no = h.0 in absurd cc
+check_judged name a coding.Au place (inr (inr h)) = h
 
 -- and neither does a make
-make_judged : (voices frames : ℕ) (a : DeskState) (place : ℕ) → OfSome (Judges (make_rules voices frames a) (WaveTruncated place)) make_steps → ⊥
-make_judged voices frames a place (inl h) = let no = h.0 in absurd cc
-make_judged voices frames a place (inr (inl h)) = let no = h.0 in absurd cc
-make_judged voices frames a place (inr (inr h)) = h
+make_judged : (voices frames : ℕ) (a : DeskState) (c : Coding) (place : ℕ)
+    → OfSome (Judges (make_rules voices frames a) (truncated c place)) make_steps → ⊥
+make_judged voices frames a coding.Wave place (inl h) = let no = h.0 in absurd cc
+make_judged voices frames a coding.Wave place (inr (inl h)) = let no = h.0 in absurd cc
+make_judged voices frames a coding.Wave place (inr (inr h)) = h
+make_judged voices frames a coding.Au place (inl h) = let no = h.0 in absurd cc
+make_judged voices frames a coding.Au place (inr (inl h)) = let no = h.0 in absurd cc
+make_judged voices frames a coding.Au place (inr (inr h)) = h
 
 -- ---- before anything is written
 
@@ -122,7 +154,9 @@ stopped_by words a b e asked p cause cut faults = record {
 
 -- the words are refused
 pub stopped_usage : (words : List (List ℕ)) (a : DeskState) (cause : Cause) → job_in words ≡ Err cause → Stopped words a a (Usage cause)
-stopped_usage words a cause is = stopped_by words a a (Usage cause) [] (reaches_nothing (IsRead words) a) (bad_words is) (λ place is. absurd cc) (λ r other. refl)
+stopped_usage words a cause is =
+    stopped_by words a a (Usage cause) [] (reaches_nothing (IsRead words) a) (bad_words is) (λ c place cut. absurd (no_usage c place cause cut))
+    (λ r other. refl)
 
 -- a step that reads cannot go on
 pub stopped_before : {words : List (List ℕ)} {run : Run} {a b : DeskState} {e : Refusal} → Asks words (Playing run) → StopsBefore run a b e
@@ -135,7 +169,8 @@ stopped_before {words} {run} {a} {b} {e} asks s =
       left = λ t x none. p.left t x (λ is. none (Playing run, asks, is));
     } in
     let ends = ends_more (run_rules run a) a b steps_before (Write ∷ Tell ∷ []) e s.asked s.ends in
-    stopped_by words a b e s.asked reaches (of_job (Playing run) asks ends) (λ place is t. (run, asks, inl (head_cut run a b e place s.asked is t s.ends)))
+    stopped_by words a b e s.asked reaches (of_job (Playing run) asks ends)
+    (λ c place is t. (run, asks, inl (head_cut run a b e c place s.asked is t s.ends)))
     s.faults
 
 -- ---- when the output is written
@@ -145,7 +180,7 @@ pub record Begins (words : List (List ℕ)) (run : Run) (r : Ready) (a b c : Des
   pub asks : Asks words (Playing run)
   pub reaches : Reaches (IsReadBy (Playing run)) (asked_before run) a b
   pub before : KeepsFaults a b
-  pub rest : IsTrue a.tells → LeavesRest run.input a.files (b.left Input)
+  pub rest : IsTrue a.tells → LeavesRest run.manner.input run.input a.files (b.left Input)
   pub ready : IsReady run a r
   pub delivers : Delivers run.output b c
 
@@ -195,8 +230,8 @@ module _ {words : List (List ℕ)} {run : Run} {r : Ready} {a b c : DeskState} (
   report_by : IsTrue a.tells → c.written Report ≡ a.written Report
   report_by t = w.delivers.written (told_by t) Report (λ e. absurd cc) ∙ w.reaches.quiet.written t Report
 
-  rest_by : IsTrue a.tells → LeavesRest run.input a.files (c.left Input)
-  rest_by t = subst (LeavesRest run.input a.files) (sym (w.delivers.left (told_by t) Input)) (w.rest t)
+  rest_by : IsTrue a.tells → LeavesRest run.manner.input run.input a.files (c.left Input)
+  rest_by t = subst (LeavesRest run.manner.input run.input a.files) (sym (w.delivers.left (told_by t) Input)) (w.rest t)
 
   part_by : (e : Refusal) → (e ≡ NoMemory → ⊥) → LeavesPart (file_in r) b c → LeavesOutput words e a c
   part_by e some (inl k) = inl (record {
@@ -232,7 +267,7 @@ module _ {words : List (List ℕ)} {run : Run} {r : Ready} {a b c : DeskState} (
           cannot.unsure (told_by t) (unfailing_later Output w.reaches.quiet.goes_on t sure.0, omega arith)))));
     };
     output = part_by (WriteFault Output) (λ m. absurd cc) part;
-    cut = λ place is. absurd cc;
+    cut = λ c place is. absurd (no_fault c place (writes Output) (sym is));
     begun = [];
     appended = λ t. report_by t ∙ sym (append-nil (a.written Report));
     is_begun = inl refl;
@@ -247,18 +282,18 @@ module _ {words : List (List ℕ)} {run : Run} {r : Ready} {a b c : DeskState} (
   whole_part = inr (w.begun, λ t. record { rest = []; is = sym (w.written t) ∙ sym (append-nil (c.written Output)) })
 
   -- it was, and the input ends too early
-  pub stopped_cut : (place : ℕ) → r.cut ≡ Some (WaveTruncated place) → Stopped words a c (WaveTruncated place)
-  stopped_cut place cut = record {
+  pub stopped_cut : (k : Coding) (place : ℕ) → r.cut ≡ Some (truncated k place) → Stopped words a c (truncated k place)
+  stopped_cut k place cut = record {
     goes_on = goes w.begins;
     others = others_by w.begins;
     cause = record {
       asked = asked_by run;
       requests = requests_by w.begins;
-      cause = of_job (Playing run) w.begins.asks (behind w.begins c (WaveTruncated place) (to_write Output run.output ∷ [])
-          (here (judged refl (λ t. let x = w.begins.ready t in (x.0, x.1 ∙ cut)))));
+      cause = of_job (Playing run) w.begins.asks (behind w.begins c (truncated k place) (to_write Output run.output ∷ [])
+          (here (judged (written_cut k place) (λ t. let x = w.begins.ready t in (x.0, x.1 ∙ cut)))));
     };
-    output = part_by w.begins (WaveTruncated place) (λ m. absurd cc) whole_part;
-    cut = λ at is t.
+    output = part_by w.begins (truncated k place) (no_want k place) whole_part;
+    cut = λ j at is t.
         let x = w.begins.ready t in
         (run, w.begins.asks, inr (record { begun = begun_by; plays = x.0; written = w.written (told_by w.begins t) ∙ x.3 }));
     begun = [];
@@ -308,7 +343,7 @@ module _ {words : List (List ℕ)} {run : Run} {r : Ready} {a b c : DeskState} (
                 let same = q.others (told_before on t) Output (λ e. absurd cc) ∙ w.written (told_by w.begins t) ∙ x.3 in
                 (x.0, record { rest = []; is = sym same ∙ sym (append-nil (d.written Output)) });
           });
-          cut = λ place is. absurd cc;
+          cut = λ c place is. absurd (no_fault c place (writes Report) (sym is));
           begun = part.0;
           appended = λ t. q.appended (told_before on t) ∙ ap (λ v. v ++ part.0) (report_by w.begins t);
           is_begun = inr (refl, (Playing run, w.begins.asks, begun_line));
@@ -358,7 +393,7 @@ stopped_check {words} {name} {a} {b} {e} asks s = record {
   others = others_for words asks s.others;
   cause = record { asked = to_read Program name ∷ []; requests = s.requests; cause = of_job (Checking name) asks s.ends };
   output = inl s.output;
-  cut = λ place is t. absurd (check_judged name a place (judged_cut (check_rules name a) a b check_steps e place _ is s.ends));
+  cut = λ c place is t. absurd (check_judged name a c place (judged_cut (check_rules name a) a b check_steps e c place _ is s.ends));
   begun = s.begun;
   appended = s.appended;
   is_begun = ⊎_elim inl (λ h. inr (h.0, (Checking name, asks, h.1))) s.is_begun;
@@ -389,7 +424,7 @@ stopped_make {words} {voices} {frames} {a} {b} {e} asks s = record {
   others = others_for words asks s.others;
   cause = record { asked = []; requests = s.requests; cause = of_job (Making voices frames) asks s.ends };
   output = inl s.output;
-  cut = λ place is t. absurd (make_judged voices frames a place (judged_cut (make_rules voices frames a) a b make_steps e place _ is s.ends));
+  cut = λ c place is t. absurd (make_judged voices frames a c place (judged_cut (make_rules voices frames a) a b make_steps e c place _ is s.ends));
   begun = s.begun;
   appended = s.appended;
   is_begun = ⊎_elim inl (λ h. inr (h.0, (Making voices frames, asks, h.1))) s.is_begun;
@@ -458,8 +493,8 @@ present_later t r k = record {
 
 cut_later : (words : List (List ℕ)) {line : List ℕ} {a b c : DeskState} (e : Refusal) → GoesOn a b → Appends Report line b c
     → CutsShort words e a b → CutsShort words e a c
-cut_later words e g r cut = λ place is t.
-    let x = cut place is t in
+cut_later words e g r cut = λ c place is t.
+    let x = cut c place is t in
     (x.0, x.1, ⊎_elim inl (λ k. inr (present_later (told_before g t) r k)) x.2)
 
 pub ends_refused : {words : List (List ℕ)} {a b c : DeskState} {e : Refusal} → Stopped words a b e → ReportsLine e b c → EndsRefused words a c e

@@ -1,5 +1,6 @@
 -- What loading of a file leaves of the desk, and why it stops.
-use Rattle.std.specs.Prelude.{◌≡◌, ◌≢◌, ◌⊎◌, ℕ, ◌+◌, ◌<◌, ◌≤◌, ◌^◌, IsTrue, IsSome, List, [], ◌∷◌, ◌++◌, length, take, drop, Option, Some, None, Result, Ok}
+use Rattle.std.specs.Prelude.{◌≡◌, ◌≢◌, ◌⊎◌, ℕ, ◌+◌, ◌<◌, ◌≤◌, ◌^◌, IsTrue, IsSome, List, [], ◌∷◌, ◌++◌, length, take, drop, Option}
+use Rattle.std.specs.Prelude.{Some, None, Result, Ok, Err, true, false}
 use Rattle.fv_base.specs.declared.role.Role.{Role}
 use Rattle.fv_base.specs.declared.role.Role.TheVariants.{Input}
 use Rattle.fv_outside.specs.Requests.{Request, to_read}
@@ -8,9 +9,10 @@ use Rattle.fv_outside.specs.declared.transfer.ReadError.{ReadError}
 use Rattle.fv_outside.specs.declared.transfer.ReadError.TheVariants.{Failed, NoMemory as OutOfMemory}
 use Rattle.fv_diagram.specs.declared.control.ControlInfo.{ControlInfo}
 use Rattle.fv_control.specs.declared.script.Change.{Change}
-use Rattle.fv_wav.specs.declared.head.Head.{Head}
-use Rattle.fv_wav.specs.Stopping.{IsHead, IsFaultOfInput}
-use Rattle.fv_wav.specs.Samples.{whole_bytes}
+use Rattle.fv_wav.specs.Stopping.{IsFaultOfInput}
+use Rattle.fv_top_words.specs.declared.manner.InputKind.{InputKind}
+use Rattle.fv_top.specs.declared.incoming.Incoming.{Incoming}
+use Rattle.fv_top.specs.Inputs.{IsIncoming, whole_bytes, read_bytes}
 use Rattle.fv_top.specs.Sources.{Source, found, script_of, source_of}
 use Rattle.fv_top_report.specs.declared.refusal.Refusal.{Refusal}
 use Rattle.fv_top_report.specs.declared.refusal.Refusal.TheVariants.{ReadFault, NoMemory}
@@ -60,49 +62,66 @@ pub record HasScript (name : Option (List ℕ)) (files : List File) (controls : 
   pub file : found files name ≡ Some bytes
   pub is : script_of controls bytes ≡ says
 
--- The input that may be named is this.
-pub record HasInput (name : Option (List ℕ)) (files : List File) (says : Result Source Refusal) : Type 0 where
+-- The input of this kind that may be named is this.
+pub record HasInput (kind : InputKind) (name : Option (List ℕ)) (files : List File) (says : Result Source Refusal) : Type 0 where
   pub bytes : Option (List ℕ)
   pub file : found files name ≡ Some bytes
-  pub is : source_of bytes ≡ says
+  pub is : source_of kind bytes ≡ says
 
--- where the head of a file was read, its samples are left
-abbrev pub IsLeft : Option Head → (bytes left : List ℕ) → Type 0
-IsLeft None bytes left = Unit {0}
-IsLeft (Some h) bytes left = (left ≡ drop h.place bytes) × (h.place ≤ length bytes)
+-- Where the head of a file was read, its samples are left, or they were read up to the file's end, and none is left.
+abbrev pub IsLeft : Option Incoming → (held : Option (List ℕ)) → (bytes left : List ℕ) → Type 0
+IsLeft None held bytes left = Unit {0}
+IsLeft (Some h) None bytes left = (h.is_open ≡ false) × (left ≡ drop h.place bytes) × (h.place ≤ length bytes)
+IsLeft (Some h) (Some held) bytes left =
+    (h.is_open ≡ true) × (held ≡ drop h.place bytes) × (h.place ≤ length bytes) × (h.data_bytes ≡ length held) × (left ≡ [])
 
--- the input that may be named has this head, and its samples are left
-pub record HasHead (name : Option (List ℕ)) (files : List File) (head : Option Head) (left : List ℕ) : Type 0 where
+-- what is said of an input has this head, and its samples are left or were read
+pub record GivesHead (says : Result Source Refusal) (head : Option Incoming) (held : Option (List ℕ)) (left : List ℕ) : Type 0 where
   pub source : Source
-  pub input : HasInput name files (Ok source)
+  pub says_so : says ≡ Ok source
   pub is : source.head ≡ head
-  pub behind : IsLeft head source.bytes left
+  pub behind : IsLeft head held source.bytes left
 
--- what is wanted of the bytes that are left
-abbrev pub wanted : Option Head → List ℕ → List ℕ
-wanted None left = []
-wanted (Some h) left = take (whole_bytes h) left
+-- the input that may be named has this head, and its samples are left or were read
+pub record HasHead (kind : InputKind) (name : Option (List ℕ)) (files : List File) (head : Option Incoming) (held : Option (List ℕ)) (left : List ℕ)
+    : Type 0 where
+  pub source : Source
+  pub input : HasInput kind name files (Ok source)
+  pub is : source.head ≡ head
+  pub behind : IsLeft head held source.bytes left
+
+-- what is wanted of the bytes that are left, or of those that were read
+abbrev pub wanted : Option Incoming → (held : Option (List ℕ)) → List ℕ → List ℕ
+wanted None held left = []
+wanted (Some h) None left = take (whole_bytes h) left
+wanted (Some h) (Some held) left = take (whole_bytes h) held
 
 -- and what is left behind it
-abbrev pub behind_wanted : Option Head → List ℕ → List ℕ
-behind_wanted None left = left
-behind_wanted (Some h) left = drop (whole_bytes h) left
+abbrev pub behind_wanted : Option Incoming → (held : Option (List ℕ)) → List ℕ → List ℕ
+behind_wanted None held left = left
+behind_wanted (Some h) None left = drop (whole_bytes h) left
+behind_wanted (Some h) (Some held) left = left
 
--- of a file with this head, what stands behind its whole frames is left
-abbrev pub IsRest : Option Head → (bytes left : List ℕ) → Type 0
+-- of a file with this head, what stands behind the samples that are read is left
+abbrev pub IsRest : Option Incoming → (bytes left : List ℕ) → Type 0
 IsRest None bytes left = Unit {0}
-IsRest (Some h) bytes left = left ≡ drop (h.place + whole_bytes h) bytes
+IsRest (Some h) bytes left = left ≡ drop (h.place + read_bytes h) bytes
 
--- Nothing was read of the input behind its whole frames.
-pub record LeavesRest (name : Option (List ℕ)) (files : List File) (left : List ℕ) : Type 0 where
+-- Nothing was read of the input behind its whole frames, or behind its samples where their size is not stated.
+pub record LeavesRest (kind : InputKind) (name : Option (List ℕ)) (files : List File) (left : List ℕ) : Type 0 where
   pub source : Source
-  pub input : HasInput name files (Ok source)
+  pub input : HasInput kind name files (Ok source)
   pub rest : IsRest source.head source.bytes left
 
 -- a head, and the place of its samples, which no sum of them and their bytes goes beyond
-abbrev pub IsPlaced : Head → Type 0
-IsPlaced h = IsHead h × (h.place < 2 ^ 45)
+abbrev pub IsPlaced : Incoming → Type 0
+IsPlaced h = IsIncoming h × (h.place < 2 ^ 45)
+
+-- the head of a file that was begun could not be read, or it is refused, by a refusal of this kind, or memory ran out
+abbrev pub StopsHead : (Kind : Refusal → Type 0) → (says : Result Source Refusal) → (old new : DeskState) → Refusal → Type 0
+StopsHead Kind says old new refusal =
+    ((refusal ≡ ReadFault Input) × IsFaultOfInput old new) ⊎ (Kind refusal × (IsTrue old.tells → says ≡ Err refusal)) ⊎ (refusal ≡ NoMemory)
 
 -- the samples of a head could not be read, or memory ran out
-abbrev pub StopsSamples : Option Head → (old new : DeskState) → Refusal → Type 0
+abbrev pub StopsSamples : Option Incoming → (old new : DeskState) → Refusal → Type 0
 StopsSamples head old new refusal = ((refusal ≡ ReadFault Input) × IsSome head × IsFaultOfInput old new) ⊎ (refusal ≡ NoMemory)

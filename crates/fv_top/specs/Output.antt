@@ -1,37 +1,46 @@
--- The output that a run makes: its format, which is its rate, its width and its length, and its file (RIFF WAVE 1991; this project's profile).
+-- The output that a run makes: its format, which is its rate, its width and its length, and its file (RIFF WAVE 1991; Sun audio; this project's profile).
 use Rattle.std.specs.Prelude.{ℕ, ◌==◌, nat_le, List, [], ◌++◌, length, flat_map, ℤ, Option, Some, None, Result, Ok, Err, unwrap_or, if◌then◌else◌}
 use Rattle.fv_num.specs.Frames.{Frame, Stream}
 use Rattle.fv_diagram.specs.Diagram.{Diagram, inputs, outputs}
 use Rattle.fv_diagram.specs.Streams.{run}
 use Rattle.fv_diagram.specs.Samples.{no_slots}
 use Rattle.fv_top_words.specs.Runs.{Settings}
-use Rattle.fv_wav.specs.declared.head.Head.{Head}
-use Rattle.fv_wav.specs.Samples.{head_bytes, sample_bytes, frame_bytes, pad_bytes, data_size, data_limit, stated_frames}
+use Rattle.fv_top_words.specs.declared.manner.OutputKind.{OutputKind}
+use Rattle.fv_top_words.specs.declared.manner.OutputKind.TheVariants as output
+use Rattle.fv_pcm.specs.declared.coding.Coding.{Coding}
+use Rattle.fv_pcm.specs.declared.coding.Coding.TheVariants as coding
+use Rattle.fv_pcm.specs.Coded.{sample_bytes, frame_bytes}
+use Rattle.fv_pcm.specs.Sizes.{data_size, data_limit}
+use Rattle.fv_wav.specs.Samples.{head_bytes, pad_bytes}
+use Rattle.fv_au.specs.Reading.{head_bytes as au_head_bytes}
 use Rattle.fv_top_report.specs.declared.refusal.Refusal.{Refusal}
-use Rattle.fv_top_report.specs.declared.refusal.Refusal.TheVariants.{Channels, OutputTooLong, FramesNeeded, WaveTruncated}
+use Rattle.fv_top_report.specs.declared.refusal.Refusal.TheVariants.{Channels, OutputTooLong, FramesNeeded}
+use Rattle.fv_top.specs.declared.incoming.Incoming.{Incoming}
+use Rattle.fv_top.specs.Inputs.{stated_frames, truncated, coding_in}
 use Rattle.fv_top.specs.Sources.{Source, data_of, frames_of}
 
--- the format of an output: frames a second, bits of a sample, and the number of frames
+-- the format of an output: how its samples are stored, frames a second, bits of a sample, and the number of frames
 pub record OutputFormat : Type 0 where
+  pub coding : Coding
   pub rate : ℕ
   pub bits : ℕ
   pub frames : ℕ
 
 -- no input has no channels
-abbrev pub channels_in : Option Head → ℕ
+abbrev pub channels_in : Option Incoming → ℕ
 channels_in None = 0
 channels_in (Some h) = h.channels
 
 -- without an input there are as many frames as are asked for
-abbrev pub frames_in : Settings → Option Head → Option ℕ
+abbrev pub frames_in : Settings → Option Incoming → Option ℕ
 frames_in s None = s.frames
 frames_in s (Some h) = Some (stated_frames h)
 
-abbrev pub rate_in : Settings → Option Head → ℕ
+abbrev pub rate_in : Settings → Option Incoming → ℕ
 rate_in s None = unwrap_or s.rate 44100
 rate_in s (Some h) = h.rate
 
-abbrev pub bits_in : Settings → Option Head → ℕ
+abbrev pub bits_in : Settings → Option Incoming → ℕ
 bits_in s None = unwrap_or s.bits 16
 bits_in s (Some h) = unwrap_or s.bits h.bits
 
@@ -40,14 +49,15 @@ abbrev pub sized : OutputFormat → (size : ℕ) → Result OutputFormat Refusal
 sized format size = if nat_le size data_limit then Ok format else Err (OutputTooLong size)
 
 -- a format of so many frames, each as wide as the diagram's outputs
-abbrev pub counted : Settings → Diagram → Option Head → Option ℕ → Result OutputFormat Refusal
-counted s d head None = Err FramesNeeded
-counted s d head (Some n) = sized (record { rate = rate_in s head; bits = bits_in s head; frames = n }) (data_size (outputs d) (bits_in s head) n)
+abbrev pub counted : Coding → Settings → Diagram → Option Incoming → Option ℕ → Result OutputFormat Refusal
+counted out s d head None = Err FramesNeeded
+counted out s d head (Some n) =
+    sized (record { coding = out; rate = rate_in s head; bits = bits_in s head; frames = n }) (data_size (outputs d) (bits_in s head) n)
 
--- The format of what a diagram makes on an input, or why it does not fit: first the channels, then the frames, then the bytes.
-abbrev pub format_of : Settings → Diagram → Option Head → Result OutputFormat Refusal
-format_of s d head =
-    if channels_in head == inputs d then counted s d head (frames_in s head) else Err (Channels (channels_in head) (inputs d))
+-- The format of what a diagram makes on an input, in this coding, or why it does not fit: first the channels, then the frames, then the bytes.
+abbrev pub format_of : Coding → Settings → Diagram → Option Incoming → Result OutputFormat Refusal
+format_of out s d head =
+    if channels_in head == inputs d then counted out s d head (frames_in s head) else Err (Channels (channels_in head) (inputs d))
 
 -- the frames of an input that are whole and present
 abbrev pub present_in : OutputFormat → Source → List Frame
@@ -55,16 +65,31 @@ present_in format source = frames_of format.frames source.head (data_of source.h
 
 -- an input of which some whole frame is missing
 abbrev pub cut_in : OutputFormat → Source → Option Refusal
-cut_in format source = if length (present_in format source) == format.frames then None else Some (WaveTruncated (length source.bytes))
+cut_in format source = if length (present_in format source) == format.frames then None else Some (truncated (coding_in source.head) (length source.bytes))
 
--- a file of these samples, of which so many bytes are stated; where all are there, a zero byte stands behind an odd number of them
-abbrev pub file_of : (channels rate bits size : ℕ) → (samples : List ℤ) → (pad : List ℕ) → List ℕ
-file_of channels rate bits size samples pad = head_bytes channels rate bits size ++ flat_map (sample_bytes bits) samples ++ pad
+-- the coding of an output of this kind
+abbrev pub coding_of : OutputKind → Coding
+coding_of output.Wave = coding.Wave
+coding_of output.Au = coding.Au
+
+-- the bytes before so many bytes of samples
+abbrev pub head_in : Coding → (channels rate bits size : ℕ) → List ℕ
+head_in coding.Wave channels rate bits size = head_bytes channels rate bits size
+head_in coding.Au channels rate bits size = au_head_bytes channels rate bits size
+
+-- those behind them: in a WAV file one zero byte behind an odd number
+abbrev pub pad_in : Coding → (size : ℕ) → List ℕ
+pad_in coding.Wave size = pad_bytes size
+pad_in coding.Au size = []
+
+-- a file of these samples, of which so many bytes are stated
+abbrev pub file_of : Coding → (channels rate bits size : ℕ) → (samples : List ℤ) → (pad : List ℕ) → List ℕ
+file_of c channels rate bits size samples pad = head_in c channels rate bits size ++ (flat_map (sample_bytes c bits) samples ++ pad)
 
 -- The output file of a diagram on the frames X, which are those that are there of the stated number: the head, the
--- answer's frames and, where all frames are there, a zero byte behind an odd number of bytes.
+-- answer's frames and, where all frames are there, what stands behind their bytes.
 abbrev pub output_file : Diagram → (c : ℕ → Stream) → OutputFormat → (X : List Frame) → List ℕ
 output_file d c format X =
     let size = data_size (outputs d) format.bits format.frames in
-    head_bytes (outputs d) format.rate format.bits size ++ flat_map (frame_bytes format.bits) (run d c no_slots X)
-    ++ (if length X == format.frames then pad_bytes size else [])
+    head_in format.coding (outputs d) format.rate format.bits size
+    ++ (flat_map (frame_bytes format.coding format.bits) (run d c no_slots X) ++ (if length X == format.frames then pad_in format.coding size else []))

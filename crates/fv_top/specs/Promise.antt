@@ -14,14 +14,16 @@ use Rattle.fv_top_words.specs.Runs.{Run}
 use Rattle.fv_top_words.specs.Commands.{Job, Playing, Checking, Making, job_in}
 use Rattle.fv_top_report.specs.declared.status.Tally.{Tally}
 use Rattle.fv_top_report.specs.declared.refusal.Refusal.{Refusal}
-use Rattle.fv_top_report.specs.declared.refusal.Refusal.TheVariants.{Usage, ReadFault, WriteFault, WaveTruncated, NoMemory}
+use Rattle.fv_top_report.specs.declared.refusal.Refusal.TheVariants.{Usage, ReadFault, WriteFault, NoMemory}
 use Rattle.fv_top_report.specs.declared.status.Status.{Status}
 use Rattle.fv_top_report.specs.declared.status.Status.TheVariants.{Done, Refused}
 use Rattle.fv_top_text.specs.Program.{IsProgram, IsRefusedText, is_of_program}
 use Rattle.fv_engine_render.specs.Render.{initial_of}
 use Rattle.fv_top_text.specs.Compiled.{Compiled}
 use Rattle.fv_top.specs.Sources.{Source}
-use Rattle.fv_top.specs.Output.{OutputFormat, format_of, present_in, cut_in}
+use Rattle.fv_top.specs.Output.{OutputFormat, coding_of, format_of, present_in, cut_in}
+use Rattle.fv_top.specs.Inputs.{truncated}
+use Rattle.fv_pcm.specs.declared.coding.Coding.{Coding}
 use Rattle.fv_top.specs.Loading.{HasScript, HasInput, LeavesRest, IsThere, reading}
 use Rattle.fv_top.specs.Meant.{Meant, run_meant, check_meant, make_meant, written_by}
 use Rattle.fv_top_report.specs.Lines.{row_of, refused_line}
@@ -54,9 +56,9 @@ pub record Plays (run : Run) (files : List File) : Type 0 where
   pub changes : List Change
   pub under : HasScript run.controls files of.compiled.controls (Ok changes)
   pub source : Source
-  pub on : HasInput run.input files (Ok source)
+  pub on : HasInput run.manner.input run.input files (Ok source)
   pub format : OutputFormat
-  pub fits : format_of run.settings of.compiled.diagram source.head ≡ Ok format
+  pub fits : format_of (coding_of run.manner.output) run.settings of.compiled.diagram source.head ≡ Ok format
 
 -- what it means that they are played
 abbrev pub meant : {run : Run} {files : List File} → Plays run files → Meant
@@ -126,10 +128,10 @@ IsAnswered run old Tell t = IsUnfailing Report old × HasRoom run old Report
 abbrev pub is_of_step : Step → ℕ → Bool
 is_of_step ReadProgram n = is_of_program n
 is_of_step ReadScript n = (n == 4) || (nat_le 30 n && nat_le n 33)
-is_of_step ReadHead n = nat_le 34 n && nat_le n 37
+is_of_step ReadHead n = (nat_le 34 n && nat_le n 37) || (n == 44) || (n == 45)
 is_of_step Fit n = (n == 29) || (n == 38) || (n == 39)
 is_of_step ReadSamples n = false
-is_of_step Write n = n == 35
+is_of_step Write n = (n == 35) || (n == 45)
 is_of_step Tell n = false
 
 abbrev pub HasRefusal : Step → Refusal → Type 0
@@ -149,7 +151,7 @@ WantsMemory Tell = ⊥
 abbrev pub StepPasses : Run → List File → Step → Type 0
 StepPasses run files ReadProgram = HasProgram run.program files
 StepPasses run files ReadScript = (p : HasProgram run.program files) × (changes : List Change) × HasScript run.controls files p.compiled.controls (Ok changes)
-StepPasses run files ReadHead = (source : Source) × HasInput run.input files (Ok source)
+StepPasses run files ReadHead = (source : Source) × HasInput run.manner.input run.input files (Ok source)
 StepPasses run files Fit = Plays run files
 StepPasses run files ReadSamples = Unit {0}
 StepPasses run files Write = (p : Plays run files) × IsWhole p
@@ -159,10 +161,10 @@ StepPasses run files Tell = Unit {0}
 abbrev pub StepRefuses : Run → List File → Step → Refusal → Type 0
 StepRefuses run files ReadProgram refusal = HasNoProgram run.program files refusal
 StepRefuses run files ReadScript refusal = (p : HasProgram run.program files) × HasScript run.controls files p.compiled.controls (Err refusal)
-StepRefuses run files ReadHead refusal = HasInput run.input files (Err refusal)
+StepRefuses run files ReadHead refusal = HasInput run.manner.input run.input files (Err refusal)
 StepRefuses run files Fit refusal =
-    (p : HasProgram run.program files) × (source : Source) × HasInput run.input files (Ok source)
-    × (format_of run.settings p.compiled.diagram source.head ≡ Err refusal)
+    (p : HasProgram run.program files) × (source : Source) × HasInput run.manner.input run.input files (Ok source)
+    × (format_of (coding_of run.manner.output) run.settings p.compiled.diagram source.head ≡ Err refusal)
 StepRefuses run files ReadSamples refusal = ⊥
 StepRefuses run files Write refusal = (p : Plays run files) × (cut_in p.format p.source ≡ Some refusal)
 StepRefuses run files Tell refusal = ⊥
@@ -322,7 +324,7 @@ BeginsOutput (Making voices frames) old new = new.begins Output ≡ old.begins O
 
 -- of the input of a run nothing was read behind its whole frames
 abbrev pub LeavesRestOf : Job → (old new : DeskState) → Type 0
-LeavesRestOf (Playing run) old new = LeavesRest run.input old.files (new.left Input)
+LeavesRestOf (Playing run) old new = LeavesRest run.manner.input run.input old.files (new.left Input)
 LeavesRestOf (Checking name) old new = Unit {0}
 LeavesRestOf (Making voices frames) old new = Unit {0}
 
@@ -344,7 +346,7 @@ pub record HasPlayedPart (words : List (List ℕ)) (refusal : Refusal) (old new 
   pub asks : Asks words (Playing run)
   pub begun : HasBegun old new
   pub memory : refusal ≡ NoMemory → ⊥
-  pub rest : IsTrue old.tells → LeavesRest run.input old.files (new.left Input)
+  pub rest : IsTrue old.tells → LeavesRest run.manner.input run.input old.files (new.left Input)
   pub told : IsTrue old.tells → (p : Plays run old.files) × IsPrefixOf (new.written Output) (written_by (meant p) old Output)
 
 -- Writing of the output did not begin, and what was written of it before still stands.
@@ -365,8 +367,8 @@ pub record HasPlayedPresent (run : Run) (old new : DeskState) : Type 0 where
 -- Where the input ends too early, its head does not say all, or the frames that are present were played.
 abbrev pub CutsShort : (words : List (List ℕ)) → Refusal → (old new : DeskState) → Type 0
 CutsShort words refusal old new =
-    (place : ℕ) → refusal ≡ WaveTruncated place → IsTrue old.tells
-    → (run : Run) × Asks words (Playing run) × (HasInput run.input old.files (Err refusal) ⊎ HasPlayedPresent run old new)
+    (c : Coding) (place : ℕ) → refusal ≡ truncated c place → IsTrue old.tells
+    → (run : Run) × Asks words (Playing run) × (HasInput run.manner.input run.input old.files (Err refusal) ⊎ HasPlayedPresent run old new)
 
 -- the roles that are read for what is asked for: files that it names
 abbrev pub IsReadBy : Job → Role → Type 0

@@ -1,3 +1,4 @@
 pub mod Formats
+pub mod Loaded
 pub mod Prepared
 pub mod Running

@@ -5,21 +5,24 @@ ghost use Rattle.std.specs.Option.{ForSome};
 ghost use Rattle.fv_num.specs.Words.{is_sample_width};
 ghost use Rattle.fv_diagram.specs.Diagram.{inputs, outputs};
 ghost use Rattle.fv_top_words.specs.Views.{settings_in};
-ghost use Rattle.fv_wav.specs.Stopping.{IsHead};
-ghost use Rattle.fv_wav.specs.Samples.{data_size, data_limit};
+ghost use Rattle.fv_pcm.specs.Sizes.{data_size, data_limit};
 ghost use Rattle.fv_top_text.specs.Compiled.{compiled_of, CanPlay};
-ghost use Rattle.fv_top.specs.Output.{format_of, channels_in, rate_in, bits_in, frames_in};
+ghost use Rattle.fv_top.specs.Inputs.{IsIncoming};
+ghost use Rattle.fv_top.specs.Output.{coding_of, format_of, channels_in, rate_in, bits_in, frames_in};
 ghost use Rattle.fv_top.specs.inner.Formats.{format_answered};
 
 use crate::frames::frame_size;
+use crate::incoming::Incoming;
 use fv_eval::Program;
+use fv_pcm::{Coding, data_length};
 use fv_top_report::Refusal;
-use fv_top_words::Settings;
-use fv_wav::{Head, data_length};
+use fv_top_words::{OutputKind, Settings};
 
 /// The format of an output.
 #[derive(Clone, Copy)]
 pub struct OutputFormat {
+    /// How its samples are stored.
+    pub coding: Coding,
     /// Frames a second.
     pub rate: u32,
     /// Bits of a sample.
@@ -36,15 +39,16 @@ const USUAL_RATE: u32 = 44100;
 /// The bits of a sample where neither an input nor a word says so.
 const USUAL_BITS: u32 = 16;
 
-/// The format of the output that a program makes on an input with this head, or why it does not fit.
+/// The format of the output of this kind that a program makes on an input with this head, or why it does not fit.
 pub fn fit(
     program: &Program,
-    head: Option<Head>,
+    head: Option<Incoming>,
     settings: &Settings,
+    output: OutputKind,
 ) -> Result<OutputFormat, Refusal>
     requires plays { CanPlay program.now }
-    requires head { ForSome head IsHead }
-    ensures format { format_answered result ≡ format_of (settings_in settings.now) (compiled_of program.now).diagram head }
+    requires head { ForSome head IsIncoming }
+    ensures format { format_answered result ≡ format_of (coding_of output) (settings_in settings.now) (compiled_of program.now).diagram head }
     ensures bits { IfOk result (λ s. is_sample_width s.bits ≡ true) }
     ensures size { IfOk result (λ s. (s.size ≡ data_size (outputs (compiled_of program.now).diagram) s.bits s.frames) × (s.size ≤ data_limit)) }
     ensures channels { IfOk result (λ _. channels_in head ≡ inputs (compiled_of program.now).diagram) }
@@ -64,6 +68,7 @@ pub fn fit(
     let bits = bits_in(settings, head);
     match data_length(arity.outputs, bits, frames) {
         Some(size) => Ok(OutputFormat {
+            coding: coding_of(output),
             rate,
             bits,
             frames,
@@ -75,7 +80,17 @@ pub fn fit(
     }
 }
 
-fn channels_in(head: Option<Head>) -> u32
+// How the samples of an output of this kind are stored.
+fn coding_of(output: OutputKind) -> Coding
+    ensures { result ≡ coding_of output }
+{
+    match output {
+        OutputKind::Wave => Coding::Wave,
+        OutputKind::Au => Coding::Au,
+    }
+}
+
+fn channels_in(head: Option<Incoming>) -> u32
     ensures { result ≡ channels_in head }
 {
     match head {
@@ -85,8 +100,8 @@ fn channels_in(head: Option<Head>) -> u32
 }
 
 // The number of frames, if it is said.
-fn frames_in(settings: &Settings, head: Option<Head>) -> Option<u32>
-    requires { ForSome head IsHead }
+fn frames_in(settings: &Settings, head: Option<Incoming>) -> Option<u32>
+    requires { ForSome head IsIncoming }
     ensures { result ≡ frames_in (settings_in settings.now) head }
 {
     match head {
@@ -95,7 +110,7 @@ fn frames_in(settings: &Settings, head: Option<Head>) -> Option<u32>
     }
 }
 
-fn rate_in(settings: &Settings, head: Option<Head>) -> u32
+fn rate_in(settings: &Settings, head: Option<Incoming>) -> u32
     ensures { result ≡ rate_in (settings_in settings.now) head }
 {
     match head {
@@ -104,8 +119,8 @@ fn rate_in(settings: &Settings, head: Option<Head>) -> u32
     }
 }
 
-fn bits_in(settings: &Settings, head: Option<Head>) -> u32
-    requires { ForSome head IsHead }
+fn bits_in(settings: &Settings, head: Option<Incoming>) -> u32
+    requires { ForSome head IsIncoming }
     ensures bits { result ≡ bits_in (settings_in settings.now) head }
     ensures is_width { is_sample_width result ≡ true }
 {

@@ -5,6 +5,7 @@ mod check;
 mod files;
 mod format;
 mod frames;
+mod incoming;
 mod input;
 mod make;
 mod output;

@@ -9,7 +9,8 @@ ghost use Rattle.fv_outside.specs.Desk.{KeepsFaults};
 ghost use Rattle.fv_diagram.specs.Diagram.{inputs, outputs};
 ghost use Rattle.fv_control.specs.Laws.{NeverFall, IsOfControls};
 ghost use Rattle.fv_interval.specs.Delays.{AreAccepted};
-ghost use Rattle.fv_wav.specs.Samples.{data_size, data_limit, whole_bytes};
+ghost use Rattle.fv_pcm.specs.Sizes.{data_size, data_limit};
+ghost use Rattle.fv_top.specs.Inputs.{whole_bytes, coding_in};
 ghost use Rattle.fv_engine_render.specs.Render.{RanWhole};
 ghost use Rattle.fv_top_words.specs.Commands.{Playing};
 ghost use Rattle.fv_top_words.specs.Runs.{AreSound};
@@ -27,6 +28,7 @@ ghost use Rattle.fv_top.specs.inner.Prepared.{ready_of, CanWrite, made_of, cut_a
 
 use crate::format::{OutputFormat, fit};
 use crate::frames::count_frames;
+use crate::incoming::Incoming;
 use crate::input::{load_head, load_samples};
 use crate::program::load_program;
 use crate::samples::output_samples;
@@ -36,9 +38,9 @@ use fv_engine_render::{Ran, Rendered};
 use fv_eval::Program;
 use fv_interval::Delays;
 use fv_outside::{Desk, Gate};
+use fv_pcm::Coding;
 use fv_top_report::Refusal;
 use fv_top_words::{Run, Settings};
-use fv_wav::Head;
 use std::alloc::{AllocError, Global};
 use std::sync::Wait;
 use std::thread::Threads;
@@ -51,6 +53,8 @@ pub struct Prepared {
     pub format: OutputFormat,
     /// The samples, one frame after another.
     pub samples: Vec<i32>,
+    /// How the input's samples are stored.
+    pub coding: Coding,
     /// The length of the input, where it ends within its whole frames.
     pub cut: Option<u64>,
     pub ran: Ran,
@@ -68,7 +72,7 @@ pub fn prepare<R: Threads + Wait + Sync, D: Desk, G: Gate + Sync>(
     ensures reaches { OnOk result (Reaches (IsReadBy (Playing (run_view run.now))) (asked_before (run_view run.now)) (D.state desk.old) (D.state desk.new)) }
     ensures steady { OnOk result (KeepsFaults (D.state desk.old) (D.state desk.new)) }
     ensures rest { OnOk result (IsTrue (D.state desk.old).tells →
-        LeavesRest (run_view run.now).input (D.state desk.old).files ((D.state desk.new).left Input)) }
+        LeavesRest run.now.manner.input (run_view run.now).input (D.state desk.old).files ((D.state desk.new).left Input)) }
     ensures writes { IfOk result (λ p. CanWrite p.0) }
     ensures room { IfOk result (λ p. length p.0.samples.items * (p.0.format.bits / 8) ≤ length p.1.items) }
     ensures ready { IfOk result (λ p. IsReady (run_view run.now) (D.state desk.old) (ready_of p.0)) }
@@ -79,9 +83,10 @@ pub fn prepare<R: Threads + Wait + Sync, D: Desk, G: Gate + Sync>(
 {
     let (program, delays) = load_program(alloc, desk, run.program)?;
     let script = load_script(alloc, desk, run.controls, program.controls.as_slice())?;
-    let head = load_head(desk, run.input)?;
-    let format = fit(&program, head, &run.settings)?;
-    let raw = load_samples(alloc, desk, head)?;
+    let loaded = load_head(alloc, desk, run.manner.input, run.input)?;
+    let head = loaded.head;
+    let format = fit(&program, head, &run.settings, run.manner.output)?;
+    let raw = load_samples(alloc, desk, loaded)?;
     let prepared = compute_output(
         rt,
         alloc,
@@ -104,7 +109,7 @@ fn compute_output<R: Threads + Wait + Sync, G: Gate + Sync>(
     program: &Program,
     delays: &Delays,
     changes: &[Change],
-    head: Option<Head>,
+    head: Option<Incoming>,
     format: OutputFormat,
     raw: &[u8],
     settings: &Settings,
@@ -148,6 +153,7 @@ fn compute_output<R: Threads + Wait + Sync, G: Gate + Sync>(
         channels,
         format,
         samples,
+        coding: coding_in(head),
         cut: cut_at(head, raw, format.frames),
         ran,
     };
@@ -168,8 +174,18 @@ fn room_for(alloc: Global, frames: u32, channels: u32, bits: u32) -> Result<Vec<
     vec![in alloc; 0u8; room]
 }
 
+// How the samples of an input are stored.
+fn coding_in(head: Option<Incoming>) -> Coding
+    ensures { result ≡ coding_in head }
+{
+    match head {
+        Some(head) => head.coding,
+        None => Coding::Wave,
+    }
+}
+
 // The length of an input that ends within its whole frames.
-fn cut_at(head: Option<Head>, raw: &[u8], stated: u32) -> Option<u64>
+fn cut_at(head: Option<Incoming>, raw: &[u8], stated: u32) -> Option<u64>
     requires head { ForSome head IsPlaced }
     requires raw { ForSome head (λ h. length raw.now ≤ whole_bytes h) }
     ensures { result ≡ cut_at head stated raw.now }

@@ -1,12 +1,13 @@
 // The one call that does all that the command does.
 
-ghost use Rattle.std.specs.Prelude.{map, string_bytes, IfOk, IfErr};
+ghost use Rattle.std.specs.Prelude.{◌≡◌, map, string_bytes, IfOk, IfErr};
 ghost use Rattle.fv_outside.specs.Desk.{GoesOn};
 ghost use Rattle.fv_top_words.specs.Commands.{Playing};
 ghost use Rattle.fv_top_words.specs.Runs.{AreSound};
 ghost use Rattle.fv_top_words.specs.Views.{run_in as run_view};
 ghost use Rattle.fv_top.specs.Promise.{OfWords, IfDone, IfRefused, HasDone, IsRefusedFor, LeavesOutput, CutsShort, IsRead, KeepsOthers, Reports};
 ghost use Rattle.fv_top.specs.Promise.{HandsOn, IsComplete, IsStrict, IsExact};
+ghost use Rattle.fv_top.specs.Inputs.{truncated};
 ghost use Rattle.fv_top.specs.Played.{HasBlocks, HasBlocksSoFar};
 ghost use Rattle.fv_top.specs.inner.Running.{EndsDone, Stopped, ReportsLine};
 
@@ -15,6 +16,7 @@ use crate::make::run_make;
 use crate::output::write_output;
 use crate::prepare::prepare;
 use fv_outside::{Desk, Gate, Role};
+use fv_pcm::Coding;
 use fv_top_report::{Refusal, Status, Tally, report_done, report_refusal};
 use fv_top_text::one_program;
 use fv_top_words::{Job, Run, job_in};
@@ -91,7 +93,7 @@ fn play_run<R: Threads + Wait + Sync, D: Desk, G: Gate + Sync>(
         Err(_) => return Err(Refusal::WriteFault { role: Role::Output }),
     }
     match prepared.cut {
-        Some(place) => return Err(Refusal::WaveTruncated { place }),
+        Some(place) => return Err(truncated(prepared.coding, place)),
         None => {}
     }
     let frames = prepared.format.frames;
@@ -103,6 +105,16 @@ fn play_run<R: Threads + Wait + Sync, D: Desk, G: Gate + Sync>(
             loop_runs: prepared.ran.loop_runs,
         }),
         Err(_) => Err(Refusal::WriteFault { role: Role::Report }),
+    }
+}
+
+// The refusal of an input that ends too early, by how its samples are stored.
+fn truncated(coding: Coding, place: u64) -> Refusal
+    ensures { result ≡ truncated coding place }
+{
+    match coding {
+        Coding::Wave => Refusal::WaveTruncated { place },
+        Coding::Au => Refusal::AuTruncated { place },
     }
 }
 

@@ -3,7 +3,6 @@
 ghost use Rattle.std.specs.Prelude.{◌≡◌, ℕ, ◌*◌, ◌/◌, ◌≤◌, length, true, IfOk, OnErr, None};
 ghost use Rattle.std.specs.Option.{ForSome};
 ghost use Rattle.std.specs.List.{AllByRecursion};
-ghost use Rattle.fv_num.specs.Words.{is_sample_width};
 ghost use Rattle.fv_num.specs.Frames.{rows};
 ghost use Rattle.fv_diagram.specs.Diagram.{inputs, outputs};
 ghost use Rattle.fv_diagram.specs.Streams.{run};
@@ -14,8 +13,7 @@ ghost use Rattle.fv_diagram.specs.Samples.{joined, no_slots};
 ghost use Rattle.fv_engine_render.specs.Render.{RanWhole, initial_of};
 ghost use Rattle.fv_top_words.specs.Runs.{AreSound};
 ghost use Rattle.fv_top_words.specs.Views.{settings_in};
-ghost use Rattle.fv_wav.specs.Stopping.{IsHead};
-ghost use Rattle.fv_wav.specs.Samples.{samples_in, whole_bytes};
+ghost use Rattle.fv_top.specs.Inputs.{IsIncoming, whole_bytes};
 ghost use Rattle.fv_top_text.specs.Program.{delays_in};
 ghost use Rattle.fv_top_text.specs.Compiled.{compiled_of, CanPlay};
 ghost use Rattle.fv_top.specs.Sources.{frames_of};
@@ -23,13 +21,14 @@ ghost use Rattle.fv_top.specs.Output.{channels_in};
 ghost use Rattle.fv_top.specs.Played.{sizes_of};
 
 use crate::frames::count_frames;
+use crate::incoming::Incoming;
 use fv_control::Change;
 use fv_engine_render::{Rendered, RunSizes, Source};
 use fv_eval::Program;
 use fv_interval::Delays;
 use fv_outside::Gate;
+use fv_pcm::decoded;
 use fv_top_words::Settings;
-use fv_wav::{Head, decode};
 use std::alloc::{AllocError, Global};
 use std::sync::Wait;
 use std::thread::Threads;
@@ -41,7 +40,7 @@ pub fn output_samples<R: Threads + Wait + Sync, G: Gate + Sync>(
     program: &Program,
     delays: &Delays,
     changes: &[Change],
-    head: Option<Head>,
+    head: Option<Incoming>,
     raw: &[u8],
     stated: u32,
     settings: &Settings,
@@ -49,7 +48,7 @@ pub fn output_samples<R: Threads + Wait + Sync, G: Gate + Sync>(
 ) -> Result<Rendered, AllocError>
     requires plays { CanPlay program.now }
     requires accepted { AreAccepted (delays_in (compiled_of program.now)) delays.now }
-    requires head { ForSome head IsHead }
+    requires head { ForSome head IsIncoming }
     requires raw { ForSome head (λ h. length raw.now ≤ whole_bytes h) }
     requires channels { channels_in head ≡ inputs (compiled_of program.now).diagram }
     requires order { NeverFall 0 changes.now }
@@ -82,11 +81,11 @@ pub fn output_samples<R: Threads + Wait + Sync, G: Gate + Sync>(
 // The samples of the whole frames in these bytes, of which there are so many.
 fn samples_of(
     alloc: Global,
-    head: Option<Head>,
+    head: Option<Incoming>,
     raw: &[u8],
     frames: usize,
 ) -> Result<Vec<i32>, AllocError>
-    requires head { ForSome head IsHead }
+    requires head { ForSome head IsIncoming }
     requires frames { ForSome head (λ h. frames ≡ length raw.now / (h.channels * (h.bits / 8))) }
     ensures samples { IfOk result (λ v. (stated : ℕ) → (head ≡ None → stated ≡ frames)
         → rows (channels_in head) frames v.items ≡ frames_of stated head raw.now) }
@@ -98,17 +97,6 @@ fn samples_of(
     };
     let size = (head.bits / 8) as usize;
     let count = frames * head.channels as usize;
-    let samples = decoded(alloc, head.bits, &raw[..count * size], count)?;
-    Ok(samples)
-}
-
-// The samples in these bytes, of which there are so many.
-fn decoded(alloc: Global, bits: u32, bytes: &[u8], count: usize) -> Result<Vec<i32>, AllocError>
-    requires bits { is_sample_width bits ≡ true }
-    requires room { length bytes.now ≡ count * (bits / 8) }
-    ensures { IfOk result (λ v. v.items ≡ samples_in bits count bytes.now) }
-{
-    let mut samples = vec![in alloc; 0i32; count]?;
-    decode(bits, bytes, &mut samples);
+    let samples = decoded(alloc, head.coding, head.bits, &raw[..count * size], count)?;
     Ok(samples)
 }

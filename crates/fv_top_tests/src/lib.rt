@@ -6,6 +6,8 @@ mod sure;
 pub use sure::run_sure;
 
 #[cfg(test)]
+mod au;
+#[cfg(test)]
 mod blocks;
 #[cfg(test)]
 mod files;

@@ -1,11 +1,11 @@
 -- What the words ask for (this project's profile).
-use Rattle.std.specs.Prelude.{ℕ, Bool, false, List, [], ◌∷◌, Option, Some, None, Result, Ok, Err, bytes_eq, codes, if◌then◌else◌}
+use Rattle.std.specs.Prelude.{ℕ, List, [], ◌∷◌, Option, Some, None, Result, Ok, Err, bytes_eq, codes, if◌then◌else◌}
 use Rattle.fv_base.specs.declared.limits.TheConstants.{MOST_MADE, MOST_VOICES}
 use Rattle.fv_top_words.specs.declared.cause.Cause.{Cause}
 use Rattle.fv_top_words.specs.declared.cause.Cause.TheVariants.{Form, Number}
 use Rattle.fv_top_words.specs.Texts.{Texts, texts_of}
 use Rattle.fv_top_words.specs.Numbers.{number_of}
-use Rattle.fv_top_words.specs.Runs.{◌>>=◌, Run, run_of, within_or, most_workers}
+use Rattle.fv_top_words.specs.Runs.{◌>>=◌, Run, run_of, by_kinds, within_or, most_workers}
 
 pub data Command : Type 0 where
   Play : (run : Run) → Command
@@ -25,6 +25,12 @@ abbrev pub play_of : Texts → Result Command Cause
 play_of t = do
   run ← run_of t
   Ok (Play run)
+
+-- a run whose files may be AU files
+abbrev pub au_of : Texts → Result Command Cause
+au_of t = do
+  run ← run_of t
+  Ok (Play (by_kinds run))
 
 -- PROGRAM
 abbrev pub check_of : List (List ℕ) → Result Command Cause
@@ -61,9 +67,10 @@ abbrev pub command_in : (command : List ℕ) → Option Texts → Result Command
 command_in command None = Err Form
 command_in command (Some t) =
     if bytes_eq command (codes "run") then play_of t
+    else (if bytes_eq command (codes "au") then au_of t
     else (if bytes_eq command (codes "check") then bare t (check_of t.plain)
     else (if bytes_eq command (codes "make") then bare t (make_of t.plain)
-    else Err Form))
+    else Err Form)))
 
 -- What the words ask for, the program's own name first, or the first cause to refuse them.
 abbrev pub command_of : List (List ℕ) → Result Command Cause

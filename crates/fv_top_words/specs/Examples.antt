@@ -2,8 +2,10 @@
 use Rattle.std.specs.Prelude.{◌≡◌, refl, ℕ, List, [], ◌∷◌, Some, None, Result, Ok, Err, codes}
 use Rattle.fv_top_words.specs.declared.cause.Cause.{Cause}
 use Rattle.fv_top_words.specs.declared.cause.Cause.TheVariants.{Form, Number, Range, Vectors, Together, Same}
+use Rattle.fv_top_words.specs.declared.manner.InputKind.TheVariants as input
+use Rattle.fv_top_words.specs.declared.manner.OutputKind.TheVariants as output
 use Rattle.fv_top_words.specs.Pieces.{cut, Any, Plain, Given}
-use Rattle.fv_top_words.specs.Runs.{Settings, default_vector}
+use Rattle.fv_top_words.specs.Runs.{Settings, default_vector, wave_files}
 use Rattle.fv_top_words.specs.Commands.{Command, Play, Check, Make, Checking, Making, command_of, job_in}
 
 -- of these words behind the program's own name
@@ -17,7 +19,8 @@ abbrev plain : Settings
 plain = record { block = 512; vector = 32; workers = 1; bits = None; frames = None; rate = None }
 
 abbrev from_file : Settings → Command
-from_file s = Play (record { program = codes "p.dsp"; input = Some (codes "in.wav"); output = codes "o.wav"; controls = None; settings = s })
+from_file s =
+    Play (record { program = codes "p.dsp"; input = Some (codes "in.wav"); output = codes "o.wav"; controls = None; settings = s; manner = wave_files })
 
 -- ---- the three commands
 
@@ -29,6 +32,29 @@ checks = refl
 
 makes : asked (codes "make" ∷ codes "16" ∷ codes "32768" ∷ codes "1" ∷ []) ≡ Ok (Make 16 32768 1)
 makes = refl
+
+au_files : asked (codes "au" ∷ codes "p.dsp" ∷ codes "in.au" ∷ codes "o.au" ∷ codes "--bits=8" ∷ [])
+    ≡ Ok (Play (record {
+      program = codes "p.dsp";
+      input = Some (codes "in.au");
+      output = codes "o.au";
+      controls = None;
+      settings = record plain { bits = Some 8 };
+      manner = record { input = input.Either; output = output.Au };
+    }))
+au_files = refl
+
+-- the name counts byte by byte
+au_to_wave : asked (codes "au" ∷ codes "p.dsp" ∷ codes "in.wav" ∷ codes "o.AU" ∷ [])
+    ≡ Ok (Play (record {
+      program = codes "p.dsp";
+      input = Some (codes "in.wav");
+      output = codes "o.AU";
+      controls = None;
+      settings = plain;
+      manner = record { input = input.Either; output = output.Wave };
+    }))
+au_to_wave = refl
 
 -- ---- where options stand
 
@@ -51,11 +77,12 @@ no_input : run (codes "p.dsp" ∷ codes "-" ∷ codes "o.wav" ∷ codes "--frame
       output = codes "o.wav";
       controls = Some (codes "c.txt");
       settings = record plain { frames = Some 0 };
+      manner = wave_files;
     }))
 no_input = refl
 
 dashes_behind : run (codes "--" ∷ codes "-p" ∷ codes "in.wav" ∷ codes "--o" ∷ [])
-    ≡ Ok (Play (record { program = codes "-p"; input = Some (codes "in.wav"); output = codes "--o"; controls = None; settings = plain }))
+    ≡ Ok (Play (record { program = codes "-p"; input = Some (codes "in.wav"); output = codes "--o"; controls = None; settings = plain; manner = wave_files }))
 dashes_behind = refl
 
 -- ---- causes, in their order

@@ -1,9 +1,14 @@
 -- What a run is asked to do, and the causes to refuse it (this project's profile).
 use Rattle.std.specs.Prelude.{true, ◌≡◌, ◌≤◌, ◌<◌, IfSome, ℕ, ◌+◌, ◌-◌, ◌/◌, ◌^◌, max, Bool, false, ◌&&◌, ◌||◌, not, ◌==◌, nat_le}
-use Rattle.std.specs.Prelude.{nat_lt, List, [], ◌∷◌, Option, Some, None, is_some, Result, Ok, Err, bytes_eq, codes, if◌then◌else◌}
+use Rattle.std.specs.Prelude.{nat_lt, List, [], ◌∷◌, Option, Some, None, is_some, Result, Ok, Err, bytes_eq, nat_eq, codes, if◌then◌else◌}
+use Rattle.std.specs.List.{ends_with}
 use Rattle.fv_base.specs.declared.limits.TheConstants.{MOST_BLOCK, MOST_VECTORS, MOST_WORKERS}
 use Rattle.fv_top_words.specs.declared.cause.Cause.{Cause}
 use Rattle.fv_top_words.specs.declared.cause.Cause.TheVariants.{Form, Number, Range, Vectors, Together, Same}
+use Rattle.fv_top_words.specs.declared.manner.Manner.{Manner}
+use Rattle.fv_top_words.specs.declared.manner.InputKind.TheVariants as input
+use Rattle.fv_top_words.specs.declared.manner.OutputKind.{OutputKind}
+use Rattle.fv_top_words.specs.declared.manner.OutputKind.TheVariants as output
 use Rattle.fv_top_words.specs.Texts.{Texts}
 use Rattle.fv_top_words.specs.Numbers.{Numbers, numbers_of}
 
@@ -81,6 +86,19 @@ pub record Run : Type 0 where
   pub output : List ℕ
   pub controls : Option (List ℕ)
   pub settings : Settings
+  pub manner : Manner
+
+-- the files of a run, where each is a WAV file
+abbrev pub wave_files : Manner
+wave_files = record { input = input.Wave; output = output.Wave }
+
+-- a name that ends in `.au` is that of an AU file
+abbrev pub output_kind : List ℕ → OutputKind
+output_kind name = if ends_with nat_eq name (codes ".au") then output.Au else output.Wave
+
+-- the same run where its files may be AU files: the input by its first bytes, and the output by its name
+abbrev pub by_kinds : Run → Run
+by_kinds run = record run { manner = record { input = input.Either; output = output_kind run.output } }
 
 -- `-` names no input file
 abbrev pub is_none_word : List ℕ → Bool
@@ -108,7 +126,7 @@ abbrev pub run_with : (program input output : List ℕ) → (controls : Option (
 run_with program input output controls s =
     if is_together input s then Err Together
     else (if is_same program input output controls then Err Same
-    else Ok (record { program = program; input = input_of input; output = output; controls = controls; settings = s }))
+    else Ok (record { program = program; input = input_of input; output = output; controls = controls; settings = s; manner = wave_files }))
 
 -- a run with these numbers, if its options spell some
 abbrev pub run_on : (program input output : List ℕ) → (controls : Option (List ℕ)) → Option Numbers → Result Run Cause

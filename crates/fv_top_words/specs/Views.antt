@@ -96,6 +96,7 @@ run_in r = record {
   output = r.output.now;
   controls = option_copied r.controls;
   settings = settings_in r.settings;
+  manner = r.manner;
 }
 
 -- the same as an answer

@@ -4,11 +4,12 @@ ghost use Rattle.std.specs.Prelude.{◌≡◌, ◌≤◌, ◌^◌, ◌<◌, true
 ghost use Rattle.std.specs.Option.{ForSome};
 ghost use Rattle.fv_base.specs.declared.limits.TheConstants.{MOST_BLOCK};
 ghost use Rattle.fv_top_words.specs.Runs.{within, within_or, width, is_width, default_vector, vectors_in, settings_of};
-ghost use Rattle.fv_top_words.specs.Runs.{AreSound, run_of, input_of, is_none_word, is_together, is_same};
-ghost use Rattle.fv_top_words.specs.Views.{texts_in, numbers_in, settings_in, settings_answered, run_answered};
+ghost use Rattle.fv_top_words.specs.Runs.{AreSound, run_of, by_kinds, output_kind, input_of, is_none_word, is_together, is_same};
+ghost use Rattle.fv_top_words.specs.Views.{texts_in, numbers_in, settings_in, settings_answered, run_in, run_answered};
 
 use crate::cause::Cause;
 use crate::laws::settings_keep_ranges;
+use crate::manner::{InputKind, Manner, OutputKind};
 use crate::numbers::{Numbers, numbers_of};
 use crate::settings::Settings;
 use crate::texts::{Plain, Texts};
@@ -24,7 +25,14 @@ pub struct Run<'a> {
     /// The control script.
     pub controls: Option<&'a str>,
     pub settings: Settings,
+    pub manner: Manner,
 }
+
+/// The files of a run, where each is a WAV file.
+const WAVE_FILES: Manner = Manner {
+    input: InputKind::Wave,
+    output: OutputKind::Wave,
+};
 
 /// The run that the texts of its words ask for, or the first cause to refuse them.
 pub fn run_of<'a>(texts: &Texts<'a>) -> Result<Run<'a>, Cause>
@@ -51,7 +59,32 @@ pub fn run_of<'a>(texts: &Texts<'a>) -> Result<Run<'a>, Cause>
         output,
         controls: texts.controls,
         settings,
+        manner: WAVE_FILES,
     })
+}
+
+/// The same run where its files may be AU files: the input by its first bytes, and the output by its name.
+pub fn by_kinds(run: Run<'_>) -> Run<'_>
+    ensures { run_in result ≡ by_kinds (run_in run.entry) }
+{
+    Run {
+        manner: Manner {
+            input: InputKind::Either,
+            output: output_kind(run.output),
+        },
+        ..run
+    }
+}
+
+// A name that ends in `.au` is that of an AU file.
+fn output_kind(name: &str) -> OutputKind
+    ensures { result ≡ output_kind name.now }
+{
+    if name.as_bytes().ends_with(b".au".as_slice()) {
+        OutputKind::Au
+    } else {
+        OutputKind::Wave
+    }
 }
 
 // How it is done, where each number is in its range.

@@ -6,7 +6,7 @@ use Rattle.fv_top.specs.declared.format.OutputFormat.{OutputFormat as Made}
 
 -- what the code's formats are
 abbrev pub format_in : Made → OutputFormat
-format_in s = record { rate = s.rate; bits = s.bits; frames = s.frames }
+format_in s = record { coding = s.coding; rate = s.rate; bits = s.bits; frames = s.frames }
 
 -- the same as an answer
 abbrev pub format_answered : Result Made Refusal → Result OutputFormat Refusal

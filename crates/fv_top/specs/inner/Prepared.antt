@@ -6,10 +6,10 @@ use Rattle.fv_diagram.specs.Streams.{run}
 use Rattle.fv_control.specs.declared.script.Change.{Change}
 use Rattle.fv_control.specs.Streams.{control_streams}
 use Rattle.fv_diagram.specs.Samples.{joined, no_slots}
-use Rattle.fv_wav.specs.declared.head.Head.{Head}
+use Rattle.fv_top.specs.declared.incoming.Incoming.{Incoming}
+use Rattle.fv_top.specs.Inputs.{truncated, coding_in}
 use Rattle.fv_num.specs.Words.{is_sample_width}
-use Rattle.fv_wav.specs.Samples.{data_size, data_limit}
-use Rattle.fv_top_report.specs.declared.refusal.Refusal.TheVariants.{WaveTruncated}
+use Rattle.fv_pcm.specs.Sizes.{data_size, data_limit}
 use Rattle.fv_top.specs.declared.prepare.Prepared.{Prepared}
 use Rattle.fv_engine_render.specs.Render.{initial_of}
 use Rattle.fv_top_text.specs.Compiled.{Compiled}
@@ -25,7 +25,7 @@ use Rattle.fv_top.specs.inner.Running.{Ready}
 
 -- what it is
 abbrev pub ready_of : Prepared → Ready
-ready_of p = record { channels = p.channels; format = format_in p.format; samples = p.samples.items; cut = option_map WaveTruncated p.cut }
+ready_of p = record { channels = p.channels; format = format_in p.format; samples = p.samples.items; cut = option_map (truncated p.coding) p.cut }
 
 -- a head can state it
 pub record CanWrite (p : Prepared) : Type 0 where
@@ -36,17 +36,17 @@ pub record CanWrite (p : Prepared) : Type 0 where
   pub within : p.format.size ≤ data_limit
 
 -- where the input of these bytes of samples ends, if it does within its whole frames
-abbrev pub cut_at : Option Head → (stated : ℕ) → (raw : List ℕ) → Option ℕ
+abbrev pub cut_at : Option Incoming → (stated : ℕ) → (raw : List ℕ) → Option ℕ
 cut_at None stated raw = None
 cut_at (Some h) stated raw = if length (frames_of stated (Some h) raw) == stated then None else Some (h.place + length raw)
 
 -- what a program makes of them, under the changes of its controls
-abbrev pub made_of : Compiled → List Change → Option Head → OutputFormat → (raw : List ℕ) → Ready
+abbrev pub made_of : Compiled → List Change → Option Incoming → OutputFormat → (raw : List ℕ) → Ready
 made_of p changes head format raw = record {
   channels = outputs p.diagram;
   format = format;
   samples = joined (run p.diagram (control_streams changes (initial_of p.controls)) no_slots (frames_of format.frames head raw));
-  cut = option_map WaveTruncated (cut_at head format.frames raw);
+  cut = option_map (truncated (coding_in head)) (cut_at head format.frames raw);
 }
 
 -- the blocks of a run that is ready to be written, which are those of all its frames where none is missing

@@ -7,10 +7,11 @@ use Rattle.fv_outside.specs.Requests.{Request, to_read, to_write}
 use Rattle.fv_outside.specs.Desk.{DeskState, GoesOn, HasFault, KeepsQuiet, KeepsLeft, KeepsFaults, IsUnfailing, Appends}
 use Rattle.fv_top_words.specs.Runs.{Run}
 use Rattle.fv_top_words.specs.Commands.{Playing, Checking, Making}
-use Rattle.fv_wav.specs.Samples.{pad_bytes, data_size}
+use Rattle.fv_pcm.specs.declared.coding.Coding.{Coding}
+use Rattle.fv_pcm.specs.Sizes.{data_size}
 use Rattle.fv_top_report.specs.declared.refusal.Refusal.{Refusal}
 use Rattle.fv_top_report.specs.declared.refusal.Refusal.TheVariants.{WriteFault}
-use Rattle.fv_top.specs.Output.{OutputFormat, file_of, cut_in}
+use Rattle.fv_top.specs.Output.{OutputFormat, file_of, pad_in, cut_in}
 use Rattle.fv_top.specs.Loading.{reading}
 use Rattle.fv_top.specs.Meant.{check_meant, make_meant, made_sum, written_by}
 use Rattle.fv_top_text.specs.Compiled.{Compiled}
@@ -62,14 +63,14 @@ pub record Ready : Type 0 where
   pub cut : Option Refusal
 
 -- its file: where its input ends too early, no byte stands behind the samples
-abbrev pub pad_of : Option Refusal → (size : ℕ) → List ℕ
-pad_of None size = pad_bytes size
-pad_of (Some refusal) size = []
+abbrev pub pad_of : Option Refusal → Coding → (size : ℕ) → List ℕ
+pad_of None c size = pad_in c size
+pad_of (Some refusal) c size = []
 
 abbrev pub file_in : Ready → List ℕ
 file_in r =
     let size = data_size r.channels r.format.bits r.format.frames in
-    file_of r.channels r.format.rate r.format.bits size r.samples (pad_of r.cut size)
+    file_of r.format.coding r.channels r.format.rate r.format.bits size r.samples (pad_of r.cut r.format.coding size)
 
 -- What is ready is what the files of the run mean, where the desk tells them.
 abbrev pub IsReady : Run → DeskState → Ready → Type 0

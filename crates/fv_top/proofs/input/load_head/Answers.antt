@@ -4,12 +4,13 @@ use Rattle.std.proofs.lemmas.Result.{err_from_is_err_and}
 use Rattle.fv_base.specs.declared.role.Role.TheVariants.{Input}
 use Rattle.fv_outside.proofs.States.{told_before, goes_on_self, answers_next}
 use Rattle.fv_top.specs.Loading.{ReadsFile}
-use Rattle.fv_top.proofs.Heads.{head_none, head_is, head_refused}
+use Rattle.fv_top.specs.inner.Loaded.{held_in}
+use Rattle.fv_top.proofs.Heads.{head_none, head_of_file, head_stops}
 use Rattle.fv_top.proofs.Loads.{reads_begun}
 use Rattle.fv_top.proofs.input.load_head.Goals as goal
 
 pub returns-in-None-clause-headed : goal.returns-in-None-clause-headed
-returns-in-None-clause-headed g c = λ t. rw c.in-None.is (head_none _ _)
+returns-in-None-clause-headed g c = λ t. rw c.in-None.is (head_none c.args.kind _ _)
 
 pub returns-in-Err-clause-err : goal.returns-in-Err-clause-err
 returns-in-Err-clause-err g c =
@@ -24,21 +25,18 @@ returns-in-Err-clause-err g c =
       },
     ))
 
-pub returns-in_err-head-clause-err : goal.returns-in_err-head-clause-err
-returns-in_err-head-clause-err g c =
+pub returns-in_err-loaded-clause-err : goal.returns-in_err-loaded-clause-err
+returns-in_err-loaded-clause-err g c =
     let state = g.D.Desk.state in
     let begun = c.in-Ok.ensures in
     let reads : ReadsFile Input (Some c.in-Some.name.now) (state c.args.desk.now) (state c.begin_read.new.self) =
     reads_begun begun.goes_on begun.counts begun.asked begun.others begun.written begun.begins in
     let p = err_from_is_err_and c.from_residual.result c.from_residual.ensures.1 in
-    rw (p.1, c.in-Some.is) (head_refused c.in_err-head.field-0.0 _ p.2 reads begun.file c.in_err-head.ensures.err)
+    rw (p.1, p.2, c.in-Some.is) (head_stops c.in_err-loaded.field-0.0 reads begun.file c.in_err-loaded.ensures.err)
 
 pub returns-clause-headed : goal.returns-clause-headed
 returns-clause-headed g c = λ t.
     let begun = c.in-Ok.ensures in
     let told = told_before begun.goes_on t in
-    let taken = c.in_ok-head.ensures.taken in
-    rw c.in-Some.is (head_is c.in-Some.name.now _ c.in_ok-head.head _ taken.0 _ (begun.file t) (c.in_ok-head.ensures.head told) taken.1 (taken.2.taken told))
-
-pub returns-clause-steady : goal.returns-clause-steady
-returns-clause-steady g c = λ other r. c.in_ok-head.ensures.steady r ∙ c.in-Ok.ensures.steady r
+    let l = c.in_ok-loaded.loaded in
+    rw c.in-Some.is (head_of_file c.args.kind c.in-Some.name.now _ _ l.head (held_in l) _ (begun.file t) (c.in_ok-loaded.ensures.headed told))

@@ -1,6 +1,5 @@
-use Rattle.std.proofs.Common.{◌*◌, ◌/◌, ◌<◌, arith}
+use Rattle.std.proofs.Common.{◌*◌, ◌/◌, ◌^◌, ◌<◌, arith}
 use Rattle.std.proofs.Math.Nat.{div-mul-le_self}
-use Rattle.fv_wav.specs.Reading.{unknown_size}
 use Rattle.fv_top.proofs.prepare.cut_at.Goals as goal
 
 pub count_frames-frames-requires-clause-head : goal.count_frames-frames-requires-clause-head
@@ -11,6 +10,6 @@ overflow_add-result c =
     let h = c.in-Some.head in
     let p = c.requires.head h c.in-Some.is in
     let place = p.1 in
-    let size : h.data_bytes < unknown_size = p.0.size in
+    let size : h.data_bytes < 2 ^ 32 = p.0.size in
     let got = c.requires.raw h c.in-Some.is in
     omega (arith, div-mul-le_self h.data_bytes (h.channels * (h.bits / 8)))

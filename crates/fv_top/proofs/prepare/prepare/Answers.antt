@@ -17,6 +17,7 @@ use Rattle.fv_eval.specs.Evaluated.{Evaluated}
 use Rattle.fv_top.specs.Sources.{frames_of}
 use Rattle.fv_top_text.specs.Compiled.{compiled_of}
 use Rattle.fv_top.specs.inner.Formats.{format_in}
+use Rattle.fv_top.specs.inner.Loaded.{held_in}
 use Rattle.fv_top.specs.Played.{sizes_of}
 use Rattle.fv_top.specs.inner.Prepared.{ready_of, made_of}
 use Rattle.fv_top.specs.Promise.{HasRefusal, HasNoProgram, ReadProgram, ReadScript, ReadHead}
@@ -26,7 +27,7 @@ use Rattle.fv_top.proofs.Heads.{rest_left}
 use Rattle.fv_top.proofs.Reaching.{FailsToLoad, reaches_taken, behind_kept}
 use Rattle.fv_top.proofs.prepare.prepare.Given.{Over}
 use Rattle.fv_top.proofs.prepare.prepare.Goals as goal
-use Rattle.fv_top.proofs.prepare.prepare.Goals.{In_ok-program, In_ok-script, In_ok-head}
+use Rattle.fv_top.proofs.prepare.prepare.Goals.{In_ok-program, In_ok-script, In_ok-loaded}
 
 -- ---- what was read so far
 
@@ -45,12 +46,14 @@ script_read g c w =
     let same = c.as_slice.ensures ∙ ap (λ (e : Evaluated). e.controls) c.program.view_is in
     after_script w c.load_script.ensures.reads (c.in_ok-script.ensures.steady (λ is. absurd cc)) (λ t. subst Says same (c.in_ok-script.ensures.spelled t))
 
-head_read : (g : Over) (c : In_ok-head g)
+head_read : (g : Over) (c : In_ok-loaded g)
     → AfterScript (run_view c.args.run.now) (compiled_of c.in_ok-program.program) c.in_ok-script.script (g.D.Desk.state c.args.desk.now)
     (g.D.Desk.state c.load_script.new.desk)
-    → AfterHead (run_view c.args.run.now) (compiled_of c.in_ok-program.program) c.in_ok-script.script c.in_ok-head.head (g.D.Desk.state c.args.desk.now)
+    → AfterHead (run_view c.args.run.now) (compiled_of c.in_ok-program.program) c.in_ok-script.script c.in_ok-loaded.loaded.head
+    (held_in c.in_ok-loaded.loaded)
+    (g.D.Desk.state c.args.desk.now)
     (g.D.Desk.state c.load_head.new.desk)
-head_read g c w = after_head w c.load_head.ensures.reads (c.in_ok-head.ensures.steady (λ is. absurd cc)) c.in_ok-head.ensures.headed
+head_read g c w = after_head w c.load_head.ensures.reads (c.in_ok-loaded.ensures.steady (λ is. absurd cc)) c.in_ok-loaded.ensures.headed
 
 -- ---- why it stops
 
@@ -84,46 +87,48 @@ returns-in_err-script-clause-stops g c =
     let q = err_from_is_err_and c.from_residual-in_err-script.result c.from_residual-in_err-script.ensures.1 in
     rw (q.1, q.2) (stops_script (program_read g at.In_ok-program) fails)
 
-pub returns-in_err-head-clause-stops : goal.returns-in_err-head-clause-stops
-returns-in_err-head-clause-stops g c =
-    let at = goal.at.returns-in_err-head-clause-stops g c in
+pub returns-in_err-loaded-clause-stops : goal.returns-in_err-loaded-clause-stops
+returns-in_err-loaded-clause-stops g c =
+    let at = goal.at.returns-in_err-loaded-clause-stops g c in
     let run : Run = run_view c.args.run.now in
     let d = g.D.Desk.state c.load_script.new.desk in
-    let fails : FailsToLoad Input run.input (HasRefusal ReadHead) (λ r. HasInput run.input d.files (Err r)) d (g.D.Desk.state c.load_head.new.desk)
-    c.in_err-head.field-0.0 = record {
+    let fails : FailsToLoad Input run.input (HasRefusal ReadHead) (λ r. HasInput run.manner.input run.input d.files (Err r)) d
+    (g.D.Desk.state c.load_head.new.desk)
+    c.in_err-loaded.field-0.0 = record {
       reads = c.load_head.ensures.reads;
-      stops = c.in_err-head.ensures.err;
-      steady = λ other. c.in_err-head.ensures.steady (λ is. other cc);
+      stops = c.in_err-loaded.ensures.err;
+      steady = λ other. c.in_err-loaded.ensures.steady (λ is. other cc);
     } in
-    let q = err_from_is_err_and c.from_residual-in_err-head.result c.from_residual-in_err-head.ensures.1 in
+    let q = err_from_is_err_and c.from_residual-in_err-loaded.result c.from_residual-in_err-loaded.ensures.1 in
     rw (q.1, q.2) (stops_head (script_read g at.In_ok-script (program_read g at.In_ok-program)) fails)
 
 pub returns-in_err-format-clause-stops : goal.returns-in_err-format-clause-stops
 returns-in_err-format-clause-stops g c =
     let at = goal.at.returns-in_err-format-clause-stops g c in
-    let w = head_read g at.In_ok-head (script_read g at.In_ok-script (program_read g at.In_ok-program)) in
+    let w = head_read g at.In_ok-loaded (script_read g at.In_ok-script (program_read g at.In_ok-program)) in
     let q = err_from_is_err_and c.from_residual-in_err-format.result c.from_residual-in_err-format.ensures.1 in
     rw (q.1, q.2) (stops_fit w c.in_err-format.field-0.0 (sym c.in_err-format.ensures.format))
 
 pub returns-in_err-raw-clause-stops : goal.returns-in_err-raw-clause-stops
 returns-in_err-raw-clause-stops g c =
     let at = goal.at.returns-in_err-raw-clause-stops g c in
-    let w = head_read g at.In_ok-head (script_read g at.In_ok-script (program_read g at.In_ok-program)) in
+    let w = head_read g at.In_ok-loaded (script_read g at.In_ok-script (program_read g at.In_ok-program)) in
     let q = err_from_is_err_and c.from_residual-in_err-raw.result c.from_residual-in_err-raw.ensures.1 in
     rw (q.1, q.2) (stops_samples w (format_in c.in_ok-format.format) (sym c.in_ok-format.ensures.format) (g.D.Desk.state c.load_samples.new.desk)
-    c.in_err-raw.field-0.0 (λ some. sym c.in_ok-head.ensures.named ∙ some) c.in_err-raw.ensures.some c.load_samples.ensures.takes c.in_err-raw.ensures.err
+    c.in_err-raw.field-0.0 (λ some. sym c.in_ok-loaded.ensures.named ∙ some) c.in_err-raw.ensures.some c.load_samples.ensures.takes c.in_err-raw.ensures.err
     (λ other. c.in_err-raw.ensures.steady (λ is. other cc)))
 
 pub returns-in_err-prepared-clause-stops : goal.returns-in_err-prepared-clause-stops
 returns-in_err-prepared-clause-stops g c =
     let at = goal.at.returns-in_err-prepared-clause-stops g c in
-    let w = head_read g at.In_ok-head (script_read g at.In_ok-script (program_read g at.In_ok-program)) in
+    let w = head_read g at.In_ok-loaded (script_read g at.In_ok-script (program_read g at.In_ok-program)) in
     let f = g.D.Desk.state c.load_head.new.desk in
     let h = g.D.Desk.state c.load_samples.new.desk in
     let steady : KeepsFaults f h = c.in_ok-raw.ensures.steady (λ is. absurd cc) in
     let q = err_from_is_err_and c.from_residual-in_err-prepared.result c.from_residual-in_err-prepared.ensures.1 in
     rw (q.1, q.2) (stops_memory w (format_in c.in_ok-format.format) (sym c.in_ok-format.ensures.format) h c.load_samples.ensures.takes
-    (λ t none. behind_kept c.in_ok-head.head (f.left Input) (h.left Input) (c.in_ok-raw.ensures.rest t) (λ some. none (sym c.in_ok-head.ensures.named ∙ some)))
+    (λ t none. behind_kept c.in_ok-loaded.loaded.head (held_in c.in_ok-loaded.loaded) (f.left Input) (h.left Input) (c.in_ok-raw.ensures.rest t)
+    (λ some. none (sym c.in_ok-loaded.ensures.named ∙ some)))
     steady)
 
 pub returns-in_err-prepared-clause-untold : goal.returns-in_err-prepared-clause-untold
@@ -134,7 +139,7 @@ returns-in_err-prepared-clause-untold g c =
 -- ---- what is asked of the parts
 
 pub fit-requires-clause-head : goal.fit-requires-clause-head
-fit-requires-clause-head g c = λ x e. (c.in_ok-head.ensures.ranges x e).0
+fit-requires-clause-head g c = λ x e. (c.in_ok-loaded.ensures.ranges x e).0
 
 pub compute_output-requires-clause-lawful : goal.compute_output-requires-clause-lawful
 compute_output-requires-clause-lawful g c = λ κs lives.
@@ -148,44 +153,45 @@ compute_output-requires-clause-lawful g c = λ κs lives.
 pub returns-clause-reaches : goal.returns-clause-reaches
 returns-clause-reaches g c =
     let at = goal.at.returns-clause-reaches g c in
-    let w = head_read g at.In_ok-head (script_read g at.In_ok-script (program_read g at.In_ok-program)) in
+    let w = head_read g at.In_ok-loaded (script_read g at.In_ok-script (program_read g at.In_ok-program)) in
     let b = g.D.Desk.state c.load_head.new.desk in
     let d = g.D.Desk.state c.load_samples.new.desk in
     reaches_taken w.reaches c.load_samples.ensures.takes
-    (λ t none. behind_kept c.in_ok-head.head (b.left Input) (d.left Input) (c.in_ok-raw.ensures.rest t) (λ some. none (sym c.in_ok-head.ensures.named ∙ some)))
+    (λ t none. behind_kept c.in_ok-loaded.loaded.head (held_in c.in_ok-loaded.loaded) (b.left Input) (d.left Input) (c.in_ok-raw.ensures.rest t)
+    (λ some. none (sym c.in_ok-loaded.ensures.named ∙ some)))
 
 -- nothing was read behind the whole frames
 pub returns-clause-rest : goal.returns-clause-rest
 returns-clause-rest g c = λ t.
     let at = goal.at.returns-clause-rest g c in
-    let w = head_read g at.In_ok-head (script_read g at.In_ok-script (program_read g at.In_ok-program)) in
+    let w = head_read g at.In_ok-loaded (script_read g at.In_ok-script (program_read g at.In_ok-program)) in
     rest_left _ (w.on t) (c.in_ok-raw.ensures.rest (told_before w.reaches.quiet.goes_on t))
 
 pub returns-clause-steady : goal.returns-clause-steady
 returns-clause-steady g c =
     let at = goal.at.returns-clause-steady g c in
-    let w = head_read g at.In_ok-head (script_read g at.In_ok-script (program_read g at.In_ok-program)) in
+    let w = head_read g at.In_ok-loaded (script_read g at.In_ok-script (program_read g at.In_ok-program)) in
     let steady : KeepsFaults (g.D.Desk.state c.load_head.new.desk) (g.D.Desk.state c.load_samples.new.desk) = c.in_ok-raw.ensures.steady (λ is. absurd cc) in
     λ r. steady r ∙ w.before r
 
 pub returns-clause-ready : goal.returns-clause-ready
 returns-clause-ready g c =
     let at = goal.at.returns-clause-ready g c in
-    let w = head_read g at.In_ok-head (script_read g at.In_ok-script (program_read g at.In_ok-program)) in
+    let w = head_read g at.In_ok-loaded (script_read g at.In_ok-script (program_read g at.In_ok-program)) in
     let p = compiled_of c.in_ok-program.program in
-    let head = c.in_ok-head.head in
+    let head = c.in_ok-loaded.loaded.head in
     let format = format_in c.in_ok-format.format in
     let made = c.in_ok-prepared.ensures.made ∙ ap (λ (cs : List Change). made_of p cs head format c.deref.result.now) c.changes.ensures
     ∙ ap (λ (raw : List ℕ). made_of p c.in_ok-script.script head format raw) c.deref.ensures.value in
-    ready_is w format (sym c.in_ok-format.ensures.format) c.in_ok-head.ensures.ranges c.in_ok-raw.raw.items (ready_of c.in_ok-prepared.prepared.0)
+    ready_is w format (sym c.in_ok-format.ensures.format) c.in_ok-loaded.ensures.ranges c.in_ok-raw.raw.items (ready_of c.in_ok-prepared.prepared.0)
     c.in_ok-raw.ensures.raw made
 
 pub returns-clause-ran : goal.returns-clause-ran
 returns-clause-ran g c =
     let at = goal.at.returns-clause-ran g c in
-    let w = head_read g at.In_ok-head (script_read g at.In_ok-script (program_read g at.In_ok-program)) in
+    let w = head_read g at.In_ok-loaded (script_read g at.In_ok-script (program_read g at.In_ok-program)) in
     let p = compiled_of c.in_ok-program.program in
-    let head = c.in_ok-head.head in
+    let head = c.in_ok-loaded.loaded.head in
     let format = format_in c.in_ok-format.format in
     let prepared = c.in_ok-prepared.prepared.0 in
     let there : List ℕ → ℕ = λ raw. length (frames_of format.frames head raw) in

@@ -9,7 +9,7 @@ use Rattle.fv_top.specs.inner.Prepared.{ready_of}
 use Rattle.fv_base.specs.declared.role.Role.TheVariants.{Output}
 use Rattle.fv_outside.specs.Desk.{DeskState}
 use Rattle.fv_top_report.specs.declared.refusal.Refusal.{Refusal}
-use Rattle.fv_top_report.specs.declared.refusal.Refusal.TheVariants.{WaveTruncated}
+use Rattle.fv_top.specs.Inputs.{truncated}
 use Rattle.fv_top.proofs.Stopping.{Begins, Writes, stopped_before, stopped_writing, stopped_cut, stopped_telling, played_whole}
 use Rattle.fv_top.proofs.Ran.{untold_first}
 use Rattle.fv_top.proofs.run.play_run.Given.{Over}
@@ -53,20 +53,22 @@ returns-in-Err-clause-stops g c = λ words asks.
 pub returns-in-Some-clause-stops : goal.returns-in-Some-clause-stops
 returns-in-Some-clause-stops g c = λ words asks.
     let at = goal.at.returns-in-Some-clause-stops g c in
-    stopped_cut (writes g at.In-Ok (begins g at.After-write_output words asks)) c.in-Some.place (ap (option_map WaveTruncated) c.in-Some.is)
+    let coding = c.in_ok-prepared.prepared.coding in
+    let written = writes g at.In-Ok (begins g at.After-write_output words asks) in
+    rw c.truncated.ensures (stopped_cut written coding c.in-Some.place (ap (option_map (truncated coding)) c.in-Some.is))
 
 pub returns-in-Ok-report_done-clause-done : goal.returns-in-Ok-report_done-clause-done
 returns-in-Ok-report_done-clause-done g c = λ words asks.
     let at = goal.at.returns-in-Ok-report_done-clause-done g c in
     let written = writes g at.In-Ok (begins g at.After-write_output words asks) in
-    let whole : (ready_of c.in_ok-prepared.prepared).cut ≡ None = ap (option_map WaveTruncated) c.in-None.is in
+    let whole : (ready_of c.in_ok-prepared.prepared).cut ≡ None = ap (option_map (truncated c.in_ok-prepared.prepared.coding)) c.in-None.is in
     played_whole written whole (g.D.Desk.state c.report_done.new.desk) c.in-Ok-report_done.ensures.ok c.in-Ok-report_done.ensures.steady
 
 pub returns-clause-stops : goal.returns-clause-stops
 returns-clause-stops g c = λ words asks.
     let at = goal.at.returns-clause-stops g c in
     let written = writes g at.In-Ok (begins g at.After-write_output words asks) in
-    let whole : (ready_of c.in_ok-prepared.prepared).cut ≡ None = ap (option_map WaveTruncated) c.in-None.is in
+    let whole : (ready_of c.in_ok-prepared.prepared).cut ≡ None = ap (option_map (truncated c.in_ok-prepared.prepared.coding)) c.in-None.is in
     let failed = c.in-Err-report_done.ensures in
     stopped_telling written whole (g.D.Desk.state c.report_done.new.desk) failed.err failed.failed
     (λ t sure room. let answered = failed.answers t sure room in absurd cc)

@@ -1,0 +1,26 @@
+// Of which kinds a run's files are.
+
+/// Of which kind the input of a run is.
+#[derive(Clone, Copy, PartialEq, Eq, Debug)]
+pub enum InputKind {
+    /// A WAV file.
+    Wave,
+    /// An AU file where its first four bytes say so, else a WAV file.
+    Either,
+}
+
+/// Of which kind its output is.
+#[derive(Clone, Copy, PartialEq, Eq, Debug)]
+pub enum OutputKind {
+    /// A WAV file.
+    Wave,
+    /// An AU file.
+    Au,
+}
+
+/// Of which kinds the files of a run are.
+#[derive(Clone, Copy, PartialEq, Eq, Debug)]
+pub struct Manner {
+    pub input: InputKind,
+    pub output: OutputKind,
+}
