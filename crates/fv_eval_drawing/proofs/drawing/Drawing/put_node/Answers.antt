@@ -1,4 +1,4 @@
-use Rattle.std.proofs.Common.{ℕ, refl, sym, subst}
+use Rattle.std.proofs.Common.{refl, sym, subst}
 use Rattle.fv_diagram.specs.Arena.{Arena, ChildrenBelow, count_of}
 use Rattle.fv_eval_drawing.specs.Makes.{AddsDiagrams, Canvas}
 use Rattle.fv_eval_drawing.proofs.Remembered.{put_extends, put_composed, still_remembers}
