@@ -6,4 +6,5 @@ pub mod Playing
 pub mod Frames
 pub mod Taken
 pub mod Planned
+pub mod Simpler
 pub mod Whole

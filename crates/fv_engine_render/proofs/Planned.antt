@@ -5,7 +5,8 @@ use Rattle.fv_num.specs.Interval.{Interval}
 use Rattle.fv_diagram.specs.Diagram.{Diagram, inputs, control_bound}
 use Rattle.fv_signal.specs.declared.signal.Signal.TheVariants.{Const}
 use Rattle.fv_signal.specs.Value.{Graph}
-use Rattle.fv_propagate.specs.Propagated.{AreShort, NamesOf}
+use Rattle.fv_propagate.specs.Propagated.{NamesOf}
+use Rattle.fv_simplify_rules.specs.Reducible.{AreShort}
 use Rattle.fv_propagate.proofs.Named.{control_below}
 use Rattle.fv_split_plan.specs.View.{PlanView}
 use Rattle.fv_split_plan.specs.Plans.{IsPlanOf}
@@ -26,7 +27,7 @@ planned {g} {channels} {controls} {p} loops histories made = record {
   fits = record {
     loops = loops made.of.stands made.some;
     inputs = λ j i h. made.names.inputs_there i (made.of.names.inputs j i h);
-    histories = histories made.of.stands DELAY_BUDGET (omega arith) (λ r x back max h. let k = made.short r x back max h.within h.is in omega (arith, k));
+    histories = histories made.of.stands DELAY_BUDGET (omega arith) (λ r x back max h. let k = made.short r x back max h in omega (arith, k));
   };
   controls_there = λ k h. made.names.controls_there k (made.of.names.controls k h);
 }

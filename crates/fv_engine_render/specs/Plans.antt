@@ -8,7 +8,8 @@ use Rattle.fv_num.specs.Interval.{Interval}
 use Rattle.fv_diagram.specs.Diagram.{Diagram, outputs}
 use Rattle.fv_signal.specs.Value.{Graph, IsGraph}
 use Rattle.fv_signal.specs.Rates.{NamesControl}
-use Rattle.fv_propagate.specs.Propagated.{AreShort, NamesWithin, Propagates}
+use Rattle.fv_propagate.specs.Propagated.{NamesWithin, Propagates}
+use Rattle.fv_simplify_rules.specs.Reducible.{AreShort}
 use Rattle.fv_loopcode.specs.Code.{NamesHeld, NamesInput}
 use Rattle.fv_split_plan.specs.View.{PlanView, lane_info, code_of}
 use Rattle.fv_split_plan.specs.Plans.{PlanStands, IsPlanOf, NamesChannel}

@@ -11,7 +11,7 @@ use Rattle.fv_diagram.specs.Controls.{IsBounded}
 use Rattle.fv_interval.specs.Delays.{delays_of, AreAccepted}
 use Rattle.fv_interval.specs.Controls.{spans_of}
 use Rattle.fv_signal.specs.Value.{Graph}
-use Rattle.fv_propagate.specs.Propagated.{AreShort}
+use Rattle.fv_simplify_rules.specs.Reducible.{AreShort}
 use Rattle.fv_engine_tasks.specs.Block.{vectors_of}
 use Rattle.fv_engine_render.specs.Plans.{IsGraphOf, NamesOnly}
 use Rattle.fv_engine_render.specs.Runs.{RanGraph}

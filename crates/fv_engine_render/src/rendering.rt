@@ -2,8 +2,8 @@
 
 ghost use Rattle.std.specs.Prelude.{◌≡◌, ◌*◌, ◌<◌, All, IfOk, OnErr, length};
 ghost use Rattle.fv_num.specs.Frames.{rows};
-ghost use Rattle.fv_num.specs.SpanLaws.{AreSpans};
 ghost use Rattle.fv_diagram.specs.Arena.{count_of, tree_of};
+ghost use Rattle.fv_diagram.specs.Controls.{IsBounded};
 ghost use Rattle.fv_diagram.specs.Diagram.{inputs, outputs, IsWellFormed, HasNoFreeSlot};
 ghost use Rattle.fv_control.specs.Streams.{control_streams};
 ghost use Rattle.fv_interval.specs.Delays.{delays_of, AreAccepted};
@@ -19,10 +19,11 @@ use crate::controls::{initial_of, numbers_fit, spans_fit};
 use crate::engines::{engine, plan_of};
 use fv_control::Change;
 use fv_diagram::{ControlInfo, DiagramId, Diagrams, answers_each, answers_wide};
-use fv_interval::Delays;
+use fv_interval::{Delays, spans_of};
 use fv_outside::Gate;
 use fv_propagate::propagate;
 use fv_signal::Graph;
+use fv_simplify::simplify;
 use std::alloc::{AllocError, Global};
 use std::marker::Sync;
 use std::sync::Wait;
@@ -52,17 +53,21 @@ pub struct Rendered {
     pub ran: Ran,
 }
 
-/// The graph of a diagram.
+/// The graph of a diagram, made simpler.
 pub fn compile(alloc: Global, source: &Source<'_, '_, '_>) -> Result<Graph, AllocError>
     requires root { source.now.root < count_of source.now.diagrams.now }
     requires well { IsWellFormed (tree_of source.now.diagrams.now source.now.root) }
     requires closed { HasNoFreeSlot (tree_of source.now.diagrams.now source.now.root) }
-    requires spans { AreSpans (spans_of source.now.controls.now) }
+    requires bounded { All IsBounded source.now.controls.now }
     requires accepted { AreAccepted (delays_of (tree_of source.now.diagrams.now source.now.root) (spans_of source.now.controls.now)) source.now.delays.now }
     ensures { IfOk result (IsGraphOf (tree_of source.now.diagrams.now source.now.root) (spans_of source.now.controls.now)) }
 {
-    let graph = propagate(alloc, source.diagrams, source.root, source.delays)?;
-    // For the prover: the graph is finished.
+    spans_fit(source.controls);
+    let whole = propagate(alloc, source.diagrams, source.root, source.delays)?;
+    let spans = spans_of(alloc, source.controls)?;
+    let graph = simplify(alloc, &whole, &spans)?;
+    // For the prover: both graphs are finished.
+    let _whole = whole.outputs();
     let _outputs = graph.outputs();
     Ok(graph)
 }
