@@ -11,8 +11,8 @@ use fv_graph::Tasks;
 use fv_outside::Reads;
 use fv_split_plan::Plan;
 
-// The lanes of a loop.
-fn lanes_of(lists: &[Vec<u64>], loop_no: u64) -> &[u64]
+/// The lanes of a loop.
+pub(crate) fn lanes_of(lists: &[Vec<u64>], loop_no: u64) -> &[u64]
     requires { loop_no < length lists.now }
     ensures { (d : Vec ℕ) → result.now ≡ (slice_index_or lists.now loop_no d).items }
 {
