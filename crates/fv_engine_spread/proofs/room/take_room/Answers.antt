@@ -1,0 +1,56 @@
+use Rattle.std.proofs.Common.{◌≡◌, ◌*◌, ◌<◌, ℕ, List, [], ◌∷◌, ◌++◌, length, get_or, sym, ap, ap₂, ◌∙◌, subst, arith, inl, inr}
+use Rattle.std.specs.Global.{Box}
+use Rattle.std.proofs.lemmas.Bool.{cases_lt}
+use Rattle.std.proofs.lemmas.List.{get_or_append_left}
+use Rattle.std.proofs.Math.Seq.{get_or-append_seam}
+use Rattle.fv_outside.specs.Tasks.{Tasks}
+use Rattle.fv_split_plan.specs.View.{PlanView, code_of}
+use Rattle.fv_engine_lanes.specs.Plans.{own_lanes, sources_of, lanes_of_all, readers_of}
+use Rattle.fv_engine_codes.specs.declared.counts.LaneCount.{LaneCount}
+use Rattle.fv_engine_codes.specs.Codes.{IsLaneCount}
+use Rattle.fv_engine_parcels.specs.declared.content.Writers.{Writers}
+use Rattle.fv_engine_spread.specs.Rooms.{IsRoom}
+use Rattle.fv_engine_spread.proofs.room.take_room.Goals as goal
+
+room_same : (w : Writers) (o p s t a b l m : ℕ) → o ≡ p → s ≡ t → a ≡ b → l ≡ m → IsRoom o s a l w → IsRoom p t b m w
+room_same w o p s t a b l m e f g h r =
+    subst (λ (x : ℕ). IsRoom x t b m w) e (subst (λ (x : ℕ). IsRoom o x b m w) f (subst (λ (x : ℕ). IsRoom o s x m w) g
+    (subst (λ (x : ℕ). IsRoom o s a x w) h r)))
+
+pub loop-j-preserved : goal.loop-j-preserved
+loop-j-preserved c =
+    let p : PlanView = c.args.plan.now in
+    let g : Tasks = c.args.tasks.now.tasks in
+    let j : ℕ = c.loop-j.j in
+    let old : List (Box Writers) = c.loop-j.rooms.items in
+    let room : Box Writers = c.in_ok-room-2.room in
+    let there : j < p.loops = omega (arith, c.loop-j-test.true, c.loops-j-end.ensures.loops) in
+    let n : LaneCount = get_or c.args.counts.now j (record { own = 0; seen = 0 }) in
+    let counted : IsLaneCount p g j n = c.requires.counts.each j (record { own = 0; seen = 0 }) there in
+    let lists : c.in_ok-lists.lists ≡ g.vectors * readers_of g j =
+        c.in_ok-lists.ensures ∙ ap₂ (λ (a b : ℕ). a * b) (c.from.ensures ∙ c.vectors.ensures.value) c.count_readers.ensures in
+    let steps : c.len.result ≡ length (code_of p j) = c.len.ensures ∙ ap length c.code.ensures in
+    let long : length old ≡ j = omega (arith, c.loop-j.invariant.count, c.loop-j.rooms.ok) in
+    let here : IsRoom (length (own_lanes p j)) (length (lanes_of_all p (sources_of g j))) (length (code_of p j)) (g.vectors * readers_of g j) room.value =
+        subst (λ (w : Writers). IsRoom (length (own_lanes p j)) (length (lanes_of_all p (sources_of g j))) (length (code_of p j))
+            (g.vectors * readers_of g j) w)
+        (sym c.in_ok-room-2.ensures.ok)
+        (room_same c.in_ok-room.room n.own (length (own_lanes p j)) n.seen (length (lanes_of_all p (sources_of g j))) c.len.result (length (code_of p j))
+        c.in_ok-lists.lists (g.vectors * readers_of g j) counted.own counted.seen steps lists c.in_ok-room.ensures) in
+    record {
+      each = λ i d l. subst (λ (ws : List (Box Writers)). IsRoom (length (own_lanes p i)) (length (lanes_of_all p (sources_of g i))) (length (code_of p i))
+          (g.vectors * readers_of g i) (get_or ws i d).value) (sym c.push_reserved.ensures.items) (elim (cases_lt i j) [
+        | inl low ↦ subst (λ (b : Box Writers). IsRoom (length (own_lanes p i)) (length (lanes_of_all p (sources_of g i))) (length (code_of p i))
+            (g.vectors * readers_of g i) b.value) (sym (get_or_append_left old (room ∷ []) d i (omega (arith, low, long)))) (c.loop-j.invariant.each i d low)
+        | inr high ↦
+            let z : j ≡ i = omega (arith, high, l) in
+            let at : get_or (old ++ room ∷ []) i d ≡ room = ap (λ (k : ℕ). get_or (old ++ room ∷ []) k d) (sym z ∙ sym long)
+                ∙ get_or-append_seam old room [] d in
+            subst (λ (b : Box Writers). IsRoom (length (own_lanes p i)) (length (lanes_of_all p (sources_of g i))) (length (code_of p i))
+            (g.vectors * readers_of g i) b.value) (sym at)
+            (subst (λ (k : ℕ). IsRoom (length (own_lanes p k)) (length (lanes_of_all p (sources_of g k))) (length (code_of p k))
+                (g.vectors * readers_of g k) room.value) z here)
+      ]);
+      count = omega (arith, c.push_reserved.ensures.len, c.loop-j.invariant.count);
+      room = omega (arith, c.push_reserved.ensures.capacity, c.loop-j.invariant.room);
+    }

@@ -1,0 +1,28 @@
+-- The lists of the loops of a block, before any lane is begun (this project's profile).
+use Rattle.std.specs.Prelude.{◌≡◌, ℕ, ◌*◌, ◌<◌, ◌≤◌, List, [], length, slice_index_or}
+use Rattle.std.specs.Vec.{vec_capacity}
+use Rattle.std.specs.Global.{Box}
+use Rattle.fv_outside.specs.Tasks.{Tasks}
+use Rattle.fv_split_plan.specs.View.{PlanView, code_of}
+use Rattle.fv_engine_lanes.specs.Plans.{own_lanes, sources_of, lanes_of_all, readers_of}
+use Rattle.fv_engine_parcels.specs.Contents.{AreRoomy}
+use Rattle.fv_engine_parcels.specs.declared.content.Writers.{Writers}
+
+-- Empty lists of one loop: room for so many lanes of its own and so many seen ones, so many registers, and so many lists, each
+-- with room for the lanes of its own.
+pub record IsRoom (own seen steps lists : ℕ) (w : Writers) : Type 0 where
+  pub nothing : w.lanes.own.items ≡ []
+  pub own_room : own ≤ vec_capacity w.lanes.own
+  pub nothing_seen : w.lanes.seen.items ≡ []
+  pub seen_room : seen ≤ vec_capacity w.lanes.seen
+  pub regs : length w.regs.items ≡ steps
+  pub lists_are : length w.lists.items ≡ lists
+  pub roomy : AreRoomy w.lists.items own
+
+-- the lists of each loop: for its lanes and those of the loops that it reads, for the steps of its code, and for each vector as
+-- many as loops read it
+pub record AreRooms (p : PlanView) (g : Tasks) (ws : List (Box Writers)) : Type 0 where
+  pub count : length ws ≡ p.loops
+  pub each : (j : ℕ) (d : Box Writers) → j < p.loops
+      → IsRoom (length (own_lanes p j)) (length (lanes_of_all p (sources_of g j))) (length (code_of p j)) (g.vectors * readers_of g j)
+          (slice_index_or ws j d).value

@@ -1,0 +1,96 @@
+// What the lists of a block take of memory, before any lane is begun.
+
+ghost use Rattle.std.specs.Prelude.{◌≡◌, ◌+◌, ◌*◌, ◌<◌, length, IfOk, vec_len};
+ghost use Rattle.fv_split_plan.specs.View.{code_of};
+ghost use Rattle.fv_engine_lanes.specs.Plans.{own_lanes, sources_of, lanes_of_all, readers_of};
+ghost use Rattle.fv_engine_codes.specs.Codes.{AreOfPlan, AreLaneCounts};
+ghost use Rattle.fv_engine_parcels.specs.Contents.{AreRoomy};
+ghost use Rattle.fv_engine_spread.specs.Rooms.{IsRoom, AreRooms};
+
+use fv_engine_codes::LaneCount;
+use fv_engine_lanes::LoopLanes;
+use fv_engine_parcels::Writers;
+use fv_graph::Tasks;
+use fv_lines::Seen;
+use fv_split_plan::Plan;
+use std::alloc::{AllocError, Global};
+
+// Empty lists, each with room for so many seen lanes.
+fn seen_lists<'a>(
+    alloc: Global,
+    count: u64,
+    room: u64,
+) -> Result<Vec<Vec<Seen<'a>>>, AllocError>
+    ensures count { IfOk result (λ v. vec_len v ≡ count) }
+    ensures roomy { IfOk result (λ v. AreRoomy v.items room) }
+{
+    let mut lists = Vec::with_capacity(alloc, count as usize)?;
+    for _i in 0..count {
+        let list = Vec::with_capacity(alloc, room as usize)?;
+        lists.push_reserved(list);
+    }
+    Ok(lists)
+}
+
+// More than a type counts is want of memory.
+fn times(a: u64, b: u64) -> Result<u64, AllocError>
+    ensures { IfOk result (λ n. n ≡ a * b) }
+{
+    match a.checked_mul(b) {
+        Some(n) => Ok(n),
+        None => Err(AllocError),
+    }
+}
+
+// How many loops read a loop.
+fn count_readers(tasks: &Tasks, loop_no: u64) -> u64
+    requires { loop_no < tasks.now.tasks.loops }
+    ensures { result ≡ readers_of tasks.now.tasks loop_no }
+{
+    // Called for its clauses.
+    let _loops = tasks.loops();
+    (tasks.outward(loop_no).len() - 1) as u64
+}
+
+// The lists of one loop: for its own lanes, for the lanes that it sees, a register for each step, and lists for the lanes that it
+// hands to those that read it.
+fn loop_room<'a>(
+    alloc: Global,
+    count: LaneCount,
+    steps: u64,
+    lists: u64,
+) -> Result<Writers<'a>, AllocError>
+    ensures { IfOk result (λ w. IsRoom count.own count.seen steps lists w) }
+{
+    let own = Vec::with_capacity(alloc, count.own as usize)?;
+    let seen = Vec::with_capacity(alloc, count.seen as usize)?;
+    let regs = Vec::from_elem(alloc, 0, steps as usize)?;
+    let lists = seen_lists(alloc, lists, count.own)?;
+    Ok(Writers {
+        lanes: LoopLanes { own, seen },
+        regs,
+        lists,
+    })
+}
+
+/// The lists of each loop of a plan for a block of these tasks: what goes over the loop's edges is kept in them, so that no task takes
+/// memory. More than a type counts is want of memory too.
+pub fn take_room<'a>(
+    alloc: Global,
+    plan: &Plan,
+    tasks: &Tasks,
+    counts: &[LaneCount],
+) -> Result<Vec<Box<Writers<'a>>>, AllocError>
+    requires of_plan { AreOfPlan plan.now tasks.now.tasks }
+    requires counts { AreLaneCounts plan.now tasks.now.tasks counts.now }
+    ensures { IfOk result (λ v. AreRooms plan.now tasks.now.tasks v.items) }
+{
+    let mut rooms = Vec::with_capacity(alloc, plan.loops() as usize)?;
+    for j in 0..plan.loops() {
+        let lists = times(u64::from(tasks.vectors()), count_readers(tasks, j))?;
+        let room = loop_room(alloc, counts[j as usize], plan.code(j).len(), lists)?;
+        let room = Box::new(alloc, room)?;
+        rooms.push_reserved(room);
+    }
+    Ok(rooms)
+}
