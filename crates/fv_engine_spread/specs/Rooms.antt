@@ -25,4 +25,4 @@ pub record AreRooms (p : PlanView) (g : Tasks) (ws : List (Box Writers)) : Type 
   pub count : length ws ≡ p.loops
   pub each : (j : ℕ) (d : Box Writers) → j < p.loops
       → IsRoom (length (own_lanes p j)) (length (lanes_of_all p (sources_of g j))) (length (code_of p j)) (g.vectors * readers_of g j)
-          (slice_index_or ws j d).value
+      (slice_index_or ws j d).value

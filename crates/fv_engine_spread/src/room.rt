@@ -16,11 +16,7 @@ use fv_split_plan::Plan;
 use std::alloc::{AllocError, Global};
 
 // Empty lists, each with room for so many seen lanes.
-fn seen_lists<'a>(
-    alloc: Global,
-    count: u64,
-    room: u64,
-) -> Result<Vec<Vec<Seen<'a>>>, AllocError>
+fn seen_lists<'a>(alloc: Global, count: u64, room: u64) -> Result<Vec<Vec<Seen<'a>>>, AllocError>
     ensures count { IfOk result (λ v. vec_len v ≡ count) }
     ensures roomy { IfOk result (λ v. AreRoomy v.items room) }
 {

@@ -28,29 +28,29 @@ loop-j-preserved c =
     let n : LaneCount = get_or c.args.counts.now j (record { own = 0; seen = 0 }) in
     let counted : IsLaneCount p g j n = c.requires.counts.each j (record { own = 0; seen = 0 }) there in
     let lists : c.in_ok-lists.lists ≡ g.vectors * readers_of g j =
-        c.in_ok-lists.ensures ∙ ap₂ (λ (a b : ℕ). a * b) (c.from.ensures ∙ c.vectors.ensures.value) c.count_readers.ensures in
+    c.in_ok-lists.ensures ∙ ap₂ (λ (a b : ℕ). a * b) (c.from.ensures ∙ c.vectors.ensures.value) c.count_readers.ensures in
     let steps : c.len.result ≡ length (code_of p j) = c.len.ensures ∙ ap length c.code.ensures in
     let long : length old ≡ j = omega (arith, c.loop-j.invariant.count, c.loop-j.rooms.ok) in
     let here : IsRoom (length (own_lanes p j)) (length (lanes_of_all p (sources_of g j))) (length (code_of p j)) (g.vectors * readers_of g j) room.value =
-        subst (λ (w : Writers). IsRoom (length (own_lanes p j)) (length (lanes_of_all p (sources_of g j))) (length (code_of p j))
-            (g.vectors * readers_of g j) w)
-        (sym c.in_ok-room-2.ensures.ok)
-        (room_same c.in_ok-room.room n.own (length (own_lanes p j)) n.seen (length (lanes_of_all p (sources_of g j))) c.len.result (length (code_of p j))
-        c.in_ok-lists.lists (g.vectors * readers_of g j) counted.own counted.seen steps lists c.in_ok-room.ensures) in
+    subst (λ (w : Writers). IsRoom (length (own_lanes p j)) (length (lanes_of_all p (sources_of g j))) (length (code_of p j))
+    (g.vectors * readers_of g j) w)
+    (sym c.in_ok-room-2.ensures.ok)
+    (room_same c.in_ok-room.room n.own (length (own_lanes p j)) n.seen (length (lanes_of_all p (sources_of g j))) c.len.result (length (code_of p j))
+    c.in_ok-lists.lists (g.vectors * readers_of g j) counted.own counted.seen steps lists c.in_ok-room.ensures) in
     record {
       each = λ i d l. subst (λ (ws : List (Box Writers)). IsRoom (length (own_lanes p i)) (length (lanes_of_all p (sources_of g i))) (length (code_of p i))
           (g.vectors * readers_of g i) (get_or ws i d).value) (sym c.push_reserved.ensures.items) (elim (cases_lt i j) [
-        | inl low ↦ subst (λ (b : Box Writers). IsRoom (length (own_lanes p i)) (length (lanes_of_all p (sources_of g i))) (length (code_of p i))
-            (g.vectors * readers_of g i) b.value) (sym (get_or_append_left old (room ∷ []) d i (omega (arith, low, long)))) (c.loop-j.invariant.each i d low)
-        | inr high ↦
-            let z : j ≡ i = omega (arith, high, l) in
-            let at : get_or (old ++ room ∷ []) i d ≡ room = ap (λ (k : ℕ). get_or (old ++ room ∷ []) k d) (sym z ∙ sym long)
+            | inl low ↦ subst (λ (b : Box Writers). IsRoom (length (own_lanes p i)) (length (lanes_of_all p (sources_of g i))) (length (code_of p i))
+                (g.vectors * readers_of g i) b.value) (sym (get_or_append_left old (room ∷ []) d i (omega (arith, low, long)))) (c.loop-j.invariant.each i d low)
+            | inr high ↦
+                let z : j ≡ i = omega (arith, high, l) in
+                let at : get_or (old ++ room ∷ []) i d ≡ room = ap (λ (k : ℕ). get_or (old ++ room ∷ []) k d) (sym z ∙ sym long)
                 ∙ get_or-append_seam old room [] d in
-            subst (λ (b : Box Writers). IsRoom (length (own_lanes p i)) (length (lanes_of_all p (sources_of g i))) (length (code_of p i))
-            (g.vectors * readers_of g i) b.value) (sym at)
-            (subst (λ (k : ℕ). IsRoom (length (own_lanes p k)) (length (lanes_of_all p (sources_of g k))) (length (code_of p k))
+                subst (λ (b : Box Writers). IsRoom (length (own_lanes p i)) (length (lanes_of_all p (sources_of g i))) (length (code_of p i))
+                (g.vectors * readers_of g i) b.value) (sym at)
+                (subst (λ (k : ℕ). IsRoom (length (own_lanes p k)) (length (lanes_of_all p (sources_of g k))) (length (code_of p k))
                 (g.vectors * readers_of g k) room.value) z here)
-      ]);
+          ]);
       count = omega (arith, c.push_reserved.ensures.len, c.loop-j.invariant.count);
       room = omega (arith, c.push_reserved.ensures.capacity, c.loop-j.invariant.room);
     }

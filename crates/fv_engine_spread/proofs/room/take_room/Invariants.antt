@@ -10,7 +10,7 @@ abbrev pub invariant-loop-j : goal.invariant-loop-j
 invariant-loop-j l = record {
   each : (i : ℕ) (d : Box Writers) → i < l.j
       → IsRoom (length (own_lanes l.plan i)) (length (lanes_of_all l.plan (sources_of l.tasks.tasks i))) (length (code_of l.plan i))
-          (l.tasks.tasks.vectors * readers_of l.tasks.tasks i) (slice_index_or l.rooms.items i d).value;
+      (l.tasks.tasks.vectors * readers_of l.tasks.tasks i) (slice_index_or l.rooms.items i d).value;
   count : vec_len l.rooms ≡ l.j;
   room : l.plan.loops ≤ vec_capacity l.rooms;
 }
