@@ -43,6 +43,8 @@ fn open_file(alloc: Global) -> Result<Vec<u8>, AllocError> {
 fn plays_au_files(rt: HostRuntime) -> Result<(), Fail> {
     let alloc = rt.alloc();
     let open = open_file(alloc)?;
+    let mut open_cut = open_file(alloc)?;
+    open_cut.truncate(29);
     let mut two = changed(alloc, 11, 4)?;
     two.truncate(28);
     let mut louder = Vec::from_slice(alloc, &AU_BYTES[..24])?;
@@ -76,13 +78,7 @@ fn plays_au_files(rt: HostRuntime) -> Result<(), Fail> {
             &AU_THREE,
             b"done 3 frames\n",
         ),
-        (
-            &TO_AU,
-            b"process = _;",
-            &open[..29],
-            &two,
-            b"done 2 frames\n",
-        ),
+        (&TO_AU, b"process = _;", &open_cut, &two, b"done 2 frames\n"),
         (
             &TO_AU,
             b"process = _ + 1;",
