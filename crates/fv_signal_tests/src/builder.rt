@@ -81,7 +81,10 @@ fn groups_are_closed_together(rt: HostRuntime) -> Result<(), Fail> {
     let first = builder.open_groups(3)?;
     let back = builder.node(Signal::Back { group: 2, i: 0 })?;
     builder.close_group(first, &[])?;
-    let members = vec![in rt.alloc(); vec![in rt.alloc(); input, back]?, vec![in rt.alloc(); input]?]?;
+    let members = vec![in rt.alloc();
+        vec![in rt.alloc(); input, back]?,
+        vec![in rt.alloc(); input]?,
+    ]?;
     builder.close_groups(first + 1, members);
     let graph = builder.finish(&[back])?;
     assert_eq!(rt; graph.groups(), 3);

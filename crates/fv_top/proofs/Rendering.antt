@@ -189,8 +189,12 @@ made_is old run files p raw r k e is =
     let all = data_of p.source.head p.source.bytes in
     let made : r ≡ made_of p.of.compiled p.changes p.source.head p.format all = is ∙ ap (made_of p.of.compiled p.changes p.source.head p.format) e in (
       cut_is p.source.head p.source.bytes p.format
-          (λ h named. let x = k h named in (x.0, x.1, fits_frames (coding_of run.manner.output) run.settings d h p.format
-          (ap (format_of (coding_of run.manner.output) run.settings d) (sym named) ∙ p.fits)))
+          (λ h named. let x = k h named in (
+            x.0,
+            x.1,
+            fits_frames (coding_of run.manner.output) run.settings d h p.format
+                (ap (format_of (coding_of run.manner.output) run.settings d) (sym named) ∙ p.fits),
+          ))
           ∙ sym (ap (λ (w : Ready). w.cut) made),
       ap (λ (w : Ready). w.format.frames) made,
       ap file_in made ∙ file_is d c p.format (present_in p.format p.source) _
