@@ -28,7 +28,7 @@ pub const MOST_BLOCK: u32 = 4096;
 pub const MOST_VECTORS: u32 = 64;
 
 /// How many workers a run may ask for.
-pub const MOST_WORKERS: u32 = 1;
+pub const MOST_WORKERS: u32 = 16;
 
 /// How many voices may be made.
 pub const MOST_VOICES: u32 = 64;

@@ -152,5 +152,9 @@ made_of_one = refl
 checked : job_in (codes "faustvec" ∷ codes "check" ∷ codes "p.dsp" ∷ []) ≡ Ok (Checking (codes "p.dsp"))
 checked = refl
 
-one_worker : with (codes "--workers=2" ∷ []) ≡ Err Range
-one_worker = refl
+all_workers : with (codes "--workers=16" ∷ [])
+    ≡ Ok (from_file (record { block = 512; vector = 32; workers = 16; bits = None; frames = None; rate = None }))
+all_workers = refl
+
+too_many_workers : with (codes "--workers=17" ∷ []) ≡ Err Range
+too_many_workers = refl
