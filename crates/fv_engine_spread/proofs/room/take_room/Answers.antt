@@ -41,7 +41,8 @@ loop-j-preserved c =
       each = λ i d l. subst (λ (ws : List (Box Writers)). IsRoom (length (own_lanes p i)) (length (lanes_of_all p (sources_of g i))) (length (code_of p i))
           (g.vectors * readers_of g i) (get_or ws i d).value) (sym c.push_reserved.ensures.items) (elim (cases_lt i j) [
             | inl low ↦ subst (λ (b : Box Writers). IsRoom (length (own_lanes p i)) (length (lanes_of_all p (sources_of g i))) (length (code_of p i))
-                (g.vectors * readers_of g i) b.value) (sym (get_or_append_left old (room ∷ []) d i (omega (arith, low, long)))) (c.loop-j.invariant.each i d low)
+                (g.vectors * readers_of g i) b.value) (sym (get_or_append_left old (room ∷ []) d i (omega (arith, low, long))))
+                (c.loop-j.invariant.each i d low)
             | inr high ↦
                 let z : j ≡ i = omega (arith, high, l) in
                 let at : get_or (old ++ room ∷ []) i d ≡ room = ap (λ (k : ℕ). get_or (old ++ room ∷ []) k d) (sym z ∙ sym long)
