@@ -1,1 +1,3 @@
+pub mod DealtSoFar
 pub mod Entering
+pub mod FirstLanes

@@ -1,0 +1,27 @@
+// The lanes of a block go to their loops.
+
+ghost use Rattle.std.specs.Prelude.{◌≡◌, length};
+ghost use Rattle.fv_outside.specs.Tasks.{Tasks};
+ghost use Rattle.fv_engine_spread.specs.Dealt.{AreDealt};
+ghost use Rattle.fv_engine_spread.specs.Rooms.{AreRooms};
+
+use fv_engine_parcels::Writers;
+use fv_lines::LaneWriter;
+use fv_split_plan::Plan;
+
+/// Each lane's writer goes to the list of its loop, lane by lane, so that a loop has its lanes in their order.
+pub fn deal<'a>(plan: &Plan, all: Vec<LaneWriter<'a>>, rooms: &mut [Box<Writers<'a>>])
+    requires count { length all.items ≡ length plan.now.lanes }
+    requires rooms { (g : Tasks) × AreRooms plan.now g rooms.old }
+    ensures { AreDealt plan.now all.entry.items rooms.old rooms.new }
+{
+    // Called for its clauses.
+    let _loops = plan.loops();
+    let lanes = plan.lanes();
+    let mut lane = 0;
+    for writer in all {
+        let room = &mut rooms[lanes[lane].owner as usize];
+        room.lanes.own.push_reserved(writer);
+        lane += 1;
+    }
+}
