@@ -48,7 +48,7 @@ came k j v ps p rest l e a is r =
       keys = subst (λ (qs : List LoopParcel). All (λ (q : LoopParcel). q.start.value ≡ k) qs) (sym r) (keys_drop k ps a);
     }
 
-pub writers_came : (k k0 : Start) (j v e : ℕ) (w : Writers) → k0 ≡ k → e ≡ chain_edge (tasks_in k) j v → j < (tasks_in k).loops
+writers_came : (k k0 : Start) (j v e : ℕ) (w : Writers) → k0 ≡ k → e ≡ chain_edge (tasks_in k) j v → j < (tasks_in k).loops
     → AreHandedOn k0 (place_in (tasks_in k0) e) (e / stride (tasks_in k0)) 0 w → AreHandedOn k j v 0 w
 writers_came k k0 j v e w key edge l a =
     let c : IsChainAt (tasks_in k) j v (chain_edge (tasks_in k) j v) = chain_is_at (tasks_in k) j v l in
@@ -66,13 +66,26 @@ none_seen k k0 j v e key edge l a =
     absurd (omega (arith, d, c.place, l))
 
 -- the lanes that come over the edges of the pairs into a task
-pub lanes_in_pairs : (k : Start) (j v : ℕ) (es : List ℕ)
+lanes_in_pairs : (k : Start) (j v : ℕ) (es : List ℕ)
     → es ≡ map (λ (i : ℕ). pair_edge (tasks_in k) i v) (passing (λ i. (pair_at (tasks_in k) i).reader == j) 0 (length (tasks_in k).reads))
     → lanes_by k es ≡ lanes_of_all k.plan.now (sources_of (tasks_in k) j)
 lanes_in_pairs k j v es e =
     ap (lanes_by k) e
     ∙ ap (lanes_of_all k.plan.now) (sources_by (tasks_in k) v (passing (λ i. (pair_at (tasks_in k) i).reader == j) 0 (length (tasks_in k).reads))
     (λ i d m. let high = (get_passing (λ i. (pair_at (tasks_in k) i).reader == j) 0 (length (tasks_in k).reads) i d m).high in omega (arith, high)))
+
+-- what a task's parcels hold: its loop's writers, and the lanes of the loops that it reads
+pub record Holds (k : Start) (j v : ℕ) (w : Writers) (edges : List ℕ) : Type 0 where
+  pub writers : AreHandedOn k j v 0 w
+  pub lanes : lanes_by k edges ≡ lanes_of_all k.plan.now (sources_of (tasks_in k) j)
+
+pub holds : (k : Start) (j v : ℕ) (p : LoopParcel) (rest : List LoopParcel) (w : Writers) (edges : List ℕ) → j < (tasks_in k).loops → Came k j v p rest
+    → edges ≡ map (λ (q : LoopParcel). q.edge) rest
+    → AreHandedOn p.start.value (place_in (tasks_in p.start.value) p.edge) (p.edge / stride (tasks_in p.start.value)) 0 w → Holds k j v w edges
+holds k j v p rest w edges l t e a = record {
+  writers = writers_came k p.start.value j v p.edge w t.key t.edge l a;
+  lanes = lanes_in_pairs k j v edges (e ∙ t.pairs);
+}
 
 pub vector_inside : (v n f : ℕ) → 1 ≤ n → v < (f + (n - 1)) / n → v * n < f
 vector_inside v n f some l =

@@ -78,11 +78,6 @@ new-parcel-requires c =
 
 pub push_reserved-requires : goal.push_reserved-requires
 push_reserved-requires c =
-    let k : Start = c.args.self.now.start in
-    let j : ℕ = c.args.task.loop_no in
-    let v : ℕ = c.args.task.vector in
-    let es : List ℕ = c.args.edges.now in
-    let n : ℕ = length es in
     omega (arith, c.loop-i.invariant.count, c.loop-i.invariant.room, c.requires.room, c.loop-i-test.true)
 
 pub loop-i-preserved : goal.loop-i-preserved
@@ -131,25 +126,15 @@ new-parcel-requires-2 c =
     let j : ℕ = c.args.task.loop_no in
     let v : ℕ = c.args.task.vector in
     let es : List ℕ = c.args.edges.now in
-    let n : ℕ = length es in
-    let i : ℕ = c.loop-i.i in
     content_writers k j (v + 1) (get_or es 0 0) c.loop-i.writers c.requires.chain
     (subst (λ (m : ℕ). AreHandedOn k j (v + 1) m c.loop-i.writers.value) (omega (arith, c.loop-i-test.false)) c.loop-i.invariant.writers)
 
 pub push_reserved-requires-2 : goal.push_reserved-requires-2
 push_reserved-requires-2 c =
-    let k : Start = c.args.self.now.start in
-    let j : ℕ = c.args.task.loop_no in
-    let v : ℕ = c.args.task.vector in
-    let es : List ℕ = c.args.edges.now in
-    let n : ℕ = length es in
     omega (arith, c.loop-i.invariant.count, c.loop-i.invariant.room, c.requires.room, c.requires.some, c.loop-i.auto.i-end)
 
 pub returns-clause-edges : goal.returns-clause-edges
 returns-clause-edges c =
-    let k : Start = c.args.self.now.start in
-    let j : ℕ = c.args.task.loop_no in
-    let v : ℕ = c.args.task.vector in
     let es : List ℕ = c.args.edges.now in
     let n : ℕ = length es in
     let i : ℕ = c.loop-i.i in

@@ -22,7 +22,7 @@ use Rattle.fv_engine_parcels.specs.declared.start.Start.{Start}
 use Rattle.fv_engine_parcels.specs.declared.content.Writers.{Writers}
 use Rattle.fv_engine_parcels.specs.declared.parcel.LoopParcel.{LoopParcel}
 use Rattle.fv_engine_parcels.proofs.Edges.{outward_is, pairs_of, pairs_out}
-use Rattle.fv_engine_parcels.proofs.Coming.{Came, came, writers_came, none_seen, lanes_in_pairs, vector_inside, edges_reverse, keys_reverse}
+use Rattle.fv_engine_parcels.proofs.Coming.{Came, came, Holds, holds, none_seen, vector_inside, edges_reverse, keys_reverse}
 use Rattle.fv_engine_parcels.proofs.Props.{within_prop, within_renumbered}
 use Rattle.fv_engine_parcels.proofs.Tasking.{before_of, after_of, upto_next}
 use Rattle.fv_engine_parcels.proofs.body.LoopBodyBodyLoopParcel.run.Goals as goal
@@ -66,12 +66,10 @@ gather-requires-clause-room c =
     let t : Came k j v c.remove.result c.remove.new.self.items =
     came k j v c.args.parcels.now.items c.remove.result c.remove.new.self.items c.requires.task.0 c.requires.inward.edges_are c.requires.inward.keys
     c.remove.ensures.value c.remove.ensures.by_index.2 in
-    let mine : AreHandedOn k j v 0 c.in-Writers.writers.value =
-    writers_came k c.remove.result.start.value j v c.remove.result.edge c.in-Writers.writers.value t.key t.edge c.requires.task.0
-    (c.into_content.ensures.writers c.in-Writers.writers c.in-Writers.is).1 in
-    let lanes : lanes_by k (map (λ (q : LoopParcel). q.edge) c.as_slice.result.now) ≡ lanes_of_all k.plan.now (sources_of (tasks_in k) j) =
-    lanes_in_pairs k j v (map (λ (q : LoopParcel). q.edge) c.as_slice.result.now) (ap (map (λ (q : LoopParcel). q.edge)) c.as_slice.ensures.value ∙ t.pairs) in
-    omega (arith, ap length lanes, mine.room, ap (λ (w : Writers). vec_capacity w.lanes.seen) c.deref_mut.ensures.value)
+    let held : Holds k j v c.in-Writers.writers.value (map (λ (q : LoopParcel). q.edge) c.as_slice.result.now) =
+    holds k j v c.remove.result c.remove.new.self.items c.in-Writers.writers.value _ c.requires.task.0 t
+    (ap (map (λ (q : LoopParcel). q.edge)) c.as_slice.ensures.value) (c.into_content.ensures.writers c.in-Writers.writers c.in-Writers.is).1 in
+    omega (arith, ap length held.lanes, held.writers.room, ap (λ (w : Writers). vec_capacity w.lanes.seen) c.deref_mut.ensures.value)
 
 pub run_code-requires-clause-there : goal.run_code-requires-clause-there
 run_code-requires-clause-there c =
@@ -122,15 +120,13 @@ run_code-requires-clause-before c =
     let t : Came k j v c.remove.result c.remove.new.self.items =
     came k j v c.args.parcels.now.items c.remove.result c.remove.new.self.items c.requires.task.0 c.requires.inward.edges_are c.requires.inward.keys
     c.remove.ensures.value c.remove.ensures.by_index.2 in
-    let mine : AreHandedOn k j v 0 c.in-Writers.writers.value =
-    writers_came k c.remove.result.start.value j v c.remove.result.edge c.in-Writers.writers.value t.key t.edge c.requires.task.0
-    (c.into_content.ensures.writers c.in-Writers.writers c.in-Writers.is).1 in
-    let lanes : lanes_by k (map (λ (q : LoopParcel). q.edge) c.as_slice.result.now) ≡ lanes_of_all k.plan.now (sources_of (tasks_in k) j) =
-    lanes_in_pairs k j v (map (λ (q : LoopParcel). q.edge) c.as_slice.result.now) (ap (map (λ (q : LoopParcel). q.edge)) c.as_slice.ensures.value ∙ t.pairs) in
-    let now : AreHandedOn k j v 0 c.deref_mut.result.now = subst (AreHandedOn k j v 0) (sym c.deref_mut.ensures.value) mine in
+    let held : Holds k j v c.in-Writers.writers.value (map (λ (q : LoopParcel). q.edge) c.as_slice.result.now) =
+    holds k j v c.remove.result c.remove.new.self.items c.in-Writers.writers.value _ c.requires.task.0 t
+    (ap (map (λ (q : LoopParcel). q.edge)) c.as_slice.ensures.value) (c.into_content.ensures.writers c.in-Writers.writers c.in-Writers.is).1 in
+    let now : AreHandedOn k j v 0 c.deref_mut.result.now = subst (AreHandedOn k j v 0) (sym c.deref_mut.ensures.value) held.writers in
     subst (λ (w : Writers). Before k j v (lanes_in w.lanes)) (sym c.deref_mut-2.ensures.value)
     (before_of k j v c.deref_mut.result.now.lanes.own.items c.gather.new.seen.items now.writers
-    (subst (λ (ls : List ℕ). AreSeenOf k ls (v + 1) c.gather.new.seen.items) lanes c.gather.ensures.seen))
+    (subst (λ (ls : List ℕ). AreSeenOf k ls (v + 1) c.gather.new.seen.items) held.lanes c.gather.ensures.seen))
 
 pub run_code-requires-clause-regs : goal.run_code-requires-clause-regs
 run_code-requires-clause-regs c =
@@ -140,12 +136,10 @@ run_code-requires-clause-regs c =
     let t : Came k j v c.remove.result c.remove.new.self.items =
     came k j v c.args.parcels.now.items c.remove.result c.remove.new.self.items c.requires.task.0 c.requires.inward.edges_are c.requires.inward.keys
     c.remove.ensures.value c.remove.ensures.by_index.2 in
-    let mine : AreHandedOn k j v 0 c.in-Writers.writers.value =
-    writers_came k c.remove.result.start.value j v c.remove.result.edge c.in-Writers.writers.value t.key t.edge c.requires.task.0
-    (c.into_content.ensures.writers c.in-Writers.writers c.in-Writers.is).1 in
-    let lanes : lanes_by k (map (λ (q : LoopParcel). q.edge) c.as_slice.result.now) ≡ lanes_of_all k.plan.now (sources_of (tasks_in k) j) =
-    lanes_in_pairs k j v (map (λ (q : LoopParcel). q.edge) c.as_slice.result.now) (ap (map (λ (q : LoopParcel). q.edge)) c.as_slice.ensures.value ∙ t.pairs) in
-    let now : AreHandedOn k j v 0 c.deref_mut.result.now = subst (AreHandedOn k j v 0) (sym c.deref_mut.ensures.value) mine in
+    let held : Holds k j v c.in-Writers.writers.value (map (λ (q : LoopParcel). q.edge) c.as_slice.result.now) =
+    holds k j v c.remove.result c.remove.new.self.items c.in-Writers.writers.value _ c.requires.task.0 t
+    (ap (map (λ (q : LoopParcel). q.edge)) c.as_slice.ensures.value) (c.into_content.ensures.writers c.in-Writers.writers c.in-Writers.is).1 in
+    let now : AreHandedOn k j v 0 c.deref_mut.result.now = subst (AreHandedOn k j v 0) (sym c.deref_mut.ensures.value) held.writers in
     ∥∥₁_elim c.args.self.now.body (ℕ_set (length c.deref_mut-2.result.now.regs.items) (length (slice_index_or c.args.self.now.codes.now j []))) (λ b.
     ap (λ (w : Writers). length w.regs.items) c.deref_mut-2.ensures.value ∙ now.regs
     ∙ sym (ap length (b.codes_are j c.requires.task.0).is ∙ length-map (code_of k.plan.now j) (renumbered (b.codes_are j c.requires.task.0).place)))
@@ -171,16 +165,14 @@ hand-requires-clause-writers c =
     let t : Came k j v c.remove.result c.remove.new.self.items =
     came k j v c.args.parcels.now.items c.remove.result c.remove.new.self.items c.requires.task.0 c.requires.inward.edges_are c.requires.inward.keys
     c.remove.ensures.value c.remove.ensures.by_index.2 in
-    let mine : AreHandedOn k j v 0 c.in-Writers.writers.value =
-    writers_came k c.remove.result.start.value j v c.remove.result.edge c.in-Writers.writers.value t.key t.edge c.requires.task.0
-    (c.into_content.ensures.writers c.in-Writers.writers c.in-Writers.is).1 in
-    let lanes : lanes_by k (map (λ (q : LoopParcel). q.edge) c.as_slice.result.now) ≡ lanes_of_all k.plan.now (sources_of (tasks_in k) j) =
-    lanes_in_pairs k j v (map (λ (q : LoopParcel). q.edge) c.as_slice.result.now) (ap (map (λ (q : LoopParcel). q.edge)) c.as_slice.ensures.value ∙ t.pairs) in
+    let held : Holds k j v c.in-Writers.writers.value (map (λ (q : LoopParcel). q.edge) c.as_slice.result.now) =
+    holds k j v c.remove.result c.remove.new.self.items c.in-Writers.writers.value _ c.requires.task.0 t
+    (ap (map (λ (q : LoopParcel). q.edge)) c.as_slice.ensures.value) (c.into_content.ensures.writers c.in-Writers.writers c.in-Writers.is).1 in
     let number : c.from.result * c.loops.result + j ≡ task_at (tasks_in k) j v = ap₂ (λ (a b : ℕ). a * b + j) c.from.ensures c.loops.ensures.value in
     let ks : List ℕ = passing (λ i. (pair_at (tasks_in k) i).source == j) 0 (length (tasks_in k).reads) in
     let out : c.outward.result.now ≡ chain_edge (tasks_in k) j (v + 1) ∷ map (λ (i : ℕ). pair_edge (tasks_in k) i v) ks =
     c.outward.ensures ∙ ap (outward (tasks_in k)) number ∙ outward_is (tasks_in k) j v c.requires.task.0 in
-    let now : AreHandedOn k j v 0 c.deref_mut.result.now = subst (AreHandedOn k j v 0) (sym c.deref_mut.ensures.value) mine in
+    let now : AreHandedOn k j v 0 c.deref_mut.result.now = subst (AreHandedOn k j v 0) (sym c.deref_mut.ensures.value) held.writers in
     let own : List ℕ = own_lanes k.plan.now j in
     let left : (tasks_in k).vectors - v ≡ suc ((tasks_in k).vectors - (v + 1)) = omega (arith, c.requires.task.1) in
     let step : ((tasks_in k).vectors - v) * length ks ≡ ((tasks_in k).vectors - (v + 1)) * length ks + length ks =
