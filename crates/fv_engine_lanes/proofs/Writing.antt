@@ -1,5 +1,6 @@
 -- A lane of a loop that is appended.
-use Rattle.std.proofs.Common.{◌≡◌, ℕ, zero, suc, ◌+◌, ◌-◌, ◌<◌, ◌≤◌, List, [], ◌∷◌, ◌++◌, length, map, set, get_or, refl, sym, ap, subst, ◌∙◌, arith, ℤ}
+use Rattle.std.proofs.Common.{◌≡◌, ℕ, zero, suc, ◌+◌, ◌-◌, ◌<◌, ◌≤◌, List, [], ◌∷◌, ◌++◌, length, map, set, get_or, refl, sym, ap, subst, ◌∙◌, arith, ℤ, inl, inr}
+use Rattle.std.proofs.lemmas.Bool.{cases_lt}
 use Rattle.std.proofs.lemmas.List.{length-map, map-set, get_or_append_left, get_or-append_right, get_or-map, set-append_left}
 use Rattle.std.proofs.Math.Seq.{map-set_same}
 use Rattle.fv_loopcode.specs.Lanes.{Lane, lane_of, no_lane, appended}
@@ -26,6 +27,13 @@ written_more {old} {new} {x} m =
 rest_same : {old new : LaneWriter} {x : ℤ} → OneMore old new x → rest_of_writer new ≡ rest_of_writer old
 rest_same m = λ i. record { part = m.part i; outer = m.outer i; shape = m.shape i; frames = m.frames i }
 
+-- a lane of the loop's own
+pub own_lane : (ws : List LaneWriter) (ss : List Seen) (l : ℕ) (w : LaneWriter) → l < length ws → w ≡ get_or ws l w
+    → lane_of (map lane_open ws ++ map lane_seen ss) l ≡ lane_open w
+own_lane ws ss l w there at =
+    let long : l < length (map lane_open ws) = subst (λ (n : ℕ). l < n) (sym (length-map ws lane_open)) there in
+    get_or_append_left (map lane_open ws) (map lane_seen ss) no_lane l long ∙ get_or-map lane_open ws l w no_lane there ∙ ap lane_open (sym at)
+
 pub lane_set : (ws : List LaneWriter) (ss : List Seen) (l : ℕ) (old new : LaneWriter) (x : ℤ) → l < length ws
     → old ≡ get_or ws l old → OneMore old new x
     → map lane_open (set ws l new) ++ map lane_seen ss
@@ -34,8 +42,7 @@ lane_set ws ss l old new x there at m =
     let fs : List Lane = map lane_open ws in
     let gs : List Lane = map lane_seen ss in
     let long : l < length fs = subst (λ (n : ℕ). l < n) (sym (length-map ws lane_open)) there in
-    let is : lane_of (fs ++ gs) l ≡ lane_open old =
-    get_or_append_left fs gs no_lane l long ∙ get_or-map lane_open ws l old no_lane there ∙ ap lane_open (sym at) in
+    let is : lane_of (fs ++ gs) l ≡ lane_open old = own_lane ws ss l old there at in
     ap (λ (zs : List Lane). zs ++ gs) (map-set lane_open ws l new) ∙ sym (set-append_left fs gs l (lane_open new) long)
     ∙ ap (λ (y : Lane). set (fs ++ gs) l y) (written_more m ∙ ap (λ (z : Lane). appended z x) (sym is))
 
@@ -50,8 +57,15 @@ seen_full [] (suc k) = refl
 seen_full (s ∷ ss) zero = refl
 seen_full (s ∷ ss) (suc k) = seen_full ss k
 
-pub no_room : (ws : List LaneWriter) (ss : List Seen) (l : ℕ) → length ws ≤ l → (lane_of (map lane_open ws ++ map lane_seen ss) l).room ≡ 0
+no_room : (ws : List LaneWriter) (ss : List Seen) (l : ℕ) → length ws ≤ l → (lane_of (map lane_open ws ++ map lane_seen ss) l).room ≡ 0
 no_room ws ss l le =
     let same : length (map lane_open ws) ≡ length ws = length-map ws lane_open in
     ap (λ (z : Lane). z.room) (get_or-append_right (map lane_open ws) (map lane_seen ss) (length ws) l no_lane same le)
     ∙ seen_full ss (l - length ws)
+
+-- only a lane of the loop's own has room
+pub has_room : (ws : List LaneWriter) (ss : List Seen) (l : ℕ) → 1 ≤ (lane_of (map lane_open ws ++ map lane_seen ss) l).room → l < length ws
+has_room ws ss l room = elim (cases_lt l (length ws)) [
+  | inl low ↦ low
+  | inr high ↦ absurd (omega (arith, room, no_room ws ss l high))
+]

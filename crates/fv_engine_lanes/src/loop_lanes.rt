@@ -30,9 +30,7 @@ impl<'a> Store for LoopLanes<'a> {
     }
 
     fn append(&mut self, lane: u64, value: i32) {
-        let i = lane as usize;
-        if i < self.own.len() {
-            self.own[i].append(value);
-        }
+        // Only its own lanes have room.
+        self.own[lane as usize].append(value);
     }
 }

@@ -107,12 +107,11 @@ impl<'a, 'b> LoopBody<'a, 'b> {
         ensures room { vec_capacity seen.old ≤ vec_capacity seen.new }
     {
         for parcel in parcels {
-            match parcel.content() {
-                Content::Seen(list) => {
-                    let _ = seen.extend_from_slice(list.as_slice());
-                }
-                Content::Writers(_) => {}
-            }
+            let Content::Seen(list) = parcel.content() else {
+                unreachable!()
+            };
+            // There is room for them, so this takes no memory.
+            let _ = seen.extend_from_slice(list.as_slice());
         }
     }
 
