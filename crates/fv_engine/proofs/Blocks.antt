@@ -2,7 +2,6 @@
 use Rattle.std.proofs.Common.{◌≡◌, ℕ, ◌+◌, ◌*◌, ◌<◌, ◌≤◌, ℤ, ◌&&◌, ◌||◌, ◌==◌, List, [], length, map, All, refl, sym}
 use Rattle.std.proofs.Common.{ap, ap₂, ◌∙◌, subst, arith, mul_comm}
 use Rattle.std.proofs.lemmas.List.{get_or_default}
-use Rattle.std.specs.Vec.{vec_capacity}
 use Rattle.fv_num.specs.Words.{argument}
 use Rattle.fv_base.proofs.Lists.{length_table}
 use Rattle.fv_signal.specs.Value.{value, Graph as Signals}
@@ -10,13 +9,13 @@ use Rattle.fv_outside.specs.Tasks.{Tasks, task_count, reads_loop, reads_task}
 use Rattle.fv_outside.specs.Journal.{IsOrdered}
 use Rattle.fv_outside.specs.declared.gate.Line.{Line}
 use Rattle.fv_outside.specs.declared.tasks.Task.{Task}
-use Rattle.fv_graph.specs.Graph.{Graph, edges_of}
+use Rattle.fv_graph.specs.Graph.{Graph}
 use Rattle.fv_loopcode.specs.Code.{NamesHeld}
-use Rattle.fv_loopcode.specs.State.{State, lanes_alone}
+use Rattle.fv_loopcode.specs.State.{State}
 use Rattle.fv_pool.specs.Region.{cells_of}
 use Rattle.fv_pool.specs.Lengths.{lengths_of}
-use Rattle.fv_lines.specs.Solo.{opening_lanes}
-use Rattle.fv_lines.specs.declared.shape.LaneShape.{LaneShape}
+use Rattle.fv_pool.specs.declared.layout.Layout.{Layout}
+use Rattle.fv_lines.specs.Solo.{AreFramed}
 use Rattle.fv_lines.specs.declared.shape.LaneState.{LaneState}
 use Rattle.fv_split_plan.specs.View.{PlanView}
 use Rattle.fv_split_plan.specs.Plans.{IsPlanOf}
@@ -25,11 +24,13 @@ use Rattle.fv_engine_tasks.specs.Jobs.{IsJob}
 use Rattle.fv_engine.specs.Plans.{NamesThere, held_by, block_from}
 use Rattle.fv_engine.specs.Stands.{EngineView, AreBegun, GoesOn, Standing}
 use Rattle.fv_engine.specs.inner.Over.{Ran}
+use Rattle.fv_engine.specs.inner.Opening.{opening_of, AreSameLanes}
 use Rattle.fv_engine.specs.Stored.{IsStored, view_of}
 use Rattle.fv_engine.specs.Told.{tasks_told}
 use Rattle.fv_engine.specs.declared.engine.Engine.TheInside.{Inside}
+use Rattle.fv_engine.specs.declared.lanes.Lanes.{Lanes}
 use Rattle.fv_engine.proofs.Made.{vectors_rise}
-use Rattle.fv_engine.proofs.Jobs.{fewer_tasks, fewer_edges, is_job, begun, ended}
+use Rattle.fv_engine.proofs.Jobs.{is_job, begun, ended}
 use Rattle.fv_engine.proofs.Values.{block_in}
 use Rattle.fv_engine.proofs.Real.{real, stands_on}
 use Rattle.fv_engine.proofs.Goes.{with_state, goes_on}
@@ -67,9 +68,17 @@ same_order g h lines same o = record {
 
 -- the block of an engine, by its channels and held values
 pub same_block : (e : Inside) (frames : ℕ) (input controls : List ℤ) {channels : ℕ} {held : List ℤ}
-    → channels ≡ e.channels → held ≡ held_by e.plan controls
-    → block_from e.plan e.vector frames channels held input ≡ block_in (view_of e) frames controls input
-same_block e frames input controls p q = ap₂ (λ (k : ℕ) (xs : List ℤ). block_from e.plan e.vector frames k xs input) p q
+    → channels ≡ e.sizes.channels → held ≡ held_by e.plan controls
+    → block_from e.plan e.sizes.vector frames channels held input ≡ block_in (view_of e) frames controls input
+same_block e frames input controls p q = ap₂ (λ (k : ℕ) (xs : List ℤ). block_from e.plan e.sizes.vector frames k xs input) p q
+
+-- the engine with these lanes in place of its own
+abbrev pub view_with : Inside → Lanes → EngineView
+view_with e lanes = record (view_of e) {
+  region = cells_of lanes.region;
+  lengths = lengths_of lanes.layout;
+  starts = map (λ (s : LaneState). s.start) lanes.states.items;
+}
 
 -- a call of a stored engine: the frames, input and controls of a block, and the tasks with the vectors of so many frames
 pub record IsCalled (e : Inside) (v : EngineView) (frames : ℕ) (input controls : List ℤ) (n : ℕ) (t : Graph) : Type 0 where
@@ -78,15 +87,8 @@ pub record IsCalled (e : Inside) (v : EngineView) (frames : ℕ) (input controls
   pub size : (1 ≤ frames) × (frames ≤ v.block)
   pub input_long : length input ≡ frames * v.channels
   pub named : (k : ℕ) → NamesHeld v.plan.held k → k < length controls
-  pub vectors : n ≡ vectors_of frames e.vector
-  pub tasks : t ≡ record e.tasks { tasks = record e.tasks.tasks { vectors = n } }
-
--- the lists that a block is handed are those that the engine stores
-pub record AreHanded (e : Inside) (shapes : List LaneShape) (states : List LaneState) (cells : List ℤ) (outputs : List ℕ) : Type 0 where
-  pub shapes_are : shapes ≡ e.shapes.items
-  pub states_are : states ≡ e.states.items
-  pub cells_are : cells ≡ cells_of e.region
-  pub outputs_are : outputs ≡ e.plan.outputs
+  pub vectors : n ≡ vectors_of frames e.sizes.vector
+  pub tasks : t ≡ record e.runner.tasks { tasks = record e.runner.tasks.tasks { vectors = n } }
 
 module _ {e : Inside} {v : EngineView} {frames : ℕ} {input controls : List ℤ} {n : ℕ} {t : Graph} (call : IsCalled e v frames input controls n t) where
   abbrev inv : IsStored e
@@ -94,41 +96,29 @@ module _ {e : Inside} {v : EngineView} {frames : ℕ} {input controls : List ℤ
 
   -- the vectors of the frames
   abbrev count : ℕ
-  count = vectors_of frames e.vector
+  count = vectors_of frames e.sizes.vector
 
-  high : frames ≤ e.block
+  high : frames ≤ e.sizes.block
   high = let q = ap (λ (x : EngineView). x.block) call.view_is in omega (arith, q, call.size.1)
 
-  long : length input ≡ frames * e.channels
+  long : length input ≡ frames * e.sizes.channels
   long = call.input_long ∙ ap (λ (x : EngineView). frames * x.channels) (sym call.view_is)
 
-  names : NamesThere e.plan e.channels (length controls)
+  names : NamesThere e.plan e.sizes.channels (length controls)
   names = record {
     held = inv.standing.plan.names.held;
     inputs = inv.sizes.inputs;
     knobs = λ k h. call.named k (subst (λ (x : EngineView). NamesHeld x.plan.held k) call.view_is h);
   }
 
-  is : t ≡ record e.tasks { tasks = record e.tasks.tasks { vectors = count } }
-  is = call.tasks ∙ ap (λ m. record e.tasks { tasks = record e.tasks.tasks { vectors = m } }) call.vectors
+  is : t ≡ record e.runner.tasks { tasks = record e.runner.tasks.tasks { vectors = count } }
+  is = call.tasks ∙ ap (λ m. record e.runner.tasks { tasks = record e.runner.tasks.tasks { vectors = m } }) call.vectors
 
-  -- no more vectors and tasks than a whole block has
-  few : count ≤ e.tasks.most
-  few = let q = vectors_rise frames e.block e.vector inv.sizes.vector_low high in omega (arith, q, inv.tasks_are.most_are)
-
-  fewer : task_count t.tasks ≤ task_count (record e.tasks.tasks { vectors = e.tasks.most })
-  fewer = let q = fewer_tasks e.tasks.tasks count e.tasks.most few in let s = ap (λ (g : Graph). task_count g.tasks) is in omega (arith, q, s)
-
-  pub tasks_fit : task_count t.tasks ≤ e.core.room_tasks
-  tasks_fit = let q = fewer in omega (arith, q, inv.core_is.tasks)
-
-  pub lines_fit : task_count t.tasks ≤ vec_capacity e.lines
-  lines_fit = let q = fewer in omega (arith, q, inv.room)
-
-  pub edges_fit : edges_of t.tasks ≤ e.core.room_edges
-  edges_fit =
-      let q = fewer_edges e.tasks.tasks count e.tasks.most few in
-      let s = ap (λ (g : Graph). edges_of g.tasks) is in omega (arith, q, s, inv.core_is.edges)
+  -- no more vectors than a whole block has
+  pub few : n ≤ e.runner.tasks.most
+  few =
+      let q = vectors_rise frames e.sizes.block e.sizes.vector inv.sizes.vector_low high in
+      omega (arith, q, inv.tasks_are.most_are, call.vectors)
 
   pub count_is : task_count t.tasks ≡ v.plan.loops * vectors_of frames v.vector
   count_is =
@@ -136,14 +126,14 @@ module _ {e : Inside} {v : EngineView} {frames : ℕ} {input controls : List ℤ
       ∙ ap (λ (x : EngineView). x.plan.loops * vectors_of frames x.vector) call.view_is
 
   abbrev lengths : List ℕ
-  lengths = lengths_of e.layout
+  lengths = lengths_of e.lanes.layout
 
   -- the lanes as they open
   abbrev first : State
-  first = lanes_alone (opening_lanes lengths e.shapes.items e.states.items frames (cells_of e.region))
+  first = opening_of e.lanes frames
 
   many : length lengths ≡ length e.plan.lanes
-  many = sym inv.lists.0 ∙ inv.shapes.count
+  many = sym e.lanes.lists.0 ∙ inv.shapes.count
 
   is_begun : AreBegun (view_of e) frames first
   is_begun = begun (record { shapes_are = inv.shapes; many = many; starts = refl }) frames
@@ -156,13 +146,21 @@ module _ {e : Inside} {v : EngineView} {frames : ℕ} {input controls : List ℤ
     pairs = λ j i. ap (λ (g : Graph). reads_loop g.tasks.reads j i) is ∙ inv.tasks_are.pairs j i;
   }
 
+  -- no lane's block is shorter than these frames, and each lane has a part
+  pub framed : AreFramed lengths e.lanes.shapes.items frames
+  framed i l = let q = inv.shapes.blocks i (omega (arith, l, many)) in omega (arith, high, q)
+
+  pub parts_many : length lengths ≡ length e.plan.lanes
+  parts_many = many
+
   -- as many held values as the code has steps
   pub many_held : length (held_by e.plan controls) ≡ length e.plan.held
   many_held = held_long inv.standing.graph e.plan inv.standing.plan controls
 
   module _ {b : Block} (block_is : b ≡ block_in (view_of e) frames controls input) where
     pub job : IsJob b t.tasks
-    job = subst (λ (x : Block). IsJob x t.tasks) (sym block_is) (is_job e.plan e.vector frames e.channels (held_by e.plan controls) input t.tasks (record {
+    job = subst (λ (x : Block). IsJob x t.tasks) (sym block_is)
+        (is_job e.plan e.sizes.vector frames e.sizes.channels (held_by e.plan controls) input t.tasks (record {
       graph = inv.standing.graph;
       plan = inv.standing.plan;
       some = inv.sizes.some;
@@ -176,44 +174,30 @@ module _ {e : Inside} {v : EngineView} {frames : ℕ} {input controls : List ℤ
     }))
 
     -- the lanes that the block begins with are real
-    pub first_is : {shapes : List LaneShape} {states : List LaneState} {cells : List ℤ} {outputs : List ℕ} → AreHanded e shapes states cells outputs
-        → IsReal b (lanes_alone (opening_lanes lengths shapes states frames cells))
-    first_is {shapes} {states} {cells} h =
-        let is_real = subst (λ (x : Block). IsReal x first) (sym block_is) (real (view_of e) inv.standing frames input controls names first is_begun) in
-        subst (λ (x : List LaneShape). IsReal b (lanes_alone (opening_lanes lengths x states frames cells))) (sym h.shapes_are)
-        (subst (λ (x : List LaneState). IsReal b (lanes_alone (opening_lanes lengths e.shapes.items x frames cells))) (sym h.states_are)
-        (subst (λ (x : List ℤ). IsReal b (lanes_alone (opening_lanes lengths e.shapes.items e.states.items frames x))) (sym h.cells_are) is_real))
+    pub first_is : IsReal b first
+    first_is = subst (λ (x : Block). IsReal x first) (sym block_is) (real (view_of e) inv.standing frames input controls names first is_begun)
 
-    -- the block ran from these lanes on, and left these cells and states
-    abbrev pub RanFrom : List LaneShape → (first : State) → (cells : List ℤ) → List LaneState → List Line → (outputs : List ℕ)
-        → (output : List ℤ) → Type 0
-    RanFrom shapes first cells states lines outputs output = Ran t.tasks b lengths shapes first cells states lines outputs output
+    -- it ran, and left these lanes
+    module _ {lanes : Lanes} {lines : List Line} {outputs : List ℕ} {output : List ℤ} (same : AreSameLanes e.lanes lanes)
+        (are : outputs ≡ e.plan.outputs)
+        (ran : Ran t.tasks b lengths e.lanes.shapes.items first (cells_of lanes.region) lanes.states.items lines outputs output) where
+      abbrev cells : List ℤ
+      cells = cells_of lanes.region
 
-    -- it ran from the lanes that the engine stores, and left what the engine then keeps
-    pub ran_as : {shapes : List LaneShape} {states : List LaneState} {cells : List ℤ} {outputs : List ℕ} → AreHanded e shapes states cells outputs
-        → {new_cells kept_cells : List ℤ} {new_states kept_states : List LaneState} {lines : List Line} {output : List ℤ}
-        → kept_cells ≡ new_cells → kept_states ≡ new_states
-        → RanFrom shapes (lanes_alone (opening_lanes lengths shapes states frames cells)) new_cells new_states lines outputs output
-        → RanFrom e.shapes.items first kept_cells kept_states lines e.plan.outputs output
-    ran_as {shapes} {states} {cells} {outputs} h {new_cells} {kept_cells} {new_states} {kept_states} {lines} {output} p q ran =
-        let own = e.shapes.items in
-        let left : List LaneShape → State → List ℕ → Type 0 = λ xs now os. RanFrom xs now kept_cells kept_states lines os output in
-        subst (λ (x : List ℕ). left own first x) h.outputs_are
-        (subst (λ (x : List ℤ). left own (lanes_alone (opening_lanes lengths own e.states.items frames x)) outputs) h.cells_are
-        (subst (λ (x : List LaneState). left own (lanes_alone (opening_lanes lengths own x frames cells)) outputs) h.states_are
-        (subst (λ (x : List LaneShape). left x (lanes_alone (opening_lanes lengths x states frames cells)) outputs) h.shapes_are
-        (subst (λ (x : List ℤ). RanFrom shapes (lanes_alone (opening_lanes lengths shapes states frames cells)) x kept_states lines outputs output) (sym p)
-        (subst (λ (x : List LaneState). RanFrom shapes (lanes_alone (opening_lanes lengths shapes states frames cells)) new_cells x lines outputs output) (sym q) ran)))))
-
-    module _ {cells : List ℤ} {states : List LaneState} {lines : List Line} {output : List ℤ}
-        (ran : RanFrom e.shapes.items first cells states lines e.plan.outputs output) where
       abbrev starts : List ℕ
-      starts = map (λ (s : LaneState). s.start) states
+      starts = map (λ (s : LaneState). s.start) lanes.states.items
 
-      ran_so : Ran t.tasks (block_in (view_of e) frames controls input) lengths e.shapes.items first cells states lines e.plan.outputs output
-      ran_so = subst (λ (x : Block). Ran t.tasks x lengths e.shapes.items first cells states lines e.plan.outputs output) block_is ran
+      -- the engine with these lanes has the parts that it had
+      pub is_kept : with_state (view_of e) cells starts ≡ view_with e lanes
+      is_kept = ap (λ (x : Layout). record (view_of e) { region = cells; lengths = lengths_of x; starts = starts }) (sym same.layout)
 
-      pub goes : GoesOn (view_of e) (with_state (view_of e) cells starts) frames input controls output
+      ran_so : Ran t.tasks (block_in (view_of e) frames controls input) lengths e.lanes.shapes.items first cells lanes.states.items lines e.plan.outputs output
+      ran_so =
+          let left : Block → List ℕ → Type 0 =
+          λ x os. Ran t.tasks x lengths e.lanes.shapes.items first cells lanes.states.items lines os output in
+          subst (left (block_in (view_of e) frames controls input)) are (subst (λ x. left x outputs) block_is ran)
+
+      goes : GoesOn (view_of e) (with_state (view_of e) cells starts) frames input controls output
       goes = goes_on (record {
         names = names;
         some = inv.sizes.vector_low;
@@ -225,8 +209,14 @@ module _ {e : Inside} {v : EngineView} {frames : ℕ} {input controls : List ℤ
         samples = ran_so.samples;
       })
 
-      pub still_standing : Standing (with_state (view_of e) cells starts)
-      still_standing = stands_on (view_of e) inv.standing frames input controls cells starts output goes
+      pub leads_on : GoesOn v (view_with e lanes) frames input controls output
+      leads_on =
+          subst (λ (x : EngineView). GoesOn x (view_with e lanes) frames input controls output) call.view_is
+          (subst (λ (x : EngineView). GoesOn (view_of e) x frames input controls output) is_kept goes)
+
+      pub still_standing : Standing (view_with e lanes)
+      still_standing =
+          subst (λ (x : EngineView). Standing x) is_kept (stands_on (view_of e) inv.standing frames input controls cells starts output goes)
 
       pub ordered : IsOrdered (tasks_told (view_of e) frames) lines
       ordered = same_order t.tasks (tasks_told (view_of e) frames) lines alike ran.ends.journal

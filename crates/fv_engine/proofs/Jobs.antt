@@ -1,11 +1,10 @@
 -- The job of a block of an engine.
 use Rattle.std.proofs.Common.{◌≡◌, ℕ, ◌*◌, ◌<◌, ◌≤◌, ℤ, List, length, map, take, drop, refl, sym, ap, ◌∙◌, arith, nat_lt}
-use Rattle.std.proofs.Common.{nat_eq, mul-le-mul_right, lt-ltb, eq-eqb}
+use Rattle.std.proofs.Common.{nat_eq, lt-ltb, eq-eqb}
 use Rattle.std.specs.Prelude.{slice_index}
 use Rattle.fv_base.proofs.Lists.{get_or_table, length_table}
 use Rattle.fv_signal.specs.Value.{Graph}
-use Rattle.fv_outside.specs.Tasks.{Tasks, task_count, reads_loop}
-use Rattle.fv_graph.specs.Graph.{stride, edges_of}
+use Rattle.fv_outside.specs.Tasks.{Tasks, reads_loop}
 use Rattle.fv_graph.proofs.Counts.{both_of}
 use Rattle.fv_loopcode.specs.Code.{NamesInput}
 use Rattle.fv_loopcode.specs.Lanes.{Lane, lane_of, no_lane}
@@ -24,13 +23,6 @@ use Rattle.fv_engine.specs.Plans.{block_from}
 use Rattle.fv_engine.specs.Stands.{EngineView, AreBegun, AreEnded, history_in}
 use Rattle.fv_engine.specs.Made.{AreShapes}
 use Rattle.fv_engine.proofs.Names.{names_within}
-
--- fewer vectors have no more tasks and edges
-pub fewer_tasks : (t : Tasks) (n m : ℕ) → n ≤ m → task_count (record t { vectors = n }) ≤ task_count (record t { vectors = m })
-fewer_tasks t n m l = mul-le-mul_right t.loops l
-
-pub fewer_edges : (t : Tasks) (n m : ℕ) → n ≤ m → edges_of (record t { vectors = n }) ≤ edges_of (record t { vectors = m })
-fewer_edges t n m l = let q : n * stride t ≤ m * stride t = mul-le-mul_right (stride t) l in omega (arith, q)
 
 -- what the tasks of a block of a plan meet
 pub record Fits (p : PlanView) (vector frames channels : ℕ) (held input : List ℤ) (t : Tasks) : Type 0 where

@@ -1,23 +1,21 @@
 -- What an engine is made of.
-use Rattle.std.specs.Prelude.{◌≡◌, ℕ, ◌<◌, ◌≤◌, List, length, take}
-use Rattle.std.specs.Vec.{vec_capacity}
+use Rattle.std.specs.Prelude.{◌≡◌, ℕ, ◌<◌, List, length, take}
 use Rattle.fv_num.specs.Frames.{Stream}
-use Rattle.fv_outside.specs.Tasks.{task_count, reads_loop}
-use Rattle.fv_graph.specs.Graph.{Graph, edges_of}
-use Rattle.fv_graph_core.specs.Running.{Running}
+use Rattle.fv_outside.specs.Tasks.{reads_loop}
+use Rattle.fv_graph.specs.Graph.{Graph}
 use Rattle.fv_pool.specs.Layout.{part}
 use Rattle.fv_pool.specs.Lengths.{lengths_of}
 use Rattle.fv_pool.specs.Region.{cells_of}
 use Rattle.fv_lines.specs.Hold.{from_start}
 use Rattle.fv_lines.specs.Shape.{IsLaneLength}
-use Rattle.fv_lines.specs.Solo.{history_at, block_at, len_at, start_at, AreLists, AreHeld}
+use Rattle.fv_lines.specs.Solo.{history_at, block_at, len_at, start_at}
 use Rattle.fv_lines.specs.declared.shape.LaneShape.{LaneShape}
 use Rattle.fv_split_plan.specs.View.{PlanView, lane_info}
 use Rattle.fv_engine_tasks.specs.Jobs.{RegistersFit}
 use Rattle.fv_engine.specs.Plans.{parts_of}
 use Rattle.fv_engine.specs.Past.{past}
-use Rattle.fv_engine.specs.declared.make.Lanes.{Lanes}
-use Rattle.fv_engine.specs.declared.make.Machine.{Machine}
+use Rattle.fv_engine.specs.declared.lanes.Lanes.{Lanes}
+use Rattle.fv_engine.specs.declared.runner.TaskRunner.{TaskRunner}
 
 -- each lane has a shape, of its history and this block, and the length for both
 pub record AreShapes (p : PlanView) (block : ℕ) (shapes : List LaneShape) : Type 0 where
@@ -32,25 +30,14 @@ pub record AreTasksOf (p : PlanView) (most : ℕ) (t : Graph) : Type 0 where
   pub pairs : (j i : ℕ) → reads_loop t.tasks.reads j i ≡ reads_loop p.reads j i
   pub most_are : t.most ≡ most
 
--- a core of one worker, with room for so many vectors
-pub record HasCore (t : Graph) (core : Running) : Type 0 where
-  pub one : core.workers ≡ 1
-  pub tasks : task_count (record t.tasks { vectors = t.most }) ≤ core.room_tasks
-  pub edges : edges_of (record t.tasks { vectors = t.most }) ≤ core.room_edges
-
 -- the lanes of a plan, which hold the past of any stream before time 0
 pub record AreLanes (p : PlanView) (block : ℕ) (lanes : Lanes) : Type 0 where
   pub shapes : AreShapes p block lanes.shapes.items
-  pub lists : AreLists (lengths_of lanes.layout) lanes.shapes.items lanes.states.items lanes.written.items (cells_of lanes.region)
-  pub held_there : AreHeld (lengths_of lanes.layout) lanes.shapes.items lanes.states.items
   pub blank : (l : ℕ) → l < length p.lanes → (v : Stream) →
       take (lane_info p l).history (from_start (start_at lanes.states.items l) (part (lengths_of lanes.layout) l (cells_of lanes.region)))
       ≡ past (lane_info p l).history v 0
 
 -- what runs the tasks of a plan, for so many vectors
-pub record IsMachine (p : PlanView) (most : ℕ) (m : Machine) : Type 0 where
-  pub tasks_are : AreTasksOf p most m.tasks
-  pub core_is : HasCore m.tasks m.core
-  pub registers : RegistersFit (parts_of p) (length m.regs.items)
-  pub held_long : length m.held.items ≡ length p.held
-  pub room : task_count (record m.tasks.tasks { vectors = m.tasks.most }) ≤ vec_capacity m.lines
+pub record IsRunner (p : PlanView) (most : ℕ) (r : TaskRunner) : Type 0 where
+  pub tasks_are : AreTasksOf p most r.tasks
+  pub registers : RegistersFit (parts_of p) (length r.regs.items)

@@ -16,14 +16,14 @@ ghost use Rattle.fv_engine.specs.Told.{tasks_told, IsEntry, HasRoomForBlock};
 
 use crate::error::NoMemory;
 use crate::hold::hold;
-use crate::make::{Lanes, Machine, blank_lanes, machine_for, vectors};
-use crate::over::over;
+use crate::lanes::Lanes;
+use crate::make::{blank_lanes, runner_for, vectors};
 use crate::plan_codes::PlanCodes;
+use crate::runner::TaskRunner;
+use crate::sizes::Sizes;
 use fv_engine_tasks::Job;
-use fv_graph::Tasks;
-use fv_graph_core::Core;
-use fv_lines::{LaneShape, LaneState};
-use fv_outside::{Gate, Line};
+use fv_lines::LaneState;
+use fv_outside::Gate;
 use fv_pool::{Layout, Region};
 use fv_split_plan::Plan;
 use std::alloc::Global;
@@ -42,21 +42,11 @@ pub struct BlockReport {
 #[derive(Drop)]
 pub struct Engine {
     plan: Plan,
-    channels: u32,
-    workers: u32,
-    block: u32,
-    vector: u32,
-    region: Region,
-    layout: Layout,
-    shapes: Vec<LaneShape>,
-    states: Vec<LaneState>,
-    // by lane: how many samples of the block are written
-    written: Vec<u32>,
-    tasks: Tasks,
-    core: Core,
+    sizes: Sizes,
+    lanes: Lanes,
+    // the held values of the block
     held: Vec<i32>,
-    regs: Vec<i32>,
-    lines: Vec<Line>,
+    runner: TaskRunner,
 }
 
 impl Model for Engine {
@@ -94,36 +84,21 @@ impl Engine {
         // It stands for no frames yet.
         ensures stands { IfOk result (λ e. (g : Graph) (s : PlanStands g e.plan) (c : ℕ → Stream) → StandsFor e g s.names [] c) }
     {
-        let Lanes {
-            region,
-            layout,
-            shapes,
-            states,
-            written,
-        } = blank_lanes(alloc, &plan, block)?;
-        let Machine {
-            tasks,
-            core,
-            held,
-            regs,
-            lines,
-        } = machine_for(alloc, &plan, vectors(block, vector))?;
-        Ok(Engine {
-            plan,
+        let lanes = blank_lanes(alloc, &plan, block)?;
+        let held = Vec::from_elem(alloc, 0, plan.held().len() as usize)?;
+        let runner = runner_for(alloc, &plan, vectors(block, vector))?;
+        let sizes = Sizes {
             channels,
             workers,
             block,
             vector,
-            region,
-            layout,
-            shapes,
-            states,
-            written,
-            tasks,
-            core,
+        };
+        Ok(Engine {
+            plan,
+            sizes,
+            lanes,
             held,
-            regs,
-            lines,
+            runner,
         })
     }
 
@@ -156,38 +131,29 @@ impl Engine {
         ensures tasks { result.tasks ≡ self.old.plan.loops * vectors_of frames self.old.vector }
         ensures alone { self.old.workers ≡ 1 → result.alone ≡ false }
     {
-        let vectors = vectors(frames, self.vector);
-        self.tasks.set_vectors(vectors);
-        self.core.reset(&self.tasks);
-        self.lines.clear();
+        let vectors = vectors(frames, self.sizes.vector);
+        self.runner.set_vectors(vectors);
         hold(&self.plan, controls, &mut self.held);
         let plan = PlanCodes { plan: &self.plan };
         let job = Job {
             plan: &plan,
             held: &self.held,
             input,
-            channels: u64::from(self.channels),
-            vector: self.vector,
+            channels: u64::from(self.sizes.channels),
+            vector: self.sizes.vector,
             frames,
         };
-        over(
-            &job,
-            self.plan.outputs(),
-            &self.tasks,
-            self.region.cells(),
-            &self.layout,
-            &self.shapes,
-            &mut self.states,
-            &mut self.written,
-            &mut self.core,
-            &mut self.regs,
-            &mut self.lines,
-            output,
-            gate,
+        let outputs = self.plan.outputs();
+        self.lanes
+            .run_alone(&job, outputs, &mut self.runner, output, gate);
+        gate.block_done(
+            self.plan.loops(),
+            vectors,
+            self.plan.reads(),
+            &self.runner.lines,
         );
-        gate.block_done(self.plan.loops(), vectors, self.plan.reads(), &self.lines);
         BlockReport {
-            tasks: self.tasks.len(),
+            tasks: self.runner.tasks.len(),
             alone: false,
         }
     }
@@ -196,7 +162,7 @@ impl Engine {
     pub fn region(&self) -> &Region
         ensures { cells_of result.now ≡ self.now.region }
     {
-        &self.region
+        &self.lanes.region
     }
 
     /// The parts of the region, one for each lane.
@@ -204,7 +170,7 @@ impl Engine {
         ensures value { lengths_of result.now ≡ self.now.lengths }
         ensures lanes { HaveLengths self.now.plan self.now.block (lengths_of result.now) }
     {
-        &self.layout
+        &self.lanes.layout
     }
 
     /// Where the history of a lane starts in its part.
@@ -213,6 +179,6 @@ impl Engine {
         ensures value { result.start ≡ slice_index self.now.starts lane }
         ensures inside { StartsIn (lane_info self.now.plan lane).history (slice_index self.now.lengths lane) result.start }
     {
-        self.states[lane as usize]
+        self.lanes.states[lane as usize]
     }
 }

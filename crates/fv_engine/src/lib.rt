@@ -4,10 +4,13 @@
 mod engine;
 mod error;
 mod hold;
+mod lanes;
 mod laws;
 mod make;
 mod over;
 mod plan_codes;
+mod runner;
+mod sizes;
 
 pub use engine::{BlockReport, Engine};
 pub use error::NoMemory;

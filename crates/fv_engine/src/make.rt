@@ -7,36 +7,16 @@ ghost use Rattle.fv_split_plan.specs.View.{lane_info};
 ghost use Rattle.fv_engine_tasks.specs.Block.{vectors_of};
 ghost use Rattle.fv_engine_tasks.specs.Jobs.{RegistersFit};
 ghost use Rattle.fv_engine.specs.Plans.{parts_of};
-ghost use Rattle.fv_engine.specs.Made.{AreShapes, AreLanes, IsMachine};
+ghost use Rattle.fv_engine.specs.Made.{AreShapes, AreLanes, IsRunner};
 
+use crate::lanes::Lanes;
+use crate::runner::TaskRunner;
 use fv_graph::Tasks;
 use fv_graph_core::Core;
 use fv_lines::{LaneShape, LaneState};
-use fv_outside::Line;
 use fv_pool::{Layout, Region};
 use fv_split_plan::Plan;
 use std::alloc::{AllocError, Global};
-
-/// The lanes: the region that they lie in, where each of them lies, its shape and where its history starts, and by lane how many
-/// samples of the block are written.
-#[derive(Drop)]
-pub(crate) struct Lanes {
-    pub(crate) region: Region,
-    pub(crate) layout: Layout,
-    pub(crate) shapes: Vec<LaneShape>,
-    pub(crate) states: Vec<LaneState>,
-    pub(crate) written: Vec<u32>,
-}
-
-/// What runs the tasks: the tasks and the core, the held values, the registers and the journal.
-#[derive(Drop)]
-pub(crate) struct Machine {
-    pub(crate) tasks: Tasks,
-    pub(crate) core: Core,
-    pub(crate) held: Vec<i32>,
-    pub(crate) regs: Vec<i32>,
-    pub(crate) lines: Vec<Line>,
-}
 
 /// How many vectors so many frames are.
 pub(crate) fn vectors(frames: u32, vector: u32) -> u32
@@ -123,20 +103,18 @@ pub(crate) fn blank_lanes(alloc: Global, plan: &Plan, block: u32) -> Result<Lane
 }
 
 /// What runs the tasks of a plan, for so many vectors.
-pub(crate) fn machine_for(alloc: Global, plan: &Plan, most: u32) -> Result<Machine, AllocError>
+pub(crate) fn runner_for(alloc: Global, plan: &Plan, most: u32) -> Result<TaskRunner, AllocError>
     requires some_loop { 0 < plan.now.loops }
     requires some_vector { 0 < most }
-    ensures { IfOk result (λ m. IsMachine plan.now most m) }
+    ensures { IfOk result (λ r. IsRunner plan.now most r) }
 {
     let tasks = Tasks::new(alloc, plan.loops(), most, plan.reads())?;
     let core = Core::new(alloc, &tasks, 1)?;
-    let held = Vec::from_elem(alloc, 0, plan.held().len() as usize)?;
     let regs = Vec::from_elem(alloc, 0, most_steps(plan) as usize)?;
     let lines = Vec::with_capacity(alloc, tasks.len() as usize)?;
-    Ok(Machine {
+    Ok(TaskRunner {
         tasks,
         core,
-        held,
         regs,
         lines,
     })

@@ -1,4 +1,4 @@
-use Rattle.std.proofs.Common.{◌≡◌, ℕ, ◌<◌, pos, List, length, map, sum, replicate, take, refl, sym, ap, ◌∙◌, arith}
+use Rattle.std.proofs.Common.{◌≡◌, ℕ, ◌<◌, ℤ, pos, List, length, map, sum, replicate, take, refl, sym, ap, ◌∙◌, arith}
 use Rattle.std.specs.Prelude.{slice_index}
 use Rattle.std.proofs.lemmas.List.{length-map, length-replicate}
 use Rattle.fv_pool.specs.Lengths.{lengths_of}
@@ -11,32 +11,63 @@ use Rattle.fv_lines.specs.declared.shape.LaneState.{LaneState}
 use Rattle.fv_lines.proofs.Tables.{shapes_fit}
 use Rattle.fv_split_plan.specs.View.{lane_info}
 use Rattle.fv_engine.proofs.Made.{all_held, starts_zero, nothing_yet}
+use Rattle.fv_engine.proofs.make.blank_lanes.Goals.{In_ok-written}
 use Rattle.fv_engine.proofs.make.blank_lanes.Goals as goal
+
+-- what the lists of the lanes hold
+module _ (c : In_ok-written) where
+  abbrev shapes : List LaneShape
+  shapes = c.in_ok-shapes.shapes.items
+
+  abbrev states : List LaneState
+  states = c.in_ok-states.states.items
+
+  abbrev lengths : List ℕ
+  lengths = lengths_of c.in_ok-layout.layout
+
+  abbrev cells : List ℤ
+  cells = cells_of c.in_ok-region.region
+
+  lengths_are : lengths ≡ map (λ (s : LaneShape). s.len) shapes
+  lengths_are =
+      c.in_ok-layout.ensures ∙ c.deref-3.ensures.value ∙ c.in_ok-lengths.ensures ∙ ap (map (λ (s : LaneShape). s.len)) c.deref.ensures.value
+
+  count : length lengths ≡ length shapes
+  count = ap length lengths_are ∙ length-map shapes (λ (s : LaneShape). s.len)
+
+  abbrev blank : LaneState
+  blank = record { start = 0 }
+
+  states_are : states ≡ replicate (length shapes) blank
+  states_are = c.in_ok-states.ensures.items_if_clones_equal (λ y e. e) ∙ ap (λ n. replicate n blank) (c.len.ensures ∙ c.in_ok-shapes.shapes.ok.0)
+
+  starts : (i : ℕ) → i < length shapes → start_at states i ≡ 0
+  starts i l = ap (λ (xs : List LaneState). start_at xs i) states_are ∙ starts_zero (length shapes) i blank refl l
+
+  cells_are : cells ≡ replicate (sum lengths) (pos 0)
+  cells_are = c.in_ok-region.ensures ∙ ap (λ n. replicate n (pos 0)) c.total.ensures
+
+pub invariant_of-result : goal.invariant_of-result
+invariant_of-result c =
+    let d = (goal.at.invariant_of-result c).In_ok-written in
+    let many = count d in let long = ap length (cells_are d) ∙ length-replicate (sum (lengths d)) (pos 0) in
+    let written : length c.in_ok-written.written.items ≡ length (lengths d) =
+    omega (arith, c.in_ok-written.ensures.len, c.len-2.ensures, c.in_ok-shapes.shapes.ok.0, c.in_ok-written.written.ok.0, many) in
+    record {
+      lists = (sym many, ap length (states_are d) ∙ length-replicate (length (shapes d)) (blank d) ∙ sym many, written, omega (arith, long));
+      held = all_held (lengths d) (shapes d) (states d) (lengths_are d) (starts d);
+    }
 
 pub returns : goal.returns
 returns c =
-    let shapes = c.in_ok-shapes.shapes.items in let states = c.in_ok-states.states.items in
-    let ls = lengths_of c.in_ok-layout.layout in let cells = cells_of c.in_ok-region.region in
-    let are = c.in_ok-shapes.ensures in let blank : LaneState = record { start = 0 } in
-    let lens : ls ≡ map (λ (s : LaneShape). s.len) shapes =
-    c.in_ok-layout.ensures ∙ c.deref-3.ensures.value ∙ c.in_ok-lengths.ensures ∙ ap (map (λ (s : LaneShape). s.len)) c.deref.ensures.value in
-    let count : length ls ≡ length shapes = ap length lens ∙ length-map shapes (λ (s : LaneShape). s.len) in
-    let all_zero : states ≡ replicate (length shapes) blank =
-    c.in_ok-states.ensures.items_if_clones_equal (λ y e. e) ∙ ap (λ n. replicate n blank) (c.len.ensures ∙ c.in_ok-shapes.shapes.ok.0) in
-    let zeros : (i : ℕ) → i < length shapes → start_at states i ≡ 0 =
-    λ i l. ap (λ (xs : List LaneState). start_at xs i) all_zero ∙ starts_zero (length shapes) i blank refl l in
-    let is_blank : cells ≡ replicate (sum ls) (pos 0) = c.in_ok-region.ensures ∙ ap (λ n. replicate n (pos 0)) c.total.ensures in
-    let long : length cells ≡ sum ls = ap length is_blank ∙ length-replicate (sum ls) (pos 0) in
-    let many : length c.in_ok-written.written.items ≡ length ls =
-    omega (arith, c.in_ok-written.ensures.len, c.len-2.ensures, c.in_ok-shapes.shapes.ok.0, c.in_ok-written.written.ok.0, count) in
+    let d = (goal.at.returns c).In_ok-written in let are = c.in_ok-shapes.ensures in
     record {
       shapes = are;
-      lists = (sym count, ap length all_zero ∙ length-replicate (length shapes) blank ∙ sym count, many, omega (arith, long));
-      held_there = all_held ls shapes states lens zeros;
       blank = λ l i v.
-          let there : l < length shapes = omega (arith, i, are.count) in
-          let history = (lane_info c.args.plan.now l).history in let within : l < length ls = omega (arith, there, count) in
-          let fit = shapes_fit shapes l there in let h = are.histories l i in let k = ap (λ (xs : List ℕ). slice_index xs l) lens in
-          ap (λ s. take history (from_start s (part ls l cells))) (zeros l there)
-          ∙ nothing_yet ls l history cells v within (omega (arith, fit, h, k)) is_blank;
+          let there : l < length (shapes d) = omega (arith, i, are.count) in
+          let history = (lane_info c.args.plan.now l).history in let within : l < length (lengths d) = omega (arith, there, count d) in
+          let fit = shapes_fit (shapes d) l there in let h = are.histories l i in
+          let k = ap (λ (xs : List ℕ). slice_index xs l) (lengths_are d) in
+          ap (λ s. take history (from_start s (part (lengths d) l (cells d)))) (starts d l there)
+          ∙ nothing_yet (lengths d) l history (cells d) v within (omega (arith, fit, h, k)) (cells_are d);
     }

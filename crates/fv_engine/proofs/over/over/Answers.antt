@@ -1,11 +1,14 @@
 use Rattle.std.proofs.Common.{rules, ◌≡◌, ◌∙◌, ◌<◌, ℕ, List, length, ap, sym, subst, arith}
+use Rattle.std.specs.Global.{Vec}
+use Rattle.fv_outside.specs.declared.gate.Line.{Line}
+use Rattle.fv_graph.specs.Graph.{Graph}
 use Rattle.fv_loopcode.specs.State.{State, lanes_alone}
 use Rattle.fv_pool.specs.Lengths.{lengths_of}
 use Rattle.fv_lines.specs.Solo.{SoloRest, opening_lanes, lanes_of, lengths_in, rest_of}
 use Rattle.fv_lines.specs.declared.solo.Solo.{Solo}
 use Rattle.fv_engine_tasks.specs.Block.{Block, IsReal}
-use Rattle.fv_engine_tasks.specs.Jobs.{block_of}
-use Rattle.fv_engine_tasks.specs.Underway.{IsUnderway}
+use Rattle.fv_engine_tasks.specs.Jobs.{IsJob, block_of}
+use Rattle.fv_engine_tasks.specs.Underway.{IsUnderway, EndsBlock}
 use Rattle.fv_engine_tasks.proofs.Full.{IsDone, lane_full, can_read}
 use Rattle.fv_engine.proofs.Runs.{LiesOver, opening_long, starts, are_full, holds_next, there_in}
 use Rattle.fv_engine.proofs.over.over.Given.{Over}
@@ -20,12 +23,12 @@ module _ (g : Over) (c : After-begin-solo g) where
   abbrev first : State
   first = lanes_alone (opening_lanes (lengths_of c.args.layout.now) c.args.shapes.now c.args.states.now c.args.job.now.frames c.args.cells.now)
 
-  underway : IsUnderway c.args.tasks.now.tasks b first c.args.core.now.now (lanes_alone (lanes_of c.begin-solo.result)) c.args.lines.now.items
+  underway : IsUnderway c.begin.new.self.tasks.tasks b first c.begin.new.self.core.now (lanes_alone (lanes_of c.begin-solo.result)) c.begin.new.self.lines.items
   underway = starts (record {
     long = opening_long (lengths_of c.args.layout.now) c.args.shapes.now c.args.states.now c.args.job.now.frames c.args.cells.now ∙ c.requires.count;
-    state = c.requires.opening;
+    state = c.begin.ensures.opening;
     places_are = ap lanes_alone c.begin-solo.ensures.lanes;
-    none = c.requires.lines;
+    none = ap (λ (v : Vec Line). v.items) c.begin.ensures.lines ∙ c.requires.lines;
   })
 
 -- the block when its tasks are done
@@ -34,9 +37,13 @@ module _ (g : Over) (c : After-run_tasks g) where
   block = block_of g.P.Codes.parts c.args.job.now
 
   done : {first : State} → IsReal block first
-      → IsUnderway c.args.tasks.now.tasks block first c.args.core.now.now (lanes_alone (lanes_of c.begin-solo.result)) c.args.lines.now.items
-      → IsDone c.args.tasks.now.tasks block first (lanes_alone (lanes_of c.run_tasks.new.store)) c.run_tasks.new.lines.items
-  done {first} real u = record { job = c.requires.job; real = real; ends = c.run_tasks.ensures.ends first real u }
+      → IsUnderway c.begin.new.self.tasks.tasks block first c.begin.new.self.core.now (lanes_alone (lanes_of c.begin-solo.result)) c.begin.new.self.lines.items
+      → IsDone c.begin.new.self.tasks.tasks block first (lanes_alone (lanes_of c.run_tasks.new.store)) c.run_tasks.new.lines.items
+  done {first} real u = record {
+    job = subst (λ (t : Graph). IsJob block t.tasks) (sym c.begin.ensures.tasks) c.requires.job;
+    real = real;
+    ends = c.run_tasks.ensures.ends first real u;
+  }
 
 pub run_tasks-requires-clause-underway : goal.run_tasks-requires-clause-underway
 run_tasks-requires-clause-underway g c =
@@ -64,7 +71,10 @@ returns-clause-ran g c =
     let cells = sym (ap (λ (r : SoloRest). r.cells) kept) in
     record {
       now = lanes_alone (lanes_of s);
-      ends = (done g d.After-run_tasks c.requires.real (underway g d.After-begin-solo)).ends;
+      ends =
+          let block = block g d.After-run_tasks in let first = first g d.After-begin-solo in
+          subst (λ (t : Graph). EndsBlock t.tasks block first (lanes_alone (lanes_of s)) c.run_tasks.new.lines.items)
+          c.begin.ensures.tasks (done g d.After-run_tasks c.requires.real (underway g d.After-begin-solo)).ends;
       next = λ i l.
           let over : LiesOver s (lengths_of c.args.layout.now) c.args.shapes.now c.args.job.now.frames _ c.finish.new.self.1.1.1.0 _ = record {
             lengths_are = as_lengths;

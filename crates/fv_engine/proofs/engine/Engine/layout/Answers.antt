@@ -7,4 +7,4 @@ use Rattle.fv_engine.proofs.engine.Engine.layout.Goals as goal
 pub returns-clause-lanes : goal.returns-clause-lanes
 returns-clause-lanes c =
     let e = c.self.inside in
-    subst (λ (x : EngineView). HaveLengths x.plan x.block (lengths_of e.layout)) c.self.view_is (have_lengths e c.self.invariant)
+    subst (λ (x : EngineView). HaveLengths x.plan x.block (lengths_of e.lanes.layout)) c.self.view_is (have_lengths e c.self.invariant)

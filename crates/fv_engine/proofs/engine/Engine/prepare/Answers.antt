@@ -1,12 +1,13 @@
-use Rattle.std.proofs.Common.{[], pos, ◌∙◌, subst}
+use Rattle.std.proofs.Common.{List, [], length, pos, ap, ◌∙◌, subst, arith}
 use Rattle.fv_signal.specs.Value.{value}
+use Rattle.fv_loopcode.specs.declared.step.Step.{Step}
 use Rattle.fv_split_plan.specs.View.{PlanView}
 use Rattle.fv_split_plan.specs.Plans.{IsPlan}
 use Rattle.fv_engine.proofs.engine.Engine.prepare.Goals as goal
 
 pub invariant_of-result : goal.invariant_of-result
 invariant_of-result c =
-    let lanes = c.in_ok-region.ensures in let m = c.in_ok-tasks.ensures in
+    let lanes = c.in_ok-lanes.ensures in let r = c.in_ok-runner.ensures in
     let plan = subst (λ (p : PlanView). IsPlan p) c.plan.view_is c.plan.invariant in
     record {
       sizes = record {
@@ -19,13 +20,10 @@ invariant_of-result c =
         inputs = c.requires.inputs;
       };
       shapes = lanes.shapes;
-      lists = lanes.lists;
-      held_there = lanes.held_there;
-      tasks_are = record { loops = m.tasks_are.loops; pairs = m.tasks_are.pairs; most_are = m.tasks_are.most_are ∙ c.vectors.ensures.value };
-      core_is = m.core_is;
-      registers = m.registers;
-      held_long = m.held_long;
-      room = m.room;
+      tasks_are = record { loops = r.tasks_are.loops; pairs = r.tasks_are.pairs; most_are = r.tasks_are.most_are ∙ c.vectors.ensures.value };
+      registers = r.registers;
+      held_long = let q = ap (λ (steps : List Step). length steps) c.held.ensures in
+          omega (arith, q, c.len.ensures, c.in_ok-held.ensures.len, c.in_ok-held.held.ok.0);
       standing = record {
         graph = plan.0;
         plan = plan.1;
@@ -36,4 +34,4 @@ invariant_of-result c =
     }
 
 pub returns-clause-stands : goal.returns-clause-stands
-returns-clause-stands c = λ g s d. record { histories = λ l i. c.in_ok-region.ensures.blank l i (value g (s.names.lane l) [] d) }
+returns-clause-stands c = λ g s d. record { histories = λ l i. c.in_ok-lanes.ensures.blank l i (value g (s.names.lane l) [] d) }

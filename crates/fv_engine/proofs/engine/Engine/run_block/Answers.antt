@@ -1,4 +1,5 @@
-use Rattle.std.proofs.Common.{◌≡◌, ℕ, ◌<◌, ℤ, List, length, map, All, sym, ap, ◌∙◌, subst, arith}
+use Rattle.std.proofs.Common.{◌≡◌, ℕ, ◌<◌, ℤ, List, length, map, All, refl, sym, ap, ◌∙◌, subst, arith}
+use Rattle.std.specs.Global.{Vec}
 use Rattle.std.specs.Vec.{with_items}
 use Rattle.std.proofs.lemmas.List.{with_items_is}
 use Rattle.std.proofs.lemmas.Option.{IfSome_then}
@@ -6,30 +7,29 @@ use Rattle.fv_outside.specs.Tasks.{Tasks, reads_loop, task_count}
 use Rattle.fv_outside.specs.Journal.{BlockEntry, IsOrdered}
 use Rattle.fv_outside.specs.declared.gate.Line.{Line}
 use Rattle.fv_outside.specs.declared.tasks.Reads.{Reads}
-use Rattle.fv_graph.specs.Graph.{Graph, edges_of}
-use Rattle.fv_graph_core.specs.Running.{Running}
-use Rattle.fv_pool.specs.Lengths.{lengths_of}
-use Rattle.fv_lines.specs.Solo.{AreHeld, AreLists}
+use Rattle.fv_graph.specs.Graph.{Graph}
+use Rattle.fv_pool.specs.Region.{cells_of}
 use Rattle.fv_lines.specs.declared.shape.LaneShape.{LaneShape}
 use Rattle.fv_lines.specs.declared.shape.LaneState.{LaneState}
 use Rattle.fv_engine_tasks.specs.Block.{vectors_of}
 use Rattle.fv_engine.specs.Plans.{held_by, block_from}
-use Rattle.fv_engine.specs.Stands.{EngineView, GoesOn}
+use Rattle.fv_engine.specs.Stands.{EngineView}
 use Rattle.fv_engine.specs.Stored.{view_of}
-use Rattle.fv_engine.specs.Made.{AreTasksOf, HasCore}
+use Rattle.fv_engine.specs.Made.{AreShapes, AreTasksOf}
 use Rattle.fv_engine.specs.Told.{tasks_told, IsEntry}
 use Rattle.fv_engine.specs.declared.engine.Engine.TheInside.{Inside}
+use Rattle.fv_engine.specs.declared.lanes.Lanes.{Lanes}
 use Rattle.fv_engine.proofs.Values.{block_in}
 use Rattle.fv_engine.proofs.Goes.{with_state}
-use Rattle.fv_engine.proofs.Blocks.{IsCalled, AreHanded, tasks_fit, edges_fit, lines_fit, count_is, same_block, job, first_is, ran_as, goes, still_standing}
-use Rattle.fv_engine.proofs.Blocks.{ordered, counted, outputs_there, many_held}
+use Rattle.fv_engine.proofs.Blocks.{IsCalled, few, framed, count_is, same_block, job, first_is, is_kept, leads_on}
+use Rattle.fv_engine.proofs.Blocks.{still_standing, ordered, counted, outputs_there, many_held, parts_many}
 use Rattle.fv_engine.proofs.engine.Engine.run_block.Given.{Over}
-use Rattle.fv_engine.proofs.engine.Engine.run_block.Goals.{After-set_vectors, After-deref_mut-4, After-over}
+use Rattle.fv_engine.proofs.engine.Engine.run_block.Goals.{After-set_vectors, After-from, After-run_alone}
 use Rattle.fv_engine.proofs.engine.Engine.run_block.Goals as goal
 
 -- the call
 called : (g : Over) (c : After-set_vectors g)
-    → IsCalled c.self.inside c.args.self.now c.args.frames c.args.input.now c.args.controls.now c.vectors-vectors.result c.set_vectors.new.self
+    → IsCalled c.self.inside c.args.self.now c.args.frames c.args.input.now c.args.controls.now c.vectors-vectors.result c.set_vectors.new.self.tasks
 called g c = record {
   stored = c.self.invariant;
   view_is = c.self.view_is;
@@ -37,165 +37,122 @@ called g c = record {
   input_long = c.requires.input;
   named = c.requires.controls;
   vectors = c.vectors-vectors.ensures.value;
-  tasks = c.set_vectors.ensures;
+  tasks = c.set_vectors.ensures.tasks;
 }
 
-pub reset-requires-clause-tasks : goal.reset-requires-clause-tasks
-reset-requires-clause-tasks g c = tasks_fit (called g (goal.at.reset-requires-clause-tasks g c).After-set_vectors)
+pub set_vectors-requires-clause-room : goal.set_vectors-requires-clause-room
+set_vectors-requires-clause-room g c =
+    let tasks = c.self.inside.runner.tasks in
+    few (record {
+      stored = c.self.invariant;
+      view_is = c.self.view_is;
+      size = c.requires.frames;
+      input_long = c.requires.input;
+      named = c.requires.controls;
+      vectors = c.vectors-vectors.ensures.value;
+      tasks = refl {a = record tasks { tasks = record tasks.tasks { vectors = c.vectors-vectors.result } }};
+    })
 
-pub reset-requires-clause-edges : goal.reset-requires-clause-edges
-reset-requires-clause-edges g c = edges_fit (called g (goal.at.reset-requires-clause-edges g c).After-set_vectors)
+pub run_alone-requires-clause-framed : goal.run_alone-requires-clause-framed
+run_alone-requires-clause-framed g c = framed (called g (goal.at.run_alone-requires-clause-framed g c).After-set_vectors)
 
-pub over-requires-clause-room : goal.over-requires-clause-room
-over-requires-clause-room g c =
-    let q = lines_fit (called g (goal.at.over-requires-clause-room g c).After-set_vectors) in omega (arith, q, c.clear.ensures.capacity)
+pub run_alone-requires-clause-count : goal.run_alone-requires-clause-count
+run_alone-requires-clause-count g c = parts_many (called g (goal.at.run_alone-requires-clause-count g c).After-set_vectors)
 
-pub over-requires-clause-lanes : goal.over-requires-clause-lanes
-over-requires-clause-lanes g c =
-    let inside = c.self.inside in let lengths = lengths_of inside.layout in
-    subst (λ (x : List LaneShape). AreHeld lengths x c.deref_mut-2.result.now) (sym c.deref-2.ensures.value)
-    (subst (λ (x : List LaneState). AreHeld lengths inside.shapes.items x) (sym c.deref_mut-2.ensures.value) c.self.invariant.held_there)
-
-pub over-requires-clause-there : goal.over-requires-clause-there
-over-requires-clause-there g c =
+pub run_alone-requires-clause-there : goal.run_alone-requires-clause-there
+run_alone-requires-clause-there g c =
     let inside = c.self.inside in let standing = c.self.invariant.standing in
-    subst (λ (xs : List ℕ). All (λ l. l < length inside.plan.lanes) xs) (sym c.outputs.ensures) (outputs_there standing.graph inside.plan standing.plan)
+    subst (λ (xs : List ℕ). All (λ l. l < length inside.plan.lanes) xs) (sym c.outputs-outputs.ensures) (outputs_there standing.graph inside.plan standing.plan)
 
 -- what the block is handed
-module _ (g : Over) (c : After-deref_mut-4 g) where
+module _ (g : Over) (c : After-from g) where
   abbrev inside : Inside
   inside = c.self.inside
 
   held_is : (with_items inside.held c.hold.new.held).items ≡ held_by inside.plan c.args.controls.now
   held_is = with_items_is inside.held c.hold.new.held (omega (arith, c.hold.auto.held, c.deref_mut.ensures.len, inside.held.ok.0)) ∙ c.hold.ensures
 
-  block_is : block_from inside.plan inside.vector c.args.frames c.from.result c.deref.result.now c.args.input.now
+  block_is : block_from inside.plan inside.sizes.vector c.args.frames c.from.result c.deref.result.now c.args.input.now
       ≡ block_in (view_of inside) c.args.frames c.args.controls.now c.args.input.now
   block_is = same_block inside c.args.frames c.args.input.now c.args.controls.now c.from.ensures (c.deref.ensures.value ∙ held_is)
 
-  handed : AreHanded inside c.deref-2.result.now c.deref_mut-2.result.now c.cells.result.now c.outputs.result.now
-  handed = record {
-    shapes_are = c.deref-2.ensures.value;
-    states_are = c.deref_mut-2.ensures.value;
-    cells_are = c.cells.ensures.value;
-    outputs_are = c.outputs.ensures;
-  }
+pub run_alone-requires-clause-job : goal.run_alone-requires-clause-job
+run_alone-requires-clause-job g c =
+    let d = goal.at.run_alone-requires-clause-job g c in job (called g d.After-set_vectors) (block_is g d.After-from)
 
-pub over-requires-clause-job : goal.over-requires-clause-job
-over-requires-clause-job g c =
-    let d = goal.at.over-requires-clause-job g c in job (called g d.After-set_vectors) (block_is g d.After-deref_mut-4)
-
-pub over-requires-clause-real : goal.over-requires-clause-real
-over-requires-clause-real g c =
-    let d = goal.at.over-requires-clause-real g c in let b = d.After-deref_mut-4 in
-    first_is (called g d.After-set_vectors) (block_is g b) (handed g b)
+pub run_alone-requires-clause-real : goal.run_alone-requires-clause-real
+run_alone-requires-clause-real g c =
+    let d = goal.at.run_alone-requires-clause-real g c in first_is (called g d.After-set_vectors) (block_is g d.After-from)
 
 -- what it leaves
-module _ (g : Over) (c : After-over g) where
+module _ (g : Over) (c : After-run_alone g) where
   abbrev old : Inside
   old = c.self.inside
 
-  abbrev cells : List ℤ
-  cells = (with_items old.region.cells c.over.new.cells).items
+  abbrev new : Lanes
+  new = c.run_alone.new.self
 
-  abbrev states : List LaneState
-  states = (with_items old.states c.over.new.states).items
+  is_told : c.run_alone.new.runner.tasks ≡ record old.runner.tasks { tasks = record old.runner.tasks.tasks { vectors = c.vectors-vectors.result } }
+  is_told = c.run_alone.ensures.runner.tasks ∙ c.set_vectors.ensures.tasks
 
-  cells_are : cells ≡ c.over.new.cells
-  cells_are = with_items_is old.region.cells c.over.new.cells (omega (arith, c.over.auto.cells, ap length c.cells.ensures.value, old.region.cells.ok.0))
+  shapes : AreShapes old.plan old.sizes.block new.shapes.items
+  shapes = subst (λ (v : Vec LaneShape). AreShapes old.plan old.sizes.block v.items) (sym c.run_alone.ensures.lanes.shapes) c.self.invariant.shapes
 
-  states_are : states ≡ c.over.new.states
-  states_are = with_items_is old.states c.over.new.states (omega (arith, c.over.auto.states, c.deref_mut-2.ensures.len, old.states.ok.0))
-
-  written_are : (with_items old.written c.over.new.written).items ≡ c.over.new.written
-  written_are = with_items_is old.written c.over.new.written (omega (arith, c.over.auto.written, c.deref_mut-3.ensures.len, old.written.ok.0))
-
-  regs_are : (with_items old.regs c.over.new.regs).items ≡ c.over.new.regs
-  regs_are = with_items_is old.regs c.over.new.regs (omega (arith, c.over.auto.regs, c.deref_mut-4.ensures.len, old.regs.ok.0))
-
-  abbrev lengths : List ℕ
-  lengths = lengths_of old.layout
-
-  lists : AreLists lengths old.shapes.items states (with_items old.written c.over.new.written).items cells
-  lists =
-      let over = c.over.new in let written = (with_items old.written over.written).items in
-      subst (λ (x : List ℤ). AreLists lengths old.shapes.items states written x) (sym cells_are)
-      (subst (λ (x : List ℕ). AreLists lengths old.shapes.items states x over.cells) (sym written_are)
-      (subst (λ (x : List LaneState). AreLists lengths old.shapes.items x over.written over.cells) (sym states_are)
-      (subst (λ (x : List LaneShape). AreLists lengths x over.states over.written over.cells) c.deref-2.ensures.value c.over.ensures.lists)))
-
-  lanes : AreHeld lengths old.shapes.items states
-  lanes =
-      subst (λ (x : List LaneState). AreHeld lengths old.shapes.items x) (sym states_are)
-      (subst (λ (x : List LaneShape). AreHeld lengths x c.over.new.states) c.deref-2.ensures.value c.over.ensures.lanes)
-
-  tasks_are : AreTasksOf old.plan (vectors_of old.block old.vector) c.set_vectors.new.self
+  tasks_are : AreTasksOf old.plan (vectors_of old.sizes.block old.sizes.vector) c.run_alone.new.runner.tasks
   tasks_are =
-      let t = c.set_vectors.ensures in let before = c.self.invariant.tasks_are in
+      let before = c.self.invariant.tasks_are in
       record {
-        loops = ap (λ (x : Graph). x.tasks.loops) t ∙ before.loops;
-        pairs = λ j k. ap (λ (x : Graph). reads_loop x.tasks.reads j k) t ∙ before.pairs j k;
-        most_are = ap (λ (x : Graph). x.most) t ∙ before.most_are;
-      }
-
-  core_is : HasCore c.set_vectors.new.self c.over.new.core
-  core_is =
-      let t = c.set_vectors.ensures in let before = c.self.invariant.core_is in let core = c.over.ensures.core in let reset = c.reset.ensures in
-      record {
-        one = ap (λ (x : Running). x.workers) core ∙ ap (λ (x : Running). x.workers) reset ∙ before.one;
-        tasks = let a = ap (λ (x : Running). x.room_tasks) core in let b = ap (λ (x : Running). x.room_tasks) reset in
-            let k = ap (λ (x : Graph). task_count (record x.tasks { vectors = x.most })) t in omega (arith, a, b, k, before.tasks);
-        edges = let a = ap (λ (x : Running). x.room_edges) core in let b = ap (λ (x : Running). x.room_edges) reset in
-            let k = ap (λ (x : Graph). edges_of (record x.tasks { vectors = x.most })) t in omega (arith, a, b, k, before.edges);
+        loops = ap (λ (x : Graph). x.tasks.loops) is_told ∙ before.loops;
+        pairs = λ j k. ap (λ (x : Graph). reads_loop x.tasks.reads j k) is_told ∙ before.pairs j k;
+        most_are = ap (λ (x : Graph). x.most) is_told ∙ before.most_are;
       }
 
 pub invariant_of-self : goal.invariant_of-self
 invariant_of-self g c =
-    let d = goal.at.invariant_of-self g c in let b = d.After-deref_mut-4 in let o = d.After-over in let inv = c.self.invariant in
+    let d = goal.at.invariant_of-self g c in let b = d.After-from in let o = d.After-run_alone in let inv = c.self.invariant in
     let call = called g d.After-set_vectors in
-    let ran = ran_as call (block_is g b) (handed g b) (cells_are g o) (states_are g o) c.over.ensures.ran in
     record {
       sizes = inv.sizes;
-      shapes = inv.shapes;
-      lists = lists g o;
-      held_there = lanes g o;
+      shapes = shapes g o;
       tasks_are = tasks_are g o;
-      core_is = core_is g o;
-      registers = λ j l. let q = inv.registers j l in let r = ap length (regs_are g o) in
-          omega (arith, q, r, c.over.ensures.regs, c.deref_mut-4.ensures.len, c.self.inside.regs.ok.0);
+      registers = λ j l. let q = inv.registers j l in let r = ap (λ (v : Vec ℤ). length v.items) c.set_vectors.ensures.regs in
+          omega (arith, q, r, c.run_alone.ensures.runner.regs);
       held_long = ap length (held_is g b) ∙ many_held call;
-      room = let k = ap (λ (x : Graph). task_count (record x.tasks { vectors = x.most })) c.set_vectors.ensures in
-          omega (arith, k, inv.room, c.clear.ensures.capacity, c.over.ensures.room);
-      standing = still_standing call (block_is g b) ran;
+      standing = still_standing call (block_is g b) c.run_alone.ensures.lanes c.outputs-outputs.ensures c.run_alone.ensures.ran;
     }
+
+pub returns-clause-same : goal.returns-clause-same
+returns-clause-same g c =
+    let d = goal.at.returns-clause-same g c in let lanes = c.run_alone.new.self in
+    let kept = is_kept (called g d.After-set_vectors) (block_is g d.After-from) c.run_alone.ensures.lanes c.outputs-outputs.ensures c.run_alone.ensures.ran in
+    sym kept ∙ ap (λ (x : EngineView). with_state x (cells_of lanes.region) (map (λ (s : LaneState). s.start) lanes.states.items)) c.self.view_is
 
 pub returns-clause-goes_on : goal.returns-clause-goes_on
 returns-clause-goes_on g c =
-    let d = goal.at.returns-clause-goes_on g c in let b = d.After-deref_mut-4 in let o = d.After-over in let call = called g d.After-set_vectors in
-    let ran = ran_as call (block_is g b) (handed g b) (cells_are g o) (states_are g o) c.over.ensures.ran in
-    let new = with_state (view_of c.self.inside) (cells g o) (map (λ (s : LaneState). s.start) (states g o)) in
-    subst (λ (x : EngineView). GoesOn x new c.args.frames c.args.input.now c.args.controls.now c.over.new.output) c.self.view_is
-    (goes call (block_is g b) ran)
+    let d = goal.at.returns-clause-goes_on g c in
+    leads_on (called g d.After-set_vectors) (block_is g d.After-from) c.run_alone.ensures.lanes c.outputs-outputs.ensures c.run_alone.ensures.ran
 
 pub returns-clause-told : goal.returns-clause-told
 returns-clause-told g c =
-    let d = goal.at.returns-clause-told g c in let b = d.After-deref_mut-4 in let o = d.After-over in let call = called g d.After-set_vectors in
-    let ran = ran_as call (block_is g b) (handed g b) (cells_are g o) (states_are g o) c.over.ensures.ran in
+    let d = goal.at.returns-clause-told g c in let call = called g d.After-set_vectors in let b = block_is g d.After-from in
+    let same = c.run_alone.ensures.lanes in let ran = c.run_alone.ensures.ran in
     let inside = c.self.inside in let wanted = tasks_told (view_of inside) c.args.frames in
     let said : Tasks = record { loops = c.loops.result; vectors = c.vectors-vectors.result; reads = c.reads.result.now } in
-    let same : said ≡ wanted =
+    let is_same : said ≡ wanted =
     ap (λ n. record { loops = n; vectors = c.vectors-vectors.result; reads = c.reads.result.now }) c.loops.ensures.loops
     ∙ ap (λ n. record { loops = inside.plan.loops; vectors = n; reads = c.reads.result.now }) c.vectors-vectors.ensures.value
-    ∙ ap (λ (r : List Reads). record { loops = inside.plan.loops; vectors = vectors_of c.args.frames inside.vector; reads = r }) c.reads.ensures in
-    let in_order : IsOrdered said c.deref-3.result.now =
-    subst (λ (x : Tasks). IsOrdered x c.deref-3.result.now) (sym same)
-    (subst (λ (x : List Line). IsOrdered wanted x) (sym c.deref-3.ensures.value) (ordered call (block_is g b) ran)) in
-    let count : length c.deref-3.result.now ≡ task_count said =
-    ap length c.deref-3.ensures.value ∙ counted call (block_is g b) ran ∙ sym (ap task_count same) in
-    let entry : BlockEntry = record { tasks = said; lines = c.deref-3.result.now } in
+    ∙ ap (λ (r : List Reads). record { loops = inside.plan.loops; vectors = vectors_of c.args.frames inside.sizes.vector; reads = r }) c.reads.ensures in
+    let in_order : IsOrdered said c.deref-2.result.now =
+    subst (λ (x : Tasks). IsOrdered x c.deref-2.result.now) (sym is_same)
+    (subst (λ (x : List Line). IsOrdered wanted x) (sym c.deref-2.ensures.value) (ordered call b same c.outputs-outputs.ensures ran)) in
+    let count : length c.deref-2.result.now ≡ task_count said =
+    ap length c.deref-2.ensures.value ∙ counted call b same c.outputs-outputs.ensures ran ∙ sym (ap task_count is_same) in
+    let entry : BlockEntry = record { tasks = said; lines = c.deref-2.result.now } in
     let is_entry : IsEntry c.args.self.now c.args.frames entry =
-    record { tasks = same ∙ ap (λ (x : EngineView). tasks_told x c.args.frames) c.self.view_is; ordered = in_order; counted = count } in
+    record { tasks = is_same ∙ ap (λ (x : EngineView). tasks_told x c.args.frames) c.self.view_is; ordered = in_order; counted = count } in
     IfSome_then (g.G.Gate.told c.block_done.new.self) c.block_done.ensures.entry (λ x h. (h.0, h.1, entry, is_entry, h.2, h.3))
 
 pub returns-clause-tasks : goal.returns-clause-tasks
-returns-clause-tasks g c = c.len.ensures.value ∙ count_is (called g (goal.at.returns-clause-tasks g c).After-set_vectors)
+returns-clause-tasks g c =
+    c.len.ensures.value ∙ ap (λ (t : Graph). task_count t.tasks) c.run_alone.ensures.runner.tasks
+    ∙ count_is (called g (goal.at.returns-clause-tasks g c).After-set_vectors)

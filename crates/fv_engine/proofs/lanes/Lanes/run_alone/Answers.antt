@@ -1,0 +1,85 @@
+use Rattle.std.proofs.Common.{◌≡◌, ℕ, ℤ, List, length, ap, sym, subst, arith}
+use Rattle.std.specs.Vec.{with_items}
+use Rattle.std.proofs.lemmas.List.{with_items_is}
+use Rattle.fv_pool.specs.Lengths.{lengths_of}
+use Rattle.fv_pool.specs.Region.{cells_of}
+use Rattle.fv_loopcode.specs.State.{State, lanes_alone}
+use Rattle.fv_lines.specs.Solo.{AreHeld, AreLists, opening_lanes}
+use Rattle.fv_lines.specs.declared.shape.LaneShape.{LaneShape}
+use Rattle.fv_lines.specs.declared.shape.LaneState.{LaneState}
+use Rattle.fv_engine_tasks.specs.Block.{Block, IsReal}
+use Rattle.fv_engine_tasks.specs.Jobs.{block_of}
+use Rattle.fv_engine.specs.inner.Over.{Ran}
+use Rattle.fv_engine.specs.declared.lanes.Lanes.{Lanes}
+use Rattle.fv_engine.proofs.lanes.Lanes.run_alone.Given.{Over}
+use Rattle.fv_engine.proofs.lanes.Lanes.run_alone.Goals.{After-over}
+use Rattle.fv_engine.proofs.lanes.Lanes.run_alone.Goals as goal
+
+pub over-requires-clause-lanes : goal.over-requires-clause-lanes
+over-requires-clause-lanes g c =
+    let l = c.args.self.now in let lengths = lengths_of l.layout in
+    subst (λ (x : List LaneShape). AreHeld lengths x c.deref_mut.result.now) (sym c.deref.ensures.value)
+    (subst (λ (x : List LaneState). AreHeld lengths l.shapes.items x) (sym c.deref_mut.ensures.value) l.held)
+
+pub over-requires-clause-real : goal.over-requires-clause-real
+over-requires-clause-real g c =
+    let l = c.args.self.now in let lengths = lengths_of l.layout in let n = c.args.job.now.frames in
+    let b = block_of g.P.Codes.parts c.args.job.now in
+    subst (λ (x : List LaneShape). IsReal b (lanes_alone (opening_lanes lengths x c.deref_mut.result.now n c.cells.result.now))) (sym c.deref.ensures.value)
+    (subst (λ (x : List LaneState). IsReal b (lanes_alone (opening_lanes lengths l.shapes.items x n c.cells.result.now))) (sym c.deref_mut.ensures.value)
+    (subst (λ (x : List ℤ). IsReal b (lanes_alone (opening_lanes lengths l.shapes.items l.states.items n x))) (sym c.cells.ensures.value) c.requires.real))
+
+-- what it leaves
+module _ (g : Over) (c : After-over g) where
+  abbrev old : Lanes
+  old = c.args.self.now
+
+  abbrev lengths : List ℕ
+  lengths = lengths_of old.layout
+
+  abbrev cells : List ℤ
+  cells = (with_items old.region.cells c.over.new.cells).items
+
+  abbrev states : List LaneState
+  states = (with_items old.states c.over.new.states).items
+
+  cells_are : cells ≡ c.over.new.cells
+  cells_are = with_items_is old.region.cells c.over.new.cells (omega (arith, c.over.auto.cells, ap length c.cells.ensures.value, old.region.cells.ok.0))
+
+  states_are : states ≡ c.over.new.states
+  states_are = with_items_is old.states c.over.new.states (omega (arith, c.over.auto.states, c.deref_mut.ensures.len, old.states.ok.0))
+
+  written_are : (with_items old.written c.over.new.written).items ≡ c.over.new.written
+  written_are = with_items_is old.written c.over.new.written (omega (arith, c.over.auto.written, c.deref_mut-2.ensures.len, old.written.ok.0))
+
+  lists : AreLists lengths old.shapes.items states (with_items old.written c.over.new.written).items cells
+  lists =
+      let over = c.over.new in let written = (with_items old.written over.written).items in
+      subst (λ (x : List ℤ). AreLists lengths old.shapes.items states written x) (sym cells_are)
+      (subst (λ (x : List ℕ). AreLists lengths old.shapes.items states x over.cells) (sym written_are)
+      (subst (λ (x : List LaneState). AreLists lengths old.shapes.items x over.written over.cells) (sym states_are)
+      (subst (λ (x : List LaneShape). AreLists lengths x over.states over.written over.cells) c.deref.ensures.value c.over.ensures.lists)))
+
+  lanes : AreHeld lengths old.shapes.items states
+  lanes =
+      subst (λ (x : List LaneState). AreHeld lengths old.shapes.items x) (sym states_are)
+      (subst (λ (x : List LaneShape). AreHeld lengths x c.over.new.states) c.deref.ensures.value c.over.ensures.lanes)
+
+pub invariant_of-self : goal.invariant_of-self
+invariant_of-self g c =
+    let o = (goal.at.invariant_of-self g c).After-over in record { lists = lists g o; held = lanes g o }
+
+pub returns-clause-ran : goal.returns-clause-ran
+returns-clause-ran g c =
+    let o = (goal.at.returns-clause-ran g c).After-over in let l = c.args.self.now in let lengths = lengths_of l.layout in
+    let n = c.args.job.now.frames in let b : Block = block_of g.P.Codes.parts c.args.job.now in let new = c.over.new in
+    let ran : List LaneShape → State → List ℤ → List LaneState → Type 0 =
+    λ shapes first cells states.
+        Ran c.args.runner.now.tasks.tasks b lengths shapes first cells states new.runner.lines.items c.args.outputs.now new.output in
+    let opened : List LaneShape → List LaneState → List ℤ → State = λ shapes states cells. lanes_alone (opening_lanes lengths shapes states n cells) in
+    subst (λ (x : List ℤ). ran l.shapes.items (opened l.shapes.items l.states.items (cells_of l.region)) x (states g o)) (sym (cells_are g o))
+    (subst (λ (x : List LaneState). ran l.shapes.items (opened l.shapes.items l.states.items (cells_of l.region)) new.cells x) (sym (states_are g o))
+    (subst (λ (x : List ℤ). ran l.shapes.items (opened l.shapes.items l.states.items x) new.cells new.states) c.cells.ensures.value
+    (subst (λ (x : List LaneState). ran l.shapes.items (opened l.shapes.items x c.cells.result.now) new.cells new.states) c.deref_mut.ensures.value
+    (subst (λ (x : List LaneShape). ran x (opened x c.deref_mut.result.now c.cells.result.now) new.cells new.states) c.deref.ensures.value
+    c.over.ensures.ran))))

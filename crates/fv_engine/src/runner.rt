@@ -1,0 +1,53 @@
+// What runs the tasks of a plan.
+
+ghost use Rattle.std.specs.Prelude.{◌≤◌, vec_capacity};
+ghost use Rattle.fv_outside.specs.Tasks.{task_count};
+ghost use Rattle.fv_engine.specs.Cores.{HasCore};
+
+use fv_graph::Tasks;
+use fv_graph_core::Core;
+use fv_outside::Line;
+
+/// What runs the tasks: the tasks of the block, the core for one worker, the registers and the block's journal.
+#[derive(Drop)]
+pub(crate) struct TaskRunner {
+    pub(crate) tasks: Tasks,
+    pub(crate) core: Core,
+    pub(crate) regs: Vec<i32>,
+    pub(crate) lines: Vec<Line>,
+    ghost core_is: { HasCore tasks core },
+    ghost room: { task_count (record tasks.tasks { vectors = tasks.most }) ≤ vec_capacity lines },
+}
+
+impl TaskRunner {
+    ghost use Rattle.std.specs.Prelude.{◌≡◌, ◌<◌, [], length};
+    ghost use Rattle.fv_graph.specs.Graph.{net_of};
+    ghost use Rattle.fv_graph_core.specs.Core.{opening};
+
+    /// The tasks are those of so many vectors from now on, and no line is written of them.
+    pub(crate) fn set_vectors(&mut self, vectors: u32)
+        requires some { 0 < vectors }
+        requires room { vectors ≤ self.old.tasks.most }
+        ensures tasks { self.new.tasks ≡ record self.old.tasks { tasks = record self.old.tasks.tasks { vectors = vectors } } }
+        ensures lines { self.new.lines.items ≡ [] }
+        ensures regs { self.new.regs ≡ self.old.regs }
+    {
+        self.tasks.set_vectors(vectors);
+        self.lines.clear();
+    }
+
+    /// The core is about to run the tasks from the first on.
+    pub(crate) fn begin(&mut self)
+        ensures tasks { self.new.tasks ≡ self.old.tasks }
+        ensures same { self.new.core.tasks ≡ self.new.tasks.tasks }
+        ensures one { self.new.core.workers ≡ 1 }
+        ensures opening { self.new.core.now ≡ opening (net_of self.new.tasks.tasks) 1 }
+        ensures regs { self.new.regs ≡ self.old.regs }
+        ensures lines { self.new.lines ≡ self.old.lines }
+        ensures room { task_count self.new.tasks.tasks ≤ vec_capacity self.new.lines }
+    {
+        // Called for its clause: there are no more vectors than the core has room for.
+        let _vectors = self.tasks.vectors();
+        self.core.reset(&self.tasks);
+    }
+}
