@@ -1,3 +1,5 @@
 pub mod DealtSoFar
 pub mod Entering
 pub mod FirstLanes
+pub mod Handed
+pub mod Returns

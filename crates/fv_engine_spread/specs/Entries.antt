@@ -1,11 +1,15 @@
--- What the loops of a block begin with (this project's profile).
+-- What the loops of a block hand on, loop by loop (this project's profile).
 use Rattle.std.specs.Prelude.{◌≡◌, ℕ, ◌<◌, List, length, slice_index_or}
 use Rattle.std.specs.Global.{Box}
 use Rattle.fv_engine_parcels.specs.declared.start.Start.{Start}
 use Rattle.fv_engine_parcels.specs.declared.content.Writers.{Writers}
 use Rattle.fv_engine_parcels.specs.Contents.{tasks_in, AreHandedOn}
 
--- each loop's writers, loop by loop, before any vector
-pub record AreEntered (k : Start) (ws : List (Box Writers)) : Type 0 where
+-- each loop's writers, loop by loop, after so many vectors
+pub record AreLoopsWriters (k : Start) (v : ℕ) (ws : List (Box Writers)) : Type 0 where
   pub count : length ws ≡ (tasks_in k).loops
-  pub each : (j : ℕ) (d : Box Writers) → j < (tasks_in k).loops → AreHandedOn k j 0 0 (slice_index_or ws j d).value
+  pub each : (j : ℕ) (d : Box Writers) → j < (tasks_in k).loops → AreHandedOn k j v 0 (slice_index_or ws j d).value
+
+-- before any vector
+abbrev pub AreEntered : Start → List (Box Writers) → Type 0
+AreEntered k ws = AreLoopsWriters k 0 ws

@@ -1,3 +1,4 @@
+pub mod Collected
 pub mod Dealt
 pub mod Entries
 pub mod Rooms

@@ -1,10 +1,13 @@
-//! A block spread over workers: what its lists take of memory, how its lanes go to their loops, and the parcels with which it begins.
+//! A block spread over workers: what its lists take of memory, how its lanes go to their loops and come back, and the parcels with which
+//! it begins.
 #![tactic(auto)]
 
+mod collecting;
 mod dealing;
 mod entries;
 mod room;
 
+pub use collecting::collect;
 pub use dealing::deal;
 pub use entries::entries_of;
 pub use room::take_room;

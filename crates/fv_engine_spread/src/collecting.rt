@@ -1,0 +1,75 @@
+// The lanes of a block come back from their loops.
+
+ghost use Rattle.std.specs.Prelude.{◌≡◌, ◌≤◌, ℕ, length, vec_len, vec_capacity};
+ghost use Rattle.fv_engine_parcels.specs.Contents.{tasks_in};
+ghost use Rattle.fv_engine_spread.specs.Entries.{AreLoopsWriters};
+ghost use Rattle.fv_engine_spread.specs.Collected.{AreChainParcels, AreAllWriters};
+
+use fv_engine_parcels::{Content, LoopParcel, Start, Writers};
+use fv_lines::LaneWriter;
+use fv_split_plan::Plan;
+
+// What the loops handed on, loop by loop, in a list with room for them.
+fn unpacked<'a, 'b>(
+    start: &Start<'a, 'b>,
+    parcels: Vec<LoopParcel<'a, 'b>>,
+    mut writers: Vec<Box<Writers<'a>>>,
+) -> Vec<Box<Writers<'a>>>
+    requires parcels { (v : ℕ) × AreChainParcels start.now v parcels.items }
+    requires none { vec_len writers ≡ 0 }
+    requires room { vec_len parcels ≤ vec_capacity writers }
+    ensures { (v : ℕ) → AreChainParcels start.now v parcels.entry.items → AreLoopsWriters start.now v result.items }
+{
+    for parcel in parcels {
+        let Content::Writers(one) = parcel.into_content() else {
+            unreachable!()
+        };
+        writers.push_reserved(one);
+    }
+    writers
+}
+
+// Each lane's writer from the list of its loop, lane by lane, in a list with room for them.
+fn undealt<'a, 'b>(
+    start: &Start<'a, 'b>,
+    mut writers: Vec<Box<Writers<'a>>>,
+    mut all: Vec<LaneWriter<'a>>,
+) -> Vec<LaneWriter<'a>>
+    requires loops { (tasks_in start.now).loops ≡ start.now.plan.now.loops }
+    requires writers { (v : ℕ) × AreLoopsWriters start.now v writers.items }
+    requires none { vec_len all ≡ 0 }
+    requires room { length start.now.plan.now.lanes ≤ vec_capacity all }
+    ensures { (v : ℕ) → AreLoopsWriters start.now v writers.entry.items → AreAllWriters start.now v result.items }
+{
+    // Called for its clauses.
+    let _loops = start.plan.loops();
+    // From the last lane, whose writer stands last in its loop's list.
+    for info in start.plan.lanes().iter().rev() {
+        let Some(writer) = writers[info.owner as usize].lanes.own.pop() else {
+            unreachable!()
+        };
+        all.push_reserved(writer);
+    }
+    all.reverse();
+    all
+}
+
+/// The writers of all lanes, lane by lane, out of the parcels of the loops' own edges at a vector: the entries come back so where a block
+/// is given up, and the exits where it ran. The lists that are handed in have room, so that no memory is taken.
+pub fn collect<'a, 'b>(
+    start: &Start<'a, 'b>,
+    parcels: Vec<LoopParcel<'a, 'b>>,
+    writers: Vec<Box<Writers<'a>>>,
+    all: Vec<LaneWriter<'a>>,
+) -> Vec<LaneWriter<'a>>
+    requires loops { (tasks_in start.now).loops ≡ start.now.plan.now.loops }
+    requires parcels { (v : ℕ) × AreChainParcels start.now v parcels.items }
+    requires no_writers { vec_len writers ≡ 0 }
+    requires loops_room { start.now.plan.now.loops ≤ vec_capacity writers }
+    requires none { vec_len all ≡ 0 }
+    requires lanes_room { length start.now.plan.now.lanes ≤ vec_capacity all }
+    ensures { (v : ℕ) → AreChainParcels start.now v parcels.entry.items → AreAllWriters start.now v result.items }
+{
+    let writers = unpacked(start, parcels, writers);
+    undealt(start, writers, all)
+}
