@@ -1,7 +1,7 @@
 -- The lanes of a block, while they are dealt to their loops.
 use Rattle.std.proofs.Common.{◌≡◌, ℕ, ◌+◌, ◌<◌, ◌≤◌, List, [], ◌∷◌, ◌++◌, length, map, set, get_or, refl, sym, ap, ◌∙◌, subst, arith, vec_capacity}
 use Rattle.std.specs.Global.{Box}
-use Rattle.std.proofs.lemmas.List.{length-append, length-map, map-append}
+use Rattle.std.proofs.lemmas.List.{length-append, map-append}
 use Rattle.std.proofs.Math.Seq.{get_or-append_seam}
 use Rattle.fv_outside.specs.Tasks.{Tasks}
 use Rattle.fv_graph.proofs.Counts.{get_set}
@@ -15,6 +15,7 @@ use Rattle.fv_engine_spread.proofs.FirstLanes.{first_own, first_own_here, first_
 
 -- the lists of loop j, with its lanes among the first n of these as its own ones, and all else as it was
 pub record IsDealtSoFar (p : PlanView) (all : List LaneWriter) (n j : ℕ) (old new : Writers) : Type 0 where
+  pub count : length new.lanes.own.items ≡ length (first_own p j n)
   pub own : (d : LaneWriter) → new.lanes.own.items ≡ map (λ l. get_or all l d) (first_own p j n)
   pub room : length (own_lanes p j) ≤ vec_capacity new.lanes.own
   pub seen : new.lanes.seen ≡ old.lanes.seen
@@ -49,15 +50,12 @@ next_of all gone left more w n whole steps at =
 module _ (p : PlanView) (all : List LaneWriter) where
   pub none_dealt : (g : Tasks) (rooms : List (Box Writers)) → AreRooms p g rooms → AreDealtSoFar p all 0 rooms rooms
   none_dealt g rooms a j d l =
-      let r = a.each j d l in record { own = λ e. r.nothing; room = r.own_room; seen = refl; regs = refl; lists = refl }
+      let r = a.each j d l in record { count = ap length r.nothing; own = λ e. r.nothing; room = r.own_room; seen = refl; regs = refl; lists = refl }
 
   -- there is room for the next lane
-  pub room_for_next : (n : ℕ) (old new : Writers) (d : LaneWriter) → n < length p.lanes → IsDealtSoFar p all n (lane_info p n).owner old new
+  pub room_for_next : (n : ℕ) (old new : Writers) → n < length p.lanes → IsDealtSoFar p all n (lane_info p n).owner old new
       → length new.lanes.own.items < vec_capacity new.lanes.own
-  room_for_next n old new d l s =
-      let r : ℕ = (lane_info p n).owner in
-      let long = ap length (s.own d) in
-      omega (arith, long, length-map (first_own p r n) (λ i. get_or all i d), fewer_own p r n refl l, s.room)
+  room_for_next n old new l s = omega (arith, s.count, fewer_own p (lane_info p n).owner n refl l, s.room)
 
   -- one lane more
   pub one_dealt : (n : ℕ) (old rooms : List (Box Writers)) (room : Box Writers) (w : LaneWriter) → (lane_info p n).owner < length rooms
@@ -71,6 +69,14 @@ module _ (p : PlanView) (all : List LaneWriter) where
       let m : HasOneMore w (get_or rooms j d).value room.value =
       subst (λ (i : ℕ). HasOneMore w (get_or rooms i d).value room.value) (sym same) (more d) in
       record {
+        count = omega (
+          arith,
+          ap length m.own,
+          length-append (get_or rooms j d).value.lanes.own.items (w ∷ []),
+          now.count,
+          ap length (first_own_here p j n (sym same)),
+          length-append (first_own p j n) (n ∷ []),
+        );
         own = λ e. m.own ∙ ap (λ (xs : List LaneWriter). xs ++ w ∷ []) (now.own e)
             ∙ ap (λ (x : LaneWriter). map (λ i. get_or all i e) (first_own p j n) ++ x ∷ []) (sym (next.is e))
             ∙ sym (map-append (λ i. get_or all i e) (first_own p j n) (n ∷ [])) ∙ ap (map (λ i. get_or all i e)) (sym (first_own_here p j n (sym same)));
@@ -80,6 +86,7 @@ module _ (p : PlanView) (all : List LaneWriter) where
         lists = m.lists ∙ now.lists;
       })
       (λ other. record {
+        count = now.count ∙ ap length (sym (first_own_other p j n (λ q. other (sym q))));
         own = λ e. now.own e ∙ ap (map (λ i. get_or all i e)) (sym (first_own_other p j n (λ q. other (sym q))));
         room = now.room;
         seen = now.seen;
@@ -93,5 +100,11 @@ module _ (p : PlanView) (all : List LaneWriter) where
     count = count;
     each = λ j d l.
         let s = was j d l in
-        record { own = λ c. s.own c ∙ ap (λ (i : ℕ). map (λ l. get_or all l c) (first_own p j i)) e; seen = s.seen; regs = s.regs; lists = s.lists };
+        record {
+          count = s.count ∙ ap (λ (i : ℕ). length (first_own p j i)) e;
+          own = λ c. s.own c ∙ ap (λ (i : ℕ). map (λ l. get_or all l c) (first_own p j i)) e;
+          seen = s.seen;
+          regs = s.regs;
+          lists = s.lists;
+        };
   }

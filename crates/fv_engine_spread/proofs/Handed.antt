@@ -67,7 +67,8 @@ pub writers_push : (k : Start) (v n : ℕ) (ws : List (Box Writers)) (w : Box Wr
 writers_push k v n ws w h a = record {
   count = omega (arith, length-append ws (w ∷ []), a.count);
   each = λ j d l. elim (cases_lt j n) [
-    | inl low ↦ subst (λ (b : Box Writers). AreHandedOn k j v 0 b.value) (sym (get_or_append_left ws (w ∷ []) d j (omega (arith, low, a.count)))) (a.each j d low)
+    | inl low ↦ subst (λ (b : Box Writers). AreHandedOn k j v 0 b.value)
+        (sym (get_or_append_left ws (w ∷ []) d j (omega (arith, low, a.count)))) (a.each j d low)
     | inr high ↦
         let z : n ≡ j = omega (arith, high, l) in
         let at : get_or (ws ++ w ∷ []) j d ≡ w = ap (λ (i : ℕ). get_or (ws ++ w ∷ []) i d) (sym z ∙ sym a.count) ∙ get_or-append_seam ws w [] d in

@@ -8,6 +8,7 @@ use Rattle.fv_engine_parcels.specs.declared.content.Writers.{Writers}
 
 -- the lists of loop j, with its lanes of these as its own ones, and all else as it was
 pub record IsDealt (p : PlanView) (all : List LaneWriter) (j : ℕ) (old new : Writers) : Type 0 where
+  pub count : length new.lanes.own.items ≡ length (own_lanes p j)
   pub own : (d : LaneWriter) → new.lanes.own.items ≡ map (λ l. slice_index_or all l d) (own_lanes p j)
   pub seen : new.lanes.seen ≡ old.lanes.seen
   pub regs : new.regs ≡ old.regs

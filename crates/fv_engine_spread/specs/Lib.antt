@@ -1,4 +1,5 @@
 pub mod Collected
 pub mod Dealt
 pub mod Entries
+pub mod Opening
 pub mod Rooms

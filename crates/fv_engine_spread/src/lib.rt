@@ -5,9 +5,11 @@
 mod collecting;
 mod dealing;
 mod entries;
+mod laws;
 mod room;
 
 pub use collecting::collect;
 pub use dealing::deal;
 pub use entries::entries_of;
+pub use laws::dealt_rooms_enter;
 pub use room::take_room;

@@ -62,7 +62,7 @@ push_reserved-requires c =
       c.deref_mut.result.now.lanes.own.ok,
       ap (λ (w : Writers). length w.lanes.own.items) same,
       ap (λ (w : Writers). vec_capacity w.lanes.own) same,
-      room_for_next p c.args.all.items at.lane (get_or c.args.rooms.now r x).value (get_or at.rooms r x).value c.in-Some.writer there
+      room_for_next p c.args.all.items at.lane (get_or c.args.rooms.now r x).value (get_or at.rooms r x).value there
           (at.invariant.dealt r x (c.loops-loops.ensures.plan.1.stands.loops.owners at.lane there)),
     )
 
