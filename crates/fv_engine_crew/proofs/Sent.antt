@@ -1,0 +1,153 @@
+-- Parcels may go to another thread, and threads may share the body.
+use Rattle.std.specs.Prelude.{ℕ, ◌+◌, List, [], ◌∷◌}
+use lib.IntN.{ℤ}
+use base.Fml.{Lft, GName}
+use base.Fraction.{full_share}
+use base.Shift.{Keyless}
+use types.SemTy.{cells}
+use denote.Memory.{mem}
+use denote.Builtin.{i32}
+use denote.RawPtr.{Ptr, block_ptr, null_ptr}
+use denote.Ref.{NamedLft}
+use denote.Enum.Declared as E
+use denote.Param.Send.{IsSend, IsSync, sendable, recorded_sync, enum_sync, owning_send, AllSend, part_keyless}
+use denote.Param.SendFields.{declared_send}
+use denote.Struct.Owning.{fields}
+use Rattle.std.proofs.Crossing.{crosses}
+use Rattle.fv_num.specs.contracts.op.Op as op
+use Rattle.fv_pool.specs.Cells.{cells_owned}
+use Rattle.fv_pool.specs.contracts.cells.Cells as cells_of
+use Rattle.fv_pool.specs.contracts.loan.Link as link
+use Rattle.fv_pool.specs.contracts.loan.Halves as halves
+use Rattle.fv_loopcode.specs.contracts.step.Step as step
+use Rattle.fv_loopcode.specs.contracts.instruction.Operands as operands
+use Rattle.fv_loopcode.specs.contracts.instruction.Way as way
+use Rattle.fv_loopcode.specs.contracts.instruction.Action as action
+use Rattle.fv_loopcode.specs.contracts.instruction.Instruction as instruction
+use Rattle.fv_loopcode.specs.contracts.code.Code as code
+use Rattle.fv_lines.specs.contracts.row.Row as row
+use Rattle.fv_lines.specs.contracts.shape.LaneShape as lane_shape
+use Rattle.fv_lines.specs.contracts.writer.LaneWriter as writer
+use Rattle.fv_lines.specs.contracts.seen.Seen as seen
+use Rattle.fv_engine_lanes.specs.contracts.loop_lanes.LoopLanes as lanes
+use Rattle.fv_engine_parcels.specs.contracts.content.Writers as writers
+use Rattle.fv_engine_parcels.specs.contracts.content.Content as content
+use Rattle.fv_engine_parcels.specs.contracts.parcel.LoopParcel as parcel
+use Rattle.fv_engine_parcels.specs.contracts.body.LoopBody as body
+
+numbers : (ws : List ℤ) (b o : ℕ) → Keyless (cells (mem i32) ws b o)
+numbers [] b o = tt
+numbers (w ∷ ws) b o = (part_keyless i32 (search sendable) full_share w b o, numbers ws b (o + 4))
+
+keyless : (κ : Lft) (p : Ptr) (γ : GName) (xs : List ℤ) → Keyless (cells_owned κ p γ xs)
+keyless κ (block_ptr b o) γ xs = ((tt, tt), (tt, λ ws. ((tt, numbers ws b o), tt)))
+keyless κ null_ptr γ xs = tt
+
+cells_send : (a : NamedLft) → IsSend (cells_of.the_row a)
+cells_send a =
+    let O = cells_of.the_type a in let all : AllSend (fields O) = (search sendable, (search sendable, tt)) in
+    owning_send O all (λ d. keyless a.lft d.at d.name d.items) (λ k x w. tt)
+
+link_send : IsSend link.the_row
+link_send = owning_send link.the_type tt (λ d ws. (tt, tt)) (λ k x w. tt)
+
+halves_send : IsSend halves.the_row
+halves_send = owning_send halves.the_type tt (λ d w. ((tt, tt), tt)) (λ k x w. tt)
+
+row_send : (a : NamedLft) → IsSend (row.the_row a)
+row_send a = declared_send (row.the_type a) (search sendable, (cells_send a, (search sendable, (link_send, tt))))
+
+shape_send : IsSend lane_shape.the_row
+shape_send = declared_send lane_shape.the_type (search sendable, (search sendable, (search sendable, (search sendable, tt))))
+
+writer_send : (a : NamedLft) → IsSend (writer.the_row a)
+writer_send a = declared_send (writer.the_type a)
+    (row_send a, (row_send a, (halves_send, (halves_send, (shape_send, (search sendable, (search sendable, tt)))))))
+
+seen_send : (a : NamedLft) → IsSend (seen.the_row a)
+seen_send a = search (sendable, crosses) depth 24
+
+lanes_send : (a : NamedLft) → IsSend (lanes.the_row a)
+lanes_send a = search (writer_send, seen_send, sendable, crosses) depth 24
+
+writers_send : (a : NamedLft) → IsSend (writers.the_row a)
+writers_send a = declared_send (writers.the_type a)
+    (lanes_send a, (search (sendable, crosses) depth 20, (search (seen_send, sendable, crosses) depth 20, tt)))
+
+content_send : (a : NamedLft) → IsSend (content.the_row a)
+content_send a = search (writers_send, seen_send, sendable, crosses) depth 24
+
+pub parcel_send : (a b : NamedLft) → IsSend (parcel.the_row a b)
+parcel_send a b = declared_send (parcel.the_type a b) (search sendable, (search (sendable, crosses) depth 20, (content_send a, tt)))
+
+op_sync : IsSync (op.the_field).row
+op_sync = search sendable depth 60
+
+step_sync : IsSync step.the_row
+step_sync = recorded_sync _ _ _ (step.the_type).to_one (enum_sync (E.shape step.the_type) (
+  (search sendable, tt),
+  (
+    (search sendable, tt),
+    (
+      (search sendable, tt),
+      (
+        (op_sync, (search sendable, tt)),
+        ((search sendable, (search sendable, (search sendable, tt))), ((search sendable, (search sendable, tt)), tt)),
+      ),
+    ),
+  ),
+))
+
+operands_sync : IsSync (operands.the_field).row
+operands_sync = search sendable depth 24
+
+way_sync : IsSync (way.the_field).row
+way_sync = search sendable depth 24
+
+action_sync : IsSync (action.the_field).row
+action_sync = enum_sync (E.shape action.the_type) (
+  (operands_sync, tt),
+  (
+    (operands_sync, tt),
+    (
+      (operands_sync, tt),
+      (
+        (operands_sync, tt),
+        (
+          (op_sync, (operands_sync, tt)),
+          (
+            (search sendable, tt),
+            (
+              (operands_sync, (search sendable, tt)),
+              (
+                (search sendable, (search sendable, (search sendable, tt))),
+                (
+                  (search sendable, (search sendable, tt)),
+                  (
+                    (way_sync, tt),
+                    (
+                      (way_sync, (search sendable, tt)),
+                      (
+                        (way_sync, (search sendable, tt)),
+                        ((way_sync, (search sendable, tt)), ((operands_sync, (search sendable, tt)), ((operands_sync, (search sendable, tt)), (tt, tt)))),
+                      ),
+                    ),
+                  ),
+                ),
+              ),
+            ),
+          ),
+        ),
+      ),
+    ),
+  ),
+)
+
+instruction_sync : IsSync instruction.the_row
+instruction_sync = search (action_sync, sendable) depth 24
+
+code_sync : IsSync code.the_row
+code_sync = search (step_sync, instruction_sync, sendable, crosses) depth 24
+
+pub body_sync : (a b : NamedLft) → IsSync (body.the_row a b)
+body_sync a b = search (code_sync, sendable, crosses) depth 24

@@ -1,0 +1,57 @@
+-- A block that is spread over workers (this project's profile).
+use Rattle.std.specs.Prelude.{◌≡◌, ℕ, ◌<◌, ◌≤◌, List, length, sum, All, ℤ}
+use Rattle.fv_outside.specs.Tasks.{Tasks}
+use Rattle.fv_loopcode.specs.State.{State, lanes_alone}
+use Rattle.fv_lines.specs.Solo.{held_at, history_at, opening_lanes, AreHeld, AreFramed}
+use Rattle.fv_lines.specs.declared.shape.LaneShape.{LaneShape}
+use Rattle.fv_lines.specs.declared.shape.LaneState.{LaneState}
+use Rattle.fv_lines_cut.specs.Cut.{lengths_by}
+use Rattle.fv_engine_tasks.specs.Block.{Block, IsReal}
+use Rattle.fv_engine_tasks.specs.Jobs.{IsJob}
+use Rattle.fv_engine_codes.specs.Codes.{AreLocalCodes, AreLaneCounts}
+use Rattle.fv_engine_parcels.specs.Contents.{parts_of}
+use Rattle.fv_engine_crew.specs.declared.block.SpreadBlock.{SpreadBlock}
+
+-- the tasks
+abbrev pub tasks_of : SpreadBlock → Tasks
+tasks_of b = b.tasks.now.tasks
+
+-- the block, by what determines its samples
+abbrev pub block_in : SpreadBlock → Block
+block_in b = record {
+  plan = parts_of b.plan.now;
+  vector = b.vector;
+  frames = b.frames;
+  channels = b.channels;
+  held = b.held.now;
+  input = b.input.now;
+}
+
+-- The tasks are the block's, with the code of each loop over the lanes that it sees and how many these are. Each lane has a shape,
+-- the outputs name lanes, and there are 1 to 16 workers.
+pub record IsSpread (b : SpreadBlock) : Type 0 where
+  pub job : IsJob (block_in b) (tasks_of b)
+  pub codes : AreLocalCodes b.plan.now (tasks_of b) b.codes.now
+  pub counts : AreLaneCounts b.plan.now (tasks_of b) b.counts.now
+  pub lanes : length b.shapes.now ≡ length b.plan.now.lanes
+  pub outputs : All (λ l. l < length b.plan.now.lanes) b.plan.now.outputs
+  pub some_worker : 1 ≤ b.workers
+  pub most_workers : b.workers ≤ 16
+
+-- what the places hold as the block begins over these cells
+abbrev pub opening_of : SpreadBlock → List LaneState → List ℤ → State
+opening_of b states cells = lanes_alone (opening_lanes (lengths_by b.shapes.now) b.shapes.now states b.frames cells)
+
+-- The cells and the states hold each lane's history, with room for the block, and the block's codes go on from these.
+pub record MayRunOver (b : SpreadBlock) (states : List LaneState) (cells : List ℤ) : Type 0 where
+  pub count : length states ≡ length b.shapes.now
+  pub room : sum (lengths_by b.shapes.now) ≤ length cells
+  pub held_there : AreHeld (lengths_by b.shapes.now) b.shapes.now states
+  pub framed : AreFramed (lengths_by b.shapes.now) b.shapes.now b.frames
+  pub real : IsReal (block_in b) (opening_of b states cells)
+
+-- each lane has the history that it had
+abbrev pub HoldAsBefore : List LaneShape → (before : List LaneState) → List ℤ → (after : List LaneState) → List ℤ → Type 0
+HoldAsBefore shapes before cells after left =
+    (i : ℕ) → i < length shapes
+    → held_at (lengths_by shapes) after (history_at shapes i) i left ≡ held_at (lengths_by shapes) before (history_at shapes i) i cells

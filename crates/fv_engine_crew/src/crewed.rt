@@ -1,0 +1,64 @@
+// All tasks of a block by a crew, over lanes that are begun.
+
+ghost use Rattle.std.specs.Prelude.{◌≡◌, ◌≤◌, [], length, IfOk, IfErr, OnOk, OnErr, vec_capacity};
+ghost use Rattle.fv_outside.specs.Tasks.{task_count};
+ghost use Rattle.fv_outside.specs.Journal.{IsOrdered};
+ghost use Rattle.fv_engine_crew.specs.Spread.{IsSpread, block_in, tasks_of};
+ghost use Rattle.fv_engine_crew.specs.inner.Lists.{HaveRoom};
+ghost use Rattle.fv_engine_crew.specs.inner.Lanes.{AreOpen, AreWhole, AreUntouched};
+
+use crate::block::SpreadBlock;
+use crate::enter::enter;
+use crate::lists::Lists;
+use fv_engine_spread::collect;
+use fv_lines::LaneWriter;
+use fv_outside::{Gate, Line};
+use fv_steal_block::run_crew;
+use std::alloc::Global;
+use std::marker::Sync;
+use std::sync::Wait;
+use std::thread::Threads;
+
+/// The writers of all lanes as the crew leaves them: written whole, or as they were where memory is refused.
+pub(crate) fn run_begun<'a, 'b, R: Threads + Wait + Sync, G: Gate + Sync>(
+    rt: &R,
+    alloc: Global,
+    block: &SpreadBlock<'b>,
+    lists: Lists<'a, 'b>,
+    lines: &mut Vec<Line>,
+    gate: &G,
+) -> Result<Vec<LaneWriter<'a>>, Vec<LaneWriter<'a>>>
+    requires spread { IsSpread block.now }
+    requires lists { HaveRoom block.now lists }
+    requires begun { AreOpen (block_in block.now) lists.begun.items }
+    requires none { lines.old.items ≡ [] }
+    requires room { task_count (tasks_of block.now) ≤ vec_capacity lines.old }
+    ensures whole { IfOk result (λ v. AreWhole (block_in block.now) lists.entry.begun.items v.items) }
+    ensures journal { OnOk result (IsOrdered (tasks_of block.now) lines.new.items) }
+    ensures count { OnOk result (length lines.new.items ≡ task_count (tasks_of block.now)) }
+    ensures untouched { IfErr result (λ v. AreUntouched lists.entry.begun.items v.items) }
+    ensures untold { OnErr result (lines.new.items ≡ []) }
+    ensures room { vec_capacity lines.old ≤ vec_capacity lines.new }
+{
+    let Lists {
+        rooms,
+        begun,
+        entries,
+        emptied,
+        back,
+    } = lists;
+    let (body, entries) = enter(block, begun, rooms, entries);
+    match run_crew(
+        rt,
+        alloc,
+        block.tasks,
+        block.workers,
+        entries,
+        &body,
+        lines,
+        gate,
+    ) {
+        Ok(exits) => Ok(collect(body.start(), exits, emptied, back)),
+        Err(entries) => Err(collect(body.start(), entries, emptied, back)),
+    }
+}

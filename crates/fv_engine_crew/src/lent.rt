@@ -1,0 +1,98 @@
+// The cells of a region, lent for good to a crew.
+
+ghost use Rattle.std.specs.Prelude.{◌≡◌, length};
+ghost use Rattle.fv_engine_crew.specs.inner.Lists.{AreEmpty};
+ghost use Rattle.fv_engine_crew.specs.inner.Packs.{MayUse, Leaves};
+ghost use Rattle.fv_pool.specs.Uncut.{left_of, loan_of};
+
+use crate::block::SpreadBlock;
+use crate::crewed::run_begun;
+use crate::lists::{Lists, take_lists};
+use crate::whole::end_whole;
+use fv_lines::LaneState;
+use fv_lines_cut::{begin_lanes, stop_lanes};
+use fv_outside::{Gate, Line};
+use fv_pool::{Ended, Uncut};
+use std::alloc::Global;
+use std::marker::Sync;
+use std::sync::Wait;
+use std::thread::Threads;
+
+/// What a crew is handed beside the cells, and whether it ran the block.
+#[derive(Drop)]
+pub(crate) struct Pack<'p, 'b, 's, 'l, 'o> {
+    pub(crate) alloc: Global,
+    pub(crate) block: &'p SpreadBlock<'b>,
+    pub(crate) states: &'s mut [LaneState],
+    pub(crate) lines: &'l mut Vec<Line>,
+    pub(crate) output: &'o mut [i32],
+    pub(crate) ran: bool,
+}
+
+// The block over cells that are not yet cut, where there are lists for it.
+fn use_lists<'a, 'b, R: Threads + Wait + Sync, G: Gate + Sync>(
+    rt: &R,
+    gate: &G,
+    pack: &mut Pack<'_, 'b, '_, '_, '_>,
+    mut uncut: Uncut<'a>,
+    mut lists: Lists<'a, 'b>,
+) -> (&'a [i32], Ended)
+    requires may { MayUse pack.old (left_of uncut) }
+    requires lists { AreEmpty pack.old.block.now lists }
+    ensures { (result.1.name ≡ loan_of uncut.entry) × Leaves pack.old pack.new (left_of uncut.entry) result.1.last }
+{
+    let block = pack.block;
+    begin_lanes(
+        &mut uncut,
+        block.shapes,
+        &*pack.states,
+        block.frames,
+        &mut lists.begun,
+    );
+    let (shared, rest) = uncut.end();
+    match run_begun(rt, pack.alloc, block, lists, &mut *pack.lines, gate) {
+        Ok(all) => {
+            pack.ran = true;
+            let ended = end_whole(
+                pack.alloc,
+                block,
+                all,
+                rest,
+                &mut *pack.states,
+                &mut *pack.output,
+            );
+            (shared, ended)
+        }
+        Err(all) => (shared, stop_lanes(all, rest, &mut *pack.states)),
+    }
+}
+
+// The block over the cells. Where memory is refused they stay as they are.
+fn used<'a, R: Threads + Wait + Sync, G: Gate + Sync>(
+    rt: &R,
+    gate: &G,
+    pack: &mut Pack<'_, '_, '_, '_, '_>,
+    cells: &'a mut [i32],
+) -> (&'a [i32], Ended)
+    requires { MayUse pack.old cells.old }
+    ensures { (result.1.name ≡ cells.entry.ghost_name) × Leaves pack.old pack.new cells.old result.1.last }
+{
+    let uncut = Uncut::of(cells);
+    match take_lists(pack.alloc, pack.block) {
+        Ok(lists) => use_lists(rt, gate, pack, uncut, lists),
+        Err(_) => uncut.end(),
+    }
+}
+
+/// Lends the cells for good to a crew that runs the block over them.
+pub(crate) fn lent<R: Threads + Wait + Sync, G: Gate + Sync>(
+    rt: &R,
+    gate: &G,
+    pack: &mut Pack<'_, '_, '_, '_, '_>,
+    cells: &mut [i32],
+)
+    requires { MayUse pack.old cells.old }
+    ensures { Leaves pack.old pack.new cells.old cells.new × (length cells.new ≡ length cells.old) }
+{
+    used(rt, gate, pack, cells);
+}
