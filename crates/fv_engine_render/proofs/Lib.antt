@@ -8,3 +8,6 @@ pub mod Taken
 pub mod Planned
 pub mod Simpler
 pub mod Whole
+pub mod Streaming
+pub mod Stopping
+pub mod Early

@@ -1,5 +1,5 @@
 -- What a graph says of its plan, and a diagram of its graph.
-use Rattle.std.proofs.Common.{ℕ, ◌<◌, ◌≤◌, List, length, pos, subst, arith}
+use Rattle.std.proofs.Common.{ℕ, ◌≤◌, List, length, pos, subst, arith}
 use Rattle.fv_base.specs.declared.limits.TheConstants.{DELAY_BUDGET}
 use Rattle.fv_num.specs.Interval.{Interval}
 use Rattle.fv_diagram.specs.Diagram.{Diagram, inputs, control_bound}

@@ -30,7 +30,7 @@ rows_take : (w f : ℕ) (xs : List ℤ) → rows w f xs ≡ rows w f (take (f * 
 rows_take w f xs = cells_same f w _ _ (λ t i l m. sym (get_or-take (f * w) xs (t * w + i) (pos 0) (row_in t f w i l m)))
 
 -- rows depend on their cells alone
-rows_alike : (w f : ℕ) (xs ys : List ℤ) → take (f * w) xs ≡ take (f * w) ys → rows w f xs ≡ rows w f ys
+pub rows_alike : (w f : ℕ) (xs ys : List ℤ) → take (f * w) xs ≡ take (f * w) ys → rows w f xs ≡ rows w f ys
 rows_alike w f xs ys e = rows_take w f xs ∙ ap (rows w f) e ∙ sym (rows_take w f ys)
 
 -- rows, and those behind them

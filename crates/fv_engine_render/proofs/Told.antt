@@ -10,7 +10,7 @@ use Rattle.fv_outside.specs.Journal.{BlockEntry, Room, Told, IsOrdered, room_aft
 use Rattle.fv_engine_tasks.specs.Block.{vectors_of}
 use Rattle.fv_engine.specs.Stands.{EngineView, SameParts}
 use Rattle.fv_engine.specs.Told.{IsEntry, HasRoomForBlock, tasks_told}
-use Rattle.fv_engine_render.specs.Blocks.{AreEntries, HasRoomForRun, RanBlocks, loop_runs_of}
+use Rattle.fv_engine_render.specs.Blocks.{AreEntries, HasRoomForRun, RanBlocks, StillTells, loop_runs_of}
 
 -- what is told of a block
 abbrev pub TellsBlock : EngineView → (n : ℕ) → (old new : Option Told) → Type 0
@@ -125,6 +125,6 @@ room_more e now n blocks runs (Some t) mid new same so told room = λ h.
     }
 
 pub still_told : (reads blocks runs : ℕ) (old new : Option Told) → RoomSoFar reads blocks runs old new
-    → IfSome old (λ t. HasRoomForRun t.room blocks runs (blocks * reads) → IsSome new)
+    → StillTells blocks runs (blocks * reads) old new
 still_told reads blocks runs None new so = tt
 still_told reads blocks runs (Some t) new so = λ h. let k = so h in subst (λ (o : Option Told). IsSome o) (sym k.is) refl

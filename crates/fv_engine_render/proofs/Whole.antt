@@ -1,6 +1,6 @@
 -- A whole run of an engine of a graph's plan, and of a diagram's graph.
 use Rattle.std.proofs.Common.{◌≡◌, ℕ, zero, suc, ◌+◌, ◌*◌, ◌≤◌, List, length, ℤ, Option, Some, None, sym, ap, subst, ◌∙◌, arith, nat_lt, lt-ltb}
-use Rattle.std.specs.Prelude.{IfSome, IsSome}
+use Rattle.std.specs.Prelude.{Result, Ok, Err, IfOk}
 use Rattle.std.proofs.Math.Nat.{mul-le-mul_left}
 use Rattle.std.proofs.lemmas.Bool.{cond-true}
 use Rattle.fv_base.proofs.Lists.{length_table}
@@ -18,8 +18,8 @@ use Rattle.fv_split_plan.specs.View.{PlanView}
 use Rattle.fv_split_plan.specs.Plans.{PlanStands, IsPlanOf}
 use Rattle.fv_engine.specs.Stands.{EngineView, played}
 use Rattle.fv_diagram.specs.Samples.{answer_on, joined, no_slots}
-use Rattle.fv_engine_render.specs.Blocks.{HasRoomForRun}
-use Rattle.fv_engine_render.specs.Runs.{HasRun, PlaysAll, RanGraph, loops_in}
+use Rattle.fv_engine_render.specs.Blocks.{StillTells}
+use Rattle.fv_engine_render.specs.Runs.{HasRun, PlaysAll, RanGraphTo, loops_in}
 use Rattle.fv_engine_render.specs.declared.blocks.RunSizes.{RunSizes}
 use Rattle.fv_engine_render.specs.declared.blocks.Ran.{Ran}
 use Rattle.fv_engine_render.specs.Plans.{AreNumbers, IsGraphOf, IsNew}
@@ -27,6 +27,11 @@ use Rattle.fv_interval.specs.Controls.{spans_of}
 use Rattle.fv_engine_render.specs.Render.{CanRender, initial_of}
 use Rattle.fv_engine_render.proofs.Frames.{GivesOn, joined_all, played_is_run}
 use Rattle.fv_engine_render.proofs.Taken.{StayWithin, taken}
+
+-- what follows from two facts of an answer
+pub from_both : {T E : Type 0} (r : Result T E) (P Q S : T → Type 0) → ((x : T) → P x → Q x → S x) → IfOk r P → IfOk r Q → IfOk r S
+from_both (Ok x) P Q S f p q = f x p q
+from_both (Err e) P Q S f p q = tt
 
 -- An engine of a plan of the graph, for so many channels, which stands for no frames yet.
 pub record IsReady (g : Graph) (channels : ℕ) (p : PlanView) (e : EngineView) : Type 0 where
@@ -48,22 +53,18 @@ pairs_few zero loops reads h = let e : zero * reads ≡ 0 = omega arith in omega
 pairs_few (suc n) loops reads h =
     subst (λ k. suc n * reads ≤ suc n * (k * k)) (sym (cond-true (nat_lt 0 (suc n)) loops 0 (lt-ltb 0 (suc n) (omega arith)))) (mul-le-mul_left (suc n) h)
 
--- a gate that has room for so much still tells its list
-abbrev pub StillTells : (blocks runs pairs_told : ℕ) → (old new : Option Told) → Type 0
-StillTells blocks runs pairs_told old new = IfSome old (λ t. HasRoomForRun t.room blocks runs pairs_told → IsSome new)
-
 room_of : (blocks loops reads runs : ℕ) (old new : Option Told) → reads ≤ loops * loops → StillTells blocks runs (blocks * reads) old new
     → StillTells blocks runs (blocks * (loops_in blocks loops * loops_in blocks loops)) old new
 room_of blocks loops reads runs None new few h = tt
 room_of blocks loops reads runs (Some t) new few h = λ r.
     h (record { calls = r.calls; lines = r.lines; pairs = let a = r.pairs in let b = pairs_few blocks loops reads few in omega (arith, a, b) })
 
--- the blocks that it played are those of the graph
+-- the blocks that it played up to a frame are those of the graph
 pub ran_graph : {g : Graph} {channels : ℕ} {p : PlanView} {e : EngineView} → IsReady g channels p e
-    → (changes : List Change) (s : RunSizes) (r : Ran) (old new : Option Told)
-    → HasRun e.plan s changes s.frames r old new → StillTells r.blocks r.loop_runs (r.blocks * length e.plan.reads) old new
-    → RanGraph g changes s r old new
-ran_graph {g} {channels} {p} {e} ready changes s r old new run room =
+    → (changes : List Change) (s : RunSizes) (upto : ℕ) (r : Ran) (old new : Option Told)
+    → HasRun e.plan s changes upto r old new → StillTells r.blocks r.loop_runs (r.blocks * length e.plan.reads) old new
+    → RanGraphTo g changes s upto r old new
+ran_graph {g} {channels} {p} {e} ready changes s upto r old new run room =
     let of : IsPlanOf g e.plan = subst (IsPlanOf g) (sym ready.plan) ready.planned in
     record {
       plan = e.plan;

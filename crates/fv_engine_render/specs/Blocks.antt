@@ -1,6 +1,6 @@
 -- How a run is cut into blocks, and what a gate is told of them (this project's profile).
 use Rattle.std.specs.Prelude.{◌≡◌, ℕ, ◌+◌, ◌-◌, ◌*◌, ◌<◌, ◌≤◌, nat_lt, if◌then◌else◌, min, List, [], ◌∷◌, ◌++◌, length, sum, map, take, drop, Option, Some}
-use Rattle.std.specs.Prelude.{IfSome}
+use Rattle.std.specs.Prelude.{IfSome, IsSome}
 use Rattle.std.specs.List.{AllByRecursion}
 use Rattle.fv_outside.specs.declared.tasks.Reads.{Reads}
 use Rattle.fv_outside.specs.Journal.{BlockEntry, Room, Told, IsOrdered}
@@ -53,3 +53,7 @@ pub record HasRoomForRun (room : Room) (blocks runs pairs_told : ℕ) : Type 0 w
   pub calls : blocks ≤ room.calls
   pub lines : runs ≤ room.lines
   pub pairs : pairs_told ≤ room.pairs
+
+-- a gate that tells its list, and has room for so much, still tells it
+abbrev pub StillTells : (blocks runs pairs_told : ℕ) → (old new : Option Told) → Type 0
+StillTells blocks runs pairs_told old new = IfSome old (λ t. HasRoomForRun t.room blocks runs pairs_told → IsSome new)

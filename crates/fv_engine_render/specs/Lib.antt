@@ -2,4 +2,6 @@ pub mod Blocks
 pub mod Runs
 pub mod Plans
 pub mod Render
+pub mod Stops
 pub mod Examples
+pub mod inner

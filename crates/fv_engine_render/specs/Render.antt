@@ -14,7 +14,7 @@ use Rattle.fv_signal.specs.Value.{Graph}
 use Rattle.fv_simplify_rules.specs.Reducible.{AreShort}
 use Rattle.fv_engine_tasks.specs.Block.{vectors_of}
 use Rattle.fv_engine_render.specs.Plans.{IsGraphOf, NamesOnly}
-use Rattle.fv_engine_render.specs.Runs.{RanGraph}
+use Rattle.fv_engine_render.specs.Runs.{RanGraphTo}
 use Rattle.fv_engine_render.specs.declared.blocks.RunSizes.{RunSizes}
 use Rattle.fv_engine_render.specs.declared.blocks.Ran.{Ran}
 
@@ -54,11 +54,15 @@ pub record CanHave (s : RunSizes) : Type 0 where
   pub one : 1 ≤ s.workers
   pub workers : s.workers ≤ 16
 
--- The blocks of a diagram's run: those of a graph that gives what the diagram gives, output by output.
-pub record RanWhole (d : Diagram) (cs : List ControlInfo) (changes : List Change) (s : RunSizes) (r : Ran) (old new : Option Told) : Type 0 where
+-- The blocks of a diagram's run up to a frame: those of a graph that gives what the diagram gives, output by output.
+pub record RanTo (d : Diagram) (cs : List ControlInfo) (changes : List Change) (s : RunSizes) (upto : ℕ) (r : Ran) (old new : Option Told) : Type 0 where
   pub graph : Graph
   pub of : IsGraphOf d (spans_of cs) graph
-  pub blocks : RanGraph graph changes s r old new
+  pub blocks : RanGraphTo graph changes s upto r old new
+
+-- those of all its frames
+abbrev pub RanWhole : Diagram → List ControlInfo → List Change → RunSizes → Ran → (old new : Option Told) → Type 0
+RanWhole d cs changes s r old new = RanTo d cs changes s s.frames r old new
 
 -- where a diagram has an output, each run of it that has a block has a loop
 abbrev pub RunsHaveLoops : Type 0

@@ -1,5 +1,5 @@
 -- What a run of an engine over blocks answers (this project's profile).
-use Rattle.std.specs.Prelude.{◌≡◌, ℕ, ◌*◌, nat_lt, if◌then◌else◌, List, [], length, ℤ, Option, IfSome, IsSome}
+use Rattle.std.specs.Prelude.{◌≡◌, ℕ, ◌*◌, nat_lt, if◌then◌else◌, List, [], length, ℤ, Option}
 use Rattle.fv_num.specs.Frames.{Stream, rows}
 use Rattle.fv_signal.specs.Value.{Graph}
 use Rattle.fv_outside.specs.Journal.{Told}
@@ -7,7 +7,7 @@ use Rattle.fv_control.specs.declared.script.Change.{Change}
 use Rattle.fv_split_plan.specs.View.{PlanView}
 use Rattle.fv_split_plan.specs.Plans.{PlanStands, IsPlanOf}
 use Rattle.fv_engine.specs.Stands.{EngineView, StandsFor, played}
-use Rattle.fv_engine_render.specs.Blocks.{AreBlocks, RanBlocks, HasRoomForRun, loop_runs_of}
+use Rattle.fv_engine_render.specs.Blocks.{AreBlocks, RanBlocks, StillTells, loop_runs_of}
 use Rattle.fv_engine_render.specs.declared.blocks.RunSizes.{RunSizes}
 use Rattle.fv_engine_render.specs.declared.blocks.Ran.{Ran}
 use Rattle.fv_engine_render.specs.declared.blocks.PlanSizes.{PlanSizes}
@@ -40,10 +40,14 @@ pub record HasRun (p : PlanView) (s : RunSizes) (changes : List Change) (f : ℕ
   pub loops_are : r.loops ≡ loops_in r.blocks p.loops
   pub runs_are : r.loop_runs ≡ loop_runs_of p.loops s.vector lengths
 
--- The blocks of a graph's run, of a plan of the graph.
-pub record RanGraph (g : Graph) (changes : List Change) (s : RunSizes) (r : Ran) (old new : Option Told) : Type 0 where
+-- The blocks of a graph's run up to a frame, of a plan of the graph.
+pub record RanGraphTo (g : Graph) (changes : List Change) (s : RunSizes) (upto : ℕ) (r : Ran) (old new : Option Told) : Type 0 where
   pub plan : PlanView
   pub planned : IsPlanOf g plan
-  pub run : HasRun plan s changes s.frames r old new
+  pub run : HasRun plan s changes upto r old new
   -- a gate that has room for a call for each block, a line for each loop that ran and the pairs of each block still tells it
-  pub room : IfSome old (λ t. HasRoomForRun t.room r.blocks r.loop_runs (r.blocks * (r.loops * r.loops)) → IsSome new)
+  pub room : StillTells r.blocks r.loop_runs (r.blocks * (r.loops * r.loops)) old new
+
+-- those of all its frames
+abbrev pub RanGraph : Graph → List Change → RunSizes → Ran → (old new : Option Told) → Type 0
+RanGraph g changes s r old new = RanGraphTo g changes s s.frames r old new

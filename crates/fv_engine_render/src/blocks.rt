@@ -9,7 +9,7 @@ ghost use Rattle.fv_control.specs.Streams.{control_streams};
 ghost use Rattle.fv_engine_tasks.specs.Block.{vectors_of};
 ghost use Rattle.fv_engine.specs.Stands.{GoesOn, SameParts};
 ghost use Rattle.fv_engine.specs.Told.{tasks_told, IsEntry, HasRoomForBlock};
-ghost use Rattle.fv_engine_render.specs.Blocks.{HasRoomForRun};
+ghost use Rattle.fv_engine_render.specs.Blocks.{StillTells};
 ghost use Rattle.fv_engine_render.specs.Runs.{HasRun, IsSizeOf, PlaysAll};
 
 use crate::cut::next_block;
@@ -72,8 +72,7 @@ pub(crate) fn play_blocks<R: Threads + Wait + Sync, G: Gate + Sync>(
     ensures samples { PlaysAll engine.old (control_streams changes.now values.old) sizes.now.frames input.now output.new }
     ensures ran { HasRun engine.old.plan sizes.now changes.now sizes.now.frames result (G.told gate.old) (G.told gate.new) }
     // A gate that tells its list, and has room for all blocks, still tells it.
-    ensures room { IfSome (G.told gate.old) (λ t. HasRoomForRun t.room result.blocks result.loop_runs (result.blocks * length engine.old.plan.reads)
-        → IsSome (G.told gate.new)) }
+    ensures room { StillTells result.blocks result.loop_runs (result.blocks * length engine.old.plan.reads) (G.told gate.old) (G.told gate.new) }
 {
     values_look_back();
     values_held();

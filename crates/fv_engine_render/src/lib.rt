@@ -8,9 +8,12 @@ mod cut;
 mod engines;
 mod laws;
 mod rendering;
+mod stream;
+mod tape;
 
 pub use blocks::{Ran, RunSizes};
 pub use controls::initial_of;
 pub use cut::next_block;
 pub use laws::runs_have_loops;
 pub use rendering::{GraphSource, Rendered, Source, compile, render, render_graph};
+pub use tape::{Ready, make_ready, render_tape};

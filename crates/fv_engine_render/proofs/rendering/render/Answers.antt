@@ -1,5 +1,4 @@
 use Rattle.std.proofs.Common.{◌≡◌, ◌*◌, length, sym, subst, arith}
-use Rattle.std.specs.Prelude.{Result, Ok, Err, IfOk}
 use Rattle.fv_num.specs.Frames.{rows}
 use Rattle.fv_control.specs.Streams.{control_streams}
 use Rattle.fv_diagram.specs.Arena.{tree_of}
@@ -11,13 +10,8 @@ use Rattle.fv_interval.specs.Controls.{spans_of}
 use Rattle.fv_engine_render.specs.Render.{initial_of}
 use Rattle.fv_engine_render.specs.declared.rendering.Rendered.{Rendered}
 use Rattle.fv_engine_render.proofs.Planned.{names_only}
-use Rattle.fv_engine_render.proofs.Whole.{samples}
+use Rattle.fv_engine_render.proofs.Whole.{from_both, samples}
 use Rattle.fv_engine_render.proofs.rendering.render.Goals as goal
-
--- what follows from two facts of an answer
-from_both : {T E : Type 0} (r : Result T E) (P Q S : T → Type 0) → ((x : T) → P x → Q x → S x) → IfOk r P → IfOk r Q → IfOk r S
-from_both (Ok x) P Q S f p q = f x p q
-from_both (Err e) P Q S f p q = tt
 
 pub render_graph-requires-clause-source : goal.render_graph-requires-clause-source
 render_graph-requires-clause-source g c κs within =

@@ -39,7 +39,7 @@ returns-clause-samples g c =
 pub returns-clause-ran : goal.returns-clause-ran
 returns-clause-ran g c =
     let told = g.G.Gate.told in
-    ran_graph (ready g (goal.at.returns-clause-ran g c).In_ok-engine) c.args.changes.now c.args.sizes.now c.play_blocks-ran.result
+    ran_graph (ready g (goal.at.returns-clause-ran g c).In_ok-engine) c.args.changes.now c.args.sizes.now c.args.sizes.now.frames c.play_blocks-ran.result
     (told c.args.gate.now) (told c.play_blocks-ran.new.gate) c.play_blocks-ran.ensures.ran c.play_blocks-ran.ensures.room
 
 -- the controls that are held are there

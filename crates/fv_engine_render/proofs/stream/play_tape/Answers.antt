@@ -1,0 +1,192 @@
+use Rattle.std.proofs.Common.{◌≡◌, ℕ, ◌+◌, ◌*◌, ◌<◌, [], ◌++◌, length, take, drop, refl, sym, ap, subst, ◌∙◌, arith, rules, length-append}
+use Rattle.std.proofs.Common.{length-drop}
+use Rattle.std.specs.List.{AllByRecursion}
+use Rattle.std.proofs.Math.Seq.{length-take-le}
+use Rattle.fv_control.specs.declared.script.Change.{Change}
+use Rattle.fv_control.specs.Streams.{control_streams}
+use Rattle.fv_tape.specs.Acts.{Hearing, Saying}
+use Rattle.fv_engine_render.specs.Blocks.{AreNext}
+use Rattle.fv_engine_render.specs.Runs.{PlaysAll}
+use Rattle.fv_engine_render.proofs.Cuts.{come_later}
+use Rattle.fv_engine_render.proofs.Playing.{BlockBegins, given}
+use Rattle.fv_engine_render.proofs.Stopping.{stops_first, stops}
+use Rattle.fv_engine_render.proofs.Streaming.{Block, Come, Start, block_more, streamed_none, rows_fit}
+use Rattle.fv_engine_render.proofs.Told.{still_told}
+use Rattle.fv_engine_render.proofs.stream.play_tape.Goals as goal
+
+pub returns-in-Err-clause-stops : goal.returns-in-Err-clause-stops
+returns-in-Err-clause-stops g c =
+    stops_first c.args.engine.now c.args.sizes.now c.args.changes.now c.args.values.now (g.G.Gate.told c.args.gate.now) _ c.in-Err.ensures.err
+
+pub playing-init : goal.playing-init
+playing-init g c =
+    let b = c.begin.ensures in
+    let most = c.requires.most in let most_is = b.most in
+    let left = c.requires.left in let left_is = b.left in
+    record {
+      listened = record { there = omega arith; come = tt; changed = refl; count = refl };
+      heard_room = c.requires.heard;
+      said_room = c.requires.said;
+      valid = b.valid;
+      ears = b.ears ∙ c.requires.ears;
+      mouth = b.mouth ∙ c.requires.mouth;
+      most = omega (arith, most, most_is);
+      left = omega (arith, left, left_is);
+      heard = [];
+      all = [];
+      went = c.in-Ok.ensures.ok;
+      streamed = streamed_none _ (λ h s st. st);
+    }
+
+pub listen-next-requires-clause-named : goal.listen-next-requires-clause-named
+listen-next-requires-clause-named g c =
+    subst (λ (n : ℕ). AllByRecursion (λ (x : Change). x.control < n) c.args.changes.now) (sym c.playing.invariant.listened.count) c.requires.named
+
+pub returns-in-Err-hear-clause-stops : goal.returns-in-Err-hear-clause-stops
+returns-in-Err-hear-clause-stops g c =
+    let i = c.playing.invariant in
+    let n = c.next_block-frames.result in
+    stops i.streamed c.requires.plan.outputs _ i.all (Hearing n) (c.playing-test.true, c.next_block-frames.ensures.length, refl)
+    (c.in-Err-hear.ensures.err c.args.world.now i.heard i.all i.went)
+
+pub returns-in-Err-say-clause-stops : goal.returns-in-Err-say-clause-stops
+returns-in-Err-say-clause-stops g c =
+    let i = c.playing.invariant in
+    let told = g.G.Gate.told in
+    let n = c.next_block-frames.result in
+    let f = c.playing.frame in let cs = c.args.changes.now in let start = c.args.values.now in let sizes = c.args.sizes.now in
+    let piece = c.hear.new.to in let out = c.run_block-report.new.output in let values = c.listen-next.new.values in
+    let heard_long = i.heard_room in let said_long = i.said_room in
+    let ch = c.args.plan.now.channels in let w = c.args.plan.now.outputs in
+    let short = c.next_block-frames.ensures.short in
+    let fit = rows_fit n sizes.block ch short in
+    let wit = rows_fit n sizes.block w short in
+    let here : AreNext cs f c.listen-next.result = record {
+      within = c.listen-next.ensures.within;
+      come = c.listen-next.ensures.come i.listened.come;
+      behind = c.listen-next.ensures.behind c.requires.order;
+      order = c.requires.order;
+    } in
+    let begins : BlockBegins cs start values f n c.listen-next.result sizes.block sizes.frames = record {
+      here = here;
+      is = c.listen-next.ensures.values start i.listened.changed;
+      long = c.listen-next.auto.values ∙ i.listened.count;
+      cut = c.next_block-frames.ensures.length;
+    } in
+    let b : Start = record { engine = c.args.engine.now; sizes = sizes; outputs = w; changes = cs; initial = start; told = told c.args.gate.now } in
+    let r : Come = record { engine = c.playing.engine; frame = f; ran = c.playing.ran; told = told c.playing.gate; heard = i.heard; all = i.all } in
+    let block : Block b r c.run_block-report.new.self (told c.run_block-report.new.gate) n c.run_block-report.result.tasks piece values out = record {
+      look = c.values_look_back.ensures;
+      outputs = c.requires.plan.outputs;
+      vector = c.requires.sizes.1;
+      here = c.playing-test.true;
+      cut = c.next_block-frames.ensures.length;
+      some = c.next_block-frames.ensures.some;
+      inside = c.next_block-frames.ensures.inside;
+      part = c.hear.auto.to ∙ length-take-le (n * ch) c.playing.heard (omega (arith, fit, heard_long)) ∙ ap (λ (k : ℕ). n * k) c.requires.plan.channels;
+      fit = c.numbers_fit.ensures;
+      wide = c.run_block-report.auto.output ∙ length-take-le (n * w) c.playing.said (omega (arith, wit, said_long));
+      same = c.run_block-report.ensures.same;
+      on = c.run_block-report.ensures.goes_on;
+      given = given c.values_held.ensures c.controls_hold.ensures begins;
+      told = c.run_block-report.ensures.told;
+      room = c.run_block-report.ensures.room;
+      count = c.run_block-report.ensures.tasks;
+      small = search rules;
+    } in
+    stops (block_more c.args.plan.now.loops c.requires.plan.loops i.streamed block) c.requires.plan.outputs _ i.all (Saying out) refl
+    (c.in-Err-say.ensures.err c.args.world.now (i.heard ++ piece) i.all (c.in-Ok-hear.ensures.ok c.args.world.now i.heard i.all i.went))
+
+pub playing-preserved : goal.playing-preserved
+playing-preserved g c =
+    let i = c.playing.invariant in
+    let told = g.G.Gate.told in
+    let n = c.next_block-frames.result in
+    let f = c.playing.frame in let cs = c.args.changes.now in let start = c.args.values.now in let sizes = c.args.sizes.now in
+    let piece = c.hear.new.to in let out = c.run_block-report.new.output in let values = c.listen-next.new.values in
+    let heard_long = i.heard_room in let said_long = i.said_room in
+    let ch = c.args.plan.now.channels in let w = c.args.plan.now.outputs in
+    let short = c.next_block-frames.ensures.short in
+    let fit = rows_fit n sizes.block ch short in
+    let wit = rows_fit n sizes.block w short in
+    let piece_long : length piece ≡ n * ch = c.hear.auto.to ∙ length-take-le (n * ch) c.playing.heard (omega (arith, fit, heard_long)) in
+    let out_long : length out ≡ n * w = c.run_block-report.auto.output ∙ length-take-le (n * w) c.playing.said (omega (arith, wit, said_long)) in
+    let here : AreNext cs f c.listen-next.result = record {
+      within = c.listen-next.ensures.within;
+      come = c.listen-next.ensures.come i.listened.come;
+      behind = c.listen-next.ensures.behind c.requires.order;
+      order = c.requires.order;
+    } in
+    let begins : BlockBegins cs start values f n c.listen-next.result sizes.block sizes.frames = record {
+      here = here;
+      is = c.listen-next.ensures.values start i.listened.changed;
+      long = c.listen-next.auto.values ∙ i.listened.count;
+      cut = c.next_block-frames.ensures.length;
+    } in
+    let b : Start = record { engine = c.args.engine.now; sizes = sizes; outputs = w; changes = cs; initial = start; told = told c.args.gate.now } in
+    let r : Come = record { engine = c.playing.engine; frame = f; ran = c.playing.ran; told = told c.playing.gate; heard = i.heard; all = i.all } in
+    let block : Block b r c.run_block-report.new.self (told c.run_block-report.new.gate) n c.from.result piece values out = record {
+      look = c.values_look_back.ensures;
+      outputs = c.requires.plan.outputs;
+      vector = c.requires.sizes.1;
+      here = c.playing-test.true;
+      cut = c.next_block-frames.ensures.length;
+      some = c.next_block-frames.ensures.some;
+      inside = c.next_block-frames.ensures.inside;
+      part = piece_long ∙ ap (λ (k : ℕ). n * k) c.requires.plan.channels;
+      fit = c.numbers_fit.ensures;
+      wide = out_long;
+      same = c.run_block-report.ensures.same;
+      on = c.run_block-report.ensures.goes_on;
+      given = given c.values_held.ensures c.controls_hold.ensures begins;
+      told = c.run_block-report.ensures.told;
+      room = c.run_block-report.ensures.room;
+      count = c.from.ensures ∙ c.run_block-report.ensures.tasks;
+      small = search rules;
+    } in
+    let a = c.hear.ensures in let d = c.say.ensures in
+    let heard_rest = length-drop (n * ch) c.playing.heard in let said_rest = length-drop (n * w) c.playing.said in
+    let heard_all = length-append piece (drop (n * ch) c.playing.heard) in let said_all = length-append out (drop (n * w) c.playing.said) in
+    let most = i.most in let most_heard = a.most in let most_said = d.most in
+    let left = i.left in let left_heard = c.in-Ok-hear.ensures.left in let left_said = d.left in
+    record {
+      listened = record {
+        there = c.listen-next.ensures.within;
+        come = come_later (take c.listen-next.result cs) f (f + n) (omega arith) here.come;
+        changed = begins.is;
+        count = begins.long;
+      };
+      heard_room = omega (arith, heard_all, heard_rest, piece_long, fit, heard_long);
+      said_room = omega (arith, said_all, said_rest, out_long, wit, said_long);
+      valid = d.valid;
+      ears = d.ears ∙ a.ears ∙ i.ears;
+      mouth = d.mouth ∙ a.mouth ∙ i.mouth;
+      most = omega (arith, most, most_heard, most_said);
+      left = omega (arith, left, left_heard, left_said);
+      heard = i.heard ++ piece;
+      all = i.all ++ out;
+      went = c.in-Ok-say.ensures.ok c.args.world.now (i.heard ++ piece) i.all (c.in-Ok-hear.ensures.ok c.args.world.now i.heard i.all i.went);
+      streamed = block_more c.args.plan.now.loops c.requires.plan.loops i.streamed block;
+    }
+
+pub returns-clause-samples : goal.returns-clause-samples
+returns-clause-samples g c =
+    let i = c.playing.invariant in
+    let s = i.streamed in
+    let within = s.within in let t = c.playing-test.false in
+    let total = c.args.sizes.now.frames in
+    let same : c.playing.frame ≡ total = omega (arith, within, t) in (
+      i.heard,
+      i.all,
+      s.long ∙ ap (λ (k : ℕ). k * c.args.engine.now.channels) same ∙ ap (λ (k : ℕ). total * k) (sym c.requires.plan.channels),
+      s.fit,
+      s.width ∙ ap (λ (k : ℕ). k * c.args.plan.now.outputs) same,
+      subst (λ (k : ℕ). PlaysAll c.args.engine.now (control_streams c.args.changes.now c.args.values.now) k i.heard i.all) same (λ h p st. (s.so h p st).1),
+      i.went,
+    )
+
+pub returns-clause-room : goal.returns-clause-room
+returns-clause-room g c =
+    let told = g.G.Gate.told in
+    still_told (length c.args.engine.now.plan.reads) c.playing.ran.blocks c.playing.ran.loop_runs (told c.args.gate.now) (told c.playing.gate)
+    c.playing.invariant.streamed.room
