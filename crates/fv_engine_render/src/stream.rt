@@ -60,12 +60,12 @@ pub(crate) fn play_tape<R: Threads + Wait + Sync, G: Gate + Sync, W, T: Tape<W>>
     // What was said of all frames is what the engine answers on what was heard.
     ensures samples { OnOk result ((h s : List ℤ) × (length h ≡ sizes.now.frames * plan.now.channels) × AreNumbers h
         × (length s ≡ sizes.now.frames * plan.now.outputs) × PlaysAll engine.old (control_streams changes.now values.old) sizes.now.frames h s
-        × T.Went tape.new world.old world.new h s) }
+        × T.Went tape.old tape.new world.old world.new h s) }
     ensures ran { IfOk result (λ r. HasRun engine.old.plan sizes.now changes.now sizes.now.frames r (G.told gate.old) (G.told gate.new)) }
     ensures room { IfOk result (λ r. StillTells r.blocks r.loop_runs (r.blocks * length engine.old.plan.reads) (G.told gate.old) (G.told gate.new)) }
     // Where the tape stops, all blocks that were heard ran, and all that they answer was said but for what the tape stopped at.
     ensures stops { IfErr result (λ e. HasStopped engine.old sizes.now changes.now values.old (G.told gate.old) (G.told gate.new)
-        (λ h s act. T.Stopped tape.new world.old world.new h s act e)) }
+        (λ h s act. T.Stopped tape.old tape.new world.old world.new h s act e)) }
 {
     values_look_back();
     values_held();

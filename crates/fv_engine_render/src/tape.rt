@@ -89,7 +89,7 @@ pub fn render_tape<R: Threads + Wait + Sync, G: Gate + Sync, W, T: Tape<W>>(
     requires left { T.left tape.old ≡ sizes.now.frames }
     // What was said is what the diagram answers on what was heard, whatever the sizes, and whatever the gate.
     ensures samples { OnOk result ((h : List ℤ) × (length h ≡ sizes.now.frames * inputs (tree_of source.now.diagrams.now source.now.root))
-        × T.Went tape.new world.old world.new h (answer_on (tree_of source.now.diagrams.now source.now.root)
+        × T.Went tape.old tape.new world.old world.new h (answer_on (tree_of source.now.diagrams.now source.now.root)
         (control_streams changes.now (initial_of source.now.controls.now)) sizes.now.frames h)) }
     // In every block each loop of a plan of the diagram's graph ran once on each vector, after all that it reads.
     ensures ran { IfOk result (λ r. RanWhole (tree_of source.now.diagrams.now source.now.root) source.now.controls.now changes.now sizes.now
@@ -97,7 +97,7 @@ pub fn render_tape<R: Threads + Wait + Sync, G: Gate + Sync, W, T: Tape<W>>(
     // Where the tape stops, so it was with the blocks that were heard, and all that the diagram answers was said but for what the
     // tape stopped at.
     ensures stops { IfErr result (λ e. HasEnded (tree_of source.now.diagrams.now source.now.root) source.now.controls.now changes.now sizes.now
-        (G.told gate.old) (G.told gate.new) (λ h s act. T.Stopped tape.new world.old world.new h s act e)) }
+        (G.told gate.old) (G.told gate.new) (λ h s act. T.Stopped tape.old tape.new world.old world.new h s act e)) }
 {
     answers_each();
     answers_wide();

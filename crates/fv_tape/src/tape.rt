@@ -26,11 +26,12 @@ pub trait Tape<W> {
     /// Nothing was asked of it yet.
     ghost is_fresh: { Self → Type 0 };
 
-    /// From one moment of the world to a later one these samples were heard, and those were said.
-    ghost Went: { (tape : Self) (start now : W) → (heard said : List ℤ) → Type 0 };
+    /// From one moment of the world to a later one these samples were heard, and those were said. It stands for what the tape was
+    /// at first.
+    ghost Went: { (first tape : Self) (start now : W) → (heard said : List ℤ) → Type 0 };
 
     /// It stopped behind them, when it was asked for this, for this reason.
-    ghost Stopped: { (tape : Self) (start now : W) → (heard said : List ℤ) → Act → Self.Stop → Type 0 };
+    ghost Stopped: { (first tape : Self) (start now : W) → (heard said : List ℤ) → Act → Self.Stop → Type 0 };
 
     /// Begins: comes before all that is heard and said.
     fn begin(&mut self, world: &mut W) -> Result<(), Self::Stop>
@@ -41,8 +42,8 @@ pub trait Tape<W> {
         ensures mouth { mouth self.new ≡ mouth self.old }
         ensures most { most self.new ≡ most self.old }
         ensures left { left self.new ≡ left self.old }
-        ensures ok { OnOk result (Went self.new world.old world.new [] []) }
-        ensures err { IfErr result (Stopped self.new world.old world.new [] [] Beginning) };
+        ensures ok { OnOk result (Went self.old self.new world.old world.new [] []) }
+        ensures err { IfErr result (Stopped self.old self.new world.old world.new [] [] Beginning) };
 
     /// Hears so many frames more, one after another.
     fn hear(&mut self, world: &mut W, frames: u32, to: &mut [i32]) -> Result<(), Self::Stop>
@@ -55,10 +56,10 @@ pub trait Tape<W> {
         ensures mouth { mouth self.new ≡ mouth self.old }
         ensures most { most self.new ≡ most self.old }
         ensures left { OnOk result (left self.new + frames ≡ left self.old) }
-        ensures ok { OnOk result ((start : W) (h s : List ℤ) → Went self.old start world.old h s
-            → Went self.new start world.new (h ++ to.new) s) }
-        ensures err { IfErr result (λ e. (start : W) (h s : List ℤ) → Went self.old start world.old h s
-            → Stopped self.new start world.new h s (Hearing frames) e) };
+        ensures ok { OnOk result ((first : Self) (start : W) (h s : List ℤ) → Went first self.old start world.old h s
+            → Went first self.new start world.new (h ++ to.new) s) }
+        ensures err { IfErr result (λ e. (first : Self) (start : W) (h s : List ℤ) → Went first self.old start world.old h s
+            → Stopped first self.new start world.new h s (Hearing frames) e) };
 
     /// Says so many frames more.
     fn say(&mut self, world: &mut W, frames: u32, samples: &[i32]) -> Result<(), Self::Stop>
@@ -70,8 +71,8 @@ pub trait Tape<W> {
         ensures mouth { mouth self.new ≡ mouth self.old }
         ensures most { most self.new ≡ most self.old }
         ensures left { left self.new ≡ left self.old }
-        ensures ok { OnOk result ((start : W) (h s : List ℤ) → Went self.old start world.old h s
-            → Went self.new start world.new h (s ++ samples.now)) }
-        ensures err { IfErr result (λ e. (start : W) (h s : List ℤ) → Went self.old start world.old h s
-            → Stopped self.new start world.new h s (Saying samples.now) e) };
+        ensures ok { OnOk result ((first : Self) (start : W) (h s : List ℤ) → Went first self.old start world.old h s
+            → Went first self.new start world.new h (s ++ samples.now)) }
+        ensures err { IfErr result (λ e. (first : Self) (start : W) (h s : List ℤ) → Went first self.old start world.old h s
+            → Stopped first self.new start world.new h s (Saying samples.now) e) };
 }

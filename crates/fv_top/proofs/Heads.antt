@@ -1,8 +1,7 @@
 -- The head of an input, and the bytes behind it.
 use Rattle.std.proofs.Common.{◌≡◌, ℕ, ◌+◌, ◌-◌, ◌<◌, ◌≤◌, List, [], ◌++◌, length, take, drop, sym, ◌∙◌, ap, subst, arith, refl}
 use Rattle.std.proofs.Common.{inl, inr, ⊎_elim, take_all, take_at, append_assoc, length-append, length-drop}
-use Rattle.std.specs.Prelude.{IsTrue, Result, Ok, Err, Option, Some, None, is_none, true, false, nat_le, bytes_eq, codes}
-use Rattle.std.specs.Option.{ForSome}
+use Rattle.std.specs.Prelude.{IsTrue, Result, Ok, Err, Option, Some, None, is_none, true, false, bytes_eq, codes}
 use Rattle.std.proofs.lemmas.Bool.{cases_lt, le-leb, lt-leb}
 use Rattle.std.proofs.lemmas.List.{drop_at, drop_all, drop-drop, append-nil}
 use Rattle.fv_base.specs.declared.role.Role.TheVariants.{Input}

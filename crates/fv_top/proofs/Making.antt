@@ -1,5 +1,5 @@
 -- How a make ends, from how its parts do.
-use Rattle.std.proofs.Common.{◌≡◌, ◌⊎◌, ℕ, zero, suc, ◌+◌, ◌≤◌, ℤ, List, [], ◌++◌, length, length-append, sym, ◌∙◌, ap, subst, refl, inl, inr}
+use Rattle.std.proofs.Common.{◌≡◌, ◌⊎◌, ℕ, ◌+◌, ◌≤◌, ℤ, pos, List, [], ◌++◌, length, length-append, sym, ◌∙◌, ap, subst, refl, inl, inr}
 use Rattle.std.proofs.Common.{arith}
 use Rattle.std.specs.Prelude.{IsTrue}
 use Rattle.std.proofs.lemmas.List.{append-nil}
@@ -12,7 +12,9 @@ use Rattle.fv_top_report.specs.declared.refusal.Refusal.TheVariants.{WriteFault,
 use Rattle.fv_diagram.specs.Diagram.{Diagram}
 use Rattle.fv_control.specs.Streams.{control_streams}
 use Rattle.fv_diagram.specs.Samples.{answer_on}
-use Rattle.fv_top_make.specs.Made.{text_of, next_state, noise_behind}
+use Rattle.fv_top_make.specs.Made.{SumsAddUp, text_of, noise_behind, noise_of, sum_from, sum_of}
+use Rattle.fv_top_make.specs.Noises.{Sounds}
+use Rattle.fv_top_make.specs.declared.noise_tape.Noise.{Noise}
 use Rattle.fv_top_text.specs.Program.{IsRefusedText, IsOfText}
 use Rattle.fv_top_words.specs.Commands.{most_voices}
 use Rattle.fv_top_voices.specs.Voices.{VoicesAreNotRefused}
@@ -31,10 +33,13 @@ pub only_memory : VoicesAreNotRefused → (voices : ℕ) (text : List ℕ) (e : 
 only_memory accepted voices text e some few same (inl m) = m
 only_memory accepted voices text e some few same (inr h) = absurd (accepted voices e some few (subst (λ (t : List ℕ). IsRefusedText t e) same h.1))
 
--- as many samples as frames
-pub noise_long : (s : ℤ) (frames : ℕ) → length (noise_behind s frames) ≡ frames
-noise_long s zero = refl
-noise_long s (suc n) = omega (arith, noise_long (next_state s) n)
+-- what is heard of the noise of so many voices, and the sum of what is given for it
+pub noise_heard : {start now : Noise} {h s : List ℤ} (voices frames : ℕ) → SumsAddUp → Sounds start now h s → length h ≡ frames → start.state ≡ pos voices
+    → start.sum ≡ pos 0 → (h ≡ noise_of voices frames) × (now.sum ≡ sum_of s)
+noise_heard {h = h} {s = s} voices frames add w long state none = (
+  w.heard ∙ ap (λ (z : ℤ). noise_behind z (length h)) state ∙ ap (noise_behind (pos voices)) long,
+  w.sum ∙ ap (λ (z : ℤ). sum_from z s) none ∙ add s,
+)
 
 -- the answer on the same samples, where the controls begin alike
 pub answer_alike : (d : Diagram) (xs ys : List ℤ) (frames : ℕ) (got samples : List ℤ) → xs ≡ ys → got ≡ samples →

@@ -14,11 +14,11 @@ ghost use Rattle.fv_top_text.specs.Program.{delays_in};
 ghost use Rattle.fv_top.specs.Promise.{IsMade};
 ghost use Rattle.fv_top.specs.inner.Running.{Makes, StopsMake, HasSum};
 
-use fv_engine_render::{Ran, Rendered, RunSizes, Source};
+use fv_engine_render::{Ran, RunSizes, Source, make_ready, render_tape};
 use fv_eval::Program;
 use fv_interval::Delays;
 use fv_outside::{Desk, Gate, Role};
-use fv_top_make::{noise, sum_of, text_of};
+use fv_top_make::{Noise, NoiseTape, sums_add_up, text_of};
 use fv_top_report::{Refusal, report_made};
 use fv_top_text::read_program;
 use fv_top_voices::voices_are_a_program;
@@ -120,7 +120,7 @@ fn sum_on_noise<R: Threads + Wait + Sync, G: Gate + Sync>(
         m.ran (G.told gate.old) (G.told gate.new)) }
     ensures err { OnErr result (gate.new ≡ gate.old) }
 {
-    let heard = noise(alloc, voices, frames)?;
+    sums_add_up();
     let source = Source {
         diagrams: &program.diagrams,
         root: program.root,
@@ -133,17 +133,32 @@ fn sum_on_noise<R: Threads + Wait + Sync, G: Gate + Sync>(
         vector: VECTOR,
         workers: 1,
     };
-    let Rendered { samples, ran } = fv_engine_render::render(
+    let ready = make_ready(alloc, &source, &[], &sizes)?;
+    let mut tape = NoiseTape {
+        left: frames,
+        most: BLOCK,
+        outputs: program.diagrams.arity(program.root).outputs,
+    };
+    let mut noise = Noise {
+        state: voices as i32,
+        sum: 0,
+    };
+    match render_tape(
         rt,
         alloc,
         &source,
         &[],
         &sizes,
-        &heard,
+        ready,
+        &mut tape,
+        &mut noise,
         gate,
-    )?;
-    Ok(Made {
-        sum: sum_of(&samples),
-        ran,
-    })
+    ) {
+        Ok(ran) => Ok(Made {
+            sum: noise.sum,
+            ran,
+        }),
+        // A noise never stops.
+        Err(stop) => match stop {},
+    }
 }

@@ -1,8 +1,9 @@
 -- The noise, one sample after the other, and the sum.
 use Rattle.std.proofs.Common.{◌≡◌, ℕ, zero, suc, ◌+◌, List, [], ◌∷◌, ◌++◌, length, ℤ, pos, ◌+ℤ◌, fold, refl, sym, ap, ap₂, ◌∙◌, arith, length-append, w32}
 use Rattle.std.proofs.lemmas.Int.{int_wrap-add_left}
+use Rattle.std.specs.Int.{int_wrap}
 use Rattle.fv_num.specs.Words.{shifted_right, wrap}
-use Rattle.fv_top_make.specs.Made.{next_state, noise_behind, state_behind, sum_from, sum_of}
+use Rattle.fv_top_make.specs.Made.{SumsAddUp, next_state, noise_behind, state_behind, sum_from}
 use Rattle.fv_top_make.specs.Noises.{Sounds}
 use Rattle.fv_top_make.specs.declared.noise_tape.Noise.{Noise}
 
@@ -40,8 +41,12 @@ sum_is : (z : ℤ) (xs : List ℤ) → sum_from (wrap z) xs ≡ wrap (fold ◌+�
 sum_is z [] = refl
 sum_is z (x ∷ xs) = ap (λ s. sum_from s xs) (int_wrap-add_left w32 z x) ∙ sum_is (z +ℤ x) xs
 
-pub sum_from_none : (xs : List ℤ) → sum_from (wrap (pos 0)) xs ≡ sum_of xs
-sum_from_none xs = sum_is (pos 0) xs
+nothing_wrapped : wrap (pos 0) ≡ pos 0
+unfolding int_wrap
+nothing_wrapped = refl
+
+pub sums_added : SumsAddUp
+sums_added xs = ap (λ (z : ℤ). sum_from z xs) (sym nothing_wrapped) ∙ sum_is (pos 0) xs
 
 -- ---- the tape
 

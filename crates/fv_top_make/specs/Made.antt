@@ -1,5 +1,5 @@
 -- The text and the noise of a program that is made, and the sum of its output (this project's profile).
-use Rattle.std.specs.Prelude.{ℕ, zero, suc, List, [], ◌∷◌, ◌++◌, codes, decimal, fold, ℤ, pos, ◌+ℤ◌, ◌*ℤ◌}
+use Rattle.std.specs.Prelude.{◌≡◌, ℕ, zero, suc, List, [], ◌∷◌, ◌++◌, codes, decimal, fold, ℤ, pos, ◌+ℤ◌, ◌*ℤ◌}
 use Rattle.fv_num.specs.Words.{wrap, shifted_right}
 
 -- A voice, and so many of them side by side on one input, added up: two lines.
@@ -32,3 +32,7 @@ sum_of samples = wrap (fold ◌+ℤ◌ (pos 0) samples)
 abbrev pub sum_from : ℤ → List ℤ → ℤ
 sum_from sum [] = sum
 sum_from sum (x ∷ xs) = sum_from (wrap (sum +ℤ x)) xs
+
+-- samples that are added one by one come to their sum
+abbrev pub SumsAddUp : Type 0
+SumsAddUp = (samples : List ℤ) → sum_from (pos 0) samples ≡ sum_of samples

@@ -1,9 +1,9 @@
 //! What `make` runs: the text of a program of so many voices, the noise that it hears, and the sum of what it gives.
 #![tactic(auto)]
 
-ghost use Rattle.std.specs.Prelude.{◌≡◌, ◌^◌, ◌<◌, pos, ◌+ℤ◌, ◌*ℤ◌, IfOk};
-ghost use Rattle.fv_num.specs.Words.{wrap, shifted_right};
-ghost use Rattle.fv_top_make.specs.Made.{next_state, noise_of, sum_of, text_of};
+ghost use Rattle.std.specs.Prelude.{◌≡◌, pos, ◌+ℤ◌, ◌*ℤ◌, IfOk};
+ghost use Rattle.fv_num.specs.Words.{wrap};
+ghost use Rattle.fv_top_make.specs.Made.{SumsAddUp, next_state, text_of};
 
 mod noise_tape;
 
@@ -24,20 +24,6 @@ pub fn text_of(alloc: Global, voices: u32) -> Result<Vec<u8>, AllocError>
     Ok(text)
 }
 
-/// The noise that a program of so many voices hears: so many samples.
-pub fn noise(alloc: Global, voices: u32, frames: u32) -> Result<Vec<i32>, AllocError>
-    requires { voices < 2 ^ 31 }
-    ensures { IfOk result (λ v. v.items ≡ noise_of voices frames) }
-{
-    let mut samples = Vec::new(alloc);
-    let mut state = voices as i32;
-    'sounding: for _i in 0..frames {
-        state = next_state(state);
-        samples.push(apply(Op::Shr, &[state, 16]))?;
-    }
-    Ok(samples)
-}
-
 // The state of the noise behind this one.
 pub(crate) fn next_state(state: i32) -> i32
     ensures { result ≡ next_state state }
@@ -45,16 +31,10 @@ pub(crate) fn next_state(state: i32) -> i32
     added(apply(Op::Mul, &[state, 1_103_515_245]), 12_345)
 }
 
-/// The sum of samples, which wraps.
-pub fn sum_of(samples: &[i32]) -> i32
-    ensures { result ≡ sum_of samples.now }
-{
-    let mut sum = 0i32;
-    'adding: for sample in samples {
-        sum = added(sum, *sample);
-    }
-    sum
-}
+/// The law of sums: samples that are added one by one, each time with a wrap, come to their sum.
+pub fn sums_add_up()
+    ensures { SumsAddUp }
+{}
 
 // Two numbers added.
 pub(crate) fn added(x: i32, y: i32) -> i32

@@ -25,6 +25,8 @@ pub struct NoiseTape {
     pub left: u32,
     /// The most frames at once.
     pub most: u32,
+    /// How many samples a frame has that is given for it.
+    pub outputs: u32,
 }
 
 impl Tape<Noise> for NoiseTape {
@@ -32,7 +34,7 @@ impl Tape<Noise> for NoiseTape {
 
     ghost ears = { λ t. 1 };
 
-    ghost mouth = { λ t. 1 };
+    ghost mouth = { λ t. t.outputs };
 
     ghost most = { λ t. t.most };
 
@@ -42,9 +44,9 @@ impl Tape<Noise> for NoiseTape {
 
     ghost is_fresh = { λ t. Unit {0} };
 
-    ghost Went = { λ t start now h s. Sounds start now h s };
+    ghost Went = { λ first t start now h s. Sounds start now h s };
 
-    ghost Stopped = { λ t start now h s act e. ⊥ };
+    ghost Stopped = { λ first t start now h s act e. ⊥ };
 
     fn begin(&mut self, noise: &mut Noise) -> Result<(), Infallible> {
         Ok(())

@@ -51,9 +51,9 @@ impl<D: Desk> Tape<D> for WavTape<'_> {
 
     ghost is_fresh = { λ t. t.done ≡ 0 };
 
-    ghost Went = { λ t start now h s. Streamed t (D.state start) (D.state now) h s };
+    ghost Went = { λ first t start now h s. Streamed t (D.state start) (D.state now) h s };
 
-    ghost Stopped = { λ t start now h s act stop. StopsIn t (D.state start) (D.state now) h s act stop };
+    ghost Stopped = { λ first t start now h s act stop. StopsIn t (D.state start) (D.state now) h s act stop };
 
     fn begin(&mut self, desk: &mut D) -> Result<(), Stop> {
         match desk.begin_write(Role::Output, self.output) {

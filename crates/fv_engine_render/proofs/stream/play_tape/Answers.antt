@@ -47,7 +47,7 @@ returns-in-Err-hear-clause-stops g c =
     let i = c.playing.invariant in
     let n = c.next_block-frames.result in
     stops i.streamed c.requires.plan.outputs _ i.all (Hearing n) (c.playing-test.true, c.next_block-frames.ensures.length, refl)
-    (c.in-Err-hear.ensures.err c.args.world.now i.heard i.all i.went)
+    (c.in-Err-hear.ensures.err c.args.tape.now c.args.world.now i.heard i.all i.went)
 
 pub returns-in-Err-say-clause-stops : goal.returns-in-Err-say-clause-stops
 returns-in-Err-say-clause-stops g c =
@@ -95,7 +95,7 @@ returns-in-Err-say-clause-stops g c =
       small = search rules;
     } in
     stops (block_more c.args.plan.now.loops c.requires.plan.loops i.streamed block) c.requires.plan.outputs _ i.all (Saying out) refl
-    (c.in-Err-say.ensures.err c.args.world.now (i.heard ++ piece) i.all (c.in-Ok-hear.ensures.ok c.args.world.now i.heard i.all i.went))
+    (c.in-Err-say.ensures.err c.args.tape.now c.args.world.now (i.heard ++ piece) i.all (c.in-Ok-hear.ensures.ok c.args.tape.now c.args.world.now i.heard i.all i.went))
 
 pub playing-preserved : goal.playing-preserved
 playing-preserved g c =
@@ -165,7 +165,7 @@ playing-preserved g c =
       left = omega (arith, left, left_heard, left_said);
       heard = i.heard ++ piece;
       all = i.all ++ out;
-      went = c.in-Ok-say.ensures.ok c.args.world.now (i.heard ++ piece) i.all (c.in-Ok-hear.ensures.ok c.args.world.now i.heard i.all i.went);
+      went = c.in-Ok-say.ensures.ok c.args.tape.now c.args.world.now (i.heard ++ piece) i.all (c.in-Ok-hear.ensures.ok c.args.tape.now c.args.world.now i.heard i.all i.went);
       streamed = block_more c.args.plan.now.loops c.requires.plan.loops i.streamed block;
     }
 

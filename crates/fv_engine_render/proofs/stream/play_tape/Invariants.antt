@@ -14,7 +14,7 @@ invariant-playing g l = record {
   left : g.T.Tape.left l.tape + l.frame ≡ l.sizes.frames;
   heard : List ℤ;
   all : List ℤ;
-  went : g.T.Tape.Went l.tape l.fn.world l.world heard all;
+  went : g.T.Tape.Went l.fn.tape l.tape l.fn.world l.world heard all;
   streamed : Streamed (record {
     engine = l.initial.engine;
     sizes = l.sizes;

@@ -47,7 +47,7 @@ returns-clause-samples g c =
     on_ok_weaker c.play_tape.result (λ k. (
       k.0,
       k.2 ∙ ap (λ (w : ℕ). n * w) arity.0,
-      subst (λ (xs : List ℤ). g.T.Tape.Went c.play_tape.new.tape c.args.world.now c.play_tape.new.world k.0 xs)
+      subst (λ (xs : List ℤ). g.T.Tape.Went c.args.tape.now c.play_tape.new.tape c.args.world.now c.play_tape.new.world k.0 xs)
           (answers set n k.0 k.1 k.3 (k.4 ∙ ap (λ (w : ℕ). n * w) width)
           (subst (λ (vs : List ℤ). PlaysAll c.args.ready.engine (control_streams changes vs) n k.0 k.1) initial k.5)) k.6,
     )) c.play_tape.ensures.samples

@@ -8,11 +8,11 @@ use Rattle.fv_wav_tape.proofs.Streams.{heard_on, heard_stops, nothing_heard, beh
 use Rattle.fv_wav_tape.proofs.wav_tape.WavTapeTape.hear.Goals as goal
 
 pub returns-in-None-clause-ok : goal.returns-in-None-clause-ok
-returns-in-None-clause-ok g c start h s w =
+returns-in-None-clause-ok g c first start h s w =
     nothing_heard c.args.self.now (g.D.Desk.state start) (g.D.Desk.state c.args.desk.now) h s w c.in-None.is c.args.frames c.args.to.now c.requires.room
 
 pub returns-in-Ok-clause-ok : goal.returns-in-Ok-clause-ok
-returns-in-Ok-clause-ok g c start h s w =
+returns-in-Ok-clause-ok g c first start h s w =
     let head = c.in-Some.head in
     let long : length c.read_frames.new.to ≡ c.args.frames * head.channels =
     c.read_frames.auto.to ∙ c.requires.room ∙ ap (λ o. c.args.frames * channels_of o) c.in-Some.is in
@@ -20,7 +20,7 @@ returns-in-Ok-clause-ok g c start h s w =
     c.args.frames _ c.read_frames.new.to long c.in-Ok.ensures.ok
 
 pub returns-in-Err-clause-err : goal.returns-in-Err-clause-err
-returns-in-Err-clause-err g c start h s w =
+returns-in-Err-clause-err g c first start h s w =
     let t = c.args.self.now in
     let head = c.in-Some.head in
     let b = g.D.Desk.state c.args.desk.now in

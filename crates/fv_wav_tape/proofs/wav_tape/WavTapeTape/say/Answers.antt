@@ -4,12 +4,12 @@ use Rattle.fv_wav_tape.proofs.Streams.{said_on, said_stops}
 use Rattle.fv_wav_tape.proofs.wav_tape.WavTapeTape.say.Goals as goal
 
 pub returns-in-Ok-clause-ok : goal.returns-in-Ok-clause-ok
-returns-in-Ok-clause-ok g c start h s w =
+returns-in-Ok-clause-ok g c first start h s w =
     said_on c.args.self.now (g.D.Desk.state start) (g.D.Desk.state c.args.desk.now) (g.D.Desk.state c.write_frames.new.desk) h s w _ c.args.samples.now
     c.in-Ok.ensures.ok c.in-Ok.ensures.steady
 
 pub returns-in-Err-clause-err : goal.returns-in-Err-clause-err
-returns-in-Err-clause-err g c start h s w =
+returns-in-Err-clause-err g c first start h s w =
     let e = c.in-Err.ensures in (
       refl,
       said_stops c.args.self.now (g.D.Desk.state start) (g.D.Desk.state c.args.desk.now) (g.D.Desk.state c.write_frames.new.desk) h s w _ c.args.samples.now
