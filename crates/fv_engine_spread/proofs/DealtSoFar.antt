@@ -2,7 +2,6 @@
 use Rattle.std.proofs.Common.{◌≡◌, ℕ, ◌+◌, ◌<◌, ◌≤◌, List, [], ◌∷◌, ◌++◌, length, map, set, get_or, refl, sym, ap, ◌∙◌, subst, arith, vec_capacity}
 use Rattle.std.specs.Global.{Box}
 use Rattle.std.proofs.lemmas.List.{length-append, map-append}
-use Rattle.std.proofs.Math.Seq.{get_or-append_seam}
 use Rattle.fv_outside.specs.Tasks.{Tasks}
 use Rattle.fv_graph.proofs.Counts.{get_set}
 use Rattle.fv_split_plan.specs.View.{PlanView, lane_info}
@@ -34,19 +33,6 @@ pub record HasOneMore (w : LaneWriter) (old new : Writers) : Type 0 where
   pub regs : new.regs ≡ old.regs
   pub lists : new.lists ≡ old.lists
 
--- the writer of lane n comes next
-pub record IsNext (all : List LaneWriter) (n : ℕ) (w : LaneWriter) : Type 0 where
-  pub there : n < length all
-  pub is : (d : LaneWriter) → get_or all n d ≡ w
-
-pub next_of : (all gone left more : List LaneWriter) (w : LaneWriter) (n : ℕ) → gone ++ left ≡ all → left ≡ w ∷ more → n ≡ length gone → IsNext all n w
-next_of all gone left more w n whole steps at =
-    let e : gone ++ w ∷ more ≡ all = ap (λ (xs : List LaneWriter). gone ++ xs) (sym steps) ∙ whole in
-    record {
-      there = omega (arith, ap length e, length-append gone (w ∷ more), at);
-      is = λ d. ap (λ (i : ℕ). get_or all i d) at ∙ ap (λ (xs : List LaneWriter). get_or xs (length gone) d) (sym e) ∙ get_or-append_seam gone w more d;
-    }
-
 module _ (p : PlanView) (all : List LaneWriter) where
   pub none_dealt : (g : Tasks) (rooms : List (Box Writers)) → AreRooms p g rooms → AreDealtSoFar p all 0 rooms rooms
   none_dealt g rooms a j d l =
@@ -59,9 +45,9 @@ module _ (p : PlanView) (all : List LaneWriter) where
 
   -- one lane more
   pub one_dealt : (n : ℕ) (old rooms : List (Box Writers)) (room : Box Writers) (w : LaneWriter) → (lane_info p n).owner < length rooms
-      → IsNext all n w → ((d : Box Writers) → HasOneMore w (get_or rooms (lane_info p n).owner d).value room.value)
+      → ((d : LaneWriter) → get_or all n d ≡ w) → ((d : Box Writers) → HasOneMore w (get_or rooms (lane_info p n).owner d).value room.value)
       → AreDealtSoFar p all n old rooms → AreDealtSoFar p all (n + 1) old (set rooms (lane_info p n).owner room)
-  one_dealt n old rooms room w there next more was j d l =
+  one_dealt n old rooms room w there is more was j d l =
       let r : ℕ = (lane_info p n).owner in
       let now = was j d l in
       get_set (λ (b : Box Writers). IsDealtSoFar p all (n + 1) j (get_or old j d).value b.value) rooms r j room d there
@@ -78,7 +64,7 @@ module _ (p : PlanView) (all : List LaneWriter) where
           length-append (first_own p j n) (n ∷ []),
         );
         own = λ e. m.own ∙ ap (λ (xs : List LaneWriter). xs ++ w ∷ []) (now.own e)
-            ∙ ap (λ (x : LaneWriter). map (λ i. get_or all i e) (first_own p j n) ++ x ∷ []) (sym (next.is e))
+            ∙ ap (λ (x : LaneWriter). map (λ i. get_or all i e) (first_own p j n) ++ x ∷ []) (sym (is e))
             ∙ sym (map-append (λ i. get_or all i e) (first_own p j n) (n ∷ [])) ∙ ap (map (λ i. get_or all i e)) (sym (first_own_here p j n (sym same)));
         room = omega (arith, now.room, m.room);
         seen = m.seen ∙ now.seen;

@@ -14,6 +14,7 @@ use Rattle.fv_engine_parcels.specs.declared.content.Content.{Content}
 use Rattle.fv_engine_parcels.specs.declared.content.Content.TheVariants as holding
 use Rattle.fv_engine_parcels.specs.Contents.{tasks_in, AreHandedOn, IsContent}
 use Rattle.fv_engine_spread.specs.Collected.{AreChainParcels}
+use Rattle.fv_engine_spread.proofs.Stepping.{IsNext}
 
 -- the parcel of loop j comes next
 pub record IsNextParcel (k : Start) (v j : ℕ) (p : LoopParcel) : Type 0 where
@@ -21,17 +22,13 @@ pub record IsNextParcel (k : Start) (v j : ℕ) (p : LoopParcel) : Type 0 where
   pub edge : p.edge ≡ v * stride (tasks_in k) + j
   pub key : p.start.value ≡ k
 
-pub next_parcel : (k : Start) (v : ℕ) (gone left more : List LoopParcel) (p : LoopParcel) (all : List LoopParcel) → gone ++ left ≡ all → left ≡ p ∷ more
-    → AreChainParcels k v all → IsNextParcel k v (length gone) p
-next_parcel k v gone left more p all whole steps a =
-    let e : gone ++ p ∷ more ≡ all = ap (λ (xs : List LoopParcel). gone ++ xs) (sym steps) ∙ whole in
-    let is : get_or all (length gone) p ≡ p =
-    ap (λ (xs : List LoopParcel). get_or xs (length gone) p) (sym e) ∙ get_or-append_seam gone p more p in
-    let there : length gone < (tasks_in k).loops = omega (arith, ap length e, length-append gone (p ∷ more), a.count) in
+pub next_parcel : (k : Start) (v n : ℕ) (all more : List LoopParcel) (p : LoopParcel) → IsNext all n p more → AreChainParcels k v all → IsNextParcel k v n p
+next_parcel k v n all more p next a =
+    let there : n < (tasks_in k).loops = omega (arith, next.there, a.count) in
     record {
       there = there;
-      edge = ap (λ (q : LoopParcel). q.edge) (sym is) ∙ a.edges (length gone) p there;
-      key = ap (λ (q : LoopParcel). q.start.value) (sym is) ∙ a.keys (length gone) p there;
+      edge = ap (λ (q : LoopParcel). q.edge) (sym (next.is p)) ∙ a.edges n p there;
+      key = ap (λ (q : LoopParcel). q.start.value) (sym (next.is p)) ∙ a.keys n p there;
     }
 
 module _ (k : Start) (v j : ℕ) (p : LoopParcel) (next : IsNextParcel k v j p) where

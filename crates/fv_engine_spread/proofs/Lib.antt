@@ -4,3 +4,4 @@ pub mod FirstLanes
 pub mod Handed
 pub mod Opens
 pub mod Returns
+pub mod Stepping

@@ -20,7 +20,7 @@ pub record AreBack (k : Start) (v n : ℕ) (ws : List (Box Writers)) (taken : Li
   pub left : (j : ℕ) (d : Box Writers) → j < (tasks_in k).loops → AreWritersOf k (first_own k.plan.now j n) v (get_or ws j d).value.lanes.own.items
   pub back : (i : ℕ) (d : LaneWriter) → i < length (reverse taken) → IsWriterOf k (n + i) v (get_or (reverse taken) i d)
 
--- the last lane of those that are left
+-- a lane is the last of those that are left, and these stand before it
 pub record IsLastLane (p : PlanView) (next : List LaneInfo) (info : LaneInfo) : Type 0 where
   pub there : length next < length p.lanes
   pub is : lane_info p (length next) ≡ info

@@ -7,10 +7,9 @@ ghost use Rattle.fv_engine_spread.specs.Collected.{AreChainParcels, AreAllWriter
 
 use fv_engine_parcels::{Content, LoopParcel, Start, Writers};
 use fv_lines::LaneWriter;
-use fv_split_plan::Plan;
 
-// What the loops handed on, loop by loop, in a list with room for them.
-fn unpacked<'a, 'b>(
+// What each loop handed on, loop by loop, in a list with room for them.
+fn loops_writers<'a, 'b>(
     start: &Start<'a, 'b>,
     parcels: Vec<LoopParcel<'a, 'b>>,
     mut writers: Vec<Box<Writers<'a>>>,
@@ -30,7 +29,7 @@ fn unpacked<'a, 'b>(
 }
 
 // Each lane's writer from the list of its loop, lane by lane, in a list with room for them.
-fn undealt<'a, 'b>(
+fn all_writers<'a, 'b>(
     start: &Start<'a, 'b>,
     mut writers: Vec<Box<Writers<'a>>>,
     mut all: Vec<LaneWriter<'a>>,
@@ -54,8 +53,8 @@ fn undealt<'a, 'b>(
     all
 }
 
-/// The writers of all lanes, lane by lane, out of the parcels of the loops' own edges at a vector: the entries come back so where a block
-/// is given up, and the exits where it ran. The lists that are handed in have room, so that no memory is taken.
+/// The writers of all lanes, lane by lane, out of the parcels of the loops' own edges at a vector: the exits where a block ran, the
+/// entries where it is given up. The lists that are handed in have room, so that no memory is taken.
 pub fn collect<'a, 'b>(
     start: &Start<'a, 'b>,
     parcels: Vec<LoopParcel<'a, 'b>>,
@@ -70,6 +69,6 @@ pub fn collect<'a, 'b>(
     requires lanes_room { length start.now.plan.now.lanes ≤ vec_capacity all }
     ensures { (v : ℕ) → AreChainParcels start.now v parcels.entry.items → AreAllWriters start.now v result.items }
 {
-    let writers = unpacked(start, parcels, writers);
-    undealt(start, writers, all)
+    let writers = loops_writers(start, parcels, writers);
+    all_writers(start, writers, all)
 }

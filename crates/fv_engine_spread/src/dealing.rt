@@ -9,7 +9,8 @@ use fv_engine_parcels::Writers;
 use fv_lines::LaneWriter;
 use fv_split_plan::Plan;
 
-/// Each lane's writer goes to the list of its loop, lane by lane, so that a loop has its lanes in their order.
+/// Each lane's writer goes to the list of its loop, lane by lane, so that a loop has its lanes in their order. The lists have room, so
+/// that no memory is taken.
 pub fn deal<'a>(plan: &Plan, all: Vec<LaneWriter<'a>>, rooms: &mut [Box<Writers<'a>>])
     requires count { length all.items ≡ length plan.now.lanes }
     requires rooms { (g : Tasks) × AreRooms plan.now g rooms.old }
@@ -17,11 +18,8 @@ pub fn deal<'a>(plan: &Plan, all: Vec<LaneWriter<'a>>, rooms: &mut [Box<Writers<
 {
     // Called for its clauses.
     let _loops = plan.loops();
-    let lanes = plan.lanes();
-    let mut lane = 0;
-    for writer in all {
-        let room = &mut rooms[lanes[lane].owner as usize];
+    for (info, writer) in plan.lanes().iter().zip(all) {
+        let room = &mut rooms[info.owner as usize];
         room.lanes.own.push_reserved(writer);
-        lane += 1;
     }
 }

@@ -1,7 +1,7 @@
 use Rattle.fv_engine_spread.proofs.collecting.collect.Goals as goal
 
-pub undealt-requires-clause-writers : goal.undealt-requires-clause-writers
-undealt-requires-clause-writers c = (c.requires.parcels.0, c.unpacked-writers.ensures c.requires.parcels.0 c.requires.parcels.1)
+pub all_writers-requires-clause-writers : goal.all_writers-requires-clause-writers
+all_writers-requires-clause-writers c = (c.requires.parcels.0, c.loops_writers-writers.ensures c.requires.parcels.0 c.requires.parcels.1)
 
 pub returns : goal.returns
-returns c = λ v a. c.undealt.ensures v (c.unpacked-writers.ensures v a)
+returns c = λ v a. c.all_writers.ensures v (c.loops_writers-writers.ensures v a)

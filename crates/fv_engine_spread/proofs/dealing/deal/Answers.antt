@@ -1,96 +1,107 @@
-use Rattle.std.proofs.Common.{◌≡◌, ℕ, ◌+◌, ◌<◌, List, [], ◌∷◌, ◌++◌, length, set, get_or, refl, sym, ap, ◌∙◌, subst, arith, append_assoc, vec_capacity}
-use Rattle.std.specs.Global.{Box}
-use Rattle.std.specs.Vec.Iter.{into_iter_items}
-use Rattle.std.proofs.lemmas.List.{length-append, length_push}
+use Rattle.std.proofs.Common.{◌≡◌, ℕ, ◌+◌, ◌<◌, Iter, List, [], ◌∷◌, ◌++◌, length, set, get_or, sym, ap, ◌∙◌, subst, arith, vec_capacity, inl, inr}
+use Rattle.std.proofs.Common.{drop}
+use Rattle.std.specs.Global.{Global, Box}
+use Rattle.std.specs.Vec.Iter.{into_iter_items, into_iter_len}
+use Rattle.std.specs.declared.iter.Zip.{Zip}
+use Rattle.std.specs.declared.vec.IntoIter.{IntoIter}
+use Rattle.std.proofs.lemmas.List.{length_push}
 use Rattle.fv_graph.proofs.Grouping.{get_any}
 use Rattle.fv_split_plan.specs.View.{PlanView, lane_info}
 use Rattle.fv_split_plan.specs.declared.lane.LaneInfo.{LaneInfo}
 use Rattle.fv_lines.specs.declared.writer.LaneWriter.{LaneWriter}
 use Rattle.fv_engine_parcels.specs.declared.content.Writers.{Writers}
-use Rattle.fv_engine_spread.proofs.DealtSoFar.{AreDealtSoFar, HasOneMore, IsNext, next_of, none_dealt, room_for_next, one_dealt, all_dealt}
+use Rattle.fv_engine_spread.proofs.DealtSoFar.{AreDealtSoFar, HasOneMore, none_dealt, room_for_next, one_dealt, all_dealt}
+use Rattle.fv_engine_spread.proofs.Stepping.{IsNext, next_of, none_left}
 use Rattle.fv_engine_spread.proofs.dealing.deal.Goals as goal
 
--- the loop of a lane, where a list is that of the plan's lanes
-owner_in : (p : PlanView) (lanes : List LaneInfo) (n : ℕ) → lanes ≡ p.lanes
-    → (get_or lanes n (record { owner = 0; history = 0 })).owner ≡ (lane_info p n).owner
-owner_in p lanes n e = ap (λ (xs : List LaneInfo). (get_or xs n (record { owner = 0; history = 0 })).owner) e
+-- the loop of the next lane
+owner_of : (p : PlanView) (n : ℕ) (info : LaneInfo) (more : List LaneInfo) → IsNext p.lanes n info more → (lane_info p n).owner ≡ info.owner
+owner_of p n info more next = ap (λ (i : LaneInfo). i.owner) (next.is (record { owner = 0; history = 0 }))
 
-pub loop-writer-init : goal.loop-writer-init
-loop-writer-init c = record {
-  all = c.into_iter-writer-iterator.ensures.into_iter_gives.0;
-  lane = refl;
-  long = omega (arith, c.into_iter-writer-iterator.ensures.into_iter_gives.1, ap length c.into_iter-writer-iterator.ensures.into_iter_gives.0, c.args.all.ok);
-  dealt = none_dealt c.args.plan.now c.args.all.items c.requires.rooms.0 c.args.rooms.now c.requires.rooms.1;
-}
+-- it is there
+owner_below : (p : PlanView) (n loops : ℕ) (info : LaneInfo) (more : List LaneInfo) → IsNext p.lanes n info more
+    → ((l : ℕ) → l < length p.lanes → (lane_info p l).owner < p.loops) → loops ≡ p.loops → info.owner < loops
+owner_below p n loops info more next below same = omega (arith, owner_of p n info more next, below n next.there, same)
 
-pub bounds-lanes-lane : goal.bounds-lanes-lane
-bounds-lanes-lane c =
-    let at = c.loop-writer in
-    let next = next_of c.args.all.items at.yielded (into_iter_items at.writer-iterator) (into_iter_items c.next.new.self) c.in-Some.writer at.lane
-    at.invariant.all c.in-Some.ensures.steps.0 at.invariant.lane in
-    omega (arith, next.there, c.requires.count, ap length c.lanes-lanes.ensures)
+pub loop-info-init : goal.loop-info-init
+loop-info-init c =
+    let z = c.zip-info-items.ensures in
+    let same = c.into_iter-info-iterator.ensures.into_iter_gives in
+    record {
+      lanes = ap (λ (i : Zip (Iter LaneInfo) (IntoIter LaneWriter Global)). i.a.rest.now) same ∙ ap (λ (i : Iter LaneInfo). i.rest.now) z.first
+          ∙ c.iter.ensures.rest ∙ c.lanes.ensures;
+      writers = ap (λ (i : Zip (Iter LaneInfo) (IntoIter LaneWriter Global)). into_iter_items i.b) same ∙ z.second.0;
+      long = omega (
+        arith,
+        ap (λ (i : Zip (Iter LaneInfo) (IntoIter LaneWriter Global)). into_iter_len i.b) same,
+        z.second.1,
+        ap (λ (i : Zip (Iter LaneInfo) (IntoIter LaneWriter Global)). length (into_iter_items i.b)) same,
+        ap length z.second.0,
+        c.args.all.ok,
+      );
+      fewer = omega arith;
+      dealt = none_dealt c.args.plan.now c.args.all.items c.requires.rooms.0 c.args.rooms.now c.requires.rooms.1;
+    }
 
-pub bounds-rooms-lanes : goal.bounds-rooms-lanes
-bounds-rooms-lanes c =
-    let at = c.loop-writer in
+pub offset_bounds-rooms-info : goal.offset_bounds-rooms-info
+offset_bounds-rooms-info c =
+    let at = c.loop-info in
     let p : PlanView = c.args.plan.now in
-    let next = next_of c.args.all.items at.yielded (into_iter_items at.writer-iterator) (into_iter_items c.next.new.self) c.in-Some.writer at.lane
-    at.invariant.all c.in-Some.ensures.steps.0 at.invariant.lane in
-    let there : at.lane < length p.lanes = omega (arith, next.there, c.requires.count) in
+    let next = next_of p.lanes at.info-iterator.a.rest.now c.next.new.self.a.rest.now c.in-Some.info.now (length at.yielded) at.invariant.lanes
+    c.in-Some.ensures.steps.0 in
     omega (
       arith,
-      owner_in p c.lanes-lanes.result.now at.lane c.lanes-lanes.ensures,
-      c.loops-loops.ensures.plan.1.stands.loops.owners at.lane there,
-      at.auto.rooms,
-      c.requires.rooms.1.count,
+      owner_below p (length at.yielded) (length at.rooms) c.in-Some.info.now c.next.new.self.a.rest.now next
+          c.loops-loops.ensures.plan.1.stands.loops.owners (at.auto.rooms ∙ c.requires.rooms.1.count),
     )
+
+pub bounds-rooms-info : goal.bounds-rooms-info
+bounds-rooms-info c =
+    let at = c.loop-info in
+    let p : PlanView = c.args.plan.now in
+    let next = next_of p.lanes at.info-iterator.a.rest.now c.next.new.self.a.rest.now c.in-Some.info.now (length at.yielded) at.invariant.lanes
+    c.in-Some.ensures.steps.0 in
+    owner_below p (length at.yielded) (length at.rooms) c.in-Some.info.now c.next.new.self.a.rest.now next
+    c.loops-loops.ensures.plan.1.stands.loops.owners (at.auto.rooms ∙ c.requires.rooms.1.count)
 
 pub push_reserved-requires : goal.push_reserved-requires
 push_reserved-requires c =
-    let at = c.loop-writer in
+    let at = c.loop-info in
     let p : PlanView = c.args.plan.now in
-    let r : ℕ = (lane_info p at.lane).owner in
-    let x : Box Writers = c.index-rooms-lanes.result in
-    let next = next_of c.args.all.items at.yielded (into_iter_items at.writer-iterator) (into_iter_items c.next.new.self) c.in-Some.writer at.lane
-    at.invariant.all c.in-Some.ensures.steps.0 at.invariant.lane in
-    let there : at.lane < length p.lanes = omega (arith, next.there, c.requires.count) in
+    let n : ℕ = length at.yielded in
+    let r : ℕ = (lane_info p n).owner in
+    let x : Box Writers = c.index-rooms-info.result in
+    let next = next_of p.lanes at.info-iterator.a.rest.now c.next.new.self.a.rest.now c.in-Some.info.now n at.invariant.lanes c.in-Some.ensures.steps.0 in
     let same : c.deref_mut.result.now ≡ (get_or at.rooms r x).value =
     c.deref_mut.ensures.value
-    ∙ ap (λ (i : ℕ). (get_or at.rooms i x).value) (owner_in p c.lanes-lanes.result.now at.lane c.lanes-lanes.ensures) in
+    ∙ ap (λ (i : ℕ). (get_or at.rooms i x).value) (sym (owner_of p n c.in-Some.info.now c.next.new.self.a.rest.now next)) in
     omega (
       arith,
       c.deref_mut.result.now.lanes.own.ok,
       ap (λ (w : Writers). length w.lanes.own.items) same,
       ap (λ (w : Writers). vec_capacity w.lanes.own) same,
-      room_for_next p c.args.all.items at.lane (get_or c.args.rooms.now r x).value (get_or at.rooms r x).value there
-          (at.invariant.dealt r x (c.loops-loops.ensures.plan.1.stands.loops.owners at.lane there)),
+      room_for_next p c.args.all.items n (get_or c.args.rooms.now r x).value (get_or at.rooms r x).value next.there
+          (at.invariant.dealt r x (c.loops-loops.ensures.plan.1.stands.loops.owners n next.there)),
     )
 
-pub overflow_add-lane : goal.overflow_add-lane
-overflow_add-lane c =
-    let at = c.loop-writer in
-    let next = next_of c.args.all.items at.yielded (into_iter_items at.writer-iterator) (into_iter_items c.next.new.self) c.in-Some.writer at.lane
-    at.invariant.all c.in-Some.ensures.steps.0 at.invariant.lane in
-    omega (arith, next.there, c.requires.count, ap length c.lanes-lanes.ensures, c.lanes-lanes.type_inv.0)
-
-pub loop-writer-preserved : goal.loop-writer-preserved
-loop-writer-preserved c =
-    let at = c.loop-writer in
+pub loop-info-preserved : goal.loop-info-preserved
+loop-info-preserved c =
+    let at = c.loop-info in
     let p : PlanView = c.args.plan.now in
-    let r : ℕ = (lane_info p at.lane).owner in
-    let x : Box Writers = c.index-rooms-lanes.result in
+    let all : List LaneWriter = c.args.all.items in
+    let n : ℕ = length at.yielded in
+    let r : ℕ = (lane_info p n).owner in
+    let x : Box Writers = c.index-rooms-info.result in
     let w : LaneWriter = c.in-Some.writer in
-    let steps = c.in-Some.ensures.steps.0 in
-    let next : IsNext c.args.all.items at.lane w =
-    next_of c.args.all.items at.yielded (into_iter_items at.writer-iterator) (into_iter_items c.next.new.self) w at.lane at.invariant.all steps
-    at.invariant.lane in
-    let there : at.lane < length p.lanes = omega (arith, next.there, c.requires.count) in
+    let steps = c.in-Some.ensures.steps in
+    let next = next_of p.lanes at.info-iterator.a.rest.now c.next.new.self.a.rest.now c.in-Some.info.now n at.invariant.lanes steps.0 in
+    let taken = next_of all (into_iter_items at.info-iterator.b) (into_iter_items c.next.new.self.b) w n at.invariant.writers steps.1.0 in
     let low : r < length at.rooms = omega
-    (arith, c.loops-loops.ensures.plan.1.stands.loops.owners at.lane there, at.auto.rooms, c.requires.rooms.1.count) in
-    let owner = owner_in p c.lanes-lanes.result.now at.lane c.lanes-lanes.ensures in
+    (arith, c.loops-loops.ensures.plan.1.stands.loops.owners n next.there, at.auto.rooms, c.requires.rooms.1.count) in
+    let owner : r ≡ c.in-Some.info.now.owner = owner_of p n c.in-Some.info.now c.next.new.self.a.rest.now next in
     let room : Box Writers = record {
-      ptr = (get_or at.rooms (get_or c.lanes-lanes.result.now at.lane (record { owner = 0; history = 0 })).owner x).ptr;
-      alloc = (get_or at.rooms (get_or c.lanes-lanes.result.now at.lane (record { owner = 0; history = 0 })).owner x).alloc;
+      ptr = (get_or at.rooms c.in-Some.info.now.owner x).ptr;
+      alloc = (get_or at.rooms c.in-Some.info.now.owner x).alloc;
       value = record {
         lanes = record { own = c.push_reserved.new.self; seen = c.deref_mut.result.now.lanes.seen };
         regs = c.deref_mut.result.now.regs;
@@ -100,8 +111,7 @@ loop-writer-preserved c =
     let more : (d : Box Writers) → HasOneMore w (get_or at.rooms r d).value room.value =
     λ d.
     let same : c.deref_mut.result.now ≡ (get_or at.rooms r d).value =
-    c.deref_mut.ensures.value ∙ ap (λ (i : ℕ). (get_or at.rooms i x).value) owner
-    ∙ ap (λ (b : Box Writers). b.value) (get_any at.rooms r x d low) in
+    c.deref_mut.ensures.value ∙ ap (λ (i : ℕ). (get_or at.rooms i x).value) (sym owner) ∙ ap (λ (b : Box Writers). b.value) (get_any at.rooms r x d low) in
     record {
       own = c.push_reserved.ensures.items ∙ ap (λ (u : Writers). u.lanes.own.items ++ w ∷ []) same;
       room = c.push_reserved.ensures.capacity ∙ ap (λ (u : Writers). vec_capacity u.lanes.own) same;
@@ -109,25 +119,25 @@ loop-writer-preserved c =
       regs = ap (λ (u : Writers). u.regs) same;
       lists = ap (λ (u : Writers). u.lists) same;
     } in
+    let one : length (at.yielded ++ (c.in-Some.info, w) ∷ []) ≡ n + 1 = length_push at.yielded (c.in-Some.info, w) in
     record {
-      all = append_assoc at.yielded (w ∷ []) _ ∙ ap (λ (ws : List LaneWriter). at.yielded ++ ws) (sym steps) ∙ at.invariant.all;
-      lane = omega (arith, length_push at.yielded w, at.invariant.lane);
-      long = let was = at.invariant.long in let gone = c.in-Some.ensures.steps.1 in let short = ap length steps in omega arith;
-      dealt = subst (λ (i : ℕ). AreDealtSoFar p c.args.all.items (at.lane + 1) c.args.rooms.now (set at.rooms i room)) (sym owner)
-          (one_dealt p c.args.all.items at.lane c.args.rooms.now at.rooms room w low next more at.invariant.dealt);
+      lanes = next.then ∙ ap (λ (i : ℕ). drop i p.lanes) (sym one);
+      writers = taken.then ∙ ap (λ (i : ℕ). drop i all) (sym one);
+      long = let was = at.invariant.long in let gone = steps.1.1 in let short = ap length steps.1.0 in omega arith;
+      fewer = omega (arith, one, next.there);
+      dealt = subst (λ (i : ℕ). AreDealtSoFar p all i c.args.rooms.now (set at.rooms c.in-Some.info.now.owner room)) (sym one)
+          (subst (λ (i : ℕ). AreDealtSoFar p all (n + 1) c.args.rooms.now (set at.rooms i room)) owner
+          (one_dealt p all n c.args.rooms.now at.rooms room w low taken.is more at.invariant.dealt));
     }
 
 pub returns : goal.returns
 returns c =
-    let at = c.loop-writer in
-    let whole = ap length at.invariant.all in
-    all_dealt c.args.plan.now c.args.all.items at.lane c.args.rooms.now at.rooms
-    (omega (
-      arith,
-      whole,
-      length-append at.yielded (into_iter_items at.writer-iterator),
-      at.invariant.lane,
-      at.invariant.long,
-      c.in-None.ensures.steps.0,
-      c.requires.count,
-    )) at.auto.rooms at.invariant.dealt
+    let at = c.loop-info in
+    let p : PlanView = c.args.plan.now in
+    let n : ℕ = length at.yielded in
+    let done : n ≡ length p.lanes = elim c.in-None.ensures.steps [
+      | inl a ↦ none_left p.lanes at.info-iterator.a.rest.now n at.invariant.lanes at.invariant.fewer a.1.0
+      | inr b ↦ none_left c.args.all.items (into_iter_items at.info-iterator.b) n at.invariant.writers (omega (arith, at.invariant.fewer, c.requires.count))
+          (omega (arith, b.1.0, at.invariant.long)) ∙ c.requires.count
+    ] in
+    all_dealt p c.args.all.items n c.args.rooms.now at.rooms done at.auto.rooms at.invariant.dealt

@@ -11,7 +11,7 @@ use Rattle.fv_engine_parcels.specs.declared.content.Writers.{Writers}
 use Rattle.fv_engine_parcels.specs.Contents.{tasks_in}
 use Rattle.fv_engine_spread.specs.Collected.{AreAllWriters}
 use Rattle.fv_engine_spread.proofs.Returns.{AreBack, IsLastLane, last_lane, none_back, one_there, one_back, all_back}
-use Rattle.fv_engine_spread.proofs.collecting.undealt.Goals as goal
+use Rattle.fv_engine_spread.proofs.collecting.all_writers.Goals as goal
 
 pub loop-info-init : goal.loop-info-init
 loop-info-init c =

@@ -2,7 +2,7 @@ use Rattle.std.proofs.Common.{◌≡◌, ◌+◌, ◌<◌, ◌≤◌, ℕ, lengt
 use Rattle.fv_split_plan.specs.declared.lane.LaneInfo.{LaneInfo}
 use Rattle.fv_engine_spread.specs.Entries.{AreLoopsWriters}
 use Rattle.fv_engine_spread.proofs.Returns.{AreBack}
-use Rattle.fv_engine_spread.proofs.collecting.undealt.Given as goal
+use Rattle.fv_engine_spread.proofs.collecting.all_writers.Given as goal
 
 abbrev pub invariant-loop-info : goal.invariant-loop-info
 invariant-loop-info l = record {
