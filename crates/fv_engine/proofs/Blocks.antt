@@ -21,9 +21,9 @@ use Rattle.fv_split_plan.specs.View.{PlanView}
 use Rattle.fv_split_plan.specs.Plans.{IsPlanOf}
 use Rattle.fv_engine_tasks.specs.Block.{Block, IsReal, vectors_of}
 use Rattle.fv_engine_tasks.specs.Jobs.{IsJob}
-use Rattle.fv_engine.specs.Plans.{NamesThere, held_by, block_from}
+use Rattle.fv_engine.specs.inner.Plans.{NamesThere, held_by, block_from}
 use Rattle.fv_engine.specs.Stands.{EngineView, AreBegun, GoesOn, Standing}
-use Rattle.fv_engine.specs.inner.Over.{Ran}
+use Rattle.fv_engine_crew.specs.Ran.{Ran}
 use Rattle.fv_engine.specs.inner.Opening.{opening_of, AreSameLanes}
 use Rattle.fv_engine.specs.Stored.{IsStored, view_of}
 use Rattle.fv_engine.specs.Told.{tasks_told}
@@ -161,26 +161,25 @@ module _ {e : Inside} {v : EngineView} {frames : ℕ} {input controls : List ℤ
     pub job : IsJob b t.tasks
     job = subst (λ (x : Block). IsJob x t.tasks) (sym block_is)
         (is_job e.plan e.sizes.vector frames e.sizes.channels (held_by e.plan controls) input t.tasks (record {
-      graph = inv.standing.graph;
-      plan = inv.standing.plan;
-      some = inv.sizes.some;
-      loops = alike.loops;
-      pairs = alike.pairs;
-      vectors = alike.vectors;
-      vector_low = inv.sizes.vector_low;
-      held_long = many_held;
-      inputs = inv.sizes.inputs;
-      input_long = long;
-    }))
+          graph = inv.standing.graph;
+          plan = inv.standing.plan;
+          some = inv.sizes.some;
+          loops = alike.loops;
+          pairs = alike.pairs;
+          vectors = alike.vectors;
+          vector_low = inv.sizes.vector_low;
+          held_long = many_held;
+          inputs = inv.sizes.inputs;
+          input_long = long;
+        }))
 
     -- the lanes that the block begins with are real
     pub first_is : IsReal b first
     first_is = subst (λ (x : Block). IsReal x first) (sym block_is) (real (view_of e) inv.standing frames input controls names first is_begun)
 
     -- it ran, and left these lanes
-    module _ {lanes : Lanes} {lines : List Line} {outputs : List ℕ} {output : List ℤ} (same : AreSameLanes e.lanes lanes)
-        (are : outputs ≡ e.plan.outputs)
-        (ran : Ran t.tasks b lengths e.lanes.shapes.items first (cells_of lanes.region) lanes.states.items lines outputs output) where
+    module _ {lanes : Lanes} {lines : List Line} {output : List ℤ} (same : AreSameLanes e.lanes lanes)
+        (ran : Ran t.tasks b lengths e.lanes.shapes.items first (cells_of lanes.region) lanes.states.items lines e.plan.outputs output) where
       abbrev cells : List ℤ
       cells = cells_of lanes.region
 
@@ -193,9 +192,7 @@ module _ {e : Inside} {v : EngineView} {frames : ℕ} {input controls : List ℤ
 
       ran_so : Ran t.tasks (block_in (view_of e) frames controls input) lengths e.lanes.shapes.items first cells lanes.states.items lines e.plan.outputs output
       ran_so =
-          let left : Block → List ℕ → Type 0 =
-          λ x os. Ran t.tasks x lengths e.lanes.shapes.items first cells lanes.states.items lines os output in
-          subst (left (block_in (view_of e) frames controls input)) are (subst (λ x. left x outputs) block_is ran)
+          subst (λ (x : Block). Ran t.tasks x lengths e.lanes.shapes.items first cells lanes.states.items lines e.plan.outputs output) block_is ran
 
       goes : GoesOn (view_of e) (with_state (view_of e) cells starts) frames input controls output
       goes = goes_on (record {

@@ -14,7 +14,7 @@ use Rattle.fv_engine_tasks.specs.Block.{vectors_of, HoldUpTo}
 use Rattle.fv_engine_tasks.specs.Outputs.{sample_of}
 use Rattle.fv_engine_tasks.specs.Underway.{EndsBlock}
 use Rattle.fv_engine_tasks.proofs.Numbers.{enough}
-use Rattle.fv_engine.specs.Plans.{NamesThere}
+use Rattle.fv_engine.specs.inner.Plans.{NamesThere}
 use Rattle.fv_engine.specs.Stands.{EngineView, StandsFor, AreGiven, GoesOn, AreBegun, AreEnded, played}
 use Rattle.fv_engine.proofs.Values.{GoesBehind, block_in, heard, content, values_obey, begins, sample_is, next_past}
 

@@ -19,7 +19,7 @@ use Rattle.fv_split_plan.specs.Plans.{IsPlanOf}
 use Rattle.fv_split_plan.proofs.TaskLemmas.{plans_are_apart}
 use Rattle.fv_engine_tasks.specs.Block.{vectors_of}
 use Rattle.fv_engine_tasks.specs.Jobs.{IsJob}
-use Rattle.fv_engine.specs.Plans.{block_from}
+use Rattle.fv_engine.specs.inner.Plans.{block_from}
 use Rattle.fv_engine.specs.Stands.{EngineView, AreBegun, AreEnded, history_in}
 use Rattle.fv_engine.specs.Made.{AreShapes}
 use Rattle.fv_engine.proofs.Names.{names_within}

@@ -6,5 +6,6 @@ pub mod Runs
 pub mod Names
 pub mod Made
 pub mod Jobs
+pub mod Crews
 pub mod Blocks
 pub mod Shown

@@ -5,7 +5,7 @@ use Rattle.fv_num.specs.Words.{argument}
 use Rattle.fv_num.specs.Frames.{Stream}
 use Rattle.fv_loopcode.specs.State.{State}
 use Rattle.fv_engine_tasks.specs.Block.{IsReal}
-use Rattle.fv_engine.specs.Plans.{NamesThere}
+use Rattle.fv_engine.specs.inner.Plans.{NamesThere}
 use Rattle.fv_engine.specs.Stands.{EngineView, StandsFor, AreGiven, AreBegun, Standing, GoesOn, continued}
 use Rattle.fv_engine.proofs.Values.{GoesBehind, block_in, heard, content, values_obey, begins}
 use Rattle.fv_engine.proofs.Alike.{stands_alike}

@@ -21,7 +21,7 @@ use Rattle.fv_split_plan.specs.View.{PlanView, code_of, roles_of, lane_info}
 use Rattle.fv_split_plan.specs.Fits.{flows}
 use Rattle.fv_split_plan.specs.Plans.{PlanStands}
 use Rattle.fv_engine_tasks.specs.Block.{Block, ObeysBlock, HoldUpTo, none_done}
-use Rattle.fv_engine.specs.Plans.{NamesThere, held_by, block_from}
+use Rattle.fv_engine.specs.inner.Plans.{NamesThere, held_by, block_from}
 use Rattle.fv_engine.specs.Stands.{EngineView, StandsFor, AreBegun, AreGiven}
 use Rattle.fv_engine.specs.Past.{past}
 

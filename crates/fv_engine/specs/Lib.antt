@@ -1,7 +1,7 @@
 pub mod Past
-pub mod Plans
 pub mod Stands
 pub mod Cores
+pub mod Crews
 pub mod Made
 pub mod Told
 pub mod Stored

@@ -12,7 +12,7 @@ use Rattle.fv_lines.specs.Solo.{history_at, block_at, len_at, start_at}
 use Rattle.fv_lines.specs.declared.shape.LaneShape.{LaneShape}
 use Rattle.fv_split_plan.specs.View.{PlanView, lane_info}
 use Rattle.fv_engine_tasks.specs.Jobs.{RegistersFit}
-use Rattle.fv_engine.specs.Plans.{parts_of}
+use Rattle.fv_engine_parcels.specs.Contents.{parts_of}
 use Rattle.fv_engine.specs.Past.{past}
 use Rattle.fv_engine.specs.declared.lanes.Lanes.{Lanes}
 use Rattle.fv_engine.specs.declared.runner.TaskRunner.{TaskRunner}

@@ -1,5 +1,5 @@
 -- How an engine is stored (this project's profile).
-use Rattle.std.specs.Prelude.{◌≡◌, ℕ, ◌<◌, ◌≤◌, length, map}
+use Rattle.std.specs.Prelude.{◌≡◌, ℕ, ◌<◌, ◌≤◌, length, map, IfSome}
 use Rattle.fv_base.specs.declared.limits.TheConstants.{MOST_BLOCK, MOST_CHANNELS, MOST_VECTORS}
 use Rattle.fv_loopcode.specs.Code.{NamesInput}
 use Rattle.fv_pool.specs.Region.{cells_of}
@@ -8,8 +8,9 @@ use Rattle.fv_lines.specs.declared.shape.LaneState.{LaneState}
 use Rattle.fv_split_plan.specs.View.{PlanView, code_of}
 use Rattle.fv_engine_tasks.specs.Block.{vectors_of}
 use Rattle.fv_engine_tasks.specs.Jobs.{RegistersFit}
-use Rattle.fv_engine.specs.Plans.{parts_of}
+use Rattle.fv_engine_parcels.specs.Contents.{parts_of}
 use Rattle.fv_engine.specs.Stands.{EngineView, Standing}
+use Rattle.fv_engine.specs.Crews.{IsCrewOf}
 use Rattle.fv_engine.specs.Made.{AreShapes, AreTasksOf}
 use Rattle.fv_engine.specs.declared.engine.Engine.TheInside.{Inside}
 
@@ -36,11 +37,13 @@ pub record HasSizes (p : PlanView) (channels block vector : ℕ) : Type 0 where
   pub channels_high : channels ≤ MOST_CHANNELS
   pub inputs : (j i : ℕ) → NamesInput (code_of p j) i → i < channels
 
--- all of it: the lanes have the plan's shapes, the tasks are of its loops, and the engine stands for some frames
+-- all of it: the lanes have the plan's shapes, the tasks are of its loops, as are a crew's codes, and the engine stands for some
+-- frames
 pub record IsStored (e : Inside) : Type 0 where
   pub sizes : HasSizes e.plan e.sizes.channels e.sizes.block e.sizes.vector
   pub shapes : AreShapes e.plan e.sizes.block e.lanes.shapes.items
   pub tasks_are : AreTasksOf e.plan (vectors_of e.sizes.block e.sizes.vector) e.runner.tasks
   pub registers : RegistersFit (parts_of e.plan) (length e.runner.regs.items)
   pub held_long : length e.held.items ≡ length e.plan.held
+  pub crew : IfSome e.crew (λ c. IsCrewOf e.plan e.runner.tasks.tasks c)
   pub standing : Standing (view_of e)

@@ -1,3 +1,3 @@
 pub mod OneLane
-pub mod Over
 pub mod Opening
+pub mod Plans

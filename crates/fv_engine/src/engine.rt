@@ -14,6 +14,8 @@ ghost use Rattle.fv_engine_tasks.specs.Block.{vectors_of};
 ghost use Rattle.fv_engine.specs.Stands.{StandsFor, GoesOn, SameParts, HaveLengths, StartsIn};
 ghost use Rattle.fv_engine.specs.Told.{tasks_told, IsEntry, HasRoomForBlock};
 
+use crate::crew::crew_for;
+use crate::crew_codes::CrewCodes;
 use crate::error::NoMemory;
 use crate::hold::hold;
 use crate::lanes::Lanes;
@@ -31,7 +33,7 @@ use std::marker::{Model, Sync};
 use std::sync::Wait;
 use std::thread::Threads;
 
-/// What became of a block: how many tasks ran, and whether they ran alone where several workers were asked for.
+/// What became of a block: how many tasks ran, and whether one worker ran them alone where several were asked for.
 #[derive(Clone, Copy, PartialEq, Eq, Debug)]
 pub struct BlockReport {
     pub tasks: u64,
@@ -47,6 +49,8 @@ pub struct Engine {
     // the held values of the block
     held: Vec<i32>,
     runner: TaskRunner,
+    // where several workers run the blocks
+    crew: Option<CrewCodes>,
 }
 
 impl Model for Engine {
@@ -62,8 +66,8 @@ impl Model for Engine {
 }
 
 impl Engine {
-    /// An engine of this plan for blocks of at most `block` frames of `channels` numbers, cut in vectors of `vector` frames. It takes
-    /// all the memory that its blocks need.
+    /// An engine of this plan for blocks of at most `block` frames of `channels` numbers, cut in vectors of `vector` frames, by so many
+    /// workers. It takes all the memory without which its blocks cannot run.
     pub fn prepare(
         alloc: Global,
         plan: Plan,
@@ -87,6 +91,7 @@ impl Engine {
         let lanes = blank_lanes(alloc, &plan, block)?;
         let held = Vec::from_elem(alloc, 0, plan.held().len() as usize)?;
         let runner = runner_for(alloc, &plan, vectors(block, vector))?;
+        let crew = crew_for(alloc, &plan, &runner.tasks, workers)?;
         let sizes = Sizes {
             channels,
             workers,
@@ -99,14 +104,16 @@ impl Engine {
             lanes,
             held,
             runner,
+            crew,
         })
     }
 
-    /// The next frames of the output, for the next frames of the input and the controls in them. It takes no memory.
+    /// The next frames of the output, for the next frames of the input and the controls in them. Several workers run the block where
+    /// memory for it is there, and else one does; the output is the same.
     pub fn run_block<R: Threads + Wait + Sync, G: Gate + Sync>(
         &mut self,
-        _rt: &R,
-        _alloc: Global,
+        rt: &R,
+        alloc: Global,
         frames: u32,
         input: &[i32],
         controls: &[i32],
@@ -143,9 +150,7 @@ impl Engine {
             vector: self.sizes.vector,
             frames,
         };
-        let outputs = self.plan.outputs();
-        self.lanes
-            .run_alone(&job, outputs, &mut self.runner, output, gate);
+        let spread = self.lanes.run(rt, alloc, &job, &self.crew, &mut self.runner, output, gate);
         gate.block_done(
             self.plan.loops(),
             vectors,
@@ -154,7 +159,7 @@ impl Engine {
         );
         BlockReport {
             tasks: self.runner.tasks.len(),
-            alone: false,
+            alone: self.sizes.workers > 1 && !spread,
         }
     }
 

@@ -3,7 +3,7 @@
 ghost use Rattle.std.specs.Prelude.{◌≡◌, ℕ, ◌<◌, length};
 ghost use Rattle.fv_loopcode.specs.Code.{NamesHeld};
 ghost use Rattle.fv_split_plan.specs.Plans.{IsHeldCode};
-ghost use Rattle.fv_engine.specs.Plans.{held_by};
+ghost use Rattle.fv_engine.specs.inner.Plans.{held_by};
 
 use fv_loopcode::{Store, run, still_code_is_free};
 use fv_split_plan::Plan;

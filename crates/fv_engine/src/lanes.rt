@@ -4,12 +4,19 @@ ghost use Rattle.fv_pool.specs.Lengths.{lengths_of};
 ghost use Rattle.fv_pool.specs.Region.{cells_of};
 ghost use Rattle.fv_lines.specs.Solo.{AreLists, AreHeld};
 
+use crate::crew_codes::CrewCodes;
 use crate::over::over;
+use crate::plan_codes::PlanCodes;
 use crate::runner::TaskRunner;
+use fv_engine_crew::{SpreadBlock, run_spread};
 use fv_engine_tasks::{Codes, Job};
 use fv_lines::{LaneShape, LaneState};
 use fv_outside::Gate;
 use fv_pool::{Layout, Region};
+use std::alloc::Global;
+use std::marker::Sync;
+use std::sync::Wait;
+use std::thread::Threads;
 
 /// The lanes: the region that they lie in, where each of them lies, its shape and where its history starts, and by lane how many
 /// samples of the block are written.
@@ -25,15 +32,95 @@ pub(crate) struct Lanes {
 }
 
 impl Lanes {
-    ghost use Rattle.std.specs.Prelude.{◌≡◌, ℕ, ◌*◌, ◌<◌, ◌≤◌, length, [], All};
-    ghost use Rattle.fv_lines.specs.Solo.{AreFramed};
-    ghost use Rattle.fv_engine_tasks.specs.Block.{IsReal};
-    ghost use Rattle.fv_engine_tasks.specs.Jobs.{IsJob, block_of, RegistersFit};
-    ghost use Rattle.fv_engine.specs.inner.Over.{Ran};
-    ghost use Rattle.fv_engine.specs.inner.Opening.{opening_of, AreSameLanes, IsSameRunner};
+    ghost use Rattle.std.specs.Prelude.{◌≡◌, ◌*◌, ◌<◌, [], length, All, IfSome, true, false};
+    ghost use Rattle.fv_engine_tasks.specs.Jobs.{block_of};
+    ghost use Rattle.fv_engine_parcels.specs.Contents.{parts_of};
+    ghost use Rattle.fv_engine.specs.Crews.{IsCrewOf};
+    ghost use Rattle.fv_engine.specs.inner.Opening.{opening_of, MayRun, RanOver, AreSameLanes, IsSameRunner};
 
-    /// Runs a block's tasks over the lanes, one after another, and copies the lanes of the outputs.
-    pub(crate) fn run_alone<P: Codes, G: Gate>(
+    /// Runs a block's tasks over the lanes, by several workers where a crew has codes and memory is there, and else one after
+    /// another. Copies the lanes of the outputs. Returns whether several did.
+    pub(crate) fn run<R: Threads + Wait + Sync, G: Gate + Sync>(
+        &mut self,
+        rt: &R,
+        alloc: Global,
+        job: &Job<'_, '_, '_, PlanCodes<'_>>,
+        crew: &Option<CrewCodes>,
+        runner: &mut TaskRunner,
+        output: &mut [i32],
+        gate: &G,
+    ) -> bool
+        requires may { MayRun (block_of (λ p. parts_of p.plan.now) job.now) self.old runner.old }
+        requires crew { IfSome crew.now (λ c. IsCrewOf job.now.plan.now.plan.now runner.old.tasks.tasks c) }
+        requires there { All (λ l. l < length job.now.plan.now.plan.now.lanes) job.now.plan.now.plan.now.outputs }
+        requires output { length output.old ≡ job.now.frames * length job.now.plan.now.plan.now.outputs }
+        ensures ran { RanOver runner.old.tasks.tasks (block_of (λ p. parts_of p.plan.now) job.now) self.old self.new runner.new.lines.items
+            job.now.plan.now.plan.now.outputs output.new }
+        ensures lanes { AreSameLanes self.old self.new }
+        ensures runner { IsSameRunner runner.old runner.new }
+    {
+        let spread = self.run_spread(rt, alloc, job, crew, runner, output, gate);
+        if spread {
+            return true;
+        }
+        self.run_alone(job, job.plan.plan.outputs(), runner, output, gate);
+        false
+    }
+
+    // By several workers. Where it is false no task ran, and each lane has the history that it had.
+    fn run_spread<R: Threads + Wait + Sync, G: Gate + Sync>(
+        &mut self,
+        rt: &R,
+        alloc: Global,
+        job: &Job<'_, '_, '_, PlanCodes<'_>>,
+        crew: &Option<CrewCodes>,
+        runner: &mut TaskRunner,
+        output: &mut [i32],
+        gate: &G,
+    ) -> bool
+        requires may { MayRun (block_of (λ p. parts_of p.plan.now) job.now) self.old runner.old }
+        requires crew { IfSome crew.now (λ c. IsCrewOf job.now.plan.now.plan.now runner.old.tasks.tasks c) }
+        requires there { All (λ l. l < length job.now.plan.now.plan.now.lanes) job.now.plan.now.plan.now.outputs }
+        requires output { length output.old ≡ job.now.frames * length job.now.plan.now.plan.now.outputs }
+        ensures ran { result ≡ true → RanOver runner.old.tasks.tasks (block_of (λ p. parts_of p.plan.now) job.now) self.old self.new
+            runner.new.lines.items job.now.plan.now.plan.now.outputs output.new }
+        ensures left { result ≡ false → opening_of self.new job.now.frames ≡ opening_of self.old job.now.frames }
+        ensures untold { result ≡ false → runner.new.lines.items ≡ [] }
+        ensures lanes { AreSameLanes self.old self.new }
+        ensures runner { IsSameRunner runner.old runner.new }
+    {
+        let Some(crew) = crew else {
+            return false;
+        };
+        // Called for its clause: there is a line for each task.
+        let _vectors = runner.tasks.vectors();
+        let block = SpreadBlock {
+            plan: job.plan.plan,
+            tasks: &runner.tasks,
+            codes: &crew.codes,
+            counts: &crew.counts,
+            shapes: &self.shapes,
+            held: job.held,
+            input: job.input,
+            channels: job.channels,
+            vector: job.vector,
+            frames: job.frames,
+            workers: crew.workers,
+        };
+        run_spread(
+            rt,
+            alloc,
+            &block,
+            self.region.cells(),
+            &mut self.states,
+            &mut runner.lines,
+            output,
+            gate,
+        )
+    }
+
+    // By one worker.
+    fn run_alone<P: Codes, G: Gate>(
         &mut self,
         job: &Job<'_, '_, '_, P>,
         outputs: &[u64],
@@ -41,16 +128,10 @@ impl Lanes {
         output: &mut [i32],
         gate: &G,
     )
-        requires framed { AreFramed (lengths_of self.old.layout) self.old.shapes.items job.now.frames }
-        requires count { length (lengths_of self.old.layout) ≡ (P.parts job.now.plan.now).lanes }
-        requires job { IsJob (block_of P.parts job.now) runner.old.tasks.tasks }
-        requires real { IsReal (block_of P.parts job.now) (opening_of self.old job.now.frames) }
-        requires regs { RegistersFit (P.parts job.now.plan.now) (length runner.old.regs.items) }
-        requires lines { runner.old.lines.items ≡ [] }
+        requires may { MayRun (block_of P.parts job.now) self.old runner.old }
         requires there { All (λ l. l < (P.parts job.now.plan.now).lanes) outputs.now }
         requires output { length output.old ≡ job.now.frames * length outputs.now }
-        ensures ran { Ran runner.old.tasks.tasks (block_of P.parts job.now) (lengths_of self.old.layout) self.old.shapes.items
-            (opening_of self.old job.now.frames) (cells_of self.new.region) self.new.states.items runner.new.lines.items outputs.now output.new }
+        ensures ran { RanOver runner.old.tasks.tasks (block_of P.parts job.now) self.old self.new runner.new.lines.items outputs.now output.new }
         ensures lanes { AreSameLanes self.old self.new }
         ensures runner { IsSameRunner runner.old runner.new }
     {

@@ -1,6 +1,8 @@
-//! The engine: blocks of a plan, by one worker, over one region.
+//! The engine: blocks of a plan, by one worker or by several, over one region.
 #![tactic(auto)]
 
+mod crew;
+mod crew_codes;
 mod engine;
 mod error;
 mod hold;

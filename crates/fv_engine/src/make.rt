@@ -6,7 +6,7 @@ ghost use Rattle.fv_lines.specs.declared.shape.LaneShape.{LaneShape as Shape};
 ghost use Rattle.fv_split_plan.specs.View.{lane_info};
 ghost use Rattle.fv_engine_tasks.specs.Block.{vectors_of};
 ghost use Rattle.fv_engine_tasks.specs.Jobs.{RegistersFit};
-ghost use Rattle.fv_engine.specs.Plans.{parts_of};
+ghost use Rattle.fv_engine_parcels.specs.Contents.{parts_of};
 ghost use Rattle.fv_engine.specs.Made.{AreShapes, AreLanes, IsRunner};
 
 use crate::lanes::Lanes;

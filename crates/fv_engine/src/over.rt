@@ -6,7 +6,7 @@ ghost use Rattle.fv_pool.specs.Lengths.{lengths_of};
 ghost use Rattle.fv_lines.specs.Solo.{AreLists, AreHeld, AreFramed, opening_lanes};
 ghost use Rattle.fv_engine_tasks.specs.Block.{IsReal};
 ghost use Rattle.fv_engine_tasks.specs.Jobs.{IsJob, block_of, RegistersFit};
-ghost use Rattle.fv_engine.specs.inner.Over.{Ran};
+ghost use Rattle.fv_engine_crew.specs.Ran.{Ran};
 ghost use Rattle.fv_engine.specs.inner.Opening.{IsSameRunner};
 
 use crate::runner::TaskRunner;

@@ -40,11 +40,12 @@ fn play_difference<R: Abort + Threads + Wait + Sync, G: Gate + Sync>(
         width: 1,
         block: 512,
         vector: 32,
+        workers: 1,
     };
     let input = [5, 7, 4];
     let mut output = [0; 3];
-    let tasks = play_graph(rt, alloc, &graph, sizes, 3, &input, &mut output, gate)?;
-    Ok((tasks, output))
+    let reported = play_graph(rt, alloc, &graph, sizes, 3, &input, &mut output, gate)?;
+    Ok((reported.tasks, output))
 }
 
 // One block, of which the recorder has just the room: two loops, the second reads the first, and the first has finished before the
@@ -83,6 +84,7 @@ const SMALL: Sizes = Sizes {
     width: 1,
     block: 4,
     vector: 4,
+    workers: 1,
 };
 
 // Plays fives under this control, one or two frames of them.
@@ -153,6 +155,7 @@ fn a_delay_over_blocks(rt: HostRuntime) -> Result<(), Fail> {
         width: 1,
         block: 2,
         vector: 2,
+        workers: 1,
     };
     let mut recorder = Recorder::new(rt.alloc(), 3, 9)?;
     let mut output = [0; 5];
@@ -176,8 +179,10 @@ fn a_delay_over_blocks(rt: HostRuntime) -> Result<(), Fail> {
 #[test]
 fn a_ring_over_blocks(rt: HostRuntime) -> Result<(), Fail> {
     let graph = delayed(rt.alloc(), 20)?;
-    assert_ring(&rt, rt.alloc(), &graph, 1)?;
-    assert_ring(&rt, rt.alloc(), &graph, 3)?;
+    assert_ring(&rt, rt.alloc(), &graph, 1, 1)?;
+    assert_ring(&rt, rt.alloc(), &graph, 3, 1)?;
+    assert_ring(&rt, rt.alloc(), &graph, 1, 2)?;
+    assert_ring(&rt, rt.alloc(), &graph, 3, 2)?;
     Ok(())
 }
 
@@ -187,14 +192,17 @@ fn assert_ring<R: Abort + Threads + Wait + Sync>(
     alloc: Global,
     graph: &Graph,
     block: u32,
+    workers: u32,
 ) -> Result<(), NoMemory>
     requires block { (1 ≤ block) × (block ≤ 4096) }
     requires vector { vectors_of block 1 ≤ 64 }
+    requires workers { (1 ≤ workers) × (workers ≤ 16) }
 {
     let sizes = Sizes {
         width: 1,
         block,
         vector: 1,
+        workers,
     };
     let input = [
         1, 2, 3, 4, 5, 6, 7, 8, 9, 10, 11, 12, 13, 14, 15, 16, 17, 18, 19, 20, 21, 22, 23, 24,
@@ -213,8 +221,57 @@ fn assert_ring<R: Abort + Threads + Wait + Sync>(
     assert_eq!(rt;
         &output[18..],
         [0, 0, 1, 2, 3, 4].as_slice(),
-        "block {block}"
+        "block {block}, workers {workers}"
     );
+    Ok(())
+}
+
+// Squares less the square before each, in vectors of two frames, by one worker and by several.
+#[test]
+fn two_loops_by_several_workers(rt: HostRuntime) -> Result<(), Fail> {
+    let graph = difference(rt.alloc())?;
+    assert_differences(&rt, rt.alloc(), &graph, 1)?;
+    assert_differences(&rt, rt.alloc(), &graph, 2)?;
+    assert_differences(&rt, rt.alloc(), &graph, 3)?;
+    Ok(())
+}
+
+// The samples are 1, 3, 5, 7 .. of each square, and each line of the second loop starts behind the finish of the first one's on its
+// vector; lines stand by their starts.
+fn assert_differences<R: Abort + Threads + Wait + Sync>(
+    rt: &R,
+    alloc: Global,
+    graph: &Graph,
+    workers: u32,
+) -> Result<(), Fail>
+    requires workers { (1 ≤ workers) × (workers ≤ 16) }
+{
+    let sizes = Sizes {
+        width: 1,
+        block: 32,
+        vector: 2,
+        workers,
+    };
+    let input = [1, 4, 9, 16, 25, 36, 49, 64, 81, 100, 121, 144];
+    let mut output = [0; 12];
+    let mut recorder = Recorder::new(alloc, 1, 12)?;
+    let reported = play_graph(rt, alloc, graph, sizes, 12, &input, &mut output, &mut recorder)?;
+    assert_eq!(rt; (reported.tasks, reported.alone), (12, 0), "workers {workers}");
+    assert_eq!(rt; output, [1, 3, 5, 7, 9, 11, 13, 15, 17, 19, 21, 23], "workers {workers}");
+    let Some((_, _, _, lines)) = block_of(&recorder, 0) else {
+        panic!(rt; "no block");
+    };
+    let mut last = 0;
+    for line in lines {
+        assert!(rt; last <= line.start, "workers {workers}");
+        last = line.start;
+        for source in lines {
+            let is_read = line.task.loop_no == 1
+                && source.task.loop_no == 0
+                && source.task.vector == line.task.vector;
+            assert!(rt; !is_read || source.finish < line.start, "workers {workers}");
+        }
+    }
     Ok(())
 }
 
@@ -222,9 +279,19 @@ fn assert_ring<R: Abort + Threads + Wait + Sync>(
 #[test]
 fn echoes_by_each_size(rt: HostRuntime) -> Result<(), Fail> {
     let graph = echo_left(rt.alloc())?;
-    assert_echoes(&rt, rt.alloc(), &graph, 1, 1)?;
-    assert_echoes(&rt, rt.alloc(), &graph, 7, 7)?;
-    assert_echoes(&rt, rt.alloc(), &graph, 512, 32)?;
+    assert_echoes(&rt, rt.alloc(), &graph, 1, 1, 1)?;
+    assert_echoes(&rt, rt.alloc(), &graph, 7, 7, 1)?;
+    assert_echoes(&rt, rt.alloc(), &graph, 512, 32, 1)?;
+    Ok(())
+}
+
+// The same by several workers: no block of theirs is reported as alone.
+#[test]
+fn blocks_that_always_run_alone_are_refused(rt: HostRuntime) -> Result<(), Fail> {
+    let graph = echo_left(rt.alloc())?;
+    assert_echoes(&rt, rt.alloc(), &graph, 7, 7, 2)?;
+    assert_echoes(&rt, rt.alloc(), &graph, 512, 32, 2)?;
+    assert_echoes(&rt, rt.alloc(), &graph, 512, 32, 16)?;
     Ok(())
 }
 
@@ -235,21 +302,24 @@ fn assert_echoes<R: Abort + Threads + Wait + Sync>(
     graph: &Graph,
     block: u32,
     vector: u32,
+    workers: u32,
 ) -> Result<(), NoMemory>
     requires block { (1 ≤ block) × (block ≤ 4096) }
     requires vector { (1 ≤ vector) × (vectors_of block vector ≤ 64) }
+    requires workers { (1 ≤ workers) × (workers ≤ 16) }
 {
     let sizes = Sizes {
         width: 2,
         block,
         vector,
+        workers,
     };
     let mut input = Vec::from_elem(alloc, 0, 44102)?;
     let mut output = Vec::from_elem(alloc, -1, 44102)?;
     input[0] = 1000;
     input[1] = -7;
     let mut counter = Counter::new();
-    let tasks = play_graph(
+    let reported = play_graph(
         rt,
         alloc,
         graph,
@@ -269,11 +339,12 @@ fn assert_echoes<R: Abort + Threads + Wait + Sync>(
         assert_eq!(rt;
             (output[2 * t], output[2 * t + 1]),
             wanted,
-            "frame {t}, block {block}"
+            "frame {t}, block {block}, workers {workers}"
         );
     }
-    assert!(rt; tasks > 0);
-    assert_eq!(rt; counter.tasks(), tasks, "block {block}");
+    assert!(rt; reported.tasks > 0);
+    assert_eq!(rt; reported.alone, 0, "block {block}, workers {workers}");
+    assert_eq!(rt; counter.tasks(), reported.tasks, "block {block}");
     Ok(())
 }
 
@@ -296,6 +367,7 @@ fn lanes_have_parts(rt: HostRuntime) -> Result<(), Fail> {
         width: 1,
         block: 4,
         vector: 2,
+        workers: 1,
     };
     let Some(engine) = engine_of(rt.alloc(), &graph, sizes, 0)? else {
         panic!(rt; "no engine");

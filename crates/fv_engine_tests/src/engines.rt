@@ -16,12 +16,20 @@ use std::process::Abort;
 use std::sync::Wait;
 use std::thread::Threads;
 
-/// How many numbers a frame has, in and out, and how many frames a block and a vector have at most.
+/// How many numbers a frame has, in and out, how many frames a block and a vector have at most, and how many workers run a block.
 #[derive(Clone, Copy)]
 pub(crate) struct Sizes {
     pub(crate) width: u32,
     pub(crate) block: u32,
     pub(crate) vector: u32,
+    pub(crate) workers: u32,
+}
+
+/// How many tasks were reported, and how many blocks that ran alone.
+#[derive(Clone, Copy, PartialEq, Eq, Debug)]
+pub(crate) struct Reported {
+    pub(crate) tasks: u64,
+    pub(crate) alone: u64,
 }
 
 /// An engine of a graph with as many inputs and outputs and so many controls; none where it may not be prepared.
@@ -34,6 +42,7 @@ pub(crate) fn engine_of(
     requires width { sizes.width ≤ 256 }
     requires block { (1 ≤ sizes.block) × (sizes.block ≤ 4096) }
     requires vector { (1 ≤ sizes.vector) × (vectors_of sizes.block sizes.vector ≤ 64) }
+    requires workers { (1 ≤ sizes.workers) × (sizes.workers ≤ 16) }
     ensures { IfOk result (λ e. IfSome e (λ e. IsSquare e sizes.width sizes.block controls)) }
 {
     let rates = rates(alloc, graph)?;
@@ -53,11 +62,11 @@ pub(crate) fn engine_of(
     if long {
         return Ok(None);
     }
-    let engine = Engine::prepare(alloc, plan, sizes.width, 1, sizes.block, sizes.vector)?;
+    let engine = Engine::prepare(alloc, plan, sizes.width, sizes.workers, sizes.block, sizes.vector)?;
     Ok(Some(engine))
 }
 
-/// Runs as many frames as there are in the input, block by block, and says how many tasks were reported.
+/// Runs as many frames as there are in the input, block by block, and says what was reported.
 pub(crate) fn play<R: Threads + Wait + Sync, G: Gate + Sync>(
     rt: &R,
     alloc: Global,
@@ -68,7 +77,7 @@ pub(crate) fn play<R: Threads + Wait + Sync, G: Gate + Sync>(
     input: &[i32],
     output: &mut [i32],
     gate: &mut G,
-) -> u64
+) -> Reported
     requires engine { IsSquare engine.old sizes.width sizes.block (length controls.now) }
     requires block { 1 ≤ sizes.block }
     requires input { length input.now ≡ frames * sizes.width }
@@ -76,7 +85,7 @@ pub(crate) fn play<R: Threads + Wait + Sync, G: Gate + Sync>(
     ensures { IsSquare engine.new sizes.width sizes.block (length controls.now) }
 {
     let width = sizes.width as usize;
-    let mut tasks = 0u64;
+    let mut reported = Reported { tasks: 0, alone: 0 };
     let mut frame = 0u32;
     'playing: while frame < frames {
         let count = sizes.block.min(frames - frame);
@@ -92,13 +101,14 @@ pub(crate) fn play<R: Threads + Wait + Sync, G: Gate + Sync>(
             &mut output[start..end],
             gate,
         );
-        tasks = tasks.wrapping_add(report.tasks);
+        reported.tasks = reported.tasks.wrapping_add(report.tasks);
+        reported.alone = reported.alone.wrapping_add(u64::from(report.alone));
         frame += count;
     }
-    tasks
+    reported
 }
 
-/// Runs a graph without controls, block by block, and says how many tasks were reported.
+/// Runs a graph without controls, block by block, and says what was reported.
 pub(crate) fn play_graph<R: Abort + Threads + Wait + Sync, G: Gate + Sync>(
     rt: &R,
     alloc: Global,
@@ -108,17 +118,18 @@ pub(crate) fn play_graph<R: Abort + Threads + Wait + Sync, G: Gate + Sync>(
     input: &[i32],
     output: &mut [i32],
     gate: &mut G,
-) -> Result<u64, NoMemory>
+) -> Result<Reported, NoMemory>
     requires width { sizes.width ≤ 256 }
     requires block { (1 ≤ sizes.block) × (sizes.block ≤ 4096) }
     requires vector { (1 ≤ sizes.vector) × (vectors_of sizes.block sizes.vector ≤ 64) }
+    requires workers { (1 ≤ sizes.workers) × (sizes.workers ≤ 16) }
     requires input { length input.now ≡ frames * sizes.width }
     requires output { length output.old ≡ frames * sizes.width }
 {
     let Some(mut engine) = engine_of(alloc, graph, sizes, 0)? else {
         panic!(rt; "no engine");
     };
-    let tasks = play(
+    let reported = play(
         rt,
         alloc,
         &mut engine,
@@ -129,5 +140,5 @@ pub(crate) fn play_graph<R: Abort + Threads + Wait + Sync, G: Gate + Sync>(
         output,
         gate,
     );
-    Ok(tasks)
+    Ok(reported)
 }

@@ -24,6 +24,7 @@ invariant_of-result c =
       registers = r.registers;
       held_long = let q = ap (λ (steps : List Step). length steps) c.held.ensures in
           omega (arith, q, c.len.ensures, c.in_ok-held.ensures.len, c.in_ok-held.held.ok.0);
+      crew = c.in_ok-crew.ensures;
       standing = record {
         graph = plan.0;
         plan = plan.1;

@@ -1,7 +1,8 @@
-use Rattle.std.proofs.Common.{◌≡◌, ℕ, ◌<◌, ℤ, List, length, map, All, refl, sym, ap, ◌∙◌, subst, arith}
+use Rattle.std.proofs.Common.{◌≡◌, ℕ, ◌<◌, ℤ, List, length, map, refl, sym, ap, ◌∙◌, subst, arith}
 use Rattle.std.specs.Global.{Vec}
 use Rattle.std.specs.Vec.{with_items}
 use Rattle.std.proofs.lemmas.List.{with_items_is}
+use Rattle.std.specs.Prelude.{IfSome}
 use Rattle.std.proofs.lemmas.Option.{IfSome_then}
 use Rattle.fv_outside.specs.Tasks.{Tasks, reads_loop, task_count}
 use Rattle.fv_outside.specs.Journal.{BlockEntry, IsOrdered}
@@ -12,19 +13,21 @@ use Rattle.fv_pool.specs.Region.{cells_of}
 use Rattle.fv_lines.specs.declared.shape.LaneShape.{LaneShape}
 use Rattle.fv_lines.specs.declared.shape.LaneState.{LaneState}
 use Rattle.fv_engine_tasks.specs.Block.{vectors_of}
-use Rattle.fv_engine.specs.Plans.{held_by, block_from}
+use Rattle.fv_engine.specs.inner.Plans.{held_by, block_from}
 use Rattle.fv_engine.specs.Stands.{EngineView}
 use Rattle.fv_engine.specs.Stored.{view_of}
+use Rattle.fv_engine.specs.Crews.{IsCrewOf}
 use Rattle.fv_engine.specs.Made.{AreShapes, AreTasksOf}
 use Rattle.fv_engine.specs.Told.{tasks_told, IsEntry}
 use Rattle.fv_engine.specs.declared.engine.Engine.TheInside.{Inside}
 use Rattle.fv_engine.specs.declared.lanes.Lanes.{Lanes}
 use Rattle.fv_engine.proofs.Values.{block_in}
 use Rattle.fv_engine.proofs.Goes.{with_state}
+use Rattle.fv_engine.proofs.Crews.{other_vectors}
 use Rattle.fv_engine.proofs.Blocks.{IsCalled, few, framed, count_is, same_block, job, first_is, is_kept, leads_on}
 use Rattle.fv_engine.proofs.Blocks.{still_standing, ordered, counted, outputs_there, many_held, parts_many}
 use Rattle.fv_engine.proofs.engine.Engine.run_block.Given.{Over}
-use Rattle.fv_engine.proofs.engine.Engine.run_block.Goals.{After-set_vectors, After-from, After-run_alone}
+use Rattle.fv_engine.proofs.engine.Engine.run_block.Goals.{After-set_vectors, After-from, After-run-spread}
 use Rattle.fv_engine.proofs.engine.Engine.run_block.Goals as goal
 
 -- the call
@@ -53,16 +56,21 @@ set_vectors-requires-clause-room g c =
       tasks = refl {a = record tasks { tasks = record tasks.tasks { vectors = c.vectors-vectors.result } }};
     })
 
-pub run_alone-requires-clause-framed : goal.run_alone-requires-clause-framed
-run_alone-requires-clause-framed g c = framed (called g (goal.at.run_alone-requires-clause-framed g c).After-set_vectors)
+pub run-spread-requires-clause-there : goal.run-spread-requires-clause-there
+run-spread-requires-clause-there g c κs within =
+    let standing = c.self.invariant.standing in outputs_there standing.graph c.self.inside.plan standing.plan
 
-pub run_alone-requires-clause-count : goal.run_alone-requires-clause-count
-run_alone-requires-clause-count g c = parts_many (called g (goal.at.run_alone-requires-clause-count g c).After-set_vectors)
+-- a crew's codes are the same whatever the number of vectors
+crew_is : (g : Over) (c : After-set_vectors g) (t : Graph) → t ≡ c.set_vectors.new.self.tasks
+    → IfSome c.self.inside.crew (λ x. IsCrewOf c.self.inside.plan t.tasks x)
+crew_is g c t same =
+    let inside = c.self.inside in let p = inside.plan in
+    IfSome_then inside.crew c.self.invariant.crew
+    (λ x h. subst (λ (n : Graph). IsCrewOf p n.tasks x) (sym (same ∙ c.set_vectors.ensures.tasks))
+    (other_vectors p inside.runner.tasks.tasks c.vectors-vectors.result x h))
 
-pub run_alone-requires-clause-there : goal.run_alone-requires-clause-there
-run_alone-requires-clause-there g c =
-    let inside = c.self.inside in let standing = c.self.invariant.standing in
-    subst (λ (xs : List ℕ). All (λ l. l < length inside.plan.lanes) xs) (sym c.outputs-outputs.ensures) (outputs_there standing.graph inside.plan standing.plan)
+pub run-spread-requires-clause-crew : goal.run-spread-requires-clause-crew
+run-spread-requires-clause-crew g c κs within = crew_is g (goal.at.run-spread-requires-clause-crew g c).After-set_vectors c.set_vectors.new.self.tasks refl
 
 -- what the block is handed
 module _ (g : Over) (c : After-from g) where
@@ -76,29 +84,34 @@ module _ (g : Over) (c : After-from g) where
       ≡ block_in (view_of inside) c.args.frames c.args.controls.now c.args.input.now
   block_is = same_block inside c.args.frames c.args.input.now c.args.controls.now c.from.ensures (c.deref.ensures.value ∙ held_is)
 
-pub run_alone-requires-clause-job : goal.run_alone-requires-clause-job
-run_alone-requires-clause-job g c =
-    let d = goal.at.run_alone-requires-clause-job g c in job (called g d.After-set_vectors) (block_is g d.After-from)
-
-pub run_alone-requires-clause-real : goal.run_alone-requires-clause-real
-run_alone-requires-clause-real g c =
-    let d = goal.at.run_alone-requires-clause-real g c in first_is (called g d.After-set_vectors) (block_is g d.After-from)
+pub run-spread-requires-clause-may : goal.run-spread-requires-clause-may
+run-spread-requires-clause-may g c κs within =
+    let d = goal.at.run-spread-requires-clause-may g c in let call = called g d.After-set_vectors in let b = block_is g d.After-from in
+    record {
+      framed = framed call;
+      count = parts_many call;
+      job = job call b;
+      real = first_is call b;
+      registers = λ j l. let q = c.self.invariant.registers j l in let r = ap (λ (v : Vec ℤ). length v.items) c.set_vectors.ensures.regs in
+          omega (arith, q, r);
+      untold = c.set_vectors.ensures.lines;
+    }
 
 -- what it leaves
-module _ (g : Over) (c : After-run_alone g) where
+module _ (g : Over) (c : After-run-spread g) where
   abbrev old : Inside
   old = c.self.inside
 
   abbrev new : Lanes
-  new = c.run_alone.new.self
+  new = c.run-spread.new.self
 
-  is_told : c.run_alone.new.runner.tasks ≡ record old.runner.tasks { tasks = record old.runner.tasks.tasks { vectors = c.vectors-vectors.result } }
-  is_told = c.run_alone.ensures.runner.tasks ∙ c.set_vectors.ensures.tasks
+  is_told : c.run-spread.new.runner.tasks ≡ record old.runner.tasks { tasks = record old.runner.tasks.tasks { vectors = c.vectors-vectors.result } }
+  is_told = c.run-spread.ensures.runner.tasks ∙ c.set_vectors.ensures.tasks
 
   shapes : AreShapes old.plan old.sizes.block new.shapes.items
-  shapes = subst (λ (v : Vec LaneShape). AreShapes old.plan old.sizes.block v.items) (sym c.run_alone.ensures.lanes.shapes) c.self.invariant.shapes
+  shapes = subst (λ (v : Vec LaneShape). AreShapes old.plan old.sizes.block v.items) (sym c.run-spread.ensures.lanes.shapes) c.self.invariant.shapes
 
-  tasks_are : AreTasksOf old.plan (vectors_of old.sizes.block old.sizes.vector) c.run_alone.new.runner.tasks
+  tasks_are : AreTasksOf old.plan (vectors_of old.sizes.block old.sizes.vector) c.run-spread.new.runner.tasks
   tasks_are =
       let before = c.self.invariant.tasks_are in
       record {
@@ -109,33 +122,34 @@ module _ (g : Over) (c : After-run_alone g) where
 
 pub invariant_of-self : goal.invariant_of-self
 invariant_of-self g c =
-    let d = goal.at.invariant_of-self g c in let b = d.After-from in let o = d.After-run_alone in let inv = c.self.invariant in
+    let d = goal.at.invariant_of-self g c in let b = d.After-from in let o = d.After-run-spread in let inv = c.self.invariant in
     let call = called g d.After-set_vectors in
     record {
       sizes = inv.sizes;
       shapes = shapes g o;
       tasks_are = tasks_are g o;
       registers = λ j l. let q = inv.registers j l in let r = ap (λ (v : Vec ℤ). length v.items) c.set_vectors.ensures.regs in
-          omega (arith, q, r, c.run_alone.ensures.runner.regs);
+          omega (arith, q, r, c.run-spread.ensures.runner.registers);
       held_long = ap length (held_is g b) ∙ many_held call;
-      standing = still_standing call (block_is g b) c.run_alone.ensures.lanes c.outputs-outputs.ensures c.run_alone.ensures.ran;
+      crew = crew_is g d.After-set_vectors c.run-spread.new.runner.tasks c.run-spread.ensures.runner.tasks;
+      standing = still_standing call (block_is g b) c.run-spread.ensures.lanes c.run-spread.ensures.ran;
     }
 
 pub returns-clause-same : goal.returns-clause-same
 returns-clause-same g c =
-    let d = goal.at.returns-clause-same g c in let lanes = c.run_alone.new.self in
-    let kept = is_kept (called g d.After-set_vectors) (block_is g d.After-from) c.run_alone.ensures.lanes c.outputs-outputs.ensures c.run_alone.ensures.ran in
+    let d = goal.at.returns-clause-same g c in let lanes = c.run-spread.new.self in
+    let kept = is_kept (called g d.After-set_vectors) (block_is g d.After-from) c.run-spread.ensures.lanes c.run-spread.ensures.ran in
     sym kept ∙ ap (λ (x : EngineView). with_state x (cells_of lanes.region) (map (λ (s : LaneState). s.start) lanes.states.items)) c.self.view_is
 
 pub returns-clause-goes_on : goal.returns-clause-goes_on
 returns-clause-goes_on g c =
     let d = goal.at.returns-clause-goes_on g c in
-    leads_on (called g d.After-set_vectors) (block_is g d.After-from) c.run_alone.ensures.lanes c.outputs-outputs.ensures c.run_alone.ensures.ran
+    leads_on (called g d.After-set_vectors) (block_is g d.After-from) c.run-spread.ensures.lanes c.run-spread.ensures.ran
 
 pub returns-clause-told : goal.returns-clause-told
 returns-clause-told g c =
     let d = goal.at.returns-clause-told g c in let call = called g d.After-set_vectors in let b = block_is g d.After-from in
-    let same = c.run_alone.ensures.lanes in let ran = c.run_alone.ensures.ran in
+    let same = c.run-spread.ensures.lanes in let ran = c.run-spread.ensures.ran in
     let inside = c.self.inside in let wanted = tasks_told (view_of inside) c.args.frames in
     let said : Tasks = record { loops = c.loops.result; vectors = c.vectors-vectors.result; reads = c.reads.result.now } in
     let is_same : said ≡ wanted =
@@ -144,9 +158,9 @@ returns-clause-told g c =
     ∙ ap (λ (r : List Reads). record { loops = inside.plan.loops; vectors = vectors_of c.args.frames inside.sizes.vector; reads = r }) c.reads.ensures in
     let in_order : IsOrdered said c.deref-2.result.now =
     subst (λ (x : Tasks). IsOrdered x c.deref-2.result.now) (sym is_same)
-    (subst (λ (x : List Line). IsOrdered wanted x) (sym c.deref-2.ensures.value) (ordered call b same c.outputs-outputs.ensures ran)) in
+    (subst (λ (x : List Line). IsOrdered wanted x) (sym c.deref-2.ensures.value) (ordered call b same ran)) in
     let count : length c.deref-2.result.now ≡ task_count said =
-    ap length c.deref-2.ensures.value ∙ counted call b same c.outputs-outputs.ensures ran ∙ sym (ap task_count is_same) in
+    ap length c.deref-2.ensures.value ∙ counted call b same ran ∙ sym (ap task_count is_same) in
     let entry : BlockEntry = record { tasks = said; lines = c.deref-2.result.now } in
     let is_entry : IsEntry c.args.self.now c.args.frames entry =
     record { tasks = is_same ∙ ap (λ (x : EngineView). tasks_told x c.args.frames) c.self.view_is; ordered = in_order; counted = count } in
@@ -154,5 +168,5 @@ returns-clause-told g c =
 
 pub returns-clause-tasks : goal.returns-clause-tasks
 returns-clause-tasks g c =
-    c.len.ensures.value ∙ ap (λ (t : Graph). task_count t.tasks) c.run_alone.ensures.runner.tasks
+    c.len.ensures.value ∙ ap (λ (t : Graph). task_count t.tasks) c.run-spread.ensures.runner.tasks
     ∙ count_is (called g (goal.at.returns-clause-tasks g c).After-set_vectors)

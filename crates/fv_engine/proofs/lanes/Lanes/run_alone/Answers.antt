@@ -9,7 +9,7 @@ use Rattle.fv_lines.specs.declared.shape.LaneShape.{LaneShape}
 use Rattle.fv_lines.specs.declared.shape.LaneState.{LaneState}
 use Rattle.fv_engine_tasks.specs.Block.{Block, IsReal}
 use Rattle.fv_engine_tasks.specs.Jobs.{block_of}
-use Rattle.fv_engine.specs.inner.Over.{Ran}
+use Rattle.fv_engine_crew.specs.Ran.{Ran}
 use Rattle.fv_engine.specs.declared.lanes.Lanes.{Lanes}
 use Rattle.fv_engine.proofs.lanes.Lanes.run_alone.Given.{Over}
 use Rattle.fv_engine.proofs.lanes.Lanes.run_alone.Goals.{After-over}
@@ -27,7 +27,7 @@ over-requires-clause-real g c =
     let b = block_of g.P.Codes.parts c.args.job.now in
     subst (λ (x : List LaneShape). IsReal b (lanes_alone (opening_lanes lengths x c.deref_mut.result.now n c.cells.result.now))) (sym c.deref.ensures.value)
     (subst (λ (x : List LaneState). IsReal b (lanes_alone (opening_lanes lengths l.shapes.items x n c.cells.result.now))) (sym c.deref_mut.ensures.value)
-    (subst (λ (x : List ℤ). IsReal b (lanes_alone (opening_lanes lengths l.shapes.items l.states.items n x))) (sym c.cells.ensures.value) c.requires.real))
+    (subst (λ (x : List ℤ). IsReal b (lanes_alone (opening_lanes lengths l.shapes.items l.states.items n x))) (sym c.cells.ensures.value) c.requires.may.real))
 
 -- what it leaves
 module _ (g : Over) (c : After-over g) where
@@ -75,7 +75,7 @@ returns-clause-ran g c =
     let n = c.args.job.now.frames in let b : Block = block_of g.P.Codes.parts c.args.job.now in let new = c.over.new in
     let ran : List LaneShape → State → List ℤ → List LaneState → Type 0 =
     λ shapes first cells states.
-        Ran c.args.runner.now.tasks.tasks b lengths shapes first cells states new.runner.lines.items c.args.outputs.now new.output in
+    Ran c.args.runner.now.tasks.tasks b lengths shapes first cells states new.runner.lines.items c.args.outputs.now new.output in
     let opened : List LaneShape → List LaneState → List ℤ → State = λ shapes states cells. lanes_alone (opening_lanes lengths shapes states n cells) in
     subst (λ (x : List ℤ). ran l.shapes.items (opened l.shapes.items l.states.items (cells_of l.region)) x (states g o)) (sym (cells_are g o))
     (subst (λ (x : List LaneState). ran l.shapes.items (opened l.shapes.items l.states.items (cells_of l.region)) new.cells x) (sym (states_are g o))

@@ -3,12 +3,9 @@ use Rattle.std.specs.Prelude.{ℕ, ◌<◌, List, [], length, ℤ, pos}
 use Rattle.fv_num.specs.Words.{argument}
 use Rattle.fv_loopcode.specs.State.{lanes_alone}
 use Rattle.fv_loopcode.specs.Code.{registers_after, NamesHeld, NamesInput}
-use Rattle.fv_split_plan.specs.View.{PlanView, lane_info, code_of, loops_of}
-use Rattle.fv_engine_tasks.specs.Block.{Parts, Block}
-
--- what a block needs of a plan
-abbrev pub parts_of : PlanView → Parts
-parts_of p = record { count = p.loops; lanes = length p.lanes; history = λ l. (lane_info p l).history; loops = loops_of p }
+use Rattle.fv_split_plan.specs.View.{PlanView, code_of}
+use Rattle.fv_engine_tasks.specs.Block.{Block}
+use Rattle.fv_engine_parcels.specs.Contents.{parts_of}
 
 -- a block of a plan
 abbrev pub block_from : PlanView → (vector frames channels : ℕ) → (held input : List ℤ) → Block

@@ -1,0 +1,12 @@
+-- What several workers need of a plan (this project's profile).
+use Rattle.std.specs.Prelude.{ℕ, ◌≤◌}
+use Rattle.fv_outside.specs.Tasks.{Tasks}
+use Rattle.fv_split_plan.specs.View.{PlanView}
+use Rattle.fv_engine_codes.specs.Codes.{AreLocalCodes, AreLaneCounts}
+use Rattle.fv_engine.specs.declared.crew_codes.CrewCodes.{CrewCodes}
+
+-- the codes of the plan's loops over the lanes that they see, how many these are, and 1 to 16 workers
+pub record IsCrewOf (p : PlanView) (g : Tasks) (c : CrewCodes) : Type 0 where
+  pub codes : AreLocalCodes p g c.codes.items
+  pub counts : AreLaneCounts p g c.counts.items
+  pub workers : (1 ≤ c.workers) × (c.workers ≤ 16)

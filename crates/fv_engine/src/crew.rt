@@ -1,0 +1,34 @@
+// What several workers need of a plan.
+
+ghost use Rattle.std.specs.Prelude.{◌≤◌, IfOk, IfSome};
+ghost use Rattle.fv_engine_codes.specs.Codes.{AreOfPlan};
+ghost use Rattle.fv_engine.specs.Crews.{IsCrewOf};
+
+use crate::crew_codes::CrewCodes;
+use fv_engine_codes::{lane_counts, local_codes};
+use fv_graph::Tasks;
+use fv_split_plan::Plan;
+use std::alloc::{AllocError, Global};
+
+/// What so many workers need of a plan. One worker, and a plan of one loop, of which no two tasks can run at once, need nothing.
+pub(crate) fn crew_for(
+    alloc: Global,
+    plan: &Plan,
+    tasks: &Tasks,
+    workers: u32,
+) -> Result<Option<CrewCodes>, AllocError>
+    requires of_plan { AreOfPlan plan.now tasks.now.tasks }
+    requires workers { (1 ≤ workers) × (workers ≤ 16) }
+    ensures { IfOk result (λ crew. IfSome crew (λ c. IsCrewOf plan.now tasks.now.tasks c)) }
+{
+    if workers == 1 || plan.loops() == 1 {
+        return Ok(None);
+    }
+    let codes = local_codes(alloc, plan, tasks)?;
+    let counts = lane_counts(alloc, plan, tasks)?;
+    Ok(Some(CrewCodes {
+        codes,
+        counts,
+        workers,
+    }))
+}

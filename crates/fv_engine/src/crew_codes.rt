@@ -1,0 +1,12 @@
+// What several workers keep of a plan.
+
+use fv_engine_codes::LaneCount;
+use fv_loopcode::Code;
+
+/// The code of each loop over the lanes that it sees, how many these are, and how many workers run a block.
+#[derive(Drop)]
+pub(crate) struct CrewCodes {
+    pub(crate) codes: Vec<Code>,
+    pub(crate) counts: Vec<LaneCount>,
+    pub(crate) workers: u32,
+}
