@@ -1,20 +1,17 @@
 -- Samples that were heard, and more behind them.
-use Rattle.std.proofs.Common.{◌≡◌, ℕ, zero, suc, ◌+◌, ◌-◌, ◌*◌, ◌/◌, ◌≤◌, List, [], ◌∷◌, ◌++◌, length, drop, refl, sym, ap, ap₂, subst, ◌∙◌, arith}
+use Rattle.std.proofs.Common.{◌≡◌, ℕ, zero, suc, ◌+◌, ◌-◌, ◌*◌, ◌/◌, ◌≤◌, List, [], ◌∷◌, ◌++◌, length, take, drop, refl, sym, ap, ap₂, subst, ◌∙◌, arith}
 use Rattle.std.proofs.Common.{◌<◌, ◌^◌, true, append_assoc, length-append, length-drop, ℤ}
 use Rattle.std.proofs.Math.Nat.{add-mul}
-use Rattle.std.proofs.lemmas.List.{append-nil, drop-drop, drop_at}
+use Rattle.std.proofs.lemmas.List.{append-nil, drop-drop, drop_at, length-take-le, take-append-drop}
 use Rattle.fv_base.proofs.Lists.{table_same}
 use Rattle.fv_num.specs.Words.{is_sample_width}
 use Rattle.fv_num.specs.Frames.{table}
 use Rattle.fv_pcm.proofs.Widths.{at_width}
-use Rattle.fv_pcm.specs.Coded.{sample_at}
 use Rattle.fv_pcm.specs.declared.coding.Coding.{Coding}
-use Rattle.fv_pcm.specs.declared.coding.Coding.TheVariants as coding
-use Rattle.fv_pcm.specs.Coded.{sample_of}
-use Rattle.fv_wav.specs.Samples.{samples_in}
-use Rattle.fv_wav_tape.specs.Tapes.{AreTaken}
+use Rattle.fv_pcm.specs.Coded.{sample_of, sample_at, samples_in}
+use Rattle.fv_file_tape.specs.Tapes.{AreTaken}
 
-table_add : {A : Type 0} (n m : ℕ) (g : ℕ → A) → table (n + m) g ≡ table n g ++ table m (λ u. g (n + u))
+pub table_add : {A : Type 0} (n m : ℕ) (g : ℕ → A) → table (n + m) g ≡ table n g ++ table m (λ u. g (n + u))
 table_add n zero g = let e : n + 0 ≡ n = omega arith in ap (λ k. table k g) e ∙ sym (append-nil (table n g))
 table_add n (suc m) g =
     let e : n + suc m ≡ suc (n + m) = omega arith in
@@ -28,15 +25,17 @@ sample_behind c bits a u bytes =
     ap (sample_of c bits) (drop-drop (u * (bits / 8)) (a * (bits / 8)) bytes ∙ ap (λ (n : ℕ). drop n bytes) at)
 
 -- the samples that were heard, and more behind them
-samples_more : (bits n m : ℕ) (bytes : List ℕ) → samples_in bits n bytes ++ samples_in bits m (drop (n * (bits / 8)) bytes) ≡ samples_in bits (n + m) bytes
-samples_more bits n m bytes =
-    ap (λ xs. samples_in bits n bytes ++ xs) (table_same m _ _ (λ u l. sample_behind coding.Wave bits n u bytes))
-    ∙ sym (table_add n m (sample_at coding.Wave bits bytes))
+samples_more : (c : Coding) (bits n m : ℕ) (bytes : List ℕ)
+    → samples_in c bits n bytes ++ samples_in c bits m (drop (n * (bits / 8)) bytes) ≡ samples_in c bits (n + m) bytes
+samples_more c bits n m bytes =
+    ap (λ xs. samples_in c bits n bytes ++ xs) (table_same m _ _ (λ u l. sample_behind c bits n u bytes))
+    ∙ sym (table_add n m (sample_at c bits bytes))
 
 -- more was heard
-pub taken_more : {bits : ℕ} {h piece : List ℤ} {before mid after : List ℕ} (taken : List ℕ) → AreTaken bits h before mid → mid ≡ taken ++ after
-    → length taken ≡ length piece * (bits / 8) → piece ≡ samples_in bits (length piece) mid → AreTaken bits (h ++ piece) before after
-taken_more {bits} {h} {piece} {before} {mid} {after} taken i split long are =
+pub taken_more : {c : Coding} {bits : ℕ} {h piece : List ℤ} {before mid after : List ℕ} (taken : List ℕ) → AreTaken c bits h before mid
+    → mid ≡ taken ++ after → length taken ≡ length piece * (bits / 8) → piece ≡ samples_in c bits (length piece) mid
+    → AreTaken c bits (h ++ piece) before after
+taken_more {c} {bits} {h} {piece} {before} {mid} {after} taken i split long are =
     let n = length h in let m = length piece in let s = bits / 8 in
     let all : length (h ++ piece) ≡ n + m = length-append h piece in
     let sum : (n + m) * s ≡ n * s + m * s = add-mul n m s in
@@ -46,16 +45,28 @@ taken_more {bits} {h} {piece} {before} {mid} {after} taken i split long are =
     let cut : length mid ≡ length taken + length after = ap length split ∙ length-append taken after in
     let tail : drop (m * s) mid ≡ after = ap (drop (m * s)) split ∙ drop_at taken after (m * s) long in
     record {
-      are = ap₂ (λ (a b : List ℤ). a ++ b) i.are (are ∙ ap (samples_in bits m) rest) ∙ samples_more bits n m before
-          ∙ ap (λ k. samples_in bits k before) (sym all);
+      are = ap₂ (λ (a b : List ℤ). a ++ b) i.are (are ∙ ap (samples_in c bits m) rest) ∙ samples_more c bits n m before
+          ∙ ap (λ k. samples_in c bits k before) (sym all);
       there = subst (λ k. k * s ≤ length before) (sym all) (omega (arith, sum, left, cut, long, there));
       rest = sym tail ∙ ap (drop (m * s)) rest ∙ drop-drop (m * s) (n * s) before ∙ ap (λ k. drop k before) (sym sum)
           ∙ ap (λ k. drop (k * s) before) (sym all);
     }
 
+-- the same from bytes that are at hand
+pub taken_next : {c : Coding} {bits : ℕ} {h piece : List ℤ} {bytes : List ℕ} → AreTaken c bits h bytes (drop (length h * (bits / 8)) bytes)
+    → length h * (bits / 8) + length piece * (bits / 8) ≤ length bytes → piece ≡ samples_in c bits (length piece) (drop (length h * (bits / 8)) bytes)
+    → AreTaken c bits (h ++ piece) bytes (drop (length (h ++ piece) * (bits / 8)) bytes)
+taken_next {c} {bits} {h} {piece} {bytes} i there are =
+    let n = length h in let m = length piece in let s = bits / 8 in
+    let mid = drop (n * s) bytes in
+    let left : length mid ≡ length bytes - n * s = length-drop (n * s) bytes in
+    let long : length (take (m * s) mid) ≡ m * s = length-take-le (m * s) mid (omega (arith, left, there)) in
+    let more = taken_more (take (m * s) mid) i (sym (take-append-drop (m * s) mid)) long are in
+    record { are = more.are; there = more.there; rest = refl }
+
 -- nothing was
-pub taken_nothing : (bits : ℕ) (bytes after : List ℕ) → after ≡ bytes → AreTaken bits [] bytes after
-taken_nothing bits bytes after same =
+pub taken_nothing : (c : Coding) (bits : ℕ) (bytes after : List ℕ) → after ≡ bytes → AreTaken c bits [] bytes after
+taken_nothing c bits bytes after same =
     let z : 0 * (bits / 8) ≡ 0 = omega arith in
     record { are = refl; there = omega (arith, z); rest = same ∙ ap (λ k. drop k bytes) (sym z) }
 
@@ -74,7 +85,3 @@ room_is n most w size long all few is room =
 pub no_samples : (xs : List ℤ) → length xs ≡ 0 → xs ≡ []
 no_samples [] h = refl
 no_samples (x ∷ xs) h = absurd (omega arith)
-
--- a frame's bytes fit their type
-pub frame_fits : (channels bits : ℕ) → channels ≤ 256 → is_sample_width bits ≡ true → channels * (bits / 8) < 2 ^ 32
-frame_fits channels bits few wide = at_width (λ b. channels * (b / 8) < 2 ^ 32) bits wide (omega (arith, few)) (omega (arith, few)) (omega (arith, few)) (omega (arith, few))

@@ -1,0 +1,8 @@
+//! An input and an output, a WAV or an AU file each, as a tape over a desk: a run hears of one and says to the other, some frames at a time.
+#![tactic(auto)]
+
+mod file_tape;
+mod samples;
+
+pub use file_tape::{FileTape, OutputHead, Stop};
+pub use samples::InputSamples;
