@@ -28,7 +28,7 @@ fn the_noise_of_one_voice(rt: HostRuntime) -> Result<(), Fail> {
     let mut noise = Noise { state: 1, sum: 0 };
     let mut frames = [0; 4];
     assert!(rt; two_by_two(&mut noise, &mut frames));
-    assert_eq!(rt; frames[..3].as_slice(), [16838, -27010, 10113].as_slice());
+    assert_eq!(rt; &frames[..3], [16838, -27010, 10113].as_slice());
     assert_eq!(rt; noise.sum, 0);
     Ok(())
 }
