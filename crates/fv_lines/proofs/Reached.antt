@@ -57,12 +57,12 @@ reached s i x n sound l size =
       );
     }
 
--- a number that was less than f, and is one more
-pub counted : (w : List ℕ) (i j f : ℕ) → i < length w → slice_index w i < f → slice_index w j ≤ f
-    → slice_index (set w i (slice_index w i + 1)) j ≤ f
-counted w i j f l less le = elim (same_or_not i j) [
+-- a number that is so many more, and no more than f
+pub counted : (w : List ℕ) (i j n f : ℕ) → i < length w → slice_index w i + n ≤ f → slice_index w j ≤ f
+    → slice_index (set w i (slice_index w i + n)) j ≤ f
+counted w i j n f l less le = elim (same_or_not i j) [
   | inl e ↦
-      subst (λ (k : ℕ). slice_index (set w i (slice_index w i + 1)) k ≤ f) (sym e)
-      (omega (arith, get_or-set_same w i (slice_index w i + 1) 0 l, less))
-  | inr ne ↦ omega (arith, get_or-set_other w i j (slice_index w i + 1) 0 ne, le)
+      subst (λ (k : ℕ). slice_index (set w i (slice_index w i + n)) k ≤ f) (sym e)
+      (omega (arith, get_or-set_same w i (slice_index w i + n) 0 l, less))
+  | inr ne ↦ omega (arith, get_or-set_other w i j (slice_index w i + n) 0 ne, le)
 ]

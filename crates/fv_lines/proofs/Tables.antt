@@ -1,13 +1,15 @@
 -- Tables, one number for another.
 use Rattle.std.proofs.Common.{◌≡◌, ◌≢◌, ◌+◌, ◌-◌, ◌<◌, ◌≤◌, ◌++◌, [], ◌∷◌, zero, suc, length, take, drop, List, ℕ, ℤ, get_or, set, map}
-use Rattle.std.proofs.Common.{sym, ap, ap₂, ◌∙◌, arith, ◌⊎◌, inl, inr}
-use Rattle.std.proofs.lemmas.List.{ext_get_or, get_or-set_same, get_or-set_other, get_or-map, length-set, length-map, map-set, drop-drop}
+use Rattle.std.proofs.Common.{sym, ap, ap₂, ◌∙◌, arith, ◌⊎◌, inl, inr, append-nil, pos}
+use mathlib.Core.List.{append_assoc}
+use Rattle.std.proofs.lemmas.List.{ext_get_or, get_or-set_same, get_or-set_other, get_or-map, length-set, length-map, map-set, drop-drop, take_more, take_all}
 use Rattle.std.proofs.lemmas.Bool.{cases_lt}
 use Rattle.std.specs.Prelude.{sum, slice_index}
 use borrow.Rule.Slice.PartMut.{put_mid}
 use Rattle.fv_base.specs.Lists.{table}
 use Rattle.fv_base.proofs.Lists.{length_table, get_or_table}
-use Rattle.fv_loopcode.specs.Lanes.{Lane, appended}
+use Rattle.fv_num.specs.Words.{argument}
+use Rattle.fv_loopcode.specs.Lanes.{Lane, appended, all_appended}
 use Rattle.fv_pool.specs.Layout.{part}
 use Rattle.fv_lines.specs.Hold.{from_start}
 use Rattle.fv_lines.specs.Solo.{history_at, block_at, len_at, start_at, first_at, held_from}
@@ -57,46 +59,64 @@ items_in t j = held_from t.lengths (first_at t.shapes t.states j) (count_in t j)
 abbrev pub lane_in : Lists → ℕ → Lane
 lane_in t j = record { history = history_at t.shapes j; items = items_in t j; room = t.frames - slice_index t.written j }
 
--- the lists after lane i's part became these cells, with one sample more
-abbrev pub with_one : Lists → ℕ → List ℤ → Lists
-with_one t i new = record {
+-- the lists after lane i's part became these cells, with so many samples more
+abbrev pub with_more : Lists → ℕ → List ℤ → ℕ → Lists
+with_more t i new n = record {
   lengths = t.lengths;
   shapes = t.shapes;
   states = t.states;
-  written = set t.written i (slice_index t.written i + 1);
+  written = set t.written i (slice_index t.written i + n);
   frames = t.frames;
   cells = with_part t.lengths t.cells i new;
 }
 
--- these cells of lane i's part hold its samples and one more
-pub record Grows (t : Lists) (i : ℕ) (new : List ℤ) (v : ℤ) : Type 0 where
+-- these cells of lane i's part hold its samples and these values
+pub record Grows (t : Lists) (i : ℕ) (new values : List ℤ) : Type 0 where
   pub new_part : IsNewPart t.lengths i t.cells new
   pub written_long : length t.written ≡ length t.lengths
-  pub grown : take (count_in t i + 1) (from_start (first_at t.shapes t.states i) new) ≡ items_in t i ++ v ∷ []
+  pub grown : take (count_in t i + length values) (from_start (first_at t.shapes t.states i) new) ≡ items_in t i ++ values
 
 abbrev pub made : ℕ → List ℤ → ℕ → Lane
 made h xs r = record { history = h; items = xs; room = r }
 
-made_one : (h f w w' : ℕ) (xs ys : List ℤ) (v : ℤ) → ys ≡ xs ++ v ∷ [] → w' ≡ w + 1 → made h ys (f - w') ≡ appended (made h xs (f - w)) v
-made_one h f w w' xs ys v e k = ap₂ (made h) e (let q : f - w' ≡ f - w - 1 = omega (arith, k) in q)
+-- a lane with the first n of these values more
+first_appended : (h r : ℕ) (xs values : List ℤ) (n : ℕ) → n ≤ length values
+    → all_appended (made h xs r) (argument values) n ≡ made h (xs ++ take n values) (r - n)
+first_appended h r xs values zero l = ap₂ (made h) (sym (append-nil xs)) (let e : r ≡ r - 0 = omega arith in e)
+first_appended h r xs values (suc n) l =
+    let next : take (n + 1) values ≡ take n values ++ argument values n ∷ [] = take_more values n (pos 0) (omega (arith, l)) in
+    let more : n + 1 ≡ suc n = omega arith in
+    ap (λ (x : Lane). appended x (argument values n)) (first_appended h r xs values n (omega (arith, l)))
+    ∙ ap₂ (made h)
+    (append_assoc xs (take n values) (argument values n ∷ []) ∙ ap (λ (ys : List ℤ). xs ++ ys) (sym next) ∙ ap (λ (k : ℕ). xs ++ take k values) more)
+    (let e : r - n - 1 ≡ r - suc n = omega arith in e)
 
-pub one_more : (t : Lists) (i : ℕ) (new : List ℤ) (v : ℤ) → Grows t i new v
-    → table (length t.lengths) (lane_in (with_one t i new)) ≡ set (table (length t.lengths) (lane_in t)) i (appended (lane_in t i) v)
-one_more t i new v one =
-    let more : Lists = with_one t i new in
-    let count : slice_index more.written i ≡ slice_index t.written i + 1 =
-    get_or-set_same t.written i (slice_index t.written i + 1) 0 (omega (arith, one.new_part.there, one.written_long)) in
-    let longer : count_in more i ≡ count_in t i + 1 = omega (arith, count) in
-    table_set (length t.lengths) i (lane_in t) (lane_in more) (appended (lane_in t i) v) one.new_part.there
-    (made_one (history_at t.shapes i) t.frames (slice_index t.written i) (slice_index more.written i) (items_in t i) (items_in more i) v
-    (ap (λ (xs : List ℤ). take (count_in more i) (from_start (first_at t.shapes t.states i) xs))
-    (part_written one.new_part)
-    ∙ ap (λ (n : ℕ). take n (from_start (first_at t.shapes t.states i) new)) longer ∙ one.grown) count)
+made_more : (h f w w' : ℕ) (xs ys values : List ℤ) → ys ≡ xs ++ values → w' ≡ w + length values
+    → made h ys (f - w') ≡ all_appended (made h xs (f - w)) (argument values) (length values)
+made_more h f w w' xs ys values e k =
+    ap₂ (made h) (e ∙ ap (λ (zs : List ℤ). xs ++ zs) (sym (take_all (length values) values (omega arith))))
+    (let q : f - w' ≡ f - w - length values = omega (arith, k) in q)
+    ∙ sym (first_appended h (f - w) xs values (length values) (omega arith))
+
+pub more : (t : Lists) (i : ℕ) (new values : List ℤ) → Grows t i new values
+    → table (length t.lengths) (lane_in (with_more t i new (length values)))
+    ≡ set (table (length t.lengths) (lane_in t)) i (all_appended (lane_in t i) (argument values) (length values))
+more t i new values grows =
+    let n : ℕ = length values in
+    let after : Lists = with_more t i new n in
+    let count : slice_index after.written i ≡ slice_index t.written i + n =
+    get_or-set_same t.written i (slice_index t.written i + n) 0 (omega (arith, grows.new_part.there, grows.written_long)) in
+    let longer : count_in after i ≡ count_in t i + n = omega (arith, count) in
+    table_set (length t.lengths) i (lane_in t) (lane_in after) (all_appended (lane_in t i) (argument values) n) grows.new_part.there
+    (made_more (history_at t.shapes i) t.frames (slice_index t.written i) (slice_index after.written i) (items_in t i) (items_in after i) values
+    (ap (λ (xs : List ℤ). take (count_in after i) (from_start (first_at t.shapes t.states i) xs))
+    (part_written grows.new_part)
+    ∙ ap (λ (m : ℕ). take m (from_start (first_at t.shapes t.states i) new)) longer ∙ grows.grown) count)
     (λ j k ne.
-    let other : slice_index more.written j ≡ slice_index t.written j = get_or-set_other t.written i j (slice_index t.written i + 1) 0 ne in
-    ap₂ (λ (n : ℕ) (xs : List ℤ). made (history_at t.shapes j)
-    (take (history_at t.shapes j + n) (from_start (first_at t.shapes t.states j) xs)) (t.frames - n))
-    other (part_kept one.new_part j ne k))
+    let other : slice_index after.written j ≡ slice_index t.written j = get_or-set_other t.written i j (slice_index t.written i + n) 0 ne in
+    ap₂ (λ (m : ℕ) (xs : List ℤ). made (history_at t.shapes j)
+    (take (history_at t.shapes j + m) (from_start (first_at t.shapes t.states j) xs)) (t.frames - m))
+    other (part_kept grows.new_part j ne k))
 
 pub start_is : (states : List LaneState) (i : ℕ) (d : LaneState) → i < length states → start_at states i ≡ (get_or states i d).start
 start_is states i d l = get_or-map (λ (s : LaneState). s.start) states i d 0 l

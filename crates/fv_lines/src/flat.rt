@@ -29,6 +29,50 @@ pub(crate) fn get(cells: &[i32], shape: &LaneShape, origin: u64, index: u64, bac
     cells[shape.cell(origin + index - back) as usize]
 }
 
+/// Writes these samples of the block from number `index` on, behind all before them.
+pub(crate) fn put_many(
+    cells: &mut [i32],
+    shape: &LaneShape,
+    origin: u64,
+    index: u64,
+    values: &[i32],
+)
+    requires begun { IsBegun shape.now.history shape.now.len origin cells.old }
+    requires room { shape.now.history + index + length values.now ≤ shape.now.len }
+    ensures len { length cells.new ≡ length cells.old }
+    ensures list { take (shape.now.history + index + length values.now) (from_start (origin - shape.now.history) cells.new)
+        ≡ take (shape.now.history + index) (from_start (origin - shape.now.history) cells.old) ++ values.now }
+{
+    let first = shape.cell(origin + index) as usize;
+    // As many as lie before the end of the cells, and then the others from their beginning on.
+    let before = values.len().min(cells.len() - first);
+    cells[first..first + before].copy_from_slice(&values[..before]);
+    cells[..values.len() - before].copy_from_slice(&values[before..]);
+}
+
+/// As many samples as `to` has, which lie so far back before the block's samples from number `index` on.
+pub(crate) fn get_many(
+    cells: &[i32],
+    shape: &LaneShape,
+    origin: u64,
+    index: u64,
+    back: u64,
+    to: &mut [i32],
+)
+    requires begun { IsBegun shape.now.history shape.now.len origin cells.now }
+    requires small { index + length to.old ≤ 2 ^ 32 }
+    requires there { back ≤ shape.now.history + index }
+    requires room { shape.now.history + index + length to.old ≤ shape.now.len + back }
+    ensures len { length to.new ≡ length to.old }
+    ensures samples { to.new ≡ take (length to.old) (drop (shape.now.history + index - back) (from_start (origin - shape.now.history) cells.now)) }
+{
+    let first = shape.cell(origin + index - back) as usize;
+    let before = to.len().min(cells.len() - first);
+    let after = to.len() - before;
+    to[..before].copy_from_slice(&cells[first..first + before]);
+    to[before..].copy_from_slice(&cells[..after]);
+}
+
 /// Makes the history that the state names begin at the front, where the lane is copied. Returns the origin.
 pub(crate) fn settle(cells: &mut [i32], shape: &LaneShape, state: LaneState) -> u64
     requires { Holds shape.now state.start cells.old }

@@ -1,6 +1,6 @@
 // All lanes, for one worker.
 
-use crate::flat::{advance, get, put, settle};
+use crate::flat::{advance, get, get_many, put, put_many, settle};
 use crate::shape::{LaneShape, LaneState};
 use fv_loopcode::Store;
 use fv_pool::Layout;
@@ -19,8 +19,9 @@ pub struct Solo<'a, 'l, 's, 'b, 'c> {
 }
 
 impl<'a, 'l, 's, 'b, 'c> Solo<'a, 'l, 's, 'b, 'c> {
-    ghost use Rattle.std.specs.Prelude.{◌≡◌, ◌↔◌, ◌^◌, ◌<◌, ◌≤◌, length, slice_set, slice_index, IsTrue, ℕ};
-    ghost use Rattle.fv_loopcode.specs.Lanes.{lane_of, appended, sample_at, HasSample};
+    ghost use Rattle.std.specs.Prelude.{◌≡◌, ◌↔◌, ◌+◌, ◌^◌, ◌<◌, ◌≤◌, length, slice_set, slice_index, IsTrue, ℕ};
+    ghost use Rattle.fv_num.specs.Words.{argument};
+    ghost use Rattle.fv_loopcode.specs.Lanes.{lane_of, appended, all_appended, sample_at, HasSample};
     ghost use Rattle.fv_pool.specs.Lengths.{lengths_of};
     ghost use Rattle.fv_lines.specs.Solo.{lanes_of, lane_at, lengths_in, shapes_in, cells_in, frames_in, opening_lanes, AreLists, AreHeld, AreFramed, AreFull};
     ghost use Rattle.fv_lines.specs.Solo.{HoldNext, IsSolo, rest_of, rest_in};
@@ -165,6 +166,32 @@ impl<'a, 'l, 's, 'b, 'c> Solo<'a, 'l, 's, 'b, 'c> {
         self.written[i] += 1;
     }
 
+    // These samples of a lane, by its number of written samples.
+    fn write_many(&mut self, lane: u64, values: &[i32])
+        requires sound { IsSolo self.old }
+        requires there { lane < length (lengths_in self.old) }
+        requires room { slice_index self.old.written.now lane + length values.now ≤ self.old.frames }
+        ensures sound { IsSolo self.new }
+        ensures kept { rest_of self.new ≡ rest_of self.old }
+        ensures lanes { lanes_of self.new
+            ≡ slice_set (lanes_of self.old) lane (all_appended (lane_at self.old lane) (argument values.now) (length values.now)) }
+    {
+        let i = lane as usize;
+        let place = self.places[i] as usize;
+        let len = self.layout.length(lane) as usize;
+        let shape = &self.shapes[i];
+        let origin = self.states[i].start;
+        let index = u64::from(self.written[i]);
+        put_many(
+            &mut self.cells[place..place + len],
+            shape,
+            origin,
+            index,
+            values,
+        );
+        self.written[i] += values.len() as u32;
+    }
+
     // A sample of a lane, from its origin.
     fn read(&self, lane: u64, index: u64, back: u64) -> i32
         requires sound { IsSolo self.now }
@@ -179,6 +206,33 @@ impl<'a, 'l, 's, 'b, 'c> Solo<'a, 'l, 's, 'b, 'c> {
         let shape = &self.shapes[i];
         let origin = self.states[i].start;
         get(&self.cells[place..place + len], shape, origin, index, back)
+    }
+
+    // As many samples of a lane as `to` has, from its origin.
+    fn read_many(&self, lane: u64, index: u64, back: u64, to: &mut [i32])
+        requires sound { IsSolo self.now }
+        requires there { lane < length (lengths_in self.now) }
+        requires small { index + length to.old ≤ 2 ^ 32 }
+        requires samples { (k : ℕ) → k < length to.old → HasSample (lane_at self.now lane) (index + k) back }
+        ensures long { length to.new ≡ length to.old }
+        ensures samples { (k : ℕ) → k < length to.old → argument to.new k ≡ sample_at (lane_at self.now lane) (index + k) back }
+    {
+        if to.is_empty() {
+            return;
+        }
+        let i = lane as usize;
+        let place = self.places[i] as usize;
+        let len = self.layout.length(lane) as usize;
+        let shape = &self.shapes[i];
+        let origin = self.states[i].start;
+        get_many(
+            &self.cells[place..place + len],
+            shape,
+            origin,
+            index,
+            back,
+            to,
+        );
     }
 }
 
@@ -200,5 +254,14 @@ impl<'a, 'l, 's, 'b, 'c> Store for Solo<'a, 'l, 's, 'b, 'c> {
 
     fn append(&mut self, lane: u64, value: i32) {
         self.append(lane, value)
+    }
+
+    // The cells of a lane lie one after another, so many samples are one or two copies.
+    fn load_many(&self, lane: u64, index: u64, back: u64, to: &mut [i32]) {
+        self.read_many(lane, index, back, to)
+    }
+
+    fn append_many(&mut self, lane: u64, values: &[i32]) {
+        self.write_many(lane, values)
     }
 }

@@ -1,0 +1,47 @@
+use Rattle.std.proofs.Common.{◌≡◌, ◌+◌, ◌-◌, ◌≤◌, ◌++◌, [], ℕ, ℤ, List, length, take, drop, sym, ap, ap₂, ◌∙◌, arith, append-nil}
+use Rattle.std.proofs.lemmas.Bool.{cases_lt}
+use Rattle.std.proofs.lemmas.List.{length-append, length-drop, length-take-le, drop-drop}
+use Rattle.std.proofs.Math.Seq.{take-append_seam, drop-length}
+use mathlib.Core.Logic.{inl, inr}
+use borrow.Rule.Slice.PartMut.{post_of}
+use Rattle.fv_lines.proofs.Pieces.{IsAt, IsFirst, read_two, first_is, at_of}
+use Rattle.fv_lines.proofs.flat.get_many.Goals as goal
+
+pub returns-clause-samples : goal.returns-clause-samples
+returns-clause-samples c =
+    let cells : List ℤ = c.args.cells.now in
+    let n : ℕ = length c.args.to.now in
+    let h : ℕ = c.args.shape.now.history in
+    let s : ℕ = c.args.origin - h in
+    let j : ℕ = h + c.args.index - c.args.back in
+    let cell : ℕ = c.cell-first.result in
+    let b : ℕ = c.min-before.result in
+    let size : length cells ≡ c.args.shape.now.len = c.requires.begun.0 in
+    let placed = c.requires.begun.1 in
+    let sum : c.args.origin + c.args.index - c.args.back ≡ s + j = omega (arith, placed.behind, c.requires.there) in
+    let inside : s ≤ length cells = elim (cases_lt 16 h) [
+      | inl large ↦ omega (arith, placed.ring large, placed.behind, size)
+      | inr small ↦ omega (arith, placed.copied small)
+    ] in
+    let at : IsAt (length cells) s j cell = at_of h (length cells) s j (c.args.origin + c.args.index - c.args.back) cell sum
+    (λ small. (c.cell-first.ensures.copied small, omega (arith, c.requires.room, placed.copied small, size)))
+    (λ large. elim (c.cell-first.ensures.ring large) [ inl p ↦ inl (p.0, omega (arith, p.1, size)) | inr p ↦ inr (omega (arith, p, size)) ]) in
+    let cut : IsFirst n (length cells - cell) b = first_is n (length cells - cell) b c.min-before.ensures in
+    let few : b ≤ length (drop cell cells) = elim cut [
+      | inl p ↦ omega (arith, p.0, p.1, length-drop cell cells)
+      | inr p ↦ omega (arith, p.0, length-drop cell cells)
+    ] in
+    let one : c.copy_from_slice.new.self ≡ take b (drop cell cells) =
+    c.copy_from_slice.ensures.after ∙ ap (λ (k : ℕ). take k (drop cell cells)) (let e : cell + b - cell ≡ b = omega arith in e) in
+    let long : length c.copy_from_slice.new.self ≡ b = ap length one ∙ length-take-le b (drop cell cells) few in
+    let once : List ℤ = c.copy_from_slice.new.self ++ drop b c.args.to.now in
+    let front : take b once ≡ take b (drop cell cells) =
+    ap (λ (k : ℕ). take k once) (sym long) ∙ take-append_seam c.copy_from_slice.new.self (drop b c.args.to.now) ∙ one in
+    let whole : length once ≡ b + length (drop b c.args.to.now) =
+    length-append c.copy_from_slice.new.self (drop b c.args.to.now) ∙ ap (λ (k : ℕ). k + length (drop b c.args.to.now)) long in
+    let none : post_of b (length once - b) once ≡ [] =
+    drop-drop (length once - b) b once ∙ ap (λ (k : ℕ). drop k once) (let e : b + (length once - b) ≡ length once = omega (arith, whole) in e)
+    ∙ drop-length once in
+    ap₂ (λ (xs r : List ℤ). xs ++ (c.copy_from_slice-2.new.self ++ r)) front none
+    ∙ ap (λ (xs : List ℤ). take b (drop cell cells) ++ xs) (append-nil c.copy_from_slice-2.new.self ∙ c.copy_from_slice-2.ensures.after)
+    ∙ read_two cells s j n cell b inside (omega (arith, c.requires.room, c.requires.there, size)) at cut
