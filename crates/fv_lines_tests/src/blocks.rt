@@ -5,6 +5,7 @@ ghost use Rattle.fv_pool.specs.Lengths.{lengths_of};
 ghost use Rattle.fv_lines.specs.Solo.{IsHeld, AreLists, AreHeld, AreFramed, AreFull, IsSolo, lanes_of};
 
 use fv_lines::{LaneShape, LaneState, Solo};
+use fv_loopcode::Store;
 use fv_pool::{Layout, Region};
 use std::process::Abort;
 use std::test::Fail;
@@ -104,6 +105,43 @@ fn at(
     Ok(solo.at(lane, index, back))
 }
 
+// These samples of a lane at once.
+fn append_many(
+    solo: &mut Solo<'_, '_, '_, '_, '_>,
+    lane: u64,
+    values: &[i32],
+) -> Result<(), &'static str>
+    requires { IsSolo solo.old }
+    ensures { IsSolo solo.new }
+{
+    if lane >= solo.len() || u64::from(solo.room(lane)) < values.len() as u64 {
+        return Err("no room");
+    }
+    Store::append_many(solo, lane, values);
+    Ok(())
+}
+
+// As many samples of a lane as `to` has, at once.
+fn load_many(
+    solo: &Solo<'_, '_, '_, '_, '_>,
+    lane: u64,
+    index: u64,
+    back: u64,
+    to: &mut [i32],
+) -> Result<(), &'static str>
+    requires { IsSolo solo.now }
+{
+    let count = to.len() as u64;
+    if lane >= solo.len() || index > 1 << 30 || count == 0 || count > 1 << 30 {
+        return Err("no such lane or sample");
+    }
+    if !solo.has_sample(lane, index, back) || !solo.has_sample(lane, index + (count - 1), back) {
+        return Err("no sample");
+    }
+    Store::load_many(solo, lane, index, back, to);
+    Ok(())
+}
+
 // The sample so far back of a lane to which 1, 2, 3, .. are appended, where `now` is the last one.
 fn counted(now: i32, back: i32) -> i32 {
     now.saturating_sub(back).max(0)
@@ -158,6 +196,56 @@ fn lanes_go_on_from_block_to_block(rt: HostRuntime) -> Result<(), Fail> {
     let mut region = Region::new(rt.alloc(), layout.total())?;
     for first in [1, 5, 9, 13, 17, 21, 25, 29] {
         play(
+            &rt,
+            region.cells(),
+            &layout,
+            &shapes,
+            &mut states,
+            &mut written,
+            first,
+        )?;
+    }
+    Ok(())
+}
+
+// A block of a ring, which is written and read at once, some samples before the end of its cells and the others behind it.
+fn play_at_once(
+    rt: &impl Abort,
+    cells: &mut [i32],
+    layout: &Layout,
+    shapes: &[LaneShape],
+    states: &mut [LaneState],
+    written: &mut [u32],
+    first: i32,
+) -> Result<(), Fail> {
+    assert!(rt; may_begin(layout, shapes, states, written, cells, FRAMES));
+    let mut solo = Solo::begin(cells, layout, shapes, states, written, FRAMES);
+    let mut now = [first; FRAMES as usize];
+    for n in 1..now.len() {
+        now[n] = now[n - 1].saturating_add(1);
+    }
+    append_many(&mut solo, 0, &now)?;
+    for back in [0u32, 1, 16, 17] {
+        let mut seen = [-1; FRAMES as usize];
+        load_many(&solo, 0, 0, u64::from(back), &mut seen)?;
+        for n in 0..now.len() {
+            assert_eq!(rt; seen[n], counted(now[n], back as i32), "{first}");
+        }
+    }
+    assert!(rt; are_full(&solo));
+    solo.finish();
+    Ok(())
+}
+
+#[test]
+fn many_samples_pass_the_end_of_a_ring(rt: HostRuntime) -> Result<(), Fail> {
+    let shapes = [LaneShape::new(17, FRAMES)];
+    let layout = Layout::new(rt.alloc(), &[shapes[0].len()])?;
+    let mut states = [LaneState { start: 3 }];
+    let mut written = [0];
+    let mut region = Region::new(rt.alloc(), layout.total())?;
+    for first in [1, 5, 9, 13, 17, 21, 25, 29, 33] {
+        play_at_once(
             &rt,
             region.cells(),
             &layout,
