@@ -37,6 +37,7 @@ pub fn run_spread<R: Threads + Wait + Sync, G: Gate + Sync>(
         (opening_of block.now states.old cells.old) cells.new states.new lines.new.items block.now.plan.now.outputs output.new }
     ensures left { result ≡ false → HoldAsBefore block.now.shapes.now states.old cells.old states.new cells.new }
     ensures untold { result ≡ false → lines.new.items ≡ [] }
+    ensures silent { result ≡ false → output.new ≡ output.old }
     ensures lanes { AreHeld (lengths_by block.now.shapes.now) block.now.shapes.now states.new }
     ensures room { vec_capacity lines.old ≤ vec_capacity lines.new }
 {

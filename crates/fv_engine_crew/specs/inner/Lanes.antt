@@ -14,7 +14,7 @@ use Rattle.fv_engine_parcels.specs.declared.start.Start.{Start}
 abbrev pub state_of : List LaneWriter → State
 state_of ws = lanes_alone (map lane_open ws)
 
--- all lanes, with nothing written and the block's frames to come, where the block's codes go on from what they hold
+-- all lanes, with nothing written, where the block's codes go on from what they hold
 pub record AreOpen (b : Block) (ws : List LaneWriter) : Type 0 where
   pub count : length ws ≡ b.plan.lanes
   pub unwritten : (l : ℕ) (d : LaneWriter) → l < b.plan.lanes → written_by (slice_index_or ws l d) ≡ 0

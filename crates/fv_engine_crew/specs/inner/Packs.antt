@@ -10,6 +10,7 @@ use Rattle.fv_engine_crew.specs.declared.lent.Pack.{Pack}
 use Rattle.fv_engine_crew.specs.Ran.{Ran}
 use Rattle.fv_engine_crew.specs.Spread.{block_in, tasks_of, IsSpread, MayRunOver, opening_of, HoldAsBefore}
 
+-- its block, and the shapes of its lanes
 abbrev pub block_with : Pack → SpreadBlock
 block_with p = p.block.now
 
@@ -34,5 +35,6 @@ pub record Leaves (old new : Pack) (before after : List ℤ) : Type 0 where
       (opening_of (block_with old) old.states.now before) after new.states.now new.lines.now.items (block_with old).plan.now.outputs new.output.now
   pub left : new.ran ≡ false → HoldAsBefore (shapes_with old) old.states.now before new.states.now after
   pub untold : new.ran ≡ false → new.lines.now.items ≡ []
+  pub silent : new.ran ≡ false → new.output.now ≡ old.output.now
   pub lanes : AreHeld (lengths_by (shapes_with old)) (shapes_with old) new.states.now
   pub room : vec_capacity old.lines.now ≤ vec_capacity new.lines.now

@@ -80,6 +80,7 @@ returns-in-Ok g c =
         ran = λ yes. ran (handed g d) whole journal ended e.states e.samples;
         left = λ no. absurd (true≢false no);
         untold = λ no. absurd (true≢false no);
+        silent = λ no. absurd (true≢false no);
         lanes = are_held ended;
         room = c.in-Ok.ensures.room;
       },
@@ -107,6 +108,7 @@ returns-in-Err g c =
         ran = λ yes. absurd (true≢false (sym yes ∙ c.requires.may.not_yet));
         left = λ no. as_before ended e.states untouched;
         untold = λ no. c.in-Err.ensures.untold;
+        silent = λ no. refl;
         lanes = are_held ended;
         room = c.in-Err.ensures.room;
       },
