@@ -30,6 +30,7 @@ frames_at None held stated left = table stated (λ t. [])
 frames_at (Some i) None stated left = frames_in i.coding (bare i) left
 frames_at (Some i) (Some bytes) stated left = frames_in i.coding (bare i) bytes
 
+-- those of the files of a tape, where so much is left of the input
 abbrev pub frames_of : Files → (left : List ℕ) → List Frame
 frames_of t left = frames_at t.input t.held t.stated left
 
@@ -39,6 +40,7 @@ AreTakenOf None held n before after = after ≡ before
 AreTakenOf (Some i) None n before after = after ≡ drop (n * frame_size i.channels i.bits) before
 AreTakenOf (Some i) (Some bytes) n before after = after ≡ before
 
+-- and of the input of a tape
 abbrev pub HasTaken : Files → (frames : ℕ) → (old new : DeskState) → Type 0
 HasTaken t n old new = AreTakenOf t.input t.held n (old.left Input) (new.left Input)
 
