@@ -16,7 +16,11 @@ fn a_text_is_two_lines(rt: HostRuntime) -> Result<(), Fail> {
 
 // The frames of a tape's noise that are heard two at a time.
 fn two_by_two(noise: &mut Noise, frames: &mut [i32; 4]) -> bool {
-    let mut tape = NoiseTape { left: 4, most: 2, outputs: 1 };
+    let mut tape = NoiseTape {
+        left: 4,
+        most: 2,
+        outputs: 1,
+    };
     tape.begin(noise).is_ok()
         && tape.hear(noise, 2, &mut frames[..2]).is_ok()
         && tape.hear(noise, 2, &mut frames[2..]).is_ok()
@@ -36,7 +40,11 @@ fn the_noise_of_one_voice(rt: HostRuntime) -> Result<(), Fail> {
 #[test]
 fn sums_wrap(rt: HostRuntime) -> Result<(), Fail> {
     let mut noise = Noise { state: 1, sum: 0 };
-    let mut tape = NoiseTape { left: 9, most: 3, outputs: 1 };
+    let mut tape = NoiseTape {
+        left: 9,
+        most: 3,
+        outputs: 1,
+    };
     assert!(rt; tape.say(&mut noise, 3, &[16838, -27010, 16427]).is_ok());
     assert_eq!(rt; noise.sum, 6255);
     assert!(rt; tape.say(&mut noise, 2, &[i32::MAX, i32::MAX]).is_ok());

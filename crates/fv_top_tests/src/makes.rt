@@ -51,7 +51,7 @@ fn refuses_what_is_not_made(rt: HostRuntime) -> Result<(), Fail> {
         (&["make", "1", "0", "1"], b"refused 1 Usage range\n"),
         (&["make", "1", "262145", "1"], b"refused 1 Usage range\n"),
         (&["make", "1", "3", "0"], b"refused 1 Usage range\n"),
-        (&["make", "1", "3", "2"], b"refused 1 Usage range\n"),
+        (&["make", "1", "3", "17"], b"refused 1 Usage range\n"),
     ];
     for (words, line) in rows {
         assert_ends(&rt, rt.alloc(), b"process = _;", words, 2, line)?;

@@ -125,7 +125,7 @@ fn refuses_words(rt: HostRuntime) -> Result<(), Fail> {
             b"refused 1 Usage range\n",
         ),
         (
-            &["run", "p.dsp", "in.wav", "out.wav", "--workers=2"],
+            &["run", "p.dsp", "in.wav", "out.wav", "--workers=17"],
             2,
             b"refused 1 Usage range\n",
         ),
