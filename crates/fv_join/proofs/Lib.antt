@@ -1,0 +1,4 @@
+pub mod Images
+pub mod Groups
+pub mod Values
+pub mod Joins

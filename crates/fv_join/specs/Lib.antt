@@ -1,0 +1,6 @@
+pub mod Jobs
+pub mod Joined
+pub mod inner
+-- what its public clauses cite of crates below
+pub use Rattle.fv_analysis.specs.Stands
+pub use Rattle.fv_signal.specs.Value

@@ -1,0 +1,101 @@
+-- A graph that is copied behind others (this project's profile).
+use Rattle.std.specs.Prelude.{◌≡◌, ℕ, ◌+◌, ◌<◌, ◌≤◌, ◌^◌, List, [], length, map, All, pos, slice_index_or}
+use Rattle.fv_base.specs.Lists.{IsPrefixOf, at}
+use Rattle.fv_analysis.specs.Stands.{node}
+use Rattle.fv_signal.specs.declared.signal.Signal.{Signal}
+use Rattle.fv_signal.specs.declared.signal.Signal.TheVariants.{Input, Const, Control, Point, Delay, Back, Member}
+use Rattle.fv_signal.specs.Value.{Graph, members, definition, IsGraph}
+use Rattle.fv_share.specs.Drafts.{Draft, AreClosed, BacksWithin, put, graph_of}
+use Rattle.fv_join.specs.declared.copying.Offsets.{Offsets}
+
+-- a signal over the images of its operands, with its numbers behind those that stand before
+abbrev pub renumbered : (p : ℕ → ℕ) → Offsets → Signal → Signal
+renumbered p o (Input k) = Input (o.inputs + k)
+renumbered p o (Const n) = Const n
+renumbered p o (Control k) = Control (o.controls + k)
+renumbered p o (Point op args) = Point op (map p args)
+renumbered p o (Delay x d max) = Delay (p x) (p d) max
+renumbered p o (Back group k) = Back (o.groups + group) k
+renumbered p o (Member group k) = Member (o.groups + group) k
+
+-- the signal's numbers fit behind those that stand before
+abbrev pub NumbersFit : Offsets → Signal → Type 0
+NumbersFit o (Input k) = o.inputs + k < 2 ^ 64
+NumbersFit o (Const n) = Unit {0}
+NumbersFit o (Control k) = o.controls + k < 2 ^ 32
+NumbersFit o (Point op args) = Unit {0}
+NumbersFit o (Delay x d max) = Unit {0}
+NumbersFit o (Back group k) = o.groups + group < 2 ^ 64
+NumbersFit o (Member group k) = o.groups + group < 2 ^ 64
+
+-- so it is with each signal
+abbrev pub HaveRoom : Offsets → Graph → Type 0
+HaveRoom o g = (s : ℕ) (d : Signal) → s < length g.signals → NumbersFit o (slice_index_or g.signals s d)
+
+-- what is put for a signal of g: the signal renumbered, and for a member nothing, since its definition has an image
+abbrev pub copy_of : (g : Graph) → (p : ℕ → ℕ) → Offsets → Draft → Signal → ℕ × Draft
+copy_of g p o d (Input k) = put d (renumbered p o (Input k))
+copy_of g p o d (Const n) = put d (renumbered p o (Const n))
+copy_of g p o d (Control k) = put d (renumbered p o (Control k))
+copy_of g p o d (Point op args) = put d (renumbered p o (Point op args))
+copy_of g p o d (Delay x y max) = put d (renumbered p o (Delay x y max))
+copy_of g p o d (Back group k) = put d (renumbered p o (Back group k))
+copy_of g p o d (Member group k) = (p (definition g group k), d)
+
+-- the images of the definitions of each group's members
+abbrev pub definitions_of : Graph → (p : ℕ → ℕ) → List (List ℕ)
+definitions_of g p = map (λ ms. map p ms) g.groups
+
+-- the image among the signals ss of a signal of g
+abbrev pub IsImage : (g : Graph) → (ss : List Signal) → (p : ℕ → ℕ) → Offsets → Signal → (image : ℕ) → Type 0
+IsImage g ss p o (Input k) image = slice_index_or ss image (Const (pos 0)) ≡ renumbered p o (Input k)
+IsImage g ss p o (Const n) image = slice_index_or ss image (Const (pos 0)) ≡ renumbered p o (Const n)
+IsImage g ss p o (Control k) image = slice_index_or ss image (Const (pos 0)) ≡ renumbered p o (Control k)
+IsImage g ss p o (Point op args) image = slice_index_or ss image (Const (pos 0)) ≡ renumbered p o (Point op args)
+IsImage g ss p o (Delay x d max) image = slice_index_or ss image (Const (pos 0)) ≡ renumbered p o (Delay x d max)
+IsImage g ss p o (Back group k) image = slice_index_or ss image (Const (pos 0)) ≡ renumbered p o (Back group k)
+IsImage g ss p o (Member group k) image = image ≡ p (definition g group k)
+
+-- a signal is one of the first n of g, renumbered
+pub record IsOneOf (g : Graph) (o : Offsets) (n : ℕ) (signal : Signal) : Type 0 where
+  pub place : ℕ
+  pub within : place < n
+  pub images : ℕ → ℕ
+  pub is : signal ≡ renumbered images o (node g place)
+
+-- each group has its mark, and no Back names a group that is still to come
+pub record IsSound (d : Draft) : Type 0 where
+  pub marked : length d.closed ≡ length d.groups
+  pub fresh : (k : ℕ) → length d.groups ≤ k → BacksWithin d k 0
+
+-- the first n signals of g have images, and nothing else came to the draft
+pub record IsUnderWay (g : Graph) (o : Offsets) (n : ℕ) (old new : Draft) (images : List ℕ) : Type 0 where
+  pub whole : IsGraph g
+  pub long : length images ≡ n
+  pub grows : IsPrefixOf old.signals new.signals
+  pub groups : new.groups ≡ old.groups
+  pub closed : new.closed ≡ old.closed
+  pub there : All (λ a. a < length new.signals) images
+  pub copies : (s : ℕ) → s < n → IsImage g new.signals (at images) o (node g s) (at images s)
+  pub made : (i : ℕ) → length old.signals ≤ i → i < length new.signals → IsOneOf g o n (slice_index_or new.signals i (Const (pos 0)))
+
+-- g stands in f, with these images
+pub record IsCopied (g f : Graph) (p : ℕ → ℕ) (o : Offsets) : Type 0 where
+  pub there : (s : ℕ) → s < length g.signals → p s < length f.signals
+  pub copies : (s : ℕ) → s < length g.signals → IsImage g f.signals p o (node g s) (p s)
+  pub groups : (group : ℕ) → group < length g.groups → o.groups + group < length f.groups
+  pub definitions : (group k : ℕ) → group < length g.groups → k < length (members g group) → definition f (o.groups + group) k ≡ p (definition g group k)
+
+-- g is copied into a draft behind what is there, where these inputs and controls stand before; its outputs' images
+pub record IsAppended (g : Graph) (inputs controls : ℕ) (old new : Draft) (outs : List ℕ) : Type 0 where
+  pub whole : IsGraph g
+  pub grows : IsPrefixOf old.signals new.signals
+  pub more : length old.groups ≤ length new.groups
+  pub groups : (k : ℕ) → k < length old.groups → slice_index_or new.groups k [] ≡ slice_index_or old.groups k []
+  pub closed : AreClosed old → AreClosed new
+  pub sound : IsSound new
+  pub images : ℕ → ℕ
+  pub outputs : outs ≡ map images g.outputs
+  pub copied : IsCopied g (graph_of new []) images (record { inputs = inputs; controls = controls; groups = length old.groups })
+  pub made : (i : ℕ) → length old.signals ≤ i → i < length new.signals →
+      IsOneOf g (record { inputs = inputs; controls = controls; groups = length old.groups }) (length g.signals) (slice_index_or new.signals i (Const (pos 0)))
