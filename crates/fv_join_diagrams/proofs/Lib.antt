@@ -1,0 +1,4 @@
+pub mod Shifted
+pub mod Whole
+pub mod Beside
+pub mod Propagating

@@ -1,0 +1,5 @@
+use Rattle.fv_join_diagrams.proofs.Shifted.{shifted_answers}
+use Rattle.fv_join_diagrams.proofs.laws.shifted_answers.Goals as goal
+
+pub returns : goal.returns
+returns c = shifted_answers

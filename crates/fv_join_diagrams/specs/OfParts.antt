@@ -1,0 +1,25 @@
+-- When graphs side by side give what diagrams side by side give (this project's profile).
+use Rattle.std.specs.Prelude.{◌≡◌, ℕ, ◌<◌, List, length, slice_index_or}
+use Rattle.fv_signal.specs.Value.{Graph}
+use Rattle.fv_diagram.specs.Diagram.{inputs, outputs}
+use Rattle.fv_propagate.specs.Propagated.{Propagates}
+use Rattle.fv_join.specs.declared.job.Job.{Job}
+use Rattle.fv_join.specs.Joined.{IsJoined}
+use Rattle.fv_join_diagrams.specs.Parts.{Part, AreWellFormed, side_by_side, spans_of}
+
+-- the job's graph is that of the part
+pub record IsOfPart (job : Job) (p : Part) : Type 0 where
+  pub inputs : job.inputs ≡ inputs p.diagram
+  pub controls : job.controls ≡ length p.spans
+  pub width : length job.graph.outputs ≡ outputs p.diagram
+  pub propagates : Propagates p.diagram p.spans job.graph
+
+-- so it is with each job and the part of its number
+pub record AreOfParts (jobs : List Job) (ps : List Part) : Type 0 where
+  pub long : length jobs ≡ length ps
+  pub well : AreWellFormed ps
+  pub each : (k : ℕ) (j : Job) (p : Part) → k < length jobs → IsOfPart (slice_index_or jobs k j) (slice_index_or ps k p)
+
+-- The graphs of parts side by side give what the parts side by side give, on all frames and all controls in their spans.
+abbrev pub JoinedPropagates : Graph → Type 0
+JoinedPropagates f = (jobs : List Job) (ps : List Part) → AreOfParts jobs ps → IsJoined jobs f → Propagates (side_by_side 0 ps) (spans_of ps) f

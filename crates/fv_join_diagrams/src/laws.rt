@@ -1,0 +1,31 @@
+// Laws of diagrams side by side.
+
+ghost use Rattle.fv_signal.specs.Value.{Graph};
+ghost use Rattle.fv_diagram.specs.Diagram.{Diagram};
+ghost use Rattle.fv_join_diagrams.specs.Parts.{ShiftedAnswers, PartsAreWhole, PartsAnswer, PartsAnswerAlike};
+ghost use Rattle.fv_join_diagrams.specs.OfParts.{JoinedPropagates};
+
+/// A diagram whose controls are numbered behind others answers what it does on its own controls.
+pub fn shifted_answers()
+    ensures { (d : Diagram) → ShiftedAnswers d }
+{}
+
+/// Parts side by side are well formed where each is, and have the inputs and outputs of all.
+pub fn parts_are_whole()
+    ensures { PartsAreWhole }
+{}
+
+/// The outputs of a part are those of its own diagram, on its columns and its controls.
+pub fn parts_answer()
+    ensures { PartsAnswer }
+{}
+
+/// Two answers that agree on a part's diagram, columns and controls agree on its outputs.
+pub fn parts_answer_alike()
+    ensures { PartsAnswerAlike }
+{}
+
+/// Where each job's graph gives what a diagram gives, all of them joined give what the diagrams side by side give.
+pub fn joined_propagates()
+    ensures { (f : Graph) → JoinedPropagates f }
+{}

@@ -1,0 +1,8 @@
+// Diagrams side by side, and graphs that are theirs.
+#![tactic(auto)]
+
+mod laws;
+
+pub use laws::{
+    joined_propagates, parts_answer, parts_answer_alike, parts_are_whole, shifted_answers,
+};
