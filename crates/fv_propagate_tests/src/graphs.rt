@@ -2,13 +2,14 @@
 
 use fv_diagram_play::play;
 use fv_interval::{spans, spans_of};
-use fv_num::{Op, apply};
+use fv_num::Op;
 use fv_propagate::propagate;
-use fv_signal::{Graph, Signal, SignalId};
-use std::alloc::Global;
+use fv_signal::{Graph, Signal};
+use std::alloc::{AllocError, Global};
 use std::process::Abort;
 use std::test::Fail;
 use test_programs::program_with_controls;
+use test_values::Sound;
 
 // The controls' numbers.
 const CONTROLS: [i32; 2] = [3, -2];
@@ -121,112 +122,20 @@ static EXPRESSIONS: [&str; 25] = [
     "_, _, _ :> _",
 ];
 
-// A number of a list, 0 where there is none.
-fn number_at(list: &[i32], i: u64) -> i32 {
-    match list.get(i as usize) {
-        Some(n) => *n,
-        None => 0,
-    }
-}
-
-// The number of the definition of a member.
-fn definition(graph: &Graph, group: u64, i: u64) -> u64 {
-    if group >= graph.groups() {
-        return 0;
-    }
-    match graph.group(group).get(i as usize) {
-        Some(id) => id.number(),
-        None => 0,
-    }
-}
-
-// The value of an operation.
-fn point(op: Op, args: [SignalId; 4], now: &[i32]) -> i32 {
-    let a = number_at(now, args[0].number());
-    let b = number_at(now, args[1].number());
-    let c = number_at(now, args[2].number());
-    let d = number_at(now, args[3].number());
-    match op.inputs() {
-        1 => apply(op, &[a]),
-        2 => apply(op, &[a, b]),
-        3 => apply(op, &[a, b, c]),
-        4 => apply(op, &[a, b, c, d]),
-        _ => 0,
-    }
-}
-
-// The value of a signal that is d samples earlier.
-fn delayed(x: u64, d: i32, before: &[Vec<i32>], now: &[i32]) -> i32 {
-    if d <= 0 {
-        return number_at(now, x);
-    }
-    let back = d as usize;
-    if back > before.len() {
-        return 0;
-    }
-    match before.get(before.len() - back) {
-        Some(values) => number_at(values, x),
-        None => 0,
-    }
-}
-
-// The value of a signal, from the values before its time and those of the signals before it.
-fn value(graph: &Graph, signal: Signal, before: &[Vec<i32>], now: &[i32], frame: &[i32]) -> i32 {
-    match signal {
-        Signal::Input(k) => number_at(frame, k),
-        Signal::Const(n) => n,
-        Signal::Control(k) => number_at(&CONTROLS, u64::from(k)),
-        Signal::Point { op, args } => point(op, args, now),
-        Signal::Delay { x, d, max: _ } => {
-            delayed(x.number(), number_at(now, d.number()), before, now)
-        }
-        Signal::Back { group, i } => match before.last() {
-            Some(values) => number_at(values, definition(graph, group, i)),
-            None => 0,
-        },
-        Signal::Member { group, i } => number_at(now, definition(graph, group, i)),
-    }
-}
-
-// The values of all signals at one time.
-fn values(
-    alloc: Global,
-    graph: &Graph,
-    before: &[Vec<i32>],
-    frame: &[i32],
-) -> Result<Vec<i32>, Fail> {
-    let mut now = Vec::new(alloc);
-    for s in 0..graph.len() {
-        let signal = graph.signal(SignalId::new(s));
-        now.push(value(graph, signal, before, &now, frame))?;
-    }
-    Ok(now)
-}
-
-// What the outputs of a graph give on these frames, one after another.
+// What a graph gives on these samples, so many in a frame.
 fn given(
     alloc: Global,
     graph: &Graph,
     samples: &[i32],
     width: usize,
     frames: usize,
-) -> Result<Vec<i32>, Fail> {
-    let mut before = Vec::new(alloc);
-    let mut rest = samples;
-    let mut answer = Vec::new(alloc);
-    for _ in 0..frames {
-        if width > rest.len() {
-            return Err("no frame".into());
-        }
-        let (frame, further) = rest.split_at(width);
-        rest = further;
-        let now = values(alloc, graph, &before, frame)?;
-        for id in graph.outputs() {
-            answer.push(number_at(&now, id.number()))?;
-        }
-        before.push(now)?;
-    }
-    Ok(answer)
+) -> Result<Vec<i32>, AllocError> {
+    let sound = Sound {
+        controls: &CONTROLS,
+        samples,
+        width,
+    };
+    test_values::given(alloc, graph, &sound, frames)
 }
 
 // The graph of an expression, which gives what its diagram answers.

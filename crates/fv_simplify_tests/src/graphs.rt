@@ -1,13 +1,13 @@
 // Whole graphs.
 
-use crate::outputs::{first_by_number, first_output};
+use crate::outputs::first_output;
 use fv_num::Op;
 use fv_share::Builder;
 use fv_signal::Signal;
 use fv_simplify::{are_short, simplify};
 use std::process::Abort;
 use std::test::Fail;
-use test_graphs::{late, pair};
+use test_graphs::pair;
 
 #[test]
 fn a_product_wraps_before_it_is_divided(rt: HostRuntime) -> Result<(), Fail> {
@@ -34,33 +34,6 @@ fn a_product_and_its_quotient_stay(rt: HostRuntime) -> Result<(), Fail> {
     assert!(rt; are_short(&graph));
     let simpler = simplify(rt.alloc(), &graph, &[])?;
     assert_ne!(rt; first_output(&simpler), Some(Signal::Input(0)));
-    Ok(())
-}
-
-// A delay by a sum of numbers, of a sum with 0, of a member that is read through a product by 1; each becomes reducible by what
-// comes before it.
-#[test]
-fn each_fold_makes_another(rt: HostRuntime) -> Result<(), Fail> {
-    let mut builder = Builder::new(rt.alloc());
-    let input = builder.node(Signal::Input(0))?;
-    let one = builder.node(Signal::Const(1))?;
-    let group = builder.group()?;
-    let nothing = pair(&mut builder, Op::Sub, one, one)?;
-    let same = pair(&mut builder, Op::Add, input, nothing)?;
-    builder.close_group(group, &[same])?;
-    let member = builder.node(Signal::Member { group, i: 0 })?;
-    let product = pair(&mut builder, Op::Mul, member, one)?;
-    let first = late(&mut builder, product, 4)?;
-    let d = pair(&mut builder, Op::Add, one, one)?;
-    let second = builder.node(Signal::Delay {
-        x: first,
-        d,
-        max: 3,
-    })?;
-    let graph = builder.finish(&[second])?;
-    assert!(rt; are_short(&graph));
-    let simpler = simplify(rt.alloc(), &graph, &[])?;
-    assert_eq!(rt; first_by_number(&simpler), Some((Signal::Input(0), 6)));
     Ok(())
 }
 

@@ -12,8 +12,8 @@ use std::alloc::{AllocError, Global};
 use std::process::Abort;
 use std::test::Fail;
 
-// A signal more, where no group is open.
-fn put(builder: &mut Builder, signal: Signal) -> Result<SignalId, AllocError>
+/// A signal more, where no group is open.
+pub(crate) fn put(builder: &mut Builder, signal: Signal) -> Result<SignalId, AllocError>
     requires closed { AreClosed builder.old }
     requires can { CanPut builder.old signal }
     ensures closed { OnOk result (AreClosed builder.new) }
@@ -24,8 +24,8 @@ fn put(builder: &mut Builder, signal: Signal) -> Result<SignalId, AllocError>
     Ok(id)
 }
 
-// An operation on two signals.
-fn point(op: Op, x: SignalId, y: SignalId) -> Signal
+/// An operation on two signals.
+pub(crate) fn point(op: Op, x: SignalId, y: SignalId) -> Signal
     ensures { result ≡ Point op (x ∷ y ∷ x ∷ x ∷ []) }
 {
     let args = [x, y, x, x];
