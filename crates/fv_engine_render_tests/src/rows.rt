@@ -39,6 +39,30 @@ const NOISE: Case = Case {
     frames: 700,
 };
 
+// Two delays in a row, which are one.
+const DELAYS: Case = Case {
+    program: "process = _ : @(2) : @(3);",
+    script: "",
+    input: &[1, 2, 3, 4, 5, 6, 7],
+    frames: 7,
+};
+
+// A number two frames later.
+const LATER: Case = Case {
+    program: "process = 5 : mem : mem;",
+    script: "",
+    input: &[],
+    frames: 3,
+};
+
+// A product that wraps before it is divided.
+const WRAPPED: Case = Case {
+    program: "process = 2147483647 * 2 / 2;",
+    script: "",
+    input: &[],
+    frames: 1,
+};
+
 // How many frames a block and a vector have at most.
 const SIZES: [(u32, u32); 5] = [(1, 1), (7, 7), (7, 3), (512, 32), (4096, 64)];
 
@@ -65,6 +89,24 @@ fn an_echo(rt: HostRuntime) -> Result<(), Fail> {
     let wanted = [80, 0, 0, 33, 3, 0, 16, 1, 12, 8, 0, 11, 4];
     assert_eq!(rt; answer.samples.as_slice(), wanted.as_slice());
     assert_eq!(rt; answer.ran.blocks, 2);
+    Ok(())
+}
+
+// Loops are those of the simpler graph: of two delays in a row none for the first, and of numbers what they come to.
+#[test]
+fn graphs_are_simpler(rt: HostRuntime) -> Result<(), Fail> {
+    let rows: [(&Case, &[i32], u64); 3] = [
+        (&DELAYS, &[0, 0, 0, 0, 0, 1, 2], 2),
+        (&LATER, &[0, 0, 5], 2),
+        (&WRAPPED, &[-1], 1),
+    ];
+    for (case, samples, loops) in rows {
+        for (block, vector) in &SIZES {
+            let answer = rendered(&rt, rt.alloc(), case, *block, *vector, &mut FreeGate)?;
+            assert_eq!(rt; answer.samples.as_slice(), samples);
+            assert_eq!(rt; answer.ran.loops, loops);
+        }
+    }
     Ok(())
 }
 
