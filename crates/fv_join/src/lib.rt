@@ -1,4 +1,4 @@
-// Several graphs side by side in one.
+//! Several graphs side by side in one.
 #![tactic(auto)]
 
 mod copying;

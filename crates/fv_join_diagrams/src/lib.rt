@@ -1,4 +1,4 @@
-// Diagrams side by side, and graphs that are theirs.
+//! Diagrams side by side, and graphs that are theirs.
 #![tactic(auto)]
 
 mod laws;
