@@ -86,15 +86,16 @@ can_have s frames h =
       workers = let most = h.workers_most in omega arith;
     }
 
-pub makes_fit : (frames : ℕ) → CanHave (make_sizes frames)
-makes_fit frames = record { some = omega arith; block = omega arith; vector = omega arith; vectors = omega arith; one = omega arith; workers = omega arith }
+pub makes_fit : (workers frames : ℕ) → 1 ≤ workers → workers ≤ 16 → CanHave (make_sizes workers frames)
+makes_fit workers frames one few =
+    record { some = omega arith; block = omega arith; vector = omega arith; vectors = omega arith; one = one; workers = few }
 
 -- ---- the blocks of a make
 
 pub make_ran : {voices frames blocks loops runs : ℕ} {old : DeskState} {before after : Option Told} → MakeRan voices frames blocks loops runs before after
     → (x : AllRan (Making voices frames) old blocks loops runs before after) × (x.played.sizes.frames ≡ frames)
 make_ran {voices} {frames} m = (
-  record { played = record { program = m.0; changes = []; sizes = make_sizes frames }; is = (refl, refl, m.1); ran = m.2 },
+  record { played = record { program = m.0; changes = []; sizes = make_sizes m.1 frames }; is = (refl, refl, m.2); ran = m.3 },
   refl,
 )
 

@@ -25,9 +25,9 @@ pub record Played : Type 0 where
 abbrev pub sizes_of : Settings → (frames : ℕ) → RunSizes
 sizes_of s frames = record { frames = frames; block = s.block; vector = s.vector; workers = s.workers }
 
--- and those of a make
-abbrev pub make_sizes : (frames : ℕ) → RunSizes
-make_sizes frames = record { frames = frames; block = 256; vector = 32; workers = 1 }
+-- and those of a make by so many workers
+abbrev pub make_sizes : (workers frames : ℕ) → RunSizes
+make_sizes workers frames = record { frames = frames; block = 256; vector = 32; workers = workers }
 
 -- This is what is played: of a run, where the desk tells its files, their program under their script, as many frames as are
 -- there whole; of a make the program of so many voices.
@@ -37,7 +37,7 @@ IsPlayed (Playing run) old x =
     × (IsTrue old.tells → (p : Plays run old.files) × (p.of.compiled ≡ x.program) × (p.changes ≡ x.changes)
     × (length (present_in p.format p.source) ≡ x.sizes.frames))
 IsPlayed (Checking name) old x = ⊥
-IsPlayed (Making voices frames) old x = (x.sizes ≡ make_sizes frames) × (x.changes ≡ []) × IsMade voices x.program
+IsPlayed (Making voices frames) old x = (x.sizes ≡ make_sizes x.sizes.workers frames) × (x.changes ≡ []) × IsMade voices x.program
 
 -- Its blocks ran: in each of them each loop of a plan of the program ran once on each vector, after all that it reads.
 pub record AllRan (job : Job) (old : DeskState) (blocks loops runs : ℕ) (before after : Option Told) : Type 0 where
@@ -46,10 +46,10 @@ pub record AllRan (job : Job) (old : DeskState) (blocks loops runs : ℕ) (befor
   pub ran : RanWhole played.program.diagram played.program.controls played.changes played.sizes
       (record { blocks = blocks; loops = loops; loop_runs = runs }) before after
 
--- the blocks of a make
+-- the blocks of a make, by however many workers
 abbrev pub MakeRan : (voices frames blocks loops runs : ℕ) → (before after : Option Told) → Type 0
 MakeRan voices frames blocks loops runs before after =
-    (p : Compiled) × IsMade voices p × RanWhole p.diagram p.controls [] (make_sizes frames)
+    (p : Compiled) × (workers : ℕ) × IsMade voices p × RanWhole p.diagram p.controls [] (make_sizes workers frames)
     (record { blocks = blocks; loops = loops; loop_runs = runs }) before after
 
 -- the same, however many

@@ -6,6 +6,7 @@ ghost use Rattle.fv_interval.specs.Delays.{AreAccepted};
 ghost use Rattle.fv_diagram.specs.Diagram.{inputs};
 ghost use Rattle.fv_engine_render.specs.Render.{RanWhole};
 ghost use Rattle.fv_top_words.specs.Commands.{most_voices};
+ghost use Rattle.fv_top_words.specs.Runs.{most_workers};
 ghost use Rattle.fv_top_report.specs.declared.refusal.Refusal.TheVariants.{WriteFault, NoMemory};
 ghost use Rattle.fv_top.specs.Played.{make_sizes, MakeRan, MakeSoFar};
 ghost use Rattle.fv_top.specs.Meant.{made_sum};
@@ -39,17 +40,19 @@ struct Made {
     ran: Ran,
 }
 
-/// Makes a program of so many voices and so many frames of noise, and reports the sum of what it gives.
+/// Makes a program of so many voices and so many frames of noise, has so many workers play it, and reports the sum of what it gives.
 pub fn run_make<R: Threads + Wait + Sync, D: Desk, G: Gate + Sync>(
     rt: &R,
     alloc: Global,
     desk: &mut D,
     voices: u32,
     frames: u32,
+    workers: u32,
     gate: &mut G,
 ) -> Result<Ran, Refusal>
     requires some { 1 ≤ voices }
     requires few { voices ≤ most_voices }
+    requires workers { (1 ≤ workers) × (workers ≤ most_workers) }
     ensures done { OnOk result (Makes voices frames (D.state desk.old) (D.state desk.new)) }
     ensures ran { IfOk result (λ r. MakeRan voices frames r.blocks r.loops r.loop_runs (G.told gate.old) (G.told gate.new)) }
     ensures stops { IfErr result (StopsMake voices frames (D.state desk.old) (D.state desk.new)) }
@@ -57,7 +60,7 @@ pub fn run_make<R: Threads + Wait + Sync, D: Desk, G: Gate + Sync>(
     ensures so_far { IfErr result (λ e. ((G.told gate.new ≡ G.told gate.old) × (e ≡ WriteFault Report → ⊥))
         ⊎ MakeSoFar voices frames (G.told gate.old) (G.told gate.new)) }
 {
-    let made = made_sum(rt, alloc, voices, frames, gate)?;
+    let made = made_sum(rt, alloc, voices, frames, workers, gate)?;
     match report_made(desk, voices, frames, made.sum) {
         Ok(()) => Ok(made.ran),
         Err(_) => Err(Refusal::WriteFault { role: Role::Report }),
@@ -70,10 +73,12 @@ fn made_sum<R: Threads + Wait + Sync, G: Gate + Sync>(
     alloc: Global,
     voices: u32,
     frames: u32,
+    workers: u32,
     gate: &mut G,
 ) -> Result<Made, Refusal>
     requires some { 1 ≤ voices }
     requires few { voices ≤ most_voices }
+    requires workers { (1 ≤ workers) × (workers ≤ most_workers) }
     ensures sum { IfOk result (λ m. HasSum voices frames m.sum) }
     ensures ran { IfOk result (λ m. MakeRan voices frames m.ran.blocks m.ran.loops m.ran.loop_runs (G.told gate.old) (G.told gate.new)) }
     // Its text is a program, so only memory is wanted.
@@ -81,7 +86,9 @@ fn made_sum<R: Threads + Wait + Sync, G: Gate + Sync>(
     ensures err { OnErr result (gate.new ≡ gate.old) }
 {
     let (program, delays) = made_program(alloc, voices)?;
-    let made = sum_on_noise(rt, alloc, &program, &delays, voices, frames, gate)?;
+    let made = sum_on_noise(
+        rt, alloc, &program, &delays, voices, frames, workers, gate,
+    )?;
     Ok(made)
 }
 
@@ -109,14 +116,16 @@ fn sum_on_noise<R: Threads + Wait + Sync, G: Gate + Sync>(
     delays: &Delays,
     voices: u32,
     frames: u32,
+    workers: u32,
     gate: &mut G,
 ) -> Result<Made, AllocError>
     requires voices { voices ≤ most_voices }
+    requires workers { (1 ≤ workers) × (workers ≤ most_workers) }
     requires plays { CanPlay program.now }
     requires accepted { AreAccepted (delays_in (compiled_of program.now)) delays.now }
     requires one { inputs (compiled_of program.now).diagram ≡ 1 }
     ensures sum { IfOk result (λ m. m.sum ≡ made_sum (compiled_of program.now) voices frames) }
-    ensures ran { IfOk result (λ m. RanWhole (compiled_of program.now).diagram (compiled_of program.now).controls [] (make_sizes frames)
+    ensures ran { IfOk result (λ m. RanWhole (compiled_of program.now).diagram (compiled_of program.now).controls [] (make_sizes workers frames)
         m.ran (G.told gate.old) (G.told gate.new)) }
     ensures err { OnErr result (gate.new ≡ gate.old) }
 {
@@ -131,7 +140,7 @@ fn sum_on_noise<R: Threads + Wait + Sync, G: Gate + Sync>(
         frames,
         block: BLOCK,
         vector: VECTOR,
-        workers: 1,
+        workers,
     };
     let ready = make_ready(alloc, &source, &[], &sizes)?;
     let mut tape = NoiseTape {

@@ -57,8 +57,12 @@ fn perform<R: Threads + Wait + Sync, D: Desk, G: Gate + Sync>(
                 loop_runs: 0,
             })
         }
-        Job::Make { voices, frames } => {
-            let ran = run_make(rt, alloc, desk, voices, frames, gate)?;
+        Job::Make {
+            voices,
+            frames,
+            workers,
+        } => {
+            let ran = run_make(rt, alloc, desk, voices, frames, workers, gate)?;
             Ok(Tally {
                 frames,
                 blocks: ran.blocks,

@@ -79,7 +79,7 @@ command_of _ = Err Form
 
 -- ---- what is done
 
--- what a command asks for, where one worker does it
+-- what a command asks for, however many workers do it
 pub data Job : Type 0 where
   Playing : (run : Run) → Job
   Checking : (program : List ℕ) → Job

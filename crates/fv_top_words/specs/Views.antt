@@ -19,7 +19,7 @@ use Rattle.fv_top_words.specs.declared.command.Job.TheVariants as jobs
 use Rattle.fv_top_words.specs.Pieces.{Kind, Bare, Ends, Apart, Joined, State, Any, Value, Names as NamesAlone, piece_of, state_after, cut}
 use Rattle.fv_top_words.specs.Texts.{Texts, take_piece, gathered}
 use Rattle.fv_top_words.specs.Numbers.{Numbers}
-use Rattle.fv_top_words.specs.Runs.{Settings, Run, AreSound}
+use Rattle.fv_top_words.specs.Runs.{Settings, Run, AreSound, most_workers}
 use Rattle.fv_top_words.specs.Commands.{Command, Play, Check, Make, Job, Playing, Checking, Making, most_voices}
 
 -- the kind of a word
@@ -108,7 +108,7 @@ run_answered (Err e) = Err e
 abbrev pub job_view : Jobs → Job
 job_view (jobs.Run run) = Playing (run_in run)
 job_view (jobs.Check program) = Checking program.now
-job_view (jobs.Make voices frames) = Making voices frames
+job_view (jobs.Make voices frames workers) = Making voices frames
 
 -- the same as an answer
 abbrev pub job_answered : Result Jobs Cause → Result Job Cause
@@ -121,17 +121,17 @@ command_view (commands.Run run) = Play (run_in run)
 command_view (commands.Check program) = Check program.now
 command_view (commands.Make voices frames workers) = Make voices frames workers
 
--- a command's numbers are within their ranges: the settings of a run, and the voices of a make
+-- a command's numbers are within their ranges: the settings of a run, and the voices and workers of a make
 abbrev pub IsInRange : Commands → Type 0
 IsInRange (commands.Run run) = AreSound (settings_in run.settings)
 IsInRange (commands.Check program) = Unit {0}
-IsInRange (commands.Make voices frames workers) = (1 ≤ voices) × (voices ≤ most_voices)
+IsInRange (commands.Make voices frames workers) = (1 ≤ voices) × (voices ≤ most_voices) × (1 ≤ workers) × (workers ≤ most_workers)
 
 -- and so are those of what is asked for
 abbrev pub IsJobInRange : Jobs → Type 0
 IsJobInRange (jobs.Run run) = AreSound (settings_in run.settings)
 IsJobInRange (jobs.Check program) = Unit {0}
-IsJobInRange (jobs.Make voices frames) = (1 ≤ voices) × (voices ≤ most_voices)
+IsJobInRange (jobs.Make voices frames workers) = (1 ≤ voices) × (voices ≤ most_voices) × (1 ≤ workers) × (workers ≤ most_workers)
 
 -- the same as an answer
 abbrev pub command_answered : Result Commands Cause → Result Command Cause

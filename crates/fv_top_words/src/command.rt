@@ -117,7 +117,7 @@ fn make<'a>(voices: u64, frames: u64, workers: u64) -> Result<Command<'a>, Cause
     })
 }
 
-/// What is to be done, by one worker.
+/// What is to be done.
 #[derive(Clone, Copy)]
 pub enum Job<'a> {
     /// A program is run.
@@ -125,7 +125,11 @@ pub enum Job<'a> {
     /// A program is compiled alone.
     Check { program: &'a str },
     /// A program and an input are made, and run.
-    Make { voices: u32, frames: u32 },
+    Make {
+        voices: u32,
+        frames: u32,
+        workers: u32,
+    },
 }
 
 /// What the words ask for.
@@ -137,6 +141,14 @@ pub fn job_in(words: &[String]) -> Result<Job<'_>, Cause>
     Ok(match command {
         Command::Run(run) => Job::Run(run),
         Command::Check { program } => Job::Check { program },
-        Command::Make { voices, frames, .. } => Job::Make { voices, frames },
+        Command::Make {
+            voices,
+            frames,
+            workers,
+        } => Job::Make {
+            voices,
+            frames,
+            workers,
+        },
     })
 }

@@ -12,4 +12,4 @@ returns-clause-sum g c =
     record { compiled = compiled_of c.in_ok-program.program; made = c.in_ok-program.ensures.made; is = c.in_ok-made.ensures.sum }
 
 pub returns-clause-ran : goal.returns-clause-ran
-returns-clause-ran g c = (compiled_of c.in_ok-program.program, c.in_ok-program.ensures.made, c.in_ok-made.ensures.ran)
+returns-clause-ran g c = (compiled_of c.in_ok-program.program, c.args.workers, c.in_ok-program.ensures.made, c.in_ok-made.ensures.ran)
