@@ -1,9 +1,11 @@
-use Rattle.std.proofs.Common.{◌≡◌, ◌<◌, ◌≤◌, ◌-◌, ◌++◌, length, map, sym, ap, ◌∙◌, subst, arith, vec_len, vec_capacity}
+use Rattle.std.proofs.Common.{◌≡◌, ◌<◌, ◌≤◌, ◌-◌, ◌++◌, length, map, take, drop, sym, ap, ◌∙◌, subst, arith, vec_len, vec_capacity}
 use Rattle.std.specs.List.{flat_map}
-use Rattle.fv_graph.specs.Graph.{Graph, edges_of}
+use Rattle.fv_outside.specs.Tasks.{task_count}
+use Rattle.fv_outside.specs.Journal.{IsOrdered}
+use Rattle.fv_graph.specs.Graph.{Graph, edges_of, net_of}
 use Rattle.fv_ready_rule.specs.Rule.{wins}
 use Rattle.fv_ready.specs.Boards.{about_of, name_of, tasks_of}
-use Rattle.fv_ready.specs.Counted.{HaveAll, told_by}
+use Rattle.fv_ready.specs.Counted.{HaveAll, NothingLeft, told_by}
 use Rattle.fv_steal.specs.Crews.{seat_of, lines_of, IsCrew}
 use Rattle.fv_steal.specs.Journals.{AreThrough, AreSortedLines}
 use Rattle.fv_steal_block.specs.Parcels.{AreParcelsFrom}
@@ -55,6 +57,43 @@ close-requires-2-clause-all g c =
     let same : map seat_of new ≡ c.seats_of.result.items = sym (c.seats_of.ensures ∙ ap (map seat_of) (written (vec_len ws) new ws.items all)) in
     subst (λ ss. HaveAll (about_of c.in-Ok-begin.made.0).workers ss) same c.work.ensures.seats.1
 
+-- the seats that were given back are those of the crew, as it returned
+back : (g : _) (c : goal.After-close-2 g) → take (vec_len c.in-Ok-crew.crew) (c.work.new.workers ++ drop (length c.work.new.workers) c.in-Ok-crew.crew.items)
+    ≡ c.work.new.workers
+back g c =
+    let new = c.work.new.workers in
+    let a = c.work.auto.workers in
+    let v = ap length c.as_mut_slice.ensures.value in
+    let o = c.in-Ok-crew.crew.ok.0 in
+    written (vec_len c.in-Ok-crew.crew) new c.in-Ok-crew.crew.items (omega arith)
+
+worked : (g : _) (c : goal.After-close-2 g)
+    → Worked g.C.Parcel.edge_of g.C.Parcel.key_of c.in-Ok-begin.made.0 c.args.tasks.now c.work.new.workers c.seats_of.result.items
+worked g c = record {
+  graph = c.in-Ok-begin.ensures.tasks.0;
+  told = c.in-Ok-begin.ensures.tasks.1;
+  seats_are = c.seats_of.ensures ∙ ap (map seat_of) (back g c);
+  workers = c.work.ensures.workers;
+}
+
+-- nothing is left over, so the board is done
+none_left : (g : _) (c : goal.After-close-2 g) → NothingLeft (net_of (tasks_of c.in-Ok-begin.made.0)) c.seats_of.result.items
+none_left g c = left_of_board (worked g c) c.work.ensures.left
+
+-- the crew is through, and its sorted lines are the journal
+told : (g : _) (c : goal.After-close-2 g) → IsOrdered c.args.tasks.now.tasks c.sort_lines.new.lines.items
+    × (length c.sort_lines.new.lines.items ≡ task_count c.args.tasks.now.tasks)
+told g c =
+    let new = c.work.new.workers in
+    let same = c.as_slice.ensures.value ∙ back g c in
+    let done = c.close-2.ensures.whole (none_left g c) in
+    let t : AreThrough c.args.tasks.now.tasks new = through (worked g c) c.close-2.ensures.tells (c.close-2.ensures.done.0 done.0) in
+    let s : AreSortedLines new c.sort_lines.new.lines.items =
+    sorted (worked g c) c.journal_law.ensures.count c.loops.ensures.graph t (vec_capacity c.args.lines.now) c.requires.room c.copy_lines.new.lines.items
+    c.sort_lines.new.lines.items (λ fits. c.copy_lines.ensures.lines (subst (λ us. length (flat_map lines_of us) ≤ vec_capacity c.args.lines.now)
+    (sym same) fits) ∙ ap (flat_map lines_of) same) c.sort_lines.ensures.permutation c.sort_lines.ensures.starts in
+    c.journal_law.ensures.journal c.args.tasks.now.tasks new c.sort_lines.new.lines.items c.loops.ensures.graph t s
+
 pub returns-clause-exits : goal.returns-clause-exits
 returns-clause-exits g c =
     let of = g.C.Parcel.edge_of in
@@ -65,16 +104,7 @@ returns-clause-exits g c =
     let some : 0 < length c.args.entries.items = omega (arith, c.requires.entries.count, c.loops.ensures.graph.some_loop) in
     let same : key d ≡ g.B.Body.key c.args.body.now =
     sym (e.key 0 d (omega (arith, some, c.args.entries.ok))) ∙ c.requires.entries.keys 0 d (omega (arith, some, c.requires.entries.count)) in
-    let ws = c.in-Ok-crew.crew in
-    let new = c.work.new.workers in
-    let all : vec_len ws ≡ length new = let a = c.work.auto.workers in let v = ap length c.as_mut_slice.ensures.value in let o = ws.ok.0 in omega arith in
-    let h : Worked of key b c.args.tasks.now new c.seats_of.result.items = record {
-      graph = e.tasks.0;
-      told = e.tasks.1;
-      seats_are = c.seats_of.ensures ∙ ap (map seat_of) (written (vec_len ws) new ws.items all);
-      workers = c.work.ensures.workers;
-    } in
-    let gains = c.close-2.ensures.exits (c.close-2.ensures.whole (left_of_board h c.work.ensures.left)).0 in
+    let gains = c.close-2.ensures.exits (c.close-2.ensures.whole (none_left g c)).0 in
     let ps = gains.0 in
     let loops : length ps ≡ c.args.tasks.now.tasks.loops = gains.2 ∙ ap (λ (x : Graph). x.tasks.loops) e.tasks.0 in
     let from : edges_of (tasks_of b) - (tasks_of b).loops ≡ edges_of c.args.tasks.now.tasks - c.args.tasks.now.tasks.loops =
@@ -86,51 +116,7 @@ returns-clause-exits g c =
     (edges_of (tasks_of b) - (tasks_of b).loops) c.args.tasks.now.tasks.loops ps loops gains.3 same))
 
 pub returns-clause-journal : goal.returns-clause-journal
-returns-clause-journal g c =
-    let of = g.C.Parcel.edge_of in
-    let key = g.C.Parcel.key_of in
-    let b = c.in-Ok-begin.made.0 in
-    let e = c.in-Ok-begin.ensures in
-    let ws = c.in-Ok-crew.crew in
-    let new = c.work.new.workers in
-    let all : vec_len ws ≡ length new = let a = c.work.auto.workers in let v = ap length c.as_mut_slice.ensures.value in let o = ws.ok.0 in omega arith in
-    let whole = written (vec_len ws) new ws.items all in
-    let h : Worked of key b c.args.tasks.now new c.seats_of.result.items = record {
-      graph = e.tasks.0;
-      told = e.tasks.1;
-      seats_are = c.seats_of.ensures ∙ ap (map seat_of) whole;
-      workers = c.work.ensures.workers;
-    } in
-    let done = c.close-2.ensures.whole (left_of_board h c.work.ensures.left) in
-    let t : AreThrough c.args.tasks.now.tasks new = through h c.close-2.ensures.tells (c.close-2.ensures.done.0 done.0) in
-    let s : AreSortedLines new c.sort_lines.new.lines.items =
-    sorted h c.journal_law.ensures.count c.loops.ensures.graph t (vec_capacity c.args.lines.now) c.requires.room c.copy_lines.new.lines.items
-    c.sort_lines.new.lines.items (λ fits. c.copy_lines.ensures.lines (subst (λ us. length (flat_map lines_of us) ≤ vec_capacity c.args.lines.now)
-    (sym (c.as_slice.ensures.value ∙ whole)) fits) ∙ ap (flat_map lines_of) (c.as_slice.ensures.value ∙ whole))
-    c.sort_lines.ensures.permutation c.sort_lines.ensures.starts in
-    (c.journal_law.ensures.journal c.args.tasks.now.tasks new c.sort_lines.new.lines.items c.loops.ensures.graph t s).0
+returns-clause-journal g c = (told g c).0
 
 pub returns-clause-count : goal.returns-clause-count
-returns-clause-count g c =
-    let of = g.C.Parcel.edge_of in
-    let key = g.C.Parcel.key_of in
-    let b = c.in-Ok-begin.made.0 in
-    let e = c.in-Ok-begin.ensures in
-    let ws = c.in-Ok-crew.crew in
-    let new = c.work.new.workers in
-    let all : vec_len ws ≡ length new = let a = c.work.auto.workers in let v = ap length c.as_mut_slice.ensures.value in let o = ws.ok.0 in omega arith in
-    let whole = written (vec_len ws) new ws.items all in
-    let h : Worked of key b c.args.tasks.now new c.seats_of.result.items = record {
-      graph = e.tasks.0;
-      told = e.tasks.1;
-      seats_are = c.seats_of.ensures ∙ ap (map seat_of) whole;
-      workers = c.work.ensures.workers;
-    } in
-    let done = c.close-2.ensures.whole (left_of_board h c.work.ensures.left) in
-    let t : AreThrough c.args.tasks.now.tasks new = through h c.close-2.ensures.tells (c.close-2.ensures.done.0 done.0) in
-    let s : AreSortedLines new c.sort_lines.new.lines.items =
-    sorted h c.journal_law.ensures.count c.loops.ensures.graph t (vec_capacity c.args.lines.now) c.requires.room c.copy_lines.new.lines.items
-    c.sort_lines.new.lines.items (λ fits. c.copy_lines.ensures.lines (subst (λ us. length (flat_map lines_of us) ≤ vec_capacity c.args.lines.now)
-    (sym (c.as_slice.ensures.value ∙ whole)) fits) ∙ ap (flat_map lines_of) (c.as_slice.ensures.value ∙ whole))
-    c.sort_lines.ensures.permutation c.sort_lines.ensures.starts in
-    (c.journal_law.ensures.journal c.args.tasks.now.tasks new c.sort_lines.new.lines.items c.loops.ensures.graph t s).1
+returns-clause-count g c = (told g c).1
