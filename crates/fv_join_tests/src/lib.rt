@@ -1,0 +1,11 @@
+// Tests of graphs side by side.
+#![tactic(auto)]
+
+#[cfg(test)]
+mod graphs;
+#[cfg(test)]
+mod jobs;
+#[cfg(test)]
+mod play;
+#[cfg(test)]
+mod side_by_side;
