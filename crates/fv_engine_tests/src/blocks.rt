@@ -255,9 +255,26 @@ fn assert_differences<R: Abort + Threads + Wait + Sync>(
     let input = [1, 4, 9, 16, 25, 36, 49, 64, 81, 100, 121, 144];
     let mut output = [0; 12];
     let mut recorder = Recorder::new(alloc, 1, 12)?;
-    let reported = play_graph(rt, alloc, graph, sizes, 12, &input, &mut output, &mut recorder)?;
-    assert_eq!(rt; (reported.tasks, reported.alone), (12, 0), "workers {workers}");
-    assert_eq!(rt; output, [1, 3, 5, 7, 9, 11, 13, 15, 17, 19, 21, 23], "workers {workers}");
+    let reported = play_graph(
+        rt,
+        alloc,
+        graph,
+        sizes,
+        12,
+        &input,
+        &mut output,
+        &mut recorder,
+    )?;
+    assert_eq!(rt;
+        (reported.tasks, reported.alone),
+        (12, 0),
+        "workers {workers}"
+    );
+    assert_eq!(rt;
+        output,
+        [1, 3, 5, 7, 9, 11, 13, 15, 17, 19, 21, 23],
+        "workers {workers}"
+    );
     let Some((_, _, _, lines)) = block_of(&recorder, 0) else {
         panic!(rt; "no block");
     };

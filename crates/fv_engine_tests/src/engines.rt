@@ -62,7 +62,14 @@ pub(crate) fn engine_of(
     if long {
         return Ok(None);
     }
-    let engine = Engine::prepare(alloc, plan, sizes.width, sizes.workers, sizes.block, sizes.vector)?;
+    let engine = Engine::prepare(
+        alloc,
+        plan,
+        sizes.width,
+        sizes.workers,
+        sizes.block,
+        sizes.vector,
+    )?;
     Ok(Some(engine))
 }
 

@@ -86,9 +86,7 @@ fn made_sum<R: Threads + Wait + Sync, G: Gate + Sync>(
     ensures err { OnErr result (gate.new ≡ gate.old) }
 {
     let (program, delays) = made_program(alloc, voices)?;
-    let made = sum_on_noise(
-        rt, alloc, &program, &delays, voices, frames, workers, gate,
-    )?;
+    let made = sum_on_noise(rt, alloc, &program, &delays, voices, frames, workers, gate)?;
     Ok(made)
 }
 

@@ -123,7 +123,9 @@ pub enum Job<'a> {
     /// A program is run.
     Run(Run<'a>),
     /// A program is compiled alone.
-    Check { program: &'a str },
+    Check {
+        program: &'a str,
+    },
     /// A program and an input are made, and run.
     Make {
         voices: u32,
