@@ -5,6 +5,7 @@ pub mod Sound
 pub mod Grown
 pub mod Named
 pub mod Lookups
+pub mod Skipped
 pub mod Matched
 pub mod Scoped
 pub mod LiteralNumbers

@@ -6,6 +6,7 @@ pub mod Sound
 pub mod Puts
 pub mod Examples
 pub mod Environments
+pub mod Skips
 pub mod Shows
 pub mod ByName
 pub mod Memo

@@ -95,3 +95,48 @@ fn patterns_of_an_integer(rt: HostRuntime) -> Result<(), Fail> {
     );
     Ok(())
 }
+
+// What the names behind a hundred scopes are bound to: of the names 150 to 350, those from 200 on to 299 are bound, each to
+// an abstraction that tells how far it is.
+fn bound_names(alloc: Global, tree: &Tree) -> Result<Vec<u64>, AllocError> {
+    let definitions = Definitions::new(alloc, tree)?;
+    let mut scopes = Scopes::new(alloc);
+    let mut env = scopes.open(tree.root(), 0)?;
+    for i in 0..100 {
+        let value = Value::Abstraction {
+            node: tree.root(),
+            bound: i,
+            env: 0,
+        };
+        env = scopes.bind(200 + i, value, env)?;
+    }
+    let mut bound = Vec::new(alloc);
+    for name in 150..350 {
+        if let Meaning::Known(Value::Abstraction { bound: i, .. }) = definitions.look_up(
+            &scopes, name, env,
+        ) {
+            bound.push(i)?;
+        }
+    }
+    if let Meaning::Body { env, .. } = definitions.look_up(&scopes, tree.name(0), env) {
+        bound.push(env)?;
+    }
+    Ok(bound)
+}
+
+#[test]
+fn a_name_behind_many_scopes_is_found(rt: HostRuntime) -> Result<(), Fail> {
+    let alloc = rt.alloc();
+    let found = tokens(alloc, b"process = 1;")?;
+    let Ok(tree) = parse(alloc, &found) else {
+        return Err(Fail::new());
+    };
+    let bound = bound_names(alloc, &tree)?;
+    let mut expected = Vec::new(alloc);
+    for i in 0..100u64 {
+        expected.push(i)?;
+    }
+    expected.push(1)?;
+    assert_eq!(rt; bound.as_slice(), expected.as_slice());
+    Ok(())
+}

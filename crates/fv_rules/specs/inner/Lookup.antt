@@ -4,10 +4,7 @@ use Rattle.std.specs.List.{list_all}
 use Rattle.fv_parse_grammar.specs.Tree.{Tree, Named, items}
 use Rattle.fv_parse.specs.Trees.{Parsed, size_of, tree_in}
 use Rattle.fv_rules.specs.declared.value.Meaning as code_meaning
-use Rattle.fv_rules.specs.declared.value.Value as code_value
 use Rattle.fv_rules.specs.declared.value.Scope as code_scope
-use Rattle.fv_rules.specs.declared.value.Scope.TheVariants as scope
-use Rattle.fv_rules.specs.Environments.{scope_in}
 use Rattle.fv_rules.specs.Values.{Name, Env, Outermost, Bound, Scope, Meaning, is_of, definition_of, or_else, lookup}
 use Rattle.fv_rules.specs.Shows.{World, IsNamed, ShowsEnv, ShowsMeaning}
 
@@ -26,11 +23,6 @@ SaysOrPasses w None here beyond = here ≡ beyond
 pub record StillReaches (p : Parsed) (scopes : List code_scope.Scope) (name env at : ℕ) : Type 0 where
   pub further : (w : World) (x : Name) (E : Env) → w.tree ≡ p → w.scopes ≡ scopes → IsNamed w name x → ShowsEnv w env E
       → (F : Env) × ShowsEnv w at F × (lookup p.tokens E x ≡ lookup p.tokens F x)
-
--- the innermost scope of an environment binds another name, and this environment is around it
-abbrev pub BindsAnother : List code_scope.Scope → (name env outer : ℕ) → Type 0
-BindsAnother scopes name env outer =
-    (other : ℕ) × (u : code_value.Value) × (scope_in scopes env ≡ Some (scope.Bound other u outer)) × (other ≡ name → ⊥)
 
 -- this is what the definitions of a name in a list make of it, where this is the first one of so many
 abbrev pub IsMade : Parsed → (list first count env : ℕ) → code_meaning.Meaning → Type 0

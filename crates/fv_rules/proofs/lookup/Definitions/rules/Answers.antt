@@ -1,4 +1,4 @@
-use Rattle.std.proofs.Common.{◌∙◌, ap, sym, subst}
+use Rattle.std.proofs.Common.{◌∙◌, ap, sym}
 use Rattle.fv_rules.specs.Shows.{rules_in}
 use Rattle.fv_rules.proofs.RuleNodes.{case_rules_are, functions_nodes, nodes_there}
 use Rattle.fv_rules.proofs.lookup.Definitions.rules.Goals as goal

@@ -1,5 +1,6 @@
 use Rattle.std.proofs.Common.{arith}
-use Rattle.fv_rules.proofs.Lookups.{look_begins, look_passes}
+use Rattle.fv_rules.proofs.Lookups.{look_begins}
+use Rattle.fv_rules.proofs.Skipped.{look_passes_by}
 use Rattle.fv_rules.proofs.scopes.Scopes.pass.Goals as goal
 
 pub passing-init : goal.passing-init
@@ -9,4 +10,4 @@ pub passing-preserved : goal.passing-preserved
 passing-preserved c =
     let near = c.passing.invariant in
     let step = c.in-Some.ensures in
-    record { reaches = λ p. look_passes (near.reaches p) step.1; outward = omega (arith, near.outward, step.0) }
+    record { reaches = λ p. look_passes_by _ _ step.1.0 (near.reaches p) step.1.1; outward = omega (arith, near.outward, step.0) }
