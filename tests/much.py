@@ -1,0 +1,173 @@
+#!/usr/bin/env python3
+"""Outside the gate: what asks for much within the limits, given to the built program: the worst texts of 1 MiB, the largest delays,
+scripts of 1 MiB, heads that state much and have little. Prints a table of the processor's time and the memory of each; what takes
+more than 10 seconds or 1.5 GB is told, and ends it with status 1.
+
+    tests/much.py [--program FILE] [--only WORD] [--seconds N]"""
+import argparse
+import os
+import resource
+import signal
+import struct
+import subprocess
+import sys
+import tempfile
+import time
+
+TOP = os.path.join(os.path.dirname(os.path.abspath(__file__)), "..")
+MOST = 1_048_576
+MOST_SECONDS, MOST_KIB = 10, 1_500_000
+CONTROL = 'hslider("%d",0,0,1,1)'
+
+
+def filled(before, piece, after, between=""):
+    """The longest text of at most 1 MiB: pieces, numbered where they have a %d, between two ends."""
+    pieces, left, number = [], MOST - len(before) - len(after), 0
+    while True:
+        text = (between if number else "") + (piece % number if "%d" in piece else piece)
+        if len(text) > left:
+            return before + "".join(pieces) + after
+        pieces.append(text)
+        left -= len(text)
+        number += 1
+
+
+def wave(channels, bits, size, data=b"", before=b""):
+    form = struct.pack("<IHHIIHH", 16, 1, channels, 44100, 44100 * channels * bits // 8 % 2**32, channels * bits // 8, bits)
+    return b"RIFF" + struct.pack("<I", 2**32 - 1) + b"WAVE" + before + b"fmt " + form + b"data" + struct.pack("<I", size) + data
+
+
+ENDLESS = "f(n) = f(n+1); process = f(2000000);"
+# what asks for much, the program's text, and, where there are some, its input, its script and its options
+TEXTS = [
+    ("blanks", " " * MOST),
+    ("one comment", "/*" + " " * (MOST - 4) + "*/"),
+    ("one name", "process = " + "x" * (MOST - 11) + ";"),
+    ("one string", 'process = button("' + "x" * (MOST - 20) + '");'),
+    ("digits", "process = " + "0" * (MOST - 12) + "1;"),
+    ("a label of 1 MB, twice", 'b = button("' + "x" * 524_000 + '"); process = b + button("' + "x" * 524_000 + '");'),
+    ("a chain of wires", filled("process = ", "_", ";", ",")),
+    ("a chain of `:`", filled("process = ", "_", ";", ":")),
+    ("a chain of `~`", filled("process = ", "_", ";", "~")),
+    ("a chain of `+`", filled("process = ", "1", ";", "+")),
+    ("a chain of `'`", filled("process = _", "'", ";")),
+    ("a chain of applications", filled("process = _", "(_)", ";")),
+    ("arguments", filled("process = _(", "1", ");", ",")),
+    ("128 brackets, again and again", filled("process = ", "(" * 127 + "_" + ")" * 127, ";", ",")),
+    ("128 abstractions, again and again", filled("process = ", "\\(x).(" * 60 + "x" + ")" * 60 + "(1)", ";", ",")),
+    ("`with` behind `with`", filled("process = 1 ", "with{}", ";")),
+    ("`with` behind `with`, a name each", filled("process = sum(i,16000,z) ", "with{a%d=1;}", " with{z=1;};")),
+    ("`with` behind `with`, an outer name on and on", filled("z = 1; process = f(1) with{f(n)=f(n+z);} ", "with{a%d=1;}", ";")),
+    ("definitions", filled("", "a%d=1;", "process=1;")),
+    ("definitions, each by the next", filled("process=a0;", "a%d=_;", "")),
+    ("definitions that name one another", "process=a0;" + "".join(f"a{i}=a{i + 1};" for i in range(70_000)) + "a70000=1;"),
+    ("one name defined again and again", filled("process=1;", "a=1;", "")),
+    ("rules of one name", filled("", "f(%d)=1;", "process=f(1);")),
+    ("rules of one name, on and on", filled("", "f(%d)=1;", ENDLESS)),
+    ("rules of one case, on and on", filled("f = case{", "(%d)=>1;", "(n)=>f(n+1);}; process=f(2000000);")),
+    ("rules of two patterns, on and on", filled("", "f(n,%d)=1;", "f(n,m)=f(n+1,m); process = f(1,2000000);")),
+    ("rules of a long pattern, on and on", filled("", "f((" + ",".join(f"x{i}" for i in range(4000)) + ",%d))=1;", "f(x)=f(x); process = f(par(i,4002,_));")),
+    ("rules of long patterns", filled("f((", "x%d", "))=1; process=f(1);", ",")),
+    ("a definition's parameters", filled("f(", "x%d", ")=1; process=f(1);", ",")),
+    ("an abstraction's parameters", filled("process = \\(", "x%d", ").(1);", ",")),
+    ("an abstraction's parameters, all given", "process = \\(" + ",".join(f"x{i}" for i in range(100_000)) + ").(x7)(" + ",".join(["1"] * 100_000) + ");"),
+    (
+        "a name behind parameters, on and on",
+        "y = 1; g(" + ",".join(f"x{i}" for i in range(100_000)) + ") = f(1) with { f(n) = f(n+y); }; process = g(" + ",".join(["1"] * 100_000) + ");",
+    ),
+    ("an evaluation that does not end", ENDLESS),
+    ("an evaluation that doubles", "f(n) = f(n+1),f(n+1); process = f(0);"),
+    ("an evaluation of large diagrams", "d = par(i,8000,_); f(n) = f(n+outputs(d)); process = f(0);"),
+    ("arguments that are large numbers' diagrams", "f(n) = f(n + sum(i,2000,i)); process = f(0);"),
+    ("large diagrams put on and on", "d = par(i,5000,_); f(n,x) = f(n+1,(d:x)); process = f(0,d);"),
+    ("large arguments, matched on and on", "d = par(i,8000,_); f((x,y),n) = f((x,y),n+1); process = f(d,0);"),
+    ("iterations in iterations", "process = par(i,99,par(j,99,par(k,99,i+j+k)));"),
+    ("controls", filled("process = ", CONTROL, " :> _;", ",")),
+    ("controls, 256 outputs", "process = " + ",".join(CONTROL % i for i in range(256)) + ";"),
+    ("controls in a sum", "process = sum(i,4000," + CONTROL % 0 + ");"),
+    ("16,000 controls", "process = " + ",".join(CONTROL % i for i in range(8_000)) + " :> _;"),
+    ("one control, again and again", "process = " + ",".join([CONTROL % 1] * 8_000) + " :> _;"),
+    ("256 streams", "process = par(i,256,_);"),
+    ("the widest split and merge", "process = _ <: par(i,8000,_) :> _;"),
+    ("a sum of squares", "process = _ <: par(i,4000,*(i)) :> _;"),
+    ("feedback in feedback", "process = " + "(" * 120 + "_" + " ~ _)" * 120 + " : !, 1 <: _;"),
+    ("feedback of 5,000 streams", "process = _ <: (par(i,5000,+) ~ par(i,5000,_)) :> _;"),
+    ("delays of a second", "process = _ <: par(i,16,@(1048575)) :> _;"),
+    ("the largest delays that vary", "process = _ <: par(i,16,\\(x).(x @ (x & 1048575))) :> _;"),
+    ("delays of one stream", "process = _ <: par(i,5000,@(i)) :> _;"),
+    ("5,000 loops", "process = par(i,250,_) : par(i,250,seq(j,20,+ ~ mem)) ;"),
+    ("a row of filters", "process = seq(i,2700,+ ~ *(i));"),
+    ("a row of delays", "process = seq(i,5000,@(1) : *(3));"),
+]
+
+
+def sounds(text):
+    """What is played, the input, the script and the options."""
+    wire, minute = "process = _;", b"\1\2" * (44100 * 60)
+    gain = "process = _ * %s;" % (CONTROL % 0)
+    chunks = (b"JUNK" + struct.pack("<I", 0)) * 4095
+    return [
+        ("a minute of mono", wire, wave(1, 16, len(minute), minute), None, []),
+        ("a minute of mono, a frame a block", wire, wave(1, 16, len(minute), minute), None, ["--block=1"]),
+        ("a head that states 4 GB of mono", wire, wave(1, 16, 2**32 - 39), None, []),
+        ("a head that states 4 GB of 256 channels", "process = par(i,256,_);", wave(256, 32, 2**32 - 1024), None, []),
+        ("a head that states 4 GB, 8 bits to 24", wire, wave(1, 8, 2**31, b"\1\2\3"), None, ["--bits=16"]),
+        ("4,095 chunks", wire, wave(1, 16, 4, b"\1\2\3\4", chunks), None, []),
+        ("a chunk that states 4 GB", wire, b"RIFF\0\0\0\0WAVEJUNK\xff\xff\xff\xff", None, []),
+        ("an AU file that states 4 GB", wire, b".snd" + struct.pack(">5I", 24, 2**32 - 2, 3, 8000, 1) + b"\1\2", None, []),
+        ("an AU offset of 4 GB", wire, b".snd" + struct.pack(">5I", 2**32 - 1, 2, 3, 8000, 1) + b"\1\2", None, []),
+        ("an AU file of unknown size, 20 MB", wire, b".snd" + struct.pack(">5I", 24, 2**32 - 1, 3, 8000, 1) + b"\1\2" * 10_000_000, None, []),
+        ("a script of notes", gain, wave(1, 16, 2, b"\1\2"), filled("", "#\n", ""), []),
+        ("a script of changes", gain, wave(1, 16, len(minute), minute), filled("", "%d 0 1\n", ""), []),
+        ("a script of changes at one frame", gain, wave(1, 16, 2, b"\1\2"), filled("", "0 0 1\n", ""), []),
+        ("a script with a long label", gain, wave(1, 16, 2, b"\1\2"), "0 " + "x" * (MOST - 5) + " 1", []),
+        ("a script for 8,000 controls", "process = _ * (" + ",".join(CONTROL % i for i in range(8_000)) + " :> _);", wave(1, 16, 2, b"\1\2"), filled("", "0 7999 1\n", ""), []),
+        ("a script of one bad line", gain, wave(1, 16, 2, b"\1\2"), "1" * MOST, []),
+    ]
+
+
+def measured(program, folder, words, seconds):
+    """The processor's time, the time by the clock, the memory in KiB, and the line."""
+    began = time.monotonic()
+    with open(os.path.join(folder, "line"), "wb") as line:
+        process = subprocess.Popen([program, *words], cwd=folder, stdout=line, stderr=line)
+        signal.signal(signal.SIGALRM, lambda *_: process.kill())
+        signal.alarm(seconds)
+        _, status, used = os.wait4(process.pid, 0)
+        signal.alarm(0)
+    with open(os.path.join(folder, "line"), "rb") as line:
+        said = line.read().decode("latin-1").strip()
+    said = said if os.waitstatus_to_exitcode(status) >= 0 else f"killed after {seconds} s"
+    return used.ru_utime + used.ru_stime, time.monotonic() - began, used.ru_maxrss, said
+
+
+def main():
+    parser = argparse.ArgumentParser(description=__doc__, formatter_class=argparse.RawDescriptionHelpFormatter)
+    parser.add_argument("--program", default=os.path.join(TOP, "dist/x86_64-linux/faustvec"))
+    parser.add_argument("--only", default="", help="a word of what is tried")
+    parser.add_argument("--seconds", type=int, default=60, help="how long each may take by the clock before it is ended")
+    options = parser.parse_args()
+    program, status = os.path.abspath(options.program), 0
+    resource.setrlimit(resource.RLIMIT_AS, (8 << 30, 8 << 30))
+    print("| what | answer | s | MB |\n|---|---|---|---|")
+    rows = [(told, text, wave(1, 16, 4, b"\1\0\2\0"), None, []) for told, text in TEXTS] + sounds(None)
+    for told, text, sound, script, more in rows:
+        if options.only not in told:
+            continue
+        with tempfile.TemporaryDirectory() as folder:
+            for name, data in (("p.dsp", text.encode()), ("in.wav", sound), ("c.txt", script.encode() if script is not None else None)):
+                if data is not None:
+                    with open(os.path.join(folder, name), "wb") as file:
+                        file.write(data)
+            words = ["au", "p.dsp", "in.wav", "out.wav", *(["--controls=c.txt"] if script is not None else []), *more]
+            used, _, kib, said = measured(program, folder, words, options.seconds)
+            if said.startswith("refused 29") or said.startswith("refused 39"):
+                used, _, kib, said = measured(program, folder, ["au", "p.dsp", "-", "out.wav", "--frames=2"], options.seconds)
+        over = used > MOST_SECONDS or kib > MOST_KIB or said.startswith("killed")
+        status |= over
+        print(f"| {told} | `{said[:50]}` | {used:.2f} | {kib // 1000} |{' OVER' if over else ''}", flush=True)
+    return status
+
+
+if __name__ == "__main__":
+    sys.exit(main())
