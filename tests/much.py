@@ -7,12 +7,10 @@ more than 10 seconds or 1.5 GB is told, and ends it with status 1.
 import argparse
 import os
 import resource
-import signal
 import struct
 import subprocess
 import sys
 import tempfile
-import time
 
 TOP = os.path.join(os.path.dirname(os.path.abspath(__file__)), "..")
 MOST = 1_048_576
@@ -37,6 +35,7 @@ def wave(channels, bits, size, data=b"", before=b""):
     return b"RIFF" + struct.pack("<I", 2**32 - 1) + b"WAVE" + before + b"fmt " + form + b"data" + struct.pack("<I", size) + data
 
 
+XS = ",".join(f"x{i}" for i in range(8000))
 ENDLESS = "f(n) = f(n+1); process = f(2000000);"
 # what asks for much, the program's text, and, where there are some, its input, its script and its options
 TEXTS = [
@@ -81,6 +80,9 @@ TEXTS = [
     ("arguments that are large numbers' diagrams", "f(n) = f(n + sum(i,2000,i)); process = f(0);"),
     ("large diagrams put on and on", "d = par(i,5000,_); f(n,x) = f(n+1,(d:x)); process = f(0,d);"),
     ("large arguments, matched on and on", "d = par(i,8000,_); f((x,y),n) = f((x,y),n+1); process = f(d,0);"),
+    ("an abstraction of 8,000 parameters drawn on and on", f"g = \\({XS}).(1); f(n) = f(n+inputs(g)); process = f(0);"),
+    ("8,000 wires given one argument, on and on", "f(n,d) = f(n+outputs(d(1)),d); process = f(0,par(i,4000,_));"),
+    ("8,000 names bound by a pattern, on and on", f"f(({XS}),n) = f(par(i,2,_),n); f(d,n) = f(d,n+1); h(d) = f(d,0); process = h(par(i,8000,_));"),
     ("iterations in iterations", "process = par(i,99,par(j,99,par(k,99,i+j+k)));"),
     ("controls", filled("process = ", CONTROL, " :> _;", ",")),
     ("controls, 256 outputs", "process = " + ",".join(CONTROL % i for i in range(256)) + ";"),
@@ -127,18 +129,13 @@ def sounds(text):
 
 
 def measured(program, folder, words, seconds):
-    """The processor's time, the time by the clock, the memory in KiB, and the line."""
-    began = time.monotonic()
-    with open(os.path.join(folder, "line"), "wb") as line:
-        process = subprocess.Popen([program, *words], cwd=folder, stdout=line, stderr=line)
-        signal.signal(signal.SIGALRM, lambda *_: process.kill())
-        signal.alarm(seconds)
-        _, status, used = os.wait4(process.pid, 0)
-        signal.alarm(0)
-    with open(os.path.join(folder, "line"), "rb") as line:
-        said = line.read().decode("latin-1").strip()
-    said = said if os.waitstatus_to_exitcode(status) >= 0 else f"killed after {seconds} s"
-    return used.ru_utime + used.ru_stime, time.monotonic() - began, used.ru_maxrss, said
+    """The processor's time, the memory in KiB, and the line; by GNU's time, since a child of a large process seems to be as large."""
+    timed = ["/usr/bin/time", "-q", "-o", "used", "-f", "%U %S %M", "timeout", "-s", "KILL", str(seconds), program, *words]
+    done = subprocess.run(timed, cwd=folder, capture_output=True)
+    with open(os.path.join(folder, "used")) as file:
+        user, system, kib = file.read().split()
+    said = (done.stdout + done.stderr).decode("latin-1").strip()
+    return float(user) + float(system), int(kib), said if done.returncode in range(6) else f"ended after {seconds} s"
 
 
 def main():
@@ -148,7 +145,7 @@ def main():
     parser.add_argument("--seconds", type=int, default=60, help="how long each may take by the clock before it is ended")
     options = parser.parse_args()
     program, status = os.path.abspath(options.program), 0
-    resource.setrlimit(resource.RLIMIT_AS, (8 << 30, 8 << 30))
+    resource.setrlimit(resource.RLIMIT_AS, (4 << 30, 4 << 30))
     print("| what | answer | s | MB |\n|---|---|---|---|")
     rows = [(told, text, wave(1, 16, 4, b"\1\0\2\0"), None, []) for told, text in TEXTS] + sounds(None)
     for told, text, sound, script, more in rows:
@@ -160,10 +157,10 @@ def main():
                     with open(os.path.join(folder, name), "wb") as file:
                         file.write(data)
             words = ["au", "p.dsp", "in.wav", "out.wav", *(["--controls=c.txt"] if script is not None else []), *more]
-            used, _, kib, said = measured(program, folder, words, options.seconds)
+            used, kib, said = measured(program, folder, words, options.seconds)
             if said.startswith("refused 29") or said.startswith("refused 39"):
-                used, _, kib, said = measured(program, folder, ["au", "p.dsp", "-", "out.wav", "--frames=2"], options.seconds)
-        over = used > MOST_SECONDS or kib > MOST_KIB or said.startswith("killed")
+                used, kib, said = measured(program, folder, ["au", "p.dsp", "-", "out.wav", "--frames=2"], options.seconds)
+        over = used > MOST_SECONDS or kib > MOST_KIB or said.startswith("ended after")
         status |= over
         print(f"| {told} | `{said[:50]}` | {used:.2f} | {kib // 1000} |{' OVER' if over else ''}", flush=True)
     return status
