@@ -81,8 +81,8 @@ TEXTS = [
     ("large diagrams put on and on", "d = par(i,5000,_); f(n,x) = f(n+1,(d:x)); process = f(0,d);"),
     ("large arguments, matched on and on", "d = par(i,8000,_); f((x,y),n) = f((x,y),n+1); process = f(d,0);"),
     ("an abstraction of 8,000 parameters drawn on and on", f"g = \\({XS}).(1); f(n) = f(n+inputs(g)); process = f(0);"),
-    ("8,000 wires given one argument, on and on", "f(n,d) = f(n+outputs(d(1)),d); process = f(0,par(i,4000,_));"),
-    ("8,000 names bound by a pattern, on and on", f"f(({XS}),n) = f(par(i,2,_),n); f(d,n) = f(d,n+1); h(d) = f(d,0); process = h(par(i,8000,_));"),
+    ("4,000 wires given one argument, on and on", "f(n,d) = f(n+outputs(d(1)),d); process = f(0,par(i,4000,_));"),
+    ("8,000 names bound by a pattern, on and on", f"k(({XS})) = 1; f(n,d) = f(n+k(d),d); process = f(0,par(i,8000,_));"),
     ("iterations in iterations", "process = par(i,99,par(j,99,par(k,99,i+j+k)));"),
     ("controls", filled("process = ", CONTROL, " :> _;", ",")),
     ("controls, 256 outputs", "process = " + ",".join(CONTROL % i for i in range(256)) + ";"),
@@ -130,8 +130,8 @@ def sounds(text):
 
 def measured(program, folder, words, seconds):
     """The processor's time, the memory in KiB, and the line; by GNU's time, since a child of a large process seems to be as large."""
-    timed = ["/usr/bin/time", "-q", "-o", "used", "-f", "%U %S %M", "timeout", "-s", "KILL", str(seconds), program, *words]
-    done = subprocess.run(timed, cwd=folder, capture_output=True)
+    timed = ["/usr/bin/time", "-q", "-o", "used", "-f", "%U %S %M", program, *words]
+    done = subprocess.run(timed, cwd=folder, capture_output=True, preexec_fn=lambda: resource.setrlimit(resource.RLIMIT_CPU, (seconds, seconds)))
     with open(os.path.join(folder, "used")) as file:
         user, system, kib = file.read().split()
     said = (done.stdout + done.stderr).decode("latin-1").strip()
@@ -142,7 +142,7 @@ def main():
     parser = argparse.ArgumentParser(description=__doc__, formatter_class=argparse.RawDescriptionHelpFormatter)
     parser.add_argument("--program", default=os.path.join(TOP, "dist/x86_64-linux/faustvec"))
     parser.add_argument("--only", default="", help="a word of what is tried")
-    parser.add_argument("--seconds", type=int, default=60, help="how long each may take by the clock before it is ended")
+    parser.add_argument("--seconds", type=int, default=60, help="how much of the processor's time each may take before it is ended")
     options = parser.parse_args()
     program, status = os.path.abspath(options.program), 0
     resource.setrlimit(resource.RLIMIT_AS, (4 << 30, 4 << 30))
