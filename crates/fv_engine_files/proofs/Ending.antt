@@ -211,6 +211,7 @@ module _ {d : Diagram} {t : Files} (p : Plays d t) (c : ℕ → Stream) (a : Des
         } in
         rw is (record {
           streams = k.streams;
+          few = omega (arith, none);
           output = ⊎_elim inl (λ o. inr (o.0, λ x. prefix_trans _ _ _ (o.1 x) head)) k.output;
           cause = (cannot_part (λ x. head) k.cannot, λ x. none_taken t.input t.held (k.left x));
         })
@@ -231,6 +232,7 @@ module _ {d : Diagram} {t : Files} (p : Plays d t) (c : ℕ → Stream) (a : Des
         (subst (λ o. AreHeard (Some i) o h (a.left Input) (drop (length h * (i.bits / 8)) (a.left Input))) (sym fresh) (k.heard x))) in
         record {
           streams = k.streams;
+          few = few_of f h r;
           output = inr (k.begun, λ x. part_is (k.said x) (part f h w (heard x) at.2));
           cause = ⊎_elim
               (λ q. rw q.0 (k.begun, q.1, q.2, rw is refl, fresh))
@@ -242,19 +244,25 @@ module _ {d : Diagram} {t : Files} (p : Plays d t) (c : ℕ → Stream) (a : Des
                 fresh,
                 λ x.
                     let y = q.3 x in
+                    let next : length X < f + n = short i f n h (record {
+                      is = is;
+                      fresh = fresh;
+                      range = range;
+                      long = wide f h r ∙ ap (λ o. f * channels_of o) is;
+                      less = y.0;
+                    }) in
                     record {
                       cut = record {
                         lengths = r.lengths;
                         cut = r.cut;
                         within = there f h (heard x);
-                        next = subst (λ m. length X < f + m) at.1 (short i f n h (record {
-                          is = is;
-                          fresh = fresh;
-                          range = range;
-                          long = wide f h r ∙ ap (λ o. f * channels_of o) is;
-                          less = y.0;
-                        }));
+                        next = subst (λ m. length X < f + m) at.1 next;
                       };
+                      short =
+                          let behind = at.0 in
+                          let size = at.1 in
+                          let block = change_few changes f (min s.block (s.frames - f)) in
+                          omega (arith, next, behind, size, block);
                       place_is = y.2;
                       taken = y.1;
                       written = k.said x ∙ ap (front t) at.2 ∙ front_is f h (heard x);
@@ -269,6 +277,7 @@ module _ {d : Diagram} {t : Files} (p : Plays d t) (c : ℕ → Stream) (a : Des
         let whole : IsTrue a.tells → IsPrefixOf (front t (w ++ more)) (answered d c t a) = λ x. part f h (w ++ more) (heard x) all in
         rw is (record {
           streams = k.streams;
+          few = few_of f h r;
           output = inr (k.begun, λ x. let q = k.said x in prefix_trans _ _ _ (part_is q.2 (said_part w more q.0 q.1)) (whole x));
           cause = (cannot_part whole k.cannot, λ x. frames_taken t.input t.held f h (a.left Input) (b.left Input) (k.heard x) (wide f h r));
         })

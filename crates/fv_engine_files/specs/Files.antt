@@ -73,6 +73,7 @@ pub record IsCutAt (block n : ℕ) (changes : List Change) (there g : ℕ) : Typ
 pub record IsCut (d : Diagram) (c : ℕ → Stream) (changes : List Change) (s : RunSizes) (t : Files) (i : InputSamples) (g place : ℕ) (old new : DeskState)
     : Type 0 where
   pub cut : IsCutAt s.block s.frames changes (length (frames_of t (old.left Input))) g
+  pub short : length (frames_of t (old.left Input)) < s.frames
   pub place_is : place ≡ i.place + length (old.left Input)
   pub taken : new.left Input ≡ []
   pub written : new.written Output ≡ output_of t.head d c (take g (frames_of t (old.left Input)))
@@ -93,5 +94,6 @@ IsStopFor d c changes s t g old new stop.Write = CannotSay (answered d c t old) 
 pub record StopsAt (d : Diagram) (c : ℕ → Stream) (changes : List Change) (s : RunSizes) (t : Files) (g : ℕ) (old new : DeskState) (e : Stop)
     : Type 0 where
   pub streams : Streams t.output old new
+  pub few : g ≤ t.stated
   pub output : KeepsOutput old new ⊎ (HasBegun old new × (IsTrue old.tells → IsPrefixOf (new.written Output) (answered d c t old)))
   pub cause : IsStopFor d c changes s t g old new e

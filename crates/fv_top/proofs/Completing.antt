@@ -17,7 +17,7 @@ use Rattle.fv_top.specs.Sources.{Source, found, script_of, source_of}
 use Rattle.fv_top.specs.Output.{coding_of, format_of, cut_in}
 use Rattle.fv_top.specs.Loading.{HasScript, HasInput}
 use Rattle.fv_top.specs.Steps.{Ends, Rules, IsJudge}
-use Rattle.fv_top.specs.Promise.{Asks, HasProgram, HasNoProgram, Plays, IsWhole, Step, ReadProgram, ReadScript, ReadHead, Fit, ReadSamples, Write, Tell}
+use Rattle.fv_top.specs.Promise.{Asks, HasProgram, HasNoProgram, Plays, IsWhole, Step, ReadProgram, ReadScript, ReadHead, Fit, Write, Tell}
 use Rattle.fv_top.specs.Promise.{StepPasses, StepRefuses, CheckPasses, CheckRefuses, rules_of, steps_of, IsKnown, CanDo}
 use Rattle.fv_top.specs.Promise.{HasCause, bad_words, of_job, HasDone, IsComplete, IsStrict, IsExact, IsRefusedOrNoMemory}
 use Rattle.fv_top.proofs.StepLaws.{exactly, completes, passes_apart}
@@ -84,7 +84,6 @@ once_in run files once ReadScript a b h k =
     let e = one_script (ap (λ (c : Compiled). c.controls) (one_program run.program files once h.0 k.0)) h.1 k.1 in cc
 once_in run files once ReadHead a b h k = let e = one_input h k in cc
 once_in run files once Fit a b h k = let e = sym h.3 ∙ one_format run files once h.0 k.0 h.1 k.1 h.2 k.2 ∙ k.3 in cc
-once_in run files once ReadSamples a b h k = absurd h
 once_in run files once Write a b h k = let e = sym h.1 ∙ one_cut run files once h.0 k.0 ∙ k.1 in cc
 once_in run files once Tell a b h k = absurd h
 
@@ -94,7 +93,6 @@ apart_in run files once ReadScript a p h =
     let e = one_script (ap (λ (c : Compiled). c.controls) (one_program run.program files once p.0 h.0)) p.2 h.1 in absurd cc
 apart_in run files once ReadHead a p h = let e = one_input p.1 h in absurd cc
 apart_in run files once Fit a p h = let e = sym p.fits ∙ one_format run files once p.of h.0 p.source h.1 p.on h.2 ∙ h.3 in absurd cc
-apart_in run files once ReadSamples a p h = h
 apart_in run files once Write a p h = let e = sym p.1 ∙ one_cut run files once p.0 h.0 ∙ h.1 in absurd cc
 apart_in run files once Tell a p h = h
 
@@ -104,7 +102,6 @@ check_once name files once ReadProgram a b h k = one_text name files a b once h 
 check_once name files once ReadScript a b h k = absurd h
 check_once name files once ReadHead a b h k = absurd h
 check_once name files once Fit a b h k = absurd h
-check_once name files once ReadSamples a b h k = absurd h
 check_once name files once Write a b h k = absurd h
 check_once name files once Tell a b h k = absurd h
 
@@ -113,7 +110,6 @@ check_apart name files once ReadProgram a p h = program_apart name files a once 
 check_apart name files once ReadScript a p h = h
 check_apart name files once ReadHead a p h = h
 check_apart name files once Fit a p h = h
-check_apart name files once ReadSamples a p h = h
 check_apart name files once Write a p h = h
 check_apart name files once Tell a p h = h
 
@@ -142,7 +138,6 @@ passes_in run files p whole ReadProgram = p.of
 passes_in run files p whole ReadScript = (p.of, p.changes, p.under)
 passes_in run files p whole ReadHead = (p.source, p.on)
 passes_in run files p whole Fit = p
-passes_in run files p whole ReadSamples = tt
 passes_in run files p whole Write = (p, whole)
 passes_in run files p whole Tell = tt
 
@@ -151,7 +146,6 @@ check_passes name files p ReadProgram = p
 check_passes name files p ReadScript = tt
 check_passes name files p ReadHead = tt
 check_passes name files p Fit = tt
-check_passes name files p ReadSamples = tt
 check_passes name files p Write = tt
 check_passes name files p Tell = tt
 

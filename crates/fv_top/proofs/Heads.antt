@@ -1,9 +1,9 @@
 -- The head of an input, and the bytes behind it.
-use Rattle.std.proofs.Common.{◌≡◌, ℕ, ◌+◌, ◌-◌, ◌<◌, ◌≤◌, List, [], ◌++◌, length, take, drop, sym, ◌∙◌, ap, subst, arith, refl}
-use Rattle.std.proofs.Common.{inl, inr, ⊎_elim, take_all, take_at, append_assoc, length-append, length-drop}
+use Rattle.std.proofs.Common.{◌≡◌, ℕ, ◌+◌, ◌-◌, ◌<◌, ◌≤◌, List, [], ◌++◌, length, take, drop, sym, ◌∙◌, ap, arith, refl}
+use Rattle.std.proofs.Common.{inl, inr, ⊎_elim, take_all, take_at, append_assoc, length-append}
 use Rattle.std.specs.Prelude.{IsTrue, Result, Ok, Err, Option, Some, None, is_none, true, false, bytes_eq, codes}
 use Rattle.std.proofs.lemmas.Bool.{cases_lt, le-leb, lt-leb}
-use Rattle.std.proofs.lemmas.List.{drop_at, drop_all, drop-drop, append-nil}
+use Rattle.std.proofs.lemmas.List.{drop_at, append-nil}
 use Rattle.fv_base.specs.declared.role.Role.TheVariants.{Input}
 use Rattle.fv_outside.specs.Desk.{DeskState, File, file_named, Takes}
 use Rattle.fv_outside.proofs.States.{told_before, fault_earlier, unfailing_later}
@@ -24,9 +24,9 @@ use Rattle.fv_top_report.specs.declared.refusal.Refusal.{Refusal}
 use Rattle.fv_top_report.specs.declared.refusal.Refusal.TheVariants.{ReadFault, AuFormat}
 use Rattle.fv_top_report.specs.Layers.{of_wave, of_au}
 use Rattle.fv_top.specs.declared.incoming.Incoming.{Incoming}
-use Rattle.fv_top.specs.Inputs.{wave_incoming, au_incoming, whole_bytes}
-use Rattle.fv_top.specs.Sources.{Source, headed, wave_source, au_source, sized_source, open_source, file_source, is_au, data_of}
-use Rattle.fv_top.specs.Loading.{ReadsFile, StopsLoading, StopsHead, HasInput, GivesHead, HasHead, IsLeft, wanted, behind_wanted, IsRest, LeavesRest}
+use Rattle.fv_top.specs.Inputs.{wave_incoming, au_incoming}
+use Rattle.fv_top.specs.Sources.{Source, headed, wave_source, au_source, sized_source, open_source, file_source, is_au}
+use Rattle.fv_top.specs.Loading.{ReadsFile, StopsLoading, StopsHead, HasInput, GivesHead, HasHead}
 use Rattle.fv_top.specs.Promise.{HasRefusal, ReadHead}
 use Rattle.fv_top.proofs.Loads.{cannot_later}
 
@@ -194,30 +194,3 @@ rest_stops (au_head.AuFormat place) r bytes is q many s =
     rw is (inr (inl (refl, λ t. many t (s.cause.1.told (told_before q.goes_on t)) ∙ ap (λ (p : ℕ). Err (AuFormat p)) (sym s.cause.0))))
 rest_stops (au_head.AuTruncated place) r bytes is q many s = absurd s.cause
 rest_stops au_head.NoMemory r bytes is q many s = inr (inr is)
-
--- ---- the samples behind it
-
--- what is wanted of the bytes that are left is what is present
-pub wanted_is : (h : Option Incoming) (held : Option (List ℕ)) (source : Source) (left : List ℕ) → source.head ≡ h → IsLeft h held source.bytes left
-    → wanted h held left ≡ data_of source.head source.bytes
-wanted_is None held source left e l = sym (ap (λ (w : Option Incoming). data_of w source.bytes) e)
-wanted_is (Some h) None source left e l = ap (take (whole_bytes h)) l.1 ∙ sym (ap (λ (w : Option Incoming). data_of w source.bytes) e)
-wanted_is (Some h) (Some held) source left e l = ap (take (whole_bytes h)) l.1 ∙ sym (ap (λ (w : Option Incoming). data_of w source.bytes) e)
-
--- what is left behind what was wanted is left behind the samples that are read
-pub rest_is : (h : Option Incoming) (held : Option (List ℕ)) (bytes left new : List ℕ) → IsLeft h held bytes left → new ≡ behind_wanted h held left
-    → IsRest h bytes new
-rest_is None held bytes left new l e = tt
-rest_is (Some h) None bytes left new l e =
-    let closed = l.0 in
-    rw closed (e ∙ ap (drop (whole_bytes h)) l.1 ∙ drop-drop (whole_bytes h) h.place bytes)
-rest_is (Some h) (Some held) bytes left new l e =
-    let opened = l.0 in
-    let all : length bytes ≤ h.place + h.data_bytes = omega (arith, ap length l.1, length-drop h.place bytes, l.2, l.3) in
-    rw opened (e ∙ l.4 ∙ sym (drop_all (h.place + h.data_bytes) bytes all))
-
-pub rest_left : {kind : InputKind} {name : Option (List ℕ)} {files : List File} {h : Option Incoming} {held : Option (List ℕ)} {left : List ℕ}
-    (new : List ℕ) → HasHead kind name files h held left → new ≡ behind_wanted h held left → LeavesRest kind name files new
-rest_left {h = h} {held = held} {left = left} new g e =
-    let same = subst (λ (k : Option Incoming). IsRest k g.source.bytes new) (sym g.is) (rest_is h held g.source.bytes left new g.behind e) in
-    record { source = g.source; input = g.input; rest = same }

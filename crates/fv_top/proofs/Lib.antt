@@ -1,13 +1,12 @@
 pub mod Loads
 pub mod Scripts
-pub mod Filing
 pub mod Heads
-pub mod Rendering
 pub mod StepLaws
 pub mod Reaching
 pub mod Preparing
 pub mod Checking
 pub mod Making
 pub mod Ran
+pub mod Playing
 pub mod Stopping
 pub mod Completing

@@ -1,33 +1,30 @@
 -- What is read before anything is written, one file after another, and why that stops.
-use Rattle.std.proofs.Common.{◌≡◌, ℕ, List, [], ◌∷◌, ◌++◌, length, sym, ◌∙◌, ap, subst, refl}
-use Rattle.std.specs.Prelude.{IsTrue, IsSome, Some, Option, Ok, Err, Result}
-use Rattle.std.specs.Option.{ForSome}
+use Rattle.std.proofs.Common.{◌≡◌, ℕ, List, [], ◌∷◌, ◌++◌, sym, ◌∙◌, ap, subst, refl}
+use Rattle.std.specs.Prelude.{IsTrue, Some, None, Option, Ok, Err, Result, is_some, option_map}
 use Rattle.fv_base.specs.declared.role.Role.TheVariants.{Program, Controls, Input}
 use Rattle.fv_outside.specs.Requests.{Request, to_read}
-use Rattle.fv_outside.specs.Journal.{Told}
-use Rattle.fv_outside.specs.Desk.{DeskState, File, KeepsFaults, TakesSome}
+use Rattle.fv_outside.specs.Desk.{DeskState, File, KeepsFaults}
 use Rattle.fv_outside.proofs.States.{told_before}
 use Rattle.fv_control.specs.declared.script.Change.{Change}
-use Rattle.fv_engine_render.specs.Render.{RanWhole}
-use Rattle.fv_top_words.specs.Runs.{Run}
+use Rattle.fv_top_words.specs.Runs.{Run, Settings}
 use Rattle.fv_top_words.specs.Commands.{Playing}
 use Rattle.fv_top.specs.declared.incoming.Incoming.{Incoming}
 use Rattle.fv_top_report.specs.declared.refusal.Refusal.{Refusal}
-use Rattle.fv_top_report.specs.declared.refusal.Refusal.TheVariants.{ReadFault, NoMemory}
+use Rattle.fv_top_report.specs.declared.refusal.Refusal.TheVariants.{NoMemory}
 use Rattle.fv_top_text.specs.Program.{IsProgram}
 use Rattle.fv_top_text.specs.Compiled.{Compiled}
-use Rattle.fv_top.specs.Sources.{frames_of, data_of}
-use Rattle.fv_top.specs.Output.{OutputFormat, coding_of, format_of, present_in}
-use Rattle.fv_top.specs.Loading.{ReadsFile, StopsSamples, IsFile, HasScript, HasInput, HasHead, IsPlaced, wanted, reading}
-use Rattle.fv_top.specs.Steps.{Ends, Halts, here, later, judged, want_of_memory}
-use Rattle.fv_top.specs.Promise.{IsReadBy, ReadProgram, ReadScript, ReadHead, Fit, ReadSamples, HasProgram, HasNoProgram, HasRefusal, Plays, Step, run_rules}
-use Rattle.fv_top.specs.inner.Running.{Reaches, CountsFaultOf, StopsBefore, Ready, IsReady, asked_before}
-use Rattle.fv_top.specs.Played.{sizes_of, AllRan}
-use Rattle.fv_top.specs.inner.Prepared.{made_of}
-use Rattle.fv_top.proofs.Heads.{wanted_is}
-use Rattle.fv_top.proofs.Rendering.{made_is, placed_in}
-use Rattle.fv_top.proofs.Reaching.{FailsToLoad, reaches_nothing, reaches_file, reaches_taken, reaches_on, loading_halts, samples_halt, load_faults}
-use Rattle.fv_top.proofs.Reaching.{samples_faults, fit_kind}
+use Rattle.fv_top.specs.Output.{OutputFormat, coding_of, format_of}
+use Rattle.fv_top.specs.Loading.{ReadsFile, IsFile, HasScript, HasInput, HasHead, IsLeft, reading}
+use Rattle.fv_top.specs.Steps.{Ends, here, later, judged, want_of_memory}
+use Rattle.fv_top.specs.Promise.{IsReadBy, ReadProgram, ReadScript, ReadHead, Fit, HasProgram, HasNoProgram, HasRefusal, Plays, Step, run_rules}
+use Rattle.fv_top.specs.inner.Running.{Reaches, StopsBefore, asked_before}
+use Rattle.fv_top.specs.declared.format.OutputFormat.{OutputFormat as Made}
+use Rattle.fv_top.specs.declared.input.Loaded.{Loaded}
+use Rattle.fv_top.specs.declared.prepare.Prepared.{Prepared}
+use Rattle.fv_top.specs.inner.Formats.{format_in}
+use Rattle.fv_top.specs.inner.Loaded.{held_in}
+use Rattle.fv_top.specs.inner.Prepared.{IsMadeOf, IsOfFiles, samples_of}
+use Rattle.fv_top.proofs.Reaching.{FailsToLoad, reaches_nothing, reaches_file, reaches_on, loading_halts, load_faults, fit_kind}
 
 -- ---- what was read so far
 
@@ -136,10 +133,6 @@ stops_head {run} {p} {changes} {a} {b} {c} {e} w f =
 
 -- ---- behind the head
 
--- where the input is not read, no bytes of it are taken
-abbrev pub KeepsUnread : Run → (b c : DeskState) → Type 0
-KeepsUnread run b c = IsTrue b.tells → (IsSome run.input → ⊥) → c.left Input ≡ b.left Input
-
 module _ {run : Run} {p : Compiled} {changes : List Change} {head : Option Incoming} {held : Option (List ℕ)} {a b : DeskState}
     (w : AfterHead run p changes head held a b) where
   -- the steps up to the head passed
@@ -180,57 +173,36 @@ module _ {run : Run} {p : Compiled} {changes : List Change} {head : Option Incom
       fits = format_is (Ok format) is t;
     }
 
-    -- the samples are not read, or memory runs out
-    stops_then : (c : DeskState) (e : Refusal) → TakesSome Input b c → KeepsUnread run b c → Halts (run_rules run a) a c ReadSamples e
-        → CountsFaultOf e a c → StopsBefore run a c e
-    stops_then c e q kept halts faults = record {
-      asked = to_read Program run.program ∷ (reading Controls run.controls ++ (reading Input run.input ++ []));
-      reaches = reaches_taken (reaches_on run a b w.reaches) q kept;
-      ends = passed c e _ [] (later plays (here halts));
-      faults = faults;
-    }
-
-    pub stops_samples : (c : DeskState) (e : Refusal) → (IsSome head → IsSome run.input) → IsSome head → TakesSome Input b c → StopsSamples head b c e
-        → ((e ≡ ReadFault Input → ⊥) → KeepsFaults b c) → StopsBefore run a c e
-    stops_samples c e named some q stops steady =
-        stops_then c e q (λ t none. absurd (none (named some))) (samples_halt run a b c head e w.reaches named stops)
-        (samples_faults a b c head e w.before q steady stops)
-
-    pub stops_memory : (c : DeskState) → TakesSome Input b c → KeepsUnread run b c → KeepsFaults b c → StopsBefore run a c NoMemory
-    stops_memory c q kept steady = stops_then c NoMemory q kept (want_of_memory tt) (λ r other. steady r ∙ w.before r)
-
-    -- what is there of the samples is what the head wants
-    is_wanted : (raw : List ℕ) → (IsTrue b.tells → raw ≡ wanted head held (b.left Input)) → (t : IsTrue a.tells)
-        → raw ≡ data_of (w.on t).source.head (w.on t).source.bytes
-    is_wanted raw got t =
+    -- it is ready to be played, of these files
+    pub files_are : {name : List ℕ} {loaded : Loaded} {made : Made} {q : Prepared} → loaded.head ≡ head → held_in loaded ≡ held → format_in made ≡ format
+        → IsMadeOf name run.settings p changes loaded made q → IsTrue a.tells → IsOfFiles run a b q
+    files_are {q = q} heads holds formats m t =
         let h = w.on t in
-        got (told_before w.reaches.quiet.goes_on t) ∙ wanted_is head held h.source (b.left Input) h.is h.behind
+        let same = sym (m.held ∙ holds) in
+        record {
+          plays = plays t;
+          program = sym m.program;
+          changes = sym m.script;
+          format = sym (ap format_in m.format ∙ formats);
+          input = m.input ∙ ap (option_map samples_of) (heads ∙ sym h.is);
+          behind = subst (λ k. IsLeft h.source.head k h.source.bytes (b.left Input)) same
+              (subst (λ k. IsLeft k held h.source.bytes (b.left Input)) (sym h.is) h.behind);
+        }
 
-    -- what was made of the samples
-    pub ready_is : ForSome head IsPlaced → (raw : List ℕ) (r : Ready) → (IsTrue b.tells → raw ≡ wanted head held (b.left Input))
-        → r ≡ made_of p changes head format raw → IsReady run a r
-    ready_is ranges raw r got made = λ t.
-        let h = w.on t in
-        let q = plays t in
-        let same = made ∙ ap (λ (k : Option Incoming). made_of p changes k format raw) (sym h.is) in
-        let x =
-        made_is a run a.files q raw r (λ k named. placed_in head held h.source (b.left Input) k h.is h.behind ranges named) (is_wanted raw got t) same in
-        (q, x.0, x.1, x.2)
+  -- memory runs out
+  pub stops_memory : StopsBefore run a b NoMemory
+  stops_memory = record {
+    asked = to_read Program run.program ∷ (reading Controls run.controls ++ (reading Input run.input ++ []));
+    reaches = reaches_on run a b w.reaches;
+    ends = passed b NoMemory _ [] (here (want_of_memory tt));
+    faults = λ r other. w.before r;
+  }
 
-    -- the blocks that ran are those of the frames that were read
-    pub ran_is : (raw : List ℕ) → (IsTrue b.tells → raw ≡ wanted head held (b.left Input)) → {blocks loops runs : ℕ} {before after : Option Told}
-        → RanWhole p.diagram p.controls changes (sizes_of run.settings (length (frames_of format.frames head raw)))
-        (record { blocks = blocks; loops = loops; loop_runs = runs }) before after
-        → (x : AllRan (Playing run) a blocks loops runs before after) × (x.played.sizes.frames ≡ length (frames_of format.frames head raw))
-    ran_is raw got ran =
-        let there : (t : IsTrue a.tells) → length (present_in format (w.on t).source) ≡ length (frames_of format.frames head raw) = λ t.
-        let h = w.on t in
-        ap length (ap (frames_of format.frames h.source.head) (sym (is_wanted raw got t))
-        ∙ ap (λ (k : Option Incoming). frames_of format.frames k raw) h.is) in (
-          record {
-            played = record { program = p; changes = changes; sizes = sizes_of run.settings (length (frames_of format.frames head raw)) };
-            is = (refl, λ t. (plays t, refl, refl, there t));
-            ran = ran;
-          },
-          refl,
-        )
+-- there is an input where one is named
+pub named_is : {name : List ℕ} {settings : Settings} {p : Compiled} {changes : List Change} {loaded : Loaded} {made : Made} {q : Prepared} (input : Option (List ℕ))
+    → IsMadeOf name settings p changes loaded made q → is_some loaded.head ≡ is_some input → is_some q.tape.input ≡ is_some input
+named_is {loaded = loaded} input m named = ap is_some m.input ∙ some_of loaded.head ∙ named
+  where
+    some_of : (o : Option Incoming) → is_some (option_map samples_of o) ≡ is_some o
+    some_of None = refl
+    some_of (Some h) = refl

@@ -3,10 +3,10 @@ use Rattle.std.proofs.Common.{◌≡◌, ◌≢◌, ℕ, ◌==◌, Bool, true, f
 use Rattle.std.specs.Prelude.{IsTrue, IsSome, Some, None, Option, Ok, Err, Result, if◌then◌else◌, nat_le}
 use Rattle.std.proofs.lemmas.List.{append-nil}
 use Rattle.fv_base.specs.declared.role.Role.{Role}
-use Rattle.fv_base.specs.declared.role.Role.TheVariants.{Program, Controls, Input, Output, Report}
+use Rattle.fv_base.specs.declared.role.Role.TheVariants.{Program, Controls, Input}
 use Rattle.fv_outside.specs.Requests.{Request, to_read}
-use Rattle.fv_outside.specs.Desk.{DeskState, KeepsFaults, TakesSome, IsUnfailing}
-use Rattle.fv_outside.proofs.States.{quiet_self, quiet_then, some_quiet, told_before, fault_earlier, unfailing_later}
+use Rattle.fv_outside.specs.Desk.{DeskState, KeepsFaults, IsUnfailing}
+use Rattle.fv_outside.proofs.States.{quiet_self, quiet_then, told_before, fault_earlier, unfailing_later}
 use Rattle.fv_diagram.specs.Diagram.{Diagram, inputs, outputs}
 use Rattle.fv_top_words.specs.Runs.{Run, Settings}
 use Rattle.fv_top_words.specs.Commands.{Playing}
@@ -16,9 +16,10 @@ use Rattle.fv_pcm.specs.Sizes.{data_size, data_limit}
 use Rattle.fv_top_report.specs.declared.refusal.Refusal.{Refusal}
 use Rattle.fv_top_report.specs.declared.refusal.Refusal.TheVariants.{ReadFault, Channels, FramesNeeded, OutputTooLong}
 use Rattle.fv_top.specs.Output.{OutputFormat, format_of, counted, channels_in, bits_in, frames_in}
-use Rattle.fv_top.specs.Loading.{ReadsFile, StopsLoading, StopsSamples, IsThere, reading, behind_wanted}
+use Rattle.fv_top.specs.Inputs.{stated_frames}
+use Rattle.fv_top.specs.Loading.{ReadsFile, StopsLoading, IsThere, reading}
 use Rattle.fv_top.specs.Steps.{Halts, fault, judged, want_of_memory, reads}
-use Rattle.fv_top.specs.Promise.{WantsMemory, IsReadBy, Step, Fit, ReadSamples, TakesTurn, IsAnswered, HasRefusal, StepRefuses, run_rules}
+use Rattle.fv_top.specs.Promise.{WantsMemory, IsReadBy, Step, Fit, TakesTurn, IsAnswered, HasRefusal, StepRefuses, run_rules}
 use Rattle.fv_top.specs.inner.Running.{Reaches, CountsFaultOf, asked_before}
 
 pub reaches_nothing : (Reads : Role → Type 0) (a : DeskState) → Reaches Reads [] a a
@@ -36,28 +37,6 @@ reaches_file {Reads} {role} {name} {asked} {a} is p q = record {
   requests = q.requests ∙ ap (λ (rs : List Request). rs ++ reading role name) p.requests ∙ append_assoc a.requests asked (reading role name);
   left = λ t r none. q.others (told_before p.quiet.goes_on t) r (λ named. is_another Reads (is named) none) ∙ p.left t r none;
 }
-
--- and bytes of the input, where it is read
-pub reaches_taken : {Reads : Role → Type 0} {asked : List Request} {a b c : DeskState} → Reaches Reads asked a b → TakesSome Input b c
-    → (IsTrue b.tells → (Reads Input → ⊥) → c.left Input ≡ b.left Input) → Reaches Reads asked a c
-reaches_taken p q kept = record {
-  quiet = quiet_then p.quiet (some_quiet q);
-  requests = q.takes.requests ∙ p.requests;
-  left = λ t.
-      let later = told_before p.quiet.goes_on t in
-      elim [
-        | Program ↦ λ none. q.takes.others later Program (λ e. absurd cc) ∙ p.left t Program none
-        | Input ↦ λ none. kept later none ∙ p.left t Input none
-        | Controls ↦ λ none. q.takes.others later Controls (λ e. absurd cc) ∙ p.left t Controls none
-        | Output ↦ λ none. q.takes.others later Output (λ e. absurd cc) ∙ p.left t Output none
-        | Report ↦ λ none. q.takes.others later Report (λ e. absurd cc) ∙ p.left t Report none
-      ];
-}
-
--- where there is no head, no bytes were taken
-pub behind_kept : (head : Option Incoming) (held : Option (List ℕ)) (old new : List ℕ) → new ≡ behind_wanted head held old → (IsSome head → ⊥) → new ≡ old
-behind_kept None held old new e none = e
-behind_kept (Some h) held old new e none = absurd (none refl)
 
 -- ---- why a step halts
 
@@ -83,15 +62,6 @@ loading_halts run s role name P {a = a} {c = c} m p takes answers refuses (inl h
 loading_halts run s role name P {e = e} m p takes answers refuses (inr (inl h)) = judged h.0 (λ t. refuses t e (h.1 (told_before p.quiet.goes_on t)))
 loading_halts run s role name P {a = a} {c = c} w p takes answers refuses (inr (inr m)) = subst (Halts (run_rules run a) a c s) (sym m) (want_of_memory w)
 
--- and so does what stops the samples
-pub samples_halt : (run : Run) {asked : List Request} (a b c : DeskState) (head : Option Incoming) (e : Refusal) → Reaches (IsReadBy (Playing run)) asked a b
-    → (IsSome head → IsSome run.input) → StopsSamples head b c e → Halts (run_rules run a) a c ReadSamples e
-samples_halt run a b c head e p named (inl h) =
-    let on = p.quiet.goes_on in
-    subst (Halts (run_rules run a) a c ReadSamples) (sym h.0)
-    (fault (reads Input) (refl, named h.1) (fault_earlier c Input on h.2.counted) (λ t sure. h.2.due (told_before on t) (unfailing_later Input on t sure)))
-samples_halt run a b c head e p named (inr m) = subst (Halts (run_rules run a) a c ReadSamples) (sym m) (want_of_memory tt)
-
 -- no fault is counted but the one that stops it
 pub load_faults : {role : Role} {name : Option (List ℕ)} {Kind P : Refusal → Type 0} (a : DeskState) {b c : DeskState} {e : Refusal}
     → FailsToLoad role name Kind P b c e
@@ -103,12 +73,7 @@ load_faults {Kind = Kind} a f apart before =
       | inr (inr m) ↦ λ r other. f.steady (λ is. absurd cc) r ∙ before r
     ]
 
-pub samples_faults : (a b c : DeskState) (head : Option Incoming) (e : Refusal) → KeepsFaults a b → TakesSome Input b c
-    → ((e ≡ ReadFault Input → ⊥) → KeepsFaults b c) → StopsSamples head b c e → CountsFaultOf e a c
-samples_faults a b c head e before q steady (inl h) = λ r other. q.takes.other_faults r (λ same. other (inl (h.0 ∙ ap ReadFault (sym same)))) ∙ before r
-samples_faults a b c head e before q steady (inr m) = λ r other. steady (λ is. absurd cc) r ∙ before r
-
--- ---- a format that does not fit
+-- ---- a format, and one that does not fit
 
 kind_sized : (b : Bool) (a : OutputFormat) (n : ℕ) (e : Refusal)
     → (let r : Result OutputFormat Refusal = if b then Ok a else Err (OutputTooLong n) in r ≡ Err e) → HasRefusal Fit e
@@ -130,6 +95,22 @@ pub fit_kind : (out : Coding) (s : Settings) (d : Diagram) (head : Option Incomi
 fit_kind out s d head e is =
     let frames = frames_in s head in
     kind_chosen (channels_in head == inputs d) (counted out s d head frames) (channels_in head) (inputs d) e (kind_counted out s d head frames e) is
+
+-- the frames of a format on an input are those that its head states
+sized_frames : (b : Bool) (a format : OutputFormat) (e : Refusal)
+    → (let r : Result OutputFormat Refusal = if b then Ok a else Err e in r ≡ Ok format) → format.frames ≡ a.frames
+sized_frames true a format e is = let same : a ≡ format = cc in ap (λ (s : OutputFormat). s.frames) (sym same)
+sized_frames false a format e is = absurd cc
+
+chosen : (b : Bool) (r : Result OutputFormat Refusal) (e : Refusal) (format : OutputFormat) → (if b then r else Err e) ≡ Ok format → r ≡ Ok format
+chosen true r e format is = is
+chosen false r e format is = absurd cc
+
+pub fits_frames : (out : Coding) (s : Settings) (d : Diagram) (h : Incoming) (format : OutputFormat) → format_of out s d (Some h) ≡ Ok format
+    → format.frames ≡ stated_frames h
+fits_frames out s d h format is =
+    let r = chosen (h.channels == inputs d) (counted out s d (Some h) (frames_in s (Some h))) _ format is in
+    sized_frames (nat_le (data_size (outputs d) _ (stated_frames h)) data_limit) _ format _ r
 
 -- nothing more is asked for by the steps that judge and compute
 pub reaches_on : (run : Run) (a b : DeskState) → Reaches (IsReadBy (Playing run)) (asked_before run) a b

@@ -1,5 +1,5 @@
 -- What loading of a file leaves of the desk, and why it stops.
-use Rattle.std.specs.Prelude.{◌≡◌, ◌≢◌, ◌⊎◌, ℕ, ◌+◌, ◌<◌, ◌≤◌, ◌^◌, IsTrue, IsSome, List, [], ◌∷◌, ◌++◌, length, take, drop, Option}
+use Rattle.std.specs.Prelude.{◌≡◌, ◌≢◌, ◌⊎◌, ℕ, ◌+◌, ◌<◌, ◌≤◌, ◌^◌, IsTrue, IsSome, List, [], ◌∷◌, ◌++◌, length, drop, Option}
 use Rattle.std.specs.Prelude.{Some, None, Result, Ok, Err, true, false}
 use Rattle.fv_base.specs.declared.role.Role.{Role}
 use Rattle.fv_base.specs.declared.role.Role.TheVariants.{Input}
@@ -12,7 +12,7 @@ use Rattle.fv_control.specs.declared.script.Change.{Change}
 use Rattle.fv_wav.specs.Stopping.{IsFaultOfInput}
 use Rattle.fv_top_words.specs.declared.manner.InputKind.{InputKind}
 use Rattle.fv_top.specs.declared.incoming.Incoming.{Incoming}
-use Rattle.fv_top.specs.Inputs.{IsIncoming, whole_bytes, read_bytes}
+use Rattle.fv_top.specs.Inputs.{IsIncoming, read_bytes}
 use Rattle.fv_top.specs.Sources.{Source, found, script_of, source_of}
 use Rattle.fv_top_report.specs.declared.refusal.Refusal.{Refusal}
 use Rattle.fv_top_report.specs.declared.refusal.Refusal.TheVariants.{ReadFault, NoMemory}
@@ -90,18 +90,6 @@ pub record HasHead (kind : InputKind) (name : Option (List ℕ)) (files : List F
   pub is : source.head ≡ head
   pub behind : IsLeft head held source.bytes left
 
--- what is wanted of the bytes that are left, or of those that were read
-abbrev pub wanted : Option Incoming → (held : Option (List ℕ)) → List ℕ → List ℕ
-wanted None held left = []
-wanted (Some h) None left = take (whole_bytes h) left
-wanted (Some h) (Some held) left = take (whole_bytes h) held
-
--- and what is left behind it
-abbrev pub behind_wanted : Option Incoming → (held : Option (List ℕ)) → List ℕ → List ℕ
-behind_wanted None held left = left
-behind_wanted (Some h) None left = drop (whole_bytes h) left
-behind_wanted (Some h) (Some held) left = left
-
 -- of a file with this head, what stands behind the samples that are read is left
 abbrev pub IsRest : Option Incoming → (bytes left : List ℕ) → Type 0
 IsRest None bytes left = Unit {0}
@@ -113,6 +101,17 @@ pub record LeavesRest (kind : InputKind) (name : Option (List ℕ)) (files : Lis
   pub input : HasInput kind name files (Ok source)
   pub rest : IsRest source.head source.bytes left
 
+-- of a file with this head, no more was read than the samples that are
+abbrev pub IsWithin : Option Incoming → (bytes left : List ℕ) → Type 0
+IsWithin None bytes left = Unit {0}
+IsWithin (Some h) bytes left = (k : ℕ) × (k ≤ read_bytes h) × (left ≡ drop (h.place + k) bytes)
+
+-- Nothing was read of the input behind these.
+pub record ReadsWithin (kind : InputKind) (name : Option (List ℕ)) (files : List File) (left : List ℕ) : Type 0 where
+  pub source : Source
+  pub input : HasInput kind name files (Ok source)
+  pub rest : IsWithin source.head source.bytes left
+
 -- a head, and the place of its samples, which no sum of them and their bytes goes beyond
 abbrev pub IsPlaced : Incoming → Type 0
 IsPlaced h = IsIncoming h × (h.place < 2 ^ 45)
@@ -121,7 +120,3 @@ IsPlaced h = IsIncoming h × (h.place < 2 ^ 45)
 abbrev pub StopsHead : (Kind : Refusal → Type 0) → (says : Result Source Refusal) → (old new : DeskState) → Refusal → Type 0
 StopsHead Kind says old new refusal =
     ((refusal ≡ ReadFault Input) × IsFaultOfInput old new) ⊎ (Kind refusal × (IsTrue old.tells → says ≡ Err refusal)) ⊎ (refusal ≡ NoMemory)
-
--- the samples of a head could not be read, or memory ran out
-abbrev pub StopsSamples : Option Incoming → (old new : DeskState) → Refusal → Type 0
-StopsSamples head old new refusal = ((refusal ≡ ReadFault Input) × IsSome head × IsFaultOfInput old new) ⊎ (refusal ≡ NoMemory)

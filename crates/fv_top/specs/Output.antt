@@ -1,5 +1,5 @@
 -- The output that a run makes: its format, which is its rate, its width and its length, and its file (RIFF WAVE 1991; Sun audio; this project's profile).
-use Rattle.std.specs.Prelude.{ℕ, ◌==◌, nat_le, List, [], ◌++◌, length, flat_map, ℤ, Option, Some, None, Result, Ok, Err, unwrap_or, if◌then◌else◌}
+use Rattle.std.specs.Prelude.{ℕ, ◌==◌, nat_le, List, [], ◌++◌, length, flat_map, Option, Some, None, Result, Ok, Err, unwrap_or, if◌then◌else◌}
 use Rattle.fv_num.specs.Frames.{Frame, Stream}
 use Rattle.fv_diagram.specs.Diagram.{Diagram, inputs, outputs}
 use Rattle.fv_diagram.specs.Streams.{run}
@@ -9,10 +9,10 @@ use Rattle.fv_top_words.specs.declared.manner.OutputKind.{OutputKind}
 use Rattle.fv_top_words.specs.declared.manner.OutputKind.TheVariants as output
 use Rattle.fv_pcm.specs.declared.coding.Coding.{Coding}
 use Rattle.fv_pcm.specs.declared.coding.Coding.TheVariants as coding
-use Rattle.fv_pcm.specs.Coded.{sample_bytes, frame_bytes}
+use Rattle.fv_pcm.specs.Coded.{frame_bytes}
 use Rattle.fv_pcm.specs.Sizes.{data_size, data_limit}
-use Rattle.fv_wav.specs.Samples.{head_bytes, pad_bytes}
-use Rattle.fv_au.specs.Reading.{head_bytes as au_head_bytes}
+use Rattle.fv_wav.specs.Samples.{pad_bytes}
+use Rattle.fv_file_tape.specs.Tapes.{head_in}
 use Rattle.fv_top_report.specs.declared.refusal.Refusal.{Refusal}
 use Rattle.fv_top_report.specs.declared.refusal.Refusal.TheVariants.{Channels, OutputTooLong, FramesNeeded}
 use Rattle.fv_top.specs.declared.incoming.Incoming.{Incoming}
@@ -72,19 +72,10 @@ abbrev pub coding_of : OutputKind → Coding
 coding_of output.Wave = coding.Wave
 coding_of output.Au = coding.Au
 
--- the bytes before so many bytes of samples
-abbrev pub head_in : Coding → (channels rate bits size : ℕ) → List ℕ
-head_in coding.Wave channels rate bits size = head_bytes channels rate bits size
-head_in coding.Au channels rate bits size = au_head_bytes channels rate bits size
-
--- those behind them: in a WAV file one zero byte behind an odd number
+-- the bytes behind so many bytes of samples: in a WAV file one zero byte behind an odd number
 abbrev pub pad_in : Coding → (size : ℕ) → List ℕ
 pad_in coding.Wave size = pad_bytes size
 pad_in coding.Au size = []
-
--- a file of these samples, of which so many bytes are stated
-abbrev pub file_of : Coding → (channels rate bits size : ℕ) → (samples : List ℤ) → (pad : List ℕ) → List ℕ
-file_of c channels rate bits size samples pad = head_in c channels rate bits size ++ (flat_map (sample_bytes c bits) samples ++ pad)
 
 -- The output file of a diagram on the frames X, which are those that are there of the stated number: the head, the
 -- answer's frames and, where all frames are there, what stands behind their bytes.

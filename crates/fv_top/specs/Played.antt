@@ -5,15 +5,19 @@ use Rattle.fv_outside.specs.Journal.{Told}
 use Rattle.fv_outside.specs.Desk.{DeskState}
 use Rattle.fv_control.specs.declared.script.Change.{Change}
 use Rattle.fv_engine_render.specs.declared.blocks.RunSizes.{RunSizes}
-use Rattle.fv_engine_render.specs.Render.{RanWhole}
-use Rattle.fv_top_words.specs.Runs.{Settings}
+use Rattle.fv_engine_render.specs.declared.blocks.Ran.{Ran}
+use Rattle.fv_engine_render.specs.Render.{RanTo, RanWhole}
+use Rattle.fv_top_words.specs.Runs.{Run, Settings}
 use Rattle.fv_top_words.specs.Commands.{Job, Playing, Checking, Making}
 use Rattle.fv_top_report.specs.declared.refusal.Refusal.{Refusal}
 use Rattle.fv_top_report.specs.declared.refusal.Refusal.TheVariants.{WriteFault}
 use Rattle.fv_top_report.specs.declared.status.Tally.{Tally}
 use Rattle.fv_top_text.specs.Compiled.{Compiled}
+use Rattle.fv_engine_files.specs.Files.{IsCutAt}
 use Rattle.fv_top.specs.Output.{present_in}
+use Rattle.fv_top.specs.Inputs.{truncated}
 use Rattle.fv_top.specs.Promise.{Asks, Plays, IsMade}
+use Rattle.fv_pcm.specs.declared.coding.Coding.{Coding}
 
 -- what is played: a program under these changes of its controls, so many frames, in blocks and vectors of these sizes
 pub record Played : Type 0 where
@@ -30,21 +34,20 @@ abbrev pub make_sizes : (workers frames : ℕ) → RunSizes
 make_sizes workers frames = record { frames = frames; block = 256; vector = 32; workers = workers }
 
 -- This is what is played: of a run, where the desk tells its files, their program under their script, as many frames as are
--- there whole; of a make the program of so many voices.
+-- stated; of a make the program of so many voices.
 abbrev pub IsPlayed : Job → DeskState → Played → Type 0
 IsPlayed (Playing run) old x =
     (x.sizes ≡ sizes_of run.settings x.sizes.frames)
     × (IsTrue old.tells → (p : Plays run old.files) × (p.of.compiled ≡ x.program) × (p.changes ≡ x.changes)
-    × (length (present_in p.format p.source) ≡ x.sizes.frames))
+    × (p.format.frames ≡ x.sizes.frames))
 IsPlayed (Checking name) old x = ⊥
 IsPlayed (Making voices frames) old x = (x.sizes ≡ make_sizes x.sizes.workers frames) × (x.changes ≡ []) × IsMade voices x.program
 
--- Its blocks ran: in each of them each loop of a plan of the program ran once on each vector, after all that it reads.
-pub record AllRan (job : Job) (old : DeskState) (blocks loops runs : ℕ) (before after : Option Told) : Type 0 where
+-- Its blocks up to a frame ran: in each of them each loop of a plan of the program ran once on each vector, after all that it reads.
+pub record HaveRan (job : Job) (old : DeskState) (upto : ℕ) (r : Ran) (before after : Option Told) : Type 0 where
   pub played : Played
   pub is : IsPlayed job old played
-  pub ran : RanWhole played.program.diagram played.program.controls played.changes played.sizes
-      (record { blocks = blocks; loops = loops; loop_runs = runs }) before after
+  pub ran : RanTo played.program.diagram played.program.controls played.changes played.sizes upto r before after
 
 -- the blocks of a make, by however many workers
 abbrev pub MakeRan : (voices frames blocks loops runs : ℕ) → (before after : Option Told) → Type 0
@@ -59,26 +62,43 @@ pub record MakeSoFar (voices frames : ℕ) (before after : Option Told) : Type 0
   pub runs : ℕ
   pub ran : MakeRan voices frames blocks loops runs before after
 
+-- the blocks that a tally counts
+abbrev pub ran_in : Tally → Ran
+ran_in t = record { blocks = t.blocks; loops = t.loops; loop_runs = t.loop_runs }
+
 -- The blocks of what is done, as the tally counts them: those of all its frames; a check has none.
 abbrev pub BlocksOf : Job → Tally → DeskState → (before after : Option Told) → Type 0
-BlocksOf (Playing run) t old before after = (x : AllRan (Playing run) old t.blocks t.loops t.loop_runs before after) × (x.played.sizes.frames ≡ t.frames)
+BlocksOf (Playing run) t old before after = (x : HaveRan (Playing run) old t.frames (ran_in t) before after) × (x.played.sizes.frames ≡ t.frames)
 BlocksOf (Checking name) t old before after = (t.blocks ≡ 0) × (t.loops ≡ 0) × (t.loop_runs ≡ 0) × (after ≡ before)
 BlocksOf (Making voices frames) t old before after =
-    (x : AllRan (Making voices frames) old t.blocks t.loops t.loop_runs before after) × (x.played.sizes.frames ≡ t.frames)
+    (x : HaveRan (Making voices frames) old t.frames (ran_in t) before after) × (x.played.sizes.frames ≡ t.frames)
 
 pub record HasBlocks (words : List (List ℕ)) (t : Tally) (old : DeskState) (before after : Option Told) : Type 0 where
   pub job : Job
   pub asks : Asks words job
   pub blocks : BlocksOf job t old before after
 
+-- Where a run is refused, its blocks ran up to this frame: all of them, where the report failed; those that lie wholly within the
+-- frames that are present, where its input ends too early.
+abbrev pub RunStopsAt : Run → Refusal → DeskState → Played → (upto : ℕ) → Type 0
+RunStopsAt run refusal old x upto =
+    (refusal ≡ WriteFault Report → upto ≡ x.sizes.frames)
+    × ((c : Coding) (place : ℕ) → refusal ≡ truncated c place → IsTrue old.tells → (p : Plays run old.files)
+    × IsCutAt run.settings.block x.sizes.frames x.changes (length (present_in p.format p.source)) upto)
+
+abbrev pub StopsAt : Job → Refusal → DeskState → Played → (upto : ℕ) → Type 0
+StopsAt (Playing run) refusal old x upto = RunStopsAt run refusal old x upto
+StopsAt (Checking name) refusal old x upto = ⊥
+StopsAt (Making voices frames) refusal old x upto = upto ≡ x.sizes.frames
+
 -- The blocks of what was refused behind them.
-pub record RanSoFar (words : List (List ℕ)) (old : DeskState) (before after : Option Told) : Type 0 where
+pub record RanSoFar (words : List (List ℕ)) (refusal : Refusal) (old : DeskState) (before after : Option Told) : Type 0 where
   pub job : Job
   pub asks : Asks words job
-  pub blocks : ℕ
-  pub loops : ℕ
-  pub runs : ℕ
-  pub ran : AllRan job old blocks loops runs before after
+  pub upto : ℕ
+  pub counted : Ran
+  pub ran : HaveRan job old upto counted before after
+  pub stops : StopsAt job refusal old ran.played upto
 
 -- A refusal that comes before any block: of a run before its output is begun, of a make before its report.
 abbrev pub ComesFirst : Job → Refusal → (old new : DeskState) → Type 0
@@ -90,6 +110,6 @@ ComesFirst (Making voices frames) refusal old new = refusal ≡ WriteFault Repor
 abbrev pub MayBeUntold : (words : List (List ℕ)) → Refusal → (old new : DeskState) → Type 0
 MayBeUntold words refusal old new = (job : Job) → Asks words job → ComesFirst job refusal old new
 
--- What is told by a run that is refused: nothing, where its refusal comes first, or all its blocks.
+-- What is told by a run that is refused: nothing, where its refusal comes first, or its blocks as far as they ran.
 abbrev pub HasBlocksSoFar : (words : List (List ℕ)) → Refusal → (old new : DeskState) → (before after : Option Told) → Type 0
-HasBlocksSoFar words refusal old new before after = ((after ≡ before) × MayBeUntold words refusal old new) ⊎ RanSoFar words old before after
+HasBlocksSoFar words refusal old new before after = ((after ≡ before) × MayBeUntold words refusal old new) ⊎ RanSoFar words refusal old before after

@@ -1,5 +1,5 @@
 -- What a run promises.
-use Rattle.std.specs.Prelude.{◌≡◌, ◌≢◌, ◌⊎◌, ℕ, ◌+◌, ◌≤◌, ◌%◌, ◌^◌, ◌&&◌, ◌||◌, ◌==◌, nat_le, Bool, false, IsTrue, IsSome, List, [], ◌∷◌, ◌++◌, length, Some}
+use Rattle.std.specs.Prelude.{◌≡◌, ◌≢◌, ◌⊎◌, ℕ, ◌≤◌, ◌&&◌, ◌||◌, ◌==◌, nat_le, Bool, false, IsTrue, IsSome, List, [], ◌∷◌, ◌++◌, length, take, Some}
 use Rattle.std.specs.Prelude.{None, Ok, Err}
 use Rattle.fv_base.specs.declared.role.Role.{Role}
 use Rattle.fv_base.specs.declared.role.Role.TheVariants.{Program, Input, Controls, Output, Report}
@@ -18,13 +18,15 @@ use Rattle.fv_top_report.specs.declared.refusal.Refusal.TheVariants.{Usage, Read
 use Rattle.fv_top_report.specs.declared.status.Status.{Status}
 use Rattle.fv_top_report.specs.declared.status.Status.TheVariants.{Done, Refused}
 use Rattle.fv_top_text.specs.Program.{IsProgram, IsRefusedText, is_of_program}
+use Rattle.fv_file_tape.specs.Tapes.{HasBegun, KeepsOutput}
+use Rattle.fv_engine_files.specs.Files.{IsCutAt}
 use Rattle.fv_engine_render.specs.Render.{initial_of}
 use Rattle.fv_top_text.specs.Compiled.{Compiled}
 use Rattle.fv_top.specs.Sources.{Source}
 use Rattle.fv_top.specs.Output.{OutputFormat, coding_of, format_of, present_in, cut_in}
 use Rattle.fv_top.specs.Inputs.{truncated}
 use Rattle.fv_pcm.specs.declared.coding.Coding.{Coding}
-use Rattle.fv_top.specs.Loading.{HasScript, HasInput, LeavesRest, IsThere, reading}
+use Rattle.fv_top.specs.Loading.{HasScript, HasInput, LeavesRest, ReadsWithin, IsThere, reading}
 use Rattle.fv_top.specs.Meant.{Meant, run_meant, check_meant, make_meant, written_by}
 use Rattle.fv_top_report.specs.Lines.{row_of, refused_line}
 use Rattle.fv_top.specs.Steps.{Turn, reads, writes, Rules, Ends, Stops, PassesAll, all_requests}
@@ -64,6 +66,10 @@ pub record Plays (run : Run) (files : List File) : Type 0 where
 abbrev pub meant : {run : Run} {files : List File} → Plays run files → Meant
 meant p = run_meant p.of.compiled.diagram (control_streams p.changes (initial_of p.of.compiled.controls)) p.format (present_in p.format p.source)
 
+-- and what it means that the frames before frame g are, which are present
+abbrev pub meant_to : {run : Run} {files : List File} → Plays run files → (g : ℕ) → Meant
+meant_to p g = run_meant p.of.compiled.diagram (control_streams p.changes (initial_of p.of.compiled.controls)) p.format (take g (present_in p.format p.source))
+
 -- no whole frame of the input is missing
 abbrev pub IsWhole : {run : Run} {files : List File} → Plays run files → Type 0
 IsWhole p = cut_in p.format p.source ≡ None
@@ -77,18 +83,16 @@ pub data Step : Type 0 where
   ReadScript : Step
   -- the head of the input is read and judged
   ReadHead : Step
-  -- the format of what the program makes on the input is judged
+  -- the format of what the program makes on the input is judged, and all memory of the run is taken
   Fit : Step
-  -- the samples are read, and the output computed
-  ReadSamples : Step
-  -- the output is written, as far as its input goes
+  -- the input is read, played and written block by block
   Write : Step
   -- and it is reported
   Tell : Step
 
 -- the steps, in their order
 abbrev pub run_steps : List Step
-run_steps = ReadProgram ∷ ReadScript ∷ ReadHead ∷ Fit ∷ ReadSamples ∷ Write ∷ Tell ∷ []
+run_steps = ReadProgram ∷ ReadScript ∷ ReadHead ∷ Fit ∷ Write ∷ Tell ∷ []
 
 -- what a step asks the desk for
 abbrev pub requests_of : Run → Step → List Request
@@ -96,7 +100,6 @@ requests_of run ReadProgram = to_read Program run.program ∷ []
 requests_of run ReadScript = reading Controls run.controls
 requests_of run ReadHead = reading Input run.input
 requests_of run Fit = []
-requests_of run ReadSamples = []
 requests_of run Write = to_write Output run.output ∷ []
 requests_of run Tell = []
 
@@ -106,8 +109,7 @@ TakesTurn run ReadProgram t = t ≡ reads Program
 TakesTurn run ReadScript t = (t ≡ reads Controls) × IsSome run.controls
 TakesTurn run ReadHead t = (t ≡ reads Input) × IsSome run.input
 TakesTurn run Fit t = ⊥
-TakesTurn run ReadSamples t = (t ≡ reads Input) × IsSome run.input
-TakesTurn run Write t = t ≡ writes Output
+TakesTurn run Write t = (t ≡ writes Output) ⊎ ((t ≡ reads Input) × IsSome run.input)
 TakesTurn run Tell t = t ≡ writes Report
 
 -- there is room for all that is written of a role
@@ -120,8 +122,8 @@ IsAnswered run old ReadProgram t = IsUnfailing Program old × IsThere (Some run.
 IsAnswered run old ReadScript t = IsUnfailing Controls old × IsThere run.controls old.files
 IsAnswered run old ReadHead t = IsUnfailing Input old × IsThere run.input old.files
 IsAnswered run old Fit t = Unit {0}
-IsAnswered run old ReadSamples t = IsUnfailing Input old
-IsAnswered run old Write t = IsUnfailing Output old × HasRoom run old Output
+IsAnswered run old Write (reads role) = IsUnfailing Input old
+IsAnswered run old Write (writes role) = IsUnfailing Output old × HasRoom run old Output
 IsAnswered run old Tell t = IsUnfailing Report old × HasRoom run old Report
 
 -- the numbers of the refusals of what a step judges
@@ -130,7 +132,6 @@ is_of_step ReadProgram n = is_of_program n
 is_of_step ReadScript n = (n == 4) || (nat_le 30 n && nat_le n 33)
 is_of_step ReadHead n = (nat_le 34 n && nat_le n 37) || (n == 44) || (n == 45)
 is_of_step Fit n = (n == 29) || (n == 38) || (n == 39)
-is_of_step ReadSamples n = false
 is_of_step Write n = (n == 35) || (n == 45)
 is_of_step Tell n = false
 
@@ -143,7 +144,6 @@ WantsMemory ReadProgram = Unit {0}
 WantsMemory ReadScript = Unit {0}
 WantsMemory ReadHead = Unit {0}
 WantsMemory Fit = Unit {0}
-WantsMemory ReadSamples = Unit {0}
 WantsMemory Write = ⊥
 WantsMemory Tell = ⊥
 
@@ -153,7 +153,6 @@ StepPasses run files ReadProgram = HasProgram run.program files
 StepPasses run files ReadScript = (p : HasProgram run.program files) × (changes : List Change) × HasScript run.controls files p.compiled.controls (Ok changes)
 StepPasses run files ReadHead = (source : Source) × HasInput run.manner.input run.input files (Ok source)
 StepPasses run files Fit = Plays run files
-StepPasses run files ReadSamples = Unit {0}
 StepPasses run files Write = (p : Plays run files) × IsWhole p
 StepPasses run files Tell = Unit {0}
 
@@ -165,7 +164,6 @@ StepRefuses run files ReadHead refusal = HasInput run.manner.input run.input fil
 StepRefuses run files Fit refusal =
     (p : HasProgram run.program files) × (source : Source) × HasInput run.manner.input run.input files (Ok source)
     × (format_of (coding_of run.manner.output) run.settings p.compiled.diagram source.head ≡ Err refusal)
-StepRefuses run files ReadSamples refusal = ⊥
 StepRefuses run files Write refusal = (p : Plays run files) × (cut_in p.format p.source ≡ Some refusal)
 StepRefuses run files Tell refusal = ⊥
 
@@ -312,10 +310,6 @@ pub record IsRefusedFor (words : List (List ℕ)) (old new : DeskState) (refusal
   pub requests : new.requests ≡ old.requests ++ asked
   pub cause : HasCause words old new refusal asked
 
--- writing of the output began once
-abbrev pub HasBegun : (old new : DeskState) → Type 0
-HasBegun old new = new.begins Output ≡ (old.begins Output + 1) % 2 ^ 64
-
 -- a run that is done began its output, and nothing else begins one
 abbrev pub BeginsOutput : Job → (old new : DeskState) → Type 0
 BeginsOutput (Playing run) old new = HasBegun old new
@@ -339,30 +333,29 @@ pub record HasDone (words : List (List ℕ)) (frames : ℕ) (old new : DeskState
   pub told : IsKnown job old → (can : CanDo job old.files) × (frames ≡ (meant_of job old.files can).frames)
       × (IsTrue old.tells → (r : Role) → new.written r ≡ written_by (meant_of job old.files can) old r)
 
--- A part of the output file from its front was written, memory was not wanted, and of the input nothing was read behind its
--- whole frames.
+-- A part of the output file from its front was written, and memory was not wanted. Of the input, unless it failed, nothing was read
+-- behind its whole frames; and unless the output failed, they were all read.
 pub record HasPlayedPart (words : List (List ℕ)) (refusal : Refusal) (old new : DeskState) : Type 0 where
   pub run : Run
   pub asks : Asks words (Playing run)
   pub begun : HasBegun old new
   pub memory : refusal ≡ NoMemory → ⊥
-  pub rest : IsTrue old.tells → LeavesRest run.manner.input run.input old.files (new.left Input)
+  pub within : (refusal ≡ ReadFault Input → ⊥) → IsTrue old.tells → ReadsWithin run.manner.input run.input old.files (new.left Input)
+  pub rest : (refusal ≡ ReadFault Input → ⊥) → (refusal ≡ WriteFault Output → ⊥) → IsTrue old.tells
+      → LeavesRest run.manner.input run.input old.files (new.left Input)
   pub told : IsTrue old.tells → (p : Plays run old.files) × IsPrefixOf (new.written Output) (written_by (meant p) old Output)
-
--- Writing of the output did not begin, and what was written of it before still stands.
-pub record KeepsOutput (old new : DeskState) : Type 0 where
-  pub begins : new.begins Output ≡ old.begins Output
-  pub written : IsTrue old.tells → new.written Output ≡ old.written Output
 
 -- what a refused run leaves of the output
 abbrev pub LeavesOutput : (words : List (List ℕ)) → Refusal → (old new : DeskState) → Type 0
 LeavesOutput words refusal old new = KeepsOutput old new ⊎ HasPlayedPart words refusal old new
 
--- The output was begun, and has the head and all that the frames that are present make.
+-- The output was begun, and has the head and what the frames make of those blocks that lie wholly within the frames that are present.
 pub record HasPlayedPresent (run : Run) (old new : DeskState) : Type 0 where
   pub begun : HasBegun old new
   pub plays : Plays run old.files
-  pub written : new.written Output ≡ written_by (meant plays) old Output
+  pub frame : ℕ
+  pub cut : IsCutAt run.settings.block plays.format.frames plays.changes (length (present_in plays.format plays.source)) frame
+  pub written : new.written Output ≡ written_by (meant_to plays frame) old Output
 
 -- Where the input ends too early, its head does not say all, or the frames that are present were played.
 abbrev pub CutsShort : (words : List (List ℕ)) → Refusal → (old new : DeskState) → Type 0

@@ -1,4 +1,4 @@
-// The input's head and samples.
+// The input's head.
 
 ghost use Rattle.std.specs.Prelude.{◌≡◌, ◌≤◌, ◌++◌, length, option_copied, is_some, IsTrue, IfOk, IfErr, IfSome, OnErr, IsErrOf, IsSome, Err};
 ghost use Rattle.std.specs.Option.{ForSome};
@@ -8,17 +8,14 @@ ghost use Rattle.fv_wav.specs.Reading.{wave};
 ghost use Rattle.fv_au.specs.Reading.{IsAu, au};
 ghost use Rattle.fv_top_report.specs.declared.refusal.Refusal.TheVariants.{ReadFault};
 ghost use Rattle.fv_top_words.specs.declared.manner.InputKind.TheVariants as kinds;
-ghost use Rattle.fv_top.specs.Inputs.{whole_bytes};
 ghost use Rattle.fv_top.specs.Sources.{file_source, wave_source, au_source};
 ghost use Rattle.fv_top.specs.Promise.{HasRefusal, ReadHead};
-ghost use Rattle.fv_top.specs.Loading.{ReadsFile, StopsLoading, StopsHead, StopsSamples, HasInput, HasHead, GivesHead, IsPlaced, wanted, behind_wanted};
-ghost use Rattle.fv_top.specs.inner.Loaded.{held_in};
+ghost use Rattle.fv_top.specs.Loading.{ReadsFile, StopsLoading, StopsHead, HasInput, HasHead, GivesHead, IsPlaced};
+ghost use Rattle.fv_top.specs.inner.Loaded.{held_in, HoldsAll};
 
-use crate::files::read_refusal;
-use crate::frames::whole_bytes;
 use crate::incoming::{Incoming, au_incoming, wave_incoming};
 use fv_au::{read_au_bytes, read_au_head_behind};
-use fv_outside::{Desk, Role, fill, read_up_to};
+use fv_outside::{Desk, Role, fill};
 use fv_top_report::Refusal;
 use fv_top_words::InputKind;
 use fv_wav::read_head_behind;
@@ -44,6 +41,7 @@ pub fn load_head<D: Desk>(
         HasHead kind (option_copied name.entry) (D.state desk.old).files l.head (held_in l) ((D.state desk.new).left Input)) }
     ensures named { IfOk result (λ l. is_some l.head ≡ is_some (option_copied name.entry)) }
     ensures ranges { IfOk result (λ l. ForSome l.head IsPlaced) }
+    ensures held { IfOk result HoldsAll }
     ensures err { IfErr result (StopsLoading Input (option_copied name.entry) (HasRefusal ReadHead)
         (λ e. HasInput kind (option_copied name.entry) (D.state desk.old).files (Err e)) (D.state desk.old) (D.state desk.new)) }
     ensures steady { (IsErrOf result (ReadFault Input) → ⊥) → KeepsFaults (D.state desk.old) (D.state desk.new) }
@@ -73,6 +71,7 @@ fn load_file<D: Desk>(alloc: Global, desk: &mut D, kind: InputKind) -> Result<Lo
         GivesHead (file_source kind ((D.state desk.old).left Input)) l.head (held_in l) ((D.state desk.new).left Input)) }
     ensures some { IfOk result (λ l. IsSome l.head) }
     ensures ranges { IfOk result (λ l. ForSome l.head IsPlaced) }
+    ensures held { IfOk result HoldsAll }
     ensures err { IfErr result (StopsHead (HasRefusal ReadHead) (file_source kind ((D.state desk.old).left Input)) (D.state desk.old) (D.state desk.new)) }
     ensures steady { (IsErrOf result (ReadFault Input) → ⊥) → KeepsFaults (D.state desk.old) (D.state desk.new) }
 {
@@ -90,6 +89,7 @@ fn load_either<D: Desk>(alloc: Global, desk: &mut D) -> Result<Loaded, Refusal>
         GivesHead (file_source kinds.Either ((D.state desk.old).left Input)) l.head (held_in l) ((D.state desk.new).left Input)) }
     ensures some { IfOk result (λ l. IsSome l.head) }
     ensures ranges { IfOk result (λ l. ForSome l.head IsPlaced) }
+    ensures held { IfOk result HoldsAll }
     ensures err { IfErr result (StopsHead (HasRefusal ReadHead) (file_source kinds.Either ((D.state desk.old).left Input))
         (D.state desk.old) (D.state desk.new)) }
     ensures steady { (IsErrOf result (ReadFault Input) → ⊥) → KeepsFaults (D.state desk.old) (D.state desk.new) }
@@ -117,6 +117,7 @@ fn load_wave<D: Desk>(desk: &mut D, begun: &[u8]) -> Result<Loaded, Refusal>
         GivesHead (wave_source bytes (wave bytes)) l.head (held_in l) ((D.state desk.new).left Input))) }
     ensures some { IfOk result (λ l. IsSome l.head) }
     ensures ranges { IfOk result (λ l. ForSome l.head IsPlaced) }
+    ensures held { IfOk result HoldsAll }
     ensures err { IfErr result (let bytes = begun.now ++ (D.state desk.old).left Input in
         StopsHead (HasRefusal ReadHead) (wave_source bytes (wave bytes)) (D.state desk.old) (D.state desk.new)) }
     ensures steady { (IsErrOf result (ReadFault Input) → ⊥) → KeepsFaults (D.state desk.old) (D.state desk.new) }
@@ -139,6 +140,7 @@ fn load_au<D: Desk>(alloc: Global, desk: &mut D, begun: &[u8]) -> Result<Loaded,
         GivesHead (au_source bytes (au bytes)) l.head (held_in l) ((D.state desk.new).left Input))) }
     ensures some { IfOk result (λ l. IsSome l.head) }
     ensures ranges { IfOk result (λ l. ForSome l.head IsPlaced) }
+    ensures held { IfOk result HoldsAll }
     ensures err { IfErr result (let bytes = begun.now ++ (D.state desk.old).left Input in
         StopsHead (HasRefusal ReadHead) (au_source bytes (au bytes)) (D.state desk.old) (D.state desk.new)) }
     ensures steady { (IsErrOf result (ReadFault Input) → ⊥) → KeepsFaults (D.state desk.old) (D.state desk.new) }
@@ -156,40 +158,5 @@ fn load_au<D: Desk>(alloc: Global, desk: &mut D, begun: &[u8]) -> Result<Loaded,
                 held: Some(bytes),
             })
         }
-    }
-}
-
-/// The bytes of the whole frames of an input, or as many as are there.
-#[tactic(auto, using(fv_outside::proofs::States::steps, crate::proofs::Loads::reading))]
-pub fn load_samples<D: Desk>(
-    alloc: Global,
-    desk: &mut D,
-    loaded: Loaded,
-) -> Result<Vec<u8>, Refusal>
-    requires { ForSome loaded.head IsPlaced }
-    ensures takes { TakesSome Input (D.state desk.old) (D.state desk.new) }
-    ensures raw { IfOk result (λ v. IsTrue (D.state desk.old).tells → v.items ≡ wanted loaded.head (held_in loaded) ((D.state desk.old).left Input)) }
-    ensures rest { IfOk result (λ _. IsTrue (D.state desk.old).tells →
-        (D.state desk.new).left Input ≡ behind_wanted loaded.head (held_in loaded) ((D.state desk.old).left Input)) }
-    ensures some { OnErr result (IsSome loaded.head) }
-    ensures count { IfOk result (λ v. IfSome loaded.head (λ h. length v.items ≤ whole_bytes h)) }
-    ensures err { IfErr result (StopsSamples loaded.head (D.state desk.old) (D.state desk.new)) }
-    ensures steady { (IsErrOf result (ReadFault Input) → ⊥) → KeepsFaults (D.state desk.old) (D.state desk.new) }
-{
-    let Loaded { head, held } = loaded;
-    let head = match head {
-        Some(head) => head,
-        None => return Ok(Vec::new(alloc)),
-    };
-    let count = whole_bytes(&head);
-    match held {
-        Some(mut bytes) => {
-            bytes.truncate(count);
-            Ok(bytes)
-        }
-        None => match read_up_to(alloc, desk, Role::Input, count) {
-            Ok(bytes) => Ok(bytes),
-            Err(error) => Err(read_refusal(Role::Input, error)),
-        },
     }
 }

@@ -8,12 +8,12 @@ mod frames;
 mod incoming;
 mod input;
 mod make;
-mod output;
+mod play;
 mod prepare;
 mod program;
 mod run;
-mod samples;
 mod script;
+mod tape;
 
 pub use fv_top_report::{Cause, Refusal, Status, Tally};
 pub use fv_top_text::one_program;

@@ -7,16 +7,14 @@ ghost use Rattle.fv_top_words.specs.Runs.{AreSound};
 ghost use Rattle.fv_top_words.specs.Views.{run_in as run_view};
 ghost use Rattle.fv_top.specs.Promise.{OfWords, IfDone, IfRefused, HasDone, IsRefusedFor, LeavesOutput, CutsShort, IsRead, KeepsOthers, Reports};
 ghost use Rattle.fv_top.specs.Promise.{HandsOn, IsComplete, IsStrict, IsExact};
-ghost use Rattle.fv_top.specs.Inputs.{truncated};
 ghost use Rattle.fv_top.specs.Played.{HasBlocks, HasBlocksSoFar};
 ghost use Rattle.fv_top.specs.inner.Running.{EndsDone, Stopped, ReportsLine};
 
 use crate::check::check;
 use crate::make::run_make;
-use crate::output::write_output;
+use crate::play::play;
 use crate::prepare::prepare;
 use fv_outside::{Desk, Gate, Role};
-use fv_pcm::Coding;
 use fv_top_report::{Refusal, Status, Tally, report_done, report_refusal};
 use fv_top_text::one_program;
 use fv_top_words::{Job, Run, job_in};
@@ -73,7 +71,7 @@ fn perform<R: Threads + Wait + Sync, D: Desk, G: Gate + Sync>(
     }
 }
 
-// Plays a program: its output is written as far as its input goes, and reported where that is all of it.
+// Plays a program: its input is read and its output written block by block, and reported where that is all of it.
 fn play_run<R: Threads + Wait + Sync, D: Desk, G: Gate + Sync>(
     rt: &R,
     alloc: Global,
@@ -91,34 +89,17 @@ fn play_run<R: Threads + Wait + Sync, D: Desk, G: Gate + Sync>(
     ensures so_far { IfErr result (λ refusal. OfWords (Playing (run_view run.entry)) (λ words.
         HasBlocksSoFar words refusal (D.state desk.old) (D.state desk.new) (G.told gate.old) (G.told gate.new))) }
 {
-    let (prepared, mut bytes) = prepare(rt, alloc, desk, &run, gate)?;
-    match write_output(desk, run.output, &prepared, &mut bytes) {
-        Ok(()) => {}
-        Err(_) => return Err(Refusal::WriteFault { role: Role::Output }),
-    }
-    match prepared.cut {
-        Some(place) => return Err(truncated(prepared.coding, place)),
-        None => {}
-    }
+    let prepared = prepare(alloc, desk, &run)?;
     let frames = prepared.format.frames;
+    let ran = play(rt, alloc, desk, prepared, gate)?;
     match report_done(desk, frames) {
         Ok(()) => Ok(Tally {
             frames,
-            blocks: prepared.ran.blocks,
-            loops: prepared.ran.loops,
-            loop_runs: prepared.ran.loop_runs,
+            blocks: ran.blocks,
+            loops: ran.loops,
+            loop_runs: ran.loop_runs,
         }),
         Err(_) => Err(Refusal::WriteFault { role: Role::Report }),
-    }
-}
-
-// The refusal of an input that ends too early, by how its samples are stored.
-fn truncated(coding: Coding, place: u64) -> Refusal
-    ensures { result ≡ truncated coding place }
-{
-    match coding {
-        Coding::Wave => Refusal::WaveTruncated { place },
-        Coding::Au => Refusal::AuTruncated { place },
     }
 }
 

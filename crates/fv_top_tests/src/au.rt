@@ -115,7 +115,7 @@ fn refuses_au_files(rt: HostRuntime) -> Result<(), Fail> {
             &TO_AU,
             &AU_THREE[..29],
             b"refused 45 AuTruncated 29\n",
-            &AU_THREE[..28],
+            &AU_THREE[..24],
         ),
         (&TO_AU, &AU_THREE[..15], b"refused 45 AuTruncated 15\n", &[]),
         (&TO_AU, &low_offset, b"refused 44 AuFormat 4\n", &[]),
@@ -147,7 +147,7 @@ fn each_call_fails(rt: HostRuntime) -> Result<(), Fail> {
                 desk.written(Role::Report),
                 b"refused 2 ReadFault input\n".as_slice()
             );
-            assert_eq!(rt; desk.written(Role::Output).len(), 0);
+            assert!(rt; AU_THREE.starts_with(desk.written(Role::Output)));
         }
         for piece in 1..8 {
             let mut desk = desk_of(alloc, b"process = _;", input)?;

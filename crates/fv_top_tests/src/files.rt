@@ -74,13 +74,13 @@ fn refuses_files(rt: HostRuntime) -> Result<(), Fail> {
             &THREE[..49],
             4,
             b"refused 35 WaveTruncated 49\n",
-            &THREE[..48],
+            &THREE[..44],
         ),
         (
             &ODD[..85],
             4,
             b"refused 35 WaveTruncated 85\n",
-            &PLAIN[..47],
+            &PLAIN[..44],
         ),
     ];
     for (input, status, line, left) in rows {
@@ -88,6 +88,45 @@ fn refuses_files(rt: HostRuntime) -> Result<(), Fail> {
         assert_eq!(rt; status_of(&rt, rt.alloc(), &mut desk, &WORDS)?, status);
         assert_eq!(rt; desk.written(Role::Report), line);
         assert_eq!(rt; desk.written(Role::Output), left);
+    }
+    Ok(())
+}
+
+// Of an input that is cut, just the blocks are played that lie wholly within it.
+#[test]
+fn plays_whole_blocks(rt: HostRuntime) -> Result<(), Fail> {
+    let rows: [(&str, &[u8], &[u8], &[u8]); 4] = [
+        (
+            "--block=1",
+            &ODD[..85],
+            b"refused 35 WaveTruncated 85\n",
+            &PLAIN[..47],
+        ),
+        (
+            "--block=2",
+            &ODD[..85],
+            b"refused 35 WaveTruncated 85\n",
+            &PLAIN[..44],
+        ),
+        (
+            "--block=1",
+            &THREE[..49],
+            b"refused 35 WaveTruncated 49\n",
+            &THREE[..48],
+        ),
+        (
+            "--block=2",
+            &THREE[..49],
+            b"refused 35 WaveTruncated 49\n",
+            &THREE[..48],
+        ),
+    ];
+    for (block, input, line, output) in rows {
+        let mut desk = desk_of(rt.alloc(), b"process = _;", input)?;
+        let words = ["run", "p.dsp", "in.wav", "out.wav", block, "--vector=1"];
+        assert_eq!(rt; status_of(&rt, rt.alloc(), &mut desk, &words)?, 4);
+        assert_eq!(rt; desk.written(Role::Report), line);
+        assert_eq!(rt; desk.written(Role::Output), output);
     }
     Ok(())
 }

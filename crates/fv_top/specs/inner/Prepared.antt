@@ -1,55 +1,179 @@
--- What the code has ready to be written.
-use Rattle.std.specs.Prelude.{◌≡◌, ℕ, ◌+◌, ◌≤◌, ◌==◌, true, List, length, Option, Some, None, option_map, if◌then◌else◌}
-use Rattle.fv_base.specs.declared.limits.TheConstants.{MOST_CHANNELS}
-use Rattle.fv_diagram.specs.Diagram.{outputs}
-use Rattle.fv_diagram.specs.Streams.{run}
-use Rattle.fv_control.specs.declared.script.Change.{Change}
-use Rattle.fv_control.specs.Streams.{control_streams}
-use Rattle.fv_diagram.specs.Samples.{joined, no_slots}
-use Rattle.fv_top.specs.declared.incoming.Incoming.{Incoming}
-use Rattle.fv_top.specs.Inputs.{truncated, coding_in}
-use Rattle.fv_num.specs.Words.{is_sample_width}
-use Rattle.fv_pcm.specs.Sizes.{data_size, data_limit}
-use Rattle.fv_top.specs.declared.prepare.Prepared.{Prepared}
-use Rattle.fv_engine_render.specs.Render.{initial_of}
-use Rattle.fv_top_text.specs.Compiled.{Compiled}
-use Rattle.fv_top.specs.Sources.{frames_of}
-use Rattle.fv_top.specs.Output.{OutputFormat}
-use Rattle.fv_top.specs.inner.Formats.{format_in}
+-- What the code has ready to be played, and how that is played.
+use Rattle.std.specs.Prelude.{◌≡◌, ◌⊎◌, ◌<◌, ◌≤◌, ◌+◌, ℕ, IsTrue, List, [], length, take, Option, Some, None, option_map, is_some}
+use Rattle.std.specs.List.{AllByRecursion}
+use Rattle.fv_base.specs.declared.role.Role.TheVariants.{Input, Output}
+use Rattle.fv_base.specs.Lists.{IsPrefixOf}
+use Rattle.fv_num.specs.Frames.{Frame}
 use Rattle.fv_outside.specs.Journal.{Told}
-use Rattle.fv_outside.specs.Desk.{DeskState}
-use Rattle.fv_top_words.specs.Runs.{Run}
-use Rattle.fv_top_words.specs.Commands.{Playing}
-use Rattle.fv_top.specs.Played.{AllRan}
-use Rattle.fv_top.specs.inner.Running.{Ready}
+use Rattle.fv_outside.specs.Desk.{DeskState, KeepsFaults}
+use Rattle.fv_control.specs.declared.script.Change.{Change}
+use Rattle.fv_control.specs.Laws.{NeverFall, IsOfControls}
+use Rattle.fv_control.specs.Streams.{control_streams}
+use Rattle.fv_interval.specs.Delays.{AreAccepted}
+use Rattle.fv_diagram.specs.Diagram.{inputs, outputs}
+use Rattle.fv_pcm.specs.Sizes.{data_size}
+use Rattle.fv_pcm.specs.declared.coding.Coding.{Coding}
+use Rattle.fv_pcm.specs.declared.coding.Coding.TheVariants as coding
+use Rattle.fv_engine_render.specs.Render.{CanHave, RanTo, initial_of}
+use Rattle.fv_engine_render.specs.Stops.{IsSetFor}
+use Rattle.fv_engine_render.specs.declared.blocks.Ran.{Ran}
+use Rattle.fv_file_tape.specs.Tapes.{IsTape, Streams, HasBegun, KeepsOutput, CannotSay, channels_of, files_of}
+use Rattle.fv_file_tape.specs.declared.samples.InputSamples.{InputSamples}
+use Rattle.fv_file_tape.specs.declared.file_tape.FileTape.{FileTape}
+use Rattle.fv_file_tape.specs.declared.file_tape.OutputHead.{OutputHead}
+use Rattle.fv_file_tape.specs.declared.file_tape.Stop.{Stop}
+use Rattle.fv_file_tape.specs.declared.file_tape.Stop.TheVariants as stop
+use Rattle.fv_engine_files.specs.Files.{HasTaken, IsCutAt, IsStopFor, frames_of}
+use Rattle.fv_top_words.specs.Runs.{Run, Settings}
+use Rattle.fv_top_report.specs.declared.refusal.Refusal.{Refusal}
+use Rattle.fv_top_report.specs.declared.refusal.Refusal.TheVariants.{ReadFault, WriteFault}
+use Rattle.fv_top_text.specs.Program.{delays_in}
+use Rattle.fv_top_text.specs.Compiled.{Compiled, compiled_of, CanPlay}
+use Rattle.fv_top.specs.declared.format.OutputFormat.{OutputFormat as Made}
+use Rattle.fv_top.specs.declared.incoming.Incoming.{Incoming}
+use Rattle.fv_top.specs.declared.input.Loaded.{Loaded}
+use Rattle.fv_top.specs.declared.prepare.Prepared.{Prepared}
+use Rattle.fv_top.specs.Inputs.{truncated}
+use Rattle.fv_top.specs.Loading.{IsLeft}
+use Rattle.fv_top.specs.Output.{output_file}
+use Rattle.fv_top.specs.Played.{sizes_of}
+use Rattle.fv_top.specs.Promise.{Plays}
+use Rattle.fv_top.specs.inner.Formats.{format_in}
+use Rattle.fv_top.specs.inner.Loaded.{held_in}
 
--- what it is
-abbrev pub ready_of : Prepared → Ready
-ready_of p = record { channels = p.channels; format = format_in p.format; samples = p.samples.items; cut = option_map (truncated p.coding) p.cut }
+-- ---- the tape
 
--- a head can state it
-pub record CanWrite (p : Prepared) : Type 0 where
-  pub some : 1 ≤ p.channels
-  pub few : p.channels ≤ MOST_CHANNELS
-  pub bits : is_sample_width p.format.bits ≡ true
-  pub size : p.format.size ≡ data_size p.channels p.format.bits p.format.frames
-  pub within : p.format.size ≤ data_limit
+-- where the samples of an input with this head lie
+abbrev pub samples_of : Incoming → InputSamples
+samples_of h = record { coding = h.coding; channels = h.channels; bits = h.bits; size = h.data_bytes; place = h.place }
 
--- where the input of these bytes of samples ends, if it does within its whole frames
-abbrev pub cut_at : Option Incoming → (stated : ℕ) → (raw : List ℕ) → Option ℕ
-cut_at None stated raw = None
-cut_at (Some h) stated raw = if length (frames_of stated (Some h) raw) == stated then None else Some (h.place + length raw)
+-- the head of an output of so many channels in this format
+abbrev pub output_head : (channels : ℕ) → Made → OutputHead
+output_head channels f = record { coding = f.coding; channels = channels; rate = f.rate; bits = f.bits; size = f.size }
 
--- what a program makes of them, under the changes of its controls
-abbrev pub made_of : Compiled → List Change → Option Incoming → OutputFormat → (raw : List ℕ) → Ready
-made_of p changes head format raw = record {
-  channels = outputs p.diagram;
-  format = format;
-  samples = joined (run p.diagram (control_streams changes (initial_of p.controls)) no_slots (frames_of format.frames head raw));
-  cut = option_map (truncated (coding_in head)) (cut_at head format.frames raw);
-}
+-- The tape of an output of this name, so many channels and this format, and of an input that was loaded, of which nothing was heard
+-- yet, with room for so many frames.
+pub record IsTapeOf (name : List ℕ) (channels : ℕ) (format : Made) (loaded : Loaded) (block : ℕ) (t : FileTape) : Type 0 where
+  pub output : t.output.now ≡ name
+  pub head : t.head ≡ output_head channels format
+  pub input : t.input ≡ option_map samples_of loaded.head
+  pub held : (files_of t).held ≡ held_in loaded
+  pub done : t.done ≡ 0
+  pub stated : t.stated ≡ format.frames
+  pub most : t.most ≡ block
 
--- the blocks of a run that is ready to be written, which are those of all its frames where none is missing
-abbrev pub IsRan : Run → DeskState → Prepared → (before after : Option Told) → Type 0
-IsRan run old p before after =
-    (x : AllRan (Playing run) old p.ran.blocks p.ran.loops p.ran.loop_runs before after) × (p.cut ≡ None → x.played.sizes.frames ≡ p.format.frames)
+-- ---- what is ready
+
+-- All that a run is played with fits together: the memory, the tape, and the sizes of the run.
+pub record CanRun (p : Prepared) : Type 0 where
+  pub plays : CanPlay p.program
+  pub accepted : AreAccepted (delays_in (compiled_of p.program)) p.delays
+  pub order : NeverFall 0 p.script
+  pub lawful : AllByRecursion (IsOfControls (compiled_of p.program).controls) p.script
+  pub can : CanHave p.sizes
+  pub set : IsSetFor (compiled_of p.program).diagram (compiled_of p.program).controls p.sizes p.ready
+  pub tape : IsTape p.tape
+  pub fresh : p.tape.done ≡ 0
+  pub ears : channels_of p.tape.input ≡ inputs (compiled_of p.program).diagram
+  pub most : p.sizes.block ≤ p.tape.most
+  pub stated : p.tape.stated ≡ p.sizes.frames
+  pub frames : p.format.frames ≡ p.sizes.frames
+  pub size : p.format.size ≡ data_size (outputs (compiled_of p.program).diagram) p.format.bits p.format.frames
+  pub head : p.tape.head ≡ output_head (outputs (compiled_of p.program).diagram) p.format
+
+-- It was made of these: the output's name, the settings, a program and its script, an input and a format.
+pub record IsMadeOf (name : List ℕ) (settings : Settings) (compiled : Compiled) (changes : List Change) (loaded : Loaded) (made : Made) (p : Prepared)
+    : Type 0 where
+  pub program : compiled_of p.program ≡ compiled
+  pub script : p.script ≡ changes
+  pub format : p.format ≡ made
+  pub sizes : p.sizes ≡ sizes_of settings p.sizes.frames
+  pub output : p.tape.output.now ≡ name
+  pub input : p.tape.input ≡ option_map samples_of loaded.head
+  pub held : (files_of p.tape).held ≡ held_in loaded
+
+-- It is for this run.
+pub record IsForRun (run : Run) (p : Prepared) : Type 0 where
+  pub sizes : p.sizes ≡ sizes_of run.settings p.sizes.frames
+  pub output : p.tape.output.now ≡ run.output
+  pub named : is_some p.tape.input ≡ is_some run.input
+
+-- And it is what the files of the run say, where the desk tells them; the samples of its input are left to read, or were read.
+pub record IsOfFiles (run : Run) (old new : DeskState) (p : Prepared) : Type 0 where
+  pub plays : Plays run old.files
+  pub program : plays.of.compiled ≡ compiled_of p.program
+  pub changes : plays.changes ≡ p.script
+  pub format : plays.format ≡ format_in p.format
+  pub input : p.tape.input ≡ option_map samples_of plays.source.head
+  pub behind : IsLeft plays.source.head (files_of p.tape).held plays.source.bytes (new.left Input)
+
+-- ---- how it is played
+
+-- the whole frames that are there of its input, where so much is left of it
+abbrev pub frames_there : Prepared → (left : List ℕ) → List Frame
+frames_there p left = frames_of (files_of p.tape) left
+
+-- the output file of frames that are there
+abbrev pub file_on : Prepared → (X : List Frame) → List ℕ
+file_on p X =
+    output_file (compiled_of p.program).diagram (control_streams p.script (initial_of (compiled_of p.program).controls)) (format_in p.format) X
+
+-- that of all of them
+abbrev pub file_there : Prepared → (left : List ℕ) → List ℕ
+file_there p left = file_on p (frames_there p left)
+
+-- All frames were there, and were played, and the whole file was written.
+pub record HasRun (p : Prepared) (old new : DeskState) : Type 0 where
+  pub streams : Streams p.tape.output.now old new
+  pub begun : HasBegun old new
+  pub faults : KeepsFaults old new
+  pub there : IsTrue old.tells → length (frames_there p (old.left Input)) ≡ p.sizes.frames
+  pub taken : IsTrue old.tells → HasTaken (files_of p.tape) p.sizes.frames old new
+  pub written : IsTrue old.tells → new.written Output ≡ file_there p (old.left Input)
+
+-- The input ends within the frames that are stated: the blocks up to frame g were played, which are those that lie wholly within the
+-- frames that are there.
+pub record IsCutIn (p : Prepared) (i : InputSamples) (g place : ℕ) (old new : DeskState) : Type 0 where
+  pub cut : IsCutAt p.sizes.block p.sizes.frames p.script (length (frames_there p (old.left Input))) g
+  pub short : length (frames_there p (old.left Input)) < p.sizes.frames
+  pub place_is : place ≡ i.place + length (old.left Input)
+  pub taken : new.left Input ≡ []
+  pub written : new.written Output ≡ file_on p (take g (frames_there p (old.left Input)))
+
+-- why it stops behind the blocks up to frame g
+abbrev pub IsEndFor : Prepared → (g : ℕ) → (old new : DeskState) → Stop → Type 0
+IsEndFor p g old new stop.Read =
+    IsStopFor (compiled_of p.program).diagram (control_streams p.script (initial_of (compiled_of p.program).controls)) p.script p.sizes (files_of p.tape)
+    g old new stop.Read
+IsEndFor p g old new (stop.End place) =
+    HasBegun old new × KeepsFaults old new × (i : InputSamples) × (p.tape.input ≡ Some i) × ((files_of p.tape).held ≡ None)
+    × (IsTrue old.tells → IsCutIn p i g place old new)
+IsEndFor p g old new stop.Write =
+    CannotSay (file_there p (old.left Input)) old new
+    × (IsTrue old.tells → (n : ℕ) × (n ≤ p.sizes.frames) × HasTaken (files_of p.tape) n old new)
+
+-- It stopped behind the blocks up to frame g: the output is as it was, or it was begun, and has a part of its file from its front.
+pub record EndsAt (p : Prepared) (g : ℕ) (old new : DeskState) (e : Stop) : Type 0 where
+  pub streams : Streams p.tape.output.now old new
+  pub output : KeepsOutput old new ⊎ (HasBegun old new × (IsTrue old.tells → IsPrefixOf (new.written Output) (file_there p (old.left Input))))
+  pub cause : IsEndFor p g old new e
+
+-- how the samples of an input are stored
+abbrev pub coding_heard : Option InputSamples → Coding
+coding_heard None = coding.Wave
+coding_heard (Some i) = i.coding
+
+-- the refusal of a run that stops, by how its input's samples are stored
+abbrev pub refusal_of_stop : Coding → Stop → Refusal
+refusal_of_stop c stop.Read = ReadFault Input
+refusal_of_stop c (stop.End place) = truncated c place
+refusal_of_stop c stop.Write = WriteFault Output
+
+-- It stopped, and this is the refusal.
+pub record StopsRun (p : Prepared) (old new : DeskState) (before after : Option Told) (refusal : Refusal) : Type 0 where
+  pub stop : Stop
+  pub is : refusal ≡ refusal_of_stop (coding_heard p.tape.input) stop
+  pub frame : ℕ
+  pub counted : Ran
+  pub ran : RanTo (compiled_of p.program).diagram (compiled_of p.program).controls p.script p.sizes frame counted before after
+  pub ends : EndsAt p frame old new stop

@@ -1,24 +1,22 @@
 -- How the parts of a run end.
-use Rattle.std.specs.Prelude.{◌≡◌, ◌≢◌, ◌⊎◌, ℕ, ◌≤◌, IsTrue, List, [], ◌∷◌, ◌++◌, length, Option, Some, None, ℤ}
+use Rattle.std.specs.Prelude.{◌≡◌, ◌⊎◌, ℕ, IsTrue, List, [], ◌∷◌, ◌++◌, ℤ}
 use Rattle.fv_base.specs.declared.role.Role.{Role}
 use Rattle.fv_base.specs.declared.role.Role.TheVariants.{Program, Controls, Input, Output, Report}
 use Rattle.fv_base.specs.Lists.{IsPrefixOf}
-use Rattle.fv_outside.specs.Requests.{Request, to_read, to_write}
-use Rattle.fv_outside.specs.Desk.{DeskState, GoesOn, HasFault, KeepsQuiet, KeepsLeft, KeepsFaults, IsUnfailing, Appends}
+use Rattle.fv_outside.specs.Requests.{Request, to_read}
+use Rattle.fv_outside.specs.Desk.{DeskState, GoesOn, HasFault, KeepsQuiet, KeepsFaults, Appends}
 use Rattle.fv_top_words.specs.Runs.{Run}
 use Rattle.fv_top_words.specs.Commands.{Playing, Checking, Making}
-use Rattle.fv_pcm.specs.declared.coding.Coding.{Coding}
-use Rattle.fv_pcm.specs.Sizes.{data_size}
+use Rattle.fv_file_tape.specs.Tapes.{KeepsOutput}
 use Rattle.fv_top_report.specs.declared.refusal.Refusal.{Refusal}
 use Rattle.fv_top_report.specs.declared.refusal.Refusal.TheVariants.{WriteFault}
-use Rattle.fv_top.specs.Output.{OutputFormat, file_of, pad_in, cut_in}
 use Rattle.fv_top.specs.Loading.{reading}
 use Rattle.fv_top.specs.Meant.{check_meant, make_meant, made_sum, written_by}
 use Rattle.fv_top_text.specs.Compiled.{Compiled}
 use Rattle.fv_top_report.specs.Lines.{refused_line}
 use Rattle.fv_top.specs.Steps.{Ends}
-use Rattle.fv_top.specs.Promise.{Plays, HasProgram, meant, Step, ReadProgram, ReadScript, ReadHead, Fit, ReadSamples, run_rules, check_rules, check_steps}
-use Rattle.fv_top.specs.Promise.{IsMade, make_rules, make_steps, HasBegun, KeepsOutput, IsReadBy, IsRead, KeepsOthers, IsBegunLine, IsRefusedFor, HasDone}
+use Rattle.fv_top.specs.Promise.{HasProgram, Step, ReadProgram, ReadScript, ReadHead, Fit, run_rules, check_rules, check_steps}
+use Rattle.fv_top.specs.Promise.{IsMade, make_rules, make_steps, IsReadBy, IsRead, KeepsOthers, IsBegunLine, IsRefusedFor, HasDone}
 use Rattle.fv_top.specs.Promise.{LeavesOutput, CutsShort, Reports, IsFaultOf, HandsOn}
 
 -- The desk was asked for this, nothing was written, and only these roles were read.
@@ -26,24 +24,6 @@ pub record Reaches (Reads : Role → Type 0) (asked : List Request) (old new : D
   pub quiet : KeepsQuiet old new
   pub requests : new.requests ≡ old.requests ++ asked
   pub left : IsTrue old.tells → (r : Role) → (Reads r → ⊥) → new.left r ≡ old.left r
-
--- The desk was asked for this output alone, and only the output was written.
-pub record Delivers (name : List ℕ) (old new : DeskState) : Type 0 where
-  pub goes_on : GoesOn old new
-  pub requests : new.requests ≡ old.requests ++ to_write Output name ∷ []
-  pub left : KeepsLeft old new
-  pub written : IsTrue old.tells → (r : Role) → r ≢ Output → new.written r ≡ old.written r
-  pub begins : (r : Role) → r ≢ Output → new.begins r ≡ old.begins r
-  pub other_faults : (r : Role) → r ≢ Output → new.faults r ≡ old.faults r
-
--- a fault of the role was counted, and it was not sure that no call fails and there is room for these bytes
-pub record CannotWrite (role : Role) (bytes : List ℕ) (old new : DeskState) : Type 0 where
-  pub fault : HasFault role old new
-  pub unsure : IsTrue old.tells → IsUnfailing role old × (length bytes ≤ old.room role) → ⊥
-
--- the output as it was, or a part of the file from its front
-abbrev pub LeavesPart : (file : List ℕ) → (old new : DeskState) → Type 0
-LeavesPart file old new = KeepsOutput old new ⊎ (HasBegun old new × (IsTrue old.tells → IsPrefixOf (new.written Output) file))
 
 -- no fault was counted but the refusal's
 abbrev pub CountsFaultOf : Refusal → (old new : DeskState) → Type 0
@@ -55,32 +35,9 @@ CountsFaultOf refusal old new = (r : Role) → (IsFaultOf r refusal → ⊥) →
 abbrev pub asked_before : Run → List Request
 asked_before run = to_read Program run.program ∷ (reading Controls run.controls ++ reading Input run.input)
 
--- What is ready to be written: so many channels of a format, their samples, and the refusal where its input ends too early.
-pub record Ready : Type 0 where
-  pub channels : ℕ
-  pub format : OutputFormat
-  pub samples : List ℤ
-  pub cut : Option Refusal
-
--- its file: where its input ends too early, no byte stands behind the samples
-abbrev pub pad_of : Option Refusal → Coding → (size : ℕ) → List ℕ
-pad_of None c size = pad_in c size
-pad_of (Some refusal) c size = []
-
-abbrev pub file_in : Ready → List ℕ
-file_in r =
-    let size = data_size r.channels r.format.bits r.format.frames in
-    file_of r.format.coding r.channels r.format.rate r.format.bits size r.samples (pad_of r.cut r.format.coding size)
-
--- What is ready is what the files of the run mean, where the desk tells them.
-abbrev pub IsReady : Run → DeskState → Ready → Type 0
-IsReady run old r =
-    IsTrue old.tells → (p : Plays run old.files) × (cut_in p.format p.source ≡ r.cut) × (r.format.frames ≡ (meant p).frames)
-    × (file_in r ≡ written_by (meant p) old Output)
-
 -- the steps before anything is written
 abbrev pub steps_before : List Step
-steps_before = ReadProgram ∷ ReadScript ∷ ReadHead ∷ Fit ∷ ReadSamples ∷ []
+steps_before = ReadProgram ∷ ReadScript ∷ ReadHead ∷ Fit ∷ []
 
 -- A step that reads cannot go on.
 pub record StopsBefore (run : Run) (old new : DeskState) (refusal : Refusal) : Type 0 where

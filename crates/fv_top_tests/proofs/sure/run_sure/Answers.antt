@@ -1,11 +1,14 @@
 use Rattle.std.proofs.Common.{◌≡◌, ℕ, List, Option, Some, None, refl, inl}
 use Rattle.std.specs.Prelude.{IsSome, option_map}
 use Rattle.fv_base.specs.declared.role.Role.TheVariants.{Program, Controls, Input, Output, Report}
-use Rattle.fv_outside.specs.Desk.{File, file_named}
+use Rattle.fv_outside.specs.Desk.{DeskState, File, file_named}
+use Rattle.fv_top_words.specs.Runs.{Run}
 use Rattle.fv_top_words.specs.Commands.{Playing}
 use Rattle.fv_top.specs.Sources.{found}
 use Rattle.fv_top.specs.Loading.{IsThere}
-use Rattle.fv_top.specs.Steps.{more, none}
+use Rattle.fv_top.specs.Promise.{Write, IsAnswered}
+use Rattle.fv_top.specs.Steps.{Turn, reads, writes, more, none}
+use Rattle.fv_top_tests.specs.Sure.{IsSure}
 use Rattle.fv_top_tests.proofs.sure.run_sure.Goals as goal
 
 -- a file that has bytes is there
@@ -20,6 +23,11 @@ found_there : (name : Option (List ℕ)) (files : List File) (bytes : Option (Li
 found_there None files bytes e = tt
 found_there (Some name) files bytes e = some_there (file_named name files) bytes e
 
+-- the turns of writing
+answered : {words : List (List ℕ)} {run : Run} {desk : DeskState} → IsSure words run desk → (t : Turn) → IsAnswered run desk Write t
+answered sure (reads role) = sure.unfailing Input
+answered sure (writes role) = (sure.unfailing Output, sure.room Output)
+
 pub returns : goal.returns
 returns g c =
     -- behind the facts on the type parameters
@@ -30,6 +38,5 @@ returns g c =
     (more (λ t takes. inl (sure.tells, (sure.unfailing Controls, found_there _ _ _ p.under.file))) (p.of, p.changes, p.under)
     (more (λ t takes. inl (sure.tells, (sure.unfailing Input, found_there _ _ _ p.on.file))) (p.source, p.on)
     (more (λ t takes. absurd takes) p
-    (more (λ t takes. inl (sure.tells, sure.unfailing Input)) tt
-    (more (λ t takes. inl (sure.tells, (sure.unfailing Output, sure.room Output))) (p, sure.whole)
-    (more (λ t takes. inl (sure.tells, (sure.unfailing Report, sure.room Report))) tt none)))))))
+    (more (λ t takes. inl (sure.tells, answered sure t)) (p, sure.whole)
+    (more (λ t takes. inl (sure.tells, (sure.unfailing Report, sure.room Report))) tt none))))))

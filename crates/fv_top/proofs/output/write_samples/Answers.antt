@@ -1,4 +1,0 @@
-use Rattle.fv_top.proofs.output.write_samples.Goals as goal
-
-pub returns-in-Wave-clause-answers : goal.returns-in-Wave-clause-answers
-returns-in-Wave-clause-answers g c = rw c.in-Wave.is c.write_frames.ensures.answers
