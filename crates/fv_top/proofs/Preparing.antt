@@ -199,8 +199,8 @@ module _ {run : Run} {p : Compiled} {changes : List Change} {head : Option Incom
   }
 
 -- there is an input where one is named
-pub named_is : {name : List ℕ} {settings : Settings} {p : Compiled} {changes : List Change} {loaded : Loaded} {made : Made} {q : Prepared} (input : Option (List ℕ))
-    → IsMadeOf name settings p changes loaded made q → is_some loaded.head ≡ is_some input → is_some q.tape.input ≡ is_some input
+pub named_is : {name : List ℕ} {settings : Settings} {p : Compiled} {changes : List Change} {loaded : Loaded} {made : Made} {q : Prepared}
+    (input : Option (List ℕ)) → IsMadeOf name settings p changes loaded made q → is_some loaded.head ≡ is_some input → is_some q.tape.input ≡ is_some input
 named_is {loaded = loaded} input m named = ap is_some m.input ∙ some_of loaded.head ∙ named
   where
     some_of : (o : Option Incoming) → is_some (option_map samples_of o) ≡ is_some o

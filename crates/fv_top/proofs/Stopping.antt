@@ -42,7 +42,8 @@ use Rattle.fv_top_report.specs.Lines.{refused_line, done_line}
 use Rattle.fv_top_report.specs.Parts.{AppendsPart}
 use Rattle.fv_top.specs.Steps.{Rules, Turn, role_of, fault_of, reads, writes, Halts, fault, judged, want_of_memory, Ends, here, later}
 use Rattle.fv_top.specs.Loading.{HasInput, LeavesRest, ReadsWithin, IsRest, IsWithin, reading}
-use Rattle.fv_top.specs.Promise.{Asks, Plays, IsWhole, Write, Tell, HasRoom, meant, run_rules, run_steps, rules_of, steps_of, CanDo, meant_of, HasCause, bad_words}
+use Rattle.fv_top.specs.Promise.{Asks, Plays, IsWhole, Write, Tell, HasRoom, meant, run_rules, run_steps, rules_of, steps_of, CanDo, meant_of}
+use Rattle.fv_top.specs.Promise.{HasCause, bad_words}
 use Rattle.fv_top.specs.Promise.{of_job, HasRefusal, check_rules, check_steps, make_rules, make_steps, LeavesOutput, HasPlayedPresent}
 use Rattle.fv_top.specs.Promise.{CutsShort, IsReadBy, IsRead, KeepsOthers}
 use Rattle.fv_top.specs.Played.{HaveRan, RanSoFar}
