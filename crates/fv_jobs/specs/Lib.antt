@@ -1,0 +1,4 @@
+pub mod Jobs
+pub mod File
+pub mod Between
+pub mod Examples

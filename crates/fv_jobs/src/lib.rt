@@ -1,0 +1,11 @@
+//! Files of jobs: the texts of programs that are to run side by side.
+#![tactic(auto)]
+
+mod cutting;
+mod jobs;
+mod laws;
+mod refusal;
+
+pub use jobs::{Jobs, MOST_JOBS};
+pub use laws::{front_is_enough, jobs_are_between};
+pub use refusal::JobsRefusal;
