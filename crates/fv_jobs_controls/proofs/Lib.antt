@@ -1,0 +1,4 @@
+pub mod Positions
+pub mod Found
+pub mod Asked
+pub mod Heard
