@@ -3,7 +3,7 @@
 scripts of 1 MiB, heads that state much and have little. Prints a table of the processor's time and the memory of each; what takes
 more than 10 seconds or 1.5 GB is told, and ends it with status 1.
 
-    tests/much.py [--program FILE] [--only WORD] [--seconds N]"""
+    tests/much.py [--program FILE] [--only WORD] [--first N] [--seconds N]"""
 import argparse
 import os
 import resource
@@ -142,13 +142,14 @@ def main():
     parser = argparse.ArgumentParser(description=__doc__, formatter_class=argparse.RawDescriptionHelpFormatter)
     parser.add_argument("--program", default=os.path.join(TOP, "dist/x86_64-linux/faustvec"))
     parser.add_argument("--only", default="", help="a word of what is tried")
+    parser.add_argument("--first", type=int, default=0, help="the row to begin with")
     parser.add_argument("--seconds", type=int, default=60, help="how much of the processor's time each may take before it is ended")
     options = parser.parse_args()
     program, status = os.path.abspath(options.program), 0
     resource.setrlimit(resource.RLIMIT_AS, (4 << 30, 4 << 30))
     print("| what | answer | s | MB |\n|---|---|---|---|")
     rows = [(told, text, wave(1, 16, 4, b"\1\0\2\0"), None, []) for told, text in TEXTS] + sounds(None)
-    for told, text, sound, script, more in rows:
+    for told, text, sound, script, more in rows[options.first :]:
         if options.only not in told:
             continue
         with tempfile.TemporaryDirectory() as folder:
