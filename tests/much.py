@@ -103,9 +103,9 @@ TEXTS = [
 ]
 
 
-def sounds(text):
+def sounds():
     """What is played, the input, the script and the options."""
-    wire, minute = "process = _;", b"\1\2" * (44100 * 60)
+    wire, minute, one = "process = _;", b"\1\2" * (44100 * 60), wave(1, 16, 2, b"\1\2")
     gain = "process = _ * %s;" % (CONTROL % 0)
     chunks = (b"JUNK" + struct.pack("<I", 0)) * 4095
     return [
@@ -119,12 +119,12 @@ def sounds(text):
         ("an AU file that states 4 GB", wire, b".snd" + struct.pack(">5I", 24, 2**32 - 2, 3, 8000, 1) + b"\1\2", None, []),
         ("an AU offset of 4 GB", wire, b".snd" + struct.pack(">5I", 2**32 - 1, 2, 3, 8000, 1) + b"\1\2", None, []),
         ("an AU file of unknown size, 20 MB", wire, b".snd" + struct.pack(">5I", 24, 2**32 - 1, 3, 8000, 1) + b"\1\2" * 10_000_000, None, []),
-        ("a script of notes", gain, wave(1, 16, 2, b"\1\2"), filled("", "#\n", ""), []),
+        ("a script of notes", gain, one, filled("", "#\n", ""), []),
         ("a script of changes", gain, wave(1, 16, len(minute), minute), filled("", "%d 0 1\n", ""), []),
-        ("a script of changes at one frame", gain, wave(1, 16, 2, b"\1\2"), filled("", "0 0 1\n", ""), []),
-        ("a script with a long label", gain, wave(1, 16, 2, b"\1\2"), "0 " + "x" * (MOST - 5) + " 1", []),
-        ("a script for 8,000 controls", "process = _ * (" + ",".join(CONTROL % i for i in range(8_000)) + " :> _);", wave(1, 16, 2, b"\1\2"), filled("", "0 7999 1\n", ""), []),
-        ("a script of one bad line", gain, wave(1, 16, 2, b"\1\2"), "1" * MOST, []),
+        ("a script of changes at one frame", gain, one, filled("", "0 0 1\n", ""), []),
+        ("a script with a long label", gain, one, "0 " + "x" * (MOST - 5) + " 1", []),
+        ("a script for 8,000 controls", f"process = _ * ({','.join(CONTROL % i for i in range(8_000))} :> _);", one, filled("", "0 7999 1\n", ""), []),
+        ("a script of one bad line", gain, one, "1" * MOST, []),
     ]
 
 
@@ -148,7 +148,7 @@ def main():
     program, status = os.path.abspath(options.program), 0
     resource.setrlimit(resource.RLIMIT_AS, (4 << 30, 4 << 30))
     print("| what | answer | s | MB |\n|---|---|---|---|")
-    rows = [(told, text, wave(1, 16, 4, b"\1\0\2\0"), None, []) for told, text in TEXTS] + sounds(None)
+    rows = [(told, text, wave(1, 16, 4, b"\1\0\2\0"), None, []) for told, text in TEXTS] + sounds()
     for told, text, sound, script, more in rows[options.first :]:
         if options.only not in told:
             continue
