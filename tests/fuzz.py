@@ -211,6 +211,26 @@ RULED = [
     "process = _ <: par(i,2,+ ~ (@(i+{2}) : *({1}) : >>(8))) :> _;",
     "osc = (+({0}) ~ _) - 1; process = osc & {1}, osc % ({2}+1);",
 ]
+# what is refused now and then, by the numbers
+REFUSED = [
+    "f(0) = 1; f({0}) = 2; process = f({2});",
+    "f(0) = 1; f(x,{0}) = 2; process = f(0);",
+    "a = {0}; f(x) = x; a = {2}; process = a;",
+    "f(x,({0},x)) = x; process = f(1);",
+    "process = \\(x,y,x).(x + {0});",
+    "process = case {{ (0) => {0}; (1,x) => x; }}({2});",
+    "process = _ <: par(i,16384 - {2},_) :> _;",
+    "process = sum(i,5461 + {2} - 3,{0});",
+    "process = par(i,{0} + 14,@(1048575 - {2})) :> _;",
+    "process = @(1048575 + {2} - 3);",
+    "process = _ @ ({0} - {2});",
+    "process = (_ & 7) : @({2}) , (_ @ (_ % 9)) :> _;",
+    'process = hslider("g",{0},0,{2},1) + hslider("g",{0},0,5,1);',
+    'process = button("g") + checkbox("g") * {0};',
+    "process = par(i,256 + {2} - 3,_);",
+    "process = ({0},{1})({2});",
+    "process = (_,_ : +)({0},{1},{2});",
+]
 
 
 def wild(chance, depth, scope):
@@ -265,13 +285,17 @@ def program_text(chance):
     if kind < 0.65:
         text = maker.program()
     elif kind < 0.8:
-        text = chance.choice(RULED).format(chance.choice(NUMBERS[:10]), chance.choice(NUMBERS[:16]), chance.choice([0, 1, 2, 3, 5, 9]))
+        numbers = chance.choice(NUMBERS[:10]), chance.choice(NUMBERS[:16]), chance.choice([0, 1, 2, 3, 5, 9])
+        text = chance.choice(RULED if kind < 0.76 else REFUSED).format(*numbers)
     else:
         text = f"process = {wild(chance, chance.randint(1, 5), [])};"
     if chance.random() < 0.2:
         text = "".join(chance.choice(BLANKS) if byte == " " and chance.random() < 0.5 else byte for byte in text)
     if chance.random() < 0.15:
         text = spoiled(chance, text)
+    if chance.random() < 0.005:
+        depth = chance.randint(126, 130)
+        text = "process = " + "(" * depth + "_" + ")" * depth + ";"
     return text
 
 
@@ -285,7 +309,10 @@ def script_text(chance, controls):
         frame += chance.choice([0, 0, 1, 2, 3, 7])
         label = chance.choice(labels)
         least, greatest = controls.get(label, (0, 1))
-        lines.append(f"{frame} {label} {chance.randint(least, greatest)}")
+        beyond = chance.choice([0] * 30 + [1, -1])
+        lines.append(f"{frame} {label} {min(greatest, chance.randint(least, greatest)) + beyond * (greatest - least + 1)}")
+        if chance.random() < 0.02:
+            frame = max(0, frame - 2)
         if chance.random() < 0.1:
             lines.append(chance.choice(["", "# a note", "#", "\r", "0"]))
     text = "\n".join(lines) + chance.choice(["\n", "", "\r\n"])
@@ -329,6 +356,9 @@ def wave_bytes(chance, channels, frames):
     else:
         form = struct.pack("<H", 1) + plain + bytes(chance.choice([0, 0, 0, 2, 1]))
     names = [b"LIST", b"JUNK", b"DATA", b"fmt\0"]
+    if chance.random() < 0.005:
+        many = (b"JUNK" + bytes(4)) * chance.choice([4094, 4095, 4096, 4097])
+        return b"RIFF" + bytes(4) + b"WAVE" + many + chunk(b"fmt ", form) + chunk(b"data", samples)
     others = [chunk(chance.choice(names), bytes(chance.choice([0, 1, 2, 3, 26]))) for _ in range(chance.choice([0, 0, 0, 1, 2]))]
     between = chance.randint(0, len(others))
     size = len(samples) + chance.choice([0, 0, 0, 0, 1, align // 2])
@@ -360,7 +390,7 @@ def sizes(chance, most_workers):
     vector = chance.choice([block, max(1, -(-block // 64)), chance.randint(max(1, -(-block // 64)), block)])
     options = [["--block", str(block), f"--vector={vector}"]] if chance.random() < 0.7 else []
     if most_workers > 1 and chance.random() < 0.6:
-        options.append([f"--workers={chance.randint(1, most_workers)}"])
+        options.append([f"--workers={min(most_workers, chance.choice([1, 2, 2, 3, 4, 4, 7, 16]))}"])
     if chance.random() < 0.4:
         options.append(["--bits", chance.choice(["8", "16", "24", "32", "32"])])
     return options
@@ -413,7 +443,7 @@ def made_case(number, most_workers):
             options.append([f"--frames={chance.choice([frames, frames, frames, 2**32 - 1]) if chance.random() < 0.05 else frames}"])
         if chance.random() < 0.3:
             options.append(["--rate", str(chance.choice([1, 8000, 2**32 - 1]))])
-    if controls and chance.random() < 0.7 or chance.random() < 0.1:
+    if chance.random() < (0.7 if controls else 0.04):
         files["c.txt"] = script_text(chance, controls).encode("latin-1")
         options.append(["--controls", "c.txt"])
     if chance.random() < 0.3:

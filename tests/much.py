@@ -89,17 +89,16 @@ TEXTS = [
     ("controls in a sum", "process = sum(i,4000," + CONTROL % 0 + ");"),
     ("16,000 controls", "process = " + ",".join(CONTROL % i for i in range(8_000)) + " :> _;"),
     ("one control, again and again", "process = " + ",".join([CONTROL % 1] * 8_000) + " :> _;"),
-    ("256 streams", "process = par(i,256,_);"),
     ("the widest split and merge", "process = _ <: par(i,8000,_) :> _;"),
-    ("a sum of squares", "process = _ <: par(i,4000,*(i)) :> _;"),
-    ("feedback in feedback", "process = " + "(" * 120 + "_" + " ~ _)" * 120 + " : !, 1 <: _;"),
-    ("feedback of 5,000 streams", "process = _ <: (par(i,5000,+) ~ par(i,5000,_)) :> _;"),
-    ("delays of a second", "process = _ <: par(i,16,@(1048575)) :> _;"),
-    ("the largest delays that vary", "process = _ <: par(i,16,\\(x).(x @ (x & 1048575))) :> _;"),
-    ("delays of one stream", "process = _ <: par(i,5000,@(i)) :> _;"),
-    ("5,000 loops", "process = par(i,250,_) : par(i,250,seq(j,20,+ ~ mem)) ;"),
-    ("a row of filters", "process = seq(i,2700,+ ~ *(i));"),
-    ("a row of delays", "process = seq(i,5000,@(1) : *(3));"),
+    ("2,700 taps added up", "process = _ <: par(i,2700,*(i)) :> _;"),
+    ("2,600 delays of one stream", "process = _ <: par(i,2600,@(i)) :> _;"),
+    ("120 feedbacks in one another", "process = " + "(+ ~ " * 120 + "_" + ")" * 120 + ";"),
+    ("feedback of 2,000 streams", "process = _ <: (par(i,2000,+) ~ par(i,2000,_)) :> _;"),
+    ("3,750 loops side by side and in rows", "process = _ <: par(i,250,seq(j,15,+ ~ mem)) :> _;"),
+    ("a row of 2,000 filters", "process = seq(i,2000,+ ~ *(i));"),
+    ("a row of 1,300 delays", "process = seq(i,1300,@(1) : *(3));"),
+    ("delays of 16 million samples", "process = _ <: par(i,16,@(1048575)) :> _;"),
+    ("delays of 16 million samples that vary", "process = _ <: par(i,16,\\(x).(x @ (x & 1048575))) :> _;"),
 ]
 
 
@@ -110,6 +109,8 @@ def sounds():
     chunks = (b"JUNK" + struct.pack("<I", 0)) * 4095
     return [
         ("a minute of mono", wire, wave(1, 16, len(minute), minute), None, []),
+        ("256 streams", "process = par(i,256,_);", wave(256, 16, 51_200, bytes(51_200)), None, []),
+        ("256 streams by 16 workers", "process = par(i,256,+ ~ mem);", wave(256, 16, 5_120_000, bytes(5_120_000)), None, ["--workers=16"]),
         ("a minute of mono, a frame a block", wire, wave(1, 16, len(minute), minute), None, ["--block=1"]),
         ("a head that states 4 GB of mono", wire, wave(1, 16, 2**32 - 39), None, []),
         ("a head that states 4 GB of 256 channels", "process = par(i,256,_);", wave(256, 32, 2**32 - 1024), None, []),
