@@ -5,6 +5,7 @@ ghost use Rattle.fv_engine_tasks.specs.Block.{vectors_of};
 ghost use Rattle.fv_engine_tests.specs.Runs.{IsSquare};
 
 use crate::engines::{Sizes, engine_of, play, play_graph};
+use crate::graphs::graph_of;
 use fv_engine::{Engine, NoMemory};
 use fv_outside::{FreeGate, Gate, Line, Reads, Recorder, Task};
 use fv_signal::Graph;
@@ -296,27 +297,30 @@ fn assert_differences<R: Abort + Threads + Wait + Sync>(
 #[test]
 fn echoes_by_each_size(rt: HostRuntime) -> Result<(), Fail> {
     let graph = echo_left(rt.alloc())?;
-    assert_echoes(&rt, rt.alloc(), &graph, 1, 1, 1)?;
-    assert_echoes(&rt, rt.alloc(), &graph, 7, 7, 1)?;
-    assert_echoes(&rt, rt.alloc(), &graph, 512, 32, 1)?;
+    assert_echoes(&rt, rt.alloc(), &graph, (0, 0), 1, 1, 1)?;
+    assert_echoes(&rt, rt.alloc(), &graph, (0, 0), 7, 7, 1)?;
+    assert_echoes(&rt, rt.alloc(), &graph, (0, 0), 512, 32, 1)?;
     Ok(())
 }
 
-// The same by several workers: no block of theirs is reported as alone.
+// Echoes of both channels by several workers: no block of theirs is reported as alone.
 #[test]
 fn blocks_that_always_run_alone_are_refused(rt: HostRuntime) -> Result<(), Fail> {
-    let graph = echo_left(rt.alloc())?;
-    assert_echoes(&rt, rt.alloc(), &graph, 7, 7, 2)?;
-    assert_echoes(&rt, rt.alloc(), &graph, 512, 32, 2)?;
-    assert_echoes(&rt, rt.alloc(), &graph, 512, 32, 16)?;
+    let text = "echo(d,g) = + ~ (@(d-1) : *(g) : /(256)); process = par(i,2,echo(11025,128));";
+    let graph = graph_of(rt.alloc(), text)?;
+    assert_echoes(&rt, rt.alloc(), &graph, (-3, -1), 7, 7, 2)?;
+    assert_echoes(&rt, rt.alloc(), &graph, (-3, -1), 512, 32, 2)?;
+    assert_echoes(&rt, rt.alloc(), &graph, (-3, -1), 512, 32, 16)?;
     Ok(())
 }
 
-// The left channel is 1000 at first, half of it after 11,025 samples, and a quarter after as many more; the right one is -7 at first.
+// The left channel is 1000 at first, half of it after 11,025 samples, and a quarter after as many more; the right one is -7 at first,
+// and these two numbers at the same places.
 fn assert_echoes<R: Abort + Threads + Wait + Sync>(
     rt: &R,
     alloc: Global,
     graph: &Graph,
+    right: (i32, i32),
     block: u32,
     vector: u32,
     workers: u32,
@@ -349,8 +353,8 @@ fn assert_echoes<R: Abort + Threads + Wait + Sync>(
     for t in 0..22051 {
         let wanted = match t {
             0 => (1000, -7),
-            11025 => (500, 0),
-            22050 => (250, 0),
+            11025 => (500, right.0),
+            22050 => (250, right.1),
             _ => (0, 0),
         };
         assert_eq!(rt;

@@ -6,4 +6,6 @@ mod blocks;
 #[cfg(test)]
 mod engines;
 #[cfg(test)]
+mod graphs;
+#[cfg(test)]
 mod may;

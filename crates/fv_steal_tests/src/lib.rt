@@ -2,6 +2,4 @@
 #![tactic(auto)]
 
 #[cfg(test)]
-mod held;
-#[cfg(test)]
 mod rows;

@@ -1,10 +1,10 @@
 // Worked examples.
 
-use crate::held::Held;
 use fv_graph::Tasks;
 use fv_outside::{FreeGate, Reads};
 use std::test::Fail;
 use test_blocks::ran;
+use test_gates::{Meeting, Until};
 
 // Two loops, one vector, and loop 1 reads loop 0. Sixteen workers leave both done, and task 0 finished before task 1 started.
 #[test]
@@ -48,13 +48,26 @@ fn one_worker_alone(rt: HostRuntime) -> Result<(), Fail> {
     Ok(())
 }
 
+// Two loops that read nothing, and two workers. The gate holds each task until the other is about to run, so two threads run them.
+#[test]
+fn tasks_all_on_one_thread_are_refused(rt: HostRuntime) -> Result<(), Fail> {
+    let alloc = rt.alloc();
+    let tasks = Tasks::new(alloc, 2, 1, &[])?;
+    let gate = Meeting::new(0, 1);
+    let block = ran(&rt, alloc, &tasks, 2, &gate)?;
+    assert!(rt; block.done);
+    assert_eq!(rt; block.lines.len(), 2);
+    assert!(rt; !gate.missed());
+    Ok(())
+}
+
 // Three loops that read nothing, and two workers: worker 0 gets tasks 0 and 2, and takes task 2 first. The gate holds that one until
 // task 0 runs, so another worker must have stolen it.
 #[test]
-fn a_task_is_stolen(rt: HostRuntime) -> Result<(), Fail> {
+fn workers_that_never_steal_are_refused(rt: HostRuntime) -> Result<(), Fail> {
     let alloc = rt.alloc();
     let tasks = Tasks::new(alloc, 3, 1, &[])?;
-    let gate = Held::new();
+    let gate = Until::new(2, 0);
     let block = ran(&rt, alloc, &tasks, 2, &gate)?;
     assert!(rt; block.done);
     assert_eq!(rt; block.lines.len(), 3);

@@ -37,7 +37,7 @@ fn entries(alloc: Global, gate: &Recorder) -> Result<Vec<Entry>, AllocError> {
 }
 
 // What is counted of a run with these words behind the program's own name, where it is done.
-fn tally_of<G: Gate + Sync>(
+pub fn tally_of<G: Gate + Sync>(
     rt: &(impl Threads + Wait + Sync),
     alloc: Global,
     desk: &mut MemoryDesk,

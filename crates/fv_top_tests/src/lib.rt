@@ -12,6 +12,8 @@ mod blocks;
 #[cfg(test)]
 mod files;
 #[cfg(test)]
+mod hostile;
+#[cfg(test)]
 mod language;
 #[cfg(test)]
 mod made;
@@ -19,3 +21,5 @@ mod made;
 mod makes;
 #[cfg(test)]
 mod runs;
+#[cfg(test)]
+mod workers;
