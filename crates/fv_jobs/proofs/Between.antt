@@ -86,7 +86,8 @@ whole_text l text h (inl e) = subst IsEnded (sym (append-nil l) ∙ ap (λ (t : 
 whole_text l text h (inr t) = record { front = l ++ t.front; is = ap (λ (t : List ℕ). l ++ t) t.is ∙ sym (append_assoc l t.front (10 ∷ [])) }
 
 -- a line in front of the first of them
-grown : (bytes l rest : List ℕ) (texts : List (List ℕ)) → bytes ≡ l ++ rest → IsLine l → is_separator l ≡ false → HasJobs rest texts → HasJobs bytes (in_front l texts)
+grown : (bytes l rest : List ℕ) (texts : List (List ℕ)) → bytes ≡ l ++ rest → IsLine l → is_separator l ≡ false → HasJobs rest texts
+    → HasJobs bytes (in_front l texts)
 grown bytes l rest [] e h s j = absurd j
 grown bytes l rest (t ∷ []) e h s j = (e ∙ ap (λ (r : List ℕ). l ++ r) j.0, one_job l t h s j.1)
 grown bytes l rest (t ∷ u ∷ us) e h s j =

@@ -19,7 +19,8 @@ no_place n m false t e = ltb-false n m t
 
 -- up to the first byte 10 stands the first line
 line_at : (x : ℕ) (xs : List ℕ) (b : Bool) → is_feed x ≡ b
-    → (position_or_len is_feed xs < length xs → lines_in xs ≡ take (suc (position_or_len is_feed xs)) xs ∷ lines_in (drop (suc (position_or_len is_feed xs)) xs))
+    → (position_or_len is_feed xs < length xs
+    → lines_in xs ≡ take (suc (position_or_len is_feed xs)) xs ∷ lines_in (drop (suc (position_or_len is_feed xs)) xs))
     → position_or_len is_feed (x ∷ xs) < suc (length xs)
     → lines_in (x ∷ xs) ≡ take (suc (position_or_len is_feed (x ∷ xs))) (x ∷ xs) ∷ lines_in (drop (suc (position_or_len is_feed (x ∷ xs))) (x ∷ xs))
 line_at x xs true t ih h = rw t refl

@@ -84,7 +84,8 @@ more_jobs j cs jobs label first behind e f =
     ∙ ap (λ o. either first (option_map (λ i. length (labelled j cs) + i) o)) f
 
 -- the jobs behind a job have none of its labels
-none_behind : (jobs : List (List ControlInfo)) (j k : ℕ) (label : List ℕ) → k < j → j + length jobs ≤ 2 ^ 64 → labelled_so (controls_from j jobs) (label_of k label) ≡ None
+none_behind : (jobs : List (List ControlInfo)) (j k : ℕ) (label : List ℕ) → k < j → j + length jobs ≤ 2 ^ 64
+    → labelled_so (controls_from j jobs) (label_of k label) ≡ None
 none_behind [] j k label h few = refl
 none_behind (cs ∷ jobs) j k label h few =
     more_jobs j cs jobs (label_of k label) None None (in_other j k label (omega arith) (omega arith) (λ e. omega arith) cs)
@@ -118,7 +119,8 @@ found_from (cs ∷ jobs) j (suc k) label few h =
     let there : j + suc k ≡ j + 1 + k = omega arith in
     let behind = found_from jobs (j + 1) k label (omega arith) (omega arith) in
     let own = labelled_so (slice_index_or jobs k []) label in
-    let far : length (labelled j cs) + controls_before jobs k ≡ controls_before (cs ∷ jobs) (suc k) = omega (arith, length_labelled j cs, before_more cs jobs k) in
+    let far : length (labelled j cs) + controls_before jobs k ≡ controls_before (cs ∷ jobs) (suc k) =
+    omega (arith, length_labelled j cs, before_more cs jobs k) in
     ap (λ (n : ℕ). labelled_so (controls_from j (cs ∷ jobs)) (label_of n label)) there
     ∙ more_jobs j cs jobs (label_of (j + 1 + k) label) None (option_map (λ i. controls_before jobs k + i) own)
     (in_other j (j + 1 + k) label (omega arith) (omega arith) (λ e. omega arith) cs) behind

@@ -113,7 +113,8 @@ own_one : (jobs : List (List ControlInfo)) (k : ℕ) → k < length jobs → (c 
     → is_own (controls_before jobs k) (length (own jobs k)) c.control ≡ b → IsOfControls (controls_of jobs) c
     → AllByRecursion (IsOfControls (own jobs k)) (changes_of (controls_before jobs k) (length (own jobs k)) cs)
     → AllByRecursion (IsOfControls (own jobs k))
-    (cons_option (if b then Some (record c { control = c.control - controls_before jobs k }) else None) (changes_of (controls_before jobs k) (length (own jobs k)) cs))
+    (cons_option (if b then Some (record c { control = c.control - controls_before jobs k }) else None)
+    (changes_of (controls_before jobs k) (length (own jobs k)) cs))
 own_one jobs k h c cs true e is rest =
     let o = own_is (controls_before jobs k) (length (own jobs k)) c.control e in
     let a = o.above in let b = o.below in

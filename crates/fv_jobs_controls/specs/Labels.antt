@@ -1,5 +1,6 @@
 -- The labels of the controls of several jobs (this project's profile).
-use Rattle.std.specs.Prelude.{◌≡◌, ℕ, ◌+◌, ◌<◌, ◌^◌, List, [], ◌∷◌, ◌++◌, length, map, take, decimal, Option, Some, None, Result, Ok, Err, position, bytes_eq, slice_index_or}
+use Rattle.std.specs.Prelude.{◌≡◌, ℕ, ◌+◌, ◌<◌, ◌^◌, List, [], ◌∷◌, ◌++◌, length, map, take, decimal, Option, Some, None}
+use Rattle.std.specs.Prelude.{Result, Ok, Err, position, bytes_eq, slice_index_or}
 use Rattle.std.specs.Option.{option_map}
 use Rattle.std.specs.List.{sum_by}
 use Rattle.fv_diagram.specs.declared.control.ControlInfo.{ControlInfo}

@@ -18,10 +18,12 @@ one_more job n cs before all item new h is made so_far =
 pub loop-control-preserved : goal.loop-control-preserved
 loop-control-preserved c =
     c.in_ok-push.ensures.items
-    ∙ one_more c.args.job c.loop-control.control-index c.args.controls.now c.args.all.now.items c.loop-control.all.items c.control-item.result c.in_ok-labelled.labelled
+    ∙ one_more c.args.job c.loop-control.control-index c.args.controls.now c.args.all.now.items c.loop-control.all.items
+    c.control-item.result c.in_ok-labelled.labelled
     c.loop-control-test.true c.control-item.is c.in_ok-labelled.ensures c.loop-control.invariant
 
 pub returns : goal.returns
 returns c =
     let cs = c.args.controls.now in
-    c.loop-control.invariant ∙ ap (λ (xs : List ControlInfo). c.args.all.now.items ++ labelled c.args.job xs) (take_all c.loop-control.control-index cs (omega arith))
+    c.loop-control.invariant
+    ∙ ap (λ (xs : List ControlInfo). c.args.all.now.items ++ labelled c.args.job xs) (take_all c.loop-control.control-index cs (omega arith))

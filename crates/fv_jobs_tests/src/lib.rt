@@ -1,0 +1,5 @@
+//! Tests of fv_jobs' public calls.
+#![tactic(auto)]
+
+#[cfg(test)]
+mod files;
