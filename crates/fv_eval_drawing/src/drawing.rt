@@ -14,7 +14,9 @@ ghost use Rattle.fv_eval_drawing.specs.Makes.{AddsDiagrams, AreComposed, Draws, 
 
 use fv_diagram::{Arity, DiagramId, Diagrams, Node};
 use fv_parse::TreeId;
-use fv_rules::{Bindings, Definitions, EvalRefusal, Numbers, Ruled, Value, put};
+use fv_rules::{
+    Bindings, Definitions, EvalRefusal, MOST_DIAGRAMS, Numbers, Ruled, Value, put, too_many_to_keep,
+};
 use std::alloc::{AllocError, Global};
 use std::marker::Model;
 
@@ -73,7 +75,16 @@ impl Drawing {
         ensures puts { Puts self.new.diagrams (tree_with self.old.diagrams node.now) result }
         ensures adds { AddsDiagrams self.old self.new }
     {
-        put(&mut self.diagrams, node)
+        match put(&mut self.diagrams, node) {
+            Ok(id) => {
+                if id.number() < MOST_DIAGRAMS {
+                    Ok(id)
+                } else {
+                    Err(EvalRefusal::from(too_many_to_keep()))
+                }
+            }
+            Err(refusal) => Err(refusal),
+        }
     }
 
     /// Puts a node without parts, which always fits.

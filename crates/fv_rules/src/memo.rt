@@ -8,6 +8,7 @@ ghost use Rattle.fv_diagram_number.specs.Numbers.{number_of};
 ghost use Rattle.fv_rules.specs.Matching.{number_or};
 ghost use Rattle.fv_rules.specs.Memo.{Remembers, AddsIntegers, IsKnown};
 
+use crate::refusal::{MOST_DIAGRAMS, too_many_to_keep};
 use fv_diagram::{Arity, DiagramId, Diagrams, Node, PutRefusal};
 use fv_diagram_number::number_of;
 use std::alloc::{AllocError, Global};
@@ -144,7 +145,13 @@ fn put_integer(diagrams: &mut Diagrams, n: i32) -> Result<DiagramId, AllocError>
         outputs: 1,
     };
     match diagrams.put(Node::Number(n), arity) {
-        Ok(id) => Ok(id),
+        Ok(id) => {
+            if id.number() < MOST_DIAGRAMS {
+                Ok(id)
+            } else {
+                Err(too_many_to_keep())
+            }
+        }
         Err(PutRefusal::NoMemory) => Err(AllocError),
         Err(PutRefusal::SizeBudget { size: _ }) => unreachable!(),
     }

@@ -11,6 +11,7 @@ ghost use Rattle.fv_rules.specs.declared.value.Value.{Value as AValue};
 ghost use Rattle.fv_rules.specs.Matching.{Bindings, bound_in};
 ghost use Rattle.fv_rules.specs.Shows.{World, ShowsEnv, ShowsTaken, ShowsValues, ShowsBindings, Grows};
 
+use crate::refusal::{MOST_SCOPES, too_many_to_keep};
 use crate::value::{Argument, Binding, Ruled, Scope, Value};
 use fv_parse::TreeId;
 use std::alloc::{AllocError, Global};
@@ -96,6 +97,9 @@ impl Scopes {
         ensures err { OnErr result (self.new ≡ self.old) }
     {
         let _within: Option<(Value, Ruled)> = None;
+        if self.scopes.len() as u64 >= MOST_SCOPES {
+            return Err(too_many_to_keep());
+        }
         self.skips.push(skip)?;
         if let Err(refused) = self.scopes.push(scope) {
             self.skips.pop();
@@ -140,6 +144,9 @@ impl Scopes {
         ensures err { OnErr result (self.new ≡ self.old) }
     {
         let place = self.taken.len() as u64;
+        if place >= MOST_SCOPES {
+            return Err(too_many_to_keep());
+        }
         self.taken.push(Argument { value, before })?;
         Ok(place)
     }
