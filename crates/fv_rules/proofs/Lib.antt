@@ -5,7 +5,8 @@ pub mod Sound
 pub mod Grown
 pub mod Named
 pub mod Lookups
-pub mod Skipped
+pub mod Forks
+pub mod Outward
 pub mod Matched
 pub mod Scoped
 pub mod LiteralNumbers

@@ -33,7 +33,7 @@ use Rattle.fv_rules.specs.Shows.{World, IsNamed, IsFunction, IsInside, given_nam
 use Rattle.fv_rules.specs.Shows.{ShowsTaken, ShowsMeaning}
 use Rattle.fv_rules.specs.declared.value.Ruled.{Ruled}
 use Rattle.fv_rules.proofs.RuleNodes.{IsNoFunction, AreOfName}
-use Rattle.fv_rules.specs.Skips.{BindsAnother}
+use Rattle.fv_rules.specs.Ways.{BindsAnother}
 use Rattle.fv_rules.specs.inner.Lookup.{SaysOrPasses, IsMade, StillReaches, outer, is_name, are_names}
 
 -- ---- what definitions make of a name

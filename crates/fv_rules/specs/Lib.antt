@@ -6,7 +6,8 @@ pub mod Sound
 pub mod Puts
 pub mod Examples
 pub mod Environments
-pub mod Skips
+pub mod Tries
+pub mod Ways
 pub mod Shows
 pub mod ByName
 pub mod Memo

@@ -12,7 +12,9 @@ mod memo;
 mod putting;
 mod refusal;
 mod scopes;
+mod tries;
 mod value;
+mod ways;
 
 pub use laws::{evaluates_soundly, evaluation_follows, literals_stay};
 pub use literals::{literal, negative_literal};

@@ -3,7 +3,7 @@
 ghost use Rattle.std.specs.Prelude.{◌≡◌, ◌+◌, ◌<◌, ◌≤◌, [], ◌∷◌, ◌++◌, length, IfOk, IfSome, OnErr, slice_get};
 ghost use Rattle.fv_rules.specs.declared.value.Scope.TheVariants.{Bound, Definitions};
 ghost use Rattle.fv_parse.specs.Trees.{Parsed};
-ghost use Rattle.fv_rules.specs.Skips.{BindsAnother, PassesTo, IsSkip};
+ghost use Rattle.fv_rules.specs.Ways.{BindsAnother, PassesTo};
 ghost use Rattle.fv_rules.specs.inner.Lookup.{StillReaches};
 ghost use Rattle.fv_rules.specs.Environments.{scope_in, with_scope, with_argument};
 ghost use Rattle.fv_rules.specs.Values.{Env, Taken, in_order};
@@ -13,43 +13,29 @@ ghost use Rattle.fv_rules.specs.Shows.{World, ShowsEnv, ShowsTaken, ShowsValues,
 
 use crate::refusal::{MOST_SCOPES, too_many_to_keep};
 use crate::value::{Argument, Binding, Ruled, Scope, Value};
+use crate::ways::Ways;
 use fv_parse::TreeId;
 use std::alloc::{AllocError, Global};
 use std::marker::Model;
-
-/// How many scopes a name passes at once, at most. Among 64 bits so many names are still told apart from most others.
-const MOST_SKIPPED: u64 = 16;
-
-/// A way outward over scopes that bind names, each name as a bit by its number modulo 64. A name whose bit is not there
-/// passes them all at once.
-#[derive(Clone, Copy, Debug)]
-struct Skip {
-    names: u64,
-    /// How many scopes it passes.
-    count: u64,
-    /// The environment that it leads to.
-    past: u64,
-}
 
 /// Environments and arguments that rules have taken. They are shared: one is made of the number of another, and is
 /// never changed. Environment 0 is the outermost one.
 #[derive(Drop)]
 pub struct Scopes {
     scopes: Vec<Scope>,
-    /// From each environment but the outermost one outward.
-    skips: Vec<Skip>,
+    ways: Ways,
     taken: Vec<Argument>,
 }
 
 impl Model for Scopes {
     ghost use Rattle.fv_rules.specs.Environments.{Environments};
-    ghost use Rattle.fv_rules.specs.Skips.{AreSkips};
+    ghost use Rattle.fv_rules.specs.Ways.{AreWays};
 
     ghost Value = { Environments };
 
     ghost view = { λ s. record { scopes = s.scopes.items; taken = s.taken.items } };
 
-    ghost invariant = { λ s. AreSkips s.scopes.items s.skips.items };
+    ghost invariant = { λ s. AreWays s.scopes.items s.ways };
 }
 
 impl Scopes {
@@ -59,7 +45,7 @@ impl Scopes {
     {
         Scopes {
             scopes: Vec::new(alloc),
-            skips: Vec::new(alloc),
+            ways: Ways::new(alloc),
             taken: Vec::new(alloc),
         }
     }
@@ -70,8 +56,7 @@ impl Scopes {
             × (self.new ≡ with_scope self.old (Bound name value outer))) }
         ensures err { OnErr result (self.new ≡ self.old) }
     {
-        let skip = self.skip_over(name, outer);
-        self.push(Scope::Bound { name, value, outer }, skip)
+        self.push(Scope::Bound { name, value, outer })
     }
 
     /// A list of definitions, in an environment: the number of the new environment.
@@ -80,61 +65,25 @@ impl Scopes {
             × (self.new ≡ with_scope self.old (Definitions list outer))) }
         ensures err { OnErr result (self.new ≡ self.old) }
     {
-        // The borrow checker's proof needs the types within `Scope` named here.
-        let _within: Option<(Value, Ruled)> = None;
-        let here = Skip {
-            names: 0,
-            count: 0,
-            past: self.scopes.len() as u64 + 1,
-        };
-        self.push(Scope::Definitions { list, outer }, here)
+        self.push(Scope::Definitions { list, outer })
     }
 
     // One scope more, with the way outward from it.
-    fn push(&mut self, scope: Scope, skip: Skip) -> Result<u64, AllocError>
-        requires { IsSkip (self.now.scopes ++ scope ∷ []) (length self.now.scopes + 1) skip }
+    fn push(&mut self, scope: Scope) -> Result<u64, AllocError>
         ensures ok { IfOk result (λ i. (i ≡ length self.old.scopes + 1) × (self.new ≡ with_scope self.old scope)) }
         ensures err { OnErr result (self.new ≡ self.old) }
     {
+        // The borrow checker's proof needs the types within `Scope` named here.
         let _within: Option<(Value, Ruled)> = None;
         if self.scopes.len() as u64 >= MOST_SCOPES {
             return Err(too_many_to_keep());
         }
-        self.skips.push(skip)?;
-        if let Err(refused) = self.scopes.push(scope) {
-            self.skips.pop();
-            return Err(refused.into());
+        self.scopes.push(scope)?;
+        if let Err(refused) = self.ways.add(&scope) {
+            self.scopes.pop();
+            return Err(refused);
         }
         Ok(self.scopes.len() as u64)
-    }
-
-    // The way outward from a scope that binds this name in an environment: it goes on where the one from there ends.
-    fn skip_over(&self, name: u64, outer: u64) -> Skip
-        ensures { (value : AValue) → IsSkip (self.now.scopes ++ Bound name value outer ∷ []) (length self.now.scopes + 1) result }
-    {
-        let bit = 1 << (name % 64);
-        match self.skip(outer) {
-            Some(skip) if skip.count < MOST_SKIPPED => Skip {
-                names: skip.names | bit,
-                count: skip.count + 1,
-                past: skip.past,
-            },
-            _ => Skip {
-                names: bit,
-                count: 1,
-                past: outer,
-            },
-        }
-    }
-
-    // The way outward from an environment; there is none from the outermost one.
-    fn skip(&self, env: u64) -> Option<Skip>
-        ensures { IfSome result (λ k. IsSkip self.now.scopes env k) }
-    {
-        if env == 0 {
-            return None;
-        }
-        self.skips.get((env - 1) as usize).copied()
     }
 
     /// One argument more behind the one with this number: the number of the new one.
@@ -178,11 +127,9 @@ impl Scopes {
     fn past_others(&self, name: u64, env: u64) -> Option<u64>
         ensures { IfSome result (λ further. (further < env) × PassesTo self.now.scopes name env further) }
     {
-        if let Some(skip) = self.skip(env)
-            && (skip.names >> (name % 64)) & 1 == 0
-            && skip.past < env
-        {
-            return Some(skip.past);
+        let further = self.ways.lead(env, name);
+        if further < env {
+            return Some(further);
         }
         self.around_another(name, env)
     }

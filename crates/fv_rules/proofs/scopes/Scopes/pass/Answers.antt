@@ -1,6 +1,6 @@
 use Rattle.std.proofs.Common.{arith}
 use Rattle.fv_rules.proofs.Lookups.{look_begins}
-use Rattle.fv_rules.proofs.Skipped.{look_passes_by}
+use Rattle.fv_rules.proofs.Outward.{look_passes_by}
 use Rattle.fv_rules.proofs.scopes.Scopes.pass.Goals as goal
 
 pub passing-init : goal.passing-init
