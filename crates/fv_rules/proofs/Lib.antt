@@ -12,3 +12,4 @@ pub mod Scoped
 pub mod LiteralNumbers
 pub mod RulesChosen
 pub mod RuleNodes
+pub mod Told

@@ -13,4 +13,5 @@ pub mod ByName
 pub mod Memo
 pub mod Choosing
 pub mod Chosen
+pub mod Literals
 pub mod inner

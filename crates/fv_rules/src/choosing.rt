@@ -1,6 +1,6 @@
 // The rules that stand at a place, and the first one that matches.
 
-ghost use Rattle.std.specs.Prelude.{◌≡◌, ◌<◌, List, Some, IfOk, All, length, map, slice_get};
+ghost use Rattle.std.specs.Prelude.{◌≡◌, ◌<◌, ◌≤◌, List, Some, IfOk, All, drop, length, map, slice_get};
 ghost use Rattle.fv_parse.specs.Trees.{size_of, tree_in};
 ghost use Rattle.fv_rules.specs.declared.by_name.Defined.{Defined as AnItem};
 ghost use Rattle.fv_rules.specs.Values.{Value as PureValue, rule_of};
@@ -9,8 +9,10 @@ ghost use Rattle.fv_rules.specs.Rules.{width};
 ghost use Rattle.fv_rules.specs.Shows.{World, IsInside, ShowsValues, ShowsBindings, case_in, rules_in};
 ghost use Rattle.fv_rules.specs.Memo.{Remembers, AddsIntegers};
 ghost use Rattle.fv_rules.specs.Choosing.{IsSound, with_diagrams, ShowsMatched};
+ghost use Rattle.fv_rules.specs.Literals.{Tells, number_in, told};
 ghost use Rattle.fv_rules.specs.Chosen.{ShowsChoice, IsRuleAt, IsFirstRule, Chooses, nodes_of};
 
+use crate::by_literal::{ByLiteral, size_of_literal};
 use crate::by_name::Defined;
 use crate::lookup::Definitions;
 use crate::matching::{Bindings, matches_in};
@@ -37,8 +39,8 @@ pub(crate) enum Rules<'t> {
 }
 
 impl Rules<'_> {
-    // How many there are.
-    fn len(self) -> usize
+    /// How many there are.
+    pub(crate) fn len(self) -> usize
         ensures { result ≡ length (nodes_of self.entry) }
     {
         match self {
@@ -47,14 +49,28 @@ impl Rules<'_> {
         }
     }
 
-    // The node of one of them.
-    fn node(self, i: usize) -> TreeId
+    /// The node of one of them.
+    pub(crate) fn node(self, i: usize) -> TreeId
         requires { i < length (nodes_of self) }
         ensures { slice_get (nodes_of self.entry) i ≡ Some result }
     {
         match self {
             Rules::Case(nodes) => nodes[i],
             Rules::Definitions(all) => all[i].node,
+        }
+    }
+}
+
+impl<'t> Rules<'t> {
+    // Those behind so many.
+    fn behind(self, count: u64) -> Rules<'t>
+        requires { count ≤ length (nodes_of self) }
+        ensures { nodes_of result ≡ drop count (nodes_of self.entry) }
+    {
+        let from = count as usize;
+        match self {
+            Rules::Case(nodes) => Rules::Case(&nodes[from..]),
+            Rules::Definitions(all) => Rules::Definitions(&all[from..]),
         }
     }
 }
@@ -78,6 +94,15 @@ fn rule_at<'t>(tree: &'t Tree, id: TreeId) -> RuleAt<'t>
             body: id,
         },
     }
+}
+
+/// The patterns of the rule that a node is.
+pub(crate) fn patterns_of<'t>(tree: &'t Tree, id: TreeId) -> &'t [TreeId]
+    requires { id < size_of tree.now }
+    ensures patterns { map (tree_in tree.now) result.now ≡ (rule_of (tree_in tree.now id)).patterns }
+    ensures there { All (λ i. i < size_of tree.now) result.now }
+{
+    rule_at(tree, id).patterns
 }
 
 // The nodes of the rules of a `case`.
@@ -107,8 +132,8 @@ impl Definitions<'_> {
         }
     }
 
-    // The rules that stand at a place, in order.
-    fn rules(&self, ruled: Ruled) -> Rules<'_>
+    /// The rules that stand at a place, in order.
+    pub(crate) fn rules(&self, ruled: Ruled) -> Rules<'_>
         requires { IsInside self.now ruled }
         ensures rules { map (λ id. rule_of (tree_in self.now id)) (nodes_of result) ≡ rules_in self.now ruled }
         ensures there { All (λ id. id < size_of self.now) (nodes_of result) }
@@ -167,9 +192,102 @@ impl Definitions<'_> {
             → ShowsChoice (with_diagrams w diagrams.new) o (chosen self.now.tokens (rules_in self.now ruled) vs)) }
     {
         let tree = self.tree();
+        let told = self.told(&ruled);
         let rules = self.rules(ruled);
-        let choice = first_match(alloc, tree, rules, diagrams, numbers, arguments)?;
-        Ok(choice)
+        match told {
+            None => {
+                let choice = first_match(alloc, tree, rules, diagrams, numbers, arguments)?;
+                Ok(choice)
+            }
+            Some(sorted) => {
+                let choice = told_match(alloc, tree, rules, sorted, diagrams, numbers, arguments)?;
+                Ok(choice)
+            }
+        }
+    }
+}
+
+// The first of rules that matches, where a literal tells those at the front apart.
+fn told_match(
+    alloc: Global,
+    tree: &Tree,
+    rules: Rules,
+    sorted: &ByLiteral,
+    diagrams: &mut Diagrams,
+    numbers: &mut Numbers,
+    arguments: &[Value],
+) -> Result<Option<(TreeId, Bindings)>, AllocError>
+    requires inside { All (λ id. id < size_of tree.now) (nodes_of rules) }
+    requires told { Tells tree.now (map (λ id. rule_of (tree_in tree.now id)) (nodes_of rules)) sorted.now }
+    requires sound { All (IsSound diagrams.old) arguments.now }
+    requires known { Remembers diagrams.old numbers.old }
+    ensures adds { AddsIntegers diagrams.old diagrams.new }
+    ensures known { Remembers diagrams.new numbers.new }
+    ensures chosen { IfOk result (Chooses tree.now (nodes_of rules.entry) arguments.now diagrams.old diagrams.new) }
+{
+    let rest = rules.behind(sorted.count);
+    match front_match(alloc, tree, sorted, diagrams, numbers, arguments)? {
+        Some(choice) => Ok(Some(choice)),
+        None => {
+            let choice = first_match(alloc, tree, rest, diagrams, numbers, arguments)?;
+            Ok(choice)
+        }
+    }
+}
+
+// The first of the rules at the front that matches: only those with the argument's number are tried.
+fn front_match(
+    alloc: Global,
+    tree: &Tree,
+    sorted: &ByLiteral,
+    diagrams: &mut Diagrams,
+    numbers: &mut Numbers,
+    arguments: &[Value],
+) -> Result<Option<(TreeId, Bindings)>, AllocError>
+    requires there { All (λ (d : AnItem). d.node < size_of tree.now) sorted.now.rules }
+    requires sound { All (IsSound diagrams.old) arguments.now }
+    requires known { Remembers diagrams.old numbers.old }
+    ensures adds { AddsIntegers diagrams.old diagrams.new }
+    ensures known { Remembers diagrams.new numbers.new }
+    ensures chosen { IfOk result (λ o. (w : World) (vs : List PureValue)
+        → w.diagrams ≡ diagrams.old → ShowsValues w arguments.now vs
+        → Chooses tree.now (map (λ (d : AnItem). d.node) (told sorted.now.rules (number_in (slice_get vs sorted.now.position))))
+        arguments.now diagrams.old diagrams.new o) }
+{
+    let Some(k) = number_at(alloc, diagrams, numbers, arguments, sorted.position)? else {
+        return Ok(None);
+    };
+    let rules = Rules::Definitions(sorted.rules.called(size_of_literal(k)));
+    let choice = first_match(alloc, tree, rules, diagrams, numbers, arguments)?;
+    Ok(choice)
+}
+
+// The number of the argument at a position, if it has one.
+fn number_at(
+    alloc: Global,
+    diagrams: &Diagrams,
+    numbers: &mut Numbers,
+    arguments: &[Value],
+    position: u64,
+) -> Result<Option<i32>, AllocError>
+    requires sound { All (IsSound diagrams.now) arguments.now }
+    requires known { Remembers diagrams.now numbers.old }
+    ensures known { Remembers diagrams.now numbers.new }
+    ensures number { IfOk result (λ o. (w : World) (vs : List PureValue)
+        → w.diagrams ≡ diagrams.now → ShowsValues w arguments.now vs → number_in (slice_get vs position) ≡ o) }
+{
+    let i = position as usize;
+    if i >= arguments.len() {
+        return Ok(None);
+    }
+    let argument = &arguments[i];
+    match argument {
+        Value::Diagram(id) => {
+            let number = numbers.number_of(alloc, diagrams, *id)?;
+            Ok(number)
+        }
+        Value::Abstraction { .. } => Ok(None),
+        Value::Rules { .. } => Ok(None),
     }
 }
 

@@ -2,6 +2,7 @@
 //! environments as numbers of lists, look-up of names, the memo of diagrams' numbers, and patterns.
 #![tactic(auto)]
 
+mod by_literal;
 mod by_name;
 mod choosing;
 mod laws;

@@ -1,14 +1,17 @@
 // What a name stands for.
 
-ghost use Rattle.std.specs.Prelude.{ℕ, ◌≡◌, ◌<◌, IfOk, Some, All, map, filter};
+ghost use Rattle.std.specs.Prelude.{ℕ, ◌≡◌, ◌<◌, IfOk, IfSome, IsTrue, OnOk, Some, All, map, filter};
 ghost use Rattle.fv_parse_grammar.specs.Tree.{items};
 ghost use Rattle.fv_parse.specs.Trees.{size_of, tree_in, text_of, first_named};
 ghost use Rattle.fv_rules.specs.Values.{Name, Env, Meaning as PureMeaning, lookup, is_of, definition_of, or_else};
 ghost use Rattle.fv_rules.specs.declared.by_name.Defined.{Defined as AnItem};
 ghost use Rattle.fv_rules.specs.Environments.{scope_in, outer_number};
-ghost use Rattle.fv_rules.specs.Shows.{World, IsNamed, ShowsEnv, ShowsMeaning};
+ghost use Rattle.fv_rules.specs.declared.value.Ruled.TheVariants.{Definitions as AtDefinitions};
+ghost use Rattle.fv_rules.specs.Literals.{Tells};
+ghost use Rattle.fv_rules.specs.Shows.{World, IsInside, IsNamed, ShowsEnv, ShowsMeaning, rules_in};
 ghost use Rattle.fv_rules.specs.inner.Lookup.{SaysOrPasses, IsMade, outer, is_name, are_names};
 
+use crate::by_literal::{ByLiteral, by_literal};
 use crate::by_name::{ByName, Defined, by_name};
 use crate::scopes::Scopes;
 use crate::value::{Meaning, Ruled, Scope, Value};
@@ -16,22 +19,27 @@ use fv_parse::{Tree, TreeId, TreeNode, same_names};
 use std::alloc::{AllocError, Global};
 use std::marker::Model;
 
-/// A tree with the definitions of each list in it, sorted by name.
+/// A tree with the definitions of each list in it, sorted by name, and the rules at each place, sorted by a literal where
+/// that tells them apart.
 #[derive(Drop)]
 pub struct Definitions<'a> {
     tree: &'a Tree<'a>,
     lists: Vec<ByName>,
+    literals: Vec<ByLiteral>,
+    /// For each node at which rules stand, where among `literals` to look for them.
+    places: Vec<u64>,
 }
 
 impl<'a> Model for Definitions<'a> {
     ghost use Rattle.fv_parse.specs.Trees.{Parsed};
     ghost use Rattle.fv_rules.specs.ByName.{AreIndexed};
+    ghost use Rattle.fv_rules.specs.Literals.{AreTold};
 
     ghost Value = { Parsed };
 
     ghost view = { λ d. d.tree.now };
 
-    ghost invariant = { λ d. AreIndexed d.tree.now d.lists.items };
+    ghost invariant = { λ d. AreIndexed d.tree.now d.lists.items × AreTold d.tree.now d.literals.items };
 }
 
 impl<'a> Definitions<'a> {
@@ -45,7 +53,116 @@ impl<'a> Definitions<'a> {
             let list = by_name(alloc, tree, TreeId::new(i))?;
             lists.push(list)?;
         }
-        Ok(Definitions { tree, lists })
+        let mut definitions = Definitions {
+            tree,
+            lists,
+            literals: Vec::new(alloc),
+            places: Vec::new(alloc),
+        };
+        definitions.sort_all_rules(alloc)?;
+        Ok(definitions)
+    }
+
+    // The rules at each place, sorted by a literal.
+    fn sort_all_rules(&mut self, alloc: Global) -> Result<(), AllocError>
+        ensures { OnOk result (self.new ≡ self.old) }
+    {
+        let tree = self.tree;
+        for i in 0..tree.len() {
+            self.places.push(0)?;
+            self.sort_rules(alloc, TreeId::new(i))?;
+        }
+        Ok(())
+    }
+
+    // Those at a node: the rules of a `case`, or those of each name of a list of definitions.
+    fn sort_rules(&mut self, alloc: Global, id: TreeId) -> Result<(), AllocError>
+        requires { id < size_of self.old }
+        ensures { OnOk result (self.new ≡ self.old) }
+    {
+        let tree = self.tree;
+        match tree.node(id) {
+            TreeNode::Case(_) => self.sort_by_literal(alloc, &Ruled::Case(id), id)?,
+            TreeNode::List(_) => self.sort_functions(alloc, id)?,
+            _ => {}
+        }
+        Ok(())
+    }
+
+    // The rules of each name of a list of definitions, sorted by a literal.
+    fn sort_functions(&mut self, alloc: Global, list: TreeId) -> Result<(), AllocError>
+        requires { list < size_of self.old }
+        ensures { OnOk result (self.new ≡ self.old) }
+    {
+        let tree = self.tree;
+        for first in tree.items(list) {
+            if self.is_first(list, *first) {
+                let ruled = Ruled::Definitions {
+                    list,
+                    first: *first,
+                };
+                self.sort_by_literal(alloc, &ruled, *first)?;
+            }
+        }
+        Ok(())
+    }
+
+    // Whether a node is the first definition of its name in a list, and one by patterns.
+    fn is_first(&self, list: TreeId, node: TreeId) -> bool
+        requires inside { list < size_of self.now }
+        requires there { node < size_of self.now }
+        ensures { IsTrue result → IsInside self.now (AtDefinitions list node) }
+    {
+        match self.tree.node(node) {
+            TreeNode::Function(name, _, _) => match self
+                .called(list, self.tree.name(*name))
+                .first()
+            {
+                Some(first) => first.node.number() == node.number(),
+                None => false,
+            },
+            _ => false,
+        }
+    }
+
+    // The rules at a place, sorted by a literal, to be looked for at a node.
+    fn sort_by_literal(
+        &mut self,
+        alloc: Global,
+        ruled: &Ruled,
+        node: TreeId,
+    ) -> Result<(), AllocError>
+        requires { IsInside self.old ruled.now }
+        ensures { OnOk result (self.new ≡ self.old) }
+    {
+        let rules = self.rules(*ruled);
+        let Some(sorted) = by_literal(alloc, self.tree, ruled, rules)? else {
+            return Ok(());
+        };
+        let place = self.literals.len() as u64;
+        self.literals.push(sorted)?;
+        let i = node.number() as usize;
+        if i < self.places.len() {
+            self.places[i] = place;
+        }
+        Ok(())
+    }
+
+    /// The rules at a place, where a literal tells those at the front apart.
+    pub(crate) fn told(&self, ruled: &Ruled) -> Option<&ByLiteral>
+        ensures { IfSome result (λ b. Tells self.now (rules_in self.now ruled.now) b.now) }
+    {
+        let node = match ruled {
+            Ruled::Case(id) => id.number(),
+            Ruled::Definitions { first, .. } => first.number(),
+        };
+        let place = self.places.get(node as usize).copied()?;
+        let found = self.literals.get(place as usize)?;
+        if is_same(&found.ruled, ruled) {
+            Some(found)
+        } else {
+            None
+        }
     }
 
     /// What a name, by its canonical number, stands for in an environment.
@@ -124,6 +241,25 @@ impl<'a> Definitions<'a> {
         } else {
             &[]
         }
+    }
+}
+
+// Whether rules stand at the same place.
+fn is_same(a: &Ruled, b: &Ruled) -> bool
+    ensures { IsTrue result → a.now ≡ b.now }
+{
+    match a {
+        Ruled::Case(id) => match b {
+            Ruled::Case(other) => id.number() == other.number(),
+            Ruled::Definitions { .. } => false,
+        },
+        Ruled::Definitions { list, first } => match b {
+            Ruled::Case(_) => false,
+            Ruled::Definitions {
+                list: other,
+                first: node,
+            } => list.number() == other.number() && first.number() == node.number(),
+        },
     }
 }
 
