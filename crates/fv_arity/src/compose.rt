@@ -1,7 +1,7 @@
 // The arity of a node over earlier diagrams.
 
 ghost use Rattle.std.specs.Prelude.{◌≡◌, ◌≢◌, ◌-◌, ◌<◌, ◌≤◌, ◌↔◌, ◌⊎◌, IfOk, IfErr, OnOk, MatchResult, IsTrue};
-ghost use Rattle.fv_diagram.specs.Diagram.{primitive_inputs, primitive_outputs};
+ghost use Rattle.fv_diagram.specs.Diagram.{primitive_inputs, primitive_outputs, table_inputs};
 ghost use Rattle.fv_diagram.specs.Composed.{IsComposed};
 ghost use Rattle.fv_diagram.specs.Arena.{count_of, tree_with, ChildrenBelow, IsArity};
 ghost use Rattle.fv_arity.specs.Compositions.{IsMultiple, Composes, HasComposedParts, IsRefused};
@@ -23,6 +23,8 @@ pub fn arity_of(diagrams: &Diagrams, node: Node) -> Result<Arity, ArityRefusal>
         Node::Number(_) => Ok(arity(0, 1)),
         Node::Control(_) => Ok(arity(0, 1)),
         Node::Slot(_) => Ok(arity(0, 1)),
+        Node::Wave(_) => Ok(arity(0, 2)),
+        Node::Table { table: _, writes } => Ok(arity(table(writes), 1)),
         Node::Bind { slot: _, body } => {
             let a = diagrams.arity(body);
             Ok(arity(a.inputs + 1, a.outputs))
@@ -59,7 +61,16 @@ fn primitive(prim: Prim) -> Arity
         Prim::Int => arity(1, 1),
         Prim::Attach => arity(2, 1),
         Prim::Point(op) => arity(op.inputs() as u32, 1),
+        Prim::ReadTable => arity(3, 1),
+        Prim::WriteTable => arity(5, 1),
     }
+}
+
+// How many streams a table takes.
+fn table(writes: bool) -> u32
+    ensures { result ≡ table_inputs writes }
+{
+    if writes { 3 } else { 1 }
 }
 
 // A refusal.

@@ -9,6 +9,8 @@ use Rattle.fv_num.specs.Frames.{table}
 use Rattle.fv_diagram.specs.declared.step.Change.{Change}
 use Rattle.fv_diagram.specs.declared.step.Change.TheVariants as change
 use Rattle.fv_diagram.specs.History.{Numbers, numbers_of, HasRoom}
+use Rattle.fv_num.specs.Tables.{read_at, written}
+use Rattle.fv_diagram.specs.declared.step.Step.TheVariants as step
 use Rattle.fv_diagram.specs.Steps.{recalled, in_lists, changed, lists_after}
 
 pub on_ok_always : {A E : Type 0} (r : Result A E) (P : Type 0) → P → OnOk r P
@@ -21,14 +23,19 @@ numbers_set [] i h d l e = absurd (omega arith)
 numbers_set (x ∷ hs) zero h d l e = ap (λ ys. ys ∷ numbers_of hs) e
 numbers_set (x ∷ hs) (suc i) h d l e = ap (λ yss. x.numbers ∷ yss) (numbers_set hs i h d (omega arith) e)
 
+-- each of the first i histories that grow has room
+abbrev pub HaveRoom : List Change → List Numbers → ℕ → Type 0
+HaveRoom changes hs i = (k : ℕ) (d : Numbers) → k < i → HasRoom (get_or changes k (change.Append 0)) (get_or hs k d)
+
 -- one history more has room
-pub room_more : (hs : List Numbers) (i : ℕ) (h : Numbers) → i < length hs → ((k : ℕ) (d : Numbers) → k < i → HasRoom (get_or hs k d)) → HasRoom h →
-    (k : ℕ) (d : Numbers) → k < i + 1 → HasRoom (get_or (set hs i h) k d)
-room_more hs i h l before here k d m = elim (cases_lt k i) [
-  | inl b ↦ subst HasRoom (sym (get_or-set_other hs i k h d (λ e. absurd (omega arith)))) (before k d b)
+pub room_more : (changes : List Change) (hs : List Numbers) (i : ℕ) (h : Numbers) (a : Change) → i < length hs → HaveRoom changes hs i
+    → get_or changes i (change.Append 0) ≡ a → HasRoom a h → HaveRoom changes (set hs i h) (i + 1)
+room_more changes hs i h a l before e here k d m = elim (cases_lt k i) [
+  | inl b ↦ subst (HasRoom (get_or changes k (change.Append 0))) (sym (get_or-set_other hs i k h d (λ e. absurd (omega arith)))) (before k d b)
   | inr b ↦
-      let e : i ≡ k = omega arith in
-      subst (λ k. HasRoom (get_or (set hs i h) k d)) e (subst HasRoom (sym (get_or-set_same hs i h d l)) here)
+      let at : i ≡ k = omega arith in
+      subst (λ k. HasRoom (get_or changes k (change.Append 0)) (get_or (set hs i h) k d)) at
+      (subst (HasRoom (get_or changes i (change.Append 0))) (sym (get_or-set_same hs i h d l)) (subst (λ b. HasRoom b h) (sym e) here))
 ]
 
 -- all lists have changed
@@ -46,7 +53,20 @@ changed_all r changes hs old i n m l each =
 -- what a list recalls
 pub back_value : (lists : List Numbers) (regs : List ℤ) (x d list : ℕ) (h : Numbers) (now ago : ℤ) → list < length lists → h ≡ get_or lists list h →
     now ≡ argument regs x → ago ≡ argument regs d →
-    recalled h.numbers now ago ≡ in_lists (numbers_of lists) (argument regs) list x (argument regs d)
+    recalled h.numbers now ago ≡ in_lists (numbers_of lists) (argument regs) (step.Back x d list)
 back_value lists regs x d list h now ago l e f g =
     ap₂ (recalled h.numbers) f g
     ∙ ap (λ ys. recalled ys (argument regs x) (argument regs d)) (ap (λ z. z.numbers) e ∙ sym (get_or-map (λ h. h.numbers) lists list h [] l))
+
+pub read_value : (lists : List Numbers) (regs : List ℤ) (r list : ℕ) (h : Numbers) (index : ℤ) → list < length lists → h ≡ get_or lists list h →
+    index ≡ argument regs r → read_at h.numbers index ≡ in_lists (numbers_of lists) (argument regs) (step.Read r list)
+read_value lists regs r list h index l e f =
+    ap (read_at h.numbers) f ∙ ap (λ ys. read_at ys (argument regs r)) (ap (λ z. z.numbers) e ∙ sym (get_or-map (λ h. h.numbers) lists list h [] l))
+
+pub write_value : (lists : List Numbers) (regs : List ℤ) (w x r list : ℕ) (h : Numbers) (place number index : ℤ) → list < length lists
+    → h ≡ get_or lists list h → place ≡ argument regs w → number ≡ argument regs x → index ≡ argument regs r
+    → read_at (written h.numbers place number) index ≡ in_lists (numbers_of lists) (argument regs) (step.Write w x r list)
+write_value lists regs w x r list h place number index l e f g k =
+    ap (λ z. read_at (written h.numbers z number) index) f ∙ ap₂ (λ y z. read_at (written h.numbers (argument regs w) y) z) g k
+    ∙ ap (λ ys. read_at (written ys (argument regs w) (argument regs x)) (argument regs r))
+    (ap (λ z. z.numbers) e ∙ sym (get_or-map (λ h. h.numbers) lists list h [] l))

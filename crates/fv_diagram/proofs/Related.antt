@@ -1,5 +1,5 @@
 -- Two users of the walk, whose wires and signals stay related.
-use Rattle.std.proofs.Common.{◌≡◌, ℕ, zero, suc, ◌%◌, List, [], ◌∷◌, ◌++◌, length, take, drop, get_or, refl, ap, subst, nat_eq, true, false, if◌then◌else◌}
+use Rattle.std.proofs.Common.{◌≡◌, ℕ, zero, suc, ◌%◌, List, [], ◌∷◌, ◌++◌, length, take, drop, get_or, refl, ap, subst, nat_eq, true, false, if◌then◌else◌, Bool, ℤ, pos}
 use Rattle.std.specs.Prelude.{slice_set}
 use Rattle.fv_base.specs.Lists.{table}
 use Rattle.fv_num.specs.declared.op.Op.TheVariants.{Add}
@@ -7,11 +7,11 @@ use Rattle.fv_diagram.specs.declared.node.Primitive.{Primitive as Prim}
 use Rattle.fv_diagram.specs.declared.node.Primitive.TheVariants as prim
 use Rattle.fv_diagram.specs.declared.signals.Leaf.{Leaf}
 use Rattle.fv_diagram.specs.declared.signals.Leaf.TheVariants as leaf
-use Rattle.fv_diagram.specs.Diagram.{Diagram, Primitive, Constant, Control, Slot, Bind, Par, Seq, Split, Merge, Rec, inputs}
+use Rattle.fv_diagram.specs.Diagram.{Diagram, Primitive, Constant, Control, Slot, Wave, Table, Bind, Par, Seq, Split, Merge, Rec, inputs}
 use Rattle.fv_diagram.specs.Streams.{dealt}
 use Rattle.fv_diagram.specs.Wires.{plugged}
 use Rattle.fv_diagram.specs.Hooks.{Hooks}
-use Rattle.fv_diagram.specs.Walked.{walked, primitive, added, summed}
+use Rattle.fv_diagram.specs.Walked.{walked, primitive, waved, added, summed}
 
 -- the wires of two lists, one by one
 abbrev pub AreRelated : {W V : Type 0} → (W → V → Type 0) → List W → List V → Type 0
@@ -28,6 +28,9 @@ Gives Q R x y = AreRelated Q x.0 y.0 × R x.1 y.1
 pub record KeepRelated {W V S T : Type 0} (h : Hooks W S) (g : Hooks V T) (Q : W → V → Type 0) (R : S → T → Type 0) : Type 0 where
   pub leaf : (l : Leaf) (ws : List W) (vs : List V) (s : S) (t : T) → R s t → AreRelated Q ws vs →
       Q (h.leaf l ws s).0 (g.leaf l vs t).0 × R (h.leaf l ws s).1 (g.leaf l vs t).1
+  pub counted : (n : ℕ) (s : S) (t : T) → R s t → Q (h.counted n s).0 (g.counted n t).0 × R (h.counted n s).1 (g.counted n t).1
+  pub tabled : (writes : Bool) (values : List ℤ) (ws : List W) (vs : List V) (s : S) (t : T) → R s t → AreRelated Q ws vs →
+      Q (h.tabled writes values ws s).0 (g.tabled writes values vs t).0 × R (h.tabled writes values ws s).1 (g.tabled writes values vs t).1
   pub opened : (n : ℕ) (s : S) (t : T) → R s t → Gives Q R (h.opened n s) (g.opened n t)
   pub closed : (ws : List W) (vs : List V) (s : S) (t : T) → R s t → AreRelated Q ws vs → Gives Q R (h.closed ws s) (g.closed vs t)
 
@@ -97,6 +100,19 @@ module _ {W V S T : Type 0} (h : Hooks W S) (g : Hooks V T) (Q : W → V → Typ
   primitive_related prim.Prefix ws vs s t r q = let k = keeps.leaf leaf.Prefix ws vs s t r q in ((k.0, tt), k.1)
   primitive_related prim.Delay ws vs s t r q = let k = keeps.leaf leaf.Delay ws vs s t r q in ((k.0, tt), k.1)
   primitive_related (prim.Point op) ws vs s t r q = let k = keeps.leaf (leaf.Point op) ws vs s t r q in ((k.0, tt), k.1)
+  primitive_related prim.ReadTable ws vs s t r q = (tt, r)
+  primitive_related prim.WriteTable ws vs s t r q = (tt, r)
+
+  waved_related : (values : List ℤ) (s : S) (t : T) → R s t → Gives Q R (waved h values s) (waved g values t)
+  waved_related values s t r =
+      let n = leaf.Number (pos (length values)) in
+      let m = h.leaf n [] s in
+      let m' = g.leaf n [] t in
+      let km = keeps.leaf n [] [] s t r tt in
+      let i = h.counted (length values) m.1 in
+      let i' = g.counted (length values) m'.1 in
+      let ki = keeps.counted (length values) m.1 m'.1 km.1 in
+      let kt = keeps.tabled false values (i.0 ∷ []) (i'.0 ∷ []) i.1 i'.1 ki.1 (ki.0, tt) in ((km.0, (kt.0, tt)), kt.1)
 
   added_related : (n i : ℕ) (ws us : List W) (vs xs : List V) (s : S) (t : T) → R s t → AreRelated Q ws vs → AreRelated Q us xs →
       Gives Q R (added h w n i ws us s) (added g v n i vs xs t)
@@ -121,6 +137,8 @@ module _ {W V S T : Type 0} (h : Hooks W S) (g : Hooks V T) (Q : W → V → Typ
   walked_related (Constant n) slots places ws vs s t e r q = let k = keeps.leaf (leaf.Number n) [] [] s t r tt in ((k.0, tt), k.1)
   walked_related (Control n) slots places ws vs s t e r q = let k = keeps.leaf (leaf.Control n) [] [] s t r tt in ((k.0, tt), k.1)
   walked_related (Slot k) slots places ws vs s t e r q = ((e k, tt), r)
+  walked_related (Wave values) slots places ws vs s t e r q = waved_related values s t r
+  walked_related (Table values writes) slots places ws vs s t e r q = let k = keeps.tabled writes values ws vs s t r q in ((k.0, tt), k.1)
   walked_related (Bind k a) slots places ws vs s t e r q =
       walked_related a (plugged slots k (get_or ws 0 w)) (plugged places k (get_or vs 0 v)) (drop 1 ws) (drop 1 vs) s t
       (related_plugged Q slots places k (get_or ws 0 w) (get_or vs 0 v) (related_get Q ws vs 0 w v free q) e) r (related_drop Q 1 ws vs q)

@@ -7,7 +7,7 @@ use Rattle.std.proofs.lemmas.List.{length-take-le, length-drop}
 use Rattle.std.proofs.lemmas.Bool.{cases_lt}
 use Rattle.std.proofs.Math.Nat.{mod-eq_of_lt}
 use Rattle.fv_base.proofs.Lists.{length_table}
-use Rattle.fv_diagram.specs.Diagram.{Diagram, Primitive, Constant, Control, Slot, Bind, Par, Seq, Split, Merge, Rec, inputs, outputs, size, IsWellFormed}
+use Rattle.fv_diagram.specs.Diagram.{Diagram, Primitive, Constant, Control, Slot, Wave, Table, Bind, Par, Seq, Split, Merge, Rec, inputs, outputs, size, IsWellFormed}
 use Rattle.fv_diagram.specs.Streams.{dealt}
 use Rattle.fv_diagram.specs.Arena.{count_of, tree_of}
 use Rattle.fv_diagram.specs.declared.pending.Task.{Task}
@@ -22,6 +22,8 @@ some_size (Primitive p) = omega arith
 some_size (Constant n) = omega arith
 some_size (Control k) = omega arith
 some_size (Slot s) = omega arith
+some_size (Wave w) = omega arith
+some_size (Table T writes) = omega arith
 some_size (Bind s a) = omega arith
 some_size (Par a b) = omega arith
 some_size (Seq a b) = omega arith

@@ -1,5 +1,7 @@
--- The numbers that a register had (this project's profile).
+-- The numbers that a register had, and those of a table (this project's profile).
 use Rattle.std.specs.Prelude.{ℕ, ◌≤◌, List, map, ℤ}
+use Rattle.fv_diagram.specs.declared.step.Change.{Change}
+use Rattle.fv_diagram.specs.declared.step.Change.TheVariants as change
 
 -- numbers, the earliest one first, and for how many more there is room
 pub record Numbers : Type 0 where
@@ -10,6 +12,8 @@ pub record Numbers : Type 0 where
 abbrev pub numbers_of : List Numbers → List (List ℤ)
 numbers_of hs = map (λ h. h.numbers) hs
 
--- there is room for one number more
-abbrev pub HasRoom : Numbers → Type 0
-HasRoom h = 1 ≤ h.room
+-- there is room for one number more, where the change appends one
+abbrev pub HasRoom : Change → Numbers → Type 0
+HasRoom (change.Append w) h = 1 ≤ h.room
+HasRoom change.Keep h = Unit {0}
+HasRoom (change.Put w x) h = Unit {0}

@@ -1,5 +1,5 @@
 -- What each call of the signals does.
-use Rattle.std.specs.Prelude.{ℕ, List}
+use Rattle.std.specs.Prelude.{ℕ, Bool, List, ℤ}
 use Rattle.fv_num.specs.Words.{inputs_of}
 use Rattle.fv_diagram.specs.declared.signals.Leaf.{Leaf}
 use Rattle.fv_diagram.specs.declared.signals.Leaf.TheVariants as leaf
@@ -9,6 +9,10 @@ pub record Hooks (W S : Type 0) : Type 0 where
   pub leaf : Leaf → List W → S → W × S
   pub opened : ℕ → S → List W × S
   pub closed : List W → S → List W × S
+  -- a wire that counts from 0 on, modulo so many
+  pub counted : ℕ → S → W × S
+  -- a table of these numbers, which is written or read alone
+  pub tabled : Bool → List ℤ → List W → S → W × S
 
 -- how many wires a leaf takes
 abbrev pub takes : Leaf → ℕ

@@ -1,12 +1,12 @@
 // The walk over a diagram, whose pending work is a list.
 
-ghost use Rattle.std.specs.Prelude.{◌≡◌, ℕ, ◌+◌, ◌<◌, ◌≤◌, [], ◌∷◌, ◌++◌, length, drop, take, All, IfOk, OnOk};
-ghost use Rattle.fv_diagram.specs.Diagram.{inputs, primitive_inputs, primitive_outputs, IsWellFormed};
+ghost use Rattle.std.specs.Prelude.{◌≡◌, ℕ, ◌+◌, ◌<◌, ◌≤◌, false, [], ◌∷◌, ◌++◌, length, drop, take, All, IfOk, OnOk};
+ghost use Rattle.fv_diagram.specs.Diagram.{inputs, primitive_inputs, primitive_outputs, table_inputs, is_table_primitive, IsWellFormed, AreNumbers};
 ghost use Rattle.fv_diagram.specs.Streams.{dealt};
 ghost use Rattle.fv_diagram.specs.Arena.{count_of, tree_of};
 ghost use Rattle.fv_diagram.specs.declared.pending.Task.TheVariants.{Visit};
 ghost use Rattle.fv_diagram.specs.Hooks.{takes};
-ghost use Rattle.fv_diagram.specs.Walked.{walked, one, primitive as walked_primitive, summed};
+ghost use Rattle.fv_diagram.specs.Walked.{walked, one, primitive as walked_primitive, waved, summed};
 ghost use Rattle.fv_diagram.specs.inner.Pending.{slots_of, rules, stage, Gives, IsReady, Advances};
 
 use crate::arena::Diagrams;
@@ -140,6 +140,10 @@ fn visit<S: Signals>(
         Node::Number(n) => single(signals, alloc, Leaf::Number(n), &[]),
         Node::Control(k) => single(signals, alloc, Leaf::Control(k), &[]),
         Node::Slot(slot) => listed(alloc, plugged(&pending.plugs, slot, free)),
+        Node::Wave(table) => waveform(signals, alloc, diagrams.values(table)),
+        Node::Table { table, writes } => {
+            tabled(signals, alloc, writes, diagrams.values(table), now)
+        }
         Node::Bind { slot, body } => {
             let mut now = now;
             let wire = now[0];
@@ -299,6 +303,7 @@ fn primitive<S: Signals>(
     prim: Prim,
     now: VecDeque<S::Wire>,
 ) -> Result<VecDeque<S::Wire>, AllocError>
+    requires runs { is_table_primitive prim ≡ false }
     requires width { length now.items ≡ primitive_inputs prim }
     requires wires { All (S.is_wire signals.old) now.items }
     ensures { IfOk result (λ v. Gives S.is_wire S.fed signals.old signals.new
@@ -313,7 +318,46 @@ fn primitive<S: Signals>(
         Prim::Prefix => single(signals, alloc, Leaf::Prefix, &now.into_vec()),
         Prim::Delay => single(signals, alloc, Leaf::Delay, &now.into_vec()),
         Prim::Point(op) => single(signals, alloc, Leaf::Point(op), &now.into_vec()),
+        Prim::ReadTable => unreachable!(),
+        Prim::WriteTable => unreachable!(),
     }
+}
+
+// A table.
+fn tabled<S: Signals>(
+    signals: &mut S,
+    alloc: Global,
+    writes: bool,
+    values: &[i32],
+    now: VecDeque<S::Wire>,
+) -> Result<VecDeque<S::Wire>, AllocError>
+    requires numbers { AreNumbers values.now }
+    requires width { length now.items ≡ table_inputs writes }
+    requires wires { All (S.is_wire signals.old) now.items }
+    ensures { IfOk result (λ v. Gives S.is_wire S.fed signals.old signals.new (one (S.hooks.tabled writes values.now now.items signals.old)) v.items 1) }
+{
+    let wire = signals.table(alloc, writes, values, &now.into_vec())?;
+    listed(alloc, wire)
+}
+
+// A waveform: how many numbers it has, and a table of them that is read at a wire that counts.
+fn waveform<S: Signals>(
+    signals: &mut S,
+    alloc: Global,
+    values: &[i32],
+) -> Result<VecDeque<S::Wire>, AllocError>
+    requires numbers { AreNumbers values.now }
+    ensures { IfOk result (λ v. Gives S.is_wire S.fed signals.old signals.new (waved S.hooks values.now signals.old) v.items 2) }
+{
+    let many = signals.leaf(Leaf::Number(values.len() as i32), &[])?;
+    let index = signals.count(alloc, values.len() as u64)?;
+    let mut ins = Vec::new(alloc);
+    ins.push(index)?;
+    let read = signals.table(alloc, false, values, &ins)?;
+    let mut all = VecDeque::new(alloc);
+    all.push_back(many)?;
+    all.push_back(read)?;
+    Ok(all)
 }
 
 // The same, from one list of wires to another.

@@ -1,6 +1,8 @@
 // What a walk over a diagram turns it into.
 
-ghost use Rattle.std.specs.Prelude.{◌≡◌, ℕ, ◌≤◌, List, [], ◌∷◌, length, All, IfOk, OnOk};
+ghost use Rattle.std.specs.Prelude.{◌≡◌, ℕ, ◌≤◌, List, [], ◌∷◌, length, pos, FitsSigned, All, IfOk, OnOk};
+ghost use Rattle.std.specs.Int.{w32};
+ghost use Rattle.fv_diagram.specs.Diagram.{AreNumbers, table_inputs};
 ghost use Rattle.fv_diagram.specs.Hooks.{Hooks, takes, Keeps};
 
 use fv_num::Op;
@@ -35,6 +37,32 @@ pub trait Signals {
         requires width { length ins.now ≡ takes leaf }
         requires wires { All (is_wire self.old) ins.now }
         ensures done { IfOk result (λ w. (w, self.new) ≡ hooks.leaf leaf ins.now self.old) }
+        ensures wire { IfOk result (λ w. is_wire self.new w) }
+        ensures keeps { OnOk result (Keeps (is_wire self.old) (is_wire self.new)) }
+        ensures fed { OnOk result (fed self.new ≡ fed self.old) };
+
+    /// The wire that counts from 0 on, modulo `count`.
+    fn count(&mut self, alloc: Global, count: u64) -> Result<Self::Wire, AllocError>
+        requires some { 1 ≤ count }
+        requires counted { FitsSigned w32 (pos count) }
+        ensures done { IfOk result (λ w. (w, self.new) ≡ hooks.counted count self.old) }
+        ensures wire { IfOk result (λ w. is_wire self.new w) }
+        ensures keeps { OnOk result (Keeps (is_wire self.old) (is_wire self.new)) }
+        ensures fed { OnOk result (fed self.new ≡ fed self.old) };
+
+    /// The wire of a table of these numbers, which is read at one wire, or where it `writes` is written at the first of three
+    /// wires, takes the second, and is then read at the third.
+    fn table(
+        &mut self,
+        alloc: Global,
+        writes: bool,
+        values: &[i32],
+        ins: &[Self::Wire],
+    ) -> Result<Self::Wire, AllocError>
+        requires numbers { AreNumbers values.now }
+        requires width { length ins.now ≡ table_inputs writes }
+        requires wires { All (is_wire self.old) ins.now }
+        ensures done { IfOk result (λ w. (w, self.new) ≡ hooks.tabled writes values.now ins.now self.old) }
         ensures wire { IfOk result (λ w. is_wire self.new w) }
         ensures keeps { OnOk result (Keeps (is_wire self.old) (is_wire self.new)) }
         ensures fed { OnOk result (fed self.new ≡ fed self.old) };

@@ -6,8 +6,8 @@ use Rattle.fv_base.proofs.Lists.{length_table}
 use Rattle.fv_num.specs.Words.{argument}
 use Rattle.fv_num.specs.Frames.{Frame}
 use Rattle.fv_diagram.specs.declared.node.Primitive.{Primitive as Prim}
-use Rattle.fv_diagram.specs.declared.node.Primitive.TheVariants.{Wire, Cut, Mem, Prefix, Delay, Int, Attach, Point}
-use Rattle.fv_diagram.specs.Diagram.{Diagram, Primitive, Constant, Control, Slot, Bind, Par, Seq, Split, Merge, Rec, inputs, outputs, primitive_outputs}
+use Rattle.fv_diagram.specs.declared.node.Primitive.TheVariants.{Wire, Cut, Mem, Prefix, Delay, Int, Attach, Point, ReadTable, WriteTable}
+use Rattle.fv_diagram.specs.Diagram.{Diagram, Primitive, Constant, Control, Slot, Wave, Table, Bind, Par, Seq, Split, Merge, Rec, inputs, outputs, primitive_outputs}
 use Rattle.fv_diagram.specs.Streams.{Stream, run, last, beside, dealt, merged, primitive_at}
 use Rattle.fv_diagram_number.specs.Numbers.{is_timeless, silent, number_of}
 use Rattle.fv_diagram_number.specs.inner.Timeless.{given}
@@ -24,6 +24,8 @@ answers (Primitive p) h c e x = refl
 answers (Constant n) h c e x = refl
 answers (Control k) h c e x = off h
 answers (Slot k) h c e x = off h
+answers (Wave w) h c e x = off h
+answers (Table T writes) h c e x = off h
 answers (Bind k a) h c e x = off h
 answers (Par a b) h c e x =
     let p = and_parts (is_timeless a) (is_timeless b) h in
@@ -48,12 +50,16 @@ primitive_width Delay X = refl
 primitive_width Int X = refl
 primitive_width Attach X = refl
 primitive_width (Point op) X = refl
+primitive_width ReadTable X = refl
+primitive_width WriteTable X = refl
 
 pub width : (d : Diagram) (x : Frame) → length (given d x) ≡ outputs d
 width (Primitive p) x = primitive_width p (x ∷ [])
 width (Constant n) x = refl
 width (Control k) x = refl
 width (Slot k) x = refl
+width (Wave w) x = refl
+width (Table T writes) x = refl
 width (Bind k a) x = length_table (outputs a) (λ i. pos 0)
 width (Par a b) x =
     length-append (given a (take (inputs a) x)) (given b (drop (inputs a) x))

@@ -114,6 +114,8 @@ fn visit(
         }
         Node::Control(_) => Ok(false),
         Node::Slot(_) => Ok(false),
+        Node::Wave(_) => Ok(false),
+        Node::Table { .. } => Ok(false),
         Node::Bind { .. } => Ok(false),
         Node::Par { left, right } => {
             let first = diagrams.arity(left);
@@ -178,6 +180,8 @@ fn primitive(numbers: &mut [i32], prim: Prim, from: usize, to: usize) -> bool
         Prim::Mem => return false,
         Prim::Prefix => return false,
         Prim::Delay => return false,
+        Prim::ReadTable => return false,
+        Prim::WriteTable => return false,
         Prim::Point(op) => {
             let n = applied(op, numbers, from);
             write(numbers, to, n);

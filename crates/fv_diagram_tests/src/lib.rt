@@ -7,3 +7,5 @@ mod arities;
 mod runs;
 #[cfg(test)]
 mod spans;
+#[cfg(test)]
+mod tables;

@@ -130,7 +130,7 @@ static ROWS: [Row; 21] = [
 const CONTROLS: [i32; 2] = [3, -2];
 
 // Runs a diagram on frames, and compares what it answers.
-fn play(
+pub fn play(
     rt: &impl Abort,
     alloc: Global,
     name: &str,

@@ -87,7 +87,7 @@ fn delays_of(alloc: Global, expression: &str) -> Result<Result<Delays, DelayRefu
 }
 
 // Compares delays with those that are wanted.
-fn assert_delays(rt: &impl Abort, delays: &Delays, want: &[u32], name: &str) {
+pub fn assert_delays(rt: &impl Abort, delays: &Delays, want: &[u32], name: &str) {
     assert_eq!(rt; delays.len(), want.len() as u64, "{name}");
     assert_eq!(rt; delays.is_empty(), want.is_empty(), "{name}");
     let mut sum = 0;

@@ -1,9 +1,9 @@
 -- A diagram that is played in blocks, and a graph that is (this project's profile).
-use Rattle.std.specs.Prelude.{ℕ, ◌≤◌, List, length, map, ℤ, All, Option}
+use Rattle.std.specs.Prelude.{◌≡◌, ℕ, ◌≤◌, false, List, length, map, ℤ, All, Option}
 use Rattle.std.specs.List.{AllByRecursion}
 use Rattle.fv_base.specs.declared.limits.TheConstants.{MOST_BLOCK, MOST_CHANNELS, MOST_VECTORS}
 use Rattle.fv_outside.specs.Journal.{Told}
-use Rattle.fv_diagram.specs.Diagram.{Diagram, inputs, outputs, control_bound, IsWellFormed, HasNoFreeSlot}
+use Rattle.fv_diagram.specs.Diagram.{Diagram, inputs, outputs, control_bound, has_table, IsWellFormed, HasNoFreeSlot}
 use Rattle.fv_diagram.specs.declared.control.ControlInfo.{ControlInfo}
 use Rattle.fv_control.specs.declared.script.Change.{Change}
 use Rattle.fv_control.specs.Laws.{NeverFall, IsOfControls}
@@ -27,6 +27,7 @@ initial_of cs = map (λ c. c.init) cs
 pub record CanRender (d : Diagram) (controls : List ControlInfo) (delays : List ℕ) (changes : List Change) : Type 0 where
   pub well : IsWellFormed d
   pub closed : HasNoFreeSlot d
+  pub tableless : has_table d ≡ false
   pub some : 1 ≤ outputs d
   pub few : inputs d ≤ MOST_CHANNELS
   pub reads : control_bound d ≤ length controls

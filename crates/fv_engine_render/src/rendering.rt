@@ -1,10 +1,10 @@
 // A run of a diagram, or of a graph, in blocks.
 
-ghost use Rattle.std.specs.Prelude.{◌≡◌, ◌*◌, ◌<◌, All, IfOk, OnErr, length};
+ghost use Rattle.std.specs.Prelude.{◌≡◌, ◌*◌, ◌<◌, false, All, IfOk, OnErr, length};
 ghost use Rattle.fv_num.specs.Frames.{rows};
 ghost use Rattle.fv_diagram.specs.Arena.{count_of, tree_of};
 ghost use Rattle.fv_diagram.specs.Controls.{IsBounded};
-ghost use Rattle.fv_diagram.specs.Diagram.{inputs, outputs, IsWellFormed, HasNoFreeSlot};
+ghost use Rattle.fv_diagram.specs.Diagram.{inputs, outputs, has_table, IsWellFormed, HasNoFreeSlot};
 ghost use Rattle.fv_control.specs.Streams.{control_streams};
 ghost use Rattle.fv_interval.specs.Delays.{delays_of, AreAccepted};
 ghost use Rattle.fv_diagram.specs.Samples.{answer_on};
@@ -58,6 +58,7 @@ pub fn compile(alloc: Global, source: &Source<'_, '_, '_>) -> Result<Graph, Allo
     requires root { source.now.root < count_of source.now.diagrams.now }
     requires well { IsWellFormed (tree_of source.now.diagrams.now source.now.root) }
     requires closed { HasNoFreeSlot (tree_of source.now.diagrams.now source.now.root) }
+    requires tableless { has_table (tree_of source.now.diagrams.now source.now.root) ≡ false }
     requires bounded { All IsBounded source.now.controls.now }
     requires accepted { AreAccepted (delays_of (tree_of source.now.diagrams.now source.now.root) (spans_of source.now.controls.now)) source.now.delays.now }
     ensures { IfOk result (IsGraphOf (tree_of source.now.diagrams.now source.now.root) (spans_of source.now.controls.now)) }

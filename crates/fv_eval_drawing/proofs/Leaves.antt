@@ -17,6 +17,8 @@ leaf_fits a (node.Prim p) s h = refl
 leaf_fits a (node.Number n) s h = refl
 leaf_fits a (node.Control k) s h = refl
 leaf_fits a (node.Slot k) s h = refl
+leaf_fits a (node.Wave k) s h = refl
+leaf_fits a (node.Table k writes) s h = refl
 leaf_fits a n s h = absurd h
 
 -- so it is refused for want of memory alone

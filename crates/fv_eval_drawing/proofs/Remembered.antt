@@ -1,5 +1,5 @@
 -- Arenas that nodes were put into: the diagrams stay composed, and what is remembered of them stays true.
-use Rattle.std.proofs.Common.{◌≡◌, ℕ, ◌<◌, ◌++◌, List, [], ◌∷◌, Result, Ok, Err, refl, sym, ap, subst, ◌∙◌, arith, below_more, append_assoc, append-nil}
+use Rattle.std.proofs.Common.{◌≡◌, ℕ, ◌<◌, ◌++◌, List, [], ◌∷◌, Result, Ok, Err, refl, sym, ap, ap₂, subst, ◌∙◌, arith, below_more, append_assoc, append-nil, ℤ}
 use Rattle.std.specs.Prelude.{All, get_or, IfOk, OnOk, OnErr}
 use Rattle.std.proofs.lemmas.List.{length_push}
 use Rattle.std.proofs.lemmas.List.Elements.{All-head, All-tail}
@@ -38,6 +38,8 @@ parts_composed a (node.Prim p) h c = tt
 parts_composed a (node.Number n) h c = tt
 parts_composed a (node.Control k) h c = tt
 parts_composed a (node.Slot s) h c = tt
+parts_composed a (node.Wave t) h c = tt
+parts_composed a (node.Table t writes) h c = tt
 parts_composed a (node.Bind s x) h c = h x c
 parts_composed a (node.Par x y) h c = (h x c.0, h y c.1)
 parts_composed a (node.Seq x y) h c = (h x c.0, h y c.1)
@@ -75,17 +77,17 @@ integer_composed : (a : Arena) (n : Node) → IsInteger n → IsComposed (tree_w
 integer_composed a (node.Number n) h = tt
 integer_composed a n h = absurd h
 
-abbrev of_nodes : List Node → Arena
-of_nodes ns = record { nodes = ns }
+abbrev of_nodes : List (List ℤ) → List Node → Arena
+of_nodes lists ns = record { nodes = ns; lists = lists }
 
-more_composed : (a : Arena) (more : List Node) → AreComposed a → All IsInteger more → AreComposed (of_nodes (a.nodes ++ more))
-more_composed a [] h k = subst AreComposed (sym (ap of_nodes (append-nil a.nodes))) h
+more_composed : (a : Arena) (more : List Node) → AreComposed a → All IsInteger more → AreComposed (of_nodes a.lists (a.nodes ++ more))
+more_composed a [] h k = subst AreComposed (sym (ap (of_nodes a.lists) (append-nil a.nodes))) h
 more_composed a (n ∷ more) h k =
-    subst AreComposed (ap of_nodes (append_assoc a.nodes (n ∷ []) more))
+    subst AreComposed (ap (of_nodes a.lists) (append_assoc a.nodes (n ∷ []) more))
     (more_composed (with_node a n) more (one_more a n h (integer_composed a n (All-head IsInteger n more k))) (All-tail IsInteger n more k))
 
 pub adds_composed : (a b : Arena) → AddsIntegers a b → AreComposed a → AreComposed b
-adds_composed a b g h = subst AreComposed (sym (ap of_nodes g.nodes)) (more_composed a g.more h g.integers)
+adds_composed a b g h = subst AreComposed (sym (ap₂ of_nodes g.lists g.nodes)) (more_composed a g.more h g.integers)
 
 -- ---- a settled diagram, and values that are there
 

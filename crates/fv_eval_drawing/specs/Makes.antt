@@ -50,6 +50,8 @@ IsLeaf (node.Prim p) = Unit {0}
 IsLeaf (node.Number n) = Unit {0}
 IsLeaf (node.Control k) = Unit {0}
 IsLeaf (node.Slot s) = Unit {0}
+IsLeaf (node.Wave t) = Unit {0}
+IsLeaf (node.Table t writes) = Unit {0}
 IsLeaf n = ⊥
 
 -- An evaluation becomes another one: in each state with the old table sum, it comes to what the other comes to in the same

@@ -1,7 +1,7 @@
 // The diagrams of an evaluation.
 
-ghost use Rattle.std.specs.Prelude.{◌≡◌, ◌*◌, ◌<◌, ◌≤◌, All, IfOk, List};
-ghost use Rattle.fv_diagram.specs.Arena.{ChildrenBelow, IsArity, count_of, empty_arena, size_limit, tree_of, tree_with};
+ghost use Rattle.std.specs.Prelude.{◌≡◌, ◌*◌, ◌<◌, ◌≤◌, All, IfOk, List, length};
+ghost use Rattle.fv_diagram.specs.Arena.{ChildrenBelow, NamesLists, IsArity, count_of, empty_arena, size_limit, tree_of, tree_with};
 ghost use Rattle.fv_diagram_number.specs.Numbers.{number_of};
 ghost use Rattle.fv_rules.specs.Values.{Value as Meant};
 ghost use Rattle.fv_rules.specs.Matching.{chosen, number_or};
@@ -63,15 +63,17 @@ impl Drawing {
     /// Puts a node over diagrams: its arity is tried first, then its size.
     pub fn put(&mut self, node: &Node) -> Result<DiagramId, EvalRefusal>
         requires children { ChildrenBelow (count_of self.old.diagrams) node.now }
+        requires lists { NamesLists (length self.old.diagrams.lists) node.now }
         ensures makes { Makes self.old self.new (put (tree_with self.old.diagrams node.now)) result }
         ensures keeps { Extends self.old self.new }
     {
         self.put_node(node)
     }
 
-    // Puts a node that is no table.
+    // Puts a node.
     fn put_node(&mut self, node: &Node) -> Result<DiagramId, EvalRefusal>
-        requires { ChildrenBelow (count_of self.old.diagrams) node.now }
+        requires children { ChildrenBelow (count_of self.old.diagrams) node.now }
+        requires lists { NamesLists (length self.old.diagrams.lists) node.now }
         ensures puts { Puts self.new.diagrams (tree_with self.old.diagrams node.now) result }
         ensures adds { AddsDiagrams self.old self.new }
     {
@@ -89,7 +91,8 @@ impl Drawing {
 
     /// Puts a node without parts, which always fits.
     pub fn leaf(&mut self, node: &Node) -> Result<DiagramId, AllocError>
-        requires { IsLeaf node.now }
+        requires leaf { IsLeaf node.now }
+        requires lists { NamesLists (length self.old.diagrams.lists) node.now }
         ensures draws { IfOk result (λ i. Draws self.new.diagrams i (tree_with self.old.diagrams node.now)) }
         ensures adds { AddsDiagrams self.old self.new }
     {

@@ -42,6 +42,14 @@ fn add_diagram(
             let shown = format!(in alloc; "slot {s}")?;
             return line.push_str(shown.as_str());
         }
+        Node::Wave(table) => {
+            let shown = format!(in alloc; "waveform {table}")?;
+            return line.push_str(shown.as_str());
+        }
+        Node::Table { table, writes } => {
+            let shown = format!(in alloc; "table {table} {writes}")?;
+            return line.push_str(shown.as_str());
+        }
         Node::Bind { slot, body } => {
             let shown = format!(in alloc; "[{slot} ")?;
             line.push_str(shown.as_str())?;

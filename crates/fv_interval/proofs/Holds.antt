@@ -1,8 +1,10 @@
 -- The answers of a diagram lie in the spans of its outputs.
 use Rattle.std.proofs.Common.{◌≡◌, ℕ, zero, suc, ◌+◌, ◌-◌, ◌%◌, ◌<◌, ◌≤◌, List, [], ◌∷◌, ◌++◌, length, map, reverse, take, drop, get_or, replicate}
-use Rattle.std.proofs.Common.{refl, sym, ap, ap₂, ◌∙◌, subst, arith, All, ℤ, pos, negsuc, true, false, if◌then◌else◌, nat_eq, nat_le, w32, FitsSigned}
+use Rattle.std.proofs.Common.{refl, sym, ap, ap₂, ◌∙◌, subst, arith, All, ℤ, pos, negsuc, Bool, true, false, if◌then◌else◌, nat_eq, nat_le, w32, FitsSigned}
 use Rattle.std.proofs.lemmas.List.{length-append, length-take-le, length-drop, length-replicate, length-map, length-reverse, get_or-replicate, get_or-take}
-use Rattle.std.proofs.lemmas.List.Elements.{All-get_or, All-cons, All-take}
+use Rattle.std.proofs.lemmas.List.Elements.{All-get_or, All-cons, All-take, All-head, All-tail}
+use Rattle.std.proofs.lemmas.Bool.{true≢false}
+use Rattle.fv_num.specs.Tables.{place, read_at, last_written, written_at}
 use Rattle.std.proofs.lemmas.Int.{ints, clamps}
 use Rattle.std.proofs.Math.Nat.{mod-lt}
 use Rattle.fv_num.specs.declared.op.Op.TheVariants.{Add}
@@ -14,14 +16,14 @@ use Rattle.fv_base.proofs.Lists.{length_table, table_items}
 use Rattle.fv_num.proofs.Closed.{holds, closed}
 use Rattle.fv_diagram.specs.declared.node.Primitive.{Primitive as Prim}
 use Rattle.fv_diagram.specs.declared.node.Primitive.TheVariants as prim
-use Rattle.fv_diagram.specs.Diagram.{Diagram, Primitive, Constant, Control, Slot, Bind, Par, Seq, Split, Merge, Rec, inputs, outputs}
-use Rattle.fv_diagram.specs.Diagram.{primitive_inputs, IsWellFormed}
+use Rattle.fv_diagram.specs.Diagram.{Diagram, Primitive, Constant, Control, Slot, Wave, Table, Bind, Par, Seq, Split, Merge, Rec, inputs, outputs}
+use Rattle.fv_diagram.specs.Diagram.{primitive_inputs, table_inputs, is_table_primitive, IsWellFormed, AreNumbers}
 use Rattle.fv_diagram.specs.Laws.{fed_back_over}
-use Rattle.fv_diagram.specs.Streams.{primitive_at, beside, dealt, every, added, wrapped_sum, merged, bound, fed_back, run}
+use Rattle.fv_diagram.specs.Streams.{primitive_at, wave_at, table_at, beside, dealt, every, added, wrapped_sum, merged, bound, fed_back, run}
 use Rattle.fv_diagram.proofs.Lists.{length_beside}
 use Rattle.fv_diagram.proofs.Causality.{length_run}
 use Rattle.fv_diagram.proofs.Each.{each_table, each_map, each_beside, each_reverse, each_feedback}
-use Rattle.fv_interval.specs.WireSpans.{primitive_spans, added_span, summed_span, merged_spans, bound_span, spans}
+use Rattle.fv_interval.specs.WireSpans.{primitive_spans, hull_with, hull_of, table_span, added_span, summed_span, merged_spans, bound_span, spans}
 use Rattle.fv_interval.specs.Laws.{IsOf, AreOf, AnswersHold, AllDelaysHold}
 
 -- ---- lists of numbers and of spans
@@ -106,6 +108,57 @@ right_of s t z p h = (
   record { above = omega (arith, ints, clamps, h.1.above); below = omega (arith, ints, clamps, h.1.below) },
 )
 
+-- ---- tables
+
+abbrev Fit : ℤ → Type 0
+Fit n = FitsSigned w32 n
+
+-- what lies in a span lies in its hull with numbers
+in_with : (s : Interval) (ns : List ℤ) (z : ℤ) → IsOf s z → All Fit ns → IsOf (hull_with s ns) z
+in_with s [] z h a = h
+in_with s (n ∷ ns) z h a =
+    in_with (hull s (point n)) ns z (left_of s (point n) z (point_of n (All-head Fit n ns a)).0 h) (All-tail Fit n ns a)
+
+-- and so does each of the numbers
+in_rest : (s : Interval) (ns : List ℤ) → IsSpan s → All Fit ns → (i : ℕ) → i < length ns → IsOf (hull_with s ns) (argument ns i)
+in_rest s [] p a i l = absurd (omega arith)
+in_rest s (n ∷ ns) p a zero l =
+    in_with (hull s (point n)) ns n (right_of s (point n) n p (point_of n (All-head Fit n ns a))) (All-tail Fit n ns a)
+in_rest s (n ∷ ns) p a (suc i) l =
+    in_rest (hull s (point n)) ns (right_of s (point n) n p (point_of n (All-head Fit n ns a))).0 (All-tail Fit n ns a) i (omega arith)
+
+listed_in : (T : List ℤ) (i : ℕ) → AreNumbers T → i < length T → IsOf (hull_of T) (argument T i)
+listed_in [] i a l = absurd (omega arith)
+listed_in (n ∷ ns) zero a l = in_with (point n) ns n (point_of n (All-head Fit n ns a.each)) (All-tail Fit n ns a.each)
+listed_in (n ∷ ns) (suc i) a l = in_rest (point n) ns (point_of n (All-head Fit n ns a.each)).0 (All-tail Fit n ns a.each) i (omega arith)
+
+place_below : (n : ℕ) (z : ℤ) → 1 ≤ n → place n z < n
+place_below n (pos i) h = omega arith
+place_below n (negsuc i) h = omega arith
+
+reads_hold : (T : List ℤ) (r : ℤ) → AreNumbers T → IsOf (hull_of T) (read_at T r)
+reads_hold T r a = listed_in T (place (length T) r) a (place_below (length T) r a.some)
+
+-- what a test picks lies where both lie
+one_of : (s : Interval) (b : Bool) (x y : ℤ) → IsOf s x → IsOf s y → IsOf s (if b then x else y)
+one_of s true x y h g = h
+one_of s false x y h g = g
+
+last_holds : (T : List ℤ) (w x : Stream) (s : Interval) (i t : ℕ) → AreNumbers T → i < length T → ((u : ℕ) → u ≤ t → IsOf s (x u))
+    → IsOf (hull (hull_of T) s) (last_written T w x i t)
+last_holds T w x s i zero a l h =
+    one_of (hull (hull_of T) s) (nat_eq (place (length T) (w 0)) i) (x 0) (argument T i)
+    (right_of (hull_of T) s (x 0) (listed_in T i a l).0 (h 0 (omega arith)))
+    (left_of (hull_of T) s (argument T i) (h 0 (omega arith)).0 (listed_in T i a l))
+last_holds T w x s i (suc t) a l h =
+    one_of (hull (hull_of T) s) (nat_eq (place (length T) (w (suc t))) i) (x (suc t)) (last_written T w x i t)
+    (right_of (hull_of T) s (x (suc t)) (listed_in T i a l).0 (h (suc t) (omega arith)))
+    (last_holds T w x s i t a l (λ u m. h u (omega arith)))
+
+writes_hold : (T : List ℤ) (w x : Stream) (s : Interval) (t : ℕ) (r : ℤ) → AreNumbers T → ((u : ℕ) → u ≤ t → IsOf s (x u))
+    → IsOf (hull (hull_of T) s) (written_at T w x t r)
+writes_hold T w x s t r a h = last_holds T w x s (place (length T) r) t a (place_below (length T) r a.some) h
+
 zero_span : IsSpan (point (pos 0))
 zero_span = (point_of (pos 0) (omega (arith, ints))).0
 
@@ -182,16 +235,24 @@ module _ (I : List Interval) (X : List Frame) (w : All (AreOf I) X) where
     | false ↦ right_of (span_at I 0) (point (pos 0)) (pos 0) (at 0 t l m).0 zero_of
   ]
 
-  primitive_of : (p : Prim) → length I ≡ primitive_inputs p → (t : ℕ) → t < length X → AreOf (primitive_spans p I) (primitive_at p X t)
-  primitive_of prim.Wire e t m = (at 0 t (omega arith) m, tt)
-  primitive_of prim.Int e t m = (at 0 t (omega arith) m, tt)
-  primitive_of prim.Attach e t m = (at 0 t (omega arith) m, tt)
-  primitive_of prim.Cut e t m = tt
-  primitive_of prim.Mem e t m = (late t (omega arith) m, tt)
-  primitive_of prim.Prefix e t m = (first t (omega arith) m, tt)
-  primitive_of prim.Delay e t m = (ago t (column X 1 t) (omega arith) m, tt)
-  primitive_of (prim.Point op) e t m =
+  primitive_of : (p : Prim) → is_table_primitive p ≡ false → length I ≡ primitive_inputs p → (t : ℕ) → t < length X → AreOf (primitive_spans p I) (primitive_at p X t)
+  primitive_of prim.Wire q e t m = (at 0 t (omega arith) m, tt)
+  primitive_of prim.Int q e t m = (at 0 t (omega arith) m, tt)
+  primitive_of prim.Attach q e t m = (at 0 t (omega arith) m, tt)
+  primitive_of prim.Cut q e t m = tt
+  primitive_of prim.Mem q e t m = (late t (omega arith) m, tt)
+  primitive_of prim.Prefix q e t m = (first t (omega arith) m, tt)
+  primitive_of prim.Delay q e t m = (ago t (column X 1 t) (omega arith) m, tt)
+  primitive_of (prim.Point op) q e t m =
       ((closed op I e (λ i l. (at i t l m).0), holds op I e (λ i l. (at i t l m).0) (frame_at X t) (λ i l. (at i t l m).1)), tt)
+  primitive_of prim.ReadTable q e t m = absurd (true≢false q)
+  primitive_of prim.WriteTable q e t m = absurd (true≢false q)
+
+  table_of : (T : List ℤ) (writes : Bool) → AreNumbers T → length I ≡ table_inputs writes → (t : ℕ) → t < length X
+      → AreOf (table_span T writes I ∷ []) (table_at T writes X t)
+  table_of T false k e t m = (reads_hold T (column X 0 t) k, tt)
+  table_of T true k e t m =
+      (writes_hold T (column X 0) (column X 1) (span_at I 1) t (column X 2 t) k (λ u b. at 1 u (omega arith) (omega arith)), tt)
 
 -- ---- diagrams
 
@@ -204,9 +265,13 @@ answers_length (Primitive prim.Mem) c e I h l = refl
 answers_length (Primitive prim.Prefix) c e I h l = refl
 answers_length (Primitive prim.Delay) c e I h l = refl
 answers_length (Primitive (prim.Point op)) c e I h l = refl
+answers_length (Primitive prim.ReadTable) c e I h l = refl
+answers_length (Primitive prim.WriteTable) c e I h l = refl
 answers_length (Constant n) c e I h l = refl
 answers_length (Control k) c e I h l = refl
 answers_length (Slot s) c e I h l = refl
+answers_length (Wave w) c e I h l = refl
+answers_length (Table T writes) c e I h l = refl
 answers_length (Bind s a) c e I h l = answers_length a c (bound_span e s (span_at I 0)) (drop 1 I) h (omega (arith, l, length-drop 1 I))
 answers_length (Par a b) c e I h l =
     length-append (spans a c e (take (inputs a) I)) (spans b c e (drop (inputs a) I))
@@ -235,10 +300,14 @@ bound_of n e es s u x h g k t l = elim (nat_eq k s) as (λ b. IsOf (if b then u 
 
 pub answers_hold : (d : Diagram) → AnswersHold d
 answers_hold (Primitive p) wf fit c e I cs es X l hc he w = each_table (AreOf (primitive_spans p I)) (length X) (primitive_at p X)
-    (λ t m. primitive_of I X w p l t m)
+    (λ t m. primitive_of I X w p wf l t m)
 answers_hold (Constant n) wf fit c e I cs es X l hc he w = each_table (AreOf (point n ∷ [])) (length X) _ (λ t m. (point_of n fit, tt))
 answers_hold (Control k) wf fit c e I cs es X l hc he w = each_table (AreOf (c k ∷ [])) (length X) _ (λ t m. (hc k t, tt))
 answers_hold (Slot s) wf fit c e I cs es X l hc he w = each_table (AreOf (e s ∷ [])) (length X) _ (λ t m. (he s t m, tt))
+answers_hold (Wave v) wf fit c e I cs es X l hc he w = each_table (AreOf (point (pos (length v)) ∷ hull_of v ∷ [])) (length X) (wave_at v)
+    (λ t m. (point_of (pos (length v)) fit.counted, (let below : t % length v < length v = mod-lt t fit.some in listed_in v (t % length v) fit below, tt)))
+answers_hold (Table T writes) wf fit c e I cs es X l hc he w = each_table (AreOf (table_span T writes I ∷ [])) (length X) (table_at T writes X)
+    (λ t m. table_of I X w T writes fit l t m)
 answers_hold (Bind s a) wf fit c e I cs es X l hc he w =
     answers_hold a wf fit c (bound_span e s (span_at I 0)) (drop 1 I) cs (bound es s (column X 0)) (map (drop 1) X) (omega (arith, l, length-drop 1 I)) hc
     (λ k t m. bound_of (length X) e es s (span_at I 0) (column X 0) he (λ t m. at I X w 0 t (omega arith) m) k t (omega (arith, length-map X (drop 1))))
@@ -295,9 +364,13 @@ delays_hold (Primitive prim.Cut) wf fit c e I cs es X l hc he w = tt
 delays_hold (Primitive prim.Mem) wf fit c e I cs es X l hc he w = tt
 delays_hold (Primitive prim.Prefix) wf fit c e I cs es X l hc he w = tt
 delays_hold (Primitive (prim.Point op)) wf fit c e I cs es X l hc he w = tt
+delays_hold (Primitive prim.ReadTable) wf fit c e I cs es X l hc he w = tt
+delays_hold (Primitive prim.WriteTable) wf fit c e I cs es X l hc he w = tt
 delays_hold (Constant n) wf fit c e I cs es X l hc he w = tt
 delays_hold (Control k) wf fit c e I cs es X l hc he w = tt
 delays_hold (Slot s) wf fit c e I cs es X l hc he w = tt
+delays_hold (Wave v) wf fit c e I cs es X l hc he w = tt
+delays_hold (Table T writes) wf fit c e I cs es X l hc he w = tt
 delays_hold (Bind s a) wf fit c e I cs es X l hc he w =
     delays_hold a wf fit c (bound_span e s (span_at I 0)) (drop 1 I) cs (bound es s (column X 0)) (map (drop 1) X) (omega (arith, l, length-drop 1 I)) hc
     (λ k t m. bound_of (length X) e es s (span_at I 0) (column X 0) he (λ t m. at I X w 0 t (omega arith) m) k t (omega (arith, length-map X (drop 1))))

@@ -7,7 +7,7 @@ use Rattle.fv_base.proofs.Lists.{drop_step, length_table}
 use Rattle.fv_num.specs.Frames.{table}
 use Rattle.fv_num.specs.Interval.{Interval, full, point, span_at}
 use Rattle.fv_diagram.specs.declared.node.Primitive.TheVariants as prim
-use Rattle.fv_diagram.specs.Diagram.{Diagram, Primitive, Constant, Control, Slot, Bind, Par, Seq, Split, Merge, Rec, inputs, size, IsWellFormed}
+use Rattle.fv_diagram.specs.Diagram.{Diagram, Primitive, Constant, Control, Slot, Wave, Table, Bind, Par, Seq, Split, Merge, Rec, inputs, size, IsWellFormed}
 use Rattle.fv_diagram.specs.Walked.{walked}
 use Rattle.fv_diagram.specs.Streams.{dealt}
 use Rattle.fv_diagram.proofs.Trees.{inputs_within}
@@ -29,9 +29,13 @@ delays_few (Primitive prim.Delay) c e I l = omega arith
 delays_few (Primitive prim.Int) c e I l = omega arith
 delays_few (Primitive prim.Attach) c e I l = omega arith
 delays_few (Primitive (prim.Point op)) c e I l = omega arith
+delays_few (Primitive prim.ReadTable) c e I l = omega arith
+delays_few (Primitive prim.WriteTable) c e I l = omega arith
 delays_few (Constant n) c e I l = omega arith
 delays_few (Control k) c e I l = omega arith
 delays_few (Slot s) c e I l = omega arith
+delays_few (Wave w) c e I l = omega arith
+delays_few (Table T writes) c e I l = omega arith
 delays_few (Bind s a) c e I l = omega (arith, delays_few a c (bound_span e s (span_at I 0)) (drop 1 I) (omega arith))
 delays_few (Par a b) c e I l =
     let A = delay_spans a c e (take (inputs a) I) in

@@ -1,8 +1,8 @@
 -- What the walk makes of spans is what the definitions of the spans of wires and of delays say.
 use Rattle.std.proofs.Common.{◌≡◌, ℕ, suc, ◌%◌, ◌<◌, ◌≤◌, List, [], ◌∷◌, ◌++◌, length, get_or, take, drop, refl, sym, ap, ap₂, ◌∙◌, arith}
-use Rattle.std.proofs.Common.{append_assoc, append-nil, pos, nat_eq, inl, inr}
+use Rattle.std.proofs.Common.{append_assoc, append-nil, pos, nat_eq, inl, inr, true, false}
 use Rattle.std.specs.Prelude.{slice_set}
-use Rattle.std.proofs.lemmas.Bool.{cases_eq, eq-eqb, ne_eqb, cond-true, cond-false}
+use Rattle.std.proofs.lemmas.Bool.{cases_eq, eq-eqb, ne_eqb, cond-true, cond-false, true≢false}
 use Rattle.std.proofs.lemmas.List.{length-append, length-take-le, length-drop, length-set, get_or_default, get_or-set_same, get_or-set_other, get_or-take}
 use Rattle.std.proofs.Math.Nat.{mod-lt}
 use Rattle.fv_base.proofs.Lists.{length_table, table_same, table_items}
@@ -12,13 +12,13 @@ use Rattle.fv_num.specs.Interval.{Interval, full, point}
 use Rattle.fv_num.specs.Spans.{span_of}
 use Rattle.fv_diagram.specs.declared.node.Primitive.{Primitive as Prim}
 use Rattle.fv_diagram.specs.declared.node.Primitive.TheVariants as prim
-use Rattle.fv_diagram.specs.Diagram.{Diagram, Primitive, Constant, Control, Slot, Bind, Par, Seq, Split, Merge, Rec, inputs, outputs}
-use Rattle.fv_diagram.specs.Diagram.{primitive_inputs, IsWellFormed}
+use Rattle.fv_diagram.specs.Diagram.{Diagram, Primitive, Constant, Control, Slot, Wave, Table, Bind, Par, Seq, Split, Merge, Rec, inputs, outputs}
+use Rattle.fv_diagram.specs.Diagram.{primitive_inputs, is_table_primitive, IsWellFormed}
 use Rattle.fv_diagram.specs.Streams.{dealt, every}
 use Rattle.fv_diagram.specs.Walked.{walked, added, summed}
 use Rattle.fv_diagram.proofs.Sums.{every_front}
 use Rattle.fv_diagram.proofs.Turns.{not_below}
-use Rattle.fv_interval.specs.WireSpans.{added_span, summed_span, merged_spans, bound_span, spans, delay_spans}
+use Rattle.fv_interval.specs.WireSpans.{hull_of, table_span, added_span, summed_span, merged_spans, bound_span, spans, delay_spans}
 use Rattle.fv_interval.specs.SpanHooks.{Noted, with_delays, control_span, closed_of, span_hooks}
 use Rattle.fv_interval.proofs.Holds.{answers_length}
 
@@ -74,25 +74,30 @@ module _ (c : ℕ → Interval) where
   abbrev Makes : Diagram → (ℕ → Interval) → List Interval → Noted → Type 0
   Makes d e I s = walked span_hooks full d e I s ≡ (spans d c e I, with_delays s (delay_spans d c e I))
 
-  primitive_makes : (p : Prim) (e : ℕ → Interval) (I : List Interval) (s : Noted) → length I ≡ primitive_inputs p → Makes (Primitive p) e I s
-  primitive_makes prim.Wire e [] s l = absurd (omega arith)
-  primitive_makes prim.Wire e (x ∷ I) s l = ap (λ z. (x ∷ [], z)) (none_more s)
-  primitive_makes prim.Int e [] s l = absurd (omega arith)
-  primitive_makes prim.Int e (x ∷ I) s l = ap (λ z. (x ∷ [], z)) (none_more s)
-  primitive_makes prim.Attach e [] s l = absurd (omega arith)
-  primitive_makes prim.Attach e (x ∷ I) s l = ap (λ z. (x ∷ [], z)) (none_more s)
-  primitive_makes prim.Cut e I s l = ap (λ z. ([], z)) (none_more s)
-  primitive_makes prim.Mem e I s l = refl
-  primitive_makes prim.Prefix e I s l = refl
-  primitive_makes prim.Delay e I s l = refl
-  primitive_makes (prim.Point op) e I s l = ap (λ z. (span_of op I ∷ [], z)) (none_more s)
+  primitive_makes : (p : Prim) (e : ℕ → Interval) (I : List Interval) (s : Noted) → is_table_primitive p ≡ false
+      → length I ≡ primitive_inputs p → Makes (Primitive p) e I s
+  primitive_makes prim.Wire e [] s q l = absurd (omega arith)
+  primitive_makes prim.Wire e (x ∷ I) s q l = ap (λ z. (x ∷ [], z)) (none_more s)
+  primitive_makes prim.Int e [] s q l = absurd (omega arith)
+  primitive_makes prim.Int e (x ∷ I) s q l = ap (λ z. (x ∷ [], z)) (none_more s)
+  primitive_makes prim.Attach e [] s q l = absurd (omega arith)
+  primitive_makes prim.Attach e (x ∷ I) s q l = ap (λ z. (x ∷ [], z)) (none_more s)
+  primitive_makes prim.Cut e I s q l = ap (λ z. ([], z)) (none_more s)
+  primitive_makes prim.Mem e I s q l = refl
+  primitive_makes prim.Prefix e I s q l = refl
+  primitive_makes prim.Delay e I s q l = refl
+  primitive_makes (prim.Point op) e I s q l = ap (λ z. (span_of op I ∷ [], z)) (none_more s)
+  primitive_makes prim.ReadTable e I s q l = absurd (true≢false q)
+  primitive_makes prim.WriteTable e I s q l = absurd (true≢false q)
 
   pub spans_walked : (d : Diagram) (e : ℕ → Interval) (I : List Interval) (s : Noted) → c ≡ control_span s.controls → IsWellFormed d → length I ≡ inputs d →
       Makes d e I s
-  spans_walked (Primitive p) e I s h wf l = primitive_makes p e I s l
+  spans_walked (Primitive p) e I s h wf l = primitive_makes p e I s wf l
   spans_walked (Constant n) e I s h wf l = ap (λ z. (point n ∷ [], z)) (none_more s)
   spans_walked (Control k) e I s h wf l = ap₂ (λ f z. (f k ∷ [], z)) (sym h) (none_more s)
   spans_walked (Slot k) e I s h wf l = ap (λ z. (e k ∷ [], z)) (none_more s)
+  spans_walked (Wave w) e I s h wf l = ap (λ z. (point (pos (length w)) ∷ hull_of w ∷ [], z)) (none_more s)
+  spans_walked (Table T writes) e I s h wf l = ap (λ z. (table_span T writes I ∷ [], z)) (none_more s)
   spans_walked (Bind k a) e [] s h wf l = absurd (omega arith)
   spans_walked (Bind k a) e (x ∷ I) s h wf l = spans_walked a (bound_span e k x) I s h wf (omega arith)
   spans_walked (Par a b) e I s h wf l =

@@ -3,7 +3,7 @@ use Rattle.std.specs.Prelude.{◌≡◌, ℕ, ◌<◌, List, [], ◌∷◌, ◌+
 use Rattle.fv_num.specs.Frames.{Frame, Stream, table}
 use Rattle.fv_num.specs.Interval.{Interval, IsWithin, IsSpan, full, point, span_at}
 use Rattle.fv_diagram.specs.declared.node.Primitive.TheVariants.{Delay}
-use Rattle.fv_diagram.specs.Diagram.{Diagram, Primitive, Constant, Control, Slot, Bind, Par, Seq, Split, Merge, Rec, inputs, IsWellFormed, HasNumbers}
+use Rattle.fv_diagram.specs.Diagram.{Diagram, Primitive, Constant, Control, Slot, Wave, Table, Bind, Par, Seq, Split, Merge, Rec, inputs, IsWellFormed, HasNumbers}
 use Rattle.fv_diagram.specs.Streams.{column, beside, dealt, merged, bound, run}
 use Rattle.fv_diagram.specs.Laws.{fed_back_over}
 use Rattle.fv_interval.specs.WireSpans.{bound_span, merged_spans, spans}
@@ -32,6 +32,8 @@ DelaysHold (Primitive p) c e I cs es X = Unit {0}
 DelaysHold (Constant n) c e I cs es X = Unit {0}
 DelaysHold (Control k) c e I cs es X = Unit {0}
 DelaysHold (Slot s) c e I cs es X = Unit {0}
+DelaysHold (Wave w) c e I cs es X = Unit {0}
+DelaysHold (Table T writes) c e I cs es X = Unit {0}
 DelaysHold (Bind s a) c e I cs es X = DelaysHold a c (bound_span e s (span_at I 0)) (drop 1 I) cs (bound es s (column X 0)) (map (drop 1) X)
 DelaysHold (Par a b) c e I cs es X =
     DelaysHold a c e (take (inputs a) I) cs es (map (take (inputs a)) X) × DelaysHold b c e (drop (inputs a) I) cs es (map (drop (inputs a)) X)

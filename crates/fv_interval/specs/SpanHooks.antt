@@ -1,11 +1,12 @@
 -- What a walk makes of spans (this project's profile).
-use Rattle.std.specs.Prelude.{ℕ, List, [], ◌∷◌, ◌++◌, get_or, drop, pos}
+use Rattle.std.specs.Prelude.{ℕ, Bool, ℤ, List, [], ◌∷◌, ◌++◌, get_or, drop, pos}
 use Rattle.fv_num.specs.Frames.{table}
 use Rattle.fv_num.specs.Interval.{Interval, full, point, hull, span_at}
 use Rattle.fv_num.specs.Spans.{span_of}
 use Rattle.fv_diagram.specs.declared.signals.Leaf.{Leaf}
 use Rattle.fv_diagram.specs.declared.signals.Leaf.TheVariants as leaf
 use Rattle.fv_diagram.specs.Hooks.{Hooks}
+use Rattle.fv_interval.specs.WireSpans.{table_span}
 
 -- the spans of the controls, those of the delays so far, and how many wires each open feedback feeds back
 pub record Noted : Type 0 where
@@ -46,9 +47,17 @@ opened_of n s = (table n (λ i. full), record (noted_ones s n) { fed = n ∷ s.f
 abbrev pub closed_of : List Interval → Noted → List Interval × Noted
 closed_of outs s = (outs, record s { fed = drop 1 s.fed })
 
+-- a wire that counts is asked for nothing but its numbers
+abbrev pub counted_of : ℕ → Noted → Interval × Noted
+counted_of n s = (full, s)
+
+-- the span of a table
+abbrev pub tabled_of : Bool → List ℤ → List Interval → Noted → Interval × Noted
+tabled_of writes T ins s = (table_span T writes ins, s)
+
 -- what a walk does to spans
 abbrev pub span_hooks : Hooks Interval Noted
-span_hooks = record { leaf = leaf_of; opened = opened_of; closed = closed_of }
+span_hooks = record { leaf = leaf_of; opened = opened_of; closed = closed_of; counted = counted_of; tabled = tabled_of }
 
 -- nothing is asked of a wire's span
 abbrev pub IsSpanned : Noted → Interval → Type 0

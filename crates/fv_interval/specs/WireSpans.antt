@@ -1,13 +1,13 @@
 -- The spans of the wires of a diagram, from those of its inputs, controls and slots, and those of its delays (this project's
 -- profile).
-use Rattle.std.specs.Prelude.{ℕ, List, [], ◌∷◌, ◌++◌, take, drop, pos, if◌then◌else◌, nat_eq}
+use Rattle.std.specs.Prelude.{ℕ, Bool, true, false, List, [], ◌∷◌, ◌++◌, length, take, drop, ℤ, pos, if◌then◌else◌, nat_eq}
 use Rattle.fv_num.specs.declared.op.Op.TheVariants.{Add}
 use Rattle.fv_num.specs.Frames.{table}
 use Rattle.fv_num.specs.Interval.{Interval, full, point, hull, span_at}
 use Rattle.fv_num.specs.Spans.{span_of}
 use Rattle.fv_diagram.specs.declared.node.Primitive.{Primitive as Prim}
-use Rattle.fv_diagram.specs.declared.node.Primitive.TheVariants.{Wire, Cut, Mem, Prefix, Delay, Int, Attach, Point}
-use Rattle.fv_diagram.specs.Diagram.{Diagram, Primitive, Constant, Control, Slot, Bind, Par, Seq, Split, Merge, Rec, inputs}
+use Rattle.fv_diagram.specs.declared.node.Primitive.TheVariants.{Wire, Cut, Mem, Prefix, Delay, Int, Attach, Point, ReadTable, WriteTable}
+use Rattle.fv_diagram.specs.Diagram.{Diagram, Primitive, Constant, Control, Slot, Wave, Table, Bind, Par, Seq, Split, Merge, Rec, inputs}
 use Rattle.fv_diagram.specs.Streams.{dealt, every}
 
 -- what a primitive makes of its inputs' spans
@@ -20,6 +20,24 @@ primitive_spans Mem I = hull (span_at I 0) (point (pos 0)) ∷ []
 primitive_spans Delay I = hull (span_at I 0) (point (pos 0)) ∷ []
 primitive_spans Prefix I = hull (span_at I 0) (span_at I 1) ∷ []
 primitive_spans (Point op) I = span_of op I ∷ []
+-- no well-formed diagram has one of these two
+primitive_spans ReadTable I = full ∷ []
+primitive_spans WriteTable I = full ∷ []
+
+-- the least span that holds a span and all numbers of a list
+abbrev pub hull_with : Interval → List ℤ → Interval
+hull_with s [] = s
+hull_with s (n ∷ ns) = hull_with (hull s (point n)) ns
+
+-- the least span that holds all numbers of a list
+abbrev pub hull_of : List ℤ → Interval
+hull_of [] = point (pos 0)
+hull_of (n ∷ ns) = hull_with (point n) ns
+
+-- the span of a table, which has its own numbers and where it is written those that come second
+abbrev pub table_span : List ℤ → Bool → List Interval → Interval
+table_span T false I = hull_of T
+table_span T true I = hull (hull_of T) (span_at I 1)
 
 -- the span of a sum, folded from the left
 abbrev pub added_span : Interval → List Interval → Interval
@@ -45,6 +63,8 @@ spans (Primitive p) c e I = primitive_spans p I
 spans (Constant n) c e I = point n ∷ []
 spans (Control k) c e I = c k ∷ []
 spans (Slot s) c e I = e s ∷ []
+spans (Wave w) c e I = point (pos (length w)) ∷ hull_of w ∷ []
+spans (Table T writes) c e I = table_span T writes I ∷ []
 spans (Bind s a) c e I = spans a c (bound_span e s (span_at I 0)) (drop 1 I)
 spans (Par a b) c e I = spans a c e (take (inputs a) I) ++ spans b c e (drop (inputs a) I)
 spans (Seq a b) c e I = spans b c e (spans a c e I)
@@ -63,6 +83,8 @@ delay_spans (Primitive p) c e I = []
 delay_spans (Constant n) c e I = []
 delay_spans (Control k) c e I = []
 delay_spans (Slot s) c e I = []
+delay_spans (Wave w) c e I = []
+delay_spans (Table T writes) c e I = []
 delay_spans (Bind s a) c e I = delay_spans a c (bound_span e s (span_at I 0)) (drop 1 I)
 delay_spans (Par a b) c e I = delay_spans a c e (take (inputs a) I) ++ delay_spans b c e (drop (inputs a) I)
 delay_spans (Seq a b) c e I = delay_spans a c e I ++ delay_spans b c e (spans a c e I)

@@ -1,8 +1,10 @@
 // What a walk over a diagram makes of spans.
 
-ghost use Rattle.std.specs.Prelude.{◌≡◌, ℕ, [], ◌∷◌, ◌++◌, length, IfOk, OnOk};
+ghost use Rattle.std.specs.Prelude.{◌≡◌, ◌≤◌, ℕ, [], ◌∷◌, ◌++◌, length, IfOk, OnOk};
+ghost use Rattle.fv_diagram.specs.Diagram.{table_inputs};
 ghost use Rattle.fv_num.specs.Frames.{table};
 ghost use Rattle.fv_num.specs.Interval.{full};
+ghost use Rattle.fv_interval.specs.WireSpans.{hull_of, table_span};
 ghost use Rattle.fv_interval.specs.SpanHooks.{span_hooks, IsSpanned, fed_of, note, noted_ones, control_span};
 
 use fv_diagram::{Leaf, Signals};
@@ -90,6 +92,18 @@ pub fn full_spans(alloc: Global, count: u64) -> Result<Vec<Span>, AllocError>
     Ok(all)
 }
 
+// The least span that holds all numbers of a list.
+fn hull(values: &[i32]) -> Span
+    requires { 1 ≤ length values.now }
+    ensures { result ≡ hull_of values.now }
+{
+    let mut hull = Span::point(values[0]);
+    for i in 1..values.len() {
+        hull = hull.hull(Span::point(values[i]));
+    }
+    hull
+}
+
 impl Signals for Walked {
     type Wire = Span;
 
@@ -116,6 +130,25 @@ impl Signals for Walked {
                 Ok(ins[0].hull(Span::point(0)))
             }
             Leaf::Point(op) => Ok(span_of(op, ins)),
+        }
+    }
+
+    fn count(&mut self, _alloc: Global, _count: u64) -> Result<Span, AllocError> {
+        Ok(Span::full())
+    }
+
+    fn table(
+        &mut self,
+        _alloc: Global,
+        writes: bool,
+        values: &[i32],
+        ins: &[Span],
+    ) -> Result<Span, AllocError> {
+        let own = hull(values);
+        if writes {
+            Ok(own.hull(ins[1]))
+        } else {
+            Ok(own)
         }
     }
 

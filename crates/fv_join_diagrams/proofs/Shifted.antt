@@ -1,7 +1,7 @@
 -- A diagram whose controls are numbered behind others.
 use Rattle.std.proofs.Common.{◌≡◌, ℕ, suc, ◌+◌, ◌-◌, List, [], ◌∷◌, ◌++◌, map, reverse, take, drop, refl, ap, ap₂, ◌∙◌, pos}
 use Rattle.fv_num.specs.Frames.{Frame}
-use Rattle.fv_diagram.specs.Diagram.{Diagram, Primitive, Constant, Control, Slot, Bind, Par, Seq, Split, Merge, Rec, inputs, outputs}
+use Rattle.fv_diagram.specs.Diagram.{Diagram, Primitive, Constant, Control, Slot, Wave, Table, Bind, Par, Seq, Split, Merge, Rec, inputs, outputs}
 use Rattle.fv_diagram.specs.Streams.{beside, bound, column, dealt, fed_back, feedback, last, merged, run}
 use Rattle.fv_join.specs.Joined.{part_controls}
 use Rattle.fv_join_diagrams.specs.Parts.{shifted, ShiftedAnswers}
@@ -13,6 +13,8 @@ outputs_shifted n (Primitive p) = refl
 outputs_shifted n (Constant z) = refl
 outputs_shifted n (Control k) = refl
 outputs_shifted n (Slot s) = refl
+outputs_shifted n (Wave w) = refl
+outputs_shifted n (Table T writes) = refl
 outputs_shifted n (Bind s a) = outputs_shifted n a
 outputs_shifted n (Par a b) = ap₂ (λ x y. x + y) (outputs_shifted n a) (outputs_shifted n b)
 outputs_shifted n (Seq a b) = outputs_shifted n b
@@ -25,6 +27,8 @@ inputs_shifted n (Primitive p) = refl
 inputs_shifted n (Constant z) = refl
 inputs_shifted n (Control k) = refl
 inputs_shifted n (Slot s) = refl
+inputs_shifted n (Wave w) = refl
+inputs_shifted n (Table T writes) = refl
 inputs_shifted n (Bind s a) = ap suc (inputs_shifted n a)
 inputs_shifted n (Par a b) = ap₂ (λ x y. x + y) (inputs_shifted n a) (inputs_shifted n b)
 inputs_shifted n (Seq a b) = inputs_shifted n a
@@ -52,6 +56,8 @@ shifted_answers (Primitive p) n c e X = refl
 shifted_answers (Constant z) n c e X = refl
 shifted_answers (Control k) n c e X = refl
 shifted_answers (Slot s) n c e X = refl
+shifted_answers (Wave w) n c e X = refl
+shifted_answers (Table T writes) n c e X = refl
 shifted_answers (Bind s a) n c e X = shifted_answers a n c (bound e s (column X 0)) (map (drop 1) X)
 shifted_answers (Par a b) n c e X =
     ap₂ beside

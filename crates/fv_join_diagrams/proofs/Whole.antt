@@ -1,15 +1,17 @@
 -- Parts side by side are well formed.
 use Rattle.std.proofs.Common.{◌⊎◌, inl, inr, ℕ, suc, ◌+◌, ◌%◌, ◌≤◌, [], ◌∷◌, length, refl, sym, ap₂, ◌∙◌, subst, arith}
 use Rattle.std.proofs.lemmas.List.Sums.{sum_by-cons}
-use Rattle.fv_diagram.specs.Diagram.{Diagram, Primitive, Constant, Control, Slot, Bind, Par, Seq, Split, Merge, Rec, inputs, outputs, HasNoFreeSlot, IsFree, IsWellFormed}
+use Rattle.fv_diagram.specs.Diagram.{Diagram, Primitive, Constant, Control, Slot, Wave, Table, Bind, Par, Seq, Split, Merge, Rec, inputs, outputs, HasNoFreeSlot, IsFree, IsWellFormed}
 use Rattle.fv_join_diagrams.specs.Parts.{Part, AreClosed, PartsAreWhole, shifted, side_by_side}
 use Rattle.fv_join_diagrams.proofs.Shifted.{inputs_shifted, outputs_shifted}
 
 well_shifted : (n : ℕ) (d : Diagram) → IsWellFormed d → IsWellFormed (shifted n d)
-well_shifted n (Primitive p) h = tt
+well_shifted n (Primitive p) h = h
 well_shifted n (Constant z) h = tt
 well_shifted n (Control k) h = tt
 well_shifted n (Slot s) h = tt
+well_shifted n (Wave w) h = tt
+well_shifted n (Table T writes) h = tt
 well_shifted n (Bind s a) h = well_shifted n a h
 well_shifted n (Par a b) h = (well_shifted n a h.0, well_shifted n b h.1)
 well_shifted n (Seq a b) h = (well_shifted n a h.0, well_shifted n b h.1, outputs_shifted n a ∙ h.2 ∙ sym (inputs_shifted n b))
@@ -44,6 +46,8 @@ free_shifted n s (Primitive p) h = h
 free_shifted n s (Constant z) h = h
 free_shifted n s (Control k) h = h
 free_shifted n s (Slot k) h = h
+free_shifted n s (Wave w) h = h
+free_shifted n s (Table T writes) h = h
 free_shifted n s (Bind k a) h = (free_shifted n s a h.0, h.1)
 free_shifted n s (Par a b) h = either n s a b (free_shifted n s a) (free_shifted n s b) h
 free_shifted n s (Seq a b) h = either n s a b (free_shifted n s a) (free_shifted n s b) h
@@ -52,7 +56,7 @@ free_shifted n s (Merge a b) h = either n s a b (free_shifted n s a) (free_shift
 free_shifted n s (Rec a b) h = either n s a b (free_shifted n s a) (free_shifted n s b) h
 
 pub parts_are_whole : PartsAreWhole
-parts_are_whole n [] = record { inputs = refl; outputs = refl; well = λ h. (tt, tt, refl); closed = λ h s f. none s f }
+parts_are_whole n [] = record { inputs = refl; outputs = refl; well = λ h. (tt, refl, refl); closed = λ h s f. none s f }
   where
     none : (s : ℕ) → ⊥ ⊎ ⊥ → ⊥
     none s (inl f) = f

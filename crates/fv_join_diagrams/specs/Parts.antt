@@ -3,7 +3,7 @@ use Rattle.std.specs.Prelude.{◌≡◌, ℕ, ◌+◌, ◌<◌, List, [], ◌∷
 use Rattle.std.specs.List.{sum_by}
 use Rattle.fv_num.specs.Interval.{Interval}
 use Rattle.fv_diagram.specs.declared.node.Primitive.TheVariants.{Cut}
-use Rattle.fv_diagram.specs.Diagram.{Diagram, Primitive, Constant, Control, Slot, Bind, Par, Seq, Split, Merge, Rec, inputs, outputs, control_bound, HasNoFreeSlot, IsWellFormed}
+use Rattle.fv_diagram.specs.Diagram.{Diagram, Primitive, Constant, Control, Slot, Wave, Table, Bind, Par, Seq, Split, Merge, Rec, inputs, outputs, control_bound, HasNoFreeSlot, IsWellFormed}
 use Rattle.fv_diagram.specs.Streams.{Frame, Stream, column, run}
 use Rattle.fv_join.specs.Joined.{part_frames, part_controls}
 
@@ -13,6 +13,8 @@ shifted n (Primitive p) = Primitive p
 shifted n (Constant z) = Constant z
 shifted n (Control k) = Control (n + k)
 shifted n (Slot s) = Slot s
+shifted n (Wave w) = Wave w
+shifted n (Table T writes) = Table T writes
 shifted n (Bind s a) = Bind s (shifted n a)
 shifted n (Par a b) = Par (shifted n a) (shifted n b)
 shifted n (Seq a b) = Seq (shifted n a) (shifted n b)

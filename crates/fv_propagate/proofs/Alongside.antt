@@ -10,7 +10,10 @@ use Rattle.fv_diagram.specs.declared.node.Primitive.{Primitive as Prim}
 use Rattle.fv_diagram.specs.declared.node.Primitive.TheVariants as prim
 use Rattle.fv_diagram.specs.declared.signals.Leaf.{Leaf}
 use Rattle.fv_diagram.specs.declared.signals.Leaf.TheVariants as leaf
-use Rattle.fv_diagram.specs.Diagram.{Diagram, Primitive, Constant, Control, Slot, Bind, Par, Seq, Split, Merge, Rec, inputs, outputs, primitive_inputs}
+use Rattle.fv_diagram.specs.Diagram.{Diagram, Primitive, Constant, Control, Slot, Wave, Table, Bind, Par, Seq, Split, Merge, Rec, inputs, outputs}
+use Rattle.fv_diagram.specs.Diagram.{primitive_inputs, is_table_primitive}
+use Rattle.std.proofs.Common.{Bool, true, false, ℤ, pos}
+use Rattle.std.proofs.lemmas.Bool.{true≢false}
 use Rattle.fv_diagram.specs.Diagram.{IsWellFormed}
 use Rattle.fv_diagram.specs.Streams.{dealt}
 use Rattle.fv_diagram.specs.Wires.{plugged}
@@ -99,6 +102,8 @@ pub record HoldBack {S : Type 0} (h : Hooks ℕ S) (Holds : S → Type 0) : Type
   pub leaf : (l : Leaf) (ws : List ℕ) (s : S) → Holds (h.leaf l ws s).1 → Holds s
   pub opened : (n : ℕ) (s : S) → Holds (h.opened n s).1 → Holds s
   pub closed : (ws : List ℕ) (s : S) → Holds (h.closed ws s).1 → Holds s
+  pub counted : (n : ℕ) (s : S) → Holds (h.counted n s).1 → Holds s
+  pub tabled : (writes : Bool) (T : List ℤ) (ws : List ℕ) (s : S) → Holds (h.tabled writes T ws s).1 → Holds s
 
 module _ {S : Type 0} (h : Hooks ℕ S) (Holds : S → Type 0) (backs : HoldBack h Holds) where
   primitive_back : (p : Prim) (ws : List ℕ) (s : S) → Holds (primitive h p ws s).1 → Holds s
@@ -110,6 +115,8 @@ module _ {S : Type 0} (h : Hooks ℕ S) (Holds : S → Type 0) (backs : HoldBack
   primitive_back prim.Prefix ws s g = backs.leaf leaf.Prefix ws s g
   primitive_back prim.Delay ws s g = backs.leaf leaf.Delay ws s g
   primitive_back (prim.Point op) ws s g = backs.leaf (leaf.Point op) ws s g
+  primitive_back prim.ReadTable ws s g = g
+  primitive_back prim.WriteTable ws s g = g
 
   added_back : (n i : ℕ) (ws us : List ℕ) (s : S) → Holds (added h 0 n i ws us s).1 → Holds s
   added_back n i [] us s g = g
@@ -125,6 +132,11 @@ module _ {S : Type 0} (h : Hooks ℕ S) (Holds : S → Type 0) (backs : HoldBack
   walk_back (Constant n) slots ws s g = backs.leaf (leaf.Number n) [] s g
   walk_back (Control k) slots ws s g = backs.leaf (leaf.Control k) [] s g
   walk_back (Slot k) slots ws s g = g
+  walk_back (Wave w) slots ws s g =
+      let many = h.leaf (leaf.Number (pos (length w))) [] s in
+      let index = h.counted (length w) many.1 in
+      backs.leaf (leaf.Number (pos (length w))) [] s (backs.counted (length w) many.1 (backs.tabled false w (index.0 ∷ []) index.1 g))
+  walk_back (Table T writes) slots ws s g = backs.tabled writes T ws s g
   walk_back (Bind k a) slots ws s g = walk_back a (plugged slots k (get_or ws 0 0)) (drop 1 ws) s g
   walk_back (Par a b) slots ws s g =
       let x = walked h 0 a slots (take (inputs a) ws) s in
@@ -153,12 +165,14 @@ IsOfLeaf N C leaf.Prefix = Unit {0}
 IsOfLeaf N C leaf.Delay = Unit {0}
 IsOfLeaf N C (leaf.Point op) = Unit {0}
 
--- those of a diagram are
+-- those of a diagram are, which has no waveform and no table
 abbrev pub AreOfLeaves : (ℤ → Type 0) → (ℕ → Type 0) → Diagram → Type 0
 AreOfLeaves N C (Primitive p) = Unit {0}
 AreOfLeaves N C (Constant n) = N n
 AreOfLeaves N C (Control k) = C k
 AreOfLeaves N C (Slot s) = Unit {0}
+AreOfLeaves N C (Wave w) = ⊥
+AreOfLeaves N C (Table T writes) = ⊥
 AreOfLeaves N C (Bind s a) = AreOfLeaves N C a
 AreOfLeaves N C (Par a b) = AreOfLeaves N C a × AreOfLeaves N C b
 AreOfLeaves N C (Seq a b) = AreOfLeaves N C a × AreOfLeaves N C b
@@ -182,16 +196,18 @@ module _ {V S T : Type 0} (h : Hooks ℕ S) (g : Hooks V T) (N : ℤ → Type 0)
       (length (walked h 0 d slots ws s).0 ≡ outputs d) × Onward s (walked h 0 d slots ws s).1
   goes d slots ws s = walk_goes h Good Onward orderly d slots ws s
 
-  primitive_along : (p : Prim) (ws : List ℕ) (vs : List V) (s : S) (t : T) → length ws ≡ primitive_inputs p → Good s → Holds (primitive h p ws s).1 → R s t →
-      AreRelated Q ws vs → Gives Q R (primitive h p ws s) (primitive g p vs t)
-  primitive_along prim.Wire ws vs s t w k o r q = (related_take Q 1 ws vs q, r)
-  primitive_along prim.Int ws vs s t w k o r q = (related_take Q 1 ws vs q, r)
-  primitive_along prim.Attach ws vs s t w k o r q = (related_take Q 1 ws vs q, r)
-  primitive_along prim.Cut ws vs s t w k o r q = (tt, r)
-  primitive_along prim.Mem ws vs s t w k o r q = let m = keeps.leaf leaf.Mem ws vs s t tt w k o r q in ((m.0, tt), m.1)
-  primitive_along prim.Prefix ws vs s t w k o r q = let m = keeps.leaf leaf.Prefix ws vs s t tt w k o r q in ((m.0, tt), m.1)
-  primitive_along prim.Delay ws vs s t w k o r q = let m = keeps.leaf leaf.Delay ws vs s t tt w k o r q in ((m.0, tt), m.1)
-  primitive_along (prim.Point op) ws vs s t w k o r q = let m = keeps.leaf (leaf.Point op) ws vs s t tt w k o r q in ((m.0, tt), m.1)
+  primitive_along : (p : Prim) (ws : List ℕ) (vs : List V) (s : S) (t : T) → is_table_primitive p ≡ false → length ws ≡ primitive_inputs p → Good s →
+      Holds (primitive h p ws s).1 → R s t → AreRelated Q ws vs → Gives Q R (primitive h p ws s) (primitive g p vs t)
+  primitive_along prim.Wire ws vs s t f w k o r q = (related_take Q 1 ws vs q, r)
+  primitive_along prim.Int ws vs s t f w k o r q = (related_take Q 1 ws vs q, r)
+  primitive_along prim.Attach ws vs s t f w k o r q = (related_take Q 1 ws vs q, r)
+  primitive_along prim.Cut ws vs s t f w k o r q = (tt, r)
+  primitive_along prim.Mem ws vs s t f w k o r q = let m = keeps.leaf leaf.Mem ws vs s t tt w k o r q in ((m.0, tt), m.1)
+  primitive_along prim.Prefix ws vs s t f w k o r q = let m = keeps.leaf leaf.Prefix ws vs s t tt w k o r q in ((m.0, tt), m.1)
+  primitive_along prim.Delay ws vs s t f w k o r q = let m = keeps.leaf leaf.Delay ws vs s t tt w k o r q in ((m.0, tt), m.1)
+  primitive_along (prim.Point op) ws vs s t f w k o r q = let m = keeps.leaf (leaf.Point op) ws vs s t tt w k o r q in ((m.0, tt), m.1)
+  primitive_along prim.ReadTable ws vs s t f w k o r q = absurd (true≢false f)
+  primitive_along prim.WriteTable ws vs s t f w k o r q = absurd (true≢false f)
 
   added_along : (n i : ℕ) (ws us : List ℕ) (vs xs : List V) (s : S) (t : T) → Good s → Holds (added h 0 n i ws us s).1 → R s t → AreRelated Q ws vs →
       AreRelated Q us xs → Gives Q R (added h 0 n i ws us s) (added g v n i vs xs t)
@@ -227,10 +243,12 @@ module _ {V S T : Type 0} (h : Hooks ℕ S) (g : Hooks V T) (N : ℤ → Type 0)
   pub walked_along : (d : Diagram) (slots : ℕ → ℕ) (places : ℕ → V) (ws : List ℕ) (vs : List V) (s : S) (t : T) → IsWellFormed d → length ws ≡ inputs d →
       AreOfLeaves N C d → Good s → Holds (walked h 0 d slots ws s).1 → ((i : ℕ) → Q (slots i) (places i)) → R s t → AreRelated Q ws vs →
       Gives Q R (walked h 0 d slots ws s) (walked g v d places vs t)
-  walked_along (Primitive p) slots places ws vs s t wf w a k o e r q = primitive_along p ws vs s t w k o r q
+  walked_along (Primitive p) slots places ws vs s t wf w a k o e r q = primitive_along p ws vs s t wf w k o r q
   walked_along (Constant n) slots places ws vs s t wf w a k o e r q = let m = keeps.leaf (leaf.Number n) [] [] s t a refl k o r tt in ((m.0, tt), m.1)
   walked_along (Control n) slots places ws vs s t wf w a k o e r q = let m = keeps.leaf (leaf.Control n) [] [] s t a refl k o r tt in ((m.0, tt), m.1)
   walked_along (Slot i) slots places ws vs s t wf w a k o e r q = ((e i, tt), r)
+  walked_along (Wave z) slots places ws vs s t wf w a k o e r q = absurd a
+  walked_along (Table z writes) slots places ws vs s t wf w a k o e r q = absurd a
   walked_along (Bind i b) slots places ws vs s t wf w a k o e r q =
       walked_along b (plugged slots i (get_or ws 0 0)) (plugged places i (get_or vs 0 v)) (drop 1 ws) (drop 1 vs) s t wf (length-drop 1 ws ∙ omega (arith, w))
       a k o

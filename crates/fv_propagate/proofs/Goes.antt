@@ -140,6 +140,8 @@ signals_are_orderly = record {
   on_both = on_both;
   stays_good = stays_good;
   leaf_on = leaf_on;
+  count_on = λ n s. leaf_on (leaf.Number (pos 0)) [] s;
+  table_on = λ writes T ins s. leaf_on (leaf.Number (pos 0)) [] s;
   open_wide = λ n s. puts_wide (signal.Back (length s.draft.groups)) n (grouped (passed n s));
   open_good = open_good;
   close_wide = λ outs s. close_wide s.feedbacks outs s;
@@ -220,4 +222,10 @@ module _ (F : Graph) where
   before_closed ws s g = before_shut s.feedbacks ws s refl g
 
   pub signals_hold_back : HoldBack signal_hooks (GoesOn F)
-  signals_hold_back = record { leaf = before_leaf; opened = before_opened; closed = before_closed }
+  signals_hold_back = record {
+    leaf = before_leaf;
+    opened = before_opened;
+    closed = before_closed;
+    counted = λ n s g. before_leaf (leaf.Number (pos 0)) [] s g;
+    tabled = λ writes T ws s g. before_leaf (leaf.Number (pos 0)) [] s g;
+  }

@@ -1,5 +1,5 @@
 -- What the signals of a graph name: inputs and controls that are there, numbers of 32 bits, and delays of the list.
-use Rattle.std.proofs.Common.{ℕ, zero, suc, ◌<◌, ◌≤◌, List, [], ◌∷◌, length, get_or, refl, sym, ◌∙◌, subst, arith, All, pos, inl, inr, w32, FitsSigned}
+use Rattle.std.proofs.Common.{◌≡◌, ℕ, zero, suc, ◌<◌, ◌≤◌, List, [], ◌∷◌, length, get_or, refl, sym, ◌∙◌, subst, arith, All, pos, inl, inr, w32, FitsSigned, false}
 use Rattle.std.proofs.lemmas.List.Elements.{All-drop, All-get_or}
 use Rattle.std.proofs.lemmas.Int.{ints}
 use Rattle.fv_base.proofs.Lists.{length_table}
@@ -12,6 +12,7 @@ use Rattle.fv_diagram.specs.declared.signals.Leaf.{Leaf}
 use Rattle.fv_diagram.specs.declared.signals.Leaf.TheVariants as leaf
 use Rattle.fv_diagram.specs.Diagram.{Diagram}
 use Rattle.fv_diagram.specs.Diagram as diagram
+use Rattle.std.proofs.lemmas.Bool.{true≢false, or_parts}
 use Rattle.fv_diagram.specs.Hooks.{Hooks}
 use Rattle.fv_diagram.specs.inner.Code.{padded}
 use Rattle.fv_propagate.specs.declared.progress.Feedback.{Feedback}
@@ -23,7 +24,13 @@ use Rattle.fv_propagate.proofs.Goes.{IsGood, filled, close_wide}
 
 -- a user of the walk that does nothing
 pub still : Hooks (Unit {0}) (Unit {0})
-still = record { leaf = λ l vs t. (tt, tt); opened = λ n t. (table n (λ i. tt), tt); closed = λ vs t. (vs, tt) }
+still = record {
+  leaf = λ l vs t. (tt, tt);
+  opened = λ n t. (table n (λ i. tt), tt);
+  closed = λ vs t. (vs, tt);
+  counted = λ n t. (tt, tt);
+  tabled = λ writes T vs t. (tt, tt);
+}
 
 -- any wire beside none
 abbrev pub Any : ℕ → Unit {0} → Type 0
@@ -121,18 +128,30 @@ module _ (ins : ℕ) (IsControl : ℕ → Type 0) (IsLimit : ℕ → Type 0) (no
 
 -- ---- the numbers and controls of a diagram
 
-pub leaves_had : (IsControl : ℕ → Type 0) (d : Diagram) → diagram.HasNumbers d → ((k : ℕ) → HasControl d k → IsControl k)
+pub leaves_had : (IsControl : ℕ → Type 0) (d : Diagram) → diagram.has_table d ≡ false → diagram.HasNumbers d → ((k : ℕ) → HasControl d k → IsControl k)
     → AreOfLeaves (FitsSigned w32) IsControl d
-leaves_had C (diagram.Primitive p) h l = tt
-leaves_had C (diagram.Constant z) h l = h
-leaves_had C (diagram.Control k) h l = l k refl
-leaves_had C (diagram.Slot s) h l = tt
-leaves_had C (diagram.Bind s a) h l = leaves_had C a h l
-leaves_had C (diagram.Par a b) h l = (leaves_had C a h.0 (λ k m. l k (inl m)), leaves_had C b h.1 (λ k m. l k (inr m)))
-leaves_had C (diagram.Seq a b) h l = (leaves_had C a h.0 (λ k m. l k (inl m)), leaves_had C b h.1 (λ k m. l k (inr m)))
-leaves_had C (diagram.Split a b) h l = (leaves_had C a h.0 (λ k m. l k (inl m)), leaves_had C b h.1 (λ k m. l k (inr m)))
-leaves_had C (diagram.Merge a b) h l = (leaves_had C a h.0 (λ k m. l k (inl m)), leaves_had C b h.1 (λ k m. l k (inr m)))
-leaves_had C (diagram.Rec a b) h l = (leaves_had C a h.0 (λ k m. l k (inl m)), leaves_had C b h.1 (λ k m. l k (inr m)))
+leaves_had C (diagram.Primitive p) f h l = tt
+leaves_had C (diagram.Constant z) f h l = h
+leaves_had C (diagram.Control k) f h l = l k refl
+leaves_had C (diagram.Slot s) f h l = tt
+leaves_had C (diagram.Wave w) f h l = absurd (true≢false f)
+leaves_had C (diagram.Table T writes) f h l = absurd (true≢false f)
+leaves_had C (diagram.Bind s a) f h l = leaves_had C a f h l
+leaves_had C (diagram.Par a b) f h l =
+    let g = or_parts (diagram.has_table a) (diagram.has_table b) f in
+    (leaves_had C a g.0 h.0 (λ k m. l k (inl m)), leaves_had C b g.1 h.1 (λ k m. l k (inr m)))
+leaves_had C (diagram.Seq a b) f h l =
+    let g = or_parts (diagram.has_table a) (diagram.has_table b) f in
+    (leaves_had C a g.0 h.0 (λ k m. l k (inl m)), leaves_had C b g.1 h.1 (λ k m. l k (inr m)))
+leaves_had C (diagram.Split a b) f h l =
+    let g = or_parts (diagram.has_table a) (diagram.has_table b) f in
+    (leaves_had C a g.0 h.0 (λ k m. l k (inl m)), leaves_had C b g.1 h.1 (λ k m. l k (inr m)))
+leaves_had C (diagram.Merge a b) f h l =
+    let g = or_parts (diagram.has_table a) (diagram.has_table b) f in
+    (leaves_had C a g.0 h.0 (λ k m. l k (inl m)), leaves_had C b g.1 h.1 (λ k m. l k (inr m)))
+leaves_had C (diagram.Rec a b) f h l =
+    let g = or_parts (diagram.has_table a) (diagram.has_table b) f in
+    (leaves_had C a g.0 h.0 (λ k m. l k (inl m)), leaves_had C b g.1 h.1 (λ k m. l k (inr m)))
 
 -- a control that the diagram has is below the bound of its controls
 pub control_below : (d : Diagram) (k : ℕ) → HasControl d k → k < diagram.control_bound d
@@ -140,6 +159,8 @@ control_below (diagram.Primitive p) k h = absurd h
 control_below (diagram.Constant z) k h = absurd h
 control_below (diagram.Control j) k h = omega (arith, h)
 control_below (diagram.Slot s) k h = absurd h
+control_below (diagram.Wave w) k h = absurd h
+control_below (diagram.Table T writes) k h = absurd h
 control_below (diagram.Bind s a) k h = control_below a k h
 control_below (diagram.Par a b) k h = elim h [ inl m ↦ omega (arith, control_below a k m) | inr m ↦ omega (arith, control_below b k m) ]
 control_below (diagram.Seq a b) k h = elim h [ inl m ↦ omega (arith, control_below a k m) | inr m ↦ omega (arith, control_below b k m) ]

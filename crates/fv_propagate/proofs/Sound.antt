@@ -21,6 +21,9 @@ use Rattle.fv_diagram.specs.inner.Code.{padded}
 use Rattle.fv_diagram.proofs.Causality.{delayed_same, back_same}
 use Rattle.fv_diagram.proofs.Carried.{column_carries}
 use Rattle.fv_diagram.proofs.Places.{table_replicate, carried_items, carried_first}
+use Rattle.std.proofs.Common.{false}
+use Rattle.std.proofs.lemmas.Bool.{true≢false}
+use Rattle.fv_diagram.specs.Diagram.{is_table_primitive}
 use Rattle.fv_diagram.proofs.Meaning.{Means, AreSound}
 use Rattle.fv_diagram.proofs.Sound.{takes_some}
 use Rattle.fv_propagate.specs.declared.progress.Feedback.{Feedback}
@@ -197,32 +200,36 @@ module _ (F : Graph) (ordered : IsOrdered F) (X : List Frame) (c : ℕ → Strea
               ∙ ap (back (column (carries v ins k) 0) t) (sym (column_carries v ins k 1 t l)));
         }
 
-    shows : (p : Prim) (slots : ℕ → ℕ) (ins : List ℕ) (s : Progress) → IsGood s → length ins ≡ primitive_inputs p
-        → GoesOn F (primitive signal_hooks p ins s).1 →
+    shows : (p : Prim) (slots : ℕ → ℕ) (ins : List ℕ) (s : Progress) → IsGood s → is_table_primitive p ≡ false
+        → length ins ≡ primitive_inputs p → GoesOn F (primitive signal_hooks p ins s).1 →
         Shows p slots ins s
-    shows prim.Wire slots [] s good e g = absurd (omega arith)
-    shows prim.Wire slots (w ∷ ws) s good e g = record { holds = g; wired = λ n t l. first_at w ws n t l }
-    shows prim.Int slots [] s good e g = absurd (omega arith)
-    shows prim.Int slots (w ∷ ws) s good e g = record { holds = g; wired = λ n t l. first_at w ws n t l }
-    shows prim.Attach slots [] s good e g = absurd (omega arith)
-    shows prim.Attach slots (w ∷ ws) s good e g = record { holds = g; wired = λ n t l. first_at w ws n t l }
-    shows prim.Cut slots ins s good e g = record { holds = g; wired = λ n t l. refl }
-    shows prim.Mem slots [] s good e g = absurd (omega arith)
-    shows prim.Mem slots (w ∷ []) s good e g = shows_mem slots w s g
-    shows prim.Mem slots (w ∷ u ∷ ws) s good e g = absurd (omega arith)
-    shows prim.Prefix slots [] s good e g = absurd (omega arith)
-    shows prim.Prefix slots (a ∷ []) s good e g = absurd (omega arith)
-    shows prim.Prefix slots (a ∷ b ∷ []) s good e g = shows_prefix slots a b s g
-    shows prim.Prefix slots (a ∷ b ∷ u ∷ ws) s good e g = absurd (omega arith)
-    shows prim.Delay slots [] s good e g = absurd (omega arith)
-    shows prim.Delay slots (a ∷ []) s good e g = absurd (omega arith)
-    shows prim.Delay slots (a ∷ b ∷ []) s good e g = shows_back slots a b s g
-    shows prim.Delay slots (a ∷ b ∷ u ∷ ws) s good e g = absurd (omega arith)
-    shows (prim.Point o) slots ins s good e g = shows_point o slots ins s e g
+    shows prim.Wire slots [] s good q e g = absurd (omega arith)
+    shows prim.Wire slots (w ∷ ws) s good q e g = record { holds = g; wired = λ n t l. first_at w ws n t l }
+    shows prim.Int slots [] s good q e g = absurd (omega arith)
+    shows prim.Int slots (w ∷ ws) s good q e g = record { holds = g; wired = λ n t l. first_at w ws n t l }
+    shows prim.Attach slots [] s good q e g = absurd (omega arith)
+    shows prim.Attach slots (w ∷ ws) s good q e g = record { holds = g; wired = λ n t l. first_at w ws n t l }
+    shows prim.Cut slots ins s good q e g = record { holds = g; wired = λ n t l. refl }
+    shows prim.Mem slots [] s good q e g = absurd (omega arith)
+    shows prim.Mem slots (w ∷ []) s good q e g = shows_mem slots w s g
+    shows prim.Mem slots (w ∷ u ∷ ws) s good q e g = absurd (omega arith)
+    shows prim.Prefix slots [] s good q e g = absurd (omega arith)
+    shows prim.Prefix slots (a ∷ []) s good q e g = absurd (omega arith)
+    shows prim.Prefix slots (a ∷ b ∷ []) s good q e g = shows_prefix slots a b s g
+    shows prim.Prefix slots (a ∷ b ∷ u ∷ ws) s good q e g = absurd (omega arith)
+    shows prim.Delay slots [] s good q e g = absurd (omega arith)
+    shows prim.Delay slots (a ∷ []) s good q e g = absurd (omega arith)
+    shows prim.Delay slots (a ∷ b ∷ []) s good q e g = shows_back slots a b s g
+    shows prim.Delay slots (a ∷ b ∷ u ∷ ws) s good q e g = absurd (omega arith)
+    shows (prim.Point o) slots ins s good q e g = shows_point o slots ins s e g
+    shows prim.ReadTable slots ins s good q e g = absurd (true≢false q)
+    shows prim.WriteTable slots ins s good q e g = absurd (true≢false q)
 
-    pub signals_are_sound : AreSound signal_hooks IsGood Onward (GoesOn F) (λ s. value F s X c) c
+    pub signals_are_sound : AreSound signal_hooks IsGood Onward (GoesOn F) (λ T. ⊥) (λ s. value F s X c) c
     signals_are_sound = record {
       primitives = shows;
+      counts = λ T s h good g. absurd h;
+      tables = λ writes T slots ins s h e g. absurd h;
       numbers = λ n slots ins s g. record { holds = before_put F s (signal.Const n) g; wired = λ t. ap (λ z. z ∷ []) (put_gives s (signal.Const n) g t) };
       controls = λ k slots ins s g. record { holds = before_put F s (signal.Control k) g; wired = λ t. ap (λ z. z ∷ []) (put_gives s (signal.Control k) g t) };
       opens = before_opened F;

@@ -14,7 +14,7 @@ use Rattle.fv_signal.specs.declared.signal.Signal.{Signal}
 use Rattle.fv_signal.specs.declared.signal.Signal.TheVariants.{Input, Const, Control, Point, Delay, Back, Member}
 use Rattle.fv_signal.specs.Value.{Graph, value, IsGraph}
 use Rattle.fv_share.specs.Drafts.{AreClosed, graph_of}
-use Rattle.fv_diagram.specs.Diagram.{Diagram, inputs, outputs, IsWellFormed, HasNoFreeSlot, HasNumbers}
+use Rattle.fv_diagram.specs.Diagram.{Diagram, inputs, outputs, IsWellFormed, HasNoFreeSlot, HasNumbers, has_table}
 use Rattle.fv_diagram.specs.Streams.{run}
 use Rattle.fv_diagram.specs.Wires.{Wired}
 use Rattle.fv_diagram.specs.Steps.{no_slots}
@@ -22,7 +22,8 @@ use Rattle.fv_diagram.specs.Walked.{walked}
 use Rattle.fv_diagram.proofs.Causality.{run_closed}
 use Rattle.fv_diagram.proofs.Carried.{wired_answers, column_carries}
 use Rattle.fv_diagram.proofs.Places.{prefix_long, carried_items}
-use Rattle.fv_diagram.proofs.Meaning.{walk_goes, walk_means}
+use Rattle.fv_diagram.proofs.Meaning.{no_lists, walk_goes, walk_means}
+use Rattle.std.proofs.Common.{false}
 use Rattle.fv_diagram.proofs.Related.{AreRelated}
 use Rattle.fv_interval.specs.SpanHooks.{Noted, control_span, span_hooks}
 use Rattle.fv_interval.specs.Laws.{IsOf}
@@ -52,7 +53,7 @@ names_of d IsLimit none one (Delay x back max) h = tt
 names_of d IsLimit none one (Back group k) h = tt
 names_of d IsLimit none one (Member group k) h = tt
 
-module _ (d : Diagram) (delays : List ℕ) (wf : IsWellFormed d) (free : HasNoFreeSlot d) (numbers : HasNumbers d) where
+module _ (d : Diagram) (delays : List ℕ) (wf : IsWellFormed d) (free : HasNoFreeSlot d) (numbers : HasNumbers d) (tableless : has_table d ≡ false) where
   -- the inputs, and what the walk makes of them
   abbrev pub first : List ℕ × Progress
   first = puts Input (inputs d) (started delays)
@@ -117,7 +118,7 @@ module _ (d : Diagram) (delays : List ℕ) (wf : IsWellFormed d) (free : HasNoFr
         (named_put n b IsLimit none one (unstarted delays) (Const (pos 0)) zero_fits empty) in
         (walked_along signal_hooks still (FitsSigned w32) b IsGood Onward (GoesOn graph) Any (λ s u. named s) signals_are_orderly (signals_hold_back graph)
         (names_keep n b IsLimit none one (GoesOn graph)) tt tt d no_slots (λ i. tt) first.0 (table n (λ i. tt)) first.1 tt wf first_wide
-        (leaves_had b d numbers (λ k h. h)) first_good goes_on (λ i. tt) begun
+        (leaves_had b d tableless numbers (λ k h. h)) first_good goes_on (λ i. tt) begun
         (related_places Any first.0 (table n (λ i. tt)) 0 tt (first_wide ∙ sym (length_table n (λ i. tt))) (λ i l. tt))).1
 
   -- any delay is allowed
@@ -170,7 +171,7 @@ module _ (d : Diagram) (delays : List ℕ) (wf : IsWellFormed d) (free : HasNoFr
         let end = walked span_hooks full d (λ i. full) F u in
         let all = walked_along signal_hooks span_hooks (FitsSigned w32) C IsGood Onward (GoesOn graph) Q R signals_are_orderly (signals_hold_back graph) keeps
         full
-        (anywhere 0 some) d no_slots (λ i. full) first.0 F first.1 u wf first_wide (leaves_had b d numbers (λ k h. h)) first_good goes_on
+        (anywhere 0 some) d no_slots (λ i. full) first.0 F first.1 u wf first_wide (leaves_had b d tableless numbers (λ k h. h)) first_good goes_on
         (λ i. anywhere 0 some) begun there in
         let noted : end.1.delays ≡ L = delays_are d spans F end.0 n full u end.1 wf refl refl refl refl refl in
         all.1.ranged (subst (λ l. IsPrefixOf l L) (sym noted) (prefix_refl L))
@@ -181,9 +182,9 @@ module _ (d : Diagram) (delays : List ℕ) (wf : IsWellFormed d) (free : HasNoFr
 
     wired : Wired (λ s. value graph s X c) c d no_slots first.0 made.0
     wired =
-        (walk_means signal_hooks IsGood Onward (GoesOn graph) (λ s. value graph s X c) c signals_are_orderly (signals_are_sound graph whole.ordered X c wide)
-        d no_slots
-        first.0 first.1 wf first_wide first_good goes_on).wired
+        (walk_means signal_hooks IsGood Onward (GoesOn graph) (λ T. ⊥) (λ s. value graph s X c) c signals_are_orderly
+        (signals_are_sound graph whole.ordered X c wide) d no_slots
+        first.0 first.1 wf (no_lists (λ T. ⊥) d tableless) first_wide first_good goes_on).wired
 
     -- the signals of the inputs carry the frames
     entered : (t : ℕ) → carried (λ s. value graph s X c) first.0 t ≡ table (inputs d) (λ i. column X i t)

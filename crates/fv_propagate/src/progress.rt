@@ -300,6 +300,23 @@ impl Signals for Progress {
         Ok(id)
     }
 
+    // Signals have no tables: no diagram with a waveform or a table is walked.
+    fn count(&mut self, _alloc: Global, _count: u64) -> Result<SignalId, AllocError> {
+        let id = self.put_leaf(Leaf::Number(0), &[])?;
+        Ok(id)
+    }
+
+    fn table(
+        &mut self,
+        _alloc: Global,
+        _writes: bool,
+        _values: &[i32],
+        _ins: &[SignalId],
+    ) -> Result<SignalId, AllocError> {
+        let id = self.put_leaf(Leaf::Number(0), &[])?;
+        Ok(id)
+    }
+
     fn open(&mut self, alloc: Global, count: u64) -> Result<Vec<SignalId>, AllocError> {
         let late = self.begin(alloc, count)?;
         Ok(late)

@@ -1,9 +1,9 @@
 // The graph of a diagram.
 
-ghost use Rattle.std.specs.Prelude.{◌≡◌, ℕ, ◌<◌, List, length, IfOk};
+ghost use Rattle.std.specs.Prelude.{◌≡◌, ℕ, ◌<◌, false, List, length, IfOk};
 ghost use Rattle.fv_num.specs.Interval.{Interval};
 ghost use Rattle.fv_num.specs.SpanLaws.{AreSpans};
-ghost use Rattle.fv_diagram.specs.Diagram.{inputs, outputs, IsWellFormed, HasNoFreeSlot};
+ghost use Rattle.fv_diagram.specs.Diagram.{inputs, outputs, has_table, IsWellFormed, HasNoFreeSlot};
 ghost use Rattle.fv_diagram.specs.Arena.{count_of, tree_of};
 ghost use Rattle.fv_interval.specs.Delays.{delays_of, AreAccepted};
 ghost use Rattle.fv_propagate.specs.Propagated.{Propagates, DelaysStayWithin, AreShort, NamesWithin};
@@ -24,6 +24,7 @@ pub fn propagate(
     requires root { root < count_of diagrams.now }
     requires well { IsWellFormed (tree_of diagrams.now root) }
     requires closed { HasNoFreeSlot (tree_of diagrams.now root) }
+    requires tableless { has_table (tree_of diagrams.now root) ≡ false }
     // Each output is that of the diagram, where the controls lie in the spans of which the delays are.
     ensures values { IfOk result (λ g. (spans : List Interval) → AreAccepted (delays_of (tree_of diagrams.now root) spans) delays.now
         → Propagates (tree_of diagrams.now root) spans g) }

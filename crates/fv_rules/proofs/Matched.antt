@@ -46,27 +46,32 @@ use Rattle.fv_rules.proofs.Grown.{diagrams_come, bindings_grow}
 -- ---- arenas that integers were added to
 
 pub adds_none : (a : Arena) → AddsIntegers a a
-adds_none a = record { more = []; nodes = sym (append-nil a.nodes); integers = All-nil IsInteger }
+adds_none a = record { more = []; nodes = sym (append-nil a.nodes); lists = refl; integers = All-nil IsInteger }
 
 pub adds_on : (a b c : Arena) → AddsIntegers a b → AddsIntegers b c → AddsIntegers a c
 adds_on a b c g h = record {
   more = g.more ++ h.more;
   nodes = h.nodes ∙ ap (λ ns. ns ++ h.more) g.nodes ∙ append_assoc a.nodes g.more h.more;
+  lists = h.lists ∙ g.lists;
   integers = All-append IsInteger g.more h.more g.integers h.integers;
 }
 
-trees_more : (ns ms : List Node) → KeepsTrees (Constant (pos 0)) (trees ns) (trees (ns ++ ms))
-trees_more ns ms = subst (KeepsTrees (Constant (pos 0)) (trees ns)) (sym (split [] ns ms)) (trees_keep node_diagram (Constant (pos 0)) (trees ns) ms)
+trees_more : (lists : List (List ℤ)) (ns ms : List Node) → KeepsTrees (Constant (pos 0)) (trees lists ns) (trees lists (ns ++ ms))
+trees_more lists ns ms =
+    subst (KeepsTrees (Constant (pos 0)) (trees lists ns)) (sym (split [] ns ms)) (trees_keep build (Constant (pos 0)) (trees lists ns) ms)
   where
-    split : (ts : List Diagram) (ns ms : List Node) → trees_from node_diagram ts (ns ++ ms) ≡ trees_from node_diagram (trees_from node_diagram ts ns) ms
+    build : List Diagram → Node → Diagram
+    build = node_diagram lists
+
+    split : (ts : List Diagram) (ns ms : List Node) → trees_from build ts (ns ++ ms) ≡ trees_from build (trees_from build ts ns) ms
     split ts [] ms = refl
-    split ts (n ∷ ns) ms = split (ts ++ node_diagram ts n ∷ []) ns ms
+    split ts (n ∷ ns) ms = split (ts ++ build ts n ∷ []) ns ms
 
 -- the trees that were there stay
 pub adds_keeps : (a b : Arena) → AddsIntegers a b → (i : ℕ) → i < count_of a → tree_of b i ≡ tree_of a i
 adds_keeps a b g i h =
-    let l : i < length (trees a.nodes) = subst (λ n. i < n) (sym (length_trees node_diagram a.nodes)) h in
-    ap (λ ns. get_or (trees ns) i (Constant (pos 0))) g.nodes ∙ (trees_more a.nodes g.more).same i l
+    let l : i < length (trees a.lists a.nodes) = subst (λ n. i < n) (sym (length_trees (node_diagram a.lists) a.nodes)) h in
+    ap₂ (λ ls ns. get_or (trees ls ns) i (Constant (pos 0))) g.lists g.nodes ∙ (trees_more a.lists a.nodes g.more).same i l
 
 pub adds_longer : (a b : Arena) → AddsIntegers a b → count_of a ≤ count_of b
 adds_longer a b g = let e = length-append a.nodes g.more in omega (arith, e, ap length g.nodes)

@@ -39,9 +39,9 @@ use Rattle.fv_rules.specs.Rules.{within, ev, finished, start, program_value}
 use Rattle.fv_rules.specs.Sound.{IsSoundProgram}
 use Rattle.fv_diagram.specs.Controls.{IsBounded}
 use Rattle.fv_rules.proofs.SoundValues.{IsSound, SoundValue, SoundEnv, SoundTaken, SoundState, AllSound, AllValues, sound_grows, env_grows}
-use Rattle.fv_rules.proofs.SoundValues.{keep, keep_value, keep_env, keep_all, keep_values, all_snoc, values_snoc}
+use Rattle.fv_rules.proofs.SoundValues.{plain_tableless, plain_has_none, keep, keep_value, keep_env, keep_all, keep_values, all_snoc, values_snoc}
 use Rattle.fv_rules.proofs.SoundValues.{IsCause, spare, Stays, Does, bind_does, give_does, refuse_does, lend, choice}
-use Rattle.fv_rules.proofs.SoundCompositions.{put_does, prim_sound, constant_sound, slot_sound, flat_does, operated_does, joined_does, gathered_does, fed_does}
+use Rattle.fv_rules.proofs.SoundCompositions.{put_does, no_table, prim_sound, constant_sound, slot_sound, flat_does, operated_does, joined_does, gathered_does, fed_does}
 
 -- ---- slots
 abbrev Within : ℕ → ℕ → (ℕ → Type 0) → ℕ → Type 0
@@ -106,16 +106,20 @@ SomeParts S k (Some ab) = IsSound S k ab.0 × IsSound S k ab.1
 halves : (S : ℕ → Type 0) (k : ℕ) (a b : Diagram) → IsSound S k (Par a b) → IsSound S k a × IsSound S k b
 halves S k a b g =
     let r = g.reads in let z = g.within in (
-      record { composed = g.composed.0; within = omega arith; free = λ s i. g.free s (inl i); reads = omega arith },
-      record { composed = g.composed.1; within = omega arith; free = λ s i. g.free s (inr i); reads = omega arith },
+      record { composed = g.composed.0; plain = g.plain.0; within = omega arith; free = λ s i. g.free s (inl i); reads = omega arith },
+      record { composed = g.composed.1; plain = g.plain.1; within = omega arith; free = λ s i. g.free s (inr i); reads = omega arith },
     )
 
 parts_sound : (S : ℕ → Type 0) (k : ℕ) (o : Operator) (d : Diagram) → IsSound S k d → SomeParts S k (parts_of o d)
-parts_sound S k operators.Recursion (Rec a b) g = halves S k a b (record { composed = (g.composed.0, g.composed.1); within = g.within; free = g.free; reads = g.reads })
+parts_sound S k operators.Recursion (Rec a b) g =
+    halves S k a b (record { composed = (g.composed.0, g.composed.1); plain = g.plain; within = g.within; free = g.free; reads = g.reads })
 parts_sound S k operators.Parallel (Par a b) g = halves S k a b g
-parts_sound S k operators.Sequence (Seq a b) g = halves S k a b (record { composed = (g.composed.0, g.composed.1); within = g.within; free = g.free; reads = g.reads })
-parts_sound S k operators.Split (Split a b) g = halves S k a b (record { composed = (g.composed.0, g.composed.1); within = g.within; free = g.free; reads = g.reads })
-parts_sound S k operators.Merge (Merge a b) g = halves S k a b (record { composed = (g.composed.0, g.composed.1); within = g.within; free = g.free; reads = g.reads })
+parts_sound S k operators.Sequence (Seq a b) g =
+    halves S k a b (record { composed = (g.composed.0, g.composed.1); plain = g.plain; within = g.within; free = g.free; reads = g.reads })
+parts_sound S k operators.Split (Split a b) g =
+    halves S k a b (record { composed = (g.composed.0, g.composed.1); plain = g.plain; within = g.within; free = g.free; reads = g.reads })
+parts_sound S k operators.Merge (Merge a b) g =
+    halves S k a b (record { composed = (g.composed.0, g.composed.1); plain = g.plain; within = g.within; free = g.free; reads = g.reads })
 parts_sound S k o d g = tt
 
 without_sound : (S : ℕ → Type 0) (k : ℕ) (n : Option ℤ) (o : Operator) (d : Diagram) → IsSound S k d → SomeParts S k (parts_without n o d)
@@ -238,7 +242,7 @@ labelled_below k n (c ∷ cs) label h =
     if_below n _ (Some (k, c)) (labelled (suc k) cs label) (omega arith) (labelled_below (suc k) n cs label (omega arith))
 
 control_sound : (S : ℕ → Type 0) (n k : ℕ) → k < n → IsSound S n (Control k)
-control_sound S n k h = record { composed = tt; within = omega arith; free = λ s f. absurd f; reads = omega arith }
+control_sound S n k h = record { composed = tt; plain = tt; within = omega arith; free = λ s f. absurd f; reads = omega arith }
 
 alike_stays : (S : ℕ → Type 0) (s : State) (k : ℕ) (b : Bool) (r : EvalRefusal) → IsCause r → k < length s.controls → SoundState s
     → Stays (IsSound S) 1 s (if b then Ok (Control k, s) else Err r)
@@ -378,15 +382,15 @@ minus_does : (l : Lexed) (e : Evaluator) → Sound e → (S : ℕ → Type 0) (k
 minus_does l e a S k n env g =
     bind_does (name_does l e a S k (text_of l n) env g) (λ v m h i.
     bind_does (turned_does l e a S m v i) (λ d p q r.
-    flat_does (operated_does S p (prim.Point op.Sub) (Constant (pos 0)) d (constant_sound S p (pos 0)) r)))
+    flat_does (operated_does S p (prim.Point op.Sub) refl (Constant (pos 0)) d (constant_sound S p (pos 0)) r)))
 
 rule_does : (l : Lexed) (e : Evaluator) → Sound e → (S : ℕ → Type 0) (k : ℕ) (x : Tree) (env : Env) → SoundEnv S k env
     → Does (SoundValue S) 1 k (rule l e x env)
 rule_does l e a S k (tree.Number s n) env g = give_does (λ m h. constant_sound S m _)
 rule_does l e a S k (tree.Negative s n) env g = give_does (λ m h. constant_sound S m _)
-rule_does l e a S k (tree.Wire s) env g = give_does (λ m h. prim_sound S m prim.Wire)
-rule_does l e a S k (tree.Cut s) env g = give_does (λ m h. prim_sound S m prim.Cut)
-rule_does l e a S k (tree.Primitive s p) env g = give_does (λ m h. prim_sound S m (primitive_of p))
+rule_does l e a S k (tree.Wire s) env g = give_does (λ m h. prim_sound S m prim.Wire refl)
+rule_does l e a S k (tree.Cut s) env g = give_does (λ m h. prim_sound S m prim.Cut refl)
+rule_does l e a S k (tree.Primitive s p) env g = give_does (λ m h. prim_sound S m (primitive_of p) (no_table p))
 rule_does l e a S k (tree.Named s n) env g =
     let x = text_of l n in lend (meant_does e a S k x (lookup l env x) (lookup_sound S k l env x g))
 rule_does l e a S k (tree.MinusNamed s n) env g = lend (minus_does l e a S k n env g)
@@ -399,7 +403,7 @@ rule_does l e a S k (tree.Binary s o x y) env g =
     lend (bind_does (a.diagram S k x env g) (λ c n h i.
     bind_does (a.diagram S n y env (keep_env S k n env h g)) (λ d m p q. flat_does (joined_does S m o c d (keep S n m c p i) q))))
 rule_does l e a S k (tree.Delayed s x) env g =
-    lend (bind_does (a.diagram S k x env g) (λ d n h i. flat_does (put_does S n (Seq d (Primitive prim.Mem)) (i, prim_sound S n prim.Mem))))
+    lend (bind_does (a.diagram S k x env g) (λ d n h i. flat_does (put_does S n (Seq d (Primitive prim.Mem)) (i, prim_sound S n prim.Mem refl))))
 rule_does l e a S k (tree.Apply s x ys) env g =
     lend (bind_does (a.value S k x env g) (λ f n h i.
     bind_does (arguments_do e a S n (items ys) env [] (keep_env S k n env h g) tt) (λ vs m p q.
@@ -460,7 +464,15 @@ finished_sound (Ok x) d cs g e =
     let v = g.1 in
     let z = g.0 in
     subst (λ (o : Result (Diagram × List ControlInfo) EvalRefusal). IfSound o) e
-    (record { well = composed_is_well x.0 g.3.composed; within = g.3.within; closed = g.3.free; reads = g.3.reads; bounded = g.2; few = omega arith })
+    (record {
+      well = composed_is_well x.0 g.3.composed (plain_has_none x.0 g.3.plain);
+      tableless = plain_tableless x.0 g.3.plain;
+      within = g.3.within;
+      closed = g.3.free;
+      reads = g.3.reads;
+      bounded = g.2;
+      few = omega arith;
+    })
   where
     IfSound : Result (Diagram × List ControlInfo) EvalRefusal → Type 0
     IfSound (Ok p) = IsSoundProgram p.0 p.1

@@ -8,11 +8,13 @@ use Rattle.fv_parse_grammar.specs.declared.form.Operator.{Operator}
 use Rattle.fv_parse_grammar.specs.declared.form.Operator.TheVariants as operators
 use Rattle.fv_parse_grammar.specs.declared.form.Iteration.{Iteration as Repetition}
 use Rattle.fv_parse_grammar.specs.declared.form.Iteration.TheVariants as repetitions
+use Rattle.fv_parse_grammar.specs.declared.form.Primitive.{Primitive as Operation}
+use Rattle.fv_parse_grammar.specs.declared.form.Primitive.TheVariants as operations
 use Rattle.fv_num.specs.declared.op.Op.TheVariants as op
 use Rattle.fv_diagram.specs.declared.node.Primitive.{Primitive as Prim}
 use Rattle.fv_diagram.specs.declared.node.Primitive.TheVariants as prim
 use Rattle.fv_diagram.specs.Diagram.{Diagram, Primitive, Constant, Slot, Bind, Par, Seq, Split, Merge, Rec, size, inputs, outputs}
-use Rattle.fv_diagram.specs.Diagram.{control_bound, IsFree}
+use Rattle.fv_diagram.specs.Diagram.{control_bound, is_table_primitive, IsFree}
 use Rattle.fv_diagram.specs.Composed.{IsComposed}
 use Rattle.fv_diagram.specs.Arena.{size_limit}
 use Rattle.fv_rules.specs.declared.refusal.EvalRefusal.{EvalRefusal}
@@ -21,7 +23,7 @@ use Rattle.fv_arity.specs.declared.refusal.ArityKind.TheVariants as kind
 use Rattle.fv_rules.specs.Values.{Flat}
 use Rattle.fv_rules.specs.Steps.{State, Outcome, Eval, after, give, refuse, is_multiple, unless, or_else, misfit, put_after, put}
 use Rattle.fv_rules.specs.Rules.{primitive_of, flat, operated, joined, from_right, from_left, gathered, wires, all_outputs, takes_the_right, led, fed_by, fed}
-use Rattle.fv_rules.proofs.SoundValues.{IsSound, SoundValue, keep, AllSound, keep_all, all_append, IsCause, Stays, Does}
+use Rattle.fv_rules.proofs.SoundValues.{IsPlain, IsSound, SoundValue, keep, AllSound, keep_all, all_append, IsCause, Stays, Does}
 use Rattle.fv_rules.proofs.SoundValues.{bind_does, give_does, refuse_does, choice}
 
 -- ---- putting
@@ -60,30 +62,30 @@ bind_free S s t (inr i) n = i
 both_sound : (S : ℕ → Type 0) (k : ℕ) (a b : Diagram) → IsSound S k a → IsSound S k b → size (Par a b) ≤ size_limit → IsSound S k (Par a b)
 both_sound S k a b p q h =
     let r = p.reads in let s = q.reads in
-    record { composed = (p.composed, q.composed); within = h; free = λ s i. both_free S k a b s p q i; reads = omega arith }
+    record { composed = (p.composed, q.composed); plain = (p.plain, q.plain); within = h; free = λ s i. both_free S k a b s p q i; reads = omega arith }
 
 put_sound : (S : ℕ → Type 0) (k : ℕ) (d : Diagram) → HasSoundParts S k d → misfit d ≡ None → size d ≤ size_limit → IsSound S k d
 put_sound S k (Bind s a) g e h =
-    let r = g.reads in record { composed = g.composed; within = h; free = λ t i. bind_free S s t (g.free t i.0) i.1; reads = omega arith }
+    let r = g.reads in record { composed = g.composed; plain = g.plain; within = h; free = λ t i. bind_free S s t (g.free t i.0) i.1; reads = omega arith }
 put_sound S k (Par a b) g e h = both_sound S k a b g.0 g.1 h
 put_sound S k (Seq a b) g e h =
     let p = both_sound S k a b g.0 g.1 h in
     let t = unless_none (nat_eq (outputs a) (inputs b)) _ e in
-    record { composed = (g.0.composed, g.1.composed, eqb-true (outputs a) (inputs b) t); within = h; free = p.free; reads = p.reads }
+    record { composed = (g.0.composed, g.1.composed, eqb-true (outputs a) (inputs b) t); plain = p.plain; within = h; free = p.free; reads = p.reads }
 put_sound S k (Split a b) g e h =
     let p = both_sound S k a b g.0 g.1 h in
     let t = multiple (inputs b) (outputs a) (unless_none (is_multiple (inputs b) (outputs a)) _ e) in
-    record { composed = (g.0.composed, g.1.composed, t.1, t.0, t.2); within = h; free = p.free; reads = p.reads }
+    record { composed = (g.0.composed, g.1.composed, t.1, t.0, t.2); plain = p.plain; within = h; free = p.free; reads = p.reads }
 put_sound S k (Merge a b) g e h =
     let p = both_sound S k a b g.0 g.1 h in
     let t = multiple (outputs a) (inputs b) (unless_none (is_multiple (outputs a) (inputs b)) _ e) in
-    record { composed = (g.0.composed, g.1.composed, t.0, t.1, t.2); within = h; free = p.free; reads = p.reads }
+    record { composed = (g.0.composed, g.1.composed, t.0, t.1, t.2); plain = p.plain; within = h; free = p.free; reads = p.reads }
 put_sound S k (Rec a b) g e h =
     let p = both_sound S k a b g.0 g.1 h in
     let t = or_none (unless (nat_le (inputs b) (outputs a)) _) (unless (nat_le (outputs b) (inputs a)) _) e in
     let u = leb-true (inputs b) (outputs a) (unless_none (nat_le (inputs b) (outputs a)) _ t.0) in
     let v = leb-true (outputs b) (inputs a) (unless_none (nat_le (outputs b) (inputs a)) _ t.1) in
-    record { composed = (g.0.composed, g.1.composed, u, v); within = h; free = p.free; reads = p.reads }
+    record { composed = (g.0.composed, g.1.composed, u, v); plain = p.plain; within = h; free = p.free; reads = p.reads }
 put_sound S k d g e h = absurd g
 
 abbrev MayCause : Option EvalRefusal → Type 0
@@ -122,17 +124,47 @@ pub put_does : (S : ℕ → Type 0) (k : ℕ) (d : Diagram) → HasSoundParts S 
 put_does S k d g = put_by S k d (misfit d) g refl
 
 -- ---- leaves and folds
-leaf_sound : (S : ℕ → Type 0) (k : ℕ) (d : Diagram) → IsComposed d → size d ≡ 1 → control_bound d ≡ 0 → ((s : ℕ) → IsFree s d → S s) → IsSound S k d
-leaf_sound S k d w z c f = record { composed = w; within = omega arith; free = f; reads = omega arith }
 
-pub prim_sound : (S : ℕ → Type 0) (k : ℕ) (p : Prim) → IsSound S k (Primitive p)
-prim_sound S k p = leaf_sound S k (Primitive p) tt refl refl (λ s f. absurd f)
+-- no word or sign of the language is `rdtable` or `rwtable`
+pub no_table : (p : Operation) → is_table_primitive (primitive_of p) ≡ false
+no_table operations.Mem = refl
+no_table operations.Prefix = refl
+no_table operations.Int = refl
+no_table operations.Attach = refl
+no_table operations.Delay = refl
+no_table operations.Add = refl
+no_table operations.Subtract = refl
+no_table operations.Multiply = refl
+no_table operations.Divide = refl
+no_table operations.Remainder = refl
+no_table operations.And = refl
+no_table operations.Or = refl
+no_table operations.Xor = refl
+no_table operations.ShiftLeft = refl
+no_table operations.ShiftRight = refl
+no_table operations.Less = refl
+no_table operations.LessEqual = refl
+no_table operations.Greater = refl
+no_table operations.GreaterEqual = refl
+no_table operations.Equal = refl
+no_table operations.NotEqual = refl
+no_table operations.Min = refl
+no_table operations.Max = refl
+no_table operations.Abs = refl
+no_table operations.Select2 = refl
+no_table operations.Select3 = refl
+
+leaf_sound : (S : ℕ → Type 0) (k : ℕ) (d : Diagram) → IsComposed d → IsPlain d → size d ≡ 1 → control_bound d ≡ 0 → ((s : ℕ) → IsFree s d → S s) → IsSound S k d
+leaf_sound S k d w p z c f = record { composed = w; plain = p; within = omega arith; free = f; reads = omega arith }
+
+pub prim_sound : (S : ℕ → Type 0) (k : ℕ) (p : Prim) → is_table_primitive p ≡ false → IsSound S k (Primitive p)
+prim_sound S k p h = leaf_sound S k (Primitive p) tt h refl refl (λ s f. absurd f)
 
 pub constant_sound : (S : ℕ → Type 0) (k : ℕ) (n : ℤ) → IsSound S k (Constant n)
-constant_sound S k n = leaf_sound S k (Constant n) tt refl refl (λ s f. absurd f)
+constant_sound S k n = leaf_sound S k (Constant n) tt tt refl refl (λ s f. absurd f)
 
 pub slot_sound : (S : ℕ → Type 0) (k slot : ℕ) → S slot → IsSound S k (Slot slot)
-slot_sound S k slot h = leaf_sound S k (Slot slot) tt refl refl (λ s e. subst S (sym e) h)
+slot_sound S k slot h = leaf_sound S k (Slot slot) tt tt refl refl (λ s e. subst S (sym e) h)
 
 flat_stays : (S : ℕ → Type 0) (c : ℕ) (s : State) (r : Outcome Diagram) → Stays (IsSound S) c s r → Stays (SoundValue S) c s (after r (λ d. give (Flat d)))
 flat_stays S c s (Ok x) a = a
@@ -141,11 +173,12 @@ flat_stays S c s (Err r) a = a
 pub flat_does : {S : ℕ → Type 0} {c k : ℕ} {m : Eval Diagram} → Does (IsSound S) c k m → Does (SoundValue S) c k (flat m)
 flat_does {S} {c} {k} {m} a = record { stays = λ s h b. flat_stays S c s (m s) (a.stays s h b) }
 
-pub operated_does : (S : ℕ → Type 0) (k : ℕ) (p : Prim) (a b : Diagram) → IsSound S k a → IsSound S k b → Does (IsSound S) 0 k (operated p a b)
-operated_does S k p a b g h = bind_does (put_does S k (Par a b) (g, h)) (λ ab n i j. put_does S n (Seq ab (Primitive p)) (j, prim_sound S n p))
+pub operated_does : (S : ℕ → Type 0) (k : ℕ) (p : Prim) → is_table_primitive p ≡ false → (a b : Diagram) → IsSound S k a → IsSound S k b
+    → Does (IsSound S) 0 k (operated p a b)
+operated_does S k p e a b g h = bind_does (put_does S k (Par a b) (g, h)) (λ ab n i j. put_does S n (Seq ab (Primitive p)) (j, prim_sound S n p e))
 
 pub joined_does : (S : ℕ → Type 0) (k : ℕ) (o : Operator) (a b : Diagram) → IsSound S k a → IsSound S k b → Does (IsSound S) 0 k (joined o a b)
-joined_does S k (operators.Infix p) a b g h = operated_does S k (primitive_of p) a b g h
+joined_does S k (operators.Infix p) a b g h = operated_does S k (primitive_of p) (no_table p) a b g h
 joined_does S k operators.Recursion a b g h = put_does S k (Rec a b) (g, h)
 joined_does S k operators.Parallel a b g h = put_does S k (Par a b) (g, h)
 joined_does S k operators.Sequence a b g h = put_does S k (Seq a b) (g, h)
@@ -162,21 +195,21 @@ from_right_does S k compose parts d [] g h = give_does (λ n i. keep S k n d i g
 from_right_does S k compose parts d (x ∷ xs) g h =
     bind_does (from_right_does S k compose parts x xs h.0 h.1) (λ r n i j. put_does S n (compose d r) (parts n d r (keep S k n d i g) j))
 
-from_left_does : (S : ℕ → Type 0) (k : ℕ) (p : Prim) (d : Diagram) (ds : List Diagram) → IsSound S k d → AllSound S k ds
+from_left_does : (S : ℕ → Type 0) (k : ℕ) (p : Prim) → is_table_primitive p ≡ false → (d : Diagram) (ds : List Diagram) → IsSound S k d → AllSound S k ds
     → Does (IsSound S) 0 k (from_left p d ds)
-from_left_does S k p d [] g h = give_does (λ n i. keep S k n d i g)
-from_left_does S k p d (x ∷ xs) g h = bind_does (operated_does S k p d x g h.0) (λ r n i j. from_left_does S n p r xs j (keep_all S k n xs i h.1))
+from_left_does S k p e d [] g h = give_does (λ n i. keep S k n d i g)
+from_left_does S k p e d (x ∷ xs) g h = bind_does (operated_does S k p e d x g h.0) (λ r n i j. from_left_does S n p e r xs j (keep_all S k n xs i h.1))
 
 pub gathered_does : (S : ℕ → Type 0) (k : ℕ) (r : Repetition) (ds : List Diagram) → AllSound S k ds → Does (SoundValue S) 0 k (gathered r ds)
 gathered_does S k r [] g = refuse_does (IterationCount (pos 0)) tt
 gathered_does S k repetitions.Parallel (d ∷ ds) g = flat_does (from_right_does S k Par (λ n x y i j. (i, j)) d ds g.0 g.1)
 gathered_does S k repetitions.Sequence (d ∷ ds) g = flat_does (from_right_does S k Seq (λ n x y i j. (i, j)) d ds g.0 g.1)
-gathered_does S k repetitions.Sum (d ∷ ds) g = flat_does (from_left_does S k (prim.Point op.Add) d ds g.0 g.1)
-gathered_does S k repetitions.Product (d ∷ ds) g = flat_does (from_left_does S k (prim.Point op.Mul) d ds g.0 g.1)
+gathered_does S k repetitions.Sum (d ∷ ds) g = flat_does (from_left_does S k (prim.Point op.Add) refl d ds g.0 g.1)
+gathered_does S k repetitions.Product (d ∷ ds) g = flat_does (from_left_does S k (prim.Point op.Mul) refl d ds g.0 g.1)
 
 wires_sound : (S : ℕ → Type 0) (k n : ℕ) → AllSound S k (wires n)
 wires_sound S k zero = tt
-wires_sound S k (suc n) = (prim_sound S k prim.Wire, wires_sound S k n)
+wires_sound S k (suc n) = (prim_sound S k prim.Wire refl, wires_sound S k n)
 
 led_does : (S : ℕ → Type 0) (k : ℕ) (d : Diagram) (ds : List Diagram) (f : Diagram) → IsSound S k d → AllSound S k ds → IsSound S k f
     → Does (IsSound S) 0 k (led d ds f)
@@ -187,7 +220,7 @@ fed_by_does : (S : ℕ → Type 0) (k w : ℕ) (f d : Diagram) (ds : List Diagra
     → Does (IsSound S) 0 k (fed_by w f d ds)
 fed_by_does S k w f d ds g h i =
     choice (nat_lt (inputs f) w) (refuse_does (TooManyArguments w (inputs f)) tt)
-    (choice (takes_the_right f && nat_eq w 1) (led_does S k (Primitive prim.Wire) (d ∷ ds) f (prim_sound S k prim.Wire) (h, i) g)
+    (choice (takes_the_right f && nat_eq w 1) (led_does S k (Primitive prim.Wire) (d ∷ ds) f (prim_sound S k prim.Wire refl) (h, i) g)
     (led_does S k d (ds ++ wires (inputs f - w)) f h (all_append S k ds (wires (inputs f - w)) i (wires_sound S k (inputs f - w))) g))
 
 pub fed_does : (S : ℕ → Type 0) (k : ℕ) (f : Diagram) (ds : List Diagram) → IsSound S k f → AllSound S k ds → Does (SoundValue S) 0 k (fed f ds)

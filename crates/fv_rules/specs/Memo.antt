@@ -26,4 +26,5 @@ IsInteger x = ⊥
 pub record AddsIntegers (old new : Arena) : Type 0 where
   pub more : List Node
   pub nodes : new.nodes ≡ old.nodes ++ more
+  pub lists : new.lists ≡ old.lists
   pub integers : All IsInteger more

@@ -1,7 +1,7 @@
 // Diagrams that are put in postfix order.
 
-ghost use Rattle.std.specs.Prelude.{◌≡◌, ◌<◌, ◌≤◌, IfOk};
-ghost use Rattle.fv_diagram.specs.Arena.{count_of, ChildrenBelow};
+ghost use Rattle.std.specs.Prelude.{◌≡◌, ◌<◌, ◌≤◌, length, IfOk};
+ghost use Rattle.fv_diagram.specs.Arena.{count_of, ChildrenBelow, NamesLists};
 ghost use Rattle.fv_rules_tests.specs.Built.{AreComposed};
 
 use fv_diagram::{DiagramId, Diagrams, Node, Prim};
@@ -25,6 +25,7 @@ pub enum Item {
 fn over(diagrams: &mut Diagrams, node: &Node) -> Result<DiagramId, EvalRefusal>
     requires composed { AreComposed diagrams.old }
     requires children { ChildrenBelow (count_of diagrams.old) node.now }
+    requires lists { NamesLists (length diagrams.old.lists) node.now }
     ensures composed { AreComposed diagrams.new }
     ensures there { IfOk result (λ i. i < count_of diagrams.new) }
     ensures grows { count_of diagrams.old ≤ count_of diagrams.new }

@@ -27,6 +27,7 @@ pub can_render : (p : Evaluated) (delays : List ℕ) (changes : List Change) →
 can_render p delays changes plays accepted order lawful = record {
   well = plays.well;
   closed = plays.closed;
+  tableless = plays.tableless;
   some = plays.some;
   few = plays.narrow;
   reads = plays.reads;

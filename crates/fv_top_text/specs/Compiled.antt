@@ -1,8 +1,8 @@
 -- What a program is, what the code's programs are, and that they can be played.
-use Rattle.std.specs.Prelude.{◌≤◌, ◌<◌, ◌^◌, All, List, length}
+use Rattle.std.specs.Prelude.{◌≡◌, ◌≤◌, ◌<◌, ◌^◌, false, All, List, length}
 use Rattle.fv_base.specs.declared.limits.TheConstants.{MOST_CHANNELS}
 use Rattle.fv_diagram.specs.Arena.{count_of, tree_of}
-use Rattle.fv_diagram.specs.Diagram.{Diagram, inputs, outputs, control_bound, HasNoFreeSlot, IsWellFormed}
+use Rattle.fv_diagram.specs.Diagram.{Diagram, inputs, outputs, control_bound, has_table, HasNoFreeSlot, IsWellFormed}
 use Rattle.fv_diagram.specs.Controls.{IsBounded}
 use Rattle.fv_diagram.specs.declared.control.ControlInfo.{ControlInfo}
 use Rattle.fv_eval.specs.Evaluated.{Evaluated}
@@ -21,6 +21,7 @@ pub record CanPlay (p : Evaluated) : Type 0 where
   pub root : p.root < count_of p.diagrams
   pub well : IsWellFormed (tree_of p.diagrams p.root)
   pub closed : HasNoFreeSlot (tree_of p.diagrams p.root)
+  pub tableless : has_table (tree_of p.diagrams p.root) ≡ false
   pub reads : control_bound (tree_of p.diagrams p.root) ≤ length (compiled_of p).controls
   pub controls : length (compiled_of p).controls < 2 ^ 32
   pub some : 1 ≤ outputs (tree_of p.diagrams p.root)

@@ -7,7 +7,7 @@ ghost use Rattle.test_diagrams.specs.Built.{AllCanRun, IsAllowed};
 use crate::item::{Item, node_of};
 use fv_arity::{ArityRefusal, arity_of};
 use fv_diagram::{Arity, Diagrams, Node, PutRefusal};
-use std::alloc::Global;
+use std::alloc::{AllocError, Global};
 use std::marker::Model;
 
 /// What keeps an item from being tried.
@@ -33,10 +33,11 @@ const MOST: u64 = 1_000_000;
 pub struct Build {
     diagrams: Diagrams,
     count: u64,
+    lists: u64,
 }
 
 impl Model for Build {
-    ghost use Rattle.std.specs.Prelude.{◌≡◌};
+    ghost use Rattle.std.specs.Prelude.{◌≡◌, length};
     ghost use Rattle.fv_diagram.specs.Arena.{Arena, count_of};
     ghost use Rattle.test_diagrams.specs.Built.{AllCanRun};
 
@@ -44,18 +45,20 @@ impl Model for Build {
 
     ghost view = { λ a. a.diagrams };
 
-    ghost invariant = { λ a. (a.count ≡ count_of a.diagrams) × AllCanRun a.diagrams };
+    ghost invariant = { λ a. (a.count ≡ count_of a.diagrams) × (a.lists ≡ length a.diagrams.lists) × AllCanRun a.diagrams };
 }
 
-// Whether a node may be put over the first so many diagrams.
-fn is_allowed(node: &Node, count: u64) -> bool
-    ensures { IsTrue result → IsAllowed count node.now }
+// Whether a node may be put over the first so many diagrams and lists.
+fn is_allowed(node: &Node, count: u64, lists: u64) -> bool
+    ensures { IsTrue result → IsAllowed count lists node.now }
 {
     match node {
-        Node::Prim(_) => true,
+        Node::Prim(prim) => !prim.is_table(),
         Node::Number(_) => true,
         Node::Control(k) => *k < 2,
         Node::Slot(_) => false,
+        Node::Wave(table) => *table < lists,
+        Node::Table { table, writes: _ } => *table < lists,
         Node::Bind { slot: _, body } => body.number() < count,
         Node::Par { left, right } => left.number() < count && right.number() < count,
         Node::Seq { left, right } => left.number() < count && right.number() < count,
@@ -66,10 +69,10 @@ fn is_allowed(node: &Node, count: u64) -> bool
 }
 
 // The same, as a result.
-fn allow(node: &Node, count: u64) -> Result<(), Unput>
-    ensures { OnOk result (IsAllowed count node.now) }
+fn allow(node: &Node, count: u64, lists: u64) -> Result<(), Unput>
+    ensures { OnOk result (IsAllowed count lists node.now) }
 {
-    if is_allowed(node, count) {
+    if is_allowed(node, count, lists) {
         Ok(())
     } else {
         Err(Unput::NotAllowed)
@@ -82,6 +85,7 @@ impl Build {
         Build {
             diagrams: Diagrams::new(alloc),
             count: 0,
+            lists: 0,
         }
     }
 
@@ -100,13 +104,27 @@ impl Build {
         self.count
     }
 
+    /// Keeps a list of numbers, and says which one it is; `None` where it has none, or is one too many.
+    pub fn table(&mut self, alloc: Global, values: &[i32]) -> Result<Option<u64>, AllocError> {
+        if values.is_empty() || self.lists >= MOST {
+            return Ok(None);
+        }
+        match self.diagrams.table(alloc, values) {
+            Ok(table) => {
+                self.lists += 1;
+                Ok(Some(table))
+            }
+            Err(error) => Err(error),
+        }
+    }
+
     /// Puts a node, or says why it is refused.
     pub fn put(&mut self, item: Item) -> Result<Option<PutRefusal>, Unput> {
         let node = &node_of(item);
         if self.count >= MOST {
             return Err(Unput::NotAllowed);
         }
-        allow(node, self.count)?;
+        allow(node, self.count, self.lists)?;
         let arity = arity_of(&self.diagrams, *node)?;
         match self.diagrams.put(*node, arity) {
             Ok(_) => {
@@ -120,7 +138,7 @@ impl Build {
     /// The arity of a node.
     pub fn arity(&self, item: Item) -> Result<Arity, Unput> {
         let node = &node_of(item);
-        allow(node, self.count)?;
+        allow(node, self.count, self.lists)?;
         Ok(arity_of(&self.diagrams, *node)?)
     }
 }

@@ -7,6 +7,8 @@ use fv_diagram::{DiagramId, Node, Prim};
 pub enum Item {
     Prim(Prim),
     Number(i32),
+    Wave(u64),
+    Table(u64, bool),
     Bind(u64),
     Par(u64, u64),
     Seq(u64, u64),
@@ -23,6 +25,8 @@ pub(crate) fn node_of(item: Item) -> Node {
     match item {
         Item::Prim(prim) => Node::Prim(prim),
         Item::Number(n) => Node::Number(n),
+        Item::Wave(table) => Node::Wave(table),
+        Item::Table(table, writes) => Node::Table { table, writes },
         Item::Bind(a) => Node::Bind {
             slot: 9,
             body: DiagramId::new(a),

@@ -1,5 +1,5 @@
 -- What a walk over a diagram makes of a graph of signals (this project's profile).
-use Rattle.std.specs.Prelude.{◌≡◌, ℕ, zero, suc, ◌<◌, List, [], ◌∷◌, ◌++◌, length, map, get_or, drop, pos}
+use Rattle.std.specs.Prelude.{◌≡◌, ℕ, ℤ, Bool, zero, suc, ◌<◌, List, [], ◌∷◌, ◌++◌, length, map, get_or, drop, pos}
 use Rattle.fv_num.specs.declared.op.Op.TheVariants.{Select2}
 use Rattle.fv_signal.specs.declared.signal.Signal.{Signal}
 use Rattle.fv_signal.specs.declared.signal.Signal.TheVariants.{Input, Const, Control, Point, Delay, Back, Member}
@@ -81,9 +81,16 @@ shut (f ∷ fs) outs s =
 abbrev pub closed_of : List ℕ → Progress → List ℕ × Progress
 closed_of outs s = shut s.feedbacks outs s
 
+-- Signals have no tables: no diagram with a waveform or a table is walked.
+abbrev pub counted_of : ℕ → Progress → ℕ × Progress
+counted_of n s = leaf_of (leaf.Number (pos 0)) [] s
+
+abbrev pub tabled_of : Bool → List ℤ → List ℕ → Progress → ℕ × Progress
+tabled_of writes T ins s = leaf_of (leaf.Number (pos 0)) [] s
+
 -- what a walk does to the graph
 abbrev pub signal_hooks : Hooks ℕ Progress
-signal_hooks = record { leaf = leaf_of; opened = opened_of; closed = closed_of }
+signal_hooks = record { leaf = leaf_of; opened = opened_of; closed = closed_of; counted = counted_of; tabled = tabled_of }
 
 -- a signal that is there
 abbrev pub IsThere : Progress → ℕ → Type 0

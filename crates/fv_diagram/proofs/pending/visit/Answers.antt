@@ -1,7 +1,7 @@
 use Rattle.std.proofs.Common.{◌<◌, ◌∷◌, [], refl, sym, ap, ◌∙◌, arith, rules, take, drop, Global, SFits, w32, to_z-of_z, All, subst, length}
 use Rattle.std.specs.declared.collections.VecDeque.{VecDeque}
 use Rattle.std.proofs.lemmas.Result.{IfOk-weaker}
-use Rattle.fv_diagram.specs.Diagram.{Constant}
+use Rattle.fv_diagram.specs.Diagram.{Constant, Wave, Table}
 use Rattle.fv_diagram.specs.Arena.{count_of}
 use Rattle.fv_diagram.specs.declared.pending.Task.TheVariants as task
 use Rattle.fv_diagram.proofs.Turns.{leaf_advances, slot_advances, bind_advances, par_advances, seq_advances, split_advances, merge_advances, rec_advances}
@@ -83,3 +83,13 @@ returns-in_ok-put_between-in-Rec g c =
     refl (ap (λ x. (x, q)) late ∙ o.done) (ap length late ∙ o.width) (subst (All (g.S.Signals.is_wire q)) (sym late) o.wires) o.keeps o.fed
     (c.in_ok-put_between-in-Rec.ensures ∙ ap (λ ts. task.Visit c.in-Rec.right ∷ task.Before c.args.now ∷ task.Visit c.in-Rec.left ∷ ts)
     c.in_ok-push_front-in-Rec.ensures.items) c.requires
+
+pub returns-in-Wave : goal.returns-in-Wave
+returns-in-Wave g c = IfOk-weaker {X = VecDeque _ Global} _ _ _
+    (λ v x. leaf_advances _ c.args.pending.now.tasks.items c.args.pending.now.plugs.items c.args.now.items v.items c.args.signals.now c.waveform.new.signals
+    c.args.id _ (c.in-Wave.ensures.tree ∙ ap Wave (sym c.values.ensures.values)) c.requires x) c.waveform.ensures
+
+pub returns-in-Table : goal.returns-in-Table
+returns-in-Table g c = IfOk-weaker {X = VecDeque _ Global} _ _ _
+    (λ v x. leaf_advances _ c.args.pending.now.tasks.items c.args.pending.now.plugs.items c.args.now.items v.items c.args.signals.now c.tabled.new.signals
+    c.args.id _ (c.in-Table.ensures.tree ∙ ap (λ T. Table T c.in-Table.writes) (sym c.values-in-Table.ensures.values)) c.requires x) c.tabled.ensures

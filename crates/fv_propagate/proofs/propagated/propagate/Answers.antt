@@ -30,72 +30,84 @@ walk-requires-clause-free c =
 
 pub finish-requires-clause-closed : goal.finish-requires-clause-closed
 finish-requires-clause-closed c =
+    let r = c.requires in
+    let n = c.arity.ensures.numbers in
     let d = tree_of c.args.diagrams.now c.args.root in
     let ds = c.args.delays.now in
-    let is : (c.in_ok-outs.outs.items, c.walk.new.signals) ≡ made d ds c.requires.well c.requires.closed c.arity.ensures.numbers =
+    let is : (c.in_ok-outs.outs.items, c.walk.new.signals) ≡ made d ds r.well r.closed n r.tableless =
     made_is d ds c.in_ok-ins.ins.items c.in_ok-outs.outs.items c.from-count.result c.new-2.result c.in_ok-progress.progress c.inputs.new.self c.walk.new.signals
     (c.from-count.ensures ∙ c.arity.ensures.arity.0) c.in_ok-progress.ensures c.in_ok-ins.ensures c.new-2.ensures c.in_ok-outs.ensures.walked in
-    subst (λ (r : List ℕ × Progress). AreClosed r.1.draft) (sym is) (made_closed d ds c.requires.well c.requires.closed c.arity.ensures.numbers)
+    subst (λ (r : List ℕ × Progress). AreClosed r.1.draft) (sym is) (made_closed d ds r.well r.closed n r.tableless)
 
 pub returns-clause-values : goal.returns-clause-values
 returns-clause-values c =
+    let r = c.requires in
+    let n = c.arity.ensures.numbers in
     let d = tree_of c.args.diagrams.now c.args.root in
     let ds = c.args.delays.now in
-    let is : (c.in_ok-outs.outs.items, c.walk.new.signals) ≡ made d ds c.requires.well c.requires.closed c.arity.ensures.numbers =
+    let is : (c.in_ok-outs.outs.items, c.walk.new.signals) ≡ made d ds r.well r.closed n r.tableless =
     made_is d ds c.in_ok-ins.ins.items c.in_ok-outs.outs.items c.from-count.result c.new-2.result c.in_ok-progress.progress c.inputs.new.self c.walk.new.signals
     (c.from-count.ensures ∙ c.arity.ensures.arity.0) c.in_ok-progress.ensures c.in_ok-ins.ensures c.new-2.ensures c.in_ok-outs.ensures.walked in
-    let same : graph_of c.walk.new.signals.draft c.deref.result.now ≡ graph d ds c.requires.well c.requires.closed c.arity.ensures.numbers =
+    let same : graph_of c.walk.new.signals.draft c.deref.result.now ≡ graph d ds r.well r.closed n r.tableless =
     ap (graph_of c.walk.new.signals.draft) c.deref.ensures.value ∙ ap (λ (r : List ℕ × Progress). graph_of r.1.draft r.0) is in
-    let g : c.in_ok-graph.graph ≡ graph d ds c.requires.well c.requires.closed c.arity.ensures.numbers = c.in_ok-graph.ensures.graph ∙ same in
+    let g : c.in_ok-graph.graph ≡ graph d ds r.well r.closed n r.tableless = c.in_ok-graph.ensures.graph ∙ same in
     subst (λ (g : Graph). (spans : List Interval) → AreAccepted (delays_of d spans) ds → Propagates d spans g) (sym g)
-    (propagates d ds c.requires.well c.requires.closed c.arity.ensures.numbers (subst IsGraph same c.in_ok-graph.ensures.whole))
+    (propagates d ds r.well r.closed n r.tableless (subst IsGraph same c.in_ok-graph.ensures.whole))
 
 pub returns-clause-delays : goal.returns-clause-delays
 returns-clause-delays c =
+    let r = c.requires in
+    let n = c.arity.ensures.numbers in
     let d = tree_of c.args.diagrams.now c.args.root in
     let ds = c.args.delays.now in
-    let is : (c.in_ok-outs.outs.items, c.walk.new.signals) ≡ made d ds c.requires.well c.requires.closed c.arity.ensures.numbers =
+    let is : (c.in_ok-outs.outs.items, c.walk.new.signals) ≡ made d ds r.well r.closed n r.tableless =
     made_is d ds c.in_ok-ins.ins.items c.in_ok-outs.outs.items c.from-count.result c.new-2.result c.in_ok-progress.progress c.inputs.new.self c.walk.new.signals
     (c.from-count.ensures ∙ c.arity.ensures.arity.0) c.in_ok-progress.ensures c.in_ok-ins.ensures c.new-2.ensures c.in_ok-outs.ensures.walked in
-    let same : graph_of c.walk.new.signals.draft c.deref.result.now ≡ graph d ds c.requires.well c.requires.closed c.arity.ensures.numbers =
+    let same : graph_of c.walk.new.signals.draft c.deref.result.now ≡ graph d ds r.well r.closed n r.tableless =
     ap (graph_of c.walk.new.signals.draft) c.deref.ensures.value ∙ ap (λ (r : List ℕ × Progress). graph_of r.1.draft r.0) is in
-    let g : c.in_ok-graph.graph ≡ graph d ds c.requires.well c.requires.closed c.arity.ensures.numbers = c.in_ok-graph.ensures.graph ∙ same in
+    let g : c.in_ok-graph.graph ≡ graph d ds r.well r.closed n r.tableless = c.in_ok-graph.ensures.graph ∙ same in
     subst (λ (g : Graph). (spans : List Interval) → AreAccepted (delays_of d spans) ds → DelaysStayWithin d spans g) (sym g)
-    (stays_within d ds c.requires.well c.requires.closed c.arity.ensures.numbers (subst IsGraph same c.in_ok-graph.ensures.whole))
+    (stays_within d ds r.well r.closed n r.tableless (subst IsGraph same c.in_ok-graph.ensures.whole))
 
 pub returns-clause-short : goal.returns-clause-short
 returns-clause-short c =
+    let r = c.requires in
+    let n = c.arity.ensures.numbers in
     let d = tree_of c.args.diagrams.now c.args.root in
     let ds = c.args.delays.now in
-    let is : (c.in_ok-outs.outs.items, c.walk.new.signals) ≡ made d ds c.requires.well c.requires.closed c.arity.ensures.numbers =
+    let is : (c.in_ok-outs.outs.items, c.walk.new.signals) ≡ made d ds r.well r.closed n r.tableless =
     made_is d ds c.in_ok-ins.ins.items c.in_ok-outs.outs.items c.from-count.result c.new-2.result c.in_ok-progress.progress c.inputs.new.self c.walk.new.signals
     (c.from-count.ensures ∙ c.arity.ensures.arity.0) c.in_ok-progress.ensures c.in_ok-ins.ensures c.new-2.ensures c.in_ok-outs.ensures.walked in
-    let same : graph_of c.walk.new.signals.draft c.deref.result.now ≡ graph d ds c.requires.well c.requires.closed c.arity.ensures.numbers =
+    let same : graph_of c.walk.new.signals.draft c.deref.result.now ≡ graph d ds r.well r.closed n r.tableless =
     ap (graph_of c.walk.new.signals.draft) c.deref.ensures.value ∙ ap (λ (r : List ℕ × Progress). graph_of r.1.draft r.0) is in
-    let g : c.in_ok-graph.graph ≡ graph d ds c.requires.well c.requires.closed c.arity.ensures.numbers = c.in_ok-graph.ensures.graph ∙ same in
+    let g : c.in_ok-graph.graph ≡ graph d ds r.well r.closed n r.tableless = c.in_ok-graph.ensures.graph ∙ same in
     subst (λ (g : Graph). (spans : List Interval) → AreSpans spans → AreAccepted (delays_of d spans) ds → AreShort g) (sym g)
-    (stays_short d ds c.requires.well c.requires.closed c.arity.ensures.numbers (subst IsGraph same c.in_ok-graph.ensures.whole))
+    (stays_short d ds r.well r.closed n r.tableless (subst IsGraph same c.in_ok-graph.ensures.whole))
 
 pub returns-clause-width : goal.returns-clause-width
 returns-clause-width c =
+    let r = c.requires in
+    let n = c.arity.ensures.numbers in
     let d = tree_of c.args.diagrams.now c.args.root in
     let ds = c.args.delays.now in
-    let is : (c.in_ok-outs.outs.items, c.walk.new.signals) ≡ made d ds c.requires.well c.requires.closed c.arity.ensures.numbers =
+    let is : (c.in_ok-outs.outs.items, c.walk.new.signals) ≡ made d ds r.well r.closed n r.tableless =
     made_is d ds c.in_ok-ins.ins.items c.in_ok-outs.outs.items c.from-count.result c.new-2.result c.in_ok-progress.progress c.inputs.new.self c.walk.new.signals
     (c.from-count.ensures ∙ c.arity.ensures.arity.0) c.in_ok-progress.ensures c.in_ok-ins.ensures c.new-2.ensures c.in_ok-outs.ensures.walked in
-    let same : graph_of c.walk.new.signals.draft c.deref.result.now ≡ graph d ds c.requires.well c.requires.closed c.arity.ensures.numbers =
+    let same : graph_of c.walk.new.signals.draft c.deref.result.now ≡ graph d ds r.well r.closed n r.tableless =
     ap (graph_of c.walk.new.signals.draft) c.deref.ensures.value ∙ ap (λ (r : List ℕ × Progress). graph_of r.1.draft r.0) is in
-    let g : c.in_ok-graph.graph ≡ graph d ds c.requires.well c.requires.closed c.arity.ensures.numbers = c.in_ok-graph.ensures.graph ∙ same in
-    ap (λ (g : Graph). length g.outputs) g ∙ made_wide d ds c.requires.well c.requires.closed c.arity.ensures.numbers
+    let g : c.in_ok-graph.graph ≡ graph d ds r.well r.closed n r.tableless = c.in_ok-graph.ensures.graph ∙ same in
+    ap (λ (g : Graph). length g.outputs) g ∙ made_wide d ds r.well r.closed n r.tableless
 
 pub returns-clause-names : goal.returns-clause-names
 returns-clause-names c =
+    let r = c.requires in
+    let n = c.arity.ensures.numbers in
     let d = tree_of c.args.diagrams.now c.args.root in
     let ds = c.args.delays.now in
-    let is : (c.in_ok-outs.outs.items, c.walk.new.signals) ≡ made d ds c.requires.well c.requires.closed c.arity.ensures.numbers =
+    let is : (c.in_ok-outs.outs.items, c.walk.new.signals) ≡ made d ds r.well r.closed n r.tableless =
     made_is d ds c.in_ok-ins.ins.items c.in_ok-outs.outs.items c.from-count.result c.new-2.result c.in_ok-progress.progress c.inputs.new.self c.walk.new.signals
     (c.from-count.ensures ∙ c.arity.ensures.arity.0) c.in_ok-progress.ensures c.in_ok-ins.ensures c.new-2.ensures c.in_ok-outs.ensures.walked in
-    let same : graph_of c.walk.new.signals.draft c.deref.result.now ≡ graph d ds c.requires.well c.requires.closed c.arity.ensures.numbers =
+    let same : graph_of c.walk.new.signals.draft c.deref.result.now ≡ graph d ds r.well r.closed n r.tableless =
     ap (graph_of c.walk.new.signals.draft) c.deref.ensures.value ∙ ap (λ (r : List ℕ × Progress). graph_of r.1.draft r.0) is in
-    let g : c.in_ok-graph.graph ≡ graph d ds c.requires.well c.requires.closed c.arity.ensures.numbers = c.in_ok-graph.ensures.graph ∙ same in
-    subst (NamesWithin d) (sym g) (names_within d ds c.requires.well c.requires.closed c.arity.ensures.numbers)
+    let g : c.in_ok-graph.graph ≡ graph d ds r.well r.closed n r.tableless = c.in_ok-graph.ensures.graph ∙ same in
+    subst (NamesWithin d) (sym g) (names_within d ds r.well r.closed n r.tableless)

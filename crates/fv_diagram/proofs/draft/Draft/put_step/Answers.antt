@@ -4,5 +4,5 @@ use Rattle.fv_diagram.proofs.draft.Draft.put_step.Goals as goal
 
 pub invariant_of-self-2 : goal.invariant_of-self-2
 invariant_of-self-2 c =
-    code_put (code_of c.self.inside) c.args.self.now c.args.step _ c.self.view_is c.self.invariant c.requires.operands c.requires.within c.requires.kept
+    code_put (code_of c.self.inside) c.args.self.now c.args.step _ c.self.view_is c.self.invariant c.requires.operands c.requires.within c.requires.kept c.requires.begun
     c.in_ok-push.ensures.items

@@ -18,7 +18,7 @@ invariant_of-self c =
     let a = c.self.inside.diagrams in
     let b = c.put.new.diagrams in
     let n = c.args.node.now in
-    let below = subst (λ (x : Canvas). ChildrenBelow (count_of x.diagrams) n) (sym c.self.view_is) c.requires in
+    let below = subst (λ (x : Canvas). ChildrenBelow (count_of x.diagrams) n) (sym c.self.view_is) c.requires.children in
     let grown = put_extends (canvas a) (canvas b) n c.put.result c.put.ensures.added c.put.ensures.err c.put.ensures.keeps in (
       put_composed a b n c.put.result c.self.invariant.0 below c.put.ensures.added c.put.ensures.composed c.put.ensures.err,
       still_remembers (canvas a) (canvas b) c.self.inside.numbers grown c.self.invariant.1,
