@@ -13,7 +13,7 @@ use Rattle.fv_share.specs.Drafts.{Draft, AreClosed, graph_of}
 use Rattle.fv_join.specs.declared.job.Job.{Job}
 use Rattle.fv_join.specs.declared.copying.Offsets.{Offsets}
 use Rattle.fv_join.specs.Jobs.{CanBeJoined, NamesBelow, ReadsWithin, inputs_of, controls_of, outputs_of}
-use Rattle.fv_join.specs.Joined.{HasDelay, IsJoined, KeepsValues, output}
+use Rattle.fv_join.specs.Joined.{HasDelay, IsJoined, IsNamed, KeepsValues, output}
 use Rattle.fv_join.specs.inner.Copied.{renumbered, IsAppended, IsCopied, IsOneOf, IsSound}
 use Rattle.fv_join.proofs.Images.{all_below, at_prefix, image_stays, prefix_long}
 use Rattle.fv_join.proofs.Values.{keeps}
@@ -148,6 +148,25 @@ delay_named p o (Point op args) x by max e = absurd cc
 delay_named p o (Back own j) x by max e = absurd cc
 delay_named p o (Member own j) x by max e = absurd cc
 
+-- an Input and a Control that a signal is renumbered to
+input_named : (p : ℕ → ℕ) (o : Offsets) (m : Signal) (i : ℕ) → Input i ≡ renumbered p o m → (own : ℕ) × (m ≡ Input own) × (i ≡ o.inputs + own)
+input_named p o (Input j) i e = (j, refl, cc)
+input_named p o (Const j) i e = absurd cc
+input_named p o (Control j) i e = absurd cc
+input_named p o (Point op args) i e = absurd cc
+input_named p o (Delay x by max) i e = absurd cc
+input_named p o (Back own j) i e = absurd cc
+input_named p o (Member own j) i e = absurd cc
+
+control_named : (p : ℕ → ℕ) (o : Offsets) (m : Signal) (k : ℕ) → Control k ≡ renumbered p o m → (own : ℕ) × (m ≡ Control own) × (k ≡ o.controls + own)
+control_named p o (Input j) k e = absurd cc
+control_named p o (Const j) k e = absurd cc
+control_named p o (Control j) k e = (j, refl, cc)
+control_named p o (Point op args) k e = absurd cc
+control_named p o (Delay x by max) k e = absurd cc
+control_named p o (Back own j) k e = absurd cc
+control_named p o (Member own j) k e = absurd cc
+
 -- the numbers that a signal names, behind others
 names_behind : (p : ℕ → ℕ) (o : Offsets) (m : Signal) (inputs controls more most : ℕ) → NamesBelow inputs controls m → o.inputs + inputs ≤ more
     → o.controls + controls ≤ most → NamesBelow more most (renumbered p o m)
@@ -187,6 +206,32 @@ module _ (jobs : List Job) (d : Draft) (outs : List ℕ) (h : AreJoined jobs (le
             (record { within = one.within; is = named.2 });
       }
 
+  have_inputs : (s i : ℕ) → StandsAt f s (Input i) → IsNamed inputs_of Input jobs i
+  have_inputs s i stands =
+      let q = h.made s stands.within in
+      let one = q.one in
+      let named = input_named one.images (behind jobs q.number q.groups) (node q.job.graph one.place) i (sym stands.is ∙ one.is) in record {
+        number = q.number;
+        within = q.within;
+        own = named.0;
+        is = named.2;
+        s = one.place;
+        stands = λ e. subst (λ (j : Job). StandsAt j.graph one.place (Input named.0)) (sym (q.is e)) (record { within = one.within; is = named.1 });
+      }
+
+  have_controls : (s k : ℕ) → StandsAt f s (Control k) → IsNamed controls_of Control jobs k
+  have_controls s k stands =
+      let q = h.made s stands.within in
+      let one = q.one in
+      let named = control_named one.images (behind jobs q.number q.groups) (node q.job.graph one.place) k (sym stands.is ∙ one.is) in record {
+        number = q.number;
+        within = q.within;
+        own = named.0;
+        is = named.2;
+        s = one.place;
+        stands = λ e. subst (λ (j : Job). StandsAt j.graph one.place (Control named.0)) (sym (q.is e)) (record { within = one.within; is = named.1 });
+      }
+
   read_within : ReadsWithin (inputs_of jobs) (controls_of jobs) f
   read_within s e l =
       let q = h.made s l in
@@ -203,10 +248,13 @@ module _ (jobs : List Job) (d : Draft) (outs : List ℕ) (h : AreJoined jobs (le
 
   joined : IsJoined jobs f
   joined = record {
+    finished = made;
     values = keep_values;
     width = h.wide ∙ ap outputs_of (take_all (length jobs) jobs (omega arith));
     delays = have_delays;
     reads = read_within;
+    inputs = have_inputs;
+    controls = have_controls;
   }
 
 pub joined_result : {E : Type 0} (jobs : List Job) (d : Draft) (outs : List ℕ) (r : Result Graph E) → AreJoined jobs (length jobs) d outs → CanBeJoined jobs

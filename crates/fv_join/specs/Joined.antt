@@ -2,8 +2,9 @@
 use Rattle.std.specs.Prelude.{◌≡◌, ℕ, ◌+◌, ◌<◌, List, length, take, drop, map, slice_index_or}
 use Rattle.fv_num.specs.Frames.{Frame, Stream}
 use Rattle.fv_analysis.specs.Stands.{StandsAt}
-use Rattle.fv_signal.specs.declared.signal.Signal.TheVariants.{Delay}
-use Rattle.fv_signal.specs.Value.{Graph, value}
+use Rattle.fv_signal.specs.declared.signal.Signal.{Signal}
+use Rattle.fv_signal.specs.declared.signal.Signal.TheVariants.{Input, Control, Delay}
+use Rattle.fv_signal.specs.Value.{Graph, value, IsGraph}
 use Rattle.fv_join.specs.declared.job.Job.{Job}
 use Rattle.fv_join.specs.Jobs.{ReadsWithin, inputs_of, controls_of, outputs_of}
 
@@ -39,9 +40,22 @@ pub record HasDelay (jobs : List Job) (max : ℕ) : Type 0 where
   pub by : ℕ
   pub stands : (d : Job) → StandsAt (let job = slice_index_or jobs number d in job.graph) s (Delay x by max)
 
+-- some job's graph names this by such a signal, which is the input or the control with this number behind those of the jobs before
+pub record IsNamed (count : List Job → ℕ) (such : ℕ → Signal) (jobs : List Job) (n : ℕ) : Type 0 where
+  pub number : ℕ
+  pub within : number < length jobs
+  pub own : ℕ
+  pub is : n ≡ count (take number jobs) + own
+  pub s : ℕ
+  pub stands : (d : Job) → StandsAt (let job = slice_index_or jobs number d in job.graph) s (such own)
+
 -- f is the graphs of the jobs side by side
 pub record IsJoined (jobs : List Job) (f : Graph) : Type 0 where
+  pub finished : IsGraph f
   pub values : KeepsValues jobs f
   pub width : length f.outputs ≡ outputs_of jobs
   pub delays : (s x by max : ℕ) → StandsAt f s (Delay x by max) → HasDelay jobs max
   pub reads : ReadsWithin (inputs_of jobs) (controls_of jobs) f
+  -- and names no input and no control that none of their graphs names
+  pub inputs : (s i : ℕ) → StandsAt f s (Input i) → IsNamed inputs_of Input jobs i
+  pub controls : (s k : ℕ) → StandsAt f s (Control k) → IsNamed controls_of Control jobs k

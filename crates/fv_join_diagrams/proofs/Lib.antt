@@ -2,3 +2,4 @@ pub mod Shifted
 pub mod Whole
 pub mod Beside
 pub mod Propagating
+pub mod Naming

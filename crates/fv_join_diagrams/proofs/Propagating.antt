@@ -53,7 +53,7 @@ find_place f (x ∷ xs) i l = elim (cases_lt i (f x)) [
 ]
 
 -- lists whose items have the same numbers have the same sums
-same_sums : {A B : Type 0} (f : A → ℕ) (g : B → ℕ) (xs : List A) (ys : List B) (x : A) (y : B) → length xs ≡ length ys
+pub same_sums : {A B : Type 0} (f : A → ℕ) (g : B → ℕ) (xs : List A) (ys : List B) (x : A) (y : B) → length xs ≡ length ys
     → ((k : ℕ) → k < length xs → f (get_or xs k x) ≡ g (get_or ys k y)) → (k : ℕ) → k ≤ length xs → sum_by f (take k xs) ≡ sum_by g (take k ys)
 same_sums f g xs ys x y l h zero m = refl
 same_sums f g xs ys x y l h (suc k) m =

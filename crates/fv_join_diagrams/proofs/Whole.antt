@@ -1,7 +1,8 @@
 -- Parts side by side are well formed.
 use Rattle.std.proofs.Common.{◌⊎◌, inl, inr, ℕ, suc, ◌+◌, ◌%◌, ◌≤◌, [], ◌∷◌, length, refl, sym, ap₂, ◌∙◌, subst, arith}
 use Rattle.std.proofs.lemmas.List.Sums.{sum_by-cons}
-use Rattle.fv_diagram.specs.Diagram.{Diagram, Primitive, Constant, Control, Slot, Wave, Table, Bind, Par, Seq, Split, Merge, Rec, inputs, outputs, HasNoFreeSlot, IsFree, IsWellFormed}
+use Rattle.fv_diagram.specs.Diagram.{Diagram, Primitive, Constant, Control, Slot, Wave, Table, Bind, Par, Seq, Split, Merge, Rec, inputs, outputs}
+use Rattle.fv_diagram.specs.Diagram.{control_bound, HasNoFreeSlot, IsFree, IsWellFormed}
 use Rattle.fv_join_diagrams.specs.Parts.{Part, AreClosed, PartsAreWhole, shifted, side_by_side}
 use Rattle.fv_join_diagrams.proofs.Shifted.{inputs_shifted, outputs_shifted}
 
@@ -55,8 +56,22 @@ free_shifted n s (Split a b) h = either n s a b (free_shifted n s a) (free_shift
 free_shifted n s (Merge a b) h = either n s a b (free_shifted n s a) (free_shifted n s b) h
 free_shifted n s (Rec a b) h = either n s a b (free_shifted n s a) (free_shifted n s b) h
 
+bound_shifted : (n : ℕ) (d : Diagram) → control_bound (shifted n d) ≤ n + control_bound d
+bound_shifted n (Primitive p) = omega arith
+bound_shifted n (Constant z) = omega arith
+bound_shifted n (Control k) = omega arith
+bound_shifted n (Slot s) = omega arith
+bound_shifted n (Wave w) = omega arith
+bound_shifted n (Table T writes) = omega arith
+bound_shifted n (Bind s a) = bound_shifted n a
+bound_shifted n (Par a b) = omega (arith, bound_shifted n a, bound_shifted n b)
+bound_shifted n (Seq a b) = omega (arith, bound_shifted n a, bound_shifted n b)
+bound_shifted n (Split a b) = omega (arith, bound_shifted n a, bound_shifted n b)
+bound_shifted n (Merge a b) = omega (arith, bound_shifted n a, bound_shifted n b)
+bound_shifted n (Rec a b) = omega (arith, bound_shifted n a, bound_shifted n b)
+
 pub parts_are_whole : PartsAreWhole
-parts_are_whole n [] = record { inputs = refl; outputs = refl; well = λ h. (tt, refl, refl); closed = λ h s f. none s f }
+parts_are_whole n [] = record { inputs = refl; outputs = refl; controls = λ h. omega arith; well = λ h. (tt, refl, refl); closed = λ h s f. none s f }
   where
     none : (s : ℕ) → ⊥ ⊎ ⊥ → ⊥
     none s (inl f) = f
@@ -64,6 +79,10 @@ parts_are_whole n [] = record { inputs = refl; outputs = refl; well = λ h. (tt,
 parts_are_whole n (p ∷ ps) = let w = parts_are_whole (n + length p.spans) ps in record {
   inputs = ap₂ (λ a b. a + b) (inputs_shifted n p.diagram) w.inputs ∙ sym (sum_by-cons (λ (q : Part). inputs q.diagram) p ps);
   outputs = ap₂ (λ a b. a + b) (outputs_shifted n p.diagram) w.outputs ∙ sym (sum_by-cons (λ (q : Part). outputs q.diagram) p ps);
+  controls = λ h.
+      let own = h 0 p (omega arith) in
+      let others = w.controls (λ k d l. h (suc k) d (omega (arith, l))) in
+      omega (arith, bound_shifted n p.diagram, own, others, sum_by-cons (λ (q : Part). length q.spans) p ps);
   well = λ h. (well_shifted n p.diagram (h 0 p (omega arith)), w.well (λ k d l. h (suc k) d (omega (arith, l))));
   closed = λ h s f. free s h (w.closed (λ k d l. h (suc k) d (omega (arith, l)))) f;
 }

@@ -1,5 +1,5 @@
 -- Diagrams side by side, each with controls of its own (this project's profile).
-use Rattle.std.specs.Prelude.{◌≡◌, ℕ, ◌+◌, ◌<◌, List, [], ◌∷◌, length, take, flat_map, All, pos, slice_index_or}
+use Rattle.std.specs.Prelude.{◌≡◌, ℕ, ◌+◌, ◌<◌, ◌≤◌, List, [], ◌∷◌, length, take, flat_map, All, pos, slice_index_or}
 use Rattle.std.specs.List.{sum_by}
 use Rattle.fv_num.specs.Interval.{Interval}
 use Rattle.fv_diagram.specs.declared.node.Primitive.TheVariants.{Cut}
@@ -62,16 +62,22 @@ AreWellFormed ps = (k : ℕ) (d : Part) → k < length ps → IsWellFormed (let 
 abbrev pub AreClosed : List Part → Type 0
 AreClosed ps = (k : ℕ) (d : Part) → k < length ps → HasNoFreeSlot (let p = slice_index_or ps k d in p.diagram)
 
--- The diagram has the inputs and outputs of all parts, is well formed where each part is, and has no free slot where none has.
-pub record IsWhole (ps : List Part) (d : Diagram) : Type 0 where
+-- each part has a span for each control that it names
+abbrev pub HaveControls : List Part → Type 0
+HaveControls ps = (k : ℕ) (d : Part) → k < length ps → (let p = slice_index_or ps k d in control_bound p.diagram ≤ length p.spans)
+
+-- The diagram has the inputs and outputs of all parts, and names no control behind theirs where n stand before them. It is well
+-- formed where each part is, and has no free slot where none has.
+pub record IsWhole (n : ℕ) (ps : List Part) (d : Diagram) : Type 0 where
   pub inputs : inputs d ≡ inputs_of ps
   pub outputs : outputs d ≡ outputs_of ps
+  pub controls : HaveControls ps → control_bound d ≤ n + controls_of ps
   pub well : AreWellFormed ps → IsWellFormed d
   pub closed : AreClosed ps → HasNoFreeSlot d
 
 -- so it is with parts side by side
 abbrev pub PartsAreWhole : Type 0
-PartsAreWhole = (n : ℕ) (ps : List Part) → IsWhole ps (side_by_side n ps)
+PartsAreWhole = (n : ℕ) (ps : List Part) → IsWhole n ps (side_by_side n ps)
 
 -- Each output of part k is at every time that of the part's own diagram, on the part's columns of the frames and on its controls.
 abbrev pub PartsAnswer : Type 0

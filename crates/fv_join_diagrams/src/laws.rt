@@ -3,7 +3,7 @@
 ghost use Rattle.fv_signal.specs.Value.{Graph};
 ghost use Rattle.fv_diagram.specs.Diagram.{Diagram};
 ghost use Rattle.fv_join_diagrams.specs.Parts.{ShiftedAnswers, PartsAreWhole, PartsAnswer, PartsAnswerAlike};
-ghost use Rattle.fv_join_diagrams.specs.OfParts.{JoinedPropagates};
+ghost use Rattle.fv_join_diagrams.specs.OfParts.{JoinedPropagates, JoinedAreWide, JoinedNames};
 
 /// A diagram whose controls are numbered behind others answers what it does on its own controls.
 pub fn shifted_answers()
@@ -28,4 +28,15 @@ pub fn parts_answer_alike()
 /// Where each job's graph gives what a diagram gives, all of them joined give what the diagrams side by side give.
 pub fn joined_propagates()
     ensures { (f : Graph) → JoinedPropagates f }
+{}
+
+/// And they have the outputs of the diagrams side by side.
+pub fn joined_are_wide()
+    ensures { (f : Graph) → JoinedAreWide f }
+{}
+
+/// Where each job's graph names only inputs and controls of its diagram, all of them joined name only those of the diagrams side by
+/// side.
+pub fn joined_names()
+    ensures { (f : Graph) → JoinedNames f }
 {}

@@ -4,5 +4,6 @@
 mod laws;
 
 pub use laws::{
-    joined_propagates, parts_answer, parts_answer_alike, parts_are_whole, shifted_answers,
+    joined_are_wide, joined_names, joined_propagates, parts_answer, parts_answer_alike,
+    parts_are_whole, shifted_answers,
 };
