@@ -33,7 +33,6 @@ use Rattle.fv_rules.specs.Shows.{World, IsNamed, IsFunction, IsInside, given_nam
 use Rattle.fv_rules.specs.Shows.{ShowsTaken, ShowsMeaning}
 use Rattle.fv_rules.specs.declared.value.Ruled.{Ruled}
 use Rattle.fv_rules.proofs.RuleNodes.{IsNoFunction, AreOfName}
-use Rattle.fv_rules.specs.Ways.{BindsAnother}
 use Rattle.fv_rules.specs.inner.Lookup.{SaysOrPasses, IsMade, StillReaches, outer, is_name, are_names}
 
 -- ---- what definitions make of a name
@@ -321,6 +320,11 @@ other_name w n name o (suc i) u x (Bound y v E) h other named m =
     passes : (b : Bool) (p q : Meaning) → (b ≡ true → ⊥) → cond b p q ≡ q
     passes true p q h = absurd (h refl)
     passes false p q h = refl
+
+-- the innermost scope of an environment binds another name, and this environment is around it
+abbrev pub BindsAnother : List code_scope.Scope → (name env outer : ℕ) → Type 0
+BindsAnother scopes name env outer =
+    (other : ℕ) × (u : code_value.Value) × (scope_in scopes env ≡ Some (scope.Bound other u outer)) × (other ≡ name → ⊥)
 
 pub look_passes : {p : Parsed} {scopes : List code_scope.Scope} {name env at next : ℕ} → StillReaches p scopes name env at
     → BindsAnother scopes name at next → StillReaches p scopes name env next

@@ -1,6 +1,6 @@
 -- The definitions of a list, by name.
 use Rattle.std.proofs.Common.{◌≡◌, ◌⊎◌, ℕ, zero, suc, ◌+◌, ◌-◌, ◌<◌, ◌≤◌, arith, Bool, true, false, cond, List, [], ◌∷◌, ◌++◌, length, map, take}
-use Rattle.std.proofs.Common.{drop, get_or, Option, Some, None, inl, inr, refl, sym, ap, ap₂, subst, ◌∙◌, All, length-drop}
+use Rattle.std.proofs.Common.{drop, get_or, Option, Some, None, inl, inr, refl, sym, ap, ap₂, subst, ◌∙◌, All, length-drop, append_assoc}
 use Rattle.std.specs.Prelude.{filter, nat_eq, nat_lt, nat_le, not, ◌&&◌}
 use Rattle.std.specs.List.Sorted.{IsPartitionPoint, IsPermutation, IsStableByKey, ties}
 use Rattle.std.specs.Ordering.{nat_cmp, is_lt}
@@ -8,8 +8,8 @@ use Rattle.std.specs.declared.cmp.Ordering.TheVariants.{Less, Equal, Greater}
 use Rattle.std.specs.Str.{bytes_eq}
 use Rattle.std.specs.List.{cons_option}
 use Rattle.std.proofs.lemmas.Bool.{eq-eqb, eqb-true, ltb-true, leb-true, ltb-false, leb-false, false≢true, cases_lt}
-use Rattle.std.proofs.lemmas.List.Elements.{All-nil, All-cons, All-tail, filter_map-append, filter_agree, All-filter}
-use Rattle.std.proofs.lemmas.List.{take_more, get_or-drop, get_or_push, get_or_append_left, length_push}
+use Rattle.std.proofs.lemmas.List.Elements.{All-nil, All-cons, All-tail, filter-append, filter_map-append, filter_agree, All-filter}
+use Rattle.std.proofs.lemmas.List.{map-append, take_more, get_or-drop, get_or_push, get_or_append_left, length_push}
 use Rattle.std.proofs.lemmas.List.Sorted.{All-permutation}
 use Rattle.std.proofs.lemmas.Slice.Eq.{bytes_eq-Decides}
 use Rattle.fv_lex.specs.Token.{Lexed}
@@ -23,7 +23,8 @@ use Rattle.fv_parse_tree.specs.declared.node.TreeNode.TheVariants as nodes
 use Rattle.fv_rules.specs.declared.by_name.Defined.{Defined}
 use Rattle.fv_rules.specs.Values.{is_of}
 use Rattle.fv_rules.proofs.RuleNodes.{IsNoFunction, AreOfName}
-use Rattle.fv_rules.specs.ByName.{is_called, defined_name, called, defined_in, AreDefined, AreIndexed}
+use Rattle.fv_rules.specs.ByName.{is_called, defined_name, called, defined_in, held_by, IsAmong, AreDefined, AreIndexed, AreHeld}
+use Rattle.fv_rules.specs.inner.Lookup.{HoldsNone}
 
 -- ---- what passes a test from one place up to another, and nowhere else
 
@@ -264,3 +265,76 @@ called_in {p} {lists = lists} {list = list} {i = i} {name = name} {ds = ds} {fou
   where
     at : AreDefined p i ds
     at = subst (AreDefined p i) (sym here) (h.each i ds l)
+
+-- ---- the lists that define a name
+
+pub held_begins : AreHeld [] []
+held_begins = record { none = λ i n d l h. absurd (omega (arith, l)) }
+
+among_left : (xs ys : List Defined) (i : ℕ) → IsAmong xs i → IsAmong (xs ++ ys) i
+among_left [] ys i h = absurd h
+among_left (x ∷ xs) ys i (inl e) = inl e
+among_left (x ∷ xs) ys i (inr h) = inr (among_left xs ys i h)
+
+among_right : (xs ys : List Defined) (i : ℕ) → IsAmong ys i → IsAmong (xs ++ ys) i
+among_right [] ys i h = h
+among_right (x ∷ xs) ys i h = inr (among_right xs ys i h)
+
+-- a list that is no holder of a name has no definition of it
+not_held : (n : ℕ) (id : TreeId) (ds : List Defined) → (IsAmong (filter (is_called n) (held_by id ds)) id → ⊥) → filter (is_called n) ds ≡ []
+not_held n id [] h = refl
+not_held n id (d ∷ ds) h =
+    go (nat_eq d.name n) (filter (is_called n) (held_by id ds)) (filter (is_called n) ds) h (λ q. not_held n id ds q)
+  where
+    go : (b : Bool) (hs es : List Defined) → (IsAmong (cond b (record { name = d.name; node = id } ∷ hs) hs) id → ⊥) → ((IsAmong hs id → ⊥) → es ≡ [])
+        → cond b (d ∷ es) es ≡ []
+    go true hs es h f = absurd (h (inl refl))
+    go false hs es h f = f h
+
+pub held_more : (lists more : List (List Defined)) (hs ks ds : List Defined) (id : TreeId) → AreHeld lists hs → id ≡ length lists
+    → more ≡ lists ++ ds ∷ [] → ks ≡ hs ++ held_by id ds → AreHeld more ks
+held_more lists more hs ks ds id h place pushed held = record { none = λ i n d l q. go i n d l q (cases_lt i (length lists)) }
+  where
+    split : (n : ℕ) → filter (is_called n) ks ≡ filter (is_called n) hs ++ filter (is_called n) (held_by id ds)
+    split n = ap (filter (is_called n)) held ∙ filter-append (is_called n) hs (held_by id ds)
+
+    go : (i n : ℕ) (d : List Defined) → i < length more → (IsAmong (filter (is_called n) ks) i → ⊥) → (i < length lists) ⊎ (length lists ≤ i)
+        → filter (is_called n) (get_or more i d) ≡ []
+    go i n d l q (inl lt) =
+        ap (λ ls. filter (is_called n) (get_or ls i d)) pushed
+        ∙ ap (filter (is_called n)) (get_or_append_left lists (ds ∷ []) d i lt)
+        ∙ h.none i n d lt (λ a. q (subst (λ xs. IsAmong xs i) (sym (split n))
+        (among_left (filter (is_called n) hs) (filter (is_called n) (held_by id ds)) i a)))
+    go i n d l q (inr ge) =
+        let long : length more ≡ length lists + 1 = ap length pushed ∙ length_push lists ds in
+        let same : id ≡ i = omega (arith, place, ge, l, long) in
+        ap (λ ls. filter (is_called n) (get_or ls i d)) pushed
+        ∙ ap (λ k. filter (is_called n) (get_or (lists ++ ds ∷ []) k d)) (sym same)
+        ∙ ap (filter (is_called n)) (get_or_push lists ds d id (sym place))
+        ∙ not_held n id ds (λ a. q (subst (λ xs. IsAmong xs i) (sym (split n))
+        (among_right (filter (is_called n) hs) (filter (is_called n) (held_by id ds)) i (subst (IsAmong (filter (is_called n) (held_by id ds))) same a))))
+
+pub held_sorted : (lists : List (List Defined)) (hs ks : List Defined) → ((n : ℕ) → filter (is_called n) ks ≡ filter (is_called n) hs) → AreHeld lists hs
+    → AreHeld lists ks
+held_sorted lists hs ks same h =
+    record { none = λ i n d l q. h.none i n d l (λ a. q (subst (λ xs. IsAmong xs i) (sym (same n)) a)) }
+
+pub holds_none : (p q : Parsed) (lists : List (List Defined)) (hs found : List Defined) (name : ℕ) → p ≡ q → AreIndexed p lists → AreHeld lists hs
+    → found ≡ filter (is_called name) hs → HoldsNone q name (IsAmong found)
+holds_none p q lists hs found name view h held is =
+    subst (λ (r : Parsed). HoldsNone r name (IsAmong found)) view (λ list n inside other e.
+    let l : list < length lists = omega (arith, inside, h.whole) in
+    let none = held.none list name [] l (λ a. other (subst (λ xs. IsAmong xs list) (sym is) a)) in
+    sym ((h.each list [] l).found n)
+    ∙ ap (λ m. map (λ (d : Defined). tree_in p d.node) (filter (is_called m) (get_or lists list []))) e
+    ∙ ap (map (λ (d : Defined). tree_in p d.node)) none)
+
+-- what holds a name, one by one
+pub held_next : (ds : List Defined) (i : ℕ) (d : Defined) (id : TreeId) (hs ks es : List Defined) → i < length ds → d ≡ get_or ds i d
+    → ks ≡ hs ++ held_by id (take i ds) → es ≡ ks ++ record { name = d.name; node = id } ∷ [] → es ≡ hs ++ held_by id (take (i + 1) ds)
+held_next ds i d id hs ks es l here so pushed =
+    pushed ∙ ap (λ xs. xs ++ record { name = d.name; node = id } ∷ []) so
+    ∙ append_assoc hs (held_by id (take i ds)) (record { name = d.name; node = id } ∷ [])
+    ∙ ap (λ xs. hs ++ xs)
+    (sym (map-append (λ (x : Defined). record { name = x.name; node = id }) (take i ds) (d ∷ []))
+    ∙ ap (held_by id) (ap (λ x. take i ds ++ x ∷ []) here ∙ sym (take_more ds i d l)))

@@ -1,42 +1,51 @@
--- Ways outward over scopes that bind other names.
-use Rattle.std.proofs.Common.{◌≡◌, ◌⊎◌, inl, inr, ℕ, zero, suc, ◌+◌, ◌<◌, ◌≤◌, arith, List, [], ◌∷◌, ◌++◌, length, get_or, Some, refl, sym, ap, subst, ◌∙◌}
-use Rattle.std.specs.Prelude.{slice_get}
+-- Ways outward over scopes that have nothing of a name.
+use Rattle.std.proofs.Common.{◌≡◌, ◌⊎◌, inl, inr, ℕ, zero, suc, ◌+◌, ◌<◌, ◌≤◌, arith, List, [], ◌∷◌, ◌++◌, length, take, get_or, Some, None}
+use Rattle.std.proofs.Common.{refl, sym, ap, subst, ◌∙◌}
+use Rattle.std.specs.Prelude.{filter, slice_get}
 use Rattle.std.proofs.lemmas.Bool.{cases_lt}
-use Rattle.std.proofs.lemmas.List.{length_push}
+use Rattle.std.proofs.lemmas.List.{length_push, take_more}
 use Rattle.std.proofs.lemmas.Option.{none-some, same_Some, slice_get_within, slice_get-get_or}
-use Rattle.fv_parse.specs.Trees.{Parsed}
+use Rattle.fv_parse_grammar.specs.Tree.{items}
+use Rattle.fv_parse.specs.Trees.{Parsed, size_of, tree_in, text_of, first_named}
+use Rattle.fv_rules.specs.declared.by_name.Defined.{Defined}
 use Rattle.fv_rules.specs.declared.tries.TheConstants.{LEVELS}
 use Rattle.fv_rules.specs.declared.tries.Fork.{Fork}
 use Rattle.fv_rules.specs.declared.ways.Way.{Way}
 use Rattle.fv_rules.specs.declared.ways.Ways.{Ways}
-use Rattle.fv_rules.specs.declared.value.Value as code_value
 use Rattle.fv_rules.specs.declared.value.Scope as code_scope
 use Rattle.fv_rules.specs.declared.value.Scope.TheVariants as scope
 use Rattle.fv_rules.specs.Tries.{found, IsGrown, IsWith}
-use Rattle.fv_rules.specs.Ways.{BindsAnother, PassesBy, PassesTo, IsWay, AreWays, or_end}
-use Rattle.fv_rules.specs.inner.Lookup.{StillReaches}
+use Rattle.fv_rules.specs.ByName.{IsAmong}
+use Rattle.fv_rules.specs.Ways.{HasOther, PassesBy, PassesTo, IsWay, AreWays, key_of, or_end}
+use Rattle.fv_rules.specs.inner.Lookup.{StillReaches, HoldsNone}
 use Rattle.fv_rules.proofs.Grown.{place_stays, last_place}
 use Rattle.fv_rules.proofs.Forks.{found_on, there_on, grown_none, nothing_there, nothing_found}
-use Rattle.fv_rules.proofs.Lookups.{look_passes}
+use Rattle.fv_rules.specs.Environments.{scope_in, outer_number}
+use Rattle.fv_rules.specs.Values.{is_of, definition_of, or_else}
+use Rattle.fv_rules.proofs.Lookups.{look_begins, look_passes, look_goes_on, definitions_say_in}
 
 -- ---- one scope more
 
-another_stays : (scopes : List code_scope.Scope) (s : code_scope.Scope) (name env outer : ℕ) → BindsAnother scopes name env outer
-    → BindsAnother (scopes ++ s ∷ []) name env outer
-another_stays scopes s name zero outer b = absurd (none-some (scope.Bound b.0 b.1 outer) b.2)
-another_stays scopes s name (suc i) outer b = (b.0, b.1, place_stays scopes s i (scope.Bound b.0 b.1 outer) b.2, b.3)
+other_stays : (scopes : List code_scope.Scope) (s : code_scope.Scope) (Keys : ℕ → Type 0) (env outer : ℕ) → HasOther scopes Keys env outer
+    → HasOther (scopes ++ s ∷ []) Keys env outer
+other_stays scopes s Keys zero outer h = absurd (none-some h.0 h.1)
+other_stays scopes s Keys (suc i) outer h = (h.0, place_stays scopes s i h.0 h.1, h.2, h.3, h.4)
 
-passes_stay : (scopes : List code_scope.Scope) (s : code_scope.Scope) (name n env at : ℕ) → PassesBy scopes name n env at
-    → PassesBy (scopes ++ s ∷ []) name n env at
-passes_stay scopes s name zero env at h = h
-passes_stay scopes s name (suc n) env at h = (h.0, another_stays scopes s name env h.0 h.1, passes_stay scopes s name n h.0 at h.2)
+passes_stay : (scopes : List code_scope.Scope) (s : code_scope.Scope) (Keys : ℕ → Type 0) (n env at : ℕ) → PassesBy scopes Keys n env at
+    → PassesBy (scopes ++ s ∷ []) Keys n env at
+passes_stay scopes s Keys zero env at h = h
+passes_stay scopes s Keys (suc n) env at h = (h.0, other_stays scopes s Keys env h.0 h.1, passes_stay scopes s Keys n h.0 at h.2)
+
+-- the keys that are this one
+abbrev only : ℕ → ℕ → Type 0
+only key m = m ≡ key
 
 way_stays : (scopes : List code_scope.Scope) (s : code_scope.Scope) (forks : List Fork) (env : ℕ) (k : Way) → IsWay scopes forks env k
     → IsWay (scopes ++ s ∷ []) forks env k
 way_stays scopes s forks env k h = record {
   there = h.there;
-  leads = λ name.
-      let p = h.leads name in (p.0, passes_stay scopes s name p.0 env (or_end k.end (found forks LEVELS k.root name)) p.1);
+  leads = λ key.
+      let p = h.leads key in (p.0, passes_stay scopes s (only key) p.0 env (or_end k.end (found forks LEVELS k.root key)) p.1);
 }
 
 -- ---- trees that have grown
@@ -44,8 +53,8 @@ way_stays scopes s forks env k h = record {
 way_on : (scopes : List code_scope.Scope) (old new : List Fork) (env : ℕ) (k : Way) → IsGrown old new → IsWay scopes old env k → IsWay scopes new env k
 way_on scopes old new env k g h = record {
   there = there_on old new LEVELS k.root g h.there;
-  leads = λ name.
-      subst (λ i. PassesTo scopes name env (or_end k.end i)) (sym (found_on old new LEVELS k.root name g h.there)) (h.leads name);
+  leads = λ key.
+      subst (λ i. PassesTo scopes (only key) env (or_end k.end i)) (sym (found_on old new LEVELS k.root key g h.there)) (h.leads key);
 }
 
 pub ways_on : (scopes : List code_scope.Scope) (old new : Ways) → IsGrown old.tries new.tries → new.ways.items ≡ old.ways.items → AreWays scopes old
@@ -91,7 +100,7 @@ one_way_more scopes s k old new g pushed h here = record {
 pub goes_nowhere : (scopes : List code_scope.Scope) (forks : List Fork) (env end : ℕ) → end ≡ env → IsWay scopes forks env (record { root = 0; end = end })
 goes_nowhere scopes forks env end e = record {
   there = nothing_there forks LEVELS;
-  leads = λ name. (0, sym (ap (or_end end) (nothing_found forks LEVELS name) ∙ e));
+  leads = λ key. (0, sym (ap (or_end end) (nothing_found forks LEVELS key) ∙ e));
 }
 
 pub ends_here : (scopes : List code_scope.Scope) (s : code_scope.Scope) (old new : Ways) (end : ℕ) → new.tries ≡ old.tries
@@ -102,9 +111,9 @@ ends_here scopes s old new end same pushed here h =
     (goes_nowhere (scopes ++ s ∷ []) new.tries (length scopes + 1) end (omega (arith, here, h.each)))
 
 -- where the way leads, by what was found
-pub leads_to : (scopes : List code_scope.Scope) (forks : List Fork) (name env n at : ℕ) (k : Way) → IsWay scopes forks env k
-    → n ≡ found forks LEVELS k.root name → at ≡ or_end k.end n → PassesTo scopes name env at
-leads_to scopes forks name env n at k way e is = subst (PassesTo scopes name env) (sym (is ∙ ap (or_end k.end) e)) (way.leads name)
+pub leads_to : (scopes : List code_scope.Scope) (forks : List Fork) (key env n at : ℕ) (k : Way) → IsWay scopes forks env k
+    → n ≡ found forks LEVELS k.root key → at ≡ or_end k.end n → PassesTo scopes (only key) env at
+leads_to scopes forks key env n at k way e is = subst (PassesTo scopes (only key) env) (sym (is ∙ ap (or_end k.end) e)) (way.leads key)
 
 pub end_is : (end n : ℕ) → n ≡ 0 → end ≡ or_end end n
 end_is end n e = ap (or_end end) (sym e)
@@ -118,44 +127,165 @@ found_here : (end n here : ℕ) → n ≡ here + 1 → or_end end n ≡ here + 1
 found_here end zero here e = absurd (omega (arith, e))
 found_here end (suc n) here e = e
 
+-- a scope is kept by this key, in this environment
+pub record IsKept (scopes : List code_scope.Scope) (s : code_scope.Scope) (key outer : ℕ) : Type 0 where
+  pub has : key_of s ≡ key
+  pub around : outer_number s ≡ outer
+  pub below : outer ≤ length scopes
+
 -- a way that goes on with the one from the environment around it
-goes_on : (scopes : List code_scope.Scope) (old new : List Fork) (name outer with_it : ℕ) (value : code_value.Value) (k : Way)
-    → IsWay scopes old outer k → IsWith old new LEVELS k.root name (length scopes + 1) with_it
-    → IsWay (scopes ++ scope.Bound name value outer ∷ []) new (length scopes + 1) (record { root = with_it; end = k.end })
-goes_on scopes old new name outer with_it value k way is = record { there = is.there; leads = λ n. lead n (is.leads n) }
+goes_on : (scopes : List code_scope.Scope) (s : code_scope.Scope) (old new : List Fork) (key outer with_it : ℕ) (k : Way) → IsKept scopes s key outer
+    → IsWay scopes old outer k → IsWith old new LEVELS k.root key (length scopes + 1) with_it
+    → IsWay (scopes ++ s ∷ []) new (length scopes + 1) (record { root = with_it; end = k.end })
+goes_on scopes s old new key outer with_it k kept way is = record { there = is.there; leads = λ n. lead n (is.leads n) }
   where
-    s : code_scope.Scope
-    s = scope.Bound name value outer
-
-    at : ℕ → ℕ
-    at n = or_end k.end (found new LEVELS with_it n)
-
     number : suc (length scopes) ≡ length scopes + 1
     number = omega arith
 
     lead : (n : ℕ)
-        → ((found new LEVELS with_it n ≡ length scopes + 1) ⊎ ((n ≡ name → ⊥) × (found new LEVELS with_it n ≡ found old LEVELS k.root n)))
-        → PassesTo (scopes ++ s ∷ []) n (length scopes + 1) (or_end k.end (found new LEVELS with_it n))
+        → ((found new LEVELS with_it n ≡ length scopes + 1) ⊎ ((n ≡ key → ⊥) × (found new LEVELS with_it n ≡ found old LEVELS k.root n)))
+        → PassesTo (scopes ++ s ∷ []) (only n) (length scopes + 1) (or_end k.end (found new LEVELS with_it n))
     lead n (inl e) = (0, sym (found_here k.end (found new LEVELS with_it n) (length scopes) e))
     lead n (inr e) =
-        let p = subst (λ i. PassesTo scopes n outer (or_end k.end i)) (sym e.1) (way.leads n) in
-        let another : BindsAnother (scopes ++ s ∷ []) n (suc (length scopes)) outer = (name, value, last_place scopes s, λ q. e.0 (sym q)) in
-        subst (λ env. PassesTo (scopes ++ s ∷ []) n env (or_end k.end (found new LEVELS with_it n))) number
-        (suc p.0, (outer, another, passes_stay scopes s n p.0 outer (or_end k.end (found new LEVELS with_it n)) p.1))
+        let p = subst (λ i. PassesTo scopes (only n) outer (or_end k.end i)) (sym e.1) (way.leads n) in
+        let other : HasOther (scopes ++ s ∷ []) (only n) (suc (length scopes)) outer =
+        (s, last_place scopes s, kept.around, omega (arith, kept.below), λ q. e.0 (sym q ∙ kept.has)) in
+        subst (λ env. PassesTo (scopes ++ s ∷ []) (only n) env (or_end k.end (found new LEVELS with_it n))) number
+        (suc p.0, (outer, other, passes_stay scopes s (only n) p.0 outer (or_end k.end (found new LEVELS with_it n)) p.1))
 
-pub binds_on : (scopes : List code_scope.Scope) (old new : Ways) (name outer here with_it : ℕ) (value : code_value.Value) (k : Way)
+pub keeps_on : (scopes : List code_scope.Scope) (s : code_scope.Scope) (old new : Ways) (key outer here with_it : ℕ) (k : Way)
     → IsGrown old.tries new.tries → new.ways.items ≡ old.ways.items ++ record { root = with_it; end = k.end } ∷ []
-    → here ≡ length old.ways.items + 1 → IsWay scopes old.tries outer k
-    → IsWith old.tries new.tries LEVELS k.root name here with_it → AreWays scopes old
-    → AreWays (scopes ++ scope.Bound name value outer ∷ []) new
-binds_on scopes old new name outer here with_it value k g pushed place way is h =
-    one_way_more scopes (scope.Bound name value outer) (record { root = with_it; end = k.end }) old new g pushed h
-    (goes_on scopes old.tries new.tries name outer with_it value k way
-    (subst (λ i. IsWith old.tries new.tries LEVELS k.root name i with_it) (omega (arith, place, h.each)) is))
+    → here ≡ length old.ways.items + 1 → IsKept scopes s key outer → IsWay scopes old.tries outer k
+    → IsWith old.tries new.tries LEVELS k.root key here with_it → AreWays scopes old → AreWays (scopes ++ s ∷ []) new
+keeps_on scopes s old new key outer here with_it k g pushed place kept way is h =
+    one_way_more scopes s (record { root = with_it; end = k.end }) old new g pushed h
+    (goes_on scopes s old.tries new.tries key outer with_it k kept way
+    (subst (λ i. IsWith old.tries new.tries LEVELS k.root key i with_it) (omega (arith, place, h.each)) is))
+
+-- ---- two ways from one environment
+
+passes_down : (scopes : List code_scope.Scope) (Keys : ℕ → Type 0) (n env at : ℕ) → PassesBy scopes Keys n env at → at ≤ env
+passes_down scopes Keys zero env at h = omega (arith, h)
+passes_down scopes Keys (suc n) env at h = let l = passes_down scopes Keys n h.0 at h.2 in omega (arith, l, h.1.3)
+
+-- as far as the nearer one none of the keys of both is there
+passes_both : (scopes : List code_scope.Scope) (P Q : ℕ → Type 0) (n m env a b : ℕ) → PassesBy scopes P n env a → PassesBy scopes Q m env b → b ≤ a
+    → PassesBy scopes (λ k. P k ⊎ Q k) n env a
+passes_both scopes P Q zero m env a b h g l = h
+passes_both scopes P Q (suc n) zero env a b h g l =
+    let d = passes_down scopes P n h.0 a h.2 in absurd (omega (arith, d, h.1.3, g, l))
+passes_both scopes P Q (suc n) (suc m) env a b h g l =
+    let same : h.1.0 ≡ g.1.0 = same_Some h.1.0 g.1.0 (sym h.1.1 ∙ g.1.1) in
+    let around : g.0 ≡ h.0 = sym g.1.2 ∙ ap outer_number (sym same) ∙ h.1.2 in (
+      h.0,
+      (h.1.0, h.1.1, h.1.2, h.1.3, neither h.1.0 h.1.4 (λ q. g.1.4 (subst (λ s. Q (key_of s)) same q))),
+      passes_both scopes P Q n m h.0 a b h.2 (subst (λ o. PassesBy scopes Q m o b) around g.2) l,
+    )
+  where
+    neither : (s : code_scope.Scope) → (P (key_of s) → ⊥) → (Q (key_of s) → ⊥) → (P (key_of s) ⊎ Q (key_of s)) → ⊥
+    neither s p q (inl x) = p x
+    neither s p q (inr x) = q x
+
+passes_fewer : (scopes : List code_scope.Scope) (P Q : ℕ → Type 0) (n env at : ℕ) → ((k : ℕ) → Q k → P k) → PassesBy scopes P n env at
+    → PassesBy scopes Q n env at
+passes_fewer scopes P Q zero env at f h = h
+passes_fewer scopes P Q (suc n) env at f h =
+    (h.0, (h.1.0, h.1.1, h.1.2, h.1.3, λ q. h.1.4 (f (key_of h.1.0) q)), passes_fewer scopes P Q n h.0 at f h.2)
+
+-- the nearer one of two
+pub nearer_first : (scopes : List code_scope.Scope) (P Q R : ℕ → Type 0) (env a b : ℕ) → ((k : ℕ) → R k → P k ⊎ Q k)
+    → PassesTo scopes P env a → PassesTo scopes Q env b → b ≤ a → PassesTo scopes R env a
+nearer_first scopes P Q R env a b f h g l =
+    (h.0, passes_fewer scopes (λ k. P k ⊎ Q k) R h.0 env a f (passes_both scopes P Q h.0 g.0 env a b h.1 g.1 l))
+
+pub nearer_second : (scopes : List code_scope.Scope) (P Q R : ℕ → Type 0) (env a b : ℕ) → ((k : ℕ) → R k → P k ⊎ Q k)
+    → PassesTo scopes P env a → PassesTo scopes Q env b → a ≤ b → PassesTo scopes R env b
+nearer_second scopes P Q R env a b f h g l =
+    (g.0, passes_fewer scopes (λ k. Q k ⊎ P k) R g.0 env b (λ k r. swapped k (f k r)) (passes_both scopes Q P g.0 h.0 env b a g.1 h.1 l))
+  where
+    swapped : (k : ℕ) → (P k ⊎ Q k) → Q k ⊎ P k
+    swapped k (inl x) = inr x
+    swapped k (inr x) = inl x
+
+pub leads_down : (scopes : List code_scope.Scope) (Keys : ℕ → Type 0) (env at : ℕ) → PassesTo scopes Keys env at → at ≤ env
+leads_down scopes Keys env at h = passes_down scopes Keys h.0 env at h.1
 
 -- ---- looking up
 
-pub look_passes_by : {p : Parsed} {scopes : List code_scope.Scope} {name env : ℕ} (at next n : ℕ) → StillReaches p scopes name env at
-    → PassesBy scopes name n at next → StillReaches p scopes name env next
-look_passes_by {p} {scopes} {name} {env} at next zero reaches h = subst (StillReaches p scopes name env) h reaches
-look_passes_by at next (suc n) reaches h = look_passes_by h.0 next n (look_passes reaches h.1) h.2
+passes_key : {p : Parsed} {scopes : List code_scope.Scope} {name env : ℕ} (Keys : ℕ → Type 0) (at next : ℕ) → Keys name → HoldsNone p name Keys
+    → StillReaches p scopes name env at → HasOther scopes Keys at next → StillReaches p scopes name env next
+passes_key {p} {scopes} {name} {env} Keys at next key none reaches h = go h.0 h.1 h.2 h.4
+  where
+    go : (s : code_scope.Scope) → scope_in scopes at ≡ Some s → outer_number s ≡ next → (Keys (key_of s) → ⊥) → StillReaches p scopes name env next
+    go (scope.Bound n u o) is out other =
+        look_passes reaches (n, u, is ∙ ap (λ i. Some (scope.Bound n u i)) out, λ e. other (subst Keys (sym e) key))
+    go (scope.Definitions id o) is out other =
+        look_goes_on reaches (sym is)
+        (definitions_say_in p scopes id o at name None (λ w x E m same inside named shown.
+        let l = p.tokens in
+        let i : id < size_of p = subst (λ (q : Parsed). id < size_of q) same inside in
+        let named_there = subst (λ (q : Parsed). (text_of q.tokens name ≡ x) × (first_named q.tokens name ≡ name)) same named in
+        let nothing : filter (is_of l x) (items (tree_in p id)) ≡ [] =
+        ap (λ y. filter (is_of l y) (items (tree_in p id))) (sym named_there.0) ∙ none id name i other named_there.1 in
+        ap (λ ds. or_else (definition_of l ds) E m) nothing)) (sym out)
+
+pub look_passes_to : {p : Parsed} {scopes : List code_scope.Scope} {name env : ℕ} (Keys : ℕ → Type 0) (at next n : ℕ) → Keys name
+    → HoldsNone p name Keys → StillReaches p scopes name env at → PassesBy scopes Keys n at next → StillReaches p scopes name env next
+look_passes_to {p} {scopes} {name} {env} Keys at next zero key none reaches h = subst (StillReaches p scopes name env) h reaches
+look_passes_to Keys at next (suc n) key none reaches h =
+    look_passes_to Keys h.0 next n key none (passes_key Keys at h.0 key none reaches h.1) h.2
+
+-- ---- a name, and the lists that define it
+
+-- the name, or one of these lists
+abbrev pub IsKey : ℕ → List Defined → ℕ → Type 0
+IsKey name ds m = (m ≡ name) ⊎ IsAmong ds m
+
+pub past_begins : (scopes : List code_scope.Scope) (name env at : ℕ) → PassesTo scopes (λ m. m ≡ name) env at → PassesTo scopes (IsKey name []) env at
+past_begins scopes name env at h = (h.0, passes_fewer scopes (only name) (IsKey name []) h.0 env at (λ k q. alone k q) h.1)
+  where
+    alone : (k : ℕ) → IsKey name [] k → k ≡ name
+    alone k (inl e) = e
+    alone k (inr e) = absurd e
+
+among_more : (ds : List Defined) (d : Defined) (k : ℕ) → IsAmong (ds ++ d ∷ []) k → IsAmong ds k ⊎ (k ≡ d.node)
+among_more [] d k (inl e) = inr e
+among_more [] d k (inr e) = absurd e
+among_more (x ∷ ds) d k (inl e) = inl (inl e)
+among_more (x ∷ ds) d k (inr h) = go (among_more ds d k h)
+  where
+    go : (IsAmong ds k ⊎ (k ≡ d.node)) → (IsAmong (x ∷ ds) k) ⊎ (k ≡ d.node)
+    go (inl q) = inl (inr q)
+    go (inr q) = inr q
+
+-- one list more
+pub past_more : (scopes : List code_scope.Scope) (name env a b at i : ℕ) (ds : List Defined) (d : Defined) → i < length ds → d ≡ get_or ds i d
+    → PassesTo scopes (IsKey name (take i ds)) env a → PassesTo scopes (λ m. m ≡ d.node) env b → ((at ≡ a) × (b ≤ a)) ⊎ ((at ≡ b) × (a ≤ b))
+    → PassesTo scopes (IsKey name (take (i + 1) ds)) env at
+past_more scopes name env a b at i ds d l here h g nearer = go nearer
+  where
+    longer : take (i + 1) ds ≡ take i ds ++ d ∷ []
+    longer = take_more ds i d l ∙ ap (λ x. take i ds ++ x ∷ []) (sym here)
+
+    either : (k : ℕ) → IsKey name (take i ds ++ d ∷ []) k → IsKey name (take i ds) k ⊎ (k ≡ d.node)
+    either k (inl e) = inl (inl e)
+    either k (inr q) = go (among_more (take i ds) d k q)
+      where
+        go : (IsAmong (take i ds) k ⊎ (k ≡ d.node)) → IsKey name (take i ds) k ⊎ (k ≡ d.node)
+        go (inl r) = inl (inr r)
+        go (inr r) = inr r
+
+    all : (k : ℕ) → IsKey name (take (i + 1) ds) k → IsKey name (take i ds) k ⊎ (k ≡ d.node)
+    all k q = either k (subst (λ es. IsKey name es k) longer q)
+
+    go : ((at ≡ a) × (b ≤ a)) ⊎ ((at ≡ b) × (a ≤ b)) → PassesTo scopes (IsKey name (take (i + 1) ds)) env at
+    go (inl e) = subst (PassesTo scopes (IsKey name (take (i + 1) ds)) env) (sym e.0)
+        (nearer_first scopes (IsKey name (take i ds)) (only d.node) (IsKey name (take (i + 1) ds)) env a b all h g e.1)
+    go (inr e) = subst (PassesTo scopes (IsKey name (take (i + 1) ds)) env) (sym e.0)
+        (nearer_second scopes (IsKey name (take i ds)) (only d.node) (IsKey name (take (i + 1) ds)) env a b all h g e.1)
+
+-- where all of them are asked for
+pub past_reaches : (p : Parsed) (scopes : List code_scope.Scope) (name env at : ℕ) (ds : List Defined) → HoldsNone p name (IsAmong ds)
+    → PassesTo scopes (IsKey name ds) env at → StillReaches p scopes name env at
+past_reaches p scopes name env at ds none h =
+    look_passes_to (IsKey name ds) env at h.0 (inl refl) (λ list n i other e. none list n i (λ q. other (inr q)) e) (look_begins p scopes name env) h.1

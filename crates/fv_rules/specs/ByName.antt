@@ -1,5 +1,5 @@
 -- The definitions of a list of a tree, by the canonical numbers of their names (this project's profile).
-use Rattle.std.specs.Prelude.{◌≡◌, ℕ, ◌<◌, Bool, nat_eq, List, length, map, filter, filter_map, All, Option, Some, None, slice_index_or}
+use Rattle.std.specs.Prelude.{◌≡◌, ◌⊎◌, ℕ, ◌<◌, Bool, nat_eq, List, [], ◌∷◌, length, map, filter, filter_map, All, Option, Some, None, slice_index_or}
 use Rattle.fv_lex.specs.Token.{Lexed}
 use Rattle.fv_parse_grammar.specs.Tree.{Tree, Constant, Function, items}
 use Rattle.fv_parse.specs.Trees.{Parsed, size_of, tree_in, text_of, first_named}
@@ -36,3 +36,17 @@ pub record AreDefined (p : Parsed) (list : ℕ) (ds : List Defined) : Type 0 whe
 pub record AreIndexed (p : Parsed) (lists : List (List Defined)) : Type 0 where
   pub whole : length lists ≡ size_of p
   pub each : (i : ℕ) (d : List Defined) → i < length lists → AreDefined p i (slice_index_or lists i d)
+
+-- that a list has these names
+abbrev pub held_by : TreeId → List Defined → List Defined
+held_by id ds = map (λ (d : Defined). record { name = d.name; node = id }) ds
+
+-- a node is among these
+abbrev pub IsAmong : List Defined → ℕ → Type 0
+IsAmong [] i = ⊥
+IsAmong (d ∷ ds) i = (i ≡ d.node) ⊎ IsAmong ds i
+
+-- Each list that defines a name is among the holders of that name.
+pub record AreHeld (lists : List (List Defined)) (holders : List Defined) : Type 0 where
+  pub none : (i n : ℕ) (d : List Defined) → i < length lists → (IsAmong (filter (is_called n) holders) i → ⊥)
+      → filter (is_called n) (slice_index_or lists i d) ≡ []

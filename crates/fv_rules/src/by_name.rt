@@ -4,7 +4,7 @@ ghost use Rattle.std.specs.Prelude.{ℕ, ◌≡◌, ◌<◌, ◌++◌, [], IfOk,
 ghost use Rattle.std.specs.List.{cons_option};
 ghost use Rattle.std.specs.List.Sorted.{IsPermutation};
 ghost use Rattle.fv_parse.specs.Trees.{size_of, tree_in};
-ghost use Rattle.fv_rules.specs.ByName.{is_called, called, defined_name, AreDefined};
+ghost use Rattle.fv_rules.specs.ByName.{is_called, called, defined_name, held_by, AreDefined};
 
 use fv_parse::{Tree, TreeId, TreeNode, same_names};
 use std::alloc::{AllocError, Global};
@@ -45,6 +45,13 @@ impl ByName {
         Ok(ByName {
             sorted: definitions,
         })
+    }
+
+    /// All of them.
+    pub(crate) fn all(&self) -> &[Defined]
+        ensures { result.now ≡ self.now }
+    {
+        self.sorted.as_slice()
     }
 
     /// Those of a name, in order.
@@ -112,4 +119,18 @@ pub(crate) fn by_name(alloc: Global, tree: &Tree, list: TreeId) -> Result<ByName
     let definitions = definitions_of(alloc, tree, list)?;
     let sorted = ByName::sort(definitions)?;
     Ok(sorted)
+}
+
+/// Keeps of each definition of a list that the list has its name.
+pub(crate) fn hold(holders: &mut Vec<Defined>, list: &ByName, id: TreeId) -> Result<(), AllocError>
+    ensures { IfOk result (λ _. holders.new.items ≡ holders.old.items ++ held_by id list.now) }
+{
+    let all = list.all();
+    for defined in all {
+        holders.push(Defined {
+            name: defined.name,
+            node: id,
+        })?;
+    }
+    Ok(())
 }

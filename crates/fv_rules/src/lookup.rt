@@ -1,20 +1,22 @@
 // What a name stands for.
 
-ghost use Rattle.std.specs.Prelude.{ℕ, ◌≡◌, ◌<◌, IfOk, IfSome, IsTrue, OnOk, Some, All, map, filter};
+ghost use Rattle.std.specs.Prelude.{ℕ, ◌≡◌, ◌⊎◌, ◌<◌, ◌≤◌, IfOk, IfSome, IsTrue, OnOk, Some, All, map, filter};
 ghost use Rattle.fv_parse_grammar.specs.Tree.{items};
 ghost use Rattle.fv_parse.specs.Trees.{size_of, tree_in, text_of, first_named};
 ghost use Rattle.fv_rules.specs.Values.{Name, Env, Meaning as PureMeaning, lookup, is_of, definition_of, or_else};
 ghost use Rattle.fv_rules.specs.declared.by_name.Defined.{Defined as AnItem};
-ghost use Rattle.fv_rules.specs.Environments.{scope_in, outer_number};
+ghost use Rattle.fv_rules.specs.Environments.{scope_in};
+ghost use Rattle.fv_rules.specs.ByName.{IsAmong};
 ghost use Rattle.fv_rules.specs.declared.value.Ruled.TheVariants.{Definitions as AtDefinitions};
 ghost use Rattle.fv_rules.specs.Literals.{Tells};
 ghost use Rattle.fv_rules.specs.Shows.{World, IsInside, IsNamed, ShowsEnv, ShowsMeaning, rules_in};
-ghost use Rattle.fv_rules.specs.inner.Lookup.{SaysOrPasses, IsMade, outer, is_name, are_names};
+ghost use Rattle.fv_rules.specs.inner.Lookup.{SaysOrPasses, HoldsNone, IsMade, StillReaches, outer, is_name, are_names};
 
 use crate::by_literal::{ByLiteral, by_literal};
-use crate::by_name::{ByName, Defined, by_name};
+use crate::by_name::{ByName, Defined, by_name, hold};
 use crate::scopes::Scopes;
 use crate::value::{Meaning, Ruled, Scope, Value};
+use crate::ways::outer_of;
 use fv_parse::{Tree, TreeId, TreeNode, same_names};
 use std::alloc::{AllocError, Global};
 use std::marker::Model;
@@ -25,6 +27,8 @@ use std::marker::Model;
 pub struct Definitions<'a> {
     tree: &'a Tree<'a>,
     lists: Vec<ByName>,
+    /// Each name with each list that defines it.
+    holders: ByName,
     literals: Vec<ByLiteral>,
     /// For each node at which rules stand, where among `literals` to look for them.
     places: Vec<u64>,
@@ -32,14 +36,14 @@ pub struct Definitions<'a> {
 
 impl<'a> Model for Definitions<'a> {
     ghost use Rattle.fv_parse.specs.Trees.{Parsed};
-    ghost use Rattle.fv_rules.specs.ByName.{AreIndexed};
+    ghost use Rattle.fv_rules.specs.ByName.{AreIndexed, AreHeld};
     ghost use Rattle.fv_rules.specs.Literals.{AreTold};
 
     ghost Value = { Parsed };
 
     ghost view = { λ d. d.tree.now };
 
-    ghost invariant = { λ d. AreIndexed d.tree.now d.lists.items × AreTold d.tree.now d.literals.items };
+    ghost invariant = { λ d. AreIndexed d.tree.now d.lists.items × AreTold d.tree.now d.literals.items × AreHeld d.lists.items d.holders };
 }
 
 impl<'a> Definitions<'a> {
@@ -49,13 +53,18 @@ impl<'a> Definitions<'a> {
     {
         let _within: Option<Defined> = None;
         let mut lists = Vec::new(alloc);
+        let mut held = Vec::new(alloc);
         for i in 0..tree.len() {
-            let list = by_name(alloc, tree, TreeId::new(i))?;
+            let id = TreeId::new(i);
+            let list = by_name(alloc, tree, id)?;
+            hold(&mut held, &list, id)?;
             lists.push(list)?;
         }
+        let holders = ByName::sort(held)?;
         let mut definitions = Definitions {
             tree,
             lists,
+            holders,
             literals: Vec::new(alloc),
             places: Vec::new(alloc),
         };
@@ -171,7 +180,10 @@ impl<'a> Definitions<'a> {
             → w.tree ≡ self.now → w.scopes ≡ scopes.now.scopes → IsNamed w name x → ShowsEnv w env E
             → ShowsMeaning w result (lookup self.now.tokens E x) }
     {
-        let mut at = scopes.pass(name, env);
+        // To ask for each list that defines the name costs as much as so many steps, so they are taken before.
+        let holders = self.holders(name).len();
+        let mut steps = holders;
+        let mut at = env;
         'outward: while let Some(scope) = scopes.scope(at) {
             if let Some(meaning) = self.in_scope(&scope, name, at) {
                 return meaning;
@@ -181,9 +193,43 @@ impl<'a> Definitions<'a> {
             if outer >= at {
                 return Meaning::Unknown;
             }
-            at = scopes.pass(name, outer);
+            at = self.further(scopes, name, outer, steps);
+            steps = steps_left(steps, holders);
         }
         Meaning::Unknown
+    }
+
+    // The next environment from one outward to look at: this one, while there are steps left.
+    fn further(&self, scopes: &Scopes, name: u64, env: u64, steps: usize) -> u64
+        ensures reaches { StillReaches self.now scopes.now.scopes name env result }
+        ensures outward { result ≤ env }
+    {
+        if steps > 0 {
+            env
+        } else {
+            self.past(scopes, name, env)
+        }
+    }
+
+    // The first environment from one outward that may have something of a name.
+    fn past(&self, scopes: &Scopes, name: u64, env: u64) -> u64
+        ensures reaches { StillReaches self.now scopes.now.scopes name env result }
+        ensures outward { result ≤ env }
+    {
+        let holders = self.holders(name);
+        let mut at = scopes.lead(env, name);
+        for holder in holders {
+            let other = scopes.lead(env, holder.node.number());
+            at = nearer(at, other);
+        }
+        at
+    }
+
+    // The lists that define a name; no other list has a definition of it.
+    fn holders(&self, name: u64) -> &[Defined]
+        ensures { HoldsNone self.now name (IsAmong result.now) }
+    {
+        self.holders.called(name)
     }
 
     // What the innermost scope of an environment makes of a name.
@@ -291,13 +337,16 @@ fn made(tree: &Tree, list: TreeId, first: TreeId, count: u64, env: u64) -> Meani
     }
 }
 
-// The number of the environment around a scope.
-fn outer_of(scope: &Scope) -> u64
-    ensures { result ≡ outer_number scope.now }
+// How many steps are left after one: all again, where none was left.
+fn steps_left(steps: usize, all: usize) -> usize {
+    if steps == 0 { all } else { steps - 1 }
+}
+
+// The nearer one of two environments further outward.
+fn nearer(a: u64, b: u64) -> u64
+    ensures { ((result ≡ a) × (b ≤ a)) ⊎ ((result ≡ b) × (a ≤ b)) }
 {
-    match scope {
-        Scope::Bound { outer, .. } | Scope::Definitions { outer, .. } => *outer,
-    }
+    if b <= a { a } else { b }
 }
 
 // Whether a node is a name.

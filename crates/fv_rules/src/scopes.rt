@@ -2,9 +2,7 @@
 
 ghost use Rattle.std.specs.Prelude.{◌≡◌, ◌+◌, ◌<◌, ◌≤◌, [], ◌∷◌, ◌++◌, length, IfOk, IfSome, OnErr, slice_get};
 ghost use Rattle.fv_rules.specs.declared.value.Scope.TheVariants.{Bound, Definitions};
-ghost use Rattle.fv_parse.specs.Trees.{Parsed};
-ghost use Rattle.fv_rules.specs.Ways.{BindsAnother, PassesTo};
-ghost use Rattle.fv_rules.specs.inner.Lookup.{StillReaches};
+ghost use Rattle.fv_rules.specs.Ways.{PassesTo};
 ghost use Rattle.fv_rules.specs.Environments.{scope_in, with_scope, with_argument};
 ghost use Rattle.fv_rules.specs.Values.{Env, Taken, in_order};
 ghost use Rattle.fv_rules.specs.declared.value.Value.{Value as AValue};
@@ -110,52 +108,12 @@ impl Scopes {
         self.scopes.get((env - 1) as usize).copied()
     }
 
-    /// The first environment from one outward whose innermost scope does not bind another name: it binds this one, it has
-    /// definitions, or there is none.
-    pub(crate) fn pass(&self, name: u64, env: u64) -> u64
-        ensures reaches { (p : Parsed) → StillReaches p self.now.scopes name env result }
-        ensures outward { result ≤ env }
+    /// An environment further outward, behind scopes that are all kept by other numbers; it may be the same. A scope is kept
+    /// by the name that it binds, or by its list of definitions.
+    pub(crate) fn lead(&self, env: u64, key: u64) -> u64
+        ensures { PassesTo self.now.scopes (λ m. m ≡ key) env result }
     {
-        let mut at = env;
-        'passing: while let Some(outer) = self.past_others(name, at) {
-            at = outer;
-        }
-        at
-    }
-
-    // An environment further outward, behind scopes that all bind other names.
-    fn past_others(&self, name: u64, env: u64) -> Option<u64>
-        ensures { IfSome result (λ further. (further < env) × PassesTo self.now.scopes name env further) }
-    {
-        let further = self.ways.lead(env, name);
-        if further < env {
-            return Some(further);
-        }
-        self.around_another(name, env)
-    }
-
-    // The environment around one whose innermost scope binds another name.
-    fn around_another(&self, name: u64, env: u64) -> Option<u64>
-        ensures { IfSome result (λ outer. (outer < env) × BindsAnother self.now.scopes name env outer) }
-    {
-        if env == 0 {
-            return None;
-        }
-        match self.scopes.get((env - 1) as usize)? {
-            Scope::Definitions { .. } => None,
-            Scope::Bound {
-                name: bound,
-                outer,
-                ..
-            } => {
-                // No environment stands around itself.
-                if *bound == name || *outer >= env {
-                    None
-                } else {
-                    Some(*outer)
-                }
-            }
-        }
+        self.ways.lead(env, key)
     }
 
     /// The arguments that rules have taken, in order: so many, of which the last one has this number.

@@ -1,18 +1,17 @@
-// Ways outward from environments over scopes that bind other names.
+// Ways outward from environments over scopes that have nothing of a name.
 
-ghost use Rattle.std.specs.Prelude.{ℕ, ◌≡◌, [], ◌∷◌, ◌++◌, List, IfOk, OnErr, slice_get};
-ghost use Rattle.fv_parse_tree.specs.declared.node.TreeId.{TreeId as AList};
+ghost use Rattle.std.specs.Prelude.{◌≡◌, ◌≤◌, [], ◌∷◌, ◌++◌, List, IfOk, OnErr, length, slice_get};
 ghost use Rattle.fv_rules.specs.declared.value.Scope.{Scope as AScope};
-ghost use Rattle.fv_rules.specs.declared.value.Scope.TheVariants.{Bound, Definitions};
-ghost use Rattle.fv_rules.specs.declared.value.Value.{Value as AValue};
-ghost use Rattle.fv_rules.specs.Ways.{PassesTo, IsWay, AreWays};
+ghost use Rattle.fv_rules.specs.Environments.{outer_number};
+ghost use Rattle.fv_rules.specs.Ways.{PassesTo, IsWay, AreWays, key_of};
 
 use crate::tries::{LEVELS, Tries};
 use crate::value::{Ruled, Scope, Value};
 use std::alloc::{AllocError, Global};
 
-/// A way outward over scopes that bind names: the tree with this root has, for each name, the environment whose scope binds
-/// it, or another name that is not told apart from it. What is not there leads to the end of the way.
+/// A way outward over scopes. Each is kept by the name that it binds, or by its list of definitions: the tree with this root
+/// has, for each such number, the nearest environment whose scope is kept by it, or by another one that is not told apart
+/// from it. What is not there leads to the end of the way.
 #[derive(Clone, Copy, Debug)]
 pub(crate) struct Way {
     root: u64,
@@ -58,12 +57,12 @@ impl Ways {
         self.ways.get(place as usize).copied()
     }
 
-    /// An environment further outward, behind scopes that all bind other names; it may be the same.
-    pub(crate) fn lead(&self, env: u64, name: u64) -> u64
-        ensures { (scopes : List AScope) → AreWays scopes self.now → PassesTo scopes name env result }
+    /// An environment further outward, behind scopes that are all kept by other numbers; it may be the same.
+    pub(crate) fn lead(&self, env: u64, key: u64) -> u64
+        ensures { (scopes : List AScope) → AreWays scopes self.now → PassesTo scopes (λ m. m ≡ key) env result }
     {
         let way = self.outward(env);
-        let found = self.tries.find(way.root, name);
+        let found = self.tries.find(way.root, key);
         if found == 0 { way.end } else { found }
     }
 
@@ -73,34 +72,54 @@ impl Ways {
         ensures err { OnErr result ((scopes : List AScope) → AreWays scopes self.old → AreWays scopes self.new) }
     {
         let _within: Option<(Value, Ruled)> = None;
-        match scope {
-            Scope::Bound { name, outer, .. } => self.bind(*name, *outer),
-            // The names of a list are not known here, so each way ends before it.
-            Scope::Definitions { .. } => self.end(),
+        let outer = outer_of(scope);
+        // No environment stands around itself.
+        if outer > self.ways.len() as u64 {
+            self.end()
+        } else {
+            self.go_on(key_of(scope), outer)
         }
     }
 
-    // The way outward from a scope that binds this name in an environment: it goes on where the one from there goes.
-    fn bind(&mut self, name: u64, outer: u64) -> Result<(), AllocError>
-        ensures ok { IfOk result (λ _. (scopes : List AScope) (value : AValue)
-            → AreWays scopes self.old → AreWays (scopes ++ Bound name value outer ∷ []) self.new) }
+    // The way outward from a scope with this key in an environment: it goes on where the one from there goes.
+    fn go_on(&mut self, key: u64, outer: u64) -> Result<(), AllocError>
+        ensures ok { IfOk result (λ _. (scopes : List AScope) (s : AScope) → key_of s ≡ key → outer_number s ≡ outer
+            → outer ≤ length scopes → AreWays scopes self.old → AreWays (scopes ++ s ∷ []) self.new) }
         ensures err { OnErr result ((scopes : List AScope) → AreWays scopes self.old → AreWays scopes self.new) }
     {
         let way = self.outward(outer);
         let here = self.ways.len() as u64 + 1;
-        let root = self.tries.with(way.root, LEVELS, name, here)?;
+        let root = self.tries.with(way.root, LEVELS, key, here)?;
         self.ways.push(Way { root, end: way.end })?;
         Ok(())
     }
 
-    // The way outward from a list of definitions, which goes nowhere.
+    // A way that goes nowhere.
     fn end(&mut self) -> Result<(), AllocError>
-        ensures ok { IfOk result (λ _. (scopes : List AScope) (list : AList) (outer : ℕ)
-            → AreWays scopes self.old → AreWays (scopes ++ Definitions list outer ∷ []) self.new) }
+        ensures ok { IfOk result (λ _. (scopes : List AScope) (s : AScope) → AreWays scopes self.old → AreWays (scopes ++ s ∷ []) self.new) }
         ensures err { OnErr result ((scopes : List AScope) → AreWays scopes self.old → AreWays scopes self.new) }
     {
         let here = self.ways.len() as u64 + 1;
         self.ways.push(Way { root: 0, end: here })?;
         Ok(())
+    }
+}
+
+/// The number of the environment around a scope.
+pub(crate) fn outer_of(scope: &Scope) -> u64
+    ensures { result ≡ outer_number scope.now }
+{
+    match scope {
+        Scope::Bound { outer, .. } | Scope::Definitions { outer, .. } => *outer,
+    }
+}
+
+// What a scope is kept by.
+fn key_of(scope: &Scope) -> u64
+    ensures { result ≡ key_of scope.now }
+{
+    match scope {
+        Scope::Bound { name, .. } => *name,
+        Scope::Definitions { list, .. } => list.number(),
     }
 }

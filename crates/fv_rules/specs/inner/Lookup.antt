@@ -2,7 +2,7 @@
 use Rattle.std.specs.Prelude.{◌≡◌, ℕ, suc, ◌<◌, Bool, true, false, List, [], ◌∷◌, length, filter, Option, Some, None}
 use Rattle.std.specs.List.{list_all}
 use Rattle.fv_parse_grammar.specs.Tree.{Tree, Named, items}
-use Rattle.fv_parse.specs.Trees.{Parsed, size_of, tree_in}
+use Rattle.fv_parse.specs.Trees.{Parsed, size_of, tree_in, text_of, first_named}
 use Rattle.fv_rules.specs.declared.value.Meaning as code_meaning
 use Rattle.fv_rules.specs.declared.value.Scope as code_scope
 use Rattle.fv_rules.specs.Values.{Name, Env, Outermost, Bound, Scope, Meaning, is_of, definition_of, or_else, lookup}
@@ -23,6 +23,12 @@ SaysOrPasses w None here beyond = here ≡ beyond
 pub record StillReaches (p : Parsed) (scopes : List code_scope.Scope) (name env at : ℕ) : Type 0 where
   pub further : (w : World) (x : Name) (E : Env) → w.tree ≡ p → w.scopes ≡ scopes → IsNamed w name x → ShowsEnv w env E
       → (F : Env) × ShowsEnv w at F × (lookup p.tokens E x ≡ lookup p.tokens F x)
+
+-- no list but these has a definition of the name
+abbrev pub HoldsNone : Parsed → ℕ → (ℕ → Type 0) → Type 0
+HoldsNone p name Keys =
+    (list n : ℕ) → list < size_of p → (Keys list → ⊥) → first_named p.tokens n ≡ name
+    → filter (is_of p.tokens (text_of p.tokens n)) (items (tree_in p list)) ≡ []
 
 -- this is what the definitions of a name in a list make of it, where this is the first one of so many
 abbrev pub IsMade : Parsed → (list first count env : ℕ) → code_meaning.Meaning → Type 0

@@ -1,9 +1,9 @@
 use Rattle.fv_rules.specs.declared.value.Meaning.TheVariants as meaning
-use Rattle.fv_rules.proofs.Lookups.{look_finds, look_further, look_goes_on, look_stops, look_ends}
+use Rattle.fv_rules.proofs.Lookups.{look_begins, look_finds, look_further, look_goes_on, look_stops, look_ends}
 use Rattle.fv_rules.proofs.lookup.Definitions.look_up.Goals as goal
 
 pub outward-init : goal.outward-init
-outward-init c = c.pass-at.ensures.reaches c.args.self.now
+outward-init c = look_begins c.args.self.now c.args.scopes.now.scopes c.args.name c.args.env
 
 pub returns-in-Some-in_scope : goal.returns-in-Some-in_scope
 returns-in-Some-in_scope c =
@@ -15,7 +15,7 @@ returns-then-outer-at c = look_stops meaning.Unknown c.outward.invariant c.in-So
 pub outward-preserved : goal.outward-preserved
 outward-preserved c =
     look_further (look_goes_on c.outward.invariant c.in-Some.ensures c.in_default-in_scope.ensures c.outer_of-outer.ensures)
-    (c.pass-at-in-Some.ensures.reaches c.args.self.now)
+    c.further-at.ensures.reaches
 
 pub returns : goal.returns
 returns c = look_ends c.outward.invariant c.in_default.ensures

@@ -17,7 +17,7 @@ more c =
     (subst (λ o. IfSome o (λ b. b.ruled ≡ c.args.ruled.now)) c.in-Some.is c.in_ok-sorted.ensures.ruled) c.rules-rules.ensures.rules c.in_ok-push.ensures.items
 
 pub invariant_of-self-then-i-len : goal.invariant_of-self-then-i-len
-invariant_of-self-then-i-len c = (c.self.invariant.0, more (goal.at.invariant_of-self-then-i-len c).In_ok-push)
+invariant_of-self-then-i-len c = (c.self.invariant.0, more (goal.at.invariant_of-self-then-i-len c).In_ok-push, c.self.invariant.2)
 
 pub invariant_of-self-else-i-len : goal.invariant_of-self-else-i-len
-invariant_of-self-else-i-len c = (c.self.invariant.0, more (goal.at.invariant_of-self-else-i-len c).In_ok-push)
+invariant_of-self-else-i-len c = (c.self.invariant.0, more (goal.at.invariant_of-self-else-i-len c).In_ok-push, c.self.invariant.2)

@@ -1,11 +1,10 @@
 use Rattle.std.proofs.Common.{refl, arith, ◌+◌}
 use Rattle.fv_rules.specs.declared.ways.Ways.{Ways}
-use Rattle.fv_rules.specs.declared.value.Scope.TheVariants.{Definitions}
 use Rattle.fv_rules.proofs.Outward.{ends_here}
 use Rattle.fv_rules.proofs.ways.Ways.end.Goals as goal
 
 pub returns-clause-ok : goal.returns-clause-ok
-returns-clause-ok c scopes list outer h =
+returns-clause-ok c scopes s h =
     let old : Ways = c.args.self.now in
     let new : Ways = record { tries = old.tries; ways = c.push.new.self } in
-    ends_here scopes (Definitions list outer) old new (c.len.result + 1) refl c.in_ok-push.ensures.items (omega (arith, c.len.ensures, old.ways.ok.0)) h
+    ends_here scopes s old new (c.len.result + 1) refl c.in_ok-push.ensures.items (omega (arith, c.len.ensures, old.ways.ok.0)) h

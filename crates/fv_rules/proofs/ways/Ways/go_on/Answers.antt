@@ -2,8 +2,8 @@ use Rattle.std.proofs.Common.{refl, arith, ◌+◌}
 use Rattle.std.proofs.lemmas.Result.{err_from_is_err_and}
 use Rattle.fv_rules.specs.declared.ways.Way.{Way}
 use Rattle.fv_rules.specs.declared.ways.Ways.{Ways}
-use Rattle.fv_rules.proofs.Outward.{ways_on, binds_on}
-use Rattle.fv_rules.proofs.ways.Ways.bind.Goals as goal
+use Rattle.fv_rules.proofs.Outward.{IsKept, ways_on, keeps_on}
+use Rattle.fv_rules.proofs.ways.Ways.go_on.Goals as goal
 
 pub returns-in_err-root-clause-err : goal.returns-in_err-root-clause-err
 returns-in_err-root-clause-err c =
@@ -20,10 +20,11 @@ returns-in_err-push-clause-err c =
     rw p.1 (λ scopes h. ways_on scopes old new c.in_ok-root.ensures.grown c.in_err-push.ensures.items h)
 
 pub returns-clause-ok : goal.returns-clause-ok
-returns-clause-ok c scopes value h =
+returns-clause-ok c scopes s key outer below h =
     let old : Ways = c.args.self.now in
     let new : Ways = record { tries = c.with.new.self; ways = c.push.new.self } in
     let way : Way = c.outward-way.result in
     let out = c.outward-way.ensures scopes h in
-    binds_on scopes old new c.args.name c.args.outer (c.len.result + 1) c.in_ok-root.root value way c.in_ok-root.ensures.grown
-    c.in_ok-push.ensures.items (omega (arith, c.len.ensures, old.ways.ok.0)) out (c.in_ok-root.ensures.with out.there) h
+    let kept : IsKept scopes s c.args.key c.args.outer = record { has = key; around = outer; below = below } in
+    keeps_on scopes s old new c.args.key c.args.outer (c.len.result + 1) c.in_ok-root.root way c.in_ok-root.ensures.grown
+    c.in_ok-push.ensures.items (omega (arith, c.len.ensures, old.ways.ok.0)) kept out (c.in_ok-root.ensures.with out.there) h
