@@ -1,0 +1,5 @@
+pub mod Closed
+mod Looking
+mod Parted
+pub mod Outputs
+mod Numbered
