@@ -6,7 +6,6 @@ use Rattle.fv_parse_grammar.specs.Tree.{Tree}
 use Rattle.fv_parse.specs.Trees.{Parsed, program_of, size_of, text_of, first_named}
 use Rattle.fv_diagram.specs.Diagram.{Diagram}
 use Rattle.fv_diagram.specs.Arena.{count_of, empty_arena, tree_of}
-use Rattle.fv_diagram.specs.declared.control.ControlInfo.{ControlInfo}
 use Rattle.fv_rules.specs.declared.refusal.EvalRefusal.{EvalRefusal}
 use Rattle.fv_rules.specs.declared.refusal.EvalRefusal.TheVariants.{NoMemory}
 use Rattle.fv_rules.specs.declared.value.Value as code_value
@@ -14,7 +13,13 @@ use Rattle.fv_rules.specs.declared.value.Value.TheVariants as value
 use Rattle.fv_rules.specs.declared.value.Scope.TheVariants as scope
 use Rattle.fv_rules.specs.Environments.{Environments, scope_in, with_scope}
 use Rattle.fv_rules.specs.Values.{Value, Flat, Outermost, Scope}
-use Rattle.fv_rules.specs.Steps.{State, Outcome, Eval, after, ◌>>=◌, give}
+use Rattle.std.proofs.Common.{ap₂, Bool, true, false}
+use Rattle.std.specs.Prelude.{if◌then◌else◌}
+use Rattle.fv_diagram.specs.Diagram.{has_table_primitive}
+use Rattle.fv_rules.specs.declared.refusal.EvalRefusal.TheVariants.{TableForm}
+use Rattle.fv_rules.specs.declared.refusal.TableCause.TheVariants as cause
+use Rattle.fv_rules.specs.Steps.{State, Outcome, Eval, after, ◌>>=◌, give, refuse}
+use Rattle.fv_rules.specs.Steps.{whole as no_primitive}
 use Rattle.fv_rules.specs.Rules.{ev, flat, finished, name_value, program_value, start, turned}
 use Rattle.fv_rules.specs.Shows.{ShowsValue, ShowsEnv}
 use Rattle.fv_eval_machine.specs.Machine.{Config, Drawn, Finish, Ended, StartsMean, StepsMean, first, meaning, step}
@@ -36,31 +41,42 @@ whole l x = meaning l (first x start)
 
 -- ---- ends
 
-finished_ok : (o : Outcome Diagram) (d : Diagram) (s : State) → after o (λ x. give (Flat x)) ≡ Ok (Flat d, s) → finished o ≡ Ok (d, s.controls)
-finished_ok (Ok x) d s e =
+came : (o : Outcome Diagram) (d : Diagram) (s : State) → after o (λ x. give (Flat x)) ≡ Ok (Flat d, s) → o ≡ Ok (d, s)
+came (Ok x) d s e =
     let both : ◌≡◌ {A = Value × State} (Flat x.0, x.1) (Flat d, s) = cc in
-    let value : Flat x.0 ≡ Flat d = ap (λ (q : Value × State). q.0) both in
+    let value : ◌≡◌ {A = Value} (Flat x.0) (Flat d) = ap (λ (q : Value × State). q.0) both in
     let diagram : x.0 ≡ d = cc in
-    let named : Result (Diagram × List ControlInfo) EvalRefusal = Ok (d, x.1.controls) in
-    let left : finished (Ok x) ≡ named = ap (λ (y : Diagram). Ok (y, x.1.controls)) diagram in
-    let right : named ≡ Ok (d, s.controls) = ap (λ (q : Value × State). Ok (d, q.1.controls)) both in
-    left ∙ right
-finished_ok (Err r) d s e = absurd (cc)
+    ap₂ (λ (y : Diagram) (t : State). Ok (y, t)) diagram (ap (λ (q : Value × State). q.1) both)
+came (Err r) d s e = absurd (cc)
 
-finished_err : (o : Outcome Diagram) (r : EvalRefusal) → after o (λ x. give (Flat x)) ≡ Err r → finished o ≡ Err r
-finished_err (Ok x) r e = absurd (cc)
-finished_err (Err q) r e = let h : q ≡ r = cc in ap Err h
+came_not : (o : Outcome Diagram) (r : EvalRefusal) → after o (λ x. give (Flat x)) ≡ Err r → o ≡ Err r
+came_not (Ok x) r e = absurd (cc)
+came_not (Err q) r e = let h : q ≡ r = cc in ap Err h
 
--- a run that is done has the program's diagram and its controls
+-- what the third rule of tables makes of a diagram
+abbrev judged : Bool → Diagram → State → Outcome Diagram
+judged b d s = (if b then refuse (TableForm cause.Primitive) else give d) s
+
+-- a diagram without a table primitive is the program's, with the controls
+pub is_program : (p : Parsed) (d : Diagram) (s : State) → of_process p.tokens (program_of p) start ≡ Ok (d, s) → has_table_primitive d ≡ false
+    → program_value p.tokens (program_of p) ≡ Ok (d, s.controls)
+is_program p d s e h = ap (λ (o : Outcome Diagram). finished (after o no_primitive)) e ∙ ap (λ b. finished (judged b d s)) h
+
+-- and one with such a primitive is refused
+pub is_left : (p : Parsed) (d : Diagram) (s : State) → of_process p.tokens (program_of p) start ≡ Ok (d, s) → has_table_primitive d ≡ true
+    → program_value p.tokens (program_of p) ≡ Err (TableForm cause.Primitive)
+is_left p d s e h = ap (λ (o : Outcome Diagram). finished (after o no_primitive)) e ∙ ap (λ b. finished (judged b d s)) h
+
+-- a run that is done has the diagram of `process`, and the state
 pub done : (p : Parsed) (m : code_machine.Machine) (i : ℕ) → StartsMean → Ends p m (Ok (value.Diagram i)) (whole p.tokens (program_of p))
-    → (i < count_of m.drawing.diagrams) × (program_value p.tokens (program_of p) ≡ Ok (tree_of m.drawing.diagrams i, m.controls))
+    → (i < count_of m.drawing.diagrams) × (of_process p.tokens (program_of p) start ≡ Ok (tree_of m.drawing.diagrams i, state_of m))
 done p m i mean h = shown h.0 (sym (mean p.tokens (program_of p) start) ∙ h.1) h.2
   where
     shown : (v : Value) → flat (of_process p.tokens (program_of p)) start ≡ Ok (v, state_of m) → ShowsValue (world p m) (value.Diagram i) v
-        → (i < count_of m.drawing.diagrams) × (program_value p.tokens (program_of p) ≡ Ok (tree_of m.drawing.diagrams i, m.controls))
+        → (i < count_of m.drawing.diagrams) × (of_process p.tokens (program_of p) start ≡ Ok (tree_of m.drawing.diagrams i, state_of m))
     shown (Flat d) e k = (
       k.0,
-      finished_ok (of_process p.tokens (program_of p) start)
+      came (of_process p.tokens (program_of p) start)
           (tree_of m.drawing.diagrams i) (state_of m) (e ∙ ap (λ (x : Diagram). Ok (Flat x, state_of m)) (sym k.1)),
     )
     shown v e k = absurd k
@@ -86,7 +102,9 @@ done_flat p m u mean h =
 pub refused : (p : Parsed) (m : code_machine.Machine) (r : EvalRefusal) → StartsMean → Ends p m (Err r) (whole p.tokens (program_of p))
     → (r ≡ NoMemory) ⊎ (program_value p.tokens (program_of p) ≡ Err r)
 refused p m r mean (inl h) = inl h
-refused p m r mean (inr h) = inr (finished_err (of_process p.tokens (program_of p) start) r (sym (mean p.tokens (program_of p) start) ∙ h))
+refused p m r mean (inr h) =
+    inr (ap (λ (o : Outcome Diagram). finished (after o no_primitive))
+    (came_not (of_process p.tokens (program_of p) start) r (sym (mean p.tokens (program_of p) start) ∙ h)))
 
 -- ---- steps of a run
 

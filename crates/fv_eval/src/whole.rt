@@ -1,11 +1,12 @@
 // The evaluation of a whole program.
 
-ghost use Rattle.std.specs.Prelude.{ℕ, ◌≡◌, ◌⊎◌, ◌<◌, [], false, codes, filter, IfErr, IfNone, IfOk, IfSome, Ok, Err};
+ghost use Rattle.std.specs.Prelude.{ℕ, ◌≡◌, ◌⊎◌, ◌<◌, [], true, false, codes, filter, IfErr, IfNone, IfOk, IfSome, Ok, Err};
 ghost use Rattle.fv_parse_grammar.specs.Tree.{items};
 ghost use Rattle.fv_parse.specs.Trees.{first_named, program_of, size_of, text_of, tree_in};
-ghost use Rattle.fv_diagram.specs.Diagram.{HasNumbers};
+ghost use Rattle.fv_diagram.specs.Diagram.{HasNumbers, has_table_primitive};
 ghost use Rattle.fv_diagram.specs.Arena.{count_of, tree_of};
-ghost use Rattle.fv_rules.specs.declared.refusal.EvalRefusal.TheVariants.{NoMemory};
+ghost use Rattle.fv_rules.specs.declared.refusal.EvalRefusal.TheVariants.{NoMemory, TableForm};
+ghost use Rattle.fv_rules.specs.declared.refusal.TableCause.TheVariants.{Primitive};
 ghost use Rattle.fv_rules.specs.declared.value.Value.TheVariants.{Diagram};
 ghost use Rattle.fv_rules.specs.Values.{is_of};
 ghost use Rattle.fv_rules.specs.Rules.{program_value, start};
@@ -23,7 +24,7 @@ use fv_base::limits::VISIT_LIMIT;
 use fv_diagram::{DiagramId, Diagrams};
 use fv_eval_machine::steps_mean;
 use fv_parse::{Tree, TreeId, TreeNode};
-use fv_rules::{Definitions, EvalRefusal, Value, evaluates_soundly};
+use fv_rules::{Definitions, EvalRefusal, TableCause, Value, evaluates_soundly};
 use std::alloc::{AllocError, Global};
 use std::marker::Model;
 
@@ -101,19 +102,27 @@ fn started(alloc: Global, tree: &Tree, name: u64) -> Result<(Machine, Focus), Al
     Ok((machine, Focus::Call { name, env }))
 }
 
-// The program of a machine that is done.
+// The program of a machine that is done, in which no table primitive is left.
 fn finished(machine: Machine, value: Value) -> Result<Program, EvalRefusal>
     requires flat { (i : ℕ) × (value ≡ Diagram i) }
-    requires sound { (i : ℕ) → value ≡ Diagram i
-        → (i < count_of machine.drawing.diagrams) × IsSoundProgram (tree_of machine.drawing.diagrams i) machine.controls }
+    requires inside { (i : ℕ) → value ≡ Diagram i → i < count_of machine.drawing.diagrams }
+    requires sound { (i : ℕ) → value ≡ Diagram i → has_table_primitive (tree_of machine.drawing.diagrams i) ≡ false
+        → IsSoundProgram (tree_of machine.drawing.diagrams i) machine.controls }
     ensures program { IfOk result
-        (λ p. (value ≡ Diagram p.root) × (p.diagrams ≡ machine.drawing.diagrams) × (p.controls ≡ machine.controls)) }
-    ensures refusal { IfErr result (λ e. e ≡ NoMemory) }
+        (λ p. (value ≡ Diagram p.root) × (p.diagrams ≡ machine.drawing.diagrams) × (p.controls ≡ machine.controls)
+        × (has_table_primitive (tree_of machine.drawing.diagrams p.root) ≡ false)) }
+    ensures refusal { IfErr result (λ e. (e ≡ TableForm Primitive)
+        × ((i : ℕ) → value ≡ Diagram i → has_table_primitive (tree_of machine.drawing.diagrams i) ≡ true)) }
     ensures numbers { IfOk result (λ p. HasNumbers (tree_of p.diagrams p.root)) }
 {
     let Value::Diagram(root) = value else {
         unreachable!();
     };
+    if machine.drawing.has_table_primitive(root) {
+        return Err(EvalRefusal::TableForm {
+            cause: TableCause::Primitive,
+        });
+    }
     let diagrams = machine.drawing.finish();
     // The arena says here that every number in the diagram has 32 bits.
     let _arity = diagrams.arity(root);

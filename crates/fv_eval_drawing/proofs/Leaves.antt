@@ -6,13 +6,13 @@ use Rattle.fv_diagram.specs.Diagram.{Diagram}
 use Rattle.fv_diagram.specs.Arena.{Arena, tree_with}
 use Rattle.fv_rules.specs.declared.refusal.EvalRefusal.{EvalRefusal}
 use Rattle.fv_rules.specs.declared.refusal.EvalRefusal.TheVariants.{NoMemory}
-use Rattle.fv_rules.specs.Steps.{State, Outcome, Eval, put}
+use Rattle.fv_rules.specs.Steps.{State, Outcome, Eval, misfit, put_after}
 use Rattle.fv_rules.specs.Rules.{start}
 use Rattle.fv_rules.specs.Puts.{Puts}
 use Rattle.fv_eval_drawing.specs.Makes.{Canvas, IsLeaf, Makes}
 
 -- a leaf always fits, and is put as it is
-leaf_fits : (a : Arena) (n : Node) (s : State) → IsLeaf n → put (tree_with a n) s ≡ Ok (tree_with a n, s)
+leaf_fits : (a : Arena) (n : Node) (s : State) → IsLeaf n → put_after (misfit (tree_with a n)) (tree_with a n) s ≡ Ok (tree_with a n, s)
 leaf_fits a (node.Prim p) s h = refl
 leaf_fits a (node.Number n) s h = refl
 leaf_fits a (node.Control k) s h = refl
@@ -29,8 +29,9 @@ leaf_refused new old n e leaf (inr h) = absurd (no_refusal (sym (leaf_fits old n
     no_refusal : {x : Diagram × State} → ◌≡◌ {A = Outcome Diagram} (Ok x) (Err e) → ⊥
     no_refusal q = cc
 
--- a node that was put, over a canvas
-pub puts_makes : (a b : Canvas) (d : Diagram) (r : Result ℕ EvalRefusal) → b.tables ≡ a.tables → Puts b.diagrams d r → Makes a b (put d) r
+-- a node that was put as it is, over a canvas
+pub puts_makes : (a b : Canvas) (d : Diagram) (r : Result ℕ EvalRefusal) → b.tables ≡ a.tables → Puts b.diagrams d r
+    → Makes a b (put_after (misfit d) d) r
 puts_makes a b d (Ok i) t h = (
   h.0,
   λ s. h.2 (record s { tables = a.tables }) ∙ ap₂ (λ (x : Diagram) (k : ℕ). Ok (x, record s { tables = k })) (sym h.1) (sym t),

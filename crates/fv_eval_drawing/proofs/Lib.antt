@@ -5,6 +5,7 @@ pub mod Leaves
 pub mod Operated
 pub mod Gathered
 pub mod Loops
+pub mod Tabling
 pub mod Fed
 pub mod Kept
 pub mod Remembered

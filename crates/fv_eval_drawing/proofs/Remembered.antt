@@ -1,5 +1,6 @@
 -- Arenas that nodes were put into: the diagrams stay composed, and what is remembered of them stays true.
-use Rattle.std.proofs.Common.{◌≡◌, ℕ, ◌<◌, ◌++◌, List, [], ◌∷◌, Result, Ok, Err, refl, sym, ap, ap₂, subst, ◌∙◌, arith, below_more, append_assoc, append-nil, ℤ}
+use Rattle.std.proofs.Common.{◌≡◌, ℕ, ◌<◌, ◌++◌, List, [], ◌∷◌, length, Result, Ok, Err, refl, sym, ap, ap₂, subst, ◌∙◌, arith, below_more, append_assoc, ℤ}
+use Rattle.std.proofs.Common.{append-nil}
 use Rattle.std.specs.Prelude.{All, get_or, IfOk, OnOk, OnErr}
 use Rattle.std.proofs.lemmas.List.{length_push}
 use Rattle.std.proofs.lemmas.List.Elements.{All-head, All-tail}
@@ -7,7 +8,7 @@ use Rattle.fv_diagram.specs.declared.node.Node.{Node}
 use Rattle.fv_diagram.specs.declared.node.Node.TheVariants as node
 use Rattle.fv_diagram.specs.Diagram.{Diagram}
 use Rattle.fv_diagram.specs.Composed.{IsComposed}
-use Rattle.fv_diagram.specs.Arena.{Arena, ChildrenBelow, count_of, tree_of, tree_with, with_node}
+use Rattle.fv_diagram.specs.Arena.{Arena, ChildrenBelow, count_of, tree_of, tree_with, with_list, with_node}
 use Rattle.fv_diagram.proofs.Trees.{put_tree, put_tree_keeps}
 use Rattle.fv_arity.specs.Compositions.{HasComposedParts}
 use Rattle.fv_rules.specs.declared.refusal.EvalRefusal.{EvalRefusal}
@@ -67,6 +68,30 @@ pub put_extends : (a b : Canvas) (n : Node) (r : Result ℕ EvalRefusal)
 put_extends a b n (Ok i) added err keeps =
     let e = length_push a.diagrams.nodes n in record { longer = omega (arith, e, ap count_of added.1); trees = keeps }
 put_extends a b n (Err e) added err keeps = record { longer = omega (arith, ap count_of err); trees = keeps }
+
+-- ---- a list more
+
+list_extends : {E : Type 0} (a b : Canvas) (values : List ℤ) (r : Result ℕ E)
+    → IfOk r (λ t. (t ≡ length a.diagrams.lists) × (b.diagrams ≡ with_list a.diagrams values)) → OnErr r (b.diagrams ≡ a.diagrams)
+    → ((i : ℕ) → i < count_of a.diagrams → tree_of b.diagrams i ≡ tree_of a.diagrams i) → Extends a b
+list_extends a b values (Ok t) added err keeps = record { longer = omega (arith, ap count_of added.1); trees = keeps }
+list_extends a b values (Err e) added err keeps = record { longer = omega (arith, ap count_of err); trees = keeps }
+
+same_count : {E : Type 0} (a b : Arena) (values : List ℤ) (r : Result ℕ E)
+    → IfOk r (λ t. (t ≡ length a.lists) × (b ≡ with_list a values)) → OnErr r (b ≡ a) → count_of b ≡ count_of a
+same_count a b values (Ok t) added err = ap count_of added.1
+same_count a b values (Err e) added err = ap count_of err
+
+-- the diagrams stay composed, and what is remembered of them stays true
+pub list_keeps : {E : Type 0} (a b : Canvas) (ks : List Known) (values : List ℤ) (r : Result ℕ E)
+    → IfOk r (λ t. (t ≡ length a.diagrams.lists) × (b.diagrams ≡ with_list a.diagrams values)) → OnErr r (b.diagrams ≡ a.diagrams)
+    → ((i : ℕ) → i < count_of a.diagrams → tree_of b.diagrams i ≡ tree_of a.diagrams i)
+    → AreComposed a.diagrams × Remembers a.diagrams ks → AreComposed b.diagrams × Remembers b.diagrams ks
+list_keeps a b ks values r added err keeps h =
+    let e = same_count a.diagrams b.diagrams values r added err in (
+      λ i l. let k : i < count_of a.diagrams = omega (arith, e, l) in subst IsComposed (sym (keeps i k)) (h.0 i k),
+      still_remembers a b ks (list_extends a b values r added err keeps) h.1,
+    )
 
 -- ---- integers more
 

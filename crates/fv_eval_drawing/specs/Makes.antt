@@ -1,10 +1,11 @@
 -- What putting compositions over the diagrams of an evaluation answers, against what the rules give (this project's profile).
-use Rattle.std.specs.Prelude.{◌≡◌, ◌⊎◌, ℕ, ◌<◌, ◌≤◌, List, map, All, Result, Ok, Err}
+use Rattle.std.specs.Prelude.{◌≡◌, ◌⊎◌, ℕ, ◌<◌, ◌≤◌, Result, Ok, Err}
 use Rattle.fv_diagram.specs.declared.node.Node.{Node}
 use Rattle.fv_diagram.specs.declared.node.Node.TheVariants as node
 use Rattle.fv_diagram.specs.Diagram.{Diagram}
 use Rattle.fv_diagram.specs.Composed.{IsComposed}
 use Rattle.fv_diagram.specs.Arena.{Arena, count_of, tree_of}
+pub use Rattle.fv_diagram_head.specs.Lists.{AreThere, trees_of}
 use Rattle.fv_rules.specs.declared.refusal.EvalRefusal.{EvalRefusal}
 use Rattle.fv_rules.specs.declared.refusal.EvalRefusal.TheVariants.{NoMemory}
 use Rattle.fv_rules.specs.declared.value.Value as code_value
@@ -35,14 +36,6 @@ pub record AddsDiagrams (old new : Canvas) : Type 0 where
 pub record Draws (a : Arena) (i : ℕ) (d : Diagram) : Type 0 where
   pub inside : i < count_of a
   pub is : tree_of a i ≡ d
-
--- these numbers are of diagrams that are there
-abbrev pub AreThere : Arena → List ℕ → Type 0
-AreThere a ids = All (λ i. i < count_of a) ids
-
--- the diagrams with these numbers
-abbrev pub trees_of : Arena → List ℕ → List Diagram
-trees_of a ids = map (λ i. tree_of a i) ids
 
 -- a node without parts
 abbrev pub IsLeaf : Node → Type 0

@@ -14,7 +14,7 @@ use std::alloc::AllocError;
 
 impl Drawing {
     // How many streams diagrams give together.
-    fn all_outputs(&self, parts: &[DiagramId]) -> Result<u64, AllocError>
+    pub(crate) fn all_outputs(&self, parts: &[DiagramId]) -> Result<u64, AllocError>
         requires { AreThere self.now.diagrams parts.now }
         ensures { IfOk result (λ n. n ≡ all_outputs (trees_of self.now.diagrams parts.now)) }
     {

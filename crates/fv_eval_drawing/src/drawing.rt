@@ -2,6 +2,7 @@
 
 ghost use Rattle.std.specs.Prelude.{◌≡◌, ◌*◌, ◌<◌, ◌≤◌, All, IfOk, List, length};
 ghost use Rattle.fv_diagram.specs.Arena.{ChildrenBelow, NamesLists, IsArity, count_of, empty_arena, size_limit, tree_of, tree_with};
+ghost use Rattle.fv_diagram.specs.Diagram.{has_table_primitive};
 ghost use Rattle.fv_diagram_number.specs.Numbers.{number_of};
 ghost use Rattle.fv_rules.specs.Values.{Value as Meant};
 ghost use Rattle.fv_rules.specs.Matching.{chosen, number_or};
@@ -23,10 +24,11 @@ use std::marker::Model;
 /// The diagrams of an evaluation, with the numbers of those that were asked for. Each is composed.
 #[derive(Drop)]
 pub struct Drawing {
-    diagrams: Diagrams,
+    pub(crate) alloc: Global,
+    pub(crate) diagrams: Diagrams,
     numbers: Numbers,
     // The table sum.
-    tables: u64,
+    pub(crate) tables: u64,
 }
 
 impl Model for Drawing {
@@ -46,6 +48,7 @@ impl Drawing {
         ensures { result ≡ record { diagrams = empty_arena; tables = 0 } }
     {
         Drawing {
+            alloc,
             diagrams: Diagrams::new(alloc),
             numbers: Numbers::new(alloc),
             tables: 0,
@@ -60,18 +63,21 @@ impl Drawing {
         self.diagrams
     }
 
-    /// Puts a node over diagrams: its arity is tried first, then its size.
+    /// Puts a node over diagrams: its arity is tried first, then its size. Behind `rdtable` or `rwtable` it becomes a table.
     pub fn put(&mut self, node: &Node) -> Result<DiagramId, EvalRefusal>
         requires children { ChildrenBelow (count_of self.old.diagrams) node.now }
         requires lists { NamesLists (length self.old.diagrams.lists) node.now }
         ensures makes { Makes self.old self.new (put (tree_with self.old.diagrams node.now)) result }
         ensures keeps { Extends self.old self.new }
     {
-        self.put_node(node)
+        match self.before_table(node) {
+            Some((before, writes)) => self.table(before, writes),
+            None => self.put_node(node),
+        }
     }
 
-    // Puts a node.
-    fn put_node(&mut self, node: &Node) -> Result<DiagramId, EvalRefusal>
+    // Puts a node as it is.
+    pub(crate) fn put_node(&mut self, node: &Node) -> Result<DiagramId, EvalRefusal>
         requires children { ChildrenBelow (count_of self.old.diagrams) node.now }
         requires lists { NamesLists (length self.old.diagrams.lists) node.now }
         ensures puts { Puts self.new.diagrams (tree_with self.old.diagrams node.now) result }
@@ -103,6 +109,14 @@ impl Drawing {
                 _other => unreachable!(),
             },
         }
+    }
+
+    /// Whether `rdtable` or `rwtable` is still in a diagram.
+    pub fn has_table_primitive(&self, id: DiagramId) -> bool
+        requires { id < count_of self.now.diagrams }
+        ensures { result ≡ has_table_primitive (tree_of self.now.diagrams id) }
+    {
+        self.diagrams.has_table_primitive(id)
     }
 
     /// How many streams a diagram takes and gives.

@@ -6,6 +6,7 @@ mod application;
 mod drawing;
 mod lists;
 mod pairs;
+mod tables;
 
 pub use drawing::Drawing;
 pub use lists::Link;

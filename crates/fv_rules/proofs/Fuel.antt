@@ -12,7 +12,10 @@ use Rattle.fv_parse_grammar.specs.declared.form.Iteration.TheVariants as repetit
 use Rattle.fv_num.specs.declared.op.Op.TheVariants as op
 use Rattle.fv_diagram.specs.declared.node.Primitive.{Primitive as Prim}
 use Rattle.fv_diagram.specs.declared.node.Primitive.TheVariants as prim
-use Rattle.fv_diagram.specs.Diagram.{Diagram, Primitive, Constant, Bind, Par, Seq, Split, Merge, Rec, size, inputs}
+use Rattle.fv_diagram.specs.Diagram.{Diagram, Primitive, Constant, Table, Bind, Par, Seq, Split, Merge, Rec, size, inputs}
+use Rattle.fv_diagram_number.specs.Numbers.{at_first}
+use Rattle.fv_num.specs.Words.{argument}
+use Rattle.std.proofs.Common.{◌+◌, ◌*◌}
 use Rattle.fv_diagram.specs.Arena.{size_limit}
 use Rattle.fv_diagram.specs.declared.control.ControlInfo.{ControlInfo}
 use Rattle.fv_rules.specs.declared.refusal.EvalRefusal.{EvalRefusal}
@@ -23,7 +26,10 @@ use Rattle.fv_rules.specs.Values.{Name, Value, Flat, Abstraction, Rules, Env, Bo
 use Rattle.fv_rules.specs.Values.{IsValue, IsDefined, Unknown, lookup, in_order, count_taken}
 use Rattle.fv_diagram_number.specs.Numbers.{number_of}
 use Rattle.fv_rules.specs.Matching.{Bindings, settled, value_number, bound_in, chosen}
-use Rattle.fv_rules.specs.Steps.{State, Outcome, Eval, after, ◌>>=◌, give, refuse, spent, visit, fresh_slots, misfit, put_after, put, is_alike}
+use Rattle.fv_rules.specs.Steps.{State, Outcome, Eval, after, ◌>>=◌, give, refuse, spent, visit, fresh_slots, misfit, put_after, put_as, put, is_alike}
+use Rattle.fv_diagram_head.specs.Heads.{parts, cut, is_head, table_numbers}
+use Rattle.fv_rules.specs.Steps.{sized, side_by_side, table_size, grow, table_limit, tabled_by, tabled, waved}
+use Rattle.fv_rules.specs.Steps.{before_table}
 use Rattle.fv_rules.specs.Steps.{labelled, entered, control}
 use Rattle.fv_rules.specs.Rules.{primitive_of, switch_kind, slider_kind, Evaluator, flat, on_slots, bind_all, turned, operated, joined, from_right}
 use Rattle.fv_rules.specs.Rules.{from_left, defined_value, meant, name_value, arguments, all_turned, wires, all_outputs, takes_the_right, led, fed_by}
@@ -79,12 +85,50 @@ choice false p q = q
 flat_agrees : {n : ℕ} {m m' : Eval Diagram} → Agrees n m m' → Agrees n (flat m) (flat m')
 flat_agrees a = bind_agrees a (λ d. give_agrees)
 
+sized_agrees : (n : ℕ) (d : Diagram) → Agrees n (sized d) (sized d)
+sized_agrees n d = choice (nat_le (size d) size_limit) give_agrees refuse_agrees
+
 put_after_agrees : (n : ℕ) (o : Option EvalRefusal) (d : Diagram) → Agrees n (put_after o d) (put_after o d)
 put_after_agrees n (Some r) d = refuse_agrees
-put_after_agrees n None d = choice (nat_le (size d) size_limit) give_agrees refuse_agrees
+put_after_agrees n None d = sized_agrees n d
+
+side_agrees : (n : ℕ) (d : Diagram) (ds : List Diagram) → Agrees n (side_by_side d ds) (side_by_side d ds)
+side_agrees n d [] = give_agrees
+side_agrees n d (x ∷ xs) = bind_agrees (side_agrees n x xs) (λ r. sized_agrees n (Par d r))
+
+table_size_agrees : (n : ℕ) (z : ℤ) → Agrees n (table_size z) (table_size z)
+table_size_agrees n (pos zero) = refuse_agrees
+table_size_agrees n (pos (suc k)) = give_agrees
+table_size_agrees n (negsuc k) = refuse_agrees
+
+if_at_most : {A : Type 0} (n : ℕ) (b : Bool) (x y : Outcome A) → AtMost n x → AtMost n y → AtMost n (if b then x else y)
+if_at_most n true x y p q = p
+if_at_most n false x y p q = q
+
+grow_agrees : (n k : ℕ) → Agrees n (grow k) (grow k)
+grow_agrees n k = keeps n (grow k) (λ s. if_at_most s.visits (nat_le (s.tables + k) table_limit) _ _ (omega arith) tt)
+
+waved_agrees : (n : ℕ) (values : List ℤ) → Agrees n (waved values) (waved values)
+waved_agrees n values = bind_agrees (grow_agrees n (length values)) (λ u. give_agrees)
+
+tabled_by_agrees : (n : ℕ) (writes : Bool) (ds rs : List Diagram) → Agrees n (tabled_by writes ds rs) (tabled_by writes ds rs)
+tabled_by_agrees n writes [] rs = refuse_agrees
+tabled_by_agrees n writes (d ∷ ds) [] = refuse_agrees
+tabled_by_agrees n writes (d ∷ ds) (r ∷ rs) =
+    bind_agrees (side_agrees n d ds) (λ h. bind_agrees (table_size_agrees n (argument (at_first h) 0)) (λ k.
+    bind_agrees (grow_agrees n (k * size h)) (λ u. bind_agrees (side_agrees n r rs) (λ rest. sized_agrees n (Seq rest (Table (table_numbers k h) writes))))))
+
+tabled_agrees : (n : ℕ) (writes : Bool) (d : Diagram) → Agrees n (tabled writes d) (tabled writes d)
+tabled_agrees n writes d =
+    let c = cut 2 (parts d) in choice (is_head c.0) (tabled_by_agrees n writes c.0 c.1) refuse_agrees
+
+put_as_agrees : (n : ℕ) (x : Option (Diagram × Bool)) (o : Option EvalRefusal) (d : Diagram) → Agrees n (put_as x o d) (put_as x o d)
+put_as_agrees n None o d = put_after_agrees n o d
+put_as_agrees n (Some x) (Some r) d = refuse_agrees
+put_as_agrees n (Some x) None d = tabled_agrees n x.1 x.0
 
 put_agrees : (n : ℕ) (d : Diagram) → Agrees n (put d) (put d)
-put_agrees n d = put_after_agrees n (misfit d) d
+put_agrees n d = put_as_agrees n (before_table d) (misfit d) d
 
 bind_all_agrees : (n slot k : ℕ) (d : Diagram) → Agrees n (bind_all slot k d) (bind_all slot k d)
 bind_all_agrees n slot zero d = give_agrees

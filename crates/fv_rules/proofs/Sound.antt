@@ -22,7 +22,9 @@ use Rattle.fv_diagram.specs.Diagram.{Diagram, Primitive, Constant, Control, Slot
 use Rattle.fv_diagram.specs.declared.control.ControlInfo.{ControlInfo}
 use Rattle.fv_rules.specs.declared.refusal.EvalRefusal.{EvalRefusal}
 use Rattle.fv_rules.specs.declared.refusal.EvalRefusal.TheVariants.{IterationCount, UnknownName, EvalBudget}
-use Rattle.fv_rules.specs.declared.refusal.EvalRefusal.TheVariants.{ControlClash, ControlBounds, NoMemory}
+use Rattle.fv_rules.specs.declared.refusal.EvalRefusal.TheVariants.{ControlClash, ControlBounds, TableForm, NoMemory}
+use Rattle.fv_rules.specs.declared.refusal.TableCause.TheVariants as cause
+use Rattle.fv_diagram.specs.Diagram.{has_table_primitive}
 use Rattle.fv_parse_grammar.specs.Tree.{items, start_of}
 use Rattle.fv_parse.specs.Trees.{text_of, label_of}
 use Rattle.fv_rules.specs.Values.{Name, Rule, Value, Flat, Abstraction, Rules, Env, Outermost, Bound, Scope, Taken, Nothing, And, Definition, Plain}
@@ -31,7 +33,7 @@ use Rattle.fv_diagram_number.specs.Numbers.{number_of}
 use Rattle.fv_rules.specs.Matching.{Bindings, number_or, settled, and_then, parts_of, parts_without, value_parts, value_number}
 use Rattle.fv_rules.specs.Matching.{matched, all_matched, bound_in, or_next, chosen}
 use Rattle.fv_rules.specs.Steps.{State, Outcome, Eval, after, ◌>>=◌, no_number, no_rule, no_diagram, spent, visit, fresh_slots}
-use Rattle.fv_rules.specs.Steps.{is_alike, labelled, entered, control}
+use Rattle.fv_rules.specs.Steps.{whole, is_alike, labelled, entered, control}
 use Rattle.fv_rules.specs.Rules.{primitive_of, switch_kind, slider_kind, Evaluator, flat, on_slots, bind_all, turned, operated}
 use Rattle.fv_rules.specs.Rules.{defined_value, meant, name_value, arguments, all_turned, width, selected, applied}
 use Rattle.fv_rules.specs.Rules.{bodies, counted, ports, read_number, parameters, slider_info, switch_info, abstraction, rule, descend}
@@ -483,18 +485,24 @@ finished_sound (Err r) d cs g e = absurd (subst (λ (o : Result (Diagram × List
     IsErrs (Ok p) = ⊥
     IsErrs (Err r) = Unit {0}
 
+-- no table primitive is left in a sound diagram
+whole_does : (S : ℕ → Type 0) (k : ℕ) (d : Diagram) → IsSound S k d → Does (IsSound S) 0 k (whole d)
+whole_does S k d g = choice (has_table_primitive d) (refuse_does (TableForm cause.Primitive) tt) (give_does (λ n h. keep S k n d h g))
+
 -- the outcome of a program
 abbrev program : Lexed → Tree → Outcome Diagram
-program l x = (name_value l (ev l) (codes "process") (Scope x Outermost) >>= turned l (ev l)) start
+program l x = (name_value l (ev l) (codes "process") (Scope x Outermost) >>= turned l (ev l) >>= whole) start
 
 program_does : (l : Lexed) (x : Tree) → Stays (IsSound (λ s. ⊥)) 0 start (program l x)
 program_does l x =
     let S : ℕ → Type 0 = λ s. ⊥ in
     let m : Does (SoundValue S) 0 0 (name_value l (ev l) (codes "process") (Scope x Outermost)) =
     name_does l (ev l) (ev_sound l) S 0 (codes "process") (Scope x Outermost) tt in
-    let whole : Does (IsSound S) 0 0 (name_value l (ev l) (codes "process") (Scope x Outermost) >>= turned l (ev l)) =
+    let made : Does (IsSound S) 0 0 (name_value l (ev l) (codes "process") (Scope x Outermost) >>= turned l (ev l)) =
     bind_does m (λ v n h i. turned_does l (ev l) (ev_sound l) S n v i) in
-    whole.stays start (omega arith) (All-nil IsBounded)
+    let all : Does (IsSound S) 0 0 (name_value l (ev l) (codes "process") (Scope x Outermost) >>= turned l (ev l) >>= whole) =
+    bind_does made (λ d n h i. whole_does S n d i) in
+    all.stays start (omega arith) (All-nil IsBounded)
 
 pub evaluates_soundly : (l : Lexed) (x : Tree) (d : Diagram) (cs : List ControlInfo) → program_value l x ≡ Ok (d, cs) → IsSoundProgram d cs
 evaluates_soundly l x d cs e = finished_sound (program l x) d cs (program_does l x) e

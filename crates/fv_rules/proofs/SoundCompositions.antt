@@ -2,7 +2,7 @@
 use Rattle.std.proofs.Common.{inl, inr, ◌≡◌, ◌⊎◌, ℕ, zero, suc, ◌-◌, ◌%◌, ◌≤◌, Bool, true, false, List, [], ◌∷◌, ◌++◌, Option}
 use Rattle.std.proofs.Common.{Some, None, Ok, Err, ℤ, pos, refl, sym, subst, arith}
 use Rattle.std.specs.Prelude.{nat_le, nat_lt, nat_eq, ◌&&◌, ◌≢◌, if◌then◌else◌}
-use Rattle.std.proofs.lemmas.Bool.{and_parts, leb-true, eqb-true}
+use Rattle.std.proofs.lemmas.Bool.{and_parts, leb-true, eqb-true, true≢false}
 use Rattle.std.proofs.lemmas.Option.{none-some}
 use Rattle.fv_parse_grammar.specs.declared.form.Operator.{Operator}
 use Rattle.fv_parse_grammar.specs.declared.form.Operator.TheVariants as operators
@@ -120,7 +120,10 @@ put_by : (S : ℕ → Type 0) (k : ℕ) (d : Diagram) (o : Option EvalRefusal) �
 put_by S k d (Some r) g e = refuse_does r (subst MayCause e (misfit_cause d))
 put_by S k d None g e = put_tried S k d (nat_le (size d) size_limit) (SizeBudget (size d)) tt g e refl
 
+-- no sound part is one of the two table primitives, so no table is put
 pub put_does : (S : ℕ → Type 0) (k : ℕ) (d : Diagram) → HasSoundParts S k d → Does (IsSound S) 0 k (put d)
+put_does S k (Seq a (Primitive prim.ReadTable)) g = absurd (true≢false g.1.plain)
+put_does S k (Seq a (Primitive prim.WriteTable)) g = absurd (true≢false g.1.plain)
 put_does S k d g = put_by S k d (misfit d) g refl
 
 -- ---- leaves and folds

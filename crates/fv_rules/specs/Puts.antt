@@ -4,9 +4,9 @@ use Rattle.fv_diagram.specs.Diagram.{Diagram}
 use Rattle.fv_diagram.specs.Arena.{Arena, count_of, tree_of}
 use Rattle.fv_rules.specs.declared.refusal.EvalRefusal.{EvalRefusal}
 use Rattle.fv_rules.specs.declared.refusal.EvalRefusal.TheVariants.{NoMemory}
-use Rattle.fv_rules.specs.Steps.{State, put}
+use Rattle.fv_rules.specs.Steps.{State, misfit, put_after}
 
--- the node is this diagram, which may be put; or it is refused as the rules refuse it, or memory ran out
+-- the node is this diagram, which may be put as it is; or it is refused as the rules refuse it, or memory ran out
 abbrev pub Puts : Arena → Diagram → Result ℕ EvalRefusal → Type 0
-Puts a d (Ok i) = (i < count_of a) × (tree_of a i ≡ d) × ((s : State) → put d s ≡ Ok (d, s))
-Puts a d (Err e) = (e ≡ NoMemory) ⊎ ((s : State) → put d s ≡ Err e)
+Puts a d (Ok i) = (i < count_of a) × (tree_of a i ≡ d) × ((s : State) → put_after (misfit d) d s ≡ Ok (d, s))
+Puts a d (Err e) = (e ≡ NoMemory) ⊎ ((s : State) → put_after (misfit d) d s ≡ Err e)

@@ -1,5 +1,5 @@
 -- Evaluation: the rules (Faust manual; this project's profile).
-use Rattle.std.specs.Prelude.{◌≡◌, ℕ, zero, suc, ◌+◌, ◌-◌, Bool, false, ◌&&◌, nat_eq, nat_lt, List, [], ◌∷◌, ◌++◌, length, map, replicate, codes, ℤ}
+use Rattle.std.specs.Prelude.{◌≡◌, ℕ, zero, suc, ◌-◌, Bool, false, ◌&&◌, nat_eq, nat_lt, List, [], ◌∷◌, ◌++◌, length, map, replicate, codes, ℤ}
 use Rattle.std.specs.Prelude.{pos, negsuc, neg_ℤ, Option, Some, None, Result, Ok, Err, if◌then◌else◌}
 use Rattle.fv_base.specs.declared.limits.TheConstants.{VISIT_LIMIT}
 use Rattle.fv_lex.specs.Token.{Lexed}
@@ -33,7 +33,8 @@ use Rattle.fv_rules.specs.Values.{Name, Rule, Value, Flat, Abstraction, Rules, E
 use Rattle.fv_rules.specs.Values.{Parameters, Cases, Meaning, IsValue, IsDefined, Unknown, lookup, rule_of, in_order, count_taken}
 use Rattle.fv_diagram_number.specs.Numbers.{number_of}
 use Rattle.fv_rules.specs.Matching.{Bindings, settled, value_number, bound_in, chosen}
-use Rattle.fv_rules.specs.Steps.{State, Outcome, Eval, ◌>>=◌, give, refuse, no_number, no_rule, no_diagram, visit, fresh_slots, put, control}
+use Rattle.fv_rules.specs.Steps.{State, Outcome, Eval, ◌>>=◌, give, refuse, no_number, no_rule, no_diagram, visit, fresh_slots, put, whole, control}
+pub use Rattle.fv_diagram_head.specs.Heads.{all_outputs}
 
 -- ---- one name for each primitive
 
@@ -173,11 +174,6 @@ all_turned l e (v ∷ more) done = do
 -- so many wires
 abbrev pub wires : ℕ → List Diagram
 wires n = replicate n (Primitive prim.Wire)
-
--- the outputs of diagrams together
-abbrev pub all_outputs : List Diagram → ℕ
-all_outputs [] = 0
-all_outputs (d ∷ ds) = outputs d + all_outputs ds
 
 -- a primitive of two inputs other than `prefix`
 abbrev pub takes_the_right : Diagram → Bool
@@ -367,9 +363,10 @@ abbrev pub finished : Outcome Diagram → Result (Diagram × List ControlInfo) E
 finished (Ok x) = Ok (x.0, x.1.controls)
 finished (Err r) = Err r
 
--- The diagram and the controls of a program: its `process`, among its outermost definitions, turned into a diagram.
+-- The diagram and the controls of a program: its `process`, among its outermost definitions, turned into a diagram in which no
+-- table primitive is left.
 abbrev pub program_value : Lexed → Tree → Result (Diagram × List ControlInfo) EvalRefusal
-program_value l x = finished ((name_value l (ev l) (codes "process") (Scope x Outermost) >>= turned l (ev l)) start)
+program_value l x = finished ((name_value l (ev l) (codes "process") (Scope x Outermost) >>= turned l (ev l) >>= whole) start)
 
 -- Evaluation follows its rules.
 abbrev pub FollowsValue : Type 0

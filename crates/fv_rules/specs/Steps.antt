@@ -1,20 +1,27 @@
 -- Evaluations: from a state to a result and a further state, or to the first refusal.
-use Rattle.std.specs.Prelude.{ℕ, zero, suc, ◌+◌, Bool, true, false, ◌&&◌, nat_eq, nat_le, ◌%◌, List, [], ◌∷◌, ◌++◌, length, Option, Some, None}
-use Rattle.std.specs.Prelude.{Result, Ok, Err, if◌then◌else◌, bytes_eq}
+use Rattle.std.specs.Prelude.{ℕ, zero, suc, ◌+◌, ◌*◌, Bool, true, false, ◌&&◌, nat_eq, nat_le, ◌%◌, List, [], ◌∷◌, ◌++◌, length}
+use Rattle.std.specs.Prelude.{ℤ, pos, negsuc, Option, Some, None, Result, Ok, Err, if◌then◌else◌, bytes_eq}
 use Rattle.std.specs.Ordering.{int_eq}
 use Rattle.std.specs.Prelude.{int_le}
+use Rattle.fv_rules.specs.declared.putting.TheConstants.{TABLE_LIMIT}
 use Rattle.fv_lex.specs.Token.{Lexed}
 use Rattle.fv_arity.specs.declared.refusal.ArityKind.TheVariants as kind
-use Rattle.fv_diagram.specs.Diagram.{Diagram, Control, Seq, Split, Merge, Rec, size, inputs, outputs}
+use Rattle.fv_num.specs.Words.{argument}
+use Rattle.fv_diagram.specs.declared.node.Primitive.TheVariants as prim
+use Rattle.fv_diagram.specs.Diagram.{Diagram, Primitive, Control, Wave, Table, Par, Seq, Split, Merge, Rec, size, inputs, outputs, has_table_primitive}
+use Rattle.fv_diagram_number.specs.Numbers.{at_first}
+use Rattle.fv_diagram_head.specs.Heads.{parts, cut, is_head, table_numbers}
+use Rattle.fv_rules.specs.declared.refusal.TableCause.TheVariants as cause
 use Rattle.fv_diagram.specs.Arena.{size_limit}
 use Rattle.fv_diagram.specs.declared.control.ControlInfo.{ControlInfo}
 use Rattle.fv_diagram.specs.declared.control.ControlKind.{ControlKind}
 use Rattle.fv_diagram.specs.declared.control.ControlKind.TheVariants.{Button, Checkbox, HSlider, VSlider, NEntry}
 use Rattle.fv_rules.specs.declared.refusal.EvalRefusal.{EvalRefusal}
-use Rattle.fv_rules.specs.declared.refusal.EvalRefusal.TheVariants.{SizeBudget, Arity, NotANumber, NoRule, NotADiagram, EvalBudget, ControlClash, ControlBounds}
+use Rattle.fv_rules.specs.declared.refusal.EvalRefusal.TheVariants.{SizeBudget, Arity, NotANumber, NoRule, NotADiagram, EvalBudget}
+use Rattle.fv_rules.specs.declared.refusal.EvalRefusal.TheVariants.{ControlClash, ControlBounds, TableForm, TableBudget}
 use Rattle.fv_parse.specs.Trees.{place_from}
 
--- the visits that are left, the controls so far, the next slot, and the table sum, which no rule raises yet
+-- the visits that are left, the controls so far, the next slot, and the table sum
 pub record State : Type 0 where
   pub visits : ℕ
   pub controls : List ControlInfo
@@ -98,14 +105,81 @@ misfit (Rec a b) =
     (unless (nat_le (outputs b) (inputs a)) (Arity kind.RecIn (inputs a) (outputs b)))
 misfit d = None
 
+-- a diagram that is not too large
+abbrev pub sized : Diagram → Eval Diagram
+sized d = if nat_le (size d) size_limit then give d else refuse (SizeBudget (size d))
+
 -- a diagram is put unless it was refused or is too large
 abbrev pub put_after : Option EvalRefusal → Diagram → Eval Diagram
 put_after (Some r) d = refuse r
-put_after None d = if nat_le (size d) size_limit then give d else refuse (SizeBudget (size d))
+put_after None d = sized d
 
--- A diagram is put: its arity is tried first, then its size.
+-- ---- tables (Faust manual, rdtable and rwtable; this project's profile)
+
+-- no table sum is greater
+abbrev pub table_limit : ℕ
+table_limit = TABLE_LIMIT
+
+-- side by side, put from the right; a parallel composition always fits
+abbrev pub side_by_side : Diagram → List Diagram → Eval Diagram
+side_by_side d [] = give d
+side_by_side d (x ∷ xs) = side_by_side x xs >>= λ r. sized (Par d r)
+
+-- a table's size, which is its head's first output at time 0, and at least 1
+abbrev pub table_size : ℤ → Eval ℕ
+table_size (pos zero) = refuse (TableForm cause.Size)
+table_size (pos (suc n)) = give (suc n)
+table_size (negsuc n) = refuse (TableForm cause.Size)
+
+-- the table sum grows by so much
+abbrev pub grown : ℕ → State → Outcome Unit
+grown n s = if nat_le (s.tables + n) table_limit then Ok (tt, record s { tables = s.tables + n }) else Err (TableBudget (s.tables + n))
+
+-- the same, as an evaluation
+abbrev pub grow : ℕ → Eval Unit
+grow n = λ s. grown n s
+
+-- a waveform, whose numbers the table sum grows by
+abbrev pub waved : List ℤ → Eval Diagram
+waved values = grow (length values) >>= λ u. give (Wave values)
+
+-- The table of a head, behind what it takes. The sum is tried before a number is computed.
+abbrev pub tabled_by : Bool → List Diagram → List Diagram → Eval Diagram
+tabled_by writes (d ∷ ds) (r ∷ rs) = do
+  h ← side_by_side d ds
+  n ← table_size (argument (at_first h) 0)
+  u ← grow (n * size h)
+  rest ← side_by_side r rs
+  sized (Seq rest (Table (table_numbers n h) writes))
+tabled_by writes _ _ = refuse (TableForm cause.Head)
+
+-- a diagram behind a table primitive: it is cut into the table's head and what the table takes
+abbrev pub tabled_of : Bool → List Diagram × List Diagram → Eval Diagram
+tabled_of writes c = if is_head c.0 then tabled_by writes c.0 c.1 else refuse (TableForm cause.Head)
+
+-- the same, of a whole diagram
+abbrev pub tabled : Bool → Diagram → Eval Diagram
+tabled writes a = tabled_of writes (cut 2 (parts a))
+
+-- what stands before a table primitive, and whether that one writes
+abbrev pub before_table : Diagram → Option (Diagram × Bool)
+before_table (Seq a (Primitive prim.ReadTable)) = Some (a, false)
+before_table (Seq a (Primitive prim.WriteTable)) = Some (a, true)
+before_table d = None
+
+-- a table takes the place of its primitive, where the arity fits; every other diagram is put as it is
+abbrev pub put_as : Option (Diagram × Bool) → Option EvalRefusal → Diagram → Eval Diagram
+put_as None o d = put_after o d
+put_as (Some x) (Some r) d = refuse r
+put_as (Some x) None d = tabled x.1 x.0
+
+-- A diagram is put: its arity is tried first, then its size; behind `rdtable` or `rwtable` it becomes a table.
 abbrev pub put : Diagram → Eval Diagram
-put d = put_after (misfit d) d
+put d = put_as (before_table d) (misfit d) d
+
+-- a program's diagram, in which no table primitive is left
+abbrev pub whole : Diagram → Eval Diagram
+whole d = if has_table_primitive d then refuse (TableForm cause.Primitive) else give d
 
 -- ---- controls
 

@@ -8,6 +8,17 @@ use fv_base::Word;
 use fv_diagram::Label;
 use std::alloc::{AllocError, AllocFailed};
 
+/// Why a diagram behind `rdtable` or `rwtable` is no table.
+#[derive(Clone, Copy, PartialEq, Eq, Debug)]
+pub enum TableCause {
+    /// What stands first does not give a size and numbers and nothing else, or depends on an input, a control or a slot.
+    Head,
+    /// The size is less than 1.
+    Size,
+    /// A program's diagram still has one of the two primitives.
+    Primitive,
+}
+
 /// Why a program has no diagram.
 #[derive(Debug, Drop)]
 pub enum EvalRefusal {
@@ -58,6 +69,14 @@ pub enum EvalRefusal {
     /// A control's init, min and max do not rise in the order min, init, max.
     ControlBounds {
         label: Label,
+    },
+    /// A diagram behind `rdtable` or `rwtable` is no table, for this cause.
+    TableForm {
+        cause: TableCause,
+    },
+    /// The tables of the program would cost so much together, which is over the limit.
+    TableBudget {
+        sum: u64,
     },
     /// Memory ran out.
     NoMemory,

@@ -49,6 +49,8 @@ of_value (values.TooManyArguments given inputs) = no.TooManyArguments given inpu
 of_value values.EvalBudget = no.EvalBudget
 of_value (values.ControlClash label) = no.ControlClash label
 of_value (values.ControlBounds label) = no.ControlBounds label
+of_value (values.TableForm cause) = no.TableForm cause
+of_value (values.TableBudget sum) = no.TableBudget sum
 of_value values.NoMemory = no.NoMemory
 
 -- and those of its delays

@@ -7,6 +7,8 @@ use Rattle.fv_arity.specs.declared.refusal.ArityKind.{ArityKind}
 use Rattle.fv_arity.specs.declared.refusal.ArityKind.TheVariants.{Seq, Split, Merge, RecOut, RecIn}
 use Rattle.fv_top_words.specs.declared.cause.Cause.{Cause}
 use Rattle.fv_top_words.specs.declared.cause.Cause.TheVariants.{Form, Number, Range, Vectors, Together, Same}
+use Rattle.fv_rules.specs.declared.refusal.TableCause.{TableCause}
+use Rattle.fv_rules.specs.declared.refusal.TableCause.TheVariants as table_cause
 use Rattle.fv_top_report.specs.declared.refusal.Refusal.{Refusal}
 use Rattle.fv_top_report.specs.declared.refusal.Refusal.TheVariants as no
 use Rattle.fv_top_report.specs.declared.status.Status.{Status}
@@ -64,6 +66,12 @@ kind_word Split = codes "split"
 kind_word Merge = codes "merge"
 kind_word RecOut = codes "recout"
 kind_word RecIn = codes "recin"
+
+-- the word of what is wrong with a table
+abbrev pub table_word : TableCause → List ℕ
+table_word table_cause.Head = codes "head"
+table_word table_cause.Size = codes "size"
+table_word table_cause.Primitive = codes "primitive"
 
 -- ---- the rows
 
@@ -128,6 +136,8 @@ row_of (no.WaveChunks place) = row 37 file_status (codes "WaveChunks") (decimal 
 row_of (no.OutputTooLong bytes) = row 38 file_status (codes "OutputTooLong") (decimal bytes ∷ [])
 row_of no.FramesNeeded = row 39 usage_status (codes "FramesNeeded") []
 row_of no.NoMemory = row 40 memory_status (codes "NoMemory") []
+row_of (no.TableForm cause) = row 41 program_status (codes "TableForm") (table_word cause ∷ [])
+row_of (no.TableBudget sum) = row 42 program_status (codes "TableBudget") (decimal sum ∷ [])
 row_of (no.Nesting line column) = row 43 program_status (codes "Nesting") (decimal line ∷ decimal column ∷ [])
 row_of (no.AuFormat place) = row 44 file_status (codes "AuFormat") (decimal place ∷ [])
 row_of (no.AuTruncated place) = row 45 file_status (codes "AuTruncated") (decimal place ∷ [])

@@ -14,7 +14,7 @@ use fv_interval::DelayRefusal;
 use fv_lex::LexRefusal;
 use fv_outside::{Role, Word};
 use fv_parse::ParseRefusal;
-use fv_rules::EvalRefusal;
+use fv_rules::{EvalRefusal, TableCause};
 use fv_top_words::Cause;
 use fv_wav::WaveRefusal;
 use std::alloc::AllocError;
@@ -129,6 +129,14 @@ pub enum Refusal {
     /// The initial value of this control is not in its range.
     ControlBounds {
         label: Label,
+    },
+    /// A diagram behind `rdtable` or `rwtable` is no table.
+    TableForm {
+        cause: TableCause,
+    },
+    /// The tables of the program would cost so much together, more than 16,777,216.
+    TableBudget {
+        sum: u64,
     },
     /// A delay may be less than 0.
     DelayNegative {
@@ -286,6 +294,8 @@ impl From<EvalRefusal> for Refusal {
             EvalRefusal::EvalBudget => Refusal::EvalBudget,
             EvalRefusal::ControlClash { label } => Refusal::ControlClash { label },
             EvalRefusal::ControlBounds { label } => Refusal::ControlBounds { label },
+            EvalRefusal::TableForm { cause } => Refusal::TableForm { cause },
+            EvalRefusal::TableBudget { sum } => Refusal::TableBudget { sum },
             EvalRefusal::NoMemory => Refusal::NoMemory,
         }
     }

@@ -1,13 +1,14 @@
 // One row for each refusal: what its line says, and the exit status.
 
 ghost use Rattle.std.specs.Prelude.{◌≡◌, [], ◌∷◌, decimal};
-ghost use Rattle.fv_top_report.specs.Lines.{role_word, cause_word, kind_word, text_status, row as row_shown, row_of};
+ghost use Rattle.fv_top_report.specs.Lines.{role_word, cause_word, kind_word, table_word, text_status, row as row_shown, row_of};
 ghost use Rattle.fv_top_report.specs.Fields.{listed, shown};
 
 use crate::line::{Field, Fields, Row, integer, natural, pair, place, text};
 use crate::refusal::Refusal;
 use fv_arity::ArityKind;
 use fv_outside::Role;
+use fv_rules::TableCause;
 use fv_top_words::Cause;
 
 /// The exit status where a file could not be read or written.
@@ -176,6 +177,13 @@ impl Refusal {
             Refusal::OutputTooLong { bytes } => row(38, FILE, "OutputTooLong", natural(*bytes)),
             Refusal::FramesNeeded => row(39, USAGE, "FramesNeeded", Fields::None),
             Refusal::NoMemory => row(40, MEMORY, "NoMemory", Fields::None),
+            Refusal::TableForm { cause } => row(
+                41,
+                PROGRAM,
+                "TableForm",
+                text(table_name(*cause).as_bytes()),
+            ),
+            Refusal::TableBudget { sum } => row(42, PROGRAM, "TableBudget", natural(*sum)),
             Refusal::Nesting { line, column } => row(43, PROGRAM, "Nesting", place(*line, *column)),
             Refusal::AuFormat { place } => row(44, FILE, "AuFormat", natural(*place)),
             Refusal::AuTruncated { place } => row(45, FILE, "AuTruncated", natural(*place)),
@@ -238,6 +246,16 @@ fn role_name(role: Role) -> &'static str
         Role::Controls => "controls",
         Role::Output => "output",
         Role::Report => "report",
+    }
+}
+
+fn table_name(cause: TableCause) -> &'static str
+    ensures { result.now ≡ table_word cause }
+{
+    match cause {
+        TableCause::Head => "head",
+        TableCause::Size => "size",
+        TableCause::Primitive => "primitive",
     }
 }
 

@@ -134,6 +134,8 @@ value_stop text s (values.TooManyArguments given inputs) refusal h is (inr v) = 
 value_stop text s values.EvalBudget refusal h is (inr v) = rw is (inr (refl, value_refuse text s _ h v))
 value_stop text s (values.ControlClash label) refusal h is (inr v) = rw is (inr (refl, value_refuse text s _ h v))
 value_stop text s (values.ControlBounds label) refusal h is (inr v) = rw is (inr (refl, value_refuse text s _ h v))
+value_stop text s (values.TableForm cause) refusal h is (inr v) = rw is (inr (refl, value_refuse text s _ h v))
+value_stop text s (values.TableBudget sum) refusal h is (inr v) = rw is (inr (refl, value_refuse text s _ h v))
 value_stop text s values.NoMemory refusal h is (inr v) = inl is
 
 -- the value of a text

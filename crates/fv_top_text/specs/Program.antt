@@ -22,9 +22,9 @@ use Rattle.fv_top_text.specs.Compiled.{Compiled}
 use Rattle.fv_top_report.specs.declared.refusal.Refusal.{Refusal}
 use Rattle.fv_top_report.specs.declared.refusal.Refusal.TheVariants as no
 
--- the numbers of the refusals of a program: 4 to 29, and 43
+-- the numbers of the refusals of a program: 4 to 29, and 41 to 43
 abbrev pub is_of_program : ℕ → Bool
-is_of_program n = (nat_le 4 n && nat_le n 29) || (n == 43)
+is_of_program n = (nat_le 4 n && nat_le n 29) || (nat_le 41 n && nat_le n 43)
 
 -- the refusal is one of a program
 abbrev pub IsOfText : Refusal → Type 0

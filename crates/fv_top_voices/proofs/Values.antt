@@ -1,6 +1,6 @@
 -- What the tree evaluates to, and how many visits that takes.
-use Rattle.std.proofs.Common.{◌≡◌, ℕ, zero, suc, ◌+◌, ◌-◌, ◌*◌, ◌≤◌, true, List, [], ◌∷◌, ◌++◌, codes, ℤ, pos, ◌+ℤ◌, ◌*ℤ◌, Some, None, Ok}
-use Rattle.std.proofs.Common.{refl, ap, ◌∙◌, sym, arith, le-leb, append_assoc, append-nil}
+use Rattle.std.proofs.Common.{◌≡◌, ℕ, zero, suc, ◌+◌, ◌-◌, ◌*◌, ◌≤◌, true, false, ◌||◌, if◌then◌else◌, List, [], ◌∷◌, ◌++◌, codes, ℤ, pos, ◌+ℤ◌, ◌*ℤ◌, Some, None, Ok}
+use Rattle.std.proofs.Common.{refl, ap, ap₂, ◌∙◌, sym, arith, le-leb, append_assoc, append-nil}
 use Rattle.std.proofs.Math.Nat.{mod-one}
 use Rattle.fv_lex.specs.Token.{Lexed}
 use Rattle.fv_lex.specs.Pieces.{greatest_literal}
@@ -12,13 +12,14 @@ use Rattle.fv_parse_grammar.specs.declared.form.Operator.TheVariants as operator
 use Rattle.fv_parse_grammar.specs.declared.form.Iteration.TheVariants as repetitions
 use Rattle.fv_diagram.specs.declared.node.Primitive.{Primitive as Prim}
 use Rattle.fv_diagram.specs.declared.node.Primitive.TheVariants.{Wire, Delay, Point}
-use Rattle.fv_diagram.specs.Diagram.{Diagram, Primitive, Constant, Par, Seq, Split, Merge, Rec, size, inputs, outputs}
+use Rattle.fv_diagram.specs.Diagram.{Diagram, Primitive, Constant, Par, Seq, Split, Merge, Rec, size, inputs, outputs, has_table_primitive}
 use Rattle.fv_diagram.specs.Arena.{size_limit}
 use Rattle.fv_arity.specs.declared.refusal.ArityKind.TheVariants as kind
-use Rattle.fv_rules.specs.declared.refusal.EvalRefusal.TheVariants.{Arity}
+use Rattle.fv_rules.specs.declared.refusal.EvalRefusal.TheVariants.{Arity, TableForm}
+use Rattle.fv_rules.specs.declared.refusal.TableCause.TheVariants as cause
 use Rattle.fv_diagram_number.specs.Numbers.{number_of}
 use Rattle.fv_rules.specs.Values.{Value, Flat, Env, Outermost, Bound, Scope, LiteralsStay}
-use Rattle.fv_rules.specs.Steps.{State, Eval, after, ◌>>=◌, give, is_multiple, unless, misfit, put_after, put}
+use Rattle.fv_rules.specs.Steps.{State, Eval, after, ◌>>=◌, give, refuse, is_multiple, unless, misfit, before_table, put_as, put, whole as without_primitives}
 use Rattle.fv_rules.specs.Rules.{Evaluator, within, ev, flat, turned, rule, joined, from_right, bodies, gathered, counted, finished}
 use Rattle.fv_rules.specs.Rules.{program_value}
 use Rattle.fv_top_voices.specs.Voices.{voice, voices_from}
@@ -40,8 +41,8 @@ outermost n = Scope (tree n) Outermost
 
 -- ---- what is put
 
-put_gives : (d : Diagram) (s : State) → misfit d ≡ None → size d ≤ size_limit → put d s ≡ Ok (d, s)
-put_gives d s fits small = ap (λ m. put_after m d s) fits ∙ (rw (le-leb (size d) size_limit small) refl)
+put_gives : (d : Diagram) (s : State) → before_table d ≡ None → misfit d ≡ None → size d ≤ size_limit → put d s ≡ Ok (d, s)
+put_gives d s plain fits small = ap₂ (λ o m. put_as o m d s) plain fits ∙ (rw (le-leb (size d) size_limit small) refl)
 
 multiple_of_one : (n : ℕ) → 1 ≤ n → is_multiple n 1 ≡ true
 multiple_of_one n h = rw (le-leb 1 n h, mod-one n) refl
@@ -68,7 +69,7 @@ beside_one_another : (i k : ℕ) (s : State) → k ≤ 63 → from_right Par (vo
 beside_one_another i zero s h = refl
 beside_one_another i (suc k) s h =
     ap (λ o. after o (λ r. put (Par (voice i) r))) (beside_one_another (suc i) k s (omega arith))
-    ∙ put_gives (voices_from i (suc k)) s refl (omega (arith, size_is i (suc k)))
+    ∙ put_gives (voices_from i (suc k)) s refl refl (omega (arith, size_is i (suc k)))
 
 -- all of them on one input, added up
 abbrev pub added : ℕ → Diagram
@@ -81,13 +82,21 @@ added_put : (k : ℕ) (s : State) → k ≤ 63 → put (added k) s ≡ Ok (added
 added_put k s h =
     let some = outputs_are 0 k in
     let fits = multiple_of_one (outputs (voices_from 0 k)) (omega arith) in
-    put_gives (added k) s (ap (λ b. unless b (Arity kind.Merge (outputs (voices_from 0 k)) 1)) fits) (omega (arith, size_is 0 k))
+    put_gives (added k) s refl (ap (λ b. unless b (Arity kind.Merge (outputs (voices_from 0 k)) 1)) fits) (omega (arith, size_is 0 k))
 
 whole_put : (k : ℕ) (s : State) → k ≤ 63 → put (whole k) s ≡ Ok (whole k, s)
 whole_put k s h =
     let some = inputs_are 0 k in
     let fits = multiple_of_one (inputs (voices_from 0 k)) (omega arith) in
-    put_gives (whole k) s (ap (λ b. unless b (Arity kind.Split 1 (inputs (voices_from 0 k)))) fits) (omega (arith, size_is 0 k))
+    put_gives (whole k) s refl (ap (λ b. unless b (Arity kind.Split 1 (inputs (voices_from 0 k)))) fits) (omega (arith, size_is 0 k))
+
+-- none of them has a table primitive
+none_in_voices : (i k : ℕ) → has_table_primitive (voices_from i k) ≡ false
+none_in_voices i zero = refl
+none_in_voices i (suc k) = none_in_voices (suc i) k
+
+none_in_whole : (k : ℕ) → has_table_primitive (whole k) ≡ false
+none_in_whole k = ap (λ b. b || false) (none_in_voices 0 k)
 
 -- ---- one voice
 
@@ -215,7 +224,8 @@ module _ (literals : LiteralsStay) where
     evaluated =
         let left = 999970 - k * 23 in
         let all : more 4 (spent (suc k) (suc left)) ≡ 999998 = omega (arith, spent_is (suc k) (suc left)) in
-        ap (λ o. finished (after o (turned l (ev l))))
+        ap (λ o. finished (after (after o (turned l (ev l))) without_primitives))
         (value_by l 999998 (process (suc k)) (outermost (suc k)) 999998
         ∙ ap (λ m. rule l (within 999998 l) (process (suc k)) (outermost (suc k)) (state m)) (sym all)
         ∙ processed 999984 left)
+        ∙ ap (λ b. finished ((if b then refuse (TableForm cause.Primitive) else give (whole k)) (state left))) (none_in_whole k)

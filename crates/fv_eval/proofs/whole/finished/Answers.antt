@@ -5,4 +5,4 @@ use Rattle.fv_eval.proofs.whole.finished.Goals as goal
 pub arity-arity-requires : goal.arity-arity-requires
 arity-arity-requires c =
     let root = c.in-Diagram.root in
-    subst (λ (a : Arena). root < count_of a) (sym c.finish-diagrams.ensures.diagrams) (c.requires.sound root c.in-Diagram.is).0
+    subst (λ (a : Arena). root < count_of a) (sym c.finish-diagrams.ensures.diagrams) (c.requires.inside root c.in-Diagram.is)

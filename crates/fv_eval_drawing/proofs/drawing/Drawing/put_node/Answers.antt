@@ -1,8 +1,23 @@
-use Rattle.std.proofs.Common.{refl, sym, subst}
-use Rattle.fv_diagram.specs.Arena.{Arena, ChildrenBelow, count_of}
+use Rattle.std.proofs.Common.{ℕ, Result, inl, refl, sym, subst, ◌∙◌}
+use Rattle.fv_diagram.specs.Arena.{Arena, ChildrenBelow, count_of, tree_with}
+use Rattle.fv_rules.specs.declared.refusal.EvalRefusal.{EvalRefusal}
+use Rattle.fv_rules.specs.Puts.{Puts}
 use Rattle.fv_eval_drawing.specs.Makes.{AddsDiagrams, Canvas}
 use Rattle.fv_eval_drawing.proofs.Remembered.{put_extends, put_composed, still_remembers}
 use Rattle.fv_eval_drawing.proofs.drawing.Drawing.put_node.Goals as goal
+use Rattle.fv_eval_drawing.proofs.drawing.Drawing.put_node.Goals.{in-Ok+then-number-lt-MOST_DIAGRAMS, in-Ok+else-number-lt-MOST_DIAGRAMS, in-Err}
+
+pub returns-clause-puts : goal.returns-clause-puts
+returns-clause-puts c =
+    let n = c.args.node.now in
+    let Is : Result ℕ EvalRefusal → Type 0 = λ r. Puts c.put.new.diagrams (tree_with c.args.self.now.diagrams n) r in
+    let is : Is c.put.result =
+    subst (λ (x : Canvas). Puts c.put.new.diagrams (tree_with x.diagrams n) c.put.result) c.self.view_is c.put.ensures.put in
+    elim c.match-put.branch [
+      | in-Ok+then-number-lt-MOST_DIAGRAMS w ↦ subst Is (w.in-Ok.is ∙ sym w.result-is) is
+      | in-Ok+else-number-lt-MOST_DIAGRAMS w ↦ subst Is (sym w.result-is) (inl w.from.ensures)
+      | in-Err w ↦ subst Is (w.in-Err.is ∙ sym w.result-is) is
+    ]
 
 pub returns-clause-adds : goal.returns-clause-adds
 returns-clause-adds c =
