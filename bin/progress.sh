@@ -1,4 +1,4 @@
-# To be read by `bin/faustvec`, where standard error is a terminal: `with_progress PROGRAM run|au WORD..` runs the program, and from
+# To be read by `bin/faustvec`, where standard error is a terminal: `with_progress PROGRAM run|au|rack WORD..` runs the program, and from
 # the second second on shows which share of the output is written and how long the rest will take, if it goes on so. The line is
 # no longer than the shortest line that the program ends with, which so covers it, and is cleared at the end. The status is the
 # program's; where it is interrupted, 130.

@@ -1,7 +1,7 @@
 #!/usr/bin/env python3
 """Writes the sounds of the examples: `pluck.wav`, two plucks of a string, one channel of 16 bits at 8000 frames a second, and
 for each line of `list.txt` what its program has to give, by an interpreter apart from faustvec. A line has the example's
-name, its input or `-`, and options, as faustvec takes them."""
+name, its input or `-`, and options, as faustvec takes them. Its program is `NAME.dsp`, or a file of jobs, `NAME.rack`."""
 import array
 import math
 import os
@@ -41,8 +41,10 @@ def example(name, source, *words):
     options = dict(zip(words[::2], words[1::2]))
     frames = [[]] * int(options["--frames"]) if source == "-" else read(source)
     changes = changes_of(options["--controls"]) if "--controls" in options else []
-    with open(path(name + ".dsp")) as program:
-        write(name + ".wav", int(options.get("--rate", RATE)), interpreter.play(program.read(), frames, changes))
+    is_rack = os.path.exists(path(name + ".rack"))
+    with open(path(name + (".rack" if is_rack else ".dsp"))) as file:
+        program = (interpreter.Rack if is_rack else interpreter.Program)(file.read())
+    write(name + ".wav", int(options.get("--rate", RATE)), program.play(frames, changes))
 
 
 pluck = [int(14000 * math.exp(-(t % RATE) / 2500) * math.sin(2 * math.pi * 220 * t / RATE)) for t in range(2 * RATE)]

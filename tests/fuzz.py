@@ -299,7 +299,17 @@ def program_text(chance):
     return text
 
 
-# ---- scripts, sound files, words
+# ---- files of jobs, scripts, sound files, words
+
+
+def rack_text(chance):
+    """Texts with lines between that separate jobs, or seem to."""
+    texts = [program_text(chance) for _ in range(chance.choice([1, 2, 2, 2, 3, 3, 4]))]
+    if chance.random() < 0.02:
+        texts = ["process = 1;"] * chance.choice([15, 16, 17, 40])
+    lines = ["\n%%\n"] * 30 + ["\n%%\r\n", "\r\n%%\n", "\n%%\n%%\n", "\n%%", "%%\n", "\n%% \n", "\n%%%\n", "\n%%\r\r\n"]
+    text = texts[0] + "".join(chance.choice(lines) + text for text in texts[1:])
+    return text + chance.choice([""] * 30 + ["\n%%", "\n%%\n", "\n%%\r"])
 
 
 def script_text(chance, controls):
@@ -419,7 +429,8 @@ def made_case(number, most_workers):
     kind = chance.random()
     if kind < 0.01:
         return ["make", str(chance.randint(1, 5)), str(chance.randint(1, 40)), str(chance.randint(1, most_workers))], {}
-    text = program_text(chance)
+    is_rack = kind > 0.85
+    text = rack_text(chance) if is_rack else program_text(chance)
     files = {"p.dsp": text.encode("latin-1")}
     if kind < 0.1:
         return ["check", "p.dsp"], files
@@ -427,8 +438,8 @@ def made_case(number, most_workers):
     source, target = chance.choice(["in.au", "in.wav"]) if is_au else "in.wav", chance.choice(["out.au", "out.wav"]) if is_au else "out.wav"
     options = sizes(chance, most_workers)
     try:
-        program = reference.interpreter.Program(text, PATIENCE)
-        channels = program.diagram.inputs
+        program = (reference.interpreter.Rack if is_rack else reference.interpreter.Program)(text, PATIENCE)
+        channels = program.inputs
         controls = {control.label: (control.least, control.greatest) for control in program.controls}
     except (reference.Refused, TooMuch):
         channels, controls = chance.choice([0, 1, 2]), {}
@@ -450,7 +461,7 @@ def made_case(number, most_workers):
         files[target] = b"what stood here before"
     chance.shuffle(options)
     before = chance.randint(0, len(options))
-    words = ["au" if is_au else "run", *sum(options[:before], []), "p.dsp", source, target, *sum(options[before:], [])]
+    words = ["au" if is_au else "rack" if is_rack else "run", *sum(options[:before], []), "p.dsp", source, target, *sum(options[before:], [])]
     if chance.random() < 0.03:
         words = spoiled_words(chance, words)
     if chance.random() < 0.02:

@@ -97,8 +97,8 @@ class Command:
             raise usage("form")
         self.kind, (plain, options) = words[0], cut(words[1:])
         given = dict(options)
-        widths = {"run": 3, "au": 3, "check": 1, "make": 3}
-        allowed = OPTIONS if self.kind in ("run", "au") else []
+        widths = {"run": 3, "au": 3, "rack": 3, "check": 1, "make": 3}
+        allowed = OPTIONS if self.kind in ("run", "au", "rack") else []
         if self.kind not in widths or len(plain) != widths[self.kind] or len(given) < len(options) or not set(given) <= set(allowed):
             raise usage("form")
         if self.kind == "make":
@@ -301,15 +301,15 @@ def frames_in_blocks(there, total, block, changes):
 
 def sound_in(command, files, program):
     if command.input == "-":
-        if program.diagram.inputs:
-            raise Refused(29, "Channels", 0, program.diagram.inputs)
+        if program.inputs:
+            raise Refused(29, "Channels", 0, program.inputs)
         if command.settings.frames is None:
             raise Refused(39, "FramesNeeded")
         return None
     data = read(files, command.input, "input")
     sound = au(data) if command.kind == "au" and data[:4] == b".snd" else wave(data)
-    if sound.channels != program.diagram.inputs:
-        raise Refused(29, "Channels", sound.channels, program.diagram.inputs)
+    if sound.channels != program.inputs:
+        raise Refused(29, "Channels", sound.channels, program.inputs)
     return sound
 
 
@@ -319,7 +319,7 @@ def play(command, files, folders, program, patience):
     frames = sound.frames if sound else command.settings.frames
     rate = sound.rate if sound else command.settings.rate or 44100
     bits = command.settings.bits or (sound.bits if sound else 16)
-    channels = program.diagram.outputs
+    channels = program.outputs
     size = frames * channels * (bits // 8)
     if size > MOST_BYTES:
         raise Refused(38, "OutputTooLong", size)
@@ -344,10 +344,10 @@ def obeyed(words, files, folders, patience):
     if command.kind == "make":
         return make(*command.made[:2])
     text = read(files, command.program, "program").decode("latin-1")
-    program = interpreter.Program(text, patience)
+    program = interpreter.Rack(text, patience) if command.kind == "rack" else interpreter.Program(text, patience)
     if command.kind == "check":
         diagram = program.diagram
-        numbers = [diagram.inputs, diagram.outputs, len(program.controls), diagram.size, program.delays]
+        numbers = [program.inputs, program.outputs, len(program.controls), diagram.size, program.delays]
         return Answer("inputs {} outputs {} controls {} size {} delays {}".format(*numbers), 0)
     return play(command, files, folders, program, patience)
 

@@ -1,35 +1,34 @@
 -- How a run of a diagram over a tape ends, from how its engine's run does.
 use Rattle.std.proofs.Common.{◌≡◌, ℕ, ◌*◌, List, length, ℤ, Option, ap, subst, ◌∙◌}
-use Rattle.fv_num.specs.SpanLaws.{AreSpans}
 use Rattle.fv_outside.specs.Journal.{Told}
 use Rattle.fv_tape.specs.Acts.{Act}
-use Rattle.fv_diagram.specs.Diagram.{Diagram, inputs}
+use Rattle.fv_diagram.specs.Diagram.{Diagram, inputs, IsWellFormed}
 use Rattle.fv_diagram.specs.Laws.{AnswersEach, AnswersWide}
 use Rattle.fv_diagram.specs.Samples.{answer_on}
 use Rattle.fv_diagram.specs.declared.control.ControlInfo.{ControlInfo}
 use Rattle.fv_control.specs.declared.script.Change.{Change}
 use Rattle.fv_control.specs.Streams.{control_streams}
-use Rattle.fv_interval.specs.Controls.{spans_of}
 use Rattle.fv_engine_render.specs.Blocks.{StillTells}
 use Rattle.fv_engine_render.specs.Plans.{AreNumbers}
-use Rattle.fv_engine_render.specs.Render.{CanRender, RanTo, initial_of}
+use Rattle.fv_engine_render.specs.Render.{RanTo, initial_of}
 use Rattle.fv_engine_render.specs.Runs.{HasRun, PlaysAll}
 use Rattle.fv_engine_render.specs.Stops.{HasEnded, IsAct, IsSetFor}
 use Rattle.fv_engine_render.specs.inner.Stopping.{HasStopped}
 use Rattle.fv_engine_render.specs.declared.blocks.RunSizes.{RunSizes}
 use Rattle.fv_engine_render.specs.declared.blocks.Ran.{Ran}
 use Rattle.fv_engine_render.specs.declared.tape.Ready.{Ready}
+use Rattle.fv_engine_render.proofs.Taken.{StayWithin}
 use Rattle.fv_engine_render.proofs.Whole.{HasPlayed, IsReady, graph_played, ran_graph, samples}
 
--- what is ready for a diagram that can be played
-pub record IsSet (d : Diagram) (cs : List ControlInfo) (delays : List ℕ) (changes : List Change) (s : RunSizes) (r : Ready) : Type 0 where
-  pub can : CanRender d cs delays changes
-  pub spans : AreSpans (spans_of cs)
+-- what is ready for a diagram, whose controls stay within their bounds
+pub record IsSet (d : Diagram) (cs : List ControlInfo) (changes : List Change) (s : RunSizes) (r : Ready) : Type 0 where
+  pub well : IsWellFormed d
+  pub stay : StayWithin cs changes
   pub set : IsSetFor d cs s r
   pub each : AnswersEach d
   pub wide : AnswersWide d
 
-module _ {d : Diagram} {cs : List ControlInfo} {delays : List ℕ} {changes : List Change} {s : RunSizes} {r : Ready} (h : IsSet d cs delays changes s r) where
+module _ {d : Diagram} {cs : List ControlInfo} {changes : List Change} {s : RunSizes} {r : Ready} (h : IsSet d cs changes s r) where
   ready : IsReady h.set.graph (inputs d) h.set.plan r.engine
   ready = record { planned = h.set.planned.planned; plan = h.set.plan_is; channels_are = h.set.channels; fresh = h.set.fresh }
 
@@ -52,13 +51,13 @@ module _ {d : Diagram} {cs : List ControlInfo} {delays : List ℕ} {changes : Li
       → all ≡ answer_on d (control_streams changes (initial_of cs)) frames heard
   answers frames heard all fit count plays =
       let c = control_streams changes (initial_of cs) in
-      let run : HasPlayed d cs delays changes h.set.graph = record {
+      let run : HasPlayed d cs changes h.set.graph = record {
         frames = frames;
         input = heard;
         output = all;
-        can = h.can;
+        well = h.well;
+        stay = h.stay;
         fit = fit;
-        spans = h.spans;
         of = h.set.of;
         count = count ∙ ap (λ w. frames * w) outputs_are;
         plays = graph_played ready c frames heard all plays;

@@ -6,9 +6,8 @@ use Rattle.std.proofs.lemmas.Bool.{cond-true}
 use Rattle.fv_base.proofs.Lists.{length_table}
 use Rattle.fv_num.specs.Words.{argument}
 use Rattle.fv_num.specs.Frames.{Stream, table, rows}
-use Rattle.fv_num.specs.SpanLaws.{AreSpans}
 use Rattle.fv_outside.specs.Journal.{Told}
-use Rattle.fv_diagram.specs.Diagram.{Diagram, inputs, outputs}
+use Rattle.fv_diagram.specs.Diagram.{Diagram, inputs, outputs, IsWellFormed}
 use Rattle.fv_diagram.specs.Laws.{AnswersEach, AnswersWide}
 use Rattle.fv_diagram.specs.declared.control.ControlInfo.{ControlInfo}
 use Rattle.fv_signal.specs.Value.{Graph}
@@ -24,7 +23,7 @@ use Rattle.fv_engine_render.specs.declared.blocks.RunSizes.{RunSizes}
 use Rattle.fv_engine_render.specs.declared.blocks.Ran.{Ran}
 use Rattle.fv_engine_render.specs.Plans.{AreNumbers, IsGraphOf, IsNew}
 use Rattle.fv_interval.specs.Controls.{spans_of}
-use Rattle.fv_engine_render.specs.Render.{CanRender, initial_of}
+use Rattle.fv_engine_render.specs.Render.{initial_of}
 use Rattle.fv_engine_render.proofs.Frames.{GivesOn, joined_all, played_is_run}
 use Rattle.fv_engine_render.proofs.Taken.{StayWithin, taken}
 
@@ -74,33 +73,31 @@ ran_graph {g} {channels} {p} {e} ready changes s upto r old new run room =
           (room_of r.blocks e.plan.loops (length e.plan.reads) r.loop_runs old new of.reads.few room);
     }
 
--- A run of n frames of a diagram that can be played, whose graph was.
-pub record HasPlayed (d : Diagram) (cs : List ControlInfo) (delays : List ℕ) (changes : List Change) (g : Graph) : Type 0 where
+-- A run of so many frames of a diagram, whose graph was played.
+pub record HasPlayed (d : Diagram) (cs : List ControlInfo) (changes : List Change) (g : Graph) : Type 0 where
   pub frames : ℕ
   pub input : List ℤ
   pub output : List ℤ
-  pub can : CanRender d cs delays changes
+  pub well : IsWellFormed d
+  pub stay : StayWithin cs changes
   pub fit : AreNumbers input
-  pub spans : AreSpans (spans_of cs)
   pub of : IsGraphOf d (spans_of cs) g
   pub count : length output ≡ frames * length g.outputs
   pub plays : rows (length g.outputs) frames output ≡ played g (rows (inputs d) frames input) (control_streams changes (initial_of cs)) 0 frames
 
-pub samples : {d : Diagram} {cs : List ControlInfo} {delays : List ℕ} {changes : List Change} {g : Graph}
-    → AnswersEach d → AnswersWide d → (r : HasPlayed d cs delays changes g)
+pub samples : {d : Diagram} {cs : List ControlInfo} {changes : List Change} {g : Graph} → AnswersEach d → AnswersWide d → (r : HasPlayed d cs changes g)
     → r.output ≡ answer_on d (control_streams changes (initial_of cs)) r.frames r.input
-samples {d} {cs} {delays} {changes} {g} each wide r =
+samples {d} {cs} {changes} {g} each wide r =
     let n = r.frames in
     let c = control_streams changes (initial_of cs) in
     let X = rows (inputs d) n r.input in
     let long : length X ≡ n = length_table n (λ t. table (inputs d) (λ i. argument r.input (t * inputs d + i))) in
     let all : rows (outputs d) n r.output ≡ played g X c 0 n = ap (λ w. rows w n r.output) (sym r.of.width) ∙ r.plays in
     let count : length r.output ≡ n * outputs d = r.count ∙ ap (λ w. n * w) r.of.width in
-    let stay : StayWithin cs changes = record { spans = r.spans; bounded = r.can.bounded; lawful = r.can.lawful } in
     let on : GivesOn d (spans_of cs) g X c = record {
-      well = r.can.well;
+      well = r.well;
       gives = r.of.gives;
-      taken = taken d cs changes n r.input r.fit stay;
+      taken = taken d cs changes n r.input r.fit r.stay;
       width = r.of.width;
     } in
     sym (joined_all (outputs d) n r.output count) ∙ ap joined (all ∙ ap (λ k. played g X c 0 k) (sym long) ∙ played_is_run no_slots each wide on)

@@ -3,5 +3,6 @@ pub mod Runs
 pub mod Plans
 pub mod Render
 pub mod Stops
+pub mod SideBySide
 pub mod Examples
 pub mod inner

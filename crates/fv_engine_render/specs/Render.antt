@@ -46,6 +46,15 @@ pub record CanPlayGraph (g : Graph) (channels : ℕ) (controls : List ControlInf
   pub order : NeverFall 0 changes
   pub lawful : AllByRecursion (IsOfControls controls) changes
 
+-- A graph of a diagram that can be played, with so many inputs and these controls: the diagram has an output, and all its controls
+-- are there.
+pub record CanBePlayed (d : Diagram) (g : Graph) (channels : ℕ) (controls : List ControlInfo) : Type 0 where
+  pub of : IsGraphOf d (spans_of controls) g
+  pub channels_are : channels ≡ inputs d
+  pub some : 1 ≤ outputs d
+  pub few : inputs d ≤ MOST_CHANNELS
+  pub reads : control_bound d ≤ length controls
+
 -- sizes that an engine takes
 pub record CanHave (s : RunSizes) : Type 0 where
   pub some : 1 ≤ s.block

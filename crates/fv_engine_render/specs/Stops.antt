@@ -2,7 +2,7 @@
 use Rattle.std.specs.Prelude.{◌≡◌, ℕ, ◌*◌, ◌<◌, List, [], ◌++◌, length, ℤ, Option}
 use Rattle.fv_outside.specs.Journal.{Told}
 use Rattle.fv_tape.specs.Acts.{Act, Beginning, Hearing, Saying}
-use Rattle.fv_diagram.specs.Diagram.{Diagram, inputs, outputs}
+use Rattle.fv_diagram.specs.Diagram.{Diagram, inputs, outputs, IsWellFormed}
 use Rattle.fv_diagram.specs.Samples.{answer_on}
 use Rattle.fv_diagram.specs.declared.control.ControlInfo.{ControlInfo}
 use Rattle.fv_control.specs.declared.script.Change.{Change}
@@ -15,6 +15,7 @@ use Rattle.fv_engine_render.specs.Plans.{IsGraphOf, IsNew, IsPlanned}
 use Rattle.fv_engine_render.specs.Render.{RanTo, initial_of}
 use Rattle.fv_engine_render.specs.declared.blocks.RunSizes.{RunSizes}
 use Rattle.fv_engine_render.specs.declared.blocks.Ran.{Ran}
+use Rattle.fv_engine_render.specs.declared.tape.Played.{Played}
 use Rattle.fv_engine_render.specs.declared.tape.Ready.{Ready}
 
 -- Ready for a run of a diagram: an engine of a plan of its graph, of these sizes, which stands for no frames yet; the controls' first
@@ -33,6 +34,13 @@ pub record IsSetFor (d : Diagram) (cs : List ControlInfo) (s : RunSizes) (r : Re
   pub initial : r.values.items ≡ initial_of cs
   pub hears : length r.heard.items ≡ s.block * inputs d
   pub says : length r.said.items ≡ s.block * outputs d
+
+-- All is set for a diagram with so many inputs and outputs and these controls.
+pub record IsSetToPlay (d : Diagram) (p : Played) (s : RunSizes) (r : Ready) : Type 0 where
+  pub well : IsWellFormed d
+  pub inputs_are : p.inputs ≡ inputs d
+  pub outputs_are : p.outputs ≡ outputs d
+  pub set : IsSetFor d p.controls.now s r
 
 -- What a tape was asked for when it stopped, and all that the blocks up to frame f answer was said but for that.
 abbrev pub IsAct : (block total : ℕ) → List Change → (f : ℕ) → (said all : List ℤ) → Act → Type 0

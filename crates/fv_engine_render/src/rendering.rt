@@ -123,11 +123,15 @@ pub fn render_graph<R: Threads + Wait + Sync, G: Gate + Sync>(
     })
 }
 
-// So many frames of zeros.
-fn blank_samples(alloc: Global, frames: u32, outputs: usize) -> Result<Vec<i32>, AllocError>
-    ensures { IfOk result (λ v. length v.items ≡ frames * outputs) }
+/// So many frames of zeros.
+pub(crate) fn blank_samples(
+    alloc: Global,
+    frames: u32,
+    width: usize,
+) -> Result<Vec<i32>, AllocError>
+    ensures { IfOk result (λ v. length v.items ≡ frames * width) }
 {
-    let Some(count) = (frames as usize).checked_mul(outputs) else {
+    let Some(count) = (frames as usize).checked_mul(width) else {
         return Err(AllocError);
     };
     vec![in alloc; 0i32; count]

@@ -1,23 +1,27 @@
-// A run of a diagram over a tape, in memory that does not grow with its length.
+// A run of a diagram, or of a graph of one, over a tape, in memory that does not grow with its length.
 
-ghost use Rattle.std.specs.Prelude.{◌≡◌, ◌*◌, ◌<◌, ◌≤◌, ℕ, ℤ, List, length, OnOk, IfOk, IfErr};
+ghost use Rattle.std.specs.Prelude.{◌≡◌, ◌*◌, ◌<◌, ◌≤◌, ℕ, ℤ, List, length, All, OnOk, IfOk, IfErr};
+ghost use Rattle.std.specs.List.{AllByRecursion};
 ghost use Rattle.fv_diagram.specs.Arena.{count_of, tree_of};
-ghost use Rattle.fv_diagram.specs.Diagram.{inputs, outputs};
+ghost use Rattle.fv_diagram.specs.Controls.{IsBounded};
+ghost use Rattle.fv_diagram.specs.Diagram.{Diagram, inputs};
 ghost use Rattle.fv_diagram.specs.Samples.{answer_on};
+ghost use Rattle.fv_control.specs.Laws.{NeverFall, IsOfControls};
 ghost use Rattle.fv_control.specs.Streams.{control_streams};
 ghost use Rattle.fv_tape.specs.Acts.{Act};
-ghost use Rattle.fv_engine_render.specs.Render.{CanRender, CanHave, RanWhole, initial_of};
-ghost use Rattle.fv_engine_render.specs.Stops.{HasEnded, IsSetFor};
+ghost use Rattle.fv_engine_render.specs.Render.{CanRender, CanBePlayed, CanHave, RanWhole, initial_of};
+ghost use Rattle.fv_engine_render.specs.Stops.{HasEnded, IsSetFor, IsSetToPlay};
 
 use crate::blocks::{PlanSizes, Ran, RunSizes};
 use crate::controls::{initial_of, spans_fit};
 use crate::engines::{engine, plan_of};
-use crate::rendering::{Source, compile};
+use crate::rendering::{Source, blank_samples, compile};
 use crate::stream::play_tape;
 use fv_control::Change;
-use fv_diagram::{answers_each, answers_wide};
+use fv_diagram::{ControlInfo, answers_each, answers_wide};
 use fv_engine::Engine;
 use fv_outside::Gate;
+use fv_signal::Graph;
 use fv_tape::Tape;
 use std::alloc::{AllocError, Global};
 use std::marker::Sync;
@@ -35,7 +39,15 @@ pub struct Ready {
     pub said: Vec<i32>,
 }
 
-/// Takes all the memory of a run.
+/// What is played: how many inputs and outputs it has, and its controls.
+#[derive(Clone, Copy)]
+pub struct Played<'c> {
+    pub inputs: u32,
+    pub outputs: u32,
+    pub controls: &'c [ControlInfo],
+}
+
+/// Takes all the memory of a run of a diagram.
 pub fn make_ready(
     alloc: Global,
     source: &Source<'_, '_, '_>,
@@ -47,15 +59,30 @@ pub fn make_ready(
     requires sizes { CanHave sizes.now }
     ensures { IfOk result (λ r. IsSetFor (tree_of source.now.diagrams.now source.now.root) source.now.controls.now sizes.now r) }
 {
-    spans_fit(source.controls);
-    let arity = source.diagrams.arity(source.root);
+    let inputs = source.diagrams.arity(source.root).inputs;
     let graph = compile(alloc, source)?;
-    let plan = plan_of(alloc, &graph, arity.inputs, source.controls.len())?;
+    make_ready_graph(alloc, &graph, inputs, source.controls, sizes)
+}
+
+/// Takes all the memory of a run of a graph that has so many inputs and these controls.
+pub fn make_ready_graph(
+    alloc: Global,
+    graph: &Graph,
+    inputs: u32,
+    controls: &[ControlInfo],
+    sizes: &RunSizes,
+) -> Result<Ready, AllocError>
+    // It is a graph of some diagram that can be played, and whatever is ready is set for each of which it is one.
+    requires of { (d : Diagram) × CanBePlayed d graph.now inputs controls.now }
+    requires sizes { CanHave sizes.now }
+    ensures { IfOk result (λ r. (d : Diagram) → CanBePlayed d graph.now inputs controls.now → IsSetFor d controls.now sizes.now r) }
+{
+    let plan = plan_of(alloc, graph, inputs, controls.len())?;
     let loops = plan.loops();
-    let engine = engine(alloc, plan, arity.inputs, sizes)?;
-    let values = initial_of(alloc, source.controls)?;
-    let heard = vec![in alloc; 0i32; sizes.block as usize * arity.inputs as usize]?;
-    let said = vec![in alloc; 0i32; sizes.block as usize * arity.outputs as usize]?;
+    let engine = engine(alloc, plan, inputs, sizes)?;
+    let values = initial_of(alloc, controls)?;
+    let heard = blank_samples(alloc, sizes.block, inputs as usize)?;
+    let said = blank_samples(alloc, sizes.block, graph.outputs().len())?;
     Ok(Ready {
         engine,
         loops,
@@ -69,7 +96,7 @@ pub fn make_ready(
 pub fn render_tape<R: Threads + Wait + Sync, G: Gate + Sync, W, T: Tape<W>>(
     rt: &R,
     alloc: Global,
-    source: &Source<'_, '_, '_>,
+    played: &Played<'_>,
     changes: &[Change],
     sizes: &RunSizes,
     mut ready: Ready,
@@ -77,36 +104,37 @@ pub fn render_tape<R: Threads + Wait + Sync, G: Gate + Sync, W, T: Tape<W>>(
     world: &mut W,
     gate: &mut G,
 ) -> Result<Ran, T::Stop>
-    requires root { source.now.root < count_of source.now.diagrams.now }
-    requires source { CanRender (tree_of source.now.diagrams.now source.now.root) source.now.controls.now source.now.delays.now changes.now }
+    requires bounded { All IsBounded played.now.controls.now }
+    requires order { NeverFall 0 changes.now }
+    requires lawful { AllByRecursion (IsOfControls played.now.controls.now) changes.now }
     requires sizes { CanHave sizes.now }
-    requires ready { IsSetFor (tree_of source.now.diagrams.now source.now.root) source.now.controls.now sizes.now ready }
+    // All is set for some diagram, and what follows is so for each for which it is.
+    requires ready { (d : Diagram) × IsSetToPlay d played.now sizes.now ready }
     requires valid { T.is_valid tape.old }
     requires fresh { T.is_fresh tape.old }
-    requires ears { T.ears tape.old ≡ inputs (tree_of source.now.diagrams.now source.now.root) }
-    requires mouth { T.mouth tape.old ≡ outputs (tree_of source.now.diagrams.now source.now.root) }
+    requires ears { T.ears tape.old ≡ played.now.inputs }
+    requires mouth { T.mouth tape.old ≡ played.now.outputs }
     requires most { sizes.now.block ≤ T.most tape.old }
     requires left { T.left tape.old ≡ sizes.now.frames }
     // What was said is what the diagram answers on what was heard, whatever the sizes, and whatever the gate.
-    ensures samples { OnOk result ((h : List ℤ) × (length h ≡ sizes.now.frames * inputs (tree_of source.now.diagrams.now source.now.root))
-        × T.Went tape.old tape.new world.old world.new h (answer_on (tree_of source.now.diagrams.now source.now.root)
-        (control_streams changes.now (initial_of source.now.controls.now)) sizes.now.frames h)) }
+    ensures samples { (d : Diagram) → IsSetToPlay d played.now sizes.now ready → OnOk result ((h : List ℤ)
+        × (length h ≡ sizes.now.frames * inputs d) × T.Went tape.old tape.new world.old world.new h
+        (answer_on d (control_streams changes.now (initial_of played.now.controls.now)) sizes.now.frames h)) }
     // In every block each loop of a plan of the diagram's graph ran once on each vector, after all that it reads.
-    ensures ran { IfOk result (λ r. RanWhole (tree_of source.now.diagrams.now source.now.root) source.now.controls.now changes.now sizes.now
-        r (G.told gate.old) (G.told gate.new)) }
+    ensures ran { (d : Diagram) → IsSetToPlay d played.now sizes.now ready → IfOk result (λ r. RanWhole d played.now.controls.now changes.now
+        sizes.now r (G.told gate.old) (G.told gate.new)) }
     // Where the tape stops, so it was with the blocks that were heard, and all that the diagram answers was said but for what the
     // tape stopped at.
-    ensures stops { IfErr result (λ e. HasEnded (tree_of source.now.diagrams.now source.now.root) source.now.controls.now changes.now sizes.now
-        (G.told gate.old) (G.told gate.new) (λ h s act. T.Stopped tape.old tape.new world.old world.new h s act e)) }
+    ensures stops { (d : Diagram) → IsSetToPlay d played.now sizes.now ready → IfErr result (λ e. HasEnded d played.now.controls.now changes.now
+        sizes.now (G.told gate.old) (G.told gate.new) (λ h s act. T.Stopped tape.old tape.new world.old world.new h s act e)) }
 {
     answers_each();
     answers_wide();
-    spans_fit(source.controls);
-    let arity = source.diagrams.arity(source.root);
+    spans_fit(played.controls);
     let plan = PlanSizes {
         loops: ready.loops,
-        channels: arity.inputs as usize,
-        outputs: arity.outputs as usize,
+        channels: played.inputs as usize,
+        outputs: played.outputs as usize,
     };
     play_tape(
         rt,

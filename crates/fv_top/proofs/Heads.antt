@@ -27,7 +27,7 @@ use Rattle.fv_top.specs.declared.incoming.Incoming.{Incoming}
 use Rattle.fv_top.specs.Inputs.{wave_incoming, au_incoming}
 use Rattle.fv_top.specs.Sources.{Source, headed, wave_source, au_source, sized_source, open_source, file_source, is_au}
 use Rattle.fv_top.specs.Loading.{ReadsFile, StopsLoading, StopsHead, HasInput, GivesHead, HasHead}
-use Rattle.fv_top.specs.Promise.{HasRefusal, ReadHead}
+use Rattle.fv_top.specs.Promise.{IsHeadRefusal}
 use Rattle.fv_top.proofs.Loads.{cannot_later}
 
 pub head_none : (kind : InputKind) (files : List File) (left : List ℕ) → HasHead kind None files None None left
@@ -51,8 +51,8 @@ head_of_file kind name files bytes h held left file g = record {
 -- what stops the reading of the file that was begun stops the loading of the input
 pub head_stops : {kind : InputKind} {name : List ℕ} {a b c : DeskState} (e : Refusal) → ReadsFile Input (Some name) a b
     → (IsTrue a.tells → file_named name a.files ≡ Some (b.left Input))
-    → StopsHead (HasRefusal ReadHead) (file_source kind (b.left Input)) b c e
-    → StopsLoading Input (Some name) (HasRefusal ReadHead) (λ r. HasInput kind (Some name) a.files (Err r)) a c e
+    → StopsHead IsHeadRefusal (file_source kind (b.left Input)) b c e
+    → StopsLoading Input (Some name) IsHeadRefusal (λ r. HasInput kind (Some name) a.files (Err r)) a c e
 head_stops e p file (inl h) = inl (h.0, cannot_later p h.1.counted h.1.due)
 head_stops {b = b} e p file (inr (inl h)) =
     inr (inl (h.0, λ t. record { bytes = Some (b.left Input); file = rw (file t) refl; is = h.1 (told_before p.quiet.goes_on t) }))
@@ -87,7 +87,7 @@ wave_gives h begun taken left new is t = record {
 }
 
 pub wave_stops : (e : WaveRefusal) (r : Refusal) (bytes : List ℕ) {a b : DeskState} → r ≡ of_wave e → Stops (wave bytes ≡ Err e) a b e
-    → StopsHead (HasRefusal ReadHead) (wave_source bytes (wave bytes)) a b r
+    → StopsHead IsHeadRefusal (wave_source bytes (wave bytes)) a b r
 wave_stops (head.ReadFault role) r bytes is s = inl (is ∙ ap ReadFault s.cause.0, s.cause.1)
 wave_stops (head.NotWave place) r bytes is s = rw is (inr (inl (refl, λ t. ap (wave_source bytes) (s.cause.told t))))
 wave_stops (head.WaveTruncated place) r bytes is s = rw is (inr (inl (refl, λ t. ap (wave_source bytes) (s.cause.told t))))
@@ -133,7 +133,7 @@ open_refused h begun taken left new is none t many =
     sized_open h begun taken left new is none t ∙ rw over refl
 
 pub au_stops : (e : AuRefusal) (r : Refusal) (bytes : List ℕ) {a b : DeskState} → r ≡ of_au e → AuStops (au bytes ≡ Err e) a b e
-    → StopsHead (HasRefusal ReadHead) (au_source bytes (au bytes)) a b r
+    → StopsHead IsHeadRefusal (au_source bytes (au bytes)) a b r
 au_stops (au_head.ReadFault role) r bytes is s = inl (is ∙ ap ReadFault s.cause.0, s.cause.1)
 au_stops (au_head.AuFormat place) r bytes is s = rw is (inr (inl (refl, λ t. ap (au_source bytes) (s.cause.told t))))
 au_stops (au_head.AuTruncated place) r bytes is s = rw is (inr (inl (refl, λ t. ap (au_source bytes) (s.cause.told t))))
@@ -188,7 +188,7 @@ stops_earlier Kind P Q e q same (inr (inr m)) = inr (inr m)
 -- the samples of a size that is not stated could not be read
 pub rest_stops : {xs : List ℕ} {a b c : DeskState} (e : AuRefusal) (r : Refusal) (bytes : List ℕ) → r ≡ of_au e → Takes Input xs a b
     → (IsTrue a.tells → data_limit < length (b.left Input) → au_source bytes (au bytes) ≡ Err (AuFormat 8))
-    → RestStops b c e → StopsHead (HasRefusal ReadHead) (au_source bytes (au bytes)) a c r
+    → RestStops b c e → StopsHead IsHeadRefusal (au_source bytes (au bytes)) a c r
 rest_stops (au_head.ReadFault role) r bytes is q many s = inl (is ∙ ap ReadFault s.cause.0, due_earlier q s.cause.1)
 rest_stops (au_head.AuFormat place) r bytes is q many s =
     rw is (inr (inl (refl, λ t. many t (s.cause.1.told (told_before q.goes_on t)) ∙ ap (λ (p : ℕ). Err (AuFormat p)) (sym s.cause.0))))

@@ -37,7 +37,7 @@ use Rattle.fv_top.specs.Output.{OutputFormat, channels_in, present_in, cut_in, p
 use Rattle.fv_top.specs.Loading.{IsLeft, IsRest, IsWithin}
 use Rattle.fv_top.specs.inner.Formats.{format_in}
 use Rattle.fv_top.specs.inner.Prepared.{CanRun, HasRun, IsEndFor, EndsAt, samples_of, output_head, coding_heard, frames_there, file_there}
-use Rattle.fv_top_text.specs.Compiled.{compiled_of}
+use Rattle.fv_top_text.specs.Compiled.{Compiled}
 
 -- ---- the frames of a file
 
@@ -234,34 +234,31 @@ streams_then k q = record {
 prefix_long : {xs ys : List ℕ} → IsPrefixOf xs ys → length xs ≤ length ys
 prefix_long {xs} p = let e = ap length p.is ∙ length-append xs p.rest in omega (arith, e)
 
--- what is played, under which streams of the controls, and what stands behind the samples
-abbrev pub diagram_in : Prepared → Diagram
-diagram_in p = (compiled_of p.program).diagram
-
-abbrev pub controls_in : Prepared → ℕ → Stream
-controls_in p = control_streams p.script (initial_of (compiled_of p.program).controls)
+-- under which streams of the controls it is played, and what stands behind the samples
+abbrev pub controls_in : Compiled → Prepared → ℕ → Stream
+controls_in m p = control_streams p.script (initial_of m.controls)
 
 abbrev pub pad_of : Prepared → List ℕ
 pad_of p = pad_in p.format.coding p.format.size
 
-abbrev answer_of : Prepared → DeskState → List ℕ
-answer_of p a = answered (diagram_in p) (controls_in p) (files_of p.tape) a
+abbrev answer_of : Compiled → Prepared → DeskState → List ℕ
+answer_of m p a = answered m.diagram (controls_in m p) (files_of p.tape) a
 
-module _ (p : Prepared) (can : CanRun p) where
-  sized : IsSized (diagram_in p) p.format p.tape.head
+module _ (m : Compiled) (p : Prepared) (can : CanRun m p) where
+  sized : IsSized m.diagram p.format p.tape.head
   sized = record { size = can.size; head = can.head }
 
-  begins_with : (a : DeskState) → IsPrefixOf (answer_of p a) (file_there p (a.left Input))
-  begins_with a = file_begins (diagram_in p) (controls_in p) p.format p.tape.head sized (frames_there p (a.left Input))
+  begins_with : (a : DeskState) → IsPrefixOf (answer_of m p a) (file_there m p (a.left Input))
+  begins_with a = file_begins m.diagram (controls_in m p) p.format p.tape.head sized (frames_there p (a.left Input))
 
   -- all frames were played
-  module _ {a b : DeskState} (k : HasPlayed (diagram_in p) (controls_in p) (files_of p.tape) a b) where
+  module _ {a b : DeskState} (k : HasPlayed m.diagram (controls_in m p) (files_of p.tape) a b) where
     there_all : IsTrue a.tells → length (frames_there p (a.left Input)) ≡ p.sizes.frames
     there_all t = k.there t ∙ can.stated
 
-    whole : IsTrue a.tells → answer_of p a ++ pad_of p ≡ file_there p (a.left Input)
+    whole : IsTrue a.tells → answer_of m p a ++ pad_of p ≡ file_there m p (a.left Input)
     whole t =
-        file_whole (diagram_in p) (controls_in p) p.format p.tape.head sized (frames_there p (a.left Input)) (there_all t ∙ sym can.frames)
+        file_whole m.diagram (controls_in m p) p.format p.tape.head sized (frames_there p (a.left Input)) (there_all t ∙ sym can.frames)
 
     taken_then : {ys : List ℕ} {e : DeskState} → Appends Output ys b e → IsTrue a.tells → HasTaken (files_of p.tape) p.sizes.frames a e
     taken_then {e = e} q t =
@@ -270,7 +267,7 @@ module _ (p : Prepared) (can : CanRun p) where
         (subst (λ l. AreTakenOf p.tape.input held p.tape.stated (a.left Input) l) (sym (q.left (told_before k.streams.goes_on t) Input)) (k.taken t))
 
     -- and what stands behind them was written
-    pub run_whole : {e : DeskState} → Appends Output (pad_of p) b e → KeepsFaults b e → HasRun p a e
+    pub run_whole : {e : DeskState} → Appends Output (pad_of p) b e → KeepsFaults b e → HasRun m p a e
     run_whole q steady = record {
       streams = streams_then k.streams q;
       begun = q.begins Output ∙ k.begun;
@@ -283,11 +280,11 @@ module _ (p : Prepared) (can : CanRun p) where
     -- or a part of it was
     pub pad_stops : {e : DeskState} → AppendsPart Output (pad_of p) b e → HasFault Output b e
         → (IsTrue b.tells → IsUnfailing Output b → length (b.written Output) + length (pad_of p) ≤ b.room Output → ⊥)
-        → EndsAt p p.sizes.frames a e stop.Write
+        → EndsAt m p p.sizes.frames a e stop.Write
     pad_stops {e} q failed unanswered =
         let on = k.streams.goes_on in
-        let all = answer_of p a in
-        let cannot : CannotSay (file_there p (a.left Input)) a e = record {
+        let all = answer_of m p a in
+        let cannot : CannotSay (file_there m p (a.left Input)) a e = record {
           fault = fault_earlier e Output on failed;
           others = λ r n. q.2.other_faults r n ∙ k.faults r;
           unsure = λ t safe fits.
@@ -311,7 +308,7 @@ module _ (p : Prepared) (can : CanRun p) where
 
   -- it stopped before
   cause_of : (a b : DeskState) (g : ℕ) → g ≤ p.tape.stated → (e : Stop)
-      → IsStopFor (diagram_in p) (controls_in p) p.script p.sizes (files_of p.tape) g a b e → IsEndFor p g a b e
+      → IsStopFor m.diagram (controls_in m p) p.script p.sizes (files_of p.tape) g a b e → IsEndFor m p g a b e
   cause_of a b g few stop.Read h = h
   cause_of a b g few (stop.End place) h = (
     h.0,
@@ -331,7 +328,7 @@ module _ (p : Prepared) (can : CanRun p) where
           short = y.short;
           place_is = y.place_is;
           taken = y.taken;
-          written = y.written ∙ file_short (diagram_in p) (controls_in p) p.format p.tape.head sized (take g X) part;
+          written = y.written ∙ file_short m.diagram (controls_in m p) p.format p.tape.head sized (take g X) part;
         },
   )
   cause_of a b g few stop.Write h = (
@@ -343,7 +340,7 @@ module _ (p : Prepared) (can : CanRun p) where
     λ t. (g, (let same = can.stated in omega (arith, few, same)), h.1 t),
   )
 
-  pub files_stop : {a b : DeskState} (g : ℕ) (e : Stop) → StopsAt (diagram_in p) (controls_in p) p.script p.sizes (files_of p.tape) g a b e → EndsAt p g a b e
+  pub files_stop : {a b : DeskState} (g : ℕ) (e : Stop) → StopsAt m.diagram (controls_in m p) p.script p.sizes (files_of p.tape) g a b e → EndsAt m p g a b e
   files_stop {a} {b} g e k = record {
     streams = k.streams;
     output = ⊎_elim inl (λ o. inr (o.0, λ t. prefix_trans _ _ _ (o.1 t) (begins_with a))) k.output;

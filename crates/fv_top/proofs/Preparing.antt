@@ -11,12 +11,13 @@ use Rattle.fv_top_words.specs.Commands.{Playing}
 use Rattle.fv_top.specs.declared.incoming.Incoming.{Incoming}
 use Rattle.fv_top_report.specs.declared.refusal.Refusal.{Refusal}
 use Rattle.fv_top_report.specs.declared.refusal.Refusal.TheVariants.{NoMemory}
-use Rattle.fv_top_text.specs.Program.{IsProgram}
+use Rattle.fv_top_rack.specs.Kinds.{FileIs, IsOfKind}
 use Rattle.fv_top_text.specs.Compiled.{Compiled}
 use Rattle.fv_top.specs.Output.{OutputFormat, coding_of, format_of}
 use Rattle.fv_top.specs.Loading.{ReadsFile, IsFile, HasScript, HasInput, HasHead, IsLeft, reading}
 use Rattle.fv_top.specs.Steps.{Ends, here, later, judged, want_of_memory}
-use Rattle.fv_top.specs.Promise.{IsReadBy, ReadProgram, ReadScript, ReadHead, Fit, HasProgram, HasNoProgram, HasRefusal, Plays, Step, run_rules}
+use Rattle.fv_top.specs.Promise.{IsReadBy, ReadProgram, ReadScript, ReadHead, Fit, HasProgramOf, HasNoProgram, IsScriptRefusal, IsHeadRefusal, Plays}
+use Rattle.fv_top.specs.Promise.{Step, run_rules}
 use Rattle.fv_top.specs.inner.Running.{Reaches, StopsBefore, asked_before}
 use Rattle.fv_top.specs.declared.format.OutputFormat.{OutputFormat as Made}
 use Rattle.fv_top.specs.declared.input.Loaded.{Loaded}
@@ -24,7 +25,7 @@ use Rattle.fv_top.specs.declared.prepare.Prepared.{Prepared}
 use Rattle.fv_top.specs.inner.Formats.{format_in}
 use Rattle.fv_top.specs.inner.Loaded.{held_in}
 use Rattle.fv_top.specs.inner.Prepared.{IsMadeOf, IsOfFiles, samples_of}
-use Rattle.fv_top.proofs.Reaching.{FailsToLoad, reaches_nothing, reaches_file, reaches_on, loading_halts, load_faults, fit_kind}
+use Rattle.fv_top.proofs.Reaching.{FailsToLoad, reaches_nothing, reaches_file, reaches_on, loading_halts, load_faults, no_kind, fit_kind}
 
 -- ---- what was read so far
 
@@ -32,7 +33,7 @@ use Rattle.fv_top.proofs.Reaching.{FailsToLoad, reaches_nothing, reaches_file, r
 pub record HasText (run : Run) (p : Compiled) (a : DeskState) : Type 0 where
   pub text : List ℕ
   pub file : IsFile run.program text a
-  pub program : IsProgram text p
+  pub program : FileIs run.manner.program text (Ok p)
 
 -- this program
 pub record AfterProgram (run : Run) (p : Compiled) (a b : DeskState) : Type 0 where
@@ -55,11 +56,11 @@ pub record AfterHead (run : Run) (p : Compiled) (changes : List Change) (head : 
   pub reaches : Reaches (IsReadBy (Playing run)) (asked_before run) a b
   pub before : KeepsFaults a b
 
-abbrev has : {run : Run} {p : Compiled} {a : DeskState} → HasText run p a → IsTrue a.tells → HasProgram run.program a.files
+abbrev has : {run : Run} {p : Compiled} {a : DeskState} → HasText run p a → IsTrue a.tells → HasProgramOf run a.files
 has {p = p} of t = record { text = of.text; file = of.file t; compiled = p; program = of.program }
 
 pub after_program : {run : Run} {p : Compiled} {a b : DeskState} → ReadsFile Program (Some run.program) a b → KeepsFaults a b
-    → (text : List ℕ) × IsFile run.program text a × IsProgram text p → AfterProgram run p a b
+    → (text : List ℕ) × IsFile run.program text a × FileIs run.manner.program text (Ok p) → AfterProgram run p a b
 after_program {run} {a = a} q steady s = record {
   of = record { text = s.0; file = s.1; program = s.2 };
   reaches = reaches_file {Reads = IsReadBy (Playing run)} {role = Program} (λ named. tt) (reaches_nothing (IsReadBy (Playing run)) a) q;
@@ -93,19 +94,19 @@ after_head {run} {head = head} {held = held} {c = c} w q steady says = record {
 -- ---- why it stops
 
 pub stops_program : {run : Run} {a b : DeskState} {e : Refusal}
-    → FailsToLoad Program (Some run.program) (HasRefusal ReadProgram) (HasNoProgram run.program a.files) a b e → StopsBefore run a b e
+    → FailsToLoad Program (Some run.program) (IsOfKind run.manner.program) (HasNoProgram run.manner.program run.program a.files) a b e → StopsBefore run a b e
 stops_program {run} {a} {b} {e} f =
-    let P = HasNoProgram run.program a.files in
+    let P = HasNoProgram run.manner.program run.program a.files in
     record {
       asked = to_read Program run.program ∷ [];
       reaches = reaches_file {Reads = IsReadBy (Playing run)} {role = Program} (λ named. tt) (reaches_nothing (IsReadBy (Playing run)) a) f.reads;
       ends = here (loading_halts run ReadProgram Program (Some run.program) P tt (reaches_nothing (IsReadBy (Playing run)) a) (λ s. refl) (λ x. x)
           (λ t r h. h) f.stops);
-      faults = load_faults a f (λ h. absurd cc) (λ r. refl);
+      faults = load_faults a f (no_kind run.manner.program Program) (λ r. refl);
     }
 
 pub stops_script : {run : Run} {p : Compiled} {a b c : DeskState} {e : Refusal} → AfterProgram run p a b
-    → FailsToLoad Controls run.controls (HasRefusal ReadScript) (λ r. HasScript run.controls b.files p.controls (Err r)) b c e → StopsBefore run a c e
+    → FailsToLoad Controls run.controls IsScriptRefusal (λ r. HasScript run.controls b.files p.controls (Err r)) b c e → StopsBefore run a c e
 stops_script {run} {p} {a} {b} {c} {e} w f =
     let P : Refusal → Type 0 = λ r. HasScript run.controls b.files p.controls (Err r) in
     let on = w.reaches.quiet.goes_on in
@@ -118,7 +119,7 @@ stops_script {run} {p} {a} {b} {c} {e} w f =
     }
 
 pub stops_head : {run : Run} {p : Compiled} {changes : List Change} {a b c : DeskState} {e : Refusal} → AfterScript run p changes a b
-    → FailsToLoad Input run.input (HasRefusal ReadHead) (λ r. HasInput run.manner.input run.input b.files (Err r)) b c e → StopsBefore run a c e
+    → FailsToLoad Input run.input IsHeadRefusal (λ r. HasInput run.manner.input run.input b.files (Err r)) b c e → StopsBefore run a c e
 stops_head {run} {p} {changes} {a} {b} {c} {e} w f =
     let P : Refusal → Type 0 = λ r. HasInput run.manner.input run.input b.files (Err r) in
     let on = w.reaches.quiet.goes_on in
@@ -175,13 +176,13 @@ module _ {run : Run} {p : Compiled} {changes : List Change} {head : Option Incom
 
     -- it is ready to be played, of these files
     pub files_are : {name : List ℕ} {loaded : Loaded} {made : Made} {q : Prepared} → loaded.head ≡ head → held_in loaded ≡ held → format_in made ≡ format
-        → IsMadeOf name run.settings p changes loaded made q → IsTrue a.tells → IsOfFiles run a b q
+        → IsMadeOf name run.settings changes loaded made q → IsTrue a.tells → IsOfFiles run a b p q
     files_are {q = q} heads holds formats m t =
         let h = w.on t in
         let same = sym (m.held ∙ holds) in
         record {
           plays = plays t;
-          program = sym m.program;
+          program = refl;
           changes = sym m.script;
           format = sym (ap format_in m.format ∙ formats);
           input = m.input ∙ ap (option_map samples_of) (heads ∙ sym h.is);
@@ -199,8 +200,8 @@ module _ {run : Run} {p : Compiled} {changes : List Change} {head : Option Incom
   }
 
 -- there is an input where one is named
-pub named_is : {name : List ℕ} {settings : Settings} {p : Compiled} {changes : List Change} {loaded : Loaded} {made : Made} {q : Prepared}
-    (input : Option (List ℕ)) → IsMadeOf name settings p changes loaded made q → is_some loaded.head ≡ is_some input → is_some q.tape.input ≡ is_some input
+pub named_is : {name : List ℕ} {settings : Settings} {changes : List Change} {loaded : Loaded} {made : Made} {q : Prepared}
+    (input : Option (List ℕ)) → IsMadeOf name settings changes loaded made q → is_some loaded.head ≡ is_some input → is_some q.tape.input ≡ is_some input
 named_is {loaded = loaded} input m named = ap is_some m.input ∙ some_of loaded.head ∙ named
   where
     some_of : (o : Option Incoming) → is_some (option_map samples_of o) ≡ is_some o

@@ -1,40 +1,49 @@
 -- The blocks of a run and of a make, from those that were rendered.
-use Rattle.std.proofs.Common.{◌≡◌, ℕ, ◌+◌, ◌-◌, ◌/◌, ◌≤◌, List, [], subst, refl, inl, inr, sym, ◌∙◌, arith}
+use Rattle.std.proofs.Common.{◌≡◌, ℕ, ◌+◌, ◌-◌, ◌/◌, ◌≤◌, List, [], length, subst, refl, inl, inr, sym, ◌∙◌, arith}
 use Rattle.std.specs.Prelude.{Option, Err}
-use Rattle.std.specs.List.{AllByRecursion}
 use Rattle.fv_base.specs.declared.role.Role.TheVariants.{Output}
 use Rattle.fv_outside.specs.Journal.{Told}
 use Rattle.fv_outside.specs.Desk.{DeskState}
-use Rattle.fv_diagram.specs.Arena.{tree_of}
-use Rattle.fv_control.specs.declared.script.Change.{Change}
-use Rattle.fv_control.specs.Laws.{NeverFall, IsOfControls}
-use Rattle.fv_interval.specs.Delays.{AreAccepted}
-use Rattle.fv_eval.specs.Evaluated.{Evaluated}
-use Rattle.fv_engine_render.specs.Render.{CanRender, CanHave}
+use Rattle.fv_engine_render.specs.Render.{CanBePlayed, CanHave}
+use Rattle.fv_diagram.specs.Diagram.{Diagram, control_bound}
+use Rattle.fv_diagram.specs.declared.control.ControlInfo.{ControlInfo}
+use Rattle.fv_engine_render.specs.Plans.{IsGraphOf}
+use Rattle.fv_engine_render.specs.Stops.{IsSetFor, IsSetToPlay}
+use Rattle.fv_engine_render.specs.declared.blocks.RunSizes.{RunSizes}
+use Rattle.fv_engine_render.specs.declared.tape.Played.{Played}
+use Rattle.fv_engine_render.specs.declared.tape.Ready.{Ready}
+use Rattle.fv_interval.specs.Controls.{spans_of}
+use Rattle.fv_top_playable.specs.Playables.{IsPlayable}
+use Rattle.fv_top_playable.specs.declared.playable.Playable.{Playable}
+use Rattle.fv_top_text.specs.Compiled.{Compiled}
 use Rattle.fv_top_words.specs.Runs.{Settings, AreSound}
 use Rattle.fv_top_words.specs.declared.cause.Cause.{Cause}
 use Rattle.fv_top_words.specs.Commands.{Job, Playing, Checking, Making, job_in}
 use Rattle.fv_top_report.specs.declared.refusal.Refusal.{Refusal}
-use Rattle.fv_top_text.specs.Program.{delays_in}
-use Rattle.fv_top_text.specs.Compiled.{compiled_of, CanPlay}
 use Rattle.fv_top.specs.Promise.{Asks}
 use Rattle.fv_top.specs.Played.{sizes_of, make_sizes, HaveRan, MakeRan, MakeSoFar, RanSoFar, ComesFirst, HasBlocksSoFar}
 
--- ---- what is played can be rendered
+-- ---- what is played, and its sizes
 
-pub can_render : (p : Evaluated) (delays : List ℕ) (changes : List Change) → CanPlay p → AreAccepted (delays_in (compiled_of p)) delays
-    → NeverFall 0 changes → AllByRecursion (IsOfControls p.controls) changes → CanRender (tree_of p.diagrams p.root) p.controls delays changes
-can_render p delays changes plays accepted order lawful = record {
-  well = plays.well;
-  closed = plays.closed;
-  tableless = plays.tableless;
-  some = plays.some;
-  few = plays.narrow;
-  reads = plays.reads;
-  bounded = plays.bounded;
-  accepted = accepted;
-  order = order;
-  lawful = lawful;
+pub can_be_played : (m : Compiled) (p : Playable) → IsPlayable m p → CanBePlayed m.diagram p.graph p.inputs p.controls.items
+can_be_played m p h = record {
+  of = subst (λ (ks : List ControlInfo). IsGraphOf m.diagram (spans_of ks) p.graph) (sym h.controls) h.graph;
+  channels_are = h.inputs;
+  some = h.plays.some;
+  few = h.plays.narrow;
+  reads = subst (λ (ks : List ControlInfo). control_bound m.diagram ≤ length ks) (sym h.controls) h.plays.reads;
+}
+
+-- all is set for each program of which the graph is one
+pub set_to_play : (m : Compiled) (p : Playable) (ks : List ControlInfo) (played : Played) (s : RunSizes) (r : Ready) → IsPlayable m p
+    → ks ≡ p.controls.items → played.inputs ≡ p.inputs → played.outputs ≡ p.outputs → played.controls.now ≡ p.controls.items
+    → ((d : Diagram) → CanBePlayed d p.graph p.inputs ks → IsSetFor d ks s r) → IsSetToPlay m.diagram played s r
+set_to_play m p ks played s r h same inputs outputs controls ready = record {
+  well = h.plays.well;
+  inputs_are = inputs ∙ h.inputs;
+  outputs_are = outputs ∙ h.outputs;
+  set = subst (λ (xs : List ControlInfo). IsSetFor m.diagram xs s r) (same ∙ sym controls)
+      (ready m.diagram (subst (CanBePlayed m.diagram p.graph p.inputs) (sym same) (can_be_played m p h)));
 }
 
 pub can_have : (s : Settings) (frames : ℕ) → AreSound s → CanHave (sizes_of s frames)

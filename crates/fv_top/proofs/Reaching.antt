@@ -8,6 +8,8 @@ use Rattle.fv_outside.specs.Requests.{Request, to_read}
 use Rattle.fv_outside.specs.Desk.{DeskState, KeepsFaults, IsUnfailing}
 use Rattle.fv_outside.proofs.States.{quiet_self, quiet_then, told_before, fault_earlier, unfailing_later}
 use Rattle.fv_diagram.specs.Diagram.{Diagram, inputs, outputs}
+use Rattle.fv_top_words.specs.declared.manner.ProgramKind.{ProgramKind}
+use Rattle.fv_top_words.specs.declared.manner.ProgramKind.TheVariants.{Alone, Rack}
 use Rattle.fv_top_words.specs.Runs.{Run, Settings}
 use Rattle.fv_top_words.specs.Commands.{Playing}
 use Rattle.fv_top.specs.declared.incoming.Incoming.{Incoming}
@@ -15,6 +17,7 @@ use Rattle.fv_pcm.specs.declared.coding.Coding.{Coding}
 use Rattle.fv_pcm.specs.Sizes.{data_size, data_limit}
 use Rattle.fv_top_report.specs.declared.refusal.Refusal.{Refusal}
 use Rattle.fv_top_report.specs.declared.refusal.Refusal.TheVariants.{ReadFault, Channels, FramesNeeded, OutputTooLong}
+use Rattle.fv_top_rack.specs.Kinds.{IsOfKind}
 use Rattle.fv_top.specs.Output.{OutputFormat, format_of, counted, channels_in, bits_in, frames_in}
 use Rattle.fv_top.specs.Inputs.{stated_frames}
 use Rattle.fv_top.specs.Loading.{ReadsFile, StopsLoading, IsThere, reading}
@@ -51,7 +54,7 @@ pub loading_halts : (run : Run) (s : Step) (role : Role) (name : Option (List �
     {asked : List Request} {a b c : DeskState} {e : Refusal}
     → WantsMemory s → Reaches (IsReadBy (Playing run)) asked a b → (IsSome name → TakesTurn run s (reads role))
     → (IsAnswered run a s (reads role) → IsUnfailing role a × IsThere name a.files)
-    → (IsTrue a.tells → (r : Refusal) → P r → StepRefuses run a.files s r) → StopsLoading role name (HasRefusal s) P b c e
+    → (IsTrue a.tells → (r : Refusal) → P r → StepRefuses run a.files s r) → StopsLoading role name (HasRefusal run.manner.program s) P b c e
     → Halts (run_rules run a) a c s e
 loading_halts run s role name P {a = a} {c = c} m p takes answers refuses (inl h) =
     let on = p.quiet.goes_on in
@@ -61,6 +64,11 @@ loading_halts run s role name P {a = a} {c = c} m p takes answers refuses (inl h
     h.1.unsure (told_before on t) (unfailing_later role on t w.0, subst (IsThere name) (sym (on.files t)) w.1)))
 loading_halts run s role name P {e = e} m p takes answers refuses (inr (inl h)) = judged h.0 (λ t. refuses t e (h.1 (told_before p.quiet.goes_on t)))
 loading_halts run s role name P {a = a} {c = c} w p takes answers refuses (inr (inr m)) = subst (Halts (run_rules run a) a c s) (sym m) (want_of_memory w)
+
+-- a fault is no refusal of a program's file
+pub no_kind : (kind : ProgramKind) (role : Role) → IsOfKind kind (ReadFault role) → ⊥
+no_kind Alone role is = absurd cc
+no_kind Rack role is = absurd cc
 
 -- no fault is counted but the one that stops it
 pub load_faults : {role : Role} {name : Option (List ℕ)} {Kind P : Refusal → Type 0} (a : DeskState) {b c : DeskState} {e : Refusal}
@@ -76,25 +84,26 @@ load_faults {Kind = Kind} a f apart before =
 -- ---- a format, and one that does not fit
 
 kind_sized : (b : Bool) (a : OutputFormat) (n : ℕ) (e : Refusal)
-    → (let r : Result OutputFormat Refusal = if b then Ok a else Err (OutputTooLong n) in r ≡ Err e) → HasRefusal Fit e
+    → (let r : Result OutputFormat Refusal = if b then Ok a else Err (OutputTooLong n) in r ≡ Err e) → HasRefusal Alone Fit e
 kind_sized true a n e is = absurd cc
-kind_sized false a n e is = let same : OutputTooLong n ≡ e = cc in subst (HasRefusal Fit) same refl
+kind_sized false a n e is = let same : OutputTooLong n ≡ e = cc in subst (HasRefusal Alone Fit) same refl
 
-kind_counted : (out : Coding) (s : Settings) (d : Diagram) (head : Option Incoming) (frames : Option ℕ) (e : Refusal) → counted out s d head frames ≡ Err e
-    → HasRefusal Fit e
-kind_counted out s d head None e is = let same : FramesNeeded ≡ e = cc in subst (HasRefusal Fit) same refl
-kind_counted out s d head (Some n) e is = kind_sized (nat_le (data_size (outputs d) (bits_in s head) n) data_limit) _ _ e is
+kind_counted : (out : Coding) (s : Settings) (channels : ℕ) (head : Option Incoming) (frames : Option ℕ) (e : Refusal)
+    → counted out s channels head frames ≡ Err e → HasRefusal Alone Fit e
+kind_counted out s channels head None e is = let same : FramesNeeded ≡ e = cc in subst (HasRefusal Alone Fit) same refl
+kind_counted out s channels head (Some n) e is = kind_sized (nat_le (data_size channels (bits_in s head) n) data_limit) _ _ e is
 
-kind_chosen : (b : Bool) (r : Result OutputFormat Refusal) (have want : ℕ) (e : Refusal) → (r ≡ Err e → HasRefusal Fit e)
-    → (if b then r else Err (Channels have want)) ≡ Err e → HasRefusal Fit e
+kind_chosen : (b : Bool) (r : Result OutputFormat Refusal) (have want : ℕ) (e : Refusal) → (r ≡ Err e → HasRefusal Alone Fit e)
+    → (if b then r else Err (Channels have want)) ≡ Err e → HasRefusal Alone Fit e
 kind_chosen true r have want e k is = k is
-kind_chosen false r have want e k is = let same : Channels have want ≡ e = cc in subst (HasRefusal Fit) same refl
+kind_chosen false r have want e k is = let same : Channels have want ≡ e = cc in subst (HasRefusal Alone Fit) same refl
 
 -- its refusals are those of its step
-pub fit_kind : (out : Coding) (s : Settings) (d : Diagram) (head : Option Incoming) (e : Refusal) → format_of out s d head ≡ Err e → HasRefusal Fit e
+pub fit_kind : (out : Coding) (s : Settings) (d : Diagram) (head : Option Incoming) (e : Refusal) → format_of out s d head ≡ Err e → HasRefusal Alone Fit e
 fit_kind out s d head e is =
     let frames = frames_in s head in
-    kind_chosen (channels_in head == inputs d) (counted out s d head frames) (channels_in head) (inputs d) e (kind_counted out s d head frames e) is
+    kind_chosen (channels_in head == inputs d) (counted out s (outputs d) head frames) (channels_in head) (inputs d) e
+    (kind_counted out s (outputs d) head frames e) is
 
 -- the frames of a format on an input are those that its head states
 sized_frames : (b : Bool) (a format : OutputFormat) (e : Refusal)
@@ -109,7 +118,7 @@ chosen false r e format is = absurd cc
 pub fits_frames : (out : Coding) (s : Settings) (d : Diagram) (h : Incoming) (format : OutputFormat) → format_of out s d (Some h) ≡ Ok format
     → format.frames ≡ stated_frames h
 fits_frames out s d h format is =
-    let r = chosen (h.channels == inputs d) (counted out s d (Some h) (frames_in s (Some h))) _ format is in
+    let r = chosen (h.channels == inputs d) (counted out s (outputs d) (Some h) (frames_in s (Some h))) _ format is in
     sized_frames (nat_le (data_size (outputs d) _ (stated_frames h)) data_limit) _ format _ r
 
 -- nothing more is asked for by the steps that judge and compute

@@ -14,7 +14,7 @@ use Rattle.fv_top_report.specs.declared.refusal.Refusal.TheVariants.{NoMemory}
 use Rattle.fv_top_report.specs.Layers.{of_script}
 use Rattle.fv_top.specs.Sources.{scripted}
 use Rattle.fv_top.specs.Loading.{HasScript}
-use Rattle.fv_top.specs.Promise.{HasRefusal, ReadScript}
+use Rattle.fv_top.specs.Promise.{IsScriptRefusal}
 
 -- what its first bytes spell, the whole script does
 pub whole_script : (controls : List ControlInfo) (text bytes : List ℕ) → bytes ≡ take 1048577 text → script controls text ≡ script controls bytes
@@ -50,7 +50,7 @@ pub script_none : (files : List File) (controls : List ControlInfo) → HasScrip
 script_none files controls = record { bytes = None; file = refl; is = refl }
 
 -- the refusals of scripts are those of their step, but want of memory
-pub script_refused : (e : ScriptRefusal) (r : Refusal) (Q : Type 0) → r ≡ of_script e → (IsOfScript e → Q) → (r ≡ NoMemory) ⊎ (HasRefusal ReadScript r × Q)
+pub script_refused : (e : ScriptRefusal) (r : Refusal) (Q : Type 0) → r ≡ of_script e → (IsOfScript e → Q) → (r ≡ NoMemory) ⊎ (IsScriptRefusal r × Q)
 script_refused (lines.TextTooLong role) r Q is q = rw is (inr (refl, q tt))
 script_refused (lines.ControlLine line) r Q is q = rw is (inr (refl, q tt))
 script_refused (lines.ControlUnknown line) r Q is q = rw is (inr (refl, q tt))

@@ -24,6 +24,8 @@ use Rattle.fv_file_tape.specs.declared.samples.InputSamples.{InputSamples}
 use Rattle.fv_file_tape.specs.declared.file_tape.Stop.{Stop}
 use Rattle.fv_file_tape.specs.declared.file_tape.Stop.TheVariants as stop
 use Rattle.fv_top_words.specs.declared.cause.Cause.{Cause}
+use Rattle.fv_top_words.specs.declared.manner.ProgramKind.{ProgramKind}
+use Rattle.fv_top_words.specs.declared.manner.ProgramKind.TheVariants.{Alone, Rack}
 use Rattle.fv_top_words.specs.Runs.{Run}
 use Rattle.fv_top_words.specs.Commands.{Job, Playing, Checking, Making, job_in}
 use Rattle.fv_top_report.specs.declared.refusal.Refusal.{Refusal}
@@ -31,7 +33,8 @@ use Rattle.fv_top_report.specs.declared.refusal.Refusal.TheVariants.{Usage, Read
 use Rattle.fv_pcm.specs.declared.coding.Coding.{Coding}
 use Rattle.fv_pcm.specs.declared.coding.Coding.TheVariants as coding
 use Rattle.fv_top_words.specs.declared.manner.InputKind.{InputKind}
-use Rattle.fv_top_text.specs.Compiled.{Compiled, compiled_of}
+use Rattle.fv_top_rack.specs.Kinds.{IsOfKind}
+use Rattle.fv_top_text.specs.Compiled.{Compiled}
 use Rattle.fv_top.specs.declared.incoming.Incoming.{Incoming}
 use Rattle.fv_top.specs.declared.prepare.Prepared.{Prepared}
 use Rattle.fv_top.specs.Inputs.{truncated, stated_frames, read_bytes}
@@ -124,7 +127,7 @@ no_usage : (c : Coding) (place : ℕ) (cause : Cause) → Usage cause ≡ trunca
 no_usage coding.Wave place cause is = absurd cc
 no_usage coding.Au place cause is = absurd cc
 
-written_cut : (c : Coding) (place : ℕ) → HasRefusal Write (truncated c place)
+written_cut : (c : Coding) (place : ℕ) → HasRefusal Alone Write (truncated c place)
 written_cut coding.Wave place = refl
 written_cut coding.Au place = refl
 
@@ -133,15 +136,22 @@ judged_cut : {S : Type 0} (k : Rules S) (a b : DeskState) (steps : List S) (e : 
 judged_cut k a b steps e c place asked is h =
     judged_in k a b steps (truncated c place) asked (no_fault c place) (no_want c place) (subst (λ (r : Refusal). Ends k a b steps r asked) is h)
 
+-- it is no refusal of a program's file
+no_program : (kind : ProgramKind) (c : Coding) (place : ℕ) → IsOfKind kind (truncated c place) → ⊥
+no_program Alone coding.Wave place is = absurd cc
+no_program Alone coding.Au place is = absurd cc
+no_program Rack coding.Wave place is = absurd cc
+no_program Rack coding.Au place is = absurd cc
+
 -- before anything is written, of its steps only that of the head judges it so
 head_judged : (run : Run) (a : DeskState) (c : Coding) (place : ℕ) → IsTrue a.tells → OfSome (Judges (run_rules run a) (truncated c place)) steps_before
     → HasInput run.manner.input run.input a.files (Err (truncated c place))
-head_judged run a coding.Wave place t (inl h) = let no = h.0 in absurd cc
+head_judged run a coding.Wave place t (inl h) = absurd (no_program run.manner.program coding.Wave place h.0)
 head_judged run a coding.Wave place t (inr (inl h)) = let no = h.0 in absurd cc
 head_judged run a coding.Wave place t (inr (inr (inl h))) = h.1 t
 head_judged run a coding.Wave place t (inr (inr (inr (inl h)))) = let no = h.0 in absurd cc
 head_judged run a coding.Wave place t (inr (inr (inr (inr h)))) = absurd h
-head_judged run a coding.Au place t (inl h) = let no = h.0 in absurd cc
+head_judged run a coding.Au place t (inl h) = absurd (no_program run.manner.program coding.Au place h.0)
 head_judged run a coding.Au place t (inr (inl h)) = let no = h.0 in absurd cc
 head_judged run a coding.Au place t (inr (inr (inl h))) = h.1 t
 head_judged run a coding.Au place t (inr (inr (inr (inl h)))) = let no = h.0 in absurd cc
@@ -212,19 +222,19 @@ stopped_before {words} {run} {a} {b} {e} asks s =
 -- ---- when the output is written
 
 -- from a, all was read in b, and what is ready is for this run
-pub record IsReady (words : List (List ℕ)) (run : Run) (p : Prepared) (a b : DeskState) : Type 0 where
+pub record IsReady (words : List (List ℕ)) (run : Run) (m : Compiled) (p : Prepared) (a b : DeskState) : Type 0 where
   pub asks : Asks words (Playing run)
   pub reaches : Reaches (IsReadBy (Playing run)) (asked_before run) a b
   pub before : KeepsFaults a b
-  pub can : CanRun p
+  pub can : CanRun m p
   pub named : IsForRun run p
-  pub of : IsTrue a.tells → IsOfFiles run a b p
+  pub of : IsTrue a.tells → IsOfFiles run a b m p
 
 -- what the desk was asked for by then
 abbrev asked_by : Run → List Request
 asked_by run = to_read Program run.program ∷ (reading Controls run.controls ++ (reading Input run.input ++ to_write Output run.output ∷ []))
 
-module _ {words : List (List ℕ)} {run : Run} {p : Prepared} {a b : DeskState} (w : IsReady words run p a b) where
+module _ {words : List (List ℕ)} {run : Run} {m : Compiled} {p : Prepared} {a b : DeskState} (w : IsReady words run m p a b) where
   told_by : IsTrue a.tells → IsTrue b.tells
   told_by t = told_before w.reaches.quiet.goes_on t
 
@@ -248,17 +258,17 @@ module _ {words : List (List ℕ)} {run : Run} {p : Prepared} {a b : DeskState} 
       ∙ ap (λ n. frames_of n source.head (data_of source.head source.bytes)) stated
 
   -- and their file is what they mean
-  file_by : (t : IsTrue a.tells) (X : List Frame) → file_on p X
+  file_by : (t : IsTrue a.tells) (X : List Frame) → file_on m p X
       ≡ output_file (plays_by t).of.compiled.diagram (control_streams (plays_by t).changes (initial_of (plays_by t).of.compiled.controls)) (plays_by t).format X
   file_by t X =
       let o = w.of t in
       let f = format_in p.format in
       sym (ap (λ (q : Compiled). output_file q.diagram (control_streams o.plays.changes (initial_of q.controls)) o.plays.format X) o.program
-      ∙ ap (λ ks. output_file (compiled_of p.program).diagram (control_streams ks (initial_of (compiled_of p.program).controls)) o.plays.format X) o.changes
-      ∙ ap (λ s. output_file (compiled_of p.program).diagram (control_streams p.script (initial_of (compiled_of p.program).controls)) s X) o.format)
+      ∙ ap (λ ks. output_file m.diagram (control_streams ks (initial_of m.controls)) o.plays.format X) o.changes
+      ∙ ap (λ s. output_file m.diagram (control_streams p.script (initial_of m.controls)) s X) o.format)
 
-  meant_by : (t : IsTrue a.tells) → file_there p (b.left Input) ≡ written_by (meant (plays_by t)) a Output
-  meant_by t = ap (file_on p) (there_by t) ∙ file_by t (present_in (plays_by t).format (plays_by t).source)
+  meant_by : (t : IsTrue a.tells) → file_there m p (b.left Input) ≡ written_by (meant (plays_by t)) a Output
+  meant_by t = ap (file_on m p) (there_by t) ∙ file_by t (present_in (plays_by t).format (plays_by t).source)
 
   -- its head states so many frames
   stated_by : (t : IsTrue a.tells) → ForSome (plays_by t).source.head (λ h. p.sizes.frames ≡ stated_frames h)
@@ -325,26 +335,26 @@ module _ {words : List (List ℕ)} {run : Run} {p : Prepared} {a b : DeskState} 
 
   -- the blocks up to a frame
   abbrev blocks_by : {upto : ℕ} {counted : Ran} {before after : Option Told}
-      → RanTo (compiled_of p.program).diagram (compiled_of p.program).controls p.script p.sizes upto counted before after
+      → RanTo m.diagram m.controls p.script p.sizes upto counted before after
       → HaveRan (Playing run) a upto counted before after
   blocks_by ran = record {
-    played = record { program = compiled_of p.program; changes = p.script; sizes = p.sizes };
+    played = record { program = m; changes = p.script; sizes = p.sizes };
     is = (w.named.sizes, λ t. let o = w.of t in (o.plays, o.program, o.changes, frames_by t));
     ran = ran;
   }
 
   -- all of them
   pub blocks_done : {counted : Ran} {before after : Option Told}
-      → RanWhole (compiled_of p.program).diagram (compiled_of p.program).controls p.script p.sizes counted before after
+      → RanWhole m.diagram m.controls p.script p.sizes counted before after
       → (x : HaveRan (Playing run) a p.format.frames counted before after) × (x.played.sizes.frames ≡ p.format.frames)
   blocks_done {counted} {before} {after} ran =
-      let d = (compiled_of p.program).diagram in (
-        blocks_by (subst (λ n. RanTo d (compiled_of p.program).controls p.script p.sizes n counted before after) (sym w.can.frames) ran),
+      let d = m.diagram in (
+        blocks_by (subst (λ n. RanTo d m.controls p.script p.sizes n counted before after) (sym w.can.frames) ran),
         sym w.can.frames,
       )
 
   pub blocks_told : {counted : Ran} {before after : Option Told}
-      → RanWhole (compiled_of p.program).diagram (compiled_of p.program).controls p.script p.sizes counted before after
+      → RanWhole m.diagram m.controls p.script p.sizes counted before after
       → RanSoFar words (WriteFault Report) a before after
   blocks_told {counted} ran = record {
     job = Playing run;
@@ -362,7 +372,7 @@ module _ {words : List (List ℕ)} {run : Run} {p : Prepared} {a b : DeskState} 
   refusal_by e = refusal_of_stop (coding_heard p.tape.input) e
 
   module _ (c : DeskState) (g : ℕ) where
-    ends_writes : (e : Stop) → EndsAt p g b c e → Writes c
+    ends_writes : (e : Stop) → EndsAt m p g b c e → Writes c
     ends_writes stop.Read k = record { streams = k.streams; kept = λ t none. absurd (none k.cause.3) }
     ends_writes (stop.End place) k = record { streams = k.streams; kept = λ t none. absurd (none (ap is_some k.cause.3)) }
     ends_writes stop.Write k = record {
@@ -399,7 +409,7 @@ module _ {words : List (List ℕ)} {run : Run} {p : Prepared} {a b : DeskState} 
         }
 
     -- the file was read to its end, which is within its whole frames
-    rest_cut : (t : IsTrue a.tells) (i : InputSamples) (place : ℕ) → (files_of p.tape).held ≡ None → IsCutIn p i g place b c
+    rest_cut : (t : IsTrue a.tells) (i : InputSamples) (place : ℕ) → (files_of p.tape).held ≡ None → IsCutIn m p i g place b c
         → LeavesRest run.manner.input run.input a.files (c.left Input)
     rest_cut t i place fresh k =
         let o = w.of t in
@@ -414,20 +424,20 @@ module _ {words : List (List ℕ)} {run : Run} {p : Prepared} {a b : DeskState} 
               (subst (λ n. length (frames_of n source.head (data_of source.head source.bytes)) < p.sizes.frames) (frames_by t) short) k.taken;
         }
 
-    stop_within : (e : Stop) → EndsAt p g b c e → (refusal_by e ≡ ReadFault Input → ⊥) → IsTrue a.tells
+    stop_within : (e : Stop) → EndsAt m p g b c e → (refusal_by e ≡ ReadFault Input → ⊥) → IsTrue a.tells
         → ReadsWithin run.manner.input run.input a.files (c.left Input)
     stop_within stop.Read k other t = absurd (other refl)
     stop_within (stop.End place) k other t = within_all (rest_cut t k.cause.2 place k.cause.4 (k.cause.5 (told_by t)))
     stop_within stop.Write k other t = let y = k.cause.1 (told_by t) in within_by t y.0 y.1 y.2
 
-    stop_rest : (e : Stop) → EndsAt p g b c e → (refusal_by e ≡ ReadFault Input → ⊥) → (refusal_by e ≡ WriteFault Output → ⊥) → IsTrue a.tells
+    stop_rest : (e : Stop) → EndsAt m p g b c e → (refusal_by e ≡ ReadFault Input → ⊥) → (refusal_by e ≡ WriteFault Output → ⊥) → IsTrue a.tells
         → LeavesRest run.manner.input run.input a.files (c.left Input)
     stop_rest stop.Read k other said t = absurd (other refl)
     stop_rest (stop.End place) k other said t = rest_cut t k.cause.2 place k.cause.4 (k.cause.5 (told_by t))
     stop_rest stop.Write k other said t = absurd (said refl)
 
     -- the input is cut short at its end
-    cut_by : (t : IsTrue a.tells) (i : InputSamples) (place : ℕ) → p.tape.input ≡ Some i → (files_of p.tape).held ≡ None → IsCutIn p i g place b c
+    cut_by : (t : IsTrue a.tells) (i : InputSamples) (place : ℕ) → p.tape.input ≡ Some i → (files_of p.tape).held ≡ None → IsCutIn m p i g place b c
         → cut_in (plays_by t).format (plays_by t).source ≡ Some (truncated (coding_heard p.tape.input) place)
     cut_by t i place is fresh k =
         let o = w.of t in
@@ -440,7 +450,7 @@ module _ {words : List (List ℕ)} {run : Run} {p : Prepared} {a b : DeskState} 
         cut_is o.plays.format source short ∙ ap₂ (λ (x : Coding) (y : ℕ). Some (truncated x y)) (sym coding) (sym end)
 
     -- why
-    stop_halts : (e : Stop) → EndsAt p g b c e → Halts (run_rules run a) a c Write (refusal_by e)
+    stop_halts : (e : Stop) → EndsAt m p g b c e → Halts (run_rules run a) a c Write (refusal_by e)
     stop_halts stop.Read k =
         let on = w.reaches.quiet.goes_on in
         fault (reads Input) (inr (refl, sym w.named.named ∙ k.cause.3)) (fault_earlier c Input on k.cause.1.counted)
@@ -462,7 +472,7 @@ module _ {words : List (List ℕ)} {run : Run} {p : Prepared} {a b : DeskState} 
     stop_some (stop.End place) is = no_want (coding_heard p.tape.input) place is
     stop_some stop.Write is = absurd cc
 
-    stop_output : (e : Stop) → EndsAt p g b c e → LeavesOutput words (refusal_by e) a c
+    stop_output : (e : Stop) → EndsAt m p g b c e → LeavesOutput words (refusal_by e) a c
     stop_output e k =
         ⊎_elim
         (λ o. inl (record {
@@ -485,13 +495,13 @@ module _ {words : List (List ℕ)} {run : Run} {p : Prepared} {a b : DeskState} 
     abbrev IsCutFor : (t : IsTrue a.tells) (frames : ℕ) (changes : List Change) → Type 0
     IsCutFor t frames changes = IsCutAt run.settings.block frames changes (length (present_in (plays_by t).format (plays_by t).source)) g
 
-    cut_for : (t : IsTrue a.tells) (i : InputSamples) (place : ℕ) → IsCutIn p i g place b c → IsCutFor t p.sizes.frames p.script
+    cut_for : (t : IsTrue a.tells) (i : InputSamples) (place : ℕ) → IsCutIn m p i g place b c → IsCutFor t p.sizes.frames p.script
     cut_for t i place k =
         let block : p.sizes.block ≡ run.settings.block = ap (λ (s : RunSizes). s.block) w.named.sizes in
         subst (λ (X : List Frame). IsCutAt run.settings.block p.sizes.frames p.script (length X) g) (there_by t)
         (subst (λ n. IsCutAt n p.sizes.frames p.script (length (frames_there p (b.left Input))) g) block k.cut)
 
-    present_by : (t : IsTrue a.tells) (i : InputSamples) (place : ℕ) → HasBegun b c → IsCutIn p i g place b c → HasPlayedPresent run a c
+    present_by : (t : IsTrue a.tells) (i : InputSamples) (place : ℕ) → HasBegun b c → IsCutIn m p i g place b c → HasPlayedPresent run a c
     present_by t i place begun k =
         let q = plays_by t in
         let there = present_in q.format q.source in
@@ -501,15 +511,15 @@ module _ {words : List (List ℕ)} {run : Run} {p : Prepared} {a b : DeskState} 
           frame = g;
           cut = subst (λ n. IsCutFor t n q.changes) (sym (frames_by t))
               (subst (λ ks. IsCutFor t p.sizes.frames ks) (sym (w.of t).changes) (cut_for t i place k));
-          written = k.written ∙ ap (λ (X : List Frame). file_on p (take g X)) (there_by t) ∙ file_by t (take g there);
+          written = k.written ∙ ap (λ (X : List Frame). file_on m p (take g X)) (there_by t) ∙ file_by t (take g there);
         }
 
-    stop_cut : (e : Stop) → EndsAt p g b c e → (j : Coding) (at : ℕ) → refusal_by e ≡ truncated j at → IsTrue a.tells → HasPlayedPresent run a c
+    stop_cut : (e : Stop) → EndsAt m p g b c e → (j : Coding) (at : ℕ) → refusal_by e ≡ truncated j at → IsTrue a.tells → HasPlayedPresent run a c
     stop_cut stop.Read k j at is t = absurd (no_fault j at (reads Input) (sym is))
     stop_cut (stop.End place) k j at is t = present_by t k.cause.2 place k.cause.0 (k.cause.5 (told_by t))
     stop_cut stop.Write k j at is t = absurd (no_fault j at (writes Output) (sym is))
 
-    stop_frames : (e : Stop) → EndsAt p g b c e → (j : Coding) (at : ℕ) → refusal_by e ≡ truncated j at → (t : IsTrue a.tells)
+    stop_frames : (e : Stop) → EndsAt m p g b c e → (j : Coding) (at : ℕ) → refusal_by e ≡ truncated j at → (t : IsTrue a.tells)
         → IsCutFor t p.sizes.frames p.script
     stop_frames stop.Read k j at is t = absurd (no_fault j at (reads Input) (sym is))
     stop_frames (stop.End place) k j at is t = cut_for t k.cause.2 place (k.cause.5 (told_by t))
@@ -520,12 +530,12 @@ module _ {words : List (List ℕ)} {run : Run} {p : Prepared} {a b : DeskState} 
     stop_told (stop.End place) is = absurd (no_fault (coding_heard p.tape.input) place (writes Report) is)
     stop_told stop.Write is = absurd cc
 
-    stop_faults : (e : Stop) → EndsAt p g b c e → CountsFaultOf (refusal_by e) a c
+    stop_faults : (e : Stop) → EndsAt m p g b c e → CountsFaultOf (refusal_by e) a c
     stop_faults stop.Read k r other = k.cause.2 r (λ same. other (inl (ap ReadFault (sym same)))) ∙ w.before r
     stop_faults (stop.End place) k r other = k.cause.1 r ∙ w.before r
     stop_faults stop.Write k r other = k.cause.0.others r (λ same. other (inr (ap WriteFault (sym same)))) ∙ w.before r
 
-    pub stopped_playing : (e : Stop) → EndsAt p g b c e → Stopped words a c (refusal_by e)
+    pub stopped_playing : (e : Stop) → EndsAt m p g b c e → Stopped words a c (refusal_by e)
     stopped_playing e k =
         let x = ends_writes e k in
         record {
@@ -545,8 +555,8 @@ module _ {words : List (List ℕ)} {run : Run} {p : Prepared} {a b : DeskState} 
         }
 
     -- and these blocks ran
-    pub blocks_stopped : {counted : Ran} {before after : Option Told} (e : Stop) → EndsAt p g b c e
-        → RanTo (compiled_of p.program).diagram (compiled_of p.program).controls p.script p.sizes g counted before after
+    pub blocks_stopped : {counted : Ran} {before after : Option Told} (e : Stop) → EndsAt m p g b c e
+        → RanTo m.diagram m.controls p.script p.sizes g counted before after
         → RanSoFar words (refusal_by e) a before after
     blocks_stopped {counted} e k ran = record {
       job = Playing run;
@@ -559,7 +569,7 @@ module _ {words : List (List ℕ)} {run : Run} {p : Prepared} {a b : DeskState} 
 
   -- ---- all of it was written
 
-  module _ (c : DeskState) (k : HasRun p b c) where
+  module _ (c : DeskState) (k : HasRun m p b c) where
     run_writes : Writes c
     run_writes = record {
       streams = k.streams;

@@ -48,16 +48,21 @@ bits_in s (Some h) = unwrap_or s.bits h.bits
 abbrev pub sized : OutputFormat → (size : ℕ) → Result OutputFormat Refusal
 sized format size = if nat_le size data_limit then Ok format else Err (OutputTooLong size)
 
--- a format of so many frames, each as wide as the diagram's outputs
-abbrev pub counted : Coding → Settings → Diagram → Option Incoming → Option ℕ → Result OutputFormat Refusal
-counted out s d head None = Err FramesNeeded
-counted out s d head (Some n) =
-    sized (record { coding = out; rate = rate_in s head; bits = bits_in s head; frames = n }) (data_size (outputs d) (bits_in s head) n)
+-- a format of so many frames, each of so many channels
+abbrev pub counted : Coding → Settings → (outputs : ℕ) → Option Incoming → Option ℕ → Result OutputFormat Refusal
+counted out s outputs head None = Err FramesNeeded
+counted out s outputs head (Some n) =
+    sized (record { coding = out; rate = rate_in s head; bits = bits_in s head; frames = n }) (data_size outputs (bits_in s head) n)
 
--- The format of what a diagram makes on an input, in this coding, or why it does not fit: first the channels, then the frames, then the bytes.
+-- The format of what so many inputs and outputs make of an input, in this coding, or why it does not fit: first the channels, then the
+-- frames, then the bytes.
+abbrev pub format_for : Coding → Settings → (inputs outputs : ℕ) → Option Incoming → Result OutputFormat Refusal
+format_for out s inputs outputs head =
+    if channels_in head == inputs then counted out s outputs head (frames_in s head) else Err (Channels (channels_in head) inputs)
+
+-- the format of what a diagram makes of it
 abbrev pub format_of : Coding → Settings → Diagram → Option Incoming → Result OutputFormat Refusal
-format_of out s d head =
-    if channels_in head == inputs d then counted out s d head (frames_in s head) else Err (Channels (channels_in head) (inputs d))
+format_of out s d head = format_for out s (inputs d) (outputs d) head
 
 -- the frames of an input that are whole and present
 abbrev pub present_in : OutputFormat → Source → List Frame

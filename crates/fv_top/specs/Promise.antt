@@ -10,6 +10,8 @@ use Rattle.fv_control.specs.declared.script.Change.{Change}
 use Rattle.fv_control.specs.Streams.{control_streams}
 use Rattle.fv_top_make.specs.Made.{text_of}
 use Rattle.fv_top_words.specs.declared.cause.Cause.{Cause}
+use Rattle.fv_top_words.specs.declared.manner.ProgramKind.{ProgramKind}
+use Rattle.fv_top_words.specs.declared.manner.ProgramKind.TheVariants.{Alone}
 use Rattle.fv_top_words.specs.Runs.{Run}
 use Rattle.fv_top_words.specs.Commands.{Job, Playing, Checking, Making, job_in}
 use Rattle.fv_top_report.specs.declared.status.Tally.{Tally}
@@ -17,7 +19,8 @@ use Rattle.fv_top_report.specs.declared.refusal.Refusal.{Refusal}
 use Rattle.fv_top_report.specs.declared.refusal.Refusal.TheVariants.{Usage, ReadFault, WriteFault, NoMemory}
 use Rattle.fv_top_report.specs.declared.status.Status.{Status}
 use Rattle.fv_top_report.specs.declared.status.Status.TheVariants.{Done, Refused}
-use Rattle.fv_top_text.specs.Program.{IsProgram, IsRefusedText, is_of_program}
+use Rattle.fv_top_text.specs.Program.{IsProgram}
+use Rattle.fv_top_rack.specs.Kinds.{FileIs, is_of_kind}
 use Rattle.fv_file_tape.specs.Tapes.{HasBegun, KeepsOutput}
 use Rattle.fv_engine_files.specs.Files.{IsCutAt}
 use Rattle.fv_engine_render.specs.Render.{initial_of}
@@ -39,22 +42,26 @@ Asks words job = job_in words ≡ Ok job
 abbrev pub OfWords : Job → (List (List ℕ) → Type 0) → Type 0
 OfWords job P = (words : List (List ℕ)) → Asks words job → P words
 
--- The file of this name is a program's text.
-pub record HasProgram (name : List ℕ) (files : List File) : Type 0 where
+-- The file of this name is a program: a text, or a file of jobs.
+pub record HasProgram (kind : ProgramKind) (name : List ℕ) (files : List File) : Type 0 where
   pub text : List ℕ
   pub file : file_named name files ≡ Some text
   pub compiled : Compiled
-  pub program : IsProgram text compiled
+  pub program : FileIs kind text (Ok compiled)
 
--- The file of this name is there, and its text is refused.
-pub record HasNoProgram (name : List ℕ) (files : List File) (refusal : Refusal) : Type 0 where
+-- The file of this name is there, and is refused.
+pub record HasNoProgram (kind : ProgramKind) (name : List ℕ) (files : List File) (refusal : Refusal) : Type 0 where
   pub text : List ℕ
   pub file : file_named name files ≡ Some text
-  pub refused : IsRefusedText text refusal
+  pub refused : FileIs kind text (Err refusal)
+
+-- that of a run
+abbrev pub HasProgramOf : Run → List File → Type 0
+HasProgramOf run files = HasProgram run.manner.program run.program files
 
 -- The files of a run: a program, a script of its controls, an input, and the format of its output.
 pub record Plays (run : Run) (files : List File) : Type 0 where
-  pub of : HasProgram run.program files
+  pub of : HasProgramOf run files
   pub changes : List Change
   pub under : HasScript run.controls files of.compiled.controls (Ok changes)
   pub source : Source
@@ -77,7 +84,7 @@ IsWhole p = cut_in p.format p.source ≡ None
 -- ---- the steps of a run, in order
 
 pub data Step : Type 0 where
-  -- the program's file is read, and its text judged
+  -- the program's file is read and judged
   ReadProgram : Step
   -- the script is read and judged
   ReadScript : Step
@@ -126,17 +133,32 @@ IsAnswered run old Write (reads role) = IsUnfailing Input old
 IsAnswered run old Write (writes role) = IsUnfailing Output old × HasRoom run old Output
 IsAnswered run old Tell t = IsUnfailing Report old × HasRoom run old Report
 
--- the numbers of the refusals of what a step judges
-abbrev pub is_of_step : Step → ℕ → Bool
-is_of_step ReadProgram n = is_of_program n
-is_of_step ReadScript n = (n == 4) || (nat_le 30 n && nat_le n 33)
-is_of_step ReadHead n = (nat_le 34 n && nat_le n 37) || (n == 44) || (n == 45)
-is_of_step Fit n = (n == 29) || (n == 38) || (n == 39)
-is_of_step Write n = (n == 35) || (n == 45)
-is_of_step Tell n = false
+-- the numbers of the refusals of a script
+abbrev pub is_of_script : ℕ → Bool
+is_of_script n = (n == 4) || (nat_le 30 n && nat_le n 33)
 
-abbrev pub HasRefusal : Step → Refusal → Type 0
-HasRefusal s refusal = IsTrue (is_of_step s (row_of refusal).number)
+-- and of the head of an input
+abbrev pub is_of_head : ℕ → Bool
+is_of_head n = (nat_le 34 n && nat_le n 37) || (n == 44) || (n == 45)
+
+-- the numbers of the refusals of what a step judges, where the program's file is of this kind
+abbrev pub is_of_step : ProgramKind → Step → ℕ → Bool
+is_of_step kind ReadProgram n = is_of_kind kind n
+is_of_step kind ReadScript n = is_of_script n
+is_of_step kind ReadHead n = is_of_head n
+is_of_step kind Fit n = (n == 29) || (n == 38) || (n == 39)
+is_of_step kind Write n = (n == 35) || (n == 45)
+is_of_step kind Tell n = false
+
+abbrev pub HasRefusal : ProgramKind → Step → Refusal → Type 0
+HasRefusal kind s refusal = IsTrue (is_of_step kind s (row_of refusal).number)
+
+-- the refusal is one of a script, or of the head of an input
+abbrev pub IsScriptRefusal : Refusal → Type 0
+IsScriptRefusal refusal = IsTrue (is_of_script (row_of refusal).number)
+
+abbrev pub IsHeadRefusal : Refusal → Type 0
+IsHeadRefusal refusal = IsTrue (is_of_head (row_of refusal).number)
 
 -- The steps that take memory. Once it was begun to write, none is wanted.
 abbrev pub WantsMemory : Step → Type 0
@@ -149,8 +171,8 @@ WantsMemory Tell = ⊥
 
 -- what a step judges passes
 abbrev pub StepPasses : Run → List File → Step → Type 0
-StepPasses run files ReadProgram = HasProgram run.program files
-StepPasses run files ReadScript = (p : HasProgram run.program files) × (changes : List Change) × HasScript run.controls files p.compiled.controls (Ok changes)
+StepPasses run files ReadProgram = HasProgramOf run files
+StepPasses run files ReadScript = (p : HasProgramOf run files) × (changes : List Change) × HasScript run.controls files p.compiled.controls (Ok changes)
 StepPasses run files ReadHead = (source : Source) × HasInput run.manner.input run.input files (Ok source)
 StepPasses run files Fit = Plays run files
 StepPasses run files Write = (p : Plays run files) × IsWhole p
@@ -158,11 +180,11 @@ StepPasses run files Tell = Unit {0}
 
 -- what a step judges is refused for this
 abbrev pub StepRefuses : Run → List File → Step → Refusal → Type 0
-StepRefuses run files ReadProgram refusal = HasNoProgram run.program files refusal
-StepRefuses run files ReadScript refusal = (p : HasProgram run.program files) × HasScript run.controls files p.compiled.controls (Err refusal)
+StepRefuses run files ReadProgram refusal = HasNoProgram run.manner.program run.program files refusal
+StepRefuses run files ReadScript refusal = (p : HasProgramOf run files) × HasScript run.controls files p.compiled.controls (Err refusal)
 StepRefuses run files ReadHead refusal = HasInput run.manner.input run.input files (Err refusal)
 StepRefuses run files Fit refusal =
-    (p : HasProgram run.program files) × (source : Source) × HasInput run.manner.input run.input files (Ok source)
+    (p : HasProgramOf run files) × (source : Source) × HasInput run.manner.input run.input files (Ok source)
     × (format_of (coding_of run.manner.output) run.settings p.compiled.diagram source.head ≡ Err refusal)
 StepRefuses run files Write refusal = (p : Plays run files) × (cut_in p.format p.source ≡ Some refusal)
 StepRefuses run files Tell refusal = ⊥
@@ -173,7 +195,7 @@ run_rules run old = record {
   requests = requests_of run;
   Takes = TakesTurn run;
   Answers = IsAnswered run old;
-  Has = HasRefusal;
+  Has = HasRefusal run.manner.program;
   Wants = WantsMemory;
   Passes = StepPasses run old.files;
   Refuses = StepRefuses run old.files;
@@ -188,7 +210,7 @@ check_steps = ReadProgram ∷ Tell ∷ []
 
 -- there is room for all that is written of the report
 abbrev pub HasCheckRoom : (name : List ℕ) → DeskState → Type 0
-HasCheckRoom name old = (p : HasProgram name old.files) → length (written_by (check_meant p.compiled) old Report) ≤ old.room Report
+HasCheckRoom name old = (p : HasProgram Alone name old.files) → length (written_by (check_meant p.compiled) old Report) ≤ old.room Report
 
 -- what a step of a check asks the desk for
 abbrev pub check_requests : (name : List ℕ) → Step → List Request
@@ -209,12 +231,12 @@ CheckAnswered name old s = Unit {0}
 
 -- what it judges passes
 abbrev pub CheckPasses : (name : List ℕ) → List File → Step → Type 0
-CheckPasses name files ReadProgram = HasProgram name files
+CheckPasses name files ReadProgram = HasProgram Alone name files
 CheckPasses name files s = Unit {0}
 
 -- or is refused for this
 abbrev pub CheckRefuses : (name : List ℕ) → List File → Step → Refusal → Type 0
-CheckRefuses name files ReadProgram refusal = HasNoProgram name files refusal
+CheckRefuses name files ReadProgram refusal = HasNoProgram Alone name files refusal
 CheckRefuses name files s refusal = ⊥
 
 -- the rules of a check's steps
@@ -223,7 +245,7 @@ check_rules name old = record {
   requests = check_requests name;
   Takes = CheckTakes;
   Answers = λ s t. CheckAnswered name old s;
-  Has = HasRefusal;
+  Has = HasRefusal Alone;
   Wants = WantsMemory;
   Passes = CheckPasses name old.files;
   Refuses = CheckRefuses name old.files;
@@ -258,7 +280,7 @@ make_rules voices frames old = record {
   requests = λ s. [];
   Takes = MakeTakes;
   Answers = λ s t. MakeAnswered voices frames old s;
-  Has = HasRefusal;
+  Has = HasRefusal Alone;
   Wants = WantsMemory;
   Passes = λ s. Unit {0};
   Refuses = λ s refusal. ⊥;
@@ -286,7 +308,7 @@ IsKnown job old = Rules.Known (rules_of job old)
 -- it can be done
 abbrev pub CanDo : Job → List File → Type 0
 CanDo (Playing run) files = (p : Plays run files) × IsWhole p
-CanDo (Checking name) files = HasProgram name files
+CanDo (Checking name) files = HasProgram Alone name files
 CanDo (Making voices frames) files = (p : Compiled) × IsMade voices p
 
 -- what it means that it is

@@ -3,17 +3,16 @@
 ghost use Rattle.std.specs.Prelude.{◌≡◌, ◌≤◌, true, IfOk};
 ghost use Rattle.std.specs.Option.{ForSome};
 ghost use Rattle.fv_num.specs.Words.{is_sample_width};
-ghost use Rattle.fv_diagram.specs.Diagram.{inputs, outputs};
+ghost use Rattle.fv_base.specs.declared.limits.TheConstants.{MOST_CHANNELS};
 ghost use Rattle.fv_top_words.specs.Views.{settings_in};
 ghost use Rattle.fv_pcm.specs.Sizes.{data_size, data_limit};
-ghost use Rattle.fv_top_text.specs.Compiled.{compiled_of, CanPlay};
 ghost use Rattle.fv_top.specs.Inputs.{IsIncoming};
-ghost use Rattle.fv_top.specs.Output.{coding_of, format_of, channels_in, rate_in, bits_in, frames_in};
+ghost use Rattle.fv_top.specs.Output.{coding_of, format_for, channels_in, rate_in, bits_in, frames_in};
 ghost use Rattle.fv_top.specs.inner.Formats.{format_answered};
 
 use crate::frames::frame_size;
 use crate::incoming::Incoming;
-use fv_eval::Program;
+use fv_diagram::Arity;
 use fv_pcm::{Coding, data_length};
 use fv_top_report::Refusal;
 use fv_top_words::{OutputKind, Settings};
@@ -39,21 +38,22 @@ const USUAL_RATE: u32 = 44100;
 /// The bits of a sample where neither an input nor a word says so.
 const USUAL_BITS: u32 = 16;
 
-/// The format of the output of this kind that a program makes on an input with this head, or why it does not fit.
+/// The format of the output of this kind that a program with so many inputs and outputs makes on an input with this head, or why it
+/// does not fit.
 pub fn fit(
-    program: &Program,
+    arity: Arity,
     head: Option<Incoming>,
     settings: &Settings,
     output: OutputKind,
 ) -> Result<OutputFormat, Refusal>
-    requires plays { CanPlay program.now }
+    requires some { 1 ≤ arity.outputs }
+    requires few { arity.outputs ≤ MOST_CHANNELS }
     requires head { ForSome head IsIncoming }
-    ensures format { format_answered result ≡ format_of (coding_of output) (settings_in settings.now) (compiled_of program.now).diagram head }
+    ensures format { format_answered result ≡ format_for (coding_of output) (settings_in settings.now) arity.inputs arity.outputs head }
     ensures bits { IfOk result (λ s. is_sample_width s.bits ≡ true) }
-    ensures size { IfOk result (λ s. (s.size ≡ data_size (outputs (compiled_of program.now).diagram) s.bits s.frames) × (s.size ≤ data_limit)) }
-    ensures channels { IfOk result (λ _. channels_in head ≡ inputs (compiled_of program.now).diagram) }
+    ensures size { IfOk result (λ s. (s.size ≡ data_size arity.outputs s.bits s.frames) × (s.size ≤ data_limit)) }
+    ensures channels { IfOk result (λ _. channels_in head ≡ arity.inputs) }
 {
-    let arity = program.diagrams.arity(program.root);
     let channels = channels_in(head);
     if channels != arity.inputs {
         return Err(Refusal::Channels {

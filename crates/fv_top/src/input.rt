@@ -9,7 +9,7 @@ ghost use Rattle.fv_au.specs.Reading.{IsAu, au};
 ghost use Rattle.fv_top_report.specs.declared.refusal.Refusal.TheVariants.{ReadFault};
 ghost use Rattle.fv_top_words.specs.declared.manner.InputKind.TheVariants as kinds;
 ghost use Rattle.fv_top.specs.Sources.{file_source, wave_source, au_source};
-ghost use Rattle.fv_top.specs.Promise.{HasRefusal, ReadHead};
+ghost use Rattle.fv_top.specs.Promise.{IsHeadRefusal};
 ghost use Rattle.fv_top.specs.Loading.{ReadsFile, StopsLoading, StopsHead, HasInput, HasHead, GivesHead, IsPlaced};
 ghost use Rattle.fv_top.specs.inner.Loaded.{held_in, HoldsAll};
 
@@ -42,7 +42,7 @@ pub fn load_head<D: Desk>(
     ensures named { IfOk result (λ l. is_some l.head ≡ is_some (option_copied name.entry)) }
     ensures ranges { IfOk result (λ l. ForSome l.head IsPlaced) }
     ensures held { IfOk result HoldsAll }
-    ensures err { IfErr result (StopsLoading Input (option_copied name.entry) (HasRefusal ReadHead)
+    ensures err { IfErr result (StopsLoading Input (option_copied name.entry) IsHeadRefusal
         (λ e. HasInput kind (option_copied name.entry) (D.state desk.old).files (Err e)) (D.state desk.old) (D.state desk.new)) }
     ensures steady { (IsErrOf result (ReadFault Input) → ⊥) → KeepsFaults (D.state desk.old) (D.state desk.new) }
 {
@@ -72,7 +72,7 @@ fn load_file<D: Desk>(alloc: Global, desk: &mut D, kind: InputKind) -> Result<Lo
     ensures some { IfOk result (λ l. IsSome l.head) }
     ensures ranges { IfOk result (λ l. ForSome l.head IsPlaced) }
     ensures held { IfOk result HoldsAll }
-    ensures err { IfErr result (StopsHead (HasRefusal ReadHead) (file_source kind ((D.state desk.old).left Input)) (D.state desk.old) (D.state desk.new)) }
+    ensures err { IfErr result (StopsHead IsHeadRefusal (file_source kind ((D.state desk.old).left Input)) (D.state desk.old) (D.state desk.new)) }
     ensures steady { (IsErrOf result (ReadFault Input) → ⊥) → KeepsFaults (D.state desk.old) (D.state desk.new) }
 {
     match kind {
@@ -90,7 +90,7 @@ fn load_either<D: Desk>(alloc: Global, desk: &mut D) -> Result<Loaded, Refusal>
     ensures some { IfOk result (λ l. IsSome l.head) }
     ensures ranges { IfOk result (λ l. ForSome l.head IsPlaced) }
     ensures held { IfOk result HoldsAll }
-    ensures err { IfErr result (StopsHead (HasRefusal ReadHead) (file_source kinds.Either ((D.state desk.old).left Input))
+    ensures err { IfErr result (StopsHead IsHeadRefusal (file_source kinds.Either ((D.state desk.old).left Input))
         (D.state desk.old) (D.state desk.new)) }
     ensures steady { (IsErrOf result (ReadFault Input) → ⊥) → KeepsFaults (D.state desk.old) (D.state desk.new) }
 {
@@ -119,7 +119,7 @@ fn load_wave<D: Desk>(desk: &mut D, begun: &[u8]) -> Result<Loaded, Refusal>
     ensures ranges { IfOk result (λ l. ForSome l.head IsPlaced) }
     ensures held { IfOk result HoldsAll }
     ensures err { IfErr result (let bytes = begun.now ++ (D.state desk.old).left Input in
-        StopsHead (HasRefusal ReadHead) (wave_source bytes (wave bytes)) (D.state desk.old) (D.state desk.new)) }
+        StopsHead IsHeadRefusal (wave_source bytes (wave bytes)) (D.state desk.old) (D.state desk.new)) }
     ensures steady { (IsErrOf result (ReadFault Input) → ⊥) → KeepsFaults (D.state desk.old) (D.state desk.new) }
 {
     let head = read_head_behind(desk, begun)?;
@@ -142,7 +142,7 @@ fn load_au<D: Desk>(alloc: Global, desk: &mut D, begun: &[u8]) -> Result<Loaded,
     ensures ranges { IfOk result (λ l. ForSome l.head IsPlaced) }
     ensures held { IfOk result HoldsAll }
     ensures err { IfErr result (let bytes = begun.now ++ (D.state desk.old).left Input in
-        StopsHead (HasRefusal ReadHead) (au_source bytes (au bytes)) (D.state desk.old) (D.state desk.new)) }
+        StopsHead IsHeadRefusal (au_source bytes (au bytes)) (D.state desk.old) (D.state desk.new)) }
     ensures steady { (IsErrOf result (ReadFault Input) → ⊥) → KeepsFaults (D.state desk.old) (D.state desk.new) }
 {
     let head = read_au_head_behind(desk, begun)?;

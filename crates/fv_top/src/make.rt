@@ -2,27 +2,24 @@
 
 ghost use Rattle.std.specs.Prelude.{◌≡◌, ◌⊎◌, ◌≤◌, [], Ok, Err, IfOk, IfErr, OnOk, OnErr};
 ghost use Rattle.fv_base.specs.declared.role.Role.TheVariants.{Report};
-ghost use Rattle.fv_interval.specs.Delays.{AreAccepted};
-ghost use Rattle.fv_diagram.specs.Diagram.{inputs};
 ghost use Rattle.fv_engine_render.specs.Render.{RanWhole};
 ghost use Rattle.fv_top_words.specs.Commands.{most_voices};
 ghost use Rattle.fv_top_words.specs.Runs.{most_workers};
 ghost use Rattle.fv_top_report.specs.declared.refusal.Refusal.TheVariants.{WriteFault, NoMemory};
 ghost use Rattle.fv_top.specs.Played.{make_sizes, MakeRan, MakeSoFar};
 ghost use Rattle.fv_top.specs.Meant.{made_sum};
-ghost use Rattle.fv_top_text.specs.Compiled.{compiled_of, CanPlay};
-ghost use Rattle.fv_top_text.specs.Program.{delays_in};
+ghost use Rattle.fv_top_text.specs.Compiled.{Compiled};
+ghost use Rattle.fv_top_playable.specs.Playables.{IsPlayable};
 ghost use Rattle.fv_top.specs.Promise.{IsMade};
 ghost use Rattle.fv_top.specs.inner.Running.{Makes, StopsMake, HasSum};
 
-use fv_engine_render::{Ran, RunSizes, Source, make_ready, render_tape};
-use fv_eval::Program;
-use fv_interval::Delays;
+use fv_engine_render::{Played, Ran, RunSizes, make_ready_graph, render_tape};
 use fv_outside::{Desk, Gate, Role};
 use fv_top_make::{Noise, NoiseTape, sums_add_up, text_of};
+use fv_top_playable::{Playable, read_playable};
 use fv_top_report::{Refusal, report_made};
-use fv_top_text::read_program;
 use fv_top_voices::voices_are_a_program;
+use fv_top_words::ProgramKind;
 use std::alloc::{AllocError, Global};
 use std::sync::Wait;
 use std::thread::Threads;
@@ -85,33 +82,30 @@ fn made_sum<R: Threads + Wait + Sync, G: Gate + Sync>(
     ensures none { IfErr result (λ e. e ≡ NoMemory) }
     ensures err { OnErr result (gate.new ≡ gate.old) }
 {
-    let (program, delays) = made_program(alloc, voices)?;
-    let made = sum_on_noise(rt, alloc, &program, &delays, voices, frames, workers, gate)?;
+    let playable = made_program(alloc, voices)?;
+    let made = sum_on_noise(rt, alloc, &playable, voices, frames, workers, gate)?;
     Ok(made)
 }
 
-// The program of so many voices, with its delays.
-fn made_program(alloc: Global, voices: u32) -> Result<(Program, Delays), Refusal>
+// What is played of the program of so many voices.
+fn made_program(alloc: Global, voices: u32) -> Result<Playable, Refusal>
     requires some { 1 ≤ voices }
     requires few { voices ≤ most_voices }
-    ensures made { IfOk result (λ p. IsMade voices (compiled_of p.0)) }
-    ensures plays { IfOk result (λ p. CanPlay p.0) }
-    ensures delays { IfOk result (λ p. AreAccepted (delays_in (compiled_of p.0)) p.1) }
-    ensures one { IfOk result (λ p. inputs (compiled_of p.0).diagram ≡ 1) }
+    ensures made { IfOk result (λ p. (c : Compiled) × IsMade voices c × IsPlayable c p) }
+    ensures one { IfOk result (λ p. p.inputs ≡ 1) }
     ensures none { IfErr result (λ e. e ≡ NoMemory) }
 {
     voices_are_a_program();
     let text = text_of(alloc, voices)?;
-    let (program, delays) = read_program(alloc, &text)?;
-    Ok((program, delays))
+    let playable = read_playable(alloc, ProgramKind::Alone, &text)?;
+    Ok(playable)
 }
 
 // The sum of what it gives on the noise of so many voices.
 fn sum_on_noise<R: Threads + Wait + Sync, G: Gate + Sync>(
     rt: &R,
     alloc: Global,
-    program: &Program,
-    delays: &Delays,
+    playable: &Playable,
     voices: u32,
     frames: u32,
     workers: u32,
@@ -119,32 +113,37 @@ fn sum_on_noise<R: Threads + Wait + Sync, G: Gate + Sync>(
 ) -> Result<Made, AllocError>
     requires voices { voices ≤ most_voices }
     requires workers { (1 ≤ workers) × (workers ≤ most_workers) }
-    requires plays { CanPlay program.now }
-    requires accepted { AreAccepted (delays_in (compiled_of program.now)) delays.now }
-    requires one { inputs (compiled_of program.now).diagram ≡ 1 }
-    ensures sum { IfOk result (λ m. m.sum ≡ made_sum (compiled_of program.now) voices frames) }
-    ensures ran { IfOk result (λ m. RanWhole (compiled_of program.now).diagram (compiled_of program.now).controls [] (make_sizes workers frames)
+    // It is of some program, and what follows is so for each of which it is.
+    requires playable { (c : Compiled) × IsPlayable c playable.now }
+    requires one { playable.now.inputs ≡ 1 }
+    ensures sum { IfOk result (λ m. (c : Compiled) → IsPlayable c playable.now → m.sum ≡ made_sum c voices frames) }
+    ensures ran { IfOk result (λ m. (c : Compiled) → IsPlayable c playable.now → RanWhole c.diagram c.controls [] (make_sizes workers frames)
         m.ran (G.told gate.old) (G.told gate.new)) }
     ensures err { OnErr result (gate.new ≡ gate.old) }
 {
     sums_add_up();
-    let source = Source {
-        diagrams: &program.diagrams,
-        root: program.root,
-        delays,
-        controls: program.controls.as_slice(),
-    };
     let sizes = RunSizes {
         frames,
         block: BLOCK,
         vector: VECTOR,
         workers,
     };
-    let ready = make_ready(alloc, &source, &[], &sizes)?;
+    let ready = make_ready_graph(
+        alloc,
+        &playable.graph,
+        playable.inputs,
+        &playable.controls,
+        &sizes,
+    )?;
+    let played = Played {
+        inputs: playable.inputs,
+        outputs: playable.outputs,
+        controls: &playable.controls,
+    };
     let mut tape = NoiseTape {
         left: frames,
         most: BLOCK,
-        outputs: program.diagrams.arity(program.root).outputs,
+        outputs: playable.outputs,
     };
     let mut noise = Noise {
         state: voices as i32,
@@ -153,7 +152,7 @@ fn sum_on_noise<R: Threads + Wait + Sync, G: Gate + Sync>(
     match render_tape(
         rt,
         alloc,
-        &source,
+        &played,
         &[],
         &sizes,
         ready,

@@ -5,13 +5,13 @@ ghost use Rattle.fv_base.specs.declared.role.Role.TheVariants.{Output};
 ghost use Rattle.fv_engine_render.specs.Render.{RanWhole};
 ghost use Rattle.fv_outside.specs.Desk.{HasFault, KeepsFaults, IsUnfailing, Appends};
 ghost use Rattle.fv_top_report.specs.Parts.{AppendsPart};
-ghost use Rattle.fv_top_text.specs.Compiled.{compiled_of};
+ghost use Rattle.fv_top_text.specs.Compiled.{Compiled};
 ghost use Rattle.fv_top.specs.Output.{pad_in};
 ghost use Rattle.fv_top.specs.inner.Prepared.{CanRun, HasRun, StopsRun, coding_heard, refusal_of_stop};
 
 use crate::prepare::Prepared;
 use fv_engine_files::play_files;
-use fv_engine_render::{Ran, Source};
+use fv_engine_render::{Played, Ran};
 use fv_file_tape::{InputSamples, Stop};
 use fv_outside::{Desk, Gate, Role};
 use fv_pcm::Coding;
@@ -29,33 +29,35 @@ pub fn play<R: Threads + Wait + Sync, D: Desk, G: Gate + Sync>(
     prepared: Prepared<'_>,
     gate: &mut G,
 ) -> Result<Ran, Refusal>
-    requires { CanRun prepared }
-    ensures played { OnOk result (HasRun prepared.entry (D.state desk.old) (D.state desk.new)) }
-    ensures ran { IfOk result (λ r. RanWhole (compiled_of prepared.entry.program).diagram (compiled_of prepared.entry.program).controls
-        prepared.entry.script prepared.entry.sizes r (G.told gate.old) (G.told gate.new)) }
-    ensures stops { IfErr result (StopsRun prepared.entry (D.state desk.old) (D.state desk.new) (G.told gate.old) (G.told gate.new)) }
+    // Some program is ready, and what follows is so for each that is.
+    requires { (c : Compiled) × CanRun c prepared }
+    ensures played { OnOk result ((c : Compiled) → CanRun c prepared.entry → HasRun c prepared.entry (D.state desk.old) (D.state desk.new)) }
+    ensures ran { IfOk result (λ r. (c : Compiled) → CanRun c prepared.entry → RanWhole c.diagram c.controls prepared.entry.script
+        prepared.entry.sizes r (G.told gate.old) (G.told gate.new)) }
+    ensures stops { IfErr result (λ e. (c : Compiled) → CanRun c prepared.entry → StopsRun c prepared.entry (D.state desk.old) (D.state desk.new)
+        (G.told gate.old) (G.told gate.new) e) }
 {
     let Prepared {
-        program,
-        delays,
+        inputs,
+        outputs,
+        controls,
         script,
         format,
         sizes,
         ready,
         mut tape,
     } = prepared;
-    let source = Source {
-        diagrams: &program.diagrams,
-        root: program.root,
-        delays: &delays,
-        controls: program.controls.as_slice(),
+    let played = Played {
+        inputs,
+        outputs,
+        controls: &controls,
     };
     let coding = coding_heard(tape.input);
     let ran = match play_files(
         rt,
         alloc,
         desk,
-        &source,
+        &played,
         script.changes(),
         &sizes,
         ready,

@@ -6,14 +6,12 @@ ghost use Rattle.std.specs.Option.{ForSome};
 ghost use Rattle.fv_num.specs.Words.{is_sample_width};
 ghost use Rattle.fv_outside.specs.Desk.{KeepsFaults};
 ghost use Rattle.fv_pcm.specs.Sizes.{data_size, data_limit};
-ghost use Rattle.fv_diagram.specs.Diagram.{inputs, outputs};
 ghost use Rattle.fv_control.specs.Laws.{NeverFall, IsOfControls};
-ghost use Rattle.fv_interval.specs.Delays.{AreAccepted};
 ghost use Rattle.fv_top_words.specs.Commands.{Playing};
 ghost use Rattle.fv_top_words.specs.Runs.{AreSound};
 ghost use Rattle.fv_top_words.specs.Views.{run_in as run_view, settings_in};
-ghost use Rattle.fv_top_text.specs.Program.{delays_in};
-ghost use Rattle.fv_top_text.specs.Compiled.{compiled_of, CanPlay};
+ghost use Rattle.fv_top_text.specs.Compiled.{Compiled};
+ghost use Rattle.fv_top_playable.specs.Playables.{IsPlayable};
 ghost use Rattle.fv_top.specs.Inputs.{stated_frames};
 ghost use Rattle.fv_top.specs.Output.{channels_in};
 ghost use Rattle.fv_top.specs.Loading.{IsPlaced};
@@ -25,24 +23,25 @@ ghost use Rattle.fv_top.specs.inner.Prepared.{CanRun, IsForRun, IsMadeOf, IsOfFi
 
 use crate::format::{OutputFormat, fit};
 use crate::input::{Loaded, load_head};
-use crate::program::load_program;
+use crate::program::load_playable;
 use crate::script::load_script;
 use crate::tape::make_tape;
 use fv_control::Script;
-use fv_engine_render::{Ready, RunSizes, Source, make_ready};
-use fv_eval::Program;
+use fv_diagram::{Arity, ControlInfo};
+use fv_engine_render::{Ready, RunSizes, make_ready_graph};
 use fv_file_tape::FileTape;
-use fv_interval::Delays;
 use fv_outside::Desk;
+use fv_top_playable::Playable;
 use fv_top_report::Refusal;
 use fv_top_words::{Run, Settings};
 use std::alloc::{AllocError, Global};
 
-/// What is ready to be played: a program, its script, all memory, and the tape of its files.
+/// What is ready to be played: a program's channels and controls, its script, all memory, and the tape of its files.
 #[derive(Drop)]
 pub struct Prepared<'a> {
-    pub program: Program,
-    pub delays: Delays,
+    pub inputs: u32,
+    pub outputs: u32,
+    pub controls: Vec<ControlInfo>,
     pub script: Script,
     pub format: OutputFormat,
     pub sizes: RunSizes,
@@ -59,21 +58,24 @@ pub fn prepare<'a, D: Desk>(
     requires { AreSound (run_view run.now).settings }
     ensures reaches { OnOk result (Reaches (IsReadBy (Playing (run_view run.now))) (asked_before (run_view run.now)) (D.state desk.old) (D.state desk.new)) }
     ensures steady { OnOk result (KeepsFaults (D.state desk.old) (D.state desk.new)) }
-    ensures can { IfOk result CanRun }
+    ensures ready { IfOk result (λ p. (c : Compiled) × CanRun c p
+        × (IsTrue (D.state desk.old).tells → IsOfFiles (run_view run.now) (D.state desk.old) (D.state desk.new) c p)) }
     ensures named { IfOk result (IsForRun (run_view run.now)) }
-    ensures of { IfOk result (λ p. IsTrue (D.state desk.old).tells → IsOfFiles (run_view run.now) (D.state desk.old) (D.state desk.new) p) }
     ensures stops { IfErr result (StopsBefore (run_view run.now) (D.state desk.old) (D.state desk.new)) }
 {
-    let (program, delays) = load_program(alloc, desk, run.program)?;
-    let script = load_script(alloc, desk, run.controls, program.controls.as_slice())?;
+    let playable = load_playable(alloc, desk, run.manner.program, run.program)?;
+    let script = load_script(alloc, desk, run.controls, &playable.controls)?;
     let loaded = load_head(alloc, desk, run.manner.input, run.input)?;
-    let format = fit(&program, loaded.head, &run.settings, run.manner.output)?;
+    let arity = Arity {
+        inputs: playable.inputs,
+        outputs: playable.outputs,
+    };
+    let format = fit(arity, loaded.head, &run.settings, run.manner.output)?;
     let prepared = take_memory(
         alloc,
         run.output,
         &run.settings,
-        program,
-        delays,
+        playable,
         script,
         loaded,
         format,
@@ -86,25 +88,24 @@ fn take_memory<'a>(
     alloc: Global,
     output: &'a str,
     settings: &Settings,
-    program: Program,
-    delays: Delays,
+    playable: Playable,
     script: Script,
     loaded: Loaded,
     format: OutputFormat,
 ) -> Result<Prepared<'a>, AllocError>
     requires sizes { AreSound (settings_in settings.now) }
-    requires plays { CanPlay program }
-    requires accepted { AreAccepted (delays_in (compiled_of program)) delays }
+    requires playable { (c : Compiled) × IsPlayable c playable }
     requires order { NeverFall 0 script }
-    requires lawful { AllByRecursion (IsOfControls (compiled_of program).controls) script }
+    requires lawful { AllByRecursion (IsOfControls playable.controls.items) script }
     requires head { ForSome loaded.head IsPlaced }
     requires held { HoldsAll loaded }
-    requires channels { channels_in loaded.head ≡ inputs (compiled_of program).diagram }
+    requires channels { channels_in loaded.head ≡ playable.inputs }
     requires frames { ForSome loaded.head (λ h. format.frames ≡ stated_frames h) }
     requires bits { is_sample_width format.bits ≡ true }
-    requires size { (format.size ≡ data_size (outputs (compiled_of program).diagram) format.bits format.frames) × (format.size ≤ data_limit) }
-    ensures can { IfOk result CanRun }
-    ensures made { IfOk result (IsMadeOf output.now (settings_in settings.now) (compiled_of program) script loaded format) }
+    requires size { (format.size ≡ data_size playable.outputs format.bits format.frames) × (format.size ≤ data_limit) }
+    // What is ready is so for each program of which the graph is one.
+    ensures can { IfOk result (λ p. (c : Compiled) → IsPlayable c playable → CanRun c p) }
+    ensures made { IfOk result (IsMadeOf output.now (settings_in settings.now) script loaded format) }
 {
     let sizes = RunSizes {
         frames: format.frames,
@@ -112,18 +113,18 @@ fn take_memory<'a>(
         vector: settings.vector,
         workers: settings.workers,
     };
-    let source = Source {
-        diagrams: &program.diagrams,
-        root: program.root,
-        delays: &delays,
-        controls: program.controls.as_slice(),
-    };
-    let ready = make_ready(alloc, &source, script.changes(), &sizes)?;
-    let channels = program.diagrams.arity(program.root).outputs;
-    let tape = make_tape(alloc, output, channels, format, loaded, sizes.block)?;
+    let Playable {
+        graph,
+        inputs,
+        outputs,
+        controls,
+    } = playable;
+    let ready = make_ready_graph(alloc, &graph, inputs, &controls, &sizes)?;
+    let tape = make_tape(alloc, output, outputs, format, loaded, sizes.block)?;
     Ok(Prepared {
-        program,
-        delays,
+        inputs,
+        outputs,
+        controls,
         script,
         format,
         sizes,

@@ -1,28 +1,35 @@
 // The program's file.
 
-ghost use Rattle.std.specs.Prelude.{ℕ, List, IfOk, IfErr, IsErrOf, Some};
+ghost use Rattle.std.specs.Prelude.{◌<◌, ℕ, List, IfOk, IfErr, IsErrOf, Some};
 ghost use Rattle.fv_base.specs.declared.role.Role.TheVariants.{Program as program_role};
 ghost use Rattle.fv_outside.specs.Desk.{KeepsFaults};
 ghost use Rattle.fv_top_report.specs.declared.refusal.Refusal.TheVariants.{ReadFault};
 ghost use Rattle.fv_top_text.specs.Program.{IsProgram, IsOfText, delays_in};
 ghost use Rattle.fv_interval.specs.Delays.{AreAccepted};
+ghost use Rattle.fv_diagram.specs.Arena.{count_of};
+ghost use Rattle.fv_top_words.specs.declared.manner.ProgramKind.TheVariants.{Alone};
+ghost use Rattle.fv_top_rack.specs.Kinds.{IsOfKind};
 ghost use Rattle.fv_top.specs.Promise.{HasNoProgram};
-ghost use Rattle.fv_top_text.specs.Compiled.{compiled_of, CanPlay};
+ghost use Rattle.fv_top_text.specs.Compiled.{compiled_of};
 ghost use Rattle.fv_top.specs.Loading.{ReadsFile, StopsLoading, IsFile};
+ghost use Rattle.fv_top.specs.inner.Loaded.{IsProgramOf};
 
 use crate::files::{read_front, read_refusal};
 use fv_base::limits::LONGEST_TEXT;
 use fv_eval::Program;
 use fv_interval::Delays;
 use fv_outside::{Desk, Role};
+use fv_top_playable::{Playable, read_playable};
+use fv_top_rack::front_is_enough;
 use fv_top_report::Refusal;
-use fv_top_text::{front_is_enough, read_program};
+use fv_top_text::read_program;
+use fv_top_words::ProgramKind;
 use std::alloc::Global;
 
-/// A program's text has at most 1,048,576 bytes, and one byte more shows that it is too long.
-const TEXT_BYTES: usize = LONGEST_TEXT + 1;
+/// A program's file has at most 1,048,576 bytes, and one byte more shows that it is too long.
+const PROGRAM_BYTES: usize = LONGEST_TEXT + 1;
 
-/// Loads the program of this name, with its delays.
+/// Loads the program whose text the file of this name is, with its delays.
 #[tactic(auto, using(fv_outside::proofs::States::steps, crate::proofs::Loads::reading))]
 pub fn load_program<D: Desk>(
     alloc: Global,
@@ -31,17 +38,40 @@ pub fn load_program<D: Desk>(
 ) -> Result<(Program, Delays), Refusal>
     ensures reads { ReadsFile program_role (Some name.now) (D.state desk.old) (D.state desk.new) }
     ensures spelled { IfOk result (λ p. (text : List ℕ) × IsFile name.now text (D.state desk.old) × IsProgram text (compiled_of p.0)) }
-    ensures plays { IfOk result (λ p. CanPlay p.0) }
+    ensures root { IfOk result (λ p. p.0.root < count_of p.0.diagrams) }
     ensures delays { IfOk result (λ p. AreAccepted (delays_in (compiled_of p.0)) p.1) }
-    ensures err { IfErr result (StopsLoading program_role (Some name.now) IsOfText (HasNoProgram name.now (D.state desk.old).files)
+    ensures err { IfErr result (StopsLoading program_role (Some name.now) IsOfText (HasNoProgram Alone name.now (D.state desk.old).files)
         (D.state desk.old) (D.state desk.new)) }
     ensures steady { (IsErrOf result (ReadFault program_role) → ⊥) → KeepsFaults (D.state desk.old) (D.state desk.new) }
 {
     front_is_enough();
-    let text = match read_front(alloc, desk, Role::Program, name, TEXT_BYTES) {
+    let text = match read_front(alloc, desk, Role::Program, name, PROGRAM_BYTES) {
         Ok(text) => text,
         Err(error) => return Err(read_refusal(Role::Program, error)),
     };
     let program = read_program(alloc, &text)?;
     Ok(program)
+}
+
+/// Loads what is played of the program that the file of this name and kind is.
+#[tactic(auto, using(fv_outside::proofs::States::steps, crate::proofs::Loads::reading))]
+pub fn load_playable<D: Desk>(
+    alloc: Global,
+    desk: &mut D,
+    kind: ProgramKind,
+    name: &str,
+) -> Result<Playable, Refusal>
+    ensures reads { ReadsFile program_role (Some name.now) (D.state desk.old) (D.state desk.new) }
+    ensures found { IfOk result (IsProgramOf kind name.now (D.state desk.old)) }
+    ensures err { IfErr result (StopsLoading program_role (Some name.now) (IsOfKind kind) (HasNoProgram kind name.now (D.state desk.old).files)
+        (D.state desk.old) (D.state desk.new)) }
+    ensures steady { (IsErrOf result (ReadFault program_role) → ⊥) → KeepsFaults (D.state desk.old) (D.state desk.new) }
+{
+    front_is_enough();
+    let file = match read_front(alloc, desk, Role::Program, name, PROGRAM_BYTES) {
+        Ok(file) => file,
+        Err(error) => return Err(read_refusal(Role::Program, error)),
+    };
+    let playable = read_playable(alloc, kind, &file)?;
+    Ok(playable)
 }

@@ -6,7 +6,7 @@ ghost use Rattle.fv_base.specs.declared.role.Role.TheVariants.{Controls};
 ghost use Rattle.fv_outside.specs.Desk.{KeepsFaults};
 ghost use Rattle.fv_control.specs.Laws.{NeverFall, IsOfControls};
 ghost use Rattle.fv_top_report.specs.declared.refusal.Refusal.TheVariants.{ReadFault};
-ghost use Rattle.fv_top.specs.Promise.{HasRefusal, ReadScript};
+ghost use Rattle.fv_top.specs.Promise.{IsScriptRefusal};
 ghost use Rattle.fv_top.specs.Loading.{ReadsFile, StopsLoading, HasScript};
 
 use crate::files::{read_front, read_refusal};
@@ -34,7 +34,7 @@ pub fn load_script<D: Desk>(
     // Its frames never fall, and it gives controls that are there values within their ranges.
     ensures order { IfOk result (NeverFall 0) }
     ensures lawful { IfOk result (AllByRecursion (IsOfControls controls.now)) }
-    ensures err { IfErr result (StopsLoading Controls (option_copied name.entry) (HasRefusal ReadScript)
+    ensures err { IfErr result (StopsLoading Controls (option_copied name.entry) IsScriptRefusal
         (λ e. HasScript (option_copied name.entry) (D.state desk.old).files controls.now (Err e)) (D.state desk.old) (D.state desk.new)) }
     ensures steady { (IsErrOf result (ReadFault Controls) → ⊥) → KeepsFaults (D.state desk.old) (D.state desk.new) }
 {

@@ -1,4 +1,6 @@
 -- The refusals of the layers, as those of a run (this project's profile).
+use Rattle.fv_jobs.specs.declared.refusal.JobsRefusal.{JobsRefusal}
+use Rattle.fv_jobs.specs.declared.refusal.JobsRefusal.TheVariants as jobs
 use Rattle.fv_lex.specs.declared.refusal.LexRefusal.{LexRefusal}
 use Rattle.fv_lex.specs.declared.refusal.LexRefusal.TheVariants as bytes
 use Rattle.fv_parse.specs.declared.refusal.ParseRefusal.{ParseRefusal}
@@ -15,6 +17,12 @@ use Rattle.fv_au.specs.declared.refusal.AuRefusal.{AuRefusal}
 use Rattle.fv_au.specs.declared.refusal.AuRefusal.TheVariants as au
 use Rattle.fv_top_report.specs.declared.refusal.Refusal.{Refusal}
 use Rattle.fv_top_report.specs.declared.refusal.Refusal.TheVariants as no
+
+-- the refusals of a file of jobs, as those of a run
+abbrev pub of_jobs : JobsRefusal → Refusal
+of_jobs (jobs.TextTooLong role) = no.TextTooLong role
+of_jobs (jobs.RackSize n) = no.RackSize n
+of_jobs jobs.NoMemory = no.NoMemory
 
 -- refusals of the text's bytes, and of its tokens, as those of a run
 abbrev pub of_bytes : LexRefusal → Refusal

@@ -141,6 +141,8 @@ row_of (no.TableBudget sum) = row 42 program_status (codes "TableBudget") (decim
 row_of (no.Nesting line column) = row 43 program_status (codes "Nesting") (decimal line ∷ decimal column ∷ [])
 row_of (no.AuFormat place) = row 44 file_status (codes "AuFormat") (decimal place ∷ [])
 row_of (no.AuTruncated place) = row 45 file_status (codes "AuTruncated") (decimal place ∷ [])
+row_of (no.Job job number) = row 46 program_status (codes "Job") (decimal job ∷ decimal number ∷ [])
+row_of (no.RackSize jobs) = row 47 program_status (codes "RackSize") (decimal jobs ∷ [])
 
 -- the exit status of a refusal
 abbrev pub status_of : Refusal → ℕ

@@ -2,7 +2,7 @@
 
 ghost use Rattle.std.specs.Prelude.{◌≡◌};
 ghost use Rattle.fv_top_report.specs.Lines.{row_of, status_of};
-ghost use Rattle.fv_top_report.specs.Layers.{of_bytes, of_tokens, of_value, of_delay};
+ghost use Rattle.fv_top_report.specs.Layers.{of_jobs, of_bytes, of_tokens, of_value, of_delay};
 ghost use Rattle.fv_top_report.specs.Layers.{of_script, of_wave, of_au};
 ghost use Rattle.fv_top_report.specs.declared.refusal.Refusal.TheVariants.{Usage, NoMemory};
 
@@ -11,6 +11,7 @@ use fv_au::AuRefusal;
 use fv_control::ScriptRefusal;
 use fv_diagram::Label;
 use fv_interval::DelayRefusal;
+use fv_jobs::JobsRefusal;
 use fv_lex::LexRefusal;
 use fv_outside::{Role, Word};
 use fv_parse::ParseRefusal;
@@ -208,6 +209,15 @@ pub enum Refusal {
     AuTruncated {
         place: u64,
     },
+    /// The text of this job is the first of its file that is refused, for what has this number.
+    Job {
+        job: u64,
+        number: u32,
+    },
+    /// The file has so many jobs, more than 16.
+    RackSize {
+        jobs: u64,
+    },
 }
 
 impl Refusal {
@@ -239,6 +249,18 @@ impl From<AllocError> for Refusal {
 
     fn from(_error: AllocError) -> Refusal {
         Refusal::NoMemory
+    }
+}
+
+impl From<JobsRefusal> for Refusal {
+    ghost from_gives = { λ e refusal. refusal ≡ of_jobs e };
+
+    fn from(e: JobsRefusal) -> Refusal {
+        match e {
+            JobsRefusal::TextTooLong { role } => Refusal::TextTooLong { role },
+            JobsRefusal::RackSize { jobs } => Refusal::RackSize { jobs },
+            JobsRefusal::NoMemory => Refusal::NoMemory,
+        }
     }
 }
 

@@ -187,6 +187,8 @@ impl Refusal {
             Refusal::Nesting { line, column } => row(43, PROGRAM, "Nesting", place(*line, *column)),
             Refusal::AuFormat { place } => row(44, FILE, "AuFormat", natural(*place)),
             Refusal::AuTruncated { place } => row(45, FILE, "AuTruncated", natural(*place)),
+            Refusal::Job { job, number } => row(46, PROGRAM, "Job", pair(*job, u64::from(*number))),
+            Refusal::RackSize { jobs } => row(47, PROGRAM, "RackSize", natural(*jobs)),
         }
     }
 }

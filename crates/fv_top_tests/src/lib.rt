@@ -20,6 +20,8 @@ mod made;
 #[cfg(test)]
 mod makes;
 #[cfg(test)]
+mod rack;
+#[cfg(test)]
 mod runs;
 #[cfg(test)]
 mod workers;

@@ -70,13 +70,18 @@ spelling_some some either =
     (turned_some of_bytes (λ (text : List ℕ). Unit {0}) Has (λ text u. some text)) (λ text l u h.
     turned_some of_tokens (λ (m : Lexed). HasTokens text m) Parses (λ m has. parses_by m (either text m has)) l (kept_is of_bytes Has text l h))
 
-pub text_others : HasAtLeastOne → TokensOneOrOther → RefusesOthers TextIs
-text_others some either =
-    let any = λ (text : List ℕ). Unit {0} in
+width_some : HasAtLeastOne → TokensOneOrOther → IsSome (λ (text : List ℕ). Unit {0}) WidthIs
+width_some some either =
     let value = then_some (λ (text : List ℕ). Unit {0}) SpellingIs (Turned of_value Evaluates) (spelling_some some either)
     (λ text s u h. turned_some of_value (λ (m : Spelled). Unit {0}) Evaluates (λ m w. (valued (program_value m.tokens m.tree), refl)) s tt) in
-    let width = then_some (λ (text : List ℕ). Unit {0}) ValueIs Narrow value (λ text p u h. (narrow p, refl)) in
-    then_refuses WidthIs Delayed width delayed_others
+    then_some (λ (text : List ℕ). Unit {0}) ValueIs Narrow value (λ text p u h. (narrow p, refl))
+
+pub text_some : HasAtLeastOne → TokensOneOrOther → IsSome (λ (text : List ℕ). Unit {0}) TextIs
+text_some some either =
+    then_some (λ (text : List ℕ). Unit {0}) WidthIs Delayed (width_some some either) (λ text p u h. (delayed p (first_bad (delays_in p)), refl))
+
+pub text_others : HasAtLeastOne → TokensOneOrOther → RefusesOthers TextIs
+text_others some either = then_refuses WidthIs Delayed (width_some some either) delayed_others
 
 -- ---- a text that was read
 

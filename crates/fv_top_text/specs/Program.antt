@@ -16,7 +16,7 @@ use Rattle.fv_rules.specs.Rules.{program_value}
 use Rattle.fv_interval.specs.Delays.{delays_of, amounts, delay_limit, delay_budget}
 use Rattle.fv_interval.specs.Controls.{spans_of}
 use Rattle.fv_top_report.specs.Layers.{of_bytes, of_tokens, of_value}
-use Rattle.fv_top_text.specs.Answers.{Then, Turned, IsOnce, RefusesOthers}
+use Rattle.fv_top_text.specs.Answers.{Then, Turned, IsOnce, IsSome, RefusesOthers}
 use Rattle.fv_top_report.specs.Lines.{row_of}
 use Rattle.fv_top_text.specs.Compiled.{Compiled}
 use Rattle.fv_top_report.specs.declared.refusal.Refusal.{Refusal}
@@ -55,13 +55,16 @@ Evaluates s r = valued (program_value s.tokens s.tree) ≡ r
 abbrev pub most_channels : ℕ
 most_channels = MOST_CHANNELS
 
--- a program with some output, and no more channels than files have
-abbrev pub narrow : Compiled → Result Compiled Refusal
-narrow p =
-    if outputs p.diagram == 0 then Err (no.Channels 0 1)
-    else (if nat_lt most_channels (outputs p.diagram) then Err (no.Channels (outputs p.diagram) most_channels)
-    else (if nat_lt most_channels (inputs p.diagram) then Err (no.Channels (inputs p.diagram) most_channels)
+-- a program with so many inputs and outputs, where it has some output, and no more channels than files have
+abbrev pub with_channels : (inputs outputs : ℕ) → Compiled → Result Compiled Refusal
+with_channels inputs outputs p =
+    if outputs == 0 then Err (no.Channels 0 1)
+    else (if nat_lt most_channels outputs then Err (no.Channels outputs most_channels)
+    else (if nat_lt most_channels inputs then Err (no.Channels inputs most_channels)
     else Ok p))
+
+abbrev pub narrow : Compiled → Result Compiled Refusal
+narrow p = with_channels (inputs p.diagram) (outputs p.diagram) p
 
 abbrev pub Narrow : Compiled → Result Compiled Refusal → Type 0
 Narrow p r = narrow p ≡ r
@@ -121,6 +124,10 @@ IsRefusedText text refusal = TextIs text (Err refusal)
 -- A text is one thing at most: one program, or refused for one thing.
 abbrev pub IsOneText : Type 0
 IsOneText = IsOnce TextIs
+
+-- Each text is something: a program, or refused.
+abbrev pub IsSomeText : Type 0
+IsSomeText = IsSome (λ (text : List ℕ). Unit {0}) TextIs
 
 -- What is no program is refused for something.
 abbrev pub IsOneOrOther : Type 0

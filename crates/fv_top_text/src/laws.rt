@@ -1,6 +1,6 @@
 // Laws of texts.
 
-ghost use Rattle.fv_top_text.specs.Program.{IsOneText, IsOneOrOther, FrontIsEnough, ProgramIsWhole};
+ghost use Rattle.fv_top_text.specs.Program.{IsOneText, IsSomeText, IsOneOrOther, FrontIsEnough, ProgramIsWhole};
 
 use fv_lex::one_answer;
 use fv_parse::one_outcome;
@@ -9,6 +9,7 @@ use fv_parse_grammar::spelled_once;
 /// A text is one program, or it is refused for one thing, and never both.
 pub fn one_program()
     ensures once { IsOneText }
+    ensures some { IsSomeText }
     ensures either { IsOneOrOther }
 {
     one_answer();

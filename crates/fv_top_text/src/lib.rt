@@ -5,4 +5,4 @@ mod laws;
 mod text;
 
 pub use laws::{front_is_enough, one_program};
-pub use text::read_program;
+pub use text::{check_channels, read_program};

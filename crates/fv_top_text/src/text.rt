@@ -1,13 +1,15 @@
 // A program's text: its tokens, their tree, and the tree's program.
 
-ghost use Rattle.std.specs.Prelude.{◌≡◌, ◌⊎◌, ◌≤◌, IfOk, IfErr, OnOk, Ok, Err};
+ghost use Rattle.std.specs.Prelude.{◌≡◌, ◌⊎◌, ◌≤◌, ◌<◌, length, IfOk, IfErr, OnOk, Ok, Err};
 ghost use Rattle.fv_base.specs.declared.limits.TheConstants.{MOST_CHANNELS};
-ghost use Rattle.fv_diagram.specs.Arena.{tree_of};
+ghost use Rattle.fv_diagram.specs.Arena.{count_of, tree_of};
 ghost use Rattle.fv_diagram.specs.Diagram.{inputs, outputs};
 ghost use Rattle.fv_interval.specs.Delays.{AreAccepted};
+ghost use Rattle.fv_rules.specs.Rules.{visit_limit};
+ghost use Rattle.fv_top_report.specs.Lines.{row_of};
 ghost use Rattle.fv_top_report.specs.declared.refusal.Refusal.TheVariants.{NoMemory};
-ghost use Rattle.fv_top_text.specs.Compiled.{compiled_of, CanPlay};
-ghost use Rattle.fv_top_text.specs.Program.{IsProgram, IsRefusedText, IsOfText, narrow, delayed, first_bad, delays_in};
+ghost use Rattle.fv_top_text.specs.Compiled.{Compiled, compiled_of, CanPlay};
+ghost use Rattle.fv_top_text.specs.Program.{IsProgram, IsRefusedText, IsOfText, narrow, with_channels, delayed, first_bad, delays_in};
 
 use fv_base::limits::MOST_CHANNELS;
 use fv_eval::{Program, evaluate};
@@ -22,7 +24,9 @@ use std::alloc::Global;
 pub fn read_program(alloc: Global, text: &[u8]) -> Result<(Program, Delays), Refusal>
     // What is answered is the text's program, and its delays.
     ensures found { IfOk result (λ p. IsProgram text.now (compiled_of p.0)) }
-    ensures plays { IfOk result (λ p. CanPlay p.0) }
+    ensures root { IfOk result (λ p. p.0.root < count_of p.0.diagrams) }
+    ensures plays { IfOk result (λ p. CanPlay (compiled_of p.0)) }
+    ensures controls { IfOk result (λ p. length (compiled_of p.0).controls ≤ visit_limit) }
     ensures delays { IfOk result (λ p. AreAccepted (delays_in (compiled_of p.0)) p.1) }
     // Only a text that is no program is refused, and for its cause.
     ensures refused { IfErr result (λ e. (e ≡ NoMemory) ⊎ (IsOfText e × IsRefusedText text.now e)) }
@@ -30,13 +34,13 @@ pub fn read_program(alloc: Global, text: &[u8]) -> Result<(Program, Delays), Ref
     let tokens = tokens(alloc, text)?;
     let tree = parse(alloc, &tokens)?;
     let program = evaluate(alloc, &tree)?;
-    check_channels(&program)?;
+    check_arity(&program)?;
     let delays = check_delays(alloc, &program)?;
     Ok((program, delays))
 }
 
 // Whether its channels can be those of files.
-fn check_channels(program: &Program) -> Result<(), Refusal>
+fn check_arity(program: &Program) -> Result<(), Refusal>
     ensures ok { OnOk result (narrow (compiled_of program.now) ≡ Ok (compiled_of program.now)) }
     ensures some { OnOk result (1 ≤ outputs (tree_of program.now.diagrams program.now.root)) }
     ensures few { OnOk result (outputs (tree_of program.now.diagrams program.now.root) ≤ MOST_CHANNELS) }
@@ -44,18 +48,29 @@ fn check_channels(program: &Program) -> Result<(), Refusal>
     ensures err { IfErr result (λ e. IsOfText e × (narrow (compiled_of program.now) ≡ Err e)) }
 {
     let arity = program.diagrams.arity(program.root);
-    if arity.outputs == 0 {
+    check_channels(arity.inputs, arity.outputs)
+}
+
+/// Whether so many inputs and outputs can be the channels of files.
+pub fn check_channels(inputs: u32, outputs: u32) -> Result<(), Refusal>
+    ensures ok { OnOk result ((p : Compiled) → with_channels inputs outputs p ≡ Ok p) }
+    ensures some { OnOk result (1 ≤ outputs) }
+    ensures few { OnOk result (outputs ≤ MOST_CHANNELS) }
+    ensures narrow { OnOk result (inputs ≤ MOST_CHANNELS) }
+    ensures err { IfErr result (λ e. ((row_of e).number ≡ 29) × ((p : Compiled) → with_channels inputs outputs p ≡ Err e)) }
+{
+    if outputs == 0 {
         return Err(Refusal::Channels { have: 0, want: 1 });
     }
-    if MOST_CHANNELS < arity.outputs {
+    if MOST_CHANNELS < outputs {
         return Err(Refusal::Channels {
-            have: arity.outputs,
+            have: outputs,
             want: MOST_CHANNELS,
         });
     }
-    if MOST_CHANNELS < arity.inputs {
+    if MOST_CHANNELS < inputs {
         return Err(Refusal::Channels {
-            have: arity.inputs,
+            have: inputs,
             want: MOST_CHANNELS,
         });
     }

@@ -5,7 +5,7 @@ use Rattle.fv_top_words.specs.declared.cause.Cause.{Cause}
 use Rattle.fv_top_words.specs.declared.cause.Cause.TheVariants.{Form, Number}
 use Rattle.fv_top_words.specs.Texts.{Texts, texts_of}
 use Rattle.fv_top_words.specs.Numbers.{number_of}
-use Rattle.fv_top_words.specs.Runs.{◌>>=◌, Run, run_of, by_kinds, within_or, most_workers}
+use Rattle.fv_top_words.specs.Runs.{◌>>=◌, Run, run_of, by_kinds, of_jobs, within_or, most_workers}
 
 pub data Command : Type 0 where
   Play : (run : Run) → Command
@@ -31,6 +31,12 @@ abbrev pub au_of : Texts → Result Command Cause
 au_of t = do
   run ← run_of t
   Ok (Play (by_kinds run))
+
+-- a run of the programs of a file of jobs, side by side
+abbrev pub rack_of : Texts → Result Command Cause
+rack_of t = do
+  run ← run_of t
+  Ok (Play (of_jobs run))
 
 -- PROGRAM
 abbrev pub check_of : List (List ℕ) → Result Command Cause
@@ -68,9 +74,10 @@ command_in command None = Err Form
 command_in command (Some t) =
     if bytes_eq command (codes "run") then play_of t
     else (if bytes_eq command (codes "au") then au_of t
+    else (if bytes_eq command (codes "rack") then rack_of t
     else (if bytes_eq command (codes "check") then bare t (check_of t.plain)
     else (if bytes_eq command (codes "make") then bare t (make_of t.plain)
-    else Err Form)))
+    else Err Form))))
 
 -- What the words ask for, the program's own name first, or the first cause to refuse them.
 abbrev pub command_of : List (List ℕ) → Result Command Cause

@@ -2,6 +2,7 @@
 use Rattle.std.specs.Prelude.{◌≡◌, refl, ℕ, List, [], ◌∷◌, Some, None, Result, Ok, Err, codes}
 use Rattle.fv_top_words.specs.declared.cause.Cause.{Cause}
 use Rattle.fv_top_words.specs.declared.cause.Cause.TheVariants.{Form, Number, Range, Vectors, Together, Same}
+use Rattle.fv_top_words.specs.declared.manner.ProgramKind.TheVariants as program
 use Rattle.fv_top_words.specs.declared.manner.InputKind.TheVariants as input
 use Rattle.fv_top_words.specs.declared.manner.OutputKind.TheVariants as output
 use Rattle.fv_top_words.specs.Pieces.{cut, Any, Plain, Given}
@@ -22,7 +23,7 @@ abbrev from_file : Settings → Command
 from_file s =
     Play (record { program = codes "p.dsp"; input = Some (codes "in.wav"); output = codes "o.wav"; controls = None; settings = s; manner = wave_files })
 
--- ---- the three commands
+-- ---- the commands
 
 defaults : run (codes "p.dsp" ∷ codes "in.wav" ∷ codes "o.wav" ∷ []) ≡ Ok (from_file plain)
 defaults = refl
@@ -40,7 +41,7 @@ au_files : asked (codes "au" ∷ codes "p.dsp" ∷ codes "in.au" ∷ codes "o.au
       output = codes "o.au";
       controls = None;
       settings = record plain { bits = Some 8 };
-      manner = record { input = input.Either; output = output.Au };
+      manner = record { program = program.Alone; input = input.Either; output = output.Au };
     }))
 au_files = refl
 
@@ -52,9 +53,21 @@ au_to_wave : asked (codes "au" ∷ codes "p.dsp" ∷ codes "in.wav" ∷ codes "o
       output = codes "o.AU";
       controls = None;
       settings = plain;
-      manner = record { input = input.Either; output = output.Wave };
+      manner = record { program = program.Alone; input = input.Either; output = output.Wave };
     }))
 au_to_wave = refl
+
+-- a rack is a run but for what its program's file is
+racks : asked (codes "rack" ∷ codes "p.txt" ∷ codes "in.wav" ∷ codes "o.wav" ∷ [])
+    ≡ Ok (Play (record {
+      program = codes "p.txt";
+      input = Some (codes "in.wav");
+      output = codes "o.wav";
+      controls = None;
+      settings = plain;
+      manner = record wave_files { program = program.Rack };
+    }))
+racks = refl
 
 -- ---- where options stand
 

@@ -6,6 +6,7 @@ use Rattle.fv_base.specs.declared.limits.TheConstants.{MOST_BLOCK, MOST_VECTORS,
 use Rattle.fv_top_words.specs.declared.cause.Cause.{Cause}
 use Rattle.fv_top_words.specs.declared.cause.Cause.TheVariants.{Form, Number, Range, Vectors, Together, Same}
 use Rattle.fv_top_words.specs.declared.manner.Manner.{Manner}
+use Rattle.fv_top_words.specs.declared.manner.ProgramKind.TheVariants as program
 use Rattle.fv_top_words.specs.declared.manner.InputKind.TheVariants as input
 use Rattle.fv_top_words.specs.declared.manner.OutputKind.{OutputKind}
 use Rattle.fv_top_words.specs.declared.manner.OutputKind.TheVariants as output
@@ -88,9 +89,9 @@ pub record Run : Type 0 where
   pub settings : Settings
   pub manner : Manner
 
--- the files of a run, where each is a WAV file
+-- the files of a run: one program, and WAV files
 abbrev pub wave_files : Manner
-wave_files = record { input = input.Wave; output = output.Wave }
+wave_files = record { program = program.Alone; input = input.Wave; output = output.Wave }
 
 -- a name that ends in `.au` is that of an AU file
 abbrev pub output_kind : List ℕ → OutputKind
@@ -98,7 +99,11 @@ output_kind name = if ends_with nat_eq name (codes ".au") then output.Au else ou
 
 -- the same run where its files may be AU files: the input by its first bytes, and the output by its name
 abbrev pub by_kinds : Run → Run
-by_kinds run = record run { manner = record { input = input.Either; output = output_kind run.output } }
+by_kinds run = record run { manner = record run.manner { input = input.Either; output = output_kind run.output } }
+
+-- the same run where its program's file is a file of jobs
+abbrev pub of_jobs : Run → Run
+of_jobs run = record run { manner = record run.manner { program = program.Rack } }
 
 -- `-` names no input file
 abbrev pub is_none_word : List ℕ → Bool

@@ -7,7 +7,7 @@ ghost use Rattle.fv_top_words.specs.Views.{texts_in, plain_in, command_answered,
 
 use crate::cause::Cause;
 use crate::numbers::number_of;
-use crate::run::{Run, by_kinds, run_of, within_or};
+use crate::run::{Run, by_kinds, of_jobs, run_of, within_or};
 use crate::texts::{Plain, Texts, texts_of};
 use fv_base::limits::{MOST_MADE, MOST_VOICES, MOST_WORKERS};
 
@@ -57,6 +57,10 @@ fn command_of<'a>(command: &str, texts: &Texts<'a>) -> Result<Command<'a>, Cause
     if command == "au" {
         let run = run_of(texts)?;
         return Ok(Command::Run(by_kinds(run)));
+    }
+    if command == "rack" {
+        let run = run_of(texts)?;
+        return Ok(Command::Run(of_jobs(run)));
     }
     if texts.has_options {
         return Err(Cause::Form);

@@ -14,6 +14,6 @@ mod word;
 pub use cause::Cause;
 pub use command::{Command, Job, job_in, read};
 pub use laws::{settings_keep_ranges, words_are_cut};
-pub use manner::{InputKind, Manner, OutputKind};
+pub use manner::{InputKind, Manner, OutputKind, ProgramKind};
 pub use run::Run;
 pub use settings::Settings;

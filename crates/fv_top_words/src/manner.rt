@@ -1,5 +1,14 @@
 // Of which kinds a run's files are.
 
+/// What the file of a run's program is.
+#[derive(Clone, Copy, PartialEq, Eq, Debug)]
+pub enum ProgramKind {
+    /// The text of one program.
+    Alone,
+    /// A file of jobs: texts of programs that are played side by side.
+    Rack,
+}
+
 /// Of which kind the input of a run is.
 #[derive(Clone, Copy, PartialEq, Eq, Debug)]
 pub enum InputKind {
@@ -21,6 +30,7 @@ pub enum OutputKind {
 /// Of which kinds the files of a run are.
 #[derive(Clone, Copy, PartialEq, Eq, Debug)]
 pub struct Manner {
+    pub program: ProgramKind,
     pub input: InputKind,
     pub output: OutputKind,
 }

@@ -4,12 +4,12 @@ ghost use Rattle.std.specs.Prelude.{◌≡◌, ◌≤◌, ◌^◌, ◌<◌, true
 ghost use Rattle.std.specs.Option.{ForSome};
 ghost use Rattle.fv_base.specs.declared.limits.TheConstants.{MOST_BLOCK};
 ghost use Rattle.fv_top_words.specs.Runs.{within, within_or, width, is_width, default_vector, vectors_in, settings_of};
-ghost use Rattle.fv_top_words.specs.Runs.{AreSound, run_of, by_kinds, output_kind, input_of, is_none_word, is_together, is_same};
+ghost use Rattle.fv_top_words.specs.Runs.{AreSound, run_of, by_kinds, of_jobs, output_kind, input_of, is_none_word, is_together, is_same};
 ghost use Rattle.fv_top_words.specs.Views.{texts_in, numbers_in, settings_in, settings_answered, run_in, run_answered};
 
 use crate::cause::Cause;
 use crate::laws::settings_keep_ranges;
-use crate::manner::{InputKind, Manner, OutputKind};
+use crate::manner::{InputKind, Manner, OutputKind, ProgramKind};
 use crate::numbers::{Numbers, numbers_of};
 use crate::settings::Settings;
 use crate::texts::{Plain, Texts};
@@ -28,8 +28,9 @@ pub struct Run<'a> {
     pub manner: Manner,
 }
 
-/// The files of a run, where each is a WAV file.
+/// The files of a run: one program, and WAV files.
 const WAVE_FILES: Manner = Manner {
+    program: ProgramKind::Alone,
     input: InputKind::Wave,
     output: OutputKind::Wave,
 };
@@ -69,8 +70,22 @@ pub fn by_kinds(run: Run<'_>) -> Run<'_>
 {
     Run {
         manner: Manner {
+            program: run.manner.program,
             input: InputKind::Either,
             output: output_kind(run.output),
+        },
+        ..run
+    }
+}
+
+/// The same run where its program's file is a file of jobs.
+pub fn of_jobs(run: Run<'_>) -> Run<'_>
+    ensures { run_in result ≡ of_jobs (run_in run.entry) }
+{
+    Run {
+        manner: Manner {
+            program: ProgramKind::Rack,
+            ..run.manner
         },
         ..run
     }

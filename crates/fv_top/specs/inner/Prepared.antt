@@ -9,7 +9,6 @@ use Rattle.fv_outside.specs.Desk.{DeskState, KeepsFaults}
 use Rattle.fv_control.specs.declared.script.Change.{Change}
 use Rattle.fv_control.specs.Laws.{NeverFall, IsOfControls}
 use Rattle.fv_control.specs.Streams.{control_streams}
-use Rattle.fv_interval.specs.Delays.{AreAccepted}
 use Rattle.fv_diagram.specs.Diagram.{inputs, outputs}
 use Rattle.fv_pcm.specs.Sizes.{data_size}
 use Rattle.fv_pcm.specs.declared.coding.Coding.{Coding}
@@ -27,8 +26,7 @@ use Rattle.fv_engine_files.specs.Files.{HasTaken, IsCutAt, IsStopFor, frames_of}
 use Rattle.fv_top_words.specs.Runs.{Run, Settings}
 use Rattle.fv_top_report.specs.declared.refusal.Refusal.{Refusal}
 use Rattle.fv_top_report.specs.declared.refusal.Refusal.TheVariants.{ReadFault, WriteFault}
-use Rattle.fv_top_text.specs.Program.{delays_in}
-use Rattle.fv_top_text.specs.Compiled.{Compiled, compiled_of, CanPlay}
+use Rattle.fv_top_text.specs.Compiled.{Compiled, CanPlay}
 use Rattle.fv_top.specs.declared.format.OutputFormat.{OutputFormat as Made}
 use Rattle.fv_top.specs.declared.incoming.Incoming.{Incoming}
 use Rattle.fv_top.specs.declared.input.Loaded.{Loaded}
@@ -64,27 +62,27 @@ pub record IsTapeOf (name : List ℕ) (channels : ℕ) (format : Made) (loaded :
 
 -- ---- what is ready
 
--- All that a run is played with fits together: the memory, the tape, and the sizes of the run.
-pub record CanRun (p : Prepared) : Type 0 where
-  pub plays : CanPlay p.program
-  pub accepted : AreAccepted (delays_in (compiled_of p.program)) p.delays
+-- All that a program is played with fits together: its controls, the memory, the tape, and the sizes of the run.
+pub record CanRun (c : Compiled) (p : Prepared) : Type 0 where
+  pub plays : CanPlay c
+  pub inputs_are : p.inputs ≡ inputs c.diagram
+  pub outputs_are : p.outputs ≡ outputs c.diagram
+  pub controls_are : p.controls.items ≡ c.controls
   pub order : NeverFall 0 p.script
-  pub lawful : AllByRecursion (IsOfControls (compiled_of p.program).controls) p.script
+  pub lawful : AllByRecursion (IsOfControls c.controls) p.script
   pub can : CanHave p.sizes
-  pub set : IsSetFor (compiled_of p.program).diagram (compiled_of p.program).controls p.sizes p.ready
+  pub set : IsSetFor c.diagram c.controls p.sizes p.ready
   pub tape : IsTape p.tape
   pub fresh : p.tape.done ≡ 0
-  pub ears : channels_of p.tape.input ≡ inputs (compiled_of p.program).diagram
+  pub ears : channels_of p.tape.input ≡ inputs c.diagram
   pub most : p.sizes.block ≤ p.tape.most
   pub stated : p.tape.stated ≡ p.sizes.frames
   pub frames : p.format.frames ≡ p.sizes.frames
-  pub size : p.format.size ≡ data_size (outputs (compiled_of p.program).diagram) p.format.bits p.format.frames
-  pub head : p.tape.head ≡ output_head (outputs (compiled_of p.program).diagram) p.format
+  pub size : p.format.size ≡ data_size (outputs c.diagram) p.format.bits p.format.frames
+  pub head : p.tape.head ≡ output_head (outputs c.diagram) p.format
 
--- It was made of these: the output's name, the settings, a program and its script, an input and a format.
-pub record IsMadeOf (name : List ℕ) (settings : Settings) (compiled : Compiled) (changes : List Change) (loaded : Loaded) (made : Made) (p : Prepared)
-    : Type 0 where
-  pub program : compiled_of p.program ≡ compiled
+-- It was made of these: the output's name, the settings, a script, an input and a format.
+pub record IsMadeOf (name : List ℕ) (settings : Settings) (changes : List Change) (loaded : Loaded) (made : Made) (p : Prepared) : Type 0 where
   pub script : p.script ≡ changes
   pub format : p.format ≡ made
   pub sizes : p.sizes ≡ sizes_of settings p.sizes.frames
@@ -99,9 +97,9 @@ pub record IsForRun (run : Run) (p : Prepared) : Type 0 where
   pub named : is_some p.tape.input ≡ is_some run.input
 
 -- And it is what the files of the run say, where the desk tells them; the samples of its input are left to read, or were read.
-pub record IsOfFiles (run : Run) (old new : DeskState) (p : Prepared) : Type 0 where
+pub record IsOfFiles (run : Run) (old new : DeskState) (c : Compiled) (p : Prepared) : Type 0 where
   pub plays : Plays run old.files
-  pub program : plays.of.compiled ≡ compiled_of p.program
+  pub program : plays.of.compiled ≡ c
   pub changes : plays.changes ≡ p.script
   pub format : plays.format ≡ format_in p.format
   pub input : p.tape.input ≡ option_map samples_of plays.source.head
@@ -114,49 +112,47 @@ abbrev pub frames_there : Prepared → (left : List ℕ) → List Frame
 frames_there p left = frames_of (files_of p.tape) left
 
 -- the output file of frames that are there
-abbrev pub file_on : Prepared → (X : List Frame) → List ℕ
-file_on p X =
-    output_file (compiled_of p.program).diagram (control_streams p.script (initial_of (compiled_of p.program).controls)) (format_in p.format) X
+abbrev pub file_on : Compiled → Prepared → (X : List Frame) → List ℕ
+file_on c p X = output_file c.diagram (control_streams p.script (initial_of c.controls)) (format_in p.format) X
 
 -- that of all of them
-abbrev pub file_there : Prepared → (left : List ℕ) → List ℕ
-file_there p left = file_on p (frames_there p left)
+abbrev pub file_there : Compiled → Prepared → (left : List ℕ) → List ℕ
+file_there c p left = file_on c p (frames_there p left)
 
 -- All frames were there, and were played, and the whole file was written.
-pub record HasRun (p : Prepared) (old new : DeskState) : Type 0 where
+pub record HasRun (c : Compiled) (p : Prepared) (old new : DeskState) : Type 0 where
   pub streams : Streams p.tape.output.now old new
   pub begun : HasBegun old new
   pub faults : KeepsFaults old new
   pub there : IsTrue old.tells → length (frames_there p (old.left Input)) ≡ p.sizes.frames
   pub taken : IsTrue old.tells → HasTaken (files_of p.tape) p.sizes.frames old new
-  pub written : IsTrue old.tells → new.written Output ≡ file_there p (old.left Input)
+  pub written : IsTrue old.tells → new.written Output ≡ file_there c p (old.left Input)
 
 -- The input ends within the frames that are stated: the blocks up to frame g were played, which are those that lie wholly within the
 -- frames that are there.
-pub record IsCutIn (p : Prepared) (i : InputSamples) (g place : ℕ) (old new : DeskState) : Type 0 where
+pub record IsCutIn (c : Compiled) (p : Prepared) (i : InputSamples) (g place : ℕ) (old new : DeskState) : Type 0 where
   pub cut : IsCutAt p.sizes.block p.sizes.frames p.script (length (frames_there p (old.left Input))) g
   pub short : length (frames_there p (old.left Input)) < p.sizes.frames
   pub place_is : place ≡ i.place + length (old.left Input)
   pub taken : new.left Input ≡ []
-  pub written : new.written Output ≡ file_on p (take g (frames_there p (old.left Input)))
+  pub written : new.written Output ≡ file_on c p (take g (frames_there p (old.left Input)))
 
 -- why it stops behind the blocks up to frame g
-abbrev pub IsEndFor : Prepared → (g : ℕ) → (old new : DeskState) → Stop → Type 0
-IsEndFor p g old new stop.Read =
-    IsStopFor (compiled_of p.program).diagram (control_streams p.script (initial_of (compiled_of p.program).controls)) p.script p.sizes (files_of p.tape)
-    g old new stop.Read
-IsEndFor p g old new (stop.End place) =
+abbrev pub IsEndFor : Compiled → Prepared → (g : ℕ) → (old new : DeskState) → Stop → Type 0
+IsEndFor c p g old new stop.Read =
+    IsStopFor c.diagram (control_streams p.script (initial_of c.controls)) p.script p.sizes (files_of p.tape) g old new stop.Read
+IsEndFor c p g old new (stop.End place) =
     HasBegun old new × KeepsFaults old new × (i : InputSamples) × (p.tape.input ≡ Some i) × ((files_of p.tape).held ≡ None)
-    × (IsTrue old.tells → IsCutIn p i g place old new)
-IsEndFor p g old new stop.Write =
-    CannotSay (file_there p (old.left Input)) old new
+    × (IsTrue old.tells → IsCutIn c p i g place old new)
+IsEndFor c p g old new stop.Write =
+    CannotSay (file_there c p (old.left Input)) old new
     × (IsTrue old.tells → (n : ℕ) × (n ≤ p.sizes.frames) × HasTaken (files_of p.tape) n old new)
 
 -- It stopped behind the blocks up to frame g: the output is as it was, or it was begun, and has a part of its file from its front.
-pub record EndsAt (p : Prepared) (g : ℕ) (old new : DeskState) (e : Stop) : Type 0 where
+pub record EndsAt (c : Compiled) (p : Prepared) (g : ℕ) (old new : DeskState) (e : Stop) : Type 0 where
   pub streams : Streams p.tape.output.now old new
-  pub output : KeepsOutput old new ⊎ (HasBegun old new × (IsTrue old.tells → IsPrefixOf (new.written Output) (file_there p (old.left Input))))
-  pub cause : IsEndFor p g old new e
+  pub output : KeepsOutput old new ⊎ (HasBegun old new × (IsTrue old.tells → IsPrefixOf (new.written Output) (file_there c p (old.left Input))))
+  pub cause : IsEndFor c p g old new e
 
 -- how the samples of an input are stored
 abbrev pub coding_heard : Option InputSamples → Coding
@@ -170,10 +166,10 @@ refusal_of_stop c (stop.End place) = truncated c place
 refusal_of_stop c stop.Write = WriteFault Output
 
 -- It stopped, and this is the refusal.
-pub record StopsRun (p : Prepared) (old new : DeskState) (before after : Option Told) (refusal : Refusal) : Type 0 where
+pub record StopsRun (c : Compiled) (p : Prepared) (old new : DeskState) (before after : Option Told) (refusal : Refusal) : Type 0 where
   pub stop : Stop
   pub is : refusal ≡ refusal_of_stop (coding_heard p.tape.input) stop
   pub frame : ℕ
   pub counted : Ran
-  pub ran : RanTo (compiled_of p.program).diagram (compiled_of p.program).controls p.script p.sizes frame counted before after
-  pub ends : EndsAt p frame old new stop
+  pub ran : RanTo c.diagram c.controls p.script p.sizes frame counted before after
+  pub ends : EndsAt c p frame old new stop

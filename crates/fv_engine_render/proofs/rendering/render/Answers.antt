@@ -45,9 +45,9 @@ returns-clause-samples g c =
       frames = n;
       input = input;
       output = r.samples.items;
-      can = c.requires.source;
+      well = c.requires.source.well;
+      stay = record { spans = c.spans_fit.ensures; bounded = c.requires.source.bounded; lawful = c.requires.source.lawful };
       fit = c.numbers_fit.ensures;
-      spans = c.spans_fit.ensures;
       of = c.in_ok-graph.ensures;
       count = count;
       plays = subst (λ w. rows width n r.samples.items ≡ played graph (rows w n input) streams 0 n) ins plays;

@@ -1,38 +1,24 @@
-use Rattle.std.proofs.Common.{◌≡◌, ◌*◌, length, ℕ, sym, ap, subst, ◌∙◌, arith}
 use Rattle.fv_diagram.specs.Arena.{tree_of}
-use Rattle.fv_diagram.specs.Diagram.{inputs}
-use Rattle.fv_interval.specs.Controls.{spans_of}
-use Rattle.fv_engine_render.specs.Plans.{IsPlanned, NamesOnly}
-use Rattle.fv_engine_render.proofs.Planned.{names_only}
+use Rattle.fv_engine_render.specs.Render.{CanBePlayed}
+use Rattle.std.proofs.lemmas.Result.{IfOk-weaker}
 use Rattle.fv_engine_render.proofs.tape.make_ready.Goals as goal
+use Rattle.fv_engine_render.proofs.tape.make_ready.Goals.{In_ok-graph}
 
-pub plan_of-requires-clause-names : goal.plan_of-requires-clause-names
-plan_of-requires-clause-names c =
-    let d = tree_of c.args.source.now.diagrams.now c.args.source.now.root in
-    let cs = c.args.source.now.controls.now in
-    let graph = c.in_ok-graph.graph in
-    subst (λ n. NamesOnly graph n (length cs)) (sym c.arity-arity.ensures.arity.0)
-    (names_only d (spans_of cs) graph (length cs) c.in_ok-graph.ensures c.requires.source.reads)
+-- the graph is one of the diagram, which can be played
+can : (c : In_ok-graph) → CanBePlayed (tree_of c.args.source.now.diagrams.now c.args.source.now.root) c.in_ok-graph.graph c.arity-inputs.result.inputs
+    c.args.source.now.controls.now
+can c = record {
+  of = c.in_ok-graph.ensures;
+  channels_are = c.arity-inputs.ensures.arity.0;
+  some = c.requires.source.some;
+  few = c.requires.source.few;
+  reads = c.requires.source.reads;
+}
+
+pub make_ready_graph-requires-clause-of : goal.make_ready_graph-requires-clause-of
+make_ready_graph-requires-clause-of c = (tree_of c.args.source.now.diagrams.now c.args.source.now.root, can (goal.at.make_ready_graph-requires-clause-of c).In_ok-graph)
 
 pub returns : goal.returns
 returns c =
     let d = tree_of c.args.source.now.diagrams.now c.args.source.now.root in
-    let cs = c.args.source.now.controls.now in
-    let graph = c.in_ok-graph.graph in
-    let e = c.in_ok-engine.ensures in
-    let ins : c.arity-arity.result.inputs ≡ inputs d = c.arity-arity.ensures.arity.0 in
-    let block = c.args.sizes.now.block in record {
-      graph = graph;
-      of = c.in_ok-graph.ensures;
-      plan = c.in_ok-plan.plan;
-      planned = subst (λ n. IsPlanned graph n (length cs) c.in_ok-plan.plan) ins c.in_ok-plan.ensures;
-      plan_is = e.plan;
-      loops = c.loops-loops.ensures.loops;
-      channels = e.sizes.0 ∙ ins;
-      fresh = e.stands;
-      block = e.sizes.1;
-      vector = e.sizes.2;
-      initial = c.in_ok-values.ensures;
-      hears = let k = c.in_ok-heard.heard.ok.0 in let l = c.in_ok-heard.ensures.len in let a = ap (λ (w : ℕ). block * w) ins in omega (arith, k, l, a);
-      says = let k = c.in_ok-said.said.ok.0 in let l = c.in_ok-said.ensures.len in let a = ap (λ (w : ℕ). block * w) c.arity-arity.ensures.arity.1 in omega (arith, k, l, a);
-    }
+    IfOk-weaker c.make_ready_graph.result _ _ (λ r set. set d (can (goal.at.returns c).In_ok-graph)) c.make_ready_graph.ensures

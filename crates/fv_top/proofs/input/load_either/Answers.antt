@@ -2,7 +2,7 @@ use Rattle.std.proofs.Common.{◌≡◌, ◌∙◌, length, take, sym, ap, arith
 use Rattle.std.specs.Prelude.{true, false, bytes_eq, codes}
 use Rattle.std.proofs.lemmas.Result.{IfOk-weaker, IfErr-weaker}
 use Rattle.fv_outside.proofs.States.{told_before, some_then}
-use Rattle.fv_top.specs.Promise.{HasRefusal, ReadHead}
+use Rattle.fv_top.specs.Promise.{IsHeadRefusal}
 use Rattle.fv_top.proofs.Heads.{IsBegun, either_au, either_wave, gives_as, stops_earlier}
 use Rattle.fv_top.proofs.input.load_either.Given.{Over}
 use Rattle.fv_top.proofs.input.load_either.Goals as goal
@@ -36,7 +36,7 @@ returns-then-eq-clause-err g c =
     let f = begun g (goal.at.returns-then-eq-clause-err g c).In-Ok in
     let au : bytes_eq (take c.in-Ok.n c.fill.new.to) (codes ".snd") ≡ true =
     ap (bytes_eq (take c.in-Ok.n c.fill.new.to)) (sym c.as_slice.ensures) ∙ sym c.if-eq.ensures in
-    IfErr-weaker c.load_au.result _ _ (λ e p. stops_earlier (HasRefusal ReadHead) _ _ e f.takes (either_au f au) p) c.load_au.ensures.err
+    IfErr-weaker c.load_au.result _ _ (λ e p. stops_earlier IsHeadRefusal _ _ e f.takes (either_au f au) p) c.load_au.ensures.err
 
 pub returns-else-eq-clause-headed : goal.returns-else-eq-clause-headed
 returns-else-eq-clause-headed g c =
@@ -50,4 +50,4 @@ returns-else-eq-clause-err g c =
     let f = begun g (goal.at.returns-else-eq-clause-err g c).In-Ok in
     let other : bytes_eq (take c.in-Ok.n c.fill.new.to) (codes ".snd") ≡ false =
     ap (bytes_eq (take c.in-Ok.n c.fill.new.to)) (sym c.as_slice.ensures) ∙ sym c.if-eq.ensures in
-    IfErr-weaker c.load_wave.result _ _ (λ e p. stops_earlier (HasRefusal ReadHead) _ _ e f.takes (either_wave f other) p) c.load_wave.ensures.err
+    IfErr-weaker c.load_wave.result _ _ (λ e p. stops_earlier IsHeadRefusal _ _ e f.takes (either_wave f other) p) c.load_wave.ensures.err

@@ -1,5 +1,4 @@
 use Rattle.std.proofs.lemmas.Result.{err_from_is_err_and}
-use Rattle.fv_top_text.specs.Compiled.{compiled_of}
 use Rattle.fv_top.proofs.make.made_sum.Goals as goal
 
 pub returns-in_err-made-clause-none : goal.returns-in_err-made-clause-none
@@ -9,7 +8,10 @@ returns-in_err-made-clause-none g c =
 
 pub returns-clause-sum : goal.returns-clause-sum
 returns-clause-sum g c =
-    record { compiled = compiled_of c.in_ok-program.program; made = c.in_ok-program.ensures.made; is = c.in_ok-made.ensures.sum }
+    let made = c.in_ok-playable.ensures.made in
+    record { compiled = made.0; made = made.1; is = c.in_ok-made.ensures.sum made.0 made.2 }
 
 pub returns-clause-ran : goal.returns-clause-ran
-returns-clause-ran g c = (compiled_of c.in_ok-program.program, c.args.workers, c.in_ok-program.ensures.made, c.in_ok-made.ensures.ran)
+returns-clause-ran g c =
+    let made = c.in_ok-playable.ensures.made in
+    (made.0, c.args.workers, made.1, c.in_ok-made.ensures.ran made.0 made.2)

@@ -1,34 +1,61 @@
-use Rattle.std.proofs.Common.{◌≡◌, List, [], ◌*◌, length, arith, sym, ◌∙◌, ap, subst, to_z, of_z, to_z-of_z, SFits, w32, rules}
-use Rattle.fv_diagram.specs.Arena.{tree_of}
+use Rattle.std.proofs.Common.{◌≡◌, List, [], ◌*◌, length, arith, sym, ◌∙◌, ap, subst, refl, pos, to_z, to_z-of_z, SFits, w32, rules}
+use Rattle.std.specs.Prelude.{All}
+use Rattle.std.proofs.lemmas.Int.{to_z_pos}
+use Rattle.fv_diagram.specs.Controls.{IsBounded}
 use Rattle.fv_diagram.specs.Diagram.{inputs}
 use Rattle.fv_diagram.specs.declared.control.ControlInfo.{ControlInfo}
+use Rattle.fv_engine_render.specs.Render.{CanBePlayed, RanWhole, initial_of}
 use Rattle.fv_top_make.specs.Made.{sum_of, noise_of}
-use Rattle.fv_eval.specs.Evaluated.{Evaluated}
-use Rattle.fv_engine_render.specs.Render.{CanRender, initial_of}
-use Rattle.fv_top.specs.Meant.{made_sum}
-use Rattle.fv_top_text.specs.Compiled.{compiled_of}
+use Rattle.fv_top.specs.Played.{make_sizes}
 use Rattle.fv_top.proofs.Making.{answer_alike, noise_heard}
-use Rattle.fv_top.proofs.Ran.{can_render}
+use Rattle.fv_top.proofs.Ran.{can_be_played, set_to_play}
 use Rattle.fv_top.proofs.make.sum_on_noise.Goals as goal
 
-pub render_tape-requires-clause-source : goal.render_tape-requires-clause-source
-render_tape-requires-clause-source g c = λ κs lives.
-    let i = c.program.inside in
-    let view = subst (λ (p : Evaluated). CanRender (tree_of p.diagrams p.root) p.controls c.args.delays.now []) (sym c.program.view_is)
-    (can_render c.args.program.now c.args.delays.now [] c.requires.plays c.requires.accepted tt tt) in
-    subst (λ (ks : List ControlInfo). CanRender (tree_of i.diagrams i.root) ks c.args.delays.now []) (sym c.as_slice.ensures) view
+pub make_ready_graph-requires-clause-of : goal.make_ready_graph-requires-clause-of
+make_ready_graph-requires-clause-of g c =
+    let m = c.requires.playable in
+    let p = c.args.playable.now in
+    (m.0.diagram, subst (CanBePlayed m.0.diagram p.graph p.inputs) (sym c.deref.ensures.value) (can_be_played m.0 p m.1))
+
+pub render_tape-requires-clause-bounded : goal.render_tape-requires-clause-bounded
+render_tape-requires-clause-bounded g c = λ κs lives.
+    let m = c.requires.playable in
+    subst (All IsBounded) (sym (c.deref-2.ensures.value ∙ m.1.controls)) m.1.plays.bounded
+
+pub render_tape-requires-clause-ready : goal.render_tape-requires-clause-ready
+render_tape-requires-clause-ready g c = λ κs lives.
+    let m = c.requires.playable in (
+      m.0.diagram,
+      set_to_play m.0 c.args.playable.now c.deref.result.now _ _ _ m.1 c.deref.ensures.value refl refl c.deref-2.ensures.value
+          c.in_ok-ready.ensures,
+    )
+
+pub render_tape-requires-clause-ears : goal.render_tape-requires-clause-ears
+render_tape-requires-clause-ears g c = λ κs lives. sym c.requires.one
 
 pub returns-clause-sum : goal.returns-clause-sum
-returns-clause-sum g c =
-    let i = c.program.inside in
-    let d = tree_of i.diagrams i.root in
+returns-clause-sum g c = λ m h.
+    let p = c.args.playable.now in
     let v = c.args.voices in
     let f = c.args.frames in
-    let k = c.in-Ok.ensures.samples in
-    let one : inputs d ≡ 1 = ap (λ (p : Evaluated). inputs (tree_of p.diagrams p.root)) c.program.view_is ∙ c.requires.one in
+    let set = set_to_play m p c.deref.result.now _ _ _ h c.deref.ensures.value refl refl c.deref-2.ensures.value c.in_ok-ready.ensures in
+    let k = c.in-Ok.ensures.samples m.diagram set in
+    let one : inputs m.diagram ≡ 1 = sym h.inputs ∙ c.requires.one in
     let long : length k.0 ≡ f = k.1 ∙ ap (λ n. f * n) one ∙ omega arith in
-    let made = noise_heard v f c.sums_add_up.ensures k.2 long (search rules) (search rules) in
+    let few = c.requires.voices in
+    let state : to_z w32 v ≡ pos v = to_z_pos w32 v (omega (arith, few)) in
+    let made = noise_heard v f c.sums_add_up.ensures k.2 long state refl in
     let fits : SFits w32 c.render_tape.new.world.sum = search rules in
-    let answered = answer_alike d (initial_of c.as_slice.result.now) (initial_of i.controls) f k.0 (noise_of v f) (ap initial_of c.as_slice.ensures) made.0 in
-    subst (λ (p : Evaluated). to_z w32 (of_z w32 c.render_tape.new.world.sum) ≡ made_sum (compiled_of p) v f) c.program.view_is
-    (to_z-of_z fits ∙ made.1 ∙ ap sum_of answered)
+    let own = ap initial_of (c.deref-2.ensures.value ∙ h.controls) in
+    let answered = answer_alike m.diagram (initial_of c.deref-2.result.now) (initial_of m.controls) f k.0 (noise_of v f) own made.0 in
+    to_z-of_z fits ∙ made.1 ∙ ap sum_of answered
+
+pub returns-clause-ran : goal.returns-clause-ran
+returns-clause-ran g c = λ m h.
+    let p = c.args.playable.now in
+    let set = set_to_play m p c.deref.result.now _ _ _ h c.deref.ensures.value refl refl c.deref-2.ensures.value c.in_ok-ready.ensures in
+    let sizes = make_sizes c.args.workers c.args.frames in
+    let before = g.G.Gate.told c.args.gate.now in
+    let after = g.G.Gate.told c.render_tape.new.gate in
+    subst (λ (ks : List ControlInfo). RanWhole m.diagram ks [] sizes c.in-Ok.ran before after) (c.deref-2.ensures.value ∙ h.controls)
+    (c.in-Ok.ensures.ran m.diagram set)

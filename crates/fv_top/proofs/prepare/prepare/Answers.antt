@@ -1,64 +1,76 @@
-use Rattle.std.proofs.Common.{List, sym, ◌∙◌, ap, subst, refl}
-use Rattle.std.specs.Prelude.{Ok, Err, Some}
+use Rattle.std.proofs.Common.{◌≡◌, ℕ, ◌^◌, ◌<◌, ◌≤◌, List, length, sym, ◌∙◌, ap, ap₂, subst, refl}
+use Rattle.std.specs.Prelude.{Ok, Err, Some, Option, Result}
+use Rattle.fv_base.specs.declared.limits.TheConstants.{MOST_CHANNELS}
+use Rattle.fv_diagram.specs.Diagram.{Diagram, inputs, outputs}
 use Rattle.std.specs.List.{AllByRecursion}
 use Rattle.std.proofs.lemmas.Result.{err_from_is_err_and}
 use Rattle.fv_base.specs.declared.role.Role.TheVariants.{Program, Controls, Input}
 use Rattle.fv_diagram.specs.declared.control.ControlInfo.{ControlInfo}
 use Rattle.fv_control.specs.Laws.{IsOfControls}
-use Rattle.fv_top_words.specs.Runs.{Run}
+use Rattle.fv_top_words.specs.Runs.{Run, Settings}
 use Rattle.fv_top_words.specs.Views.{run_in as run_view}
 use Rattle.fv_top_report.specs.declared.refusal.Refusal.{Refusal}
 use Rattle.fv_top.specs.Loading.{StopsLoading, HasScript, HasInput}
-use Rattle.fv_eval.specs.Evaluated.{Evaluated}
-use Rattle.fv_top_text.specs.Compiled.{compiled_of}
+use Rattle.fv_top_text.specs.Compiled.{Compiled}
+use Rattle.fv_top_rack.specs.Kinds.{IsOfKind}
 use Rattle.fv_top.specs.inner.Formats.{format_in}
 use Rattle.fv_top.specs.inner.Loaded.{held_in}
-use Rattle.fv_top.specs.Output.{coding_of, format_of}
-use Rattle.fv_top.specs.Promise.{HasRefusal, HasNoProgram, ReadProgram, ReadScript, ReadHead}
+use Rattle.fv_pcm.specs.declared.coding.Coding.{Coding}
+use Rattle.fv_top.specs.declared.incoming.Incoming.{Incoming}
+use Rattle.fv_top.specs.Output.{OutputFormat, coding_of, format_for, format_of}
+use Rattle.fv_top.specs.Promise.{HasNoProgram, IsScriptRefusal, IsHeadRefusal}
 use Rattle.fv_top.proofs.Preparing.{AfterProgram, AfterScript, AfterHead, after_program, after_script, after_head}
 use Rattle.fv_top.proofs.Preparing.{stops_program, stops_script, stops_head, stops_fit, stops_memory, files_are, named_is}
 use Rattle.fv_top.proofs.Reaching.{FailsToLoad, fits_frames}
 use Rattle.fv_top.proofs.prepare.prepare.Given.{Over}
 use Rattle.fv_top.proofs.prepare.prepare.Goals as goal
-use Rattle.fv_top.proofs.prepare.prepare.Goals.{In_ok-program, In_ok-script, In_ok-loaded}
+use Rattle.fv_top.proofs.prepare.prepare.Goals.{In_ok-playable, In_ok-script, In_ok-loaded}
 
 -- ---- what was read so far
 
-program_read : (g : Over) (c : In_ok-program g)
-    → AfterProgram (run_view c.args.run.now) (compiled_of c.in_ok-program.program) (g.D.Desk.state c.args.desk.now) (g.D.Desk.state c.load_program.new.desk)
-program_read g c = after_program c.load_program.ensures.reads (c.in_ok-program.ensures.steady (λ is. absurd cc)) c.in_ok-program.ensures.spelled
+abbrev program : (g : Over) (c : In_ok-playable g) → Compiled
+program g c = c.in_ok-playable.ensures.found.compiled
 
-script_read : (g : Over) (c : In_ok-script g)
-    → AfterProgram (run_view c.args.run.now) (compiled_of c.in_ok-program.program) (g.D.Desk.state c.args.desk.now) (g.D.Desk.state c.load_program.new.desk)
-    → AfterScript (run_view c.args.run.now) (compiled_of c.in_ok-program.program) c.in_ok-script.script (g.D.Desk.state c.args.desk.now)
-    (g.D.Desk.state c.load_script.new.desk)
-script_read g c w =
+program_read : (g : Over) (c : In_ok-playable g)
+    → AfterProgram (run_view c.args.run.now) (program g c) (g.D.Desk.state c.args.desk.now) (g.D.Desk.state c.load_playable.new.desk)
+program_read g c =
+    let found = c.in_ok-playable.ensures.found in
+    after_program c.load_playable.ensures.reads (c.in_ok-playable.ensures.steady (λ is. absurd cc)) (found.text, found.file, found.is)
+
+script_read : (g : Over) (c : In_ok-script g) (p : Compiled) → c.in_ok-playable.playable.controls.items ≡ p.controls
+    → AfterProgram (run_view c.args.run.now) p (g.D.Desk.state c.args.desk.now) (g.D.Desk.state c.load_playable.new.desk)
+    → AfterScript (run_view c.args.run.now) p c.in_ok-script.script (g.D.Desk.state c.args.desk.now) (g.D.Desk.state c.load_script.new.desk)
+script_read g c p controls w =
     let run : Run = run_view c.args.run.now in
-    let files = (g.D.Desk.state c.load_program.new.desk).files in
+    let files = (g.D.Desk.state c.load_playable.new.desk).files in
     let Says : List ControlInfo → Type 0 = λ cs. HasScript run.controls files cs (Ok c.in_ok-script.script) in
-    let same = c.as_slice.ensures ∙ ap (λ (e : Evaluated). e.controls) c.program.view_is in
+    let same = c.deref.ensures.value ∙ controls in
     after_script w c.load_script.ensures.reads (c.in_ok-script.ensures.steady (λ is. absurd cc)) (λ t. subst Says same (c.in_ok-script.ensures.spelled t))
 
-head_read : (g : Over) (c : In_ok-loaded g)
-    → AfterScript (run_view c.args.run.now) (compiled_of c.in_ok-program.program) c.in_ok-script.script (g.D.Desk.state c.args.desk.now)
-    (g.D.Desk.state c.load_script.new.desk)
-    → AfterHead (run_view c.args.run.now) (compiled_of c.in_ok-program.program) c.in_ok-script.script c.in_ok-loaded.loaded.head
-    (held_in c.in_ok-loaded.loaded)
+head_read : (g : Over) (c : In_ok-loaded g) (p : Compiled)
+    → AfterScript (run_view c.args.run.now) p c.in_ok-script.script (g.D.Desk.state c.args.desk.now) (g.D.Desk.state c.load_script.new.desk)
+    → AfterHead (run_view c.args.run.now) p c.in_ok-script.script c.in_ok-loaded.loaded.head (held_in c.in_ok-loaded.loaded)
     (g.D.Desk.state c.args.desk.now)
     (g.D.Desk.state c.load_head.new.desk)
-head_read g c w = after_head w c.load_head.ensures.reads (c.in_ok-loaded.ensures.steady (λ is. absurd cc)) c.in_ok-loaded.ensures.headed
+head_read g c p w = after_head w c.load_head.ensures.reads (c.in_ok-loaded.ensures.steady (λ is. absurd cc)) c.in_ok-loaded.ensures.headed
+
+-- the format of a program with these channels
+format_is : (out : Coding) (s : Settings) (d : Diagram) (n m : ℕ) (head : Option Incoming) (r : Result OutputFormat Refusal) → n ≡ inputs d → m ≡ outputs d
+    → r ≡ format_for out s n m head → format_of out s d head ≡ r
+format_is out s d n m head r i o is = sym (is ∙ ap₂ (λ x y. format_for out s x y head) i o)
 
 -- ---- why it stops
 
-pub returns-in_err-program-clause-stops : goal.returns-in_err-program-clause-stops
-returns-in_err-program-clause-stops g c =
+pub returns-in_err-playable-clause-stops : goal.returns-in_err-playable-clause-stops
+returns-in_err-playable-clause-stops g c =
     let run : Run = run_view c.args.run.now in
     let a = g.D.Desk.state c.args.desk.now in
-    let fails : FailsToLoad Program (Some run.program) (HasRefusal ReadProgram) (HasNoProgram run.program a.files) a (g.D.Desk.state c.load_program.new.desk)
-    c.in_err-program.field-0.0 = record {
-      reads = c.load_program.ensures.reads;
-      stops = c.in_err-program.ensures.err;
-      steady = λ other. c.in_err-program.ensures.steady (λ is. other cc);
+    let fails : FailsToLoad Program (Some run.program) (IsOfKind run.manner.program) (HasNoProgram run.manner.program run.program a.files) a
+    (g.D.Desk.state c.load_playable.new.desk)
+    c.in_err-playable.field-0.0 = record {
+      reads = c.load_playable.ensures.reads;
+      stops = c.in_err-playable.ensures.err;
+      steady = λ other. c.in_err-playable.ensures.steady (λ is. other cc);
     } in
     let q = err_from_is_err_and c.from_residual.result c.from_residual.ensures.1 in
     rw (q.1, q.2) (stops_program fails)
@@ -67,25 +79,26 @@ pub returns-in_err-script-clause-stops : goal.returns-in_err-script-clause-stops
 returns-in_err-script-clause-stops g c =
     let at = goal.at.returns-in_err-script-clause-stops g c in
     let run : Run = run_view c.args.run.now in
-    let b = g.D.Desk.state c.load_program.new.desk in
+    let found = c.in_ok-playable.ensures.found in
+    let b = g.D.Desk.state c.load_playable.new.desk in
     let d = g.D.Desk.state c.load_script.new.desk in
     let e = c.in_err-script.field-0.0 in
     let Says : List ControlInfo → Refusal → Type 0 = λ cs r. HasScript run.controls b.files cs (Err r) in
-    let same = c.as_slice.ensures ∙ ap (λ (e : Evaluated). e.controls) c.program.view_is in
-    let fails : FailsToLoad Controls run.controls (HasRefusal ReadScript) (Says (compiled_of c.in_ok-program.program).controls) b d e = record {
+    let same = c.deref.ensures.value ∙ found.playable.controls in
+    let fails : FailsToLoad Controls run.controls IsScriptRefusal (Says found.compiled.controls) b d e = record {
       reads = c.load_script.ensures.reads;
-      stops = subst (λ (cs : List ControlInfo). StopsLoading Controls run.controls (HasRefusal ReadScript) (Says cs) b d e) same c.in_err-script.ensures.err;
+      stops = subst (λ (cs : List ControlInfo). StopsLoading Controls run.controls IsScriptRefusal (Says cs) b d e) same c.in_err-script.ensures.err;
       steady = λ other. c.in_err-script.ensures.steady (λ is. other cc);
     } in
     let q = err_from_is_err_and c.from_residual-in_err-script.result c.from_residual-in_err-script.ensures.1 in
-    rw (q.1, q.2) (stops_script (program_read g at.In_ok-program) fails)
+    rw (q.1, q.2) (stops_script (program_read g at.In_ok-playable) fails)
 
 pub returns-in_err-loaded-clause-stops : goal.returns-in_err-loaded-clause-stops
 returns-in_err-loaded-clause-stops g c =
     let at = goal.at.returns-in_err-loaded-clause-stops g c in
     let run : Run = run_view c.args.run.now in
     let d = g.D.Desk.state c.load_script.new.desk in
-    let fails : FailsToLoad Input run.input (HasRefusal ReadHead) (λ r. HasInput run.manner.input run.input d.files (Err r)) d
+    let fails : FailsToLoad Input run.input IsHeadRefusal (λ r. HasInput run.manner.input run.input d.files (Err r)) d
     (g.D.Desk.state c.load_head.new.desk)
     c.in_err-loaded.field-0.0 = record {
       reads = c.load_head.ensures.reads;
@@ -93,59 +106,95 @@ returns-in_err-loaded-clause-stops g c =
       steady = λ other. c.in_err-loaded.ensures.steady (λ is. other cc);
     } in
     let q = err_from_is_err_and c.from_residual-in_err-loaded.result c.from_residual-in_err-loaded.ensures.1 in
-    rw (q.1, q.2) (stops_head (script_read g at.In_ok-script (program_read g at.In_ok-program)) fails)
+    rw (q.1, q.2) (stops_head (script_read g at.In_ok-script (program g at.In_ok-playable) c.in_ok-playable.ensures.found.playable.controls
+    (program_read g at.In_ok-playable)) fails)
 
 pub returns-in_err-format-clause-stops : goal.returns-in_err-format-clause-stops
 returns-in_err-format-clause-stops g c =
     let at = goal.at.returns-in_err-format-clause-stops g c in
-    let w = head_read g at.In_ok-loaded (script_read g at.In_ok-script (program_read g at.In_ok-program)) in
+    let w = head_read g at.In_ok-loaded (program g at.In_ok-playable) (script_read g at.In_ok-script (program g at.In_ok-playable)
+    c.in_ok-playable.ensures.found.playable.controls (program_read g at.In_ok-playable)) in
     let q = err_from_is_err_and c.from_residual-in_err-format.result c.from_residual-in_err-format.ensures.1 in
-    rw (q.1, q.2) (stops_fit w c.in_err-format.field-0.0 (sym c.in_err-format.ensures.format))
+    let found = c.in_ok-playable.ensures.found.playable in
+    let run : Run = run_view c.args.run.now in
+    let is = format_is (coding_of run.manner.output) run.settings c.in_ok-playable.ensures.found.compiled.diagram _ _ c.in_ok-loaded.loaded.head
+    (Err c.in_err-format.field-0.0) found.inputs found.outputs c.in_err-format.ensures.format in
+    rw (q.1, q.2) (stops_fit w c.in_err-format.field-0.0 is)
 
 pub returns-in_err-prepared-clause-stops : goal.returns-in_err-prepared-clause-stops
 returns-in_err-prepared-clause-stops g c =
     let at = goal.at.returns-in_err-prepared-clause-stops g c in
-    let w = head_read g at.In_ok-loaded (script_read g at.In_ok-script (program_read g at.In_ok-program)) in
+    let w = head_read g at.In_ok-loaded (program g at.In_ok-playable) (script_read g at.In_ok-script (program g at.In_ok-playable)
+    c.in_ok-playable.ensures.found.playable.controls (program_read g at.In_ok-playable)) in
     let q = err_from_is_err_and c.from_residual-in_err-prepared.result c.from_residual-in_err-prepared.ensures.1 in
     rw (q.1, q.2) (stops_memory w)
 
 -- ---- what is asked of the parts
 
+pub fit-requires-clause-some : goal.fit-requires-clause-some
+fit-requires-clause-some g c =
+    let found = c.in_ok-playable.ensures.found.playable in
+    subst (λ n. 1 ≤ n) (sym found.outputs) found.plays.some
+
+pub fit-requires-clause-few : goal.fit-requires-clause-few
+fit-requires-clause-few g c =
+    let found = c.in_ok-playable.ensures.found.playable in
+    subst (λ n. n ≤ MOST_CHANNELS) (sym found.outputs) found.plays.few
+
+pub load_script-requires : goal.load_script-requires
+load_script-requires g c =
+    let found = c.in_ok-playable.ensures.found.playable in
+    subst (λ (cs : List ControlInfo). length cs < 2 ^ 32) (sym (c.deref.ensures.value ∙ found.controls)) found.plays.controls
+
 pub fit-requires-clause-head : goal.fit-requires-clause-head
 fit-requires-clause-head g c = λ x e. (c.in_ok-loaded.ensures.ranges x e).0
+
+pub take_memory-requires-clause-playable : goal.take_memory-requires-clause-playable
+take_memory-requires-clause-playable g c = let found = c.in_ok-playable.ensures.found in (found.compiled, found.playable)
 
 pub take_memory-requires-clause-lawful : goal.take_memory-requires-clause-lawful
 take_memory-requires-clause-lawful g c =
     let P : List ControlInfo → Type 0 = λ cs. AllByRecursion (IsOfControls cs) c.in_ok-script.script in
-    let same = c.as_slice.ensures ∙ ap (λ (e : Evaluated). e.controls) c.program.view_is in
-    subst P same c.in_ok-script.ensures.lawful
+    subst P c.deref.ensures.value c.in_ok-script.ensures.lawful
 
 pub take_memory-requires-clause-frames : goal.take_memory-requires-clause-frames
 take_memory-requires-clause-frames g c = λ h named.
     let run : Run = run_view c.args.run.now in
-    let d = (compiled_of c.in_ok-program.program).diagram in
-    fits_frames (coding_of run.manner.output) run.settings d h (format_in c.in_ok-format.format)
-    (ap (format_of (coding_of run.manner.output) run.settings d) (sym named) ∙ sym c.in_ok-format.ensures.format)
+    let found = c.in_ok-playable.ensures.found in
+    let d = found.compiled.diagram in
+    let out = coding_of run.manner.output in
+    fits_frames out run.settings d h (format_in c.in_ok-format.format)
+    (ap (format_of out run.settings d) (sym named)
+    ∙ format_is out run.settings d _ _ c.in_ok-loaded.loaded.head (Ok (format_in c.in_ok-format.format)) found.playable.inputs found.playable.outputs
+    c.in_ok-format.ensures.format)
 
 -- ---- what is ready
 
 pub returns-clause-reaches : goal.returns-clause-reaches
 returns-clause-reaches g c =
     let at = goal.at.returns-clause-reaches g c in
-    (head_read g at.In_ok-loaded (script_read g at.In_ok-script (program_read g at.In_ok-program))).reaches
+    (head_read g at.In_ok-loaded (program g at.In_ok-playable) (script_read g at.In_ok-script (program g at.In_ok-playable)
+    c.in_ok-playable.ensures.found.playable.controls (program_read g at.In_ok-playable))).reaches
 
 pub returns-clause-steady : goal.returns-clause-steady
 returns-clause-steady g c =
     let at = goal.at.returns-clause-steady g c in
-    (head_read g at.In_ok-loaded (script_read g at.In_ok-script (program_read g at.In_ok-program))).before
+    (head_read g at.In_ok-loaded (program g at.In_ok-playable) (script_read g at.In_ok-script (program g at.In_ok-playable)
+    c.in_ok-playable.ensures.found.playable.controls (program_read g at.In_ok-playable))).before
 
 pub returns-clause-named : goal.returns-clause-named
 returns-clause-named g c =
     let made = c.in_ok-prepared.ensures.made in
     record { sizes = made.sizes; output = made.output; named = named_is (run_view c.args.run.now).input made c.in_ok-loaded.ensures.named }
 
-pub returns-clause-of : goal.returns-clause-of
-returns-clause-of g c =
-    let at = goal.at.returns-clause-of g c in
-    let w = head_read g at.In_ok-loaded (script_read g at.In_ok-script (program_read g at.In_ok-program)) in
-    files_are w (format_in c.in_ok-format.format) (sym c.in_ok-format.ensures.format) refl refl refl c.in_ok-prepared.ensures.made
+pub returns-clause-ready : goal.returns-clause-ready
+returns-clause-ready g c =
+    let at = goal.at.returns-clause-ready g c in
+    let run : Run = run_view c.args.run.now in
+    let found = c.in_ok-playable.ensures.found in
+    let w = head_read g at.In_ok-loaded (program g at.In_ok-playable) (script_read g at.In_ok-script (program g at.In_ok-playable)
+    c.in_ok-playable.ensures.found.playable.controls (program_read g at.In_ok-playable)) in
+    let made = format_in c.in_ok-format.format in
+    let is = format_is (coding_of run.manner.output) run.settings found.compiled.diagram _ _ c.in_ok-loaded.loaded.head (Ok made) found.playable.inputs
+    found.playable.outputs c.in_ok-format.ensures.format in
+    (found.compiled, c.in_ok-prepared.ensures.can found.compiled found.playable, files_are w made is refl refl refl c.in_ok-prepared.ensures.made)

@@ -4,6 +4,7 @@ use Rattle.fv_base.specs.declared.role.Role.TheVariants.{Output}
 use Rattle.fv_top_words.specs.Commands.{Playing}
 use Rattle.fv_top_words.specs.Views.{run_in as run_view}
 use Rattle.fv_top_report.specs.declared.refusal.Refusal.{Refusal}
+use Rattle.fv_top_text.specs.Compiled.{Compiled}
 use Rattle.fv_top.specs.Promise.{Asks}
 use Rattle.fv_top.specs.Played.{RanSoFar}
 use Rattle.fv_top.specs.inner.Running.{Stopped}
@@ -14,11 +15,14 @@ use Rattle.fv_top.proofs.run.play_run.Goals as goal
 use Rattle.fv_top.proofs.run.play_run.Goals.{In_ok-prepared}
 
 -- what is ready
+abbrev program : (g : Over) (c : In_ok-prepared g) → Compiled
+program g c = c.in_ok-prepared.ensures.ready.0
+
 ready : (g : Over) (c : In_ok-prepared g) {words : List (List ℕ)} → Asks words (Playing (run_view c.args.run))
-    → IsReady words (run_view c.args.run) c.in_ok-prepared.prepared (g.D.Desk.state c.args.desk.now) (g.D.Desk.state c.prepare.new.desk)
+    → IsReady words (run_view c.args.run) (program g c) c.in_ok-prepared.prepared (g.D.Desk.state c.args.desk.now) (g.D.Desk.state c.prepare.new.desk)
 ready g c asks =
     let prepared = c.in_ok-prepared.ensures in
-    record { asks = asks; reaches = prepared.reaches; before = prepared.steady; can = prepared.can; named = prepared.named; of = prepared.of }
+    record { asks = asks; reaches = prepared.reaches; before = prepared.steady; can = prepared.ready.1; named = prepared.named; of = prepared.ready.2 }
 
 -- ---- why it stops
 
@@ -36,7 +40,8 @@ pub returns-in_err-ran-clause-stops : goal.returns-in_err-ran-clause-stops
 returns-in_err-ran-clause-stops g c =
     let at = goal.at.returns-in_err-ran-clause-stops g c in
     let p = err_from_is_err_and c.from_residual-in_err-ran.result c.from_residual-in_err-ran.ensures.1 in
-    let s = c.in_err-ran.ensures.stops in
+    let can = c.in_ok-prepared.ensures.ready in
+    let s = c.in_err-ran.ensures.stops can.0 can.1 in
     let a = g.D.Desk.state c.args.desk.now in
     let b = g.D.Desk.state c.play.new.desk in
     rw (p.1, p.2) (λ words asks.
@@ -46,7 +51,8 @@ pub returns-in_err-ran-clause-so_far : goal.returns-in_err-ran-clause-so_far
 returns-in_err-ran-clause-so_far g c =
     let at = goal.at.returns-in_err-ran-clause-so_far g c in
     let p = err_from_is_err_and c.from_residual-in_err-ran.result c.from_residual-in_err-ran.ensures.1 in
-    let s = c.in_err-ran.ensures.stops in
+    let can = c.in_ok-prepared.ensures.ready in
+    let s = c.in_err-ran.ensures.stops can.0 can.1 in
     let a = g.D.Desk.state c.args.desk.now in
     let before = g.G.Gate.told c.args.gate.now in
     let after = g.G.Gate.told c.play.new.gate in
@@ -57,24 +63,34 @@ returns-in_err-ran-clause-so_far g c =
 pub returns-in-Err-clause-stops : goal.returns-in-Err-clause-stops
 returns-in-Err-clause-stops g c = λ words asks.
     let at = goal.at.returns-in-Err-clause-stops g c in
+    let can = c.in_ok-prepared.ensures.ready in
     let failed = c.in-Err.ensures in
-    stopped_telling (ready g at.In_ok-prepared asks) (g.D.Desk.state c.play.new.desk) c.in_ok-ran.ensures.played (g.D.Desk.state c.report_done.new.desk)
+    stopped_telling (ready g at.In_ok-prepared asks) (g.D.Desk.state c.play.new.desk) (c.in_ok-ran.ensures.played can.0 can.1)
+    (g.D.Desk.state c.report_done.new.desk)
     failed.err failed.failed (λ t sure room. let answered = failed.answers t sure room in absurd cc)
 
 pub returns-in-Err-clause-so_far : goal.returns-in-Err-clause-so_far
 returns-in-Err-clause-so_far g c = λ words asks.
     let at = goal.at.returns-in-Err-clause-so_far g c in
-    inr (blocks_told (ready g at.In_ok-prepared asks) c.in_ok-ran.ensures.ran)
+    let can = c.in_ok-prepared.ensures.ready in
+    inr (blocks_told (ready g at.In_ok-prepared asks) (c.in_ok-ran.ensures.ran can.0 can.1))
 
 -- ---- it is done
 
 pub returns-in-Ok-clause-done : goal.returns-in-Ok-clause-done
 returns-in-Ok-clause-done g c = λ words asks.
     let at = goal.at.returns-in-Ok-clause-done g c in
-    played_whole (ready g at.In_ok-prepared asks) (g.D.Desk.state c.play.new.desk) c.in_ok-ran.ensures.played (g.D.Desk.state c.report_done.new.desk)
+    let can = c.in_ok-prepared.ensures.ready in
+    played_whole (ready g at.In_ok-prepared asks) (g.D.Desk.state c.play.new.desk) (c.in_ok-ran.ensures.played can.0 can.1)
+    (g.D.Desk.state c.report_done.new.desk)
     c.in-Ok.ensures.ok c.in-Ok.ensures.steady
 
 pub returns-in-Ok-clause-blocks : goal.returns-in-Ok-clause-blocks
 returns-in-Ok-clause-blocks g c = λ words asks.
     let at = goal.at.returns-in-Ok-clause-blocks g c in
-    record { job = Playing (run_view c.args.run); asks = asks; blocks = blocks_done {words = words} (ready g at.In_ok-prepared asks) c.in_ok-ran.ensures.ran }
+    let can = c.in_ok-prepared.ensures.ready in
+    record {
+      job = Playing (run_view c.args.run);
+      asks = asks;
+      blocks = blocks_done {words = words} (ready g at.In_ok-prepared asks) (c.in_ok-ran.ensures.ran can.0 can.1);
+    }

@@ -41,14 +41,14 @@ returns-in-Err-clause-report g c = (ends g (goal.at.returns-in-Err-clause-report
 
 pub returns-in-Err-clause-complete : goal.returns-in-Err-clause-complete
 returns-in-Err-clause-complete g c =
-    refused_complete (ends g (goal.at.returns-in-Err-clause-complete g c).After-refuse).cause.cause c.one_program.ensures.once
+    refused_complete (ends g (goal.at.returns-in-Err-clause-complete g c).After-refuse).cause.cause c.one_file.ensures.once
 
 pub returns-in-Err-clause-exact : goal.returns-in-Err-clause-exact
 returns-in-Err-clause-exact g c = refused_exact (ends g (goal.at.returns-in-Err-clause-exact g c).After-refuse).cause.cause
 
 pub returns-in-Err-clause-strict : goal.returns-in-Err-clause-strict
 returns-in-Err-clause-strict g c =
-    refused_strict (ends g (goal.at.returns-in-Err-clause-strict g c).After-refuse).cause.cause c.one_program.ensures.once
+    refused_strict (ends g (goal.at.returns-in-Err-clause-strict g c).After-refuse).cause.cause c.one_file.ensures.once
 
 -- ---- a run that is done
 
@@ -65,4 +65,4 @@ pub returns-clause-exact : goal.returns-clause-exact
 returns-clause-exact g c = done_exact c.in-Ok.tally c.in-Ok.ensures.done.played
 
 pub returns-clause-strict : goal.returns-clause-strict
-returns-clause-strict g c = done_strict c.in-Ok.tally c.one_program.ensures.once c.in-Ok.ensures.done.played
+returns-clause-strict g c = done_strict c.in-Ok.tally c.one_file.ensures.once c.in-Ok.ensures.done.played

@@ -7,7 +7,7 @@ use Rattle.fv_top_report.specs.declared.refusal.Refusal.{Refusal}
 use Rattle.fv_top.specs.Sources.{scripted}
 use Rattle.fv_top_report.specs.Layers.{of_script}
 use Rattle.fv_top.specs.Loading.{HasScript}
-use Rattle.fv_top.specs.Promise.{HasRefusal, ReadScript}
+use Rattle.fv_top.specs.Promise.{IsScriptRefusal}
 use Rattle.fv_top.proofs.Loads.{stops_refused}
 use Rattle.fv_top.proofs.Scripts.{script_is, script_refused, no_script}
 use Rattle.fv_top.proofs.script.load_script.Goals as goal
@@ -20,7 +20,7 @@ returns-in_err-script-in-None-clause-err g c =
     let p = err_from_is_err_and c.from_residual.result c.from_residual.ensures.1 in
     let a = state c.args.desk.now in
     let Says : Refusal → Type 0 = λ r. HasScript None a.files cs (Err r) in
-    rw (p.1, c.in-None.is) (stops_refused Controls None (HasRefusal ReadScript) Says (λ (r : Refusal). script cs [] ≡ Err e) a a _
+    rw (p.1, c.in-None.is) (stops_refused Controls None IsScriptRefusal Says (λ (r : Refusal). script cs [] ≡ Err e) a a _
     (script_refused e _ (script cs [] ≡ Err e) p.2 c.in_err-script-in-None.ensures.refused) (λ t q. let f = sym (no_script cs) ∙ q in absurd cc))
 
 pub returns-in-None-clause-spelled : goal.returns-in-None-clause-spelled
@@ -43,7 +43,7 @@ returns-in_err-script-clause-err g c =
     let name = c.in-Some.name.now in
     let a = state c.args.desk.now in
     let Says : Refusal → Type 0 = λ r. HasScript (Some name) a.files cs (Err r) in
-    rw (p.1, c.in-Some.is, p.2) (stops_refused Controls (Some name) (HasRefusal ReadScript) Says
+    rw (p.1, c.in-Some.is, p.2) (stops_refused Controls (Some name) IsScriptRefusal Says
     (λ (r : Refusal). (r ≡ of_script e) × (script cs bytes ≡ Err e)) a (state c.read_front.new.desk) _
     (script_refused e _ ((of_script e ≡ of_script e) × (script cs bytes ≡ Err e)) refl (λ o. (refl, c.in_err-script.ensures.refused o)))
     (λ t q.

@@ -43,12 +43,12 @@ returns-in_err-program-clause-refused c =
     let is = rw c.in_ok-tree.ensures.tree.tokens at c.in_err-program.ensures.refusal in
     rw q.1 (value_stop c.args.text.now (spelled at) c.in_err-program.field-0.0 _ (spelling at) q.2 is)
 
-pub returns-in_err-check_channels-clause-refused : goal.returns-in_err-check_channels-clause-refused
-returns-in_err-check_channels-clause-refused c =
-    let at = goal.at.returns-in_err-check_channels-clause-refused c in
+pub returns-in_err-check_arity-clause-refused : goal.returns-in_err-check_arity-clause-refused
+returns-in_err-check_arity-clause-refused c =
+    let at = goal.at.returns-in_err-check_arity-clause-refused c in
     let is = value at.In_ok-program (spelling at.In_ok-tree) in
-    let q = err_from_is_err_and c.from_residual-in_err-check_channels.result c.from_residual-in_err-check_channels.ensures.1 in
-    let e = c.in_err-check_channels.ensures.err in
+    let q = err_from_is_err_and c.from_residual-in_err-check_arity.result c.from_residual-in_err-check_arity.ensures.1 in
+    let e = c.in_err-check_arity.ensures.err in
     rw (q.1, q.2) (inr (e.0, width_stop c.args.text.now (compiled_of c.in_ok-program.program) _ is e.1))
 
 pub returns-in_err-delays-clause-refused : goal.returns-in_err-delays-clause-refused
@@ -57,10 +57,10 @@ returns-in_err-delays-clause-refused c =
     let is = value at.In_ok-program (spelling at.In_ok-tree) in
     let q = err_from_is_err_and c.from_residual-in_err-delays.result c.from_residual-in_err-delays.ensures.1 in
     let p = compiled_of c.in_ok-program.program in
-    rw (q.1, q.2) (⊎_elim (λ m. inl m) (λ e. inr (e.0, delay_stop c.args.text.now p _ is c.in_ok-check_channels.ensures.ok e.1)) c.in_err-delays.ensures.err)
+    rw (q.1, q.2) (⊎_elim (λ m. inl m) (λ e. inr (e.0, delay_stop c.args.text.now p _ is c.in_ok-check_arity.ensures.ok e.1)) c.in_err-delays.ensures.err)
 
 pub returns-clause-found : goal.returns-clause-found
 returns-clause-found c =
     let at = goal.at.returns-clause-found c in
     let is = value at.In_ok-program (spelling at.In_ok-tree) in
-    program_is c.args.text.now (compiled_of c.in_ok-program.program) is c.in_ok-check_channels.ensures.ok c.in_ok-delays.ensures.ok
+    program_is c.args.text.now (compiled_of c.in_ok-program.program) is c.in_ok-check_arity.ensures.ok c.in_ok-delays.ensures.ok

@@ -1,0 +1,15 @@
+-- A program as what is played of it (this project's profile).
+use Rattle.std.specs.Prelude.{◌≡◌}
+use Rattle.fv_diagram.specs.Diagram.{inputs, outputs}
+use Rattle.fv_engine_render.specs.Plans.{IsGraphOf}
+use Rattle.fv_interval.specs.Controls.{spans_of}
+use Rattle.fv_top_text.specs.Compiled.{Compiled, CanPlay}
+use Rattle.fv_top_playable.specs.declared.playable.Playable.{Playable}
+
+-- a graph that gives what the program's diagram gives, as many inputs and outputs, and the program's controls
+pub record IsPlayable (c : Compiled) (p : Playable) : Type 0 where
+  pub plays : CanPlay c
+  pub graph : IsGraphOf c.diagram (spans_of c.controls) p.graph
+  pub inputs : p.inputs ≡ inputs c.diagram
+  pub outputs : p.outputs ≡ outputs c.diagram
+  pub controls : p.controls.items ≡ c.controls

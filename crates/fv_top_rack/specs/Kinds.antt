@@ -1,0 +1,41 @@
+-- What the file of a run's program is, by its kind (this project's profile).
+use Rattle.std.specs.Prelude.{◌≡◌, ℕ, Bool, ◌||◌, ◌==◌, IsTrue, List, take, Result, Ok}
+use Rattle.fv_top_words.specs.declared.manner.ProgramKind.{ProgramKind}
+use Rattle.fv_top_words.specs.declared.manner.ProgramKind.TheVariants.{Alone, Rack}
+use Rattle.fv_top_report.specs.declared.refusal.Refusal.{Refusal}
+use Rattle.fv_top_report.specs.Lines.{row_of}
+use Rattle.fv_top_text.specs.Answers.{IsOnce, RefusesOthers}
+use Rattle.fv_top_text.specs.Compiled.{Compiled}
+use Rattle.fv_top_text.specs.Program.{TextIs, is_of_program, bytes_read}
+use Rattle.fv_top_rack.specs.Racks.{RackIs}
+
+-- what a file of this kind is: the program that is played, or why it is refused
+abbrev pub FileIs : ProgramKind → List ℕ → Result Compiled Refusal → Type 0
+FileIs Alone = TextIs
+FileIs Rack = RackIs
+
+-- the numbers of the refusals of a file of this kind
+abbrev pub is_of_kind : ProgramKind → ℕ → Bool
+is_of_kind Alone n = is_of_program n
+is_of_kind Rack n = (n == 4) || (n == 28) || (n == 29) || (n == 46) || (n == 47)
+
+-- the refusal is one of them
+abbrev pub IsOfKind : ProgramKind → Refusal → Type 0
+IsOfKind kind refusal = IsTrue (is_of_kind kind (row_of refusal).number)
+
+-- A file is one thing at most: one program, or refused for one thing.
+abbrev pub IsOneFile : Type 0
+IsOneFile = (kind : ProgramKind) → IsOnce (FileIs kind)
+
+-- What is no program is refused for something.
+abbrev pub IsOneOrOther : Type 0
+IsOneOrOther = (kind : ProgramKind) → RefusesOthers (FileIs kind)
+
+-- What the bytes are that are read of a file, the whole file is.
+abbrev pub FrontIsEnough : Type 0
+FrontIsEnough =
+    (kind : ProgramKind) (file bytes : List ℕ) (r : Result Compiled Refusal) → bytes ≡ take bytes_read file → FileIs kind bytes r → FileIs kind file r
+
+-- Where they are a program, they are the whole file.
+abbrev pub ProgramIsWhole : Type 0
+ProgramIsWhole = (kind : ProgramKind) (file bytes : List ℕ) (p : Compiled) → bytes ≡ take bytes_read file → FileIs kind bytes (Ok p) → file ≡ bytes

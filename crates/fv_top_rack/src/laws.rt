@@ -1,0 +1,41 @@
+// Laws of files of programs.
+
+ghost use Rattle.fv_top_rack.specs.Kinds.{IsOneFile, IsOneOrOther, FrontIsEnough, ProgramIsWhole};
+ghost use Rattle.fv_top_rack.specs.Runs.{JobsAnswer, RunsAgree};
+
+use fv_diagram::answers_alike;
+use fv_jobs_controls::jobs_hear_their_changes;
+use fv_join_diagrams::{parts_answer, parts_are_whole};
+use fv_rules::evaluates_soundly;
+use fv_top_text::one_program;
+
+/// A file of each kind is one program, or it is refused for one thing, and never both.
+pub fn one_file()
+    ensures once { IsOneFile }
+    ensures either { IsOneOrOther }
+{
+    one_program();
+}
+
+/// A file of which no more than one byte past its limit was read is what is read of it.
+pub fn front_is_enough()
+    ensures same { FrontIsEnough }
+    ensures whole { ProgramIsWhole }
+{
+    fv_top_text::front_is_enough();
+    fv_jobs::front_is_enough();
+}
+
+/// A job answers, beside the others, what its program answers alone; so it is the same in every run that agrees on its text, its
+/// columns and its changes.
+pub fn jobs_answer()
+    ensures answer { JobsAnswer }
+    ensures agree { RunsAgree }
+{
+    answers_alike();
+    jobs_hear_their_changes();
+    parts_answer();
+    parts_are_whole();
+    evaluates_soundly();
+    one_program();
+}
