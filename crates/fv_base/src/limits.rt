@@ -12,6 +12,17 @@ pub const SIZE_LIMIT: u32 = 16_384;
 /// How many visits an evaluation may make.
 pub const VISIT_LIMIT: u32 = 1_000_000;
 
+/// How many diagrams an evaluation may keep. A form makes five at most at a visit, but for an abstraction of many parameters as
+/// a diagram and a diagram of many inputs on few arguments, which would take all memory before the visits end.
+pub const MOST_DIAGRAMS: u64 = 8_388_608;
+
+/// How many scopes it may keep, and how many arguments of rules. A visit makes one at most, but for a pattern of many names.
+pub const MOST_SCOPES: u64 = 2_097_152;
+
+/// How much the tables of a program may cost together: a waveform costs its numbers, and a table as many times its head's size
+/// as it has numbers.
+pub const TABLE_LIMIT: u64 = 16_777_216;
+
 /// How many samples a delay may be long.
 pub const DELAY_LIMIT: u32 = 1_048_575;
 
@@ -29,6 +40,9 @@ pub const MOST_VECTORS: u32 = 64;
 
 /// How many workers a run may ask for.
 pub const MOST_WORKERS: u32 = 16;
+
+/// How many jobs a file of jobs may have.
+pub const MOST_JOBS: u64 = 16;
 
 /// How many voices may be made.
 pub const MOST_VOICES: u32 = 64;

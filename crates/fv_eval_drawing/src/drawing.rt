@@ -13,11 +13,10 @@ ghost use Rattle.fv_rules.specs.Steps.{put};
 ghost use Rattle.fv_rules.specs.Puts.{Puts};
 ghost use Rattle.fv_eval_drawing.specs.Makes.{AddsDiagrams, AreComposed, Draws, Extends, IsLeaf, IsThere, Makes};
 
+use fv_base::limits::MOST_DIAGRAMS;
 use fv_diagram::{Arity, DiagramId, Diagrams, Node};
 use fv_parse::TreeId;
-use fv_rules::{
-    Bindings, Definitions, EvalRefusal, MOST_DIAGRAMS, Numbers, Ruled, Value, put, too_many_to_keep,
-};
+use fv_rules::{Bindings, Definitions, EvalRefusal, Numbers, Ruled, Value, put, too_many_to_keep};
 use std::alloc::{AllocError, Global};
 use std::marker::Model;
 

@@ -13,9 +13,10 @@ ghost use Rattle.fv_eval_drawing.specs.Makes.{AddsDiagrams, AreThere, Extends, M
 ghost use Rattle.fv_eval_drawing.specs.inner.Tables.{GrowsBy, PutsTable, as_table, table_primitive, writes_of};
 
 use crate::drawing::Drawing;
+use fv_base::limits::TABLE_LIMIT;
 use fv_diagram::{DiagramId, Node, Prim};
 use fv_diagram_head::{Pieces, first_of, head_and_rest, is_head, numbers};
-use fv_rules::{EvalRefusal, TABLE_LIMIT, TableCause};
+use fv_rules::{EvalRefusal, TableCause};
 use std::alloc::AllocError;
 
 impl Drawing {

@@ -1,8 +1,7 @@
 -- What a file of jobs is read as (this project's profile).
 use Rattle.std.specs.Prelude.{◌≡◌, ℕ, ◌+◌, nat_le, List, length, take, Result, Ok, Err, if◌then◌else◌}
-use Rattle.fv_base.specs.declared.limits.TheConstants.{LONGEST_TEXT}
+use Rattle.fv_base.specs.declared.limits.TheConstants.{LONGEST_TEXT, MOST_JOBS}
 use Rattle.fv_base.specs.declared.role.Role.TheVariants.{Program}
-use Rattle.fv_jobs.specs.declared.jobs.TheConstants.{MOST_JOBS}
 use Rattle.fv_jobs.specs.declared.refusal.JobsRefusal.{JobsRefusal}
 use Rattle.fv_jobs.specs.declared.refusal.JobsRefusal.TheVariants.{TextTooLong, RackSize, NoMemory}
 use Rattle.fv_jobs.specs.Jobs.{jobs_in}

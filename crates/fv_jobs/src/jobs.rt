@@ -7,12 +7,9 @@ ghost use Rattle.fv_jobs.specs.File.{jobs_file, IsOfJobs};
 use crate::cutting::{count, cut};
 use crate::refusal::JobsRefusal;
 use fv_base::Role;
-use fv_base::limits::LONGEST_TEXT;
+use fv_base::limits::{LONGEST_TEXT, MOST_JOBS};
 use std::alloc::Global;
 use std::marker::Model;
-
-/// How many jobs a file may have.
-pub const MOST_JOBS: u64 = 16;
 
 /// The texts of a file's jobs, in order. They lie in the file.
 #[derive(Debug, Drop)]

@@ -6,6 +6,6 @@ mod jobs;
 mod laws;
 mod refusal;
 
-pub use jobs::{Jobs, MOST_JOBS};
+pub use jobs::Jobs;
 pub use laws::{front_is_enough, jobs_are_between};
 pub use refusal::JobsRefusal;

@@ -1,7 +1,7 @@
 -- A tree with one value more.
 use Rattle.std.proofs.Common.{◌≡◌, ◌⊎◌, inl, inr, ℕ, zero, suc, ◌+◌, ◌-◌, ◌%◌, ◌/◌, ◌<◌, ◌≤◌, arith, List}
 use Rattle.std.proofs.Common.{[], ◌∷◌, ◌++◌, length, Some, refl, sym, ap, subst, ◌∙◌}
-use Rattle.std.proofs.Common.{append_assoc, length-append}
+use Rattle.std.proofs.Common.{append_assoc, append-nil, length-append}
 use Rattle.std.specs.Prelude.{slice_get}
 use Rattle.std.proofs.lemmas.List.{length_push}
 use Rattle.fv_rules.specs.declared.tries.Fork.{Fork}
@@ -40,11 +40,7 @@ pub there_on : (old new : List Fork) (n node : ℕ) → IsGrown old new → AreT
 there_on old new n node g h = subst (λ fs. AreThere fs n node) (sym g.1) (there_stay old g.0 n node h)
 
 pub grown_none : (old : List Fork) → IsGrown old old
-grown_none old = ([], sym (append_nil old))
-  where
-    append_nil : (xs : List Fork) → xs ++ [] ≡ xs
-    append_nil [] = refl
-    append_nil (x ∷ xs) = ap (λ ys. x ∷ ys) (append_nil xs)
+grown_none old = ([], sym (append-nil old))
 
 pub grown_more : (old mid new : List Fork) (f : Fork) → IsGrown old mid → new ≡ mid ++ f ∷ [] → IsGrown old new
 grown_more old mid new f g e = (g.0 ++ f ∷ [], e ∙ ap (λ xs. xs ++ f ∷ []) g.1 ∙ append_assoc old g.0 (f ∷ []))

@@ -3,7 +3,7 @@ use Rattle.std.specs.Prelude.{ℕ, zero, suc, ◌+◌, ◌*◌, Bool, true, fals
 use Rattle.std.specs.Prelude.{ℤ, pos, negsuc, Option, Some, None, Result, Ok, Err, if◌then◌else◌, bytes_eq}
 use Rattle.std.specs.Ordering.{int_eq}
 use Rattle.std.specs.Prelude.{int_le}
-use Rattle.fv_rules.specs.declared.putting.TheConstants.{TABLE_LIMIT}
+use Rattle.fv_base.specs.declared.limits.TheConstants.{TABLE_LIMIT}
 use Rattle.fv_lex.specs.Token.{Lexed}
 use Rattle.fv_arity.specs.declared.refusal.ArityKind.TheVariants as kind
 use Rattle.fv_num.specs.Words.{argument}

@@ -22,9 +22,7 @@ pub use literals::{literal, negative_literal};
 pub use lookup::Definitions;
 pub use matching::{Bindings, matches};
 pub use memo::{Known, Numbers};
-pub use putting::{TABLE_LIMIT, put};
-pub use refusal::{
-    EvalRefusal, MOST_DIAGRAMS, MOST_SCOPES, TableCause, too_many_to_count, too_many_to_keep,
-};
+pub use putting::put;
+pub use refusal::{EvalRefusal, TableCause, too_many_to_count, too_many_to_keep};
 pub use scopes::Scopes;
 pub use value::{Argument, Binding, Meaning, Ruled, Scope, Value};

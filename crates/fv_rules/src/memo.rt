@@ -8,7 +8,8 @@ ghost use Rattle.fv_diagram_number.specs.Numbers.{number_of};
 ghost use Rattle.fv_rules.specs.Matching.{number_or};
 ghost use Rattle.fv_rules.specs.Memo.{Remembers, AddsIntegers, IsKnown};
 
-use crate::refusal::{MOST_DIAGRAMS, too_many_to_keep};
+use crate::refusal::too_many_to_keep;
+use fv_base::limits::MOST_DIAGRAMS;
 use fv_diagram::{Arity, DiagramId, Diagrams, Node, PutRefusal};
 use fv_diagram_number::number_of;
 use std::alloc::{AllocError, Global};

@@ -10,10 +10,6 @@ use crate::refusal::EvalRefusal;
 use fv_arity::{ArityRefusal, arity_of};
 use fv_diagram::{DiagramId, Diagrams, Node, PutRefusal};
 
-/// How much the tables of a program may cost together: a waveform costs its numbers, and a table as many times its head's size
-/// as it has numbers.
-pub const TABLE_LIMIT: u64 = 16_777_216;
-
 /// Puts a node over diagrams as it is: its arity is tried first, then its size.
 pub fn put(diagrams: &mut Diagrams, node: &Node) -> Result<DiagramId, EvalRefusal>
     requires children { ChildrenBelow (count_of diagrams.old) node.now }

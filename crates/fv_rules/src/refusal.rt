@@ -82,13 +82,6 @@ pub enum EvalRefusal {
     NoMemory,
 }
 
-/// How many diagrams an evaluation may keep. A form makes five at most at a visit, but for an abstraction of many parameters as
-/// a diagram and a diagram of many inputs on few arguments, which would take all memory before the visits end.
-pub const MOST_DIAGRAMS: u64 = 8_388_608;
-
-/// How many scopes it may keep, and how many arguments of rules. A visit makes one at most, but for a pattern of many names.
-pub const MOST_SCOPES: u64 = 2_097_152;
-
 /// There is more than an evaluation may keep: a want of memory that is no allocation's.
 pub fn too_many_to_keep() -> AllocError
     ensures { result ≡ alloc_error }

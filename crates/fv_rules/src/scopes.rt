@@ -9,9 +9,10 @@ ghost use Rattle.fv_rules.specs.declared.value.Value.{Value as AValue};
 ghost use Rattle.fv_rules.specs.Matching.{Bindings, bound_in};
 ghost use Rattle.fv_rules.specs.Shows.{World, ShowsEnv, ShowsTaken, ShowsValues, ShowsBindings, Grows};
 
-use crate::refusal::{MOST_SCOPES, too_many_to_keep};
+use crate::refusal::too_many_to_keep;
 use crate::value::{Argument, Binding, Ruled, Scope, Value};
 use crate::ways::Ways;
+use fv_base::limits::MOST_SCOPES;
 use fv_parse::TreeId;
 use std::alloc::{AllocError, Global};
 use std::marker::Model;

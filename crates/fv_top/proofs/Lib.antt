@@ -9,4 +9,6 @@ pub mod Making
 pub mod Ran
 pub mod Playing
 pub mod Stopping
+pub mod Delivering
+pub mod Refused
 pub mod Completing

@@ -2,7 +2,7 @@
 
 ghost use Rattle.std.specs.Prelude.{◌≡◌, ◌≤◌, ◌<◌, length, map, All, IfOk};
 ghost use Rattle.fv_engine_render.specs.SideBySide.{AreJobsOf, IsJobOf};
-ghost use Rattle.fv_jobs.specs.declared.jobs.TheConstants.{MOST_JOBS};
+ghost use Rattle.fv_base.specs.declared.limits.TheConstants.{MOST_JOBS};
 ghost use Rattle.fv_jobs_controls.specs.Labels.{controls_of};
 ghost use Rattle.fv_top_text.specs.Compiled.{compiled_of, CanPlay};
 ghost use Rattle.fv_top_rack.specs.Racks.{part_of, rack_of};

@@ -1,5 +1,5 @@
 -- The delays of parts side by side are those of each part, one part behind another.
-use Rattle.std.proofs.Common.{◌≡◌, ℕ, zero, suc, ◌+◌, ◌<◌, ◌≤◌, List, [], ◌∷◌, ◌++◌, length, take, drop, refl, sym, ap, ap₂, ◌∙◌, arith, pos, append_assoc}
+use Rattle.std.proofs.Common.{◌≡◌, ℕ, zero, suc, ◌+◌, ◌<◌, ◌≤◌, List, [], ◌∷◌, ◌++◌, length, take, drop, refl, sym, ap, ap₂, ◌∙◌, arith, pos, append_assoc, append-nil}
 use Rattle.std.specs.Prelude.{flat_map, max}
 use Rattle.std.proofs.Math.Seq.{take-append_seam, drop-append_seam}
 use Rattle.std.proofs.Math.Nat.{le-max_left, le-max_right}
@@ -107,11 +107,7 @@ module _ (n : ℕ) (c d : ℕ → Interval) where
 full_beside : (m k : ℕ) → table (m + k) (λ i. full) ≡ table m (λ i. full) ++ table k (λ i. full)
 full_beside m zero =
     let none : m + 0 ≡ m = omega arith in
-    ap (λ n. table n (λ i. full)) none ∙ sym (append_nil (table m (λ i. full)))
-  where
-    append_nil : (xs : List Interval) → xs ++ [] ≡ xs
-    append_nil [] = refl
-    append_nil (x ∷ xs) = ap (λ ys. x ∷ ys) (append_nil xs)
+    ap (λ n. table n (λ i. full)) none ∙ sym (append-nil (table m (λ i. full)))
 full_beside m (suc k) =
     let more : m + suc k ≡ suc (m + k) = omega arith in
     ap (λ n. table n (λ i. full)) more

@@ -6,7 +6,7 @@ use Rattle.fv_diagram.specs.Diagram.{inputs, outputs}
 use Rattle.fv_interval.specs.declared.refusal.DelayRefusal.TheVariants as delay
 use Rattle.fv_interval.specs.Delays.{AreDelays, amounts, delay_budget}
 use Rattle.fv_base.specs.declared.role.Role.TheVariants.{Program}
-use Rattle.fv_jobs.specs.declared.jobs.TheConstants.{MOST_JOBS}
+use Rattle.fv_base.specs.declared.limits.TheConstants.{MOST_JOBS}
 use Rattle.fv_jobs.specs.declared.refusal.JobsRefusal.{JobsRefusal}
 use Rattle.fv_jobs.specs.declared.refusal.JobsRefusal.TheVariants as jobs
 use Rattle.fv_jobs.specs.File.{IsOfJobs, counted, jobs_file}

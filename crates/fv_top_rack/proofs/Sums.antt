@@ -4,6 +4,7 @@ use Rattle.std.specs.Prelude.{false, ◌||◌, flat_map, sum}
 use Rattle.std.specs.List.{sum_by}
 use Rattle.std.proofs.lemmas.List.{length-append, length-map, map-append}
 use Rattle.std.proofs.lemmas.List.Elements.{All-append, All-map, All-nil, All-head, All-tail}
+use Rattle.std.proofs.lemmas.List.Folds.{flat_map-map}
 use Rattle.std.proofs.lemmas.List.Sums.{sum-map, sum_by-append, sum_by-cons, sum_by-le}
 use Rattle.fv_base.specs.declared.limits.TheConstants.{MOST_CHANNELS}
 use Rattle.fv_diagram.specs.Controls.{IsBounded}
@@ -28,10 +29,6 @@ pub sum_by_map : {X Y : Type 0} (f : Y → ℕ) (g : X → Y) (xs : List X) → 
 sum_by_map f g [] = refl
 sum_by_map f g (x ∷ xs) =
     sum_by-cons f (g x) (map g xs) ∙ ap (λ n. f (g x) + n) (sum_by_map f g xs) ∙ sym (sum_by-cons (λ y. f (g y)) x xs)
-
-flat_map_map : {X Y A : Type 0} (f : Y → List A) (g : X → Y) (xs : List X) → flat_map f (map g xs) ≡ flat_map (λ x. f (g x)) xs
-flat_map_map f g [] = refl
-flat_map_map f g (x ∷ xs) = ap (λ ys. f (g x) ++ ys) (flat_map_map f g xs)
 
 -- ---- controls
 
@@ -74,7 +71,7 @@ pub delays_of_rack : (ps : List Compiled) → All CanPlay ps → delays_in (rack
 delays_of_rack ps h =
     ap (delays_of (side_by_side 0 (map part_of ps))) (spans_are 0 ps)
     ∙ delays_beside (map part_of ps) (have_own ps h)
-    ∙ flat_map_map (λ (p : Part). delays_of p.diagram p.spans) part_of ps
+    ∙ flat_map-map (λ (p : Part). delays_of p.diagram p.spans) part_of ps
 
 none_refused : (ps : List Compiled) → All (λ (p : Compiled). AreDelays (delays_in p)) ps → AreDelays (flat_map delays_in ps)
 none_refused [] h = All-nil IsDelay

@@ -3,7 +3,7 @@ use Rattle.std.specs.Prelude.{◌≤◌, ◌<◌, List, length, map, All}
 use Rattle.fv_diagram.specs.Arena.{count_of}
 use Rattle.fv_interval.specs.Delays.{AreAccepted}
 use Rattle.fv_rules.specs.Rules.{visit_limit}
-use Rattle.fv_jobs.specs.declared.jobs.TheConstants.{MOST_JOBS}
+use Rattle.fv_base.specs.declared.limits.TheConstants.{MOST_JOBS}
 use Rattle.fv_top_text.specs.Compiled.{Compiled, compiled_of, CanPlay}
 use Rattle.fv_top_text.specs.Program.{delays_in}
 use Rattle.fv_top_rack.specs.Racks.{rack_of}

@@ -4,7 +4,7 @@ ghost use Rattle.std.specs.Prelude.{◌≡◌, ◌⊎◌, ◌≤◌, ◌<◌, �
 ghost use Rattle.std.specs.List.{sum_by};
 ghost use Rattle.fv_diagram.specs.Diagram.{inputs, outputs};
 ghost use Rattle.fv_interval.specs.Delays.{delay_budget};
-ghost use Rattle.fv_jobs.specs.declared.jobs.TheConstants.{MOST_JOBS};
+ghost use Rattle.fv_base.specs.declared.limits.TheConstants.{MOST_JOBS};
 ghost use Rattle.fv_top_report.specs.declared.refusal.Refusal.{Refusal as Refusals};
 ghost use Rattle.fv_top_report.specs.declared.refusal.Refusal.TheVariants.{DelayBudget, NoMemory};
 ghost use Rattle.fv_top_report.specs.Lines.{row_of};

@@ -8,7 +8,8 @@ use Rattle.fv_top_text.specs.Compiled.{Compiled}
 use Rattle.fv_top.specs.Promise.{Asks}
 use Rattle.fv_top.specs.Played.{RanSoFar}
 use Rattle.fv_top.specs.inner.Running.{Stopped}
-use Rattle.fv_top.proofs.Stopping.{IsReady, stopped_before, stopped_playing, stopped_telling, played_whole, blocks_stopped, blocks_told, blocks_done}
+use Rattle.fv_top.proofs.Stopping.{stopped_before}
+use Rattle.fv_top.proofs.Delivering.{IsReady, stopped_playing, stopped_telling, played_whole, blocks_stopped, blocks_told, blocks_done}
 use Rattle.fv_top.proofs.Ran.{untold_first}
 use Rattle.fv_top.proofs.run.play_run.Given.{Over}
 use Rattle.fv_top.proofs.run.play_run.Goals as goal

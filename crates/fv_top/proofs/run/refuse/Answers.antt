@@ -1,4 +1,4 @@
-use Rattle.fv_top.proofs.Stopping.{line_reported}
+use Rattle.fv_top.proofs.Refused.{line_reported}
 use Rattle.fv_top.proofs.run.refuse.Goals as goal
 
 pub returns : goal.returns

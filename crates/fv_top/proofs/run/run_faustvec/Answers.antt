@@ -3,7 +3,7 @@ use Rattle.std.specs.Prelude.{string_bytes}
 use Rattle.fv_top.specs.inner.Running.{EndsRefused}
 use Rattle.fv_base.specs.declared.role.Role.TheVariants.{Output}
 use Rattle.fv_top.proofs.Ran.{so_far_later}
-use Rattle.fv_top.proofs.Stopping.{ends_refused}
+use Rattle.fv_top.proofs.Refused.{ends_refused}
 use Rattle.fv_top.proofs.Completing.{done_exact, done_strict, refused_exact, refused_strict, refused_complete}
 use Rattle.fv_top.proofs.run.run_faustvec.Given.{Over}
 use Rattle.fv_top.proofs.run.run_faustvec.Goals as goal

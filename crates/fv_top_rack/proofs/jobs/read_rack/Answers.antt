@@ -2,10 +2,9 @@ use Rattle.std.proofs.Common.{◌≡◌, ℕ, ◌≤◌, length, ap, ◌∙◌, 
 use Rattle.std.specs.Prelude.{sum}
 use Rattle.std.specs.List.{sum_by}
 use Rattle.std.proofs.lemmas.Result.{err_from_is_err_and}
-use Rattle.fv_base.specs.declared.limits.TheConstants.{MOST_CHANNELS}
+use Rattle.fv_base.specs.declared.limits.TheConstants.{MOST_CHANNELS, MOST_JOBS}
 use Rattle.fv_diagram.specs.Diagram.{inputs, outputs}
 use Rattle.fv_interval.specs.Delays.{amounts}
-use Rattle.fv_jobs.specs.declared.jobs.TheConstants.{MOST_JOBS}
 use Rattle.fv_top_text.specs.Compiled.{Compiled, compiled_of}
 use Rattle.fv_top_text.specs.Program.{delays_in}
 use Rattle.fv_top_rack.specs.Racks.{rack_of}
