@@ -9,11 +9,11 @@ use Rattle.fv_parse_grammar.specs.Tree.{Tree, items}
 use Rattle.fv_parse_grammar.specs.Tree as tree
 use Rattle.fv_parse.specs.Trees.{Parsed, size_of, tree_in}
 use Rattle.fv_rules.specs.declared.refusal.EvalRefusal.{EvalRefusal}
-use Rattle.fv_rules.specs.declared.value.Value as code_value
+use Rattle.fv_eval_scopes.specs.declared.value.Value as code_value
 use Rattle.fv_rules.specs.Values.{Value, Env}
 use Rattle.fv_rules.specs.Steps.{State}
-use Rattle.fv_rules.specs.Shows.{ShowsEnv, ShowsTree, ShowsValue, ShowsValues}
-use Rattle.fv_rules.proofs.Grown.{tree_grows, value_grows, values_grow}
+use Rattle.fv_eval_scopes.specs.Shows.{ShowsEnv, ShowsTree, ShowsValue, ShowsValues}
+use Rattle.fv_eval_scopes.proofs.Grown.{tree_grows, value_grows, values_grow}
 use Rattle.fv_eval_machine.specs.Machine.{Argument, Continuation, Valued, Visit, Config, Running, apply, next_argument}
 use Rattle.fv_eval.specs.declared.continuation.Continuation.TheVariants as continuation
 use Rattle.fv_eval.specs.declared.continuation.ForValue.TheVariants as valued

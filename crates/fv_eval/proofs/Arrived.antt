@@ -8,12 +8,12 @@ use Rattle.fv_parse_grammar.specs.declared.form.Slider.{Slider as SliderKind}
 use Rattle.fv_parse.specs.Trees.{Parsed}
 use Rattle.fv_diagram.specs.declared.control.ControlKind.{ControlKind}
 use Rattle.fv_rules.specs.declared.refusal.EvalRefusal.{EvalRefusal}
-use Rattle.fv_rules.specs.declared.value.Value as code_value
+use Rattle.fv_eval_scopes.specs.declared.value.Value as code_value
 use Rattle.fv_rules.specs.Values.{Value, Env}
 use Rattle.fv_rules.specs.Matching.{settled, value_number}
 use Rattle.fv_rules.specs.Rules.{read_number, slider_kind}
-use Rattle.fv_rules.specs.Shows.{ShowsTree, ShowsValue, ShowsValues, ShowsEnv}
-use Rattle.fv_rules.proofs.Grown.{tree_grows, value_grows, env_grows, values_grow}
+use Rattle.fv_eval_scopes.specs.Shows.{ShowsTree, ShowsValue, ShowsValues, ShowsEnv}
+use Rattle.fv_eval_scopes.proofs.Grown.{tree_grows, value_grows, env_grows, values_grow}
 use Rattle.fv_eval_machine.specs.Machine.{ForValue, Function, Argument, Leftover, Parameter, ForDiagram, Continuation, Valued, Drawn}
 use Rattle.fv_eval_machine.specs.Machine.{apply, arrives, next_argument}
 use Rattle.fv_eval_machine.specs.Machine.{parameter_read, to_diagram, value_arrives}

@@ -9,15 +9,15 @@ use Rattle.fv_parse_tree.specs.Arena.{forest, trees}
 use Rattle.fv_parse_tree.specs.declared.node.TreeId.{TreeId}
 use Rattle.fv_parse.specs.Trees.{Parsed, size_of, tree_in, text_of, label_of}
 use Rattle.fv_rules.specs.declared.refusal.EvalRefusal.{EvalRefusal}
-use Rattle.fv_rules.specs.declared.value.Value.TheVariants as value
-use Rattle.fv_rules.specs.declared.value.Ruled.TheVariants as ruled
-use Rattle.fv_rules.specs.declared.value.Scope.TheVariants as scope
-use Rattle.fv_rules.specs.Environments.{Environments, with_scope}
+use Rattle.fv_eval_scopes.specs.declared.value.Value.TheVariants as value
+use Rattle.fv_eval_scopes.specs.declared.value.Ruled.TheVariants as ruled
+use Rattle.fv_eval_scopes.specs.declared.value.Scope.TheVariants as scope
+use Rattle.fv_eval_scopes.specs.Environments.{Environments, with_scope}
 use Rattle.fv_rules.specs.Values.{Env, Scope, Abstraction, Rules, Nothing, rule_of}
 use Rattle.fv_rules.specs.Steps.{State, no_diagram}
 use Rattle.fv_rules.specs.Rules.{slider_kind}
-use Rattle.fv_rules.specs.Shows.{ShowsTree, ShowsEnv, body_in, parameters_in, case_in}
-use Rattle.fv_rules.proofs.Grown.{opened_shows}
+use Rattle.fv_eval_scopes.specs.Shows.{ShowsTree, ShowsEnv, body_in, parameters_in, case_in}
+use Rattle.fv_eval_scopes.proofs.Grown.{opened_shows}
 use Rattle.fv_eval_machine.specs.Machine.{Continuation, Visit, Running, Ended, begin, next_parameter}
 use Rattle.fv_eval.specs.declared.continuation.Focus as code_focus
 use Rattle.fv_eval.specs.declared.continuation.Focus.TheVariants as focus

@@ -9,21 +9,21 @@ use Rattle.fv_parse_tree.specs.declared.node.TreeId.{TreeId}
 use Rattle.fv_diagram.specs.Arena.{Arena, count_of}
 use Rattle.fv_eval_drawing.specs.Makes.{Canvas, IsThere as IsDrawn}
 use Rattle.fv_rules.specs.declared.refusal.EvalRefusal.{EvalRefusal}
-use Rattle.fv_rules.specs.declared.value.Value as code_value
-use Rattle.fv_rules.specs.declared.value.Value.TheVariants as value
-use Rattle.fv_rules.specs.declared.value.Ruled.{Ruled}
-use Rattle.fv_rules.specs.declared.value.Scope.TheVariants as scope
-use Rattle.fv_rules.specs.declared.value.Argument as code_argument
-use Rattle.fv_rules.specs.declared.value.Binding as code_binding
-use Rattle.fv_rules.specs.Environments.{Environments, with_scope}
+use Rattle.fv_eval_scopes.specs.declared.value.Value as code_value
+use Rattle.fv_eval_scopes.specs.declared.value.Value.TheVariants as value
+use Rattle.fv_eval_scopes.specs.declared.value.Ruled.{Ruled}
+use Rattle.fv_eval_scopes.specs.declared.value.Scope.TheVariants as scope
+use Rattle.fv_eval_scopes.specs.declared.value.Argument as code_argument
+use Rattle.fv_eval_scopes.specs.declared.value.Binding as code_binding
+use Rattle.fv_eval_scopes.specs.Environments.{Environments, with_scope}
 use Rattle.fv_rules.specs.Values.{Value, Flat, Abstraction, Rules, Env, Bound, Taken, Nothing, And, in_order}
 use Rattle.fv_rules.specs.Matching.{Bindings, bound_in, chosen}
 use Rattle.fv_rules.specs.Steps.{no_rule}
-use Rattle.fv_rules.specs.Shows.{World, Grows, IsInside, ShowsBindings, ShowsEnv, ShowsTaken, ShowsTree, ShowsValue, ShowsValues, body_in, parameters_in}
-use Rattle.fv_rules.specs.Shows.{rules_in}
-use Rattle.fv_rules.specs.Choosing.{with_diagrams}
-use Rattle.fv_rules.specs.Chosen.{ShowsChoice}
-use Rattle.fv_rules.proofs.Grown.{env_grows, tree_grows, values_grow}
+use Rattle.fv_eval_scopes.specs.Shows.{World, Grows, IsInside, ShowsBindings, ShowsEnv, ShowsTaken, ShowsTree, ShowsValue, ShowsValues, body_in, parameters_in}
+use Rattle.fv_eval_scopes.specs.Shows.{rules_in}
+use Rattle.fv_eval_choosing.specs.Choosing.{with_diagrams}
+use Rattle.fv_eval_choosing.specs.Chosen.{ShowsChoice}
+use Rattle.fv_eval_scopes.proofs.Grown.{env_grows, tree_grows, values_grow}
 use Rattle.fv_eval_machine.specs.Machine.{Leftover, Valued, Visit, Running, Ended, select}
 use Rattle.fv_eval.specs.declared.continuation.Focus as code_focus
 use Rattle.fv_eval.specs.declared.machine.Machine as code_machine

@@ -5,7 +5,7 @@ use Rattle.fv_diagram.specs.Diagram.{Control}
 use Rattle.fv_diagram.specs.declared.control.ControlInfo.{ControlInfo}
 use Rattle.fv_eval_drawing.specs.Makes.{AddsDiagrams, Canvas, Draws}
 use Rattle.fv_rules.specs.declared.refusal.EvalRefusal.{EvalRefusal}
-use Rattle.fv_rules.specs.declared.value.Value.TheVariants as value
+use Rattle.fv_eval_scopes.specs.declared.value.Value.TheVariants as value
 use Rattle.fv_rules.specs.Values.{Flat}
 use Rattle.fv_rules.specs.Steps.{after, give, control}
 use Rattle.fv_rules.specs.Rules.{flat}

@@ -8,10 +8,10 @@ use Rattle.fv_parse_grammar.specs.declared.form.Iteration.{Iteration as Repetiti
 use Rattle.fv_parse.specs.Trees.{Parsed, text_of, label_of}
 use Rattle.fv_diagram.specs.Diagram.{Diagram}
 use Rattle.fv_diagram.specs.Arena.{count_of, tree_of}
-use Rattle.fv_rules.specs.declared.value.Value as code_value
+use Rattle.fv_eval_scopes.specs.declared.value.Value as code_value
 use Rattle.fv_rules.specs.Values.{Name, Value, Env}
-use Rattle.fv_rules.specs.Shows.{World, Draws, Grows}
-use Rattle.fv_rules.proofs.Grown.{tree_grows, value_grows, env_grows, values_grow}
+use Rattle.fv_eval_scopes.specs.Shows.{World, Draws, Grows}
+use Rattle.fv_eval_scopes.proofs.Grown.{tree_grows, value_grows, env_grows, values_grow}
 use Rattle.fv_eval_machine.specs.Machine.{ForValue, Function, Argument, Leftover, Parameter, ForDiagram, Left, Right, Later, Negated, Ports, Binding, Turning}
 use Rattle.fv_eval_machine.specs.Machine.{Counting, Body, Finish, Continuation, Valued, Drawn}
 use Rattle.fv_eval_drawing.specs.Makes.{trees_of}

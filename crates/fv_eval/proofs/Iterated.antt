@@ -11,14 +11,14 @@ use Rattle.fv_diagram.specs.Diagram.{Diagram, Constant}
 use Rattle.fv_diagram.specs.Arena.{count_of, tree_of}
 use Rattle.fv_eval_drawing.specs.Makes.{AddsDiagrams, Canvas, Draws as IsDrawn, Extends, MakesValue, trees_of}
 use Rattle.fv_rules.specs.declared.refusal.EvalRefusal.{EvalRefusal}
-use Rattle.fv_rules.specs.declared.value.Value.TheVariants as value
-use Rattle.fv_rules.specs.declared.value.Scope.TheVariants as scope
-use Rattle.fv_rules.specs.Environments.{Environments, with_scope}
+use Rattle.fv_eval_scopes.specs.declared.value.Value.TheVariants as value
+use Rattle.fv_eval_scopes.specs.declared.value.Scope.TheVariants as scope
+use Rattle.fv_eval_scopes.specs.Environments.{Environments, with_scope}
 use Rattle.fv_rules.specs.Values.{Flat, Env, Bound}
 use Rattle.fv_diagram_number.specs.Numbers.{number_of}
 use Rattle.fv_rules.specs.Rules.{counted, gathered}
-use Rattle.fv_rules.specs.Shows.{Draws, IsNamed, ShowsEnv, ShowsTree}
-use Rattle.fv_rules.proofs.Grown.{env_grows}
+use Rattle.fv_eval_scopes.specs.Shows.{Draws, IsNamed, ShowsEnv, ShowsTree}
+use Rattle.fv_eval_scopes.proofs.Grown.{env_grows}
 use Rattle.fv_eval_machine.specs.Machine.{Body, Continuation, Drawn, Visit, Running, first_body, next_body}
 use Rattle.fv_eval.specs.declared.continuation.Continuation.TheVariants as continuation
 use Rattle.fv_eval.specs.declared.continuation.ForDiagram.TheVariants as drawn

@@ -7,14 +7,14 @@ use Rattle.fv_diagram.specs.Diagram.{Diagram}
 use Rattle.fv_diagram.specs.Arena.{tree_of}
 use Rattle.fv_eval_drawing.specs.Makes.{AddsDiagrams, Canvas, Extends, Draws as IsDrawn, MakesValue}
 use Rattle.fv_rules.specs.declared.refusal.EvalRefusal.{EvalRefusal}
-use Rattle.fv_rules.specs.declared.value.Value as code_value
-use Rattle.fv_rules.specs.declared.value.Value.TheVariants as value
-use Rattle.fv_rules.specs.declared.value.Scope as code_scope
-use Rattle.fv_rules.specs.Environments.{Environments, with_scope}
+use Rattle.fv_eval_scopes.specs.declared.value.Value as code_value
+use Rattle.fv_eval_scopes.specs.declared.value.Value.TheVariants as value
+use Rattle.fv_eval_scopes.specs.declared.value.Scope as code_scope
+use Rattle.fv_eval_scopes.specs.Environments.{Environments, with_scope}
 use Rattle.fv_rules.specs.Values.{Value, Flat, Env}
 use Rattle.fv_rules.specs.Steps.{State, Outcome, Eval}
-use Rattle.fv_rules.specs.Shows.{Grows, ShowsTree, ShowsValue, ShowsEnv}
-use Rattle.fv_rules.proofs.Grown.{diagrams_come, scope_opens, grows_on}
+use Rattle.fv_eval_scopes.specs.Shows.{Grows, ShowsTree, ShowsValue, ShowsEnv}
+use Rattle.fv_eval_scopes.proofs.Grown.{diagrams_come, scope_opens, grows_on}
 use Rattle.fv_eval_machine.specs.Machine.{Continuation, Visit, Give, Config, Running, Ended, given}
 use Rattle.fv_eval.specs.declared.continuation.Focus as code_focus
 use Rattle.fv_eval.specs.declared.continuation.Focus.TheVariants as focus

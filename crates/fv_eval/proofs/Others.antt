@@ -8,7 +8,7 @@ use Rattle.fv_parse_tree.specs.declared.node.TreeNode.TheVariants as nodes
 use Rattle.fv_parse_tree.specs.Arena.{tree_of, forest}
 use Rattle.fv_parse_grammar.specs.declared.form.Slider.{Slider as SliderKind}
 use Rattle.fv_parse_grammar.specs.Tree.{Tree, End}
-use Rattle.fv_rules.specs.Shows.{body_in, parameters_in}
+use Rattle.fv_eval_scopes.specs.Shows.{body_in, parameters_in}
 use Rattle.fv_eval.specs.inner.Continuations.{name_of, parameters_of}
 use Rattle.fv_eval.specs.inner.Names.{defined_by}
 

@@ -7,7 +7,7 @@ use Rattle.fv_lex.specs.Token.{Lexed}
 use Rattle.fv_parse_grammar.specs.Tree.{Tree}
 use Rattle.fv_parse_grammar.specs.Tree as tree
 use Rattle.fv_rules.specs.Values.{Name, with_name, names_of}
-use Rattle.fv_rules.specs.Shows.{given_names}
+use Rattle.fv_eval_scopes.specs.Shows.{given_names}
 use Rattle.fv_eval.specs.inner.Continuations.{ShowsName, name_of}
 use Rattle.fv_eval.proofs.Places.{get_at_drop}
 

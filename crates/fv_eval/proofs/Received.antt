@@ -16,13 +16,13 @@ use Rattle.fv_diagram.specs.Arena.{tree_of}
 use Rattle.fv_eval_drawing.specs.Makes.{Canvas, Extends, Makes, MakesValue, trees_of}
 use Rattle.fv_eval_drawing.proofs.Gathered.{as_value}
 use Rattle.fv_rules.specs.declared.refusal.EvalRefusal.{EvalRefusal}
-use Rattle.fv_rules.specs.declared.value.Value as code_value
-use Rattle.fv_rules.specs.declared.value.Value.TheVariants as value
+use Rattle.fv_eval_scopes.specs.declared.value.Value as code_value
+use Rattle.fv_eval_scopes.specs.declared.value.Value.TheVariants as value
 use Rattle.fv_rules.specs.Values.{Name, Value, Flat, Env}
 use Rattle.fv_diagram_number.specs.Numbers.{number_of}
 use Rattle.fv_rules.specs.Steps.{Eval, put}
 use Rattle.fv_rules.specs.Rules.{bind_all, counted, fed, flat, joined, operated, ports}
-use Rattle.fv_rules.specs.Shows.{World, Draws, ShowsTree, ShowsValues, ShowsEnv}
+use Rattle.fv_eval_scopes.specs.Shows.{World, Draws, ShowsTree, ShowsValues, ShowsEnv}
 use Rattle.fv_eval_machine.specs.Machine.{ForDiagram, Left, Right, Later, Negated, Ports, Binding, Turning, Counting, Body, Finish, Drawn, Visit, Give, Running}
 use Rattle.fv_eval_machine.specs.Machine.{diagram_arrives, first_body, given, next_body, next_turned}
 use Rattle.fv_eval.specs.declared.continuation.Continuation as code_continuation

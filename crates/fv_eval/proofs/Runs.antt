@@ -8,10 +8,10 @@ use Rattle.fv_diagram.specs.Diagram.{Diagram}
 use Rattle.fv_diagram.specs.Arena.{count_of, empty_arena, tree_of}
 use Rattle.fv_rules.specs.declared.refusal.EvalRefusal.{EvalRefusal}
 use Rattle.fv_rules.specs.declared.refusal.EvalRefusal.TheVariants.{NoMemory}
-use Rattle.fv_rules.specs.declared.value.Value as code_value
-use Rattle.fv_rules.specs.declared.value.Value.TheVariants as value
-use Rattle.fv_rules.specs.declared.value.Scope.TheVariants as scope
-use Rattle.fv_rules.specs.Environments.{Environments, scope_in, with_scope}
+use Rattle.fv_eval_scopes.specs.declared.value.Value as code_value
+use Rattle.fv_eval_scopes.specs.declared.value.Value.TheVariants as value
+use Rattle.fv_eval_scopes.specs.declared.value.Scope.TheVariants as scope
+use Rattle.fv_eval_scopes.specs.Environments.{Environments, scope_in, with_scope}
 use Rattle.fv_rules.specs.Values.{Value, Flat, Outermost, Scope}
 use Rattle.std.proofs.Common.{ap₂, Bool, true, false}
 use Rattle.std.specs.Prelude.{if◌then◌else◌}
@@ -21,7 +21,7 @@ use Rattle.fv_rules.specs.declared.refusal.TableCause.TheVariants as cause
 use Rattle.fv_rules.specs.Steps.{State, Outcome, Eval, after, ◌>>=◌, give, refuse}
 use Rattle.fv_rules.specs.Steps.{whole as no_primitive}
 use Rattle.fv_rules.specs.Rules.{ev, flat, finished, name_value, program_value, start, turned}
-use Rattle.fv_rules.specs.Shows.{ShowsValue, ShowsEnv}
+use Rattle.fv_eval_scopes.specs.Shows.{ShowsValue, ShowsEnv}
 use Rattle.fv_eval_machine.specs.Machine.{Config, Drawn, Finish, Ended, StartsMean, StepsMean, first, meaning, step}
 use Rattle.fv_eval.specs.declared.continuation.Continuation as code_continuation
 use Rattle.fv_eval.specs.declared.continuation.Continuation.TheVariants as continuation

@@ -5,16 +5,16 @@ use Rattle.std.specs.Prelude.{slice_get, if◌then◌else◌}
 use Rattle.std.proofs.lemmas.Option.{slice_get-get_or}
 use Rattle.std.proofs.lemmas.Bool.{le-ltb, lt-ltb}
 use Rattle.fv_parse.specs.Trees.{Parsed, tree_in}
-use Rattle.fv_rules.specs.declared.value.Value as code_value
-use Rattle.fv_rules.specs.declared.value.Value.TheVariants as value
-use Rattle.fv_rules.specs.declared.value.Ruled.{Ruled}
-use Rattle.fv_rules.specs.declared.value.Scope.TheVariants as scope
-use Rattle.fv_rules.specs.declared.value.Argument as code_argument
-use Rattle.fv_rules.specs.Environments.{Environments, with_argument, with_scope}
+use Rattle.fv_eval_scopes.specs.declared.value.Value as code_value
+use Rattle.fv_eval_scopes.specs.declared.value.Value.TheVariants as value
+use Rattle.fv_eval_scopes.specs.declared.value.Ruled.{Ruled}
+use Rattle.fv_eval_scopes.specs.declared.value.Scope.TheVariants as scope
+use Rattle.fv_eval_scopes.specs.declared.value.Argument as code_argument
+use Rattle.fv_eval_scopes.specs.Environments.{Environments, with_argument, with_scope}
 use Rattle.fv_rules.specs.Values.{Name, Value, Flat, Abstraction, Rules, Env, Bound, Taken, Nothing, And, count_taken}
 use Rattle.fv_rules.specs.Rules.{width}
-use Rattle.fv_rules.specs.Shows.{World, IsNamed, ShowsEnv, ShowsTaken, ShowsValue, parameters_in, rules_in}
-use Rattle.fv_rules.proofs.Grown.{argument_comes, bound_shows, env_grows, taken_shows}
+use Rattle.fv_eval_scopes.specs.Shows.{World, IsNamed, ShowsEnv, ShowsTaken, ShowsValue, parameters_in, rules_in}
+use Rattle.fv_eval_scopes.proofs.Grown.{argument_comes, bound_shows, env_grows, taken_shows}
 use Rattle.fv_eval.specs.declared.machine.Machine as code_machine
 use Rattle.fv_eval.specs.inner.Continuations.{Grew, IsShown, ShowsName, ShowsTaking, took, world}
 use Rattle.fv_eval.proofs.Places.{drop_behind, get_at_drop}

@@ -6,12 +6,12 @@ use Rattle.std.specs.declared.alloc.Global.{Global}
 use Rattle.std.proofs.lemmas.List.{map-append}
 use Rattle.fv_diagram.specs.Diagram.{Diagram}
 use Rattle.fv_diagram.specs.Arena.{count_of, tree_of}
-use Rattle.fv_rules.specs.declared.value.Value as code_value
-use Rattle.fv_rules.specs.declared.value.Value.TheVariants as value
+use Rattle.fv_eval_scopes.specs.declared.value.Value as code_value
+use Rattle.fv_eval_scopes.specs.declared.value.Value.TheVariants as value
 use Rattle.fv_rules.specs.Values.{Value, Flat, Abstraction, Rules}
-use Rattle.fv_rules.specs.Shows.{World, Draws, Grows, ShowsValue, ShowsValues}
+use Rattle.fv_eval_scopes.specs.Shows.{World, Draws, Grows, ShowsValue, ShowsValues}
 use Rattle.fv_rules.specs.Matching.{settled}
-use Rattle.fv_rules.proofs.Grown.{value_grows, values_grow}
+use Rattle.fv_eval_scopes.proofs.Grown.{value_grows, values_grow}
 use Rattle.fv_eval_machine.specs.Machine.{ForValue, Argument, ForDiagram, Left, Right, Binding, Turning, Counting, Body}
 use Rattle.fv_eval_drawing.specs.Makes.{IsThere as IsDrawn}
 use Rattle.fv_eval.specs.declared.continuation.ForValue.TheVariants as valued

@@ -4,9 +4,9 @@ use Rattle.std.specs.declared.alloc.Global.{Global}
 use Rattle.fv_parse_grammar.specs.Tree.{Tree}
 use Rattle.fv_parse.specs.Trees.{Parsed}
 use Rattle.fv_rules.specs.declared.refusal.EvalRefusal.{EvalRefusal}
-use Rattle.fv_rules.specs.declared.value.Value as code_value
+use Rattle.fv_eval_scopes.specs.declared.value.Value as code_value
 use Rattle.fv_rules.specs.Values.{Env}
-use Rattle.fv_rules.specs.Shows.{ShowsEnv, ShowsTree, ShowsValues}
+use Rattle.fv_eval_scopes.specs.Shows.{ShowsEnv, ShowsTree, ShowsValues}
 use Rattle.fv_eval_machine.specs.Machine.{Leftover, Continuation, Valued, Visit, Running}
 use Rattle.fv_eval.specs.declared.continuation.Continuation as code_continuation
 use Rattle.fv_eval.specs.declared.continuation.Continuation.TheVariants as continuation

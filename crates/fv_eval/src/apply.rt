@@ -5,7 +5,7 @@ ghost use Rattle.fv_parse_grammar.specs.Tree.{Tree as Spelled, Apply, items, sta
 ghost use Rattle.fv_parse.specs.Trees.{Parsed, size_of, tree_in};
 ghost use Rattle.fv_rules.specs.Values.{Env, Taken, Value as Meant};
 ghost use Rattle.fv_rules.specs.Steps.{no_rule};
-ghost use Rattle.fv_rules.specs.Shows.{IsInside, ShowsEnv, ShowsTaken, ShowsTree, ShowsValue, ShowsValues};
+ghost use Rattle.fv_eval_scopes.specs.Shows.{IsInside, ShowsEnv, ShowsTaken, ShowsTree, ShowsValue, ShowsValues};
 ghost use Rattle.fv_eval_machine.specs.Machine.{Leftover as Left, Running, Valued, Visit, apply, next_argument};
 ghost use Rattle.fv_eval.specs.inner.Continuations.{AreShown, Chooses, Completes, Grew, IsApplication, IsShown, Selects, ShowsTaking, Steps};
 ghost use Rattle.fv_eval.specs.inner.Continuations.{completed, took, world};
@@ -13,8 +13,10 @@ ghost use Rattle.fv_eval.specs.inner.Continuations.{completed, took, world};
 use crate::continuation::{Continuation, Focus, ForValue};
 use crate::machine::Machine;
 use crate::names::{body_of, parameter, parameters};
+use fv_eval_choosing::{Bindings, Definitions};
+use fv_eval_scopes::{Ruled, Value};
 use fv_parse::{Tree, TreeId, TreeNode};
-use fv_rules::{Bindings, Definitions, EvalRefusal, Ruled, Value};
+use fv_rules::EvalRefusal;
 use std::alloc::AllocError;
 
 impl Machine {

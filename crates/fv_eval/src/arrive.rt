@@ -9,7 +9,7 @@ ghost use Rattle.fv_diagram.specs.Arena.{count_of};
 ghost use Rattle.fv_rules.specs.Values.{Env, Flat, Value as Meant};
 ghost use Rattle.fv_rules.specs.Matching.{settled};
 ghost use Rattle.fv_rules.specs.Rules.{ports};
-ghost use Rattle.fv_rules.specs.Shows.{Draws, ShowsEnv, ShowsTree, ShowsValue};
+ghost use Rattle.fv_eval_scopes.specs.Shows.{Draws, ShowsEnv, ShowsTree, ShowsValue};
 ghost use Rattle.fv_eval_machine.specs.Machine.{Drawn, ForDiagram as Drawing, ForValue as Valuing, Give, Right, Running, Visit, arrives, diagram_arrives};
 ghost use Rattle.fv_eval_machine.specs.Machine.{value_arrives};
 ghost use Rattle.fv_eval_drawing.specs.Makes.{IsThere as IsDrawn};
@@ -20,9 +20,11 @@ ghost use Rattle.fv_eval.specs.inner.Continuations.{ValuedShown, world};
 use crate::continuation::{Continuation, Focus, ForDiagram, ForValue};
 use crate::machine::Machine;
 use fv_diagram::DiagramId;
+use fv_eval_choosing::Definitions;
+use fv_eval_scopes::Value;
 use fv_parse::{TreeId, TreeNode};
 use fv_parse_grammar::Side;
-use fv_rules::{Definitions, EvalRefusal, Value};
+use fv_rules::EvalRefusal;
 use std::alloc::AllocError;
 
 impl Machine {

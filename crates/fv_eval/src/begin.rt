@@ -7,7 +7,7 @@ ghost use Rattle.fv_parse.specs.Trees.{Parsed, size_of, tree_in};
 ghost use Rattle.fv_diagram.specs.Diagram.{Constant, Primitive as Leaf};
 ghost use Rattle.fv_rules.specs.Values.{Env, Flat, Name};
 ghost use Rattle.fv_rules.specs.Rules.{slider_kind};
-ghost use Rattle.fv_rules.specs.Shows.{IsNamed, ShowsEnv, ShowsTree};
+ghost use Rattle.fv_eval_scopes.specs.Shows.{IsNamed, ShowsEnv, ShowsTree};
 ghost use Rattle.fv_eval_machine.specs.Machine.{Call, Continuation as Waiting, Give, Running, Visit, next_parameter};
 ghost use Rattle.fv_eval.specs.inner.Continuations.{Begins, IsSlider, ShowsContinuation, ShowsSlider, Steps, world};
 
@@ -16,9 +16,11 @@ use crate::machine::Machine;
 use crate::names::canonical;
 use crate::turn::not_a_diagram;
 use fv_diagram::{Node, Prim};
+use fv_eval_choosing::Definitions;
 use fv_eval_drawing::primitive_of;
+use fv_eval_scopes::{Ruled, Value};
 use fv_parse::{TreeId, TreeNode};
-use fv_rules::{Definitions, EvalRefusal, Ruled, Value, literal, negative_literal};
+use fv_rules::{EvalRefusal, literal, negative_literal};
 
 impl Machine {
     /// A number is given.

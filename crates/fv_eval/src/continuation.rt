@@ -3,9 +3,9 @@
 ghost use Rattle.std.specs.Prelude.{◌≡◌, ◌++◌, ◌∷◌, [], MatchOption, OnOk, OnErr};
 
 use fv_diagram::DiagramId;
+use fv_eval_scopes::Value;
 use fv_parse::TreeId;
 use fv_parse_grammar::{Operator, Side};
-use fv_rules::Value;
 use std::alloc::{AllocError, Global};
 use std::marker::Model;
 

@@ -10,7 +10,7 @@ ghost use Rattle.fv_rules.specs.Values.{Env, Name};
 ghost use Rattle.fv_diagram_number.specs.Numbers.{number_of};
 ghost use Rattle.fv_rules.specs.Steps.{no_number};
 ghost use Rattle.fv_rules.specs.Rules.{counted};
-ghost use Rattle.fv_rules.specs.Shows.{Draws, ShowsEnv, ShowsTree};
+ghost use Rattle.fv_eval_scopes.specs.Shows.{Draws, ShowsEnv, ShowsTree};
 ghost use Rattle.fv_eval_machine.specs.Machine.{first_body, next_body};
 ghost use Rattle.fv_eval_drawing.specs.Makes.{AreThere};
 ghost use Rattle.fv_eval.specs.inner.Continuations.{AreIndexed, IsIteration, ShowsBodies, Steps, world};
@@ -20,8 +20,10 @@ use crate::continuation::{Continuation, Focus, ForDiagram};
 use crate::machine::Machine;
 use crate::names::canonical;
 use fv_diagram::{DiagramId, Node};
+use fv_eval_choosing::Definitions;
+use fv_eval_scopes::Value;
 use fv_parse::{Tree, TreeId, TreeNode};
-use fv_rules::{Definitions, EvalRefusal, Value};
+use fv_rules::EvalRefusal;
 
 impl Machine {
     /// The count of an iteration arrives, and its first body is visited.

@@ -6,16 +6,18 @@ ghost use Rattle.fv_parse.specs.Trees.{Parsed};
 ghost use Rattle.fv_diagram.specs.Arena.{empty_arena};
 ghost use Rattle.fv_rules.specs.Values.{Env, Name, Scope, Value as Meant};
 ghost use Rattle.fv_rules.specs.Steps.{Outcome};
-ghost use Rattle.fv_rules.specs.Shows.{IsNamed, ShowsEnv, ShowsTree};
+ghost use Rattle.fv_eval_scopes.specs.Shows.{IsNamed, ShowsEnv, ShowsTree};
 ghost use Rattle.fv_eval_machine.specs.Machine.{Call, Config, Continuation as Waiting, Running, Visit, step};
 ghost use Rattle.fv_eval.specs.inner.Continuations.{Continues, Ends, Goes, Runs, ShowsContinuation, Steps, state_of, world};
 
 use crate::continuation::{Continuation, Continuations, Focus};
 use crate::controls::Controls;
+use fv_eval_choosing::Definitions;
 use fv_eval_drawing::Drawing;
 use fv_eval_machine::steps_mean;
+use fv_eval_scopes::{Scopes, Value};
 use fv_parse::TreeId;
-use fv_rules::{Definitions, EvalRefusal, Scopes, Value, too_many_to_count};
+use fv_rules::{EvalRefusal, too_many_to_count};
 use std::alloc::Global;
 
 /// The lists of an evaluation.

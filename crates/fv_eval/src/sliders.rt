@@ -8,7 +8,7 @@ ghost use Rattle.fv_rules.specs.Values.{Env, Value as Meant};
 ghost use Rattle.fv_rules.specs.Matching.{value_number};
 ghost use Rattle.fv_rules.specs.Steps.{control};
 ghost use Rattle.fv_rules.specs.Rules.{flat, read_number, slider_info, slider_kind, switch_info, switch_kind};
-ghost use Rattle.fv_rules.specs.Shows.{ShowsValue};
+ghost use Rattle.fv_eval_scopes.specs.Shows.{ShowsValue};
 ghost use Rattle.fv_eval_drawing.specs.Makes.{IsThere as IsDrawn};
 ghost use Rattle.fv_eval_machine.specs.Machine.{given, next_parameter, parameter_read};
 ghost use Rattle.fv_eval.specs.inner.Continuations.{IsSlider, IsThere, ShowsSlider, Steps, parameters_of, world};
@@ -17,9 +17,11 @@ use crate::continuation::{Continuation, Focus, ForValue};
 use crate::iterate::not_a_number;
 use crate::machine::Machine;
 use fv_diagram::{ControlInfo, ControlKind, Label, Node};
+use fv_eval_choosing::Definitions;
+use fv_eval_scopes::Value;
 use fv_parse::{Tree, TreeId, TreeNode};
 use fv_parse_grammar::{Slider, Switch};
-use fv_rules::{Definitions, EvalRefusal, Value};
+use fv_rules::EvalRefusal;
 use std::alloc::AllocError;
 
 // The kind of control that a word of the grammar makes.

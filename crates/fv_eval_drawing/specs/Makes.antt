@@ -8,8 +8,8 @@ use Rattle.fv_diagram.specs.Arena.{Arena, count_of, tree_of}
 pub use Rattle.fv_diagram_head.specs.Lists.{AreThere, trees_of}
 use Rattle.fv_rules.specs.declared.refusal.EvalRefusal.{EvalRefusal}
 use Rattle.fv_rules.specs.declared.refusal.EvalRefusal.TheVariants.{NoMemory}
-use Rattle.fv_rules.specs.declared.value.Value as code_value
-use Rattle.fv_rules.specs.declared.value.Value.TheVariants as value
+use Rattle.fv_eval_scopes.specs.declared.value.Value as code_value
+use Rattle.fv_eval_scopes.specs.declared.value.Value.TheVariants as value
 use Rattle.fv_rules.specs.Values.{Value, Flat}
 use Rattle.fv_rules.specs.Steps.{State, Eval, give, refuse}
 

@@ -6,17 +6,19 @@ ghost use Rattle.fv_diagram.specs.Diagram.{has_table_primitive};
 ghost use Rattle.fv_diagram_number.specs.Numbers.{number_of};
 ghost use Rattle.fv_rules.specs.Values.{Value as Meant};
 ghost use Rattle.fv_rules.specs.Matching.{chosen, number_or};
-ghost use Rattle.fv_rules.specs.Shows.{World, IsInside, ShowsValues, rules_in};
-ghost use Rattle.fv_rules.specs.Choosing.{with_diagrams};
-ghost use Rattle.fv_rules.specs.Chosen.{ShowsChoice};
+ghost use Rattle.fv_eval_scopes.specs.Shows.{World, IsInside, ShowsValues, rules_in};
+ghost use Rattle.fv_eval_choosing.specs.Choosing.{with_diagrams};
+ghost use Rattle.fv_eval_choosing.specs.Chosen.{ShowsChoice};
 ghost use Rattle.fv_rules.specs.Steps.{put};
 ghost use Rattle.fv_rules.specs.Puts.{Puts};
 ghost use Rattle.fv_eval_drawing.specs.Makes.{AddsDiagrams, AreComposed, Draws, Extends, IsLeaf, IsThere, Makes};
 
 use fv_base::limits::MOST_DIAGRAMS;
 use fv_diagram::{Arity, DiagramId, Diagrams, Node};
+use fv_eval_choosing::{Bindings, Definitions};
+use fv_eval_scopes::{Numbers, Ruled, Value};
 use fv_parse::TreeId;
-use fv_rules::{Bindings, Definitions, EvalRefusal, Numbers, Ruled, Value, put, too_many_to_keep};
+use fv_rules::{EvalRefusal, put, too_many_to_keep};
 use std::alloc::{AllocError, Global};
 use std::marker::Model;
 
@@ -31,7 +33,7 @@ pub struct Drawing {
 }
 
 impl Model for Drawing {
-    ghost use Rattle.fv_rules.specs.Memo.{Remembers};
+    ghost use Rattle.fv_eval_scopes.specs.Memo.{Remembers};
     ghost use Rattle.fv_eval_drawing.specs.Makes.{AreComposed, Canvas};
 
     ghost Value = { Canvas };

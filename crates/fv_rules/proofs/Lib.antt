@@ -2,14 +2,4 @@ pub mod Fuel
 pub mod SoundValues
 pub mod SoundCompositions
 pub mod Sound
-pub mod Grown
-pub mod Named
-pub mod Lookups
-pub mod Forks
-pub mod Outward
-pub mod Matched
-pub mod Scoped
 pub mod LiteralNumbers
-pub mod RulesChosen
-pub mod RuleNodes
-pub mod Told

@@ -5,13 +5,3 @@ pub mod Rules
 pub mod Sound
 pub mod Puts
 pub mod Examples
-pub mod Environments
-pub mod Tries
-pub mod Ways
-pub mod Shows
-pub mod ByName
-pub mod Memo
-pub mod Choosing
-pub mod Chosen
-pub mod Literals
-pub mod inner

@@ -7,7 +7,8 @@ use fv_arity::ArityKind;
 use fv_diagram::{Diagrams, Node, Prim};
 use fv_diagram_number::number_of;
 use fv_num::Op;
-use fv_rules::{EvalRefusal, Numbers, literal, negative_literal, put};
+use fv_eval_scopes::Numbers;
+use fv_rules::{EvalRefusal, literal, negative_literal, put};
 use std::alloc::Global;
 use std::test::Fail;
 

@@ -6,7 +6,9 @@ ghost use Rattle.fv_parse.specs.Trees.{size_of};
 use fv_diagram::{Diagrams, Node};
 use fv_lex::{Tokens, tokens};
 use fv_parse::{TreeId, parse};
-use fv_rules::{Binding, Definitions, EvalRefusal, Meaning, Numbers, Ruled, Scopes, Value, put};
+use fv_eval_choosing::Definitions;
+use fv_eval_scopes::{Binding, Meaning, Numbers, Ruled, Scopes, Value};
+use fv_rules::{EvalRefusal, put};
 use std::alloc::{AllocError, Global};
 use std::test::Fail;
 

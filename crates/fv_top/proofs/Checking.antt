@@ -15,7 +15,7 @@ use Rattle.fv_top_text.specs.Compiled.{Compiled}
 use Rattle.fv_top_report.specs.Lines.{check_line}
 use Rattle.fv_top.specs.Meant.{check_meant}
 use Rattle.fv_top_report.specs.Parts.{AppendsPart}
-use Rattle.fv_top.specs.Loading.{ReadsFile, StopsLoading, IsFile}
+use Rattle.fv_top_files.specs.Loading.{ReadsFile, StopsLoading, IsFile}
 use Rattle.fv_top.specs.Steps.{Halts, fault, judged, want_of_memory, reads, writes, here, later}
 use Rattle.fv_top.specs.Promise.{IsReadBy, ReadProgram, HasProgram, HasNoProgram, check_rules}
 use Rattle.fv_top.specs.inner.Running.{Checks, StopsCheck}

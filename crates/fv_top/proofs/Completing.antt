@@ -15,9 +15,9 @@ use Rattle.fv_top_report.specs.declared.status.Status.TheVariants.{Done, Refused
 use Rattle.fv_top_rack.specs.Kinds.{FileIs, IsOneFile}
 use Rattle.fv_top_text.specs.Compiled.{Compiled}
 use Rattle.fv_top_words.specs.declared.manner.InputKind.{InputKind}
-use Rattle.fv_top.specs.Sources.{Source, found, script_of, source_of}
-use Rattle.fv_top.specs.Output.{coding_of, format_of, cut_in}
-use Rattle.fv_top.specs.Loading.{HasScript, HasInput}
+use Rattle.fv_top_files.specs.Sources.{Source, found, script_of, source_of}
+use Rattle.fv_top_files.specs.Output.{coding_of, format_of, cut_in}
+use Rattle.fv_top_files.specs.Loading.{HasScript, HasInput}
 use Rattle.fv_top.specs.Steps.{Ends, Rules, IsJudge}
 use Rattle.fv_top.specs.Promise.{Asks, HasProgram, HasProgramOf, HasNoProgram, Plays, IsWhole, Step, ReadProgram, ReadScript, ReadHead, Fit, Write, Tell}
 use Rattle.fv_top.specs.Promise.{StepPasses, StepRefuses, CheckPasses, CheckRefuses, rules_of, steps_of, IsKnown, CanDo}

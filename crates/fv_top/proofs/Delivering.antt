@@ -29,18 +29,18 @@ use Rattle.fv_top_report.specs.declared.refusal.Refusal.TheVariants.{ReadFault, 
 use Rattle.fv_pcm.specs.declared.coding.Coding.{Coding}
 use Rattle.fv_top_text.specs.Compiled.{Compiled}
 use Rattle.fv_top.specs.declared.prepare.Prepared.{Prepared}
-use Rattle.fv_top.specs.Inputs.{truncated, stated_frames}
-use Rattle.fv_top.specs.Sources.{frames_of, data_of}
-use Rattle.fv_top.specs.Output.{OutputFormat, coding_of, format_of, present_in, cut_in, output_file}
+use Rattle.fv_top_files.specs.Inputs.{truncated, stated_frames}
+use Rattle.fv_top_files.specs.Sources.{frames_of, data_of}
+use Rattle.fv_top_files.specs.Output.{OutputFormat, coding_of, format_of, present_in, cut_in, output_file}
 use Rattle.fv_top.specs.Meant.{written_by}
 use Rattle.fv_top_report.specs.Lines.{done_line}
 use Rattle.fv_top_report.specs.Parts.{AppendsPart}
 use Rattle.fv_top.specs.Steps.{reads, writes, Halts, fault, judged, Ends, here, later}
-use Rattle.fv_top.specs.Loading.{LeavesRest, ReadsWithin, reading}
+use Rattle.fv_top_files.specs.Loading.{LeavesRest, ReadsWithin, reading}
 use Rattle.fv_top.specs.Promise.{Asks, Plays, IsWhole, Write, Tell, HasRoom, meant, run_rules, run_steps, CanDo, meant_of}
 use Rattle.fv_top.specs.Promise.{of_job, LeavesOutput, HasPlayedPresent, IsReadBy, IsRead, KeepsOthers}
 use Rattle.fv_top.specs.Played.{HaveRan, RanSoFar}
-use Rattle.fv_top.specs.inner.Formats.{format_in}
+use Rattle.fv_top_files.specs.Formats.{format_in}
 use Rattle.fv_top.specs.inner.Prepared.{CanRun, IsForRun, IsOfFiles, HasRun, IsCutIn, EndsAt, frames_there, file_on, file_there, samples_of, coding_heard}
 use Rattle.fv_top.specs.inner.Prepared.{refusal_of_stop}
 use Rattle.fv_top.specs.inner.Running.{Reaches, CountsFaultOf, asked_before, EndsDone, Stopped}

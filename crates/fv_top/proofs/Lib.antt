@@ -1,6 +1,4 @@
-pub mod Loads
 pub mod Scripts
-pub mod Heads
 pub mod StepLaws
 pub mod Reaching
 pub mod Preparing

@@ -28,14 +28,14 @@ use Rattle.fv_file_tape.specs.declared.file_tape.OutputHead.{OutputHead}
 use Rattle.fv_file_tape.specs.declared.file_tape.Stop.{Stop}
 use Rattle.fv_file_tape.specs.declared.file_tape.Stop.TheVariants as stop
 use Rattle.fv_top_report.specs.Parts.{AppendsPart}
-use Rattle.fv_top.specs.declared.incoming.Incoming.{Incoming}
-use Rattle.fv_top.specs.declared.format.OutputFormat.{OutputFormat as Made}
+use Rattle.fv_top_files.specs.declared.incoming.Incoming.{Incoming}
+use Rattle.fv_top_files.specs.declared.format.OutputFormat.{OutputFormat as Made}
 use Rattle.fv_top.specs.declared.prepare.Prepared.{Prepared}
-use Rattle.fv_top.specs.Inputs.{stated_frames, whole_bytes, truncated, coding_in}
-use Rattle.fv_top.specs.Sources.{Source, frames_of, data_of}
-use Rattle.fv_top.specs.Output.{OutputFormat, channels_in, present_in, cut_in, pad_in, output_file}
-use Rattle.fv_top.specs.Loading.{IsLeft, IsRest, IsWithin}
-use Rattle.fv_top.specs.inner.Formats.{format_in}
+use Rattle.fv_top_files.specs.Inputs.{stated_frames, whole_bytes, truncated, coding_in}
+use Rattle.fv_top_files.specs.Sources.{Source, frames_of, data_of}
+use Rattle.fv_top_files.specs.Output.{OutputFormat, channels_in, present_in, cut_in, pad_in, output_file}
+use Rattle.fv_top_files.specs.Loading.{IsLeft, IsRest, IsWithin}
+use Rattle.fv_top_files.specs.Formats.{format_in}
 use Rattle.fv_top.specs.inner.Prepared.{CanRun, HasRun, IsEndFor, EndsAt, samples_of, output_head, coding_heard, frames_there, file_there}
 use Rattle.fv_top_text.specs.Compiled.{Compiled}
 

@@ -8,22 +8,21 @@ use Rattle.fv_outside.proofs.States.{told_before}
 use Rattle.fv_control.specs.declared.script.Change.{Change}
 use Rattle.fv_top_words.specs.Runs.{Run, Settings}
 use Rattle.fv_top_words.specs.Commands.{Playing}
-use Rattle.fv_top.specs.declared.incoming.Incoming.{Incoming}
+use Rattle.fv_top_files.specs.declared.incoming.Incoming.{Incoming}
 use Rattle.fv_top_report.specs.declared.refusal.Refusal.{Refusal}
 use Rattle.fv_top_report.specs.declared.refusal.Refusal.TheVariants.{NoMemory}
 use Rattle.fv_top_rack.specs.Kinds.{FileIs, IsOfKind}
 use Rattle.fv_top_text.specs.Compiled.{Compiled}
-use Rattle.fv_top.specs.Output.{OutputFormat, coding_of, format_of}
-use Rattle.fv_top.specs.Loading.{ReadsFile, IsFile, HasScript, HasInput, HasHead, IsLeft, reading}
+use Rattle.fv_top_files.specs.Output.{OutputFormat, coding_of, format_of}
+use Rattle.fv_top_files.specs.Loading.{ReadsFile, IsFile, HasScript, HasInput, HasHead, IsLeft, reading, IsHeadRefusal}
 use Rattle.fv_top.specs.Steps.{Ends, here, later, judged, want_of_memory}
-use Rattle.fv_top.specs.Promise.{IsReadBy, ReadProgram, ReadScript, ReadHead, Fit, HasProgramOf, HasNoProgram, IsScriptRefusal, IsHeadRefusal, Plays}
-use Rattle.fv_top.specs.Promise.{Step, run_rules}
+use Rattle.fv_top.specs.Promise.{IsReadBy, ReadProgram, ReadScript, ReadHead, Fit, HasProgramOf, HasNoProgram, IsScriptRefusal, Plays, Step, run_rules}
 use Rattle.fv_top.specs.inner.Running.{Reaches, StopsBefore, asked_before}
-use Rattle.fv_top.specs.declared.format.OutputFormat.{OutputFormat as Made}
-use Rattle.fv_top.specs.declared.input.Loaded.{Loaded}
+use Rattle.fv_top_files.specs.declared.format.OutputFormat.{OutputFormat as Made}
+use Rattle.fv_top_files.specs.declared.input.Loaded.{Loaded}
 use Rattle.fv_top.specs.declared.prepare.Prepared.{Prepared}
-use Rattle.fv_top.specs.inner.Formats.{format_in}
-use Rattle.fv_top.specs.inner.Loaded.{held_in}
+use Rattle.fv_top_files.specs.Formats.{format_in}
+use Rattle.fv_top_files.specs.Loaded.{held_in}
 use Rattle.fv_top.specs.inner.Prepared.{IsMadeOf, IsOfFiles, samples_of}
 use Rattle.fv_top.proofs.Reaching.{FailsToLoad, reaches_nothing, reaches_file, reaches_on, loading_halts, load_faults, no_kind, fit_kind}
 

@@ -12,15 +12,15 @@ use Rattle.fv_top_words.specs.declared.manner.ProgramKind.{ProgramKind}
 use Rattle.fv_top_words.specs.declared.manner.ProgramKind.TheVariants.{Alone, Rack}
 use Rattle.fv_top_words.specs.Runs.{Run, Settings}
 use Rattle.fv_top_words.specs.Commands.{Playing}
-use Rattle.fv_top.specs.declared.incoming.Incoming.{Incoming}
+use Rattle.fv_top_files.specs.declared.incoming.Incoming.{Incoming}
 use Rattle.fv_pcm.specs.declared.coding.Coding.{Coding}
 use Rattle.fv_pcm.specs.Sizes.{data_size, data_limit}
 use Rattle.fv_top_report.specs.declared.refusal.Refusal.{Refusal}
 use Rattle.fv_top_report.specs.declared.refusal.Refusal.TheVariants.{ReadFault, Channels, FramesNeeded, OutputTooLong}
 use Rattle.fv_top_rack.specs.Kinds.{IsOfKind}
-use Rattle.fv_top.specs.Output.{OutputFormat, format_of, counted, channels_in, bits_in, frames_in}
-use Rattle.fv_top.specs.Inputs.{stated_frames}
-use Rattle.fv_top.specs.Loading.{ReadsFile, StopsLoading, IsThere, reading}
+use Rattle.fv_top_files.specs.Output.{OutputFormat, format_of, counted, channels_in, bits_in, frames_in}
+use Rattle.fv_top_files.specs.Inputs.{stated_frames}
+use Rattle.fv_top_files.specs.Loading.{ReadsFile, StopsLoading, IsThere, reading}
 use Rattle.fv_top.specs.Steps.{Halts, fault, judged, want_of_memory, reads}
 use Rattle.fv_top.specs.Promise.{WantsMemory, IsReadBy, Step, Fit, TakesTurn, IsAnswered, HasRefusal, StepRefuses, run_rules}
 use Rattle.fv_top.specs.inner.Running.{Reaches, CountsFaultOf, asked_before}

@@ -12,8 +12,8 @@ use Rattle.fv_control.specs.Script.{script, line_says, IsOfScript}
 use Rattle.fv_top_report.specs.declared.refusal.Refusal.{Refusal}
 use Rattle.fv_top_report.specs.declared.refusal.Refusal.TheVariants.{NoMemory}
 use Rattle.fv_top_report.specs.Layers.{of_script}
-use Rattle.fv_top.specs.Sources.{scripted}
-use Rattle.fv_top.specs.Loading.{HasScript}
+use Rattle.fv_top_files.specs.Sources.{scripted}
+use Rattle.fv_top_files.specs.Loading.{HasScript}
 use Rattle.fv_top.specs.Promise.{IsScriptRefusal}
 
 -- what its first bytes spell, the whole script does

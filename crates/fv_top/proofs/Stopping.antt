@@ -18,10 +18,10 @@ use Rattle.fv_pcm.specs.declared.coding.Coding.{Coding}
 use Rattle.fv_pcm.specs.declared.coding.Coding.TheVariants as coding
 use Rattle.fv_top_words.specs.declared.manner.InputKind.{InputKind}
 use Rattle.fv_top_rack.specs.Kinds.{IsOfKind}
-use Rattle.fv_top.specs.declared.incoming.Incoming.{Incoming}
-use Rattle.fv_top.specs.Inputs.{truncated, read_bytes}
+use Rattle.fv_top_files.specs.declared.incoming.Incoming.{Incoming}
+use Rattle.fv_top_files.specs.Inputs.{truncated, read_bytes}
 use Rattle.fv_top.specs.Steps.{Rules, Turn, fault_of, reads, writes, Ends}
-use Rattle.fv_top.specs.Loading.{HasInput, LeavesRest, ReadsWithin, IsRest, IsWithin}
+use Rattle.fv_top_files.specs.Loading.{HasInput, LeavesRest, ReadsWithin, IsRest, IsWithin}
 use Rattle.fv_top.specs.Promise.{Asks, Write, Tell, run_rules, HasCause, bad_words, of_job, HasRefusal, check_rules, check_steps, make_rules, make_steps}
 use Rattle.fv_top.specs.Promise.{CutsShort, IsReadBy, IsRead, KeepsOthers}
 use Rattle.fv_top.specs.inner.Running.{Reaches, CountsFaultOf, StopsBefore, Checks, StopsCheck, Makes, StopsMake, steps_before, EndsDone, Stopped}

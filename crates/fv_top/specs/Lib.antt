@@ -1,9 +1,5 @@
-pub mod Inputs
-pub mod Sources
-pub mod Output
 pub mod Meant
 pub mod Steps
-pub mod Loading
 pub mod Promise
 pub mod Played
 pub mod Examples

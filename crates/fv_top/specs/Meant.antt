@@ -5,7 +5,7 @@ use Rattle.fv_base.specs.declared.role.Role.TheVariants.{Program, Input, Control
 use Rattle.fv_outside.specs.Desk.{DeskState}
 use Rattle.fv_num.specs.Frames.{Frame, Stream}
 use Rattle.fv_diagram.specs.Diagram.{Diagram, inputs, outputs, size}
-use Rattle.fv_top.specs.Output.{OutputFormat, output_file}
+use Rattle.fv_top_files.specs.Output.{OutputFormat, output_file}
 use Rattle.fv_control.specs.Streams.{control_streams}
 use Rattle.fv_diagram.specs.Samples.{answer_on}
 use Rattle.fv_top_make.specs.Made.{noise_of, sum_of}

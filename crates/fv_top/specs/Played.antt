@@ -14,8 +14,8 @@ use Rattle.fv_top_report.specs.declared.refusal.Refusal.TheVariants.{WriteFault}
 use Rattle.fv_top_report.specs.declared.status.Tally.{Tally}
 use Rattle.fv_top_text.specs.Compiled.{Compiled}
 use Rattle.fv_engine_files.specs.Files.{IsCutAt}
-use Rattle.fv_top.specs.Output.{present_in}
-use Rattle.fv_top.specs.Inputs.{truncated}
+use Rattle.fv_top_files.specs.Output.{present_in}
+use Rattle.fv_top_files.specs.Inputs.{truncated}
 use Rattle.fv_top.specs.Promise.{Asks, Plays, IsMade}
 use Rattle.fv_pcm.specs.declared.coding.Coding.{Coding}
 

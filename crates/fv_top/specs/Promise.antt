@@ -25,11 +25,11 @@ use Rattle.fv_file_tape.specs.Tapes.{HasBegun, KeepsOutput}
 use Rattle.fv_engine_files.specs.Files.{IsCutAt}
 use Rattle.fv_engine_render.specs.Render.{initial_of}
 use Rattle.fv_top_text.specs.Compiled.{Compiled}
-use Rattle.fv_top.specs.Sources.{Source}
-use Rattle.fv_top.specs.Output.{OutputFormat, coding_of, format_of, present_in, cut_in}
-use Rattle.fv_top.specs.Inputs.{truncated}
+use Rattle.fv_top_files.specs.Sources.{Source}
+use Rattle.fv_top_files.specs.Output.{OutputFormat, coding_of, format_of, present_in, cut_in}
+use Rattle.fv_top_files.specs.Inputs.{truncated}
 use Rattle.fv_pcm.specs.declared.coding.Coding.{Coding}
-use Rattle.fv_top.specs.Loading.{HasScript, HasInput, LeavesRest, ReadsWithin, IsThere, reading}
+use Rattle.fv_top_files.specs.Loading.{is_of_head, HasScript, HasInput, LeavesRest, ReadsWithin, IsThere, reading}
 use Rattle.fv_top.specs.Meant.{Meant, run_meant, check_meant, make_meant, written_by}
 use Rattle.fv_top_report.specs.Lines.{row_of, refused_line}
 use Rattle.fv_top.specs.Steps.{Turn, reads, writes, Rules, Ends, Stops, PassesAll, all_requests}
@@ -137,10 +137,6 @@ IsAnswered run old Tell t = IsUnfailing Report old × HasRoom run old Report
 abbrev pub is_of_script : ℕ → Bool
 is_of_script n = (n == 4) || (nat_le 30 n && nat_le n 33)
 
--- and of the head of an input
-abbrev pub is_of_head : ℕ → Bool
-is_of_head n = (nat_le 34 n && nat_le n 37) || (n == 44) || (n == 45)
-
 -- the numbers of the refusals of what a step judges, where the program's file is of this kind
 abbrev pub is_of_step : ProgramKind → Step → ℕ → Bool
 is_of_step kind ReadProgram n = is_of_kind kind n
@@ -153,12 +149,9 @@ is_of_step kind Tell n = false
 abbrev pub HasRefusal : ProgramKind → Step → Refusal → Type 0
 HasRefusal kind s refusal = IsTrue (is_of_step kind s (row_of refusal).number)
 
--- the refusal is one of a script, or of the head of an input
+-- the refusal is one of a script
 abbrev pub IsScriptRefusal : Refusal → Type 0
 IsScriptRefusal refusal = IsTrue (is_of_script (row_of refusal).number)
-
-abbrev pub IsHeadRefusal : Refusal → Type 0
-IsHeadRefusal refusal = IsTrue (is_of_head (row_of refusal).number)
 
 -- The steps that take memory. Once it was begun to write, none is wanted.
 abbrev pub WantsMemory : Step → Type 0

@@ -1,4 +1,3 @@
-pub mod Formats
 pub mod Loaded
 pub mod Prepared
 pub mod Running

@@ -2,11 +2,6 @@
 #![tactic(auto)]
 
 mod check;
-mod files;
-mod format;
-mod frames;
-mod incoming;
-mod input;
 mod make;
 mod play;
 mod prepare;

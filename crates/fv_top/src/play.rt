@@ -6,7 +6,7 @@ ghost use Rattle.fv_engine_render.specs.Render.{RanWhole};
 ghost use Rattle.fv_outside.specs.Desk.{HasFault, KeepsFaults, IsUnfailing, Appends};
 ghost use Rattle.fv_top_report.specs.Parts.{AppendsPart};
 ghost use Rattle.fv_top_text.specs.Compiled.{Compiled};
-ghost use Rattle.fv_top.specs.Output.{pad_in};
+ghost use Rattle.fv_top_files.specs.Output.{pad_in};
 ghost use Rattle.fv_top.specs.inner.Prepared.{CanRun, HasRun, StopsRun, coding_heard, refusal_of_stop};
 
 use crate::prepare::Prepared;

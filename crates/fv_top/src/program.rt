@@ -11,14 +11,14 @@ ghost use Rattle.fv_top_words.specs.declared.manner.ProgramKind.TheVariants.{Alo
 ghost use Rattle.fv_top_rack.specs.Kinds.{IsOfKind};
 ghost use Rattle.fv_top.specs.Promise.{HasNoProgram};
 ghost use Rattle.fv_top_text.specs.Compiled.{compiled_of};
-ghost use Rattle.fv_top.specs.Loading.{ReadsFile, StopsLoading, IsFile};
+ghost use Rattle.fv_top_files.specs.Loading.{ReadsFile, StopsLoading, IsFile};
 ghost use Rattle.fv_top.specs.inner.Loaded.{IsProgramOf};
 
-use crate::files::{read_front, read_refusal};
 use fv_base::limits::LONGEST_TEXT;
 use fv_eval::Program;
 use fv_interval::Delays;
 use fv_outside::{Desk, Role};
+use fv_top_files::{read_front, read_refusal};
 use fv_top_playable::{Playable, read_playable};
 use fv_top_rack::front_is_enough;
 use fv_top_report::Refusal;
@@ -30,7 +30,7 @@ use std::alloc::Global;
 const PROGRAM_BYTES: usize = LONGEST_TEXT + 1;
 
 /// Loads the program whose text the file of this name is, with its delays.
-#[tactic(auto, using(fv_outside::proofs::States::steps, crate::proofs::Loads::reading))]
+#[tactic(auto, using(fv_outside::proofs::States::steps, fv_top_files::proofs::Loads::reading))]
 pub fn load_program<D: Desk>(
     alloc: Global,
     desk: &mut D,
@@ -54,7 +54,7 @@ pub fn load_program<D: Desk>(
 }
 
 /// Loads what is played of the program that the file of this name and kind is.
-#[tactic(auto, using(fv_outside::proofs::States::steps, crate::proofs::Loads::reading))]
+#[tactic(auto, using(fv_outside::proofs::States::steps, fv_top_files::proofs::Loads::reading))]
 pub fn load_playable<D: Desk>(
     alloc: Global,
     desk: &mut D,

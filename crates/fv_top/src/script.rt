@@ -7,13 +7,13 @@ ghost use Rattle.fv_outside.specs.Desk.{KeepsFaults};
 ghost use Rattle.fv_control.specs.Laws.{NeverFall, IsOfControls};
 ghost use Rattle.fv_top_report.specs.declared.refusal.Refusal.TheVariants.{ReadFault};
 ghost use Rattle.fv_top.specs.Promise.{IsScriptRefusal};
-ghost use Rattle.fv_top.specs.Loading.{ReadsFile, StopsLoading, HasScript};
+ghost use Rattle.fv_top_files.specs.Loading.{ReadsFile, StopsLoading, HasScript};
 
-use crate::files::{read_front, read_refusal};
 use fv_base::limits::LONGEST_TEXT;
 use fv_control::{Script, scripts_are_lawful};
 use fv_diagram::ControlInfo;
 use fv_outside::{Desk, Role};
+use fv_top_files::{read_front, read_refusal};
 use fv_top_report::Refusal;
 use std::alloc::Global;
 
@@ -21,7 +21,7 @@ use std::alloc::Global;
 const SCRIPT_BYTES: usize = LONGEST_TEXT + 1;
 
 /// Loads the script of this name for these controls; without a name, one that changes nothing.
-#[tactic(auto, using(fv_outside::proofs::States::steps, crate::proofs::Loads::reading))]
+#[tactic(auto, using(fv_outside::proofs::States::steps, fv_top_files::proofs::Loads::reading))]
 pub fn load_script<D: Desk>(
     alloc: Global,
     desk: &mut D,

@@ -6,16 +6,13 @@ ghost use Rattle.fv_base.specs.declared.limits.TheConstants.{MOST_BLOCK, MOST_CH
 ghost use Rattle.fv_num.specs.Words.{is_sample_width};
 ghost use Rattle.fv_pcm.specs.Sizes.{data_limit};
 ghost use Rattle.fv_file_tape.specs.Tapes.{IsTape};
-ghost use Rattle.fv_top.specs.Inputs.{stated_frames};
-ghost use Rattle.fv_top.specs.Loading.{IsPlaced};
-ghost use Rattle.fv_top.specs.inner.Loaded.{HoldsAll};
+ghost use Rattle.fv_top_files.specs.Inputs.{stated_frames};
+ghost use Rattle.fv_top_files.specs.Loading.{IsPlaced};
+ghost use Rattle.fv_top_files.specs.Loaded.{HoldsAll};
 ghost use Rattle.fv_top.specs.inner.Prepared.{IsTapeOf, samples_of};
 
-use crate::format::OutputFormat;
-use crate::frames::frame_size;
-use crate::incoming::Incoming;
-use crate::input::Loaded;
 use fv_file_tape::{FileTape, InputSamples, OutputHead};
+use fv_top_files::{Incoming, Loaded, OutputFormat, frame_size};
 use std::alloc::{AllocError, Global};
 
 /// A tape from an input to an output of this name, with room for a block of so many frames.

@@ -11,13 +11,13 @@ use Rattle.fv_diagram.specs.Arena.{count_of}
 use Rattle.fv_eval_drawing.specs.Makes.{AreThere, trees_of}
 use Rattle.fv_rules.specs.declared.refusal.EvalRefusal.{EvalRefusal}
 use Rattle.fv_rules.specs.declared.refusal.EvalRefusal.TheVariants.{NoMemory}
-use Rattle.fv_rules.specs.declared.value.Value as code_value
-use Rattle.fv_rules.specs.declared.value.Value.TheVariants as value
+use Rattle.fv_eval_scopes.specs.declared.value.Value as code_value
+use Rattle.fv_eval_scopes.specs.declared.value.Value.TheVariants as value
 use Rattle.fv_rules.specs.Values.{Name, Value, Flat, Abstraction, Rules, Env, Bound, Taken, And, count_taken, in_order}
 use Rattle.fv_rules.specs.Matching.{Bindings, chosen}
 use Rattle.fv_rules.specs.Steps.{State, Outcome}
 use Rattle.fv_rules.specs.Rules.{slider_kind, width}
-use Rattle.fv_rules.specs.Shows.{World, ShowsTree, Draws, ShowsValue, ShowsValues, ShowsEnv, ShowsTaken, IsNamed, IsInside, Grows, rules_in}
+use Rattle.fv_eval_scopes.specs.Shows.{World, ShowsTree, Draws, ShowsValue, ShowsValues, ShowsEnv, ShowsTaken, IsNamed, IsInside, Grows, rules_in}
 use Rattle.fv_eval_machine.specs.Machine.{ForValue, Function, Argument, Leftover, Parameter, ForDiagram, Left, Right, Later, Negated, Ports, Binding, Turning}
 use Rattle.fv_eval_machine.specs.Machine.{Counting, Body, Finish, Continuation, Valued, Drawn, Visit, Call, Give, Config, Running, Ended}
 use Rattle.fv_eval_machine.specs.Machine.{meaning, begin, next_turned}
@@ -32,9 +32,9 @@ use Rattle.fv_eval.specs.declared.continuation.Focus as code_focus
 use Rattle.fv_eval.specs.declared.continuation.Focus.TheVariants as focus
 use Rattle.fv_eval.specs.declared.machine.Machine as code_machine
 use Rattle.fv_parse_tree.specs.declared.node.TreeId.{TreeId}
-use Rattle.fv_rules.specs.declared.value.Ruled.{Ruled}
-use Rattle.fv_rules.specs.declared.value.Binding as code_binding
-use Rattle.fv_rules.specs.Chosen.{ShowsChoice}
+use Rattle.fv_eval_scopes.specs.declared.value.Ruled.{Ruled}
+use Rattle.fv_eval_scopes.specs.declared.value.Binding as code_binding
+use Rattle.fv_eval_choosing.specs.Chosen.{ShowsChoice}
 
 -- the lists of a machine over a tree
 abbrev pub world : Parsed → code_machine.Machine → World

@@ -27,17 +27,17 @@ use Rattle.fv_top_words.specs.Runs.{Run, Settings}
 use Rattle.fv_top_report.specs.declared.refusal.Refusal.{Refusal}
 use Rattle.fv_top_report.specs.declared.refusal.Refusal.TheVariants.{ReadFault, WriteFault}
 use Rattle.fv_top_text.specs.Compiled.{Compiled, CanPlay}
-use Rattle.fv_top.specs.declared.format.OutputFormat.{OutputFormat as Made}
-use Rattle.fv_top.specs.declared.incoming.Incoming.{Incoming}
-use Rattle.fv_top.specs.declared.input.Loaded.{Loaded}
+use Rattle.fv_top_files.specs.declared.format.OutputFormat.{OutputFormat as Made}
+use Rattle.fv_top_files.specs.declared.incoming.Incoming.{Incoming}
+use Rattle.fv_top_files.specs.declared.input.Loaded.{Loaded}
 use Rattle.fv_top.specs.declared.prepare.Prepared.{Prepared}
-use Rattle.fv_top.specs.Inputs.{truncated}
-use Rattle.fv_top.specs.Loading.{IsLeft}
-use Rattle.fv_top.specs.Output.{output_file}
+use Rattle.fv_top_files.specs.Inputs.{truncated}
+use Rattle.fv_top_files.specs.Loading.{IsLeft}
+use Rattle.fv_top_files.specs.Output.{output_file}
 use Rattle.fv_top.specs.Played.{sizes_of}
 use Rattle.fv_top.specs.Promise.{Plays}
-use Rattle.fv_top.specs.inner.Formats.{format_in}
-use Rattle.fv_top.specs.inner.Loaded.{held_in}
+use Rattle.fv_top_files.specs.Formats.{format_in}
+use Rattle.fv_top_files.specs.Loaded.{held_in}
 
 -- ---- the tape
 

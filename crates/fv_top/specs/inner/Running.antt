@@ -11,7 +11,7 @@ use Rattle.fv_top_words.specs.Commands.{Playing, Checking, Making}
 use Rattle.fv_file_tape.specs.Tapes.{KeepsOutput}
 use Rattle.fv_top_report.specs.declared.refusal.Refusal.{Refusal}
 use Rattle.fv_top_report.specs.declared.refusal.Refusal.TheVariants.{WriteFault}
-use Rattle.fv_top.specs.Loading.{reading}
+use Rattle.fv_top_files.specs.Loading.{reading}
 use Rattle.fv_top.specs.Meant.{check_meant, make_meant, made_sum, written_by}
 use Rattle.fv_top_text.specs.Compiled.{Compiled}
 use Rattle.fv_top_report.specs.Lines.{refused_line}

@@ -5,7 +5,7 @@ use Rattle.fv_parse_grammar.specs.Tree.{Tree, items}
 use Rattle.fv_parse_tree.specs.Arena.{trees}
 use Rattle.fv_parse_tree.specs.declared.node.TreeNode.TheVariants as nodes
 use Rattle.fv_parse.specs.Trees.{tree_in, start_in}
-use Rattle.fv_rules.specs.Shows.{parameters_in}
+use Rattle.fv_eval_scopes.specs.Shows.{parameters_in}
 use Rattle.fv_eval.specs.inner.Continuations.{ShowsName}
 use Rattle.fv_eval.proofs.Moves.{at_node}
 use Rattle.fv_eval.proofs.Others.{no_parameters}

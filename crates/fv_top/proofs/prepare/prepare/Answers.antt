@@ -10,15 +10,15 @@ use Rattle.fv_control.specs.Laws.{IsOfControls}
 use Rattle.fv_top_words.specs.Runs.{Run, Settings}
 use Rattle.fv_top_words.specs.Views.{run_in as run_view}
 use Rattle.fv_top_report.specs.declared.refusal.Refusal.{Refusal}
-use Rattle.fv_top.specs.Loading.{StopsLoading, HasScript, HasInput}
+use Rattle.fv_top_files.specs.Loading.{StopsLoading, HasScript, HasInput, IsHeadRefusal}
 use Rattle.fv_top_text.specs.Compiled.{Compiled}
 use Rattle.fv_top_rack.specs.Kinds.{IsOfKind}
-use Rattle.fv_top.specs.inner.Formats.{format_in}
-use Rattle.fv_top.specs.inner.Loaded.{held_in}
+use Rattle.fv_top_files.specs.Formats.{format_in}
+use Rattle.fv_top_files.specs.Loaded.{held_in}
 use Rattle.fv_pcm.specs.declared.coding.Coding.{Coding}
-use Rattle.fv_top.specs.declared.incoming.Incoming.{Incoming}
-use Rattle.fv_top.specs.Output.{OutputFormat, coding_of, format_for, format_of}
-use Rattle.fv_top.specs.Promise.{HasNoProgram, IsScriptRefusal, IsHeadRefusal}
+use Rattle.fv_top_files.specs.declared.incoming.Incoming.{Incoming}
+use Rattle.fv_top_files.specs.Output.{OutputFormat, coding_of, format_for, format_of}
+use Rattle.fv_top.specs.Promise.{HasNoProgram, IsScriptRefusal}
 use Rattle.fv_top.proofs.Preparing.{AfterProgram, AfterScript, AfterHead, after_program, after_script, after_head}
 use Rattle.fv_top.proofs.Preparing.{stops_program, stops_script, stops_head, stops_fit, stops_memory, files_are, named_is}
 use Rattle.fv_top.proofs.Reaching.{FailsToLoad, fits_frames}

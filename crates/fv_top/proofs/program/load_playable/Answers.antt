@@ -4,7 +4,7 @@ use Rattle.fv_base.specs.declared.role.Role.TheVariants.{Program}
 use Rattle.fv_top_report.specs.declared.refusal.Refusal.{Refusal}
 use Rattle.fv_top_rack.specs.Kinds.{FileIs, IsOfKind}
 use Rattle.fv_top.specs.Promise.{HasNoProgram}
-use Rattle.fv_top.proofs.Loads.{stops_refused}
+use Rattle.fv_top_files.proofs.Loads.{stops_refused}
 use Rattle.fv_top.proofs.program.load_playable.Goals as goal
 
 pub returns-in_err-playable-clause-err : goal.returns-in_err-playable-clause-err

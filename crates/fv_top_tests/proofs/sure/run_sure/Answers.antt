@@ -4,8 +4,8 @@ use Rattle.fv_base.specs.declared.role.Role.TheVariants.{Program, Controls, Inpu
 use Rattle.fv_outside.specs.Desk.{DeskState, File, file_named}
 use Rattle.fv_top_words.specs.Runs.{Run}
 use Rattle.fv_top_words.specs.Commands.{Playing}
-use Rattle.fv_top.specs.Sources.{found}
-use Rattle.fv_top.specs.Loading.{IsThere}
+use Rattle.fv_top_files.specs.Sources.{found}
+use Rattle.fv_top_files.specs.Loading.{IsThere}
 use Rattle.fv_top.specs.Promise.{Write, IsAnswered}
 use Rattle.fv_top.specs.Steps.{Turn, reads, writes, more, none}
 use Rattle.fv_top_tests.specs.Sure.{IsSure}

@@ -1,7 +1,7 @@
 use Rattle.std.proofs.Common.{sym, subst}
 use Rattle.fv_parse.specs.Trees.{Parsed}
-use Rattle.fv_rules.specs.declared.value.Value as code_value
-use Rattle.fv_rules.specs.declared.value.Value.TheVariants as value
+use Rattle.fv_eval_scopes.specs.declared.value.Value as code_value
+use Rattle.fv_eval_scopes.specs.declared.value.Value.TheVariants as value
 use Rattle.fv_eval.specs.inner.Continuations.{Completes, IsShown, world}
 use Rattle.fv_eval.proofs.Completing.{abstraction_completes, diagram_completes, first_shown, rules_complete, rules_inside, rules_took}
 use Rattle.fv_eval.proofs.Parameters.{get_within}

@@ -1,7 +1,7 @@
 use Rattle.std.proofs.Common.{Ok, sym, subst}
 use Rattle.fv_eval.specs.declared.continuation.ForDiagram as code_for_diagram
 use Rattle.fv_eval.specs.declared.continuation.Focus.TheVariants as focus
-use Rattle.fv_rules.specs.declared.value.Value.TheVariants as value
+use Rattle.fv_eval_scopes.specs.declared.value.Value.TheVariants as value
 use Rattle.fv_eval.specs.inner.Continuations.{gave}
 use Rattle.fv_eval.proofs.Received.{Receives, received, left_receives, right_receives, later_receives, negated_receives, binding_receives, ports_receives}
 use Rattle.fv_eval.proofs.Received.{turning_receives, counting_receives, body_receives, finish_receives}

@@ -1,5 +1,5 @@
 use Rattle.fv_parse.specs.Trees.{tree_in}
-use Rattle.fv_rules.specs.Shows.{parameters_in}
+use Rattle.fv_eval_scopes.specs.Shows.{parameters_in}
 use Rattle.fv_eval.proofs.Slotted.{Binds}
 use Rattle.fv_eval.proofs.machine.Machine.on_slots.Given as goal
 

@@ -3,7 +3,7 @@ use Rattle.std.specs.Prelude.{Option}
 use Rattle.fv_parse_grammar.specs.Tree.{start_of}
 use Rattle.fv_parse.specs.Trees.{Parsed, tree_in}
 use Rattle.fv_parse_tree.specs.declared.node.TreeId.{TreeId}
-use Rattle.fv_rules.specs.declared.value.Binding as code_binding
+use Rattle.fv_eval_scopes.specs.declared.value.Binding as code_binding
 use Rattle.fv_rules.specs.Steps.{no_rule}
 use Rattle.fv_eval.specs.inner.Continuations.{Selects}
 use Rattle.fv_eval.proofs.Completing.{BindsAll, chose, refuses}

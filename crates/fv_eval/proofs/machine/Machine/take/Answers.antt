@@ -1,6 +1,6 @@
 use Rattle.std.proofs.Common.{◌+◌, refl, sym, subst}
-use Rattle.fv_rules.specs.declared.value.Value as code_value
-use Rattle.fv_rules.specs.declared.value.Value.TheVariants as value
+use Rattle.fv_eval_scopes.specs.declared.value.Value as code_value
+use Rattle.fv_eval_scopes.specs.declared.value.Value.TheVariants as value
 use Rattle.std.specs.Prelude.{Some, None}
 use Rattle.fv_eval.specs.inner.Continuations.{world}
 use Rattle.fv_eval.proofs.Taking.{Takes, argument_grew, last_of_rules, rules_take}

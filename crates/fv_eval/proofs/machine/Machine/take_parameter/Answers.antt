@@ -1,7 +1,7 @@
 use Rattle.std.proofs.Common.{◌<◌, length, refl, arith}
 use Rattle.fv_parse.specs.Trees.{tree_in}
-use Rattle.fv_rules.specs.declared.value.Scope.TheVariants as scope
-use Rattle.fv_rules.specs.Shows.{parameters_in}
+use Rattle.fv_eval_scopes.specs.declared.value.Scope.TheVariants as scope
+use Rattle.fv_eval_scopes.specs.Shows.{parameters_in}
 use Rattle.fv_eval.proofs.Moves.{scoped_grew}
 use Rattle.fv_eval.proofs.Taking.{bound_below, last_parameter, name_is_there, parameter_takes}
 use Rattle.fv_eval.proofs.machine.Machine.take_parameter.Goals as goal

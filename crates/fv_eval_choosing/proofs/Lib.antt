@@ -1,0 +1,7 @@
+pub mod Named
+pub mod Lookups
+pub mod Matched
+pub mod RulesChosen
+pub mod RuleNodes
+pub mod Told
+pub mod Past

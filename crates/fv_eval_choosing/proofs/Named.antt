@@ -1,0 +1,340 @@
+-- The definitions of a list, by name.
+use Rattle.std.proofs.Common.{◌≡◌, ◌⊎◌, ℕ, zero, suc, ◌+◌, ◌-◌, ◌<◌, ◌≤◌, arith, Bool, true, false, cond, List, [], ◌∷◌, ◌++◌, length, map, take}
+use Rattle.std.proofs.Common.{drop, get_or, Option, Some, None, inl, inr, refl, sym, ap, ap₂, subst, ◌∙◌, All, length-drop, append_assoc}
+use Rattle.std.specs.Prelude.{filter, nat_eq, nat_lt, nat_le, not, ◌&&◌}
+use Rattle.std.specs.List.Sorted.{IsPartitionPoint, IsPermutation, IsStableByKey, ties}
+use Rattle.std.specs.Ordering.{nat_cmp, is_lt}
+use Rattle.std.specs.declared.cmp.Ordering.TheVariants.{Less, Equal, Greater}
+use Rattle.std.specs.Str.{bytes_eq}
+use Rattle.std.specs.List.{cons_option}
+use Rattle.std.proofs.lemmas.Bool.{eq-eqb, eqb-true, ltb-true, leb-true, ltb-false, leb-false, false≢true, cases_lt}
+use Rattle.std.proofs.lemmas.List.Elements.{All-nil, All-cons, All-tail, filter-append, filter_map-append, filter_agree, All-filter}
+use Rattle.std.proofs.lemmas.List.{map-append, take_more, get_or-drop, get_or_push, get_or_append_left, length_push}
+use Rattle.std.proofs.lemmas.List.Sorted.{All-permutation}
+use Rattle.std.proofs.lemmas.Slice.Eq.{bytes_eq-Decides}
+use Rattle.fv_lex.specs.Token.{Lexed}
+use Rattle.fv_parse_grammar.specs.Tree.{Tree, Constant, Function, End, items}
+use Rattle.fv_parse.specs.Trees.{Parsed, size_of, tree_in, text_of, first_named}
+use Rattle.fv_parse.specs.Laws.{SameNumbersSameBytes}
+use Rattle.fv_parse_tree.specs.Arena.{tree_of, forest}
+use Rattle.fv_parse_tree.specs.declared.node.TreeId.{TreeId}
+use Rattle.fv_parse_tree.specs.declared.node.TreeNode.{TreeNode}
+use Rattle.fv_parse_tree.specs.declared.node.TreeNode.TheVariants as nodes
+use Rattle.fv_eval_choosing.specs.declared.by_name.Defined.{Defined}
+use Rattle.fv_rules.specs.Values.{is_of}
+use Rattle.fv_eval_choosing.proofs.RuleNodes.{IsNoFunction, AreOfName}
+use Rattle.fv_eval_choosing.specs.ByName.{is_called, defined_name, called, defined_in, held_by, IsAmong, AreDefined, AreIndexed, AreHeld}
+use Rattle.fv_eval_choosing.specs.inner.Lookup.{HoldsNone}
+
+-- ---- what passes a test from one place up to another, and nowhere else
+
+record Passes {X : Type 0} (p : X → Bool) (xs : List X) (a n : ℕ) : Type 0 where
+  before : (k : ℕ) (d : X) → k < a → p (get_or xs k d) ≡ false
+  within : (k : ℕ) (d : X) → a ≤ k → k < a + n → p (get_or xs k d) ≡ true
+  behind : (k : ℕ) (d : X) → a + n ≤ k → k < length xs → p (get_or xs k d) ≡ false
+  inside : a + n ≤ length xs
+
+-- the same behind the first one
+shorter : {X : Type 0} (p : X → Bool) (x : X) (xs : List X) (a n b m : ℕ) → b ≡ a - 1 → b + m ≡ a + n - 1 → Passes p (x ∷ xs) a n → Passes p xs b m
+shorter p x xs a n b m e f h = record {
+  before = λ k d l. h.before (suc k) d (omega (arith, l));
+  within = λ k d g l. h.within (suc k) d (omega (arith, g)) (omega (arith, l));
+  behind = λ k d g l. h.behind (suc k) d (omega (arith, g)) (omega (arith, l));
+  inside = let i = h.inside in omega arith;
+}
+
+cut : {X : Type 0} (p : X → Bool) (xs : List X) (a n : ℕ) → Passes p xs a n → filter p xs ≡ take n (drop a xs)
+cut p [] zero zero h = refl
+cut p [] zero (suc n) h = let i = h.inside in absurd (omega arith)
+cut p [] (suc a) n h = let i = h.inside in absurd (omega arith)
+cut p (x ∷ xs) (suc a) n h =
+    ap (λ c. cond c (x ∷ filter p xs) (filter p xs)) (h.before 0 x (omega arith))
+    ∙ cut p xs a n (shorter p x xs (suc a) n a n (omega arith) (omega arith) h)
+cut p (x ∷ xs) zero (suc n) h =
+    ap (λ c. cond c (x ∷ filter p xs) (filter p xs)) (h.within 0 x (omega arith) (omega arith))
+    ∙ ap (λ ys. x ∷ ys) (cut p xs zero n (shorter p x xs zero (suc n) zero n (omega arith) (omega arith) h))
+cut p (x ∷ xs) zero zero h =
+    ap (λ c. cond c (x ∷ filter p xs) (filter p xs)) (h.behind 0 x (omega arith) (omega arith))
+    ∙ cut p xs zero zero (shorter p x xs zero zero zero zero (omega arith) (omega arith) h)
+
+-- what stands from where names reach this one up to where they pass it
+pub called_from : (name : ℕ) (xs ys : List Defined) (a n : ℕ) → a ≤ length xs → ys ≡ drop a xs → n ≤ length ys
+    → IsPartitionPoint (λ (d : Defined). nat_lt d.name name ≡ true) (λ (d : Defined). nat_lt d.name name ≡ false) xs a
+    → IsPartitionPoint (λ (d : Defined). nat_le d.name name ≡ true) (λ (d : Defined). nat_le d.name name ≡ false) ys n
+    → filter (is_called name) xs ≡ take n (drop a xs)
+called_from name xs ys a n h rest l low high =
+    cut (is_called name) xs a n (record {
+      before = λ k d m. below (get_or xs k d).name (low.0 k d (omega arith) m);
+      within = λ k d g m. at (get_or xs k d).name (low.1 k d g (omega (arith, m, long))) (low_enough k d g m);
+      behind = λ k d g m. above (get_or xs k d).name (too_high k d g m);
+      inside = long;
+    })
+  where
+    length_rest : length ys ≡ length xs - a
+    length_rest = ap length rest ∙ length-drop a xs
+
+    long : a + n ≤ length xs
+    long = omega (arith, length_rest, l, h)
+
+    same : (k : ℕ) (d : Defined) → a ≤ k → get_or ys (k - a) d ≡ get_or xs k d
+    same k d g =
+        let e : a + (k - a) ≡ k = omega arith in
+        ap (λ zs. get_or zs (k - a) d) rest ∙ get_or-drop a xs (k - a) d ∙ ap (λ j. get_or xs j d) e
+
+    low_enough : (k : ℕ) (d : Defined) → a ≤ k → k < a + n → nat_le (get_or xs k d).name name ≡ true
+    low_enough k d g m = subst (λ (y : Defined). nat_le y.name name ≡ true) (same k d g) (high.0 (k - a) d (omega arith) (omega (arith, g, m)))
+
+    too_high : (k : ℕ) (d : Defined) → a + n ≤ k → k < length xs → nat_le (get_or xs k d).name name ≡ false
+    too_high k d g m =
+        let there : k - a < length ys = omega (arith, g, m, length_rest) in
+        subst (λ (y : Defined). nat_le y.name name ≡ false) (same k d (omega (arith, g))) (high.1 (k - a) d (omega (arith, g)) there)
+
+    other : (b : Bool) → (b ≡ true → ⊥) → b ≡ false
+    other true n = absurd (n refl)
+    other false n = refl
+
+    below : (m : ℕ) → nat_lt m name ≡ true → nat_eq m name ≡ false
+    below m e = other (nat_eq m name) (λ q. let z = eqb-true m name q in let y = ltb-true m name e in absurd (omega arith))
+
+    at : (m : ℕ) → nat_lt m name ≡ false → nat_le m name ≡ true → nat_eq m name ≡ true
+    at m e q = let z = ltb-false m name e in let y = leb-true m name q in eq-eqb m name (omega arith)
+
+    above : (m : ℕ) → nat_le m name ≡ false → nat_eq m name ≡ false
+    above m e = other (nat_eq m name) (λ q. let z = eqb-true m name q in let y = leb-false m name e in absurd (omega arith))
+
+-- names that tie in the order of numbers are equal
+tie : (n m : ℕ) → (not (is_lt (nat_cmp n m)) && not (is_lt (nat_cmp m n))) ≡ nat_eq m n
+tie n m = go (nat_lt n m) (nat_lt m n) (nat_eq n m) (nat_eq m n) refl refl refl
+  where
+    go : (a b c d : Bool) → nat_lt n m ≡ a → nat_lt m n ≡ b → nat_eq m n ≡ d
+        → (not (is_lt (cond a Less (cond c Equal Greater))) && not (is_lt (cond b Less (cond d Equal Greater)))) ≡ d
+    go true b c true e f g = let z = eqb-true m n g in let y = ltb-true n m e in absurd (omega arith)
+    go true b c false e f g = refl
+    go false true true true e f g = let z = eqb-true m n g in let y = ltb-true m n f in absurd (omega arith)
+    go false true false true e f g = let z = eqb-true m n g in let y = ltb-true m n f in absurd (omega arith)
+    go false true true false e f g = refl
+    go false true false false e f g = refl
+    go false false true true e f g = refl
+    go false false false true e f g = refl
+    go false false c false e f g = let z = ltb-false n m e in let y = ltb-false m n f in let x = eq-eqb m n (omega arith) in absurd (false≢true (sym g ∙ x))
+
+-- a stable sort by name keeps the definitions of each name in their order
+pub same_called : (n : ℕ) (xs ys : List Defined) → IsStableByKey (λ (d : Defined). d.name) nat_cmp xs ys → filter (is_called n) ys ≡ filter (is_called n) xs
+same_called n xs ys stable =
+    let x : Defined = record { name = n; node = 0 } in
+    let lt : Defined → Defined → Bool = λ d e. is_lt (nat_cmp d.name e.name) in
+    sym (filter_agree (ties lt x) (is_called n) (λ y. tie n y.name) ys) ∙ stable x ∙ filter_agree (ties lt x) (is_called n) (λ y. tie n y.name) xs
+
+-- ---- a tree is of a name just where its canonical number is that
+
+same_bool : (a b : Bool) → (a ≡ true → b ≡ true) → (b ≡ true → a ≡ true) → a ≡ b
+same_bool true b f g = sym (f refl)
+same_bool false true f g = g refl
+same_bool false false f g = refl
+
+same_test : SameNumbersSameBytes → (l : Lexed) (a n : ℕ) → bytes_eq (text_of l a) (text_of l n) ≡ nat_eq (first_named l a) (first_named l n)
+same_test s l a n =
+    same_bool (bytes_eq (text_of l a) (text_of l n)) (nat_eq (first_named l a) (first_named l n))
+    (λ e. eq-eqb (first_named l a) (first_named l n) ((s l a n).1 ((bytes_eq-Decides (text_of l a) (text_of l n)).0 e)))
+    (λ e. (bytes_eq-Decides (text_of l a) (text_of l n)).1 ((s l a n).0 (eqb-true (first_named l a) (first_named l n) e)))
+
+-- a number that is there, and is this one
+abbrev is_this : Option ℕ → ℕ → Bool
+is_this None m = false
+is_this (Some k) m = nat_eq k m
+
+is_of_same : SameNumbersSameBytes → (l : Lexed) (n : ℕ) (t : Tree) → is_of l (text_of l n) t ≡ is_this (defined_name l t) (first_named l n)
+is_of_same s l n (Constant b a x) = same_test s l a n
+is_of_same s l n (Function b a ps x) = same_test s l a n
+is_of_same s l n t = refl
+
+-- ---- the definitions among nodes
+
+-- the trees of the definitions of a name
+abbrev trees_of : Parsed → ℕ → List Defined → List Tree
+trees_of p n ds = map (λ (d : Defined). tree_in p d.node) (filter (is_called (first_named p.tokens n)) ds)
+
+pub found_among : SameNumbersSameBytes → (p : Parsed) (n : ℕ) (ids : List TreeId)
+    → trees_of p n (defined_in p ids) ≡ filter (is_of p.tokens (text_of p.tokens n)) (map (tree_in p) ids)
+found_among s p n [] = refl
+found_among s p n (id ∷ ids) =
+    let t = tree_in p id in
+    go (defined_in p ids) (filter (is_of p.tokens (text_of p.tokens n)) (map (tree_in p) ids)) (found_among s p n ids)
+    (defined_name p.tokens t) (is_of p.tokens (text_of p.tokens n) t) (is_of_same s p.tokens n t)
+  where
+    is_here : Defined → Bool
+    is_here = is_called (first_named p.tokens n)
+
+    here : (more : List Defined) (ts : List Tree) → trees_of p n more ≡ ts → (d : Defined) (c b : Bool) → tree_in p d.node ≡ tree_in p id → b ≡ c
+        → map (λ (e : Defined). tree_in p e.node) (cond c (d ∷ filter is_here more) (filter is_here more)) ≡ cond b (tree_in p id ∷ ts) ts
+    here more ts h d true true e q = ap₂ (λ x xs. x ∷ xs) e h
+    here more ts h d false false e q = h
+    here more ts h d true false e q = cc
+    here more ts h d false true e q = cc
+
+    go : (more : List Defined) (ts : List Tree) → trees_of p n more ≡ ts → (o : Option ℕ) (b : Bool) → b ≡ is_this o (first_named p.tokens n)
+        → trees_of p n (cons_option (called id o) more) ≡ cond b (tree_in p id ∷ ts) ts
+    go more ts h None b e = h ∙ ap (λ c. cond c (tree_in p id ∷ ts) ts) (sym e)
+    go more ts h (Some k) b e = here more ts h (record { name = k; node = id }) (nat_eq k (first_named p.tokens n)) b refl e
+
+-- the nodes of definitions are there
+abbrev pub AreThere : Parsed → List Defined → Type 0
+AreThere p ds = All (λ (d : Defined). d.node < size_of p) ds
+
+pub there_among : (p : Parsed) (i : ℕ) (ids : List TreeId) → i ≤ size_of p → All (λ (id : TreeId). id < i) ids → AreThere p (defined_in p ids)
+there_among p i [] h a = All-nil (λ (d : Defined). d.node < size_of p)
+there_among p i (id ∷ ids) h a =
+    let q = a 0 id (omega arith) in
+    let others = there_among p i ids h (All-tail (λ (x : TreeId). x < i) id ids a) in
+    go (defined_in p ids) (omega (arith, q, h)) others (defined_name p.tokens (tree_in p id))
+  where
+    go : (more : List Defined) → id < size_of p → AreThere p more → (o : Option ℕ) → AreThere p (cons_option (called id o) more)
+    go more l h None = h
+    go more l h (Some k) = All-cons (λ (d : Defined). d.node < size_of p) (record { name = k; node = id }) more l h
+
+-- one node more
+pub defined_more : (p : Parsed) (ids : List TreeId) (i : ℕ) (id : TreeId) (ds es : List Defined) → i < length ids → id ≡ get_or ids i id
+    → ds ≡ defined_in p (take i ids) → es ≡ ds ++ cons_option (called id (defined_name p.tokens (tree_in p id))) [] → es ≡ defined_in p (take (i + 1) ids)
+defined_more p ids i id ds es l here so grown =
+    grown ∙ ap (λ xs. xs ++ cons_option (called id (defined_name p.tokens (tree_in p id))) []) so
+    ∙ sym (filter_map-append (λ x. called x (defined_name p.tokens (tree_in p x))) (take i ids) (id ∷ []))
+    ∙ ap (defined_in p) (ap (λ x. take i ids ++ x ∷ []) here ∙ sym (take_more ids i id l))
+
+-- the definitions of a list, before they are sorted
+pub are_defined : SameNumbersSameBytes → (p : Parsed) (list : ℕ) (ids : List TreeId) (ds : List Defined) → map (tree_in p) ids ≡ items (tree_in p list)
+    → list ≤ size_of p → All (λ (id : TreeId). id < list) ids → ds ≡ defined_in p ids → AreDefined p list ds
+are_defined s p list ids ds e h a q =
+    subst (AreDefined p list) (sym q)
+    (record { found = λ n. found_among s p n ids ∙ ap (filter (is_of p.tokens (text_of p.tokens n))) e; there = there_among p list ids h a })
+
+-- and after it
+pub still_defined : (p : Parsed) (list : ℕ) (ds es : List Defined) → AreDefined p list ds → ((n : ℕ) → filter (is_called n) es ≡ filter (is_called n) ds)
+    → IsPermutation ds es → AreDefined p list es
+still_defined p list ds es h same moved =
+    record {
+      found = λ n. ap (map (λ (d : Defined). tree_in p d.node)) (same (first_named p.tokens n)) ∙ h.found n;
+      there = All-permutation (λ (d : Defined). d.node < size_of p) ds es moved h.there;
+    }
+
+-- what a node defines
+pub other_form : (l : Lexed) (ts : List Tree) (node : TreeNode) (start : ℕ) → ((n : ℕ) (x : TreeId) → node ≡ nodes.Constant n x → ⊥)
+    → IsNoFunction node → defined_name l (tree_of ts node start) ≡ None
+other_form l ts (nodes.Constant n x) start c f = absurd (c n x refl)
+other_form l ts (nodes.Function n ps x) start c f = absurd (f n ps x refl)
+other_form l ts (nodes.List ids) start c f = none ids.items
+  where
+    none : (is : List TreeId) → defined_name l (forest ts is End) ≡ None
+    none [] = refl
+    none (i ∷ is) = refl
+other_form l ts node start c f = refl
+
+-- ---- all lists
+
+-- the lists below a number are indexed
+pub record AreSorted (p : Parsed) (lists : List (List Defined)) (i : ℕ) : Type 0 where
+  pub many : length lists ≡ i
+  pub each : (j : ℕ) (d : List Defined) → j < i → AreDefined p j (get_or lists j d)
+
+pub sorted_more : (p : Parsed) (lists more : List (List Defined)) (i : ℕ) (list : List Defined) → AreSorted p lists i → AreDefined p i list
+    → more ≡ lists ++ list ∷ [] → AreSorted p more (i + 1)
+sorted_more p lists more i list h one pushed = record {
+  many = ap length pushed ∙ length_push lists list ∙ ap (λ n. n + 1) h.many;
+  each = λ j d l. subst (λ ls. AreDefined p j (get_or ls j d)) (sym pushed) (go j d l (cases_lt j i));
+}
+  where
+    go : (j : ℕ) (d : List Defined) → j < i + 1 → (j < i) ⊎ (i ≤ j) → AreDefined p j (get_or (lists ++ list ∷ []) j d)
+    go j d l (inl lt) = subst (AreDefined p j) (sym (get_or_append_left lists (list ∷ []) d j (let e = h.many in omega arith))) (h.each j d lt)
+    go j d l (inr ge) =
+        let same : i ≡ j = omega arith in
+        subst (λ k. AreDefined p k (get_or (lists ++ list ∷ []) k d)) same (subst (AreDefined p i) (sym (get_or_push lists list d i h.many)) one)
+
+-- what an indexed list has under a name
+pub record IsCalled (p : Parsed) (list name : ℕ) (found : List Defined) : Type 0 where
+  pub trees : AreOfName p list name found
+  pub there : AreThere p found
+
+pub called_in : {p q : Parsed} {lists : List (List Defined)} {list i name : ℕ} {ds found : List Defined} → p ≡ q → AreIndexed p lists → i < length lists
+    → i ≡ list → ds ≡ get_or lists i ds → found ≡ filter (is_called name) ds → IsCalled q list name found
+called_in {p} {lists = lists} {list = list} {i = i} {name = name} {ds = ds} {found = found} view h l same here is =
+    subst (λ (r : Parsed). IsCalled r list name found) view (record {
+      trees = λ n e.
+          ap (map (λ (d : Defined). tree_in p d.node)) (is ∙ ap (λ m. filter (is_called m) ds) (sym e))
+          ∙ at.found n ∙ ap (λ k. filter (is_of p.tokens (text_of p.tokens n)) (items (tree_in p k))) same;
+      there = subst (AreThere p) (sym is) (All-filter (is_called name) (λ (d : Defined). d.node < size_of p) ds at.there);
+    })
+  where
+    at : AreDefined p i ds
+    at = subst (AreDefined p i) (sym here) (h.each i ds l)
+
+-- ---- the lists that define a name
+
+pub held_begins : AreHeld [] []
+held_begins = record { none = λ i n d l h. absurd (omega (arith, l)) }
+
+among_left : (xs ys : List Defined) (i : ℕ) → IsAmong xs i → IsAmong (xs ++ ys) i
+among_left [] ys i h = absurd h
+among_left (x ∷ xs) ys i (inl e) = inl e
+among_left (x ∷ xs) ys i (inr h) = inr (among_left xs ys i h)
+
+among_right : (xs ys : List Defined) (i : ℕ) → IsAmong ys i → IsAmong (xs ++ ys) i
+among_right [] ys i h = h
+among_right (x ∷ xs) ys i h = inr (among_right xs ys i h)
+
+-- a list that is no holder of a name has no definition of it
+not_held : (n : ℕ) (id : TreeId) (ds : List Defined) → (IsAmong (filter (is_called n) (held_by id ds)) id → ⊥) → filter (is_called n) ds ≡ []
+not_held n id [] h = refl
+not_held n id (d ∷ ds) h =
+    go (nat_eq d.name n) (filter (is_called n) (held_by id ds)) (filter (is_called n) ds) h (λ q. not_held n id ds q)
+  where
+    go : (b : Bool) (hs es : List Defined) → (IsAmong (cond b (record { name = d.name; node = id } ∷ hs) hs) id → ⊥) → ((IsAmong hs id → ⊥) → es ≡ [])
+        → cond b (d ∷ es) es ≡ []
+    go true hs es h f = absurd (h (inl refl))
+    go false hs es h f = f h
+
+pub held_more : (lists more : List (List Defined)) (hs ks ds : List Defined) (id : TreeId) → AreHeld lists hs → id ≡ length lists
+    → more ≡ lists ++ ds ∷ [] → ks ≡ hs ++ held_by id ds → AreHeld more ks
+held_more lists more hs ks ds id h place pushed held = record { none = λ i n d l q. go i n d l q (cases_lt i (length lists)) }
+  where
+    split : (n : ℕ) → filter (is_called n) ks ≡ filter (is_called n) hs ++ filter (is_called n) (held_by id ds)
+    split n = ap (filter (is_called n)) held ∙ filter-append (is_called n) hs (held_by id ds)
+
+    go : (i n : ℕ) (d : List Defined) → i < length more → (IsAmong (filter (is_called n) ks) i → ⊥) → (i < length lists) ⊎ (length lists ≤ i)
+        → filter (is_called n) (get_or more i d) ≡ []
+    go i n d l q (inl lt) =
+        ap (λ ls. filter (is_called n) (get_or ls i d)) pushed
+        ∙ ap (filter (is_called n)) (get_or_append_left lists (ds ∷ []) d i lt)
+        ∙ h.none i n d lt (λ a. q (subst (λ xs. IsAmong xs i) (sym (split n))
+        (among_left (filter (is_called n) hs) (filter (is_called n) (held_by id ds)) i a)))
+    go i n d l q (inr ge) =
+        let long : length more ≡ length lists + 1 = ap length pushed ∙ length_push lists ds in
+        let same : id ≡ i = omega (arith, place, ge, l, long) in
+        ap (λ ls. filter (is_called n) (get_or ls i d)) pushed
+        ∙ ap (λ k. filter (is_called n) (get_or (lists ++ ds ∷ []) k d)) (sym same)
+        ∙ ap (filter (is_called n)) (get_or_push lists ds d id (sym place))
+        ∙ not_held n id ds (λ a. q (subst (λ xs. IsAmong xs i) (sym (split n))
+        (among_right (filter (is_called n) hs) (filter (is_called n) (held_by id ds)) i (subst (IsAmong (filter (is_called n) (held_by id ds))) same a))))
+
+pub held_sorted : (lists : List (List Defined)) (hs ks : List Defined) → ((n : ℕ) → filter (is_called n) ks ≡ filter (is_called n) hs) → AreHeld lists hs
+    → AreHeld lists ks
+held_sorted lists hs ks same h =
+    record { none = λ i n d l q. h.none i n d l (λ a. q (subst (λ xs. IsAmong xs i) (sym (same n)) a)) }
+
+pub holds_none : (p q : Parsed) (lists : List (List Defined)) (hs found : List Defined) (name : ℕ) → p ≡ q → AreIndexed p lists → AreHeld lists hs
+    → found ≡ filter (is_called name) hs → HoldsNone q name (IsAmong found)
+holds_none p q lists hs found name view h held is =
+    subst (λ (r : Parsed). HoldsNone r name (IsAmong found)) view (λ list n inside other e.
+    let l : list < length lists = omega (arith, inside, h.whole) in
+    let none = held.none list name [] l (λ a. other (subst (λ xs. IsAmong xs list) (sym is) a)) in
+    sym ((h.each list [] l).found n)
+    ∙ ap (λ m. map (λ (d : Defined). tree_in p d.node) (filter (is_called m) (get_or lists list []))) e
+    ∙ ap (map (λ (d : Defined). tree_in p d.node)) none)
+
+-- what holds a name, one by one
+pub held_next : (ds : List Defined) (i : ℕ) (d : Defined) (id : TreeId) (hs ks es : List Defined) → i < length ds → d ≡ get_or ds i d
+    → ks ≡ hs ++ held_by id (take i ds) → es ≡ ks ++ record { name = d.name; node = id } ∷ [] → es ≡ hs ++ held_by id (take (i + 1) ds)
+held_next ds i d id hs ks es l here so pushed =
+    pushed ∙ ap (λ xs. xs ++ record { name = d.name; node = id } ∷ []) so
+    ∙ append_assoc hs (held_by id (take i ds)) (record { name = d.name; node = id } ∷ [])
+    ∙ ap (λ xs. hs ++ xs)
+    (sym (map-append (λ (x : Defined). record { name = x.name; node = id }) (take i ds) (d ∷ []))
+    ∙ ap (held_by id) (ap (λ x. take i ds ++ x ∷ []) here ∙ sym (take_more ds i d l)))

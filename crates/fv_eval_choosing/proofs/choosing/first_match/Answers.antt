@@ -1,0 +1,41 @@
+use Rattle.std.proofs.Common.{true, Some, sym, subst, arith}
+use Rattle.fv_eval_choosing.specs.Chosen.{Chooses, nodes_of}
+use Rattle.fv_eval_scopes.proofs.Added.{adds_on}
+use Rattle.fv_eval_choosing.proofs.RulesChosen.{NextRule, next_at, rules_begin, rules_go_on, rule_chosen, no_rule_chosen, tried_rule, all_sound}
+use Rattle.fv_eval_choosing.proofs.choosing.first_match.Goals as goal
+
+pub loop-i-init : goal.loop-i-init
+loop-i-init c = rules_begin c.args.tree.now (nodes_of c.args.rules) c.args.arguments.now c.args.diagrams.now c.args.numbers.now c.requires.known
+
+pub loop-i-preserved : goal.loop-i-preserved
+loop-i-preserved c =
+    let new = c.all_match.new in
+    let next : NextRule c.args.tree.now (nodes_of c.args.rules) c.loop-i.i c.node-id.result c.rule_at-rule.result =
+    next_at (nodes_of c.args.rules) c.loop-i.i c.node-id.result c.rule_at-rule.result c.node-id.ensures c.rule_at-rule.ensures in
+    rules_go_on c.loop-i.invariant next
+    (tried_rule c.args.tree.now c.rule_at-rule.result c.args.arguments.now _ _ c.loop-i.diagrams new.diagrams _ new.found.items c.if-branch.false
+    c.new-list.ensures.items c.in_ok-all_match.ensures.adds c.in_ok-all_match.ensures.matched) c.in_ok-all_match.ensures.known
+
+pub all_match-requires-clause-sound : goal.all_match-requires-clause-sound
+all_match-requires-clause-sound c = all_sound c.args.diagrams.now c.loop-i.diagrams c.args.arguments.now c.loop-i.invariant.adds c.requires.sound
+
+pub returns-in_err-all_match-clause-adds : goal.returns-in_err-all_match-clause-adds
+returns-in_err-all_match-clause-adds c =
+    adds_on c.args.diagrams.now c.loop-i.diagrams c.all_match.new.diagrams c.loop-i.invariant.adds c.in_err-all_match.ensures.adds
+
+pub returns-then-branch-clause-adds : goal.returns-then-branch-clause-adds
+returns-then-branch-clause-adds c =
+    adds_on c.args.diagrams.now c.loop-i.diagrams c.all_match.new.diagrams c.loop-i.invariant.adds c.in_ok-all_match.ensures.adds
+
+pub returns-then-branch-clause-chosen : goal.returns-then-branch-clause-chosen
+returns-then-branch-clause-chosen c =
+    let new = c.all_match.new in
+    let next : NextRule c.args.tree.now (nodes_of c.args.rules) c.loop-i.i c.node-id.result c.rule_at-rule.result =
+    next_at (nodes_of c.args.rules) c.loop-i.i c.node-id.result c.rule_at-rule.result c.node-id.ensures c.rule_at-rule.ensures in
+    let try = tried_rule c.args.tree.now c.rule_at-rule.result c.args.arguments.now true _ c.loop-i.diagrams new.diagrams _ new.found.items c.if-branch.true
+    c.new-list.ensures.items c.in_ok-all_match.ensures.adds c.in_ok-all_match.ensures.matched in
+    subst (λ us. Chooses c.args.tree.now (nodes_of c.args.rules) c.args.arguments.now c.args.diagrams.now new.diagrams (Some (c.rule_at-rule.result.body, us)))
+    (sym c.of.ensures) (rule_chosen c.loop-i.invariant next try)
+
+pub returns-clause-chosen : goal.returns-clause-chosen
+returns-clause-chosen c = no_rule_chosen c.loop-i.invariant (omega (arith, c.loop-i-test.false, c.len-i-end.ensures))

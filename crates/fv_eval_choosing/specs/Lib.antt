@@ -1,0 +1,5 @@
+pub mod ByName
+pub mod Choosing
+pub mod Chosen
+pub mod Literals
+pub mod inner

@@ -1,0 +1,48 @@
+-- What the steps of a look-up answer (this project's profile).
+use Rattle.std.specs.Prelude.{◌≡◌, ℕ, suc, ◌<◌, Bool, true, false, List, [], ◌∷◌, length, filter, Option, Some, None}
+use Rattle.std.specs.List.{list_all}
+use Rattle.fv_parse_grammar.specs.Tree.{Tree, Named, items}
+use Rattle.fv_parse.specs.Trees.{Parsed, size_of, tree_in, text_of, first_named}
+use Rattle.fv_eval_scopes.specs.declared.value.Meaning as code_meaning
+use Rattle.fv_eval_scopes.specs.declared.value.Scope as code_scope
+use Rattle.fv_rules.specs.Values.{Name, Env, Outermost, Bound, Scope, Meaning, is_of, definition_of, or_else, lookup}
+use Rattle.fv_eval_scopes.specs.Shows.{World, IsNamed, ShowsEnv, ShowsMeaning}
+
+-- the environment around the innermost scope
+abbrev pub outer : Env → Env
+outer Outermost = Outermost
+outer (Bound x v E) = E
+outer (Scope ds E) = E
+
+-- a scope says what a name stands for, or the environment around it has to
+abbrev pub SaysOrPasses : World → Option code_meaning.Meaning → (here beyond : Meaning) → Type 0
+SaysOrPasses w (Some m) here beyond = ShowsMeaning w m here
+SaysOrPasses w None here beyond = here ≡ beyond
+
+-- The name stands for the same in a further environment.
+pub record StillReaches (p : Parsed) (scopes : List code_scope.Scope) (name env at : ℕ) : Type 0 where
+  pub further : (w : World) (x : Name) (E : Env) → w.tree ≡ p → w.scopes ≡ scopes → IsNamed w name x → ShowsEnv w env E
+      → (F : Env) × ShowsEnv w at F × (lookup p.tokens E x ≡ lookup p.tokens F x)
+
+-- no list but these has a definition of the name
+abbrev pub HoldsNone : Parsed → ℕ → (ℕ → Type 0) → Type 0
+HoldsNone p name Keys =
+    (list n : ℕ) → list < size_of p → (Keys list → ⊥) → first_named p.tokens n ≡ name
+    → filter (is_of p.tokens (text_of p.tokens n)) (items (tree_in p list)) ≡ []
+
+-- this is what the definitions of a name in a list make of it, where this is the first one of so many
+abbrev pub IsMade : Parsed → (list first count env : ℕ) → code_meaning.Meaning → Type 0
+IsMade p list first count env made =
+    (w : World) (x : Name) (E : Env) (more : List Tree) (other : Meaning) → w.tree ≡ p → list < size_of p → ShowsEnv w env E
+    → filter (is_of p.tokens x) (items (tree_in p list)) ≡ tree_in p first ∷ more → count ≡ suc (length more)
+    → ShowsMeaning w made (or_else (definition_of p.tokens (tree_in p first ∷ more)) E other)
+
+-- a pattern is a name
+abbrev pub is_name : Tree → Bool
+is_name (Named s n) = true
+is_name x = false
+
+-- all are names, and there is one
+abbrev pub are_names : List Tree → Bool
+are_names [] = false
+are_names (x ∷ xs) = list_all is_name (x ∷ xs)

@@ -1,0 +1,373 @@
+// What a name stands for.
+
+ghost use Rattle.std.specs.Prelude.{ℕ, ◌≡◌, ◌⊎◌, ◌<◌, ◌≤◌, IfOk, IfSome, IsTrue, OnOk, Some, All, map, filter};
+ghost use Rattle.fv_parse_grammar.specs.Tree.{items};
+ghost use Rattle.fv_parse.specs.Trees.{size_of, tree_in, text_of, first_named};
+ghost use Rattle.fv_rules.specs.Values.{Name, Env, Meaning as PureMeaning, lookup, is_of, definition_of, or_else};
+ghost use Rattle.fv_eval_choosing.specs.declared.by_name.Defined.{Defined as AnItem};
+ghost use Rattle.fv_eval_scopes.specs.Environments.{scope_in};
+ghost use Rattle.fv_eval_choosing.specs.ByName.{IsAmong};
+ghost use Rattle.fv_eval_scopes.specs.declared.value.Ruled.TheVariants.{Definitions as AtDefinitions};
+ghost use Rattle.fv_eval_choosing.specs.Literals.{Tells};
+ghost use Rattle.fv_eval_scopes.specs.Shows.{World, IsInside, IsNamed, ShowsEnv, ShowsMeaning, rules_in};
+ghost use Rattle.fv_eval_choosing.specs.inner.Lookup.{SaysOrPasses, HoldsNone, IsMade, StillReaches, outer, is_name, are_names};
+
+use crate::by_literal::{ByLiteral, by_literal};
+use crate::by_name::{ByName, Defined, by_name, hold};
+use fv_eval_scopes::{Meaning, Ruled, Scope, Scopes, Value, outer_of};
+use fv_parse::{Tree, TreeId, TreeNode, same_names};
+use std::alloc::{AllocError, Global};
+use std::marker::Model;
+
+/// A tree with the definitions of each list in it, sorted by name, and the rules at each place, sorted by a literal where
+/// that tells them apart.
+#[derive(Drop)]
+pub struct Definitions<'a> {
+    tree: &'a Tree<'a>,
+    lists: Vec<ByName>,
+    /// Each name with each list that defines it.
+    holders: ByName,
+    literals: Vec<ByLiteral>,
+    /// For each node at which rules stand, where among `literals` to look for them.
+    places: Vec<u64>,
+}
+
+impl<'a> Model for Definitions<'a> {
+    ghost use Rattle.fv_parse.specs.Trees.{Parsed};
+    ghost use Rattle.fv_eval_choosing.specs.ByName.{AreIndexed, AreHeld};
+    ghost use Rattle.fv_eval_choosing.specs.Literals.{AreTold};
+
+    ghost Value = { Parsed };
+
+    ghost view = { λ d. d.tree.now };
+
+    ghost invariant = { λ d. AreIndexed d.tree.now d.lists.items × AreTold d.tree.now d.literals.items × AreHeld d.lists.items d.holders };
+}
+
+impl<'a> Definitions<'a> {
+    /// The definitions of a tree.
+    pub fn new(alloc: Global, tree: &'a Tree<'a>) -> Result<Definitions<'a>, AllocError>
+        ensures { IfOk result (λ d. d ≡ tree.now) }
+    {
+        let _within: Option<Defined> = None;
+        let mut lists = Vec::new(alloc);
+        let mut held = Vec::new(alloc);
+        for i in 0..tree.len() {
+            let id = TreeId::new(i);
+            let list = by_name(alloc, tree, id)?;
+            hold(&mut held, &list, id)?;
+            lists.push(list)?;
+        }
+        let holders = ByName::sort(held)?;
+        let mut definitions = Definitions {
+            tree,
+            lists,
+            holders,
+            literals: Vec::new(alloc),
+            places: Vec::new(alloc),
+        };
+        definitions.sort_all_rules(alloc)?;
+        Ok(definitions)
+    }
+
+    // The rules at each place, sorted by a literal.
+    fn sort_all_rules(&mut self, alloc: Global) -> Result<(), AllocError>
+        ensures { OnOk result (self.new ≡ self.old) }
+    {
+        let tree = self.tree;
+        for i in 0..tree.len() {
+            self.places.push(0)?;
+            self.sort_rules(alloc, TreeId::new(i))?;
+        }
+        Ok(())
+    }
+
+    // Those at a node: the rules of a `case`, or those of each name of a list of definitions.
+    fn sort_rules(&mut self, alloc: Global, id: TreeId) -> Result<(), AllocError>
+        requires { id < size_of self.old }
+        ensures { OnOk result (self.new ≡ self.old) }
+    {
+        let tree = self.tree;
+        match tree.node(id) {
+            TreeNode::Case(_) => self.sort_by_literal(alloc, &Ruled::Case(id), id)?,
+            TreeNode::List(_) => self.sort_functions(alloc, id)?,
+            _ => {}
+        }
+        Ok(())
+    }
+
+    // The rules of each name of a list of definitions, sorted by a literal.
+    fn sort_functions(&mut self, alloc: Global, list: TreeId) -> Result<(), AllocError>
+        requires { list < size_of self.old }
+        ensures { OnOk result (self.new ≡ self.old) }
+    {
+        let tree = self.tree;
+        for first in tree.items(list) {
+            if self.is_first(list, *first) {
+                let ruled = Ruled::Definitions {
+                    list,
+                    first: *first,
+                };
+                self.sort_by_literal(alloc, &ruled, *first)?;
+            }
+        }
+        Ok(())
+    }
+
+    // Whether a node is the first definition of its name in a list, and one by patterns.
+    fn is_first(&self, list: TreeId, node: TreeId) -> bool
+        requires inside { list < size_of self.now }
+        requires there { node < size_of self.now }
+        ensures { IsTrue result → IsInside self.now (AtDefinitions list node) }
+    {
+        match self.tree.node(node) {
+            TreeNode::Function(name, _, _) => match self
+                .called(list, self.tree.name(*name))
+                .first()
+            {
+                Some(first) => first.node.number() == node.number(),
+                None => false,
+            },
+            _ => false,
+        }
+    }
+
+    // The rules at a place, sorted by a literal, to be looked for at a node.
+    fn sort_by_literal(
+        &mut self,
+        alloc: Global,
+        ruled: &Ruled,
+        node: TreeId,
+    ) -> Result<(), AllocError>
+        requires { IsInside self.old ruled.now }
+        ensures { OnOk result (self.new ≡ self.old) }
+    {
+        let rules = self.rules(*ruled);
+        let Some(sorted) = by_literal(alloc, self.tree, ruled, rules)? else {
+            return Ok(());
+        };
+        let place = self.literals.len() as u64;
+        self.literals.push(sorted)?;
+        let i = node.number() as usize;
+        if i < self.places.len() {
+            self.places[i] = place;
+        }
+        Ok(())
+    }
+
+    /// The rules at a place, where a literal tells those at the front apart.
+    pub(crate) fn told(&self, ruled: &Ruled) -> Option<&ByLiteral>
+        ensures { IfSome result (λ b. Tells self.now (rules_in self.now ruled.now) b.now) }
+    {
+        let node = match ruled {
+            Ruled::Case(id) => id.number(),
+            Ruled::Definitions { first, .. } => first.number(),
+        };
+        let place = self.places.get(node as usize).copied()?;
+        let found = self.literals.get(place as usize)?;
+        if is_same(&found.ruled, ruled) {
+            Some(found)
+        } else {
+            None
+        }
+    }
+
+    /// What a name, by its canonical number, stands for in an environment.
+    pub fn look_up(&self, scopes: &Scopes, name: u64, env: u64) -> Meaning
+        ensures { (w : World) (x : Name) (E : Env)
+            → w.tree ≡ self.now → w.scopes ≡ scopes.now.scopes → IsNamed w name x → ShowsEnv w env E
+            → ShowsMeaning w result (lookup self.now.tokens E x) }
+    {
+        // To ask for each list that defines the name costs as much as so many steps, so they are taken before.
+        let holders = self.holders(name).len();
+        let mut steps = holders;
+        let mut at = env;
+        'outward: while let Some(scope) = scopes.scope(at) {
+            if let Some(meaning) = self.in_scope(&scope, name, at) {
+                return meaning;
+            }
+            let outer = outer_of(&scope);
+            // No environment stands around itself.
+            if outer >= at {
+                return Meaning::Unknown;
+            }
+            at = self.further(scopes, name, outer, steps);
+            steps = steps_left(steps, holders);
+        }
+        Meaning::Unknown
+    }
+
+    // The next environment from one outward to look at: this one, while there are steps left.
+    fn further(&self, scopes: &Scopes, name: u64, env: u64, steps: usize) -> u64
+        ensures reaches { StillReaches self.now scopes.now.scopes name env result }
+        ensures outward { result ≤ env }
+    {
+        if steps > 0 {
+            env
+        } else {
+            self.past(scopes, name, env)
+        }
+    }
+
+    // The first environment from one outward that may have something of a name.
+    fn past(&self, scopes: &Scopes, name: u64, env: u64) -> u64
+        ensures reaches { StillReaches self.now scopes.now.scopes name env result }
+        ensures outward { result ≤ env }
+    {
+        let holders = self.holders(name);
+        let mut at = scopes.lead(env, name);
+        for holder in holders {
+            let other = scopes.lead(env, holder.node.number());
+            at = nearer(at, other);
+        }
+        at
+    }
+
+    // The lists that define a name; no other list has a definition of it.
+    fn holders(&self, name: u64) -> &[Defined]
+        ensures { HoldsNone self.now name (IsAmong result.now) }
+    {
+        self.holders.called(name)
+    }
+
+    // What the innermost scope of an environment makes of a name.
+    fn in_scope(&self, scope: &Scope, name: u64, env: u64) -> Option<Meaning>
+        ensures { (w : World) (x : Name) (E : Env)
+            → w.tree ≡ self.now → scope_in w.scopes env ≡ Some scope.now → IsNamed w name x → ShowsEnv w env E
+            → SaysOrPasses w result (lookup self.now.tokens E x) (lookup self.now.tokens (outer E) x) }
+    {
+        match scope {
+            Scope::Bound {
+                name: bound,
+                value,
+                outer: _,
+            } => {
+                if *bound == name {
+                    Some(Meaning::Known(*value))
+                } else {
+                    None
+                }
+            }
+            Scope::Definitions { list, outer: _ } => self.defined(*list, name, env),
+        }
+    }
+
+    // What the definitions of a name in a list make of it, in the environment of the list.
+    fn defined(&self, list: TreeId, name: u64, env: u64) -> Option<Meaning>
+        ensures { (w : World) (x : Name) (E : Env) (m : PureMeaning)
+            → w.tree ≡ self.now → list < size_of w.tree → IsNamed w name x → ShowsEnv w env E
+            → SaysOrPasses w result
+            (or_else (definition_of self.now.tokens (filter (is_of self.now.tokens x) (items (tree_in self.now list)))) E m) m }
+    {
+        let found = self.called(list, name);
+        let first = found.first()?;
+        let count = found.len() as u64;
+        Some(made(self.tree, list, first.node, count, env))
+    }
+
+    /// The tree.
+    pub fn tree(&self) -> &Tree<'a>
+        ensures { result.now ≡ self.now }
+    {
+        self.tree
+    }
+
+    /// The definitions of a name in a list, in order.
+    pub(crate) fn called(&self, list: TreeId, name: u64) -> &[Defined]
+        ensures found { list < size_of self.now → (n : ℕ) → first_named self.now.tokens n ≡ name
+            → map (λ (d : AnItem). tree_in self.now d.node) result.now
+            ≡ filter (is_of self.now.tokens (text_of self.now.tokens n)) (items (tree_in self.now list)) }
+        ensures there { All (λ (d : AnItem). d.node < size_of self.now) result.now }
+    {
+        let i = list.number() as usize;
+        if i < self.lists.len() {
+            self.lists[i].called(name)
+        } else {
+            &[]
+        }
+    }
+}
+
+// Whether rules stand at the same place.
+fn is_same(a: &Ruled, b: &Ruled) -> bool
+    ensures { IsTrue result → a.now ≡ b.now }
+{
+    match a {
+        Ruled::Case(id) => match b {
+            Ruled::Case(other) => id.number() == other.number(),
+            Ruled::Definitions { .. } => false,
+        },
+        Ruled::Definitions { list, first } => match b {
+            Ruled::Case(_) => false,
+            Ruled::Definitions {
+                list: other,
+                first: node,
+            } => list.number() == other.number() && first.number() == node.number(),
+        },
+    }
+}
+
+// What so many definitions of a name, of which this is the first one, make of it.
+fn made(tree: &Tree, list: TreeId, first: TreeId, count: u64, env: u64) -> Meaning
+    requires { first < size_of tree.now }
+    ensures { IsMade tree.now list first count env result }
+{
+    match tree.node(first) {
+        TreeNode::Constant(_, body) => Meaning::Body { body: *body, env },
+        TreeNode::Function(_, patterns, _) => {
+            if count == 1 && are_names(tree, *patterns) {
+                Meaning::Known(Value::Abstraction {
+                    node: first,
+                    bound: 0,
+                    env,
+                })
+            } else {
+                Meaning::Known(Value::Rules {
+                    ruled: Ruled::Definitions { list, first },
+                    env,
+                    count: 0,
+                    last: 0,
+                })
+            }
+        }
+        // It is no definition.
+        _ => Meaning::Unknown,
+    }
+}
+
+// How many steps are left after one: all again, where none was left.
+fn steps_left(steps: usize, all: usize) -> usize {
+    if steps == 0 { all } else { steps - 1 }
+}
+
+// The nearer one of two environments further outward.
+fn nearer(a: u64, b: u64) -> u64
+    ensures { ((result ≡ a) × (b ≤ a)) ⊎ ((result ≡ b) × (a ≤ b)) }
+{
+    if b <= a { a } else { b }
+}
+
+// Whether a node is a name.
+fn is_name(tree: &Tree, id: TreeId) -> bool
+    requires { id < size_of tree.now }
+    ensures { result ≡ is_name (tree_in tree.now id) }
+{
+    match tree.node(id) {
+        TreeNode::Named(_) => true,
+        _ => false,
+    }
+}
+
+// Whether patterns are names, at least one.
+fn are_names(tree: &Tree, patterns: TreeId) -> bool
+    requires { patterns < size_of tree.now }
+    ensures { result ≡ are_names (items (tree_in tree.now patterns)) }
+{
+    let items = tree.items(patterns);
+    for id in items {
+        if !is_name(tree, *id) {
+            return false;
+        }
+    }
+    !items.is_empty()
+}

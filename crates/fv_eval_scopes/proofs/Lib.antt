@@ -1,0 +1,5 @@
+pub mod Grown
+pub mod Forks
+pub mod Outward
+pub mod Scoped
+pub mod Added

@@ -1,0 +1,5 @@
+pub mod Environments
+pub mod Tries
+pub mod Ways
+pub mod Shows
+pub mod Memo

@@ -1,0 +1,14 @@
+//! Values and environments of an evaluation, as numbers of its lists; ways outward over scopes; what is remembered of diagrams'
+//! numbers.
+#![tactic(auto)]
+
+mod memo;
+mod scopes;
+mod tries;
+mod value;
+mod ways;
+
+pub use memo::{Known, Numbers};
+pub use scopes::Scopes;
+pub use value::{Argument, Binding, Meaning, Ruled, Scope, Value};
+pub use ways::outer_of;

@@ -1,0 +1,162 @@
+// The environments of an evaluation, and the arguments that rules have taken.
+
+ghost use Rattle.std.specs.Prelude.{◌≡◌, ◌+◌, ◌<◌, ◌≤◌, [], ◌∷◌, ◌++◌, length, IfOk, IfSome, OnErr, slice_get};
+ghost use Rattle.fv_eval_scopes.specs.declared.value.Scope.TheVariants.{Bound, Definitions};
+ghost use Rattle.fv_eval_scopes.specs.Ways.{PassesTo};
+ghost use Rattle.fv_eval_scopes.specs.Environments.{scope_in, with_scope, with_argument};
+ghost use Rattle.fv_rules.specs.Values.{Env, Taken, in_order};
+ghost use Rattle.fv_eval_scopes.specs.declared.value.Value.{Value as AValue};
+ghost use Rattle.fv_rules.specs.Matching.{Bindings, bound_in};
+ghost use Rattle.fv_eval_scopes.specs.Shows.{World, ShowsEnv, ShowsTaken, ShowsValues, ShowsBindings, Grows};
+
+use crate::value::{Argument, Binding, Ruled, Scope, Value};
+use crate::ways::Ways;
+use fv_base::limits::MOST_SCOPES;
+use fv_parse::TreeId;
+use fv_rules::too_many_to_keep;
+use std::alloc::{AllocError, Global};
+use std::marker::Model;
+
+/// Environments and arguments that rules have taken. They are shared: one is made of the number of another, and is
+/// never changed. Environment 0 is the outermost one.
+#[derive(Drop)]
+pub struct Scopes {
+    scopes: Vec<Scope>,
+    ways: Ways,
+    taken: Vec<Argument>,
+}
+
+impl Model for Scopes {
+    ghost use Rattle.fv_eval_scopes.specs.Environments.{Environments};
+    ghost use Rattle.fv_eval_scopes.specs.Ways.{AreWays};
+
+    ghost Value = { Environments };
+
+    ghost view = { λ s. record { scopes = s.scopes.items; taken = s.taken.items } };
+
+    ghost invariant = { λ s. AreWays s.scopes.items s.ways };
+}
+
+impl Scopes {
+    /// The outermost environment alone.
+    pub fn new(alloc: Global) -> Scopes
+        ensures { result ≡ record { scopes = []; taken = [] } }
+    {
+        Scopes {
+            scopes: Vec::new(alloc),
+            ways: Ways::new(alloc),
+            taken: Vec::new(alloc),
+        }
+    }
+
+    /// A name bound to a value, in an environment: the number of the new environment.
+    pub fn bind(&mut self, name: u64, value: Value, outer: u64) -> Result<u64, AllocError>
+        ensures ok { IfOk result (λ i. (i ≡ length self.old.scopes + 1)
+            × (self.new ≡ with_scope self.old (Bound name value outer))) }
+        ensures err { OnErr result (self.new ≡ self.old) }
+    {
+        self.push(Scope::Bound { name, value, outer })
+    }
+
+    /// A list of definitions, in an environment: the number of the new environment.
+    pub fn open(&mut self, list: TreeId, outer: u64) -> Result<u64, AllocError>
+        ensures ok { IfOk result (λ i. (i ≡ length self.old.scopes + 1)
+            × (self.new ≡ with_scope self.old (Definitions list outer))) }
+        ensures err { OnErr result (self.new ≡ self.old) }
+    {
+        self.push(Scope::Definitions { list, outer })
+    }
+
+    // One scope more, with the way outward from it.
+    fn push(&mut self, scope: Scope) -> Result<u64, AllocError>
+        ensures ok { IfOk result (λ i. (i ≡ length self.old.scopes + 1) × (self.new ≡ with_scope self.old scope)) }
+        ensures err { OnErr result (self.new ≡ self.old) }
+    {
+        // The borrow checker's proof needs the types within `Scope` named here.
+        let _within: Option<(Value, Ruled)> = None;
+        if self.scopes.len() as u64 >= MOST_SCOPES {
+            return Err(too_many_to_keep());
+        }
+        self.scopes.push(scope)?;
+        if let Err(refused) = self.ways.add(&scope) {
+            self.scopes.pop();
+            return Err(refused);
+        }
+        Ok(self.scopes.len() as u64)
+    }
+
+    /// One argument more behind the one with this number: the number of the new one.
+    pub fn take(&mut self, value: Value, before: u64) -> Result<u64, AllocError>
+        ensures ok { IfOk result (λ i. (i ≡ length self.old.taken)
+            × (self.new ≡ with_argument self.old (record { value = value; before = before }))) }
+        ensures err { OnErr result (self.new ≡ self.old) }
+    {
+        let place = self.taken.len() as u64;
+        if place >= MOST_SCOPES {
+            return Err(too_many_to_keep());
+        }
+        self.taken.push(Argument { value, before })?;
+        Ok(place)
+    }
+
+    /// The innermost scope of an environment; the outermost environment has none.
+    pub fn scope(&self, env: u64) -> Option<Scope>
+        ensures { result ≡ scope_in self.now.scopes env }
+    {
+        if env == 0 {
+            return None;
+        }
+        self.scopes.get((env - 1) as usize).copied()
+    }
+
+    /// An environment further outward, behind scopes that are all kept by other numbers; it may be the same. A scope is kept
+    /// by the name that it binds, or by its list of definitions.
+    pub fn lead(&self, env: u64, key: u64) -> u64
+        ensures { PassesTo self.now.scopes (λ m. m ≡ key) env result }
+    {
+        self.ways.lead(env, key)
+    }
+
+    /// The arguments that rules have taken, in order: so many, of which the last one has this number.
+    pub fn arguments(&self, alloc: Global, count: u64, last: u64) -> Result<Vec<Value>, AllocError>
+        ensures { IfOk result (λ v. (w : World) (T : Taken)
+            → w.taken ≡ self.now.taken → ShowsTaken w count last T → ShowsValues w v.items (in_order T [])) }
+    {
+        let _within: Option<(Value, Ruled)> = None;
+        let mut arguments = Vec::new(alloc);
+        let mut left = count;
+        let mut at = last;
+        'back: while left > 0 {
+            let Some(argument) = self.argument(at) else {
+                return Ok(arguments);
+            };
+            arguments.push(argument.value)?;
+            at = argument.before;
+            left -= 1;
+        }
+        arguments.reverse();
+        Ok(arguments)
+    }
+
+    // An argument that was taken.
+    fn argument(&self, place: u64) -> Option<Argument>
+        ensures { result ≡ slice_get self.now.taken place }
+    {
+        self.taken.get(place as usize).copied()
+    }
+
+    /// Names bound to values, one after the other, in an environment: the number of the innermost environment.
+    pub fn bind_all(&mut self, bindings: &[Binding], outer: u64) -> Result<u64, AllocError>
+        ensures grows { (w : World) → w.scopes ≡ self.old.scopes → Grows w (record w { scopes = self.new.scopes }) }
+        ensures taken { self.new.taken ≡ self.old.taken }
+        ensures bound { IfOk result (λ i. (w : World) (E : Env) (bs : Bindings)
+            → w.scopes ≡ self.old.scopes → ShowsEnv w outer E → ShowsBindings w bindings.now bs
+            → ShowsEnv (record w { scopes = self.new.scopes }) i (bound_in E bs)) }
+    {
+        let mut env = outer;
+        for binding in bindings {
+            env = self.bind(binding.name, binding.value, env)?;
+        }
+        Ok(env)
+    }
+}

@@ -1,0 +1,126 @@
+// Binary trees that share what they have in common, in which a number is found by its lowest bits.
+
+ghost use Rattle.std.specs.Prelude.{ℕ, ◌≡◌, ◌⊎◌, ◌<◌, ◌-◌, [], Some, IfOk};
+ghost use Rattle.fv_eval_scopes.specs.declared.tries.TheConstants.{LEVELS};
+ghost use Rattle.fv_eval_scopes.specs.Tries.{child, child_of, found, AreThere, IsGrown, IsWith};
+
+use std::alloc::{AllocError, Global};
+use std::marker::Model;
+
+/// How many bits lead from a root to a value. Numbers that have them in common are not told apart.
+pub(crate) const LEVELS: u64 = 12;
+
+/// Where each bit leads from a node.
+#[derive(Clone, Copy, Debug)]
+pub(crate) struct Fork {
+    zero: u64,
+    one: u64,
+}
+
+/// The nodes of all trees. Node 0 is a tree in which every number has the value 0; the others are numbered from 1 on. What
+/// was made is never changed: a tree with one value more has the rest of another one.
+#[derive(Drop)]
+pub(crate) struct Tries {
+    forks: Vec<Fork>,
+}
+
+impl Model for Tries {
+    ghost use Rattle.std.specs.Prelude.{List};
+    ghost use Rattle.fv_eval_scopes.specs.declared.tries.Fork.{Fork};
+
+    ghost Value = { List Fork };
+
+    ghost view = { λ t. t.forks.items };
+}
+
+impl Tries {
+    /// No node but 0.
+    pub(crate) fn new(alloc: Global) -> Tries
+        ensures { result ≡ [] }
+    {
+        Tries {
+            forks: Vec::new(alloc),
+        }
+    }
+
+    // Where a bit leads from a node.
+    fn child(&self, node: u64, bit: u64) -> u64
+        ensures { result ≡ child self.now node bit }
+    {
+        if node == 0 {
+            return 0;
+        }
+        match self.forks.get((node - 1) as usize) {
+            None => 0,
+            Some(fork) => side(fork, bit),
+        }
+    }
+
+    /// The value of a number in the tree with this root.
+    pub(crate) fn find(&self, root: u64, number: u64) -> u64
+        ensures { result ≡ found self.now LEVELS root number }
+    {
+        let mut node = root;
+        let mut rest = number;
+        let mut left = LEVELS;
+        'down: while left > 0 {
+            node = self.child(node, rest % 2);
+            rest /= 2;
+            left -= 1;
+        }
+        node
+    }
+
+    /// A tree of so many levels in which this number has this value, and each other one what it has in another tree.
+    pub(crate) fn with(
+        &mut self,
+        root: u64,
+        levels: u64,
+        number: u64,
+        value: u64,
+    ) -> Result<u64, AllocError>
+        ensures grown { IsGrown self.old self.new }
+        ensures with { IfOk result (λ r. AreThere self.old levels root → IsWith self.old self.new levels root number value r) }
+    {
+        if levels == 0 {
+            return Ok(value);
+        }
+        let bit = number % 2;
+        let other = self.child(root, 1 - bit);
+        let next = self.child(root, bit);
+        let below = self.with(next, levels - 1, number / 2, value)?;
+        let fork = forked(bit, below, other);
+        self.forks.push(fork)?;
+        Ok(self.forks.len() as u64)
+    }
+}
+
+// Where a bit leads from a fork.
+fn side(fork: &Fork, bit: u64) -> u64
+    ensures { result ≡ child_of (Some fork.now) bit }
+{
+    match bit {
+        0 => fork.zero,
+        _ => fork.one,
+    }
+}
+
+// A bit leads one way, and the other one the other way.
+fn forked(bit: u64, there: u64, other: u64) -> Fork
+    requires { bit < 2 }
+    ensures there { child_of (Some result) bit ≡ there }
+    ensures other { child_of (Some result) (1 - bit) ≡ other }
+    ensures either { (b : ℕ) → (child_of (Some result) b ≡ there) ⊎ (child_of (Some result) b ≡ other) }
+{
+    if bit == 0 {
+        Fork {
+            zero: there,
+            one: other,
+        }
+    } else {
+        Fork {
+            zero: other,
+            one: there,
+        }
+    }
+}

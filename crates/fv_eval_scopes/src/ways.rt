@@ -1,0 +1,125 @@
+// Ways outward from environments over scopes that have nothing of a name.
+
+ghost use Rattle.std.specs.Prelude.{◌≡◌, ◌≤◌, [], ◌∷◌, ◌++◌, List, IfOk, OnErr, length, slice_get};
+ghost use Rattle.fv_eval_scopes.specs.declared.value.Scope.{Scope as AScope};
+ghost use Rattle.fv_eval_scopes.specs.Environments.{outer_number};
+ghost use Rattle.fv_eval_scopes.specs.Ways.{PassesTo, IsWay, AreWays, key_of};
+
+use crate::tries::{LEVELS, Tries};
+use crate::value::{Ruled, Scope, Value};
+use std::alloc::{AllocError, Global};
+
+/// A way outward over scopes. Each is kept by the name that it binds, or by its list of definitions: the tree with this root
+/// has, for each such number, the nearest environment whose scope is kept by it, or by another one that is not told apart
+/// from it. What is not there leads to the end of the way.
+#[derive(Clone, Copy, Debug)]
+pub(crate) struct Way {
+    root: u64,
+    end: u64,
+}
+
+/// The ways outward from environments, one for each but the outermost.
+#[derive(Drop)]
+pub(crate) struct Ways {
+    tries: Tries,
+    ways: Vec<Way>,
+}
+
+impl Ways {
+    /// None.
+    pub(crate) fn new(alloc: Global) -> Ways
+        ensures { AreWays [] result }
+    {
+        Ways {
+            tries: Tries::new(alloc),
+            ways: Vec::new(alloc),
+        }
+    }
+
+    // The way outward from an environment; from the outermost one it goes nowhere.
+    fn outward(&self, env: u64) -> Way
+        ensures { (scopes : List AScope) → AreWays scopes self.now → IsWay scopes self.now.tries env result }
+    {
+        let nowhere = Way { root: 0, end: env };
+        if env == 0 {
+            return nowhere;
+        }
+        match self.made(env - 1) {
+            None => nowhere,
+            Some(way) => way,
+        }
+    }
+
+    // One of the ways.
+    fn made(&self, place: u64) -> Option<Way>
+        ensures { result ≡ slice_get self.now.ways.items place }
+    {
+        self.ways.get(place as usize).copied()
+    }
+
+    /// An environment further outward, behind scopes that are all kept by other numbers; it may be the same.
+    pub(crate) fn lead(&self, env: u64, key: u64) -> u64
+        ensures { (scopes : List AScope) → AreWays scopes self.now → PassesTo scopes (λ m. m ≡ key) env result }
+    {
+        let way = self.outward(env);
+        let found = self.tries.find(way.root, key);
+        if found == 0 { way.end } else { found }
+    }
+
+    /// The way outward from one scope more.
+    pub(crate) fn add(&mut self, scope: &Scope) -> Result<(), AllocError>
+        ensures ok { IfOk result (λ _. (scopes : List AScope) → AreWays scopes self.old → AreWays (scopes ++ scope.now ∷ []) self.new) }
+        ensures err { OnErr result ((scopes : List AScope) → AreWays scopes self.old → AreWays scopes self.new) }
+    {
+        let _within: Option<(Value, Ruled)> = None;
+        let outer = outer_of(scope);
+        // No environment stands around itself.
+        if outer > self.ways.len() as u64 {
+            self.end()
+        } else {
+            self.go_on(key_of(scope), outer)
+        }
+    }
+
+    // The way outward from a scope with this key in an environment: it goes on where the one from there goes.
+    fn go_on(&mut self, key: u64, outer: u64) -> Result<(), AllocError>
+        ensures ok { IfOk result (λ _. (scopes : List AScope) (s : AScope) → key_of s ≡ key → outer_number s ≡ outer
+            → outer ≤ length scopes → AreWays scopes self.old → AreWays (scopes ++ s ∷ []) self.new) }
+        ensures err { OnErr result ((scopes : List AScope) → AreWays scopes self.old → AreWays scopes self.new) }
+    {
+        let way = self.outward(outer);
+        let here = self.ways.len() as u64 + 1;
+        let root = self.tries.with(way.root, LEVELS, key, here)?;
+        self.ways.push(Way { root, end: way.end })?;
+        Ok(())
+    }
+
+    // A way that goes nowhere.
+    fn end(&mut self) -> Result<(), AllocError>
+        ensures ok { IfOk result (λ _. (scopes : List AScope) (s : AScope) → AreWays scopes self.old → AreWays (scopes ++ s ∷ []) self.new) }
+        ensures err { OnErr result ((scopes : List AScope) → AreWays scopes self.old → AreWays scopes self.new) }
+    {
+        let here = self.ways.len() as u64 + 1;
+        self.ways.push(Way { root: 0, end: here })?;
+        Ok(())
+    }
+}
+
+/// The number of the environment around a scope.
+pub fn outer_of(scope: &Scope) -> u64
+    ensures { result ≡ outer_number scope.now }
+{
+    match scope {
+        Scope::Bound { outer, .. } | Scope::Definitions { outer, .. } => *outer,
+    }
+}
+
+// What a scope is kept by.
+fn key_of(scope: &Scope) -> u64
+    ensures { result ≡ key_of scope.now }
+{
+    match scope {
+        Scope::Bound { name, .. } => *name,
+        Scope::Definitions { list, .. } => list.number(),
+    }
+}

@@ -1,4 +1,0 @@
-use Rattle.fv_rules.proofs.tries.Tries.+with.Given as goal
-
-abbrev pub decreases-with : goal.decreases-with
-decreases-with l = l.levels

@@ -1,0 +1,14 @@
+-- What the code's formats of outputs are.
+use Rattle.std.specs.Prelude.{Result, Ok, Err}
+use Rattle.fv_top_report.specs.declared.refusal.Refusal.{Refusal}
+use Rattle.fv_top_files.specs.Output.{OutputFormat}
+use Rattle.fv_top_files.specs.declared.format.OutputFormat.{OutputFormat as Made}
+
+-- what the code's formats are
+abbrev pub format_in : Made → OutputFormat
+format_in s = record { coding = s.coding; rate = s.rate; bits = s.bits; frames = s.frames }
+
+-- the same as an answer
+abbrev pub format_answered : Result Made Refusal → Result OutputFormat Refusal
+format_answered (Ok s) = Ok (format_in s)
+format_answered (Err e) = Err e

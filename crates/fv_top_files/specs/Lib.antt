@@ -1,0 +1,6 @@
+pub mod Inputs
+pub mod Sources
+pub mod Output
+pub mod Loading
+pub mod Formats
+pub mod Loaded

@@ -1,0 +1,14 @@
+//! The files of a run: the first bytes of a file, the head of an input, and the format of the output that is made on it.
+#![tactic(auto)]
+
+mod files;
+mod format;
+mod frames;
+mod incoming;
+mod input;
+
+pub use files::{read_front, read_refusal};
+pub use format::{OutputFormat, fit};
+pub use frames::frame_size;
+pub use incoming::{Incoming, au_incoming, wave_incoming};
+pub use input::{Loaded, load_head};
