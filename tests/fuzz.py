@@ -82,6 +82,7 @@ class Maker:
         ways = [self.side_by_side, self.in_turn, self.split, self.merged, self.fed_back, self.applied, self.qualified, self.repeated]
         ways += [self.calculated, self.calculated, self.shaped] if outputs == 1 else []
         ways += [self.delayed] if outputs else []
+        ways += [self.tabled] if (inputs, outputs) in [(0, 2), (1, 1), (3, 1)] else []
         text = self.among(ways)(inputs, outputs, depth - 1, scope)
         return text if text is not None else self.leaf(inputs, outputs)
 
@@ -171,6 +172,15 @@ class Maker:
             return f"{self.made(inputs, 1, depth, scope)}'"
         return f"({self.made(inputs, outputs, depth, scope)} : {','.join(self.among(['mem', '_', '@(2)']) for _ in range(outputs))})"
 
+    def tabled(self, inputs, outputs, depth, scope):
+        """A waveform, a table, or a table that is written."""
+        waveform = f"waveform{{{','.join(str(self.among(NUMBERS)) for _ in range(self.among([1, 2, 3, 7])))}}}"
+        if outputs == 2:
+            return waveform
+        numbers = self.made(0, 1, depth, scope if self.chance.random() < 0.1 else {})
+        head = self.among([waveform, f"{self.among([1, 2, 3, 8, 0])},({numbers})", f"{self.among([1, 4])},(+({self.among(NUMBERS)}) ~ _)"])
+        return f"({head},{','.join('_' * inputs)} : {'rdtable' if inputs == 1 else 'rwtable'})"
+
     def applied(self, inputs, outputs, depth, scope):
         shape, name = (self.among([0, 0, 1]), 1), self.name()
         body = self.made(inputs, outputs, depth, {**scope, name: shape})
@@ -210,6 +220,11 @@ RULED = [
     "r(n) = + ~ mem : *(n); process = par(i,{2}+1,r(i+{0}));",
     "process = _ <: par(i,2,+ ~ (@(i+{2}) : *({1}) : >>(8))) :> _;",
     "osc = (+({0}) ~ _) - 1; process = osc & {1}, osc % ({2}+1);",
+    "process = rdtable({2}+1,(+({0}) ~ _),_);",
+    "table = case {{ (0) => rdtable; (n) => waveform{{{0},{1},-3}} : !,_; }}; process = waveform{{{2},5}},table(1) : table(0);",
+    "process = par(i,2,rwtable({2}+1,{0}+i,_,_,_));",
+    "process = waveform{{{0},{1}}}, {2}, _, _ : rwtable;",
+    "process = _ @ (waveform{{1,{2}}} : !,_), _ @ (_ : rdtable({2}+1,7));",
 ]
 # what is refused now and then, by the numbers
 REFUSED = [
@@ -230,6 +245,12 @@ REFUSED = [
     "process = par(i,256 + {2} - 3,_);",
     "process = ({0},{1})({2});",
     "process = (_,_ : +)({0},{1},{2});",
+    "process = rdtable({0} % 2,{1},_);",
+    "process = rdtable({2},{0} + _,_);",
+    "process = {0},rdtable;",
+    "process = rdtable(8388608,{0},_), rdtable({2} - 2,1,_), (waveform{{{1}}} : !,_);",
+    "process = \\(x).(rdtable({2},x,_));",
+    "process = {0},{1} : rdtable;",
 ]
 
 
@@ -439,6 +460,8 @@ def made_case(number, most_workers):
     options = sizes(chance, most_workers)
     try:
         program = (reference.interpreter.Rack if is_rack else reference.interpreter.Program)(text, PATIENCE)
+        if not is_rack and program.has_table() and chance.random() < 0.8:
+            return ["check", "p.dsp"], files
         channels = program.inputs
         controls = {control.label: (control.least, control.greatest) for control in program.controls}
     except (reference.Refused, TooMuch):

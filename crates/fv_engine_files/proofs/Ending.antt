@@ -212,7 +212,7 @@ module _ {d : Diagram} {t : Files} (p : Plays d t) (c : ℕ → Stream) (a : Des
         rw is (record {
           streams = k.streams;
           few = omega (arith, none);
-          output = ⊎_elim inl (λ o. inr (o.0, λ x. prefix_trans _ _ _ (o.1 x) head)) k.output;
+          output = ⊎_elim (λ o. inl (o, none)) (λ o. inr (o.0, λ x. prefix_trans _ _ _ (o.1 x) head)) k.output;
           cause = (cannot_part (λ x. head) k.cannot, λ x. none_taken t.input t.held (k.left x));
         })
       where

@@ -90,10 +90,11 @@ IsStopFor d c changes s t g old new (stop.End place) =
 -- a fault of the output, where it was not sure that no call fails and there is room for all that is answered
 IsStopFor d c changes s t g old new stop.Write = CannotSay (answered d c t old) old new × (IsTrue old.tells → HasTaken t g old new)
 
--- A run stopped behind the blocks up to frame g: the output is as it was, or it was begun, and has a part of the answer from its front.
+-- A run stopped behind the blocks up to frame g: the output is as it was, and no block ran, or it was begun, and has a part of the
+-- answer from its front.
 pub record StopsAt (d : Diagram) (c : ℕ → Stream) (changes : List Change) (s : RunSizes) (t : Files) (g : ℕ) (old new : DeskState) (e : Stop)
     : Type 0 where
   pub streams : Streams t.output old new
   pub few : g ≤ t.stated
-  pub output : KeepsOutput old new ⊎ (HasBegun old new × (IsTrue old.tells → IsPrefixOf (new.written Output) (answered d c t old)))
+  pub output : (KeepsOutput old new × (g ≡ 0)) ⊎ (HasBegun old new × (IsTrue old.tells → IsPrefixOf (new.written Output) (answered d c t old)))
   pub cause : IsStopFor d c changes s t g old new e

@@ -1,16 +1,18 @@
 // The visit of a tree.
 
-ghost use Rattle.std.specs.Prelude.{ℕ, ◌≡◌, ◌<◌, List, [], ◌∷◌};
+ghost use Rattle.std.specs.Prelude.{ℕ, ◌≡◌, ◌<◌, ◌≤◌, List, [], ◌∷◌, length, map};
 ghost use Rattle.fv_parse_grammar.specs.Tree.{Tree};
 ghost use Rattle.fv_parse_grammar.specs.declared.form.Slider.{Slider as SliderKind};
 ghost use Rattle.fv_parse.specs.Trees.{Parsed, size_of, tree_in};
 ghost use Rattle.fv_diagram.specs.Diagram.{Constant, Primitive as Leaf};
 ghost use Rattle.fv_rules.specs.Values.{Env, Flat, Name};
-ghost use Rattle.fv_rules.specs.Rules.{slider_kind};
+ghost use Rattle.fv_rules.specs.Rules.{flat, literal_value, slider_kind};
+ghost use Rattle.fv_rules.specs.Steps.{waved};
 ghost use Rattle.fv_eval_scopes.specs.Shows.{IsNamed, ShowsEnv, ShowsTree};
-ghost use Rattle.fv_eval_machine.specs.Machine.{Call, Continuation as Waiting, Give, Running, Visit, next_parameter};
+ghost use Rattle.fv_eval_machine.specs.Machine.{Call, Continuation as Waiting, Give, Running, Visit, given, next_parameter};
 ghost use Rattle.fv_eval.specs.inner.Continuations.{Begins, IsSlider, ShowsContinuation, ShowsSlider, Steps, world};
 
+use crate::arrive::give;
 use crate::continuation::{Continuation, Focus, ForDiagram, ForValue};
 use crate::machine::Machine;
 use crate::names::canonical;
@@ -20,7 +22,8 @@ use fv_eval_choosing::Definitions;
 use fv_eval_drawing::primitive_of;
 use fv_eval_scopes::{Ruled, Value};
 use fv_parse::{TreeId, TreeNode};
-use fv_rules::{EvalRefusal, literal, negative_literal};
+use fv_parse_grammar::Literal;
+use fv_rules::{EvalRefusal, literal, literal_value, negative_literal};
 
 impl Machine {
     /// A number is given.
@@ -37,6 +40,18 @@ impl Machine {
     {
         let id = self.drawing.leaf(&Node::Prim(primitive))?;
         Ok(Focus::Give(Value::Diagram(id)))
+    }
+
+    // A waveform is given.
+    fn waveform(&mut self, literals: &[Literal]) -> Result<Focus, EvalRefusal>
+        requires { 1 ≤ length literals.now }
+        ensures { (p : Parsed) → Steps p self.old self.new result (λ Fs s. given (flat (waved (map literal_value literals.now)) s) Fs) }
+    {
+        let mut values = Vec::with_capacity(self.alloc, literals.len())?;
+        'reading: for literal in literals {
+            values.push(literal_value(*literal))?;
+        }
+        give(self.drawing.waveform(values.as_slice()))
     }
 
     // A part is visited, and this waits for its diagram.
@@ -98,6 +113,12 @@ impl Machine {
             TreeNode::Apply(x, _) => {
                 let continuation = ForValue::Function { apply: id, env };
                 self.wait(Continuation::Valued(continuation), *x, env)
+            }
+            TreeNode::Waveform(literals) => {
+                if literals.is_empty() {
+                    return Err(not_a_diagram(tree, id));
+                }
+                self.waveform(literals.as_slice())
             }
             TreeNode::Switch(kind, n) => self.switch(*kind, tree.label(*n)),
             TreeNode::Slider(_, _, _, _, _, _) => self.slider(text, id, env),

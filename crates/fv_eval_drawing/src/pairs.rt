@@ -46,6 +46,8 @@ pub fn primitive_of(primitive: Primitive) -> Prim
         Primitive::Abs => Prim::Point(Op::Abs),
         Primitive::Select2 => Prim::Point(Op::Select2),
         Primitive::Select3 => Prim::Point(Op::Select3),
+        Primitive::ReadTable => Prim::ReadTable,
+        Primitive::WriteTable => Prim::WriteTable,
     }
 }
 

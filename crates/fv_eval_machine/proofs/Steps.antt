@@ -16,7 +16,7 @@ use Rattle.fv_rules.specs.Values.{IsValue, IsDefined, Unknown, lookup, in_order,
 use Rattle.fv_diagram_number.specs.Numbers.{number_of}
 use Rattle.fv_rules.specs.Matching.{Bindings, settled, value_number, bound_in, chosen}
 use Rattle.fv_rules.specs.Steps.{State, Outcome, Eval, after, ◌>>=◌, give, spent, put, control}
-use Rattle.fv_rules.specs.Rules.{switch_kind, slider_kind, flat, on_slots, bind_all, turned, operated, joined, defined_value, meant, name_value, arguments}
+use Rattle.fv_rules.specs.Rules.{waveform, switch_kind, slider_kind, flat, on_slots, bind_all, turned, operated, joined, defined_value, meant, name_value, arguments}
 use Rattle.fv_rules.specs.Rules.{all_turned, fed, width, selected, applied, bodies, gathered, counted, read_number, parameters, slider_info, switch_info}
 use Rattle.fv_rules.specs.Rules.{abstraction, rule, ev, FollowsValue, FollowsDiagram}
 use Rattle.fv_eval_machine.specs.Machine.{ForValue, Function, Argument, Leftover, Parameter, ForDiagram, Left, Right, Later, Negated, Ports, Binding, Turning}
@@ -117,6 +117,7 @@ module _ (value : FollowsValue) (diagram : FollowsDiagram) where
   begin_means l (tree.Apply s x ys) env fs t = valued_next l (Function s (items ys) env) x env fs t
   begin_means l (tree.Iteration s r n x y) env fs t = drawn_next l (Counting r (text_of l n) (start_of x) y env) x env fs t
   begin_means l (tree.Ports s k x) env fs t = drawn_next l (Ports k) x env fs t
+  begin_means l (tree.Waveform s xs) env fs t = given_means l (waveform l s xs t) fs
   begin_means l (tree.Switch s k n) env fs t = given_means l (flat (control (switch_info (switch_kind k) (label_of l n))) t) fs
   begin_means l (tree.Slider s k n x0 x1 x2 x3) env fs t = parameter_means l (slider_kind k) (label_of l n) (x0 ∷ x1 ∷ x2 ∷ x3 ∷ []) env [] fs t
   begin_means l x env fs t = refl

@@ -20,7 +20,7 @@ use Rattle.fv_rules.specs.Values.{Meaning, IsValue, IsDefined, Unknown, lookup, 
 use Rattle.fv_diagram_number.specs.Numbers.{number_of}
 use Rattle.fv_rules.specs.Matching.{Bindings, settled, value_number, bound_in, chosen}
 use Rattle.fv_rules.specs.Steps.{State, Outcome, Eval, ◌>>=◌, give, no_rule, no_diagram, spent, put, control}
-use Rattle.fv_rules.specs.Rules.{primitive_of, switch_kind, slider_kind, Evaluator, flat, on_slots, bind_all, turned, operated, joined, name_value, arguments}
+use Rattle.fv_rules.specs.Rules.{waveform, primitive_of, switch_kind, slider_kind, Evaluator, flat, on_slots, bind_all, turned, operated, joined, name_value, arguments}
 use Rattle.fv_rules.specs.Rules.{all_turned, fed, width, applied, bodies, gathered, counted, ports, read_number, parameters, slider_info, switch_info, ev}
 
 -- What waits for a value.
@@ -145,6 +145,7 @@ begin l (tree.Delayed s x) env fs t = Running (Visit x env) (Drawn Later ∷ fs)
 begin l (tree.Apply s x ys) env fs t = Running (Visit x env) (Valued (Function s (items ys) env) ∷ fs) t
 begin l (tree.Iteration s r n x y) env fs t = Running (Visit x env) (Drawn (Counting r (text_of l n) (start_of x) y env) ∷ fs) t
 begin l (tree.Ports s k x) env fs t = Running (Visit x env) (Drawn (Ports k) ∷ fs) t
+begin l (tree.Waveform s xs) env fs t = given (waveform l s xs t) fs
 begin l (tree.Switch s k n) env fs t = given (flat (control (switch_info (switch_kind k) (label_of l n))) t) fs
 begin l (tree.Slider s k n x0 x1 x2 x3) env fs t = next_parameter (slider_kind k) (label_of l n) (x0 ∷ x1 ∷ x2 ∷ x3 ∷ []) env [] fs t
 begin l x env fs t = Ended (Err (no_diagram l (start_of x)))

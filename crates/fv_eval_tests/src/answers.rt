@@ -43,11 +43,11 @@ fn add_diagram(
             return line.push_str(shown.as_str());
         }
         Node::Wave(table) => {
-            let shown = format!(in alloc; "waveform {table}")?;
+            let shown = format!(in alloc; "waveform {:?}", diagrams.values(table))?;
             return line.push_str(shown.as_str());
         }
         Node::Table { table, writes } => {
-            let shown = format!(in alloc; "table {table} {writes}")?;
+            let shown = format!(in alloc; "table {:?} {writes}", diagrams.values(table))?;
             return line.push_str(shown.as_str());
         }
         Node::Bind { slot, body } => {

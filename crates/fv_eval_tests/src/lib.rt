@@ -9,3 +9,5 @@ mod numbers;
 mod programs;
 #[cfg(test)]
 mod refusals;
+#[cfg(test)]
+mod tables;

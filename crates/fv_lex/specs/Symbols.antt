@@ -62,14 +62,15 @@ abbrev pub primitive_words : List (List ℕ × Symbol)
 primitive_words =
     (codes "xor", symbols.Xor) ∷ (codes "mem", symbols.Mem) ∷ (codes "prefix", symbols.Prefix) ∷ (codes "int", symbols.Int) ∷
     (codes "attach", symbols.Attach) ∷ (codes "select2", symbols.Select2) ∷ (codes "select3", symbols.Select3) ∷
-    (codes "min", symbols.Min) ∷ (codes "max", symbols.Max) ∷ (codes "abs", symbols.Abs) ∷ []
+    (codes "min", symbols.Min) ∷ (codes "max", symbols.Max) ∷ (codes "abs", symbols.Abs) ∷
+    (codes "rdtable", symbols.Rdtable) ∷ (codes "rwtable", symbols.Rwtable) ∷ []
 
 -- words that begin a form of the grammar
 abbrev pub form_words : List (List ℕ × Symbol)
 form_words =
     (codes "par", symbols.Par) ∷ (codes "seq", symbols.Seq) ∷ (codes "sum", symbols.Sum) ∷ (codes "prod", symbols.Prod) ∷
     (codes "inputs", symbols.Inputs) ∷ (codes "outputs", symbols.Outputs) ∷ (codes "case", symbols.Case) ∷
-    (codes "with", symbols.With) ∷ (codes "declare", symbols.Declare) ∷ []
+    (codes "with", symbols.With) ∷ (codes "declare", symbols.Declare) ∷ (codes "waveform", symbols.Waveform) ∷ []
 
 -- words of controls and groups
 abbrev pub control_words : List (List ℕ × Symbol)
@@ -83,7 +84,7 @@ abbrev pub unsupported_forms : List (List ℕ)
 unsupported_forms =
     codes "import" ∷ codes "library" ∷ codes "component" ∷ codes "environment" ∷ codes "letrec" ∷ codes "route" ∷
     codes "soundfile" ∷ codes "hbargraph" ∷ codes "vbargraph" ∷ codes "ffunction" ∷ codes "fconstant" ∷
-    codes "fvariable" ∷ codes "rdtable" ∷ codes "rwtable" ∷ codes "waveform" ∷ []
+    codes "fvariable" ∷ []
 
 -- words of real numbers
 abbrev pub real_words : List (List ℕ)

@@ -105,6 +105,10 @@ fn primitive_word(word: &[u8]) -> Option<Symbol>
         Some(Symbol::Max)
     } else if is(word, b"abs") {
         Some(Symbol::Abs)
+    } else if is(word, b"rdtable") {
+        Some(Symbol::Rdtable)
+    } else if is(word, b"rwtable") {
+        Some(Symbol::Rwtable)
     } else {
         None
     }
@@ -132,6 +136,8 @@ fn form_word(word: &[u8]) -> Option<Symbol>
         Some(Symbol::With)
     } else if is(word, b"declare") {
         Some(Symbol::Declare)
+    } else if is(word, b"waveform") {
+        Some(Symbol::Waveform)
     } else {
         None
     }
@@ -178,9 +184,6 @@ fn is_unsupported_form(word: &[u8]) -> bool
         || is(word, b"ffunction")
         || is(word, b"fconstant")
         || is(word, b"fvariable")
-        || is(word, b"rdtable")
-        || is(word, b"rwtable")
-        || is(word, b"waveform")
 }
 
 /// Whether it is a word of real numbers.

@@ -88,8 +88,8 @@ fn signs(rt: HostRuntime) -> Result<(), Fail> {
 fn reserved_words(rt: HostRuntime) -> Result<(), Fail> {
     let text =
         b"xor mem prefix int attach select2 select3 min max abs par seq sum prod inputs outputs case with declare button checkbox hslider vslider nentry \
-          hgroup vgroup tgroup";
-    let rows: [Row; 27] = [
+          hgroup vgroup tgroup rdtable rwtable waveform";
+    let rows: [Row; 30] = [
         (Symbol::Xor, 1, b"xor"),
         (Symbol::Mem, 5, b"mem"),
         (Symbol::Prefix, 9, b"prefix"),
@@ -117,6 +117,9 @@ fn reserved_words(rt: HostRuntime) -> Result<(), Fail> {
         (Symbol::Hgroup, 144, b"hgroup"),
         (Symbol::Vgroup, 151, b"vgroup"),
         (Symbol::Tgroup, 158, b"tgroup"),
+        (Symbol::Rdtable, 165, b"rdtable"),
+        (Symbol::Rwtable, 173, b"rwtable"),
+        (Symbol::Waveform, 181, b"waveform"),
     ];
     expect_line(&rt, rt.alloc(), text, Kind::Name, &rows)?;
     Ok(())
@@ -126,9 +129,9 @@ fn reserved_words(rt: HostRuntime) -> Result<(), Fail> {
 fn unsupported_words(rt: HostRuntime) -> Result<(), Fail> {
     let text =
         b"import library component environment letrec route soundfile hbargraph vbargraph ffunction fconstant fvariable float sin cos tan asin acos atan \
-          atan2 exp exp10 log log10 pow sqrt fmod remainder floor ceil rint rdtable rwtable waveform";
+          atan2 exp exp10 log log10 pow sqrt fmod remainder floor ceil rint";
     let found = tokens(rt.alloc(), text)?;
-    assert_eq!(rt; found.len(), 34);
+    assert_eq!(rt; found.len(), 31);
     let mut i = 0u64;
     for symbol in found.symbols() {
         assert_eq!(rt; *symbol, Symbol::Unsupported(i));

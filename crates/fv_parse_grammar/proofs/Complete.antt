@@ -1,4 +1,5 @@
 -- What is spelled is read, whatever follows it.
+use Rattle.fv_parse_grammar.specs.Tree.{Waveform}
 use Rattle.std.proofs.Common.{◌≡◌, ℕ, zero, suc, ◌+◌, ◌-◌, ◌<◌, ◌≤◌, Bool, true, false, List, [], ◌∷◌, length, Ok, refl, sym, ap, ◌∙◌, arith}
 use Rattle.std.specs.Prelude.{nat_eq}
 use Rattle.std.proofs.lemmas.Bool.{eq-eqb, ne_eqb}
@@ -8,6 +9,10 @@ use Rattle.fv_lex.specs.declared.token.Symbol.TheVariants.{Declare, With, Tick}
 use Rattle.fv_lex.specs.declared.token.Symbol.TheVariants as symbols
 use Rattle.fv_parse_grammar.specs.declared.form.Primitive.{Primitive as Operation}
 use Rattle.fv_parse_grammar.specs.declared.form.Primitive.TheVariants as primitives
+use Rattle.fv_parse_grammar.specs.declared.form.Literal.{Literal}
+use Rattle.fv_parse_grammar.specs.declared.form.Literal.TheVariants as literal
+use Rattle.fv_parse_grammar.specs.Grammar.{SpellsNumber, unsigned, with_plus, with_minus, SpellsNumbers, one_number, more_numbers, waved}
+use Rattle.fv_parse_grammar.specs.Descent.{a_literal, literal_list, waveform}
 use Rattle.fv_parse_grammar.specs.declared.form.Iteration.{Iteration as Repetition}
 use Rattle.fv_parse_grammar.specs.declared.form.Side.{Side}
 use Rattle.fv_parse_grammar.specs.declared.form.Switch.{Switch as SwitchKind}
@@ -123,6 +128,15 @@ pub names_shorter : {ts rest : List Symbol} {ns : List ℕ} → SpellsNames ts n
 names_shorter one_name = omega arith
 names_shorter (more_names p) = let a = names_shorter p in omega arith
 
+number_shorter : {ts rest : List Symbol} {x : Literal} → SpellsNumber ts x rest → length rest < length ts
+number_shorter unsigned = omega arith
+number_shorter with_plus = omega arith
+number_shorter with_minus = omega arith
+
+pub numbers_shorter : {ts rest : List Symbol} {xs : List Literal} → SpellsNumbers ts xs rest → length rest < length ts
+numbers_shorter (one_number s) = number_shorter s
+numbers_shorter (more_numbers s p) = let a = number_shorter s in let b = numbers_shorter p in omega arith
+
 pub no_longer : {level : Level} {ts rest : List Symbol} {x : Tree} → Spells level ts x rest → length rest ≤ length ts
 no_longer no_more = omega arith
 no_longer (stated p q) = let a = no_longer p in let b = no_longer q in omega arith
@@ -159,6 +173,7 @@ no_longer (primitive t p e) = omega arith
 no_longer (grouped p) = let a = no_longer p in omega arith
 no_longer (abstracted ns p) = let a = names_shorter ns in let b = no_longer p in omega arith
 no_longer (cased p) = let a = no_longer p in omega arith
+no_longer (waved p) = let a = numbers_shorter p in omega arith
 no_longer (iterated t i e p q) = let a = no_longer p in let b = no_longer q in omega arith
 no_longer (ported t s e p) = let a = no_longer p in omega arith
 no_longer (switched t k e) = omega arith
@@ -412,6 +427,17 @@ complete_names : {ts rest : List Symbol} {ns : List ℕ} → SpellsNames ts ns r
 complete_names (one_name {n = n} {rest = rest}) off = separated_end a_name (Name n ∷ rest) n rest refl off
 complete_names (more_names {n = n} {ts = ts} p) off = let read = complete_names p off in separated_step a_name (Name n ∷ Comma ∷ ts) n (Comma ∷ ts) refl refl (omega arith) ∙ rw read refl
 
+complete_number : {ts rest : List Symbol} {x : Literal} → SpellsNumber ts x rest → a_literal ts ≡ Ok (x, rest)
+complete_number unsigned = refl
+complete_number with_plus = refl
+complete_number with_minus = refl
+
+complete_numbers : {ts rest : List Symbol} {xs : List Literal} → SpellsNumbers ts xs rest → at_comma rest ≡ false → literal_list ts ≡ Ok (xs, rest)
+complete_numbers (one_number {ts = ts} {rest = rest} {x = x} s) off = separated_end a_literal ts x rest (complete_number s) off
+complete_numbers (more_numbers {ts = ts} {mid = mid} {x = x} s p) off =
+    let fewer = number_shorter s in
+    let read = complete_numbers p off in separated_step a_literal ts x (Comma ∷ mid) (complete_number s) refl (omega arith) ∙ rw read refl
+
 -- the leaves
 number_is : (inner : Reader) {n : ℕ} {rest : List Symbol} → primary inner (Integer n ∷ rest) ≡ Ok (Number (length (Integer n ∷ rest)) n, rest)
 unfolding by_head
@@ -475,6 +501,11 @@ cased_reads : (inner : Reader) (ts : List Symbol) (x : Tree) (rest : List Symbol
 unfolding by_head case_of
 cased_reads inner ts x rest e = rw e refl
 
+waved_reads : (inner : Reader) (ts : List Symbol) (xs : List Literal) (rest : List Symbol) → literal_list ts ≡ Ok (xs, CloseBrace ∷ rest)
+    → primary inner (symbols.Waveform ∷ OpenBrace ∷ ts) ≡ Ok (Waveform (length (symbols.Waveform ∷ OpenBrace ∷ ts)) xs, rest)
+unfolding by_head waveform
+waved_reads inner ts xs rest e = rw e refl
+
 iterated_reads : (inner : Reader) (n : ℕ) (ts mid rest : List Symbol) (t : Symbol) (i : Repetition) (x y : Tree)
     → head t ≡ heads.Iteration i → argument inner ts ≡ Ok (x, mid) → enclosed inner insides.Expression mid ≡ Ok (y, rest)
     → primary inner (t ∷ Open ∷ Name n ∷ Comma ∷ ts) ≡ Ok (Iteration (length (t ∷ Open ∷ Name n ∷ Comma ∷ ts)) i n x y, rest)
@@ -528,6 +559,15 @@ keyword_nests limit depth t ts g o n = n
 names_nest : {ts rest : List Symbol} {ns : List ℕ} → SpellsNames ts ns rest → (limit depth : ℕ) → Nests limit depth ts → Nests limit depth rest
 names_nest one_name limit depth h = h
 names_nest (more_names p) limit depth h = names_nest p limit depth h
+
+number_nests : {ts rest : List Symbol} {x : Literal} → SpellsNumber ts x rest → (limit depth : ℕ) → Nests limit depth ts → Nests limit depth rest
+number_nests unsigned limit depth h = h
+number_nests with_plus limit depth h = h
+number_nests with_minus limit depth h = h
+
+numbers_nest : {ts rest : List Symbol} {xs : List Literal} → SpellsNumbers ts xs rest → (limit depth : ℕ) → Nests limit depth ts → Nests limit depth rest
+numbers_nest (one_number s) limit depth h = number_nests s limit depth h
+numbers_nest (more_numbers s p) limit depth h = numbers_nest p limit depth (number_nests s limit depth h)
 
 -- ---- by induction on how a tree is spelled
 -- What is spelled within the limit is read with the nesting that is left, and what follows it is within the limit.
@@ -646,6 +686,8 @@ complete (cased {ts = ts} {rest = rest} {x = x} p) limit d nesting e n =
     let le : d + 1 ≤ limit = n.0 in
     let a = complete p limit (suc d) (nesting - 1) (omega arith) n.1 in
     ((λ follows. cased_reads (within nesting) ts x rest (in_rules nesting ts x rest (omega arith) a.0)), a.1)
+complete (waved {ts = ts} {rest = rest} {xs = xs} p) limit d room e n =
+    ((λ follows. waved_reads (within room) ts xs rest (complete_numbers p refl)), numbers_nest p limit (suc d) n.1)
 complete (iterated {n = m} {ts = ts} {mid = mid} {rest = rest} t i {x = x} {y = y} h p q) limit d nesting e n =
     let front = keyword_nests limit d t (Open ∷ Name m ∷ Comma ∷ ts) (λ g. cc) (λ g. cc) n in
     let le : d + 1 ≤ limit = front.0 in

@@ -1,4 +1,5 @@
 -- What is read is spelled.
+use Rattle.fv_parse_grammar.specs.Tree.{Waveform}
 use Rattle.std.proofs.Common.{◌≡◌, ℕ, zero, suc, ◌<◌, Bool, true, false, cond, List, [], ◌∷◌, length, drop, Result, Ok, Err, refl, sym, ap, ap₂, subst, ◌∙◌}
 use Rattle.std.proofs.Common.{arith}
 use Rattle.std.specs.Prelude.{nat_lt, nat_eq}
@@ -8,6 +9,10 @@ use Rattle.fv_lex.specs.declared.token.Symbol.TheVariants.{Name, Text, Integer, 
 use Rattle.fv_lex.specs.declared.token.Symbol.TheVariants.{Declare, With, Tick}
 use Rattle.fv_lex.specs.declared.token.Symbol.TheVariants as symbols
 use Rattle.fv_parse_grammar.specs.declared.form.Primitive.TheVariants as primitives
+use Rattle.fv_parse_grammar.specs.declared.form.Literal.{Literal}
+use Rattle.fv_parse_grammar.specs.declared.form.Literal.TheVariants as literal
+use Rattle.fv_parse_grammar.specs.Grammar.{SpellsNumber, unsigned, with_plus, with_minus, SpellsNumbers, one_number, more_numbers, waved}
+use Rattle.fv_parse_grammar.specs.Descent.{a_value, a_literal, literal_list, waveform}
 use Rattle.fv_parse_grammar.specs.declared.form.Iteration.{Iteration as Repetition}
 use Rattle.fv_parse_grammar.specs.declared.form.Side.{Side}
 use Rattle.fv_parse_grammar.specs.declared.form.Switch.{Switch as SwitchKind}
@@ -185,6 +190,52 @@ names_sound ts ns rest e =
     (λ ts rest n h. subst (λ l. SpellsNames l (n ∷ []) rest) (sym h) one_name)
     (λ ts mid rest n ns h p. subst (λ l. SpellsNames l (n ∷ ns) rest) (sym h) (more_names p))
     (suc (length ts)) ts ns rest e
+
+-- ---- numbers
+a_value_ok : (ts : List Symbol) (n : ℕ) (rest : List Symbol) → a_value ts ≡ Ok (n, rest) → ts ≡ Integer n ∷ rest
+a_value_ok (Integer m ∷ ts) n rest e = let p = read_as m n ts rest e in cc (p.0, p.1)
+a_value_ok [] n rest e = absurd cc
+a_value_ok (t ∷ ts) n rest e = absurd cc
+
+-- a number, and what stands behind it
+abbrev Got : Literal → List Symbol → Step Literal
+Got x rest = Ok (x, rest)
+
+-- the same, by an equal answer
+number_as : (ts : List Symbol) (x y : Literal) (mid rest : List Symbol) → SpellsNumber ts x mid → Got x mid ≡ Got y rest → SpellsNumber ts y rest
+number_as ts x y mid rest s e =
+    let same = read_as x y mid rest e in subst (λ z. SpellsNumber ts z rest) same.0 (subst (λ r. SpellsNumber ts x r) same.1 s)
+
+pub literal_sound : (ts : List Symbol) (x : Literal) (rest : List Symbol) → a_literal ts ≡ Ok (x, rest) → SpellsNumber ts x rest
+literal_sound (Integer n ∷ ts) x rest e = number_as (Integer n ∷ ts) (literal.Plain n) x ts rest unsigned e
+literal_sound (symbols.Plus ∷ ts) x rest e =
+    let (n, was, done) = bind_ok _ _ _ e in
+    number_as (symbols.Plus ∷ ts) (literal.Plain n.0) x n.1 rest
+    (subst (λ l. SpellsNumber (symbols.Plus ∷ l) (literal.Plain n.0) n.1) (sym (a_value_ok ts n.0 n.1 was)) with_plus) done
+literal_sound (symbols.Minus ∷ ts) x rest e =
+    let (n, was, done) = bind_ok _ _ _ e in
+    number_as (symbols.Minus ∷ ts) (literal.Negative n.0) x n.1 rest
+    (subst (λ l. SpellsNumber (symbols.Minus ∷ l) (literal.Negative n.0) n.1) (sym (a_value_ok ts n.0 n.1 was)) with_minus) done
+literal_sound [] x rest e = absurd cc
+literal_sound (t ∷ ts) x rest e = absurd cc
+
+pub literals_sound : (ts : List Symbol) (xs : List Literal) (rest : List Symbol) → literal_list ts ≡ Ok (xs, rest) → SpellsNumbers ts xs rest
+literals_sound ts xs rest e =
+    separated_sound a_literal SpellsNumber SpellsNumbers literal_sound
+    (λ ts rest x s. one_number s) (λ ts mid rest x xs s p. more_numbers s p) (suc (length ts)) ts xs rest e
+
+waveform_sound : (ts : List Symbol) (x : Tree) (rest : List Symbol)
+    → waveform (length (symbols.Waveform ∷ ts)) ts ≡ Ok (x, rest) → Spells Primary (symbols.Waveform ∷ ts) x rest
+unfolding waveform
+waveform_sound ts x rest e =
+    let (opened, o, e1) = bind_ok _ _ _ e in
+    let (xs, read, e2) = bind_ok _ _ _ e1 in
+    let (closed, c, done) = bind_ok _ _ _ e2 in
+    let inside : SpellsNumbers opened xs.0 (CloseBrace ∷ closed) =
+    subst (λ r. SpellsNumbers opened xs.0 r) (expect_ok marks.CloseBrace xs.1 closed c) (literals_sound opened xs.0 xs.1 read) in
+    let all : Spells Primary (symbols.Waveform ∷ OpenBrace ∷ opened) (Waveform (length (symbols.Waveform ∷ OpenBrace ∷ opened)) xs.0) closed = waved inside in
+    moved Primary (symbols.Waveform ∷ ts) (Waveform (length (symbols.Waveform ∷ ts)) xs.0) x closed rest
+    (subst (λ l. Spells Primary (symbols.Waveform ∷ l) (Waveform (length (symbols.Waveform ∷ l)) xs.0) closed) (sym (expect_ok marks.OpenBrace ts opened o)) all) done
 
 -- ---- what has no brackets within
 label_ok : (ts : List Symbol) (s : ℕ) (rest : List Symbol) → label ts ≡ Ok (s, rest) → ts ≡ Open ∷ Text s ∷ Comma ∷ rest
@@ -364,6 +415,10 @@ pub is_case : (t : Symbol) → head t ≡ heads.Case → t ≡ symbols.Case
 is_case symbols.Case e = refl
 is_case t e = absurd cc
 
+pub is_waveform : (t : Symbol) → head t ≡ heads.Waveform → t ≡ symbols.Waveform
+is_waveform symbols.Waveform e = refl
+is_waveform t e = absurd cc
+
 -- what spells a tree from a token on, at a token that is equal
 begun : (level : Level) (t u : Symbol) (ts : List Symbol) (x : Tree) (rest : List Symbol) → t ≡ u → Spells level (u ∷ ts) x rest → Spells level (t ∷ ts) x rest
 begun level t u ts x rest e s = subst (λ v. Spells level (v ∷ ts) x rest) (sym e) s
@@ -404,6 +459,7 @@ module _ (inner : Reader) (sound : IsSoundInside inner) where
   by_head_sound heads.Group t ts x rest h e = begun Primary t Open ts x rest (is_open t h) (group_sound inner sound ts x rest e)
   by_head_sound heads.Abstraction t ts x rest h e = begun Primary t symbols.Backslash ts x rest (is_backslash t h) (abstraction_sound inner sound ts x rest e)
   by_head_sound heads.Case t ts x rest h e = begun Primary t symbols.Case ts x rest (is_case t h) (case_sound inner sound ts x rest e)
+  by_head_sound heads.Waveform t ts x rest h e = begun Primary t symbols.Waveform ts x rest (is_waveform t h) (waveform_sound ts x rest e)
   by_head_sound (heads.Iteration i) t ts x rest h e = iteration_sound inner sound t i h ts x rest e
   by_head_sound (heads.Ports s) t ts x rest h e = ports_sound inner sound t s h ts x rest e
   by_head_sound (heads.Switch k) t ts x rest h e = switch_sound t k h ts x rest e

@@ -1,11 +1,15 @@
 -- Reading from left to right, with one token of lookahead, down to a number of open brackets: the productions of
 -- `Grammar`, as functions (Faust manual; this project's profile).
+use Rattle.fv_parse_grammar.specs.Tree.{Waveform}
 use Rattle.std.specs.Prelude.{ℕ, zero, suc, Bool, true, false, nat_lt, nat_eq, List, [], ◌∷◌, length, drop, Result, Ok, Err, if◌then◌else◌}
 use Rattle.fv_lex.specs.declared.token.Symbol.{Symbol}
 use Rattle.fv_lex.specs.declared.token.Symbol.TheVariants.{Name, Text, Integer, Comma, Open, Declare, With, Tick}
 use Rattle.fv_parse_grammar.specs.declared.form.Primitive.TheVariants as primitives
 use Rattle.fv_parse_grammar.specs.declared.form.Operator.{Operator}
 use Rattle.fv_parse_grammar.specs.declared.form.Operator.TheVariants as operators
+use Rattle.fv_lex.specs.declared.token.Symbol.TheVariants as symbols
+use Rattle.fv_parse_grammar.specs.declared.form.Literal.{Literal}
+use Rattle.fv_parse_grammar.specs.declared.form.Literal.TheVariants as literal
 use Rattle.fv_parse_grammar.specs.declared.form.Iteration.{Iteration as Repetition}
 use Rattle.fv_parse_grammar.specs.declared.form.Side.{Side}
 use Rattle.fv_parse_grammar.specs.declared.form.Switch.{Switch as SwitchKind}
@@ -118,6 +122,23 @@ all_separated item ts = separated item (suc (length ts)) ts
 abbrev pub name_list : List Symbol → Step (List ℕ)
 name_list ts = all_separated a_name ts
 
+-- ---- numbers
+-- an integer's number, and what stands behind it
+abbrev pub a_value : List Symbol → Step ℕ
+a_value (Integer n ∷ ts) = Ok (n, ts)
+a_value ts = Err ts
+
+-- a number with or without a sign
+abbrev pub a_literal : List Symbol → Step Literal
+a_literal (Integer n ∷ ts) = Ok (literal.Plain n, ts)
+a_literal (symbols.Plus ∷ ts) = a_value ts >>= λ n. Ok (literal.Plain n.0, n.1)
+a_literal (symbols.Minus ∷ ts) = a_value ts >>= λ n. Ok (literal.Negative n.0, n.1)
+a_literal ts = Err ts
+
+-- number {"," number}
+abbrev pub literal_list : List Symbol → Step (List Literal)
+literal_list ts = all_separated a_literal ts
+
 -- ---- what stands in brackets, with the bracket behind it
 -- what stands in brackets, and the bracket behind it
 abbrev pub enclosed : Reader → Inside → List Symbol → Step Tree
@@ -169,6 +190,14 @@ case_of inner start ts = do
   x ← inner insides.Rules opened
   rest ← expect marks.CloseBrace x.1
   Ok (Case start x.0, rest)
+
+-- "{" numbers "}"
+unfoldable pub waveform : ℕ → List Symbol → Step Tree
+waveform start ts = do
+  opened ← expect marks.OpenBrace ts
+  xs ← literal_list opened
+  rest ← expect marks.CloseBrace xs.1
+  Ok (Waveform start xs.0, rest)
 
 -- "(" name "," argument "," expression ")"
 unfoldable pub iteration : Reader → ℕ → Repetition → List Symbol → Step Tree
@@ -232,6 +261,7 @@ by_head inner (heads.Primitive p) all ts = Ok (Primitive (length all) p, ts)
 by_head inner heads.Group all ts = group inner (length all) ts
 by_head inner heads.Abstraction all ts = abstraction inner (length all) ts
 by_head inner heads.Case all ts = case_of inner (length all) ts
+by_head inner heads.Waveform all ts = waveform (length all) ts
 by_head inner (heads.Iteration i) all ts = iteration inner (length all) i ts
 by_head inner (heads.Ports s) all ts = ports inner (length all) s ts
 by_head inner (heads.Switch k) all ts = switch (length all) k ts

@@ -1,4 +1,5 @@
 -- The grammar: which tokens spell which tree (Faust manual; this project's profile).
+use Rattle.fv_parse_grammar.specs.Tree.{Waveform}
 use Rattle.std.specs.Prelude.{◌≡◌, ℕ, zero, suc, ◌<◌, true, false, List, [], ◌∷◌, ◌++◌, length}
 use Rattle.fv_lex.specs.declared.token.Symbol.{Symbol}
 use Rattle.fv_lex.specs.declared.token.Symbol.TheVariants as symbols
@@ -6,6 +7,8 @@ use Rattle.fv_lex.specs.declared.token.Symbol.TheVariants.{Name, Text, Integer, 
 use Rattle.fv_lex.specs.declared.token.Symbol.TheVariants.{Declare, With, Tick}
 use Rattle.fv_parse_grammar.specs.declared.form.Primitive.TheVariants as primitives
 use Rattle.fv_parse_grammar.specs.declared.form.Primitive.{Primitive as Operation}
+use Rattle.fv_parse_grammar.specs.declared.form.Literal.{Literal}
+use Rattle.fv_parse_grammar.specs.declared.form.Literal.TheVariants as literals
 use Rattle.fv_parse_grammar.specs.declared.form.Iteration.{Iteration as Repetition}
 use Rattle.fv_parse_grammar.specs.declared.form.Side.{Side}
 use Rattle.fv_parse_grammar.specs.declared.form.Switch.{Switch as SwitchKind}
@@ -40,6 +43,18 @@ pub data Level : Type 0 where
 pub data SpellsNames : List Symbol → List ℕ → List Symbol → Type 0 where
   one_name : {n : ℕ} {rest : List Symbol} → SpellsNames (Name n ∷ rest) (n ∷ []) rest
   more_names : {n : ℕ} {ts rest : List Symbol} {ns : List ℕ} → SpellsNames ts ns rest → SpellsNames (Name n ∷ Comma ∷ ts) (n ∷ ns) rest
+
+-- `SpellsNumber tokens number rest`: the tokens are an integer, with or without a sign, and then the rest.
+pub data SpellsNumber : List Symbol → Literal → List Symbol → Type 0 where
+  unsigned : {n : ℕ} {rest : List Symbol} → SpellsNumber (Integer n ∷ rest) (literals.Plain n) rest
+  with_plus : {n : ℕ} {rest : List Symbol} → SpellsNumber (symbols.Plus ∷ Integer n ∷ rest) (literals.Plain n) rest
+  with_minus : {n : ℕ} {rest : List Symbol} → SpellsNumber (symbols.Minus ∷ Integer n ∷ rest) (literals.Negative n) rest
+
+-- `SpellsNumbers tokens numbers rest`: the tokens are number {"," number}, and then the rest.
+pub data SpellsNumbers : List Symbol → List Literal → List Symbol → Type 0 where
+  one_number : {ts rest : List Symbol} {x : Literal} → SpellsNumber ts x rest → SpellsNumbers ts (x ∷ []) rest
+  more_numbers : {ts mid rest : List Symbol} {x : Literal} {xs : List Literal}
+      → SpellsNumber ts x (Comma ∷ mid) → SpellsNumbers mid xs rest → SpellsNumbers ts (x ∷ xs) rest
 
 -- `Spells level tokens tree rest`: the tokens are what spells the tree, and then the rest. One case for each production.
 pub data Spells : Level → List Symbol → Tree → List Symbol → Type 0 where
@@ -117,6 +132,9 @@ pub data Spells : Level → List Symbol → Tree → List Symbol → Type 0 wher
   -- "case" "{" rules "}"
   cased : {ts rest : List Symbol} {x : Tree} → Spells (Listed Rules) ts x (CloseBrace ∷ rest)
       → Spells Primary (symbols.Case ∷ OpenBrace ∷ ts) (Case (length (symbols.Case ∷ OpenBrace ∷ ts)) x) rest
+  -- "waveform" "{" numbers "}"
+  waved : {ts rest : List Symbol} {xs : List Literal} → SpellsNumbers ts xs (CloseBrace ∷ rest)
+      → Spells Primary (symbols.Waveform ∷ OpenBrace ∷ ts) (Waveform (length (symbols.Waveform ∷ OpenBrace ∷ ts)) xs) rest
   -- ("par" | "seq" | "sum" | "prod") "(" name "," argument "," expression ")"
   iterated : {n : ℕ} {ts mid rest : List Symbol} (t : Symbol) (i : Repetition) {x y : Tree}
       → head t ≡ heads.Iteration i → Spells (Phrase operands.Expressions commas.Separate 8) ts x (Comma ∷ mid) → Spells Expression mid y (Close ∷ rest)

@@ -2,6 +2,7 @@
 use Rattle.std.specs.Prelude.{ℕ, List, [], ◌∷◌}
 use Rattle.fv_parse_grammar.specs.declared.form.Primitive.{Primitive as Operation}
 use Rattle.fv_parse_grammar.specs.declared.form.Operator.{Operator}
+use Rattle.fv_parse_grammar.specs.declared.form.Literal.{Literal}
 use Rattle.fv_parse_grammar.specs.declared.form.Iteration.{Iteration as Repetition}
 use Rattle.fv_parse_grammar.specs.declared.form.Side.{Side}
 use Rattle.fv_parse_grammar.specs.declared.form.Switch.{Switch as SwitchKind}
@@ -21,6 +22,7 @@ pub data Tree : Type 0 where
   Group : ℕ → Tree → Tree
   Abstraction : ℕ → List ℕ → Tree → Tree
   Case : ℕ → Tree → Tree
+  Waveform : ℕ → List Literal → Tree
   Iteration : ℕ → Repetition → ℕ → Tree → Tree → Tree
   Ports : ℕ → Side → Tree → Tree
   Switch : ℕ → SwitchKind → ℕ → Tree
@@ -54,6 +56,7 @@ start_of (Primitive s p) = s
 start_of (Group s x) = s
 start_of (Abstraction s ns x) = s
 start_of (Case s rs) = s
+start_of (Waveform s xs) = s
 start_of (Iteration s i n x y) = s
 start_of (Ports s k x) = s
 start_of (Switch s k n) = s

@@ -29,6 +29,8 @@ pub enum Primitive {
     Abs,
     Select2,
     Select3,
+    ReadTable,
+    WriteTable,
 }
 
 /// What joins two parts: an infix operator, or one of the five compositions.
@@ -49,6 +51,15 @@ pub enum Iteration {
     Sequence,
     Sum,
     Product,
+}
+
+/// A number of a waveform, as it is spelled.
+#[derive(Clone, Copy, Debug, PartialEq, Eq)]
+pub enum Literal {
+    /// With or without `+`.
+    Plain(u32),
+    /// Behind `-`.
+    Negative(u32),
 }
 
 /// `inputs` or `outputs`.

@@ -15,6 +15,7 @@ pub enum Head {
     Group,
     Abstraction,
     Case,
+    Waveform,
     Iteration(Iteration),
     Ports(Side),
     Switch(Switch),

@@ -16,6 +16,11 @@ use Rattle.fv_parse_grammar.specs.Tree.{Tree}
 use Rattle.fv_parse_grammar.specs.Grammar.{Primary, number, plus_number, minus_number, minus_name, named, wire, cut, plus, minus, primitive, grouped, abstracted}
 use Rattle.fv_parse_grammar.specs.Grammar.{cased, iterated, ported, switched, slid, paneled}
 use Rattle.fv_parse_grammar.proofs.Sound.{is_integer, is_name, is_plus, is_minus, is_underscore, is_exclamation, is_open, is_backslash, is_case}
+use Rattle.fv_parse_grammar.specs.Grammar.{waved}
+use Rattle.fv_parse_grammar.proofs.Sound.{is_waveform}
+use Rattle.fv_parse_grammar.specs.Descent.{waveform}
+use Rattle.fv_parse_prefixes.proofs.Plans.{counted_all, LiteralList}
+use Rattle.fv_parse_prefixes.proofs.Pieces.{literal_list_reads}
 use Rattle.fv_parse_grammar.specs.Descent as descent
 use Rattle.fv_parse_grammar.specs.declared.symbol.Mark.TheVariants as marks
 use Rattle.fv_parse_grammar.specs.Descent.{Step, ◌>>=◌, Reader, group, abstraction, case_of, iteration, ports, switch, slider, panel, by_head, primary}
@@ -70,6 +75,17 @@ case_reads inner reads start ts = as_plan APrimary (headed symbols.Case ts
     (next (expect_passes marks.OpenBrace ts) (λ opened.
     next (reads insides.Rules opened) (λ x.
     made (expect_passes marks.CloseBrace x.1) (λ rest. done))))) is_case_of
+
+-- "waveform" "{" numbers "}"
+is_wave : (a b : List Symbol) → Spans (Then (Sign symbols.Waveform) (Then (Sign OpenBrace) (Then LiteralList (Sign CloseBrace)))) a b → Spelled Primary a b
+is_wave a b (both signed (both signed (both (counted_all xs) signed))) = spelled (waved xs)
+
+waveform_reads : (start : ℕ) (ts : List Symbol) → Reads APrimary (symbols.Waveform ∷ ts) (waveform start ts)
+unfolding waveform
+waveform_reads start ts = as_plan APrimary (headed symbols.Waveform ts
+    (next (expect_passes marks.OpenBrace ts) (λ opened.
+    next (literal_list_reads opened) (λ xs.
+    made (expect_passes marks.CloseBrace xs.1) (λ rest. done))))) is_wave
 
 -- ("par" | "seq" | "sum" | "prod") "(" name "," argument "," expression ")"
 is_iteration : (t : Symbol) (i : Repetition) → head t ≡ heads.Iteration i → (a b : List Symbol)
@@ -174,6 +190,7 @@ module _ (inner : Reader) (reads : ReadsInside inner) where
   by_head_reads heads.Group t ts h = begun APrimary t Open ts _ (is_open t h) (group_reads inner reads _ ts)
   by_head_reads heads.Abstraction t ts h = begun APrimary t symbols.Backslash ts _ (is_backslash t h) (abstraction_reads inner reads _ ts)
   by_head_reads heads.Case t ts h = begun APrimary t symbols.Case ts _ (is_case t h) (case_reads inner reads _ ts)
+  by_head_reads heads.Waveform t ts h = begun APrimary t symbols.Waveform ts _ (is_waveform t h) (waveform_reads _ ts)
   by_head_reads (heads.Iteration i) t ts h = iteration_reads inner reads _ t i h ts
   by_head_reads (heads.Ports s) t ts h = ports_reads inner reads _ t s h ts
   by_head_reads (heads.Switch k) t ts h = switch_reads _ t k h ts

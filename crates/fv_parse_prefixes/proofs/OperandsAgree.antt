@@ -15,6 +15,8 @@ use Rattle.fv_parse_grammar.specs.Descent.{Reader, after_plus, after_minus, grou
 use Rattle.fv_parse_prefixes.proofs.Agreement.{Fork, Same, BothRead, also, given, halted, Looks, takes, stays_at, looked, Passing, no_bracket, head_passing}
 use Rattle.fv_parse_prefixes.proofs.Agreement.{group_opens, AgreesInside}
 use Rattle.fv_parse_prefixes.proofs.PiecesAgree.{expect_both, by_open, by_close, by_open_brace, by_close_brace, by_comma, by_dot, a_name_both, a_text_both, label_both}
+use Rattle.fv_parse_grammar.specs.Descent.{waveform}
+use Rattle.fv_parse_prefixes.proofs.PiecesAgree.{literal_list_both}
 use Rattle.fv_parse_prefixes.proofs.PiecesAgree.{name_list_both, enclosed_both, argument_both}
 
 -- ---- the forms that a first token begins
@@ -74,6 +76,12 @@ switch_both start start' kind same = also (expect_both by_open same) (λ opened 
     also (a_text_both s) (λ text text' s.
     also (expect_both by_close s) (λ rest rest' s. given s)))
 
+waveform_both : {k : Fork} {d : ℕ} (start start' : ℕ) {ts us : List Symbol} → Same k d ts us → BothRead k d ts (waveform start ts) (waveform start' us)
+unfolding waveform
+waveform_both start start' same = also (expect_both by_open_brace same) (λ opened opened' s.
+    also (literal_list_both s) (λ xs xs' s.
+    also (expect_both by_close_brace s) (λ rest rest' s. given s)))
+
 -- ---- by the first token
 plus_look : {k : Fork} {d : ℕ} (start start' : ℕ) (t : Symbol) (ts us : List Symbol)
     → Looks k d d (λ x. x.1) t ts us (after_plus start (t ∷ ts)) (after_plus start' (t ∷ us))
@@ -107,6 +115,7 @@ module _ {k : Fork} {d : ℕ} {inner inner' : Reader} (inside : AgreesInside k (
   head_look heads.Group t h ts us = takes _ (group_opens t h) (λ s. group_both inside _ _ s)
   head_look heads.Abstraction t h ts us = takes _ (begins_operand t _ h (λ x. cc) (λ x. cc)) (λ s. abstraction_both inside _ _ s)
   head_look heads.Case t h ts us = takes _ (begins_operand t _ h (λ x. cc) (λ x. cc)) (λ s. case_both inside _ _ s)
+  head_look heads.Waveform t h ts us = takes _ (begins_operand t _ h (λ x. cc) (λ x. cc)) (λ s. waveform_both _ _ s)
   head_look (heads.Iteration i) t h ts us = takes _ (begins_operand t _ h (λ x. cc) (λ x. cc)) (λ s. iteration_both inside _ _ i s)
   head_look (heads.Ports side) t h ts us = takes _ (begins_operand t _ h (λ x. cc) (λ x. cc)) (λ s. ports_both inside _ _ side s)
   head_look (heads.Switch kind) t h ts us = takes _ (begins_operand t _ h (λ x. cc) (λ x. cc)) (λ s. switch_both _ _ kind s)

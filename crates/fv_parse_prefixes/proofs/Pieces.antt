@@ -9,6 +9,13 @@ use Rattle.fv_parse_grammar.specs.Symbols.{sign, is_mark}
 use Rattle.fv_parse_grammar.proofs.Sound.{is_mark_sign}
 use Rattle.fv_parse_grammar.specs.declared.symbol.Inside.{Inside}
 use Rattle.fv_parse_grammar.specs.declared.symbol.Inside.TheVariants as insides
+use Rattle.fv_lex.specs.declared.token.Symbol.TheVariants.{Integer}
+use Rattle.fv_lex.specs.declared.token.Symbol.TheVariants as symbols
+use Rattle.fv_parse_grammar.specs.declared.form.Literal.{Literal}
+use Rattle.fv_parse_grammar.specs.declared.form.Literal.TheVariants as literal
+use Rattle.fv_parse_grammar.specs.Grammar.{SpellsNumber, unsigned, with_plus, with_minus, one_number, more_numbers}
+use Rattle.fv_parse_grammar.specs.Descent.{◌>>=◌, a_value, a_literal, literal_list}
+use Rattle.fv_parse_prefixes.proofs.Plans.{stuck, counted, CountedAll, counted_all, ALiteral, LiteralList}
 use Rattle.fv_parse_grammar.specs.Grammar.{one_name, more_names}
 use Rattle.fv_parse_grammar.specs.Descent.{Step, Reader, expect, a_name, a_text, at_comma, separated, name_list, enclosed, argument, label}
 use Rattle.fv_parse_prefixes.proofs.Plans.{Plan, called, worded, CalledAll, called_all, both, this, that, nought, signed, Nothing, Sign, AName, AText, NameList, Inner, Then}
@@ -74,6 +81,28 @@ are_names a b (both called (that nought)) = called_all one_name
 
 pub name_list_reads : (ts : List Symbol) → Reads NameList ts (name_list ts)
 name_list_reads ts = separated_reads a_name AName NameList a_name_reads are_names (suc (length ts)) ts
+
+-- ---- numbers
+-- a number behind a sign
+signed_reads : (t : Symbol) (f : ℕ → Literal) → ((n : ℕ) (tail : List Symbol) → SpellsNumber (t ∷ Integer n ∷ tail) (f n) tail)
+    → (ts : List Symbol) → Reads ALiteral (t ∷ ts) (a_value ts >>= λ n. Ok (f n.0, n.1))
+signed_reads t f s (Integer n ∷ ts) = took (record { used = t ∷ Integer n ∷ []; whole = refl; spans = λ tail. counted (s n tail) })
+signed_reads t f s [] = stuck (record { used = t ∷ []; whole = refl; completed = λ tail. (Integer 0 ∷ tail, counted (s 0 tail)) })
+signed_reads t f s (u ∷ ts) = stuck (record { used = t ∷ []; whole = refl; completed = λ tail. (Integer 0 ∷ tail, counted (s 0 tail)) })
+
+a_literal_reads : (ts : List Symbol) → Reads ALiteral ts (a_literal ts)
+a_literal_reads (Integer n ∷ ts) = took (record { used = Integer n ∷ []; whole = refl; spans = λ tail. counted unsigned })
+a_literal_reads (symbols.Plus ∷ ts) = signed_reads symbols.Plus (λ n. literal.Plain n) (λ n tail. with_plus) ts
+a_literal_reads (symbols.Minus ∷ ts) = signed_reads symbols.Minus (λ n. literal.Negative n) (λ n tail. with_minus) ts
+a_literal_reads [] = unread ALiteral
+a_literal_reads (t ∷ ts) = unread ALiteral
+
+are_literals : (a b : List Symbol) → Spans (Then ALiteral (Others LiteralList)) a b → CountedAll a b
+are_literals a b (both (counted x) (this (both signed (counted_all s)))) = counted_all (more_numbers x s)
+are_literals a b (both (counted x) (that nought)) = counted_all (one_number x)
+
+pub literal_list_reads : (ts : List Symbol) → Reads LiteralList ts (literal_list ts)
+literal_list_reads ts = separated_reads a_literal ALiteral LiteralList a_literal_reads are_literals (suc (length ts)) ts
 
 -- ---- in brackets
 -- the inside of brackets is read

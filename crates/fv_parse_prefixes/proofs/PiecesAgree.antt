@@ -1,4 +1,9 @@
 -- Single tokens, names, and what stands in brackets, in two lists that are the same up to and with a token.
+use Rattle.fv_lex.specs.declared.token.Symbol.TheVariants.{Integer}
+use Rattle.fv_lex.specs.declared.token.Symbol.TheVariants as symbols
+use Rattle.fv_parse_grammar.specs.declared.form.Literal.{Literal}
+use Rattle.fv_parse_grammar.specs.declared.form.Literal.TheVariants as literal
+use Rattle.fv_parse_grammar.specs.Descent.{◌>>=◌, a_value, a_literal, literal_list}
 use Rattle.std.proofs.Common.{◌≡◌, ℕ, zero, suc, ◌≤◌, ◌<◌, Bool, true, false, cond, List, [], ◌∷◌, length, drop, Ok, Err, refl, sym, subst, ap, ◌∙◌, arith}
 use Rattle.fv_lex.specs.declared.token.Symbol.{Symbol}
 use Rattle.fv_lex.specs.declared.token.Symbol.TheVariants.{Name, Text, Comma}
@@ -118,6 +123,45 @@ names_look n go t ts us few =
 
 pub name_list_both : {k : Fork} {d : ℕ} {ts us : List Symbol} → Same k d ts us → BothRead k d ts (name_list ts) (name_list us)
 name_list_both {k} {d} {ts = ts} same = separated_among a_name k d refl names_look (suc (length ts)) _ _ (omega arith) same
+
+-- ---- numbers
+-- behind a sign
+abbrev behind_sign : (ℕ → Literal) → List Symbol → Step (List Literal)
+behind_sign f (Integer n ∷ ts) = behind_item a_literal (f n) ts
+behind_sign f ts = Err ts
+
+sign_law : (t : Symbol) (f : ℕ → Literal) → ((ts : List Symbol) → a_literal (t ∷ ts) ≡ (a_value ts >>= λ n. Ok (f n.0, n.1)))
+    → (ts : List Symbol) → literal_list (t ∷ ts) ≡ behind_sign f ts
+sign_law t f is (Integer n ∷ ts) = item_law a_literal (f n) (t ∷ Integer n ∷ ts) ts (is (Integer n ∷ ts)) (omega arith)
+sign_law t f is [] = separated_stop a_literal (t ∷ []) [] (is [])
+sign_law t f is (u ∷ ts) = separated_stop a_literal (t ∷ u ∷ ts) (u ∷ ts) (is (u ∷ ts))
+
+behind_sign_look : {k : Fork} {d : ℕ} (n : ℕ) (f : ℕ → Literal) → SeparatedAgree a_literal k d n
+    → (t : Symbol) (ts us : List Symbol) → length (t ∷ ts) ≤ n → Looks k d d (λ x. x.1) t ts us (behind_sign f (t ∷ ts)) (behind_sign f (t ∷ us))
+behind_sign_look n f go (Integer m) ts us few = takes _ (no_bracket (λ p n. n)) (λ s. behind_both a_literal n (f m) go (omega arith) s)
+behind_sign_look n f go t ts us few = stays_at halted
+
+behind_sign_both : {k : Fork} {d : ℕ} (t : Symbol) (f : ℕ → Literal) → ((ts : List Symbol) → a_literal (t ∷ ts) ≡ (a_value ts >>= λ n. Ok (f n.0, n.1)))
+    → (n : ℕ) → SeparatedAgree a_literal k d n → (ts us : List Symbol) → length ts ≤ n → Same k d ts us
+    → BothRead k d ts (literal_list (t ∷ ts)) (literal_list (t ∷ us))
+behind_sign_both t f is n go ts us few s = of_equal (sign_law t f is ts) (sign_law t f is us)
+    (looked_among n (behind_sign f) (behind_sign f) refl (behind_sign_look n f go) few s)
+
+literals_look : {k : Fork} {d : ℕ} (n : ℕ) → SeparatedAgree a_literal k d n
+    → (t : Symbol) (ts us : List Symbol) → length (t ∷ ts) ≤ n → Looks k d d (λ x. x.1) t ts us (literal_list (t ∷ ts)) (literal_list (t ∷ us))
+literals_look n go (Integer m) ts us few =
+    takes _ (no_bracket (λ p n. n))
+    (λ s. of_equal (item_law a_literal (literal.Plain m) (Integer m ∷ ts) ts refl (omega arith)) (item_law a_literal (literal.Plain m) (Integer m ∷ us) us refl (omega arith))
+    (behind_both a_literal n (literal.Plain m) go (omega arith) s))
+literals_look n go symbols.Plus ts us few =
+    takes _ (no_bracket (λ p n. n)) (λ s. behind_sign_both symbols.Plus (λ m. literal.Plain m) (λ l. refl) n go ts us (omega arith) s)
+literals_look n go symbols.Minus ts us few =
+    takes _ (no_bracket (λ p n. n)) (λ s. behind_sign_both symbols.Minus (λ m. literal.Negative m) (λ l. refl) n go ts us (omega arith) s)
+literals_look n go t ts us few =
+    stays_at (λ s. of_equal (separated_stop a_literal (t ∷ ts) (t ∷ ts) refl) (separated_stop a_literal (t ∷ us) (t ∷ us) refl) (halted s))
+
+pub literal_list_both : {k : Fork} {d : ℕ} {ts us : List Symbol} → Same k d ts us → BothRead k d ts (literal_list ts) (literal_list us)
+literal_list_both {k} {d} {ts = ts} same = separated_among a_literal k d refl literals_look (suc (length ts)) _ _ (omega arith) same
 
 -- ---- in brackets
 module _ {k : Fork} {d : ℕ} {inner inner' : Reader} (inside : AgreesInside k (suc d) inner inner') where

@@ -1,4 +1,6 @@
 -- What a reader takes, piece by piece, and how it is completed where the reader stops.
+use Rattle.fv_parse_grammar.specs.declared.form.Literal.{Literal}
+use Rattle.fv_parse_grammar.specs.Grammar.{SpellsNumber, unsigned, SpellsNumbers, one_number}
 use Rattle.std.proofs.Common.{◌≡◌, ℕ, zero, suc, Bool, true, false, cond, List, [], ◌∷◌, ◌++◌, Result, Ok, Err, refl, sym, ap, subst, ◌∙◌, append_assoc}
 use Rattle.fv_lex.specs.declared.token.Symbol.{Symbol}
 use Rattle.fv_lex.specs.declared.token.Symbol.TheVariants.{Name, Text, Comma}
@@ -42,6 +44,14 @@ pub data Worded : List Symbol → List Symbol → Type 0 where
 pub data CalledAll : List Symbol → List Symbol → Type 0 where
   called_all : {ts rest : List Symbol} {ns : List ℕ} → SpellsNames ts ns rest → CalledAll ts rest
 
+-- a number with or without a sign
+pub data Counted : List Symbol → List Symbol → Type 0 where
+  counted : {ts rest : List Symbol} {x : Literal} → SpellsNumber ts x rest → Counted ts rest
+
+-- numbers with commas between
+pub data CountedAll : List Symbol → List Symbol → Type 0 where
+  counted_all : {ts rest : List Symbol} {xs : List Literal} → SpellsNumbers ts xs rest → CountedAll ts rest
+
 -- some tree is spelled
 pub data Spelled (level : Level) : List Symbol → List Symbol → Type 0 where
   spelled : {ts rest : List Symbol} {x : Tree} → Spells level ts x rest → Spelled level ts rest
@@ -72,6 +82,8 @@ pub data Plan : Type 0 where
   AName : Plan
   AText : Plan
   NameList : Plan
+  ALiteral : Plan
+  LiteralList : Plan
   Inner : Inside → Plan
   Joined : Operands → Commas → ℕ → Plan
   APostfix : Plan
@@ -92,6 +104,8 @@ Spans (Sign t) = Signed t
 Spans AName = Called
 Spans AText = Worded
 Spans NameList = CalledAll
+Spans ALiteral = Counted
+Spans LiteralList = CountedAll
 Spans (Inner what) = Spelled (level_of what)
 Spans (Joined kind comma h) = Spelled (Phrase kind comma h)
 Spans APostfix = Spelled Postfix
@@ -145,6 +159,8 @@ starts (Sign t) tail = (t ∷ tail, signed)
 starts AName tail = (Name 0 ∷ tail, called)
 starts AText tail = (Text 0 ∷ tail, worded)
 starts NameList tail = (Name 0 ∷ tail, called_all one_name)
+starts ALiteral tail = (symbols.Integer 0 ∷ tail, counted unsigned)
+starts LiteralList tail = (symbols.Integer 0 ∷ tail, counted_all (one_number unsigned))
 starts (Inner what) tail = start_inner what tail
 starts (Joined kind comma h) tail = let (x, s) = start_phrase kind comma h tail in (_, spelled s)
 starts APostfix tail = (Name 0 ∷ tail, spelled (bare named))

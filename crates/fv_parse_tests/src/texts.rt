@@ -75,6 +75,14 @@ fn refusals(rt: HostRuntime) -> Result<(), Fail> {
         (b"process = _ : _ with { a = 1; }, _;", "9 Syntax 1 32"),
         (b"process = f(x with { a = 1; });", "9 Syntax 1 15"),
         (b"f(_) = 1; process = f;", "9 Syntax 1 3"),
+        (b"process = waveform{};", "9 Syntax 1 20"),
+        (b"process = waveform{1,};", "9 Syntax 1 22"),
+        (b"process = waveform{1,-};", "9 Syntax 1 23"),
+        (b"process = waveform{1 2};", "9 Syntax 1 22"),
+        (b"process = waveform{-x};", "9 Syntax 1 21"),
+        (b"process = waveform(1);", "9 Syntax 1 19"),
+        (b"process = waveform{1", "9 Syntax 1 21"),
+        (b"f(rdtable) = 1;", "9 Syntax 1 3"),
         (b"import(\"stdfaust.lib\");", "10 Unsupported import"),
         (b"process = 2 ^ sin;", "10 Unsupported ^"),
         (b"process = button(\"a%b\") ;;", "10 Unsupported %"),
@@ -123,6 +131,14 @@ fn forms(rt: HostRuntime) -> Result<(), Fail> {
         (
             b"process = a <: b :> c;",
             "Named(2) Named(4) Named(6) Binary(Merge, TreeId(1), TreeId(2)) Binary(Split, TreeId(0), TreeId(3)) Constant(0, TreeId(4)) List([TreeId(5)])",
+        ),
+        (
+            b"process = waveform{ - 1,+2,\n3 /* */ };",
+            "Waveform([Negative(1), Plain(2), Plain(3)]) Constant(0, TreeId(0)) List([TreeId(1)])",
+        ),
+        (
+            b"process = rdtable, rwtable;",
+            "Primitive(ReadTable) Primitive(WriteTable) Binary(Parallel, TreeId(0), TreeId(1)) Constant(0, TreeId(2)) List([TreeId(3)])",
         ),
         (
             b"process = -f(3)';",
@@ -283,6 +299,14 @@ fn a_chain_as_long_as_may_be(rt: HostRuntime) -> Result<(), Fail> {
     let text = repeated(rt.alloc(), b"process = _", b":_", 524_282, b";")?;
     assert_eq!(rt; text.len(), 1_048_576);
     assert_eq!(rt; nodes(rt.alloc(), &text)?, 1_048_566);
+    Ok(())
+}
+
+#[test]
+fn a_waveform_as_long_as_may_be(rt: HostRuntime) -> Result<(), Fail> {
+    let text = repeated(rt.alloc(), b"process = waveform{-1", b",2", 524_276, b" };")?;
+    assert_eq!(rt; text.len(), 1_048_576);
+    assert_eq!(rt; nodes(rt.alloc(), &text)?, 2);
     Ok(())
 }
 

@@ -7,7 +7,7 @@ use Rattle.fv_parse_tree.specs.declared.node.TreeNode.{TreeNode}
 use Rattle.fv_parse_tree.specs.declared.node.TreeNode.TheVariants as nodes
 use Rattle.fv_parse_tree.specs.declared.arena.Entry.{Entry}
 use Rattle.fv_parse_tree.specs.declared.pending.Pending.{Pending}
-use Rattle.fv_parse_grammar.specs.Tree.{Tree, Number, Negative, Named, MinusNamed, Wire, Cut, Primitive, Group, Abstraction, Case, Iteration, Ports, Switch, Slider}
+use Rattle.fv_parse_grammar.specs.Tree.{Tree, Number, Negative, Named, MinusNamed, Wire, Cut, Primitive, Group, Abstraction, Case, Waveform, Iteration, Ports, Switch, Slider}
 use Rattle.fv_parse_grammar.specs.Tree.{Panel, Delayed, Apply, Binary, Where, Rule, Constant, Function, End, More}
 
 -- the tree with this number
@@ -31,6 +31,7 @@ tree_of trees (nodes.Primitive p) start = Primitive start p
 tree_of trees (nodes.Group x) start = Group start (tree_at trees x)
 tree_of trees (nodes.Abstraction ns x) start = Abstraction start ns.items (tree_at trees x)
 tree_of trees (nodes.Case xs) start = Case start (tree_at trees xs)
+tree_of trees (nodes.Waveform xs) start = Waveform start xs.items
 tree_of trees (nodes.Iteration i n x y) start = Iteration start i n (tree_at trees x) (tree_at trees y)
 tree_of trees (nodes.Ports s x) start = Ports start s (tree_at trees x)
 tree_of trees (nodes.Switch k s) start = Switch start k s

@@ -1,7 +1,7 @@
 // What is read without opening a bracket.
 
 ghost use Rattle.std.specs.Prelude.{◌≡◌, ◌<◌, ◌≤◌, length, OnOk};
-ghost use Rattle.fv_parse_grammar.specs.Descent.{after_plus, after_minus, plus_number, minus_number, switch};
+ghost use Rattle.fv_parse_grammar.specs.Descent.{after_plus, after_minus, plus_number, minus_number, switch, waveform};
 ghost use Rattle.fv_parse_tree.specs.Gives.{Gives};
 
 use crate::node::{TreeId, TreeNode};
@@ -71,6 +71,18 @@ impl Reader<'_> {
             }
             _ => Err(Stop::Syntax),
         }
+    }
+
+    /// A waveform, behind its word.
+    #[tactic(auto, unfolding(fv_parse_grammar::specs::Descent::waveform))]
+    pub(crate) fn waveform(&mut self, start: usize) -> Result<TreeId, Stop>
+        ensures is { Gives self.old self.new result (waveform start self.old.symbols.rest.now) }
+        ensures shorter { OnOk result (length self.new.symbols.rest.now < length self.old.symbols.rest.now) }
+    {
+        self.symbols.take(Mark::OpenBrace)?;
+        let numbers = self.symbols.literals(self.alloc)?;
+        self.symbols.take(Mark::CloseBrace)?;
+        Ok(self.arena.push(TreeNode::Waveform(numbers), start)?)
     }
 
     /// A button or a checkbox, behind its word.

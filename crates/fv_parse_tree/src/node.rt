@@ -1,6 +1,6 @@
 // The nodes of a tree.
 
-use fv_parse_grammar::{Iteration, Operator, Panel, Primitive, Side, Slider, Switch};
+use fv_parse_grammar::{Iteration, Literal, Operator, Panel, Primitive, Side, Slider, Switch};
 use std::marker::Model;
 
 /// The number of a node in its tree.
@@ -56,6 +56,8 @@ pub enum TreeNode {
     Abstraction(Vec<u64>, TreeId),
     /// The list of rules.
     Case(TreeId),
+    /// The numbers.
+    Waveform(Vec<Literal>),
     /// The index, the count and the body.
     Iteration(Iteration, u64, TreeId, TreeId),
     Ports(Side, TreeId),

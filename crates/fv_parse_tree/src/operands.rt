@@ -181,6 +181,7 @@ impl<'a> Reader<'a> {
             Head::Group => self.group(nesting, start),
             Head::Abstraction => self.abstraction(nesting, start),
             Head::Case => self.case_of(nesting, start),
+            Head::Waveform => self.waveform(start),
             Head::Iteration(kind) => self.iteration(nesting, start, kind),
             Head::Ports(side) => self.ports(nesting, start, side),
             Head::Switch(kind) => self.switch(start, kind),

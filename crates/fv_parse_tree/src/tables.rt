@@ -40,6 +40,8 @@ fn primitive_of(token: Symbol) -> Option<Primitive>
         Symbol::Min => Some(Primitive::Min),
         Symbol::Max => Some(Primitive::Max),
         Symbol::Abs => Some(Primitive::Abs),
+        Symbol::Rdtable => Some(Primitive::ReadTable),
+        Symbol::Rwtable => Some(Primitive::WriteTable),
         _ => None,
     }
 }
@@ -59,6 +61,7 @@ fn form_head(token: Symbol) -> Head
         Symbol::Open => Head::Group,
         Symbol::Backslash => Head::Abstraction,
         Symbol::Case => Head::Case,
+        Symbol::Waveform => Head::Waveform,
         Symbol::Par => Head::Iteration(Iteration::Parallel),
         Symbol::Seq => Head::Iteration(Iteration::Sequence),
         Symbol::Sum => Head::Iteration(Iteration::Sum),

@@ -3,12 +3,13 @@
 ghost use Rattle.std.specs.Prelude.{◌≡◌, ◌<◌, length, OnOk};
 ghost use Rattle.fv_parse_grammar.specs.Symbols.{is_mark};
 ghost use Rattle.fv_parse_grammar.specs.Descent.{expect, a_name, a_text, at_comma, label, name_list, declared_text, declared_for, declaration};
+ghost use Rattle.fv_parse_grammar.specs.Descent.{a_value, a_literal, literal_list};
 ghost use Rattle.fv_parse_tree.specs.Gives.{Takes, Skips, IsOperatorAt};
 
 use crate::reader::{Stop, Symbols};
 use crate::tables::{operator, power};
 use fv_lex::Symbol;
-use fv_parse_grammar::{Commas, Mark, Operands, Operator};
+use fv_parse_grammar::{Commas, Literal, Mark, Operands, Operator};
 use std::alloc::Global;
 
 fn is_mark(mark: Mark, symbol: Symbol) -> bool
@@ -130,6 +131,59 @@ impl Symbols<'_> {
         let mut items = Vec::new(alloc);
         loop {
             let item = self.name()?;
+            items.push(item)?;
+            if !self.skip_comma() {
+                return Ok(items);
+            }
+        }
+    }
+
+    // Passes an integer, and answers its number.
+    fn value(&mut self) -> Result<u32, Stop>
+        ensures is { Takes (λ n rest. (n, rest)) self.new result (a_value self.old.rest.now) }
+        ensures shorter { OnOk result (length self.new.rest.now < length self.old.rest.now) }
+    {
+        match self.rest {
+            [Symbol::Integer(n), after @ ..] => {
+                self.rest = after;
+                Ok(*n)
+            }
+            _ => Err(Stop::Syntax),
+        }
+    }
+
+    /// Passes an integer, with or without a sign.
+    fn literal(&mut self) -> Result<Literal, Stop>
+        ensures is { Takes (λ x rest. (x, rest)) self.new result (a_literal self.old.rest.now) }
+        ensures shorter { OnOk result (length self.new.rest.now < length self.old.rest.now) }
+    {
+        match self.rest {
+            [Symbol::Integer(n), after @ ..] => {
+                self.rest = after;
+                Ok(Literal::Plain(*n))
+            }
+            [Symbol::Plus, after @ ..] => {
+                self.rest = after;
+                let n = self.value()?;
+                Ok(Literal::Plain(n))
+            }
+            [Symbol::Minus, after @ ..] => {
+                self.rest = after;
+                let n = self.value()?;
+                Ok(Literal::Negative(n))
+            }
+            _ => Err(Stop::Syntax),
+        }
+    }
+
+    /// number {"," number}
+    pub(crate) fn literals(&mut self, alloc: Global) -> Result<Vec<Literal>, Stop>
+        ensures is { Takes (λ xs rest. (xs.items, rest)) self.new result (literal_list self.old.rest.now) }
+        ensures shorter { OnOk result (length self.new.rest.now < length self.old.rest.now) }
+    {
+        let mut items = Vec::new(alloc);
+        loop {
+            let item = self.literal()?;
             items.push(item)?;
             if !self.skip_comma() {
                 return Ok(items);

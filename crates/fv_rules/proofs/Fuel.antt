@@ -1,6 +1,6 @@
 -- More depth than visits changes nothing, so evaluation follows its rules.
 use Rattle.std.proofs.Common.{◌≡◌, ℕ, zero, suc, ◌-◌, ◌≤◌, Bool, true, false, List, [], ◌∷◌, ◌++◌, length, Option, Some, None, Ok, Err, ℤ, pos}
-use Rattle.std.proofs.Common.{negsuc, refl, sym, ap, ◌∙◌, arith}
+use Rattle.std.proofs.Common.{negsuc, map, refl, sym, ap, ◌∙◌, arith}
 use Rattle.std.specs.Prelude.{nat_le, nat_lt, nat_eq, ◌&&◌, int_le, if◌then◌else◌}
 use Rattle.fv_lex.specs.Token.{Lexed}
 use Rattle.fv_parse_grammar.specs.Tree.{Tree}
@@ -31,7 +31,7 @@ use Rattle.fv_diagram_head.specs.Heads.{parts, cut, is_head, table_numbers}
 use Rattle.fv_rules.specs.Steps.{sized, side_by_side, table_size, grow, table_limit, tabled_by, tabled, waved}
 use Rattle.fv_rules.specs.Steps.{before_table}
 use Rattle.fv_rules.specs.Steps.{labelled, entered, control}
-use Rattle.fv_rules.specs.Rules.{primitive_of, switch_kind, slider_kind, Evaluator, flat, on_slots, bind_all, turned, operated, joined, from_right}
+use Rattle.fv_rules.specs.Rules.{literal_value, primitive_of, switch_kind, slider_kind, Evaluator, flat, on_slots, bind_all, turned, operated, joined, from_right}
 use Rattle.fv_rules.specs.Rules.{from_left, defined_value, meant, name_value, arguments, all_turned, wires, all_outputs, takes_the_right, led, fed_by}
 use Rattle.fv_rules.specs.Rules.{fed, width, selected, applied, bodies, gathered, counted, read_number, parameters, slider_info, switch_info}
 use Rattle.fv_rules.specs.Rules.{abstraction, rule, visited, descend, within, ev}
@@ -304,6 +304,8 @@ rule_agrees n l e e' a (tree.Iteration s r t x y) env =
     bind_agrees (counted_agrees n l (start_of x) (number_of d)) (λ k.
     bind_agrees (bodies_agree n e e' a (text_of l t) y env 0 k []) (λ ds. gathered_agrees n r ds)))
 rule_agrees n l e e' a (tree.Ports s k x) env = bind_agrees (a.diagram x env) (λ d. give_agrees)
+rule_agrees n l e e' a (tree.Waveform s []) env = refuse_agrees
+rule_agrees n l e e' a (tree.Waveform s (x ∷ xs)) env = flat_agrees (waved_agrees n (map literal_value (x ∷ xs)))
 rule_agrees n l e e' a (tree.Switch s k t) env = flat_agrees (control_agrees n (switch_info (switch_kind k) (label_of l t)))
 rule_agrees n l e e' a (tree.Slider s k t x0 x1 x2 x3) env =
     bind_agrees (parameters_agree n l e e' a (x0 ∷ x1 ∷ x2 ∷ x3 ∷ []) env []) (λ ns.

@@ -1,6 +1,6 @@
 -- Every diagram of evaluation is composed, has only the free slots of its environment, and names only the controls so far.
 use Rattle.std.proofs.Common.{inl, inr, ◌≡◌, ◌⊎◌, ℕ, zero, suc, ◌+◌, ◌≤◌, ◌<◌, Bool, true, false, List, [], ◌∷◌, ◌++◌, length, Option}
-use Rattle.std.proofs.Common.{Some, None, Result, Ok, Err, ℤ, pos, negsuc, refl, subst, arith}
+use Rattle.std.proofs.Common.{Some, None, Result, Ok, Err, ℤ, pos, negsuc, map, refl, subst, arith}
 use Rattle.std.proofs.lemmas.Int.{ints}
 use Rattle.std.proofs.lemmas.List.{length-append}
 use Rattle.std.proofs.Math.Dec.{eqb}
@@ -33,7 +33,8 @@ use Rattle.fv_diagram_number.specs.Numbers.{number_of}
 use Rattle.fv_rules.specs.Matching.{Bindings, number_or, settled, and_then, parts_of, parts_without, value_parts, value_number}
 use Rattle.fv_rules.specs.Matching.{matched, all_matched, bound_in, or_next, chosen}
 use Rattle.fv_rules.specs.Steps.{State, Outcome, Eval, after, ◌>>=◌, no_number, no_rule, no_diagram, spent, visit, fresh_slots}
-use Rattle.fv_rules.specs.Steps.{whole, is_alike, labelled, entered, control}
+use Rattle.fv_rules.specs.Steps.{give, refuse, whole, is_alike, labelled, entered, control}
+use Rattle.fv_rules.specs.Rules.{literal_value}
 use Rattle.fv_rules.specs.Rules.{primitive_of, switch_kind, slider_kind, Evaluator, flat, on_slots, bind_all, turned, operated}
 use Rattle.fv_rules.specs.Rules.{defined_value, meant, name_value, arguments, all_turned, width, selected, applied}
 use Rattle.fv_rules.specs.Rules.{bodies, counted, ports, read_number, parameters, slider_info, switch_info, abstraction, rule, descend}
@@ -41,9 +42,9 @@ use Rattle.fv_rules.specs.Rules.{within, ev, finished, start, program_value}
 use Rattle.fv_rules.specs.Sound.{IsSoundProgram}
 use Rattle.fv_diagram.specs.Controls.{IsBounded}
 use Rattle.fv_rules.proofs.SoundValues.{IsSound, SoundValue, SoundEnv, SoundTaken, SoundState, AllSound, AllValues, sound_grows, env_grows}
-use Rattle.fv_rules.proofs.SoundValues.{plain_tableless, plain_has_none, keep, keep_value, keep_env, keep_all, keep_values, all_snoc, values_snoc}
+use Rattle.fv_rules.proofs.SoundValues.{keep, keep_value, keep_env, keep_all, keep_values, all_snoc, values_snoc}
 use Rattle.fv_rules.proofs.SoundValues.{IsCause, spare, Stays, Does, bind_does, give_does, refuse_does, lend, choice}
-use Rattle.fv_rules.proofs.SoundCompositions.{put_does, no_table, prim_sound, constant_sound, slot_sound, flat_does, operated_does, joined_does, gathered_does, fed_does}
+use Rattle.fv_rules.proofs.SoundCompositions.{waved_does, put_does, prim_sound, constant_sound, slot_sound, flat_does, operated_does, joined_does, gathered_does, fed_does}
 
 -- ---- slots
 abbrev Within : ℕ → ℕ → (ℕ → Type 0) → ℕ → Type 0
@@ -108,20 +109,16 @@ SomeParts S k (Some ab) = IsSound S k ab.0 × IsSound S k ab.1
 halves : (S : ℕ → Type 0) (k : ℕ) (a b : Diagram) → IsSound S k (Par a b) → IsSound S k a × IsSound S k b
 halves S k a b g =
     let r = g.reads in let z = g.within in (
-      record { composed = g.composed.0; plain = g.plain.0; within = omega arith; free = λ s i. g.free s (inl i); reads = omega arith },
-      record { composed = g.composed.1; plain = g.plain.1; within = omega arith; free = λ s i. g.free s (inr i); reads = omega arith },
+      record { composed = g.composed.0; within = omega arith; free = λ s i. g.free s (inl i); reads = omega arith },
+      record { composed = g.composed.1; within = omega arith; free = λ s i. g.free s (inr i); reads = omega arith },
     )
 
 parts_sound : (S : ℕ → Type 0) (k : ℕ) (o : Operator) (d : Diagram) → IsSound S k d → SomeParts S k (parts_of o d)
-parts_sound S k operators.Recursion (Rec a b) g =
-    halves S k a b (record { composed = (g.composed.0, g.composed.1); plain = g.plain; within = g.within; free = g.free; reads = g.reads })
+parts_sound S k operators.Recursion (Rec a b) g = halves S k a b (record { composed = (g.composed.0, g.composed.1); within = g.within; free = g.free; reads = g.reads })
 parts_sound S k operators.Parallel (Par a b) g = halves S k a b g
-parts_sound S k operators.Sequence (Seq a b) g =
-    halves S k a b (record { composed = (g.composed.0, g.composed.1); plain = g.plain; within = g.within; free = g.free; reads = g.reads })
-parts_sound S k operators.Split (Split a b) g =
-    halves S k a b (record { composed = (g.composed.0, g.composed.1); plain = g.plain; within = g.within; free = g.free; reads = g.reads })
-parts_sound S k operators.Merge (Merge a b) g =
-    halves S k a b (record { composed = (g.composed.0, g.composed.1); plain = g.plain; within = g.within; free = g.free; reads = g.reads })
+parts_sound S k operators.Sequence (Seq a b) g = halves S k a b (record { composed = (g.composed.0, g.composed.1); within = g.within; free = g.free; reads = g.reads })
+parts_sound S k operators.Split (Split a b) g = halves S k a b (record { composed = (g.composed.0, g.composed.1); within = g.within; free = g.free; reads = g.reads })
+parts_sound S k operators.Merge (Merge a b) g = halves S k a b (record { composed = (g.composed.0, g.composed.1); within = g.within; free = g.free; reads = g.reads })
 parts_sound S k o d g = tt
 
 without_sound : (S : ℕ → Type 0) (k : ℕ) (n : Option ℤ) (o : Operator) (d : Diagram) → IsSound S k d → SomeParts S k (parts_without n o d)
@@ -244,7 +241,7 @@ labelled_below k n (c ∷ cs) label h =
     if_below n _ (Some (k, c)) (labelled (suc k) cs label) (omega arith) (labelled_below (suc k) n cs label (omega arith))
 
 control_sound : (S : ℕ → Type 0) (n k : ℕ) → k < n → IsSound S n (Control k)
-control_sound S n k h = record { composed = tt; plain = tt; within = omega arith; free = λ s f. absurd f; reads = omega arith }
+control_sound S n k h = record { composed = tt; within = omega arith; free = λ s f. absurd f; reads = omega arith }
 
 alike_stays : (S : ℕ → Type 0) (s : State) (k : ℕ) (b : Bool) (r : EvalRefusal) → IsCause r → k < length s.controls → SoundState s
     → Stays (IsSound S) 1 s (if b then Ok (Control k, s) else Err r)
@@ -384,15 +381,15 @@ minus_does : (l : Lexed) (e : Evaluator) → Sound e → (S : ℕ → Type 0) (k
 minus_does l e a S k n env g =
     bind_does (name_does l e a S k (text_of l n) env g) (λ v m h i.
     bind_does (turned_does l e a S m v i) (λ d p q r.
-    flat_does (operated_does S p (prim.Point op.Sub) refl (Constant (pos 0)) d (constant_sound S p (pos 0)) r)))
+    flat_does (operated_does S p (prim.Point op.Sub) (Constant (pos 0)) d (constant_sound S p (pos 0)) r)))
 
 rule_does : (l : Lexed) (e : Evaluator) → Sound e → (S : ℕ → Type 0) (k : ℕ) (x : Tree) (env : Env) → SoundEnv S k env
     → Does (SoundValue S) 1 k (rule l e x env)
 rule_does l e a S k (tree.Number s n) env g = give_does (λ m h. constant_sound S m _)
 rule_does l e a S k (tree.Negative s n) env g = give_does (λ m h. constant_sound S m _)
-rule_does l e a S k (tree.Wire s) env g = give_does (λ m h. prim_sound S m prim.Wire refl)
-rule_does l e a S k (tree.Cut s) env g = give_does (λ m h. prim_sound S m prim.Cut refl)
-rule_does l e a S k (tree.Primitive s p) env g = give_does (λ m h. prim_sound S m (primitive_of p) (no_table p))
+rule_does l e a S k (tree.Wire s) env g = give_does (λ m h. prim_sound S m prim.Wire)
+rule_does l e a S k (tree.Cut s) env g = give_does (λ m h. prim_sound S m prim.Cut)
+rule_does l e a S k (tree.Primitive s p) env g = give_does (λ m h. prim_sound S m (primitive_of p))
 rule_does l e a S k (tree.Named s n) env g =
     let x = text_of l n in lend (meant_does e a S k x (lookup l env x) (lookup_sound S k l env x g))
 rule_does l e a S k (tree.MinusNamed s n) env g = lend (minus_does l e a S k n env g)
@@ -405,7 +402,7 @@ rule_does l e a S k (tree.Binary s o x y) env g =
     lend (bind_does (a.diagram S k x env g) (λ c n h i.
     bind_does (a.diagram S n y env (keep_env S k n env h g)) (λ d m p q. flat_does (joined_does S m o c d (keep S n m c p i) q))))
 rule_does l e a S k (tree.Delayed s x) env g =
-    lend (bind_does (a.diagram S k x env g) (λ d n h i. flat_does (put_does S n (Seq d (Primitive prim.Mem)) (i, prim_sound S n prim.Mem refl))))
+    lend (bind_does (a.diagram S k x env g) (λ d n h i. flat_does (put_does S n (Seq d (Primitive prim.Mem)) (i, prim_sound S n prim.Mem))))
 rule_does l e a S k (tree.Apply s x ys) env g =
     lend (bind_does (a.value S k x env g) (λ f n h i.
     bind_does (arguments_do e a S n (items ys) env [] (keep_env S k n env h g) tt) (λ vs m p q.
@@ -416,6 +413,8 @@ rule_does l e a S k (tree.Iteration s r t x y) env g =
     bind_does (bodies_do e a S m (text_of l t) y env 0 c [] (keep_env S n m env p (keep_env S k n env h g)) tt) (λ ds u v w.
     gathered_does S u r ds w))))
 rule_does l e a S k (tree.Ports s side x) env g = lend (bind_does (a.diagram S k x env g) (λ d n h i. give_does (λ m p. ports_sound S m side d)))
+rule_does l e a S k (tree.Waveform s []) env g = refuse_does (no_diagram l s) tt
+rule_does l e a S k (tree.Waveform s (x ∷ xs)) env g = lend (flat_does (waved_does S k (map literal_value (x ∷ xs))))
 rule_does l e a S k (tree.Switch s p n) env g = flat_does (control_does S k (switch_info (switch_kind p) (label_of l n)))
 rule_does l e a S k (tree.Slider s p t x0 x1 x2 x3) env g =
     bind_does (parameters_do l e a S k (x0 ∷ x1 ∷ x2 ∷ x3 ∷ []) env [] g) (λ ns n h i.
@@ -460,21 +459,25 @@ ev_sound l = record {
 }
 
 -- ---- programs
-finished_sound : (r : Outcome Diagram) (d : Diagram) (cs : List ControlInfo) → Stays (IsSound (λ s. ⊥)) 0 start r → finished r ≡ Ok (d, cs)
+-- a diagram that is sound, and has no table primitive
+abbrev CanRun : ℕ → Diagram → Type 0
+CanRun k d = IsSound (λ s. ⊥) k d × (has_table_primitive d ≡ false)
+
+whole_does : (k : ℕ) (d : Diagram) → IsSound (λ s. ⊥) k d → Does CanRun 0 k (whole d)
+whole_does k d g = by (has_table_primitive d) refl
+  where
+    by : (b : Bool) → has_table_primitive d ≡ b → Does CanRun 0 k (if b then refuse (TableForm cause.Primitive) else give d)
+    by true e = refuse_does (TableForm cause.Primitive) tt
+    by false e = give_does (λ n h. (keep (λ s. ⊥) k n d h g, e))
+
+finished_sound : (r : Outcome Diagram) (d : Diagram) (cs : List ControlInfo) → Stays CanRun 0 start r → finished r ≡ Ok (d, cs)
     → IsSoundProgram d cs
 finished_sound (Ok x) d cs g e =
     let v = g.1 in
     let z = g.0 in
+    let i = g.3.0 in
     subst (λ (o : Result (Diagram × List ControlInfo) EvalRefusal). IfSound o) e
-    (record {
-      well = composed_is_well x.0 g.3.composed (plain_has_none x.0 g.3.plain);
-      tableless = plain_tableless x.0 g.3.plain;
-      within = g.3.within;
-      closed = g.3.free;
-      reads = g.3.reads;
-      bounded = g.2;
-      few = omega arith;
-    })
+    (record { well = composed_is_well x.0 i.composed g.3.1; within = i.within; closed = i.free; reads = i.reads; bounded = g.2; few = omega arith })
   where
     IfSound : Result (Diagram × List ControlInfo) EvalRefusal → Type 0
     IfSound (Ok p) = IsSoundProgram p.0 p.1
@@ -485,29 +488,25 @@ finished_sound (Err r) d cs g e = absurd (subst (λ (o : Result (Diagram × List
     IsErrs (Ok p) = ⊥
     IsErrs (Err r) = Unit {0}
 
--- no table primitive is left in a sound diagram
-whole_does : (S : ℕ → Type 0) (k : ℕ) (d : Diagram) → IsSound S k d → Does (IsSound S) 0 k (whole d)
-whole_does S k d g = choice (has_table_primitive d) (refuse_does (TableForm cause.Primitive) tt) (give_does (λ n h. keep S k n d h g))
-
 -- the outcome of a program
 abbrev program : Lexed → Tree → Outcome Diagram
 program l x = (name_value l (ev l) (codes "process") (Scope x Outermost) >>= turned l (ev l) >>= whole) start
 
-program_does : (l : Lexed) (x : Tree) → Stays (IsSound (λ s. ⊥)) 0 start (program l x)
+program_does : (l : Lexed) (x : Tree) → Stays CanRun 0 start (program l x)
 program_does l x =
     let S : ℕ → Type 0 = λ s. ⊥ in
     let m : Does (SoundValue S) 0 0 (name_value l (ev l) (codes "process") (Scope x Outermost)) =
     name_does l (ev l) (ev_sound l) S 0 (codes "process") (Scope x Outermost) tt in
     let made : Does (IsSound S) 0 0 (name_value l (ev l) (codes "process") (Scope x Outermost) >>= turned l (ev l)) =
     bind_does m (λ v n h i. turned_does l (ev l) (ev_sound l) S n v i) in
-    let all : Does (IsSound S) 0 0 (name_value l (ev l) (codes "process") (Scope x Outermost) >>= turned l (ev l) >>= whole) =
-    bind_does made (λ d n h i. whole_does S n d i) in
+    let all : Does CanRun 0 0 (name_value l (ev l) (codes "process") (Scope x Outermost) >>= turned l (ev l) >>= whole) =
+    bind_does made (λ d n h i. whole_does n d i) in
     all.stays start (omega arith) (All-nil IsBounded)
 
 pub evaluates_soundly : (l : Lexed) (x : Tree) (d : Diagram) (cs : List ControlInfo) → program_value l x ≡ Ok (d, cs) → IsSoundProgram d cs
 evaluates_soundly l x d cs e = finished_sound (program l x) d cs (program_does l x) e
 
-finished_cause : (r : Outcome Diagram) → Stays (IsSound (λ s. ⊥)) 0 start r → finished r ≡ Err NoMemory → ⊥
+finished_cause : (r : Outcome Diagram) → Stays CanRun 0 start r → finished r ≡ Err NoMemory → ⊥
 finished_cause (Ok x) g e = subst (λ (o : Result (Diagram × List ControlInfo) EvalRefusal). IsCaused o) e tt
   where
     IsCaused : Result (Diagram × List ControlInfo) EvalRefusal → Type 0

@@ -2,28 +2,36 @@
 use Rattle.std.proofs.Common.{inl, inr, ◌≡◌, ◌⊎◌, ℕ, zero, suc, ◌-◌, ◌%◌, ◌≤◌, Bool, true, false, List, [], ◌∷◌, ◌++◌, Option}
 use Rattle.std.proofs.Common.{Some, None, Ok, Err, ℤ, pos, refl, sym, subst, arith}
 use Rattle.std.specs.Prelude.{nat_le, nat_lt, nat_eq, ◌&&◌, ◌≢◌, if◌then◌else◌}
-use Rattle.std.proofs.lemmas.Bool.{and_parts, leb-true, eqb-true, true≢false}
+use Rattle.std.proofs.lemmas.Bool.{and_parts, leb-true, eqb-true}
 use Rattle.std.proofs.lemmas.Option.{none-some}
 use Rattle.fv_parse_grammar.specs.declared.form.Operator.{Operator}
 use Rattle.fv_parse_grammar.specs.declared.form.Operator.TheVariants as operators
 use Rattle.fv_parse_grammar.specs.declared.form.Iteration.{Iteration as Repetition}
 use Rattle.fv_parse_grammar.specs.declared.form.Iteration.TheVariants as repetitions
-use Rattle.fv_parse_grammar.specs.declared.form.Primitive.{Primitive as Operation}
-use Rattle.fv_parse_grammar.specs.declared.form.Primitive.TheVariants as operations
 use Rattle.fv_num.specs.declared.op.Op.TheVariants as op
 use Rattle.fv_diagram.specs.declared.node.Primitive.{Primitive as Prim}
 use Rattle.fv_diagram.specs.declared.node.Primitive.TheVariants as prim
-use Rattle.fv_diagram.specs.Diagram.{Diagram, Primitive, Constant, Slot, Bind, Par, Seq, Split, Merge, Rec, size, inputs, outputs}
-use Rattle.fv_diagram.specs.Diagram.{control_bound, is_table_primitive, IsFree}
+use Rattle.fv_diagram.specs.Diagram.{Diagram, Primitive, Constant, Slot, Table, Bind, Par, Seq, Split, Merge, Rec, size, inputs, outputs}
+use Rattle.fv_diagram.specs.Diagram.{table_inputs}
+use Rattle.fv_diagram_number.specs.Numbers.{at_first}
+use Rattle.fv_num.specs.Words.{argument}
+use Rattle.std.specs.List.{list_all}
+use Rattle.std.proofs.Common.{◌+◌, ◌*◌, length, ◌∙◌, negsuc}
+use Rattle.fv_diagram.specs.Diagram.{control_bound, IsFree}
 use Rattle.fv_diagram.specs.Composed.{IsComposed}
 use Rattle.fv_diagram.specs.Arena.{size_limit}
 use Rattle.fv_rules.specs.declared.refusal.EvalRefusal.{EvalRefusal}
 use Rattle.fv_rules.specs.declared.refusal.EvalRefusal.TheVariants.{SizeBudget, Arity, IterationCount, TooManyArguments}
 use Rattle.fv_arity.specs.declared.refusal.ArityKind.TheVariants as kind
 use Rattle.fv_rules.specs.Values.{Flat}
-use Rattle.fv_rules.specs.Steps.{State, Outcome, Eval, after, give, refuse, is_multiple, unless, or_else, misfit, put_after, put}
+use Rattle.fv_rules.specs.Steps.{State, Outcome, Eval, after, give, refuse, is_multiple, unless, or_else, misfit, sized, put_after, put_as, put}
+use Rattle.fv_diagram_head.specs.Heads.{parts, cut, is_fixed, is_head, table_numbers}
+use Rattle.fv_diagram_head.proofs.Outputs.{cut_outputs, parts_outputs}
+use Rattle.fv_rules.specs.Steps.{side_by_side, table_size, grow, table_limit, tabled_by, tabled, waved}
+use Rattle.fv_rules.specs.declared.refusal.EvalRefusal.TheVariants.{TableForm, TableBudget}
+use Rattle.fv_rules.specs.declared.refusal.TableCause.TheVariants as cause
 use Rattle.fv_rules.specs.Rules.{primitive_of, flat, operated, joined, from_right, from_left, gathered, wires, all_outputs, takes_the_right, led, fed_by, fed}
-use Rattle.fv_rules.proofs.SoundValues.{IsPlain, IsSound, SoundValue, keep, AllSound, keep_all, all_append, IsCause, Stays, Does}
+use Rattle.fv_rules.proofs.SoundValues.{IsSound, SoundValue, SoundState, keep, AllSound, keep_all, all_append, IsCause, Stays, Does}
 use Rattle.fv_rules.proofs.SoundValues.{bind_does, give_does, refuse_does, choice}
 
 -- ---- putting
@@ -62,30 +70,30 @@ bind_free S s t (inr i) n = i
 both_sound : (S : ℕ → Type 0) (k : ℕ) (a b : Diagram) → IsSound S k a → IsSound S k b → size (Par a b) ≤ size_limit → IsSound S k (Par a b)
 both_sound S k a b p q h =
     let r = p.reads in let s = q.reads in
-    record { composed = (p.composed, q.composed); plain = (p.plain, q.plain); within = h; free = λ s i. both_free S k a b s p q i; reads = omega arith }
+    record { composed = (p.composed, q.composed); within = h; free = λ s i. both_free S k a b s p q i; reads = omega arith }
 
 put_sound : (S : ℕ → Type 0) (k : ℕ) (d : Diagram) → HasSoundParts S k d → misfit d ≡ None → size d ≤ size_limit → IsSound S k d
 put_sound S k (Bind s a) g e h =
-    let r = g.reads in record { composed = g.composed; plain = g.plain; within = h; free = λ t i. bind_free S s t (g.free t i.0) i.1; reads = omega arith }
+    let r = g.reads in record { composed = g.composed; within = h; free = λ t i. bind_free S s t (g.free t i.0) i.1; reads = omega arith }
 put_sound S k (Par a b) g e h = both_sound S k a b g.0 g.1 h
 put_sound S k (Seq a b) g e h =
     let p = both_sound S k a b g.0 g.1 h in
     let t = unless_none (nat_eq (outputs a) (inputs b)) _ e in
-    record { composed = (g.0.composed, g.1.composed, eqb-true (outputs a) (inputs b) t); plain = p.plain; within = h; free = p.free; reads = p.reads }
+    record { composed = (g.0.composed, g.1.composed, eqb-true (outputs a) (inputs b) t); within = h; free = p.free; reads = p.reads }
 put_sound S k (Split a b) g e h =
     let p = both_sound S k a b g.0 g.1 h in
     let t = multiple (inputs b) (outputs a) (unless_none (is_multiple (inputs b) (outputs a)) _ e) in
-    record { composed = (g.0.composed, g.1.composed, t.1, t.0, t.2); plain = p.plain; within = h; free = p.free; reads = p.reads }
+    record { composed = (g.0.composed, g.1.composed, t.1, t.0, t.2); within = h; free = p.free; reads = p.reads }
 put_sound S k (Merge a b) g e h =
     let p = both_sound S k a b g.0 g.1 h in
     let t = multiple (outputs a) (inputs b) (unless_none (is_multiple (outputs a) (inputs b)) _ e) in
-    record { composed = (g.0.composed, g.1.composed, t.0, t.1, t.2); plain = p.plain; within = h; free = p.free; reads = p.reads }
+    record { composed = (g.0.composed, g.1.composed, t.0, t.1, t.2); within = h; free = p.free; reads = p.reads }
 put_sound S k (Rec a b) g e h =
     let p = both_sound S k a b g.0 g.1 h in
     let t = or_none (unless (nat_le (inputs b) (outputs a)) _) (unless (nat_le (outputs b) (inputs a)) _) e in
     let u = leb-true (inputs b) (outputs a) (unless_none (nat_le (inputs b) (outputs a)) _ t.0) in
     let v = leb-true (outputs b) (inputs a) (unless_none (nat_le (outputs b) (inputs a)) _ t.1) in
-    record { composed = (g.0.composed, g.1.composed, u, v); plain = p.plain; within = h; free = p.free; reads = p.reads }
+    record { composed = (g.0.composed, g.1.composed, u, v); within = h; free = p.free; reads = p.reads }
 put_sound S k d g e h = absurd g
 
 abbrev MayCause : Option EvalRefusal → Type 0
@@ -116,58 +124,151 @@ put_tried : (S : ℕ → Type 0) (k : ℕ) (d : Diagram) (b : Bool) (r : EvalRef
 put_tried S k d true r i g e t = give_does (λ n h. keep S k n d h (put_sound S k d g e (leb-true (size d) size_limit t)))
 put_tried S k d false r i g e t = refuse_does r i
 
+sized_does : (S : ℕ → Type 0) (k : ℕ) (d : Diagram) → HasSoundParts S k d → misfit d ≡ None → Does (IsSound S) 0 k (sized d)
+sized_does S k d g e = put_tried S k d (nat_le (size d) size_limit) (SizeBudget (size d)) tt g e refl
+
 put_by : (S : ℕ → Type 0) (k : ℕ) (d : Diagram) (o : Option EvalRefusal) → HasSoundParts S k d → misfit d ≡ o → Does (IsSound S) 0 k (put_after o d)
 put_by S k d (Some r) g e = refuse_does r (subst MayCause e (misfit_cause d))
-put_by S k d None g e = put_tried S k d (nat_le (size d) size_limit) (SizeBudget (size d)) tt g e refl
+put_by S k d None g e = sized_does S k d g e
 
--- no sound part is one of the two table primitives, so no table is put
+-- ---- tables
+
+-- the parts of a sound diagram are sound
+sides_sound : (S : ℕ → Type 0) (k : ℕ) (a b : Diagram) → IsSound S k (Par a b) → IsSound S k a × IsSound S k b
+sides_sound S k a b g =
+    let r = g.reads in let z = g.within in (
+      record { composed = g.composed.0; within = omega arith; free = λ s i. g.free s (inl i); reads = omega arith },
+      record { composed = g.composed.1; within = omega arith; free = λ s i. g.free s (inr i); reads = omega arith },
+    )
+
+parts_sound : (S : ℕ → Type 0) (k : ℕ) (d : Diagram) → IsSound S k d → AllSound S k (parts d)
+parts_sound S k (Par a b) g =
+    let h = sides_sound S k a b g in all_append S k (parts a) (parts b) (parts_sound S k a h.0) (parts_sound S k b h.1)
+parts_sound S k d g = (g, tt)
+
+-- the first parts and the others are sound
+record Cuts (S : ℕ → Type 0) (k : ℕ) (c : List Diagram × List Diagram) : Type 0 where
+  pub head : AllSound S k c.0
+  pub rest : AllSound S k c.1
+
+cut_sound : (S : ℕ → Type 0) (k n : ℕ) (ds : List Diagram) → AllSound S k ds → Cuts S k (cut n ds)
+cut_sound S k zero ds g = record { head = tt; rest = g }
+cut_sound S k (suc n) [] g = record { head = tt; rest = tt }
+cut_sound S k (suc n) (d ∷ ds) g =
+    let c = cut_sound S k (suc n - outputs d) ds g.1 in record { head = (g.0, c.head); rest = c.rest }
+
+-- a sound diagram with so many outputs
+abbrev Gives : (ℕ → Type 0) → ℕ → ℕ → Diagram → Type 0
+Gives S n k d = IsSound S k d × (outputs d ≡ n)
+
+par_does : (S : ℕ → Type 0) (n m k : ℕ) (a b : Diagram) → Gives S n k a → Gives S m k b → Does (Gives S (n + m)) 0 k (sized (Par a b))
+par_does S n m k a b g h = by (nat_le (size (Par a b)) size_limit) refl
+  where
+    by : (t : Bool) → nat_le (size (Par a b)) size_limit ≡ t → Does (Gives S (n + m)) 0 k (if t then give (Par a b) else refuse (SizeBudget (size (Par a b))))
+    by true e = give_does (λ j l. (keep S k j (Par a b) l (both_sound S k a b g.0 h.0 (leb-true (size (Par a b)) size_limit e)), omega (arith, g.1, h.1)))
+    by false e = refuse_does (SizeBudget (size (Par a b))) tt
+
+side_does : (S : ℕ → Type 0) (k : ℕ) (d : Diagram) (ds : List Diagram) → IsSound S k d → AllSound S k ds
+    → Does (Gives S (all_outputs (d ∷ ds))) 0 k (side_by_side d ds)
+side_does S k d [] g h = give_does (λ n l. (keep S k n d l g, omega arith))
+side_does S k d (x ∷ xs) g h =
+    bind_does (side_does S k x xs h.0 h.1) (λ r n l q. par_does S (outputs d) (all_outputs (x ∷ xs)) n d r (keep S k n d l g, refl) q)
+
+abbrev Any : {A : Type 0} → ℕ → A → Type 0
+Any n x = Unit {0}
+
+size_does : (k : ℕ) (z : ℤ) → Does (Any {A = ℕ}) 0 k (table_size z)
+size_does k (pos zero) = refuse_does (TableForm cause.Size) tt
+size_does k (pos (suc n)) = give_does (λ j l. tt)
+size_does k (negsuc n) = refuse_does (TableForm cause.Size) tt
+
+grown_stays : (n : ℕ) (s : State) (b : Bool) → SoundState s
+    → Stays (Any {A = Unit}) 0 s (if b then Ok (tt, record s { tables = s.tables + n }) else Err (TableBudget (s.tables + n)))
+grown_stays n s true h = (omega arith, omega arith, h, tt)
+grown_stays n s false h = tt
+
+grow_does : (k n : ℕ) → Does (Any {A = Unit}) 0 k (grow n)
+grow_does k n = record { stays = λ s h b. grown_stays n s (nat_le (s.tables + n) table_limit) b }
+
+pub waved_does : (S : ℕ → Type 0) (k : ℕ) (values : List ℤ) → Does (IsSound S) 0 k (waved values)
+waved_does S k values = bind_does (grow_does k (length values)) (λ u n l q. give_does (λ m h.
+    record { composed = tt; within = omega arith; free = λ s i. absurd i; reads = omega arith }))
+
+table_does : (S : ℕ → Type 0) (k : ℕ) (T : List ℤ) (writes : Bool) (r : Diagram) → Gives S (table_inputs writes) k r
+    → Does (IsSound S) 0 k (sized (Seq r (Table T writes)))
+table_does S k T writes r g = by (nat_le (size (Seq r (Table T writes))) size_limit) refl
+  where
+    d : Diagram
+    d = Seq r (Table T writes)
+
+    free : (s : ℕ) → IsFree s r ⊎ ⊥ → S s
+    free s (inl i) = g.0.free s i
+    free s (inr i) = absurd i
+
+    by : (t : Bool) → nat_le (size d) size_limit ≡ t → Does (IsSound S) 0 k (if t then give d else refuse (SizeBudget (size d)))
+    by true e = give_does (λ n l. keep S k n d l
+        (let q = g.0.reads in record {
+          composed = (g.0.composed, tt, g.1);
+          within = leb-true (size d) size_limit e;
+          free = free;
+          reads = omega arith;
+        }))
+    by false e = refuse_does (SizeBudget (size d)) tt
+
+tabled_by_does : (S : ℕ → Type 0) (k : ℕ) (writes : Bool) (ds rs : List Diagram) → AllSound S k ds → AllSound S k rs
+    → all_outputs rs ≡ table_inputs writes → Does (IsSound S) 0 k (tabled_by writes ds rs)
+tabled_by_does S k writes [] rs g h e = refuse_does (TableForm cause.Head) tt
+tabled_by_does S k writes (d ∷ ds) [] g h e = refuse_does (TableForm cause.Head) tt
+tabled_by_does S k writes (d ∷ ds) (r ∷ rs) g h e =
+    bind_does (side_does S k d ds g.0 g.1) (λ head n i p.
+    bind_does (size_does n (argument (at_first head) 0)) (λ z m j q.
+    bind_does (grow_does m (z * size head)) (λ u o v w.
+    bind_does (side_does S o r rs (keep S k o r (omega arith) h.0) (keep_all S k o rs (omega arith) h.1)) (λ rest t x y.
+    table_does S t (table_numbers z head) writes rest (y.0, y.1 ∙ e)))))
+
+tabled_does : (S : ℕ → Type 0) (k : ℕ) (writes : Bool) (a : Diagram) → IsSound S k a → outputs a ≡ 2 + table_inputs writes
+    → Does (IsSound S) 0 k (tabled writes a)
+tabled_does S k writes a g e = by (is_head c.0) refl
+  where
+    c : List Diagram × List Diagram
+    c = cut 2 (parts a)
+
+    cuts : Cuts S k c
+    cuts = cut_sound S k 2 (parts a) (parts_sound S k a g)
+
+    by : (t : Bool) → is_head c.0 ≡ t → Does (IsSound S) 0 k (if t then tabled_by writes c.0 c.1 else refuse (TableForm cause.Head))
+    by true i =
+        let two = eqb-true (all_outputs c.0) 2 (and_parts (nat_eq (all_outputs c.0) 2) (list_all is_fixed c.0) i).0 in
+        tabled_by_does S k writes c.0 c.1 cuts.head cuts.rest (omega (arith, two, cut_outputs 2 (parts a), parts_outputs a, e))
+    by false i = refuse_does (TableForm cause.Head) tt
+
 pub put_does : (S : ℕ → Type 0) (k : ℕ) (d : Diagram) → HasSoundParts S k d → Does (IsSound S) 0 k (put d)
-put_does S k (Seq a (Primitive prim.ReadTable)) g = absurd (true≢false g.1.plain)
-put_does S k (Seq a (Primitive prim.WriteTable)) g = absurd (true≢false g.1.plain)
+put_does S k (Seq a (Primitive prim.ReadTable)) g = by (misfit (Seq a (Primitive prim.ReadTable))) refl
+  where
+    by : (o : Option EvalRefusal) → misfit (Seq a (Primitive prim.ReadTable)) ≡ o
+        → Does (IsSound S) 0 k (put_as (Some (a, false)) o (Seq a (Primitive prim.ReadTable)))
+    by (Some r) e = refuse_does r (subst MayCause e (misfit_cause (Seq a (Primitive prim.ReadTable))))
+    by None e = tabled_does S k false a g.0 (eqb-true (outputs a) 3 (unless_none (nat_eq (outputs a) 3) _ e))
+put_does S k (Seq a (Primitive prim.WriteTable)) g = by (misfit (Seq a (Primitive prim.WriteTable))) refl
+  where
+    by : (o : Option EvalRefusal) → misfit (Seq a (Primitive prim.WriteTable)) ≡ o
+        → Does (IsSound S) 0 k (put_as (Some (a, true)) o (Seq a (Primitive prim.WriteTable)))
+    by (Some r) e = refuse_does r (subst MayCause e (misfit_cause (Seq a (Primitive prim.WriteTable))))
+    by None e = tabled_does S k true a g.0 (eqb-true (outputs a) 5 (unless_none (nat_eq (outputs a) 5) _ e))
 put_does S k d g = put_by S k d (misfit d) g refl
 
 -- ---- leaves and folds
+leaf_sound : (S : ℕ → Type 0) (k : ℕ) (d : Diagram) → IsComposed d → size d ≡ 1 → control_bound d ≡ 0 → ((s : ℕ) → IsFree s d → S s) → IsSound S k d
+leaf_sound S k d w z c f = record { composed = w; within = omega arith; free = f; reads = omega arith }
 
--- no word or sign of the language is `rdtable` or `rwtable`
-pub no_table : (p : Operation) → is_table_primitive (primitive_of p) ≡ false
-no_table operations.Mem = refl
-no_table operations.Prefix = refl
-no_table operations.Int = refl
-no_table operations.Attach = refl
-no_table operations.Delay = refl
-no_table operations.Add = refl
-no_table operations.Subtract = refl
-no_table operations.Multiply = refl
-no_table operations.Divide = refl
-no_table operations.Remainder = refl
-no_table operations.And = refl
-no_table operations.Or = refl
-no_table operations.Xor = refl
-no_table operations.ShiftLeft = refl
-no_table operations.ShiftRight = refl
-no_table operations.Less = refl
-no_table operations.LessEqual = refl
-no_table operations.Greater = refl
-no_table operations.GreaterEqual = refl
-no_table operations.Equal = refl
-no_table operations.NotEqual = refl
-no_table operations.Min = refl
-no_table operations.Max = refl
-no_table operations.Abs = refl
-no_table operations.Select2 = refl
-no_table operations.Select3 = refl
-
-leaf_sound : (S : ℕ → Type 0) (k : ℕ) (d : Diagram) → IsComposed d → IsPlain d → size d ≡ 1 → control_bound d ≡ 0 → ((s : ℕ) → IsFree s d → S s) → IsSound S k d
-leaf_sound S k d w p z c f = record { composed = w; plain = p; within = omega arith; free = f; reads = omega arith }
-
-pub prim_sound : (S : ℕ → Type 0) (k : ℕ) (p : Prim) → is_table_primitive p ≡ false → IsSound S k (Primitive p)
-prim_sound S k p h = leaf_sound S k (Primitive p) tt h refl refl (λ s f. absurd f)
+pub prim_sound : (S : ℕ → Type 0) (k : ℕ) (p : Prim) → IsSound S k (Primitive p)
+prim_sound S k p = leaf_sound S k (Primitive p) tt refl refl (λ s f. absurd f)
 
 pub constant_sound : (S : ℕ → Type 0) (k : ℕ) (n : ℤ) → IsSound S k (Constant n)
-constant_sound S k n = leaf_sound S k (Constant n) tt tt refl refl (λ s f. absurd f)
+constant_sound S k n = leaf_sound S k (Constant n) tt refl refl (λ s f. absurd f)
 
 pub slot_sound : (S : ℕ → Type 0) (k slot : ℕ) → S slot → IsSound S k (Slot slot)
-slot_sound S k slot h = leaf_sound S k (Slot slot) tt tt refl refl (λ s e. subst S (sym e) h)
+slot_sound S k slot h = leaf_sound S k (Slot slot) tt refl refl (λ s e. subst S (sym e) h)
 
 flat_stays : (S : ℕ → Type 0) (c : ℕ) (s : State) (r : Outcome Diagram) → Stays (IsSound S) c s r → Stays (SoundValue S) c s (after r (λ d. give (Flat d)))
 flat_stays S c s (Ok x) a = a
@@ -176,12 +277,11 @@ flat_stays S c s (Err r) a = a
 pub flat_does : {S : ℕ → Type 0} {c k : ℕ} {m : Eval Diagram} → Does (IsSound S) c k m → Does (SoundValue S) c k (flat m)
 flat_does {S} {c} {k} {m} a = record { stays = λ s h b. flat_stays S c s (m s) (a.stays s h b) }
 
-pub operated_does : (S : ℕ → Type 0) (k : ℕ) (p : Prim) → is_table_primitive p ≡ false → (a b : Diagram) → IsSound S k a → IsSound S k b
-    → Does (IsSound S) 0 k (operated p a b)
-operated_does S k p e a b g h = bind_does (put_does S k (Par a b) (g, h)) (λ ab n i j. put_does S n (Seq ab (Primitive p)) (j, prim_sound S n p e))
+pub operated_does : (S : ℕ → Type 0) (k : ℕ) (p : Prim) (a b : Diagram) → IsSound S k a → IsSound S k b → Does (IsSound S) 0 k (operated p a b)
+operated_does S k p a b g h = bind_does (put_does S k (Par a b) (g, h)) (λ ab n i j. put_does S n (Seq ab (Primitive p)) (j, prim_sound S n p))
 
 pub joined_does : (S : ℕ → Type 0) (k : ℕ) (o : Operator) (a b : Diagram) → IsSound S k a → IsSound S k b → Does (IsSound S) 0 k (joined o a b)
-joined_does S k (operators.Infix p) a b g h = operated_does S k (primitive_of p) (no_table p) a b g h
+joined_does S k (operators.Infix p) a b g h = operated_does S k (primitive_of p) a b g h
 joined_does S k operators.Recursion a b g h = put_does S k (Rec a b) (g, h)
 joined_does S k operators.Parallel a b g h = put_does S k (Par a b) (g, h)
 joined_does S k operators.Sequence a b g h = put_does S k (Seq a b) (g, h)
@@ -198,21 +298,21 @@ from_right_does S k compose parts d [] g h = give_does (λ n i. keep S k n d i g
 from_right_does S k compose parts d (x ∷ xs) g h =
     bind_does (from_right_does S k compose parts x xs h.0 h.1) (λ r n i j. put_does S n (compose d r) (parts n d r (keep S k n d i g) j))
 
-from_left_does : (S : ℕ → Type 0) (k : ℕ) (p : Prim) → is_table_primitive p ≡ false → (d : Diagram) (ds : List Diagram) → IsSound S k d → AllSound S k ds
+from_left_does : (S : ℕ → Type 0) (k : ℕ) (p : Prim) (d : Diagram) (ds : List Diagram) → IsSound S k d → AllSound S k ds
     → Does (IsSound S) 0 k (from_left p d ds)
-from_left_does S k p e d [] g h = give_does (λ n i. keep S k n d i g)
-from_left_does S k p e d (x ∷ xs) g h = bind_does (operated_does S k p e d x g h.0) (λ r n i j. from_left_does S n p e r xs j (keep_all S k n xs i h.1))
+from_left_does S k p d [] g h = give_does (λ n i. keep S k n d i g)
+from_left_does S k p d (x ∷ xs) g h = bind_does (operated_does S k p d x g h.0) (λ r n i j. from_left_does S n p r xs j (keep_all S k n xs i h.1))
 
 pub gathered_does : (S : ℕ → Type 0) (k : ℕ) (r : Repetition) (ds : List Diagram) → AllSound S k ds → Does (SoundValue S) 0 k (gathered r ds)
 gathered_does S k r [] g = refuse_does (IterationCount (pos 0)) tt
 gathered_does S k repetitions.Parallel (d ∷ ds) g = flat_does (from_right_does S k Par (λ n x y i j. (i, j)) d ds g.0 g.1)
 gathered_does S k repetitions.Sequence (d ∷ ds) g = flat_does (from_right_does S k Seq (λ n x y i j. (i, j)) d ds g.0 g.1)
-gathered_does S k repetitions.Sum (d ∷ ds) g = flat_does (from_left_does S k (prim.Point op.Add) refl d ds g.0 g.1)
-gathered_does S k repetitions.Product (d ∷ ds) g = flat_does (from_left_does S k (prim.Point op.Mul) refl d ds g.0 g.1)
+gathered_does S k repetitions.Sum (d ∷ ds) g = flat_does (from_left_does S k (prim.Point op.Add) d ds g.0 g.1)
+gathered_does S k repetitions.Product (d ∷ ds) g = flat_does (from_left_does S k (prim.Point op.Mul) d ds g.0 g.1)
 
 wires_sound : (S : ℕ → Type 0) (k n : ℕ) → AllSound S k (wires n)
 wires_sound S k zero = tt
-wires_sound S k (suc n) = (prim_sound S k prim.Wire refl, wires_sound S k n)
+wires_sound S k (suc n) = (prim_sound S k prim.Wire, wires_sound S k n)
 
 led_does : (S : ℕ → Type 0) (k : ℕ) (d : Diagram) (ds : List Diagram) (f : Diagram) → IsSound S k d → AllSound S k ds → IsSound S k f
     → Does (IsSound S) 0 k (led d ds f)
@@ -223,7 +323,7 @@ fed_by_does : (S : ℕ → Type 0) (k w : ℕ) (f d : Diagram) (ds : List Diagra
     → Does (IsSound S) 0 k (fed_by w f d ds)
 fed_by_does S k w f d ds g h i =
     choice (nat_lt (inputs f) w) (refuse_does (TooManyArguments w (inputs f)) tt)
-    (choice (takes_the_right f && nat_eq w 1) (led_does S k (Primitive prim.Wire) (d ∷ ds) f (prim_sound S k prim.Wire refl) (h, i) g)
+    (choice (takes_the_right f && nat_eq w 1) (led_does S k (Primitive prim.Wire) (d ∷ ds) f (prim_sound S k prim.Wire) (h, i) g)
     (led_does S k d (ds ++ wires (inputs f - w)) f h (all_append S k ds (wires (inputs f - w)) i (wires_sound S k (inputs f - w))) g))
 
 pub fed_does : (S : ℕ → Type 0) (k : ℕ) (f : Diagram) (ds : List Diagram) → IsSound S k f → AllSound S k ds → Does (SoundValue S) 0 k (fed f ds)

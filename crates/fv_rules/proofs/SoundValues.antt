@@ -1,9 +1,7 @@
 -- Sound diagrams, values, environments and states, and evaluations that keep them so.
-use Rattle.std.proofs.Common.{◌≡◌, ℕ, ◌+◌, ◌≤◌, Bool, true, false, List, [], ◌∷◌, ◌++◌, length, Ok, Err, refl, arith}
-use Rattle.std.specs.Prelude.{All, ◌||◌, if◌then◌else◌}
-use Rattle.std.proofs.lemmas.Bool.{or_from}
-use Rattle.fv_diagram.specs.Diagram.{Diagram, Primitive, Constant, Control, Slot, Wave, Table, Bind, Par, Seq, Split, Merge, Rec}
-use Rattle.fv_diagram.specs.Diagram.{size, control_bound, is_table_primitive, has_table, has_table_primitive, IsFree}
+use Rattle.std.proofs.Common.{ℕ, ◌+◌, ◌≤◌, Bool, true, false, List, [], ◌∷◌, ◌++◌, length, Ok, Err, arith}
+use Rattle.std.specs.Prelude.{All, if◌then◌else◌}
+use Rattle.fv_diagram.specs.Diagram.{Diagram, size, control_bound, IsFree}
 use Rattle.fv_diagram.specs.Composed.{IsComposed}
 use Rattle.fv_diagram.specs.Arena.{size_limit}
 use Rattle.fv_rules.specs.declared.refusal.EvalRefusal.{EvalRefusal}
@@ -12,60 +10,10 @@ use Rattle.fv_rules.specs.Values.{Value, Flat, Abstraction, Rules, Env, Outermos
 use Rattle.fv_rules.specs.Steps.{State, Outcome, Eval, after, ◌>>=◌, give, refuse}
 use Rattle.fv_diagram.specs.Controls.{IsBounded}
 
--- ---- diagrams without tables
-
--- no waveform, no table and neither `rdtable` nor `rwtable` occurs
-abbrev pub IsPlain : Diagram → Type 0
-IsPlain (Primitive p) = is_table_primitive p ≡ false
-IsPlain (Constant n) = Unit {0}
-IsPlain (Control k) = Unit {0}
-IsPlain (Slot s) = Unit {0}
-IsPlain (Wave w) = ⊥
-IsPlain (Table T writes) = ⊥
-IsPlain (Bind s a) = IsPlain a
-IsPlain (Par a b) = IsPlain a × IsPlain b
-IsPlain (Seq a b) = IsPlain a × IsPlain b
-IsPlain (Split a b) = IsPlain a × IsPlain b
-IsPlain (Merge a b) = IsPlain a × IsPlain b
-IsPlain (Rec a b) = IsPlain a × IsPlain b
-
-pub plain_tableless : (d : Diagram) → IsPlain d → has_table d ≡ false
-plain_tableless (Primitive p) h = refl
-plain_tableless (Constant n) h = refl
-plain_tableless (Control k) h = refl
-plain_tableless (Slot s) h = refl
-plain_tableless (Wave w) h = absurd h
-plain_tableless (Table T writes) h = absurd h
-plain_tableless (Bind s a) h = plain_tableless a h
-plain_tableless (Par a b) h = or_from (has_table a) (has_table b) (plain_tableless a h.0) (plain_tableless b h.1)
-plain_tableless (Seq a b) h = or_from (has_table a) (has_table b) (plain_tableless a h.0) (plain_tableless b h.1)
-plain_tableless (Split a b) h = or_from (has_table a) (has_table b) (plain_tableless a h.0) (plain_tableless b h.1)
-plain_tableless (Merge a b) h = or_from (has_table a) (has_table b) (plain_tableless a h.0) (plain_tableless b h.1)
-plain_tableless (Rec a b) h = or_from (has_table a) (has_table b) (plain_tableless a h.0) (plain_tableless b h.1)
-
--- two diagrams without the two primitives
-neither : (a b : Diagram) → has_table_primitive a ≡ false → has_table_primitive b ≡ false → (has_table_primitive a || has_table_primitive b) ≡ false
-neither a b h g = or_from (has_table_primitive a) (has_table_primitive b) h g
-
-pub plain_has_none : (d : Diagram) → IsPlain d → has_table_primitive d ≡ false
-plain_has_none (Primitive p) h = h
-plain_has_none (Constant n) h = refl
-plain_has_none (Control k) h = refl
-plain_has_none (Slot s) h = refl
-plain_has_none (Wave w) h = refl
-plain_has_none (Table T writes) h = refl
-plain_has_none (Bind s a) h = plain_has_none a h
-plain_has_none (Par a b) h = neither a b (plain_has_none a h.0) (plain_has_none b h.1)
-plain_has_none (Seq a b) h = neither a b (plain_has_none a h.0) (plain_has_none b h.1)
-plain_has_none (Split a b) h = neither a b (plain_has_none a h.0) (plain_has_none b h.1)
-plain_has_none (Merge a b) h = neither a b (plain_has_none a h.0) (plain_has_none b h.1)
-plain_has_none (Rec a b) h = neither a b (plain_has_none a h.0) (plain_has_none b h.1)
-
 -- ---- diagrams, values, environments and states
 
 pub record IsSound (S : ℕ → Type 0) (k : ℕ) (d : Diagram) : Type 0 where
   pub composed : IsComposed d
-  pub plain : IsPlain d
   pub within : size d ≤ size_limit
   pub free : (s : ℕ) → IsFree s d → S s
   pub reads : control_bound d ≤ k
@@ -90,7 +38,7 @@ SoundState s = All IsBounded s.controls
 
 -- more slots and more controls
 pub sound_grows : (S T : ℕ → Type 0) (k n : ℕ) (d : Diagram) → ((s : ℕ) → S s → T s) → k ≤ n → IsSound S k d → IsSound T n d
-sound_grows S T k n d f h g = let r = g.reads in record { composed = g.composed; plain = g.plain; within = g.within; free = λ s i. f s (g.free s i); reads = omega arith }
+sound_grows S T k n d f h g = let r = g.reads in record { composed = g.composed; within = g.within; free = λ s i. f s (g.free s i); reads = omega arith }
 
 mutual
   pub value_grows : (S T : ℕ → Type 0) (k n : ℕ) → ((s : ℕ) → S s → T s) → k ≤ n → (v : Value) → SoundValue S k v → SoundValue T n v

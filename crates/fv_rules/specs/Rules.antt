@@ -9,6 +9,8 @@ use Rattle.fv_parse_grammar.specs.Tree.{Tree}
 use Rattle.fv_parse_grammar.specs.Tree as tree
 use Rattle.fv_parse_grammar.specs.declared.form.Primitive.{Primitive as Operation}
 use Rattle.fv_parse_grammar.specs.declared.form.Primitive.TheVariants as operations
+use Rattle.fv_parse_grammar.specs.declared.form.Literal.{Literal}
+use Rattle.fv_parse_grammar.specs.declared.form.Literal.TheVariants as literals
 use Rattle.fv_parse_grammar.specs.declared.form.Operator.{Operator}
 use Rattle.fv_parse_grammar.specs.declared.form.Operator.TheVariants as operators
 use Rattle.fv_parse_grammar.specs.declared.form.Iteration.{Iteration as Repetition}
@@ -33,7 +35,7 @@ use Rattle.fv_rules.specs.Values.{Name, Rule, Value, Flat, Abstraction, Rules, E
 use Rattle.fv_rules.specs.Values.{Parameters, Cases, Meaning, IsValue, IsDefined, Unknown, lookup, rule_of, in_order, count_taken}
 use Rattle.fv_diagram_number.specs.Numbers.{number_of}
 use Rattle.fv_rules.specs.Matching.{Bindings, settled, value_number, bound_in, chosen}
-use Rattle.fv_rules.specs.Steps.{State, Outcome, Eval, ◌>>=◌, give, refuse, no_number, no_rule, no_diagram, visit, fresh_slots, put, whole, control}
+use Rattle.fv_rules.specs.Steps.{State, Outcome, Eval, ◌>>=◌, give, refuse, no_number, no_rule, no_diagram, visit, fresh_slots, put, waved, whole, control}
 pub use Rattle.fv_diagram_head.specs.Heads.{all_outputs}
 
 -- ---- one name for each primitive
@@ -66,6 +68,8 @@ primitive_of operations.Max = prim.Point op.Max
 primitive_of operations.Abs = prim.Point op.Abs
 primitive_of operations.Select2 = prim.Point op.Select2
 primitive_of operations.Select3 = prim.Point op.Select3
+primitive_of operations.ReadTable = prim.ReadTable
+primitive_of operations.WriteTable = prim.WriteTable
 
 -- the kind of a button or checkbox
 abbrev pub switch_kind : SwitchKind → ControlKind
@@ -282,6 +286,16 @@ abstraction l e (n ∷ ns) body env = give (Abstraction (text_of l n) (map (text
 
 -- ---- the rules
 
+-- the number of a literal with or without a sign
+abbrev pub literal_value : Literal → ℤ
+literal_value (literals.Plain n) = wrap (pos n)
+literal_value (literals.Negative n) = wrap (neg_ℤ (pos n))
+
+-- a waveform of literals; no program has one of none
+abbrev pub waveform : Lexed → ℕ → List Literal → Eval Value
+waveform l s [] = refuse (no_diagram l s)
+waveform l s (x ∷ xs) = flat (waved (map literal_value (x ∷ xs)))
+
 -- The value of each form in an environment, where `e` evaluates its parts.
 abbrev pub rule : Lexed → Evaluator → Tree → Env → Eval Value
 rule l e (tree.Number s n) env = give (Flat (Constant (wrap (pos n))))
@@ -318,6 +332,7 @@ rule l e (tree.Iteration s r n x y) env = do
 rule l e (tree.Ports s k x) env = do
   d ← e.diagram x env
   give (Flat (ports k d))
+rule l e (tree.Waveform s xs) env = waveform l s xs
 rule l e (tree.Switch s k n) env = flat (control (switch_info (switch_kind k) (label_of l n)))
 rule l e (tree.Slider s k n x0 x1 x2 x3) env = do
   ns ← parameters l e (x0 ∷ x1 ∷ x2 ∷ x3 ∷ []) env []

@@ -2,6 +2,9 @@
 
 ghost use Rattle.std.specs.Prelude.{◌≡◌, pos, neg_ℤ};
 ghost use Rattle.fv_num.specs.Words.{wrap};
+ghost use Rattle.fv_rules.specs.Rules.{literal_value};
+
+use fv_parse_grammar::Literal;
 
 /// The number of a literal.
 pub fn literal(n: u32) -> i32
@@ -15,4 +18,14 @@ pub fn negative_literal(n: u32) -> i32
     ensures { result ≡ wrap (neg_ℤ (pos n)) }
 {
     n.wrapping_neg().cast_signed()
+}
+
+/// The number of a literal with or without a sign.
+pub fn literal_value(spelled: Literal) -> i32
+    ensures { result ≡ literal_value spelled }
+{
+    match spelled {
+        Literal::Plain(n) => literal(n),
+        Literal::Negative(n) => negative_literal(n),
+    }
 }

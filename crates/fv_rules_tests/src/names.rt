@@ -4,10 +4,10 @@ ghost use Rattle.std.specs.Prelude.{◌<◌};
 ghost use Rattle.fv_parse.specs.Trees.{size_of};
 
 use fv_diagram::{Diagrams, Node};
-use fv_lex::{Tokens, tokens};
-use fv_parse::{Tree, TreeId, parse};
 use fv_eval_choosing::{Bindings, Definitions, matches};
 use fv_eval_scopes::{Meaning, Scopes, Value};
+use fv_lex::{Tokens, tokens};
+use fv_parse::{Tree, TreeId, parse};
 use fv_rules::put;
 use std::alloc::{AllocError, Global};
 use std::test::Fail;

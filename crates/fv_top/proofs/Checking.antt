@@ -9,8 +9,7 @@ use Rattle.fv_outside.proofs.States.{goes_on_then, fault_earlier, told_before, u
 use Rattle.fv_top_words.specs.Commands.{Checking}
 use Rattle.fv_top_report.specs.declared.refusal.Refusal.{Refusal}
 use Rattle.fv_top_report.specs.declared.refusal.Refusal.TheVariants.{WriteFault}
-use Rattle.fv_top_words.specs.declared.manner.ProgramKind.TheVariants.{Alone}
-use Rattle.fv_top_text.specs.Program.{IsProgram, IsOfText}
+use Rattle.fv_top_text.specs.Program.{TextIs, IsProgram, IsOfText}
 use Rattle.fv_top_text.specs.Compiled.{Compiled}
 use Rattle.fv_top_report.specs.Lines.{check_line}
 use Rattle.fv_top.specs.Meant.{check_meant}
@@ -27,7 +26,7 @@ numbers_same a b c d e = rw (a, b, c, d, e) refl
 
 -- ---- the program is not read
 
-load_halts : (name : List ℕ) (a b : DeskState) (e : Refusal) → StopsLoading Program (Some name) IsOfText (HasNoProgram Alone name a.files) a b e
+load_halts : (name : List ℕ) (a b : DeskState) (e : Refusal) → StopsLoading Program (Some name) IsOfText (HasNoProgram TextIs name a.files) a b e
     → Halts (check_rules name a) a b ReadProgram e
 load_halts name a b e (inl h) =
     subst (Halts (check_rules name a) a b ReadProgram) (sym h.0) (fault (reads Program) refl h.1.fault (λ t sure. h.1.unsure t sure))
@@ -35,7 +34,7 @@ load_halts name a b e (inr (inl h)) = judged h.0 h.1
 load_halts name a b e (inr (inr m)) = subst (Halts (check_rules name a) a b ReadProgram) (sym m) (want_of_memory tt)
 
 pub check_stops : {name : List ℕ} {a b : DeskState} {e : Refusal}
-    → FailsToLoad Program (Some name) IsOfText (HasNoProgram Alone name a.files) a b e → StopsCheck name a b e
+    → FailsToLoad Program (Some name) IsOfText (HasNoProgram TextIs name a.files) a b e → StopsCheck name a b e
 check_stops {name} {a} {b} {e} f =
     let q = f.reads in
     record {
@@ -58,7 +57,7 @@ check_stops {name} {a} {b} {e} f =
 
 module _ (name : List ℕ) (p : Compiled) (a b c : DeskState) (q : ReadsFile Program (Some name) a b) (steady : KeepsFaults a b)
     (spelled : (text : List ℕ) × IsFile name text a × IsProgram text p) where
-  abbrev has : IsTrue a.tells → HasProgram Alone name a.files
+  abbrev has : IsTrue a.tells → HasProgram TextIs name a.files
   has t = record { text = spelled.0; file = spelled.1 t; compiled = p; program = spelled.2 }
 
   module _ (line : List ℕ) (is : line ≡ (check_meant p).line) where

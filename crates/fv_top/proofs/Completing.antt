@@ -1,19 +1,19 @@
 -- A run that can be done is done, and one whose files are refused is refused for them.
 use Rattle.std.proofs.Common.{◌≡◌, ℕ, ◌⊎◌, List, sym, ◌∙◌, ap, subst, inl, inr}
-use Rattle.std.specs.Prelude.{Some, Option, Ok, Err}
+use Rattle.std.specs.Prelude.{Some, Option, Result, Ok, Err}
 use Rattle.fv_outside.specs.Requests.{Request}
 use Rattle.fv_outside.specs.Desk.{DeskState, File, file_named}
 use Rattle.fv_diagram.specs.declared.control.ControlInfo.{ControlInfo}
-use Rattle.fv_top_words.specs.declared.manner.ProgramKind.{ProgramKind}
-use Rattle.fv_top_words.specs.declared.manner.ProgramKind.TheVariants.{Alone}
 use Rattle.fv_top_words.specs.Runs.{Run}
 use Rattle.fv_top_words.specs.Commands.{Job, Playing, Checking, Making}
 use Rattle.fv_top_report.specs.declared.refusal.Refusal.{Refusal}
 use Rattle.fv_top_report.specs.declared.refusal.Refusal.TheVariants.{NoMemory}
 use Rattle.fv_top_report.specs.declared.status.Tally.{Tally}
 use Rattle.fv_top_report.specs.declared.status.Status.TheVariants.{Done, Refused}
-use Rattle.fv_top_rack.specs.Kinds.{FileIs, IsOneFile}
+use Rattle.fv_top_text.specs.Answers.{IsOnce}
 use Rattle.fv_top_text.specs.Compiled.{Compiled}
+use Rattle.fv_top_text.specs.Program.{TextIs, IsOneText}
+use Rattle.fv_top_playable.specs.Tableless.{PlayedIs, IsPlayedOnce}
 use Rattle.fv_top_words.specs.declared.manner.InputKind.{InputKind}
 use Rattle.fv_top_files.specs.Sources.{Source, found, script_of, source_of}
 use Rattle.fv_top_files.specs.Output.{coding_of, format_of, cut_in}
@@ -32,25 +32,28 @@ one_file name files a b h k = let e : Some a ≡ Some b = sym h ∙ k in cc
 one_found : (name : Option (List ℕ)) (files : List File) (a b : Option (List ℕ)) → found files name ≡ Some a → found files name ≡ Some b → a ≡ b
 one_found name files a b h k = let e : Some a ≡ Some b = sym h ∙ k in cc
 
-one_text : (kind : ProgramKind) (name : List ℕ) (files : List File) (a b : Refusal) → IsOneFile → HasNoProgram kind name files a
-    → HasNoProgram kind name files b → a ≡ b
-one_text kind name files a b once h k =
-    let e = once kind h.text (Err a) (Err b) h.refused
-    (subst (λ (w : List ℕ). FileIs kind w (Err b)) (one_file name files _ _ k.file h.file) k.refused) in
-    cc
+module _ (Is : List ℕ → Result Compiled Refusal → Type 0) (once : IsOnce Is) (name : List ℕ) (files : List File) where
+  one_text : (a b : Refusal) → HasNoProgram Is name files a → HasNoProgram Is name files b → a ≡ b
+  one_text a b h k =
+      let same = one_file name files _ _ k.file h.file in
+      let e = once h.text (Err a) (Err b) h.refused (subst (λ (w : List ℕ). Is w (Err b)) same k.refused) in
+      cc
 
-program_apart : (kind : ProgramKind) (name : List ℕ) (files : List File) (refusal : Refusal) → IsOneFile → HasProgram kind name files
-    → HasNoProgram kind name files refusal → ⊥
-program_apart kind name files refusal once p h =
-    let same = one_file name files _ _ p.file h.file in
-    let e = once kind h.text (Ok p.compiled) (Err refusal) (subst (λ (w : List ℕ). FileIs kind w (Ok p.compiled)) same p.program) h.refused in
-    absurd cc
+  program_apart : (refusal : Refusal) → HasProgram Is name files → HasNoProgram Is name files refusal → ⊥
+  program_apart refusal p h =
+      let same = one_file name files _ _ p.file h.file in
+      let e = once h.text (Ok p.compiled) (Err refusal) (subst (λ (w : List ℕ). Is w (Ok p.compiled)) same p.program) h.refused in
+      absurd cc
 
-one_program : (kind : ProgramKind) (name : List ℕ) (files : List File) → IsOneFile → (p q : HasProgram kind name files) → p.compiled ≡ q.compiled
-one_program kind name files once p q =
-    let same = one_file name files _ _ q.file p.file in
-    let e = once kind p.text (Ok p.compiled) (Ok q.compiled) p.program (subst (λ (w : List ℕ). FileIs kind w (Ok q.compiled)) same q.program) in
-    cc
+  one_program : (p q : HasProgram Is name files) → p.compiled ≡ q.compiled
+  one_program p q =
+      let same = one_file name files _ _ q.file p.file in
+      let e = once p.text (Ok p.compiled) (Ok q.compiled) p.program (subst (λ (w : List ℕ). Is w (Ok q.compiled)) same q.program) in
+      cc
+
+-- and so does that of a run
+program_of : (run : Run) (files : List File) → IsPlayedOnce → (p q : HasProgramOf run files) → p.compiled ≡ q.compiled
+program_of run files once = one_program (PlayedIs run.manner.program) (once run.manner.program) run.program files
 
 -- a script says one thing of the same controls
 one_script : {name : Option (List ℕ)} {files : List File} {cs ds : List ControlInfo} {a b : _} → cs ≡ ds
@@ -66,16 +69,16 @@ one_source : {kind : InputKind} {name : Option (List ℕ)} {files : List File} {
 one_source p q = let e = one_input p q in cc
 
 -- the format of a program on an input
-one_format : (run : Run) (files : List File) → IsOneFile → (p q : HasProgramOf run files) (s u : Source)
+one_format : (run : Run) (files : List File) → IsPlayedOnce → (p q : HasProgramOf run files) (s u : Source)
     → HasInput run.manner.input run.input files (Ok s) → HasInput run.manner.input run.input files (Ok u)
     → format_of (coding_of run.manner.output) run.settings p.compiled.diagram s.head
     ≡ format_of (coding_of run.manner.output) run.settings q.compiled.diagram u.head
 one_format run files once p q s u h k =
-    ap (λ (c : Compiled). format_of (coding_of run.manner.output) run.settings c.diagram s.head) (one_program run.manner.program run.program files once p q)
+    ap (λ (c : Compiled). format_of (coding_of run.manner.output) run.settings c.diagram s.head) (program_of run files once p q)
     ∙ ap (λ (w : Source). format_of (coding_of run.manner.output) run.settings q.compiled.diagram w.head) (one_source h k)
 
 -- two runs of the same files are cut short alike
-one_cut : (run : Run) (files : List File) → IsOneFile → (p q : Plays run files) → cut_in p.format p.source ≡ cut_in q.format q.source
+one_cut : (run : Run) (files : List File) → IsPlayedOnce → (p q : Plays run files) → cut_in p.format p.source ≡ cut_in q.format q.source
 one_cut run files once p q =
     let e = sym p.fits ∙ one_format run files once p.of q.of p.source q.source p.on q.on ∙ q.fits in
     let same : p.format ≡ q.format = cc in
@@ -83,44 +86,49 @@ one_cut run files once p q =
 
 -- ---- the steps of a run judge
 
-once_in : (run : Run) (files : List File) → IsOneFile → (s : Step) (a b : Refusal) → StepRefuses run files s a → StepRefuses run files s b → a ≡ b
-once_in run files once ReadProgram a b h k = one_text run.manner.program run.program files a b once h k
+once_in : (run : Run) (files : List File) → IsPlayedOnce → (s : Step) (a b : Refusal) → StepRefuses run files s a → StepRefuses run files s b → a ≡ b
+once_in run files once ReadProgram a b h k = one_text (PlayedIs run.manner.program) (once run.manner.program) run.program files a b h k
 once_in run files once ReadScript a b h k =
-    let e = one_script (ap (λ (c : Compiled). c.controls) (one_program run.manner.program run.program files once h.0 k.0)) h.1 k.1 in cc
+    let e = one_script (ap (λ (c : Compiled). c.controls) (program_of run files once h.0 k.0)) h.1 k.1 in cc
 once_in run files once ReadHead a b h k = let e = one_input h k in cc
 once_in run files once Fit a b h k = let e = sym h.3 ∙ one_format run files once h.0 k.0 h.1 k.1 h.2 k.2 ∙ k.3 in cc
 once_in run files once Write a b h k = let e = sym h.1 ∙ one_cut run files once h.0 k.0 ∙ k.1 in cc
 once_in run files once Tell a b h k = absurd h
 
-apart_in : (run : Run) (files : List File) → IsOneFile → (s : Step) (a : Refusal) → StepPasses run files s → StepRefuses run files s a → ⊥
-apart_in run files once ReadProgram a p h = program_apart run.manner.program run.program files a once p h
+apart_in : (run : Run) (files : List File) → IsPlayedOnce → (s : Step) (a : Refusal) → StepPasses run files s → StepRefuses run files s a → ⊥
+apart_in run files once ReadProgram a p h = program_apart (PlayedIs run.manner.program) (once run.manner.program) run.program files a p h
 apart_in run files once ReadScript a p h =
-    let e = one_script (ap (λ (c : Compiled). c.controls) (one_program run.manner.program run.program files once p.0 h.0)) p.2 h.1 in absurd cc
+    let e = one_script (ap (λ (c : Compiled). c.controls) (program_of run files once p.0 h.0)) p.2 h.1 in absurd cc
 apart_in run files once ReadHead a p h = let e = one_input p.1 h in absurd cc
 apart_in run files once Fit a p h = let e = sym p.fits ∙ one_format run files once p.of h.0 p.source h.1 p.on h.2 ∙ h.3 in absurd cc
 apart_in run files once Write a p h = let e = sym p.1 ∙ one_cut run files once p.0 h.0 ∙ h.1 in absurd cc
 apart_in run files once Tell a p h = h
 
 -- and so do those of a check
-check_once : (name : List ℕ) (files : List File) → IsOneFile → (s : Step) (a b : Refusal) → CheckRefuses name files s a → CheckRefuses name files s b → a ≡ b
-check_once name files once ReadProgram a b h k = one_text Alone name files a b once h k
+check_once : (name : List ℕ) (files : List File) → IsOneText → (s : Step) (a b : Refusal) → CheckRefuses name files s a → CheckRefuses name files s b → a ≡ b
+check_once name files once ReadProgram a b h k = one_text TextIs once name files a b h k
 check_once name files once ReadScript a b h k = absurd h
 check_once name files once ReadHead a b h k = absurd h
 check_once name files once Fit a b h k = absurd h
 check_once name files once Write a b h k = absurd h
 check_once name files once Tell a b h k = absurd h
 
-check_apart : (name : List ℕ) (files : List File) → IsOneFile → (s : Step) (a : Refusal) → CheckPasses name files s → CheckRefuses name files s a → ⊥
-check_apart name files once ReadProgram a p h = program_apart Alone name files a once p h
+check_apart : (name : List ℕ) (files : List File) → IsOneText → (s : Step) (a : Refusal) → CheckPasses name files s → CheckRefuses name files s a → ⊥
+check_apart name files once ReadProgram a p h = program_apart TextIs once name files a p h
 check_apart name files once ReadScript a p h = h
 check_apart name files once ReadHead a p h = h
 check_apart name files once Fit a p h = h
 check_apart name files once Write a p h = h
 check_apart name files once Tell a p h = h
 
-judges : (job : Job) (old : DeskState) → IsOneFile → IsJudge (rules_of job old)
-judges (Playing run) old once = record { once = once_in run old.files once; apart = apart_in run old.files once }
-judges (Checking name) old once = record { once = check_once name old.files once; apart = check_apart name old.files once }
+-- a file is one thing at most, to a check and to a run
+pub record AreReadOnce : Type 0 where
+  pub text : IsOneText
+  pub played : IsPlayedOnce
+
+judges : (job : Job) (old : DeskState) → AreReadOnce → IsJudge (rules_of job old)
+judges (Playing run) old once = record { once = once_in run old.files once.played; apart = apart_in run old.files once.played }
+judges (Checking name) old once = record { once = check_once name old.files once.text; apart = check_apart name old.files once.text }
 judges (Making voices frames) old once = record { once = λ s a b h k. absurd h; apart = λ s a p h. h }
 
 -- words ask for one thing
@@ -146,7 +154,7 @@ passes_in run files p whole Fit = p
 passes_in run files p whole Write = (p, whole)
 passes_in run files p whole Tell = tt
 
-check_passes : (name : List ℕ) (files : List File) → HasProgram Alone name files → (s : Step) → CheckPasses name files s
+check_passes : (name : List ℕ) (files : List File) → HasProgram TextIs name files → (s : Step) → CheckPasses name files s
 check_passes name files p ReadProgram = p
 check_passes name files p ReadScript = tt
 check_passes name files p ReadHead = tt
@@ -160,7 +168,7 @@ passes_of (Playing run) old can s = passes_in run old.files can.0 can.1 s
 passes_of (Checking name) old can s = check_passes name old.files can s
 passes_of (Making voices frames) old can s = tt
 
-pub done_strict : {words : List (List ℕ)} {frames : ℕ} {old new : DeskState} (tally : Tally) → IsOneFile → HasDone words frames old new
+pub done_strict : {words : List (List ℕ)} {frames : ℕ} {old new : DeskState} (tally : Tally) → AreReadOnce → HasDone words frames old new
     → IsStrict words old new (Done tally)
 done_strict {words} {frames} {old} {new} tally once p job wanted asks known stops =
     let same = one_command words p.job job p.asks asks in
@@ -178,13 +186,13 @@ as_status : (wanted got : Refusal) → (got ≡ wanted) ⊎ (got ≡ NoMemory) �
 as_status wanted got (inl e) = inl (ap Refused e)
 as_status wanted got (inr e) = inr (ap Refused e)
 
-pub refused_strict : {words : List (List ℕ)} {old new : DeskState} {e : Refusal} {asked : List Request} → HasCause words old new e asked → IsOneFile
+pub refused_strict : {words : List (List ℕ)} {old new : DeskState} {e : Refusal} {asked : List Request} → HasCause words old new e asked → AreReadOnce
     → IsStrict words old new (Refused e)
 refused_strict {words} {old} {new} {e} {asked} cause once job wanted asks known stops =
     let ends = ends_of words job old new e asked asks cause in
     as_status wanted e (exactly (rules_of job old) old new (judges job old once) known (steps_of job) wanted e ends.0 stops ends.1)
 
-pub refused_complete : {words : List (List ℕ)} {old new : DeskState} {e : Refusal} {asked : List Request} → HasCause words old new e asked → IsOneFile
+pub refused_complete : {words : List (List ℕ)} {old new : DeskState} {e : Refusal} {asked : List Request} → HasCause words old new e asked → AreReadOnce
     → IsComplete words old new (Refused e)
 refused_complete {words} {old} {new} {e} {asked} cause once job asks known passes =
     let ends = ends_of words job old new e asked asks cause in

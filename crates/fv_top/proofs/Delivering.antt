@@ -1,5 +1,5 @@
 -- How a run ends once its output is written.
-use Rattle.std.proofs.Common.{◌≡◌, ◌⊎◌, ℕ, ◌+◌, ◌%◌, ◌^◌, ◌<◌, ◌≤◌, List, [], ◌∷◌, ◌++◌, length, take, length-append, sym, ◌∙◌, ap, ap₂, subst, refl}
+use Rattle.std.proofs.Common.{◌≡◌, ℕ, ◌+◌, ◌%◌, ◌^◌, ◌<◌, ◌≤◌, List, [], ◌∷◌, ◌++◌, length, take, length-append, sym, ◌∙◌, ap, ap₂, subst, refl}
 use Rattle.std.proofs.Common.{inl, inr, ⊎_elim, append_assoc, arith}
 use Rattle.std.specs.Prelude.{IsTrue, IsSome, is_some, Option, Some, None, option_map}
 use Rattle.std.specs.Option.{ForSome}
@@ -47,6 +47,13 @@ use Rattle.fv_top.specs.inner.Running.{Reaches, CountsFaultOf, asked_before, End
 use Rattle.fv_top.proofs.Reaching.{fits_frames}
 use Rattle.fv_top.proofs.Playing.{frames_are, coding_is, end_is, taken_none, taken_within, taken_all, frame_some, end_rest, left_closed, cut_is, whole_is}
 use Rattle.fv_top.proofs.Stopping.{others_told, rest_told, within_all, no_fault, no_want, written_cut}
+
+-- what was begun once has not been begun as often as before
+not_begun : (a c : DeskState) → HasBegun a c → c.begins Output ≡ a.begins Output → ⊥
+not_begun a c begun same = differ (a.begins Output) (sym same ∙ begun)
+  where
+    differ : (n : ℕ) → n ≡ (n + 1) % 2 ^ 64 → ⊥
+    differ n is = omega (arith, is)
 
 -- from a, all was read in b, and what is ready is for this run
 pub record IsReady (words : List (List ℕ)) (run : Run) (m : Compiled) (p : Prepared) (a b : DeskState) : Type 0 where
@@ -180,16 +187,17 @@ module _ {words : List (List ℕ)} {run : Run} {m : Compiled} {p : Prepared} {a 
         sym w.can.frames,
       )
 
-  pub blocks_told : {counted : Ran} {before after : Option Told}
+  pub blocks_told : {counted : Ran} {before after : Option Told} (c d : DeskState) → HasBegun b c → d.begins Output ≡ c.begins Output
       → RanWhole m.diagram m.controls p.script p.sizes counted before after
-      → RanSoFar words (WriteFault Report) a before after
-  blocks_told {counted} ran = record {
+      → RanSoFar words (WriteFault Report) a d before after
+  blocks_told {counted} c d begun same ran = record {
     job = Playing run;
     asks = w.asks;
     upto = p.sizes.frames;
     counted = counted;
     ran = blocks_by ran;
     stops = (λ is. refl, λ j at is t. absurd (no_fault j at (writes Report) (sym is)));
+    first = λ is. absurd (not_begun a c (begun_by c begun) (sym same ∙ is));
   }
 
   -- ---- where it stops
@@ -303,8 +311,8 @@ module _ {words : List (List ℕ)} {run : Run} {m : Compiled} {p : Prepared} {a 
     stop_output e k =
         ⊎_elim
         (λ o. inl (record {
-          begins = o.begins ∙ w.reaches.quiet.begins Output;
-          written = λ t. o.written (told_by t) ∙ w.reaches.quiet.written t Output;
+          begins = o.0.begins ∙ w.reaches.quiet.begins Output;
+          written = λ t. o.0.written (told_by t) ∙ w.reaches.quiet.written t Output;
         }))
         (λ o. inr (record {
           run = run;
@@ -384,7 +392,7 @@ module _ {words : List (List ℕ)} {run : Run} {m : Compiled} {p : Prepared} {a 
     -- and these blocks ran
     pub blocks_stopped : {counted : Ran} {before after : Option Told} (e : Stop) → EndsAt m p g b c e
         → RanTo m.diagram m.controls p.script p.sizes g counted before after
-        → RanSoFar words (refusal_by e) a before after
+        → RanSoFar words (refusal_by e) a c before after
     blocks_stopped {counted} e k ran = record {
       job = Playing run;
       asks = w.asks;
@@ -392,6 +400,7 @@ module _ {words : List (List ℕ)} {run : Run} {m : Compiled} {p : Prepared} {a 
       counted = counted;
       ran = blocks_by ran;
       stops = (stop_told e, λ j at is t. (plays_by t, stop_frames e k j at is t));
+      first = λ is. ⊎_elim (λ o. o.1) (λ o. absurd (not_begun a c (begun_by c o.0) is)) k.output;
     }
 
   -- ---- all of it was written

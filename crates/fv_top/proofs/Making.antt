@@ -1,6 +1,7 @@
 -- How a make ends, from how its parts do.
-use Rattle.std.proofs.Common.{◌≡◌, ◌⊎◌, ℕ, ◌+◌, ◌≤◌, ℤ, pos, List, [], ◌++◌, length, length-append, sym, ◌∙◌, ap, subst, refl, inl, inr, arith}
-use Rattle.std.specs.Prelude.{IsTrue}
+use Rattle.std.proofs.Common.{◌≡◌, ◌⊎◌, ℕ, ◌+◌, ◌≤◌, ℤ, pos, List, [], ◌++◌, length, length-append, sym, ◌∙◌, ap, subst, refl, inl, inr, ⊎_elim}
+use Rattle.std.proofs.Common.{arith}
+use Rattle.std.specs.Prelude.{IsTrue, Err}
 use Rattle.std.proofs.lemmas.List.{append-nil}
 use Rattle.fv_base.specs.declared.role.Role.TheVariants.{Program, Input, Controls, Output, Report}
 use Rattle.fv_base.specs.Lists.{IsPrefixOf}
@@ -8,15 +9,17 @@ use Rattle.fv_outside.specs.Desk.{DeskState, HasFault, KeepsFaults, IsUnfailing,
 use Rattle.fv_outside.proofs.States.{goes_on_self}
 use Rattle.fv_top_report.specs.declared.refusal.Refusal.{Refusal}
 use Rattle.fv_top_report.specs.declared.refusal.Refusal.TheVariants.{WriteFault, NoMemory}
-use Rattle.fv_diagram.specs.Diagram.{Diagram}
+use Rattle.fv_diagram.specs.Diagram.{Diagram, has_table}
 use Rattle.fv_control.specs.Streams.{control_streams}
 use Rattle.fv_diagram.specs.Samples.{answer_on}
 use Rattle.fv_top_make.specs.Made.{SumsAddUp, text_of, noise_behind, noise_of, sum_from, sum_of}
 use Rattle.fv_top_make.specs.Noises.{Sounds}
 use Rattle.fv_top_make.specs.declared.noise_tape.Noise.{Noise}
-use Rattle.fv_top_text.specs.Program.{IsRefusedText, IsOfText}
+use Rattle.fv_top_text.specs.Compiled.{Compiled}
+use Rattle.fv_top_playable.specs.Tableless.{IsOfPlayed, PlayedIs, RefusesAFileOrATable}
+use Rattle.fv_top_words.specs.declared.manner.ProgramKind.TheVariants.{Alone}
 use Rattle.fv_top_words.specs.Commands.{most_voices}
-use Rattle.fv_top_voices.specs.Voices.{VoicesAreNotRefused}
+use Rattle.fv_top_voices.specs.Voices.{VoicesAreOneProgram, VoicesAreNotRefused, VoicesAreTableless}
 use Rattle.fv_top_report.specs.Lines.{made_line}
 use Rattle.fv_top.specs.Meant.{make_meant}
 use Rattle.fv_top_report.specs.Parts.{AppendsPart}
@@ -26,11 +29,25 @@ use Rattle.fv_top.specs.inner.Running.{Makes, StopsMake, HasSum}
 
 -- ---- the program and its noise
 
+-- what is known of the programs of voices, and of what is played
+pub record Known : Type 0 where
+  pub one : VoicesAreOneProgram
+  pub accepted : VoicesAreNotRefused
+  pub tableless : VoicesAreTableless
+  pub refused : RefusesAFileOrATable
+
 -- only want of memory stops the reading of its text
-pub only_memory : VoicesAreNotRefused → (voices : ℕ) (text : List ℕ) (e : Refusal) → 1 ≤ voices → voices ≤ most_voices → text ≡ text_of voices
-    → (e ≡ NoMemory) ⊎ (IsOfText e × IsRefusedText text e) → e ≡ NoMemory
-only_memory accepted voices text e some few same (inl m) = m
-only_memory accepted voices text e some few same (inr h) = absurd (accepted voices e some few (subst (λ (t : List ℕ). IsRefusedText t e) same h.1))
+pub only_memory : Known → (voices : ℕ) (e : Refusal) → 1 ≤ voices → voices ≤ most_voices
+    → (e ≡ NoMemory) ⊎ (IsOfPlayed Alone e × PlayedIs Alone (text_of voices) (Err e)) → e ≡ NoMemory
+only_memory k voices e some few (inl m) = m
+only_memory k voices e some few (inr h) =
+    ⊎_elim (λ t. absurd (k.accepted voices e some few t))
+    (λ t.
+    let same = k.one voices t.1 some few t.2 in
+    let none = ap (λ (p : Compiled). has_table p.diagram) same ∙ k.tableless voices in
+    let wrong = sym none ∙ t.3 in
+    absurd cc)
+    (k.refused Alone (text_of voices) e h.1)
 
 -- what is heard of the noise of so many voices, and the sum of what is given for it
 pub noise_heard : {start now : Noise} {h s : List ℤ} (voices frames : ℕ) → SumsAddUp → Sounds start now h s → length h ≡ frames → start.state ≡ pos voices

@@ -1,7 +1,7 @@
 -- The blocks of a run and of a make, from those that were rendered.
 use Rattle.std.proofs.Common.{◌≡◌, ℕ, ◌+◌, ◌-◌, ◌/◌, ◌≤◌, List, [], length, subst, refl, inl, inr, sym, ◌∙◌, arith}
 use Rattle.std.specs.Prelude.{Option, Err}
-use Rattle.fv_base.specs.declared.role.Role.TheVariants.{Output}
+use Rattle.fv_base.specs.declared.role.Role.TheVariants.{Output, Report}
 use Rattle.fv_outside.specs.Journal.{Told}
 use Rattle.fv_outside.specs.Desk.{DeskState}
 use Rattle.fv_engine_render.specs.Render.{CanBePlayed, CanHave}
@@ -20,6 +20,7 @@ use Rattle.fv_top_words.specs.Runs.{Settings, AreSound}
 use Rattle.fv_top_words.specs.declared.cause.Cause.{Cause}
 use Rattle.fv_top_words.specs.Commands.{Job, Playing, Checking, Making, job_in}
 use Rattle.fv_top_report.specs.declared.refusal.Refusal.{Refusal}
+use Rattle.fv_top_report.specs.declared.refusal.Refusal.TheVariants.{WriteFault}
 use Rattle.fv_top.specs.Promise.{Asks}
 use Rattle.fv_top.specs.Played.{sizes_of, make_sizes, HaveRan, MakeRan, MakeSoFar, RanSoFar, ComesFirst, HasBlocksSoFar}
 
@@ -73,16 +74,17 @@ make_ran {voices} {frames} m = (
   refl,
 )
 
-pub make_so_far : {words : List (List ℕ)} {voices frames : ℕ} {e : Refusal} {old : DeskState} {before after : Option Told}
-    → Asks words (Making voices frames) → MakeSoFar voices frames before after → RanSoFar words e old before after
+pub make_so_far : {words : List (List ℕ)} {voices frames : ℕ} {e : Refusal} {old new : DeskState} {before after : Option Told}
+    → Asks words (Making voices frames) → e ≡ WriteFault Report → MakeSoFar voices frames before after → RanSoFar words e old new before after
 unfolding make_ran
-make_so_far {words} {voices} {frames} asks m = record {
+make_so_far {words} {voices} {frames} asks failed m = record {
   job = Making voices frames;
   asks = asks;
   upto = frames;
   counted = record { blocks = m.blocks; loops = m.loops; loop_runs = m.runs };
   ran = (make_ran {voices = voices} {frames = frames} m.ran).0;
   stops = refl;
+  first = λ is. absurd (is failed);
 }
 
 -- ---- what is told of a run that is refused
@@ -111,4 +113,12 @@ first_later (Making voices frames) e a b c same first = first
 pub so_far_later : {words : List (List ℕ)} {e : Refusal} {a b c : DeskState} {before after : Option Told} → c.begins Output ≡ b.begins Output
     → HasBlocksSoFar words e a b before after → HasBlocksSoFar words e a c before after
 so_far_later {words} {e} {a} {b} {c} same (inl h) = inl (h.0, λ job asks. first_later job e a b c same (h.1 job asks))
-so_far_later same (inr h) = inr h
+so_far_later {e = e} {a = a} {b = b} {c = c} same (inr h) = inr (record {
+  job = h.job;
+  asks = h.asks;
+  upto = h.upto;
+  counted = h.counted;
+  ran = h.ran;
+  stops = h.stops;
+  first = λ is. h.first (first_later h.job e a c b (sym same) is);
+})

@@ -1,5 +1,5 @@
 -- How a run ends whose refusal was reported.
-use Rattle.std.proofs.Common.{◌≡◌, ◌⊎◌, ℕ, ◌+◌, List, [], ◌∷◌, ◌++◌, sym, ◌∙◌, ap, refl, inl, inr, ⊎_elim, append_assoc}
+use Rattle.std.proofs.Common.{◌≡◌, ◌⊎◌, ℕ, List, [], ◌∷◌, ◌++◌, sym, ◌∙◌, ap, refl, inl, inr, ⊎_elim, append_assoc}
 use Rattle.std.specs.Prelude.{IsTrue, Ok, Err, OnOk, OnErr, Result}
 use Rattle.fv_outside.specs.declared.desk.Failed.{Failed}
 use Rattle.fv_base.specs.declared.role.Role.TheVariants.{Output, Report}

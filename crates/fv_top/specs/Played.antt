@@ -91,15 +91,6 @@ StopsAt (Playing run) refusal old x upto = RunStopsAt run refusal old x upto
 StopsAt (Checking name) refusal old x upto = ⊥
 StopsAt (Making voices frames) refusal old x upto = upto ≡ x.sizes.frames
 
--- The blocks of what was refused behind them.
-pub record RanSoFar (words : List (List ℕ)) (refusal : Refusal) (old : DeskState) (before after : Option Told) : Type 0 where
-  pub job : Job
-  pub asks : Asks words job
-  pub upto : ℕ
-  pub counted : Ran
-  pub ran : HaveRan job old upto counted before after
-  pub stops : StopsAt job refusal old ran.played upto
-
 -- A refusal that comes before any block: of a run before its output is begun, of a make before its report.
 abbrev pub ComesFirst : Job → Refusal → (old new : DeskState) → Type 0
 ComesFirst (Playing run) refusal old new = new.begins Output ≡ old.begins Output
@@ -110,6 +101,16 @@ ComesFirst (Making voices frames) refusal old new = refusal ≡ WriteFault Repor
 abbrev pub MayBeUntold : (words : List (List ℕ)) → Refusal → (old new : DeskState) → Type 0
 MayBeUntold words refusal old new = (job : Job) → Asks words job → ComesFirst job refusal old new
 
+-- The blocks of what was refused, up to a frame: none, where its refusal comes first.
+pub record RanSoFar (words : List (List ℕ)) (refusal : Refusal) (old new : DeskState) (before after : Option Told) : Type 0 where
+  pub job : Job
+  pub asks : Asks words job
+  pub upto : ℕ
+  pub counted : Ran
+  pub ran : HaveRan job old upto counted before after
+  pub stops : StopsAt job refusal old ran.played upto
+  pub first : ComesFirst job refusal old new → upto ≡ 0
+
 -- What is told by a run that is refused: nothing, where its refusal comes first, or its blocks as far as they ran.
 abbrev pub HasBlocksSoFar : (words : List (List ℕ)) → Refusal → (old new : DeskState) → (before after : Option Told) → Type 0
-HasBlocksSoFar words refusal old new before after = ((after ≡ before) × MayBeUntold words refusal old new) ⊎ RanSoFar words refusal old before after
+HasBlocksSoFar words refusal old new before after = ((after ≡ before) × MayBeUntold words refusal old new) ⊎ RanSoFar words refusal old new before after

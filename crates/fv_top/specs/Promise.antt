@@ -1,6 +1,6 @@
 -- What a run promises.
 use Rattle.std.specs.Prelude.{◌≡◌, ◌≢◌, ◌⊎◌, ℕ, ◌≤◌, ◌&&◌, ◌||◌, ◌==◌, nat_le, Bool, false, IsTrue, IsSome, List, [], ◌∷◌, ◌++◌, length, take, Some}
-use Rattle.std.specs.Prelude.{None, Ok, Err}
+use Rattle.std.specs.Prelude.{None, Result, Ok, Err}
 use Rattle.fv_base.specs.declared.role.Role.{Role}
 use Rattle.fv_base.specs.declared.role.Role.TheVariants.{Program, Input, Controls, Output, Report}
 use Rattle.fv_base.specs.Lists.{IsPrefixOf}
@@ -19,8 +19,8 @@ use Rattle.fv_top_report.specs.declared.refusal.Refusal.{Refusal}
 use Rattle.fv_top_report.specs.declared.refusal.Refusal.TheVariants.{Usage, ReadFault, WriteFault, NoMemory}
 use Rattle.fv_top_report.specs.declared.status.Status.{Status}
 use Rattle.fv_top_report.specs.declared.status.Status.TheVariants.{Done, Refused}
-use Rattle.fv_top_text.specs.Program.{IsProgram}
-use Rattle.fv_top_rack.specs.Kinds.{FileIs, is_of_kind}
+use Rattle.fv_top_text.specs.Program.{TextIs, IsProgram}
+use Rattle.fv_top_playable.specs.Tableless.{PlayedIs, is_of_played}
 use Rattle.fv_file_tape.specs.Tapes.{HasBegun, KeepsOutput}
 use Rattle.fv_engine_files.specs.Files.{IsCutAt}
 use Rattle.fv_engine_render.specs.Render.{initial_of}
@@ -42,22 +42,22 @@ Asks words job = job_in words ≡ Ok job
 abbrev pub OfWords : Job → (List (List ℕ) → Type 0) → Type 0
 OfWords job P = (words : List (List ℕ)) → Asks words job → P words
 
--- The file of this name is a program: a text, or a file of jobs.
-pub record HasProgram (kind : ProgramKind) (name : List ℕ) (files : List File) : Type 0 where
+-- The file of this name is a program, by what Is says of its bytes.
+pub record HasProgram (Is : List ℕ → Result Compiled Refusal → Type 0) (name : List ℕ) (files : List File) : Type 0 where
   pub text : List ℕ
   pub file : file_named name files ≡ Some text
   pub compiled : Compiled
-  pub program : FileIs kind text (Ok compiled)
+  pub program : Is text (Ok compiled)
 
 -- The file of this name is there, and is refused.
-pub record HasNoProgram (kind : ProgramKind) (name : List ℕ) (files : List File) (refusal : Refusal) : Type 0 where
+pub record HasNoProgram (Is : List ℕ → Result Compiled Refusal → Type 0) (name : List ℕ) (files : List File) (refusal : Refusal) : Type 0 where
   pub text : List ℕ
   pub file : file_named name files ≡ Some text
-  pub refused : FileIs kind text (Err refusal)
+  pub refused : Is text (Err refusal)
 
--- that of a run
+-- that of a run: what is played of a text, or of a file of jobs
 abbrev pub HasProgramOf : Run → List File → Type 0
-HasProgramOf run files = HasProgram run.manner.program run.program files
+HasProgramOf run files = HasProgram (PlayedIs run.manner.program) run.program files
 
 -- The files of a run: a program, a script of its controls, an input, and the format of its output.
 pub record Plays (run : Run) (files : List File) : Type 0 where
@@ -139,7 +139,7 @@ is_of_script n = (n == 4) || (nat_le 30 n && nat_le n 33)
 
 -- the numbers of the refusals of what a step judges, where the program's file is of this kind
 abbrev pub is_of_step : ProgramKind → Step → ℕ → Bool
-is_of_step kind ReadProgram n = is_of_kind kind n
+is_of_step kind ReadProgram n = is_of_played kind n
 is_of_step kind ReadScript n = is_of_script n
 is_of_step kind ReadHead n = is_of_head n
 is_of_step kind Fit n = (n == 29) || (n == 38) || (n == 39)
@@ -173,7 +173,7 @@ StepPasses run files Tell = Unit {0}
 
 -- what a step judges is refused for this
 abbrev pub StepRefuses : Run → List File → Step → Refusal → Type 0
-StepRefuses run files ReadProgram refusal = HasNoProgram run.manner.program run.program files refusal
+StepRefuses run files ReadProgram refusal = HasNoProgram (PlayedIs run.manner.program) run.program files refusal
 StepRefuses run files ReadScript refusal = (p : HasProgramOf run files) × HasScript run.controls files p.compiled.controls (Err refusal)
 StepRefuses run files ReadHead refusal = HasInput run.manner.input run.input files (Err refusal)
 StepRefuses run files Fit refusal =
@@ -203,7 +203,7 @@ check_steps = ReadProgram ∷ Tell ∷ []
 
 -- there is room for all that is written of the report
 abbrev pub HasCheckRoom : (name : List ℕ) → DeskState → Type 0
-HasCheckRoom name old = (p : HasProgram Alone name old.files) → length (written_by (check_meant p.compiled) old Report) ≤ old.room Report
+HasCheckRoom name old = (p : HasProgram TextIs name old.files) → length (written_by (check_meant p.compiled) old Report) ≤ old.room Report
 
 -- what a step of a check asks the desk for
 abbrev pub check_requests : (name : List ℕ) → Step → List Request
@@ -224,12 +224,12 @@ CheckAnswered name old s = Unit {0}
 
 -- what it judges passes
 abbrev pub CheckPasses : (name : List ℕ) → List File → Step → Type 0
-CheckPasses name files ReadProgram = HasProgram Alone name files
+CheckPasses name files ReadProgram = HasProgram TextIs name files
 CheckPasses name files s = Unit {0}
 
 -- or is refused for this
 abbrev pub CheckRefuses : (name : List ℕ) → List File → Step → Refusal → Type 0
-CheckRefuses name files ReadProgram refusal = HasNoProgram Alone name files refusal
+CheckRefuses name files ReadProgram refusal = HasNoProgram TextIs name files refusal
 CheckRefuses name files s refusal = ⊥
 
 -- the rules of a check's steps
@@ -301,7 +301,7 @@ IsKnown job old = Rules.Known (rules_of job old)
 -- it can be done
 abbrev pub CanDo : Job → List File → Type 0
 CanDo (Playing run) files = (p : Plays run files) × IsWhole p
-CanDo (Checking name) files = HasProgram Alone name files
+CanDo (Checking name) files = HasProgram TextIs name files
 CanDo (Making voices frames) files = (p : Compiled) × IsMade voices p
 
 -- what it means that it is

@@ -16,7 +16,7 @@ ghost use Rattle.fv_top.specs.inner.Running.{Makes, StopsMake, HasSum};
 use fv_engine_render::{Played, Ran, RunSizes, make_ready_graph, render_tape};
 use fv_outside::{Desk, Gate, Role};
 use fv_top_make::{Noise, NoiseTape, sums_add_up, text_of};
-use fv_top_playable::{Playable, read_playable};
+use fv_top_playable::{Playable, one_played, read_playable};
 use fv_top_report::{Refusal, report_made};
 use fv_top_voices::voices_are_a_program;
 use fv_top_words::ProgramKind;
@@ -55,7 +55,7 @@ pub fn run_make<R: Threads + Wait + Sync, D: Desk, G: Gate + Sync>(
     ensures stops { IfErr result (StopsMake voices frames (D.state desk.old) (D.state desk.new)) }
     // A report that fails comes behind all blocks, and every other refusal before them.
     ensures so_far { IfErr result (λ e. ((G.told gate.new ≡ G.told gate.old) × (e ≡ WriteFault Report → ⊥))
-        ⊎ MakeSoFar voices frames (G.told gate.old) (G.told gate.new)) }
+        ⊎ ((e ≡ WriteFault Report) × MakeSoFar voices frames (G.told gate.old) (G.told gate.new))) }
 {
     let made = made_sum(rt, alloc, voices, frames, workers, gate)?;
     match report_made(desk, voices, frames, made.sum) {
@@ -96,12 +96,13 @@ fn made_program(alloc: Global, voices: u32) -> Result<Playable, Refusal>
     ensures none { IfErr result (λ e. e ≡ NoMemory) }
 {
     voices_are_a_program();
+    one_played();
     let text = text_of(alloc, voices)?;
     let playable = read_playable(alloc, ProgramKind::Alone, &text)?;
     Ok(playable)
 }
 
-// The sum of what it gives on the noise of so many voices.
+// The sum of what it gives on the noise of so many voices, which never stops.
 fn sum_on_noise<R: Threads + Wait + Sync, G: Gate + Sync>(
     rt: &R,
     alloc: Global,
@@ -122,12 +123,7 @@ fn sum_on_noise<R: Threads + Wait + Sync, G: Gate + Sync>(
     ensures err { OnErr result (gate.new ≡ gate.old) }
 {
     sums_add_up();
-    let sizes = RunSizes {
-        frames,
-        block: BLOCK,
-        vector: VECTOR,
-        workers,
-    };
+    let sizes = make_sizes(workers, frames);
     let ready = make_ready_graph(
         alloc,
         &playable.graph,
@@ -164,7 +160,18 @@ fn sum_on_noise<R: Threads + Wait + Sync, G: Gate + Sync>(
             sum: noise.sum,
             ran,
         }),
-        // A noise never stops.
         Err(stop) => match stop {},
+    }
+}
+
+// The sizes of a make of so many frames, by so many workers.
+fn make_sizes(workers: u32, frames: u32) -> RunSizes
+    ensures { result ≡ make_sizes workers frames }
+{
+    RunSizes {
+        frames,
+        block: BLOCK,
+        vector: VECTOR,
+        workers,
     }
 }

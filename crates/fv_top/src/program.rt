@@ -4,11 +4,10 @@ ghost use Rattle.std.specs.Prelude.{◌<◌, ℕ, List, IfOk, IfErr, IsErrOf, So
 ghost use Rattle.fv_base.specs.declared.role.Role.TheVariants.{Program as program_role};
 ghost use Rattle.fv_outside.specs.Desk.{KeepsFaults};
 ghost use Rattle.fv_top_report.specs.declared.refusal.Refusal.TheVariants.{ReadFault};
-ghost use Rattle.fv_top_text.specs.Program.{IsProgram, IsOfText, delays_in};
+ghost use Rattle.fv_top_text.specs.Program.{TextIs, IsProgram, IsOfText, delays_in};
 ghost use Rattle.fv_interval.specs.Delays.{AreAccepted};
 ghost use Rattle.fv_diagram.specs.Arena.{count_of};
-ghost use Rattle.fv_top_words.specs.declared.manner.ProgramKind.TheVariants.{Alone};
-ghost use Rattle.fv_top_rack.specs.Kinds.{IsOfKind};
+ghost use Rattle.fv_top_playable.specs.Tableless.{PlayedIs, IsOfPlayed};
 ghost use Rattle.fv_top.specs.Promise.{HasNoProgram};
 ghost use Rattle.fv_top_text.specs.Compiled.{compiled_of};
 ghost use Rattle.fv_top_files.specs.Loading.{ReadsFile, StopsLoading, IsFile};
@@ -19,10 +18,9 @@ use fv_eval::Program;
 use fv_interval::Delays;
 use fv_outside::{Desk, Role};
 use fv_top_files::{read_front, read_refusal};
-use fv_top_playable::{Playable, read_playable};
-use fv_top_rack::front_is_enough;
+use fv_top_playable::{Playable, front_is_played, read_playable};
 use fv_top_report::Refusal;
-use fv_top_text::read_program;
+use fv_top_text::{front_is_enough, read_program};
 use fv_top_words::ProgramKind;
 use std::alloc::Global;
 
@@ -40,7 +38,7 @@ pub fn load_program<D: Desk>(
     ensures spelled { IfOk result (λ p. (text : List ℕ) × IsFile name.now text (D.state desk.old) × IsProgram text (compiled_of p.0)) }
     ensures root { IfOk result (λ p. p.0.root < count_of p.0.diagrams) }
     ensures delays { IfOk result (λ p. AreAccepted (delays_in (compiled_of p.0)) p.1) }
-    ensures err { IfErr result (StopsLoading program_role (Some name.now) IsOfText (HasNoProgram Alone name.now (D.state desk.old).files)
+    ensures err { IfErr result (StopsLoading program_role (Some name.now) IsOfText (HasNoProgram TextIs name.now (D.state desk.old).files)
         (D.state desk.old) (D.state desk.new)) }
     ensures steady { (IsErrOf result (ReadFault program_role) → ⊥) → KeepsFaults (D.state desk.old) (D.state desk.new) }
 {
@@ -53,7 +51,7 @@ pub fn load_program<D: Desk>(
     Ok(program)
 }
 
-/// Loads what is played of the program that the file of this name and kind is.
+/// Loads what is played of the file of this name and kind.
 #[tactic(auto, using(fv_outside::proofs::States::steps, fv_top_files::proofs::Loads::reading))]
 pub fn load_playable<D: Desk>(
     alloc: Global,
@@ -63,11 +61,11 @@ pub fn load_playable<D: Desk>(
 ) -> Result<Playable, Refusal>
     ensures reads { ReadsFile program_role (Some name.now) (D.state desk.old) (D.state desk.new) }
     ensures found { IfOk result (IsProgramOf kind name.now (D.state desk.old)) }
-    ensures err { IfErr result (StopsLoading program_role (Some name.now) (IsOfKind kind) (HasNoProgram kind name.now (D.state desk.old).files)
-        (D.state desk.old) (D.state desk.new)) }
+    ensures err { IfErr result (StopsLoading program_role (Some name.now) (IsOfPlayed kind)
+        (HasNoProgram (PlayedIs kind) name.now (D.state desk.old).files) (D.state desk.old) (D.state desk.new)) }
     ensures steady { (IsErrOf result (ReadFault program_role) → ⊥) → KeepsFaults (D.state desk.old) (D.state desk.new) }
 {
-    front_is_enough();
+    front_is_played();
     let file = match read_front(alloc, desk, Role::Program, name, PROGRAM_BYTES) {
         Ok(file) => file,
         Err(error) => return Err(read_refusal(Role::Program, error)),

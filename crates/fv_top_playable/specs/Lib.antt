@@ -1,4 +1,5 @@
 pub mod Playables
+pub mod Tableless
 -- what its public clauses cite of crates below
 pub use Rattle.fv_engine_render.specs.Plans
 pub use Rattle.fv_top_rack.specs.Kinds

@@ -5,14 +5,14 @@ use Rattle.fv_jobs.specs.File.{FrontIsEnough as JobsFront, JobsAreWhole, bytes_r
 use Rattle.fv_top_words.specs.declared.manner.ProgramKind.TheVariants.{Alone, Rack}
 use Rattle.fv_top_report.specs.declared.refusal.Refusal.{Refusal}
 use Rattle.fv_top_report.specs.Layers.{of_jobs}
-use Rattle.fv_top_text.specs.Answers.{Then, Turned, kept, turned, IsOnce, RefusesOthers}
+use Rattle.fv_top_text.specs.Answers.{Then, Turned, kept, turned, IsOnce, IsSome, RefusesOthers}
 use Rattle.fv_top_text.specs.Compiled.{Compiled}
 use Rattle.fv_top_text.specs.Program.{Delayed, Narrow, delayed, delays_in, first_bad, narrow, IsOneText, IsSomeText, IsOneOrOther as TextOneOrOther}
 use Rattle.fv_top_text.specs.Program.{FrontIsEnough as TextFront, ProgramIsWhole as TextIsWhole}
 use Rattle.fv_top_text.proofs.AnswerLaws.{kept_is, then_once, then_refuses, then_some, turned_once, turned_some}
 use Rattle.fv_top_text.proofs.Texts.{then_front}
 use Rattle.fv_top_rack.specs.Racks.{Beside, EachIs, JobsAre, JobsHave, RackIs, rack_of}
-use Rattle.fv_top_rack.specs.Kinds.{FrontIsEnough, IsOneFile, IsOneOrOther, ProgramIsWhole}
+use Rattle.fv_top_rack.specs.Kinds.{FrontIsEnough, IsOneFile, IsSomeFile, IsOneOrOther, ProgramIsWhole}
 use Rattle.fv_top_rack.proofs.Each.{each_once, each_some, then_parts}
 
 abbrev Any : List ℕ → Type 0
@@ -32,17 +32,26 @@ narrow_by : (p : Compiled) (r : Result Compiled Refusal) → narrow p ≡ r → 
 narrow_by p (Ok a) is none = absurd (none a is)
 narrow_by p (Err e) is none = (e, is)
 
-rack_others : IsSomeText → RefusesOthers RackIs
-rack_others some =
+sum_some : IsSomeText → IsSome Any (Then (Then JobsHave Beside) Delayed)
+sum_some some =
     let jobs = turned_some of_jobs Any JobsAre (λ file u. (_, refl)) in
     let have = then_some Any (Turned of_jobs JobsAre) (EachIs 0) jobs (λ file ts u h. each_some some 0 ts tt) in
     let rack = then_some Any JobsHave Beside have (λ file ps u h. (Ok (rack_of ps), refl)) in
-    let sum = then_some Any (Then JobsHave Beside) Delayed rack (λ file p u h. (delayed p (first_bad (delays_in p)), refl)) in
-    then_refuses (Then (Then JobsHave Beside) Delayed) Narrow sum (λ p none. narrow_by p (narrow p) refl none)
+    then_some Any (Then JobsHave Beside) Delayed rack (λ file p u h. (delayed p (first_bad (delays_in p)), refl))
+
+rack_some : IsSomeText → IsSome Any RackIs
+rack_some some = then_some Any (Then (Then JobsHave Beside) Delayed) Narrow (sum_some some) (λ file p u h. (narrow p, refl))
+
+rack_others : IsSomeText → RefusesOthers RackIs
+rack_others some = then_refuses (Then (Then JobsHave Beside) Delayed) Narrow (sum_some some) (λ p none. narrow_by p (narrow p) refl none)
 
 pub one_file : IsOneText → IsOneFile
 one_file once Alone = once
 one_file once Rack = rack_once once
+
+pub some_file : IsSomeText → IsSomeFile
+some_file some Alone = some
+some_file some Rack = rack_some some
 
 pub one_or_other : TextOneOrOther → IsSomeText → IsOneOrOther
 one_or_other others some Alone = others

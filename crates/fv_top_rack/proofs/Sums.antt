@@ -1,6 +1,6 @@
 -- What programs side by side have together.
 use Rattle.std.proofs.Common.{◌≡◌, ℕ, ◌+◌, ◌*◌, ◌≤◌, List, [], ◌∷◌, ◌++◌, length, map, get_or, All, refl, sym, ap, ap₂, ◌∙◌, subst, arith}
-use Rattle.std.specs.Prelude.{false, ◌||◌, flat_map, sum}
+use Rattle.std.specs.Prelude.{flat_map, sum}
 use Rattle.std.specs.List.{sum_by}
 use Rattle.std.proofs.lemmas.List.{length-append, length-map, map-append}
 use Rattle.std.proofs.lemmas.List.Elements.{All-append, All-map, All-nil, All-head, All-tail}
@@ -9,12 +9,11 @@ use Rattle.std.proofs.lemmas.List.Sums.{sum-map, sum_by-append, sum_by-cons, sum
 use Rattle.fv_base.specs.declared.limits.TheConstants.{MOST_CHANNELS}
 use Rattle.fv_diagram.specs.Controls.{IsBounded}
 use Rattle.fv_diagram.specs.declared.control.ControlInfo.{ControlInfo}
-use Rattle.fv_diagram.specs.Diagram.{Diagram, Primitive, Constant, Control, Slot, Wave, Table, Bind, Par, Seq, Split, Merge, Rec, inputs, outputs}
-use Rattle.fv_diagram.specs.Diagram.{control_bound, has_table, HasNoFreeSlot, IsWellFormed}
+use Rattle.fv_diagram.specs.Diagram.{inputs, outputs, control_bound, HasNoFreeSlot, IsWellFormed}
 use Rattle.fv_interval.specs.Controls.{spans_of, span_of}
 use Rattle.fv_interval.specs.Delays.{AreDelays, IsDelay, amount, amounts, delays_of}
 use Rattle.fv_jobs_controls.specs.Labels.{controls_from, labelled, renamed}
-use Rattle.fv_join_diagrams.specs.Parts.{Part, PartsAreWhole, shifted, side_by_side, spans_of as spans_of_parts}
+use Rattle.fv_join_diagrams.specs.Parts.{Part, PartsAreWhole, side_by_side, spans_of as spans_of_parts}
 use Rattle.fv_rules.specs.Rules.{visit_limit}
 use Rattle.fv_top_text.specs.Compiled.{Compiled, CanPlay, compiled_of}
 use Rattle.fv_top_text.specs.Program.{delays_in}
@@ -91,28 +90,6 @@ delays_are (r ∷ rs) h =
     ∙ ap₂ (λ a b. a + b) (ap sum first.accepted.are) (delays_are rs (All-tail IsRead r rs h))
     ∙ sym (amounts_append (delays_in (compiled_of r.program)) (flat_map delays_in (programs_in rs)))
 
--- ---- waveforms and tables
-
-table_shifted : (n : ℕ) (d : Diagram) → has_table (shifted n d) ≡ has_table d
-table_shifted n (Primitive p) = refl
-table_shifted n (Constant z) = refl
-table_shifted n (Control k) = refl
-table_shifted n (Slot s) = refl
-table_shifted n (Wave w) = refl
-table_shifted n (Table T writes) = refl
-table_shifted n (Bind s a) = table_shifted n a
-table_shifted n (Par a b) = ap₂ (λ x y. x || y) (table_shifted n a) (table_shifted n b)
-table_shifted n (Seq a b) = ap₂ (λ x y. x || y) (table_shifted n a) (table_shifted n b)
-table_shifted n (Split a b) = ap₂ (λ x y. x || y) (table_shifted n a) (table_shifted n b)
-table_shifted n (Merge a b) = ap₂ (λ x y. x || y) (table_shifted n a) (table_shifted n b)
-table_shifted n (Rec a b) = ap₂ (λ x y. x || y) (table_shifted n a) (table_shifted n b)
-
-tableless_beside : (n : ℕ) (ps : List Part) → All (λ (p : Part). has_table p.diagram ≡ false) ps → has_table (side_by_side n ps) ≡ false
-tableless_beside n [] h = refl
-tableless_beside n (p ∷ ps) h =
-    ap₂ (λ x y. x || y) (table_shifted n p.diagram ∙ All-head (λ (q : Part). has_table q.diagram ≡ false) p ps h)
-    (tableless_beside (n + length p.spans) ps (All-tail (λ (q : Part). has_table q.diagram ≡ false) p ps h))
-
 -- ---- of programs that were read
 
 module _ (rs : List Read) (h : All IsRead rs) where
@@ -160,8 +137,6 @@ module _ (rs : List Read) (h : All IsRead rs) where
         record {
           well = w.well (All-map (λ (p : Part). IsWellFormed p.diagram) part_of ps (λ k d l. let p = play_all k d l in p.well));
           closed = w.closed (All-map (λ (p : Part). HasNoFreeSlot p.diagram) part_of ps (λ k d l. let p = play_all k d l in p.closed));
-          tableless = tableless_beside 0 (map part_of ps) (All-map (λ (p : Part). has_table p.diagram ≡ false) part_of ps (λ k d l.
-              let p = play_all k d l in p.tableless));
           reads =
               let bound = w.controls (All-map (λ (p : Part). control_bound p.diagram ≤ length p.spans) part_of ps (λ k d l.
               let p = play_all k d l in

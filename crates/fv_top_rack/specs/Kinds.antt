@@ -4,7 +4,7 @@ use Rattle.fv_top_words.specs.declared.manner.ProgramKind.{ProgramKind}
 use Rattle.fv_top_words.specs.declared.manner.ProgramKind.TheVariants.{Alone, Rack}
 use Rattle.fv_top_report.specs.declared.refusal.Refusal.{Refusal}
 use Rattle.fv_top_report.specs.Lines.{row_of}
-use Rattle.fv_top_text.specs.Answers.{IsOnce, RefusesOthers}
+use Rattle.fv_top_text.specs.Answers.{IsOnce, IsSome, RefusesOthers}
 use Rattle.fv_top_text.specs.Compiled.{Compiled}
 use Rattle.fv_top_text.specs.Program.{TextIs, is_of_program, bytes_read}
 use Rattle.fv_top_rack.specs.Racks.{RackIs}
@@ -26,6 +26,10 @@ IsOfKind kind refusal = IsTrue (is_of_kind kind (row_of refusal).number)
 -- A file is one thing at most: one program, or refused for one thing.
 abbrev pub IsOneFile : Type 0
 IsOneFile = (kind : ProgramKind) → IsOnce (FileIs kind)
+
+-- Each file is something: a program, or refused.
+abbrev pub IsSomeFile : Type 0
+IsSomeFile = (kind : ProgramKind) → IsSome (λ (file : List ℕ). Unit {0}) (FileIs kind)
 
 -- What is no program is refused for something.
 abbrev pub IsOneOrOther : Type 0

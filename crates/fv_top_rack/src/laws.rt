@@ -1,6 +1,6 @@
 // Laws of files of programs.
 
-ghost use Rattle.fv_top_rack.specs.Kinds.{IsOneFile, IsOneOrOther, FrontIsEnough, ProgramIsWhole};
+ghost use Rattle.fv_top_rack.specs.Kinds.{IsOneFile, IsSomeFile, IsOneOrOther, FrontIsEnough, ProgramIsWhole};
 ghost use Rattle.fv_top_rack.specs.Runs.{JobsAnswer, RunsAgree};
 
 use fv_diagram::answers_alike;
@@ -12,6 +12,7 @@ use fv_top_text::one_program;
 /// A file of each kind is one program, or it is refused for one thing, and never both.
 pub fn one_file()
     ensures once { IsOneFile }
+    ensures some { IsSomeFile }
     ensures either { IsOneOrOther }
 {
     one_program();

@@ -410,7 +410,7 @@ fn takes_the_limits(rt: HostRuntime) -> Result<(), Fail> {
 
 #[test]
 fn checks_programs(rt: HostRuntime) -> Result<(), Fail> {
-    let rows: [(&[u8], u8, &[u8]); 4] = [
+    let rows: [(&[u8], u8, &[u8]); 16] = [
         (
             b"echo(d,g) = + ~ (@(d-1) : *(g) : /(256)); process = par(i,2,echo(11025,128));",
             0,
@@ -427,6 +427,66 @@ fn checks_programs(rt: HostRuntime) -> Result<(), Fail> {
             b"inputs 1 outputs 1 controls 1 size 5 delays 0\n",
         ),
         (b"process = x;", 3, b"refused 17 UnknownName x\n"),
+        (
+            b"process = rdtable(4, (+(1) ~ _), _);",
+            0,
+            b"inputs 1 outputs 1 controls 0 size 3 delays 0\n",
+        ),
+        (
+            b"process = rdtable;",
+            3,
+            b"refused 41 TableForm primitive\n",
+        ),
+        (
+            b"process = rdtable(_,1,_);",
+            3,
+            b"refused 41 TableForm head\n",
+        ),
+        (
+            b"process = rdtable(0,1,_);",
+            3,
+            b"refused 41 TableForm size\n",
+        ),
+        (
+            b"process = rdtable(16777216,1,_);",
+            3,
+            b"refused 42 TableBudget 50331648\n",
+        ),
+        (
+            b"process = rdtable(5592405,1,_);",
+            0,
+            b"inputs 1 outputs 1 controls 0 size 3 delays 0\n",
+        ),
+        (
+            b"process = waveform{10,-20,30}, _ : rdtable;",
+            0,
+            b"inputs 1 outputs 1 controls 0 size 3 delays 0\n",
+        ),
+        (
+            b"process = _ @ (waveform{1,2,3} : !,_);",
+            0,
+            b"inputs 1 outputs 1 controls 0 size 9 delays 3\n",
+        ),
+        (
+            b"process = _ @ (waveform{1,-2} : !,_);",
+            3,
+            b"refused 26 DelayNegative -2\n",
+        ),
+        (
+            b"process = _ @ rdtable(3,7,_);",
+            0,
+            b"inputs 2 outputs 1 controls 0 size 7 delays 7\n",
+        ),
+        (
+            b"process = _ @ rwtable(3,7,_,min(9),_);",
+            3,
+            b"refused 26 DelayNegative -2147483648\n",
+        ),
+        (
+            b"process = _ @ rwtable(3,7,_,(min(9) : max(0)),_);",
+            0,
+            b"inputs 4 outputs 1 controls 0 size 21 delays 9\n",
+        ),
     ];
     for (text, status, line) in rows {
         assert_ends(&rt, rt.alloc(), text, &["check", "p.dsp"], status, line)?;

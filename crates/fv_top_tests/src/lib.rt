@@ -24,4 +24,6 @@ mod rack;
 #[cfg(test)]
 mod runs;
 #[cfg(test)]
+mod tables;
+#[cfg(test)]
 mod workers;

@@ -1,8 +1,8 @@
 -- What a program is, what the code's programs are, and that they can be played.
-use Rattle.std.specs.Prelude.{◌≡◌, ◌≤◌, ◌<◌, ◌^◌, false, All, List, length}
+use Rattle.std.specs.Prelude.{◌≤◌, ◌<◌, ◌^◌, All, List, length}
 use Rattle.fv_base.specs.declared.limits.TheConstants.{MOST_CHANNELS}
 use Rattle.fv_diagram.specs.Arena.{tree_of}
-use Rattle.fv_diagram.specs.Diagram.{Diagram, inputs, outputs, control_bound, has_table, HasNoFreeSlot, IsWellFormed}
+use Rattle.fv_diagram.specs.Diagram.{Diagram, inputs, outputs, control_bound, HasNoFreeSlot, IsWellFormed}
 use Rattle.fv_diagram.specs.Controls.{IsBounded}
 use Rattle.fv_diagram.specs.declared.control.ControlInfo.{ControlInfo}
 use Rattle.fv_eval.specs.Evaluated.{Evaluated}
@@ -16,11 +16,10 @@ pub record Compiled : Type 0 where
 abbrev pub compiled_of : Evaluated → Compiled
 compiled_of p = record { diagram = tree_of p.diagrams p.root; controls = p.controls }
 
--- it can be played, and its channels are those of files
+-- it can be played, where it has no table, and its channels are those of files
 pub record CanPlay (p : Compiled) : Type 0 where
   pub well : IsWellFormed p.diagram
   pub closed : HasNoFreeSlot p.diagram
-  pub tableless : has_table p.diagram ≡ false
   pub reads : control_bound p.diagram ≤ length p.controls
   pub controls : length p.controls < 2 ^ 32
   pub some : 1 ≤ outputs p.diagram

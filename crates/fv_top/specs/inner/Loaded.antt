@@ -3,15 +3,15 @@ use Rattle.std.specs.Prelude.{ℕ, List, Ok}
 use Rattle.fv_outside.specs.Desk.{DeskState}
 use Rattle.fv_top_words.specs.declared.manner.ProgramKind.{ProgramKind}
 use Rattle.fv_top_text.specs.Compiled.{Compiled}
-use Rattle.fv_top_rack.specs.Kinds.{FileIs}
 use Rattle.fv_top_playable.specs.Playables.{IsPlayable}
+use Rattle.fv_top_playable.specs.Tableless.{PlayedIs}
 use Rattle.fv_top_playable.specs.declared.playable.Playable.{Playable}
 use Rattle.fv_top_files.specs.Loading.{IsFile}
 
--- What is played is what the file of this name is.
+-- What is played is that of the file of this name.
 pub record IsProgramOf (kind : ProgramKind) (name : List ℕ) (desk : DeskState) (p : Playable) : Type 0 where
   pub compiled : Compiled
   pub text : List ℕ
   pub file : IsFile name text desk
-  pub is : FileIs kind text (Ok compiled)
+  pub is : PlayedIs kind text (Ok compiled)
   pub playable : IsPlayable compiled p

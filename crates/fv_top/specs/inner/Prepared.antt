@@ -148,10 +148,11 @@ IsEndFor c p g old new stop.Write =
     CannotSay (file_there c p (old.left Input)) old new
     × (IsTrue old.tells → (n : ℕ) × (n ≤ p.sizes.frames) × HasTaken (files_of p.tape) n old new)
 
--- It stopped behind the blocks up to frame g: the output is as it was, or it was begun, and has a part of its file from its front.
+-- It stopped behind the blocks up to frame g: the output is as it was, and no block ran, or it was begun, and has a part of its file
+-- from its front.
 pub record EndsAt (c : Compiled) (p : Prepared) (g : ℕ) (old new : DeskState) (e : Stop) : Type 0 where
   pub streams : Streams p.tape.output.now old new
-  pub output : KeepsOutput old new ⊎ (HasBegun old new × (IsTrue old.tells → IsPrefixOf (new.written Output) (file_there c p (old.left Input))))
+  pub output : (KeepsOutput old new × (g ≡ 0)) ⊎ (HasBegun old new × (IsTrue old.tells → IsPrefixOf (new.written Output) (file_there c p (old.left Input))))
   pub cause : IsEndFor c p g old new e
 
 -- how the samples of an input are stored

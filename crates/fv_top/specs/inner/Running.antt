@@ -5,7 +5,6 @@ use Rattle.fv_base.specs.declared.role.Role.TheVariants.{Program, Controls, Inpu
 use Rattle.fv_base.specs.Lists.{IsPrefixOf}
 use Rattle.fv_outside.specs.Requests.{Request, to_read}
 use Rattle.fv_outside.specs.Desk.{DeskState, GoesOn, HasFault, KeepsQuiet, KeepsFaults, Appends}
-use Rattle.fv_top_words.specs.declared.manner.ProgramKind.TheVariants.{Alone}
 use Rattle.fv_top_words.specs.Runs.{Run}
 use Rattle.fv_top_words.specs.Commands.{Playing, Checking, Making}
 use Rattle.fv_file_tape.specs.Tapes.{KeepsOutput}
@@ -14,6 +13,7 @@ use Rattle.fv_top_report.specs.declared.refusal.Refusal.TheVariants.{WriteFault}
 use Rattle.fv_top_files.specs.Loading.{reading}
 use Rattle.fv_top.specs.Meant.{check_meant, make_meant, made_sum, written_by}
 use Rattle.fv_top_text.specs.Compiled.{Compiled}
+use Rattle.fv_top_text.specs.Program.{TextIs}
 use Rattle.fv_top_report.specs.Lines.{refused_line}
 use Rattle.fv_top.specs.Steps.{Ends}
 use Rattle.fv_top.specs.Promise.{HasProgram, Step, ReadProgram, ReadScript, ReadHead, Fit, run_rules, check_rules, check_steps}
@@ -56,7 +56,7 @@ pub record Checks (name : List ℕ) (old new : DeskState) : Type 0 where
   pub others : KeepsOthers (IsReadBy (Checking name)) old new
   pub faults : KeepsFaults old new
   pub begins : new.begins Output ≡ old.begins Output
-  pub told : IsTrue old.tells → (p : HasProgram Alone name old.files) × ((r : Role) → new.written r ≡ written_by (check_meant p.compiled) old r)
+  pub told : IsTrue old.tells → (p : HasProgram TextIs name old.files) × ((r : Role) → new.written r ≡ written_by (check_meant p.compiled) old r)
 
 -- It could not be, before its refusal is reported.
 pub record StopsCheck (name : List ℕ) (old new : DeskState) (refusal : Refusal) : Type 0 where
@@ -68,7 +68,7 @@ pub record StopsCheck (name : List ℕ) (old new : DeskState) (refusal : Refusal
   pub begun : List ℕ
   pub appended : IsTrue old.tells → new.written Report ≡ old.written Report ++ begun
   pub is_begun : (begun ≡ [])
-      ⊎ ((refusal ≡ WriteFault Report) × (IsTrue old.tells → (p : HasProgram Alone name old.files) × IsPrefixOf begun (check_meant p.compiled).line))
+      ⊎ ((refusal ≡ WriteFault Report) × (IsTrue old.tells → (p : HasProgram TextIs name old.files) × IsPrefixOf begun (check_meant p.compiled).line))
   pub faults : CountsFaultOf refusal old new
 
 -- ---- a make

@@ -6,8 +6,7 @@ use Rattle.fv_diagram.specs.Diagram.{inputs, outputs, size}
 use Rattle.fv_eval.specs.Evaluated.{Evaluated}
 use Rattle.fv_top_report.specs.Lines.{check_line}
 use Rattle.fv_top.specs.Meant.{check_meant}
-use Rattle.fv_top_text.specs.Program.{IsOfText}
-use Rattle.fv_top_words.specs.declared.manner.ProgramKind.TheVariants.{Alone}
+use Rattle.fv_top_text.specs.Program.{TextIs, IsOfText}
 use Rattle.fv_top.specs.Promise.{HasNoProgram}
 use Rattle.fv_base.specs.declared.role.Role.TheVariants.{Program}
 use Rattle.fv_top_text.specs.Compiled.{compiled_of}
@@ -21,7 +20,7 @@ pub returns-in_err-program-clause-stops : goal.returns-in_err-program-clause-sto
 returns-in_err-program-clause-stops g c =
     let name = c.args.name.now in
     let a = g.D.Desk.state c.args.desk.now in
-    let fails : FailsToLoad Program (Some name) IsOfText (HasNoProgram Alone name a.files) a (g.D.Desk.state c.load_program.new.desk)
+    let fails : FailsToLoad Program (Some name) IsOfText (HasNoProgram TextIs name a.files) a (g.D.Desk.state c.load_program.new.desk)
     c.in_err-program.field-0.0 = record {
       reads = c.load_program.ensures.reads;
       stops = c.in_err-program.ensures.err;

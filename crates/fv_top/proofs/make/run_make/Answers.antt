@@ -1,4 +1,4 @@
-use Rattle.std.proofs.Common.{ap, inl, inr, to_z, of_z, to_z-of_z, SFits, w32, rules}
+use Rattle.std.proofs.Common.{refl, ap, inl, inr, to_z, of_z, to_z-of_z, SFits, w32, rules}
 use Rattle.std.proofs.lemmas.Result.{err_from_is_err_and}
 use Rattle.fv_top.proofs.Making.{same_sum, not_the_report, make_stops, make_tells, make_done}
 use Rattle.fv_top.proofs.make.run_make.Goals as goal
@@ -33,4 +33,4 @@ returns-in-Err-clause-stops g c =
 pub returns-in-Err-clause-so_far : goal.returns-in-Err-clause-so_far
 returns-in-Err-clause-so_far g c =
     let ran = c.in_ok-made.made.ran in
-    inr (record { blocks = ran.blocks; loops = ran.loops; runs = ran.loop_runs; ran = c.in_ok-made.ensures.ran })
+    inr (refl, record { blocks = ran.blocks; loops = ran.loops; runs = ran.loop_runs; ran = c.in_ok-made.ensures.ran })

@@ -1,4 +1,4 @@
-use Rattle.std.proofs.Common.{◌≡◌, List, [], ◌*◌, length, arith, sym, ◌∙◌, ap, subst, refl, pos, to_z, to_z-of_z, SFits, w32, rules}
+use Rattle.std.proofs.Common.{◌≡◌, ℕ, ℤ, List, [], ◌*◌, length, arith, sym, ◌∙◌, ap, ap₂, subst, refl, pos, to_z, to_z-of_z, SFits, w32, rules}
 use Rattle.std.specs.Prelude.{All}
 use Rattle.std.proofs.lemmas.Int.{to_z_pos}
 use Rattle.fv_diagram.specs.Controls.{IsBounded}
@@ -6,7 +6,9 @@ use Rattle.fv_diagram.specs.Diagram.{inputs}
 use Rattle.fv_diagram.specs.declared.control.ControlInfo.{ControlInfo}
 use Rattle.fv_engine_render.specs.Render.{CanBePlayed, RanWhole, initial_of}
 use Rattle.fv_top_make.specs.Made.{sum_of, noise_of}
-use Rattle.fv_top.specs.Played.{make_sizes}
+use Rattle.fv_engine_render.specs.declared.blocks.RunSizes.{RunSizes}
+use Rattle.fv_control.specs.Streams.{control_streams}
+use Rattle.fv_diagram.specs.Samples.{answer_on}
 use Rattle.fv_top.proofs.Making.{answer_alike, noise_heard}
 use Rattle.fv_top.proofs.Ran.{can_be_played, set_to_play}
 use Rattle.fv_top.proofs.make.sum_on_noise.Goals as goal
@@ -41,21 +43,23 @@ returns-clause-sum g c = λ m h.
     let set = set_to_play m p c.deref.result.now _ _ _ h c.deref.ensures.value refl refl c.deref-2.ensures.value c.in_ok-ready.ensures in
     let k = c.in-Ok.ensures.samples m.diagram set in
     let one : inputs m.diagram ≡ 1 = sym h.inputs ∙ c.requires.one in
-    let long : length k.0 ≡ f = k.1 ∙ ap (λ n. f * n) one ∙ omega arith in
+    let frames : c.make_sizes-sizes.result.frames ≡ f = ap (λ (s : RunSizes). s.frames) c.make_sizes-sizes.ensures in
+    let long : length k.0 ≡ f = k.1 ∙ ap₂ (λ n i. n * i) frames one ∙ omega arith in
     let few = c.requires.voices in
     let state : to_z w32 v ≡ pos v = to_z_pos w32 v (omega (arith, few)) in
     let made = noise_heard v f c.sums_add_up.ensures k.2 long state refl in
     let fits : SFits w32 c.render_tape.new.world.sum = search rules in
     let own = ap initial_of (c.deref-2.ensures.value ∙ h.controls) in
     let answered = answer_alike m.diagram (initial_of c.deref-2.result.now) (initial_of m.controls) f k.0 (noise_of v f) own made.0 in
-    to_z-of_z fits ∙ made.1 ∙ ap sum_of answered
+    let sum : ℕ → ℤ = λ n. sum_of (answer_on m.diagram (control_streams [] (initial_of c.deref-2.result.now)) n k.0) in
+    to_z-of_z fits ∙ made.1 ∙ ap sum frames ∙ ap sum_of answered
 
 pub returns-clause-ran : goal.returns-clause-ran
 returns-clause-ran g c = λ m h.
     let p = c.args.playable.now in
     let set = set_to_play m p c.deref.result.now _ _ _ h c.deref.ensures.value refl refl c.deref-2.ensures.value c.in_ok-ready.ensures in
-    let sizes = make_sizes c.args.workers c.args.frames in
     let before = g.G.Gate.told c.args.gate.now in
     let after = g.G.Gate.told c.render_tape.new.gate in
-    subst (λ (ks : List ControlInfo). RanWhole m.diagram ks [] sizes c.in-Ok.ran before after) (c.deref-2.ensures.value ∙ h.controls)
-    (c.in-Ok.ensures.ran m.diagram set)
+    subst (λ (s : RunSizes). RanWhole m.diagram m.controls [] s c.in-Ok.ran before after) c.make_sizes-sizes.ensures
+    (subst (λ (ks : List ControlInfo). RanWhole m.diagram ks [] c.make_sizes-sizes.result c.in-Ok.ran before after) (c.deref-2.ensures.value ∙ h.controls)
+    (c.in-Ok.ensures.ran m.diagram set))

@@ -93,7 +93,7 @@ pub returns-in_err-ran-in-Make-clause-so_far : goal.returns-in_err-ran-in-Make-c
 returns-in_err-ran-in-Make-clause-so_far g c =
     let asks = make_asked g (goal.at.returns-in_err-ran-in-Make-clause-so_far g c).In-Make in
     let p = err_from_is_err_and c.from_residual-in_err-ran-in-Make.result c.from_residual-in_err-ran-in-Make.ensures.1 in
-    rw (p.1, p.2) (⊎_elim (λ h. untold_first asks h.1 h.0) (λ m. inr (make_so_far asks m)) c.in_err-ran-in-Make.ensures.so_far)
+    rw (p.1, p.2) (⊎_elim (λ h. untold_first asks h.1 h.0) (λ m. inr (make_so_far asks m.0 m.1)) c.in_err-ran-in-Make.ensures.so_far)
 
 pub returns-in_ok-ran-in-Make-clause-blocks : goal.returns-in_ok-ran-in-Make-clause-blocks
 returns-in_ok-ran-in-Make-clause-blocks g c = record {

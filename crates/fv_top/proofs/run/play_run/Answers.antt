@@ -55,11 +55,12 @@ returns-in_err-ran-clause-so_far g c =
     let can = c.in_ok-prepared.ensures.ready in
     let s = c.in_err-ran.ensures.stops can.0 can.1 in
     let a = g.D.Desk.state c.args.desk.now in
+    let b = g.D.Desk.state c.play.new.desk in
     let before = g.G.Gate.told c.args.gate.now in
     let after = g.G.Gate.told c.play.new.gate in
     rw (p.1, p.2) (λ words asks.
-    inr (subst (λ (r : Refusal). RanSoFar words r a before after) (sym s.is)
-    (blocks_stopped (ready g at.In_ok-prepared asks) (g.D.Desk.state c.play.new.desk) s.frame s.stop s.ends s.ran)))
+    inr (subst (λ (r : Refusal). RanSoFar words r a b before after) (sym s.is)
+    (blocks_stopped (ready g at.In_ok-prepared asks) b s.frame s.stop s.ends s.ran)))
 
 pub returns-in-Err-clause-stops : goal.returns-in-Err-clause-stops
 returns-in-Err-clause-stops g c = λ words asks.
@@ -74,7 +75,10 @@ pub returns-in-Err-clause-so_far : goal.returns-in-Err-clause-so_far
 returns-in-Err-clause-so_far g c = λ words asks.
     let at = goal.at.returns-in-Err-clause-so_far g c in
     let can = c.in_ok-prepared.ensures.ready in
-    inr (blocks_told (ready g at.In_ok-prepared asks) (c.in_ok-ran.ensures.ran can.0 can.1))
+    let b = g.D.Desk.state c.play.new.desk in
+    let d = g.D.Desk.state c.report_done.new.desk in
+    inr (blocks_told (ready g at.In_ok-prepared asks) b d (c.in_ok-ran.ensures.played can.0 can.1).begun (c.in-Err.ensures.err.2.begins Output)
+    (c.in_ok-ran.ensures.ran can.0 can.1))
 
 -- ---- it is done
 

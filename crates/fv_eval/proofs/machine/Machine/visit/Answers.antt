@@ -60,7 +60,7 @@ returns-in-List c =
     let m = c.args.self.now in
     let id = c.args.id in
     let e = c.args.env in
-    let r = c.not_a_diagram.result in
+    let r = c.not_a_diagram-in-List.result in
     subst (λ (x : Parsed). Begins x m m (Err r) e (tree_in x id)) c.tree-tree.ensures
     (list_begins q m m id e c.in-List.field-0.items r
-    (c.node.ensures.tree ∙ ap (λ (n : TreeNode). node_tree q n (start_in q id)) c.in-List.is) c.not_a_diagram.ensures)
+    (c.node.ensures.tree ∙ ap (λ (n : TreeNode). node_tree q n (start_in q id)) c.in-List.is) c.not_a_diagram-in-List.ensures)

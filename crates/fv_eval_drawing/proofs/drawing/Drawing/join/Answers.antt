@@ -1,7 +1,8 @@
 use Rattle.std.proofs.Common.{sym, subst}
 use Rattle.fv_parse_grammar.specs.declared.form.Operator.{Operator}
+use Rattle.fv_diagram.specs.declared.node.Primitive.{Primitive}
 use Rattle.fv_diagram.specs.Arena.{tree_of}
-use Rattle.fv_rules.specs.Rules.{joined}
+use Rattle.fv_rules.specs.Rules.{joined, operated}
 use Rattle.fv_eval_drawing.specs.Makes.{Makes}
 use Rattle.fv_eval_drawing.proofs.drawing.Drawing.join.Goals as goal
 
@@ -38,3 +39,10 @@ returns-in-Merge-clause-makes c =
     let b = tree_of c.args.self.now.diagrams c.args.right in
     subst (λ (o : Operator). Makes c.args.self.now c.put-in-Merge.new.self (joined o a b) c.put-in-Merge.result)
     (sym c.in-Merge.is) c.put-in-Merge.ensures.makes
+
+pub returns-in-Infix-clause-makes : goal.returns-in-Infix-clause-makes
+returns-in-Infix-clause-makes c =
+    let a = tree_of c.args.self.now.diagrams c.args.left in
+    let b = tree_of c.args.self.now.diagrams c.args.right in
+    subst (λ (o : Operator). Makes c.args.self.now c.operate.new.self (joined o a b) c.operate.result) (sym c.in-Infix.is)
+    (subst (λ (p : Primitive). Makes c.args.self.now c.operate.new.self (operated p a b) c.operate.result) c.primitive_of.ensures c.operate.ensures.makes)
