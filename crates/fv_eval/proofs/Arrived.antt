@@ -25,7 +25,7 @@ use Rattle.fv_eval.specs.declared.continuation.ForValue as code_for_value
 use Rattle.fv_eval.specs.declared.continuation.ForValue.TheVariants as valued
 use Rattle.fv_eval.specs.declared.continuation.ForDiagram as code_for_diagram
 use Rattle.fv_eval.specs.declared.machine.Machine as code_machine
-use Rattle.fv_eval.specs.inner.Continuations.{DrawnThere, Goes, Grew, IsShown, Keeps, Runs, ShowsForDiagram, ShowsForValue, ShowsContinuation}
+use Rattle.fv_eval.specs.inner.Continuations.{DrawnThere, Goes, Grew, IsShown, Keeps, Knows, Runs, ShowsForDiagram, ShowsForValue, ShowsContinuation}
 use Rattle.fv_eval.specs.inner.Continuations.{ShowsContinuations, ShowsSlider, Steps}
 use Rattle.fv_eval.specs.inner.Continuations.{ValuedShown, state_of, world}
 use Rattle.fv_eval.proofs.Moves.{steps_on}
@@ -111,14 +111,14 @@ no_push (y ∷ xs) x e = cc
 pub popped : (p : Parsed) (m : code_machine.Machine) (fs : List code_continuation.Continuation) (f : code_continuation.Continuation) (Fs : List Continuation)
     → m.continuations ≡ fs ++ f ∷ [] → Keeps p m Fs
     → (F : Continuation) × (Gs : List Continuation) × (Fs ≡ F ∷ Gs) × ShowsContinuation (world p m) f F × ShowsContinuations (world p m) fs Gs
-popped p m fs f [] e k = absurd (no_push fs f (sym e ∙ k))
+popped p m fs f [] e k = absurd (no_push fs f (sym e ∙ k.1))
 popped p m fs f (F ∷ Gs) e k =
-    let same = same_from_push k.0 fs k.1 f (sym k.2 ∙ e) in (
+    let same = same_from_push k.1.0 fs k.1.1 f (sym k.1.2 ∙ e) in (
       F,
       Gs,
       refl,
-      subst (λ (x : code_continuation.Continuation). ShowsContinuation (world p m) x F) same.1 k.3,
-      subst (λ (xs : List code_continuation.Continuation). ShowsContinuations (world p m) xs Gs) same.0 k.4,
+      subst (λ (x : code_continuation.Continuation). ShowsContinuation (world p m) x F) same.1 k.1.3,
+      subst (λ (xs : List code_continuation.Continuation). ShowsContinuations (world p m) xs Gs) same.0 k.1.4,
     )
 
 -- it is shown
@@ -149,6 +149,10 @@ first_drawn p m fs f u e h = let t = first_shown p m fs (continuation.Drawn f) u
 pub given_shown : (p : Parsed) (m : code_machine.Machine) (u : code_value.Value) → Runs p m (focus.Give u) → IsShown (world p m) u
 given_shown p m u h = (h.1.0, h.1.3)
 
+-- what is remembered of patterns is true
+pub given_known : (p : Parsed) (m : code_machine.Machine) (u : code_value.Value) → Runs p m (focus.Give u) → Knows p m
+given_known p m u h = h.1.4.0
+
 -- ---- a value is given
 
 -- nothing waits
@@ -156,13 +160,13 @@ pub arrives_last : (p : Parsed) (m : code_machine.Machine) (fs : List code_conti
     → m.continuations ≡ [] → (v : Value) → ShowsValue (world p m) u v
     → Steps p m (record m { continuations = fs }) (Ok (focus.Done u)) (λ Fs s. arrives p.tokens v Fs s)
 arrives_last p m fs u e v h [] k = (v, refl, h)
-arrives_last p m fs u e v h (F ∷ Gs) k = absurd (no_push k.0 k.1 (sym k.2 ∙ e))
+arrives_last p m fs u e v h (F ∷ Gs) k = absurd (no_push k.1.0 k.1.1 (sym k.1.2 ∙ e))
 
 valued_first : (p : Parsed) (m n : code_machine.Machine)
     (fs : List code_continuation.Continuation) (f : code_for_value.ForValue) (r : Result code_focus.Focus EvalRefusal) (u : code_value.Value)
     → Resumes p (record m { continuations = fs }) n r f u
     → (v : Value) → ShowsValue (world p m) u v → (F : Continuation) (Gs : List Continuation) → ShowsContinuation (world p m) (continuation.Valued f) F
-    → ShowsContinuations (world p m) fs Gs → Goes p n r (arrives p.tokens v (F ∷ Gs) (state_of m))
+    → Keeps p (record m { continuations = fs }) Gs → Goes p n r (arrives p.tokens v (F ∷ Gs) (state_of m))
 valued_first p m n fs f r u go v h (Valued G) Gs k ks = go G v k h Gs ks
 valued_first p m n fs f r u go v h (Drawn G) Gs k ks = absurd k
 
@@ -175,7 +179,7 @@ pub arrives_valued : (p : Parsed)
     → Steps p m n r (λ Fs s. arrives p.tokens v Fs s)
 arrives_valued p m n fs f r u e go v h Fs k =
     let t = popped p m fs (continuation.Valued f) Fs e k in
-    subst (λ (Hs : List Continuation). Goes p n r (arrives p.tokens v Hs (state_of m))) (sym t.2) (valued_first p m n fs f r u go v h t.0 t.1 t.3 t.4)
+    subst (λ (Hs : List Continuation). Goes p n r (arrives p.tokens v Hs (state_of m))) (sym t.2) (valued_first p m n fs f r u go v h t.0 t.1 t.3 (k.0, t.4))
 
 -- what a continuation makes of a value that is turned into a diagram
 abbrev pub Turns : Parsed → (m n : code_machine.Machine) → Result code_focus.Focus EvalRefusal → code_for_diagram.ForDiagram → code_value.Value → Type 0
@@ -186,7 +190,7 @@ drawn_first : (p : Parsed) (m n : code_machine.Machine)
     (fs : List code_continuation.Continuation) (f : code_for_diagram.ForDiagram) (r : Result code_focus.Focus EvalRefusal) (u : code_value.Value)
     → Turns p (record m { continuations = fs }) n r f u
     → (v : Value) → ShowsValue (world p m) u v → (F : Continuation) (Gs : List Continuation) → ShowsContinuation (world p m) (continuation.Drawn f) F
-    → ShowsContinuations (world p m) fs Gs → Goes p n r (arrives p.tokens v (F ∷ Gs) (state_of m))
+    → Keeps p (record m { continuations = fs }) Gs → Goes p n r (arrives p.tokens v (F ∷ Gs) (state_of m))
 drawn_first p m n fs f r u go v h (Drawn G) Gs k ks = go G v k h Gs ks
 drawn_first p m n fs f r u go v h (Valued G) Gs k ks = absurd k
 
@@ -198,4 +202,4 @@ pub arrives_drawn : (p : Parsed)
     → Steps p m n r (λ Fs s. arrives p.tokens v Fs s)
 arrives_drawn p m n fs f r u e go v h Fs k =
     let t = popped p m fs (continuation.Drawn f) Fs e k in
-    subst (λ (Hs : List Continuation). Goes p n r (arrives p.tokens v Hs (state_of m))) (sym t.2) (drawn_first p m n fs f r u go v h t.0 t.1 t.3 t.4)
+    subst (λ (Hs : List Continuation). Goes p n r (arrives p.tokens v Hs (state_of m))) (sym t.2) (drawn_first p m n fs f r u go v h t.0 t.1 t.3 (k.0, t.4))

@@ -147,7 +147,7 @@ chose p m n r new app body e i bindings us at binds go s f ys E a more (Some xb)
     let with_taken : List code_argument.Argument → World = λ q. record w { taken = q } in
     let lists : Grows (world p m) (world p n1) =
     subst (λ (q : List code_argument.Argument). Grows (world p m) (with_taken q)) (sym same) (grows (world p m) refl) in
-    let grew : Grew p m n1 = record { lists = lists; continuations = refl; state = refl } in
+    let grew : Grew p m n1 = record { lists = lists; continuations = refl; state = refl; knows = λ k. k } in
     let inner : ShowsEnv (world p n1) i (bound_in E xb.1) =
     subst (λ (q : List code_argument.Argument). ShowsEnv (with_taken q) i (bound_in E xb.1)) (sym same) (bound (world p m) E xb.1 refl env h.1) in
     steps_on p m n1 n r (λ Fs q. select p.tokens s E (Some xb) more Fs q) grew

@@ -15,11 +15,14 @@ use Rattle.fv_rules.specs.Values.{Value, Flat, Env}
 use Rattle.fv_rules.specs.Steps.{State, Outcome, Eval}
 use Rattle.fv_eval_scopes.specs.Shows.{Grows, ShowsTree, ShowsValue, ShowsEnv}
 use Rattle.fv_eval_scopes.proofs.Grown.{diagrams_come, scope_opens, grows_on}
+use Rattle.fv_eval_choosing.specs.declared.fits.Fit.{Fit}
+use Rattle.fv_eval_choosing.specs.Fits.{Recalls}
+use Rattle.fv_eval_choosing.proofs.LongPatterns.{recalls_grow}
 use Rattle.fv_eval_machine.specs.Machine.{Continuation, Visit, Give, Config, Running, Ended, given}
 use Rattle.fv_eval.specs.declared.continuation.Focus as code_focus
 use Rattle.fv_eval.specs.declared.continuation.Focus.TheVariants as focus
 use Rattle.fv_eval.specs.declared.machine.Machine as code_machine
-use Rattle.fv_eval.specs.inner.Continuations.{world, state_of, ShowsContinuations, Keeps, Goes, Steps, Grew}
+use Rattle.fv_eval.specs.inner.Continuations.{world, state_of, ShowsContinuations, Keeps, Knows, Goes, Steps, Grew}
 use Rattle.fv_eval.proofs.Grown.{continuations_grow}
 
 -- ---- lists that grow
@@ -30,15 +33,19 @@ grew_on p a b c g h = record {
   continuations = h.continuations
       ∙ g.continuations;
   state = h.state ∙ g.state;
+  knows = λ k. h.knows (g.knows k);
 }
 
 pub grew_itself : (p : Parsed) (m : code_machine.Machine) → Grew p m m
-grew_itself p m = record { lists = record { tree = refl; diagrams = λ i d h. h; scopes = λ i x h. h; taken = λ i x h. h }; continuations = refl; state = refl }
+grew_itself p m = record { lists = record { tree = refl; diagrams = λ i d h. h; scopes = λ i x h. h; taken = λ i x h. h }; continuations = refl; state = refl; knows = λ k. k }
 
 -- diagrams were put
 pub drawn_grows : (p : Parsed) (m : code_machine.Machine) (new : Canvas) → Extends m.drawing new
     → Grows (world p m) (world p (record m { drawing = new }))
 drawn_grows p m new g = diagrams_come (world p m) new.diagrams g.longer g.trees
+
+knows_drawn : (p : Parsed) (m : code_machine.Machine) (new : Canvas) → Extends m.drawing new → Knows p m → Knows p (record m { drawing = new })
+knows_drawn p m new g = recalls_grow p m.drawing.diagrams new.diagrams g.longer g.trees m.fits
 
 -- and the table sum is the same
 pub drawn_grew : (p : Parsed) (m : code_machine.Machine) (new : Canvas) → AddsDiagrams m.drawing new → Grew p m (record m { drawing = new })
@@ -46,6 +53,17 @@ drawn_grew p m new g = record {
   lists = drawn_grows p m new g.keeps;
   continuations = refl;
   state = ap (λ (n : ℕ). record (state_of m) { tables = n }) g.tables;
+  knows = knows_drawn p m new g.keeps;
+}
+
+-- a rule was chosen
+pub chosen_grew : (p : Parsed) (m : code_machine.Machine) (new : Canvas) (fs : List Fit) → AddsDiagrams m.drawing new → Recalls p new.diagrams fs
+    → Grew p m (record m { drawing = new; fits = fs })
+chosen_grew p m new fs g recalls = record {
+  lists = drawn_grows p m new g.keeps;
+  continuations = refl;
+  state = ap (λ (n : ℕ). record (state_of m) { tables = n }) g.tables;
+  knows = λ k. recalls;
 }
 
 -- an environment was made
@@ -53,12 +71,14 @@ pub scoped_grew : (p : Parsed) (m : code_machine.Machine) (new : Environments) (
     → new ≡ with_scope m.scopes x → Grew p m (record m { scopes = new })
 scoped_grew p m new x e =
     subst (λ (s : Environments). Grew p m (record m { scopes = s })) (sym e)
-    (record { lists = scope_opens (world p m) x; continuations = refl; state = refl })
+    (record { lists = scope_opens (world p m) x; continuations = refl; state = refl; knows = λ k. k })
 
 -- pending work is still shown
 pub keeps_on : (p : Parsed) (a b : code_machine.Machine) → Grew p a b → (Fs : List Continuation) → Keeps p a Fs → Keeps p b Fs
-keeps_on p a b g Fs k = subst (λ fs. ShowsContinuations (world p b) fs Fs) (sym g.continuations)
-    (continuations_grow (world p a) (world p b) g.lists a.continuations Fs k)
+keeps_on p a b g Fs k = (
+  g.knows k.0,
+  subst (λ fs. ShowsContinuations (world p b) fs Fs) (sym g.continuations) (continuations_grow (world p a) (world p b) g.lists a.continuations Fs k.1),
+)
 
 -- after growing the rest goes on as from the start
 pub steps_on : (p : Parsed) (a b c : code_machine.Machine) (r : Result code_focus.Focus EvalRefusal) (next : List Continuation → State → Config)
@@ -89,7 +109,10 @@ put_goes p m new i o g h Fs k = (
   Fs,
   ap (λ (x : Outcome Value). given x Fs) (h.1 (state_of m)),
   (h.0, refl),
-  continuations_grow (world p m) (world p (record m { drawing = new })) (drawn_grows p m new g) m.continuations Fs k,
+  (
+    knows_drawn p m new g k.0,
+    continuations_grow (world p m) (world p (record m { drawing = new })) (drawn_grows p m new g) m.continuations Fs k.1,
+  ),
 )
 
 -- one that was refused

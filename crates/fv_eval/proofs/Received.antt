@@ -177,7 +177,7 @@ next_turns p m fs f at next us is u got one pushed d (v ∷ more) ds h k g Fs ke
       Drawn (Turning d more ds) ∷ Fs,
       refl,
       first_left (world p m) us.items at u v more got k,
-      (m.continuations, continuation.Drawn (drawn.Turning f us next is), pushed, (h, rest, g), kept),
+      (kept.0, (m.continuations, continuation.Drawn (drawn.Turning f us next is), pushed, (h, rest, g), kept.1)),
     )
 
 -- all are turned, and the diagram is fed with them

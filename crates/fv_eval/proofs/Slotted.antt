@@ -66,6 +66,7 @@ one_slot p m0 m d s bound i i1 next g h low one more =
       lists = grows_on (world p m0) (world p m) (world p (with_slot m d s next)) h.lists g.lists;
       continuations = g.continuations ∙ h.continuations;
       state = ap (λ (t : State). record t { slot = next }) (g.state ∙ h.state) ∙ ap (λ (k : ℕ). record (state_of m0) { slot = k }) e;
+      knows = λ k. g.knows (h.knows k);
     }
 
 one_inner : (p : Parsed) (m : code_machine.Machine) (d : Canvas) (s : Environments) (f i i1 next name slot inner e1 slot0 : ℕ)
@@ -138,7 +139,7 @@ abstraction_turns p m m1 fs gs g f bound env count inner body slots counted take
     taken.state ∙ ap (λ (j : ℕ). record (state_of m) { slot = m.slot + j }) number in
     let below : ShowsContinuations new m1.continuations Fs =
     subst (λ (ys : List code_continuation.Continuation). ShowsContinuations new ys Fs) (sym taken.continuations)
-    (continuations_grow old new taken.lists m.continuations Fs kept) in
+    (continuations_grow old new taken.lists m.continuations Fs kept.1) in
     let waits : ShowsContinuations new fs (Drawn F ∷ Fs) = (
       m1.continuations,
       continuation.Drawn g,
@@ -166,7 +167,7 @@ abstraction_turns p m m1 fs gs g f bound env count inner body slots counted take
       ap (λ (t : State). Running (Visit b (on_slots (x ∷ xs) m.slot E)) Gs t) (sym state),
       (inside, is ∙ k.2),
       inner_shown,
-      binds,
+      (taken.knows kept.0, binds),
     )
 abstraction_turns p m m1 fs gs g f bound env count inner body slots counted taken shows first second many numbered inside is F v h k Fs kept = absurd k
 

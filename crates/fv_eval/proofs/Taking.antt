@@ -40,7 +40,7 @@ pub argument_grew : (p : Parsed) (m : code_machine.Machine) (new : Environments)
     → new ≡ with_argument m.scopes a → Grew p m (record m { scopes = new })
 argument_grew p m new a e =
     subst (λ (s : Environments). Grew p m (record m { scopes = s })) (sym e)
-    (record { lists = argument_comes (world p m) a; continuations = refl; state = refl })
+    (record { lists = argument_comes (world p m) a; continuations = refl; state = refl; knows = λ k. k })
 
 pub take_shows : (p : Parsed) (m : code_machine.Machine) (new : Environments) (u : code_value.Value) (v : Value) (n k before i : ℕ) (T : Taken)
     → i ≡ length m.scopes.taken

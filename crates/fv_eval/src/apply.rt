@@ -7,7 +7,7 @@ ghost use Rattle.fv_rules.specs.Values.{Env, Taken, Value as Meant};
 ghost use Rattle.fv_rules.specs.Steps.{no_rule};
 ghost use Rattle.fv_eval_scopes.specs.Shows.{IsInside, ShowsEnv, ShowsTaken, ShowsTree, ShowsValue, ShowsValues};
 ghost use Rattle.fv_eval_machine.specs.Machine.{Leftover as Left, Running, Valued, Visit, apply, next_argument};
-ghost use Rattle.fv_eval.specs.inner.Continuations.{AreShown, Chooses, Completes, Grew, IsApplication, IsShown, Selects, ShowsTaking, Steps};
+ghost use Rattle.fv_eval.specs.inner.Continuations.{AreShown, Chooses, Completes, Grew, IsApplication, IsShown, Knows, Selects, ShowsTaking, Steps};
 ghost use Rattle.fv_eval.specs.inner.Continuations.{completed, took, world};
 
 use crate::continuation::{Continuation, Focus, ForValue};
@@ -33,6 +33,7 @@ impl Machine {
         requires form { IsApplication (tree_in text.now application) }
         requires function { IsShown (world text.now self.old) function }
         requires done { AreShown (world text.now self.old) done.items }
+        requires knows { Knows text.now self.old }
         ensures { (s : ℕ) (f ys : Spelled) (v : Meant) (E : Env) (vs : List Meant) → ShowsTree (world text.now self.old) application (Apply s f ys)
             → ShowsValue (world text.now self.old) function v → ShowsEnv (world text.now self.old) env E → ShowsValues (world text.now self.old) done.items vs
             → Steps text.now self.old self.new result (λ Fs t. next_argument text.now.tokens s v (drop (length done.items) (items ys)) E vs Fs t) }
@@ -68,6 +69,7 @@ impl Machine {
         requires application { application < size_of text.now }
         requires function { IsShown (world text.now self.old) function }
         requires arguments { AreShown (world text.now self.old) (drop next arguments.items) }
+        requires knows { Knows text.now self.old }
         ensures { (s : ℕ) (f ys : Spelled) (v : Meant) (vs : List Meant) → ShowsTree (world text.now self.old) application (Apply s f ys)
             → ShowsValue (world text.now self.old) function v → ShowsValues (world text.now self.old) (drop next arguments.items) vs
             → Steps text.now self.old self.new result (λ Fs t. apply text.now.tokens s v vs Fs t) }
@@ -166,6 +168,7 @@ impl Machine {
         requires function { IsShown (world text.now self.old) function }
         requires at { at < length arguments.items }
         requires arguments { AreShown (world text.now self.old) (drop at arguments.items) }
+        requires knows { Knows text.now self.old }
         ensures { Completes text.now self.old self.new result application function arguments.items at }
     {
         match function {
@@ -205,6 +208,7 @@ impl Machine {
         requires inside { IsInside text.now ruled }
         requires taken { (T : Taken) × ShowsTaken (world text.now self.old) count last T }
         requires argument { IsShown (world text.now self.old) argument }
+        requires knows { Knows text.now self.old }
         ensures grew { IfOk result (λ o. Grew text.now self.old self.new) }
         ensures chosen { IfOk result (Chooses text.now self.old self.new ruled count last argument) }
     {
@@ -212,7 +216,7 @@ impl Machine {
         all.push(argument)?;
         let choice = self
             .drawing
-            .choose(self.alloc, text, ruled, all.as_slice())?;
+            .choose(self.alloc, text, ruled, &mut self.fits, all.as_slice())?;
         Ok(choice)
     }
 

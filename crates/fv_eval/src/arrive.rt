@@ -14,7 +14,7 @@ ghost use Rattle.fv_eval_machine.specs.Machine.{Drawn, ForDiagram as Drawing, Fo
 ghost use Rattle.fv_eval_machine.specs.Machine.{value_arrives};
 ghost use Rattle.fv_eval_drawing.specs.Makes.{IsThere as IsDrawn};
 ghost use Rattle.fv_eval.specs.declared.continuation.Focus.TheVariants.{Give as Gives};
-ghost use Rattle.fv_eval.specs.inner.Continuations.{DrawnThere, gave, Grew, IsBinary, IsShown, Runs, ShowsForDiagram, ShowsForValue, Steps};
+ghost use Rattle.fv_eval.specs.inner.Continuations.{DrawnThere, gave, Grew, IsBinary, IsShown, Knows, Runs, ShowsForDiagram, ShowsForValue, Steps};
 ghost use Rattle.fv_eval.specs.inner.Continuations.{ValuedShown, world};
 
 use crate::continuation::{Continuation, Focus, ForDiagram, ForValue};
@@ -67,6 +67,7 @@ impl Machine {
     ) -> Result<Focus, EvalRefusal>
         requires continuation { ValuedShown (world text.now self.old) continuation }
         requires value { IsShown (world text.now self.old) value }
+        requires knows { Knows text.now self.old }
         ensures { (F : Valuing) (v : Meant) → ShowsForValue (world text.now self.old) continuation F → ShowsValue (world text.now self.old) value v
             → Steps text.now self.old self.new result (λ Fs s. value_arrives text.now.tokens F v Fs s) }
     {

@@ -12,7 +12,7 @@ ghost use Rattle.fv_eval.specs.inner.Continuations.{Continues, Ends, Goes, Runs,
 
 use crate::continuation::{Continuation, Continuations, Focus};
 use crate::controls::Controls;
-use fv_eval_choosing::Definitions;
+use fv_eval_choosing::{Definitions, Fits};
 use fv_eval_drawing::Drawing;
 use fv_eval_machine::steps_mean;
 use fv_eval_scopes::{Scopes, Value};
@@ -28,6 +28,8 @@ pub struct Machine {
     pub scopes: Scopes,
     pub controls: Controls,
     pub continuations: Continuations,
+    /// Which long patterns do not match which diagrams.
+    pub fits: Fits,
     /// The visits that are left.
     pub visits: u32,
     /// The next slot.
@@ -38,7 +40,8 @@ impl Machine {
     /// A machine with so many visits, in which nothing waits.
     pub fn new(alloc: Global, visits: u32) -> Machine
         ensures { (result.drawing.diagrams ≡ empty_arena) × (result.scopes ≡ record { scopes = []; taken = [] })
-            × (result.continuations ≡ []) × (state_of result ≡ record { visits = visits; controls = []; slot = 0; tables = 0 }) }
+            × (result.continuations ≡ []) × (state_of result ≡ record { visits = visits; controls = []; slot = 0; tables = 0 })
+            × (result.fits ≡ []) }
     {
         Machine {
             alloc,
@@ -46,6 +49,7 @@ impl Machine {
             scopes: Scopes::new(alloc),
             controls: Controls::new(alloc),
             continuations: Continuations::new(alloc),
+            fits: Fits::new(alloc),
             visits,
             slot: 0,
         }

@@ -132,7 +132,7 @@ abbrev both_matched : Parsed → (l r : ℕ) → Bindings → Diagram × Diagram
 both_matched p l r bs ab = and_then (matched p.tokens (tree_in p l) (Flat ab.0) bs) (λ cs. matched p.tokens (tree_in p r) (Flat ab.1) cs)
 
 -- what a composition answers with the parts of the diagram
-by_parts : (p : Parsed) (a : Arena) (x : Pair) (o : Operator) (l r : ℕ) (parts : Option (Diagram × Diagram)) → IsPaired p x o l r
+pub by_parts : (p : Parsed) (a : Arena) (x : Pair) (o : Operator) (l r : ℕ) (parts : Option (Diagram × Diagram)) → IsPaired p x o l r
     → parts_without (number_of (tree_of a x.diagram)) o (tree_of a x.diagram) ≡ parts → (rest : List (Tree × Diagram)) (bs : Bindings)
     → matched_on p.tokens (pair_of p a x ∷ rest) bs ≡ and_then (and_then parts (both_matched p l r bs)) (matched_on p.tokens rest)
 by_parts p a x o l r parts composed is rest bs =
@@ -278,7 +278,7 @@ waiting_next p a rest x = ap (map (pair_of p a)) (reverse-append rest (x ∷ [])
 waiting_more : (p : Parsed) (a : Arena) (rest more : List Pair) → waiting p a (rest ++ more) ≡ waiting p a more ++ waiting p a rest
 waiting_more p a rest more = ap (map (pair_of p a)) (reverse-append rest more) ∙ map-append (pair_of p a) (reverse more) (reverse rest)
 
-and_then_some : {A : Type 0} (o : Option A) → and_then o Some ≡ o
+pub and_then_some : {A : Type 0} (o : Option A) → and_then o Some ≡ o
 and_then_some None = refl
 and_then_some (Some x) = refl
 

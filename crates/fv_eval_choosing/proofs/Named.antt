@@ -1,6 +1,6 @@
 -- The definitions of a list, by name.
 use Rattle.std.proofs.Common.{◌≡◌, ◌⊎◌, ℕ, zero, suc, ◌+◌, ◌-◌, ◌<◌, ◌≤◌, arith, Bool, true, false, cond, List, [], ◌∷◌, ◌++◌, length, map, take}
-use Rattle.std.proofs.Common.{drop, get_or, Option, Some, None, inl, inr, refl, sym, ap, ap₂, subst, ◌∙◌, All, length-drop, append_assoc}
+use Rattle.std.proofs.Common.{drop, get_or, Option, Some, None, inl, inr, refl, sym, ap, ap₂, subst, ◌∙◌, All, length-drop}
 use Rattle.std.specs.Prelude.{filter, nat_eq, nat_lt, nat_le, not, ◌&&◌}
 use Rattle.std.specs.List.Sorted.{IsPartitionPoint, IsPermutation, IsStableByKey, ties}
 use Rattle.std.specs.Ordering.{nat_cmp, is_lt}
@@ -9,7 +9,7 @@ use Rattle.std.specs.Str.{bytes_eq}
 use Rattle.std.specs.List.{cons_option}
 use Rattle.std.proofs.lemmas.Bool.{eq-eqb, eqb-true, ltb-true, leb-true, ltb-false, leb-false, false≢true, cases_lt}
 use Rattle.std.proofs.lemmas.List.Elements.{All-nil, All-cons, All-tail, filter-append, filter_map-append, filter_agree, All-filter}
-use Rattle.std.proofs.lemmas.List.{map-append, take_more, get_or-drop, get_or_push, get_or_append_left, length_push}
+use Rattle.std.proofs.lemmas.List.{take_more, get_or-drop, get_or_push, get_or_append_left, length_push}
 use Rattle.std.proofs.lemmas.List.Sorted.{All-permutation}
 use Rattle.std.proofs.lemmas.Slice.Eq.{bytes_eq-Decides}
 use Rattle.fv_lex.specs.Token.{Lexed}
@@ -23,7 +23,7 @@ use Rattle.fv_parse_tree.specs.declared.node.TreeNode.TheVariants as nodes
 use Rattle.fv_eval_choosing.specs.declared.by_name.Defined.{Defined}
 use Rattle.fv_rules.specs.Values.{is_of}
 use Rattle.fv_eval_choosing.proofs.RuleNodes.{IsNoFunction, AreOfName}
-use Rattle.fv_eval_choosing.specs.ByName.{is_called, defined_name, called, defined_in, held_by, IsAmong, AreDefined, AreIndexed, AreHeld}
+use Rattle.fv_eval_choosing.specs.ByName.{is_called, defined_name, called, defined_in, IsAmong, AreDefined, AreIndexed, AreHeld, IsAgain, Holds}
 use Rattle.fv_eval_choosing.specs.inner.Lookup.{HoldsNone}
 
 -- ---- what passes a test from one place up to another, and nowhere else
@@ -280,39 +280,23 @@ among_right : (xs ys : List Defined) (i : ℕ) → IsAmong ys i → IsAmong (xs 
 among_right [] ys i h = h
 among_right (x ∷ xs) ys i h = inr (among_right xs ys i h)
 
--- a list that is no holder of a name has no definition of it
-not_held : (n : ℕ) (id : TreeId) (ds : List Defined) → (IsAmong (filter (is_called n) (held_by id ds)) id → ⊥) → filter (is_called n) ds ≡ []
-not_held n id [] h = refl
-not_held n id (d ∷ ds) h =
-    go (nat_eq d.name n) (filter (is_called n) (held_by id ds)) (filter (is_called n) ds) h (λ q. not_held n id ds q)
-  where
-    go : (b : Bool) (hs es : List Defined) → (IsAmong (cond b (record { name = d.name; node = id } ∷ hs) hs) id → ⊥) → ((IsAmong hs id → ⊥) → es ≡ [])
-        → cond b (d ∷ es) es ≡ []
-    go true hs es h f = absurd (h (inl refl))
-    go false hs es h f = f h
-
 pub held_more : (lists more : List (List Defined)) (hs ks ds : List Defined) (id : TreeId) → AreHeld lists hs → id ≡ length lists
-    → more ≡ lists ++ ds ∷ [] → ks ≡ hs ++ held_by id ds → AreHeld more ks
+    → more ≡ lists ++ ds ∷ [] → Holds hs ks id ds → AreHeld more ks
 held_more lists more hs ks ds id h place pushed held = record { none = λ i n d l q. go i n d l q (cases_lt i (length lists)) }
   where
-    split : (n : ℕ) → filter (is_called n) ks ≡ filter (is_called n) hs ++ filter (is_called n) (held_by id ds)
-    split n = ap (filter (is_called n)) held ∙ filter-append (is_called n) hs (held_by id ds)
-
     go : (i n : ℕ) (d : List Defined) → i < length more → (IsAmong (filter (is_called n) ks) i → ⊥) → (i < length lists) ⊎ (length lists ≤ i)
         → filter (is_called n) (get_or more i d) ≡ []
     go i n d l q (inl lt) =
         ap (λ ls. filter (is_called n) (get_or ls i d)) pushed
         ∙ ap (filter (is_called n)) (get_or_append_left lists (ds ∷ []) d i lt)
-        ∙ h.none i n d lt (λ a. q (subst (λ xs. IsAmong xs i) (sym (split n))
-        (among_left (filter (is_called n) hs) (filter (is_called n) (held_by id ds)) i a)))
+        ∙ h.none i n d lt (λ a. q (held.keeps i n a))
     go i n d l q (inr ge) =
         let long : length more ≡ length lists + 1 = ap length pushed ∙ length_push lists ds in
         let same : id ≡ i = omega (arith, place, ge, l, long) in
         ap (λ ls. filter (is_called n) (get_or ls i d)) pushed
         ∙ ap (λ k. filter (is_called n) (get_or (lists ++ ds ∷ []) k d)) (sym same)
         ∙ ap (filter (is_called n)) (get_or_push lists ds d id (sym place))
-        ∙ not_held n id ds (λ a. q (subst (λ xs. IsAmong xs i) (sym (split n))
-        (among_right (filter (is_called n) hs) (filter (is_called n) (held_by id ds)) i (subst (IsAmong (filter (is_called n) (held_by id ds))) same a))))
+        ∙ held.none n (λ a. q (subst (IsAmong (filter (is_called n) ks)) same a))
 
 pub held_sorted : (lists : List (List Defined)) (hs ks : List Defined) → ((n : ℕ) → filter (is_called n) ks ≡ filter (is_called n) hs) → AreHeld lists hs
     → AreHeld lists ks
@@ -330,11 +314,65 @@ holds_none p q lists hs found name view h held is =
     ∙ ap (map (λ (d : Defined). tree_in p d.node)) none)
 
 -- what holds a name, one by one
-pub held_next : (ds : List Defined) (i : ℕ) (d : Defined) (id : TreeId) (hs ks es : List Defined) → i < length ds → d ≡ get_or ds i d
-    → ks ≡ hs ++ held_by id (take i ds) → es ≡ ks ++ record { name = d.name; node = id } ∷ [] → es ≡ hs ++ held_by id (take (i + 1) ds)
-held_next ds i d id hs ks es l here so pushed =
-    pushed ∙ ap (λ xs. xs ++ record { name = d.name; node = id } ∷ []) so
-    ∙ append_assoc hs (held_by id (take i ds)) (record { name = d.name; node = id } ∷ [])
-    ∙ ap (λ xs. hs ++ xs)
-    (sym (map-append (λ (x : Defined). record { name = x.name; node = id }) (take i ds) (d ∷ []))
-    ∙ ap (held_by id) (ap (λ x. take i ds ++ x ∷ []) here ∙ sym (take_more ds i d l)))
+pub holds_begin : (hs : List Defined) (id : TreeId) (ds : List Defined) → Holds hs hs id (take 0 ds)
+holds_begin hs id ds = record { keeps = λ i n h. h; none = λ n h. refl }
+
+-- one definition more, which is of no name that has none
+no_more : (n : ℕ) (ds : List Defined) (i : ℕ) (d : Defined) → i < length ds → filter (is_called n) (take i ds) ≡ [] → nat_eq (get_or ds i d).name n ≡ false
+    → filter (is_called n) (take (i + 1) ds) ≡ []
+no_more n ds i d l none other =
+    ap (filter (is_called n)) (take_more ds i d l) ∙ filter-append (is_called n) (take i ds) (get_or ds i d ∷ [])
+    ∙ ap₂ (λ xs ys. xs ++ ys) none (ap (λ b. cond b (get_or ds i d ∷ []) []) other)
+
+-- a name of which one was found is not one of which there is none
+found_one : (n : ℕ) (ds : List Defined) (i : ℕ) (d : Defined) → i < length ds → filter (is_called n) (take (i + 1) ds) ≡ []
+    → nat_eq (get_or ds i d).name n ≡ false
+found_one n ds i d l none = other (nat_eq (get_or ds i d).name n) (λ e.
+    let all = sym (ap (filter (is_called n)) (take_more ds i d l) ∙ filter-append (is_called n) (take i ds) (get_or ds i d ∷ [])
+    ∙ ap (λ b. filter (is_called n) (take i ds) ++ cond b (get_or ds i d ∷ []) []) e) ∙ none in
+    let long = ap length all in absurd (omega (arith, long, length_push (filter (is_called n) (take i ds)) (get_or ds i d))))
+  where
+    other : (b : Bool) → (b ≡ true → ⊥) → b ≡ false
+    other true h = absurd (h refl)
+    other false h = refl
+
+pub holds_again : (hs ks : List Defined) (id : TreeId) (ds : List Defined) (i : ℕ) → i < length ds → IsAgain ds i → Holds hs ks id (take i ds)
+    → Holds hs ks id (take (i + 1) ds)
+holds_again hs ks id ds zero l again h = absurd again
+holds_again hs ks id ds (suc j) l again h = record { keeps = h.keeps; none = λ n q. none n (h.none n q) }
+  where
+    d : Defined
+    d = record { name = 0; node = id }
+
+    none : (n : ℕ) → filter (is_called n) (take (suc j) ds) ≡ [] → filter (is_called n) (take (suc j + 1) ds) ≡ []
+    none n e =
+        let shorter : filter (is_called n) (take (j + 1) ds) ≡ [] =
+        (let same : suc j ≡ j + 1 = omega arith in subst (λ k. filter (is_called n) (take k ds) ≡ []) same e) in
+        no_more n ds (suc j) d l e (ap (λ m. nat_eq m n) (sym (again d)) ∙ found_one n ds j d (omega (arith, l)) shorter)
+
+pub holds_more : (hs ks es : List Defined) (id : TreeId) (ds : List Defined) (i : ℕ) (x : Defined) → i < length ds → x ≡ get_or ds i x
+    → es ≡ ks ++ record { name = x.name; node = id } ∷ [] → Holds hs ks id (take i ds) → Holds hs es id (take (i + 1) ds)
+holds_more hs ks es id ds i x l here pushed h = record {
+  keeps = λ k n a.
+      subst (λ xs. IsAmong xs k) (sym (split n)) (among_left (filter (is_called n) ks) (filter (is_called n) (d ∷ [])) k (h.keeps k n a));
+  none = λ n q. no_more n ds i x l (h.none n (λ a. q (left n a))) (other (nat_eq (get_or ds i x).name n) (λ e. q (right n e)));
+}
+  where
+    d : Defined
+    d = record { name = x.name; node = id }
+
+    split : (n : ℕ) → filter (is_called n) es ≡ filter (is_called n) ks ++ filter (is_called n) (d ∷ [])
+    split n = ap (filter (is_called n)) pushed ∙ filter-append (is_called n) ks (d ∷ [])
+
+    left : (n : ℕ) → IsAmong (filter (is_called n) ks) id → IsAmong (filter (is_called n) es) id
+    left n a = subst (λ xs. IsAmong xs id) (sym (split n)) (among_left (filter (is_called n) ks) (filter (is_called n) (d ∷ [])) id a)
+
+    right : (n : ℕ) → nat_eq (get_or ds i x).name n ≡ true → IsAmong (filter (is_called n) es) id
+    right n e =
+        let one : IsAmong (filter (is_called n) (d ∷ [])) id =
+        subst (λ b. IsAmong (cond b (d ∷ []) []) id) (sym (ap (λ (y : Defined). nat_eq y.name n) here ∙ e)) (inl refl) in
+        subst (λ xs. IsAmong xs id) (sym (split n)) (among_right (filter (is_called n) ks) (filter (is_called n) (d ∷ [])) id one)
+
+    other : (b : Bool) → (b ≡ true → ⊥) → b ≡ false
+    other true h = absurd (h refl)
+    other false h = refl

@@ -1,5 +1,6 @@
 -- The definitions of a list of a tree, by the canonical numbers of their names (this project's profile).
-use Rattle.std.specs.Prelude.{◌≡◌, ◌⊎◌, ℕ, ◌<◌, Bool, nat_eq, List, [], ◌∷◌, length, map, filter, filter_map, All, Option, Some, None, slice_index_or}
+use Rattle.std.specs.Prelude.{◌≡◌, ◌⊎◌, ℕ, zero, suc, ◌<◌, Bool, nat_eq, List, [], ◌∷◌, length, map, filter}
+use Rattle.std.specs.Prelude.{filter_map, All, Option, Some, None, slice_index_or}
 use Rattle.fv_lex.specs.Token.{Lexed}
 use Rattle.fv_parse_grammar.specs.Tree.{Tree, Constant, Function, items}
 use Rattle.fv_parse.specs.Trees.{Parsed, size_of, tree_in, text_of, first_named}
@@ -37,10 +38,6 @@ pub record AreIndexed (p : Parsed) (lists : List (List Defined)) : Type 0 where
   pub whole : length lists ≡ size_of p
   pub each : (i : ℕ) (d : List Defined) → i < length lists → AreDefined p i (slice_index_or lists i d)
 
--- that a list has these names
-abbrev pub held_by : TreeId → List Defined → List Defined
-held_by id ds = map (λ (d : Defined). record { name = d.name; node = id }) ds
-
 -- a node is among these
 abbrev pub IsAmong : List Defined → ℕ → Type 0
 IsAmong [] i = ⊥
@@ -50,3 +47,13 @@ IsAmong (d ∷ ds) i = (i ≡ d.node) ⊎ IsAmong ds i
 pub record AreHeld (lists : List (List Defined)) (holders : List Defined) : Type 0 where
   pub none : (i n : ℕ) (d : List Defined) → i < length lists → (IsAmong (filter (is_called n) holders) i → ⊥)
       → filter (is_called n) (slice_index_or lists i d) ≡ []
+
+-- a definition has the name of the one before it
+abbrev pub IsAgain : List Defined → ℕ → Type 0
+IsAgain ds zero = ⊥
+IsAgain ds (suc j) = (d : Defined) → (slice_index_or ds j d).name ≡ (slice_index_or ds (suc j) d).name
+
+-- Names were kept of a list: those that were there, and each that it defines.
+pub record Holds (old new : List Defined) (id : TreeId) (ds : List Defined) : Type 0 where
+  pub keeps : (i n : ℕ) → IsAmong (filter (is_called n) old) i → IsAmong (filter (is_called n) new) i
+  pub none : (n : ℕ) → (IsAmong (filter (is_called n) new) id → ⊥) → filter (is_called n) ds ≡ []

@@ -9,11 +9,14 @@ ghost use Rattle.fv_rules.specs.Rules.{width};
 ghost use Rattle.fv_eval_scopes.specs.Shows.{World, IsInside, ShowsValues, ShowsBindings, case_in, rules_in};
 ghost use Rattle.fv_eval_scopes.specs.Memo.{Remembers, AddsIntegers};
 ghost use Rattle.fv_eval_choosing.specs.Choosing.{IsSound, with_diagrams, ShowsMatched};
+ghost use Rattle.fv_eval_choosing.specs.Fits.{Recalls};
 ghost use Rattle.fv_eval_choosing.specs.Literals.{Tells, number_in, told};
 ghost use Rattle.fv_eval_choosing.specs.Chosen.{ShowsChoice, IsRuleAt, IsFirstRule, Chooses, nodes_of};
 
 use crate::by_literal::{ByLiteral, size_of_literal};
 use crate::by_name::Defined;
+use crate::fits::Fits;
+use crate::fitting::may_match;
 use crate::lookup::Definitions;
 use crate::matching::{Bindings, matches_in};
 use fv_diagram::Diagrams;
@@ -179,13 +182,16 @@ impl Definitions<'_> {
         ruled: Ruled,
         diagrams: &mut Diagrams,
         numbers: &mut Numbers,
+        fits: &mut Fits,
         arguments: &[Value],
     ) -> Result<Option<(TreeId, Bindings)>, AllocError>
         requires inside { IsInside self.now ruled }
         requires sound { All (IsSound diagrams.old) arguments.now }
         requires known { Remembers diagrams.old numbers.old }
+        requires recalls { Recalls self.now diagrams.old fits.old }
         ensures adds { AddsIntegers diagrams.old diagrams.new }
         ensures known { Remembers diagrams.new numbers.new }
+        ensures recalls { Recalls self.now diagrams.new fits.new }
         ensures chosen { IfOk result (λ o. (w : World) (vs : List PureValue)
             → w.tree ≡ self.now → w.diagrams ≡ diagrams.old → ShowsValues w arguments.now vs
             → ShowsChoice (with_diagrams w diagrams.new) o (chosen self.now.tokens (rules_in self.now ruled) vs)) }
@@ -195,11 +201,13 @@ impl Definitions<'_> {
         let rules = self.rules(ruled);
         match told {
             None => {
-                let choice = first_match(alloc, tree, rules, diagrams, numbers, arguments)?;
+                let choice = first_match(alloc, tree, rules, diagrams, numbers, fits, arguments)?;
                 Ok(choice)
             }
             Some(sorted) => {
-                let choice = told_match(alloc, tree, rules, sorted, diagrams, numbers, arguments)?;
+                let choice = told_match(
+                    alloc, tree, rules, sorted, diagrams, numbers, fits, arguments,
+                )?;
                 Ok(choice)
             }
         }
@@ -214,21 +222,24 @@ fn told_match(
     sorted: &ByLiteral,
     diagrams: &mut Diagrams,
     numbers: &mut Numbers,
+    fits: &mut Fits,
     arguments: &[Value],
 ) -> Result<Option<(TreeId, Bindings)>, AllocError>
     requires inside { All (λ id. id < size_of tree.now) (nodes_of rules) }
     requires told { Tells tree.now (map (λ id. rule_of (tree_in tree.now id)) (nodes_of rules)) sorted.now }
     requires sound { All (IsSound diagrams.old) arguments.now }
     requires known { Remembers diagrams.old numbers.old }
+    requires recalls { Recalls tree.now diagrams.old fits.old }
     ensures adds { AddsIntegers diagrams.old diagrams.new }
     ensures known { Remembers diagrams.new numbers.new }
+    ensures recalls { Recalls tree.now diagrams.new fits.new }
     ensures chosen { IfOk result (Chooses tree.now (nodes_of rules.entry) arguments.now diagrams.old diagrams.new) }
 {
     let rest = rules.behind(sorted.count);
-    match front_match(alloc, tree, sorted, diagrams, numbers, arguments)? {
+    match front_match(alloc, tree, sorted, diagrams, numbers, fits, arguments)? {
         Some(choice) => Ok(Some(choice)),
         None => {
-            let choice = first_match(alloc, tree, rest, diagrams, numbers, arguments)?;
+            let choice = first_match(alloc, tree, rest, diagrams, numbers, fits, arguments)?;
             Ok(choice)
         }
     }
@@ -241,13 +252,16 @@ fn front_match(
     sorted: &ByLiteral,
     diagrams: &mut Diagrams,
     numbers: &mut Numbers,
+    fits: &mut Fits,
     arguments: &[Value],
 ) -> Result<Option<(TreeId, Bindings)>, AllocError>
     requires there { All (λ (d : AnItem). d.node < size_of tree.now) sorted.now.rules }
     requires sound { All (IsSound diagrams.old) arguments.now }
     requires known { Remembers diagrams.old numbers.old }
+    requires recalls { Recalls tree.now diagrams.old fits.old }
     ensures adds { AddsIntegers diagrams.old diagrams.new }
     ensures known { Remembers diagrams.new numbers.new }
+    ensures recalls { Recalls tree.now diagrams.new fits.new }
     ensures chosen { IfOk result (λ o. (w : World) (vs : List PureValue)
         → w.diagrams ≡ diagrams.old → ShowsValues w arguments.now vs
         → Chooses tree.now (map (λ (d : AnItem). d.node) (told sorted.now.rules (number_in (slice_get vs sorted.now.position))))
@@ -257,7 +271,7 @@ fn front_match(
         return Ok(None);
     };
     let rules = Rules::Definitions(sorted.rules.called(size_of_literal(k)));
-    let choice = first_match(alloc, tree, rules, diagrams, numbers, arguments)?;
+    let choice = first_match(alloc, tree, rules, diagrams, numbers, fits, arguments)?;
     Ok(choice)
 }
 
@@ -297,25 +311,29 @@ fn first_match(
     rules: Rules,
     diagrams: &mut Diagrams,
     numbers: &mut Numbers,
+    fits: &mut Fits,
     arguments: &[Value],
 ) -> Result<Option<(TreeId, Bindings)>, AllocError>
     requires inside { All (λ id. id < size_of tree.now) (nodes_of rules) }
     requires sound { All (IsSound diagrams.old) arguments.now }
     requires known { Remembers diagrams.old numbers.old }
+    requires recalls { Recalls tree.now diagrams.old fits.old }
     ensures adds { AddsIntegers diagrams.old diagrams.new }
     ensures known { Remembers diagrams.new numbers.new }
+    ensures recalls { Recalls tree.now diagrams.new fits.new }
     ensures chosen { IfOk result (Chooses tree.now (nodes_of rules.entry) arguments.now diagrams.old diagrams.new) }
 {
     for i in 0..rules.len() {
         let id = rules.node(i);
         let rule = rule_at(tree, id);
         let mut list = Vec::new(alloc);
-        if all_match(
+        if rule_matches(
             alloc,
             tree,
             rule.patterns,
             diagrams,
             numbers,
+            fits,
             arguments,
             &mut list,
         )? {
@@ -323,6 +341,37 @@ fn first_match(
         }
     }
     Ok(None)
+}
+
+// Whether the patterns of a rule match as many values. Where one is long, they are tried first without binding anything.
+fn rule_matches(
+    alloc: Global,
+    tree: &Tree,
+    patterns: &[TreeId],
+    diagrams: &mut Diagrams,
+    numbers: &mut Numbers,
+    fits: &mut Fits,
+    arguments: &[Value],
+    found: &mut Vec<Binding>,
+) -> Result<bool, AllocError>
+    requires inside { All (λ id. id < size_of tree.now) patterns.now }
+    requires sound { All (IsSound diagrams.old) arguments.now }
+    requires known { Remembers diagrams.old numbers.old }
+    requires recalls { Recalls tree.now diagrams.old fits.old }
+    ensures adds { AddsIntegers diagrams.old diagrams.new }
+    ensures known { Remembers diagrams.new numbers.new }
+    ensures recalls { Recalls tree.now diagrams.new fits.new }
+    ensures matched { IfOk result (λ b. (w : World) (vs : List PureValue) (bs : PureBindings)
+        → w.tree ≡ tree.now → w.diagrams ≡ diagrams.old → ShowsValues w arguments.now vs
+        → ShowsBindings w found.old.items bs
+        → ShowsMatched (with_diagrams w diagrams.new) b found.new.items
+        (all_matched tree.now.tokens (map (tree_in tree.now) patterns.now) vs bs)) }
+{
+    if !may_match(alloc, tree, patterns, diagrams, numbers, fits, arguments)? {
+        return Ok(false);
+    }
+    let matches = all_match(alloc, tree, patterns, diagrams, numbers, arguments, found)?;
+    Ok(matches)
 }
 
 // Tries patterns on as many values: whether they match. The bindings are added to those so far.

@@ -4,8 +4,11 @@
 mod by_literal;
 mod by_name;
 mod choosing;
+mod fits;
+mod fitting;
 mod lookup;
 mod matching;
 
+pub use fits::{Fit, Fits};
 pub use lookup::Definitions;
 pub use matching::{Bindings, matches};

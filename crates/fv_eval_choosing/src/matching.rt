@@ -245,8 +245,8 @@ fn advance(
     }
 }
 
-// Whether a diagram has this number.
-fn has_number(
+/// Whether a diagram has this number.
+pub(crate) fn has_number(
     alloc: Global,
     diagrams: &Diagrams,
     numbers: &mut Numbers,
@@ -265,8 +265,8 @@ fn has_number(
     }
 }
 
-// The parts of a diagram without a number that is put as a composition.
-fn parts_of(
+/// The parts of a diagram without a number that is put as a composition.
+pub(crate) fn parts_of(
     alloc: Global,
     diagrams: &Diagrams,
     numbers: &mut Numbers,

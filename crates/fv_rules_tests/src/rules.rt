@@ -4,10 +4,10 @@ ghost use Rattle.std.specs.Prelude.{◌<◌};
 ghost use Rattle.fv_parse.specs.Trees.{size_of};
 
 use fv_diagram::{Diagrams, Node};
+use fv_eval_choosing::{Definitions, Fits};
+use fv_eval_scopes::{Binding, Meaning, Numbers, Ruled, Scopes, Value};
 use fv_lex::{Tokens, tokens};
 use fv_parse::{TreeId, parse};
-use fv_eval_choosing::Definitions;
-use fv_eval_scopes::{Binding, Meaning, Numbers, Ruled, Scopes, Value};
 use fv_rules::{EvalRefusal, put};
 use std::alloc::{AllocError, Global};
 use std::test::Fail;
@@ -26,9 +26,17 @@ fn chosen(
         return Err(AllocError);
     };
     let mut numbers = Numbers::new(alloc);
+    let mut fits = Fits::new(alloc);
     let ruled = Ruled::Case(TreeId::new(case));
     let arguments = [Value::Diagram(id)];
-    match definitions.choose(alloc, ruled, &mut diagrams, &mut numbers, &arguments)? {
+    match definitions.choose(
+        alloc,
+        ruled,
+        &mut diagrams,
+        &mut numbers,
+        &mut fits,
+        &arguments,
+    )? {
         None => Ok(None),
         Some((body, bindings)) => Ok(Some((body, bindings.as_slice().len()))),
     }

@@ -35,6 +35,7 @@ use Rattle.fv_parse_tree.specs.declared.node.TreeId.{TreeId}
 use Rattle.fv_eval_scopes.specs.declared.value.Ruled.{Ruled}
 use Rattle.fv_eval_scopes.specs.declared.value.Binding as code_binding
 use Rattle.fv_eval_choosing.specs.Chosen.{ShowsChoice}
+use Rattle.fv_eval_choosing.specs.Fits.{Recalls}
 
 -- the lists of a machine over a tree
 abbrev pub world : Parsed → code_machine.Machine → World
@@ -42,6 +43,10 @@ world p m = record { tree = p; diagrams = m.drawing.diagrams; scopes = m.scopes.
 
 abbrev pub state_of : code_machine.Machine → State
 state_of m = record { visits = m.visits; controls = m.controls; slot = m.slot; tables = m.drawing.tables }
+
+-- what the machine remembers of patterns is true of the tree
+abbrev pub Knows : Parsed → code_machine.Machine → Type 0
+Knows p m = Recalls p m.drawing.diagrams m.fits
 
 -- these numbers are these diagrams, in order
 abbrev pub AllDraw : World → List ℕ → List Diagram → Type 0
@@ -160,8 +165,9 @@ ShowsContinuations w fs (F ∷ Fs) = (below : List code_continuation.Continuatio
 
 -- ---- configurations
 
+-- the pending work is shown
 abbrev pub Keeps : Parsed → code_machine.Machine → List Continuation → Type 0
-Keeps p m Fs = ShowsContinuations (world p m) m.continuations Fs
+Keeps p m Fs = Knows p m × ShowsContinuations (world p m) m.continuations Fs
 
 -- What the machine does next is that configuration, unless memory ran out.
 abbrev pub Goes : Parsed → code_machine.Machine → Result code_focus.Focus EvalRefusal → Config → Type 0
@@ -235,12 +241,14 @@ pub record Grew (p : Parsed) (old new : code_machine.Machine) : Type 0 where
   pub lists : Grows (world p old) (world p new)
   pub continuations : new.continuations ≡ old.continuations
   pub state : state_of new ≡ state_of old
+  pub knows : Knows p old → Knows p new
 
 -- Lists have grown, so many slots were taken, and nothing else has changed.
 pub record Slots (p : Parsed) (old new : code_machine.Machine) (count : ℕ) : Type 0 where
   pub lists : Grows (world p old) (world p new)
   pub continuations : new.continuations ≡ old.continuations
   pub state : state_of new ≡ record (state_of old) { slot = old.slot + count }
+  pub knows : Knows p old → Knows p new
 
 -- the rule of a tree is begun in an environment
 abbrev pub Begins : Parsed → (old new : code_machine.Machine) → Result code_focus.Focus EvalRefusal → ℕ → Tree → Type 0

@@ -5,37 +5,44 @@ use Rattle.fv_eval_choosing.proofs.RulesChosen.{NextRule, next_at, rules_begin, 
 use Rattle.fv_eval_choosing.proofs.choosing.first_match.Goals as goal
 
 pub loop-i-init : goal.loop-i-init
-loop-i-init c = rules_begin c.args.tree.now (nodes_of c.args.rules) c.args.arguments.now c.args.diagrams.now c.args.numbers.now c.requires.known
+loop-i-init c = record {
+  chooses = rules_begin c.args.tree.now (nodes_of c.args.rules) c.args.arguments.now c.args.diagrams.now c.args.numbers.now c.requires.known;
+  recalls = c.requires.recalls;
+}
 
 pub loop-i-preserved : goal.loop-i-preserved
 loop-i-preserved c =
-    let new = c.all_match.new in
+    let new = c.rule_matches.new in
     let next : NextRule c.args.tree.now (nodes_of c.args.rules) c.loop-i.i c.node-id.result c.rule_at-rule.result =
     next_at (nodes_of c.args.rules) c.loop-i.i c.node-id.result c.rule_at-rule.result c.node-id.ensures c.rule_at-rule.ensures in
-    rules_go_on c.loop-i.invariant next
-    (tried_rule c.args.tree.now c.rule_at-rule.result c.args.arguments.now _ _ c.loop-i.diagrams new.diagrams _ new.found.items c.if-branch.false
-    c.new-list.ensures.items c.in_ok-all_match.ensures.adds c.in_ok-all_match.ensures.matched) c.in_ok-all_match.ensures.known
+    record {
+      chooses =
+          rules_go_on c.loop-i.invariant.chooses next
+          (tried_rule c.args.tree.now c.rule_at-rule.result c.args.arguments.now _ _ c.loop-i.diagrams new.diagrams _ new.found.items c.if-branch.false
+          c.new-list.ensures.items c.in_ok-rule_matches.ensures.adds c.in_ok-rule_matches.ensures.matched) c.in_ok-rule_matches.ensures.known;
+      recalls = c.in_ok-rule_matches.ensures.recalls;
+    }
 
-pub all_match-requires-clause-sound : goal.all_match-requires-clause-sound
-all_match-requires-clause-sound c = all_sound c.args.diagrams.now c.loop-i.diagrams c.args.arguments.now c.loop-i.invariant.adds c.requires.sound
+pub rule_matches-requires-clause-sound : goal.rule_matches-requires-clause-sound
+rule_matches-requires-clause-sound c = all_sound c.args.diagrams.now c.loop-i.diagrams c.args.arguments.now c.loop-i.invariant.chooses.adds c.requires.sound
 
-pub returns-in_err-all_match-clause-adds : goal.returns-in_err-all_match-clause-adds
-returns-in_err-all_match-clause-adds c =
-    adds_on c.args.diagrams.now c.loop-i.diagrams c.all_match.new.diagrams c.loop-i.invariant.adds c.in_err-all_match.ensures.adds
+pub returns-in_err-rule_matches-clause-adds : goal.returns-in_err-rule_matches-clause-adds
+returns-in_err-rule_matches-clause-adds c =
+    adds_on c.args.diagrams.now c.loop-i.diagrams c.rule_matches.new.diagrams c.loop-i.invariant.chooses.adds c.in_err-rule_matches.ensures.adds
 
 pub returns-then-branch-clause-adds : goal.returns-then-branch-clause-adds
 returns-then-branch-clause-adds c =
-    adds_on c.args.diagrams.now c.loop-i.diagrams c.all_match.new.diagrams c.loop-i.invariant.adds c.in_ok-all_match.ensures.adds
+    adds_on c.args.diagrams.now c.loop-i.diagrams c.rule_matches.new.diagrams c.loop-i.invariant.chooses.adds c.in_ok-rule_matches.ensures.adds
 
 pub returns-then-branch-clause-chosen : goal.returns-then-branch-clause-chosen
 returns-then-branch-clause-chosen c =
-    let new = c.all_match.new in
+    let new = c.rule_matches.new in
     let next : NextRule c.args.tree.now (nodes_of c.args.rules) c.loop-i.i c.node-id.result c.rule_at-rule.result =
     next_at (nodes_of c.args.rules) c.loop-i.i c.node-id.result c.rule_at-rule.result c.node-id.ensures c.rule_at-rule.ensures in
     let try = tried_rule c.args.tree.now c.rule_at-rule.result c.args.arguments.now true _ c.loop-i.diagrams new.diagrams _ new.found.items c.if-branch.true
-    c.new-list.ensures.items c.in_ok-all_match.ensures.adds c.in_ok-all_match.ensures.matched in
+    c.new-list.ensures.items c.in_ok-rule_matches.ensures.adds c.in_ok-rule_matches.ensures.matched in
     subst (λ us. Chooses c.args.tree.now (nodes_of c.args.rules) c.args.arguments.now c.args.diagrams.now new.diagrams (Some (c.rule_at-rule.result.body, us)))
-    (sym c.of.ensures) (rule_chosen c.loop-i.invariant next try)
+    (sym c.of.ensures) (rule_chosen c.loop-i.invariant.chooses next try)
 
 pub returns-clause-chosen : goal.returns-clause-chosen
-returns-clause-chosen c = no_rule_chosen c.loop-i.invariant (omega (arith, c.loop-i-test.false, c.len-i-end.ensures))
+returns-clause-chosen c = no_rule_chosen c.loop-i.invariant.chooses (omega (arith, c.loop-i-test.false, c.len-i-end.ensures))

@@ -53,3 +53,6 @@ returns c =
     let past : length us ≤ c.applying.at = omega (arith, c.args.arguments.ok.0) in
     all_taken c.args.text.now c.args.self.now
     c.applying.self c.args.application c.args.function c.applying.function us c.args.next c.applying.at c.applying.invariant past
+
+pub complete-requires-clause-knows : goal.complete-requires-clause-knows
+complete-requires-clause-knows c = c.in_ok-value.ensures.grew.knows (c.applying.invariant.grew.knows c.requires.knows)

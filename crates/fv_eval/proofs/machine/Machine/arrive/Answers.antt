@@ -1,4 +1,4 @@
-use Rattle.fv_eval.proofs.Arrived.{arrives_last, arrives_valued, arrives_drawn, first_valued, first_drawn, given_shown}
+use Rattle.fv_eval.proofs.Arrived.{arrives_last, arrives_valued, arrives_drawn, first_valued, first_drawn, given_known, given_shown}
 use Rattle.fv_eval.proofs.machine.Machine.arrive.Goals as goal
 
 pub returns-in-None : goal.returns-in-None
@@ -30,3 +30,6 @@ turn-requires-clause-continuation c =
 
 pub turn-requires-clause-value : goal.turn-requires-clause-value
 turn-requires-clause-value c = given_shown c.args.text.now c.args.self.now c.args.value c.requires
+
+pub value_arrives-requires-clause-knows : goal.value_arrives-requires-clause-knows
+value_arrives-requires-clause-knows c = given_known c.args.text.now c.args.self.now c.args.value c.requires

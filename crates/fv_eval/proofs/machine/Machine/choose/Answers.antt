@@ -1,7 +1,7 @@
 use Rattle.std.proofs.Common.{All, sym, subst}
 use Rattle.fv_eval_drawing.specs.Makes.{IsThere as IsDrawn}
 use Rattle.fv_eval.proofs.Completing.{ChoosesOf, choice_shows, taken_drawn}
-use Rattle.fv_eval.proofs.Moves.{drawn_grew}
+use Rattle.fv_eval.proofs.Moves.{chosen_grew}
 use Rattle.fv_eval.proofs.machine.Machine.choose.Goals as goal
 
 pub choose-requires-clause-there : goal.choose-requires-clause-there
@@ -12,7 +12,8 @@ choose-requires-clause-there c =
     c.in_ok-all.ensures c.in_ok-push.ensures.items c.requires.taken c.requires.argument)
 
 pub returns-clause-grew : goal.returns-clause-grew
-returns-clause-grew c = drawn_grew c.args.text.now c.args.self.now c.choose.new.self c.in_ok-choice.ensures.adds
+returns-clause-grew c =
+    chosen_grew c.args.text.now c.args.self.now c.choose.new.self c.choose.new.fits c.in_ok-choice.ensures.adds c.in_ok-choice.ensures.recalls
 
 pub returns-clause-chosen : goal.returns-clause-chosen
 returns-clause-chosen c =

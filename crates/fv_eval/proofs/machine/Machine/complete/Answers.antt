@@ -47,6 +47,7 @@ choose-requires c =
       inside = rules_inside p m f.ruled f.env f.count f.last shown;
       taken = rules_took p m f.ruled f.env f.count f.last shown;
       argument = first_shown (world p m) us c.args.at u (get_within us c.args.at u c.requires.at c.index-in-Rules.ensures) c.requires.arguments;
+      knows = c.requires.knows;
     }
 
 pub returns-in_ok-choice-in-Rules : goal.returns-in_ok-choice-in-Rules

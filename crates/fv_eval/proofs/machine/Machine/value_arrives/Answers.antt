@@ -59,3 +59,6 @@ next_argument-requires-in-Argument-clause-done c =
     f.apply f.function f.env f.done c.args.value c.in_ok-settled-in-Argument.settled c.push.new.self.items
     (subst (λ (x : code_for_value.ForValue). ValuedShown (world p c.args.self.now) x) f.is c.requires.continuation) c.requires.value
     (c.in_ok-settled-in-Argument.ensures.shows p) c.in_ok-push-in-Argument.ensures.items
+
+pub next_argument-requires-in-Argument-clause-knows : goal.next_argument-requires-in-Argument-clause-knows
+next_argument-requires-in-Argument-clause-knows c = (c.in_ok-settled-in-Argument.ensures.grew c.args.text.now).knows c.requires.knows
