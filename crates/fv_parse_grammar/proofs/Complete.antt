@@ -10,7 +10,6 @@ use Rattle.fv_lex.specs.declared.token.Symbol.TheVariants as symbols
 use Rattle.fv_parse_grammar.specs.declared.form.Primitive.{Primitive as Operation}
 use Rattle.fv_parse_grammar.specs.declared.form.Primitive.TheVariants as primitives
 use Rattle.fv_parse_grammar.specs.declared.form.Literal.{Literal}
-use Rattle.fv_parse_grammar.specs.declared.form.Literal.TheVariants as literal
 use Rattle.fv_parse_grammar.specs.Grammar.{SpellsNumber, unsigned, with_plus, with_minus, SpellsNumbers, one_number, more_numbers, waved}
 use Rattle.fv_parse_grammar.specs.Descent.{a_literal, literal_list, waveform}
 use Rattle.fv_parse_grammar.specs.declared.form.Iteration.{Iteration as Repetition}

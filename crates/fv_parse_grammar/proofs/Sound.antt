@@ -1,7 +1,6 @@
 -- What is read is spelled.
 use Rattle.fv_parse_grammar.specs.Tree.{Waveform}
-use Rattle.std.proofs.Common.{◌≡◌, ℕ, zero, suc, ◌<◌, Bool, true, false, cond, List, [], ◌∷◌, length, drop, Result, Ok, Err, refl, sym, ap, ap₂, subst, ◌∙◌}
-use Rattle.std.proofs.Common.{arith}
+use Rattle.std.proofs.Common.{◌≡◌, ℕ, zero, suc, ◌<◌, true, false, List, [], ◌∷◌, length, drop, Result, Ok, Err, refl, sym, ap, subst, ◌∙◌, arith}
 use Rattle.std.specs.Prelude.{nat_lt, nat_eq}
 use Rattle.std.proofs.lemmas.Bool.{eqb-true}
 use Rattle.fv_lex.specs.declared.token.Symbol.{Symbol}
@@ -9,10 +8,8 @@ use Rattle.fv_lex.specs.declared.token.Symbol.TheVariants.{Name, Text, Integer, 
 use Rattle.fv_lex.specs.declared.token.Symbol.TheVariants.{Declare, With, Tick}
 use Rattle.fv_lex.specs.declared.token.Symbol.TheVariants as symbols
 use Rattle.fv_parse_grammar.specs.declared.form.Primitive.TheVariants as primitives
-use Rattle.fv_parse_grammar.specs.declared.form.Literal.{Literal}
-use Rattle.fv_parse_grammar.specs.declared.form.Literal.TheVariants as literal
-use Rattle.fv_parse_grammar.specs.Grammar.{SpellsNumber, unsigned, with_plus, with_minus, SpellsNumbers, one_number, more_numbers, waved}
-use Rattle.fv_parse_grammar.specs.Descent.{a_value, a_literal, literal_list, waveform}
+use Rattle.fv_parse_grammar.specs.Grammar.{SpellsNumbers, waved}
+use Rattle.fv_parse_grammar.specs.Descent.{waveform, Step, Next, rights, chain, Reader, power_at, operator_at}
 use Rattle.fv_parse_grammar.specs.declared.form.Iteration.{Iteration as Repetition}
 use Rattle.fv_parse_grammar.specs.declared.form.Side.{Side}
 use Rattle.fv_parse_grammar.specs.declared.form.Switch.{Switch as SwitchKind}
@@ -24,27 +21,27 @@ use Rattle.fv_parse_grammar.specs.declared.symbol.Inside.{Inside}
 use Rattle.fv_parse_grammar.specs.declared.symbol.Inside.TheVariants as insides
 use Rattle.fv_parse_grammar.specs.declared.symbol.Items.{Items}
 use Rattle.fv_parse_grammar.specs.declared.symbol.Items.TheVariants.{Statements, Definitions, Rules, Parts}
-use Rattle.fv_parse_grammar.specs.declared.symbol.Mark.{Mark}
 use Rattle.fv_parse_grammar.specs.declared.symbol.Mark.TheVariants as marks
-use Rattle.fv_parse_grammar.specs.Symbols.{head, power, operator, is_left, sign, is_mark}
+use Rattle.fv_parse_grammar.specs.Symbols.{head, power, operator, is_left}
 use Rattle.fv_parse_grammar.specs.Tree.{Tree, Number, Negative, Named, MinusNamed, Wire, Cut, Primitive, Group, Abstraction, Case, Iteration, Ports, Switch, Slider}
 use Rattle.fv_parse_grammar.specs.Tree.{Panel, Delayed, Binary, Where, Rule, Constant, Function, End, More}
-use Rattle.fv_parse_grammar.specs.Grammar.{Level, Further, Definition, Expression, Listed, OneRule, Phrase, Postfix, Primary, Atom, SpellsNames, one_name, more_names}
+use Rattle.fv_parse_grammar.specs.Grammar.{Level, Further, Definition, Expression, Listed, OneRule, Phrase, Postfix, Primary, Atom, SpellsNames}
 use Rattle.fv_parse_grammar.specs.Grammar.{Spells, SpellsProgram, no_more, stated, declared, declared_for, defined, ruled, parted, first_rule, first_part, constant}
 use Rattle.fv_parse_grammar.specs.Grammar.{function, rule, plain, qualified, tighter, leftward, rightward, operand, pattern_operand, bare, delayed, applied, number}
 use Rattle.fv_parse_grammar.specs.Grammar.{plus_number, minus_number, minus_name, named, wire, cut, plus, minus, primitive, grouped, abstracted, cased, iterated}
 use Rattle.fv_parse_grammar.specs.Grammar.{ported, switched, slid, paneled, atom_number, atom_plus_number, atom_minus_number, atom_name, atom_grouped}
 use Rattle.fv_parse_grammar.specs.Descent as descent
-use Rattle.fv_parse_grammar.specs.Descent.{Step, ◌>>=◌, Turn, Done, Next, Stop, turn, after, turns, run, rights, chain, Reader, power_at}
-use Rattle.fv_parse_grammar.specs.Descent.{operator_at, expect, a_name}
-use Rattle.fv_parse_grammar.specs.Descent.{a_text, at_comma, separated, name_list, enclosed, argument, group, abstraction, case_of, iteration, ports, switch, label}
+use Rattle.fv_parse_grammar.specs.Descent.{enclosed, argument, group, abstraction, case_of, iteration, ports, switch, label}
 use Rattle.fv_parse_grammar.specs.Descent.{slider, panel, by_head, primary, postfix, postfix_turn, atom_by_head, atom, phrase, left_turn, expression, with_turn}
 use Rattle.fv_parse_grammar.specs.Descent.{ended, function_after, constant_after, after_name, definition, one_rule, declared_text, declaration, Item, Nothing, Skip}
-use Rattle.fv_parse_grammar.specs.Descent.{One, Fault, one_of, item, with_item, many, further, first_item, listed, within, program, whole_text}
+use Rattle.fv_parse_grammar.specs.Descent.{One, Fault, one_of, item, with_item, many, further, listed, within, program, whole_text}
 use Rattle.fv_parse_grammar.specs.declared.symbol.Operands.{Operands}
 use Rattle.fv_parse_grammar.specs.declared.symbol.Commas.{Commas}
 use Rattle.fv_parse_grammar.specs.declared.symbol.Operands.TheVariants as operands
 use Rattle.fv_parse_grammar.specs.declared.symbol.Commas.TheVariants as commas
+use Rattle.fv_parse_grammar.proofs.Tokens.{bind_ok, turn_next, took, read_as, expect_ok, a_name_ok, a_text_ok, is_integer, is_name, is_plus, is_minus}
+use Rattle.fv_parse_grammar.proofs.Tokens.{is_underscore, is_exclamation, is_open, is_backslash, is_case, is_waveform}
+use Rattle.fv_parse_grammar.proofs.Separated.{either, run_keeps, names_sound, literals_sound}
 
 -- the level of what stands in brackets
 abbrev pub level_of : Inside → Level
@@ -63,166 +60,11 @@ IsSound level read = (ts : List Symbol) (x : Tree) (rest : List Symbol) → read
 abbrev pub IsSoundInside : Reader → Type 0
 IsSoundInside inner = (what : Inside) → IsSound (level_of what) (inner what)
 
--- ---- tools
-pub bind_ok : {A B : Type 0} (r : Result A (List Symbol)) (f : A → Result B (List Symbol)) (y : B) → (r >>= f) ≡ Ok y → (x : A) × (r ≡ Ok x) × (f x ≡ Ok y)
-bind_ok (Ok x) f y e = (x, refl, e)
-bind_ok (Err d) f y e = absurd cc
-
-pub turn_next : (r : Step Tree) (f : Tree → Tree) (y : Tree) (rest : List Symbol) → turn r f ≡ Next y rest → (z : Tree) × (r ≡ Ok (z, rest)) × (f z ≡ y)
-turn_next (Ok z) f y rest e =
-    let first : f z.0 ≡ y = cc in
-    let second : z.1 ≡ rest = cc in
-    (z.0, ap (λ t. Ok (z.0, t)) second, first)
-turn_next (Err d) f y rest e = absurd cc
-
-abbrev pub took : {A : Type 0} → A → List Symbol → Step A
-took x ts = Ok (x, ts)
-
-pub read_as : {A : Type 0} (x y : A) (a b : List Symbol) → took x a ≡ took y b → (x ≡ y) × (a ≡ b)
-read_as {A = A} x y a b e = let p : ◌≡◌ {A = A × List Symbol} (x, a) (y, b) = cc in (ap (λ q. q.0) p, ap (λ q. q.1) p)
+-- ---- what has no brackets within
 
 -- what is spelled, under another tree and rest that are equal to these
 moved : (level : Level) (ts : List Symbol) (x y : Tree) (a b : List Symbol) → Spells level ts x a → took x a ≡ took y b → Spells level ts y b
 moved level ts x y a b t e = let p = read_as x y a b e in subst (λ r. Spells level ts y r) p.1 (subst (λ z. Spells level ts z a) p.0 t)
-
--- ---- single tokens
-pub is_mark_sign : (m : Mark) (t : Symbol) → is_mark m t ≡ true → t ≡ sign m
-is_mark_sign marks.Open symbols.Open e = refl
-is_mark_sign marks.Close symbols.Close e = refl
-is_mark_sign marks.OpenBrace symbols.OpenBrace e = refl
-is_mark_sign marks.CloseBrace symbols.CloseBrace e = refl
-is_mark_sign marks.Comma symbols.Comma e = refl
-is_mark_sign marks.Equals symbols.Equals e = refl
-is_mark_sign marks.Arrow symbols.Arrow e = refl
-is_mark_sign marks.Semicolon symbols.Semicolon e = refl
-is_mark_sign marks.Dot symbols.Dot e = refl
-is_mark_sign m t e = absurd cc
-
--- a mark is what it is
-pub expect_ok : (m : Mark) (ts rest : List Symbol) → expect m ts ≡ Ok rest → ts ≡ sign m ∷ rest
-expect_ok m [] rest e = absurd cc
-expect_ok m (t ∷ ts) rest e = go (is_mark m t) refl e
-  where
-    go : (b : Bool) → is_mark m t ≡ b → cond b (Ok ts) (Err (t ∷ ts)) ≡ Ok rest → t ∷ ts ≡ sign m ∷ rest
-    go true is e = let p : ts ≡ rest = cc in ap₂ ◌∷◌ (is_mark_sign m t is) p
-    go false is e = absurd cc
-
-pub a_name_ok : (ts : List Symbol) (n : ℕ) (rest : List Symbol) → a_name ts ≡ Ok (n, rest) → ts ≡ Name n ∷ rest
-a_name_ok (Name m ∷ ts) n rest e = let p = read_as m n ts rest e in cc (p.0, p.1)
-a_name_ok [] n rest e = absurd cc
-a_name_ok (t ∷ ts) n rest e = absurd cc
-
-pub a_text_ok : (ts : List Symbol) (n : ℕ) (rest : List Symbol) → a_text ts ≡ Ok (n, rest) → ts ≡ Text n ∷ rest
-a_text_ok (Text m ∷ ts) n rest e = let p = read_as m n ts rest e in cc (p.0, p.1)
-a_text_ok [] n rest e = absurd cc
-a_text_ok (t ∷ ts) n rest e = absurd cc
-
-pub at_comma_is : (ts : List Symbol) → at_comma ts ≡ true → ts ≡ Comma ∷ drop 1 ts
-at_comma_is (Comma ∷ ts) e = refl
-at_comma_is [] e = absurd cc
-at_comma_is (t ∷ ts) e = absurd cc
-
--- ---- loops
--- What each turn keeps, the loop keeps.
-keep_case : (P : Tree → List Symbol → Type 0) (go : Tree → List Symbol → Step Tree) (x : Tree) (ts : List Symbol) (y : Tree) (rest : List Symbol) (t : Turn)
-    → P x ts
-    → ((z : Tree) (mid : List Symbol) → t ≡ Next z mid → go z mid ≡ Ok (y, rest) → P y rest)
-    → after go (Ok (x, ts)) t ≡ Ok (y, rest) → P y rest
-keep_case P go x ts y rest Done p next e = let q = read_as x y ts rest e in subst (λ r. P y r) q.1 (subst (λ z. P z ts) q.0 p)
-keep_case P go x ts y rest (Next z mid) p next e = next z mid refl e
-keep_case P go x ts y rest (Stop at) p next e = absurd cc
-
-pub either : {A : Type 0} {y : A} (Q : Type 0) (b : Bool) (u v : A) → (b ≡ true → u ≡ y → Q) → (b ≡ false → v ≡ y → Q) → cond b u v ≡ y → Q
-either Q true u v f g e = f refl e
-either Q false u v f g e = g refl e
-
-turns_keep : (P : Tree → List Symbol → Type 0) (body : Tree → List Symbol → Turn)
-    → ((x : Tree) (ts : List Symbol) (y : Tree) (rest : List Symbol) → P x ts → body x ts ≡ Next y rest → P y rest)
-    → (k : ℕ) (x : Tree) (ts : List Symbol) (y : Tree) (rest : List Symbol) → P x ts → turns k body x ts ≡ Ok (y, rest) → P y rest
-unfolding turns
-turns_keep P body step zero x ts y rest p e = absurd cc
-turns_keep P body step (suc k) x ts y rest p e = either (P y rest) (nat_lt (length ts) k) _ _
-    (λ _ now. turns_keep P body step k x ts y rest p now)
-    (λ _ now. keep_case P (turns k body) x ts y rest (body x ts) p (λ z mid was then. turns_keep P body step k z mid y rest (step x ts z mid p was) then) now)
-    e
-
-run_keeps : (P : Tree → List Symbol → Type 0) (body : Tree → List Symbol → Turn)
-    → ((x : Tree) (ts : List Symbol) (y : Tree) (rest : List Symbol) → P x ts → body x ts ≡ Next y rest → P y rest)
-    → (x : Tree) (ts : List Symbol) (y : Tree) (rest : List Symbol) → P x ts → run body x ts ≡ Ok (y, rest) → P y rest
-unfolding run
-run_keeps P body step x ts y rest p e = turns_keep P body step (suc (length ts)) x ts y rest p e
-
--- ---- what commas separate
--- What an item spells and what spells all: one item does, and one with a comma and others behind it.
-module _ {A : Type 0} (part : List Symbol → Step A)
-    (One : List Symbol → A → List Symbol → Type 0) (All : List Symbol → List A → List Symbol → Type 0)
-    (sound : (ts : List Symbol) (x : A) (rest : List Symbol) → part ts ≡ Ok (x, rest) → One ts x rest)
-    (alone : (ts rest : List Symbol) (x : A) → One ts x rest → All ts (x ∷ []) rest)
-    (more : (ts mid rest : List Symbol) (x : A) (xs : List A) → One ts x (Comma ∷ mid) → All mid xs rest → All ts (x ∷ xs) rest) where
-  pub separated_sound : (k : ℕ) (ts : List Symbol) (xs : List A) (rest : List Symbol) → separated part k ts ≡ Ok (xs, rest) → All ts xs rest
-  unfolding separated
-  separated_sound zero ts xs rest e = absurd cc
-  separated_sound (suc k) ts xs rest e = either (All ts xs rest) (nat_lt (length ts) k) _ _
-      (λ _ now. separated_sound k ts xs rest now)
-      (λ _ now.
-      let (x, was, then) = bind_ok _ _ _ now in
-      let first = sound ts x.0 x.1 was in
-      either (All ts xs rest) (at_comma x.1) _ _
-      (λ on again.
-      let (ys, got, end) = bind_ok _ _ _ again in
-      let others = separated_sound k (drop 1 x.1) ys.0 ys.1 got in
-      let same = read_as (x.0 ∷ ys.0) xs ys.1 rest end in
-      let begun = subst (λ r. One ts x.0 r) (at_comma_is x.1 on) first in
-      subst (λ l. All ts l rest) same.0 (subst (λ r. All ts (x.0 ∷ ys.0) r) same.1 (more ts (drop 1 x.1) ys.1 x.0 ys.0 begun others)))
-      (λ off end.
-      let same = read_as (x.0 ∷ []) xs x.1 rest end in
-      subst (λ l. All ts l rest) same.0 (subst (λ r. All ts (x.0 ∷ []) r) same.1 (alone ts x.1 x.0 first)))
-      then)
-      e
-
--- a name stands there
-abbrev IsNamed : List Symbol → ℕ → List Symbol → Type 0
-IsNamed ts n rest = ts ≡ Name n ∷ rest
-
-pub names_sound : (ts : List Symbol) (ns : List ℕ) (rest : List Symbol) → name_list ts ≡ Ok (ns, rest) → SpellsNames ts ns rest
-names_sound ts ns rest e =
-    separated_sound a_name IsNamed SpellsNames a_name_ok
-    (λ ts rest n h. subst (λ l. SpellsNames l (n ∷ []) rest) (sym h) one_name)
-    (λ ts mid rest n ns h p. subst (λ l. SpellsNames l (n ∷ ns) rest) (sym h) (more_names p))
-    (suc (length ts)) ts ns rest e
-
--- ---- numbers
-a_value_ok : (ts : List Symbol) (n : ℕ) (rest : List Symbol) → a_value ts ≡ Ok (n, rest) → ts ≡ Integer n ∷ rest
-a_value_ok (Integer m ∷ ts) n rest e = let p = read_as m n ts rest e in cc (p.0, p.1)
-a_value_ok [] n rest e = absurd cc
-a_value_ok (t ∷ ts) n rest e = absurd cc
-
--- a number, and what stands behind it
-abbrev Got : Literal → List Symbol → Step Literal
-Got x rest = Ok (x, rest)
-
--- the same, by an equal answer
-number_as : (ts : List Symbol) (x y : Literal) (mid rest : List Symbol) → SpellsNumber ts x mid → Got x mid ≡ Got y rest → SpellsNumber ts y rest
-number_as ts x y mid rest s e =
-    let same = read_as x y mid rest e in subst (λ z. SpellsNumber ts z rest) same.0 (subst (λ r. SpellsNumber ts x r) same.1 s)
-
-pub literal_sound : (ts : List Symbol) (x : Literal) (rest : List Symbol) → a_literal ts ≡ Ok (x, rest) → SpellsNumber ts x rest
-literal_sound (Integer n ∷ ts) x rest e = number_as (Integer n ∷ ts) (literal.Plain n) x ts rest unsigned e
-literal_sound (symbols.Plus ∷ ts) x rest e =
-    let (n, was, done) = bind_ok _ _ _ e in
-    number_as (symbols.Plus ∷ ts) (literal.Plain n.0) x n.1 rest
-    (subst (λ l. SpellsNumber (symbols.Plus ∷ l) (literal.Plain n.0) n.1) (sym (a_value_ok ts n.0 n.1 was)) with_plus) done
-literal_sound (symbols.Minus ∷ ts) x rest e =
-    let (n, was, done) = bind_ok _ _ _ e in
-    number_as (symbols.Minus ∷ ts) (literal.Negative n.0) x n.1 rest
-    (subst (λ l. SpellsNumber (symbols.Minus ∷ l) (literal.Negative n.0) n.1) (sym (a_value_ok ts n.0 n.1 was)) with_minus) done
-literal_sound [] x rest e = absurd cc
-literal_sound (t ∷ ts) x rest e = absurd cc
-
-pub literals_sound : (ts : List Symbol) (xs : List Literal) (rest : List Symbol) → literal_list ts ≡ Ok (xs, rest) → SpellsNumbers ts xs rest
-literals_sound ts xs rest e =
-    separated_sound a_literal SpellsNumber SpellsNumbers literal_sound
-    (λ ts rest x s. one_number s) (λ ts mid rest x xs s p. more_numbers s p) (suc (length ts)) ts xs rest e
 
 waveform_sound : (ts : List Symbol) (x : Tree) (rest : List Symbol)
     → waveform (length (symbols.Waveform ∷ ts)) ts ≡ Ok (x, rest) → Spells Primary (symbols.Waveform ∷ ts) x rest
@@ -237,7 +79,6 @@ waveform_sound ts x rest e =
     moved Primary (symbols.Waveform ∷ ts) (Waveform (length (symbols.Waveform ∷ ts)) xs.0) x closed rest
     (subst (λ l. Spells Primary (symbols.Waveform ∷ l) (Waveform (length (symbols.Waveform ∷ l)) xs.0) closed) (sym (expect_ok marks.OpenBrace ts opened o)) all) done
 
--- ---- what has no brackets within
 label_ok : (ts : List Symbol) (s : ℕ) (rest : List Symbol) → label ts ≡ Ok (s, rest) → ts ≡ Open ∷ Text s ∷ Comma ∷ rest
 unfolding label
 label_ok ts s rest e =
@@ -377,47 +218,6 @@ module _ (inner : Reader) (sound : IsSoundInside inner) where
       paneled t k h (enclosed_sound insides.Expression text.1 z.0 z.1 was) in
       moved Primary (t ∷ ts) (Panel (length (t ∷ ts)) k text.0 z.0) x z.1 rest
       (subst (λ l. Spells Primary (t ∷ l) (Panel (length (t ∷ l)) k text.0 z.0) z.1) (sym (label_ok ts text.0 text.1 labelled)) all) done
-
--- the token that a head is of
-pub is_integer : (t : Symbol) (n : ℕ) → head t ≡ heads.Integer n → t ≡ Integer n
-is_integer (Integer m) n e = let p : m ≡ n = cc in ap Integer p
-is_integer t n e = absurd cc
-
-pub is_name : (t : Symbol) (n : ℕ) → head t ≡ heads.Name n → t ≡ Name n
-is_name (Name m) n e = let p : m ≡ n = cc in ap Name p
-is_name t n e = absurd cc
-
-pub is_plus : (t : Symbol) → head t ≡ heads.Plus → t ≡ symbols.Plus
-is_plus symbols.Plus e = refl
-is_plus t e = absurd cc
-
-pub is_minus : (t : Symbol) → head t ≡ heads.Minus → t ≡ symbols.Minus
-is_minus symbols.Minus e = refl
-is_minus t e = absurd cc
-
-pub is_underscore : (t : Symbol) → head t ≡ heads.Wire → t ≡ symbols.Underscore
-is_underscore symbols.Underscore e = refl
-is_underscore t e = absurd cc
-
-pub is_exclamation : (t : Symbol) → head t ≡ heads.Cut → t ≡ symbols.Exclamation
-is_exclamation symbols.Exclamation e = refl
-is_exclamation t e = absurd cc
-
-pub is_open : (t : Symbol) → head t ≡ heads.Group → t ≡ Open
-is_open Open e = refl
-is_open t e = absurd cc
-
-pub is_backslash : (t : Symbol) → head t ≡ heads.Abstraction → t ≡ symbols.Backslash
-is_backslash symbols.Backslash e = refl
-is_backslash t e = absurd cc
-
-pub is_case : (t : Symbol) → head t ≡ heads.Case → t ≡ symbols.Case
-is_case symbols.Case e = refl
-is_case t e = absurd cc
-
-pub is_waveform : (t : Symbol) → head t ≡ heads.Waveform → t ≡ symbols.Waveform
-is_waveform symbols.Waveform e = refl
-is_waveform t e = absurd cc
 
 -- what spells a tree from a token on, at a token that is equal
 begun : (level : Level) (t u : Symbol) (ts : List Symbol) (x : Tree) (rest : List Symbol) → t ≡ u → Spells level (u ∷ ts) x rest → Spells level (t ∷ ts) x rest

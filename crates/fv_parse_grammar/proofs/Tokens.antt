@@ -1,0 +1,107 @@
+-- Which tokens stand where single ones are read.
+use Rattle.std.proofs.Common.{◌≡◌, ℕ, Bool, true, false, cond, List, [], ◌∷◌, drop, Result, Ok, Err, refl, ap, ap₂}
+use Rattle.fv_lex.specs.declared.token.Symbol.{Symbol}
+use Rattle.fv_lex.specs.declared.token.Symbol.TheVariants.{Name, Text, Integer, Comma, Open}
+use Rattle.fv_lex.specs.declared.token.Symbol.TheVariants as symbols
+use Rattle.fv_parse_grammar.specs.declared.symbol.Head.TheVariants as heads
+use Rattle.fv_parse_grammar.specs.declared.symbol.Mark.{Mark}
+use Rattle.fv_parse_grammar.specs.declared.symbol.Mark.TheVariants as marks
+use Rattle.fv_parse_grammar.specs.Symbols.{head, sign, is_mark}
+use Rattle.fv_parse_grammar.specs.Tree.{Tree}
+use Rattle.fv_parse_grammar.specs.Descent.{Step, ◌>>=◌, Next, turn, expect, a_name, a_text, at_comma}
+
+-- ---- tools
+pub bind_ok : {A B : Type 0} (r : Result A (List Symbol)) (f : A → Result B (List Symbol)) (y : B) → (r >>= f) ≡ Ok y → (x : A) × (r ≡ Ok x) × (f x ≡ Ok y)
+bind_ok (Ok x) f y e = (x, refl, e)
+bind_ok (Err d) f y e = absurd cc
+
+pub turn_next : (r : Step Tree) (f : Tree → Tree) (y : Tree) (rest : List Symbol) → turn r f ≡ Next y rest → (z : Tree) × (r ≡ Ok (z, rest)) × (f z ≡ y)
+turn_next (Ok z) f y rest e =
+    let first : f z.0 ≡ y = cc in
+    let second : z.1 ≡ rest = cc in
+    (z.0, ap (λ t. Ok (z.0, t)) second, first)
+turn_next (Err d) f y rest e = absurd cc
+
+abbrev pub took : {A : Type 0} → A → List Symbol → Step A
+took x ts = Ok (x, ts)
+
+pub read_as : {A : Type 0} (x y : A) (a b : List Symbol) → took x a ≡ took y b → (x ≡ y) × (a ≡ b)
+read_as {A = A} x y a b e = let p : ◌≡◌ {A = A × List Symbol} (x, a) (y, b) = cc in (ap (λ q. q.0) p, ap (λ q. q.1) p)
+
+-- ---- single tokens
+pub is_mark_sign : (m : Mark) (t : Symbol) → is_mark m t ≡ true → t ≡ sign m
+is_mark_sign marks.Open symbols.Open e = refl
+is_mark_sign marks.Close symbols.Close e = refl
+is_mark_sign marks.OpenBrace symbols.OpenBrace e = refl
+is_mark_sign marks.CloseBrace symbols.CloseBrace e = refl
+is_mark_sign marks.Comma symbols.Comma e = refl
+is_mark_sign marks.Equals symbols.Equals e = refl
+is_mark_sign marks.Arrow symbols.Arrow e = refl
+is_mark_sign marks.Semicolon symbols.Semicolon e = refl
+is_mark_sign marks.Dot symbols.Dot e = refl
+is_mark_sign m t e = absurd cc
+
+-- a mark is what it is
+pub expect_ok : (m : Mark) (ts rest : List Symbol) → expect m ts ≡ Ok rest → ts ≡ sign m ∷ rest
+expect_ok m [] rest e = absurd cc
+expect_ok m (t ∷ ts) rest e = go (is_mark m t) refl e
+  where
+    go : (b : Bool) → is_mark m t ≡ b → cond b (Ok ts) (Err (t ∷ ts)) ≡ Ok rest → t ∷ ts ≡ sign m ∷ rest
+    go true is e = let p : ts ≡ rest = cc in ap₂ ◌∷◌ (is_mark_sign m t is) p
+    go false is e = absurd cc
+
+pub a_name_ok : (ts : List Symbol) (n : ℕ) (rest : List Symbol) → a_name ts ≡ Ok (n, rest) → ts ≡ Name n ∷ rest
+a_name_ok (Name m ∷ ts) n rest e = let p = read_as m n ts rest e in cc (p.0, p.1)
+a_name_ok [] n rest e = absurd cc
+a_name_ok (t ∷ ts) n rest e = absurd cc
+
+pub a_text_ok : (ts : List Symbol) (n : ℕ) (rest : List Symbol) → a_text ts ≡ Ok (n, rest) → ts ≡ Text n ∷ rest
+a_text_ok (Text m ∷ ts) n rest e = let p = read_as m n ts rest e in cc (p.0, p.1)
+a_text_ok [] n rest e = absurd cc
+a_text_ok (t ∷ ts) n rest e = absurd cc
+
+pub at_comma_is : (ts : List Symbol) → at_comma ts ≡ true → ts ≡ Comma ∷ drop 1 ts
+at_comma_is (Comma ∷ ts) e = refl
+at_comma_is [] e = absurd cc
+at_comma_is (t ∷ ts) e = absurd cc
+
+-- ---- the token that a head is of
+pub is_integer : (t : Symbol) (n : ℕ) → head t ≡ heads.Integer n → t ≡ Integer n
+is_integer (Integer m) n e = let p : m ≡ n = cc in ap Integer p
+is_integer t n e = absurd cc
+
+pub is_name : (t : Symbol) (n : ℕ) → head t ≡ heads.Name n → t ≡ Name n
+is_name (Name m) n e = let p : m ≡ n = cc in ap Name p
+is_name t n e = absurd cc
+
+pub is_plus : (t : Symbol) → head t ≡ heads.Plus → t ≡ symbols.Plus
+is_plus symbols.Plus e = refl
+is_plus t e = absurd cc
+
+pub is_minus : (t : Symbol) → head t ≡ heads.Minus → t ≡ symbols.Minus
+is_minus symbols.Minus e = refl
+is_minus t e = absurd cc
+
+pub is_underscore : (t : Symbol) → head t ≡ heads.Wire → t ≡ symbols.Underscore
+is_underscore symbols.Underscore e = refl
+is_underscore t e = absurd cc
+
+pub is_exclamation : (t : Symbol) → head t ≡ heads.Cut → t ≡ symbols.Exclamation
+is_exclamation symbols.Exclamation e = refl
+is_exclamation t e = absurd cc
+
+pub is_open : (t : Symbol) → head t ≡ heads.Group → t ≡ Open
+is_open Open e = refl
+is_open t e = absurd cc
+
+pub is_backslash : (t : Symbol) → head t ≡ heads.Abstraction → t ≡ symbols.Backslash
+is_backslash symbols.Backslash e = refl
+is_backslash t e = absurd cc
+
+pub is_case : (t : Symbol) → head t ≡ heads.Case → t ≡ symbols.Case
+is_case symbols.Case e = refl
+is_case t e = absurd cc
+
+pub is_waveform : (t : Symbol) → head t ≡ heads.Waveform → t ≡ symbols.Waveform
+is_waveform symbols.Waveform e = refl
+is_waveform t e = absurd cc
