@@ -1,6 +1,6 @@
 """The definitions of the crates, read by their text alone: which there are, what each names, and all that some of them need.
 
-A name that an operator or a tactic brings in can be missing. Types that code declares and words of std are counted, and not followed."""
+A name that a tactic brings in can be missing. Types that code declares and words of std are counted, and not followed."""
 import collections
 import os
 import re
@@ -23,10 +23,10 @@ definitions, imports, comments, constructors, heads = {}, {}, {}, {}, {}
 
 
 def plain_lines(text):
-    """The lines, with those of an anonymous module moved to the left."""
+    """The lines, with those of an anonymous module, and of definitions that need one another, moved to the left."""
     inside = False
     for line in text.split("\n"):
-        if re.match(r"^module _.*where", line):
+        if re.match(r"^(module _.*where|mutual)$", line):
             inside = True
             continue
         if inside and line and not line.startswith((" ", "--")):
@@ -57,13 +57,15 @@ def parse(module):
                 for word in some.group(2).split(","):
                     old, _, new = word.strip().partition(" as ")
                     known[(new or old).strip()] = (some.group(1), old.strip())
+        elif line.startswith("infix"):
+            begun = True
         elif line.strip():
             begun = True
             if line.startswith(" "):
                 if current and not line.lstrip().startswith("--"):
                     found[current] += line + "\n"
-            else:
-                name = re.match(r"(?:abbrev |opaque |total |unfoldable )*(?:pub )?(?:record |data |mod )?(\S+)", line).group(1)
+            elif line[0] not in "})(":
+                name = re.match(r"(?:abbrev |unfoldable )*(?:pub )?(?:record |data |mod )?(\S+)", line).group(1)
                 current = name
                 found[current] = found.get(current, "") + line + "\n"
                 if comment:
@@ -113,6 +115,15 @@ def named(line, known):
     return [place for word in TOKEN.findall(line) if word in known for place in [place_of(*known[word])] if place]
 
 
+def operators_in(module, body):
+    """The operators that a file defines or imports and a text uses, each by all the words between its holes."""
+    words = set(body.split())
+    for name in [*definitions[module], *imports[module]]:
+        parts = [part for part in name.split("◌") if part]
+        if "◌" in name and parts and words.issuperset(parts):
+            yield name
+
+
 def needed(begin):
     """All definitions that these need, with their lines, the nearest first; and what they name beside definitions."""
     queue, seen, outside = collections.deque(begin), collections.OrderedDict(), set()
@@ -125,6 +136,7 @@ def needed(begin):
         seen[here] = body.count("\n")
         words = TOKEN.findall(body)
         words += [part for word in words for part in word.split(".") if part != word]
+        words += operators_in(module, body)
         for word in dict.fromkeys(words):
             if word == name:
                 continue

@@ -1,7 +1,7 @@
 -- A list that is made item by item, one item more.
 use Rattle.std.proofs.Common.{◌≡◌, ℕ, ◌+◌, ◌<◌, List, [], ◌∷◌, ◌++◌, length, take, get_or, refl, ap, ◌∙◌}
 use Rattle.std.proofs.lemmas.List.{take_more}
-use Rattle.fv_signal.specs.Grown.{grown}
+use Rattle.fv_signal.specs.headline.Grown.{grown}
 
 module _ {A S : Type 0} (f : List A → S → A) where
   grown_push : (now : List A) (ss : List S) (s : S) → grown f now (ss ++ s ∷ []) ≡ grown f now ss ++ f (grown f now ss) s ∷ []

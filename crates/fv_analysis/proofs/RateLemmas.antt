@@ -3,15 +3,17 @@ use Rattle.std.proofs.Common.{◌≡◌, ℕ, ◌+◌, ◌<◌, ◌≤◌, List,
 use Rattle.std.proofs.lemmas.List.{take_more, map_push, length-take-le}
 use Rattle.fv_num.specs.declared.op.Op.{Op}
 use Rattle.fv_num.specs.declared.op.Op.TheVariants.{Abs, Select2, Select3}
-use Rattle.fv_num.specs.Words.{inputs_of}
+use Rattle.fv_num.specs.headline.Words.{inputs_of}
 use Rattle.fv_signal.specs.declared.signal.Signal.{Signal}
-use Rattle.fv_signal.specs.declared.signal.Signal.TheVariants.{Input, Const, Control, Point, Delay, Back, Member}
+use Rattle.fv_signal.specs.declared.signal.Signal.TheVariants.{Input, Const, Control, Point, Delay, Back, Member, Read, Write}
 use Rattle.fv_signal.specs.declared.rate.Rate.{Rate}
 use Rattle.fv_signal.specs.declared.rate.Rate.TheVariants as rate
-use Rattle.fv_signal.specs.Rates.{faster, fastest, rate_in, rate_at, rates}
-use Rattle.fv_signal.specs.Value.{Graph, OperandsBelow}
+use Rattle.fv_signal.specs.headline.Rates.{faster, fastest, rate_in, rate_at, rates}
+use Rattle.fv_signal.specs.headline.Value.{Graph, OperandsBelow}
 use Rattle.fv_signal.proofs.Grown.{grown_is, length_grown}
-use Rattle.fv_analysis.specs.Stands.{node, OperandsThere, IsDelayed, DelaysAreSample}
+use Rattle.fv_analysis.specs.headline.Stands.{node}
+use Rattle.fv_analysis.specs.Stands.{IsDelayed, DelaysAreSample}
+use Rattle.fv_analysis.specs.inner.Stands.{OperandsThere}
 
 pub at_most_four : (op : Op) → inputs_of op ≤ 4
 at_most_four Abs = omega arith
@@ -49,6 +51,7 @@ delayed_rate : (r : ℕ → Rate) (n : Signal) → IsDelayed n → rate_in r n �
 delayed_rate r (Delay x d max) h = refl
 delayed_rate r (Back group i) h = refl
 delayed_rate r (Member group i) h = refl
+delayed_rate r (Write table w x i) h = refl
 delayed_rate r n h = absurd h
 
 pub delays_are_sample : (g : Graph) → DelaysAreSample g
@@ -66,6 +69,8 @@ there_of g i (Control k) h = tt
 there_of g i (Delay x d max) h = tt
 there_of g i (Back group k) h = tt
 there_of g i (Member group k) h = tt
+there_of g i (Read table r) h = h
+there_of g i (Write table w x r) h = tt
 
 pub rates_long : (ss : List Signal) (i : ℕ) → i ≤ length ss → length (rates (take i ss)) ≡ i
 rates_long ss i l = omega (arith, length_grown (λ now. rate_in (rate_at now)) [] (take i ss), length-take-le i ss l)

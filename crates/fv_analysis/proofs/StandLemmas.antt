@@ -2,14 +2,15 @@
 use Rattle.std.proofs.Common.{◌≡◌, ℕ, zero, suc, ◌<◌, ◌≤◌, List, [], length, take, refl, sym, ap, ◌∙◌, subst, arith, inl, inr, pos}
 use Rattle.std.proofs.lemmas.List.{get_or-take, length-take-le}
 use Rattle.std.proofs.lemmas.Bool.{cases_lt}
-use Rattle.fv_num.specs.Frames.{Frame, Stream}
+use Rattle.fv_num.specs.headline.Frames.{Frame, Stream}
 use Rattle.fv_signal.specs.declared.signal.Signal.{Signal}
-use Rattle.fv_signal.specs.declared.signal.Signal.TheVariants.{Input, Const, Control, Point, Delay, Back, Member}
-use Rattle.fv_signal.specs.Grown.{grown}
-use Rattle.fv_signal.specs.Value.{Graph, definition, value, signal_at, OperandsBelow, IsOrdered}
+use Rattle.fv_signal.specs.declared.signal.Signal.TheVariants.{Input, Const, Control, Point, Delay, Back, Member, Read, Write}
+use Rattle.fv_signal.specs.headline.Grown.{grown}
+use Rattle.fv_signal.specs.headline.Value.{Graph, definition, value, signal_at, OperandsBelow, IsOrdered}
 use Rattle.fv_signal.proofs.Grown.{grown_is, length_grown}
 use Rattle.fv_signal.proofs.Values.{values_are_given}
-use Rattle.fv_analysis.specs.Stands.{node, stand, stand_in, stands_of, StandsAlike}
+use Rattle.fv_analysis.specs.headline.Stands.{node, stand, stand_in, stands_of}
+use Rattle.fv_analysis.specs.Stands.{StandsAlike}
 
 abbrev all : Graph → List ℕ
 all g = grown (stand_in g) [] g.signals
@@ -29,6 +30,8 @@ IsNoMember (Point op args) = Unit {0}
 IsNoMember (Delay x d max) = Unit {0}
 IsNoMember (Back group i) = Unit {0}
 IsNoMember (Member group i) = ⊥
+IsNoMember (Read table r) = Unit {0}
+IsNoMember (Write table w x r) = Unit {0}
 
 -- a member stands for what its definition stands for, every other signal for itself
 pub data Standing (g : Graph) (s : ℕ) : Type 0 where
@@ -48,6 +51,8 @@ standing g ordered s l = go (node g s) refl
     go (Point op args) e = itself (Point op args) e tt refl
     go (Delay x d max) e = itself (Delay x d max) e tt refl
     go (Back group i) e = itself (Back group i) e tt refl
+    go (Read table r) e = itself (Read table r) e tt refl
+    go (Write table w x r) e = itself (Write table w x r) e tt refl
     go (Member group i) e =
         let b : definition g group i < s = subst (λ n. OperandsBelow g s n) e (ordered s (Const (pos 0)) l) in
         Another group i e b (stand_at g s l ∙ ap (stand_in g (take s (all g))) e ∙ get_or-take s (all g) (definition g group i) 0 b)

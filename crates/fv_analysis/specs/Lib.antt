@@ -1,6 +1,11 @@
+pub mod headline
 pub mod Stands
 pub mod History
 -- what its public clauses cite of crates below
+pub use Rattle.fv_num.specs.headline.Frames
 pub use Rattle.fv_num.specs.Frames
+pub use Rattle.fv_signal.specs.headline.Value
 pub use Rattle.fv_signal.specs.Value
+pub use Rattle.fv_signal.specs.headline.Rates
 pub use Rattle.fv_signal.specs.Rates
+pub mod inner

@@ -1,10 +1,11 @@
 // How far back signals are read.
 
 ghost use Rattle.std.specs.Prelude.{◌≡◌, ◌<◌, length, map, max, slice_index, slice_index_or, slice_set, true, false, All, IfOk};
-ghost use Rattle.fv_num.specs.Frames.{table};
-ghost use Rattle.fv_signal.specs.Value.{NamesWithin};
-ghost use Rattle.fv_analysis.specs.Stands.{stands_of};
-ghost use Rattle.fv_analysis.specs.History.{history_of, history_from, IsOver, Tell, TellMore};
+ghost use Rattle.fv_num.specs.headline.Frames.{table};
+ghost use Rattle.fv_signal.specs.headline.Value.{NamesWithin};
+ghost use Rattle.fv_analysis.specs.headline.Stands.{stands_of};
+ghost use Rattle.fv_analysis.specs.headline.History.{history_of, history_from};
+ghost use Rattle.fv_analysis.specs.inner.History.{IsOver, Tell, TellMore};
 
 use crate::history_list::Histories;
 use crate::resolve::stands;
@@ -85,6 +86,13 @@ fn tell(
         Signal::Control(_) => {}
         Signal::Point { op: _, args: _ } => {}
         Signal::Member { group: _, i: _ } => {}
+        Signal::Read { table: _, r: _ } => {}
+        Signal::Write {
+            table: _,
+            w: _,
+            x: _,
+            r: _,
+        } => {}
     }
 }
 

@@ -1,6 +1,6 @@
 // The laws of what members stand for, of rates and of histories.
 
-ghost use Rattle.fv_signal.specs.Value.{Graph};
+ghost use Rattle.fv_signal.specs.headline.Value.{Graph};
 ghost use Rattle.fv_analysis.specs.Stands.{StandsAlike, DelaysAreSample};
 ghost use Rattle.fv_analysis.specs.History.{HistoriesCover};
 

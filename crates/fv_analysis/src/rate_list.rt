@@ -1,7 +1,7 @@
 // The rates of a graph's signals.
 
 ghost use Rattle.std.specs.Prelude.{◌≡◌, ◌<◌, length};
-ghost use Rattle.fv_signal.specs.Rates.{rate_at};
+ghost use Rattle.fv_signal.specs.headline.Rates.{rate_at};
 
 use fv_signal::{Rate, SignalId};
 use std::marker::Model;

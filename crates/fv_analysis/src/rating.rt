@@ -1,8 +1,8 @@
 // How the rates of a graph are found.
 
 ghost use Rattle.std.specs.Prelude.{◌≡◌, ◌<◌, ◌≤◌, length, map, All, IfOk};
-ghost use Rattle.fv_signal.specs.Rates.{rate_in, rate_at, fastest as fastest_of, faster as faster_of, rates as rates_of};
-ghost use Rattle.fv_analysis.specs.Stands.{OperandsThere};
+ghost use Rattle.fv_signal.specs.headline.Rates.{rate_in, rate_at, fastest as fastest_of, faster as faster_of, rates as rates_of};
+ghost use Rattle.fv_analysis.specs.inner.Stands.{OperandsThere};
 
 use crate::rate_list::Rates;
 use fv_signal::{Graph, Rate, Signal, SignalId};
@@ -35,6 +35,13 @@ fn rate_of(rates: &[Rate], signal: Signal) -> Rate
         Signal::Delay { x: _, d: _, max: _ } => Rate::Sample,
         Signal::Back { group: _, i: _ } => Rate::Sample,
         Signal::Member { group: _, i: _ } => Rate::Sample,
+        Signal::Read { table: _, r } => rates[r.number() as usize],
+        Signal::Write {
+            table: _,
+            w: _,
+            x: _,
+            r: _,
+        } => Rate::Sample,
     }
 }
 

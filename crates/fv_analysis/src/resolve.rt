@@ -1,7 +1,7 @@
 // What members stand for.
 
 ghost use Rattle.std.specs.Prelude.{◌≡◌, ◌<◌, length, All, IfOk};
-ghost use Rattle.fv_analysis.specs.Stands.{node, stand_in, stands_of};
+ghost use Rattle.fv_analysis.specs.headline.Stands.{node, stand_in, stands_of};
 
 use fv_signal::{Graph, Signal, SignalId};
 use std::alloc::{AllocError, Global};
@@ -32,6 +32,13 @@ fn stand_of(graph: &Graph, stands: &[SignalId], place: u64) -> SignalId
             let definition = graph.group(group)[i as usize];
             stands[definition.number() as usize]
         }
-        _ => SignalId::new(place),
+        Signal::Input(_)
+        | Signal::Const(_)
+        | Signal::Control(_)
+        | Signal::Point { .. }
+        | Signal::Delay { .. }
+        | Signal::Back { .. }
+        | Signal::Read { .. }
+        | Signal::Write { .. } => SignalId::new(place),
     }
 }

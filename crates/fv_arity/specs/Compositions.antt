@@ -1,6 +1,6 @@
 -- When diagrams compose, and which condition fails where they do not.
 use Rattle.std.specs.Prelude.{◌≡◌, ◌≢◌, ℕ, ◌%◌, ◌<◌, ◌≤◌}
-use Rattle.fv_diagram.specs.Diagram.{Diagram, Bind, Par, Seq, Split, Merge, Rec, inputs, outputs}
+use Rattle.fv_diagram.specs.headline.Diagram.{Diagram, Bind, Par, Seq, Split, Merge, Rec, inputs, outputs}
 use Rattle.fv_diagram.specs.Composed.{IsComposed}
 use Rattle.fv_arity.specs.declared.refusal.ArityKind.{ArityKind}
 use Rattle.fv_arity.specs.declared.refusal.ArityKind.TheVariants as kind

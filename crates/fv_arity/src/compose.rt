@@ -1,7 +1,7 @@
 // The arity of a node over earlier diagrams.
 
 ghost use Rattle.std.specs.Prelude.{◌≡◌, ◌≢◌, ◌-◌, ◌<◌, ◌≤◌, ◌↔◌, ◌⊎◌, IfOk, IfErr, OnOk, MatchResult, IsTrue};
-ghost use Rattle.fv_diagram.specs.Diagram.{primitive_inputs, primitive_outputs, table_inputs};
+ghost use Rattle.fv_diagram.specs.headline.Diagram.{primitive_inputs, primitive_outputs, table_inputs};
 ghost use Rattle.fv_diagram.specs.Composed.{IsComposed};
 ghost use Rattle.fv_diagram.specs.Arena.{count_of, tree_with, ChildrenBelow, IsArity};
 ghost use Rattle.fv_arity.specs.Compositions.{IsMultiple, Composes, HasComposedParts, IsRefused};

@@ -8,14 +8,16 @@ use Rattle.std.proofs.lemmas.Bool.{le-leb}
 use Rattle.fv_base.specs.declared.limits.TheConstants.{MOST_CHANNELS}
 use Rattle.byteorder.specs.Endian.{big_bytes}
 use Rattle.byteorder.specs.Numbers.{big_number-reads_back}
-use Rattle.fv_num.specs.Words.{is_sample_width}
+use Rattle.fv_num.specs.headline.Words.{is_sample_width}
 use Rattle.fv_pcm.specs.declared.coding.Coding.TheVariants.{Au}
-use Rattle.fv_pcm.specs.Coded.{sample_bytes}
-use Rattle.fv_pcm.specs.Sizes.{data_size, data_limit, frames_in}
+use Rattle.fv_pcm.specs.headline.Coded.{sample_bytes}
+use Rattle.fv_pcm.specs.headline.Sizes.{data_size, data_limit}
+use Rattle.fv_pcm.specs.Sizes.{frames_in}
 use Rattle.fv_pcm.proofs.Widths.{at_width}
 use Rattle.fv_pcm.proofs.Again.{samples_again}
 use Rattle.fv_wav.specs.Written.{CanBeWritten}
-use Rattle.fv_au.specs.Reading.{au, head_of, head_bytes, encoding_of, is_channels, field, layout_of}
+use Rattle.fv_au.specs.headline.Reading.{au, head_of, head_bytes, encoding_of, is_channels, field}
+use Rattle.fv_au.specs.Reading.{layout_of}
 use Rattle.fv_au.specs.Written.{file_bytes, head_written, IsAuReadBack}
 use Rattle.fv_au.proofs.Heads.{said, head_long, head_whole}
 

@@ -4,9 +4,10 @@ use Rattle.std.specs.Prelude.{Result, IsTrue, IfOk, IfErr}
 use Rattle.std.proofs.lemmas.Bool.{cases_lt}
 use Rattle.std.proofs.lemmas.List.{append-nil}
 use Rattle.fv_base.specs.declared.role.Role.TheVariants.{Input}
-use Rattle.fv_outside.specs.Desk.{DeskState, Takes, TakesSome, KeepsFaults}
+use Rattle.fv_outside.specs.headline.Desk.{DeskState, KeepsFaults}
+use Rattle.fv_outside.specs.Desk.{Takes, TakesSome}
 use Rattle.fv_wav.specs.Stopping.{Passes, IsSaid}
-use Rattle.fv_au.specs.Reading.{head_of}
+use Rattle.fv_au.specs.headline.Reading.{head_of}
 use Rattle.fv_au.specs.Stopping.{AuStops, IsOfBytes}
 use Rattle.fv_au.specs.declared.head.AuHead.{AuHead}
 use Rattle.fv_au.specs.declared.refusal.AuRefusal.{AuRefusal}

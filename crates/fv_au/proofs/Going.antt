@@ -1,7 +1,7 @@
 -- Readings go on from one call to the next.
 use Rattle.std.proofs.Common.{ℕ, ◌∙◌}
 use Rattle.std.specs.Prelude.{IsTrue}
-use Rattle.fv_outside.specs.Desk.{DeskState}
+use Rattle.fv_outside.specs.headline.Desk.{DeskState}
 use Rattle.fv_base.specs.declared.role.Role.TheVariants.{Input}
 use Rattle.fv_outside.proofs.States.{told_before, fault_earlier, unfailing_later, some_then}
 use Rattle.fv_wav.specs.Stopping.{Passes, IsSaid}

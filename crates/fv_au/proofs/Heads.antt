@@ -5,7 +5,7 @@ use Rattle.std.proofs.lemmas.Bool.{le-ltb, lt-ltb}
 use Rattle.std.proofs.lemmas.List.{take_at, drop-take}
 use Rattle.byteorder.specs.Endian.{big_number}
 use Rattle.byteorder.specs.Numbers.{big_from-take}
-use Rattle.fv_au.specs.Reading.{field, bits_of, stated, is_encoding, is_channels, head_of, au, au_in}
+use Rattle.fv_au.specs.headline.Reading.{field, bits_of, stated, is_encoding, is_channels, head_of, au, au_in}
 use Rattle.fv_au.specs.declared.head.AuHead.{AuHead}
 use Rattle.fv_au.specs.declared.refusal.AuRefusal.{AuRefusal}
 use Rattle.fv_au.specs.declared.refusal.AuRefusal.TheVariants.{AuFormat, AuTruncated}

@@ -3,7 +3,7 @@ use Rattle.std.proofs.Common.{◌≡◌, ℕ, ◌<◌, ◌≤◌, true, false, L
 use Rattle.std.specs.Prelude.{Result, ◌⊎◌, nat_le, ◌&&◌}
 use Rattle.std.proofs.lemmas.Bool.{cases_lt, le-ltb, lt-ltb, le-leb, lt-leb}
 use Rattle.fv_base.specs.declared.limits.TheConstants.{MOST_CHANNELS}
-use Rattle.fv_au.specs.Reading.{au, field}
+use Rattle.fv_au.specs.headline.Reading.{au, field}
 use Rattle.fv_au.specs.Cases.{HasBytes, HasOffset, IsEncoding, HasEncoding, AreChannels, HasChannels, fields_of, IsAuOutcome, HasOneAuOutcome, AuEndsAtItsLength}
 use Rattle.fv_au.specs.Cases.{no_offset, low_offset, no_encoding, other_encoding, no_channels, other_channels, cut_gap, samples}
 use Rattle.fv_au.specs.declared.head.AuHead.{AuHead}

@@ -4,7 +4,7 @@ use Rattle.fv_base.specs.declared.limits.TheConstants.{MOST_CHANNELS}
 use Rattle.fv_au.specs.declared.head.AuHead.{AuHead}
 use Rattle.fv_au.specs.declared.refusal.AuRefusal.{AuRefusal}
 use Rattle.fv_au.specs.declared.refusal.AuRefusal.TheVariants.{AuFormat, AuTruncated}
-use Rattle.fv_au.specs.Reading.{field, bits_of, stated, au}
+use Rattle.fv_au.specs.headline.Reading.{field, bits_of, stated, au}
 
 -- so many bytes are there
 abbrev pub HasBytes : ℕ → List ℕ → Type 0

@@ -2,8 +2,8 @@
 use Rattle.std.specs.Prelude.{◌≡◌, refl, ℕ, List, [], ◌∷◌, ◌++◌, take, drop, flat_map, Some, Ok, Err, codes, pos, negsuc}
 use Rattle.fv_au.specs.declared.refusal.AuRefusal.TheVariants.{AuFormat, AuTruncated}
 use Rattle.fv_pcm.specs.declared.coding.Coding.TheVariants.{Au}
-use Rattle.fv_pcm.specs.Coded.{sample_of, sample_bytes}
-use Rattle.fv_au.specs.Reading.{au, head_bytes}
+use Rattle.fv_pcm.specs.headline.Coded.{sample_of, sample_bytes}
+use Rattle.fv_au.specs.headline.Reading.{au, head_bytes}
 
 -- three samples of 16 bits, in one channel, 44,100 a second
 abbrev three : List ℕ

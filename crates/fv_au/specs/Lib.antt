@@ -1,3 +1,4 @@
+pub mod headline
 pub mod Reading
 pub mod Cases
 pub mod Stopping

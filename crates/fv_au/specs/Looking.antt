@@ -3,7 +3,7 @@ use Rattle.std.specs.Prelude.{ℕ, List, ◌++◌, Some}
 use Rattle.std.specs.Borrow.{GName}
 use Rattle.fv_base.specs.declared.role.Role.{Role}
 use Rattle.fv_base.specs.declared.role.Role.TheVariants.{Program, Input, Controls, Output, Report}
-use Rattle.fv_outside.specs.Desk.{DeskState}
+use Rattle.fv_outside.specs.headline.Desk.{DeskState}
 use Rattle.fv_au.specs.declared.ahead.Ahead.{Ahead}
 
 -- the bytes that are left of each role, where these of the input are kept and stand before those that are left beneath

@@ -2,11 +2,12 @@
 use Rattle.std.specs.Prelude.{◌≡◌, ◌<◌, ◌≤◌, true, length}
 use Rattle.fv_base.specs.declared.limits.TheConstants.{MOST_CHANNELS}
 use Rattle.fv_base.specs.declared.role.Role.TheVariants.{Input}
-use Rattle.fv_num.specs.Words.{is_sample_width}
-use Rattle.fv_outside.specs.Desk.{DeskState, TakesSome, KeepsFaults}
+use Rattle.fv_num.specs.headline.Words.{is_sample_width}
+use Rattle.fv_outside.specs.headline.Desk.{DeskState, KeepsFaults}
+use Rattle.fv_outside.specs.Desk.{TakesSome}
 use Rattle.fv_outside.specs.declared.transfer.ReadError.{ReadError}
 use Rattle.fv_outside.specs.declared.transfer.ReadError.TheVariants.{Failed, NoMemory as OutOfMemory}
-use Rattle.fv_pcm.specs.Sizes.{data_limit}
+use Rattle.fv_pcm.specs.headline.Sizes.{data_limit}
 use Rattle.fv_wav.specs.Stopping.{IsFaultOfInput, IsSaid}
 use Rattle.fv_au.specs.declared.head.AuHead.{AuHead}
 use Rattle.fv_au.specs.declared.refusal.AuRefusal.{AuRefusal}

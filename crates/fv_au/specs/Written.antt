@@ -1,13 +1,15 @@
 -- What is written is read again (Sun audio; this project's profile).
 use Rattle.std.specs.Prelude.{◌≡◌, ℕ, ◌+◌, ◌*◌, ◌/◌, List, ◌++◌, length, get_or, flat_map, Some, Ok, ℤ, pos}
-use Rattle.fv_num.specs.Words.{clamped}
-use Rattle.fv_num.specs.Frames.{table}
+use Rattle.fv_num.specs.headline.Words.{clamped}
+use Rattle.fv_num.specs.headline.Frames.{table}
 use Rattle.fv_pcm.specs.declared.coding.Coding.TheVariants.{Au}
-use Rattle.fv_pcm.specs.Coded.{sample_bytes}
-use Rattle.fv_pcm.specs.Sizes.{data_size, frames_in}
+use Rattle.fv_pcm.specs.headline.Coded.{sample_bytes}
+use Rattle.fv_pcm.specs.headline.Sizes.{data_size}
+use Rattle.fv_pcm.specs.Sizes.{frames_in}
 use Rattle.fv_wav.specs.Written.{CanBeWritten}
 use Rattle.fv_au.specs.declared.head.AuHead.{AuHead}
-use Rattle.fv_au.specs.Reading.{IsAu, au, head_bytes, layout_of}
+use Rattle.fv_au.specs.headline.Reading.{au, head_bytes}
+use Rattle.fv_au.specs.Reading.{IsAu, layout_of}
 
 -- a whole file of these samples, one frame after another
 abbrev pub file_bytes : (channels rate bits : ℕ) → List ℤ → List ℕ

@@ -2,7 +2,8 @@
 
 ghost use Rattle.std.specs.Prelude.{◌≡◌, ◌<◌, ◌+◌, [], length, take, false, IsTrue, IsOk, IfOk, IfSome, IfNone, OnOk, OnErr};
 ghost use Rattle.fv_base.specs.declared.role.Role.TheVariants.{Input};
-ghost use Rattle.fv_outside.specs.Desk.{Takes, KeepsFaults, HasFault, IsUnfailing, fails_next};
+ghost use Rattle.fv_outside.specs.headline.Desk.{KeepsFaults, HasFault, IsUnfailing};
+ghost use Rattle.fv_outside.specs.Desk.{Takes, fails_next};
 ghost use Rattle.fv_au.specs.Looking.{ahead_of, ahead_state};
 
 use crate::kept::{Kept, MOST_KEPT};

@@ -2,10 +2,12 @@
 
 ghost use Rattle.std.specs.Prelude.{◌≡◌, ◌+◌, ◌-◌, ◌^◌, ◌<◌, ◌≤◌, ℕ, List, ◌++◌, length, take, IsTrue, Ok, Err, IfOk, IfErr, OnOk};
 ghost use Rattle.fv_base.specs.declared.role.Role.TheVariants.{Input};
-ghost use Rattle.fv_outside.specs.Desk.{Takes, KeepsFaults};
+ghost use Rattle.fv_outside.specs.headline.Desk.{KeepsFaults};
+ghost use Rattle.fv_outside.specs.Desk.{Takes};
 ghost use Rattle.fv_wav.specs.Stopping.{Passes};
 ghost use Rattle.fv_au.specs.declared.refusal.AuRefusal.TheVariants.{AuTruncated};
-ghost use Rattle.fv_au.specs.Reading.{IsAu, head_of, au};
+ghost use Rattle.fv_au.specs.headline.Reading.{head_of, au};
+ghost use Rattle.fv_au.specs.Reading.{IsAu};
 ghost use Rattle.fv_au.specs.Stopping.{IsAuHead, AuStops};
 
 use crate::head::AuHead;

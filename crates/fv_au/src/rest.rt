@@ -3,10 +3,10 @@
 ghost use Rattle.std.specs.Prelude.{◌≡◌, ℕ, [], ◌≤◌, length, true, IfErr, IfOk, IsNone, OnOk};
 ghost use Rattle.fv_base.specs.declared.limits.TheConstants.{MOST_CHANNELS};
 ghost use Rattle.fv_base.specs.declared.role.Role.TheVariants.{Input};
-ghost use Rattle.fv_num.specs.Words.{is_sample_width};
+ghost use Rattle.fv_num.specs.headline.Words.{is_sample_width};
 ghost use Rattle.fv_pcm.specs.declared.coding.Coding.TheVariants.{Au};
 ghost use Rattle.fv_pcm.specs.Coded.{samples_in};
-ghost use Rattle.fv_pcm.specs.Sizes.{data_limit};
+ghost use Rattle.fv_pcm.specs.headline.Sizes.{data_limit};
 ghost use Rattle.fv_wav.specs.Stopping.{Passes};
 ghost use Rattle.fv_au.specs.Reading.{whole_samples};
 ghost use Rattle.fv_au.specs.Stopping.{RestStops};

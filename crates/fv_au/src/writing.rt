@@ -4,14 +4,15 @@ ghost use Rattle.std.specs.Prelude.{◌≡◌, ◌+◌, ◌*◌, ◌/◌, ◌≤
 ghost use Rattle.fv_base.specs.declared.limits.TheConstants.{MOST_CHANNELS};
 ghost use Rattle.byteorder.specs.Endian.{big_bytes};
 ghost use Rattle.fv_base.specs.declared.role.Role.TheVariants.{Output};
-ghost use Rattle.fv_base.specs.Lists.{IsPrefixOf};
-ghost use Rattle.fv_outside.specs.Desk.{Appends, HasFault, KeepsFaults, IsUnfailing};
-ghost use Rattle.fv_num.specs.Words.{is_sample_width};
+ghost use Rattle.fv_base.specs.headline.Lists.{IsPrefixOf};
+ghost use Rattle.fv_outside.specs.headline.Desk.{HasFault, KeepsFaults, IsUnfailing};
+ghost use Rattle.fv_outside.specs.Desk.{Appends};
+ghost use Rattle.fv_num.specs.headline.Words.{is_sample_width};
 ghost use Rattle.fv_pcm.specs.declared.coding.Coding.TheVariants.{Au};
-ghost use Rattle.fv_pcm.specs.Coded.{sample_bytes};
-ghost use Rattle.fv_pcm.specs.Sizes.{data_limit};
+ghost use Rattle.fv_pcm.specs.headline.Coded.{sample_bytes};
+ghost use Rattle.fv_pcm.specs.headline.Sizes.{data_limit};
 ghost use Rattle.fv_wav.specs.declared.refusal.WriteRefusal.TheVariants.{WriteFault};
-ghost use Rattle.fv_au.specs.Reading.{head_bytes};
+ghost use Rattle.fv_au.specs.headline.Reading.{head_bytes};
 
 use byteorder::{BigEndian, ByteOrder};
 use fv_outside::{Desk, Role, write_all, write_pieces};

@@ -2,7 +2,7 @@
 
 ghost use Rattle.std.specs.Prelude.{◌≡◌, ◌≤◌, true};
 ghost use Rattle.fv_base.specs.declared.limits.TheConstants.{MOST_CHANNELS};
-ghost use Rattle.fv_num.specs.Words.{is_sample_width};
+ghost use Rattle.fv_num.specs.headline.Words.{is_sample_width};
 
 use crate::heads::{HEAD, THREE};
 use fv_au::{

@@ -4,7 +4,7 @@ use Rattle.std.proofs.Common.{subst, arith, ap₂, ◌⊎◌, inl, inr, add-one,
 use Rattle.std.proofs.lemmas.Bool.{cases_lt}
 use Rattle.std.proofs.lemmas.List.{reverse-reverse, length_push, length-append, get_or_append_left, get_or_push, map_push, take_at, drop_at, append-nil}
 use mathlib.Core.List.{reverse-cons}
-use Rattle.fv_base.specs.Lists.{IsPrefixOf, table}
+use Rattle.fv_base.specs.headline.Lists.{IsPrefixOf, table}
 
 -- ---- lists that grow at their end
 -- a list is empty, or one followed by an item

@@ -1,3 +1,3 @@
-pub mod Lists
+pub mod headline
 pub mod Arena
-pub mod Digits
+pub mod inner

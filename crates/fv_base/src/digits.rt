@@ -2,7 +2,7 @@
 
 ghost use Rattle.std.specs.Prelude.{◌≡◌, true};
 ghost use Rattle.std.specs.List.{list_all};
-ghost use Rattle.fv_base.specs.Digits.{is_digit, is_decimal, decimal_after, decimal_of};
+ghost use Rattle.fv_base.specs.headline.Digits.{is_digit, is_decimal, decimal_after, decimal_of};
 
 /// Whether the byte is a digit.
 pub fn is_digit(byte: u8) -> bool

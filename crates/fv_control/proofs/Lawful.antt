@@ -10,8 +10,8 @@ use Rattle.fv_control.specs.declared.script.Change.{Change}
 use Rattle.fv_control.specs.declared.refusal.ScriptRefusal.{ScriptRefusal}
 use Rattle.fv_control.specs.declared.refusal.ScriptRefusal.TheVariants.{ControlRange, ControlOrder, TextTooLong}
 use Rattle.fv_base.specs.declared.role.Role.TheVariants.{Controls}
-use Rattle.fv_control.specs.Script.{Request, ◌>>=◌, script, lines_say, line_says, lines_of, listed, least_behind, is_silent}
-use Rattle.fv_control.specs.Script.{is_within, no_control, change_of, asked, heard, request_of}
+use Rattle.fv_control.specs.headline.Script.{Request, ◌>>=◌, script, lines_say, line_says, lines_of, listed, least_behind, is_silent}
+use Rattle.fv_control.specs.headline.Script.{is_within, no_control, change_of, asked, heard, request_of}
 use Rattle.fv_control.specs.Laws.{NeverFall, IsOfControls, IsLawful}
 
 -- a change that a line may say

@@ -9,7 +9,7 @@ use Rattle.fv_base.specs.declared.limits.TheConstants.{LONGEST_TEXT}
 use Rattle.fv_diagram.specs.declared.control.ControlInfo.{ControlInfo}
 use Rattle.fv_control.specs.declared.script.Change.{Change}
 use Rattle.fv_control.specs.declared.refusal.ScriptRefusal.{ScriptRefusal}
-use Rattle.fv_control.specs.Script.{◌>>=◌, script, lines_say, line_says, lines_of, listed, least_behind}
+use Rattle.fv_control.specs.headline.Script.{◌>>=◌, script, lines_say, line_says, lines_of, listed, least_behind}
 use Rattle.fv_base.specs.declared.role.Role.TheVariants.{Controls}
 use Rattle.fv_control.specs.declared.refusal.ScriptRefusal.TheVariants.{TextTooLong}
 

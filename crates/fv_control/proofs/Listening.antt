@@ -4,10 +4,10 @@ use Rattle.std.specs.Prelude.{slice_set}
 use Rattle.std.specs.List.{AllByRecursion}
 use Rattle.std.proofs.lemmas.List.{take_more}
 use Rattle.fv_base.proofs.Lists.{table_items, table_same}
-use Rattle.fv_num.specs.Frames.{Frame, table}
+use Rattle.fv_num.specs.headline.Frames.{Frame, table}
 use Rattle.fv_control.specs.declared.script.Change.{Change}
 use Rattle.fv_control.specs.Laws.{NeverFall, Held, applied}
-use Rattle.fv_control.specs.Streams.{control_streams}
+use Rattle.fv_control.specs.headline.Streams.{control_streams}
 
 applied_push : (values : List ℤ) (cs : List Change) (c : Change) → applied values (cs ++ c ∷ []) ≡ slice_set (applied values cs) c.control c.value
 applied_push values [] c = refl

@@ -8,8 +8,8 @@ use Rattle.std.proofs.Common.{length-take}
 use Rattle.std.proofs.Math.ListN.{drop_of_length-le}
 use Rattle.std.proofs.lemmas.Bool.{cases_lt}
 use Rattle.std.proofs.lemmas.List.{take_at, drop_at, length_push, length-append, take_all}
-use Rattle.fv_control.specs.Script.{last_space, one_more, is_space, is_digit, is_decimal, decimal_after, natural_to, frame_of}
-use Rattle.fv_control.specs.Script.{value_of, signed, Request, requested, request_at, request_of}
+use Rattle.fv_control.specs.headline.Script.{last_space, one_more, is_space, is_digit, is_decimal, decimal_after, natural_to, frame_of}
+use Rattle.fv_control.specs.headline.Script.{value_of, signed, Request, requested, request_at, request_of}
 use Rattle.fv_control.specs.Laws.{Spells}
 
 -- ---- bytes that are no spaces

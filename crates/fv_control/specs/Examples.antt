@@ -3,8 +3,8 @@ use Rattle.std.specs.Prelude.{◌≡◌, List, [], ◌∷◌, ◌++◌, Some, No
 use Rattle.fv_diagram.specs.declared.control.ControlInfo.{ControlInfo}
 use Rattle.fv_diagram.specs.declared.control.ControlKind.TheVariants.{HSlider}
 use Rattle.fv_control.specs.declared.refusal.ScriptRefusal.TheVariants.{ControlLine, ControlUnknown, ControlRange, ControlOrder}
-use Rattle.fv_control.specs.Script.{script, line_says, request_of, value_of}
-use Rattle.fv_control.specs.Streams.{control_streams}
+use Rattle.fv_control.specs.headline.Script.{script, line_says, request_of, value_of}
+use Rattle.fv_control.specs.headline.Streams.{control_streams}
 
 -- a control of the range 0 to 10
 abbrev gain : List ControlInfo

@@ -4,8 +4,8 @@ ghost use Rattle.std.specs.Prelude.{◌≡◌, ◌+◌, ◌^◌, ◌<◌, ◌≤
 ghost use Rattle.std.specs.Prelude.{IfOk, IfErr, IfSome, MatchOption, take, drop, position, bytes_eq, slice_index_or};
 ghost use Rattle.std.specs.List.{position_or_len};
 ghost use Rattle.std.specs.Str.Lines.{strip_carriage_return};
-ghost use Rattle.fv_control.specs.Script.{line_says, request_of, is_space, last_space, natural_to, value_of};
-ghost use Rattle.fv_control.specs.Script.{asked, Request as Asked};
+ghost use Rattle.fv_control.specs.headline.Script.{line_says, request_of, is_space, last_space, natural_to, value_of};
+ghost use Rattle.fv_control.specs.headline.Script.{asked, Request as Asked};
 
 use crate::refusal::ScriptRefusal;
 use crate::script::Change;

@@ -2,7 +2,8 @@
 
 ghost use Rattle.std.specs.Prelude.{◌≡◌, ◌+◌, ◌^◌, ◌<◌, ◌≤◌, ◌==◌, length, ◌++◌, Option, Ok, Err, IfOk, IfErr};
 ghost use Rattle.fv_control.specs.declared.script.Change.{Change};
-ghost use Rattle.fv_control.specs.Script.{script, IsOfScript, line_says, listed, least_behind};
+ghost use Rattle.fv_control.specs.headline.Script.{script, line_says, listed, least_behind};
+ghost use Rattle.fv_control.specs.Script.{IsOfScript};
 
 use crate::line::{first_place, read_line};
 use crate::refusal::ScriptRefusal;

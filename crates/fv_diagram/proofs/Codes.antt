@@ -4,7 +4,7 @@ use Rattle.std.specs.Prelude.{slice_set}
 use Rattle.std.proofs.lemmas.Bool.{cases_lt}
 use Rattle.std.proofs.lemmas.List.{get_or_append_left, get_or_push, length-append}
 use Rattle.std.proofs.lemmas.List.Elements.{All-nil, All-cons, All-head, All-tail, All-push, All-weaker, All-set, All-get_or}
-use Rattle.fv_num.specs.Frames.{table}
+use Rattle.fv_num.specs.headline.Frames.{table}
 use Rattle.fv_base.proofs.Lists.{length_snoc, length_table}
 use Rattle.fv_diagram.specs.declared.step.Step.{Step}
 use Rattle.fv_diagram.specs.declared.step.Step.TheVariants as step

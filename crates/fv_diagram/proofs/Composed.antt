@@ -1,6 +1,6 @@
 -- What is composed, and has no table primitive, is well formed.
 use Rattle.std.proofs.lemmas.Bool.{or_parts}
-use Rattle.fv_diagram.specs.Diagram.{Diagram, Primitive, Constant, Control, Slot, Wave, Table, Bind, Par, Seq, Split, Merge, Rec, has_table_primitive}
+use Rattle.fv_diagram.specs.headline.Diagram.{Diagram, Primitive, Constant, Control, Slot, Wave, Table, Bind, Par, Seq, Split, Merge, Rec, has_table_primitive}
 use Rattle.fv_diagram.specs.Composed.{ComposedIsWell}
 
 pub composed_is_well : (d : Diagram) → ComposedIsWell d

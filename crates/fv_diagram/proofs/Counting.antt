@@ -7,9 +7,9 @@ use Rattle.std.proofs.lemmas.Bool.{cond-false}
 use Rattle.std.specs.Prelude.{int_rem, false}
 use Rattle.std.specs.Ordering.{int_eq}
 use Rattle.fv_num.specs.declared.op.Op.TheVariants.{Add, Rem}
-use Rattle.fv_num.specs.Words.{apply_of, remainder, wrap}
-use Rattle.fv_num.specs.Frames.{Stream}
-use Rattle.fv_num.specs.Tables.{place}
+use Rattle.fv_num.specs.headline.Words.{apply_of, remainder, wrap}
+use Rattle.fv_num.specs.headline.Frames.{Stream}
+use Rattle.fv_num.specs.headline.Tables.{place}
 
 -- an index within a list is its place
 pub place_inside : (n i : ℕ) → i < n → place n (pos i) ≡ i

@@ -4,12 +4,13 @@ use Rattle.std.proofs.Common.{Result, Ok, Err, OnOk}
 use Rattle.std.proofs.lemmas.Bool.{cases_lt}
 use Rattle.std.proofs.lemmas.List.{get_or-map, get_or-set_other, get_or-set_same, length-map}
 use Rattle.fv_base.proofs.Lists.{table_same, table_items}
-use Rattle.fv_num.specs.Words.{argument}
-use Rattle.fv_num.specs.Frames.{table}
+use Rattle.fv_num.specs.headline.Words.{argument}
+use Rattle.fv_num.specs.headline.Frames.{table}
 use Rattle.fv_diagram.specs.declared.step.Change.{Change}
 use Rattle.fv_diagram.specs.declared.step.Change.TheVariants as change
 use Rattle.fv_diagram.specs.History.{Numbers, numbers_of, HasRoom}
-use Rattle.fv_num.specs.Tables.{read_at, written}
+use Rattle.fv_num.specs.headline.Tables.{read_at}
+use Rattle.fv_num.specs.Tables.{written}
 use Rattle.fv_diagram.specs.declared.step.Step.TheVariants as step
 use Rattle.fv_diagram.specs.Steps.{recalled, in_lists, changed, lists_after}
 

@@ -8,24 +8,24 @@ use Rattle.std.proofs.lemmas.List.{get_or-map, drop-map}
 use Rattle.std.proofs.Math.Nat.{mod-lt}
 use Rattle.fv_base.proofs.Lists.{length_table, table_same, get_or_table}
 use Rattle.fv_num.specs.declared.op.Op.TheVariants.{Add}
-use Rattle.fv_num.specs.Words.{apply_of, argument}
-use Rattle.fv_num.specs.Tables.{read_at}
-use Rattle.fv_num.specs.Frames.{table}
+use Rattle.fv_num.specs.headline.Words.{apply_of, argument}
+use Rattle.fv_num.specs.headline.Tables.{read_at}
+use Rattle.fv_num.specs.headline.Frames.{table}
 use Rattle.fv_diagram.specs.declared.node.Primitive.{Primitive as Prim}
 use Rattle.fv_diagram.specs.declared.node.Primitive.TheVariants as prim
 use Rattle.fv_diagram.specs.declared.signals.Leaf.{Leaf}
 use Rattle.fv_diagram.specs.declared.signals.Leaf.TheVariants as leaf
-use Rattle.fv_diagram.specs.Diagram.{Diagram, Primitive, Constant, Control, Slot, Wave, Table, Bind, Par, Seq, Split, Merge, Rec, inputs, outputs}
-use Rattle.fv_diagram.specs.Diagram.{primitive_inputs, primitive_outputs, table_inputs, is_table_primitive, IsWellFormed}
-use Rattle.fv_diagram.specs.Streams.{Stream, dealt, every, wrapped_sum, merged}
-use Rattle.fv_diagram.specs.Streams.{added as add}
+use Rattle.fv_diagram.specs.headline.Diagram.{Diagram, Primitive, Constant, Control, Slot, Wave, Table, Bind, Par, Seq, Split, Merge, Rec, inputs, outputs}
+use Rattle.fv_diagram.specs.headline.Diagram.{primitive_inputs, primitive_outputs, table_inputs, is_table_primitive}
+use Rattle.fv_diagram.specs.Diagram.{IsWellFormed}
+use Rattle.fv_diagram.specs.headline.Streams.{Stream, dealt, every, wrapped_sum, merged, added as add}
 use Rattle.fv_diagram.specs.Wires.{Wired, carried}
 use Rattle.fv_diagram.specs.Hooks.{Hooks}
 use Rattle.fv_diagram.specs.Walked.{walked, one, primitive, waved, added, summed}
 use Rattle.fv_diagram.proofs.Carried.{wired_same, column_carries}
 use Rattle.fv_diagram.proofs.Counting.{place_inside}
 use Rattle.std.proofs.lemmas.Bool.{true≢false, or_parts}
-use Rattle.fv_diagram.specs.Diagram.{has_table}
+use Rattle.fv_diagram.specs.headline.Diagram.{has_table}
 use Rattle.fv_diagram.proofs.Places.{carried_items}
 use Rattle.fv_diagram.proofs.Sums.{every_front}
 use Rattle.fv_diagram.proofs.Turns.{not_below}

@@ -3,9 +3,9 @@ use Rattle.std.proofs.Common.{◌≡◌, ℕ, zero, suc, ◌+◌, ◌<◌, ◌�
 use Rattle.std.proofs.Common.{replicate, inl, inr}
 use Rattle.std.proofs.lemmas.List.{get_or_append_left, length-append, replicate_more, take_all, take-append-le}
 use Rattle.std.proofs.lemmas.Bool.{cases_lt}
-use Rattle.fv_base.specs.Lists.{IsPrefixOf}
+use Rattle.fv_base.specs.headline.Lists.{IsPrefixOf}
 use Rattle.fv_base.proofs.Lists.{length_table, map_table, table_items}
-use Rattle.fv_num.specs.Frames.{Stream, table, carried}
+use Rattle.fv_num.specs.headline.Frames.{Stream, table, carried}
 
 pub prefix_snoc : {A : Type 0} (xs : List A) (x : A) → IsPrefixOf xs (xs ++ x ∷ [])
 prefix_snoc xs x = record { rest = x ∷ []; is = refl }

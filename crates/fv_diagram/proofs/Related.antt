@@ -1,14 +1,14 @@
 -- Two users of the walk, whose wires and signals stay related.
 use Rattle.std.proofs.Common.{◌≡◌, ℕ, zero, suc, ◌%◌, List, [], ◌∷◌, ◌++◌, length, take, drop, get_or, refl, ap, subst, nat_eq, true, false, if◌then◌else◌, Bool, ℤ, pos}
 use Rattle.std.specs.Prelude.{slice_set}
-use Rattle.fv_base.specs.Lists.{table}
+use Rattle.fv_base.specs.headline.Lists.{table}
 use Rattle.fv_num.specs.declared.op.Op.TheVariants.{Add}
 use Rattle.fv_diagram.specs.declared.node.Primitive.{Primitive as Prim}
 use Rattle.fv_diagram.specs.declared.node.Primitive.TheVariants as prim
 use Rattle.fv_diagram.specs.declared.signals.Leaf.{Leaf}
 use Rattle.fv_diagram.specs.declared.signals.Leaf.TheVariants as leaf
-use Rattle.fv_diagram.specs.Diagram.{Diagram, Primitive, Constant, Control, Slot, Wave, Table, Bind, Par, Seq, Split, Merge, Rec, inputs}
-use Rattle.fv_diagram.specs.Streams.{dealt}
+use Rattle.fv_diagram.specs.headline.Diagram.{Diagram, Primitive, Constant, Control, Slot, Wave, Table, Bind, Par, Seq, Split, Merge, Rec, inputs}
+use Rattle.fv_diagram.specs.headline.Streams.{dealt}
 use Rattle.fv_diagram.specs.Wires.{plugged}
 use Rattle.fv_diagram.specs.Hooks.{Hooks}
 use Rattle.fv_diagram.specs.Walked.{walked, primitive, waved, added, summed}

@@ -5,13 +5,14 @@ use Rattle.std.specs.Prelude.{slice_set}
 use Rattle.std.proofs.lemmas.List.{get_or_append_left, get_or_push, length_push, length-append, length-set, length-take-le, length-take, get_or-take}
 use Rattle.std.proofs.lemmas.List.{get_or-append-add, get_or-set_same, get_or-set_other, take-map}
 use Rattle.std.proofs.lemmas.List.Elements.{All-weaker, All-cons, All-head, All-tail}
-use Rattle.fv_base.specs.Lists.{IsPrefixOf}
+use Rattle.fv_base.specs.headline.Lists.{IsPrefixOf}
 use Rattle.fv_base.proofs.Lists.{prefix_trans, length_table, table_same, map_table, get_or_table}
 use Rattle.fv_num.specs.declared.op.Op.{Op}
 use Rattle.fv_num.specs.declared.op.Op.TheVariants as op
 use Rattle.fv_num.specs.declared.op.Op.TheVariants.{Select2, Add, Rem}
-use Rattle.fv_num.specs.Words.{apply_of, inputs_of}
-use Rattle.fv_num.specs.Frames.{Stream, column, table, delayed, prefixed, back, carried, carries}
+use Rattle.fv_num.specs.headline.Words.{apply_of, inputs_of}
+use Rattle.fv_num.specs.headline.Frames.{Stream, column, table, delayed, prefixed, back, carried}
+use Rattle.fv_num.specs.Frames.{carries}
 use Rattle.fv_diagram.specs.declared.step.Step.{Step}
 use Rattle.fv_diagram.specs.declared.step.Step.TheVariants as step
 use Rattle.fv_diagram.specs.declared.draft.Loop.{Loop}
@@ -19,10 +20,11 @@ use Rattle.fv_diagram.specs.declared.signals.Leaf.{Leaf}
 use Rattle.fv_diagram.specs.declared.signals.Leaf.TheVariants as leaf
 use Rattle.fv_diagram.specs.declared.node.Primitive.{Primitive as Prim}
 use Rattle.fv_diagram.specs.declared.node.Primitive.TheVariants as prim
-use Rattle.fv_num.specs.Tables.{place, read_at, written_at as table_written_at}
+use Rattle.fv_num.specs.headline.Tables.{place, read_at, written_at as table_written_at}
 use Rattle.fv_num.proofs.Tables.{last_written_same}
 use Rattle.std.proofs.lemmas.Bool.{true≢false}
-use Rattle.fv_diagram.specs.Diagram.{Primitive, Table, primitive_inputs, table_inputs, is_table_primitive, AreNumbers}
+use Rattle.fv_diagram.specs.headline.Diagram.{Primitive, Table, primitive_inputs, table_inputs, is_table_primitive}
+use Rattle.fv_diagram.specs.Diagram.{AreNumbers}
 use Rattle.fv_diagram.specs.Walked.{primitive, one}
 use Rattle.fv_diagram.specs.declared.step.Change.{Change}
 use Rattle.fv_diagram.specs.declared.step.Change.TheVariants as change

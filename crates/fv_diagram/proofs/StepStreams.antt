@@ -2,14 +2,14 @@
 use Rattle.std.proofs.Common.{◌≡◌, ℕ, suc, ◌+◌, ◌<◌, List, [], ◌∷◌, ◌++◌, length, get_or, map, ap, ◌∙◌, subst, arith, pos, refl}
 use Rattle.std.proofs.lemmas.List.{get_or_push, length_push, get_or-map}
 use mathlib.Core.Path.{fun_ext}
-use Rattle.fv_base.specs.Lists.{IsPrefixOf}
-use Rattle.fv_num.specs.Words.{argument}
-use Rattle.fv_num.specs.Frames.{Stream, delayed, back}
-use Rattle.fv_num.specs.Valuation.{IsCausalAt, AreCausalFrom}
+use Rattle.fv_base.specs.headline.Lists.{IsPrefixOf}
+use Rattle.fv_num.specs.headline.Words.{argument}
+use Rattle.fv_num.specs.headline.Frames.{Stream, delayed, back}
+use Rattle.fv_num.specs.inner.Valuation.{IsCausalAt, AreCausalFrom}
 use Rattle.fv_num.proofs.Valued.{valuation_is}
 use Rattle.fv_diagram.specs.declared.step.Step.{Step}
 use Rattle.std.proofs.Common.{ℤ, ◌≤◌}
-use Rattle.fv_num.specs.Tables.{place, read_at, written_at}
+use Rattle.fv_num.specs.headline.Tables.{place, read_at, written_at}
 use Rattle.fv_num.proofs.Tables.{last_written_same}
 use Rattle.fv_diagram.specs.declared.step.Step.TheVariants as step
 use Rattle.fv_diagram.specs.Steps.{step_value, in_streams, step_at, OperandsBelow, AreOrdered, wires}

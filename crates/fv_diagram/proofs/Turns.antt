@@ -7,8 +7,9 @@ use Rattle.std.proofs.lemmas.List.{length-take-le, length-drop}
 use Rattle.std.proofs.lemmas.Bool.{cases_lt}
 use Rattle.std.proofs.Math.Nat.{mod-eq_of_lt}
 use Rattle.fv_base.proofs.Lists.{length_table}
-use Rattle.fv_diagram.specs.Diagram.{Diagram, Primitive, Constant, Control, Slot, Wave, Table, Bind, Par, Seq, Split, Merge, Rec, inputs, outputs, size, IsWellFormed}
-use Rattle.fv_diagram.specs.Streams.{dealt}
+use Rattle.fv_diagram.specs.headline.Diagram.{Diagram, Primitive, Constant, Control, Slot, Wave, Table, Bind, Par, Seq, Split, Merge, Rec, inputs, outputs, size}
+use Rattle.fv_diagram.specs.Diagram.{IsWellFormed}
+use Rattle.fv_diagram.specs.headline.Streams.{dealt}
 use Rattle.fv_diagram.specs.Arena.{count_of, tree_of}
 use Rattle.fv_diagram.specs.declared.pending.Task.{Task}
 use Rattle.fv_diagram.specs.declared.pending.Task.TheVariants as task

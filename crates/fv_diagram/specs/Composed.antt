@@ -1,8 +1,9 @@
 -- When all compositions of a diagram hold. It says what evaluation keeps of each diagram; `IsWellFormed` says which diagrams
 -- can run.
 use Rattle.std.specs.Prelude.{◌≡◌, ◌%◌, ◌≤◌, false}
-use Rattle.fv_diagram.specs.Diagram.{Diagram, Primitive, Constant, Control, Slot, Wave, Table, Bind, Par, Seq, Split, Merge, Rec, inputs, outputs}
-use Rattle.fv_diagram.specs.Diagram.{has_table_primitive, IsWellFormed}
+use Rattle.fv_diagram.specs.headline.Diagram.{Diagram, Primitive, Constant, Control, Slot, Wave, Table, Bind, Par, Seq, Split, Merge, Rec, inputs, outputs}
+use Rattle.fv_diagram.specs.headline.Diagram.{has_table_primitive}
+use Rattle.fv_diagram.specs.Diagram.{IsWellFormed}
 
 -- the condition of each composition holds (Orlarey, Fober, Letz 2004)
 abbrev pub IsComposed : Diagram → Type 0

@@ -1,6 +1,6 @@
 -- What each call of the signals does.
 use Rattle.std.specs.Prelude.{ℕ, Bool, List, ℤ}
-use Rattle.fv_num.specs.Words.{inputs_of}
+use Rattle.fv_num.specs.headline.Words.{inputs_of}
 use Rattle.fv_diagram.specs.declared.signals.Leaf.{Leaf}
 use Rattle.fv_diagram.specs.declared.signals.Leaf.TheVariants as leaf
 

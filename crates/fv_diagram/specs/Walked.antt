@@ -3,8 +3,8 @@ use Rattle.std.specs.Prelude.{ℕ, suc, ◌%◌, false, List, [], ◌∷◌, ◌
 use Rattle.fv_num.specs.declared.op.Op.TheVariants.{Add}
 use Rattle.fv_diagram.specs.declared.node.Primitive.{Primitive as Prim}
 use Rattle.fv_diagram.specs.declared.node.Primitive.TheVariants.{Wire, Cut, Mem, Prefix, Delay, Int, Attach, Point, ReadTable, WriteTable}
-use Rattle.fv_diagram.specs.Diagram.{Diagram, Primitive, Constant, Control, Slot, Wave, Table, Bind, Par, Seq, Split, Merge, Rec, inputs}
-use Rattle.fv_diagram.specs.Streams.{dealt}
+use Rattle.fv_diagram.specs.headline.Diagram.{Diagram, Primitive, Constant, Control, Slot, Wave, Table, Bind, Par, Seq, Split, Merge, Rec, inputs}
+use Rattle.fv_diagram.specs.headline.Streams.{dealt}
 use Rattle.fv_diagram.specs.Wires.{plugged}
 use Rattle.fv_diagram.specs.declared.signals.Leaf.TheVariants as leaf
 use Rattle.fv_diagram.specs.Hooks.{Hooks}

@@ -1,7 +1,7 @@
 // The numbers that a register had, and those of a table.
 
 ghost use Rattle.std.specs.Prelude.{◌≡◌, ℕ, ◌<◌, ◌≤◌, [], length, get_or, IfOk, OnOk};
-ghost use Rattle.fv_num.specs.Tables.{place as place_of};
+ghost use Rattle.fv_num.specs.headline.Tables.{place as place_of};
 ghost use Rattle.fv_diagram.specs.declared.step.Change.TheVariants.{Append};
 ghost use Rattle.fv_diagram.specs.History.{Numbers, numbers_of, HasRoom};
 
@@ -26,7 +26,8 @@ impl Model for History {
 
 impl History {
     ghost use Rattle.std.specs.Prelude.{◌≡◌, ◌∷◌, ◌++◌, ◌≤◌, IfOk, OnOk};
-    ghost use Rattle.fv_num.specs.Tables.{read_at, written};
+    ghost use Rattle.fv_num.specs.headline.Tables.{read_at};
+    ghost use Rattle.fv_num.specs.Tables.{written};
     ghost use Rattle.fv_diagram.specs.Steps.{recalled};
 
     /// No numbers.

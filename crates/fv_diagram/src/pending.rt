@@ -1,8 +1,9 @@
 // The walk over a diagram, whose pending work is a list.
 
 ghost use Rattle.std.specs.Prelude.{◌≡◌, ℕ, ◌+◌, ◌<◌, ◌≤◌, false, [], ◌∷◌, ◌++◌, length, drop, take, All, IfOk, OnOk};
-ghost use Rattle.fv_diagram.specs.Diagram.{inputs, primitive_inputs, primitive_outputs, table_inputs, is_table_primitive, IsWellFormed, AreNumbers};
-ghost use Rattle.fv_diagram.specs.Streams.{dealt};
+ghost use Rattle.fv_diagram.specs.headline.Diagram.{inputs, primitive_inputs, primitive_outputs, table_inputs, is_table_primitive};
+ghost use Rattle.fv_diagram.specs.Diagram.{IsWellFormed, AreNumbers};
+ghost use Rattle.fv_diagram.specs.headline.Streams.{dealt};
 ghost use Rattle.fv_diagram.specs.Arena.{count_of, tree_of};
 ghost use Rattle.fv_diagram.specs.declared.pending.Task.TheVariants.{Visit};
 ghost use Rattle.fv_diagram.specs.Hooks.{takes};

@@ -2,7 +2,8 @@
 
 ghost use Rattle.std.specs.Prelude.{◌≡◌, ℕ, ◌≤◌, List, [], ◌∷◌, length, pos, FitsSigned, All, IfOk, OnOk};
 ghost use Rattle.std.specs.Int.{w32};
-ghost use Rattle.fv_diagram.specs.Diagram.{AreNumbers, table_inputs};
+ghost use Rattle.fv_diagram.specs.headline.Diagram.{table_inputs};
+ghost use Rattle.fv_diagram.specs.Diagram.{AreNumbers};
 ghost use Rattle.fv_diagram.specs.Hooks.{Hooks, takes, Keeps};
 
 use fv_num::Op;

@@ -3,9 +3,10 @@ use Rattle.std.proofs.Common.{inl, inr, ◌≡◌, ℕ, ◌+◌, Bool, true, fal
 use Rattle.std.specs.List.{list_any}
 use Rattle.std.proofs.lemmas.Bool.{and_parts, ne_eqb, eqb-true}
 use Rattle.fv_diagram.specs.declared.node.Primitive.{Primitive as Prim}
-use Rattle.fv_diagram.specs.Diagram.{Diagram, Primitive, Constant, Control, Slot, Wave, Table, Bind, Par, Seq, Split, Merge, Rec, inputs}
-use Rattle.fv_diagram.specs.Diagram.{control_bound, has_table_primitive, is_table_primitive, IsFree, HasNoFreeSlot}
-use Rattle.fv_diagram_head.specs.Heads.{is_closed, is_fixed}
+use Rattle.fv_diagram.specs.headline.Diagram.{Diagram, Primitive, Constant, Control, Slot, Wave, Table, Bind, Par, Seq, Split, Merge, Rec, inputs}
+use Rattle.fv_diagram.specs.headline.Diagram.{has_table_primitive, is_table_primitive}
+use Rattle.fv_diagram.specs.Diagram.{control_bound, IsFree, HasNoFreeSlot}
+use Rattle.fv_diagram_head.specs.headline.Heads.{is_closed, is_fixed}
 
 not_true : (b : Bool) → not b ≡ true → b ≡ false
 not_true true h = absurd (cc)

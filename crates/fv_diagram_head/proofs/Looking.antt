@@ -5,12 +5,12 @@ use Rattle.std.specs.Prelude.{nat_eq, option_to_list, Option, Some, None}
 use Rattle.std.proofs.Math.Bool.{and_assoc}
 use Rattle.std.proofs.lemmas.List.{reverse-append}
 use Rattle.std.proofs.lemmas.List.Folds.{list_any-append}
-use Rattle.fv_diagram.specs.Diagram.{Diagram, Bind, inputs, size}
+use Rattle.fv_diagram.specs.headline.Diagram.{Diagram, Bind, inputs, size}
 use Rattle.fv_diagram.specs.Arena.{Arena, tree_of}
 use Rattle.fv_diagram.proofs.Turns.{some_size}
 use Rattle.fv_diagram_head.specs.declared.fixed.Look.{Look}
 use Rattle.fv_diagram_head.specs.declared.fixed.Look.TheVariants as look
-use Rattle.fv_diagram_head.specs.Heads.{is_closed, is_fixed}
+use Rattle.fv_diagram_head.specs.headline.Heads.{is_closed, is_fixed}
 use Rattle.fv_diagram_head.specs.inner.Looks.{AreInside, are_closed, Advances, Turns}
 
 -- the next piece is the last one

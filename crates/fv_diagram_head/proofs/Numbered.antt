@@ -1,14 +1,15 @@
 -- The numbers of a head, one more at a time.
 use Rattle.std.proofs.Common.{length, ◌≡◌, ℕ, ◌+◌, List, [], ◌∷◌, ◌++◌, map, replicate, refl, sym, ap, subst, ◌∙◌, arith, ℤ}
 use Rattle.std.proofs.lemmas.List.{length-map, length-replicate, nil_from_length, map-append, replicate-append-replicate}
-use Rattle.fv_num.specs.Words.{argument}
-use Rattle.fv_num.specs.Frames.{Frame, column}
-use Rattle.fv_diagram.specs.Diagram.{Diagram, control_bound}
+use Rattle.fv_num.specs.headline.Words.{argument}
+use Rattle.fv_num.specs.headline.Frames.{Frame, column}
+use Rattle.fv_diagram.specs.headline.Diagram.{Diagram}
+use Rattle.fv_diagram.specs.Diagram.{control_bound}
 use Rattle.fv_diagram.specs.Laws.{AnswersAlike, AnswersEach, AnswersOneMore}
 use Rattle.fv_diagram.specs.Steps.{RunnerState, StandsFor}
-use Rattle.fv_diagram.specs.Streams.{run, last}
-use Rattle.fv_diagram_number.specs.Numbers.{at_first, silent}
-use Rattle.fv_diagram_head.specs.Heads.{table_numbers}
+use Rattle.fv_diagram.specs.headline.Streams.{run, last}
+use Rattle.fv_diagram_number.specs.headline.Numbers.{at_first, silent}
+use Rattle.fv_diagram_head.specs.headline.Heads.{table_numbers}
 
 -- so many frames without numbers
 abbrev pub frames : ℕ → List Frame

@@ -1,7 +1,7 @@
 -- The outputs of the parts of a diagram.
 use Rattle.std.proofs.Common.{◌≡◌, ℕ, zero, suc, ◌+◌, ◌-◌, List, [], ◌∷◌, ◌++◌, refl, ◌∙◌, arith}
-use Rattle.fv_diagram.specs.Diagram.{Diagram, Primitive, Constant, Control, Slot, Wave, Table, Bind, Par, Seq, Split, Merge, Rec, outputs}
-use Rattle.fv_diagram_head.specs.Heads.{all_outputs, cut, parts}
+use Rattle.fv_diagram.specs.headline.Diagram.{Diagram, Primitive, Constant, Control, Slot, Wave, Table, Bind, Par, Seq, Split, Merge, Rec, outputs}
+use Rattle.fv_diagram_head.specs.headline.Heads.{all_outputs, cut, parts}
 
 outputs_append : (ds es : List Diagram) → all_outputs (ds ++ es) ≡ all_outputs ds + all_outputs es
 outputs_append [] es = omega arith

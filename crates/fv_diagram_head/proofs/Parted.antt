@@ -4,10 +4,10 @@ use Rattle.std.proofs.Common.{◌∙◌, arith, append_assoc, append-nil, add-on
 use Rattle.std.proofs.Math.Seq.{drop-cons}
 use Rattle.std.proofs.lemmas.List.{drop_all, map-append, take_more}
 use Rattle.std.proofs.lemmas.List.Elements.{All-nil, All-push}
-use Rattle.fv_diagram.specs.Diagram.{Diagram, Par, outputs, size}
+use Rattle.fv_diagram.specs.headline.Diagram.{Diagram, Par, outputs, size}
 use Rattle.fv_diagram.specs.Arena.{Arena, count_of, tree_of}
 use Rattle.fv_diagram.proofs.Turns.{some_size}
-use Rattle.fv_diagram_head.specs.Heads.{cut, parts}
+use Rattle.fv_diagram_head.specs.headline.Heads.{cut, parts}
 use Rattle.fv_diagram_head.specs.Lists.{AreThere, trees_of}
 
 -- the parts of diagrams, one after another

@@ -1,3 +1,3 @@
-pub mod Heads
+pub mod headline
 pub mod Lists
 pub mod inner

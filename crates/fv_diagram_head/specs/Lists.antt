@@ -1,6 +1,6 @@
 -- The diagrams that numbers in a list name (this project's profile).
 use Rattle.std.specs.Prelude.{ℕ, ◌<◌, List, map, All}
-use Rattle.fv_diagram.specs.Diagram.{Diagram}
+use Rattle.fv_diagram.specs.headline.Diagram.{Diagram}
 use Rattle.fv_diagram.specs.Arena.{Arena, count_of, tree_of}
 
 -- these numbers are of diagrams that are there

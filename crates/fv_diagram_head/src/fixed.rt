@@ -3,7 +3,7 @@
 ghost use Rattle.std.specs.Prelude.{◌≡◌, ◌<◌, ◌∷◌, true, reverse, IfOk, OnOk};
 ghost use Rattle.fv_diagram.specs.Arena.{count_of, tree_of};
 ghost use Rattle.fv_diagram_head.specs.declared.fixed.Look.TheVariants.{At};
-ghost use Rattle.fv_diagram_head.specs.Heads.{is_fixed};
+ghost use Rattle.fv_diagram_head.specs.headline.Heads.{is_fixed};
 ghost use Rattle.fv_diagram_head.specs.inner.Looks.{AreInside, Turns};
 
 use fv_diagram::{DiagramId, Diagrams, Node};

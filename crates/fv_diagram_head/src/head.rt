@@ -2,9 +2,9 @@
 
 ghost use Rattle.std.specs.Prelude.{◌≡◌, ◌<◌, ◌≤◌, [], ◌∷◌, length, take, drop, nat_eq, IfOk, MatchOption};
 ghost use Rattle.std.specs.List.{list_all};
-ghost use Rattle.fv_diagram.specs.Diagram.{Par};
+ghost use Rattle.fv_diagram.specs.headline.Diagram.{Par};
 ghost use Rattle.fv_diagram.specs.Arena.{count_of, tree_of};
-ghost use Rattle.fv_diagram_head.specs.Heads.{all_outputs, cut, is_fixed, is_head, parts};
+ghost use Rattle.fv_diagram_head.specs.headline.Heads.{all_outputs, cut, is_fixed, is_head, parts};
 ghost use Rattle.fv_diagram_head.specs.Lists.{AreThere, trees_of};
 
 use crate::fixed::is_fixed;

@@ -1,12 +1,12 @@
 // A table's size and its numbers, by running its head.
 
 ghost use Rattle.std.specs.Prelude.{◌≡◌, ◌<◌, true, length, IfOk};
-ghost use Rattle.fv_num.specs.Words.{argument};
-ghost use Rattle.fv_diagram.specs.Diagram.{outputs};
+ghost use Rattle.fv_num.specs.headline.Words.{argument};
+ghost use Rattle.fv_diagram.specs.headline.Diagram.{outputs};
 ghost use Rattle.fv_diagram.specs.Composed.{IsComposed};
 ghost use Rattle.fv_diagram.specs.Arena.{count_of, tree_of};
-ghost use Rattle.fv_diagram_number.specs.Numbers.{at_first};
-ghost use Rattle.fv_diagram_head.specs.Heads.{is_fixed, table_numbers};
+ghost use Rattle.fv_diagram_number.specs.headline.Numbers.{at_first};
+ghost use Rattle.fv_diagram_head.specs.headline.Heads.{is_fixed, table_numbers};
 
 use fv_diagram::{
     DiagramId, Diagrams, Stepper, answers_alike, answers_each, answers_one_more, composed_is_well,

@@ -3,13 +3,13 @@ use Rattle.std.proofs.Common.{◌≡◌, ℕ, ◌+◌, Bool, true, false, ◌&&�
 use Rattle.std.proofs.lemmas.Bool.{and_parts, cond-true}
 use Rattle.std.proofs.lemmas.List.{length-append}
 use Rattle.fv_base.proofs.Lists.{length_table}
-use Rattle.fv_num.specs.Words.{argument}
-use Rattle.fv_num.specs.Frames.{Frame}
+use Rattle.fv_num.specs.headline.Words.{argument}
+use Rattle.fv_num.specs.headline.Frames.{Frame}
 use Rattle.fv_diagram.specs.declared.node.Primitive.{Primitive as Prim}
 use Rattle.fv_diagram.specs.declared.node.Primitive.TheVariants.{Wire, Cut, Mem, Prefix, Delay, Int, Attach, Point, ReadTable, WriteTable}
-use Rattle.fv_diagram.specs.Diagram.{Diagram, Primitive, Constant, Control, Slot, Wave, Table, Bind, Par, Seq, Split, Merge, Rec, inputs, outputs, primitive_outputs}
-use Rattle.fv_diagram.specs.Streams.{Stream, run, last, beside, dealt, merged, primitive_at}
-use Rattle.fv_diagram_number.specs.Numbers.{is_timeless, silent, number_of}
+use Rattle.fv_diagram.specs.headline.Diagram.{Diagram, Primitive, Constant, Control, Slot, Wave, Table, Bind, Par, Seq, Split, Merge, Rec, inputs, outputs, primitive_outputs}
+use Rattle.fv_diagram.specs.headline.Streams.{Stream, run, last, beside, dealt, merged, primitive_at}
+use Rattle.fv_diagram_number.specs.headline.Numbers.{is_timeless, silent, number_of}
 use Rattle.fv_diagram_number.specs.inner.Timeless.{given}
 
 abbrev IsOn : Bool → Type 0

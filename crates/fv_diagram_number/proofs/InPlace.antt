@@ -7,9 +7,9 @@ use Rattle.std.proofs.lemmas.List.{get_or-set_other, drop_all, length-set}
 use Rattle.std.proofs.lemmas.Grind.{get_or-set_at}
 use Rattle.fv_base.proofs.Lists.{length_table, get_or_table, drop_step}
 use Rattle.fv_num.specs.declared.op.Op.TheVariants.{Add}
-use Rattle.fv_num.specs.Words.{argument, apply_of}
-use Rattle.fv_num.specs.Frames.{Frame, table}
-use Rattle.fv_diagram.specs.Streams.{wrapped_sum, added, every}
+use Rattle.fv_num.specs.headline.Words.{argument, apply_of}
+use Rattle.fv_num.specs.headline.Frames.{Frame, table}
+use Rattle.fv_diagram.specs.headline.Streams.{wrapped_sum, added, every}
 use Rattle.fv_diagram.proofs.Sums.{every_front}
 use Rattle.fv_diagram_number.specs.inner.Timeless.{Does, dealing, summing}
 

@@ -2,15 +2,15 @@
 use Rattle.std.proofs.Common.{◌≡◌, ◌⊎◌, ℕ, ◌+◌, ◌<◌, ◌≤◌, Bool, ◌&&◌, List, [], ◌∷◌, length, refl, sym, ap, ◌∙◌, subst, arith, ℤ, pos, inl, inr}
 use Rattle.std.proofs.Math.Bool.{and_assoc}
 use Rattle.fv_base.proofs.Lists.{length_table}
-use Rattle.fv_num.specs.Words.{argument}
-use Rattle.fv_diagram.specs.Diagram.{Diagram, Par, Seq, Split, Merge, inputs, outputs, size}
+use Rattle.fv_num.specs.headline.Words.{argument}
+use Rattle.fv_diagram.specs.headline.Diagram.{Diagram, Par, Seq, Split, Merge, inputs, outputs, size}
 use Rattle.fv_diagram.specs.Composed.{IsComposed}
 use Rattle.fv_diagram.specs.Arena.{Arena, count_of, tree_of}
 use Rattle.fv_diagram_number.specs.declared.timeless.Task.{Task}
 use Rattle.fv_diagram_number.specs.declared.timeless.Task.TheVariants as task
-use Rattle.fv_diagram_number.specs.Numbers.{is_timeless}
-use Rattle.fv_num.specs.Frames.{Frame}
-use Rattle.fv_diagram.specs.Streams.{dealt, merged}
+use Rattle.fv_diagram_number.specs.headline.Numbers.{is_timeless}
+use Rattle.fv_num.specs.headline.Frames.{Frame}
+use Rattle.fv_diagram.specs.headline.Streams.{dealt, merged}
 use Rattle.fv_diagram_number.specs.inner.Timeless.{Action, given, whole, action, Does, Leads, Fits, AllFit, IsReady, are_timeless, weight, Advances}
 use Rattle.fv_diagram.proofs.Turns.{some_size, not_below}
 use Rattle.fv_diagram_number.proofs.Actions.{narrowed, after, follow, beside}

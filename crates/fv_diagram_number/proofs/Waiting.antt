@@ -1,11 +1,11 @@
 -- What stands while tasks wait that find the value of a diagram.
 use Rattle.std.proofs.Common.{◌≡◌, ℕ, ◌<◌, List, [], ◌∷◌, ◌++◌, length, reverse, get_or, sym, ap, ap₂, ◌∙◌, subst, arith, ℤ, Some}
 use Rattle.std.proofs.lemmas.List.{reverse-append}
-use Rattle.fv_num.specs.Words.{argument}
-use Rattle.fv_diagram.specs.Diagram.{inputs, outputs}
+use Rattle.fv_num.specs.headline.Words.{argument}
+use Rattle.fv_diagram.specs.headline.Diagram.{inputs, outputs}
 use Rattle.fv_diagram.specs.Arena.{Arena, tree_of}
 use Rattle.fv_diagram_number.specs.declared.timeless.Task.{Task}
-use Rattle.fv_diagram_number.specs.Numbers.{is_timeless, number_of}
+use Rattle.fv_diagram_number.specs.headline.Numbers.{is_timeless, number_of}
 use Rattle.fv_diagram_number.specs.inner.Timeless.{IsReady, Leads, are_timeless, given}
 use Rattle.fv_diagram_number.proofs.FirstValues.{has_number}
 

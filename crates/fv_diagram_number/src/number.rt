@@ -3,7 +3,7 @@
 ghost use Rattle.std.specs.Prelude.{◌≡◌, ◌<◌, IfOk, IfSome, Some};
 ghost use Rattle.fv_diagram.specs.Composed.{IsComposed};
 ghost use Rattle.fv_diagram.specs.Arena.{count_of, tree_of};
-ghost use Rattle.fv_diagram_number.specs.Numbers.{number_of};
+ghost use Rattle.fv_diagram_number.specs.headline.Numbers.{number_of};
 
 use crate::timeless::value_of;
 use fv_diagram::{DiagramId, Diagrams, Node, Prim};

@@ -2,12 +2,12 @@
 // some of them and writes others.
 
 ghost use Rattle.std.specs.Prelude.{◌≡◌, ◌+◌, ◌<◌, ◌≤◌, ◌∷◌, ℕ, length, reverse, true, slice_set, IfOk, OnOk};
-ghost use Rattle.fv_num.specs.Words.{argument, apply_of, inputs_of};
-ghost use Rattle.fv_num.specs.Frames.{table};
-ghost use Rattle.fv_diagram.specs.Diagram.{Primitive, inputs, outputs, primitive_inputs, primitive_outputs};
+ghost use Rattle.fv_num.specs.headline.Words.{argument, apply_of, inputs_of};
+ghost use Rattle.fv_num.specs.headline.Frames.{table};
+ghost use Rattle.fv_diagram.specs.headline.Diagram.{Primitive, inputs, outputs, primitive_inputs, primitive_outputs};
 ghost use Rattle.fv_diagram.specs.Composed.{IsComposed};
 ghost use Rattle.fv_diagram.specs.Arena.{count_of, tree_of};
-ghost use Rattle.fv_diagram_number.specs.Numbers.{is_pointwise, number_of};
+ghost use Rattle.fv_diagram_number.specs.headline.Numbers.{is_pointwise, number_of};
 ghost use Rattle.fv_diagram_number.specs.declared.timeless.Task.TheVariants.{Visit};
 ghost use Rattle.fv_diagram_number.specs.inner.Timeless.{whole, dealing, summing, Does, IsReady, Turns};
 

@@ -3,15 +3,16 @@ use Rattle.std.proofs.Common.{◌≡◌, ℕ, zero, suc, ◌+◌, ◌<◌, ◌�
 use Rattle.std.proofs.Common.{sym, ◌∙◌, ap, arith, refl, add-one}
 use Rattle.std.proofs.lemmas.List.{append-nil, nil_from_length, take_more, get_or-drop, length-drop}
 use Rattle.std.proofs.lemmas.Grind.{flat_map-append}
-use Rattle.fv_num.specs.Words.{argument}
-use Rattle.fv_num.specs.Frames.{Frame, Stream, table, column}
-use Rattle.fv_diagram.specs.Diagram.{Diagram, control_bound}
-use Rattle.fv_diagram.specs.Streams.{run, last}
+use Rattle.fv_num.specs.headline.Words.{argument}
+use Rattle.fv_num.specs.headline.Frames.{Frame, Stream, table, column}
+use Rattle.fv_diagram.specs.headline.Diagram.{Diagram}
+use Rattle.fv_diagram.specs.Diagram.{control_bound}
+use Rattle.fv_diagram.specs.headline.Streams.{run, last}
 use Rattle.fv_diagram.specs.Laws.{AnswersEach, AnswersOneMore, AnswersAlike}
 use Rattle.fv_base.proofs.Lists.{get_or_table}
 use Rattle.fv_control.specs.declared.script.Change.{Change}
-use Rattle.fv_control.specs.Streams.{control_streams}
-use Rattle.fv_diagram.specs.Samples.{joined, no_slots}
+use Rattle.fv_control.specs.headline.Streams.{control_streams}
+use Rattle.fv_diagram.specs.headline.Samples.{joined, no_slots}
 use Rattle.fv_control.proofs.Listening.{heard_at}
 
 -- on no frames nothing is answered

@@ -1,9 +1,9 @@
 -- Small runs, which hold by computing.
 use Rattle.std.specs.Prelude.{◌≡◌, refl, [], ◌∷◌, pos}
 use Rattle.fv_diagram.specs.declared.node.Primitive.TheVariants.{Wire, Mem}
-use Rattle.fv_diagram.specs.Diagram.{Primitive, Control, Par}
-use Rattle.fv_control.specs.Streams.{control_streams}
-use Rattle.fv_diagram.specs.Samples.{answer_on}
+use Rattle.fv_diagram.specs.headline.Diagram.{Primitive, Control, Par}
+use Rattle.fv_control.specs.headline.Streams.{control_streams}
+use Rattle.fv_diagram.specs.headline.Samples.{answer_on}
 
 -- of two channels the second comes a frame later
 one_later : answer_on (Par (Primitive Wire) (Primitive Mem)) (control_streams [] []) 2 (pos 5 ∷ pos 3 ∷ pos 1 ∷ pos 2 ∷ []) ≡ pos 5 ∷ pos 0 ∷ pos 1 ∷ pos 3 ∷ []

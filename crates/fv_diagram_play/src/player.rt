@@ -2,13 +2,14 @@
 
 ghost use Rattle.std.specs.Prelude.{◌≡◌, ◌+◌, ◌*◌, ◌<◌, ◌≤◌, [], length, IfOk};
 ghost use Rattle.std.specs.List.{AllByRecursion};
-ghost use Rattle.fv_num.specs.Frames.{table};
-ghost use Rattle.fv_num.specs.Words.{argument};
+ghost use Rattle.fv_num.specs.headline.Frames.{table};
+ghost use Rattle.fv_num.specs.headline.Words.{argument};
 ghost use Rattle.fv_diagram.specs.Arena.{count_of, tree_of};
-ghost use Rattle.fv_diagram.specs.Diagram.{inputs, outputs, control_bound, HasNoFreeSlot, IsWellFormed};
+ghost use Rattle.fv_diagram.specs.headline.Diagram.{inputs, outputs};
+ghost use Rattle.fv_diagram.specs.Diagram.{control_bound, HasNoFreeSlot, IsWellFormed};
 ghost use Rattle.fv_control.specs.Laws.{NeverFall};
-ghost use Rattle.fv_control.specs.Streams.{control_streams};
-ghost use Rattle.fv_diagram.specs.Samples.{answer_on};
+ghost use Rattle.fv_control.specs.headline.Streams.{control_streams};
+ghost use Rattle.fv_diagram.specs.headline.Samples.{answer_on};
 
 use fv_control::{Change, listen, values_held};
 use fv_diagram::{DiagramId, Diagrams, Stepper, answers_alike, answers_each, answers_one_more};

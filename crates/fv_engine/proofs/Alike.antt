@@ -1,10 +1,10 @@
 -- An engine's frames and controls: what counts is before their end.
 use Rattle.std.proofs.Common.{◌+◌, length, refl, ◌∙◌, pos}
-use Rattle.fv_num.specs.Frames.{back}
+use Rattle.fv_num.specs.headline.Frames.{back}
 use Rattle.fv_base.proofs.Lists.{table_same}
-use Rattle.fv_signal.specs.Value.{value}
+use Rattle.fv_signal.specs.headline.Value.{value}
 use Rattle.fv_signal.proofs.Solutions.{values_look_back}
-use Rattle.fv_split_plan.specs.View.{lane_info}
+use Rattle.fv_split_plan.specs.headline.View.{lane_info}
 use Rattle.fv_engine.specs.Stands.{StandsAlike}
 use Rattle.fv_engine.proofs.Values.{back_past}
 

@@ -2,24 +2,26 @@
 use Rattle.std.proofs.Common.{◌≡◌, ℕ, ◌+◌, ◌*◌, ◌<◌, ◌≤◌, ℤ, ◌&&◌, ◌||◌, ◌==◌, List, [], length, map, All, refl, sym}
 use Rattle.std.proofs.Common.{ap, ap₂, ◌∙◌, subst, arith, mul_comm}
 use Rattle.std.proofs.lemmas.List.{get_or_default}
-use Rattle.fv_num.specs.Words.{argument}
+use Rattle.fv_num.specs.headline.Words.{argument}
 use Rattle.fv_base.proofs.Lists.{length_table}
-use Rattle.fv_signal.specs.Value.{value, Graph as Signals}
-use Rattle.fv_outside.specs.Tasks.{Tasks, task_count, reads_loop, reads_task}
-use Rattle.fv_outside.specs.Journal.{IsOrdered}
+use Rattle.fv_signal.specs.headline.Value.{value, Graph as Signals}
+use Rattle.fv_outside.specs.headline.Tasks.{Tasks, reads_loop, reads_task}
+use Rattle.fv_outside.specs.Tasks.{task_count}
+use Rattle.fv_outside.specs.headline.Journal.{IsOrdered}
 use Rattle.fv_outside.specs.declared.gate.Line.{Line}
 use Rattle.fv_outside.specs.declared.tasks.Task.{Task}
 use Rattle.fv_graph.specs.Graph.{Graph}
-use Rattle.fv_loopcode.specs.Code.{NamesHeld}
-use Rattle.fv_loopcode.specs.State.{State}
+use Rattle.fv_loopcode.specs.headline.Code.{NamesHeld}
+use Rattle.fv_loopcode.specs.headline.State.{State}
 use Rattle.fv_pool.specs.Region.{cells_of}
 use Rattle.fv_pool.specs.Lengths.{lengths_of}
 use Rattle.fv_pool.specs.declared.layout.Layout.{Layout}
 use Rattle.fv_lines.specs.Solo.{AreFramed}
 use Rattle.fv_lines.specs.declared.shape.LaneState.{LaneState}
-use Rattle.fv_split_plan.specs.View.{PlanView}
-use Rattle.fv_split_plan.specs.Plans.{IsPlanOf}
-use Rattle.fv_engine_tasks.specs.Block.{Block, IsReal, vectors_of}
+use Rattle.fv_split_plan.specs.headline.View.{PlanView}
+use Rattle.fv_split_plan.specs.headline.Plans.{IsPlanOf}
+use Rattle.fv_engine_tasks.specs.headline.Block.{vectors_of}
+use Rattle.fv_engine_tasks.specs.Block.{Block, IsReal}
 use Rattle.fv_engine_tasks.specs.Jobs.{IsJob}
 use Rattle.fv_engine.specs.inner.Plans.{NamesThere, held_by, block_from}
 use Rattle.fv_engine.specs.Stands.{EngineView, AreBegun, GoesOn, Standing}

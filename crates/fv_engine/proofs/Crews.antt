@@ -2,16 +2,16 @@
 use Rattle.std.proofs.Common.{◌≡◌, ℕ, ◌<◌, ℤ, List, length, sum, sym, ap, ◌∙◌, subst, arith}
 use Rattle.std.proofs.lemmas.List.{ext_get_or, length-map}
 use Rattle.fv_base.proofs.Lists.{table_same}
-use Rattle.fv_outside.specs.Tasks.{Tasks}
+use Rattle.fv_outside.specs.headline.Tasks.{Tasks}
 use Rattle.fv_pool.specs.Lengths.{lengths_of}
 use Rattle.fv_pool.specs.Region.{cells_of}
-use Rattle.fv_loopcode.specs.Lanes.{Lane}
-use Rattle.fv_loopcode.specs.State.{lanes_alone}
+use Rattle.fv_loopcode.specs.headline.Lanes.{Lane}
+use Rattle.fv_loopcode.specs.headline.State.{lanes_alone}
 use Rattle.fv_lines.specs.Solo.{held_at, history_at, opening_lanes, AreHeld, AreFramed}
 use Rattle.fv_lines.specs.declared.shape.LaneShape.{LaneShape}
 use Rattle.fv_lines.specs.declared.shape.LaneState.{LaneState}
 use Rattle.fv_lines_cut.specs.Cut.{lengths_by}
-use Rattle.fv_split_plan.specs.View.{PlanView}
+use Rattle.fv_split_plan.specs.headline.View.{PlanView}
 use Rattle.fv_engine_tasks.specs.Block.{IsReal}
 use Rattle.fv_engine_crew.specs.Spread.{block_in, MayRunOver}
 use Rattle.fv_engine_crew.specs.declared.block.SpreadBlock.{SpreadBlock}

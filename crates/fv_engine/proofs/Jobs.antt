@@ -3,21 +3,21 @@ use Rattle.std.proofs.Common.{◌≡◌, ℕ, ◌*◌, ◌<◌, ◌≤◌, ℤ, 
 use Rattle.std.proofs.Common.{nat_eq, lt-ltb, eq-eqb}
 use Rattle.std.specs.Prelude.{slice_index}
 use Rattle.fv_base.proofs.Lists.{get_or_table, length_table}
-use Rattle.fv_signal.specs.Value.{Graph}
-use Rattle.fv_outside.specs.Tasks.{Tasks, reads_loop}
+use Rattle.fv_signal.specs.headline.Value.{Graph}
+use Rattle.fv_outside.specs.headline.Tasks.{Tasks, reads_loop}
 use Rattle.fv_graph.proofs.Counts.{both_of}
-use Rattle.fv_loopcode.specs.Code.{NamesInput}
-use Rattle.fv_loopcode.specs.Lanes.{Lane, lane_of, no_lane}
-use Rattle.fv_loopcode.specs.State.{State, lanes_alone}
+use Rattle.fv_loopcode.specs.headline.Code.{NamesInput}
+use Rattle.fv_loopcode.specs.headline.Lanes.{Lane, lane_of, no_lane}
+use Rattle.fv_loopcode.specs.headline.State.{State, lanes_alone}
 use Rattle.fv_pool.specs.Layout.{part}
 use Rattle.fv_lines.specs.Hold.{from_start}
 use Rattle.fv_lines.specs.Solo.{opening_lanes, history_at, held_at}
 use Rattle.fv_lines.specs.declared.shape.LaneShape.{LaneShape}
 use Rattle.fv_lines.specs.declared.shape.LaneState.{LaneState}
-use Rattle.fv_split_plan.specs.View.{PlanView, lane_info, code_of}
-use Rattle.fv_split_plan.specs.Plans.{IsPlanOf}
+use Rattle.fv_split_plan.specs.headline.View.{PlanView, lane_info, code_of}
+use Rattle.fv_split_plan.specs.headline.Plans.{IsPlanOf}
 use Rattle.fv_split_plan.proofs.TaskLemmas.{plans_are_apart}
-use Rattle.fv_engine_tasks.specs.Block.{vectors_of}
+use Rattle.fv_engine_tasks.specs.headline.Block.{vectors_of}
 use Rattle.fv_engine_tasks.specs.Jobs.{IsJob}
 use Rattle.fv_engine.specs.inner.Plans.{block_from}
 use Rattle.fv_engine.specs.Stands.{EngineView, AreBegun, AreEnded, history_in}

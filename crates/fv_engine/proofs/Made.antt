@@ -9,9 +9,9 @@ use Rattle.std.proofs.lemmas.List.{get_or-replicate, length-map}
 use Rattle.std.proofs.lemmas.List.Elements.{All-take, All-drop, All-append, All-replicate}
 use Rattle.std.proofs.lemmas.Nat.{le-div}
 use Rattle.std.proofs.Math.Nat.{div-mul-le_self}
-use Rattle.fv_num.specs.Frames.{Stream, back, table}
+use Rattle.fv_num.specs.headline.Frames.{Stream, back, table}
 use Rattle.fv_base.proofs.Lists.{table_same, table_items}
-use Rattle.fv_outside.specs.Tasks.{reads_loop}
+use Rattle.fv_outside.specs.headline.Tasks.{reads_loop}
 use Rattle.fv_outside.specs.declared.tasks.Reads.{Reads}
 use Rattle.fv_graph.specs.Graph.{ArePairs, no_reads}
 use Rattle.fv_graph.proofs.Counts.{either_left, either_right, both_of}
@@ -24,9 +24,9 @@ use Rattle.fv_lines.specs.declared.shape.LaneShape.{LaneShape}
 use Rattle.fv_lines.specs.declared.shape.LaneState.{LaneState}
 use Rattle.fv_lines.proofs.Tables.{history_is, block_is, len_is, start_is, shapes_fit}
 use Rattle.fv_lines.proofs.Parts.{length_part}
-use Rattle.fv_split_plan.specs.View.{PlanView, lane_info}
-use Rattle.fv_split_plan.specs.Plans.{PlanReads}
-use Rattle.fv_engine_tasks.specs.Block.{vectors_of}
+use Rattle.fv_split_plan.specs.headline.View.{PlanView, lane_info}
+use Rattle.fv_split_plan.specs.headline.Plans.{PlanReads}
+use Rattle.fv_engine_tasks.specs.headline.Block.{vectors_of}
 use Rattle.fv_engine.specs.Past.{past}
 
 -- ---- vectors

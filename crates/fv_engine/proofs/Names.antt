@@ -3,7 +3,8 @@ use Rattle.std.proofs.Common.{inl, inr, ℕ, ◌<◌, List, [], ◌∷◌, refl,
 use Rattle.std.proofs.lemmas.List.Elements.{All-cons}
 use Rattle.fv_loopcode.specs.declared.step.Step.{Step}
 use Rattle.fv_loopcode.specs.declared.step.Step.TheVariants as step
-use Rattle.fv_loopcode.specs.Code.{NamesHeld, NamesInput, IsWithin}
+use Rattle.fv_loopcode.specs.headline.Code.{NamesHeld, NamesInput}
+use Rattle.fv_loopcode.specs.Code.{IsWithin}
 
 -- each step reads held values and channels that are there
 module _ (held channels : ℕ) where

@@ -1,12 +1,12 @@
 -- A block that runs over the lanes of one worker.
 use Rattle.std.proofs.Common.{◌≡◌, ℕ, ◌+◌, ◌<◌, ℤ, List, [], length, drop, sym, ap, ap₂, ◌∙◌, subst, arith}
 use Rattle.fv_base.proofs.Lists.{length_table}
-use Rattle.fv_outside.specs.Tasks.{Tasks}
+use Rattle.fv_outside.specs.headline.Tasks.{Tasks}
 use Rattle.fv_outside.specs.declared.gate.Line.{Line}
 use Rattle.fv_graph.specs.Graph.{net_of}
 use Rattle.fv_graph_core.specs.Core.{Now, opening}
-use Rattle.fv_loopcode.specs.Lanes.{Lane, lane_of}
-use Rattle.fv_loopcode.specs.State.{State}
+use Rattle.fv_loopcode.specs.headline.Lanes.{Lane, lane_of}
+use Rattle.fv_loopcode.specs.headline.State.{State}
 use Rattle.fv_lines.specs.Solo.{lanes_of, lane_at, held_at, history_at, lengths_in, shapes_in, cells_in, frames_in, opening_lanes, IsSolo, AreFull}
 use Rattle.fv_lines.specs.declared.solo.Solo.{Solo}
 use Rattle.fv_lines.specs.declared.shape.LaneShape.{LaneShape}

@@ -2,7 +2,7 @@
 use Rattle.std.proofs.Common.{ℕ, ◌<◌, length, sym, ◌∙◌, subst, arith}
 use Rattle.fv_pool.specs.Lengths.{lengths_of}
 use Rattle.fv_lines.specs.Shape.{IsLaneLength}
-use Rattle.fv_split_plan.specs.View.{lane_info}
+use Rattle.fv_split_plan.specs.headline.View.{lane_info}
 use Rattle.fv_engine.specs.Stands.{HaveLengths}
 use Rattle.fv_engine.specs.Stored.{IsStored}
 use Rattle.fv_engine.specs.declared.engine.Engine.TheInside.{Inside}

@@ -4,22 +4,23 @@ use Rattle.std.proofs.Common.{◌∙◌, subst, arith, get_or, drop, ℤ, pos, n
 use Rattle.std.proofs.lemmas.Bool.{cases_lt, ltb-true, eqb-true, cond-true, cond-false, le-leb, lt-leb}
 use Rattle.std.proofs.lemmas.List.{get_or-append-add, get_or_append_left, get_or-drop, length-append, length-drop}
 use Rattle.std.proofs.Math.ListN.{get_or-eq_default}
-use Rattle.fv_num.specs.Words.{argument}
-use Rattle.fv_num.specs.Frames.{Frame, Stream, column, back, table, rows}
+use Rattle.fv_num.specs.headline.Words.{argument}
+use Rattle.fv_num.specs.headline.Frames.{Frame, Stream, column, back, table, rows}
 use Rattle.fv_base.proofs.Lists.{get_or_table, length_table, table_same, table_items}
-use Rattle.fv_signal.specs.Value.{Graph, value}
+use Rattle.fv_signal.specs.headline.Value.{Graph, value}
 use Rattle.fv_signal.proofs.Solutions.{values_look_back}
 use Rattle.fv_graph.proofs.Counts.{both_true, both_of}
 use Rattle.fv_loopcode.specs.Code.{frame_of}
-use Rattle.fv_loopcode.specs.Obeys.{Content, Place, OfLane, Flows, ObeysAt, window, HoldsJust, HoldsAt}
-use Rattle.fv_loopcode.specs.Lanes.{lane_of, sample_at}
-use Rattle.fv_loopcode.specs.State.{State}
+use Rattle.fv_loopcode.specs.headline.Obeys.{Place, OfLane, Flows}
+use Rattle.fv_loopcode.specs.Obeys.{Content, ObeysAt, window, HoldsJust, HoldsAt}
+use Rattle.fv_loopcode.specs.headline.Lanes.{lane_of, sample_at}
+use Rattle.fv_loopcode.specs.headline.State.{State}
 use Rattle.fv_loopcode.specs.Blocks.{before}
 use Rattle.fv_loopcode.proofs.Streams.{streams_obey}
 use Rattle.fv_loopcode.proofs.Named.{named_alone_count}
-use Rattle.fv_split_plan.specs.View.{PlanView, code_of, roles_of, lane_info}
-use Rattle.fv_split_plan.specs.Fits.{flows}
-use Rattle.fv_split_plan.specs.Plans.{PlanStands}
+use Rattle.fv_split_plan.specs.headline.View.{PlanView, code_of, roles_of, lane_info}
+use Rattle.fv_split_plan.specs.headline.Fits.{flows}
+use Rattle.fv_split_plan.specs.headline.Plans.{PlanStands}
 use Rattle.fv_engine_tasks.specs.Block.{Block, ObeysBlock, HoldUpTo, none_done}
 use Rattle.fv_engine.specs.inner.Plans.{NamesThere, held_by, block_from}
 use Rattle.fv_engine.specs.Stands.{EngineView, StandsFor, AreBegun, AreGiven}

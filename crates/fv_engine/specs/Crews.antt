@@ -1,7 +1,7 @@
 -- What several workers need of a plan (this project's profile).
 use Rattle.std.specs.Prelude.{ℕ, ◌≤◌}
-use Rattle.fv_outside.specs.Tasks.{Tasks}
-use Rattle.fv_split_plan.specs.View.{PlanView}
+use Rattle.fv_outside.specs.headline.Tasks.{Tasks}
+use Rattle.fv_split_plan.specs.headline.View.{PlanView}
 use Rattle.fv_engine_codes.specs.Codes.{AreLocalCodes, AreLaneCounts}
 use Rattle.fv_engine.specs.declared.crew_codes.CrewCodes.{CrewCodes}
 

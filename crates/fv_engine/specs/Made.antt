@@ -1,7 +1,7 @@
 -- What an engine is made of.
 use Rattle.std.specs.Prelude.{◌≡◌, ℕ, ◌<◌, List, length, take}
-use Rattle.fv_num.specs.Frames.{Stream}
-use Rattle.fv_outside.specs.Tasks.{reads_loop}
+use Rattle.fv_num.specs.headline.Frames.{Stream}
+use Rattle.fv_outside.specs.headline.Tasks.{reads_loop}
 use Rattle.fv_graph.specs.Graph.{Graph}
 use Rattle.fv_pool.specs.Layout.{part}
 use Rattle.fv_pool.specs.Lengths.{lengths_of}
@@ -10,7 +10,7 @@ use Rattle.fv_lines.specs.Hold.{from_start}
 use Rattle.fv_lines.specs.Shape.{IsLaneLength}
 use Rattle.fv_lines.specs.Solo.{history_at, block_at, len_at, start_at}
 use Rattle.fv_lines.specs.declared.shape.LaneShape.{LaneShape}
-use Rattle.fv_split_plan.specs.View.{PlanView, lane_info}
+use Rattle.fv_split_plan.specs.headline.View.{PlanView, lane_info}
 use Rattle.fv_engine_tasks.specs.Jobs.{RegistersFit}
 use Rattle.fv_engine_parcels.specs.Contents.{parts_of}
 use Rattle.fv_engine.specs.Past.{past}

@@ -1,17 +1,17 @@
 -- When an engine stands for frames and controls (this project's profile).
 use Rattle.std.specs.Prelude.{◌≡◌, ℕ, ◌+◌, ◌<◌, ◌≤◌, List, ◌++◌, length, take, drop, slice_index, slice_index_or, ℤ}
 use Rattle.std.specs.Prelude.{nat_lt, if◌then◌else◌}
-use Rattle.fv_num.specs.Words.{argument}
-use Rattle.fv_num.specs.Frames.{Frame, Stream, table, rows}
-use Rattle.fv_signal.specs.Value.{Graph, value}
-use Rattle.fv_loopcode.specs.Lanes.{lane_of}
-use Rattle.fv_loopcode.specs.State.{State}
+use Rattle.fv_num.specs.headline.Words.{argument}
+use Rattle.fv_num.specs.headline.Frames.{Frame, Stream, table, rows}
+use Rattle.fv_signal.specs.headline.Value.{Graph, value}
+use Rattle.fv_loopcode.specs.headline.Lanes.{lane_of}
+use Rattle.fv_loopcode.specs.headline.State.{State}
 use Rattle.fv_pool.specs.Layout.{part}
 use Rattle.fv_lines.specs.Hold.{from_start}
 use Rattle.fv_lines.specs.Shape.{copied_history, IsLaneLength}
-use Rattle.fv_split_plan.specs.Fits.{Names}
-use Rattle.fv_split_plan.specs.View.{PlanView, lane_info}
-use Rattle.fv_split_plan.specs.Plans.{PlanStands, IsPlanOf}
+use Rattle.fv_split_plan.specs.headline.Fits.{Names}
+use Rattle.fv_split_plan.specs.headline.View.{PlanView, lane_info}
+use Rattle.fv_split_plan.specs.headline.Plans.{PlanStands, IsPlanOf}
 use Rattle.fv_engine.specs.Past.{past}
 
 -- What an engine keeps: its plan and sizes, the cells of its one region, the lengths of the lanes' parts there, and the cell of

@@ -1,12 +1,12 @@
 -- How an engine is stored (this project's profile).
 use Rattle.std.specs.Prelude.{◌≡◌, ℕ, ◌<◌, ◌≤◌, length, map, IfSome}
 use Rattle.fv_base.specs.declared.limits.TheConstants.{MOST_BLOCK, MOST_CHANNELS, MOST_VECTORS}
-use Rattle.fv_loopcode.specs.Code.{NamesInput}
+use Rattle.fv_loopcode.specs.headline.Code.{NamesInput}
 use Rattle.fv_pool.specs.Region.{cells_of}
 use Rattle.fv_pool.specs.Lengths.{lengths_of}
 use Rattle.fv_lines.specs.declared.shape.LaneState.{LaneState}
-use Rattle.fv_split_plan.specs.View.{PlanView, code_of}
-use Rattle.fv_engine_tasks.specs.Block.{vectors_of}
+use Rattle.fv_split_plan.specs.headline.View.{PlanView, code_of}
+use Rattle.fv_engine_tasks.specs.headline.Block.{vectors_of}
 use Rattle.fv_engine_tasks.specs.Jobs.{RegistersFit}
 use Rattle.fv_engine_parcels.specs.Contents.{parts_of}
 use Rattle.fv_engine.specs.Stands.{EngineView, Standing}

@@ -1,8 +1,9 @@
 -- What a gate is told of a block of an engine.
 use Rattle.std.specs.Prelude.{◌≡◌, ℕ, ◌≤◌, length}
-use Rattle.fv_outside.specs.Tasks.{Tasks, task_count}
-use Rattle.fv_outside.specs.Journal.{BlockEntry, Room, IsOrdered}
-use Rattle.fv_engine_tasks.specs.Block.{vectors_of}
+use Rattle.fv_outside.specs.headline.Tasks.{Tasks}
+use Rattle.fv_outside.specs.Tasks.{task_count}
+use Rattle.fv_outside.specs.headline.Journal.{BlockEntry, Room, IsOrdered}
+use Rattle.fv_engine_tasks.specs.headline.Block.{vectors_of}
 use Rattle.fv_engine.specs.Stands.{EngineView}
 
 -- the plan's loops and reads, and the vectors of so many frames

@@ -1,7 +1,7 @@
 // What several workers keep of a plan.
 
 use fv_engine_codes::LaneCount;
-use fv_loopcode::Code;
+use fv_loopcode_machine::Code;
 
 /// The code of each loop over the lanes that it sees, how many these are, and how many workers run a block.
 #[derive(Drop)]

@@ -2,15 +2,16 @@
 
 ghost use Rattle.std.specs.Prelude.{◌≡◌, ℕ, ◌*◌, ◌++◌, ◌∷◌, [], ◌<◌, ◌≤◌, length, slice_index, false, IfOk, IfSome, IsSome, Some};
 ghost use Rattle.fv_base.specs.declared.limits.TheConstants.{DELAY_BUDGET, MOST_BLOCK, MOST_CHANNELS, MOST_VECTORS};
-ghost use Rattle.fv_num.specs.Frames.{Stream};
-ghost use Rattle.fv_signal.specs.Value.{Graph};
-ghost use Rattle.fv_outside.specs.Journal.{Told, BlockEntry, room_after};
-ghost use Rattle.fv_loopcode.specs.Code.{NamesHeld, NamesInput};
+ghost use Rattle.fv_num.specs.headline.Frames.{Stream};
+ghost use Rattle.fv_signal.specs.headline.Value.{Graph};
+ghost use Rattle.fv_outside.specs.headline.Journal.{Told, BlockEntry};
+ghost use Rattle.fv_outside.specs.Journal.{room_after};
+ghost use Rattle.fv_loopcode.specs.headline.Code.{NamesHeld, NamesInput};
 ghost use Rattle.fv_pool.specs.Region.{cells_of};
 ghost use Rattle.fv_pool.specs.Lengths.{lengths_of};
-ghost use Rattle.fv_split_plan.specs.View.{lane_info, code_of};
-ghost use Rattle.fv_split_plan.specs.Plans.{PlanStands};
-ghost use Rattle.fv_engine_tasks.specs.Block.{vectors_of};
+ghost use Rattle.fv_split_plan.specs.headline.View.{lane_info, code_of};
+ghost use Rattle.fv_split_plan.specs.headline.Plans.{PlanStands};
+ghost use Rattle.fv_engine_tasks.specs.headline.Block.{vectors_of};
 ghost use Rattle.fv_engine.specs.Stands.{StandsFor, GoesOn, SameParts, HaveLengths, StartsIn};
 ghost use Rattle.fv_engine.specs.Told.{tasks_told, IsEntry, HasRoomForBlock};
 

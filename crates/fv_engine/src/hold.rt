@@ -1,11 +1,12 @@
 // The held values of a block.
 
 ghost use Rattle.std.specs.Prelude.{◌≡◌, ℕ, ◌<◌, length};
-ghost use Rattle.fv_loopcode.specs.Code.{NamesHeld};
-ghost use Rattle.fv_split_plan.specs.Plans.{IsHeldCode};
+ghost use Rattle.fv_loopcode.specs.headline.Code.{NamesHeld};
+ghost use Rattle.fv_split_plan.specs.headline.Plans.{IsHeldCode};
 ghost use Rattle.fv_engine.specs.inner.Plans.{held_by};
 
-use fv_loopcode::{Store, run, still_code_is_free};
+use fv_loopcode::{Store, still_code_is_free};
+use fv_loopcode_machine::run;
 use fv_split_plan::Plan;
 
 // One lane of one sample. The code of held values neither loads nor appends, so nobody looks at it.
@@ -17,7 +18,7 @@ struct OneSample {
 
 impl Store for OneSample {
     ghost use Rattle.std.specs.Prelude.{[], ◌∷◌};
-    ghost use Rattle.fv_loopcode.specs.State.{lanes_alone};
+    ghost use Rattle.fv_loopcode.specs.headline.State.{lanes_alone};
     ghost use Rattle.fv_engine.specs.inner.OneLane.{lane_with};
 
     ghost state = { λ s. lanes_alone (lane_with s.is_written s.sample ∷ []) };
@@ -26,6 +27,10 @@ impl Store for OneSample {
 
     fn load(&self, _lane: u64, _index: u64, _back: u64) -> i32 {
         self.sample
+    }
+
+    fn has_just(&self, _lane: u64, samples: u64) -> bool {
+        samples == u64::from(self.is_written)
     }
 
     fn append(&mut self, _lane: u64, value: i32) {

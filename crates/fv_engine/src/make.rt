@@ -3,8 +3,8 @@
 ghost use Rattle.std.specs.Prelude.{◌≡◌, ℕ, ◌^◌, ◌<◌, ◌≤◌, true, IfOk, length, map, sum};
 ghost use Rattle.fv_base.specs.declared.limits.TheConstants.{DELAY_BUDGET, MOST_BLOCK};
 ghost use Rattle.fv_lines.specs.declared.shape.LaneShape.{LaneShape as Shape};
-ghost use Rattle.fv_split_plan.specs.View.{lane_info};
-ghost use Rattle.fv_engine_tasks.specs.Block.{vectors_of};
+ghost use Rattle.fv_split_plan.specs.headline.View.{lane_info};
+ghost use Rattle.fv_engine_tasks.specs.headline.Block.{vectors_of};
 ghost use Rattle.fv_engine_tasks.specs.Jobs.{RegistersFit};
 ghost use Rattle.fv_engine_parcels.specs.Contents.{parts_of};
 ghost use Rattle.fv_engine.specs.Made.{AreShapes, AreLanes, IsRunner};

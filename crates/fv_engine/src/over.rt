@@ -1,7 +1,7 @@
 // A block's tasks over the cells of a region. It takes plain loans, since of these a caller knows what they end with.
 
 ghost use Rattle.std.specs.Prelude.{◌≡◌, ℕ, ◌*◌, ◌<◌, length, [], All};
-ghost use Rattle.fv_loopcode.specs.State.{lanes_alone};
+ghost use Rattle.fv_loopcode.specs.headline.State.{lanes_alone};
 ghost use Rattle.fv_pool.specs.Lengths.{lengths_of};
 ghost use Rattle.fv_lines.specs.Solo.{AreLists, AreHeld, AreFramed, opening_lanes};
 ghost use Rattle.fv_engine_tasks.specs.Block.{IsReal};

@@ -1,7 +1,7 @@
 // The codes of a plan, for its blocks.
 
 use fv_engine_tasks::Codes;
-use fv_loopcode::Code;
+use fv_loopcode_machine::Code;
 use fv_split_plan::Plan;
 
 /// A plan, as blocks use it.

@@ -3,7 +3,7 @@ use Rattle.std.proofs.Common.{◌≡◌, ℕ, zero, suc, ◌+◌, ◌<◌, ◌�
 use Rattle.std.specs.Prelude.{slice_index, ◌==◌}
 use Rattle.std.proofs.lemmas.List.{get_or-map}
 use Rattle.fv_graph.specs.Words.{passing}
-use Rattle.fv_split_plan.specs.View.{PlanView, lane_info}
+use Rattle.fv_split_plan.specs.headline.View.{PlanView, lane_info}
 use Rattle.fv_split_plan.specs.declared.lane.LaneInfo.{LaneInfo}
 use Rattle.fv_engine_lanes.specs.Plans.{own_lanes}
 

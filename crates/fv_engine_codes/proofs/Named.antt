@@ -1,16 +1,18 @@
 -- The lanes that a loop's code names have places.
 use Rattle.std.proofs.Common.{◌≡◌, ℕ, zero, suc, ◌<◌, List, [], ◌∷◌, ◌++◌, length, arith, Bool, true, ℤ, pos, inl, inr}
 use Rattle.std.specs.Prelude.{All}
-use Rattle.fv_num.specs.Words.{argument}
-use Rattle.fv_num.specs.Frames.{Frame, Stream, column}
-use Rattle.fv_signal.specs.Value.{value}
+use Rattle.fv_num.specs.headline.Words.{argument}
+use Rattle.fv_num.specs.headline.Frames.{Frame, Stream, column}
+use Rattle.fv_signal.specs.headline.Value.{value}
 use Rattle.fv_loopcode.specs.declared.step.Step.{Step}
 use Rattle.fv_loopcode.specs.declared.step.Step.TheVariants as step
-use Rattle.fv_loopcode.specs.Code.{NamesLane, step_value}
-use Rattle.fv_loopcode.specs.Obeys.{Roles, Place, OfLane, Obeys, StepObeys, done_after, flowing, nothing}
-use Rattle.fv_split_plan.specs.Fits.{flows}
-use Rattle.fv_split_plan.specs.View.{PlanView, code_of, roles_of}
-use Rattle.fv_split_plan.specs.Plans.{PlanReads, IsPlan}
+use Rattle.fv_loopcode.specs.headline.Code.{step_value}
+use Rattle.fv_loopcode.specs.Code.{NamesLane}
+use Rattle.fv_loopcode.specs.headline.Obeys.{Roles, Place, OfLane, Obeys, StepObeys, done_after, flowing, nothing}
+use Rattle.fv_split_plan.specs.headline.Fits.{flows}
+use Rattle.fv_split_plan.specs.headline.View.{PlanView, code_of, roles_of}
+use Rattle.fv_split_plan.specs.headline.Plans.{PlanReads}
+use Rattle.fv_split_plan.specs.Plans.{IsPlan}
 use Rattle.fv_engine_lanes.specs.Renumbered.{renumbered, Places}
 use Rattle.fv_engine_codes.proofs.Once.{own_seen}
 

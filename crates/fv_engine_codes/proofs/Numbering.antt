@@ -5,7 +5,8 @@ use Rattle.std.specs.Prelude.{slice_index, ◌==◌}
 use Rattle.std.proofs.lemmas.Bool.{cases_lt}
 use Rattle.std.proofs.lemmas.List.{append_assoc, length-append, get_or_append_left, length-take-le, get_or-set_other, get_or-set_same}
 use Rattle.std.proofs.Math.Seq.{take-suc, get_or-append_seam}
-use Rattle.fv_outside.specs.Tasks.{bit, times}
+use Rattle.fv_outside.specs.headline.Tasks.{bit}
+use Rattle.fv_outside.specs.Tasks.{times}
 use Rattle.fv_graph.proofs.Counts.{bit_same}
 use Rattle.fv_graph.proofs.ReadsLemmas.{stands}
 use Rattle.fv_engine_codes.specs.inner.Numbered.{AreNumbered, AreOnce}

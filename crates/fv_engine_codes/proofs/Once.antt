@@ -5,15 +5,16 @@ use Rattle.std.specs.Prelude.{◌==◌, ◌&&◌, nat_lt, nat_eq}
 use Rattle.std.proofs.lemmas.List.{length-map, get_or-map}
 use mathlib.Core.Logic.{dite}
 use native.Mathlib.Decide.{ℕ_discrete, dec_le}
-use Rattle.fv_outside.specs.Tasks.{Tasks, bit, times, reads_loop}
+use Rattle.fv_outside.specs.headline.Tasks.{Tasks, bit, reads_loop}
+use Rattle.fv_outside.specs.Tasks.{times}
 use Rattle.fv_graph.specs.Words.{passing}
 use Rattle.fv_graph.specs.Graph.{IsGraph, pair_at}
 use Rattle.fv_graph.proofs.Counts.{bit_le, bit_same, bit_apart, bit_swap, bit_true, both_true, eq_of, one_of, map_miss, times_above, times_passing}
 use Rattle.fv_graph.proofs.ReadsLemmas.{map_rises, rises_once, stands, place, loop_place}
 use Rattle.fv_graph_core.proofs.Few.{few}
-use Rattle.fv_loopcode.specs.Obeys.{OfLane}
-use Rattle.fv_split_plan.specs.View.{PlanView, lane_info, roles_of}
-use Rattle.fv_split_plan.specs.Plans.{PlanReads}
+use Rattle.fv_loopcode.specs.headline.Obeys.{OfLane}
+use Rattle.fv_split_plan.specs.headline.View.{PlanView, lane_info, roles_of}
+use Rattle.fv_split_plan.specs.headline.Plans.{PlanReads}
 use Rattle.fv_engine_lanes.specs.Renumbered.{IsNamed}
 use Rattle.fv_engine_lanes.specs.Plans.{own_lanes, sources_of, lanes_of_all, locals_of}
 use Rattle.fv_engine_codes.specs.Codes.{AreOfPlan}

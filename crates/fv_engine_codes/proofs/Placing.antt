@@ -2,13 +2,14 @@
 use Rattle.std.proofs.Common.{◌≡◌, ℕ, ◌<◌, ◌≤◌, List, length, sym, ap, ◌∙◌, arith, lt-ltb}
 use Rattle.std.specs.Prelude.{slice_index, ◌==◌, nat_lt, nat_eq}
 use Rattle.std.proofs.lemmas.List.{length-append, get_or_append_left}
-use Rattle.fv_outside.specs.Tasks.{Tasks, times}
+use Rattle.fv_outside.specs.headline.Tasks.{Tasks}
+use Rattle.fv_outside.specs.Tasks.{times}
 use Rattle.fv_graph.specs.Graph.{IsGraph}
 use Rattle.fv_graph.proofs.Counts.{bit_same, both_of}
 use Rattle.fv_graph.proofs.ReadsLemmas.{get_passing, place}
-use Rattle.fv_loopcode.specs.Obeys.{OfLane}
-use Rattle.fv_split_plan.specs.View.{PlanView, lane_info, roles_of}
-use Rattle.fv_split_plan.specs.Plans.{PlanReads}
+use Rattle.fv_loopcode.specs.headline.Obeys.{OfLane}
+use Rattle.fv_split_plan.specs.headline.View.{PlanView, lane_info, roles_of}
+use Rattle.fv_split_plan.specs.headline.Plans.{PlanReads}
 use Rattle.fv_engine_lanes.specs.Renumbered.{Places}
 use Rattle.fv_engine_lanes.specs.Plans.{own_lanes, sources_of, lanes_of_all, locals_of}
 use Rattle.fv_engine_codes.specs.Codes.{AreOfPlan}

@@ -4,7 +4,8 @@ use Rattle.std.specs.Prelude.{slice_index, ◌==◌}
 use Rattle.std.proofs.lemmas.Nat.{div-mul-add, mod-mul-add}
 use Rattle.std.proofs.lemmas.List.{length-map, get_or-map}
 use Rattle.std.proofs.Math.Nat.{mul-le-mul_right}
-use Rattle.fv_outside.specs.Tasks.{Tasks, task_count}
+use Rattle.fv_outside.specs.headline.Tasks.{Tasks}
+use Rattle.fv_outside.specs.Tasks.{task_count}
 use Rattle.fv_graph.specs.Words.{passing}
 use Rattle.fv_graph.specs.Graph.{IsGraph, pair_at, pair_edge, chain_edge, loop_of, vector_of, inward}
 use Rattle.fv_graph.proofs.ReadsLemmas.{get_passing}

@@ -1,8 +1,8 @@
 -- The codes of a plan's loops over the lanes that the loops see (this project's profile).
 use Rattle.std.specs.Prelude.{◌≡◌, ℕ, ◌<◌, List, [], length, slice_index_or}
-use Rattle.fv_outside.specs.Tasks.{Tasks, reads_loop}
+use Rattle.fv_outside.specs.headline.Tasks.{Tasks, reads_loop}
 use Rattle.fv_loopcode.specs.declared.step.Step.{Step}
-use Rattle.fv_split_plan.specs.View.{PlanView}
+use Rattle.fv_split_plan.specs.headline.View.{PlanView}
 use Rattle.fv_engine_lanes.specs.Plans.{own_lanes, sources_of, lanes_of_all, IsLocalCode}
 use Rattle.fv_engine_codes.specs.declared.counts.LaneCount.{LaneCount}
 

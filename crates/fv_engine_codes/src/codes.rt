@@ -9,7 +9,7 @@ use crate::numbers::number_lanes;
 use crate::owners::lanes_by_loop;
 use fv_engine_lanes::local_code;
 use fv_graph::Tasks;
-use fv_loopcode::Code;
+use fv_loopcode_machine::Code;
 use fv_split_plan::Plan;
 use std::alloc::{AllocError, Global};
 

@@ -1,9 +1,9 @@
 -- Lanes as they begin, and the same ones later.
 use Rattle.std.proofs.Common.{◌≡◌, ℕ, ◌-◌, ◌<◌, List, length, map, get_or, sym, ap, ◌∙◌, arith, ℤ}
 use Rattle.std.proofs.lemmas.List.{length-map, get_or-map}
-use Rattle.fv_base.specs.Lists.{table}
+use Rattle.fv_base.specs.headline.Lists.{table}
 use Rattle.fv_base.proofs.Lists.{table_same, table_items}
-use Rattle.fv_loopcode.specs.Lanes.{Lane, lane_of, no_lane}
+use Rattle.fv_loopcode.specs.headline.Lanes.{Lane, lane_of, no_lane}
 use Rattle.fv_pool.specs.Layout.{part}
 use Rattle.fv_lines.proofs.Parts.{length_part}
 use Rattle.fv_lines.specs.Solo.{history_at, len_at, start_at, held_at, opening_lanes}

@@ -1,10 +1,11 @@
 -- The parcels of a block's first edges and of its last ones.
 use Rattle.std.proofs.Common.{◌≡◌, ℕ, ◌-◌, ◌*◌, List, sym, ap, ◌∙◌, subst, arith}
-use Rattle.fv_outside.specs.Tasks.{Tasks}
+use Rattle.fv_outside.specs.headline.Tasks.{Tasks}
 use Rattle.fv_graph.specs.Graph.{stride, edges_of}
 use Rattle.fv_lines.specs.declared.writer.LaneWriter.{LaneWriter}
 use Rattle.fv_steal_block.specs.Parcels.{AreParcelsFrom}
-use Rattle.fv_engine_tasks.specs.Block.{Block, vectors_of}
+use Rattle.fv_engine_tasks.specs.headline.Block.{vectors_of}
+use Rattle.fv_engine_tasks.specs.Block.{Block}
 use Rattle.fv_engine_parcels.specs.Contents.{tasks_in}
 use Rattle.fv_engine_parcels.specs.declared.start.Start.{Start}
 use Rattle.fv_engine_parcels.specs.declared.parcel.LoopParcel.{LoopParcel}

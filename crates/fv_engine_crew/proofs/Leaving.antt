@@ -3,14 +3,15 @@ use Rattle.std.proofs.Common.{◌≡◌, ℕ, ◌+◌, ◌*◌, ◌<◌, List, l
 use Rattle.std.specs.Prelude.{slice_index_or}
 use Rattle.std.proofs.lemmas.List.{length-map}
 use Rattle.fv_outside.specs.Tasks.{task_count}
-use Rattle.fv_outside.specs.Journal.{IsOrdered}
+use Rattle.fv_outside.specs.headline.Journal.{IsOrdered}
 use Rattle.fv_outside.specs.declared.gate.Line.{Line}
-use Rattle.fv_loopcode.specs.State.{lanes_alone}
+use Rattle.fv_loopcode.specs.headline.State.{lanes_alone}
 use Rattle.fv_lines.specs.Writer.{written_by, frames_of}
 use Rattle.fv_lines.specs.declared.shape.LaneState.{LaneState}
 use Rattle.fv_lines.specs.declared.writer.LaneWriter.{LaneWriter}
 use Rattle.fv_lines_cut.specs.Cut.{lengths_by, AreBegun, HoldEnds}
-use Rattle.fv_engine_tasks.specs.Block.{HoldUpTo, none_done, IsReal, vectors_of}
+use Rattle.fv_engine_tasks.specs.headline.Block.{vectors_of}
+use Rattle.fv_engine_tasks.specs.Block.{HoldUpTo, none_done, IsReal}
 use Rattle.fv_engine_tasks.specs.Outputs.{CanRead, sample_of}
 use Rattle.fv_engine_tasks.specs.Underway.{EndsBlock}
 use Rattle.fv_engine_tasks.proofs.Full.{IsDone, can_read}

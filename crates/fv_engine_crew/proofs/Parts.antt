@@ -5,8 +5,8 @@ use Rattle.std.specs.List.{flat_map}
 use Rattle.std.proofs.lemmas.List.{append_assoc, take_at}
 use Rattle.std.proofs.lemmas.List.Sums.{sum_by-cons}
 use Rattle.std.proofs.Math.Seq.{drop-append-add}
-use Rattle.fv_num.specs.Words.{argument}
-use Rattle.fv_base.specs.Lists.{table}
+use Rattle.fv_num.specs.headline.Words.{argument}
+use Rattle.fv_base.specs.headline.Lists.{table}
 use Rattle.fv_base.proofs.Lists.{table_same, table_items}
 use Rattle.fv_pool.specs.Layout.{part}
 use Rattle.fv_lines.specs.Solo.{len_at}

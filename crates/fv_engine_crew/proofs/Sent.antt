@@ -11,7 +11,7 @@ use denote.RawPtr.{Ptr, block_ptr, null_ptr}
 use denote.Ref.{NamedLft}
 use denote.Enum.Declared as E
 use denote.Param.Send.{IsSend, IsSync, sendable, recorded_sync, enum_sync, owning_send, AllSend, part_keyless}
-use denote.Param.SendFields.{declared_send}
+use denote.Param.SendFields.{declared_send, declared_sync}
 use denote.Struct.Owning.{fields}
 use Rattle.std.proofs.Crossing.{crosses}
 use Rattle.fv_num.specs.contracts.op.Op as op
@@ -24,7 +24,13 @@ use Rattle.fv_loopcode.specs.contracts.instruction.Operands as operands
 use Rattle.fv_loopcode.specs.contracts.instruction.Way as way
 use Rattle.fv_loopcode.specs.contracts.instruction.Action as action
 use Rattle.fv_loopcode.specs.contracts.instruction.Instruction as instruction
-use Rattle.fv_loopcode.specs.contracts.code.Code as code
+use Rattle.fv_loopcode.specs.contracts.code.Code as plain_code
+use Rattle.fv_loopcode_rows.specs.contracts.action.Pair as pair
+use Rattle.fv_loopcode_rows.specs.contracts.action.Action as cycle_action
+use Rattle.fv_split_components.specs.contracts.packed.Rows as rows
+use Rattle.fv_loopcode_machine.specs.contracts.schedule.Schedule as schedule
+use Rattle.fv_loopcode_machine.specs.contracts.code.Code as code
+use Rattle.fv_loopcode_machine.specs.contracts.code.Code.TheInside as inside
 use Rattle.fv_lines.specs.contracts.row.Row as row
 use Rattle.fv_lines.specs.contracts.shape.LaneShape as lane_shape
 use Rattle.fv_lines.specs.contracts.writer.LaneWriter as writer
@@ -146,8 +152,82 @@ action_sync = enum_sync (E.shape action.the_type) (
 instruction_sync : IsSync instruction.the_row
 instruction_sync = search (action_sync, sendable) depth 24
 
+plain_code_sync : IsSync plain_code.the_row
+plain_code_sync = search (step_sync, instruction_sync, sendable, crosses) depth 24
+
+pair_sync : IsSync (pair.the_field).row
+pair_sync = search sendable depth 24
+
+-- eighteen operations, two actions of a lane, and one that says nothing
+cycle_action_sync : IsSync (cycle_action.the_field).row
+cycle_action_sync = enum_sync (E.shape cycle_action.the_type) ((
+  (pair_sync, tt),
+  (
+    (pair_sync, tt),
+    (
+      (pair_sync, tt),
+      (
+        (pair_sync, tt),
+        (
+          (pair_sync, tt),
+          (
+            (pair_sync, tt),
+            (
+              (pair_sync, tt),
+              (
+                (pair_sync, tt),
+                (
+                  (pair_sync, tt),
+                  (
+                    (pair_sync, tt),
+                    (
+                      (pair_sync, tt),
+                      (
+                        (pair_sync, tt),
+                        (
+                          (pair_sync, tt),
+                          (
+                            (pair_sync, tt),
+                            (
+                              (pair_sync, tt),
+                              (
+                                (pair_sync, tt),
+                                (
+                                  (pair_sync, tt),
+                                  (
+                                    (pair_sync, tt),
+                                    ((search sendable, (search sendable, tt)), ((search sendable, (search sendable, tt)), (tt, tt))),
+                                  ),
+                                ),
+                              ),
+                            ),
+                          ),
+                        ),
+                      ),
+                    ),
+                  ),
+                ),
+              ),
+            ),
+          ),
+        ),
+      ),
+    ),
+  ),
+)
+    )
+
+rows_sync : IsSync rows.the_row
+rows_sync = search (sendable, crosses) depth 24
+
+schedule_sync : IsSync schedule.the_row
+schedule_sync = search (cycle_action_sync, rows_sync, sendable, crosses) depth 24
+
+inside_sync : IsSync inside.the_row
+inside_sync = declared_sync inside.the_type (plain_code_sync, (schedule_sync, tt))
+
 code_sync : IsSync code.the_row
-code_sync = search (step_sync, instruction_sync, sendable, crosses) depth 24
+code_sync = search (inside_sync, sendable) depth 24
 
 pub body_sync : (a b : NamedLft) → IsSync (body.the_row a b)
 body_sync a b = search (code_sync, sendable, crosses) depth 24

@@ -1,13 +1,15 @@
 -- What the writers that come back hold: all vectors of the block, or none.
 use Rattle.std.proofs.Common.{◌≡◌, ℕ, ◌-◌, ◌<◌, List, length, map, get_or, sym, ap, ◌∙◌, subst, arith, true}
 use Rattle.std.proofs.Math.Nat.{min-eq_right}
-use Rattle.fv_outside.specs.Tasks.{Tasks}
-use Rattle.fv_loopcode.specs.Lanes.{Lane, lane_of}
-use Rattle.fv_loopcode.specs.Obeys.{Content, Place, OfLane, HoldsAt, HoldsJust}
+use Rattle.fv_outside.specs.headline.Tasks.{Tasks}
+use Rattle.fv_loopcode.specs.headline.Lanes.{Lane, lane_of}
+use Rattle.fv_loopcode.specs.headline.Obeys.{Place, OfLane}
+use Rattle.fv_loopcode.specs.Obeys.{Content, HoldsAt, HoldsJust}
 use Rattle.fv_loopcode.specs.Blocks.{before}
 use Rattle.fv_lines.specs.Writer.{list_of}
 use Rattle.fv_lines.specs.declared.writer.LaneWriter.{LaneWriter}
-use Rattle.fv_engine_tasks.specs.Block.{Block, ObeysBlock, HoldUpTo, none_done, IsReal, vectors_of}
+use Rattle.fv_engine_tasks.specs.headline.Block.{vectors_of}
+use Rattle.fv_engine_tasks.specs.Block.{Block, ObeysBlock, HoldUpTo, none_done, IsReal}
 use Rattle.fv_engine_tasks.specs.Jobs.{IsJob}
 use Rattle.fv_engine_tasks.proofs.Numbers.{enough}
 use Rattle.fv_engine_lanes.specs.Lanes.{lane_open}

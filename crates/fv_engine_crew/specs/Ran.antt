@@ -1,9 +1,9 @@
 -- A block that ran over the cells of a region.
 use Rattle.std.specs.Prelude.{◌≡◌, ℕ, ◌+◌, ◌*◌, ◌<◌, List, length, drop, slice_index_or, ℤ, pos}
-use Rattle.fv_outside.specs.Tasks.{Tasks}
+use Rattle.fv_outside.specs.headline.Tasks.{Tasks}
 use Rattle.fv_outside.specs.declared.gate.Line.{Line}
-use Rattle.fv_loopcode.specs.Lanes.{lane_of}
-use Rattle.fv_loopcode.specs.State.{State}
+use Rattle.fv_loopcode.specs.headline.Lanes.{lane_of}
+use Rattle.fv_loopcode.specs.headline.State.{State}
 use Rattle.fv_lines.specs.Solo.{held_at, history_at}
 use Rattle.fv_lines.specs.declared.shape.LaneShape.{LaneShape}
 use Rattle.fv_lines.specs.declared.shape.LaneState.{LaneState}

@@ -3,7 +3,7 @@
 use fv_engine_codes::LaneCount;
 use fv_graph::Tasks;
 use fv_lines::LaneShape;
-use fv_loopcode::Code;
+use fv_loopcode_machine::Code;
 use fv_split_plan::Plan;
 
 /// The plan and its tasks, each loop's code over the lanes that it sees and how many these are, the shapes of all lanes, the held

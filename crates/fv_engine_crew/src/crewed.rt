@@ -2,7 +2,7 @@
 
 ghost use Rattle.std.specs.Prelude.{◌≡◌, ◌≤◌, [], length, IfOk, IfErr, OnOk, OnErr, vec_capacity};
 ghost use Rattle.fv_outside.specs.Tasks.{task_count};
-ghost use Rattle.fv_outside.specs.Journal.{IsOrdered};
+ghost use Rattle.fv_outside.specs.headline.Journal.{IsOrdered};
 ghost use Rattle.fv_engine_crew.specs.Spread.{IsSpread, block_in, tasks_of};
 ghost use Rattle.fv_engine_crew.specs.inner.Lists.{HaveRoom};
 ghost use Rattle.fv_engine_crew.specs.inner.Lanes.{AreOpen, AreWhole, AreUntouched};

@@ -9,20 +9,21 @@ use Rattle.std.proofs.lemmas.Bool.{cases_lt}
 use Rattle.std.proofs.lemmas.List.{append-nil}
 use Rattle.std.proofs.lemmas.Grind.{flat_map-append}
 use Rattle.fv_base.proofs.Lists.{length_table, prefix_trans}
-use Rattle.fv_base.specs.Lists.{IsPrefixOf}
+use Rattle.fv_base.specs.headline.Lists.{IsPrefixOf}
 use Rattle.fv_base.specs.declared.role.Role.TheVariants.{Input}
-use Rattle.fv_num.specs.Frames.{Frame, Stream, rows}
-use Rattle.fv_outside.specs.Desk.{DeskState}
+use Rattle.fv_num.specs.headline.Frames.{Frame, Stream, rows}
+use Rattle.fv_outside.specs.headline.Desk.{DeskState}
 use Rattle.fv_tape.specs.Acts.{Act, Beginning, Hearing, Saying}
 use Rattle.fv_pcm.specs.declared.coding.Coding.{Coding}
-use Rattle.fv_pcm.specs.Coded.{sample_bytes, frame_bytes}
-use Rattle.fv_pcm.specs.Sizes.{SamplesFollow, frame_size, stated_frames, present, whole_bytes}
-use Rattle.fv_diagram.specs.Diagram.{Diagram, inputs}
-use Rattle.fv_diagram.specs.Streams.{run}
-use Rattle.fv_diagram.specs.Samples.{answer_on, joined, no_slots}
+use Rattle.fv_pcm.specs.headline.Coded.{sample_bytes, frame_bytes}
+use Rattle.fv_pcm.specs.headline.Sizes.{frame_size, stated_frames, present, whole_bytes}
+use Rattle.fv_pcm.specs.Sizes.{SamplesFollow}
+use Rattle.fv_diagram.specs.headline.Diagram.{Diagram, inputs}
+use Rattle.fv_diagram.specs.headline.Streams.{run}
+use Rattle.fv_diagram.specs.headline.Samples.{answer_on, joined, no_slots}
 use Rattle.fv_diagram.specs.Laws.{AnswersPrefixes}
 use Rattle.fv_control.specs.declared.script.Change.{Change}
-use Rattle.fv_engine_render.specs.Blocks.{AreBlocks, block_at, to_change}
+use Rattle.fv_engine_render.specs.headline.Blocks.{AreBlocks, block_at, to_change}
 use Rattle.fv_engine_render.specs.Stops.{IsAct}
 use Rattle.fv_engine_render.specs.declared.blocks.RunSizes.{RunSizes}
 use Rattle.fv_file_tape.specs.Tapes.{Files, IsInput, AreHeard, Streamed, CannotBegin, CannotHear, CannotGoOn, CannotSay, StopsIn}

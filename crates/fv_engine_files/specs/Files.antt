@@ -1,23 +1,26 @@
--- A diagram that is played from an input to an output, block by block (RIFF WAVE 1991; Sun audio; this project's profile).
+-- What calls say beside `headline/Files`: a diagram that is played from an input to an output, block by block (RIFF WAVE 1991; Sun audio; this project's profile).
 use Rattle.std.specs.Prelude.{◌≡◌, ◌⊎◌, ℕ, ◌+◌, ◌*◌, ◌<◌, ◌≤◌, IsTrue, IsSome, List, [], ◌++◌, length, take, drop, flat_map, Option, Some, None}
 use Rattle.fv_base.specs.declared.role.Role.TheVariants.{Input, Output}
-use Rattle.fv_base.specs.Lists.{IsPrefixOf}
-use Rattle.fv_num.specs.Frames.{Frame, Stream, table}
-use Rattle.fv_outside.specs.Desk.{DeskState, KeepsFaults, KeepsFaultsBut}
-use Rattle.fv_pcm.specs.Coded.{frame_bytes}
-use Rattle.fv_pcm.specs.Sizes.{Layout, frame_size, frames_in}
+use Rattle.fv_base.specs.headline.Lists.{IsPrefixOf}
+use Rattle.fv_num.specs.headline.Frames.{Frame, Stream, table}
+use Rattle.fv_outside.specs.headline.Desk.{DeskState, KeepsFaults}
+use Rattle.fv_outside.specs.Desk.{KeepsFaultsBut}
+use Rattle.fv_pcm.specs.headline.Coded.{frame_bytes}
+use Rattle.fv_pcm.specs.headline.Sizes.{Layout, frame_size}
+use Rattle.fv_pcm.specs.Sizes.{frames_in}
 use Rattle.fv_wav.specs.Stopping.{IsFaultOfInput}
-use Rattle.fv_diagram.specs.Diagram.{Diagram}
-use Rattle.fv_diagram.specs.Streams.{run}
-use Rattle.fv_diagram.specs.Samples.{no_slots}
+use Rattle.fv_diagram.specs.headline.Diagram.{Diagram}
+use Rattle.fv_diagram.specs.headline.Streams.{run}
+use Rattle.fv_diagram.specs.headline.Samples.{no_slots}
 use Rattle.fv_control.specs.declared.script.Change.{Change}
-use Rattle.fv_engine_render.specs.Blocks.{AreBlocks, block_at}
 use Rattle.fv_engine_render.specs.declared.blocks.RunSizes.{RunSizes}
-use Rattle.fv_file_tape.specs.Tapes.{Files, Streams, HasBegun, KeepsOutput, CannotSay, head_of}
+use Rattle.fv_file_tape.specs.headline.Tapes.{HasBegun, KeepsOutput}
+use Rattle.fv_file_tape.specs.Tapes.{Files, Streams, CannotSay, head_of}
 use Rattle.fv_file_tape.specs.declared.samples.InputSamples.{InputSamples}
 use Rattle.fv_file_tape.specs.declared.file_tape.OutputHead.{OutputHead}
 use Rattle.fv_file_tape.specs.declared.file_tape.Stop.{Stop}
 use Rattle.fv_file_tape.specs.declared.file_tape.Stop.TheVariants as stop
+use Rattle.fv_engine_files.specs.headline.Files.{IsCutAt}
 
 -- the layout of samples that nothing stands before
 abbrev pub bare : InputSamples → Layout
@@ -61,13 +64,6 @@ pub record HasPlayed (d : Diagram) (c : ℕ → Stream) (t : Files) (old new : D
   pub taken : IsTrue old.tells → HasTaken t t.stated old new
   pub written : IsTrue old.tells → new.written Output ≡ answered d c t old
 
--- The blocks of n frames lie within the frames that are there up to frame g, and the next one does not.
-pub record IsCutAt (block n : ℕ) (changes : List Change) (there g : ℕ) : Type 0 where
-  pub lengths : List ℕ
-  pub cut : AreBlocks block n changes 0 g lengths
-  pub within : g ≤ there
-  pub next : there < g + block_at block n changes g
-
 -- The input ends within the frames that are stated: the output has what the blocks up to frame g make, which are those that lie
 -- wholly within the frames that are there.
 pub record IsCut (d : Diagram) (c : ℕ → Stream) (changes : List Change) (s : RunSizes) (t : Files) (i : InputSamples) (g place : ℕ) (old new : DeskState)
@@ -80,6 +76,7 @@ pub record IsCut (d : Diagram) (c : ℕ → Stream) (changes : List Change) (s :
 
 -- why a run stops behind the blocks up to frame g
 abbrev pub IsStopFor : Diagram → (c : ℕ → Stream) → List Change → RunSizes → Files → (g : ℕ) → (old new : DeskState) → Stop → Type 0
+
 -- a fault of the input, which is left to read
 IsStopFor d c changes s t g old new stop.Read =
     HasBegun old new × IsFaultOfInput old new × KeepsFaultsBut Input old new × IsSome t.input × (t.held ≡ None)

@@ -3,10 +3,11 @@
 ghost use Rattle.std.specs.Prelude.{◌≡◌, ◌*◌, ◌<◌, ◌≤◌, ℕ, All, IsTrue, OnOk, IfOk, IfErr};
 ghost use Rattle.std.specs.List.{AllByRecursion};
 ghost use Rattle.fv_diagram.specs.Controls.{IsBounded};
-ghost use Rattle.fv_diagram.specs.Diagram.{Diagram};
+ghost use Rattle.fv_diagram.specs.headline.Diagram.{Diagram};
 ghost use Rattle.fv_control.specs.Laws.{NeverFall, IsOfControls};
-ghost use Rattle.fv_control.specs.Streams.{control_streams};
-ghost use Rattle.fv_engine_render.specs.Render.{CanHave, RanTo, RanWhole, initial_of};
+ghost use Rattle.fv_control.specs.headline.Streams.{control_streams};
+ghost use Rattle.fv_engine_render.specs.headline.Render.{RanTo, initial_of};
+ghost use Rattle.fv_engine_render.specs.Render.{CanHave, RanWhole};
 ghost use Rattle.fv_engine_render.specs.Stops.{IsSetToPlay};
 ghost use Rattle.fv_engine_render.specs.declared.blocks.Ran.{Ran as Counts};
 ghost use Rattle.fv_file_tape.specs.Tapes.{IsTape, channels_of, files_of};

@@ -2,12 +2,13 @@
 use Rattle.std.proofs.Common.{◌≡◌, inl, inr, ℕ, ◌<◌, ◌≤◌, List, [], ◌∷◌, ◌++◌, length, map, refl, sym, ap, ◌∙◌, subst, ℤ, Bool, true}
 use Rattle.std.specs.Prelude.{◌||◌, slice_index}
 use Rattle.std.proofs.lemmas.Bool.{cases_eq, eq-eqb, ne_eqb, lt-ltb, ltb-true}
-use Rattle.fv_num.specs.Words.{argument}
+use Rattle.fv_num.specs.headline.Words.{argument}
 use Rattle.fv_loopcode.specs.declared.step.Step.{Step}
 use Rattle.fv_loopcode.specs.declared.step.Step.TheVariants as step
-use Rattle.fv_loopcode.specs.Lanes.{back_by}
-use Rattle.fv_loopcode.specs.Code.{step_value}
-use Rattle.fv_loopcode.specs.Obeys.{Roles, Place, OfLane, Content, number_at, with_place, nothing, StepObeys, done_after, Obeys}
+use Rattle.fv_loopcode.specs.headline.Lanes.{back_by}
+use Rattle.fv_loopcode.specs.headline.Code.{step_value}
+use Rattle.fv_loopcode.specs.headline.Obeys.{Roles, Place, OfLane, with_place, nothing, StepObeys, done_after, Obeys}
+use Rattle.fv_loopcode.specs.Obeys.{Content, number_at}
 use Rattle.fv_engine_lanes.specs.Renumbered.{renumbered, roles_over, is_among, content_over, IsNamed, Places, RenumberedCodeObeys}
 
 module _ (r : Roles) (f : Content) (place : ℕ → ℕ) (locals : List ℕ) (own : ℕ) (p : Places r place locals own) (held input : ℕ → ℤ) (index : ℕ) where

@@ -3,7 +3,7 @@ use Rattle.std.proofs.Common.{◌≡◌, ℕ, zero, suc, ◌+◌, ◌-◌, ◌<�
 use Rattle.std.proofs.lemmas.Bool.{cases_lt}
 use Rattle.std.proofs.lemmas.List.{length-map, map-set, get_or_append_left, get_or-append_right, get_or-map, set-append_left}
 use Rattle.std.proofs.Math.Seq.{map-set_same}
-use Rattle.fv_loopcode.specs.Lanes.{Lane, lane_of, no_lane, appended}
+use Rattle.fv_loopcode.specs.headline.Lanes.{Lane, lane_of, no_lane, appended}
 use Rattle.fv_lines.specs.Writer.{list_of, part_of, outer_of, written_by, frames_of, shape_of}
 use Rattle.fv_lines.specs.Seen.{lane_seen}
 use Rattle.fv_lines.specs.declared.writer.LaneWriter.{LaneWriter}

@@ -2,8 +2,8 @@
 use Rattle.std.specs.Prelude.{ℕ, ◌-◌, ◌++◌, List, map}
 use Rattle.std.specs.Global.{Vec}
 use base.Fml.{GName}
-use Rattle.fv_loopcode.specs.Lanes.{Lane}
-use Rattle.fv_loopcode.specs.State.{State, lanes_alone}
+use Rattle.fv_loopcode.specs.headline.Lanes.{Lane}
+use Rattle.fv_loopcode.specs.headline.State.{State, lanes_alone}
 use Rattle.fv_pool.specs.declared.loan.Halves.{Halves}
 use Rattle.fv_lines.specs.Seen.{lane_seen}
 use Rattle.fv_lines.specs.Writer.{list_of, part_of, outer_of, written_by, frames_of, shape_of}

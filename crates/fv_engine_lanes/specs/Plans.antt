@@ -1,11 +1,11 @@
 -- A plan as its loops see it (this project's profile).
 use Rattle.std.specs.Prelude.{◌≡◌, ℕ, List, ◌++◌, length, map, ◌==◌}
 use Rattle.std.specs.List.{flat_map}
-use Rattle.fv_outside.specs.Tasks.{Tasks}
+use Rattle.fv_outside.specs.headline.Tasks.{Tasks}
 use Rattle.fv_graph.specs.Words.{passing}
 use Rattle.fv_graph.specs.Graph.{pair_at}
 use Rattle.fv_loopcode.specs.declared.step.Step.{Step}
-use Rattle.fv_split_plan.specs.View.{PlanView, lane_info, code_of, roles_of}
+use Rattle.fv_split_plan.specs.headline.View.{PlanView, lane_info, code_of, roles_of}
 use Rattle.fv_engine_lanes.specs.Renumbered.{renumbered, Places}
 
 -- the lanes of a loop, in their order

@@ -2,7 +2,8 @@
 use Rattle.std.specs.Prelude.{◌≡◌, ◌⊎◌, ℕ, ◌<◌, List, length, map, slice_index, Bool, true, nat_lt, ℤ}
 use Rattle.fv_loopcode.specs.declared.step.Step.{Step}
 use Rattle.fv_loopcode.specs.declared.step.Step.TheVariants as step
-use Rattle.fv_loopcode.specs.Obeys.{Roles, Place, OfLane, Content, ObeysAt}
+use Rattle.fv_loopcode.specs.headline.Obeys.{Roles, Place, OfLane}
+use Rattle.fv_loopcode.specs.Obeys.{Content, ObeysAt}
 
 -- the step, with the new number of its lane
 abbrev pub renumbered : (ℕ → ℕ) → Step → Step

@@ -4,7 +4,8 @@ ghost use Rattle.std.specs.Prelude.{◌≡◌, length, map, IfOk, All, slice_ind
 ghost use Rattle.fv_loopcode.specs.Code.{NamesLane};
 ghost use Rattle.fv_engine_lanes.specs.Renumbered.{renumbered};
 
-use fv_loopcode::{Code, Step};
+use fv_loopcode::Step;
+use fv_loopcode_machine::Code;
 use std::alloc::{AllocError, Global};
 
 // A step with the new number of its lane.

@@ -29,6 +29,16 @@ impl<'a> Store for LoopLanes<'a> {
         }
     }
 
+    fn has_just(&self, lane: u64, samples: u64) -> bool {
+        let i = lane as usize;
+        let own = self.own.len();
+        if i < own {
+            self.own[i].seen().has_just(samples)
+        } else {
+            self.seen[i - own].has_just(samples)
+        }
+    }
+
     fn append(&mut self, lane: u64, value: i32) {
         // Only its own lanes have room.
         self.own[lane as usize].append(value);

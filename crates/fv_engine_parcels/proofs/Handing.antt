@@ -7,7 +7,7 @@ use Rattle.std.specs.Global.{Vec, Box}
 use Rattle.std.proofs.lemmas.List.{length-append, length-map, get_or_append_left, get_or-map, reverse-append}
 use Rattle.std.proofs.Math.Seq.{drop-cons, get_or-append_seam}
 use Rattle.fv_graph.specs.Graph.{stride, place_in, pair_at}
-use Rattle.fv_loopcode.specs.Lanes.{Lane, no_lane}
+use Rattle.fv_loopcode.specs.headline.Lanes.{Lane, no_lane}
 use Rattle.fv_loopcode.specs.Obeys.{Holds, HoldsJust}
 use Rattle.fv_lines.specs.Seen.{lane_seen}
 use Rattle.fv_lines.specs.declared.seen.Seen.{Seen}

@@ -5,13 +5,15 @@ use Rattle.std.specs.Coded.{×_prop, Unit-prop, le_prop}
 use Rattle.std.proofs.Math.Logic.{∥∥₁_elim}
 use Rattle.std.proofs.Math.Nat.{ℕ_set}
 use Rattle.std.proofs.Math.IntN.{ℤ_set}
-use Rattle.fv_num.specs.Words.{argument}
+use Rattle.fv_num.specs.headline.Words.{argument}
 use Rattle.fv_loopcode.specs.declared.step.Step.{Step}
 use Rattle.fv_loopcode.specs.declared.step.Step.TheVariants as step
-use Rattle.fv_loopcode.specs.Lanes.{Lane, lane_of, HasSample}
-use Rattle.fv_loopcode.specs.State.{State, lanes_alone}
+use Rattle.fv_loopcode.specs.headline.Lanes.{Lane, lane_of}
+use Rattle.fv_loopcode.specs.Lanes.{HasSample}
+use Rattle.fv_loopcode.specs.headline.State.{State, lanes_alone}
 use Rattle.fv_loopcode.specs.Obeys.{Content, Holds, HoldsJust}
-use Rattle.fv_loopcode.specs.Code.{Pass, MayStep, MayPass, MayRun, stepped, opening, ran, frame_of, IsWithin}
+use Rattle.fv_loopcode.specs.headline.Code.{Pass, stepped, opening, ran}
+use Rattle.fv_loopcode.specs.Code.{MayStep, MayPass, MayRun, frame_of, IsWithin}
 use Rattle.fv_engine_lanes.specs.Renumbered.{renumbered}
 use Rattle.fv_engine_parcels.specs.Contents.{IsRealStart}
 use Rattle.fv_engine_parcels.specs.inner.Turns.{locals, from, to, Known, Before, After}

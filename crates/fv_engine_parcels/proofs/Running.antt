@@ -3,13 +3,15 @@ use Rattle.std.proofs.Common.{◌≡◌, ℕ, ◌+◌, ◌-◌, ◌<◌, ◌≤�
 use Rattle.std.specs.Prelude.{slice_index}
 use Rattle.std.proofs.lemmas.Bool.{lt-ltb, ltb-true, ltb-false}
 use Rattle.std.proofs.Math.Nat.{min-le_right}
-use Rattle.fv_num.specs.Words.{argument}
+use Rattle.fv_num.specs.headline.Words.{argument}
 use Rattle.fv_loopcode.specs.declared.step.Step.{Step}
-use Rattle.fv_loopcode.specs.Lanes.{Lane, lane_of}
-use Rattle.fv_loopcode.specs.State.{State, lanes_alone}
-use Rattle.fv_loopcode.specs.Code.{MayRun, ran, frame_of}
-use Rattle.fv_loopcode.specs.Obeys.{Place, OfLane, Content, ObeysAt, HoldsAt, HoldsJust, IsThere, IsReady, TasksAreDone}
-use Rattle.fv_split_plan.specs.View.{code_of, roles_of}
+use Rattle.fv_loopcode.specs.headline.Lanes.{Lane, lane_of}
+use Rattle.fv_loopcode.specs.headline.State.{State, lanes_alone}
+use Rattle.fv_loopcode.specs.headline.Code.{ran}
+use Rattle.fv_loopcode.specs.Code.{MayRun, frame_of}
+use Rattle.fv_loopcode.specs.headline.Obeys.{Place, OfLane}
+use Rattle.fv_loopcode.specs.Obeys.{Content, ObeysAt, HoldsAt, HoldsJust, IsThere, IsReady, TasksAreDone}
+use Rattle.fv_split_plan.specs.headline.View.{code_of, roles_of}
 use Rattle.fv_engine_lanes.specs.Renumbered.{is_among, roles_over, content_over, RenumberedCodeObeys}
 use Rattle.fv_engine_parcels.specs.Contents.{IsContentOf}
 use Rattle.fv_engine_parcels.specs.inner.Turns.{own, locals, from, to, Known, Before}

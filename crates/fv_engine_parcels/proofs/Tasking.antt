@@ -5,7 +5,7 @@ use Rattle.std.proofs.Math.Logic.{∥∥₁_elim}
 use Rattle.std.proofs.lemmas.Bool.{cases_lt}
 use Rattle.std.proofs.lemmas.List.{length-append, length-map, get_or_append_left, get_or-append_right, get_or-map}
 use Rattle.std.proofs.Math.Nat.{min-eq_left, min-eq_right, min-le_right, suc-mul, ℕ_set}
-use Rattle.fv_loopcode.specs.Lanes.{Lane, lane_of, no_lane}
+use Rattle.fv_loopcode.specs.headline.Lanes.{Lane, lane_of, no_lane}
 use Rattle.fv_loopcode.specs.Obeys.{Content, Holds, HoldsJust}
 use Rattle.fv_lines.specs.Seen.{lane_seen}
 use Rattle.fv_lines.specs.Writer.{written_by, shape_of}

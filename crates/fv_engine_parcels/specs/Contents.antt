@@ -2,12 +2,13 @@
 use Rattle.std.specs.Prelude.{◌≡◌, ℕ, ◌+◌, ◌-◌, ◌*◌, ◌/◌, ◌<◌, ◌≤◌, List, [], length, map, slice_index, slice_index_or}
 use Rattle.std.specs.Vec.{vec_capacity}
 use Rattle.std.specs.Global.{Vec, Box}
-use Rattle.fv_outside.specs.Tasks.{Tasks}
+use Rattle.fv_outside.specs.headline.Tasks.{Tasks}
 use Rattle.fv_graph.specs.Graph.{stride, place_in, pair_at}
-use Rattle.fv_loopcode.specs.State.{State, lanes_alone}
+use Rattle.fv_loopcode.specs.headline.State.{State, lanes_alone}
 use Rattle.fv_loopcode.specs.Obeys.{Content, Holds, HoldsJust}
 use Rattle.fv_loopcode.specs.Blocks.{before}
-use Rattle.fv_split_plan.specs.View.{PlanView, lane_info, code_of, loops_of}
+use Rattle.fv_split_plan.specs.headline.View.{PlanView, lane_info, code_of}
+use Rattle.fv_split_plan.specs.View.{loops_of}
 use Rattle.fv_lines.specs.Seen.{lane_seen}
 use Rattle.fv_lines.specs.Writer.{written_by, part_of, outer_of, shape_of, frames_of}
 use Rattle.fv_lines.specs.declared.seen.Seen.{Seen as SeenLane}

@@ -2,7 +2,7 @@
 
 ghost use Rattle.std.specs.Prelude.{◌≡◌, ℕ, ◌+◌, ◌-◌, ◌*◌, ◌≤◌, ◌<◌, List, [], length, map, reverse, All, slice_index, slice_index_or, vec_capacity};
 ghost use Rattle.fv_loopcode.specs.Code.{IsWithin};
-ghost use Rattle.fv_split_plan.specs.View.{code_of};
+ghost use Rattle.fv_split_plan.specs.headline.View.{code_of};
 ghost use Rattle.fv_lines.specs.Seen.{lane_seen};
 ghost use Rattle.fv_lines.specs.Writer.{lane_written};
 ghost use Rattle.fv_engine_lanes.specs.Lanes.{lanes_in, rest_in};
@@ -15,7 +15,8 @@ use crate::parcel::LoopParcel;
 use crate::start::Start;
 use fv_engine_lanes::renumbered_code_obeys;
 use fv_lines::{LaneWriter, Seen};
-use fv_loopcode::{Code, run, tasks_are_done};
+use fv_loopcode::tasks_are_done;
+use fv_loopcode_machine::{Code, run};
 use fv_outside::Task;
 use fv_steal::Body;
 

@@ -7,7 +7,8 @@ use Rattle.std.proofs.lemmas.List.{drop_all}
 use Rattle.std.proofs.lemmas.Bool.{cases_lt, le-ltb, cond-true, cond-false}
 use Rattle.fv_control.specs.declared.script.Change.{Change}
 use Rattle.fv_control.specs.Laws.{NeverFall, NoneBetween}
-use Rattle.fv_engine_render.specs.Blocks.{AreBlocks, AreNext, block_at, to_change}
+use Rattle.fv_engine_render.specs.headline.Blocks.{AreBlocks, block_at, to_change}
+use Rattle.fv_engine_render.specs.Blocks.{AreNext}
 
 -- the bound behind a change: the way to it, where it is ahead and nearer
 abbrev nearer : Change → (f most : ℕ) → ℕ

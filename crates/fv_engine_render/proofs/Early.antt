@@ -1,17 +1,19 @@
 -- How a run of a diagram over a tape ends, from how its engine's run does.
 use Rattle.std.proofs.Common.{◌≡◌, ℕ, ◌*◌, List, length, ℤ, Option, ap, subst, ◌∙◌}
-use Rattle.fv_outside.specs.Journal.{Told}
+use Rattle.fv_outside.specs.headline.Journal.{Told}
 use Rattle.fv_tape.specs.Acts.{Act}
-use Rattle.fv_diagram.specs.Diagram.{Diagram, inputs, IsWellFormed}
+use Rattle.fv_diagram.specs.headline.Diagram.{Diagram, inputs}
+use Rattle.fv_diagram.specs.Diagram.{IsWellFormed}
 use Rattle.fv_diagram.specs.Laws.{AnswersEach, AnswersWide}
-use Rattle.fv_diagram.specs.Samples.{answer_on}
+use Rattle.fv_diagram.specs.headline.Samples.{answer_on}
 use Rattle.fv_diagram.specs.declared.control.ControlInfo.{ControlInfo}
 use Rattle.fv_control.specs.declared.script.Change.{Change}
-use Rattle.fv_control.specs.Streams.{control_streams}
-use Rattle.fv_engine_render.specs.Blocks.{StillTells}
-use Rattle.fv_engine_render.specs.Plans.{AreNumbers}
-use Rattle.fv_engine_render.specs.Render.{RanTo, initial_of}
-use Rattle.fv_engine_render.specs.Runs.{HasRun, PlaysAll}
+use Rattle.fv_control.specs.headline.Streams.{control_streams}
+use Rattle.fv_engine_render.specs.headline.Blocks.{StillTells}
+use Rattle.fv_engine_render.specs.inner.Plans.{AreNumbers}
+use Rattle.fv_engine_render.specs.headline.Render.{RanTo, initial_of}
+use Rattle.fv_engine_render.specs.headline.Runs.{HasRun}
+use Rattle.fv_engine_render.specs.inner.Runs.{PlaysAll}
 use Rattle.fv_engine_render.specs.Stops.{HasEnded, IsAct, IsSetFor}
 use Rattle.fv_engine_render.specs.inner.Stopping.{HasStopped}
 use Rattle.fv_engine_render.specs.declared.blocks.RunSizes.{RunSizes}

@@ -1,6 +1,5 @@
 pub mod Cuts
 pub mod Told
-pub mod Parts
 pub mod Samples
 pub mod Playing
 pub mod Frames

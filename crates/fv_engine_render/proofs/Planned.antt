@@ -1,17 +1,20 @@
 -- What a graph says of its plan, and a diagram of its graph.
 use Rattle.std.proofs.Common.{ℕ, ◌≤◌, List, length, pos, subst, arith}
 use Rattle.fv_base.specs.declared.limits.TheConstants.{DELAY_BUDGET}
-use Rattle.fv_num.specs.Interval.{Interval}
-use Rattle.fv_diagram.specs.Diagram.{Diagram, inputs, control_bound}
+use Rattle.fv_num.specs.headline.Interval.{Interval}
+use Rattle.fv_diagram.specs.headline.Diagram.{Diagram, inputs}
+use Rattle.fv_diagram.specs.Diagram.{control_bound}
 use Rattle.fv_signal.specs.declared.signal.Signal.TheVariants.{Const}
-use Rattle.fv_signal.specs.Value.{Graph}
-use Rattle.fv_propagate.specs.Propagated.{NamesOf}
-use Rattle.fv_simplify_rules.specs.Reducible.{AreShort}
+use Rattle.fv_signal.specs.headline.Value.{Graph}
+use Rattle.fv_propagate.specs.headline.Propagated.{NamesOf}
+use Rattle.fv_simplify_rules.specs.headline.Reducible.{AreShort}
 use Rattle.fv_propagate.proofs.Named.{control_below}
-use Rattle.fv_split_plan.specs.View.{PlanView}
-use Rattle.fv_split_plan.specs.Plans.{IsPlanOf}
+use Rattle.fv_split_plan.specs.headline.View.{PlanView}
+use Rattle.fv_split_plan.specs.headline.Plans.{IsPlanOf}
 use Rattle.fv_split_plan.specs.Tasks.{HistoriesWithin, OutputsNeedLoops}
-use Rattle.fv_engine_render.specs.Plans.{IsGraphOf, IsPlanned, NamesOnly}
+use Rattle.fv_engine_render.specs.headline.Plans.{IsGraphOf}
+use Rattle.fv_engine_render.specs.Plans.{IsPlanned}
+use Rattle.fv_engine_render.specs.inner.Plans.{NamesOnly}
 
 -- A plan of a graph that names only what is there, and delays by no more than an engine keeps.
 pub record IsMade (g : Graph) (channels controls : ℕ) (p : PlanView) : Type 0 where

@@ -1,23 +1,27 @@
 -- What was played up to a frame, and a block more.
-use Rattle.std.proofs.Common.{◌≡◌, ℕ, zero, suc, ◌+◌, ◌*◌, ◌<◌, List, [], ◌∷◌, ◌++◌, length, take, drop, get_or, refl, sym, ap, subst, ◌∙◌, arith, append_assoc}
+use Rattle.std.proofs.Common.{◌≡◌, ℕ, zero, suc, ◌+◌, ◌-◌, ◌*◌, ◌<◌, ◌≤◌, List, [], ◌∷◌, ◌++◌, length, take, drop, get_or, refl, sym, ap, subst, ◌∙◌, arith, append_assoc}
 use Rattle.std.proofs.Common.{append-nil, ℤ, pos}
 use Rattle.std.proofs.lemmas.List.{get_or-take, get_or-drop, get_or_append_left}
 use Rattle.std.specs.Prelude.{slice_index_or}
-use Rattle.fv_num.specs.Words.{argument}
-use Rattle.fv_num.specs.Frames.{Frame, Stream, column, table, rows}
+use Rattle.fv_num.specs.headline.Words.{argument}
+use Rattle.fv_num.specs.headline.Frames.{Frame, Stream, column, table, rows}
 use Rattle.fv_base.proofs.Lists.{table_same, length_table}
-use Rattle.fv_signal.specs.Value.{Graph, ValuesLookBack, value}
-use Rattle.fv_split_plan.specs.Plans.{PlanStands}
-use Rattle.fv_split_plan.specs.Fits.{Names}
-use Rattle.fv_split_plan.specs.View.{PlanView}
+use Rattle.fv_signal.specs.headline.Value.{Graph, value}
+use Rattle.fv_signal.specs.Value.{ValuesLookBack}
+use Rattle.fv_split_plan.specs.headline.Plans.{PlanStands}
+use Rattle.fv_split_plan.specs.headline.Fits.{Names}
+use Rattle.fv_split_plan.specs.headline.View.{PlanView}
 use Rattle.fv_engine.specs.Stands.{AreGiven, EngineView, GoesOn, SameParts, StandsFor, played}
-use Rattle.fv_engine_render.proofs.Parts.{row_end}
 
 table_add : {A : Type 0} (n m : ℕ) (g : ℕ → A) → table (n + m) g ≡ table n g ++ table m (λ u. g (n + u))
 table_add n zero g = let e : n + 0 ≡ n = omega arith in ap (λ k. table k g) e ∙ sym (append-nil (table n g))
 table_add n (suc m) g =
     let e : n + suc m ≡ suc (n + m) = omega arith in
     ap (λ k. table k g) e ∙ ap (λ xs. xs ++ g (n + m) ∷ []) (table_add n m g) ∙ append_assoc (table n g) (table m (λ u. g (n + u))) (g (n + m) ∷ [])
+
+-- rows that are there end in the list
+row_end : (f n t w : ℕ) → f + n ≤ t → f * w + n * w ≤ t * w
+row_end f n t w h = let e : f + n + (t - (f + n)) ≡ t = omega (arith, h) in subst (λ (x : ℕ). f * w + n * w ≤ x * w) e (omega arith)
 
 row_in : (t f w i : ℕ) → t < f → i < w → t * w + i < f * w
 row_in t f w i l m = let k = row_end t 1 f w (omega (arith, l)) in omega (arith, k, m)

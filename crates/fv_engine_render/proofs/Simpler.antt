@@ -2,19 +2,20 @@
 use Rattle.std.proofs.Common.{◌≡◌, ℕ, ◌<◌, List, length, get_or, refl, ◌∙◌, subst, arith, pos, ℤ, w32, FitsSigned}
 use Rattle.std.proofs.lemmas.Int.{ints}
 use Rattle.std.proofs.lemmas.List.{get_or_default}
-use Rattle.fv_num.specs.Interval.{Interval}
-use Rattle.fv_num.specs.Frames.{Frame, Stream}
-use Rattle.fv_diagram.specs.Diagram.{Diagram}
+use Rattle.fv_num.specs.headline.Interval.{Interval}
+use Rattle.fv_num.specs.headline.Frames.{Frame, Stream}
+use Rattle.fv_diagram.specs.headline.Diagram.{Diagram}
 use Rattle.fv_signal.specs.declared.signal.Signal.{Signal}
-use Rattle.fv_signal.specs.declared.signal.Signal.TheVariants.{Input, Const, Control, Point, Delay, Back, Member}
-use Rattle.fv_signal.specs.Value.{Graph, IsGraph}
-use Rattle.fv_interval.specs.SpanHooks.{control_span}
-use Rattle.fv_interval.specs.Laws.{IsOf}
-use Rattle.fv_propagate.specs.Propagated.{AreTaken, NamesOf, NamesWithin}
+use Rattle.fv_signal.specs.declared.signal.Signal.TheVariants.{Input, Const, Control, Point, Delay, Back, Member, Read, Write}
+use Rattle.fv_signal.specs.headline.Value.{Graph, IsGraph}
+use Rattle.fv_interval.specs.headline.SpanHooks.{control_span}
+use Rattle.fv_interval.specs.headline.Laws.{IsOf}
+use Rattle.fv_propagate.specs.headline.Propagated.{AreTaken, NamesOf, NamesWithin}
 use Rattle.fv_propagate.specs.Propagated as propagated
 use Rattle.fv_simplify_rules.specs.Nodes.{StandsAt}
-use Rattle.fv_simplify_rules.specs.Reducible.{AreShort, AreSmall, IsSimpler}
-use Rattle.fv_engine_render.specs.Plans.{IsGraphOf}
+use Rattle.fv_simplify_rules.specs.headline.Reducible.{AreShort}
+use Rattle.fv_simplify_rules.specs.Reducible.{AreSmall, IsSimpler}
+use Rattle.fv_engine_render.specs.headline.Plans.{IsGraphOf}
 
 -- no delay of a diagram's graph is longer than an engine keeps
 pub short_graph : (g : Graph) → propagated.AreShort g → AreShort g
@@ -42,6 +43,8 @@ module _ (d : Diagram) (spans : List Interval) (g h : Graph) (is : IsGraphOf d s
       go (Delay y by most) e = tt
       go (Back group k) e = tt
       go (Member group k) e = tt
+      go (Read table r) e = tt
+      go (Write table w y r) e = tt
 
   pub simpler_of : IsGraph h → IsGraphOf d spans h
   simpler_of whole = record {
@@ -51,4 +54,5 @@ module _ (d : Diagram) (spans : List Interval) (g h : Graph) (is : IsGraphOf d s
     width = s.width ∙ is.width;
     names = names;
     short = s.short is.short;
+    tableless = s.tables ∙ is.tableless;
   }

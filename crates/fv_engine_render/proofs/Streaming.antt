@@ -5,18 +5,19 @@ use Rattle.std.specs.List.{AllByRecursion}
 use Rattle.std.proofs.Math.Seq.{take-append_seam, drop-append_seam, take-length}
 use Rattle.std.proofs.lemmas.Bool.{cases_lt}
 use Rattle.std.proofs.lemmas.List.{get_or_append_left, get_or-append_right, length_push}
-use Rattle.fv_num.specs.Frames.{Stream, rows}
-use Rattle.fv_outside.specs.Journal.{Told}
+use Rattle.fv_num.specs.headline.Frames.{Stream, rows}
+use Rattle.fv_outside.specs.headline.Journal.{Told}
 use Rattle.fv_control.specs.declared.script.Change.{Change}
 use Rattle.fv_control.specs.Laws.{applied}
-use Rattle.fv_control.specs.Streams.{control_streams}
-use Rattle.fv_signal.specs.Value.{Graph, ValuesLookBack}
-use Rattle.fv_split_plan.specs.Plans.{PlanStands}
-use Rattle.fv_engine_tasks.specs.Block.{vectors_of}
+use Rattle.fv_control.specs.headline.Streams.{control_streams}
+use Rattle.fv_signal.specs.headline.Value.{Graph}
+use Rattle.fv_signal.specs.Value.{ValuesLookBack}
+use Rattle.fv_split_plan.specs.headline.Plans.{PlanStands}
+use Rattle.fv_engine_tasks.specs.headline.Block.{vectors_of}
 use Rattle.fv_engine.specs.Stands.{AreGiven, EngineView, GoesOn, SameParts, StandsFor, played}
-use Rattle.fv_engine_render.specs.Blocks.{AreBlocks, RanBlocks, block_at, loop_runs_of}
-use Rattle.fv_engine_render.specs.Plans.{AreNumbers}
-use Rattle.fv_engine_render.specs.Runs.{HasRun}
+use Rattle.fv_engine_render.specs.headline.Blocks.{AreBlocks, RanBlocks, block_at, loop_runs_of}
+use Rattle.fv_engine_render.specs.inner.Plans.{AreNumbers}
+use Rattle.fv_engine_render.specs.headline.Runs.{HasRun}
 use Rattle.fv_engine_render.specs.declared.blocks.RunSizes.{RunSizes}
 use Rattle.fv_engine_render.specs.declared.blocks.Ran.{Ran}
 use Rattle.fv_engine_render.proofs.Cuts.{one_more}

@@ -8,23 +8,23 @@ use Rattle.std.proofs.lemmas.Int.{ints}
 use Rattle.std.proofs.lemmas.List.{get_or-map, get_or_past, length-map}
 use Rattle.std.proofs.lemmas.List.Elements.{All-get_or, All-from_get_or}
 use Rattle.fv_base.proofs.Lists.{get_or_table, length_table}
-use Rattle.fv_num.specs.Words.{argument}
-use Rattle.fv_num.specs.Frames.{Frame, column, table, rows}
-use Rattle.fv_num.specs.Interval.{Interval, IsSpan, IsWithin, full, point}
+use Rattle.fv_num.specs.headline.Words.{argument}
+use Rattle.fv_num.specs.headline.Frames.{Frame, column, table, rows}
+use Rattle.fv_num.specs.headline.Interval.{Interval, IsSpan, IsWithin, full, point}
 use Rattle.fv_num.specs.SpanLaws.{AreSpans}
-use Rattle.fv_diagram.specs.Diagram.{Diagram, inputs}
+use Rattle.fv_diagram.specs.headline.Diagram.{Diagram, inputs}
 use Rattle.fv_diagram.specs.declared.control.ControlInfo.{ControlInfo}
 use Rattle.fv_control.specs.declared.script.Change.{Change}
 use Rattle.fv_control.specs.Laws.{IsOfControls}
-use Rattle.fv_control.specs.Script.{is_within, no_control}
-use Rattle.fv_control.specs.Streams.{control_streams, value_after}
-use Rattle.fv_interval.specs.Laws.{IsOf}
-use Rattle.fv_interval.specs.SpanHooks.{control_span}
-use Rattle.fv_propagate.specs.Propagated.{AreTaken}
+use Rattle.fv_control.specs.headline.Script.{is_within, no_control}
+use Rattle.fv_control.specs.headline.Streams.{control_streams, value_after}
+use Rattle.fv_interval.specs.headline.Laws.{IsOf}
+use Rattle.fv_interval.specs.headline.SpanHooks.{control_span}
+use Rattle.fv_propagate.specs.headline.Propagated.{AreTaken}
 use Rattle.fv_diagram.specs.Controls.{IsBounded}
-use Rattle.fv_engine_render.specs.Plans.{AreNumbers}
-use Rattle.fv_interval.specs.Controls.{span_of, spans_of}
-use Rattle.fv_engine_render.specs.Render.{initial_of}
+use Rattle.fv_engine_render.specs.inner.Plans.{AreNumbers}
+use Rattle.fv_interval.specs.headline.Controls.{span_of, spans_of}
+use Rattle.fv_engine_render.specs.headline.Render.{initial_of}
 
 zero_fits : FitsSigned w32 (pos 0)
 zero_fits = omega (arith, ints)

@@ -5,12 +5,14 @@ use Rattle.std.specs.Prelude.{IfSome, IsSome, unwrap_or}
 use Rattle.std.proofs.lemmas.List.Sums.{sum_by_push, sum-map}
 use Rattle.std.proofs.Math.Nat.{mul_comm}
 use Rattle.fv_outside.specs.declared.tasks.Reads.{Reads}
-use Rattle.fv_outside.specs.Tasks.{Tasks, task_count}
-use Rattle.fv_outside.specs.Journal.{BlockEntry, Room, Told, IsOrdered, room_after}
-use Rattle.fv_engine_tasks.specs.Block.{vectors_of}
+use Rattle.fv_outside.specs.headline.Tasks.{Tasks}
+use Rattle.fv_outside.specs.Tasks.{task_count}
+use Rattle.fv_outside.specs.headline.Journal.{BlockEntry, Room, Told, IsOrdered}
+use Rattle.fv_outside.specs.Journal.{room_after}
+use Rattle.fv_engine_tasks.specs.headline.Block.{vectors_of}
 use Rattle.fv_engine.specs.Stands.{EngineView, SameParts}
 use Rattle.fv_engine.specs.Told.{IsEntry, HasRoomForBlock, tasks_told}
-use Rattle.fv_engine_render.specs.Blocks.{AreEntries, HasRoomForRun, RanBlocks, StillTells, loop_runs_of}
+use Rattle.fv_engine_render.specs.headline.Blocks.{AreEntries, HasRoomForRun, RanBlocks, StillTells, loop_runs_of}
 
 -- what is told of a block
 abbrev pub TellsBlock : EngineView → (n : ℕ) → (old new : Option Told) → Type 0

@@ -4,26 +4,30 @@ use Rattle.std.specs.Prelude.{Result, Ok, Err, IfOk}
 use Rattle.std.proofs.Math.Nat.{mul-le-mul_left}
 use Rattle.std.proofs.lemmas.Bool.{cond-true}
 use Rattle.fv_base.proofs.Lists.{length_table}
-use Rattle.fv_num.specs.Words.{argument}
-use Rattle.fv_num.specs.Frames.{Stream, table, rows}
-use Rattle.fv_outside.specs.Journal.{Told}
-use Rattle.fv_diagram.specs.Diagram.{Diagram, inputs, outputs, IsWellFormed}
+use Rattle.fv_num.specs.headline.Words.{argument}
+use Rattle.fv_num.specs.headline.Frames.{Stream, table, rows}
+use Rattle.fv_outside.specs.headline.Journal.{Told}
+use Rattle.fv_diagram.specs.headline.Diagram.{Diagram, inputs, outputs}
+use Rattle.fv_diagram.specs.Diagram.{IsWellFormed}
 use Rattle.fv_diagram.specs.Laws.{AnswersEach, AnswersWide}
 use Rattle.fv_diagram.specs.declared.control.ControlInfo.{ControlInfo}
-use Rattle.fv_signal.specs.Value.{Graph}
+use Rattle.fv_signal.specs.headline.Value.{Graph}
 use Rattle.fv_control.specs.declared.script.Change.{Change}
-use Rattle.fv_control.specs.Streams.{control_streams}
-use Rattle.fv_split_plan.specs.View.{PlanView}
-use Rattle.fv_split_plan.specs.Plans.{PlanStands, IsPlanOf}
+use Rattle.fv_control.specs.headline.Streams.{control_streams}
+use Rattle.fv_split_plan.specs.headline.View.{PlanView}
+use Rattle.fv_split_plan.specs.headline.Plans.{PlanStands, IsPlanOf}
 use Rattle.fv_engine.specs.Stands.{EngineView, played}
-use Rattle.fv_diagram.specs.Samples.{answer_on, joined, no_slots}
-use Rattle.fv_engine_render.specs.Blocks.{StillTells}
-use Rattle.fv_engine_render.specs.Runs.{HasRun, PlaysAll, RanGraphTo, loops_in}
+use Rattle.fv_diagram.specs.headline.Samples.{answer_on, joined, no_slots}
+use Rattle.fv_engine_render.specs.headline.Blocks.{StillTells}
+use Rattle.fv_engine_render.specs.headline.Runs.{HasRun, RanGraphTo, loops_in}
+use Rattle.fv_engine_render.specs.inner.Runs.{PlaysAll}
 use Rattle.fv_engine_render.specs.declared.blocks.RunSizes.{RunSizes}
 use Rattle.fv_engine_render.specs.declared.blocks.Ran.{Ran}
-use Rattle.fv_engine_render.specs.Plans.{AreNumbers, IsGraphOf, IsNew}
-use Rattle.fv_interval.specs.Controls.{spans_of}
-use Rattle.fv_engine_render.specs.Render.{initial_of}
+use Rattle.fv_engine_render.specs.headline.Plans.{IsGraphOf}
+use Rattle.fv_engine_render.specs.Plans.{IsNew}
+use Rattle.fv_engine_render.specs.inner.Plans.{AreNumbers}
+use Rattle.fv_interval.specs.headline.Controls.{spans_of}
+use Rattle.fv_engine_render.specs.headline.Render.{initial_of}
 use Rattle.fv_engine_render.proofs.Frames.{GivesOn, joined_all, played_is_run}
 use Rattle.fv_engine_render.proofs.Taken.{StayWithin, taken}
 

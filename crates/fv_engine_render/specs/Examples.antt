@@ -1,7 +1,7 @@
 -- Blocks of worked examples.
 use Rattle.std.specs.Prelude.{◌≡◌, refl, List, [], ◌∷◌, pos}
 use Rattle.fv_control.specs.declared.script.Change.{Change}
-use Rattle.fv_engine_render.specs.Blocks.{block_at}
+use Rattle.fv_engine_render.specs.headline.Blocks.{block_at}
 
 abbrev gains : List Change
 gains = record { frame = 2; control = 0; value = pos 3 } ∷ record { frame = 3; control = 0; value = pos 0 } ∷ []

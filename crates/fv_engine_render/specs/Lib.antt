@@ -1,5 +1,5 @@
+pub mod headline
 pub mod Blocks
-pub mod Runs
 pub mod Plans
 pub mod Render
 pub mod Stops

@@ -1,26 +1,23 @@
--- A diagram that is played in blocks, and a graph that is (this project's profile).
-use Rattle.std.specs.Prelude.{◌≡◌, ℕ, ◌≤◌, false, List, length, map, ℤ, All, Option}
+-- What calls say beside `headline/Render`: a diagram that is played in blocks, by a graph of it (this project's profile).
+use Rattle.std.specs.Prelude.{◌≡◌, ℕ, ◌≤◌, false, List, length, All, Option}
 use Rattle.std.specs.List.{AllByRecursion}
 use Rattle.fv_base.specs.declared.limits.TheConstants.{MOST_BLOCK, MOST_CHANNELS, MOST_VECTORS}
-use Rattle.fv_outside.specs.Journal.{Told}
-use Rattle.fv_diagram.specs.Diagram.{Diagram, inputs, outputs, control_bound, has_table, IsWellFormed, HasNoFreeSlot}
+use Rattle.fv_outside.specs.headline.Journal.{Told}
+use Rattle.fv_diagram.specs.headline.Diagram.{Diagram, inputs, outputs, has_table}
+use Rattle.fv_diagram.specs.Diagram.{control_bound, IsWellFormed, HasNoFreeSlot}
 use Rattle.fv_diagram.specs.declared.control.ControlInfo.{ControlInfo}
 use Rattle.fv_control.specs.declared.script.Change.{Change}
 use Rattle.fv_control.specs.Laws.{NeverFall, IsOfControls}
 use Rattle.fv_diagram.specs.Controls.{IsBounded}
-use Rattle.fv_interval.specs.Delays.{delays_of, AreAccepted}
-use Rattle.fv_interval.specs.Controls.{spans_of}
-use Rattle.fv_signal.specs.Value.{Graph}
-use Rattle.fv_simplify_rules.specs.Reducible.{AreShort}
-use Rattle.fv_engine_tasks.specs.Block.{vectors_of}
-use Rattle.fv_engine_render.specs.Plans.{IsGraphOf, NamesOnly}
-use Rattle.fv_engine_render.specs.Runs.{RanGraphTo}
+use Rattle.fv_interval.specs.headline.Delays.{delays_of}
+use Rattle.fv_interval.specs.Delays.{AreAccepted}
+use Rattle.fv_interval.specs.headline.Controls.{spans_of}
+use Rattle.fv_signal.specs.headline.Value.{Graph}
+use Rattle.fv_engine_tasks.specs.headline.Block.{vectors_of}
+use Rattle.fv_engine_render.specs.headline.Plans.{IsGraphOf}
 use Rattle.fv_engine_render.specs.declared.blocks.RunSizes.{RunSizes}
 use Rattle.fv_engine_render.specs.declared.blocks.Ran.{Ran}
-
--- the numbers with which the controls begin
-abbrev pub initial_of : List ControlInfo → List ℤ
-initial_of cs = map (λ c. c.init) cs
+use Rattle.fv_engine_render.specs.headline.Render.{RanTo}
 
 -- A diagram that can be played in blocks: it has an output, its controls begin within their bounds and stay there under the
 -- script, whose frames never fall, and these are its delays, none of which is refused.
@@ -33,16 +30,6 @@ pub record CanRender (d : Diagram) (controls : List ControlInfo) (delays : List 
   pub reads : control_bound d ≤ length controls
   pub bounded : All IsBounded controls
   pub accepted : AreAccepted (delays_of d (spans_of controls)) delays
-  pub order : NeverFall 0 changes
-  pub lawful : AllByRecursion (IsOfControls controls) changes
-
--- A graph that can be played in blocks, with so many inputs and these controls: it has an output, names only what is there, and delays
--- by no more than an engine keeps.
-pub record CanPlayGraph (g : Graph) (channels : ℕ) (controls : List ControlInfo) (changes : List Change) : Type 0 where
-  pub some : 1 ≤ length g.outputs
-  pub few : channels ≤ MOST_CHANNELS
-  pub names : NamesOnly g channels (length controls)
-  pub short : AreShort g
   pub order : NeverFall 0 changes
   pub lawful : AllByRecursion (IsOfControls controls) changes
 
@@ -63,12 +50,6 @@ pub record CanHave (s : RunSizes) : Type 0 where
   pub vectors : vectors_of s.block s.vector ≤ MOST_VECTORS
   pub one : 1 ≤ s.workers
   pub workers : s.workers ≤ 16
-
--- The blocks of a diagram's run up to a frame: those of a graph that gives what the diagram gives, output by output.
-pub record RanTo (d : Diagram) (cs : List ControlInfo) (changes : List Change) (s : RunSizes) (upto : ℕ) (r : Ran) (old new : Option Told) : Type 0 where
-  pub graph : Graph
-  pub of : IsGraphOf d (spans_of cs) graph
-  pub blocks : RanGraphTo graph changes s upto r old new
 
 -- those of all its frames
 abbrev pub RanWhole : Diagram → List ControlInfo → List Change → RunSizes → Ran → (old new : Option Told) → Type 0

@@ -1,11 +1,12 @@
 -- Graphs of diagrams, side by side in one (this project's profile).
 use Rattle.std.specs.Prelude.{◌≡◌, ℕ, ◌<◌, List, length, slice_index_or}
-use Rattle.fv_signal.specs.Value.{Graph}
-use Rattle.fv_diagram.specs.Diagram.{inputs}
+use Rattle.fv_signal.specs.headline.Value.{Graph}
+use Rattle.fv_diagram.specs.headline.Diagram.{inputs}
 use Rattle.fv_join.specs.declared.job.Job.{Job}
 use Rattle.fv_join.specs.Joined.{IsJoined}
-use Rattle.fv_join_diagrams.specs.Parts.{Part, AreWellFormed, side_by_side, spans_of}
-use Rattle.fv_engine_render.specs.Plans.{IsGraphOf}
+use Rattle.fv_join_diagrams.specs.headline.Parts.{Part, side_by_side}
+use Rattle.fv_join_diagrams.specs.Parts.{AreWellFormed, spans_of}
+use Rattle.fv_engine_render.specs.headline.Plans.{IsGraphOf}
 
 -- the job's graph is one of the part's diagram, and the job has its inputs and controls
 pub record IsJobOf (job : Job) (p : Part) : Type 0 where

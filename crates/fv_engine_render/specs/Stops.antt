@@ -1,18 +1,20 @@
 -- How a run over a tape is set up, and how it ends early (this project's profile).
 use Rattle.std.specs.Prelude.{◌≡◌, ℕ, ◌*◌, ◌<◌, List, [], ◌++◌, length, ℤ, Option}
-use Rattle.fv_outside.specs.Journal.{Told}
+use Rattle.fv_outside.specs.headline.Journal.{Told}
 use Rattle.fv_tape.specs.Acts.{Act, Beginning, Hearing, Saying}
-use Rattle.fv_diagram.specs.Diagram.{Diagram, inputs, outputs, IsWellFormed}
-use Rattle.fv_diagram.specs.Samples.{answer_on}
+use Rattle.fv_diagram.specs.headline.Diagram.{Diagram, inputs, outputs}
+use Rattle.fv_diagram.specs.Diagram.{IsWellFormed}
+use Rattle.fv_diagram.specs.headline.Samples.{answer_on}
 use Rattle.fv_diagram.specs.declared.control.ControlInfo.{ControlInfo}
 use Rattle.fv_control.specs.declared.script.Change.{Change}
-use Rattle.fv_control.specs.Streams.{control_streams}
-use Rattle.fv_interval.specs.Controls.{spans_of}
-use Rattle.fv_signal.specs.Value.{Graph}
-use Rattle.fv_split_plan.specs.View.{PlanView}
-use Rattle.fv_engine_render.specs.Blocks.{block_at}
-use Rattle.fv_engine_render.specs.Plans.{IsGraphOf, IsNew, IsPlanned}
-use Rattle.fv_engine_render.specs.Render.{RanTo, initial_of}
+use Rattle.fv_control.specs.headline.Streams.{control_streams}
+use Rattle.fv_interval.specs.headline.Controls.{spans_of}
+use Rattle.fv_signal.specs.headline.Value.{Graph}
+use Rattle.fv_split_plan.specs.headline.View.{PlanView}
+use Rattle.fv_engine_render.specs.headline.Blocks.{block_at}
+use Rattle.fv_engine_render.specs.headline.Plans.{IsGraphOf}
+use Rattle.fv_engine_render.specs.Plans.{IsNew, IsPlanned}
+use Rattle.fv_engine_render.specs.headline.Render.{RanTo, initial_of}
 use Rattle.fv_engine_render.specs.declared.blocks.RunSizes.{RunSizes}
 use Rattle.fv_engine_render.specs.declared.blocks.Ran.{Ran}
 use Rattle.fv_engine_render.specs.declared.tape.Played.{Played}

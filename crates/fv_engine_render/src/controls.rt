@@ -4,9 +4,9 @@ ghost use Rattle.std.specs.Prelude.{◌≡◌, All, FitsSigned, IfOk};
 ghost use Rattle.std.specs.Int.{w32};
 ghost use Rattle.fv_num.specs.SpanLaws.{AreSpans};
 ghost use Rattle.fv_diagram.specs.Controls.{IsBounded};
-ghost use Rattle.fv_engine_render.specs.Plans.{AreNumbers};
-ghost use Rattle.fv_interval.specs.Controls.{spans_of};
-ghost use Rattle.fv_engine_render.specs.Render.{initial_of};
+ghost use Rattle.fv_engine_render.specs.inner.Plans.{AreNumbers};
+ghost use Rattle.fv_interval.specs.headline.Controls.{spans_of};
+ghost use Rattle.fv_engine_render.specs.headline.Render.{initial_of};
 
 use fv_diagram::ControlInfo;
 use std::alloc::{AllocError, Global};

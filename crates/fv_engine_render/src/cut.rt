@@ -1,7 +1,8 @@
 // The cut of a run into blocks.
 
 ghost use Rattle.std.specs.Prelude.{◌≡◌, ◌-◌, ◌<◌, ◌≤◌};
-ghost use Rattle.fv_engine_render.specs.Blocks.{AreNext, block_at};
+ghost use Rattle.fv_engine_render.specs.headline.Blocks.{block_at};
+ghost use Rattle.fv_engine_render.specs.Blocks.{AreNext};
 
 use fv_control::Change;
 

@@ -1,9 +1,10 @@
 // The engine of a graph.
 
-ghost use Rattle.std.specs.Prelude.{◌≡◌, ◌≤◌, IfOk, length};
+ghost use Rattle.std.specs.Prelude.{◌≡◌, ◌≤◌, [], IfOk, length};
 ghost use Rattle.fv_base.specs.declared.limits.TheConstants.{MOST_CHANNELS};
-ghost use Rattle.fv_simplify_rules.specs.Reducible.{AreShort};
-ghost use Rattle.fv_engine_render.specs.Plans.{IsPlanned, FitsEngine, IsNew, NamesOnly};
+ghost use Rattle.fv_simplify_rules.specs.headline.Reducible.{AreShort};
+ghost use Rattle.fv_engine_render.specs.Plans.{IsPlanned, FitsEngine, IsNew};
+ghost use Rattle.fv_engine_render.specs.inner.Plans.{NamesOnly};
 ghost use Rattle.fv_engine_render.specs.Render.{CanHave};
 
 use crate::blocks::RunSizes;
@@ -24,6 +25,7 @@ pub(crate) fn plan_of(
     requires some { 1 ≤ length graph.now.outputs }
     requires names { NamesOnly graph.now channels controls }
     requires short { AreShort graph.now }
+    requires tableless { graph.now.tables ≡ [] }
     ensures { IfOk result (IsPlanned graph.now channels controls) }
 {
     outputs_need_loops();

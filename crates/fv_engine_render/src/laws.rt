@@ -1,6 +1,6 @@
 // The laws of runs, and of graphs side by side.
 
-ghost use Rattle.fv_signal.specs.Value.{Graph};
+ghost use Rattle.fv_signal.specs.headline.Value.{Graph};
 ghost use Rattle.fv_engine_render.specs.Render.{RunsHaveLoops};
 ghost use Rattle.fv_engine_render.specs.SideBySide.{JoinedIsGraph};
 

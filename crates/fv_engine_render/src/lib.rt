@@ -15,5 +15,5 @@ pub use blocks::{Ran, RunSizes};
 pub use controls::initial_of;
 pub use cut::next_block;
 pub use laws::{joined_is_graph, runs_have_loops};
-pub use rendering::{GraphSource, Rendered, Source, compile, render, render_graph};
+pub use rendering::{Source, compile};
 pub use tape::{Played, Ready, make_ready, make_ready_graph, render_tape};

@@ -2,15 +2,16 @@
 
 ghost use Rattle.std.specs.Prelude.{ℕ, ℤ, List, ◌≡◌, ◌*◌, ◌<◌, ◌≤◌, length, OnOk, IfOk, IfErr};
 ghost use Rattle.std.specs.List.{AllByRecursion};
-ghost use Rattle.fv_outside.specs.Journal.{Told};
+ghost use Rattle.fv_outside.specs.headline.Journal.{Told};
 ghost use Rattle.fv_tape.specs.Acts.{Act};
-ghost use Rattle.fv_loopcode.specs.Code.{NamesHeld};
+ghost use Rattle.fv_loopcode.specs.headline.Code.{NamesHeld};
 ghost use Rattle.fv_control.specs.Laws.{NeverFall};
-ghost use Rattle.fv_control.specs.Streams.{control_streams};
+ghost use Rattle.fv_control.specs.headline.Streams.{control_streams};
 ghost use Rattle.fv_engine.specs.Stands.{SameParts};
-ghost use Rattle.fv_engine_render.specs.Blocks.{StillTells};
-ghost use Rattle.fv_engine_render.specs.Plans.{AreNumbers};
-ghost use Rattle.fv_engine_render.specs.Runs.{HasRun, IsSizeOf, PlaysAll};
+ghost use Rattle.fv_engine_render.specs.headline.Blocks.{StillTells};
+ghost use Rattle.fv_engine_render.specs.inner.Plans.{AreNumbers};
+ghost use Rattle.fv_engine_render.specs.headline.Runs.{HasRun};
+ghost use Rattle.fv_engine_render.specs.inner.Runs.{IsSizeOf, PlaysAll};
 ghost use Rattle.fv_engine_render.specs.inner.Stopping.{HasStopped};
 
 use crate::blocks::{PlanSizes, Ran, RunSizes};

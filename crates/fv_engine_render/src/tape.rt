@@ -4,18 +4,19 @@ ghost use Rattle.std.specs.Prelude.{◌≡◌, ◌*◌, ◌<◌, ◌≤◌, ℕ,
 ghost use Rattle.std.specs.List.{AllByRecursion};
 ghost use Rattle.fv_diagram.specs.Arena.{count_of, tree_of};
 ghost use Rattle.fv_diagram.specs.Controls.{IsBounded};
-ghost use Rattle.fv_diagram.specs.Diagram.{Diagram, inputs};
-ghost use Rattle.fv_diagram.specs.Samples.{answer_on};
+ghost use Rattle.fv_diagram.specs.headline.Diagram.{Diagram, inputs};
+ghost use Rattle.fv_diagram.specs.headline.Samples.{answer_on};
 ghost use Rattle.fv_control.specs.Laws.{NeverFall, IsOfControls};
-ghost use Rattle.fv_control.specs.Streams.{control_streams};
+ghost use Rattle.fv_control.specs.headline.Streams.{control_streams};
 ghost use Rattle.fv_tape.specs.Acts.{Act};
-ghost use Rattle.fv_engine_render.specs.Render.{CanRender, CanBePlayed, CanHave, RanWhole, initial_of};
+ghost use Rattle.fv_engine_render.specs.headline.Render.{initial_of};
+ghost use Rattle.fv_engine_render.specs.Render.{CanRender, CanBePlayed, CanHave, RanWhole};
 ghost use Rattle.fv_engine_render.specs.Stops.{HasEnded, IsSetFor, IsSetToPlay};
 
 use crate::blocks::{PlanSizes, Ran, RunSizes};
 use crate::controls::{initial_of, spans_fit};
 use crate::engines::{engine, plan_of};
-use crate::rendering::{Source, blank_samples, compile};
+use crate::rendering::{Source, compile};
 use crate::stream::play_tape;
 use fv_control::Change;
 use fv_diagram::{ControlInfo, answers_each, answers_wide};
@@ -90,6 +91,16 @@ pub fn make_ready_graph(
         heard,
         said,
     })
+}
+
+// So many frames of zeros.
+fn blank_samples(alloc: Global, frames: u32, width: usize) -> Result<Vec<i32>, AllocError>
+    ensures { IfOk result (λ v. length v.items ≡ frames * width) }
+{
+    let Some(count) = (frames as usize).checked_mul(width) else {
+        return Err(AllocError);
+    };
+    vec![in alloc; 0i32; count]
 }
 
 /// Plays a diagram over a tape, block by block, while its controls change as a script says. It takes no memory.

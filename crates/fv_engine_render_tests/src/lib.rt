@@ -1,6 +1,8 @@
-//! Tests of fv_engine_render's public call: programs that are played in blocks, beside the runner of diagrams.
+//! Tests of fv_engine_render's public calls: programs that are played in blocks, beside the runner of diagrams.
 #![tactic(auto)]
 
+#[cfg(test)]
+mod memory;
 #[cfg(test)]
 mod playing;
 #[cfg(test)]

@@ -4,10 +4,11 @@ ghost use Rattle.std.specs.Prelude.{◌^◌, ◌<◌, IfOk, length};
 ghost use Rattle.std.specs.List.{AllByRecursion};
 ghost use Rattle.fv_control.specs.Laws.{NeverFall, IsOfControls};
 
+use crate::memory::{Memory, MemoryTape};
 use fv_control::{Script, scripts_are_lawful};
 use fv_diagram::ControlInfo;
 use fv_diagram_play::play_script;
-use fv_engine_render::{Rendered, RunSizes, Source, initial_of, render};
+use fv_engine_render::{Played, Ran, RunSizes, Source, initial_of, make_ready, render_tape};
 use fv_interval::{Delays, spans, spans_of};
 use fv_num::Span;
 use fv_outside::Gate;
@@ -25,6 +26,13 @@ pub(crate) struct Case {
     pub(crate) script: &'static str,
     pub(crate) input: &'static [i32],
     pub(crate) frames: u32,
+}
+
+/// What a run gave: its samples, one frame after another, and what ran.
+#[derive(Drop)]
+pub(crate) struct Answer {
+    pub(crate) samples: Vec<i32>,
+    pub(crate) ran: Ran,
 }
 
 // The script of a text.
@@ -58,7 +66,7 @@ pub(crate) fn rendered<R: Threads + Wait + Sync, G: Gate + Sync>(
     block: u32,
     vector: u32,
     gate: &mut G,
-) -> Result<Rendered, Fail> {
+) -> Result<Answer, Fail> {
     let program = program_of(alloc, case.program)?;
     let controls = program.controls.as_slice();
     let script = script_of(alloc, case.script, controls)?;
@@ -91,16 +99,43 @@ pub(crate) fn rendered<R: Threads + Wait + Sync, G: Gate + Sync>(
         vector,
         workers: 1,
     };
-    let answer = render(
+    let ready = make_ready(alloc, &source, script.changes(), &sizes)?;
+    let played = Played {
+        inputs: arity.inputs,
+        outputs: arity.outputs,
+        controls,
+    };
+    let mut tape = MemoryTape {
+        left: case.frames,
+        most: block,
+        inputs: arity.inputs,
+        outputs: arity.outputs,
+    };
+    let mut memory = Memory {
+        input: case.input,
+        heard: 0,
+        output: vec![in alloc; 0i32; case.frames as usize * arity.outputs as usize]?,
+        said: 0,
+    };
+    let ran = match render_tape(
         rt,
         alloc,
-        &source,
+        &played,
         script.changes(),
         &sizes,
-        case.input,
+        ready,
+        &mut tape,
+        &mut memory,
         gate,
-    )?;
-    Ok(answer)
+    ) {
+        Ok(ran) => ran,
+        // A tape in memory never stops.
+        Err(stop) => match stop {},
+    };
+    Ok(Answer {
+        samples: memory.output,
+        ran,
+    })
 }
 
 /// What the runner of diagrams gives.

@@ -8,9 +8,10 @@ use Rattle.std.proofs.Math.Nat.{min-eq_left}
 use Rattle.fv_graph.proofs.Counts.{both_of}
 use Rattle.fv_graph.proofs.Grouping.{get_any}
 use Rattle.fv_graph.proofs.ReadsLemmas.{get_passing}
-use Rattle.fv_loopcode.specs.Lanes.{no_lane}
-use Rattle.fv_loopcode.specs.Obeys.{HoldsJust, OfLane}
-use Rattle.fv_split_plan.specs.View.{PlanView, lane_info, code_of, is_own}
+use Rattle.fv_loopcode.specs.headline.Lanes.{no_lane}
+use Rattle.fv_loopcode.specs.headline.Obeys.{OfLane}
+use Rattle.fv_loopcode.specs.Obeys.{HoldsJust}
+use Rattle.fv_split_plan.specs.headline.View.{PlanView, lane_info, code_of, is_own}
 use Rattle.fv_lines.specs.declared.seen.Seen.{Seen}
 use Rattle.fv_lines.specs.declared.writer.LaneWriter.{LaneWriter}
 use Rattle.fv_engine_lanes.specs.Lanes.{lane_open}

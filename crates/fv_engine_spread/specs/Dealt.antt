@@ -1,7 +1,7 @@
 -- The lanes of a block, dealt to the lists of their loops (this project's profile).
 use Rattle.std.specs.Prelude.{◌≡◌, ℕ, ◌<◌, List, length, map, slice_index_or}
 use Rattle.std.specs.Global.{Box}
-use Rattle.fv_split_plan.specs.View.{PlanView}
+use Rattle.fv_split_plan.specs.headline.View.{PlanView}
 use Rattle.fv_lines.specs.declared.writer.LaneWriter.{LaneWriter}
 use Rattle.fv_engine_lanes.specs.Plans.{own_lanes}
 use Rattle.fv_engine_parcels.specs.declared.content.Writers.{Writers}

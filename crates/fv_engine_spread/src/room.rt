@@ -1,7 +1,7 @@
 // What the lists of a block take of memory, before any lane is begun.
 
 ghost use Rattle.std.specs.Prelude.{◌≡◌, ◌+◌, ◌*◌, ◌<◌, length, IfOk, vec_len};
-ghost use Rattle.fv_split_plan.specs.View.{code_of};
+ghost use Rattle.fv_split_plan.specs.headline.View.{code_of};
 ghost use Rattle.fv_engine_lanes.specs.Plans.{own_lanes, sources_of, lanes_of_all, readers_of};
 ghost use Rattle.fv_engine_codes.specs.Codes.{AreOfPlan, AreLaneCounts};
 ghost use Rattle.fv_engine_parcels.specs.Contents.{AreRoomy};

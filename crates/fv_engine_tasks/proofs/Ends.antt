@@ -2,12 +2,13 @@
 use Rattle.std.proofs.Common.{◌≡◌, inl, inr, ℕ, zero, suc, ◌+◌, ◌<◌, ◌≤◌, Bool, true, false, ◌&&◌, ◌||◌, ◌==◌, List, refl}
 use Rattle.std.proofs.Common.{sym, ap, ◌∙◌, arith, true≢false, ltb-true, not}
 use Rattle.std.proofs.lemmas.Bool.{cases_Bool, ne_eqb}
-use Rattle.fv_outside.specs.Tasks.{Tasks, task_count, bit, reads_task, reads_loop}
+use Rattle.fv_outside.specs.headline.Tasks.{Tasks, bit, reads_task, reads_loop}
+use Rattle.fv_outside.specs.Tasks.{task_count}
 use Rattle.fv_outside.specs.declared.tasks.Task.{Task}
 use Rattle.fv_outside.specs.declared.gate.Line.{Line}
 use Rattle.fv_graph.specs.Graph.{task_at}
 use Rattle.fv_graph_core.specs.Core.{Now, is_done}
-use Rattle.fv_loopcode.specs.State.{State}
+use Rattle.fv_loopcode.specs.headline.State.{State}
 use Rattle.fv_graph.proofs.Counts.{total_zero}
 use Rattle.fv_engine_tasks.specs.Block.{Block}
 use Rattle.fv_engine_tasks.specs.Jobs.{IsJob, left_to_do}

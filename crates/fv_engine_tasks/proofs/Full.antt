@@ -1,11 +1,12 @@
 -- What the lanes hold when a block is done.
 use Rattle.std.proofs.Common.{◌≡◌, ℕ, ◌+◌, ◌*◌, ◌<◌, List, length, ap, ◌∙◌, arith, All, get_or}
-use Rattle.fv_outside.specs.Tasks.{Tasks}
+use Rattle.fv_outside.specs.headline.Tasks.{Tasks}
 use Rattle.fv_outside.specs.declared.gate.Line.{Line}
-use Rattle.fv_loopcode.specs.Lanes.{lane_of}
-use Rattle.fv_loopcode.specs.State.{State}
-use Rattle.fv_loopcode.specs.Obeys.{OfLane}
-use Rattle.fv_engine_tasks.specs.Block.{Block, IsReal, HoldUpTo, vectors_of}
+use Rattle.fv_loopcode.specs.headline.Lanes.{lane_of}
+use Rattle.fv_loopcode.specs.headline.State.{State}
+use Rattle.fv_loopcode.specs.headline.Obeys.{OfLane}
+use Rattle.fv_engine_tasks.specs.headline.Block.{vectors_of}
+use Rattle.fv_engine_tasks.specs.Block.{Block, IsReal, HoldUpTo}
 use Rattle.fv_engine_tasks.specs.Jobs.{IsJob}
 use Rattle.fv_engine_tasks.specs.Outputs.{CanRead}
 use Rattle.fv_engine_tasks.specs.Underway.{EndsBlock}

@@ -3,8 +3,8 @@ use Rattle.std.proofs.Common.{◌≡◌, inl, inr, ℕ, suc, ◌+◌, ◌*◌, �
 use Rattle.std.proofs.Common.{sym, ap, ◌∙◌, subst, arith, true≢false, lt-ltb, get_or, Contains}
 use Rattle.std.proofs.lemmas.Bool.{cases_eq, cases_lt}
 use Rattle.std.proofs.lemmas.List.{get_or_default}
-use Rattle.fv_outside.specs.Tasks.{Tasks, bit, reads_task}
-use Rattle.fv_outside.specs.Journal.{IsOrdered, stamped}
+use Rattle.fv_outside.specs.headline.Tasks.{Tasks, bit, reads_task}
+use Rattle.fv_outside.specs.headline.Journal.{IsOrdered, stamped}
 use Rattle.fv_outside.specs.declared.tasks.Task.{Task}
 use Rattle.fv_outside.specs.declared.gate.Line.{Line}
 use Rattle.fv_graph.proofs.Counts.{bit_le, bit_apart}

@@ -2,7 +2,8 @@
 use Rattle.std.proofs.Common.{◌≡◌, inl, inr, ℕ, suc, ◌+◌, ◌-◌, ◌*◌, ◌/◌, ◌<◌, ◌≤◌, ltb, sym, ap, ◌∙◌, arith, lt-ltb}
 use Rattle.std.proofs.Common.{mul-le-mul_right, suc-mul, div-add-mod', mod-lt}
 use Rattle.std.proofs.lemmas.Bool.{cases_lt, le-ltb}
-use Rattle.fv_outside.specs.Tasks.{Tasks, task_count}
+use Rattle.fv_outside.specs.headline.Tasks.{Tasks}
+use Rattle.fv_outside.specs.Tasks.{task_count}
 use Rattle.fv_outside.specs.declared.tasks.Task.{Task}
 use Rattle.fv_graph.specs.Graph.{task_at, task_of, loop_of, vector_of}
 use Rattle.fv_graph.proofs.Graphs.{unique}

@@ -4,8 +4,9 @@ use Rattle.std.proofs.Common.{◌==◌, List, [], ◌∷◌, ◌++◌, length, r
 use Rattle.std.proofs.Common.{nat_eq, not, mod-lt, div-add-mod', length-set}
 use Rattle.std.proofs.lemmas.Bool.{cases_eq, cases_lt, cases_Bool, ltb-false, le-ltb, cond-true, cond-false, eq-eqb, ne_eqb}
 use Rattle.std.proofs.lemmas.List.{get_or_push, get_or_append_left, length_push, get_or-set_same, get_or-set_other}
-use Rattle.fv_outside.specs.Tasks.{Tasks, task_count, bit, total, reads_task, reads_loop}
-use Rattle.fv_outside.specs.Journal.{is_line_of}
+use Rattle.fv_outside.specs.headline.Tasks.{Tasks, bit, total, reads_task, reads_loop}
+use Rattle.fv_outside.specs.Tasks.{task_count}
+use Rattle.fv_outside.specs.headline.Journal.{is_line_of}
 use Rattle.fv_outside.specs.declared.tasks.Task.{Task}
 use Rattle.fv_outside.specs.declared.gate.Line.{Line}
 use Rattle.fv_graph.specs.Graph.{task_at, loop_of, vector_of}
@@ -13,10 +14,11 @@ use Rattle.fv_graph_core.specs.Core.{Now, is_done}
 use Rattle.fv_graph.proofs.Counts.{total_append, total_set, bit_same, both_of, either_left, either_right}
 use Rattle.fv_graph.proofs.Graphs.{unique}
 use Rattle.fv_graph.proofs.Ranges.{quotient_small}
-use Rattle.fv_loopcode.specs.State.{State}
-use Rattle.fv_loopcode.specs.Code.{MayRun, ran, frame_of}
+use Rattle.fv_loopcode.specs.headline.State.{State}
+use Rattle.fv_loopcode.specs.headline.Code.{ran}
+use Rattle.fv_loopcode.specs.Code.{MayRun, frame_of}
 use Rattle.fv_loopcode.specs.Obeys.{Content, IsLike}
-use Rattle.fv_num.specs.Words.{argument}
+use Rattle.fv_num.specs.headline.Words.{argument}
 use Rattle.fv_loopcode.specs.Blocks.{AreApart, before, one_more, TaskIsFree}
 use Rattle.fv_engine_tasks.specs.Block.{Block, ObeysBlock, HoldUpTo, IsReal}
 use Rattle.fv_engine_tasks.specs.Events.{IsFree}

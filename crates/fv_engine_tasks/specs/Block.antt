@@ -1,7 +1,7 @@
--- A block, by what determines its samples (this project's profile).
-use Rattle.std.specs.Prelude.{◌≡◌, ℕ, ◌+◌, ◌-◌, ◌/◌, ◌<◌, List, ℤ}
-use Rattle.fv_num.specs.Words.{argument}
-use Rattle.fv_loopcode.specs.State.{State}
+-- What calls say beside `headline/Block`: a block, by what determines its samples (this project's profile).
+use Rattle.std.specs.Prelude.{◌≡◌, ℕ, ◌<◌, List, ℤ}
+use Rattle.fv_num.specs.headline.Words.{argument}
+use Rattle.fv_loopcode.specs.headline.State.{State}
 use Rattle.fv_loopcode.specs.Code.{frame_of}
 use Rattle.fv_loopcode.specs.Obeys.{Content, ObeysAt}
 use Rattle.fv_loopcode.specs.Blocks.{Loops, IsUpTo}
@@ -21,10 +21,6 @@ pub record Block : Type 0 where
   pub channels : ℕ
   pub held : List ℤ
   pub input : List ℤ
-
--- how many vectors a block of so many frames has
-abbrev pub vectors_of : (frames vector : ℕ) → ℕ
-vectors_of frames vector = (frames + (vector - 1)) / vector
 
 -- numbers that the block's codes obey
 pub record ObeysBlock (b : Block) (f : Content) : Type 0 where

@@ -1,10 +1,11 @@
 -- What the tasks of a block need.
 use Rattle.std.specs.Prelude.{◌≡◌, ℕ, ◌*◌, ◌<◌, ◌≤◌, true, List, length, All, Bool, not}
-use Rattle.fv_outside.specs.Tasks.{Tasks, reads_loop, bit, total}
+use Rattle.fv_outside.specs.headline.Tasks.{Tasks, reads_loop, bit, total}
 use Rattle.fv_loopcode.specs.Code.{IsWithin}
-use Rattle.fv_loopcode.specs.Obeys.{OfLane}
+use Rattle.fv_loopcode.specs.headline.Obeys.{OfLane}
 use Rattle.fv_loopcode.specs.Blocks.{AreApart}
-use Rattle.fv_engine_tasks.specs.Block.{Parts, Block, vectors_of}
+use Rattle.fv_engine_tasks.specs.headline.Block.{vectors_of}
+use Rattle.fv_engine_tasks.specs.Block.{Parts, Block}
 use Rattle.fv_engine_tasks.specs.declared.turns.Job.{Job}
 
 -- the block of a job

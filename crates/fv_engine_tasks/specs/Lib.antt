@@ -1,3 +1,4 @@
+pub mod headline
 pub mod Block
 pub mod Jobs
 pub mod Events

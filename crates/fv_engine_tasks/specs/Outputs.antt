@@ -1,6 +1,7 @@
 -- What is read of the lanes of the outputs.
 use Rattle.std.specs.Prelude.{ℕ, ◌<◌, List, length, ℤ}
-use Rattle.fv_loopcode.specs.Lanes.{Lane, lane_of, sample_at, HasSample}
+use Rattle.fv_loopcode.specs.headline.Lanes.{Lane, lane_of, sample_at}
+use Rattle.fv_loopcode.specs.Lanes.{HasSample}
 
 -- the lane is there and has this sample of the block
 abbrev pub CanRead : List Lane → (index : ℕ) → ℕ → Type 0

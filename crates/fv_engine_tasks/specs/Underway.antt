@@ -1,12 +1,13 @@
 -- A block in the middle of its tasks, and at their end.
 use Rattle.std.specs.Prelude.{◌≡◌, ℕ, ◌+◌, ◌*◌, ◌<◌, ◌≤◌, ltb, true, false, List, length, slice_index_or}
-use Rattle.fv_outside.specs.Tasks.{Tasks, bit, total, task_count, reads_task}
-use Rattle.fv_outside.specs.Journal.{is_line_of, IsOrdered}
+use Rattle.fv_outside.specs.headline.Tasks.{Tasks, bit, total, reads_task}
+use Rattle.fv_outside.specs.Tasks.{task_count}
+use Rattle.fv_outside.specs.headline.Journal.{is_line_of, IsOrdered}
 use Rattle.fv_outside.specs.declared.tasks.Task.{Task}
 use Rattle.fv_outside.specs.declared.gate.Line.{Line}
 use Rattle.fv_graph.specs.Graph.{task_at}
 use Rattle.fv_graph_core.specs.Core.{Now, is_done}
-use Rattle.fv_loopcode.specs.State.{State}
+use Rattle.fv_loopcode.specs.headline.State.{State}
 use Rattle.fv_loopcode.specs.Obeys.{Content}
 use Rattle.fv_engine_tasks.specs.Events.{IsFree}
 use Rattle.fv_engine_tasks.specs.Jobs.{left_to_do}

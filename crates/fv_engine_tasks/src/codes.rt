@@ -3,7 +3,7 @@
 ghost use Rattle.std.specs.Prelude.{◌≡◌, ◌<◌};
 ghost use Rattle.fv_engine_tasks.specs.Block.{Parts};
 
-use fv_loopcode::Code;
+use fv_loopcode_machine::Code;
 
 /// The code of each loop of a plan.
 pub trait Codes {

@@ -1,14 +1,15 @@
 // The tasks of a block, one after another by one worker.
 
 ghost use Rattle.std.specs.Prelude.{◌≡◌, ℕ, suc, ◌+◌, ◌-◌, ◌*◌, ◌<◌, ◌≤◌, true, All, length, List, [], ◌∷◌, set, vec_capacity, Some, None};
-ghost use Rattle.fv_num.specs.Words.{argument};
+ghost use Rattle.fv_num.specs.headline.Words.{argument};
 ghost use Rattle.fv_outside.specs.Tasks.{task_count};
 ghost use Rattle.fv_graph.specs.Graph.{net_of, feeds_of};
 ghost use Rattle.fv_graph_core.specs.Core.{is_legal, after, deque_of, is_done};
 ghost use Rattle.fv_graph_core.specs.Ends.{back_of};
 ghost use Rattle.fv_graph_core.specs.Ready.{TakesReady};
-ghost use Rattle.fv_loopcode.specs.State.{State};
-ghost use Rattle.fv_loopcode.specs.Code.{MayRun, ran, frame_of, IsWithin};
+ghost use Rattle.fv_loopcode.specs.headline.State.{State};
+ghost use Rattle.fv_loopcode.specs.headline.Code.{ran};
+ghost use Rattle.fv_loopcode.specs.Code.{MayRun, frame_of, IsWithin};
 ghost use Rattle.fv_loopcode.specs.Blocks.{before};
 ghost use Rattle.fv_engine_tasks.specs.Block.{IsReal};
 ghost use Rattle.fv_engine_tasks.specs.Jobs.{IsJob, block_of, RegistersFit, left_to_do};
@@ -18,7 +19,8 @@ ghost use Rattle.fv_engine_tasks.specs.Underway.{IsUnderway, EndsBlock};
 use crate::codes::Codes;
 use fv_graph::Tasks;
 use fv_graph_core::{Core, Event};
-use fv_loopcode::{Store, run, task_is_free};
+use fv_loopcode::{Store, task_is_free};
+use fv_loopcode_machine::run;
 use fv_outside::{Gate, Line, Task};
 
 /// What the tasks of a block are of: the plan's codes, the held values, and the input in frames of so many channels, cut in

@@ -1,7 +1,7 @@
 // Engines of graphs, and their runs.
 
 ghost use Rattle.std.specs.Prelude.{◌≡◌, ◌*◌, ◌^◌, ◌<◌, ◌≤◌, IfOk, IfSome, length};
-ghost use Rattle.fv_engine_tasks.specs.Block.{vectors_of};
+ghost use Rattle.fv_engine_tasks.specs.headline.Block.{vectors_of};
 ghost use Rattle.fv_engine_tests.specs.Runs.{IsSquare};
 
 use crate::may::{histories_beyond, names_beyond};
@@ -45,6 +45,10 @@ pub(crate) fn engine_of(
     requires workers { (1 ≤ sizes.workers) × (sizes.workers ≤ 16) }
     ensures { IfOk result (λ e. IfSome e (λ e. IsSquare e sizes.width sizes.block controls)) }
 {
+    let tables = graph.tables();
+    if tables != 0 {
+        return Ok(None);
+    }
     let rates = rates(alloc, graph)?;
     let histories = largest_delays(alloc, graph)?;
     let plan = split(alloc, graph, &rates, &histories)?;

@@ -1,9 +1,9 @@
 // Whether an engine may be prepared of a graph's plan.
 
 ghost use Rattle.std.specs.Prelude.{◌≡◌, ℕ, ◌<◌, ◌≤◌, false, length};
-ghost use Rattle.fv_signal.specs.Rates.{NamesControl};
-ghost use Rattle.fv_split_plan.specs.Plans.{NamesChannel};
-ghost use Rattle.fv_split_plan.specs.View.{lane_info};
+ghost use Rattle.fv_signal.specs.headline.Rates.{NamesControl};
+ghost use Rattle.fv_split_plan.specs.headline.Plans.{NamesChannel};
+ghost use Rattle.fv_split_plan.specs.headline.View.{lane_info};
 ghost use Rattle.fv_engine_tests.specs.Runs.{IsNamedWithin};
 
 use fv_signal::{Graph, Signal, SignalId};
@@ -19,7 +19,13 @@ fn is_beyond(signal: Signal, channels: u32, controls: usize) -> bool
     match signal {
         Signal::Input(channel) => channel >= u64::from(channels),
         Signal::Control(control) => control as usize >= controls,
-        _ => false,
+        Signal::Const(_)
+        | Signal::Point { .. }
+        | Signal::Delay { .. }
+        | Signal::Back { .. }
+        | Signal::Member { .. }
+        | Signal::Read { .. }
+        | Signal::Write { .. } => false,
     }
 }
 

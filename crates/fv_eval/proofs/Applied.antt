@@ -2,11 +2,11 @@
 use Rattle.std.proofs.Common.{◌≡◌, ℕ, Bool, true, false, List, [], ◌∷◌, Some, None, refl, sym, ap, ◌∙◌}
 use Rattle.std.specs.Prelude.{nat_lt, if◌then◌else◌}
 use Rattle.std.proofs.lemmas.Option.{none-some}
-use Rattle.fv_lex.specs.Token.{Lexed}
-use Rattle.fv_rules.specs.Values.{Value, Flat, Abstraction, Rules, Bound, And, count_taken, in_order}
-use Rattle.fv_rules.specs.Matching.{chosen}
-use Rattle.fv_rules.specs.Steps.{State}
-use Rattle.fv_rules.specs.Rules.{width}
+use Rattle.fv_lex.specs.headline.Token.{Lexed}
+use Rattle.fv_rules.specs.headline.Values.{Value, Flat, Abstraction, Rules, Bound, And, count_taken, in_order}
+use Rattle.fv_rules.specs.headline.Matching.{chosen}
+use Rattle.fv_rules.specs.headline.Steps.{State}
+use Rattle.fv_rules.specs.headline.Rules.{width}
 use Rattle.fv_eval_machine.specs.Machine.{Continuation, apply, select}
 use Rattle.fv_eval.specs.inner.Continuations.{took, completed}
 

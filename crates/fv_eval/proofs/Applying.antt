@@ -5,13 +5,13 @@ use Rattle.std.specs.Prelude.{slice_get, option_map}
 use Rattle.std.specs.declared.alloc.Global.{Global}
 use Rattle.std.proofs.lemmas.List.{drop_all}
 use Rattle.std.proofs.lemmas.Option.{none-some, slice_get_within}
-use Rattle.fv_parse_grammar.specs.Tree.{Tree, items}
-use Rattle.fv_parse_grammar.specs.Tree as tree
+use Rattle.fv_parse_grammar.specs.headline.Tree.{Tree, items}
+use Rattle.fv_parse_grammar.specs.headline.Tree as tree
 use Rattle.fv_parse.specs.Trees.{Parsed, size_of, tree_in}
 use Rattle.fv_rules.specs.declared.refusal.EvalRefusal.{EvalRefusal}
 use Rattle.fv_eval_scopes.specs.declared.value.Value as code_value
-use Rattle.fv_rules.specs.Values.{Value, Env}
-use Rattle.fv_rules.specs.Steps.{State}
+use Rattle.fv_rules.specs.headline.Values.{Value, Env}
+use Rattle.fv_rules.specs.headline.Steps.{State}
 use Rattle.fv_eval_scopes.specs.Shows.{ShowsEnv, ShowsTree, ShowsValue, ShowsValues}
 use Rattle.fv_eval_scopes.proofs.Grown.{tree_grows, value_grows, values_grow}
 use Rattle.fv_eval_machine.specs.Machine.{Argument, Continuation, Valued, Visit, Config, Running, apply, next_argument}

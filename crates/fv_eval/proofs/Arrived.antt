@@ -2,16 +2,16 @@
 use Rattle.std.proofs.Common.{◌≡◌, ℕ, suc, List, [], ◌∷◌, ◌++◌, length, drop, Vec, Result, Ok, ℤ, refl, sym, ap, subst, ◌∙◌, arith}
 use Rattle.std.specs.declared.alloc.Global.{Global}
 use Rattle.std.proofs.lemmas.List.{length_push, same_from_push}
-use Rattle.fv_parse_grammar.specs.Tree.{Tree, items, start_of}
-use Rattle.fv_parse_grammar.specs.Tree as tree
+use Rattle.fv_parse_grammar.specs.headline.Tree.{Tree, items, start_of}
+use Rattle.fv_parse_grammar.specs.headline.Tree as tree
 use Rattle.fv_parse_grammar.specs.declared.form.Slider.{Slider as SliderKind}
 use Rattle.fv_parse.specs.Trees.{Parsed}
 use Rattle.fv_diagram.specs.declared.control.ControlKind.{ControlKind}
 use Rattle.fv_rules.specs.declared.refusal.EvalRefusal.{EvalRefusal}
 use Rattle.fv_eval_scopes.specs.declared.value.Value as code_value
-use Rattle.fv_rules.specs.Values.{Value, Env}
-use Rattle.fv_rules.specs.Matching.{settled, value_number}
-use Rattle.fv_rules.specs.Rules.{read_number, slider_kind}
+use Rattle.fv_rules.specs.headline.Values.{Value, Env}
+use Rattle.fv_rules.specs.headline.Matching.{settled, value_number}
+use Rattle.fv_rules.specs.headline.Rules.{read_number, slider_kind}
 use Rattle.fv_eval_scopes.specs.Shows.{ShowsTree, ShowsValue, ShowsValues, ShowsEnv}
 use Rattle.fv_eval_scopes.proofs.Grown.{tree_grows, value_grows, env_grows, values_grow}
 use Rattle.fv_eval_machine.specs.Machine.{ForValue, Function, Argument, Leftover, Parameter, ForDiagram, Continuation, Valued, Drawn}

@@ -1,21 +1,22 @@
 -- How the forms begin.
 use Rattle.std.proofs.Common.{inr, ◌≡◌, ℕ, suc, ◌+◌, ◌<◌, List, [], ◌∷◌, length, drop, map, Result, Ok, Err, refl, sym, ap, subst, ◌∙◌, arith}
 use Rattle.std.specs.Prelude.{ℤ}
-use Rattle.fv_lex.specs.Token.{Lexed}
-use Rattle.fv_parse_grammar.specs.Tree.{Tree, items, start_of, End}
-use Rattle.fv_parse_grammar.specs.Tree as tree
+use Rattle.fv_lex.specs.headline.Token.{Lexed}
+use Rattle.fv_parse_grammar.specs.headline.Tree.{Tree, items, start_of, End}
+use Rattle.fv_parse_grammar.specs.headline.Tree as tree
 use Rattle.fv_parse_grammar.specs.declared.form.Slider.{Slider as SliderKind}
 use Rattle.fv_parse_tree.specs.Arena.{forest, trees}
 use Rattle.fv_parse_tree.specs.declared.node.TreeId.{TreeId}
-use Rattle.fv_parse.specs.Trees.{Parsed, size_of, tree_in, text_of, label_of}
+use Rattle.fv_parse.specs.headline.Trees.{text_of, label_of}
+use Rattle.fv_parse.specs.Trees.{Parsed, size_of, tree_in}
 use Rattle.fv_rules.specs.declared.refusal.EvalRefusal.{EvalRefusal}
 use Rattle.fv_eval_scopes.specs.declared.value.Value.TheVariants as value
 use Rattle.fv_eval_scopes.specs.declared.value.Ruled.TheVariants as ruled
 use Rattle.fv_eval_scopes.specs.declared.value.Scope.TheVariants as scope
 use Rattle.fv_eval_scopes.specs.Environments.{Environments, with_scope}
-use Rattle.fv_rules.specs.Values.{Env, Scope, Abstraction, Rules, Nothing, rule_of}
-use Rattle.fv_rules.specs.Steps.{State, no_diagram}
-use Rattle.fv_rules.specs.Rules.{slider_kind}
+use Rattle.fv_rules.specs.headline.Values.{Env, Scope, Abstraction, Rules, Nothing, rule_of}
+use Rattle.fv_rules.specs.headline.Steps.{State, no_diagram}
+use Rattle.fv_rules.specs.headline.Rules.{slider_kind}
 use Rattle.fv_eval_scopes.specs.Shows.{ShowsTree, ShowsEnv, body_in, parameters_in, case_in}
 use Rattle.fv_eval_scopes.proofs.Grown.{opened_shows}
 use Rattle.fv_eval_machine.specs.Machine.{Continuation, Visit, Running, Ended, begin, next_parameter}

@@ -2,8 +2,8 @@
 use Rattle.std.proofs.Common.{inr, ◌≡◌, ℕ, ◌+◌, ◌<◌, List, [], ◌∷◌, ◌++◌, length, drop, Option, Some, None, Result, Err, All, refl, sym, ap, subst, ◌∙◌}
 use Rattle.std.specs.Prelude.{slice_get}
 use Rattle.std.proofs.lemmas.List.Elements.{All-nil}
-use Rattle.fv_parse_grammar.specs.Tree.{Tree, start_of}
-use Rattle.fv_parse_grammar.specs.Tree as tree
+use Rattle.fv_parse_grammar.specs.headline.Tree.{Tree, start_of}
+use Rattle.fv_parse_grammar.specs.headline.Tree as tree
 use Rattle.fv_parse.specs.Trees.{Parsed, size_of, tree_in}
 use Rattle.fv_parse_tree.specs.declared.node.TreeId.{TreeId}
 use Rattle.fv_diagram.specs.Arena.{Arena, count_of}
@@ -16,9 +16,9 @@ use Rattle.fv_eval_scopes.specs.declared.value.Scope.TheVariants as scope
 use Rattle.fv_eval_scopes.specs.declared.value.Argument as code_argument
 use Rattle.fv_eval_scopes.specs.declared.value.Binding as code_binding
 use Rattle.fv_eval_scopes.specs.Environments.{Environments, with_scope}
-use Rattle.fv_rules.specs.Values.{Value, Flat, Abstraction, Rules, Env, Bound, Taken, Nothing, And, in_order}
-use Rattle.fv_rules.specs.Matching.{Bindings, bound_in, chosen}
-use Rattle.fv_rules.specs.Steps.{no_rule}
+use Rattle.fv_rules.specs.headline.Values.{Value, Flat, Abstraction, Rules, Env, Bound, Taken, Nothing, And, in_order}
+use Rattle.fv_rules.specs.headline.Matching.{Bindings, bound_in, chosen}
+use Rattle.fv_rules.specs.headline.Steps.{no_rule}
 use Rattle.fv_eval_scopes.specs.Shows.{World, Grows, IsInside, ShowsBindings, ShowsEnv, ShowsTaken, ShowsTree, ShowsValue, ShowsValues, body_in, parameters_in}
 use Rattle.fv_eval_scopes.specs.Shows.{rules_in}
 use Rattle.fv_eval_choosing.specs.Choosing.{with_diagrams}

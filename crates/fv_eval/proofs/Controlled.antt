@@ -1,14 +1,14 @@
 -- A control that was entered.
 use Rattle.std.proofs.Common.{inl, inr, ℕ, List, Ok, Err, refl, sym, ap, ◌∙◌}
 use Rattle.fv_parse.specs.Trees.{Parsed}
-use Rattle.fv_diagram.specs.Diagram.{Control}
+use Rattle.fv_diagram.specs.headline.Diagram.{Control}
 use Rattle.fv_diagram.specs.declared.control.ControlInfo.{ControlInfo}
 use Rattle.fv_eval_drawing.specs.Makes.{AddsDiagrams, Canvas, Draws}
 use Rattle.fv_rules.specs.declared.refusal.EvalRefusal.{EvalRefusal}
 use Rattle.fv_eval_scopes.specs.declared.value.Value.TheVariants as value
-use Rattle.fv_rules.specs.Values.{Flat}
-use Rattle.fv_rules.specs.Steps.{after, give, control}
-use Rattle.fv_rules.specs.Rules.{flat}
+use Rattle.fv_rules.specs.headline.Values.{Flat}
+use Rattle.fv_rules.specs.headline.Steps.{after, give, control}
+use Rattle.fv_rules.specs.headline.Rules.{flat}
 use Rattle.fv_eval_machine.specs.Machine.{Give, Running, given}
 use Rattle.fv_eval.specs.declared.continuation.Focus.TheVariants as focus
 use Rattle.fv_eval.specs.declared.machine.Machine as code_machine

@@ -4,8 +4,8 @@ use Rattle.std.proofs.Common.{sym, ap, ◌∙◌, inl, inr, arith}
 use Rattle.std.specs.Prelude.{slice_get, int_le, if◌then◌else◌, MatchResult}
 use Rattle.std.proofs.lemmas.Option.{slice_get_within}
 use Rattle.fv_diagram.specs.declared.control.ControlInfo.{ControlInfo}
-use Rattle.fv_diagram.specs.Diagram.{Control}
-use Rattle.fv_rules.specs.Steps.{State, control, entered, is_alike, labelled}
+use Rattle.fv_diagram.specs.headline.Diagram.{Control}
+use Rattle.fv_rules.specs.headline.Steps.{State, control, entered, is_alike, labelled}
 use Rattle.fv_rules.specs.declared.refusal.EvalRefusal.{EvalRefusal}
 use Rattle.fv_rules.specs.declared.refusal.EvalRefusal.TheVariants.{ControlBounds, ControlClash, NoMemory}
 use Rattle.fv_eval.specs.Controls.{Enters}

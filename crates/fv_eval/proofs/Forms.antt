@@ -2,8 +2,8 @@
 use Rattle.std.proofs.Common.{◌≡◌, ◌≤◌, ℕ, zero, suc, None, List, [], ◌∷◌, refl, sym, subst, arith}
 use Rattle.std.specs.Prelude.{slice_get}
 use Rattle.std.proofs.lemmas.Option.{none-some}
-use Rattle.fv_parse_grammar.specs.Tree.{Tree, End}
-use Rattle.fv_parse_grammar.specs.Tree as tree
+use Rattle.fv_parse_grammar.specs.headline.Tree.{Tree, End}
+use Rattle.fv_parse_grammar.specs.headline.Tree as tree
 use Rattle.fv_parse_grammar.specs.declared.form.Operator.{Operator}
 use Rattle.fv_parse_grammar.specs.declared.form.Iteration.{Iteration as Repetition}
 use Rattle.fv_parse_grammar.specs.declared.form.Slider.{Slider as SliderKind}

@@ -1,15 +1,16 @@
 -- Lists that have grown show the pending work that they showed.
 use Rattle.std.proofs.Common.{◌≡◌, ℕ, ◌<◌, List, [], ◌∷◌, length, drop, refl, sym, ap, subst, ◌∙◌}
 use Rattle.std.proofs.lemmas.List.Elements.{All-head, All-tail, All-cons, All-nil}
-use Rattle.fv_parse_grammar.specs.Tree.{Tree}
-use Rattle.fv_parse_grammar.specs.Tree as tree
+use Rattle.fv_parse_grammar.specs.headline.Tree.{Tree}
+use Rattle.fv_parse_grammar.specs.headline.Tree as tree
 use Rattle.fv_parse_grammar.specs.declared.form.Slider.{Slider as SliderKind}
 use Rattle.fv_parse_grammar.specs.declared.form.Iteration.{Iteration as Repetition}
-use Rattle.fv_parse.specs.Trees.{Parsed, text_of, label_of}
-use Rattle.fv_diagram.specs.Diagram.{Diagram}
+use Rattle.fv_parse.specs.headline.Trees.{text_of, label_of}
+use Rattle.fv_parse.specs.Trees.{Parsed}
+use Rattle.fv_diagram.specs.headline.Diagram.{Diagram}
 use Rattle.fv_diagram.specs.Arena.{count_of, tree_of}
 use Rattle.fv_eval_scopes.specs.declared.value.Value as code_value
-use Rattle.fv_rules.specs.Values.{Name, Value, Env}
+use Rattle.fv_rules.specs.headline.Values.{Name, Value, Env}
 use Rattle.fv_eval_scopes.specs.Shows.{World, Draws, Grows}
 use Rattle.fv_eval_scopes.proofs.Grown.{tree_grows, value_grows, env_grows, values_grow}
 use Rattle.fv_eval_machine.specs.Machine.{ForValue, Function, Argument, Leftover, Parameter, ForDiagram, Left, Right, Later, Negated, Ports, Binding, Turning}

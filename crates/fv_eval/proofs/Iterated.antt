@@ -3,20 +3,21 @@ use Rattle.std.proofs.Common.{◌≡◌, ℕ, zero, suc, ◌+◌, ◌<◌, false
 use Rattle.std.specs.declared.alloc.Global.{Global}
 use lib.Signed.{lt_z}
 use Rattle.std.proofs.lemmas.List.Elements.{All-nil}
-use Rattle.fv_parse_grammar.specs.Tree.{Tree, start_of}
-use Rattle.fv_parse_grammar.specs.Tree as tree
+use Rattle.fv_parse_grammar.specs.headline.Tree.{Tree, start_of}
+use Rattle.fv_parse_grammar.specs.headline.Tree as tree
 use Rattle.fv_parse_grammar.specs.declared.form.Iteration.{Iteration as Repetition}
-use Rattle.fv_parse.specs.Trees.{Parsed, first_named, size_of, text_of, tree_in}
-use Rattle.fv_diagram.specs.Diagram.{Diagram, Constant}
+use Rattle.fv_parse.specs.headline.Trees.{text_of}
+use Rattle.fv_parse.specs.Trees.{Parsed, first_named, size_of, tree_in}
+use Rattle.fv_diagram.specs.headline.Diagram.{Diagram, Constant}
 use Rattle.fv_diagram.specs.Arena.{count_of, tree_of}
 use Rattle.fv_eval_drawing.specs.Makes.{AddsDiagrams, Canvas, Draws as IsDrawn, Extends, MakesValue, trees_of}
 use Rattle.fv_rules.specs.declared.refusal.EvalRefusal.{EvalRefusal}
 use Rattle.fv_eval_scopes.specs.declared.value.Value.TheVariants as value
 use Rattle.fv_eval_scopes.specs.declared.value.Scope.TheVariants as scope
 use Rattle.fv_eval_scopes.specs.Environments.{Environments, with_scope}
-use Rattle.fv_rules.specs.Values.{Flat, Env, Bound}
-use Rattle.fv_diagram_number.specs.Numbers.{number_of}
-use Rattle.fv_rules.specs.Rules.{counted, gathered}
+use Rattle.fv_rules.specs.headline.Values.{Flat, Env, Bound}
+use Rattle.fv_diagram_number.specs.headline.Numbers.{number_of}
+use Rattle.fv_rules.specs.headline.Rules.{counted, gathered}
 use Rattle.fv_eval_scopes.specs.Shows.{Draws, IsNamed, ShowsEnv, ShowsTree}
 use Rattle.fv_eval_scopes.proofs.Grown.{env_grows}
 use Rattle.fv_eval_machine.specs.Machine.{Body, Continuation, Drawn, Visit, Running, first_body, next_body}

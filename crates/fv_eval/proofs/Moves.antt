@@ -1,9 +1,9 @@
 -- Where the machine goes.
 use Rattle.std.proofs.Common.{inl, inr, ◌≡◌, ℕ, List, Result, Ok, Err, refl, sym, ap, subst, ◌∙◌}
-use Rattle.fv_parse_grammar.specs.Tree.{Tree}
+use Rattle.fv_parse_grammar.specs.headline.Tree.{Tree}
 use Rattle.fv_parse.specs.Trees.{Parsed, tree_in, node_tree}
 use Rattle.fv_parse_tree.specs.declared.node.TreeNode.{TreeNode}
-use Rattle.fv_diagram.specs.Diagram.{Diagram}
+use Rattle.fv_diagram.specs.headline.Diagram.{Diagram}
 use Rattle.fv_diagram.specs.Arena.{tree_of}
 use Rattle.fv_eval_drawing.specs.Makes.{AddsDiagrams, Canvas, Extends, Draws as IsDrawn, MakesValue}
 use Rattle.fv_rules.specs.declared.refusal.EvalRefusal.{EvalRefusal}
@@ -11,8 +11,8 @@ use Rattle.fv_eval_scopes.specs.declared.value.Value as code_value
 use Rattle.fv_eval_scopes.specs.declared.value.Value.TheVariants as value
 use Rattle.fv_eval_scopes.specs.declared.value.Scope as code_scope
 use Rattle.fv_eval_scopes.specs.Environments.{Environments, with_scope}
-use Rattle.fv_rules.specs.Values.{Value, Flat, Env}
-use Rattle.fv_rules.specs.Steps.{State, Outcome, Eval}
+use Rattle.fv_rules.specs.headline.Values.{Value, Flat, Env}
+use Rattle.fv_rules.specs.headline.Steps.{State, Outcome, Eval}
 use Rattle.fv_eval_scopes.specs.Shows.{Grows, ShowsTree, ShowsValue, ShowsEnv}
 use Rattle.fv_eval_scopes.proofs.Grown.{diagrams_come, scope_opens, grows_on}
 use Rattle.fv_eval_choosing.specs.declared.fits.Fit.{Fit}

@@ -3,10 +3,10 @@ use Rattle.std.proofs.Common.{◌≡◌, ℕ, zero, suc, ◌<◌, List, [], ◌�
 use Rattle.std.specs.Prelude.{slice_get, option_map}
 use Rattle.std.proofs.lemmas.Option.{none-some}
 use Rattle.std.proofs.Math.Seq.{drop-cons}
-use Rattle.fv_lex.specs.Token.{Lexed}
-use Rattle.fv_parse_grammar.specs.Tree.{Tree}
-use Rattle.fv_parse_grammar.specs.Tree as tree
-use Rattle.fv_rules.specs.Values.{Name, with_name, names_of}
+use Rattle.fv_lex.specs.headline.Token.{Lexed}
+use Rattle.fv_parse_grammar.specs.headline.Tree.{Tree}
+use Rattle.fv_parse_grammar.specs.headline.Tree as tree
+use Rattle.fv_rules.specs.headline.Values.{Name, with_name, names_of}
 use Rattle.fv_eval_scopes.specs.Shows.{given_names}
 use Rattle.fv_eval.specs.inner.Continuations.{ShowsName, name_of}
 use Rattle.fv_eval.proofs.Places.{get_at_drop}

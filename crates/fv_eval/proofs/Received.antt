@@ -3,25 +3,26 @@ use Rattle.std.proofs.Common.{◌≡◌, ℕ, suc, ◌+◌, List, [], ◌∷◌,
 use Rattle.std.specs.Prelude.{slice_get}
 use Rattle.std.specs.declared.alloc.Global.{Global}
 use Rattle.std.proofs.lemmas.List.{length_push}
-use Rattle.fv_parse_grammar.specs.Tree.{Tree, start_of}
-use Rattle.fv_parse_grammar.specs.Tree as tree
+use Rattle.fv_parse_grammar.specs.headline.Tree.{Tree, start_of}
+use Rattle.fv_parse_grammar.specs.headline.Tree as tree
 use Rattle.fv_parse_grammar.specs.declared.form.Operator.{Operator}
 use Rattle.fv_parse_grammar.specs.declared.form.Iteration.{Iteration as Repetition}
 use Rattle.fv_parse_grammar.specs.declared.form.Side.{Side}
 use Rattle.fv_num.specs.declared.op.Op.TheVariants as op
-use Rattle.fv_parse.specs.Trees.{Parsed, text_of}
+use Rattle.fv_parse.specs.headline.Trees.{text_of}
+use Rattle.fv_parse.specs.Trees.{Parsed}
 use Rattle.fv_diagram.specs.declared.node.Primitive.TheVariants as prim
-use Rattle.fv_diagram.specs.Diagram.{Diagram, Primitive, Constant, Seq}
+use Rattle.fv_diagram.specs.headline.Diagram.{Diagram, Primitive, Constant, Seq}
 use Rattle.fv_diagram.specs.Arena.{tree_of}
 use Rattle.fv_eval_drawing.specs.Makes.{Canvas, Extends, Makes, MakesValue, trees_of}
 use Rattle.fv_eval_drawing.proofs.Gathered.{as_value}
 use Rattle.fv_rules.specs.declared.refusal.EvalRefusal.{EvalRefusal}
 use Rattle.fv_eval_scopes.specs.declared.value.Value as code_value
 use Rattle.fv_eval_scopes.specs.declared.value.Value.TheVariants as value
-use Rattle.fv_rules.specs.Values.{Name, Value, Flat, Env}
-use Rattle.fv_diagram_number.specs.Numbers.{number_of}
-use Rattle.fv_rules.specs.Steps.{Eval, put}
-use Rattle.fv_rules.specs.Rules.{bind_all, counted, fed, flat, joined, operated, ports}
+use Rattle.fv_rules.specs.headline.Values.{Name, Value, Flat, Env}
+use Rattle.fv_diagram_number.specs.headline.Numbers.{number_of}
+use Rattle.fv_rules.specs.headline.Steps.{Eval, put}
+use Rattle.fv_rules.specs.headline.Rules.{bind_all, counted, fed, flat, joined, operated, ports}
 use Rattle.fv_eval_scopes.specs.Shows.{World, Draws, ShowsTree, ShowsValues, ShowsEnv}
 use Rattle.fv_eval_machine.specs.Machine.{ForDiagram, Left, Right, Later, Negated, Ports, Binding, Turning, Counting, Body, Finish, Drawn, Visit, Give, Running}
 use Rattle.fv_eval_machine.specs.Machine.{diagram_arrives, first_body, given, next_body, next_turned}

@@ -1,10 +1,11 @@
 -- A run of the machine, and what a program stands for.
 use Rattle.std.proofs.Common.{inl, inr, ◌≡◌, ◌⊎◌, ℕ, ◌+◌, ◌<◌, List, [], ◌∷◌, ◌++◌, length, Result, Some, Ok, Err, refl, sym, ap, subst, ◌∙◌, arith}
 use Rattle.std.specs.Prelude.{codes}
-use Rattle.fv_lex.specs.Token.{Lexed}
-use Rattle.fv_parse_grammar.specs.Tree.{Tree}
-use Rattle.fv_parse.specs.Trees.{Parsed, program_of, size_of, text_of, first_named}
-use Rattle.fv_diagram.specs.Diagram.{Diagram}
+use Rattle.fv_lex.specs.headline.Token.{Lexed}
+use Rattle.fv_parse_grammar.specs.headline.Tree.{Tree}
+use Rattle.fv_parse.specs.headline.Trees.{text_of}
+use Rattle.fv_parse.specs.Trees.{Parsed, program_of, size_of, first_named}
+use Rattle.fv_diagram.specs.headline.Diagram.{Diagram, has_table_primitive}
 use Rattle.fv_diagram.specs.Arena.{Arena, count_of, empty_arena, tree_of}
 use Rattle.std.specs.Prelude.{slice_get}
 use Rattle.std.proofs.lemmas.Option.{none-some}
@@ -16,15 +17,13 @@ use Rattle.fv_eval_scopes.specs.declared.value.Value as code_value
 use Rattle.fv_eval_scopes.specs.declared.value.Value.TheVariants as value
 use Rattle.fv_eval_scopes.specs.declared.value.Scope.TheVariants as scope
 use Rattle.fv_eval_scopes.specs.Environments.{Environments, scope_in, with_scope}
-use Rattle.fv_rules.specs.Values.{Value, Flat, Outermost, Scope}
+use Rattle.fv_rules.specs.headline.Values.{Value, Flat, Outermost, Scope}
 use Rattle.std.proofs.Common.{ap₂, Bool, true, false}
 use Rattle.std.specs.Prelude.{if◌then◌else◌}
-use Rattle.fv_diagram.specs.Diagram.{has_table_primitive}
 use Rattle.fv_rules.specs.declared.refusal.EvalRefusal.TheVariants.{TableForm}
 use Rattle.fv_rules.specs.declared.refusal.TableCause.TheVariants as cause
-use Rattle.fv_rules.specs.Steps.{State, Outcome, Eval, after, ◌>>=◌, give, refuse}
-use Rattle.fv_rules.specs.Steps.{whole as no_primitive}
-use Rattle.fv_rules.specs.Rules.{ev, flat, finished, name_value, program_value, start, turned}
+use Rattle.fv_rules.specs.headline.Steps.{State, Outcome, Eval, after, ◌>>=◌, give, refuse, whole as no_primitive}
+use Rattle.fv_rules.specs.headline.Rules.{ev, flat, finished, name_value, program_value, start, turned}
 use Rattle.fv_eval_scopes.specs.Shows.{ShowsValue, ShowsEnv}
 use Rattle.fv_eval_machine.specs.Machine.{Config, Drawn, Finish, Ended, StartsMean, StepsMean, first, meaning, step}
 use Rattle.fv_eval.specs.declared.continuation.Continuation as code_continuation

@@ -2,19 +2,20 @@
 use Rattle.std.proofs.Common.{inr, ◌≡◌, ℕ, suc, List, [], ◌∷◌, ◌++◌, length, drop, Option, Some, None, Result, Err, refl, sym, ap, subst, ◌∙◌, arith}
 use Rattle.std.specs.Prelude.{ℤ, slice_get}
 use Rattle.std.proofs.lemmas.List.{length_push}
-use Rattle.fv_parse_grammar.specs.Tree.{Tree, start_of}
-use Rattle.fv_parse_grammar.specs.Tree as tree
+use Rattle.fv_parse_grammar.specs.headline.Tree.{Tree, start_of}
+use Rattle.fv_parse_grammar.specs.headline.Tree as tree
 use Rattle.fv_parse_grammar.specs.declared.form.Slider.{Slider as SliderKind}
-use Rattle.fv_parse.specs.Trees.{Parsed, label_of, tree_in}
+use Rattle.fv_parse.specs.headline.Trees.{label_of}
+use Rattle.fv_parse.specs.Trees.{Parsed, tree_in}
 use Rattle.fv_diagram.specs.Arena.{tree_of}
 use Rattle.fv_rules.specs.declared.refusal.EvalRefusal.{EvalRefusal}
 use Rattle.fv_eval_scopes.specs.declared.value.Value.TheVariants as value
 use Rattle.fv_eval_scopes.specs.declared.value.Ruled.{Ruled}
-use Rattle.fv_rules.specs.Values.{Value, Flat, Abstraction, Rules, Env}
-use Rattle.fv_diagram_number.specs.Numbers.{number_of}
-use Rattle.fv_rules.specs.Matching.{value_number}
-use Rattle.fv_rules.specs.Steps.{control, no_number}
-use Rattle.fv_rules.specs.Rules.{flat, read_number, slider_info, slider_kind}
+use Rattle.fv_rules.specs.headline.Values.{Value, Flat, Abstraction, Rules, Env}
+use Rattle.fv_diagram_number.specs.headline.Numbers.{number_of}
+use Rattle.fv_rules.specs.headline.Matching.{value_number}
+use Rattle.fv_rules.specs.headline.Steps.{control, no_number}
+use Rattle.fv_rules.specs.headline.Rules.{flat, read_number, slider_info, slider_kind}
 use Rattle.fv_eval_scopes.specs.Shows.{World, ShowsValue}
 use Rattle.fv_eval_machine.specs.Machine.{Ended, given, next_parameter, parameter_read}
 use Rattle.fv_eval.specs.declared.continuation.Focus as code_focus

@@ -4,16 +4,16 @@ use Rattle.std.proofs.Common.{arith, length-drop}
 use Rattle.std.specs.Prelude.{slice_get}
 use Rattle.std.proofs.Math.Seq.{drop-cons}
 use Rattle.fv_parse.specs.Trees.{Parsed, size_of, tree_in}
-use Rattle.fv_diagram.specs.Diagram.{Slot}
+use Rattle.fv_diagram.specs.headline.Diagram.{Slot}
 use Rattle.fv_eval_drawing.specs.Makes.{AddsDiagrams, Canvas, Draws as IsDrawn}
 use Rattle.fv_rules.specs.declared.refusal.EvalRefusal.{EvalRefusal}
 use Rattle.fv_eval_scopes.specs.declared.value.Value.TheVariants as value
 use Rattle.fv_eval_scopes.specs.declared.value.Ruled.{Ruled}
 use Rattle.fv_eval_scopes.specs.declared.value.Scope.TheVariants as scope
 use Rattle.fv_eval_scopes.specs.Environments.{Environments, with_scope}
-use Rattle.fv_rules.specs.Values.{Name, Flat, Abstraction, Rules, Env, Bound}
-use Rattle.fv_rules.specs.Steps.{State, no_diagram}
-use Rattle.fv_rules.specs.Rules.{on_slots}
+use Rattle.fv_rules.specs.headline.Values.{Name, Flat, Abstraction, Rules, Env, Bound}
+use Rattle.fv_rules.specs.headline.Steps.{State, no_diagram}
+use Rattle.fv_rules.specs.headline.Rules.{on_slots}
 use Rattle.fv_eval_scopes.specs.Shows.{ShowsEnv, begins_in, body_in, parameters_in}
 use Rattle.fv_eval_scopes.proofs.Grown.{env_grows, grows_on}
 use Rattle.fv_eval_machine.specs.Machine.{Binding, Continuation, Drawn, Visit, Running, Ended}

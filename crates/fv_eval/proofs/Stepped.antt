@@ -1,12 +1,12 @@
 -- One step of the machine.
 use Rattle.std.proofs.Common.{◌≡◌, ℕ, zero, suc, ◌<◌, ◌-◌, Result, Ok, Err, sym, ap, subst, ◌∙◌, arith}
-use Rattle.fv_parse_grammar.specs.Tree.{Tree}
+use Rattle.fv_parse_grammar.specs.headline.Tree.{Tree}
 use Rattle.fv_parse.specs.Trees.{Parsed, size_of, tree_in}
 use Rattle.fv_rules.specs.declared.refusal.EvalRefusal.{EvalRefusal}
 use Rattle.fv_rules.specs.declared.refusal.EvalRefusal.TheVariants.{EvalBudget}
 use Rattle.fv_eval_scopes.specs.declared.value.Value as code_value
-use Rattle.fv_rules.specs.Values.{Name, Env, lookup}
-use Rattle.fv_rules.specs.Steps.{State, Outcome, spent}
+use Rattle.fv_rules.specs.headline.Values.{Name, Env, lookup}
+use Rattle.fv_rules.specs.headline.Steps.{State, Outcome, spent}
 use Rattle.fv_eval_scopes.specs.Shows.{ShowsEnv, IsNamed}
 use Rattle.fv_eval_machine.specs.Machine.{Config, begin, begin_name, calling, step, visiting}
 use Rattle.fv_eval.specs.declared.continuation.Focus as code_focus

@@ -11,8 +11,8 @@ use Rattle.fv_eval_scopes.specs.declared.value.Ruled.{Ruled}
 use Rattle.fv_eval_scopes.specs.declared.value.Scope.TheVariants as scope
 use Rattle.fv_eval_scopes.specs.declared.value.Argument as code_argument
 use Rattle.fv_eval_scopes.specs.Environments.{Environments, with_argument, with_scope}
-use Rattle.fv_rules.specs.Values.{Name, Value, Flat, Abstraction, Rules, Env, Bound, Taken, Nothing, And, count_taken}
-use Rattle.fv_rules.specs.Rules.{width}
+use Rattle.fv_rules.specs.headline.Values.{Name, Value, Flat, Abstraction, Rules, Env, Bound, Taken, Nothing, And, count_taken}
+use Rattle.fv_rules.specs.headline.Rules.{width}
 use Rattle.fv_eval_scopes.specs.Shows.{World, IsNamed, ShowsEnv, ShowsTaken, ShowsValue, parameters_in, rules_in}
 use Rattle.fv_eval_scopes.proofs.Grown.{argument_comes, bound_shows, env_grows, taken_shows}
 use Rattle.fv_eval.specs.declared.machine.Machine as code_machine

@@ -4,13 +4,13 @@ use Rattle.std.specs.Prelude.{slice_get}
 use Rattle.std.proofs.lemmas.List.Elements.{All-cons, All-nil, All-append}
 use Rattle.std.specs.declared.alloc.Global.{Global}
 use Rattle.std.proofs.lemmas.List.{map-append}
-use Rattle.fv_diagram.specs.Diagram.{Diagram}
+use Rattle.fv_diagram.specs.headline.Diagram.{Diagram}
 use Rattle.fv_diagram.specs.Arena.{count_of, tree_of}
 use Rattle.fv_eval_scopes.specs.declared.value.Value as code_value
 use Rattle.fv_eval_scopes.specs.declared.value.Value.TheVariants as value
-use Rattle.fv_rules.specs.Values.{Value, Flat, Abstraction, Rules}
+use Rattle.fv_rules.specs.headline.Values.{Value, Flat, Abstraction, Rules}
 use Rattle.fv_eval_scopes.specs.Shows.{World, Draws, Grows, ShowsValue, ShowsValues}
-use Rattle.fv_rules.specs.Matching.{settled}
+use Rattle.fv_rules.specs.headline.Matching.{settled}
 use Rattle.fv_eval_scopes.proofs.Grown.{value_grows, values_grow}
 use Rattle.fv_eval_machine.specs.Machine.{ForValue, Argument, ForDiagram, Left, Right, Binding, Turning, Counting, Body}
 use Rattle.fv_eval_drawing.specs.Makes.{IsThere as IsDrawn}

@@ -1,11 +1,11 @@
 -- What is waited for, where a tree is visited.
 use Rattle.std.proofs.Common.{◌≡◌, ℕ, suc, ◌+◌, List, ◌∷◌, drop, Vec, Result, sym, ap, subst, ◌∙◌, arith}
 use Rattle.std.specs.declared.alloc.Global.{Global}
-use Rattle.fv_parse_grammar.specs.Tree.{Tree}
+use Rattle.fv_parse_grammar.specs.headline.Tree.{Tree}
 use Rattle.fv_parse.specs.Trees.{Parsed}
 use Rattle.fv_rules.specs.declared.refusal.EvalRefusal.{EvalRefusal}
 use Rattle.fv_eval_scopes.specs.declared.value.Value as code_value
-use Rattle.fv_rules.specs.Values.{Env}
+use Rattle.fv_rules.specs.headline.Values.{Env}
 use Rattle.fv_eval_scopes.specs.Shows.{ShowsEnv, ShowsTree, ShowsValues}
 use Rattle.fv_eval_machine.specs.Machine.{Leftover, Continuation, Valued, Visit, Running}
 use Rattle.fv_eval.specs.declared.continuation.Continuation as code_continuation

@@ -1,11 +1,11 @@
 -- How the labels of controls are kept, and what entering a control answers.
 use Rattle.std.specs.Prelude.{◌≡◌, ◌⊎◌, ℕ, List, map, Result, Ok, Err, Vec}
 use Rattle.std.specs.declared.alloc.Global.{Global}
-use Rattle.fv_diagram.specs.Diagram.{Control}
+use Rattle.fv_diagram.specs.headline.Diagram.{Control}
 use Rattle.fv_diagram.specs.declared.control.ControlInfo.{ControlInfo}
 use Rattle.fv_rules.specs.declared.refusal.EvalRefusal.{EvalRefusal}
 use Rattle.fv_rules.specs.declared.refusal.EvalRefusal.TheVariants.{NoMemory}
-use Rattle.fv_rules.specs.Steps.{State, control}
+use Rattle.fv_rules.specs.headline.Steps.{State, control}
 
 -- the keys are the labels of the controls, in their order
 abbrev pub AreLabels : List (Vec ℕ Global) → List ControlInfo → Type 0

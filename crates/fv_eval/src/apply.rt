@@ -1,10 +1,10 @@
 // Application.
 
 ghost use Rattle.std.specs.Prelude.{ℕ, ◌≡◌, ◌<◌, ◌∷◌, List, None, IfOk, drop, length};
-ghost use Rattle.fv_parse_grammar.specs.Tree.{Tree as Spelled, Apply, items, start_of};
+ghost use Rattle.fv_parse_grammar.specs.headline.Tree.{Tree as Spelled, Apply, items, start_of};
 ghost use Rattle.fv_parse.specs.Trees.{Parsed, size_of, tree_in};
-ghost use Rattle.fv_rules.specs.Values.{Env, Taken, Value as Meant};
-ghost use Rattle.fv_rules.specs.Steps.{no_rule};
+ghost use Rattle.fv_rules.specs.headline.Values.{Env, Taken, Value as Meant};
+ghost use Rattle.fv_rules.specs.headline.Steps.{no_rule};
 ghost use Rattle.fv_eval_scopes.specs.Shows.{IsInside, ShowsEnv, ShowsTaken, ShowsTree, ShowsValue, ShowsValues};
 ghost use Rattle.fv_eval_machine.specs.Machine.{Leftover as Left, Running, Valued, Visit, apply, next_argument};
 ghost use Rattle.fv_eval.specs.inner.Continuations.{AreShown, Chooses, Completes, Grew, IsApplication, IsShown, Knows, Selects, ShowsTaking, Steps};

@@ -2,13 +2,13 @@
 
 ghost use Rattle.std.specs.Prelude.{ℕ, ◌≡◌, ◌<◌, ◌∷◌, IfOk};
 ghost use Rattle.fv_parse.specs.Trees.{Parsed, size_of, tree_in};
-ghost use Rattle.fv_parse_grammar.specs.Tree.{Tree, Binary};
+ghost use Rattle.fv_parse_grammar.specs.headline.Tree.{Tree, Binary};
 ghost use Rattle.fv_parse_grammar.specs.declared.form.Operator.{Operator as Op};
-ghost use Rattle.fv_diagram.specs.Diagram.{Diagram};
+ghost use Rattle.fv_diagram.specs.headline.Diagram.{Diagram};
 ghost use Rattle.fv_diagram.specs.Arena.{count_of};
-ghost use Rattle.fv_rules.specs.Values.{Env, Flat, Value as Meant};
-ghost use Rattle.fv_rules.specs.Matching.{settled};
-ghost use Rattle.fv_rules.specs.Rules.{ports};
+ghost use Rattle.fv_rules.specs.headline.Values.{Env, Flat, Value as Meant};
+ghost use Rattle.fv_rules.specs.headline.Matching.{settled};
+ghost use Rattle.fv_rules.specs.headline.Rules.{ports};
 ghost use Rattle.fv_eval_scopes.specs.Shows.{Draws, ShowsEnv, ShowsTree, ShowsValue};
 ghost use Rattle.fv_eval_machine.specs.Machine.{Drawn, ForDiagram as Drawing, ForValue as Valuing, Give, Right, Running, Visit, arrives, diagram_arrives};
 ghost use Rattle.fv_eval_machine.specs.Machine.{value_arrives};

@@ -1,13 +1,13 @@
 // The visit of a tree.
 
 ghost use Rattle.std.specs.Prelude.{ℕ, ◌≡◌, ◌<◌, ◌≤◌, List, [], ◌∷◌, length, map};
-ghost use Rattle.fv_parse_grammar.specs.Tree.{Tree};
+ghost use Rattle.fv_parse_grammar.specs.headline.Tree.{Tree};
 ghost use Rattle.fv_parse_grammar.specs.declared.form.Slider.{Slider as SliderKind};
 ghost use Rattle.fv_parse.specs.Trees.{Parsed, size_of, tree_in};
-ghost use Rattle.fv_diagram.specs.Diagram.{Constant, Primitive as Leaf};
-ghost use Rattle.fv_rules.specs.Values.{Env, Flat, Name};
-ghost use Rattle.fv_rules.specs.Rules.{flat, literal_value, slider_kind};
-ghost use Rattle.fv_rules.specs.Steps.{waved};
+ghost use Rattle.fv_diagram.specs.headline.Diagram.{Constant, Primitive as Leaf};
+ghost use Rattle.fv_rules.specs.headline.Values.{Env, Flat, Name};
+ghost use Rattle.fv_rules.specs.headline.Rules.{flat, literal_value, slider_kind};
+ghost use Rattle.fv_rules.specs.headline.Steps.{waved};
 ghost use Rattle.fv_eval_scopes.specs.Shows.{IsNamed, ShowsEnv, ShowsTree};
 ghost use Rattle.fv_eval_machine.specs.Machine.{Call, Continuation as Waiting, Give, Running, Visit, given, next_parameter};
 ghost use Rattle.fv_eval.specs.inner.Continuations.{Begins, IsSlider, ShowsContinuation, ShowsSlider, Steps, world};

@@ -2,7 +2,7 @@
 
 ghost use Rattle.std.specs.Prelude.{ℕ, ◌≡◌, [], MatchResult};
 ghost use Rattle.fv_rules.specs.declared.refusal.EvalRefusal.TheVariants.{NoMemory};
-ghost use Rattle.fv_rules.specs.Steps.{is_alike, is_kind};
+ghost use Rattle.fv_rules.specs.headline.Steps.{is_alike, is_kind};
 ghost use Rattle.fv_eval.specs.Controls.{Enters};
 
 use fv_diagram::{ControlInfo, ControlKind};

@@ -1,15 +1,16 @@
 // Iteration.
 
 ghost use Rattle.std.specs.Prelude.{ℕ, ◌≡◌, ◌<◌, List, length};
-ghost use Rattle.fv_parse_grammar.specs.Tree.{Tree as Spelled, Iteration, start_of};
+ghost use Rattle.fv_parse_grammar.specs.headline.Tree.{Tree as Spelled, Iteration, start_of};
 ghost use Rattle.fv_parse_grammar.specs.declared.form.Iteration.{Iteration as Repetition};
-ghost use Rattle.fv_parse.specs.Trees.{size_of, text_of, tree_in};
-ghost use Rattle.fv_diagram.specs.Diagram.{Diagram};
+ghost use Rattle.fv_parse.specs.headline.Trees.{text_of};
+ghost use Rattle.fv_parse.specs.Trees.{size_of, tree_in};
+ghost use Rattle.fv_diagram.specs.headline.Diagram.{Diagram};
 ghost use Rattle.fv_diagram.specs.Arena.{count_of};
-ghost use Rattle.fv_rules.specs.Values.{Env, Name};
-ghost use Rattle.fv_diagram_number.specs.Numbers.{number_of};
-ghost use Rattle.fv_rules.specs.Steps.{no_number};
-ghost use Rattle.fv_rules.specs.Rules.{counted};
+ghost use Rattle.fv_rules.specs.headline.Values.{Env, Name};
+ghost use Rattle.fv_diagram_number.specs.headline.Numbers.{number_of};
+ghost use Rattle.fv_rules.specs.headline.Steps.{no_number};
+ghost use Rattle.fv_rules.specs.headline.Rules.{counted};
 ghost use Rattle.fv_eval_scopes.specs.Shows.{Draws, ShowsEnv, ShowsTree};
 ghost use Rattle.fv_eval_machine.specs.Machine.{first_body, next_body};
 ghost use Rattle.fv_eval_drawing.specs.Makes.{AreThere};

@@ -1,11 +1,11 @@
 // The machine: its lists, and one step.
 
 ghost use Rattle.std.specs.Prelude.{ℕ, ◌≡◌, ◌<◌, ◌-◌, [], ◌∷◌, MatchBool};
-ghost use Rattle.fv_parse_grammar.specs.Tree.{Tree};
+ghost use Rattle.fv_parse_grammar.specs.headline.Tree.{Tree};
 ghost use Rattle.fv_parse.specs.Trees.{Parsed};
 ghost use Rattle.fv_diagram.specs.Arena.{empty_arena};
-ghost use Rattle.fv_rules.specs.Values.{Env, Name, Scope, Value as Meant};
-ghost use Rattle.fv_rules.specs.Steps.{Outcome};
+ghost use Rattle.fv_rules.specs.headline.Values.{Env, Name, Scope, Value as Meant};
+ghost use Rattle.fv_rules.specs.headline.Steps.{Outcome};
 ghost use Rattle.fv_eval_scopes.specs.Shows.{IsNamed, ShowsEnv, ShowsTree};
 ghost use Rattle.fv_eval_machine.specs.Machine.{Call, Config, Continuation as Waiting, Running, Visit, step};
 ghost use Rattle.fv_eval.specs.inner.Continuations.{Continues, Ends, Goes, Runs, ShowsContinuation, Steps, state_of, world};

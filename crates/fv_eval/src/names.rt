@@ -1,8 +1,9 @@
 // Names, and the parameters of abstractions and definitions.
 
 ghost use Rattle.std.specs.Prelude.{ℕ, ◌≡◌, ◌<◌, length, slice_get, Some};
-ghost use Rattle.fv_parse.specs.Trees.{first_named, size_of, text_of, tree_in};
-ghost use Rattle.fv_rules.specs.Values.{Env, Name, lookup};
+ghost use Rattle.fv_parse.specs.headline.Trees.{text_of};
+ghost use Rattle.fv_parse.specs.Trees.{first_named, size_of, tree_in};
+ghost use Rattle.fv_rules.specs.headline.Values.{Env, Name, lookup};
 ghost use Rattle.fv_eval_scopes.specs.Shows.{IsNamed, ShowsEnv, body_in, parameters_in};
 ghost use Rattle.fv_eval_machine.specs.Machine.{begin_name};
 ghost use Rattle.fv_eval.specs.inner.Continuations.{ShowsName, Steps, name_of, world};

@@ -1,13 +1,14 @@
 // Buttons, checkboxes and sliders.
 
 ghost use Rattle.std.specs.Prelude.{ℕ, ◌≡◌, ◌<◌, ◌≤◌, ◌∷◌, List, IfOk, IfSome, length, option_map, slice_get};
-ghost use Rattle.fv_parse_grammar.specs.Tree.{Tree as Spelled, Slider as SliderTree, start_of};
+ghost use Rattle.fv_parse_grammar.specs.headline.Tree.{Tree as Spelled, Slider as SliderTree, start_of};
 ghost use Rattle.fv_parse_grammar.specs.declared.form.Slider.{Slider as SliderKind};
-ghost use Rattle.fv_parse.specs.Trees.{Parsed, label_of, size_of, tree_in};
-ghost use Rattle.fv_rules.specs.Values.{Env, Value as Meant};
-ghost use Rattle.fv_rules.specs.Matching.{value_number};
-ghost use Rattle.fv_rules.specs.Steps.{control};
-ghost use Rattle.fv_rules.specs.Rules.{flat, read_number, slider_info, slider_kind, switch_info, switch_kind};
+ghost use Rattle.fv_parse.specs.headline.Trees.{label_of};
+ghost use Rattle.fv_parse.specs.Trees.{Parsed, size_of, tree_in};
+ghost use Rattle.fv_rules.specs.headline.Values.{Env, Value as Meant};
+ghost use Rattle.fv_rules.specs.headline.Matching.{value_number};
+ghost use Rattle.fv_rules.specs.headline.Steps.{control};
+ghost use Rattle.fv_rules.specs.headline.Rules.{flat, read_number, slider_info, slider_kind, switch_info, switch_kind};
 ghost use Rattle.fv_eval_scopes.specs.Shows.{ShowsValue};
 ghost use Rattle.fv_eval_drawing.specs.Makes.{IsThere as IsDrawn};
 ghost use Rattle.fv_eval_machine.specs.Machine.{given, next_parameter, parameter_read};

@@ -1,13 +1,13 @@
 // Values that are turned into diagrams.
 
 ghost use Rattle.std.specs.Prelude.{ℕ, ◌≡◌, ◌<◌, ◌-◌, ◌+◌, List, IfOk, drop, length};
-ghost use Rattle.fv_parse_grammar.specs.Tree.{start_of};
+ghost use Rattle.fv_parse_grammar.specs.headline.Tree.{start_of};
 ghost use Rattle.fv_parse.specs.Trees.{Parsed, size_of, tree_in};
-ghost use Rattle.fv_diagram.specs.Diagram.{Diagram};
+ghost use Rattle.fv_diagram.specs.headline.Diagram.{Diagram};
 ghost use Rattle.fv_diagram.specs.Arena.{count_of};
-ghost use Rattle.fv_rules.specs.Values.{Env, Value as Meant};
-ghost use Rattle.fv_rules.specs.Steps.{no_diagram};
-ghost use Rattle.fv_rules.specs.Rules.{on_slots};
+ghost use Rattle.fv_rules.specs.headline.Values.{Env, Value as Meant};
+ghost use Rattle.fv_rules.specs.headline.Steps.{no_diagram};
+ghost use Rattle.fv_rules.specs.headline.Rules.{on_slots};
 ghost use Rattle.fv_eval_scopes.specs.Shows.{Draws, IsInside, ShowsEnv, ShowsValue, ShowsValues, begins_in, parameters_in};
 ghost use Rattle.fv_eval_machine.specs.Machine.{ForDiagram as Drawing, next_turned, to_diagram};
 ghost use Rattle.fv_eval_drawing.specs.Makes.{AreThere};

@@ -1,15 +1,17 @@
 // The evaluation of a whole program.
 
 ghost use Rattle.std.specs.Prelude.{ℕ, ◌≡◌, ◌⊎◌, ◌<◌, [], true, false, codes, filter, IfErr, IfNone, IfOk, IfSome, Ok, Err};
-ghost use Rattle.fv_parse_grammar.specs.Tree.{items};
-ghost use Rattle.fv_parse.specs.Trees.{first_named, program_of, size_of, text_of, tree_in};
-ghost use Rattle.fv_diagram.specs.Diagram.{HasNumbers, has_table_primitive};
+ghost use Rattle.fv_parse_grammar.specs.headline.Tree.{items};
+ghost use Rattle.fv_parse.specs.headline.Trees.{text_of};
+ghost use Rattle.fv_parse.specs.Trees.{first_named, program_of, size_of, tree_in};
+ghost use Rattle.fv_diagram.specs.headline.Diagram.{has_table_primitive};
+ghost use Rattle.fv_diagram.specs.Diagram.{HasNumbers};
 ghost use Rattle.fv_diagram.specs.Arena.{count_of, tree_of};
 ghost use Rattle.fv_rules.specs.declared.refusal.EvalRefusal.TheVariants.{NoMemory, TableForm};
 ghost use Rattle.fv_rules.specs.declared.refusal.TableCause.TheVariants.{Primitive};
 ghost use Rattle.fv_eval_scopes.specs.declared.value.Value.TheVariants.{Diagram};
-ghost use Rattle.fv_rules.specs.Values.{is_of};
-ghost use Rattle.fv_rules.specs.Rules.{program_value, start};
+ghost use Rattle.fv_rules.specs.headline.Values.{is_of};
+ghost use Rattle.fv_rules.specs.headline.Rules.{program_value, start};
 ghost use Rattle.fv_rules.specs.Sound.{IsSoundProgram};
 ghost use Rattle.fv_eval_machine.specs.Machine.{first, meaning};
 ghost use Rattle.fv_eval.specs.inner.Continuations.{Continues};

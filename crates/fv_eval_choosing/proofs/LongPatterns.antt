@@ -9,12 +9,12 @@ use Rattle.std.proofs.lemmas.List.Sums.{sum_by_push}
 use Rattle.std.proofs.lemmas.Option.{none-some, same_Some}
 use Rattle.std.proofs.lemmas.Bool.{false≢true}
 use Rattle.fv_diagram.specs.declared.node.DiagramId.{DiagramId}
-use Rattle.fv_diagram.specs.Diagram.{size}
+use Rattle.fv_diagram.specs.headline.Diagram.{size}
 use Rattle.fv_diagram.specs.Arena.{Arena, count_of, tree_of}
 use Rattle.fv_diagram.proofs.Turns.{some_size}
-use Rattle.fv_diagram_number.specs.Numbers.{number_of}
+use Rattle.fv_diagram_number.specs.headline.Numbers.{number_of}
 use Rattle.fv_parse.specs.Trees.{Parsed, size_of, tree_in}
-use Rattle.fv_parse_grammar.specs.Tree.{Tree}
+use Rattle.fv_parse_grammar.specs.headline.Tree.{Tree}
 use Rattle.fv_parse_grammar.specs.declared.form.Operator.{Operator}
 use Rattle.fv_parse_tree.specs.declared.node.TreeId.{TreeId}
 use Rattle.fv_eval_scopes.specs.declared.value.Value as code_value
@@ -24,8 +24,8 @@ use Rattle.fv_eval_scopes.specs.declared.memo.Known.{Known}
 use Rattle.fv_eval_choosing.specs.declared.fits.Fit.{Fit}
 use Rattle.fv_eval_choosing.specs.declared.fitting.Task.{Task}
 use Rattle.fv_eval_choosing.specs.declared.fitting.Task.TheVariants.{Try, Note}
-use Rattle.fv_rules.specs.Values.{Value, Flat}
-use Rattle.fv_rules.specs.Matching.{Bindings, and_then, is_number, parts_without, matched, all_matched}
+use Rattle.fv_rules.specs.headline.Values.{Value, Flat}
+use Rattle.fv_rules.specs.headline.Matching.{Bindings, and_then, is_number, parts_without, matched, all_matched}
 use Rattle.fv_eval_scopes.specs.Shows.{World, ShowsValue, ShowsValues}
 use Rattle.fv_eval_scopes.specs.Memo.{Remembers, AddsIntegers}
 use Rattle.fv_eval_choosing.specs.Choosing.{matched_on, pair_of, are_parts, ArePartsOf, IsPair, Refuses}

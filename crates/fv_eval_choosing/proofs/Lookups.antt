@@ -10,10 +10,11 @@ use Rattle.std.proofs.lemmas.Bool.{and_parts, false≢true}
 use Rattle.std.proofs.lemmas.List.Elements.{filter_passes}
 use Rattle.std.proofs.lemmas.Option.{none-some, same_Some}
 use Rattle.std.proofs.lemmas.Slice.Eq.{bytes_eq-Decides}
-use Rattle.fv_lex.specs.Token.{Lexed, texts_of}
-use Rattle.fv_parse_grammar.specs.Tree.{Tree, items, start_of}
-use Rattle.fv_parse_grammar.specs.Tree as tree
-use Rattle.fv_parse.specs.Trees.{Parsed, size_of, tree_in, text_of, first_named, first_with}
+use Rattle.fv_lex.specs.headline.Token.{Lexed, texts_of}
+use Rattle.fv_parse_grammar.specs.headline.Tree.{Tree, items, start_of}
+use Rattle.fv_parse_grammar.specs.headline.Tree as tree
+use Rattle.fv_parse.specs.headline.Trees.{text_of}
+use Rattle.fv_parse.specs.Trees.{Parsed, size_of, tree_in, first_named, first_with}
 use Rattle.fv_parse_tree.specs.Arena.{forest, tree_of}
 use Rattle.fv_parse_tree.specs.declared.node.TreeId.{TreeId}
 use Rattle.fv_parse_tree.specs.declared.node.TreeNode.{TreeNode}
@@ -27,8 +28,8 @@ use Rattle.fv_eval_scopes.specs.declared.value.Ruled.TheVariants as ruled
 use Rattle.fv_eval_scopes.specs.declared.value.Meaning as code_meaning
 use Rattle.fv_eval_scopes.specs.declared.value.Meaning.TheVariants as meaning
 use Rattle.fv_eval_scopes.specs.Environments.{scope_in, outer_number}
-use Rattle.fv_rules.specs.Values.{Name, Rule, Env, Outermost, Bound, Scope, Nothing, Cases, Definition, Meaning, rule_of, is_of, names_of, with_name}
-use Rattle.fv_rules.specs.Values.{of_one, definition_of, or_else, lookup}
+use Rattle.fv_rules.specs.headline.Values.{Name, Rule, Env, Outermost, Bound, Scope, Nothing, Cases, Definition, Meaning, rule_of, is_of, names_of, with_name}
+use Rattle.fv_rules.specs.headline.Values.{of_one, definition_of, or_else, lookup}
 use Rattle.fv_eval_scopes.specs.Shows.{World, IsNamed, IsFunction, IsInside, given_names, parameters_in, body_in, name_in, rules_in, begins_in, ShowsEnv}
 use Rattle.fv_eval_scopes.specs.Shows.{ShowsTaken, ShowsMeaning}
 use Rattle.fv_eval_scopes.specs.declared.value.Ruled.{Ruled}

@@ -11,24 +11,25 @@ use Rattle.fv_parse_tree.specs.Arena.{forest, tree_of as node_in}
 use Rattle.fv_parse_tree.specs.declared.node.TreeId.{TreeId}
 use Rattle.fv_parse_tree.specs.declared.node.TreeNode.{TreeNode}
 use Rattle.fv_parse_tree.specs.declared.node.TreeNode.TheVariants as nodes
-use Rattle.fv_lex.specs.Token.{Lexed}
-use Rattle.fv_parse_grammar.specs.Tree.{Tree}
-use Rattle.fv_parse_grammar.specs.Tree as tree
+use Rattle.fv_lex.specs.headline.Token.{Lexed}
+use Rattle.fv_parse_grammar.specs.headline.Tree.{Tree}
+use Rattle.fv_parse_grammar.specs.headline.Tree as tree
 use Rattle.fv_parse_grammar.specs.declared.form.Operator.{Operator}
 use Rattle.fv_diagram.specs.declared.node.Node.{Node}
 use Rattle.fv_diagram.specs.declared.node.DiagramId.{DiagramId}
-use Rattle.fv_diagram.specs.Diagram.{Diagram, size}
+use Rattle.fv_diagram.specs.headline.Diagram.{Diagram, size}
 use Rattle.fv_diagram.specs.Composed.{IsComposed}
 use Rattle.fv_diagram.specs.Arena.{Arena, count_of, tree_of, tree_with, ChildrenBelow}
-use Rattle.fv_parse.specs.Trees.{Parsed, size_of, tree_in, text_of}
+use Rattle.fv_parse.specs.headline.Trees.{text_of}
+use Rattle.fv_parse.specs.Trees.{Parsed, size_of, tree_in}
 use Rattle.fv_eval_scopes.specs.declared.value.Value as code_value
 use Rattle.fv_eval_scopes.specs.declared.value.Value.TheVariants as value
 use Rattle.fv_eval_scopes.specs.declared.value.Binding as code_binding
 use Rattle.fv_eval_choosing.specs.declared.matching.Pair.{Pair}
 use Rattle.fv_eval_scopes.specs.declared.memo.Known.{Known}
-use Rattle.fv_rules.specs.Values.{Value, Flat, Abstraction, Rules}
-use Rattle.fv_diagram_number.specs.Numbers.{number_of}
-use Rattle.fv_rules.specs.Matching.{Bindings, and_then, number_or, is_number, parts_without, matched}
+use Rattle.fv_rules.specs.headline.Values.{Value, Flat, Abstraction, Rules}
+use Rattle.fv_diagram_number.specs.headline.Numbers.{number_of}
+use Rattle.fv_rules.specs.headline.Matching.{Bindings, and_then, number_or, is_number, parts_without, matched}
 use Rattle.std.specs.Bool.{MatchBool}
 use Rattle.std.proofs.lemmas.Option.{none-some, same_Some}
 use Rattle.std.proofs.lemmas.Bool.{false≢true}

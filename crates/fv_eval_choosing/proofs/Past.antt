@@ -3,8 +3,9 @@ use Rattle.std.proofs.Common.{◌≡◌, ◌⊎◌, inl, inr, ℕ, zero, suc, �
 use Rattle.std.proofs.Common.{refl, sym, ap, subst, ◌∙◌}
 use Rattle.std.specs.Prelude.{filter}
 use Rattle.std.proofs.lemmas.List.{take_more}
-use Rattle.fv_parse_grammar.specs.Tree.{items}
-use Rattle.fv_parse.specs.Trees.{Parsed, size_of, tree_in, text_of, first_named}
+use Rattle.fv_parse_grammar.specs.headline.Tree.{items}
+use Rattle.fv_parse.specs.headline.Trees.{text_of}
+use Rattle.fv_parse.specs.Trees.{Parsed, size_of, tree_in, first_named}
 use Rattle.fv_eval_choosing.specs.declared.by_name.Defined.{Defined}
 use Rattle.fv_eval_scopes.specs.declared.value.Scope as code_scope
 use Rattle.fv_eval_scopes.specs.declared.value.Scope.TheVariants as scope
@@ -12,7 +13,7 @@ use Rattle.fv_eval_choosing.specs.ByName.{IsAmong}
 use Rattle.fv_eval_scopes.specs.Ways.{HasOther, PassesBy, PassesTo, key_of}
 use Rattle.fv_eval_choosing.specs.inner.Lookup.{StillReaches, HoldsNone}
 use Rattle.fv_eval_scopes.specs.Environments.{scope_in, outer_number}
-use Rattle.fv_rules.specs.Values.{is_of, definition_of, or_else}
+use Rattle.fv_rules.specs.headline.Values.{is_of, definition_of, or_else}
 use Rattle.fv_eval_choosing.proofs.Lookups.{look_begins, look_passes, look_goes_on, definitions_say_in}
 use Rattle.fv_eval_scopes.proofs.Outward.{only, passes_fewer, nearer_first, nearer_second}
 

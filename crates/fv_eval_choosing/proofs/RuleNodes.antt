@@ -4,16 +4,17 @@ use Rattle.std.specs.Prelude.{filter, slice_get}
 use Rattle.std.proofs.lemmas.Simd.{map-map}
 use Rattle.std.proofs.lemmas.Option.{none-some, same_Some}
 use Rattle.std.proofs.lemmas.List.Elements.{All-nil, All-cons, All-tail}
-use Rattle.fv_parse_grammar.specs.Tree.{Tree, items}
-use Rattle.fv_parse.specs.Trees.{Parsed, size_of, tree_in, start_in, text_of, first_named}
-use Rattle.fv_parse_grammar.specs.Tree as tree
+use Rattle.fv_parse_grammar.specs.headline.Tree.{Tree, items}
+use Rattle.fv_parse.specs.headline.Trees.{text_of}
+use Rattle.fv_parse.specs.Trees.{Parsed, size_of, tree_in, start_in, first_named}
+use Rattle.fv_parse_grammar.specs.headline.Tree as tree
 use Rattle.fv_parse_tree.specs.Arena.{forest, trees, tree_of}
 use Rattle.fv_parse_tree.specs.declared.node.TreeId.{TreeId}
 use Rattle.fv_parse_tree.specs.declared.node.TreeNode.{TreeNode}
 use Rattle.fv_parse_tree.specs.declared.node.TreeNode.TheVariants as nodes
 use Rattle.fv_eval_choosing.specs.declared.by_name.Defined.{Defined}
 use Rattle.fv_eval_scopes.specs.declared.value.Ruled.TheVariants as ruled
-use Rattle.fv_rules.specs.Values.{Rule, rule_of, is_of}
+use Rattle.fv_rules.specs.headline.Values.{Rule, rule_of, is_of}
 use Rattle.fv_eval_scopes.specs.Shows.{IsFunction, case_in, name_in, rules_in}
 use Rattle.fv_eval_choosing.specs.Chosen.{IsFirstRule}
 

@@ -13,8 +13,8 @@ use Rattle.fv_eval_scopes.specs.declared.value.Value.TheVariants as value
 use Rattle.fv_eval_scopes.specs.declared.value.Binding as code_binding
 use Rattle.fv_eval_choosing.specs.declared.choosing.RuleAt.{RuleAt}
 use Rattle.fv_eval_scopes.specs.declared.memo.Known.{Known}
-use Rattle.fv_rules.specs.Values.{Rule, Value, rule_of}
-use Rattle.fv_rules.specs.Matching.{Bindings, and_then, matched, all_matched, or_next, chosen}
+use Rattle.fv_rules.specs.headline.Values.{Rule, Value, rule_of}
+use Rattle.fv_rules.specs.headline.Matching.{Bindings, and_then, matched, all_matched, or_next, chosen}
 use Rattle.fv_eval_scopes.specs.Shows.{World, ShowsValue, ShowsValues, ShowsBindings}
 use Rattle.fv_eval_scopes.specs.Memo.{Remembers, AddsIntegers}
 use Rattle.fv_eval_choosing.specs.Choosing.{IsSound, with_diagrams, ShowsMatched}

@@ -11,10 +11,10 @@ use Rattle.std.proofs.lemmas.List.Elements.{All-nil, All-cons, All-tail}
 use Rattle.std.proofs.lemmas.List.Sorted.{All-permutation}
 use Rattle.std.proofs.lemmas.Option.{none-some, same_Some, slice_get_within, get_or_from_slice_get}
 use Rattle.std.proofs.lemmas.Simd.{map-map}
-use Rattle.fv_lex.specs.Token.{Lexed}
-use Rattle.fv_num.specs.Words.{wrap}
-use Rattle.fv_parse_grammar.specs.Tree.{Tree}
-use Rattle.fv_parse_grammar.specs.Tree as tree
+use Rattle.fv_lex.specs.headline.Token.{Lexed}
+use Rattle.fv_num.specs.headline.Words.{wrap}
+use Rattle.fv_parse_grammar.specs.headline.Tree.{Tree}
+use Rattle.fv_parse_grammar.specs.headline.Tree as tree
 use Rattle.fv_parse.specs.Trees.{Parsed, size_of, tree_in}
 use Rattle.fv_parse_tree.specs.Arena.{forest, tree_of}
 use Rattle.fv_parse_tree.specs.declared.node.TreeId.{TreeId}
@@ -24,11 +24,11 @@ use Rattle.fv_eval_choosing.specs.declared.by_name.Defined.{Defined}
 use Rattle.fv_eval_choosing.specs.declared.by_literal.ByLiteral.{ByLiteral}
 use Rattle.fv_eval_choosing.specs.ByName.{is_called}
 use Rattle.fv_eval_choosing.specs.Literals.{literal_of, literal_in, number_in, HasLiteral, AllHave, IsFront, told, Tells, AreTold}
-use Rattle.fv_rules.specs.Values.{Rule, Value, Flat, rule_of}
-use Rattle.fv_rules.specs.Matching.{Bindings, and_then, is_number, value_number, matched, all_matched, or_next, chosen}
+use Rattle.fv_rules.specs.headline.Values.{Rule, Value, Flat, rule_of}
+use Rattle.fv_rules.specs.headline.Matching.{Bindings, and_then, is_number, value_number, matched, all_matched, or_next, chosen}
 use Rattle.fv_diagram.specs.Arena.{Arena}
 use Rattle.fv_diagram.specs.Arena.{tree_of as arena_tree}
-use Rattle.fv_diagram_number.specs.Numbers.{number_of}
+use Rattle.fv_diagram_number.specs.headline.Numbers.{number_of}
 use Rattle.fv_eval_scopes.specs.declared.value.Value as code_value
 use Rattle.fv_eval_scopes.specs.declared.value.Value.TheVariants as value
 use Rattle.fv_eval_scopes.specs.declared.value.Binding as code_binding

@@ -1,6 +1,6 @@
 -- What choosing a rule answers (this project's profile).
 use Rattle.std.specs.Prelude.{◌≡◌, ◌<◌, All, List, [], ◌∷◌, map, Option, Some, None}
-use Rattle.fv_parse_grammar.specs.Tree.{Tree}
+use Rattle.fv_parse_grammar.specs.headline.Tree.{Tree}
 use Rattle.fv_parse.specs.Trees.{Parsed, size_of, tree_in}
 use Rattle.fv_parse_tree.specs.declared.node.TreeId.{TreeId}
 use Rattle.fv_eval_choosing.specs.declared.by_name.Defined.{Defined}
@@ -10,8 +10,8 @@ use Rattle.fv_eval_choosing.specs.declared.choosing.Rules.TheVariants as rules
 use Rattle.fv_diagram.specs.Arena.{Arena}
 use Rattle.fv_eval_scopes.specs.declared.value.Value as code_value
 use Rattle.fv_eval_scopes.specs.declared.value.Binding as code_binding
-use Rattle.fv_rules.specs.Values.{Rule, Value, rule_of}
-use Rattle.fv_rules.specs.Matching.{Bindings, chosen}
+use Rattle.fv_rules.specs.headline.Values.{Rule, Value, rule_of}
+use Rattle.fv_rules.specs.headline.Matching.{Bindings, chosen}
 use Rattle.fv_eval_scopes.specs.Shows.{World, ShowsTree, ShowsValues, ShowsBindings}
 use Rattle.fv_eval_choosing.specs.Choosing.{with_diagrams}
 

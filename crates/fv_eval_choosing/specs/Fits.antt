@@ -1,7 +1,7 @@
 -- Which long patterns do not match which diagrams, as far as that is remembered (this project's profile).
 use Rattle.std.specs.Prelude.{◌≡◌, ℕ, ◌+◌, ◌*◌, ◌<◌, Bool, true, false, List, [], ◌∷◌, reverse, Some, slice_get}
 use Rattle.std.specs.List.{sum_by}
-use Rattle.fv_diagram.specs.Diagram.{size}
+use Rattle.fv_diagram.specs.headline.Diagram.{size}
 use Rattle.fv_diagram.specs.Arena.{Arena, count_of, tree_of}
 use Rattle.fv_parse.specs.Trees.{Parsed}
 use Rattle.fv_eval_choosing.specs.declared.matching.Pair.{Pair}

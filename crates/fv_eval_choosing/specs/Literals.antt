@@ -1,16 +1,16 @@
 -- Rules that a literal tells apart (this project's profile).
 use Rattle.std.specs.Prelude.{◌≡◌, ℕ, ◌<◌, ◌≤◌, ℤ, pos, neg_ℤ, List, [], ◌∷◌, length, map, take, filter, All, Option, Some, None, slice_get, unsigned_abs}
-use Rattle.fv_num.specs.Words.{wrap}
-use Rattle.fv_parse_grammar.specs.Tree.{Tree}
-use Rattle.fv_parse_grammar.specs.Tree as tree
+use Rattle.fv_num.specs.headline.Words.{wrap}
+use Rattle.fv_parse_grammar.specs.headline.Tree.{Tree}
+use Rattle.fv_parse_grammar.specs.headline.Tree as tree
 use Rattle.fv_parse.specs.Trees.{Parsed, size_of, tree_in}
 use Rattle.fv_parse_tree.specs.declared.node.TreeId.{TreeId}
 use Rattle.fv_eval_choosing.specs.declared.by_name.Defined.{Defined}
 use Rattle.fv_eval_choosing.specs.declared.by_literal.ByLiteral.{ByLiteral}
 use Rattle.fv_eval_choosing.specs.ByName.{is_called}
 use Rattle.fv_eval_scopes.specs.Shows.{rules_in}
-use Rattle.fv_rules.specs.Values.{Rule, Value, rule_of}
-use Rattle.fv_rules.specs.Matching.{chosen, value_number}
+use Rattle.fv_rules.specs.headline.Values.{Rule, Value, rule_of}
+use Rattle.fv_rules.specs.headline.Matching.{chosen, value_number}
 
 -- the number of a pattern that is a literal
 abbrev pub literal_of : Tree → Option ℤ

@@ -4,7 +4,7 @@ ghost use Rattle.std.specs.Prelude.{◌≡◌, ◌<◌, All, IfOk, IfSome, map, 
 ghost use Rattle.fv_parse.specs.Trees.{size_of, tree_in};
 ghost use Rattle.fv_eval_choosing.specs.Chosen.{nodes_of};
 ghost use Rattle.fv_eval_choosing.specs.Literals.{literal_of, literal_in, IsFront, Tells};
-ghost use Rattle.fv_rules.specs.Values.{rule_of};
+ghost use Rattle.fv_rules.specs.headline.Values.{rule_of};
 
 use crate::by_name::{ByName, Defined};
 use crate::choosing::{Rules, patterns_of};

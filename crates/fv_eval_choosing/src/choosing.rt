@@ -3,9 +3,9 @@
 ghost use Rattle.std.specs.Prelude.{◌≡◌, ◌<◌, ◌≤◌, List, Some, IfOk, All, drop, length, map, slice_get};
 ghost use Rattle.fv_parse.specs.Trees.{size_of, tree_in};
 ghost use Rattle.fv_eval_choosing.specs.declared.by_name.Defined.{Defined as AnItem};
-ghost use Rattle.fv_rules.specs.Values.{Value as PureValue, rule_of};
-ghost use Rattle.fv_rules.specs.Matching.{Bindings as PureBindings, all_matched, chosen};
-ghost use Rattle.fv_rules.specs.Rules.{width};
+ghost use Rattle.fv_rules.specs.headline.Values.{Value as PureValue, rule_of};
+ghost use Rattle.fv_rules.specs.headline.Matching.{Bindings as PureBindings, all_matched, chosen};
+ghost use Rattle.fv_rules.specs.headline.Rules.{width};
 ghost use Rattle.fv_eval_scopes.specs.Shows.{World, IsInside, ShowsValues, ShowsBindings, case_in, rules_in};
 ghost use Rattle.fv_eval_scopes.specs.Memo.{Remembers, AddsIntegers};
 ghost use Rattle.fv_eval_choosing.specs.Choosing.{IsSound, with_diagrams, ShowsMatched};

@@ -3,8 +3,8 @@
 ghost use Rattle.std.specs.Prelude.{◌≡◌, ◌<◌, All, IfOk, MatchBool, List, map, reverse, None, false};
 ghost use Rattle.fv_parse.specs.Trees.{Parsed, size_of, tree_in};
 ghost use Rattle.fv_diagram.specs.Arena.{Arena};
-ghost use Rattle.fv_rules.specs.Values.{Value as PureValue};
-ghost use Rattle.fv_rules.specs.Matching.{Bindings as PureBindings, all_matched};
+ghost use Rattle.fv_rules.specs.headline.Values.{Value as PureValue};
+ghost use Rattle.fv_rules.specs.headline.Matching.{Bindings as PureBindings, all_matched};
 ghost use Rattle.fv_eval_scopes.specs.Shows.{World, ShowsValues};
 ghost use Rattle.fv_eval_scopes.specs.Memo.{Remembers};
 ghost use Rattle.fv_eval_choosing.specs.Choosing.{IsSound, IsPair, Refuses};

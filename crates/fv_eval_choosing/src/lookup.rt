@@ -1,9 +1,10 @@
 // What a name stands for.
 
 ghost use Rattle.std.specs.Prelude.{ℕ, ◌≡◌, ◌⊎◌, ◌<◌, ◌≤◌, IfOk, IfSome, IsTrue, OnOk, Some, All, map, filter};
-ghost use Rattle.fv_parse_grammar.specs.Tree.{items};
-ghost use Rattle.fv_parse.specs.Trees.{size_of, tree_in, text_of, first_named};
-ghost use Rattle.fv_rules.specs.Values.{Name, Env, Meaning as PureMeaning, lookup, is_of, definition_of, or_else};
+ghost use Rattle.fv_parse_grammar.specs.headline.Tree.{items};
+ghost use Rattle.fv_parse.specs.headline.Trees.{text_of};
+ghost use Rattle.fv_parse.specs.Trees.{size_of, tree_in, first_named};
+ghost use Rattle.fv_rules.specs.headline.Values.{Name, Env, Meaning as PureMeaning, lookup, is_of, definition_of, or_else};
 ghost use Rattle.fv_eval_choosing.specs.declared.by_name.Defined.{Defined as AnItem};
 ghost use Rattle.fv_eval_scopes.specs.Environments.{scope_in};
 ghost use Rattle.fv_eval_choosing.specs.ByName.{IsAmong};

@@ -7,13 +7,13 @@ use Rattle.std.proofs.lemmas.List.Elements.{All-append, All-cons, All-replicate}
 use Rattle.fv_parse_grammar.specs.declared.form.Iteration.TheVariants as repetitions
 use Rattle.fv_num.specs.declared.op.Op.TheVariants as op
 use Rattle.fv_diagram.specs.declared.node.Primitive.TheVariants as prim
-use Rattle.fv_diagram.specs.Diagram.{Diagram, Primitive, Par, Seq, inputs}
+use Rattle.fv_diagram.specs.headline.Diagram.{Diagram, Primitive, Par, Seq, inputs}
 use Rattle.fv_diagram.specs.Arena.{Arena, count_of, tree_of}
 use Rattle.fv_rules.specs.declared.refusal.EvalRefusal.{EvalRefusal}
 use Rattle.fv_rules.specs.declared.refusal.EvalRefusal.TheVariants.{TooManyArguments}
-use Rattle.fv_rules.specs.Values.{Value, Flat}
-use Rattle.fv_rules.specs.Steps.{Eval, after, give, put, refuse}
-use Rattle.fv_rules.specs.Rules.{all_outputs, fed, flat, from_right, gathered, led, start, takes_the_right, wires}
+use Rattle.fv_rules.specs.headline.Values.{Value, Flat}
+use Rattle.fv_rules.specs.headline.Steps.{Eval, after, give, put, refuse}
+use Rattle.fv_rules.specs.headline.Rules.{all_outputs, fed, flat, from_right, gathered, led, start, takes_the_right, wires}
 use Rattle.fv_eval_drawing.specs.declared.lists.Link.TheVariants as link
 use Rattle.fv_eval_drawing.specs.Makes.{AreThere, Canvas, Draws, Extends, Makes, MakesValue, trees_of}
 use Rattle.fv_eval_drawing.specs.Lists.{Fills, all_from_left, all_from_right, filled, linked}

@@ -3,7 +3,7 @@ use Rattle.std.proofs.Common.{◌<◌, ◌≤◌, ◌++◌, ◌∷◌, [], ℕ, 
 use Rattle.fv_num.specs.declared.op.Op.{Op}
 use Rattle.fv_diagram.specs.declared.node.Primitive.TheVariants as prim
 use Rattle.fv_diagram.specs.Arena.{count_of, tree_of}
-use Rattle.fv_rules.specs.Rules.{bind_all, from_left}
+use Rattle.fv_rules.specs.headline.Rules.{bind_all, from_left}
 use Rattle.fv_eval_drawing.specs.declared.lists.Link.{Link}
 use Rattle.fv_eval_drawing.specs.Makes.{AreThere, Becomes, Canvas, Extends, trees_of}
 use Rattle.fv_eval_drawing.specs.Lists.{all_from_right, linked}

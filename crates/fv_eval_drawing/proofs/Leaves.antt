@@ -2,12 +2,12 @@
 use Rattle.std.proofs.Common.{inl, inr, ◌≡◌, ℕ, Result, Ok, Err, refl, sym, ap₂, subst, ◌∙◌}
 use Rattle.fv_diagram.specs.declared.node.Node.{Node}
 use Rattle.fv_diagram.specs.declared.node.Node.TheVariants as node
-use Rattle.fv_diagram.specs.Diagram.{Diagram}
+use Rattle.fv_diagram.specs.headline.Diagram.{Diagram}
 use Rattle.fv_diagram.specs.Arena.{Arena, tree_with}
 use Rattle.fv_rules.specs.declared.refusal.EvalRefusal.{EvalRefusal}
 use Rattle.fv_rules.specs.declared.refusal.EvalRefusal.TheVariants.{NoMemory}
-use Rattle.fv_rules.specs.Steps.{State, Outcome, Eval, misfit, put_after}
-use Rattle.fv_rules.specs.Rules.{start}
+use Rattle.fv_rules.specs.headline.Steps.{State, Outcome, Eval, misfit, put_after}
+use Rattle.fv_rules.specs.headline.Rules.{start}
 use Rattle.fv_rules.specs.Puts.{Puts}
 use Rattle.fv_eval_drawing.specs.Makes.{Canvas, IsLeaf, Makes}
 

@@ -4,11 +4,11 @@ use Rattle.std.proofs.lemmas.List.{map-append, get_or_append_left, get_or_push, 
 use Rattle.std.proofs.lemmas.List.Elements.{All-head}
 use Rattle.fv_num.specs.declared.op.Op.{Op}
 use Rattle.fv_diagram.specs.declared.node.Primitive.TheVariants as prim
-use Rattle.fv_diagram.specs.Diagram.{Diagram, Bind}
+use Rattle.fv_diagram.specs.headline.Diagram.{Diagram, Bind}
 use Rattle.fv_diagram.specs.Arena.{count_of, tree_of}
 use Rattle.fv_rules.specs.declared.refusal.EvalRefusal.{EvalRefusal}
-use Rattle.fv_rules.specs.Steps.{State, after, ◌>>=◌, put}
-use Rattle.fv_rules.specs.Rules.{bind_all, from_left, operated}
+use Rattle.fv_rules.specs.headline.Steps.{State, after, ◌>>=◌, put}
+use Rattle.fv_rules.specs.headline.Rules.{bind_all, from_left, operated}
 use Rattle.fv_eval_drawing.specs.declared.lists.Link.{Link}
 use Rattle.fv_eval_drawing.specs.Makes.{AreThere, Becomes, Canvas, Extends, Makes, trees_of}
 use Rattle.fv_eval_drawing.specs.Lists.{all_from_right, linked}

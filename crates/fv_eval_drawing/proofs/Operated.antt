@@ -1,11 +1,11 @@
 -- An operation on two parts.
 use Rattle.std.proofs.Common.{inl, inr, ◌≡◌, ℕ, ◌<◌, Result, Ok, Err, ap, ap₂, subst, ◌∙◌}
 use Rattle.fv_diagram.specs.declared.node.Primitive.{Primitive as Prim}
-use Rattle.fv_diagram.specs.Diagram.{Diagram, Primitive, Par, Seq}
+use Rattle.fv_diagram.specs.headline.Diagram.{Diagram, Primitive, Par, Seq}
 use Rattle.fv_diagram.specs.Arena.{count_of, tree_of}
 use Rattle.fv_rules.specs.declared.refusal.EvalRefusal.{EvalRefusal}
-use Rattle.fv_rules.specs.Steps.{Eval, after, ◌>>=◌, put}
-use Rattle.fv_rules.specs.Rules.{operated}
+use Rattle.fv_rules.specs.headline.Steps.{Eval, after, ◌>>=◌, put}
+use Rattle.fv_rules.specs.headline.Rules.{operated}
 use Rattle.fv_eval_drawing.specs.Makes.{AddsDiagrams, Canvas, Draws, Extends, Makes}
 use Rattle.fv_eval_drawing.proofs.Leaves.{makes_of}
 

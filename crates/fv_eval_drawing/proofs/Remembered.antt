@@ -6,7 +6,7 @@ use Rattle.std.proofs.lemmas.List.{length_push}
 use Rattle.std.proofs.lemmas.List.Elements.{All-head, All-tail}
 use Rattle.fv_diagram.specs.declared.node.Node.{Node}
 use Rattle.fv_diagram.specs.declared.node.Node.TheVariants as node
-use Rattle.fv_diagram.specs.Diagram.{Diagram}
+use Rattle.fv_diagram.specs.headline.Diagram.{Diagram}
 use Rattle.fv_diagram.specs.Composed.{IsComposed}
 use Rattle.fv_diagram.specs.Arena.{Arena, ChildrenBelow, count_of, tree_of, tree_with, with_list, with_node}
 use Rattle.fv_diagram.proofs.Trees.{put_tree, put_tree_keeps}
@@ -16,7 +16,7 @@ use Rattle.fv_eval_scopes.specs.declared.memo.Known.{Known}
 use Rattle.fv_eval_scopes.specs.declared.memo.Known.TheVariants as known
 use Rattle.fv_eval_scopes.specs.declared.value.Value as code_value
 use Rattle.fv_eval_scopes.specs.declared.value.Value.TheVariants as value
-use Rattle.fv_diagram_number.specs.Numbers.{number_of}
+use Rattle.fv_diagram_number.specs.headline.Numbers.{number_of}
 use Rattle.fv_eval_scopes.specs.Memo.{AddsIntegers, IsInteger, IsKnown, Remembers}
 use Rattle.fv_eval_choosing.specs.Choosing.{IsSound}
 use Rattle.fv_eval_scopes.proofs.Added.{adds_keeps, adds_longer}

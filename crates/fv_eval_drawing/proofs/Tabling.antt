@@ -5,22 +5,23 @@ use Rattle.std.specs.Prelude.{nat_eq, nat_le, if◌then◌else◌}
 use Rattle.std.specs.List.{list_all}
 use Rattle.std.proofs.lemmas.Bool.{and_parts, eqb-true, eq-eqb}
 use Rattle.std.proofs.lemmas.Int.{ints}
-use Rattle.fv_num.specs.Words.{argument}
+use Rattle.fv_num.specs.headline.Words.{argument}
 use Rattle.fv_arity.specs.declared.refusal.ArityKind.TheVariants as kind
 use Rattle.fv_diagram.specs.declared.node.Node.TheVariants as node
-use Rattle.fv_diagram.specs.Diagram.{Diagram, Par, Seq, Table, outputs, size, table_inputs}
-use Rattle.fv_diagram.specs.Arena.{Arena, count_of, list_at, size_limit, tree_of, tree_with}
-use Rattle.fv_diagram_number.specs.Numbers.{at_first}
-use Rattle.fv_diagram_head.specs.Heads.{all_outputs, cut, is_fixed, is_head, parts, table_numbers}
+use Rattle.fv_diagram.specs.headline.Diagram.{Diagram, Par, Seq, Table, outputs, size, table_inputs}
+use Rattle.fv_diagram.specs.headline.Arena.{size_limit}
+use Rattle.fv_diagram.specs.Arena.{Arena, count_of, list_at, tree_of, tree_with}
+use Rattle.fv_diagram_number.specs.headline.Numbers.{at_first}
+use Rattle.fv_diagram_head.specs.headline.Heads.{all_outputs, cut, is_fixed, is_head, parts, table_numbers}
 use Rattle.fv_diagram_head.proofs.Closed.{fixed_beside}
 use Rattle.fv_diagram_head.proofs.Outputs.{cut_outputs, parts_outputs}
 use Rattle.fv_rules.specs.declared.refusal.EvalRefusal.{EvalRefusal}
 use Rattle.fv_rules.specs.declared.refusal.EvalRefusal.TheVariants.{Arity, SizeBudget, TableForm}
 use Rattle.fv_rules.specs.declared.refusal.TableCause.TheVariants as cause
-use Rattle.fv_rules.specs.Steps.{Eval, Outcome, State, after, ◌>>=◌, give, grow, misfit, put, put_after, refuse, side_by_side, sized, table_size, tabled, tabled_by}
-use Rattle.fv_rules.specs.Steps.{tabled_of, unless}
+use Rattle.fv_rules.specs.headline.Steps.{Eval, Outcome, State, after, ◌>>=◌, give, grow, misfit, put, put_after, refuse, side_by_side, sized, table_size, tabled, tabled_by}
+use Rattle.fv_rules.specs.headline.Steps.{tabled_of, unless}
 use Rattle.fv_rules.specs.Puts.{Puts}
-use Rattle.fv_rules.specs.Rules.{from_right, start}
+use Rattle.fv_rules.specs.headline.Rules.{from_right, start}
 use Rattle.fv_eval_drawing.specs.declared.lists.Link.TheVariants as link
 use Rattle.fv_eval_drawing.specs.Lists.{all_from_right, linked}
 use Rattle.fv_eval_drawing.specs.Makes.{AddsDiagrams, AreThere, Becomes, Canvas, Draws, Extends, Makes, trees_of}

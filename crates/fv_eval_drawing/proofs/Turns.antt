@@ -1,8 +1,8 @@
 -- One turn of a loop that puts a list together.
 use Rattle.std.proofs.Common.{◌≡◌, ℕ, zero, suc, ◌+◌, List, [], ◌∷◌, ◌++◌, refl, sym, ap, ◌∙◌, arith}
-use Rattle.fv_diagram.specs.Diagram.{Diagram, Bind}
-use Rattle.fv_rules.specs.Steps.{State, Eval, after, ◌>>=◌, give, put}
-use Rattle.fv_rules.specs.Rules.{bind_all}
+use Rattle.fv_diagram.specs.headline.Diagram.{Diagram, Bind}
+use Rattle.fv_rules.specs.headline.Steps.{State, Eval, after, ◌>>=◌, give, put}
+use Rattle.fv_rules.specs.headline.Rules.{bind_all}
 use Rattle.fv_eval_drawing.specs.Lists.{all_from_right}
 use Rattle.fv_eval_drawing.proofs.Evals.{after_after, same_after, after_give}
 

@@ -2,10 +2,10 @@
 use Rattle.std.specs.Prelude.{◌≡◌, ℕ, ◌-◌, ◌&&◌, nat_eq, List, [], ◌∷◌, ◌++◌, pos, if◌then◌else◌}
 use Rattle.fv_num.specs.declared.op.Op.{Op}
 use Rattle.fv_diagram.specs.declared.node.Primitive.TheVariants as prim
-use Rattle.fv_diagram.specs.Diagram.{Diagram, Primitive, Par, Seq, inputs}
+use Rattle.fv_diagram.specs.headline.Diagram.{Diagram, Primitive, Par, Seq, inputs}
 use Rattle.fv_rules.specs.declared.refusal.EvalRefusal.TheVariants.{IterationCount}
-use Rattle.fv_rules.specs.Steps.{Eval, refuse}
-use Rattle.fv_rules.specs.Rules.{from_right, from_left, takes_the_right, wires}
+use Rattle.fv_rules.specs.headline.Steps.{Eval, refuse}
+use Rattle.fv_rules.specs.headline.Rules.{from_right, from_left, takes_the_right, wires}
 use Rattle.fv_eval_drawing.specs.Makes.{AreThere, Canvas, trees_of}
 use Rattle.fv_eval_drawing.specs.declared.lists.Link.{Link}
 use Rattle.fv_eval_drawing.specs.declared.lists.Link.TheVariants as link

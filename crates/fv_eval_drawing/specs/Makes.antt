@@ -2,7 +2,7 @@
 use Rattle.std.specs.Prelude.{◌≡◌, ◌⊎◌, ℕ, ◌<◌, ◌≤◌, Result, Ok, Err}
 use Rattle.fv_diagram.specs.declared.node.Node.{Node}
 use Rattle.fv_diagram.specs.declared.node.Node.TheVariants as node
-use Rattle.fv_diagram.specs.Diagram.{Diagram}
+use Rattle.fv_diagram.specs.headline.Diagram.{Diagram}
 use Rattle.fv_diagram.specs.Composed.{IsComposed}
 use Rattle.fv_diagram.specs.Arena.{Arena, count_of, tree_of}
 pub use Rattle.fv_diagram_head.specs.Lists.{AreThere, trees_of}
@@ -10,8 +10,8 @@ use Rattle.fv_rules.specs.declared.refusal.EvalRefusal.{EvalRefusal}
 use Rattle.fv_rules.specs.declared.refusal.EvalRefusal.TheVariants.{NoMemory}
 use Rattle.fv_eval_scopes.specs.declared.value.Value as code_value
 use Rattle.fv_eval_scopes.specs.declared.value.Value.TheVariants as value
-use Rattle.fv_rules.specs.Values.{Value, Flat}
-use Rattle.fv_rules.specs.Steps.{State, Eval, give, refuse}
+use Rattle.fv_rules.specs.headline.Values.{Value, Flat}
+use Rattle.fv_rules.specs.headline.Steps.{State, Eval, give, refuse}
 
 -- the diagrams of an evaluation, and the table sum
 pub record Canvas : Type 0 where

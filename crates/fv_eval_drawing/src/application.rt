@@ -2,7 +2,7 @@
 
 ghost use Rattle.std.specs.Prelude.{◌≡◌, ◌<◌, ◌&&◌, ◌∷◌, ◌++◌, IfOk, nat_eq, replicate};
 ghost use Rattle.fv_diagram.specs.Arena.{count_of, tree_of};
-ghost use Rattle.fv_rules.specs.Rules.{all_outputs, fed, takes_the_right};
+ghost use Rattle.fv_rules.specs.headline.Rules.{all_outputs, fed, takes_the_right};
 ghost use Rattle.fv_eval_drawing.specs.Makes.{AddsDiagrams, AreThere, Extends, MakesValue, trees_of};
 ghost use Rattle.fv_eval_drawing.specs.Lists.{Fills};
 

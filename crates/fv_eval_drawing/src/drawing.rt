@@ -1,16 +1,17 @@
 // The diagrams of an evaluation.
 
 ghost use Rattle.std.specs.Prelude.{◌≡◌, ◌*◌, ◌<◌, ◌≤◌, All, IfOk, List, length};
-ghost use Rattle.fv_diagram.specs.Arena.{ChildrenBelow, NamesLists, IsArity, count_of, empty_arena, size_limit, tree_of, tree_with};
-ghost use Rattle.fv_diagram.specs.Diagram.{has_table_primitive};
-ghost use Rattle.fv_diagram_number.specs.Numbers.{number_of};
-ghost use Rattle.fv_rules.specs.Values.{Value as Meant};
-ghost use Rattle.fv_rules.specs.Matching.{chosen, number_or};
+ghost use Rattle.fv_diagram.specs.headline.Arena.{size_limit};
+ghost use Rattle.fv_diagram.specs.Arena.{ChildrenBelow, NamesLists, IsArity, count_of, empty_arena, tree_of, tree_with};
+ghost use Rattle.fv_diagram.specs.headline.Diagram.{has_table_primitive};
+ghost use Rattle.fv_diagram_number.specs.headline.Numbers.{number_of};
+ghost use Rattle.fv_rules.specs.headline.Values.{Value as Meant};
+ghost use Rattle.fv_rules.specs.headline.Matching.{chosen, number_or};
 ghost use Rattle.fv_eval_scopes.specs.Shows.{World, IsInside, ShowsValues, rules_in};
 ghost use Rattle.fv_eval_choosing.specs.Choosing.{with_diagrams};
 ghost use Rattle.fv_eval_choosing.specs.Chosen.{ShowsChoice};
 ghost use Rattle.fv_eval_choosing.specs.Fits.{Recalls};
-ghost use Rattle.fv_rules.specs.Steps.{put};
+ghost use Rattle.fv_rules.specs.headline.Steps.{put};
 ghost use Rattle.fv_rules.specs.Puts.{Puts};
 ghost use Rattle.fv_eval_drawing.specs.Makes.{AddsDiagrams, AreComposed, Draws, Extends, IsLeaf, IsThere, Makes};
 

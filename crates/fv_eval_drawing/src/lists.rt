@@ -3,8 +3,8 @@
 ghost use Rattle.std.specs.Prelude.{◌≡◌, ◌<◌};
 ghost use Rattle.fv_diagram.specs.declared.node.Primitive.TheVariants as prim;
 ghost use Rattle.fv_diagram.specs.Arena.{count_of, tree_of};
-ghost use Rattle.fv_rules.specs.Steps.{put};
-ghost use Rattle.fv_rules.specs.Rules.{from_left, gathered};
+ghost use Rattle.fv_rules.specs.headline.Steps.{put};
+ghost use Rattle.fv_rules.specs.headline.Rules.{from_left, gathered};
 ghost use Rattle.fv_eval_drawing.specs.Makes.{AreThere, Extends, Makes, MakesValue, trees_of};
 ghost use Rattle.fv_eval_drawing.specs.Lists.{all_from_left, all_from_right, linked};
 

@@ -2,11 +2,11 @@
 
 ghost use Rattle.std.specs.Prelude.{ℕ, ◌≡◌, ◌+◌, ◌<◌, ◌^◌, pos};
 ghost use Rattle.fv_diagram.specs.declared.node.Primitive.TheVariants as prim;
-ghost use Rattle.fv_diagram.specs.Diagram.{Constant, Primitive as Leaf, Seq};
+ghost use Rattle.fv_diagram.specs.headline.Diagram.{Constant, Primitive as Leaf, Seq};
 ghost use Rattle.fv_diagram.specs.Arena.{count_of, tree_of};
 ghost use Rattle.fv_num.specs.declared.op.Op.TheVariants as op;
-ghost use Rattle.fv_rules.specs.Steps.{put};
-ghost use Rattle.fv_rules.specs.Rules.{bind_all, joined, operated, primitive_of};
+ghost use Rattle.fv_rules.specs.headline.Steps.{put};
+ghost use Rattle.fv_rules.specs.headline.Rules.{bind_all, joined, operated, primitive_of};
 ghost use Rattle.fv_eval_drawing.specs.Makes.{Extends, Makes};
 
 use crate::drawing::Drawing;

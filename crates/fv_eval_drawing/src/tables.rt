@@ -1,12 +1,13 @@
 // Tables: what stands before `rdtable` or `rwtable` becomes a table and what it takes.
 
 ghost use Rattle.std.specs.Prelude.{◌≡◌, ◌+◌, ◌<◌, ◌≤◌, length, true, IfOk};
-ghost use Rattle.fv_num.specs.Words.{argument};
-ghost use Rattle.fv_diagram.specs.Diagram.{Primitive as Leaf, Seq, Table, outputs, size as size_of, table_inputs};
-ghost use Rattle.fv_diagram.specs.Arena.{ChildrenBelow, count_of, list_at, size_limit, tree_of, tree_with};
-ghost use Rattle.fv_diagram_number.specs.Numbers.{at_first};
-ghost use Rattle.fv_diagram_head.specs.Heads.{all_outputs, cut, is_fixed, is_head, parts, table_numbers};
-ghost use Rattle.fv_rules.specs.Steps.{put, sized, tabled, tabled_by, waved};
+ghost use Rattle.fv_num.specs.headline.Words.{argument};
+ghost use Rattle.fv_diagram.specs.headline.Diagram.{Primitive as Leaf, Seq, Table, outputs, size as size_of, table_inputs};
+ghost use Rattle.fv_diagram.specs.headline.Arena.{size_limit};
+ghost use Rattle.fv_diagram.specs.Arena.{ChildrenBelow, count_of, list_at, tree_of, tree_with};
+ghost use Rattle.fv_diagram_number.specs.headline.Numbers.{at_first};
+ghost use Rattle.fv_diagram_head.specs.headline.Heads.{all_outputs, cut, is_fixed, is_head, parts, table_numbers};
+ghost use Rattle.fv_rules.specs.headline.Steps.{put, sized, tabled, tabled_by, waved};
 ghost use Rattle.fv_eval_drawing.specs.declared.lists.Link.TheVariants as link;
 ghost use Rattle.fv_eval_drawing.specs.Lists.{all_from_right, linked};
 ghost use Rattle.fv_eval_drawing.specs.Makes.{AddsDiagrams, AreThere, Extends, Makes, trees_of};

@@ -1,24 +1,24 @@
 -- No step changes what a configuration stands for.
 use Rattle.std.proofs.Common.{◌≡◌, ℕ, zero, suc, ◌+◌, Bool, true, false, List, [], ◌∷◌, ◌++◌, length, ℤ, pos, Option, Some, None, Ok, Err, refl, sym, ap, ◌∙◌}
 use Rattle.std.specs.Prelude.{codes, nat_lt, if◌then◌else◌}
-use Rattle.fv_lex.specs.Token.{Lexed}
-use Rattle.fv_parse_grammar.specs.Tree.{Tree}
-use Rattle.fv_parse_grammar.specs.Tree as tree
+use Rattle.fv_lex.specs.headline.Token.{Lexed}
+use Rattle.fv_parse_grammar.specs.headline.Tree.{Tree, items, start_of}
+use Rattle.fv_parse_grammar.specs.headline.Tree as tree
 use Rattle.fv_parse_grammar.specs.declared.form.Iteration.{Iteration as Repetition}
 use Rattle.fv_num.specs.declared.op.Op.TheVariants as op
 use Rattle.fv_diagram.specs.declared.node.Primitive.TheVariants as prim
-use Rattle.fv_diagram.specs.Diagram.{Diagram, Primitive, Constant, Seq}
+use Rattle.fv_diagram.specs.headline.Diagram.{Diagram, Primitive, Constant, Seq}
 use Rattle.fv_diagram.specs.declared.control.ControlKind.{ControlKind}
-use Rattle.fv_parse_grammar.specs.Tree.{items, start_of}
-use Rattle.fv_parse.specs.Trees.{text_of, label_of}
-use Rattle.fv_rules.specs.Values.{Name, Value, Flat, Abstraction, Rules, Env, Outermost, Bound, Scope, And, Definition, Plain, Parameters, Cases, Meaning}
-use Rattle.fv_rules.specs.Values.{IsValue, IsDefined, Unknown, lookup, in_order, count_taken}
-use Rattle.fv_diagram_number.specs.Numbers.{number_of}
-use Rattle.fv_rules.specs.Matching.{Bindings, settled, value_number, bound_in, chosen}
-use Rattle.fv_rules.specs.Steps.{State, Outcome, Eval, after, ◌>>=◌, give, spent, put, control}
-use Rattle.fv_rules.specs.Rules.{waveform, switch_kind, slider_kind, flat, on_slots, bind_all, turned, operated, joined, defined_value, meant, name_value, arguments}
-use Rattle.fv_rules.specs.Rules.{all_turned, fed, width, selected, applied, bodies, gathered, counted, read_number, parameters, slider_info, switch_info}
-use Rattle.fv_rules.specs.Rules.{abstraction, rule, ev, FollowsValue, FollowsDiagram}
+use Rattle.fv_parse.specs.headline.Trees.{text_of, label_of}
+use Rattle.fv_rules.specs.headline.Values.{Name, Value, Flat, Abstraction, Rules, Env, Outermost, Bound, Scope, And, Definition, Plain, Parameters, Cases, Meaning}
+use Rattle.fv_rules.specs.headline.Values.{IsValue, IsDefined, Unknown, lookup, in_order, count_taken}
+use Rattle.fv_diagram_number.specs.headline.Numbers.{number_of}
+use Rattle.fv_rules.specs.headline.Matching.{Bindings, settled, value_number, bound_in, chosen}
+use Rattle.fv_rules.specs.headline.Steps.{State, Outcome, Eval, after, ◌>>=◌, give, spent, put, control}
+use Rattle.fv_rules.specs.headline.Rules.{waveform, switch_kind, slider_kind, flat, on_slots, bind_all, turned, operated, joined, defined_value, meant, name_value, arguments}
+use Rattle.fv_rules.specs.headline.Rules.{all_turned, fed, width, selected, applied, bodies, gathered, counted, read_number, parameters, slider_info, switch_info}
+use Rattle.fv_rules.specs.headline.Rules.{abstraction, rule, ev}
+use Rattle.fv_rules.specs.Rules.{FollowsValue, FollowsDiagram}
 use Rattle.fv_eval_machine.specs.Machine.{ForValue, Function, Argument, Leftover, Parameter, ForDiagram, Left, Right, Later, Negated, Ports, Binding, Turning}
 use Rattle.fv_eval_machine.specs.Machine.{Counting, Body, Finish, Continuation, Valued, Drawn, Visit, Call, Give, Config, Running, Ended}
 use Rattle.fv_eval_machine.specs.Machine.{valued, drawn, resumed, unwound}

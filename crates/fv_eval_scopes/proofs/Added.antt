@@ -5,11 +5,11 @@ use Rattle.std.proofs.lemmas.List.Elements.{All-nil, All-append}
 use Rattle.fv_base.proofs.Arena.{trees_keep, length_trees}
 use Rattle.fv_base.specs.Arena.{KeepsTrees, trees_from}
 use Rattle.fv_diagram.specs.declared.node.Node.{Node}
-use Rattle.fv_diagram.specs.Diagram.{Diagram, Constant}
+use Rattle.fv_diagram.specs.headline.Diagram.{Diagram, Constant}
 use Rattle.fv_diagram.specs.Arena.{Arena, count_of, tree_of, trees, tree_in as node_diagram}
 use Rattle.fv_eval_scopes.specs.declared.memo.Known.{Known}
 use Rattle.fv_eval_scopes.specs.declared.memo.Known.TheVariants as known
-use Rattle.fv_diagram_number.specs.Numbers.{number_of}
+use Rattle.fv_diagram_number.specs.headline.Numbers.{number_of}
 use Rattle.fv_eval_scopes.specs.Memo.{Remembers, IsKnown, IsInteger, AddsIntegers}
 
 pub adds_none : (a : Arena) → AddsIntegers a a

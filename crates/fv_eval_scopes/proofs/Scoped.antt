@@ -9,8 +9,8 @@ use Rattle.fv_eval_scopes.specs.declared.value.Scope.TheVariants as scope
 use Rattle.fv_eval_scopes.specs.declared.value.Argument as code_argument
 use Rattle.fv_eval_scopes.specs.declared.value.Binding as code_binding
 use Rattle.fv_eval_scopes.specs.Environments.{Environments, with_scope}
-use Rattle.fv_rules.specs.Values.{Value, Env, Taken, Nothing, And, in_order}
-use Rattle.fv_rules.specs.Matching.{Bindings, bound_in}
+use Rattle.fv_rules.specs.headline.Values.{Value, Env, Taken, Nothing, And, in_order}
+use Rattle.fv_rules.specs.headline.Matching.{Bindings, bound_in}
 use Rattle.fv_eval_scopes.specs.Shows.{World, Grows, IsNamed, ShowsValue, ShowsValues, ShowsEnv, ShowsTaken, ShowsBindings}
 use Rattle.fv_eval_scopes.proofs.Grown.{scope_opens, grows_on, named_grows, value_grows, bound_shows}
 

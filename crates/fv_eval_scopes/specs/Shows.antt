@@ -1,11 +1,12 @@
 -- What the numbers of an evaluation's lists stand for (this project's profile).
 use Rattle.std.specs.Prelude.{◌≡◌, ℕ, suc, ◌<◌, List, [], ◌∷◌, ◌++◌, map, filter, drop, Option, Some, None, slice_get}
-use Rattle.fv_lex.specs.Token.{Lexed}
-use Rattle.fv_parse_grammar.specs.Tree.{Tree, items, start_of}
-use Rattle.fv_parse_grammar.specs.Tree as tree
-use Rattle.fv_diagram.specs.Diagram.{Diagram}
+use Rattle.fv_lex.specs.headline.Token.{Lexed}
+use Rattle.fv_parse_grammar.specs.headline.Tree.{Tree, items, start_of}
+use Rattle.fv_parse_grammar.specs.headline.Tree as tree
+use Rattle.fv_diagram.specs.headline.Diagram.{Diagram}
 use Rattle.fv_diagram.specs.Arena.{Arena, count_of, tree_of}
-use Rattle.fv_parse.specs.Trees.{Parsed, size_of, tree_in, text_of, first_named}
+use Rattle.fv_parse.specs.headline.Trees.{text_of}
+use Rattle.fv_parse.specs.Trees.{Parsed, size_of, tree_in, first_named}
 use Rattle.fv_parse_tree.specs.declared.node.TreeId.{TreeId}
 use Rattle.fv_eval_scopes.specs.declared.value.Ruled.{Ruled}
 use Rattle.fv_eval_scopes.specs.declared.value.Ruled.TheVariants as ruled
@@ -18,9 +19,9 @@ use Rattle.fv_eval_scopes.specs.declared.value.Binding as code_binding
 use Rattle.fv_eval_scopes.specs.declared.value.Meaning as code_meaning
 use Rattle.fv_eval_scopes.specs.declared.value.Meaning.TheVariants as meaning
 use Rattle.fv_eval_scopes.specs.Environments.{scope_in}
-use Rattle.fv_rules.specs.Values.{Name, Rule, Value, Flat, Abstraction, Rules, Env, Outermost, Bound, Scope, Taken, Nothing, And, Plain, Parameters}
-use Rattle.fv_rules.specs.Values.{Cases, Meaning, IsValue, IsDefined, Unknown, rule_of, is_of, names_of}
-use Rattle.fv_rules.specs.Matching.{Bindings}
+use Rattle.fv_rules.specs.headline.Values.{Name, Rule, Value, Flat, Abstraction, Rules, Env, Outermost, Bound, Scope, Taken, Nothing, And, Plain, Parameters}
+use Rattle.fv_rules.specs.headline.Values.{Cases, Meaning, IsValue, IsDefined, Unknown, rule_of, is_of, names_of}
+use Rattle.fv_rules.specs.headline.Matching.{Bindings}
 
 -- The lists of an evaluation: the tree, the diagrams, the environments and the arguments that rules have taken.
 pub record World : Type 0 where

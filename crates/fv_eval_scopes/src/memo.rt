@@ -1,11 +1,11 @@
 // The numbers of diagrams, remembered.
 
 ghost use Rattle.std.specs.Prelude.{◌≡◌, ◌<◌, ◌≤◌, ◌++◌, [], length, IfOk, ℕ, List};
-ghost use Rattle.fv_diagram.specs.Diagram.{Constant};
+ghost use Rattle.fv_diagram.specs.headline.Diagram.{Constant};
 ghost use Rattle.fv_diagram.specs.Composed.{IsComposed};
 ghost use Rattle.fv_diagram.specs.Arena.{Arena, count_of, tree_of};
-ghost use Rattle.fv_diagram_number.specs.Numbers.{number_of};
-ghost use Rattle.fv_rules.specs.Matching.{number_or};
+ghost use Rattle.fv_diagram_number.specs.headline.Numbers.{number_of};
+ghost use Rattle.fv_rules.specs.headline.Matching.{number_or};
 ghost use Rattle.fv_eval_scopes.specs.Memo.{Remembers, AddsIntegers, IsKnown};
 
 use fv_base::limits::MOST_DIAGRAMS;

@@ -4,9 +4,9 @@ ghost use Rattle.std.specs.Prelude.{◌≡◌, ◌+◌, ◌<◌, ◌≤◌, [], 
 ghost use Rattle.fv_eval_scopes.specs.declared.value.Scope.TheVariants.{Bound, Definitions};
 ghost use Rattle.fv_eval_scopes.specs.Ways.{PassesTo};
 ghost use Rattle.fv_eval_scopes.specs.Environments.{scope_in, with_scope, with_argument};
-ghost use Rattle.fv_rules.specs.Values.{Env, Taken, in_order};
+ghost use Rattle.fv_rules.specs.headline.Values.{Env, Taken, in_order};
 ghost use Rattle.fv_eval_scopes.specs.declared.value.Value.{Value as AValue};
-ghost use Rattle.fv_rules.specs.Matching.{Bindings, bound_in};
+ghost use Rattle.fv_rules.specs.headline.Matching.{Bindings, bound_in};
 ghost use Rattle.fv_eval_scopes.specs.Shows.{World, ShowsEnv, ShowsTaken, ShowsValues, ShowsBindings, Grows};
 
 use crate::value::{Argument, Binding, Ruled, Scope, Value};

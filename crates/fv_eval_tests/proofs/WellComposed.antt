@@ -1,6 +1,7 @@
 -- What is well formed is composed.
 use Rattle.fv_diagram.specs.Composed.{IsComposed}
-use Rattle.fv_diagram.specs.Diagram.{Diagram, Primitive, Constant, Control, Slot, Wave, Table, Bind, Par, Seq, Split, Merge, Rec, IsWellFormed}
+use Rattle.fv_diagram.specs.headline.Diagram.{Diagram, Primitive, Constant, Control, Slot, Wave, Table, Bind, Par, Seq, Split, Merge, Rec}
+use Rattle.fv_diagram.specs.Diagram.{IsWellFormed}
 
 pub well_is_composed : (d : Diagram) → IsWellFormed d → IsComposed d
 well_is_composed (Primitive p) h = tt

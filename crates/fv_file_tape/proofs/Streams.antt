@@ -7,14 +7,18 @@ use Rattle.std.proofs.lemmas.List.{append-nil}
 use Rattle.std.proofs.lemmas.Grind.{flat_map-append}
 use Rattle.fv_base.specs.declared.role.Role.{Role}
 use Rattle.fv_base.specs.declared.role.Role.TheVariants.{Input, Output}
-use Rattle.fv_base.specs.Lists.{IsPrefixOf}
-use Rattle.fv_outside.specs.Requests.{to_write}
-use Rattle.fv_outside.specs.Desk.{DeskState, GoesOn, HasFault, KeepsFaults, KeepsFaultsBut, KeepsLeft, KeepsWrittenBut, KeepsBytes, IsUnfailing, Appends, Takes}
+use Rattle.fv_base.specs.headline.Lists.{IsPrefixOf}
+use Rattle.fv_outside.specs.headline.Requests.{to_write}
+use Rattle.fv_outside.specs.headline.Desk.{DeskState, GoesOn, HasFault, KeepsFaults, IsUnfailing}
+use Rattle.fv_outside.specs.Desk.{KeepsFaultsBut, KeepsLeft, KeepsWrittenBut, KeepsBytes, Appends, Takes}
 use Rattle.fv_outside.proofs.States.{told_before, goes_on_then, fault_earlier, unfailing_later}
-use Rattle.fv_pcm.specs.Coded.{samples_in, sample_bytes}
-use Rattle.fv_pcm.specs.Sizes.{frame_size, stated_frames, whole_bytes}
+use Rattle.fv_pcm.specs.headline.Coded.{sample_bytes}
+use Rattle.fv_pcm.specs.Coded.{samples_in}
+use Rattle.fv_pcm.specs.headline.Sizes.{frame_size, stated_frames, whole_bytes}
 use Rattle.fv_wav.specs.Stopping.{Passes}
-use Rattle.fv_file_tape.specs.Tapes.{IsInput, IsTape, AreTaken, AreHeard, Streams, HasBegun, Streamed, CannotBegin, CannotHear, CannotGoOn, Misses}
+use Rattle.fv_file_tape.specs.headline.Tapes.{HasBegun}
+use Rattle.fv_file_tape.specs.Tapes.{IsInput, IsTape, AreTaken, AreHeard, Streams, Streamed, CannotBegin, CannotHear, CannotGoOn}
+use Rattle.fv_file_tape.specs.inner.Tapes.{Misses}
 use Rattle.fv_file_tape.specs.Tapes.{Files, channels_of, layout_of, head_of, front}
 use Rattle.fv_file_tape.specs.declared.samples.InputSamples.{InputSamples}
 use Rattle.fv_file_tape.specs.declared.file_tape.FileTape.{FileTape}

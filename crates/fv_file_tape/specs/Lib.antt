@@ -1,1 +1,3 @@
+pub mod headline
 pub mod Tapes
+pub mod inner

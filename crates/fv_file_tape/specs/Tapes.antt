@@ -1,27 +1,27 @@
--- What was heard of an input and said to an output, and how that stops (RIFF WAVE 1991; Sun audio; this project's profile).
-use Rattle.std.specs.Prelude.{◌≡◌, ◌≢◌, ◌⊎◌, ℕ, true, ◌+◌, ◌*◌, ◌/◌, ◌%◌, ◌^◌, ◌<◌, ◌≤◌, IsTrue, List, [], ◌∷◌, ◌++◌, length}
+-- What calls say beside `headline/Tapes`: what was heard of an input and said to an output, and how that stops (RIFF WAVE 1991; Sun audio; this project's profile).
+use Rattle.std.specs.Prelude.{◌≡◌, ◌≢◌, ◌⊎◌, ℕ, true, ◌+◌, ◌*◌, ◌/◌, ◌^◌, ◌<◌, ◌≤◌, IsTrue, List, [], ◌∷◌, ◌++◌, length}
 use Rattle.std.specs.Prelude.{drop, flat_map, ℤ, Option, Some, None, option_map}
 use Rattle.std.specs.Option.{ForSome}
 use Rattle.fv_base.specs.declared.limits.TheConstants.{MOST_CHANNELS}
 use Rattle.fv_base.specs.declared.role.Role.{Role}
 use Rattle.fv_base.specs.declared.role.Role.TheVariants.{Input, Output}
-use Rattle.fv_base.specs.Lists.{IsPrefixOf}
-use Rattle.fv_num.specs.Words.{is_sample_width}
-use Rattle.fv_outside.specs.Requests.{to_write}
-use Rattle.fv_outside.specs.Desk.{DeskState, GoesOn, HasFault, KeepsFaults, KeepsFaultsBut, IsUnfailing, TakesSome}
+use Rattle.fv_base.specs.headline.Lists.{IsPrefixOf}
+use Rattle.fv_num.specs.headline.Words.{is_sample_width}
+use Rattle.fv_outside.specs.headline.Requests.{to_write}
+use Rattle.fv_outside.specs.headline.Desk.{DeskState, GoesOn, HasFault, KeepsFaults, IsUnfailing}
+use Rattle.fv_outside.specs.Desk.{KeepsFaultsBut}
 use Rattle.fv_tape.specs.Acts.{Act, Beginning, Hearing, Saying}
 use Rattle.fv_pcm.specs.declared.coding.Coding.{Coding}
-use Rattle.fv_pcm.specs.declared.coding.Coding.TheVariants as coding
-use Rattle.fv_pcm.specs.Coded.{samples_in, sample_bytes}
-use Rattle.fv_pcm.specs.Sizes.{Layout, frame_size, stated_frames, whole_bytes, data_limit}
+use Rattle.fv_pcm.specs.headline.Coded.{sample_bytes}
+use Rattle.fv_pcm.specs.Coded.{samples_in}
+use Rattle.fv_pcm.specs.headline.Sizes.{Layout, frame_size, stated_frames, whole_bytes, data_limit}
 use Rattle.fv_wav.specs.Stopping.{IsFaultOfInput}
-use Rattle.fv_wav.specs.Samples.{head_bytes}
-use Rattle.fv_au.specs.Reading.{head_bytes as au_head_bytes}
 use Rattle.fv_file_tape.specs.declared.samples.InputSamples.{InputSamples}
 use Rattle.fv_file_tape.specs.declared.file_tape.OutputHead.{OutputHead}
 use Rattle.fv_file_tape.specs.declared.file_tape.FileTape.{FileTape}
 use Rattle.fv_file_tape.specs.declared.file_tape.Stop.{Stop}
 use Rattle.fv_file_tape.specs.declared.file_tape.Stop.TheVariants as stop
+use Rattle.fv_file_tape.specs.headline.Tapes.{head_in, HasBegun, KeepsOutput}
 
 -- how many samples a frame of the input has: none where there is no input
 abbrev pub channels_of : Option InputSamples → ℕ
@@ -31,11 +31,6 @@ channels_of (Some i) = i.channels
 -- where its samples lie in its file
 abbrev pub layout_of : InputSamples → Layout
 layout_of i = record { channels = i.channels; bits = i.bits; size = i.size; place = i.place }
-
--- the bytes of a head
-abbrev pub head_in : Coding → (channels rate bits size : ℕ) → List ℕ
-head_in coding.Wave channels rate bits size = head_bytes channels rate bits size
-head_in coding.Au channels rate bits size = au_head_bytes channels rate bits size
 
 abbrev pub head_of : OutputHead → List ℕ
 head_of head = head_in head.coding head.channels head.rate head.bits head.size
@@ -85,10 +80,6 @@ pub record Streams (name : List ℕ) (start now : DeskState) : Type 0 where
   pub left : IsTrue start.tells → (r : Role) → r ≢ Input → now.left r ≡ start.left r
   pub written : IsTrue start.tells → (r : Role) → r ≢ Output → now.written r ≡ start.written r
 
--- writing of the output began once
-abbrev pub HasBegun : (start now : DeskState) → Type 0
-HasBegun start now = now.begins Output ≡ (start.begins Output + 1) % 2 ^ 64
-
 -- these samples were taken from the front of the bytes
 pub record AreTaken (c : Coding) (bits : ℕ) (h : List ℤ) (before after : List ℕ) : Type 0 where
   pub are : h ≡ samples_in c bits (length h) before
@@ -116,24 +107,12 @@ pub record CannotSay (bytes : List ℕ) (start now : DeskState) : Type 0 where
   pub others : KeepsFaultsBut Output start now
   pub unsure : IsTrue start.tells → IsUnfailing Output start → length bytes ≤ start.room Output → ⊥
 
--- the output was not begun, and is as it was
-pub record KeepsOutput (start now : DeskState) : Type 0 where
-  pub begins : now.begins Output ≡ start.begins Output
-  pub written : IsTrue start.tells → now.written Output ≡ start.written Output
-
 -- The output did not begin; it is as it was, or has a part of its head from its front.
 pub record CannotBegin (f : Files) (start now : DeskState) : Type 0 where
   pub streams : Streams f.output start now
   pub cannot : CannotSay (front f []) start now
   pub left : IsTrue start.tells → now.left Input ≡ start.left Input
   pub output : KeepsOutput start now ⊎ (HasBegun start now × (IsTrue start.tells → IsPrefixOf (now.written Output) (front f [])))
-
--- So many bytes could not be taken of the input, at a place: a fault was counted, or fewer are left, all of which were taken.
-pub record Misses (n place : ℕ) (old new : DeskState) (e : Stop) : Type 0 where
-  pub some : TakesSome Input old new
-  pub cause : ((e ≡ stop.Read) × IsFaultOfInput old new)
-      ⊎ ((end : ℕ) × (e ≡ stop.End end) × KeepsFaults old new
-      × (IsTrue old.tells → (length (old.left Input) < n) × (new.left Input ≡ []) × (end ≡ place + length (old.left Input))))
 
 -- a fault of the input was counted
 abbrev pub InputFails : (start now : DeskState) → Stop → Type 0

@@ -3,13 +3,16 @@
 ghost use Rattle.std.specs.Prelude.{◌≡◌, ◌+◌, ◌*◌, ◌/◌, ◌^◌, ◌<◌, ◌≤◌, List, ℕ, length, drop, true, flat_map, IsTrue, IsOk, IfErr, OnOk, OnErr};
 ghost use Rattle.fv_base.specs.declared.limits.TheConstants.{MOST_CHANNELS};
 ghost use Rattle.fv_base.specs.declared.role.Role.TheVariants.{Input, Output};
-ghost use Rattle.fv_base.specs.Lists.{IsPrefixOf};
-ghost use Rattle.fv_num.specs.Words.{is_sample_width};
-ghost use Rattle.fv_outside.specs.Desk.{HasFault, KeepsFaults, IsUnfailing, Appends};
-ghost use Rattle.fv_pcm.specs.Coded.{samples_in, sample_bytes};
-ghost use Rattle.fv_pcm.specs.Sizes.{data_limit, frame_size};
+ghost use Rattle.fv_base.specs.headline.Lists.{IsPrefixOf};
+ghost use Rattle.fv_num.specs.headline.Words.{is_sample_width};
+ghost use Rattle.fv_outside.specs.headline.Desk.{HasFault, KeepsFaults, IsUnfailing};
+ghost use Rattle.fv_outside.specs.Desk.{Appends};
+ghost use Rattle.fv_pcm.specs.headline.Coded.{sample_bytes};
+ghost use Rattle.fv_pcm.specs.Coded.{samples_in};
+ghost use Rattle.fv_pcm.specs.headline.Sizes.{data_limit, frame_size};
 ghost use Rattle.fv_wav.specs.Stopping.{Passes};
-ghost use Rattle.fv_file_tape.specs.Tapes.{IsInput, Misses, head_of};
+ghost use Rattle.fv_file_tape.specs.Tapes.{IsInput, head_of};
+ghost use Rattle.fv_file_tape.specs.inner.Tapes.{Misses};
 
 use crate::file_tape::{OutputHead, Stop};
 use fv_au::{write_au_frames, write_au_head};

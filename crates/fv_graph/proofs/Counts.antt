@@ -3,7 +3,8 @@ use Rattle.std.proofs.Common.{◌≡◌, ◌≢◌, ℕ, zero, suc, ◌+◌, ◌
 use Rattle.std.proofs.Common.{set, refl, sym, ap, ◌∙◌, arith, eq-eqb, ne_eqb, ltb, leb, ◌||◌, ltb-true, true≢false, ◌==◌, map}
 use mathlib.Core.Logic.{dite}
 use native.Mathlib.Decide.{ℕ_discrete}
-use Rattle.fv_outside.specs.Tasks.{bit, total, times}
+use Rattle.fv_outside.specs.headline.Tasks.{bit, total}
+use Rattle.fv_outside.specs.Tasks.{times}
 use Rattle.fv_graph.specs.Words.{passing}
 
 pub bit_le : (b : Bool) → bit b ≤ 1

@@ -3,7 +3,8 @@ use Rattle.std.proofs.Common.{◌≡◌, ◌≢◌, ℕ, suc, ◌+◌, ◌-◌, 
 use Rattle.std.proofs.Common.{◌∙◌, arith, ltb, leb, lt-ltb, ltb-true, true≢false, ◌==◌, eq-eqb, mul-le-mul_right, suc-mul, div-add-mod', mod-lt}
 use mathlib.Core.Logic.{dite}
 use native.Mathlib.Decide.{ℕ_discrete, dec_le}
-use Rattle.fv_outside.specs.Tasks.{Tasks, bit, times, task_count}
+use Rattle.fv_outside.specs.headline.Tasks.{Tasks, bit}
+use Rattle.fv_outside.specs.Tasks.{times, task_count}
 use Rattle.fv_graph.specs.Words.{passing}
 use Rattle.fv_graph.specs.Net.{IsNet}
 use Rattle.fv_graph.specs.Graph.{IsGraph, pair_at, stride, edges_of, task_at, loop_of, vector_of, chain_edge, pair_edge, pair_edges_into, pair_edges_out}

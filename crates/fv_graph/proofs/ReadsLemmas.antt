@@ -3,7 +3,8 @@ use Rattle.std.proofs.Common.{◌≡◌, ℕ, zero, suc, ◌+◌, ◌-◌, ◌*�
 use Rattle.std.proofs.Common.{refl, sym, ap, ◌∙◌, subst, arith, ltb, lt-ltb, ltb-true, true≢false, ◌==◌, eq-eqb, suc-mul, div-add-mod', mod-lt}
 use mathlib.Core.Logic.{dite}
 use native.Mathlib.Decide.{ℕ_discrete, dec_le}
-use Rattle.fv_outside.specs.Tasks.{Tasks, bit, times, task_count, reads_loop, reads_task}
+use Rattle.fv_outside.specs.headline.Tasks.{Tasks, bit, reads_loop, reads_task}
+use Rattle.fv_outside.specs.Tasks.{times, task_count}
 use Rattle.fv_outside.specs.declared.tasks.Reads.{Reads}
 use Rattle.fv_graph.specs.Words.{passing}
 use Rattle.fv_graph.specs.Graph.{IsGraph, is_before, no_reads, pair_at, stride, loop_of, vector_of, task_of, chain_edge, pair_edge}

@@ -7,7 +7,7 @@ use Rattle.std.proofs.lemmas.List.Sorted.{sum_by-IsPermutation}
 use Rattle.std.proofs.lemmas.List.Sums.{sum_by-cons}
 use mathlib.Core.Logic.{dite}
 use native.Mathlib.Decide.{ℕ_discrete}
-use Rattle.fv_outside.specs.Tasks.{bit, total, reads_loop}
+use Rattle.fv_outside.specs.headline.Tasks.{bit, total, reads_loop}
 use Rattle.fv_outside.specs.declared.tasks.Reads.{Reads}
 use Rattle.fv_graph.specs.Graph.{no_reads, is_before, ArePairs, IsGraph}
 use Rattle.fv_graph.proofs.Counts.{both_true, both_of, eq_of, either_left, either_right, total_at, bools_agree}

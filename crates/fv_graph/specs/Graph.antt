@@ -3,7 +3,8 @@
 use Rattle.std.specs.Prelude.{◌≡◌, ℕ, ◌+◌, ◌-◌, ◌*◌, ◌/◌, ◌%◌, ◌<◌, Bool, true, cond, ◌&&◌, ◌||◌, not, List}
 use Rattle.std.specs.Prelude.{◌∷◌, map, length, ltb, leb, ◌==◌, slice_index_or, refl}
 use Rattle.std.specs.Coded.{Coded, code_by, coded×, coded_ℕ}
-use Rattle.fv_outside.specs.Tasks.{Tasks, coded_tasks, task_count, bit, total}
+use Rattle.fv_outside.specs.headline.Tasks.{Tasks, bit, total}
+use Rattle.fv_outside.specs.Tasks.{coded_tasks, task_count}
 use Rattle.fv_outside.specs.declared.tasks.Reads.{Reads}
 use Rattle.fv_outside.specs.declared.tasks.Task.{Task}
 use Rattle.fv_graph.specs.Words.{passing}

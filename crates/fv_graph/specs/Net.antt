@@ -1,7 +1,8 @@
 -- What the scheduler knows of a graph of tasks: which tasks there are, and which inner edges go into and out of each.
 -- An inner edge is one that has a source and a reader, so neither an entry edge nor an exit edge (this project's profile).
 use Rattle.std.specs.Prelude.{◌≡◌, ℕ, ◌<◌, Bool, true, ◌&&◌, List, length, ◌==◌}
-use Rattle.fv_outside.specs.Tasks.{bit, times}
+use Rattle.fv_outside.specs.headline.Tasks.{bit}
+use Rattle.fv_outside.specs.Tasks.{times}
 
 pub record Net : Type 0 where
   pub tasks : ℕ

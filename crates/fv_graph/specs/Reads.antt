@@ -1,6 +1,7 @@
 -- What the edges mean: which tasks a task reads, and which read it (this project's profile).
 use Rattle.std.specs.Prelude.{◌≡◌, ℕ, ◌<◌, List, map, AllPairs}
-use Rattle.fv_outside.specs.Tasks.{Tasks, bit, times, task_count, reads_task}
+use Rattle.fv_outside.specs.headline.Tasks.{Tasks, bit, reads_task}
+use Rattle.fv_outside.specs.Tasks.{times, task_count}
 use Rattle.fv_graph.specs.Graph.{task_of, source_of, reader_of, needs_of, feeds_of, pair_edges_into, pair_edges_out}
 
 -- each number is below those behind it

@@ -1,6 +1,7 @@
 -- What the board knows of a graph beside its net: all edges into and out of a task, with entry and exit edges (this project's profile).
 use Rattle.std.specs.Prelude.{◌≡◌, ℕ, ◌+◌, ◌<◌, Bool, true, ◌&&◌, ◌||◌, List, ◌==◌}
-use Rattle.fv_outside.specs.Tasks.{Tasks, bit, times}
+use Rattle.fv_outside.specs.headline.Tasks.{Tasks, bit}
+use Rattle.fv_outside.specs.Tasks.{times}
 use Rattle.fv_graph.specs.Net.{Net, IsNet}
 use Rattle.fv_graph.specs.Graph.{net_of, edges_of, inward, outward, is_entry, is_exit}
 

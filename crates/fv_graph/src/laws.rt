@@ -1,7 +1,8 @@
 // The laws of tasks and edges.
 
 ghost use Rattle.std.specs.Prelude.{ℕ, ◌<◌};
-ghost use Rattle.fv_outside.specs.Tasks.{Tasks, task_count};
+ghost use Rattle.fv_outside.specs.headline.Tasks.{Tasks};
+ghost use Rattle.fv_outside.specs.Tasks.{task_count};
 ghost use Rattle.fv_graph.specs.Graph.{IsGraph};
 ghost use Rattle.fv_graph.specs.Wires.{IsWires, wires_of};
 ghost use Rattle.fv_graph.specs.Reads.{ReadsLaw};

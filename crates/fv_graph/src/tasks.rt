@@ -3,7 +3,8 @@
 ghost use Rattle.std.specs.Prelude.{◌≡◌, ℕ, ◌+◌, ◌*◌, ◌^◌, ◌<◌, ◌≤◌, length, IfOk, OnOk};
 ghost use Rattle.fv_graph.specs.Graph.{Graph, IsGraph, ArePairs, edges_of, inward, outward, feeds_of, reader_of, net_of, task_of};
 ghost use Rattle.std.specs.List.Sorted.{IsPermutation};
-ghost use Rattle.fv_outside.specs.Tasks.{task_count, reads_loop};
+ghost use Rattle.fv_outside.specs.headline.Tasks.{reads_loop};
+ghost use Rattle.fv_outside.specs.Tasks.{task_count};
 ghost use Rattle.fv_graph.specs.Net.{need_count};
 
 use crate::groups::{group, readers, sources};

@@ -4,27 +4,29 @@ use Rattle.std.proofs.Common.{refl, sym, ap, ap₂, ◌∙◌, subst, arith, All
 use Rattle.std.proofs.lemmas.List.{length-append, length-take-le, length-drop, length-replicate, length-map, length-reverse, get_or-replicate, get_or-take}
 use Rattle.std.proofs.lemmas.List.Elements.{All-get_or, All-cons, All-take, All-head, All-tail}
 use Rattle.std.proofs.lemmas.Bool.{true≢false}
-use Rattle.fv_num.specs.Tables.{place, read_at, last_written, written_at}
+use Rattle.fv_num.specs.headline.Tables.{place, read_at, last_written, written_at}
 use Rattle.std.proofs.lemmas.Int.{ints, clamps}
 use Rattle.std.proofs.Math.Nat.{mod-lt}
 use Rattle.fv_num.specs.declared.op.Op.TheVariants.{Add}
-use Rattle.fv_num.specs.Words.{argument, apply_of}
-use Rattle.fv_num.specs.Frames.{Frame, Stream, frame_at, column, table, delayed, prefixed, back}
-use Rattle.fv_num.specs.Interval.{Interval, IsWithin, IsSpan, full, point, hull, span_at}
-use Rattle.fv_num.specs.Spans.{span_of}
+use Rattle.fv_num.specs.headline.Words.{argument, apply_of}
+use Rattle.fv_num.specs.headline.Frames.{Frame, Stream, frame_at, column, table, delayed, prefixed, back}
+use Rattle.fv_num.specs.headline.Interval.{Interval, IsWithin, IsSpan, full, point, hull, span_at}
+use Rattle.fv_num.specs.headline.Spans.{span_of}
 use Rattle.fv_base.proofs.Lists.{length_table, table_items}
 use Rattle.fv_num.proofs.Closed.{holds, closed}
 use Rattle.fv_diagram.specs.declared.node.Primitive.{Primitive as Prim}
 use Rattle.fv_diagram.specs.declared.node.Primitive.TheVariants as prim
-use Rattle.fv_diagram.specs.Diagram.{Diagram, Primitive, Constant, Control, Slot, Wave, Table, Bind, Par, Seq, Split, Merge, Rec, inputs, outputs}
-use Rattle.fv_diagram.specs.Diagram.{primitive_inputs, table_inputs, is_table_primitive, IsWellFormed, AreNumbers}
+use Rattle.fv_diagram.specs.headline.Diagram.{Diagram, Primitive, Constant, Control, Slot, Wave, Table, Bind, Par, Seq, Split, Merge, Rec, inputs, outputs}
+use Rattle.fv_diagram.specs.headline.Diagram.{primitive_inputs, table_inputs, is_table_primitive}
+use Rattle.fv_diagram.specs.Diagram.{IsWellFormed, AreNumbers}
 use Rattle.fv_diagram.specs.Laws.{fed_back_over}
-use Rattle.fv_diagram.specs.Streams.{primitive_at, wave_at, table_at, beside, dealt, every, added, wrapped_sum, merged, bound, fed_back, run}
+use Rattle.fv_diagram.specs.headline.Streams.{primitive_at, wave_at, table_at, beside, dealt, every, added, wrapped_sum, merged, bound, fed_back, run}
 use Rattle.fv_diagram.proofs.Lists.{length_beside}
 use Rattle.fv_diagram.proofs.Causality.{length_run}
 use Rattle.fv_diagram.proofs.Each.{each_table, each_map, each_beside, each_reverse, each_feedback}
-use Rattle.fv_interval.specs.WireSpans.{primitive_spans, hull_with, hull_of, table_span, added_span, summed_span, merged_spans, bound_span, spans}
-use Rattle.fv_interval.specs.Laws.{IsOf, AreOf, AnswersHold, AllDelaysHold}
+use Rattle.fv_interval.specs.headline.WireSpans.{primitive_spans, hull_with, hull_of, table_span, added_span, summed_span, merged_spans, bound_span, spans}
+use Rattle.fv_interval.specs.headline.Laws.{IsOf}
+use Rattle.fv_interval.specs.Laws.{AreOf, AnswersHold, AllDelaysHold}
 
 -- ---- lists of numbers and of spans
 

@@ -4,18 +4,22 @@ use Rattle.std.proofs.lemmas.List.{length-append, take-append-drop, take_more, m
 use Rattle.std.proofs.lemmas.List.Elements.{All-push}
 use Rattle.std.proofs.lemmas.List.Sums.{sum_by-append}
 use Rattle.fv_base.proofs.Lists.{drop_step, length_table}
-use Rattle.fv_num.specs.Frames.{table}
-use Rattle.fv_num.specs.Interval.{Interval, full, point, span_at}
+use Rattle.fv_num.specs.headline.Frames.{table}
+use Rattle.fv_num.specs.headline.Interval.{Interval, full, point, span_at}
 use Rattle.fv_diagram.specs.declared.node.Primitive.TheVariants as prim
-use Rattle.fv_diagram.specs.Diagram.{Diagram, Primitive, Constant, Control, Slot, Wave, Table, Bind, Par, Seq, Split, Merge, Rec, inputs, size, IsWellFormed}
+use Rattle.fv_diagram.specs.headline.Diagram.{Diagram, Primitive, Constant, Control, Slot, Wave, Table, Bind, Par, Seq, Split, Merge, Rec, inputs, size}
+use Rattle.fv_diagram.specs.Diagram.{IsWellFormed}
 use Rattle.fv_diagram.specs.Walked.{walked}
-use Rattle.fv_diagram.specs.Streams.{dealt}
+use Rattle.fv_diagram.specs.headline.Streams.{dealt}
 use Rattle.fv_diagram.proofs.Trees.{inputs_within}
 use Rattle.fv_interval.specs.declared.refusal.DelayRefusal.{DelayRefusal}
 use Rattle.fv_interval.specs.declared.refusal.DelayRefusal.TheVariants as refusal
-use Rattle.fv_interval.specs.SpanHooks.{Noted, control_span, span_hooks}
-use Rattle.fv_interval.specs.WireSpans.{bound_span, merged_spans, spans, delay_spans}
-use Rattle.fv_interval.specs.Delays.{delays_of, delay_limit, amount, amounts, AreDelays, IsDelay, IsSpanRefused, IsFirstRefused, IsRefused}
+use Rattle.fv_interval.specs.headline.SpanHooks.{control_span}
+use Rattle.fv_interval.specs.inner.SpanHooks.{Noted, span_hooks}
+use Rattle.fv_interval.specs.headline.WireSpans.{bound_span, merged_spans, spans, delay_spans}
+use Rattle.fv_interval.specs.headline.Delays.{delays_of, delay_limit, amount, amounts}
+use Rattle.fv_interval.specs.Delays.{AreDelays, IsDelay, IsSpanRefused, IsFirstRefused}
+use Rattle.fv_interval.specs.inner.Delays.{IsRefused}
 use Rattle.fv_interval.proofs.SpansWalked.{spans_walked}
 
 -- ---- how many there are

@@ -7,19 +7,21 @@ use Rattle.std.proofs.lemmas.List.{length-append, length-take-le, length-drop, l
 use Rattle.std.proofs.Math.Nat.{mod-lt}
 use Rattle.fv_base.proofs.Lists.{length_table, table_same, table_items}
 use Rattle.fv_num.specs.declared.op.Op.TheVariants.{Add}
-use Rattle.fv_num.specs.Frames.{table}
-use Rattle.fv_num.specs.Interval.{Interval, full, point}
-use Rattle.fv_num.specs.Spans.{span_of}
+use Rattle.fv_num.specs.headline.Frames.{table}
+use Rattle.fv_num.specs.headline.Interval.{Interval, full, point}
+use Rattle.fv_num.specs.headline.Spans.{span_of}
 use Rattle.fv_diagram.specs.declared.node.Primitive.{Primitive as Prim}
 use Rattle.fv_diagram.specs.declared.node.Primitive.TheVariants as prim
-use Rattle.fv_diagram.specs.Diagram.{Diagram, Primitive, Constant, Control, Slot, Wave, Table, Bind, Par, Seq, Split, Merge, Rec, inputs, outputs}
-use Rattle.fv_diagram.specs.Diagram.{primitive_inputs, is_table_primitive, IsWellFormed}
-use Rattle.fv_diagram.specs.Streams.{dealt, every}
+use Rattle.fv_diagram.specs.headline.Diagram.{Diagram, Primitive, Constant, Control, Slot, Wave, Table, Bind, Par, Seq, Split, Merge, Rec, inputs, outputs}
+use Rattle.fv_diagram.specs.headline.Diagram.{primitive_inputs, is_table_primitive}
+use Rattle.fv_diagram.specs.Diagram.{IsWellFormed}
+use Rattle.fv_diagram.specs.headline.Streams.{dealt, every}
 use Rattle.fv_diagram.specs.Walked.{walked, added, summed}
 use Rattle.fv_diagram.proofs.Sums.{every_front}
 use Rattle.fv_diagram.proofs.Turns.{not_below}
-use Rattle.fv_interval.specs.WireSpans.{hull_of, table_span, added_span, summed_span, merged_spans, bound_span, spans, delay_spans}
-use Rattle.fv_interval.specs.SpanHooks.{Noted, with_delays, control_span, closed_of, span_hooks}
+use Rattle.fv_interval.specs.headline.WireSpans.{hull_of, table_span, added_span, summed_span, merged_spans, bound_span, spans, delay_spans}
+use Rattle.fv_interval.specs.headline.SpanHooks.{control_span}
+use Rattle.fv_interval.specs.inner.SpanHooks.{Noted, with_delays, closed_of, span_hooks}
 use Rattle.fv_interval.proofs.Holds.{answers_length}
 
 -- no delay more, and some delays and then others

@@ -1,16 +1,14 @@
--- Laws on the spans of wires: what they are for (this project's profile).
-use Rattle.std.specs.Prelude.{◌≡◌, ℕ, ◌<◌, List, [], ◌∷◌, ◌++◌, length, map, take, drop, ℤ, pos, All}
-use Rattle.fv_num.specs.Frames.{Frame, Stream, table}
-use Rattle.fv_num.specs.Interval.{Interval, IsWithin, IsSpan, full, point, span_at}
+-- What calls say beside `headline/Laws`: laws on the spans of wires: what they are for (this project's profile).
+use Rattle.std.specs.Prelude.{◌≡◌, ℕ, ◌<◌, List, [], ◌∷◌, ◌++◌, length, map, take, drop, pos, All}
+use Rattle.fv_num.specs.headline.Frames.{Frame, Stream, table}
+use Rattle.fv_num.specs.headline.Interval.{Interval, IsWithin, full, point, span_at}
 use Rattle.fv_diagram.specs.declared.node.Primitive.TheVariants.{Delay}
-use Rattle.fv_diagram.specs.Diagram.{Diagram, Primitive, Constant, Control, Slot, Wave, Table, Bind, Par, Seq, Split, Merge, Rec, inputs, IsWellFormed, HasNumbers}
-use Rattle.fv_diagram.specs.Streams.{column, beside, dealt, merged, bound, run}
+use Rattle.fv_diagram.specs.headline.Diagram.{Diagram, Primitive, Constant, Control, Slot, Wave, Table, Bind, Par, Seq, Split, Merge, Rec, inputs}
+use Rattle.fv_diagram.specs.Diagram.{IsWellFormed, HasNumbers}
+use Rattle.fv_diagram.specs.headline.Streams.{column, beside, dealt, merged, bound, run}
 use Rattle.fv_diagram.specs.Laws.{fed_back_over}
-use Rattle.fv_interval.specs.WireSpans.{bound_span, merged_spans, spans}
-
--- a number of a span of 32-bit numbers
-abbrev pub IsOf : Interval → ℤ → Type 0
-IsOf s z = IsSpan s × IsWithin s z
+use Rattle.fv_interval.specs.headline.WireSpans.{bound_span, merged_spans, spans}
+use Rattle.fv_interval.specs.headline.Laws.{IsOf}
 
 -- each number of the frame is one of its span
 abbrev pub AreOf : List Interval → Frame → Type 0
@@ -42,6 +40,7 @@ DelaysHold (Split a b) c e I cs es X =
     DelaysHold a c e I cs es X × DelaysHold b c e (dealt (point (pos 0)) (inputs b) (spans a c e I)) cs es (map (dealt (pos 0) (inputs b)) (run a cs es X))
 DelaysHold (Merge a b) c e I cs es X =
     DelaysHold a c e I cs es X × DelaysHold b c e (merged_spans (inputs b) (spans a c e I)) cs es (map (merged (inputs b)) (run a cs es X))
+
 -- B is given the whole answer one sample later, and A what B answers on it, beside the frames
 DelaysHold (Rec a b) c e I cs es X =
     let F = table (inputs b) (λ i. full) in

@@ -1,6 +1,4 @@
-pub mod WireSpans
+pub mod headline
 pub mod Laws
-pub mod SpanHooks
 pub mod Delays
-pub mod Controls
 pub mod inner

@@ -1,1 +1,3 @@
 pub mod Inside
+pub mod Delays
+pub mod SpanHooks

@@ -2,7 +2,7 @@
 
 ghost use Rattle.std.specs.Prelude.{◌≡◌, All, IfOk};
 ghost use Rattle.fv_diagram.specs.Controls.{IsBounded};
-ghost use Rattle.fv_interval.specs.Controls.{spans_of};
+ghost use Rattle.fv_interval.specs.headline.Controls.{spans_of};
 
 use fv_diagram::ControlInfo;
 use fv_num::Span;

@@ -1,11 +1,15 @@
 // The delays of a diagram, in the order of the walk.
 
 ghost use Rattle.std.specs.Prelude.{◌≡◌, ◌<◌, ◌≤◌, ℕ, length, IfOk, IfErr, OnOk, sum, slice_index, ◌==◌};
-ghost use Rattle.fv_num.specs.Interval.{Interval};
-ghost use Rattle.fv_diagram.specs.Diagram.{inputs, control_bound, IsWellFormed, HasNoFreeSlot};
+ghost use Rattle.fv_num.specs.headline.Interval.{Interval};
+ghost use Rattle.fv_diagram.specs.headline.Diagram.{inputs};
+ghost use Rattle.fv_diagram.specs.Diagram.{control_bound, IsWellFormed, HasNoFreeSlot};
 ghost use Rattle.fv_diagram.specs.Arena.{count_of, tree_of};
-ghost use Rattle.fv_interval.specs.Delays.{delays_of, amounts, amount, IsDelay, AreDelays, AreAccepted, IsRefused, IsSpanRefused, IsDelayRefusal};
-ghost use Rattle.fv_interval.specs.Delays.{delay_limit, most_delays};
+ghost use Rattle.fv_interval.specs.headline.Delays.{delays_of, amounts, amount};
+ghost use Rattle.fv_interval.specs.Delays.{IsDelay, AreDelays, AreAccepted, IsSpanRefused, IsDelayRefusal};
+ghost use Rattle.fv_interval.specs.inner.Delays.{IsRefused};
+ghost use Rattle.fv_interval.specs.headline.Delays.{delay_limit};
+ghost use Rattle.fv_interval.specs.inner.Delays.{most_delays};
 ghost use Rattle.fv_interval.specs.Laws.{AnswersHold, AllDelaysHold};
 
 use crate::refusal::DelayRefusal;

@@ -1,6 +1,6 @@
 // Laws on the spans of wires.
 
-ghost use Rattle.fv_diagram.specs.Diagram.{Diagram};
+ghost use Rattle.fv_diagram.specs.headline.Diagram.{Diagram};
 ghost use Rattle.fv_interval.specs.Laws.{AnswersHold, AllDelaysHold};
 
 /// No answer ever leaves its span while no input, control or slot leaves its own.

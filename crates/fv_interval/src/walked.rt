@@ -1,11 +1,12 @@
 // What a walk over a diagram makes of spans.
 
 ghost use Rattle.std.specs.Prelude.{◌≡◌, ◌≤◌, ℕ, [], ◌∷◌, ◌++◌, length, IfOk, OnOk};
-ghost use Rattle.fv_diagram.specs.Diagram.{table_inputs};
-ghost use Rattle.fv_num.specs.Frames.{table};
-ghost use Rattle.fv_num.specs.Interval.{full};
-ghost use Rattle.fv_interval.specs.WireSpans.{hull_of, table_span};
-ghost use Rattle.fv_interval.specs.SpanHooks.{span_hooks, IsSpanned, fed_of, note, noted_ones, control_span};
+ghost use Rattle.fv_diagram.specs.headline.Diagram.{table_inputs};
+ghost use Rattle.fv_num.specs.headline.Frames.{table};
+ghost use Rattle.fv_num.specs.headline.Interval.{full};
+ghost use Rattle.fv_interval.specs.headline.WireSpans.{hull_of, table_span};
+ghost use Rattle.fv_interval.specs.headline.SpanHooks.{control_span};
+ghost use Rattle.fv_interval.specs.inner.SpanHooks.{span_hooks, IsSpanned, fed_of, note, noted_ones};
 
 use fv_diagram::{Leaf, Signals};
 use fv_num::{Span, span_of};
@@ -23,7 +24,7 @@ pub struct Walked {
 }
 
 impl Model for Walked {
-    ghost use Rattle.fv_interval.specs.SpanHooks.{Noted};
+    ghost use Rattle.fv_interval.specs.inner.SpanHooks.{Noted};
     ghost use Rattle.fv_interval.specs.inner.Inside.{noted_of};
 
     ghost Value = { Noted };

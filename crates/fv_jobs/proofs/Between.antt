@@ -2,7 +2,7 @@
 use Rattle.std.proofs.Common.{◌≡◌, ℕ, Bool, true, false, List, [], ◌∷◌, ◌++◌, refl, sym, ap, ◌∙◌, inl, inr, ◌⊎◌, subst, append_assoc, append-nil}
 use Rattle.std.specs.Prelude.{if◌then◌else◌}
 use Rattle.std.specs.List.{AllByRecursion, concat, onto_first}
-use Rattle.fv_jobs.specs.Jobs.{is_feed, lines_in, is_separator, in_front, jobs_of, jobs_in}
+use Rattle.fv_jobs.specs.headline.Jobs.{is_feed, lines_in, is_separator, in_front, jobs_of, jobs_in}
 use Rattle.fv_jobs.specs.Between.{IsOneJob, IsEnded, IsCut, HasJobs, AreBetween}
 use Rattle.std.proofs.lemmas.Bool.{eqb-true}
 use Rattle.fv_jobs.proofs.Counting.{HasFirst, has_first, jobs_ended, jobs_longer}

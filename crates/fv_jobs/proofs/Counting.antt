@@ -2,7 +2,7 @@
 use Rattle.std.proofs.Common.{◌≡◌, ℕ, ◌+◌, ◌≤◌, Bool, true, false, List, [], ◌∷◌, ◌++◌, length, drop, refl, sym, ap, ◌∙◌, arith, append_assoc, append-nil}
 use Rattle.std.specs.Prelude.{if◌then◌else◌}
 use Rattle.std.proofs.lemmas.List.{drop_all}
-use Rattle.fv_jobs.specs.Jobs.{lines_in, is_separator, in_front, jobs_of, jobs_in}
+use Rattle.fv_jobs.specs.headline.Jobs.{lines_in, is_separator, in_front, jobs_of, jobs_in}
 
 -- there is a first text
 pub record HasFirst (texts : List (List ℕ)) : Type 0 where

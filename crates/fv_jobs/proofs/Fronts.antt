@@ -5,7 +5,8 @@ use Rattle.std.proofs.lemmas.List.{take_all}
 use Rattle.fv_base.specs.declared.limits.TheConstants.{LONGEST_TEXT}
 use Rattle.fv_base.specs.declared.role.Role.TheVariants.{Program}
 use Rattle.fv_jobs.specs.declared.refusal.JobsRefusal.TheVariants.{TextTooLong}
-use Rattle.fv_jobs.specs.File.{jobs_file, bytes_read, FrontIsEnough, JobsAreWhole}
+use Rattle.fv_jobs.specs.headline.File.{jobs_file}
+use Rattle.fv_jobs.specs.File.{bytes_read, FrontIsEnough, JobsAreWhole}
 
 too_long : (bytes : List ℕ) → LONGEST_TEXT < length bytes → jobs_file bytes ≡ Err (TextTooLong Program)
 too_long bytes h = let t = lt-leb (length bytes) LONGEST_TEXT h in rw t refl

@@ -6,7 +6,7 @@ use Rattle.std.proofs.lemmas.Bool.{ltb-true, ltb-false}
 use Rattle.std.proofs.lemmas.List.{take_all, drop_all, drop-drop}
 use Rattle.std.proofs.Math.Seq.{take-add}
 use Rattle.std.proofs.Common.{length-drop, length-take, ◌++◌}
-use Rattle.fv_jobs.specs.Jobs.{is_feed, lines_in}
+use Rattle.fv_jobs.specs.headline.Jobs.{is_feed, lines_in}
 
 -- the place of the first byte 10, of which there is one
 some_place : (n m i : ℕ) (b : Bool) → nat_lt n m ≡ b → (if b then Some n else None) ≡ Some i → (n ≡ i) × (n < m)

@@ -4,7 +4,7 @@ use Rattle.std.proofs.Common.{inl, inr, ◌⊎◌, subst}
 use Rattle.std.specs.Prelude.{codes, if◌then◌else◌, slice_index, ◌==◌, nat_lt}
 use Rattle.std.specs.Io.BufRead.{strip_last, ends_with_byte}
 use Rattle.std.proofs.lemmas.Slice.Eq.{bytes_eq-Decides}
-use Rattle.fv_jobs.specs.Jobs.{lines_in, is_separator}
+use Rattle.fv_jobs.specs.headline.Jobs.{lines_in, is_separator}
 use Rattle.fv_jobs.specs.Between.{IsEnded}
 use Rattle.std.proofs.Common.{get_or, suc, lit<}
 use Rattle.std.proofs.lemmas.Bool.{ltb-true, eqb-true}

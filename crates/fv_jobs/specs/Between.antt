@@ -1,7 +1,7 @@
 -- The texts between the separating lines of a file (this project's profile).
 use Rattle.std.specs.Prelude.{◌≡◌, ℕ, false, true, List, [], ◌∷◌, ◌++◌, ◌⊎◌}
 use Rattle.std.specs.List.{AllByRecursion}
-use Rattle.fv_jobs.specs.Jobs.{lines_in, is_separator, jobs_in}
+use Rattle.fv_jobs.specs.headline.Jobs.{lines_in, is_separator, jobs_in}
 
 -- a text of which no line separates jobs
 abbrev pub IsOneJob : List ℕ → Type 0

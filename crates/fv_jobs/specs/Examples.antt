@@ -1,6 +1,6 @@
 -- The definitions, computed on small files.
 use Rattle.std.specs.Prelude.{◌≡◌, [], ◌∷◌, codes, refl}
-use Rattle.fv_jobs.specs.Jobs.{jobs_in}
+use Rattle.fv_jobs.specs.headline.Jobs.{jobs_in}
 
 two : jobs_in (codes "a\n%%\nb\n") ≡ codes "a\n" ∷ codes "b\n" ∷ []
 two = refl

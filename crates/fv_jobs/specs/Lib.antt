@@ -1,4 +1,4 @@
-pub mod Jobs
+pub mod headline
 pub mod File
 pub mod Between
 pub mod Examples

@@ -2,7 +2,7 @@
 
 ghost use Rattle.std.specs.Prelude.{◌≡◌, ◌≤◌, ◌<◌, length, take, drop, map, position, IfOk, IfSome, ◌∷◌};
 ghost use Rattle.std.specs.Io.BufRead.{strip_last};
-ghost use Rattle.fv_jobs.specs.Jobs.{is_feed, lines_in, jobs_in, is_separator};
+ghost use Rattle.fv_jobs.specs.headline.Jobs.{is_feed, lines_in, jobs_in, is_separator};
 
 use std::alloc::{AllocError, Global};
 

@@ -1,8 +1,9 @@
 // Files of jobs.
 
 ghost use Rattle.std.specs.Prelude.{◌≡◌, ◌<◌, ◌≤◌, length, slice_index_or, [], Ok, Err, IfOk, IfErr};
-ghost use Rattle.fv_jobs.specs.Jobs.{jobs_in};
-ghost use Rattle.fv_jobs.specs.File.{jobs_file, IsOfJobs};
+ghost use Rattle.fv_jobs.specs.headline.Jobs.{jobs_in};
+ghost use Rattle.fv_jobs.specs.headline.File.{jobs_file};
+ghost use Rattle.fv_jobs.specs.File.{IsOfJobs};
 
 use crate::cutting::{count, cut};
 use crate::refusal::JobsRefusal;

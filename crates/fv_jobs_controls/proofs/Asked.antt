@@ -6,8 +6,9 @@ use Rattle.fv_diagram.specs.declared.control.ControlInfo.{ControlInfo}
 use Rattle.fv_control.specs.declared.script.Change.{Change}
 use Rattle.fv_control.specs.declared.refusal.ScriptRefusal.{ScriptRefusal}
 use Rattle.fv_control.specs.declared.refusal.ScriptRefusal.TheVariants.{ControlRange, ControlOrder}
-use Rattle.fv_control.specs.Script.{Request, change_of, asked, is_within, no_control}
-use Rattle.fv_jobs_controls.specs.Labels.{label_of, renamed, controls_of, controls_before, labelled_so, moved, RequestsAreOfJobs}
+use Rattle.fv_control.specs.headline.Script.{Request, change_of, asked, is_within, no_control}
+use Rattle.fv_jobs_controls.specs.headline.Labels.{label_of, renamed, controls_of}
+use Rattle.fv_jobs_controls.specs.Labels.{controls_before, labelled_so, moved, RequestsAreOfJobs}
 use Rattle.fv_jobs_controls.proofs.Positions.{position_within}
 use Rattle.fv_jobs_controls.proofs.Found.{found, control_from}
 

@@ -14,7 +14,8 @@ use Rattle.std.proofs.Math.Seq.{get_or-append_seam, get_or-append_right}
 use Rattle.std.proofs.lemmas.Slice.Eq.{bytes_eq-Decides}
 use Rattle.fv_base.proofs.Lists.{same_front, same_back}
 use Rattle.fv_diagram.specs.declared.control.ControlInfo.{ControlInfo}
-use Rattle.fv_jobs_controls.specs.Labels.{label_of, renamed, labelled, controls_from, controls_before, labelled_so, LabelsAreFound, OthersAreNot}
+use Rattle.fv_jobs_controls.specs.headline.Labels.{label_of, renamed, labelled, controls_from}
+use Rattle.fv_jobs_controls.specs.Labels.{controls_before, labelled_so, LabelsAreFound, OthersAreNot}
 use Rattle.fv_jobs_controls.proofs.Positions.{either, position-append, position-map, position_none}
 
 -- ---- labels differ

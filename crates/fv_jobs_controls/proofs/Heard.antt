@@ -4,13 +4,14 @@ use Rattle.std.specs.Prelude.{if◌then◌else◌, nat_le, nat_lt, slice_index_o
 use Rattle.std.specs.List.{cons_option, AllByRecursion}
 use Rattle.std.proofs.lemmas.Bool.{leb-true, ltb-true, le-leb, lt-ltb, eqb-true, eq-eqb}
 use Rattle.std.proofs.lemmas.List.{get_or-take, get_or-drop}
-use Rattle.fv_num.specs.Words.{argument}
+use Rattle.fv_num.specs.headline.Words.{argument}
 use Rattle.fv_diagram.specs.declared.control.ControlInfo.{ControlInfo}
 use Rattle.fv_control.specs.declared.script.Change.{Change}
-use Rattle.fv_control.specs.Script.{is_within, no_control}
-use Rattle.fv_control.specs.Streams.{value_after}
+use Rattle.fv_control.specs.headline.Script.{is_within, no_control}
+use Rattle.fv_control.specs.headline.Streams.{value_after}
 use Rattle.fv_control.specs.Laws.{NeverFall, IsOfControls}
-use Rattle.fv_jobs_controls.specs.Labels.{controls_of, controls_before}
+use Rattle.fv_jobs_controls.specs.headline.Labels.{controls_of}
+use Rattle.fv_jobs_controls.specs.Labels.{controls_before}
 use Rattle.fv_jobs_controls.specs.Changes.{changes_of, JobsHear, AreInOrder, AreOfControls}
 use Rattle.fv_jobs_controls.proofs.Found.{control_from}
 

@@ -3,9 +3,10 @@ use Rattle.std.specs.Prelude.{◌≡◌, ℕ, ◌+◌, ◌-◌, ◌<◌, ◌&&�
 use Rattle.std.specs.List.{filter_map, AllByRecursion}
 use Rattle.fv_diagram.specs.declared.control.ControlInfo.{ControlInfo}
 use Rattle.fv_control.specs.declared.script.Change.{Change}
-use Rattle.fv_control.specs.Streams.{control_streams}
+use Rattle.fv_control.specs.headline.Streams.{control_streams}
 use Rattle.fv_control.specs.Laws.{NeverFall, IsOfControls}
-use Rattle.fv_jobs_controls.specs.Labels.{controls_of, controls_before}
+use Rattle.fv_jobs_controls.specs.headline.Labels.{controls_of}
+use Rattle.fv_jobs_controls.specs.Labels.{controls_before}
 
 -- a change of one of the n controls behind the first ones, as if there were no others
 abbrev pub own_change : (first n : ℕ) → Change → Option Change

@@ -3,7 +3,8 @@ use Rattle.std.specs.Prelude.{◌≡◌, ℕ, List, [], ◌∷◌, Some, codes, 
 use Rattle.std.specs.Fmt.{digits}
 use Rattle.fv_diagram.specs.declared.control.ControlInfo.{ControlInfo}
 use Rattle.fv_diagram.specs.declared.control.ControlKind.TheVariants.{HSlider}
-use Rattle.fv_jobs_controls.specs.Labels.{controls_of, controls_before, label_of, labelled_so}
+use Rattle.fv_jobs_controls.specs.headline.Labels.{controls_of, label_of}
+use Rattle.fv_jobs_controls.specs.Labels.{controls_before, labelled_so}
 use Rattle.fv_jobs_controls.specs.Changes.{changes_of}
 
 -- a control of the range 0 to 10

@@ -1,32 +1,13 @@
--- The labels of the controls of several jobs (this project's profile).
-use Rattle.std.specs.Prelude.{◌≡◌, ℕ, ◌+◌, ◌<◌, ◌^◌, List, [], ◌∷◌, ◌++◌, length, map, take, decimal, Option, Some, None}
+-- What calls say beside `headline/Labels`: the labels of the controls of several jobs (this project's profile).
+use Rattle.std.specs.Prelude.{◌≡◌, ℕ, ◌+◌, ◌<◌, ◌^◌, List, [], length, take, Option, Some, None}
 use Rattle.std.specs.Prelude.{Result, Ok, Err, position, bytes_eq, slice_index_or}
 use Rattle.std.specs.Option.{option_map}
 use Rattle.std.specs.List.{sum_by}
 use Rattle.fv_diagram.specs.declared.control.ControlInfo.{ControlInfo}
 use Rattle.fv_control.specs.declared.script.Change.{Change}
 use Rattle.fv_control.specs.declared.refusal.ScriptRefusal.{ScriptRefusal}
-use Rattle.fv_control.specs.Script.{Request, heard}
-
--- The label of a control of job k among all jobs: the job's number, `/`, and its own label.
-abbrev pub label_of : (k : ℕ) → List ℕ → List ℕ
-label_of k label = decimal k ++ 47 ∷ label
-
--- a job's controls under these labels
-abbrev pub renamed : (k : ℕ) → ControlInfo → ControlInfo
-renamed k c = record c { label = label_of k c.label }
-
-abbrev pub labelled : (k : ℕ) → List ControlInfo → List ControlInfo
-labelled k cs = map (renamed k) cs
-
--- the controls of jobs one behind another, of which the first has this number
-abbrev pub controls_from : (k : ℕ) → List (List ControlInfo) → List ControlInfo
-controls_from k [] = []
-controls_from k (cs ∷ jobs) = labelled k cs ++ controls_from (k + 1) jobs
-
--- The controls of all jobs, which are numbered from 0.
-abbrev pub controls_of : List (List ControlInfo) → List ControlInfo
-controls_of jobs = controls_from 0 jobs
+use Rattle.fv_control.specs.headline.Script.{Request, heard}
+use Rattle.fv_jobs_controls.specs.headline.Labels.{label_of, controls_of}
 
 -- so many controls have the jobs before job k
 abbrev pub controls_before : List (List ControlInfo) → (k : ℕ) → ℕ

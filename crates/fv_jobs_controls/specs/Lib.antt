@@ -1,7 +1,9 @@
+pub mod headline
 pub mod Labels
 pub mod Changes
 pub mod Examples
 -- what its public clauses cite of crates below
+pub use Rattle.fv_control.specs.headline.Script
 pub use Rattle.fv_control.specs.Script
-pub use Rattle.fv_control.specs.Streams
+pub use Rattle.fv_control.specs.headline.Streams
 pub use Rattle.fv_control.specs.Laws

@@ -1,7 +1,7 @@
 // The labels of the controls of several jobs.
 
 ghost use Rattle.std.specs.Prelude.{◌≡◌, ◌++◌, IfOk, OnOk};
-ghost use Rattle.fv_jobs_controls.specs.Labels.{label_of, renamed, labelled};
+ghost use Rattle.fv_jobs_controls.specs.headline.Labels.{label_of, renamed, labelled};
 
 use fv_diagram::{ControlInfo, Label};
 use itoa::Buffer;

@@ -1,36 +1,45 @@
 -- A graph that is put behind others: its groups, which are opened before and closed behind it.
-use Rattle.std.proofs.Common.{◌≡◌, inl, inr, ℕ, zero, suc, ◌+◌, ◌-◌, ◌<◌, ◌≤◌, ◌^◌, List, [], ◌∷◌, length, map, get_or, All, refl, sym, ap, ◌∙◌, subst, arith, pos, true, false}
+use Rattle.std.proofs.Common.{◌≡◌, inl, inr, ℕ, zero, suc, ◌+◌, ◌-◌, ◌<◌, ◌≤◌, ◌^◌, List, [], ◌∷◌, ◌++◌, length, map, get_or, All, refl, sym, ap, ap₂, ◌∙◌, subst, arith, pos, true, false, ℤ}
 use Rattle.std.proofs.lemmas.Bool.{cases_lt}
-use Rattle.std.proofs.lemmas.List.{get_or_append_left, get_or_push, length_push, get_or-map, get_or_default, length-map, length-set}
+use Rattle.std.proofs.lemmas.List.{get_or_append_left, get_or-append_right, get_or_push, length_push, get_or-map, get_or_default, length-map, length-set}
 use Rattle.std.proofs.lemmas.List.Elements.{All-get_or, All-from_get_or, All-map}
-use Rattle.fv_base.specs.Lists.{IsPrefixOf, at}
-use Rattle.fv_analysis.specs.Stands.{node}
+use Rattle.fv_base.specs.headline.Lists.{IsPrefixOf}
+use Rattle.fv_base.specs.inner.Lists.{at}
+use Rattle.fv_analysis.specs.headline.Stands.{node}
 use Rattle.fv_signal.specs.declared.signal.Signal.{Signal}
-use Rattle.fv_signal.specs.declared.signal.Signal.TheVariants.{Input, Const, Control, Point, Delay, Back, Member}
-use Rattle.fv_signal.specs.Value.{Graph, members, definition, NamesWithin, IsGraph}
-use Rattle.fv_share.specs.Drafts.{Draft, AreClosed, AreOpened, AreShut, BacksWithin, CanClose, IsPending, with_groups, with_members, with_all_members}
+use Rattle.fv_signal.specs.declared.signal.Signal.TheVariants.{Input, Const, Control, Point, Delay, Back, Member, Read, Write}
+use Rattle.fv_signal.specs.headline.Value.{Graph, members, definition, NamesWithin, IsGraph}
+use Rattle.fv_share.specs.Drafts.{Draft, AreClosed, AreOpened, AreShut, BacksWithin, CanClose, IsPending, with_groups, with_tables, with_members, with_all_members}
 use Rattle.fv_share.proofs.Groups.{groups_stay}
 use Rattle.fv_join.specs.declared.copying.Offsets.{Offsets}
 use Rattle.fv_join.specs.Jobs.{NamesBelow, ReadsWithin}
-use Rattle.fv_join.specs.inner.Copied.{renumbered, definitions_of, NumbersFit, HaveRoom, IsAppended, IsImage, IsOneOf, IsSound, IsUnderWay}
+use Rattle.fv_join.specs.inner.Copied.{renumbered, definitions_of, offsets_behind, NumbersFit, HaveRoom, AreListed, IsAppended, IsImage, IsOneOf, IsSound, IsUnderWay}
 use Rattle.fv_join.proofs.Images.{at_prefix}
 
 -- ---- numbers
 
+-- a list that has a number is there
+listed_there : (tables : List (List ℤ)) (t : ℕ) → 0 < length (get_or tables t []) → t < length tables
+listed_there [] t l = absurd (omega (arith, l))
+listed_there (T ∷ tables) zero l = omega arith
+listed_there (T ∷ tables) (suc t) l = omega (arith, listed_there tables t l)
+
 numbers_fit : (g : Graph) (o : Offsets) (inputs controls : ℕ) (m : Signal) → NamesBelow inputs controls m → NamesWithin g m → o.inputs + inputs < 2 ^ 32
-    → o.controls + controls < 2 ^ 32 → o.groups + length g.groups < 2 ^ 64 → NumbersFit o m
-numbers_fit g o inputs controls (Input k) b w i c n = omega (arith, b, i)
-numbers_fit g o inputs controls (Const z) b w i c n = tt
-numbers_fit g o inputs controls (Control k) b w i c n = omega (arith, b, c)
-numbers_fit g o inputs controls (Point op args) b w i c n = tt
-numbers_fit g o inputs controls (Delay x d max) b w i c n = tt
-numbers_fit g o inputs controls (Back group k) b w i c n = let l = w.0 in omega (arith, l, n)
-numbers_fit g o inputs controls (Member group k) b w i c n = let l = w.0 in omega (arith, l, n)
+    → o.controls + controls < 2 ^ 32 → o.groups + length g.groups < 2 ^ 64 → o.tables + length g.tables < 2 ^ 64 → NumbersFit o m
+numbers_fit g o inputs controls (Input k) b w i c n t = omega (arith, b, i)
+numbers_fit g o inputs controls (Const z) b w i c n t = tt
+numbers_fit g o inputs controls (Control k) b w i c n t = omega (arith, b, c)
+numbers_fit g o inputs controls (Point op args) b w i c n t = tt
+numbers_fit g o inputs controls (Delay x d max) b w i c n t = tt
+numbers_fit g o inputs controls (Back group k) b w i c n t = let l = w.0 in omega (arith, l, n)
+numbers_fit g o inputs controls (Member group k) b w i c n t = let l = w.0 in omega (arith, l, n)
+numbers_fit g o inputs controls (Read table r) b w i c n t = let l = listed_there g.tables table w in omega (arith, l, t)
+numbers_fit g o inputs controls (Write table a x r) b w i c n t = let l = listed_there g.tables table w in omega (arith, l, t)
 
 pub have_room : (g : Graph) (o : Offsets) (inputs controls : ℕ) → IsGraph g → ReadsWithin inputs controls g → o.inputs + inputs < 2 ^ 32
-    → o.controls + controls < 2 ^ 32 → o.groups + length g.groups < 2 ^ 64 → HaveRoom o g
-have_room g o inputs controls whole reads i c n s d l =
-    numbers_fit g o inputs controls (get_or g.signals s d) (reads s d l) (whole.closed s d l) i c n
+    → o.controls + controls < 2 ^ 32 → o.groups + length g.groups < 2 ^ 64 → o.tables + length g.tables < 2 ^ 64 → HaveRoom o g
+have_room g o inputs controls whole reads i c n t s d l =
+    numbers_fit g o inputs controls (get_or g.signals s d) (reads s d l) (whole.closed s d l) i c n t
 
 -- ---- groups that are opened
 
@@ -70,14 +79,42 @@ closed_marked d first [] h = h
 closed_marked d first (ms ∷ lists) h = closed_marked (with_members d first ms) (suc first) lists
     (length-set d.closed first true ∙ h ∙ sym (length-set d.groups first ms))
 
--- the groups that are opened wait, and their numbers are those behind the groups before
-pub opened_wait : (d new : Draft) (first n : ℕ) → IsSound d → first ≡ length d.groups → new ≡ with_groups d n → (k : ℕ) → k < n → IsPending new (first + k)
-opened_wait d new first n h f e k l =
-    subst (λ (q : Draft). IsPending q (first + k)) (sym e)
-    (subst (λ a. IsPending (with_groups d n) (a + k)) (sym f) ((opened d h n).pending k l))
+-- a draft with so many groups and these tables more
+abbrev pub begun_with : Draft → (groups : ℕ) → List (List ℤ) → Draft
+begun_with d n tables = with_tables (with_groups d n) tables
 
-pub opened_long : (d new : Draft) (first n : ℕ) → IsSound d → first ≡ length d.groups → new ≡ with_groups d n → length new.groups ≡ first + n
-opened_long d new first n h f e = ap (λ (q : Draft). length q.groups) e ∙ (opened d h n).long ∙ ap (λ a. a + n) (sym f)
+-- the groups that are opened wait, and their numbers are those behind the groups before
+pub opened_wait : (d new : Draft) (first n : ℕ) (ts : List (List ℤ)) → IsSound d → first ≡ length d.groups → new ≡ begun_with d n ts → (k : ℕ) → k < n
+    → IsPending new (first + k)
+opened_wait d new first n ts h f e k l =
+    subst (λ (q : Draft). IsPending q (first + k)) (sym e)
+    (subst (λ a. IsPending (begun_with d n ts) (a + k)) (sym f) ((opened d h n).pending k l))
+
+pub groups_tables : (d : Draft) (n : ℕ) → (with_groups d n).tables ≡ d.tables
+groups_tables d zero = refl
+groups_tables d (suc n) = groups_tables d n
+
+members_tables : (d : Draft) (first : ℕ) (lists : List (List ℕ)) → (with_all_members d first lists).tables ≡ d.tables
+members_tables d first [] = refl
+members_tables d first (ms ∷ lists) = members_tables (with_members d first ms) (suc first) lists
+
+-- the tables of a graph behind others
+pub begun_tables : (d : Draft) (n : ℕ) (ts : List (List ℤ)) → (begun_with d n ts).tables ≡ d.tables ++ ts
+begun_tables d n ts = ap (λ us. us ++ ts) (groups_tables d n)
+
+behind_tables : (us ts : List (List ℤ)) (t : ℕ) → get_or (us ++ ts) (length us + t) [] ≡ get_or ts t []
+behind_tables us ts t =
+    let at_t : (length us + t) - length us ≡ t = omega arith in
+    get_or-append_right us ts (length us) (length us + t) [] refl (omega arith) ∙ ap (λ k. get_or ts k []) at_t
+
+pub begun_listed : (g : Graph) (d new : Draft) (first n : ℕ) → first ≡ length d.tables → new ≡ begun_with d n g.tables → AreListed g first new.tables
+begun_listed g d new first n f e t l =
+    ap (λ (q : Draft). get_or q.tables (first + t) []) e ∙ ap (λ us. get_or us (first + t) []) (begun_tables d n g.tables)
+    ∙ ap (λ k. get_or (d.tables ++ g.tables) (k + t) []) f ∙ behind_tables d.tables g.tables t
+
+pub opened_long : (d new : Draft) (first n : ℕ) (ts : List (List ℤ)) → IsSound d → first ≡ length d.groups → new ≡ begun_with d n ts
+    → length new.groups ≡ first + n
+opened_long d new first n ts h f e = ap (λ (q : Draft). length q.groups) e ∙ (opened d h n).long ∙ ap (λ a. a + n) (sym f)
 
 -- ---- Backs
 
@@ -92,6 +129,8 @@ back_named p o (Control j) group k e = absurd cc
 back_named p o (Point op args) group k e = absurd cc
 back_named p o (Delay x d max) group k e = absurd cc
 back_named p o (Member own j) group k e = absurd cc
+back_named p o (Read table r) group k e = absurd cc
+back_named p o (Write table w x r) group k e = absurd cc
 
 -- the group and the member that it names are there
 back_within : (g : Graph) (o : Offsets) (m : Signal) (group k : ℕ) → IsGraph g → IsOneOf g o (length g.signals) m → m ≡ Back group k
@@ -102,12 +141,13 @@ back_within g o m group k whole h e =
     (b.0, b.1, w.0, w.1)
 
 module _ (g : Graph) (o : Offsets) (old d : Draft) (images : List ℕ) (sound : IsSound old) (first : o.groups ≡ length old.groups)
-    (h : IsUnderWay g o (length g.signals) (with_groups old (length g.groups)) d images) where
+    (first_table : o.tables ≡ length old.tables)
+    (h : IsUnderWay g o (length g.signals) (begun_with old (length g.groups) g.tables) d images) where
   abbrev count : ℕ
   count = length g.groups
 
   abbrev begun : Draft
-  begun = with_groups old count
+  begun = begun_with old count g.tables
 
   abbrev lists : List (List ℕ)
   lists = definitions_of g (at images)
@@ -116,7 +156,8 @@ module _ (g : Graph) (o : Offsets) (old d : Draft) (images : List ℕ) (sound : 
   new = with_all_members d o.groups lists
 
   opens : AreOpened old begun count
-  opens = opened old sound count
+  opens = let p = opened old sound count in
+      record { long = p.long; signals = p.signals; pending = p.pending; fresh = p.fresh; groups = p.groups; closed = p.closed }
 
   lists_long : length lists ≡ count
   lists_long = length-map g.groups (λ ms. map (at images) ms)
@@ -211,12 +252,16 @@ module _ (g : Graph) (o : Offsets) (old d : Draft) (images : List ℕ) (sound : 
     ];
   }
 
+  tables_now : new.tables ≡ old.tables ++ g.tables
+  tables_now = members_tables d o.groups lists ∙ h.tables ∙ begun_tables old count g.tables
+
   pub appended : IsAppended g o.inputs o.controls old new (map (at images) g.outputs)
   appended = record {
     whole = h.whole;
     grows = grown;
     more = omega (arith, many);
     groups = groups_before;
+    tables = tables_now;
     closed = closed_now;
     sound = sound_now;
     images = at images;
@@ -230,12 +275,13 @@ module _ (g : Graph) (o : Offsets) (old d : Draft) (images : List ℕ) (sound : 
           ap (λ a. get_or (get_or new.groups (a + group) []) k 0) (sym first)
           ∙ ap (λ ms. get_or ms k 0) (shut.its group (omega (arith, l, lists_long)) ∙ list_is group l)
           ∙ get_or-map (at images) (members g group) k 0 0 m;
+      tables = λ t l. ap (λ ts. get_or ts (length old.tables + t) []) tables_now ∙ behind_tables old.tables g.tables t;
     };
     made = λ i l w. subst (λ (q : Offsets). IsOneOf g q (length g.signals) (get_or new.signals i (Const (pos 0)))) offsets_are (made i l w);
   }
     where
       at_first : Offsets
-      at_first = record { inputs = o.inputs; controls = o.controls; groups = length old.groups }
+      at_first = offsets_behind o.inputs o.controls old
 
       offsets_are : o ≡ at_first
-      offsets_are = ap (λ k. let q : Offsets = record { inputs = o.inputs; controls = o.controls; groups = k } in q) first
+      offsets_are = ap₂ (λ k t. let q : Offsets = record { inputs = o.inputs; controls = o.controls; groups = k; tables = t } in q) first first_table

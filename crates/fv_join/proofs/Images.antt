@@ -3,16 +3,17 @@ use Rattle.std.proofs.Common.{◌≡◌, inl, inr, ℕ, ◌+◌, ◌<◌, ◌≤
 use Rattle.std.proofs.lemmas.Bool.{cases_lt}
 use Rattle.std.proofs.lemmas.List.{get_or_append_left, get_or_push, length_push, length-append}
 use Rattle.std.proofs.lemmas.List.Elements.{All-head, All-tail, All-get_or, All-from_get_or, All-map, All-push}
-use Rattle.fv_base.specs.Lists.{IsPrefixOf, at}
+use Rattle.fv_base.specs.headline.Lists.{IsPrefixOf}
+use Rattle.fv_base.specs.inner.Lists.{at}
 use Rattle.fv_base.proofs.Lists.{prefix_refl, prefix_trans}
-use Rattle.fv_analysis.specs.Stands.{node}
+use Rattle.fv_analysis.specs.headline.Stands.{node}
 use Rattle.fv_signal.specs.declared.signal.Signal.{Signal}
-use Rattle.fv_signal.specs.declared.signal.Signal.TheVariants.{Input, Const, Control, Point, Delay, Back, Member}
-use Rattle.fv_signal.specs.Value.{Graph, definition, OperandsBelow, NamesWithin}
+use Rattle.fv_signal.specs.declared.signal.Signal.TheVariants.{Input, Const, Control, Point, Delay, Back, Member, Read, Write}
+use Rattle.fv_signal.specs.headline.Value.{Graph, definition, OperandsBelow, NamesWithin}
 use Rattle.fv_share.specs.Drafts.{Draft, CanPut, IsPending, IsPut, IsShut, NamesSoFar, OperandsThere, put}
 use Rattle.fv_share.proofs.Puts.{put_stands}
 use Rattle.fv_join.specs.declared.copying.Offsets.{Offsets}
-use Rattle.fv_join.specs.inner.Copied.{renumbered, copy_of, IsImage, IsOneOf, IsUnderWay}
+use Rattle.fv_join.specs.inner.Copied.{renumbered, copy_of, AreListed, IsImage, IsOneOf, IsUnderWay}
 
 -- ---- lists that grow
 
@@ -43,6 +44,10 @@ image_stays g ss tt p q o s (Delay x d max) i grows l b e h =
     at_prefix ss tt i (Const (pos 0)) grows l ∙ h ∙ ap₂ (λ y c. Delay y c max) (e x b.0) (e d b.1)
 image_stays g ss tt p q o s (Back group k) i grows l b e h = at_prefix ss tt i (Const (pos 0)) grows l ∙ h
 image_stays g ss tt p q o s (Member group k) i grows l b e h = h ∙ e (definition g group k) b
+image_stays g ss tt p q o s (Read table r) i grows l b e h = at_prefix ss tt i (Const (pos 0)) grows l ∙ h ∙ ap (Read (o.tables + table)) (e r b)
+image_stays g ss tt p q o s (Write table w x r) i grows l b e h =
+    at_prefix ss tt i (Const (pos 0)) grows l ∙ h ∙ ap (λ a. Write (o.tables + table) a (p x) (p r)) (e w b.0)
+    ∙ ap₂ (λ a c. Write (o.tables + table) (q w) a c) (e x b.1) (e r b.2)
 
 -- ---- one signal
 
@@ -60,6 +65,8 @@ copy_cases g p o d (Point op args) = AsSignal refl (λ ss i e. e)
 copy_cases g p o d (Delay x y max) = AsSignal refl (λ ss i e. e)
 copy_cases g p o d (Back group k) = AsSignal refl (λ ss i e. e)
 copy_cases g p o d (Member group k) = AsMember group k refl
+copy_cases g p o d (Read table r) = AsSignal refl (λ ss i e. e)
+copy_cases g p o d (Write table w x r) = AsSignal refl (λ ss i e. e)
 
 module _ (g : Graph) (o : Offsets) (n : ℕ) (old d : Draft) (images : List ℕ) (h : IsUnderWay g o n old d images) (here : n < length g.signals) where
   abbrev p : ℕ → ℕ
@@ -76,6 +83,7 @@ module _ (g : Graph) (o : Offsets) (n : ℕ) (old d : Draft) (images : List ℕ)
     pub grows : IsPrefixOf d.signals r.1.signals
     pub groups : r.1.groups ≡ d.groups
     pub closed : r.1.closed ≡ d.closed
+    pub tables : r.1.tables ≡ d.tables
     pub within : r.0 < length r.1.signals
     pub copy : IsImage g r.1.signals p o m r.0
     pub made : (i : ℕ) → length d.signals ≤ i → i < length r.1.signals → IsOneOf g o (n + 1) (get_or r.1.signals i (Const (pos 0)))
@@ -90,6 +98,7 @@ module _ (g : Graph) (o : Offsets) (n : ℕ) (old d : Draft) (images : List ℕ)
             grows = q.keeps;
             groups = refl;
             closed = refl;
+            tables = refl;
             within = q.within;
             copy = stands (put d (renumbered p o m)).1.signals (put d (renumbered p o m)).0 (q.stands (Const (pos 0)));
             made = λ i l w. record {
@@ -106,6 +115,7 @@ module _ (g : Graph) (o : Offsets) (n : ℕ) (old d : Draft) (images : List ℕ)
             grows = prefix_refl d.signals;
             groups = refl;
             closed = refl;
+            tables = refl;
             within = All-get_or (λ a. a < length d.signals) images (definition g group k) 0 (omega (arith, first, h.long)) h.there;
             copy = subst (λ s. IsImage g d.signals p o s (p (definition g group k))) (sym is) refl;
             made = λ i l w. absurd (omega (arith, l, w));
@@ -122,6 +132,7 @@ module _ (g : Graph) (o : Offsets) (n : ℕ) (old d : Draft) (images : List ℕ)
         grows = prefix_trans old.signals d.signals new.signals h.grows c.grows;
         groups = c.groups ∙ h.groups;
         closed = c.closed ∙ h.closed;
+        tables = c.tables ∙ h.tables;
         there = All-push (λ a. a < length new.signals) images id (all_below (length d.signals) (length new.signals) images more h.there) c.within;
         copies = λ s l. elim (cases_lt s n) [
           | inl a ↦
@@ -152,7 +163,7 @@ module _ (g : Graph) (o : Offsets) (n : ℕ) (old d : Draft) (images : List ℕ)
 -- ---- what is put can be put
 
 module _ (g : Graph) (o : Offsets) (d : Draft) (images : List ℕ) (there : All (λ a. a < length d.signals) images)
-    (waiting : (k : ℕ) → k < length g.groups → IsPending d (o.groups + k)) where
+    (waiting : (k : ℕ) → k < length g.groups → IsPending d (o.groups + k)) (listed : AreListed g o.tables d.tables) where
   image_there : (a : ℕ) → a < length images → at images a < length d.signals
   image_there a l = All-get_or (λ a. a < length d.signals) images a 0 l there
 
@@ -166,6 +177,8 @@ module _ (g : Graph) (o : Offsets) (d : Draft) (images : List ℕ) (there : All 
   operands_there (Delay x y max) b = (image_there x b.0, image_there y b.1)
   operands_there (Back group k) b = tt
   operands_there (Member group k) b = tt
+  operands_there (Read table r) b = image_there r b
+  operands_there (Write table w x r) b = (image_there w b.0, image_there x b.1, image_there r b.2)
 
   not_shut : (k : ℕ) → IsPending d k → IsShut d k → ⊥
   not_shut k a b = let x = a.1 in let y = b.1 in absurd cc
@@ -178,6 +191,8 @@ module _ (g : Graph) (o : Offsets) (d : Draft) (images : List ℕ) (there : All 
   names_there (Delay x y max) w never = tt
   names_there (Back group k) w never = let q = waiting group w.0 in (q.0, λ shut. absurd (not_shut (o.groups + group) q shut))
   names_there (Member group k) w never = absurd (never group k refl)
+  names_there (Read table r) w never = subst (λ T. 0 < length T) (sym (listed table w)) w
+  names_there (Write table a x r) w never = subst (λ T. 0 < length T) (sym (listed table w)) w
 
   pub can_put : (m : Signal) → OperandsBelow g (length images) m → NamesWithin g m → ((group k : ℕ) → m ≡ Member group k → ⊥)
       → CanPut d (renumbered (at images) o m)

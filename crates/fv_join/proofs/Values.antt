@@ -2,12 +2,13 @@
 use Rattle.std.proofs.Common.{◌≡◌, ℕ, zero, suc, ◌+◌, ◌<◌, List, [], ◌∷◌, length, take, drop, map, get_or, refl, sym, ap, ◌∙◌, pos}
 use Rattle.std.proofs.lemmas.List.{get_or-take, get_or-drop, get_or_default}
 use Rattle.std.proofs.Math.Seq.{drop-nil, take-nil}
-use Rattle.fv_num.specs.Words.{apply_of, inputs_of}
-use Rattle.fv_num.specs.Frames.{Frame, Stream, column, frame_at, delayed, carried}
-use Rattle.fv_analysis.specs.Stands.{node}
+use Rattle.fv_num.specs.headline.Words.{apply_of, inputs_of}
+use Rattle.fv_num.specs.headline.Frames.{Frame, Stream, column, frame_at, delayed, carried}
+use Rattle.fv_num.specs.headline.Tables.{read_at, written_at}
+use Rattle.fv_analysis.specs.headline.Stands.{node}
 use Rattle.fv_signal.specs.declared.signal.Signal.{Signal}
-use Rattle.fv_signal.specs.declared.signal.Signal.TheVariants.{Input, Const, Control, Point, Delay, Back, Member}
-use Rattle.fv_signal.specs.Value.{Graph, signal_at, value, NamesWithin, IsGraph}
+use Rattle.fv_signal.specs.declared.signal.Signal.TheVariants.{Input, Const, Control, Point, Delay, Back, Member, Read, Write}
+use Rattle.fv_signal.specs.headline.Value.{Graph, signal_at, value, NamesWithin, IsGraph}
 use Rattle.fv_signal.proofs.Values.{values_are_given}
 use Rattle.fv_signal.proofs.Solutions.{solutions_are_values}
 use Rattle.fv_join.specs.declared.copying.Offsets.{Offsets}
@@ -57,6 +58,9 @@ module _ (g f : Graph) (p : ℕ → ℕ) (o : Offsets) (n controls : ℕ) (whole
   gives i l (Back group k) b w e t =
       at_node i t (Back (o.groups + group) k) l e ∙ ap (λ r. delayed (λ u. value f r X c u) t) (h.definitions group k w.0 w.1)
   gives i l (Member group k) b w e t = ap (λ r. value f r X c t) e
+  gives i l (Read table r) b w e t = at_node i t (Read (o.tables + table) (p r)) l e ∙ ap (λ T. read_at T (v r t)) (h.tables table w)
+  gives i l (Write table a x r) b w e t =
+      at_node i t (Write (o.tables + table) (p a) (p x) (p r)) l e ∙ ap (λ T. written_at T (v a) (v x) t (v r t)) (h.tables table w)
 
   pub keeps : (s t : ℕ) → s < length g.signals → value f (p s) X c t ≡ value g s Y d t
   keeps s t l = solutions_are_values g whole.ordered whole.closed Y d v solves s t l

@@ -2,8 +2,8 @@
 use Rattle.std.specs.Prelude.{ℕ, ◌<◌, ◌^◌, List, length, slice_index_or}
 use Rattle.std.specs.List.{sum_by}
 use Rattle.fv_signal.specs.declared.signal.Signal.{Signal}
-use Rattle.fv_signal.specs.declared.signal.Signal.TheVariants.{Input, Const, Control, Point, Delay, Back, Member}
-use Rattle.fv_signal.specs.Value.{Graph}
+use Rattle.fv_signal.specs.declared.signal.Signal.TheVariants.{Input, Const, Control, Point, Delay, Back, Member, Read, Write}
+use Rattle.fv_signal.specs.headline.Value.{Graph}
 use Rattle.fv_join.specs.declared.job.Job.{Job}
 
 -- a signal names an input and a control below these numbers
@@ -15,6 +15,8 @@ NamesBelow inputs controls (Point op args) = Unit {0}
 NamesBelow inputs controls (Delay x d max) = Unit {0}
 NamesBelow inputs controls (Back group k) = Unit {0}
 NamesBelow inputs controls (Member group k) = Unit {0}
+NamesBelow inputs controls (Read table r) = Unit {0}
+NamesBelow inputs controls (Write table w x r) = Unit {0}
 
 -- so it is with each signal
 abbrev pub ReadsWithin : (inputs controls : ℕ) → Graph → Type 0

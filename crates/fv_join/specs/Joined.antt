@@ -1,10 +1,10 @@
 -- What a graph is in which others stand side by side (this project's profile).
-use Rattle.std.specs.Prelude.{◌≡◌, ℕ, ◌+◌, ◌<◌, List, length, take, drop, map, slice_index_or}
-use Rattle.fv_num.specs.Frames.{Frame, Stream}
-use Rattle.fv_analysis.specs.Stands.{StandsAt}
+use Rattle.std.specs.Prelude.{◌≡◌, ℕ, ◌+◌, ◌<◌, List, length, take, drop, map, flat_map, slice_index_or}
+use Rattle.fv_num.specs.headline.Frames.{Frame, Stream}
+use Rattle.fv_analysis.specs.headline.Stands.{StandsAt}
 use Rattle.fv_signal.specs.declared.signal.Signal.{Signal}
 use Rattle.fv_signal.specs.declared.signal.Signal.TheVariants.{Input, Control, Delay}
-use Rattle.fv_signal.specs.Value.{Graph, value, IsGraph}
+use Rattle.fv_signal.specs.headline.Value.{Graph, value, IsGraph}
 use Rattle.fv_join.specs.declared.job.Job.{Job}
 use Rattle.fv_join.specs.Jobs.{ReadsWithin, inputs_of, controls_of, outputs_of}
 
@@ -54,6 +54,7 @@ pub record IsJoined (jobs : List Job) (f : Graph) : Type 0 where
   pub finished : IsGraph f
   pub values : KeepsValues jobs f
   pub width : length f.outputs ≡ outputs_of jobs
+  pub tables : f.tables ≡ flat_map (λ (j : Job). j.graph.tables) jobs
   pub delays : (s x by max : ℕ) → StandsAt f s (Delay x by max) → HasDelay jobs max
   pub reads : ReadsWithin (inputs_of jobs) (controls_of jobs) f
   -- and names no input and no control that none of their graphs names

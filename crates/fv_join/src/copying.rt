@@ -1,25 +1,26 @@
 // A graph that is copied into a builder, behind others.
 
 ghost use Rattle.std.specs.Prelude.{◌≡◌, ◌+◌, ◌<◌, ◌^◌, length, map, All, IfOk, ℕ, slice_index_or};
-ghost use Rattle.fv_analysis.specs.Stands.{node};
-ghost use Rattle.fv_signal.specs.Value.{members};
+ghost use Rattle.fv_analysis.specs.headline.Stands.{node};
+ghost use Rattle.fv_signal.specs.headline.Value.{members};
 ghost use Rattle.fv_share.specs.Drafts.{IsPending, OperandsThere, lists_in};
-ghost use Rattle.fv_base.specs.Lists.{at};
+ghost use Rattle.fv_base.specs.inner.Lists.{at};
 ghost use Rattle.fv_join.specs.Jobs.{ReadsWithin};
 ghost use Rattle.fv_join.specs.inner.Copied.{renumbered as renumbered_of, copy_of, definitions_of, NumbersFit, HaveRoom};
-ghost use Rattle.fv_join.specs.inner.Copied.{IsSound, IsUnderWay, IsAppended};
+ghost use Rattle.fv_join.specs.inner.Copied.{IsSound, IsUnderWay, IsAppended, AreListed};
 
 use crate::job::Job;
 use fv_share::Builder;
 use fv_signal::{Graph, Signal, SignalId};
 use std::alloc::{AllocError, Global};
 
-/// How many inputs, controls and groups stand before those of a graph.
+/// How many inputs, controls, groups and tables stand before those of a graph.
 #[derive(Clone, Copy)]
 pub(crate) struct Offsets {
     pub(crate) inputs: u32,
     pub(crate) controls: u32,
     pub(crate) groups: u64,
+    pub(crate) tables: u64,
 }
 
 /// Puts the copy of a job's graph behind what is there. Its outputs' images.
@@ -39,12 +40,15 @@ pub(crate) fn append(
     let graph = &job.graph;
     let outputs = graph.outputs();
     let first = builder.open_groups(graph.groups())?;
-    // No group more: this counts them, so each of their numbers fits.
+    let tables = builder.add_tables(graph)?;
+    // No group more: this counts them, so each of their numbers fits, as does each of the tables.
     let _end = builder.open_groups(0)?;
+    let _tables = builder.tables();
     let offsets = Offsets {
         inputs,
         controls,
         groups: first,
+        tables,
     };
     let images = images(alloc, builder, graph, offsets)?;
     let lists = definitions(alloc, graph, &images)?;
@@ -61,6 +65,7 @@ fn images(
 ) -> Result<Vec<SignalId>, AllocError>
     requires room { HaveRoom offsets graph.now }
     requires open { (g : ℕ) → g < length graph.now.groups → IsPending builder.old (offsets.groups + g) }
+    requires tables { AreListed graph.now offsets.tables builder.old.tables }
     ensures { IfOk result (λ v. IsUnderWay graph.now offsets (length graph.now.signals) builder.old builder.new v.items) }
 {
     // This reads what holds of all graphs.
@@ -84,6 +89,7 @@ fn image(
     requires room { HaveRoom offsets graph.now }
     requires there { All (λ a. a < length builder.old.signals) images.now }
     requires open { (g : ℕ) → g < length graph.now.groups → IsPending builder.old (offsets.groups + g) }
+    requires tables { AreListed graph.now offsets.tables builder.old.tables }
     ensures { IfOk result (λ id. (id, builder.new) ≡ copy_of graph.now (at images.now) offsets builder.old (node graph.now (length images.now))) }
 {
     let signal = graph.signal(SignalId::new(images.len() as u64));
@@ -124,6 +130,16 @@ fn renumbered(signal: Signal, images: &[SignalId], offsets: Offsets) -> Signal
         Signal::Member { group, i } => Signal::Member {
             group: offsets.groups + group,
             i,
+        },
+        Signal::Read { table, r } => Signal::Read {
+            table: offsets.tables + table,
+            r: image_at(images, r),
+        },
+        Signal::Write { table, w, x, r } => Signal::Write {
+            table: offsets.tables + table,
+            w: image_at(images, w),
+            x: image_at(images, x),
+            r: image_at(images, r),
         },
     }
 }

@@ -60,6 +60,8 @@ fn names_below(signal: Signal, inputs: u32, controls: u32) -> bool
         | Signal::Point { .. }
         | Signal::Delay { .. }
         | Signal::Back { .. }
-        | Signal::Member { .. } => true,
+        | Signal::Member { .. }
+        | Signal::Read { .. }
+        | Signal::Write { .. } => true,
     }
 }

@@ -2,14 +2,15 @@
 use Rattle.std.proofs.Common.{◌≡◌, ℕ, zero, suc, ◌+◌, ◌-◌, ◌<◌, List, [], ◌∷◌, ◌++◌, length, map, take, drop, get_or, All, refl, sym, ap, ap₂, ◌∙◌, subst, arith, pos}
 use Rattle.std.proofs.lemmas.List.{get_or_append_left, get_or-append_right, length-map, length-drop, length-take-le, drop-drop}
 use Rattle.std.proofs.lemmas.List.Sums.{sum_by-cons}
-use Rattle.fv_num.specs.Frames.{Frame, Stream, column, frame_at}
-use Rattle.fv_diagram.specs.Diagram.{Diagram, inputs, outputs}
-use Rattle.fv_diagram.specs.Streams.{beside, run}
+use Rattle.fv_num.specs.headline.Frames.{Frame, Stream, column, frame_at}
+use Rattle.fv_diagram.specs.headline.Diagram.{Diagram, inputs, outputs}
+use Rattle.fv_diagram.specs.headline.Streams.{beside, run}
 use Rattle.fv_diagram.proofs.Answers.{answers_alike, answers_wide}
 use Rattle.fv_diagram.proofs.Causality.{length_run}
 use Rattle.fv_diagram.proofs.Each.{each_map}
 use Rattle.fv_join.specs.Joined.{part_controls, part_frames}
-use Rattle.fv_join_diagrams.specs.Parts.{Part, AreWellFormed, PartsAnswer, PartsAnswerAlike, controls_of, inputs_of, outputs_of, own, own_controls, own_frames, shifted, side_by_side}
+use Rattle.fv_join_diagrams.specs.headline.Parts.{Part, shifted, side_by_side}
+use Rattle.fv_join_diagrams.specs.Parts.{AreWellFormed, PartsAnswer, PartsAnswerAlike, controls_of, inputs_of, outputs_of, own, own_controls, own_frames}
 use Rattle.fv_join_diagrams.proofs.Shifted.{inputs_shifted, shifted_answers}
 
 -- a frame is so wide

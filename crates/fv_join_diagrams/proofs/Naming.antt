@@ -3,18 +3,19 @@ use Rattle.std.proofs.Common.{◌≡◌, inl, inr, ℕ, zero, suc, ◌+◌, ◌<
 use Rattle.std.specs.List.{sum_by}
 use Rattle.std.proofs.lemmas.List.{get_or_default, take_all}
 use Rattle.std.proofs.lemmas.List.Sums.{sum_by-cons}
-use Rattle.fv_analysis.specs.Stands.{StandsAt}
+use Rattle.fv_analysis.specs.headline.Stands.{StandsAt}
 use Rattle.fv_signal.specs.declared.signal.Signal.{Signal}
 use Rattle.fv_signal.specs.declared.signal.Signal.TheVariants as signal
-use Rattle.fv_signal.specs.Value.{Graph}
-use Rattle.fv_diagram.specs.Diagram.{Diagram, Primitive, Constant, Control, Slot, Wave, Table, Bind, Par, Seq, Split, Merge, Rec, inputs, outputs}
-use Rattle.fv_propagate.specs.Propagated.{HasControl, NamesOf}
+use Rattle.fv_signal.specs.headline.Value.{Graph}
+use Rattle.fv_diagram.specs.headline.Diagram.{Diagram, Primitive, Constant, Control, Slot, Wave, Table, Bind, Par, Seq, Split, Merge, Rec, inputs, outputs}
+use Rattle.fv_propagate.specs.headline.Propagated.{HasControl, NamesOf}
 use Rattle.fv_join.specs.declared.job.Job.{Job}
 use Rattle.fv_join.specs.Jobs as jobs_have
 use Rattle.fv_join.specs.Jobs.{NamesBelow}
 use Rattle.fv_join.specs.Joined.{IsJoined}
 use Rattle.fv_join_diagrams.specs.OfParts.{AreOfParts, JoinedAreWide, JoinedNames, NameOwn}
-use Rattle.fv_join_diagrams.specs.Parts.{Part, controls_of, nothing, shifted, side_by_side}
+use Rattle.fv_join_diagrams.specs.headline.Parts.{Part, nothing, shifted, side_by_side}
+use Rattle.fv_join_diagrams.specs.Parts.{controls_of}
 use Rattle.fv_join_diagrams.proofs.Propagating.{same_sums}
 use Rattle.fv_join_diagrams.proofs.Whole.{parts_are_whole}
 
@@ -50,7 +51,7 @@ has_part (p ∷ ps) n (suc k) d j l h =
 
 -- a job and a part, whatever they are
 some_job : Job
-some_job = record { graph = record { signals = []; groups = []; outputs = [] }; inputs = 0; controls = 0 }
+some_job = record { graph = record { signals = []; groups = []; tables = []; outputs = [] }; inputs = 0; controls = 0 }
 
 some_part : Part
 some_part = record { diagram = nothing; spans = [] }
@@ -101,6 +102,8 @@ module _ (f : Graph) (jobs : List Job) (ps : List Part) (h : AreOfParts jobs ps)
   named s x (signal.Delay y by max) l e below = tt
   named s x (signal.Back group i) l e below = tt
   named s x (signal.Member group i) l e below = tt
+  named s x (signal.Read table r) l e below = tt
+  named s x (signal.Write table w y r) l e below = tt
 
 pub joined_names : (f : Graph) → JoinedNames f
 joined_names f jobs ps h own joined s x l = named f jobs ps h own joined s x (get_or f.signals s x) l refl (joined.reads s x l)

@@ -8,21 +8,22 @@ use Rattle.std.proofs.lemmas.Int.{ints}
 use Rattle.std.proofs.lemmas.List.{get_or_past, length-map, length-drop, length-take, length-take-le}
 use Rattle.std.proofs.lemmas.List.Concat.{get_or-flat_map, length-flat_map}
 use Rattle.std.proofs.lemmas.List.Sums.{sum_by-cons, sum_by_more, sum_by_more_le}
-use Rattle.fv_num.specs.Frames.{Frame, Stream, column, frame_at}
-use Rattle.fv_num.specs.Interval.{Interval, full}
-use Rattle.fv_signal.specs.Value.{Graph, value}
-use Rattle.fv_diagram.specs.Diagram.{inputs, outputs}
-use Rattle.fv_diagram.specs.Streams.{run}
+use Rattle.fv_num.specs.headline.Frames.{Frame, Stream, column, frame_at}
+use Rattle.fv_num.specs.headline.Interval.{Interval, full}
+use Rattle.fv_signal.specs.headline.Value.{Graph, value}
+use Rattle.fv_diagram.specs.headline.Diagram.{inputs, outputs}
+use Rattle.fv_diagram.specs.headline.Streams.{run}
 use Rattle.fv_diagram.proofs.Each.{each_map}
-use Rattle.fv_interval.specs.Laws.{IsOf}
-use Rattle.fv_interval.specs.SpanHooks.{control_span}
-use Rattle.fv_propagate.specs.Propagated.{AreTaken}
+use Rattle.fv_interval.specs.headline.Laws.{IsOf}
+use Rattle.fv_interval.specs.headline.SpanHooks.{control_span}
+use Rattle.fv_propagate.specs.headline.Propagated.{AreTaken}
 use Rattle.fv_join.specs.declared.job.Job.{Job}
 use Rattle.fv_join.specs.Jobs as jobs_have
 use Rattle.fv_join.specs.Joined.{IsJoined, output, part_controls, part_frames}
 use Rattle.fv_join.proofs.Values.{part_column, part_frame}
 use Rattle.fv_join_diagrams.specs.OfParts.{AreOfParts, IsOfPart, JoinedPropagates}
-use Rattle.fv_join_diagrams.specs.Parts.{Part, controls_of, inputs_of, outputs_of, side_by_side, spans_of}
+use Rattle.fv_join_diagrams.specs.headline.Parts.{Part, side_by_side}
+use Rattle.fv_join_diagrams.specs.Parts.{controls_of, inputs_of, outputs_of, spans_of}
 use Rattle.fv_join_diagrams.proofs.Beside.{Has, parts_answer}
 use Rattle.fv_join_diagrams.proofs.Whole.{parts_are_whole}
 

@@ -1,10 +1,11 @@
 -- A diagram whose controls are numbered behind others.
 use Rattle.std.proofs.Common.{◌≡◌, ℕ, suc, ◌+◌, ◌-◌, List, [], ◌∷◌, ◌++◌, map, reverse, take, drop, refl, ap, ap₂, ◌∙◌, pos}
-use Rattle.fv_num.specs.Frames.{Frame}
-use Rattle.fv_diagram.specs.Diagram.{Diagram, Primitive, Constant, Control, Slot, Wave, Table, Bind, Par, Seq, Split, Merge, Rec, inputs, outputs}
-use Rattle.fv_diagram.specs.Streams.{beside, bound, column, dealt, fed_back, feedback, last, merged, run}
+use Rattle.fv_num.specs.headline.Frames.{Frame}
+use Rattle.fv_diagram.specs.headline.Diagram.{Diagram, Primitive, Constant, Control, Slot, Wave, Table, Bind, Par, Seq, Split, Merge, Rec, inputs, outputs}
+use Rattle.fv_diagram.specs.headline.Streams.{beside, bound, column, dealt, fed_back, feedback, last, merged, run}
 use Rattle.fv_join.specs.Joined.{part_controls}
-use Rattle.fv_join_diagrams.specs.Parts.{shifted, ShiftedAnswers}
+use Rattle.fv_join_diagrams.specs.headline.Parts.{shifted}
+use Rattle.fv_join_diagrams.specs.Parts.{ShiftedAnswers}
 
 -- ---- arities
 

@@ -1,9 +1,10 @@
 -- Parts side by side are well formed.
 use Rattle.std.proofs.Common.{◌⊎◌, inl, inr, ℕ, suc, ◌+◌, ◌%◌, ◌≤◌, [], ◌∷◌, length, refl, sym, ap₂, ◌∙◌, subst, arith}
 use Rattle.std.proofs.lemmas.List.Sums.{sum_by-cons}
-use Rattle.fv_diagram.specs.Diagram.{Diagram, Primitive, Constant, Control, Slot, Wave, Table, Bind, Par, Seq, Split, Merge, Rec, inputs, outputs}
+use Rattle.fv_diagram.specs.headline.Diagram.{Diagram, Primitive, Constant, Control, Slot, Wave, Table, Bind, Par, Seq, Split, Merge, Rec, inputs, outputs}
 use Rattle.fv_diagram.specs.Diagram.{control_bound, HasNoFreeSlot, IsFree, IsWellFormed}
-use Rattle.fv_join_diagrams.specs.Parts.{Part, AreClosed, PartsAreWhole, shifted, side_by_side}
+use Rattle.fv_join_diagrams.specs.headline.Parts.{Part, shifted, side_by_side}
+use Rattle.fv_join_diagrams.specs.Parts.{AreClosed, PartsAreWhole}
 use Rattle.fv_join_diagrams.proofs.Shifted.{inputs_shifted, outputs_shifted}
 
 well_shifted : (n : ℕ) (d : Diagram) → IsWellFormed d → IsWellFormed (shifted n d)

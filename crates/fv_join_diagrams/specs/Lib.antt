@@ -1,7 +1,10 @@
+pub mod headline
 pub mod Parts
 pub mod OfParts
 -- what its public clauses cite of crates below
-pub use Rattle.fv_diagram.specs.Streams
+pub use Rattle.fv_diagram.specs.headline.Streams
+pub use Rattle.fv_signal.specs.headline.Value
 pub use Rattle.fv_signal.specs.Value
+pub use Rattle.fv_propagate.specs.headline.Propagated
 pub use Rattle.fv_propagate.specs.Propagated
 pub use Rattle.fv_join.specs.Joined

@@ -1,11 +1,12 @@
 -- When graphs side by side give what diagrams side by side give (this project's profile).
 use Rattle.std.specs.Prelude.{◌≡◌, ℕ, ◌<◌, List, length, slice_index_or}
-use Rattle.fv_signal.specs.Value.{Graph}
-use Rattle.fv_diagram.specs.Diagram.{inputs, outputs}
-use Rattle.fv_propagate.specs.Propagated.{NamesWithin, Propagates}
+use Rattle.fv_signal.specs.headline.Value.{Graph}
+use Rattle.fv_diagram.specs.headline.Diagram.{inputs, outputs}
+use Rattle.fv_propagate.specs.headline.Propagated.{NamesWithin, Propagates}
 use Rattle.fv_join.specs.declared.job.Job.{Job}
 use Rattle.fv_join.specs.Joined.{IsJoined}
-use Rattle.fv_join_diagrams.specs.Parts.{Part, AreWellFormed, side_by_side, spans_of}
+use Rattle.fv_join_diagrams.specs.headline.Parts.{Part, side_by_side}
+use Rattle.fv_join_diagrams.specs.Parts.{AreWellFormed, spans_of}
 
 -- the job's graph is that of the part
 pub record IsOfPart (job : Job) (p : Part) : Type 0 where

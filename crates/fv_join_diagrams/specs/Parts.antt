@@ -1,35 +1,16 @@
--- Diagrams side by side, each with controls of its own (this project's profile).
-use Rattle.std.specs.Prelude.{◌≡◌, ℕ, ◌+◌, ◌<◌, ◌≤◌, List, [], ◌∷◌, length, take, flat_map, All, pos, slice_index_or}
+-- What calls say beside `headline/Parts`: diagrams side by side, each with controls of its own (this project's profile).
+use Rattle.std.specs.Prelude.{◌≡◌, ℕ, ◌+◌, ◌<◌, ◌≤◌, List, length, take, flat_map, All, slice_index_or}
 use Rattle.std.specs.List.{sum_by}
-use Rattle.fv_num.specs.Interval.{Interval}
-use Rattle.fv_diagram.specs.declared.node.Primitive.TheVariants.{Cut}
-use Rattle.fv_diagram.specs.Diagram.{Diagram, Primitive, Constant, Control, Slot, Wave, Table, Bind, Par, Seq, Split, Merge, Rec, inputs, outputs, control_bound, HasNoFreeSlot, IsWellFormed}
-use Rattle.fv_diagram.specs.Streams.{Frame, Stream, column, run}
+use Rattle.fv_num.specs.headline.Interval.{Interval}
+use Rattle.fv_diagram.specs.headline.Diagram.{Diagram, inputs, outputs}
+use Rattle.fv_diagram.specs.Diagram.{control_bound, HasNoFreeSlot, IsWellFormed}
+use Rattle.fv_diagram.specs.headline.Streams.{Frame, Stream, column, run}
 use Rattle.fv_join.specs.Joined.{part_frames, part_controls}
-
--- the diagram with n controls before its own
-abbrev pub shifted : (n : ℕ) → Diagram → Diagram
-shifted n (Primitive p) = Primitive p
-shifted n (Constant z) = Constant z
-shifted n (Control k) = Control (n + k)
-shifted n (Slot s) = Slot s
-shifted n (Wave w) = Wave w
-shifted n (Table T writes) = Table T writes
-shifted n (Bind s a) = Bind s (shifted n a)
-shifted n (Par a b) = Par (shifted n a) (shifted n b)
-shifted n (Seq a b) = Seq (shifted n a) (shifted n b)
-shifted n (Split a b) = Split (shifted n a) (shifted n b)
-shifted n (Merge a b) = Merge (shifted n a) (shifted n b)
-shifted n (Rec a b) = Rec (shifted n a) (shifted n b)
+use Rattle.fv_join_diagrams.specs.headline.Parts.{shifted, Part, side_by_side}
 
 -- it answers what the diagram answers on the controls behind the first n
 abbrev pub ShiftedAnswers : Diagram → Type 0
 ShiftedAnswers d = (n : ℕ) (c e : ℕ → Stream) (X : List Frame) → run (shifted n d) c e X ≡ run d (part_controls n c) e X
-
--- a diagram, and the spans of its controls
-pub record Part : Type 0 where
-  pub diagram : Diagram
-  pub spans : List Interval
 
 -- all inputs, outputs and controls of the parts
 abbrev pub inputs_of : List Part → ℕ
@@ -44,15 +25,6 @@ controls_of ps = sum_by (λ (p : Part). length p.spans) ps
 -- the spans of all controls
 abbrev pub spans_of : List Part → List Interval
 spans_of ps = flat_map (λ (p : Part). p.spans) ps
-
--- a diagram that takes nothing and gives nothing: a number that is cut
-abbrev pub nothing : Diagram
-nothing = Seq (Constant (pos 0)) (Primitive Cut)
-
--- the parts side by side, with n controls before theirs
-abbrev pub side_by_side : (n : ℕ) → List Part → Diagram
-side_by_side n [] = nothing
-side_by_side n (p ∷ ps) = Par (shifted n p.diagram) (side_by_side (n + length p.spans) ps)
 
 -- each part is well formed
 abbrev pub AreWellFormed : List Part → Type 0

@@ -81,6 +81,8 @@ fn value(
         Signal::Delay { x, .. } => number_at(past, x),
         Signal::Back { group, i } => number_at(past, member(graph, group, i)),
         Signal::Member { group, i } => number_at(now, member(graph, group, i)),
+        // No graph here has one.
+        Signal::Read { .. } | Signal::Write { .. } => 0,
     }
 }
 

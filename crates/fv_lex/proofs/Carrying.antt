@@ -11,8 +11,8 @@ use Rattle.fv_lex.specs.declared.token.Kind.TheVariants as kinds
 use Rattle.fv_lex.specs.declared.token.Symbol.{Symbol}
 use Rattle.fv_lex.specs.declared.token.Symbol.TheVariants.{Name, Text, Integer, Unsupported, Merge, NotEqual}
 use Rattle.fv_lex.specs.declared.token.Span.{Span}
-use Rattle.fv_lex.specs.Symbols.{at_byte, at_word, singles, after_less, after_greater, after_equals, double, primitive_words, form_words, control_words}
-use Rattle.fv_lex.specs.Symbols.{is_unsupported, symbol_of}
+use Rattle.fv_lex.specs.headline.Symbols.{at_byte, at_word, singles, after_less, after_greater, after_equals, double, primitive_words, form_words, control_words}
+use Rattle.fv_lex.specs.headline.Symbols.{is_unsupported, symbol_of}
 use Rattle.fv_lex.specs.Spans.{new_symbols, HasSymbol}
 use Rattle.fv_lex.specs.Carried.{Carries, AllCarry}
 

@@ -4,9 +4,9 @@ use Rattle.std.specs.Prelude.{nat_eq}
 use Rattle.std.proofs.lemmas.Bool.{ne_eqb, or_parts}
 use Rattle.std.proofs.lemmas.Bool.Decides.{nat_tests}
 use Rattle.fv_lex.specs.declared.token.Kind.TheVariants.{Name, Integer, Text, Sign}
-use Rattle.fv_lex.specs.Bytes.{is_blank, is_letter, is_digit, is_underscore, is_name_byte, is_quote}
-use Rattle.fv_lex.specs.Symbols.{double}
-use Rattle.fv_lex.specs.Pieces.{is_name, is_token}
+use Rattle.fv_lex.specs.headline.Bytes.{is_blank, is_letter, is_digit, is_underscore, is_name_byte, is_quote}
+use Rattle.fv_lex.specs.headline.Symbols.{double}
+use Rattle.fv_lex.specs.headline.Pieces.{is_name, is_token}
 use Rattle.fv_lex.proofs.Runs.{list_all_stops}
 
 pub digit_range : (b : ℕ) → is_digit b ≡ true → (48 ≤ b) × (b ≤ 57)

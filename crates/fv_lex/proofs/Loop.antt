@@ -13,15 +13,15 @@ use Rattle.fv_lex.specs.declared.token.Span.{Span}
 use Rattle.fv_lex.specs.declared.refusal.Fault.{Fault}
 use Rattle.fv_lex.specs.declared.refusal.Fault.TheVariants as faults
 use Rattle.fv_lex.specs.declared.next.Next.TheVariants.{End, Found, Refused}
-use Rattle.fv_lex.specs.Token.{Token}
+use Rattle.fv_lex.specs.headline.Token.{Token}
 use Rattle.fv_lex.specs.Spans.{token_in, tokens_in, IsWithin, new_symbols, new_spans, HasSymbol}
-use Rattle.fv_lex.specs.Pieces.{IsPiece, longest_token}
-use Rattle.fv_lex.specs.Bytes.{is_letter, is_underscore, begins}
-use Rattle.fv_lex.specs.Symbols.{symbol_of}
+use Rattle.fv_lex.specs.headline.Pieces.{IsPiece, longest_token}
+use Rattle.fv_lex.specs.headline.Bytes.{is_letter, is_underscore, begins}
+use Rattle.fv_lex.specs.headline.Symbols.{symbol_of}
 use Rattle.std.specs.List.{prefix_len}
 use Rattle.fv_lex.specs.inner.Steps.{bare_underscores, IsBare, next_piece}
-use Rattle.fv_lex.specs.Cuts.{deepest, depth_after, Cut, Cuts, nothing_more, piece_first, Ends, whole, faulty, too_deep, first_place, place_after, token_of}
-use Rattle.fv_lex.specs.Cuts.{tokens_of, end_of, refusal_at, answer_of, longest_text, Has, cut}
+use Rattle.fv_lex.specs.headline.Cuts.{deepest, depth_after, Cut, Cuts, nothing_more, piece_first, Ends, whole, faulty, too_deep, first_place, place_after, token_of}
+use Rattle.fv_lex.specs.headline.Cuts.{tokens_of, end_of, refusal_at, answer_of, longest_text, Has, cut}
 use Rattle.fv_lex.proofs.TokenLists.{length-tokens_in}
 use Rattle.fv_lex.proofs.Runs.{prefix_len-passes}
 use Rattle.fv_lex.proofs.Sound.{At, Told, sound, wires_some, run_head}

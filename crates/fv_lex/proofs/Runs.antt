@@ -3,7 +3,7 @@ use Rattle.std.proofs.Common.{◌≡◌, ℕ, suc, ◌+◌, ◌-◌, ◌*◌, �
 use Rattle.std.proofs.Common.{subst, ◌∙◌, arith}
 use Rattle.std.specs.List.{list_all, prefix_len}
 use Rattle.std.proofs.lemmas.Bool.{and_parts}
-use Rattle.fv_base.specs.Digits.{decimal_after}
+use Rattle.fv_base.specs.headline.Digits.{decimal_after}
 
 -- a test, as the choice that hangs on it went
 pub either : {A : Type 0} {y : A} (Q : Type 0) (b : Bool) (u v : A) → (b ≡ true → u ≡ y → Q) → (b ≡ false → v ≡ y → Q) → cond b u v ≡ y → Q

@@ -11,11 +11,11 @@ use Rattle.fv_lex.specs.declared.token.Kind.TheVariants.{Name, Integer, Text, Si
 use Rattle.fv_lex.specs.declared.refusal.Fault.TheVariants.{BadByte, RealLiteral, LiteralTooLarge}
 use Rattle.fv_lex.specs.declared.next.Next.{Next}
 use Rattle.fv_lex.specs.declared.next.Next.TheVariants.{End, Found, Refused}
-use Rattle.fv_lex.specs.Bytes.{is_blank, is_letter, is_digit, is_underscore, is_name_byte, is_quote, is_in_line, begins}
-use Rattle.fv_lex.specs.Symbols.{at_byte, singles, double, value}
-use Rattle.fv_lex.specs.Pieces.{is_name, is_integer, closes, is_token, IsLongest, BeginsNoToken, is_real_tail, BeginsReal, fraction, real, begins_comment}
-use Rattle.fv_lex.specs.Pieces.{ends_line, has_close, greatest_literal, IsPiece, blank_byte, line_comment, block_comment, longest_token, IsFault, unclosed_text}
-use Rattle.fv_lex.specs.Pieces.{unclosed_comment, real_literal, large_literal, bad_byte}
+use Rattle.fv_lex.specs.headline.Bytes.{is_blank, is_letter, is_digit, is_underscore, is_name_byte, is_quote, is_in_line, begins}
+use Rattle.fv_lex.specs.headline.Symbols.{at_byte, singles, double, value}
+use Rattle.fv_lex.specs.headline.Pieces.{is_name, is_integer, closes, is_token, IsLongest, BeginsNoToken, is_real_tail, BeginsReal, fraction, real, begins_comment}
+use Rattle.fv_lex.specs.headline.Pieces.{ends_line, has_close, greatest_literal, IsPiece, blank_byte, line_comment, block_comment, longest_token, IsFault, unclosed_text}
+use Rattle.fv_lex.specs.headline.Pieces.{unclosed_comment, real_literal, large_literal, bad_byte}
 use Rattle.fv_lex.specs.inner.Steps.{to_quote, to_close, bare_underscores, found_or, number_next, slash_next, sign_next, first_next, next_piece}
 use Rattle.fv_lex.proofs.Runs.{Stops, prefix_len-cons, prefix_len-passes, list_all-prefix_len, run_stops, run_is, run_short, list_all_stops}
 use Rattle.fv_lex.proofs.Classes.{digit_range, letter_range, no_letter, no_digit, no_double, no_double_high, no_name, no_integer, no_text, no_sign, name_stops}

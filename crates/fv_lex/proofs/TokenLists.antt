@@ -4,7 +4,8 @@ use Rattle.std.specs.Option.{option_map}
 use Rattle.std.proofs.lemmas.Option.{slice_get-map, slice_get_read}
 use Rattle.fv_lex.specs.declared.token.Symbol.{Symbol}
 use Rattle.fv_lex.specs.declared.token.Span.{Span}
-use Rattle.fv_lex.specs.Token.{Token, symbols_of, kinds_of, texts_of, places_of}
+use Rattle.fv_lex.specs.headline.Token.{Token, symbols_of, texts_of, places_of}
+use Rattle.fv_lex.specs.Token.{kinds_of}
 use Rattle.fv_lex.specs.Spans.{token_in, tokens_in}
 
 pub length-tokens_in : (text : List ℕ) (symbols : List Symbol) (spans : List Span)

@@ -11,10 +11,11 @@ use Rattle.fv_lex.specs.declared.refusal.LexRefusal.{LexRefusal}
 use Rattle.fv_lex.specs.declared.refusal.LexRefusal.TheVariants.{TextTooLong}
 use Rattle.fv_lex.specs.declared.next.Next.{Next}
 use Rattle.fv_lex.specs.declared.next.Next.TheVariants.{End, Found, Refused}
-use Rattle.fv_lex.specs.Token.{Lexed}
+use Rattle.fv_lex.specs.headline.Token.{Lexed}
 use Rattle.fv_lex.specs.inner.Steps.{next_piece}
-use Rattle.fv_lex.specs.Cuts.{deepest, depth_after, Cut, Cuts, nothing_more, piece_first, Ends, whole, faulty, too_deep, answer_of, longest_text, Has, too_long}
-use Rattle.fv_lex.specs.Cuts.{cut, HasAtLeastOne}
+use Rattle.fv_lex.specs.headline.Cuts.{deepest, depth_after, Cut, Cuts, nothing_more, piece_first, Ends, whole, faulty, too_deep, answer_of, longest_text, Has, too_long}
+use Rattle.fv_lex.specs.headline.Cuts.{cut}
+use Rattle.fv_lex.specs.Cuts.{HasAtLeastOne}
 use Rattle.fv_lex.proofs.Sound.{At, Told, sound}
 
 -- a cut of a text as far as it goes

@@ -8,10 +8,10 @@ use Rattle.fv_lex.specs.declared.refusal.Fault.TheVariants as faults
 use Rattle.fv_lex.specs.declared.refusal.LexRefusal.{LexRefusal}
 use Rattle.fv_lex.specs.declared.refusal.LexRefusal.TheVariants.{NoMemory}
 use Rattle.fv_lex.specs.declared.next.Next.TheVariants.{End, Found, Refused}
-use Rattle.fv_lex.specs.Token.{Lexed}
-use Rattle.fv_lex.specs.Pieces.{IsPiece}
+use Rattle.fv_lex.specs.headline.Token.{Lexed}
+use Rattle.fv_lex.specs.headline.Pieces.{IsPiece}
 use Rattle.fv_lex.specs.inner.Steps.{next_piece}
-use Rattle.fv_lex.specs.Cuts.{deepest, depth_after, Cut, Cuts, nothing_more, piece_first, Ends, whole, faulty, too_deep, answer_of, Has, too_long, cut}
+use Rattle.fv_lex.specs.headline.Cuts.{deepest, depth_after, Cut, Cuts, nothing_more, piece_first, Ends, whole, faulty, too_deep, answer_of, Has, too_long, cut}
 use Rattle.fv_lex.specs.Cuts.{HasTokens, HasRefusal, HasAtMostOne}
 use Rattle.fv_lex.proofs.Complete.{piece_found, fault_refused}
 

@@ -2,7 +2,7 @@
 use Rattle.std.specs.Prelude.{◌≡◌, ℕ, ◌≤◌, List, Some, slice_get}
 use Rattle.fv_lex.specs.declared.token.Symbol.{Symbol}
 use Rattle.fv_lex.specs.declared.token.Symbol.TheVariants.{Name, Text, Integer, Unsupported}
-use Rattle.fv_lex.specs.Pieces.{greatest_literal}
+use Rattle.fv_lex.specs.headline.Pieces.{greatest_literal}
 
 -- As token i, a symbol that carries a number carries i, and an integer's value is no greater than the greatest literal.
 abbrev pub Carries : ℕ → Symbol → Type 0

@@ -1,9 +1,9 @@
 -- Small answers, which hold by computing.
 use Rattle.std.specs.Prelude.{◌≡◌, refl, true, false, codes, [], ◌∷◌, ◌++◌, Some, None}
 use Rattle.fv_lex.specs.declared.token.Symbol.TheVariants as symbols
-use Rattle.fv_lex.specs.Symbols.{sign, value, word_symbol}
-use Rattle.fv_lex.specs.Pieces.{is_name, is_integer, is_text, is_real_tail, BeginsReal, fraction, real, has_close}
-use Rattle.fv_lex.specs.Cuts.{first_place, place_after, depth_after}
+use Rattle.fv_lex.specs.headline.Symbols.{sign, value, word_symbol}
+use Rattle.fv_lex.specs.headline.Pieces.{is_name, is_integer, is_text, is_real_tail, BeginsReal, fraction, real, has_close}
+use Rattle.fv_lex.specs.headline.Cuts.{first_place, place_after, depth_after}
 
 merge_is_a_sign : sign (codes ":>") ≡ Some symbols.Merge
 merge_is_a_sign = refl

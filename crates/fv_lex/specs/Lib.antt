@@ -1,8 +1,6 @@
+pub mod headline
 pub mod Token
 pub mod Spans
-pub mod Bytes
-pub mod Symbols
-pub mod Pieces
 pub mod Cuts
 pub mod Carried
 pub mod Examples

@@ -6,10 +6,10 @@ use Rattle.fv_lex.specs.declared.token.Place.{Place}
 use Rattle.fv_lex.specs.declared.token.Symbol.{Symbol}
 use Rattle.fv_lex.specs.declared.token.Span.{Span}
 use Rattle.fv_lex.specs.declared.token.Tokens.TheInside.{Inside}
-use Rattle.fv_lex.specs.Token.{Token, Lexed}
-use Rattle.fv_lex.specs.Symbols.{symbol_of, value}
+use Rattle.fv_lex.specs.headline.Token.{Token, Lexed}
+use Rattle.fv_lex.specs.headline.Symbols.{symbol_of, value}
 use Rattle.fv_lex.specs.Carried.{AllCarry}
-use Rattle.fv_lex.specs.Pieces.{is_token, greatest_literal}
+use Rattle.fv_lex.specs.headline.Pieces.{is_token, greatest_literal}
 use Rattle.fv_lex.specs.Cuts.{HasTokens}
 
 -- the token of a symbol and a span

@@ -4,9 +4,10 @@ ghost use Rattle.std.specs.Prelude.{◌≡◌, ◌⊎◌, ◌+◌, ◌<◌, ◌�
 ghost use Rattle.fv_base.specs.declared.limits.TheConstants.{DEEPEST_NESTING};
 ghost use Rattle.fv_lex.specs.declared.refusal.LexRefusal.{LexRefusal};
 ghost use Rattle.fv_lex.specs.declared.refusal.LexRefusal.TheVariants.{NoMemory};
-ghost use Rattle.fv_lex.specs.Token.{Lexed};
+ghost use Rattle.fv_lex.specs.headline.Token.{Lexed};
 ghost use Rattle.fv_lex.specs.Spans.{new_symbols, new_spans, HasSymbol};
-ghost use Rattle.fv_lex.specs.Cuts.{depth_after, place_after, longest_text, Has, HasTokens, HasRefusal, HasAtMostOne, HasAtLeastOne};
+ghost use Rattle.fv_lex.specs.headline.Cuts.{depth_after, place_after, longest_text, Has};
+ghost use Rattle.fv_lex.specs.Cuts.{HasTokens, HasRefusal, HasAtMostOne, HasAtLeastOne};
 
 use crate::next::{Next, bare_underscores, next_piece};
 use crate::refusal::{Fault, LexRefusal, refusal_at};

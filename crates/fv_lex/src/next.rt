@@ -1,8 +1,8 @@
 // The next piece of a text.
 
 ghost use Rattle.std.specs.Prelude.{◌≡◌, ◌∷◌};
-ghost use Rattle.fv_lex.specs.Bytes.{is_name_byte, begins};
-ghost use Rattle.fv_lex.specs.Pieces.{is_exponent, is_real_tail};
+ghost use Rattle.fv_lex.specs.headline.Bytes.{is_name_byte, begins};
+ghost use Rattle.fv_lex.specs.headline.Pieces.{is_exponent, is_real_tail};
 ghost use Rattle.fv_lex.specs.inner.Steps.{bare_underscores, IsBare, number_next, slash_next, sign_next, first_next, next_piece};
 
 use crate::refusal::Fault;

@@ -2,7 +2,7 @@
 
 ghost use Rattle.std.specs.Prelude.{◌≡◌};
 ghost use Rattle.fv_lex.specs.declared.refusal.LexRefusal.TheVariants.{NoMemory};
-ghost use Rattle.fv_lex.specs.Cuts.{refusal_at};
+ghost use Rattle.fv_lex.specs.headline.Cuts.{refusal_at};
 
 use crate::token::Place;
 use fv_base::Role;

@@ -2,9 +2,9 @@
 
 ghost use Rattle.std.specs.Prelude.{◌≡◌, ◌==◌, ◌≤◌, ◌<◌, true, length, IfSome, MatchOption};
 ghost use Rattle.std.specs.List.{list_all, prefix_len};
-ghost use Rattle.fv_lex.specs.Bytes.{is_blank, is_letter, is_digit, begins};
-ghost use Rattle.fv_lex.specs.Symbols.{value};
-ghost use Rattle.fv_lex.specs.Pieces.{greatest_literal};
+ghost use Rattle.fv_lex.specs.headline.Bytes.{is_blank, is_letter, is_digit, begins};
+ghost use Rattle.fv_lex.specs.headline.Symbols.{value};
+ghost use Rattle.fv_lex.specs.headline.Pieces.{greatest_literal};
 ghost use Rattle.fv_lex.specs.inner.Steps.{is_in, to_quote, to_close};
 
 use fv_base::is_digit;

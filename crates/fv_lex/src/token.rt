@@ -2,7 +2,8 @@
 
 ghost use Rattle.std.specs.Prelude.{◌≡◌, ◌+◌, ◌<◌, ◌≤◌, Some, length, slice_get, take, drop};
 ghost use Rattle.fv_lex.specs.Carried.{AllCarry};
-ghost use Rattle.fv_lex.specs.Token.{symbols_of, kinds_of, texts_of, places_of};
+ghost use Rattle.fv_lex.specs.headline.Token.{symbols_of, texts_of, places_of};
+ghost use Rattle.fv_lex.specs.Token.{kinds_of};
 ghost use Rattle.fv_lex.specs.Cuts.{HasTokens};
 
 use std::marker::Model;
@@ -161,7 +162,7 @@ pub struct Tokens<'a> {
 }
 
 impl<'a> Model for Tokens<'a> {
-    ghost use Rattle.fv_lex.specs.Token.{Lexed};
+    ghost use Rattle.fv_lex.specs.headline.Token.{Lexed};
 
     ghost Value = { Lexed };
 

@@ -6,10 +6,11 @@ use Rattle.std.proofs.lemmas.List.{ext_get_or, get_or-set_same, get_or-set_other
 use Rattle.std.proofs.lemmas.Bool.{cases_lt}
 use Rattle.std.specs.Prelude.{sum, slice_index}
 use borrow.Rule.Slice.PartMut.{put_mid}
-use Rattle.fv_base.specs.Lists.{table}
+use Rattle.fv_base.specs.headline.Lists.{table}
 use Rattle.fv_base.proofs.Lists.{length_table, get_or_table}
-use Rattle.fv_num.specs.Words.{argument}
-use Rattle.fv_loopcode.specs.Lanes.{Lane, appended, all_appended}
+use Rattle.fv_num.specs.headline.Words.{argument}
+use Rattle.fv_loopcode.specs.headline.Lanes.{Lane, appended}
+use Rattle.fv_loopcode.specs.Lanes.{all_appended}
 use Rattle.fv_pool.specs.Layout.{part}
 use Rattle.fv_lines.specs.Hold.{from_start}
 use Rattle.fv_lines.specs.Solo.{history_at, block_at, len_at, start_at, first_at, held_from}

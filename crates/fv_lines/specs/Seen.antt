@@ -1,6 +1,6 @@
 -- What a seen lane shows.
 use Rattle.std.specs.Prelude.{List, ◌++◌, ℤ}
-use Rattle.fv_loopcode.specs.Lanes.{Lane}
+use Rattle.fv_loopcode.specs.headline.Lanes.{Lane}
 use Rattle.fv_lines.specs.declared.seen.Seen.{Seen}
 
 -- its samples, the history first

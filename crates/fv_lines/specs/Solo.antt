@@ -1,8 +1,8 @@
 -- The lanes of one worker that has them all.
 use Rattle.std.specs.Prelude.{ℕ, ◌≡◌, ◌+◌, ◌-◌, ◌≤◌, ◌<◌, List, length, take, drop, map, sum, slice_index, ℤ}
 use base.Fml.{GName}
-use Rattle.fv_base.specs.Lists.{table}
-use Rattle.fv_loopcode.specs.Lanes.{Lane, lane_of}
+use Rattle.fv_base.specs.headline.Lists.{table}
+use Rattle.fv_loopcode.specs.headline.Lanes.{Lane, lane_of}
 use Rattle.fv_pool.specs.Layout.{ArePlaces, part}
 use Rattle.fv_pool.specs.Lengths.{lengths_of}
 use Rattle.fv_lines.specs.Shape.{copied_history}

@@ -1,7 +1,7 @@
 -- What the writer of a lane shows.
 use Rattle.std.specs.Prelude.{ℕ, List, ◌++◌, ℤ}
 use base.Fml.{GName}
-use Rattle.fv_loopcode.specs.Lanes.{Lane}
+use Rattle.fv_loopcode.specs.headline.Lanes.{Lane}
 use Rattle.fv_pool.specs.declared.loan.Halves.{Halves}
 use Rattle.fv_lines.specs.declared.shape.LaneShape.{LaneShape}
 use Rattle.fv_lines.specs.declared.writer.LaneWriter.{LaneWriter}

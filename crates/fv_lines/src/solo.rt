@@ -20,8 +20,9 @@ pub struct Solo<'a, 'l, 's, 'b, 'c> {
 
 impl<'a, 'l, 's, 'b, 'c> Solo<'a, 'l, 's, 'b, 'c> {
     ghost use Rattle.std.specs.Prelude.{◌≡◌, ◌↔◌, ◌+◌, ◌^◌, ◌<◌, ◌≤◌, length, slice_set, slice_index, IsTrue, ℕ};
-    ghost use Rattle.fv_num.specs.Words.{argument};
-    ghost use Rattle.fv_loopcode.specs.Lanes.{lane_of, appended, all_appended, sample_at, HasSample};
+    ghost use Rattle.fv_num.specs.headline.Words.{argument};
+    ghost use Rattle.fv_loopcode.specs.headline.Lanes.{lane_of, appended, sample_at};
+    ghost use Rattle.fv_loopcode.specs.Lanes.{all_appended, HasSample, HasJust};
     ghost use Rattle.fv_pool.specs.Lengths.{lengths_of};
     ghost use Rattle.fv_lines.specs.Solo.{lanes_of, lane_at, lengths_in, shapes_in, cells_in, frames_in, opening_lanes, AreLists, AreHeld, AreFramed, AreFull};
     ghost use Rattle.fv_lines.specs.Solo.{HoldNext, IsSolo, rest_of, rest_in};
@@ -120,6 +121,15 @@ impl<'a, 'l, 's, 'b, 'c> Solo<'a, 'l, 's, 'b, 'c> {
         let history = u64::from(self.shapes[i].history);
         let newest = history + index;
         back <= newest && newest - back < history + u64::from(self.written[i])
+    }
+
+    /// The lane has just so many samples of the block.
+    pub fn has_just(&self, lane: u64, samples: u64) -> bool
+        requires sound { IsSolo self.now }
+        requires there { lane < length (lanes_of self.now) }
+        ensures { IsTrue result ↔ HasJust (lane_of (lanes_of self.now) lane) samples }
+    {
+        samples == u64::from(self.written[lane as usize])
     }
 
     /// The block ends. The cells and the states then hold every lane's next history.
@@ -237,7 +247,7 @@ impl<'a, 'l, 's, 'b, 'c> Solo<'a, 'l, 's, 'b, 'c> {
 }
 
 impl<'a, 'l, 's, 'b, 'c> Store for Solo<'a, 'l, 's, 'b, 'c> {
-    ghost use Rattle.fv_loopcode.specs.State.{lanes_alone};
+    ghost use Rattle.fv_loopcode.specs.headline.State.{lanes_alone};
     ghost use Rattle.fv_lines.specs.Solo.{lanes_of, IsSolo, rest_of, SoloRest};
 
     ghost state = { λ s. lanes_alone (lanes_of s) };
@@ -250,6 +260,10 @@ impl<'a, 'l, 's, 'b, 'c> Store for Solo<'a, 'l, 's, 'b, 'c> {
 
     fn load(&self, lane: u64, index: u64, back: u64) -> i32 {
         self.at(lane, index, back)
+    }
+
+    fn has_just(&self, lane: u64, samples: u64) -> bool {
+        self.has_just(lane, samples)
     }
 
     fn append(&mut self, lane: u64, value: i32) {

@@ -1,6 +1,6 @@
 -- What a block leaves.
 use Rattle.std.proofs.Common.{◌≡◌, ℕ, ℤ, List, drop, sym, ap, ap₂, ◌∙◌}
-use Rattle.fv_loopcode.specs.Lanes.{Lane, lane_of}
+use Rattle.fv_loopcode.specs.headline.Lanes.{Lane, lane_of}
 use Rattle.fv_lines.specs.Solo.{lanes_of, lengths_in, shapes_in, cells_in, frames_in, held_at, history_at}
 use Rattle.fv_lines.specs.declared.solo.Solo.{Solo}
 use Rattle.fv_lines.specs.declared.shape.LaneShape.{LaneShape}

@@ -1,10 +1,12 @@
 // A block of one worker over the region's cells.
 
 ghost use Rattle.std.specs.Prelude.{◌≡◌, ◌<◌, ◌≤◌, ◌++◌, ℕ, [], ◌∷◌, length, drop, All};
-ghost use Rattle.fv_num.specs.Words.{argument};
-ghost use Rattle.fv_loopcode.specs.Lanes.{lane_of, sample_at, HasSample};
-ghost use Rattle.fv_loopcode.specs.State.{lanes_alone};
-ghost use Rattle.fv_loopcode.specs.Code.{MayRun, ran, frame_of, IsWithin};
+ghost use Rattle.fv_num.specs.headline.Words.{argument};
+ghost use Rattle.fv_loopcode.specs.headline.Lanes.{lane_of, sample_at};
+ghost use Rattle.fv_loopcode.specs.Lanes.{HasSample};
+ghost use Rattle.fv_loopcode.specs.headline.State.{lanes_alone};
+ghost use Rattle.fv_loopcode.specs.headline.Code.{ran};
+ghost use Rattle.fv_loopcode.specs.Code.{MayRun, frame_of, IsWithin};
 ghost use Rattle.fv_pool.specs.Layout.{HaveRoom};
 ghost use Rattle.fv_pool.specs.Lengths.{lengths_of};
 ghost use Rattle.fv_pool.specs.Region.{cells_of};
@@ -13,7 +15,7 @@ ghost use Rattle.fv_lines.specs.Writer.{list_of, written_by, frames_of, lane_wri
 ghost use Rattle.fv_lines.specs.Solo.{AreLists, AreHeld, AreFramed, AreFull, held_at, history_at, opening_lanes};
 
 use fv_lines::{LaneShape, LaneState, LaneWriter, Solo};
-use fv_loopcode::{Code, run};
+use fv_loopcode_machine::{Code, run};
 use fv_pool::{Layout, Region};
 use std::thread::{Threads, join};
 

@@ -1,3 +1,4 @@
+pub mod headline
 pub mod Lanes
 pub mod State
 pub mod Code

@@ -1,7 +1,7 @@
 -- A lane in a vector, and the codes that are run.
 use Rattle.std.specs.Prelude.{◌-◌, List, [], ◌∷◌, length, take, pos}
 use Rattle.fv_num.specs.declared.op.Op.TheVariants.{Add, Sub, Mul, Div}
-use Rattle.fv_loopcode.specs.Lanes.{Lane}
+use Rattle.fv_loopcode.specs.headline.Lanes.{Lane}
 use Rattle.fv_loopcode.specs.declared.step.Step.{Step}
 use Rattle.fv_loopcode.specs.declared.step.Step.TheVariants.{Number, Held, Input, Point, Load, Append}
 use Rattle.fv_loopcode_tests.specs.declared.line.Line.{Line}
@@ -10,9 +10,11 @@ use Rattle.fv_loopcode_tests.specs.declared.line.Line.{Line}
 abbrev pub lane_in : Line → Lane
 lane_in s = record { history = s.history; items = take s.written s.cells.items; room = length s.cells.items - s.written }
 
--- the input and the last sum
+-- the square of the input less the input, and the last sum
 abbrev pub running_sum : List Step
-running_sum = Input 0 ∷ Number (pos 1) ∷ Load 0 1 1 ∷ Point Add (0 ∷ 2 ∷ 2 ∷ 2 ∷ []) ∷ Append 0 3 ∷ []
+running_sum =
+    Input 0 ∷ Point Mul (0 ∷ 0 ∷ 0 ∷ 0 ∷ []) ∷ Point Sub (1 ∷ 0 ∷ 0 ∷ 0 ∷ []) ∷ Number (pos 1) ∷ Load 0 3 1
+    ∷ Point Add (2 ∷ 4 ∷ 4 ∷ 4 ∷ []) ∷ Append 0 5 ∷ []
 
 -- one held value less another
 abbrev pub difference : List Step

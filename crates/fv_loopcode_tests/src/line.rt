@@ -1,7 +1,7 @@
 // A lane in a vector.
 
 ghost use Rattle.std.specs.Prelude.{[], ◌∷◌};
-ghost use Rattle.fv_loopcode.specs.State.{lanes_alone};
+ghost use Rattle.fv_loopcode.specs.headline.State.{lanes_alone};
 ghost use Rattle.fv_loopcode_tests.specs.Line.{lane_in};
 
 use fv_loopcode::Store;
@@ -21,6 +21,10 @@ impl Store for Line {
 
     fn load(&self, _lane: u64, index: u64, back: u64) -> i32 {
         self.cells[(u64::from(self.history) + index - back) as usize]
+    }
+
+    fn has_just(&self, _lane: u64, samples: u64) -> bool {
+        u64::from(self.history) + samples == self.written.min(self.cells.len() as u64)
     }
 
     fn append(&mut self, _lane: u64, value: i32) {

@@ -1,6 +1,6 @@
 // Worked examples.
 
-ghost use Rattle.std.specs.Prelude.{◌≡◌, [], length};
+ghost use Rattle.std.specs.Prelude.{◌≡◌, ◌<◌, ◌+◌, [], length};
 ghost use Rattle.fv_loopcode_tests.specs.Line.{lane_in, running_sum, difference, scaled};
 
 use crate::line::Line;
@@ -9,19 +9,27 @@ use fv_num::Op;
 use std::process::Abort;
 use std::test::Fail;
 
-const SUM: [Step; 5] = [
+pub(crate) const SUM: [Step; 7] = [
     Step::Input(0),
+    Step::Point {
+        op: Op::Mul,
+        args: [0, 0, 0, 0],
+    },
+    Step::Point {
+        op: Op::Sub,
+        args: [1, 0, 0, 0],
+    },
     Step::Number(1),
     Step::Load {
         lane: 0,
-        back: 1,
+        back: 3,
         max: 1,
     },
     Step::Point {
         op: Op::Add,
-        args: [0, 2, 2, 2],
+        args: [2, 4, 4, 4],
     },
-    Step::Append { lane: 0, value: 3 },
+    Step::Append { lane: 0, value: 5 },
 ];
 
 const DIFFERENCE: [Step; 3] = [
@@ -98,16 +106,17 @@ fn code_reads_earlier_steps(rt: HostRuntime) -> Result<(), Fail> {
     Ok(())
 }
 
-// Runs the running sum over three samples.
-fn sum(code: &Code, input: &[i32], registers: &mut [i32], line: &mut Line)
+/// Runs the running sum over so many samples.
+pub(crate) fn sum(code: &Code, input: &[i32], count: u64, registers: &mut [i32], line: &mut Line)
     requires code { code.now ≡ running_sum }
-    requires registers { length registers.old ≡ 5 }
-    requires input { length input.now ≡ 3 }
+    requires registers { length registers.old ≡ 7 }
+    requires few { count < 1000 }
+    requires input { length input.now ≡ count }
     requires history { line.old.history ≡ 1 }
     requires written { line.old.written ≡ 1 }
-    requires room { length line.old.cells.items ≡ 4 }
+    requires room { length line.old.cells.items ≡ 1 + count }
 {
-    run(code, &[], input, 1, 0, 3, registers, line);
+    run(code, &[], input, 1, 0, count, registers, line);
 }
 
 #[test]
@@ -115,18 +124,18 @@ fn a_running_sum(rt: HostRuntime) -> Result<(), Fail> {
     let Some(code) = Code::new(rt.alloc(), &SUM, 1)? else {
         return Err("no code".into());
     };
-    assert_eq!(rt; code.len(), 5);
+    assert_eq!(rt; code.len(), 7);
     assert!(rt; !code.is_empty());
     assert_eq!(rt; code.steps(), SUM.as_slice());
-    let mut registers = [0; 5];
+    let mut registers = [0; 7];
     let mut line = Line {
         cells: vec![in rt.alloc(); 0; 4]?,
         history: 1,
         written: 1,
     };
-    sum(&code, &[5, 7, 4], &mut registers, &mut line);
-    assert_eq!(rt; line.cells.as_slice(), [0, 5, 12, 16].as_slice());
-    assert_eq!(rt; registers.as_slice(), [4, 1, 12, 16, 16].as_slice());
+    sum(&code, &[5, 7, 4], 3, &mut registers, &mut line);
+    assert_eq!(rt; line.cells.as_slice(), [0, 20, 62, 74].as_slice());
+    assert_eq!(rt; registers.as_slice(), [4, 16, 12, 1, 62, 74, 74].as_slice());
     Ok(())
 }
 

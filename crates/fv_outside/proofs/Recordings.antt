@@ -7,7 +7,8 @@ use Rattle.std.proofs.lemmas.Bool.{le-leb}
 use Rattle.fv_outside.specs.declared.tasks.Reads.{Reads}
 use Rattle.fv_outside.specs.declared.gate.Line.{Line}
 use Rattle.fv_outside.specs.declared.recorder.KeptBlock.{KeptBlock}
-use Rattle.fv_outside.specs.Journal.{BlockEntry, has_room, room_after, told_after}
+use Rattle.fv_outside.specs.headline.Journal.{BlockEntry}
+use Rattle.fv_outside.specs.Journal.{has_room, room_after, told_after}
 use Rattle.fv_outside.specs.Recorded.{entry_of, told_of, IsAmong, IsRecorded}
 
 -- a part of the first list stays where it is

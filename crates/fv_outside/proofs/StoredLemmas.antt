@@ -5,9 +5,10 @@ use Rattle.std.proofs.lemmas.List.{take_more}
 use Rattle.std.proofs.lemmas.List.Elements.{All-get_or, All-set}
 use Rattle.std.proofs.lemmas.Slice.Eq.{bytes_eq-Decides}
 use Rattle.std.proofs.lemmas.Bool.{false_from_ne_true}
-use Rattle.fv_outside.specs.Desk.{File, GoesOn, newest, file_named}
+use Rattle.fv_outside.specs.headline.Desk.{File, GoesOn, newest, file_named}
 use Rattle.fv_outside.specs.Drawer.{Kept, ReadsWithin, DrawerGoesOn, nothing_kept}
-use Rattle.fv_outside.specs.Requests.{Request, place_of}
+use Rattle.fv_outside.specs.headline.Requests.{Request}
+use Rattle.fv_outside.specs.Requests.{place_of}
 use Rattle.fv_outside.specs.Memory.{Memory, RoleMemory, memory_of, memory_state}
 use Rattle.fv_outside.specs.Stored.{IsStored, shown_at, memory_with}
 use Rattle.fv_base.specs.declared.role.Role.{Role}

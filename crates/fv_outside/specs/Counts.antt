@@ -1,7 +1,9 @@
 -- What a desk of real files means: its counts, and what it was asked for (this project's profile).
 use Rattle.std.specs.Prelude.{◌≡◌, ◌≢◌, ℕ, ◌+◌, ◌%◌, ◌^◌, false, None, List, [], ◌∷◌, ◌++◌, slice_index, replicate}
-use Rattle.fv_outside.specs.Requests.{Request, place_of}
-use Rattle.fv_outside.specs.Desk.{DeskState, raised}
+use Rattle.fv_outside.specs.headline.Requests.{Request}
+use Rattle.fv_outside.specs.Requests.{place_of}
+use Rattle.fv_outside.specs.headline.Desk.{DeskState}
+use Rattle.fv_outside.specs.Desk.{raised}
 use Rattle.fv_outside.specs.declared.counts.Counts.{Counts}
 use Rattle.fv_base.specs.declared.role.Role.{Role}
 

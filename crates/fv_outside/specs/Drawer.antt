@@ -1,6 +1,7 @@
 -- What a drawer of a desk in memory holds: all that is kept of one role, but for the files (this project's profile).
 use Rattle.std.specs.Prelude.{◌≡◌, ℕ, ◌<◌, ◌≤◌, List, [], Option, Some, None, drop, slice_index_or}
-use Rattle.fv_outside.specs.Desk.{File, raised, last_count}
+use Rattle.fv_outside.specs.headline.Desk.{File, last_count}
+use Rattle.fv_outside.specs.Desk.{raised}
 use Rattle.fv_outside.specs.declared.drawer.Reading.{Reading}
 
 pub record Kept : Type 0 where

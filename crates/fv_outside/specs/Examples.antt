@@ -1,11 +1,13 @@
 -- The definitions of a desk, computed on small examples.
 use Rattle.std.specs.Prelude.{◌≡◌, true, List, [], ◌∷◌, Some, None, refl, codes}
-use Rattle.fv_outside.specs.Requests.{to_read, to_write}
-use Rattle.fv_outside.specs.Desk.{File, file_named, raised, last_count, fails_next}
+use Rattle.fv_outside.specs.headline.Requests.{to_read, to_write}
+use Rattle.fv_outside.specs.headline.Desk.{File, file_named, last_count}
+use Rattle.fv_outside.specs.Desk.{raised, fails_next}
 use Rattle.fv_outside.specs.Memory.{no_memory, empty_memory, memory_after, memory_state, asked, is_failing, is_full, after_fail, after_fault}
 use Rattle.fv_outside.specs.Memory.{after_begin_read, after_read, after_write}
 use Rattle.fv_outside.specs.Tasks.{task_count}
-use Rattle.fv_outside.specs.Journal.{BlockEntry, Told, told_after}
+use Rattle.fv_outside.specs.headline.Journal.{BlockEntry, Told}
+use Rattle.fv_outside.specs.Journal.{told_after}
 use Rattle.fv_base.specs.declared.role.Role.TheVariants.{Output, Report}
 
 -- three files, of two names

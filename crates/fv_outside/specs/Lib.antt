@@ -1,3 +1,4 @@
+pub mod headline
 pub mod Requests
 pub mod Desk
 pub mod Drawer

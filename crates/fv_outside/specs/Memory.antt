@@ -1,7 +1,8 @@
 -- What a desk in memory means (this project's profile).
 use Rattle.std.specs.Prelude.{ℕ, ◌+◌, ◌%◌, ◌^◌, max, nat_le, Bool, true, None, List, [], ◌∷◌, ◌++◌, length, drop}
-use Rattle.fv_outside.specs.Requests.{Request}
-use Rattle.fv_outside.specs.Desk.{File, DeskState, raised, last_count, fails_now}
+use Rattle.fv_outside.specs.headline.Requests.{Request}
+use Rattle.fv_outside.specs.headline.Desk.{File, DeskState, last_count}
+use Rattle.fv_outside.specs.Desk.{raised, fails_now}
 use Rattle.fv_base.specs.declared.role.Role.{Role}
 use Rattle.fv_base.specs.declared.role.Role.TheVariants.{Program, Input, Controls, Output, Report}
 

@@ -3,7 +3,7 @@ use Rattle.std.specs.Prelude.{ℕ, ◌-◌, ◌≤◌, Bool, List, length, map, 
 use Rattle.fv_outside.specs.declared.tasks.Reads.{Reads}
 use Rattle.fv_outside.specs.declared.gate.Line.{Line}
 use Rattle.fv_outside.specs.declared.recorder.KeptBlock.{KeptBlock}
-use Rattle.fv_outside.specs.Journal.{BlockEntry, Told}
+use Rattle.fv_outside.specs.headline.Journal.{BlockEntry, Told}
 
 -- what was told of a block
 abbrev pub entry_of : List Reads → List Line → KeptBlock → BlockEntry

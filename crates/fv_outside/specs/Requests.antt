@@ -1,13 +1,9 @@
--- What a desk is asked to begin (this project's profile).
+-- What calls say beside `headline/Requests`: what a desk is asked to begin (this project's profile).
 use Rattle.std.specs.Prelude.{◌≡◌, ℕ, ◌==◌, List, if◌then◌else◌, refl}
 use Rattle.std.specs.Coded.{Coded, code_by, coded×, coded_ℕ, coded_list}
 use Rattle.fv_base.specs.declared.role.Role.{Role}
 use Rattle.fv_base.specs.declared.role.Role.TheVariants.{Program, Input, Controls, Output, Report}
-
--- to read a file of this name for the role, or to write one
-pub data Request : Type 0 where
-  to_read : Role → (name : List ℕ) → Request
-  to_write : Role → (name : List ℕ) → Request
+use Rattle.fv_outside.specs.headline.Requests.{Request, to_read, to_write}
 
 -- the place of the role in a list of one for each
 abbrev pub place_of : Role → ℕ

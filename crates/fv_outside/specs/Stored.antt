@@ -1,7 +1,7 @@
 -- How a desk in memory is stored: its files, and a drawer for each role (this project's profile).
 use Rattle.std.specs.Prelude.{◌≡◌, ℕ, List, length, All, slice_index_or}
-use Rattle.fv_outside.specs.Requests.{Request}
-use Rattle.fv_outside.specs.Desk.{File}
+use Rattle.fv_outside.specs.headline.Requests.{Request}
+use Rattle.fv_outside.specs.headline.Desk.{File}
 use Rattle.fv_outside.specs.Drawer.{Kept, nothing_kept, left_at, ReadsWithin}
 use Rattle.fv_outside.specs.Memory.{RoleMemory, Memory}
 

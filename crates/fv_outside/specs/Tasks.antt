@@ -1,14 +1,8 @@
--- The tasks of a block: one for each loop and vector, and what each of them reads (this project's profile).
-use Rattle.std.specs.Prelude.{ℕ, ◌+◌, ◌*◌, Bool, true, false, ◌&&◌, ◌||◌, ◌==◌, List, [], ◌∷◌, refl}
+-- What calls say beside `headline/Tasks`: the tasks of a block: one for each loop and vector, and what each of them reads (this project's profile).
+use Rattle.std.specs.Prelude.{ℕ, ◌*◌, ◌==◌, List, refl}
 use Rattle.std.specs.Coded.{Coded, code_by, coded×, coded_ℕ, coded_list}
-use Rattle.fv_outside.specs.declared.tasks.Task.{Task}
 use Rattle.fv_outside.specs.declared.tasks.Reads.{Reads}
-
--- how many loops and vectors there are, and which loop reads lanes of which other
-pub record Tasks : Type 0 where
-  pub loops : ℕ
-  pub vectors : ℕ
-  pub reads : List Reads
+use Rattle.fv_outside.specs.headline.Tasks.{Tasks, bit, total}
 
 -- as a tuple of its fields
 abbrev pub coded_reads : Coded Reads
@@ -24,26 +18,6 @@ coded_tasks =
 abbrev pub task_count : Tasks → ℕ
 task_count ts = ts.vectors * ts.loops
 
--- 1 where the test passes
-abbrev pub bit : Bool → ℕ
-bit true = 1
-bit false = 0
-
--- f of each, added up
-abbrev pub total : {X : Type 0} → (X → ℕ) → List X → ℕ
-total f [] = 0
-total f (x ∷ xs) = f x + total f xs
-
 -- how often x stands in the list
 abbrev pub times : ℕ → List ℕ → ℕ
 times x xs = total (λ y. bit (y == x)) xs
-
--- loop j reads lanes of loop i
-abbrev pub reads_loop : List Reads → (reader source : ℕ) → Bool
-reads_loop [] j i = false
-reads_loop (r ∷ rs) j i = ((r.reader == j) && (r.source == i)) || reads_loop rs j i
-
--- a task reads the one before it of its own loop, and those at the same vector of the loops that its loop reads
-abbrev pub reads_task : Tasks → (reader source : Task) → Bool
-reads_task ts t s =
-    ((s.loop_no == t.loop_no) && ((s.vector + 1) == t.vector)) || (reads_loop ts.reads t.loop_no s.loop_no && (s.vector == t.vector))

@@ -1,9 +1,11 @@
 // The trait of what reads and writes the files.
 
 ghost use Rattle.std.specs.Prelude.{◌≡◌, ◌≢◌, ◌+◌, ◌%◌, ◌^◌, ◌<◌, ◌≤◌, [], ◌∷◌, ◌++◌, length, take, false, Some, IsTrue, IsSome, IsOk, IfOk, OnOk, OnErr};
-ghost use Rattle.fv_outside.specs.Requests.{to_read, to_write};
-ghost use Rattle.fv_outside.specs.Desk.{DeskState, GoesOn, CountsCall, HasFault, KeepsFaults, KeepsBytes, KeepsLeft, KeepsLeftBut, KeepsWritten};
-ghost use Rattle.fv_outside.specs.Desk.{KeepsWrittenBut, KeepsBegins, fails_next, file_named};
+ghost use Rattle.fv_outside.specs.headline.Requests.{to_read, to_write};
+ghost use Rattle.fv_outside.specs.headline.Desk.{DeskState, GoesOn, HasFault, KeepsFaults};
+ghost use Rattle.fv_outside.specs.Desk.{CountsCall, KeepsBytes, KeepsLeft, KeepsLeftBut, KeepsWritten};
+ghost use Rattle.fv_outside.specs.headline.Desk.{file_named};
+ghost use Rattle.fv_outside.specs.Desk.{KeepsWrittenBut, KeepsBegins, fails_next};
 
 use fv_base::Role;
 

@@ -17,7 +17,7 @@ pub struct StoredFile {
 }
 
 impl Model for StoredFile {
-    ghost use Rattle.fv_outside.specs.Desk.{File};
+    ghost use Rattle.fv_outside.specs.headline.Desk.{File};
 
     ghost Value = { File };
 

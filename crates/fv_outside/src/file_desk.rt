@@ -1,8 +1,9 @@
 // A desk of real files.
 
 ghost use Rattle.std.specs.Prelude.{◌≡◌, ◌≢◌, ◌+◌, ◌%◌, ◌^◌, ◌<◌, ◌≤◌, length, take, ◌++◌, ◌∷◌, [], false, Some, IsTrue, IsSome, IsOk, IfOk, OnOk, OnErr};
-ghost use Rattle.fv_outside.specs.Requests.{to_read, to_write};
-ghost use Rattle.fv_outside.specs.Desk.{GoesOn, CountsCall, HasFault, KeepsFaults, KeepsBytes, KeepsBegins, fails_next, file_named};
+ghost use Rattle.fv_outside.specs.headline.Requests.{to_read, to_write};
+ghost use Rattle.fv_outside.specs.headline.Desk.{GoesOn, HasFault, KeepsFaults, file_named};
+ghost use Rattle.fv_outside.specs.Desk.{CountsCall, KeepsBytes, KeepsBegins, fails_next};
 ghost use Rattle.fv_outside.specs.Counts.{no_counts, CountsFault, CountsBegin, after_request, file_state};
 
 use crate::counts::Counts;

@@ -1,7 +1,8 @@
 // The trait of what is told of each block.
 
 ghost use Rattle.std.specs.Prelude.{◌≡◌, ◌++◌, ◌∷◌, [], Option, None, Some, IsSome, IfSome};
-ghost use Rattle.fv_outside.specs.Journal.{BlockEntry, Told, HasRoom, room_after};
+ghost use Rattle.fv_outside.specs.headline.Journal.{BlockEntry, Told};
+ghost use Rattle.fv_outside.specs.Journal.{HasRoom, room_after};
 
 use crate::tasks::{Reads, Task};
 

@@ -2,8 +2,9 @@
 
 ghost use Rattle.std.specs.Prelude.{◌≡◌, ◌≢◌, ℕ, List, ◌-◌, ◌<◌, ◌≤◌, ◌||◌, min, length, take, ◌++◌, ◌∷◌, [], Some, None, is_none, is_err, unwrap_or};
 ghost use Rattle.std.specs.Prelude.{MatchOption, OnOk, OnErr, IfOk};
-ghost use Rattle.fv_outside.specs.Requests.{place_of, to_read, to_write};
-ghost use Rattle.fv_outside.specs.Desk.{file_named, GoesOn};
+ghost use Rattle.fv_outside.specs.headline.Requests.{to_read, to_write};
+ghost use Rattle.fv_outside.specs.Requests.{place_of};
+ghost use Rattle.fv_outside.specs.headline.Desk.{file_named, GoesOn};
 ghost use Rattle.fv_outside.specs.Drawer.{bytes_at};
 ghost use Rattle.fv_outside.specs.Memory.{empty_memory, memory_of, memory_after, memory_state, asked, is_failing, is_full, after_room, after_pieces};
 ghost use Rattle.fv_outside.specs.Memory.{after_fail, after_fault, after_begin_read, after_read, after_begin_write, after_write};

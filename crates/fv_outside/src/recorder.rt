@@ -37,7 +37,7 @@ pub struct Part {
 
 impl Model for Recorder {
     ghost use Rattle.std.specs.Prelude.{◌^◌, ◌<◌, ◌≤◌, Option, vec_len, vec_capacity};
-    ghost use Rattle.fv_outside.specs.Journal.{Told};
+    ghost use Rattle.fv_outside.specs.headline.Journal.{Told};
     ghost use Rattle.fv_outside.specs.Recorded.{told_of, IsRecorded};
 
     ghost Value = { Option Told };

@@ -2,7 +2,8 @@
 
 ghost use Rattle.std.specs.Prelude.{◌≡◌, List, [], ◌∷◌, ◌++◌};
 ghost use Rattle.std.specs.Borrow.{ftrue};
-ghost use Rattle.fv_outside.specs.Requests.{Request as Asked, coded_requests};
+ghost use Rattle.fv_outside.specs.headline.Requests.{Request as Asked};
+ghost use Rattle.fv_outside.specs.Requests.{coded_requests};
 
 use fv_base::Role;
 use std::marker::Model;

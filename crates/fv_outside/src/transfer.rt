@@ -2,8 +2,9 @@
 // the transfer.
 
 ghost use Rattle.std.specs.Prelude.{◌≡◌, ℕ, ◌+◌, ◌<◌, ◌≤◌, List, [], ◌++◌, length, take, drop, false, IsTrue, IsOk, IfOk, OnOk, OnErr, IsErrOf};
-ghost use Rattle.fv_base.specs.Lists.{IsPrefixOf};
-ghost use Rattle.fv_outside.specs.Desk.{KeepsQuiet, KeepsFaults, HasFault, IsUnfailing, fails_next, Appends, Takes, TakesSome, joined};
+ghost use Rattle.fv_base.specs.headline.Lists.{IsPrefixOf};
+ghost use Rattle.fv_outside.specs.headline.Desk.{KeepsFaults, HasFault, IsUnfailing};
+ghost use Rattle.fv_outside.specs.Desk.{KeepsQuiet, fails_next, Appends, Takes, TakesSome, joined};
 ghost use Rattle.fv_outside.specs.declared.transfer.ReadError.TheVariants as errors;
 
 use crate::desk::{Desk, Failed};

@@ -9,8 +9,9 @@ use Rattle.std.proofs.lemmas.List.{length-map}
 use Rattle.std.proofs.lemmas.Bool.{cases_lt}
 use Rattle.std.proofs.lemmas.Option.{unwrap_or-slice_get}
 use Rattle.std.proofs.lemmas.Slice.Eq.{bytes_eq-Decides}
-use Rattle.fv_lex.specs.Token.{Token, Lexed, texts_of}
-use Rattle.fv_parse.specs.Trees.{text_of, first_with, first_named, canonical_of}
+use Rattle.fv_lex.specs.headline.Token.{Token, Lexed, texts_of}
+use Rattle.fv_parse.specs.headline.Trees.{text_of}
+use Rattle.fv_parse.specs.Trees.{first_with, first_named, canonical_of}
 use Rattle.fv_parse.specs.Laws.{SameNumbersSameBytes, NumbersAreOfTheBytes}
 
 bytes_self : (t : List ℕ) → bytes_eq t t ≡ true

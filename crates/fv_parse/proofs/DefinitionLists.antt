@@ -6,11 +6,11 @@ use Rattle.std.proofs.lemmas.List.Elements.{filter_map-append}
 use Rattle.fv_parse_tree.specs.declared.node.TreeId.{TreeId}
 use Rattle.fv_parse_tree.specs.declared.node.TreeNode.{TreeNode}
 use Rattle.fv_parse_tree.specs.declared.node.TreeNode.TheVariants as nodes
-use Rattle.fv_parse_grammar.specs.Tree.{Tree, End, items}
+use Rattle.fv_parse_grammar.specs.headline.Tree.{Tree, End, items}
 use Rattle.fv_parse_tree.specs.Arena.{tree_of, forest}
 use Rattle.fv_parse.specs.declared.definitions.Defined.{Defined}
 use Rattle.fv_parse.specs.Trees.{Parsed, tree_in}
-use Rattle.fv_parse.specs.Definitions.{defined_by, definitions_of}
+use Rattle.fv_parse.specs.headline.Definitions.{defined_by, definitions_of}
 
 pub items_on : (p : Parsed) (ids : List TreeId) (i : ℕ) (d : TreeId) (list all : List Defined) (found : Option Defined)
     → i < length ids → all ≡ list ++ cons_option found []

@@ -2,8 +2,8 @@
 use Rattle.std.proofs.Common.{◌≡◌, List, None, Result, Ok, Err, inl, inr, ◌⊎◌, sym, ap, subst}
 use Rattle.std.specs.Prelude.{IfOk, IfErr}
 use Rattle.fv_lex.specs.declared.token.Symbol.{Symbol}
-use Rattle.fv_lex.specs.Token.{Lexed, symbols_of}
-use Rattle.fv_parse_grammar.specs.Tree.{Tree as Spelled}
+use Rattle.fv_lex.specs.headline.Token.{Lexed, symbols_of}
+use Rattle.fv_parse_grammar.specs.headline.Tree.{Tree as Spelled}
 use Rattle.fv_parse_grammar.specs.Nesting.{Nests}
 use Rattle.fv_parse_grammar.specs.Descent.{program}
 use Rattle.fv_parse_grammar.specs.Grammar.{SpelledOnce}
@@ -11,9 +11,11 @@ use Rattle.fv_parse_grammar.specs.Laws.{ReadsOnlySpelled, ReadsAllSpelled}
 use Rattle.fv_parse.specs.declared.refusal.ParseRefusal.{ParseRefusal}
 use Rattle.fv_parse.specs.declared.refusal.ParseRefusal.TheVariants as refusals
 use Rattle.fv_parse.specs.Trees.{Parsed, program_of}
-use Rattle.fv_parse.specs.Outcomes.{IsSupported, IsSpelled, IsAccepted, HasTree, HasRefusal, refused_tree, Finishes, IsOneRefusal, IsNotBoth, IsRefusedOrWants}
-use Rattle.fv_parse.specs.StaticErrors.{refused}
-use Rattle.fv_lex.specs.Cuts.{deepest}
+use Rattle.fv_parse.specs.headline.Outcomes.{IsSupported, IsSpelled, IsAccepted, HasRefusal, refused_tree}
+use Rattle.fv_parse.specs.Outcomes.{HasTree, IsOneRefusal, IsNotBoth, IsRefusedOrWants}
+use Rattle.fv_parse.specs.inner.Outcomes.{Finishes}
+use Rattle.fv_parse.specs.headline.StaticErrors.{refused}
+use Rattle.fv_lex.specs.headline.Cuts.{deepest}
 
 -- ---- no tree
 pub no_tree : ReadsAllSpelled → (l : Lexed) (at : List Symbol)

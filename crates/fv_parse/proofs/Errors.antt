@@ -1,12 +1,12 @@
 -- The first static error, a step at a time.
 use Rattle.std.proofs.Common.{◌≡◌, ℕ, ◌+◌, ◌-◌, ◌<◌, ◌≤◌, List, length, drop, get_or, Option, sym, ap, ap₂, ◌∙◌, arith}
 use Rattle.fv_base.proofs.Lists.{drop_step}
-use Rattle.fv_lex.specs.Token.{Lexed}
+use Rattle.fv_lex.specs.headline.Token.{Lexed}
 use Rattle.fv_parse_tree.specs.declared.node.TreeId.{TreeId}
 use Rattle.fv_parse.specs.declared.clash.StaticError.{StaticError}
-use Rattle.fv_parse_grammar.specs.Tree.{Tree, End}
+use Rattle.fv_parse_grammar.specs.headline.Tree.{Tree, End}
 use Rattle.fv_parse_tree.specs.Arena.{tree_at, forest}
-use Rattle.fv_parse.specs.StaticErrors.{earlier, error_of}
+use Rattle.fv_parse.specs.headline.StaticErrors.{earlier, error_of}
 
 pub among_on : (l : Lexed) (ts : List Tree) (ids : List TreeId) (i : ℕ) (d : TreeId) (found first new : Option StaticError)
     → 0 < i → i ≤ length ids → found ≡ error_of l (tree_at ts (get_or ids (i - 1) d))

@@ -12,12 +12,12 @@ use Rattle.std.proofs.lemmas.Map.Text.{btree_map_updates_str}
 use Rattle.std.proofs.lemmas.Slice.Eq.{bytes_eq-Decides}
 use denote.Ref.{Bor}
 use Rattle.fv_base.proofs.Lists.{drop_step}
-use Rattle.fv_lex.specs.Token.{Lexed}
+use Rattle.fv_lex.specs.headline.Token.{Lexed}
 use Rattle.fv_parse.specs.declared.definitions.Defined.{Defined}
 use Rattle.fv_parse.specs.declared.clash.StaticError.{StaticError}
 use Rattle.fv_parse.specs.declared.clash.Among.{Among}
-use Rattle.fv_parse.specs.Trees.{text_of}
-use Rattle.fv_parse.specs.StaticErrors.{width_of, clash_with, first_clash}
+use Rattle.fv_parse.specs.headline.Trees.{text_of}
+use Rattle.fv_parse.specs.headline.StaticErrors.{width_of, clash_with, first_clash}
 
 -- ---- a map that keeps the first value of each text
 picked : (o : Option ℕ) (v : ℕ) → Some (unwrap_or o v) ≡ option_or o (Some v)

@@ -11,13 +11,14 @@ use Rattle.fv_lex.specs.declared.token.Kind.{Kind}
 use Rattle.fv_lex.specs.declared.token.Kind.TheVariants.{Name, Integer, Text, Sign}
 use Rattle.fv_lex.specs.declared.token.Place.{Place}
 use Rattle.fv_lex.specs.declared.refusal.LexRefusal.{LexRefusal}
-use Rattle.fv_lex.specs.Token.{Token, Lexed, symbols_of}
-use Rattle.fv_lex.specs.Bytes.{is_blank}
-use Rattle.fv_lex.specs.Symbols.{at_byte, at_word, singles, after_less, after_greater, after_equals, double, primitive_words, form_words, control_words}
-use Rattle.fv_lex.specs.Symbols.{is_unsupported, word_symbol, symbol_of}
-use Rattle.fv_lex.specs.Pieces.{is_token, IsPiece, blank_byte, line_comment, block_comment, longest_token}
-use Rattle.fv_lex.specs.Cuts.{depth_after, Cut, Cuts, nothing_more, piece_first, tokens_of, token_of, place_after, first_place, end_of, Has, HasTokens}
-use Rattle.fv_lex.specs.Cuts.{too_long, cut, deepest}
+use Rattle.fv_lex.specs.headline.Token.{Token, Lexed, symbols_of}
+use Rattle.fv_lex.specs.headline.Bytes.{is_blank}
+use Rattle.fv_lex.specs.headline.Symbols.{at_byte, at_word, singles, after_less, after_greater, after_equals, double, primitive_words, form_words, control_words}
+use Rattle.fv_lex.specs.headline.Symbols.{is_unsupported, word_symbol, symbol_of}
+use Rattle.fv_lex.specs.headline.Pieces.{is_token, IsPiece, blank_byte, line_comment, block_comment, longest_token}
+use Rattle.fv_lex.specs.headline.Cuts.{depth_after, Cut, Cuts, nothing_more, piece_first, tokens_of, token_of, place_after, first_place, end_of, Has}
+use Rattle.fv_lex.specs.Cuts.{HasTokens}
+use Rattle.fv_lex.specs.headline.Cuts.{too_long, cut, deepest}
 use Rattle.fv_parse_grammar.specs.Nesting.{Nests, lowered}
 
 -- a symbol that is no bracket

@@ -5,10 +5,11 @@ use Rattle.std.specs.declared.alloc.Global.{Global}
 use Rattle.fv_parse_tree.specs.declared.node.TreeId.{TreeId}
 use Rattle.fv_parse_tree.specs.declared.node.TreeNode.{TreeNode}
 use Rattle.fv_parse_tree.specs.declared.node.TreeNode.TheVariants as nodes
-use Rattle.fv_parse_grammar.specs.Tree.{Tree, End, items, start_of}
+use Rattle.fv_parse_grammar.specs.headline.Tree.{Tree, End, items, start_of}
 use Rattle.fv_parse_tree.specs.declared.arena.Entry.{Entry}
 use Rattle.fv_parse_tree.specs.Arena.{tree_at, tree_of, forest, IsBuilt, AreBuilt}
-use Rattle.fv_parse.specs.Trees.{Parsed, size_of, tree_in, node_tree, start_in, PartsBelow}
+use Rattle.fv_parse.specs.headline.Trees.{PartsBelow}
+use Rattle.fv_parse.specs.Trees.{Parsed, size_of, tree_in, node_tree, start_in}
 
 -- the node is no list
 abbrev pub IsForm : TreeNode → Type 0

@@ -2,21 +2,23 @@
 use Rattle.std.proofs.Common.{◌≡◌, ◌⊎◌, ℕ, List, length, Option, Some, None, Result, Ok, Err, sym, ◌∙◌, ap, refl, inl, inr}
 use Rattle.fv_lex.specs.declared.token.Place.{Place}
 use Rattle.fv_lex.specs.declared.token.Symbol.{Symbol}
-use Rattle.fv_lex.specs.Token.{Lexed, symbols_of}
-use Rattle.fv_parse_grammar.specs.Tree.{Tree as Spelled}
+use Rattle.fv_lex.specs.headline.Token.{Lexed, symbols_of}
+use Rattle.fv_parse_grammar.specs.headline.Tree.{Tree as Spelled}
 use Rattle.fv_parse_grammar.specs.Grammar.{SpelledOnce}
 use Rattle.fv_parse_grammar.specs.Descent.{program}
 use Rattle.fv_parse_grammar.specs.Laws.{ReadsOnlySpelled, ReadsAllSpelled}
-use Rattle.fv_lex.specs.Cuts.{HasTokens, deepest}
-use Rattle.fv_parse.specs.Unsupported.{first_unsupported}
+use Rattle.fv_lex.specs.headline.Cuts.{deepest}
+use Rattle.fv_lex.specs.Cuts.{HasTokens}
+use Rattle.fv_parse.specs.headline.Unsupported.{first_unsupported}
 use Rattle.fv_parse.proofs.Lexing.{tokens_nest}
 use Rattle.fv_parse.proofs.Endings.{no_tree}
 use Rattle.fv_parse_prefixes.specs.Beginnings.{OnePlace, StopsAtThePlace}
 use Rattle.fv_parse.specs.declared.refusal.ParseRefusal.{ParseRefusal}
 use Rattle.fv_parse.specs.declared.refusal.ParseRefusal.TheVariants.{Syntax, Unsupported}
-use Rattle.fv_parse.specs.Trees.{place_from}
-use Rattle.fv_parse.specs.StaticErrors.{refused}
-use Rattle.fv_parse.specs.Outcomes.{IsSupported, IsSpelled, IsAccepted, StopsAt, HasRefusal, unsupported, syntax_error, refused_tree, IsOneRefusal, IsNotBoth}
+use Rattle.fv_parse.specs.headline.Trees.{place_from}
+use Rattle.fv_parse.specs.headline.StaticErrors.{refused}
+use Rattle.fv_parse.specs.headline.Outcomes.{IsSupported, IsSpelled, IsAccepted, StopsAt, HasRefusal, unsupported, syntax_error, refused_tree}
+use Rattle.fv_parse.specs.Outcomes.{IsOneRefusal, IsNotBoth}
 use Rattle.fv_parse.specs.Outcomes.{IsOneOrOther}
 
 -- a choice that is some value is that one alone

@@ -3,8 +3,8 @@ use Rattle.std.proofs.Common.{◌≡◌, ℕ, zero, suc, ◌+◌, List, [], ◌�
 use Rattle.std.specs.Prelude.{slice_get}
 use Rattle.std.specs.Option.{option_or}
 use Rattle.fv_lex.specs.declared.token.Symbol.{Symbol}
-use Rattle.fv_lex.specs.Token.{Token, symbols_of, texts_of}
-use Rattle.fv_parse.specs.Unsupported.{unsupported, unsupported_from, first_unsupported}
+use Rattle.fv_lex.specs.headline.Token.{Token, symbols_of, texts_of}
+use Rattle.fv_parse.specs.headline.Unsupported.{unsupported, unsupported_from, first_unsupported}
 
 unsupported_next : (before last : Symbol) (ts : List Token) (i : ℕ) (s : Symbol) (text : List ℕ)
     → slice_get (symbols_of ts) i ≡ Some s → slice_get (texts_of ts) i ≡ Some text

@@ -9,10 +9,10 @@ use Rattle.fv_parse_tree.specs.declared.node.TreeId.{TreeId}
 use Rattle.fv_parse_tree.specs.declared.node.TreeNode.{TreeNode}
 use Rattle.fv_parse_tree.specs.declared.node.TreeNode.TheVariants as nodes
 use Rattle.fv_parse.specs.declared.definitions.Defined.{Defined}
-use Rattle.fv_parse_grammar.specs.Tree.{Tree, End, Binary, More}
+use Rattle.fv_parse_grammar.specs.headline.Tree.{Tree, End, Binary, More}
 use Rattle.fv_parse_tree.specs.Arena.{tree_at, tree_of, forest}
-use Rattle.fv_parse.specs.Trees.{AllBelow, PartsBelow}
-use Rattle.fv_parse.specs.Definitions.{names_in}
+use Rattle.fv_parse.specs.headline.Trees.{AllBelow, PartsBelow}
+use Rattle.fv_parse.specs.headline.Definitions.{names_in}
 use Rattle.fv_parse.specs.inner.Visits.{parts_left, own_names}
 
 -- the trees of a stack, from its top on

@@ -1,7 +1,8 @@
 -- Laws of canonical numbers.
 use Rattle.std.specs.Prelude.{◌≡◌, ◌↔◌, ℕ}
-use Rattle.fv_lex.specs.Token.{Lexed}
-use Rattle.fv_parse.specs.Trees.{text_of, first_named}
+use Rattle.fv_lex.specs.headline.Token.{Lexed}
+use Rattle.fv_parse.specs.headline.Trees.{text_of}
+use Rattle.fv_parse.specs.Trees.{first_named}
 
 -- Two tokens have one canonical number just where they have the same bytes (this project's profile).
 abbrev pub SameNumbersSameBytes : Type 0

@@ -1,7 +1,5 @@
+pub mod headline
 pub mod Trees
-pub mod Unsupported
-pub mod Definitions
-pub mod StaticErrors
 pub mod Outcomes
 pub mod Laws
 pub mod inner

@@ -1,14 +1,13 @@
--- A tree, as contracts see it: the tokens, the nodes and the number of the outermost list.
-use Rattle.std.specs.Prelude.{◌≡◌, ℕ, suc, ◌-◌, ◌<◌, if◌then◌else◌, List, [], ◌∷◌, ◌++◌, length, map, take, drop, slice_get, slice_index, unwrap_or}
+-- What calls say beside `headline/Trees`: a tree, as contracts see it: the tokens, the nodes and the number of the outermost list.
+use Rattle.std.specs.Prelude.{◌≡◌, ℕ, suc, ◌<◌, if◌then◌else◌, List, [], ◌∷◌, ◌++◌, length, map, slice_index}
 use Rattle.std.specs.Str.{bytes_eq}
-use Rattle.fv_lex.specs.declared.token.Place.{Place}
-use Rattle.fv_lex.specs.Token.{Lexed, places_of, texts_of}
-use Rattle.fv_parse_grammar.specs.Tree.{Tree as Spelled}
+use Rattle.fv_lex.specs.headline.Token.{Lexed, texts_of}
+use Rattle.fv_parse_grammar.specs.headline.Tree.{Tree as Spelled}
 use Rattle.fv_parse_tree.specs.declared.node.TreeId.{TreeId}
 use Rattle.fv_parse_tree.specs.declared.node.TreeNode.{TreeNode}
 use Rattle.fv_parse_tree.specs.declared.arena.Entry.{Entry}
 use Rattle.fv_parse_tree.specs.Arena.{tree_at, tree_of, trees, AreBuilt}
-pub use Rattle.fv_parse_tree.specs.Arena.{PartsBelow, AllBelow}
+use Rattle.fv_parse.specs.headline.Trees.{text_of}
 
 pub record Parsed : Type 0 where
   pub tokens : Lexed
@@ -34,22 +33,6 @@ node_tree p node start = tree_of (trees p.entries) node start
 -- how many tokens there are from a node's first one on (this project's profile)
 abbrev pub start_in : Parsed → TreeId → ℕ
 start_in p id = slice_index (map (λ e. e.start) p.entries) id
-
--- the place from which there are so many tokens, which behind the last one is the end of the text (this project's profile)
-abbrev pub place_from : Lexed → ℕ → Place
-place_from l start = unwrap_or (slice_get (places_of l.tokens) (length l.tokens - start)) l.end
-
--- the place of a token (this project's profile)
-abbrev pub place_at : Lexed → ℕ → Place
-place_at l n = unwrap_or (slice_get (places_of l.tokens) n) l.end
-
--- the bytes of a token (this project's profile)
-abbrev pub text_of : Lexed → ℕ → List ℕ
-text_of l n = unwrap_or (slice_get (texts_of l.tokens) n) []
-
--- the bytes of a string without its quotes (this project's profile)
-abbrev pub label_of : Lexed → ℕ → List ℕ
-label_of l n = take (length (text_of l n) - 2) (drop 1 (text_of l n))
 
 -- the number of the first token with these bytes, or how many tokens there are (this project's profile)
 abbrev pub first_with : List (List ℕ) → List ℕ → ℕ

@@ -1,1 +1,3 @@
 pub mod Visits
+pub mod Outcomes
+pub mod StaticErrors

@@ -1,7 +1,7 @@
 // Static errors in a list of definitions, rules or names.
 
 ghost use Rattle.std.specs.Prelude.{◌≡◌, ◌<◌, [], IfOk};
-ghost use Rattle.fv_parse.specs.StaticErrors.{kind_order, comes_first, earlier, clash, clash_with, first_clash, differing, rule_widths};
+ghost use Rattle.fv_parse.specs.headline.StaticErrors.{kind_order, comes_first, earlier, clash, clash_with, first_clash, differing, rule_widths};
 
 use crate::definitions::Defined;
 use crate::parsed::text_of;

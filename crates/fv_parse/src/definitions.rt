@@ -4,7 +4,7 @@ ghost use Rattle.std.specs.Prelude.{◌≡◌, ◌<◌, [], ◌++◌, length, co
 ghost use Rattle.std.specs.List.{cons_option};
 ghost use Rattle.std.specs.Str.{bytes_eq};
 ghost use Rattle.fv_parse.specs.Trees.{size_of, tree_in};
-ghost use Rattle.fv_parse.specs.Definitions.{defined_by, definitions_of, as_name, names_in, has_process};
+ghost use Rattle.fv_parse.specs.headline.Definitions.{defined_by, definitions_of, as_name, names_in, has_process};
 ghost use Rattle.fv_parse.specs.inner.Visits.{own_names, parts_left};
 
 use crate::parsed::{Tree, text_of};

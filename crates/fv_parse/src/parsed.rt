@@ -2,8 +2,9 @@
 
 ghost use Rattle.std.specs.Prelude.{◌≡◌, ◌<◌, ◌-◌, length, map, codes};
 ghost use Rattle.std.specs.Str.{bytes_eq};
-ghost use Rattle.fv_parse_grammar.specs.Tree.{items, start_of};
-ghost use Rattle.fv_parse.specs.Trees.{size_of, tree_in, node_tree, start_in, PartsBelow, AllBelow, place_from, place_at, text_of, label_of, first_named};
+ghost use Rattle.fv_parse_grammar.specs.headline.Tree.{items, start_of};
+ghost use Rattle.fv_parse.specs.headline.Trees.{PartsBelow, AllBelow, place_from, place_at, text_of, label_of};
+ghost use Rattle.fv_parse.specs.Trees.{size_of, tree_in, node_tree, start_in, first_named};
 
 use crate::definitions::is_process;
 use fv_lex::{Place, Tokens};

@@ -1,12 +1,14 @@
 // The parser's call.
 
 ghost use Rattle.std.specs.Prelude.{◌≡◌, ◌<◌, ◌⊎◌, length, IfOk, IfErr};
-ghost use Rattle.fv_parse_grammar.specs.Tree.{Tree as Spelled};
+ghost use Rattle.fv_parse_grammar.specs.headline.Tree.{Tree as Spelled};
 ghost use Rattle.fv_parse.specs.declared.refusal.ParseRefusal.{ParseRefusal as Refusal};
 ghost use Rattle.fv_parse.specs.declared.refusal.ParseRefusal.TheVariants.{NoMemory};
 ghost use Rattle.fv_parse_tree.specs.Arena.{trees, tree_at};
 ghost use Rattle.fv_parse.specs.Trees.{program_of};
-ghost use Rattle.fv_parse.specs.Outcomes.{Finishes, HasTree, HasRefusal, IsSpelled, IsAccepted, IsRefusedOrWants};
+ghost use Rattle.fv_parse.specs.headline.Outcomes.{HasRefusal, IsSpelled, IsAccepted};
+ghost use Rattle.fv_parse.specs.Outcomes.{HasTree, IsRefusedOrWants};
+ghost use Rattle.fv_parse.specs.inner.Outcomes.{Finishes};
 
 use crate::laws::one_outcome;
 use crate::names::canonical_numbers;

@@ -1,12 +1,14 @@
 // The first static error of a program: that of each node, by those of its parts.
 
 ghost use Rattle.std.specs.Prelude.{◌≡◌, ◌⊎◌, ◌<◌, length, map, Some, IfOk};
-ghost use Rattle.fv_parse_grammar.specs.Tree.{End};
+ghost use Rattle.fv_parse_grammar.specs.headline.Tree.{End};
 ghost use Rattle.fv_parse_tree.specs.Arena.{trees, forest};
 ghost use Rattle.fv_parse.specs.declared.refusal.ParseRefusal.TheVariants.{NoMemory};
-ghost use Rattle.fv_parse.specs.Trees.{size_of, tree_in, program_of, AllBelow};
-ghost use Rattle.fv_parse.specs.Definitions.{definitions_of, as_name, names_in};
-ghost use Rattle.fv_parse.specs.StaticErrors.{earlier, repeated, redefined, rule_widths, error_of, error_refusal, refused, AreErrors};
+ghost use Rattle.fv_parse.specs.headline.Trees.{AllBelow};
+ghost use Rattle.fv_parse.specs.Trees.{size_of, tree_in, program_of};
+ghost use Rattle.fv_parse.specs.headline.Definitions.{definitions_of, as_name, names_in};
+ghost use Rattle.fv_parse.specs.headline.StaticErrors.{earlier, repeated, redefined, rule_widths, error_of, error_refusal, refused};
+ghost use Rattle.fv_parse.specs.inner.StaticErrors.{AreErrors};
 
 use crate::clash::{Among, ErrorKind, StaticError, earlier, first_clash, rule_widths};
 use crate::definitions::{as_names, definitions_of, has_process, names_in};

@@ -1,8 +1,8 @@
 // Tokens that are not supported.
 
 ghost use Rattle.std.specs.Prelude.{◌≡◌, ◌<◌, length, slice_get, Some, codes, IfOk};
-ghost use Rattle.fv_lex.specs.Token.{symbols_of};
-ghost use Rattle.fv_parse.specs.Unsupported.{is_control, is_open, has_percent, unsupported, first_unsupported, some_if};
+ghost use Rattle.fv_lex.specs.headline.Token.{symbols_of};
+ghost use Rattle.fv_parse.specs.headline.Unsupported.{is_control, is_open, has_percent, unsupported, first_unsupported, some_if};
 
 use fv_base::Word;
 use fv_lex::{Symbol, Tokens};

@@ -1,5 +1,5 @@
 -- What is spelled is read, whatever follows it.
-use Rattle.fv_parse_grammar.specs.Tree.{Waveform}
+use Rattle.fv_parse_grammar.specs.headline.Tree.{Waveform, Panel, Delayed, Apply, Binary, Where, Rule, Constant, Function, End, More}
 use Rattle.std.proofs.Common.{◌≡◌, ℕ, zero, suc, ◌+◌, ◌-◌, ◌<◌, ◌≤◌, Bool, true, false, List, [], ◌∷◌, length, Ok, refl, sym, ap, ◌∙◌, arith}
 use Rattle.std.specs.Prelude.{nat_eq}
 use Rattle.std.proofs.lemmas.Bool.{eq-eqb, ne_eqb}
@@ -10,7 +10,7 @@ use Rattle.fv_lex.specs.declared.token.Symbol.TheVariants as symbols
 use Rattle.fv_parse_grammar.specs.declared.form.Primitive.{Primitive as Operation}
 use Rattle.fv_parse_grammar.specs.declared.form.Primitive.TheVariants as primitives
 use Rattle.fv_parse_grammar.specs.declared.form.Literal.{Literal}
-use Rattle.fv_parse_grammar.specs.Grammar.{SpellsNumber, unsigned, with_plus, with_minus, SpellsNumbers, one_number, more_numbers, waved}
+use Rattle.fv_parse_grammar.specs.headline.Grammar.{SpellsNumber, unsigned, with_plus, with_minus, SpellsNumbers, one_number, more_numbers, waved}
 use Rattle.fv_parse_grammar.specs.Descent.{a_literal, literal_list, waveform}
 use Rattle.fv_parse_grammar.specs.declared.form.Iteration.{Iteration as Repetition}
 use Rattle.fv_parse_grammar.specs.declared.form.Side.{Side}
@@ -22,14 +22,13 @@ use Rattle.fv_parse_grammar.specs.declared.symbol.Inside.{Inside}
 use Rattle.fv_parse_grammar.specs.declared.symbol.Inside.TheVariants as insides
 use Rattle.fv_parse_grammar.specs.declared.symbol.Items.{Items}
 use Rattle.fv_parse_grammar.specs.declared.symbol.Items.TheVariants.{Statements, Definitions, Rules, Parts}
-use Rattle.fv_parse_grammar.specs.Symbols.{head, power, operator, is_left}
-use Rattle.fv_parse_grammar.specs.Tree.{Tree, Number, Negative, Named, MinusNamed, Wire, Cut, Primitive, Group, Abstraction, Case, Iteration, Ports, Switch, Slider}
-use Rattle.fv_parse_grammar.specs.Tree.{Panel, Delayed, Apply, Binary, Where, Rule, Constant, Function, End, More}
-use Rattle.fv_parse_grammar.specs.Grammar.{Level, Further, Definition, Expression, Listed, OneRule, Phrase, Postfix, Primary, Atom, SpellsNames, one_name, more_names}
-use Rattle.fv_parse_grammar.specs.Grammar.{Spells, SpellsProgram, no_more, stated, declared, declared_for, defined, ruled, parted, first_rule, first_part, constant}
-use Rattle.fv_parse_grammar.specs.Grammar.{function, rule, plain, qualified, tighter, leftward, rightward, operand, pattern_operand, bare, delayed, applied, number}
-use Rattle.fv_parse_grammar.specs.Grammar.{plus_number, minus_number, minus_name, named, wire, cut, plus, minus, primitive, grouped, abstracted, cased, iterated}
-use Rattle.fv_parse_grammar.specs.Grammar.{ported, switched, slid, paneled, atom_number, atom_plus_number, atom_minus_number, atom_name, atom_grouped}
+use Rattle.fv_parse_grammar.specs.headline.Symbols.{head, power, operator, is_left}
+use Rattle.fv_parse_grammar.specs.headline.Tree.{Tree, Number, Negative, Named, MinusNamed, Wire, Cut, Primitive, Group, Abstraction, Case, Iteration, Ports, Switch, Slider}
+use Rattle.fv_parse_grammar.specs.headline.Grammar.{Level, Further, Definition, Expression, Listed, OneRule, Phrase, Postfix, Primary, Atom, SpellsNames, one_name, more_names}
+use Rattle.fv_parse_grammar.specs.headline.Grammar.{Spells, SpellsProgram, no_more, stated, declared, declared_for, defined, ruled, parted, first_rule, first_part, constant}
+use Rattle.fv_parse_grammar.specs.headline.Grammar.{function, rule, plain, qualified, tighter, leftward, rightward, operand, pattern_operand, bare, delayed, applied, number}
+use Rattle.fv_parse_grammar.specs.headline.Grammar.{plus_number, minus_number, minus_name, named, wire, cut, plus, minus, primitive, grouped, abstracted, cased, iterated}
+use Rattle.fv_parse_grammar.specs.headline.Grammar.{ported, switched, slid, paneled, atom_number, atom_plus_number, atom_minus_number, atom_name, atom_grouped}
 use Rattle.fv_parse_grammar.specs.Nesting.{Nests}
 use Rattle.fv_parse_grammar.specs.Descent.{Step, Done, Next, One, Skip, run, chain, Reader, power_at, primary, postfix, postfix_turn}
 use Rattle.fv_parse_grammar.specs.Descent.{phrase, left_turn, expression}

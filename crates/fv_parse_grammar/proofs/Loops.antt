@@ -3,7 +3,7 @@ use Rattle.std.proofs.Common.{◌≡◌, ℕ, zero, suc, ◌<◌, true, false, c
 use Rattle.std.specs.Prelude.{nat_lt, nat_eq}
 use Rattle.std.proofs.lemmas.Bool.{cases_lt, le-ltb, lt-ltb}
 use Rattle.fv_lex.specs.declared.token.Symbol.{Symbol}
-use Rattle.fv_parse_grammar.specs.Tree.{Tree, Binary, End, More}
+use Rattle.fv_parse_grammar.specs.headline.Tree.{Tree, Binary, End, More}
 use Rattle.fv_parse_grammar.specs.Descent.{Step, ◌>>=◌, Turn, Done, Next, Stop, after, turns, run, power_at, operator_at, rights, chain}
 use Rattle.fv_parse_grammar.specs.Descent.{at_comma, separated, all_separated}
 use Rattle.fv_parse_grammar.specs.Descent.{Item, Nothing, Skip, One, Fault, with_item, many}

@@ -6,10 +6,10 @@ use Rattle.fv_lex.specs.declared.token.Symbol.TheVariants.{Name, Integer, Comma}
 use Rattle.fv_lex.specs.declared.token.Symbol.TheVariants as symbols
 use Rattle.fv_parse_grammar.specs.declared.form.Literal.{Literal}
 use Rattle.fv_parse_grammar.specs.declared.form.Literal.TheVariants as literal
-use Rattle.fv_parse_grammar.specs.Grammar.{SpellsNumber, unsigned, with_plus, with_minus, SpellsNumbers, one_number, more_numbers}
+use Rattle.fv_parse_grammar.specs.headline.Grammar.{SpellsNumber, unsigned, with_plus, with_minus, SpellsNumbers, one_number, more_numbers}
 use Rattle.fv_parse_grammar.specs.Descent.{a_value, a_literal, literal_list, Step, Turn, Done, Next, Stop, after, turns, run, a_name}
-use Rattle.fv_parse_grammar.specs.Tree.{Tree}
-use Rattle.fv_parse_grammar.specs.Grammar.{SpellsNames, one_name, more_names}
+use Rattle.fv_parse_grammar.specs.headline.Tree.{Tree}
+use Rattle.fv_parse_grammar.specs.headline.Grammar.{SpellsNames, one_name, more_names}
 use Rattle.fv_parse_grammar.specs.Descent.{at_comma, separated, name_list}
 use Rattle.fv_parse_grammar.proofs.Tokens.{bind_ok, read_as, a_name_ok, at_comma_is}
 

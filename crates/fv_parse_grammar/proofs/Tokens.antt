@@ -6,8 +6,10 @@ use Rattle.fv_lex.specs.declared.token.Symbol.TheVariants as symbols
 use Rattle.fv_parse_grammar.specs.declared.symbol.Head.TheVariants as heads
 use Rattle.fv_parse_grammar.specs.declared.symbol.Mark.{Mark}
 use Rattle.fv_parse_grammar.specs.declared.symbol.Mark.TheVariants as marks
-use Rattle.fv_parse_grammar.specs.Symbols.{head, sign, is_mark}
-use Rattle.fv_parse_grammar.specs.Tree.{Tree}
+use Rattle.fv_parse_grammar.specs.headline.Symbols.{head}
+use Rattle.fv_parse_grammar.specs.Symbols.{is_mark}
+use Rattle.fv_parse_grammar.specs.inner.Symbols.{sign}
+use Rattle.fv_parse_grammar.specs.headline.Tree.{Tree}
 use Rattle.fv_parse_grammar.specs.Descent.{Step, ◌>>=◌, Next, turn, expect, a_name, a_text, at_comma}
 
 -- ---- tools

@@ -1,6 +1,6 @@
 -- Reading from left to right, with one token of lookahead, down to a number of open brackets: the productions of
 -- `Grammar`, as functions (Faust manual; this project's profile).
-use Rattle.fv_parse_grammar.specs.Tree.{Waveform}
+use Rattle.fv_parse_grammar.specs.headline.Tree.{Waveform, Panel, Delayed, Apply, Binary, Where, Rule, Constant, Function, End, More}
 use Rattle.std.specs.Prelude.{ℕ, zero, suc, Bool, true, false, nat_lt, nat_eq, List, [], ◌∷◌, length, drop, Result, Ok, Err, if◌then◌else◌}
 use Rattle.fv_lex.specs.declared.token.Symbol.{Symbol}
 use Rattle.fv_lex.specs.declared.token.Symbol.TheVariants.{Name, Text, Integer, Comma, Open, Declare, With, Tick}
@@ -23,9 +23,9 @@ use Rattle.fv_parse_grammar.specs.declared.symbol.Items.{Items}
 use Rattle.fv_parse_grammar.specs.declared.symbol.Items.TheVariants.{Statements, Definitions, Rules, Parts}
 use Rattle.fv_parse_grammar.specs.declared.symbol.Mark.{Mark}
 use Rattle.fv_parse_grammar.specs.declared.symbol.Mark.TheVariants as marks
-use Rattle.fv_parse_grammar.specs.Symbols.{head, power, operator, is_left, is_mark}
-use Rattle.fv_parse_grammar.specs.Tree.{Tree, Number, Negative, Named, MinusNamed, Wire, Cut, Primitive, Group, Abstraction, Case, Iteration, Ports, Switch, Slider}
-use Rattle.fv_parse_grammar.specs.Tree.{Panel, Delayed, Apply, Binary, Where, Rule, Constant, Function, End, More}
+use Rattle.fv_parse_grammar.specs.headline.Symbols.{head, power, operator, is_left}
+use Rattle.fv_parse_grammar.specs.Symbols.{is_mark}
+use Rattle.fv_parse_grammar.specs.headline.Tree.{Tree, Number, Negative, Named, MinusNamed, Wire, Cut, Primitive, Group, Abstraction, Case, Iteration, Ports, Switch, Slider}
 use Rattle.fv_parse_grammar.specs.declared.symbol.Operands.{Operands}
 use Rattle.fv_parse_grammar.specs.declared.symbol.Commas.{Commas}
 use Rattle.fv_parse_grammar.specs.declared.symbol.Operands.TheVariants as operands

@@ -4,8 +4,8 @@ use Rattle.fv_lex.specs.declared.token.Symbol.TheVariants.{Name, Text, Integer, 
 use Rattle.fv_lex.specs.declared.token.Symbol.TheVariants.{Declare, With, Tick, Underscore, Plus, Minus, Times, Colon, Tilde, Backslash, Case as CaseWord}
 use Rattle.fv_parse_grammar.specs.declared.form.Primitive.TheVariants as primitives
 use Rattle.fv_parse_grammar.specs.declared.form.Operator.TheVariants.{Infix, Recursion, Parallel, Sequence}
-use Rattle.fv_parse_grammar.specs.Tree.{Number, Negative, Named, MinusNamed, Wire, Cut, Primitive, Abstraction, Case, Delayed, Apply, Binary, Where, Rule, Constant}
-use Rattle.fv_parse_grammar.specs.Tree.{Function, End, More, items, start_of}
+use Rattle.fv_parse_grammar.specs.headline.Tree.{Number, Negative, Named, MinusNamed, Wire, Cut, Primitive, Abstraction, Case, Delayed, Apply, Binary, Where, Rule, Constant}
+use Rattle.fv_parse_grammar.specs.headline.Tree.{Function, End, More, items, start_of}
 use Rattle.fv_parse_grammar.specs.Descent.{program, within, further, many, listed, definition, function_after, constant_after, one_rule, ended, expression, phrase}
 use Rattle.fv_parse_grammar.specs.Descent.{chain, rights, postfix, by_head, abstraction, case_of, iteration, slider, label, panel, turns, run, separated}
 

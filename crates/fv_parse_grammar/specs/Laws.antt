@@ -1,8 +1,8 @@
 -- Laws of the grammar and its descent.
 use Rattle.std.specs.Prelude.{◌≡◌, ℕ, ◌≤◌, List, length, Ok}
 use Rattle.fv_lex.specs.declared.token.Symbol.{Symbol}
-use Rattle.fv_parse_grammar.specs.Tree.{Tree}
-use Rattle.fv_parse_grammar.specs.Grammar.{SpellsProgram}
+use Rattle.fv_parse_grammar.specs.headline.Tree.{Tree}
+use Rattle.fv_parse_grammar.specs.headline.Grammar.{SpellsProgram}
 use Rattle.fv_parse_grammar.specs.Nesting.{Nests}
 use Rattle.fv_parse_grammar.specs.Descent.{program}
 

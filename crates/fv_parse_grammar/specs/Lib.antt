@@ -1,7 +1,8 @@
+pub mod headline
 pub mod Symbols
-pub mod Tree
 pub mod Grammar
 pub mod Nesting
 pub mod Descent
 pub mod Laws
 pub mod Examples
+pub mod inner

@@ -6,7 +6,7 @@ use Rattle.fv_lex.specs.declared.token.Symbol.{Symbol}
 use Rattle.fv_lex.specs.declared.token.Symbol.TheVariants.{Open, Close, OpenBrace, CloseBrace}
 use Rattle.fv_parse_grammar.specs.declared.symbol.Inside.{Inside}
 use Rattle.fv_parse_grammar.specs.declared.symbol.Head.TheVariants as heads
-use Rattle.fv_parse_grammar.specs.Symbols.{head, power}
+use Rattle.fv_parse_grammar.specs.headline.Symbols.{head, power}
 use Rattle.fv_parse_grammar.specs.Nesting.{Nests}
 use Rattle.fv_parse_grammar.specs.Descent.{Step, ◌>>=◌, Reader}
 use Rattle.fv_parse_grammar.specs.declared.symbol.Operands.{Operands}

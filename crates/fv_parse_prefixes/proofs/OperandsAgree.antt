@@ -10,7 +10,7 @@ use Rattle.fv_parse_grammar.specs.declared.form.Panel.{Panel as PanelKind}
 use Rattle.fv_parse_grammar.specs.declared.symbol.Head.{Head}
 use Rattle.fv_parse_grammar.specs.declared.symbol.Head.TheVariants as heads
 use Rattle.fv_parse_grammar.specs.declared.symbol.Inside.TheVariants as insides
-use Rattle.fv_parse_grammar.specs.Symbols.{head}
+use Rattle.fv_parse_grammar.specs.headline.Symbols.{head}
 use Rattle.fv_parse_grammar.specs.Descent.{Reader, after_plus, after_minus, group, abstraction, case_of, iteration, ports, switch, slider, panel, by_head, primary}
 use Rattle.fv_parse_prefixes.proofs.Agreement.{Fork, Same, BothRead, also, given, halted, Looks, takes, stays_at, looked, Passing, no_bracket, head_passing}
 use Rattle.fv_parse_prefixes.proofs.Agreement.{group_opens, AgreesInside}

@@ -8,10 +8,10 @@ use Rattle.fv_lex.specs.declared.token.Symbol.TheVariants as symbols
 use Rattle.fv_parse_grammar.specs.declared.symbol.Head.{Head}
 use Rattle.fv_parse_grammar.specs.declared.symbol.Head.TheVariants as heads
 use Rattle.fv_parse_grammar.specs.declared.symbol.Inside.TheVariants as insides
-use Rattle.fv_parse_grammar.specs.Symbols.{head, power, is_left}
-use Rattle.fv_parse_grammar.specs.Tree.{Tree}
-use Rattle.fv_parse_grammar.specs.Grammar.{Expression, Phrase, Postfix, Atom, plain, qualified, tighter, leftward, rightward, operand, pattern_operand, bare, delayed}
-use Rattle.fv_parse_grammar.specs.Grammar.{applied, atom_number, atom_plus_number, atom_minus_number, atom_name, atom_grouped}
+use Rattle.fv_parse_grammar.specs.headline.Symbols.{head, power, is_left}
+use Rattle.fv_parse_grammar.specs.headline.Tree.{Tree}
+use Rattle.fv_parse_grammar.specs.headline.Grammar.{Expression, Phrase, Postfix, Atom, plain, qualified, tighter, leftward, rightward, operand, pattern_operand, bare, delayed}
+use Rattle.fv_parse_grammar.specs.headline.Grammar.{applied, atom_number, atom_plus_number, atom_minus_number, atom_name, atom_grouped}
 use Rattle.fv_parse_grammar.specs.Descent as descent
 use Rattle.fv_parse_grammar.specs.declared.symbol.Mark.TheVariants as marks
 use Rattle.fv_parse_grammar.specs.Descent.{Step, ◌>>=◌, Turn, Done, Reader, power_at, primary, postfix, postfix_turn, atom_by_head, atom}

@@ -7,8 +7,8 @@ use Rattle.fv_lex.specs.declared.token.Symbol.TheVariants.{Integer, Open, With, 
 use Rattle.fv_parse_grammar.specs.declared.symbol.Head.{Head}
 use Rattle.fv_parse_grammar.specs.declared.symbol.Head.TheVariants as heads
 use Rattle.fv_parse_grammar.specs.declared.symbol.Inside.TheVariants as insides
-use Rattle.fv_parse_grammar.specs.Symbols.{head, power, operator, is_left}
-use Rattle.fv_parse_grammar.specs.Tree.{Tree, Delayed, Apply, Binary, Where}
+use Rattle.fv_parse_grammar.specs.headline.Symbols.{head, power, operator, is_left}
+use Rattle.fv_parse_grammar.specs.headline.Tree.{Tree, Delayed, Apply, Binary, Where}
 use Rattle.fv_parse_grammar.specs.declared.symbol.Mark.TheVariants as marks
 use Rattle.fv_parse_grammar.specs.Descent.{Step, ◌>>=◌, Turn, Done, turn, run, Reader, power_at, expect, enclosed, plus_number}
 use Rattle.fv_parse_grammar.specs.Descent.{minus_number, postfix, postfix_turn}

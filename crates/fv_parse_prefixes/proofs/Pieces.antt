@@ -5,7 +5,8 @@ use Rattle.fv_lex.specs.declared.token.Symbol.{Symbol}
 use Rattle.fv_lex.specs.declared.token.Symbol.TheVariants.{Name, Text, Comma, Open, Close}
 use Rattle.fv_parse_grammar.specs.declared.symbol.Mark.{Mark}
 use Rattle.fv_parse_grammar.specs.declared.symbol.Mark.TheVariants as marks
-use Rattle.fv_parse_grammar.specs.Symbols.{sign, is_mark}
+use Rattle.fv_parse_grammar.specs.Symbols.{is_mark}
+use Rattle.fv_parse_grammar.specs.inner.Symbols.{sign}
 use Rattle.fv_parse_grammar.proofs.Tokens.{is_mark_sign}
 use Rattle.fv_parse_grammar.specs.declared.symbol.Inside.{Inside}
 use Rattle.fv_parse_grammar.specs.declared.symbol.Inside.TheVariants as insides
@@ -13,10 +14,9 @@ use Rattle.fv_lex.specs.declared.token.Symbol.TheVariants.{Integer}
 use Rattle.fv_lex.specs.declared.token.Symbol.TheVariants as symbols
 use Rattle.fv_parse_grammar.specs.declared.form.Literal.{Literal}
 use Rattle.fv_parse_grammar.specs.declared.form.Literal.TheVariants as literal
-use Rattle.fv_parse_grammar.specs.Grammar.{SpellsNumber, unsigned, with_plus, with_minus, one_number, more_numbers}
+use Rattle.fv_parse_grammar.specs.headline.Grammar.{SpellsNumber, unsigned, with_plus, with_minus, one_number, more_numbers, one_name, more_names}
 use Rattle.fv_parse_grammar.specs.Descent.{◌>>=◌, a_value, a_literal, literal_list}
 use Rattle.fv_parse_prefixes.proofs.Plans.{stuck, counted, CountedAll, counted_all, ALiteral, LiteralList}
-use Rattle.fv_parse_grammar.specs.Grammar.{one_name, more_names}
 use Rattle.fv_parse_grammar.specs.Descent.{Step, Reader, expect, a_name, a_text, at_comma, separated, name_list, enclosed, argument, label}
 use Rattle.fv_parse_prefixes.proofs.Plans.{Plan, called, worded, CalledAll, called_all, both, this, that, nought, signed, Nothing, Sign, AName, AText, NameList, Inner, Then}
 use Rattle.fv_parse_prefixes.proofs.Plans.{Or, Spans, Takes, took, behind, next, made, done, as_plan, unread, one_taken, by_test, Passes, Reads}

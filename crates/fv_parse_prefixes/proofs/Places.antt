@@ -4,12 +4,13 @@ use Rattle.std.proofs.lemmas.List.{append-nil}
 use Rattle.fv_lex.specs.declared.token.Symbol.{Symbol}
 use Rattle.fv_lex.specs.declared.token.Symbol.TheVariants.{Open, Close, OpenBrace, CloseBrace}
 use Rattle.fv_parse_grammar.specs.declared.symbol.Items.TheVariants.{Statements}
-use Rattle.fv_parse_grammar.specs.Tree.{Tree}
-use Rattle.fv_parse_grammar.specs.Grammar.{IsViablePrefix, SpellsProgram}
+use Rattle.fv_parse_grammar.specs.headline.Tree.{Tree}
+use Rattle.fv_parse_grammar.specs.headline.Grammar.{IsViablePrefix, SpellsProgram}
 use Rattle.fv_parse_grammar.specs.Nesting.{Nests, lowered}
 use Rattle.fv_parse_grammar.specs.Descent.{Step, ◌>>=◌, further, within, program, whole_text}
 use Rattle.fv_parse_grammar.specs.Laws.{ReadsAllSpelled, NestsWithinLength}
-use Rattle.fv_parse_prefixes.specs.Beginnings.{IsErrorPlace, StopsWhereNoneGoesOn, StopsAtThePlace, OnePlace}
+use Rattle.fv_parse_prefixes.specs.headline.Beginnings.{IsErrorPlace}
+use Rattle.fv_parse_prefixes.specs.Beginnings.{StopsWhereNoneGoesOn, StopsAtThePlace, OnePlace}
 use Rattle.fv_parse_prefixes.proofs.Agreement.{Fork, Same, abreast, past, Alike, both_on, both_stopped, beyond, BothRead}
 use Rattle.fv_parse_prefixes.proofs.Programs.{stops_behind_a_beginning, beginnings_are_closed}
 use Rattle.fv_parse_prefixes.proofs.ProgramsAgree.{further_both, within_both}

@@ -1,6 +1,6 @@
 -- What a reader takes, piece by piece, and how it is completed where the reader stops.
 use Rattle.fv_parse_grammar.specs.declared.form.Literal.{Literal}
-use Rattle.fv_parse_grammar.specs.Grammar.{SpellsNumber, unsigned, SpellsNumbers, one_number}
+use Rattle.fv_parse_grammar.specs.headline.Grammar.{SpellsNumber, unsigned, SpellsNumbers, one_number}
 use Rattle.std.proofs.Common.{◌≡◌, ℕ, zero, suc, Bool, true, false, cond, List, [], ◌∷◌, ◌++◌, Result, Ok, Err, refl, sym, ap, subst, ◌∙◌, append_assoc}
 use Rattle.fv_lex.specs.declared.token.Symbol.{Symbol}
 use Rattle.fv_lex.specs.declared.token.Symbol.TheVariants.{Name, Text, Comma}
@@ -9,10 +9,10 @@ use Rattle.fv_parse_grammar.specs.declared.symbol.Inside.{Inside}
 use Rattle.fv_parse_grammar.specs.declared.symbol.Inside.TheVariants as insides
 use Rattle.fv_parse_grammar.specs.declared.symbol.Items.{Items}
 use Rattle.fv_parse_grammar.specs.declared.symbol.Items.TheVariants.{Parts}
-use Rattle.fv_parse_grammar.specs.Symbols.{power}
-use Rattle.fv_parse_grammar.specs.Tree.{Tree}
-use Rattle.fv_parse_grammar.specs.Grammar.{Level, Further, Definition, Expression, Listed, OneRule, Phrase, Postfix, Primary, Atom, SpellsNames, one_name, Spells}
-use Rattle.fv_parse_grammar.specs.Grammar.{no_more, first_rule, first_part, constant, rule, plain, tighter, operand, pattern_operand, bare, named, atom_name}
+use Rattle.fv_parse_grammar.specs.headline.Symbols.{power}
+use Rattle.fv_parse_grammar.specs.headline.Tree.{Tree}
+use Rattle.fv_parse_grammar.specs.headline.Grammar.{Level, Further, Definition, Expression, Listed, OneRule, Phrase, Postfix, Primary, Atom, SpellsNames, one_name, Spells}
+use Rattle.fv_parse_grammar.specs.headline.Grammar.{no_more, first_rule, first_part, constant, rule, plain, tighter, operand, pattern_operand, bare, named, atom_name}
 use Rattle.fv_parse_grammar.specs.Descent.{Step, ◌>>=◌}
 use Rattle.fv_parse_grammar.proofs.Sound.{level_of}
 use Rattle.fv_parse_grammar.specs.declared.symbol.Operands.{Operands}

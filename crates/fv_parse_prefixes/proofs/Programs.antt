@@ -7,9 +7,9 @@ use Rattle.fv_lex.specs.declared.token.Symbol.TheVariants.{Name, Comma, Open, Cl
 use Rattle.fv_parse_grammar.specs.declared.symbol.Inside.TheVariants as insides
 use Rattle.fv_parse_grammar.specs.declared.symbol.Items.{Items}
 use Rattle.fv_parse_grammar.specs.declared.symbol.Items.TheVariants.{Statements, Definitions, Rules, Parts}
-use Rattle.fv_parse_grammar.specs.Tree.{Tree}
-use Rattle.fv_parse_grammar.specs.Grammar.{Further, Definition, Listed, OneRule, IsViablePrefix, SpellsProgram, no_more, stated, declared, declared_for, defined}
-use Rattle.fv_parse_grammar.specs.Grammar.{ruled, parted, first_rule, first_part, constant, function, rule}
+use Rattle.fv_parse_grammar.specs.headline.Tree.{Tree}
+use Rattle.fv_parse_grammar.specs.headline.Grammar.{Further, Definition, Listed, OneRule, IsViablePrefix, SpellsProgram, no_more, stated, declared, declared_for, defined}
+use Rattle.fv_parse_grammar.specs.headline.Grammar.{ruled, parted, first_rule, first_part, constant, function, rule}
 use Rattle.fv_parse_grammar.specs.Descent as descent
 use Rattle.fv_parse_grammar.specs.declared.symbol.Mark.TheVariants as marks
 use Rattle.fv_parse_grammar.specs.Descent.{Step, ◌>>=◌, Reader, phrase, ended, function_after, constant_after, after_name, definition, one_rule, declared_text}

@@ -6,7 +6,7 @@ use Rattle.fv_parse_grammar.specs.declared.symbol.Inside.{Inside}
 use Rattle.fv_parse_grammar.specs.declared.symbol.Inside.TheVariants as insides
 use Rattle.fv_parse_grammar.specs.declared.symbol.Items.{Items}
 use Rattle.fv_parse_grammar.specs.declared.symbol.Items.TheVariants.{Statements, Definitions, Rules, Parts}
-use Rattle.fv_parse_grammar.specs.Tree.{Tree, End}
+use Rattle.fv_parse_grammar.specs.headline.Tree.{Tree, End}
 use Rattle.fv_parse_grammar.specs.Descent as descent
 use Rattle.fv_parse_grammar.specs.Descent.{Step, ◌>>=◌, Reader, phrase, ended, function_after, constant_after, after_name, definition, one_rule, declared_text}
 use Rattle.fv_parse_grammar.specs.Descent.{declared_for, declaration, Item, one_of, skip_of, item, further, listed, descend, within}

@@ -1,10 +1,11 @@
--- The place where the descent stops: what stands before it, and what at it.
+-- What calls say beside `headline/Beginnings`: the place where the descent stops: what stands before it, and what at it.
 use Rattle.std.specs.Prelude.{◌≡◌, ℕ, List, [], ◌∷◌, ◌++◌, Err}
 use Rattle.fv_lex.specs.declared.token.Symbol.{Symbol}
-use Rattle.fv_parse_grammar.specs.Tree.{Tree}
-use Rattle.fv_parse_grammar.specs.Grammar.{SpellsProgram, IsViablePrefix}
+use Rattle.fv_parse_grammar.specs.headline.Tree.{Tree}
+use Rattle.fv_parse_grammar.specs.headline.Grammar.{SpellsProgram, IsViablePrefix}
 use Rattle.fv_parse_grammar.specs.Nesting.{Nests}
 use Rattle.fv_parse_grammar.specs.Descent.{program}
+use Rattle.fv_parse_prefixes.specs.headline.Beginnings.{IsErrorPlace}
 
 -- Where the descent stops, however many brackets it may open, the tokens before begin a program (this project's profile).
 abbrev pub StopsBehindABeginning : Type 0
@@ -25,12 +26,6 @@ abbrev pub StopsWhereNoneGoesOn : Type 0
 StopsWhereNoneGoesOn =
     (limit : ℕ) (before rest : List Symbol) (t : Symbol)
     → Nests limit 0 before → program limit (before ++ t ∷ rest) ≡ Err (t ∷ rest) → IsViablePrefix (before ++ t ∷ []) → ⊥
-
--- The place of a syntax error, between the tokens before it and the rest: those before it begin a program; with the next one none begins, and where there is no
--- next one they are none (this project's profile).
-abbrev pub IsErrorPlace : List Symbol → List Symbol → Type 0
-IsErrorPlace before [] = IsViablePrefix before × ((x : Tree) → SpellsProgram before x → ⊥)
-IsErrorPlace before (t ∷ rest) = IsViablePrefix before × (IsViablePrefix (before ++ t ∷ []) → ⊥)
 
 -- Where the descent stops in tokens that nest within its limit is the place of an error (this project's profile).
 abbrev pub StopsAtThePlace : Type 0

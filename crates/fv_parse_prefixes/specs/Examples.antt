@@ -3,12 +3,12 @@ use Rattle.std.specs.Prelude.{◌≡◌, List, [], ◌∷◌, Err, refl}
 use Rattle.fv_lex.specs.declared.token.Symbol.{Symbol}
 use Rattle.fv_lex.specs.declared.token.Symbol.TheVariants.{Name, Comma, Open, Close, Equals, Semicolon, Underscore}
 use Rattle.fv_parse_grammar.specs.declared.symbol.Items.TheVariants.{Statements}
-use Rattle.fv_parse_grammar.specs.Tree.{Tree, End}
-use Rattle.fv_parse_grammar.specs.Grammar.{Spells, Further, Definition, Expression, Primary, IsViablePrefix, stated, no_more, constant, plain, tighter, operand, bare}
-use Rattle.fv_parse_grammar.specs.Grammar.{wire, grouped}
+use Rattle.fv_parse_grammar.specs.headline.Tree.{Tree, End}
+use Rattle.fv_parse_grammar.specs.headline.Grammar.{Spells, Further, Definition, Expression, Primary, IsViablePrefix, stated, no_more, constant, plain, tighter, operand, bare}
+use Rattle.fv_parse_grammar.specs.headline.Grammar.{wire, grouped}
 use Rattle.fv_parse_grammar.specs.Descent.{program, within, further, many, definition, constant_after, ended, expression, phrase, chain, rights, postfix, by_head}
 use Rattle.fv_parse_grammar.specs.Descent.{turns, run}
-use Rattle.fv_parse_prefixes.specs.Beginnings.{IsErrorPlace}
+use Rattle.fv_parse_prefixes.specs.headline.Beginnings.{IsErrorPlace}
 
 -- an operand is an expression
 of_operand : {ts rest : List Symbol} {x : Tree} → Spells Primary ts x rest → Spells Expression ts x rest

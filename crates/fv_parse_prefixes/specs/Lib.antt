@@ -1,2 +1,3 @@
+pub mod headline
 pub mod Beginnings
 pub mod Examples

@@ -2,7 +2,7 @@
 use Rattle.std.proofs.Common.{◌≡◌, ℕ, ◌<◌, ◌≤◌, List, [], ◌∷◌, length, Ok, Err, refl, arith}
 use Rattle.fv_lex.specs.declared.token.Symbol.{Symbol}
 use Rattle.fv_parse_grammar.specs.declared.symbol.Items.TheVariants.{Statements}
-use Rattle.fv_parse_grammar.specs.Tree.{Tree}
+use Rattle.fv_parse_grammar.specs.headline.Tree.{Tree}
 use Rattle.fv_parse_grammar.specs.Descent.{program, further, within}
 
 pub stopped : (n : ℕ) (ts at : List Symbol) → further (within n) Statements ts ≡ Err at → program n ts ≡ Err at

@@ -10,7 +10,7 @@ use Rattle.fv_parse_tree.specs.declared.node.TreeId.{TreeId}
 use Rattle.fv_parse_tree.specs.declared.reader.Stop.{Stop}
 use Rattle.fv_parse_tree.specs.declared.reader.Stop.TheVariants as stops
 use Rattle.fv_parse_tree.specs.declared.pending.Pending.{Pending}
-use Rattle.fv_parse_grammar.specs.Tree.{Tree, End, Binary}
+use Rattle.fv_parse_grammar.specs.headline.Tree.{Tree, End, Binary}
 use Rattle.fv_parse_grammar.specs.Descent.{Step, ◌>>=◌, Turn, Done, Item, Nothing, run, all_separated, at_comma}
 use Rattle.fv_parse_grammar.specs.Descent.{Stop as Halts, Fault as Refused}
 use Rattle.fv_parse_grammar.proofs.Loops.{run_next, run_done, run_stop, separated_step, separated_end, separated_stop, with_first, before, all_of, many_one, many_skip, many_done}

@@ -10,8 +10,8 @@ use Rattle.fv_parse_grammar.specs.declared.symbol.Items.{Items}
 use Rattle.fv_parse_tree.specs.declared.node.TreeId.{TreeId}
 use Rattle.fv_parse_tree.specs.declared.reader.Reader.{Reader}
 use Rattle.fv_parse_tree.specs.declared.reader.Stop.{Stop}
-use Rattle.fv_parse_grammar.specs.Tree.{Tree, End}
-use Rattle.fv_parse_grammar.specs.Symbols.{is_left}
+use Rattle.fv_parse_grammar.specs.headline.Tree.{Tree, End}
+use Rattle.fv_parse_grammar.specs.headline.Symbols.{is_left}
 use Rattle.fv_parse_grammar.specs.Descent.{Step, ◌>>=◌, run, chain, power_at, operand, phrase, left_turn, descend, within, further, item}
 use Rattle.fv_parse_grammar.specs.Descent.{Reader as Descent}
 use Rattle.fv_parse_grammar.proofs.Complete.{lower}

@@ -10,7 +10,7 @@ use Rattle.fv_parse_tree.specs.declared.reader.Stop.{Stop}
 use Rattle.fv_parse_tree.specs.declared.reader.Stop.TheVariants as stops
 use Rattle.fv_parse_tree.specs.declared.text.Fault.{Fault}
 use Rattle.fv_parse_tree.specs.declared.text.Fault.TheVariants as faults
-use Rattle.fv_parse_grammar.specs.Tree.{Tree}
+use Rattle.fv_parse_grammar.specs.headline.Tree.{Tree}
 use Rattle.fv_parse_grammar.specs.Descent.{Step, ◌>>=◌, Turn, Done, Next, Item, Nothing, Skip, One, power_at, operator_at}
 use Rattle.fv_parse_grammar.specs.Descent.{Stop as Halts, Fault as Refused}
 use Rattle.fv_parse_tree.specs.Arena.{tree_at, trees, forest, Keeps}

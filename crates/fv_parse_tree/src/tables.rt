@@ -1,7 +1,7 @@
 // What a single token means.
 
 ghost use Rattle.std.specs.Prelude.{◌≡◌, None};
-ghost use Rattle.fv_parse_grammar.specs.Symbols.{head, outside, power, operator};
+ghost use Rattle.fv_parse_grammar.specs.headline.Symbols.{head, outside, power, operator};
 ghost use Rattle.fv_parse_grammar.specs.declared.symbol.Operands.TheVariants.{Expressions};
 ghost use Rattle.fv_lex.specs.declared.token.Symbol.TheVariants.{Comma};
 ghost use Rattle.fv_parse_tree.specs.inner.Heads.{primitive_in};

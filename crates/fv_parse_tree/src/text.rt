@@ -1,7 +1,7 @@
 // All symbols of a text.
 
 ghost use Rattle.std.specs.Prelude.{◌<◌};
-ghost use Rattle.fv_lex.specs.Cuts.{deepest};
+ghost use Rattle.fv_lex.specs.headline.Cuts.{deepest};
 ghost use Rattle.fv_parse_grammar.specs.Descent.{program};
 ghost use Rattle.fv_parse_tree.specs.Gives.{Reads};
 

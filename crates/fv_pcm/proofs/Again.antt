@@ -9,13 +9,13 @@ use Rattle.std.proofs.Math.Seq.{drop-append-add}
 use Rattle.std.proofs.Math.Nat.{mul-div_cancel, mul_assoc, suc-mul, mul-le-mul_right}
 use Rattle.byteorder.specs.Endian.{little_number, little_bytes, twos_complement}
 use Rattle.byteorder.specs.Numbers.{little_from-bytes, big_from-bytes}
-use Rattle.fv_num.specs.Words.{is_sample_width, clamped}
-use Rattle.fv_num.specs.Frames.{table}
+use Rattle.fv_num.specs.headline.Words.{is_sample_width, clamped}
+use Rattle.fv_num.specs.headline.Frames.{table}
 use Rattle.fv_base.proofs.Lists.{table_same}
 use Rattle.fv_pcm.specs.declared.coding.Coding.{Coding}
 use Rattle.fv_pcm.specs.declared.coding.Coding.TheVariants as coding
-use Rattle.fv_pcm.specs.Coded.{number_in, low_bytes, of_byte, stored_of, sample_of, sample_at, sample_bytes}
-use Rattle.fv_pcm.specs.Sizes.{Layout, frame_size, whole_bytes, present}
+use Rattle.fv_pcm.specs.headline.Coded.{number_in, low_bytes, of_byte, stored_of, sample_of, sample_at, sample_bytes}
+use Rattle.fv_pcm.specs.headline.Sizes.{Layout, frame_size, whole_bytes, present}
 use Rattle.fv_pcm.specs.ReadAgain.{SampleIsReadAgain, AreStated, SamplesAreReadAgain}
 use Rattle.fv_pcm.proofs.Widths.{at_width, some_frame}
 use Rattle.fv_pcm.proofs.Samples.{length_sample}

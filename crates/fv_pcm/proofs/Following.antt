@@ -4,12 +4,14 @@ use Rattle.std.proofs.Common.{drop, get_or, refl, sym, ap, ap₂, ◌∙◌, ari
 use Rattle.std.specs.Prelude.{pos}
 use Rattle.std.proofs.Math.Nat.{mul_assoc, mul-le-mul_right, suc-mul, le-div_iff_mul-le, add-mul, le_of_mul-le-mul_right}
 use Rattle.std.proofs.lemmas.List.{take_more, drop-drop, get_or-drop, length-drop}
-use Rattle.fv_num.specs.Words.{argument, is_sample_width}
-use Rattle.fv_num.specs.Frames.{table}
+use Rattle.fv_num.specs.headline.Words.{argument, is_sample_width}
+use Rattle.fv_num.specs.headline.Frames.{table}
 use Rattle.fv_base.proofs.Lists.{table_same, get_or_table, length_table}
 use Rattle.fv_pcm.specs.declared.coding.Coding.{Coding}
-use Rattle.fv_pcm.specs.Coded.{sample_of, sample_at, samples_in}
-use Rattle.fv_pcm.specs.Sizes.{Layout, frame_size, stated_frames, whole_bytes, present, frames_present, frames_in, rows}
+use Rattle.fv_pcm.specs.headline.Coded.{sample_of, sample_at}
+use Rattle.fv_pcm.specs.Coded.{samples_in}
+use Rattle.fv_pcm.specs.headline.Sizes.{Layout, frame_size, stated_frames, whole_bytes, present}
+use Rattle.fv_pcm.specs.Sizes.{frames_present, frames_in, rows}
 use Rattle.fv_pcm.proofs.Widths.{some_frame}
 use Rattle.fv_pcm.proofs.Samples.{sample_within}
 

@@ -6,11 +6,12 @@ use Rattle.std.proofs.Math.Nat.{mul-le-mul_right}
 use Rattle.std.proofs.lemmas.List.{drop-take, take_more, flat_map_more}
 use Rattle.byteorder.specs.Endian.{twos_complement}
 use Rattle.byteorder.specs.Numbers.{little_from-take, big_from-take}
-use Rattle.fv_num.specs.Words.{is_sample_width}
+use Rattle.fv_num.specs.headline.Words.{is_sample_width}
 use Rattle.fv_base.proofs.Lists.{table_same}
 use Rattle.fv_pcm.specs.declared.coding.Coding.{Coding}
 use Rattle.fv_pcm.specs.declared.coding.Coding.TheVariants as coding
-use Rattle.fv_pcm.specs.Coded.{number_in, of_byte, sample_of, sample_at, samples_in, sample_bytes}
+use Rattle.fv_pcm.specs.headline.Coded.{number_in, of_byte, sample_of, sample_at, sample_bytes}
+use Rattle.fv_pcm.specs.Coded.{samples_in}
 use Rattle.fv_pcm.proofs.Widths.{at_width}
 
 -- a number reads only its own bytes

@@ -1,8 +1,8 @@
 -- The four widths of samples.
 use Rattle.std.proofs.Common.{◌≡◌, ℕ, ◌<◌, ◌≤◌, true, sym, arith, subst, ⊎_elim, ◌⊎◌, inl, inr}
 use Rattle.std.proofs.lemmas.Bool.{cases_eq, ne_eqb}
-use Rattle.fv_num.specs.Words.{is_sample_width}
-use Rattle.fv_pcm.specs.Sizes.{frame_size}
+use Rattle.fv_num.specs.headline.Words.{is_sample_width}
+use Rattle.fv_pcm.specs.headline.Sizes.{frame_size}
 
 pub widths : (bits : ℕ) → is_sample_width bits ≡ true → (bits ≡ 8) ⊎ ((bits ≡ 16) ⊎ ((bits ≡ 24) ⊎ (bits ≡ 32)))
 widths bits h =

@@ -1,8 +1,10 @@
 -- Samples as bytes and back, which compute.
 use Rattle.std.specs.Prelude.{◌≡◌, refl, List, [], ◌∷◌, flat_map, ℤ, pos, negsuc}
 use Rattle.fv_pcm.specs.declared.coding.Coding.TheVariants as coding
-use Rattle.fv_pcm.specs.Coded.{sample_of, sample_at, sample_bytes, samples_in}
-use Rattle.fv_pcm.specs.Sizes.{Layout, frames_in}
+use Rattle.fv_pcm.specs.headline.Coded.{sample_of, sample_at, sample_bytes}
+use Rattle.fv_pcm.specs.Coded.{samples_in}
+use Rattle.fv_pcm.specs.headline.Sizes.{Layout}
+use Rattle.fv_pcm.specs.Sizes.{frames_in}
 
 -- 1, -2 and a number that is clamped
 abbrev three : List ℤ

@@ -1,3 +1,4 @@
+pub mod headline
 pub mod Coded
 pub mod Sizes
 pub mod ReadAgain

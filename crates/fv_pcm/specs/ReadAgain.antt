@@ -1,10 +1,11 @@
 -- What is written is read again, clamped to the width.
 use Rattle.std.specs.Prelude.{◌≡◌, ℕ, ◌+◌, ◌*◌, ◌≤◌, true, List, ◌++◌, length, get_or, flat_map, ℤ, pos}
-use Rattle.fv_num.specs.Words.{is_sample_width, clamped}
-use Rattle.fv_num.specs.Frames.{table}
+use Rattle.fv_num.specs.headline.Words.{is_sample_width, clamped}
+use Rattle.fv_num.specs.headline.Frames.{table}
 use Rattle.fv_pcm.specs.declared.coding.Coding.{Coding}
-use Rattle.fv_pcm.specs.Coded.{sample_of, sample_bytes}
-use Rattle.fv_pcm.specs.Sizes.{Layout, frame_size, frames_in}
+use Rattle.fv_pcm.specs.headline.Coded.{sample_of, sample_bytes}
+use Rattle.fv_pcm.specs.headline.Sizes.{Layout, frame_size}
+use Rattle.fv_pcm.specs.Sizes.{frames_in}
 
 -- A sample that is written is read again, whatever stands behind it.
 abbrev pub SampleIsReadAgain : Type 0

@@ -1,9 +1,10 @@
 // Samples out of their bytes.
 
 ghost use Rattle.std.specs.Prelude.{◌≡◌, ◌*◌, ◌/◌, ◌≤◌, length, true, IfOk};
-ghost use Rattle.fv_num.specs.Words.{is_sample_width};
+ghost use Rattle.fv_num.specs.headline.Words.{is_sample_width};
 ghost use Rattle.fv_pcm.specs.declared.coding.Coding.TheVariants as coding_is;
-ghost use Rattle.fv_pcm.specs.Coded.{sample_of, samples_in};
+ghost use Rattle.fv_pcm.specs.headline.Coded.{sample_of};
+ghost use Rattle.fv_pcm.specs.Coded.{samples_in};
 
 use crate::coding::Coding;
 use byteorder::{BigEndian, ByteOrder, LittleEndian};

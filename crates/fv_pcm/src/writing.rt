@@ -1,9 +1,9 @@
 // Samples into their bytes.
 
 ghost use Rattle.std.specs.Prelude.{◌≡◌, ◌*◌, ◌/◌, ◌<◌, ◌≤◌, ◌++◌, length, take, drop, true, slice_index_or, flat_map, pos};
-ghost use Rattle.fv_num.specs.Words.{is_sample_width};
+ghost use Rattle.fv_num.specs.headline.Words.{is_sample_width};
 ghost use Rattle.fv_pcm.specs.declared.coding.Coding.TheVariants as coding_is;
-ghost use Rattle.fv_pcm.specs.Coded.{stored_of, low_bytes, sample_bytes};
+ghost use Rattle.fv_pcm.specs.headline.Coded.{stored_of, low_bytes, sample_bytes};
 ghost use Rattle.fv_pcm.specs.Sizes.{data_length_of};
 
 use crate::coding::Coding;

@@ -3,19 +3,19 @@ use Rattle.std.proofs.Common.{◌≡◌, ℕ, zero, suc, ◌%◌, ◌<◌, ◌�
 use Rattle.std.proofs.Common.{false, if◌then◌else◌, ℤ, length-append}
 use Rattle.std.specs.Prelude.{slice_set}
 use Rattle.std.proofs.lemmas.List.{length-take-le, length-drop, length-set}
-use Rattle.fv_base.specs.Lists.{table}
+use Rattle.fv_base.specs.headline.Lists.{table}
 use Rattle.fv_base.proofs.Lists.{length_table}
 use Rattle.fv_num.specs.declared.op.Op.TheVariants.{Add}
 use Rattle.fv_diagram.specs.declared.node.Primitive.{Primitive as Prim}
 use Rattle.fv_diagram.specs.declared.node.Primitive.TheVariants as prim
 use Rattle.fv_diagram.specs.declared.signals.Leaf.{Leaf}
 use Rattle.fv_diagram.specs.declared.signals.Leaf.TheVariants as leaf
-use Rattle.fv_diagram.specs.Diagram.{Diagram, Primitive, Constant, Control, Slot, Wave, Table, Bind, Par, Seq, Split, Merge, Rec, inputs, outputs}
-use Rattle.fv_diagram.specs.Diagram.{primitive_inputs, is_table_primitive}
+use Rattle.fv_diagram.specs.headline.Diagram.{Diagram, Primitive, Constant, Control, Slot, Wave, Table, Bind, Par, Seq, Split, Merge, Rec, inputs, outputs}
+use Rattle.fv_diagram.specs.headline.Diagram.{primitive_inputs, table_inputs, is_table_primitive}
 use Rattle.std.proofs.Common.{Bool, true, false, ℤ, pos}
 use Rattle.std.proofs.lemmas.Bool.{true≢false}
 use Rattle.fv_diagram.specs.Diagram.{IsWellFormed}
-use Rattle.fv_diagram.specs.Streams.{dealt}
+use Rattle.fv_diagram.specs.headline.Streams.{dealt}
 use Rattle.fv_diagram.specs.Wires.{plugged}
 use Rattle.fv_diagram.specs.Hooks.{Hooks, takes}
 use Rattle.fv_diagram.specs.Walked.{walked, primitive, added, summed}
@@ -165,32 +165,37 @@ IsOfLeaf N C leaf.Prefix = Unit {0}
 IsOfLeaf N C leaf.Delay = Unit {0}
 IsOfLeaf N C (leaf.Point op) = Unit {0}
 
--- those of a diagram are, which has no waveform and no table
-abbrev pub AreOfLeaves : (ℤ → Type 0) → (ℕ → Type 0) → Diagram → Type 0
-AreOfLeaves N C (Primitive p) = Unit {0}
-AreOfLeaves N C (Constant n) = N n
-AreOfLeaves N C (Control k) = C k
-AreOfLeaves N C (Slot s) = Unit {0}
-AreOfLeaves N C (Wave w) = ⊥
-AreOfLeaves N C (Table T writes) = ⊥
-AreOfLeaves N C (Bind s a) = AreOfLeaves N C a
-AreOfLeaves N C (Par a b) = AreOfLeaves N C a × AreOfLeaves N C b
-AreOfLeaves N C (Seq a b) = AreOfLeaves N C a × AreOfLeaves N C b
-AreOfLeaves N C (Split a b) = AreOfLeaves N C a × AreOfLeaves N C b
-AreOfLeaves N C (Merge a b) = AreOfLeaves N C a × AreOfLeaves N C b
-AreOfLeaves N C (Rec a b) = AreOfLeaves N C a × AreOfLeaves N C b
+-- those of a diagram are, and its lists are of these
+abbrev pub AreOfLeaves : (ℤ → Type 0) → (ℕ → Type 0) → (List ℤ → Type 0) → Diagram → Type 0
+AreOfLeaves N C L (Primitive p) = Unit {0}
+AreOfLeaves N C L (Constant n) = N n
+AreOfLeaves N C L (Control k) = C k
+AreOfLeaves N C L (Slot s) = Unit {0}
+AreOfLeaves N C L (Wave w) = N (pos (length w)) × L w
+AreOfLeaves N C L (Table T writes) = L T
+AreOfLeaves N C L (Bind s a) = AreOfLeaves N C L a
+AreOfLeaves N C L (Par a b) = AreOfLeaves N C L a × AreOfLeaves N C L b
+AreOfLeaves N C L (Seq a b) = AreOfLeaves N C L a × AreOfLeaves N C L b
+AreOfLeaves N C L (Split a b) = AreOfLeaves N C L a × AreOfLeaves N C L b
+AreOfLeaves N C L (Merge a b) = AreOfLeaves N C L a × AreOfLeaves N C L b
+AreOfLeaves N C L (Rec a b) = AreOfLeaves N C L a × AreOfLeaves N C L b
 
 -- The calls of both keep the relation, where Holds s holds of the signals of the first after the call.
-pub record KeepAlong {V S T : Type 0} (h : Hooks ℕ S) (g : Hooks V T) (N : ℤ → Type 0) (C : ℕ → Type 0) (Good Holds : S → Type 0) (Q : ℕ → V → Type 0)
+pub record KeepAlong {V S T : Type 0} (h : Hooks ℕ S) (g : Hooks V T) (N : ℤ → Type 0) (C : ℕ → Type 0) (L : List ℤ → Type 0) (Good Holds : S → Type 0) (Q : ℕ → V → Type 0)
     (R : S → T → Type 0) : Type 0 where
   pub leaf : (l : Leaf) (ws : List ℕ) (vs : List V) (s : S) (t : T) → IsOfLeaf N C l → length ws ≡ takes l → Good s → Holds (h.leaf l ws s).1 → R s t →
       AreRelated Q ws vs → Q (h.leaf l ws s).0 (g.leaf l vs t).0 × R (h.leaf l ws s).1 (g.leaf l vs t).1
+  pub counted : (l : List ℤ) (s : S) (t : T) → L l → Good s → Holds (h.counted (length l) s).1 → R s t →
+      Q (h.counted (length l) s).0 (g.counted (length l) t).0 × R (h.counted (length l) s).1 (g.counted (length l) t).1
+  pub tabled : (writes : Bool) (l : List ℤ) (ws : List ℕ) (vs : List V) (s : S) (t : T) → L l → length ws ≡ table_inputs writes → Good s
+      → Holds (h.tabled writes l ws s).1 → R s t → AreRelated Q ws vs
+      → Q (h.tabled writes l ws s).0 (g.tabled writes l vs t).0 × R (h.tabled writes l ws s).1 (g.tabled writes l vs t).1
   pub opened : (n : ℕ) (s : S) (t : T) → Good s → Holds (h.opened n s).1 → R s t → Gives Q R (h.opened n s) (g.opened n t)
   pub closed : (ws : List ℕ) (vs : List V) (s : S) (t : T) → Good s → Holds (h.closed ws s).1 → R s t → AreRelated Q ws vs
       → Gives Q R (h.closed ws s) (g.closed vs t)
 
-module _ {V S T : Type 0} (h : Hooks ℕ S) (g : Hooks V T) (N : ℤ → Type 0) (C : ℕ → Type 0) (Good : S → Type 0) (Onward : S → S → Type 0) (Holds : S → Type 0)
-    (Q : ℕ → V → Type 0) (R : S → T → Type 0) (orderly : AreOrderly h Good Onward) (backs : HoldBack h Holds) (keeps : KeepAlong h g N C Good Holds Q R)
+module _ {V S T : Type 0} (h : Hooks ℕ S) (g : Hooks V T) (N : ℤ → Type 0) (C : ℕ → Type 0) (L : List ℤ → Type 0) (Good : S → Type 0) (Onward : S → S → Type 0) (Holds : S → Type 0)
+    (Q : ℕ → V → Type 0) (R : S → T → Type 0) (orderly : AreOrderly h Good Onward) (backs : HoldBack h Holds) (keeps : KeepAlong h g N C L Good Holds Q R)
     (v : V) (free : Q 0 v) where
   goes : (d : Diagram) (slots : ℕ → ℕ) (ws : List ℕ) (s : S) → IsWellFormed d → length ws ≡ inputs d → Good s →
       (length (walked h 0 d slots ws s).0 ≡ outputs d) × Onward s (walked h 0 d slots ws s).1
@@ -241,14 +246,28 @@ module _ {V S T : Type 0} (h : Hooks ℕ S) (g : Hooks V T) (N : ℤ → Type 0)
 
   -- what the walk makes of a diagram for the one is related with what it makes for the other
   pub walked_along : (d : Diagram) (slots : ℕ → ℕ) (places : ℕ → V) (ws : List ℕ) (vs : List V) (s : S) (t : T) → IsWellFormed d → length ws ≡ inputs d →
-      AreOfLeaves N C d → Good s → Holds (walked h 0 d slots ws s).1 → ((i : ℕ) → Q (slots i) (places i)) → R s t → AreRelated Q ws vs →
+      AreOfLeaves N C L d → Good s → Holds (walked h 0 d slots ws s).1 → ((i : ℕ) → Q (slots i) (places i)) → R s t → AreRelated Q ws vs →
       Gives Q R (walked h 0 d slots ws s) (walked g v d places vs t)
   walked_along (Primitive p) slots places ws vs s t wf w a k o e r q = primitive_along p ws vs s t wf w k o r q
   walked_along (Constant n) slots places ws vs s t wf w a k o e r q = let m = keeps.leaf (leaf.Number n) [] [] s t a refl k o r tt in ((m.0, tt), m.1)
   walked_along (Control n) slots places ws vs s t wf w a k o e r q = let m = keeps.leaf (leaf.Control n) [] [] s t a refl k o r tt in ((m.0, tt), m.1)
   walked_along (Slot i) slots places ws vs s t wf w a k o e r q = ((e i, tt), r)
-  walked_along (Wave z) slots places ws vs s t wf w a k o e r q = absurd a
-  walked_along (Table z writes) slots places ws vs s t wf w a k o e r q = absurd a
+  walked_along (Wave z) slots places ws vs s t wf w a k o e r q =
+      let n = length z in
+      let many = h.leaf (leaf.Number (pos n)) [] s in
+      let more = g.leaf (leaf.Number (pos n)) [] t in
+      let index = h.counted n many.1 in
+      let at = g.counted n more.1 in
+      let oi = backs.tabled false z (index.0 ∷ []) index.1 o in
+      let om = backs.counted n many.1 oi in
+      let km = orderly.stays_good s many.1 (orderly.leaf_on (leaf.Number (pos n)) [] s) k in
+      let ki = orderly.stays_good many.1 index.1 (orderly.count_on n many.1) km in
+      let x = keeps.leaf (leaf.Number (pos n)) [] [] s t a.0 refl k om r tt in
+      let y = keeps.counted z many.1 more.1 a.1 km oi x.1 in
+      let m = keeps.tabled false z (index.0 ∷ []) (at.0 ∷ []) index.1 at.1 a.1 refl ki o y.1 (y.0, tt) in
+      ((x.0, (m.0, tt)), m.1)
+  walked_along (Table z writes) slots places ws vs s t wf w a k o e r q =
+      let m = keeps.tabled writes z ws vs s t a w k o r q in ((m.0, tt), m.1)
   walked_along (Bind i b) slots places ws vs s t wf w a k o e r q =
       walked_along b (plugged slots i (get_or ws 0 0)) (plugged places i (get_or vs 0 v)) (drop 1 ws) (drop 1 vs) s t wf (length-drop 1 ws ∙ omega (arith, w))
       a k o

@@ -1,21 +1,27 @@
 -- What holds of all progress stays so.
 use Rattle.std.proofs.Common.{◌≡◌, ℕ, zero, suc, ◌<◌, ◌≤◌, List, [], ◌∷◌, ◌++◌, length, get_or, map, drop, refl, sym, ap, ◌∙◌, subst, arith, All, Bool, true}
-use Rattle.std.proofs.Common.{false, inl, inr, pos}
+use Rattle.std.proofs.Common.{false, inl, inr, pos, ℤ}
 use Rattle.std.specs.Prelude.{slice_set}
 use Rattle.std.proofs.lemmas.List.{length_push, length-set, get_or-set_other}
 use Rattle.std.proofs.lemmas.List.Elements.{All-from_get_or}
 use Rattle.fv_signal.specs.declared.signal.Signal.{Signal}
-use Rattle.fv_signal.specs.declared.signal.Signal.TheVariants.{Const, Control, Point, Delay, Back, Member}
-use Rattle.fv_share.specs.Drafts.{Draft, NamesSoFar, IsPending, IsShut, BacksWithin, with_group, with_members}
-use Rattle.fv_num.specs.declared.op.Op.TheVariants.{Select2}
+use Rattle.fv_signal.specs.declared.signal.Signal.TheVariants.{Const, Control, Point, Delay, Back, Member, Read, Write}
+use Rattle.fv_share.specs.Drafts.{Draft, NamesSoFar, CanPut, IsPending, IsShut, BacksWithin, table_in, with_group, with_members}
+use Rattle.fv_share.proofs.Puts.{tables_stand}
+use Rattle.fv_diagram.specs.headline.Diagram.{table_inputs}
+use Rattle.fv_diagram.specs.Diagram.{AreNumbers}
+use Rattle.std.proofs.lemmas.List.Elements.{All-get_or}
+use Rattle.fv_num.specs.declared.op.Op.TheVariants.{Add, Rem, Select2}
 use Rattle.fv_diagram.specs.declared.signals.Leaf.{Leaf}
 use Rattle.fv_diagram.specs.declared.signals.Leaf.TheVariants as leaf
 use Rattle.fv_diagram.specs.inner.Code.{padded}
 use Rattle.fv_diagram.proofs.Places.{prefix_long}
 use Rattle.fv_propagate.specs.declared.progress.Feedback.{Feedback}
 use Rattle.fv_propagate.specs.inner.Progress.{Progress, put, puts, put_mem, put_prefix, passed, grouped, leaf_of, opened_of, shut, closed_of, fed_of, IsThere}
+use Rattle.fv_propagate.specs.inner.Progress.{put_next, given, late_of, turned, counted_of, listed, table_node, tabled_of}
 use Rattle.fv_propagate.specs.inner.Progress.{IsWireOf, IsAdmitted, AreNested, AreOpen, IsProgress}
 use Rattle.fv_propagate.proofs.Puts.{put_cases, put_there, put_keeps, puts_keep, puts_groups, puts_closed, puts_feedbacks, puts_wide, puts_there}
+use Rattle.fv_propagate.proofs.Puts.{next_keeps, turned_keeps, listed_is, listed_signals}
 use Rattle.fv_share.proofs.Puts.{backs_stay_within}
 use Rattle.fv_propagate.proofs.Goes.{filled}
 
@@ -178,6 +184,112 @@ grown_leaf leaf.Prefix ins s p id e = unpassed 1 s p id (grown_prefix (passed 1 
 grown_leaf leaf.Delay ins s p id e =
     unpassed 1 s p id (grown_put (passed 1 s) p (Delay (get_or ins 0 0) (get_or ins 1 0) (get_or s.delays 0 0)) id e)
 grown_leaf (leaf.Point op) ins s p id e = grown_put s p (Point op (padded ins)) id e
+
+-- ---- a count and a table
+
+pub grown_next : (s p : Progress) (x n id : ℕ) → (id, p) ≡ put_next s x n → IsGrown s p id
+grown_next s p x n id e =
+    let one = put s (Const (pos 1)) in
+    let add = Point Add (padded (x ∷ one.0 ∷ [])) in
+    let sum = put one.1 add in
+    let many = put sum.1 (Const (pos n)) in
+    grown_both s one.1 p one.0 id (grown_put s one.1 (Const (pos 1)) one.0 refl)
+    (grown_both one.1 sum.1 p sum.0 id (grown_put one.1 sum.1 add sum.0 refl)
+    (grown_both sum.1 many.1 p many.0 id (grown_put sum.1 many.1 (Const (pos n)) many.0 refl)
+    (grown_put many.1 p (Point Rem (padded (sum.0 ∷ many.0 ∷ []))) id e)))
+
+pub grown_counted : (n : ℕ) (s p : Progress) (id : ℕ) → (id, p) ≡ counted_of n s → IsGrown s p id
+grown_counted n s p id e =
+    let late = late_of s in
+    subst (λ (r : ℕ × Progress). IsGrown s r.1 r.0) (sym e) (record {
+      there = omega (
+        arith,
+        put_there (grouped s) (Back (length s.draft.groups) 0),
+        prefix_long late.1.draft.signals (turned n s).1.draft.signals (next_keeps late.1 late.0 n),
+      );
+      longer = prefix_long s.draft.signals (turned n s).1.draft.signals (turned_keeps n s);
+      same = refl;
+    })
+
+pub grown_tabled : (writes : Bool) (T : List ℤ) (ins : List ℕ) (s p : Progress) (id : ℕ) → (id, p) ≡ tabled_of writes T ins s → IsGrown s p id
+grown_tabled writes T ins s p id e =
+    let q = listed s T in
+    let g = grown_put q.1 p (table_node writes q.0 ins) id e in
+    record { there = g.there; longer = omega (arith, g.longer, ap length (listed_signals s T)); same = g.same }
+
+-- the Backs of a group are as few as before
+next_backs : (s : Progress) (x n g count : ℕ) → BacksWithin s.draft g count → BacksWithin (put_next s x n).1.draft g count
+next_backs s x n g count h =
+    let one = put s (Const (pos 1)) in
+    let add = Point Add (padded (x ∷ one.0 ∷ [])) in
+    let sum = put one.1 add in
+    let many = put sum.1 (Const (pos n)) in
+    backs_put many.1 (Point Rem (padded (sum.0 ∷ many.0 ∷ []))) g count (λ k e. absurd cc) (backs_put sum.1 (Const (pos n)) g count (λ k e. absurd cc)
+    (backs_put one.1 add g count (λ k e. absurd cc) (backs_put s (Const (pos 1)) g count (λ k e. absurd cc) h)))
+
+-- what a group may be given
+pub record CanGive (s : Progress) (group only : ℕ) : Type 0 where
+  pub pending : IsPending s.draft group
+  pub inner : AreNested group s.feedbacks
+  pub backs : BacksWithin s.draft group 1
+  pub member : IsThere s only
+
+pub can_give : (s p q : Progress) (g n late next : ℕ) → (late, p) ≡ put s (Back g 0) → (next, q) ≡ put_next p late n → IsPending s.draft g
+    → BacksWithin s.draft g 0 → AreNested g s.feedbacks → CanGive q g next
+can_give s p q g n late next e f pending backs inner =
+    let b = put s (Back g 0) in
+    let is : (next, q) ≡ put_next b.1 b.0 n = f ∙ ap (λ (r : ℕ × Progress). put_next r.1 r.0 n) e in
+    let one : BacksWithin b.1.draft g 1 =
+    backs_put s (Back g 0) g 1 (λ k same. let z : 0 ≡ k = cc in omega (arith, z)) (λ i k x l h. omega (arith, backs i k x l h)) in
+    subst (λ (r : ℕ × Progress). CanGive r.1 g r.0) (sym is) (record {
+      pending = pending;
+      inner = inner;
+      backs = next_backs b.1 b.0 n g 1 one;
+      member = (grown_next b.1 (put_next b.1 b.0 n).1 b.0 n (put_next b.1 b.0 n).0 refl).there;
+    })
+
+pub given_keeps_progress : (s : Progress) (g : ℕ) (members : List ℕ) → AreNested g s.feedbacks → IsProgress s → IsProgress (given s g members)
+given_keeps_progress s g members k h = record {
+  nested = wider (length s.draft.groups) (length (slice_set s.draft.groups g members)) s.feedbacks (omega (arith, length-set s.draft.groups g members)) h.nested;
+  pending = open_members s.draft g g members s.feedbacks (omega arith) k h.pending;
+}
+
+-- the steps of a count
+pub count_so : (s p q r z : Progress) (g late next n : ℕ) → g ≡ length s.draft.groups → p ≡ grouped s → (late, q) ≡ put p (Back g 0)
+    → (next, r) ≡ put_next q late n → z ≡ given r g (next ∷ []) → (late, z) ≡ counted_of n s
+count_so s p q r z g late next n eg ep eq er ez =
+    let first : (late, q) ≡ late_of s = eq ∙ ap (λ x. put x (Back g 0)) ep ∙ ap (λ j. put (grouped s) (Back j 0)) eg in
+    let second : (next, r) ≡ turned n s = er ∙ ap (λ (x : ℕ × Progress). put_next x.1 x.0 n) first in
+    ap (λ x. (late, x)) ez ∙ ap (λ (x : ℕ × Progress). (x.0, given r g (next ∷ []))) first ∙ ap (λ j. ((late_of s).0, given r j (next ∷ []))) eg
+    ∙ ap (λ (x : ℕ × Progress). ((late_of s).0, given x.1 (length s.draft.groups) (x.0 ∷ []))) second
+
+open_tables : (d : Draft) (ts : List (List ℤ)) (fs : List Feedback) → AreOpen d fs → AreOpen (record d { tables = ts }) fs
+open_tables d ts [] h = tt
+open_tables d ts (f ∷ fs) h = (h.0, h.1, open_tables d ts fs h.2)
+
+pub listed_keeps_progress : (s : Progress) (T : List ℤ) → IsProgress s → IsProgress (listed s T).1
+listed_keeps_progress s T h =
+    subst IsProgress (sym (listed_is s T)) (record { nested = h.nested; pending = open_tables s.draft (listed s T).1.draft.tables s.feedbacks h.pending })
+
+-- a table that is there may be read and written
+pub table_can : (writes : Bool) (T : List ℤ) (ins : List ℕ) (s q : Progress) (t : ℕ) → (t, q) ≡ listed s T → AreNumbers T → length ins ≡ table_inputs writes
+    → All (IsThere s) ins → CanPut q.draft (table_node writes t ins)
+table_can writes T ins s q t e numbers wide there =
+    subst (λ (r : ℕ × Progress). CanPut r.1.draft (table_node writes r.0 ins)) (sym e) (by_use writes wide)
+  where
+    some : 0 < length (table_in (listed s T).1.draft (listed s T).0)
+    some = subst (λ xs. 0 < length xs) (sym (tables_stand s.draft T).stands) numbers.some
+
+    operand : (i : ℕ) → i < length ins → get_or ins i 0 < length (listed s T).1.draft.signals
+    operand i l = subst (λ ss. get_or ins i 0 < length ss) (sym (listed_signals s T)) (All-get_or (IsThere s) ins i 0 l there)
+
+    by_use : (writes : Bool) → length ins ≡ table_inputs writes → CanPut (listed s T).1.draft (table_node writes (listed s T).0 ins)
+    by_use false n = record { operands = operand 0 (omega (arith, n)); names = some }
+    by_use true n = record { operands = (operand 0 (omega (arith, n)), operand 1 (omega (arith, n)), operand 2 (omega (arith, n))); names = some }
+
+pub table_admitted : (fs : List Feedback) (writes : Bool) (t : ℕ) (ins : List ℕ) → IsAdmitted fs (table_node writes t ins)
+table_admitted fs false t ins = tt
+table_admitted fs true t ins = tt
 
 -- signals that are there, as are those that were
 pub record AreGrown (s p : Progress) (ids : List ℕ) (n : ℕ) : Type 0 where

@@ -1,25 +1,27 @@
 -- What the signals of a graph name: inputs and controls that are there, numbers of 32 bits, and delays of the list.
-use Rattle.std.proofs.Common.{◌≡◌, ℕ, zero, suc, ◌<◌, ◌≤◌, List, [], ◌∷◌, length, get_or, refl, sym, ◌∙◌, subst, arith, All, pos, inl, inr, w32, FitsSigned, false}
+use Rattle.std.proofs.Common.{◌≡◌, ℕ, zero, suc, ◌<◌, ◌≤◌, List, [], ◌∷◌, length, get_or, refl, sym, ◌∙◌, subst, arith, All, pos, inl, inr, w32, FitsSigned, ℤ, Bool, true, false}
 use Rattle.std.proofs.lemmas.List.Elements.{All-drop, All-get_or}
 use Rattle.std.proofs.lemmas.Int.{ints}
 use Rattle.fv_base.proofs.Lists.{length_table}
-use Rattle.fv_num.specs.declared.op.Op.TheVariants.{Select2}
-use Rattle.fv_num.specs.Frames.{table}
+use Rattle.fv_num.specs.declared.op.Op.TheVariants.{Add, Rem, Select2}
+use Rattle.fv_num.specs.headline.Frames.{table}
 use Rattle.fv_signal.specs.declared.signal.Signal.{Signal}
 use Rattle.fv_signal.specs.declared.signal.Signal.TheVariants as signal
-use Rattle.fv_signal.specs.declared.signal.Signal.TheVariants.{Input, Const, Control, Point, Delay, Back, Member}
+use Rattle.fv_signal.specs.declared.signal.Signal.TheVariants.{Input, Const, Control, Point, Delay, Back, Member, Read, Write}
 use Rattle.fv_diagram.specs.declared.signals.Leaf.{Leaf}
 use Rattle.fv_diagram.specs.declared.signals.Leaf.TheVariants as leaf
-use Rattle.fv_diagram.specs.Diagram.{Diagram}
-use Rattle.fv_diagram.specs.Diagram as diagram
-use Rattle.std.proofs.lemmas.Bool.{true≢false, or_parts}
+use Rattle.fv_diagram.specs.headline.Diagram.{Diagram}
+use Rattle.fv_diagram.specs.headline.Diagram as diagram
+use Rattle.fv_diagram.specs.Diagram as more_diagram
+use Rattle.fv_diagram.proofs.Meaning.{AllLists}
 use Rattle.fv_diagram.specs.Hooks.{Hooks}
 use Rattle.fv_diagram.specs.inner.Code.{padded}
 use Rattle.fv_propagate.specs.declared.progress.Feedback.{Feedback}
-use Rattle.fv_propagate.specs.Propagated.{HasControl}
+use Rattle.fv_propagate.specs.headline.Propagated.{HasControl}
 use Rattle.fv_propagate.specs.inner.Progress.{Progress, put, puts, passed, grouped, put_mem, put_prefix, leaf_of, opened_of, shut, signal_hooks}
+use Rattle.fv_propagate.specs.inner.Progress.{late_of, counted_of, listed, table_node, tabled_of}
 use Rattle.fv_propagate.proofs.Alongside.{AreOfLeaves, IsOfLeaf, KeepAlong, related_places, related_length}
-use Rattle.fv_propagate.proofs.Puts.{put_cases, puts_wide}
+use Rattle.fv_propagate.proofs.Puts.{put_cases, puts_wide, puts_tables, listed_is}
 use Rattle.fv_propagate.proofs.Goes.{IsGood, filled, close_wide}
 
 -- a user of the walk that does nothing
@@ -46,6 +48,8 @@ module _ (ins : ℕ) (IsControl : ℕ → Type 0) (IsLimit : ℕ → Type 0) (no
   IsNamed (Delay x d max) = IsLimit max
   IsNamed (Back group k) = Unit {0}
   IsNamed (Member group k) = Unit {0}
+  IsNamed (Read table r) = Unit {0}
+  IsNamed (Write table w x r) = Unit {0}
 
   -- each signal does, and each delay to come is within the limit
   pub record AreNamed (s : Progress) : Type 0 where
@@ -112,9 +116,35 @@ module _ (ins : ℕ) (IsControl : ℕ → Type 0) (IsLimit : ℕ → Type 0) (no
   named_shut (f ∷ fs) ws s g =
       named_puts (signal.Member f.group) (length ws) (filled f fs ws s) (λ i l. tt) (record { signals = g.signals; delays = g.delays })
 
-  pub names_keep : (Holds : Progress → Type 0) → KeepAlong signal_hooks still (FitsSigned w32) IsControl IsGood Holds Any Named
+  named_counted : (n : ℕ) (s : Progress) → FitsSigned w32 (pos n) → AreNamed s → AreNamed (counted_of n s).1
+  named_counted n s f g =
+      let b = signal.Back (length s.draft.groups) 0 in
+      let late = late_of s in
+      let one = put late.1 (signal.Const (pos 1)) in
+      let add = signal.Point Add (padded (late.0 ∷ one.0 ∷ [])) in
+      let sum = put one.1 add in
+      let many = put sum.1 (signal.Const (pos n)) in
+      let g1 = named_put (grouped s) b tt (record { signals = g.signals; delays = g.delays }) in
+      let g2 = named_put one.1 add tt (named_put late.1 (signal.Const (pos 1)) one_fits g1) in
+      let g3 = named_put many.1 (signal.Point Rem (padded (sum.0 ∷ many.0 ∷ []))) tt (named_put sum.1 (signal.Const (pos n)) f g2) in
+      record { signals = g3.signals; delays = g3.delays }
+
+  node_named : (writes : Bool) (t : ℕ) (ws : List ℕ) → IsNamed (table_node writes t ws)
+  node_named false t ws = tt
+  node_named true t ws = tt
+
+  named_tabled : (writes : Bool) (T : List ℤ) (ws : List ℕ) (s : Progress) → AreNamed s → AreNamed (tabled_of writes T ws s).1
+  named_tabled writes T ws s g =
+      let q = listed s T in
+      named_put q.1 (table_node writes q.0 ws) (node_named writes q.0 ws)
+      (subst AreNamed (sym (listed_is s T)) (record { signals = g.signals; delays = g.delays }))
+
+  pub names_keep : (L : List ℤ → Type 0) (counted : (T : List ℤ) → L T → FitsSigned w32 (pos (length T))) (Holds : Progress → Type 0)
+      → KeepAlong signal_hooks still (FitsSigned w32) IsControl L IsGood Holds Any Named
   unfolding still
-  names_keep Holds = record {
+  names_keep L counted Holds = record {
+    counted = λ T s t l k o r. (tt, named_counted (length T) s (counted T l) r);
+    tabled = λ writes T ws vs s t l w k o r q. (tt, named_tabled writes T ws s r);
     leaf = λ l ws vs s t a w k o r q. (tt, named_leaf l ws s a r);
     opened = λ n s t k o r. (
       related_places Any _ _ 0 tt (puts_wide (signal.Back (length s.draft.groups)) n (grouped (passed n s)) ∙ sym (length_table n (λ i. tt))) (λ i l. tt),
@@ -126,35 +156,75 @@ module _ (ins : ℕ) (IsControl : ℕ → Type 0) (IsLimit : ℕ → Type 0) (no
     );
   }
 
+-- ---- where no table is put
+
+-- there is no table
+abbrev pub HasNone : Progress → Type 0
+HasNone s = s.draft.tables ≡ []
+
+leaf_none : (l : Leaf) (ws : List ℕ) (s : Progress) → HasNone s → HasNone (leaf_of l ws s).1
+leaf_none (leaf.Number n) ws s h = h
+leaf_none (leaf.Control k) ws s h = h
+leaf_none leaf.Mem ws s h = h
+leaf_none leaf.Prefix ws s h = h
+leaf_none leaf.Delay ws s h = h
+leaf_none (leaf.Point op) ws s h = h
+
+shut_none : (fs : List Feedback) (ws : List ℕ) (s : Progress) → HasNone s → HasNone (shut fs ws s).1
+shut_none [] ws s h = h
+shut_none (f ∷ fs) ws s h = puts_tables (signal.Member f.group) (length ws) (filled f fs ws s) ∙ h
+
+pub none_keep : (IsControl : ℕ → Type 0) (Holds : Progress → Type 0)
+    → KeepAlong signal_hooks still (FitsSigned w32) IsControl (λ T. ⊥) IsGood Holds Any (λ s u. HasNone s)
+unfolding still
+none_keep IsControl Holds = record {
+  leaf = λ l ws vs s t a w k o r q. (tt, leaf_none l ws s r);
+  counted = λ T s t l k o r. absurd l;
+  tabled = λ writes T ws vs s t l w k o r q. absurd l;
+  opened = λ n s t k o r. (
+    related_places Any _ _ 0 tt (puts_wide (signal.Back (length s.draft.groups)) n (grouped (passed n s)) ∙ sym (length_table n (λ i. tt))) (λ i l. tt),
+    puts_tables (signal.Back (length s.draft.groups)) n (grouped (passed n s)) ∙ r,
+  );
+  closed = λ ws vs s t k o r q. (
+    related_places Any _ _ 0 tt (close_wide s.feedbacks ws s ∙ related_length Any ws vs q) (λ i l. tt),
+    shut_none s.feedbacks ws s r,
+  );
+}
+
 -- ---- the numbers and controls of a diagram
 
-pub leaves_had : (IsControl : ℕ → Type 0) (d : Diagram) → diagram.has_table d ≡ false → diagram.HasNumbers d → ((k : ℕ) → HasControl d k → IsControl k)
-    → AreOfLeaves (FitsSigned w32) IsControl d
-leaves_had C (diagram.Primitive p) f h l = tt
-leaves_had C (diagram.Constant z) f h l = h
-leaves_had C (diagram.Control k) f h l = l k refl
-leaves_had C (diagram.Slot s) f h l = tt
-leaves_had C (diagram.Wave w) f h l = absurd (true≢false f)
-leaves_had C (diagram.Table T writes) f h l = absurd (true≢false f)
-leaves_had C (diagram.Bind s a) f h l = leaves_had C a f h l
-leaves_had C (diagram.Par a b) f h l =
-    let g = or_parts (diagram.has_table a) (diagram.has_table b) f in
-    (leaves_had C a g.0 h.0 (λ k m. l k (inl m)), leaves_had C b g.1 h.1 (λ k m. l k (inr m)))
-leaves_had C (diagram.Seq a b) f h l =
-    let g = or_parts (diagram.has_table a) (diagram.has_table b) f in
-    (leaves_had C a g.0 h.0 (λ k m. l k (inl m)), leaves_had C b g.1 h.1 (λ k m. l k (inr m)))
-leaves_had C (diagram.Split a b) f h l =
-    let g = or_parts (diagram.has_table a) (diagram.has_table b) f in
-    (leaves_had C a g.0 h.0 (λ k m. l k (inl m)), leaves_had C b g.1 h.1 (λ k m. l k (inr m)))
-leaves_had C (diagram.Merge a b) f h l =
-    let g = or_parts (diagram.has_table a) (diagram.has_table b) f in
-    (leaves_had C a g.0 h.0 (λ k m. l k (inl m)), leaves_had C b g.1 h.1 (λ k m. l k (inr m)))
-leaves_had C (diagram.Rec a b) f h l =
-    let g = or_parts (diagram.has_table a) (diagram.has_table b) f in
-    (leaves_had C a g.0 h.0 (λ k m. l k (inl m)), leaves_had C b g.1 h.1 (λ k m. l k (inr m)))
+pub leaves_had : (IsControl : ℕ → Type 0) (L : List ℤ → Type 0) (d : Diagram) → AllLists L d → more_diagram.HasNumbers d → ((k : ℕ) → HasControl d k → IsControl k)
+    → AreOfLeaves (FitsSigned w32) IsControl L d
+leaves_had C L (diagram.Primitive p) f h l = tt
+leaves_had C L (diagram.Constant z) f h l = h
+leaves_had C L (diagram.Control k) f h l = l k refl
+leaves_had C L (diagram.Slot s) f h l = tt
+leaves_had C L (diagram.Wave w) f h l = (h.counted, f)
+leaves_had C L (diagram.Table T writes) f h l = f
+leaves_had C L (diagram.Bind s a) f h l = leaves_had C L a f h l
+leaves_had C L (diagram.Par a b) f h l = (leaves_had C L a f.0 h.0 (λ k m. l k (inl m)), leaves_had C L b f.1 h.1 (λ k m. l k (inr m)))
+leaves_had C L (diagram.Seq a b) f h l = (leaves_had C L a f.0 h.0 (λ k m. l k (inl m)), leaves_had C L b f.1 h.1 (λ k m. l k (inr m)))
+leaves_had C L (diagram.Split a b) f h l = (leaves_had C L a f.0 h.0 (λ k m. l k (inl m)), leaves_had C L b f.1 h.1 (λ k m. l k (inr m)))
+leaves_had C L (diagram.Merge a b) f h l = (leaves_had C L a f.0 h.0 (λ k m. l k (inl m)), leaves_had C L b f.1 h.1 (λ k m. l k (inr m)))
+leaves_had C L (diagram.Rec a b) f h l = (leaves_had C L a f.0 h.0 (λ k m. l k (inl m)), leaves_had C L b f.1 h.1 (λ k m. l k (inr m)))
+
+-- the lists of a diagram are numbers
+pub lists_had : (d : Diagram) → more_diagram.HasNumbers d → AllLists more_diagram.AreNumbers d
+lists_had (diagram.Primitive p) h = tt
+lists_had (diagram.Constant z) h = tt
+lists_had (diagram.Control k) h = tt
+lists_had (diagram.Slot s) h = tt
+lists_had (diagram.Wave w) h = h
+lists_had (diagram.Table T writes) h = h
+lists_had (diagram.Bind s a) h = lists_had a h
+lists_had (diagram.Par a b) h = (lists_had a h.0, lists_had b h.1)
+lists_had (diagram.Seq a b) h = (lists_had a h.0, lists_had b h.1)
+lists_had (diagram.Split a b) h = (lists_had a h.0, lists_had b h.1)
+lists_had (diagram.Merge a b) h = (lists_had a h.0, lists_had b h.1)
+lists_had (diagram.Rec a b) h = (lists_had a h.0, lists_had b h.1)
 
 -- a control that the diagram has is below the bound of its controls
-pub control_below : (d : Diagram) (k : ℕ) → HasControl d k → k < diagram.control_bound d
+pub control_below : (d : Diagram) (k : ℕ) → HasControl d k → k < more_diagram.control_bound d
 control_below (diagram.Primitive p) k h = absurd h
 control_below (diagram.Constant z) k h = absurd h
 control_below (diagram.Control j) k h = omega (arith, h)

@@ -1,14 +1,19 @@
 -- Signals that are put, one after another.
-use Rattle.std.proofs.Common.{◌≡◌, ℕ, zero, suc, ◌+◌, ◌<◌, List, [], ◌∷◌, ◌++◌, length, get_or, refl, sym, ap, ◌∙◌, subst, arith, ◌⊎◌, inl, inr}
+use Rattle.std.proofs.Common.{◌≡◌, ℕ, zero, suc, ◌+◌, ◌<◌, List, [], ◌∷◌, ◌++◌, length, get_or, refl, sym, ap, ◌∙◌, subst, arith, ◌⊎◌, inl, inr, ℤ, pos}
 use Rattle.std.proofs.lemmas.Bool.{cases_lt}
 use Rattle.std.proofs.lemmas.List.{get_or_push, get_or_append_left}
-use Rattle.fv_base.specs.Lists.{IsPrefixOf}
+use Rattle.fv_base.specs.headline.Lists.{IsPrefixOf}
 use Rattle.fv_base.proofs.Lists.{prefix_refl, prefix_trans, length_snoc}
 use Rattle.fv_diagram.proofs.Places.{prefix_long, prefix_get}
 use Rattle.fv_signal.specs.declared.signal.Signal.{Signal}
-use Rattle.fv_signal.specs.Value.{Graph}
+use Rattle.fv_signal.specs.headline.Value.{Graph}
+use Rattle.fv_share.specs.Drafts.{Draft}
 use Rattle.fv_share.proofs.Puts.{put_stands}
-use Rattle.fv_propagate.specs.inner.Progress.{Progress, put, puts}
+use Rattle.fv_signal.specs.declared.signal.Signal.TheVariants.{Const, Point, Back}
+use Rattle.fv_num.specs.declared.op.Op.TheVariants.{Add, Rem}
+use Rattle.fv_diagram.specs.inner.Code.{padded}
+use Rattle.fv_share.proofs.Puts.{tables_stand}
+use Rattle.fv_propagate.specs.inner.Progress.{Progress, put, puts, put_next, grouped, late_of, turned, listed}
 
 -- the signal stands at place s of the graph
 pub record StandsAt (g : Graph) (s : ℕ) (signal : Signal) : Type 0 where
@@ -50,6 +55,10 @@ pub puts_closed : (f : ℕ → Signal) (n : ℕ) (s : Progress) → (puts f n s)
 puts_closed f zero s = refl
 puts_closed f (suc n) s = puts_closed f n s
 
+pub puts_tables : (f : ℕ → Signal) (n : ℕ) (s : Progress) → (puts f n s).1.draft.tables ≡ s.draft.tables
+puts_tables f zero s = refl
+puts_tables f (suc n) s = puts_tables f n s
+
 pub puts_delays : (f : ℕ → Signal) (n : ℕ) (s : Progress) → (puts f n s).1.delays ≡ s.delays
 puts_delays f zero s = refl
 puts_delays f (suc n) s = puts_delays f n s
@@ -80,6 +89,39 @@ puts_there f (suc n) s i l =
           (omega (arith, puts_there f n s i m, prefix_long q.1.draft.signals r.1.draft.signals (put_keeps q.1 (f n))))
       | inr m ↦ subst (λ w. w < length r.1.draft.signals) (sym (get_or_push q.0 r.0 0 i (omega (arith, wide)))) (put_there q.1 (f n))
     ]
+
+-- ---- a count
+
+pub next_keeps : (s : Progress) (x n : ℕ) → IsPrefixOf s.draft.signals (put_next s x n).1.draft.signals
+next_keeps s x n =
+    let one = put s (Const (pos 1)) in
+    let sum = put one.1 (Point Add (padded (x ∷ one.0 ∷ []))) in
+    let many = put sum.1 (Const (pos n)) in
+    prefix_trans s.draft.signals one.1.draft.signals (put_next s x n).1.draft.signals (put_keeps s (Const (pos 1)))
+    (prefix_trans one.1.draft.signals sum.1.draft.signals (put_next s x n).1.draft.signals (put_keeps one.1 (Point Add (padded (x ∷ one.0 ∷ []))))
+    (prefix_trans sum.1.draft.signals many.1.draft.signals (put_next s x n).1.draft.signals (put_keeps sum.1 (Const (pos n)))
+    (put_keeps many.1 (Point Rem (padded (sum.0 ∷ many.0 ∷ []))))))
+
+pub late_keeps : (s : Progress) → IsPrefixOf s.draft.signals (late_of s).1.draft.signals
+late_keeps s = put_keeps (grouped s) (Back (length s.draft.groups) 0)
+
+pub turned_keeps : (n : ℕ) (s : Progress) → IsPrefixOf s.draft.signals (turned n s).1.draft.signals
+turned_keeps n s =
+    prefix_trans s.draft.signals (late_of s).1.draft.signals (turned n s).1.draft.signals (late_keeps s) (next_keeps (late_of s).1 (late_of s).0 n)
+
+-- ---- a table: it changes nothing but the tables
+
+pub listed_is : (s : Progress) (T : List ℤ) → (listed s T).1 ≡ record s { draft = record s.draft { tables = (listed s T).1.draft.tables } }
+listed_is s T = ap (λ (d : Draft). let p : Progress = record s { draft = d } in p) (tables_stand s.draft T).rest
+
+pub listed_signals : (s : Progress) (T : List ℤ) → (listed s T).1.draft.signals ≡ s.draft.signals
+listed_signals s T = ap (λ (d : Draft). d.signals) (tables_stand s.draft T).rest
+
+pub listed_groups : (s : Progress) (T : List ℤ) → (listed s T).1.draft.groups ≡ s.draft.groups
+listed_groups s T = ap (λ (d : Draft). d.groups) (tables_stand s.draft T).rest
+
+pub listed_closed : (s : Progress) (T : List ℤ) → (listed s T).1.draft.closed ≡ s.draft.closed
+listed_closed s T = ap (λ (d : Draft). d.closed) (tables_stand s.draft T).rest
 
 -- ---- in a graph that has the signals so far
 

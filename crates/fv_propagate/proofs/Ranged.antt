@@ -1,21 +1,22 @@
 -- The values of the graph lie in the spans of the diagram's wires, and no delay is clamped.
-use Rattle.std.proofs.Common.{◌≡◌, ℕ, zero, suc, ◌+◌, ◌-◌, ◌<◌, ◌≤◌, List, [], ◌∷◌, ◌++◌, length, drop, map, get_or, refl, sym, ap, ◌∙◌, subst, arith, ℤ, pos}
+use Rattle.std.proofs.Common.{◌≡◌, ℕ, zero, suc, ◌+◌, ◌-◌, ◌<◌, ◌≤◌, List, [], ◌∷◌, ◌++◌, length, drop, map, get_or, refl, sym, ap, ◌∙◌, subst, arith, ℤ, pos, Bool, All}
 use Rattle.std.proofs.Common.{negsuc, inl, inr, true, false, if◌then◌else◌, nat_le, w32, FitsSigned, unsigned_abs, ◌≤ℤ◌}
 use Rattle.std.proofs.lemmas.Int.{ints, clamps}
 use Rattle.std.proofs.lemmas.List.{length_push, length-append, drop-drop, get_or-drop, get_or-map, get_or_push, take-map}
-use Rattle.std.proofs.lemmas.List.Elements.{All-get_or}
-use Rattle.fv_base.specs.Lists.{IsPrefixOf}
+use Rattle.std.proofs.lemmas.List.Elements.{All-get_or, All-from_get_or}
+use Rattle.fv_base.specs.headline.Lists.{IsPrefixOf}
 use Rattle.fv_base.proofs.Lists.{prefix_trans, length_table, get_or_table}
 use Rattle.fv_num.specs.declared.op.Op.{Op}
-use Rattle.fv_num.specs.declared.op.Op.TheVariants.{Select2}
-use Rattle.fv_num.specs.Words.{argument, apply_of, inputs_of}
-use Rattle.fv_num.specs.Frames.{Frame, Stream, table, delayed, prefixed, back, carried}
-use Rattle.fv_num.specs.Interval.{Interval, IsWithin, IsSpan, full, point, hull, span_at}
-use Rattle.fv_num.specs.Spans.{span_of}
+use Rattle.fv_num.specs.declared.op.Op.TheVariants.{Add, Rem, Select2}
+use Rattle.fv_num.specs.headline.Words.{argument, apply_of, inputs_of}
+use Rattle.fv_num.specs.headline.Frames.{Frame, Stream, table, delayed, prefixed, back, carried}
+use Rattle.fv_num.specs.Frames.{carries}
+use Rattle.fv_num.specs.headline.Interval.{Interval, IsWithin, IsSpan, full, point, hull, span_at}
+use Rattle.fv_num.specs.headline.Spans.{span_of}
 use Rattle.fv_num.proofs.Closed.{holds, closed}
 use Rattle.fv_signal.specs.declared.signal.Signal.{Signal}
-use Rattle.fv_signal.specs.declared.signal.Signal.TheVariants.{Const, Control, Point, Delay, Back, Member}
-use Rattle.fv_signal.specs.Value.{Graph, clamped, value, IsOrdered}
+use Rattle.fv_signal.specs.declared.signal.Signal.TheVariants.{Const, Control, Point, Delay, Back, Member, Read, Write}
+use Rattle.fv_signal.specs.headline.Value.{Graph, clamped, value, IsOrdered}
 use Rattle.fv_diagram.specs.declared.signals.Leaf.{Leaf}
 use Rattle.fv_diagram.specs.declared.signals.Leaf.TheVariants as leaf
 use Rattle.fv_diagram.specs.Hooks.{takes}
@@ -23,15 +24,24 @@ use Rattle.fv_diagram.specs.inner.Code.{padded}
 use Rattle.fv_diagram.proofs.Places.{prefix_long, prefix_get, prefix_snoc}
 use Rattle.fv_diagram.proofs.Related.{AreRelated, Gives}
 use Rattle.fv_diagram.proofs.Sound.{takes_some}
-use Rattle.fv_interval.specs.SpanHooks.{Noted, control_span, span_hooks}
-use Rattle.fv_interval.specs.Laws.{IsOf}
-use Rattle.fv_interval.specs.Delays.{amount, amounts, AreDelays, IsDelay, delay_limit}
+use Rattle.fv_interval.specs.headline.SpanHooks.{control_span}
+use Rattle.fv_interval.specs.inner.SpanHooks.{Noted, span_hooks}
+use Rattle.fv_interval.specs.headline.Laws.{IsOf}
+use Rattle.fv_interval.specs.headline.Delays.{amount, amounts, delay_limit}
+use Rattle.fv_interval.specs.Delays.{AreDelays, IsDelay}
 use Rattle.fv_propagate.specs.declared.progress.Feedback.{Feedback}
 use Rattle.fv_propagate.specs.inner.Progress.{Progress, put, puts, passed, grouped, put_mem, put_prefix, leaf_of, opened_of, shut, signal_hooks, AreNested}
+use Rattle.fv_propagate.specs.inner.Progress.{late_of, turned, counted_of, listed, table_node, tabled_of}
 use Rattle.fv_propagate.proofs.Alongside.{IsOfLeaf, KeepAlong, related_at, related_places, related_length}
-use Rattle.fv_propagate.proofs.Puts.{put_cases, puts_at, puts_wide, puts_delays}
+use Rattle.fv_propagate.proofs.Puts.{put_cases, put_at, puts_at, puts_wide, puts_delays, next_keeps, listed_is}
 use Rattle.fv_propagate.proofs.Goes.{IsGood, GoesOn, filled, before_put, before_mem}
-use Rattle.fv_propagate.proofs.Sound.{padded_first, put_gives, mem_gives, prefix_gives, member_gives}
+use Rattle.fv_propagate.proofs.Sound.{padded_first, put_gives, mem_gives, prefix_gives, member_gives, shows_table}
+use Rattle.fv_diagram.specs.headline.Diagram.{Table, table_inputs}
+use Rattle.fv_diagram.specs.Diagram.{AreNumbers}
+use Rattle.fv_diagram.specs.headline.Streams.{table_at}
+use Rattle.fv_interval.specs.headline.WireSpans.{table_span}
+use Rattle.fv_interval.specs.Laws.{AreOf}
+use Rattle.fv_interval.proofs.Holds.{answers_hold}
 use Rattle.fv_signal.proofs.Fits.{full_of}
 
 -- ---- numbers in spans
@@ -76,9 +86,9 @@ first_of s r x y zero h k = left_of s r (x 0) (k 0).0 (h 0)
 first_of s r x y (suc t) h k = right_of s r (y t) (h t).0 (k t)
 
 -- a stream one sample later
-late_of : (s : Interval) (x : Stream) (t : ℕ) → ((u : ℕ) → IsOf s (x u)) → IsOf (hull s (point (pos 0))) (delayed x t)
-late_of s x zero h = right_of s (point (pos 0)) (pos 0) (h 0).0 zero_of
-late_of s x (suc t) h = left_of s (point (pos 0)) (x t) zero_of.0 (h t)
+later_of : (s : Interval) (x : Stream) (t : ℕ) → ((u : ℕ) → IsOf s (x u)) → IsOf (hull s (point (pos 0))) (delayed x t)
+later_of s x zero h = right_of s (point (pos 0)) (pos 0) (h 0).0 zero_of
+later_of s x (suc t) h = left_of s (point (pos 0)) (x t) zero_of.0 (h t)
 
 -- from 0 to a greatest number
 abbrev pub upto : ℕ → Interval
@@ -231,7 +241,7 @@ module _ (C : ℕ → Type 0) (F : Graph) (ordered : IsOrdered F) (X : List Fram
       let i = span_at vs 0 in
       let h = related_at LiesIn ws vs 0 0 (point (pos 0)) (omega (arith, w)) q in (
         λ t.
-            subst (IsOf (hull i (point (pos 0)))) (sym (mem_gives F ordered X c (passed 1 s) x g t)) (late_of i (λ t. value F x X c t) t h),
+            subst (IsOf (hull i (point (pos 0)))) (sym (mem_gives F ordered X c (passed 1 s) x g t)) (later_of i (λ t. value F x X c t) t h),
         record {
           delays = next_of s u (point (pos 1)) r.delays;
           controls_are = r.controls_are;
@@ -285,6 +295,78 @@ module _ (C : ℕ → Type 0) (F : Graph) (ordered : IsOrdered F) (X : List Fram
     },
   )
 
+  -- ---- tables
+
+  counted_lies : (T : List ℤ) (s : Progress) (u : Noted) → GoesOn F (counted_of (length T) s).1 → Beside s u
+      → LiesIn (counted_of (length T) s).0 full × Beside (counted_of (length T) s).1 u
+  counted_lies T s u g r =
+      let n = length T in
+      let b = Back (length s.draft.groups) 0 in
+      let late = late_of s in
+      let one = put late.1 (Const (pos 1)) in
+      let add = Point Add (padded (late.0 ∷ one.0 ∷ [])) in
+      let sum = put one.1 add in
+      let many = put sum.1 (Const (pos n)) in
+      let before : IsPrefixOf late.1.draft.signals F.signals =
+      prefix_trans late.1.draft.signals (turned n s).1.draft.signals F.signals (next_keeps late.1 late.0 n) g.signals in (
+        λ t. full_of (value F late.0 X c t) (fits late.0 t (put_at F (grouped s) b before).within),
+        record {
+          delays = r.delays;
+          controls_are = r.controls_are;
+          ranged = λ p.
+              ranged_put many.1 (Point Rem (padded (sum.0 ∷ many.0 ∷ []))) (λ x d max e. absurd cc)
+              (ranged_put sum.1 (Const (pos n)) (const_ranged (pos n))
+              (ranged_put one.1 add (λ x d max e. absurd cc)
+              (ranged_put late.1 (Const (pos 1)) (const_ranged (pos 1)) (ranged_put (grouped s) b (λ x d max e. absurd cc) (r.ranged p)))));
+        },
+      )
+
+  -- what signals carry lies in their spans
+  carried_lies : (ws : List ℕ) (vs : List Interval) (t : ℕ) → AreRelated LiesIn ws vs → AreOf vs (carried (λ s. value F s X c) ws t)
+  carried_lies [] [] t q = tt
+  carried_lies [] (v ∷ vs) t q = absurd q
+  carried_lies (w ∷ ws) [] t q = absurd q
+  carried_lies (w ∷ ws) (v ∷ vs) t q = (q.0 t, carried_lies ws vs t q.1)
+
+  carries_lie : (ws : List ℕ) (vs : List Interval) (n : ℕ) → AreRelated LiesIn ws vs → All (AreOf vs) (carries (λ s. value F s X c) ws n)
+  carries_lie ws vs n q =
+      All-from_get_or (AreOf vs) (carries (λ s. value F s X c) ws n) [] (λ t l.
+      subst (AreOf vs) (sym (get_or_table n (carried (λ s. value F s X c) ws) t [] (omega (arith, l, length_table n (carried (λ s. value F s X c) ws)))))
+      (carried_lies ws vs t q))
+
+  zero_in : IsOf full (pos 0)
+  zero_in = full_of (pos 0) (omega (arith, ints))
+
+  table_ranged : (writes : Bool) (t : ℕ) (ws : List ℕ) → IsRanged (table_node writes t ws)
+  table_ranged false t ws x d max e = absurd cc
+  table_ranged true t ws x d max e = absurd cc
+
+  tabled_lies : (writes : Bool) (T : List ℤ) (ws : List ℕ) (vs : List Interval) (s : Progress) (u : Noted) → AreNumbers T → length ws ≡ table_inputs writes
+      → GoesOn F (tabled_of writes T ws s).1 → Beside s u → AreRelated LiesIn ws vs
+      → LiesIn (tabled_of writes T ws s).0 (table_span T writes vs) × Beside (tabled_of writes T ws s).1 u
+  tabled_lies writes T ws vs s u h w g r q = (
+    λ t.
+        let v : ℕ → Stream = λ s. value F s X c in
+        let Y = carries v ws (suc t) in
+        let wide : length vs ≡ table_inputs writes = sym (related_length LiesIn ws vs q) ∙ w in
+        let long : length Y ≡ suc t = length_table (suc t) (carried v ws) in
+        let shown = (shows_table F ordered X c writes T (λ i. 0) ws s h w g).wired (suc t) t (omega arith) in
+        let all = answers_hold (Table T writes) tt h (λ k. full) (λ k. full) vs (λ k t. pos 0) (λ k t. pos 0) Y wide (λ k t. zero_in) (λ k t l. zero_in)
+            (carries_lie ws vs (suc t) q) in
+        let here = All-get_or (AreOf (table_span T writes vs ∷ [])) (table (length Y) (table_at T writes Y)) t []
+            (omega (arith, long, length_table (length Y) (table_at T writes Y))) all in
+        let there : AreOf (table_span T writes vs ∷ []) (table_at T writes Y t) =
+        subst (AreOf (table_span T writes vs ∷ [])) (get_or_table (length Y) (table_at T writes Y) t [] (omega (arith, long))) here in
+        (subst (AreOf (table_span T writes vs ∷ [])) (sym shown) there).0,
+    record {
+      delays = r.delays;
+      controls_are = r.controls_are;
+      ranged = λ p.
+          let l = listed s T in
+          ranged_put l.1 (table_node writes l.0 ws) (table_ranged writes l.0 ws) (subst AreRanged (sym (listed_is s T)) (r.ranged p));
+    },
+  )
+
   -- ---- feedbacks
 
   opened_lies : (n : ℕ) (s : Progress) (u : Noted) → GoesOn F (opened_of n s).1 → Beside s u → Gives LiesIn Beside (opened_of n s) (span_hooks.opened n u)
@@ -329,8 +411,10 @@ module _ (C : ℕ → Type 0) (F : Graph) (ordered : IsOrdered F) (X : List Fram
         },
       )
 
-  pub spans_keep : KeepAlong signal_hooks span_hooks (FitsSigned w32) C IsGood (GoesOn F) LiesIn Beside
+  pub spans_keep : KeepAlong signal_hooks span_hooks (FitsSigned w32) C AreNumbers IsGood (GoesOn F) LiesIn Beside
   spans_keep = record {
+    counted = λ T s u l k g r. counted_lies T s u g r;
+    tabled = λ writes T ws vs s u l w k g r q. tabled_lies writes T ws vs s u l w g r q;
     leaf = λ l ws vs s u a w k g r q. leaf_lies l ws vs s u a w g r q;
     opened = λ n s u k g r. opened_lies n s u g r;
     closed = λ ws vs s u k g r q. shut_lies s.feedbacks ws vs s u refl k.nested g r q;

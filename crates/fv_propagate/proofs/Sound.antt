@@ -1,37 +1,46 @@
 -- A graph that goes on from the walk's progress is wired as the diagram.
-use Rattle.std.proofs.Common.{◌≡◌, ℕ, zero, suc, ◌-◌, ◌<◌, ◌≤◌, List, [], ◌∷◌, length, take, get_or, map, replicate, refl, sym, ap, ap₂, ◌∙◌, subst, arith}
-use Rattle.std.proofs.Common.{pos, nat_le}
-use Rattle.std.proofs.lemmas.List.{take-map, length-set, get_or-set_same}
+use Rattle.std.proofs.Common.{◌≡◌, ℕ, zero, suc, ◌-◌, ◌<◌, ◌≤◌, List, [], ◌∷◌, ◌++◌, length, take, get_or, map, replicate, refl, sym, ap, ap₂, ◌∙◌, subst, arith}
+use Rattle.std.proofs.Common.{pos, nat_le, ◌%◌, ℤ, Bool, true}
+use Rattle.std.proofs.lemmas.List.{take-map, length-set, length_push, get_or-set_same}
 use Rattle.std.proofs.lemmas.Bool.{cond-true, le-leb}
 use Rattle.std.proofs.lemmas.Int.{ints}
 use Rattle.fv_base.proofs.Lists.{table_same, get_or_table}
 use Rattle.fv_num.specs.declared.op.Op.{Op}
-use Rattle.fv_num.specs.declared.op.Op.TheVariants.{Select2}
-use Rattle.fv_num.specs.Words.{apply_of, inputs_of}
-use Rattle.fv_num.specs.Frames.{Frame, Stream, column, table, delayed, prefixed, back, carried, carries}
+use Rattle.fv_num.specs.declared.op.Op.TheVariants.{Add, Rem, Select2}
+use Rattle.fv_num.specs.headline.Words.{apply_of, inputs_of}
+use Rattle.fv_num.specs.headline.Frames.{Frame, Stream, column, table, delayed, prefixed, back, carried}
+use Rattle.fv_num.specs.Frames.{carries}
 use Rattle.fv_signal.specs.declared.signal.Signal.{Signal}
 use Rattle.fv_signal.specs.declared.signal.Signal.TheVariants as signal
-use Rattle.fv_signal.specs.Value.{Graph, members, clamped, signal_at, value, IsOrdered}
+use Rattle.fv_signal.specs.headline.Value.{Graph, members, table_of, clamped, signal_at, value, IsOrdered}
+use Rattle.fv_num.specs.headline.Tables.{place, read_at, written_at}
+use Rattle.fv_num.proofs.Tables.{last_written_same}
+use Rattle.fv_base.specs.headline.Lists.{IsPrefixOf}
+use Rattle.fv_base.proofs.Lists.{prefix_trans}
+use Rattle.fv_share.specs.Drafts.{table_in}
+use Rattle.fv_share.proofs.Puts.{tables_stand}
+use Rattle.fv_share.proofs.Kept.{tables_stay}
+use Rattle.fv_diagram.proofs.Counting.{counts_on}
 use Rattle.fv_signal.proofs.Values.{values_are_given}
 use Rattle.fv_diagram.specs.declared.node.Primitive.{Primitive as Prim}
 use Rattle.fv_diagram.specs.declared.node.Primitive.TheVariants as prim
-use Rattle.fv_diagram.specs.Diagram.{Primitive, primitive_inputs}
-use Rattle.fv_diagram.specs.Walked.{primitive}
+use Rattle.fv_diagram.specs.headline.Diagram.{Primitive, Table, primitive_inputs, table_inputs, is_table_primitive}
+use Rattle.fv_diagram.specs.Diagram.{AreNumbers}
+use Rattle.fv_diagram.specs.Walked.{primitive, one}
 use Rattle.fv_diagram.specs.inner.Code.{padded}
 use Rattle.fv_diagram.proofs.Causality.{delayed_same, back_same}
 use Rattle.fv_diagram.proofs.Carried.{column_carries}
 use Rattle.fv_diagram.proofs.Places.{table_replicate, carried_items, carried_first}
 use Rattle.std.proofs.Common.{false}
 use Rattle.std.proofs.lemmas.Bool.{true≢false}
-use Rattle.fv_diagram.specs.Diagram.{is_table_primitive}
 use Rattle.fv_diagram.proofs.Meaning.{Means, AreSound}
 use Rattle.fv_diagram.proofs.Sound.{takes_some}
 use Rattle.fv_propagate.specs.declared.progress.Feedback.{Feedback}
-use Rattle.fv_propagate.specs.inner.Progress.{Progress, put, puts, passed, grouped, put_mem, put_prefix, put_delay, opened_of, shut, closed_of, signal_hooks}
-use Rattle.fv_propagate.specs.inner.Progress.{AreNested}
-use Rattle.fv_propagate.proofs.Puts.{StandsAt, put_at, puts_at, puts_wide}
+use Rattle.fv_propagate.specs.inner.Progress.{Progress, put, puts, passed, put_mem, put_prefix, put_delay, opened_of, shut, closed_of, signal_hooks}
+use Rattle.fv_propagate.specs.inner.Progress.{AreNested, grouped, put_next, late_of, turned, counted_of, listed, table_node, tabled_of}
+use Rattle.fv_propagate.proofs.Puts.{StandsAt, put_at, puts_at, puts_wide, put_keeps, next_keeps}
 use Rattle.fv_propagate.proofs.Goes.{IsGood, Onward, GoesOn, filled, opened_long, nested_not_open, before_put, before_passed, before_puts, before_mem}
-use Rattle.fv_propagate.proofs.Goes.{before_prefix, before_opened, before_closed}
+use Rattle.fv_propagate.proofs.Goes.{before_prefix, before_opened, before_closed, before_counted, before_tabled}
 
 -- four operands, of which those that are there are the first
 pub padded_first : (n : ℕ) (ws : List ℕ) → 1 ≤ n → n ≤ 4 → length ws ≡ n → take n (padded ws) ≡ ws
@@ -68,8 +77,13 @@ module _ (F : Graph) (ordered : IsOrdered F) (X : List Frame) (c : ℕ → Strea
   pub node_is : (s : ℕ) (n : Signal) (t : ℕ) → StandsAt F s n → value F s X c t ≡ signal_at F X c (λ r. value F r X c) n t
   node_is s n t h = values_are_given F ordered X c s n t h.within ∙ ap (λ y. signal_at F X c (λ r. value F r X c) y t) (h.is n)
 
+  -- a signal that was put, where the graph has the signals
+  put_is : (s : Progress) (n : Signal) → IsPrefixOf (put s n).1.draft.signals F.signals → (t : ℕ)
+      → value F (put s n).0 X c t ≡ signal_at F X c (λ r. value F r X c) n t
+  put_is s n g t = node_is (put s n).0 n t (put_at F s n g)
+
   pub put_gives : (s : Progress) (n : Signal) → GoesOn F (put s n).1 → (t : ℕ) → value F (put s n).0 X c t ≡ signal_at F X c (λ r. value F r X c) n t
-  put_gives s n g t = node_is (put s n).0 n t (put_at F s n g.signals)
+  put_gives s n g t = put_is s n g.signals t
 
   pub mem_gives : (s : Progress) (x : ℕ) → GoesOn F (put_mem s x).1 → (t : ℕ) → value F (put_mem s x).0 X c t ≡ delayed (λ u. value F x X c u) t
   mem_gives s x g t =
@@ -153,6 +167,86 @@ module _ (F : Graph) (ordered : IsOrdered F) (X : List Frame) (c : ℕ → Strea
             ∙ sym (get_or_table n (carried v ins) t [] l)));
       }
 
+  -- ---- tables
+
+  -- x and one more, modulo n
+  next_gives : (s : Progress) (x n : ℕ) → IsPrefixOf (put_next s x n).1.draft.signals F.signals → (t : ℕ) → value F (put_next s x n).0 X c t
+      ≡ apply_of Rem (apply_of Add (value F x X c t ∷ pos 1 ∷ []) ∷ pos n ∷ [])
+  next_gives s x n g t =
+      let v : ℕ → Stream = λ s. value F s X c in
+      let add = signal.Point Add (padded (x ∷ (put s (signal.Const (pos 1))).0 ∷ [])) in
+      let one = put s (signal.Const (pos 1)) in
+      let sum = put one.1 add in
+      let many = put sum.1 (signal.Const (pos n)) in
+      let rem = signal.Point Rem (padded (sum.0 ∷ many.0 ∷ [])) in
+      let g4 : IsPrefixOf many.1.draft.signals F.signals = prefix_trans many.1.draft.signals (put many.1 rem).1.draft.signals F.signals (put_keeps many.1 rem) g in
+      let g3 : IsPrefixOf sum.1.draft.signals F.signals =
+      prefix_trans sum.1.draft.signals many.1.draft.signals F.signals (put_keeps sum.1 (signal.Const (pos n))) g4 in
+      let g2 : IsPrefixOf one.1.draft.signals F.signals = prefix_trans one.1.draft.signals sum.1.draft.signals F.signals (put_keeps one.1 add) g3 in
+      put_is many.1 rem g t
+      ∙ ap₂ (λ a b. apply_of Rem (a ∷ b ∷ []))
+      (put_is one.1 add g3 t ∙ ap (λ z. apply_of Add (v x t ∷ z ∷ [])) (put_is s (signal.Const (pos 1)) g2 t)) (put_is sum.1 (signal.Const (pos n)) g4 t)
+
+  -- a count begins anew at the length of the list
+  counts : (T : List ℤ) (s : Progress) → AreNumbers T → IsGood s → GoesOn F (counted_of (length T) s).1 →
+      GoesOn F s × ((t : ℕ) → value F (counted_of (length T) s).0 X c t ≡ pos (t % length T)) × (1 ≤ length T)
+  counts T s h good g =
+      let n = length T in
+      let k = length s.draft.groups in
+      let late = late_of s in
+      let next = turned n s in
+      let all = s.draft.groups ++ [] ∷ [] in
+      let is : members F k ≡ next.0 ∷ [] =
+      g.groups k (omega (arith, length_push s.draft.groups [], length-set all k (next.0 ∷ []))) (nested_not_open k k s.feedbacks (omega arith) good.nested)
+      ∙ get_or-set_same all k (next.0 ∷ []) [] (omega (arith, length_push s.draft.groups [])) in
+      let before : IsPrefixOf late.1.draft.signals F.signals =
+      prefix_trans late.1.draft.signals next.1.draft.signals F.signals (next_keeps late.1 late.0 n) g.signals in
+      let back_is : (t : ℕ) → value F late.0 X c t ≡ delayed (λ u. value F next.0 X c u) t = λ t.
+      put_is (grouped s) (signal.Back k 0) before t ∙ ap (λ ms. delayed (λ u. value F (get_or ms 0 0) X c u) t) is in (
+        before_counted F n s g,
+        counts_on n (λ t. value F late.0 X c t) h.some h.counted (back_is 0) (λ t. back_is (suc t) ∙ next_gives late.1 late.0 n g.signals t),
+        h.some,
+      )
+
+  -- the table that was put is the list
+  listed_at : (s : Progress) (T : List ℤ) → 1 ≤ length T → GoesOn F (listed s T).1 → table_of F (listed s T).0 ≡ T
+  listed_at s T some g =
+      let q = listed s T in
+      let stands : table_in q.1.draft q.0 ≡ T = (tables_stand s.draft T).stands in
+      ap (λ ts. get_or ts q.0 []) g.tables.is ∙ tables_stay q.1.draft.tables g.tables.rest q.0 (omega (arith, ap length stands, some)) ∙ stands
+
+  pub shows_table : (writes : Bool) (T : List ℤ) (slots : ℕ → ℕ) (ins : List ℕ) (s : Progress) → AreNumbers T → length ins ≡ table_inputs writes
+      → GoesOn F (tabled_of writes T ins s).1 → Means (GoesOn F) (λ s. value F s X c) c (Table T writes) slots ins s (one (tabled_of writes T ins s))
+  shows_table false T slots [] s h e g = absurd (omega (arith, e))
+  shows_table false T slots (r ∷ []) s h e g =
+      let v : ℕ → Stream = λ s. value F s X c in
+      let q = listed s T in
+      let node = signal.Read q.0 r in record {
+        holds = before_tabled F false T (r ∷ []) s g;
+        wired = λ n t l.
+            ap (λ z. z ∷ [])
+            (put_gives q.1 node g t ∙ ap (λ L. read_at L (v r t)) (listed_at s T h.some (before_put F q.1 node g))
+            ∙ ap (read_at T) (sym (column_carries v (r ∷ []) n 0 t l)));
+      }
+  shows_table false T slots (r ∷ u ∷ ws) s h e g = absurd (omega (arith, e))
+  shows_table true T slots [] s h e g = absurd (omega (arith, e))
+  shows_table true T slots (w ∷ []) s h e g = absurd (omega (arith, e))
+  shows_table true T slots (w ∷ y ∷ []) s h e g = absurd (omega (arith, e))
+  shows_table true T slots (w ∷ y ∷ r ∷ []) s h e g =
+      let v : ℕ → Stream = λ s. value F s X c in
+      let q = listed s T in
+      let node = signal.Write q.0 w y r in
+      let ins = w ∷ y ∷ r ∷ [] in record {
+        holds = before_tabled F true T ins s g;
+        wired = λ n t l.
+            ap (λ z. z ∷ [])
+            (put_gives q.1 node g t ∙ ap (λ L. written_at L (v w) (v y) t (v r t)) (listed_at s T h.some (before_put F q.1 node g))
+            ∙ last_written_same T (v w) (column (carries v ins n) 0) (v y) (column (carries v ins n) 1) (place (length T) (v r t)) t
+            (λ u m. sym (column_carries v ins n 0 u (omega arith))) (λ u m. sym (column_carries v ins n 1 u (omega arith)))
+            ∙ ap (written_at T (column (carries v ins n) 0) (column (carries v ins n) 1) t) (sym (column_carries v ins n 2 t l)));
+      }
+  shows_table true T slots (w ∷ y ∷ r ∷ u ∷ ws) s h e g = absurd (omega (arith, e))
+
   -- ---- feedbacks
 
   -- the signals of a feedback that was opened at z and is closed at s
@@ -225,11 +319,11 @@ module _ (F : Graph) (ordered : IsOrdered F) (X : List Frame) (c : ℕ → Strea
     shows prim.ReadTable slots ins s good q e g = absurd (true≢false q)
     shows prim.WriteTable slots ins s good q e g = absurd (true≢false q)
 
-    pub signals_are_sound : AreSound signal_hooks IsGood Onward (GoesOn F) (λ T. ⊥) (λ s. value F s X c) c
+    pub signals_are_sound : AreSound signal_hooks IsGood Onward (GoesOn F) AreNumbers (λ s. value F s X c) c
     signals_are_sound = record {
       primitives = shows;
-      counts = λ T s h good g. absurd h;
-      tables = λ writes T slots ins s h e g. absurd h;
+      counts = counts;
+      tables = shows_table;
       numbers = λ n slots ins s g. record { holds = before_put F s (signal.Const n) g; wired = λ t. ap (λ z. z ∷ []) (put_gives s (signal.Const n) g t) };
       controls = λ k slots ins s g. record { holds = before_put F s (signal.Control k) g; wired = λ t. ap (λ z. z ∷ []) (put_gives s (signal.Control k) g t) };
       opens = before_opened F;

@@ -5,17 +5,19 @@ use Rattle.std.proofs.lemmas.Bool.{cases_lt}
 use Rattle.std.proofs.lemmas.Int.{ints}
 use Rattle.std.proofs.lemmas.List.{get_or_default, get_or_past, get_or-map}
 use Rattle.std.proofs.lemmas.List.Elements.{All-get_or, All-from_get_or}
-use Rattle.fv_base.specs.Lists.{IsPrefixOf}
+use Rattle.fv_base.specs.headline.Lists.{IsPrefixOf}
 use Rattle.fv_base.proofs.Lists.{prefix_refl, length_table, table_same, table_items, get_or_table}
-use Rattle.fv_num.specs.Frames.{Frame, Stream, frame_at, column, table, carried, carries}
-use Rattle.fv_num.specs.Interval.{Interval, IsSpan, full, point}
+use Rattle.fv_num.specs.headline.Frames.{Frame, Stream, frame_at, column, table, carried}
+use Rattle.fv_num.specs.Frames.{carries}
+use Rattle.fv_num.specs.headline.Interval.{Interval, IsSpan, full, point}
 use Rattle.fv_num.specs.SpanLaws.{AreSpans}
 use Rattle.fv_signal.specs.declared.signal.Signal.{Signal}
-use Rattle.fv_signal.specs.declared.signal.Signal.TheVariants.{Input, Const, Control, Point, Delay, Back, Member}
-use Rattle.fv_signal.specs.Value.{Graph, value, IsGraph}
+use Rattle.fv_signal.specs.declared.signal.Signal.TheVariants.{Input, Const, Control, Point, Delay, Back, Member, Read, Write}
+use Rattle.fv_signal.specs.headline.Value.{Graph, value, IsGraph}
 use Rattle.fv_share.specs.Drafts.{AreClosed, graph_of}
-use Rattle.fv_diagram.specs.Diagram.{Diagram, inputs, outputs, IsWellFormed, HasNoFreeSlot, HasNumbers, has_table}
-use Rattle.fv_diagram.specs.Streams.{run}
+use Rattle.fv_diagram.specs.headline.Diagram.{Diagram, inputs, outputs, has_table}
+use Rattle.fv_diagram.specs.Diagram.{IsWellFormed, HasNoFreeSlot, HasNumbers, AreNumbers}
+use Rattle.fv_diagram.specs.headline.Streams.{run}
 use Rattle.fv_diagram.specs.Wires.{Wired}
 use Rattle.fv_diagram.specs.Steps.{no_slots}
 use Rattle.fv_diagram.specs.Walked.{walked}
@@ -25,18 +27,21 @@ use Rattle.fv_diagram.proofs.Places.{prefix_long, carried_items}
 use Rattle.fv_diagram.proofs.Meaning.{no_lists, walk_goes, walk_means}
 use Rattle.std.proofs.Common.{false}
 use Rattle.fv_diagram.proofs.Related.{AreRelated}
-use Rattle.fv_interval.specs.SpanHooks.{Noted, control_span, span_hooks}
-use Rattle.fv_interval.specs.Laws.{IsOf}
-use Rattle.fv_interval.specs.Delays.{delays_of, AreAccepted}
+use Rattle.fv_interval.specs.headline.SpanHooks.{control_span}
+use Rattle.fv_interval.specs.inner.SpanHooks.{Noted, span_hooks}
+use Rattle.fv_interval.specs.headline.Laws.{IsOf}
+use Rattle.fv_interval.specs.headline.Delays.{delays_of}
+use Rattle.fv_interval.specs.Delays.{AreAccepted}
 use Rattle.fv_interval.proofs.Refused.{delays_are}
 use Rattle.fv_propagate.specs.inner.Progress.{Progress, puts, unstarted, started, signal_hooks, IsThere}
-use Rattle.fv_propagate.specs.Propagated.{Propagates, DelaysStayWithin, AreShort, HasControl, NamesOf, NamesWithin}
+use Rattle.fv_propagate.specs.headline.Propagated.{Propagates, HasControl, NamesOf, NamesWithin}
+use Rattle.fv_propagate.specs.Propagated.{DelaysStayWithin, AreShort}
 use Rattle.fv_propagate.proofs.Alongside.{walk_back, walked_along, related_places}
-use Rattle.fv_propagate.proofs.Puts.{put_there, puts_at, puts_wide, puts_groups, puts_closed, puts_delays, puts_feedbacks, puts_keep}
+use Rattle.fv_propagate.proofs.Puts.{put_there, puts_at, puts_wide, puts_groups, puts_closed, puts_tables, puts_delays, puts_feedbacks, puts_keep}
 use Rattle.fv_propagate.proofs.Kept.{puts_all_there}
 use Rattle.fv_propagate.proofs.Goes.{IsGood, Onward, GoesOn, on_same_groups, stays_good, signals_are_orderly, signals_hold_back}
 use Rattle.fv_propagate.proofs.Sound.{AreWide, node_is, signals_are_sound}
-use Rattle.fv_propagate.proofs.Named.{still, Any, IsNamed, AreNamed, named_put, named_puts, names_keep, leaves_had}
+use Rattle.fv_propagate.proofs.Named.{still, Any, HasNone, none_keep, IsNamed, AreNamed, named_put, named_puts, names_keep, leaves_had, lists_had}
 use Rattle.fv_signal.proofs.Fits.{full_of, values_fit}
 use Rattle.fv_propagate.proofs.Ranged.{LiesIn, AreRanged, Beside, ranged_put, ranged_puts, not_clamped, spans_keep}
 
@@ -52,8 +57,10 @@ names_of d IsLimit none one (Point op args) h = tt
 names_of d IsLimit none one (Delay x back max) h = tt
 names_of d IsLimit none one (Back group k) h = tt
 names_of d IsLimit none one (Member group k) h = tt
+names_of d IsLimit none one (Read table r) h = tt
+names_of d IsLimit none one (Write table w x r) h = tt
 
-module _ (d : Diagram) (delays : List ℕ) (wf : IsWellFormed d) (free : HasNoFreeSlot d) (numbers : HasNumbers d) (tableless : has_table d ≡ false) where
+module _ (d : Diagram) (delays : List ℕ) (wf : IsWellFormed d) (free : HasNoFreeSlot d) (numbers : HasNumbers d) where
   -- the inputs, and what the walk makes of them
   abbrev pub first : List ℕ × Progress
   first = puts Input (inputs d) (started delays)
@@ -83,10 +90,10 @@ module _ (d : Diagram) (delays : List ℕ) (wf : IsWellFormed d) (free : HasNoFr
   made_wide = goes.0
 
   pub made_closed : AreClosed made.1.draft
-  made_closed g l = goes.1.closed g (omega (arith, ap length (puts_groups Input (inputs d) (started delays)))) l
+  made_closed g l = goes.1.closed first_good.marked g (omega (arith, ap length (puts_groups Input (inputs d) (started delays)))) l
 
   goes_on : GoesOn graph made.1
-  goes_on = record { signals = prefix_refl made.1.draft.signals; groups = λ g l h. refl }
+  goes_on = record { signals = prefix_refl made.1.draft.signals; tables = prefix_refl made.1.draft.tables; groups = λ g l h. refl }
 
   first_goes_on : GoesOn graph first.1
   first_goes_on = walk_back signal_hooks (GoesOn graph) (signals_hold_back graph) d no_slots first.0 first.1 goes_on
@@ -116,9 +123,9 @@ module _ (d : Diagram) (delays : List ℕ) (wf : IsWellFormed d) (free : HasNoFr
         let begun : named first.1 =
         named_puts n b IsLimit none one Input n (started delays) (λ i l. l)
         (named_put n b IsLimit none one (unstarted delays) (Const (pos 0)) zero_fits empty) in
-        (walked_along signal_hooks still (FitsSigned w32) b IsGood Onward (GoesOn graph) Any (λ s u. named s) signals_are_orderly (signals_hold_back graph)
-        (names_keep n b IsLimit none one (GoesOn graph)) tt tt d no_slots (λ i. tt) first.0 (table n (λ i. tt)) first.1 tt wf first_wide
-        (leaves_had b d tableless numbers (λ k h. h)) first_good goes_on (λ i. tt) begun
+        (walked_along signal_hooks still (FitsSigned w32) b AreNumbers IsGood Onward (GoesOn graph) Any (λ s u. named s) signals_are_orderly (signals_hold_back graph)
+        (names_keep n b IsLimit none one AreNumbers (λ T h. h.counted) (GoesOn graph)) tt tt d no_slots (λ i. tt) first.0 (table n (λ i. tt)) first.1 tt wf first_wide
+        (leaves_had b AreNumbers d (lists_had d numbers) numbers (λ k h. h)) first_good goes_on (λ i. tt) begun
         (related_places Any first.0 (table n (λ i. tt)) 0 tt (first_wide ∙ sym (length_table n (λ i. tt))) (λ i l. tt))).1
 
   -- any delay is allowed
@@ -134,13 +141,26 @@ module _ (d : Diagram) (delays : List ℕ) (wf : IsWellFormed d) (free : HasNoFr
   pub names_within : NamesWithin d graph
   names_within s x l = names_of d AnyLimit tt tt (get_or graph.signals s x) (any_named.signals s x l)
 
+  -- ---- its tables
+
+  -- no walk over a diagram without waveforms and tables makes one
+  pub made_tableless : has_table d ≡ false → graph.tables ≡ []
+  made_tableless tableless =
+      let n = inputs d in
+      let b = HasControl d in
+      let none : List ℤ → Type 0 = λ T. ⊥ in
+      (walked_along signal_hooks still (FitsSigned w32) b none IsGood Onward (GoesOn graph) Any (λ s u. HasNone s) signals_are_orderly (signals_hold_back graph)
+      (none_keep b (GoesOn graph)) tt tt d no_slots (λ i. tt) first.0 (table n (λ i. tt)) first.1 tt wf first_wide
+      (leaves_had b none d (no_lists none d tableless) numbers (λ k h. h)) first_good goes_on (λ i. tt) (puts_tables Input n (started delays))
+      (related_places Any first.0 (table n (λ i. tt)) 0 tt (first_wide ∙ sym (length_table n (λ i. tt))) (λ i l. tt))).1
+
   -- ---- its values
 
   module _ (whole : IsGraph graph) (spans : List Interval) (accepted : AreAccepted (delays_of d spans) delays) (X : List Frame) (c : ℕ → Stream)
       (small : (i t : ℕ) → FitsSigned w32 (column X i t)) (held : (k t : ℕ) → IsOf (control_span spans k) (c k t)) where
     fits : (s t : ℕ) → s < length graph.signals → FitsSigned w32 (value graph s X c t)
     fits = values_fit graph whole.ordered whole.closed X c small (λ k t. of_fits (control_span spans k) (c k t) (held k t))
-        (λ s n l e. subst (IsNamed (inputs d) (HasControl d) AnyLimit tt tt) e (any_named.signals s (Const (pos 0)) l))
+        (λ s n l e. subst (IsNamed (inputs d) (HasControl d) AnyLimit tt tt) e (any_named.signals s (Const (pos 0)) l)) whole.tables
 
     ranged : AreRanged (HasControl d) graph whole.ordered X c spans (delays_of d spans) delays accepted.are accepted.each held fits made.1
     ranged =
@@ -169,9 +189,9 @@ module _ (d : Diagram) (delays : List ℕ) (wf : IsWellFormed d) (free : HasNoFr
         subst (Q (get_or first.0 i 0)) (sym (get_or_table n (λ i. full) i full m))
         (anywhere (get_or first.0 i 0) (puts_at graph Input n (started delays) i m first_goes_on.signals).within)) in
         let end = walked span_hooks full d (λ i. full) F u in
-        let all = walked_along signal_hooks span_hooks (FitsSigned w32) C IsGood Onward (GoesOn graph) Q R signals_are_orderly (signals_hold_back graph) keeps
+        let all = walked_along signal_hooks span_hooks (FitsSigned w32) C AreNumbers IsGood Onward (GoesOn graph) Q R signals_are_orderly (signals_hold_back graph) keeps
         full
-        (anywhere 0 some) d no_slots (λ i. full) first.0 F first.1 u wf first_wide (leaves_had b d tableless numbers (λ k h. h)) first_good goes_on
+        (anywhere 0 some) d no_slots (λ i. full) first.0 F first.1 u wf first_wide (leaves_had b AreNumbers d (lists_had d numbers) numbers (λ k h. h)) first_good goes_on
         (λ i. anywhere 0 some) begun there in
         let noted : end.1.delays ≡ L = delays_are d spans F end.0 n full u end.1 wf refl refl refl refl refl in
         all.1.ranged (subst (λ l. IsPrefixOf l L) (sym noted) (prefix_refl L))
@@ -182,9 +202,9 @@ module _ (d : Diagram) (delays : List ℕ) (wf : IsWellFormed d) (free : HasNoFr
 
     wired : Wired (λ s. value graph s X c) c d no_slots first.0 made.0
     wired =
-        (walk_means signal_hooks IsGood Onward (GoesOn graph) (λ T. ⊥) (λ s. value graph s X c) c signals_are_orderly
+        (walk_means signal_hooks IsGood Onward (GoesOn graph) AreNumbers (λ s. value graph s X c) c signals_are_orderly
         (signals_are_sound graph whole.ordered X c wide) d no_slots
-        first.0 first.1 wf (no_lists (λ T. ⊥) d tableless) first_wide first_good goes_on).wired
+        first.0 first.1 wf (lists_had d numbers) first_wide first_good goes_on).wired
 
     -- the signals of the inputs carry the frames
     entered : (t : ℕ) → carried (λ s. value graph s X c) first.0 t ≡ table (inputs d) (λ i. column X i t)

@@ -1,12 +1,16 @@
 // A graph that grows along a walk.
 
-ghost use Rattle.std.specs.Prelude.{◌≡◌, ℕ, ◌<◌, ◌≤◌, List, ◌∷◌, length, get_or, drop, All, IfOk, OnOk};
-ghost use Rattle.fv_signal.specs.declared.signal.Signal.TheVariants.{Input, Back, Member};
-ghost use Rattle.fv_signal.specs.Value.{IsGraph};
-ghost use Rattle.fv_share.specs.Drafts.{CanPut, IsPending, IsShut, BacksWithin, AreClosed, width_of, graph_of};
+ghost use Rattle.std.specs.Prelude.{◌≡◌, ℕ, ◌<◌, ◌≤◌, List, [], ◌∷◌, length, get_or, drop, All, IfOk, OnOk, FitsSigned, pos};
+ghost use Rattle.std.specs.Int.{w32};
+ghost use Rattle.fv_signal.specs.declared.signal.Signal.TheVariants.{Input, Back, Member, Point};
+ghost use Rattle.fv_signal.specs.headline.Value.{IsGraph};
+ghost use Rattle.fv_diagram.specs.headline.Diagram.{table_inputs};
+ghost use Rattle.fv_diagram.specs.Diagram.{AreNumbers};
+ghost use Rattle.fv_share.specs.Drafts.{CanPut, IsPending, IsShut, BacksWithin, AreClosed, width_of, graph_of, table_in};
 ghost use Rattle.fv_diagram.specs.inner.Code.{padded as padded_of};
 ghost use Rattle.fv_propagate.specs.inner.Progress.{started, put, puts, put_mem, put_prefix, signal_hooks, IsThere, IsAdmitted};
 ghost use Rattle.fv_propagate.specs.inner.Progress.{AreNested, fed_of, put_delay, leaf_of, passed, grouped, opened_of, closed_of};
+ghost use Rattle.fv_propagate.specs.inner.Progress.{put_next, given, counted_of, listed, table_node, tabled_of};
 ghost use Rattle.fv_diagram.specs.Hooks.{takes};
 
 use fv_diagram::{Leaf, Signals};
@@ -227,6 +231,83 @@ impl Progress {
         Ok(group)
     }
 
+    // Puts an operation on two signals.
+    fn put_pair(&mut self, op: Op, a: SignalId, b: SignalId) -> Result<SignalId, AllocError>
+        requires a { IsThere self.old a }
+        requires b { IsThere self.old b }
+        ensures { IfOk result (λ id. (id, self.new) ≡ put self.old (Point op (padded_of (a ∷ b ∷ [])))) }
+    {
+        let id = self.put(Signal::Point {
+            op,
+            args: [a, b, a, a],
+        })?;
+        Ok(id)
+    }
+
+    // Puts x and one more, modulo a number.
+    fn put_next(&mut self, x: SignalId, count: u64) -> Result<SignalId, AllocError>
+        requires x { IsThere self.old x }
+        requires counted { FitsSigned w32 (pos count) }
+        ensures { IfOk result (λ id. (id, self.new) ≡ put_next self.old x count) }
+    {
+        let one = self.put(Signal::Const(1))?;
+        let sum = self.put_pair(Op::Add, x, one)?;
+        let many = self.put(Signal::Const(count as i32))?;
+        let id = self.put_pair(Op::Rem, sum, many)?;
+        Ok(id)
+    }
+
+    // Gives a group its one member.
+    fn give(&mut self, group: u64, member: SignalId) -> Result<(), AllocError>
+        requires pending { IsPending self.old.draft group }
+        requires inner { AreNested group self.old.feedbacks }
+        requires backs { BacksWithin self.old.draft group 1 }
+        requires member { IsThere self.old member }
+        ensures { OnOk result (self.new ≡ given self.old group (member ∷ [])) }
+    {
+        self.builder.close_group(group, &[member])?;
+        Ok(())
+    }
+
+    // Puts a wire that counts from 0 on, modulo a number.
+    fn put_count(&mut self, count: u64) -> Result<SignalId, AllocError>
+        requires counted { FitsSigned w32 (pos count) }
+        ensures { IfOk result (λ id. (id, self.new) ≡ counted_of count self.old) }
+    {
+        let group = self.group()?;
+        let late = self.put(Signal::Back { group, i: 0 })?;
+        let next = self.put_next(late, count)?;
+        self.give(group, next)?;
+        Ok(late)
+    }
+
+    // The number of a table with these numbers.
+    fn list(&mut self, values: &[i32]) -> Result<u64, AllocError>
+        ensures list { IfOk result (λ t. (t, self.new) ≡ listed self.old values.now) }
+        ensures there { IfOk result (λ t. table_in self.new.draft t ≡ values.now) }
+    {
+        let table = self.builder.table(values)?;
+        Ok(table)
+    }
+
+    // Puts a table that is read, or written and read.
+    fn put_table(
+        &mut self,
+        writes: bool,
+        values: &[i32],
+        ins: &[SignalId],
+    ) -> Result<SignalId, AllocError>
+        requires numbers { AreNumbers values.now }
+        requires width { length ins.now ≡ table_inputs writes }
+        requires wires { All (IsThere self.old) ins.now }
+        ensures { IfOk result (λ id. (id, self.new) ≡ tabled_of writes values.now ins.now self.old) }
+    {
+        let table = self.list(values)?;
+        let node = table_signal(writes, table, ins);
+        let id = self.put(node)?;
+        Ok(id)
+    }
+
     // Opens a feedback.
     fn push(&mut self, feedback: Feedback) -> Result<(), AllocError>
         requires pending { IsPending self.old.draft feedback.group }
@@ -279,6 +360,23 @@ fn padded(ins: &[SignalId]) -> [SignalId; 4]
     ]
 }
 
+// The node of a table.
+fn table_signal(writes: bool, table: u64, ins: &[SignalId]) -> Signal
+    requires { length ins.now ≡ table_inputs writes }
+    ensures { result ≡ table_node writes table ins.now }
+{
+    if writes {
+        Signal::Write {
+            table,
+            w: ins[0],
+            x: ins[1],
+            r: ins[2],
+        }
+    } else {
+        Signal::Read { table, r: ins[0] }
+    }
+}
+
 // An item, or the other where there is none.
 fn item_or(items: &[SignalId], i: usize, other: SignalId) -> SignalId
     ensures { result ≡ get_or items.now i other }
@@ -300,20 +398,19 @@ impl Signals for Progress {
         Ok(id)
     }
 
-    // Signals have no tables: no diagram with a waveform or a table is walked.
-    fn count(&mut self, _alloc: Global, _count: u64) -> Result<SignalId, AllocError> {
-        let id = self.put_leaf(Leaf::Number(0), &[])?;
+    fn count(&mut self, _alloc: Global, count: u64) -> Result<SignalId, AllocError> {
+        let id = self.put_count(count)?;
         Ok(id)
     }
 
     fn table(
         &mut self,
         _alloc: Global,
-        _writes: bool,
-        _values: &[i32],
-        _ins: &[SignalId],
+        writes: bool,
+        values: &[i32],
+        ins: &[SignalId],
     ) -> Result<SignalId, AllocError> {
-        let id = self.put_leaf(Leaf::Number(0), &[])?;
+        let id = self.put_table(writes, values, ins)?;
         Ok(id)
     }
 

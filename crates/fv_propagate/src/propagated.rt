@@ -1,12 +1,15 @@
 // The graph of a diagram.
 
-ghost use Rattle.std.specs.Prelude.{◌≡◌, ℕ, ◌<◌, false, List, length, IfOk};
-ghost use Rattle.fv_num.specs.Interval.{Interval};
+ghost use Rattle.std.specs.Prelude.{◌≡◌, ℕ, ◌<◌, false, List, [], length, IfOk};
+ghost use Rattle.fv_num.specs.headline.Interval.{Interval};
 ghost use Rattle.fv_num.specs.SpanLaws.{AreSpans};
-ghost use Rattle.fv_diagram.specs.Diagram.{inputs, outputs, has_table, IsWellFormed, HasNoFreeSlot};
+ghost use Rattle.fv_diagram.specs.headline.Diagram.{inputs, outputs, has_table};
+ghost use Rattle.fv_diagram.specs.Diagram.{IsWellFormed, HasNoFreeSlot};
 ghost use Rattle.fv_diagram.specs.Arena.{count_of, tree_of};
-ghost use Rattle.fv_interval.specs.Delays.{delays_of, AreAccepted};
-ghost use Rattle.fv_propagate.specs.Propagated.{Propagates, DelaysStayWithin, AreShort, NamesWithin};
+ghost use Rattle.fv_interval.specs.headline.Delays.{delays_of};
+ghost use Rattle.fv_interval.specs.Delays.{AreAccepted};
+ghost use Rattle.fv_propagate.specs.headline.Propagated.{Propagates, NamesWithin};
+ghost use Rattle.fv_propagate.specs.Propagated.{DelaysStayWithin, AreShort};
 
 use crate::progress::Progress;
 use fv_diagram::{DiagramId, Diagrams, walk};
@@ -24,7 +27,6 @@ pub fn propagate(
     requires root { root < count_of diagrams.now }
     requires well { IsWellFormed (tree_of diagrams.now root) }
     requires closed { HasNoFreeSlot (tree_of diagrams.now root) }
-    requires tableless { has_table (tree_of diagrams.now root) ≡ false }
     // Each output is that of the diagram, where the controls lie in the spans of which the delays are.
     ensures values { IfOk result (λ g. (spans : List Interval) → AreAccepted (delays_of (tree_of diagrams.now root) spans) delays.now
         → Propagates (tree_of diagrams.now root) spans g) }
@@ -34,6 +36,8 @@ pub fn propagate(
     ensures short { IfOk result (λ g. (spans : List Interval) → AreSpans spans → AreAccepted (delays_of (tree_of diagrams.now root) spans) delays.now
         → AreShort g) }
     ensures width { IfOk result (λ g. length g.outputs ≡ outputs (tree_of diagrams.now root)) }
+    // Where the diagram has no waveform and no table, the graph has none.
+    ensures tables { IfOk result (λ g. has_table (tree_of diagrams.now root) ≡ false → g.tables ≡ []) }
     ensures names { IfOk result (λ g. NamesWithin (tree_of diagrams.now root) g) }
 {
     let count = u64::from(diagrams.arity(root).inputs);

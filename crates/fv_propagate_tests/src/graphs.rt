@@ -143,7 +143,6 @@ fn agrees(rt: &impl Abort, alloc: Global, expression: &str) -> Result<Graph, Fai
     let program = program_with_controls(alloc, expression)?;
     let controls = program.controls.as_slice();
     assert!(rt; controls.len() <= CONTROLS.len());
-    assert!(rt; !program.diagrams.has_table(program.root));
     let bounds = spans_of(alloc, controls)?;
     let delays = match spans(alloc, &program.diagrams, program.root, &bounds) {
         Ok(delays) => delays,

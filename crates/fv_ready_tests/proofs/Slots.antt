@@ -3,7 +3,8 @@ use Rattle.std.proofs.Common.{refl, Bool, ◌==◌, ◌&&◌, ◌+◌, ◌≡◌
 use Rattle.std.proofs.Common.{sym, ap, ◌∙◌, subst, arith, Option, Some, None, IfSome, IsSomeAnd}
 use mathlib.Core.Logic.{dite}
 use native.Mathlib.Decide.{ℕ_discrete}
-use Rattle.fv_outside.specs.Tasks.{Tasks, bit, times}
+use Rattle.fv_outside.specs.headline.Tasks.{Tasks, bit}
+use Rattle.fv_outside.specs.Tasks.{times}
 use Rattle.fv_graph.specs.Graph.{inward, outward}
 use Rattle.fv_graph.proofs.Counts.{bit_same, bit_apart, total_append}
 use Rattle.fv_ready_rule.specs.declared.Deed.{Deed}

@@ -1,6 +1,6 @@
 -- The tasks of the worked examples.
 use Rattle.std.specs.Prelude.{[], ◌∷◌}
-use Rattle.fv_outside.specs.Tasks.{Tasks}
+use Rattle.fv_outside.specs.headline.Tasks.{Tasks}
 
 -- two loops and one vector, and loop 1 reads loop 0
 abbrev pub two_loops : Tasks

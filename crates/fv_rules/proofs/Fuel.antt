@@ -2,9 +2,9 @@
 use Rattle.std.proofs.Common.{◌≡◌, ℕ, zero, suc, ◌-◌, ◌≤◌, Bool, true, false, List, [], ◌∷◌, ◌++◌, length, Option, Some, None, Ok, Err, ℤ, pos}
 use Rattle.std.proofs.Common.{negsuc, map, refl, sym, ap, ◌∙◌, arith}
 use Rattle.std.specs.Prelude.{nat_le, nat_lt, nat_eq, ◌&&◌, int_le, if◌then◌else◌}
-use Rattle.fv_lex.specs.Token.{Lexed}
-use Rattle.fv_parse_grammar.specs.Tree.{Tree}
-use Rattle.fv_parse_grammar.specs.Tree as tree
+use Rattle.fv_lex.specs.headline.Token.{Lexed}
+use Rattle.fv_parse_grammar.specs.headline.Tree.{Tree, items, start_of}
+use Rattle.fv_parse_grammar.specs.headline.Tree as tree
 use Rattle.fv_parse_grammar.specs.declared.form.Operator.{Operator}
 use Rattle.fv_parse_grammar.specs.declared.form.Operator.TheVariants as operators
 use Rattle.fv_parse_grammar.specs.declared.form.Iteration.{Iteration as Repetition}
@@ -12,29 +12,27 @@ use Rattle.fv_parse_grammar.specs.declared.form.Iteration.TheVariants as repetit
 use Rattle.fv_num.specs.declared.op.Op.TheVariants as op
 use Rattle.fv_diagram.specs.declared.node.Primitive.{Primitive as Prim}
 use Rattle.fv_diagram.specs.declared.node.Primitive.TheVariants as prim
-use Rattle.fv_diagram.specs.Diagram.{Diagram, Primitive, Constant, Table, Bind, Par, Seq, Split, Merge, Rec, size, inputs}
-use Rattle.fv_diagram_number.specs.Numbers.{at_first}
-use Rattle.fv_num.specs.Words.{argument}
+use Rattle.fv_diagram.specs.headline.Diagram.{Diagram, Primitive, Constant, Table, Bind, Par, Seq, Split, Merge, Rec, size, inputs}
+use Rattle.fv_diagram_number.specs.headline.Numbers.{at_first, number_of}
+use Rattle.fv_num.specs.headline.Words.{argument}
 use Rattle.std.proofs.Common.{◌+◌, ◌*◌}
-use Rattle.fv_diagram.specs.Arena.{size_limit}
+use Rattle.fv_diagram.specs.headline.Arena.{size_limit}
 use Rattle.fv_diagram.specs.declared.control.ControlInfo.{ControlInfo}
 use Rattle.fv_rules.specs.declared.refusal.EvalRefusal.{EvalRefusal}
 use Rattle.fv_rules.specs.declared.refusal.EvalRefusal.TheVariants.{EvalBudget}
-use Rattle.fv_parse_grammar.specs.Tree.{items, start_of}
-use Rattle.fv_parse.specs.Trees.{text_of, label_of}
-use Rattle.fv_rules.specs.Values.{Name, Value, Flat, Abstraction, Rules, Env, Bound, Scope, And, Definition, Plain, Parameters, Cases, Meaning}
-use Rattle.fv_rules.specs.Values.{IsValue, IsDefined, Unknown, lookup, in_order, count_taken}
-use Rattle.fv_diagram_number.specs.Numbers.{number_of}
-use Rattle.fv_rules.specs.Matching.{Bindings, settled, value_number, bound_in, chosen}
-use Rattle.fv_rules.specs.Steps.{State, Outcome, Eval, after, ◌>>=◌, give, refuse, spent, visit, fresh_slots, misfit, put_after, put_as, put, is_alike}
-use Rattle.fv_diagram_head.specs.Heads.{parts, cut, is_head, table_numbers}
-use Rattle.fv_rules.specs.Steps.{sized, side_by_side, table_size, grow, table_limit, tabled_by, tabled, waved}
-use Rattle.fv_rules.specs.Steps.{before_table}
-use Rattle.fv_rules.specs.Steps.{labelled, entered, control}
-use Rattle.fv_rules.specs.Rules.{literal_value, primitive_of, switch_kind, slider_kind, Evaluator, flat, on_slots, bind_all, turned, operated, joined, from_right}
-use Rattle.fv_rules.specs.Rules.{from_left, defined_value, meant, name_value, arguments, all_turned, wires, all_outputs, takes_the_right, led, fed_by}
-use Rattle.fv_rules.specs.Rules.{fed, width, selected, applied, bodies, gathered, counted, read_number, parameters, slider_info, switch_info}
-use Rattle.fv_rules.specs.Rules.{abstraction, rule, visited, descend, within, ev}
+use Rattle.fv_parse.specs.headline.Trees.{text_of, label_of}
+use Rattle.fv_rules.specs.headline.Values.{Name, Value, Flat, Abstraction, Rules, Env, Bound, Scope, And, Definition, Plain, Parameters, Cases, Meaning}
+use Rattle.fv_rules.specs.headline.Values.{IsValue, IsDefined, Unknown, lookup, in_order, count_taken}
+use Rattle.fv_rules.specs.headline.Matching.{Bindings, settled, value_number, bound_in, chosen}
+use Rattle.fv_rules.specs.headline.Steps.{State, Outcome, Eval, after, ◌>>=◌, give, refuse, spent, visit, fresh_slots, misfit, put_after, put_as, put, is_alike}
+use Rattle.fv_diagram_head.specs.headline.Heads.{parts, cut, is_head, table_numbers}
+use Rattle.fv_rules.specs.headline.Steps.{sized, side_by_side, table_size, grow, table_limit, tabled_by, tabled, waved}
+use Rattle.fv_rules.specs.headline.Steps.{before_table}
+use Rattle.fv_rules.specs.headline.Steps.{labelled, entered, control}
+use Rattle.fv_rules.specs.headline.Rules.{literal_value, primitive_of, switch_kind, slider_kind, Evaluator, flat, on_slots, bind_all, turned, operated, joined, from_right}
+use Rattle.fv_rules.specs.headline.Rules.{from_left, defined_value, meant, name_value, arguments, all_turned, wires, all_outputs, takes_the_right, led, fed_by}
+use Rattle.fv_rules.specs.headline.Rules.{fed, width, selected, applied, bodies, gathered, counted, read_number, parameters, slider_info, switch_info}
+use Rattle.fv_rules.specs.headline.Rules.{abstraction, rule, visited, descend, within, ev}
 
 -- ---- what does not raise the visits, and what agrees below a number of visits
 abbrev pub AtMost : {A : Type 0} → ℕ → Outcome A → Type 0

@@ -8,9 +8,9 @@ use Rattle.std.specs.Prelude.{nat_lt, ◌&&◌, ◌≢◌, int_le, codes, if◌t
 use Rattle.std.proofs.lemmas.Bool.{and_parts}
 use Rattle.std.proofs.lemmas.Bool.Decides.{eqb_tells}
 use Rattle.std.proofs.lemmas.List.Elements.{All-push, All-nil}
-use Rattle.fv_lex.specs.Token.{Lexed}
-use Rattle.fv_parse_grammar.specs.Tree.{Tree}
-use Rattle.fv_parse_grammar.specs.Tree as tree
+use Rattle.fv_lex.specs.headline.Token.{Lexed}
+use Rattle.fv_parse_grammar.specs.headline.Tree.{Tree, items, start_of}
+use Rattle.fv_parse_grammar.specs.headline.Tree as tree
 use Rattle.fv_parse_grammar.specs.declared.form.Operator.{Operator}
 use Rattle.fv_parse_grammar.specs.declared.form.Operator.TheVariants as operators
 use Rattle.fv_parse_grammar.specs.declared.form.Side.{Side}
@@ -18,27 +18,24 @@ use Rattle.fv_parse_grammar.specs.declared.form.Side.TheVariants as sides
 use Rattle.fv_num.specs.declared.op.Op.TheVariants as op
 use Rattle.fv_diagram.proofs.Composed.{composed_is_well}
 use Rattle.fv_diagram.specs.declared.node.Primitive.TheVariants as prim
-use Rattle.fv_diagram.specs.Diagram.{Diagram, Primitive, Constant, Control, Slot, Bind, Par, Seq, Split, Merge, Rec}
+use Rattle.fv_diagram.specs.headline.Diagram.{Diagram, Primitive, Constant, Control, Slot, Bind, Par, Seq, Split, Merge, Rec, has_table_primitive}
 use Rattle.fv_diagram.specs.declared.control.ControlInfo.{ControlInfo}
 use Rattle.fv_rules.specs.declared.refusal.EvalRefusal.{EvalRefusal}
 use Rattle.fv_rules.specs.declared.refusal.EvalRefusal.TheVariants.{IterationCount, UnknownName, EvalBudget}
 use Rattle.fv_rules.specs.declared.refusal.EvalRefusal.TheVariants.{ControlClash, ControlBounds, TableForm, NoMemory}
 use Rattle.fv_rules.specs.declared.refusal.TableCause.TheVariants as cause
-use Rattle.fv_diagram.specs.Diagram.{has_table_primitive}
-use Rattle.fv_parse_grammar.specs.Tree.{items, start_of}
-use Rattle.fv_parse.specs.Trees.{text_of, label_of}
-use Rattle.fv_rules.specs.Values.{Name, Rule, Value, Flat, Abstraction, Rules, Env, Outermost, Bound, Scope, Taken, Nothing, And, Definition, Plain}
-use Rattle.fv_rules.specs.Values.{Parameters, Cases, Meaning, IsValue, IsDefined, Unknown, lookup, or_else as meant_or, in_order, count_taken}
-use Rattle.fv_diagram_number.specs.Numbers.{number_of}
-use Rattle.fv_rules.specs.Matching.{Bindings, number_or, settled, and_then, parts_of, parts_without, value_parts, value_number}
-use Rattle.fv_rules.specs.Matching.{matched, all_matched, bound_in, or_next, chosen}
-use Rattle.fv_rules.specs.Steps.{State, Outcome, Eval, after, ◌>>=◌, no_number, no_rule, no_diagram, spent, visit, fresh_slots}
-use Rattle.fv_rules.specs.Steps.{give, refuse, whole, is_alike, labelled, entered, control}
-use Rattle.fv_rules.specs.Rules.{literal_value}
-use Rattle.fv_rules.specs.Rules.{primitive_of, switch_kind, slider_kind, Evaluator, flat, on_slots, bind_all, turned, operated}
-use Rattle.fv_rules.specs.Rules.{defined_value, meant, name_value, arguments, all_turned, width, selected, applied}
-use Rattle.fv_rules.specs.Rules.{bodies, counted, ports, read_number, parameters, slider_info, switch_info, abstraction, rule, descend}
-use Rattle.fv_rules.specs.Rules.{within, ev, finished, start, program_value}
+use Rattle.fv_parse.specs.headline.Trees.{text_of, label_of}
+use Rattle.fv_rules.specs.headline.Values.{Name, Rule, Value, Flat, Abstraction, Rules, Env, Outermost, Bound, Scope, Taken, Nothing, And, Definition, Plain}
+use Rattle.fv_rules.specs.headline.Values.{Parameters, Cases, Meaning, IsValue, IsDefined, Unknown, lookup, or_else as meant_or, in_order, count_taken}
+use Rattle.fv_diagram_number.specs.headline.Numbers.{number_of}
+use Rattle.fv_rules.specs.headline.Matching.{Bindings, number_or, settled, and_then, parts_of, parts_without, value_parts, value_number}
+use Rattle.fv_rules.specs.headline.Matching.{matched, all_matched, bound_in, or_next, chosen}
+use Rattle.fv_rules.specs.headline.Steps.{State, Outcome, Eval, after, ◌>>=◌, no_number, no_rule, no_diagram, spent, visit, fresh_slots}
+use Rattle.fv_rules.specs.headline.Steps.{give, refuse, whole, is_alike, labelled, entered, control}
+use Rattle.fv_rules.specs.headline.Rules.{literal_value, primitive_of, switch_kind, slider_kind, Evaluator, flat, on_slots, bind_all, turned, operated}
+use Rattle.fv_rules.specs.headline.Rules.{defined_value, meant, name_value, arguments, all_turned, width, selected, applied}
+use Rattle.fv_rules.specs.headline.Rules.{bodies, counted, ports, read_number, parameters, slider_info, switch_info, abstraction, rule, descend}
+use Rattle.fv_rules.specs.headline.Rules.{within, ev, finished, start, program_value}
 use Rattle.fv_rules.specs.Sound.{IsSoundProgram}
 use Rattle.fv_diagram.specs.Controls.{IsBounded}
 use Rattle.fv_rules.proofs.SoundValues.{IsSound, SoundValue, SoundEnv, SoundTaken, SoundState, AllSound, AllValues, sound_grows, env_grows}

@@ -11,26 +11,26 @@ use Rattle.fv_parse_grammar.specs.declared.form.Iteration.TheVariants as repetit
 use Rattle.fv_num.specs.declared.op.Op.TheVariants as op
 use Rattle.fv_diagram.specs.declared.node.Primitive.{Primitive as Prim}
 use Rattle.fv_diagram.specs.declared.node.Primitive.TheVariants as prim
-use Rattle.fv_diagram.specs.Diagram.{Diagram, Primitive, Constant, Slot, Table, Bind, Par, Seq, Split, Merge, Rec, size, inputs, outputs}
-use Rattle.fv_diagram.specs.Diagram.{table_inputs}
-use Rattle.fv_diagram_number.specs.Numbers.{at_first}
-use Rattle.fv_num.specs.Words.{argument}
+use Rattle.fv_diagram.specs.headline.Diagram.{Diagram, Primitive, Constant, Slot, Table, Bind, Par, Seq, Split, Merge, Rec, size, inputs, outputs}
+use Rattle.fv_diagram.specs.headline.Diagram.{table_inputs}
+use Rattle.fv_diagram_number.specs.headline.Numbers.{at_first}
+use Rattle.fv_num.specs.headline.Words.{argument}
 use Rattle.std.specs.List.{list_all}
 use Rattle.std.proofs.Common.{◌+◌, ◌*◌, length, ◌∙◌, negsuc}
 use Rattle.fv_diagram.specs.Diagram.{control_bound, IsFree}
 use Rattle.fv_diagram.specs.Composed.{IsComposed}
-use Rattle.fv_diagram.specs.Arena.{size_limit}
+use Rattle.fv_diagram.specs.headline.Arena.{size_limit}
 use Rattle.fv_rules.specs.declared.refusal.EvalRefusal.{EvalRefusal}
 use Rattle.fv_rules.specs.declared.refusal.EvalRefusal.TheVariants.{SizeBudget, Arity, IterationCount, TooManyArguments}
 use Rattle.fv_arity.specs.declared.refusal.ArityKind.TheVariants as kind
-use Rattle.fv_rules.specs.Values.{Flat}
-use Rattle.fv_rules.specs.Steps.{State, Outcome, Eval, after, give, refuse, is_multiple, unless, or_else, misfit, sized, put_after, put_as, put}
-use Rattle.fv_diagram_head.specs.Heads.{parts, cut, is_fixed, is_head, table_numbers}
+use Rattle.fv_rules.specs.headline.Values.{Flat}
+use Rattle.fv_rules.specs.headline.Steps.{State, Outcome, Eval, after, give, refuse, is_multiple, unless, or_else, misfit, sized, put_after, put_as, put}
+use Rattle.fv_diagram_head.specs.headline.Heads.{parts, cut, is_fixed, is_head, table_numbers}
 use Rattle.fv_diagram_head.proofs.Outputs.{cut_outputs, parts_outputs}
-use Rattle.fv_rules.specs.Steps.{side_by_side, table_size, grow, table_limit, tabled_by, tabled, waved}
+use Rattle.fv_rules.specs.headline.Steps.{side_by_side, table_size, grow, table_limit, tabled_by, tabled, waved}
 use Rattle.fv_rules.specs.declared.refusal.EvalRefusal.TheVariants.{TableForm, TableBudget}
 use Rattle.fv_rules.specs.declared.refusal.TableCause.TheVariants as cause
-use Rattle.fv_rules.specs.Rules.{primitive_of, flat, operated, joined, from_right, from_left, gathered, wires, all_outputs, takes_the_right, led, fed_by, fed}
+use Rattle.fv_rules.specs.headline.Rules.{primitive_of, flat, operated, joined, from_right, from_left, gathered, wires, all_outputs, takes_the_right, led, fed_by, fed}
 use Rattle.fv_rules.proofs.SoundValues.{IsSound, SoundValue, SoundState, keep, AllSound, keep_all, all_append, IsCause, Stays, Does}
 use Rattle.fv_rules.proofs.SoundValues.{bind_does, give_does, refuse_does, choice}
 

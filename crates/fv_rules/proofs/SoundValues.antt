@@ -1,13 +1,14 @@
 -- Sound diagrams, values, environments and states, and evaluations that keep them so.
 use Rattle.std.proofs.Common.{ℕ, ◌+◌, ◌≤◌, Bool, true, false, List, [], ◌∷◌, ◌++◌, length, Ok, Err, arith}
 use Rattle.std.specs.Prelude.{All, if◌then◌else◌}
-use Rattle.fv_diagram.specs.Diagram.{Diagram, size, control_bound, IsFree}
+use Rattle.fv_diagram.specs.headline.Diagram.{Diagram, size}
+use Rattle.fv_diagram.specs.Diagram.{control_bound, IsFree}
 use Rattle.fv_diagram.specs.Composed.{IsComposed}
-use Rattle.fv_diagram.specs.Arena.{size_limit}
+use Rattle.fv_diagram.specs.headline.Arena.{size_limit}
 use Rattle.fv_rules.specs.declared.refusal.EvalRefusal.{EvalRefusal}
 use Rattle.fv_rules.specs.declared.refusal.EvalRefusal.TheVariants.{NoMemory}
-use Rattle.fv_rules.specs.Values.{Value, Flat, Abstraction, Rules, Env, Outermost, Bound, Scope, Taken, Nothing, And}
-use Rattle.fv_rules.specs.Steps.{State, Outcome, Eval, after, ◌>>=◌, give, refuse}
+use Rattle.fv_rules.specs.headline.Values.{Value, Flat, Abstraction, Rules, Env, Outermost, Bound, Scope, Taken, Nothing, And}
+use Rattle.fv_rules.specs.headline.Steps.{State, Outcome, Eval, after, ◌>>=◌, give, refuse}
 use Rattle.fv_diagram.specs.Controls.{IsBounded}
 
 -- ---- diagrams, values, environments and states

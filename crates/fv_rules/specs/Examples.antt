@@ -3,25 +3,25 @@ use Rattle.std.specs.Prelude.{◌≡◌, refl, ℕ, List, [], ◌∷◌, codes, 
 use Rattle.std.specs.Int.{int_wrap}
 use Rattle.fv_lex.specs.declared.token.Kind.TheVariants.{Name as a_name}
 use Rattle.fv_lex.specs.declared.token.Symbol.TheVariants as symbols
-use Rattle.fv_lex.specs.Token.{Token, Lexed}
+use Rattle.fv_lex.specs.headline.Token.{Token, Lexed}
 use Rattle.fv_num.specs.declared.op.Op.TheVariants as op
-use Rattle.fv_parse_grammar.specs.Tree.{Tree}
-use Rattle.fv_parse_grammar.specs.Tree as tree
+use Rattle.fv_parse_grammar.specs.headline.Tree.{Tree}
+use Rattle.fv_parse_grammar.specs.headline.Tree as tree
 use Rattle.fv_parse_grammar.specs.declared.form.Primitive.TheVariants as operations
 use Rattle.fv_parse_grammar.specs.declared.form.Operator.TheVariants as operators
 use Rattle.fv_parse_grammar.specs.declared.form.Iteration.TheVariants as repetitions
 use Rattle.fv_parse_grammar.specs.declared.form.Side.TheVariants as sides
 use Rattle.fv_parse_grammar.specs.declared.form.Slider.TheVariants as sliders
 use Rattle.fv_diagram.specs.declared.node.Primitive.TheVariants as prim
-use Rattle.fv_diagram.specs.Diagram.{Diagram, Primitive, Constant, Slot, Bind, Par, Seq}
+use Rattle.fv_diagram.specs.headline.Diagram.{Diagram, Primitive, Constant, Slot, Bind, Par, Seq}
 use Rattle.fv_rules.specs.declared.refusal.EvalRefusal.TheVariants.{UnknownName, NotANumber, IterationCount, NoRule, NotADiagram, TooManyArguments}
 use Rattle.fv_rules.specs.declared.refusal.EvalRefusal.TheVariants.{EvalBudget, ControlClash, ControlBounds}
-use Rattle.fv_rules.specs.Values.{Outermost, Scope}
-use Rattle.fv_diagram_number.specs.Numbers.{number_of}
+use Rattle.fv_rules.specs.headline.Values.{Outermost, Scope}
+use Rattle.fv_diagram_number.specs.headline.Numbers.{number_of}
 use Rattle.fv_diagram.specs.declared.control.ControlInfo.{ControlInfo}
 use Rattle.fv_rules.specs.declared.refusal.EvalRefusal.{EvalRefusal}
-use Rattle.fv_rules.specs.Steps.{State, ◌>>=◌}
-use Rattle.fv_rules.specs.Rules.{ev, turned, name_value, finished, within}
+use Rattle.fv_rules.specs.headline.Steps.{State, ◌>>=◌}
+use Rattle.fv_rules.specs.headline.Rules.{ev, turned, name_value, finished, within}
 
 state : ℕ → ℕ → State
 state n s = record { visits = n; controls = []; slot = s; tables = 0 }

@@ -1,6 +1,5 @@
+pub mod headline
 pub mod Values
-pub mod Matching
-pub mod Steps
 pub mod Rules
 pub mod Sound
 pub mod Puts

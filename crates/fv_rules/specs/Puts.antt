@@ -1,10 +1,10 @@
 -- What putting a node answers.
 use Rattle.std.specs.Prelude.{◌≡◌, ◌⊎◌, ℕ, ◌<◌, Result, Ok, Err}
-use Rattle.fv_diagram.specs.Diagram.{Diagram}
+use Rattle.fv_diagram.specs.headline.Diagram.{Diagram}
 use Rattle.fv_diagram.specs.Arena.{Arena, count_of, tree_of}
 use Rattle.fv_rules.specs.declared.refusal.EvalRefusal.{EvalRefusal}
 use Rattle.fv_rules.specs.declared.refusal.EvalRefusal.TheVariants.{NoMemory}
-use Rattle.fv_rules.specs.Steps.{State, misfit, put_after}
+use Rattle.fv_rules.specs.headline.Steps.{State, misfit, put_after}
 
 -- the node is this diagram, which may be put as it is; or it is refused as the rules refuse it, or memory ran out
 abbrev pub Puts : Arena → Diagram → Result ℕ EvalRefusal → Type 0

@@ -1,13 +1,14 @@
 -- What every diagram that evaluation gives is.
 use Rattle.std.specs.Prelude.{◌≡◌, ◌≤◌, List, length, All, Ok, Err}
-use Rattle.fv_lex.specs.Token.{Lexed}
-use Rattle.fv_parse_grammar.specs.Tree.{Tree}
-use Rattle.fv_diagram.specs.Diagram.{Diagram, size, control_bound, IsWellFormed, HasNoFreeSlot}
-use Rattle.fv_diagram.specs.Arena.{size_limit}
+use Rattle.fv_lex.specs.headline.Token.{Lexed}
+use Rattle.fv_parse_grammar.specs.headline.Tree.{Tree}
+use Rattle.fv_diagram.specs.headline.Diagram.{Diagram, size}
+use Rattle.fv_diagram.specs.Diagram.{control_bound, IsWellFormed, HasNoFreeSlot}
+use Rattle.fv_diagram.specs.headline.Arena.{size_limit}
 use Rattle.fv_diagram.specs.Controls.{IsBounded}
 use Rattle.fv_diagram.specs.declared.control.ControlInfo.{ControlInfo}
 use Rattle.fv_rules.specs.declared.refusal.EvalRefusal.TheVariants.{NoMemory}
-use Rattle.fv_rules.specs.Rules.{program_value, visit_limit}
+use Rattle.fv_rules.specs.headline.Rules.{program_value, visit_limit}
 
 -- A program's diagram and controls: it can run, names only these controls, and they are within their bounds.
 pub record IsSoundProgram (d : Diagram) (cs : List ControlInfo) : Type 0 where

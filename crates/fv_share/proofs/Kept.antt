@@ -1,15 +1,17 @@
 -- What holds of all drafts stays so.
-use Rattle.std.proofs.Common.{◌≡◌, inl, inr, ℕ, ◌+◌, ◌<◌, ◌≤◌, List, [], ◌∷◌, ◌++◌, length, get_or, sym, ap, ◌∙◌, subst, arith, All, true, false}
+use Rattle.std.proofs.Common.{◌≡◌, inl, inr, ℕ, ◌+◌, ◌<◌, ◌≤◌, List, [], ◌∷◌, ◌++◌, length, get_or, zero, suc, refl, sym, ap, ◌∙◌, subst, arith, All, true, false, ℤ, pos, w32, FitsSigned}
 use Rattle.std.specs.Prelude.{slice_set}
 use Rattle.std.proofs.lemmas.Bool.{cases_lt, cases_eq}
 use Rattle.std.proofs.lemmas.List.{length_push, get_or_push, get_or_append_left, length-set, get_or-set_same, get_or-set_other}
-use Rattle.std.proofs.lemmas.List.Elements.{All-get_or}
+use Rattle.std.proofs.lemmas.Int.{ints}
+use Rattle.std.proofs.lemmas.List.Elements.{All-get_or, All-head, All-tail}
 use Rattle.indexmap.specs.IndexSet.{insert_key}
 use Rattle.fv_signal.specs.declared.signal.Signal.{Signal}
-use Rattle.fv_signal.specs.declared.signal.Signal.TheVariants.{Input, Const, Control, Point, Delay, Back, Member}
-use Rattle.fv_signal.specs.Value.{OperandsBelow, NamesWithin, HasNumber, IsGraph}
+use Rattle.fv_signal.specs.declared.signal.Signal.TheVariants.{Input, Const, Control, Point, Delay, Back, Member, Read, Write}
+use Rattle.fv_signal.specs.headline.Value.{OperandsBelow, NamesWithin, HasNumber, HaveNumbers, IsGraph}
+use Rattle.fv_num.specs.headline.Words.{argument}
 use Rattle.fv_share.specs.Drafts.{Draft, graph_of, IsShut, IsPending, AreClosed, NamesSoFar, OperandsThere, CanPut, BacksWithin, IsDraft, same, put}
-use Rattle.fv_share.specs.Drafts.{with_group, with_members}
+use Rattle.fv_share.specs.Drafts.{with_group, with_members, with_table}
 use Rattle.fv_share.proofs.Puts.{inserted}
 
 -- ---- one signal more
@@ -32,6 +34,8 @@ below_there d (Point op args) h p = p.operands
 below_there d (Delay x back max) h p = p.operands
 below_there d (Back group k) h p = tt
 below_there d (Member group k) h p = h.defined group k p.names.0.0 p.names.1
+below_there d (Read table r) h p = p.operands
+below_there d (Write table w x r) h p = p.operands
 
 pushed_keeps : (d : Draft) (s : Signal) → IsDraft d → CanPut d s → HasNumber s → (ss : List Signal) → ss ≡ d.signals ++ s ∷ [] →
     ((i j : ℕ) (x : Signal) → i < length ss → j < length ss → get_or ss i x ≡ get_or ss j x → i ≡ j) → IsDraft (record d { signals = ss })
@@ -52,6 +56,7 @@ pushed_keeps d s h p fits ss e distinct = record {
     | inl m ↦ subst HasNumber (sym (old i x m)) (h.numbers i x m)
     | inr m ↦ subst HasNumber (sym (last i x (at i l m))) fits
   ];
+  tables = h.tables;
 }
   where
     more : length ss ≡ length d.signals + 1
@@ -141,13 +146,59 @@ module _ (d : Draft) (group : ℕ) (members : List ℕ) (h : IsDraft d) (pending
     ];
     marked = length-set d.closed group true ∙ h.marked ∙ sym (length-set d.groups group members);
     numbers = h.numbers;
+    tables = h.tables;
   }
+
+-- ---- a table more
+
+-- a table that is there stays where more come behind it
+pub tables_stay : (xs ys : List (List ℤ)) (t : ℕ) → 0 < length (get_or xs t []) → get_or (xs ++ ys) t [] ≡ get_or xs t []
+tables_stay [] ys t l = absurd (omega arith)
+tables_stay (x ∷ xs) ys zero l = refl
+tables_stay (x ∷ xs) ys (suc t) l = tables_stay xs ys t l
+
+item_fits : (T : List ℤ) (i : ℕ) → All (λ n. FitsSigned w32 n) T → FitsSigned w32 (argument T i)
+item_fits [] i h = omega (arith, ints)
+item_fits (x ∷ xs) zero h = All-head (λ n. FitsSigned w32 n) x xs h
+item_fits (x ∷ xs) (suc i) h = item_fits xs i (All-tail (λ n. FitsSigned w32 n) x xs h)
+
+one_fits : (T : List ℤ) → All (λ n. FitsSigned w32 n) T → HaveNumbers (T ∷ [])
+one_fits T h zero i = item_fits T i h
+one_fits T h (suc t) i = omega (arith, ints)
+
+both_fit : (xs ys : List (List ℤ)) → HaveNumbers xs → HaveNumbers ys → HaveNumbers (xs ++ ys)
+both_fit [] ys h k t i = k t i
+both_fit (x ∷ xs) ys h k zero i = h 0 i
+both_fit (x ∷ xs) ys h k (suc t) i = both_fit xs ys (λ u. h (suc u)) k t i
+
+table_names : (d : Draft) (T : List ℤ) (s : Signal) → NamesSoFar d s → NamesSoFar (with_table d T) s
+table_names d T (Read table r) n = subst (λ xs. 0 < length xs) (sym (tables_stay d.tables (T ∷ []) table n)) n
+table_names d T (Write table w x r) n = subst (λ xs. 0 < length xs) (sym (tables_stay d.tables (T ∷ []) table n)) n
+table_names d T (Member group k) n = n
+table_names d T s n = n
+
+table_below : (d : Draft) (T : List ℤ) (i : ℕ) (s : Signal) → OperandsBelow (graph_of d []) i s → OperandsBelow (graph_of (with_table d T) []) i s
+table_below d T i (Member group k) h = h
+table_below d T i s h = h
+
+pub table_keeps : (d : Draft) (T : List ℤ) → IsDraft d → All (λ n. FitsSigned w32 n) T → IsDraft (with_table d T)
+table_keeps d T h fits = record {
+  distinct = h.distinct;
+  ordered = λ i x l. table_below d T i _ (h.ordered i x l);
+  named = λ i x l. table_names d T _ (h.named i x l);
+  defined = h.defined;
+  marked = h.marked;
+  numbers = h.numbers;
+  tables = both_fit d.tables (T ∷ []) h.tables (one_fits T fits);
+}
 
 -- ---- a graph
 
 graph_names : (d : Draft) (outs : List ℕ) (s : Signal) → IsDraft d → AreClosed d → NamesSoFar d s → NamesWithin (graph_of d outs) s
 graph_names d outs (Back g k) h shut n = let m = n.1 (n.0, shut g n.0) in (n.0, m, h.defined g k n.0 m)
 graph_names d outs (Member g k) h shut n = (n.0.0, n.1, h.defined g k n.0.0 n.1)
+graph_names d outs (Read table r) h shut n = n
+graph_names d outs (Write table w x r) h shut n = n
 graph_names d outs s h shut n = tt
 
 graph_below : (d : Draft) (outs : List ℕ) (i : ℕ) (s : Signal) → OperandsBelow (graph_of d []) i s → OperandsBelow (graph_of d outs) i s
@@ -161,6 +212,7 @@ finished d outs h shut there = record {
   defined = h.defined;
   outputs = λ j l. All-get_or (λ s. s < length d.signals) outs j 0 l there;
   numbers = h.numbers;
+  tables = h.tables;
 }
 
 -- a group that was given its members is shut
@@ -179,3 +231,5 @@ earlier d i (Point op args) h = h
 earlier d i (Delay x back max) h = h
 earlier d i (Back group k) h = tt
 earlier d i (Member group k) h = tt
+earlier d i (Read table r) h = h
+earlier d i (Write table w x r) h = h

@@ -1,17 +1,17 @@
 -- A list in which each item stands once, and one that is inserted.
 use Rattle.std.proofs.Common.{◌≡◌, ◌⊎◌, inl, inr, ℕ, zero, suc, ◌+◌, ◌<◌, cond, List, [], ◌∷◌, ◌++◌, length, get_or, refl, sym, ap, ◌∙◌, subst, arith, Bool}
-use Rattle.std.proofs.Common.{true, false, slice_get, Some, if◌then◌else◌}
+use Rattle.std.proofs.Common.{true, false, slice_get, Some, if◌then◌else◌, ℤ, nat_lt}
 use Rattle.std.specs.Prelude.{◌||◌, not}
 use Rattle.std.specs.List.{list_any, position_or_len}
-use Rattle.std.proofs.lemmas.Bool.{cases_lt}
+use Rattle.std.proofs.lemmas.Bool.{cases_lt, ltb-true}
 use Rattle.std.proofs.lemmas.List.{length_push, get_or_push, get_or_append_left}
 use Rattle.std.proofs.lemmas.List.Sums.{position_or_len_is, passes_at_first}
 use Rattle.indexmap.specs.IndexSet.{insert_key}
-use Rattle.fv_base.specs.Lists.{IsPrefixOf}
+use Rattle.fv_base.specs.headline.Lists.{IsPrefixOf}
 use Rattle.fv_base.proofs.Lists.{prefix_refl}
 use Rattle.fv_signal.specs.declared.signal.Signal.{Signal}
-use Rattle.fv_share.specs.Drafts.{Draft, AreDistinct, IsPut, BacksStayWithin, put, same}
-use Rattle.fv_share.proofs.Same.{same_equal, same_self}
+use Rattle.fv_share.specs.Drafts.{Draft, with_table, AreDistinct, IsPut, IsTablePut, BacksStayWithin, TablesStand, put, put_table, same, same_list}
+use Rattle.fv_share.proofs.Same.{same_equal, same_self, lists_equal}
 
 or_false : (a b : Bool) → a || b ≡ false → (a ≡ false) × (b ≡ false)
 or_false true b h = absurd cc
@@ -104,6 +104,25 @@ backs_stay_within d n g count h b i k x l e = elim (put_cases d n i x l) [
   | inl p ↦ b i k x p.0 (sym p.1 ∙ e)
   | inr p ↦ h k (sym p ∙ e)
 ]
+
+-- ---- a table
+
+table_by : (d : Draft) (T : List ℤ) (b : Bool) → nat_lt (position_or_len (same_list T) d.tables) (length d.tables) ≡ b → IsTablePut d T (put_table d T)
+table_by d T true f =
+    let t = position_or_len (same_list T) d.tables in
+    let is : (t, d) ≡ put_table d T = sym (ap (λ c. if c then (t, d) else (length d.tables, with_table d T)) f) in
+    subst (IsTablePut d T) is (record {
+      stands = sym (lists_equal T (get_or d.tables t []) (passes_at_first (same_list T) d.tables [] (ltb-true t (length d.tables) f)));
+      keeps = prefix_refl d.tables;
+      rest = refl;
+    })
+table_by d T false f =
+    let t = position_or_len (same_list T) d.tables in
+    let is : (length d.tables, with_table d T) ≡ put_table d T = sym (ap (λ c. if c then (t, d) else (length d.tables, with_table d T)) f) in
+    subst (IsTablePut d T) is (record { stands = get_or_push d.tables T [] (length d.tables) refl; keeps = record { rest = T ∷ []; is = refl }; rest = refl })
+
+pub tables_stand : TablesStand
+tables_stand d T = table_by d T (nat_lt (position_or_len (same_list T) d.tables) (length d.tables)) refl
 
 pub put_stands : (d : Draft) (n : Signal) → IsPut d n (put d n)
 put_stands d n = stands_by d n (list_any (same n) d.signals) refl

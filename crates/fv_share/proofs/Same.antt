@@ -1,5 +1,6 @@
 -- The derived equality of signals is equality.
-use Rattle.std.proofs.Common.{rules, ◌≡◌, ℕ, List, [], ◌∷◌, refl, ap, ap₂, nat_eq, ◌∙◌, arith, Bool, true, false}
+use Rattle.std.specs.Ordering.{int_eq}
+use Rattle.std.proofs.Common.{rules, ◌≡◌, ℕ, ℤ, List, [], ◌∷◌, refl, ap, ap₂, nat_eq, ◌∙◌, arith, Bool, true, false}
 use Rattle.std.proofs.lemmas.Bool.Decides.{nat_tests}
 use Rattle.std.proofs.lemmas.Bool.{eqb-true, eq-eqb}
 use Rattle.std.specs.Prelude.{◌&&◌}
@@ -8,8 +9,8 @@ use denote.Enum.Bare.{same_true, true_same}
 use Rattle.fv_num.specs.declared.op.Op.{Op}
 use Rattle.fv_num.specs.contracts.op.Op.{the_type}
 use Rattle.fv_signal.specs.declared.signal.Signal.{Signal}
-use Rattle.fv_signal.specs.declared.signal.Signal.TheVariants.{Input, Const, Control, Point, Delay, Back, Member}
-use Rattle.fv_share.specs.Drafts.{same}
+use Rattle.fv_signal.specs.declared.signal.Signal.TheVariants.{Input, Const, Control, Point, Delay, Back, Member, Read, Write}
+use Rattle.fv_share.specs.Drafts.{same, same_list}
 
 abbrev same_op : Op → Op → Bool
 same_op = Rattle.fv_num.specs.contracts.op.OpPartialEq.TheImpl.eq-value.it
@@ -45,6 +46,19 @@ ops_self a = true_same the_type a a refl
 delays : {x d max y e most : ℕ} → x ≡ y → d ≡ e → max ≡ most → Delay x d max ≡ Delay y e most
 delays {x} {d} {max} {y} {e} {most} p q r = ap₂ (λ a b. Delay a b max) p q ∙ ap (λ m. Delay y e m) r
 
+writes : {t w x r u a b c : ℕ} → t ≡ u → w ≡ a → x ≡ b → r ≡ c → Write t w x r ≡ Write u a b c
+writes {t} {w} {x} {r} {u} {a} {b} {c} p q m n = ap₂ (λ i j. Write i j x r) p q ∙ ap₂ (λ i j. Write u a i j) m n
+
+-- equal lists of numbers
+ints_same : (a b : ℤ) → int_eq a b ≡ true → a ≡ b
+ints_same a b h = grind (arith, nat_tests)
+
+pub lists_equal : (xs ys : List ℤ) → same_list xs ys ≡ true → xs ≡ ys
+lists_equal [] [] h = refl
+lists_equal [] (y ∷ ys) h = absurd cc
+lists_equal (x ∷ xs) [] h = absurd cc
+lists_equal (x ∷ xs) (y ∷ ys) h = ap₂ (λ a b. a ∷ b) (ints_same x y (and_left _ _ h)) (lists_equal xs ys (and_right _ _ h))
+
 pub same_equal : (x y : Signal) → same x y ≡ true → x ≡ y
 same_equal (Input a) (Input b) h = ap Input (eqb-true a b h)
 same_equal (Const a) (Const b) h = grind (arith, nat_tests)
@@ -58,6 +72,12 @@ same_equal (Delay x d max) (Delay y e most) h =
     delays (eqb-true x y (and_left _ _ p)) (eqb-true d e (and_left _ _ q)) (eqb-true max most (and_right _ _ q))
 same_equal (Back g i) (Back k j) h = grind (arith, nat_tests)
 same_equal (Member g i) (Member k j) h = grind (arith, nat_tests)
+same_equal (Read t r) (Read u q) h = grind (arith, nat_tests)
+same_equal (Write t w x r) (Write u a b c) h =
+    let p : nat_eq t u && (nat_eq w a && (nat_eq x b && nat_eq r c)) ≡ true = h in
+    let q = and_right (nat_eq t u) _ p in
+    let m = and_right (nat_eq w a) _ q in
+    writes (eqb-true t u (and_left _ _ p)) (eqb-true w a (and_left _ _ q)) (eqb-true x b (and_left _ _ m)) (eqb-true r c (and_right _ _ m))
 same_equal x y h = absurd cc
 
 pub same_self : (x : Signal) → same x x ≡ true
@@ -68,3 +88,5 @@ same_self (Point op args) = both _ _ (ops_self op) (lists_self args)
 same_self (Delay x d max) = both _ _ (eq-eqb x x refl) (both _ _ (eq-eqb d d refl) (eq-eqb max max refl))
 same_self (Back g i) = both _ _ (eq-eqb g g refl) (eq-eqb i i refl)
 same_self (Member g i) = both _ _ (eq-eqb g g refl) (eq-eqb i i refl)
+same_self (Read t r) = both _ _ (eq-eqb t t refl) (eq-eqb r r refl)
+same_self (Write t w x r) = both _ _ (eq-eqb t t refl) (both _ _ (eq-eqb w w refl) (both _ _ (eq-eqb x x refl) (eq-eqb r r refl)))

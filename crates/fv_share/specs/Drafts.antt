@@ -1,30 +1,38 @@
 -- Graphs that are being built, in which equal signals stand once (this project's profile).
 use Rattle.std.specs.Prelude.{◌≡◌, ◌≢◌, ℕ, zero, suc, ◌+◌, ◌<◌, ◌≤◌, List, [], ◌∷◌, ◌++◌, length, All, Bool, true, false, slice_index_or, slice_set, map, Vec}
+use Rattle.std.specs.Prelude.{ℤ, nat_lt, if◌then◌else◌}
+use Rattle.std.specs.Ordering.{int_eq}
+use Rattle.std.specs.Cmp.Lexicographic.{pointwise}
 use Rattle.std.specs.declared.alloc.Global.{Global}
 use Rattle.std.specs.List.{position_or_len}
 use Rattle.indexmap.specs.IndexSet.{insert_key}
-use Rattle.fv_base.specs.Lists.{IsPrefixOf}
+use Rattle.fv_base.specs.headline.Lists.{IsPrefixOf}
 use Rattle.fv_signal.specs.declared.signal.Signal.{Signal}
-use Rattle.fv_signal.specs.declared.signal.Signal.TheVariants.{Input, Const, Control, Point, Delay, Back, Member}
-use Rattle.fv_signal.specs.Value.{Graph, IsOrdered, HasNumbers}
+use Rattle.fv_signal.specs.declared.signal.Signal.TheVariants.{Input, Const, Control, Point, Delay, Back, Member, Read, Write}
+use Rattle.fv_signal.specs.headline.Value.{Graph, IsOrdered, HasNumbers, HaveNumbers}
 
--- the signals, the definitions of each group's members, which an open group has not, and which groups are closed
+-- the signals, the definitions of each group's members, which an open group has not, which groups are closed, and the tables
 pub record Draft : Type 0 where
   pub signals : List Signal
   pub groups : List (List ℕ)
   pub closed : List Bool
+  pub tables : List (List ℤ)
 
 -- the lists that rows hold
-abbrev pub lists_in : List (Vec ℕ Global) → List (List ℕ)
-lists_in rows = map (λ (row : Vec ℕ Global). row.items) rows
+abbrev pub lists_in : {A : Type 0} → List (Vec A Global) → List (List A)
+lists_in {A} rows = map (λ (row : Vec A Global). row.items) rows
 
 -- the draft as a graph
 abbrev pub graph_of : Draft → (outputs : List ℕ) → Graph
-graph_of d outs = record { signals = d.signals; groups = d.groups; outputs = outs }
+graph_of d outs = record { signals = d.signals; groups = d.groups; tables = d.tables; outputs = outs }
 
 -- how many members a group has
 abbrev pub width_of : Draft → (group : ℕ) → ℕ
 width_of d group = length (slice_index_or d.groups group [])
+
+-- the numbers of a table, none where it is not there
+abbrev pub table_in : Draft → (table : ℕ) → List ℤ
+table_in d table = slice_index_or d.tables table []
 
 -- the group's members are known
 abbrev pub IsShut : Draft → (group : ℕ) → Type 0
@@ -38,7 +46,7 @@ IsPending d group = (group < length d.groups) × (slice_index_or d.closed group 
 abbrev pub AreClosed : Draft → Type 0
 AreClosed d = (group : ℕ) → group < length d.groups → slice_index_or d.closed group false ≡ true
 
--- the groups and members that a signal names are there: a Back's group is open, or has the member
+-- the groups and members that a signal names are there, a Back's group is open, or has the member, and a table has a number
 abbrev pub NamesSoFar : Draft → Signal → Type 0
 NamesSoFar d (Input k) = Unit {0}
 NamesSoFar d (Const n) = Unit {0}
@@ -47,6 +55,8 @@ NamesSoFar d (Point op args) = Unit {0}
 NamesSoFar d (Delay x back max) = Unit {0}
 NamesSoFar d (Back group k) = (group < length d.groups) × (IsShut d group → k < width_of d group)
 NamesSoFar d (Member group k) = IsShut d group × (k < width_of d group)
+NamesSoFar d (Read table r) = 0 < length (table_in d table)
+NamesSoFar d (Write table w x r) = 0 < length (table_in d table)
 
 -- the operands are there
 abbrev pub OperandsThere : ℕ → Signal → Type 0
@@ -57,6 +67,8 @@ OperandsThere n (Point op args) = All (λ a. a < n) args
 OperandsThere n (Delay x back max) = (x < n) × (back < n)
 OperandsThere n (Back group k) = Unit {0}
 OperandsThere n (Member group k) = Unit {0}
+OperandsThere n (Read table r) = r < n
+OperandsThere n (Write table w x r) = (w < n) × (x < n) × (r < n)
 
 -- what a signal asks of the draft into which it is put
 pub record CanPut (d : Draft) (signal : Signal) : Type 0 where
@@ -79,6 +91,7 @@ pub record IsDraft (d : Draft) : Type 0 where
   pub defined : (group i : ℕ) → group < length d.groups → i < width_of d group → slice_index_or (slice_index_or d.groups group []) i 0 < length d.signals
   pub marked : length d.closed ≡ length d.groups
   pub numbers : HasNumbers (graph_of d [])
+  pub tables : HaveNumbers d.tables
 
 -- two signals are equal
 abbrev pub same : Signal → Signal → Bool
@@ -104,6 +117,34 @@ abbrev pub BacksStayWithin : Type 0
 BacksStayWithin =
     (d : Draft) (signal : Signal) (group members : ℕ) → ((k : ℕ) → signal ≡ Back group k → k < members) → BacksWithin d group members →
     BacksWithin (put d signal).1 group members
+
+-- a table more
+abbrev pub with_table : Draft → List ℤ → Draft
+with_table d T = record d { tables = d.tables ++ T ∷ [] }
+
+-- these tables more
+abbrev pub with_tables : Draft → List (List ℤ) → Draft
+with_tables d tables = record d { tables = d.tables ++ tables }
+
+-- two lists of numbers are equal
+abbrev pub same_list : List ℤ → List ℤ → Bool
+same_list = pointwise int_eq
+
+-- the number of the table that is this list, which the draft gets where it has it not
+abbrev pub put_table : Draft → List ℤ → ℕ × Draft
+put_table d T =
+    let t = position_or_len (same_list T) d.tables in
+    if nat_lt t (length d.tables) then (t, d) else (length d.tables, with_table d T)
+
+-- What putting a table does: the list stands at its number, the others stay where they are, and nothing else changes.
+pub record IsTablePut (d : Draft) (T : List ℤ) (put : ℕ × Draft) : Type 0 where
+  pub stands : table_in put.1 put.0 ≡ T
+  pub keeps : IsPrefixOf d.tables put.1.tables
+  pub rest : put.1 ≡ record d { tables = put.1.tables }
+
+-- each table is put so
+abbrev pub TablesStand : Type 0
+TablesStand = (d : Draft) (T : List ℤ) → IsTablePut d T (put_table d T)
 
 -- an open group more, and its number
 abbrev pub with_group : Draft → ℕ × Draft

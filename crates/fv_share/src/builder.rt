@@ -1,8 +1,12 @@
 // The builder.
 
 ghost use Rattle.std.specs.Prelude.{◌≡◌, ◌↔◌, ℕ, ◌+◌, ◌<◌, [], ◌∷◌, ◌++◌, length, All, IfOk, OnOk, OnErr, slice_index_or, slice_set, true, false, vec_len, ◌^◌};
+ghost use Rattle.std.specs.Prelude.{take, FitsSigned};
+ghost use Rattle.std.specs.Int.{w32};
+ghost use Rattle.std.specs.List.{position_or_len};
 ghost use Rattle.fv_signal.specs.declared.signal.Signal.{Signal as Node};
-ghost use Rattle.fv_signal.specs.Value.{HasNumber, IsGraph};
+ghost use Rattle.fv_signal.specs.headline.Value.{HasNumber, IsGraph};
+ghost use Rattle.fv_share.specs.Drafts.{table_in, with_table, with_tables, same_list, put_table};
 ghost use Rattle.fv_share.specs.Drafts.{CanPut, OperandsThere, IsPending, IsShut, BacksWithin, AreClosed, put, with_group, with_groups, with_members, graph_of, lists_in, CanClose, with_all_members};
 
 use fv_signal::{Graph, Signal, SignalId};
@@ -10,12 +14,13 @@ use indexmap::IndexSet;
 use std::alloc::{AllocError, Global};
 use std::marker::Model;
 
-/// Signals, each of which stands once, and groups of them.
+/// Signals, each of which stands once, groups of them, and tables.
 #[derive(Drop)]
 pub struct Builder {
     signals: IndexSet<Signal>,
     groups: Vec<Vec<SignalId>>,
     closed: Vec<bool>,
+    tables: Vec<Vec<i32>>,
     alloc: Global,
 }
 
@@ -43,19 +48,55 @@ fn number_fits(signal: &Signal)
         | Signal::Point { .. }
         | Signal::Delay { .. }
         | Signal::Back { .. }
-        | Signal::Member { .. } => (),
+        | Signal::Member { .. }
+        | Signal::Read { .. }
+        | Signal::Write { .. } => (),
     }
 }
 
+// A number of a list, which has 32 bits.
+fn number(number: &i32) -> i32
+    ensures same { result ≡ number.now }
+    ensures fits { FitsSigned w32 number.now }
+{
+    let value = *number;
+    value
+}
+
+// The same numbers.
+fn copied(alloc: Global, values: &[i32]) -> Result<Vec<i32>, AllocError>
+    ensures same { IfOk result (λ v. v.items ≡ values.now) }
+    ensures numbers { OnOk result (All (λ n. FitsSigned w32 n) values.now) }
+{
+    let mut numbers = Vec::new(alloc);
+    for i in 0..values.len() {
+        numbers.push(number(&values[i]))?;
+    }
+    Ok(numbers)
+}
+
+// The place of the first table that is this list, or the number of tables.
+fn place_of(tables: &[Vec<i32>], values: &[i32]) -> usize
+    ensures { result ≡ position_or_len (same_list values.now) (lists_in tables.now) }
+{
+    for (i, table) in tables.iter().enumerate() {
+        if values == table.as_slice() {
+            return i;
+        }
+    }
+    tables.len()
+}
+
 impl Builder {
-    /// No signals and no groups.
+    /// No signals, no groups and no tables.
     pub fn new(alloc: Global) -> Builder
-        ensures { result ≡ record { signals = []; groups = []; closed = [] } }
+        ensures { result ≡ record { signals = []; groups = []; closed = []; tables = [] } }
     {
         Builder {
             signals: IndexSet::new(alloc),
             groups: Vec::new(alloc),
             closed: Vec::new(alloc),
+            tables: Vec::new(alloc),
             alloc,
         }
     }
@@ -84,6 +125,52 @@ impl Builder {
             Some(signal) => *signal,
             None => unreachable!(),
         }
+    }
+
+    /// The number of a table with these numbers, which is kept where it is not there.
+    pub fn table(&mut self, values: &[i32]) -> Result<u64, AllocError>
+        ensures put { IfOk result (λ t. (t, self.new) ≡ put_table self.old values.now) }
+        ensures there { IfOk result (λ t. table_in self.new t ≡ values.now) }
+        ensures err { OnErr result (self.new ≡ self.old) }
+    {
+        let place = place_of(&self.tables, values);
+        if place < self.tables.len() {
+            return Ok(place as u64);
+        }
+        let place = self.tables.len() as u64;
+        self.keep(values)?;
+        Ok(place)
+    }
+
+    /// Keeps all tables of a graph, one after another. The first one's number.
+    pub fn add_tables(&mut self, graph: &Graph) -> Result<u64, AllocError>
+        ensures first { IfOk result (λ first. first ≡ length self.old.tables) }
+        ensures ok { OnOk result (self.new ≡ with_tables self.old graph.now.tables) }
+        // Where one finds no room, those before it are there.
+        ensures err { OnErr result ((n : ℕ) × (n < length graph.now.tables) × (self.new ≡ with_tables self.old (take n graph.now.tables))) }
+    {
+        let first = self.tables.len() as u64;
+        for table in 0..graph.tables() {
+            self.keep(graph.table(table))?;
+        }
+        Ok(first)
+    }
+
+    /// The number of its tables.
+    pub fn tables(&self) -> u64
+        ensures { result ≡ length self.now.tables }
+    {
+        self.tables.len() as u64
+    }
+
+    // Keeps one table more.
+    fn keep(&mut self, values: &[i32]) -> Result<(), AllocError>
+        ensures ok { OnOk result (self.new ≡ with_table self.old values.now) }
+        ensures err { OnErr result (self.new ≡ self.old) }
+    {
+        let numbers = copied(self.alloc, values)?;
+        self.tables.push(numbers)?;
+        Ok(())
     }
 
     /// The number of a new group.
@@ -168,6 +255,6 @@ impl Builder {
     {
         let signals = self.signals.iter().copied().collect(self.alloc)?;
         let outs = outputs.iter().copied().collect(self.alloc)?;
-        Ok(Graph::new(signals, self.groups, outs))
+        Ok(Graph::new(signals, self.groups, self.tables, outs))
     }
 }

@@ -1,10 +1,15 @@
 // Laws on what is put.
 
-ghost use Rattle.fv_share.specs.Drafts.{PutsStand, BacksStayWithin, GroupsStay};
+ghost use Rattle.fv_share.specs.Drafts.{PutsStand, TablesStand, BacksStayWithin, GroupsStay};
 
 /// A signal that is put stands at its place, and the others stay where they are.
 pub fn puts_stand()
     ensures { PutsStand }
+{}
+
+/// A table that is put stands at its number, and the others stay where they are.
+pub fn tables_stand()
+    ensures { TablesStand }
 {}
 
 /// The Backs of a group stay within so many members, where what is put does.

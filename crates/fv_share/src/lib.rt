@@ -5,4 +5,4 @@ mod builder;
 mod laws;
 
 pub use builder::Builder;
-pub use laws::{backs_stay_within, groups_stay, puts_stand};
+pub use laws::{backs_stay_within, groups_stay, puts_stand, tables_stand};

@@ -3,14 +3,16 @@ use Rattle.std.proofs.Common.{◌≡◌, ℕ, zero, suc, ◌<◌, ◌≤◌, Lis
 use Rattle.std.proofs.lemmas.Bool.{cases_lt}
 use Rattle.std.proofs.lemmas.List.{get_or_append_left, length-append}
 use Rattle.std.proofs.lemmas.List.Elements.{All-head, All-tail}
-use Rattle.fv_num.specs.Words.{apply_of, inputs_of}
-use Rattle.fv_num.specs.Frames.{Frame, Stream, back, delayed}
+use Rattle.fv_num.specs.headline.Words.{apply_of, inputs_of}
+use Rattle.fv_num.specs.headline.Frames.{Frame, Stream, back, delayed}
 use Rattle.fv_signal.specs.declared.signal.Signal.{Signal}
-use Rattle.fv_signal.specs.declared.signal.Signal.TheVariants.{Input, Const, Control, Point, Delay, Back, Member}
-use Rattle.fv_signal.specs.Value.{Graph, definition, clamped, signal_at, value, OperandsBelow, IsOrdered, NamesWithin, IsClosed, Solves, SolutionsAreValues}
+use Rattle.fv_signal.specs.declared.signal.Signal.TheVariants.{Input, Const, Control, Point, Delay, Back, Member, Read, Write}
+use Rattle.fv_signal.specs.headline.Value.{Graph, definition, table_of, clamped, signal_at, value, OperandsBelow, IsOrdered, NamesWithin, IsClosed}
+use Rattle.fv_signal.specs.Value.{Solves, SolutionsAreValues}
 use Rattle.fv_signal.specs.Value.{ReadsOnly, AreClosedSet, SolvesOn, SolutionsAreValuesOn, ValuesLookBack, GrowthKeepsValues}
+use Rattle.fv_num.specs.headline.Tables.{read_at, written_at}
 use Rattle.fv_num.proofs.Valued.{valuation_same}
-use Rattle.fv_signal.proofs.Values.{back_same, delayed_same, values_are_given}
+use Rattle.fv_signal.proofs.Values.{back_same, delayed_same, upto_now, written_same, values_are_given}
 use Rattle.std.specs.Prelude.{take}
 
 -- the operands that an operation takes
@@ -49,6 +51,10 @@ module _ (g : Graph) (ordered : IsOrdered g) (closed : IsClosed g) (P : ℕ → 
       ∙ ap (λ k. back (w x) t (clamped max k)) (q y h.1 o.1)
   here i t (Back group k) h d o m p q = delayed_same (v (definition g group k)) (w (definition g group k)) t (λ u l. p (definition g group k) u d.2 o l)
   here i t (Member group k) h d o m p q = q (definition g group k) h o
+  here i t (Read table r) h d o m p q = ap (read_at (table_of g table)) (q r h o)
+  here i t (Write table a x r) h d o m p q =
+      let same : (s : ℕ) → s < i → P s → (u : ℕ) → u ≤ t → v s u ≡ w s u = λ s l k. upto_now (v s) (w s) t (λ u n. p s u (omega (arith, l)) k n) (q s l k) in
+      written_same (table_of g table) (v a) (w a) (v x) (w x) (v r) (w r) t (same a h.0 o.0) (same x h.1 o.1) (q r h.2 o.2)
 
   none : Signal
   none = Const (pos 0)
@@ -92,6 +98,8 @@ reads_any g (Point op args) = λ k d l. tt
 reads_any g (Delay x d max) = (tt, tt)
 reads_any g (Back group k) = tt
 reads_any g (Member group k) = tt
+reads_any g (Read table r) = tt
+reads_any g (Write table w x r) = (tt, tt, tt)
 
 pub solutions_are_values : (g : Graph) → SolutionsAreValues g
 solutions_are_values g ordered closed X c v solves s t l =
@@ -108,6 +116,8 @@ values_look_back g X Y c d n p q s t l = valuation_same (signal_at g X c) (signa
     same v (Delay x y max) u m = refl
     same v (Back group i) u m = refl
     same v (Member group i) u m = refl
+    same v (Read table k) u m = refl
+    same v (Write table w x k) u m = refl
 
 pub growth_keeps_values : (g h : Graph) → GrowthKeepsValues g h
 growth_keeps_values g h ordered closed grows e X c s t l = solutions_are_values g ordered closed X c v solves s t l
@@ -126,6 +136,8 @@ growth_keeps_values g h ordered closed grows e X c s t l = solutions_are_values 
     node_same (Delay x d max) t n = refl
     node_same (Back group i) t n = ap (λ k. delayed (v k) t) (e.definitions group i n.0 n.1)
     node_same (Member group i) t n = ap (λ k. v k t) (e.definitions group i n.0 n.1)
+    node_same (Read table k) t n = ap (λ T. read_at T (v k t)) (e.tables table n)
+    node_same (Write table w x k) t n = ap (λ T. written_at T (v w) (v x) t (v k t)) (e.tables table n)
 
     solves : Solves g X c v
     solves s d t l =

@@ -1,5 +1,5 @@
+pub mod headline
 pub mod Value
 pub mod Rows
-pub mod Grown
 pub mod Rates
 pub mod Examples

@@ -1,40 +1,47 @@
 // Graphs.
 
 ghost use Rattle.std.specs.Prelude.{◌≡◌, ◌↔◌, ◌<◌, [], length, slice_index_or, IsTrue};
-ghost use Rattle.fv_signal.specs.Value.{IsGraph, OperandsBelow, NamesWithin, members};
+ghost use Rattle.fv_signal.specs.headline.Value.{IsGraph, OperandsBelow, NamesWithin, members, table_of};
 ghost use Rattle.fv_signal.specs.Rows.{graph_with};
 
 use crate::signal::{Signal, SignalId};
 use std::marker::Model;
 
-/// Signals, the definitions of the members of each group, and the program's outputs.
+/// Signals, the definitions of the members of each group, tables, and the program's outputs.
 #[derive(Drop)]
 pub struct Graph {
     signals: Vec<Signal>,
     groups: Vec<Vec<SignalId>>,
+    tables: Vec<Vec<i32>>,
     outputs: Vec<SignalId>,
 }
 
 impl Model for Graph {
-    ghost use Rattle.fv_signal.specs.Value.{Graph as SignalGraph, IsGraph};
+    ghost use Rattle.fv_signal.specs.headline.Value.{Graph as SignalGraph, IsGraph};
     ghost use Rattle.fv_signal.specs.Rows.{graph_with};
 
     ghost Value = { SignalGraph };
 
-    ghost view = { λ a. graph_with a.signals.items a.groups.items a.outputs.items };
+    ghost view = { λ a. graph_with a.signals.items a.groups.items a.tables.items a.outputs.items };
 
-    ghost invariant = { λ a. IsGraph (graph_with a.signals.items a.groups.items a.outputs.items) };
+    ghost invariant = { λ a. IsGraph (graph_with a.signals.items a.groups.items a.tables.items a.outputs.items) };
 }
 
 impl Graph {
-    /// The graph of these signals, definitions and outputs.
-    pub fn new(signals: Vec<Signal>, groups: Vec<Vec<SignalId>>, outputs: Vec<SignalId>) -> Graph
-        requires { IsGraph (graph_with signals.items groups.items outputs.items) }
-        ensures { result ≡ graph_with signals.items groups.items outputs.items }
+    /// The graph of these signals, definitions, tables and outputs.
+    pub fn new(
+        signals: Vec<Signal>,
+        groups: Vec<Vec<SignalId>>,
+        tables: Vec<Vec<i32>>,
+        outputs: Vec<SignalId>,
+    ) -> Graph
+        requires { IsGraph (graph_with signals.items groups.items tables.items outputs.items) }
+        ensures { result ≡ graph_with signals.items groups.items tables.items outputs.items }
     {
         Graph {
             signals,
             groups,
+            tables,
             outputs,
         }
     }
@@ -58,6 +65,21 @@ impl Graph {
         ensures { result ≡ length self.now.groups }
     {
         self.groups.len() as u64
+    }
+
+    /// The number of its tables.
+    pub fn tables(&self) -> u64
+        ensures { result ≡ length self.now.tables }
+    {
+        self.tables.len() as u64
+    }
+
+    /// The numbers of a table.
+    pub fn table(&self, table: u64) -> &[i32]
+        requires { table < length self.now.tables }
+        ensures { result.now ≡ table_of self.now table }
+    {
+        &self.tables[table as usize]
     }
 
     /// A signal. Its operands are earlier ones, and what it names is there.

@@ -1,6 +1,8 @@
 // The laws of a graph's values and rates.
 
-ghost use Rattle.fv_signal.specs.Value.{Graph, ValuesAreGiven, SolutionsAreValues, SolutionsAreValuesOn, ValuesLookBack, GrowthKeepsValues};
+ghost use Rattle.fv_signal.specs.headline.Value.{Graph};
+
+ghost use Rattle.fv_signal.specs.Value.{ValuesAreGiven, SolutionsAreValues, SolutionsAreValuesOn, ValuesLookBack, GrowthKeepsValues};
 ghost use Rattle.fv_signal.specs.Rates.{ConstantsStay, ControlsDecide};
 
 /// The value of each signal is what its node gives.

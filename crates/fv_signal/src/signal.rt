@@ -47,11 +47,36 @@ pub enum Signal {
     /// The value of the control with this number.
     Control(u32),
     /// An operation on the first of its operands, as many as it takes.
-    Point { op: Op, args: [SignalId; 4] },
+    Point {
+        op: Op,
+        args: [SignalId; 4],
+    },
     /// x as many samples earlier as d says, from 0 to the greatest; 0 before time 0.
-    Delay { x: SignalId, d: SignalId, max: u32 },
+    Delay {
+        x: SignalId,
+        d: SignalId,
+        max: u32,
+    },
     /// A member of a group one sample earlier, 0 at time 0.
-    Back { group: u64, i: u64 },
+    Back {
+        group: u64,
+        i: u64,
+    },
     /// A member of a group.
-    Member { group: u64, i: u64 },
+    Member {
+        group: u64,
+        i: u64,
+    },
+    /// The item of a table at r, clamped to the table.
+    Read {
+        table: u64,
+        r: SignalId,
+    },
+    /// The item at r of a table in which x is put at w at each time, this one too. Both places are clamped to the table.
+    Write {
+        table: u64,
+        w: SignalId,
+        x: SignalId,
+        r: SignalId,
+    },
 }

@@ -32,7 +32,7 @@ fn sum(alloc: Global) -> Result<Graph, AllocError>
     let group = Vec::from_array(alloc, [sum])?;
     let groups = Vec::from_array(alloc, [group])?;
     let outputs = Vec::from_array(alloc, [output])?;
-    let graph = Graph::new(signals, groups, outputs);
+    let graph = Graph::new(signals, groups, Vec::new(alloc), outputs);
     Ok(graph)
 }
 

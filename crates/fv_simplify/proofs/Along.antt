@@ -5,13 +5,13 @@ use Rattle.std.specs.Prelude.{Option}
 use Rattle.std.proofs.lemmas.Bool.{cases_lt}
 use Rattle.std.proofs.lemmas.List.{get_or_append_left, get_or_push, get_or_past, length_push, length-append, append_assoc}
 use Rattle.std.proofs.lemmas.List.Elements.{All-head, All-tail, All-get_or, All-from_get_or, All-map}
-use Rattle.fv_base.specs.Lists.{IsPrefixOf}
+use Rattle.fv_base.specs.headline.Lists.{IsPrefixOf}
 use Rattle.fv_base.proofs.Lists.{prefix_refl, prefix_trans}
 use Rattle.fv_num.specs.declared.op.Op.{Op}
-use Rattle.fv_num.specs.Words.{apply_of, inputs_of}
+use Rattle.fv_num.specs.headline.Words.{apply_of, inputs_of}
 use Rattle.fv_signal.specs.declared.signal.Signal.{Signal}
-use Rattle.fv_signal.specs.declared.signal.Signal.TheVariants.{Input, Const, Control, Point, Delay, Back, Member}
-use Rattle.fv_signal.specs.Value.{Graph, definition, OperandsBelow, IsOrdered, IsGraph}
+use Rattle.fv_signal.specs.declared.signal.Signal.TheVariants.{Input, Const, Control, Point, Delay, Back, Member, Read, Write}
+use Rattle.fv_signal.specs.headline.Value.{Graph, definition, OperandsBelow, IsOrdered, IsGraph}
 use Rattle.fv_share.specs.Drafts.{Draft, put}
 use Rattle.fv_share.proofs.Puts.{put_stands}
 use Rattle.fv_simplify_rules.specs.Choices.{choice}
@@ -63,6 +63,8 @@ after_image g images room d (Const z) = after_put d (Const z)
 after_image g images room d (Control k) = after_put d (Control k)
 after_image g images room d (Back group k) = after_put d (Back group k)
 after_image g images room d (Member group k) = prefix_refl d.signals
+after_image g images room d (Read table r) = after_put d (Read table (get_or images r 0))
+after_image g images room d (Write table w x r) = after_put d (Write table (get_or images w 0) (get_or images x 0) (get_or images r 0))
 after_image g images room d (Delay x by most) = after_delay d (room x) (get_or images x 0) (get_or images by 0) most (number_at (so_far d) (get_or images by 0))
 after_image g images room d (Point op args) =
     let ws = map (λ a. get_or images a 0) args in after_operation d op ws (numbers (so_far d) (take (inputs_of op) ws))
@@ -124,6 +126,8 @@ within_image g images room d (Const k) w z o t = within_put d (Const k)
 within_image g images room d (Control k) w z o t = within_put d (Control k)
 within_image g images room d (Back group k) w z o t = within_put d (Back group k)
 within_image g images room d (Member group k) w z o t = t (definition g group k) o
+within_image g images room d (Read table r) w z o t = within_put d (Read table (get_or images r 0))
+within_image g images room d (Write table k x r) w z o t = within_put d (Write table (get_or images k 0) (get_or images x 0) (get_or images r 0))
 within_image g images room d (Delay x by most) w z o t =
     within_delay d (room x) (get_or images x 0) (get_or images by 0) most (number_at (so_far d) (get_or images by 0)) w (t x o.0)
 within_image g images room d (Point op args) w z o t =
@@ -189,6 +193,9 @@ module _ (g : Graph) (marks : List Bool) (room : ℕ → Option ℕ) where
   same_image f p q k (Control j) i o e not_back h = h
   same_image f p q k (Back group j) i o e not_back h = absurd (not_back group j refl)
   same_image f p q k (Member group j) i o e not_back h = h ∙ e (definition g group j) o
+  same_image f p q k (Read table r) i o e not_back h = h ∙ ap (Read table) (e r o)
+  same_image f p q k (Write table w x r) i o e not_back h =
+      h ∙ ap (λ a. Write table a (p x) (p r)) (e w o.0) ∙ ap₂ (λ a b. Write table (q w) a b) (e x o.1) (e r o.2)
   same_image f p q k (Point op args) i o e not_back h = (h.0, subst (λ ws. IsPointImage f op ws i) (map_alike k p q args o e) h.1)
   same_image f p q k (Delay x d most) i o e not_back h =
       subst (λ (w : ℕ × ℕ). IsDelayImage f (room x) w.0 w.1 most i) (ap₂ (λ a b. let w : ℕ × ℕ = (a, b) in w) (e x o.0) (e d o.1)) h
@@ -254,6 +261,8 @@ module _ (g : Graph) (marks : List Bool) (room : ℕ → Option ℕ) where
         go (Point op args) q w = other (Point op args) q w (λ group j b. absurd cc)
         go (Delay x d most) q w = other (Delay x d most) q w (λ group j b. absurd cc)
         go (Member grp j) q w = other (Member grp j) q w (λ group j b. absurd cc)
+        go (Read table j) q w = other (Read table j) q w (λ group j b. absurd cc)
+        go (Write table a x j) q w = other (Write table a x j) q w (λ group j b. absurd cc)
 
     -- each of the images is there
     there_after : (s t : Pass) (n : Signal) → Steps s n t → OperandsBelow g (length s.images) n

@@ -6,12 +6,12 @@ use Rattle.std.specs.Prelude.{Option, Result, Ok, Err, IfOk, OnOk}
 use Rattle.std.proofs.lemmas.Bool.{cases_lt}
 use Rattle.std.proofs.lemmas.List.{length_push, get_or_push, get_or_append_left, length-append, length-map, length-take, map_push}
 use Rattle.std.proofs.lemmas.List.Elements.{All-get_or, All-from_get_or, All-map, All-take}
-use Rattle.fv_base.specs.Lists.{table}
+use Rattle.fv_base.specs.headline.Lists.{table}
 use Rattle.fv_base.proofs.Lists.{length_table, get_or_table}
 use Rattle.fv_signal.specs.declared.signal.Signal.{Signal}
 use Rattle.fv_signal.specs.declared.signal.Signal.TheVariants.{Const}
-use Rattle.fv_signal.specs.Value.{Graph, members, definition, IsGraph}
-use Rattle.fv_share.specs.Drafts.{AreClosed, AreShut, BacksWithin, CanClose, graph_of, lists_in, with_groups, with_all_members}
+use Rattle.fv_signal.specs.headline.Value.{Graph, members, definition, IsGraph}
+use Rattle.fv_share.specs.Drafts.{AreClosed, AreShut, BacksWithin, CanClose, graph_of, lists_in, with_groups, with_tables, with_all_members}
 use Rattle.fv_share.proofs.Groups.{groups_stay}
 use Rattle.fv_share.proofs.Puts.{put_stands}
 use Rattle.fv_simplify_rules.specs.Rebuilt.{IsMarked, IsRebuilt}
@@ -60,7 +60,7 @@ module _ (g : Graph) (marks : List Bool) (room : ℕ → Option ℕ) where
   pub some_signals : (ns : List Signal) → 0 < length (steps g marks room (begun g) ns).draft.signals
   some_signals ns =
       let grow = (steps_grow g marks room (begun g) ns).0 in
-      let first = (put_stands (with_groups nothing (length g.groups)) (Const (pos 0))).within in
+      let first = (put_stands (with_tables (with_groups nothing (length g.groups)) g.tables) (Const (pos 0))).within in
       omega (arith, first, ap length grow.is ∙ length-append (begun g).draft.signals grow.rest)
 
   pub passed_long : length (passed g marks room).images ≡ length g.signals

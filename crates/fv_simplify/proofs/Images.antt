@@ -6,12 +6,12 @@ use Rattle.std.proofs.lemmas.Bool.{eqb-true, eq-eqb}
 use Rattle.std.proofs.lemmas.Bool.Decides.{Decides-int_eq}
 use Rattle.std.proofs.lemmas.List.{get_or_append_left, length-append, append_assoc}
 use Rattle.std.proofs.lemmas.List.Elements.{All-head, All-tail, All-take, All-map, All-get_or, All-from_get_or}
-use Rattle.fv_base.specs.Lists.{IsPrefixOf}
+use Rattle.fv_base.specs.headline.Lists.{IsPrefixOf}
 use Rattle.fv_num.specs.declared.op.Op.{Op}
-use Rattle.fv_num.specs.Words.{apply_of, inputs_of}
+use Rattle.fv_num.specs.headline.Words.{apply_of, inputs_of}
 use Rattle.fv_signal.specs.declared.signal.Signal.{Signal}
-use Rattle.fv_signal.specs.declared.signal.Signal.TheVariants.{Input, Const, Control, Point, Delay, Back, Member}
-use Rattle.fv_signal.specs.Value.{Graph, definition, OperandsBelow, IsOrdered}
+use Rattle.fv_signal.specs.declared.signal.Signal.TheVariants.{Input, Const, Control, Point, Delay, Back, Member, Read, Write}
+use Rattle.fv_signal.specs.headline.Value.{Graph, definition, OperandsBelow, IsOrdered}
 use Rattle.fv_share.specs.Drafts.{Draft, put}
 use Rattle.fv_share.proofs.Puts.{put_stands}
 use Rattle.fv_simplify_rules.specs.Choices.{choice}
@@ -65,6 +65,8 @@ module _ (f : Graph) (ordered : IsOrdered f) where
       go (Point op args) o = refl
       go (Back group k) o = refl
       go (Member group k) o = refl
+      go (Read table k) o = refl
+      go (Write table w y k) o = refl
 
   -- what is put stands there
   pub put_at : (d : Draft) (n : Signal) → Has (put d n).1 → node f (put d n).0 ≡ n
@@ -210,6 +212,8 @@ module _ (f : Graph) (ordered : IsOrdered f) where
   image_is g images room d (Control k) o there h w back = put_at d (Control k) h
   image_is g images room d (Back group k) o there h w back = (put_at d (Back group k) h, back group k refl)
   image_is g images room d (Member group k) o there h w back = refl
+  image_is g images room d (Read table r) o there h w back = put_at d (Read table (get_or images r 0)) h
+  image_is g images room d (Write table k x r) o there h w back = put_at d (Write table (get_or images k 0) (get_or images x 0) (get_or images r 0)) h
   image_is g images room d (Delay x by most) o there h w back =
       delay_is d (room x) (get_or images x 0) (get_or images by 0) most (number_at (so_far d) (get_or images by 0)) refl (there x o.0) (there by o.1) h
   image_is g images room d (Point op args) o there h w back =

@@ -5,10 +5,10 @@ use Rattle.std.specs.Prelude.{Option}
 use Rattle.std.proofs.lemmas.Bool.{cases_lt}
 use Rattle.std.proofs.lemmas.List.{get_or_append_left, get_or_push, length_push}
 use Rattle.fv_num.specs.declared.op.Op.{Op}
-use Rattle.fv_num.specs.Words.{apply_of, inputs_of}
+use Rattle.fv_num.specs.headline.Words.{apply_of, inputs_of}
 use Rattle.fv_signal.specs.declared.signal.Signal.{Signal}
-use Rattle.fv_signal.specs.declared.signal.Signal.TheVariants.{Input, Const, Control, Point, Delay, Back, Member}
-use Rattle.fv_signal.specs.Value.{Graph, definition}
+use Rattle.fv_signal.specs.declared.signal.Signal.TheVariants.{Input, Const, Control, Point, Delay, Back, Member, Read, Write}
+use Rattle.fv_signal.specs.headline.Value.{Graph, definition}
 use Rattle.fv_share.specs.Drafts.{Draft, put, IsPut}
 use Rattle.fv_share.proofs.Puts.{put_stands}
 use Rattle.fv_simplify_rules.specs.Choices.{choice}
@@ -75,6 +75,8 @@ fresh_image g images room d (Const k) = fresh_put d (Const k)
 fresh_image g images room d (Control k) = fresh_put d (Control k)
 fresh_image g images room d (Back group k) = fresh_put d (Back group k)
 fresh_image g images room d (Member group k) = old_only d (get_or images (definition g group k) 0)
+fresh_image g images room d (Read table r) = fresh_put d (Read table (get_or images r 0))
+fresh_image g images room d (Write table w x r) = fresh_put d (Write table (get_or images w 0) (get_or images x 0) (get_or images r 0))
 fresh_image g images room d (Delay x by most) = fresh_delay d (room x) (get_or images x 0) (get_or images by 0) most (number_at (so_far d) (get_or images by 0))
 fresh_image g images room d (Point op args) = let ws = map (λ a. get_or images a 0) args in
     fresh_operation d op ws (numbers (so_far d) (take (inputs_of op) ws))

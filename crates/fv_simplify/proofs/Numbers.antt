@@ -4,9 +4,9 @@ use Rattle.std.specs.Prelude.{Option}
 use Rattle.std.specs.Option.{option_map}
 use Rattle.fv_num.specs.declared.op.Op.{Op}
 use Rattle.fv_num.specs.declared.op.Op.TheVariants.{Abs, Select2, Select3}
-use Rattle.fv_num.specs.Words.{apply_of, inputs_of}
+use Rattle.fv_num.specs.headline.Words.{apply_of, inputs_of}
 use Rattle.fv_signal.specs.declared.signal.Signal.TheVariants.{Const}
-use Rattle.fv_signal.specs.Value.{Graph}
+use Rattle.fv_signal.specs.headline.Value.{Graph}
 use Rattle.fv_share.specs.Drafts.{Draft, put}
 use Rattle.fv_simplify_rules.specs.Choices.{left_by, or_else, choice, pair}
 use Rattle.fv_simplify_rules.specs.Nodes.{number_at, known, before, numbers}

@@ -1,14 +1,15 @@
 -- What a pass leaves as it is: the groups, which stay open, and how many members their Backs name.
-use Rattle.std.proofs.Common.{◌≡◌, ℕ, zero, suc, ◌+◌, ◌<◌, List, [], ◌∷◌, length, take, map, get_or, refl, sym, ap, ◌∙◌, subst, arith, ℤ, pos, Some, None}
+use Rattle.std.proofs.Common.{◌≡◌, ℕ, zero, suc, ◌+◌, ◌<◌, List, [], ◌∷◌, ◌++◌, length, take, map, get_or, refl, sym, ap, ◌∙◌, subst, arith, ℤ, pos, Some, None}
 use Rattle.std.proofs.Common.{true, false, Bool, if◌then◌else◌, nat_eq}
 use Rattle.std.specs.Prelude.{Option}
+use Rattle.std.proofs.lemmas.Int.{ints}
 use Rattle.std.proofs.lemmas.List.{length_push}
 use Rattle.fv_num.specs.declared.op.Op.{Op}
-use Rattle.fv_num.specs.Words.{apply_of, inputs_of}
+use Rattle.fv_num.specs.headline.Words.{apply_of, inputs_of}
 use Rattle.fv_signal.specs.declared.signal.Signal.{Signal}
-use Rattle.fv_signal.specs.declared.signal.Signal.TheVariants.{Input, Const, Control, Point, Delay, Back, Member}
-use Rattle.fv_signal.specs.Value.{Graph}
-use Rattle.fv_share.specs.Drafts.{Draft, IsDraft, IsPending, BacksWithin, put, with_groups}
+use Rattle.fv_signal.specs.declared.signal.Signal.TheVariants.{Input, Const, Control, Point, Delay, Back, Member, Read, Write}
+use Rattle.fv_signal.specs.headline.Value.{Graph}
+use Rattle.fv_share.specs.Drafts.{Draft, IsDraft, IsPending, BacksWithin, put, with_groups, with_tables}
 use Rattle.fv_share.proofs.Puts.{backs_stay_within}
 use Rattle.fv_share.proofs.Groups.{groups_stay}
 use Rattle.fv_simplify_rules.specs.Choices.{choice}
@@ -18,9 +19,9 @@ use Rattle.fv_simplify.specs.Passing.{so_far, is_zero, put_late, late, delayed_b
 use Rattle.fv_simplify.specs.Runs.{Pass, step, steps, nothing, begun}
 use Rattle.fv_simplify.proofs.Along.{Steps, stepped}
 
--- the groups, and which are closed
-abbrev pub rest_of : Draft → List (List ℕ) × List Bool
-rest_of d = (d.groups, d.closed)
+-- the groups, which of them are closed, and the tables
+abbrev pub rest_of : Draft → List (List ℕ) × List Bool × List (List ℤ)
+rest_of d = (d.groups, d.closed, d.tables)
 
 late_rest : (d : Draft) (x by : ℕ) (b : Bool) → rest_of (let r : ℕ × Draft = if b then (x, d) else put_late d x by in r.1) ≡ rest_of d
 late_rest d x by true = refl
@@ -53,6 +54,8 @@ image_rest g images room d (Const k) = refl
 image_rest g images room d (Control k) = refl
 image_rest g images room d (Back group k) = refl
 image_rest g images room d (Member group k) = refl
+image_rest g images room d (Read table r) = refl
+image_rest g images room d (Write table w x r) = refl
 image_rest g images room d (Delay x by most) =
     delay_rest d (room x) (get_or images x 0) (get_or images by 0) most (number_at (so_far d) (get_or images by 0))
 image_rest g images room d (Point op args) = let ws = map (λ a. get_or images a 0) args in folded_rest d op ws (numbers (so_far d) (take (inputs_of op) ws))
@@ -79,7 +82,17 @@ module _ (g : Graph) (marks : List Bool) (room : ℕ → Option ℕ) where
     defined = λ k i l m. absurd (omega (arith, l));
     marked = refl;
     numbers = λ i x l. absurd (omega (arith, l));
+    tables = λ t i. omega (arith, ints);
   }
+
+  no_tables : (n : ℕ) → (with_groups nothing n).tables ≡ []
+  no_tables zero = refl
+  no_tables (suc n) = no_tables n
+
+  -- the tables are those of the graph
+  pub are_tabled : (ns : List Signal) → (steps g marks room (begun g) ns).draft.tables ≡ g.tables
+  are_tabled ns =
+      ap (λ (r : List (List ℕ) × List Bool × List (List ℤ)). r.2) (steps_rest (begun g) ns) ∙ ap (λ ts. ts ++ g.tables) (no_tables (length g.groups))
 
   marked_at : (n : ℕ) → length (with_groups nothing n).closed ≡ length (with_groups nothing n).groups
   marked_at zero = refl
@@ -88,7 +101,7 @@ module _ (g : Graph) (marks : List Bool) (room : ℕ → Option ℕ) where
   -- each group has its mark
   pub are_marked : (ns : List Signal) → let d = (steps g marks room (begun g) ns).draft in length d.closed ≡ length d.groups
   are_marked ns =
-      subst (λ (r : List (List ℕ) × List Bool). length r.1 ≡ length r.0) (sym (steps_rest (begun g) ns)) (marked_at (length g.groups))
+      subst (λ (r : List (List ℕ) × List Bool × List (List ℤ)). length r.1 ≡ length r.0) (sym (steps_rest (begun g) ns)) (marked_at (length g.groups))
 
   -- and waits for its members
   pub are_pending : (ns : List Signal) (k : ℕ) → k < length g.groups → IsPending (steps g marks room (begun g) ns).draft k
@@ -98,7 +111,7 @@ module _ (g : Graph) (marks : List Bool) (room : ℕ → Option ℕ) where
       let at : 0 + k ≡ k = omega arith in
       let there : (k < length (with_groups nothing n).groups) × (get_or (with_groups nothing n).closed k false ≡ false) =
       subst (λ j. IsPending (with_groups nothing n) j) at (o.pending k l) in
-      subst (λ (r : List (List ℕ) × List Bool). (k < length r.0) × (get_or r.1 k false ≡ false)) (sym (steps_rest (begun g) ns)) there
+      subst (λ (r : List (List ℕ) × List Bool × List (List ℤ)). (k < length r.0) × (get_or r.1 k false ≡ false)) (sym (steps_rest (begun g) ns)) there
 
   -- there are as many groups
   pub groups_long : (ns : List Signal) → length (steps g marks room (begun g) ns).draft.groups ≡ length g.groups
@@ -106,7 +119,7 @@ module _ (g : Graph) (marks : List Bool) (room : ℕ → Option ℕ) where
       let n = length g.groups in
       let o = (groups_stay nothing).0 nothing_is_draft n in
       let long : length (with_groups nothing n).groups ≡ n = omega (arith, o.long) in
-      ap (λ (r : List (List ℕ) × List Bool). length r.0) (steps_rest (begun g) ns) ∙ long
+      ap (λ (r : List (List ℕ) × List Bool × List (List ℤ)). length r.0) (steps_rest (begun g) ns) ∙ long
 
 -- ---- Backs
 
@@ -151,6 +164,9 @@ module _ (group width : ℕ) where
   image_backs g images room d (Control j) w h = put_other d (Control j) (λ k e. absurd cc) h
   image_backs g images room d (Back other j) w h = backs_stay_within d (Back other j) group width w h
   image_backs g images room d (Member other j) w h = h
+  image_backs g images room d (Read table r) w h = put_other d (Read table (get_or images r 0)) (λ k e. absurd cc) h
+  image_backs g images room d (Write table k x r) w h =
+      put_other d (Write table (get_or images k 0) (get_or images x 0) (get_or images r 0)) (λ k e. absurd cc) h
   image_backs g images room d (Delay x by most) w h =
       delay_backs d (room x) (get_or images x 0) (get_or images by 0) most (number_at (so_far d) (get_or images by 0)) h
   image_backs g images room d (Point op args) w h =
@@ -185,7 +201,7 @@ module _ (group width : ℕ) where
     pub begun_backs : Within (begun g).draft
     begun_backs =
         let n = length g.groups in
-        put_other (with_groups nothing n) (Const (pos 0)) (λ k e. absurd cc)
+        put_other (with_tables (with_groups nothing n) g.tables) (Const (pos 0)) (λ k e. absurd cc)
         (λ s k x l e. absurd (let none = ap length (no_signals n) in omega (arith, l, none)))
       where
         no_signals : (n : ℕ) → (with_groups nothing n).signals ≡ []

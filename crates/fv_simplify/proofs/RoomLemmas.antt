@@ -7,8 +7,8 @@ use Rattle.std.proofs.lemmas.Bool.{cases_lt, cases_eq}
 use Rattle.std.proofs.lemmas.Int.{ints}
 use Rattle.std.proofs.lemmas.List.{get_or-set_same, get_or-set_other, get_or-replicate, get_or_past, length-replicate}
 use Rattle.fv_signal.specs.declared.signal.Signal.{Signal}
-use Rattle.fv_signal.specs.declared.signal.Signal.TheVariants.{Input, Const, Control, Point, Delay, Back, Member}
-use Rattle.fv_signal.specs.Value.{Graph}
+use Rattle.fv_signal.specs.declared.signal.Signal.TheVariants.{Input, Const, Control, Point, Delay, Back, Member, Read, Write}
+use Rattle.fv_signal.specs.headline.Value.{Graph}
 use Rattle.fv_simplify_rules.specs.Nodes.{node, StandsAt, number_at}
 use Rattle.fv_simplify_rules.specs.Rebuilt.{IsMarked, IsRoom}
 use Rattle.fv_simplify.specs.Passing.{room_in}
@@ -198,6 +198,8 @@ module _ (g : Graph) (marks : List Bool) (n : ℕ) (here : n < length g.signals)
       go (Point op args) e = same_rooms (room_in rooms) (λ x d most m i. let both = sym e ∙ i in absurd cc) h
       go (Back group k) e = same_rooms (room_in rooms) (λ x d most m i. let both = sym e ∙ i in absurd cc) h
       go (Member group k) e = same_rooms (room_in rooms) (λ x d most m i. let both = sym e ∙ i in absurd cc) h
+      go (Read table k) e = same_rooms (room_in rooms) (λ x d most m i. let both = sym e ∙ i in absurd cc) h
+      go (Write table w y k) e = same_rooms (room_in rooms) (λ x d most m i. let both = sym e ∙ i in absurd cc) h
 
 -- all of them
 pub all_rooms : (g : Graph) (marks : List Bool) (room : ℕ → Option ℕ) → IsRoom g (Before marks (length g.signals)) room → IsRoom g (IsMarked marks) room

@@ -1,15 +1,15 @@
 -- A pass over a whole graph rebuilds it.
-use Rattle.std.proofs.Common.{◌≡◌, ◌⊎◌, ℕ, zero, suc, ◌+◌, ◌<◌, ◌≤◌, List, [], length, take, map, get_or, refl, sym, ap, ◌∙◌, subst, arith, inl, inr, ℤ}
+use Rattle.std.proofs.Common.{◌≡◌, ◌⊎◌, ℕ, zero, suc, ◌+◌, ◌<◌, ◌≤◌, List, [], ◌∷◌, length, take, map, get_or, refl, sym, ap, ◌∙◌, subst, arith, inl, inr, ℤ}
 use Rattle.std.proofs.Common.{pos, Bool}
 use Rattle.std.specs.Prelude.{Option}
 use Rattle.std.proofs.lemmas.List.{get_or-map, get_or-take, length-take}
-use Rattle.fv_base.specs.Lists.{IsPrefixOf}
+use Rattle.fv_base.specs.headline.Lists.{IsPrefixOf}
 use Rattle.fv_base.proofs.Lists.{prefix_refl}
 use Rattle.fv_signal.specs.declared.signal.Signal.{Signal}
 use Rattle.fv_signal.specs.declared.signal.Signal.TheVariants.{Const, Back}
-use Rattle.fv_signal.specs.Value.{Graph, members, definition, IsGraph}
+use Rattle.fv_signal.specs.headline.Value.{Graph, members, definition, IsGraph}
 use Rattle.fv_base.proofs.Lists.{length_table, get_or_table}
-use Rattle.fv_share.specs.Drafts.{with_groups, with_all_members, AreShut}
+use Rattle.fv_share.specs.Drafts.{Draft, with_groups, with_tables, with_members, with_all_members, AreShut}
 use Rattle.fv_share.proofs.Groups.{groups_stay}
 use Rattle.fv_share.proofs.Puts.{put_stands}
 use Rattle.fv_simplify_rules.specs.Nodes.{node}
@@ -18,7 +18,11 @@ use Rattle.fv_simplify.specs.Passing.{so_far}
 use Rattle.fv_simplify.specs.Runs.{Pass, definitions, nothing, begun, passed, rebuilt, AreGood}
 use Rattle.fv_simplify.proofs.Along.{steps_long, along, there_all}
 use Rattle.fv_simplify.proofs.Made.{made_all}
-use Rattle.fv_simplify.proofs.Rest.{are_marked, are_pending}
+use Rattle.fv_simplify.proofs.Rest.{are_marked, are_pending, are_tabled}
+
+members_tables : (d : Draft) (first : ℕ) (lists : List (List ℕ)) → (with_all_members d first lists).tables ≡ d.tables
+members_tables d first [] = refl
+members_tables d first (list ∷ lists) = members_tables (with_members d first list) (suc first) lists
 
 opened_signals : (n : ℕ) → (with_groups nothing n).signals ≡ []
 opened_signals zero = refl
@@ -71,7 +75,7 @@ module _ (g : Graph) (marks : List Bool) (widths : List ℕ) (room : ℕ → Opt
   backs s group k l m e = let w = good.named s group k l m e in definition_is group k w.0 w.1 w.2
 
   begun_some : 0 < length (begun g).draft.signals
-  begun_some = let p = put_stands (with_groups nothing (length g.groups)) (Const (pos 0)) in let w = p.within in omega (arith, w)
+  begun_some = let p = put_stands (with_tables (with_groups nothing (length g.groups)) g.tables) (Const (pos 0)) in let w = p.within in omega (arith, w)
 
   all_signals : (s : ℕ) → 0 + s ≡ s
   all_signals s = omega arith
@@ -91,7 +95,7 @@ module _ (g : Graph) (marks : List Bool) (widths : List ℕ) (room : ℕ → Opt
   first_made : (j : ℕ) → j < length (begun g).draft.signals
       → ((z : ℤ) × (node (so_far (begun g).draft) j ≡ Const z)) ⊎ ((k : ℕ) × (k < 0) × IsMarked marks k × (0 ≡ j))
   first_made j l =
-      let d = with_groups nothing (length g.groups) in
+      let d = with_tables (with_groups nothing (length g.groups)) g.tables in
       let p = put_stands d (Const (pos 0)) in
       let none : length d.signals ≤ j = omega (arith, ap (λ (ss : List Signal). length ss) (opened_signals (length g.groups))) in
       inl (pos 0, ap (λ i. get_or (begun g).draft.signals i (Const (pos 0))) (p.alone j l none) ∙ p.stands (Const (pos 0)))
@@ -123,5 +127,6 @@ module _ (g : Graph) (marks : List Bool) (widths : List ℕ) (room : ℕ → Opt
     images = image_at;
     made = made_at;
     outputs = refl;
+    tables = members_tables end.draft 0 lists ∙ are_tabled g marks room g.signals;
     needed = good.outputs;
   }

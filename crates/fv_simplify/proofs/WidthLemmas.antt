@@ -2,7 +2,7 @@
 use Rattle.std.proofs.Common.{◌≡◌, ℕ, ◌+◌, ◌<◌, ◌≤◌, List, length, get_or, sym, ap, ◌∙◌, subst, arith, inl, inr, Bool}
 use Rattle.std.proofs.lemmas.Bool.{cases_lt}
 use Rattle.fv_signal.specs.declared.signal.Signal.TheVariants.{Back}
-use Rattle.fv_signal.specs.Value.{Graph, members}
+use Rattle.fv_signal.specs.headline.Value.{Graph, members}
 use Rattle.fv_simplify_rules.specs.Nodes.{node}
 use Rattle.fv_simplify_rules.specs.Rebuilt.{IsMarked}
 use Rattle.fv_simplify.specs.Runs.{AreNamed}

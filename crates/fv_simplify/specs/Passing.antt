@@ -2,11 +2,11 @@
 use Rattle.std.specs.Prelude.{◌≡◌, ℕ, ◌+◌, ◌<◌, ◌≤◌, List, [], length, take, map, ℤ, pos, ◌==◌, Bool, false, if◌then◌else◌, slice_index_or, Option, None, Some}
 use Rattle.std.specs.Ordering.{int_eq}
 use Rattle.fv_num.specs.declared.op.Op.{Op}
-use Rattle.fv_num.specs.Words.{apply_of, inputs_of}
-use Rattle.fv_base.specs.Lists.{IsPrefixOf}
+use Rattle.fv_num.specs.headline.Words.{apply_of, inputs_of}
+use Rattle.fv_base.specs.headline.Lists.{IsPrefixOf}
 use Rattle.fv_signal.specs.declared.signal.Signal.{Signal}
-use Rattle.fv_signal.specs.declared.signal.Signal.TheVariants.{Input, Const, Control, Point, Delay, Back, Member}
-use Rattle.fv_signal.specs.Value.{Graph, definition, IsOrdered, OperandsBelow}
+use Rattle.fv_signal.specs.declared.signal.Signal.TheVariants.{Input, Const, Control, Point, Delay, Back, Member, Read, Write}
+use Rattle.fv_signal.specs.headline.Value.{Graph, definition, IsOrdered, OperandsBelow}
 use Rattle.fv_share.specs.Drafts.{Draft, put, graph_of}
 use Rattle.fv_simplify_rules.specs.Choices.{choice}
 use Rattle.fv_simplify_rules.specs.Nodes.{number_at, known, numbers}
@@ -68,6 +68,8 @@ image_of g images room d (Point op args) = operation d op (map (λ a. slice_inde
 image_of g images room d (Delay x by most) = delayed d (room x) (slice_index_or images x 0) (slice_index_or images by 0) most
 image_of g images room d (Back group k) = put d (Back group k)
 image_of g images room d (Member group k) = (slice_index_or images (definition g group k) 0, d)
+image_of g images room d (Read table r) = put d (Read table (slice_index_or images r 0))
+image_of g images room d (Write table w x r) = put d (Write table (slice_index_or images w 0) (slice_index_or images x 0) (slice_index_or images r 0))
 
 -- an operation has as many arguments as it takes
 abbrev pub HasWidth : Signal → Type 0

@@ -1,10 +1,11 @@
 -- A whole pass over a graph (this project's profile).
 use Rattle.std.specs.Prelude.{◌≡◌, ℕ, List, [], ◌∷◌, ◌++◌, ◌<◌, length, take, map, All, slice_index_or, Bool, false, if◌then◌else◌, Option, pos}
-use Rattle.fv_base.specs.Lists.{table}
+use Rattle.fv_base.specs.headline.Lists.{table}
 use Rattle.fv_signal.specs.declared.signal.Signal.{Signal}
 use Rattle.fv_signal.specs.declared.signal.Signal.TheVariants.{Const, Back}
-use Rattle.fv_signal.specs.Value.{Graph, members, IsGraph, AreClosedSet}
-use Rattle.fv_share.specs.Drafts.{Draft, put, with_groups, with_all_members, graph_of}
+use Rattle.fv_signal.specs.headline.Value.{Graph, members, IsGraph}
+use Rattle.fv_signal.specs.Value.{AreClosedSet}
+use Rattle.fv_share.specs.Drafts.{Draft, put, with_groups, with_tables, with_all_members, graph_of}
 use Rattle.fv_simplify_rules.specs.Rebuilt.{IsMarked, IsRebuilt}
 use Rattle.fv_simplify.specs.Passing.{image_of, HasWidth}
 
@@ -29,11 +30,11 @@ definitions g widths images = table (length g.groups) (λ n. map (λ r. slice_in
 
 -- no signals
 abbrev pub nothing : Draft
-nothing = record { signals = []; groups = []; closed = [] }
+nothing = record { signals = []; groups = []; closed = []; tables = [] }
 
--- the pass behind the number 0, with all groups open
+-- the pass behind the number 0, with all groups open, and the tables
 abbrev pub begun : Graph → Pass
-begun g = record { draft = (put (with_groups nothing (length g.groups)) (Const (pos 0))).1; images = [] }
+begun g = record { draft = (put (with_tables (with_groups nothing (length g.groups)) g.tables) (Const (pos 0))).1; images = [] }
 
 abbrev pub passed : Graph → List Bool → (ℕ → Option ℕ) → Pass
 passed g marks room = steps g marks room (begun g) g.signals

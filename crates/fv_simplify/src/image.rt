@@ -1,10 +1,10 @@
 // The images of signals.
 
 ghost use Rattle.std.specs.Prelude.{◌≡◌, ℕ, ◌+◌, ◌<◌, length, map, All, IfOk, slice_index_or};
-ghost use Rattle.fv_signal.specs.Value.{definition};
+ghost use Rattle.fv_signal.specs.headline.Value.{definition};
 ghost use Rattle.fv_share.specs.Drafts.{IsPending};
 ghost use Rattle.fv_simplify_rules.specs.Nodes.{node};
-ghost use Rattle.fv_simplify_rules.specs.Reducible.{AreShort, limit};
+ghost use Rattle.fv_simplify_rules.specs.headline.Reducible.{AreShort, limit};
 ghost use Rattle.fv_simplify.specs.Passing.{room_in, operation as operation_of, image_of};
 
 use crate::late::{delayed, put_number, put_signal};
@@ -25,6 +25,7 @@ pub(crate) fn image(
     requires short { AreShort graph.now }
     requires there { All (λ a. a < length builder.old.signals) images.now }
     requires open { (g : ℕ) → g < length graph.now.groups → IsPending builder.old g }
+    requires tables { builder.old.tables ≡ graph.now.tables }
     ensures value { IfOk result (λ id. (id, builder.new)
         ≡ image_of graph.now images.now (room_in rooms.now) builder.old (node graph.now (length images.now))) }
     ensures there { IfOk result (λ id. id < length builder.new.signals) }
@@ -41,6 +42,16 @@ pub(crate) fn image(
         }
         Signal::Back { group, i } => put_signal(builder, Signal::Back { group, i }),
         Signal::Member { group, i } => Ok(image_at(images, graph.group(group)[i as usize])),
+        Signal::Read { table, r } => {
+            let r = image_at(images, r);
+            put_signal(builder, Signal::Read { table, r })
+        }
+        Signal::Write { table, w, x, r } => {
+            let w = image_at(images, w);
+            let x = image_at(images, x);
+            let r = image_at(images, r);
+            put_signal(builder, Signal::Write { table, w, x, r })
+        }
     }
 }
 

@@ -1,6 +1,6 @@
 // Laws of a pass over a graph.
 
-ghost use Rattle.fv_signal.specs.Value.{Graph};
+ghost use Rattle.fv_signal.specs.headline.Value.{Graph};
 ghost use Rattle.fv_simplify.specs.Passing.{PutsImages};
 ghost use Rattle.fv_simplify.specs.Runs.{PassRebuilds};
 

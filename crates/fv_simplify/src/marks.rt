@@ -1,7 +1,8 @@
 // Which signals are rebuilt.
 
 ghost use Rattle.std.specs.Prelude.{◌≡◌, ◌<◌, length, vec_len, All, IfOk, IsTrue};
-ghost use Rattle.fv_signal.specs.Value.{IsGraph, NamesWithin, ReadsOnly, AreClosedSet};
+ghost use Rattle.fv_signal.specs.headline.Value.{IsGraph, NamesWithin};
+ghost use Rattle.fv_signal.specs.Value.{ReadsOnly, AreClosedSet};
 ghost use Rattle.fv_simplify_rules.specs.Nodes.{node};
 ghost use Rattle.fv_simplify_rules.specs.Rebuilt.{IsMarked};
 
@@ -66,6 +67,10 @@ fn reads_marked(graph: &Graph, marks: &[bool], s: SignalId) -> bool
         Signal::Delay { x, d, max: _ } => is_marked(marks, x) && is_marked(marks, d),
         Signal::Back { group, i } => is_marked(marks, graph.group(group)[i as usize]),
         Signal::Member { group, i } => is_marked(marks, graph.group(group)[i as usize]),
+        Signal::Read { table: _, r } => is_marked(marks, r),
+        Signal::Write { table: _, w, x, r } => {
+            is_marked(marks, w) && is_marked(marks, x) && is_marked(marks, r)
+        }
         Signal::Input(_) | Signal::Const(_) | Signal::Control(_) => true,
     }
 }
@@ -133,6 +138,8 @@ fn mark_reads(graph: &Graph, marks: &mut [bool], signal: Signal) -> bool
         Signal::Delay { x, d, max: _ } => mark_all(marks, &[x, d]),
         Signal::Back { group, i } => mark(marks, graph.group(group)[i as usize]),
         Signal::Member { group, i } => mark(marks, graph.group(group)[i as usize]),
+        Signal::Read { table: _, r } => mark(marks, r),
+        Signal::Write { table: _, w, x, r } => mark_all(marks, &[w, x, r]),
         Signal::Input(_) | Signal::Const(_) | Signal::Control(_) => false,
     }
 }

@@ -1,10 +1,10 @@
 // A pass over a graph.
 
 ghost use Rattle.std.specs.Prelude.{◌≡◌, ℕ, ◌+◌, ◌<◌, [], ◌∷◌, ◌++◌, length, take, map, All, IfOk, slice_index_or, List, Bool, false};
-ghost use Rattle.fv_signal.specs.Value.{members};
+ghost use Rattle.fv_signal.specs.headline.Value.{members};
 ghost use Rattle.fv_share.specs.Drafts.{IsPending, lists_in};
 ghost use Rattle.fv_simplify_rules.specs.Nodes.{node};
-ghost use Rattle.fv_simplify_rules.specs.Reducible.{AreShort};
+ghost use Rattle.fv_simplify_rules.specs.headline.Reducible.{AreShort};
 ghost use Rattle.fv_simplify_rules.specs.Rebuilt.{IsMarked, IsRebuilt};
 ghost use Rattle.fv_simplify.specs.Passing.{room_in};
 ghost use Rattle.fv_simplify.specs.Runs.{step, begun as begun_of, passed as passed_of, definitions as definitions_of, AreGood};
@@ -38,12 +38,13 @@ pub(crate) fn rebuild(
     builder.finish(&outputs)
 }
 
-// A builder with the number 0, and all groups open.
+// A builder with the number 0, all groups open, and the tables.
 fn begun(alloc: Global, graph: &Graph) -> Result<Builder, AllocError>
     ensures { IfOk result (λ b. b ≡ (begun_of graph.now).draft) }
 {
     let mut builder = Builder::new(alloc);
     let _first = builder.open_groups(graph.groups())?;
+    let _tables = builder.add_tables(graph)?;
     let _zero = put_number(&mut builder, 0)?;
     Ok(builder)
 }
@@ -83,6 +84,7 @@ fn next(
     requires some { 0 < length builder.old.signals }
     requires there { All (λ a. a < length builder.old.signals) images.now }
     requires open { (g : ℕ) → g < length graph.now.groups → IsPending builder.old g }
+    requires tables { builder.old.tables ≡ graph.now.tables }
     ensures step { IfOk result (λ id. (marks : List Bool) → slice_index_or marks (length images.now) false ≡ is_marked →
         step graph.now marks (room_in rooms.now) (record { draft = builder.old; images = images.now }) (node graph.now (length images.now))
         ≡ record { draft = builder.new; images = images.now ++ id ∷ [] }) }

@@ -1,7 +1,7 @@
 // How far delays go of which each is by a number.
 
 ghost use Rattle.std.specs.Prelude.{◌≡◌, ◌<◌, length, IfOk};
-ghost use Rattle.fv_signal.specs.Value.{IsGraph};
+ghost use Rattle.fv_signal.specs.headline.Value.{IsGraph};
 ghost use Rattle.fv_simplify_rules.specs.Nodes.{node, number_at};
 ghost use Rattle.fv_simplify_rules.specs.Rebuilt.{IsMarked, IsRoom};
 ghost use Rattle.fv_simplify.specs.Passing.{room_in};

@@ -1,8 +1,9 @@
 // A simpler graph.
 
 ghost use Rattle.std.specs.Prelude.{List, ℕ, IfOk};
-ghost use Rattle.fv_num.specs.Frames.{Frame, Stream};
-ghost use Rattle.fv_simplify_rules.specs.Reducible.{AreShort, StayWithin, IsSimpler};
+ghost use Rattle.fv_num.specs.headline.Frames.{Frame, Stream};
+ghost use Rattle.fv_simplify_rules.specs.headline.Reducible.{AreShort};
+ghost use Rattle.fv_simplify_rules.specs.Reducible.{StayWithin, IsSimpler};
 ghost use Rattle.fv_simplify.specs.Simplified.{AreSmallIn};
 ghost use Rattle.fv_simplify.specs.inner.Once.{Folds, Joins};
 

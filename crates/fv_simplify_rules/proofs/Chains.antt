@@ -7,17 +7,18 @@ use Rattle.std.proofs.lemmas.Bool.{leb-false}
 use Rattle.std.proofs.lemmas.List.{get_or-map, get_or-take, take-map, length-take}
 use Rattle.fv_num.specs.declared.op.Op.{Op}
 use Rattle.fv_num.specs.declared.op.Op.TheVariants.{Select2, Select3}
-use Rattle.fv_num.specs.Words.{inputs_of}
+use Rattle.fv_num.specs.headline.Words.{inputs_of}
 use Rattle.fv_signal.specs.declared.signal.Signal.{Signal}
-use Rattle.fv_signal.specs.declared.signal.Signal.TheVariants.{Input, Const, Control, Point, Delay, Back, Member}
-use Rattle.fv_signal.specs.Value.{Graph, IsGraph}
+use Rattle.fv_signal.specs.declared.signal.Signal.TheVariants.{Input, Const, Control, Point, Delay, Back, Member, Read, Write}
+use Rattle.fv_signal.specs.headline.Value.{Graph, IsGraph}
 use Rattle.fv_simplify_rules.specs.Choices.{left_by, or_else, selected2, selected3, choice}
 use Rattle.fv_simplify_rules.specs.Nodes.{node, StandsAt, number, number_at, known, before, numbers, operands}
-use Rattle.fv_simplify_rules.specs.Reducible.{limit, IsDelayedBy, Reads, IsTakenOver, IsReducible}
+use Rattle.fv_simplify_rules.specs.headline.Reducible.{limit}
+use Rattle.fv_simplify_rules.specs.Reducible.{IsDelayedBy, Reads, IsTakenOver, IsReducible}
 use Rattle.fv_simplify_rules.specs.Rebuilt.{back_by, taken, base_of, base, AsNumber, AsOperand, AsItself, IsDelayImage, AtOnce, LateNothing, Late, Nothing}
 use Rattle.fv_simplify_rules.specs.Rebuilt.{Varying, IsImage, IsRebuilt, IsFolded, IsRoom}
 use Rattle.fv_simplify_rules.proofs.Choices.{choice_within}
-use Rattle.fv_simplify_rules.proofs.Origins.{number_node, Itself, Over, base_cases, Origin, OfNumber, OfInput, OfControl, OfBack, OfPoint, OfLate, OfVarying}
+use Rattle.fv_simplify_rules.proofs.Origins.{number_node, Itself, Over, base_cases, Origin, OfNumber, OfInput, OfControl, OfBack, OfRead, OfWrite, OfPoint, OfLate, OfVarying}
 use Rattle.fv_simplify_rules.proofs.Origins.{origin, tight, arg_on, delay_on}
 use Rattle.fv_simplify_rules.proofs.Irreducible.{standing, irreducible}
 
@@ -40,6 +41,8 @@ module _ (g f : Graph) (p : ℕ → ℕ) (room : ℕ → Option ℕ) (P : ℕ �
       go e (OfInput r j b q) = absurd cc
       go e (OfControl r j b q) = absurd cc
       go e (OfBack r grp j b q) = absurd cc
+      go e (OfRead table a q) = absurd cc
+      go e (OfWrite table w y a q) = absurd cc
       go e (OfPoint r op args o b q w t u v) = absurd cc
       go e (OfLate r y b m c j o d q t z w u i) = absurd cc
       go e (OfVarying r y b m o d q t w i) = absurd cc
@@ -80,6 +83,8 @@ module _ (g f : Graph) (p : ℕ → ℕ) (room : ℕ → Option ℕ) (P : ℕ �
     step s l o below (Const n) e i = ap number e ∙ sym (ap number i)
     step s l o below (Control k) e i = ap number e ∙ sym (ap number i)
     step s l o below (Back group k) e i = ap number e ∙ sym (ap number i.0)
+    step s l o below (Read table r) e i = ap number e ∙ sym (ap number i)
+    step s l o below (Write table w x r) e i = ap number e ∙ sym (ap number i)
     step s l o below (Member group k) e i = absurd (fold.members s group k (record { within = l; is = e }))
     step s l o below (Point op args) e (wide, AsItself q t i) = ap number e ∙ sym (ap number i)
     step s l o below (Point op args) e (wide, AsNumber ns q i) =
@@ -142,6 +147,8 @@ module _ (g f : Graph) (p : ℕ → ℕ) (room : ℕ → Option ℕ) (P : ℕ �
     rooted s l o below (Const z) e i y D most c q n = let z = sym i ∙ q in absurd cc
     rooted s l o below (Control k) e i y D most c q n = let z = sym i ∙ q in absurd cc
     rooted s l o below (Back group k) e i y D most c q n = let z = sym i.0 ∙ q in absurd cc
+    rooted s l o below (Read table r) e i y D most c q n = let z = sym i ∙ q in absurd cc
+    rooted s l o below (Write table w x r) e i y D most c q n = let z = sym i ∙ q in absurd cc
     rooted s l o below (Member group k) e i y D most c q n = absurd (fold.members s group k (record { within = l; is = e }))
     rooted s l o below (Point op args) e (wide, AsNumber ns w i) y D most c q n = let z = sym i ∙ q in absurd cc
     rooted s l o below (Point op args) e (wide, AsItself w t i) y D most c q n = let z = sym i ∙ q in absurd cc

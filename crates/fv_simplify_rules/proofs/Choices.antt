@@ -13,7 +13,7 @@ use Rattle.std.proofs.lemmas.Bool.Decides.{Decides-int_eq}
 use Rattle.std.proofs.Math.Nat.{div-one, mod-eq_of_lt}
 use Rattle.fv_num.specs.declared.op.Op.{Op}
 use Rattle.fv_num.specs.declared.op.Op.TheVariants.{Add, Sub, Mul, Div, Rem, And, Or, Xor, Shl, Shr, Abs, Select2, Select3}
-use Rattle.fv_num.specs.Words.{argument, apply_of, inputs_of, wrap, bits_of, quotient, remainder, shifted_left, shifted_right, amount}
+use Rattle.fv_num.specs.headline.Words.{argument, apply_of, inputs_of, wrap, bits_of, quotient, remainder, shifted_left, shifted_right, amount}
 use Rattle.fv_num.proofs.Wrapped.{bits_are, read_wraps, turned_wraps}
 use Rattle.fv_simplify_rules.specs.Choices.{is_neutral, is_absorbing, left_by, or_else, selected2, selected3, choice, Agrees}
 

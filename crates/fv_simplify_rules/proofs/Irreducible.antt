@@ -4,16 +4,16 @@ use Rattle.std.proofs.Common.{if◌then◌else◌}
 use Rattle.std.specs.Prelude.{Option}
 use Rattle.fv_num.specs.declared.op.Op.{Op}
 use Rattle.fv_num.specs.declared.op.Op.TheVariants.{Select2, Select3}
-use Rattle.fv_num.specs.Words.{inputs_of}
+use Rattle.fv_num.specs.headline.Words.{inputs_of}
 use Rattle.std.specs.Ordering.{int_eq}
 use Rattle.fv_signal.specs.declared.signal.Signal.TheVariants.{Point}
-use Rattle.fv_signal.specs.Value.{Graph, IsGraph}
+use Rattle.fv_signal.specs.headline.Value.{Graph, IsGraph}
 use Rattle.fv_simplify_rules.specs.Choices.{is_neutral, is_absorbing, left_by, or_else, selected2, selected3, choice}
 use Rattle.fv_simplify_rules.specs.Nodes.{node, number, known, numbers}
 use Rattle.fv_simplify_rules.specs.Reducible.{IsSelector, IsDelayedBy, IsTakenOver, IsReducible, OnNumbers, ByNeutral, ByAbsorbing, BySelector, ByNothing}
 use Rattle.fv_simplify_rules.specs.Reducible.{OfNothing, Loose, OfDelay}
 use Rattle.fv_simplify_rules.specs.Rebuilt.{IsRebuilt}
-use Rattle.fv_simplify_rules.proofs.Origins.{Origin, OfNumber, OfInput, OfControl, OfBack, OfPoint, OfLate, OfVarying, origin, tight}
+use Rattle.fv_simplify_rules.proofs.Origins.{Origin, OfNumber, OfInput, OfControl, OfBack, OfRead, OfWrite, OfPoint, OfLate, OfVarying, origin, tight}
 
 -- ---- an operation that no number decides
 
@@ -67,6 +67,8 @@ module _ (g f : Graph) (p : ℕ → ℕ) (room : ℕ → Option ℕ) (P : ℕ �
       go (OfInput s k a q) = absurd cc
       go (OfControl s k a q) = absurd cc
       go (OfBack s group k a q) = absurd cc
+      go (OfRead table r q) = absurd cc
+      go (OfWrite table w y r q) = absurd cc
       go (OfLate s y b m c k o a q r z w u i) = absurd cc
       go (OfVarying s y b m o a q r w i) = absurd cc
       go (OfPoint s op' args' o a q w r t u) =

@@ -7,13 +7,14 @@ use Rattle.std.proofs.lemmas.List.{get_or-take, get_or-map}
 use Rattle.std.proofs.lemmas.List.Elements.{All-get_or}
 use Rattle.std.proofs.lemmas.List.{length-take}
 use Rattle.fv_num.specs.declared.op.Op.{Op}
-use Rattle.fv_num.specs.Words.{inputs_of}
+use Rattle.fv_num.specs.headline.Words.{inputs_of}
 use Rattle.fv_signal.specs.declared.signal.Signal.{Signal}
-use Rattle.fv_signal.specs.declared.signal.Signal.TheVariants.{Input, Const, Control, Point, Delay, Back, Member}
-use Rattle.fv_signal.specs.Value.{ReadsOnly, Graph, definition, OperandsBelow, IsGraph}
+use Rattle.fv_signal.specs.declared.signal.Signal.TheVariants.{Input, Const, Control, Point, Delay, Back, Member, Read, Write}
+use Rattle.fv_signal.specs.headline.Value.{Graph, definition, OperandsBelow, IsGraph}
+use Rattle.fv_signal.specs.Value.{ReadsOnly}
 use Rattle.fv_simplify_rules.specs.Choices.{choice}
 use Rattle.fv_simplify_rules.specs.Nodes.{node, StandsAt, number, number_at, known, numbers}
-use Rattle.fv_simplify_rules.specs.Reducible.{limit}
+use Rattle.fv_simplify_rules.specs.headline.Reducible.{limit}
 use Rattle.fv_simplify_rules.specs.Rebuilt.{back_by, taken, base_of, base, AsNumber, AsOperand, AsItself, AtOnce, LateNothing, Late, Nothing, Varying}
 use Rattle.fv_simplify_rules.specs.Rebuilt.{IsImage, IsRebuilt}
 use Rattle.fv_simplify_rules.proofs.Choices.{choice_within}
@@ -60,6 +61,8 @@ module _ (g f : Graph) (p : ℕ → ℕ) (room : ℕ → Option ℕ) (P : ℕ �
     OfInput : (s k : ℕ) → StandsAt g s (Input k) → node f i ≡ Input k → Origin i
     OfControl : (s k : ℕ) → StandsAt g s (Control k) → node f i ≡ Control k → Origin i
     OfBack : (s group k : ℕ) → StandsAt g s (Back group k) → node f i ≡ Back group k → Origin i
+    OfRead : (table r : ℕ) → node f i ≡ Read table r → Origin i
+    OfWrite : (table w x r : ℕ) → node f i ≡ Write table w x r → Origin i
     OfPoint : (s : ℕ) (op : Op) (args : List ℕ) → P s → StandsAt g s (Point op args) → p s ≡ i → inputs_of op ≤ length args
         → numbers f (take (inputs_of op) (map p args)) ≡ None →
         choice op (known f (take (inputs_of op) (map p args))) ≡ None → node f i ≡ Point op (map p args) → Origin i
@@ -90,6 +93,8 @@ module _ (g f : Graph) (p : ℕ → ℕ) (room : ℕ → Option ℕ) (P : ℕ �
   comes (suc n) s b l o (Const z) e i = OfNumber z i
   comes (suc n) s b l o (Control k) e i = OfControl s k (record { within = l; is = e }) i
   comes (suc n) s b l o (Back group k) e i = OfBack s group k (record { within = l; is = e }) i.0
+  comes (suc n) s b l o (Read table r) e i = OfRead table (p r) i
+  comes (suc n) s b l o (Write table w x r) e i = OfWrite table (p w) (p x) (p r) i
   comes (suc n) s b l o (Member group k) e i =
       let on = member_on s group k l o e in
       let r = definition g group k in
@@ -127,6 +132,8 @@ module _ (g f : Graph) (p : ℕ → ℕ) (room : ℕ → Option ℕ) (P : ℕ �
       go (OfInput s k a q) = absurd cc
       go (OfControl s k a q) = absurd cc
       go (OfBack s group k a q) = absurd cc
+      go (OfRead table r q) = absurd cc
+      go (OfWrite table w y r q) = absurd cc
       go (OfPoint s op args o a q w r t u) = absurd cc
       go (OfLate s y b m c k o a q r z w u i) =
           let both = sym e ∙ i in

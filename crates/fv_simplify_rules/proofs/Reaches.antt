@@ -5,16 +5,17 @@ use Rattle.std.specs.Prelude.{Option, ◌≤ℤ◌}
 use Rattle.std.proofs.lemmas.Int.{ints, clamps}
 use Rattle.std.proofs.lemmas.Bool.{eq-eqb, cases_eq}
 use Rattle.std.proofs.lemmas.List.{get_or-map}
-use Rattle.fv_num.specs.Words.{inputs_of}
+use Rattle.fv_num.specs.headline.Words.{inputs_of}
 use Rattle.fv_signal.specs.declared.signal.Signal.{Signal}
-use Rattle.fv_signal.specs.declared.signal.Signal.TheVariants.{Input, Const, Control, Point, Delay, Back, Member}
-use Rattle.fv_signal.specs.Value.{Graph, definition, IsGraph}
+use Rattle.fv_signal.specs.declared.signal.Signal.TheVariants.{Input, Const, Control, Point, Delay, Back, Member, Read, Write}
+use Rattle.fv_signal.specs.headline.Value.{Graph, definition, IsGraph}
 use Rattle.fv_simplify_rules.specs.Nodes.{node, StandsAt, number, number_at, known}
-use Rattle.fv_simplify_rules.specs.Reducible.{limit, AreShort, far, farthest, reach}
+use Rattle.fv_simplify_rules.specs.headline.Reducible.{limit, AreShort}
+use Rattle.fv_simplify_rules.specs.Reducible.{far, farthest, reach}
 use Rattle.fv_simplify_rules.specs.Rebuilt.{back_by, base, AsNumber, AsOperand, AsItself, AtOnce, LateNothing, Late, Nothing, Varying, IsImage, IsRebuilt}
 use Rattle.fv_simplify_rules.specs.Rebuilt.{RoomIsSafe}
 use Rattle.fv_simplify_rules.proofs.Choices.{choice_within}
-use Rattle.fv_simplify_rules.proofs.Origins.{Taken, Itself, Over, base_cases, Origin, OfNumber, OfInput, OfControl, OfBack, OfPoint, OfLate, OfVarying}
+use Rattle.fv_simplify_rules.proofs.Origins.{Taken, Itself, Over, base_cases, Origin, OfNumber, OfInput, OfControl, OfBack, OfRead, OfWrite, OfPoint, OfLate, OfVarying}
 use Rattle.fv_simplify_rules.proofs.Origins.{origin, arg_on, delay_on, member_on}
 use Rattle.fv_simplify_rules.proofs.Stays.{back_least}
 use Rattle.fv_simplify_rules.proofs.Totals.{differ, total_is, total_least, owned, owned_all, owned_later, owned_with}
@@ -79,6 +80,8 @@ module _ (g f : Graph) (p : ℕ → ℕ) (room : ℕ → Option ℕ) (P : ℕ �
       go e (OfInput r j b q) = absurd cc
       go e (OfControl r j b q) = absurd cc
       go e (OfBack r group j b q) = absurd cc
+      go e (OfRead table a q) = absurd cc
+      go e (OfWrite table w y a q) = absurd cc
       go e (OfPoint r op args o b q w i u v) = absurd cc
       go e (OfVarying r y b m o d q t w v) = let both = sym e ∙ v in let same_m : most ≡ m = cc in let s = short r y b m d in omega (arith, same_m, s)
       go e (OfLate r y b m z k o d q t j w u v) =
@@ -106,6 +109,8 @@ module _ (g f : Graph) (p : ℕ → ℕ) (room : ℕ → Option ℕ) (P : ℕ �
   step s l o below (Const n) e i S D most q = let z = sym i ∙ q in absurd cc
   step s l o below (Control k) e i S D most q = let z = sym i ∙ q in absurd cc
   step s l o below (Back group k) e i S D most q = let z = sym i.0 ∙ q in absurd cc
+  step s l o below (Read table r) e i S D most q = let z = sym i ∙ q in absurd cc
+  step s l o below (Write table w x r) e i S D most q = let z = sym i ∙ q in absurd cc
   step s l o below (Member group k) e i S D most q =
       let on = member_on g f p room P whole h s group k l o e in
       let r = definition g group k in

@@ -2,14 +2,14 @@
 use Rattle.std.proofs.Common.{◌≡◌, ℕ, ◌+◌, ◌<◌, ◌≤◌, List, length, sym, ap, ◌∙◌, subst, arith, ℤ, pos, negsuc, Some}
 use Rattle.std.specs.Prelude.{Option}
 use Rattle.std.proofs.lemmas.Int.{ints, clamps}
-use Rattle.fv_num.specs.Frames.{Frame, Stream}
-use Rattle.fv_num.specs.Interval.{IsWithin}
+use Rattle.fv_num.specs.headline.Frames.{Frame, Stream}
+use Rattle.fv_num.specs.headline.Interval.{IsWithin}
 use Rattle.fv_signal.specs.declared.signal.Signal.TheVariants.{Input, Const, Control, Delay}
-use Rattle.fv_signal.specs.Value.{Graph, value, OperandsBelow, IsGraph}
+use Rattle.fv_signal.specs.headline.Value.{Graph, value, OperandsBelow, IsGraph}
 use Rattle.fv_simplify_rules.specs.Nodes.{node, StandsAt, number, number_at}
 use Rattle.fv_simplify_rules.specs.Reducible.{AreSmall, StayWithin}
 use Rattle.fv_simplify_rules.specs.Rebuilt.{back_by, base, IsRebuilt}
-use Rattle.fv_simplify_rules.proofs.Origins.{Origin, OfNumber, OfInput, OfControl, OfBack, OfPoint, OfLate, OfVarying, origin, tight, delay_on}
+use Rattle.fv_simplify_rules.proofs.Origins.{Origin, OfNumber, OfInput, OfControl, OfBack, OfRead, OfWrite, OfPoint, OfLate, OfVarying, origin, tight, delay_on}
 use Rattle.fv_simplify_rules.proofs.Values.{same, number_is}
 
 pub back_least : (most : ℕ) (c : ℤ) → back_by most c ≤ most
@@ -25,6 +25,8 @@ module _ (g f : Graph) (p : ℕ → ℕ) (room : ℕ → Option ℕ) (P : ℕ �
       go e (OfInput r j b q) = let both = sym e ∙ q in let z : j ≡ k = cc in (r, subst (λ i. StandsAt g r (Input i)) z b)
       go e (OfControl r j b q) = absurd cc
       go e (OfBack r group j b q) = absurd cc
+      go e (OfRead table a q) = absurd cc
+      go e (OfWrite table w y a q) = absurd cc
       go e (OfPoint r op args o b q w t u v) = absurd cc
       go e (OfLate r y b m c j o d q t z w u i) = absurd cc
       go e (OfVarying r y b m o d q t w i) = absurd cc
@@ -37,6 +39,8 @@ module _ (g f : Graph) (p : ℕ → ℕ) (room : ℕ → Option ℕ) (P : ℕ �
       go e (OfInput r j b q) = absurd cc
       go e (OfControl r j b q) = let both = sym e ∙ q in let z : j ≡ k = cc in (r, subst (λ i. StandsAt g r (Control i)) z b)
       go e (OfBack r group j b q) = absurd cc
+      go e (OfRead table a q) = absurd cc
+      go e (OfWrite table w y a q) = absurd cc
       go e (OfPoint r op args o b q w t u v) = absurd cc
       go e (OfLate r y b m c j o d q t z w u i) = absurd cc
       go e (OfVarying r y b m o d q t w i) = absurd cc
@@ -56,6 +60,8 @@ module _ (g f : Graph) (p : ℕ → ℕ) (room : ℕ → Option ℕ) (P : ℕ �
       go e (OfInput r j b q) = absurd cc
       go e (OfControl r j b q) = absurd cc
       go e (OfBack r group j b q) = absurd cc
+      go e (OfRead table a q) = absurd cc
+      go e (OfWrite table w y a q) = absurd cc
       go e (OfPoint r op args o b q w i u v) = absurd cc
       go e (OfLate r y b m z k o d q i j w u v) =
           let both = sym e ∙ v in

@@ -3,7 +3,7 @@ use Rattle.std.proofs.Common.{◌≡◌, ℕ, zero, suc, ◌+◌, ◌<◌, ◌�
 use Rattle.std.specs.List.{sum_by}
 use Rattle.std.proofs.lemmas.List.Sums.{sum_by_push}
 use Rattle.std.proofs.lemmas.Bool.{cases_eq, eq-eqb, eqb-true}
-use Rattle.fv_num.specs.Frames.{table}
+use Rattle.fv_num.specs.headline.Frames.{table}
 
 pub differ : (a b : ℕ) → (a ≡ b → ⊥) → nat_eq a b ≡ false
 differ a b ne = go (nat_eq a b) refl

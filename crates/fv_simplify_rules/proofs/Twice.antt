@@ -2,7 +2,7 @@
 use Rattle.std.proofs.Common.{◌≡◌, ℕ, length, ap, ◌∙◌, arith}
 use Rattle.std.specs.Prelude.{Option}
 use Rattle.std.proofs.lemmas.List.{length-map}
-use Rattle.fv_signal.specs.Value.{Graph, IsGraph}
+use Rattle.fv_signal.specs.headline.Value.{Graph, IsGraph}
 use Rattle.fv_simplify_rules.specs.Reducible.{IsSimpler}
 use Rattle.fv_simplify_rules.specs.Rebuilt.{IsRebuilt, IsRoom, RoomIsSafe}
 use Rattle.fv_simplify_rules.specs.Simpler.{no_room}
@@ -29,5 +29,6 @@ simpler g f h p q room P Q whole a b r =
       within = λ X c small stays. within_kept f h q room Q once b X c small (within_kept g f p no_room P whole a X c small stays);
       short = λ s. short_kept f h q room Q once b r.safe (short_kept g f p no_room P whole a safe s);
       inputs = λ s k i. let x = inputs_kept f h q room Q once b s k i in inputs_kept g f p no_room P whole a x.0 k x.1;
+      tables = b.tables ∙ a.tables;
       controls = λ s k i. let x = controls_kept f h q room Q once b s k i in controls_kept g f p no_room P whole a x.0 k x.1;
     }

@@ -7,11 +7,12 @@ use Rattle.std.proofs.lemmas.Bool.{cases_lt, le-leb, lt-leb}
 use Rattle.std.proofs.lemmas.List.{get_or_default, get_or-map, get_or-take, take-map, length-take}
 use Rattle.std.proofs.lemmas.List.Elements.{All-head, All-tail, All-get_or, All-from_get_or}
 use Rattle.fv_num.specs.declared.op.Op.{Op}
-use Rattle.fv_num.specs.Words.{argument, apply_of, inputs_of}
-use Rattle.fv_num.specs.Frames.{Frame, Stream, back, carried, delayed}
+use Rattle.fv_num.specs.headline.Words.{argument, apply_of, inputs_of}
+use Rattle.fv_num.specs.headline.Frames.{Frame, Stream, back, carried, delayed}
 use Rattle.fv_signal.specs.declared.signal.Signal.{Signal}
-use Rattle.fv_signal.specs.declared.signal.Signal.TheVariants.{Input, Const, Control, Point, Delay, Back, Member}
-use Rattle.fv_signal.specs.Value.{Graph, clamped, signal_at, value, OperandsBelow, HasNumber, IsGraph}
+use Rattle.fv_signal.specs.declared.signal.Signal.TheVariants.{Input, Const, Control, Point, Delay, Back, Member, Read, Write}
+use Rattle.fv_num.specs.headline.Tables.{read_at, written_at}
+use Rattle.fv_signal.specs.headline.Value.{Graph, clamped, signal_at, value, OperandsBelow, HasNumber, IsGraph}
 use Rattle.fv_signal.proofs.Values.{back_same, values_are_given}
 use Rattle.fv_simplify_rules.specs.Choices.{Agrees}
 use Rattle.fv_simplify_rules.specs.Nodes.{node, number_at, known, before, numbers}
@@ -78,7 +79,7 @@ module _ (g f : Graph) (p : ℕ → ℕ) (room : ℕ → Option ℕ) (P : ℕ �
 
   fits : (i t : ℕ) → i < length f.signals → FitsSigned w32 (val i t)
   fits i t l = values_fit f h.graph.ordered h.graph.closed X c small.frames small.controls
-      (λ s n m e. subst HasNumber e (h.graph.numbers s (Const (pos 0)) m)) i t l
+      (λ s n m e. subst HasNumber e (h.graph.numbers s (Const (pos 0)) m)) h.graph.tables i t l
 
   pub number_is : (i t : ℕ) (n : ℤ) → i < length f.signals → number_at f i ≡ Some n → val i t ≡ n
   number_is i t n l e = at_node i t (Const n) l (number_node (node f i) n e)
@@ -181,6 +182,10 @@ module _ (g f : Graph) (p : ℕ → ℕ) (room : ℕ → Option ℕ) (P : ℕ �
   gives s l o (Control k) e i t = at_node (p s) t (Control k) (h.there s l o) i
   gives s l o (Back group k) e i t = at_node (p s) t (Back group k) (h.there s l o) i.0 ∙ ap (λ r. delayed (val r) t) i.1
   gives s l o (Member group k) e i t = ap (λ r. val r t) i
+  gives s l o (Read table r) e i t =
+      at_node (p s) t (Read table (p r)) (h.there s l o) i ∙ ap (λ ts. read_at (get_or ts table []) (v r t)) h.tables
+  gives s l o (Write table w x r) e i t =
+      at_node (p s) t (Write table (p w) (p x) (p r)) (h.there s l o) i ∙ ap (λ ts. written_at (get_or ts table []) (v w) (v x) t (v r t)) h.tables
   gives s l o (Point op args) e (wide, AsItself q r i) t =
       at_node (p s) t (Point op (map p args)) (h.there s l o) i ∙ ap (λ xs. apply_of op (take (inputs_of op) xs)) (map_twice args t)
   gives s l o (Point op args) e (wide, AsNumber ns q i) t =

@@ -1,10 +1,10 @@
 -- What a graph's signals are and read (this project's profile).
 use Rattle.std.specs.Prelude.{ℕ, zero, suc, List, [], ◌∷◌, take, ℤ, Option, None, Some}
-use Rattle.fv_num.specs.Words.{inputs_of}
+use Rattle.fv_num.specs.headline.Words.{inputs_of}
 use Rattle.fv_signal.specs.declared.signal.Signal.{Signal}
-use Rattle.fv_signal.specs.declared.signal.Signal.TheVariants.{Input, Const, Control, Point, Delay, Back, Member}
-use Rattle.fv_signal.specs.Value.{Graph}
-pub use Rattle.fv_analysis.specs.Stands.{node, StandsAt}
+use Rattle.fv_signal.specs.declared.signal.Signal.TheVariants.{Input, Const, Control, Point, Delay, Back, Member, Read, Write}
+use Rattle.fv_signal.specs.headline.Value.{Graph}
+pub use Rattle.fv_analysis.specs.headline.Stands.{node, StandsAt}
 
 -- the number that a signal is at all times, where it is written there
 abbrev pub number : Signal → Option ℤ
@@ -15,6 +15,8 @@ number (Point op args) = None
 number (Delay x d most) = None
 number (Back group k) = None
 number (Member group k) = None
+number (Read table r) = None
+number (Write table w x r) = None
 
 -- the number that signal s is
 abbrev pub number_at : Graph → ℕ → Option ℤ
@@ -46,3 +48,5 @@ operands (Point op args) = take (inputs_of op) args
 operands (Delay x d most) = x ∷ d ∷ []
 operands (Back group k) = []
 operands (Member group k) = []
+operands (Read table r) = r ∷ []
+operands (Write table w x r) = w ∷ x ∷ r ∷ []

@@ -2,14 +2,16 @@
 use Rattle.std.specs.Prelude.{◌≡◌, ℕ, ◌+◌, ◌<◌, ◌≤◌, List, length, take, map, All, ℤ, pos, slice_index_or, nat_le, unsigned_abs, ◌≤ℤ◌, if◌then◌else◌, Option}
 use Rattle.std.specs.Prelude.{None, Some, Bool, true, false, ◌⊎◌}
 use Rattle.fv_num.specs.declared.op.Op.{Op}
-use Rattle.fv_num.specs.Words.{apply_of, inputs_of}
+use Rattle.fv_num.specs.headline.Words.{apply_of, inputs_of}
 use Rattle.fv_signal.specs.declared.signal.Signal.{Signal}
-use Rattle.fv_signal.specs.declared.signal.Signal.TheVariants.{Input, Const, Control, Point, Delay, Back, Member}
-use Rattle.fv_signal.specs.Value.{Graph, definition, clamped, value, IsGraph, AreClosedSet}
-use Rattle.fv_num.specs.Frames.{Frame, Stream}
+use Rattle.fv_signal.specs.declared.signal.Signal.TheVariants.{Input, Const, Control, Point, Delay, Back, Member, Read, Write}
+use Rattle.fv_signal.specs.headline.Value.{Graph, definition, clamped, value, IsGraph}
+use Rattle.fv_signal.specs.Value.{AreClosedSet}
+use Rattle.fv_num.specs.headline.Frames.{Frame, Stream}
 use Rattle.fv_simplify_rules.specs.Choices.{choice}
 use Rattle.fv_simplify_rules.specs.Nodes.{node, StandsAt, number_at, known, numbers}
-use Rattle.fv_simplify_rules.specs.Reducible.{limit, AreSmall, StayWithin, AreShort, reach, IsDelayedBy, IsTakenOver, IsReducible}
+use Rattle.fv_simplify_rules.specs.headline.Reducible.{limit, AreShort}
+use Rattle.fv_simplify_rules.specs.Reducible.{AreSmall, StayWithin, reach, IsDelayedBy, IsTakenOver, IsReducible}
 
 -- how many samples a delay by the number c goes back, where it goes back so many at most
 abbrev pub back_by : ℕ → ℤ → ℕ
@@ -29,6 +31,8 @@ base_of f room x (Control k) = (x, 0)
 base_of f room x (Point op args) = (x, 0)
 base_of f room x (Back group k) = (x, 0)
 base_of f room x (Member group k) = (x, 0)
+base_of f room x (Read table r) = (x, 0)
+base_of f room x (Write table w y r) = (x, 0)
 
 -- the signal of which x is taken as a delay, and by how many samples
 abbrev pub base : Graph → Option ℕ → ℕ → ℕ × ℕ
@@ -61,12 +65,14 @@ IsImage g f p room (Point op args) image = (inputs_of op ≤ length args) × IsP
 IsImage g f p room (Delay x d most) image = IsDelayImage f (room x) (p x) (p d) most image
 IsImage g f p room (Back group k) image = (node f image ≡ Back group k) × (definition f group k ≡ p (definition g group k))
 IsImage g f p room (Member group k) image = image ≡ p (definition g group k)
+IsImage g f p room (Read table r) image = node f image ≡ Read table (p r)
+IsImage g f p room (Write table w x r) image = node f image ≡ Write table (p w) (p x) (p r)
 
 -- a signal that is marked
 abbrev pub IsMarked : List Bool → ℕ → Type 0
 IsMarked marks s = slice_index_or marks s false ≡ true
 
--- f is g rebuilt over the signals P, which are closed
+-- f is g rebuilt over the signals P, which are closed, with g's tables
 pub record IsRebuilt (g f : Graph) (p : ℕ → ℕ) (room : ℕ → Option ℕ) (P : ℕ → Type 0) : Type 0 where
   pub graph : IsGraph f
   pub closed : AreClosedSet g P
@@ -74,6 +80,7 @@ pub record IsRebuilt (g f : Graph) (p : ℕ → ℕ) (room : ℕ → Option ℕ)
   pub images : (s : ℕ) → s < length g.signals → P s → IsImage g f p room (node g s) (p s)
   pub made : (i : ℕ) → i < length f.signals → ((n : ℤ) × (node f i ≡ Const n)) ⊎ ((s : ℕ) × (s < length g.signals) × P s × (p s ≡ i))
   pub outputs : f.outputs ≡ map p g.outputs
+  pub tables : f.tables ≡ g.tables
   pub needed : All P g.outputs
 
 -- the outputs have their values

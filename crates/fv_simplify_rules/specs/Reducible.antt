@@ -1,23 +1,19 @@
--- Signals that can be made simpler, and what a simpler graph keeps (this project's profile).
+-- What calls say beside `headline/Reducible`: signals that can be made simpler, and what a simpler graph keeps (this project's profile).
 use Rattle.std.specs.Prelude.{◌≡◌, ℕ, ◌<◌, ◌≤◌, List, [], ◌∷◌, length, take, max, ℤ, pos, ◌+ℤ◌, ◌≤ℤ◌, slice_index_or, nat_eq, if◌then◌else◌, Some, true}
 use Rattle.std.specs.Prelude.{FitsSigned}
 use Rattle.std.specs.List.{sum_by}
 use Rattle.std.specs.Int.{w32}
-use Rattle.fv_base.specs.declared.limits.TheConstants.{DELAY_BUDGET}
 use Rattle.fv_num.specs.declared.op.Op.{Op}
 use Rattle.fv_num.specs.declared.op.Op.TheVariants.{Select2, Select3}
-use Rattle.fv_num.specs.Words.{inputs_of}
-use Rattle.fv_num.specs.Frames.{Frame, Stream, column, table}
-use Rattle.fv_num.specs.Interval.{IsWithin}
+use Rattle.fv_num.specs.headline.Words.{inputs_of}
+use Rattle.fv_num.specs.headline.Frames.{Frame, Stream, column, table}
+use Rattle.fv_num.specs.headline.Interval.{IsWithin}
 use Rattle.fv_signal.specs.declared.signal.Signal.{Signal}
-use Rattle.fv_signal.specs.declared.signal.Signal.TheVariants.{Input, Const, Control, Point, Delay, Back, Member}
-use Rattle.fv_signal.specs.Value.{Graph, members, definition, value}
+use Rattle.fv_signal.specs.declared.signal.Signal.TheVariants.{Input, Const, Control, Point, Delay, Back, Member, Read, Write}
+use Rattle.fv_signal.specs.headline.Value.{Graph, members, definition, value}
 use Rattle.fv_simplify_rules.specs.Choices.{is_neutral, is_absorbing}
 use Rattle.fv_simplify_rules.specs.Nodes.{node, StandsAt, known, numbers, operands}
-
--- a delay goes back so many samples at most
-abbrev pub limit : ℕ
-limit = DELAY_BUDGET
+use Rattle.fv_simplify_rules.specs.headline.Reducible.{limit, AreShort}
 
 -- an operation that chooses by its first operand
 abbrev pub IsSelector : Op → Type 0
@@ -79,6 +75,8 @@ far s (Point op args) = 0
 far s (Delay x by most) = if nat_eq x s then most else 0
 far s (Back group k) = 0
 far s (Member group k) = 0
+far s (Read table r) = 0
+far s (Write table w x r) = 0
 
 -- how far back one of these nodes reads signal s
 abbrev pub farthest : ℕ → List Signal → ℕ
@@ -98,10 +96,6 @@ pub record AreSmall (X : List Frame) (c : ℕ → Stream) : Type 0 where
 abbrev pub StayWithin : Graph → List Frame → (ℕ → Stream) → Type 0
 StayWithin g X c = (s x by most t : ℕ) → StandsAt g s (Delay x by most) → IsWithin (record { lo = pos 0; hi = pos most }) (value g by X c t)
 
--- no greatest number of a delay is over the limit
-abbrev pub AreShort : Graph → Type 0
-AreShort g = (s x by most : ℕ) → StandsAt g s (Delay x by most) → most ≤ limit
-
 -- What h keeps of g, and that it can not be made simpler.
 pub record IsSimpler (g h : Graph) : Type 0 where
   pub width : length h.outputs ≡ length g.outputs
@@ -113,3 +107,4 @@ pub record IsSimpler (g h : Graph) : Type 0 where
   pub short : AreShort g → AreShort h
   pub inputs : (s k : ℕ) → StandsAt h s (Input k) → (r : ℕ) × StandsAt g r (Input k)
   pub controls : (s k : ℕ) → StandsAt h s (Control k) → (r : ℕ) × StandsAt g r (Control k)
+  pub tables : h.tables ≡ g.tables

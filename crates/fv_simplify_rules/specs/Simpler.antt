@@ -1,6 +1,6 @@
 -- Two rebuildings make a graph that can not be made simpler (this project's profile).
 use Rattle.std.specs.Prelude.{ℕ, List, Bool, Option, None}
-use Rattle.fv_signal.specs.Value.{Graph, IsGraph}
+use Rattle.fv_signal.specs.headline.Value.{Graph, IsGraph}
 use Rattle.fv_simplify_rules.specs.Reducible.{IsSimpler}
 use Rattle.fv_simplify_rules.specs.Rebuilt.{IsMarked, IsRebuilt, IsRoom}
 

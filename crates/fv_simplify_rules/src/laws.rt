@@ -1,6 +1,6 @@
 // Laws of graphs that are rebuilt.
 
-ghost use Rattle.fv_signal.specs.Value.{Graph};
+ghost use Rattle.fv_signal.specs.headline.Value.{Graph};
 ghost use Rattle.fv_simplify_rules.specs.Choices.{ChoicesKeepValues};
 ghost use Rattle.fv_simplify_rules.specs.Simpler.{RebuiltTwiceIsSimpler};
 ghost use Rattle.fv_simplify_rules.specs.Rebuilt.{RebuiltKeepsValues, RebuiltKeepsRest, RebuiltReadsNoFurther, RebuiltIsFolded, NoDelayIsTakenOver};

@@ -8,24 +8,27 @@ use Rattle.std.proofs.lemmas.List.{get_or_default, length-map}
 use Rattle.std.proofs.lemmas.List.Elements.{All-get_or, All-from_get_or, All-nil}
 use Rattle.std.proofs.lemmas.Option.{slice_get_past}
 use Rattle.fv_base.proofs.Lists.{length_table, get_or_table, table_items, map_table}
-use Rattle.fv_num.specs.Frames.{Frame, Stream, column, table}
+use Rattle.fv_num.specs.headline.Frames.{Frame, Stream, column, table}
 use Rattle.fv_outside.specs.declared.tasks.Reads.{Reads}
-use Rattle.fv_outside.specs.Tasks.{bit, total, reads_loop}
+use Rattle.fv_outside.specs.headline.Tasks.{bit, total, reads_loop}
 use Rattle.fv_signal.specs.declared.signal.Signal.TheVariants as signal
-use Rattle.fv_signal.specs.Value.{Graph, value, IsGraph}
-use Rattle.fv_split_components.specs.Reach.{at, Reaches}
+use Rattle.fv_signal.specs.headline.Value.{Graph, value, IsGraph}
+use Rattle.fv_split_components.specs.headline.Reach.{at, Reaches}
 use Rattle.fv_loopcode.specs.declared.step.Step.{Step}
 use Rattle.fv_loopcode.specs.declared.step.Step.TheVariants as step
-use Rattle.fv_loopcode.specs.Code.{registers_after, NamesHeld, NamesInput, NamesLane, AreSound, IsSound, OperandsBelow}
-use Rattle.fv_loopcode.specs.Obeys.{Roles, Place, OfLane, nothing, ObeysStreams}
-use Rattle.fv_analysis.specs.Stands.{stand, stands_of}
-use Rattle.fv_analysis.specs.History.{history_of}
+use Rattle.fv_loopcode.specs.headline.Code.{registers_after, NamesHeld, NamesInput}
+use Rattle.fv_loopcode.specs.Code.{NamesLane, AreSound, IsSound, OperandsBelow}
+use Rattle.fv_loopcode.specs.headline.Obeys.{Roles, Place, OfLane, nothing, ObeysStreams}
+use Rattle.fv_analysis.specs.headline.Stands.{stand, stands_of}
+use Rattle.fv_analysis.specs.headline.History.{history_of}
 use Rattle.fv_split_plan.specs.declared.lane.LaneInfo.{LaneInfo}
-use Rattle.fv_split_plan.specs.Separated.{lane_at, links_of, IsSeparated, AsOutput}
-use Rattle.fv_split_plan.specs.Fits.{Names, CodeFits}
-use Rattle.fv_split_plan.specs.View.{PlanView, lane_info, code_of, loads_lane, roles_of}
+use Rattle.fv_split_plan.specs.headline.Separated.{links_of, IsSeparated, AsOutput}
+use Rattle.fv_split_plan.specs.Separated.{lane_at}
+use Rattle.fv_split_plan.specs.headline.Fits.{Names}
+use Rattle.fv_split_plan.specs.Fits.{CodeFits}
+use Rattle.fv_split_plan.specs.headline.View.{PlanView, lane_info, code_of, loads_lane, roles_of}
 use Rattle.fv_split_plan.specs.Rows.{plan_with}
-use Rattle.fv_split_plan.specs.Plans.{LanesStand, LoopsStand, PlanStands, PlanReads, PlanNames, NamesChannel, LoadsWithin, IsPlanOf}
+use Rattle.fv_split_plan.specs.headline.Plans.{LanesStand, LoopsStand, PlanStands, PlanReads, PlanNames, NamesChannel, LoadsWithin, IsPlanOf}
 use Rattle.fv_split_plan.proofs.FitsLemmas.{codes_obey, map_get}
 use Rattle.fv_split_lanes.specs.declared.lanes.Lanes.{Lanes}
 use Rattle.fv_split_code.specs.declared.kind.Kind.{Kind}

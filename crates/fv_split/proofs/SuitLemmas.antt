@@ -9,20 +9,22 @@ use Rattle.fv_signal.specs.declared.signal.Signal.{Signal}
 use Rattle.fv_signal.specs.declared.signal.Signal.TheVariants as signal
 use Rattle.fv_signal.specs.declared.rate.Rate.{Rate}
 use Rattle.fv_signal.specs.declared.rate.Rate.TheVariants as rate
-use Rattle.fv_signal.specs.Value.{Graph, definition, value, signal_at, IsGraph, IsOrdered, OperandsBelow, NamesWithin}
-use Rattle.fv_signal.specs.Rates.{rate_in, rate_of, rates}
+use Rattle.fv_signal.specs.headline.Value.{Graph, definition, value, signal_at, IsGraph, IsOrdered, OperandsBelow, NamesWithin}
+use Rattle.fv_signal.specs.headline.Rates.{rate_in, rate_of, rates}
 use Rattle.fv_signal.proofs.Rates.{rate_is}
 use Rattle.fv_signal.proofs.Values.{values_are_given}
-use Rattle.fv_split_components.specs.Reach.{at, Reaches}
+use Rattle.fv_split_components.specs.headline.Reach.{at, Reaches}
 use Rattle.fv_split_components.proofs.Walks.{reaches_self, reaches_trans}
 use Rattle.fv_loopcode.specs.declared.step.Step.{Step}
-use Rattle.fv_loopcode.specs.Obeys.{Roles, Place, OfLane}
-use Rattle.fv_analysis.specs.Stands.{node, stand, stands_of, StandsAt}
-use Rattle.fv_analysis.specs.History.{history_of, history_from, greatest_delay, is_fed_back}
+use Rattle.fv_loopcode.specs.headline.Obeys.{Roles, Place, OfLane}
+use Rattle.fv_analysis.specs.headline.Stands.{node, stand, stands_of, StandsAt}
+use Rattle.fv_analysis.specs.headline.History.{history_of, history_from, greatest_delay, is_fed_back}
 use Rattle.fv_analysis.proofs.StandLemmas.{IsNoMember, stands_well, stands_long as all_stand}
 use Rattle.fv_analysis.proofs.HistoryLemmas.{histories_cover}
-use Rattle.fv_split_plan.specs.Separated.{operands, lane_at, links_of, IsComputed, IsSeparated, AsOutput, AsDelayed, AsDefinition, AsShared, ReadsSignal}
-use Rattle.fv_split_plan.specs.Fits.{Names, IsAlways}
+use Rattle.fv_split_plan.specs.headline.Separated.{operands, links_of, IsComputed, IsSeparated, AsOutput, AsDelayed, AsDefinition, AsShared, ReadsSignal}
+use Rattle.fv_split_plan.specs.Separated.{lane_at}
+use Rattle.fv_split_plan.specs.headline.Fits.{Names}
+use Rattle.fv_split_plan.specs.Fits.{IsAlways}
 use Rattle.fv_split_lanes.specs.declared.lanes.Lanes.{Lanes}
 use Rattle.fv_split_lanes.specs.Placed.{ArePlaced, IsInner}
 use Rattle.fv_split_lanes.proofs.RowLemmas.{operand_below, reads_reach, back_reaches, read_lower}
@@ -30,6 +32,7 @@ use Rattle.fv_split_code.specs.declared.kind.Kind.{Kind}
 use Rattle.fv_split_code.specs.declared.kind.Kind.TheVariants as kind
 use Rattle.fv_split_code.specs.declared.tables.Tables.{Tables}
 use Rattle.fv_split_code.specs.Emits.{KindFits, IsLoaded, IsKindWithin, kind_of, owned_by}
+use Rattle.fv_split_plan.proofs.NodeLemmas.{no_tables}
 use Rattle.fv_split_code.specs.Emitted.{AreTables, IsBase, IsOperand, DelayLane, Suits}
 use Rattle.fv_split_code.specs.Held.{HoldsUpTo}
 use Rattle.fv_split.specs.inner.Bases.{sample_base, constant_base, base_of, kind_with, AreBases, AreKinds}
@@ -68,6 +71,7 @@ may_load owners j l e =
 pub record Passes (g : Graph) (p : Lanes) (stands : Vec ℕ Global) (bases kinds : Vec Kind Global) (numbers : List ℕ) (steps : List Step) : Type 0 where
   pub graph : IsGraph g
   pub placed : ArePlaced g p
+  pub tableless : g.tables ≡ []
   pub is_stands : stands.items ≡ stands_of g
   pub held : HoldsUpTo g (length g.signals) numbers steps
   pub are_bases : AreBases g (stands_of g) (rates g.signals) p.lanes.items numbers (length g.signals) bases.items
@@ -180,6 +184,8 @@ module _ (g : Graph) (p : Lanes) (stands : Vec ℕ Global) (bases kinds : Vec Ki
       plain (signal.Delay x d max) c = tt
       plain (signal.Back group i) c = tt
       plain (signal.Member group i) c = c
+      plain (signal.Read table r) c = tt
+      plain (signal.Write table w x r) c = tt
 
   -- ---- bases
 
@@ -221,6 +227,8 @@ module _ (g : Graph) (p : Lanes) (stands : Vec ℕ Global) (bases kinds : Vec Ki
       at_node (signal.Delay x d max) e r = inner (signal.Delay x d max) e r (λ k. tt) refl
       at_node (signal.Back group i) e r = AsBack group i e (plain (signal.Back group i) e r)
       at_node (signal.Member group i) e r = inner (signal.Member group i) e r (λ k. absurd k) refl
+      at_node (signal.Read table i) e r = inner (signal.Read table i) e r (λ k. tt) refl
+      at_node (signal.Write table w x i) e r = inner (signal.Write table w x i) e r (λ k. tt) refl
 
       unread : (n : Signal) → node g s ≡ n → rate_of g s ≡ rate.Constant → constant_base n (at numbers s) ≡ kind.Held (at numbers s) → Based s
       unread n e r h = AsHeld (λ z. let y = sym r ∙ z in cc) (rated rate.Constant r ∙ ap (λ n. constant_base n (at numbers s)) e ∙ h)
@@ -233,6 +241,8 @@ module _ (g : Graph) (p : Lanes) (stands : Vec ℕ Global) (bases kinds : Vec Ki
       constant (signal.Delay x d max) e r = unread (signal.Delay x d max) e r refl
       constant (signal.Back group i) e r = unread (signal.Back group i) e r refl
       constant (signal.Member group i) e r = unread (signal.Member group i) e r refl
+      constant (signal.Read table i) e r = unread (signal.Read table i) e r refl
+      constant (signal.Write table w x i) e r = unread (signal.Write table w x i) e r refl
 
       at_rate : (r : Rate) → rate_of g s ≡ r → Based s
       at_rate rate.Constant e = constant (node g s) refl e
@@ -458,6 +468,7 @@ module _ (g : Graph) (p : Lanes) (stands : Vec ℕ Global) (bases kinds : Vec Ki
       loaded = λ s o ls home is. kind_loads s (stand g o) ls (read_within s o ls is) home (reads_reach g ordered s (stand g o) (read_of s o ls is));
       base_loaded = λ s ls home. base_loads s s ls ls home (reaches_self (links_of g) s);
       delays = delay_lane;
+      tableless = no_tables g graph passes.tableless;
       computed = computed_base;
     }
       where

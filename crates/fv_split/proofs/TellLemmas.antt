@@ -7,13 +7,13 @@ use Rattle.std.proofs.lemmas.Bool.{and_parts, cases_eq, eq-eqb, eqb-true, ne_eqb
 use Rattle.std.proofs.lemmas.List.{length-set, length-replicate, get_or-set_same, get_or-set_other}
 use Rattle.std.proofs.lemmas.List.Elements.{All-head, All-tail, All-get_or}
 use Rattle.fv_outside.specs.declared.tasks.Reads.{Reads}
-use Rattle.fv_outside.specs.Tasks.{bit, total, reads_loop}
-use Rattle.fv_split_components.specs.Reach.{at}
+use Rattle.fv_outside.specs.headline.Tasks.{bit, total, reads_loop}
+use Rattle.fv_split_components.specs.headline.Reach.{at}
 use Rattle.fv_loopcode.specs.declared.step.Step.{Step}
 use Rattle.fv_loopcode.specs.declared.step.Step.TheVariants as step
 use Rattle.fv_loopcode.specs.Code.{NamesLane}
 use Rattle.fv_split_plan.specs.Separated.{lane_at}
-use Rattle.fv_split_plan.specs.View.{loads_lane}
+use Rattle.fv_split_plan.specs.headline.View.{loads_lane}
 use Rattle.fv_split_code.specs.Emitted.{code_in}
 use Rattle.fv_split.specs.inner.ToldReads.{ReadsSoFar, was_told, with_read, reads_of_step, reads_of_steps, reads_of_loops}
 

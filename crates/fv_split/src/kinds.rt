@@ -1,9 +1,9 @@
 // What each signal is to its own code, and to code that reads it.
 
 ghost use Rattle.std.specs.Prelude.{◌≡◌, ◌<◌, ℕ, length, map, All, IfOk, unwrap_or};
-ghost use Rattle.fv_split_components.specs.Reach.{at};
-ghost use Rattle.fv_signal.specs.Value.{NamesWithin};
-ghost use Rattle.fv_signal.specs.Rates.{rates as rates_of};
+ghost use Rattle.fv_split_components.specs.headline.Reach.{at};
+ghost use Rattle.fv_signal.specs.headline.Value.{NamesWithin};
+ghost use Rattle.fv_signal.specs.headline.Rates.{rates as rates_of};
 ghost use Rattle.fv_split_plan.specs.Separated.{lane_at};
 ghost use Rattle.fv_split.specs.inner.Bases.{base_of as base_in, kind_with as kind_in, AreBases, AreKinds};
 
@@ -45,6 +45,13 @@ fn base_of(
             Signal::Point { op: _, args: _ } => Kind::Inner,
             Signal::Delay { x: _, d: _, max: _ } => Kind::Inner,
             Signal::Member { group: _, i: _ } => Kind::Inner,
+            Signal::Read { table: _, r: _ } => Kind::Inner,
+            Signal::Write {
+                table: _,
+                w: _,
+                x: _,
+                r: _,
+            } => Kind::Inner,
         },
     }
 }

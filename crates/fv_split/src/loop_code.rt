@@ -5,7 +5,8 @@ ghost use Rattle.fv_loopcode.specs.Code.{AreSound};
 ghost use Rattle.fv_split_code.specs.Emitted.{code_in};
 ghost use Rattle.fv_split.specs.inner.Lists.{AreCoded};
 
-use fv_loopcode::{Code, Step};
+use fv_loopcode::Step;
+use fv_loopcode_machine::Code;
 use std::alloc::{AllocError, Global};
 
 /// The code of sound steps.

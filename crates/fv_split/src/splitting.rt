@@ -1,10 +1,10 @@
 // How a graph is split.
 
-ghost use Rattle.std.specs.Prelude.{◌≡◌, length, IfOk};
-ghost use Rattle.fv_num.specs.Frames.{table};
-ghost use Rattle.fv_signal.specs.Rates.{rates as rates_of};
-ghost use Rattle.fv_analysis.specs.History.{history_of};
-ghost use Rattle.fv_split_plan.specs.Plans.{PlanStands, PlanReads, PlanNames};
+ghost use Rattle.std.specs.Prelude.{◌≡◌, [], length, IfOk};
+ghost use Rattle.fv_num.specs.headline.Frames.{table};
+ghost use Rattle.fv_signal.specs.headline.Rates.{rates as rates_of};
+ghost use Rattle.fv_analysis.specs.headline.History.{history_of};
+ghost use Rattle.fv_split_plan.specs.headline.Plans.{PlanStands, PlanReads, PlanNames};
 
 use crate::kinds::{bases, kinds};
 use crate::lists::{infos, output_lanes};
@@ -17,7 +17,7 @@ use fv_split_lanes::assign_lanes;
 use fv_split_plan::Plan;
 use std::alloc::{AllocError, Global};
 
-/// The loops of a graph, whose rates and histories these are.
+/// The loops of a graph without tables, whose rates and histories these are.
 pub fn split(
     alloc: Global,
     graph: &Graph,
@@ -25,6 +25,7 @@ pub fn split(
     histories: &Histories,
 ) -> Result<Plan, AllocError>
     requires rates { rates.now ≡ rates_of graph.now.signals }
+    requires tableless { graph.now.tables ≡ [] }
     requires histories { histories.now ≡ table (length graph.now.signals) (history_of graph.now) }
     // The plan stands for the graph: lanes, loops and their order, codes, held values, outputs.
     ensures stands { IfOk result (λ plan. PlanStands graph.now plan) }

@@ -7,19 +7,21 @@ use Rattle.std.proofs.lemmas.List.{get_or-set_same, get_or-set_other}
 use Rattle.std.proofs.lemmas.Bool.{and_right, cases_lt, cases_eq, eq-eqb, ne_eqb, lt-ltb, le-ltb}
 use Rattle.fv_signal.specs.declared.signal.Signal.{Signal}
 use Rattle.fv_signal.specs.declared.signal.Signal.TheVariants as signal
-use Rattle.fv_signal.specs.Value.{Graph}
-use Rattle.fv_split_components.specs.Reach.{at}
+use Rattle.fv_signal.specs.headline.Value.{Graph}
+use Rattle.fv_split_components.specs.headline.Reach.{at}
 use Rattle.fv_loopcode.specs.declared.step.Step.{Step}
 use Rattle.fv_loopcode.specs.declared.step.Step.TheVariants as step
-use Rattle.fv_loopcode.specs.Obeys.{Roles, Place, OfLane, nothing, with_place}
+use Rattle.fv_loopcode.specs.headline.Obeys.{Roles, Place, OfLane, nothing, with_place}
 use Rattle.fv_split_code.specs.declared.kind.Kind.{Kind}
 use Rattle.fv_split_code.specs.declared.kind.Kind.TheVariants as kind
-use Rattle.fv_analysis.specs.Stands.{StandsAt}
-use Rattle.fv_split_plan.specs.Fits.{Mean, Value, mean_at, Names}
+use Rattle.fv_analysis.specs.headline.Stands.{StandsAt}
+use Rattle.fv_split_plan.specs.headline.Fits.{Names}
+use Rattle.fv_split_plan.specs.Fits.{Mean, Value, mean_at}
 use Rattle.fv_split_code.specs.Emits.{Serves, KindFits, IsKnown, IsLoaded, kind_of, owned_by, MeansNow}
 use Rattle.fv_split_code.proofs.StepLemmas.{serves_push, fits_whole}
 use Rattle.fv_split_code.specs.declared.tables.Tables.{Tables}
-use Rattle.fv_split_plan.specs.Separated.{IsComputed, lane_at}
+use Rattle.fv_split_plan.specs.headline.Separated.{IsComputed}
+use Rattle.fv_split_plan.specs.Separated.{lane_at}
 use Rattle.fv_split_code.specs.Emitted.{EndedAre, known_at, IsBase, Suits, ComputesNow, OwnNow, ServesUpTo, with_append, AddsNow, code_in, AllServe, AreCodes}
 use Rattle.fv_split_code.proofs.ComputeLemmas.{known_yes}
 

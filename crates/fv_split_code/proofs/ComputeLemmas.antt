@@ -7,24 +7,27 @@ use Rattle.std.proofs.lemmas.List.Elements.{All-get_or, All-weaker, All-take, Al
 use Rattle.std.proofs.lemmas.Bool.{cases_lt, eq-eqb, lt-ltb}
 use Rattle.fv_num.specs.declared.op.Op.{Op}
 use Rattle.fv_num.specs.declared.op.Op.TheVariants.{Max, Abs, Select2, Select3}
-use Rattle.fv_num.specs.Words.{inputs_of}
+use Rattle.fv_num.specs.headline.Words.{inputs_of}
 use Rattle.fv_signal.specs.declared.signal.Signal.{Signal}
 use Rattle.fv_signal.specs.declared.signal.Signal.TheVariants as signal
-use Rattle.fv_signal.specs.Value.{Graph, IsOrdered, OperandsBelow}
-use Rattle.fv_split_components.specs.Reach.{at}
+use Rattle.fv_signal.specs.headline.Value.{Graph, IsOrdered, OperandsBelow}
+use Rattle.fv_split_components.specs.headline.Reach.{at}
 use Rattle.fv_loopcode.specs.declared.step.Step.{Step}
 use Rattle.fv_loopcode.specs.declared.step.Step.TheVariants as step
-use Rattle.fv_loopcode.specs.Obeys.{Roles, Place, OfLane, nothing, done_after}
+use Rattle.fv_loopcode.specs.headline.Obeys.{Roles, Place, OfLane, nothing, done_after}
 use Rattle.fv_split_code.specs.declared.kind.Kind.{Kind}
 use Rattle.fv_split_code.specs.declared.kind.Kind.TheVariants as kind
-use Rattle.fv_analysis.specs.Stands.{stand, StandsAt}
-use Rattle.fv_split_plan.specs.Fits.{Mean, Value, mean_at, Names, OfDelay, OfPoint, OfStill, StepFits}
+use Rattle.fv_analysis.specs.headline.Stands.{stand, StandsAt}
+use Rattle.fv_split_plan.specs.headline.Fits.{Names}
+use Rattle.fv_split_plan.specs.Fits.{Mean, Value, mean_at, OfDelay, OfPoint, OfStill, StepFits}
 use Rattle.fv_split_code.specs.Emits.{Serves, KindFits, IsKnown, IsLoaded, kind_of, owned_by, MeansNow, MeanNow, AreFound}
 use Rattle.fv_analysis.proofs.StandLemmas.{stands_well}
 use Rattle.fv_split_code.proofs.StepLemmas.{serves_push, means_last, long_means}
 use Rattle.fv_split_code.specs.declared.tables.Tables.{Tables}
-use Rattle.fv_split_plan.specs.Separated.{operands, lane_at}
+use Rattle.fv_split_plan.specs.headline.Separated.{operands}
+use Rattle.fv_split_plan.specs.Separated.{lane_at}
 use Rattle.fv_split_plan.proofs.FitsLemmas.{map_get}
+use Rattle.fv_split_plan.specs.Separated.{IsTabled}
 use Rattle.fv_split_code.specs.Emitted.{AreTables, known_at, IsOperand, Suits, StoodNow, ComputesNow}
 
 -- what a signal stands for is no higher
@@ -220,3 +223,7 @@ stood_within stands args those m n e long within inside k d l = subst (λ xs. ge
     all : All (λ s. s < n) (take m (map (at stands) args))
     all = All-take (λ s. s < n) m (map (at stands) args) (All-map (λ s. s < n) (at stands) args (All-weaker (λ a. a < n) (λ a. at stands a < n)
         (λ a h. All-get_or (λ s. s < n) stands a 0 (omega (arith, long)) inside) args within))
+
+-- no table is computed
+pub computes_none : (t : Tables) (regs : List ℕ) (j : ℕ) (old new : List Step) (n : Signal) (w : ℕ) → IsTabled n → ComputesNow t regs j old new n w
+computes_none t regs j old new n w is g p r s u at home computed = absurd (u.tableless s at.within (subst IsTabled (sym at.is) is))

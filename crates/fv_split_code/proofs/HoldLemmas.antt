@@ -7,25 +7,27 @@ use Rattle.std.proofs.lemmas.List.Elements.{All-head, All-tail, All-take, All-pu
 use Rattle.std.proofs.lemmas.Bool.{cases_eq, cases_lt}
 use Rattle.std.specs.Prelude.{All}
 use Rattle.fv_num.specs.declared.op.Op.{Op}
-use Rattle.fv_num.specs.Words.{argument, apply_of, inputs_of}
-use Rattle.fv_num.specs.Frames.{Frame, Stream}
+use Rattle.fv_num.specs.headline.Words.{argument, apply_of, inputs_of}
+use Rattle.fv_num.specs.headline.Frames.{Frame, Stream}
 use Rattle.fv_signal.specs.declared.signal.Signal.{Signal}
 use Rattle.fv_signal.specs.declared.signal.Signal.TheVariants as signal
 use Rattle.fv_signal.specs.declared.rate.Rate.{Rate}
 use Rattle.fv_signal.specs.declared.rate.Rate.TheVariants as rate
-use Rattle.fv_signal.specs.Value.{Graph, value, signal_at, IsOrdered, OperandsBelow}
-use Rattle.fv_signal.specs.Rates.{faster, fastest, rate_in, rate_of, NamesControl}
+use Rattle.fv_signal.specs.headline.Value.{Graph, value, signal_at, IsOrdered, OperandsBelow}
+use Rattle.fv_signal.specs.headline.Rates.{faster, fastest, rate_in, rate_of, NamesControl}
 use Rattle.fv_signal.proofs.Rates.{rate_is}
 use Rattle.fv_signal.proofs.Values.{values_are_given}
-use Rattle.fv_split_components.specs.Reach.{at}
+use Rattle.fv_split_components.specs.headline.Reach.{at}
 use Rattle.fv_loopcode.specs.declared.step.Step.{Step}
 use Rattle.fv_loopcode.specs.declared.step.Step.TheVariants as step
-use Rattle.fv_loopcode.specs.State.{loads, lanes_alone}
-use Rattle.fv_loopcode.specs.Code.{Pass, passed, stepped, opening, step_value, NamesHeld, NamesInput, IsStill, AreOrdered, IsWhole}
+use Rattle.fv_loopcode.specs.headline.State.{loads, lanes_alone}
+use Rattle.fv_loopcode.specs.headline.Code.{Pass, passed, stepped, opening, step_value, NamesHeld, NamesInput, IsStill}
+use Rattle.fv_loopcode.specs.Code.{AreOrdered, IsWhole}
 use Rattle.fv_loopcode.specs.Code.{OperandsBelow as StepOperandsBelow}
-use Rattle.fv_analysis.specs.Stands.{node, StandsAt}
+use Rattle.fv_analysis.specs.headline.Stands.{node, StandsAt}
 use Rattle.fv_split_plan.proofs.FitsLemmas.{map_take, map_map, map_get}
 use Rattle.fv_split_code.proofs.ComputeLemmas.{some_inputs}
+use Rattle.fv_split_plan.specs.Separated.{IsTabled, HasNoTables}
 use Rattle.fv_split_code.specs.Held.{held_registers, HoldsUpTo, StepIs, HoldsNow, HoldsIf}
 
 passed_push : (held input : ℕ → ℤ) (index : ℕ) (p : Pass) (xs : List Step) (x : Step) →
@@ -253,9 +255,9 @@ module _ (g : Graph) (ordered : IsOrdered g) (s : ℕ) (l : s < length g.signals
   no_rate : (n : Signal) → node g s ≡ n → rate_in (rate_of g) n ≡ rate.Sample → rate_of g s ≡ rate.Sample
   no_rate n e r = rate_is g ordered s (signal.Const (pos 0)) l ∙ ap (rate_in (rate_of g)) e ∙ r
 
-  holds_step : (n : Signal) (x : Step) → node g s ≡ n → rate_of g s ≢ rate.Sample → StepIs numbers n x → IsWhole x → Held x
-  holds_step (signal.Input i) x e slow is whole = absurd (slow (no_rate (signal.Input i) e refl))
-  holds_step (signal.Const n) x e slow is whole = subst Held (sym is)
+  holds_step : HasNoTables g → (n : Signal) (x : Step) → node g s ≡ n → rate_of g s ≢ rate.Sample → StepIs numbers n x → IsWhole x → Held x
+  holds_step none (signal.Input i) x e slow is whole = absurd (slow (no_rate (signal.Input i) e refl))
+  holds_step none (signal.Const n) x e slow is whole = subst Held (sym is)
       (holds_more (step.Number n) slow (λ X c t controls same more. sym (node_value (signal.Const n) e X c t)) (record {
         names = λ k n. absurd n;
         still =
@@ -263,7 +265,7 @@ module _ (g : Graph) (ordered : IsOrdered g) (s : ℕ) (l : s < length g.signals
         inputs = λ i n. n;
         below = tt;
       }))
-  holds_step (signal.Control k) x e slow is whole = subst Held (sym is)
+  holds_step none (signal.Control k) x e slow is whole = subst Held (sym is)
       (holds_more (step.Held k) slow (λ X c t controls same more. more k (inl refl) ∙ sym (node_value (signal.Control k) e X c t))
       (record {
         names = λ m n. elim n [ inl z ↦ record { place = s; within = l; is = e ∙ ap signal.Control z } | inr z ↦ absurd z ];
@@ -272,14 +274,16 @@ module _ (g : Graph) (ordered : IsOrdered g) (s : ℕ) (l : s < length g.signals
             λ i n. n;
         below = tt;
       }))
-  holds_step (signal.Point op args) x e slow is whole = subst Held (sym is) (holds_point op args e slow (sym (length_numbers args) ∙ subst IsWhole is whole))
+  holds_step none (signal.Point op args) x e slow is whole = subst Held (sym is) (holds_point op args e slow (sym (length_numbers args) ∙ subst IsWhole is whole))
     where
       length_numbers : (ws : List ℕ) → length (map (at numbers) ws) ≡ length ws
       length_numbers [] = refl
       length_numbers (w ∷ ws) = let z = length_numbers ws in omega (arith, z)
-  holds_step (signal.Delay d w max) x e slow is whole = absurd (slow (no_rate (signal.Delay d w max) e refl))
-  holds_step (signal.Back group i) x e slow is whole = absurd (slow (no_rate (signal.Back group i) e refl))
-  holds_step (signal.Member group i) x e slow is whole = absurd (slow (no_rate (signal.Member group i) e refl))
+  holds_step none (signal.Delay d w max) x e slow is whole = absurd (slow (no_rate (signal.Delay d w max) e refl))
+  holds_step none (signal.Back group i) x e slow is whole = absurd (slow (no_rate (signal.Back group i) e refl))
+  holds_step none (signal.Member group i) x e slow is whole = absurd (slow (no_rate (signal.Member group i) e refl))
+  holds_step none (signal.Read table r) x e slow is whole = absurd (none s l (subst IsTabled (sym e) tt))
+  holds_step none (signal.Write table w y r) x e slow is whole = absurd (none s l (subst IsTabled (sym e) tt))
 
 -- ---- one signal more
 
@@ -301,10 +305,10 @@ pub record AreHeld (g : Graph) (s : ℕ) (numbers : List ℕ) (steps : List Step
   pub long : length numbers ≡ length g.signals
   pub holds : HoldsUpTo g s numbers steps
 
-pub holds_if : (g : Graph) → IsOrdered g → (s : ℕ) (n : Signal) (r : Rate) (a : List ℕ) (b : List Step) (c : List ℕ) (d : List Step) → StandsAt g s n →
+pub holds_if : (g : Graph) → IsOrdered g → HasNoTables g → (s : ℕ) (n : Signal) (r : Rate) (a : List ℕ) (b : List Step) (c : List ℕ) (d : List Step) → StandsAt g s n →
     r ≡ rate_of g s →
     HoldsIf s n r a b c d → AreHeld g s a b → AreHeld g (suc s) c d
-holds_if g ordered s n r a b c d at er k h = go r refl k
+holds_if g ordered none s n r a b c d at er k h = go r refl k
   where
     there : s < length a
     there = let z = at.within in let y = h.long in omega (arith, z, y)
@@ -314,7 +318,7 @@ holds_if g ordered s n r a b c d at er k h = go r refl k
       long = ap length k.numbers ∙ length-set a s (length b) ∙ h.long;
       holds =
           subst (λ x. HoldsUpTo g (suc s) x d) (sym k.numbers) (subst (HoldsUpTo g (suc s) (set a s (length b))) (sym k.steps)
-          (holds_step g ordered s at.within a b there h.holds n k.step at.is (λ e. slow (er ∙ e)) k.is k.whole));
+          (holds_step g ordered s at.within a b there h.holds none n k.step at.is (λ e. slow (er ∙ e)) k.is k.whole));
     }
 
     go : (q : Rate) → r ≡ q → HoldsIf s n q a b c d → AreHeld g (suc s) c d

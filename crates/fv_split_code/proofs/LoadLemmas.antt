@@ -7,16 +7,18 @@ use Rattle.std.proofs.lemmas.List.{length_push}
 use Rattle.std.proofs.lemmas.List.Elements.{All-nil, All-cons}
 use Rattle.fv_num.specs.declared.op.Op.{Op}
 use Rattle.fv_signal.specs.declared.signal.Signal.TheVariants as signal
-use Rattle.fv_signal.specs.Value.{Graph}
-use Rattle.fv_split_components.specs.Reach.{at}
+use Rattle.fv_signal.specs.headline.Value.{Graph}
+use Rattle.fv_split_components.specs.headline.Reach.{at}
 use Rattle.fv_loopcode.specs.declared.step.Step.{Step}
 use Rattle.fv_loopcode.specs.declared.step.Step.TheVariants as step
-use Rattle.fv_loopcode.specs.Code.{NamesHeld, NamesInput, OperandsBelow, IsSound}
-use Rattle.fv_loopcode.specs.Obeys.{Roles, Place, OfLane, done_after}
-use Rattle.fv_analysis.specs.Stands.{StandsAt}
-use Rattle.fv_split_plan.specs.Fits.{Mean, Value, Literal, mean_at, Names, LoadFits, OfDelay, OfBack, OfNow, PointFits, OfPoint, OfStill, CodeFits}
-use Rattle.fv_split_plan.specs.View.{PlanView, lane_info, loads_lane}
-use Rattle.fv_split_plan.specs.Plans.{LoadsWithin, NamesChannel}
+use Rattle.fv_loopcode.specs.headline.Code.{NamesHeld, NamesInput}
+use Rattle.fv_loopcode.specs.Code.{OperandsBelow, IsSound}
+use Rattle.fv_loopcode.specs.headline.Obeys.{Roles, Place, OfLane, done_after}
+use Rattle.fv_analysis.specs.headline.Stands.{StandsAt}
+use Rattle.fv_split_plan.specs.headline.Fits.{Names}
+use Rattle.fv_split_plan.specs.Fits.{Mean, Value, Literal, mean_at, LoadFits, OfDelay, OfBack, OfNow, PointFits, OfPoint, OfStill, CodeFits}
+use Rattle.fv_split_plan.specs.headline.View.{PlanView, lane_info, loads_lane}
+use Rattle.fv_split_plan.specs.headline.Plans.{LoadsWithin, NamesChannel}
 
 module _ (g : Graph) (p : Names) (r q : Roles) (own : (l : Place) → q.own l ≡ r.own l) where
   load_fits : (done : Place → Bool) (ms : List Mean) (lane back max : ℕ) (m : Mean) →

@@ -1,12 +1,13 @@
 -- Code that is emitted for a loop, step by step.
 use Rattle.std.specs.Prelude.{◌≡◌, ℕ, ◌<◌, ◌≤◌, List, [], ◌∷◌, ◌++◌, length, slice_index_or, Bool, true, false, ◌&&◌, nat_lt, nat_eq}
 use Rattle.fv_signal.specs.declared.signal.Signal.TheVariants as signal
-use Rattle.fv_signal.specs.Value.{Graph, definition}
+use Rattle.fv_signal.specs.headline.Value.{Graph, definition}
 use Rattle.fv_loopcode.specs.declared.step.Step.{Step}
-use Rattle.fv_loopcode.specs.Obeys.{Roles, Place, OfLane, nothing, done_after}
-use Rattle.fv_split_components.specs.Reach.{at}
-use Rattle.fv_analysis.specs.Stands.{stand, StandsAt}
-use Rattle.fv_split_plan.specs.Fits.{Mean, Value, mean_at, Names, IsAlways, StepFits}
+use Rattle.fv_loopcode.specs.headline.Obeys.{Roles, Place, OfLane, nothing, done_after}
+use Rattle.fv_split_components.specs.headline.Reach.{at}
+use Rattle.fv_analysis.specs.headline.Stands.{stand, StandsAt}
+use Rattle.fv_split_plan.specs.headline.Fits.{Names}
+use Rattle.fv_split_plan.specs.Fits.{Mean, Value, mean_at, IsAlways, StepFits}
 use Rattle.fv_split_code.specs.declared.kind.Kind.{Kind}
 use Rattle.fv_split_code.specs.declared.kind.Kind.TheVariants as kind
 

@@ -4,14 +4,16 @@ use Rattle.std.specs.Prelude.{◌&&◌, nat_lt, nat_eq, All}
 use Rattle.std.specs.declared.alloc.Global.{Global}
 use Rattle.fv_signal.specs.declared.signal.Signal.{Signal}
 use Rattle.fv_signal.specs.declared.signal.Signal.TheVariants as signal
-use Rattle.fv_signal.specs.Value.{Graph, IsOrdered}
-use Rattle.fv_split_components.specs.Reach.{at}
+use Rattle.fv_signal.specs.headline.Value.{Graph, IsOrdered}
+use Rattle.fv_split_components.specs.headline.Reach.{at}
 use Rattle.fv_loopcode.specs.declared.step.Step.{Step}
 use Rattle.fv_loopcode.specs.declared.step.Step.TheVariants as step
-use Rattle.fv_loopcode.specs.Obeys.{Roles, Place, OfLane, nothing}
-use Rattle.fv_analysis.specs.Stands.{node, stand, StandsAt}
-use Rattle.fv_split_plan.specs.Separated.{operands, IsComputed, lane_at}
-use Rattle.fv_split_plan.specs.Fits.{Mean, Value, mean_at, Names, CodeFits}
+use Rattle.fv_loopcode.specs.headline.Obeys.{Roles, Place, OfLane, nothing}
+use Rattle.fv_analysis.specs.headline.Stands.{node, stand, StandsAt}
+use Rattle.fv_split_plan.specs.headline.Separated.{operands, IsComputed}
+use Rattle.fv_split_plan.specs.Separated.{HasNoTables, lane_at}
+use Rattle.fv_split_plan.specs.headline.Fits.{Names}
+use Rattle.fv_split_plan.specs.Fits.{Mean, Value, mean_at, CodeFits}
 use Rattle.fv_split_code.specs.declared.kind.Kind.{Kind}
 use Rattle.fv_split_code.specs.declared.kind.Kind.TheVariants as kind
 use Rattle.fv_split_code.specs.declared.tables.Tables.{Tables}
@@ -74,6 +76,8 @@ pub record Suits (g : Graph) (p : Names) (r : Roles) (t : Tables) (j : ℕ) : Ty
   pub loaded : (s o : ℕ) → s < length g.signals → at t.homes.items s ≡ j → IsOperand g s o → IsLoaded r (kind_of t.kinds.items (stand g o))
   pub base_loaded : (s : ℕ) → s < length g.signals → at t.homes.items s ≡ j → IsLoaded r (kind_of t.bases.items s)
   pub delays : (s x d max : ℕ) → StandsAt g s (signal.Delay x d max) → at t.homes.items s ≡ j → 1 ≤ max → DelayLane g p r t x max
+  -- no signal is a table
+  pub tableless : HasNoTables g
   -- a signal at home here that is nothing else is computed
   pub computed : (s : ℕ) → s < length g.signals → at t.homes.items s ≡ j → kind_of t.bases.items s ≡ kind.Inner → IsComputed (node g s)
 

@@ -1,18 +1,19 @@
 -- The code of held values.
 use Rattle.std.specs.Prelude.{◌≡◌, ◌≢◌, ℕ, ◌-◌, ◌<◌, ◌≤◌, List, [], ◌∷◌, ◌++◌, length, map, slice_set, ℤ, pos}
-use Rattle.fv_num.specs.Frames.{Frame, Stream}
+use Rattle.fv_num.specs.headline.Frames.{Frame, Stream}
 use Rattle.fv_signal.specs.declared.signal.Signal.{Signal}
 use Rattle.fv_signal.specs.declared.signal.Signal.TheVariants as signal
 use Rattle.fv_signal.specs.declared.rate.Rate.{Rate}
 use Rattle.fv_signal.specs.declared.rate.Rate.TheVariants as rate
-use Rattle.fv_signal.specs.Value.{Graph, value}
-use Rattle.fv_signal.specs.Rates.{rate_of, NamesControl}
-use Rattle.fv_split_components.specs.Reach.{at}
+use Rattle.fv_signal.specs.headline.Value.{Graph, value}
+use Rattle.fv_signal.specs.headline.Rates.{rate_of, NamesControl}
+use Rattle.fv_split_components.specs.headline.Reach.{at}
 use Rattle.fv_loopcode.specs.declared.step.Step.{Step}
 use Rattle.fv_loopcode.specs.declared.step.Step.TheVariants as step
-use Rattle.fv_loopcode.specs.State.{lanes_alone}
-use Rattle.fv_loopcode.specs.Code.{passed, opening, NamesHeld, AreOrdered, IsWhole}
-use Rattle.fv_split_plan.specs.Plans.{IsHeldCode}
+use Rattle.fv_loopcode.specs.headline.State.{lanes_alone}
+use Rattle.fv_loopcode.specs.headline.Code.{passed, opening, NamesHeld}
+use Rattle.fv_loopcode.specs.Code.{AreOrdered, IsWhole}
+use Rattle.fv_split_plan.specs.headline.Plans.{IsHeldCode}
 
 -- the registers of a code that reads no sample and no lane
 abbrev pub held_registers : (controls : ℕ → ℤ) → List Step → List ℤ
@@ -42,6 +43,8 @@ StepIs numbers (signal.Point op args) x = x ≡ step.Point op (map (at numbers) 
 StepIs numbers (signal.Delay d w max) x = Unit {0}
 StepIs numbers (signal.Back group i) x = Unit {0}
 StepIs numbers (signal.Member group i) x = Unit {0}
+StepIs numbers (signal.Read table r) x = Unit {0}
+StepIs numbers (signal.Write table w y r) x = Unit {0}
 
 -- one held value more
 pub record HoldsNow (s : ℕ) (n : Signal) (old_numbers : List ℕ) (old : List Step) (new_numbers : List ℕ) (new : List Step) : Type 0 where

@@ -1,10 +1,10 @@
 // The code of the loops, signal by signal.
 
 ghost use Rattle.std.specs.Prelude.{◌≡◌, [], ◌++◌, ◌∷◌, ℕ, suc, ◌<◌, ◌≤◌, length, take, map, All, IfOk, OnOk};
-ghost use Rattle.fv_split_components.specs.Reach.{at};
+ghost use Rattle.fv_split_components.specs.headline.Reach.{at};
 ghost use Rattle.fv_signal.specs.declared.signal.Signal.{Signal};
 ghost use Rattle.fv_signal.specs.declared.signal.Signal.TheVariants as signal;
-ghost use Rattle.fv_split_plan.specs.Separated.{OperandsWithin};
+ghost use Rattle.fv_split_plan.specs.inner.Separated.{OperandsWithin};
 ghost use Rattle.fv_split_code.specs.Emitted.{AreTables, StoodNow, ComputesNow, OwnNow, AddsNow, AreCodes, with_append, code_in};
 
 use crate::kind::Kind;
@@ -164,6 +164,13 @@ fn computed(
         Signal::Control(_) => Ok(0),
         Signal::Back { group: _, i: _ } => Ok(0),
         Signal::Member { group: _, i: _ } => Ok(0),
+        Signal::Read { table: _, r: _ } => Ok(0),
+        Signal::Write {
+            table: _,
+            w: _,
+            x: _,
+            r: _,
+        } => Ok(0),
     }
 }
 

@@ -2,7 +2,7 @@
 use Rattle.std.proofs.Common.{◌≡◌, inl, inr, ℕ, ◌+◌, ◌-◌, ◌<◌, ◌≤◌, List, [], ◌∷◌, ◌++◌, length, get_or, refl, sym, ap, subst, ◌∙◌, arith}
 use Rattle.std.proofs.lemmas.List.{length_push, get_or_push, get_or_append_left, get_or-take, length-take-le, get_or_past}
 use Rattle.std.proofs.lemmas.Bool.{cases_lt}
-use Rattle.fv_split_components.specs.Reach.{Links, at, Leads, Reaches}
+use Rattle.fv_split_components.specs.headline.Reach.{Links, at, Leads, Reaches}
 use Rattle.fv_split_components.specs.declared.search.Mark.{Mark}
 use Rattle.fv_split_components.specs.declared.search.Mark.TheVariants.{New, Open, Done}
 use Rattle.fv_split_components.specs.declared.search.Class.{Class}

@@ -1,7 +1,7 @@
 -- What reaches a node that is being looked at.
 use Rattle.std.proofs.Common.{inl, inr, ℕ, ◌-◌, ◌<◌, ◌≤◌, length, subst, arith}
 use Rattle.std.proofs.lemmas.Bool.{cases_lt, cases_eq}
-use Rattle.fv_split_components.specs.Reach.{Links, at, Reaches}
+use Rattle.fv_split_components.specs.headline.Reach.{Links, at, Reaches}
 use Rattle.fv_split_components.specs.inner.Search.{State, class, IsStacked, IsReaching, IsHeld}
 use Rattle.fv_split_components.proofs.Walks.{reaches_trans}
 

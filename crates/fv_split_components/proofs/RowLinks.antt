@@ -1,7 +1,8 @@
 -- Rows of links, and the nodes that they name.
 use Rattle.std.proofs.Common.{ℕ, ◌<◌, All, subst, refl, get_or}
 use Rattle.std.proofs.lemmas.List.Elements.{All-get_or, All-from_get_or}
-use Rattle.fv_split_components.specs.Reach.{Links, AreLinks}
+use Rattle.fv_split_components.specs.headline.Reach.{Links}
+use Rattle.fv_split_components.specs.Reach.{AreLinks}
 
 -- rows whose nodes are all below n are links below n
 pub links_from_rows : (next : Links) (n : ℕ) → ((a : ℕ) → a < n → All (λ b. b < n) (next a)) → AreLinks next n

@@ -4,7 +4,8 @@ use Rattle.std.proofs.Common.{set, take, drop, replicate, refl, sym, ap, subst, 
 use Rattle.std.proofs.lemmas.List.{length-replicate, get_or-set_other, get_or-set_same, length_push, length-append}
 use Rattle.std.proofs.lemmas.List.{length-take-le, length-drop, get_or-drop, take-append-drop, drop_more, drop_all}
 use Rattle.std.proofs.lemmas.Bool.{cases_eq}
-use Rattle.fv_split_components.specs.Reach.{Links, at, Walk, AreLinks, AreComponents}
+use Rattle.fv_split_components.specs.headline.Reach.{Links, at, Walk}
+use Rattle.fv_split_components.specs.Reach.{AreLinks, AreComponents}
 use Rattle.fv_split_components.specs.declared.search.Mark.{Mark}
 use Rattle.fv_split_components.specs.declared.search.Mark.TheVariants.{New, Open, Done}
 use Rattle.fv_split_components.specs.declared.search.Class.{Class}

@@ -2,7 +2,7 @@
 use Rattle.std.proofs.Common.{◌≡◌, ◌⊎◌, inl, inr, ℕ, ◌+◌, ◌-◌, ◌<◌, ◌≤◌, List, [], ◌∷◌, ◌++◌, length, refl, sym, ap, subst, ◌∙◌, arith}
 use Rattle.std.proofs.lemmas.List.{length_push, get_or_push, get_or_append_left, get_or-take, length-take-le}
 use Rattle.std.proofs.lemmas.Bool.{cases_eq, cases_lt}
-use Rattle.fv_split_components.specs.Reach.{Links, at, Reaches}
+use Rattle.fv_split_components.specs.headline.Reach.{Links, at, Reaches}
 use Rattle.fv_split_components.specs.declared.search.Mark.TheVariants.{Open, Done}
 use Rattle.fv_split_components.specs.inner.Search.{State, no_class, mark, class, Together, Followed, Finished, Before, Waiting, IsSearch, IsHeld, IsCountUpTo}
 use Rattle.fv_split_components.specs.inner.Search.{collapsed}

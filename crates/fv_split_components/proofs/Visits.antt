@@ -2,7 +2,8 @@
 use Rattle.std.proofs.Common.{◌≡◌, ◌≢◌, inl, inr, ℕ, ◌+◌, ◌-◌, ◌<◌, ◌≤◌, [], ◌∷◌, length, refl, sym, ap, subst, ◌∙◌, arith}
 use Rattle.std.proofs.lemmas.List.{length-set, length_push, length-append, get_or-set_same, get_or_push, get_or_append_left, get_or-append-add}
 use Rattle.std.proofs.lemmas.Bool.{cases_lt}
-use Rattle.fv_split_components.specs.Reach.{Links, at, Leads, Reaches, AreLinks}
+use Rattle.fv_split_components.specs.headline.Reach.{Links, at, Leads, Reaches}
+use Rattle.fv_split_components.specs.Reach.{AreLinks}
 use Rattle.fv_split_components.specs.declared.search.Mark.TheVariants.{New, Open, Done}
 use Rattle.fv_split_components.specs.declared.search.Class.{Class}
 use Rattle.fv_split_components.specs.inner.Search.{State, no_class, mark, class, Together, Followed, Finished, Before, Waiting, IsMarked}

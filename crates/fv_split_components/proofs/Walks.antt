@@ -1,6 +1,6 @@
 -- Walks, one after another.
 use Rattle.std.proofs.Common.{ℕ, zero, suc, refl, sym, subst}
-use Rattle.fv_split_components.specs.Reach.{Links, Leads, Walk, Reaches}
+use Rattle.fv_split_components.specs.headline.Reach.{Links, Leads, Walk, Reaches}
 
 walk_on : (next : Links) (a b c m n : ℕ) → Walk next a b m → Walk next b c n → Reaches next a c
 walk_on next a b c zero n p q = record { steps = n; walk = subst (λ x. Walk next x c n) (sym p) q }

@@ -2,7 +2,7 @@
 use Rattle.std.proofs.Common.{◌≡◌, ◌≢◌, inl, inr, ℕ, zero, suc, ◌+◌, ◌<◌, List, [], ◌∷◌, length, get_or, set, refl, sym, ap, subst, ◌∙◌, arith}
 use Rattle.std.proofs.lemmas.List.{length-set, get_or-set_same, get_or-set_other}
 use Rattle.std.proofs.lemmas.Bool.{cases_eq}
-use Rattle.fv_split_components.specs.Reach.{at}
+use Rattle.fv_split_components.specs.headline.Reach.{at}
 use Rattle.fv_split_components.specs.declared.search.Mark.{Mark}
 use Rattle.fv_split_components.specs.declared.search.Mark.TheVariants.{New, Open, Done}
 use Rattle.fv_split_components.specs.inner.Search.{left, finished}

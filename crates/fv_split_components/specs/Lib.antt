@@ -1,3 +1,4 @@
+pub mod headline
 pub mod Packed
 pub mod Reach
 pub mod inner

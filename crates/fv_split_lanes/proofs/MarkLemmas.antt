@@ -6,10 +6,10 @@ use Rattle.std.proofs.lemmas.Bool.{cases_eq}
 use Rattle.fv_signal.specs.declared.signal.Signal.{Signal}
 use Rattle.fv_signal.specs.declared.signal.Signal.TheVariants as signal
 use Rattle.fv_signal.specs.declared.rate.Rate.{Rate}
-use Rattle.fv_signal.specs.Rates.{rates}
-use Rattle.fv_signal.specs.Value.{Graph, IsGraph}
-use Rattle.fv_analysis.specs.Stands.{node, stands_of}
-use Rattle.fv_split_plan.specs.Separated.{ReadsSignal, IsSeparated, AsOutput, AsDelayed, AsDefinition, AsShared}
+use Rattle.fv_signal.specs.headline.Rates.{rates}
+use Rattle.fv_signal.specs.headline.Value.{Graph, IsGraph}
+use Rattle.fv_analysis.specs.headline.Stands.{node, stands_of}
+use Rattle.fv_split_plan.specs.headline.Separated.{ReadsSignal, IsSeparated, AsOutput, AsDelayed, AsDefinition, AsShared}
 use Rattle.fv_split_lanes.specs.declared.reader.Reader.{Reader}
 use Rattle.fv_split_lanes.specs.declared.reader.Reader.TheVariants.{Nobody, One, Many}
 use Rattle.fv_split_lanes.specs.inner.Rows.{reads_of}
@@ -74,6 +74,8 @@ module _ (g : Graph) (graph : IsGraph g) (readers : List Reader) (are : AreReade
   delayed_separated (signal.Delay x d max) r l e y = AsDelayed r x d max (record { within = l; is = e }) y.0 y.1
   delayed_separated (signal.Back group i) r l e d = absurd d
   delayed_separated (signal.Member group i) r l e d = absurd d
+  delayed_separated (signal.Read table i) r l e d = absurd d
+  delayed_separated (signal.Write table w x i) r l e d = absurd d
 
   pub as_output : ByOne (Named (stands_of g) g.outputs) (length g.outputs) s → IsSeparated g s
   as_output h = AsOutput h.place h.below h.is

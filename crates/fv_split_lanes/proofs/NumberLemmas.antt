@@ -6,11 +6,12 @@ use Rattle.std.proofs.lemmas.Bool.{cases_lt}
 use Rattle.std.proofs.lemmas.List.{length_push, get_or_push, get_or_append_left}
 use Rattle.fv_signal.specs.declared.rate.Rate.{Rate}
 use Rattle.fv_signal.specs.declared.rate.Rate.TheVariants as rate
-use Rattle.fv_signal.specs.Value.{Graph}
-use Rattle.fv_signal.specs.Rates.{rate_at}
-use Rattle.fv_split_components.specs.Reach.{at}
-use Rattle.fv_analysis.specs.Stands.{node}
-use Rattle.fv_split_plan.specs.Separated.{lane_at, IsComputed}
+use Rattle.fv_signal.specs.headline.Value.{Graph}
+use Rattle.fv_signal.specs.headline.Rates.{rate_at}
+use Rattle.fv_split_components.specs.headline.Reach.{at}
+use Rattle.fv_analysis.specs.headline.Stands.{node}
+use Rattle.fv_split_plan.specs.headline.Separated.{IsComputed}
+use Rattle.fv_split_plan.specs.Separated.{lane_at}
 use Rattle.fv_split_lanes.specs.declared.lanes.Numbering.{Numbering}
 use Rattle.fv_split_lanes.specs.inner.Homes.{bit_at}
 use Rattle.fv_split_lanes.specs.inner.Numbered.{AddsLane, AddsNone, AddsSignal, NumberedUpTo, IsInnerBy, AreInner}

@@ -6,15 +6,16 @@ use Rattle.std.proofs.lemmas.Bool.{cases_lt, cond-true, cond-false, lt-ltb, le-l
 use Rattle.std.proofs.lemmas.List.{length-map, length_push, get_or_push, get_or_append_left, get_or_past, get_or_default}
 use Rattle.std.proofs.lemmas.List.Elements.{All-get_or, All-take}
 use mathlib.Core.Path.{fun_ext}
-use Rattle.fv_num.specs.Words.{inputs_of}
+use Rattle.fv_num.specs.headline.Words.{inputs_of}
 use Rattle.fv_signal.specs.declared.signal.Signal.{Signal}
 use Rattle.fv_signal.specs.declared.signal.Signal.TheVariants as signal
-use Rattle.fv_signal.specs.Value.{Graph, definition, IsOrdered, IsGraph, OperandsBelow, NamesWithin}
-use Rattle.fv_split_components.specs.Reach.{Links, next_of, at, Leads, AreLinks, Walk, Reaches}
+use Rattle.fv_signal.specs.headline.Value.{Graph, definition, IsOrdered, IsGraph, OperandsBelow, NamesWithin}
+use Rattle.fv_split_components.specs.headline.Reach.{Links, at, Leads, Walk, Reaches}
+use Rattle.fv_split_components.specs.Reach.{next_of, AreLinks}
 use Rattle.fv_split_components.proofs.Walks.{reaches_self, reaches_trans, reaches_step}
-use Rattle.fv_analysis.specs.Stands.{node, stand}
+use Rattle.fv_analysis.specs.headline.Stands.{node, stand}
 use Rattle.fv_analysis.proofs.StandLemmas.{standing, Itself, Another, stands_well}
-use Rattle.fv_split_plan.specs.Separated.{operands, found_from, links_of, ReadsSignal}
+use Rattle.fv_split_plan.specs.headline.Separated.{operands, found_from, links_of, ReadsSignal}
 use Rattle.fv_split_plan.proofs.FitsLemmas.{map_get}
 use Rattle.fv_split_lanes.specs.inner.Rows.{reads_of, AreRows}
 
@@ -72,6 +73,12 @@ operand_below g (signal.Delay x d max) q (suc zero) b l = b.1
 operand_below g (signal.Delay x d max) q (suc (suc k)) b l = absurd (omega arith)
 operand_below g (signal.Back group i) q k b l = absurd (omega arith)
 operand_below g (signal.Member group i) q k b l = absurd (omega arith)
+operand_below g (signal.Read table r) q zero b l = b
+operand_below g (signal.Read table r) q (suc k) b l = absurd (omega arith)
+operand_below g (signal.Write table w x r) q zero b l = b.0
+operand_below g (signal.Write table w x r) q (suc zero) b l = b.1
+operand_below g (signal.Write table w x r) q (suc (suc zero)) b l = b.2
+operand_below g (signal.Write table w x r) q (suc (suc (suc k))) b l = absurd (omega arith)
 
 -- what a row leads to is what its signal reads
 pub leads_read : (g : Graph) (q s : ℕ) → (Leads (reads_of g) q s) ↔ ReadsSignal g q s
@@ -120,6 +127,8 @@ found_within g (signal.Back group i) s l b w zero m = w.2
 found_within g (signal.Back group i) s l b w (suc k) m = absurd (omega arith)
 found_within g (signal.Member group i) s l b w zero m = w.2
 found_within g (signal.Member group i) s l b w (suc k) m = absurd (omega arith)
+found_within g (signal.Read table r) s l b w k m = let h = operand_below g (signal.Read table r) s k b m in omega (arith, h)
+found_within g (signal.Write table a x r) s l b w k m = let h = operand_below g (signal.Write table a x r) s k b m in omega (arith, h)
 
 pub links_within : (g : Graph) → IsGraph g → AreLinks (links_of g) (length g.signals)
 links_within g h a b l step =
@@ -164,6 +173,8 @@ operand_found g (signal.Point op args) k l = (l, refl)
 operand_found g (signal.Delay x d max) k l = (l, refl)
 operand_found g (signal.Back group i) k l = absurd (omega arith)
 operand_found g (signal.Member group i) k l = absurd (omega arith)
+operand_found g (signal.Read table r) k l = (l, refl)
+operand_found g (signal.Write table w x r) k l = (l, refl)
 
 pub reads_reach : (g : Graph) → IsOrdered g → (q s : ℕ) → ReadsSignal g q s → Reaches (links_of g) q s
 reads_reach g ordered q s r =

@@ -1,11 +1,12 @@
 -- Where each signal of a graph is computed: lanes, loops and homes.
 use Rattle.std.specs.Prelude.{◌≡◌, ◌↔◌, ◌⊎◌, ℕ, ◌<◌, ◌≤◌, length, Some}
 use Rattle.fv_signal.specs.declared.rate.Rate.TheVariants as rate
-use Rattle.fv_signal.specs.Value.{Graph}
-use Rattle.fv_signal.specs.Rates.{rate_of}
-use Rattle.fv_split_components.specs.Reach.{at, Reaches}
-use Rattle.fv_analysis.specs.Stands.{node}
-use Rattle.fv_split_plan.specs.Separated.{lane_at, IsSeparated, IsComputed, ReadsSignal, links_of}
+use Rattle.fv_signal.specs.headline.Value.{Graph}
+use Rattle.fv_signal.specs.headline.Rates.{rate_of}
+use Rattle.fv_split_components.specs.headline.Reach.{at, Reaches}
+use Rattle.fv_analysis.specs.headline.Stands.{node}
+use Rattle.fv_split_plan.specs.headline.Separated.{IsSeparated, IsComputed, ReadsSignal, links_of}
+use Rattle.fv_split_plan.specs.Separated.{lane_at}
 use Rattle.fv_split_lanes.specs.declared.lanes.Lanes.{Lanes}
 
 -- a signal that is computed inside the code of the one that reads it

@@ -1,12 +1,12 @@
 // Where each signal is computed.
 
 ghost use Rattle.std.specs.Prelude.{◌≡◌, ◌↔◌, ◌<◌, ℕ, length, All, IfOk, OnOk, IsTrue, false};
-ghost use Rattle.fv_signal.specs.Value.{IsGraph};
-ghost use Rattle.fv_signal.specs.Rates.{rates as rates_of};
+ghost use Rattle.fv_signal.specs.headline.Value.{IsGraph};
+ghost use Rattle.fv_signal.specs.headline.Rates.{rates as rates_of};
 ghost use Rattle.fv_signal.specs.declared.rate.Rate.TheVariants as rate;
-ghost use Rattle.fv_split_components.specs.Reach.{at};
-ghost use Rattle.fv_analysis.specs.Stands.{stands_of};
-ghost use Rattle.fv_split_plan.specs.Separated.{IsComputed};
+ghost use Rattle.fv_split_components.specs.headline.Reach.{at};
+ghost use Rattle.fv_analysis.specs.headline.Stands.{stands_of};
+ghost use Rattle.fv_split_plan.specs.headline.Separated.{IsComputed};
 ghost use Rattle.fv_split_lanes.specs.Placed.{ArePlaced};
 ghost use Rattle.fv_split_lanes.specs.inner.Numbered.{AddsSignal, AreNumbered, AreInner};
 

@@ -1,12 +1,12 @@
 // Which signals are separated.
 
 ghost use Rattle.std.specs.Prelude.{◌≡◌, ◌↔◌, ℕ, ◌<◌, length, All, IfOk, IsTrue, true, false};
-ghost use Rattle.fv_signal.specs.Value.{IsGraph};
-ghost use Rattle.fv_signal.specs.Rates.{rates as rates_of};
-ghost use Rattle.fv_split_components.specs.Reach.{at};
-ghost use Rattle.fv_analysis.specs.Stands.{stands_of};
-ghost use Rattle.fv_analysis.specs.History.{IsOver};
-ghost use Rattle.fv_split_plan.specs.Separated.{IsComputed};
+ghost use Rattle.fv_signal.specs.headline.Value.{IsGraph};
+ghost use Rattle.fv_signal.specs.headline.Rates.{rates as rates_of};
+ghost use Rattle.fv_split_components.specs.headline.Reach.{at};
+ghost use Rattle.fv_analysis.specs.headline.Stands.{stands_of};
+ghost use Rattle.fv_analysis.specs.inner.History.{IsOver};
+ghost use Rattle.fv_split_plan.specs.headline.Separated.{IsComputed};
 ghost use Rattle.fv_split_lanes.specs.inner.Rows.{reads_of};
 ghost use Rattle.fv_split_lanes.specs.inner.Homes.{bit_at};
 ghost use Rattle.fv_split_lanes.specs.inner.Readers.{AreReaders};
@@ -55,6 +55,13 @@ fn mark_delay(marks: &mut Vec<bool>, stands: &[SignalId], node: Signal)
         Signal::Point { op: _, args: _ } => {}
         Signal::Back { group: _, i: _ } => {}
         Signal::Member { group: _, i: _ } => {}
+        Signal::Read { table: _, r: _ } => {}
+        Signal::Write {
+            table: _,
+            w: _,
+            x: _,
+            r: _,
+        } => {}
     }
 }
 
@@ -81,7 +88,7 @@ fn mark_groups(marks: &mut Vec<bool>, stands: &[SignalId], graph: &Graph)
     }
 }
 
-// An operation or a delay.
+// An operation, a delay or a table.
 pub(crate) fn is_computed(node: Signal) -> bool
     ensures { IsTrue result ↔ IsComputed node }
 {
@@ -93,6 +100,13 @@ pub(crate) fn is_computed(node: Signal) -> bool
         Signal::Control(_) => false,
         Signal::Back { group: _, i: _ } => false,
         Signal::Member { group: _, i: _ } => false,
+        Signal::Read { table: _, r: _ } => true,
+        Signal::Write {
+            table: _,
+            w: _,
+            x: _,
+            r: _,
+        } => true,
     }
 }
 

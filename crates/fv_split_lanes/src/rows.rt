@@ -1,10 +1,11 @@
 // What each signal leads to and reads, row by row.
 
 ghost use Rattle.std.specs.Prelude.{◌≡◌, ◌<◌, ◌++◌, ◌∷◌, [], length, map, All, IfOk, OnOk};
-ghost use Rattle.fv_split_components.specs.Reach.{at};
-ghost use Rattle.fv_signal.specs.Value.{NamesWithin};
-ghost use Rattle.fv_analysis.specs.Stands.{stands_of};
-ghost use Rattle.fv_split_plan.specs.Separated.{operands as operands_of, OperandsWithin, found_from, links_of};
+ghost use Rattle.fv_split_components.specs.headline.Reach.{at};
+ghost use Rattle.fv_signal.specs.headline.Value.{NamesWithin};
+ghost use Rattle.fv_analysis.specs.headline.Stands.{stands_of};
+ghost use Rattle.fv_split_plan.specs.headline.Separated.{operands as operands_of, found_from, links_of};
+ghost use Rattle.fv_split_plan.specs.inner.Separated.{OperandsWithin};
 ghost use Rattle.fv_split_lanes.specs.inner.Rows.{reads_of, AreRows};
 
 use fv_signal::{Graph, Signal, SignalId};
@@ -54,6 +55,8 @@ fn add_links(rows: &mut Rows, graph: &Graph, node: Signal) -> Result<(), AllocEr
         Signal::Delay { x, d, max: _ } => rows.push(&[x.number(), d.number()]),
         Signal::Back { group, i } => rows.push(&[graph.group(group)[i as usize].number()]),
         Signal::Member { group, i } => rows.push(&[graph.group(group)[i as usize].number()]),
+        Signal::Read { table: _, r } => rows.push(&[r.number()]),
+        Signal::Write { table: _, w, x, r } => rows.push(&[w.number(), x.number(), r.number()]),
         Signal::Input(_) => rows.push(&[]),
         Signal::Const(_) => rows.push(&[]),
         Signal::Control(_) => rows.push(&[]),
@@ -73,6 +76,10 @@ fn add_reads(rows: &mut Rows, stands: &[SignalId], node: Signal) -> Result<(), A
         Signal::Control(_) => rows.push(&[]),
         Signal::Back { group: _, i: _ } => rows.push(&[]),
         Signal::Member { group: _, i: _ } => rows.push(&[]),
+        Signal::Read { table: _, r } => rows.push(&[stand(stands, r)]),
+        Signal::Write { table: _, w, x, r } => {
+            rows.push(&[stand(stands, w), stand(stands, x), stand(stands, r)])
+        }
     }
 }
 

@@ -5,21 +5,22 @@ use Rattle.std.proofs.lemmas.List.{map-append}
 use Rattle.std.proofs.lemmas.List.Elements.{All-head, All-tail, All-take}
 use Rattle.std.proofs.lemmas.Bool.{cond-true, le-leb}
 use Rattle.std.proofs.lemmas.Int.{ints}
-use Rattle.fv_num.specs.Words.{argument, apply_of, inputs_of}
+use Rattle.fv_num.specs.headline.Words.{argument, apply_of, inputs_of}
 use Rattle.std.specs.Int.{int_max}
 use Rattle.fv_num.specs.declared.op.Op.{Op}
-use Rattle.fv_num.specs.Frames.{Frame, Stream, column, back, delayed}
+use Rattle.fv_num.specs.headline.Frames.{Frame, Stream, column, back, delayed}
 use Rattle.fv_signal.specs.declared.signal.Signal.{Signal}
 use Rattle.fv_signal.specs.declared.signal.Signal.TheVariants as signal
-use Rattle.fv_signal.specs.Value.{Graph, definition, clamped, signal_at, value, IsOrdered}
+use Rattle.fv_signal.specs.headline.Value.{Graph, definition, clamped, signal_at, value, IsOrdered}
 use Rattle.fv_signal.proofs.Values.{values_are_given}
 use Rattle.fv_loopcode.specs.declared.step.Step.{Step}
 use Rattle.fv_loopcode.specs.declared.step.Step.TheVariants as step
-use Rattle.fv_loopcode.specs.Lanes.{back_by}
-use Rattle.fv_loopcode.specs.Code.{step_value}
-use Rattle.fv_loopcode.specs.Obeys.{Roles, Place, nothing, done_after, StepObeys, Obeys}
-use Rattle.fv_analysis.specs.Stands.{stand, StandsAt}
-use Rattle.fv_split_plan.specs.Fits.{Mean, Value, Literal, mean_at, Names, LoadFits, OfDelay, OfBack, OfNow, PointFits, OfPoint, OfStill, StepFits, CodeFits}
+use Rattle.fv_loopcode.specs.headline.Lanes.{back_by}
+use Rattle.fv_loopcode.specs.headline.Code.{step_value}
+use Rattle.fv_loopcode.specs.headline.Obeys.{Roles, Place, nothing, done_after, StepObeys, Obeys}
+use Rattle.fv_analysis.specs.headline.Stands.{stand, StandsAt}
+use Rattle.fv_split_plan.specs.headline.Fits.{Names}
+use Rattle.fv_split_plan.specs.Fits.{Mean, Value, Literal, mean_at, LoadFits, OfDelay, OfBack, OfNow, PointFits, OfPoint, OfStill, StepFits, CodeFits}
 use Rattle.fv_split_plan.specs.Fits.{CodesObey}
 use Rattle.fv_analysis.proofs.StandLemmas.{stands_alike}
 

@@ -2,17 +2,19 @@
 use Rattle.std.proofs.Common.{◌≡◌, inl, inr, ℕ, zero, suc, ◌+◌, ◌<◌, ◌≤◌, length, refl, sym, ap, ◌∙◌, subst, arith, Bool, true, false}
 use Rattle.std.specs.Prelude.{◌&&◌, nat_lt, nat_eq}
 use Rattle.std.proofs.lemmas.Bool.{and_parts, and_right, cases_eq, eq-eqb, eqb-true, ne_eqb, lt-ltb, ltb-true}
-use Rattle.fv_num.specs.Frames.{column}
-use Rattle.fv_signal.specs.Value.{Graph, value}
-use Rattle.fv_split_components.specs.Reach.{at}
-use Rattle.fv_loopcode.specs.Obeys.{Place, OfLane, IsAmong, ObeysAt, window}
+use Rattle.fv_num.specs.headline.Frames.{column}
+use Rattle.fv_signal.specs.headline.Value.{Graph, value}
+use Rattle.fv_split_components.specs.headline.Reach.{at}
+use Rattle.fv_loopcode.specs.headline.Obeys.{Place, OfLane}
+use Rattle.fv_loopcode.specs.Obeys.{IsAmong, ObeysAt, window}
 use Rattle.fv_loopcode.proofs.Tasks.{tasks_are_done}
 use Rattle.fv_loopcode.proofs.Streams.{streams_obey}
 use Rattle.fv_loopcode.proofs.Named.{named_alone_count}
-use Rattle.fv_analysis.specs.History.{history_of, HasReason, OfDelay, OfBack}
+use Rattle.fv_analysis.specs.headline.History.{history_of}
+use Rattle.fv_analysis.specs.History.{HasReason, OfDelay, OfBack}
 use Rattle.fv_analysis.proofs.HistoryLemmas.{histories_cover}
-use Rattle.fv_split_plan.specs.Fits.{flows}
-use Rattle.fv_split_plan.specs.View.{PlanView, lane_info, code_of, roles_of}
+use Rattle.fv_split_plan.specs.headline.Fits.{flows}
+use Rattle.fv_split_plan.specs.headline.View.{PlanView, lane_info, code_of, roles_of}
 use Rattle.fv_split_plan.specs.Tasks.{DoesTasks, PlansAreApart, OutputsNeedLoops, HistoriesWithin}
 
 pub plans_do_tasks : (g : Graph) (p : PlanView) → DoesTasks g p

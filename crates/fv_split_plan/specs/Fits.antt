@@ -1,15 +1,16 @@
--- When the code of a loop fits a graph: each of its registers is for something (this project's profile).
+-- What calls say beside `headline/Fits`: when the code of a loop fits a graph: each of its registers is for something (this project's profile).
 use Rattle.std.specs.Prelude.{◌≡◌, ◌⊎◌, ℕ, ◌<◌, ◌≤◌, List, [], ◌∷◌, ◌++◌, length, take, map, slice_index_or, ℤ, pos, Bool, true, false, All}
-use Rattle.fv_num.specs.Words.{inputs_of}
+use Rattle.fv_num.specs.headline.Words.{inputs_of}
 use Rattle.fv_num.specs.declared.op.Op.{Op}
 use Rattle.fv_num.specs.declared.op.Op.TheVariants.{Max}
-use Rattle.fv_num.specs.Frames.{Frame, Stream, column}
+use Rattle.fv_num.specs.headline.Frames.{Frame, Stream, column}
 use Rattle.fv_signal.specs.declared.signal.Signal.TheVariants as signal
-use Rattle.fv_signal.specs.Value.{Graph, definition, value, IsOrdered}
+use Rattle.fv_signal.specs.headline.Value.{Graph, definition, value, IsOrdered}
 use Rattle.fv_loopcode.specs.declared.step.Step.{Step}
 use Rattle.fv_loopcode.specs.declared.step.Step.TheVariants as step
-use Rattle.fv_loopcode.specs.Obeys.{Roles, Place, OfLane, Flows, nothing, done_after, ObeysStreams}
-use Rattle.fv_analysis.specs.Stands.{stand, StandsAt}
+use Rattle.fv_loopcode.specs.headline.Obeys.{Roles, Place, OfLane, nothing, done_after, ObeysStreams}
+use Rattle.fv_analysis.specs.headline.Stands.{stand, StandsAt}
+use Rattle.fv_split_plan.specs.headline.Fits.{Names, flows}
 
 -- what a register is for: a signal's value, or a number
 pub data Mean : Type 0 where
@@ -19,18 +20,6 @@ pub data Mean : Type 0 where
 -- what a register is for, the number 0 where there is none
 abbrev pub mean_at : List Mean → ℕ → Mean
 mean_at ms w = slice_index_or ms w (Literal (pos 0))
-
--- The names of a plan: the signal of each lane, how much history it keeps, how many held values there are, and the signal of
--- each of them.
-pub record Names : Type 0 where
-  pub lane : ℕ → ℕ
-  pub history : ℕ → ℕ
-  pub count : ℕ
-  pub held : ℕ → ℕ
-
--- what the places of a plan carry
-abbrev pub flows : Graph → Names → (X : List Frame) → (c : ℕ → Stream) → Flows
-flows g p X c = record { lanes = λ l. value g (p.lane l) X c }
 
 -- What a load is for: a delay of the lane's signal; its value one sample ago; or its value now, of a lane of another loop.
 pub data LoadFits (g : Graph) (p : Names) (r : Roles) (done : Place → Bool) (ms : List Mean) (lane back max : ℕ) (m : Mean) : Type 0 where

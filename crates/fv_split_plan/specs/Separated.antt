@@ -1,72 +1,25 @@
--- The separated signals of a graph, which have lanes, and what each signal reads and reaches (this project's profile).
-use Rattle.std.specs.Prelude.{◌≡◌, ◌≢◌, ℕ, ◌<◌, ◌≤◌, List, [], ◌∷◌, length, take, slice_index_or, Option, None, nat_lt, if◌then◌else◌, All}
-use Rattle.fv_num.specs.Words.{inputs_of}
+-- What calls say beside `headline/Separated`: the separated signals of a graph, which have lanes, and what each signal reads and reaches (this project's profile).
+use Rattle.std.specs.Prelude.{ℕ, ◌<◌, List, length, slice_index_or, Option, None}
 use Rattle.fv_signal.specs.declared.signal.Signal.{Signal}
-use Rattle.fv_signal.specs.declared.signal.Signal.TheVariants.{Input, Const, Control, Point, Delay, Back, Member}
-use Rattle.fv_signal.specs.declared.rate.Rate.TheVariants as rate
-use Rattle.fv_signal.specs.Value.{Graph, members, definition}
-use Rattle.fv_signal.specs.Rates.{rate_of}
-use Rattle.fv_split_components.specs.Reach.{Links, at}
-use Rattle.fv_analysis.specs.Stands.{node, stand, StandsAt}
+use Rattle.fv_signal.specs.declared.signal.Signal.TheVariants.{Input, Const, Control, Point, Delay, Back, Member, Read, Write}
+use Rattle.fv_signal.specs.headline.Value.{Graph}
+use Rattle.fv_analysis.specs.headline.Stands.{node}
 
--- the signals that a node reads
-abbrev pub operands : Signal → List ℕ
-operands (Input i) = []
-operands (Const n) = []
-operands (Control k) = []
-operands (Point op args) = take (inputs_of op) args
-operands (Delay x d max) = x ∷ d ∷ []
-operands (Back group i) = []
-operands (Member group i) = []
+-- a table
+abbrev pub IsTabled : Signal → Type 0
+IsTabled (Input i) = ⊥
+IsTabled (Const n) = ⊥
+IsTabled (Control k) = ⊥
+IsTabled (Point op args) = ⊥
+IsTabled (Delay x d max) = ⊥
+IsTabled (Back group i) = ⊥
+IsTabled (Member group i) = ⊥
+IsTabled (Read table r) = Unit {0}
+IsTabled (Write table w x r) = Unit {0}
 
--- the operands of a node are below n
-abbrev pub OperandsWithin : (n : ℕ) → Signal → Type 0
-OperandsWithin n (Input i) = Unit {0}
-OperandsWithin n (Const z) = Unit {0}
-OperandsWithin n (Control k) = Unit {0}
-OperandsWithin n (Point op args) = All (λ a. a < n) args
-OperandsWithin n (Delay x d max) = (x < n) × (d < n)
-OperandsWithin n (Back group i) = Unit {0}
-OperandsWithin n (Member group i) = Unit {0}
-
--- what a node leads to in one step: what it reads, and what the member is defined as that a Back or a Member names
-abbrev pub found_from : Graph → Signal → List ℕ
-found_from g (Input i) = []
-found_from g (Const n) = []
-found_from g (Control k) = []
-found_from g (Point op args) = take (inputs_of op) args
-found_from g (Delay x d max) = x ∷ d ∷ []
-found_from g (Back group i) = definition g group i ∷ []
-found_from g (Member group i) = definition g group i ∷ []
-
--- what each signal leads to, nothing where there is no signal
-abbrev pub links_of : Graph → Links
-links_of g s = if nat_lt s (length g.signals) then found_from g (node g s) else []
-
--- signal r reads signal s, where a member stands for its definition
-pub record ReadsSignal (g : Graph) (r s : ℕ) : Type 0 where
-  pub within : r < length g.signals
-  pub place : ℕ
-  pub is_operand : place < length (operands (node g r))
-  pub is : stand g (at (operands (node g r)) place) ≡ s
-
--- an operation or a delay
-abbrev pub IsComputed : Signal → Type 0
-IsComputed (Input i) = ⊥
-IsComputed (Const n) = ⊥
-IsComputed (Control k) = ⊥
-IsComputed (Point op args) = Unit {0}
-IsComputed (Delay x d max) = Unit {0}
-IsComputed (Back group i) = ⊥
-IsComputed (Member group i) = ⊥
-
--- Why a signal is separated: it is an output of the program; a delay that may go back reads it; it defines a member of a
--- group; or it is computed at each sample and two nodes read it.
-pub data IsSeparated (g : Graph) (s : ℕ) : Type 0 where
-  AsOutput : (j : ℕ) → j < length g.outputs → stand g (at g.outputs j) ≡ s → IsSeparated g s
-  AsDelayed : (r x d max : ℕ) → StandsAt g r (Delay x d max) → 1 ≤ max → stand g x ≡ s → IsSeparated g s
-  AsDefinition : (group i : ℕ) → group < length g.groups → i < length (members g group) → stand g (definition g group i) ≡ s → IsSeparated g s
-  AsShared : (q r : ℕ) → IsComputed (node g s) → rate_of g s ≡ rate.Sample → q ≢ r → ReadsSignal g q s → ReadsSignal g r s → IsSeparated g s
+-- no signal is one (code has no steps for tables)
+abbrev pub HasNoTables : Graph → Type 0
+HasNoTables g = (s : ℕ) → s < length g.signals → IsTabled (node g s) → ⊥
 
 -- the lane of a signal, if it has one
 abbrev pub lane_at : List (Option ℕ) → ℕ → Option ℕ

@@ -1,16 +1,18 @@
 -- Laws of plans.
 use Rattle.std.specs.Prelude.{◌≡◌, ℕ, ◌+◌, ◌<◌, ◌≤◌, List, length, ℤ}
-use Rattle.fv_num.specs.Frames.{Frame, Stream, column}
+use Rattle.fv_num.specs.headline.Frames.{Frame, Stream, column}
 use Rattle.fv_signal.specs.declared.signal.Signal.TheVariants as signal
-use Rattle.fv_signal.specs.Value.{Graph, value}
-use Rattle.fv_loopcode.specs.State.{State}
-use Rattle.fv_loopcode.specs.Code.{MayRun, ran, NamesHeld, NamesInput}
+use Rattle.fv_signal.specs.headline.Value.{Graph, value}
+use Rattle.fv_loopcode.specs.headline.State.{State}
+use Rattle.fv_loopcode.specs.headline.Code.{ran, NamesHeld, NamesInput}
+use Rattle.fv_loopcode.specs.Code.{MayRun}
 use Rattle.fv_loopcode.specs.Obeys.{IsReady, IsTaskDone, window}
 use Rattle.fv_loopcode.specs.Blocks.{AreApart}
-use Rattle.fv_analysis.specs.Stands.{StandsAt}
-use Rattle.fv_split_plan.specs.View.{PlanView, lane_info, code_of, roles_of, loops_of}
-use Rattle.fv_split_plan.specs.Fits.{flows}
-use Rattle.fv_split_plan.specs.Plans.{PlanStands, PlanReads}
+use Rattle.fv_analysis.specs.headline.Stands.{StandsAt}
+use Rattle.fv_split_plan.specs.headline.View.{PlanView, lane_info, code_of, roles_of}
+use Rattle.fv_split_plan.specs.View.{loops_of}
+use Rattle.fv_split_plan.specs.headline.Fits.{flows}
+use Rattle.fv_split_plan.specs.headline.Plans.{PlanStands, PlanReads}
 
 -- The property of each task: where a block starts at time start, its inputs are those of X and its held values those of the
 -- samples of this task, and the lanes hold what they are to hold before the task, the code may run, and they do after it.

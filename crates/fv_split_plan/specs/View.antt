@@ -1,47 +1,7 @@
--- What a plan has, and the parts of each of its loops.
-use Rattle.std.specs.Prelude.{ℕ, List, [], ◌∷◌, length, slice_index_or, Bool, false, nat_lt, nat_eq, ◌&&◌, ◌||◌}
-use Rattle.fv_outside.specs.declared.tasks.Reads.{Reads}
-use Rattle.fv_outside.specs.Tasks.{reads_loop}
-use Rattle.fv_loopcode.specs.declared.step.Step.{Step}
-use Rattle.fv_loopcode.specs.declared.step.Step.TheVariants as step
-use Rattle.fv_loopcode.specs.Obeys.{Roles, Place, OfLane}
+-- What calls say beside `headline/View`: what a plan has, and the parts of each of its loops.
+use Rattle.fv_outside.specs.headline.Tasks.{reads_loop}
 use Rattle.fv_loopcode.specs.Blocks.{Loops}
-use Rattle.fv_split_plan.specs.declared.lane.LaneInfo.{LaneInfo}
-
--- how many loops, the lanes, the code of each loop, which loop reads which other, the lane of each output, and the held code
-pub record PlanView : Type 0 where
-  pub loops : ℕ
-  pub lanes : List LaneInfo
-  pub codes : List (List Step)
-  pub reads : List Reads
-  pub outputs : List ℕ
-  pub held : List Step
-
--- a lane's loop and history
-abbrev pub lane_info : PlanView → ℕ → LaneInfo
-lane_info p l = slice_index_or p.lanes l (record { owner = 0; history = 0 })
-
--- the code of a loop
-abbrev pub code_of : PlanView → ℕ → List Step
-code_of p j = slice_index_or p.codes j []
-
--- one of the steps loads the lane
-abbrev pub loads_lane : ℕ → List Step → Bool
-loads_lane l [] = false
-loads_lane l (step.Number n ∷ ss) = loads_lane l ss
-loads_lane l (step.Held k ∷ ss) = loads_lane l ss
-loads_lane l (step.Input i ∷ ss) = loads_lane l ss
-loads_lane l (step.Point op args ∷ ss) = loads_lane l ss
-loads_lane l (step.Load lane back max ∷ ss) = nat_eq l lane || loads_lane l ss
-loads_lane l (step.Append lane value ∷ ss) = loads_lane l ss
-
--- a loop's own places
-abbrev pub is_own : PlanView → ℕ → Place → Bool
-is_own p j (OfLane l) = nat_lt l (length p.lanes) && nat_eq (lane_info p l).owner j
-
--- these, and the lanes that its code loads
-abbrev pub roles_of : PlanView → ℕ → Roles
-roles_of p j = record { own = is_own p j; loaded = λ l. loads_lane l (code_of p j) }
+use Rattle.fv_split_plan.specs.headline.View.{PlanView, code_of, roles_of}
 
 -- the loops of a plan
 abbrev pub loops_of : PlanView → Loops

@@ -1,8 +1,8 @@
 // The laws of plans.
 
-ghost use Rattle.fv_signal.specs.Value.{Graph};
+ghost use Rattle.fv_signal.specs.headline.Value.{Graph};
 ghost use Rattle.fv_split_plan.specs.Fits.{CodesObey};
-ghost use Rattle.fv_split_plan.specs.View.{PlanView};
+ghost use Rattle.fv_split_plan.specs.headline.View.{PlanView};
 ghost use Rattle.fv_split_plan.specs.Tasks.{DoesTasks, PlansAreApart, OutputsNeedLoops, HistoriesWithin};
 
 /// Code that fits obeys the values of its lanes' signals.

@@ -1,12 +1,12 @@
 // Plans.
 
 ghost use Rattle.std.specs.Prelude.{◌≡◌, ◌<◌, length};
-ghost use Rattle.fv_split_plan.specs.View.{code_of};
+ghost use Rattle.fv_split_plan.specs.headline.View.{code_of};
 ghost use Rattle.fv_split_plan.specs.Plans.{IsPlan};
 ghost use Rattle.fv_split_plan.specs.Rows.{plan_with};
 
 use crate::lane::LaneInfo;
-use fv_loopcode::Code;
+use fv_loopcode_machine::Code;
 use fv_outside::Reads;
 use std::marker::Model;
 
@@ -23,7 +23,7 @@ pub struct Plan {
 }
 
 impl Model for Plan {
-    ghost use Rattle.fv_split_plan.specs.View.{PlanView};
+    ghost use Rattle.fv_split_plan.specs.headline.View.{PlanView};
     ghost use Rattle.fv_split_plan.specs.Plans.{IsPlan};
     ghost use Rattle.fv_split_plan.specs.Rows.{plan_with};
 

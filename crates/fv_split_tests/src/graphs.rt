@@ -14,6 +14,10 @@ use test_graphs::{delayed, difference, late, pair};
 
 // The plan of a graph.
 pub fn plan_of(alloc: Global, graph: &Graph) -> Result<Plan, AllocError> {
+    let tables = graph.tables();
+    if tables != 0 {
+        return Err(AllocError);
+    }
     let rates = rates(alloc, graph)?;
     let histories = largest_delays(alloc, graph)?;
     split(alloc, graph, &rates, &histories)

@@ -1,7 +1,8 @@
 -- Arrivals at the edges out of a task, and what is put into the deque by them.
 use Rattle.std.proofs.Common.{◌≡◌, ℕ, ◌+◌, ◌<◌, true, false, ◌&&◌, ◌==◌, List, [], ◌∷◌, ◌++◌, length, get_or, take, refl, sym, ap, ◌∙◌, subst}
 use Rattle.std.proofs.Common.{arith}
-use Rattle.fv_outside.specs.Tasks.{Tasks, bit, times, task_count}
+use Rattle.fv_outside.specs.headline.Tasks.{Tasks, bit}
+use Rattle.fv_outside.specs.Tasks.{times, task_count}
 use Rattle.fv_graph.specs.Net.{Net}
 use Rattle.fv_graph.specs.Graph.{net_of, feeds_of}
 use Rattle.fv_graph.specs.Wires.{IsWires, wires_of}

@@ -3,7 +3,8 @@ use Rattle.std.proofs.Common.{◌≡◌, ◌≢◌, ℕ, zero, suc, map, IfSome,
 use Rattle.std.proofs.Common.{refl, sym, ap, ◌∙◌, subst, arith, ◌==◌, ◌&&◌, Option, Some, None, IsSomeAnd, MatchOption, set}
 use Rattle.std.specs.Option.{IsSome}
 use Rattle.std.proofs.lemmas.List.{length-map}
-use Rattle.fv_outside.specs.Tasks.{Tasks, bit, total, times, task_count}
+use Rattle.fv_outside.specs.headline.Tasks.{Tasks, bit, total}
+use Rattle.fv_outside.specs.Tasks.{times, task_count}
 use Rattle.fv_outside.specs.declared.tasks.Task.{Task}
 use Rattle.fv_graph.specs.Graph.{Graph, net_of, inward, outward, reader_of, task_of, task_at}
 use Rattle.fv_graph.specs.Wires.{IsWires, wires_of}

@@ -3,8 +3,9 @@ use Rattle.std.proofs.Common.{◌≡◌, ℕ, zero, suc, ◌+◌, ◌<◌, ◌�
 use Rattle.std.proofs.lemmas.List.{length-map, length-replicate, get_or-replicate}
 use Rattle.std.specs.Global.{Vec}
 use Rattle.atomic_table.specs.Seated.{TableId}
-use Rattle.fv_outside.specs.Tasks.{Tasks, total, times, task_count}
-use Rattle.fv_outside.specs.Journal.{stamped}
+use Rattle.fv_outside.specs.headline.Tasks.{Tasks, total}
+use Rattle.fv_outside.specs.Tasks.{times, task_count}
+use Rattle.fv_outside.specs.headline.Journal.{stamped}
 use Rattle.fv_graph.specs.Graph.{net_of, inward, outward}
 use Rattle.fv_graph.proofs.Counts.{get_map}
 use Rattle.fv_graph_core.specs.Core.{opening, deque_of, dealt, ready}

@@ -1,7 +1,8 @@
 -- What is left in the deques is run, and nothing is left over.
 use Rattle.std.proofs.Common.{◌≡◌, ℕ, zero, suc, ◌+◌, ◌<◌, List, [], ◌∷◌, map, length, get_or, set, refl, sym, ap, ◌∙◌, subst, arith, All, None, ◌==◌}
 use Rattle.std.proofs.Common.{length-set}
-use Rattle.fv_outside.specs.Tasks.{Tasks, bit, total, times, task_count}
+use Rattle.fv_outside.specs.headline.Tasks.{Tasks, bit, total}
+use Rattle.fv_outside.specs.Tasks.{times, task_count}
 use Rattle.fv_graph.specs.Net.{need_count}
 use Rattle.fv_graph.specs.Graph.{net_of}
 use Rattle.fv_graph.proofs.Counts.{total_set, get_set}

@@ -5,7 +5,8 @@ use Rattle.std.specs.Global.{Vec}
 use Rattle.std.proofs.lemmas.List.{map_push, take_more, same_from_push, length-map}
 use mathlib.Core.Logic.{dite}
 use native.Mathlib.Decide.{dec_le}
-use Rattle.fv_outside.specs.Tasks.{bit, total, times}
+use Rattle.fv_outside.specs.headline.Tasks.{bit, total}
+use Rattle.fv_outside.specs.Tasks.{times}
 use Rattle.fv_graph.proofs.Counts.{total_set, total_append, get_set, get_map}
 use Rattle.fv_deque.specs.declared.rule.Account.{Account}
 use Rattle.fv_deque.specs.declared.handles.TaskDeque.{TaskDeque}

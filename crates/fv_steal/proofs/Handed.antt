@@ -2,7 +2,8 @@
 use Rattle.std.proofs.Common.{◌≡◌, ◌≢◌, ℕ, suc, ◌+◌, ◌<◌, ◌≤◌, List, [], ◌∷◌, map, length, get_or, ap, ◌∙◌, subst, arith, All, ◌==◌, refl}
 use mathlib.Core.Logic.{dite}
 use native.Mathlib.Decide.{ℕ_discrete}
-use Rattle.fv_outside.specs.Tasks.{bit, total, times}
+use Rattle.fv_outside.specs.headline.Tasks.{bit, total}
+use Rattle.fv_outside.specs.Tasks.{times}
 use Rattle.fv_graph.proofs.Counts.{bit_same, bit_apart}
 use Rattle.fv_ready.specs.declared.board.Board.{Board}
 use Rattle.fv_ready.specs.declared.seat.WorkerSeat.{WorkerSeat}

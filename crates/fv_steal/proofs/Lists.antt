@@ -2,7 +2,8 @@
 use Rattle.std.proofs.Common.{◌≡◌, ◌≢◌, ℕ, zero, suc, ◌+◌, ◌<◌, List, [], ◌∷◌, length, get_or, take, drop, refl, sym, ap, ◌∙◌, arith}
 use Rattle.std.proofs.Common.{◌==◌}
 use Rattle.std.proofs.lemmas.List.{take_more, drop_more, take-append-drop}
-use Rattle.fv_outside.specs.Tasks.{bit, times}
+use Rattle.fv_outside.specs.headline.Tasks.{bit}
+use Rattle.fv_outside.specs.Tasks.{times}
 use Rattle.fv_graph.proofs.Counts.{bit_same, total_append}
 
 -- what stands at a place stands in the list

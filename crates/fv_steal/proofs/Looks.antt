@@ -1,6 +1,6 @@
 -- What looks and arrivals leave of a seat's list.
 use Rattle.std.proofs.Common.{◌≡◌, ℕ, ◌+◌, ◌<◌, Bool, true, ◌&&◌, ◌==◌, [], ◌∷◌, refl, sym, ap, ◌∙◌, arith}
-use Rattle.fv_outside.specs.Tasks.{bit}
+use Rattle.fv_outside.specs.headline.Tasks.{bit}
 use Rattle.fv_graph.specs.Net.{Net}
 use Rattle.fv_graph.proofs.Counts.{bit_same, bit_left}
 use Rattle.fv_ready_rule.specs.declared.Deed.TheVariants.{Arrived, Saw}

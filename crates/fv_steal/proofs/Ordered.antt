@@ -11,8 +11,9 @@ use Rattle.std.proofs.lemmas.List.Sums.{sum_by-cons}
 use Rattle.std.proofs.lemmas.Nat.{mod-mul-add, div-mul-add}
 use mathlib.Core.Logic.{dite}
 use native.Mathlib.Decide.{ℕ_discrete}
-use Rattle.fv_outside.specs.Tasks.{Tasks, bit, total, times, task_count, reads_task}
-use Rattle.fv_outside.specs.Journal.{is_line_of, stamped, IsOrdered}
+use Rattle.fv_outside.specs.headline.Tasks.{Tasks, bit, total, reads_task}
+use Rattle.fv_outside.specs.Tasks.{times, task_count}
+use Rattle.fv_outside.specs.headline.Journal.{is_line_of, stamped, IsOrdered}
 use Rattle.fv_outside.specs.declared.tasks.Task.{Task}
 use Rattle.fv_outside.specs.declared.gate.Line.{Line}
 use Rattle.fv_graph.specs.Words.{passing}

@@ -3,7 +3,8 @@ use Rattle.std.proofs.Common.{◌≡◌, ℕ, suc, ◌+◌, ◌<◌, List, [], �
 use Rattle.std.proofs.Common.{arith, ◌==◌, All}
 use mathlib.Core.Logic.{dite}
 use native.Mathlib.Decide.{dec_le}
-use Rattle.fv_outside.specs.Tasks.{bit, total, times}
+use Rattle.fv_outside.specs.headline.Tasks.{bit, total}
+use Rattle.fv_outside.specs.Tasks.{times}
 use Rattle.fv_graph.specs.Net.{Net, need_count}
 use Rattle.fv_graph.proofs.Counts.{total_set, get_set, times_passing}
 use Rattle.fv_graph_core.specs.Core.{opening, deque_of, ready}

@@ -2,7 +2,8 @@
 use Rattle.std.proofs.Common.{◌≡◌, ℕ, ◌+◌, ◌<◌, List, [], ◌∷◌, ◌++◌, refl, sym, ap, ◌∙◌, subst, arith, ◌==◌, ◌&&◌, ltb, Bool, true, false, Option, Some}
 use Rattle.std.proofs.Common.{None, MatchBool, MatchOption, vec_capacity, mod-lt}
 use Rattle.std.specs.Global.{Vec}
-use Rattle.fv_outside.specs.Tasks.{Tasks, bit, total, times, task_count}
+use Rattle.fv_outside.specs.headline.Tasks.{Tasks, bit, total}
+use Rattle.fv_outside.specs.Tasks.{times, task_count}
 use Rattle.fv_outside.specs.declared.gate.Line.{Line}
 use Rattle.fv_outside.specs.declared.tasks.Task.{Task}
 use Rattle.fv_graph.specs.Graph.{Graph, IsGraph, net_of, feeds_of, task_of}

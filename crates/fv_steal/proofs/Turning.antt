@@ -3,7 +3,8 @@ use Rattle.std.proofs.Common.{◌≡◌, ◌≢◌, ℕ, zero, suc, ◌+◌, ◌
 use Rattle.std.proofs.Common.{sym, ap, ◌∙◌, subst, arith, true≢false, All, div-add-mod'}
 use Rattle.std.proofs.lemmas.List.{map_push}
 use Rattle.std.proofs.lemmas.List.Elements.{All-push}
-use Rattle.fv_outside.specs.Tasks.{Tasks, bit, times, task_count}
+use Rattle.fv_outside.specs.headline.Tasks.{Tasks, bit}
+use Rattle.fv_outside.specs.Tasks.{times, task_count}
 use Rattle.fv_outside.specs.declared.gate.Line.{Line}
 use Rattle.fv_graph.specs.Graph.{net_of, feeds_of, task_of, task_at}
 use Rattle.fv_graph.specs.Wires.{IsWires, wires_of}

@@ -4,7 +4,8 @@ use Rattle.std.proofs.Common.{MatchOption, vec_capacity}
 use mathlib.Core.Logic.{dite}
 use native.Mathlib.Decide.{ℕ_discrete}
 use Rattle.atomic_table.specs.Seated.{TableId}
-use Rattle.fv_outside.specs.Tasks.{Tasks, times, task_count}
+use Rattle.fv_outside.specs.headline.Tasks.{Tasks}
+use Rattle.fv_outside.specs.Tasks.{times, task_count}
 use Rattle.fv_outside.specs.declared.gate.Line.{Line}
 use Rattle.fv_graph.specs.Graph.{net_of, task_of}
 use Rattle.fv_graph.specs.Wires.{IsWires, wires_of}

@@ -3,8 +3,9 @@ use Rattle.std.specs.Prelude.{◌≡◌, ℕ, ◌+◌, ◌<◌, ◌≤◌, List,
 use Rattle.std.specs.Global.{Global}
 use Rattle.atomic_blocks.specs.Lent.{RowsId}
 use Rattle.atomic_table.specs.Seated.{TableId}
-use Rattle.fv_outside.specs.Tasks.{Tasks, total, times, task_count}
-use Rattle.fv_outside.specs.Journal.{stamped}
+use Rattle.fv_outside.specs.headline.Tasks.{Tasks, total}
+use Rattle.fv_outside.specs.Tasks.{times, task_count}
+use Rattle.fv_outside.specs.headline.Journal.{stamped}
 use Rattle.fv_outside.specs.declared.gate.Line.{Line}
 use Rattle.fv_graph.specs.Net.{Net}
 use Rattle.fv_graph.specs.Graph.{Graph, net_of, inward, outward, task_at}

@@ -2,8 +2,9 @@
 use Rattle.std.specs.Prelude.{◌≡◌, ℕ, ◌<◌, List, map, length, All}
 use Rattle.std.specs.List.{flat_map}
 use Rattle.std.specs.List.Sorted.{IsPermutation, IsNonDecreasingBy}
-use Rattle.fv_outside.specs.Tasks.{Tasks, task_count}
-use Rattle.fv_outside.specs.Journal.{IsOrdered}
+use Rattle.fv_outside.specs.headline.Tasks.{Tasks}
+use Rattle.fv_outside.specs.Tasks.{task_count}
+use Rattle.fv_outside.specs.headline.Journal.{IsOrdered}
 use Rattle.fv_outside.specs.declared.gate.Line.{Line}
 use Rattle.fv_graph.specs.Graph.{IsGraph, net_of}
 use Rattle.fv_ready_rule.specs.Rule.{finishes}

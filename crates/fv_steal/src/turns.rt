@@ -1,7 +1,8 @@
 // One turn of a worker.
 
 ghost use Rattle.std.specs.Prelude.{◌≡◌, ℕ, ◌+◌, ◌<◌, ◌≤◌, ◌==◌, Some, None, true, false, length, vec_capacity, vec_len};
-ghost use Rattle.fv_outside.specs.Tasks.{bit, task_count};
+ghost use Rattle.fv_outside.specs.headline.Tasks.{bit};
+ghost use Rattle.fv_outside.specs.Tasks.{task_count};
 ghost use Rattle.fv_graph.specs.Graph.{net_of, inward, outward};
 ghost use Rattle.fv_graph.specs.Wires.{IsWires, wires_of};
 ghost use Rattle.fv_ready_rule.specs.Rule.{done_by, claims, noted};

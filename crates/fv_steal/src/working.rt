@@ -1,7 +1,8 @@
 // The work of a crew: all workers side by side, and then what is left in their deques.
 
 ghost use Rattle.std.specs.Prelude.{◌≡◌, ℕ, ◌+◌, ◌<◌, ◌==◌, map, length, All, MatchOption, vec_len, get_or};
-ghost use Rattle.fv_outside.specs.Tasks.{bit, times};
+ghost use Rattle.fv_outside.specs.headline.Tasks.{bit};
+ghost use Rattle.fv_outside.specs.Tasks.{times};
 ghost use Rattle.fv_graph.specs.Graph.{net_of};
 ghost use Rattle.fv_ready_rule.specs.Shown.{OwesNothing};
 ghost use Rattle.fv_ready.specs.Boards.{name_of, about_of, graph_of, AreSeatsOf};

@@ -2,7 +2,7 @@
 
 ghost use Rattle.std.specs.Prelude.{◌≡◌, ◌-◌, ◌<◌, ◌≤◌, [], length, IfOk, IfErr, OnOk, OnErr, vec_capacity};
 ghost use Rattle.fv_outside.specs.Tasks.{task_count};
-ghost use Rattle.fv_outside.specs.Journal.{IsOrdered};
+ghost use Rattle.fv_outside.specs.headline.Journal.{IsOrdered};
 ghost use Rattle.fv_graph.specs.Graph.{edges_of};
 ghost use Rattle.fv_steal_block.specs.Parcels.{AreParcelsFrom};
 

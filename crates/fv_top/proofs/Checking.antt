@@ -3,20 +3,22 @@ use Rattle.std.proofs.Common.{◌≡◌, ℕ, ◌+◌, ◌≤◌, List, [], ◌+
 use Rattle.std.specs.Prelude.{IsTrue, Some}
 use Rattle.std.proofs.lemmas.List.{append-nil}
 use Rattle.fv_base.specs.declared.role.Role.TheVariants.{Program, Input, Controls, Output, Report}
-use Rattle.fv_base.specs.Lists.{IsPrefixOf}
-use Rattle.fv_outside.specs.Desk.{DeskState, HasFault, KeepsFaults, IsUnfailing, Appends}
+use Rattle.fv_base.specs.headline.Lists.{IsPrefixOf}
+use Rattle.fv_outside.specs.headline.Desk.{DeskState, HasFault, KeepsFaults, IsUnfailing}
+use Rattle.fv_outside.specs.Desk.{Appends}
 use Rattle.fv_outside.proofs.States.{goes_on_then, fault_earlier, told_before, unfailing_later}
-use Rattle.fv_top_words.specs.Commands.{Checking}
+use Rattle.fv_top_words.specs.headline.Commands.{Checking}
 use Rattle.fv_top_report.specs.declared.refusal.Refusal.{Refusal}
 use Rattle.fv_top_report.specs.declared.refusal.Refusal.TheVariants.{WriteFault}
-use Rattle.fv_top_text.specs.Program.{TextIs, IsProgram, IsOfText}
-use Rattle.fv_top_text.specs.Compiled.{Compiled}
-use Rattle.fv_top_report.specs.Lines.{check_line}
-use Rattle.fv_top.specs.Meant.{check_meant}
+use Rattle.fv_top_text.specs.headline.Program.{TextIs, IsProgram}
+use Rattle.fv_top_text.specs.Program.{IsOfText}
+use Rattle.fv_top_text.specs.headline.Compiled.{Compiled}
+use Rattle.fv_top_report.specs.headline.Lines.{check_line}
+use Rattle.fv_top.specs.headline.Meant.{check_meant}
 use Rattle.fv_top_report.specs.Parts.{AppendsPart}
 use Rattle.fv_top_files.specs.Loading.{ReadsFile, StopsLoading, IsFile}
-use Rattle.fv_top.specs.Steps.{Halts, fault, judged, want_of_memory, reads, writes, here, later}
-use Rattle.fv_top.specs.Promise.{IsReadBy, ReadProgram, HasProgram, HasNoProgram, check_rules}
+use Rattle.fv_top.specs.headline.Steps.{Halts, fault, judged, want_of_memory, reads, writes, here, later}
+use Rattle.fv_top.specs.headline.Promise.{IsReadBy, ReadProgram, HasProgram, HasNoProgram, check_rules}
 use Rattle.fv_top.specs.inner.Running.{Checks, StopsCheck}
 use Rattle.fv_top.proofs.Reaching.{FailsToLoad, load_faults, is_another}
 

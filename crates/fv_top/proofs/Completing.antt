@@ -1,27 +1,30 @@
 -- A run that can be done is done, and one whose files are refused is refused for them.
 use Rattle.std.proofs.Common.{◌≡◌, ℕ, ◌⊎◌, List, sym, ◌∙◌, ap, subst, inl, inr}
 use Rattle.std.specs.Prelude.{Some, Option, Result, Ok, Err}
-use Rattle.fv_outside.specs.Requests.{Request}
-use Rattle.fv_outside.specs.Desk.{DeskState, File, file_named}
+use Rattle.fv_outside.specs.headline.Requests.{Request}
+use Rattle.fv_outside.specs.headline.Desk.{DeskState, File, file_named}
 use Rattle.fv_diagram.specs.declared.control.ControlInfo.{ControlInfo}
-use Rattle.fv_top_words.specs.Runs.{Run}
-use Rattle.fv_top_words.specs.Commands.{Job, Playing, Checking, Making}
+use Rattle.fv_top_words.specs.headline.Runs.{Run}
+use Rattle.fv_top_words.specs.headline.Commands.{Job, Playing, Checking, Making}
 use Rattle.fv_top_report.specs.declared.refusal.Refusal.{Refusal}
 use Rattle.fv_top_report.specs.declared.refusal.Refusal.TheVariants.{NoMemory}
 use Rattle.fv_top_report.specs.declared.status.Tally.{Tally}
 use Rattle.fv_top_report.specs.declared.status.Status.TheVariants.{Done, Refused}
 use Rattle.fv_top_text.specs.Answers.{IsOnce}
-use Rattle.fv_top_text.specs.Compiled.{Compiled}
-use Rattle.fv_top_text.specs.Program.{TextIs, IsOneText}
-use Rattle.fv_top_playable.specs.Tableless.{PlayedIs, IsPlayedOnce}
+use Rattle.fv_top_text.specs.headline.Compiled.{Compiled}
+use Rattle.fv_top_text.specs.headline.Program.{TextIs}
+use Rattle.fv_top_text.specs.Program.{IsOneText}
+use Rattle.fv_top_playable.specs.headline.Tableless.{PlayedIs}
+use Rattle.fv_top_playable.specs.Tableless.{IsPlayedOnce}
 use Rattle.fv_top_words.specs.declared.manner.InputKind.{InputKind}
-use Rattle.fv_top_files.specs.Sources.{Source, found, script_of, source_of}
-use Rattle.fv_top_files.specs.Output.{coding_of, format_of, cut_in}
-use Rattle.fv_top_files.specs.Loading.{HasScript, HasInput}
-use Rattle.fv_top.specs.Steps.{Ends, Rules, IsJudge}
-use Rattle.fv_top.specs.Promise.{Asks, HasProgram, HasProgramOf, HasNoProgram, Plays, IsWhole, Step, ReadProgram, ReadScript, ReadHead, Fit, Write, Tell}
-use Rattle.fv_top.specs.Promise.{StepPasses, StepRefuses, CheckPasses, CheckRefuses, rules_of, steps_of, IsKnown, CanDo}
-use Rattle.fv_top.specs.Promise.{HasCause, bad_words, of_job, HasDone, IsComplete, IsStrict, IsExact, IsRefusedOrNoMemory}
+use Rattle.fv_top_files.specs.headline.Sources.{Source, found, script_of, source_of}
+use Rattle.fv_top_files.specs.headline.Output.{coding_of, format_of, cut_in}
+use Rattle.fv_top_files.specs.headline.Loading.{HasScript, HasInput}
+use Rattle.fv_top.specs.headline.Steps.{Ends, Rules}
+use Rattle.fv_top.specs.inner.Steps.{IsJudge}
+use Rattle.fv_top.specs.headline.Promise.{Asks, HasProgram, HasProgramOf, HasNoProgram, Plays, IsWhole, Step, ReadProgram, ReadScript, ReadHead, Fit, Write, Tell}
+use Rattle.fv_top.specs.headline.Promise.{StepPasses, StepRefuses, CheckPasses, CheckRefuses, rules_of, steps_of, IsKnown, CanDo}
+use Rattle.fv_top.specs.headline.Promise.{HasCause, bad_words, of_job, HasDone, IsComplete, IsStrict, IsExact, IsRefusedOrNoMemory}
 use Rattle.fv_top.proofs.StepLaws.{exactly, completes, passes_apart}
 
 -- ---- a name has one file, and a file says one thing

@@ -4,42 +4,46 @@ use Rattle.std.proofs.Common.{inl, inr, ⊎_elim, append_assoc, arith}
 use Rattle.std.specs.Prelude.{IsTrue, IsSome, is_some, Option, Some, None, option_map}
 use Rattle.std.specs.Option.{ForSome}
 use Rattle.std.proofs.lemmas.List.{append-nil}
-use Rattle.fv_num.specs.Frames.{Frame}
+use Rattle.fv_num.specs.headline.Frames.{Frame}
 use Rattle.fv_base.specs.declared.role.Role.{Role}
 use Rattle.fv_base.specs.declared.role.Role.TheVariants.{Program, Input, Controls, Output, Report}
-use Rattle.fv_base.specs.Lists.{IsPrefixOf}
-use Rattle.fv_outside.specs.Requests.{Request, to_read, to_write}
-use Rattle.fv_outside.specs.Journal.{Told}
-use Rattle.fv_outside.specs.Desk.{DeskState, GoesOn, HasFault, KeepsFaults, IsUnfailing, Appends}
+use Rattle.fv_base.specs.headline.Lists.{IsPrefixOf}
+use Rattle.fv_outside.specs.headline.Requests.{Request, to_read, to_write}
+use Rattle.fv_outside.specs.headline.Journal.{Told}
+use Rattle.fv_outside.specs.headline.Desk.{DeskState, GoesOn, HasFault, KeepsFaults, IsUnfailing}
+use Rattle.fv_outside.specs.Desk.{Appends}
 use Rattle.fv_outside.proofs.States.{goes_on_then, fault_earlier, told_before, unfailing_later}
 use Rattle.fv_control.specs.declared.script.Change.{Change}
-use Rattle.fv_control.specs.Streams.{control_streams}
-use Rattle.fv_engine_render.specs.Render.{RanTo, RanWhole, initial_of}
+use Rattle.fv_control.specs.headline.Streams.{control_streams}
+use Rattle.fv_engine_render.specs.headline.Render.{RanTo, initial_of}
+use Rattle.fv_engine_render.specs.Render.{RanWhole}
 use Rattle.fv_engine_render.specs.declared.blocks.Ran.{Ran}
 use Rattle.fv_engine_render.specs.declared.blocks.RunSizes.{RunSizes}
-use Rattle.fv_engine_files.specs.Files.{AreTakenOf, HasTaken, IsCutAt, frames_at}
-use Rattle.fv_file_tape.specs.Tapes.{Streams, HasBegun, files_of}
+use Rattle.fv_engine_files.specs.headline.Files.{IsCutAt}
+use Rattle.fv_engine_files.specs.Files.{AreTakenOf, HasTaken, frames_at}
+use Rattle.fv_file_tape.specs.headline.Tapes.{HasBegun}
+use Rattle.fv_file_tape.specs.Tapes.{Streams, files_of}
 use Rattle.fv_file_tape.specs.declared.samples.InputSamples.{InputSamples}
 use Rattle.fv_file_tape.specs.declared.file_tape.Stop.{Stop}
 use Rattle.fv_file_tape.specs.declared.file_tape.Stop.TheVariants as stop
-use Rattle.fv_top_words.specs.Runs.{Run}
-use Rattle.fv_top_words.specs.Commands.{Playing}
+use Rattle.fv_top_words.specs.headline.Runs.{Run}
+use Rattle.fv_top_words.specs.headline.Commands.{Playing}
 use Rattle.fv_top_report.specs.declared.refusal.Refusal.{Refusal}
 use Rattle.fv_top_report.specs.declared.refusal.Refusal.TheVariants.{ReadFault, WriteFault, NoMemory}
 use Rattle.fv_pcm.specs.declared.coding.Coding.{Coding}
-use Rattle.fv_top_text.specs.Compiled.{Compiled}
+use Rattle.fv_top_text.specs.headline.Compiled.{Compiled}
 use Rattle.fv_top.specs.declared.prepare.Prepared.{Prepared}
-use Rattle.fv_top_files.specs.Inputs.{truncated, stated_frames}
-use Rattle.fv_top_files.specs.Sources.{frames_of, data_of}
-use Rattle.fv_top_files.specs.Output.{OutputFormat, coding_of, format_of, present_in, cut_in, output_file}
-use Rattle.fv_top.specs.Meant.{written_by}
-use Rattle.fv_top_report.specs.Lines.{done_line}
+use Rattle.fv_top_files.specs.headline.Inputs.{truncated, stated_frames}
+use Rattle.fv_top_files.specs.headline.Sources.{frames_of, data_of}
+use Rattle.fv_top_files.specs.headline.Output.{OutputFormat, coding_of, format_of, present_in, cut_in, output_file}
+use Rattle.fv_top.specs.headline.Meant.{written_by}
+use Rattle.fv_top_report.specs.headline.Lines.{done_line}
 use Rattle.fv_top_report.specs.Parts.{AppendsPart}
-use Rattle.fv_top.specs.Steps.{reads, writes, Halts, fault, judged, Ends, here, later}
-use Rattle.fv_top_files.specs.Loading.{LeavesRest, ReadsWithin, reading}
-use Rattle.fv_top.specs.Promise.{Asks, Plays, IsWhole, Write, Tell, HasRoom, meant, run_rules, run_steps, CanDo, meant_of}
-use Rattle.fv_top.specs.Promise.{of_job, LeavesOutput, HasPlayedPresent, IsReadBy, IsRead, KeepsOthers}
-use Rattle.fv_top.specs.Played.{HaveRan, RanSoFar}
+use Rattle.fv_top.specs.headline.Steps.{reads, writes, Halts, fault, judged, Ends, here, later}
+use Rattle.fv_top_files.specs.headline.Loading.{LeavesRest, ReadsWithin, reading}
+use Rattle.fv_top.specs.headline.Promise.{Asks, Plays, IsWhole, Write, Tell, HasRoom, meant, run_rules, run_steps, CanDo, meant_of}
+use Rattle.fv_top.specs.headline.Promise.{of_job, LeavesOutput, HasPlayedPresent, IsReadBy, IsRead, KeepsOthers}
+use Rattle.fv_top.specs.headline.Played.{HaveRan, RanSoFar}
 use Rattle.fv_top_files.specs.Formats.{format_in}
 use Rattle.fv_top.specs.inner.Prepared.{CanRun, IsForRun, IsOfFiles, HasRun, IsCutIn, EndsAt, frames_there, file_on, file_there, samples_of, coding_heard}
 use Rattle.fv_top.specs.inner.Prepared.{refusal_of_stop}

@@ -4,27 +4,30 @@ use Rattle.std.proofs.Common.{arith}
 use Rattle.std.specs.Prelude.{IsTrue, Err}
 use Rattle.std.proofs.lemmas.List.{append-nil}
 use Rattle.fv_base.specs.declared.role.Role.TheVariants.{Program, Input, Controls, Output, Report}
-use Rattle.fv_base.specs.Lists.{IsPrefixOf}
-use Rattle.fv_outside.specs.Desk.{DeskState, HasFault, KeepsFaults, IsUnfailing, Appends}
+use Rattle.fv_base.specs.headline.Lists.{IsPrefixOf}
+use Rattle.fv_outside.specs.headline.Desk.{DeskState, HasFault, KeepsFaults, IsUnfailing}
+use Rattle.fv_outside.specs.Desk.{Appends}
 use Rattle.fv_outside.proofs.States.{goes_on_self}
 use Rattle.fv_top_report.specs.declared.refusal.Refusal.{Refusal}
 use Rattle.fv_top_report.specs.declared.refusal.Refusal.TheVariants.{WriteFault, NoMemory}
-use Rattle.fv_diagram.specs.Diagram.{Diagram, has_table}
-use Rattle.fv_control.specs.Streams.{control_streams}
-use Rattle.fv_diagram.specs.Samples.{answer_on}
-use Rattle.fv_top_make.specs.Made.{SumsAddUp, text_of, noise_behind, noise_of, sum_from, sum_of}
+use Rattle.fv_diagram.specs.headline.Diagram.{Diagram, has_table}
+use Rattle.fv_control.specs.headline.Streams.{control_streams}
+use Rattle.fv_diagram.specs.headline.Samples.{answer_on}
+use Rattle.fv_top_make.specs.headline.Made.{text_of, noise_behind, noise_of, sum_of}
+use Rattle.fv_top_make.specs.Made.{SumsAddUp, sum_from}
 use Rattle.fv_top_make.specs.Noises.{Sounds}
 use Rattle.fv_top_make.specs.declared.noise_tape.Noise.{Noise}
-use Rattle.fv_top_text.specs.Compiled.{Compiled}
-use Rattle.fv_top_playable.specs.Tableless.{IsOfPlayed, PlayedIs, RefusesAFileOrATable}
+use Rattle.fv_top_text.specs.headline.Compiled.{Compiled}
+use Rattle.fv_top_playable.specs.headline.Tableless.{PlayedIs}
+use Rattle.fv_top_playable.specs.Tableless.{IsOfPlayed, RefusesAFileOrATable}
 use Rattle.fv_top_words.specs.declared.manner.ProgramKind.TheVariants.{Alone}
-use Rattle.fv_top_words.specs.Commands.{most_voices}
+use Rattle.fv_top_words.specs.headline.Commands.{most_voices}
 use Rattle.fv_top_voices.specs.Voices.{VoicesAreOneProgram, VoicesAreNotRefused, VoicesAreTableless}
-use Rattle.fv_top_report.specs.Lines.{made_line}
-use Rattle.fv_top.specs.Meant.{make_meant}
+use Rattle.fv_top_report.specs.headline.Lines.{made_line}
+use Rattle.fv_top.specs.headline.Meant.{make_meant}
 use Rattle.fv_top_report.specs.Parts.{AppendsPart}
-use Rattle.fv_top.specs.Steps.{Ends, fault, want_of_memory, writes, here, later}
-use Rattle.fv_top.specs.Promise.{make_rules, make_steps}
+use Rattle.fv_top.specs.headline.Steps.{Ends, fault, want_of_memory, writes, here, later}
+use Rattle.fv_top.specs.headline.Promise.{make_rules, make_steps}
 use Rattle.fv_top.specs.inner.Running.{Makes, StopsMake, HasSum}
 
 -- ---- the program and its noise

@@ -6,23 +6,25 @@ use Rattle.std.specs.Option.{ForSome}
 use Rattle.std.proofs.Math.Nat.{mul-pos, mul-div_cancel, mul_assoc, mul-le-mul_left}
 use Rattle.std.proofs.lemmas.Bool.{cases_lt, eq-eqb, ne_eqb}
 use Rattle.std.proofs.lemmas.List.{append-nil, drop_all, drop-drop}
-use Rattle.fv_base.specs.Lists.{IsPrefixOf}
+use Rattle.fv_base.specs.headline.Lists.{IsPrefixOf}
 use Rattle.fv_base.proofs.Lists.{length_table, prefix_trans}
 use Rattle.fv_base.specs.declared.role.Role.TheVariants.{Input, Output}
-use Rattle.fv_num.specs.Frames.{Frame, Stream}
-use Rattle.fv_outside.specs.Desk.{DeskState, HasFault, KeepsFaults, IsUnfailing, Appends}
+use Rattle.fv_num.specs.headline.Frames.{Frame, Stream}
+use Rattle.fv_outside.specs.headline.Desk.{DeskState, HasFault, KeepsFaults, IsUnfailing}
+use Rattle.fv_outside.specs.Desk.{Appends}
 use Rattle.fv_outside.proofs.States.{goes_on_then, told_before, fault_earlier, unfailing_later}
-use Rattle.fv_pcm.specs.Coded.{frame_bytes}
-use Rattle.fv_num.specs.Words.{is_sample_width}
-use Rattle.fv_pcm.specs.Sizes.{frame_size, data_size}
+use Rattle.fv_pcm.specs.headline.Coded.{frame_bytes}
+use Rattle.fv_num.specs.headline.Words.{is_sample_width}
+use Rattle.fv_pcm.specs.headline.Sizes.{frame_size, data_size}
 use Rattle.fv_pcm.proofs.Widths.{at_width}
-use Rattle.fv_diagram.specs.Diagram.{Diagram, outputs}
-use Rattle.fv_diagram.specs.Streams.{run}
-use Rattle.fv_diagram.specs.Samples.{no_slots}
-use Rattle.fv_control.specs.Streams.{control_streams}
-use Rattle.fv_engine_render.specs.Render.{initial_of}
+use Rattle.fv_diagram.specs.headline.Diagram.{Diagram, outputs}
+use Rattle.fv_diagram.specs.headline.Streams.{run}
+use Rattle.fv_diagram.specs.headline.Samples.{no_slots}
+use Rattle.fv_control.specs.headline.Streams.{control_streams}
+use Rattle.fv_engine_render.specs.headline.Render.{initial_of}
 use Rattle.fv_engine_files.specs.Files.{AreTakenOf, HasTaken, HasPlayed, StopsAt, IsStopFor, answered, output_of, frames_at}
-use Rattle.fv_file_tape.specs.Tapes.{IsInput, Streams, CannotSay, channels_of, head_in, files_of}
+use Rattle.fv_file_tape.specs.headline.Tapes.{head_in}
+use Rattle.fv_file_tape.specs.Tapes.{IsInput, Streams, CannotSay, channels_of, files_of}
 use Rattle.fv_file_tape.specs.declared.samples.InputSamples.{InputSamples}
 use Rattle.fv_file_tape.specs.declared.file_tape.OutputHead.{OutputHead}
 use Rattle.fv_file_tape.specs.declared.file_tape.Stop.{Stop}
@@ -31,13 +33,14 @@ use Rattle.fv_top_report.specs.Parts.{AppendsPart}
 use Rattle.fv_top_files.specs.declared.incoming.Incoming.{Incoming}
 use Rattle.fv_top_files.specs.declared.format.OutputFormat.{OutputFormat as Made}
 use Rattle.fv_top.specs.declared.prepare.Prepared.{Prepared}
-use Rattle.fv_top_files.specs.Inputs.{stated_frames, whole_bytes, truncated, coding_in}
-use Rattle.fv_top_files.specs.Sources.{Source, frames_of, data_of}
-use Rattle.fv_top_files.specs.Output.{OutputFormat, channels_in, present_in, cut_in, pad_in, output_file}
-use Rattle.fv_top_files.specs.Loading.{IsLeft, IsRest, IsWithin}
+use Rattle.fv_top_files.specs.headline.Inputs.{stated_frames, whole_bytes, truncated, coding_in}
+use Rattle.fv_top_files.specs.headline.Sources.{Source, frames_of, data_of}
+use Rattle.fv_top_files.specs.headline.Output.{OutputFormat, channels_in, present_in, cut_in, pad_in, output_file}
+use Rattle.fv_top_files.specs.headline.Loading.{IsRest, IsWithin}
+use Rattle.fv_top_files.specs.Loading.{IsLeft}
 use Rattle.fv_top_files.specs.Formats.{format_in}
 use Rattle.fv_top.specs.inner.Prepared.{CanRun, HasRun, IsEndFor, EndsAt, samples_of, output_head, coding_heard, frames_there, file_there}
-use Rattle.fv_top_text.specs.Compiled.{Compiled}
+use Rattle.fv_top_text.specs.headline.Compiled.{Compiled}
 
 -- ---- the frames of a file
 

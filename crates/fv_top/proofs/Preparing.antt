@@ -2,21 +2,24 @@
 use Rattle.std.proofs.Common.{◌≡◌, ℕ, List, [], ◌∷◌, ◌++◌, sym, ◌∙◌, ap, subst, refl}
 use Rattle.std.specs.Prelude.{IsTrue, Some, None, Option, Ok, Err, Result, is_some, option_map}
 use Rattle.fv_base.specs.declared.role.Role.TheVariants.{Program, Controls, Input}
-use Rattle.fv_outside.specs.Requests.{Request, to_read}
-use Rattle.fv_outside.specs.Desk.{DeskState, File, KeepsFaults}
+use Rattle.fv_outside.specs.headline.Requests.{Request, to_read}
+use Rattle.fv_outside.specs.headline.Desk.{DeskState, File, KeepsFaults}
 use Rattle.fv_outside.proofs.States.{told_before}
 use Rattle.fv_control.specs.declared.script.Change.{Change}
-use Rattle.fv_top_words.specs.Runs.{Run, Settings}
-use Rattle.fv_top_words.specs.Commands.{Playing}
+use Rattle.fv_top_words.specs.headline.Runs.{Run, Settings}
+use Rattle.fv_top_words.specs.headline.Commands.{Playing}
 use Rattle.fv_top_files.specs.declared.incoming.Incoming.{Incoming}
 use Rattle.fv_top_report.specs.declared.refusal.Refusal.{Refusal}
 use Rattle.fv_top_report.specs.declared.refusal.Refusal.TheVariants.{NoMemory}
-use Rattle.fv_top_playable.specs.Tableless.{PlayedIs, IsOfPlayed}
-use Rattle.fv_top_text.specs.Compiled.{Compiled}
-use Rattle.fv_top_files.specs.Output.{OutputFormat, coding_of, format_of}
-use Rattle.fv_top_files.specs.Loading.{ReadsFile, IsFile, HasScript, HasInput, HasHead, IsLeft, reading, IsHeadRefusal}
-use Rattle.fv_top.specs.Steps.{Ends, here, later, judged, want_of_memory}
-use Rattle.fv_top.specs.Promise.{IsReadBy, ReadProgram, ReadScript, ReadHead, Fit, HasProgramOf, HasNoProgram, IsScriptRefusal, Plays, Step, run_rules}
+use Rattle.fv_top_playable.specs.headline.Tableless.{PlayedIs}
+use Rattle.fv_top_playable.specs.Tableless.{IsOfPlayed}
+use Rattle.fv_top_text.specs.headline.Compiled.{Compiled}
+use Rattle.fv_top_files.specs.headline.Output.{OutputFormat, coding_of, format_of}
+use Rattle.fv_top_files.specs.headline.Loading.{HasScript, HasInput, reading}
+use Rattle.fv_top_files.specs.Loading.{ReadsFile, IsFile, HasHead, IsLeft, IsHeadRefusal}
+use Rattle.fv_top.specs.headline.Steps.{Ends, here, later, judged, want_of_memory}
+use Rattle.fv_top.specs.headline.Promise.{IsReadBy, ReadProgram, ReadScript, ReadHead, Fit, HasProgramOf, HasNoProgram, Plays, Step, run_rules}
+use Rattle.fv_top.specs.inner.Promise.{IsScriptRefusal}
 use Rattle.fv_top.specs.inner.Running.{Reaches, StopsBefore, asked_before}
 use Rattle.fv_top_files.specs.declared.format.OutputFormat.{OutputFormat as Made}
 use Rattle.fv_top_files.specs.declared.input.Loaded.{Loaded}

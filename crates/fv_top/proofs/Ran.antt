@@ -2,27 +2,30 @@
 use Rattle.std.proofs.Common.{◌≡◌, ℕ, ◌+◌, ◌-◌, ◌/◌, ◌≤◌, List, [], length, subst, refl, inl, inr, sym, ◌∙◌, arith}
 use Rattle.std.specs.Prelude.{Option, Err}
 use Rattle.fv_base.specs.declared.role.Role.TheVariants.{Output, Report}
-use Rattle.fv_outside.specs.Journal.{Told}
-use Rattle.fv_outside.specs.Desk.{DeskState}
+use Rattle.fv_outside.specs.headline.Journal.{Told}
+use Rattle.fv_outside.specs.headline.Desk.{DeskState}
 use Rattle.fv_engine_render.specs.Render.{CanBePlayed, CanHave}
-use Rattle.fv_diagram.specs.Diagram.{Diagram, control_bound}
+use Rattle.fv_diagram.specs.headline.Diagram.{Diagram}
+use Rattle.fv_diagram.specs.Diagram.{control_bound}
 use Rattle.fv_diagram.specs.declared.control.ControlInfo.{ControlInfo}
-use Rattle.fv_engine_render.specs.Plans.{IsGraphOf}
+use Rattle.fv_engine_render.specs.headline.Plans.{IsGraphOf}
 use Rattle.fv_engine_render.specs.Stops.{IsSetFor, IsSetToPlay}
 use Rattle.fv_engine_render.specs.declared.blocks.RunSizes.{RunSizes}
 use Rattle.fv_engine_render.specs.declared.tape.Played.{Played}
 use Rattle.fv_engine_render.specs.declared.tape.Ready.{Ready}
-use Rattle.fv_interval.specs.Controls.{spans_of}
+use Rattle.fv_interval.specs.headline.Controls.{spans_of}
 use Rattle.fv_top_playable.specs.Playables.{IsPlayable}
 use Rattle.fv_top_playable.specs.declared.playable.Playable.{Playable}
-use Rattle.fv_top_text.specs.Compiled.{Compiled}
-use Rattle.fv_top_words.specs.Runs.{Settings, AreSound}
+use Rattle.fv_top_text.specs.headline.Compiled.{Compiled}
+use Rattle.fv_top_words.specs.headline.Runs.{Settings}
+use Rattle.fv_top_words.specs.Runs.{AreSound}
 use Rattle.fv_top_words.specs.declared.cause.Cause.{Cause}
-use Rattle.fv_top_words.specs.Commands.{Job, Playing, Checking, Making, job_in}
+use Rattle.fv_top_words.specs.headline.Commands.{Job, Playing, Checking, Making, job_in}
 use Rattle.fv_top_report.specs.declared.refusal.Refusal.{Refusal}
 use Rattle.fv_top_report.specs.declared.refusal.Refusal.TheVariants.{WriteFault}
-use Rattle.fv_top.specs.Promise.{Asks}
-use Rattle.fv_top.specs.Played.{sizes_of, make_sizes, HaveRan, MakeRan, MakeSoFar, RanSoFar, ComesFirst, HasBlocksSoFar}
+use Rattle.fv_top.specs.headline.Promise.{Asks}
+use Rattle.fv_top.specs.headline.Played.{sizes_of, make_sizes, HaveRan, RanSoFar, ComesFirst, HasBlocksSoFar}
+use Rattle.fv_top.specs.inner.Played.{MakeRan, MakeSoFar}
 
 -- ---- what is played, and its sizes
 

@@ -4,25 +4,26 @@ use Rattle.std.specs.Prelude.{IsTrue, IsSome, Some, None, Option, Ok, Err, Resul
 use Rattle.std.proofs.lemmas.List.{append-nil}
 use Rattle.fv_base.specs.declared.role.Role.{Role}
 use Rattle.fv_base.specs.declared.role.Role.TheVariants.{Program, Controls, Input}
-use Rattle.fv_outside.specs.Requests.{Request, to_read}
-use Rattle.fv_outside.specs.Desk.{DeskState, KeepsFaults, IsUnfailing}
+use Rattle.fv_outside.specs.headline.Requests.{Request, to_read}
+use Rattle.fv_outside.specs.headline.Desk.{DeskState, KeepsFaults, IsUnfailing}
 use Rattle.fv_outside.proofs.States.{quiet_self, quiet_then, told_before, fault_earlier, unfailing_later}
-use Rattle.fv_diagram.specs.Diagram.{Diagram, inputs, outputs}
+use Rattle.fv_diagram.specs.headline.Diagram.{Diagram, inputs, outputs}
 use Rattle.fv_top_words.specs.declared.manner.ProgramKind.{ProgramKind}
 use Rattle.fv_top_words.specs.declared.manner.ProgramKind.TheVariants.{Alone, Rack}
-use Rattle.fv_top_words.specs.Runs.{Run, Settings}
-use Rattle.fv_top_words.specs.Commands.{Playing}
+use Rattle.fv_top_words.specs.headline.Runs.{Run, Settings}
+use Rattle.fv_top_words.specs.headline.Commands.{Playing}
 use Rattle.fv_top_files.specs.declared.incoming.Incoming.{Incoming}
 use Rattle.fv_pcm.specs.declared.coding.Coding.{Coding}
-use Rattle.fv_pcm.specs.Sizes.{data_size, data_limit}
+use Rattle.fv_pcm.specs.headline.Sizes.{data_size, data_limit}
 use Rattle.fv_top_report.specs.declared.refusal.Refusal.{Refusal}
 use Rattle.fv_top_report.specs.declared.refusal.Refusal.TheVariants.{ReadFault, Channels, FramesNeeded, OutputTooLong}
 use Rattle.fv_top_playable.specs.Tableless.{IsOfPlayed}
-use Rattle.fv_top_files.specs.Output.{OutputFormat, format_of, counted, channels_in, bits_in, frames_in}
-use Rattle.fv_top_files.specs.Inputs.{stated_frames}
-use Rattle.fv_top_files.specs.Loading.{ReadsFile, StopsLoading, IsThere, reading}
-use Rattle.fv_top.specs.Steps.{Halts, fault, judged, want_of_memory, reads}
-use Rattle.fv_top.specs.Promise.{WantsMemory, IsReadBy, Step, Fit, TakesTurn, IsAnswered, HasRefusal, StepRefuses, run_rules}
+use Rattle.fv_top_files.specs.headline.Output.{OutputFormat, format_of, counted, channels_in, bits_in, frames_in}
+use Rattle.fv_top_files.specs.headline.Inputs.{stated_frames}
+use Rattle.fv_top_files.specs.headline.Loading.{IsThere, reading}
+use Rattle.fv_top_files.specs.Loading.{ReadsFile, StopsLoading}
+use Rattle.fv_top.specs.headline.Steps.{Halts, fault, judged, want_of_memory, reads}
+use Rattle.fv_top.specs.headline.Promise.{WantsMemory, IsReadBy, Step, Fit, TakesTurn, IsAnswered, HasRefusal, StepRefuses, run_rules}
 use Rattle.fv_top.specs.inner.Running.{Reaches, CountsFaultOf, asked_before}
 
 pub reaches_nothing : (Reads : Role → Type 0) (a : DeskState) → Reaches Reads [] a a

@@ -3,15 +3,16 @@ use Rattle.std.proofs.Common.{◌≡◌, ◌⊎◌, ℕ, List, [], ◌∷◌, �
 use Rattle.std.specs.Prelude.{IsTrue, Ok, Err, OnOk, OnErr, Result}
 use Rattle.fv_outside.specs.declared.desk.Failed.{Failed}
 use Rattle.fv_base.specs.declared.role.Role.TheVariants.{Output, Report}
-use Rattle.fv_base.specs.Lists.{IsPrefixOf}
-use Rattle.fv_outside.specs.Requests.{Request}
-use Rattle.fv_outside.specs.Desk.{DeskState, GoesOn, HasFault, Appends}
+use Rattle.fv_base.specs.headline.Lists.{IsPrefixOf}
+use Rattle.fv_outside.specs.headline.Requests.{Request}
+use Rattle.fv_outside.specs.headline.Desk.{DeskState, GoesOn, HasFault}
+use Rattle.fv_outside.specs.Desk.{Appends}
 use Rattle.fv_outside.proofs.States.{goes_on_then, fault_earlier, fault_later, told_before}
-use Rattle.fv_top_words.specs.Runs.{Run}
+use Rattle.fv_top_words.specs.headline.Runs.{Run}
 use Rattle.fv_top_report.specs.declared.refusal.Refusal.{Refusal}
-use Rattle.fv_top_report.specs.Lines.{refused_line}
-use Rattle.fv_top.specs.Steps.{Rules, role_of, Halts, fault, judged, want_of_memory, Ends, here, later}
-use Rattle.fv_top.specs.Promise.{rules_of, steps_of, HasCause, bad_words, of_job, LeavesOutput, HasPlayedPresent, CutsShort}
+use Rattle.fv_top_report.specs.headline.Lines.{refused_line}
+use Rattle.fv_top.specs.headline.Steps.{Rules, role_of, Halts, fault, judged, want_of_memory, Ends, here, later}
+use Rattle.fv_top.specs.headline.Promise.{rules_of, steps_of, HasCause, bad_words, of_job, LeavesOutput, HasPlayedPresent, CutsShort}
 use Rattle.fv_top.specs.inner.Running.{Stopped, ReportsLine, EndsRefused}
 use Rattle.fv_top.proofs.Stopping.{others_told, rest_told, within_told}
 

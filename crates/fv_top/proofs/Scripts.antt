@@ -3,18 +3,19 @@ use Rattle.std.proofs.Common.{◌≡◌, ◌⊎◌, ℕ, ◌≤◌, ◌<◌, Lis
 use Rattle.std.specs.Prelude.{Result, Ok, Some, None}
 use Rattle.std.proofs.lemmas.Bool.{cases_lt, lt-leb}
 use Rattle.std.proofs.lemmas.List.{take_all, length-take}
-use Rattle.fv_outside.specs.Desk.{File, file_named}
+use Rattle.fv_outside.specs.headline.Desk.{File, file_named}
 use Rattle.fv_diagram.specs.declared.control.ControlInfo.{ControlInfo}
 use Rattle.fv_control.specs.declared.script.Change.{Change}
 use Rattle.fv_control.specs.declared.refusal.ScriptRefusal.{ScriptRefusal}
 use Rattle.fv_control.specs.declared.refusal.ScriptRefusal.TheVariants as lines
-use Rattle.fv_control.specs.Script.{script, line_says, IsOfScript}
+use Rattle.fv_control.specs.headline.Script.{script, line_says}
+use Rattle.fv_control.specs.Script.{IsOfScript}
 use Rattle.fv_top_report.specs.declared.refusal.Refusal.{Refusal}
 use Rattle.fv_top_report.specs.declared.refusal.Refusal.TheVariants.{NoMemory}
-use Rattle.fv_top_report.specs.Layers.{of_script}
-use Rattle.fv_top_files.specs.Sources.{scripted}
-use Rattle.fv_top_files.specs.Loading.{HasScript}
-use Rattle.fv_top.specs.Promise.{IsScriptRefusal}
+use Rattle.fv_top_report.specs.headline.Layers.{of_script}
+use Rattle.fv_top_files.specs.headline.Sources.{scripted}
+use Rattle.fv_top_files.specs.headline.Loading.{HasScript}
+use Rattle.fv_top.specs.inner.Promise.{IsScriptRefusal}
 
 -- what its first bytes spell, the whole script does
 pub whole_script : (controls : List ControlInfo) (text bytes : List ℕ) → bytes ≡ take 1048577 text → script controls text ≡ script controls bytes

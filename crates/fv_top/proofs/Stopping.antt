@@ -4,14 +4,15 @@ use Rattle.std.specs.Prelude.{IsTrue, Option, Some, None, Err}
 use Rattle.std.proofs.lemmas.List.{append-nil}
 use Rattle.fv_base.specs.declared.role.Role.{Role}
 use Rattle.fv_base.specs.declared.role.Role.TheVariants.{Program, Input, Output, Report}
-use Rattle.fv_outside.specs.Requests.{Request, to_read}
-use Rattle.fv_outside.specs.Desk.{DeskState, File, GoesOn, Appends}
+use Rattle.fv_outside.specs.headline.Requests.{Request, to_read}
+use Rattle.fv_outside.specs.headline.Desk.{DeskState, File, GoesOn}
+use Rattle.fv_outside.specs.Desk.{Appends}
 use Rattle.fv_outside.proofs.States.{told_before}
 use Rattle.fv_top_words.specs.declared.cause.Cause.{Cause}
 use Rattle.fv_top_words.specs.declared.manner.ProgramKind.{ProgramKind}
 use Rattle.fv_top_words.specs.declared.manner.ProgramKind.TheVariants.{Alone, Rack}
-use Rattle.fv_top_words.specs.Runs.{Run}
-use Rattle.fv_top_words.specs.Commands.{Job, Playing, Checking, Making, job_in}
+use Rattle.fv_top_words.specs.headline.Runs.{Run}
+use Rattle.fv_top_words.specs.headline.Commands.{Job, Playing, Checking, Making, job_in}
 use Rattle.fv_top_report.specs.declared.refusal.Refusal.{Refusal}
 use Rattle.fv_top_report.specs.declared.refusal.Refusal.TheVariants.{Usage, NoMemory}
 use Rattle.fv_pcm.specs.declared.coding.Coding.{Coding}
@@ -19,11 +20,11 @@ use Rattle.fv_pcm.specs.declared.coding.Coding.TheVariants as coding
 use Rattle.fv_top_words.specs.declared.manner.InputKind.{InputKind}
 use Rattle.fv_top_playable.specs.Tableless.{IsOfPlayed}
 use Rattle.fv_top_files.specs.declared.incoming.Incoming.{Incoming}
-use Rattle.fv_top_files.specs.Inputs.{truncated, read_bytes}
-use Rattle.fv_top.specs.Steps.{Rules, Turn, fault_of, reads, writes, Ends}
-use Rattle.fv_top_files.specs.Loading.{HasInput, LeavesRest, ReadsWithin, IsRest, IsWithin}
-use Rattle.fv_top.specs.Promise.{Asks, Write, Tell, run_rules, HasCause, bad_words, of_job, HasRefusal, check_rules, check_steps, make_rules, make_steps}
-use Rattle.fv_top.specs.Promise.{CutsShort, IsReadBy, IsRead, KeepsOthers}
+use Rattle.fv_top_files.specs.headline.Inputs.{truncated, read_bytes}
+use Rattle.fv_top.specs.headline.Steps.{Rules, Turn, fault_of, reads, writes, Ends}
+use Rattle.fv_top_files.specs.headline.Loading.{HasInput, LeavesRest, ReadsWithin, IsRest, IsWithin}
+use Rattle.fv_top.specs.headline.Promise.{Asks, Write, Tell, run_rules, HasCause, bad_words, of_job, HasRefusal, check_rules, check_steps, make_rules, make_steps}
+use Rattle.fv_top.specs.headline.Promise.{CutsShort, IsReadBy, IsRead, KeepsOthers}
 use Rattle.fv_top.specs.inner.Running.{Reaches, CountsFaultOf, StopsBefore, Checks, StopsCheck, Makes, StopsMake, steps_before, EndsDone, Stopped}
 use Rattle.fv_top.proofs.Reaching.{reaches_nothing}
 use Rattle.fv_top.proofs.StepLaws.{OfSome, Judges, ends_more, judged_in}

@@ -1,18 +1,18 @@
 -- Small files, which hold by computing.
 use Rattle.std.specs.Prelude.{◌≡◌, refl, false, ℕ, List, [], ◌∷◌, ◌++◌, take, drop, true, Some, None, Ok, Err}
 use Rattle.fv_diagram.specs.declared.node.Primitive.TheVariants.{Wire}
-use Rattle.fv_diagram.specs.Diagram.{Primitive}
-use Rattle.fv_control.specs.Streams.{control_streams}
+use Rattle.fv_diagram.specs.headline.Diagram.{Primitive}
+use Rattle.fv_control.specs.headline.Streams.{control_streams}
 use Rattle.fv_pcm.specs.declared.coding.Coding.TheVariants as coding
 use Rattle.fv_top_files.specs.declared.incoming.Incoming.{Incoming}
-use Rattle.fv_pcm.specs.Coded.{sample_at}
-use Rattle.fv_top_words.specs.Runs.{Settings}
+use Rattle.fv_pcm.specs.headline.Coded.{sample_at}
+use Rattle.fv_top_words.specs.headline.Runs.{Settings}
 use Rattle.fv_top_report.specs.declared.refusal.Refusal.TheVariants.{Channels}
-use Rattle.fv_top_report.specs.Lines.{done_line}
+use Rattle.fv_top_report.specs.headline.Lines.{done_line}
 use Rattle.fv_top_words.specs.declared.manner.InputKind.TheVariants as input
-use Rattle.fv_top_files.specs.Sources.{frames_of, file_source}
-use Rattle.fv_top_files.specs.Output.{OutputFormat, format_of}
-use Rattle.fv_top.specs.Meant.{run_meant}
+use Rattle.fv_top_files.specs.headline.Sources.{frames_of, file_source}
+use Rattle.fv_top_files.specs.headline.Output.{OutputFormat, format_of}
+use Rattle.fv_top.specs.headline.Meant.{run_meant}
 
 -- one channel of 16 bits at 44100 frames a second, with the samples 1, -2 and 3
 three_samples : List ℕ

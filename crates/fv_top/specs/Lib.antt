@@ -1,6 +1,3 @@
-pub mod Meant
-pub mod Steps
-pub mod Promise
-pub mod Played
+pub mod headline
 pub mod Examples
 pub mod inner

@@ -1,3 +1,6 @@
 pub mod Loaded
 pub mod Prepared
 pub mod Running
+pub mod Played
+pub mod Promise
+pub mod Steps

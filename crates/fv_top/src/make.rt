@@ -3,14 +3,15 @@
 ghost use Rattle.std.specs.Prelude.{◌≡◌, ◌⊎◌, ◌≤◌, [], Ok, Err, IfOk, IfErr, OnOk, OnErr};
 ghost use Rattle.fv_base.specs.declared.role.Role.TheVariants.{Report};
 ghost use Rattle.fv_engine_render.specs.Render.{RanWhole};
-ghost use Rattle.fv_top_words.specs.Commands.{most_voices};
-ghost use Rattle.fv_top_words.specs.Runs.{most_workers};
+ghost use Rattle.fv_top_words.specs.headline.Commands.{most_voices};
+ghost use Rattle.fv_top_words.specs.headline.Runs.{most_workers};
 ghost use Rattle.fv_top_report.specs.declared.refusal.Refusal.TheVariants.{WriteFault, NoMemory};
-ghost use Rattle.fv_top.specs.Played.{make_sizes, MakeRan, MakeSoFar};
-ghost use Rattle.fv_top.specs.Meant.{made_sum};
-ghost use Rattle.fv_top_text.specs.Compiled.{Compiled};
+ghost use Rattle.fv_top.specs.headline.Played.{make_sizes};
+ghost use Rattle.fv_top.specs.inner.Played.{MakeRan, MakeSoFar};
+ghost use Rattle.fv_top.specs.headline.Meant.{made_sum};
+ghost use Rattle.fv_top_text.specs.headline.Compiled.{Compiled};
 ghost use Rattle.fv_top_playable.specs.Playables.{IsPlayable};
-ghost use Rattle.fv_top.specs.Promise.{IsMade};
+ghost use Rattle.fv_top.specs.headline.Promise.{IsMade};
 ghost use Rattle.fv_top.specs.inner.Running.{Makes, StopsMake, HasSum};
 
 use fv_engine_render::{Played, Ran, RunSizes, make_ready_graph, render_tape};

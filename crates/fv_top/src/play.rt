@@ -3,10 +3,11 @@
 ghost use Rattle.std.specs.Prelude.{◌≡◌, ◌+◌, ◌≤◌, length, IsTrue, IsOk, IfOk, IfErr, OnOk, OnErr};
 ghost use Rattle.fv_base.specs.declared.role.Role.TheVariants.{Output};
 ghost use Rattle.fv_engine_render.specs.Render.{RanWhole};
-ghost use Rattle.fv_outside.specs.Desk.{HasFault, KeepsFaults, IsUnfailing, Appends};
+ghost use Rattle.fv_outside.specs.headline.Desk.{HasFault, KeepsFaults, IsUnfailing};
+ghost use Rattle.fv_outside.specs.Desk.{Appends};
 ghost use Rattle.fv_top_report.specs.Parts.{AppendsPart};
-ghost use Rattle.fv_top_text.specs.Compiled.{Compiled};
-ghost use Rattle.fv_top_files.specs.Output.{pad_in};
+ghost use Rattle.fv_top_text.specs.headline.Compiled.{Compiled};
+ghost use Rattle.fv_top_files.specs.headline.Output.{pad_in};
 ghost use Rattle.fv_top.specs.inner.Prepared.{CanRun, HasRun, StopsRun, coding_heard, refusal_of_stop};
 
 use crate::prepare::Prepared;

@@ -2,13 +2,15 @@
 
 ghost use Rattle.std.specs.Prelude.{◌<◌, ℕ, List, IfOk, IfErr, IsErrOf, Some};
 ghost use Rattle.fv_base.specs.declared.role.Role.TheVariants.{Program as program_role};
-ghost use Rattle.fv_outside.specs.Desk.{KeepsFaults};
+ghost use Rattle.fv_outside.specs.headline.Desk.{KeepsFaults};
 ghost use Rattle.fv_top_report.specs.declared.refusal.Refusal.TheVariants.{ReadFault};
-ghost use Rattle.fv_top_text.specs.Program.{TextIs, IsProgram, IsOfText, delays_in};
+ghost use Rattle.fv_top_text.specs.headline.Program.{TextIs, IsProgram, delays_in};
+ghost use Rattle.fv_top_text.specs.Program.{IsOfText};
 ghost use Rattle.fv_interval.specs.Delays.{AreAccepted};
 ghost use Rattle.fv_diagram.specs.Arena.{count_of};
-ghost use Rattle.fv_top_playable.specs.Tableless.{PlayedIs, IsOfPlayed};
-ghost use Rattle.fv_top.specs.Promise.{HasNoProgram};
+ghost use Rattle.fv_top_playable.specs.headline.Tableless.{PlayedIs};
+ghost use Rattle.fv_top_playable.specs.Tableless.{IsOfPlayed};
+ghost use Rattle.fv_top.specs.headline.Promise.{HasNoProgram};
 ghost use Rattle.fv_top_text.specs.Compiled.{compiled_of};
 ghost use Rattle.fv_top_files.specs.Loading.{ReadsFile, StopsLoading, IsFile};
 ghost use Rattle.fv_top.specs.inner.Loaded.{IsProgramOf};

@@ -1,13 +1,14 @@
 // The one call that does all that the command does.
 
 ghost use Rattle.std.specs.Prelude.{◌≡◌, map, string_bytes, IfOk, IfErr};
-ghost use Rattle.fv_outside.specs.Desk.{GoesOn};
-ghost use Rattle.fv_top_words.specs.Commands.{Playing};
+ghost use Rattle.fv_outside.specs.headline.Desk.{GoesOn};
+ghost use Rattle.fv_top_words.specs.headline.Commands.{Playing};
 ghost use Rattle.fv_top_words.specs.Runs.{AreSound};
 ghost use Rattle.fv_top_words.specs.Views.{run_in as run_view};
-ghost use Rattle.fv_top.specs.Promise.{OfWords, IfDone, IfRefused, HasDone, IsRefusedFor, LeavesOutput, CutsShort, IsRead, KeepsOthers, Reports};
-ghost use Rattle.fv_top.specs.Promise.{HandsOn, IsComplete, IsStrict, IsExact};
-ghost use Rattle.fv_top.specs.Played.{HasBlocks, HasBlocksSoFar};
+ghost use Rattle.fv_top.specs.headline.Promise.{IfDone, IfRefused, HasDone, IsRefusedFor, LeavesOutput, CutsShort, IsRead, KeepsOthers, Reports};
+ghost use Rattle.fv_top.specs.inner.Promise.{OfWords};
+ghost use Rattle.fv_top.specs.headline.Promise.{HandsOn, IsComplete, IsStrict, IsExact};
+ghost use Rattle.fv_top.specs.headline.Played.{HasBlocks, HasBlocksSoFar};
 ghost use Rattle.fv_top.specs.inner.Running.{EndsDone, Stopped, ReportsLine};
 
 use crate::check::check;

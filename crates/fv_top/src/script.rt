@@ -3,11 +3,12 @@
 ghost use Rattle.std.specs.Prelude.{◌≡◌, ◌^◌, ◌<◌, length, option_copied, IsTrue, IfOk, IfErr, IsErrOf, Ok, Err};
 ghost use Rattle.std.specs.List.{AllByRecursion};
 ghost use Rattle.fv_base.specs.declared.role.Role.TheVariants.{Controls};
-ghost use Rattle.fv_outside.specs.Desk.{KeepsFaults};
+ghost use Rattle.fv_outside.specs.headline.Desk.{KeepsFaults};
 ghost use Rattle.fv_control.specs.Laws.{NeverFall, IsOfControls};
 ghost use Rattle.fv_top_report.specs.declared.refusal.Refusal.TheVariants.{ReadFault};
-ghost use Rattle.fv_top.specs.Promise.{IsScriptRefusal};
-ghost use Rattle.fv_top_files.specs.Loading.{ReadsFile, StopsLoading, HasScript};
+ghost use Rattle.fv_top.specs.inner.Promise.{IsScriptRefusal};
+ghost use Rattle.fv_top_files.specs.headline.Loading.{HasScript};
+ghost use Rattle.fv_top_files.specs.Loading.{ReadsFile, StopsLoading};
 
 use fv_base::limits::LONGEST_TEXT;
 use fv_control::{Script, scripts_are_lawful};

@@ -5,28 +5,31 @@ use Rattle.std.specs.Prelude.{IsTrue, Result, Ok, Err, Option, Some, None, is_no
 use Rattle.std.proofs.lemmas.Bool.{cases_lt, le-leb, lt-leb}
 use Rattle.std.proofs.lemmas.List.{drop_at, append-nil}
 use Rattle.fv_base.specs.declared.role.Role.TheVariants.{Input}
-use Rattle.fv_outside.specs.Desk.{DeskState, File, file_named, Takes}
+use Rattle.fv_outside.specs.headline.Desk.{DeskState, File, file_named}
+use Rattle.fv_outside.specs.Desk.{Takes}
 use Rattle.fv_outside.proofs.States.{told_before, fault_earlier, unfailing_later}
-use Rattle.fv_pcm.specs.Sizes.{data_limit}
+use Rattle.fv_pcm.specs.headline.Sizes.{data_limit}
 use Rattle.fv_wav.specs.declared.head.Head.{Head}
 use Rattle.fv_wav.specs.declared.refusal.WaveRefusal.{WaveRefusal}
 use Rattle.fv_wav.specs.declared.refusal.WaveRefusal.TheVariants as head
-use Rattle.fv_wav.specs.Reading.{wave}
+use Rattle.fv_wav.specs.headline.Reading.{wave}
 use Rattle.fv_wav.specs.Stopping.{Stops, IsFaultOfInput}
 use Rattle.fv_au.specs.declared.head.AuHead.{AuHead}
 use Rattle.fv_au.specs.declared.refusal.AuRefusal.{AuRefusal}
 use Rattle.fv_au.specs.declared.refusal.AuRefusal.TheVariants as au_head
-use Rattle.fv_au.specs.Reading.{au}
+use Rattle.fv_au.specs.headline.Reading.{au}
 use Rattle.fv_au.specs.Stopping.{AuStops, RestStops}
 use Rattle.fv_top_words.specs.declared.manner.InputKind.{InputKind}
 use Rattle.fv_top_words.specs.declared.manner.InputKind.TheVariants as kinds
 use Rattle.fv_top_report.specs.declared.refusal.Refusal.{Refusal}
 use Rattle.fv_top_report.specs.declared.refusal.Refusal.TheVariants.{ReadFault, AuFormat}
-use Rattle.fv_top_report.specs.Layers.{of_wave, of_au}
+use Rattle.fv_top_report.specs.headline.Layers.{of_wave, of_au}
 use Rattle.fv_top_files.specs.declared.incoming.Incoming.{Incoming}
-use Rattle.fv_top_files.specs.Inputs.{wave_incoming, au_incoming}
-use Rattle.fv_top_files.specs.Sources.{Source, headed, wave_source, au_source, sized_source, open_source, file_source, is_au}
-use Rattle.fv_top_files.specs.Loading.{ReadsFile, StopsLoading, StopsHead, HasInput, GivesHead, HasHead, IsHeadRefusal}
+use Rattle.fv_top_files.specs.headline.Inputs.{wave_incoming, au_incoming}
+use Rattle.fv_top_files.specs.headline.Sources.{Source, headed, wave_source, au_source, sized_source, open_source, file_source, is_au}
+use Rattle.fv_top_files.specs.headline.Loading.{HasInput}
+use Rattle.fv_top_files.specs.Loading.{ReadsFile, StopsLoading, HasHead, IsHeadRefusal}
+use Rattle.fv_top_files.specs.inner.Loading.{StopsHead, GivesHead}
 use Rattle.fv_top_files.proofs.Loads.{cannot_later}
 
 pub head_none : (kind : InputKind) (files : List File) (left : List ℕ) → HasHead kind None files None None left

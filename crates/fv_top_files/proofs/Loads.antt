@@ -3,8 +3,9 @@ use Rattle.std.proofs.Common.{◌≡◌, ◌⊎◌, ℕ, List, [], ◌∷◌, �
 use Rattle.std.specs.Prelude.{IsTrue, Option, Some, None}
 use Rattle.std.proofs.lemmas.List.{append-nil}
 use Rattle.fv_base.specs.declared.role.Role.{Role}
-use Rattle.fv_outside.specs.Requests.{to_read}
-use Rattle.fv_outside.specs.Desk.{DeskState, GoesOn, CountsCall, HasFault, IsUnfailing, KeepsLeftBut, KeepsWritten, KeepsBegins, Takes, TakesSome}
+use Rattle.fv_outside.specs.headline.Requests.{to_read}
+use Rattle.fv_outside.specs.headline.Desk.{DeskState, GoesOn, HasFault, IsUnfailing}
+use Rattle.fv_outside.specs.Desk.{CountsCall, KeepsLeftBut, KeepsWritten, KeepsBegins, Takes, TakesSome}
 use Rattle.fv_outside.proofs.States.{quiet_self, quiet_then, takes_quiet, told_before, fault_earlier, unfailing_later}
 use Rattle.fv_top_report.specs.declared.refusal.Refusal.{Refusal}
 use Rattle.fv_top_report.specs.declared.refusal.Refusal.TheVariants.{NoMemory}

@@ -1,7 +1,7 @@
 -- What the code's formats of outputs are.
 use Rattle.std.specs.Prelude.{Result, Ok, Err}
 use Rattle.fv_top_report.specs.declared.refusal.Refusal.{Refusal}
-use Rattle.fv_top_files.specs.Output.{OutputFormat}
+use Rattle.fv_top_files.specs.headline.Output.{OutputFormat}
 use Rattle.fv_top_files.specs.declared.format.OutputFormat.{OutputFormat as Made}
 
 -- what the code's formats are

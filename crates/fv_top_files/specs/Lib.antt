@@ -1,6 +1,6 @@
+pub mod headline
 pub mod Inputs
-pub mod Sources
-pub mod Output
 pub mod Loading
 pub mod Formats
 pub mod Loaded
+pub mod inner

@@ -1,32 +1,19 @@
--- What loading of a file leaves of the desk, and why it stops.
-use Rattle.std.specs.Prelude.{◌≡◌, ◌≢◌, ◌⊎◌, ℕ, ◌+◌, ◌<◌, ◌≤◌, ◌^◌, IsTrue, IsSome, List, [], ◌∷◌, ◌++◌, length, drop, Option}
-use Rattle.std.specs.Prelude.{Some, None, Result, Ok, Err, true, false, Bool, nat_le, ◌&&◌, ◌||◌, ◌==◌}
+-- What calls say beside `headline/Loading`: what loading of a file leaves of the desk, and why it stops.
+use Rattle.std.specs.Prelude.{◌≡◌, ◌≢◌, ◌⊎◌, ℕ, ◌+◌, ◌<◌, ◌≤◌, ◌^◌, IsTrue, IsSome, List, [], ◌++◌, length, drop, Option}
+use Rattle.std.specs.Prelude.{Some, None, Ok, true, false}
 use Rattle.fv_base.specs.declared.role.Role.{Role}
-use Rattle.fv_base.specs.declared.role.Role.TheVariants.{Input}
-use Rattle.fv_outside.specs.Requests.{Request, to_read}
-use Rattle.fv_outside.specs.Desk.{DeskState, File, file_named, HasFault, KeepsQuiet, KeepsFaultsBut, IsUnfailing}
+use Rattle.fv_outside.specs.headline.Desk.{DeskState, File, file_named, HasFault, IsUnfailing}
+use Rattle.fv_outside.specs.Desk.{KeepsQuiet, KeepsFaultsBut}
 use Rattle.fv_outside.specs.declared.transfer.ReadError.{ReadError}
 use Rattle.fv_outside.specs.declared.transfer.ReadError.TheVariants.{Failed, NoMemory as OutOfMemory}
-use Rattle.fv_diagram.specs.declared.control.ControlInfo.{ControlInfo}
-use Rattle.fv_control.specs.declared.script.Change.{Change}
-use Rattle.fv_wav.specs.Stopping.{IsFaultOfInput}
 use Rattle.fv_top_words.specs.declared.manner.InputKind.{InputKind}
 use Rattle.fv_top_files.specs.declared.incoming.Incoming.{Incoming}
-use Rattle.fv_top_files.specs.Inputs.{IsIncoming, read_bytes}
-use Rattle.fv_top_files.specs.Sources.{Source, found, script_of, source_of}
+use Rattle.fv_top_files.specs.Inputs.{IsIncoming}
+use Rattle.fv_top_files.specs.headline.Sources.{Source}
 use Rattle.fv_top_report.specs.declared.refusal.Refusal.{Refusal}
 use Rattle.fv_top_report.specs.declared.refusal.Refusal.TheVariants.{ReadFault, NoMemory}
-use Rattle.fv_top_report.specs.Lines.{row_of}
-
--- a file that may be named is asked for where it is
-abbrev pub reading : Role → Option (List ℕ) → List Request
-reading role None = []
-reading role (Some name) = to_read role name ∷ []
-
--- a file that is named is there
-abbrev pub IsThere : Option (List ℕ) → List File → Type 0
-IsThere None files = Unit {0}
-IsThere (Some name) files = IsSome (file_named name files)
+use Rattle.fv_top_report.specs.headline.Lines.{row_of}
+use Rattle.fv_top_files.specs.headline.Loading.{reading, IsThere, HasInput, is_of_head}
 
 -- The desk was asked for this file alone, and nothing changed but the bytes left of the role, where a file is named, and its counts.
 pub record ReadsFile (role : Role) (name : Option (List ℕ)) (old new : DeskState) : Type 0 where
@@ -57,31 +44,12 @@ refusal_of_read role OutOfMemory = NoMemory
 
 -- ---- what the files say
 
--- The script that may be named says this of the controls.
-pub record HasScript (name : Option (List ℕ)) (files : List File) (controls : List ControlInfo) (says : Result (List Change) Refusal) : Type 0 where
-  pub bytes : Option (List ℕ)
-  pub file : found files name ≡ Some bytes
-  pub is : script_of controls bytes ≡ says
-
--- The input of this kind that may be named is this.
-pub record HasInput (kind : InputKind) (name : Option (List ℕ)) (files : List File) (says : Result Source Refusal) : Type 0 where
-  pub bytes : Option (List ℕ)
-  pub file : found files name ≡ Some bytes
-  pub is : source_of kind bytes ≡ says
-
 -- Where the head of a file was read, its samples are left, or they were read up to the file's end, and none is left.
 abbrev pub IsLeft : Option Incoming → (held : Option (List ℕ)) → (bytes left : List ℕ) → Type 0
 IsLeft None held bytes left = Unit {0}
 IsLeft (Some h) None bytes left = (h.is_open ≡ false) × (left ≡ drop h.place bytes) × (h.place ≤ length bytes)
 IsLeft (Some h) (Some held) bytes left =
     (h.is_open ≡ true) × (held ≡ drop h.place bytes) × (h.place ≤ length bytes) × (h.data_bytes ≡ length held) × (left ≡ [])
-
--- what is said of an input has this head, and its samples are left or were read
-pub record GivesHead (says : Result Source Refusal) (head : Option Incoming) (held : Option (List ℕ)) (left : List ℕ) : Type 0 where
-  pub source : Source
-  pub says_so : says ≡ Ok source
-  pub is : source.head ≡ head
-  pub behind : IsLeft head held source.bytes left
 
 -- the input that may be named has this head, and its samples are left or were read
 pub record HasHead (kind : InputKind) (name : Option (List ℕ)) (files : List File) (head : Option Incoming) (held : Option (List ℕ)) (left : List ℕ)
@@ -91,40 +59,9 @@ pub record HasHead (kind : InputKind) (name : Option (List ℕ)) (files : List F
   pub is : source.head ≡ head
   pub behind : IsLeft head held source.bytes left
 
--- of a file with this head, what stands behind the samples that are read is left
-abbrev pub IsRest : Option Incoming → (bytes left : List ℕ) → Type 0
-IsRest None bytes left = Unit {0}
-IsRest (Some h) bytes left = left ≡ drop (h.place + read_bytes h) bytes
-
--- Nothing was read of the input behind its whole frames, or behind its samples where their size is not stated.
-pub record LeavesRest (kind : InputKind) (name : Option (List ℕ)) (files : List File) (left : List ℕ) : Type 0 where
-  pub source : Source
-  pub input : HasInput kind name files (Ok source)
-  pub rest : IsRest source.head source.bytes left
-
--- of a file with this head, no more was read than the samples that are
-abbrev pub IsWithin : Option Incoming → (bytes left : List ℕ) → Type 0
-IsWithin None bytes left = Unit {0}
-IsWithin (Some h) bytes left = (k : ℕ) × (k ≤ read_bytes h) × (left ≡ drop (h.place + k) bytes)
-
--- Nothing was read of the input behind these.
-pub record ReadsWithin (kind : InputKind) (name : Option (List ℕ)) (files : List File) (left : List ℕ) : Type 0 where
-  pub source : Source
-  pub input : HasInput kind name files (Ok source)
-  pub rest : IsWithin source.head source.bytes left
-
 -- a head, and the place of its samples, which no sum of them and their bytes goes beyond
 abbrev pub IsPlaced : Incoming → Type 0
 IsPlaced h = IsIncoming h × (h.place < 2 ^ 45)
-
--- the head of a file that was begun could not be read, or it is refused, by a refusal of this kind, or memory ran out
-abbrev pub StopsHead : (Kind : Refusal → Type 0) → (says : Result Source Refusal) → (old new : DeskState) → Refusal → Type 0
-StopsHead Kind says old new refusal =
-    ((refusal ≡ ReadFault Input) × IsFaultOfInput old new) ⊎ (Kind refusal × (IsTrue old.tells → says ≡ Err refusal)) ⊎ (refusal ≡ NoMemory)
-
--- the numbers of the refusals of an input's head
-abbrev pub is_of_head : ℕ → Bool
-is_of_head n = (nat_le 34 n && nat_le n 37) || (n == 44) || (n == 45)
 
 -- the refusal is one of the head of an input
 abbrev pub IsHeadRefusal : Refusal → Type 0

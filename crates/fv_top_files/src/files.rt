@@ -2,7 +2,7 @@
 
 ghost use Rattle.std.specs.Prelude.{◌≡◌, List, ℕ, take, drop, IsTrue, IfOk, IsErrOf, Some};
 ghost use Rattle.fv_outside.specs.declared.transfer.ReadError.TheVariants as errors;
-ghost use Rattle.fv_outside.specs.Desk.{KeepsFaults};
+ghost use Rattle.fv_outside.specs.headline.Desk.{KeepsFaults};
 ghost use Rattle.fv_top_files.specs.Loading.{ReadsFile, CannotRead, IsFile, refusal_of_read};
 
 use fv_outside::{Desk, ReadError, Role, read_up_to};

@@ -2,12 +2,12 @@
 
 ghost use Rattle.std.specs.Prelude.{◌≡◌, ◌≤◌, true, IfOk};
 ghost use Rattle.std.specs.Option.{ForSome};
-ghost use Rattle.fv_num.specs.Words.{is_sample_width};
+ghost use Rattle.fv_num.specs.headline.Words.{is_sample_width};
 ghost use Rattle.fv_base.specs.declared.limits.TheConstants.{MOST_CHANNELS};
 ghost use Rattle.fv_top_words.specs.Views.{settings_in};
-ghost use Rattle.fv_pcm.specs.Sizes.{data_size, data_limit};
+ghost use Rattle.fv_pcm.specs.headline.Sizes.{data_size, data_limit};
 ghost use Rattle.fv_top_files.specs.Inputs.{IsIncoming};
-ghost use Rattle.fv_top_files.specs.Output.{coding_of, format_for, channels_in, rate_in, bits_in, frames_in};
+ghost use Rattle.fv_top_files.specs.headline.Output.{coding_of, format_for, channels_in, rate_in, bits_in, frames_in};
 ghost use Rattle.fv_top_files.specs.Formats.{format_answered};
 
 use crate::frames::frame_size;

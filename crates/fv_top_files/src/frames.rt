@@ -2,8 +2,9 @@
 
 ghost use Rattle.std.specs.Prelude.{◌≡◌, ◌≤◌, length};
 ghost use Rattle.std.specs.Option.{ForSome};
-ghost use Rattle.fv_pcm.specs.Sizes.{frame_size};
-ghost use Rattle.fv_top_files.specs.Inputs.{IsIncoming, whole_bytes};
+ghost use Rattle.fv_pcm.specs.headline.Sizes.{frame_size};
+ghost use Rattle.fv_top_files.specs.headline.Inputs.{whole_bytes};
+ghost use Rattle.fv_top_files.specs.Inputs.{IsIncoming};
 
 use crate::incoming::Incoming;
 

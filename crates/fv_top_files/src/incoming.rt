@@ -1,7 +1,7 @@
 // An input whose head was read.
 
 ghost use Rattle.std.specs.Prelude.{◌≡◌};
-ghost use Rattle.fv_top_files.specs.Inputs.{wave_incoming, au_incoming};
+ghost use Rattle.fv_top_files.specs.headline.Inputs.{wave_incoming, au_incoming};
 
 use fv_au::AuHead;
 use fv_pcm::Coding;

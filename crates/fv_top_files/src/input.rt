@@ -3,14 +3,18 @@
 ghost use Rattle.std.specs.Prelude.{◌≡◌, ◌≤◌, ◌++◌, length, option_copied, is_some, IsTrue, IfOk, IfErr, IfSome, OnErr, IsErrOf, IsSome, Err};
 ghost use Rattle.std.specs.Option.{ForSome};
 ghost use Rattle.fv_base.specs.declared.role.Role.TheVariants.{Input};
-ghost use Rattle.fv_outside.specs.Desk.{KeepsFaults, TakesSome};
-ghost use Rattle.fv_wav.specs.Reading.{wave};
-ghost use Rattle.fv_au.specs.Reading.{IsAu, au};
+ghost use Rattle.fv_outside.specs.headline.Desk.{KeepsFaults};
+ghost use Rattle.fv_outside.specs.Desk.{TakesSome};
+ghost use Rattle.fv_wav.specs.headline.Reading.{wave};
+ghost use Rattle.fv_au.specs.headline.Reading.{au};
+ghost use Rattle.fv_au.specs.Reading.{IsAu};
 ghost use Rattle.fv_top_report.specs.declared.refusal.Refusal.TheVariants.{ReadFault};
 ghost use Rattle.fv_top_words.specs.declared.manner.InputKind.TheVariants as kinds;
-ghost use Rattle.fv_top_files.specs.Sources.{file_source, wave_source, au_source};
+ghost use Rattle.fv_top_files.specs.headline.Sources.{file_source, wave_source, au_source};
 ghost use Rattle.fv_top_files.specs.Loading.{IsHeadRefusal};
-ghost use Rattle.fv_top_files.specs.Loading.{ReadsFile, StopsLoading, StopsHead, HasInput, HasHead, GivesHead, IsPlaced};
+ghost use Rattle.fv_top_files.specs.headline.Loading.{HasInput};
+ghost use Rattle.fv_top_files.specs.Loading.{ReadsFile, StopsLoading, HasHead, IsPlaced};
+ghost use Rattle.fv_top_files.specs.inner.Loading.{StopsHead, GivesHead};
 ghost use Rattle.fv_top_files.specs.Loaded.{held_in, HoldsAll};
 
 use crate::incoming::{Incoming, au_incoming, wave_incoming};

@@ -2,8 +2,9 @@
 use Rattle.std.proofs.Common.{◌≡◌, ℕ, zero, suc, ◌+◌, List, [], ◌∷◌, ◌++◌, length, ℤ, pos, ◌+ℤ◌, fold, refl, sym, ap, ap₂, ◌∙◌, arith, length-append, w32}
 use Rattle.std.proofs.lemmas.Int.{int_wrap-add_left}
 use Rattle.std.specs.Int.{int_wrap}
-use Rattle.fv_num.specs.Words.{shifted_right, wrap}
-use Rattle.fv_top_make.specs.Made.{SumsAddUp, next_state, noise_behind, state_behind, sum_from}
+use Rattle.fv_num.specs.headline.Words.{shifted_right, wrap}
+use Rattle.fv_top_make.specs.headline.Made.{next_state, noise_behind}
+use Rattle.fv_top_make.specs.Made.{SumsAddUp, state_behind, sum_from}
 use Rattle.fv_top_make.specs.Noises.{Sounds}
 use Rattle.fv_top_make.specs.declared.noise_tape.Noise.{Noise}
 

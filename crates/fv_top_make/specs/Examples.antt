@@ -2,7 +2,7 @@
 use Rattle.std.specs.Prelude.{◌≡◌, [], ◌∷◌, ◌++◌, codes, pos, negsuc, refl}
 use Rattle.std.specs.Int.{int_wrap}
 use Rattle.std.specs.Fmt.{digits}
-use Rattle.fv_top_make.specs.Made.{next_state, noise_of, sum_of, text_of}
+use Rattle.fv_top_make.specs.headline.Made.{next_state, noise_of, sum_of, text_of}
 
 -- the first three states of one voice
 states : (next_state (pos 1) ≡ pos 1103527590) × (next_state (pos 1103527590) ≡ negsuc 1770082072) × (next_state (negsuc 1770082072) ≡ pos 662824084)

@@ -1,3 +1,4 @@
+pub mod headline
 pub mod Made
 pub mod Examples
 pub mod Noises

@@ -1,32 +1,12 @@
--- The text and the noise of a program that is made, and the sum of its output (this project's profile).
-use Rattle.std.specs.Prelude.{◌≡◌, ℕ, zero, suc, List, [], ◌∷◌, ◌++◌, codes, decimal, fold, ℤ, pos, ◌+ℤ◌, ◌*ℤ◌}
-use Rattle.fv_num.specs.Words.{wrap, shifted_right}
-
--- A voice, and so many of them side by side on one input, added up: two lines.
-abbrev pub text_of : ℕ → List ℕ
-text_of voices = codes "v(i) = + ~ (@(i*37+1) : *(i+3) : /(8));\n" ++ codes "process = _ <: par(i," ++ decimal voices ++ codes ",v(i)) :> _;\n"
-
--- the state of the noise behind this one
-abbrev pub next_state : ℤ → ℤ
-next_state s = wrap ((s *ℤ pos 1103515245) +ℤ pos 12345)
-
--- so many samples, each the upper half of the next state
-abbrev pub noise_behind : ℤ → ℕ → List ℤ
-noise_behind s zero = []
-noise_behind s (suc n) = shifted_right (next_state s) (pos 16) ∷ noise_behind (next_state s) n
+-- What calls say beside `headline/Made`: the text and the noise of a program that is made, and the sum of its output (this project's profile).
+use Rattle.std.specs.Prelude.{◌≡◌, ℕ, zero, suc, List, [], ◌∷◌, ℤ, pos, ◌+ℤ◌}
+use Rattle.fv_num.specs.headline.Words.{wrap}
+use Rattle.fv_top_make.specs.headline.Made.{next_state, sum_of}
 
 -- the state behind so many samples
 abbrev pub state_behind : ℤ → ℕ → ℤ
 state_behind s zero = s
 state_behind s (suc n) = state_behind (next_state s) n
-
--- the noise of a program with so many voices
-abbrev pub noise_of : (voices frames : ℕ) → List ℤ
-noise_of voices frames = noise_behind (pos voices) frames
-
--- the sum of samples, which wraps
-abbrev pub sum_of : List ℤ → ℤ
-sum_of samples = wrap (fold ◌+ℤ◌ (pos 0) samples)
 
 -- a sum, and these samples added to it one by one
 abbrev pub sum_from : ℤ → List ℤ → ℤ

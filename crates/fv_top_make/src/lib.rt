@@ -2,8 +2,9 @@
 #![tactic(auto)]
 
 ghost use Rattle.std.specs.Prelude.{◌≡◌, pos, ◌+ℤ◌, ◌*ℤ◌, IfOk};
-ghost use Rattle.fv_num.specs.Words.{wrap};
-ghost use Rattle.fv_top_make.specs.Made.{SumsAddUp, next_state, text_of};
+ghost use Rattle.fv_num.specs.headline.Words.{wrap};
+ghost use Rattle.fv_top_make.specs.headline.Made.{next_state, text_of};
+ghost use Rattle.fv_top_make.specs.Made.{SumsAddUp};
 
 mod noise_tape;
 

@@ -1,9 +1,10 @@
 // The noise as a tape, and the sum of what it is given.
 
 ghost use Rattle.std.specs.Prelude.{◌≡◌, ℕ, ℤ, pos, ◌+ℤ◌, ◌*◌, ◌+◌, ◌≤◌, List, length};
-ghost use Rattle.fv_num.specs.Words.{wrap, shifted_right};
+ghost use Rattle.fv_num.specs.headline.Words.{wrap, shifted_right};
 ghost use Rattle.fv_tape.specs.Acts.{Act};
-ghost use Rattle.fv_top_make.specs.Made.{noise_behind, state_behind, sum_from};
+ghost use Rattle.fv_top_make.specs.headline.Made.{noise_behind};
+ghost use Rattle.fv_top_make.specs.Made.{state_behind, sum_from};
 ghost use Rattle.fv_top_make.specs.Noises.{Sounds};
 
 use crate::{added, next_state};

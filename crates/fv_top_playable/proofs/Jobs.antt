@@ -8,20 +8,22 @@ use Rattle.std.proofs.Math.Seq.{get_or-append_seam}
 use Rattle.std.proofs.lemmas.Bool.{cases_lt}
 use Rattle.fv_base.specs.declared.limits.TheConstants.{MOST_CHANNELS}
 use Rattle.fv_diagram.specs.declared.control.ControlInfo.{ControlInfo}
-use Rattle.fv_diagram.specs.Diagram.{Diagram, inputs, control_bound, IsWellFormed}
+use Rattle.fv_diagram.specs.headline.Diagram.{Diagram, inputs}
+use Rattle.fv_diagram.specs.Diagram.{control_bound, IsWellFormed}
 use Rattle.fv_engine_render.specs.SideBySide.{AreJobsOf, IsJobOf}
-use Rattle.fv_interval.specs.Controls.{span_of}
-use Rattle.fv_jobs_controls.specs.Labels.{controls_from, labelled}
+use Rattle.fv_interval.specs.headline.Controls.{span_of}
+use Rattle.fv_jobs_controls.specs.headline.Labels.{controls_from, labelled}
 use Rattle.fv_join.specs.declared.job.Job.{Job}
 use Rattle.fv_join.specs.Jobs.{CanBeJoined, NamesBelow, ReadsWithin}
-use Rattle.fv_join_diagrams.specs.Parts.{Part}
+use Rattle.fv_join_diagrams.specs.headline.Parts.{Part}
 use Rattle.fv_propagate.proofs.Named.{control_below}
-use Rattle.fv_propagate.specs.Propagated.{NamesOf}
-use Rattle.fv_rules.specs.Rules.{visit_limit}
+use Rattle.fv_propagate.specs.headline.Propagated.{NamesOf}
+use Rattle.fv_rules.specs.headline.Rules.{visit_limit}
 use Rattle.fv_signal.specs.declared.signal.Signal.{Signal}
-use Rattle.fv_signal.specs.declared.signal.Signal.TheVariants.{Input, Const, Control, Point, Delay, Back, Member}
-use Rattle.fv_top_text.specs.Compiled.{Compiled, CanPlay, compiled_of}
-use Rattle.fv_top_rack.specs.Racks.{part_of}
+use Rattle.fv_signal.specs.declared.signal.Signal.TheVariants.{Input, Const, Control, Point, Delay, Back, Member, Read, Write}
+use Rattle.fv_top_text.specs.headline.Compiled.{Compiled}
+use Rattle.fv_top_text.specs.Compiled.{CanPlay, compiled_of}
+use Rattle.fv_top_rack.specs.headline.Racks.{part_of}
 use Rattle.fv_top_rack.specs.Reads.{IsRead, programs_in}
 use Rattle.fv_top_rack.specs.declared.programs.Read.{Read}
 use Rattle.fv_top_rack.proofs.Sums.{own}
@@ -43,6 +45,8 @@ names_below d n m (Point op args) h i c = tt
 names_below d n m (Delay x by max) h i c = tt
 names_below d n m (Back g k) h i c = tt
 names_below d n m (Member g k) h i c = tt
+names_below d n m (Read table r) h i c = tt
+names_below d n m (Write table w x r) h i c = tt
 
 own_names : (c : Compiled) (j : Job) → CanPlay c → IsJobOf j (part_of c) → ReadsWithin j.inputs j.controls j.graph
 own_names c j plays of s d l =

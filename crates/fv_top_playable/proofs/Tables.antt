@@ -4,22 +4,25 @@ use Rattle.std.proofs.Common.{inl, inr, codes}
 use Rattle.std.specs.Prelude.{Result}
 use Rattle.std.specs.List.{list_any}
 use Rattle.std.proofs.lemmas.List.Folds.{list_any_at}
-use Rattle.fv_diagram.specs.Diagram.{Diagram, Primitive, Constant, Control, Slot, Wave, Table, Bind, Par, Seq, Split, Merge, Rec, has_table}
-use Rattle.fv_join_diagrams.specs.Parts.{shifted, side_by_side}
+use Rattle.fv_diagram.specs.headline.Diagram.{Diagram, Primitive, Constant, Control, Slot, Wave, Table, Bind, Par, Seq, Split, Merge, Rec, has_table}
+use Rattle.fv_join_diagrams.specs.headline.Parts.{shifted, side_by_side}
 use Rattle.fv_top_words.specs.declared.manner.ProgramKind.{ProgramKind}
 use Rattle.fv_top_words.specs.declared.manner.ProgramKind.TheVariants.{Alone, Rack}
 use Rattle.fv_top_report.specs.declared.refusal.Refusal.{Refusal}
 use Rattle.fv_top_report.specs.declared.refusal.Refusal.TheVariants.{NoMemory, Unsupported}
-use Rattle.fv_top_text.specs.Answers.{stops, goes_on}
-use Rattle.fv_top_text.specs.Compiled.{Compiled, compiled_of}
+use Rattle.fv_top_text.specs.headline.Answers.{stops, goes_on}
+use Rattle.fv_top_text.specs.headline.Compiled.{Compiled}
+use Rattle.fv_top_text.specs.Compiled.{compiled_of}
 use Rattle.fv_top_text.proofs.AnswerLaws.{then_once, then_refuses, then_some}
 use Rattle.fv_top_text.proofs.Texts.{then_front}
-use Rattle.fv_top_rack.specs.Kinds.{FileIs, IsOfKind, IsOneFile, IsSomeFile, FrontIsEnough, ProgramIsWhole}
-use Rattle.fv_top_rack.specs.Racks.{part_of}
+use Rattle.fv_top_rack.specs.headline.Kinds.{FileIs}
+use Rattle.fv_top_rack.specs.Kinds.{IsOfKind, IsOneFile, IsSomeFile, FrontIsEnough, ProgramIsWhole}
+use Rattle.fv_top_rack.specs.headline.Racks.{part_of}
 use Rattle.fv_top_rack.specs.Reads.{programs_in}
 use Rattle.fv_top_rack.specs.declared.programs.Read.{Read}
 use Rattle.fv_top_rack.proofs.Each.{then_parts}
-use Rattle.fv_top_playable.specs.Tableless.{tableless, Tableless, PlayedIs, IsOfPlayed, IsPlayedOnce, IsSomehowPlayed, IsPlayedOrRefused, FrontIsPlayed}
+use Rattle.fv_top_playable.specs.headline.Tableless.{tableless, Tableless, PlayedIs}
+use Rattle.fv_top_playable.specs.Tableless.{IsOfPlayed, IsPlayedOnce, IsSomehowPlayed, IsPlayedOrRefused, FrontIsPlayed}
 use Rattle.fv_top_playable.specs.Tableless.{PlayedIsWhole, PlaysItsProgram, RefusesAFileOrATable}
 
 -- ---- programs side by side

@@ -1,6 +1,10 @@
+pub mod headline
 pub mod Playables
 pub mod Tableless
 -- what its public clauses cite of crates below
+pub use Rattle.fv_engine_render.specs.headline.Plans
 pub use Rattle.fv_engine_render.specs.Plans
+pub use Rattle.fv_top_rack.specs.headline.Kinds
 pub use Rattle.fv_top_rack.specs.Kinds
+pub use Rattle.fv_top_text.specs.headline.Compiled
 pub use Rattle.fv_top_text.specs.Compiled

@@ -1,15 +1,17 @@
 // What is played of the program that a file is.
 
 ghost use Rattle.std.specs.Prelude.{◌≡◌, ◌⊎◌, false, IfOk, IfErr, Ok, Err};
-ghost use Rattle.fv_interval.specs.Controls.{spans_of};
-ghost use Rattle.fv_diagram.specs.Diagram.{has_table};
+ghost use Rattle.fv_interval.specs.headline.Controls.{spans_of};
+ghost use Rattle.fv_diagram.specs.headline.Diagram.{has_table};
 ghost use Rattle.fv_diagram.specs.declared.control.ControlInfo.{ControlInfo as Control};
-ghost use Rattle.fv_engine_render.specs.Plans.{IsGraphOf};
+ghost use Rattle.fv_engine_render.specs.headline.Plans.{IsGraphOf};
 ghost use Rattle.fv_top_report.specs.declared.refusal.Refusal.TheVariants.{NoMemory};
-ghost use Rattle.fv_top_text.specs.Compiled.{Compiled, compiled_of, CanPlay};
+ghost use Rattle.fv_top_text.specs.headline.Compiled.{Compiled};
+ghost use Rattle.fv_top_text.specs.Compiled.{compiled_of, CanPlay};
 ghost use Rattle.fv_top_rack.specs.Reads.{AreRead, IsRead, compiled_in};
 ghost use Rattle.fv_top_playable.specs.Playables.{IsPlayable};
-ghost use Rattle.fv_top_playable.specs.Tableless.{PlayedIs, IsOfPlayed};
+ghost use Rattle.fv_top_playable.specs.headline.Tableless.{PlayedIs};
+ghost use Rattle.fv_top_playable.specs.Tableless.{IsOfPlayed};
 
 use crate::rack::rack;
 use crate::tableless::check_tables;

@@ -1,10 +1,10 @@
 // Whether a waveform or a table occurs in programs that were read.
 
 ghost use Rattle.std.specs.Prelude.{◌≡◌, ◌⊎◌, true, false, All, codes, IfErr, OnOk};
-ghost use Rattle.fv_diagram.specs.Diagram.{has_table};
+ghost use Rattle.fv_diagram.specs.headline.Diagram.{has_table};
 ghost use Rattle.fv_top_report.specs.declared.refusal.Refusal.TheVariants.{NoMemory, Unsupported};
 ghost use Rattle.fv_top_text.specs.Compiled.{compiled_of};
-ghost use Rattle.fv_top_rack.specs.Racks.{rack_of};
+ghost use Rattle.fv_top_rack.specs.headline.Racks.{rack_of};
 ghost use Rattle.fv_top_rack.specs.Reads.{AreRead, IsRead, compiled_in, programs_in};
 
 use fv_base::Word;

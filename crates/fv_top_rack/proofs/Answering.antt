@@ -7,30 +7,33 @@ use Rattle.std.proofs.Math.Seq.{drop-append-add, take-append_seam}
 use Rattle.std.proofs.lemmas.List.{get_or-map, length-map, map-append, take-map}
 use Rattle.std.proofs.lemmas.List.Elements.{All-map}
 use Rattle.std.proofs.lemmas.List.Sums.{sum_by-cons}
-use Rattle.fv_num.specs.Frames.{Frame, column}
+use Rattle.fv_num.specs.headline.Frames.{Frame, column}
 use Rattle.fv_diagram.specs.declared.control.ControlInfo.{ControlInfo}
-use Rattle.fv_diagram.specs.Diagram.{Diagram, inputs, outputs, IsWellFormed}
+use Rattle.fv_diagram.specs.headline.Diagram.{Diagram, inputs, outputs}
+use Rattle.fv_diagram.specs.Diagram.{IsWellFormed}
 use Rattle.fv_diagram.specs.Laws.{AnswersAlike}
-use Rattle.fv_diagram.specs.Samples.{no_slots}
-use Rattle.fv_diagram.specs.Streams.{run}
-use Rattle.fv_control.specs.Streams.{control_streams}
-use Rattle.fv_interval.specs.Controls.{spans_of, span_of}
+use Rattle.fv_diagram.specs.headline.Samples.{no_slots}
+use Rattle.fv_diagram.specs.headline.Streams.{run}
+use Rattle.fv_control.specs.headline.Streams.{control_streams}
+use Rattle.fv_interval.specs.headline.Controls.{spans_of, span_of}
 use Rattle.fv_join.specs.Joined.{part_controls, part_frames}
 use Rattle.fv_jobs_controls.specs.Changes.{JobsHear, changes_of}
-use Rattle.fv_jobs_controls.specs.Labels.{controls_before, controls_from, labelled}
-use Rattle.fv_join_diagrams.specs.Parts.{Part, PartsAnswer, PartsAreWhole, controls_of, inputs_of}
+use Rattle.fv_jobs_controls.specs.headline.Labels.{controls_from, labelled}
+use Rattle.fv_jobs_controls.specs.Labels.{controls_before}
+use Rattle.fv_join_diagrams.specs.headline.Parts.{Part}
+use Rattle.fv_join_diagrams.specs.Parts.{PartsAnswer, PartsAreWhole, controls_of, inputs_of}
 use Rattle.fv_rules.specs.Sound.{EvaluatesSoundly, IsSoundProgram}
-use Rattle.fv_rules.specs.Rules.{program_value}
+use Rattle.fv_rules.specs.headline.Rules.{program_value}
 use Rattle.fv_top_report.specs.declared.refusal.Refusal.{Refusal}
 use Rattle.fv_top_report.specs.declared.refusal.Refusal.TheVariants as no
-use Rattle.fv_top_report.specs.Layers.{of_value}
-use Rattle.fv_top_text.specs.Answers.{Turned}
-use Rattle.fv_top_text.specs.Compiled.{Compiled}
-use Rattle.fv_top_text.specs.Program.{TextIs, WidthIs, ValueIs, SpellingIs, Delayed, Narrow, Evaluates, IsOneText}
-use Rattle.fv_top_text.specs.Program.{delay_in, delayed, delays_in, first_bad, narrow}
-use Rattle.fv_top_text.specs.Program.{valued}
+use Rattle.fv_top_report.specs.headline.Layers.{of_value}
+use Rattle.fv_top_text.specs.headline.Answers.{Turned}
+use Rattle.fv_top_text.specs.headline.Compiled.{Compiled}
+use Rattle.fv_top_text.specs.headline.Program.{TextIs, WidthIs, ValueIs, SpellingIs, Delayed, Narrow, Evaluates, valued}
+use Rattle.fv_top_text.specs.Program.{IsOneText}
+use Rattle.fv_top_text.specs.headline.Program.{delay_in, delayed, delays_in, first_bad, narrow}
 use Rattle.fv_top_text.proofs.AnswerLaws.{kept_is}
-use Rattle.fv_top_rack.specs.Racks.{EachIs, WithFirst, part_of, rack_of, refused_job}
+use Rattle.fv_top_rack.specs.headline.Racks.{EachIs, WithFirst, part_of, rack_of, refused_job}
 use Rattle.fv_top_rack.specs.Runs.{JobsAnswer, RunsAgree, answer_of, first_values, output_at, own_changes, own_frames}
 use Rattle.fv_top_rack.proofs.Each.{first_of, then_parts}
 use Rattle.fv_top_rack.proofs.Sums.{own, sum_by_map}

@@ -4,17 +4,19 @@ use Rattle.std.specs.Prelude.{flat_map, max}
 use Rattle.std.proofs.Math.Seq.{take-append_seam, drop-append_seam}
 use Rattle.std.proofs.Math.Nat.{le-max_left, le-max_right}
 use Rattle.std.proofs.lemmas.List.{get_or-append-add, get_or_append_left, length-append}
-use Rattle.fv_base.specs.Lists.{table}
+use Rattle.fv_base.specs.headline.Lists.{table}
 use Rattle.fv_base.proofs.Lists.{length_table}
-use Rattle.fv_num.specs.Interval.{Interval, full, point, span_at}
+use Rattle.fv_num.specs.headline.Interval.{Interval, full, point, span_at}
 use Rattle.fv_diagram.specs.declared.node.Primitive.{Primitive as Prim}
 use Rattle.fv_diagram.specs.declared.node.Primitive.TheVariants.{Wire, Cut, Mem, Prefix, Delay, Int, Attach, Point, ReadTable, WriteTable}
-use Rattle.fv_diagram.specs.Diagram.{Diagram, Primitive, Constant, Control, Slot, Wave, Table, Bind, Par, Seq, Split, Merge, Rec, inputs, control_bound}
-use Rattle.fv_diagram.specs.Streams.{dealt}
-use Rattle.fv_interval.specs.Delays.{delays_of}
-use Rattle.fv_interval.specs.SpanHooks.{control_span}
-use Rattle.fv_interval.specs.WireSpans.{bound_span, delay_spans, merged_spans, spans}
-use Rattle.fv_join_diagrams.specs.Parts.{Part, shifted, side_by_side, spans_of}
+use Rattle.fv_diagram.specs.headline.Diagram.{Diagram, Primitive, Constant, Control, Slot, Wave, Table, Bind, Par, Seq, Split, Merge, Rec, inputs}
+use Rattle.fv_diagram.specs.Diagram.{control_bound}
+use Rattle.fv_diagram.specs.headline.Streams.{dealt}
+use Rattle.fv_interval.specs.headline.Delays.{delays_of}
+use Rattle.fv_interval.specs.headline.SpanHooks.{control_span}
+use Rattle.fv_interval.specs.headline.WireSpans.{bound_span, delay_spans, merged_spans, spans}
+use Rattle.fv_join_diagrams.specs.headline.Parts.{Part, shifted, side_by_side}
+use Rattle.fv_join_diagrams.specs.Parts.{spans_of}
 use Rattle.fv_join_diagrams.proofs.Shifted.{inputs_shifted}
 
 -- ---- a diagram with other controls before its own

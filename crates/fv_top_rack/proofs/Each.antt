@@ -4,11 +4,13 @@ use Rattle.std.specs.Prelude.{Result}
 use Rattle.std.proofs.Math.Seq.{drop-cons}
 use Rattle.std.proofs.lemmas.List.{length-take-le, take-append-drop, take_more}
 use Rattle.fv_top_report.specs.declared.refusal.Refusal.{Refusal}
-use Rattle.fv_top_text.specs.Answers.{Then, Turned, kept, turned, stops, goes_on, IsOnce, IsSome}
-use Rattle.fv_top_text.specs.Compiled.{Compiled}
-use Rattle.fv_top_text.specs.Program.{TextIs, IsSomeText}
+use Rattle.fv_top_text.specs.headline.Answers.{Then, Turned, kept, turned, stops, goes_on}
+use Rattle.fv_top_text.specs.Answers.{IsOnce, IsSome}
+use Rattle.fv_top_text.specs.headline.Compiled.{Compiled}
+use Rattle.fv_top_text.specs.headline.Program.{TextIs}
+use Rattle.fv_top_text.specs.Program.{IsSomeText}
 use Rattle.fv_top_text.proofs.AnswerLaws.{then_once, then_some, turned_once, turned_some}
-use Rattle.fv_top_rack.specs.Racks.{EachIs, WithFirst, refused_job, with_first}
+use Rattle.fv_top_rack.specs.headline.Racks.{EachIs, WithFirst, refused_job, with_first}
 
 -- what was answered first, and behind it
 pub then_parts : {X A B E : Type 0} (P : X → Result A E → Type 0) (Q : A → Result B E → Type 0) (x : X) (b : B) (r : Result B E) → r ≡ Ok b → Then P Q x r

@@ -2,26 +2,29 @@
 use Rattle.std.proofs.Common.{◌≡◌, ◌⊎◌, ℕ, ◌<◌, ◌≤◌, Bool, true, false, List, length, Ok, Err, refl, sym, ap, ap₂, ◌∙◌, subst, inl, inr, ⊎_elim, arith}
 use Rattle.std.specs.Prelude.{IsTrue, Result, nat_le, sum, if◌then◌else◌}
 use Rattle.std.proofs.lemmas.Bool.Decides.{nat_tests}
-use Rattle.fv_diagram.specs.Diagram.{inputs, outputs}
+use Rattle.fv_diagram.specs.headline.Diagram.{inputs, outputs}
 use Rattle.fv_interval.specs.declared.refusal.DelayRefusal.TheVariants as delay
-use Rattle.fv_interval.specs.Delays.{AreDelays, amounts, delay_budget}
+use Rattle.fv_interval.specs.headline.Delays.{amounts, delay_budget}
+use Rattle.fv_interval.specs.Delays.{AreDelays}
 use Rattle.fv_base.specs.declared.role.Role.TheVariants.{Program}
 use Rattle.fv_base.specs.declared.limits.TheConstants.{MOST_JOBS}
 use Rattle.fv_jobs.specs.declared.refusal.JobsRefusal.{JobsRefusal}
 use Rattle.fv_jobs.specs.declared.refusal.JobsRefusal.TheVariants as jobs
-use Rattle.fv_jobs.specs.File.{IsOfJobs, counted, jobs_file}
-use Rattle.fv_jobs.specs.Jobs.{jobs_in}
+use Rattle.fv_jobs.specs.headline.File.{counted, jobs_file}
+use Rattle.fv_jobs.specs.File.{IsOfJobs}
+use Rattle.fv_jobs.specs.headline.Jobs.{jobs_in}
 use Rattle.fv_top_report.specs.declared.refusal.Refusal.{Refusal}
 use Rattle.fv_top_report.specs.declared.refusal.Refusal.TheVariants as no
-use Rattle.fv_top_report.specs.Layers.{of_jobs}
-use Rattle.fv_top_report.specs.Lines.{row_of}
-use Rattle.fv_top_text.specs.Answers.{Then, kept, turned, stops, goes_on}
-use Rattle.fv_top_text.specs.Compiled.{Compiled}
-use Rattle.fv_top_text.specs.Program.{delayed, delays_in, first_bad, narrow, with_channels}
+use Rattle.fv_top_report.specs.headline.Layers.{of_jobs}
+use Rattle.fv_top_report.specs.headline.Lines.{row_of}
+use Rattle.fv_top_text.specs.headline.Answers.{Then, kept, turned, stops, goes_on}
+use Rattle.fv_top_text.specs.headline.Compiled.{Compiled}
+use Rattle.fv_top_text.specs.headline.Program.{delayed, delays_in, first_bad, narrow, with_channels}
 use Rattle.fv_top_text.proofs.Delayed.{delays_pass, delays_stop}
 use Rattle.fv_top_words.specs.declared.manner.ProgramKind.TheVariants as kinds
-use Rattle.fv_top_rack.specs.Kinds.{IsOfKind, is_of_kind}
-use Rattle.fv_top_rack.specs.Racks.{Beside, EachIs, JobsHave, RackIs, rack_of}
+use Rattle.fv_top_rack.specs.headline.Kinds.{is_of_kind}
+use Rattle.fv_top_rack.specs.Kinds.{IsOfKind}
+use Rattle.fv_top_rack.specs.headline.Racks.{Beside, EachIs, JobsHave, RackIs, rack_of}
 
 -- what is judged by these channels is judged by the program's
 pub width_is : (p : Compiled) (n m : ℕ) (r : Result Compiled Refusal) → n ≡ inputs p.diagram → m ≡ outputs p.diagram → with_channels n m p ≡ r → narrow p ≡ r

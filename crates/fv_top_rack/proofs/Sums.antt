@@ -9,15 +9,19 @@ use Rattle.std.proofs.lemmas.List.Sums.{sum-map, sum_by-append, sum_by-cons, sum
 use Rattle.fv_base.specs.declared.limits.TheConstants.{MOST_CHANNELS}
 use Rattle.fv_diagram.specs.Controls.{IsBounded}
 use Rattle.fv_diagram.specs.declared.control.ControlInfo.{ControlInfo}
-use Rattle.fv_diagram.specs.Diagram.{inputs, outputs, control_bound, HasNoFreeSlot, IsWellFormed}
-use Rattle.fv_interval.specs.Controls.{spans_of, span_of}
-use Rattle.fv_interval.specs.Delays.{AreDelays, IsDelay, amount, amounts, delays_of}
-use Rattle.fv_jobs_controls.specs.Labels.{controls_from, labelled, renamed}
-use Rattle.fv_join_diagrams.specs.Parts.{Part, PartsAreWhole, side_by_side, spans_of as spans_of_parts}
-use Rattle.fv_rules.specs.Rules.{visit_limit}
-use Rattle.fv_top_text.specs.Compiled.{Compiled, CanPlay, compiled_of}
-use Rattle.fv_top_text.specs.Program.{delays_in}
-use Rattle.fv_top_rack.specs.Racks.{part_of, rack_of}
+use Rattle.fv_diagram.specs.headline.Diagram.{inputs, outputs}
+use Rattle.fv_diagram.specs.Diagram.{control_bound, HasNoFreeSlot, IsWellFormed}
+use Rattle.fv_interval.specs.headline.Controls.{spans_of, span_of}
+use Rattle.fv_interval.specs.headline.Delays.{amount, amounts, delays_of}
+use Rattle.fv_interval.specs.Delays.{AreDelays, IsDelay}
+use Rattle.fv_jobs_controls.specs.headline.Labels.{controls_from, labelled, renamed}
+use Rattle.fv_join_diagrams.specs.headline.Parts.{Part, side_by_side}
+use Rattle.fv_join_diagrams.specs.Parts.{PartsAreWhole, spans_of as spans_of_parts}
+use Rattle.fv_rules.specs.headline.Rules.{visit_limit}
+use Rattle.fv_top_text.specs.headline.Compiled.{Compiled}
+use Rattle.fv_top_text.specs.Compiled.{CanPlay, compiled_of}
+use Rattle.fv_top_text.specs.headline.Program.{delays_in}
+use Rattle.fv_top_rack.specs.headline.Racks.{part_of, rack_of}
 use Rattle.fv_top_rack.specs.Reads.{IsRead, programs_in}
 use Rattle.fv_top_rack.specs.declared.programs.Read.{Read}
 use Rattle.fv_top_rack.proofs.Delays.{HaveOwn, delays_beside}

@@ -1,11 +1,16 @@
-pub mod Racks
+pub mod headline
 pub mod Kinds
 pub mod Runs
 pub mod Reads
 -- what its public clauses cite of crates below
+pub use Rattle.fv_jobs.specs.headline.File
 pub use Rattle.fv_jobs.specs.File
+pub use Rattle.fv_jobs_controls.specs.headline.Labels
 pub use Rattle.fv_jobs_controls.specs.Labels
 pub use Rattle.fv_jobs_controls.specs.Changes
+pub use Rattle.fv_join_diagrams.specs.headline.Parts
 pub use Rattle.fv_join_diagrams.specs.Parts
+pub use Rattle.fv_top_text.specs.headline.Answers
 pub use Rattle.fv_top_text.specs.Answers
+pub use Rattle.fv_top_text.specs.headline.Program
 pub use Rattle.fv_top_text.specs.Program

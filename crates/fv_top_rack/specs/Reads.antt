@@ -2,11 +2,12 @@
 use Rattle.std.specs.Prelude.{◌≤◌, ◌<◌, List, length, map, All}
 use Rattle.fv_diagram.specs.Arena.{count_of}
 use Rattle.fv_interval.specs.Delays.{AreAccepted}
-use Rattle.fv_rules.specs.Rules.{visit_limit}
+use Rattle.fv_rules.specs.headline.Rules.{visit_limit}
 use Rattle.fv_base.specs.declared.limits.TheConstants.{MOST_JOBS}
-use Rattle.fv_top_text.specs.Compiled.{Compiled, compiled_of, CanPlay}
-use Rattle.fv_top_text.specs.Program.{delays_in}
-use Rattle.fv_top_rack.specs.Racks.{rack_of}
+use Rattle.fv_top_text.specs.headline.Compiled.{Compiled}
+use Rattle.fv_top_text.specs.Compiled.{compiled_of, CanPlay}
+use Rattle.fv_top_text.specs.headline.Program.{delays_in}
+use Rattle.fv_top_rack.specs.headline.Racks.{rack_of}
 use Rattle.fv_top_rack.specs.declared.programs.Read.{Read}
 use Rattle.fv_top_rack.specs.declared.programs.Programs.{Programs}
 use Rattle.fv_top_rack.specs.declared.programs.Programs.TheVariants.{Alone, Rack}

@@ -2,15 +2,16 @@
 
 ghost use Rattle.std.specs.Prelude.{◌≡◌, ◌⊎◌, ◌≤◌, ◌<◌, ℕ, length, map, sum, All, IfOk, IfErr, OnOk, Ok, Err};
 ghost use Rattle.std.specs.List.{sum_by};
-ghost use Rattle.fv_diagram.specs.Diagram.{inputs, outputs};
-ghost use Rattle.fv_interval.specs.Delays.{delay_budget};
+ghost use Rattle.fv_diagram.specs.headline.Diagram.{inputs, outputs};
+ghost use Rattle.fv_interval.specs.headline.Delays.{delay_budget};
 ghost use Rattle.fv_base.specs.declared.limits.TheConstants.{MOST_JOBS};
 ghost use Rattle.fv_top_report.specs.declared.refusal.Refusal.{Refusal as Refusals};
 ghost use Rattle.fv_top_report.specs.declared.refusal.Refusal.TheVariants.{DelayBudget, NoMemory};
-ghost use Rattle.fv_top_report.specs.Lines.{row_of};
+ghost use Rattle.fv_top_report.specs.headline.Lines.{row_of};
 ghost use Rattle.fv_top_text.specs.Compiled.{compiled_of, CanPlay};
-ghost use Rattle.fv_top_text.specs.Program.{IsProgram, IsRefusedText};
-ghost use Rattle.fv_top_rack.specs.Racks.{EachIs, RackIs, rack_of, refused_job};
+ghost use Rattle.fv_top_text.specs.headline.Program.{IsProgram};
+ghost use Rattle.fv_top_text.specs.Program.{IsRefusedText};
+ghost use Rattle.fv_top_rack.specs.headline.Racks.{EachIs, RackIs, rack_of, refused_job};
 ghost use Rattle.fv_top_rack.specs.Kinds.{IsOfKind};
 ghost use Rattle.fv_top_rack.specs.Reads.{IsRead, programs_in};
 ghost use Rattle.fv_top_words.specs.declared.manner.ProgramKind.TheVariants as kinds;

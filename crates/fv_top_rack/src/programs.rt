@@ -3,7 +3,8 @@
 ghost use Rattle.std.specs.Prelude.{◌≡◌, ◌⊎◌, IfOk, IfErr, Ok, Err};
 ghost use Rattle.fv_top_report.specs.declared.refusal.Refusal.TheVariants.{NoMemory};
 ghost use Rattle.fv_top_text.specs.Compiled.{CanPlay};
-ghost use Rattle.fv_top_rack.specs.Kinds.{FileIs, IsOfKind};
+ghost use Rattle.fv_top_rack.specs.headline.Kinds.{FileIs};
+ghost use Rattle.fv_top_rack.specs.Kinds.{IsOfKind};
 ghost use Rattle.fv_top_rack.specs.Reads.{AreRead, compiled_in};
 
 use crate::jobs::read_rack;

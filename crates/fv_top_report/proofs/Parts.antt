@@ -4,9 +4,10 @@ use Rattle.std.specs.Prelude.{codes, decimal, IsTrue, IsOk, OnErr, Result}
 use Rattle.fv_base.specs.declared.role.Role.{Role}
 use Rattle.fv_base.specs.declared.role.Role.TheVariants.{Report}
 use Rattle.fv_outside.specs.declared.desk.Failed.{Failed}
-use Rattle.fv_outside.specs.Desk.{DeskState, Appends, IsUnfailing}
+use Rattle.fv_outside.specs.headline.Desk.{DeskState, IsUnfailing}
+use Rattle.fv_outside.specs.Desk.{Appends}
 use Rattle.fv_outside.proofs.States.{appends_then, appends_nothing}
-use Rattle.fv_top_report.specs.Lines.{Row, spaced, row_line}
+use Rattle.fv_top_report.specs.headline.Lines.{Row, spaced, row_line}
 use Rattle.fv_top_report.specs.Parts.{AppendsPart}
 
 -- a part of the first piece is one of the whole

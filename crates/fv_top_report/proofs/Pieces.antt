@@ -3,7 +3,7 @@ use Rattle.std.proofs.Common.{◌≡◌, ℕ, ℤ, List, [], ◌++◌, ◌∙◌
 use Rattle.std.specs.Prelude.{codes, decimal}
 use Rattle.std.specs.Fmt.{signed_decimal}
 use Rattle.std.proofs.lemmas.List.{append-nil}
-use Rattle.fv_top_report.specs.Lines.{check_line, made_line}
+use Rattle.fv_top_report.specs.headline.Lines.{check_line, made_line}
 
 -- the line of a program that was checked
 pub numbers_line : (i o n s d : ℕ) {p1 p2 p3 p4 p5 p6 p7 p8 p9 p10 p11 : List ℕ} → p1 ≡ codes "inputs " → p2 ≡ decimal i

@@ -6,7 +6,7 @@ use Rattle.fv_top_report.specs.declared.line.Field.TheVariants.{Word, Natural, I
 use Rattle.fv_top_report.specs.declared.line.Fields.{Fields}
 use Rattle.fv_top_report.specs.declared.line.Fields.TheVariants.{None, One, Two, Three}
 use Rattle.fv_top_report.specs.declared.line.Row.{Row as Table}
-use Rattle.fv_top_report.specs.Lines.{Row, row}
+use Rattle.fv_top_report.specs.headline.Lines.{Row, row}
 
 -- a field as it is printed
 abbrev pub printed : Field → List ℕ

@@ -1,3 +1,4 @@
+pub mod headline
 pub mod Lines
 pub mod Layers
 pub mod Fields

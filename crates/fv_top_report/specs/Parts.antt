@@ -1,8 +1,9 @@
 -- A part from the front of what was to be written.
 use Rattle.std.specs.Prelude.{ℕ, List}
 use Rattle.fv_base.specs.declared.role.Role.{Role}
-use Rattle.fv_base.specs.Lists.{IsPrefixOf}
-use Rattle.fv_outside.specs.Desk.{DeskState, Appends}
+use Rattle.fv_base.specs.headline.Lists.{IsPrefixOf}
+use Rattle.fv_outside.specs.headline.Desk.{DeskState}
+use Rattle.fv_outside.specs.Desk.{Appends}
 
 -- a part of these bytes from their front was appended
 abbrev pub AppendsPart : Role → (bytes : List ℕ) → (old new : DeskState) → Type 0

@@ -1,9 +1,11 @@
 // Why a run is refused.
 
 ghost use Rattle.std.specs.Prelude.{◌≡◌};
-ghost use Rattle.fv_top_report.specs.Lines.{row_of, status_of};
-ghost use Rattle.fv_top_report.specs.Layers.{of_jobs, of_bytes, of_tokens, of_value, of_delay};
-ghost use Rattle.fv_top_report.specs.Layers.{of_script, of_wave, of_au};
+ghost use Rattle.fv_top_report.specs.headline.Lines.{row_of};
+ghost use Rattle.fv_top_report.specs.Lines.{status_of};
+ghost use Rattle.fv_top_report.specs.headline.Layers.{of_jobs, of_bytes, of_tokens, of_value};
+ghost use Rattle.fv_top_report.specs.Layers.{of_delay};
+ghost use Rattle.fv_top_report.specs.headline.Layers.{of_script, of_wave, of_au};
 ghost use Rattle.fv_top_report.specs.declared.refusal.Refusal.TheVariants.{Usage, NoMemory};
 
 use fv_arity::ArityKind;

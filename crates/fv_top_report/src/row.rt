@@ -1,7 +1,7 @@
 // One row for each refusal: what its line says, and the exit status.
 
 ghost use Rattle.std.specs.Prelude.{◌≡◌, [], ◌∷◌, decimal};
-ghost use Rattle.fv_top_report.specs.Lines.{role_word, cause_word, kind_word, table_word, text_status, row as row_shown, row_of};
+ghost use Rattle.fv_top_report.specs.headline.Lines.{role_word, cause_word, kind_word, table_word, text_status, row as row_shown, row_of};
 ghost use Rattle.fv_top_report.specs.Fields.{listed, shown};
 
 use crate::line::{Field, Fields, Row, integer, natural, pair, place, text};

@@ -1,8 +1,8 @@
 // A caller that knows from the state before the run that it is done.
 
 ghost use Rattle.std.specs.Prelude.{map, string_bytes};
-ghost use Rattle.fv_top_words.specs.Runs.{Run};
-ghost use Rattle.fv_top.specs.Promise.{IsDoneOrNoMemory};
+ghost use Rattle.fv_top_words.specs.headline.Runs.{Run};
+ghost use Rattle.fv_top.specs.headline.Promise.{IsDoneOrNoMemory};
 ghost use Rattle.fv_top_tests.specs.Sure.{IsSure};
 
 use fv_outside::{Desk, Gate};

@@ -1,7 +1,8 @@
 -- The laws of answers one after another, once for all layers.
 use Rattle.std.proofs.Common.{◌≡◌, refl, ap, subst}
 use Rattle.std.specs.Prelude.{Result, Ok, Err}
-use Rattle.fv_top_text.specs.Answers.{Then, stops, goes_on, Turned, kept, turned, IsOnce, IsSome, RefusesOthers}
+use Rattle.fv_top_text.specs.headline.Answers.{Then, stops, goes_on, Turned, kept, turned}
+use Rattle.fv_top_text.specs.Answers.{IsOnce, IsSome, RefusesOthers}
 
 pub then_once : {X A B E : Type 0} (P : X → Result A E → Type 0) (Q : A → Result B E → Type 0) → IsOnce P → IsOnce Q → IsOnce (Then P Q)
 then_once P Q p q x r s (stops e h) (stops f k) = let i = p x (Err e) (Err f) h k in cc

@@ -3,14 +3,16 @@ use Rattle.std.proofs.Common.{◌≡◌, ◌⊎◌, ℕ, zero, suc, ◌<◌, ◌
 use Rattle.std.specs.Prelude.{sum, Option, Some, None, Ok, Err, int_lt, ◌<ℤ◌}
 use Rattle.std.proofs.lemmas.Bool.{le-leb, lt-leb}
 use Rattle.std.proofs.lemmas.Int.{ints}
-use Rattle.fv_num.specs.Interval.{Interval}
+use Rattle.fv_num.specs.headline.Interval.{Interval}
 use Rattle.fv_interval.specs.declared.refusal.DelayRefusal.{DelayRefusal}
 use Rattle.fv_interval.specs.declared.refusal.DelayRefusal.TheVariants as delay
-use Rattle.fv_interval.specs.Delays.{IsDelay, AreDelays, AreAccepted, IsSpanRefused, IsFirstRefused, IsDelayRefusal, delay_limit, delay_budget}
+use Rattle.fv_interval.specs.headline.Delays.{delay_limit, delay_budget}
+use Rattle.fv_interval.specs.Delays.{IsDelay, AreDelays, AreAccepted, IsSpanRefused, IsFirstRefused, IsDelayRefusal}
 use Rattle.fv_top_report.specs.declared.refusal.Refusal.{Refusal}
 use Rattle.fv_top_report.specs.declared.refusal.Refusal.TheVariants as no
-use Rattle.fv_top_text.specs.Compiled.{Compiled}
-use Rattle.fv_top_text.specs.Program.{IsOfText, bad_delay, first_bad, delayed, delays_in, delay_in}
+use Rattle.fv_top_text.specs.headline.Compiled.{Compiled}
+use Rattle.fv_top_text.specs.headline.Program.{bad_delay, first_bad, delayed, delays_in, delay_in}
+use Rattle.fv_top_text.specs.Program.{IsOfText}
 use Rattle.fv_top_report.specs.Layers.{of_delay}
 
 -- ---- tests of whole numbers

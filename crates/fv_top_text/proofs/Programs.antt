@@ -3,24 +3,28 @@ use Rattle.std.proofs.Common.{◌≡◌, ◌⊎◌, ℕ, List, Ok, Err, ◌∙�
 use Rattle.std.specs.Prelude.{Result}
 use Rattle.fv_lex.specs.declared.refusal.LexRefusal.{LexRefusal}
 use Rattle.fv_lex.specs.declared.refusal.LexRefusal.TheVariants as bytes
-use Rattle.fv_lex.specs.Token.{Lexed}
-use Rattle.fv_lex.specs.Cuts.{HasTokens, Has, HasRefusal as HasBytesRefusal, HasAtMostOne, HasAtLeastOne}
-use Rattle.fv_parse_grammar.specs.Tree.{Tree}
+use Rattle.fv_lex.specs.headline.Token.{Lexed}
+use Rattle.fv_lex.specs.headline.Cuts.{Has}
+use Rattle.fv_lex.specs.Cuts.{HasTokens, HasRefusal as HasBytesRefusal, HasAtMostOne, HasAtLeastOne}
+use Rattle.fv_parse_grammar.specs.headline.Tree.{Tree}
 use Rattle.fv_parse_grammar.specs.Grammar.{SpelledOnce}
 use Rattle.fv_parse.specs.declared.refusal.ParseRefusal.{ParseRefusal}
 use Rattle.fv_parse.specs.declared.refusal.ParseRefusal.TheVariants as tokens
-use Rattle.fv_parse.specs.Outcomes.{IsAccepted, HasRefusal as HasTokensRefusal, IsOneRefusal, IsNotBoth, IsOneOrOther as TokensOneOrOther}
-use Rattle.fv_diagram.specs.Diagram.{Diagram}
+use Rattle.fv_parse.specs.headline.Outcomes.{IsAccepted, HasRefusal as HasTokensRefusal}
+use Rattle.fv_parse.specs.Outcomes.{IsOneRefusal, IsNotBoth, IsOneOrOther as TokensOneOrOther}
+use Rattle.fv_diagram.specs.headline.Diagram.{Diagram}
 use Rattle.fv_rules.specs.declared.refusal.EvalRefusal.{EvalRefusal}
 use Rattle.fv_rules.specs.declared.refusal.EvalRefusal.TheVariants as values
-use Rattle.fv_rules.specs.Rules.{program_value}
+use Rattle.fv_rules.specs.headline.Rules.{program_value}
 use Rattle.fv_top_report.specs.declared.refusal.Refusal.{Refusal}
 use Rattle.fv_top_report.specs.declared.refusal.Refusal.TheVariants.{NoMemory}
-use Rattle.fv_top_text.specs.Answers.{Turned, kept, turned, stops, goes_on, IsOnce, IsSome, RefusesOthers}
-use Rattle.fv_top_text.specs.Compiled.{Compiled}
-use Rattle.fv_top_text.specs.Program.{Spelled, Parses, spells, refused, Evaluates, valued, Narrow, narrow, Delayed, delayed, delays_in, first_bad, SpellingIs}
-use Rattle.fv_top_text.specs.Program.{ValueIs, WidthIs, TextIs, IsProgram, IsRefusedText, IsOfText}
-use Rattle.fv_top_report.specs.Layers.{of_bytes, of_tokens, of_value}
+use Rattle.fv_top_text.specs.headline.Answers.{Turned, kept, turned, stops, goes_on}
+use Rattle.fv_top_text.specs.Answers.{IsOnce, IsSome, RefusesOthers}
+use Rattle.fv_top_text.specs.headline.Compiled.{Compiled}
+use Rattle.fv_top_text.specs.headline.Program.{Spelled, Parses, spells, refused, Evaluates, valued, Narrow, narrow, Delayed, delayed, delays_in, first_bad, SpellingIs}
+use Rattle.fv_top_text.specs.headline.Program.{ValueIs, WidthIs, TextIs, IsProgram}
+use Rattle.fv_top_text.specs.Program.{IsRefusedText, IsOfText}
+use Rattle.fv_top_report.specs.headline.Layers.{of_bytes, of_tokens, of_value}
 use Rattle.fv_top_text.proofs.AnswerLaws.{then_once, then_some, then_refuses, turned_once, turned_some, kept_is}
 
 -- ---- each layer

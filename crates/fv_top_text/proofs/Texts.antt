@@ -5,13 +5,13 @@ use Rattle.std.proofs.lemmas.List.{take_all, length-take}
 use Rattle.fv_lex.specs.declared.refusal.LexRefusal.{LexRefusal}
 use Rattle.fv_base.specs.declared.role.Role.TheVariants.{Program}
 use Rattle.fv_lex.specs.declared.refusal.LexRefusal.TheVariants.{TextTooLong}
-use Rattle.fv_lex.specs.Token.{Lexed}
-use Rattle.fv_lex.specs.Cuts.{Has, too_long, cut, longest_text}
+use Rattle.fv_lex.specs.headline.Token.{Lexed}
+use Rattle.fv_lex.specs.headline.Cuts.{Has, too_long, cut, longest_text}
 use Rattle.fv_top_report.specs.declared.refusal.Refusal.{Refusal}
-use Rattle.fv_top_text.specs.Answers.{Then, Turned, kept, turned, stops, goes_on}
-use Rattle.fv_top_text.specs.Compiled.{Compiled}
-use Rattle.fv_top_text.specs.Program.{Parses, Evaluates, Narrow, Delayed, SpellingIs, ValueIs, WidthIs, TextIs}
-use Rattle.fv_top_report.specs.Layers.{of_bytes, of_tokens, of_value}
+use Rattle.fv_top_text.specs.headline.Answers.{Then, Turned, kept, turned, stops, goes_on}
+use Rattle.fv_top_text.specs.headline.Compiled.{Compiled}
+use Rattle.fv_top_text.specs.headline.Program.{Parses, Evaluates, Narrow, Delayed, SpellingIs, ValueIs, WidthIs, TextIs}
+use Rattle.fv_top_report.specs.headline.Layers.{of_bytes, of_tokens, of_value}
 use Rattle.fv_top_text.proofs.AnswerLaws.{kept_is}
 
 -- what a text has says whether it is too long

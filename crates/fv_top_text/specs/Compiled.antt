@@ -1,16 +1,12 @@
--- What a program is, what the code's programs are, and that they can be played.
-use Rattle.std.specs.Prelude.{◌≤◌, ◌<◌, ◌^◌, All, List, length}
+-- What calls say beside `headline/Compiled`: what a program is, what the code's programs are, and that they can be played.
+use Rattle.std.specs.Prelude.{◌≤◌, ◌<◌, ◌^◌, All, length}
 use Rattle.fv_base.specs.declared.limits.TheConstants.{MOST_CHANNELS}
 use Rattle.fv_diagram.specs.Arena.{tree_of}
-use Rattle.fv_diagram.specs.Diagram.{Diagram, inputs, outputs, control_bound, HasNoFreeSlot, IsWellFormed}
+use Rattle.fv_diagram.specs.headline.Diagram.{inputs, outputs}
+use Rattle.fv_diagram.specs.Diagram.{control_bound, HasNoFreeSlot, IsWellFormed}
 use Rattle.fv_diagram.specs.Controls.{IsBounded}
-use Rattle.fv_diagram.specs.declared.control.ControlInfo.{ControlInfo}
 use Rattle.fv_eval.specs.Evaluated.{Evaluated}
-
--- a program: its diagram, and its controls
-pub record Compiled : Type 0 where
-  pub diagram : Diagram
-  pub controls : List ControlInfo
+use Rattle.fv_top_text.specs.headline.Compiled.{Compiled}
 
 -- the diagram and the controls
 abbrev pub compiled_of : Evaluated → Compiled

@@ -1,3 +1,4 @@
+pub mod headline
 pub mod Compiled
 pub mod Answers
 pub mod Program

@@ -3,13 +3,15 @@
 ghost use Rattle.std.specs.Prelude.{◌≡◌, ◌⊎◌, ◌≤◌, ◌<◌, length, IfOk, IfErr, OnOk, Ok, Err};
 ghost use Rattle.fv_base.specs.declared.limits.TheConstants.{MOST_CHANNELS};
 ghost use Rattle.fv_diagram.specs.Arena.{count_of, tree_of};
-ghost use Rattle.fv_diagram.specs.Diagram.{inputs, outputs};
+ghost use Rattle.fv_diagram.specs.headline.Diagram.{inputs, outputs};
 ghost use Rattle.fv_interval.specs.Delays.{AreAccepted};
-ghost use Rattle.fv_rules.specs.Rules.{visit_limit};
-ghost use Rattle.fv_top_report.specs.Lines.{row_of};
+ghost use Rattle.fv_rules.specs.headline.Rules.{visit_limit};
+ghost use Rattle.fv_top_report.specs.headline.Lines.{row_of};
 ghost use Rattle.fv_top_report.specs.declared.refusal.Refusal.TheVariants.{NoMemory};
-ghost use Rattle.fv_top_text.specs.Compiled.{Compiled, compiled_of, CanPlay};
-ghost use Rattle.fv_top_text.specs.Program.{IsProgram, IsRefusedText, IsOfText, narrow, with_channels, delayed, first_bad, delays_in};
+ghost use Rattle.fv_top_text.specs.headline.Compiled.{Compiled};
+ghost use Rattle.fv_top_text.specs.Compiled.{compiled_of, CanPlay};
+ghost use Rattle.fv_top_text.specs.headline.Program.{IsProgram, narrow, with_channels, delayed, first_bad, delays_in};
+ghost use Rattle.fv_top_text.specs.Program.{IsRefusedText, IsOfText};
 
 use fv_base::limits::MOST_CHANNELS;
 use fv_eval::{Program, evaluate};

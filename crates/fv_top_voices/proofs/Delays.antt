@@ -3,9 +3,10 @@ use Rattle.std.proofs.Common.{◌≡◌, ℕ, zero, suc, ◌+◌, ◌*◌, ◌�
 use Rattle.std.proofs.lemmas.Int.{ints}
 use Rattle.std.proofs.lemmas.List.Elements.{All-nil, All-cons}
 use Rattle.std.proofs.lemmas.List.Sums.{sum_by-cons}
-use Rattle.fv_num.specs.Interval.{Interval, point}
-use Rattle.fv_interval.specs.Delays.{IsDelay, AreDelays, AreAccepted, amounts, delay_limit}
-use Rattle.fv_interval.specs.WireSpans.{delay_spans}
+use Rattle.fv_num.specs.headline.Interval.{Interval, point}
+use Rattle.fv_interval.specs.headline.Delays.{amounts, delay_limit}
+use Rattle.fv_interval.specs.Delays.{IsDelay, AreDelays, AreAccepted}
+use Rattle.fv_interval.specs.headline.WireSpans.{delay_spans}
 use Rattle.fv_top_voices.specs.Voices.{voices_from}
 
 -- the delays of voice i: of its feedback, and of its `@`

@@ -5,11 +5,11 @@ use Rattle.std.specs.List.{list_all, prefix_len}
 use Rattle.std.proofs.lemmas.Bool.{and_parts, or_parts, or_cases}
 use Rattle.fv_lex.specs.declared.token.Kind.{Kind}
 use Rattle.fv_lex.specs.declared.token.Kind.TheVariants.{Name, Integer, Text, Sign}
-use Rattle.fv_lex.specs.Bytes.{is_blank, is_letter, is_digit, is_underscore, is_name_byte, is_quote, begins, dot, underscore}
-use Rattle.fv_lex.specs.Symbols.{at_byte, singles, double, value}
-use Rattle.fv_lex.specs.Pieces.{is_name, is_integer, is_token, is_real_tail, begins_comment, greatest_literal, IsLongest, IsPiece}
-use Rattle.fv_lex.specs.Pieces.{blank_byte, longest_token}
-use Rattle.fv_lex.specs.Cuts.{deepest, depth_after, Cut, Cuts, piece_first}
+use Rattle.fv_lex.specs.headline.Bytes.{is_blank, is_letter, is_digit, is_underscore, is_name_byte, is_quote, begins, dot, underscore}
+use Rattle.fv_lex.specs.headline.Symbols.{at_byte, singles, double, value}
+use Rattle.fv_lex.specs.headline.Pieces.{is_name, is_integer, is_token, is_real_tail, begins_comment, greatest_literal, IsLongest, IsPiece}
+use Rattle.fv_lex.specs.headline.Pieces.{blank_byte, longest_token}
+use Rattle.fv_lex.specs.headline.Cuts.{deepest, depth_after, Cut, Cuts, piece_first}
 use Rattle.fv_lex.proofs.Runs.{Stops}
 use Rattle.fv_lex.proofs.Classes.{digit_range, no_digit, no_name, no_integer, no_text}
 use Rattle.fv_lex.proofs.Sound.{digits_longest, name_longest, no_comment, no_dot, no_real, no_real_digits, tail_behind, wire_longest}

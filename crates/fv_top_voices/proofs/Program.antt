@@ -1,13 +1,14 @@
 -- The text of so many voices is their program, layer by layer.
 use Rattle.std.proofs.Common.{◌≡◌, ℕ, suc, ◌-◌, ◌≤◌, List, [], ◌∷◌, ◌++◌, Ok, refl, ap, sym, subst, ◌∙◌, arith, append-nil}
-use Rattle.fv_lex.specs.Symbols.{value}
-use Rattle.fv_num.specs.Interval.{full}
+use Rattle.fv_lex.specs.headline.Symbols.{value}
+use Rattle.fv_num.specs.headline.Interval.{full}
 use Rattle.fv_parse_grammar.specs.Laws.{ReadsOnlySpelled}
-use Rattle.fv_parse.specs.Outcomes.{IsAccepted}
+use Rattle.fv_parse.specs.headline.Outcomes.{IsAccepted}
 use Rattle.fv_rules.specs.Values.{LiteralsStay}
-use Rattle.fv_interval.specs.Delays.{AreAccepted, amounts}
-use Rattle.fv_interval.specs.SpanHooks.{control_span}
-use Rattle.fv_top_text.specs.Program.{IsProgram, delays_in, delayed, first_bad}
+use Rattle.fv_interval.specs.headline.Delays.{amounts}
+use Rattle.fv_interval.specs.Delays.{AreAccepted}
+use Rattle.fv_interval.specs.headline.SpanHooks.{control_span}
+use Rattle.fv_top_text.specs.headline.Program.{IsProgram, delays_in, delayed, first_bad}
 use Rattle.fv_top_text.proofs.Programs.{spelling_is, value_is, program_is}
 use Rattle.fv_top_text.proofs.Delayed.{delays_pass}
 use Rattle.fv_top_voices.specs.Voices.{program_of, VoicesAreAProgram}

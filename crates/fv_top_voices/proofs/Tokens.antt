@@ -3,12 +3,12 @@ use Rattle.std.proofs.Common.{◌≡◌, ℕ, ◌≤◌, true, List, [], ◌∷�
 use Rattle.std.proofs.Common.{refl, sym, subst, arith, length-append, ne_eqb}
 use Rattle.std.specs.List.{list_all}
 use Rattle.fv_lex.specs.declared.token.Kind.TheVariants.{Integer}
-use Rattle.fv_lex.specs.Token.{Lexed}
-use Rattle.fv_lex.specs.Bytes.{is_digit}
-use Rattle.fv_lex.specs.Symbols.{value}
-use Rattle.fv_lex.specs.Pieces.{greatest_literal}
-use Rattle.fv_lex.specs.Cuts.{deepest, depth_after, Cut, Cuts, nothing_more, piece_first, whole, first_place, tokens_of, end_of}
-use Rattle.fv_lex.specs.Cuts.{longest_text, HasTokens, cut}
+use Rattle.fv_lex.specs.headline.Token.{Lexed}
+use Rattle.fv_lex.specs.headline.Bytes.{is_digit}
+use Rattle.fv_lex.specs.headline.Symbols.{value}
+use Rattle.fv_lex.specs.headline.Pieces.{greatest_literal}
+use Rattle.fv_lex.specs.headline.Cuts.{deepest, depth_after, Cut, Cuts, nothing_more, piece_first, whole, first_place, tokens_of, end_of, longest_text, cut}
+use Rattle.fv_lex.specs.Cuts.{HasTokens}
 use Rattle.fv_lex.proofs.Classes.{digit_range}
 use Rattle.fv_top_voices.proofs.Pieces.{number_piece, cuts_of, cuts}
 

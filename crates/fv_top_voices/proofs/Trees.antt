@@ -1,16 +1,15 @@
 -- The tree that the tokens spell.
 use Rattle.std.proofs.Common.{◌≡◌, ℕ, List, Ok, refl}
-use Rattle.fv_lex.specs.Token.{symbols_of}
-use Rattle.fv_lex.specs.Symbols.{value}
+use Rattle.fv_lex.specs.headline.Token.{symbols_of}
+use Rattle.fv_lex.specs.headline.Symbols.{value}
 use Rattle.fv_parse_grammar.specs.declared.form.Primitive.TheVariants as primitives
 use Rattle.fv_parse_grammar.specs.declared.form.Operator.TheVariants.{Infix, Recursion, Sequence, Split, Merge}
 use Rattle.fv_parse_grammar.specs.declared.form.Iteration.TheVariants.{Parallel}
-use Rattle.fv_parse_grammar.specs.Tree.{Tree, Number, Named, Wire, Primitive, Group, Iteration, Apply, Binary, Constant, Function, End}
-use Rattle.fv_parse_grammar.specs.Tree.{More}
+use Rattle.fv_parse_grammar.specs.headline.Tree.{Tree, Number, Named, Wire, Primitive, Group, Iteration, Apply, Binary, Constant, Function, End, More}
 use Rattle.fv_parse_grammar.specs.Laws.{ReadsOnlySpelled}
 use Rattle.fv_parse_grammar.specs.Descent.{program, within, further, many, listed, definition, function_after, constant_after, ended}
 use Rattle.fv_parse_grammar.specs.Descent.{expression, phrase, chain, rights, postfix, by_head, iteration, turns, run}
-use Rattle.fv_parse.specs.Outcomes.{IsAccepted}
+use Rattle.fv_parse.specs.headline.Outcomes.{IsAccepted}
 use Rattle.fv_top_voices.proofs.Tokens.{lexed}
 
 -- `+ ~ (@(i*37+1) : *(i+3) : /(8))`

@@ -4,11 +4,12 @@ use Rattle.fv_base.specs.declared.limits.TheConstants.{MOST_VOICES}
 use Rattle.fv_num.specs.declared.op.Op.TheVariants as op
 use Rattle.fv_diagram.specs.declared.node.Primitive.{Primitive as Prim}
 use Rattle.fv_diagram.specs.declared.node.Primitive.TheVariants.{Wire, Delay, Point}
-use Rattle.fv_diagram.specs.Diagram.{Diagram, Primitive, Constant, Par, Seq, Split, Merge, Rec, has_table}
-use Rattle.fv_top_make.specs.Made.{text_of}
+use Rattle.fv_diagram.specs.headline.Diagram.{Diagram, Primitive, Constant, Par, Seq, Split, Merge, Rec, has_table}
+use Rattle.fv_top_make.specs.headline.Made.{text_of}
 use Rattle.fv_top_report.specs.declared.refusal.Refusal.{Refusal}
-use Rattle.fv_top_text.specs.Compiled.{Compiled}
-use Rattle.fv_top_text.specs.Program.{IsProgram, IsRefusedText}
+use Rattle.fv_top_text.specs.headline.Compiled.{Compiled}
+use Rattle.fv_top_text.specs.headline.Program.{IsProgram}
+use Rattle.fv_top_text.specs.Program.{IsRefusedText}
 
 -- a primitive of two inputs, the second of which is a number
 abbrev pub by : Prim → ℕ → Diagram

@@ -9,8 +9,9 @@ use Rattle.std.proofs.lemmas.Bool.{eqb-true}
 use Rattle.std.proofs.lemmas.Bool.Decides.{nat_tests}
 use Rattle.std.proofs.lemmas.Slice.Eq.{bytes_eq-Decides}
 use Rattle.std.proofs.lemmas.List.Sums.{split_at_first, passes_at_first}
-use Rattle.fv_top_words.specs.Pieces.{Piece, Plain, Given, is_dashed, is_equals, Kind, Bare, Ends, Apart, Joined, kind_of, State, Any, Value}
-use Rattle.fv_top_words.specs.Pieces.{Names, after_kind, state_after, kind_piece, piece_of, with_piece, cut, IsOption, Cuts, nothing, plain, apart, joined, ended, AreCut}
+use Rattle.fv_top_words.specs.headline.Pieces.{Piece, Plain, Given, is_dashed, is_equals, Kind, Bare, Ends, Apart, Joined, kind_of, State, Any, Value}
+use Rattle.fv_top_words.specs.headline.Pieces.{Names, after_kind, state_after, kind_piece, piece_of, with_piece, cut}
+use Rattle.fv_top_words.specs.Pieces.{IsOption, Cuts, nothing, plain, apart, joined, ended, AreCut}
 
 abbrev differs : ℕ → Bool
 differs b = not (is_equals b)

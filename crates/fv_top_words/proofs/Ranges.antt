@@ -4,8 +4,9 @@ use Rattle.std.specs.Prelude.{◌&&◌, nat_le, nat_lt, Result, Ok, Err, IfSome,
 use Rattle.std.proofs.lemmas.Bool.Decides.{nat_tests}
 use Rattle.fv_top_words.specs.declared.cause.Cause.{Cause}
 use Rattle.fv_top_words.specs.declared.cause.Cause.TheVariants.{Range, Vectors}
-use Rattle.fv_top_words.specs.Numbers.{Numbers}
-use Rattle.fv_top_words.specs.Runs.{◌>>=◌, within, within_or, is_width, width, most_block, most_workers, most_vectors, default_vector, vectors_in, Settings, checked, AreSound, KeepRanges}
+use Rattle.fv_top_words.specs.headline.Numbers.{Numbers}
+use Rattle.fv_top_words.specs.headline.Runs.{◌>>=◌, within, within_or, is_width, width, most_block, most_workers, most_vectors, default_vector, vectors_in, Settings, checked}
+use Rattle.fv_top_words.specs.Runs.{AreSound, KeepRanges}
 
 -- what came before an answer
 bound : {A B : Type 0} (r : Result A Cause) (f : A → Result B Cause) (y : B) → r >>= f ≡ Ok y → (x : A) × (r ≡ Ok x) × (f x ≡ Ok y)

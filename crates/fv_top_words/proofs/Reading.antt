@@ -2,8 +2,8 @@
 use Rattle.std.proofs.Common.{◌≡◌, ℕ, ◌<◌, List, ◌∷◌, Option, Some, None, length, map, drop, get_or, suc, refl, sym, ◌∙◌, ap, Global}
 use Rattle.std.specs.Prelude.{String, string_bytes, option_map, option_and_then}
 use Rattle.std.proofs.Math.Seq.{drop-cons}
-use Rattle.fv_top_words.specs.Pieces.{Piece, with_piece, piece_of, state_after, cut}
-use Rattle.fv_top_words.specs.Texts.{Texts, take_piece, gathered}
+use Rattle.fv_top_words.specs.headline.Pieces.{Piece, with_piece, piece_of, state_after, cut}
+use Rattle.fv_top_words.specs.headline.Texts.{Texts, take_piece, gathered}
 use Rattle.fv_top_words.specs.declared.texts.Reader.{Reader}
 use Rattle.fv_top_words.specs.Views.{Read, read_in, read_more, finished}
 

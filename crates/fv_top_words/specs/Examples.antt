@@ -5,9 +5,9 @@ use Rattle.fv_top_words.specs.declared.cause.Cause.TheVariants.{Form, Number, Ra
 use Rattle.fv_top_words.specs.declared.manner.ProgramKind.TheVariants as program
 use Rattle.fv_top_words.specs.declared.manner.InputKind.TheVariants as input
 use Rattle.fv_top_words.specs.declared.manner.OutputKind.TheVariants as output
-use Rattle.fv_top_words.specs.Pieces.{cut, Any, Plain, Given}
-use Rattle.fv_top_words.specs.Runs.{Settings, default_vector, wave_files}
-use Rattle.fv_top_words.specs.Commands.{Command, Play, Check, Make, Checking, Making, command_of, job_in}
+use Rattle.fv_top_words.specs.headline.Pieces.{cut, Any, Plain, Given}
+use Rattle.fv_top_words.specs.headline.Runs.{Settings, default_vector, wave_files}
+use Rattle.fv_top_words.specs.headline.Commands.{Command, Play, Check, Make, Checking, Making, command_of, job_in}
 
 -- of these words behind the program's own name
 abbrev asked : List (List ℕ) → Result Command Cause

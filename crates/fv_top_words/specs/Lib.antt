@@ -1,7 +1,5 @@
+pub mod headline
 pub mod Pieces
-pub mod Texts
-pub mod Numbers
 pub mod Runs
-pub mod Commands
 pub mod Views
 pub mod Examples

@@ -16,11 +16,12 @@ use Rattle.fv_top_words.specs.declared.command.Command.{Command as Commands}
 use Rattle.fv_top_words.specs.declared.command.Command.TheVariants as commands
 use Rattle.fv_top_words.specs.declared.command.Job.{Job as Jobs}
 use Rattle.fv_top_words.specs.declared.command.Job.TheVariants as jobs
-use Rattle.fv_top_words.specs.Pieces.{Kind, Bare, Ends, Apart, Joined, State, Any, Value, Names as NamesAlone, piece_of, state_after, cut}
-use Rattle.fv_top_words.specs.Texts.{Texts, take_piece, gathered}
-use Rattle.fv_top_words.specs.Numbers.{Numbers}
-use Rattle.fv_top_words.specs.Runs.{Settings, Run, AreSound, most_workers}
-use Rattle.fv_top_words.specs.Commands.{Command, Play, Check, Make, Job, Playing, Checking, Making, most_voices}
+use Rattle.fv_top_words.specs.headline.Pieces.{Kind, Bare, Ends, Apart, Joined, State, Any, Value, Names as NamesAlone, piece_of, state_after, cut}
+use Rattle.fv_top_words.specs.headline.Texts.{Texts, take_piece, gathered}
+use Rattle.fv_top_words.specs.headline.Numbers.{Numbers}
+use Rattle.fv_top_words.specs.headline.Runs.{Settings, Run, most_workers}
+use Rattle.fv_top_words.specs.Runs.{AreSound}
+use Rattle.fv_top_words.specs.headline.Commands.{Command, Play, Check, Make, Job, Playing, Checking, Making, most_voices}
 
 -- the kind of a word
 abbrev pub kind_in : Kinds → Kind

@@ -1,8 +1,8 @@
 // What the words ask for.
 
 ghost use Rattle.std.specs.Prelude.{◌≡◌, map, string_bytes, Some, IfOk};
-ghost use Rattle.fv_top_words.specs.Commands.{command_of, command_in, check_of, number_in, made, make_of};
-ghost use Rattle.fv_top_words.specs.Commands.{job_in};
+ghost use Rattle.fv_top_words.specs.headline.Commands.{command_of, command_in, check_of, number_in, made, make_of};
+ghost use Rattle.fv_top_words.specs.headline.Commands.{job_in};
 ghost use Rattle.fv_top_words.specs.Views.{texts_in, plain_in, command_answered, job_answered, IsInRange, IsJobInRange};
 
 use crate::cause::Cause;

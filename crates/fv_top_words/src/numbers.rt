@@ -1,7 +1,7 @@
 // The numbers that words spell.
 
 ghost use Rattle.std.specs.Prelude.{◌≡◌, option_map, option_copied};
-ghost use Rattle.fv_top_words.specs.Numbers.{number_of, number_if, numbers_of};
+ghost use Rattle.fv_top_words.specs.headline.Numbers.{number_of, number_if, numbers_of};
 ghost use Rattle.fv_top_words.specs.Views.{texts_in, numbers_in};
 
 use crate::texts::Texts;

@@ -3,8 +3,9 @@
 ghost use Rattle.std.specs.Prelude.{◌≡◌, ◌≤◌, ◌^◌, ◌<◌, true, option_copied, IfOk};
 ghost use Rattle.std.specs.Option.{ForSome};
 ghost use Rattle.fv_base.specs.declared.limits.TheConstants.{MOST_BLOCK};
-ghost use Rattle.fv_top_words.specs.Runs.{within, within_or, width, is_width, default_vector, vectors_in, settings_of};
-ghost use Rattle.fv_top_words.specs.Runs.{AreSound, run_of, by_kinds, of_jobs, output_kind, input_of, is_none_word, is_together, is_same};
+ghost use Rattle.fv_top_words.specs.headline.Runs.{within, within_or, width, is_width, default_vector, vectors_in, settings_of};
+ghost use Rattle.fv_top_words.specs.headline.Runs.{run_of, by_kinds, of_jobs, output_kind, input_of, is_none_word, is_together, is_same};
+ghost use Rattle.fv_top_words.specs.Runs.{AreSound};
 ghost use Rattle.fv_top_words.specs.Views.{texts_in, numbers_in, settings_in, settings_answered, run_in, run_answered};
 
 use crate::cause::Cause;

@@ -2,7 +2,7 @@
 
 ghost use Rattle.std.specs.Prelude.{◌≡◌, true};
 ghost use Rattle.std.specs.Option.{ForSome};
-ghost use Rattle.fv_top_words.specs.Runs.{is_width};
+ghost use Rattle.fv_top_words.specs.headline.Runs.{is_width};
 
 /// How a run is done.
 #[derive(Clone, Copy)]

@@ -1,7 +1,7 @@
 // One word.
 
 ghost use Rattle.std.specs.Prelude.{◌≡◌};
-ghost use Rattle.fv_top_words.specs.Pieces.{kind_of, is_dashed, option_kind};
+ghost use Rattle.fv_top_words.specs.headline.Pieces.{kind_of, is_dashed, option_kind};
 ghost use Rattle.fv_top_words.specs.Views.{kind_in};
 
 /// What a word is, where options may stand.

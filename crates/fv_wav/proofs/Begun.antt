@@ -6,7 +6,7 @@ use Rattle.std.proofs.Math.Seq.{take-add}
 use Rattle.std.proofs.lemmas.Bool.{cases_lt, le-leb, lt-leb}
 use Rattle.std.proofs.lemmas.List.{drop_all, drop_at, take_at, drop-drop, append-nil}
 use borrow.Rule.Slice.PartMut.{put_mid}
-use Rattle.fv_wav.specs.Reading.{Rest, rest_of, past, next}
+use Rattle.fv_wav.specs.headline.Reading.{Rest, rest_of, past, next}
 use Rattle.fv_wav.specs.declared.refusal.WaveRefusal.{WaveRefusal}
 use Rattle.fv_wav.specs.declared.refusal.WaveRefusal.TheVariants.{WaveTruncated}
 use Rattle.fv_wav.proofs.SampleLemmas.{next_err}

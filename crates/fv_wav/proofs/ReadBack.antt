@@ -7,11 +7,12 @@ use Rattle.std.proofs.lemmas.Bool.{le-leb}
 use Rattle.fv_base.specs.declared.limits.TheConstants.{MOST_CHANNELS}
 use Rattle.byteorder.specs.Endian.{little_bytes}
 use Rattle.byteorder.specs.Numbers.{little_number-reads_back, length-bytes_low_first}
-use Rattle.fv_num.specs.Words.{is_sample_width, clamped}
-use Rattle.fv_num.specs.Frames.{table}
+use Rattle.fv_num.specs.headline.Words.{is_sample_width, clamped}
+use Rattle.fv_num.specs.headline.Frames.{table}
 use Rattle.fv_wav.specs.declared.head.Format.{Format}
-use Rattle.fv_wav.specs.Reading.{rest_of, past, next, number, frame_size, tag_at, sound_at, format_chunk, data_chunk, walk, wave}
-use Rattle.fv_wav.specs.Samples.{sample_bytes, head_bytes, pad_bytes, data_size, data_limit, layout_of, frames_in}
+use Rattle.fv_wav.specs.headline.Reading.{rest_of, past, next, number, frame_size, tag_at, sound_at, format_chunk, data_chunk, walk, wave}
+use Rattle.fv_wav.specs.headline.Samples.{head_bytes, pad_bytes, data_size, data_limit}
+use Rattle.fv_wav.specs.Samples.{sample_bytes, layout_of, frames_in}
 use Rattle.fv_wav.specs.Written.{file_bytes, head_of, CanBeWritten}
 use Rattle.fv_pcm.specs.declared.coding.Coding.TheVariants as coding
 use Rattle.fv_pcm.proofs.Widths.{at_width}

@@ -1,10 +1,10 @@
 -- Readings go on from one call to the next.
 use Rattle.std.proofs.Common.{◌≡◌, ℕ, ◌+◌, List, [], ◌++◌, length, sym, ◌∙◌, ap, refl, length-append}
 use Rattle.std.specs.Prelude.{IsTrue}
-use Rattle.fv_outside.specs.Desk.{DeskState}
+use Rattle.fv_outside.specs.headline.Desk.{DeskState}
 use Rattle.fv_base.specs.declared.role.Role.TheVariants.{Input}
 use Rattle.fv_outside.proofs.States.{told_before, fault_earlier, unfailing_later}
-use Rattle.fv_wav.specs.Reading.{rest_of}
+use Rattle.fv_wav.specs.headline.Reading.{rest_of}
 use Rattle.fv_wav.specs.Stopping.{Passes, Stops, IsCause, IsSaid}
 use Rattle.fv_wav.specs.declared.refusal.WaveRefusal.{WaveRefusal}
 use Rattle.fv_wav.specs.declared.refusal.WaveRefusal.TheVariants.{ReadFault, NotWave, WaveTruncated, WaveFormat, WaveChunks}

@@ -1,8 +1,8 @@
 -- A chunk's name, and then the chunk.
 use Rattle.std.proofs.Common.{◌≡◌, ℕ, ◌+◌, List, length, ◌∙◌, arith, Ok, Err}
-use Rattle.fv_outside.specs.Desk.{DeskState}
+use Rattle.fv_outside.specs.headline.Desk.{DeskState}
 use Rattle.fv_base.specs.declared.role.Role.TheVariants.{Input}
-use Rattle.fv_wav.specs.Reading.{rest_of, next, kind_of}
+use Rattle.fv_wav.specs.headline.Reading.{rest_of, next, kind_of}
 use Rattle.fv_wav.specs.Stopping.{Passes, Stops, Follows, Continues, walk_from, chunk_from}
 use Rattle.fv_wav.specs.declared.head.Kind.{Kind}
 use Rattle.fv_wav.specs.declared.chunks.Walk.{Walk}

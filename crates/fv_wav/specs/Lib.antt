@@ -1,6 +1,7 @@
-pub mod Reading
+pub mod headline
 pub mod Stopping
 pub mod Samples
 pub mod Files
 pub mod Written
 pub mod Examples
+pub mod inner

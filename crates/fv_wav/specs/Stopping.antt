@@ -1,11 +1,12 @@
 -- How readers of a WAV file go on and stop.
 use Rattle.std.specs.Prelude.{◌≡◌, ℕ, ◌+◌, ◌^◌, ◌<◌, ◌≤◌, true, IsTrue, List, length, IfSome, Result, Ok}
 use Rattle.fv_base.specs.declared.limits.TheConstants.{MOST_CHANNELS}
-use Rattle.fv_outside.specs.Desk.{DeskState, HasFault, KeepsFaults, IsUnfailing}
+use Rattle.fv_outside.specs.headline.Desk.{DeskState, HasFault, KeepsFaults, IsUnfailing}
 use Rattle.fv_base.specs.declared.role.Role.TheVariants.{Input}
-use Rattle.fv_num.specs.Words.{is_sample_width}
+use Rattle.fv_num.specs.headline.Words.{is_sample_width}
 use Rattle.fv_outside.specs.Desk.{Takes, TakesSome}
-use Rattle.fv_wav.specs.Reading.{rest_of, walk, chunk_at, unknown_size}
+use Rattle.fv_wav.specs.headline.Reading.{rest_of, walk, unknown_size}
+use Rattle.fv_wav.specs.inner.Reading.{chunk_at}
 use Rattle.fv_wav.specs.declared.head.Head.{Head}
 use Rattle.fv_wav.specs.declared.head.Format.{Format}
 use Rattle.fv_wav.specs.declared.head.Kind.{Kind}

@@ -1,11 +1,12 @@
 -- What is written is read again (RIFF WAVE 1991; this project's profile).
 use Rattle.std.specs.Prelude.{◌≡◌, ℕ, ◌+◌, ◌*◌, ◌/◌, ◌^◌, ◌<◌, ◌≤◌, true, List, ◌++◌, length, get_or, flat_map, Ok, ℤ, pos}
 use Rattle.fv_base.specs.declared.limits.TheConstants.{MOST_CHANNELS}
-use Rattle.fv_num.specs.Words.{is_sample_width, clamped}
-use Rattle.fv_num.specs.Frames.{table}
+use Rattle.fv_num.specs.headline.Words.{is_sample_width, clamped}
+use Rattle.fv_num.specs.headline.Frames.{table}
 use Rattle.fv_wav.specs.declared.head.Head.{Head}
-use Rattle.fv_wav.specs.Reading.{wave}
-use Rattle.fv_wav.specs.Samples.{head_bytes, sample_bytes, pad_bytes, data_size, data_limit, frames_in}
+use Rattle.fv_wav.specs.headline.Reading.{wave}
+use Rattle.fv_wav.specs.headline.Samples.{head_bytes, pad_bytes, data_size, data_limit}
+use Rattle.fv_wav.specs.Samples.{sample_bytes, frames_in}
 
 -- a whole file of these samples, one frame after another
 abbrev pub file_bytes : (channels rate bits : ℕ) → List ℤ → List ℕ

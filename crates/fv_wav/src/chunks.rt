@@ -3,9 +3,10 @@
 ghost use Rattle.std.specs.Prelude.{◌≡◌, ℕ, ◌+◌, ◌-◌, ◌^◌, ◌<◌, ◌≤◌, List, ◌++◌, length, IsTrue, Ok, Err, Some, IfOk, IfErr, IfSome, OnOk};
 ghost use Rattle.fv_base.specs.declared.limits.TheConstants.{MOST_CHUNKS};
 ghost use Rattle.fv_base.specs.declared.role.Role.TheVariants.{Input};
-ghost use Rattle.fv_outside.specs.Desk.{Takes, KeepsFaults};
+ghost use Rattle.fv_outside.specs.headline.Desk.{KeepsFaults};
+ghost use Rattle.fv_outside.specs.Desk.{Takes};
 ghost use Rattle.fv_wav.specs.declared.head.Kind.TheVariants as kind;
-ghost use Rattle.fv_wav.specs.Reading.{rest_of, wave, kind_of, is_form};
+ghost use Rattle.fv_wav.specs.headline.Reading.{rest_of, wave, kind_of, is_form};
 ghost use Rattle.fv_wav.specs.Stopping.{Passes, Stops, IsFormat, IsHead, Continues, Follows, walk_from, chunk_from};
 
 use crate::format::read_format;

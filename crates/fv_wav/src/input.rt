@@ -2,7 +2,7 @@
 
 ghost use Rattle.std.specs.Prelude.{◌≡◌, ◌+◌, ◌^◌, ◌<◌, length, Ok, Err, IfOk, IfErr};
 ghost use Rattle.fv_base.specs.declared.role.Role.TheVariants.{Input};
-ghost use Rattle.fv_wav.specs.Reading.{rest_of, past, next, number};
+ghost use Rattle.fv_wav.specs.headline.Reading.{rest_of, past, next, number};
 ghost use Rattle.fv_wav.specs.Stopping.{Passes, Stops};
 
 use crate::refusal::WaveRefusal;

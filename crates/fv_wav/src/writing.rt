@@ -4,11 +4,13 @@ ghost use Rattle.std.specs.Prelude.{◌≡◌, ◌+◌, ◌*◌, ◌/◌, ◌≤
 ghost use Rattle.fv_base.specs.declared.limits.TheConstants.{MOST_CHANNELS};
 ghost use Rattle.byteorder.specs.Endian.{little_bytes};
 ghost use Rattle.fv_base.specs.declared.role.Role.TheVariants.{Output};
-ghost use Rattle.fv_base.specs.Lists.{IsPrefixOf};
-ghost use Rattle.fv_outside.specs.Desk.{Appends, HasFault, KeepsFaults, IsUnfailing};
-ghost use Rattle.fv_num.specs.Words.{is_sample_width};
+ghost use Rattle.fv_base.specs.headline.Lists.{IsPrefixOf};
+ghost use Rattle.fv_outside.specs.headline.Desk.{HasFault, KeepsFaults, IsUnfailing};
+ghost use Rattle.fv_outside.specs.Desk.{Appends};
+ghost use Rattle.fv_num.specs.headline.Words.{is_sample_width};
 ghost use Rattle.fv_wav.specs.declared.refusal.WriteRefusal.TheVariants.{WriteFault};
-ghost use Rattle.fv_wav.specs.Samples.{sample_bytes, head_bytes, pad_bytes, data_limit};
+ghost use Rattle.fv_wav.specs.headline.Samples.{head_bytes, pad_bytes, data_limit};
+ghost use Rattle.fv_wav.specs.Samples.{sample_bytes};
 
 use crate::refusal::WriteRefusal;
 use byteorder::{ByteOrder, LittleEndian};

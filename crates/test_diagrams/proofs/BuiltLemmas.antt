@@ -4,7 +4,8 @@ use Rattle.std.proofs.lemmas.Bool.{cases_lt, or_from}
 use Rattle.std.proofs.lemmas.List.{length_push}
 use Rattle.fv_diagram.specs.declared.node.Node.{Node}
 use Rattle.fv_diagram.specs.declared.node.Node.TheVariants as node
-use Rattle.fv_diagram.specs.Diagram.{Diagram, control_bound, has_table_primitive, IsFree}
+use Rattle.fv_diagram.specs.headline.Diagram.{Diagram, has_table_primitive}
+use Rattle.fv_diagram.specs.Diagram.{control_bound, IsFree}
 use Rattle.std.specs.Prelude.{◌||◌, length}
 use Rattle.fv_diagram.specs.Composed.{IsComposed}
 use Rattle.fv_diagram.proofs.Composed.{composed_is_well}

@@ -3,7 +3,8 @@ use Rattle.std.specs.Prelude.{◌≡◌, ℕ, ◌<◌, ◌≤◌, false}
 use Rattle.fv_diagram.specs.declared.node.Node.{Node}
 use Rattle.fv_diagram.specs.declared.node.Node.TheVariants as node
 use Rattle.fv_diagram.specs.Composed.{IsComposed}
-use Rattle.fv_diagram.specs.Diagram.{Diagram, control_bound, is_table_primitive, has_table_primitive, IsWellFormed, HasNoFreeSlot}
+use Rattle.fv_diagram.specs.headline.Diagram.{Diagram, is_table_primitive, has_table_primitive}
+use Rattle.fv_diagram.specs.Diagram.{control_bound, IsWellFormed, HasNoFreeSlot}
 use Rattle.fv_diagram.specs.Arena.{Arena, count_of, tree_of, ChildrenBelow}
 
 -- a diagram that can run, with two controls at most

@@ -64,6 +64,34 @@ fn delayed(x: u64, d: i32, max: u32, before: &[Vec<i32>], now: &[i32]) -> i32 {
     }
 }
 
+// The numbers of a table, none where it is not there.
+fn list_of(graph: &Graph, table: u64) -> &[i32] {
+    if table < graph.tables() { graph.table(table) } else { &[] }
+}
+
+// The place that an index means in a list: its own, or the nearest one.
+fn place(list: &[i32], index: i32) -> u64 {
+    if index <= 0 || list.is_empty() {
+        return 0;
+    }
+    u64::from(index.cast_unsigned()).min(list.len() as u64 - 1)
+}
+
+// What the place at the third signal has of a list in which the second is written at the first at each time: what was written
+// there last, and the list's own number where nothing was.
+fn written(list: &[i32], signals: [u64; 3], before: &[Vec<i32>], now: &[i32]) -> i32 {
+    let here = place(list, number_at(now, signals[2]));
+    if place(list, number_at(now, signals[0])) == here {
+        return number_at(now, signals[1]);
+    }
+    for values in before.iter().rev() {
+        if place(list, number_at(values, signals[0])) == here {
+            return number_at(values, signals[1]);
+        }
+    }
+    number_at(list, here)
+}
+
 // The value of a signal, from the values before its time and those of the signals before it.
 fn value(
     graph: &Graph,
@@ -86,6 +114,16 @@ fn value(
             None => 0,
         },
         Signal::Member { group, i } => number_at(now, definition(graph, group, i)),
+        Signal::Read { table, r } => {
+            let list = list_of(graph, table);
+            number_at(list, place(list, number_at(now, r.number())))
+        }
+        Signal::Write { table, w, x, r } => written(
+            list_of(graph, table),
+            [w.number(), x.number(), r.number()],
+            before,
+            now,
+        ),
     }
 }
 

@@ -1,6 +1,6 @@
 -- The code of a runner as it grows (this project's profile).
 use Rattle.std.specs.Prelude.{◌≡◌, ℕ, suc, ◌+◌, ◌<◌, ◌≤◌, Bool, true, false, List, [], ◌∷◌, ◌++◌, length, map, take, get_or, max, All, ℤ, pos, slice_set}
-use Rattle.fv_num.specs.Frames.{table}
+use Rattle.fv_num.specs.headline.Frames.{table}
 use Rattle.fv_num.specs.declared.op.Op.TheVariants.{Select2, Add, Rem}
 use Rattle.fv_diagram.specs.declared.step.Step.{Step}
 use Rattle.fv_diagram.specs.declared.step.Step.TheVariants as step

@@ -1,7 +1,8 @@
 -- The work that is pending in a walk over a diagram (this project's profile).
 use Rattle.std.specs.Prelude.{◌≡◌, ℕ, ◌+◌, ◌*◌, ◌<◌, ◌≤◌, List, [], ◌∷◌, ◌++◌, length, drop, All}
-use Rattle.fv_diagram.specs.Diagram.{inputs, outputs, size, IsWellFormed}
-use Rattle.fv_diagram.specs.Streams.{dealt}
+use Rattle.fv_diagram.specs.headline.Diagram.{inputs, outputs, size}
+use Rattle.fv_diagram.specs.Diagram.{IsWellFormed}
+use Rattle.fv_diagram.specs.headline.Streams.{dealt}
 use Rattle.fv_diagram.specs.Wires.{plugged}
 use Rattle.fv_diagram.specs.Arena.{Arena, count_of, tree_of}
 use Rattle.fv_diagram.specs.declared.pending.Task.{Task}

@@ -1,10 +1,10 @@
 -- Looking for what a table's numbers may not depend on, piece by piece (this project's profile).
 use Rattle.std.specs.Prelude.{◌≡◌, ℕ, ◌+◌, ◌*◌, ◌<◌, Bool, true, false, ◌&&◌, List, [], ◌∷◌, drop}
-use Rattle.fv_diagram.specs.Diagram.{size}
+use Rattle.fv_diagram.specs.headline.Diagram.{size}
 use Rattle.fv_diagram.specs.Arena.{Arena, count_of, tree_of}
 use Rattle.fv_diagram_head.specs.declared.fixed.Look.{Look}
 use Rattle.fv_diagram_head.specs.declared.fixed.Look.TheVariants as look
-use Rattle.fv_diagram_head.specs.Heads.{is_closed}
+use Rattle.fv_diagram_head.specs.headline.Heads.{is_closed}
 
 -- a diagram that is looked at is there
 abbrev pub IsInside : Arena → Look → Type 0

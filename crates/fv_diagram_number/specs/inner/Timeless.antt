@@ -1,15 +1,15 @@
 -- What timeless diagrams give at a time, and the work that finds it: numbers stand side by side, and each piece of work takes
 -- some of them and writes others (this project's profile).
 use Rattle.std.specs.Prelude.{◌≡◌, ◌⊎◌, ℕ, ◌+◌, ◌*◌, ◌<◌, ◌≤◌, Bool, true, false, ◌&&◌, List, [], ◌∷◌, ◌++◌, length, take, drop, ℤ, pos}
-use Rattle.fv_num.specs.Words.{argument}
-use Rattle.fv_num.specs.Frames.{Frame, table}
-use Rattle.fv_diagram.specs.Diagram.{Diagram, Primitive, Constant, Par, Seq, Split, Merge, inputs, outputs, size}
+use Rattle.fv_num.specs.headline.Words.{argument}
+use Rattle.fv_num.specs.headline.Frames.{Frame, table}
+use Rattle.fv_diagram.specs.headline.Diagram.{Diagram, Primitive, Constant, Par, Seq, Split, Merge, inputs, outputs, size}
 use Rattle.fv_diagram.specs.Composed.{IsComposed}
-use Rattle.fv_diagram.specs.Streams.{primitive_at, dealt, merged}
+use Rattle.fv_diagram.specs.headline.Streams.{primitive_at, dealt, merged}
 use Rattle.fv_diagram.specs.Arena.{Arena, count_of, tree_of}
 use Rattle.fv_diagram_number.specs.declared.timeless.Task.{Task}
 use Rattle.fv_diagram_number.specs.declared.timeless.Task.TheVariants as task
-use Rattle.fv_diagram_number.specs.Numbers.{is_timeless}
+use Rattle.fv_diagram_number.specs.headline.Numbers.{is_timeless}
 
 -- what a timeless diagram gives at a time, from what it takes at that time (0 for the others, which nothing asks)
 abbrev pub given : Diagram → Frame → Frame

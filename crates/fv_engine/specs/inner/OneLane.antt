@@ -1,6 +1,6 @@
 -- A lane of one sample.
 use Rattle.std.specs.Prelude.{Bool, true, false, [], ◌∷◌, ℤ}
-use Rattle.fv_loopcode.specs.Lanes.{Lane}
+use Rattle.fv_loopcode.specs.headline.Lanes.{Lane}
 
 -- the lane that has this sample, or room for one
 abbrev pub lane_with : Bool → ℤ → Lane

@@ -1,10 +1,10 @@
 -- What a block begins with, and what it leaves (this project's profile).
 use Rattle.std.specs.Prelude.{◌≡◌, ℕ, [], List, length, ℤ}
-use Rattle.fv_outside.specs.Tasks.{Tasks}
+use Rattle.fv_outside.specs.headline.Tasks.{Tasks}
 use Rattle.fv_outside.specs.declared.gate.Line.{Line}
 use Rattle.fv_pool.specs.Lengths.{lengths_of}
 use Rattle.fv_pool.specs.Region.{cells_of}
-use Rattle.fv_loopcode.specs.State.{State, lanes_alone}
+use Rattle.fv_loopcode.specs.headline.State.{State, lanes_alone}
 use Rattle.fv_lines.specs.Solo.{opening_lanes, AreFramed}
 use Rattle.fv_engine_tasks.specs.Block.{Block, IsReal}
 use Rattle.fv_engine_tasks.specs.Jobs.{IsJob, RegistersFit}

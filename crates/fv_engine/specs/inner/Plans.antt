@@ -1,9 +1,9 @@
 -- A plan as a block sees it (this project's profile).
 use Rattle.std.specs.Prelude.{ℕ, ◌<◌, List, [], length, ℤ, pos}
-use Rattle.fv_num.specs.Words.{argument}
-use Rattle.fv_loopcode.specs.State.{lanes_alone}
-use Rattle.fv_loopcode.specs.Code.{registers_after, NamesHeld, NamesInput}
-use Rattle.fv_split_plan.specs.View.{PlanView, code_of}
+use Rattle.fv_num.specs.headline.Words.{argument}
+use Rattle.fv_loopcode.specs.headline.State.{lanes_alone}
+use Rattle.fv_loopcode.specs.headline.Code.{registers_after, NamesHeld, NamesInput}
+use Rattle.fv_split_plan.specs.headline.View.{PlanView, code_of}
 use Rattle.fv_engine_tasks.specs.Block.{Block}
 use Rattle.fv_engine_parcels.specs.Contents.{parts_of}
 

@@ -1,11 +1,12 @@
 -- The lanes of a block as it begins and as it ends.
 use Rattle.std.specs.Prelude.{◌≡◌, ℕ, ◌<◌, List, length, map, slice_index_or}
-use Rattle.fv_outside.specs.Tasks.{Tasks}
+use Rattle.fv_outside.specs.headline.Tasks.{Tasks}
 use Rattle.fv_loopcode.specs.Obeys.{Content}
-use Rattle.fv_loopcode.specs.State.{State, lanes_alone}
+use Rattle.fv_loopcode.specs.headline.State.{State, lanes_alone}
 use Rattle.fv_lines.specs.Writer.{list_of, written_by}
 use Rattle.fv_lines.specs.declared.writer.LaneWriter.{LaneWriter}
-use Rattle.fv_engine_tasks.specs.Block.{Block, ObeysBlock, HoldUpTo, none_done, IsReal, vectors_of}
+use Rattle.fv_engine_tasks.specs.headline.Block.{vectors_of}
+use Rattle.fv_engine_tasks.specs.Block.{Block, ObeysBlock, HoldUpTo, none_done, IsReal}
 use Rattle.fv_engine_lanes.specs.Lanes.{lane_open}
 use Rattle.fv_engine_parcels.specs.Contents.{SameWriter, block_of, tasks_in}
 use Rattle.fv_engine_parcels.specs.declared.start.Start.{Start}

@@ -1,9 +1,9 @@
 -- A task of a loop, between the parcels that it takes and those that it leaves (this project's profile).
 use Rattle.std.specs.Prelude.{◌≡◌, ℕ, suc, ◌-◌, ◌/◌, ◌<◌, ◌≤◌, List, length, map, slice_index}
-use Rattle.fv_outside.specs.Tasks.{Tasks}
+use Rattle.fv_outside.specs.headline.Tasks.{Tasks}
 use Rattle.fv_graph.specs.Graph.{stride, place_in, pair_at}
 use Rattle.fv_loopcode.specs.declared.step.Step.{Step}
-use Rattle.fv_loopcode.specs.Lanes.{Lane, lane_of}
+use Rattle.fv_loopcode.specs.headline.Lanes.{Lane, lane_of}
 use Rattle.fv_loopcode.specs.Obeys.{Content, Holds, HoldsJust}
 use Rattle.fv_engine_lanes.specs.Plans.{own_lanes, locals_of, lanes_of_all, IsLocalCode}
 use Rattle.fv_engine_parcels.specs.Contents.{tasks_in, IsContentOf, upto}

@@ -1,13 +1,14 @@
 -- How an engine's run over a tape stops (this project's profile).
 use Rattle.std.specs.Prelude.{◌≡◌, ℕ, ◌*◌, List, length, ℤ, Option}
-use Rattle.fv_outside.specs.Journal.{Told}
+use Rattle.fv_outside.specs.headline.Journal.{Told}
 use Rattle.fv_tape.specs.Acts.{Act}
 use Rattle.fv_control.specs.declared.script.Change.{Change}
-use Rattle.fv_control.specs.Streams.{control_streams}
+use Rattle.fv_control.specs.headline.Streams.{control_streams}
 use Rattle.fv_engine.specs.Stands.{EngineView}
-use Rattle.fv_engine_render.specs.Blocks.{StillTells}
-use Rattle.fv_engine_render.specs.Plans.{AreNumbers}
-use Rattle.fv_engine_render.specs.Runs.{HasRun, PlaysAll}
+use Rattle.fv_engine_render.specs.headline.Blocks.{StillTells}
+use Rattle.fv_engine_render.specs.inner.Plans.{AreNumbers}
+use Rattle.fv_engine_render.specs.headline.Runs.{HasRun}
+use Rattle.fv_engine_render.specs.inner.Runs.{PlaysAll}
 use Rattle.fv_engine_render.specs.Stops.{IsAct}
 use Rattle.fv_engine_render.specs.declared.blocks.RunSizes.{RunSizes}
 use Rattle.fv_engine_render.specs.declared.blocks.Ran.{Ran}

@@ -1,22 +1,23 @@
 -- What the machine's lists and pending work stand for.
 use Rattle.std.specs.Prelude.{◌≡◌, ◌⊎◌, ℕ, suc, ◌+◌, ◌<◌, ◌^◌, nat_lt, List, [], ◌∷◌, ◌++◌, length, drop, Option, Some, None, Result, Ok, Err, if◌then◌else◌}
-use Rattle.fv_lex.specs.Token.{Lexed}
-use Rattle.fv_parse_grammar.specs.Tree.{Tree, items, start_of}
-use Rattle.fv_parse_grammar.specs.Tree as tree
+use Rattle.fv_lex.specs.headline.Token.{Lexed}
+use Rattle.fv_parse_grammar.specs.headline.Tree.{Tree, items, start_of}
+use Rattle.fv_parse_grammar.specs.headline.Tree as tree
 use Rattle.fv_parse_grammar.specs.declared.form.Slider.{Slider as SliderKind}
 use Rattle.fv_parse_grammar.specs.declared.form.Iteration.{Iteration as Repetition}
-use Rattle.fv_parse.specs.Trees.{Parsed, size_of, tree_in, text_of, label_of, first_named}
-use Rattle.fv_diagram.specs.Diagram.{Diagram}
+use Rattle.fv_parse.specs.headline.Trees.{text_of, label_of}
+use Rattle.fv_parse.specs.Trees.{Parsed, size_of, tree_in, first_named}
+use Rattle.fv_diagram.specs.headline.Diagram.{Diagram}
 use Rattle.fv_diagram.specs.Arena.{count_of}
 use Rattle.fv_eval_drawing.specs.Makes.{AreThere, trees_of}
 use Rattle.fv_rules.specs.declared.refusal.EvalRefusal.{EvalRefusal}
 use Rattle.fv_rules.specs.declared.refusal.EvalRefusal.TheVariants.{NoMemory}
 use Rattle.fv_eval_scopes.specs.declared.value.Value as code_value
 use Rattle.fv_eval_scopes.specs.declared.value.Value.TheVariants as value
-use Rattle.fv_rules.specs.Values.{Name, Value, Flat, Abstraction, Rules, Env, Bound, Taken, And, count_taken, in_order}
-use Rattle.fv_rules.specs.Matching.{Bindings, chosen}
-use Rattle.fv_rules.specs.Steps.{State, Outcome}
-use Rattle.fv_rules.specs.Rules.{slider_kind, width}
+use Rattle.fv_rules.specs.headline.Values.{Name, Value, Flat, Abstraction, Rules, Env, Bound, Taken, And, count_taken, in_order}
+use Rattle.fv_rules.specs.headline.Matching.{Bindings, chosen}
+use Rattle.fv_rules.specs.headline.Steps.{State, Outcome}
+use Rattle.fv_rules.specs.headline.Rules.{slider_kind, width}
 use Rattle.fv_eval_scopes.specs.Shows.{World, ShowsTree, Draws, ShowsValue, ShowsValues, ShowsEnv, ShowsTaken, IsNamed, IsInside, Grows, rules_in}
 use Rattle.fv_eval_machine.specs.Machine.{ForValue, Function, Argument, Leftover, Parameter, ForDiagram, Left, Right, Later, Negated, Ports, Binding, Turning}
 use Rattle.fv_eval_machine.specs.Machine.{Counting, Body, Finish, Continuation, Valued, Drawn, Visit, Call, Give, Config, Running, Ended}

@@ -1,6 +1,6 @@
 -- Names that trees define.
 use Rattle.std.specs.Prelude.{ℕ, Option, Some, None}
-use Rattle.fv_parse_grammar.specs.Tree.{Tree, Constant, Function}
+use Rattle.fv_parse_grammar.specs.headline.Tree.{Tree, Constant, Function}
 
 -- the name that a definition is of
 abbrev pub defined_by : Tree → Option ℕ

@@ -1,11 +1,12 @@
 -- What the steps of a look-up answer (this project's profile).
 use Rattle.std.specs.Prelude.{◌≡◌, ℕ, suc, ◌<◌, Bool, true, false, List, [], ◌∷◌, length, filter, Option, Some, None}
 use Rattle.std.specs.List.{list_all}
-use Rattle.fv_parse_grammar.specs.Tree.{Tree, Named, items}
-use Rattle.fv_parse.specs.Trees.{Parsed, size_of, tree_in, text_of, first_named}
+use Rattle.fv_parse_grammar.specs.headline.Tree.{Tree, Named, items}
+use Rattle.fv_parse.specs.headline.Trees.{text_of}
+use Rattle.fv_parse.specs.Trees.{Parsed, size_of, tree_in, first_named}
 use Rattle.fv_eval_scopes.specs.declared.value.Meaning as code_meaning
 use Rattle.fv_eval_scopes.specs.declared.value.Scope as code_scope
-use Rattle.fv_rules.specs.Values.{Name, Env, Outermost, Bound, Scope, Meaning, is_of, definition_of, or_else, lookup}
+use Rattle.fv_rules.specs.headline.Values.{Name, Env, Outermost, Bound, Scope, Meaning, is_of, definition_of, or_else, lookup}
 use Rattle.fv_eval_scopes.specs.Shows.{World, IsNamed, ShowsEnv, ShowsMeaning}
 
 -- the environment around the innermost scope

@@ -2,11 +2,11 @@
 use Rattle.std.specs.Prelude.{◌≡◌, ◌⊎◌, ℕ, ◌+◌, ◌<◌, Bool, true, false, Option, Some, None, Result, Ok, Err}
 use Rattle.fv_diagram.specs.declared.node.Primitive.{Primitive as Prim}
 use Rattle.fv_diagram.specs.declared.node.Primitive.TheVariants as prim
-use Rattle.fv_diagram.specs.Diagram.{Diagram, Primitive, outputs, table_inputs}
+use Rattle.fv_diagram.specs.headline.Diagram.{Diagram, Primitive, outputs, table_inputs}
 use Rattle.fv_diagram.specs.Arena.{Arena, count_of, tree_of}
 use Rattle.fv_rules.specs.declared.refusal.EvalRefusal.{EvalRefusal}
 use Rattle.fv_rules.specs.declared.refusal.EvalRefusal.TheVariants.{NoMemory}
-use Rattle.fv_rules.specs.Steps.{give, grow, misfit, put, put_after, refuse, tabled}
+use Rattle.fv_rules.specs.headline.Steps.{give, grow, misfit, put, put_after, refuse, tabled}
 use Rattle.fv_eval_drawing.specs.Makes.{Becomes, Canvas}
 
 -- the primitive that becomes a table which is written, or is read alone

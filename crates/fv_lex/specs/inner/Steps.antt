@@ -8,10 +8,10 @@ use Rattle.fv_lex.specs.declared.scan.Class.{Class}
 use Rattle.fv_lex.specs.declared.scan.Class.TheVariants as classes
 use Rattle.fv_lex.specs.declared.next.Next.{Next}
 use Rattle.fv_lex.specs.declared.next.Next.TheVariants.{End, Found, Refused}
-use Rattle.fv_lex.specs.Bytes.{is_blank, is_letter, is_digit, is_underscore, is_name_byte, is_quote, is_in_line, begins, star, dot, slash}
-use Rattle.fv_base.specs.Digits.{decimal_after}
-use Rattle.fv_lex.specs.Symbols.{singles, at_byte, double}
-use Rattle.fv_lex.specs.Pieces.{is_real_tail, greatest_literal}
+use Rattle.fv_lex.specs.headline.Bytes.{is_blank, is_letter, is_digit, is_underscore, is_name_byte, is_quote, is_in_line, begins, star, dot, slash}
+use Rattle.fv_base.specs.headline.Digits.{decimal_after}
+use Rattle.fv_lex.specs.headline.Symbols.{singles, at_byte, double}
+use Rattle.fv_lex.specs.headline.Pieces.{is_real_tail, greatest_literal}
 
 -- the byte is of the class (this project's profile)
 abbrev pub is_in : Class → ℕ → Bool

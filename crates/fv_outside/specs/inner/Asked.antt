@@ -1,5 +1,5 @@
 -- A request of the code, as clauses see it.
-use Rattle.fv_outside.specs.Requests.{Request, to_read, to_write}
+use Rattle.fv_outside.specs.headline.Requests.{Request, to_read, to_write}
 use Rattle.fv_outside.specs.declared.requests.Request.{Request as Asked}
 use Rattle.fv_outside.specs.declared.requests.Request.TheVariants.{Read, Write}
 

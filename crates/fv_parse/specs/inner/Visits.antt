@@ -4,7 +4,7 @@ use Rattle.fv_parse_tree.specs.declared.node.TreeId.{TreeId}
 use Rattle.fv_parse_tree.specs.declared.node.TreeNode.{TreeNode}
 use Rattle.fv_parse_tree.specs.declared.node.TreeNode.TheVariants as nodes
 use Rattle.fv_parse.specs.declared.definitions.Defined.{Defined}
-use Rattle.fv_parse.specs.Definitions.{as_name}
+use Rattle.fv_parse.specs.headline.Definitions.{as_name}
 
 -- the parts of a pattern's node that are left to visit (this project's profile)
 abbrev pub parts_left : TreeNode → List TreeId

@@ -1,8 +1,8 @@
 -- What a walk over a diagram makes of a graph of signals (this project's profile).
-use Rattle.std.specs.Prelude.{◌≡◌, ℕ, ℤ, Bool, zero, suc, ◌<◌, List, [], ◌∷◌, ◌++◌, length, map, get_or, drop, pos}
-use Rattle.fv_num.specs.declared.op.Op.TheVariants.{Select2}
+use Rattle.std.specs.Prelude.{◌≡◌, ℕ, ℤ, Bool, zero, suc, true, false, ◌<◌, List, [], ◌∷◌, ◌++◌, length, map, get_or, drop, pos}
+use Rattle.fv_num.specs.declared.op.Op.TheVariants.{Add, Rem, Select2}
 use Rattle.fv_signal.specs.declared.signal.Signal.{Signal}
-use Rattle.fv_signal.specs.declared.signal.Signal.TheVariants.{Input, Const, Control, Point, Delay, Back, Member}
+use Rattle.fv_signal.specs.declared.signal.Signal.TheVariants.{Input, Const, Control, Point, Delay, Back, Member, Read, Write}
 use Rattle.fv_share.specs.Drafts.{Draft, IsPending, BacksWithin, with_group, with_members}
 use Rattle.fv_share.specs.Drafts as share
 use Rattle.fv_diagram.specs.declared.signals.Leaf.{Leaf}
@@ -81,12 +81,43 @@ shut (f ∷ fs) outs s =
 abbrev pub closed_of : List ℕ → Progress → List ℕ × Progress
 closed_of outs s = shut s.feedbacks outs s
 
--- Signals have no tables: no diagram with a waveform or a table is walked.
+-- x and one more, modulo n
+abbrev pub put_next : Progress → (x n : ℕ) → ℕ × Progress
+put_next s x n =
+    let one = put s (Const (pos 1)) in
+    let sum = put one.1 (Point Add (padded (x ∷ one.0 ∷ []))) in
+    let many = put sum.1 (Const (pos n)) in
+    put many.1 (Point Rem (padded (sum.0 ∷ many.0 ∷ [])))
+
+-- a group gets its members
+abbrev pub given : Progress → (group : ℕ) → List ℕ → Progress
+given s group outs = record s { draft = with_members s.draft group outs }
+
+-- a group of its own, and its Back
+abbrev pub late_of : Progress → ℕ × Progress
+late_of s = put (grouped s) (Back (length s.draft.groups) 0)
+
+-- and the number after that of the Back, modulo n
+abbrev pub turned : ℕ → Progress → ℕ × Progress
+turned n s = put_next (late_of s).1 (late_of s).0 n
+
+-- A count that begins anew: the Back of a group whose one member is the number after it.
 abbrev pub counted_of : ℕ → Progress → ℕ × Progress
-counted_of n s = leaf_of (leaf.Number (pos 0)) [] s
+counted_of n s = ((late_of s).0, given (turned n s).1 (length s.draft.groups) ((turned n s).0 ∷ []))
+
+-- a table more, where it is not there, and its number
+abbrev pub listed : Progress → List ℤ → ℕ × Progress
+listed s T = let r = share.put_table s.draft T in (r.0, record s { draft = r.1 })
+
+-- a table that is read at one wire, or written at the first of three, where it takes the second, and read at the third
+abbrev pub table_node : (writes : Bool) → (table : ℕ) → List ℕ → Signal
+table_node false table ins = Read table (get_or ins 0 0)
+table_node true table ins = Write table (get_or ins 0 0) (get_or ins 1 0) (get_or ins 2 0)
 
 abbrev pub tabled_of : Bool → List ℤ → List ℕ → Progress → ℕ × Progress
-tabled_of writes T ins s = leaf_of (leaf.Number (pos 0)) [] s
+tabled_of writes T ins s =
+    let q = listed s T in
+    put q.1 (table_node writes q.0 ins)
 
 -- what a walk does to the graph
 abbrev pub signal_hooks : Hooks ℕ Progress
@@ -114,6 +145,8 @@ IsAdmitted fs (Control k) = Unit {0}
 IsAdmitted fs (Point op args) = Unit {0}
 IsAdmitted fs (Delay x back max) = Unit {0}
 IsAdmitted fs (Member group k) = Unit {0}
+IsAdmitted fs (Read table r) = Unit {0}
+IsAdmitted fs (Write table w x r) = Unit {0}
 
 -- the groups of the feedbacks have numbers below n, the inner ones greater than the outer ones
 abbrev pub AreNested : (n : ℕ) → List Feedback → Type 0
@@ -132,7 +165,7 @@ pub record IsProgress (s : Progress) : Type 0 where
 
 -- nothing so far, with all delays to come
 abbrev pub unstarted : List ℕ → Progress
-unstarted delays = record { draft = record { signals = []; groups = []; closed = [] }; delays = delays; feedbacks = [] }
+unstarted delays = record { draft = record { signals = []; groups = []; closed = []; tables = [] }; delays = delays; feedbacks = [] }
 
 -- the number 0 alone
 abbrev pub started : List ℕ → Progress

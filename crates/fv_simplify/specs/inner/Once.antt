@@ -1,6 +1,6 @@
 -- What each run of the pass makes (this project's profile).
 use Rattle.std.specs.Prelude.{ℕ, List, Bool, Option}
-use Rattle.fv_signal.specs.Value.{Graph, IsGraph}
+use Rattle.fv_signal.specs.headline.Value.{Graph, IsGraph}
 use Rattle.fv_simplify_rules.specs.Rebuilt.{IsMarked, IsRebuilt, IsRoom}
 use Rattle.fv_simplify_rules.specs.Simpler.{no_room}
 

@@ -1,8 +1,8 @@
 -- Rooms that are found signal by signal.
 use Rattle.std.specs.Prelude.{ℕ, List, ℤ, pos, negsuc, Option, None, Some, max, slice_index_or, slice_set}
 use Rattle.fv_signal.specs.declared.signal.Signal.{Signal}
-use Rattle.fv_signal.specs.declared.signal.Signal.TheVariants.{Input, Const, Control, Point, Delay, Back, Member}
-use Rattle.fv_signal.specs.Value.{Graph}
+use Rattle.fv_signal.specs.declared.signal.Signal.TheVariants.{Input, Const, Control, Point, Delay, Back, Member, Read, Write}
+use Rattle.fv_signal.specs.headline.Value.{Graph}
 use Rattle.fv_simplify_rules.specs.Nodes.{number_at}
 
 -- the room where there is a delay more by this number, or by none
@@ -21,3 +21,5 @@ rooms_after g rooms (Point op args) = rooms
 rooms_after g rooms (Delay x d most) = slice_set rooms x (room_with (slice_index_or rooms x None) (number_at g d))
 rooms_after g rooms (Back group k) = rooms
 rooms_after g rooms (Member group k) = rooms
+rooms_after g rooms (Read table r) = rooms
+rooms_after g rooms (Write table w x r) = rooms

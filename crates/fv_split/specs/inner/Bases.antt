@@ -4,10 +4,10 @@ use Rattle.fv_signal.specs.declared.signal.Signal.{Signal}
 use Rattle.fv_signal.specs.declared.signal.Signal.TheVariants as signal
 use Rattle.fv_signal.specs.declared.rate.Rate.{Rate}
 use Rattle.fv_signal.specs.declared.rate.Rate.TheVariants as rate
-use Rattle.fv_signal.specs.Value.{Graph, definition}
-use Rattle.fv_signal.specs.Rates.{rate_at}
-use Rattle.fv_split_components.specs.Reach.{at}
-use Rattle.fv_analysis.specs.Stands.{node}
+use Rattle.fv_signal.specs.headline.Value.{Graph, definition}
+use Rattle.fv_signal.specs.headline.Rates.{rate_at}
+use Rattle.fv_split_components.specs.headline.Reach.{at}
+use Rattle.fv_analysis.specs.headline.Stands.{node}
 use Rattle.fv_split_plan.specs.Separated.{lane_at}
 use Rattle.fv_split_code.specs.declared.kind.Kind.{Kind}
 use Rattle.fv_split_code.specs.declared.kind.Kind.TheVariants as kind
@@ -22,6 +22,8 @@ sample_base g stands lanes (signal.Point op args) = kind.Inner
 sample_base g stands lanes (signal.Delay x d max) = kind.Inner
 sample_base g stands lanes (signal.Back group i) = kind.Back (unwrap_or (lane_at lanes (at stands (definition g group i))) 0)
 sample_base g stands lanes (signal.Member group i) = kind.Inner
+sample_base g stands lanes (signal.Read table r) = kind.Inner
+sample_base g stands lanes (signal.Write table w x r) = kind.Inner
 
 -- what a node that is constant is without its lane: a literal is its number, and any other is the held value of this number
 abbrev pub constant_base : Signal → (number : ℕ) → Kind
@@ -32,6 +34,8 @@ constant_base (signal.Point op args) number = kind.Held number
 constant_base (signal.Delay x d max) number = kind.Held number
 constant_base (signal.Back group i) number = kind.Held number
 constant_base (signal.Member group i) number = kind.Held number
+constant_base (signal.Read table r) number = kind.Held number
+constant_base (signal.Write table w x r) number = kind.Held number
 
 -- what a node is without its lane: one that a control may change is the held value of this number
 abbrev pub base_of : Graph → (stands : List ℕ) → (lanes : List (Option ℕ)) → Signal → Rate → (number : ℕ) → Kind

@@ -1,6 +1,6 @@
 -- A search along one path, whose nodes are gathered into classes that reach one another (path-based search, Gabow 2000).
 use Rattle.std.specs.Prelude.{◌≡◌, ◌≢◌, ◌⊎◌, ℕ, suc, ◌+◌, ◌-◌, ◌<◌, ◌≤◌, List, [], ◌∷◌, ◌++◌, length, take, drop, slice_index_or, slice_set}
-use Rattle.fv_split_components.specs.Reach.{Links, at, Leads, Reaches}
+use Rattle.fv_split_components.specs.headline.Reach.{Links, at, Leads, Reaches}
 use Rattle.fv_split_components.specs.declared.search.Mark.{Mark}
 use Rattle.fv_split_components.specs.declared.search.Mark.TheVariants.{New, Open, Done}
 use Rattle.fv_split_components.specs.declared.search.Class.{Class}

@@ -4,11 +4,11 @@ use Rattle.fv_signal.specs.declared.signal.Signal.{Signal}
 use Rattle.fv_signal.specs.declared.signal.Signal.TheVariants as signal
 use Rattle.fv_signal.specs.declared.rate.Rate.{Rate}
 use Rattle.fv_signal.specs.declared.rate.Rate.TheVariants as rate
-use Rattle.fv_signal.specs.Rates.{rate_at}
-use Rattle.fv_signal.specs.Value.{Graph, members}
-use Rattle.fv_split_components.specs.Reach.{at}
-use Rattle.fv_analysis.specs.Stands.{node}
-use Rattle.fv_split_plan.specs.Separated.{IsComputed, IsSeparated}
+use Rattle.fv_signal.specs.headline.Rates.{rate_at}
+use Rattle.fv_signal.specs.headline.Value.{Graph, members}
+use Rattle.fv_split_components.specs.headline.Reach.{at}
+use Rattle.fv_analysis.specs.headline.Stands.{node}
+use Rattle.fv_split_plan.specs.headline.Separated.{IsComputed, IsSeparated}
 use Rattle.fv_split_lanes.specs.declared.reader.Reader.{Reader}
 use Rattle.fv_split_lanes.specs.declared.reader.Reader.TheVariants.{Many}
 use Rattle.fv_split_lanes.specs.inner.Homes.{bit_at}
@@ -40,6 +40,8 @@ DelaysTo stands (signal.Point op args) s = ⊥
 DelaysTo stands (signal.Delay x d max) s = (1 ≤ max) × (at stands x ≡ s)
 DelaysTo stands (signal.Back group i) s = ⊥
 DelaysTo stands (signal.Member group i) s = ⊥
+DelaysTo stands (signal.Read table r) s = ⊥
+DelaysTo stands (signal.Write table w x r) s = ⊥
 
 -- signal k does
 abbrev pub Delayed : Graph → (stands : List ℕ) → ℕ → ℕ → Type 0

@@ -1,9 +1,10 @@
 -- What each signal reads, row by row.
 use Rattle.std.specs.Prelude.{◌≡◌, ℕ, ◌<◌, List, [], length, map, nat_lt, if◌then◌else◌}
-use Rattle.fv_signal.specs.Value.{Graph}
-use Rattle.fv_split_components.specs.Reach.{Links, next_of}
-use Rattle.fv_analysis.specs.Stands.{node, stand}
-use Rattle.fv_split_plan.specs.Separated.{operands}
+use Rattle.fv_signal.specs.headline.Value.{Graph}
+use Rattle.fv_split_components.specs.headline.Reach.{Links}
+use Rattle.fv_split_components.specs.Reach.{next_of}
+use Rattle.fv_analysis.specs.headline.Stands.{node, stand}
+use Rattle.fv_split_plan.specs.headline.Separated.{operands}
 
 -- the signals that a signal reads, where a member stands for its definition
 abbrev pub reads_of : Graph → Links

@@ -1,7 +1,8 @@
 -- Workers without their seats, from the last on (this project's profile).
 use Rattle.std.specs.Prelude.{◌≡◌, ℕ, ◌+◌, ◌-◌, ◌<◌, ◌≤◌, List, [], length, get_or, replicate, vec_capacity}
 use Rattle.std.specs.Global.{Vec}
-use Rattle.fv_outside.specs.Tasks.{Tasks, task_count}
+use Rattle.fv_outside.specs.headline.Tasks.{Tasks}
+use Rattle.fv_outside.specs.Tasks.{task_count}
 use Rattle.fv_graph.specs.Graph.{net_of, inward, outward}
 use Rattle.fv_graph_core.specs.Core.{ready, dealt}
 use Rattle.fv_deque.specs.declared.handles.TaskDeque.{TaskDeque}

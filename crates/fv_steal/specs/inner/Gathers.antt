@@ -2,7 +2,7 @@
 use Rattle.std.specs.Prelude.{◌≡◌, ◌≢◌, ℕ, ◌+◌, ◌<◌, ◌≤◌, leb, List, [], map, length, take, get_or}
 use Rattle.std.specs.Global.{Global}
 use Rattle.atomic_blocks.specs.Lent.{RowsId}
-use Rattle.fv_outside.specs.Tasks.{bit, total}
+use Rattle.fv_outside.specs.headline.Tasks.{bit, total}
 use Rattle.fv_steal.specs.declared.worker.Worker.{Worker}
 use Rattle.fv_steal.specs.Crews.{number_of, seat_of, own_account, place_of, numbers_held, took, holds_on}
 

@@ -2,7 +2,8 @@
 use Rattle.std.specs.Prelude.{◌≡◌, ℕ, ◌+◌, ◌<◌, ltb, List, map, length, take, get_or, All}
 use Rattle.std.specs.Global.{Global, Vec}
 use Rattle.atomic_blocks.specs.Lent.{RowsId}
-use Rattle.fv_outside.specs.Tasks.{bit, total, times}
+use Rattle.fv_outside.specs.headline.Tasks.{bit, total}
+use Rattle.fv_outside.specs.Tasks.{times}
 use Rattle.fv_deque.specs.declared.handles.TaskDeque.{TaskDeque}
 use Rattle.fv_deque.specs.declared.handles.Victim.{Victim}
 use Rattle.fv_deque.specs.Deques.{account_of, room_of, lies_at, robs, taken_by}

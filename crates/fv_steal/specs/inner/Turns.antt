@@ -1,7 +1,8 @@
 -- What a worker finds to run, and what its turns leave (this project's profile).
 use Rattle.std.specs.Prelude.{◌≡◌, ℕ, ◌+◌, ◌<◌, ◌==◌, map, Option, MatchOption, vec_len}
 use Rattle.std.specs.Global.{Vec}
-use Rattle.fv_outside.specs.Tasks.{Tasks, bit, total, times, task_count}
+use Rattle.fv_outside.specs.headline.Tasks.{Tasks, bit, total}
+use Rattle.fv_outside.specs.Tasks.{times, task_count}
 use Rattle.fv_ready_rule.specs.Rule.{done_by, claims}
 use Rattle.fv_ready.specs.declared.board.Board.{Board}
 use Rattle.fv_deque.specs.declared.handles.Victim.{Victim}

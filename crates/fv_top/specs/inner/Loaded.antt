@@ -1,10 +1,10 @@
 -- What was read of a program.
 use Rattle.std.specs.Prelude.{ℕ, List, Ok}
-use Rattle.fv_outside.specs.Desk.{DeskState}
+use Rattle.fv_outside.specs.headline.Desk.{DeskState}
 use Rattle.fv_top_words.specs.declared.manner.ProgramKind.{ProgramKind}
-use Rattle.fv_top_text.specs.Compiled.{Compiled}
+use Rattle.fv_top_text.specs.headline.Compiled.{Compiled}
 use Rattle.fv_top_playable.specs.Playables.{IsPlayable}
-use Rattle.fv_top_playable.specs.Tableless.{PlayedIs}
+use Rattle.fv_top_playable.specs.headline.Tableless.{PlayedIs}
 use Rattle.fv_top_playable.specs.declared.playable.Playable.{Playable}
 use Rattle.fv_top_files.specs.Loading.{IsFile}
 

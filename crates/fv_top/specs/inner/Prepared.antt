@@ -2,40 +2,44 @@
 use Rattle.std.specs.Prelude.{◌≡◌, ◌⊎◌, ◌<◌, ◌≤◌, ◌+◌, ℕ, IsTrue, List, [], length, take, Option, Some, None, option_map, is_some}
 use Rattle.std.specs.List.{AllByRecursion}
 use Rattle.fv_base.specs.declared.role.Role.TheVariants.{Input, Output}
-use Rattle.fv_base.specs.Lists.{IsPrefixOf}
-use Rattle.fv_num.specs.Frames.{Frame}
-use Rattle.fv_outside.specs.Journal.{Told}
-use Rattle.fv_outside.specs.Desk.{DeskState, KeepsFaults}
+use Rattle.fv_base.specs.headline.Lists.{IsPrefixOf}
+use Rattle.fv_num.specs.headline.Frames.{Frame}
+use Rattle.fv_outside.specs.headline.Journal.{Told}
+use Rattle.fv_outside.specs.headline.Desk.{DeskState, KeepsFaults}
 use Rattle.fv_control.specs.declared.script.Change.{Change}
 use Rattle.fv_control.specs.Laws.{NeverFall, IsOfControls}
-use Rattle.fv_control.specs.Streams.{control_streams}
-use Rattle.fv_diagram.specs.Diagram.{inputs, outputs}
-use Rattle.fv_pcm.specs.Sizes.{data_size}
+use Rattle.fv_control.specs.headline.Streams.{control_streams}
+use Rattle.fv_diagram.specs.headline.Diagram.{inputs, outputs}
+use Rattle.fv_pcm.specs.headline.Sizes.{data_size}
 use Rattle.fv_pcm.specs.declared.coding.Coding.{Coding}
 use Rattle.fv_pcm.specs.declared.coding.Coding.TheVariants as coding
-use Rattle.fv_engine_render.specs.Render.{CanHave, RanTo, initial_of}
+use Rattle.fv_engine_render.specs.headline.Render.{RanTo, initial_of}
+use Rattle.fv_engine_render.specs.Render.{CanHave}
 use Rattle.fv_engine_render.specs.Stops.{IsSetFor}
 use Rattle.fv_engine_render.specs.declared.blocks.Ran.{Ran}
-use Rattle.fv_file_tape.specs.Tapes.{IsTape, Streams, HasBegun, KeepsOutput, CannotSay, channels_of, files_of}
+use Rattle.fv_file_tape.specs.headline.Tapes.{HasBegun, KeepsOutput}
+use Rattle.fv_file_tape.specs.Tapes.{IsTape, Streams, CannotSay, channels_of, files_of}
 use Rattle.fv_file_tape.specs.declared.samples.InputSamples.{InputSamples}
 use Rattle.fv_file_tape.specs.declared.file_tape.FileTape.{FileTape}
 use Rattle.fv_file_tape.specs.declared.file_tape.OutputHead.{OutputHead}
 use Rattle.fv_file_tape.specs.declared.file_tape.Stop.{Stop}
 use Rattle.fv_file_tape.specs.declared.file_tape.Stop.TheVariants as stop
-use Rattle.fv_engine_files.specs.Files.{HasTaken, IsCutAt, IsStopFor, frames_of}
-use Rattle.fv_top_words.specs.Runs.{Run, Settings}
+use Rattle.fv_engine_files.specs.headline.Files.{IsCutAt}
+use Rattle.fv_engine_files.specs.Files.{HasTaken, IsStopFor, frames_of}
+use Rattle.fv_top_words.specs.headline.Runs.{Run, Settings}
 use Rattle.fv_top_report.specs.declared.refusal.Refusal.{Refusal}
 use Rattle.fv_top_report.specs.declared.refusal.Refusal.TheVariants.{ReadFault, WriteFault}
-use Rattle.fv_top_text.specs.Compiled.{Compiled, CanPlay}
+use Rattle.fv_top_text.specs.headline.Compiled.{Compiled}
+use Rattle.fv_top_text.specs.Compiled.{CanPlay}
 use Rattle.fv_top_files.specs.declared.format.OutputFormat.{OutputFormat as Made}
 use Rattle.fv_top_files.specs.declared.incoming.Incoming.{Incoming}
 use Rattle.fv_top_files.specs.declared.input.Loaded.{Loaded}
 use Rattle.fv_top.specs.declared.prepare.Prepared.{Prepared}
-use Rattle.fv_top_files.specs.Inputs.{truncated}
+use Rattle.fv_top_files.specs.headline.Inputs.{truncated}
 use Rattle.fv_top_files.specs.Loading.{IsLeft}
-use Rattle.fv_top_files.specs.Output.{output_file}
-use Rattle.fv_top.specs.Played.{sizes_of}
-use Rattle.fv_top.specs.Promise.{Plays}
+use Rattle.fv_top_files.specs.headline.Output.{output_file}
+use Rattle.fv_top.specs.headline.Played.{sizes_of}
+use Rattle.fv_top.specs.headline.Promise.{Plays}
 use Rattle.fv_top_files.specs.Formats.{format_in}
 use Rattle.fv_top_files.specs.Loaded.{held_in}
 

@@ -2,23 +2,24 @@
 use Rattle.std.specs.Prelude.{◌≡◌, ◌⊎◌, ℕ, IsTrue, List, [], ◌∷◌, ◌++◌, ℤ}
 use Rattle.fv_base.specs.declared.role.Role.{Role}
 use Rattle.fv_base.specs.declared.role.Role.TheVariants.{Program, Controls, Input, Output, Report}
-use Rattle.fv_base.specs.Lists.{IsPrefixOf}
-use Rattle.fv_outside.specs.Requests.{Request, to_read}
-use Rattle.fv_outside.specs.Desk.{DeskState, GoesOn, HasFault, KeepsQuiet, KeepsFaults, Appends}
-use Rattle.fv_top_words.specs.Runs.{Run}
-use Rattle.fv_top_words.specs.Commands.{Playing, Checking, Making}
-use Rattle.fv_file_tape.specs.Tapes.{KeepsOutput}
+use Rattle.fv_base.specs.headline.Lists.{IsPrefixOf}
+use Rattle.fv_outside.specs.headline.Requests.{Request, to_read}
+use Rattle.fv_outside.specs.headline.Desk.{DeskState, GoesOn, HasFault, KeepsFaults}
+use Rattle.fv_outside.specs.Desk.{KeepsQuiet, Appends}
+use Rattle.fv_top_words.specs.headline.Runs.{Run}
+use Rattle.fv_top_words.specs.headline.Commands.{Playing, Checking, Making}
+use Rattle.fv_file_tape.specs.headline.Tapes.{KeepsOutput}
 use Rattle.fv_top_report.specs.declared.refusal.Refusal.{Refusal}
 use Rattle.fv_top_report.specs.declared.refusal.Refusal.TheVariants.{WriteFault}
-use Rattle.fv_top_files.specs.Loading.{reading}
-use Rattle.fv_top.specs.Meant.{check_meant, make_meant, made_sum, written_by}
-use Rattle.fv_top_text.specs.Compiled.{Compiled}
-use Rattle.fv_top_text.specs.Program.{TextIs}
-use Rattle.fv_top_report.specs.Lines.{refused_line}
-use Rattle.fv_top.specs.Steps.{Ends}
-use Rattle.fv_top.specs.Promise.{HasProgram, Step, ReadProgram, ReadScript, ReadHead, Fit, run_rules, check_rules, check_steps}
-use Rattle.fv_top.specs.Promise.{IsMade, make_rules, make_steps, IsReadBy, IsRead, KeepsOthers, IsBegunLine, IsRefusedFor, HasDone}
-use Rattle.fv_top.specs.Promise.{LeavesOutput, CutsShort, Reports, IsFaultOf, HandsOn}
+use Rattle.fv_top_files.specs.headline.Loading.{reading}
+use Rattle.fv_top.specs.headline.Meant.{check_meant, make_meant, made_sum, written_by}
+use Rattle.fv_top_text.specs.headline.Compiled.{Compiled}
+use Rattle.fv_top_text.specs.headline.Program.{TextIs}
+use Rattle.fv_top_report.specs.headline.Lines.{refused_line}
+use Rattle.fv_top.specs.headline.Steps.{Ends}
+use Rattle.fv_top.specs.headline.Promise.{HasProgram, Step, ReadProgram, ReadScript, ReadHead, Fit, run_rules, check_rules, check_steps}
+use Rattle.fv_top.specs.headline.Promise.{IsMade, make_rules, make_steps, IsReadBy, IsRead, KeepsOthers, IsBegunLine, IsRefusedFor, HasDone}
+use Rattle.fv_top.specs.headline.Promise.{LeavesOutput, CutsShort, Reports, IsFaultOf, HandsOn}
 
 -- The desk was asked for this, nothing was written, and only these roles were read.
 pub record Reaches (Reads : Role → Type 0) (asked : List Request) (old new : DeskState) : Type 0 where

@@ -1,6 +1,6 @@
 use Rattle.std.proofs.Common.{◌≡◌, ℤ, pos, ◌+ℤ◌, ◌*ℤ◌, ap, ◌∙◌, rules, SFits, w32, to_z-of_z}
 use Rattle.std.proofs.lemmas.Int.{int_wrap-add_left}
-use Rattle.fv_num.specs.Words.{wrap}
+use Rattle.fv_num.specs.headline.Words.{wrap}
 use Rattle.fv_top_make.proofs.next_state.Goals as goal
 
 pub returns : goal.returns

@@ -1,5 +1,5 @@
 use Rattle.std.proofs.Common.{◌-◌, Ok, Err}
-use Rattle.fv_top_make.specs.Made.{text_of}
+use Rattle.fv_top_make.specs.headline.Made.{text_of}
 use Rattle.fv_top_voices.specs.Voices.{program_of}
 use Rattle.fv_top_voices.proofs.Program.{are_a_program}
 use Rattle.fv_top_voices.proofs.Values.{no_table}

@@ -1,5 +1,5 @@
 use Rattle.std.proofs.Common.{◌≡◌, ℕ, take, map, get_or, false}
-use Rattle.fv_analysis.specs.History.{history_from}
+use Rattle.fv_analysis.specs.headline.History.{history_from}
 use Rattle.fv_analysis.proofs.history.histories.Given as goal
 
 abbrev pub invariant-loop-stand : goal.invariant-loop-stand

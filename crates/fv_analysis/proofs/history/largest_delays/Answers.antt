@@ -1,6 +1,6 @@
 use Rattle.std.proofs.Common.{◌∙◌, ap, map, ℕ, length, get_or, List, Bool, false}
 use Rattle.fv_base.proofs.Lists.{length_table}
-use Rattle.fv_analysis.specs.History.{history_from, history_of}
+use Rattle.fv_analysis.specs.headline.History.{history_from, history_of}
 use Rattle.fv_analysis.proofs.HistoryLemmas.{all_histories}
 use Rattle.fv_analysis.proofs.history.largest_delays.Goals as goal
 

@@ -1,7 +1,7 @@
 use Rattle.std.proofs.Common.{◌≡◌, ◌<◌, length, get_or, sym, ap, ◌∙◌, subst, arith}
 use Rattle.std.proofs.lemmas.List.{get_or_read}
-use Rattle.fv_signal.specs.Value.{NamesWithin, definition}
-use Rattle.fv_analysis.specs.History.{IsOver}
+use Rattle.fv_signal.specs.headline.Value.{NamesWithin, definition}
+use Rattle.fv_analysis.specs.inner.History.{IsOver}
 use Rattle.fv_analysis.proofs.StandLemmas.{stands_long}
 use Rattle.fv_analysis.proofs.history.tell.Goals as goal
 

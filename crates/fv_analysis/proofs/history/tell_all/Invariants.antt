@@ -1,4 +1,4 @@
-use Rattle.fv_analysis.specs.History.{Tell}
+use Rattle.fv_analysis.specs.inner.History.{Tell}
 use Rattle.fv_analysis.proofs.history.tell_all.Given as goal
 
 abbrev pub invariant-loop-place : goal.invariant-loop-place

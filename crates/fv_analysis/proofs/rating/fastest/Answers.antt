@@ -2,7 +2,7 @@ use Rattle.std.proofs.Common.{◌<◌, length, get_or, sym, ap, ◌∙◌, subst
 use Rattle.std.proofs.lemmas.List.{get_or_read, get_or_default}
 use Rattle.std.proofs.lemmas.List.Elements.{All-get_or}
 use Rattle.fv_signal.specs.declared.rate.Rate.TheVariants as rate
-use Rattle.fv_signal.specs.Rates.{rate_at, faster}
+use Rattle.fv_signal.specs.headline.Rates.{rate_at, faster}
 use Rattle.fv_analysis.proofs.RateLemmas.{fastest_more}
 use Rattle.fv_analysis.proofs.rating.fastest.Goals as goal
 

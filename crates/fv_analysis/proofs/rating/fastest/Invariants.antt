@@ -1,5 +1,5 @@
 use Rattle.std.proofs.Common.{◌≡◌, take, map}
-use Rattle.fv_signal.specs.Rates.{rate_at, fastest}
+use Rattle.fv_signal.specs.headline.Rates.{rate_at, fastest}
 use Rattle.fv_analysis.proofs.rating.fastest.Given as goal
 
 abbrev pub invariant-loop-signal : goal.invariant-loop-signal

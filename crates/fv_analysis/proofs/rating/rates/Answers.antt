@@ -1,9 +1,10 @@
 use Rattle.std.proofs.Common.{◌≡◌, ◌+◌, [], ◌∷◌, ◌++◌, length, get_or, sym, ap, ◌∙◌, subst, arith, pos}
 use Rattle.std.proofs.lemmas.List.{get_or_read}
 use Rattle.fv_signal.specs.declared.signal.Signal.TheVariants.{Const}
-use Rattle.fv_signal.specs.Value.{OperandsBelow}
-use Rattle.fv_signal.specs.Rates.{rate_in, rate_at}
-use Rattle.fv_analysis.specs.Stands.{OperandsThere, node}
+use Rattle.fv_signal.specs.headline.Value.{OperandsBelow}
+use Rattle.fv_signal.specs.headline.Rates.{rate_in, rate_at}
+use Rattle.fv_analysis.specs.headline.Stands.{node}
+use Rattle.fv_analysis.specs.inner.Stands.{OperandsThere}
 use Rattle.fv_analysis.proofs.Grown.{grown_more}
 use Rattle.fv_analysis.proofs.RateLemmas.{there_of, rates_long}
 use Rattle.fv_analysis.proofs.rating.rates.Goals as goal

@@ -1,5 +1,5 @@
 use Rattle.std.proofs.Common.{◌≡◌, take}
-use Rattle.fv_signal.specs.Rates.{rates}
+use Rattle.fv_signal.specs.headline.Rates.{rates}
 use Rattle.fv_analysis.proofs.rating.rates.Given as goal
 
 abbrev pub invariant-loop-place : goal.invariant-loop-place

@@ -1,6 +1,6 @@
 use Rattle.std.proofs.Common.{◌≡◌, ◌<◌, [], take, length, All}
-use Rattle.fv_signal.specs.Grown.{grown}
-use Rattle.fv_analysis.specs.Stands.{stand_in}
+use Rattle.fv_signal.specs.headline.Grown.{grown}
+use Rattle.fv_analysis.specs.headline.Stands.{stand_in}
 use Rattle.fv_analysis.proofs.resolve.stands.Given as goal
 
 abbrev pub invariant-loop-place : goal.invariant-loop-place

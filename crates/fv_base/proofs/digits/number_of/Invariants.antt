@@ -1,5 +1,5 @@
 use Rattle.std.proofs.Common.{◌≡◌, ◌^◌, ◌<◌, drop}
-use Rattle.fv_base.specs.Digits.{decimal_after}
+use Rattle.fv_base.specs.headline.Digits.{decimal_after}
 use Rattle.fv_base.proofs.digits.number_of.Given as goal
 
 abbrev pub invariant-loop-d : goal.invariant-loop-d

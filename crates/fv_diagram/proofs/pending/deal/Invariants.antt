@@ -1,5 +1,5 @@
 use Rattle.std.proofs.Common.{◌≡◌, ◌%◌, length, get_or}
-use Rattle.fv_num.specs.Frames.{table}
+use Rattle.fv_num.specs.headline.Frames.{table}
 use Rattle.fv_diagram.proofs.pending.deal.Given as goal
 
 abbrev pub invariant-loop-i : goal.invariant-loop-i

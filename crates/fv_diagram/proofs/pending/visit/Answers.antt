@@ -1,7 +1,7 @@
 use Rattle.std.proofs.Common.{◌<◌, ◌∷◌, [], refl, sym, ap, ◌∙◌, arith, rules, take, drop, Global, SFits, w32, to_z-of_z, All, subst, length}
 use Rattle.std.specs.declared.collections.VecDeque.{VecDeque}
 use Rattle.std.proofs.lemmas.Result.{IfOk-weaker}
-use Rattle.fv_diagram.specs.Diagram.{Constant, Wave, Table}
+use Rattle.fv_diagram.specs.headline.Diagram.{Constant, Wave, Table}
 use Rattle.fv_diagram.specs.Arena.{count_of}
 use Rattle.fv_diagram.specs.declared.pending.Task.TheVariants as task
 use Rattle.fv_diagram.proofs.Turns.{leaf_advances, slot_advances, bind_advances, par_advances, seq_advances, split_advances, merge_advances, rec_advances}

@@ -1,4 +1,4 @@
-use Rattle.fv_num.specs.Words.{argument}
+use Rattle.fv_num.specs.headline.Words.{argument}
 use Rattle.fv_diagram.proofs.Histories.{changed_all}
 use Rattle.fv_diagram.proofs.step.change_lists.Goals as goal
 

@@ -1,5 +1,5 @@
 use Rattle.std.proofs.Common.{◌≡◌, ◌<◌, ◌≤◌, ℕ, [], get_or, length}
-use Rattle.fv_num.specs.Words.{argument}
+use Rattle.fv_num.specs.headline.Words.{argument}
 use Rattle.fv_diagram.specs.declared.step.Change.TheVariants as change
 use Rattle.fv_diagram.specs.History.{Numbers, numbers_of}
 use Rattle.fv_diagram.specs.Steps.{changed}

@@ -1,7 +1,7 @@
 use Rattle.std.proofs.Common.{reverse, ◌∙◌, ap, sym}
 use Rattle.std.specs.List.{list_any}
 use Rattle.std.specs.Prelude.{nat_eq}
-use Rattle.fv_diagram_head.specs.Heads.{is_closed}
+use Rattle.fv_diagram_head.specs.headline.Heads.{is_closed}
 use Rattle.fv_diagram_head.proofs.Looking.{any_reversed, leaf_turn}
 use Rattle.fv_diagram_head.proofs.fixed.visit.Goals as goal
 

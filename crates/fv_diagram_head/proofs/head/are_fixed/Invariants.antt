@@ -1,6 +1,6 @@
 use Rattle.std.proofs.Common.{◌≡◌, drop}
 use Rattle.std.specs.List.{list_all}
-use Rattle.fv_diagram_head.specs.Heads.{is_fixed}
+use Rattle.fv_diagram_head.specs.headline.Heads.{is_fixed}
 use Rattle.fv_diagram_head.specs.Lists.{trees_of}
 use Rattle.fv_diagram_head.proofs.head.are_fixed.Given as goal
 

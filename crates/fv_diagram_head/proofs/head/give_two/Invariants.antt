@@ -1,5 +1,5 @@
 use Rattle.std.proofs.Common.{◌≡◌, ◌+◌, drop}
-use Rattle.fv_diagram_head.specs.Heads.{all_outputs}
+use Rattle.fv_diagram_head.specs.headline.Heads.{all_outputs}
 use Rattle.fv_diagram_head.specs.Lists.{trees_of}
 use Rattle.fv_diagram_head.proofs.head.give_two.Given as goal
 

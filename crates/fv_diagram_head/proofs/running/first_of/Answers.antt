@@ -1,8 +1,8 @@
 use Rattle.std.proofs.Common.{[], ◌∙◌, ap, sym, arith, rules, SFits, w32, to_z-of_z}
-use Rattle.fv_num.specs.Words.{argument}
-use Rattle.fv_num.specs.Frames.{Frame}
+use Rattle.fv_num.specs.headline.Words.{argument}
+use Rattle.fv_num.specs.headline.Frames.{Frame}
 use Rattle.fv_diagram.specs.Arena.{tree_of}
-use Rattle.fv_diagram_number.specs.Numbers.{silent}
+use Rattle.fv_diagram_number.specs.headline.Numbers.{silent}
 use Rattle.fv_diagram_head.proofs.Closed.{runs_alone}
 use Rattle.fv_diagram_head.proofs.Numbered.{first_given}
 use Rattle.fv_diagram_head.proofs.running.first_of.Goals as goal

@@ -1,6 +1,6 @@
 use Rattle.std.proofs.Common.{◌≡◌, ◌+◌, ◌%◌, ◌∙◌, [], ◌∷◌, ap₂, arith, rules, refl, subst, SFits, w32, to_z-of_z}
 use Rattle.fv_num.specs.declared.op.Op.TheVariants.{Add}
-use Rattle.fv_num.specs.Words.{argument, apply_of}
+use Rattle.fv_num.specs.headline.Words.{argument, apply_of}
 use Rattle.fv_diagram_number.proofs.InPlace.{AddedTo, added_none, added_more, added_all}
 use Rattle.fv_diagram_number.proofs.timeless.add_up.Goals as goal
 

@@ -1,5 +1,5 @@
 use Rattle.std.proofs.Common.{ap, ◌∙◌, rules, SFits, w32, to_z-of_z}
-use Rattle.fv_num.specs.Words.{apply_of, inputs_of}
+use Rattle.fv_num.specs.headline.Words.{apply_of, inputs_of}
 use Rattle.fv_diagram_number.proofs.Actions.{cut_out}
 use Rattle.fv_diagram_number.proofs.timeless.applied.Goals as goal
 

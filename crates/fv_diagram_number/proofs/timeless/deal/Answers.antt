@@ -1,5 +1,5 @@
 use Rattle.std.proofs.Common.{◌≡◌, ◌+◌, ◌%◌, arith, rules, refl, subst, SFits, w32, to_z-of_z}
-use Rattle.fv_num.specs.Words.{argument}
+use Rattle.fv_num.specs.headline.Words.{argument}
 use Rattle.fv_diagram_number.proofs.InPlace.{DealtTo, dealt_none, dealt_more, dealt_all}
 use Rattle.fv_diagram_number.proofs.timeless.deal.Goals as goal
 

@@ -1,12 +1,12 @@
 use Rattle.std.proofs.Common.{◌≡◌, ◌≤◌, length, take}
 use Rattle.std.specs.List.{AllByRecursion}
-use Rattle.fv_num.specs.Frames.{column, table, rows}
+use Rattle.fv_num.specs.headline.Frames.{column, table, rows}
 use Rattle.fv_control.specs.Laws.{applied}
 use Rattle.fv_diagram.specs.Arena.{tree_of}
-use Rattle.fv_diagram.specs.Diagram.{outputs}
+use Rattle.fv_diagram.specs.headline.Diagram.{outputs}
 use Rattle.fv_diagram.specs.Steps.{StandsFor}
-use Rattle.fv_diagram.specs.Streams.{run}
-use Rattle.fv_diagram.specs.Samples.{joined, no_slots}
+use Rattle.fv_diagram.specs.headline.Streams.{run}
+use Rattle.fv_diagram.specs.headline.Samples.{joined, no_slots}
 use Rattle.fv_control.proofs.Listening.{heard_at}
 use Rattle.fv_diagram_play.proofs.player.play_with.Given as goal
 

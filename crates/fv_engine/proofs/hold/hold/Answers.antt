@@ -1,8 +1,9 @@
 use Rattle.std.proofs.Common.{◌≡◌, ◌∙◌, arith, List, [], ◌∷◌, length, false, pos, All, sym, subst}
-use Rattle.fv_num.specs.Words.{argument}
+use Rattle.fv_num.specs.headline.Words.{argument}
 use Rattle.fv_loopcode.specs.declared.step.Step.{Step}
-use Rattle.fv_loopcode.specs.State.{State, lanes_alone}
-use Rattle.fv_loopcode.specs.Code.{IsWithin, MayRun, frame_of, registers_after}
+use Rattle.fv_loopcode.specs.headline.State.{State, lanes_alone}
+use Rattle.fv_loopcode.specs.headline.Code.{registers_after}
+use Rattle.fv_loopcode.specs.Code.{IsWithin, MayRun, frame_of}
 use Rattle.fv_engine.specs.inner.OneLane.{lane_with}
 use Rattle.fv_engine.proofs.Names.{names_within}
 use Rattle.fv_engine.proofs.hold.hold.Goals as goal

@@ -1,5 +1,5 @@
 use Rattle.std.proofs.Common.{ℕ, ◌<◌, ◌≤◌, length}
-use Rattle.fv_split_plan.specs.View.{code_of}
+use Rattle.fv_split_plan.specs.headline.View.{code_of}
 use Rattle.fv_engine.proofs.make.most_steps.Given as goal
 
 abbrev pub invariant-loop-j : goal.invariant-loop-j

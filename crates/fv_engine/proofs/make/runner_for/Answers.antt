@@ -1,5 +1,6 @@
 use Rattle.std.proofs.Common.{List, sym, ap, ◌∙◌, subst, arith}
-use Rattle.fv_outside.specs.Tasks.{task_count, reads_loop}
+use Rattle.fv_outside.specs.headline.Tasks.{reads_loop}
+use Rattle.fv_outside.specs.Tasks.{task_count}
 use Rattle.fv_outside.specs.declared.tasks.Reads.{Reads}
 use Rattle.fv_graph.specs.Graph.{ArePairs, edges_of}
 use Rattle.fv_graph_core.specs.Running.{Running}

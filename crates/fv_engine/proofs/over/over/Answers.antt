@@ -2,7 +2,7 @@ use Rattle.std.proofs.Common.{rules, ◌≡◌, ◌∙◌, ◌<◌, ℕ, List, l
 use Rattle.std.specs.Global.{Vec}
 use Rattle.fv_outside.specs.declared.gate.Line.{Line}
 use Rattle.fv_graph.specs.Graph.{Graph}
-use Rattle.fv_loopcode.specs.State.{State, lanes_alone}
+use Rattle.fv_loopcode.specs.headline.State.{State, lanes_alone}
 use Rattle.fv_pool.specs.Lengths.{lengths_of}
 use Rattle.fv_lines.specs.Solo.{SoloRest, opening_lanes, lanes_of, lengths_in, rest_of}
 use Rattle.fv_lines.specs.declared.solo.Solo.{Solo}

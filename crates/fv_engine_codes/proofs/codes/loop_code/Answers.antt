@@ -1,10 +1,10 @@
 use Rattle.std.proofs.Common.{◌≡◌, ℕ, List, length, map, get_or, ap, ◌∙◌, subst, sym, arith}
 use Rattle.std.specs.Prelude.{All, slice_index}
 use Rattle.std.proofs.lemmas.Result.{IfOk-weaker}
-use Rattle.fv_outside.specs.Tasks.{Tasks}
+use Rattle.fv_outside.specs.headline.Tasks.{Tasks}
 use Rattle.fv_loopcode.specs.declared.step.Step.{Step}
 use Rattle.fv_loopcode.specs.Code.{NamesLane}
-use Rattle.fv_split_plan.specs.View.{PlanView, code_of, roles_of}
+use Rattle.fv_split_plan.specs.headline.View.{PlanView, code_of, roles_of}
 use Rattle.fv_split_plan.specs.Plans.{IsPlan}
 use Rattle.fv_engine_lanes.specs.Renumbered.{renumbered, Places}
 use Rattle.fv_engine_lanes.specs.Plans.{own_lanes, locals_of}

@@ -2,10 +2,10 @@ use Rattle.std.proofs.Common.{◌≡◌, ◌+◌, ◌-◌, ◌<◌, ℕ, List, [
 use Rattle.std.specs.Prelude.{All, slice_index}
 use Rattle.std.specs.Global.{Vec}
 use Rattle.std.proofs.lemmas.List.{length-append}
-use Rattle.fv_outside.specs.Tasks.{Tasks}
+use Rattle.fv_outside.specs.headline.Tasks.{Tasks}
 use Rattle.fv_outside.specs.declared.tasks.Reads.{Reads}
 use Rattle.fv_graph.specs.Graph.{no_reads}
-use Rattle.fv_split_plan.specs.View.{PlanView}
+use Rattle.fv_split_plan.specs.headline.View.{PlanView}
 use Rattle.fv_engine_lanes.specs.Plans.{own_lanes, sources_of}
 use Rattle.fv_engine_codes.specs.inner.Numbered.{AreNumbered, AreOnce}
 use Rattle.fv_engine_codes.proofs.Prefixes.{own_there, so_far, so_far_next, so_far_all, so_far_once, so_far_few}

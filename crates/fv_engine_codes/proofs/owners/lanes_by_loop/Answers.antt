@@ -2,7 +2,7 @@ use Rattle.std.proofs.Common.{◌≡◌, ◌<◌, ℕ, ◌+◌, List, [], ◌∷
 use Rattle.std.specs.Global.{Vec}
 use Rattle.std.specs.Prelude.{slice_index, ◌==◌}
 use Rattle.fv_graph.specs.Words.{passing}
-use Rattle.fv_split_plan.specs.View.{PlanView}
+use Rattle.fv_split_plan.specs.headline.View.{PlanView}
 use Rattle.fv_split_plan.specs.declared.lane.LaneInfo.{LaneInfo}
 use Rattle.fv_graph.specs.inner.Lists.{Grouped}
 use Rattle.fv_graph.proofs.Grouping.{grouped_next, get_any}

@@ -1,6 +1,7 @@
 use Rattle.std.proofs.Common.{ℕ, sym, subst}
 use denote.Param.Send.{sendable}
-use Rattle.fv_engine_tasks.specs.Block.{Block, vectors_of}
+use Rattle.fv_engine_tasks.specs.headline.Block.{vectors_of}
+use Rattle.fv_engine_tasks.specs.Block.{Block}
 use Rattle.fv_engine_parcels.specs.declared.start.Start.{Start}
 use Rattle.fv_engine_crew.specs.Spread.{block_in, tasks_of}
 use Rattle.fv_engine_spread.specs.Collected.{AreChainParcels, AreAllWriters}

@@ -1,5 +1,5 @@
 use Rattle.std.proofs.Common.{◌≡◌, ℕ, ◌++◌, List, map, All, append-nil, sym, ap, ◌∙◌, subst, arith}
-use Rattle.fv_loopcode.specs.Lanes.{Lane}
+use Rattle.fv_loopcode.specs.headline.Lanes.{Lane}
 use Rattle.fv_lines.specs.Seen.{lane_seen}
 use Rattle.fv_lines.specs.declared.seen.Seen.{Seen}
 use Rattle.fv_engine_tasks.specs.Outputs.{CanRead}

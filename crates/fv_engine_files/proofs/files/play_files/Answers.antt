@@ -1,9 +1,9 @@
 use Rattle.std.proofs.Common.{◌*◌, ◌∙◌, ap, sym, subst}
 use Rattle.std.proofs.lemmas.Result.{on_ok_weaker, IfErr-weaker}
-use Rattle.fv_diagram.specs.Diagram.{Diagram, inputs}
-use Rattle.fv_diagram.specs.Samples.{answer_on}
-use Rattle.fv_control.specs.Streams.{control_streams}
-use Rattle.fv_engine_render.specs.Render.{initial_of}
+use Rattle.fv_diagram.specs.headline.Diagram.{Diagram, inputs}
+use Rattle.fv_diagram.specs.headline.Samples.{answer_on}
+use Rattle.fv_control.specs.headline.Streams.{control_streams}
+use Rattle.fv_engine_render.specs.headline.Render.{initial_of}
 use Rattle.fv_engine_render.specs.Stops.{IsSetToPlay}
 use Rattle.fv_file_tape.specs.Tapes.{Streamed, files_of}
 use Rattle.fv_engine_files.proofs.Ending.{Plays, played, stopped}

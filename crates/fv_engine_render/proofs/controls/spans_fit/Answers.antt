@@ -1,7 +1,7 @@
 use Rattle.std.proofs.Common.{◌≡◌, ◌<◌, length, get_or, subst, arith, below_more, ◌∙◌, FitsSigned, w32}
 use Rattle.std.proofs.lemmas.List.{get_or_default}
 use Rattle.fv_diagram.specs.declared.control.ControlInfo.{ControlInfo}
-use Rattle.fv_control.specs.Script.{no_control}
+use Rattle.fv_control.specs.headline.Script.{no_control}
 use Rattle.fv_engine_render.proofs.Taken.{is_span, spans_all}
 use Rattle.fv_engine_render.proofs.controls.spans_fit.Goals as goal
 

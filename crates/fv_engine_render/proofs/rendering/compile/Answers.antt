@@ -1,6 +1,6 @@
 use Rattle.fv_diagram.specs.Arena.{tree_of}
-use Rattle.fv_interval.specs.Controls.{spans_of}
-use Rattle.fv_engine_render.specs.Plans.{IsGraphOf}
+use Rattle.fv_interval.specs.headline.Controls.{spans_of}
+use Rattle.fv_engine_render.specs.headline.Plans.{IsGraphOf}
 use Rattle.fv_engine_render.proofs.Simpler.{short_graph, simpler_of}
 use Rattle.fv_engine_render.proofs.rendering.compile.Goals as goal
 
@@ -20,5 +20,6 @@ returns c =
       width = c.in_ok-whole.ensures.width;
       names = c.in_ok-whole.ensures.names;
       short = short_graph g (c.in_ok-whole.ensures.short spans c.spans_fit.ensures c.requires.accepted);
+      tableless = c.in_ok-whole.ensures.tables c.requires.tableless;
     } in
     simpler_of d spans g c.in_ok-graph.graph of c.in_ok-graph.ensures.simpler c.outputs-outputs.ensures.graph

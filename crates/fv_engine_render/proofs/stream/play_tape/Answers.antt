@@ -3,10 +3,10 @@ use Rattle.std.proofs.Common.{length-drop}
 use Rattle.std.specs.List.{AllByRecursion}
 use Rattle.std.proofs.Math.Seq.{length-take-le}
 use Rattle.fv_control.specs.declared.script.Change.{Change}
-use Rattle.fv_control.specs.Streams.{control_streams}
+use Rattle.fv_control.specs.headline.Streams.{control_streams}
 use Rattle.fv_tape.specs.Acts.{Hearing, Saying}
 use Rattle.fv_engine_render.specs.Blocks.{AreNext}
-use Rattle.fv_engine_render.specs.Runs.{PlaysAll}
+use Rattle.fv_engine_render.specs.inner.Runs.{PlaysAll}
 use Rattle.fv_engine_render.proofs.Cuts.{come_later}
 use Rattle.fv_engine_render.proofs.Playing.{BlockBegins, given}
 use Rattle.fv_engine_render.proofs.Stopping.{stops_first, stops}

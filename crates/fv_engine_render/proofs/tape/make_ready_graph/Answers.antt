@@ -1,6 +1,7 @@
 use Rattle.std.proofs.Common.{◌*◌, length, sym, ap, subst, ◌∙◌, arith}
-use Rattle.fv_interval.specs.Controls.{spans_of}
-use Rattle.fv_engine_render.specs.Plans.{IsPlanned, NamesOnly}
+use Rattle.fv_interval.specs.headline.Controls.{spans_of}
+use Rattle.fv_engine_render.specs.Plans.{IsPlanned}
+use Rattle.fv_engine_render.specs.inner.Plans.{NamesOnly}
 use Rattle.fv_engine_render.proofs.Planned.{names_only}
 use Rattle.fv_engine_render.proofs.tape.make_ready_graph.Goals as goal
 
@@ -17,6 +18,9 @@ plan_of-requires-clause-names c =
 
 pub plan_of-requires-clause-short : goal.plan_of-requires-clause-short
 plan_of-requires-clause-short c = c.requires.of.1.of.short
+
+pub plan_of-requires-clause-tableless : goal.plan_of-requires-clause-tableless
+plan_of-requires-clause-tableless c = c.requires.of.1.of.tableless
 
 pub engine-requires-clause-few : goal.engine-requires-clause-few
 engine-requires-clause-few c = let can = c.requires.of.1 in let few = can.few in let channels = can.channels_are in omega (arith, few, channels)

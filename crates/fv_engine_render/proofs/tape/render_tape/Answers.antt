@@ -1,13 +1,13 @@
 use Rattle.std.proofs.Common.{◌≡◌, ◌*◌, ◌<◌, length, ℕ, List, ℤ, sym, ap, subst, ◌∙◌}
 use Rattle.std.proofs.lemmas.List.{length-map}
 use Rattle.std.proofs.lemmas.Result.{on_ok_weaker, IfErr-weaker}
-use Rattle.fv_control.specs.Streams.{control_streams}
-use Rattle.fv_diagram.specs.Diagram.{Diagram}
+use Rattle.fv_control.specs.headline.Streams.{control_streams}
+use Rattle.fv_diagram.specs.headline.Diagram.{Diagram}
 use Rattle.fv_diagram.specs.declared.control.ControlInfo.{ControlInfo}
-use Rattle.fv_loopcode.specs.Code.{NamesHeld}
-use Rattle.fv_split_plan.specs.View.{PlanView}
-use Rattle.fv_engine_render.specs.Runs.{PlaysAll}
-use Rattle.fv_engine_render.specs.Render.{initial_of}
+use Rattle.fv_loopcode.specs.headline.Code.{NamesHeld}
+use Rattle.fv_split_plan.specs.headline.View.{PlanView}
+use Rattle.fv_engine_render.specs.inner.Runs.{PlaysAll}
+use Rattle.fv_engine_render.specs.headline.Render.{initial_of}
 use Rattle.fv_engine_render.specs.Stops.{IsSetToPlay}
 use Rattle.fv_engine_render.proofs.Whole.{from_both}
 use Rattle.fv_engine_render.proofs.Early.{IsSet, answers, ended, outputs_are, ran_to}

@@ -3,7 +3,7 @@ use Rattle.std.specs.Global.{Box}
 use Rattle.std.proofs.lemmas.List.{length-append, length-reverse, length-set, length_push}
 use Rattle.std.specs.declared.iter.Rev.{Rev}
 use Rattle.fv_graph.proofs.Grouping.{get_any}
-use Rattle.fv_split_plan.specs.View.{PlanView, lane_info}
+use Rattle.fv_split_plan.specs.headline.View.{PlanView, lane_info}
 use Rattle.fv_split_plan.specs.declared.lane.LaneInfo.{LaneInfo}
 use Rattle.fv_lines.specs.declared.writer.LaneWriter.{LaneWriter}
 use Rattle.fv_engine_parcels.specs.declared.start.Start.{Start}

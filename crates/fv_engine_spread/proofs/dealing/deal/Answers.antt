@@ -6,7 +6,7 @@ use Rattle.std.specs.declared.iter.Zip.{Zip}
 use Rattle.std.specs.declared.vec.IntoIter.{IntoIter}
 use Rattle.std.proofs.lemmas.List.{length_push}
 use Rattle.fv_graph.proofs.Grouping.{get_any}
-use Rattle.fv_split_plan.specs.View.{PlanView, lane_info}
+use Rattle.fv_split_plan.specs.headline.View.{PlanView, lane_info}
 use Rattle.fv_split_plan.specs.declared.lane.LaneInfo.{LaneInfo}
 use Rattle.fv_lines.specs.declared.writer.LaneWriter.{LaneWriter}
 use Rattle.fv_engine_parcels.specs.declared.content.Writers.{Writers}

@@ -1,6 +1,6 @@
 use Rattle.std.proofs.Common.{◌≡◌, ℕ, ◌*◌, ◌<◌, ◌≤◌, length, slice_index_or, vec_len, vec_capacity}
 use Rattle.std.specs.Global.{Box}
-use Rattle.fv_split_plan.specs.View.{code_of}
+use Rattle.fv_split_plan.specs.headline.View.{code_of}
 use Rattle.fv_engine_lanes.specs.Plans.{own_lanes, sources_of, lanes_of_all, readers_of}
 use Rattle.fv_engine_parcels.specs.declared.content.Writers.{Writers}
 use Rattle.fv_engine_spread.specs.Rooms.{IsRoom}

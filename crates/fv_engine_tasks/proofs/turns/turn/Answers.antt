@@ -1,7 +1,7 @@
 use Rattle.std.proofs.Common.{arith, ◌*◌, List, [], ◌∷◌, ◌++◌, length, set, true, sym, ap, ◌∙◌, subst, ◌<◌}
 use Rattle.fv_outside.specs.declared.tasks.Task.{Task}
 use Rattle.fv_outside.specs.declared.gate.Line.{Line}
-use Rattle.fv_loopcode.specs.State.{State}
+use Rattle.fv_loopcode.specs.headline.State.{State}
 use Rattle.fv_engine_tasks.specs.Jobs.{block_of, left_to_do}
 use Rattle.fv_engine_tasks.specs.Underway.{IsUnderway}
 use Rattle.fv_engine_tasks.proofs.EventLemmas.{keeps_on}

@@ -1,6 +1,6 @@
 use Rattle.std.proofs.Common.{◌≤◌, List, length, get_or, ap, ◌∙◌, arith, below_more}
 use Rattle.std.proofs.lemmas.List.{get_or_default}
-use Rattle.fv_split_plan.specs.View.{lane_info}
+use Rattle.fv_split_plan.specs.headline.View.{lane_info}
 use Rattle.fv_split_plan.specs.declared.lane.LaneInfo.{LaneInfo}
 use Rattle.fv_engine_tests.proofs.may.histories_beyond.Goals as goal
 

@@ -1,5 +1,5 @@
 use Rattle.std.proofs.Common.{ℕ, ◌<◌, ◌≤◌}
-use Rattle.fv_split_plan.specs.View.{lane_info}
+use Rattle.fv_split_plan.specs.headline.View.{lane_info}
 use Rattle.fv_engine_tests.proofs.may.histories_beyond.Given as goal
 
 abbrev pub invariant-loop-i : goal.invariant-loop-i

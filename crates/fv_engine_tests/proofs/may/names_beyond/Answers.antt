@@ -1,7 +1,7 @@
 use Rattle.std.proofs.Common.{◌≡◌, get_or, subst, arith, pos, below_more}
 use Rattle.std.proofs.lemmas.List.{get_or_read}
 use Rattle.fv_signal.specs.declared.signal.Signal.TheVariants.{Const}
-use Rattle.fv_analysis.specs.Stands.{node}
+use Rattle.fv_analysis.specs.headline.Stands.{node}
 use Rattle.fv_engine_tests.specs.Runs.{IsNamedWithin}
 use Rattle.fv_engine_tests.proofs.may.names_beyond.Goals as goal
 

@@ -1,5 +1,5 @@
 use Rattle.std.proofs.Common.{ℕ, ◌<◌}
-use Rattle.fv_analysis.specs.Stands.{node}
+use Rattle.fv_analysis.specs.headline.Stands.{node}
 use Rattle.fv_engine_tests.specs.Runs.{IsNamedWithin}
 use Rattle.fv_engine_tests.proofs.may.names_beyond.Given as goal
 

@@ -1,5 +1,5 @@
 use Rattle.std.proofs.Common.{◌≡◌, ◌<◌, length, ap, ◌∙◌, arith}
-use Rattle.fv_parse_grammar.specs.Tree.{Tree, items}
+use Rattle.fv_parse_grammar.specs.headline.Tree.{Tree, items}
 use Rattle.fv_parse_tree.specs.Arena.{trees}
 use Rattle.fv_parse_tree.specs.declared.node.TreeNode.TheVariants as nodes
 use Rattle.fv_parse.specs.Trees.{tree_in, start_in}

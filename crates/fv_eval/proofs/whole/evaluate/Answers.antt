@@ -4,7 +4,7 @@ use Rattle.fv_parse.specs.Trees.{program_of}
 use Rattle.fv_diagram.specs.Arena.{Arena, count_of, tree_of}
 use Rattle.fv_diagram.specs.declared.control.ControlInfo.{ControlInfo}
 use Rattle.fv_eval_scopes.specs.declared.value.Value.TheVariants.{Diagram}
-use Rattle.fv_rules.specs.Rules.{start}
+use Rattle.fv_rules.specs.headline.Rules.{start}
 use Rattle.fv_eval.specs.inner.Continuations.{state_of}
 use Rattle.fv_eval.proofs.Runs.{done, done_flat, is_left, is_program, of_process, refused, run_ends, runs_first, whole}
 use Rattle.fv_eval.proofs.whole.evaluate.Goals as goal

@@ -2,7 +2,7 @@ use Rattle.std.proofs.Common.{◌≡◌, ◌∙◌, length, Some, refl, ap, subs
 use Rattle.std.specs.Prelude.{slice_get}
 use Rattle.std.proofs.lemmas.Option.{slice_get_read}
 use Rattle.fv_diagram.specs.Arena.{Arena, tree_of}
-use Rattle.fv_diagram_number.specs.Numbers.{number_of}
+use Rattle.fv_diagram_number.specs.headline.Numbers.{number_of}
 use Rattle.fv_eval_scopes.specs.declared.value.Value as code_value
 use Rattle.fv_eval_choosing.specs.Choosing.{IsNoDiagram}
 use Rattle.fv_eval_choosing.specs.Literals.{number_in}

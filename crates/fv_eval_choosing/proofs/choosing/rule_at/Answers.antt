@@ -1,7 +1,7 @@
 use Rattle.std.proofs.Common.{ap, sym, ◌∙◌, arith}
 use Rattle.fv_parse_tree.specs.Arena.{trees}
 use Rattle.fv_parse.specs.Trees.{start_in}
-use Rattle.fv_rules.specs.Values.{Rule, rule_of}
+use Rattle.fv_rules.specs.headline.Values.{Rule, rule_of}
 use Rattle.fv_eval_choosing.proofs.RuleNodes.{other_rule}
 use Rattle.fv_eval_choosing.proofs.choosing.rule_at.Goals as goal
 

@@ -1,9 +1,9 @@
 use Rattle.std.proofs.Common.{◌≡◌, ◌∙◌, false, sym, ap}
-use Rattle.fv_parse_grammar.specs.Tree.{items}
+use Rattle.fv_parse_grammar.specs.headline.Tree.{items}
 use Rattle.fv_parse_tree.specs.Arena.{trees}
 use Rattle.fv_parse.specs.Trees.{tree_in, start_in}
 use Rattle.fv_eval_scopes.specs.declared.value.Meaning.TheVariants as meaning
-use Rattle.fv_rules.specs.Values.{Name, is_of}
+use Rattle.fv_rules.specs.headline.Values.{Name, is_of}
 use Rattle.fv_eval_choosing.specs.inner.Lookup.{are_names}
 use Rattle.fv_eval_choosing.proofs.RuleNodes.{node_is}
 use Rattle.fv_eval_choosing.proofs.Lookups.{HasPatterns, abstraction_made, rules_made, nothing_made, not_a_definition}

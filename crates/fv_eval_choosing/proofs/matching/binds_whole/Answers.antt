@@ -1,7 +1,7 @@
 use Rattle.std.proofs.Common.{◌∙◌, false, sym, ap, subst}
 use Rattle.fv_parse_tree.specs.Arena.{trees}
 use Rattle.fv_parse.specs.Trees.{start_in}
-use Rattle.fv_rules.specs.Matching.{matched}
+use Rattle.fv_rules.specs.headline.Matching.{matched}
 use Rattle.fv_eval_choosing.specs.Choosing.{ShowsMatched}
 use Rattle.fv_eval_choosing.proofs.Matched.{whole_refuses}
 use Rattle.fv_eval_choosing.proofs.matching.binds_whole.Goals as goal

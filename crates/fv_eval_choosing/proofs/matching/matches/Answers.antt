@@ -1,6 +1,6 @@
 use Rattle.std.proofs.Common.{[]}
 use Rattle.fv_parse.specs.Trees.{tree_in}
-use Rattle.fv_rules.specs.Matching.{matched}
+use Rattle.fv_rules.specs.headline.Matching.{matched}
 use Rattle.fv_eval_choosing.specs.Choosing.{with_diagrams}
 use Rattle.fv_eval_choosing.proofs.Matched.{handed_out, not_handed_out}
 use Rattle.fv_eval_choosing.proofs.matching.matches.Goals as goal

@@ -1,5 +1,5 @@
 use Rattle.std.specs.List.{sum_by}
-use Rattle.fv_diagram.specs.Diagram.{size}
+use Rattle.fv_diagram.specs.headline.Diagram.{size}
 use Rattle.fv_diagram.specs.Arena.{tree_of}
 use Rattle.fv_eval_choosing.specs.declared.matching.Pair.{Pair}
 use Rattle.fv_eval_choosing.specs.Choosing.{GoesOn}

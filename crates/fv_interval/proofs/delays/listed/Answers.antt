@@ -1,5 +1,5 @@
 use Rattle.std.proofs.Common.{rules}
-use Rattle.fv_interval.specs.Delays.{IsRefused}
+use Rattle.fv_interval.specs.inner.Delays.{IsRefused}
 use Rattle.fv_interval.proofs.Refused.{listed_more, refused_by}
 use Rattle.fv_interval.proofs.delays.listed.Goals as goal
 

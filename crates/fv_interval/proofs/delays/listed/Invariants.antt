@@ -1,5 +1,6 @@
 use Rattle.std.proofs.Common.{◌≡◌, ◌≤◌, ◌*◌, take, sum}
-use Rattle.fv_interval.specs.Delays.{AreDelays, amounts}
+use Rattle.fv_interval.specs.headline.Delays.{amounts}
+use Rattle.fv_interval.specs.Delays.{AreDelays}
 use Rattle.fv_interval.proofs.delays.listed.Given as goal
 
 abbrev pub invariant-loop-i : goal.invariant-loop-i

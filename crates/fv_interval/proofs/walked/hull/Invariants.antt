@@ -1,5 +1,5 @@
 use Rattle.std.proofs.Common.{◌≡◌, ◌≤◌, drop}
-use Rattle.fv_interval.specs.WireSpans.{hull_of, hull_with}
+use Rattle.fv_interval.specs.headline.WireSpans.{hull_of, hull_with}
 use Rattle.fv_interval.proofs.walked.hull.Given as goal
 
 abbrev pub invariant-loop-i : goal.invariant-loop-i

@@ -1,5 +1,5 @@
 use Rattle.std.proofs.Common.{◌≡◌, ◌+◌, ◌-◌, ◌≤◌, length, drop}
-use Rattle.fv_jobs.specs.Jobs.{lines_in, jobs_of, jobs_in}
+use Rattle.fv_jobs.specs.headline.Jobs.{lines_in, jobs_of, jobs_in}
 use Rattle.fv_jobs.proofs.cutting.count.Given as goal
 
 -- the separating lines so far, and the jobs of what is left

@@ -2,7 +2,7 @@ use Rattle.std.proofs.Common.{ℕ, ◌+◌, List, [], ◌∷◌, ◌++◌, lengt
 use Rattle.std.specs.Prelude.{slice_range}
 use Rattle.std.proofs.lemmas.List.{map_push}
 use Rattle.std.proofs.lemmas.List.Edits.{between_none}
-use Rattle.fv_jobs.specs.Jobs.{lines_in, jobs_of, in_front}
+use Rattle.fv_jobs.specs.headline.Jobs.{lines_in, jobs_of, in_front}
 use Rattle.fv_jobs.proofs.Lines.{all_from, lines_from, longer_front}
 use Rattle.fv_jobs.proofs.Counting.{so_far, front_none, text_ended, text_longer}
 use Rattle.fv_jobs.proofs.cutting.cut.Goals as goal

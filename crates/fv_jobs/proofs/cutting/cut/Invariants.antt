@@ -1,6 +1,6 @@
 use Rattle.std.proofs.Common.{◌≡◌, ◌-◌, ◌≤◌, length, drop, map}
 use Rattle.std.specs.Prelude.{slice_range}
-use Rattle.fv_jobs.specs.Jobs.{lines_in, jobs_in}
+use Rattle.fv_jobs.specs.headline.Jobs.{lines_in, jobs_in}
 use Rattle.fv_jobs.proofs.Counting.{so_far}
 use Rattle.fv_jobs.proofs.cutting.cut.Given as goal
 

@@ -1,7 +1,7 @@
 use Rattle.std.proofs.Common.{◌≡◌, ℕ, ◌+◌, ◌<◌, List, [], ◌∷◌, ◌++◌, length, take, get_or, sym, ap, ◌∙◌, append_assoc, arith}
 use Rattle.std.proofs.lemmas.List.{map_push, take_more, take_all}
 use Rattle.fv_diagram.specs.declared.control.ControlInfo.{ControlInfo}
-use Rattle.fv_jobs_controls.specs.Labels.{renamed, labelled}
+use Rattle.fv_jobs_controls.specs.headline.Labels.{renamed, labelled}
 use Rattle.fv_jobs_controls.proofs.labels.append_controls.Goals as goal
 
 -- one control more

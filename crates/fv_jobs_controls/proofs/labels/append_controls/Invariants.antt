@@ -1,5 +1,5 @@
 use Rattle.std.proofs.Common.{◌≡◌, ◌++◌, take}
-use Rattle.fv_jobs_controls.specs.Labels.{labelled}
+use Rattle.fv_jobs_controls.specs.headline.Labels.{labelled}
 use Rattle.fv_jobs_controls.proofs.labels.append_controls.Given as goal
 
 -- the controls so far are there

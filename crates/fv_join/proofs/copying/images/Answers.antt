@@ -1,6 +1,6 @@
-use Rattle.std.proofs.Common.{◌≡◌, ◌<◌, ◌+◌, ℕ, List, length, get_or, sym, ap, ◌∙◌, subst, arith, false}
-use Rattle.fv_base.specs.Lists.{at}
-use Rattle.fv_analysis.specs.Stands.{node}
+use Rattle.std.proofs.Common.{◌≡◌, ◌<◌, ◌+◌, ℕ, ℤ, List, [], length, get_or, sym, ap, ◌∙◌, subst, arith, false}
+use Rattle.fv_base.specs.inner.Lists.{at}
+use Rattle.fv_analysis.specs.headline.Stands.{node}
 use Rattle.fv_join.specs.inner.Copied.{IsUnderWay, copy_of}
 use Rattle.fv_join.proofs.Images.{one_more}
 use Rattle.fv_join.proofs.copying.images.Goals as goal
@@ -11,6 +11,10 @@ image-requires-clause-open c =
     let first = c.args.offsets.groups in
     λ k l. let q = c.requires.open k l in
     (subst (λ (gs : List (List ℕ)). first + k < length gs) (sym h.groups) q.0, ap (λ cs. get_or cs (first + k) false) h.closed ∙ q.1)
+
+pub image-requires-clause-tables : goal.image-requires-clause-tables
+image-requires-clause-tables c = λ t l.
+    ap (λ (ts : List (List ℤ)). get_or ts (c.args.offsets.tables + t) []) c.loop.invariant.tables ∙ c.requires.tables t l
 
 pub loop-preserved : goal.loop-preserved
 loop-preserved c =

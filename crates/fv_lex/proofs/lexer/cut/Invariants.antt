@@ -2,7 +2,7 @@ use Rattle.std.proofs.Common.{◌≡◌, ◌+◌, ◌-◌, ◌≤◌, length, dr
 use Rattle.fv_lex.specs.Spans.{tokens_in, IsWithin}
 use Rattle.fv_lex.specs.Carried.{AllCarry}
 use Rattle.fv_lex.specs.inner.Steps.{IsBare}
-use Rattle.fv_lex.specs.Cuts.{deepest}
+use Rattle.fv_lex.specs.headline.Cuts.{deepest}
 use Rattle.fv_lex.proofs.Loop.{Reads}
 use Rattle.fv_lex.proofs.lexer.cut.Given as goal
 

@@ -1,5 +1,5 @@
 use Rattle.std.proofs.Common.{◌≡◌, ◌+◌, ◌≤◌, length}
-use Rattle.fv_lex.specs.Cuts.{place_after}
+use Rattle.fv_lex.specs.headline.Cuts.{place_after}
 use Rattle.fv_lex.proofs.lexer.place_after.Given as goal
 
 abbrev pub invariant-loop-rest : goal.invariant-loop-rest

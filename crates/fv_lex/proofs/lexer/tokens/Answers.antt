@@ -1,5 +1,5 @@
 use Rattle.std.proofs.Common.{inr}
-use Rattle.fv_lex.specs.Cuts.{too_long}
+use Rattle.fv_lex.specs.headline.Cuts.{too_long}
 use Rattle.fv_lex.proofs.Unique.{only_answer}
 use Rattle.fv_lex.proofs.lexer.tokens.Goals as goal
 

@@ -1,9 +1,9 @@
 use Rattle.std.proofs.Common.{◌≡◌, ◌≤◌, true, length}
 use Rattle.std.specs.List.{list_all}
-use Rattle.fv_lex.specs.Bytes.{is_digit}
-use Rattle.fv_base.specs.Digits.{decimal_after}
-use Rattle.fv_lex.specs.Symbols.{value}
-use Rattle.fv_lex.specs.Pieces.{greatest_literal}
+use Rattle.fv_lex.specs.headline.Bytes.{is_digit}
+use Rattle.fv_base.specs.headline.Digits.{decimal_after}
+use Rattle.fv_lex.specs.headline.Symbols.{value}
+use Rattle.fv_lex.specs.headline.Pieces.{greatest_literal}
 use Rattle.fv_lex.proofs.scan.number.Given as goal
 
 abbrev pub invariant-loop-rest : goal.invariant-loop-rest

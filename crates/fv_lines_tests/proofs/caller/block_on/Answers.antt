@@ -1,9 +1,10 @@
 use Rattle.std.proofs.Common.{rules, ◌≡◌, ◌∙◌, ◌<◌, ℕ, [], List, length, ap, sym, subst}
-use Rattle.fv_num.specs.Words.{argument}
+use Rattle.fv_num.specs.headline.Words.{argument}
 use Rattle.fv_base.proofs.Lists.{length_table}
-use Rattle.fv_loopcode.specs.Lanes.{Lane}
-use Rattle.fv_loopcode.specs.State.{State, lanes_alone}
-use Rattle.fv_loopcode.specs.Code.{ran, frame_of}
+use Rattle.fv_loopcode.specs.headline.Lanes.{Lane}
+use Rattle.fv_loopcode.specs.headline.State.{State, lanes_alone}
+use Rattle.fv_loopcode.specs.headline.Code.{ran}
+use Rattle.fv_loopcode.specs.Code.{frame_of}
 use Rattle.fv_pool.specs.Lengths.{lengths_of}
 use Rattle.fv_lines.specs.Solo.{SoloRest, opening_lanes, lanes_of, lane_at, lengths_in, AreFull}
 use Rattle.fv_lines.specs.declared.solo.Solo.{Solo}

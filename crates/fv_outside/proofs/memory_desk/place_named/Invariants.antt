@@ -1,5 +1,5 @@
 use Rattle.std.proofs.Common.{◌≡◌, ◌<◌, take, Some, None, MatchOption}
-use Rattle.fv_outside.specs.Desk.{file_named}
+use Rattle.fv_outside.specs.headline.Desk.{file_named}
 use Rattle.fv_outside.specs.Drawer.{bytes_at}
 use Rattle.fv_outside.proofs.memory_desk.place_named.Given as goal
 

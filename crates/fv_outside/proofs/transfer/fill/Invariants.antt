@@ -1,5 +1,6 @@
 use Rattle.std.proofs.Common.{◌-◌, ◌≤◌, length, take}
-use Rattle.fv_outside.specs.Desk.{Takes, KeepsFaults}
+use Rattle.fv_outside.specs.headline.Desk.{KeepsFaults}
+use Rattle.fv_outside.specs.Desk.{Takes}
 use Rattle.fv_outside.proofs.transfer.fill.Given as goal
 
 -- the front of the buffer is what was taken

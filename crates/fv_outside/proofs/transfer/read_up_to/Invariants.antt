@@ -1,6 +1,7 @@
 use Rattle.std.proofs.Common.{◌≡◌, ◌-◌, ◌≤◌, length}
 use Rattle.std.specs.Prelude.{vec_len}
-use Rattle.fv_outside.specs.Desk.{Takes, KeepsFaults}
+use Rattle.fv_outside.specs.headline.Desk.{KeepsFaults}
+use Rattle.fv_outside.specs.Desk.{Takes}
 use Rattle.fv_outside.proofs.transfer.read_up_to.Given as goal
 
 -- the bytes so far were taken

@@ -1,5 +1,6 @@
 use Rattle.std.proofs.Common.{◌≡◌, ◌-◌, ◌≤◌, ℕ, List, length}
-use Rattle.fv_outside.specs.Desk.{Takes, KeepsFaults}
+use Rattle.fv_outside.specs.headline.Desk.{KeepsFaults}
+use Rattle.fv_outside.specs.Desk.{Takes}
 use Rattle.fv_outside.proofs.transfer.skip.Given as goal
 
 -- so many bytes were taken

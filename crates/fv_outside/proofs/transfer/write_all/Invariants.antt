@@ -1,5 +1,6 @@
 use Rattle.std.proofs.Common.{◌-◌, ◌≤◌, take, length}
-use Rattle.fv_outside.specs.Desk.{Appends, KeepsFaults}
+use Rattle.fv_outside.specs.headline.Desk.{KeepsFaults}
+use Rattle.fv_outside.specs.Desk.{Appends}
 use Rattle.fv_outside.proofs.transfer.write_all.Given as goal
 
 -- the bytes up to here are written

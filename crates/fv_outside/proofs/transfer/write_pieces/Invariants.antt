@@ -1,5 +1,6 @@
 use Rattle.std.proofs.Common.{take}
-use Rattle.fv_outside.specs.Desk.{Appends, KeepsFaults, joined}
+use Rattle.fv_outside.specs.headline.Desk.{KeepsFaults}
+use Rattle.fv_outside.specs.Desk.{Appends, joined}
 use Rattle.fv_outside.proofs.transfer.write_pieces.Given as goal
 
 -- the pieces up to here are written

@@ -1,5 +1,5 @@
 use Rattle.std.proofs.Common.{◌≡◌, drop}
-use Rattle.fv_parse.specs.StaticErrors.{differing}
+use Rattle.fv_parse.specs.headline.StaticErrors.{differing}
 use Rattle.fv_parse.proofs.clash.differing.Given as goal
 
 abbrev pub invariant-loop-rule : goal.invariant-loop-rule

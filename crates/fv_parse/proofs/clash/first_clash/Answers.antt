@@ -1,6 +1,6 @@
 use Rattle.std.proofs.Common.{◌∙◌}
 use Rattle.fv_parse.proofs.Known.{clash_is, keeps_first, width_on}
-use Rattle.fv_parse.specs.StaticErrors.{width_of}
+use Rattle.fv_parse.specs.headline.StaticErrors.{width_of}
 use Rattle.std.proofs.Common.{take}
 use Rattle.fv_parse.proofs.clash.first_clash.Goals as goal
 

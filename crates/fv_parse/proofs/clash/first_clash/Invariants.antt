@@ -2,7 +2,7 @@ use Rattle.std.proofs.Common.{◌≡◌, ℕ, List, [], take, drop}
 use Rattle.std.specs.BTreeMap.{get_by}
 use Rattle.std.specs.Ordering.{nat_cmp}
 use Rattle.std.specs.Cmp.Lexicographic.{slice_cmp}
-use Rattle.fv_parse.specs.StaticErrors.{width_of, first_clash}
+use Rattle.fv_parse.specs.headline.StaticErrors.{width_of, first_clash}
 use Rattle.fv_parse.proofs.clash.first_clash.Given as goal
 
 abbrev pub invariant-loop-i : goal.invariant-loop-i

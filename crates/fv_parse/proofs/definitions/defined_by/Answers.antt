@@ -1,6 +1,6 @@
 use Rattle.std.proofs.Common.{◌∙◌, length, sym, ap}
 use Rattle.fv_parse_tree.specs.Arena.{trees}
-use Rattle.fv_parse.specs.Definitions.{defined_by}
+use Rattle.fv_parse.specs.headline.Definitions.{defined_by}
 use Rattle.fv_parse.proofs.DefinitionLists.{defines_nothing}
 use Rattle.fv_parse.proofs.definitions.defined_by.Goals as goal
 

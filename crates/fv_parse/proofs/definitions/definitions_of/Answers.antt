@@ -1,6 +1,6 @@
 use Rattle.std.proofs.Common.{◌∙◌, length, ap}
 use Rattle.fv_parse.specs.Trees.{tree_in}
-use Rattle.fv_parse.specs.Definitions.{defined_by}
+use Rattle.fv_parse.specs.headline.Definitions.{defined_by}
 use Rattle.fv_parse.proofs.DefinitionLists.{items_on, items_end}
 use Rattle.fv_parse.proofs.definitions.definitions_of.Goals as goal
 

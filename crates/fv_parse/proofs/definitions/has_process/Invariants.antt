@@ -1,5 +1,5 @@
 use Rattle.std.proofs.Common.{◌≡◌, take, false}
-use Rattle.fv_parse.specs.Definitions.{has_process}
+use Rattle.fv_parse.specs.headline.Definitions.{has_process}
 use Rattle.fv_parse.proofs.definitions.has_process.Given as goal
 
 abbrev pub invariant-loop-defined : goal.invariant-loop-defined

@@ -1,8 +1,9 @@
 use Rattle.std.proofs.Common.{◌≡◌, ◌++◌}
 use Rattle.std.specs.List.{flat_map}
 use Rattle.fv_parse_tree.specs.Arena.{trees}
-use Rattle.fv_parse.specs.Trees.{size_of, tree_in, AllBelow}
-use Rattle.fv_parse.specs.Definitions.{names_in}
+use Rattle.fv_parse.specs.headline.Trees.{AllBelow}
+use Rattle.fv_parse.specs.Trees.{size_of, tree_in}
+use Rattle.fv_parse.specs.headline.Definitions.{names_in}
 use Rattle.fv_parse.proofs.Visiting.{left, weight}
 use Rattle.fv_parse.proofs.definitions.names_in.Given as goal
 

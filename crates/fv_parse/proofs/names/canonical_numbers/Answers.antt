@@ -2,7 +2,7 @@ use Rattle.std.proofs.Common.{◌≡◌, ◌<◌, ◌∙◌, [], length, get_or,
 use Rattle.std.specs.Prelude.{unwrap_or}
 use Rattle.std.proofs.lemmas.List.{length-map}
 use Rattle.std.proofs.lemmas.Option.{get_or_from_slice_get}
-use Rattle.fv_lex.specs.Token.{Token, texts_of}
+use Rattle.fv_lex.specs.headline.Token.{Token, texts_of}
 use Rattle.fv_parse.proofs.Known.{keeps_first}
 use Rattle.fv_parse.proofs.CanonicalNumbers.{seen_in, number_is, numbers_on, seen_on, numbers_end}
 use Rattle.fv_parse.proofs.names.canonical_numbers.Goals as goal

@@ -2,7 +2,7 @@ use Rattle.std.proofs.Common.{◌≡◌, ℕ, List, take, map}
 use Rattle.std.specs.BTreeMap.{get_by}
 use Rattle.std.specs.Ordering.{nat_cmp}
 use Rattle.std.specs.Cmp.Lexicographic.{slice_cmp}
-use Rattle.fv_lex.specs.Token.{texts_of}
+use Rattle.fv_lex.specs.headline.Token.{texts_of}
 use Rattle.fv_parse.specs.Trees.{first_with}
 use Rattle.fv_parse.proofs.CanonicalNumbers.{seen_in}
 use Rattle.fv_parse.proofs.names.canonical_numbers.Given as goal

@@ -1,11 +1,11 @@
 use Rattle.std.proofs.Common.{◌∙◌, ap, sym, inr}
-use Rattle.fv_lex.specs.Token.{symbols_of}
+use Rattle.fv_lex.specs.headline.Token.{symbols_of}
 use Rattle.fv_parse_grammar.specs.Descent.{program}
-use Rattle.fv_parse.specs.Outcomes.{unsupported, syntax_error}
+use Rattle.fv_parse.specs.headline.Outcomes.{unsupported, syntax_error}
 use Rattle.fv_parse.proofs.Lexing.{tokens_nest}
 use Rattle.fv_parse.proofs.Endings.{tree_answer, refusal_answer, no_tree}
 use Rattle.fv_parse.proofs.parser.answer.Goals as goal
-use Rattle.fv_lex.specs.Cuts.{deepest}
+use Rattle.fv_lex.specs.headline.Cuts.{deepest}
 
 pub returns-in-Some-clause-refusal : goal.returns-in-Some-clause-refusal
 returns-in-Some-clause-refusal c = inr (unsupported (sym c.in_ok-word.ensures ∙ c.in-Some.is))

@@ -1,7 +1,7 @@
 use Rattle.std.proofs.Common.{◌∙◌, ap, arith}
 use Rattle.fv_parse_tree.specs.Arena.{trees}
 use Rattle.fv_parse.specs.Trees.{tree_in}
-use Rattle.fv_parse.specs.StaticErrors.{error_of}
+use Rattle.fv_parse.specs.headline.StaticErrors.{error_of}
 use Rattle.fv_parse.proofs.Errors.{among_on}
 use Rattle.fv_parse.proofs.static_errors.error_among.Goals as goal
 

@@ -1,7 +1,7 @@
 use Rattle.std.proofs.Common.{◌≡◌, ◌≤◌, length, drop}
-use Rattle.fv_parse_grammar.specs.Tree.{End}
+use Rattle.fv_parse_grammar.specs.headline.Tree.{End}
 use Rattle.fv_parse_tree.specs.Arena.{trees, forest}
-use Rattle.fv_parse.specs.StaticErrors.{error_of}
+use Rattle.fv_parse.specs.headline.StaticErrors.{error_of}
 use Rattle.fv_parse.proofs.static_errors.error_among.Given as goal
 
 abbrev pub invariant-loop-i : goal.invariant-loop-i

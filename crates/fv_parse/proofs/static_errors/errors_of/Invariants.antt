@@ -1,5 +1,5 @@
 use Rattle.std.proofs.Common.{◌≡◌, length}
-use Rattle.fv_parse.specs.StaticErrors.{AreErrors}
+use Rattle.fv_parse.specs.inner.StaticErrors.{AreErrors}
 use Rattle.fv_parse.proofs.static_errors.errors_of.Given as goal
 
 abbrev pub invariant-loop-i : goal.invariant-loop-i

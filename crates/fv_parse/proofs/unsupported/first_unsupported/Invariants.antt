@@ -1,5 +1,5 @@
 use Rattle.std.proofs.Common.{◌≡◌, drop}
-use Rattle.fv_parse.specs.Unsupported.{unsupported_from, first_unsupported}
+use Rattle.fv_parse.specs.headline.Unsupported.{unsupported_from, first_unsupported}
 use Rattle.fv_parse.proofs.unsupported.first_unsupported.Given as goal
 
 abbrev pub invariant-loop-i : goal.invariant-loop-i

@@ -6,7 +6,7 @@ use Rattle.fv_parse_tree.proofs.Arenas.{length_trees}
 use Rattle.fv_parse_tree.proofs.Steps.{of_front}
 use Rattle.fv_parse_tree.proofs.Endings.{stopped, ended, went_on}
 use Rattle.fv_parse_tree.proofs.text.read.Goals as goal
-use Rattle.fv_lex.specs.Cuts.{deepest}
+use Rattle.fv_lex.specs.headline.Cuts.{deepest}
 
 pub returns-in-Err-Syntax : goal.returns-in-Err-Syntax
 returns-in-Err-Syntax c =

@@ -2,8 +2,8 @@ use Rattle.std.proofs.Common.{◌≡◌, ◌∙◌, ◌-◌, ◌*◌, ◌/◌, �
 use Rattle.std.proofs.Common.{length, take, drop, length-drop, add-one, w32, SFits, to_z, of_z}
 use Rattle.std.proofs.lemmas.List.{take_more_set, take_all}
 use Rattle.std.proofs.lemmas.Int.{to_z-of_z}
-use Rattle.fv_num.specs.Frames.{table}
-use Rattle.fv_pcm.specs.Coded.{sample_of, sample_at}
+use Rattle.fv_num.specs.headline.Frames.{table}
+use Rattle.fv_pcm.specs.headline.Coded.{sample_of, sample_at}
 use Rattle.fv_pcm.proofs.reading.decode.Goals as goal
 
 pub loop-i-preserved : goal.loop-i-preserved

@@ -5,7 +5,7 @@ use borrow.Rule.Slice.PartMut.{put_mid}
 use Rattle.std.proofs.lemmas.List.{take_at}
 use Rattle.std.proofs.lemmas.Int.{to_z-of_z}
 use Rattle.std.proofs.Math.Nat.{mul-le-mul_right}
-use Rattle.fv_pcm.specs.Coded.{sample_bytes}
+use Rattle.fv_pcm.specs.headline.Coded.{sample_bytes}
 use Rattle.fv_outside.proofs.States.{part_front}
 use Rattle.fv_pcm.proofs.Samples.{length_sample, sample_more}
 use Rattle.fv_pcm.proofs.writing.encode.Goals as goal

@@ -1,6 +1,6 @@
 use Rattle.std.proofs.Common.{◌≡◌, ◌*◌, ◌/◌, take}
 use Rattle.std.specs.Prelude.{flat_map}
-use Rattle.fv_pcm.specs.Coded.{sample_bytes}
+use Rattle.fv_pcm.specs.headline.Coded.{sample_bytes}
 use Rattle.fv_pcm.proofs.writing.encode.Given as goal
 
 -- the samples up to here are encoded

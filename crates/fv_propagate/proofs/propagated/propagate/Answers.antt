@@ -1,14 +1,16 @@
 use Rattle.std.proofs.Common.{◌≡◌, ℕ, List, length, sym, ap, ◌∙◌, subst}
-use Rattle.fv_num.specs.Interval.{Interval}
+use Rattle.fv_num.specs.headline.Interval.{Interval}
 use Rattle.fv_num.specs.SpanLaws.{AreSpans}
-use Rattle.fv_signal.specs.Value.{Graph, IsGraph}
+use Rattle.fv_signal.specs.headline.Value.{Graph, IsGraph}
 use Rattle.fv_share.specs.Drafts.{AreClosed, graph_of}
-use Rattle.fv_diagram.specs.Diagram.{inputs}
+use Rattle.fv_diagram.specs.headline.Diagram.{inputs}
 use Rattle.fv_diagram.specs.Arena.{tree_of}
-use Rattle.fv_interval.specs.Delays.{delays_of, AreAccepted}
+use Rattle.fv_interval.specs.headline.Delays.{delays_of}
+use Rattle.fv_interval.specs.Delays.{AreAccepted}
 use Rattle.fv_propagate.specs.inner.Progress.{Progress, IsThere}
-use Rattle.fv_propagate.specs.Propagated.{Propagates, DelaysStayWithin, AreShort, NamesWithin}
-use Rattle.fv_propagate.proofs.Whole.{made, graph, propagates, stays_within, stays_short, names_within, made_wide, made_closed, made_is, inputs_there}
+use Rattle.fv_propagate.specs.headline.Propagated.{Propagates, NamesWithin}
+use Rattle.fv_propagate.specs.Propagated.{DelaysStayWithin, AreShort}
+use Rattle.fv_propagate.proofs.Whole.{made, graph, propagates, stays_within, stays_short, names_within, made_wide, made_closed, made_tableless, made_is, inputs_there}
 use Rattle.fv_propagate.proofs.propagated.propagate.Goals as goal
 
 pub walk-requires-clause-width : goal.walk-requires-clause-width
@@ -34,10 +36,10 @@ finish-requires-clause-closed c =
     let n = c.arity.ensures.numbers in
     let d = tree_of c.args.diagrams.now c.args.root in
     let ds = c.args.delays.now in
-    let is : (c.in_ok-outs.outs.items, c.walk.new.signals) ≡ made d ds r.well r.closed n r.tableless =
+    let is : (c.in_ok-outs.outs.items, c.walk.new.signals) ≡ made d ds r.well r.closed n =
     made_is d ds c.in_ok-ins.ins.items c.in_ok-outs.outs.items c.from-count.result c.new-2.result c.in_ok-progress.progress c.inputs.new.self c.walk.new.signals
     (c.from-count.ensures ∙ c.arity.ensures.arity.0) c.in_ok-progress.ensures c.in_ok-ins.ensures c.new-2.ensures c.in_ok-outs.ensures.walked in
-    subst (λ (r : List ℕ × Progress). AreClosed r.1.draft) (sym is) (made_closed d ds r.well r.closed n r.tableless)
+    subst (λ (r : List ℕ × Progress). AreClosed r.1.draft) (sym is) (made_closed d ds r.well r.closed n)
 
 pub returns-clause-values : goal.returns-clause-values
 returns-clause-values c =
@@ -45,14 +47,14 @@ returns-clause-values c =
     let n = c.arity.ensures.numbers in
     let d = tree_of c.args.diagrams.now c.args.root in
     let ds = c.args.delays.now in
-    let is : (c.in_ok-outs.outs.items, c.walk.new.signals) ≡ made d ds r.well r.closed n r.tableless =
+    let is : (c.in_ok-outs.outs.items, c.walk.new.signals) ≡ made d ds r.well r.closed n =
     made_is d ds c.in_ok-ins.ins.items c.in_ok-outs.outs.items c.from-count.result c.new-2.result c.in_ok-progress.progress c.inputs.new.self c.walk.new.signals
     (c.from-count.ensures ∙ c.arity.ensures.arity.0) c.in_ok-progress.ensures c.in_ok-ins.ensures c.new-2.ensures c.in_ok-outs.ensures.walked in
-    let same : graph_of c.walk.new.signals.draft c.deref.result.now ≡ graph d ds r.well r.closed n r.tableless =
+    let same : graph_of c.walk.new.signals.draft c.deref.result.now ≡ graph d ds r.well r.closed n =
     ap (graph_of c.walk.new.signals.draft) c.deref.ensures.value ∙ ap (λ (r : List ℕ × Progress). graph_of r.1.draft r.0) is in
-    let g : c.in_ok-graph.graph ≡ graph d ds r.well r.closed n r.tableless = c.in_ok-graph.ensures.graph ∙ same in
+    let g : c.in_ok-graph.graph ≡ graph d ds r.well r.closed n = c.in_ok-graph.ensures.graph ∙ same in
     subst (λ (g : Graph). (spans : List Interval) → AreAccepted (delays_of d spans) ds → Propagates d spans g) (sym g)
-    (propagates d ds r.well r.closed n r.tableless (subst IsGraph same c.in_ok-graph.ensures.whole))
+    (propagates d ds r.well r.closed n (subst IsGraph same c.in_ok-graph.ensures.whole))
 
 pub returns-clause-delays : goal.returns-clause-delays
 returns-clause-delays c =
@@ -60,14 +62,14 @@ returns-clause-delays c =
     let n = c.arity.ensures.numbers in
     let d = tree_of c.args.diagrams.now c.args.root in
     let ds = c.args.delays.now in
-    let is : (c.in_ok-outs.outs.items, c.walk.new.signals) ≡ made d ds r.well r.closed n r.tableless =
+    let is : (c.in_ok-outs.outs.items, c.walk.new.signals) ≡ made d ds r.well r.closed n =
     made_is d ds c.in_ok-ins.ins.items c.in_ok-outs.outs.items c.from-count.result c.new-2.result c.in_ok-progress.progress c.inputs.new.self c.walk.new.signals
     (c.from-count.ensures ∙ c.arity.ensures.arity.0) c.in_ok-progress.ensures c.in_ok-ins.ensures c.new-2.ensures c.in_ok-outs.ensures.walked in
-    let same : graph_of c.walk.new.signals.draft c.deref.result.now ≡ graph d ds r.well r.closed n r.tableless =
+    let same : graph_of c.walk.new.signals.draft c.deref.result.now ≡ graph d ds r.well r.closed n =
     ap (graph_of c.walk.new.signals.draft) c.deref.ensures.value ∙ ap (λ (r : List ℕ × Progress). graph_of r.1.draft r.0) is in
-    let g : c.in_ok-graph.graph ≡ graph d ds r.well r.closed n r.tableless = c.in_ok-graph.ensures.graph ∙ same in
+    let g : c.in_ok-graph.graph ≡ graph d ds r.well r.closed n = c.in_ok-graph.ensures.graph ∙ same in
     subst (λ (g : Graph). (spans : List Interval) → AreAccepted (delays_of d spans) ds → DelaysStayWithin d spans g) (sym g)
-    (stays_within d ds r.well r.closed n r.tableless (subst IsGraph same c.in_ok-graph.ensures.whole))
+    (stays_within d ds r.well r.closed n (subst IsGraph same c.in_ok-graph.ensures.whole))
 
 pub returns-clause-short : goal.returns-clause-short
 returns-clause-short c =
@@ -75,14 +77,14 @@ returns-clause-short c =
     let n = c.arity.ensures.numbers in
     let d = tree_of c.args.diagrams.now c.args.root in
     let ds = c.args.delays.now in
-    let is : (c.in_ok-outs.outs.items, c.walk.new.signals) ≡ made d ds r.well r.closed n r.tableless =
+    let is : (c.in_ok-outs.outs.items, c.walk.new.signals) ≡ made d ds r.well r.closed n =
     made_is d ds c.in_ok-ins.ins.items c.in_ok-outs.outs.items c.from-count.result c.new-2.result c.in_ok-progress.progress c.inputs.new.self c.walk.new.signals
     (c.from-count.ensures ∙ c.arity.ensures.arity.0) c.in_ok-progress.ensures c.in_ok-ins.ensures c.new-2.ensures c.in_ok-outs.ensures.walked in
-    let same : graph_of c.walk.new.signals.draft c.deref.result.now ≡ graph d ds r.well r.closed n r.tableless =
+    let same : graph_of c.walk.new.signals.draft c.deref.result.now ≡ graph d ds r.well r.closed n =
     ap (graph_of c.walk.new.signals.draft) c.deref.ensures.value ∙ ap (λ (r : List ℕ × Progress). graph_of r.1.draft r.0) is in
-    let g : c.in_ok-graph.graph ≡ graph d ds r.well r.closed n r.tableless = c.in_ok-graph.ensures.graph ∙ same in
+    let g : c.in_ok-graph.graph ≡ graph d ds r.well r.closed n = c.in_ok-graph.ensures.graph ∙ same in
     subst (λ (g : Graph). (spans : List Interval) → AreSpans spans → AreAccepted (delays_of d spans) ds → AreShort g) (sym g)
-    (stays_short d ds r.well r.closed n r.tableless (subst IsGraph same c.in_ok-graph.ensures.whole))
+    (stays_short d ds r.well r.closed n (subst IsGraph same c.in_ok-graph.ensures.whole))
 
 pub returns-clause-width : goal.returns-clause-width
 returns-clause-width c =
@@ -90,13 +92,13 @@ returns-clause-width c =
     let n = c.arity.ensures.numbers in
     let d = tree_of c.args.diagrams.now c.args.root in
     let ds = c.args.delays.now in
-    let is : (c.in_ok-outs.outs.items, c.walk.new.signals) ≡ made d ds r.well r.closed n r.tableless =
+    let is : (c.in_ok-outs.outs.items, c.walk.new.signals) ≡ made d ds r.well r.closed n =
     made_is d ds c.in_ok-ins.ins.items c.in_ok-outs.outs.items c.from-count.result c.new-2.result c.in_ok-progress.progress c.inputs.new.self c.walk.new.signals
     (c.from-count.ensures ∙ c.arity.ensures.arity.0) c.in_ok-progress.ensures c.in_ok-ins.ensures c.new-2.ensures c.in_ok-outs.ensures.walked in
-    let same : graph_of c.walk.new.signals.draft c.deref.result.now ≡ graph d ds r.well r.closed n r.tableless =
+    let same : graph_of c.walk.new.signals.draft c.deref.result.now ≡ graph d ds r.well r.closed n =
     ap (graph_of c.walk.new.signals.draft) c.deref.ensures.value ∙ ap (λ (r : List ℕ × Progress). graph_of r.1.draft r.0) is in
-    let g : c.in_ok-graph.graph ≡ graph d ds r.well r.closed n r.tableless = c.in_ok-graph.ensures.graph ∙ same in
-    ap (λ (g : Graph). length g.outputs) g ∙ made_wide d ds r.well r.closed n r.tableless
+    let g : c.in_ok-graph.graph ≡ graph d ds r.well r.closed n = c.in_ok-graph.ensures.graph ∙ same in
+    ap (λ (g : Graph). length g.outputs) g ∙ made_wide d ds r.well r.closed n
 
 pub returns-clause-names : goal.returns-clause-names
 returns-clause-names c =
@@ -104,10 +106,23 @@ returns-clause-names c =
     let n = c.arity.ensures.numbers in
     let d = tree_of c.args.diagrams.now c.args.root in
     let ds = c.args.delays.now in
-    let is : (c.in_ok-outs.outs.items, c.walk.new.signals) ≡ made d ds r.well r.closed n r.tableless =
+    let is : (c.in_ok-outs.outs.items, c.walk.new.signals) ≡ made d ds r.well r.closed n =
     made_is d ds c.in_ok-ins.ins.items c.in_ok-outs.outs.items c.from-count.result c.new-2.result c.in_ok-progress.progress c.inputs.new.self c.walk.new.signals
     (c.from-count.ensures ∙ c.arity.ensures.arity.0) c.in_ok-progress.ensures c.in_ok-ins.ensures c.new-2.ensures c.in_ok-outs.ensures.walked in
-    let same : graph_of c.walk.new.signals.draft c.deref.result.now ≡ graph d ds r.well r.closed n r.tableless =
+    let same : graph_of c.walk.new.signals.draft c.deref.result.now ≡ graph d ds r.well r.closed n =
     ap (graph_of c.walk.new.signals.draft) c.deref.ensures.value ∙ ap (λ (r : List ℕ × Progress). graph_of r.1.draft r.0) is in
-    let g : c.in_ok-graph.graph ≡ graph d ds r.well r.closed n r.tableless = c.in_ok-graph.ensures.graph ∙ same in
-    subst (NamesWithin d) (sym g) (names_within d ds r.well r.closed n r.tableless)
+    let g : c.in_ok-graph.graph ≡ graph d ds r.well r.closed n = c.in_ok-graph.ensures.graph ∙ same in
+    subst (NamesWithin d) (sym g) (names_within d ds r.well r.closed n)
+
+pub returns-clause-tables : goal.returns-clause-tables
+returns-clause-tables c =
+    let r = c.requires in
+    let n = c.arity.ensures.numbers in
+    let d = tree_of c.args.diagrams.now c.args.root in
+    let ds = c.args.delays.now in
+    let is : (c.in_ok-outs.outs.items, c.walk.new.signals) ≡ made d ds r.well r.closed n =
+    made_is d ds c.in_ok-ins.ins.items c.in_ok-outs.outs.items c.from-count.result c.new-2.result c.in_ok-progress.progress c.inputs.new.self c.walk.new.signals
+    (c.from-count.ensures ∙ c.arity.ensures.arity.0) c.in_ok-progress.ensures c.in_ok-ins.ensures c.new-2.ensures c.in_ok-outs.ensures.walked in
+    let same : graph_of c.walk.new.signals.draft c.deref.result.now ≡ graph d ds r.well r.closed n =
+    ap (graph_of c.walk.new.signals.draft) c.deref.ensures.value ∙ ap (λ (r : List ℕ × Progress). graph_of r.1.draft r.0) is in
+    λ tableless. ap (λ (g : Graph). g.tables) (c.in_ok-graph.ensures.graph ∙ same) ∙ made_tableless d ds r.well r.closed n tableless

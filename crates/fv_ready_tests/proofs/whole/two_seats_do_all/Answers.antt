@@ -1,5 +1,6 @@
 use Rattle.std.proofs.Common.{◌<◌, false, true, sym, ap, ◌∙◌, subst, arith}
-use Rattle.fv_outside.specs.Tasks.{Tasks, task_count}
+use Rattle.fv_outside.specs.headline.Tasks.{Tasks}
+use Rattle.fv_outside.specs.Tasks.{task_count}
 use Rattle.fv_graph.specs.Graph.{source_of}
 use Rattle.fv_ready_rule.specs.declared.Deed.TheVariants.{Stamped}
 use Rattle.fv_ready_rule.specs.Rule.{done_by, arrives, finishes}

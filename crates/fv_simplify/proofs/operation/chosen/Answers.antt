@@ -1,6 +1,6 @@
 use Rattle.std.proofs.Common.{◌≡◌, ◌<◌, ℕ, length, take, get_or, sym, ap, ap₂, ◌∙◌, arith}
 use Rattle.std.proofs.lemmas.List.{get_or_default}
-use Rattle.fv_num.specs.Words.{inputs_of}
+use Rattle.fv_num.specs.headline.Words.{inputs_of}
 use Rattle.fv_simplify_rules.specs.Choices.{choice, pair}
 use Rattle.fv_simplify_rules.specs.Nodes.{number_at, known}
 use Rattle.fv_simplify_rules.proofs.Choices.{choice_within}

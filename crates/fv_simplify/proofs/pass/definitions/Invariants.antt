@@ -1,5 +1,5 @@
 use Rattle.std.proofs.Common.{◌≡◌}
-use Rattle.fv_base.specs.Lists.{table}
+use Rattle.fv_base.specs.headline.Lists.{table}
 use Rattle.fv_share.specs.Drafts.{lists_in}
 use Rattle.fv_simplify.proofs.Whole.{list_at}
 use Rattle.fv_simplify.proofs.pass.definitions.Given as goal

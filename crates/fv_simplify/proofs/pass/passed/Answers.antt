@@ -5,7 +5,7 @@ use Rattle.fv_simplify_rules.specs.Nodes.{node}
 use Rattle.fv_simplify.specs.Passing.{room_in}
 use Rattle.fv_simplify.specs.Runs.{Pass, step, begun}
 use Rattle.fv_simplify.proofs.Along.{stepped}
-use Rattle.fv_simplify.proofs.Rest.{are_pending}
+use Rattle.fv_simplify.proofs.Rest.{are_pending, are_tabled}
 use Rattle.fv_simplify.proofs.Closes.{steps_more, images_long, some_signals, all_push}
 use Rattle.fv_simplify.proofs.pass.passed.Goals as goal
 
@@ -31,6 +31,12 @@ next-requires-clause-open c =
     let g = c.args.graph.now in
     λ k l. subst (λ (p : Pass). IsPending p.draft k) at.invariant.pass
     (are_pending g c.args.marks.now (room_in c.args.rooms.now) (take at.place g.signals) k l)
+
+pub next-requires-clause-tables : goal.next-requires-clause-tables
+next-requires-clause-tables c =
+    let at = c.loop-place in
+    let g = c.args.graph.now in
+    ap (λ (p : Pass). p.draft.tables) (sym at.invariant.pass) ∙ are_tabled g c.args.marks.now (room_in c.args.rooms.now) (take at.place g.signals)
 
 pub loop-place-preserved : goal.loop-place-preserved
 loop-place-preserved c =

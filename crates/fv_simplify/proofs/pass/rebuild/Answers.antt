@@ -1,6 +1,6 @@
 use Rattle.std.proofs.Common.{◌≡◌, ◌<◌, ℕ, List, length, map, get_or, All, sym, ap, ap₂, ◌∙◌, subst, arith}
 use Rattle.std.proofs.lemmas.List.Elements.{All-get_or, All-from_get_or, All-map}
-use Rattle.fv_signal.specs.Value.{members, IsGraph}
+use Rattle.fv_signal.specs.headline.Value.{members, IsGraph}
 use Rattle.fv_share.specs.Drafts.{Draft, AreClosed, CanClose, graph_of, lists_in, with_all_members}
 use Rattle.fv_simplify_rules.specs.Rebuilt.{IsMarked, IsRebuilt}
 use Rattle.fv_simplify.specs.Passing.{room_in}

@@ -2,7 +2,7 @@ use Rattle.std.proofs.Common.{◌≡◌, ◌+◌, ◌<◌, ℕ, length, get_or, 
 use Rattle.std.specs.Prelude.{Option}
 use Rattle.std.proofs.lemmas.List.{with_items_is}
 use Rattle.fv_signal.specs.declared.signal.Signal.TheVariants.{Const}
-use Rattle.fv_signal.specs.Value.{OperandsBelow}
+use Rattle.fv_signal.specs.headline.Value.{OperandsBelow}
 use Rattle.fv_simplify_rules.specs.Nodes.{node}
 use Rattle.fv_simplify_rules.specs.Rebuilt.{IsRoom}
 use Rattle.fv_simplify.specs.Passing.{room_in}

@@ -1,5 +1,5 @@
 use Rattle.std.proofs.lemmas.Result.{IfOk-weaker}
-use Rattle.fv_simplify_rules.specs.Reducible.{AreShort}
+use Rattle.fv_simplify_rules.specs.headline.Reducible.{AreShort}
 use Rattle.fv_simplify_rules.specs.Rebuilt.{IsMarked}
 use Rattle.fv_simplify_rules.specs.Simpler.{no_room}
 use Rattle.fv_simplify_rules.proofs.Reaches.{short_kept}

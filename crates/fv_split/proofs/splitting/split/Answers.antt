@@ -1,13 +1,14 @@
 use Rattle.std.proofs.Common.{◌≡◌, ℕ, ◌<◌, List, length, map, sym, ap, ◌∙◌, subst, arith, All}
-use Rattle.fv_num.specs.Frames.{table}
+use Rattle.fv_num.specs.headline.Frames.{table}
 use Rattle.fv_base.proofs.Lists.{length_table}
-use Rattle.fv_signal.specs.Rates.{rates}
+use Rattle.fv_signal.specs.headline.Rates.{rates}
 use Rattle.fv_loopcode.specs.Code.{AreSound, NamesLane}
-use Rattle.fv_analysis.specs.Stands.{stands_of}
-use Rattle.fv_analysis.specs.History.{history_of}
+use Rattle.fv_analysis.specs.headline.Stands.{stands_of}
+use Rattle.fv_analysis.specs.headline.History.{history_of}
 use Rattle.fv_analysis.proofs.StandLemmas.{stands_long}
 use Rattle.fv_split_plan.specs.Rows.{plan_with}
-use Rattle.fv_split_plan.specs.Plans.{PlanStands, PlanReads, PlanNames, IsPlanOf}
+use Rattle.fv_split_plan.specs.headline.Plans.{PlanStands, PlanReads, PlanNames, IsPlanOf}
+use Rattle.fv_split_plan.proofs.NodeLemmas.{no_tables}
 use Rattle.fv_split_code.specs.Emitted.{code_in}
 use Rattle.fv_split.specs.inner.Lists.{lane_of}
 use Rattle.fv_split.specs.inner.ToldReads.{reads_of_loops}
@@ -17,6 +18,9 @@ use Rattle.fv_split.proofs.SuitLemmas.{Passes, are_tables}
 use Rattle.fv_split.proofs.PlanLemmas.{all_sound, all_named, all_owned, is_plan, with_held}
 use Rattle.fv_split.proofs.splitting.split.Goals as goal
 use Rattle.fv_split.proofs.splitting.split.Goals.{After-tables-1, In_ok-held}
+
+pub held_code-requires-clause-tableless : goal.held_code-requires-clause-tableless
+held_code-requires-clause-tableless c = no_tables c.args.graph.now c.outputs-named.ensures.graph c.requires.tableless
 
 pub bases-requires-clause-stands : goal.bases-requires-clause-stands
 bases-requires-clause-stands c = ap length (c.deref-2.ensures.value ∙ c.in_ok-stands.ensures.stands) ∙ stands_long c.args.graph.now
@@ -47,6 +51,7 @@ passes c =
     c.deref-3.ensures.value c.deref-4.ensures.value c.in_ok-bases.ensures in
     record {
       graph = c.outputs-named.ensures.graph;
+      tableless = c.requires.tableless;
       placed = c.in_ok-places.ensures;
       is_stands = c.in_ok-stands.ensures.stands;
       held = c.in_ok-values.ensures.1;

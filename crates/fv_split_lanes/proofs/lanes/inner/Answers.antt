@@ -1,9 +1,9 @@
 use Rattle.std.proofs.Common.{◌≡◌, ap, ◌∙◌, subst, arith, false}
 use Rattle.std.specs.Prelude.{◌↔◌, IsTrue}
 use Rattle.fv_signal.specs.declared.rate.Rate.TheVariants as rate
-use Rattle.fv_signal.specs.Rates.{rate_at}
-use Rattle.fv_analysis.specs.Stands.{node}
-use Rattle.fv_split_plan.specs.Separated.{IsComputed}
+use Rattle.fv_signal.specs.headline.Rates.{rate_at}
+use Rattle.fv_analysis.specs.headline.Stands.{node}
+use Rattle.fv_split_plan.specs.headline.Separated.{IsComputed}
 use Rattle.fv_split_lanes.specs.inner.Homes.{bit_at}
 use Rattle.fv_split_plan.proofs.NodeLemmas.{node_read}
 use Rattle.fv_split_lanes.proofs.NumberLemmas.{inner_more}

@@ -1,7 +1,7 @@
 use Rattle.std.proofs.Common.{ap, ◌∙◌, subst, arith}
 use Rattle.std.specs.Prelude.{◌↔◌, IsTrue}
-use Rattle.fv_signal.specs.Rates.{rate_at}
-use Rattle.fv_analysis.specs.Stands.{node}
+use Rattle.fv_signal.specs.headline.Rates.{rate_at}
+use Rattle.fv_analysis.specs.headline.Stands.{node}
 use Rattle.fv_split_lanes.specs.inner.Readers.{reader_at}
 use Rattle.fv_split_lanes.specs.inner.Marked.{Shared, IsSharedBy}
 use Rattle.fv_split_plan.proofs.NodeLemmas.{node_read}

@@ -1,7 +1,7 @@
 use Rattle.std.proofs.Common.{◌≡◌, ◌<◌, [], length, sym, ap, ◌∙◌, subst, arith, All, false}
 use Rattle.std.proofs.lemmas.List.Elements.{All-from_get_or}
-use Rattle.fv_signal.specs.Value.{Graph}
-use Rattle.fv_signal.specs.Rates.{rate_in, rate_at, rates}
+use Rattle.fv_signal.specs.headline.Value.{Graph}
+use Rattle.fv_signal.specs.headline.Rates.{rate_in, rate_at, rates}
 use Rattle.fv_signal.proofs.Grown.{length_grown}
 use Rattle.fv_analysis.proofs.StandLemmas.{stands_long}
 use Rattle.fv_split_lanes.specs.inner.Homes.{bit_at}

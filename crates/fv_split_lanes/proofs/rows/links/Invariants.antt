@@ -1,4 +1,4 @@
-use Rattle.fv_split_plan.specs.Separated.{links_of}
+use Rattle.fv_split_plan.specs.headline.Separated.{links_of}
 use Rattle.fv_split_lanes.specs.inner.Rows.{AreRows}
 use Rattle.fv_split_lanes.proofs.rows.links.Given as goal
 

@@ -1,5 +1,5 @@
 use Rattle.std.proofs.Common.{◌≤◌, length, get_or}
-use Rattle.fv_outside.specs.Tasks.{total}
+use Rattle.fv_outside.specs.headline.Tasks.{total}
 use Rattle.fv_steal.specs.inner.Gathers.{HasGiven}
 use Rattle.fv_steal.specs.declared.worker.Worker.{Worker}
 use Rattle.fv_steal.proofs.gathering.gather_from.Given as goal

@@ -1,5 +1,5 @@
 use Rattle.std.proofs.Common.{◌∙◌, ◌≤◌, ◌<◌, sym, subst, refl, length, ℕ, arith, vec_capacity}
-use Rattle.fv_outside.specs.Tasks.{Tasks}
+use Rattle.fv_outside.specs.headline.Tasks.{Tasks}
 use Rattle.fv_graph.specs.Graph.{inward, outward, task_at}
 use Rattle.fv_ready_rule.specs.Rule.{done_by, stamps}
 use Rattle.fv_ready_rule.specs.declared.View.{View}

@@ -1,7 +1,7 @@
 use Rattle.std.proofs.Common.{◌≡◌, ◌<◌, ◌≤◌, ◌-◌, ◌++◌, length, map, take, drop, sym, ap, ◌∙◌, subst, arith, vec_len, vec_capacity}
 use Rattle.std.specs.List.{flat_map}
 use Rattle.fv_outside.specs.Tasks.{task_count}
-use Rattle.fv_outside.specs.Journal.{IsOrdered}
+use Rattle.fv_outside.specs.headline.Journal.{IsOrdered}
 use Rattle.fv_graph.specs.Graph.{Graph, edges_of, net_of}
 use Rattle.fv_ready_rule.specs.Rule.{wins}
 use Rattle.fv_ready.specs.Boards.{about_of, name_of, tasks_of}

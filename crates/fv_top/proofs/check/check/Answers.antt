@@ -2,12 +2,13 @@ use Rattle.std.proofs.Common.{◌≡◌, length, ◌∙◌, ap}
 use Rattle.std.specs.Prelude.{Some, sum}
 use Rattle.std.proofs.lemmas.Result.{err_from_is_err_and}
 use Rattle.fv_diagram.specs.Arena.{tree_of}
-use Rattle.fv_diagram.specs.Diagram.{inputs, outputs, size}
+use Rattle.fv_diagram.specs.headline.Diagram.{inputs, outputs, size}
 use Rattle.fv_eval.specs.Evaluated.{Evaluated}
-use Rattle.fv_top_report.specs.Lines.{check_line}
-use Rattle.fv_top.specs.Meant.{check_meant}
-use Rattle.fv_top_text.specs.Program.{TextIs, IsOfText}
-use Rattle.fv_top.specs.Promise.{HasNoProgram}
+use Rattle.fv_top_report.specs.headline.Lines.{check_line}
+use Rattle.fv_top.specs.headline.Meant.{check_meant}
+use Rattle.fv_top_text.specs.headline.Program.{TextIs}
+use Rattle.fv_top_text.specs.Program.{IsOfText}
+use Rattle.fv_top.specs.headline.Promise.{HasNoProgram}
 use Rattle.fv_base.specs.declared.role.Role.TheVariants.{Program}
 use Rattle.fv_top_text.specs.Compiled.{compiled_of}
 use Rattle.fv_top.proofs.Reaching.{FailsToLoad}

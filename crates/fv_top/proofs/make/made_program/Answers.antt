@@ -1,12 +1,13 @@
 use Rattle.std.proofs.Common.{◌≡◌, ◌⊎◌, List, ℕ, Ok, Err, ◌∙◌, ap, subst}
 use Rattle.std.proofs.lemmas.Result.{err_from_is_err_and}
-use Rattle.fv_diagram.specs.Diagram.{inputs}
-use Rattle.fv_top_make.specs.Made.{text_of}
+use Rattle.fv_diagram.specs.headline.Diagram.{inputs}
+use Rattle.fv_top_make.specs.headline.Made.{text_of}
 use Rattle.fv_top_report.specs.declared.refusal.Refusal.TheVariants.{NoMemory}
-use Rattle.fv_top_text.specs.Compiled.{Compiled}
-use Rattle.fv_top_playable.specs.Tableless.{IsOfPlayed, PlayedIs}
+use Rattle.fv_top_text.specs.headline.Compiled.{Compiled}
+use Rattle.fv_top_playable.specs.headline.Tableless.{PlayedIs}
+use Rattle.fv_top_playable.specs.Tableless.{IsOfPlayed}
 use Rattle.fv_top_words.specs.declared.manner.ProgramKind.TheVariants.{Alone}
-use Rattle.fv_top.specs.Promise.{IsMade}
+use Rattle.fv_top.specs.headline.Promise.{IsMade}
 use Rattle.fv_top.proofs.Making.{only_memory}
 use Rattle.fv_top.proofs.make.made_program.Goals as goal
 use Rattle.fv_top.proofs.make.made_program.Goals.{In_ok-playable}

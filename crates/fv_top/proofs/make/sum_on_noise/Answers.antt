@@ -2,13 +2,14 @@ use Rattle.std.proofs.Common.{◌≡◌, ℕ, ℤ, List, [], ◌*◌, length, ar
 use Rattle.std.specs.Prelude.{All}
 use Rattle.std.proofs.lemmas.Int.{to_z_pos}
 use Rattle.fv_diagram.specs.Controls.{IsBounded}
-use Rattle.fv_diagram.specs.Diagram.{inputs}
+use Rattle.fv_diagram.specs.headline.Diagram.{inputs}
 use Rattle.fv_diagram.specs.declared.control.ControlInfo.{ControlInfo}
-use Rattle.fv_engine_render.specs.Render.{CanBePlayed, RanWhole, initial_of}
-use Rattle.fv_top_make.specs.Made.{sum_of, noise_of}
+use Rattle.fv_engine_render.specs.headline.Render.{initial_of}
+use Rattle.fv_engine_render.specs.Render.{CanBePlayed, RanWhole}
+use Rattle.fv_top_make.specs.headline.Made.{sum_of, noise_of}
 use Rattle.fv_engine_render.specs.declared.blocks.RunSizes.{RunSizes}
-use Rattle.fv_control.specs.Streams.{control_streams}
-use Rattle.fv_diagram.specs.Samples.{answer_on}
+use Rattle.fv_control.specs.headline.Streams.{control_streams}
+use Rattle.fv_diagram.specs.headline.Samples.{answer_on}
 use Rattle.fv_top.proofs.Making.{answer_alike, noise_heard}
 use Rattle.fv_top.proofs.Ran.{can_be_played, set_to_play}
 use Rattle.fv_top.proofs.make.sum_on_noise.Goals as goal

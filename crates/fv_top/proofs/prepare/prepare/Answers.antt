@@ -1,24 +1,27 @@
 use Rattle.std.proofs.Common.{◌≡◌, ℕ, ◌^◌, ◌<◌, ◌≤◌, List, length, sym, ◌∙◌, ap, ap₂, subst, refl}
 use Rattle.std.specs.Prelude.{Ok, Err, Some, Option, Result}
 use Rattle.fv_base.specs.declared.limits.TheConstants.{MOST_CHANNELS}
-use Rattle.fv_diagram.specs.Diagram.{Diagram, inputs, outputs}
+use Rattle.fv_diagram.specs.headline.Diagram.{Diagram, inputs, outputs}
 use Rattle.std.specs.List.{AllByRecursion}
 use Rattle.std.proofs.lemmas.Result.{err_from_is_err_and}
 use Rattle.fv_base.specs.declared.role.Role.TheVariants.{Program, Controls, Input}
 use Rattle.fv_diagram.specs.declared.control.ControlInfo.{ControlInfo}
 use Rattle.fv_control.specs.Laws.{IsOfControls}
-use Rattle.fv_top_words.specs.Runs.{Run, Settings}
+use Rattle.fv_top_words.specs.headline.Runs.{Run, Settings}
 use Rattle.fv_top_words.specs.Views.{run_in as run_view}
 use Rattle.fv_top_report.specs.declared.refusal.Refusal.{Refusal}
-use Rattle.fv_top_files.specs.Loading.{StopsLoading, HasScript, HasInput, IsHeadRefusal}
-use Rattle.fv_top_text.specs.Compiled.{Compiled}
-use Rattle.fv_top_playable.specs.Tableless.{PlayedIs, IsOfPlayed}
+use Rattle.fv_top_files.specs.headline.Loading.{HasScript, HasInput}
+use Rattle.fv_top_files.specs.Loading.{StopsLoading, IsHeadRefusal}
+use Rattle.fv_top_text.specs.headline.Compiled.{Compiled}
+use Rattle.fv_top_playable.specs.headline.Tableless.{PlayedIs}
+use Rattle.fv_top_playable.specs.Tableless.{IsOfPlayed}
 use Rattle.fv_top_files.specs.Formats.{format_in}
 use Rattle.fv_top_files.specs.Loaded.{held_in}
 use Rattle.fv_pcm.specs.declared.coding.Coding.{Coding}
 use Rattle.fv_top_files.specs.declared.incoming.Incoming.{Incoming}
-use Rattle.fv_top_files.specs.Output.{OutputFormat, coding_of, format_for, format_of}
-use Rattle.fv_top.specs.Promise.{HasNoProgram, IsScriptRefusal}
+use Rattle.fv_top_files.specs.headline.Output.{OutputFormat, coding_of, format_for, format_of}
+use Rattle.fv_top.specs.headline.Promise.{HasNoProgram}
+use Rattle.fv_top.specs.inner.Promise.{IsScriptRefusal}
 use Rattle.fv_top.proofs.Preparing.{AfterProgram, AfterScript, AfterHead, after_program, after_script, after_head}
 use Rattle.fv_top.proofs.Preparing.{stops_program, stops_script, stops_head, stops_fit, stops_memory, files_are, named_is}
 use Rattle.fv_top.proofs.Reaching.{FailsToLoad, fits_frames}

@@ -6,9 +6,9 @@ use Rattle.fv_engine_render.specs.Render.{CanBePlayed}
 use Rattle.fv_engine_render.specs.Stops.{IsSetFor}
 use Rattle.fv_engine_render.specs.declared.blocks.RunSizes.{RunSizes}
 use Rattle.fv_file_tape.specs.Tapes.{channels_of}
-use Rattle.fv_pcm.specs.Sizes.{data_size}
+use Rattle.fv_pcm.specs.headline.Sizes.{data_size}
 use Rattle.fv_top_words.specs.Views.{settings_in}
-use Rattle.fv_top.specs.Played.{sizes_of}
+use Rattle.fv_top.specs.headline.Played.{sizes_of}
 use Rattle.fv_top.specs.inner.Prepared.{output_head}
 use Rattle.fv_top.proofs.Playing.{channels_are}
 use Rattle.fv_top.proofs.Ran.{can_be_played, can_have}

@@ -2,9 +2,9 @@ use Rattle.std.proofs.Common.{◌∙◌, Ok, map, sym, ap, refl, inr, ⊎_elim}
 use Rattle.std.specs.Prelude.{string_bytes}
 use Rattle.std.proofs.lemmas.Result.{err_from_is_err_and, IfOk-weaker, IfErr-weaker}
 use Rattle.fv_top_words.specs.declared.command.Job.{Job as Jobs}
-use Rattle.fv_top_words.specs.Commands.{Playing, Checking, Making}
+use Rattle.fv_top_words.specs.headline.Commands.{Playing, Checking, Making}
 use Rattle.fv_top_words.specs.Views.{run_in as run_view, job_view}
-use Rattle.fv_top.specs.Promise.{Asks}
+use Rattle.fv_top.specs.headline.Promise.{Asks}
 use Rattle.fv_top.proofs.Stopping.{stopped_usage, stopped_check, checked, stopped_make, made}
 use Rattle.fv_top.proofs.Ran.{make_ran, make_so_far, untold_first, untold_words}
 use Rattle.fv_top.proofs.run.perform.Given.{Over}

@@ -1,12 +1,12 @@
 use Rattle.std.proofs.Common.{List, ℕ, sym, subst, refl, inr}
 use Rattle.std.proofs.lemmas.Result.{err_from_is_err_and}
 use Rattle.fv_base.specs.declared.role.Role.TheVariants.{Output}
-use Rattle.fv_top_words.specs.Commands.{Playing}
+use Rattle.fv_top_words.specs.headline.Commands.{Playing}
 use Rattle.fv_top_words.specs.Views.{run_in as run_view}
 use Rattle.fv_top_report.specs.declared.refusal.Refusal.{Refusal}
-use Rattle.fv_top_text.specs.Compiled.{Compiled}
-use Rattle.fv_top.specs.Promise.{Asks}
-use Rattle.fv_top.specs.Played.{RanSoFar}
+use Rattle.fv_top_text.specs.headline.Compiled.{Compiled}
+use Rattle.fv_top.specs.headline.Promise.{Asks}
+use Rattle.fv_top.specs.headline.Played.{RanSoFar}
 use Rattle.fv_top.specs.inner.Running.{Stopped}
 use Rattle.fv_top.proofs.Stopping.{stopped_before}
 use Rattle.fv_top.proofs.Delivering.{IsReady, stopped_playing, stopped_telling, played_whole, blocks_stopped, blocks_told, blocks_done}

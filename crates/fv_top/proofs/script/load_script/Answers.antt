@@ -2,12 +2,12 @@ use Rattle.std.proofs.Common.{◌≡◌, ◌∙◌, [], sym, ap, refl}
 use Rattle.std.specs.Prelude.{Err, Ok, Some, None}
 use Rattle.std.proofs.lemmas.Result.{err_from_is_err_and}
 use Rattle.fv_base.specs.declared.role.Role.TheVariants.{Controls}
-use Rattle.fv_control.specs.Script.{script}
+use Rattle.fv_control.specs.headline.Script.{script}
 use Rattle.fv_top_report.specs.declared.refusal.Refusal.{Refusal}
-use Rattle.fv_top_files.specs.Sources.{scripted}
-use Rattle.fv_top_report.specs.Layers.{of_script}
-use Rattle.fv_top_files.specs.Loading.{HasScript}
-use Rattle.fv_top.specs.Promise.{IsScriptRefusal}
+use Rattle.fv_top_files.specs.headline.Sources.{scripted}
+use Rattle.fv_top_report.specs.headline.Layers.{of_script}
+use Rattle.fv_top_files.specs.headline.Loading.{HasScript}
+use Rattle.fv_top.specs.inner.Promise.{IsScriptRefusal}
 use Rattle.fv_top_files.proofs.Loads.{stops_refused}
 use Rattle.fv_top.proofs.Scripts.{script_is, script_refused, no_script}
 use Rattle.fv_top.proofs.script.load_script.Goals as goal

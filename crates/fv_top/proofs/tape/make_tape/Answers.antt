@@ -1,7 +1,7 @@
 use Rattle.std.proofs.Common.{rules, ◌≡◌, ◌*◌, ◌/◌, ◌≤◌, length, arith}
 use Rattle.std.specs.Option.{ForSome}
 use Rattle.std.proofs.Math.Nat.{div-mul-le_self}
-use Rattle.fv_pcm.specs.Sizes.{frame_size, stated_frames, whole_bytes}
+use Rattle.fv_pcm.specs.headline.Sizes.{frame_size, stated_frames, whole_bytes}
 use Rattle.fv_file_tape.specs.Tapes.{IsInput, layout_of}
 use Rattle.fv_top.proofs.Playing.{of_head, room_is}
 use Rattle.fv_top.proofs.tape.make_tape.Goals as goal

@@ -1,6 +1,6 @@
 use Rattle.std.proofs.Common.{◌≡◌, ℤ, pos, ◌+ℤ◌, ◌+◌, suc, take, get_or, sym, ap, ◌∙◌, rules, arith, SFits, w32, to_z, to_z-of_z}
 use Rattle.std.proofs.Math.Seq.{take-suc}
-use Rattle.fv_num.specs.Words.{wrap}
+use Rattle.fv_num.specs.headline.Words.{wrap}
 use Rattle.fv_top_make.specs.Made.{sum_from}
 use Rattle.fv_top_make.proofs.Sounding.{sum_one}
 use Rattle.fv_top_make.proofs.noise_tape.give.Goals as goal

@@ -2,8 +2,9 @@ use Rattle.std.proofs.Common.{◌≡◌, suc, ◌+◌, ℤ, pos, ◌∷◌, [], 
 use Rattle.std.proofs.Math.Seq.{take-suc-set}
 use Rattle.std.specs.Prelude.{slice_set}
 use Rattle.std.proofs.lemmas.List.{length-set}
-use Rattle.fv_num.specs.Words.{shifted_right}
-use Rattle.fv_top_make.specs.Made.{next_state, noise_behind, state_behind}
+use Rattle.fv_num.specs.headline.Words.{shifted_right}
+use Rattle.fv_top_make.specs.headline.Made.{next_state, noise_behind}
+use Rattle.fv_top_make.specs.Made.{state_behind}
 use Rattle.fv_top_make.proofs.Sounding.{noise_more, state_more}
 use Rattle.fv_top_make.proofs.noise_tape.sound.Goals as goal
 

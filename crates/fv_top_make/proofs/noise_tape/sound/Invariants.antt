@@ -1,5 +1,6 @@
 use Rattle.std.proofs.Common.{◌≡◌, ◌≤◌, ◌-◌, length, take}
-use Rattle.fv_top_make.specs.Made.{noise_behind, state_behind}
+use Rattle.fv_top_make.specs.headline.Made.{noise_behind}
+use Rattle.fv_top_make.specs.Made.{state_behind}
 use Rattle.fv_top_make.proofs.noise_tape.sound.Given as goal
 
 abbrev pub invariant-sounding : goal.invariant-sounding

@@ -1,6 +1,6 @@
 use Rattle.std.proofs.Common.{◌<◌, ◌++◌, List, length, ap, ap₂, ◌∙◌, arith}
 use Rattle.fv_diagram.specs.declared.control.ControlInfo.{ControlInfo}
-use Rattle.fv_jobs_controls.specs.Labels.{labelled}
+use Rattle.fv_jobs_controls.specs.headline.Labels.{labelled}
 use Rattle.fv_top_rack.specs.declared.programs.Read.{Read}
 use Rattle.fv_top_playable.proofs.Jobs.{controls_more}
 use Rattle.fv_top_playable.proofs.rack.controls_of.Goals as goal

@@ -1,9 +1,9 @@
 use Rattle.std.proofs.Common.{◌≡◌, ◌+◌, ◌++◌, ◌∷◌, [], List, length, take, sym, ap, ◌∙◌, subst, arith}
 use Rattle.std.proofs.lemmas.List.{length-append, length-take-le, take_all}
 use Rattle.fv_join.specs.declared.job.Job.{Job}
-use Rattle.fv_join_diagrams.specs.Parts.{Part}
+use Rattle.fv_join_diagrams.specs.headline.Parts.{Part}
 use Rattle.fv_top_rack.specs.declared.programs.Read.{Read}
-use Rattle.fv_top_rack.specs.Racks.{part_of}
+use Rattle.fv_top_rack.specs.headline.Racks.{part_of}
 use Rattle.fv_top_text.specs.Compiled.{compiled_of}
 use Rattle.fv_top_playable.proofs.Jobs.{Each, are_jobs, one_job_more, parts_in, parts_long, parts_more}
 use Rattle.fv_top_playable.proofs.rack.jobs_of.Goals as goal

@@ -2,7 +2,7 @@ use Rattle.std.proofs.Common.{ℕ, ◌≤◌, List, length, take, All, arith}
 use Rattle.std.specs.List.{sum_by}
 use Rattle.std.proofs.lemmas.List.Sums.{sum_by-le, sum_by-take-le}
 use Rattle.fv_base.specs.declared.limits.TheConstants.{MOST_CHANNELS}
-use Rattle.fv_diagram.specs.Diagram.{inputs, outputs}
+use Rattle.fv_diagram.specs.headline.Diagram.{inputs, outputs}
 use Rattle.fv_top_text.specs.Compiled.{compiled_of}
 use Rattle.fv_top_rack.specs.declared.programs.Read.{Read}
 use Rattle.fv_top_rack.proofs.jobs.arity_of.Goals as goal

@@ -1,6 +1,6 @@
 use Rattle.std.proofs.Common.{◌≡◌, take}
 use Rattle.std.specs.List.{sum_by}
-use Rattle.fv_diagram.specs.Diagram.{inputs, outputs}
+use Rattle.fv_diagram.specs.headline.Diagram.{inputs, outputs}
 use Rattle.fv_top_text.specs.Compiled.{compiled_of}
 use Rattle.fv_top_rack.proofs.jobs.arity_of.Given as goal
 

@@ -2,11 +2,12 @@ use Rattle.std.proofs.Common.{◌+◌, ◌<◌, ◌∷◌, [], List, ℕ, All, O
 use Rattle.std.proofs.lemmas.Result.{err_from_is_err_and}
 use Rattle.std.proofs.lemmas.List.{length-append, map_push}
 use Rattle.std.proofs.lemmas.List.Elements.{All-push}
-use Rattle.fv_top_report.specs.Lines.{row_of}
+use Rattle.fv_top_report.specs.headline.Lines.{row_of}
 use Rattle.fv_top_report.specs.declared.refusal.Refusal.{Refusal}
-use Rattle.fv_top_text.specs.Compiled.{Compiled, compiled_of}
-use Rattle.fv_top_text.specs.Program.{TextIs}
-use Rattle.fv_top_rack.specs.Racks.{EachIs}
+use Rattle.fv_top_text.specs.headline.Compiled.{Compiled}
+use Rattle.fv_top_text.specs.Compiled.{compiled_of}
+use Rattle.fv_top_text.specs.headline.Program.{TextIs}
+use Rattle.fv_top_rack.specs.headline.Racks.{EachIs}
 use Rattle.fv_top_rack.specs.Reads.{IsRead, programs_in}
 use Rattle.fv_top_rack.specs.declared.programs.Read.{Read}
 use Rattle.fv_top_rack.proofs.Each.{each_more, each_refused}

@@ -1,5 +1,5 @@
 use Rattle.std.proofs.Common.{◌≡◌, take, length, All, Ok}
-use Rattle.fv_top_rack.specs.Racks.{EachIs}
+use Rattle.fv_top_rack.specs.headline.Racks.{EachIs}
 use Rattle.fv_top_rack.specs.Reads.{IsRead, programs_in}
 use Rattle.fv_top_rack.proofs.jobs.read_jobs.Given as goal
 

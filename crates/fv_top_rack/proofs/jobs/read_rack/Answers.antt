@@ -3,11 +3,12 @@ use Rattle.std.specs.Prelude.{sum}
 use Rattle.std.specs.List.{sum_by}
 use Rattle.std.proofs.lemmas.Result.{err_from_is_err_and}
 use Rattle.fv_base.specs.declared.limits.TheConstants.{MOST_CHANNELS, MOST_JOBS}
-use Rattle.fv_diagram.specs.Diagram.{inputs, outputs}
-use Rattle.fv_interval.specs.Delays.{amounts}
-use Rattle.fv_top_text.specs.Compiled.{Compiled, compiled_of}
-use Rattle.fv_top_text.specs.Program.{delays_in}
-use Rattle.fv_top_rack.specs.Racks.{rack_of}
+use Rattle.fv_diagram.specs.headline.Diagram.{inputs, outputs}
+use Rattle.fv_interval.specs.headline.Delays.{amounts}
+use Rattle.fv_top_text.specs.headline.Compiled.{Compiled}
+use Rattle.fv_top_text.specs.Compiled.{compiled_of}
+use Rattle.fv_top_text.specs.headline.Program.{delays_in}
+use Rattle.fv_top_rack.specs.headline.Racks.{rack_of}
 use Rattle.fv_top_rack.specs.Reads.{programs_in}
 use Rattle.fv_top_rack.specs.declared.programs.Read.{Read}
 use Rattle.fv_top_rack.proofs.Racks.{each_stops, few_jobs, jobs_stop, rack_is, sum_stops, width_is, width_stops}

@@ -2,7 +2,7 @@ use Rattle.std.proofs.Common.{◌≡◌, List, [], ℕ, ◌++◌, ◌∙◌, sub
 use Rattle.std.specs.Prelude.{OnOk}
 use Rattle.fv_base.specs.declared.role.Role.TheVariants.{Report}
 use Rattle.fv_outside.specs.Desk.{Appends}
-use Rattle.fv_top_report.specs.Lines.{made_line}
+use Rattle.fv_top_report.specs.headline.Lines.{made_line}
 use Rattle.fv_top_report.proofs.Pieces.{made_pieces}
 use Rattle.fv_top_report.proofs.Parts.{err_as, answers_as}
 use Rattle.fv_top_report.proofs.report.report_made.Given.{Over}

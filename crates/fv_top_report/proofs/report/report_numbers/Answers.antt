@@ -1,5 +1,5 @@
 use Rattle.std.proofs.Common.{◌≡◌, [], ◌++◌, ◌∙◌}
-use Rattle.fv_top_report.specs.Lines.{check_line}
+use Rattle.fv_top_report.specs.headline.Lines.{check_line}
 use Rattle.fv_top_report.proofs.Pieces.{numbers_line}
 use Rattle.fv_top_report.proofs.Parts.{err_as, answers_as}
 use Rattle.fv_top_report.proofs.report.report_numbers.Given.{Over}

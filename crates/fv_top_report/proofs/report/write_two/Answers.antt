@@ -1,5 +1,5 @@
 use Rattle.std.proofs.Common.{[], ◌∷◌}
-use Rattle.fv_top_report.specs.Lines.{spaced}
+use Rattle.fv_top_report.specs.headline.Lines.{spaced}
 use Rattle.fv_top_report.specs.Fields.{printed}
 use Rattle.std.proofs.lemmas.Result.{err_from_is_err_and}
 use Rattle.fv_top_report.proofs.Parts.{part_before, part_behind}

@@ -1,13 +1,15 @@
 use Rattle.std.proofs.Common.{◌≡◌, ◌⊎◌, List, Ok, Err, ◌∙◌, ap, subst}
 use Rattle.std.proofs.lemmas.Result.{err_from_is_err_and}
-use Rattle.fv_num.specs.Interval.{Interval}
+use Rattle.fv_num.specs.headline.Interval.{Interval}
 use Rattle.fv_diagram.specs.Arena.{tree_of}
-use Rattle.fv_interval.specs.Delays.{delays_of, AreAccepted, IsDelayRefusal}
+use Rattle.fv_interval.specs.headline.Delays.{delays_of}
+use Rattle.fv_interval.specs.Delays.{AreAccepted, IsDelayRefusal}
 use Rattle.fv_eval.specs.Evaluated.{Evaluated}
-use Rattle.fv_interval.specs.Controls.{spans_of}
+use Rattle.fv_interval.specs.headline.Controls.{spans_of}
 use Rattle.fv_top_text.specs.Compiled.{compiled_of}
 use Rattle.fv_top_report.specs.declared.refusal.Refusal.TheVariants.{NoMemory}
-use Rattle.fv_top_text.specs.Program.{IsOfText, delayed, first_bad, delays_in}
+use Rattle.fv_top_text.specs.headline.Program.{delayed, first_bad, delays_in}
+use Rattle.fv_top_text.specs.Program.{IsOfText}
 use Rattle.fv_top_text.proofs.Delayed.{delays_pass, delays_stop}
 use Rattle.fv_top_text.proofs.text.check_delays.Goals as goal
 

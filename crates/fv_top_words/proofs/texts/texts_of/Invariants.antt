@@ -1,6 +1,6 @@
 use Rattle.std.proofs.Common.{◌≡◌, map, drop}
 use Rattle.std.specs.Prelude.{string_bytes}
-use Rattle.fv_top_words.specs.Texts.{texts_of}
+use Rattle.fv_top_words.specs.headline.Texts.{texts_of}
 use Rattle.fv_top_words.specs.Views.{read_in, finished}
 use Rattle.fv_top_words.proofs.texts.texts_of.Given as goal
 

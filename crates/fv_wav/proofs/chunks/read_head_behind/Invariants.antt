@@ -1,7 +1,7 @@
 use Rattle.std.proofs.Common.{◌≡◌, ◌+◌, ◌-◌, ◌*◌, ◌^◌, ◌≤◌, ◌++◌, length}
 use Rattle.std.specs.Prelude.{IfSome}
 use Rattle.fv_base.specs.declared.role.Role.TheVariants.{Input}
-use Rattle.fv_wav.specs.Reading.{wave}
+use Rattle.fv_wav.specs.headline.Reading.{wave}
 use Rattle.fv_wav.specs.Stopping.{Passes, IsFormat, walk_from}
 use Rattle.fv_wav.proofs.chunks.read_head_behind.Given as goal
 

@@ -1,6 +1,7 @@
 use Rattle.std.proofs.Common.{[], length, ◌-◌}
 use Rattle.fv_base.specs.declared.role.Role.TheVariants.{Input}
-use Rattle.fv_outside.specs.Desk.{Takes, KeepsFaults}
+use Rattle.fv_outside.specs.headline.Desk.{KeepsFaults}
+use Rattle.fv_outside.specs.Desk.{Takes}
 use Rattle.fv_au.specs.Looking.{ahead_of}
 use Rattle.fv_au.proofs.ahead.Ahead.peek.Given as goal
 

@@ -1,5 +1,5 @@
 use Rattle.std.proofs.Common.{◌≡◌, ◌+◌, length}
-use Rattle.fv_num.specs.Frames.{table}
+use Rattle.fv_num.specs.headline.Frames.{table}
 use Rattle.fv_diagram.specs.inner.Code.{with_cells}
 use Rattle.fv_diagram.proofs.draft.Draft.put_cells.Given as goal
 

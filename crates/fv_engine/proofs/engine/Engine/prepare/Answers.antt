@@ -1,7 +1,7 @@
 use Rattle.std.proofs.Common.{List, [], length, pos, ap, ◌∙◌, subst, arith}
-use Rattle.fv_signal.specs.Value.{value}
+use Rattle.fv_signal.specs.headline.Value.{value}
 use Rattle.fv_loopcode.specs.declared.step.Step.{Step}
-use Rattle.fv_split_plan.specs.View.{PlanView}
+use Rattle.fv_split_plan.specs.headline.View.{PlanView}
 use Rattle.fv_split_plan.specs.Plans.{IsPlan}
 use Rattle.fv_engine.proofs.engine.Engine.prepare.Goals as goal
 

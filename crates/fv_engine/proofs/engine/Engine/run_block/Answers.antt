@@ -4,15 +4,16 @@ use Rattle.std.specs.Vec.{with_items}
 use Rattle.std.proofs.lemmas.List.{with_items_is}
 use Rattle.std.specs.Prelude.{IfSome}
 use Rattle.std.proofs.lemmas.Option.{IfSome_then}
-use Rattle.fv_outside.specs.Tasks.{Tasks, reads_loop, task_count}
-use Rattle.fv_outside.specs.Journal.{BlockEntry, IsOrdered}
+use Rattle.fv_outside.specs.headline.Tasks.{Tasks, reads_loop}
+use Rattle.fv_outside.specs.Tasks.{task_count}
+use Rattle.fv_outside.specs.headline.Journal.{BlockEntry, IsOrdered}
 use Rattle.fv_outside.specs.declared.gate.Line.{Line}
 use Rattle.fv_outside.specs.declared.tasks.Reads.{Reads}
 use Rattle.fv_graph.specs.Graph.{Graph}
 use Rattle.fv_pool.specs.Region.{cells_of}
 use Rattle.fv_lines.specs.declared.shape.LaneShape.{LaneShape}
 use Rattle.fv_lines.specs.declared.shape.LaneState.{LaneState}
-use Rattle.fv_engine_tasks.specs.Block.{vectors_of}
+use Rattle.fv_engine_tasks.specs.headline.Block.{vectors_of}
 use Rattle.fv_engine.specs.inner.Plans.{held_by, block_from}
 use Rattle.fv_engine.specs.Stands.{EngineView}
 use Rattle.fv_engine.specs.Stored.{view_of}

@@ -1,5 +1,5 @@
 use Rattle.std.proofs.Common.{ℤ, ◌++◌, [], ◌∷◌, ap, ◌∙◌, arith, to_z-of_z}
-use Rattle.fv_loopcode.specs.State.{lanes_alone}
+use Rattle.fv_loopcode.specs.headline.State.{lanes_alone}
 use Rattle.fv_lines.specs.Writer.{list_of}
 use Rattle.fv_engine_lanes.proofs.Writing.{lane_set, rest_set, own_lane, has_room}
 use Rattle.fv_engine_lanes.proofs.loop_lanes.LoopLanesStore.append.Goals as goal

@@ -1,10 +1,11 @@
 use Rattle.std.proofs.Common.{◌≡◌, ℕ, suc, ◌-◌, ◌*◌, List, subst, sym, ap, ap₂, ◌∙◌, arith, min, slice_index_or, []}
 use Rattle.std.proofs.Math.Nat.{min-le_right}
-use Rattle.fv_num.specs.Words.{argument}
+use Rattle.fv_num.specs.headline.Words.{argument}
 use Rattle.fv_loopcode.specs.declared.step.Step.{Step}
-use Rattle.fv_loopcode.specs.Lanes.{Lane}
-use Rattle.fv_loopcode.specs.State.{State, lanes_alone}
-use Rattle.fv_loopcode.specs.Code.{MayRun, ran, frame_of}
+use Rattle.fv_loopcode.specs.headline.Lanes.{Lane}
+use Rattle.fv_loopcode.specs.headline.State.{State, lanes_alone}
+use Rattle.fv_loopcode.specs.headline.Code.{ran}
+use Rattle.fv_loopcode.specs.Code.{MayRun, frame_of}
 use Rattle.fv_engine_lanes.specs.Lanes.{lanes_in}
 use Rattle.fv_engine_parcels.specs.Contents.{upto}
 use Rattle.fv_engine_parcels.specs.inner.Turns.{After}

@@ -12,7 +12,7 @@ use Rattle.fv_graph.specs.Graph.{pair_at, pair_edge, chain_edge, task_at, outwar
 use Rattle.fv_lines.specs.declared.seen.Seen.{Seen}
 use Rattle.fv_engine_lanes.specs.Lanes.{lanes_in, LanesRest, rest_of_writer}
 use Rattle.fv_engine_lanes.specs.Renumbered.{renumbered}
-use Rattle.fv_split_plan.specs.View.{code_of}
+use Rattle.fv_split_plan.specs.headline.View.{code_of}
 use Rattle.fv_loopcode.specs.declared.step.Step.{Step}
 use Rattle.fv_loopcode.specs.Code.{IsWithin}
 use Rattle.fv_engine_lanes.specs.Plans.{own_lanes, lanes_of_all, sources_of, IsLocalCode}

@@ -6,7 +6,7 @@ use Rattle.std.specs.List.{list_any}
 use Rattle.std.specs.declared.alloc.Global.{Global}
 use Rattle.indexmap.specs.IndexSet.{insert_key}
 use Rattle.fv_diagram.specs.declared.control.ControlInfo.{ControlInfo}
-use Rattle.fv_rules.specs.Steps.{is_alike, labelled}
+use Rattle.fv_rules.specs.headline.Steps.{is_alike, labelled}
 use Rattle.fv_eval.specs.Controls.{AreLabels, Enters}
 use Rattle.fv_eval.proofs.Labels.{IsFound, found, added}
 use Rattle.fv_eval.proofs.Entered.{met_alike, met_unlike, met_none, numbered_inside}

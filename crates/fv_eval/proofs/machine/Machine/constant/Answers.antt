@@ -1,6 +1,6 @@
 use Rattle.std.proofs.Common.{ℤ, SFits, w32, to_z-of_z, rules, subst}
 use Rattle.fv_eval_drawing.specs.Makes.{Draws}
-use Rattle.fv_diagram.specs.Diagram.{Constant}
+use Rattle.fv_diagram.specs.headline.Diagram.{Constant}
 use Rattle.fv_eval.proofs.Moves.{leaf_goes}
 use Rattle.fv_eval.proofs.machine.Machine.constant.Goals as goal
 

@@ -1,6 +1,7 @@
 use Rattle.std.proofs.Common.{refl, ap, ◌∙◌}
-use Rattle.fv_parse.specs.Trees.{Parsed, text_of}
-use Rattle.fv_rules.specs.Values.{lookup}
+use Rattle.fv_parse.specs.headline.Trees.{text_of}
+use Rattle.fv_parse.specs.Trees.{Parsed}
+use Rattle.fv_rules.specs.headline.Values.{lookup}
 use Rattle.fv_eval.specs.inner.Continuations.{world}
 use Rattle.fv_eval.proofs.Named.{known_goes, body_goes, unknown_goes}
 use Rattle.fv_eval.proofs.machine.Machine.name.Goals as goal

@@ -3,8 +3,8 @@ use Rattle.std.proofs.lemmas.Option.{slice_get_past}
 use Rattle.fv_parse_tree.specs.Arena.{PartsBelow}
 use Rattle.fv_parse_tree.specs.declared.node.TreeNode.{TreeNode}
 use Rattle.fv_parse.specs.Trees.{Parsed, node_tree, size_of, start_in, tree_in}
-use Rattle.fv_parse_grammar.specs.Tree as tree
-use Rattle.fv_parse_grammar.specs.Tree.{Tree, items}
+use Rattle.fv_parse_grammar.specs.headline.Tree as tree
+use Rattle.fv_parse_grammar.specs.headline.Tree.{Tree, items}
 use Rattle.fv_eval.proofs.Applying.{below_list, next_applies, next_waits}
 use Rattle.fv_eval.proofs.Arrived.{Argues}
 use Rattle.fv_eval.proofs.Parameters.{get_within}

@@ -1,6 +1,6 @@
 use Rattle.std.proofs.Common.{◌≡◌, ◌<◌, ◌-◌, ◌^◌, ℕ, suc, Result, ℤ, pos, length, arith, refl, sym, ap, subst, ◌∙◌, w32}
 use Rattle.std.proofs.Math.Facts.{to_z_pos}
-use Rattle.fv_diagram.specs.Diagram.{Constant}
+use Rattle.fv_diagram.specs.headline.Diagram.{Constant}
 use Rattle.fv_eval_drawing.specs.Makes.{Draws}
 use Rattle.fv_parse_tree.specs.Arena.{PartsBelow}
 use Rattle.fv_parse_tree.specs.declared.node.TreeNode.{TreeNode}

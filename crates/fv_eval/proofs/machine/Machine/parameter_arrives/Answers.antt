@@ -1,9 +1,9 @@
 use Rattle.std.proofs.Common.{◌≡◌, ℕ, ℤ, SFits, w32, to_z-of_z, [], ◌∷◌, ◌++◌, length, Some, rules, sym, ap, subst, ◌∙◌, arith}
 use Rattle.std.specs.Prelude.{slice_get}
-use Rattle.fv_parse_grammar.specs.Tree.{start_of}
+use Rattle.fv_parse_grammar.specs.headline.Tree.{start_of}
 use Rattle.fv_parse.specs.Trees.{Parsed, tree_in}
-use Rattle.fv_rules.specs.Matching.{value_number}
-use Rattle.fv_rules.specs.Steps.{no_number}
+use Rattle.fv_rules.specs.headline.Matching.{value_number}
+use Rattle.fv_rules.specs.headline.Steps.{no_number}
 use Rattle.fv_eval.specs.declared.machine.Machine as code_machine
 use Rattle.fv_eval.specs.inner.Continuations.{IsSlider, parameters_of}
 use Rattle.fv_eval.proofs.SliderLemmas.{GoesOn, parameter_goes, parameter_refused}

@@ -1,4 +1,4 @@
-use Rattle.fv_diagram.specs.Diagram.{Primitive}
+use Rattle.fv_diagram.specs.headline.Diagram.{Primitive}
 use Rattle.fv_eval.proofs.Moves.{leaf_goes}
 use Rattle.fv_eval.proofs.machine.Machine.primitive.Goals as goal
 

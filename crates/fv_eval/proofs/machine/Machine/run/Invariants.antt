@@ -1,6 +1,6 @@
 use Rattle.std.proofs.Common.{Ok}
-use Rattle.fv_rules.specs.Values.{Value}
-use Rattle.fv_rules.specs.Steps.{Outcome}
+use Rattle.fv_rules.specs.headline.Values.{Value}
+use Rattle.fv_rules.specs.headline.Steps.{Outcome}
 use Rattle.fv_eval.specs.inner.Continuations.{Continues, Runs}
 use Rattle.fv_eval.proofs.machine.Machine.run.Given as goal
 

@@ -1,5 +1,5 @@
 use Rattle.std.proofs.Common.{◌≡◌, ◌+◌, ◌-◌, ◌<◌, ◌^◌, Ok, sym, ap, subst, arith, rules}
-use Rattle.fv_rules.specs.Steps.{State}
+use Rattle.fv_rules.specs.headline.Steps.{State}
 use Rattle.fv_parse.specs.Trees.{Parsed}
 use Rattle.fv_eval_scopes.specs.declared.value.Value as code_value
 use Rattle.fv_eval.specs.declared.continuation.Focus.TheVariants as focus

@@ -1,6 +1,6 @@
 use Rattle.std.proofs.Common.{sym, subst}
 use Rattle.fv_parse.specs.Trees.{Parsed}
-use Rattle.fv_rules.specs.Matching.{chosen}
+use Rattle.fv_rules.specs.headline.Matching.{chosen}
 use Rattle.fv_eval_choosing.specs.Choosing.{with_diagrams}
 use Rattle.fv_eval_choosing.specs.Chosen.{ShowsChoice, Chooses, nodes_of}
 use Rattle.fv_eval_choosing.specs.Literals.{Tells}

@@ -1,5 +1,5 @@
 use Rattle.std.proofs.Common.{◌≡◌, ◌+◌, drop}
-use Rattle.fv_rules.specs.Rules.{all_outputs}
+use Rattle.fv_rules.specs.headline.Rules.{all_outputs}
 use Rattle.fv_eval_drawing.specs.Makes.{trees_of}
 use Rattle.fv_eval_drawing.proofs.drawing.Drawing.all_outputs.Given as goal
 

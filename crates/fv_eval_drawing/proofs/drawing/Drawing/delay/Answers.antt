@@ -1,8 +1,8 @@
 use Rattle.std.proofs.Common.{ap₂}
 use Rattle.fv_diagram.specs.declared.node.Primitive.TheVariants as prim
-use Rattle.fv_diagram.specs.Diagram.{Diagram, Seq, Primitive}
+use Rattle.fv_diagram.specs.headline.Diagram.{Diagram, Seq, Primitive}
 use Rattle.fv_diagram.specs.Arena.{tree_of}
-use Rattle.fv_rules.specs.Steps.{put}
+use Rattle.fv_rules.specs.headline.Steps.{put}
 use Rattle.fv_eval_drawing.proofs.Leaves.{makes_of}
 use Rattle.fv_eval_drawing.proofs.drawing.Drawing.delay.Goals as goal
 

@@ -1,8 +1,8 @@
 use Rattle.std.proofs.Common.{◌≡◌, Ok, Err, length, refl, ap, subst, ◌∙◌, arith, vec_len}
-use Rattle.fv_diagram.specs.Diagram.{Diagram, inputs, Seq}
+use Rattle.fv_diagram.specs.headline.Diagram.{Diagram, inputs, Seq}
 use Rattle.fv_diagram.specs.Arena.{tree_of}
-use Rattle.fv_rules.specs.Steps.{put}
-use Rattle.fv_rules.specs.Rules.{all_outputs}
+use Rattle.fv_rules.specs.headline.Steps.{put}
+use Rattle.fv_rules.specs.headline.Rules.{all_outputs}
 use Rattle.fv_eval_drawing.specs.declared.lists.Link.TheVariants as link
 use Rattle.fv_eval_drawing.specs.Lists.{all_from_right, linked}
 use Rattle.fv_eval_drawing.specs.Makes.{Makes, trees_of}

@@ -1,9 +1,9 @@
 use Rattle.std.proofs.Common.{◌≡◌, ◌∷◌, ◌++◌, ◌-◌, replicate, sym, ap, ◌∙◌}
 use Rattle.std.specs.Prelude.{nat_eq, ◌&&◌}
 use Rattle.std.proofs.lemmas.Result.{IfOk-weaker}
-use Rattle.fv_diagram.specs.Diagram.{inputs}
+use Rattle.fv_diagram.specs.headline.Diagram.{inputs}
 use Rattle.fv_diagram.specs.Arena.{tree_of}
-use Rattle.fv_rules.specs.Rules.{takes_the_right}
+use Rattle.fv_rules.specs.headline.Rules.{takes_the_right}
 use Rattle.fv_eval_drawing.specs.Lists.{Fills}
 use Rattle.fv_eval_drawing.proofs.Gathered.{fills_left, fills_right}
 use Rattle.fv_eval_drawing.proofs.drawing.Drawing.fill.Goals as goal

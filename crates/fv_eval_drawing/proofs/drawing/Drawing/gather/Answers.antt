@@ -1,7 +1,7 @@
 use Rattle.std.proofs.Common.{sym, subst}
 use Rattle.fv_parse_grammar.specs.declared.form.Iteration.{Iteration as Repetition}
 use Rattle.fv_num.specs.declared.op.Op.TheVariants as op
-use Rattle.fv_rules.specs.Rules.{gathered}
+use Rattle.fv_rules.specs.headline.Rules.{gathered}
 use Rattle.fv_eval_drawing.specs.Makes.{Makes, MakesValue, trees_of}
 use Rattle.fv_eval_drawing.specs.Lists.{all_from_left}
 use Rattle.fv_eval_drawing.proofs.Gathered.{gathers_parallel, gathers_sequence, gathers_sum, gathers_product}

@@ -2,7 +2,7 @@ use Rattle.std.proofs.Common.{sym, subst}
 use Rattle.fv_parse_grammar.specs.declared.form.Operator.{Operator}
 use Rattle.fv_diagram.specs.declared.node.Primitive.{Primitive}
 use Rattle.fv_diagram.specs.Arena.{tree_of}
-use Rattle.fv_rules.specs.Rules.{joined, operated}
+use Rattle.fv_rules.specs.headline.Rules.{joined, operated}
 use Rattle.fv_eval_drawing.specs.Makes.{Makes}
 use Rattle.fv_eval_drawing.proofs.drawing.Drawing.join.Goals as goal
 

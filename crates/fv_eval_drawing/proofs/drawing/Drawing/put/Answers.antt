@@ -1,7 +1,7 @@
 use Rattle.std.proofs.Common.{sym, subst}
-use Rattle.fv_diagram.specs.Diagram.{Diagram}
+use Rattle.fv_diagram.specs.headline.Diagram.{Diagram}
 use Rattle.fv_diagram.specs.Arena.{tree_with}
-use Rattle.fv_rules.specs.Steps.{Eval}
+use Rattle.fv_rules.specs.headline.Steps.{Eval}
 use Rattle.fv_eval_drawing.specs.Makes.{Makes}
 use Rattle.fv_eval_drawing.specs.inner.Tables.{PutsTable}
 use Rattle.fv_eval_drawing.proofs.Leaves.{puts_makes}

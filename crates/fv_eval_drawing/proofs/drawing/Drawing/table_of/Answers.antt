@@ -1,11 +1,11 @@
 use Rattle.std.proofs.Common.{◌≡◌, ◌∙◌, ◌*◌, ◌<ℤ◌, ◌≤ℤ◌, Ok, Err, ap, sym, subst, ℤ, pos, nat_abs, arith, rules, SFits, w32, to_z, of_z, to_z-of_z}
 use Rattle.std.proofs.lemmas.Int.{ints}
 use Rattle.std.proofs.lemmas.Result.{err_from_is_err_and}
-use Rattle.fv_diagram.specs.Diagram.{Seq, Table, outputs}
+use Rattle.fv_diagram.specs.headline.Diagram.{Seq, Table, outputs}
 use Rattle.fv_diagram.specs.Arena.{tree_of}
-use Rattle.fv_diagram_head.specs.Heads.{all_outputs, is_fixed, table_numbers}
+use Rattle.fv_diagram_head.specs.headline.Heads.{all_outputs, is_fixed, table_numbers}
 use Rattle.fv_rules.specs.declared.refusal.EvalRefusal.{EvalRefusal}
-use Rattle.fv_rules.specs.Steps.{sized, tabled_by}
+use Rattle.fv_rules.specs.headline.Steps.{sized, tabled_by}
 use Rattle.fv_eval_drawing.specs.declared.lists.Link.TheVariants as link
 use Rattle.fv_eval_drawing.specs.Lists.{all_from_right, linked}
 use Rattle.fv_eval_drawing.specs.Makes.{Becomes, Makes, trees_of}

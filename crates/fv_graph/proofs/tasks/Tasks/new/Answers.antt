@@ -1,6 +1,6 @@
 use Rattle.std.proofs.Common.{◌≡◌, ℕ, ◌+◌, ◌*◌, ◌<◌, List, map, length, get_or, sym, ap, ◌∙◌, subst, refl, arith}
 use Rattle.std.specs.Global.{Vec}
-use Rattle.fv_outside.specs.Tasks.{Tasks}
+use Rattle.fv_outside.specs.headline.Tasks.{Tasks}
 use Rattle.fv_outside.specs.declared.tasks.Reads.{Reads}
 use Rattle.fv_graph.specs.inner.Lists.{AreLists, group_of, edges_at}
 use Rattle.fv_graph.proofs.Rising.{makes_graph, same_loops}

@@ -1,5 +1,5 @@
 use Rattle.std.proofs.Common.{◌<◌, sym, ap, ◌∙◌, length, slice_get, arith}
-use Rattle.fv_lex.specs.Token.{places_of}
+use Rattle.fv_lex.specs.headline.Token.{places_of}
 use Rattle.fv_lex.proofs.TokenLists.{length-tokens_in, place_read}
 use Rattle.fv_lex.proofs.token.Tokens.place.Goals as goal
 

@@ -1,5 +1,5 @@
 use Rattle.std.proofs.Common.{sym, ap, ◌∙◌}
-use Rattle.fv_lex.specs.Token.{symbols_of}
+use Rattle.fv_lex.specs.headline.Token.{symbols_of}
 use Rattle.fv_lex.proofs.TokenLists.{symbols_of-tokens_in}
 use Rattle.fv_lex.proofs.token.Tokens.symbols.Goals as goal
 

@@ -1,6 +1,6 @@
 use Rattle.std.proofs.Common.{◌<◌, Some, sym, ap, ◌∙◌, length, slice_get, arith}
 use Rattle.std.proofs.lemmas.List.Elements.{All-get_or}
-use Rattle.fv_lex.specs.Token.{texts_of}
+use Rattle.fv_lex.specs.headline.Token.{texts_of}
 use Rattle.fv_lex.specs.Spans.{IsWithin}
 use Rattle.fv_lex.proofs.TokenLists.{length-tokens_in, text_read}
 use Rattle.fv_lex.proofs.token.Tokens.text.Goals as goal

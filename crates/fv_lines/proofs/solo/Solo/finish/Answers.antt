@@ -10,7 +10,7 @@ use Rattle.fv_lines.specs.declared.solo.Solo.{Solo}
 use Rattle.fv_lines.proofs.Parts.{length_part}
 use Rattle.fv_lines.proofs.Tables.{no_state, history_is, len_is, block_is, start_is}
 use Rattle.fv_lines.proofs.Stored.{there_of, lane_is, all_written}
-use Rattle.fv_loopcode.specs.Lanes.{Lane}
+use Rattle.fv_loopcode.specs.headline.Lanes.{Lane}
 use Rattle.fv_lines.proofs.Ends.{IsEnded, IsNext, one_ended, next_held, stays_within}
 use Rattle.fv_lines.proofs.solo.Solo.finish.Goals as goal
 

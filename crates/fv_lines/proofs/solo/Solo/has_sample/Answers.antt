@@ -1,6 +1,7 @@
 use Rattle.std.proofs.Common.{rules, ◌≡◌, ◌+◌, ◌-◌, ◌<◌, ◌≤◌, length, subst, sym, ◌∙◌, arith}
 use Rattle.std.proofs.lemmas.Bool.Decides.{nat_tests}
-use Rattle.fv_loopcode.specs.Lanes.{Lane, HasSample}
+use Rattle.fv_loopcode.specs.headline.Lanes.{Lane}
+use Rattle.fv_loopcode.specs.Lanes.{HasSample}
 use Rattle.fv_lines.specs.Solo.{history_at}
 use Rattle.fv_lines.proofs.Tables.{history_is}
 use Rattle.fv_lines.proofs.Stored.{there_of, lane_is, length_list}

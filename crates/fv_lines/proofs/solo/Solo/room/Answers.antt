@@ -1,5 +1,5 @@
 use Rattle.std.proofs.Common.{rules, ◌<◌, length, ap, sym, arith}
-use Rattle.fv_loopcode.specs.Lanes.{Lane}
+use Rattle.fv_loopcode.specs.headline.Lanes.{Lane}
 use Rattle.fv_lines.proofs.Stored.{there_of, lane_is}
 use Rattle.fv_lines.proofs.solo.Solo.room.Goals as goal
 

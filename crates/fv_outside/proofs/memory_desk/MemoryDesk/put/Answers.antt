@@ -1,5 +1,5 @@
 use Rattle.std.proofs.Common.{ap, ◌∙◌}
-use Rattle.fv_outside.specs.Desk.{file_named}
+use Rattle.fv_outside.specs.headline.Desk.{file_named}
 use Rattle.fv_outside.specs.Memory.{Memory}
 use Rattle.fv_outside.proofs.StoredLemmas.{file_named-push_same, file_named-push_other}
 use Rattle.fv_outside.proofs.memory_desk.MemoryDesk.put.Goals as goal

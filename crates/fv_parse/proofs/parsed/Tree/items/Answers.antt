@@ -1,5 +1,5 @@
 use Rattle.std.proofs.Common.{◌∙◌, map, sym, ap}
-use Rattle.fv_parse_grammar.specs.Tree.{items}
+use Rattle.fv_parse_grammar.specs.headline.Tree.{items}
 use Rattle.fv_parse_tree.specs.Arena.{trees}
 use Rattle.fv_parse.specs.Trees.{tree_in, node_tree, start_in}
 use Rattle.fv_parse.proofs.Nodes.{items_forest, items_form}

@@ -1,6 +1,6 @@
 use Rattle.std.proofs.Common.{◌≡◌, ℕ, List, sym, subst, rules, All, ◌<◌, length}
 use Rattle.fv_signal.specs.declared.signal.Signal.{Signal}
-use Rattle.fv_signal.specs.Value.{IsGraph}
+use Rattle.fv_signal.specs.headline.Value.{IsGraph}
 use Rattle.fv_share.specs.Drafts.{Draft, AreClosed, IsDraft}
 use Rattle.fv_share.specs.Inside.{draft_of}
 use Rattle.fv_share.proofs.Kept.{finished}
@@ -11,7 +11,7 @@ new-requires c =
     let d = draft_of c.self.inside in
     let signals : c.in_ok-signals.signals.items ≡ d.signals = search rules in
     let outs : c.in_ok-outs.outs.items ≡ c.args.outputs.now = search rules in
-    subst (λ (ss : List Signal). IsGraph (record { signals = ss; groups = d.groups; outputs = c.in_ok-outs.outs.items })) (sym signals)
+    subst (λ (ss : List Signal). IsGraph (record { signals = ss; groups = d.groups; tables = d.tables; outputs = c.in_ok-outs.outs.items })) (sym signals)
     (finished d c.in_ok-outs.outs.items c.self.invariant (subst AreClosed (sym c.self.view_is) c.requires.closed)
     (subst (λ (os : List ℕ). All (λ s. s < length d.signals) os) (sym outs)
     (subst (λ (e : Draft). All (λ s. s < length e.signals) c.args.outputs.now) (sym c.self.view_is) c.requires.outputs)))

@@ -1,5 +1,5 @@
 use Rattle.std.proofs.Common.{◌≡◌, ◌<◌, [], length, get_or, sym, ap, ◌∙◌, subst, slice_get}
-use Rattle.fv_signal.specs.Value.{OperandsBelow}
+use Rattle.fv_signal.specs.headline.Value.{OperandsBelow}
 use Rattle.fv_share.specs.Drafts.{Draft, graph_of}
 use Rattle.fv_share.specs.Inside.{draft_of}
 use Rattle.fv_share.proofs.Puts.{got}

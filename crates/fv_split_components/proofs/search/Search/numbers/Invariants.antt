@@ -1,5 +1,5 @@
 use Rattle.std.proofs.Common.{◌≡◌, ℕ, ◌<◌, length}
-use Rattle.fv_split_components.specs.Reach.{at}
+use Rattle.fv_split_components.specs.headline.Reach.{at}
 use Rattle.fv_split_components.specs.declared.search.Mark.TheVariants.{Done}
 use Rattle.fv_split_components.specs.inner.Search.{mark}
 use Rattle.fv_split_components.specs.inner.Search.{state_of}

@@ -1,0 +1,4 @@
+pub mod Diagram
+pub mod Streams
+pub mod Arena
+pub mod Samples

@@ -1,0 +1,5 @@
+pub mod Token
+pub mod Bytes
+pub mod Symbols
+pub mod Pieces
+pub mod Cuts

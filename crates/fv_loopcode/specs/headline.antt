@@ -1,0 +1,4 @@
+pub mod Lanes
+pub mod State
+pub mod Code
+pub mod Obeys

@@ -1,0 +1,6 @@
+pub mod Words
+pub mod Interval
+pub mod Spans
+pub mod Frames
+pub mod Valuation
+pub mod Tables

@@ -1,0 +1,4 @@
+pub mod Requests
+pub mod Desk
+pub mod Tasks
+pub mod Journal

@@ -1,0 +1,5 @@
+pub mod Trees
+pub mod Unsupported
+pub mod Definitions
+pub mod StaticErrors
+pub mod Outcomes

@@ -1,0 +1,33 @@
+-- Frames in a file: how long they are, how many there are, and which.
+use Rattle.std.specs.Prelude.{ℕ, ◌*◌, ◌/◌, List, take, drop}
+use Rattle.fv_pcm.specs.declared.writing.TheConstants.{DATA_LIMIT}
+
+-- the bytes of a frame
+abbrev pub frame_size : (channels bits : ℕ) → ℕ
+frame_size channels bits = channels * (bits / 8)
+
+-- where samples lie in a file: how many a frame has, their bits, how many bytes of them are stated, how many bytes stand before them
+pub record Layout : Type 0 where
+  pub channels : ℕ
+  pub bits : ℕ
+  pub size : ℕ
+  pub place : ℕ
+
+-- the whole frames that are stated, and their bytes
+abbrev pub stated_frames : Layout → ℕ
+stated_frames l = l.size / frame_size l.channels l.bits
+
+abbrev pub whole_bytes : Layout → ℕ
+whole_bytes l = stated_frames l * frame_size l.channels l.bits
+
+-- what is there of the whole frames, in a file of these bytes
+abbrev pub present : Layout → List ℕ → List ℕ
+present l bytes = take (whole_bytes l) (drop l.place bytes)
+
+-- the most bytes of samples that a head can state
+abbrev pub data_limit : ℕ
+data_limit = DATA_LIMIT
+
+-- the bytes of so many frames, if a head can state them
+abbrev pub data_size : (channels bits frames : ℕ) → ℕ
+data_size channels bits frames = frames * frame_size channels bits

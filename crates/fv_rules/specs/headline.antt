@@ -1,0 +1,4 @@
+pub mod Values
+pub mod Matching
+pub mod Steps
+pub mod Rules

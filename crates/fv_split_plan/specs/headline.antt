@@ -1,0 +1,4 @@
+pub mod Separated
+pub mod Fits
+pub mod View
+pub mod Plans

@@ -1,0 +1,4 @@
+pub mod Meant
+pub mod Steps
+pub mod Promise
+pub mod Played

@@ -1,0 +1,448 @@
+-- What a run promises.
+use Rattle.std.specs.Prelude.{◌≡◌, ◌≢◌, ◌⊎◌, ℕ, ◌≤◌, ◌&&◌, ◌||◌, ◌==◌, nat_le, Bool, false, IsTrue, IsSome, List, [], ◌∷◌, ◌++◌, length, take, Some}
+use Rattle.std.specs.Prelude.{None, Result, Ok, Err}
+use Rattle.fv_base.specs.declared.role.Role.{Role}
+use Rattle.fv_base.specs.declared.role.Role.TheVariants.{Program, Input, Controls, Output, Report}
+use Rattle.fv_base.specs.headline.Lists.{IsPrefixOf}
+use Rattle.fv_outside.specs.headline.Requests.{Request, to_read, to_write}
+use Rattle.fv_outside.specs.headline.Desk.{DeskState, File, file_named, HasFault, KeepsFaults, IsUnfailing}
+use Rattle.fv_control.specs.declared.script.Change.{Change}
+use Rattle.fv_control.specs.headline.Streams.{control_streams}
+use Rattle.fv_top_make.specs.headline.Made.{text_of}
+use Rattle.fv_top_words.specs.declared.cause.Cause.{Cause}
+use Rattle.fv_top_words.specs.declared.manner.ProgramKind.{ProgramKind}
+use Rattle.fv_top_words.specs.declared.manner.ProgramKind.TheVariants.{Alone}
+use Rattle.fv_top_words.specs.headline.Runs.{Run}
+use Rattle.fv_top_words.specs.headline.Commands.{Job, Playing, Checking, Making, job_in}
+use Rattle.fv_top_report.specs.declared.status.Tally.{Tally}
+use Rattle.fv_top_report.specs.declared.refusal.Refusal.{Refusal}
+use Rattle.fv_top_report.specs.declared.refusal.Refusal.TheVariants.{Usage, ReadFault, WriteFault, NoMemory}
+use Rattle.fv_top_report.specs.declared.status.Status.{Status}
+use Rattle.fv_top_report.specs.declared.status.Status.TheVariants.{Done, Refused}
+use Rattle.fv_top_text.specs.headline.Program.{TextIs, IsProgram}
+use Rattle.fv_top_playable.specs.headline.Tableless.{PlayedIs, is_of_played}
+use Rattle.fv_file_tape.specs.headline.Tapes.{HasBegun, KeepsOutput}
+use Rattle.fv_engine_files.specs.headline.Files.{IsCutAt}
+use Rattle.fv_engine_render.specs.headline.Render.{initial_of}
+use Rattle.fv_top_text.specs.headline.Compiled.{Compiled}
+use Rattle.fv_top_files.specs.headline.Sources.{Source}
+use Rattle.fv_top_files.specs.headline.Output.{OutputFormat, coding_of, format_of, present_in, cut_in}
+use Rattle.fv_top_files.specs.headline.Inputs.{truncated}
+use Rattle.fv_pcm.specs.declared.coding.Coding.{Coding}
+use Rattle.fv_top_files.specs.headline.Loading.{is_of_head, HasScript, HasInput, LeavesRest, ReadsWithin, IsThere, reading}
+use Rattle.fv_top.specs.headline.Meant.{Meant, run_meant, check_meant, make_meant, written_by}
+use Rattle.fv_top_report.specs.headline.Lines.{row_of, refused_line}
+use Rattle.fv_top.specs.headline.Steps.{Turn, reads, writes, Rules, Ends, Stops, PassesAll, all_requests}
+
+-- the words are of the form, and ask for this
+abbrev pub Asks : List (List ℕ) → Job → Type 0
+Asks words job = job_in words ≡ Ok job
+
+-- The file of this name is a program, by what Is says of its bytes.
+pub record HasProgram (Is : List ℕ → Result Compiled Refusal → Type 0) (name : List ℕ) (files : List File) : Type 0 where
+  pub text : List ℕ
+  pub file : file_named name files ≡ Some text
+  pub compiled : Compiled
+  pub program : Is text (Ok compiled)
+
+-- The file of this name is there, and is refused.
+pub record HasNoProgram (Is : List ℕ → Result Compiled Refusal → Type 0) (name : List ℕ) (files : List File) (refusal : Refusal) : Type 0 where
+  pub text : List ℕ
+  pub file : file_named name files ≡ Some text
+  pub refused : Is text (Err refusal)
+
+-- that of a run: what is played of a text, or of a file of jobs
+abbrev pub HasProgramOf : Run → List File → Type 0
+HasProgramOf run files = HasProgram (PlayedIs run.manner.program) run.program files
+
+-- The files of a run: a program, a script of its controls, an input, and the format of its output.
+pub record Plays (run : Run) (files : List File) : Type 0 where
+  pub of : HasProgramOf run files
+  pub changes : List Change
+  pub under : HasScript run.controls files of.compiled.controls (Ok changes)
+  pub source : Source
+  pub on : HasInput run.manner.input run.input files (Ok source)
+  pub format : OutputFormat
+  pub fits : format_of (coding_of run.manner.output) run.settings of.compiled.diagram source.head ≡ Ok format
+
+-- what it means that they are played
+abbrev pub meant : {run : Run} {files : List File} → Plays run files → Meant
+meant p = run_meant p.of.compiled.diagram (control_streams p.changes (initial_of p.of.compiled.controls)) p.format (present_in p.format p.source)
+
+-- and what it means that the frames before frame g are, which are present
+abbrev pub meant_to : {run : Run} {files : List File} → Plays run files → (g : ℕ) → Meant
+meant_to p g = run_meant p.of.compiled.diagram (control_streams p.changes (initial_of p.of.compiled.controls)) p.format (take g (present_in p.format p.source))
+
+-- no whole frame of the input is missing
+abbrev pub IsWhole : {run : Run} {files : List File} → Plays run files → Type 0
+IsWhole p = cut_in p.format p.source ≡ None
+
+-- ---- the steps of a run, in order
+
+pub data Step : Type 0 where
+  -- the program's file is read and judged
+  ReadProgram : Step
+  -- the script is read and judged
+  ReadScript : Step
+  -- the head of the input is read and judged
+  ReadHead : Step
+  -- the format of what the program makes on the input is judged, and all memory of the run is taken
+  Fit : Step
+  -- the input is read, played and written block by block
+  Write : Step
+  -- and it is reported
+  Tell : Step
+
+-- the steps, in their order
+abbrev pub run_steps : List Step
+run_steps = ReadProgram ∷ ReadScript ∷ ReadHead ∷ Fit ∷ Write ∷ Tell ∷ []
+
+-- what a step asks the desk for
+abbrev pub requests_of : Run → Step → List Request
+requests_of run ReadProgram = to_read Program run.program ∷ []
+requests_of run ReadScript = reading Controls run.controls
+requests_of run ReadHead = reading Input run.input
+requests_of run Fit = []
+requests_of run Write = to_write Output run.output ∷ []
+requests_of run Tell = []
+
+-- the roles that a step reads or writes
+abbrev pub TakesTurn : Run → Step → Turn → Type 0
+TakesTurn run ReadProgram t = t ≡ reads Program
+TakesTurn run ReadScript t = (t ≡ reads Controls) × IsSome run.controls
+TakesTurn run ReadHead t = (t ≡ reads Input) × IsSome run.input
+TakesTurn run Fit t = ⊥
+TakesTurn run Write t = (t ≡ writes Output) ⊎ ((t ≡ reads Input) × IsSome run.input)
+TakesTurn run Tell t = t ≡ writes Report
+
+-- there is room for all that is written of a role
+abbrev pub HasRoom : Run → DeskState → Role → Type 0
+HasRoom run old role = (p : Plays run old.files) → length (written_by (meant p) old role) ≤ old.room role
+
+-- what a turn needs of the desk as it was at first: no call of the role that fails from then on, its file, and room
+abbrev pub IsAnswered : Run → DeskState → Step → Turn → Type 0
+IsAnswered run old ReadProgram t = IsUnfailing Program old × IsThere (Some run.program) old.files
+IsAnswered run old ReadScript t = IsUnfailing Controls old × IsThere run.controls old.files
+IsAnswered run old ReadHead t = IsUnfailing Input old × IsThere run.input old.files
+IsAnswered run old Fit t = Unit {0}
+IsAnswered run old Write (reads role) = IsUnfailing Input old
+IsAnswered run old Write (writes role) = IsUnfailing Output old × HasRoom run old Output
+IsAnswered run old Tell t = IsUnfailing Report old × HasRoom run old Report
+
+-- the numbers of the refusals of a script
+abbrev pub is_of_script : ℕ → Bool
+is_of_script n = (n == 4) || (nat_le 30 n && nat_le n 33)
+
+-- the numbers of the refusals of what a step judges, where the program's file is of this kind
+abbrev pub is_of_step : ProgramKind → Step → ℕ → Bool
+is_of_step kind ReadProgram n = is_of_played kind n
+is_of_step kind ReadScript n = is_of_script n
+is_of_step kind ReadHead n = is_of_head n
+is_of_step kind Fit n = (n == 29) || (n == 38) || (n == 39)
+is_of_step kind Write n = (n == 35) || (n == 45)
+is_of_step kind Tell n = false
+
+abbrev pub HasRefusal : ProgramKind → Step → Refusal → Type 0
+HasRefusal kind s refusal = IsTrue (is_of_step kind s (row_of refusal).number)
+
+-- The steps that take memory. Once it was begun to write, none is wanted.
+abbrev pub WantsMemory : Step → Type 0
+WantsMemory ReadProgram = Unit {0}
+WantsMemory ReadScript = Unit {0}
+WantsMemory ReadHead = Unit {0}
+WantsMemory Fit = Unit {0}
+WantsMemory Write = ⊥
+WantsMemory Tell = ⊥
+
+-- what a step judges passes
+abbrev pub StepPasses : Run → List File → Step → Type 0
+StepPasses run files ReadProgram = HasProgramOf run files
+StepPasses run files ReadScript = (p : HasProgramOf run files) × (changes : List Change) × HasScript run.controls files p.compiled.controls (Ok changes)
+StepPasses run files ReadHead = (source : Source) × HasInput run.manner.input run.input files (Ok source)
+StepPasses run files Fit = Plays run files
+StepPasses run files Write = (p : Plays run files) × IsWhole p
+StepPasses run files Tell = Unit {0}
+
+-- what a step judges is refused for this
+abbrev pub StepRefuses : Run → List File → Step → Refusal → Type 0
+StepRefuses run files ReadProgram refusal = HasNoProgram (PlayedIs run.manner.program) run.program files refusal
+StepRefuses run files ReadScript refusal = (p : HasProgramOf run files) × HasScript run.controls files p.compiled.controls (Err refusal)
+StepRefuses run files ReadHead refusal = HasInput run.manner.input run.input files (Err refusal)
+StepRefuses run files Fit refusal =
+    (p : HasProgramOf run files) × (source : Source) × HasInput run.manner.input run.input files (Ok source)
+    × (format_of (coding_of run.manner.output) run.settings p.compiled.diagram source.head ≡ Err refusal)
+StepRefuses run files Write refusal = (p : Plays run files) × (cut_in p.format p.source ≡ Some refusal)
+StepRefuses run files Tell refusal = ⊥
+
+-- the rules of a run's steps
+abbrev pub run_rules : Run → DeskState → Rules Step
+run_rules run old = record {
+  requests = requests_of run;
+  Takes = TakesTurn run;
+  Answers = IsAnswered run old;
+  Has = HasRefusal run.manner.program;
+  Wants = WantsMemory;
+  Passes = StepPasses run old.files;
+  Refuses = StepRefuses run old.files;
+  Known = IsTrue old.tells;
+}
+
+-- ---- the steps of a check
+
+-- the steps, in their order
+abbrev pub check_steps : List Step
+check_steps = ReadProgram ∷ Tell ∷ []
+
+-- there is room for all that is written of the report
+abbrev pub HasCheckRoom : (name : List ℕ) → DeskState → Type 0
+HasCheckRoom name old = (p : HasProgram TextIs name old.files) → length (written_by (check_meant p.compiled) old Report) ≤ old.room Report
+
+-- what a step of a check asks the desk for
+abbrev pub check_requests : (name : List ℕ) → Step → List Request
+check_requests name ReadProgram = to_read Program name ∷ []
+check_requests name s = []
+
+-- the roles that it reads or writes
+abbrev pub CheckTakes : Step → Turn → Type 0
+CheckTakes ReadProgram t = t ≡ reads Program
+CheckTakes Tell t = t ≡ writes Report
+CheckTakes s t = ⊥
+
+-- what a turn of it needs
+abbrev pub CheckAnswered : (name : List ℕ) → DeskState → Step → Type 0
+CheckAnswered name old ReadProgram = IsUnfailing Program old × IsThere (Some name) old.files
+CheckAnswered name old Tell = IsUnfailing Report old × HasCheckRoom name old
+CheckAnswered name old s = Unit {0}
+
+-- what it judges passes
+abbrev pub CheckPasses : (name : List ℕ) → List File → Step → Type 0
+CheckPasses name files ReadProgram = HasProgram TextIs name files
+CheckPasses name files s = Unit {0}
+
+-- or is refused for this
+abbrev pub CheckRefuses : (name : List ℕ) → List File → Step → Refusal → Type 0
+CheckRefuses name files ReadProgram refusal = HasNoProgram TextIs name files refusal
+CheckRefuses name files s refusal = ⊥
+
+-- the rules of a check's steps
+abbrev pub check_rules : (name : List ℕ) → DeskState → Rules Step
+check_rules name old = record {
+  requests = check_requests name;
+  Takes = CheckTakes;
+  Answers = λ s t. CheckAnswered name old s;
+  Has = HasRefusal Alone;
+  Wants = WantsMemory;
+  Passes = CheckPasses name old.files;
+  Refuses = CheckRefuses name old.files;
+  Known = IsTrue old.tells;
+}
+
+-- ---- the steps of a make
+
+-- this is the program of so many voices
+abbrev pub IsMade : (voices : ℕ) → Compiled → Type 0
+IsMade voices p = IsProgram (text_of voices) p
+
+-- the steps, in their order
+abbrev pub make_steps : List Step
+make_steps = ReadProgram ∷ Tell ∷ []
+
+-- the roles that a step of a make reads or writes
+abbrev pub MakeTakes : Step → Turn → Type 0
+MakeTakes Tell t = t ≡ writes Report
+MakeTakes s t = ⊥
+
+-- what a turn of it needs
+abbrev pub MakeAnswered : (voices frames : ℕ) → DeskState → Step → Type 0
+MakeAnswered voices frames old Tell =
+    IsUnfailing Report old
+    × ((p : Compiled) → IsMade voices p → length (written_by (make_meant p voices frames) old Report) ≤ old.room Report)
+MakeAnswered voices frames old s = Unit {0}
+
+-- The rules of a make's steps, which ask the desk for no file. They refuse nothing: the text of so many voices is a program.
+abbrev pub make_rules : (voices frames : ℕ) → DeskState → Rules Step
+make_rules voices frames old = record {
+  requests = λ s. [];
+  Takes = MakeTakes;
+  Answers = λ s t. MakeAnswered voices frames old s;
+  Has = HasRefusal Alone;
+  Wants = WantsMemory;
+  Passes = λ s. Unit {0};
+  Refuses = λ s refusal. ⊥;
+  Known = Unit {0};
+}
+
+-- ---- what is asked for
+
+-- its steps
+abbrev pub steps_of : Job → List Step
+steps_of (Playing run) = run_steps
+steps_of (Checking name) = check_steps
+steps_of (Making voices frames) = make_steps
+
+-- and their rules
+abbrev pub rules_of : Job → DeskState → Rules Step
+rules_of (Playing run) old = run_rules run old
+rules_of (Checking name) old = check_rules name old
+rules_of (Making voices frames) old = make_rules voices frames old
+
+-- it is known what they judge
+abbrev pub IsKnown : Job → DeskState → Type 0
+IsKnown job old = Rules.Known (rules_of job old)
+
+-- it can be done
+abbrev pub CanDo : Job → List File → Type 0
+CanDo (Playing run) files = (p : Plays run files) × IsWhole p
+CanDo (Checking name) files = HasProgram TextIs name files
+CanDo (Making voices frames) files = (p : Compiled) × IsMade voices p
+
+-- what it means that it is
+abbrev pub meant_of : (job : Job) (files : List File) → CanDo job files → Meant
+meant_of (Playing run) files can = meant can.0
+meant_of (Checking name) files can = check_meant can.compiled
+meant_of (Making voices frames) files can = make_meant can.0 voices frames
+
+-- ---- how a run ends
+
+-- Why it is refused, and what the desk was asked for by then: the words, or the first of the steps that cannot go on. Want
+-- of memory is free.
+pub data HasCause (words : List (List ℕ)) (old new : DeskState) : Refusal → List Request → Type 0 where
+  bad_words : {cause : Cause} → job_in words ≡ Err cause → HasCause words old new (Usage cause) []
+  of_job : {refusal : Refusal} {asked : List Request} (job : Job) → Asks words job → Ends (rules_of job old) old new (steps_of job) refusal asked
+      → HasCause words old new refusal asked
+
+-- The desk was asked to begin just this, and the refusal has its cause.
+pub record IsRefusedFor (words : List (List ℕ)) (old new : DeskState) (refusal : Refusal) : Type 0 where
+  pub asked : List Request
+  pub requests : new.requests ≡ old.requests ++ asked
+  pub cause : HasCause words old new refusal asked
+
+-- a run that is done began its output, and nothing else begins one
+abbrev pub BeginsOutput : Job → (old new : DeskState) → Type 0
+BeginsOutput (Playing run) old new = HasBegun old new
+BeginsOutput (Checking name) old new = new.begins Output ≡ old.begins Output
+BeginsOutput (Making voices frames) old new = new.begins Output ≡ old.begins Output
+
+-- of the input of a run nothing was read behind its whole frames
+abbrev pub LeavesRestOf : Job → (old new : DeskState) → Type 0
+LeavesRestOf (Playing run) old new = LeavesRest run.manner.input run.input old.files (new.left Input)
+LeavesRestOf (Checking name) old new = Unit {0}
+LeavesRestOf (Making voices frames) old new = Unit {0}
+
+-- The desk was asked for the files of what was asked for, in their order; all that was meant was written, and nothing else.
+pub record HasDone (words : List (List ℕ)) (frames : ℕ) (old new : DeskState) : Type 0 where
+  pub job : Job
+  pub asks : Asks words job
+  pub requests : new.requests ≡ old.requests ++ all_requests (rules_of job old) (steps_of job)
+  pub faults : KeepsFaults old new
+  pub begins : BeginsOutput job old new
+  pub rest : IsTrue old.tells → LeavesRestOf job old new
+  pub told : IsKnown job old → (can : CanDo job old.files) × (frames ≡ (meant_of job old.files can).frames)
+      × (IsTrue old.tells → (r : Role) → new.written r ≡ written_by (meant_of job old.files can) old r)
+
+-- A part of the output file from its front was written, and memory was not wanted. Of the input, unless it failed, nothing was read
+-- behind its whole frames; and unless the output failed, they were all read.
+pub record HasPlayedPart (words : List (List ℕ)) (refusal : Refusal) (old new : DeskState) : Type 0 where
+  pub run : Run
+  pub asks : Asks words (Playing run)
+  pub begun : HasBegun old new
+  pub memory : refusal ≡ NoMemory → ⊥
+  pub within : (refusal ≡ ReadFault Input → ⊥) → IsTrue old.tells → ReadsWithin run.manner.input run.input old.files (new.left Input)
+  pub rest : (refusal ≡ ReadFault Input → ⊥) → (refusal ≡ WriteFault Output → ⊥) → IsTrue old.tells
+      → LeavesRest run.manner.input run.input old.files (new.left Input)
+  pub told : IsTrue old.tells → (p : Plays run old.files) × IsPrefixOf (new.written Output) (written_by (meant p) old Output)
+
+-- what a refused run leaves of the output
+abbrev pub LeavesOutput : (words : List (List ℕ)) → Refusal → (old new : DeskState) → Type 0
+LeavesOutput words refusal old new = KeepsOutput old new ⊎ HasPlayedPart words refusal old new
+
+-- The output was begun, and has the head and what the frames make of those blocks that lie wholly within the frames that are present.
+pub record HasPlayedPresent (run : Run) (old new : DeskState) : Type 0 where
+  pub begun : HasBegun old new
+  pub plays : Plays run old.files
+  pub frame : ℕ
+  pub cut : IsCutAt run.settings.block plays.format.frames plays.changes (length (present_in plays.format plays.source)) frame
+  pub written : new.written Output ≡ written_by (meant_to plays frame) old Output
+
+-- Where the input ends too early, its head does not say all, or the frames that are present were played.
+abbrev pub CutsShort : (words : List (List ℕ)) → Refusal → (old new : DeskState) → Type 0
+CutsShort words refusal old new =
+    (c : Coding) (place : ℕ) → refusal ≡ truncated c place → IsTrue old.tells
+    → (run : Run) × Asks words (Playing run) × (HasInput run.manner.input run.input old.files (Err refusal) ⊎ HasPlayedPresent run old new)
+
+-- the roles that are read for what is asked for: files that it names
+abbrev pub IsReadBy : Job → Role → Type 0
+IsReadBy (Playing run) Program = Unit {0}
+IsReadBy (Playing run) Controls = IsSome run.controls
+IsReadBy (Playing run) Input = IsSome run.input
+IsReadBy (Playing run) r = ⊥
+IsReadBy (Checking name) Program = Unit {0}
+IsReadBy (Checking name) r = ⊥
+IsReadBy (Making voices frames) r = ⊥
+
+-- and for these words
+abbrev pub IsRead : (words : List (List ℕ)) → Role → Type 0
+IsRead words r = (job : Job) × Asks words job × IsReadBy job r
+
+-- What is not touched: bytes left of roles that are not read, bytes written of other roles than the output and the report, and
+-- begins of other roles than the output.
+pub record KeepsOthers (Reads : Role → Type 0) (old new : DeskState) : Type 0 where
+  pub left : IsTrue old.tells → (r : Role) → (Reads r → ⊥) → new.left r ≡ old.left r
+  pub written : IsTrue old.tells → (r : Role) → r ≢ Output → r ≢ Report → new.written r ≡ old.written r
+  pub begins : (r : Role) → r ≢ Output → new.begins r ≡ old.begins r
+
+-- a part of the line of what is done, which was reported before its report failed
+abbrev pub IsBegunLine : (words : List (List ℕ)) → (old : DeskState) → (part : List ℕ) → Type 0
+IsBegunLine words old part = (job : Job) × Asks words job × (IsTrue old.tells → (can : CanDo job old.files) × IsPrefixOf part (meant_of job old.files can).line)
+
+-- What a refused run appends to the report: the refusal's line, or a part of it where the report failed; before it a part
+-- of the line of what is done, where the report of that failed.
+pub record Reports (words : List (List ℕ)) (refusal : Refusal) (old new : DeskState) : Type 0 where
+  pub begun : List ℕ
+  pub line : List ℕ
+  pub appended : IsTrue old.tells → new.written Report ≡ old.written Report ++ (begun ++ line)
+  pub is_line : (line ≡ refused_line refusal) ⊎ (IsPrefixOf line (refused_line refusal) × HasFault Report old new)
+  pub is_begun : (begun ≡ []) ⊎ ((refusal ≡ WriteFault Report) × IsBegunLine words old begun)
+
+-- the refusal is that of a fault of the role
+abbrev pub IsFaultOf : Role → Refusal → Type 0
+IsFaultOf role refusal = (refusal ≡ ReadFault role) ⊎ (refusal ≡ WriteFault role)
+
+-- No fault was counted but the one that is answered; a report may fail a refusal's line too.
+abbrev pub HandsOn : Refusal → (old new : DeskState) → Type 0
+HandsOn refusal old new = (r : Role) → r ≢ Report → (IsFaultOf r refusal → ⊥) → new.faults r ≡ old.faults r
+
+-- a fact of a run that is done, and of one that was refused
+abbrev pub IfDone : Status → (Tally → Type 0) → Type 0
+IfDone (Done tally) P = P tally
+IfDone (Refused refusal) P = Unit {0}
+
+-- a fact of the refusal, where it was refused
+abbrev pub IfRefused : Status → (Refusal → Type 0) → Type 0
+IfRefused (Done tally) P = Unit {0}
+IfRefused (Refused refusal) P = P refusal
+
+-- done, or out of memory
+abbrev pub IsDoneOrNoMemory : Status → Type 0
+IsDoneOrNoMemory (Done tally) = Unit {0}
+IsDoneOrNoMemory (Refused refusal) = refusal ≡ NoMemory
+
+-- Where the words ask for a run whose files can be played, or for a check of a program, and each turn is sure to be answered
+-- or has no fault, it is done, unless memory runs out.
+abbrev pub IsComplete : (words : List (List ℕ)) → (old new : DeskState) → Status → Type 0
+IsComplete words old new status =
+    (job : Job) → Asks words job → IsKnown job old → PassesAll (rules_of job old) old new (steps_of job) → IsDoneOrNoMemory status
+
+-- refused for this, or out of memory
+abbrev pub IsRefusedOrNoMemory : Refusal → Status → Type 0
+IsRefusedOrNoMemory refusal status = (status ≡ Refused refusal) ⊎ (status ≡ Refused NoMemory)
+
+-- Where the first step that cannot go on refuses for something, the run is refused for it, unless memory runs out.
+abbrev pub IsStrict : (words : List (List ℕ)) → (old new : DeskState) → Status → Type 0
+IsStrict words old new status =
+    (job : Job) (refusal : Refusal) → Asks words job → IsKnown job old → Stops (rules_of job old) old new (steps_of job) refusal
+    → IsRefusedOrNoMemory refusal status
+
+-- Words that are refused are refused for their cause.
+abbrev pub IsExact : (words : List (List ℕ)) → Status → Type 0
+IsExact words status = (cause : Cause) → job_in words ≡ Err cause → status ≡ Refused (Usage cause)

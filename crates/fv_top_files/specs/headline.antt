@@ -1,0 +1,4 @@
+pub mod Inputs
+pub mod Sources
+pub mod Output
+pub mod Loading

@@ -1,0 +1,5 @@
+pub mod Pieces
+pub mod Texts
+pub mod Numbers
+pub mod Runs
+pub mod Commands

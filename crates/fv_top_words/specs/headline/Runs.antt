@@ -1,0 +1,148 @@
+-- What a run is asked to do, and the causes to refuse it (this project's profile).
+use Rattle.std.specs.Prelude.{ℕ, ◌+◌, ◌-◌, ◌/◌, ◌^◌, max, Bool, false, ◌&&◌, ◌||◌, not, ◌==◌, nat_le}
+use Rattle.std.specs.Prelude.{nat_lt, List, [], ◌∷◌, Option, Some, None, is_some, Result, Ok, Err, bytes_eq, nat_eq, codes, if◌then◌else◌}
+use Rattle.std.specs.List.{ends_with}
+use Rattle.fv_base.specs.declared.limits.TheConstants.{MOST_BLOCK, MOST_VECTORS, MOST_WORKERS}
+use Rattle.fv_top_words.specs.declared.cause.Cause.{Cause}
+use Rattle.fv_top_words.specs.declared.cause.Cause.TheVariants.{Form, Number, Range, Vectors, Together, Same}
+use Rattle.fv_top_words.specs.declared.manner.Manner.{Manner}
+use Rattle.fv_top_words.specs.declared.manner.ProgramKind.TheVariants as program
+use Rattle.fv_top_words.specs.declared.manner.InputKind.TheVariants as input
+use Rattle.fv_top_words.specs.declared.manner.OutputKind.{OutputKind}
+use Rattle.fv_top_words.specs.declared.manner.OutputKind.TheVariants as output
+use Rattle.fv_top_words.specs.headline.Texts.{Texts}
+use Rattle.fv_top_words.specs.headline.Numbers.{Numbers, numbers_of}
+
+-- what follows from an answer
+infixl 10 ◌>>=◌
+abbrev pub ◌>>=◌ : {A B : Type 0} → Result A Cause → (A → Result B Cause) → Result B Cause
+(Ok x) >>= f = f x
+(Err e) >>= f = Err e
+
+-- a number that is given is in its range
+abbrev pub within : (least most : ℕ) → Option ℕ → Result (Option ℕ) Cause
+within least most None = Ok None
+within least most (Some n) = if nat_le least n && nat_le n most then Ok (Some n) else Err Range
+
+-- and one that is not given has its default
+abbrev pub within_or : (least most default : ℕ) → Option ℕ → Result ℕ Cause
+within_or least most default None = Ok default
+within_or least most default (Some n) = if nat_le least n && nat_le n most then Ok n else Err Range
+
+-- the bits of a sample
+abbrev pub is_width : ℕ → Bool
+is_width n = (n == 8) || (n == 16) || (n == 24) || (n == 32)
+
+-- the bits of a sample, if they are given
+abbrev pub width : Option ℕ → Result (Option ℕ) Cause
+width None = Ok None
+width (Some n) = if is_width n then Ok (Some n) else Err Range
+
+-- the most frames of a block
+abbrev pub most_block : ℕ
+most_block = MOST_BLOCK
+
+-- the most threads that work: one, until blocks are shared out
+abbrev pub most_workers : ℕ
+most_workers = MOST_WORKERS
+
+-- in one block there are so many vectors at most
+abbrev pub most_vectors : ℕ
+most_vectors = MOST_VECTORS
+
+-- the vector of a block: the whole of a short one, else at least 32 frames and no more vectors than a block may have
+abbrev pub default_vector : ℕ → ℕ
+default_vector block = if nat_lt block 32 then block else max 32 ((block + 63) / 64)
+
+-- the vectors of a block, of which the last may be shorter
+abbrev pub vectors_in : (block vector : ℕ) → ℕ
+vectors_in block vector = (block + vector - 1) / vector
+
+pub record Settings : Type 0 where
+  pub block : ℕ
+  pub vector : ℕ
+  pub workers : ℕ
+  pub bits : Option ℕ
+  pub frames : Option ℕ
+  pub rate : Option ℕ
+
+-- first each number in its range, then the number of vectors
+abbrev pub checked : Settings → Result Settings Cause
+checked s = if nat_lt most_vectors (vectors_in s.block s.vector) then Err Vectors else Ok s
+
+-- how a run is done, each number in its range, or the first cause to refuse it
+abbrev pub settings_of : Numbers → Result Settings Cause
+settings_of n = do
+  block ← within_or 1 most_block 512 n.block
+  vector ← within_or 1 block (default_vector block) n.vector
+  workers ← within_or 1 most_workers 1 n.workers
+  bits ← width n.bits
+  frames ← within 0 (2 ^ 32 - 1) n.frames
+  rate ← within 1 (2 ^ 32 - 1) n.rate
+  checked (record { block = block; vector = vector; workers = workers; bits = bits; frames = frames; rate = rate })
+
+pub record Run : Type 0 where
+  pub program : List ℕ
+  pub input : Option (List ℕ)
+  pub output : List ℕ
+  pub controls : Option (List ℕ)
+  pub settings : Settings
+  pub manner : Manner
+
+-- the files of a run: one program, and WAV files
+abbrev pub wave_files : Manner
+wave_files = record { program = program.Alone; input = input.Wave; output = output.Wave }
+
+-- a name that ends in `.au` is that of an AU file
+abbrev pub output_kind : List ℕ → OutputKind
+output_kind name = if ends_with nat_eq name (codes ".au") then output.Au else output.Wave
+
+-- the same run where its files may be AU files: the input by its first bytes, and the output by its name
+abbrev pub by_kinds : Run → Run
+by_kinds run = record run { manner = record run.manner { input = input.Either; output = output_kind run.output } }
+
+-- the same run where its program's file is a file of jobs
+abbrev pub of_jobs : Run → Run
+of_jobs run = record run { manner = record run.manner { program = program.Rack } }
+
+-- `-` names no input file
+abbrev pub is_none_word : List ℕ → Bool
+is_none_word w = bytes_eq w (codes "-")
+
+-- the input's name, but for `-`
+abbrev pub input_of : List ℕ → Option (List ℕ)
+input_of w = if is_none_word w then None else Some w
+
+-- frames and rate are those of the input, where there is one
+abbrev pub is_together : (input : List ℕ) → Settings → Bool
+is_together input s = not (is_none_word input) && (is_some s.frames || is_some s.rate)
+
+-- the word is that name
+abbrev pub is_named : Option (List ℕ) → List ℕ → Bool
+is_named None w = false
+is_named (Some v) w = bytes_eq w v
+
+-- the output's text is that of another file
+abbrev pub is_same : (program input output : List ℕ) → (controls : Option (List ℕ)) → Bool
+is_same program input output controls = bytes_eq output program || bytes_eq output input || is_named controls output
+
+-- a run that is done so
+abbrev pub run_with : (program input output : List ℕ) → (controls : Option (List ℕ)) → Settings → Result Run Cause
+run_with program input output controls s =
+    if is_together input s then Err Together
+    else (if is_same program input output controls then Err Same
+    else Ok (record { program = program; input = input_of input; output = output; controls = controls; settings = s; manner = wave_files }))
+
+-- a run with these numbers, if its options spell some
+abbrev pub run_on : (program input output : List ℕ) → (controls : Option (List ℕ)) → Option Numbers → Result Run Cause
+run_on program input output controls None = Err Number
+run_on program input output controls (Some n) = settings_of n >>= run_with program input output controls
+
+-- PROGRAM INPUT OUTPUT, and options
+abbrev pub run_named : List (List ℕ) → Texts → Result Run Cause
+run_named (program ∷ input ∷ output ∷ []) t = run_on program input output t.controls (numbers_of t)
+run_named _ t = Err Form
+
+-- the run that its texts ask for, or the first cause to refuse them
+abbrev pub run_of : Texts → Result Run Cause
+run_of t = run_named t.plain t
