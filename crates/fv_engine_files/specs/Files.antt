@@ -76,7 +76,6 @@ pub record IsCut (d : Diagram) (c : ℕ → Stream) (changes : List Change) (s :
 
 -- why a run stops behind the blocks up to frame g
 abbrev pub IsStopFor : Diagram → (c : ℕ → Stream) → List Change → RunSizes → Files → (g : ℕ) → (old new : DeskState) → Stop → Type 0
-
 -- a fault of the input, which is left to read
 IsStopFor d c changes s t g old new stop.Read =
     HasBegun old new × IsFaultOfInput old new × KeepsFaultsBut Input old new × IsSome t.input × (t.held ≡ None)

@@ -40,7 +40,6 @@ DelaysHold (Split a b) c e I cs es X =
     DelaysHold a c e I cs es X × DelaysHold b c e (dealt (point (pos 0)) (inputs b) (spans a c e I)) cs es (map (dealt (pos 0) (inputs b)) (run a cs es X))
 DelaysHold (Merge a b) c e I cs es X =
     DelaysHold a c e I cs es X × DelaysHold b c e (merged_spans (inputs b) (spans a c e I)) cs es (map (merged (inputs b)) (run a cs es X))
-
 -- B is given the whole answer one sample later, and A what B answers on it, beside the frames
 DelaysHold (Rec a b) c e I cs es X =
     let F = table (inputs b) (λ i. full) in

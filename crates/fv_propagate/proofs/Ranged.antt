@@ -352,9 +352,9 @@ module _ (C : ℕ → Type 0) (F : Graph) (ordered : IsOrdered F) (X : List Fram
         let long : length Y ≡ suc t = length_table (suc t) (carried v ws) in
         let shown = (shows_table F ordered X c writes T (λ i. 0) ws s h w g).wired (suc t) t (omega arith) in
         let all = answers_hold (Table T writes) tt h (λ k. full) (λ k. full) vs (λ k t. pos 0) (λ k t. pos 0) Y wide (λ k t. zero_in) (λ k t l. zero_in)
-            (carries_lie ws vs (suc t) q) in
+        (carries_lie ws vs (suc t) q) in
         let here = All-get_or (AreOf (table_span T writes vs ∷ [])) (table (length Y) (table_at T writes Y)) t []
-            (omega (arith, long, length_table (length Y) (table_at T writes Y))) all in
+        (omega (arith, long, length_table (length Y) (table_at T writes Y))) all in
         let there : AreOf (table_span T writes vs ∷ []) (table_at T writes Y t) =
         subst (AreOf (table_span T writes vs ∷ [])) (get_or_table (length Y) (table_at T writes Y) t [] (omega (arith, long))) here in
         (subst (AreOf (table_span T writes vs ∷ [])) (sym shown) there).0,

@@ -1,7 +1,6 @@
 // The laws of a graph's values and rates.
 
 ghost use Rattle.fv_signal.specs.headline.Value.{Graph};
-
 ghost use Rattle.fv_signal.specs.Value.{ValuesAreGiven, SolutionsAreValues, SolutionsAreValuesOn, ValuesLookBack, GrowthKeepsValues};
 ghost use Rattle.fv_signal.specs.Rates.{ConstantsStay, ControlsDecide};
 

@@ -66,7 +66,11 @@ fn delayed(x: u64, d: i32, max: u32, before: &[Vec<i32>], now: &[i32]) -> i32 {
 
 // The numbers of a table, none where it is not there.
 fn list_of(graph: &Graph, table: u64) -> &[i32] {
-    if table < graph.tables() { graph.table(table) } else { &[] }
+    if table < graph.tables() {
+        graph.table(table)
+    } else {
+        &[]
+    }
 }
 
 // The place that an index means in a list: its own, or the nearest one.

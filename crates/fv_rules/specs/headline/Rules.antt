@@ -336,7 +336,6 @@ rule l e (tree.Switch s k n) env = flat (control (switch_info (switch_kind k) (l
 rule l e (tree.Slider s k n x0 x1 x2 x3) env = do
   ns ← parameters l e (x0 ∷ x1 ∷ x2 ∷ x3 ∷ []) env []
   flat (control (slider_info (slider_kind k) (label_of l n) ns))
-
 -- what is no expression is no diagram; no program has it there
 rule l e x env = refuse (no_diagram l (start_of x))
 

@@ -16,7 +16,7 @@ returns-then-eq c =
     let at : get_or (lists_in xs) i [] ≡ c.as_slice.result.now =
     get_or-map numbers xs i c.index-tables-i.result [] l ∙ ap numbers (sym c.index-tables-i.is) ∙ sym c.as_slice.ensures.value in
     sym (position_or_len_is (same_list c.args.values.now) (lists_in xs) i [] (omega (arith, l, long)) c.loop-i.invariant
-        (λ m. ap (same_list c.args.values.now) at ∙ sym c.eq.ensures ∙ c.if-eq.true))
+    (λ m. ap (same_list c.args.values.now) at ∙ sym c.eq.ensures ∙ c.if-eq.true))
 
 pub loop-i-preserved : goal.loop-i-preserved
 loop-i-preserved c =
@@ -26,7 +26,7 @@ loop-i-preserved c =
     let at : get_or (lists_in xs) i [] ≡ c.as_slice.result.now =
     get_or-map numbers xs i c.index-tables-i.result [] l ∙ ap numbers (sym c.index-tables-i.is) ∙ sym c.as_slice.ensures.value in
     below_more (λ k. same_list c.args.values.now (get_or (lists_in xs) k []) ≡ false) i c.loop-i.invariant
-        (ap (same_list c.args.values.now) at ∙ sym c.eq.ensures ∙ c.if-eq.false)
+    (ap (same_list c.args.values.now) at ∙ sym c.eq.ensures ∙ c.if-eq.false)
 
 pub returns : goal.returns
 returns c =
@@ -34,4 +34,4 @@ returns c =
     let long : length (lists_in xs) ≡ length xs = length-map xs numbers in
     let t = c.loop-i-test.false in
     sym (position_or_len_is (same_list c.args.values.now) (lists_in xs) (length xs) [] (omega (arith, long)) (λ k l. c.loop-i.invariant k (omega (arith, l, t)))
-        (λ m. absurd (omega (arith, m, long))))
+    (λ m. absurd (omega (arith, m, long))))
