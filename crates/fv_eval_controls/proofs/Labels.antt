@@ -10,7 +10,7 @@ use Rattle.std.proofs.lemmas.Grind.{common_steps}
 use Rattle.indexmap.specs.IndexSet.{insert_key}
 use Rattle.fv_diagram.specs.declared.control.ControlInfo.{ControlInfo}
 use Rattle.fv_rules.specs.headline.Steps.{labelled}
-use Rattle.fv_eval.specs.Controls.{AreLabels}
+use Rattle.fv_eval_controls.specs.Controls.{AreLabels}
 
 -- the place of the control that was found, which has its number behind so many others; or none was
 abbrev pub IsFound : ℕ → List ControlInfo → Option ℕ → Option (ℕ × ControlInfo) → Type 0

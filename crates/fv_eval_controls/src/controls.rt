@@ -3,7 +3,7 @@
 ghost use Rattle.std.specs.Prelude.{ℕ, ◌≡◌, [], MatchResult};
 ghost use Rattle.fv_rules.specs.declared.refusal.EvalRefusal.TheVariants.{NoMemory};
 ghost use Rattle.fv_rules.specs.headline.Steps.{is_alike, is_kind};
-ghost use Rattle.fv_eval.specs.Controls.{Enters};
+ghost use Rattle.fv_eval_controls.specs.Controls.{Enters};
 
 use fv_diagram::{ControlInfo, ControlKind};
 use fv_rules::{EvalRefusal, too_many_to_count};
@@ -23,7 +23,7 @@ pub struct Controls {
 impl Model for Controls {
     ghost use Rattle.std.specs.Prelude.{List};
     ghost use Rattle.fv_diagram.specs.declared.control.ControlInfo.{ControlInfo};
-    ghost use Rattle.fv_eval.specs.Controls.{AreLabels};
+    ghost use Rattle.fv_eval_controls.specs.Controls.{AreLabels};
 
     ghost Value = { List ControlInfo };
 

@@ -1,6 +1,6 @@
 -- Controls that are entered.
 use Rattle.std.proofs.Common.{◌≡◌, ℕ, ◌<◌, ◌&&◌, Bool, true, false, List, [], ◌∷◌, ◌++◌, length, Option, Some, None, Result, Ok, Err, refl}
-use Rattle.std.proofs.Common.{sym, ap, ◌∙◌, inl, inr, arith}
+use Rattle.std.proofs.Common.{sym, ap, ◌∙◌, inl, inr, arith, get_or, zero, suc}
 use Rattle.std.specs.Prelude.{slice_get, int_le, if◌then◌else◌, MatchResult}
 use Rattle.std.proofs.lemmas.Option.{slice_get_within}
 use Rattle.fv_diagram.specs.declared.control.ControlInfo.{ControlInfo}
@@ -8,8 +8,8 @@ use Rattle.fv_diagram.specs.headline.Diagram.{Control}
 use Rattle.fv_rules.specs.headline.Steps.{State, control, entered, is_alike, labelled}
 use Rattle.fv_rules.specs.declared.refusal.EvalRefusal.{EvalRefusal}
 use Rattle.fv_rules.specs.declared.refusal.EvalRefusal.TheVariants.{ControlBounds, ControlClash, NoMemory}
-use Rattle.fv_eval.specs.Controls.{Enters}
-use Rattle.fv_eval.proofs.Labels.{IsFound}
+use Rattle.fv_eval_controls.specs.Controls.{Enters}
+use Rattle.fv_eval_controls.proofs.Labels.{IsFound}
 
 -- the control that was found
 numbered_some : (cs : List ControlInfo) (i : ℕ) (q : Option (ℕ × ControlInfo)) → IsFound 0 cs (Some i) q
@@ -61,3 +61,9 @@ met_none cs c k b none l = λ s e.
     ∙ ap (entered c s) (numbered_none cs (labelled 0 cs c.label) none)
     ∙ ap (λ (xs : List ControlInfo). Ok (Control (length xs), record s { controls = xs ++ c ∷ [] })) e
     ∙ ap (λ (n : ℕ). Ok (Control n, record s { controls = cs ++ c ∷ [] })) (sym l)
+
+-- what is read at a place
+pub get_within : {A : Type 0} (xs : List A) (i : ℕ) (x : A) → i < length xs → x ≡ get_or xs i x → slice_get xs i ≡ Some x
+get_within [] i x l e = absurd (omega arith)
+get_within (y ∷ ys) zero x l e = ap Some (sym e)
+get_within (y ∷ ys) (suc i) x l e = get_within ys i x (omega arith) e

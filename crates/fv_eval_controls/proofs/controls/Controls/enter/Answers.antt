@@ -7,12 +7,11 @@ use Rattle.std.specs.declared.alloc.Global.{Global}
 use Rattle.indexmap.specs.IndexSet.{insert_key}
 use Rattle.fv_diagram.specs.declared.control.ControlInfo.{ControlInfo}
 use Rattle.fv_rules.specs.headline.Steps.{is_alike, labelled}
-use Rattle.fv_eval.specs.Controls.{AreLabels, Enters}
-use Rattle.fv_eval.proofs.Labels.{IsFound, found, added}
-use Rattle.fv_eval.proofs.Entered.{met_alike, met_unlike, met_none, numbered_inside}
-use Rattle.fv_eval.proofs.Parameters.{get_within}
-use Rattle.fv_eval.proofs.controls.Controls.enter.Goals.{After-get_index_of}
-use Rattle.fv_eval.proofs.controls.Controls.enter.Goals as goal
+use Rattle.fv_eval_controls.specs.Controls.{AreLabels, Enters}
+use Rattle.fv_eval_controls.proofs.Labels.{IsFound, found, added}
+use Rattle.fv_eval_controls.proofs.Entered.{met_alike, met_unlike, met_none, numbered_inside, get_within}
+use Rattle.fv_eval_controls.proofs.controls.Controls.enter.Goals.{After-get_index_of}
+use Rattle.fv_eval_controls.proofs.controls.Controls.enter.Goals as goal
 
 -- the place that was looked up is the control's, which the rules find
 looked_up : (c : After-get_index_of) → IsFound 0 c.args.self.now c.get_index_of.result (labelled 0 c.args.self.now c.args.info.label)
