@@ -1,6 +1,6 @@
 // The tables and cells of one loop.
 
-ghost use Rattle.std.specs.Prelude.{◌≡◌, slice_set};
+ghost use Rattle.std.specs.Prelude.{◌≡◌, length, slice_set};
 ghost use Rattle.fv_num.specs.headline.Tables.{read_at};
 ghost use Rattle.fv_num.specs.Tables.{written};
 ghost use Rattle.fv_loopcode.specs.headline.State.{list_at};
@@ -55,6 +55,7 @@ impl<'b> LoopCells<'b> {
         ensures plan { self.new.plan ≡ self.old.plan }
         ensures places { self.new.places ≡ self.old.places }
         ensures loop_no { self.new.loop_no ≡ self.old.loop_no }
+        ensures count { length self.new.lists.items ≡ length self.old.lists.items }
     {
         exchange_in(&mut self.lists, self.places.places[cells as usize], w, x, r)
     }
