@@ -2,7 +2,6 @@
 
 use crate::flat::{advance, get, get_many, put, put_many, settle};
 use crate::shape::{LaneShape, LaneState};
-use fv_loopcode::Store;
 use fv_pool::Layout;
 
 /// All lanes of a layout, lent to one worker for a block. Each of its loans has a lifetime of its own, so that who lent them knows what they end with.
@@ -132,6 +131,32 @@ impl<'a, 'l, 's, 'b, 'c> Solo<'a, 'l, 's, 'b, 'c> {
         samples == u64::from(self.written[lane as usize])
     }
 
+    /// The samples that lie so far back before as many samples of the block, from this one on. The cells of a lane lie one after another, so
+    /// they are one or two copies.
+    pub fn load_many(&self, lane: u64, index: u64, back: u64, to: &mut [i32])
+        requires sound { IsSolo self.now }
+        requires there { lane < length (lanes_of self.now) }
+        requires small { index + length to.old ≤ 2 ^ 32 }
+        requires samples { (k : ℕ) → k < length to.old → HasSample (lane_of (lanes_of self.now) lane) (index + k) back }
+        ensures long { length to.new ≡ length to.old }
+        ensures samples { (k : ℕ) → k < length to.old → argument to.new k ≡ sample_at (lane_of (lanes_of self.now) lane) (index + k) back }
+    {
+        self.read_many(lane, index, back, to)
+    }
+
+    /// These samples of a lane, one after another.
+    pub fn append_many(&mut self, lane: u64, values: &[i32])
+        requires sound { IsSolo self.old }
+        requires there { lane < length (lanes_of self.old) }
+        requires room { length values.now ≤ (lane_of (lanes_of self.old) lane).room }
+        ensures lanes { lanes_of self.new
+            ≡ slice_set (lanes_of self.old) lane (all_appended (lane_of (lanes_of self.old) lane) (argument values.now) (length values.now)) }
+        ensures sound { IsSolo self.new }
+        ensures kept { rest_of self.new ≡ rest_of self.old }
+    {
+        self.write_many(lane, values)
+    }
+
     /// The block ends. The cells and the states then hold every lane's next history.
     pub fn finish(self)
         requires sound { IsSolo self }
@@ -243,49 +268,5 @@ impl<'a, 'l, 's, 'b, 'c> Solo<'a, 'l, 's, 'b, 'c> {
             back,
             to,
         );
-    }
-}
-
-impl<'a, 'l, 's, 'b, 'c> Store for Solo<'a, 'l, 's, 'b, 'c> {
-    ghost use Rattle.fv_loopcode.specs.headline.State.{lanes_alone};
-    ghost use Rattle.fv_lines.specs.Solo.{lanes_of, IsSolo, rest_of, SoloRest};
-
-    ghost state = { λ s. lanes_alone (lanes_of s) };
-
-    ghost is_sound = { λ s. IsSolo s };
-
-    ghost Rest = { SoloRest };
-
-    ghost rest = { λ s. rest_of s };
-
-    fn load(&self, lane: u64, index: u64, back: u64) -> i32 {
-        self.at(lane, index, back)
-    }
-
-    fn has_just(&self, lane: u64, samples: u64) -> bool {
-        self.has_just(lane, samples)
-    }
-
-    fn append(&mut self, lane: u64, value: i32) {
-        self.append(lane, value)
-    }
-
-    // It has no tables.
-    fn read(&self, _table: u64, _index: i32) -> i32 {
-        unreachable!()
-    }
-
-    // It has no cells.
-    fn exchange(&mut self, _cells: u64, _w: i32, _x: i32, _r: i32) -> i32 {
-        unreachable!()
-    }
-
-    // The cells of a lane lie one after another, so many samples are one or two copies.
-    fn load_many(&self, lane: u64, index: u64, back: u64, to: &mut [i32]) {
-        self.read_many(lane, index, back, to)
-    }
-
-    fn append_many(&mut self, lane: u64, values: &[i32]) {
-        self.write_many(lane, values)
     }
 }
