@@ -15,6 +15,9 @@ use Rattle.fv_lines.proofs.Stored.{lane_is, length_list, there_of}
 use Rattle.fv_engine_tasks.specs.Block.{Block}
 use Rattle.fv_engine_tasks.specs.Underway.{IsUnderway}
 use Rattle.fv_engine_tasks.proofs.Opening.{opens}
+use Rattle.std.specs.Global.{Vec}
+use Rattle.fv_split_plan.specs.headline.View.{PlanView}
+use Rattle.fv_engine.specs.inner.Kept.{state_of}
 
 -- as many opening lanes as parts
 pub opening_long : (lengths : List ℕ) (shapes : List LaneShape) (states : List LaneState) (frames : ℕ) (cells : List ℤ)
@@ -29,6 +32,12 @@ pub record IsOpening (g : Tasks) (b : Block) (first : State) (s : Now) (now : St
   pub state : s ≡ opening (net_of g) 1
   pub places_are : now ≡ first
   pub none : lines ≡ []
+
+-- what one worker's block works on, where the plan, the lanes and the lists are the same
+pub state_same : {L : Type 0} (lanes : L → List Lane) {p q : PlanView} {l m : L} {ls ms : List (Vec ℤ)} → p ≡ q → m ≡ l → ms ≡ ls
+    → state_of p (lanes l) ls ≡ state_of q (lanes m) ms
+state_same lanes {p} {q} {l} {m} {ls} {ms} e f h =
+    ap (λ (x : PlanView). state_of x (lanes l) ls) e ∙ ap (λ x. state_of q (lanes x) ls) (sym f) ∙ ap (λ (xs : List (Vec ℤ)). state_of q (lanes m) xs) (sym h)
 
 -- they are under way
 pub starts : {g : Tasks} {b : Block} {first : State} {s : Now} {now : State} {lines : List Line} → IsOpening g b first s now lines

@@ -1,7 +1,6 @@
 // A block's tasks by one worker.
 
 ghost use Rattle.std.specs.Prelude.{◌≡◌, ℕ, ◌+◌, ◌*◌, ◌<◌, length, [], All, slice_index_or, pos};
-ghost use Rattle.fv_lines.specs.Solo.{lanes_of, rest_of, IsSolo};
 ghost use Rattle.fv_engine_tasks.specs.Block.{IsReal};
 ghost use Rattle.fv_engine_tasks.specs.Jobs.{IsJob, block_of, RegistersFit};
 ghost use Rattle.fv_engine_tasks.specs.Underway.{EndsBlock};
@@ -10,42 +9,42 @@ ghost use Rattle.fv_engine.specs.inner.Kept.{state_of};
 ghost use Rattle.fv_engine.specs.inner.Opening.{IsSameRunner};
 
 use crate::kept::Kept;
+use crate::lane_store::LaneStore;
 use crate::runner::TaskRunner;
 use fv_engine_tasks::{Codes, Job, copy_outputs, run_tasks};
-use fv_lines::Solo;
 use fv_outside::Gate;
 use fv_split_plan::Plan;
 
 /// Runs a block's tasks over these lanes, the plan's tables and the lists of its cells, one after another, and copies the lanes of the
 /// outputs.
-pub(crate) fn alone<'a, 'l, 's, 'b, 'c, P: Codes, G: Gate>(
+pub(crate) fn alone<P: Codes, L: LaneStore, G: Gate>(
     job: &Job<'_, '_, '_, P>,
     plan: &Plan,
-    solo: Solo<'a, 'l, 's, 'b, 'c>,
+    lanes: &mut L,
     lists: &mut [Vec<i32>],
     runner: &mut TaskRunner,
     output: &mut [i32],
     gate: &G,
-) -> Solo<'a, 'l, 's, 'b, 'c>
-    requires sound { IsSolo solo }
-    requires lanes { length (lanes_of solo) ≡ (P.parts job.now.plan.now).lanes }
+)
+    requires sound { L.is_sound lanes.old }
+    requires lanes { length (L.lanes lanes.old) ≡ (P.parts job.now.plan.now).lanes }
     requires lists { length lists.old ≡ (P.parts job.now.plan.now).cells }
     requires job { IsJob (block_of P.parts job.now) runner.old.tasks.tasks }
-    requires real { IsReal (block_of P.parts job.now) (state_of plan.now solo lists.old) }
+    requires real { IsReal (block_of P.parts job.now) (state_of plan.now (L.lanes lanes.old) lists.old) }
     requires regs { RegistersFit (P.parts job.now.plan.now) (length runner.old.regs.items) }
     requires lines { runner.old.lines.items ≡ [] }
     requires there { All (λ l. l < (P.parts job.now.plan.now).lanes) plan.now.outputs }
     requires output { length output.old ≡ job.now.frames * length plan.now.outputs }
-    ensures ends { EndsBlock runner.old.tasks.tasks (block_of P.parts job.now) (state_of plan.now solo.entry lists.old)
-        (state_of plan.now result lists.new) runner.new.lines.items }
-    ensures sound { IsSolo result }
-    ensures kept { rest_of result ≡ rest_of solo.entry }
+    ensures ends { EndsBlock runner.old.tasks.tasks (block_of P.parts job.now) (state_of plan.now (L.lanes lanes.old) lists.old)
+        (state_of plan.now (L.lanes lanes.new) lists.new) runner.new.lines.items }
+    ensures sound { L.is_sound lanes.new }
+    ensures kept { L.rest lanes.new ≡ L.rest lanes.old }
     ensures samples { (t j : ℕ) → t < job.now.frames → j < length plan.now.outputs
-        → slice_index_or output.new (t * length plan.now.outputs + j) (pos 0) ≡ sample_of (lanes_of result) t (slice_index_or plan.now.outputs j 0) }
+        → slice_index_or output.new (t * length plan.now.outputs + j) (pos 0) ≡ sample_of (L.lanes lanes.new) t (slice_index_or plan.now.outputs j 0) }
     ensures runner { IsSameRunner runner.old runner.new }
 {
     runner.begin();
-    let mut kept = Kept { plan, solo, lists };
+    let mut kept = Kept { plan, lanes, lists };
     run_tasks(
         job,
         &runner.tasks,
@@ -56,10 +55,4 @@ pub(crate) fn alone<'a, 'l, 's, 'b, 'c, P: Codes, G: Gate>(
         gate,
     );
     copy_outputs(plan.outputs(), u64::from(job.frames), &kept, output);
-    let Kept {
-        plan: _,
-        solo,
-        lists: _,
-    } = kept;
-    solo
 }

@@ -1,39 +1,39 @@
 // What a block works on where one worker runs it.
 
-use fv_lines::{Solo, exchange, item};
+use crate::lane_store::LaneStore;
+use fv_lines::{exchange, item};
 use fv_loopcode::Store;
 use fv_split_plan::Plan;
 
-/// The lanes over the region, the plan's tables, and for each of its cells a list, lent for a block.
+/// Lanes, the plan's tables, and for each of its cells a list, lent for a block.
 #[derive(Drop)]
-pub(crate) struct Kept<'p, 'k, 'a, 'l, 's, 'b, 'c> {
+pub(crate) struct Kept<'p, 'o, 'k, L> {
     pub(crate) plan: &'p Plan,
-    pub(crate) solo: Solo<'a, 'l, 's, 'b, 'c>,
+    pub(crate) lanes: &'o mut L,
     pub(crate) lists: &'k mut [Vec<i32>],
 }
 
-impl<'p, 'k, 'a, 'l, 's, 'b, 'c> Store for Kept<'p, 'k, 'a, 'l, 's, 'b, 'c> {
-    ghost use Rattle.fv_lines.specs.Solo.{IsSolo};
-    ghost use Rattle.fv_engine.specs.inner.Kept.{state_in, KeptRest, rest_of};
+impl<L: LaneStore> Store for Kept<'_, '_, '_, L> {
+    ghost use Rattle.fv_engine.specs.inner.Kept.{state_of, KeptRest, rest_with};
 
-    ghost state = { λ s. state_in s };
+    ghost state = { λ s. state_of s.plan.now (L.lanes s.lanes.now) s.lists.now };
 
-    ghost is_sound = { λ s. IsSolo s.solo };
+    ghost is_sound = { λ s. L.is_sound s.lanes.now };
 
-    ghost Rest = { KeptRest };
+    ghost Rest = { KeptRest L.Rest };
 
-    ghost rest = { λ s. rest_of s };
+    ghost rest = { λ s. rest_with s.plan.now s.lanes.ghost_name (L.rest s.lanes.now) s.lists.ghost_name };
 
     fn load(&self, lane: u64, index: u64, back: u64) -> i32 {
-        self.solo.at(lane, index, back)
+        self.lanes.at(lane, index, back)
     }
 
     fn has_just(&self, lane: u64, samples: u64) -> bool {
-        self.solo.has_just(lane, samples)
+        self.lanes.has_just(lane, samples)
     }
 
     fn append(&mut self, lane: u64, value: i32) {
-        self.solo.append(lane, value)
+        self.lanes.append(lane, value)
     }
 
     fn read(&self, table: u64, index: i32) -> i32 {
@@ -45,10 +45,10 @@ impl<'p, 'k, 'a, 'l, 's, 'b, 'c> Store for Kept<'p, 'k, 'a, 'l, 's, 'b, 'c> {
     }
 
     fn load_many(&self, lane: u64, index: u64, back: u64, to: &mut [i32]) {
-        self.solo.load_many(lane, index, back, to)
+        self.lanes.load_many(lane, index, back, to)
     }
 
     fn append_many(&mut self, lane: u64, values: &[i32]) {
-        self.solo.append_many(lane, values)
+        self.lanes.append_many(lane, values)
     }
 }

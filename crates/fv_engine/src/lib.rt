@@ -8,6 +8,7 @@ mod engine;
 mod error;
 mod hold;
 mod kept;
+mod lane_store;
 mod lanes;
 mod laws;
 mod make;

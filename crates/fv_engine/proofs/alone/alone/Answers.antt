@@ -5,16 +5,15 @@ use Rattle.std.proofs.lemmas.List.{length-map}
 use Rattle.fv_num.specs.headline.Words.{argument}
 use Rattle.fv_outside.specs.declared.gate.Line.{Line}
 use Rattle.fv_graph.specs.Graph.{Graph}
+use Rattle.fv_loopcode.specs.headline.Lanes.{Lane}
 use Rattle.fv_loopcode.specs.headline.State.{State}
-use Rattle.fv_lines.specs.Solo.{lanes_of}
 use Rattle.fv_engine_tasks.specs.Block.{Block}
 use Rattle.fv_engine_tasks.specs.Jobs.{IsJob, block_of}
 use Rattle.fv_engine_tasks.specs.Outputs.{sample_of}
 use Rattle.fv_engine_tasks.specs.Underway.{IsUnderway, EndsBlock}
 use Rattle.fv_engine_tasks.proofs.Full.{IsDone, can_read}
-use Rattle.fv_engine.specs.inner.Kept.{KeptRest, state_of, state_in, rest_of}
-use Rattle.fv_engine.specs.declared.kept.Kept.{Kept}
-use Rattle.fv_engine.proofs.Runs.{starts}
+use Rattle.fv_engine.specs.inner.Kept.{KeptRest, state_of}
+use Rattle.fv_engine.proofs.Runs.{starts, state_same}
 use Rattle.fv_engine.proofs.alone.alone.Given.{Over}
 use Rattle.fv_engine.proofs.alone.alone.Goals.{After-begin, After-run_tasks}
 use Rattle.fv_engine.proofs.alone.alone.Goals as goal
@@ -25,7 +24,7 @@ module _ (g : Over) (c : After-begin g) where
   b = block_of g.P.Codes.parts c.args.job.now
 
   abbrev first : State
-  first = state_of c.args.plan.now c.args.solo c.args.lists.now
+  first = state_of c.args.plan.now (g.L.LaneStore.lanes c.args.lanes.now) c.args.lists.now
 
   underway : IsUnderway c.begin.new.self.tasks.tasks b first c.begin.new.self.core.now first c.begin.new.self.lines.items
   underway = starts (record {
@@ -42,10 +41,10 @@ module _ (g : Over) (c : After-run_tasks g) where
   block = block_of g.P.Codes.parts c.args.job.now
 
   abbrev opened : State
-  opened = state_of c.args.plan.now c.args.solo c.args.lists.now
+  opened = state_of c.args.plan.now (g.L.LaneStore.lanes c.args.lanes.now) c.args.lists.now
 
   done : IsUnderway c.begin.new.self.tasks.tasks block opened c.begin.new.self.core.now opened c.begin.new.self.lines.items
-      → IsDone c.begin.new.self.tasks.tasks block opened (state_in c.run_tasks.new.store) c.run_tasks.new.lines.items
+      → IsDone c.begin.new.self.tasks.tasks block opened (state_of c.run_tasks.new.store.plan.now (g.L.LaneStore.lanes c.run_tasks.new.store.lanes.now) c.run_tasks.new.store.lists.now) c.run_tasks.new.lines.items
   done u = record {
     job = subst (λ (t : Graph). IsJob block t.tasks) (sym c.begin.ensures.tasks) c.requires.job;
     real = c.requires.real;
@@ -65,5 +64,33 @@ copy_outputs-requires-clause-there g c = λ t m.
 
 pub returns-clause-ends : goal.returns-clause-ends
 returns-clause-ends g c =
-    let d = goal.at.returns-clause-ends g c in let u = underway g d.After-begin in let ends = (done g d.After-run_tasks u).ends in
-    ?
+    let d = goal.at.returns-clause-ends g c in let u = underway g d.After-begin in let b = block_of g.P.Codes.parts c.args.job.now in
+    let kept = c.run_tasks.ensures.kept in
+    let lanes = sym (ap (λ (r : KeptRest _). r.lanes) kept) in let lists = sym (ap (λ (r : KeptRest _). r.lists) kept) in
+    subst (λ (s : State). EndsBlock c.args.runner.now.tasks.tasks b (opened g d.After-run_tasks) s c.run_tasks.new.lines.items)
+    (state_same g.L.LaneStore.lanes (ap (λ (r : KeptRest _). r.plan) kept) (search (rules, lanes)) (search (rules, lists)))
+    (subst
+    (λ (t : Graph).
+    EndsBlock t.tasks b (opened g d.After-run_tasks)
+    (state_of c.run_tasks.new.store.plan.now (g.L.LaneStore.lanes c.run_tasks.new.store.lanes.now) c.run_tasks.new.store.lists.now)
+    c.run_tasks.new.lines.items) c.begin.ensures.tasks (done g d.After-run_tasks u).ends)
+
+pub returns-clause-sound : goal.returns-clause-sound
+returns-clause-sound g c =
+    let lanes = sym (ap (λ (r : KeptRest _). r.lanes) c.run_tasks.ensures.kept) in
+    subst g.L.LaneStore.is_sound (sym (search (rules, lanes))) c.run_tasks.ensures.sound
+
+pub returns-clause-kept : goal.returns-clause-kept
+returns-clause-kept g c =
+    let kept = c.run_tasks.ensures.kept in let lanes = sym (ap (λ (r : KeptRest _). r.lanes) kept) in
+    ap g.L.LaneStore.rest (search (rules, lanes)) ∙ ap (λ (r : KeptRest _). r.of_lanes) kept
+
+pub returns-clause-samples : goal.returns-clause-samples
+returns-clause-samples g c =
+    let lanes = sym (ap (λ (r : KeptRest _). r.lanes) c.run_tasks.ensures.kept) in
+    let sampled : List ℕ → List Lane → Type 0 = λ xs ls.
+    (t j : ℕ) → t < c.args.job.now.frames → j < length xs
+    → argument c.copy_outputs.new.output (t * length xs + j) ≡ sample_of ls t (slice_index_or xs j 0) in
+    subst (sampled c.args.plan.now.outputs) (ap g.L.LaneStore.lanes (sym (search (rules, lanes))))
+    (subst (λ (xs : List ℕ). sampled xs (g.L.LaneStore.lanes c.run_tasks.new.store.lanes.now)) c.outputs.ensures
+    (λ t j m n. c.copy_outputs.ensures.samples t j (omega (arith, m, c.from.ensures)) n))

@@ -1,4 +1,4 @@
-use Rattle.std.proofs.Common.{◌≡◌, ◌<◌, ℕ, ℤ, List, [], length, get_or, ap, ap₂, sym, ◌∙◌, arith, w32, to_z, of_z, to_z-of_z}
+use Rattle.std.proofs.Common.{◌≡◌, ◌<◌, ℕ, ℤ, List, [], length, get_or, ap, ap₂, rules, sym, ◌∙◌, arith, w32, to_z, of_z, to_z-of_z}
 use Rattle.std.specs.Global.{Vec}
 use Rattle.std.specs.Prelude.{slice_set}
 use Rattle.std.specs.Vec.{with_items}
@@ -6,12 +6,12 @@ use Rattle.std.proofs.lemmas.List.{with_items_is, map-set, length-map, get_or-ma
 use Rattle.fv_num.specs.headline.Tables.{read_at}
 use Rattle.fv_num.specs.Tables.{written}
 use Rattle.fv_loopcode.specs.headline.State.{list_at}
-use Rattle.fv_lines.specs.Solo.{lanes_of}
 use Rattle.fv_split_plan.specs.Rows.{lists_of}
+use Rattle.fv_engine.proofs.kept.KeptStore.exchange.Given.{Over}
 use Rattle.fv_engine.proofs.kept.KeptStore.exchange.Goals.{After-exchange}
 use Rattle.fv_engine.proofs.kept.KeptStore.exchange.Goals as goal
 
-module _ (c : After-exchange) where
+module _ (g : Over) (c : After-exchange g) where
   abbrev lists : List (Vec ℤ)
   lists = c.args.self.now.lists.now
 
@@ -53,12 +53,15 @@ module _ (c : After-exchange) where
       ∙ get_or-set_same (lists_of lists) k new.items [] (let l = c.requires.there.0 in omega (arith, l)) ∙ new_is
 
 pub returns-clause-item : goal.returns-clause-item
-returns-clause-item c =
-    let d = (goal.at.returns-clause-item c).After-exchange in
-    to_z-of_z c.exchange.type_inv ∙ c.exchange.ensures.item ∙ ap (λ (r : ℤ). read_at c.exchange.new.list r) (to_z-of_z c.ranges.r)
-    ∙ ap (λ (xs : List ℤ). read_at xs c.args.r) (sym (item d))
+returns-clause-item g c =
+    let d = (goal.at.returns-clause-item g c).After-exchange in
+    search rules ∙ c.exchange.ensures.item ∙ ap (λ (r : ℤ). read_at c.exchange.new.list r) (to_z-of_z c.ranges.r)
+    ∙ ap (λ (xs : List ℤ). read_at xs c.args.r) (sym (item g d))
 
 pub returns-clause-state : goal.returns-clause-state
-returns-clause-state c =
-    let d = (goal.at.returns-clause-state c).After-exchange in
-    ap (λ (cells : List (List ℤ)). record { lanes = lanes_of c.args.self.now.solo; tables = c.args.self.now.plan.now.tables; cells = cells }) (put d)
+returns-clause-state g c =
+    let d = (goal.at.returns-clause-state g c).After-exchange in
+    ap
+    (λ (cells : List (List ℤ)).
+    record { lanes = g.L.LaneStore.lanes c.args.self.now.lanes.now; tables = c.args.self.now.plan.now.tables; cells = cells })
+    (put g d)
