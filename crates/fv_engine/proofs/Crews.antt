@@ -6,8 +6,6 @@ use Rattle.fv_outside.specs.headline.Tasks.{Tasks}
 use Rattle.fv_pool.specs.Lengths.{lengths_of}
 use Rattle.fv_pool.specs.Region.{cells_of}
 use Rattle.fv_loopcode.specs.headline.Lanes.{Lane}
-use Rattle.std.specs.Global.{Vec}
-use Rattle.fv_split_plan.specs.Rows.{lists_of}
 use Rattle.fv_engine.specs.inner.Opening.{opening_over}
 use Rattle.fv_lines.specs.Solo.{held_at, history_at, opening_lanes, AreHeld, AreFramed}
 use Rattle.fv_lines.specs.declared.shape.LaneShape.{LaneShape}
@@ -30,15 +28,13 @@ lengths_are l =
     sym l.entries.0 ∙ sym (length-map l.shapes.items (λ (s : LaneShape). s.len)) in
     ext_get_or 0 (lengths_of l.layout) (lengths_by l.shapes.items) many (λ i m. (l.held i m).0)
 
--- what is lent of lanes to a crew are their shapes, states and cells, and the lists beside them
-pub record AreLent (l : Lanes) (shapes : List LaneShape) (states : List LaneState) (cells : List ℤ) (lists : List (Vec ℤ)) : Type 0 where
+-- what is lent of lanes to a crew are their shapes, states and cells
+pub record AreLent (l : Lanes) (shapes : List LaneShape) (states : List LaneState) (cells : List ℤ) : Type 0 where
   pub shapes_are : shapes ≡ l.shapes.items
   pub states_are : states ≡ l.states.items
   pub cells_are : cells ≡ cells_of l.region
-  pub lists_are : lists ≡ l.lists.items
 
-module _ {l : Lanes} {shapes : List LaneShape} {states : List LaneState} {cells : List ℤ} {lists : List (Vec ℤ)}
-    (lent : AreLent l shapes states cells lists) where
+module _ {l : Lanes} {shapes : List LaneShape} {states : List LaneState} {cells : List ℤ} (lent : AreLent l shapes states cells) where
   by_shapes : lengths_by shapes ≡ lengths_of l.layout
   by_shapes = ap lengths_by lent.shapes_are ∙ sym (lengths_are l)
 
@@ -57,18 +53,15 @@ module _ {l : Lanes} {shapes : List LaneShape} {states : List LaneState} {cells 
         (subst (λ x. P (lengths_of l.layout) x states cells) lent.shapes_are (subst (λ x. P x shapes states cells) by_shapes p)))
 
 -- a crew may run a block over what is lent to it
-pub may_run_over : (b : SpreadBlock) {l : Lanes} {r : TaskRunner} {states : List LaneState} {cells : List ℤ} {lists : List (Vec ℤ)}
-    → AreLent l b.shapes.now states cells lists → MayRun (block_in b) b.plan.now.tables l r → MayRunOver b states cells lists
-may_run_over b {l} {r} {states} {cells} {lists} lent may = record {
+pub may_run_over : (b : SpreadBlock) {l : Lanes} {r : TaskRunner} {states : List LaneState} {cells : List ℤ} → AreLent l b.shapes.now states cells
+    → MayRun (block_in b) b.plan.now.tables l r → MayRunOver b states cells l.lists.items
+may_run_over b {l} lent may = record {
   count = ap length lent.states_are ∙ l.entries.1 ∙ sym l.entries.0 ∙ sym (ap length lent.shapes_are);
-  lists = ap length lent.lists_are ∙ may.lists;
   room = let k = ap sum (by_shapes lent) in let n = ap length lent.cells_are in omega (arith, k, n, l.entries.3);
   held_there = of_lent lent (λ lengths shapes states cells. AreHeld lengths shapes states) l.held;
   framed = of_lent lent (λ lengths shapes states cells. AreFramed lengths shapes b.frames) may.framed;
-  real =
-      subst (λ (x : List (Vec ℤ)). IsReal (block_in b) (opening_over b.plan.now.tables (lengths_by b.shapes.now) b.shapes.now states b.frames cells x))
-      (sym lent.lists_are)
-      (of_lent lent (λ ls ss st cs. IsReal (block_in b) (opening_over b.plan.now.tables ls ss st b.frames cs l.lists.items)) may.real);
+  many = may.lists;
+  real = of_lent lent (λ ls ss st cs. IsReal (block_in b) (opening_over b.plan.now.tables ls ss st b.frames cs l.lists.items)) may.real;
 }
 
 -- where each lane has the history that it had, the lanes open as before
