@@ -38,8 +38,7 @@ module _ (c : After-swap_cells) where
 pub all_writers-requires-clause-writers : goal.all_writers-requires-clause-writers
 all_writers-requires-clause-writers c =
     let d = (goal.at.all_writers-requires-clause-writers c).After-swap_cells in
-    let v = c.requires.parcels.0 in
-    (
+    let v = c.requires.parcels.0 in (
       v,
       subst (AreLoopsLanes (key d) v) (sym (left d))
           (lanes_left (key d) v c.requires.loops (ws d) (c.loops_writers-writers.ensures v c.requires.parcels.1) c.args.cells.now c.swap_cells.new.lists
