@@ -11,8 +11,8 @@ ghost use Rattle.fv_eval_machine.specs.Machine.{Call, Config, Continuation as Wa
 ghost use Rattle.fv_eval.specs.inner.Continuations.{Continues, Ends, Goes, Runs, ShowsContinuation, Steps, state_of, world};
 
 use crate::continuation::{Continuation, Continuations, Focus};
-use crate::controls::Controls;
 use fv_eval_choosing::Definitions;
+use fv_eval_controls::Controls;
 use fv_eval_drawing::Drawing;
 use fv_eval_machine::steps_mean;
 use fv_eval_patterns::Trials;

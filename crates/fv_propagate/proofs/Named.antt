@@ -15,7 +15,7 @@ use Rattle.fv_diagram.specs.headline.Diagram as diagram
 use Rattle.fv_diagram.specs.Diagram as more_diagram
 use Rattle.fv_diagram.proofs.Meaning.{AllLists}
 use Rattle.fv_diagram.specs.Hooks.{Hooks}
-use Rattle.fv_diagram.specs.inner.Code.{padded}
+use Rattle.fv_diagram.specs.Hooks.{padded}
 use Rattle.fv_propagate.specs.declared.progress.Feedback.{Feedback}
 use Rattle.fv_propagate.specs.headline.Propagated.{HasControl}
 use Rattle.fv_propagate.specs.inner.Progress.{Progress, put, puts, passed, grouped, put_mem, put_prefix, leaf_of, opened_of, shut, signal_hooks}

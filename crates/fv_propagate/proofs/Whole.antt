@@ -19,7 +19,7 @@ use Rattle.fv_diagram.specs.headline.Diagram.{Diagram, inputs, outputs, has_tabl
 use Rattle.fv_diagram.specs.Diagram.{IsWellFormed, HasNoFreeSlot, HasNumbers, AreNumbers}
 use Rattle.fv_diagram.specs.headline.Streams.{run}
 use Rattle.fv_diagram.specs.Wires.{Wired}
-use Rattle.fv_diagram.specs.Steps.{no_slots}
+use Rattle.fv_diagram.specs.Wires.{no_slots}
 use Rattle.fv_diagram.specs.Walked.{walked}
 use Rattle.fv_diagram.proofs.Causality.{run_closed}
 use Rattle.fv_diagram.proofs.Carried.{wired_answers, column_carries}
