@@ -1,3 +1,4 @@
+pub mod CellLemmas
 pub mod TellLemmas
 pub mod SuitLemmas
 pub mod PlanLemmas

@@ -12,40 +12,70 @@ use Rattle.fv_num.specs.headline.Frames.{Frame, Stream, column, table}
 use Rattle.fv_outside.specs.declared.tasks.Reads.{Reads}
 use Rattle.fv_outside.specs.headline.Tasks.{bit, total, reads_loop}
 use Rattle.fv_signal.specs.declared.signal.Signal.TheVariants as signal
-use Rattle.fv_signal.specs.headline.Value.{Graph, value, IsGraph}
+use Rattle.fv_signal.specs.headline.Value.{Graph, table_of, value, IsGraph, NamesWithin}
 use Rattle.fv_split_components.specs.headline.Reach.{at, Reaches}
 use Rattle.fv_loopcode.specs.declared.step.Step.{Step}
 use Rattle.fv_loopcode.specs.declared.step.Step.TheVariants as step
-use Rattle.fv_loopcode.specs.headline.Code.{registers_after, NamesHeld, NamesInput}
-use Rattle.fv_loopcode.specs.Code.{NamesLane, AreSound, IsSound, OperandsBelow}
-use Rattle.fv_loopcode.specs.headline.Obeys.{Roles, Place, OfLane, nothing, ObeysStreams}
-use Rattle.fv_analysis.specs.headline.Stands.{stand, stands_of}
+use Rattle.fv_loopcode.specs.declared.counts.Counts.{Counts}
+use Rattle.fv_loopcode.specs.headline.State.{list_at}
+use Rattle.fv_loopcode.specs.headline.Code.{registers_after, NamesHeld, NamesInput, IsStill}
+use Rattle.fv_loopcode.specs.Code.{NamesThere, AreSound, IsSound, OperandsBelow}
+use Rattle.fv_loopcode.specs.headline.Obeys.{Roles, Place, OfLane, OfCells, nothing, ObeysStreams}
+use Rattle.fv_analysis.specs.headline.Stands.{node, stand, stands_of}
 use Rattle.fv_analysis.specs.headline.History.{history_of}
 use Rattle.fv_split_plan.specs.declared.lane.LaneInfo.{LaneInfo}
+use Rattle.fv_split_plan.specs.declared.lane.CellsInfo.{CellsInfo}
 use Rattle.fv_split_plan.specs.headline.Separated.{links_of, IsSeparated, AsOutput}
-use Rattle.fv_split_plan.specs.Separated.{lane_at}
+use Rattle.fv_split_plan.specs.Separated.{IsWritten, lane_at, cells_at}
 use Rattle.fv_split_plan.specs.headline.Fits.{Names}
 use Rattle.fv_split_plan.specs.Fits.{CodeFits}
-use Rattle.fv_split_plan.specs.headline.View.{PlanView, lane_info, code_of, loads_lane, roles_of}
+use Rattle.fv_split_plan.specs.headline.View.{PlanView, lane_info, cells_info, code_of, loads_lane, reads_table, roles_of}
 use Rattle.fv_split_plan.specs.Rows.{plan_with}
-use Rattle.fv_split_plan.specs.headline.Plans.{LanesStand, LoopsStand, PlanStands, PlanReads, PlanNames, NamesChannel, LoadsWithin, IsPlanOf}
+use Rattle.fv_split_plan.specs.headline.Plans.{LanesStand, LoopsStand, CellsStand, tables_alone, PlanStands, PlanReads, PlanNames, NamesChannel}
+use Rattle.fv_split_plan.specs.headline.Plans.{LoadsWithin, IsPlanOf}
 use Rattle.fv_split_plan.proofs.FitsLemmas.{codes_obey, map_get}
+use Rattle.fv_split_plan.proofs.NodeLemmas.{listed}
 use Rattle.fv_split_lanes.specs.declared.lanes.Lanes.{Lanes}
 use Rattle.fv_split_code.specs.declared.kind.Kind.{Kind}
 use Rattle.fv_split_code.specs.Emitted.{steps_of, code_in, AreCodes}
-use Rattle.fv_split_code.specs.Held.{HoldsUpTo}
+use Rattle.fv_split_code.specs.Held.{ReadsWithin, HoldsUpTo}
 use Rattle.fv_split_code.proofs.LoadLemmas.{fits_loaded, loads_may, held_counted, inputs_named, loads_within, code_sound}
 use Rattle.fv_split.specs.inner.Lists.{AreInfos, AreCoded, lane_of}
-use Rattle.fv_split.specs.inner.ToldReads.{ReadsSoFar, reads_of_loops}
+use Rattle.fv_split.specs.declared.cells.Cells.{Cells}
+use Rattle.fv_split.specs.inner.Cells.{AreOf, AreCells}
+use Rattle.fv_split.specs.inner.ToldReads.{ReadsSoFar, LoadsAmong, reads_of_loops}
 use Rattle.fv_split.proofs.TellLemmas.{IsTold, LoadsFrom, LoopReads, all_told, few_pairs}
-use Rattle.fv_split.proofs.SuitLemmas.{Passes, tables_of, names_of, own_places, lower_loaded, MayLoad, may_load, in_loop, suits, separated_lane}
+use Rattle.fv_split.proofs.SuitLemmas.{Passes, tables_of, names_of, own_places, lower_loaded, MayLoad, may_load, in_loop, cells_in_loop, suits}
+use Rattle.fv_split.proofs.SuitLemmas.{separated_lane}
 
 map_items : (f : ℕ → ℤ) (xs : List ℕ) → map f xs ≡ table (length xs) (λ k. f (at xs k))
 map_items f xs = ap (map f) (sym (table_items xs 0)) ∙ map_table f (length xs) (λ i. get_or xs i 0)
 
-module _ (g : Graph) (p : Lanes) (stands : Vec ℕ Global) (bases kinds : Vec Kind Global) (numbers : List ℕ) (steps : List Step)
-    (passes : Passes g p stands bases kinds numbers steps)
-    (codes : List (Vec Step Global)) (are_codes : AreCodes g (tables_of p stands bases kinds) p.loops codes) where
+-- a step that names what is there loads one of the lanes
+loads_among : (n : Counts) (s : Step) → NamesThere n s → LoadsAmong n.lanes s
+loads_among n (step.Number z) h = tt
+loads_among n (step.Held k) h = tt
+loads_among n (step.Input k) h = tt
+loads_among n (step.Point op args) h = tt
+loads_among n (step.Load lane back max) h = h
+loads_among n (step.Append lane value) h = tt
+loads_among n (step.Read table arg) h = tt
+loads_among n (step.Write cells args) h = tt
+
+-- a step of the held values is within a plan that has the graph's tables
+held_within : (g : Graph) (v : PlanView) → v.tables ≡ g.tables → (s : Step) → IsStill s → ReadsWithin g s → LoadsWithin v s
+held_within g v e (step.Number n) h r = tt
+held_within g v e (step.Held k) h r = tt
+held_within g v e (step.Input k) h r = tt
+held_within g v e (step.Point op args) h r = tt
+held_within g v e (step.Load lane back max) h r = absurd h
+held_within g v e (step.Append lane value) h r = tt
+held_within g v e (step.Read table arg) h r = subst (λ ts. 0 < length (list_at ts table)) (sym e) r
+held_within g v e (step.Write cells args) h r = absurd h
+
+module _ (g : Graph) (p : Lanes) (stands : Vec ℕ Global) (bases kinds : Vec Kind Global) (cells : Cells) (numbers : List ℕ) (steps : List Step)
+    (passes : Passes g p stands bases kinds cells numbers steps)
+    (codes : List (Vec Step Global)) (are_codes : AreCodes g (tables_of p stands bases kinds cells) p.loops codes) where
   abbrev graph : IsGraph g
   graph = passes.graph
 
@@ -58,16 +88,26 @@ module _ (g : Graph) (p : Lanes) (stands : Vec ℕ Global) (bases kinds : Vec Ki
   abbrev signals : List ℕ
   signals = p.signals.items
 
+  abbrev infos_of_cells : List CellsInfo
+  infos_of_cells = cells.infos.items
+
+  abbrev written : List ℕ
+  written = passes.are_cells.signals
+
   abbrev names : Names
-  names = names_of g p (length steps) held.signals
+  names = names_of g p (length steps) held.signals written
+
+  -- how many lanes, tables and cells the codes may name
+  abbrev counts : Counts
+  counts = record { lanes = length owners; tables = length g.tables; cells = length infos_of_cells }
 
   owned : length owners ≡ length signals
   owned = passes.placed.lanes.owned
 
   -- ---- the code of each loop
 
-  fits : (j : ℕ) → j < p.loops → CodeFits g names (lower_loaded owners j) nothing [] (code_in codes j)
-  fits j l = are_codes.fit j l names (lower_loaded owners j) (suits g p stands bases kinds numbers steps passes j l)
+  fits : (j : ℕ) → j < p.loops → CodeFits g names (lower_loaded owners infos_of_cells j) nothing [] (code_in codes j)
+  fits j l = are_codes.fit j l names (lower_loaded owners infos_of_cells j) (suits g p stands bases kinds cells numbers steps passes j l)
 
   code_none : (j : ℕ) → p.loops ≤ j → code_in codes j ≡ []
   code_none j l = ap steps_of (slice_get_past codes j (omega (arith, are_codes.long)))
@@ -76,21 +116,21 @@ module _ (g : Graph) (p : Lanes) (stands : Vec ℕ Global) (bases kinds : Vec Ki
   each_code : (P : List Step → Type 0) → P [] → ((j : ℕ) → j < p.loops → P (code_in codes j)) → (j : ℕ) → P (code_in codes j)
   each_code P none some j = elim (cases_lt j p.loops) [ inl l ↦ some j l | inr l ↦ subst P (sym (code_none j l)) none ]
 
-  lanes_there : (j l : ℕ) → (lower_loaded owners j).loaded l ≡ true → l < length owners
-  lanes_there j l e = (may_load owners j l e).within
+  lanes_there : (j l : ℕ) → (lower_loaded owners infos_of_cells j).loaded l ≡ true → l < length owners
+  lanes_there j l e = (may_load owners infos_of_cells j l e).within
 
-  sound_code : (j : ℕ) → j < p.loops → AreSound (length owners) (code_in codes j)
+  sound_code : (j : ℕ) → j < p.loops → AreSound counts (code_in codes j)
   sound_code j l i d m =
       let z : 0 + i ≡ i = omega arith in
-      subst (λ k. IsSound k (length owners) (get_or (code_in codes j) i d)) z
-      (code_sound g names (lower_loaded owners j) (length owners) (λ k e. (in_loop owners j k e).within) (lanes_there j) nothing [] (code_in codes j)
-      (fits j l) i d m)
+      subst (λ k. IsSound k counts (get_or (code_in codes j) i d)) z
+      (code_sound g names (lower_loaded owners infos_of_cells j) counts (λ k e. (in_loop owners j k e).within) (lanes_there j) (listed g.tables)
+      (λ k e. (cells_in_loop infos_of_cells j k e).within) nothing [] (code_in codes j) (fits j l) i d m)
 
-  pub all_sound : (j : ℕ) → AreSound (length owners) (code_in codes j)
-  all_sound = each_code (AreSound (length owners)) (λ i d m. absurd (omega arith)) sound_code
+  pub all_sound : (j : ℕ) → AreSound counts (code_in codes j)
+  all_sound = each_code (AreSound counts) (λ i d m. absurd (omega arith)) sound_code
 
-  pub all_named : (j : ℕ) → All (λ s. NamesLane (length owners) s) (code_in codes j)
-  all_named j k d m = (all_sound j k d m).0
+  pub all_named : (j : ℕ) → All (LoadsAmong (length owners)) (code_in codes j)
+  all_named j k d m = loads_among counts (get_or (code_in codes j) k d) (all_sound j k d m).0
 
   pub all_owned : All (λ j. j < length codes) owners
   all_owned = All-from_get_or (λ j. j < length codes) owners 0 (λ l m. let b =
@@ -98,11 +138,11 @@ module _ (g : Graph) (p : Lanes) (stands : Vec ℕ Global) (bases kinds : Vec Ki
 
   -- ---- the plan
 
-  module _ (infos : List LaneInfo) (all : List (List Step)) (reads : List Reads) (outputs : List ℕ)
+  module _ (infos : List LaneInfo) (tables : List (List ℤ)) (all : List (List Step)) (reads : List Reads) (outputs : List ℕ) (copied : tables ≡ g.tables)
       (are_infos : AreInfos signals owners (table (length g.signals) (history_of g)) (length signals) infos) (coded : AreCoded codes (length codes) all)
       (is_told : reads ≡ (reads_of_loops owners codes (length codes)).reads) (are_outputs : outputs ≡ map (lane_of (stands_of g) p.lanes.items) g.outputs) where
     abbrev plan : PlanView
-    plan = plan_with p.loops infos all reads outputs steps
+    plan = plan_with p.loops infos tables infos_of_cells all reads outputs steps
 
     -- ---- lanes
 
@@ -122,7 +162,8 @@ module _ (g : Graph) (p : Lanes) (stands : Vec ℕ Global) (bases kinds : Vec Ki
     lane_within : (l : ℕ) → l < length infos → l < length signals
     lane_within l m = omega (arith, are_infos.long)
 
-    same_owner : (j : ℕ) (q : Place) → (roles_of plan j).own q ≡ own_places owners j q
+    same_owner : (j : ℕ) (q : Place) → (roles_of plan j).own q ≡ own_places owners infos_of_cells j q
+    same_owner j (OfCells k) = refl
     same_owner j (OfLane l) = elim (cases_lt l (length signals)) [
       | inl m ↦ ap₂ (λ a b. a && b) (ap (nat_lt l) long) (ap (λ x. nat_eq x j) (owner_is l m))
       | inr m ↦
@@ -137,7 +178,7 @@ module _ (g : Graph) (p : Lanes) (stands : Vec ℕ Global) (bases kinds : Vec Ki
     lane_stands : (x : ℕ) → x < length g.signals → IsSeparated g (stand g x) → (lane_of (stands_of g) p.lanes.items x < length signals)
         × (at signals (lane_of (stands_of g) p.lanes.items x) ≡ stand g x)
     lane_stands x l h =
-        let k = separated_lane g p stands bases kinds numbers steps passes (stand g x) h in
+        let k = separated_lane g p stands bases kinds cells numbers steps passes (stand g x) h in
         let is : lane_of (stands_of g) p.lanes.items x ≡ k.lane = ap (λ a. unwrap_or a 0) k.has in
         (let w = k.within in omega (arith, is, w, owned), ap (at signals) is ∙ k.names_it)
 
@@ -175,6 +216,38 @@ module _ (g : Graph) (p : Lanes) (stands : Vec ℕ Global) (bases kinds : Vec Ki
           omega (arith, b, owner_is l (lane_within l kl), owner_is m (lane_within m km));
     }
 
+    -- ---- cells
+
+    written_within : (k : ℕ) → k < length infos_of_cells → k < length written
+    written_within k m = omega (arith, passes.are_cells.counted)
+
+    cells_are : (k : ℕ) → k < length infos_of_cells → AreOf g p.homes.items (at written k) (cells_info plan k)
+    cells_are k m = passes.are_cells.are k (written_within k m)
+
+    cells_stand : CellsStand g plan names
+    cells_stand = record {
+      tables = copied;
+      are = λ k m.
+          let a = (cells_are k m).writes in
+          (a.0, a.1, a.2, record { within = (passes.are_cells.named k (written_within k m)).0; is = a.3 });
+      there = λ k m.
+          let a = (cells_are k m).writes in
+          subst (λ ts. 0 < length (list_at ts (cells_info plan k).table)) (sym copied)
+          (subst (NamesWithin g) a.3 (graph.closed (at written k) (signal.Const (pos 0)) (passes.are_cells.named k (written_within k m)).0));
+      apart = λ k l mk ml e.
+          some_is (sym (passes.are_cells.named k (written_within k mk)).1 ∙ ap (cells_at cells.numbers.items) e
+          ∙ (passes.are_cells.named l (written_within l ml)).1);
+      all = λ s table w x r n.
+          let a = passes.are_cells.all s n.within (subst IsWritten (sym n.is) tt) in
+          let h = passes.are_cells.has s a.0 a.1 in
+          (a.0, omega (arith, h.0, passes.are_cells.counted), h.1);
+      owners = λ k l mk ml e.
+          (cells_are k mk).owner ∙ ap (at p.homes.items) (sym e) ∙ passes.placed.homes.lanes l (lane_within l ml) ∙ sym (owner_is l (lane_within l ml));
+    }
+      where
+        some_is : {a b : ℕ} → Some a ≡ Some b → a ≡ b
+        some_is {a} {b} e = cc
+
     -- ---- codes
 
     code_is : (j : ℕ) → code_of plan j ≡ code_in codes j
@@ -191,13 +264,13 @@ module _ (g : Graph) (p : Lanes) (stands : Vec ℕ Global) (bases kinds : Vec Ki
     fits_plan : (j : ℕ) → j < p.loops → CodeFits g names (roles_of plan j) nothing [] (code_of plan j)
     fits_plan j l =
         subst (CodeFits g names (roles_of plan j) nothing []) (sym (code_is j))
-        (fits_loaded g names (lower_loaded owners j) (roles_of plan j) (same_owner j) nothing [] (code_in codes j) (λ k e. ap (loads_lane k) (code_is j)
-        ∙ e) (fits j l))
+        (fits_loaded g names (lower_loaded owners infos_of_cells j) (roles_of plan j) (same_owner j) nothing [] (code_in codes j) (λ k e. ap (loads_lane k) (code_is j)
+        ∙ e) (λ t e. ap (reads_table t) (code_is j) ∙ e) (fits j l))
 
     -- a loaded lane is there, and of no greater loop
     loaded_low : (j l : ℕ) → loads_lane l (code_in codes j) ≡ true → (j < p.loops) × MayLoad owners j l
     loaded_low j l e = elim (cases_lt j p.loops) [
-      | inl m ↦ (m, may_load owners j l (loads_may g names (lower_loaded owners j) nothing [] (code_in codes j) (fits j m) l e))
+      | inl m ↦ (m, may_load owners infos_of_cells j l (loads_may g names (lower_loaded owners infos_of_cells j) nothing [] (code_in codes j) (fits j m) l e))
       | inr m ↦ absurd (let z : false ≡ true = sym (ap (loads_lane l) (code_none j m)) ∙ e in cc)
     ]
 
@@ -207,11 +280,12 @@ module _ (g : Graph) (p : Lanes) (stands : Vec ℕ Global) (bases kinds : Vec Ki
       graph = graph;
       lanes = lanes_stand;
       loops = loops_stand;
+      cells = cells_stand;
       codes = coded.long ∙ are_codes.long;
       histories = λ l m. sym (history_is l (lane_within l m));
       obeys = λ j l X c t. codes_obey g graph.ordered names (roles_of plan j) (code_of plan j) (fits_plan j l) X c t;
       held = λ X c t controls same.
-          held.values X c t controls same
+          ap (λ ts. registers_after steps controls (λ n i. pos 0) 0 1 (tables_alone ts)) copied ∙ held.values X c t controls same
           ∙ map_items (λ q. value g q X c t) held.signals ∙ ap (λ n. table n (λ k. value g (at held.signals k) X c t)) held.long;
       counted = refl;
       steady = held.steady;
@@ -305,14 +379,18 @@ module _ (g : Graph) (p : Lanes) (stands : Vec ℕ Global) (bases kinds : Vec Ki
       controls = held.controls;
       loads = each_plan_code (All (LoadsWithin plan)) (All-nil (LoadsWithin plan)) (λ j l.
           loads_within g names (roles_of plan j) plan (λ k e.
-          let w = plan_reads.loaded j k e in (w, sym (history_is k (lane_within k w)))) nothing [] (code_of plan j) (fits_plan j l));
+          let w = plan_reads.loaded j k e in (w, sym (history_is k (lane_within k w)))) copied (λ k e. (cells_in_loop infos_of_cells j k e).within)
+          nothing [] (code_of plan j) (fits_plan j l));
       held_code = held.held_code;
+      held_reads = λ k d m. held_within g plan copied (get_or steps k d) (held.held_code.still k d m) (held.reads k d m);
     }
 
     pub is_plan : IsPlanOf g plan
     is_plan = record { stands = plan_stands; reads = plan_reads; names = plan_names }
 
 -- a plan with equal code for the held values
-pub with_held : {g : Graph} {loops : ℕ} {infos : List LaneInfo} {all : List (List Step)} {told : List Reads} {outputs : List ℕ} {steps held : List Step} →
-    held ≡ steps → IsPlanOf g (plan_with loops infos all told outputs steps) → IsPlanOf g (plan_with loops infos all told outputs held)
-with_held {g} {loops} {infos} {all} {told} {outputs} e p = subst (λ ss. IsPlanOf g (plan_with loops infos all told outputs ss)) (sym e) p
+pub with_held : {g : Graph} {loops : ℕ} {infos : List LaneInfo} {tables : List (List ℤ)} {cells : List CellsInfo} {all : List (List Step)} {told : List Reads}
+    {outputs : List ℕ} {steps held : List Step} →
+    held ≡ steps → IsPlanOf g (plan_with loops infos tables cells all told outputs steps) → IsPlanOf g (plan_with loops infos tables cells all told outputs held)
+with_held {g} {loops} {infos} {tables} {cells} {all} {told} {outputs} e p =
+    subst (λ ss. IsPlanOf g (plan_with loops infos tables cells all told outputs ss)) (sym e) p

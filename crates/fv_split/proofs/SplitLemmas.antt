@@ -9,12 +9,14 @@ use Rattle.fv_split_components.specs.headline.Reach.{at}
 use Rattle.fv_loopcode.specs.declared.step.Step.{Step}
 use Rattle.fv_loopcode.specs.declared.step.Step.TheVariants as step
 use Rattle.fv_loopcode.specs.headline.Code.{IsStill}
-use Rattle.fv_loopcode.specs.Code.{AreSound, NamesLane}
+use Rattle.fv_loopcode.specs.declared.counts.Counts.{Counts}
+use Rattle.fv_loopcode.specs.Code.{AreSound, NamesThere}
 use Rattle.fv_analysis.specs.headline.Stands.{stands_of}
 use Rattle.fv_analysis.proofs.StandLemmas.{stands_long}
 use Rattle.fv_split_lanes.specs.declared.lanes.Lanes.{Lanes}
 use Rattle.fv_split_lanes.specs.Placed.{ArePlaced}
-use Rattle.fv_split_code.specs.Held.{HoldsUpTo}
+use Rattle.fv_split_plan.proofs.NodeLemmas.{listed}
+use Rattle.fv_split_code.specs.Held.{ReadsWithin, HoldsUpTo}
 
 pub rates_long : (g : Graph) → length (rates g.signals) ≡ length g.signals
 rates_long g = omega (arith, length_grown (λ now. rate_in (rate_at now)) [] g.signals)
@@ -37,14 +39,17 @@ signals_there g p placed signals histories es eh =
     subst (All (λ s. s < length histories)) (sym es)
     (All-from_get_or (λ s. s < length histories) p.signals.items 0 (λ l m. let k = (placed.lanes.named l m).0 in omega (arith, k, eh)))
 
-still_lane : (n : ℕ) (s : Step) → IsStill s → NamesLane n s
-still_lane n (step.Number z) h = tt
-still_lane n (step.Held k) h = tt
-still_lane n (step.Input k) h = tt
-still_lane n (step.Point op args) h = tt
-still_lane n (step.Load lane back max) h = absurd h
-still_lane n (step.Append lane value) h = absurd h
+still_there : (g : Graph) (s : Step) → IsStill s → ReadsWithin g s → NamesThere (record { lanes = 0; tables = length g.tables; cells = 0 }) s
+still_there g (step.Number z) h r = tt
+still_there g (step.Held k) h r = tt
+still_there g (step.Input k) h r = tt
+still_there g (step.Point op args) h r = tt
+still_there g (step.Load lane back max) h r = absurd h
+still_there g (step.Append lane value) h r = absurd h
+still_there g (step.Read table arg) h r = listed g.tables table r
+still_there g (step.Write cells args) h r = absurd h
 
--- the code of the held values is sound over no lanes
-pub held_sound : (g : Graph) (s : ℕ) (numbers : List ℕ) (steps : List Step) → HoldsUpTo g s numbers steps → AreSound 0 steps
-held_sound g s numbers steps h i d l = (still_lane 0 (get_or steps i d) (h.held_code.still i d l), h.ordered i d l)
+-- the code of the held values is sound over no lanes and cells, and the graph's tables
+pub held_sound : (g : Graph) (s : ℕ) (numbers : List ℕ) (steps : List Step) → HoldsUpTo g s numbers steps →
+    AreSound (record { lanes = 0; tables = length g.tables; cells = 0 }) steps
+held_sound g s numbers steps h i d l = (still_there g (get_or steps i d) (h.held_code.still i d l) (h.reads i d l), h.ordered i d l)

@@ -16,13 +16,15 @@ use Rattle.fv_signal.proofs.Values.{values_are_given}
 use Rattle.fv_split_components.specs.headline.Reach.{at, Reaches}
 use Rattle.fv_split_components.proofs.Walks.{reaches_self, reaches_trans}
 use Rattle.fv_loopcode.specs.declared.step.Step.{Step}
-use Rattle.fv_loopcode.specs.headline.Obeys.{Roles, Place, OfLane}
+use Rattle.fv_loopcode.specs.headline.Obeys.{Roles, Place, OfLane, OfCells}
 use Rattle.fv_analysis.specs.headline.Stands.{node, stand, stands_of, StandsAt}
 use Rattle.fv_analysis.specs.headline.History.{history_of, history_from, greatest_delay, is_fed_back}
 use Rattle.fv_analysis.proofs.StandLemmas.{IsNoMember, stands_well, stands_long as all_stand}
 use Rattle.fv_analysis.proofs.HistoryLemmas.{histories_cover}
-use Rattle.fv_split_plan.specs.headline.Separated.{operands, links_of, IsComputed, IsSeparated, AsOutput, AsDelayed, AsDefinition, AsShared, ReadsSignal}
-use Rattle.fv_split_plan.specs.Separated.{lane_at}
+use Rattle.fv_split_plan.specs.headline.Separated.{operands, links_of, IsComputed, IsSeparated, AsOutput, AsDelayed, AsDefinition, AsShared, AsWritten}
+use Rattle.fv_split_plan.specs.headline.Separated.{ReadsSignal}
+use Rattle.fv_split_plan.specs.declared.lane.CellsInfo.{CellsInfo}
+use Rattle.fv_split_plan.specs.Separated.{IsWritten, lane_at, cells_at}
 use Rattle.fv_split_plan.specs.headline.Fits.{Names}
 use Rattle.fv_split_plan.specs.Fits.{IsAlways}
 use Rattle.fv_split_lanes.specs.declared.lanes.Lanes.{Lanes}
@@ -32,23 +34,29 @@ use Rattle.fv_split_code.specs.declared.kind.Kind.{Kind}
 use Rattle.fv_split_code.specs.declared.kind.Kind.TheVariants as kind
 use Rattle.fv_split_code.specs.declared.tables.Tables.{Tables}
 use Rattle.fv_split_code.specs.Emits.{KindFits, IsLoaded, IsKindWithin, kind_of, owned_by}
-use Rattle.fv_split_plan.proofs.NodeLemmas.{no_tables}
-use Rattle.fv_split_code.specs.Emitted.{AreTables, IsBase, IsOperand, DelayLane, Suits}
+use Rattle.fv_split_code.specs.Emitted.{AreTables, IsBase, IsOperand, DelayLane, SuitCells, Suits}
 use Rattle.fv_split_code.specs.Held.{HoldsUpTo}
+use Rattle.fv_split.specs.declared.cells.Cells.{Cells}
+use Rattle.fv_split.specs.inner.Cells.{info_at, AreCells}
 use Rattle.fv_split.specs.inner.Bases.{sample_base, constant_base, base_of, kind_with, AreBases, AreKinds}
 
 -- a loop's own places
-abbrev pub own_places : (owners : List ℕ) → (j : ℕ) → Place → Bool
-own_places owners j (OfLane l) = owned_by owners j l
+abbrev pub own_places : (owners : List ℕ) → (infos : List CellsInfo) → (j : ℕ) → Place → Bool
+own_places owners infos j (OfLane l) = owned_by owners j l
+own_places owners infos j (OfCells k) = nat_lt k (length infos) && nat_eq (info_at infos k).owner j
 
--- the lanes of loops up to a loop may be loaded
-abbrev pub lower_loaded : (owners : List ℕ) → (j : ℕ) → Roles
-lower_loaded owners j = record { own = own_places owners j; loaded = λ l. nat_lt l (length owners) && nat_le (at owners l) j }
+-- the lanes of loops up to a loop may be loaded, and all tables may be read
+abbrev pub lower_loaded : (owners : List ℕ) → (infos : List CellsInfo) → (j : ℕ) → Roles
+lower_loaded owners infos j = record {
+  own = own_places owners infos j;
+  loaded = λ l. nat_lt l (length owners) && nat_le (at owners l) j;
+  tables = λ t. true;
+}
 
-pub lower_is : (owners : List ℕ) (j l : ℕ) → l < length owners → at owners l ≤ j → (lower_loaded owners j).loaded l ≡ true
-lower_is owners j l h k = ap (λ b. b && nat_le (at owners l) j) (lt-ltb l (length owners) h) ∙ le-leb (at owners l) j k
+pub lower_is : (owners : List ℕ) (infos : List CellsInfo) (j l : ℕ) → l < length owners → at owners l ≤ j → (lower_loaded owners infos j).loaded l ≡ true
+lower_is owners infos j l h k = ap (λ b. b && nat_le (at owners l) j) (lt-ltb l (length owners) h) ∙ le-leb (at owners l) j k
 
--- what it says that a lane is owned, and that it may be loaded
+-- what it says that a lane or cells are owned, and that a lane may be loaded
 pub record InLoop (owners : List ℕ) (j l : ℕ) : Type 0 where
   pub within : l < length owners
   pub is : at owners l ≡ j
@@ -58,40 +66,59 @@ in_loop owners j l e =
     let both = and_parts (nat_lt l (length owners)) (nat_eq (at owners l) j) e in
     record { within = ltb-true l (length owners) both.0; is = eqb-true (at owners l) j both.1 }
 
+pub record CellsInLoop (infos : List CellsInfo) (j k : ℕ) : Type 0 where
+  pub within : k < length infos
+  pub is : (info_at infos k).owner ≡ j
+
+pub cells_in_loop : (infos : List CellsInfo) (j k : ℕ) → nat_lt k (length infos) && nat_eq (info_at infos k).owner j ≡ true → CellsInLoop infos j k
+cells_in_loop infos j k e =
+    let both = and_parts (nat_lt k (length infos)) (nat_eq (info_at infos k).owner j) e in
+    record { within = ltb-true k (length infos) both.0; is = eqb-true (info_at infos k).owner j both.1 }
+
 pub record MayLoad (owners : List ℕ) (j l : ℕ) : Type 0 where
   pub within : l < length owners
   pub lower : at owners l ≤ j
 
-pub may_load : (owners : List ℕ) (j l : ℕ) → (lower_loaded owners j).loaded l ≡ true → MayLoad owners j l
-may_load owners j l e =
+pub may_load : (owners : List ℕ) (infos : List CellsInfo) (j l : ℕ) → (lower_loaded owners infos j).loaded l ≡ true → MayLoad owners j l
+may_load owners infos j l e =
     let both = and_parts (nat_lt l (length owners)) (nat_le (at owners l) j) e in
     record { within = ltb-true l (length owners) both.0; lower = leb-true (at owners l) j both.1 }
 
 -- what the passes say of their tables
-pub record Passes (g : Graph) (p : Lanes) (stands : Vec ℕ Global) (bases kinds : Vec Kind Global) (numbers : List ℕ) (steps : List Step) : Type 0 where
+pub record Passes (g : Graph) (p : Lanes) (stands : Vec ℕ Global) (bases kinds : Vec Kind Global) (cells : Cells) (numbers : List ℕ) (steps : List Step) :
+    Type 0 where
   pub graph : IsGraph g
   pub placed : ArePlaced g p
-  pub tableless : g.tables ≡ []
   pub is_stands : stands.items ≡ stands_of g
   pub held : HoldsUpTo g (length g.signals) numbers steps
   pub are_bases : AreBases g (stands_of g) (rates g.signals) p.lanes.items numbers (length g.signals) bases.items
   pub are_kinds : AreKinds bases.items p.lanes.items (length g.signals) kinds.items
+  pub are_cells : AreCells g p.homes.items (length g.signals) cells
 
 -- the tables of the emission
-abbrev pub tables_of : Lanes → (stands : Vec ℕ Global) → (bases kinds : Vec Kind Global) → Tables
-tables_of p stands bases kinds = record { stands = stands; bases = bases; kinds = kinds; lanes = p.lanes; homes = p.homes; owners = p.owners }
+abbrev pub tables_of : Lanes → (stands : Vec ℕ Global) → (bases kinds : Vec Kind Global) → Cells → Tables
+tables_of p stands bases kinds cells = record {
+  stands = stands;
+  bases = bases;
+  kinds = kinds;
+  lanes = p.lanes;
+  cells = cells.numbers;
+  homes = p.homes;
+  owners = p.owners;
+}
 
 -- the names of the plan
-abbrev pub names_of : Graph → Lanes → (count : ℕ) → (signals : List ℕ) → Names
-names_of g p count signals = record {
+abbrev pub names_of : Graph → Lanes → (count : ℕ) → (signals cells : List ℕ) → Names
+names_of g p count signals cells = record {
   lane = λ l. at p.signals.items l;
   history = λ l. history_of g (at p.signals.items l);
   count = count;
   held = λ k. at signals k;
+  cells = λ k. at cells k;
 }
 
-module _ (g : Graph) (p : Lanes) (stands : Vec ℕ Global) (bases kinds : Vec Kind Global) (numbers : List ℕ) (steps : List Step)
-    (passes : Passes g p stands bases kinds numbers steps) where
+module _ (g : Graph) (p : Lanes) (stands : Vec ℕ Global) (bases kinds : Vec Kind Global) (cells : Cells) (numbers : List ℕ) (steps : List Step)
+    (passes : Passes g p stands bases kinds cells numbers steps) where
   abbrev graph : IsGraph g
   graph = passes.graph
 
@@ -113,6 +140,9 @@ module _ (g : Graph) (p : Lanes) (stands : Vec ℕ Global) (bases kinds : Vec Ki
   abbrev homes : List ℕ
   homes = p.homes.items
 
+  abbrev infos : List CellsInfo
+  infos = cells.infos.items
+
   abbrev base : ℕ → Kind
   base s = kind_of bases.items s
 
@@ -120,10 +150,10 @@ module _ (g : Graph) (p : Lanes) (stands : Vec ℕ Global) (bases kinds : Vec Ki
   kind_at s = kind_of kinds.items s
 
   abbrev tables : Tables
-  tables = tables_of p stands bases kinds
+  tables = tables_of p stands bases kinds cells
 
   abbrev names : Names
-  names = names_of g p (length steps) held.signals
+  names = names_of g p (length steps) held.signals passes.are_cells.signals
 
   ordered : IsOrdered g
   ordered = graph.ordered
@@ -156,11 +186,11 @@ module _ (g : Graph) (p : Lanes) (stands : Vec ℕ Global) (bases kinds : Vec Ki
 
   -- a lane of what a signal at home reaches may be loaded there
   reached_loaded : (s q l j : ℕ) → s < count → j < p.loops → at homes s ≡ j → Reaches (links_of g) s q → lane_at lanes q ≡ Some l →
-      (lower_loaded owners j).loaded l ≡ true
+      (lower_loaded owners infos j).loaded l ≡ true
   unfolding with_lane
   reached_loaded s q l j ls lj home w e =
       let k = placed.homes.lower s q l ls (omega (arith, lj, home)) w e in
-      lower_is owners j l (with_lane q l e).within (omega (arith, k, home))
+      lower_is owners infos j l (with_lane q l e).within (omega (arith, k, home))
 
   -- a separated signal is no member
   separated_plain : (s : ℕ) → IsSeparated g s → IsNoMember (node g s)
@@ -186,6 +216,7 @@ module _ (g : Graph) (p : Lanes) (stands : Vec ℕ Global) (bases kinds : Vec Ki
       plain (signal.Member group i) c = c
       plain (signal.Read table r) c = tt
       plain (signal.Write table w x r) c = tt
+  separated_plain s (AsWritten table w x r n) = subst IsNoMember (sym n.is) tt
 
   -- ---- bases
 
@@ -248,6 +279,27 @@ module _ (g : Graph) (p : Lanes) (stands : Vec ℕ Global) (bases kinds : Vec Ki
       at_rate rate.Constant e = constant (node g s) refl e
       at_rate rate.Control e = AsHeld (λ z. let y = sym e ∙ z in cc) (rated rate.Control e)
       at_rate rate.Sample e = at_node (node g s) refl e
+
+  -- a table that is written is computed in a loop
+  written_rate : (s : ℕ) → s < count → (n : Signal) → node g s ≡ n → IsWritten n → rate_of g s ≡ rate.Sample
+  written_rate s l (signal.Input i) e w = absurd w
+  written_rate s l (signal.Const i) e w = absurd w
+  written_rate s l (signal.Control i) e w = absurd w
+  written_rate s l (signal.Point op args) e w = absurd w
+  written_rate s l (signal.Delay x d max) e w = absurd w
+  written_rate s l (signal.Back group i) e w = absurd w
+  written_rate s l (signal.Member group i) e w = absurd w
+  written_rate s l (signal.Read table i) e w = absurd w
+  written_rate s l (signal.Write table a x i) e w = rate_is g ordered s (signal.Const (pos 0)) l ∙ ap (rate_in (rate_of g)) e
+
+  written_base : (s : ℕ) → s < count → IsWritten (node g s) → base s ≡ kind.Inner
+  written_base s l w = elim (based s l) [
+    | AsNumber n is e ↦ absurd (subst IsWritten is w)
+    | AsHeld slow e ↦ absurd (slow (written_rate s l (node g s) refl w))
+    | AsInput i n e ↦ absurd (subst IsWritten n w)
+    | AsBack group i n e ↦ absurd (subst IsWritten n w)
+    | AsInner r c e ↦ e
+  ]
 
   -- what a Back names has a lane with enough history
   back_lane : (s group i : ℕ) → s < count → node g s ≡ signal.Back group i → HasLane (stand g (definition g group i))
@@ -345,6 +397,7 @@ module _ (g : Graph) (p : Lanes) (stands : Vec ℕ Global) (bases kinds : Vec Ki
     bases = bases_long;
     kinds = kinds_long;
     lanes = placed.lanes.long;
+    cells = passes.are_cells.long;
     homes = placed.homes.long;
     within = All-from_get_or (λ s. s < count) stands.items 0 (λ s m. let z = stand_within s (omega (arith, stands_long)) in omega (arith, z, stand_at s));
     base_lanes =
@@ -356,7 +409,7 @@ module _ (g : Graph) (p : Lanes) (stands : Vec ℕ Global) (bases kinds : Vec Ki
 
   module _ (j : ℕ) (lj : j < p.loops) where
     abbrev roles : Roles
-    roles = lower_loaded owners j
+    roles = lower_loaded owners infos j
 
     base_loads : (s q : ℕ) → s < count → q < count → at homes s ≡ j → Reaches (links_of g) s q → IsLoaded roles (base q)
     base_loads s q ls lq home w = elim (based q lq) [
@@ -445,11 +498,39 @@ module _ (g : Graph) (p : Lanes) (stands : Vec ℕ Global) (bases kinds : Vec Ki
           loaded = reached_loaded s (stand g x) k.lane j n.within lj home (reads_reach g ordered s (stand g x) (read_of s x n.within is)) k.has;
         }
 
+    -- the node of cells is a table that is written, and its loop is where the signal is at home
+    cells_written : (k : ℕ) → k < length passes.are_cells.signals → IsWritten (node g (at passes.are_cells.signals k))
+    cells_written k l = subst IsWritten (sym (passes.are_cells.are k l).writes.3) tt
+
+    suit_cells : SuitCells g names roles tables j
+    suit_cells = record {
+      own = λ k o.
+          let i = cells_in_loop infos j k o in
+          let w = i.within in
+          let l : k < length passes.are_cells.signals = omega (arith, w, passes.are_cells.counted) in
+          let n = passes.are_cells.named k l in
+          (n.0, n.1, sym (passes.are_cells.are k l).owner ∙ i.is);
+      here = λ s k ls home e.
+          let h = passes.are_cells.has s k e in
+          (own_cells k h.0 ((passes.are_cells.are k h.0).owner ∙ ap (at homes) h.1 ∙ home), h.1);
+      all = passes.are_cells.all;
+      only = λ s k ls e.
+          let h = passes.are_cells.has s k e in
+          let w : IsWritten (node g s) = subst (λ q. IsWritten (node g q)) h.1 (cells_written k h.0) in
+          (w, written_base s ls w);
+    }
+      where
+        own_cells : (k : ℕ) → k < length passes.are_cells.signals → (info_at infos k).owner ≡ j → roles.own (OfCells k) ≡ true
+        own_cells k l e =
+            ap (λ b. b && nat_eq (info_at infos k).owner j) (lt-ltb k (length infos) (omega (arith, l, passes.are_cells.counted)))
+            ∙ eq-eqb (info_at infos k).owner j e
+
     pub suits : Suits g names roles tables j
     unfolding with_lane
     suits = record {
       own = λ l. refl;
       ordered = ordered;
+      closed = graph.closed;
       stands = λ s l. stand_at s;
       bases = base_fits;
       kinds = kind_fits;
@@ -468,7 +549,8 @@ module _ (g : Graph) (p : Lanes) (stands : Vec ℕ Global) (bases kinds : Vec Ki
       loaded = λ s o ls home is. kind_loads s (stand g o) ls (read_within s o ls is) home (reads_reach g ordered s (stand g o) (read_of s o ls is));
       base_loaded = λ s ls home. base_loads s s ls ls home (reaches_self (links_of g) s);
       delays = delay_lane;
-      tableless = no_tables g graph passes.tableless;
+      cells = suit_cells;
+      reads = λ table. refl;
       computed = computed_base;
     }
       where

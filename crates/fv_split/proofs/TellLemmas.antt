@@ -11,11 +11,10 @@ use Rattle.fv_outside.specs.headline.Tasks.{bit, total, reads_loop}
 use Rattle.fv_split_components.specs.headline.Reach.{at}
 use Rattle.fv_loopcode.specs.declared.step.Step.{Step}
 use Rattle.fv_loopcode.specs.declared.step.Step.TheVariants as step
-use Rattle.fv_loopcode.specs.Code.{NamesLane}
 use Rattle.fv_split_plan.specs.Separated.{lane_at}
 use Rattle.fv_split_plan.specs.headline.View.{loads_lane}
 use Rattle.fv_split_code.specs.Emitted.{code_in}
-use Rattle.fv_split.specs.inner.ToldReads.{ReadsSoFar, was_told, with_read, reads_of_step, reads_of_steps, reads_of_loops}
+use Rattle.fv_split.specs.inner.ToldReads.{ReadsSoFar, was_told, with_read, LoadsAmong, reads_of_step, reads_of_steps, reads_of_loops}
 
 -- ---- lists of reads
 
@@ -223,7 +222,7 @@ module _ (owners : List ℕ) (j loops : ℕ) (owned : All (λ k. k < loops) owne
       (λ r k q. elim q [ inl y ↦ inl y | inr y ↦ inr (y.0, y.1, record { lane = y.2.lane; loads = e y.2.lane ∙ y.2.loads; owner = y.2.owner }) ])
       (λ r k q. elim q [ inl y ↦ inl y | inr y ↦ inr (y.0, y.1, record { lane = y.2.lane; loads = sym (e y.2.lane) ∙ y.2.loads; owner = y.2.owner }) ]) h
 
-  pub steps_told : (P : ℕ → ℕ → Type 0) (steps : List Step) (t : ReadsSoFar) → All (λ s. NamesLane (length owners) s) steps → IsTold P j loops t →
+  pub steps_told : (P : ℕ → ℕ → Type 0) (steps : List Step) (t : ReadsSoFar) → All (λ s. LoadsAmong (length owners) s) steps → IsTold P j loops t →
       IsTold (WithSteps P owners j steps) j loops (reads_of_steps owners j t steps)
   steps_told P [] t a h = same_told P (WithSteps P owners j []) j loops t (λ r k q. inl q) (λ r k q. elim q [
     | inl y ↦ y
@@ -231,20 +230,24 @@ module _ (owners : List ℕ) (j loops : ℕ) (owned : All (λ k. k < loops) owne
         y.2.loads in cc)
   ]) h
   steps_told P (step.Number n ∷ ss) t a h =
-      skip P (step.Number n) ss _ (λ l. refl) (steps_told P ss t (All-tail (NamesLane (length owners)) (step.Number n) ss a) h)
-  steps_told P (step.Held n ∷ ss) t a h = skip P (step.Held n) ss _ (λ l. refl) (steps_told P ss t (All-tail (NamesLane (length owners)) (step.Held n) ss a) h)
+      skip P (step.Number n) ss _ (λ l. refl) (steps_told P ss t (All-tail (LoadsAmong (length owners)) (step.Number n) ss a) h)
+  steps_told P (step.Held n ∷ ss) t a h = skip P (step.Held n) ss _ (λ l. refl) (steps_told P ss t (All-tail (LoadsAmong (length owners)) (step.Held n) ss a) h)
   steps_told P (step.Input n ∷ ss) t a h =
-      skip P (step.Input n) ss _ (λ l. refl) (steps_told P ss t (All-tail (NamesLane (length owners)) (step.Input n) ss a) h)
-  steps_told P (step.Point op args ∷ ss) t a h = skip P (step.Point op args) ss _ (λ l. refl) (steps_told P ss t (All-tail (NamesLane (length owners))
+      skip P (step.Input n) ss _ (λ l. refl) (steps_told P ss t (All-tail (LoadsAmong (length owners)) (step.Input n) ss a) h)
+  steps_told P (step.Point op args ∷ ss) t a h = skip P (step.Point op args) ss _ (λ l. refl) (steps_told P ss t (All-tail (LoadsAmong (length owners))
       (step.Point op args) ss a) h)
-  steps_told P (step.Append lane value ∷ ss) t a h = skip P (step.Append lane value) ss _ (λ l. refl) (steps_told P ss t (All-tail (NamesLane (length owners))
+  steps_told P (step.Append lane value ∷ ss) t a h = skip P (step.Append lane value) ss _ (λ l. refl) (steps_told P ss t (All-tail (LoadsAmong (length owners))
       (step.Append lane value) ss a) h)
+  steps_told P (step.Read table arg ∷ ss) t a h = skip P (step.Read table arg) ss _ (λ l. refl) (steps_told P ss t (All-tail (LoadsAmong (length owners))
+      (step.Read table arg) ss a) h)
+  steps_told P (step.Write cells args ∷ ss) t a h = skip P (step.Write cells args) ss _ (λ l. refl) (steps_told P ss t (All-tail (LoadsAmong (length owners))
+      (step.Write cells args) ss a) h)
   steps_told P (step.Load lane back max ∷ ss) t a h =
       let source = at owners lane in
-      let there : lane < length owners = All-head (NamesLane (length owners)) (step.Load lane back max) ss a in
+      let there : lane < length owners = All-head (LoadsAmong (length owners)) (step.Load lane back max) ss a in
       let l : source < loops = All-get_or (λ k. k < loops) owners lane 0 there owned in
       let one = told_more P j source loops t h l in
-      let rest = steps_told (WithSource P j source) ss (with_read j source t) (All-tail (NamesLane (length owners)) (step.Load lane back max) ss a) one in
+      let rest = steps_told (WithSource P j source) ss (with_read j source t) (All-tail (LoadsAmong (length owners)) (step.Load lane back max) ss a) one in
       same_told (WithSteps (WithSource P j source) owners j ss) (WithSteps P owners j (step.Load lane back max ∷ ss)) j loops (reads_of_steps owners j
       (with_read j source t) ss)
       (λ r k q. elim q [
@@ -294,7 +297,7 @@ pub record LoopReads (owners : List ℕ) (codes : List (Vec Step Global)) (n r i
   pub loads : LoadsFrom owners i (code_in codes r)
 
 module _ (owners : List ℕ) (codes : List (Vec Step Global)) (owned : All (λ k. k < length codes) owners) (named : (j : ℕ) →
-    All (λ s. NamesLane (length owners) s) (code_in codes j)) where
+    All (λ s. LoadsAmong (length owners) s) (code_in codes j)) where
   abbrev loops : ℕ
   loops = length codes
 
@@ -419,6 +422,8 @@ length_steps owners j t (step.Input i ∷ ss) = length_steps owners j t ss
 length_steps owners j t (step.Point op args ∷ ss) = length_steps owners j t ss
 length_steps owners j t (step.Load lane back max ∷ ss) = length_steps owners j (with_read j (at owners lane) t) ss ∙ length_with j (at owners lane) t
 length_steps owners j t (step.Append lane value ∷ ss) = length_steps owners j t ss
+length_steps owners j t (step.Read table arg ∷ ss) = length_steps owners j t ss
+length_steps owners j t (step.Write cells args ∷ ss) = length_steps owners j t ss
 
 pub length_all : (owners : List ℕ) (codes : List (Vec Step Global)) (n : ℕ) → length (reads_of_loops owners codes n).last ≡ length codes
 length_all owners codes zero = length-replicate (length codes) None

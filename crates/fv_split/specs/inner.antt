@@ -1,3 +1,4 @@
 pub mod Bases
+pub mod Cells
 pub mod Lists
 pub mod ToldReads

@@ -1,6 +1,7 @@
 // How a graph is split into loops.
 #![tactic(auto)]
 
+mod cells;
 mod kinds;
 mod lists;
 mod loop_code;

@@ -5,16 +5,16 @@ ghost use Rattle.fv_loopcode.specs.Code.{AreSound};
 ghost use Rattle.fv_split_code.specs.Emitted.{code_in};
 ghost use Rattle.fv_split.specs.inner.Lists.{AreCoded};
 
-use fv_loopcode::Step;
+use fv_loopcode::{Counts, Step};
 use fv_loopcode_machine::Code;
 use std::alloc::{AllocError, Global};
 
 /// The code of sound steps.
-pub(crate) fn code(alloc: Global, steps: &[Step], lanes: u64) -> Result<Code, AllocError>
-    requires { AreSound lanes steps.now }
+pub(crate) fn code(alloc: Global, steps: &[Step], counts: Counts) -> Result<Code, AllocError>
+    requires { AreSound counts steps.now }
     ensures { IfOk result (λ code. code ≡ steps.now) }
 {
-    match Code::new(alloc, steps, lanes)? {
+    match Code::new(alloc, steps, counts)? {
         Some(code) => Ok(code),
         None => unreachable!(),
     }
@@ -25,14 +25,14 @@ pub(crate) fn code(alloc: Global, steps: &[Step], lanes: u64) -> Result<Code, Al
 pub(crate) fn all_code(
     alloc: Global,
     codes: Vec<Vec<Step>>,
-    lanes: u64,
+    counts: Counts,
 ) -> Result<Vec<Code>, AllocError>
-    requires { (j : ℕ) → AreSound lanes (code_in codes.items j) }
+    requires { (j : ℕ) → AreSound counts (code_in codes.items j) }
     ensures { IfOk result (λ all. AreCoded codes.items (length codes.items) all.items) }
 {
     let mut all = Vec::with_capacity(alloc, codes.len())?;
     for steps in codes {
-        all.push(code(alloc, &steps, lanes)?)?;
+        all.push(code(alloc, &steps, counts)?)?;
     }
     Ok(all)
 }

@@ -2,9 +2,8 @@
 
 ghost use Rattle.std.specs.Prelude.{◌≡◌, ◌<◌, ◌≤◌, ℕ, length, All, IfOk, OnOk, IsTrue};
 ghost use Rattle.fv_split_components.specs.headline.Reach.{at};
-ghost use Rattle.fv_loopcode.specs.Code.{NamesLane};
 ghost use Rattle.fv_split_code.specs.Emitted.{code_in};
-ghost use Rattle.fv_split.specs.inner.ToldReads.{was_told as was_told_by, with_read, reads_of_step, reads_of_steps, reads_of_loops, view_of};
+ghost use Rattle.fv_split.specs.inner.ToldReads.{was_told as was_told_by, with_read, LoadsAmong, reads_of_step, reads_of_steps, reads_of_loops, view_of};
 
 use fv_loopcode::Step;
 use fv_outside::Reads;
@@ -43,7 +42,7 @@ impl ToldReads {
 
     // What a step of a loop's code reads.
     fn step(&mut self, owners: &[u64], reader: u64, step: Step) -> Result<(), AllocError>
-        requires lane { NamesLane (length owners.now) step }
+        requires lane { LoadsAmong (length owners.now) step }
         requires owners { All (λ j. j < length self.old.last.items) owners.now }
         ensures { OnOk result (view_of self.new ≡ reads_of_step owners.now reader (view_of self.old) step) }
     {
@@ -58,12 +57,14 @@ impl ToldReads {
             Step::Input(_) => Ok(()),
             Step::Point { op: _, args: _ } => Ok(()),
             Step::Append { lane: _, value: _ } => Ok(()),
+            Step::Read { table: _, arg: _ } => Ok(()),
+            Step::Write { cells: _, args: _ } => Ok(()),
         }
     }
 
     // What a loop's code reads.
     fn steps(&mut self, owners: &[u64], reader: u64, steps: &[Step]) -> Result<(), AllocError>
-        requires lanes { All (λ s. NamesLane (length owners.now) s) steps.now }
+        requires lanes { All (λ s. LoadsAmong (length owners.now) s) steps.now }
         requires owners { All (λ j. j < length self.old.last.items) owners.now }
         ensures { OnOk result (view_of self.new ≡ reads_of_steps owners.now reader (view_of self.old) steps.now) }
     {
@@ -80,7 +81,7 @@ pub(crate) fn reads(
     codes: &[Vec<Step>],
     owners: &[u64],
 ) -> Result<Vec<Reads>, AllocError>
-    requires lanes { (j : ℕ) → All (λ s. NamesLane (length owners.now) s) (code_in codes.now j) }
+    requires lanes { (j : ℕ) → All (λ s. LoadsAmong (length owners.now) s) (code_in codes.now j) }
     requires owners { All (λ j. j < length codes.now) owners.now }
     ensures { IfOk result (λ reads. reads.items ≡ (reads_of_loops owners.now codes.now (length codes.now)).reads) }
 {

@@ -3,32 +3,33 @@ use Rattle.std.proofs.Common.{◌≡◌, ◌≢◌, ◌⊎◌, inl, inr, ℕ, ze
 use Rattle.std.proofs.Common.{ap₂, ◌∙◌, subst, arith, ℤ, pos}
 use Rattle.std.proofs.lemmas.List.{length_push, get_or_push, get_or_append_left, get_or-set_same, get_or-set_other, get_or_default, length-map, length-set}
 use Rattle.std.proofs.lemmas.List.{map_push}
-use Rattle.std.proofs.lemmas.List.Elements.{All-head, All-tail, All-take, All-push, All-map, All-get_or}
+use Rattle.std.proofs.lemmas.List.Elements.{All-head, All-tail, All-take, All-push, All-map, All-get_or, All-nil}
 use Rattle.std.proofs.lemmas.Bool.{cases_eq, cases_lt}
 use Rattle.std.specs.Prelude.{All}
 use Rattle.fv_num.specs.declared.op.Op.{Op}
 use Rattle.fv_num.specs.headline.Words.{argument, apply_of, inputs_of}
 use Rattle.fv_num.specs.headline.Frames.{Frame, Stream}
+use Rattle.fv_num.specs.headline.Tables.{read_at}
 use Rattle.fv_signal.specs.declared.signal.Signal.{Signal}
 use Rattle.fv_signal.specs.declared.signal.Signal.TheVariants as signal
 use Rattle.fv_signal.specs.declared.rate.Rate.{Rate}
 use Rattle.fv_signal.specs.declared.rate.Rate.TheVariants as rate
-use Rattle.fv_signal.specs.headline.Value.{Graph, value, signal_at, IsOrdered, OperandsBelow}
+use Rattle.fv_signal.specs.headline.Value.{Graph, table_of, value, signal_at, IsGraph, OperandsBelow, NamesWithin}
 use Rattle.fv_signal.specs.headline.Rates.{faster, fastest, rate_in, rate_of, NamesControl}
 use Rattle.fv_signal.proofs.Rates.{rate_is}
 use Rattle.fv_signal.proofs.Values.{values_are_given}
 use Rattle.fv_split_components.specs.headline.Reach.{at}
 use Rattle.fv_loopcode.specs.declared.step.Step.{Step}
 use Rattle.fv_loopcode.specs.declared.step.Step.TheVariants as step
-use Rattle.fv_loopcode.specs.headline.State.{loads, lanes_alone}
+use Rattle.fv_loopcode.specs.headline.State.{State, list_at, finds}
 use Rattle.fv_loopcode.specs.headline.Code.{Pass, passed, stepped, opening, step_value, NamesHeld, NamesInput, IsStill}
 use Rattle.fv_loopcode.specs.Code.{AreOrdered, IsWhole}
 use Rattle.fv_loopcode.specs.Code.{OperandsBelow as StepOperandsBelow}
 use Rattle.fv_analysis.specs.headline.Stands.{node, StandsAt}
 use Rattle.fv_split_plan.proofs.FitsLemmas.{map_take, map_map, map_get}
 use Rattle.fv_split_code.proofs.ComputeLemmas.{some_inputs}
-use Rattle.fv_split_plan.specs.Separated.{IsTabled, HasNoTables}
-use Rattle.fv_split_code.specs.Held.{held_registers, HoldsUpTo, StepIs, HoldsNow, HoldsIf}
+use Rattle.fv_split_plan.specs.headline.Plans.{tables_alone}
+use Rattle.fv_split_code.specs.Held.{held_registers, ReadsWithin, HoldsUpTo, StepIs, HoldsNow, HoldsIf}
 
 passed_push : (held input : ℕ → ℤ) (index : ℕ) (p : Pass) (xs : List Step) (x : Step) →
     passed held input index p (xs ++ x ∷ []) ≡ stepped held input index (passed held input index p xs) x
@@ -39,13 +40,32 @@ length_passed : (held input : ℕ → ℤ) (index : ℕ) (p : Pass) (xs : List S
 length_passed held input index p [] = omega arith
 length_passed held input index p (y ∷ ys) =
     let h = length_passed held input index (stepped held input index p y) ys in
-    omega (arith, h, length_push p.numbers (step_value held input (loads p.state index) (argument p.numbers) y))
+    omega (arith, h, length_push p.numbers (step_value held input (finds p.state index) (argument p.numbers) y))
 
-registers_push : (controls : ℕ → ℤ) (xs : List Step) (x : Step) →
-    held_registers controls (xs ++ x ∷ [])
-    ≡ held_registers controls xs ++ step_value controls (λ i. pos 0) (loads (passed controls (λ i. pos 0) 0 (opening (lanes_alone [])) xs).state 0) (argument
-    (held_registers controls xs)) x ∷ []
-registers_push controls xs x = ap (λ p. p.numbers) (passed_push controls (λ i. pos 0) 0 (opening (lanes_alone [])) xs x)
+-- steps that load, append and write nothing leave the state as it is
+still_state : (held input : ℕ → ℤ) (index : ℕ) (p : Pass) (x : Step) → IsStill x → (stepped held input index p x).state ≡ p.state
+still_state held input index p (step.Number n) h = refl
+still_state held input index p (step.Held k) h = refl
+still_state held input index p (step.Input i) h = refl
+still_state held input index p (step.Point op args) h = refl
+still_state held input index p (step.Load lane back max) h = absurd h
+still_state held input index p (step.Append lane value) h = absurd h
+still_state held input index p (step.Read table arg) h = refl
+still_state held input index p (step.Write cells args) h = absurd h
+
+still_passed : (held input : ℕ → ℤ) (index : ℕ) (p : Pass) (xs : List Step) → All IsStill xs → (passed held input index p xs).state ≡ p.state
+still_passed held input index p [] h = refl
+still_passed held input index p (x ∷ xs) h =
+    still_passed held input index (stepped held input index p x) xs (All-tail IsStill x xs h) ∙ still_state held input index p x (All-head IsStill x xs h)
+
+registers_push : (tables : List (List ℤ)) (controls : ℕ → ℤ) (xs : List Step) (x : Step) → All IsStill xs →
+    held_registers tables controls (xs ++ x ∷ [])
+    ≡ held_registers tables controls xs ++ step_value controls (λ i. pos 0) (finds (tables_alone tables) 0) (argument (held_registers tables controls xs)) x ∷ []
+registers_push tables controls xs x h =
+    ap (λ p. p.numbers) (passed_push controls (λ i. pos 0) 0 (opening (tables_alone tables)) xs x)
+    ∙ ap (λ (state : State). held_registers tables controls xs
+    ++ step_value controls (λ i. pos 0) (finds state 0) (argument (held_registers tables controls xs)) x ∷ [])
+    (still_passed controls (λ i. pos 0) 0 (opening (tables_alone tables)) xs h)
 
 -- ---- names
 
@@ -57,6 +77,8 @@ held_front (step.Input i ∷ ss) x k h = held_front ss x k h
 held_front (step.Point op args ∷ ss) x k h = held_front ss x k h
 held_front (step.Load lane back max ∷ ss) x k h = held_front ss x k h
 held_front (step.Append lane value ∷ ss) x k h = held_front ss x k h
+held_front (step.Read table arg ∷ ss) x k h = held_front ss x k h
+held_front (step.Write cells args ∷ ss) x k h = held_front ss x k h
 
 held_last : (xs : List Step) (x : Step) (k : ℕ) → NamesHeld (x ∷ []) k → NamesHeld (xs ++ x ∷ []) k
 held_last [] x k h = h
@@ -66,6 +88,8 @@ held_last (step.Input i ∷ ss) x k h = held_last ss x k h
 held_last (step.Point op args ∷ ss) x k h = held_last ss x k h
 held_last (step.Load lane back max ∷ ss) x k h = held_last ss x k h
 held_last (step.Append lane value ∷ ss) x k h = held_last ss x k h
+held_last (step.Read table arg ∷ ss) x k h = held_last ss x k h
+held_last (step.Write cells args ∷ ss) x k h = held_last ss x k h
 
 held_split : (xs : List Step) (x : Step) (k : ℕ) → NamesHeld (xs ++ x ∷ []) k → NamesHeld xs k ⊎ NamesHeld (x ∷ []) k
 held_split [] x k h = inr h
@@ -75,6 +99,8 @@ held_split (step.Input i ∷ ss) x k h = held_split ss x k h
 held_split (step.Point op args ∷ ss) x k h = held_split ss x k h
 held_split (step.Load lane back max ∷ ss) x k h = held_split ss x k h
 held_split (step.Append lane value ∷ ss) x k h = held_split ss x k h
+held_split (step.Read table arg ∷ ss) x k h = held_split ss x k h
+held_split (step.Write cells args ∷ ss) x k h = held_split ss x k h
 
 input_split : (xs : List Step) (x : Step) (k : ℕ) → NamesInput (xs ++ x ∷ []) k → NamesInput xs k ⊎ NamesInput (x ∷ []) k
 input_split [] x k h = inr h
@@ -84,6 +110,8 @@ input_split (step.Input i ∷ ss) x k h = elim h [ inl e ↦ inl (inl e) | inr r
 input_split (step.Point op args ∷ ss) x k h = input_split ss x k h
 input_split (step.Load lane back max ∷ ss) x k h = input_split ss x k h
 input_split (step.Append lane value ∷ ss) x k h = input_split ss x k h
+input_split (step.Read table arg ∷ ss) x k h = input_split ss x k h
+input_split (step.Write cells args ∷ ss) x k h = input_split ss x k h
 
 ordered_push : (xs : List Step) (x : Step) → AreOrdered xs → StepOperandsBelow (length xs) x → AreOrdered (xs ++ x ∷ [])
 ordered_push xs x h b i d l = elim (cases_lt i (length xs)) [
@@ -115,8 +143,9 @@ record MayHold (g : Graph) (n : ℕ) (x : Step) : Type 0 where
   still : IsStill x
   inputs : (i : ℕ) → ¬ NamesInput (x ∷ []) i
   below : StepOperandsBelow n x
+  reads : ReadsWithin g x
 
-module _ (g : Graph) (ordered : IsOrdered g) (s : ℕ) (l : s < length g.signals) (numbers : List ℕ) (steps : List Step) (long : s < length numbers)
+module _ (g : Graph) (graph : IsGraph g) (s : ℕ) (l : s < length g.signals) (numbers : List ℕ) (steps : List Step) (long : s < length numbers)
     (h : HoldsUpTo g s numbers steps) where
   -- a signal that is no held value
   holds_none : rate_of g s ≡ rate.Sample → HoldsUpTo g (suc s) numbers steps
@@ -129,13 +158,13 @@ module _ (g : Graph) (ordered : IsOrdered g) (s : ℕ) (l : s < length g.signals
     numbered = λ q m r. elim (cases_eq q s) [ inl z ↦ absurd (r (ap (rate_of g) z ∙ e)) | inr z ↦ h.numbered q (omega arith) r ];
     controls = h.controls;
     held_code = h.held_code;
+    reads = h.reads;
     ordered = h.ordered;
   }
 
   -- the step's value, from the registers so far
   abbrev gives : (x : Step) → (controls : ℕ → ℤ) → ℤ
-  gives x controls = step_value controls (λ i. pos 0) (loads (passed controls (λ i. pos 0) 0 (opening (lanes_alone [])) steps).state 0) (argument
-      (held_registers controls steps)) x
+  gives x controls = step_value controls (λ i. pos 0) (finds (tables_alone g.tables) 0) (argument (held_registers g.tables controls steps)) x
 
   abbrev Gives : Step → Type 0
   Gives x =
@@ -154,7 +183,7 @@ module _ (g : Graph) (ordered : IsOrdered g) (s : ℕ) (l : s < length g.signals
       | inr y ↦ λ e. slow (ap (rate_of g) (sym (ap (at signals) (let z : k ≡ length steps = omega (arith, length_push steps x) in z) ∙ last)) ∙ e)
     ];
     values = λ X c t controls same.
-        registers_push controls steps x
+        registers_push g.tables controls steps x h.held_code.still
         ∙ ap₂ (λ xs y. xs ++ y ∷ []) (h.values X c t controls (λ k n. same k (held_front steps x k n)))
         (is X c t controls (λ k n. same k (held_front steps x k n)) (λ k n. same k (held_last steps x k n)))
         ∙ sym (map_push (λ q. value g q X c t) h.signals s);
@@ -179,6 +208,7 @@ module _ (g : Graph) (ordered : IsOrdered g) (s : ℕ) (l : s < length g.signals
       still = All-push IsStill steps x h.held_code.still may.still;
       inputs = λ i n. elim (input_split steps x i n) [ inl y ↦ h.held_code.inputs i y | inr y ↦ may.inputs i y ];
     };
+    reads = All-push (ReadsWithin g) steps x h.reads may.reads;
     ordered = ordered_push steps x h.ordered may.below;
   }
     where
@@ -195,12 +225,12 @@ module _ (g : Graph) (ordered : IsOrdered g) (s : ℕ) (l : s < length g.signals
       last = get_or_push h.signals s 0 (length steps) h.long
 
   node_value : (n : Signal) → node g s ≡ n → (X : List Frame) (c : ℕ → Stream) (t : ℕ) → value g s X c t ≡ signal_at g X c (λ r. value g r X c) n t
-  node_value n e X c t = values_are_given g ordered X c s (signal.Const (pos 0)) t l ∙ ap (λ y. signal_at g X c (λ r. value g r X c) y t) e
+  node_value n e X c t = values_are_given g graph.ordered X c s (signal.Const (pos 0)) t l ∙ ap (λ y. signal_at g X c (λ r. value g r X c) y t) e
 
   -- the register of an earlier held value
   earlier : (X : List Frame) (c : ℕ → Stream) (t : ℕ) (controls : ℕ → ℤ) → ((k : ℕ) → NamesHeld steps k → controls k ≡ c k t) → (w : ℕ) → w < s →
       rate_of g w ≢ rate.Sample →
-      argument (held_registers controls steps) (at numbers w) ≡ value g w X c t
+      argument (held_registers g.tables controls steps) (at numbers w) ≡ value g w X c t
   earlier X c t controls same w m r =
       let k = h.numbered w m r in
       ap (λ xs. argument xs (at numbers w)) (h.values X c t controls same) ∙ held_at (at numbers w) (omega (arith, k.0, h.long)) ∙ ap (λ q. value g q X c t) k.1
@@ -213,10 +243,10 @@ module _ (g : Graph) (ordered : IsOrdered g) (s : ℕ) (l : s < length g.signals
   -- an operation whose operands are held values
   module _ (op : Op) (args : List ℕ) (e : node g s ≡ signal.Point op args) (slow : rate_of g s ≢ rate.Sample) where
     lower : All (λ a. a < s) args
-    lower = subst (OperandsBelow g s) e (ordered s (signal.Const (pos 0)) l)
+    lower = subst (OperandsBelow g s) e (graph.ordered s (signal.Const (pos 0)) l)
 
     slow_operands : fastest (map (rate_of g) (take (inputs_of op) args)) ≢ rate.Sample
-    slow_operands k = slow (rate_is g ordered s (signal.Const (pos 0)) l ∙ ap (rate_in (rate_of g)) e ∙ k)
+    slow_operands k = slow (rate_is g graph.ordered s (signal.Const (pos 0)) l ∙ ap (rate_in (rate_of g)) e ∙ k)
 
     -- there is a held value
     some : length args ≡ 4 → 0 < length steps
@@ -238,34 +268,54 @@ module _ (g : Graph) (ordered : IsOrdered g) (s : ℕ) (l : s < length g.signals
 
     holds_point : length args ≡ 4 → HoldsUpTo g (suc s) (set numbers s (length steps)) (steps ++ step.Point op (map (at numbers) args) ∷ [])
     holds_point four = holds_more (step.Point op (map (at numbers) args)) slow (λ X c t controls same more.
-        ap (apply_of op) (map_take (inputs_of op) (argument (held_registers controls steps)) (map (at numbers) args)
-        ∙ ap (map (argument (held_registers controls steps))) (map_take (inputs_of op) (at numbers) args)
-        ∙ map_map (argument (held_registers controls steps)) (at numbers) (take (inputs_of op) args)
-        ∙ operands_held (rate_of g) (λ w. argument (held_registers controls steps) (at numbers w)) (λ w. value g w X c t)
+        ap (apply_of op) (map_take (inputs_of op) (argument (held_registers g.tables controls steps)) (map (at numbers) args)
+        ∙ ap (map (argument (held_registers g.tables controls steps))) (map_take (inputs_of op) (at numbers) args)
+        ∙ map_map (argument (held_registers g.tables controls steps)) (at numbers) (take (inputs_of op) args)
+        ∙ operands_held (rate_of g) (λ w. argument (held_registers g.tables controls steps) (at numbers w)) (λ w. value g w X c t)
         (take (inputs_of op) args) slow_operands s
         (All-take (λ a. a < s) (inputs_of op) args lower) (λ w m r. earlier X c t controls same w m r)
         ∙ sym (map_take (inputs_of op) (λ w. value g w X c t) args))
         ∙ sym (node_value (signal.Point op args) e X c t))
-        (record { names = λ k n. absurd n; still = tt; inputs = λ i n. n; below = operands_there four })
+        (record { names = λ k n. absurd n; still = tt; inputs = λ i n. n; below = operands_there four; reads = tt })
+
+  -- an item of a table whose index is a held value
+  module _ (table w : ℕ) (e : node g s ≡ signal.Read table w) (slow : rate_of g s ≢ rate.Sample) where
+    lower_index : w < s
+    lower_index = subst (OperandsBelow g s) e (graph.ordered s (signal.Const (pos 0)) l)
+
+    slow_index : rate_of g w ≢ rate.Sample
+    slow_index k = slow (rate_is g graph.ordered s (signal.Const (pos 0)) l ∙ ap (rate_in (rate_of g)) e ∙ k)
+
+    holds_read : HoldsUpTo g (suc s) (set numbers s (length steps)) (steps ++ step.Read table (at numbers w) ∷ [])
+    holds_read = holds_more (step.Read table (at numbers w)) slow (λ X c t controls same more.
+        ap (read_at (table_of g table)) (earlier X c t controls same w lower_index slow_index) ∙ sym (node_value (signal.Read table w) e X c t))
+        (record {
+          names = λ k n. absurd n;
+          still = tt;
+          inputs = λ i n. n;
+          below = (h.numbered w lower_index slow_index).0;
+          reads = subst (NamesWithin g) e (graph.closed s (signal.Const (pos 0)) l);
+        })
 
   -- whatever held value it is
   abbrev Held : Step → Type 0
   Held x = HoldsUpTo g (suc s) (set numbers s (length steps)) (steps ++ x ∷ [])
 
   no_rate : (n : Signal) → node g s ≡ n → rate_in (rate_of g) n ≡ rate.Sample → rate_of g s ≡ rate.Sample
-  no_rate n e r = rate_is g ordered s (signal.Const (pos 0)) l ∙ ap (rate_in (rate_of g)) e ∙ r
+  no_rate n e r = rate_is g graph.ordered s (signal.Const (pos 0)) l ∙ ap (rate_in (rate_of g)) e ∙ r
 
-  holds_step : HasNoTables g → (n : Signal) (x : Step) → node g s ≡ n → rate_of g s ≢ rate.Sample → StepIs numbers n x → IsWhole x → Held x
-  holds_step none (signal.Input i) x e slow is whole = absurd (slow (no_rate (signal.Input i) e refl))
-  holds_step none (signal.Const n) x e slow is whole = subst Held (sym is)
+  holds_step : (n : Signal) (x : Step) → node g s ≡ n → rate_of g s ≢ rate.Sample → StepIs numbers n x → IsWhole x → Held x
+  holds_step (signal.Input i) x e slow is whole = absurd (slow (no_rate (signal.Input i) e refl))
+  holds_step (signal.Const n) x e slow is whole = subst Held (sym is)
       (holds_more (step.Number n) slow (λ X c t controls same more. sym (node_value (signal.Const n) e X c t)) (record {
         names = λ k n. absurd n;
         still =
             tt;
         inputs = λ i n. n;
         below = tt;
+        reads = tt;
       }))
-  holds_step none (signal.Control k) x e slow is whole = subst Held (sym is)
+  holds_step (signal.Control k) x e slow is whole = subst Held (sym is)
       (holds_more (step.Held k) slow (λ X c t controls same more. more k (inl refl) ∙ sym (node_value (signal.Control k) e X c t))
       (record {
         names = λ m n. elim n [ inl z ↦ record { place = s; within = l; is = e ∙ ap signal.Control z } | inr z ↦ absurd z ];
@@ -273,17 +323,18 @@ module _ (g : Graph) (ordered : IsOrdered g) (s : ℕ) (l : s < length g.signals
         inputs =
             λ i n. n;
         below = tt;
+        reads = tt;
       }))
-  holds_step none (signal.Point op args) x e slow is whole = subst Held (sym is) (holds_point op args e slow (sym (length_numbers args) ∙ subst IsWhole is whole))
+  holds_step (signal.Point op args) x e slow is whole = subst Held (sym is) (holds_point op args e slow (sym (length_numbers args) ∙ subst IsWhole is whole))
     where
       length_numbers : (ws : List ℕ) → length (map (at numbers) ws) ≡ length ws
       length_numbers [] = refl
       length_numbers (w ∷ ws) = let z = length_numbers ws in omega (arith, z)
-  holds_step none (signal.Delay d w max) x e slow is whole = absurd (slow (no_rate (signal.Delay d w max) e refl))
-  holds_step none (signal.Back group i) x e slow is whole = absurd (slow (no_rate (signal.Back group i) e refl))
-  holds_step none (signal.Member group i) x e slow is whole = absurd (slow (no_rate (signal.Member group i) e refl))
-  holds_step none (signal.Read table r) x e slow is whole = absurd (none s l (subst IsTabled (sym e) tt))
-  holds_step none (signal.Write table w y r) x e slow is whole = absurd (none s l (subst IsTabled (sym e) tt))
+  holds_step (signal.Delay d w max) x e slow is whole = absurd (slow (no_rate (signal.Delay d w max) e refl))
+  holds_step (signal.Back group i) x e slow is whole = absurd (slow (no_rate (signal.Back group i) e refl))
+  holds_step (signal.Member group i) x e slow is whole = absurd (slow (no_rate (signal.Member group i) e refl))
+  holds_step (signal.Read table r) x e slow is whole = subst Held (sym is) (holds_read table r e slow)
+  holds_step (signal.Write table w y r) x e slow is whole = absurd (slow (no_rate (signal.Write table w y r) e refl))
 
 -- ---- one signal more
 
@@ -297,6 +348,7 @@ holds_begin g numbers zeros = record {
   numbered = λ q m r. absurd (omega arith);
   controls = λ k n. absurd n;
   held_code = record { still = λ k d m. absurd (omega arith); inputs = λ i n. n };
+  reads = All-nil (ReadsWithin g);
   ordered = λ i d m. absurd (omega arith);
 }
 
@@ -305,10 +357,10 @@ pub record AreHeld (g : Graph) (s : ℕ) (numbers : List ℕ) (steps : List Step
   pub long : length numbers ≡ length g.signals
   pub holds : HoldsUpTo g s numbers steps
 
-pub holds_if : (g : Graph) → IsOrdered g → HasNoTables g → (s : ℕ) (n : Signal) (r : Rate) (a : List ℕ) (b : List Step) (c : List ℕ) (d : List Step) → StandsAt g s n →
+pub holds_if : (g : Graph) → IsGraph g → (s : ℕ) (n : Signal) (r : Rate) (a : List ℕ) (b : List Step) (c : List ℕ) (d : List Step) → StandsAt g s n →
     r ≡ rate_of g s →
     HoldsIf s n r a b c d → AreHeld g s a b → AreHeld g (suc s) c d
-holds_if g ordered none s n r a b c d at er k h = go r refl k
+holds_if g graph s n r a b c d at er k h = go r refl k
   where
     there : s < length a
     there = let z = at.within in let y = h.long in omega (arith, z, y)
@@ -318,13 +370,13 @@ holds_if g ordered none s n r a b c d at er k h = go r refl k
       long = ap length k.numbers ∙ length-set a s (length b) ∙ h.long;
       holds =
           subst (λ x. HoldsUpTo g (suc s) x d) (sym k.numbers) (subst (HoldsUpTo g (suc s) (set a s (length b))) (sym k.steps)
-          (holds_step g ordered s at.within a b there h.holds none n k.step at.is (λ e. slow (er ∙ e)) k.is k.whole));
+          (holds_step g graph s at.within a b there h.holds n k.step at.is (λ e. slow (er ∙ e)) k.is k.whole));
     }
 
     go : (q : Rate) → r ≡ q → HoldsIf s n q a b c d → AreHeld g (suc s) c d
     go rate.Sample e k = record {
       long = ap length k.0 ∙ h.long;
-      holds = subst (λ x. HoldsUpTo g (suc s) x d) (sym k.0) (subst (HoldsUpTo g (suc s) a) (sym k.1) (holds_none g ordered s at.within a b there h.holds
+      holds = subst (λ x. HoldsUpTo g (suc s) x d) (sym k.0) (subst (HoldsUpTo g (suc s) a) (sym k.1) (holds_none g graph s at.within a b there h.holds
           (sym er ∙ e)));
     }
     go rate.Constant e k = more (λ z. let y = sym e ∙ z in cc) k

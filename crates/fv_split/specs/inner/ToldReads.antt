@@ -30,6 +30,17 @@ with_read j i t =
     if nat_eq i j || was_told (lane_at t.last i) j then t
     else record { reads = t.reads ++ record { reader = j; source = i } ∷ []; last = slice_set t.last i (Some j) }
 
+-- a load is of one of so many lanes
+abbrev pub LoadsAmong : (lanes : ℕ) → Step → Type 0
+LoadsAmong lanes (step.Number n) = Unit {0}
+LoadsAmong lanes (step.Held k) = Unit {0}
+LoadsAmong lanes (step.Input i) = Unit {0}
+LoadsAmong lanes (step.Point op args) = Unit {0}
+LoadsAmong lanes (step.Load lane back max) = lane < lanes
+LoadsAmong lanes (step.Append lane value) = Unit {0}
+LoadsAmong lanes (step.Read table arg) = Unit {0}
+LoadsAmong lanes (step.Write cells args) = Unit {0}
+
 -- what a step of loop j reads
 abbrev pub reads_of_step : (owners : List ℕ) → (j : ℕ) → ReadsSoFar → Step → ReadsSoFar
 reads_of_step owners j t (step.Number n) = t
@@ -38,6 +49,8 @@ reads_of_step owners j t (step.Input i) = t
 reads_of_step owners j t (step.Point op args) = t
 reads_of_step owners j t (step.Load lane back max) = with_read j (at owners lane) t
 reads_of_step owners j t (step.Append lane value) = t
+reads_of_step owners j t (step.Read table arg) = t
+reads_of_step owners j t (step.Write cells args) = t
 
 -- what the steps of loop j read
 abbrev pub reads_of_steps : (owners : List ℕ) → (j : ℕ) → ReadsSoFar → List Step → ReadsSoFar

@@ -13,7 +13,7 @@ code-requires c =
     let x = c.in-Some.steps in
     let whole = ap (λ xs. at.yielded ++ xs) (sym c.in-Some.ensures.steps.0) ∙ at.invariant.all ∙ c.into_iter-steps-iterator.ensures.into_iter_gives.0 in
     let read = ap (λ codes. code_in codes (length at.yielded)) (sym whole) ∙ code_behind at.yielded _ x in
-    subst (AreSound c.args.lanes) (read ∙ sym c.deref.ensures.value) (c.requires (length at.yielded))
+    subst (AreSound c.args.counts) (read ∙ sym c.deref.ensures.value) (c.requires (length at.yielded))
 
 pub loop-steps-preserved : goal.loop-steps-preserved
 loop-steps-preserved c =

@@ -1,15 +1,14 @@
 use Rattle.std.proofs.Common.{◌≡◌, ◌+◌, suc, ◌<◌, length, sym, ap, ◌∙◌, subst, arith, All}
-use Rattle.fv_loopcode.specs.Code.{NamesLane}
 use Rattle.fv_split_code.specs.Emitted.{code_in}
 use Rattle.fv_split_code.proofs.AddLemmas.{code_read}
-use Rattle.fv_split.specs.inner.ToldReads.{view_of, reads_of_steps, reads_of_loops}
+use Rattle.fv_split.specs.inner.ToldReads.{LoadsAmong, view_of, reads_of_steps, reads_of_loops}
 use Rattle.fv_split.proofs.TellLemmas.{length_all}
 use Rattle.fv_split.proofs.told_reads.reads.Goals as goal
 
 pub steps-requires-clause-lanes : goal.steps-requires-clause-lanes
 steps-requires-clause-lanes c =
     let read = c.deref.ensures.value ∙ code_read c.args.codes.now c.loop-j.j c.index-codes-j.result c.loop-j-test.true c.index-codes-j.is in
-    subst (All (NamesLane (length c.args.owners.now))) (sym read) (c.requires.lanes c.loop-j.j)
+    subst (All (LoadsAmong (length c.args.owners.now))) (sym read) (c.requires.lanes c.loop-j.j)
 
 pub steps-requires-clause-owners : goal.steps-requires-clause-owners
 steps-requires-clause-owners c =

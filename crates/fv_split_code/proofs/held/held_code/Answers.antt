@@ -23,5 +23,5 @@ loop-s-preserved c =
     let rate = c.get-rate.ensures ∙ ap (rate_at c.args.rates.now) c.new-in-loop-s.ensures ∙ ap (λ rs. rate_at rs s) c.requires.rates in
     let z : suc s ≡ s + 1 = omega arith in
     subst (λ n. AreHeld g n c.hold_if.new.numbers.items c.hold_if.new.steps.items) z
-    (holds_if g c.requires.ordered c.requires.tableless s node c.get-rate.result c.loop-s.numbers.items c.loop-s.steps.items
+    (holds_if g c.requires.graph s node c.get-rate.result c.loop-s.numbers.items c.loop-s.steps.items
     c.hold_if.new.numbers.items c.hold_if.new.steps.items stands rate c.in_ok-hold_if.ensures c.loop-s.invariant)
