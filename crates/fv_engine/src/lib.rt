@@ -6,6 +6,7 @@ mod crew_codes;
 mod engine;
 mod error;
 mod hold;
+mod kept;
 mod lanes;
 mod laws;
 mod make;
