@@ -10,7 +10,8 @@ use Rattle.fv_loopcode.specs.declared.step.Step.{Step}
 use Rattle.fv_loopcode.specs.declared.step.Step.TheVariants as step
 use Rattle.fv_loopcode.specs.headline.Lanes.{Lane, lane_of}
 use Rattle.fv_loopcode.specs.Lanes.{HasSample}
-use Rattle.fv_loopcode.specs.headline.State.{State, lanes_alone}
+use Rattle.fv_loopcode.specs.headline.State.{State}
+use Rattle.fv_loopcode.specs.State.{lanes_alone}
 use Rattle.fv_loopcode.specs.Obeys.{Content, Holds, HoldsJust}
 use Rattle.fv_loopcode.specs.headline.Code.{Pass, stepped, opening, ran}
 use Rattle.fv_loopcode.specs.Code.{MayStep, MayPass, MayRun, frame_of, IsWithin}

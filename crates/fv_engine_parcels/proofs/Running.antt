@@ -6,7 +6,8 @@ use Rattle.std.proofs.Math.Nat.{min-le_right}
 use Rattle.fv_num.specs.headline.Words.{argument}
 use Rattle.fv_loopcode.specs.declared.step.Step.{Step}
 use Rattle.fv_loopcode.specs.headline.Lanes.{Lane, lane_of}
-use Rattle.fv_loopcode.specs.headline.State.{State, lanes_alone}
+use Rattle.fv_loopcode.specs.headline.State.{State}
+use Rattle.fv_loopcode.specs.State.{lanes_alone}
 use Rattle.fv_loopcode.specs.headline.Code.{ran}
 use Rattle.fv_loopcode.specs.Code.{MayRun, frame_of}
 use Rattle.fv_loopcode.specs.headline.Obeys.{Place, OfLane}

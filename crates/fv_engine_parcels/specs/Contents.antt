@@ -4,7 +4,8 @@ use Rattle.std.specs.Vec.{vec_capacity}
 use Rattle.std.specs.Global.{Vec, Box}
 use Rattle.fv_outside.specs.headline.Tasks.{Tasks}
 use Rattle.fv_graph.specs.Graph.{stride, place_in, pair_at}
-use Rattle.fv_loopcode.specs.headline.State.{State, lanes_alone}
+use Rattle.fv_loopcode.specs.headline.State.{State}
+use Rattle.fv_loopcode.specs.State.{lanes_alone}
 use Rattle.fv_loopcode.specs.Obeys.{Content, Holds, HoldsJust}
 use Rattle.fv_loopcode.specs.Blocks.{before}
 use Rattle.fv_split_plan.specs.headline.View.{PlanView, lane_info, code_of}

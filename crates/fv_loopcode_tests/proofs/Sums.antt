@@ -4,7 +4,7 @@ use Rattle.std.proofs.lemmas.List.{length_push, length-take-le}
 use Rattle.fv_num.specs.headline.Words.{argument}
 use Rattle.fv_loopcode.specs.declared.step.Step.{Step}
 use Rattle.fv_loopcode.specs.headline.Lanes.{Lane, lane_of}
-use Rattle.fv_loopcode.specs.headline.State.{lanes_alone}
+use Rattle.fv_loopcode.specs.State.{lanes_alone}
 use Rattle.fv_loopcode.specs.headline.Code.{passed, opening, ran}
 use Rattle.fv_loopcode.specs.Code.{MayPass, MayRun}
 use Rattle.fv_loopcode_tests.specs.Line.{lane_in, running_sum}

@@ -1,7 +1,7 @@
 // A lane in a vector.
 
 ghost use Rattle.std.specs.Prelude.{[], ◌∷◌};
-ghost use Rattle.fv_loopcode.specs.headline.State.{lanes_alone};
+ghost use Rattle.fv_loopcode.specs.State.{lanes_alone};
 ghost use Rattle.fv_loopcode_tests.specs.Line.{lane_in};
 
 use fv_loopcode::Store;
