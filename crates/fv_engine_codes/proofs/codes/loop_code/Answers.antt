@@ -33,7 +33,12 @@ local_code-requires-clause-named c =
     let placed : Places (roles_of p c.args.loop_no) (slice_index places) (locals_of p g c.args.loop_no) (length (own_lanes p c.args.loop_no)) =
     are_places p g c.args.loop_no places c.loops-tasks.ensures.graph plan.1.reads c.requires.of_plan c.number_lanes-count.ensures.numbered in
     let locals : List ℕ = locals_of p g c.args.loop_no in
-    let count : record { lanes = c.number_lanes-count.result; tables = c.tables.result; cells = c.cast.result } ≡ counts_of p (length locals) = ? in
+    let given : Counts = record { lanes = c.number_lanes-count.result; tables = c.tables.result; cells = length c.cells.result.now } in
+    let count : given ≡ counts_of p (length locals) = λ i. record {
+      lanes = c.number_lanes-count.ensures.count i;
+      tables = c.tables.ensures i;
+      cells = ap length c.cells.ensures i;
+    } in
     subst (λ (n : Counts). All (λ s. NamesThere n (renumbered (slice_index places) s)) c.code.result.now) (sym count)
     (subst (λ (steps : List Step). All (λ s. NamesThere (counts_of p (length locals)) (renumbered (slice_index places) s)) steps) (sym c.code.ensures)
     (λ k d l. names_placed p (roles_of p c.args.loop_no) (slice_index places) locals (length (own_lanes p c.args.loop_no)) placed
