@@ -31,4 +31,14 @@ impl Store for Line {
         self.cells[self.written as usize] = value;
         self.written += 1;
     }
+
+    // There is no table.
+    fn read(&self, _table: u64, _index: i32) -> i32 {
+        unreachable!()
+    }
+
+    // There are no cells to write.
+    fn exchange(&mut self, _cells: u64, _w: i32, _x: i32, _r: i32) -> i32 {
+        unreachable!()
+    }
 }
