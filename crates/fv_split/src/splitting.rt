@@ -75,5 +75,14 @@ pub fn split(
     let codes = all_code(alloc, steps, counts)?;
     let held = code(alloc, &values.steps, still_counts(graph))?;
     let copied = copied_tables(alloc, graph)?;
-    Ok(Plan::new(loops, lanes, copied, cells.infos, codes, told, outputs, held))
+    Ok(Plan::new(
+        loops,
+        lanes,
+        copied,
+        cells.infos,
+        codes,
+        told,
+        outputs,
+        held,
+    ))
 }
