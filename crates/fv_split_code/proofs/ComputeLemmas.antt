@@ -36,7 +36,7 @@ stand_below g ordered n s m l = (stands_well g ordered n s m l).below
 pub known_yes : (homes : List ℕ) (j s q : ℕ) → q < s → at homes q ≡ j → known_at homes j s q ≡ true
 known_yes homes j s q h e = ap (λ b. b && nat_eq (at homes q) j) (lt-ltb q s h) ∙ eq-eqb (at homes q) j e
 
-known_not : (homes : List ℕ) (j s : ℕ) → known_at homes j s s ≡ false
+pub known_not : (homes : List ℕ) (j s : ℕ) → known_at homes j s s ≡ false
 known_not homes j s = ap (λ b. b && nat_eq (at homes s) j) (le-ltb s s (omega arith))
 
 below : (g : Graph) → IsOrdered g → (s : ℕ) (n : Signal) → StandsAt g s n → OperandsBelow g s n
@@ -341,10 +341,14 @@ pub read_lane : (t : Tables) (n : ℕ) → AreTables n t → (x q : ℕ) (o : Op
     o ≡ lane_at t.lanes.items (at t.stands.items x)
 read_lane t n a x q o l z i = get_or_read t.lanes.items q o (omega (arith, a.lanes, z, stand_within t n a x l)) i None ∙ ap (lane_at t.lanes.items) z
 
+-- what signals stand for is there
+pub mapped_within : (stands args : List ℕ) (n : ℕ) → length stands ≡ n → All (λ a. a < n) args → All (λ s. s < n) stands →
+    All (λ s. s < n) (map (at stands) args)
+mapped_within stands args n long within inside = All-map (λ s. s < n) (at stands) args (All-weaker (λ a. a < n) (λ a. at stands a < n)
+    (λ a h. All-get_or (λ s. s < n) stands a 0 (omega (arith, long)) inside) args within)
+
 pub stood_within : (stands args those : List ℕ) (m n : ℕ) → those ≡ take m (map (at stands) args) → length stands ≡ n → All (λ a. a < n) args →
     All (λ s. s < n) stands → (k d : ℕ) → k < length those → get_or those k d < n
-stood_within stands args those m n e long within inside k d l = subst (λ xs. get_or xs k d < n) (sym e) (all k d (subst (λ xs. k < length xs) e l))
-  where
-    all : All (λ s. s < n) (take m (map (at stands) args))
-    all = All-take (λ s. s < n) m (map (at stands) args) (All-map (λ s. s < n) (at stands) args (All-weaker (λ a. a < n) (λ a. at stands a < n)
-        (λ a h. All-get_or (λ s. s < n) stands a 0 (omega (arith, long)) inside) args within))
+stood_within stands args those m n e long within inside k d l =
+    subst (λ xs. get_or xs k d < n) (sym e)
+    (All-take (λ s. s < n) m (map (at stands) args) (mapped_within stands args n long within inside) k d (subst (λ xs. k < length xs) e l))

@@ -6,7 +6,7 @@ use fv_outside::Reads;
 use fv_share::Builder;
 use fv_signal::{Graph, Signal};
 use fv_split::split;
-use fv_split_plan::{LaneInfo, Plan};
+use fv_split_plan::{CellsInfo, LaneInfo, Plan};
 use std::alloc::{AllocError, Global};
 use std::process::Abort;
 use std::test::Fail;
@@ -14,10 +14,6 @@ use test_graphs::{delayed, difference, late, pair};
 
 // The plan of a graph.
 pub fn plan_of(alloc: Global, graph: &Graph) -> Result<Plan, AllocError> {
-    let tables = graph.tables();
-    if tables != 0 {
-        return Err(AllocError);
-    }
     let rates = rates(alloc, graph)?;
     let histories = largest_delays(alloc, graph)?;
     split(alloc, graph, &rates, &histories)
@@ -125,6 +121,42 @@ fn a_constant_output(rt: HostRuntime) -> Result<(), Fail> {
     let plan = plan_of(rt.alloc(), &graph)?;
     assert!(rt; plan.reads().is_empty());
     assert_steps(&rt, &plan, &[2, 4]);
+    Ok(())
+}
+
+// `waveform{2, 3}, _ : rdtable`: what is read is an output, whose loop reads the plan's one table.
+#[test]
+fn a_table_that_is_read(rt: HostRuntime) -> Result<(), Fail> {
+    let mut builder = Builder::new(rt.alloc());
+    let table = builder.table(&[2, 3])?;
+    let r = builder.node(Signal::Input(0))?;
+    let read = builder.node(Signal::Read { table, r })?;
+    let graph = builder.finish(&[read])?;
+    let plan = plan_of(rt.alloc(), &graph)?;
+    assert_eq!(rt; plan.tables(), 1);
+    assert_eq!(rt; plan.table(0), [2, 3].as_slice());
+    assert!(rt; plan.cells().is_empty());
+    // The input, the read and its append.
+    assert_steps(&rt, &plan, &[3]);
+    Ok(())
+}
+
+// A table that is written is an operand of one sum alone, and has a lane and cells.
+#[test]
+fn a_table_that_is_written(rt: HostRuntime) -> Result<(), Fail> {
+    let mut builder = Builder::new(rt.alloc());
+    let table = builder.table(&[2, 3])?;
+    let w = builder.node(Signal::Input(0))?;
+    let x = builder.node(Signal::Input(1))?;
+    let written = builder.node(Signal::Write { table, w, x, r: w })?;
+    let sum = pair(&mut builder, Op::Add, written, x)?;
+    let graph = builder.finish(&[sum])?;
+    let plan = plan_of(rt.alloc(), &graph)?;
+    assert_eq!(rt; plan.lanes(), [lane(0, 0), lane(1, 0)].as_slice());
+    let cells = CellsInfo { owner: 0, table: 0 };
+    assert_eq!(rt; plan.cells(), [cells].as_slice());
+    // Three inputs, the write and its append; number, load of the write's lane, input, sum, append.
+    assert_steps(&rt, &plan, &[5, 5]);
     Ok(())
 }
 
