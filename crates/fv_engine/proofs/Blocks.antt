@@ -217,7 +217,7 @@ module _ {e : Inside} {v : EngineView} {frames : ℕ} {input controls : List ℤ
         vectors = alike.vectors;
         begun = is_begun;
         ends = ran_so.ends;
-        ended = ended (record { shapes_are = inv.shapes; many = many; starts = refl; cells = refl }) frames ran_so.now ran_so.next ran_so.cells;
+        ended = ended (record { shapes_are = inv.shapes; many = many; starts = refl; cells = refl }) frames ran_so.now ran_so.next ran_so.items;
         samples = ran_so.samples;
       })
 

@@ -1,26 +1,24 @@
 // What a block works on where one worker runs it.
 
-ghost use Rattle.std.specs.Prelude.{length};
-
 use fv_lines::{Solo, exchange, item};
 use fv_loopcode::Store;
 use fv_split_plan::Plan;
 
 /// The lanes over the region, the plan's tables, and for each of its cells a list, lent for a block.
 #[derive(Drop)]
-pub(crate) struct Kept<'p, 'k, 'a, 'l, 's, 'b, 'c> {
+pub(crate) struct Kept<'p, 'o, 'k, 'a, 'l, 's, 'b, 'c> {
     pub(crate) plan: &'p Plan,
-    pub(crate) solo: Solo<'a, 'l, 's, 'b, 'c>,
+    pub(crate) solo: &'o mut Solo<'a, 'l, 's, 'b, 'c>,
     pub(crate) lists: &'k mut [Vec<i32>],
 }
 
-impl<'p, 'k, 'a, 'l, 's, 'b, 'c> Store for Kept<'p, 'k, 'a, 'l, 's, 'b, 'c> {
+impl<'p, 'o, 'k, 'a, 'l, 's, 'b, 'c> Store for Kept<'p, 'o, 'k, 'a, 'l, 's, 'b, 'c> {
     ghost use Rattle.fv_lines.specs.Solo.{IsSolo};
     ghost use Rattle.fv_engine.specs.inner.Kept.{state_in, KeptRest, rest_of};
 
     ghost state = { λ s. state_in s };
 
-    ghost is_sound = { λ s. IsSolo s.solo };
+    ghost is_sound = { λ s. IsSolo s.solo.now };
 
     ghost Rest = { KeptRest };
 

@@ -1,6 +1,7 @@
 //! The engine: blocks of a plan, by one worker or by several, over one region.
 #![tactic(auto)]
 
+mod alone;
 mod crew;
 mod crew_codes;
 mod engine;

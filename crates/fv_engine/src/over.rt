@@ -8,9 +8,9 @@ ghost use Rattle.fv_engine_tasks.specs.Jobs.{IsJob, block_of, RegistersFit};
 ghost use Rattle.fv_engine_crew.specs.Ran.{Ran};
 ghost use Rattle.fv_engine.specs.inner.Opening.{opening_over, IsSameRunner};
 
-use crate::kept::Kept;
+use crate::alone::alone;
 use crate::runner::TaskRunner;
-use fv_engine_tasks::{Codes, Job, copy_outputs, run_tasks};
+use fv_engine_tasks::{Codes, Job};
 use fv_lines::{LaneShape, LaneState, Solo};
 use fv_outside::Gate;
 use fv_pool::Layout;
@@ -50,23 +50,7 @@ pub(crate) fn over<P: Codes, G: Gate>(
     ensures lanes { AreHeld (lengths_of layout.now) shapes.now states.new }
     ensures runner { IsSameRunner runner.old runner.new }
 {
-    runner.begin();
-    let solo = Solo::begin(cells, layout, shapes, states, written, job.frames);
-    let mut kept = Kept { plan, solo, lists };
-    run_tasks(
-        job,
-        &runner.tasks,
-        &mut runner.core,
-        &mut runner.regs,
-        &mut runner.lines,
-        &mut kept,
-        gate,
-    );
-    copy_outputs(plan.outputs(), u64::from(job.frames), &kept, output);
-    let Kept {
-        plan: _,
-        solo,
-        lists: _,
-    } = kept;
+    let mut solo = Solo::begin(cells, layout, shapes, states, written, job.frames);
+    alone(job, plan, &mut solo, lists, runner, output, gate);
     solo.finish();
 }

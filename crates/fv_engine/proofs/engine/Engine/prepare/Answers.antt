@@ -9,8 +9,8 @@ use Rattle.fv_split_plan.proofs.NodeLemmas.{listed}
 use Rattle.fv_engine.proofs.Made.{begin_so}
 use Rattle.fv_engine.proofs.engine.Engine.prepare.Goals as goal
 
-pub blank_lanes-lanes-requires-clause-tables : goal.blank_lanes-lanes-requires-clause-tables
-blank_lanes-lanes-requires-clause-tables c = λ k i.
+pub blank_lanes-requires-clause-tables : goal.blank_lanes-requires-clause-tables
+blank_lanes-requires-clause-tables c = λ k i.
     let plan = subst (λ (p : PlanView). IsPlan p) c.plan.view_is c.plan.invariant in listed _ _ (plan.1.stands.cells.there k i)
 
 pub invariant_of-result : goal.invariant_of-result
