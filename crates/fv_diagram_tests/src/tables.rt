@@ -314,7 +314,10 @@ fn lists_are_kept(rt: HostRuntime) -> Result<(), Fail> {
         },
     )?;
     assert_eq!(rt;
-        (diagrams.has_table_primitive(wave), diagrams.has_table_primitive(primitive)),
+        (
+            diagrams.has_table_primitive(wave),
+            diagrams.has_table_primitive(primitive)
+        ),
         (false, true)
     );
     Ok(())
