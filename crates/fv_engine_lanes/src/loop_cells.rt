@@ -1,11 +1,7 @@
 // The tables and cells of one loop.
 
-<<<<<<< HEAD
-ghost use Rattle.std.specs.Prelude.{◌≡◌, slice_set};
-ghost use Rattle.fv_num.specs.headline.Tables.{read_at, written};
-=======
 ghost use Rattle.std.specs.Prelude.{◌≡◌, length, slice_set};
->>>>>>> 472f2832b677ffd8d9934948974ce4aa72e83808
+ghost use Rattle.fv_num.specs.headline.Tables.{read_at, written};
 ghost use Rattle.fv_loopcode.specs.headline.State.{list_at};
 ghost use Rattle.fv_loopcode.specs.Code.{HasItems};
 ghost use Rattle.fv_split_plan.specs.Rows.{lists_of};

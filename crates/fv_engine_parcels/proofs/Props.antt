@@ -12,12 +12,7 @@ use Rattle.fv_loopcode.specs.declared.step.Step.{Step}
 use Rattle.fv_loopcode.specs.declared.step.Step.TheVariants as step
 use Rattle.fv_loopcode.specs.headline.Lanes.{Lane, lane_of}
 use Rattle.fv_loopcode.specs.Lanes.{HasSample}
-<<<<<<< HEAD
-use Rattle.fv_loopcode.specs.headline.State.{State}
-use Rattle.fv_loopcode.specs.State.{lanes_alone}
-=======
 use Rattle.fv_loopcode.specs.headline.State.{State, list_at}
->>>>>>> 472f2832b677ffd8d9934948974ce4aa72e83808
 use Rattle.fv_loopcode.specs.Obeys.{Content, Holds, HoldsJust}
 use Rattle.fv_loopcode.specs.headline.Code.{Pass, stepped, opening, ran}
 use Rattle.fv_loopcode.specs.Code.{MayStep, MayPass, MayRun, frame_of, IsWithin}

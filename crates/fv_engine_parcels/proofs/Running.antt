@@ -5,14 +5,8 @@ use Rattle.std.proofs.lemmas.Bool.{lt-ltb, ltb-true, ltb-false, eq-eqb}
 use Rattle.std.proofs.Math.Nat.{min-le_right}
 use Rattle.fv_num.specs.headline.Words.{argument}
 use Rattle.fv_loopcode.specs.declared.step.Step.{Step}
-<<<<<<< HEAD
-use Rattle.fv_loopcode.specs.headline.Lanes.{Lane, lane_of}
-use Rattle.fv_loopcode.specs.headline.State.{State}
-use Rattle.fv_loopcode.specs.State.{lanes_alone}
-=======
 use Rattle.fv_loopcode.specs.headline.Lanes.{lane_of}
 use Rattle.fv_loopcode.specs.headline.State.{State, list_at}
->>>>>>> 472f2832b677ffd8d9934948974ce4aa72e83808
 use Rattle.fv_loopcode.specs.headline.Code.{ran}
 use Rattle.fv_loopcode.specs.Code.{MayRun, frame_of}
 use Rattle.fv_loopcode.specs.headline.Obeys.{Place, OfLane, OfCells}
@@ -79,8 +73,7 @@ module _ (laws : Laws) (k : Start) (j v : ℕ) where
   tables : (f : Content) → IsContentOf k f → (state : State) → Before k j v state
       → HaveTables (roles_over (roles_of k.plan.now j) (length mine) (length all)) (content_over all f) state
   tables f c state b = λ t o.
-      let h = c.begins.tables j t o in
-      (
+      let h = c.begins.tables j t o in (
         subst (λ (lists : List (List ℤ)). t < length lists) (sym b.tables) h.0,
         ap (λ (lists : List (List ℤ)). list_at lists t) b.tables ∙ h.1,
       )

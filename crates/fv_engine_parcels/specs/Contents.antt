@@ -4,12 +4,7 @@ use Rattle.std.specs.Vec.{vec_capacity}
 use Rattle.std.specs.Global.{Vec, Box}
 use Rattle.fv_outside.specs.headline.Tasks.{Tasks}
 use Rattle.fv_graph.specs.Graph.{stride, place_in, pair_at}
-<<<<<<< HEAD
-use Rattle.fv_loopcode.specs.headline.State.{State}
-use Rattle.fv_loopcode.specs.State.{lanes_alone}
-=======
 use Rattle.fv_loopcode.specs.headline.State.{State, list_at}
->>>>>>> 472f2832b677ffd8d9934948974ce4aa72e83808
 use Rattle.fv_loopcode.specs.Obeys.{Content, Holds, HoldsJust}
 use Rattle.fv_loopcode.specs.Blocks.{before}
 use Rattle.fv_split_plan.specs.headline.View.{PlanView, lane_info, cells_info, code_of}

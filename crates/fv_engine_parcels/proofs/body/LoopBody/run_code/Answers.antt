@@ -2,13 +2,7 @@ use Rattle.std.proofs.Common.{◌≡◌, ℕ, suc, ◌-◌, ◌*◌, List, subst
 use Rattle.std.proofs.Math.Nat.{min-le_right}
 use Rattle.fv_num.specs.headline.Words.{argument}
 use Rattle.fv_loopcode.specs.declared.step.Step.{Step}
-<<<<<<< HEAD
-use Rattle.fv_loopcode.specs.headline.Lanes.{Lane}
 use Rattle.fv_loopcode.specs.headline.State.{State}
-use Rattle.fv_loopcode.specs.State.{lanes_alone}
-=======
-use Rattle.fv_loopcode.specs.headline.State.{State}
->>>>>>> 472f2832b677ffd8d9934948974ce4aa72e83808
 use Rattle.fv_loopcode.specs.headline.Code.{ran}
 use Rattle.fv_loopcode.specs.Code.{MayRun, frame_of}
 use Rattle.fv_engine_lanes.specs.Lanes.{state_in}
