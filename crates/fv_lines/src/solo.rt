@@ -2,7 +2,6 @@
 
 use crate::flat::{advance, get, get_many, put, put_many, settle};
 use crate::shape::{LaneShape, LaneState};
-use fv_loopcode::Store;
 use fv_pool::Layout;
 
 /// All lanes of a layout, lent to one worker for a block. Each of its loans has a lifetime of its own, so that who lent them knows what they end with.
@@ -132,6 +131,32 @@ impl<'a, 'l, 's, 'b, 'c> Solo<'a, 'l, 's, 'b, 'c> {
         samples == u64::from(self.written[lane as usize])
     }
 
+    /// The samples that lie so far back before as many samples of the block, from this one on. The cells of a lane lie one after another, so
+    /// they are one or two copies.
+    pub fn load_many(&self, lane: u64, index: u64, back: u64, to: &mut [i32])
+        requires sound { IsSolo self.now }
+        requires there { lane < length (lanes_of self.now) }
+        requires small { index + length to.old ≤ 2 ^ 32 }
+        requires samples { (k : ℕ) → k < length to.old → HasSample (lane_of (lanes_of self.now) lane) (index + k) back }
+        ensures long { length to.new ≡ length to.old }
+        ensures samples { (k : ℕ) → k < length to.old → argument to.new k ≡ sample_at (lane_of (lanes_of self.now) lane) (index + k) back }
+    {
+        self.read_many(lane, index, back, to)
+    }
+
+    /// These samples of a lane, one after another.
+    pub fn append_many(&mut self, lane: u64, values: &[i32])
+        requires sound { IsSolo self.old }
+        requires there { lane < length (lanes_of self.old) }
+        requires room { length values.now ≤ (lane_of (lanes_of self.old) lane).room }
+        ensures lanes { lanes_of self.new
+            ≡ slice_set (lanes_of self.old) lane (all_appended (lane_of (lanes_of self.old) lane) (argument values.now) (length values.now)) }
+        ensures sound { IsSolo self.new }
+        ensures kept { rest_of self.new ≡ rest_of self.old }
+    {
+        self.write_many(lane, values)
+    }
+
     /// The block ends. The cells and the states then hold every lane's next history.
     pub fn finish(self)
         requires sound { IsSolo self }
@@ -245,6 +270,7 @@ impl<'a, 'l, 's, 'b, 'c> Solo<'a, 'l, 's, 'b, 'c> {
         );
     }
 }
+<<<<<<< ours
 
 impl<'a, 'l, 's, 'b, 'c> Store for Solo<'a, 'l, 's, 'b, 'c> {
     ghost use Rattle.fv_loopcode.specs.State.{lanes_alone};
@@ -289,3 +315,5 @@ impl<'a, 'l, 's, 'b, 'c> Store for Solo<'a, 'l, 's, 'b, 'c> {
         self.write_many(lane, values)
     }
 }
+=======
+>>>>>>> theirs
