@@ -2,10 +2,6 @@ use Rattle.std.proofs.Common.{set, length, sym, ap, ◌∙◌, arith}
 use Rattle.fv_num.specs.headline.Words.{argument}
 use Rattle.fv_loopcode.specs.headline.Lanes.{Lane}
 use Rattle.fv_loopcode.specs.Lanes.{all_appended}
-<<<<<<< ours
-use Rattle.fv_loopcode.specs.State.{lanes_alone}
-=======
->>>>>>> theirs
 use Rattle.fv_lines.specs.Solo.{lanes_of}
 use Rattle.fv_lines.proofs.Stored.{there_of, lane_is}
 use Rattle.fv_lines.proofs.solo.Solo.append_many.Goals as goal
