@@ -1,6 +1,8 @@
 -- Lanes as they begin, and the same ones later.
 use Rattle.std.proofs.Common.{◌≡◌, ℕ, ◌-◌, ◌<◌, List, length, map, get_or, sym, ap, ◌∙◌, arith, ℤ}
 use Rattle.std.proofs.lemmas.List.{length-map, get_or-map}
+use Rattle.std.specs.Prelude.{Vec}
+use Rattle.std.specs.declared.alloc.Global.{Global}
 use Rattle.fv_base.specs.headline.Lists.{table}
 use Rattle.fv_base.proofs.Lists.{table_same, table_items}
 use Rattle.fv_loopcode.specs.headline.Lanes.{Lane, lane_of, no_lane}
@@ -32,8 +34,9 @@ lane_same h n xs ys r s a b c =
     ∙ ap (λ (k : ℕ). let x : Lane = record { history = n; items = ys; room = k } in x) c
 
 -- a block that may run over these cells may begin there
-pub may_begin : (b : SpreadBlock) (states : List LaneState) (cells : List ℤ) → MayRunOver b states cells → MayBegin b.shapes.now states b.frames cells
-may_begin b states cells o =
+pub may_begin : (b : SpreadBlock) (states : List LaneState) (cells : List ℤ) (rows : List (Vec ℤ Global)) → MayRunOver b states cells rows
+    → MayBegin b.shapes.now states b.frames cells
+may_begin b states cells rows o =
     let shapes : List LaneShape = b.shapes.now in
     let ls : List ℕ = lengths_by shapes in
     let many : length ls ≡ length shapes = length-map shapes (λ (s : LaneShape). s.len) in

@@ -5,7 +5,10 @@ use Rattle.fv_graph.specs.Graph.{stride, edges_of}
 use Rattle.fv_lines.specs.declared.writer.LaneWriter.{LaneWriter}
 use Rattle.fv_steal_block.specs.Parcels.{AreParcelsFrom}
 use Rattle.fv_engine_tasks.specs.headline.Block.{vectors_of}
-use Rattle.fv_engine_tasks.specs.Block.{Block}
+use Rattle.std.specs.Prelude.{Vec, ℤ}
+use Rattle.std.specs.declared.alloc.Global.{Global}
+use Rattle.fv_engine_crew.specs.declared.block.SpreadBlock.{SpreadBlock}
+use Rattle.fv_engine_crew.specs.Spread.{tasks_of}
 use Rattle.fv_engine_parcels.specs.Contents.{tasks_in}
 use Rattle.fv_engine_parcels.specs.declared.start.Start.{Start}
 use Rattle.fv_engine_parcels.specs.declared.parcel.LoopParcel.{LoopParcel}
@@ -16,13 +19,14 @@ use Rattle.fv_engine_crew.proofs.Writers.{Started}
 abbrev pub AreFrom : Start → (from loops : ℕ) → List LoopParcel → Type 0
 AreFrom k from loops ps = AreParcelsFrom (λ (p : LoopParcel). p.edge) (λ (p : LoopParcel). p.start.value) k from loops ps
 
-module _ {b : Block} {g : Tasks} {begun : List LaneWriter} {k : Start} (s : Started b g begun k) (ps : List LoopParcel) where
-  pub entries_are : AreFrom k 0 g.loops ps → AreChainParcels k 0 ps
+module _ {b : SpreadBlock} {begun : List LaneWriter} {lists : List (Vec ℤ Global)} {k : Start} (s : Started b begun lists k) (ps : List LoopParcel) where
+  pub entries_are : AreFrom k 0 (tasks_of b).loops ps → AreChainParcels k 0 ps
   entries_are h =
       let none : 0 ≡ 0 * stride (tasks_in k) = omega arith in
       subst (λ (n : ℕ). AreFrom k n (tasks_in k).loops ps) none (subst (λ (t : Tasks). AreFrom k 0 t.loops ps) (sym s.start.tasks) h)
 
-  pub exits_are : AreFrom k (edges_of g - g.loops) g.loops ps → AreChainParcels k (vectors_of b.frames b.vector) ps
+  pub exits_are : AreFrom k (edges_of (tasks_of b) - (tasks_of b).loops) (tasks_of b).loops ps
+      → AreChainParcels k (vectors_of b.frames b.vector) ps
   exits_are h =
       let all : (tasks_in k).vectors ≡ vectors_of b.frames b.vector = ap (λ (t : Tasks). t.vectors) s.start.tasks ∙ s.job.vectors in
       let last : edges_of (tasks_in k) - (tasks_in k).loops ≡ (tasks_in k).vectors * stride (tasks_in k) = omega arith in

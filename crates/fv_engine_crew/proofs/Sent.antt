@@ -35,6 +35,7 @@ use Rattle.fv_lines.specs.contracts.row.Row as row
 use Rattle.fv_lines.specs.contracts.shape.LaneShape as lane_shape
 use Rattle.fv_lines.specs.contracts.writer.LaneWriter as writer
 use Rattle.fv_lines.specs.contracts.seen.Seen as seen
+use Rattle.fv_engine_lanes.specs.contracts.loop_cells.LoopCells as loop_cells
 use Rattle.fv_engine_lanes.specs.contracts.loop_lanes.LoopLanes as lanes
 use Rattle.fv_engine_parcels.specs.contracts.content.Writers as writers
 use Rattle.fv_engine_parcels.specs.contracts.content.Content as content
@@ -73,19 +74,6 @@ writer_send a = declared_send (writer.the_type a)
 seen_send : (a : NamedLft) → IsSend (seen.the_row a)
 seen_send a = search (sendable, crosses) depth 24
 
-lanes_send : (a : NamedLft) → IsSend (lanes.the_row a)
-lanes_send a = search (writer_send, seen_send, sendable, crosses) depth 24
-
-writers_send : (a : NamedLft) → IsSend (writers.the_row a)
-writers_send a = declared_send (writers.the_type a)
-    (lanes_send a, (search (sendable, crosses) depth 20, (search (seen_send, sendable, crosses) depth 20, tt)))
-
-content_send : (a : NamedLft) → IsSend (content.the_row a)
-content_send a = search (writers_send, seen_send, sendable, crosses) depth 24
-
-pub parcel_send : (a b : NamedLft) → IsSend (parcel.the_row a b)
-parcel_send a b = declared_send (parcel.the_type a b) (search sendable, (search (sendable, crosses) depth 20, (content_send a, tt)))
-
 op_sync : IsSync (op.the_field).row
 op_sync = search sendable depth 60
 
@@ -98,7 +86,10 @@ step_sync = recorded_sync _ _ _ (step.the_type).to_one (enum_sync (E.shape step.
       (search sendable, tt),
       (
         (op_sync, (search sendable, tt)),
-        ((search sendable, (search sendable, (search sendable, tt))), ((search sendable, (search sendable, tt)), tt)),
+        (
+          (search sendable, (search sendable, (search sendable, tt))),
+          ((search sendable, (search sendable, tt)), ((search sendable, (search sendable, tt)), ((search sendable, (search sendable, tt)), tt))),
+        ),
       ),
     ),
   ),
@@ -228,6 +219,22 @@ inside_sync = declared_sync inside.the_type (plain_code_sync, (schedule_sync, tt
 
 code_sync : IsSync code.the_row
 code_sync = search (inside_sync, sendable) depth 24
+
+loop_cells_send : (b : NamedLft) → IsSend (loop_cells.the_row b)
+loop_cells_send b = search (code_sync, sendable, crosses) depth 24
+
+lanes_send : (a b : NamedLft) → IsSend (lanes.the_row a b)
+lanes_send a b = search (writer_send, seen_send, loop_cells_send, sendable, crosses) depth 24
+
+writers_send : (a b : NamedLft) → IsSend (writers.the_row a b)
+writers_send a b = declared_send (writers.the_type a b)
+    (lanes_send a b, (search (sendable, crosses) depth 20, (search (seen_send, sendable, crosses) depth 20, tt)))
+
+content_send : (a b : NamedLft) → IsSend (content.the_row a b)
+content_send a b = search (writers_send, seen_send, sendable, crosses) depth 24
+
+pub parcel_send : (a b : NamedLft) → IsSend (parcel.the_row a b)
+parcel_send a b = declared_send (parcel.the_type a b) (search sendable, (search (sendable, crosses) depth 20, (content_send a b, tt)))
 
 pub body_sync : (a b : NamedLft) → IsSync (body.the_row a b)
 body_sync a b = search (code_sync, sendable, crosses) depth 24

@@ -1,8 +1,10 @@
 -- A block that is spread over workers (this project's profile).
-use Rattle.std.specs.Prelude.{◌≡◌, ℕ, ◌<◌, ◌≤◌, List, length, sum, All, ℤ}
+use Rattle.std.specs.Prelude.{◌≡◌, ℕ, ◌<◌, ◌≤◌, List, length, sum, All, Vec, ℤ}
+use Rattle.std.specs.declared.alloc.Global.{Global}
 use Rattle.fv_outside.specs.headline.Tasks.{Tasks}
 use Rattle.fv_loopcode.specs.headline.State.{State}
-use Rattle.fv_loopcode.specs.State.{lanes_alone}
+use Rattle.fv_split_plan.specs.Rows.{lists_of}
+use Rattle.fv_engine_lanes.specs.Cells.{ArePlaced}
 use Rattle.fv_lines.specs.Solo.{held_at, history_at, opening_lanes, AreHeld, AreFramed}
 use Rattle.fv_lines.specs.declared.shape.LaneShape.{LaneShape}
 use Rattle.fv_lines.specs.declared.shape.LaneState.{LaneState}
@@ -28,28 +30,35 @@ block_in b = record {
   input = b.input.now;
 }
 
--- The tasks are the block's, with the code of each loop over the lanes that it sees and how many these are. Each lane has a shape,
--- the outputs name lanes, and there are 1 to 16 workers.
+-- The tasks are the block's, with the code of each loop over the lanes that it sees and how many these are. All cells have places, each
+-- lane has a shape, the outputs name lanes, and there are 1 to 16 workers.
 pub record IsSpread (b : SpreadBlock) : Type 0 where
   pub job : IsJob (block_in b) (tasks_of b)
   pub codes : AreLocalCodes b.plan.now (tasks_of b) b.codes.now
   pub counts : AreLaneCounts b.plan.now (tasks_of b) b.counts.now
+  pub cells : ArePlaced b.plan.now b.cells.now.places.items b.cells.now.counts.items
   pub lanes : length b.shapes.now ≡ length b.plan.now.lanes
   pub outputs : All (λ l. l < length b.plan.now.lanes) b.plan.now.outputs
   pub some_worker : 1 ≤ b.workers
   pub most_workers : b.workers ≤ 16
 
--- what the places hold as the block begins over these cells
-abbrev pub opening_of : SpreadBlock → List LaneState → List ℤ → State
-opening_of b states cells = lanes_alone (opening_lanes (lengths_by b.shapes.now) b.shapes.now states b.frames cells)
+-- what the places hold as the block begins over these cells and lists
+abbrev pub opening_of : SpreadBlock → List LaneState → List ℤ → (lists : List (Vec ℤ Global)) → State
+opening_of b states cells lists = record {
+  lanes = opening_lanes (lengths_by b.shapes.now) b.shapes.now states b.frames cells;
+  tables = b.plan.now.tables;
+  cells = lists_of lists;
+}
 
--- The cells and the states hold each lane's history, with room for the block, and the block's codes go on from these.
-pub record MayRunOver (b : SpreadBlock) (states : List LaneState) (cells : List ℤ) : Type 0 where
+-- The cells and the states hold each lane's history, with room for the block, the plan's cells have lists, and the block's codes go on from
+-- these.
+pub record MayRunOver (b : SpreadBlock) (states : List LaneState) (cells : List ℤ) (lists : List (Vec ℤ Global)) : Type 0 where
   pub count : length states ≡ length b.shapes.now
   pub room : sum (lengths_by b.shapes.now) ≤ length cells
   pub held_there : AreHeld (lengths_by b.shapes.now) b.shapes.now states
   pub framed : AreFramed (lengths_by b.shapes.now) b.shapes.now b.frames
-  pub real : IsReal (block_in b) (opening_of b states cells)
+  pub many : length lists ≡ length b.plan.now.cells
+  pub real : IsReal (block_in b) (opening_of b states cells lists)
 
 -- each lane has the history that it had
 abbrev pub HoldAsBefore : List LaneShape → (before : List LaneState) → List ℤ → (after : List LaneState) → List ℤ → Type 0

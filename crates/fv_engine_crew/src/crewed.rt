@@ -1,8 +1,9 @@
-// All tasks of a block by a crew, over lanes that are begun.
+// All tasks of a block by a crew, over lanes that are begun, and cells.
 
 ghost use Rattle.std.specs.Prelude.{◌≡◌, ◌≤◌, [], length, IfOk, IfErr, OnOk, OnErr, vec_capacity};
 ghost use Rattle.fv_outside.specs.Tasks.{task_count};
 ghost use Rattle.fv_outside.specs.headline.Journal.{IsOrdered};
+ghost use Rattle.fv_split_plan.specs.Rows.{lists_of};
 ghost use Rattle.fv_engine_crew.specs.Spread.{IsSpread, block_in, tasks_of};
 ghost use Rattle.fv_engine_crew.specs.inner.Lists.{HaveRoom};
 ghost use Rattle.fv_engine_crew.specs.inner.Lanes.{AreOpen, AreWhole, AreUntouched};
@@ -19,24 +20,26 @@ use std::marker::Sync;
 use std::sync::Wait;
 use std::thread::Threads;
 
-/// The writers of all lanes as the crew leaves them: written whole, or as they were where memory is refused.
+/// The writers of all lanes as the crew leaves them: written whole, or as they were where memory is refused. So it is with the cells.
 pub(crate) fn run_begun<'a, 'b, R: Threads + Wait + Sync, G: Gate + Sync>(
     rt: &R,
     alloc: Global,
     block: &SpreadBlock<'b>,
     lists: Lists<'a, 'b>,
+    cells: &mut Vec<Vec<i32>>,
     lines: &mut Vec<Line>,
     gate: &G,
 ) -> Result<Vec<LaneWriter<'a>>, Vec<LaneWriter<'a>>>
     requires spread { IsSpread block.now }
     requires lists { HaveRoom block.now lists }
-    requires begun { AreOpen (block_in block.now) lists.begun.items }
+    requires begun { AreOpen (block_in block.now) block.now.plan.now.tables lists.begun.items cells.old.items }
     requires none { lines.old.items ≡ [] }
     requires room { task_count (tasks_of block.now) ≤ vec_capacity lines.old }
-    ensures whole { IfOk result (λ v. AreWhole (block_in block.now) lists.entry.begun.items v.items) }
+    ensures whole { IfOk result (λ v. AreWhole (block_in block.now) block.now.plan.now.tables lists.entry.begun.items v.items cells.old.items cells.new.items) }
     ensures journal { OnOk result (IsOrdered (tasks_of block.now) lines.new.items) }
     ensures count { OnOk result (length lines.new.items ≡ task_count (tasks_of block.now)) }
     ensures untouched { IfErr result (λ v. AreUntouched lists.entry.begun.items v.items) }
+    ensures as_before { OnErr result (lists_of cells.new.items ≡ lists_of cells.old.items) }
     ensures untold { OnErr result (lines.new.items ≡ []) }
     ensures room { vec_capacity lines.old ≤ vec_capacity lines.new }
 {
@@ -47,7 +50,7 @@ pub(crate) fn run_begun<'a, 'b, R: Threads + Wait + Sync, G: Gate + Sync>(
         emptied,
         back,
     } = lists;
-    let (body, entries) = enter(block, begun, rooms, entries);
+    let (body, entries) = enter(block, begun, rooms, entries, &mut *cells);
     match run_crew(
         rt,
         alloc,
@@ -58,7 +61,19 @@ pub(crate) fn run_begun<'a, 'b, R: Threads + Wait + Sync, G: Gate + Sync>(
         lines,
         gate,
     ) {
-        Ok(exits) => Ok(collect(body.start(), exits, emptied, back)),
-        Err(entries) => Err(collect(body.start(), entries, emptied, back)),
+        Ok(exits) => Ok(collect(
+            body.start(),
+            exits,
+            emptied,
+            back,
+            cells.as_mut_slice(),
+        )),
+        Err(entries) => Err(collect(
+            body.start(),
+            entries,
+            emptied,
+            back,
+            cells.as_mut_slice(),
+        )),
     }
 }

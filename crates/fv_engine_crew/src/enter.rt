@@ -1,6 +1,6 @@
-// The lanes of a block as its loops take them over.
+// The lanes and cells of a block as its loops take them over.
 
-ghost use Rattle.std.specs.Prelude.{◌≡◌, ◌≤◌, vec_len, vec_capacity};
+ghost use Rattle.std.specs.Prelude.{◌≡◌, ◌≤◌, length, vec_len, vec_capacity};
 ghost use Rattle.fv_steal_block.specs.Parcels.{AreParcelsFrom};
 ghost use Rattle.fv_engine_parcels.specs.declared.parcel.LoopParcel.{LoopParcel};
 ghost use Rattle.fv_engine_spread.specs.Rooms.{AreRooms};
@@ -9,23 +9,25 @@ ghost use Rattle.fv_engine_crew.specs.inner.Lanes.{AreOpen, IsStartOf};
 
 use crate::block::SpreadBlock;
 use fv_engine_parcels::{LoopBody, LoopParcel, Start, Writers};
-use fv_engine_spread::{deal, dealt_rooms_enter, entries_of};
+use fv_engine_spread::{deal, dealt_rooms_enter, entries_of, swap_cells};
 use fv_lines::LaneWriter;
 use std::snapshot::Snapshot;
 
-/// What runs the block's tasks, and the parcels with which its loops begin: each has the writers of its lanes.
+/// What runs the block's tasks, and the parcels with which its loops begin: each has the writers of its lanes, and its cells.
 pub(crate) fn enter<'a, 'b>(
     block: &SpreadBlock<'b>,
     begun: Vec<LaneWriter<'a>>,
-    mut rooms: Vec<Box<Writers<'a>>>,
+    mut rooms: Vec<Box<Writers<'a, 'b>>>,
     entries: Vec<LoopParcel<'a, 'b>>,
+    cells: &mut Vec<Vec<i32>>,
 ) -> (LoopBody<'a, 'b>, Vec<LoopParcel<'a, 'b>>)
     requires spread { IsSpread block.now }
-    requires begun { AreOpen (block_in block.now) begun.items }
-    requires rooms { AreRooms block.now.plan.now (tasks_of block.now) rooms.items }
+    requires begun { AreOpen (block_in block.now) block.now.plan.now.tables begun.items cells.old.items }
+    requires rooms { AreRooms block.now.plan.now (tasks_of block.now) block.now.cells.now rooms.items }
     requires none { vec_len entries ≡ 0 }
     requires room { vec_len rooms ≤ vec_capacity entries }
-    ensures start { IsStartOf (block_in block.now) (tasks_of block.now) begun.entry.items result.0.start }
+    ensures start { IsStartOf block.now begun.entry.items cells.old.items result.0.start }
+    ensures cells { length cells.new.items ≡ length cells.old.items }
     ensures entries { AreParcelsFrom (λ (p : LoopParcel). p.edge) (λ (p : LoopParcel). p.start.value) result.0.start 0 (tasks_of block.now).loops
         result.1.items }
 {
@@ -33,14 +35,22 @@ pub(crate) fn enter<'a, 'b>(
     let start = Start {
         plan: block.plan,
         tasks: block.tasks,
+        places: block.cells,
         held: block.held,
         input: block.input,
         channels: block.channels,
         vector: block.vector,
         frames: block.frames,
         lanes: Snapshot::of(&begun),
+        cells: Snapshot::of(&*cells),
     };
     deal(block.plan, begun, rooms.as_mut_slice());
+    swap_cells(
+        block.plan,
+        block.cells,
+        cells.as_mut_slice(),
+        rooms.as_mut_slice(),
+    );
     let body = LoopBody::new(start, block.codes);
     let entries = entries_of(body.start(), rooms, entries);
     (body, entries)

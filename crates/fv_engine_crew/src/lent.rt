@@ -18,7 +18,7 @@ use std::marker::Sync;
 use std::sync::Wait;
 use std::thread::Threads;
 
-/// What a crew is handed beside the cells, and whether it ran the block.
+/// What a crew is handed beside the cells of the region, the lists of the plan's cells among it, and whether it ran the block.
 #[derive(Drop)]
 pub(crate) struct Pack<'p, 'b, 's, 'l, 'o> {
     pub(crate) alloc: Global,
@@ -26,6 +26,7 @@ pub(crate) struct Pack<'p, 'b, 's, 'l, 'o> {
     pub(crate) states: &'s mut [LaneState],
     pub(crate) lines: &'l mut Vec<Line>,
     pub(crate) output: &'o mut [i32],
+    pub(crate) lists: Vec<Vec<i32>>,
     pub(crate) ran: bool,
 }
 
@@ -50,7 +51,15 @@ fn use_lists<'a, 'b, R: Threads + Wait + Sync, G: Gate + Sync>(
         &mut lists.begun,
     );
     let (shared, rest) = uncut.end();
-    match run_begun(rt, pack.alloc, block, lists, &mut *pack.lines, gate) {
+    match run_begun(
+        rt,
+        pack.alloc,
+        block,
+        lists,
+        &mut pack.lists,
+        &mut *pack.lines,
+        gate,
+    ) {
         Ok(all) => {
             pack.ran = true;
             let ended = end_whole(

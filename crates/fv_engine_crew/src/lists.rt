@@ -14,10 +14,10 @@ use std::alloc::{AllocError, Global};
 /// loops as they come back, and for the lanes as they come back.
 #[derive(Drop)]
 pub(crate) struct Lists<'a, 'b> {
-    pub(crate) rooms: Vec<Box<Writers<'a>>>,
+    pub(crate) rooms: Vec<Box<Writers<'a, 'b>>>,
     pub(crate) begun: Vec<LaneWriter<'a>>,
     pub(crate) entries: Vec<LoopParcel<'a, 'b>>,
-    pub(crate) emptied: Vec<Box<Writers<'a>>>,
+    pub(crate) emptied: Vec<Box<Writers<'a, 'b>>>,
     pub(crate) back: Vec<LaneWriter<'a>>,
 }
 
@@ -31,7 +31,7 @@ pub(crate) fn take_lists<'a, 'b>(
 {
     let loops = block.plan.loops() as usize;
     let lanes = block.shapes.len();
-    let rooms = take_room(alloc, block.plan, block.tasks, block.counts)?;
+    let rooms = take_room(alloc, block.plan, block.tasks, block.cells, block.counts)?;
     let begun = Vec::with_capacity(alloc, lanes)?;
     let entries = Vec::with_capacity(alloc, loops)?;
     let emptied = Vec::with_capacity(alloc, loops)?;

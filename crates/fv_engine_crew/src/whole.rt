@@ -7,9 +7,10 @@ ghost use Rattle.fv_lines.specs.Writer.{content_of, written_by, frames_of};
 ghost use Rattle.fv_lines_cut.specs.Cut.{IsChain, HoldEnds};
 ghost use Rattle.fv_engine_tasks.specs.Outputs.{CanRead, sample_of};
 ghost use Rattle.fv_engine_lanes.specs.Lanes.{lane_open};
+ghost use Rattle.fv_engine_lanes.specs.Cells.{ArePlaced};
 
 use crate::block::SpreadBlock;
-use fv_engine_lanes::LoopLanes;
+use fv_engine_lanes::{LoopCells, LoopLanes};
 use fv_engine_tasks::copy_outputs;
 use fv_lines::{LaneState, LaneWriter};
 use fv_lines_cut::end_lanes;
@@ -25,6 +26,7 @@ pub(crate) fn end_whole<'a>(
     states: &mut [LaneState],
     output: &mut [i32],
 ) -> Ended
+    requires placed { ArePlaced block.now.plan.now block.now.cells.now.places.items block.now.cells.now.counts.items }
     requires full { All (λ w. written_by w ≡ frames_of w) all.items }
     requires count { length states.old ≡ length all.items }
     requires chain { (γ : GName) × IsChain γ rest.name all.items }
@@ -37,9 +39,17 @@ pub(crate) fn end_whole<'a>(
         → slice_index_or output.new (t * length block.now.plan.now.outputs + j) (pos 0)
         ≡ sample_of (map lane_open all.entry.items) t (slice_index_or block.now.plan.now.outputs j 0) }
 {
+    // The outputs read no cells.
+    let cells = LoopCells {
+        plan: block.plan,
+        places: block.cells,
+        loop_no: 0,
+        lists: Vec::new(alloc),
+    };
     let lanes = LoopLanes {
         own: all,
         seen: Vec::new(alloc),
+        cells,
     };
     copy_outputs(
         block.plan.outputs(),
@@ -47,6 +57,10 @@ pub(crate) fn end_whole<'a>(
         &lanes,
         output,
     );
-    let LoopLanes { own, seen: _ } = lanes;
+    let LoopLanes {
+        own,
+        seen: _,
+        cells: _,
+    } = lanes;
     end_lanes(own, rest, states)
 }

@@ -6,7 +6,7 @@ use Rattle.std.specs.Coded.{×_prop, Unit-prop, le_prop}
 use Rattle.std.proofs.Math.Logic.{∥∥₁_elim}
 use Rattle.std.proofs.Math.Nat.{ℕ_set}
 use Rattle.std.proofs.Math.IntN.{ℤ_set}
-use lib.List.{List-set}
+use mathlib.Core.List.{is_set}
 use Rattle.fv_num.specs.headline.Words.{argument}
 use Rattle.fv_loopcode.specs.declared.step.Step.{Step}
 use Rattle.fv_loopcode.specs.declared.step.Step.TheVariants as step
@@ -68,7 +68,7 @@ just_prop f l n m lane x y = λ i. record {
 }
 
 list_prop : (xs ys : List ℤ) (x y : xs ≡ ys) → x ≡ y
-list_prop xs ys = List-set ℤ_set xs ys
+list_prop xs ys = is_set ℤ_set xs ys
 
 -- where there merely is such code, the loop's own places hold theirs after it
 pub own_after_merely : (laws : Laws) (k : Start) (j v : ℕ) (code : List Step) (state : State) → ∥ Known k j v code ∥₁ → Before k j v state

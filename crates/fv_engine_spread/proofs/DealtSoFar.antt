@@ -7,6 +7,7 @@ use Rattle.fv_graph.proofs.Counts.{get_set}
 use Rattle.fv_split_plan.specs.headline.View.{PlanView, lane_info}
 use Rattle.fv_lines.specs.declared.writer.LaneWriter.{LaneWriter}
 use Rattle.fv_engine_lanes.specs.Plans.{own_lanes}
+use Rattle.fv_engine_lanes.specs.declared.loop_cells.CellPlaces.{CellPlaces}
 use Rattle.fv_engine_parcels.specs.declared.content.Writers.{Writers}
 use Rattle.fv_engine_spread.specs.Dealt.{AreDealt}
 use Rattle.fv_engine_spread.specs.Rooms.{AreRooms}
@@ -18,6 +19,7 @@ pub record IsDealtSoFar (p : PlanView) (all : List LaneWriter) (n j : ℕ) (old 
   pub own : (d : LaneWriter) → new.lanes.own.items ≡ map (λ l. get_or all l d) (first_own p j n)
   pub room : length (own_lanes p j) ≤ vec_capacity new.lanes.own
   pub seen : new.lanes.seen ≡ old.lanes.seen
+  pub cells : new.lanes.cells ≡ old.lanes.cells
   pub regs : new.regs ≡ old.regs
   pub lists : new.lists ≡ old.lists
 
@@ -30,13 +32,14 @@ pub record HasOneMore (w : LaneWriter) (old new : Writers) : Type 0 where
   pub own : new.lanes.own.items ≡ old.lanes.own.items ++ w ∷ []
   pub room : vec_capacity new.lanes.own ≡ vec_capacity old.lanes.own
   pub seen : new.lanes.seen ≡ old.lanes.seen
+  pub cells : new.lanes.cells ≡ old.lanes.cells
   pub regs : new.regs ≡ old.regs
   pub lists : new.lists ≡ old.lists
 
 module _ (p : PlanView) (all : List LaneWriter) where
-  pub none_dealt : (g : Tasks) (rooms : List (Box Writers)) → AreRooms p g rooms → AreDealtSoFar p all 0 rooms rooms
-  none_dealt g rooms a j d l =
-      let r = a.each j d l in record { count = ap length r.nothing; own = λ e. r.nothing; room = r.own_room; seen = refl; regs = refl; lists = refl }
+  pub none_dealt : (g : Tasks) (places : CellPlaces) (rooms : List (Box Writers)) → AreRooms p g places rooms → AreDealtSoFar p all 0 rooms rooms
+  none_dealt g places rooms a j d l =
+      let r = a.each j d l in record { count = ap length r.nothing; own = λ e. r.nothing; room = r.own_room; seen = refl; cells = refl; regs = refl; lists = refl }
 
   -- there is room for the next lane
   pub room_for_next : (n : ℕ) (old new : Writers) → n < length p.lanes → IsDealtSoFar p all n (lane_info p n).owner old new
@@ -68,6 +71,7 @@ module _ (p : PlanView) (all : List LaneWriter) where
             ∙ sym (map-append (λ i. get_or all i e) (first_own p j n) (n ∷ [])) ∙ ap (map (λ i. get_or all i e)) (sym (first_own_here p j n (sym same)));
         room = omega (arith, now.room, m.room);
         seen = m.seen ∙ now.seen;
+        cells = m.cells ∙ now.cells;
         regs = m.regs ∙ now.regs;
         lists = m.lists ∙ now.lists;
       })
@@ -76,6 +80,7 @@ module _ (p : PlanView) (all : List LaneWriter) where
         own = λ e. now.own e ∙ ap (map (λ i. get_or all i e)) (sym (first_own_other p j n (λ q. other (sym q))));
         room = now.room;
         seen = now.seen;
+        cells = now.cells;
         regs = now.regs;
         lists = now.lists;
       })
@@ -90,6 +95,7 @@ module _ (p : PlanView) (all : List LaneWriter) where
           count = s.count ∙ ap (λ (i : ℕ). length (first_own p j i)) e;
           own = λ c. s.own c ∙ ap (λ (i : ℕ). map (λ l. get_or all l c) (first_own p j i)) e;
           seen = s.seen;
+          cells = s.cells;
           regs = s.regs;
           lists = s.lists;
         };

@@ -1,7 +1,11 @@
 pub mod DealtSoFar
 pub mod Entering
 pub mod FirstLanes
+pub mod Gathered
 pub mod Handed
+pub mod LoopRooms
 pub mod Opens
+pub mod Places
 pub mod Returns
 pub mod Stepping
+pub mod Swapping

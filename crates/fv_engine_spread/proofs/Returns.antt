@@ -11,7 +11,7 @@ use Rattle.fv_lines.specs.declared.writer.LaneWriter.{LaneWriter}
 use Rattle.fv_engine_parcels.specs.declared.start.Start.{Start}
 use Rattle.fv_engine_parcels.specs.declared.content.Writers.{Writers}
 use Rattle.fv_engine_parcels.specs.Contents.{tasks_in, IsWriterOf, AreWritersOf}
-use Rattle.fv_engine_spread.specs.Entries.{AreLoopsWriters}
+use Rattle.fv_engine_spread.specs.Entries.{AreLoopsLanes}
 use Rattle.fv_engine_spread.specs.Collected.{AreAllWriters}
 use Rattle.fv_engine_spread.proofs.FirstLanes.{first_own, first_own_here, first_own_other}
 
@@ -70,10 +70,10 @@ one_before k v n w ws is more (suc i) d l =
     let e : n + 1 + i ≡ n + suc i = omega arith in subst (λ (m : ℕ). IsWriterOf k m v (get_or ws i d)) e (more i d (omega arith))
 
 module _ (k : Start) (v n : ℕ) where
-  pub none_back : (ws : List (Box Writers)) (taken : List LaneWriter) → n ≡ length k.plan.now.lanes → length taken ≡ 0 → AreLoopsWriters k v ws
+  pub none_back : (ws : List (Box Writers)) (taken : List LaneWriter) → n ≡ length k.plan.now.lanes → length taken ≡ 0 → AreLoopsLanes k v ws
       → AreBack k v n ws taken
   none_back ws taken all none a = record {
-    left = λ j d l. subst (λ (m : ℕ). AreWritersOf k (first_own k.plan.now j m) v (get_or ws j d).value.lanes.own.items) (sym all) (a.each j d l).writers;
+    left = λ j d l. subst (λ (m : ℕ). AreWritersOf k (first_own k.plan.now j m) v (get_or ws j d).value.lanes.own.items) (sym all) (a.each j d l);
     back = λ i d l. absurd (omega (arith, l, length-reverse taken, none));
   }
 

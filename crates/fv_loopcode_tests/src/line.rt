@@ -1,21 +1,35 @@
-// A lane in a vector.
+// A lane, a table and cells in vectors.
 
-ghost use Rattle.std.specs.Prelude.{[], ◌∷◌};
-ghost use Rattle.fv_loopcode.specs.State.{lanes_alone};
-ghost use Rattle.fv_loopcode_tests.specs.Line.{lane_in};
+ghost use Rattle.std.specs.Prelude.{◌≡◌, ◌<◌};
+ghost use Rattle.fv_num.specs.headline.Tables.{place as place_of};
+ghost use Rattle.fv_loopcode_tests.specs.Line.{state_in};
 
 use fv_loopcode::Store;
 
-/// A lane: its cells, the length of its history, and how many cells are written.
+/// A lane: its cells, the length of its history, and how many cells are written. A table, and a list that is written.
 #[derive(Drop)]
 pub struct Line {
     pub cells: Vec<i32>,
     pub history: u32,
     pub written: u64,
+    pub table: Vec<i32>,
+    pub list: Vec<i32>,
+}
+
+// The place that an index means in a list of so many items.
+fn place(count: usize, index: i32) -> usize
+    requires { 0 < count }
+    ensures is { result ≡ place_of count index }
+    ensures within { result < count }
+{
+    if index < 0 {
+        return 0;
+    }
+    (index as usize).min(count - 1)
 }
 
 impl Store for Line {
-    ghost state = { λ s. lanes_alone (lane_in s ∷ []) };
+    ghost state = { λ s. state_in s };
 
     ghost rest = { λ _. tt };
 
@@ -32,13 +46,13 @@ impl Store for Line {
         self.written += 1;
     }
 
-    // There is no table.
-    fn read(&self, _table: u64, _index: i32) -> i32 {
-        unreachable!()
+    fn read(&self, _table: u64, index: i32) -> i32 {
+        self.table[place(self.table.len(), index)]
     }
 
-    // There are no cells to write.
-    fn exchange(&mut self, _cells: u64, _w: i32, _x: i32, _r: i32) -> i32 {
-        unreachable!()
+    fn exchange(&mut self, _cells: u64, w: i32, x: i32, r: i32) -> i32 {
+        let count = self.list.len();
+        self.list[place(count, w)] = x;
+        self.list[place(count, r)]
     }
 }

@@ -1,7 +1,7 @@
 // Worked examples.
 
 ghost use Rattle.std.specs.Prelude.{◌≡◌, ◌<◌, ◌+◌, [], length};
-ghost use Rattle.fv_loopcode_tests.specs.Line.{lane_in, running_sum, difference, scaled};
+ghost use Rattle.fv_loopcode_tests.specs.Line.{lane_in, running_sum, difference, scaled, touched};
 
 use crate::line::Line;
 use fv_loopcode::{Code, Counts, Step, run};
@@ -55,21 +55,52 @@ const SCALED: [Step; 5] = [
     },
 ];
 
-/// One lane, and no table and no cells.
+// At an index, what is written there, and an index that is read: an item of the table, and one of the list.
+pub(crate) const TOUCHED: [Step; 5] = [
+    Step::Input(0),
+    Step::Input(1),
+    Step::Input(2),
+    Step::Read { table: 0, arg: 0 },
+    Step::Write {
+        cells: 0,
+        args: [0, 1, 2],
+    },
+];
+
+pub(crate) const NOTHING: Counts = Counts {
+    lanes: 0,
+    tables: 0,
+    cells: 0,
+};
+
 pub(crate) const ONE_LANE: Counts = Counts {
     lanes: 1,
     tables: 0,
     cells: 0,
 };
 
-const NOTHING: Counts = Counts {
+pub(crate) const ONE_LIST: Counts = Counts {
     lanes: 0,
-    tables: 0,
-    cells: 0,
+    tables: 1,
+    cells: 1,
 };
 
 // Steps that are no code over one lane.
 static REFUSED: [(&str, &[Step]); 7] = [
+    (
+        "a table that is not there",
+        &[Step::Number(1), Step::Read { table: 0, arg: 0 }],
+    ),
+    (
+        "cells that are not there",
+        &[
+            Step::Number(1),
+            Step::Write {
+                cells: 0,
+                args: [0, 0, 0],
+            },
+        ],
+    ),
     (
         "an operand that is no earlier step",
         &[Step::Append { lane: 0, value: 0 }],
@@ -108,20 +139,6 @@ static REFUSED: [(&str, &[Step]); 7] = [
             max: 1,
         }],
     ),
-    (
-        "a table that is not there",
-        &[Step::Number(1), Step::Read { table: 0, arg: 0 }],
-    ),
-    (
-        "cells that are not there",
-        &[
-            Step::Number(1),
-            Step::Write {
-                cells: 0,
-                args: [0, 0, 0],
-            },
-        ],
-    ),
 ];
 
 #[test]
@@ -159,6 +176,8 @@ fn a_running_sum(rt: HostRuntime) -> Result<(), Fail> {
         cells: vec![in rt.alloc(); 0; 4]?,
         history: 1,
         written: 1,
+        table: Vec::new(rt.alloc()),
+        list: Vec::new(rt.alloc()),
     };
     sum(&code, &[5, 7, 4], 3, &mut registers, &mut line);
     assert_eq!(rt; line.cells.as_slice(), [0, 20, 62, 74].as_slice());
@@ -185,6 +204,8 @@ fn held_values_are_registers(rt: HostRuntime) -> Result<(), Fail> {
         cells: vec![in rt.alloc(); 4; 1]?,
         history: 1,
         written: 1,
+        table: Vec::new(rt.alloc()),
+        list: Vec::new(rt.alloc()),
     };
     hold(&code, &[7, 9], &mut registers, &mut line);
     assert_eq!(rt; registers.as_slice(), [7, 9, -2].as_slice());
@@ -211,10 +232,50 @@ fn quotients_are_rounded_toward_zero(rt: HostRuntime) -> Result<(), Fail> {
         cells: vec![in rt.alloc(); 4; 1]?,
         history: 1,
         written: 1,
+        table: Vec::new(rt.alloc()),
+        list: Vec::new(rt.alloc()),
     };
     scale(&code, &[-7], &mut registers, &mut line);
     assert_eq!(rt; registers.as_slice(), [-7, 3, -21, 4, -5].as_slice());
     scale(&code, &[7], &mut registers, &mut line);
     assert_eq!(rt; registers.as_slice(), [7, 3, 21, 4, 5].as_slice());
+    Ok(())
+}
+
+// Runs one sample over a table and a list.
+fn touch(code: &Code, input: &[i32], registers: &mut [i32], line: &mut Line)
+    requires code { code.now ≡ touched }
+    requires registers { length registers.old ≡ 5 }
+    requires input { length input.now ≡ 3 }
+    requires table { 0 < length line.old.table.items }
+    requires list { 0 < length line.old.list.items }
+    ensures registers { length registers.new ≡ length registers.old }
+    ensures table { length line.new.table.items ≡ length line.old.table.items }
+    ensures list { length line.new.list.items ≡ length line.old.list.items }
+{
+    run(code, &[], input, 3, 0, 1, registers, line);
+}
+
+#[test]
+fn what_is_written_is_read_at_once(rt: HostRuntime) -> Result<(), Fail> {
+    let Some(code) = Code::new(rt.alloc(), &TOUCHED, ONE_LIST)? else {
+        return Err("no code".into());
+    };
+    let mut registers = [0; 5];
+    let mut line = Line {
+        cells: Vec::new(rt.alloc()),
+        history: 0,
+        written: 0,
+        table: vec![in rt.alloc(); 30; 2]?,
+        list: vec![in rt.alloc(); 7; 2]?,
+    };
+    line.table[1] = 40;
+    touch(&code, &[0, 1, 0], &mut registers, &mut line);
+    assert_eq!(rt; registers.as_slice(), [0, 1, 0, 30, 1].as_slice());
+    touch(&code, &[1, 5, 0], &mut registers, &mut line);
+    assert_eq!(rt; registers.as_slice(), [1, 5, 0, 40, 1].as_slice());
+    touch(&code, &[-3, 9, 8], &mut registers, &mut line);
+    assert_eq!(rt; registers.as_slice(), [-3, 9, 8, 30, 5].as_slice());
+    assert_eq!(rt; line.list.as_slice(), [9, 5].as_slice());
     Ok(())
 }

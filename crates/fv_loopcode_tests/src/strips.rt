@@ -42,6 +42,8 @@ fn strips_are_samples(rt: HostRuntime) -> Result<(), Fail> {
         cells: vec![in rt.alloc(); 0; 71]?,
         history: 1,
         written: 1,
+        table: Vec::new(rt.alloc()),
+        list: Vec::new(rt.alloc()),
     };
     sum(&plain, &input, COUNT, &mut registers, &mut samples);
     let mut last = [0; 7];
@@ -49,6 +51,8 @@ fn strips_are_samples(rt: HostRuntime) -> Result<(), Fail> {
         cells: vec![in rt.alloc(); 0; 71]?,
         history: 1,
         written: 1,
+        table: Vec::new(rt.alloc()),
+        list: Vec::new(rt.alloc()),
     };
     sum_by_strips(&code, &input, COUNT, &mut last, &mut strips);
     assert_eq!(rt; strips.cells.as_slice(), samples.cells.as_slice());

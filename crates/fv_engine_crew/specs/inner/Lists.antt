@@ -8,7 +8,7 @@ use Rattle.fv_engine_crew.specs.Spread.{tasks_of}
 
 -- The lists of the loops, and empty ones with room for what comes back, while the lanes are begun.
 pub record HaveRoom (b : SpreadBlock) (l : Lists) : Type 0 where
-  pub rooms : AreRooms b.plan.now (tasks_of b) l.rooms.items
+  pub rooms : AreRooms b.plan.now (tasks_of b) b.cells.now l.rooms.items
   pub no_entries : vec_len l.entries ≡ 0
   pub entries : b.plan.now.loops ≤ vec_capacity l.entries
   pub none_emptied : vec_len l.emptied ≡ 0

@@ -4,9 +4,9 @@ use Rattle.fv_engine_tasks.specs.headline.Block.{vectors_of}
 use Rattle.fv_engine_tasks.specs.Block.{Block}
 use Rattle.fv_engine_parcels.specs.declared.start.Start.{Start}
 use Rattle.fv_engine_crew.specs.Spread.{block_in, tasks_of}
-use Rattle.fv_engine_spread.specs.Collected.{AreChainParcels, AreAllWriters}
+use Rattle.fv_engine_spread.specs.Collected.{AreChainParcels, AreAllWriters, AreAllCells}
 use Rattle.fv_engine_crew.proofs.Sent.{parcel_send, body_sync}
-use Rattle.fv_engine_crew.proofs.Writers.{Started, whole, untouched}
+use Rattle.fv_engine_crew.proofs.Writers.{Started, whole, untouched, cells_untouched}
 use Rattle.fv_engine_crew.proofs.Crewing.{entries_are, exits_are}
 use Rattle.fv_engine_crew.proofs.crewed.run_begun.Given.{Over}
 use Rattle.fv_engine_crew.proofs.crewed.run_begun.Goals.{After-enter-body}
@@ -29,7 +29,7 @@ module _ (g : Over) (c : After-enter-body g) where
   abbrev last : ℕ
   last = vectors_of block.frames block.vector
 
-  started : Started block (tasks_of c.args.block.now) c.args.lists.begun.items key
+  started : Started c.args.block.now c.args.lists.begun.items c.args.cells.now.items key
   started = record { start = c.enter-body.ensures.start; job = c.requires.spread.job; open_lanes = c.requires.begun }
 
 pub collect-requires-clause-parcels : goal.collect-requires-clause-parcels

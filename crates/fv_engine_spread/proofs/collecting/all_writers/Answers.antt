@@ -101,7 +101,7 @@ loop-info-preserved c =
       ptr = x.ptr;
       alloc = x.alloc;
       value = record {
-        lanes = record { own = c.pop.new.self; seen = c.deref_mut.result.now.lanes.seen };
+        lanes = record { own = c.pop.new.self; seen = c.deref_mut.result.now.lanes.seen; cells = c.deref_mut.result.now.lanes.cells };
         regs = c.deref_mut.result.now.regs;
         lists = c.deref_mut.result.now.lists;
       };

@@ -1,6 +1,6 @@
 use Rattle.std.proofs.Common.{◌≡◌, ◌+◌, ◌<◌, ◌≤◌, ℕ, length, get_or, vec_capacity}
 use Rattle.fv_split_plan.specs.declared.lane.LaneInfo.{LaneInfo}
-use Rattle.fv_engine_spread.specs.Entries.{AreLoopsWriters}
+use Rattle.fv_engine_spread.specs.Entries.{AreLoopsLanes}
 use Rattle.fv_engine_spread.proofs.Returns.{AreBack}
 use Rattle.fv_engine_spread.proofs.collecting.all_writers.Given as goal
 
@@ -10,5 +10,5 @@ invariant-loop-info l = record {
   count : length l.writers.items ≡ length l.fn.writers.items;
   taken : length l.info-iterator.iter.rest.now + length l.all.items ≡ length l.start.plan.now.lanes;
   room : length l.start.plan.now.lanes ≤ vec_capacity l.all;
-  back : (v : ℕ) → AreLoopsWriters l.start v l.fn.writers.items → AreBack l.start v (length l.info-iterator.iter.rest.now) l.writers.items l.all.items;
+  back : (v : ℕ) → AreLoopsLanes l.start v l.fn.writers.items → AreBack l.start v (length l.info-iterator.iter.rest.now) l.writers.items l.all.items;
 }

@@ -40,7 +40,7 @@ loop-info-init c =
         c.args.all.ok,
       );
       fewer = omega arith;
-      dealt = none_dealt c.args.plan.now c.args.all.items c.requires.rooms.0 c.args.rooms.now c.requires.rooms.1;
+      dealt = none_dealt c.args.plan.now c.args.all.items c.requires.rooms.0 c.requires.rooms.1 c.args.rooms.now c.requires.rooms.2;
     }
 
 pub offset_bounds-rooms-info : goal.offset_bounds-rooms-info
@@ -52,7 +52,7 @@ offset_bounds-rooms-info c =
     omega (
       arith,
       owner_below p (length at.yielded) (length at.rooms) c.in-Some.info.now c.next.new.self.a.rest.now next
-          c.loops-loops.ensures.plan.1.stands.loops.owners (at.auto.rooms ∙ c.requires.rooms.1.count),
+          c.loops-loops.ensures.plan.1.stands.loops.owners (at.auto.rooms ∙ c.requires.rooms.2.count),
     )
 
 pub bounds-rooms-info : goal.bounds-rooms-info
@@ -62,7 +62,7 @@ bounds-rooms-info c =
     let next = next_of p.lanes at.info-iterator.a.rest.now c.next.new.self.a.rest.now c.in-Some.info.now (length at.yielded) at.invariant.lanes
     c.in-Some.ensures.steps.0 in
     owner_below p (length at.yielded) (length at.rooms) c.in-Some.info.now c.next.new.self.a.rest.now next
-    c.loops-loops.ensures.plan.1.stands.loops.owners (at.auto.rooms ∙ c.requires.rooms.1.count)
+    c.loops-loops.ensures.plan.1.stands.loops.owners (at.auto.rooms ∙ c.requires.rooms.2.count)
 
 pub push_reserved-requires : goal.push_reserved-requires
 push_reserved-requires c =
@@ -97,13 +97,13 @@ loop-info-preserved c =
     let next = next_of p.lanes at.info-iterator.a.rest.now c.next.new.self.a.rest.now c.in-Some.info.now n at.invariant.lanes steps.0 in
     let taken = next_of all (into_iter_items at.info-iterator.b) (into_iter_items c.next.new.self.b) w n at.invariant.writers steps.1.0 in
     let low : r < length at.rooms = omega
-    (arith, c.loops-loops.ensures.plan.1.stands.loops.owners n next.there, at.auto.rooms, c.requires.rooms.1.count) in
+    (arith, c.loops-loops.ensures.plan.1.stands.loops.owners n next.there, at.auto.rooms, c.requires.rooms.2.count) in
     let owner : r ≡ c.in-Some.info.now.owner = owner_of p n c.in-Some.info.now c.next.new.self.a.rest.now next in
     let room : Box Writers = record {
       ptr = (get_or at.rooms c.in-Some.info.now.owner x).ptr;
       alloc = (get_or at.rooms c.in-Some.info.now.owner x).alloc;
       value = record {
-        lanes = record { own = c.push_reserved.new.self; seen = c.deref_mut.result.now.lanes.seen };
+        lanes = record { own = c.push_reserved.new.self; seen = c.deref_mut.result.now.lanes.seen; cells = c.deref_mut.result.now.lanes.cells };
         regs = c.deref_mut.result.now.regs;
         lists = c.deref_mut.result.now.lists;
       };
@@ -116,6 +116,7 @@ loop-info-preserved c =
       own = c.push_reserved.ensures.items ∙ ap (λ (u : Writers). u.lanes.own.items ++ w ∷ []) same;
       room = c.push_reserved.ensures.capacity ∙ ap (λ (u : Writers). vec_capacity u.lanes.own) same;
       seen = ap (λ (u : Writers). u.lanes.seen) same;
+      cells = ap (λ (u : Writers). u.lanes.cells) same;
       regs = ap (λ (u : Writers). u.regs) same;
       lists = ap (λ (u : Writers). u.lists) same;
     } in

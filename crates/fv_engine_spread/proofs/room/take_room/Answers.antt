@@ -1,15 +1,15 @@
-use Rattle.std.proofs.Common.{◌≡◌, ◌*◌, ◌<◌, ℕ, List, [], ◌∷◌, ◌++◌, length, get_or, sym, ap, ap₂, ◌∙◌, subst, arith, inl, inr}
+use Rattle.std.proofs.Common.{◌≡◌, ◌*◌, ◌+◌, ◌<◌, ℕ, List, length, get_or, sym, ap, ap₂, ◌∙◌, subst, arith}
 use Rattle.std.specs.Global.{Box}
-use Rattle.std.proofs.lemmas.Bool.{cases_lt}
-use Rattle.std.proofs.lemmas.List.{get_or_append_left}
-use Rattle.std.proofs.Math.Seq.{get_or-append_seam}
 use Rattle.fv_outside.specs.headline.Tasks.{Tasks}
 use Rattle.fv_split_plan.specs.headline.View.{PlanView, code_of}
 use Rattle.fv_engine_lanes.specs.Plans.{own_lanes, sources_of, lanes_of_all, readers_of}
+use Rattle.fv_engine_lanes.specs.declared.loop_cells.CellPlaces.{CellPlaces}
+use Rattle.fv_engine_lanes.specs.declared.loop_cells.LoopCells.{LoopCells}
 use Rattle.fv_engine_codes.specs.declared.counts.LaneCount.{LaneCount}
 use Rattle.fv_engine_codes.specs.Codes.{IsLaneCount}
 use Rattle.fv_engine_parcels.specs.declared.content.Writers.{Writers}
-use Rattle.fv_engine_spread.specs.Rooms.{IsRoom}
+use Rattle.fv_engine_spread.specs.Rooms.{IsRoom, HasCells}
+use Rattle.fv_engine_spread.proofs.LoopRooms.{IsLoopRoom, AreFirstRooms, one_room, all_rooms}
 use Rattle.fv_engine_spread.proofs.room.take_room.Goals as goal
 
 room_same : (w : Writers) (o p s t a b l m : ℕ) → o ≡ p → s ≡ t → a ≡ b → l ≡ m → IsRoom o s a l w → IsRoom p t b m w
@@ -21,6 +21,7 @@ pub loop-j-preserved : goal.loop-j-preserved
 loop-j-preserved c =
     let p : PlanView = c.args.plan.now in
     let g : Tasks = c.args.tasks.now.tasks in
+    let places : CellPlaces = c.args.places.now in
     let j : ℕ = c.loop-j.j in
     let old : List (Box Writers) = c.loop-j.rooms.items in
     let room : Box Writers = c.in_ok-room-2.room in
@@ -31,27 +32,14 @@ loop-j-preserved c =
     c.in_ok-lists.ensures ∙ ap₂ (λ (a b : ℕ). a * b) (c.from.ensures ∙ c.vectors.ensures.value) c.count_readers.ensures in
     let steps : c.len.result ≡ length (code_of p j) = c.len.ensures ∙ ap length c.code.ensures in
     let long : length old ≡ j = omega (arith, c.loop-j.invariant.count, c.loop-j.rooms.ok) in
-    let here : IsRoom (length (own_lanes p j)) (length (lanes_of_all p (sources_of g j))) (length (code_of p j)) (g.vectors * readers_of g j) room.value =
-    subst (λ (w : Writers). IsRoom (length (own_lanes p j)) (length (lanes_of_all p (sources_of g j))) (length (code_of p j))
-    (g.vectors * readers_of g j) w)
-    (sym c.in_ok-room-2.ensures.ok)
-    (room_same c.in_ok-room.room n.own (length (own_lanes p j)) n.seen (length (lanes_of_all p (sources_of g j))) c.len.result (length (code_of p j))
-    c.in_ok-lists.lists (g.vectors * readers_of g j) counted.own counted.seen steps lists c.in_ok-room.ensures) in
+    let here : IsLoopRoom p g places j c.in_ok-room.room = record {
+      room = room_same c.in_ok-room.room n.own (length (own_lanes p j)) n.seen (length (lanes_of_all p (sources_of g j))) c.len.result
+          (length (code_of p j)) c.in_ok-lists.lists (g.vectors * readers_of g j) counted.own counted.seen steps lists c.in_ok-room.ensures.room;
+      cells = subst (λ (cs : LoopCells). HasCells p places j cs) (sym c.in_ok-room.ensures.cells) c.in_ok-cells.ensures;
+    } in
     record {
-      each = λ i d l. subst (λ (ws : List (Box Writers)). IsRoom (length (own_lanes p i)) (length (lanes_of_all p (sources_of g i))) (length (code_of p i))
-          (g.vectors * readers_of g i) (get_or ws i d).value) (sym c.push_reserved.ensures.items) (elim (cases_lt i j) [
-            | inl low ↦ subst (λ (b : Box Writers). IsRoom (length (own_lanes p i)) (length (lanes_of_all p (sources_of g i))) (length (code_of p i))
-                (g.vectors * readers_of g i) b.value) (sym (get_or_append_left old (room ∷ []) d i (omega (arith, low, long))))
-                (c.loop-j.invariant.each i d low)
-            | inr high ↦
-                let z : j ≡ i = omega (arith, high, l) in
-                let at : get_or (old ++ room ∷ []) i d ≡ room = ap (λ (k : ℕ). get_or (old ++ room ∷ []) k d) (sym z ∙ sym long)
-                ∙ get_or-append_seam old room [] d in
-                subst (λ (b : Box Writers). IsRoom (length (own_lanes p i)) (length (lanes_of_all p (sources_of g i))) (length (code_of p i))
-                (g.vectors * readers_of g i) b.value) (sym at)
-                (subst (λ (k : ℕ). IsRoom (length (own_lanes p k)) (length (lanes_of_all p (sources_of g k))) (length (code_of p k))
-                (g.vectors * readers_of g k) room.value) z here)
-          ]);
+      each = subst (AreFirstRooms p g places (j + 1)) (sym c.push_reserved.ensures.items)
+          (one_room p g places j old room long (subst (IsLoopRoom p g places j) (sym c.in_ok-room-2.ensures.ok) here) c.loop-j.invariant.each);
       count = omega (arith, c.push_reserved.ensures.len, c.loop-j.invariant.count);
       room = omega (arith, c.push_reserved.ensures.capacity, c.loop-j.invariant.room);
     }

@@ -17,11 +17,11 @@ use Rattle.fv_loopcode.specs.declared.step.Step.{Step}
 use Rattle.fv_loopcode.specs.Code.{IsWithin}
 use Rattle.fv_engine_lanes.specs.Plans.{own_lanes, lanes_of_all, sources_of, IsLocalCode}
 use Rattle.fv_engine_parcels.specs.Contents.{tasks_in, AreHandedOn, AreSeenOf, AreWritersOf, AreCellsOf, AreRoomy}
-use Rattle.fv_engine_parcels.specs.inner.Turns.{Known, Before, lanes_by, IsPairFrom}
+use Rattle.fv_engine_parcels.specs.inner.Turns.{Known, Before, lanes_by, IsPairFrom, IsChainAt}
 use Rattle.fv_engine_parcels.specs.declared.start.Start.{Start}
 use Rattle.fv_engine_parcels.specs.declared.content.Writers.{Writers}
 use Rattle.fv_engine_parcels.specs.declared.parcel.LoopParcel.{LoopParcel}
-use Rattle.fv_engine_parcels.proofs.Edges.{outward_is, pairs_of, pairs_out}
+use Rattle.fv_engine_parcels.proofs.Edges.{outward_is, chain_is_at, pairs_of, pairs_out}
 use Rattle.fv_engine_parcels.proofs.Coming.{Came, came, Holds, holds, none_seen, vector_inside, edges_reverse, keys_reverse}
 use Rattle.fv_engine_parcels.proofs.Props.{within_prop, within_renumbered}
 use Rattle.fv_engine_parcels.proofs.Tasking.{before_of, after_of, cells_after_of, upto_next}
@@ -157,6 +157,18 @@ run_code-requires-clause-regs c =
     ∥∥₁_elim c.args.self.now.body (ℕ_set (length c.deref_mut-2.result.now.regs.items) (length (slice_index_or c.args.self.now.codes.now j []))) (λ b.
     ap (λ (w : Writers). length w.regs.items) c.deref_mut-2.ensures.value ∙ now.regs
     ∙ sym (ap length (b.codes_are j c.requires.task.0).is ∙ length-map (code_of k.plan.now j) (renumbered (b.codes_are j c.requires.task.0).place)))
+
+pub hand-requires-clause-chain : goal.hand-requires-clause-chain
+hand-requires-clause-chain c =
+    let k : Start = c.args.self.now.start in
+    let j : ℕ = c.args.task.loop_no in
+    let v : ℕ = c.args.task.vector in
+    let number : c.from.result * c.loops.result + j ≡ task_at (tasks_in k) j v = ap₂ (λ (a b : ℕ). a * b + j) c.from.ensures c.loops.ensures.value in
+    let out : c.outward.result.now
+    ≡ chain_edge (tasks_in k) j (v + 1) ∷ map (λ (i : ℕ). pair_edge (tasks_in k) i v)
+    (passing (λ i. (pair_at (tasks_in k) i).source == j) 0 (length (tasks_in k).reads)) =
+    c.outward.ensures ∙ ap (outward (tasks_in k)) number ∙ outward_is (tasks_in k) j v c.requires.task.0 in
+    subst (λ (l : List ℕ). IsChainAt (tasks_in k) j (v + 1) (get_or l 0 0)) (sym out) (chain_is_at (tasks_in k) j (v + 1) c.requires.task.0)
 
 pub hand-requires-clause-pairs : goal.hand-requires-clause-pairs
 hand-requires-clause-pairs c =
