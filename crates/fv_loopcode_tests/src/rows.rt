@@ -1,11 +1,13 @@
 // Worked examples.
 
-ghost use Rattle.std.specs.Prelude.{◌≡◌, ◌<◌, ◌+◌, [], length};
-ghost use Rattle.fv_loopcode_tests.specs.Line.{lane_in, running_sum, difference, scaled};
+ghost use Rattle.std.specs.Prelude.{◌≡◌, ◌<◌, ◌+◌, [], length, IfOk};
+ghost use Rattle.fv_loopcode_tests.specs.Shelf.{HasRoom};
+ghost use Rattle.fv_loopcode_tests.specs.Codes.{running_sum, difference, scaled};
 
-use crate::line::Line;
+use crate::shelf::Shelf;
 use fv_loopcode::{Code, Counts, Step, run};
 use fv_num::Op;
+use std::alloc::{AllocError, Global};
 use std::process::Abort;
 use std::test::Fail;
 
@@ -124,6 +126,23 @@ static REFUSED: [(&str, &[Step]); 7] = [
     ),
 ];
 
+/// Room for so many samples, a table of three items, and cells of two.
+pub(crate) fn shelf_of(alloc: Global, count: u64) -> Result<Shelf, AllocError>
+    requires { count < 1000 }
+    ensures { IfOk result (λ s. HasRoom s count) }
+{
+    let samples = vec![in alloc; 0; count as usize + 1]?;
+    let table = vec![in alloc; 10, 20, 30]?;
+    let cells = vec![in alloc; 7, 8]?;
+    Ok(Shelf {
+        samples,
+        history: 1,
+        written: 1,
+        table,
+        cells,
+    })
+}
+
 #[test]
 fn code_reads_earlier_steps(rt: HostRuntime) -> Result<(), Fail> {
     for (name, steps) in &REFUSED {
@@ -134,16 +153,14 @@ fn code_reads_earlier_steps(rt: HostRuntime) -> Result<(), Fail> {
 }
 
 /// Runs the running sum over so many samples.
-pub(crate) fn sum(code: &Code, input: &[i32], count: u64, registers: &mut [i32], line: &mut Line)
+pub(crate) fn sum(code: &Code, input: &[i32], count: u64, registers: &mut [i32], shelf: &mut Shelf)
     requires code { code.now ≡ running_sum }
     requires registers { length registers.old ≡ 7 }
     requires few { count < 1000 }
     requires input { length input.now ≡ count }
-    requires history { line.old.history ≡ 1 }
-    requires written { line.old.written ≡ 1 }
-    requires room { length line.old.cells.items ≡ 1 + count }
+    requires room { HasRoom shelf.old count }
 {
-    run(code, &[], input, 1, 0, count, registers, line);
+    run(code, &[], input, 1, 0, count, registers, shelf);
 }
 
 #[test]
@@ -155,24 +172,20 @@ fn a_running_sum(rt: HostRuntime) -> Result<(), Fail> {
     assert!(rt; !code.is_empty());
     assert_eq!(rt; code.steps(), SUM.as_slice());
     let mut registers = [0; 7];
-    let mut line = Line {
-        cells: vec![in rt.alloc(); 0; 4]?,
-        history: 1,
-        written: 1,
-    };
-    sum(&code, &[5, 7, 4], 3, &mut registers, &mut line);
-    assert_eq!(rt; line.cells.as_slice(), [0, 20, 62, 74].as_slice());
+    let mut shelf = shelf_of(rt.alloc(), 3)?;
+    sum(&code, &[5, 7, 4], 3, &mut registers, &mut shelf);
+    assert_eq!(rt; shelf.samples.as_slice(), [0, 20, 62, 74].as_slice());
     assert_eq!(rt; registers.as_slice(), [4, 16, 12, 1, 62, 74, 74].as_slice());
     Ok(())
 }
 
-// Runs code that loads and appends nothing, over any lane.
-fn hold(code: &Code, held: &[i32], registers: &mut [i32], line: &mut Line)
+// Runs code that loads and appends nothing, over any shelf.
+fn hold(code: &Code, held: &[i32], registers: &mut [i32], shelf: &mut Shelf)
     requires code { code.now ≡ difference }
     requires registers { length registers.old ≡ 3 }
     requires held { length held.now ≡ 2 }
 {
-    run(code, held, &[], 0, 0, 1, registers, line);
+    run(code, held, &[], 0, 0, 1, registers, shelf);
 }
 
 #[test]
@@ -181,24 +194,20 @@ fn held_values_are_registers(rt: HostRuntime) -> Result<(), Fail> {
         return Err("no code".into());
     };
     let mut registers = [0; 3];
-    let mut line = Line {
-        cells: vec![in rt.alloc(); 4; 1]?,
-        history: 1,
-        written: 1,
-    };
-    hold(&code, &[7, 9], &mut registers, &mut line);
+    let mut shelf = shelf_of(rt.alloc(), 0)?;
+    hold(&code, &[7, 9], &mut registers, &mut shelf);
     assert_eq!(rt; registers.as_slice(), [7, 9, -2].as_slice());
-    assert_eq!(rt; line.cells.as_slice(), [4].as_slice());
+    assert_eq!(rt; shelf.samples.as_slice(), [0].as_slice());
     Ok(())
 }
 
-// Runs three quarters of the input, over any lane.
-fn scale(code: &Code, input: &[i32], registers: &mut [i32], line: &mut Line)
+// Runs three quarters of the input, over any shelf.
+fn scale(code: &Code, input: &[i32], registers: &mut [i32], shelf: &mut Shelf)
     requires code { code.now ≡ scaled }
     requires registers { length registers.old ≡ 5 }
     requires input { length input.now ≡ 1 }
 {
-    run(code, &[], input, 1, 0, 1, registers, line);
+    run(code, &[], input, 1, 0, 1, registers, shelf);
 }
 
 #[test]
@@ -207,14 +216,10 @@ fn quotients_are_rounded_toward_zero(rt: HostRuntime) -> Result<(), Fail> {
         return Err("no code".into());
     };
     let mut registers = [0; 5];
-    let mut line = Line {
-        cells: vec![in rt.alloc(); 4; 1]?,
-        history: 1,
-        written: 1,
-    };
-    scale(&code, &[-7], &mut registers, &mut line);
+    let mut shelf = shelf_of(rt.alloc(), 0)?;
+    scale(&code, &[-7], &mut registers, &mut shelf);
     assert_eq!(rt; registers.as_slice(), [-7, 3, -21, 4, -5].as_slice());
-    scale(&code, &[7], &mut registers, &mut line);
+    scale(&code, &[7], &mut registers, &mut shelf);
     assert_eq!(rt; registers.as_slice(), [7, 3, 21, 4, 5].as_slice());
     Ok(())
 }
