@@ -6,8 +6,8 @@ use Rattle.fv_loopcode.specs.headline.Lanes.{Lane, lane_of}
 use Rattle.fv_loopcode.specs.headline.State.{State, list_at}
 use Rattle.fv_loopcode.specs.headline.Code.{passed, opening, ran}
 use Rattle.fv_loopcode.specs.Code.{MayPass, MayRun}
-use Rattle.fv_loopcode_tests.specs.Line.{lane_in}
-use Rattle.fv_loopcode_tests.specs.Shelf.{state_in, written_and_looked_up, written_again, HasRoom}
+use Rattle.fv_loopcode_tests.specs.Codes.{written_and_looked_up, written_again}
+use Rattle.fv_loopcode_tests.specs.Shelf.{lane_in, state_in, HasRoom}
 use Rattle.fv_loopcode_tests.specs.declared.shelf.Shelf.{Shelf}
 use Rattle.fv_loopcode_tests.proofs.Sums.{Holds}
 
@@ -100,11 +100,11 @@ pub may_run : (code : List Step) (held : ℕ → ℤ) (inputs : ℕ → ℕ → 
     (code ≡ written_and_looked_up) ⊎ (code ≡ written_again) → HasRoom shelf count → MayRun code held inputs 0 count (state_in shelf)
 may_run code held inputs count shelf which h = elim which [
   | inl e ↦ subst (λ steps. MayRun steps held inputs 0 count (state_in shelf)) (sym e)
-      (looked_up_may held inputs shelf.table.items h.table (lane_in shelf.line) shelf.cells.items h.cells count)
+      (looked_up_may held inputs shelf.table.items h.table (lane_in shelf) shelf.cells.items h.cells count)
   | inr e ↦ subst (λ steps. MayRun steps held inputs 0 count (state_in shelf)) (sym e)
-      (again_may held inputs shelf.table.items h.table count (lane_in shelf.line) shelf.cells.items (record {
+      (again_may held inputs shelf.table.items h.table count (lane_in shelf) shelf.cells.items (record {
         history = h.history;
-        long = length-take-le shelf.line.written shelf.line.cells.items (let a = h.written in let b = h.room in omega arith)
+        long = length-take-le shelf.written shelf.samples.items (let a = h.written in let b = h.room in omega arith)
             ∙ (let a = h.written in omega arith);
         room = (let a = h.written in let b = h.room in omega arith);
       }) h.cells)

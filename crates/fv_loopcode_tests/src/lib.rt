@@ -1,7 +1,6 @@
 // Tests of code and of the loop machine, by samples and by strips, over a lane, a table and cells in vectors.
 #![tactic(auto)]
 
-mod line;
 #[cfg(test)]
 mod rows;
 mod shelf;
@@ -10,5 +9,4 @@ mod strips;
 #[cfg(test)]
 mod tables;
 
-pub use line::Line;
 pub use shelf::Shelf;

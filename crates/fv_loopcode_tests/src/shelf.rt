@@ -1,17 +1,17 @@
 // A lane, a table and cells in vectors.
 
-ghost use Rattle.std.specs.Prelude.{◌≡◌, ◌<◌, [], ◌∷◌, length};
+ghost use Rattle.std.specs.Prelude.{◌≡◌, ◌<◌, length};
 ghost use Rattle.fv_num.specs.headline.Tables.{place as place_of};
-ghost use Rattle.fv_loopcode_tests.specs.Line.{lane_in};
 ghost use Rattle.fv_loopcode_tests.specs.Shelf.{state_in};
 
-use crate::line::Line;
 use fv_loopcode::Store;
 
-/// A lane, a table, and a list of cells.
+/// A lane: its samples, the length of its history, and how many samples are written; a table; and a list of cells.
 #[derive(Drop)]
 pub struct Shelf {
-    pub line: Line,
+    pub samples: Vec<i32>,
+    pub history: u32,
+    pub written: u64,
     pub table: Vec<i32>,
     pub cells: Vec<i32>,
 }
@@ -33,16 +33,17 @@ impl Store for Shelf {
 
     ghost rest = { λ _. tt };
 
-    fn load(&self, lane: u64, index: u64, back: u64) -> i32 {
-        self.line.load(lane, index, back)
+    fn load(&self, _lane: u64, index: u64, back: u64) -> i32 {
+        self.samples[(u64::from(self.history) + index - back) as usize]
     }
 
-    fn has_just(&self, lane: u64, samples: u64) -> bool {
-        self.line.has_just(lane, samples)
+    fn has_just(&self, _lane: u64, samples: u64) -> bool {
+        u64::from(self.history) + samples == self.written.min(self.samples.len() as u64)
     }
 
-    fn append(&mut self, lane: u64, value: i32) {
-        self.line.append(lane, value);
+    fn append(&mut self, _lane: u64, value: i32) {
+        self.samples[self.written as usize] = value;
+        self.written += 1;
     }
 
     fn read(&self, _table: u64, index: i32) -> i32 {

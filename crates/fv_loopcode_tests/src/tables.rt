@@ -1,14 +1,14 @@
 // Code on a table and cells, by samples and by strips.
 
-ghost use Rattle.std.specs.Prelude.{◌≡◌, ◌⊎◌, ◌<◌, ◌*◌, [], length, IfOk};
-ghost use Rattle.fv_loopcode_tests.specs.Shelf.{written_and_looked_up, written_again, HasRoom};
+ghost use Rattle.std.specs.Prelude.{◌≡◌, ◌⊎◌, ◌<◌, ◌*◌, [], length};
+ghost use Rattle.fv_loopcode_tests.specs.Codes.{written_and_looked_up, written_again};
+ghost use Rattle.fv_loopcode_tests.specs.Shelf.{HasRoom};
 
-use crate::line::Line;
+use crate::rows::shelf_of;
 use crate::shelf::Shelf;
 use fv_loopcode::{Counts, Step};
 use fv_loopcode_machine::Code;
 use fv_num::Op;
-use std::alloc::{AllocError, Global};
 use std::process::Abort;
 use std::test::Fail;
 
@@ -80,21 +80,6 @@ fn by_strips(code: &Code, input: &[i32], count: u64, registers: &mut [i32], shel
     fv_loopcode_machine::run(code, &[], input, 3, 0, count, registers, shelf);
 }
 
-// Room for so many samples, a table of three items, and cells of two.
-fn shelf_of(alloc: Global, count: u64) -> Result<Shelf, AllocError>
-    requires { count < 1000 }
-    ensures { IfOk result (λ s. HasRoom s count) }
-{
-    let line = Line {
-        cells: vec![in alloc; 0; count as usize + 1]?,
-        history: 1,
-        written: 1,
-    };
-    let table = vec![in alloc; 10, 20, 30]?;
-    let cells = vec![in alloc; 7, 8]?;
-    Ok(Shelf { line, table, cells })
-}
-
 #[test]
 fn what_is_written_is_read_at_once(rt: HostRuntime) -> Result<(), Fail> {
     let Some(code) = Code::new(rt.alloc(), &WRITTEN_AND_LOOKED_UP, ONE)? else {
@@ -135,7 +120,7 @@ fn strips_write_as_samples_do(rt: HostRuntime) -> Result<(), Fail> {
     let mut last = [0; 9];
     let mut strips = shelf_of(rt.alloc(), COUNT)?;
     by_strips(&code, &input, COUNT, &mut last, &mut strips);
-    assert_eq!(rt; strips.line.cells.as_slice(), samples.line.cells.as_slice());
+    assert_eq!(rt; strips.samples.as_slice(), samples.samples.as_slice());
     assert_eq!(rt; strips.cells.as_slice(), samples.cells.as_slice());
     assert_eq!(rt; last.as_slice(), registers.as_slice());
     Ok(())
