@@ -1,6 +1,6 @@
 -- The tables that the passes make suit the graph.
-use Rattle.std.proofs.Common.{◌≡◌, ◌≢◌, ◌⊎◌, inl, inr, ℕ, zero, suc, ◌<◌, ◌≤◌, List, [], ◌∷◌, length, get_or, refl, sym, ap, ap₂, ◌∙◌, subst, arith, ℤ, pos}
-use Rattle.std.proofs.Common.{Bool, true, false}
+use Rattle.std.proofs.Common.{◌≡◌, ◌≢◌, inl, inr, ℕ, ◌<◌, ◌≤◌, List, length, refl, sym, ap, ◌∙◌, subst, arith, ℤ, pos}
+use Rattle.std.proofs.Common.{Bool, true}
 use Rattle.std.specs.Prelude.{Vec, Option, None, Some, unwrap_or, nat_lt, nat_le, nat_eq, ◌&&◌}
 use Rattle.std.specs.declared.alloc.Global.{Global}
 use Rattle.std.proofs.lemmas.Bool.{and_parts, lt-ltb, ltb-true, le-leb, leb-true, eq-eqb, eqb-true}
@@ -24,7 +24,7 @@ use Rattle.fv_analysis.proofs.HistoryLemmas.{histories_cover}
 use Rattle.fv_split_plan.specs.headline.Separated.{operands, links_of, IsComputed, IsSeparated, AsOutput, AsDelayed, AsDefinition, AsShared, AsWritten}
 use Rattle.fv_split_plan.specs.headline.Separated.{ReadsSignal}
 use Rattle.fv_split_plan.specs.declared.lane.CellsInfo.{CellsInfo}
-use Rattle.fv_split_plan.specs.Separated.{IsWritten, lane_at, cells_at}
+use Rattle.fv_split_plan.specs.Separated.{IsWritten, lane_at}
 use Rattle.fv_split_plan.specs.headline.Fits.{Names}
 use Rattle.fv_split_plan.specs.Fits.{IsAlways}
 use Rattle.fv_split_lanes.specs.declared.lanes.Lanes.{Lanes}

@@ -1,5 +1,5 @@
 -- The steps of signals that are computed.
-use Rattle.std.proofs.Common.{◌≡◌, inl, inr, ℕ, zero, suc, ◌+◌, ◌<◌, ◌≤◌, List, [], ◌∷◌, ◌++◌, length, take, get_or, map, refl, sym, ap, ap₂, ◌∙◌, subst, arith}
+use Rattle.std.proofs.Common.{◌≡◌, inl, inr, ℕ, zero, suc, ◌<◌, ◌≤◌, List, [], ◌∷◌, ◌++◌, length, take, get_or, map, refl, sym, ap, ap₂, ◌∙◌, subst, arith}
 use Rattle.std.proofs.Common.{pos, Bool, true, false}
 use Rattle.std.specs.Prelude.{All, ◌&&◌, nat_eq, unwrap_or, Option, None, Some}
 use Rattle.std.proofs.lemmas.List.{length-map, length-take-le, length_push, append_assoc, get_or-take, get_or_default, get_or_read}
@@ -14,7 +14,7 @@ use Rattle.fv_signal.specs.headline.Value.{Graph, IsOrdered, OperandsBelow, Name
 use Rattle.fv_split_components.specs.headline.Reach.{at}
 use Rattle.fv_loopcode.specs.declared.step.Step.{Step}
 use Rattle.fv_loopcode.specs.declared.step.Step.TheVariants as step
-use Rattle.fv_loopcode.specs.headline.Obeys.{Roles, Place, OfLane, OfCells, nothing, done_after, with_place}
+use Rattle.fv_loopcode.specs.headline.Obeys.{Roles, Place, OfLane, OfCells, done_after, with_place}
 use Rattle.fv_split_code.specs.declared.kind.Kind.{Kind}
 use Rattle.fv_split_code.specs.declared.kind.Kind.TheVariants as kind
 use Rattle.fv_analysis.specs.headline.Stands.{node, stand, StandsAt}

@@ -1,5 +1,5 @@
 -- The code of all loops, signal by signal.
-use Rattle.std.specs.Prelude.{◌≡◌, ℕ, suc, ◌<◌, ◌≤◌, List, [], ◌∷◌, ◌++◌, length, slice_set, slice_get, slice_index_or, Option, None, Some, Vec, Bool, true}
+use Rattle.std.specs.Prelude.{◌≡◌, ℕ, suc, ◌<◌, ◌≤◌, List, [], ◌∷◌, ◌++◌, length, slice_set, slice_get, Option, None, Some, Vec, Bool, true}
 use Rattle.std.specs.Prelude.{◌&&◌, nat_lt, nat_eq, All}
 use Rattle.std.specs.declared.alloc.Global.{Global}
 use Rattle.fv_signal.specs.declared.signal.Signal.{Signal}

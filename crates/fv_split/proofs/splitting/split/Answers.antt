@@ -1,4 +1,4 @@
-use Rattle.std.proofs.Common.{◌≡◌, ℕ, ◌<◌, List, length, map, sym, ap, ◌∙◌, subst, arith, All}
+use Rattle.std.proofs.Common.{◌≡◌, ◌<◌, length, map, sym, ap, ◌∙◌, subst, arith, All}
 use Rattle.fv_num.specs.headline.Frames.{table}
 use Rattle.fv_base.proofs.Lists.{length_table}
 use Rattle.fv_signal.specs.headline.Rates.{rates}
@@ -7,7 +7,7 @@ use Rattle.fv_analysis.specs.headline.Stands.{stands_of}
 use Rattle.fv_analysis.specs.headline.History.{history_of}
 use Rattle.fv_analysis.proofs.StandLemmas.{stands_long}
 use Rattle.fv_split_plan.specs.Rows.{lists_of, plan_with}
-use Rattle.fv_split_plan.specs.headline.Plans.{PlanStands, PlanReads, PlanNames, IsPlanOf}
+use Rattle.fv_split_plan.specs.headline.Plans.{PlanStands, PlanNames, IsPlanOf}
 use Rattle.fv_split_code.specs.Emitted.{code_in}
 use Rattle.fv_split.specs.inner.Lists.{lane_of}
 use Rattle.fv_split.specs.inner.Cells.{AreCells}
@@ -84,10 +84,11 @@ all_code-requires c =
     let long : c.len.result ≡ length p.owners.items =
     omega (arith, c.len.ensures, c.in_ok-lanes.lanes.ok.0, c.in_ok-lanes.ensures.long, ap length c.deref-9.ensures.value, tables.placed.lanes.owned) in
     let cells : c.len-2.result ≡ length c.in_ok-cells.cells.infos.items = omega (arith, c.len-2.ensures, c.in_ok-cells.cells.infos.ok.0) in
-    λ j. subst (λ n. AreSound (record { lanes = n; tables = c.tables.result; cells = c.len-2.result }) (code_in c.in_ok-steps.steps.items j)) (sym long)
-    (subst (λ n. AreSound (record { lanes = length p.owners.items; tables = n; cells = c.len-2.result }) (code_in c.in_ok-steps.steps.items j)) (sym c.tables.ensures)
-    (subst (λ n. AreSound (record { lanes = length p.owners.items; tables = length c.args.graph.now.tables; cells = n }) (code_in c.in_ok-steps.steps.items j)) (sym cells)
-    (all_sound _ _ _ _ _ _ _ _ tables c.in_ok-steps.steps.items c.in_ok-steps.ensures j)))
+    let steps = c.in_ok-steps.steps.items in
+    λ j. subst (λ n. AreSound (record { lanes = n; tables = c.tables.result; cells = c.len-2.result }) (code_in steps j)) (sym long)
+    (subst (λ n. AreSound (record { lanes = length p.owners.items; tables = n; cells = c.len-2.result }) (code_in steps j)) (sym c.tables.ensures)
+    (subst (λ n. AreSound (record { lanes = length p.owners.items; tables = length c.args.graph.now.tables; cells = n }) (code_in steps j)) (sym cells)
+    (all_sound _ _ _ _ _ _ _ _ tables steps c.in_ok-steps.ensures j)))
 
 pub code-requires : goal.code-requires
 code-requires c =
@@ -99,8 +100,8 @@ code-requires c =
 -- the plan, with the steps of the held values for their code
 plan : (c : In_ok-copied) → Passes c.args.graph.now c.in_ok-places.places c.in_ok-stands.stands c.in_ok-bases.bases c.in_ok-kinds.kinds
     c.in_ok-cells.cells c.in_ok-values.values.numbers.items c.in_ok-values.values.steps.items →
-    IsPlanOf c.args.graph.now (plan_with c.in_ok-places.places.loops c.in_ok-lanes.lanes.items (lists_of c.in_ok-copied.copied.items) c.in_ok-cells.cells.infos.items
-    c.in_ok-codes.codes.items c.in_ok-told.told.items c.in_ok-outputs.outputs.items c.in_ok-values.values.steps.items)
+    IsPlanOf c.args.graph.now (plan_with c.in_ok-places.places.loops c.in_ok-lanes.lanes.items (lists_of c.in_ok-copied.copied.items)
+    c.in_ok-cells.cells.infos.items c.in_ok-codes.codes.items c.in_ok-told.told.items c.in_ok-outputs.outputs.items c.in_ok-values.values.steps.items)
 plan c tables =
     let g = c.args.graph.now in
     let p = c.in_ok-places.places in
@@ -113,9 +114,9 @@ plan c tables =
     let are_outputs = c.in_ok-outputs.ensures ∙ ap (λ os. map (lane_of c.deref-7.result.now c.deref-8.result.now) os) c.outputs-named.ensures.list
     ∙ ap (λ ss. map (lane_of ss c.deref-8.result.now) g.outputs) (c.deref-7.ensures.value ∙ c.in_ok-stands.ensures.stands)
     ∙ ap (λ ls. map (lane_of (stands_of g) ls) g.outputs) c.deref-8.ensures.value in
-    is_plan g p c.in_ok-stands.stands c.in_ok-bases.bases c.in_ok-kinds.kinds c.in_ok-cells.cells c.in_ok-values.values.numbers.items c.in_ok-values.values.steps.items
-    tables c.in_ok-steps.steps.items c.in_ok-steps.ensures c.in_ok-lanes.lanes.items (lists_of c.in_ok-copied.copied.items) c.in_ok-codes.codes.items c.in_ok-told.told.items
-    c.in_ok-outputs.outputs.items c.in_ok-copied.ensures are_infos c.in_ok-codes.ensures is_told are_outputs
+    is_plan g p c.in_ok-stands.stands c.in_ok-bases.bases c.in_ok-kinds.kinds c.in_ok-cells.cells c.in_ok-values.values.numbers.items
+    c.in_ok-values.values.steps.items tables c.in_ok-steps.steps.items c.in_ok-steps.ensures c.in_ok-lanes.lanes.items (lists_of c.in_ok-copied.copied.items)
+    c.in_ok-codes.codes.items c.in_ok-told.told.items c.in_ok-outputs.outputs.items c.in_ok-copied.ensures are_infos c.in_ok-codes.ensures is_told are_outputs
 
 pub new-requires : goal.new-requires
 new-requires c =
