@@ -12,7 +12,7 @@ import zlib
 
 FOLDER = os.path.dirname(os.path.abspath(__file__))
 # Examples of which one hears how high they sound.
-PITCHED = {"vibrato", "resonator", "string", "sequencer", "bank", "lowpass"}
+PITCHED = {"vibrato", "resonator", "string", "sequencer", "wavetable", "bank", "lowpass"}
 
 LEFT, WIDTH, RIGHT, HEIGHT, GAP, FOOT = 62, 440, 10, 56, 14, 30
 # The height of a spectrogram, which goes up to a quarter of the rate.

@@ -460,8 +460,6 @@ def made_case(number, most_workers):
     options = sizes(chance, most_workers)
     try:
         program = (reference.interpreter.Rack if is_rack else reference.interpreter.Program)(text, PATIENCE)
-        if not is_rack and program.has_table() and chance.random() < 0.8:
-            return ["check", "p.dsp"], files
         channels = program.inputs
         controls = {control.label: (control.least, control.greatest) for control in program.controls}
     except (reference.Refused, TooMuch):

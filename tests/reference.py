@@ -349,8 +349,6 @@ def obeyed(words, files, folders, patience):
         diagram = program.diagram
         numbers = [program.inputs, program.outputs, len(program.controls), diagram.size, program.delays]
         return Answer("inputs {} outputs {} controls {} size {} delays {}".format(*numbers), 0)
-    if program.has_table():
-        raise Refused(10, "Unsupported", "table")
     return play(command, files, folders, program, patience)
 
 

@@ -6,6 +6,9 @@ use Rattle.std.proofs.lemmas.Bool.{cases_lt}
 use Rattle.fv_base.specs.headline.Lists.{IsPrefixOf}
 use Rattle.fv_base.proofs.Lists.{length_table, map_table, table_items}
 use Rattle.fv_num.specs.headline.Frames.{Stream, table, carried}
+use Rattle.fv_num.specs.headline.Words.{inputs_of}
+use Rattle.fv_num.specs.declared.op.Op.{Op}
+use Rattle.fv_num.specs.declared.op.Op.TheVariants as op
 
 pub prefix_snoc : {A : Type 0} (xs : List A) (x : A) → IsPrefixOf xs (xs ++ x ∷ [])
 prefix_snoc xs x = record { rest = x ∷ []; is = refl }
@@ -35,3 +38,10 @@ carried_items v ws t = ap (map (λ w. v w t)) (sym (table_items ws 0)) ∙ map_t
 -- the first n wires
 pub carried_first : (v : ℕ → Stream) (ws : List ℕ) (n t : ℕ) → n ≤ length ws → take n (carried v ws t) ≡ table n (λ i. v (get_or ws i 0) t)
 carried_first v ws n t l = ap (take n) (carried_items v ws t) ∙ take_table n (length ws) (λ i. v (get_or ws i 0) t) l
+
+-- an operation takes one to four operands
+pub takes_some : (o : Op) → (1 ≤ inputs_of o) × (inputs_of o ≤ 4)
+takes_some op.Abs = (omega arith, omega arith)
+takes_some op.Select2 = (omega arith, omega arith)
+takes_some op.Select3 = (omega arith, omega arith)
+takes_some _ = (omega arith, omega arith)

@@ -1,5 +1,5 @@
 -- What each call of the signals does.
-use Rattle.std.specs.Prelude.{ℕ, Bool, List, ℤ}
+use Rattle.std.specs.Prelude.{ℕ, Bool, List, [], ◌∷◌, ℤ, get_or}
 use Rattle.fv_num.specs.headline.Words.{inputs_of}
 use Rattle.fv_diagram.specs.declared.signals.Leaf.{Leaf}
 use Rattle.fv_diagram.specs.declared.signals.Leaf.TheVariants as leaf
@@ -26,3 +26,9 @@ takes (leaf.Point op) = inputs_of op
 -- each of the old wires is a wire
 abbrev pub Keeps : {W : Type 0} → (old new : W → Type 0) → Type 0
 Keeps {W} old new = (w : W) → old w → new w
+
+-- the four operands of an operation on these wires, of which the first stands for those that are missing
+abbrev pub padded : List ℕ → List ℕ
+padded ws =
+    let first = get_or ws 0 0 in
+    first ∷ get_or ws 1 first ∷ get_or ws 2 first ∷ get_or ws 3 first ∷ []

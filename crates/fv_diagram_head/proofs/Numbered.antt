@@ -6,7 +6,7 @@ use Rattle.fv_num.specs.headline.Frames.{Frame, column}
 use Rattle.fv_diagram.specs.headline.Diagram.{Diagram}
 use Rattle.fv_diagram.specs.Diagram.{control_bound}
 use Rattle.fv_diagram.specs.Laws.{AnswersAlike, AnswersEach, AnswersOneMore}
-use Rattle.fv_diagram.specs.Steps.{RunnerState, StandsFor}
+use Rattle.fv_diagram_runner.specs.Steps.{RunnerState, StandsFor}
 use Rattle.fv_diagram.specs.headline.Streams.{run, last}
 use Rattle.fv_diagram_number.specs.headline.Numbers.{at_first, silent}
 use Rattle.fv_diagram_head.specs.headline.Heads.{table_numbers}

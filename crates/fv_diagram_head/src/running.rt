@@ -9,8 +9,9 @@ ghost use Rattle.fv_diagram_number.specs.headline.Numbers.{at_first};
 ghost use Rattle.fv_diagram_head.specs.headline.Heads.{is_fixed, table_numbers};
 
 use fv_diagram::{
-    DiagramId, Diagrams, Stepper, answers_alike, answers_each, answers_one_more, composed_is_well,
+    DiagramId, Diagrams, answers_alike, answers_each, answers_one_more, composed_is_well,
 };
+use fv_diagram_runner::Stepper;
 use std::alloc::{AllocError, Global};
 
 /// The first number that a diagram gives at time 0, which depends on nothing and gives two streams.

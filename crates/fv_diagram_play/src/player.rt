@@ -12,7 +12,8 @@ ghost use Rattle.fv_control.specs.headline.Streams.{control_streams};
 ghost use Rattle.fv_diagram.specs.headline.Samples.{answer_on};
 
 use fv_control::{Change, listen, values_held};
-use fv_diagram::{DiagramId, Diagrams, Stepper, answers_alike, answers_each, answers_one_more};
+use fv_diagram::{DiagramId, Diagrams, answers_alike, answers_each, answers_one_more};
+use fv_diagram_runner::Stepper;
 use std::alloc::{AllocError, Global};
 
 /// The samples that the diagram answers on these, one frame after another, where each control keeps its number.

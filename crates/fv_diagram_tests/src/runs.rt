@@ -4,7 +4,8 @@ ghost use Rattle.std.specs.Prelude.{◌≡◌, ◌<◌, ◌≤◌, length, IfOk}
 ghost use Rattle.fv_diagram.specs.Arena.{count_of, tree_of};
 ghost use Rattle.fv_diagram.specs.Diagram.{control_bound, HasNoFreeSlot, IsWellFormed};
 
-use fv_diagram::{Arity, DiagramId, Diagrams, Node, Prim, PutRefusal, Stepper};
+use fv_diagram::{Arity, DiagramId, Diagrams, Node, Prim, PutRefusal};
+use fv_diagram_runner::Stepper;
 use std::alloc::{AllocError, Global};
 use std::process::Abort;
 use std::test::Fail;

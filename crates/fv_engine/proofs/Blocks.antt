@@ -18,7 +18,8 @@ use Rattle.fv_pool.specs.Lengths.{lengths_of}
 use Rattle.fv_pool.specs.declared.layout.Layout.{Layout}
 use Rattle.fv_lines.specs.Solo.{AreFramed}
 use Rattle.fv_lines.specs.declared.shape.LaneState.{LaneState}
-use Rattle.fv_split_plan.specs.headline.View.{PlanView}
+use Rattle.fv_split_plan.specs.headline.View.{PlanView, code_of}
+use Rattle.fv_split_plan.specs.Rows.{lists_of}
 use Rattle.fv_split_plan.specs.headline.Plans.{IsPlanOf}
 use Rattle.fv_engine_tasks.specs.headline.Block.{vectors_of}
 use Rattle.fv_engine_tasks.specs.Block.{Block, IsReal}
@@ -32,6 +33,7 @@ use Rattle.fv_engine.specs.Told.{tasks_told}
 use Rattle.fv_engine.specs.declared.engine.Engine.TheInside.{Inside}
 use Rattle.fv_engine.specs.declared.lanes.Lanes.{Lanes}
 use Rattle.fv_engine.proofs.Made.{vectors_rise}
+use Rattle.fv_engine.proofs.Tables.{reads_there}
 use Rattle.fv_engine.proofs.Jobs.{is_job, begun, ended}
 use Rattle.fv_engine.proofs.Values.{block_in}
 use Rattle.fv_engine.proofs.Real.{real, stands_on}
@@ -80,6 +82,7 @@ view_with e lanes = record (view_of e) {
   region = cells_of lanes.region;
   lengths = lengths_of lanes.layout;
   starts = map (λ (s : LaneState). s.start) lanes.states.items;
+  cells = lists_of lanes.lists.items;
 }
 
 -- a call of a stored engine: the frames, input and controls of a block, and the tasks with the vectors of so many frames
@@ -110,6 +113,7 @@ module _ {e : Inside} {v : EngineView} {frames : ℕ} {input controls : List ℤ
   names = record {
     held = inv.standing.plan.names.held;
     inputs = inv.sizes.inputs;
+    tables = λ j t o. reads_there e.plan t (code_of e.plan j) (inv.standing.plan.names.loads j) o;
     knobs = λ k h. call.named k (subst (λ (x : EngineView). NamesHeld x.plan.held k) call.view_is h);
   }
 
@@ -130,15 +134,15 @@ module _ {e : Inside} {v : EngineView} {frames : ℕ} {input controls : List ℤ
   abbrev lengths : List ℕ
   lengths = lengths_of e.lanes.layout
 
-  -- the lanes as they open
+  -- the places as they open
   abbrev first : State
-  first = opening_of e.lanes frames
+  first = opening_of e.plan.tables e.lanes frames
 
   many : length lengths ≡ length e.plan.lanes
-  many = sym e.lanes.lists.0 ∙ inv.shapes.count
+  many = sym e.lanes.entries.0 ∙ inv.shapes.count
 
   is_begun : AreBegun (view_of e) frames first
-  is_begun = begun (record { shapes_are = inv.shapes; many = many; starts = refl }) frames
+  is_begun = begun (record { shapes_are = inv.shapes; many = many; starts = refl; cells = refl }) frames
 
   -- the tasks are those that a gate is told of
   alike : AreAlike t.tasks (tasks_told (view_of e) frames)
@@ -154,6 +158,10 @@ module _ {e : Inside} {v : EngineView} {frames : ℕ} {input controls : List ℤ
 
   pub parts_many : length lengths ≡ length e.plan.lanes
   parts_many = many
+
+  -- each of the plan's cells has a list
+  pub cells_many : length e.lanes.lists.items ≡ length e.plan.cells
+  cells_many = inv.lists
 
   -- as many held values as the code has steps
   pub many_held : length (held_by e.plan controls) ≡ length e.plan.held
@@ -175,28 +183,33 @@ module _ {e : Inside} {v : EngineView} {frames : ℕ} {input controls : List ℤ
           input_long = long;
         }))
 
-    -- the lanes that the block begins with are real
+    -- the places that the block begins with are real
     pub first_is : IsReal b first
     first_is = subst (λ (x : Block). IsReal x first) (sym block_is) (real (view_of e) inv.standing frames input controls names first is_begun)
 
     -- it ran, and left these lanes
     module _ {lanes : Lanes} {lines : List Line} {output : List ℤ} (same : AreSameLanes e.lanes lanes)
-        (ran : Ran t.tasks b lengths e.lanes.shapes.items first (cells_of lanes.region) lanes.states.items lines e.plan.outputs output) where
+        (ran : Ran t.tasks b lengths e.lanes.shapes.items first (cells_of lanes.region) lanes.states.items lanes.lists.items lines e.plan.outputs output) where
       abbrev cells : List ℤ
       cells = cells_of lanes.region
 
       abbrev starts : List ℕ
       starts = map (λ (s : LaneState). s.start) lanes.states.items
 
+      abbrev lists : List (List ℤ)
+      lists = lists_of lanes.lists.items
+
       -- the engine with these lanes has the parts that it had
-      pub is_kept : with_state (view_of e) cells starts ≡ view_with e lanes
-      is_kept = ap (λ (x : Layout). record (view_of e) { region = cells; lengths = lengths_of x; starts = starts }) (sym same.layout)
+      pub is_kept : with_state (view_of e) cells starts lists ≡ view_with e lanes
+      is_kept = ap (λ (x : Layout). record (view_of e) { region = cells; lengths = lengths_of x; starts = starts; cells = lists }) (sym same.layout)
 
-      ran_so : Ran t.tasks (block_in (view_of e) frames controls input) lengths e.lanes.shapes.items first cells lanes.states.items lines e.plan.outputs output
+      ran_so : Ran t.tasks (block_in (view_of e) frames controls input) lengths e.lanes.shapes.items first cells lanes.states.items lanes.lists.items lines
+          e.plan.outputs output
       ran_so =
-          subst (λ (x : Block). Ran t.tasks x lengths e.lanes.shapes.items first cells lanes.states.items lines e.plan.outputs output) block_is ran
+          subst (λ (x : Block). Ran t.tasks x lengths e.lanes.shapes.items first cells lanes.states.items lanes.lists.items lines e.plan.outputs output)
+          block_is ran
 
-      goes : GoesOn (view_of e) (with_state (view_of e) cells starts) frames input controls output
+      goes : GoesOn (view_of e) (with_state (view_of e) cells starts lists) frames input controls output
       goes = goes_on (record {
         names = names;
         some = inv.sizes.vector_low;
@@ -204,7 +217,7 @@ module _ {e : Inside} {v : EngineView} {frames : ℕ} {input controls : List ℤ
         vectors = alike.vectors;
         begun = is_begun;
         ends = ran_so.ends;
-        ended = ended (record { shapes_are = inv.shapes; many = many; starts = refl }) frames ran_so.now ran_so.next;
+        ended = ended (record { shapes_are = inv.shapes; many = many; starts = refl; cells = refl }) frames ran_so.now ran_so.next ran_so.items;
         samples = ran_so.samples;
       })
 
@@ -215,7 +228,7 @@ module _ {e : Inside} {v : EngineView} {frames : ℕ} {input controls : List ℤ
 
       pub still_standing : Standing (view_with e lanes)
       still_standing =
-          subst (λ (x : EngineView). Standing x) is_kept (stands_on (view_of e) inv.standing frames input controls cells starts output goes)
+          subst (λ (x : EngineView). Standing x) is_kept (stands_on (view_of e) inv.standing frames input controls cells starts lists output goes)
 
       pub ordered : IsOrdered (tasks_told (view_of e) frames) lines
       ordered = same_order t.tasks (tasks_told (view_of e) frames) lines alike ran.ends.journal

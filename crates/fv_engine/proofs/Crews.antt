@@ -6,7 +6,9 @@ use Rattle.fv_outside.specs.headline.Tasks.{Tasks}
 use Rattle.fv_pool.specs.Lengths.{lengths_of}
 use Rattle.fv_pool.specs.Region.{cells_of}
 use Rattle.fv_loopcode.specs.headline.Lanes.{Lane}
-use Rattle.fv_loopcode.specs.headline.State.{lanes_alone}
+use Rattle.std.specs.Global.{Vec}
+use Rattle.fv_split_plan.specs.Rows.{lists_of}
+use Rattle.fv_engine.specs.inner.Opening.{opening_over}
 use Rattle.fv_lines.specs.Solo.{held_at, history_at, opening_lanes, AreHeld, AreFramed}
 use Rattle.fv_lines.specs.declared.shape.LaneShape.{LaneShape}
 use Rattle.fv_lines.specs.declared.shape.LaneState.{LaneState}
@@ -25,16 +27,18 @@ use Rattle.fv_engine.specs.declared.runner.TaskRunner.{TaskRunner}
 pub lengths_are : (l : Lanes) → lengths_of l.layout ≡ lengths_by l.shapes.items
 lengths_are l =
     let many : length (lengths_of l.layout) ≡ length (lengths_by l.shapes.items) =
-    sym l.lists.0 ∙ sym (length-map l.shapes.items (λ (s : LaneShape). s.len)) in
+    sym l.entries.0 ∙ sym (length-map l.shapes.items (λ (s : LaneShape). s.len)) in
     ext_get_or 0 (lengths_of l.layout) (lengths_by l.shapes.items) many (λ i m. (l.held i m).0)
 
--- what is lent of lanes to a crew are their shapes, states and cells
-pub record AreLent (l : Lanes) (shapes : List LaneShape) (states : List LaneState) (cells : List ℤ) : Type 0 where
+-- what is lent of lanes to a crew are their shapes, states and cells, and the lists beside them
+pub record AreLent (l : Lanes) (shapes : List LaneShape) (states : List LaneState) (cells : List ℤ) (lists : List (Vec ℤ)) : Type 0 where
   pub shapes_are : shapes ≡ l.shapes.items
   pub states_are : states ≡ l.states.items
   pub cells_are : cells ≡ cells_of l.region
+  pub lists_are : lists ≡ l.lists.items
 
-module _ {l : Lanes} {shapes : List LaneShape} {states : List LaneState} {cells : List ℤ} (lent : AreLent l shapes states cells) where
+module _ {l : Lanes} {shapes : List LaneShape} {states : List LaneState} {cells : List ℤ} {lists : List (Vec ℤ)}
+    (lent : AreLent l shapes states cells lists) where
   by_shapes : lengths_by shapes ≡ lengths_of l.layout
   by_shapes = ap lengths_by lent.shapes_are ∙ sym (lengths_are l)
 
@@ -53,14 +57,18 @@ module _ {l : Lanes} {shapes : List LaneShape} {states : List LaneState} {cells 
         (subst (λ x. P (lengths_of l.layout) x states cells) lent.shapes_are (subst (λ x. P x shapes states cells) by_shapes p)))
 
 -- a crew may run a block over what is lent to it
-pub may_run_over : (b : SpreadBlock) {l : Lanes} {r : TaskRunner} {states : List LaneState} {cells : List ℤ} → AreLent l b.shapes.now states cells
-    → MayRun (block_in b) l r → MayRunOver b states cells
-may_run_over b {l} lent may = record {
-  count = ap length lent.states_are ∙ l.lists.1 ∙ sym l.lists.0 ∙ sym (ap length lent.shapes_are);
-  room = let k = ap sum (by_shapes lent) in let n = ap length lent.cells_are in omega (arith, k, n, l.lists.3);
+pub may_run_over : (b : SpreadBlock) {l : Lanes} {r : TaskRunner} {states : List LaneState} {cells : List ℤ} {lists : List (Vec ℤ)}
+    → AreLent l b.shapes.now states cells lists → MayRun (block_in b) b.plan.now.tables l r → MayRunOver b states cells lists
+may_run_over b {l} {r} {states} {cells} {lists} lent may = record {
+  count = ap length lent.states_are ∙ l.entries.1 ∙ sym l.entries.0 ∙ sym (ap length lent.shapes_are);
+  lists = ap length lent.lists_are ∙ may.lists;
+  room = let k = ap sum (by_shapes lent) in let n = ap length lent.cells_are in omega (arith, k, n, l.entries.3);
   held_there = of_lent lent (λ lengths shapes states cells. AreHeld lengths shapes states) l.held;
   framed = of_lent lent (λ lengths shapes states cells. AreFramed lengths shapes b.frames) may.framed;
-  real = of_lent lent (λ lengths shapes states cells. IsReal (block_in b) (lanes_alone (opening_lanes lengths shapes states b.frames cells))) may.real;
+  real =
+      subst (λ (x : List (Vec ℤ)). IsReal (block_in b) (opening_over b.plan.now.tables (lengths_by b.shapes.now) b.shapes.now states b.frames cells x))
+      (sym lent.lists_are)
+      (of_lent lent (λ ls ss st cs. IsReal (block_in b) (opening_over b.plan.now.tables ls ss st b.frames cs l.lists.items)) may.real);
 }
 
 -- where each lane has the history that it had, the lanes open as before
@@ -85,5 +93,6 @@ other_vectors p g n c is = record {
     count = is.counts.count;
     each = λ j d l. let q = is.counts.each j d l in record { own = q.own; seen = q.seen };
   };
+  cells = is.cells;
   workers = is.workers;
 }

@@ -5,7 +5,7 @@ use Rattle.fv_num.specs.headline.Frames.{Frame, Stream, table, rows}
 use Rattle.fv_base.proofs.Lists.{table_same}
 use Rattle.fv_signal.specs.headline.Value.{Graph, value}
 use Rattle.fv_analysis.proofs.StandLemmas.{stands_alike}
-use Rattle.fv_loopcode.specs.headline.State.{State}
+use Rattle.fv_loopcode.specs.headline.State.{State, list_at}
 use Rattle.fv_outside.specs.headline.Tasks.{Tasks}
 use Rattle.fv_outside.specs.declared.gate.Line.{Line}
 use Rattle.fv_split_components.specs.headline.Reach.{at}
@@ -17,14 +17,14 @@ use Rattle.fv_engine_tasks.specs.Underway.{EndsBlock}
 use Rattle.fv_engine_tasks.proofs.Numbers.{enough}
 use Rattle.fv_engine.specs.inner.Plans.{NamesThere}
 use Rattle.fv_engine.specs.Stands.{EngineView, StandsFor, AreGiven, GoesOn, AreBegun, AreEnded, played}
-use Rattle.fv_engine.proofs.Values.{GoesBehind, block_in, heard, content, values_obey, begins, sample_is, next_past}
+use Rattle.fv_engine.proofs.Values.{GoesBehind, block_in, heard, content, values_obey, begins, sample_is, next_past, next_items}
 
--- an engine with these cells and starts
-abbrev pub with_state : EngineView → (region : List ℤ) → (starts : List ℕ) → EngineView
-with_state e region starts = record e { region = region; starts = starts }
+-- an engine with this region, these starts and these cells
+abbrev pub with_state : EngineView → (region : List ℤ) → (starts : List ℕ) → (cells : List (List ℤ)) → EngineView
+with_state e region starts cells = record e { region = region; starts = starts; cells = cells }
 
--- a block of n frames ran between these lanes, and the engine is then with these cells and starts
-pub record HasRun (old : EngineView) (region : List ℤ) (starts : List ℕ) (n : ℕ) (input controls output : List ℤ) (tasks : Tasks)
+-- a block of n frames ran between these states, and the engine then has this region, these starts and these cells
+pub record HasRun (old : EngineView) (region : List ℤ) (starts : List ℕ) (cells : List (List ℤ)) (n : ℕ) (input controls output : List ℤ) (tasks : Tasks)
     (first now : State) (lines : List Line) : Type 0 where
   pub names : NamesThere old.plan old.channels (length controls)
   pub some : 1 ≤ old.vector
@@ -32,12 +32,12 @@ pub record HasRun (old : EngineView) (region : List ℤ) (starts : List ℕ) (n 
   pub vectors : tasks.vectors ≡ vectors_of n old.vector
   pub begun : AreBegun old n first
   pub ends : EndsBlock tasks (block_in old n controls input) first now lines
-  pub ended : AreEnded (with_state old region starts) n now
+  pub ended : AreEnded (with_state old region starts cells) n now
   pub samples : (t j : ℕ) → t < n → j < length old.plan.outputs
       → argument output (t * length old.plan.outputs + j) ≡ sample_of now.lanes t (at old.plan.outputs j)
 
-module _ {old : EngineView} {region : List ℤ} {starts : List ℕ} {n : ℕ} {input controls output : List ℤ} {tasks : Tasks} {first now : State}
-    {lines : List Line} (run : HasRun old region starts n input controls output tasks first now lines) where
+module _ {old : EngineView} {region : List ℤ} {starts : List ℕ} {cells : List (List ℤ)} {n : ℕ} {input controls output : List ℤ} {tasks : Tasks}
+    {first now : State} {lines : List Line} (run : HasRun old region starts cells n input controls output tasks first now lines) where
   module _ (g : Graph) (s : PlanStands g old.plan) (X : List Frame) (c : ℕ → Stream) (stands : StandsFor old g s.names X c)
       (given : AreGiven controls c (length X) n) where
     abbrev all : List Frame
@@ -72,8 +72,11 @@ module _ {old : EngineView} {region : List ℤ} {starts : List ℕ} {n : ℕ} {i
     samples = table_same n (λ t. table (length g.outputs) (out t)) (λ t. table (length g.outputs) (wanted t))
         (λ t l. table_same (length g.outputs) (out t) (wanted t) (λ j m. sample t j l m))
 
-    histories : StandsFor (with_state old region starts) g s.names all c
-    histories = record { histories = λ l i. run.ended.items l i ∙ next_past behind input full holds l i }
+    stands_then : StandsFor (with_state old region starts cells) g s.names all c
+    stands_then = record {
+      histories = λ l i. run.ended.items l i ∙ next_past behind input full holds l i;
+      cells = λ k i. ap (λ lists. list_at lists k) (sym run.ended.cells) ∙ next_items behind input full holds k i;
+    }
 
-  pub goes_on : GoesOn old (with_state old region starts) n input controls output
-  goes_on g s X c stands given = (samples g s X c stands given, histories g s X c stands given)
+  pub goes_on : GoesOn old (with_state old region starts cells) n input controls output
+  goes_on g s X c stands given = (samples g s X c stands given, stands_then g s X c stands given)

@@ -8,7 +8,10 @@ use Rattle.fv_outside.specs.headline.Tasks.{Tasks, reads_loop}
 use Rattle.fv_graph.proofs.Counts.{both_of}
 use Rattle.fv_loopcode.specs.headline.Code.{NamesInput}
 use Rattle.fv_loopcode.specs.headline.Lanes.{Lane, lane_of, no_lane}
-use Rattle.fv_loopcode.specs.headline.State.{State, lanes_alone}
+use Rattle.fv_loopcode.specs.headline.State.{State}
+use Rattle.std.specs.Global.{Vec}
+use Rattle.fv_split_plan.specs.Rows.{lists_of}
+use Rattle.fv_engine.specs.inner.Opening.{opening_over}
 use Rattle.fv_pool.specs.Layout.{part}
 use Rattle.fv_lines.specs.Hold.{from_start}
 use Rattle.fv_lines.specs.Solo.{opening_lanes, history_at, held_at}
@@ -54,25 +57,29 @@ is_job p vector frames channels held input t f = record {
   input = omega (arith, f.input_long);
 }
 
--- the shapes and states of an engine's lanes
-pub record AreListed (e : EngineView) (block : ℕ) (shapes : List LaneShape) (states : List LaneState) : Type 0 where
+-- the shapes and states of an engine's lanes, and the lists of its cells
+pub record AreListed (e : EngineView) (block : ℕ) (shapes : List LaneShape) (states : List LaneState) (lists : List (Vec ℤ)) : Type 0 where
   pub shapes_are : AreShapes e.plan block shapes
   pub many : length e.lengths ≡ length e.plan.lanes
   pub starts : e.starts ≡ map (λ (s : LaneState). s.start) states
+  pub cells : e.cells ≡ lists_of lists
 
--- lanes as they open, and as they end, by what the engine keeps
-module _ {e : EngineView} {block : ℕ} {shapes : List LaneShape} {states : List LaneState} (listed : AreListed e block shapes states) (n : ℕ) where
+-- places as they open, and as they end, by what the engine keeps
+module _ {e : EngineView} {block : ℕ} {shapes : List LaneShape} {states : List LaneState} {lists : List (Vec ℤ)}
+    (listed : AreListed e block shapes states lists) (n : ℕ) where
   held_is : (l : ℕ) → l < length e.plan.lanes → held_at e.lengths states (history_at shapes l) l e.region ≡ history_in e l
   held_is l i =
       ap (λ h. held_at e.lengths states h l e.region) (listed.shapes_are.histories l i)
       ∙ ap (λ (xs : List ℕ). take (lane_info e.plan l).history (from_start (slice_index xs l) (part e.lengths l e.region))) (sym listed.starts)
 
-  pub begun : AreBegun e n (lanes_alone (opening_lanes e.lengths shapes states n e.region))
+  pub begun : AreBegun e n (opening_over e.plan.tables e.lengths shapes states n e.region lists)
   begun = record {
     count = length_table (length e.lengths) opening ∙ listed.many;
     histories = λ l i. ap (λ (x : Lane). x.history) (lane_is l i) ∙ listed.shapes_are.histories l i;
     items = λ l i. ap (λ (x : Lane). x.items) (lane_is l i) ∙ held_is l i;
     room = λ l i. let q = ap (λ (x : Lane). x.room) (lane_is l i) in omega (arith, q);
+    tables = refl;
+    cells = sym listed.cells;
   }
     where
       opening : ℕ → Lane
@@ -83,5 +90,8 @@ module _ {e : EngineView} {block : ℕ} {shapes : List LaneShape} {states : List
 
   pub ended : (now : State)
       → ((i : ℕ) → i < length e.lengths → held_at e.lengths states (history_at shapes i) i e.region ≡ drop n (lane_of now.lanes i).items)
-      → AreEnded e n now
-  ended now next = record { items = λ l i. sym (held_is l i) ∙ next l (omega (arith, listed.many, i)) }
+      → now.cells ≡ lists_of lists → AreEnded e n now
+  ended now next items = record {
+    items = λ l i. sym (held_is l i) ∙ next l (omega (arith, listed.many, i));
+    cells = items ∙ sym listed.cells;
+  }

@@ -4,6 +4,7 @@ pub mod Goes
 pub mod Real
 pub mod Runs
 pub mod Names
+pub mod Tables
 pub mod Made
 pub mod Jobs
 pub mod Crews

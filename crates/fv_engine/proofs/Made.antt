@@ -24,8 +24,14 @@ use Rattle.fv_lines.specs.declared.shape.LaneShape.{LaneShape}
 use Rattle.fv_lines.specs.declared.shape.LaneState.{LaneState}
 use Rattle.fv_lines.proofs.Tables.{history_is, block_is, len_is, start_is, shapes_fit}
 use Rattle.fv_lines.proofs.Parts.{length_part}
-use Rattle.fv_split_plan.specs.headline.View.{PlanView, lane_info}
-use Rattle.fv_split_plan.specs.headline.Plans.{PlanReads}
+use Rattle.fv_signal.specs.declared.signal.Signal.{Signal}
+use Rattle.fv_signal.specs.headline.Value.{Graph}
+use Rattle.fv_analysis.specs.headline.Stands.{node}
+use Rattle.fv_loopcode.specs.headline.State.{list_at}
+use Rattle.fv_split_plan.specs.headline.View.{PlanView, lane_info, cells_info}
+use Rattle.fv_split_plan.specs.headline.Fits.{written_by}
+use Rattle.fv_split_plan.specs.headline.Plans.{PlanStands, PlanReads}
+use Rattle.fv_engine.specs.Made.{BeginAsTables}
 use Rattle.fv_engine_tasks.specs.headline.Block.{vectors_of}
 use Rattle.fv_engine.specs.Past.{past}
 
@@ -93,6 +99,27 @@ more_shapes p block n shapes s h e f long = subst (λ m. ShapesSoFar p block (m 
         (subst (λ k. IsLaneLength (lane_info p k).history block s.len) (sym h.long ∙ z) long)
   ];
 })
+
+-- ---- cells
+
+-- one more of the plan's cells has the items of its table
+pub more_lists : (p : PlanView) (n : ℕ) (lists : List (List ℤ)) (items : List ℤ) → BeginAsTables p n lists
+    → items ≡ list_at p.tables (cells_info p n).table → BeginAsTables p (n + 1) (lists ++ items ∷ [])
+more_lists p n lists items b e = record {
+  count = let q = length_push lists items in omega (arith, q, b.count);
+  each = λ k i. elim (cases_lt k n) [
+    | inl l ↦ get_or_append_left lists (items ∷ []) [] k (omega (arith, l, b.count)) ∙ b.each k l
+    | inr m ↦ let z : length lists ≡ k = omega (arith, i, m, b.count) in let y : n ≡ k = omega (arith, i, m) in
+        get_or_push lists items [] k z ∙ e ∙ ap (λ j. list_at p.tables (cells_info p j).table) y
+  ];
+}
+
+-- items of tables are what is written there before time 0
+pub begin_so : {g : Graph} {p : PlanView} (s : PlanStands g p) (c : ℕ → Stream) {lists : List (List ℤ)} → BeginAsTables p (length p.cells) lists
+    → (k : ℕ) → k < length p.cells → list_at lists k ≡ written_by g [] c (node g (s.names.cells k)) 0
+begin_so {g} {p} s c b k i =
+    let a = s.cells.are k i in
+    b.each k i ∙ ap (λ tables. list_at tables (cells_info p k).table) s.cells.tables ∙ sym (ap (λ (x : Signal). written_by g [] c x 0) a.3.is)
 
 -- ---- what the lists hold
 

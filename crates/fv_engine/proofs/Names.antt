@@ -20,3 +20,5 @@ module _ (held channels : ℕ) where
   names_within (step.Point op args ∷ ss) h i = All-cons Within (step.Point op args) ss tt (names_within ss h i)
   names_within (step.Load lane back max ∷ ss) h i = All-cons Within (step.Load lane back max) ss tt (names_within ss h i)
   names_within (step.Append lane value ∷ ss) h i = All-cons Within (step.Append lane value) ss tt (names_within ss h i)
+  names_within (step.Read table arg ∷ ss) h i = All-cons Within (step.Read table arg) ss tt (names_within ss h i)
+  names_within (step.Write cells args ∷ ss) h i = All-cons Within (step.Write cells args) ss tt (names_within ss h i)

@@ -32,9 +32,9 @@ module _ (e : EngineView) (h : Standing e) (n : ℕ) (input controls : List ℤ)
       behind : GoesBehind e n controls h.graph h.frames d
       behind = record { plan = h.plan.stands; names = names; given = given }
 
-  pub stands_on : (region : List ℤ) (starts : List ℕ) (output : List ℤ) → GoesOn e (with_state e region starts) n input controls output
-      → Standing (with_state e region starts)
-  stands_on region starts output goes = record {
+  pub stands_on : (region : List ℤ) (starts : List ℕ) (cells : List (List ℤ)) (output : List ℤ)
+      → GoesOn e (with_state e region starts cells) n input controls output → Standing (with_state e region starts cells)
+  stands_on region starts cells output goes = record {
     graph = h.graph;
     plan = h.plan;
     frames = heard e h.frames n input;

@@ -22,9 +22,10 @@ pub opening_long : (lengths : List ℕ) (shapes : List LaneShape) (states : List
 opening_long lengths shapes states frames cells =
     length_table (length lengths) (λ i. record { history = history_at shapes i; items = held_at lengths states (history_at shapes i) i cells; room = frames })
 
--- the opening state, as many opening lanes as the block has, and no lines
+-- the opening state, as many opening lanes and cells as the block has, and no lines
 pub record IsOpening (g : Tasks) (b : Block) (first : State) (s : Now) (now : State) (lines : List Line) : Type 0 where
   pub long : length first.lanes ≡ b.plan.lanes
+  pub cells : length first.cells ≡ b.plan.cells
   pub state : s ≡ opening (net_of g) 1
   pub places_are : now ≡ first
   pub none : lines ≡ []
@@ -34,7 +35,7 @@ pub starts : {g : Tasks} {b : Block} {first : State} {s : Now} {now : State} {li
     → IsUnderway g b first s now lines
 starts {g} {b} {first} {s} {now} {lines} o =
     subst (λ x. IsUnderway g b first x now lines) (sym o.state) (subst (λ y. IsUnderway g b first (opening (net_of g) 1) y lines) (sym o.places_are)
-    (subst (λ z. IsUnderway g b first (opening (net_of g) 1) first z) (sym o.none) (opens g b first o.long)))
+    (subst (λ z. IsUnderway g b first (opening (net_of g) 1) first z) (sym o.none) (opens g b first o.long o.cells)))
 
 -- where each lane's list is its history and so many samples, no lane takes one more
 pub are_full : (s : Solo) (frames : ℕ) → IsSolo s → frames_in s ≡ frames

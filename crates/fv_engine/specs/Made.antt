@@ -1,5 +1,5 @@
 -- What an engine is made of.
-use Rattle.std.specs.Prelude.{◌≡◌, ℕ, ◌<◌, List, length, take}
+use Rattle.std.specs.Prelude.{◌≡◌, ℕ, ◌<◌, List, length, take, ℤ}
 use Rattle.fv_num.specs.headline.Frames.{Stream}
 use Rattle.fv_outside.specs.headline.Tasks.{reads_loop}
 use Rattle.fv_graph.specs.Graph.{Graph}
@@ -10,7 +10,9 @@ use Rattle.fv_lines.specs.Hold.{from_start}
 use Rattle.fv_lines.specs.Shape.{IsLaneLength}
 use Rattle.fv_lines.specs.Solo.{history_at, block_at, len_at, start_at}
 use Rattle.fv_lines.specs.declared.shape.LaneShape.{LaneShape}
-use Rattle.fv_split_plan.specs.headline.View.{PlanView, lane_info}
+use Rattle.fv_loopcode.specs.headline.State.{list_at}
+use Rattle.fv_split_plan.specs.headline.View.{PlanView, lane_info, cells_info}
+use Rattle.fv_split_plan.specs.Rows.{lists_of}
 use Rattle.fv_engine_tasks.specs.Jobs.{RegistersFit}
 use Rattle.fv_engine_parcels.specs.Contents.{parts_of}
 use Rattle.fv_engine.specs.Past.{past}
@@ -30,12 +32,18 @@ pub record AreTasksOf (p : PlanView) (most : ℕ) (t : Graph) : Type 0 where
   pub pairs : (j i : ℕ) → reads_loop t.tasks.reads j i ≡ reads_loop p.reads j i
   pub most_are : t.most ≡ most
 
--- the lanes of a plan, which hold the past of any stream before time 0
+-- the first n of a plan's cells have the items of their tables
+pub record BeginAsTables (p : PlanView) (n : ℕ) (lists : List (List ℤ)) : Type 0 where
+  pub count : length lists ≡ n
+  pub each : (k : ℕ) → k < n → list_at lists k ≡ list_at p.tables (cells_info p k).table
+
+-- the lanes of a plan, which hold the past of any stream before time 0, and its cells, which begin as their tables
 pub record AreLanes (p : PlanView) (block : ℕ) (lanes : Lanes) : Type 0 where
   pub shapes : AreShapes p block lanes.shapes.items
   pub blank : (l : ℕ) → l < length p.lanes → (v : Stream) →
       take (lane_info p l).history (from_start (start_at lanes.states.items l) (part (lengths_of lanes.layout) l (cells_of lanes.region)))
       ≡ past (lane_info p l).history v 0
+  pub lists : BeginAsTables p (length p.cells) (lists_of lanes.lists.items)
 
 -- what runs the tasks of a plan, for so many vectors
 pub record IsRunner (p : PlanView) (most : ℕ) (r : TaskRunner) : Type 0 where

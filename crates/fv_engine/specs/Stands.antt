@@ -5,17 +5,18 @@ use Rattle.fv_num.specs.headline.Words.{argument}
 use Rattle.fv_num.specs.headline.Frames.{Frame, Stream, table, rows}
 use Rattle.fv_signal.specs.headline.Value.{Graph, value}
 use Rattle.fv_loopcode.specs.headline.Lanes.{lane_of}
-use Rattle.fv_loopcode.specs.headline.State.{State}
+use Rattle.fv_loopcode.specs.headline.State.{State, list_at}
 use Rattle.fv_pool.specs.Layout.{part}
 use Rattle.fv_lines.specs.Hold.{from_start}
 use Rattle.fv_lines.specs.Shape.{copied_history, IsLaneLength}
-use Rattle.fv_split_plan.specs.headline.Fits.{Names}
+use Rattle.fv_analysis.specs.headline.Stands.{node}
+use Rattle.fv_split_plan.specs.headline.Fits.{Names, written_by}
 use Rattle.fv_split_plan.specs.headline.View.{PlanView, lane_info}
 use Rattle.fv_split_plan.specs.headline.Plans.{PlanStands, IsPlanOf}
 use Rattle.fv_engine.specs.Past.{past}
 
--- What an engine keeps: its plan and sizes, the cells of its one region, the lengths of the lanes' parts there, and the cell of
--- its part where each lane's history starts.
+-- What an engine keeps: its plan and sizes, the memory of its one region, the lengths of the lanes' parts there, the place in its
+-- part where each lane's history starts, and the items of each of the plan's cells.
 pub record EngineView : Type 0 where
   pub plan : PlanView
   pub channels : ℕ
@@ -25,6 +26,7 @@ pub record EngineView : Type 0 where
   pub region : List ℤ
   pub lengths : List ℕ
   pub starts : List ℕ
+  pub cells : List (List ℤ)
 
 -- Each lane has a part, of the length for its history and a block of so many frames.
 pub record HaveLengths (p : PlanView) (block : ℕ) (lengths : List ℕ) : Type 0 where
@@ -40,9 +42,11 @@ StartsIn h n start = (h ≤ copied_history → start + h ≤ n) × (copied_histo
 abbrev pub history_in : EngineView → ℕ → List ℤ
 history_in e l = take (lane_info e.plan l).history (from_start (slice_index e.starts l) (part e.lengths l e.region))
 
--- What the region holds of each lane is what its signal was at the latest samples of X.
+-- What the region holds of each lane is what its signal was at the latest samples of X, and the items of cells are what their table
+-- has become after all its writes there.
 pub record StandsFor (e : EngineView) (g : Graph) (names : Names) (X : List Frame) (c : ℕ → Stream) : Type 0 where
   pub histories : (l : ℕ) → l < length e.plan.lanes → history_in e l ≡ past (lane_info e.plan l).history (value g (names.lane l) X c) (length X)
+  pub cells : (k : ℕ) → k < length e.plan.cells → list_at e.cells k ≡ written_by g X c (node g (names.cells k)) (length X)
 
 -- the outputs' values at n times from t on
 abbrev pub played : Graph → (X : List Frame) → (c : ℕ → Stream) → (t n : ℕ) → List Frame
@@ -78,17 +82,21 @@ pub record Standing (e : EngineView) : Type 0 where
   pub controls : ℕ → Stream
   pub stands : StandsFor e graph plan.stands.names frames controls
 
--- the lanes as a block of n frames begins: the histories that the region holds, and room for the block
+-- the places as a block of n frames begins: the histories that the region holds, with room for the block, the plan's tables, and the
+-- items of the cells
 pub record AreBegun (e : EngineView) (n : ℕ) (s : State) : Type 0 where
   pub count : length s.lanes ≡ length e.plan.lanes
   pub histories : (l : ℕ) → l < length e.plan.lanes → (lane_of s.lanes l).history ≡ (lane_info e.plan l).history
   pub items : (l : ℕ) → l < length e.plan.lanes → (lane_of s.lanes l).items ≡ history_in e l
   pub room : (l : ℕ) → l < length e.plan.lanes → n ≤ (lane_of s.lanes l).room
+  pub tables : s.tables ≡ e.plan.tables
+  pub cells : s.cells ≡ e.cells
 
--- the lanes as it ends: what the region then holds of each is what lies behind so many samples
+-- the places as it ends: what the region then holds of each lane is what lies behind so many samples, and the cells have their items
 pub record AreEnded (e : EngineView) (n : ℕ) (s : State) : Type 0 where
   pub items : (l : ℕ) → l < length e.plan.lanes → history_in e l ≡ drop n (lane_of s.lanes l).items
+  pub cells : s.cells ≡ e.cells
 
 -- the plan and the sizes stay
 abbrev pub SameParts : (old new : EngineView) → Type 0
-SameParts old new = new ≡ record old { region = new.region; starts = new.starts }
+SameParts old new = new ≡ record old { region = new.region; starts = new.starts; cells = new.cells }

@@ -6,6 +6,7 @@ use Rattle.fv_pool.specs.Region.{cells_of}
 use Rattle.fv_pool.specs.Lengths.{lengths_of}
 use Rattle.fv_lines.specs.declared.shape.LaneState.{LaneState}
 use Rattle.fv_split_plan.specs.headline.View.{PlanView, code_of}
+use Rattle.fv_split_plan.specs.Rows.{lists_of}
 use Rattle.fv_engine_tasks.specs.headline.Block.{vectors_of}
 use Rattle.fv_engine_tasks.specs.Jobs.{RegistersFit}
 use Rattle.fv_engine_parcels.specs.Contents.{parts_of}
@@ -25,6 +26,7 @@ view_of e = record {
   region = cells_of e.lanes.region;
   lengths = lengths_of e.lanes.layout;
   starts = map (λ (s : LaneState). s.start) e.lanes.states.items;
+  cells = lists_of e.lanes.lists.items;
 }
 
 -- the sizes are within their limits, and the plan names only channels that are there
@@ -37,11 +39,12 @@ pub record HasSizes (p : PlanView) (channels block vector : ℕ) : Type 0 where
   pub channels_high : channels ≤ MOST_CHANNELS
   pub inputs : (j i : ℕ) → NamesInput (code_of p j) i → i < channels
 
--- all of it: the lanes have the plan's shapes, the tasks are of its loops, as are a crew's codes, and the engine stands for some
--- frames
+-- all of it: the lanes have the plan's shapes, there is a list for each of its cells, the tasks are of its loops, as are a crew's
+-- codes, and the engine stands for some frames
 pub record IsStored (e : Inside) : Type 0 where
   pub sizes : HasSizes e.plan e.sizes.channels e.sizes.block e.sizes.vector
   pub shapes : AreShapes e.plan e.sizes.block e.lanes.shapes.items
+  pub lists : length e.lanes.lists.items ≡ length e.plan.cells
   pub tasks_are : AreTasksOf e.plan (vectors_of e.sizes.block e.sizes.vector) e.runner.tasks
   pub registers : RegistersFit (parts_of e.plan) (length e.runner.regs.items)
   pub held_long : length e.held.items ≡ length e.plan.held

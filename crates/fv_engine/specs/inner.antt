@@ -1,3 +1,4 @@
 pub mod OneLane
+pub mod Kept
 pub mod Opening
 pub mod Plans

@@ -5,7 +5,7 @@ ghost use Rattle.fv_engine_codes.specs.Codes.{AreOfPlan};
 ghost use Rattle.fv_engine.specs.Crews.{IsCrewOf};
 
 use crate::crew_codes::CrewCodes;
-use fv_engine_codes::{lane_counts, local_codes};
+use fv_engine_codes::{lane_counts, local_codes, place_cells};
 use fv_graph::Tasks;
 use fv_split_plan::Plan;
 use std::alloc::{AllocError, Global};
@@ -26,9 +26,11 @@ pub(crate) fn crew_for(
     }
     let codes = local_codes(alloc, plan, tasks)?;
     let counts = lane_counts(alloc, plan, tasks)?;
+    let cells = place_cells(alloc, plan)?;
     Ok(Some(CrewCodes {
         codes,
         counts,
+        cells,
         workers,
     }))
 }

@@ -41,7 +41,7 @@ pub struct BlockReport {
     pub alone: bool,
 }
 
-/// A plan that runs, block by block. All its lanes lie in one region.
+/// A plan that runs, block by block. All its lanes lie in one region, and each of its cells has a list.
 #[derive(Drop)]
 pub struct Engine {
     plan: Plan,

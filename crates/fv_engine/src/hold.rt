@@ -1,27 +1,27 @@
 // The held values of a block.
 
-ghost use Rattle.std.specs.Prelude.{◌≡◌, ℕ, ◌<◌, length};
+ghost use Rattle.std.specs.Prelude.{◌≡◌, ℕ, ◌<◌, length, All};
 ghost use Rattle.fv_loopcode.specs.headline.Code.{NamesHeld};
-ghost use Rattle.fv_split_plan.specs.headline.Plans.{IsHeldCode};
+ghost use Rattle.fv_split_plan.specs.headline.Plans.{IsHeldCode, LoadsWithin};
 ghost use Rattle.fv_engine.specs.inner.Plans.{held_by};
 
+use fv_lines::item;
 use fv_loopcode::{Store, still_code_is_free};
 use fv_loopcode_machine::run;
 use fv_split_plan::Plan;
 
-// One lane of one sample. The code of held values neither loads nor appends, so nobody looks at it.
+// The tables of a plan, and one lane of one sample. The code of held values neither loads, appends nor writes, so nobody looks at the lane.
 #[derive(Drop)]
-struct OneSample {
+struct OneSample<'p> {
+    plan: &'p Plan,
     sample: i32,
     is_written: bool,
 }
 
-impl Store for OneSample {
-    ghost use Rattle.std.specs.Prelude.{[], ◌∷◌};
-    ghost use Rattle.fv_loopcode.specs.headline.State.{lanes_alone};
-    ghost use Rattle.fv_engine.specs.inner.OneLane.{lane_with};
+impl Store for OneSample<'_> {
+    ghost use Rattle.fv_engine.specs.inner.OneLane.{one_lane};
 
-    ghost state = { λ s. lanes_alone (lane_with s.is_written s.sample ∷ []) };
+    ghost state = { λ s. one_lane s.plan.now.tables s.is_written s.sample };
 
     ghost rest = { λ _. tt };
 
@@ -37,17 +37,28 @@ impl Store for OneSample {
         self.sample = value;
         self.is_written = true;
     }
+
+    fn read(&self, table: u64, index: i32) -> i32 {
+        item(self.plan.table(table), index)
+    }
+
+    // There are no cells.
+    fn exchange(&mut self, _cells: u64, _w: i32, _x: i32, _r: i32) -> i32 {
+        unreachable!()
+    }
 }
 
 /// The held values that these controls give.
 pub(crate) fn hold(plan: &Plan, controls: &[i32], held: &mut [i32])
     requires long { length held.old ≡ length plan.now.held }
     requires code { IsHeldCode plan.now.held }
+    requires reads { All (LoadsWithin plan.now) plan.now.held }
     requires controls { (k : ℕ) → NamesHeld plan.now.held k → k < length controls.now }
     ensures { held.new ≡ held_by plan.now controls.now }
 {
     still_code_is_free();
     let mut store = OneSample {
+        plan,
         sample: 0,
         is_written: false,
     };

@@ -1,4 +1,4 @@
-// The lanes of an engine.
+// The lanes and the cells of an engine.
 
 ghost use Rattle.fv_pool.specs.Lengths.{lengths_of};
 ghost use Rattle.fv_pool.specs.Region.{cells_of};
@@ -13,13 +13,14 @@ use fv_engine_tasks::{Codes, Job};
 use fv_lines::{LaneShape, LaneState};
 use fv_outside::Gate;
 use fv_pool::{Layout, Region};
+use fv_split_plan::Plan;
 use std::alloc::Global;
 use std::marker::Sync;
 use std::sync::Wait;
 use std::thread::Threads;
 
 /// The lanes: the region that they lie in, where each of them lies, its shape and where its history starts, and by lane how many
-/// samples of the block are written.
+/// samples of the block are written. Beside them a list for each of the plan's cells.
 #[derive(Drop)]
 pub(crate) struct Lanes {
     pub(crate) region: Region,
@@ -27,7 +28,8 @@ pub(crate) struct Lanes {
     pub(crate) shapes: Vec<LaneShape>,
     pub(crate) states: Vec<LaneState>,
     pub(crate) written: Vec<u32>,
-    ghost lists: { AreLists (lengths_of layout) shapes.items states.items written.items (cells_of region) },
+    pub(crate) lists: Vec<Vec<i32>>,
+    ghost entries: { AreLists (lengths_of layout) shapes.items states.items written.items (cells_of region) },
     ghost held: { AreHeld (lengths_of layout) shapes.items states.items },
 }
 
@@ -50,12 +52,12 @@ impl Lanes {
         output: &mut [i32],
         gate: &G,
     ) -> bool
-        requires may { MayRun (block_of (λ p. parts_of p.plan.now) job.now) self.old runner.old }
+        requires may { MayRun (block_of (λ p. parts_of p.plan.now) job.now) job.now.plan.now.plan.now.tables self.old runner.old }
         requires crew { IfSome crew.now (λ c. IsCrewOf job.now.plan.now.plan.now runner.old.tasks.tasks c) }
         requires there { All (λ l. l < length job.now.plan.now.plan.now.lanes) job.now.plan.now.plan.now.outputs }
         requires output { length output.old ≡ job.now.frames * length job.now.plan.now.plan.now.outputs }
-        ensures ran { RanOver runner.old.tasks.tasks (block_of (λ p. parts_of p.plan.now) job.now) self.old self.new runner.new.lines.items
-            job.now.plan.now.plan.now.outputs output.new }
+        ensures ran { RanOver runner.old.tasks.tasks (block_of (λ p. parts_of p.plan.now) job.now) job.now.plan.now.plan.now.tables self.old self.new
+            runner.new.lines.items job.now.plan.now.plan.now.outputs output.new }
         ensures lanes { AreSameLanes self.old self.new }
         ensures runner { IsSameRunner runner.old runner.new }
     {
@@ -63,11 +65,11 @@ impl Lanes {
         if spread {
             return true;
         }
-        self.run_alone(job, job.plan.plan.outputs(), runner, output, gate);
+        self.run_alone(job, job.plan.plan, runner, output, gate);
         false
     }
 
-    // By several workers. Where it is false no task ran, and each lane has the history that it had.
+    // By several workers. Where it is false no task ran, and each lane has the history that it had, and each cells its items.
     fn run_spread<R: Threads + Wait + Sync, G: Gate + Sync>(
         &mut self,
         rt: &R,
@@ -78,13 +80,14 @@ impl Lanes {
         output: &mut [i32],
         gate: &G,
     ) -> bool
-        requires may { MayRun (block_of (λ p. parts_of p.plan.now) job.now) self.old runner.old }
+        requires may { MayRun (block_of (λ p. parts_of p.plan.now) job.now) job.now.plan.now.plan.now.tables self.old runner.old }
         requires crew { IfSome crew.now (λ c. IsCrewOf job.now.plan.now.plan.now runner.old.tasks.tasks c) }
         requires there { All (λ l. l < length job.now.plan.now.plan.now.lanes) job.now.plan.now.plan.now.outputs }
         requires output { length output.old ≡ job.now.frames * length job.now.plan.now.plan.now.outputs }
-        ensures ran { result ≡ true → RanOver runner.old.tasks.tasks (block_of (λ p. parts_of p.plan.now) job.now) self.old self.new
-            runner.new.lines.items job.now.plan.now.plan.now.outputs output.new }
-        ensures left { result ≡ false → opening_of self.new job.now.frames ≡ opening_of self.old job.now.frames }
+        ensures ran { result ≡ true → RanOver runner.old.tasks.tasks (block_of (λ p. parts_of p.plan.now) job.now) job.now.plan.now.plan.now.tables
+            self.old self.new runner.new.lines.items job.now.plan.now.plan.now.outputs output.new }
+        ensures left { result ≡ false → let tables = job.now.plan.now.plan.now.tables in
+            opening_of tables self.new job.now.frames ≡ opening_of tables self.old job.now.frames }
         ensures untold { result ≡ false → runner.new.lines.items ≡ [] }
         ensures lanes { AreSameLanes self.old self.new }
         ensures runner { IsSameRunner runner.old runner.new }
@@ -99,6 +102,7 @@ impl Lanes {
             tasks: &runner.tasks,
             codes: &crew.codes,
             counts: &crew.counts,
+            cells: &crew.cells,
             shapes: &self.shapes,
             held: job.held,
             input: job.input,
@@ -113,6 +117,7 @@ impl Lanes {
             &block,
             self.region.cells(),
             &mut self.states,
+            &mut self.lists,
             &mut runner.lines,
             output,
             gate,
@@ -123,26 +128,28 @@ impl Lanes {
     fn run_alone<P: Codes, G: Gate>(
         &mut self,
         job: &Job<'_, '_, '_, P>,
-        outputs: &[u64],
+        plan: &Plan,
         runner: &mut TaskRunner,
         output: &mut [i32],
         gate: &G,
     )
-        requires may { MayRun (block_of P.parts job.now) self.old runner.old }
-        requires there { All (λ l. l < (P.parts job.now.plan.now).lanes) outputs.now }
-        requires output { length output.old ≡ job.now.frames * length outputs.now }
-        ensures ran { RanOver runner.old.tasks.tasks (block_of P.parts job.now) self.old self.new runner.new.lines.items outputs.now output.new }
+        requires may { MayRun (block_of P.parts job.now) plan.now.tables self.old runner.old }
+        requires there { All (λ l. l < (P.parts job.now.plan.now).lanes) plan.now.outputs }
+        requires output { length output.old ≡ job.now.frames * length plan.now.outputs }
+        ensures ran { RanOver runner.old.tasks.tasks (block_of P.parts job.now) plan.now.tables self.old self.new runner.new.lines.items
+            plan.now.outputs output.new }
         ensures lanes { AreSameLanes self.old self.new }
         ensures runner { IsSameRunner runner.old runner.new }
     {
         over(
             job,
-            outputs,
+            plan,
             self.region.cells(),
             &self.layout,
             &self.shapes,
             &mut self.states,
             &mut self.written,
+            &mut self.lists,
             runner,
             output,
             gate,

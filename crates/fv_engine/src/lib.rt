@@ -1,11 +1,13 @@
 //! The engine: blocks of a plan, by one worker or by several, over one region.
 #![tactic(auto)]
 
+mod alone;
 mod crew;
 mod crew_codes;
 mod engine;
 mod error;
 mod hold;
+mod kept;
 mod lanes;
 mod laws;
 mod make;

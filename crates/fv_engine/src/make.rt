@@ -3,11 +3,12 @@
 ghost use Rattle.std.specs.Prelude.{◌≡◌, ℕ, ◌^◌, ◌<◌, ◌≤◌, true, IfOk, length, map, sum};
 ghost use Rattle.fv_base.specs.declared.limits.TheConstants.{DELAY_BUDGET, MOST_BLOCK};
 ghost use Rattle.fv_lines.specs.declared.shape.LaneShape.{LaneShape as Shape};
-ghost use Rattle.fv_split_plan.specs.headline.View.{lane_info};
+ghost use Rattle.fv_split_plan.specs.headline.View.{lane_info, cells_info};
+ghost use Rattle.fv_split_plan.specs.Rows.{lists_of};
 ghost use Rattle.fv_engine_tasks.specs.headline.Block.{vectors_of};
 ghost use Rattle.fv_engine_tasks.specs.Jobs.{RegistersFit};
 ghost use Rattle.fv_engine_parcels.specs.Contents.{parts_of};
-ghost use Rattle.fv_engine.specs.Made.{AreShapes, AreLanes, IsRunner};
+ghost use Rattle.fv_engine.specs.Made.{AreShapes, AreLanes, BeginAsTables, IsRunner};
 
 use crate::lanes::Lanes;
 use crate::runner::TaskRunner;
@@ -78,10 +79,26 @@ pub(crate) fn most_steps(plan: &Plan) -> u64
     most
 }
 
-/// The lanes of a plan, which hold zeros.
+/// The lists of a plan's cells, each as its table has it.
+pub(crate) fn first_lists(alloc: Global, plan: &Plan) -> Result<Vec<Vec<i32>>, AllocError>
+    requires { (k : ℕ) → k < length plan.now.cells → (cells_info plan.now k).table < length plan.now.tables }
+    ensures { IfOk result (λ v. BeginAsTables plan.now (length plan.now.cells) (lists_of v.items)) }
+{
+    let cells = plan.cells();
+    let mut lists = Vec::new(alloc);
+    for i in 0..cells.len() {
+        let mut list = Vec::new(alloc);
+        list.extend_from_slice(plan.table(cells[i].table))?;
+        lists.push(list)?;
+    }
+    Ok(lists)
+}
+
+/// The lanes of a plan, which hold zeros, and the lists of its cells.
 pub(crate) fn blank_lanes(alloc: Global, plan: &Plan, block: u32) -> Result<Lanes, AllocError>
     requires block { (1 ≤ block) × (block ≤ MOST_BLOCK) }
     requires histories { (l : ℕ) → l < length plan.now.lanes → (lane_info plan.now l).history ≤ DELAY_BUDGET }
+    requires tables { (k : ℕ) → k < length plan.now.cells → (cells_info plan.now k).table < length plan.now.tables }
     ensures { IfOk result (λ lanes. AreLanes plan.now block lanes) }
 {
     let shapes = shapes(alloc, plan, block)?;
@@ -93,12 +110,14 @@ pub(crate) fn blank_lanes(alloc: Global, plan: &Plan, block: u32) -> Result<Lane
     let region = Region::new(alloc, layout.total())?;
     let states = Vec::from_elem(alloc, LaneState { start: 0 }, shapes.len())?;
     let written = Vec::from_elem(alloc, 0, shapes.len())?;
+    let lists = first_lists(alloc, plan)?;
     Ok(Lanes {
         region,
         layout,
         shapes,
         states,
         written,
+        lists,
     })
 }
 

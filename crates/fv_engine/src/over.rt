@@ -1,29 +1,32 @@
 // A block's tasks over the cells of a region. It takes plain loans, since of these a caller knows what they end with.
 
 ghost use Rattle.std.specs.Prelude.{◌≡◌, ℕ, ◌*◌, ◌<◌, length, [], All};
-ghost use Rattle.fv_loopcode.specs.headline.State.{lanes_alone};
 ghost use Rattle.fv_pool.specs.Lengths.{lengths_of};
-ghost use Rattle.fv_lines.specs.Solo.{AreLists, AreHeld, AreFramed, opening_lanes};
+ghost use Rattle.fv_lines.specs.Solo.{AreLists, AreHeld, AreFramed};
 ghost use Rattle.fv_engine_tasks.specs.Block.{IsReal};
 ghost use Rattle.fv_engine_tasks.specs.Jobs.{IsJob, block_of, RegistersFit};
 ghost use Rattle.fv_engine_crew.specs.Ran.{Ran};
-ghost use Rattle.fv_engine.specs.inner.Opening.{IsSameRunner};
+ghost use Rattle.fv_engine.specs.inner.Opening.{opening_over, IsSameRunner};
 
+use crate::alone::alone;
 use crate::runner::TaskRunner;
-use fv_engine_tasks::{Codes, Job, copy_outputs, run_tasks};
+use fv_engine_tasks::{Codes, Job};
 use fv_lines::{LaneShape, LaneState, Solo};
 use fv_outside::Gate;
 use fv_pool::Layout;
+use fv_split_plan::Plan;
 
-/// Runs a block's tasks over the lanes in these cells, one after another, and copies the lanes of the outputs.
+/// Runs a block's tasks over the lanes in these cells, the plan's tables and these lists of its cells, one after another, and copies
+/// the lanes of the outputs.
 pub(crate) fn over<P: Codes, G: Gate>(
     job: &Job<'_, '_, '_, P>,
-    outputs: &[u64],
+    plan: &Plan,
     cells: &mut [i32],
     layout: &Layout,
     shapes: &[LaneShape],
     states: &mut [LaneState],
     written: &mut [u32],
+    lists: &mut [Vec<i32>],
     runner: &mut TaskRunner,
     output: &mut [i32],
     gate: &G,
@@ -32,31 +35,22 @@ pub(crate) fn over<P: Codes, G: Gate>(
     requires lanes { AreHeld (lengths_of layout.now) shapes.now states.old }
     requires framed { AreFramed (lengths_of layout.now) shapes.now job.now.frames }
     requires count { length (lengths_of layout.now) ≡ (P.parts job.now.plan.now).lanes }
+    requires count_cells { length lists.old ≡ (P.parts job.now.plan.now).cells }
     requires job { IsJob (block_of P.parts job.now) runner.old.tasks.tasks }
     requires real { IsReal (block_of P.parts job.now)
-        (lanes_alone (opening_lanes (lengths_of layout.now) shapes.now states.old job.now.frames cells.old)) }
+        (opening_over plan.now.tables (lengths_of layout.now) shapes.now states.old job.now.frames cells.old lists.old) }
     requires regs { RegistersFit (P.parts job.now.plan.now) (length runner.old.regs.items) }
     requires lines { runner.old.lines.items ≡ [] }
-    requires there { All (λ l. l < (P.parts job.now.plan.now).lanes) outputs.now }
-    requires output { length output.old ≡ job.now.frames * length outputs.now }
+    requires there { All (λ l. l < (P.parts job.now.plan.now).lanes) plan.now.outputs }
+    requires output { length output.old ≡ job.now.frames * length plan.now.outputs }
     ensures ran { Ran runner.old.tasks.tasks (block_of P.parts job.now) (lengths_of layout.now) shapes.now
-        (lanes_alone (opening_lanes (lengths_of layout.now) shapes.now states.old job.now.frames cells.old))
-        cells.new states.new runner.new.lines.items outputs.now output.new }
+        (opening_over plan.now.tables (lengths_of layout.now) shapes.now states.old job.now.frames cells.old lists.old)
+        cells.new states.new lists.new runner.new.lines.items plan.now.outputs output.new }
     ensures lists { AreLists (lengths_of layout.now) shapes.now states.new written.new cells.new }
     ensures lanes { AreHeld (lengths_of layout.now) shapes.now states.new }
     ensures runner { IsSameRunner runner.old runner.new }
 {
-    runner.begin();
     let mut solo = Solo::begin(cells, layout, shapes, states, written, job.frames);
-    run_tasks(
-        job,
-        &runner.tasks,
-        &mut runner.core,
-        &mut runner.regs,
-        &mut runner.lines,
-        &mut solo,
-        gate,
-    );
-    copy_outputs(outputs, u64::from(job.frames), &solo, output);
+    alone(job, plan, &mut solo, lists, runner, output, gate);
     solo.finish();
 }

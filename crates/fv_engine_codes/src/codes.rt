@@ -9,6 +9,7 @@ use crate::numbers::number_lanes;
 use crate::owners::lanes_by_loop;
 use fv_engine_lanes::local_code;
 use fv_graph::Tasks;
+use fv_loopcode::Counts;
 use fv_loopcode_machine::Code;
 use fv_split_plan::Plan;
 use std::alloc::{AllocError, Global};
@@ -32,7 +33,12 @@ fn loop_code(
     let _loops = plan.loops();
     let _tasks = tasks.loops();
     let count = number_lanes(plan, tasks, lists, loop_no, places);
-    local_code(alloc, plan.code(loop_no), places, count)
+    let counts = Counts {
+        lanes: count,
+        tables: plan.tables(),
+        cells: plan.cells().len() as u64,
+    };
+    local_code(alloc, plan.code(loop_no), places, counts)
 }
 
 /// The code of each loop of a plan over the lanes that the loop sees: its own, in their order, and then those of the loops that it

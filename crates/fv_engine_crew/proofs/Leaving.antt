@@ -5,7 +5,7 @@ use Rattle.std.proofs.lemmas.List.{length-map}
 use Rattle.fv_outside.specs.Tasks.{task_count}
 use Rattle.fv_outside.specs.headline.Journal.{IsOrdered}
 use Rattle.fv_outside.specs.declared.gate.Line.{Line}
-use Rattle.fv_loopcode.specs.headline.State.{lanes_alone}
+use Rattle.fv_loopcode.specs.State.{lanes_alone}
 use Rattle.fv_lines.specs.Writer.{written_by, frames_of}
 use Rattle.fv_lines.specs.declared.shape.LaneState.{LaneState}
 use Rattle.fv_lines.specs.declared.writer.LaneWriter.{LaneWriter}

@@ -1,3 +1,4 @@
+pub mod CellsSet
 pub mod Renumbering
 pub mod Sound
 pub mod Writing

@@ -30,9 +30,9 @@ module _ (r : Roles) (f : Content) (place : ℕ → ℕ) (locals : List ℕ) (ow
   same_number l b t = ap (λ (m : ℕ). number_at f index m b) (p.back l t)
 
   -- which places were changed, by the new numbers
-  record Same (done new : Place → Bool) : Type 0 where
-    lanes : (k : ℕ) → k < own → new (OfLane k) ≡ done (OfLane (slice_index locals k))
-    cells : (k : ℕ) → new (OfCells k) ≡ done (OfCells k)
+  pub record Same (done new : Place → Bool) : Type 0 where
+    pub lanes : (k : ℕ) → k < own → new (OfLane k) ≡ done (OfLane (slice_index locals k))
+    pub cells : (k : ℕ) → new (OfCells k) ≡ done (OfCells k)
 
   appended_same : (done new : Place → Bool) (l : ℕ) → r.own (OfLane l) ≡ true → Same done new
       → Same (with_place (OfLane l) done) (with_place (OfLane (place l)) new)

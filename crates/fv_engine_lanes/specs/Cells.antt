@@ -9,6 +9,7 @@ use Rattle.fv_engine_lanes.specs.declared.loop_cells.LoopCells.{LoopCells}
 -- all cells have places in the lists of their loops, each its own: loop j has as many lists as stand at j
 pub record ArePlaced (p : PlanView) (places counts : List ℕ) : Type 0 where
   pub count : length places ≡ length p.cells
+  pub loops : length counts ≡ p.loops
   pub below : (k : ℕ) → k < length p.cells → slice_index places k < slice_index counts (cells_info p k).owner
   pub apart : (k m : ℕ) → k < length p.cells → m < length p.cells → (cells_info p k).owner ≡ (cells_info p m).owner
       → slice_index places k ≡ slice_index places m → k ≡ m

@@ -1,5 +1,5 @@
 -- The lanes, tables and cells of one loop, as its code sees them (this project's profile).
-use Rattle.std.specs.Prelude.{ℕ, ◌-◌, ◌++◌, List, map}
+use Rattle.std.specs.Prelude.{ℕ, ◌-◌, ◌++◌, List, length, map}
 use Rattle.std.specs.Global.{Vec}
 use base.Fml.{GName}
 use Rattle.fv_loopcode.specs.headline.Lanes.{Lane}
@@ -42,14 +42,15 @@ pub record WriterRest : Type 0 where
 abbrev pub rest_of_writer : LaneWriter → WriterRest
 rest_of_writer w = record { part = part_of w; outer = outer_of w; shape = shape_of w; frames = frames_of w }
 
--- what no write changes of the cells of a loop: the plan, the places and the loop
+-- what no write changes of the cells of a loop: the plan, the places, the loop, and how many lists there are
 pub record CellsRest : Type 0 where
   pub plan : PlanView
   pub places : CellPlaces
   pub loop_no : ℕ
+  pub count : ℕ
 
 abbrev pub rest_of_cells : LoopCells → CellsRest
-rest_of_cells s = record { plan = s.plan.now; places = s.places.now; loop_no = s.loop_no }
+rest_of_cells s = record { plan = s.plan.now; places = s.places.now; loop_no = s.loop_no; count = length s.lists.items }
 
 -- what no step changes of the lanes and cells of a loop
 pub record LanesRest : Type 0 where

@@ -1,8 +1,11 @@
 // The tables and cells of one loop.
 
+<<<<<<< HEAD
 ghost use Rattle.std.specs.Prelude.{◌≡◌, slice_set};
-ghost use Rattle.fv_num.specs.headline.Tables.{read_at};
-ghost use Rattle.fv_num.specs.Tables.{written};
+ghost use Rattle.fv_num.specs.headline.Tables.{read_at, written};
+=======
+ghost use Rattle.std.specs.Prelude.{◌≡◌, length, slice_set};
+>>>>>>> 472f2832b677ffd8d9934948974ce4aa72e83808
 ghost use Rattle.fv_loopcode.specs.headline.State.{list_at};
 ghost use Rattle.fv_loopcode.specs.Code.{HasItems};
 ghost use Rattle.fv_split_plan.specs.Rows.{lists_of};
@@ -55,6 +58,7 @@ impl<'b> LoopCells<'b> {
         ensures plan { self.new.plan ≡ self.old.plan }
         ensures places { self.new.places ≡ self.old.places }
         ensures loop_no { self.new.loop_no ≡ self.old.loop_no }
+        ensures count { length self.new.lists.items ≡ length self.old.lists.items }
     {
         exchange_in(&mut self.lists, self.places.places[cells as usize], w, x, r)
     }

@@ -1,16 +1,23 @@
--- That code may run, and that a lane holds its numbers, have at most one proof: so both follow from facts that are known to hold merely.
+-- That code may run, and that a place holds what it is to hold, have at most one proof: so both follow from facts that are known to hold
+-- merely.
 use Rattle.std.proofs.Common.{◌≡◌, ℕ, ◌+◌, ◌-◌, List, [], ◌∷◌, length, ℤ}
 use Rattle.std.specs.Prelude.{slice_index}
 use Rattle.std.specs.Coded.{×_prop, Unit-prop, le_prop}
 use Rattle.std.proofs.Math.Logic.{∥∥₁_elim}
 use Rattle.std.proofs.Math.Nat.{ℕ_set}
 use Rattle.std.proofs.Math.IntN.{ℤ_set}
+use lib.List.{List-set}
 use Rattle.fv_num.specs.headline.Words.{argument}
 use Rattle.fv_loopcode.specs.declared.step.Step.{Step}
 use Rattle.fv_loopcode.specs.declared.step.Step.TheVariants as step
 use Rattle.fv_loopcode.specs.headline.Lanes.{Lane, lane_of}
 use Rattle.fv_loopcode.specs.Lanes.{HasSample}
-use Rattle.fv_loopcode.specs.headline.State.{State, lanes_alone}
+<<<<<<< HEAD
+use Rattle.fv_loopcode.specs.headline.State.{State}
+use Rattle.fv_loopcode.specs.State.{lanes_alone}
+=======
+use Rattle.fv_loopcode.specs.headline.State.{State, list_at}
+>>>>>>> 472f2832b677ffd8d9934948974ce4aa72e83808
 use Rattle.fv_loopcode.specs.Obeys.{Content, Holds, HoldsJust}
 use Rattle.fv_loopcode.specs.headline.Code.{Pass, stepped, opening, ran}
 use Rattle.fv_loopcode.specs.Code.{MayStep, MayPass, MayRun, frame_of, IsWithin}
@@ -18,7 +25,7 @@ use Rattle.fv_engine_lanes.specs.Renumbered.{renumbered}
 use Rattle.fv_engine_parcels.specs.Contents.{IsRealStart}
 use Rattle.fv_engine_parcels.specs.inner.Turns.{locals, from, to, Known, Before, After}
 use Rattle.fv_engine_parcels.specs.declared.start.Start.{Start}
-use Rattle.fv_engine_parcels.proofs.Running.{Laws, may_run, own_after, after}
+use Rattle.fv_engine_parcels.proofs.Running.{Laws, may_run, own_after, cells_after, after}
 
 sample_prop : (lane : Lane) (index b : ℕ) (x y : HasSample lane index b) → x ≡ y
 sample_prop lane index b x y = λ i. record { not_before = le_prop x.not_before y.not_before i; written = le_prop x.written y.written i }
@@ -30,6 +37,8 @@ step_prop state index register (step.Input i) = Unit-prop
 step_prop state index register (step.Point op args) = Unit-prop
 step_prop state index register (step.Load lane back max) = ×_prop le_prop (sample_prop _ index _)
 step_prop state index register (step.Append lane value) = ×_prop le_prop le_prop
+step_prop state index register (step.Read table arg) = ×_prop le_prop le_prop
+step_prop state index register (step.Write cells args) = ×_prop le_prop le_prop
 
 pass_prop : (held input : ℕ → ℤ) (index : ℕ) (p : Pass) (ss : List Step) (x y : MayPass held input index p ss) → x ≡ y
 pass_prop held input index p [] = Unit-prop
@@ -40,14 +49,14 @@ pub run_prop : (steps : List Step) (held : ℕ → ℤ) (inputs : ℕ → ℕ �
 run_prop steps held inputs start count state x y =
     λ i n m. pass_prop held (inputs (start + n)) (start + n) (opening (ran steps held inputs start n state)) steps (x n m) (y n m) i
 
--- where there merely are such numbers, the code may run
-pub may_run_merely : (laws : Laws) (k : Start) (j v : ℕ) → ∥ IsRealStart k ∥₁ → (code : List Step) (lanes : List Lane)
-    → ∥ Known k j v code ∥₁ → Before k j v lanes
-    → MayRun code (argument k.held.now) (frame_of k.input.now k.channels) (from k j v) (to k j v - from k j v) (lanes_alone lanes)
-may_run_merely laws k j v real code lanes known before =
-    ∥∥₁_elim real (run_prop code (argument k.held.now) (frame_of k.input.now k.channels) (from k j v) (to k j v - from k j v) (lanes_alone lanes)) (λ r.
-    ∥∥₁_elim known (run_prop code (argument k.held.now) (frame_of k.input.now k.channels) (from k j v) (to k j v - from k j v) (lanes_alone lanes)) (λ n.
-    may_run laws k j v r.content (record { obeys = r.obeys; begins = r.begins }) code lanes n before))
+-- where there merely is such a content, the code may run
+pub may_run_merely : (laws : Laws) (k : Start) (j v : ℕ) → ∥ IsRealStart k ∥₁ → (code : List Step) (state : State)
+    → ∥ Known k j v code ∥₁ → Before k j v state
+    → MayRun code (argument k.held.now) (frame_of k.input.now k.channels) (from k j v) (to k j v - from k j v) state
+may_run_merely laws k j v real code state known before =
+    ∥∥₁_elim real (run_prop code (argument k.held.now) (frame_of k.input.now k.channels) (from k j v) (to k j v - from k j v) state) (λ r.
+    ∥∥₁_elim known (run_prop code (argument k.held.now) (frame_of k.input.now k.channels) (from k j v) (to k j v - from k j v) state) (λ n.
+    may_run laws k j v r.content (record { obeys = r.obeys; begins = r.begins }) code state n before))
 
 holds_prop : (f : Content) (l n : ℕ) (lane : Lane) (x y : Holds f l n lane) → x ≡ y
 holds_prop f l n lane x y = λ i. record {
@@ -63,12 +72,20 @@ just_prop f l n m lane x y = λ i. record {
   room = le_prop x.room y.room i;
 }
 
--- where there merely is such code, its own lanes hold their values after it
-pub own_after_merely : (laws : Laws) (k : Start) (j v : ℕ) (code : List Step) (lanes : List Lane) → ∥ Known k j v code ∥₁ → Before k j v lanes
-    → After k j v (after laws k j v code lanes).lanes
-own_after_merely laws k j v code lanes known before = λ f c i m.
-    ∥∥₁_elim known (just_prop f (slice_index (locals k j v) i) (to k j v) (k.frames - to k j v) (lane_of (after laws k j v code lanes).lanes i))
-    (λ n. own_after laws k j v f c code lanes n before i m)
+list_prop : (xs ys : List ℤ) (x y : xs ≡ ys) → x ≡ y
+list_prop xs ys = List-set ℤ_set xs ys
+
+-- where there merely is such code, the loop's own places hold theirs after it
+pub own_after_merely : (laws : Laws) (k : Start) (j v : ℕ) (code : List Step) (state : State) → ∥ Known k j v code ∥₁ → Before k j v state
+    → After k j v (after laws k j v code state)
+own_after_merely laws k j v code state known before = record {
+  mine = λ f c i m.
+      ∥∥₁_elim known (just_prop f (slice_index (locals k j v) i) (to k j v) (k.frames - to k j v) (lane_of (after laws k j v code state).lanes i))
+      (λ n. own_after laws k j v f c code state n before i m);
+  cells = λ f c i l e.
+      ∥∥₁_elim known (list_prop (list_at (after laws k j v code state).cells i) (f.cells i (to k j v)))
+      (λ n. cells_after laws k j v f c code state n before i l e);
+}
 
 pub within_prop : (held channels : ℕ) (s : Step) (x y : IsWithin held channels s) → x ≡ y
 within_prop held channels (step.Number n) = Unit-prop
@@ -77,6 +94,8 @@ within_prop held channels (step.Input k) = le_prop
 within_prop held channels (step.Point op args) = Unit-prop
 within_prop held channels (step.Load lane back max) = Unit-prop
 within_prop held channels (step.Append lane value) = Unit-prop
+within_prop held channels (step.Read table arg) = Unit-prop
+within_prop held channels (step.Write cells args) = Unit-prop
 
 -- a new number of its lane changes nothing of what a step reads
 pub within_renumbered : (held channels : ℕ) (place : ℕ → ℕ) (s : Step) → IsWithin held channels s → IsWithin held channels (renumbered place s)
@@ -86,3 +105,5 @@ within_renumbered held channels place (step.Input k) w = w
 within_renumbered held channels place (step.Point op args) w = w
 within_renumbered held channels place (step.Load lane back max) w = w
 within_renumbered held channels place (step.Append lane value) w = w
+within_renumbered held channels place (step.Read table arg) w = w
+within_renumbered held channels place (step.Write cells args) w = w

@@ -1,27 +1,32 @@
--- The lanes of a task, between the parcels that it takes and those that it leaves.
+-- The lanes and cells of a task, between the parcels that it takes and those that it leaves.
 use Rattle.std.proofs.Common.{◌≡◌, ℕ, suc, ◌+◌, ◌-◌, ◌*◌, ◌<◌, ◌≤◌, List, ◌++◌, length, map, get_or, sym, ap, ◌∙◌, subst, refl, arith, min, inl, inr}
 use Rattle.std.specs.Prelude.{slice_index}
 use Rattle.std.proofs.Math.Logic.{∥∥₁_elim}
 use Rattle.std.proofs.lemmas.Bool.{cases_lt}
 use Rattle.std.proofs.lemmas.List.{length-append, length-map, get_or_append_left, get_or-append_right, get_or-map}
 use Rattle.std.proofs.Math.Nat.{min-eq_left, min-eq_right, min-le_right, suc-mul, ℕ_set}
+use Rattle.fv_base.proofs.Lists.{length_table}
 use Rattle.fv_loopcode.specs.headline.Lanes.{Lane, lane_of, no_lane}
+use Rattle.fv_split_plan.specs.headline.View.{PlanView}
 use Rattle.fv_loopcode.specs.Obeys.{Content, Holds, HoldsJust}
 use Rattle.fv_lines.specs.Seen.{lane_seen}
 use Rattle.fv_lines.specs.Writer.{written_by, shape_of}
 use Rattle.fv_lines.specs.declared.seen.Seen.{Seen}
 use Rattle.fv_lines.specs.declared.writer.LaneWriter.{LaneWriter}
-use Rattle.fv_engine_lanes.specs.Lanes.{lane_open, WriterRest, rest_of_writer}
+use Rattle.fv_engine_lanes.specs.Lanes.{lane_open, WriterRest, rest_of_writer, CellsRest, rest_of_cells}
+use Rattle.fv_engine_lanes.specs.Cells.{AreCellsPlaced, cells_of}
+use Rattle.fv_engine_lanes.specs.declared.loop_cells.LoopCells.{LoopCells}
 use Rattle.fv_engine_lanes.specs.Plans.{own_lanes, locals_of, lanes_of_all, sources_of}
-use Rattle.fv_engine_parcels.specs.Contents.{tasks_in, upto, IsContentOf, IsRealStart, SameWriter, AreWritersOf, AreSeenOf}
+use Rattle.fv_engine_parcels.specs.Contents.{tasks_in, upto, IsContentOf, IsRealStart, SameWriter, AreWritersOf, AreSeenOf, AreCellsOf}
 use Rattle.fv_engine_parcels.specs.inner.Turns.{Before, After}
 use Rattle.fv_engine_parcels.specs.declared.start.Start.{Start}
 use Rattle.fv_engine_parcels.proofs.Handing.{element}
 
--- what a task's lanes hold before it, from its parcels
-pub before_of : (k : Start) (j v : ℕ) (ws : List LaneWriter) (ss : List Seen) → AreWritersOf k (own_lanes k.plan.now j) v ws
-    → AreSeenOf k (lanes_of_all k.plan.now (sources_of (tasks_in k) j)) (v + 1) ss → Before k j v (map lane_open ws ++ map lane_seen ss)
-before_of k j v ws ss a b =
+-- what a task's places hold before it, from its parcels
+pub before_of : (k : Start) (j v : ℕ) (ws : List LaneWriter) (ss : List Seen) (cs : LoopCells) → AreWritersOf k (own_lanes k.plan.now j) v ws
+    → AreSeenOf k (lanes_of_all k.plan.now (sources_of (tasks_in k) j)) (v + 1) ss → AreCellsOf k j v cs
+    → Before k j v (record { lanes = map lane_open ws ++ map lane_seen ss; tables = cs.plan.now.tables; cells = cells_of cs })
+before_of k j v ws ss cs a b c =
     let own : List ℕ = own_lanes k.plan.now j in
     let rest : List ℕ = lanes_of_all k.plan.now (sources_of (tasks_in k) j) in
     let fs : List Lane = map lane_open ws in
@@ -30,13 +35,13 @@ before_of k j v ws ss a b =
     let long_gs : length gs ≡ length rest = length-map ss lane_seen ∙ b.count in
     record {
       long = omega (arith, length-append fs gs, length-append own rest, long_fs, long_gs);
-      mine = λ f c i m.
+      mine = λ f d i m.
           let w : LaneWriter = element ws i (omega (arith, m, a.count)) in
           let is : lane_of (fs ++ gs) i ≡ lane_open (get_or ws i w) =
           get_or_append_left fs gs no_lane i (omega (arith, m, long_fs)) ∙ get_or-map lane_open ws i w no_lane (omega (arith, m, a.count)) in
           subst (λ (l : ℕ). HoldsJust f l (upto k v) (k.frames - upto k v) (lane_of (fs ++ gs) i)) (sym (get_or_append_left own rest 0 i m))
-          (subst (λ (x : Lane). HoldsJust f (get_or own i 0) (upto k v) (k.frames - upto k v) x) (sym is) ((a.each i w m).holds f c));
-      seen = λ f c i le m.
+          (subst (λ (x : Lane). HoldsJust f (get_or own i 0) (upto k v) (k.frames - upto k v) x) (sym is) ((a.each i w m).holds f d));
+      seen = λ f d i le m.
           let n : i - length own < length rest = omega (arith, le, m, length-append own rest) in
           let s : Seen = element ss (i - length own) (omega (arith, n, b.count)) in
           let is : lane_of (fs ++ gs) i ≡ lane_seen (get_or ss (i - length own) s) =
@@ -44,7 +49,10 @@ before_of k j v ws ss a b =
           let next : v + 1 ≡ suc v = omega arith in
           subst (λ (u : ℕ). Holds f (slice_index (locals_of k.plan.now (tasks_in k) j) i) (upto k u) (lane_of (fs ++ gs) i)) next
           (subst (λ (l : ℕ). Holds f l (upto k (v + 1)) (lane_of (fs ++ gs) i)) (sym (get_or-append_right own rest (length own) i 0 refl le))
-          (subst (λ (x : Lane). Holds f (get_or rest (i - length own) 0) (upto k (v + 1)) x) (sym is) ((b.each (i - length own) s n).holds f c)));
+          (subst (λ (x : Lane). Holds f (get_or rest (i - length own) 0) (upto k (v + 1)) x) (sym is) ((b.each (i - length own) s n).holds f d)));
+      tables = ap (λ (p : PlanView). p.tables) c.plan;
+      count = length_table (length cs.plan.now.cells) _ ∙ ap (λ (p : PlanView). length p.cells) c.plan;
+      cells = c.holds;
     }
 
 -- what was written is what a writer's list has behind its history
@@ -64,9 +72,11 @@ same_after old new d e s = record {
 }
 
 -- its writers after it
-pub after_of : (k : Start) (j v : ℕ) (ws us : List LaneWriter) (ss : List Seen) → ∥ IsRealStart k ∥₁ → AreWritersOf k (own_lanes k.plan.now j) v ws
-    → map rest_of_writer us ≡ map rest_of_writer ws → After k j v (map lane_open us ++ map lane_seen ss) → AreWritersOf k (own_lanes k.plan.now j) (suc v) us
-after_of k j v ws us ss real a kept after =
+pub after_of : (k : Start) (j v : ℕ) (ws us : List LaneWriter) (ss : List Seen) (cs : LoopCells) → ∥ IsRealStart k ∥₁
+    → AreWritersOf k (own_lanes k.plan.now j) v ws → map rest_of_writer us ≡ map rest_of_writer ws
+    → After k j v (record { lanes = map lane_open us ++ map lane_seen ss; tables = cs.plan.now.tables; cells = cells_of cs })
+    → AreWritersOf k (own_lanes k.plan.now j) (suc v) us
+after_of k j v ws us ss cs real a kept after =
     let own : List ℕ = own_lanes k.plan.now j in
     let rest : List ℕ = lanes_of_all k.plan.now (sources_of (tasks_in k) j) in
     let fs : List Lane = map lane_open us in
@@ -87,7 +97,7 @@ after_of k j v ws us ss real a kept after =
           let holds : (f : Content) → IsContentOf k f → HoldsJust f (get_or own i 0) (upto k (suc v)) (k.frames - upto k (suc v)) (lane_open u) = λ f c.
           subst (λ (x : Lane). HoldsJust f (get_or own i 0) (upto k (suc v)) (k.frames - upto k (suc v)) x) is
           (subst (λ (l : ℕ). HoldsJust f l (upto k (suc v)) (k.frames - upto k (suc v)) (lane_of (fs ++ gs) i))
-          (get_or_append_left own rest 0 i m) (after f c i m)) in
+          (get_or_append_left own rest 0 i m) (after.mine f c i m)) in
           record {
             same = λ b. same_after w u (get_or k.lanes.value.items (get_or own i 0) b) same ((a.each i d m).same b);
             written = ∥∥₁_elim real (ℕ_set (written_by u) (upto k (suc v))) (λ r.
@@ -96,6 +106,18 @@ after_of k j v ws us ss real a kept after =
             holds = holds;
           };
     }
+
+-- its cells after it
+pub cells_after_of : (k : Start) (j v : ℕ) (old new : LoopCells) (lanes : List Lane) → AreCellsOf k j v old → rest_of_cells new ≡ rest_of_cells old
+    → AreCellsPlaced new → After k j v (record { lanes = lanes; tables = new.plan.now.tables; cells = cells_of new }) → AreCellsOf k j (suc v) new
+cells_after_of k j v old new lanes a kept placed after = record {
+  plan = ap (λ (r : CellsRest). r.plan) kept ∙ a.plan;
+  places = ap (λ (r : CellsRest). r.places) kept ∙ a.places;
+  loop_no = ap (λ (r : CellsRest). r.loop_no) kept ∙ a.loop_no;
+  placed = placed;
+  room = omega (arith, a.room, ap (λ (r : CellsRest). r.count) kept);
+  holds = after.cells;
+}
 
 -- no fewer samples lie before the next vector
 pub upto_next : (v n f : ℕ) → min (v * n) f ≤ min (suc v * n) f

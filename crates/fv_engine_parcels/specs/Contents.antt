@@ -4,10 +4,16 @@ use Rattle.std.specs.Vec.{vec_capacity}
 use Rattle.std.specs.Global.{Vec, Box}
 use Rattle.fv_outside.specs.headline.Tasks.{Tasks}
 use Rattle.fv_graph.specs.Graph.{stride, place_in, pair_at}
-use Rattle.fv_loopcode.specs.headline.State.{State, lanes_alone}
+<<<<<<< HEAD
+use Rattle.fv_loopcode.specs.headline.State.{State}
+use Rattle.fv_loopcode.specs.State.{lanes_alone}
+=======
+use Rattle.fv_loopcode.specs.headline.State.{State, list_at}
+>>>>>>> 472f2832b677ffd8d9934948974ce4aa72e83808
 use Rattle.fv_loopcode.specs.Obeys.{Content, Holds, HoldsJust}
 use Rattle.fv_loopcode.specs.Blocks.{before}
-use Rattle.fv_split_plan.specs.headline.View.{PlanView, lane_info, code_of}
+use Rattle.fv_split_plan.specs.headline.View.{PlanView, lane_info, cells_info, code_of}
+use Rattle.fv_split_plan.specs.Rows.{lists_of}
 use Rattle.fv_split_plan.specs.View.{loops_of}
 use Rattle.fv_lines.specs.Seen.{lane_seen}
 use Rattle.fv_lines.specs.Writer.{written_by, part_of, outer_of, shape_of, frames_of}
@@ -15,6 +21,8 @@ use Rattle.fv_lines.specs.declared.seen.Seen.{Seen as SeenLane}
 use Rattle.fv_lines.specs.declared.writer.LaneWriter.{LaneWriter}
 use Rattle.fv_engine_tasks.specs.Block.{Parts, Block, ObeysBlock, HoldUpTo, none_done, IsReal}
 use Rattle.fv_engine_lanes.specs.Lanes.{lane_open}
+use Rattle.fv_engine_lanes.specs.Cells.{AreCellsPlaced, cells_of}
+use Rattle.fv_engine_lanes.specs.declared.loop_cells.LoopCells.{LoopCells}
 use Rattle.fv_engine_lanes.specs.Plans.{own_lanes, sources_of, lanes_of_all, readers_of}
 use Rattle.fv_engine_parcels.specs.declared.start.Start.{Start}
 use Rattle.fv_engine_parcels.specs.declared.content.Writers.{Writers}
@@ -23,7 +31,13 @@ use Rattle.fv_engine_parcels.specs.declared.content.Content.TheVariants as holdi
 
 -- what a block needs of a plan
 abbrev pub parts_of : PlanView → Parts
-parts_of p = record { count = p.loops; lanes = length p.lanes; history = λ l. (lane_info p l).history; loops = loops_of p }
+parts_of p = record {
+  count = p.loops;
+  lanes = length p.lanes;
+  cells = length p.cells;
+  history = λ l. (lane_info p l).history;
+  loops = loops_of p;
+}
 
 -- the tasks of the block
 abbrev pub tasks_in : Start → Tasks
@@ -31,7 +45,7 @@ tasks_in k = k.tasks.now.tasks
 
 -- the places as the block begins
 abbrev pub first_of : Start → State
-first_of k = lanes_alone (map lane_open k.lanes.value.items)
+first_of k = record { lanes = map lane_open k.lanes.value.items; tables = k.plan.now.tables; cells = lists_of k.cells.value.items }
 
 -- the block
 abbrev pub block_of : Start → Block
@@ -44,13 +58,13 @@ block_of k = record {
   input = k.input.now;
 }
 
--- numbers that the block's codes obey, and that go on from what the lanes hold as the block begins: so they are the numbers that
--- the plan's code appends there, where all tasks run one after another in task order
+-- what the block's codes obey, and what goes on from what the places hold as the block begins: so it is what the plan's code leaves there,
+-- where all tasks run one after another in task order
 pub record IsContentOf (k : Start) (f : Content) : Type 0 where
   pub obeys : ObeysBlock (block_of k) f
   pub begins : HoldUpTo (block_of k) f none_done (first_of k)
 
--- there are such numbers
+-- there is such a content
 abbrev pub IsRealStart : Start → Type 0
 IsRealStart k = IsReal (block_of k) (first_of k)
 
@@ -93,10 +107,21 @@ pub record AreRoomy (lists : List (Vec SeenLane)) (room : ℕ) : Type 0 where
   pub empty : (i : ℕ) (d : Vec SeenLane) → i < length lists → (slice_index_or lists i d).items ≡ []
   pub roomy : (i : ℕ) (d : Vec SeenLane) → i < length lists → room ≤ vec_capacity (slice_index_or lists i d)
 
--- What loop j hands on after v of its vectors, with so many lists more than the readers of its later vectors take: its writers,
+-- c has the cells of loop j, after v of its vectors
+pub record AreCellsOf (k : Start) (j v : ℕ) (c : LoopCells) : Type 0 where
+  pub plan : c.plan.now ≡ k.plan.now
+  pub places : c.places.now ≡ k.places.now
+  pub loop_no : c.loop_no ≡ j
+  pub placed : AreCellsPlaced c
+  pub room : slice_index k.places.now.counts.items j ≤ length c.lists.items
+  pub holds : (f : Content) → IsContentOf k f → (i : ℕ) → i < length k.plan.now.cells → (cells_info k.plan.now i).owner ≡ j
+      → list_at (cells_of c) i ≡ f.cells i (upto k v)
+
+-- What loop j hands on after v of its vectors, with so many lists more than the readers of its later vectors take: its writers and cells,
 -- room for the seen lanes of its sources, a register for each step, and the lists.
 pub record AreHandedOn (k : Start) (j v more : ℕ) (w : Writers) : Type 0 where
   pub writers : AreWritersOf k (own_lanes k.plan.now j) v w.lanes.own.items
+  pub cells : AreCellsOf k j v w.lanes.cells
   pub nothing_seen : w.lanes.seen.items ≡ []
   pub room : length (lanes_of_all k.plan.now (sources_of (tasks_in k) j)) ≤ vec_capacity w.lanes.seen
   pub regs : length w.regs.items ≡ length (code_of k.plan.now j)

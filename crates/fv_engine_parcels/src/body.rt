@@ -5,7 +5,7 @@ ghost use Rattle.fv_loopcode.specs.Code.{IsWithin};
 ghost use Rattle.fv_split_plan.specs.headline.View.{code_of};
 ghost use Rattle.fv_lines.specs.Seen.{lane_seen};
 ghost use Rattle.fv_lines.specs.Writer.{lane_written};
-ghost use Rattle.fv_engine_lanes.specs.Lanes.{lanes_in, rest_in};
+ghost use Rattle.fv_engine_lanes.specs.Lanes.{state_in, AreLanesSound, rest_in};
 ghost use Rattle.fv_engine_parcels.specs.Bodies.{IsBody};
 ghost use Rattle.fv_engine_parcels.specs.Contents.{AreSeenOf, AreHandedOn, IsRealStart, tasks_in};
 ghost use Rattle.fv_engine_parcels.specs.inner.Turns.{Known, Before, After, IsPairAt, IsPairFrom, IsChainAt, lanes_by};
@@ -67,16 +67,18 @@ impl<'a, 'b> LoopBody<'a, 'b> {
     }
 
     // The code of a task.
-    fn run_code(&self, task: Task, writers: &mut Writers<'a>)
+    fn run_code(&self, task: Task, writers: &mut Writers<'a, 'b>)
         requires there { task.loop_no < length self.now.codes.now }
         requires inside { task.vector * self.now.start.vector < self.now.start.frames }
         requires known { ∥ Known self.now.start task.loop_no task.vector (slice_index_or self.now.codes.now task.loop_no []) ∥₁ }
         requires real { ∥ IsRealStart self.now.start ∥₁ }
         requires within { All (λ s. IsWithin (length self.now.start.held.now) self.now.start.channels s) (slice_index_or self.now.codes.now task.loop_no []) }
         requires input { self.now.start.frames * self.now.start.channels ≤ length self.now.start.input.now }
-        requires before { Before self.now.start task.loop_no task.vector (lanes_in writers.old.lanes) }
+        requires sound { AreLanesSound writers.old.lanes }
+        requires before { Before self.now.start task.loop_no task.vector (state_in writers.old.lanes) }
         requires regs { length writers.old.regs.items ≡ length (slice_index_or self.now.codes.now task.loop_no []) }
-        ensures after { After self.now.start task.loop_no task.vector (lanes_in writers.new.lanes) }
+        ensures after { After self.now.start task.loop_no task.vector (state_in writers.new.lanes) }
+        ensures sound { AreLanesSound writers.new.lanes }
         ensures kept { rest_in writers.new.lanes ≡ rest_in writers.old.lanes }
         ensures regs { length writers.new.regs.items ≡ length writers.old.regs.items }
         ensures lists { writers.new.lists ≡ writers.old.lists }
@@ -121,7 +123,7 @@ impl<'a, 'b> LoopBody<'a, 'b> {
         &self,
         task: Task,
         edges: &[u64],
-        mut writers: Box<Writers<'a>>,
+        mut writers: Box<Writers<'a, 'b>>,
         parcels: &mut Vec<LoopParcel<'a, 'b>>,
     )
         requires some { 0 < length edges.now }

@@ -14,7 +14,7 @@ use std::snapshot::Snapshot;
 pub struct LoopParcel<'a, 'b> {
     edge: u64,
     start: Snapshot<Start<'a, 'b>>,
-    content: Content<'a>,
+    content: Content<'a, 'b>,
     ghost named: { IsContent start.value edge content },
 }
 
@@ -32,7 +32,7 @@ impl<'a, 'b> Parcel for LoopParcel<'a, 'b> {
 
 impl<'a, 'b> LoopParcel<'a, 'b> {
     /// The parcel of an edge.
-    pub fn new(edge: u64, start: &Start<'a, 'b>, content: Content<'a>) -> LoopParcel<'a, 'b>
+    pub fn new(edge: u64, start: &Start<'a, 'b>, content: Content<'a, 'b>) -> LoopParcel<'a, 'b>
         requires { IsContent start.now edge content }
         ensures { (result.edge ≡ edge) × (result.start.value ≡ start.now) }
     {
@@ -44,7 +44,7 @@ impl<'a, 'b> LoopParcel<'a, 'b> {
     }
 
     /// What it holds.
-    pub fn into_content(self) -> Content<'a>
+    pub fn into_content(self) -> Content<'a, 'b>
         ensures { IsContent self.entry.start.value self.entry.edge result }
     {
         let LoopParcel {
@@ -56,7 +56,7 @@ impl<'a, 'b> LoopParcel<'a, 'b> {
     }
 
     /// The same, while it is kept.
-    pub(crate) fn content(&self) -> &Content<'a>
+    pub(crate) fn content(&self) -> &Content<'a, 'b>
         ensures { IsContent self.now.start.value self.now.edge result.now }
     {
         &self.content

@@ -26,7 +26,7 @@ given {changes} {initial} {values} {f} {n} {next} {block} {total} held hold b k 
     ∙ sym (held changes initial next f k (omega (arith, l, b.long)) b.here.come b.here.behind) ∙ ap (λ (vs : List ℤ). argument vs k) (sym b.is)
 
 pub same_still : (e now next : EngineView) → SameParts e now → SameParts now next → SameParts e next
-same_still e now next p q = q ∙ ap (λ (v : EngineView). record v { region = next.region; starts = next.starts }) p
+same_still e now next p q = q ∙ ap (λ (v : EngineView). record v { region = next.region; starts = next.starts; cells = next.cells }) p
 
 -- some blocks have the plan's loops
 pub loops_some : (blocks loops : ℕ) → 1 ≤ blocks → loops_in blocks loops ≡ loops

@@ -54,5 +54,4 @@ module _ (d : Diagram) (spans : List Interval) (g h : Graph) (is : IsGraphOf d s
     width = s.width ∙ is.width;
     names = names;
     short = s.short is.short;
-    tableless = s.tables ∙ is.tableless;
   }

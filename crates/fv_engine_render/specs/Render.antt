@@ -1,9 +1,9 @@
 -- What calls say beside `headline/Render`: a diagram that is played in blocks, by a graph of it (this project's profile).
-use Rattle.std.specs.Prelude.{◌≡◌, ℕ, ◌≤◌, false, List, length, All, Option}
+use Rattle.std.specs.Prelude.{◌≡◌, ℕ, ◌≤◌, List, length, All, Option}
 use Rattle.std.specs.List.{AllByRecursion}
 use Rattle.fv_base.specs.declared.limits.TheConstants.{MOST_BLOCK, MOST_CHANNELS, MOST_VECTORS}
 use Rattle.fv_outside.specs.headline.Journal.{Told}
-use Rattle.fv_diagram.specs.headline.Diagram.{Diagram, inputs, outputs, has_table}
+use Rattle.fv_diagram.specs.headline.Diagram.{Diagram, inputs, outputs}
 use Rattle.fv_diagram.specs.Diagram.{control_bound, IsWellFormed, HasNoFreeSlot}
 use Rattle.fv_diagram.specs.declared.control.ControlInfo.{ControlInfo}
 use Rattle.fv_control.specs.declared.script.Change.{Change}
@@ -24,7 +24,6 @@ use Rattle.fv_engine_render.specs.headline.Render.{RanTo}
 pub record CanRender (d : Diagram) (controls : List ControlInfo) (delays : List ℕ) (changes : List Change) : Type 0 where
   pub well : IsWellFormed d
   pub closed : HasNoFreeSlot d
-  pub tableless : has_table d ≡ false
   pub some : 1 ≤ outputs d
   pub few : inputs d ≤ MOST_CHANNELS
   pub reads : control_bound d ≤ length controls

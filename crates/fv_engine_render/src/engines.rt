@@ -1,6 +1,6 @@
 // The engine of a graph.
 
-ghost use Rattle.std.specs.Prelude.{◌≡◌, ◌≤◌, [], IfOk, length};
+ghost use Rattle.std.specs.Prelude.{◌≡◌, ◌≤◌, IfOk, length};
 ghost use Rattle.fv_base.specs.declared.limits.TheConstants.{MOST_CHANNELS};
 ghost use Rattle.fv_simplify_rules.specs.headline.Reducible.{AreShort};
 ghost use Rattle.fv_engine_render.specs.Plans.{IsPlanned, FitsEngine, IsNew};
@@ -25,7 +25,6 @@ pub(crate) fn plan_of(
     requires some { 1 ≤ length graph.now.outputs }
     requires names { NamesOnly graph.now channels controls }
     requires short { AreShort graph.now }
-    requires tableless { graph.now.tables ≡ [] }
     ensures { IfOk result (IsPlanned graph.now channels controls) }
 {
     outputs_need_loops();

@@ -1,9 +1,8 @@
 // What is rendered: a diagram, and its graph.
 
-ghost use Rattle.std.specs.Prelude.{◌≡◌, ◌<◌, false, All, IfOk};
+ghost use Rattle.std.specs.Prelude.{◌<◌, All, IfOk};
 ghost use Rattle.fv_diagram.specs.Arena.{count_of, tree_of};
 ghost use Rattle.fv_diagram.specs.Controls.{IsBounded};
-ghost use Rattle.fv_diagram.specs.headline.Diagram.{has_table};
 ghost use Rattle.fv_diagram.specs.Diagram.{IsWellFormed, HasNoFreeSlot};
 ghost use Rattle.fv_interval.specs.headline.Controls.{spans_of};
 ghost use Rattle.fv_interval.specs.headline.Delays.{delays_of};
@@ -32,7 +31,6 @@ pub fn compile(alloc: Global, source: &Source<'_, '_, '_>) -> Result<Graph, Allo
     requires root { source.now.root < count_of source.now.diagrams.now }
     requires well { IsWellFormed (tree_of source.now.diagrams.now source.now.root) }
     requires closed { HasNoFreeSlot (tree_of source.now.diagrams.now source.now.root) }
-    requires tableless { has_table (tree_of source.now.diagrams.now source.now.root) ≡ false }
     requires bounded { All IsBounded source.now.controls.now }
     requires accepted { AreAccepted (delays_of (tree_of source.now.diagrams.now source.now.root) (spans_of source.now.controls.now)) source.now.delays.now }
     ensures { IfOk result (IsGraphOf (tree_of source.now.diagrams.now source.now.root) (spans_of source.now.controls.now)) }

@@ -74,9 +74,6 @@ pub(crate) fn rendered<R: Threads + Wait + Sync, G: Gate + Sync>(
     if arity.outputs == 0 || arity.inputs > 256 {
         return Err("channels".into());
     }
-    if program.diagrams.has_table(program.root) {
-        return Err("a table".into());
-    }
     if case.input.len() != case.frames as usize * arity.inputs as usize {
         return Err("input".into());
     }

@@ -39,6 +39,38 @@ const NOISE: Case = Case {
     frames: 700,
 };
 
+// A waveform, and another one that is read at a count.
+const WAVES: Case = Case {
+    program: "process = (waveform{1,-5,9} : !,_), (waveform{3,-1,4,2}, (+(3) ~ _) % 4 : rdtable);",
+    script: "",
+    input: &[],
+    frames: 600,
+};
+
+// A table of the numbers 1 to 4 whose index is a control.
+const CHOSEN: Case = Case {
+    program: "process = _ * rdtable(4, (+(1) ~ _), hslider(\"which\", 1, -2, 9, 1));",
+    script: "1 which 3\n4 which 9\n5 which -2\n",
+    input: &[1, 2, 3, 4, 5, 6, 7],
+    frames: 7,
+};
+
+// A list of five numbers that goes round: what is written comes back three frames later.
+const LOOPER: Case = Case {
+    program: "n = (+(1) : %(5)) ~ _; process = \\(x).(rwtable(5, -7, n, x, (n + 2) % 5));",
+    script: "",
+    input: &[1, 2, 3, 4, 5, 6, 7, 8, 9],
+    frames: 9,
+};
+
+// Two tables of one list, in a loop, of which each has its own items.
+const SUMS: Case = Case {
+    program: "process = _ <: (+ ~ rwtable(2, 3, 0, _, 0)), (+ ~ rwtable(2, 3, 1, _, 0));",
+    script: "",
+    input: &[1, -2, 3, 9, 9, 9],
+    frames: 6,
+};
+
 // Two delays in a row, which are one.
 const DELAYS: Case = Case {
     program: "process = _ : @(2) : @(3);",
@@ -69,7 +101,7 @@ const SIZES: [(u32, u32); 5] = [(1, 1), (7, 7), (7, 3), (512, 32), (4096, 64)];
 #[test]
 fn blocks_give_what_the_runner_gives(rt: HostRuntime) -> Result<(), Fail> {
     let alloc = rt.alloc();
-    for case in &[ECHO, DIFFERENCE, FADER, NOISE] {
+    for case in &[ECHO, DIFFERENCE, FADER, NOISE, WAVES, CHOSEN, LOOPER, SUMS] {
         let wanted = stepped(alloc, case)?;
         for (block, vector) in &SIZES {
             let answer = rendered(&rt, alloc, case, *block, *vector, &mut FreeGate)?;
@@ -105,6 +137,23 @@ fn graphs_are_simpler(rt: HostRuntime) -> Result<(), Fail> {
             let answer = rendered(&rt, rt.alloc(), case, *block, *vector, &mut FreeGate)?;
             assert_eq!(rt; answer.samples.as_slice(), samples);
             assert_eq!(rt; answer.ran.loops, loops);
+        }
+    }
+    Ok(())
+}
+
+// Of 5 numbers that were -7, and of sums whose table is read where it is written, and where it never is.
+#[test]
+fn tables_over_blocks(rt: HostRuntime) -> Result<(), Fail> {
+    let rows: [(&Case, &[i32]); 3] = [
+        (&CHOSEN, &[2, 8, 12, 16, 20, 6, 7]),
+        (&LOOPER, &[-7, -7, -7, 1, 2, 3, 4, 5, 6]),
+        (&SUMS, &[1, 4, -1, 1, 2, 6, 11, 12, 20, 12, 29, 12]),
+    ];
+    for (case, samples) in rows {
+        for (block, vector) in &SIZES {
+            let answer = rendered(&rt, rt.alloc(), case, *block, *vector, &mut FreeGate)?;
+            assert_eq!(rt; answer.samples.as_slice(), samples);
         }
     }
     Ok(())

@@ -3,3 +3,4 @@ pub mod Dealt
 pub mod Entries
 pub mod Opening
 pub mod Rooms
+pub mod Swapped

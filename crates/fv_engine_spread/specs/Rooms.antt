@@ -1,10 +1,12 @@
 -- The lists of the loops of a block, before any lane is begun (this project's profile).
-use Rattle.std.specs.Prelude.{◌≡◌, ℕ, ◌*◌, ◌<◌, ◌≤◌, List, [], length, slice_index_or}
+use Rattle.std.specs.Prelude.{◌≡◌, ℕ, ◌*◌, ◌<◌, ◌≤◌, List, [], length, slice_index, slice_index_or}
 use Rattle.std.specs.Vec.{vec_capacity}
 use Rattle.std.specs.Global.{Box}
 use Rattle.fv_outside.specs.headline.Tasks.{Tasks}
 use Rattle.fv_split_plan.specs.headline.View.{PlanView, code_of}
 use Rattle.fv_engine_lanes.specs.Plans.{own_lanes, sources_of, lanes_of_all, readers_of}
+use Rattle.fv_engine_lanes.specs.declared.loop_cells.CellPlaces.{CellPlaces}
+use Rattle.fv_engine_lanes.specs.declared.loop_cells.LoopCells.{LoopCells}
 use Rattle.fv_engine_parcels.specs.Contents.{AreRoomy}
 use Rattle.fv_engine_parcels.specs.declared.content.Writers.{Writers}
 
@@ -19,10 +21,18 @@ pub record IsRoom (own seen steps lists : ℕ) (w : Writers) : Type 0 where
   pub lists_are : length w.lists.items ≡ lists
   pub roomy : AreRoomy w.lists.items own
 
--- the lists of each loop: for its lanes and those of the loops that it reads, for the steps of its code, and for each vector as
--- many as loops read it
-pub record AreRooms (p : PlanView) (g : Tasks) (ws : List (Box Writers)) : Type 0 where
+-- the cells of loop j, as many as stand at its number
+pub record HasCells (p : PlanView) (places : CellPlaces) (j : ℕ) (c : LoopCells) : Type 0 where
+  pub plan : c.plan.now ≡ p
+  pub places_are : c.places.now ≡ places
+  pub loop_no : c.loop_no ≡ j
+  pub count : length c.lists.items ≡ slice_index places.counts.items j
+
+-- the lists of each loop: for its lanes and those of the loops that it reads, for the steps of its code, for each vector as many as loops
+-- read it, and for its cells
+pub record AreRooms (p : PlanView) (g : Tasks) (places : CellPlaces) (ws : List (Box Writers)) : Type 0 where
   pub count : length ws ≡ p.loops
   pub each : (j : ℕ) (d : Box Writers) → j < p.loops
       → IsRoom (length (own_lanes p j)) (length (lanes_of_all p (sources_of g j))) (length (code_of p j)) (g.vectors * readers_of g j)
       (slice_index_or ws j d).value
+  pub cells : (j : ℕ) (d : Box Writers) → j < p.loops → HasCells p places j (slice_index_or ws j d).value.lanes.cells

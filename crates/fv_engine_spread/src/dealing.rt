@@ -2,6 +2,7 @@
 
 ghost use Rattle.std.specs.Prelude.{◌≡◌, length};
 ghost use Rattle.fv_outside.specs.headline.Tasks.{Tasks};
+ghost use Rattle.fv_engine_lanes.specs.declared.loop_cells.CellPlaces.{CellPlaces};
 ghost use Rattle.fv_engine_spread.specs.Dealt.{AreDealt};
 ghost use Rattle.fv_engine_spread.specs.Rooms.{AreRooms};
 
@@ -11,9 +12,9 @@ use fv_split_plan::Plan;
 
 /// Each lane's writer goes to the list of its loop, lane by lane, so that a loop has its lanes in their order. The lists have room, so
 /// that no memory is taken.
-pub fn deal<'a>(plan: &Plan, all: Vec<LaneWriter<'a>>, rooms: &mut [Box<Writers<'a>>])
+pub fn deal<'a, 'b>(plan: &Plan, all: Vec<LaneWriter<'a>>, rooms: &mut [Box<Writers<'a, 'b>>])
     requires count { length all.items ≡ length plan.now.lanes }
-    requires rooms { (g : Tasks) × AreRooms plan.now g rooms.old }
+    requires rooms { (g : Tasks) × (places : CellPlaces) × AreRooms plan.now g places rooms.old }
     ensures { AreDealt plan.now all.entry.items rooms.old rooms.new }
 {
     // Called for its clauses.

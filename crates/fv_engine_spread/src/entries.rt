@@ -11,7 +11,7 @@ use fv_engine_parcels::{Content, LoopParcel, Start, Writers};
 /// The parcel of each loop's entry edge, loop by loop, in a list with room for them.
 pub fn entries_of<'a, 'b>(
     start: &Start<'a, 'b>,
-    writers: Vec<Box<Writers<'a>>>,
+    writers: Vec<Box<Writers<'a, 'b>>>,
     mut entries: Vec<LoopParcel<'a, 'b>>,
 ) -> Vec<LoopParcel<'a, 'b>>
     requires entered { AreEntered start.now writers.items }

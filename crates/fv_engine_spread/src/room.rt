@@ -1,14 +1,15 @@
 // What the lists of a block take of memory, before any lane is begun.
 
 ghost use Rattle.std.specs.Prelude.{◌≡◌, ◌+◌, ◌*◌, ◌<◌, length, IfOk, vec_len};
+ghost use Rattle.fv_engine_lanes.specs.Cells.{ArePlaced};
 ghost use Rattle.fv_split_plan.specs.headline.View.{code_of};
 ghost use Rattle.fv_engine_lanes.specs.Plans.{own_lanes, sources_of, lanes_of_all, readers_of};
 ghost use Rattle.fv_engine_codes.specs.Codes.{AreOfPlan, AreLaneCounts};
 ghost use Rattle.fv_engine_parcels.specs.Contents.{AreRoomy};
-ghost use Rattle.fv_engine_spread.specs.Rooms.{IsRoom, AreRooms};
+ghost use Rattle.fv_engine_spread.specs.Rooms.{IsRoom, HasCells, AreRooms};
 
 use fv_engine_codes::LaneCount;
-use fv_engine_lanes::LoopLanes;
+use fv_engine_lanes::{CellPlaces, LoopCells, LoopLanes};
 use fv_engine_parcels::Writers;
 use fv_graph::Tasks;
 use fv_lines::Seen;
@@ -48,22 +49,54 @@ fn count_readers(tasks: &Tasks, loop_no: u64) -> u64
     (tasks.outward(loop_no).len() - 1) as u64
 }
 
-// The lists of one loop: for its own lanes, for the lanes that it sees, a register for each step, and lists for the lanes that it
-// hands to those that read it.
-fn loop_room<'a>(
+// So many empty lists.
+fn empty_lists(alloc: Global, count: u64) -> Result<Vec<Vec<i32>>, AllocError>
+    ensures { IfOk result (λ v. vec_len v ≡ count) }
+{
+    let mut lists = Vec::with_capacity(alloc, count as usize)?;
+    for _k in 0..count {
+        lists.push_reserved(Vec::new(alloc));
+    }
+    Ok(lists)
+}
+
+// The cells of one loop, still empty.
+fn loop_cells<'b>(
     alloc: Global,
+    plan: &'b Plan,
+    places: &'b CellPlaces,
+    loop_no: u64,
+) -> Result<LoopCells<'b>, AllocError>
+    requires { loop_no < length places.now.counts.items }
+    ensures { IfOk result (λ c. HasCells plan.now places.now loop_no c) }
+{
+    let lists = empty_lists(alloc, places.counts[loop_no as usize])?;
+    Ok(LoopCells {
+        plan,
+        places,
+        loop_no,
+        lists,
+    })
+}
+
+// The lists of one loop: for its own lanes, for the lanes that it sees, a register for each step, and lists for the lanes that it
+// hands to those that read it; and its cells.
+fn loop_room<'a, 'b>(
+    alloc: Global,
+    cells: LoopCells<'b>,
     count: LaneCount,
     steps: u64,
     lists: u64,
-) -> Result<Writers<'a>, AllocError>
-    ensures { IfOk result (λ w. IsRoom count.own count.seen steps lists w) }
+) -> Result<Writers<'a, 'b>, AllocError>
+    ensures room { IfOk result (λ w. IsRoom count.own count.seen steps lists w) }
+    ensures cells { IfOk result (λ w. w.lanes.cells ≡ cells.entry) }
 {
     let own = Vec::with_capacity(alloc, count.own as usize)?;
     let seen = Vec::with_capacity(alloc, count.seen as usize)?;
     let regs = Vec::from_elem(alloc, 0, steps as usize)?;
     let lists = seen_lists(alloc, lists, count.own)?;
     Ok(Writers {
-        lanes: LoopLanes { own, seen },
+        lanes: LoopLanes { own, seen, cells },
         regs,
         lists,
     })
@@ -71,20 +104,23 @@ fn loop_room<'a>(
 
 /// The lists of each loop of a plan for a block of these tasks: what goes over the loop's edges is kept in them, so that no task takes
 /// memory. More than a type counts is want of memory too.
-pub fn take_room<'a>(
+pub fn take_room<'a, 'b>(
     alloc: Global,
-    plan: &Plan,
+    plan: &'b Plan,
     tasks: &Tasks,
+    places: &'b CellPlaces,
     counts: &[LaneCount],
-) -> Result<Vec<Box<Writers<'a>>>, AllocError>
+) -> Result<Vec<Box<Writers<'a, 'b>>>, AllocError>
     requires of_plan { AreOfPlan plan.now tasks.now.tasks }
     requires counts { AreLaneCounts plan.now tasks.now.tasks counts.now }
-    ensures { IfOk result (λ v. AreRooms plan.now tasks.now.tasks v.items) }
+    requires placed { ArePlaced plan.now places.now.places.items places.now.counts.items }
+    ensures { IfOk result (λ v. AreRooms plan.now tasks.now.tasks places.now v.items) }
 {
     let mut rooms = Vec::with_capacity(alloc, plan.loops() as usize)?;
     for j in 0..plan.loops() {
         let lists = times(u64::from(tasks.vectors()), count_readers(tasks, j))?;
-        let room = loop_room(alloc, counts[j as usize], plan.code(j).len(), lists)?;
+        let cells = loop_cells(alloc, plan, places, j)?;
+        let room = loop_room(alloc, cells, counts[j as usize], plan.code(j).len(), lists)?;
         let room = Box::new(alloc, room)?;
         rooms.push_reserved(room);
     }

@@ -45,10 +45,6 @@ pub(crate) fn engine_of(
     requires workers { (1 ≤ sizes.workers) × (sizes.workers ≤ 16) }
     ensures { IfOk result (λ e. IfSome e (λ e. IsSquare e sizes.width sizes.block controls)) }
 {
-    let tables = graph.tables();
-    if tables != 0 {
-        return Ok(None);
-    }
     let rates = rates(alloc, graph)?;
     let histories = largest_delays(alloc, graph)?;
     let plan = split(alloc, graph, &rates, &histories)?;

@@ -11,9 +11,6 @@ use test_programs::program_of;
 pub(crate) fn graph_of(alloc: Global, text: &str) -> Result<Graph, Fail> {
     let program = program_of(alloc, text)?;
     let controls = program.controls.as_slice();
-    if program.diagrams.has_table(program.root) {
-        return Err("a table".into());
-    }
     let bounds = spans_of(alloc, controls)?;
     let Ok(delays) = spans(alloc, &program.diagrams, program.root, &bounds) else {
         return Err("delays".into());

@@ -16,8 +16,6 @@ pub mod Applied
 pub mod Parameters
 pub mod Others
 pub mod Named
-pub mod Labels
-pub mod Entered
 pub mod Controlled
 pub mod Begun
 pub mod Stepped

@@ -2,14 +2,12 @@
 use Rattle.std.proofs.Common.{◌≡◌, ℕ, zero, suc, ◌<◌, List, [], ◌∷◌, length, drop, get_or, map, Option, Some, None, refl, sym, ap, subst, ◌∙◌, arith}
 use Rattle.std.specs.Prelude.{slice_get, option_map}
 use Rattle.std.proofs.lemmas.Option.{none-some}
-use Rattle.std.proofs.Math.Seq.{drop-cons}
 use Rattle.fv_lex.specs.headline.Token.{Lexed}
 use Rattle.fv_parse_grammar.specs.headline.Tree.{Tree}
 use Rattle.fv_parse_grammar.specs.headline.Tree as tree
 use Rattle.fv_rules.specs.headline.Values.{Name, with_name, names_of}
 use Rattle.fv_eval_scopes.specs.Shows.{given_names}
 use Rattle.fv_eval.specs.inner.Continuations.{ShowsName, name_of}
-use Rattle.fv_eval.proofs.Places.{get_at_drop}
 
 -- the pattern at a place, and the name at the same one
 abbrev pub NameAt : Lexed → Option Tree → Option Name → Type 0
@@ -48,10 +46,6 @@ get_map f (x ∷ xs) zero = refl
 get_map f (x ∷ xs) (suc i) = get_map f xs i
 
 -- ---- a place that was read
-
--- what is read at a place
-pub get_within : {A : Type 0} (xs : List A) (i : ℕ) (x : A) → i < length xs → x ≡ get_or xs i x → slice_get xs i ≡ Some x
-get_within xs i x l e = get_at_drop xs i (get_or xs i x) (drop (suc i) xs) (drop-cons xs i x l) ∙ ap Some (sym e)
 
 shown_at : (l : Lexed) (t : Tree) (r : Option ℕ) (o : Option Name)
     → ((x : Name) → name_of l t ≡ Some x → ShowsName l r (Some x)) → NameAt l (Some t) o → ShowsName l r o

@@ -5,7 +5,6 @@ mod apply;
 mod arrive;
 mod begin;
 mod continuation;
-mod controls;
 mod iterate;
 mod machine;
 mod names;
@@ -13,6 +12,6 @@ mod sliders;
 mod turn;
 mod whole;
 
-pub use controls::Controls;
+pub use fv_eval_controls::Controls;
 pub use fv_rules::EvalRefusal;
 pub use whole::{Program, evaluate};

@@ -18,13 +18,13 @@ ghost use Rattle.fv_eval.specs.inner.Continuations.{Continues};
 ghost use Rattle.fv_eval.specs.inner.Names.{defined_by};
 
 use crate::continuation::{Continuation, Focus, ForDiagram};
-use crate::controls::Controls;
 use crate::machine::Machine;
 use crate::names::canonical;
 use fv_base::Word;
 use fv_base::limits::VISIT_LIMIT;
 use fv_diagram::{DiagramId, Diagrams};
 use fv_eval_choosing::Definitions;
+use fv_eval_controls::Controls;
 use fv_eval_machine::steps_mean;
 use fv_eval_scopes::Value;
 use fv_parse::{Tree, TreeId, TreeNode};

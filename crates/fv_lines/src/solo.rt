@@ -247,7 +247,7 @@ impl<'a, 'l, 's, 'b, 'c> Solo<'a, 'l, 's, 'b, 'c> {
 }
 
 impl<'a, 'l, 's, 'b, 'c> Store for Solo<'a, 'l, 's, 'b, 'c> {
-    ghost use Rattle.fv_loopcode.specs.headline.State.{lanes_alone};
+    ghost use Rattle.fv_loopcode.specs.State.{lanes_alone};
     ghost use Rattle.fv_lines.specs.Solo.{lanes_of, IsSolo, rest_of, SoloRest};
 
     ghost state = { λ s. lanes_alone (lanes_of s) };

@@ -4,7 +4,7 @@ ghost use Rattle.std.specs.Prelude.{◌≡◌, ◌<◌, ◌≤◌, ◌++◌, ℕ
 ghost use Rattle.fv_num.specs.headline.Words.{argument};
 ghost use Rattle.fv_loopcode.specs.headline.Lanes.{lane_of, sample_at};
 ghost use Rattle.fv_loopcode.specs.Lanes.{HasSample};
-ghost use Rattle.fv_loopcode.specs.headline.State.{lanes_alone};
+ghost use Rattle.fv_loopcode.specs.State.{lanes_alone};
 ghost use Rattle.fv_loopcode.specs.headline.Code.{ran};
 ghost use Rattle.fv_loopcode.specs.Code.{MayRun, frame_of, IsWithin};
 ghost use Rattle.fv_pool.specs.Layout.{HaveRoom};

@@ -1,20 +1,19 @@
 -- The running sum over so many samples.
 use Rattle.std.proofs.Common.{◌≡◌, ℕ, zero, suc, ◌+◌, ◌-◌, ◌≤◌, [], ◌∷◌, length, refl, sym, ap, ◌∙◌, subst, arith, ℤ, List}
 use Rattle.std.proofs.lemmas.List.{length_push, length-take-le}
-use Rattle.fv_num.specs.headline.Words.{argument}
 use Rattle.fv_loopcode.specs.declared.step.Step.{Step}
 use Rattle.fv_loopcode.specs.headline.Lanes.{Lane, lane_of}
-use Rattle.fv_loopcode.specs.headline.State.{lanes_alone}
+use Rattle.fv_loopcode.specs.State.{lanes_alone}
 use Rattle.fv_loopcode.specs.headline.Code.{passed, opening, ran}
 use Rattle.fv_loopcode.specs.Code.{MayPass, MayRun}
 use Rattle.fv_loopcode_tests.specs.Line.{lane_in, running_sum}
 use Rattle.fv_loopcode_tests.specs.declared.line.Line.{Line}
 
 -- a lane with a history of one sample, n samples more, and room up to so many
-record Holds (count n : ℕ) (lane : Lane) : Type 0 where
-  history : lane.history ≡ 1
-  long : length lane.items ≡ 1 + n
-  room : lane.room ≡ count - n
+pub record Holds (count n : ℕ) (lane : Lane) : Type 0 where
+  pub history : lane.history ≡ 1
+  pub long : length lane.items ≡ 1 + n
+  pub room : lane.room ≡ count - n
 
 module _ (held : ℕ → ℤ) (inputs : ℕ → ℕ → ℤ) (count : ℕ) (first : Lane) (begins : Holds count 0 first) where
   -- the lane after one sample more

@@ -1,7 +1,7 @@
 // A lane in a vector.
 
 ghost use Rattle.std.specs.Prelude.{[], ◌∷◌};
-ghost use Rattle.fv_loopcode.specs.headline.State.{lanes_alone};
+ghost use Rattle.fv_loopcode.specs.State.{lanes_alone};
 ghost use Rattle.fv_loopcode_tests.specs.Line.{lane_in};
 
 use fv_loopcode::Store;
@@ -30,5 +30,15 @@ impl Store for Line {
     fn append(&mut self, _lane: u64, value: i32) {
         self.cells[self.written as usize] = value;
         self.written += 1;
+    }
+
+    // There is no table.
+    fn read(&self, _table: u64, _index: i32) -> i32 {
+        unreachable!()
+    }
+
+    // There are no cells to write.
+    fn exchange(&mut self, _cells: u64, _w: i32, _x: i32, _r: i32) -> i32 {
+        unreachable!()
     }
 }

@@ -4,7 +4,7 @@ ghost use Rattle.std.specs.Prelude.{◌≡◌, ◌<◌, ◌+◌, [], length};
 ghost use Rattle.fv_loopcode_tests.specs.Line.{lane_in, running_sum, difference, scaled};
 
 use crate::line::Line;
-use fv_loopcode::{Code, Step, run};
+use fv_loopcode::{Code, Counts, Step, run};
 use fv_num::Op;
 use std::process::Abort;
 use std::test::Fail;
@@ -55,8 +55,21 @@ const SCALED: [Step; 5] = [
     },
 ];
 
+/// One lane, and no table and no cells.
+pub(crate) const ONE_LANE: Counts = Counts {
+    lanes: 1,
+    tables: 0,
+    cells: 0,
+};
+
+const NOTHING: Counts = Counts {
+    lanes: 0,
+    tables: 0,
+    cells: 0,
+};
+
 // Steps that are no code over one lane.
-static REFUSED: [(&str, &[Step]); 5] = [
+static REFUSED: [(&str, &[Step]); 7] = [
     (
         "an operand that is no earlier step",
         &[Step::Append { lane: 0, value: 0 }],
@@ -95,12 +108,26 @@ static REFUSED: [(&str, &[Step]); 5] = [
             max: 1,
         }],
     ),
+    (
+        "a table that is not there",
+        &[Step::Number(1), Step::Read { table: 0, arg: 0 }],
+    ),
+    (
+        "cells that are not there",
+        &[
+            Step::Number(1),
+            Step::Write {
+                cells: 0,
+                args: [0, 0, 0],
+            },
+        ],
+    ),
 ];
 
 #[test]
 fn code_reads_earlier_steps(rt: HostRuntime) -> Result<(), Fail> {
     for (name, steps) in &REFUSED {
-        let code = Code::new(rt.alloc(), steps, 1)?;
+        let code = Code::new(rt.alloc(), steps, ONE_LANE)?;
         assert!(rt; code.is_none(), "{name}");
     }
     Ok(())
@@ -121,7 +148,7 @@ pub(crate) fn sum(code: &Code, input: &[i32], count: u64, registers: &mut [i32],
 
 #[test]
 fn a_running_sum(rt: HostRuntime) -> Result<(), Fail> {
-    let Some(code) = Code::new(rt.alloc(), &SUM, 1)? else {
+    let Some(code) = Code::new(rt.alloc(), &SUM, ONE_LANE)? else {
         return Err("no code".into());
     };
     assert_eq!(rt; code.len(), 7);
@@ -150,7 +177,7 @@ fn hold(code: &Code, held: &[i32], registers: &mut [i32], line: &mut Line)
 
 #[test]
 fn held_values_are_registers(rt: HostRuntime) -> Result<(), Fail> {
-    let Some(code) = Code::new(rt.alloc(), &DIFFERENCE, 0)? else {
+    let Some(code) = Code::new(rt.alloc(), &DIFFERENCE, NOTHING)? else {
         return Err("no code".into());
     };
     let mut registers = [0; 3];
@@ -176,7 +203,7 @@ fn scale(code: &Code, input: &[i32], registers: &mut [i32], line: &mut Line)
 
 #[test]
 fn quotients_are_rounded_toward_zero(rt: HostRuntime) -> Result<(), Fail> {
-    let Some(code) = Code::new(rt.alloc(), &SCALED, 0)? else {
+    let Some(code) = Code::new(rt.alloc(), &SCALED, NOTHING)? else {
         return Err("no code".into());
     };
     let mut registers = [0; 5];

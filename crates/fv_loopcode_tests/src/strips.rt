@@ -4,7 +4,7 @@ ghost use Rattle.std.specs.Prelude.{◌≡◌, ◌<◌, ◌+◌, [], length};
 ghost use Rattle.fv_loopcode_tests.specs.Line.{running_sum};
 
 use crate::line::Line;
-use crate::rows::{SUM, sum};
+use crate::rows::{ONE_LANE, SUM, sum};
 use fv_loopcode_machine::{Code, run};
 use std::process::Abort;
 use std::test::Fail;
@@ -27,10 +27,10 @@ const COUNT: u64 = 70;
 
 #[test]
 fn strips_are_samples(rt: HostRuntime) -> Result<(), Fail> {
-    let Some(plain) = fv_loopcode::Code::new(rt.alloc(), &SUM, 1)? else {
+    let Some(plain) = fv_loopcode::Code::new(rt.alloc(), &SUM, ONE_LANE)? else {
         return Err("no code".into());
     };
-    let Some(code) = Code::new(rt.alloc(), &SUM, 1)? else {
+    let Some(code) = Code::new(rt.alloc(), &SUM, ONE_LANE)? else {
         return Err("no code".into());
     };
     let mut input = [0; 70];

@@ -13,7 +13,7 @@ use Rattle.fv_signal.specs.headline.Value.{Graph, members}
 use Rattle.fv_share.specs.Drafts.{with_members}
 use Rattle.fv_diagram.specs.declared.signals.Leaf.{Leaf}
 use Rattle.fv_diagram.specs.declared.signals.Leaf.TheVariants as leaf
-use Rattle.fv_diagram.specs.inner.Code.{padded}
+use Rattle.fv_diagram.specs.Hooks.{padded}
 use Rattle.fv_diagram.proofs.Meaning.{AreOrderly}
 use Rattle.fv_propagate.specs.declared.progress.Feedback.{Feedback}
 use Rattle.fv_propagate.specs.inner.Progress.{Progress, put, puts, passed, grouped, put_mem, put_prefix, leaf_of, opened_of, shut, closed_of, signal_hooks, AreNested}

@@ -11,7 +11,7 @@ use Rattle.fv_share.specs.Drafts.{Draft}
 use Rattle.fv_share.proofs.Puts.{put_stands}
 use Rattle.fv_signal.specs.declared.signal.Signal.TheVariants.{Const, Point, Back}
 use Rattle.fv_num.specs.declared.op.Op.TheVariants.{Add, Rem}
-use Rattle.fv_diagram.specs.inner.Code.{padded}
+use Rattle.fv_diagram.specs.Hooks.{padded}
 use Rattle.fv_share.proofs.Puts.{tables_stand}
 use Rattle.fv_propagate.specs.inner.Progress.{Progress, put, puts, put_next, grouped, late_of, turned, listed}
 

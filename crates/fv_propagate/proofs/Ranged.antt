@@ -20,10 +20,10 @@ use Rattle.fv_signal.specs.headline.Value.{Graph, clamped, value, IsOrdered}
 use Rattle.fv_diagram.specs.declared.signals.Leaf.{Leaf}
 use Rattle.fv_diagram.specs.declared.signals.Leaf.TheVariants as leaf
 use Rattle.fv_diagram.specs.Hooks.{takes}
-use Rattle.fv_diagram.specs.inner.Code.{padded}
+use Rattle.fv_diagram.specs.Hooks.{padded}
 use Rattle.fv_diagram.proofs.Places.{prefix_long, prefix_get, prefix_snoc}
 use Rattle.fv_diagram.proofs.Related.{AreRelated, Gives}
-use Rattle.fv_diagram.proofs.Sound.{takes_some}
+use Rattle.fv_diagram.proofs.Places.{takes_some}
 use Rattle.fv_interval.specs.headline.SpanHooks.{control_span}
 use Rattle.fv_interval.specs.inner.SpanHooks.{Noted, span_hooks}
 use Rattle.fv_interval.specs.headline.Laws.{IsOf}

@@ -27,14 +27,14 @@ use Rattle.fv_diagram.specs.declared.node.Primitive.TheVariants as prim
 use Rattle.fv_diagram.specs.headline.Diagram.{Primitive, Table, primitive_inputs, table_inputs, is_table_primitive}
 use Rattle.fv_diagram.specs.Diagram.{AreNumbers}
 use Rattle.fv_diagram.specs.Walked.{primitive, one}
-use Rattle.fv_diagram.specs.inner.Code.{padded}
+use Rattle.fv_diagram.specs.Hooks.{padded}
 use Rattle.fv_diagram.proofs.Causality.{delayed_same, back_same}
 use Rattle.fv_diagram.proofs.Carried.{column_carries}
 use Rattle.fv_diagram.proofs.Places.{table_replicate, carried_items, carried_first}
 use Rattle.std.proofs.Common.{false}
 use Rattle.std.proofs.lemmas.Bool.{true≢false}
 use Rattle.fv_diagram.proofs.Meaning.{Means, AreSound}
-use Rattle.fv_diagram.proofs.Sound.{takes_some}
+use Rattle.fv_diagram.proofs.Places.{takes_some}
 use Rattle.fv_propagate.specs.declared.progress.Feedback.{Feedback}
 use Rattle.fv_propagate.specs.inner.Progress.{Progress, put, puts, passed, put_mem, put_prefix, put_delay, opened_of, shut, closed_of, signal_hooks}
 use Rattle.fv_propagate.specs.inner.Progress.{AreNested, grouped, put_next, late_of, turned, counted_of, listed, table_node, tabled_of}

@@ -4,6 +4,7 @@ use Rattle.std.specs.Prelude.{Some, Option, Result, Ok, Err}
 use Rattle.fv_outside.specs.headline.Requests.{Request}
 use Rattle.fv_outside.specs.headline.Desk.{DeskState, File, file_named}
 use Rattle.fv_diagram.specs.declared.control.ControlInfo.{ControlInfo}
+use Rattle.fv_top_words.specs.declared.manner.ProgramKind.TheVariants.{Alone}
 use Rattle.fv_top_words.specs.headline.Runs.{Run}
 use Rattle.fv_top_words.specs.headline.Commands.{Job, Playing, Checking, Making}
 use Rattle.fv_top_report.specs.declared.refusal.Refusal.{Refusal}
@@ -14,8 +15,8 @@ use Rattle.fv_top_text.specs.Answers.{IsOnce}
 use Rattle.fv_top_text.specs.headline.Compiled.{Compiled}
 use Rattle.fv_top_text.specs.headline.Program.{TextIs}
 use Rattle.fv_top_text.specs.Program.{IsOneText}
-use Rattle.fv_top_playable.specs.headline.Tableless.{PlayedIs}
-use Rattle.fv_top_playable.specs.Tableless.{IsPlayedOnce}
+use Rattle.fv_top_rack.specs.headline.Kinds.{FileIs}
+use Rattle.fv_top_rack.specs.Kinds.{IsOneFile}
 use Rattle.fv_top_words.specs.declared.manner.InputKind.{InputKind}
 use Rattle.fv_top_files.specs.headline.Sources.{Source, found, script_of, source_of}
 use Rattle.fv_top_files.specs.headline.Output.{coding_of, format_of, cut_in}
@@ -55,8 +56,8 @@ module _ (Is : List ℕ → Result Compiled Refusal → Type 0) (once : IsOnce I
       cc
 
 -- and so does that of a run
-program_of : (run : Run) (files : List File) → IsPlayedOnce → (p q : HasProgramOf run files) → p.compiled ≡ q.compiled
-program_of run files once = one_program (PlayedIs run.manner.program) (once run.manner.program) run.program files
+program_of : (run : Run) (files : List File) → IsOneFile → (p q : HasProgramOf run files) → p.compiled ≡ q.compiled
+program_of run files once = one_program (FileIs run.manner.program) (once run.manner.program) run.program files
 
 -- a script says one thing of the same controls
 one_script : {name : Option (List ℕ)} {files : List File} {cs ds : List ControlInfo} {a b : _} → cs ≡ ds
@@ -72,7 +73,7 @@ one_source : {kind : InputKind} {name : Option (List ℕ)} {files : List File} {
 one_source p q = let e = one_input p q in cc
 
 -- the format of a program on an input
-one_format : (run : Run) (files : List File) → IsPlayedOnce → (p q : HasProgramOf run files) (s u : Source)
+one_format : (run : Run) (files : List File) → IsOneFile → (p q : HasProgramOf run files) (s u : Source)
     → HasInput run.manner.input run.input files (Ok s) → HasInput run.manner.input run.input files (Ok u)
     → format_of (coding_of run.manner.output) run.settings p.compiled.diagram s.head
     ≡ format_of (coding_of run.manner.output) run.settings q.compiled.diagram u.head
@@ -81,7 +82,7 @@ one_format run files once p q s u h k =
     ∙ ap (λ (w : Source). format_of (coding_of run.manner.output) run.settings q.compiled.diagram w.head) (one_source h k)
 
 -- two runs of the same files are cut short alike
-one_cut : (run : Run) (files : List File) → IsPlayedOnce → (p q : Plays run files) → cut_in p.format p.source ≡ cut_in q.format q.source
+one_cut : (run : Run) (files : List File) → IsOneFile → (p q : Plays run files) → cut_in p.format p.source ≡ cut_in q.format q.source
 one_cut run files once p q =
     let e = sym p.fits ∙ one_format run files once p.of q.of p.source q.source p.on q.on ∙ q.fits in
     let same : p.format ≡ q.format = cc in
@@ -89,8 +90,8 @@ one_cut run files once p q =
 
 -- ---- the steps of a run judge
 
-once_in : (run : Run) (files : List File) → IsPlayedOnce → (s : Step) (a b : Refusal) → StepRefuses run files s a → StepRefuses run files s b → a ≡ b
-once_in run files once ReadProgram a b h k = one_text (PlayedIs run.manner.program) (once run.manner.program) run.program files a b h k
+once_in : (run : Run) (files : List File) → IsOneFile → (s : Step) (a b : Refusal) → StepRefuses run files s a → StepRefuses run files s b → a ≡ b
+once_in run files once ReadProgram a b h k = one_text (FileIs run.manner.program) (once run.manner.program) run.program files a b h k
 once_in run files once ReadScript a b h k =
     let e = one_script (ap (λ (c : Compiled). c.controls) (program_of run files once h.0 k.0)) h.1 k.1 in cc
 once_in run files once ReadHead a b h k = let e = one_input h k in cc
@@ -98,8 +99,8 @@ once_in run files once Fit a b h k = let e = sym h.3 ∙ one_format run files on
 once_in run files once Write a b h k = let e = sym h.1 ∙ one_cut run files once h.0 k.0 ∙ k.1 in cc
 once_in run files once Tell a b h k = absurd h
 
-apart_in : (run : Run) (files : List File) → IsPlayedOnce → (s : Step) (a : Refusal) → StepPasses run files s → StepRefuses run files s a → ⊥
-apart_in run files once ReadProgram a p h = program_apart (PlayedIs run.manner.program) (once run.manner.program) run.program files a p h
+apart_in : (run : Run) (files : List File) → IsOneFile → (s : Step) (a : Refusal) → StepPasses run files s → StepRefuses run files s a → ⊥
+apart_in run files once ReadProgram a p h = program_apart (FileIs run.manner.program) (once run.manner.program) run.program files a p h
 apart_in run files once ReadScript a p h =
     let e = one_script (ap (λ (c : Compiled). c.controls) (program_of run files once p.0 h.0)) p.2 h.1 in absurd cc
 apart_in run files once ReadHead a p h = let e = one_input p.1 h in absurd cc
@@ -124,14 +125,9 @@ check_apart name files once Fit a p h = h
 check_apart name files once Write a p h = h
 check_apart name files once Tell a p h = h
 
--- a file is one thing at most, to a check and to a run
-pub record AreReadOnce : Type 0 where
-  pub text : IsOneText
-  pub played : IsPlayedOnce
-
-judges : (job : Job) (old : DeskState) → AreReadOnce → IsJudge (rules_of job old)
-judges (Playing run) old once = record { once = once_in run old.files once.played; apart = apart_in run old.files once.played }
-judges (Checking name) old once = record { once = check_once name old.files once.text; apart = check_apart name old.files once.text }
+judges : (job : Job) (old : DeskState) → IsOneFile → IsJudge (rules_of job old)
+judges (Playing run) old once = record { once = once_in run old.files once; apart = apart_in run old.files once }
+judges (Checking name) old once = record { once = check_once name old.files (once Alone); apart = check_apart name old.files (once Alone) }
 judges (Making voices frames) old once = record { once = λ s a b h k. absurd h; apart = λ s a p h. h }
 
 -- words ask for one thing
@@ -171,7 +167,7 @@ passes_of (Playing run) old can s = passes_in run old.files can.0 can.1 s
 passes_of (Checking name) old can s = check_passes name old.files can s
 passes_of (Making voices frames) old can s = tt
 
-pub done_strict : {words : List (List ℕ)} {frames : ℕ} {old new : DeskState} (tally : Tally) → AreReadOnce → HasDone words frames old new
+pub done_strict : {words : List (List ℕ)} {frames : ℕ} {old new : DeskState} (tally : Tally) → IsOneFile → HasDone words frames old new
     → IsStrict words old new (Done tally)
 done_strict {words} {frames} {old} {new} tally once p job wanted asks known stops =
     let same = one_command words p.job job p.asks asks in
@@ -189,13 +185,13 @@ as_status : (wanted got : Refusal) → (got ≡ wanted) ⊎ (got ≡ NoMemory) �
 as_status wanted got (inl e) = inl (ap Refused e)
 as_status wanted got (inr e) = inr (ap Refused e)
 
-pub refused_strict : {words : List (List ℕ)} {old new : DeskState} {e : Refusal} {asked : List Request} → HasCause words old new e asked → AreReadOnce
+pub refused_strict : {words : List (List ℕ)} {old new : DeskState} {e : Refusal} {asked : List Request} → HasCause words old new e asked → IsOneFile
     → IsStrict words old new (Refused e)
 refused_strict {words} {old} {new} {e} {asked} cause once job wanted asks known stops =
     let ends = ends_of words job old new e asked asks cause in
     as_status wanted e (exactly (rules_of job old) old new (judges job old once) known (steps_of job) wanted e ends.0 stops ends.1)
 
-pub refused_complete : {words : List (List ℕ)} {old new : DeskState} {e : Refusal} {asked : List Request} → HasCause words old new e asked → AreReadOnce
+pub refused_complete : {words : List (List ℕ)} {old new : DeskState} {e : Refusal} {asked : List Request} → HasCause words old new e asked → IsOneFile
     → IsComplete words old new (Refused e)
 refused_complete {words} {old} {new} {e} {asked} cause once job asks known passes =
     let ends = ends_of words job old new e asked asks cause in

@@ -10,7 +10,7 @@ use Rattle.fv_outside.specs.Desk.{Appends}
 use Rattle.fv_outside.proofs.States.{goes_on_self}
 use Rattle.fv_top_report.specs.declared.refusal.Refusal.{Refusal}
 use Rattle.fv_top_report.specs.declared.refusal.Refusal.TheVariants.{WriteFault, NoMemory}
-use Rattle.fv_diagram.specs.headline.Diagram.{Diagram, has_table}
+use Rattle.fv_diagram.specs.headline.Diagram.{Diagram}
 use Rattle.fv_control.specs.headline.Streams.{control_streams}
 use Rattle.fv_diagram.specs.headline.Samples.{answer_on}
 use Rattle.fv_top_make.specs.headline.Made.{text_of, noise_behind, noise_of, sum_of}
@@ -18,11 +18,11 @@ use Rattle.fv_top_make.specs.Made.{SumsAddUp, sum_from}
 use Rattle.fv_top_make.specs.Noises.{Sounds}
 use Rattle.fv_top_make.specs.declared.noise_tape.Noise.{Noise}
 use Rattle.fv_top_text.specs.headline.Compiled.{Compiled}
-use Rattle.fv_top_playable.specs.headline.Tableless.{PlayedIs}
-use Rattle.fv_top_playable.specs.Tableless.{IsOfPlayed, RefusesAFileOrATable}
+use Rattle.fv_top_rack.specs.headline.Kinds.{FileIs}
+use Rattle.fv_top_rack.specs.Kinds.{IsOfKind}
 use Rattle.fv_top_words.specs.declared.manner.ProgramKind.TheVariants.{Alone}
 use Rattle.fv_top_words.specs.headline.Commands.{most_voices}
-use Rattle.fv_top_voices.specs.Voices.{VoicesAreOneProgram, VoicesAreNotRefused, VoicesAreTableless}
+use Rattle.fv_top_voices.specs.Voices.{VoicesAreNotRefused}
 use Rattle.fv_top_report.specs.headline.Lines.{made_line}
 use Rattle.fv_top.specs.headline.Meant.{make_meant}
 use Rattle.fv_top_report.specs.Parts.{AppendsPart}
@@ -32,25 +32,11 @@ use Rattle.fv_top.specs.inner.Running.{Makes, StopsMake, HasSum}
 
 -- ---- the program and its noise
 
--- what is known of the programs of voices, and of what is played
-pub record Known : Type 0 where
-  pub one : VoicesAreOneProgram
-  pub accepted : VoicesAreNotRefused
-  pub tableless : VoicesAreTableless
-  pub refused : RefusesAFileOrATable
-
 -- only want of memory stops the reading of its text
-pub only_memory : Known → (voices : ℕ) (e : Refusal) → 1 ≤ voices → voices ≤ most_voices
-    → (e ≡ NoMemory) ⊎ (IsOfPlayed Alone e × PlayedIs Alone (text_of voices) (Err e)) → e ≡ NoMemory
-only_memory k voices e some few (inl m) = m
-only_memory k voices e some few (inr h) =
-    ⊎_elim (λ t. absurd (k.accepted voices e some few t))
-    (λ t.
-    let same = k.one voices t.1 some few t.2 in
-    let none = ap (λ (p : Compiled). has_table p.diagram) same ∙ k.tableless voices in
-    let wrong = sym none ∙ t.3 in
-    absurd cc)
-    (k.refused Alone (text_of voices) e h.1)
+pub only_memory : VoicesAreNotRefused → (voices : ℕ) (e : Refusal) → 1 ≤ voices → voices ≤ most_voices
+    → (e ≡ NoMemory) ⊎ (IsOfKind Alone e × FileIs Alone (text_of voices) (Err e)) → e ≡ NoMemory
+only_memory accepted voices e some few (inl m) = m
+only_memory accepted voices e some few (inr h) = absurd (accepted voices e some few h.1)
 
 -- what is heard of the noise of so many voices, and the sum of what is given for it
 pub noise_heard : {start now : Noise} {h s : List ℤ} (voices frames : ℕ) → SumsAddUp → Sounds start now h s → length h ≡ frames → start.state ≡ pos voices

@@ -11,8 +11,8 @@ use Rattle.fv_top_words.specs.headline.Commands.{Playing}
 use Rattle.fv_top_files.specs.declared.incoming.Incoming.{Incoming}
 use Rattle.fv_top_report.specs.declared.refusal.Refusal.{Refusal}
 use Rattle.fv_top_report.specs.declared.refusal.Refusal.TheVariants.{NoMemory}
-use Rattle.fv_top_playable.specs.headline.Tableless.{PlayedIs}
-use Rattle.fv_top_playable.specs.Tableless.{IsOfPlayed}
+use Rattle.fv_top_rack.specs.headline.Kinds.{FileIs}
+use Rattle.fv_top_rack.specs.Kinds.{IsOfKind}
 use Rattle.fv_top_text.specs.headline.Compiled.{Compiled}
 use Rattle.fv_top_files.specs.headline.Output.{OutputFormat, coding_of, format_of}
 use Rattle.fv_top_files.specs.headline.Loading.{HasScript, HasInput, reading}
@@ -35,7 +35,7 @@ use Rattle.fv_top.proofs.Reaching.{FailsToLoad, reaches_nothing, reaches_file, r
 pub record HasText (run : Run) (p : Compiled) (a : DeskState) : Type 0 where
   pub text : List ℕ
   pub file : IsFile run.program text a
-  pub program : PlayedIs run.manner.program text (Ok p)
+  pub program : FileIs run.manner.program text (Ok p)
 
 -- this program
 pub record AfterProgram (run : Run) (p : Compiled) (a b : DeskState) : Type 0 where
@@ -62,7 +62,7 @@ abbrev has : {run : Run} {p : Compiled} {a : DeskState} → HasText run p a → 
 has {p = p} of t = record { text = of.text; file = of.file t; compiled = p; program = of.program }
 
 pub after_program : {run : Run} {p : Compiled} {a b : DeskState} → ReadsFile Program (Some run.program) a b → KeepsFaults a b
-    → (text : List ℕ) × IsFile run.program text a × PlayedIs run.manner.program text (Ok p) → AfterProgram run p a b
+    → (text : List ℕ) × IsFile run.program text a × FileIs run.manner.program text (Ok p) → AfterProgram run p a b
 after_program {run} {a = a} q steady s = record {
   of = record { text = s.0; file = s.1; program = s.2 };
   reaches = reaches_file {Reads = IsReadBy (Playing run)} {role = Program} (λ named. tt) (reaches_nothing (IsReadBy (Playing run)) a) q;
@@ -96,10 +96,10 @@ after_head {run} {head = head} {held = held} {c = c} w q steady says = record {
 -- ---- why it stops
 
 pub stops_program : {run : Run} {a b : DeskState} {e : Refusal}
-    → FailsToLoad Program (Some run.program) (IsOfPlayed run.manner.program) (HasNoProgram (PlayedIs run.manner.program) run.program a.files) a b e
+    → FailsToLoad Program (Some run.program) (IsOfKind run.manner.program) (HasNoProgram (FileIs run.manner.program) run.program a.files) a b e
     → StopsBefore run a b e
 stops_program {run} {a} {b} {e} f =
-    let P = HasNoProgram (PlayedIs run.manner.program) run.program a.files in
+    let P = HasNoProgram (FileIs run.manner.program) run.program a.files in
     record {
       asked = to_read Program run.program ∷ [];
       reaches = reaches_file {Reads = IsReadBy (Playing run)} {role = Program} (λ named. tt) (reaches_nothing (IsReadBy (Playing run)) a) f.reads;

@@ -17,7 +17,7 @@ use Rattle.fv_pcm.specs.declared.coding.Coding.{Coding}
 use Rattle.fv_pcm.specs.headline.Sizes.{data_size, data_limit}
 use Rattle.fv_top_report.specs.declared.refusal.Refusal.{Refusal}
 use Rattle.fv_top_report.specs.declared.refusal.Refusal.TheVariants.{ReadFault, Channels, FramesNeeded, OutputTooLong}
-use Rattle.fv_top_playable.specs.Tableless.{IsOfPlayed}
+use Rattle.fv_top_rack.specs.Kinds.{IsOfKind}
 use Rattle.fv_top_files.specs.headline.Output.{OutputFormat, format_of, counted, channels_in, bits_in, frames_in}
 use Rattle.fv_top_files.specs.headline.Inputs.{stated_frames}
 use Rattle.fv_top_files.specs.headline.Loading.{IsThere, reading}
@@ -67,7 +67,7 @@ loading_halts run s role name P {e = e} m p takes answers refuses (inr (inl h)) 
 loading_halts run s role name P {a = a} {c = c} w p takes answers refuses (inr (inr m)) = subst (Halts (run_rules run a) a c s) (sym m) (want_of_memory w)
 
 -- a fault is no refusal of a program's file
-pub no_kind : (kind : ProgramKind) (role : Role) → IsOfPlayed kind (ReadFault role) → ⊥
+pub no_kind : (kind : ProgramKind) (role : Role) → IsOfKind kind (ReadFault role) → ⊥
 no_kind Alone role is = absurd cc
 no_kind Rack role is = absurd cc
 

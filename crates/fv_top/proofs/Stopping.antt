@@ -18,7 +18,7 @@ use Rattle.fv_top_report.specs.declared.refusal.Refusal.TheVariants.{Usage, NoMe
 use Rattle.fv_pcm.specs.declared.coding.Coding.{Coding}
 use Rattle.fv_pcm.specs.declared.coding.Coding.TheVariants as coding
 use Rattle.fv_top_words.specs.declared.manner.InputKind.{InputKind}
-use Rattle.fv_top_playable.specs.Tableless.{IsOfPlayed}
+use Rattle.fv_top_rack.specs.Kinds.{IsOfKind}
 use Rattle.fv_top_files.specs.declared.incoming.Incoming.{Incoming}
 use Rattle.fv_top_files.specs.headline.Inputs.{truncated, read_bytes}
 use Rattle.fv_top.specs.headline.Steps.{Rules, Turn, fault_of, reads, writes, Ends}
@@ -90,7 +90,7 @@ judged_cut k a b steps e c place asked is h =
     judged_in k a b steps (truncated c place) asked (no_fault c place) (no_want c place) (subst (λ (r : Refusal). Ends k a b steps r asked) is h)
 
 -- it is no refusal of a program's file
-no_program : (kind : ProgramKind) (c : Coding) (place : ℕ) → IsOfPlayed kind (truncated c place) → ⊥
+no_program : (kind : ProgramKind) (c : Coding) (place : ℕ) → IsOfKind kind (truncated c place) → ⊥
 no_program Alone coding.Wave place is = absurd cc
 no_program Alone coding.Au place is = absurd cc
 no_program Rack coding.Wave place is = absurd cc

@@ -10,7 +10,6 @@ mod run;
 mod script;
 mod tape;
 
-pub use fv_top_playable::one_played;
 pub use fv_top_rack::{jobs_answer, one_file};
 pub use fv_top_report::{Cause, Refusal, Status, Tally};
 pub use fv_top_text::one_program;

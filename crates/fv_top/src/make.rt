@@ -17,7 +17,7 @@ ghost use Rattle.fv_top.specs.inner.Running.{Makes, StopsMake, HasSum};
 use fv_engine_render::{Played, Ran, RunSizes, make_ready_graph, render_tape};
 use fv_outside::{Desk, Gate, Role};
 use fv_top_make::{Noise, NoiseTape, sums_add_up, text_of};
-use fv_top_playable::{Playable, one_played, read_playable};
+use fv_top_playable::{Playable, read_playable};
 use fv_top_report::{Refusal, report_made};
 use fv_top_voices::voices_are_a_program;
 use fv_top_words::ProgramKind;
@@ -97,7 +97,6 @@ fn made_program(alloc: Global, voices: u32) -> Result<Playable, Refusal>
     ensures none { IfErr result (λ e. e ≡ NoMemory) }
 {
     voices_are_a_program();
-    one_played();
     let text = text_of(alloc, voices)?;
     let playable = read_playable(alloc, ProgramKind::Alone, &text)?;
     Ok(playable)

@@ -8,8 +8,8 @@ ghost use Rattle.fv_top_text.specs.headline.Program.{TextIs, IsProgram, delays_i
 ghost use Rattle.fv_top_text.specs.Program.{IsOfText};
 ghost use Rattle.fv_interval.specs.Delays.{AreAccepted};
 ghost use Rattle.fv_diagram.specs.Arena.{count_of};
-ghost use Rattle.fv_top_playable.specs.headline.Tableless.{PlayedIs};
-ghost use Rattle.fv_top_playable.specs.Tableless.{IsOfPlayed};
+ghost use Rattle.fv_top_rack.specs.headline.Kinds.{FileIs};
+ghost use Rattle.fv_top_rack.specs.Kinds.{IsOfKind};
 ghost use Rattle.fv_top.specs.headline.Promise.{HasNoProgram};
 ghost use Rattle.fv_top_text.specs.Compiled.{compiled_of};
 ghost use Rattle.fv_top_files.specs.Loading.{ReadsFile, StopsLoading, IsFile};
@@ -20,9 +20,10 @@ use fv_eval::Program;
 use fv_interval::Delays;
 use fv_outside::{Desk, Role};
 use fv_top_files::{read_front, read_refusal};
-use fv_top_playable::{Playable, front_is_played, read_playable};
+use fv_top_playable::{Playable, read_playable};
+use fv_top_rack::front_is_enough;
 use fv_top_report::Refusal;
-use fv_top_text::{front_is_enough, read_program};
+use fv_top_text::read_program;
 use fv_top_words::ProgramKind;
 use std::alloc::Global;
 
@@ -63,11 +64,11 @@ pub fn load_playable<D: Desk>(
 ) -> Result<Playable, Refusal>
     ensures reads { ReadsFile program_role (Some name.now) (D.state desk.old) (D.state desk.new) }
     ensures found { IfOk result (IsProgramOf kind name.now (D.state desk.old)) }
-    ensures err { IfErr result (StopsLoading program_role (Some name.now) (IsOfPlayed kind)
-        (HasNoProgram (PlayedIs kind) name.now (D.state desk.old).files) (D.state desk.old) (D.state desk.new)) }
+    ensures err { IfErr result (StopsLoading program_role (Some name.now) (IsOfKind kind)
+        (HasNoProgram (FileIs kind) name.now (D.state desk.old).files) (D.state desk.old) (D.state desk.new)) }
     ensures steady { (IsErrOf result (ReadFault program_role) → ⊥) → KeepsFaults (D.state desk.old) (D.state desk.new) }
 {
-    front_is_played();
+    front_is_enough();
     let file = match read_front(alloc, desk, Role::Program, name, PROGRAM_BYTES) {
         Ok(file) => file,
         Err(error) => return Err(read_refusal(Role::Program, error)),

@@ -16,9 +16,8 @@ use crate::make::run_make;
 use crate::play::play;
 use crate::prepare::prepare;
 use fv_outside::{Desk, Gate, Role};
-use fv_top_playable::one_played;
+use fv_top_rack::one_file;
 use fv_top_report::{Refusal, Status, Tally, report_done, report_refusal};
-use fv_top_text::one_program;
 use fv_top_words::{Job, Run, job_in};
 use std::alloc::Global;
 use std::sync::Wait;
@@ -141,8 +140,7 @@ pub fn run_faustvec<R: Threads + Wait + Sync, D: Desk, G: Gate + Sync>(
     ensures exact { IsExact (map string_bytes words.now) result }
     ensures strict { IsStrict (map string_bytes words.now) (D.state desk.old) (D.state desk.new) result }
 {
-    one_played();
-    one_program();
+    one_file();
     let tally = match perform(rt, alloc, words, desk, gate) {
         Ok(tally) => tally,
         Err(refusal) => {

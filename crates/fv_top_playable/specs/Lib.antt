@@ -1,6 +1,4 @@
-pub mod headline
 pub mod Playables
-pub mod Tableless
 -- what its public clauses cite of crates below
 pub use Rattle.fv_engine_render.specs.headline.Plans
 pub use Rattle.fv_engine_render.specs.Plans as PlansBeside

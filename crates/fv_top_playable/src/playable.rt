@@ -1,20 +1,18 @@
 // What is played of the program that a file is.
 
-ghost use Rattle.std.specs.Prelude.{◌≡◌, ◌⊎◌, false, IfOk, IfErr, Ok, Err};
+ghost use Rattle.std.specs.Prelude.{◌≡◌, ◌⊎◌, IfOk, IfErr, Ok, Err};
 ghost use Rattle.fv_interval.specs.headline.Controls.{spans_of};
-ghost use Rattle.fv_diagram.specs.headline.Diagram.{has_table};
 ghost use Rattle.fv_diagram.specs.declared.control.ControlInfo.{ControlInfo as Control};
 ghost use Rattle.fv_engine_render.specs.headline.Plans.{IsGraphOf};
 ghost use Rattle.fv_top_report.specs.declared.refusal.Refusal.TheVariants.{NoMemory};
 ghost use Rattle.fv_top_text.specs.headline.Compiled.{Compiled};
 ghost use Rattle.fv_top_text.specs.Compiled.{compiled_of, CanPlay};
+ghost use Rattle.fv_top_rack.specs.headline.Kinds.{FileIs};
+ghost use Rattle.fv_top_rack.specs.Kinds.{IsOfKind};
 ghost use Rattle.fv_top_rack.specs.Reads.{AreRead, IsRead, compiled_in};
 ghost use Rattle.fv_top_playable.specs.Playables.{IsPlayable};
-ghost use Rattle.fv_top_playable.specs.headline.Tableless.{PlayedIs};
-ghost use Rattle.fv_top_playable.specs.Tableless.{IsOfPlayed};
 
 use crate::rack::rack;
-use crate::tableless::check_tables;
 use fv_diagram::{ControlInfo, Label};
 use fv_engine_render::{Source, compile};
 use fv_signal::Graph;
@@ -34,13 +32,12 @@ pub struct Playable {
 
 /// Reads the program that a file of this kind is, as what is played of it.
 pub fn read_playable(alloc: Global, kind: ProgramKind, file: &[u8]) -> Result<Playable, Refusal>
-    // What is answered is of the file's program, in which no table occurs.
-    ensures found { IfOk result (λ p. (c : Compiled) × PlayedIs kind file.now (Ok c) × IsPlayable c p) }
-    // Only a file that is no such program is refused, and for its cause.
-    ensures refused { IfErr result (λ e. (e ≡ NoMemory) ⊎ (IsOfPlayed kind e × PlayedIs kind file.now (Err e))) }
+    // What is answered is of the file's program.
+    ensures found { IfOk result (λ p. (c : Compiled) × FileIs kind file.now (Ok c) × IsPlayable c p) }
+    // Only a file that is no program is refused, and for its cause.
+    ensures refused { IfErr result (λ e. (e ≡ NoMemory) ⊎ (IsOfKind kind e × FileIs kind file.now (Err e))) }
 {
     let programs = read_programs(alloc, kind, file)?;
-    check_tables(alloc, &programs)?;
     let playable = playable_of(alloc, &programs)?;
     Ok(playable)
 }
@@ -49,7 +46,6 @@ pub fn read_playable(alloc: Global, kind: ProgramKind, file: &[u8]) -> Result<Pl
 fn playable_of(alloc: Global, programs: &Programs) -> Result<Playable, AllocError>
     requires read { AreRead programs.now }
     requires plays { CanPlay (compiled_in programs.now) }
-    requires tableless { has_table (compiled_in programs.now).diagram ≡ false }
     ensures { IfOk result (IsPlayable (compiled_in programs.now)) }
 {
     match programs {
@@ -60,8 +56,7 @@ fn playable_of(alloc: Global, programs: &Programs) -> Result<Playable, AllocErro
 
 // Of one program.
 fn alone(alloc: Global, read: &Read) -> Result<Playable, AllocError>
-    requires read { IsRead read.now }
-    requires tableless { has_table (compiled_of read.now.program).diagram ≡ false }
+    requires { IsRead read.now }
     ensures { IfOk result (IsPlayable (compiled_of read.now.program)) }
 {
     let graph = graph_of(alloc, read)?;
@@ -77,8 +72,7 @@ fn alone(alloc: Global, read: &Read) -> Result<Playable, AllocError>
 
 /// The graph of a program that was read.
 pub(crate) fn graph_of(alloc: Global, read: &Read) -> Result<Graph, AllocError>
-    requires read { IsRead read.now }
-    requires tableless { has_table (compiled_of read.now.program).diagram ≡ false }
+    requires { IsRead read.now }
     ensures { IfOk result (IsGraphOf (compiled_of read.now.program).diagram (spans_of (compiled_of read.now.program).controls)) }
 {
     let source = Source {

@@ -1,7 +1,6 @@
 // What is played of several programs side by side.
 
-ghost use Rattle.std.specs.Prelude.{◌≡◌, ◌≤◌, ◌<◌, false, length, map, All, IfOk};
-ghost use Rattle.fv_diagram.specs.headline.Diagram.{has_table};
+ghost use Rattle.std.specs.Prelude.{◌≡◌, ◌≤◌, length, map, All, IfOk};
 ghost use Rattle.fv_engine_render.specs.SideBySide.{AreJobsOf, IsJobOf};
 ghost use Rattle.fv_base.specs.declared.limits.TheConstants.{MOST_JOBS};
 ghost use Rattle.fv_jobs_controls.specs.headline.Labels.{controls_of};
@@ -24,7 +23,6 @@ pub(crate) fn rack(alloc: Global, reads: &[Read]) -> Result<Playable, AllocError
     requires read { All IsRead reads.now }
     requires few { length reads.now ≤ MOST_JOBS }
     requires plays { CanPlay (rack_of (programs_in reads.now)) }
-    requires tableless { has_table (rack_of (programs_in reads.now)).diagram ≡ false }
     ensures { IfOk result (IsPlayable (rack_of (programs_in reads.now))) }
 {
     joined_is_graph();
@@ -43,8 +41,7 @@ pub(crate) fn rack(alloc: Global, reads: &[Read]) -> Result<Playable, AllocError
 
 // Their graphs, as jobs.
 fn jobs_of(alloc: Global, reads: &[Read]) -> Result<Vec<Job>, AllocError>
-    requires read { All IsRead reads.now }
-    requires tableless { All (λ r. has_table (compiled_of r.program).diagram ≡ false) reads.now }
+    requires { All IsRead reads.now }
     ensures { IfOk result (λ v. AreJobsOf v.items (map part_of (programs_in reads.now))) }
 {
     let mut jobs = Vec::new(alloc);
@@ -57,8 +54,7 @@ fn jobs_of(alloc: Global, reads: &[Read]) -> Result<Vec<Job>, AllocError>
 
 // The graph of a program, as a job.
 fn job_of(alloc: Global, read: &Read) -> Result<Job, AllocError>
-    requires read { IsRead read.now }
-    requires tableless { has_table (compiled_of read.now.program).diagram ≡ false }
+    requires { IsRead read.now }
     ensures { IfOk result (λ j. IsJobOf j (part_of (compiled_of read.now.program))) }
 {
     let graph = graph_of(alloc, read)?;

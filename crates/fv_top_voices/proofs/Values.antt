@@ -12,7 +12,7 @@ use Rattle.fv_parse_grammar.specs.declared.form.Operator.TheVariants as operator
 use Rattle.fv_parse_grammar.specs.declared.form.Iteration.TheVariants as repetitions
 use Rattle.fv_diagram.specs.declared.node.Primitive.{Primitive as Prim}
 use Rattle.fv_diagram.specs.declared.node.Primitive.TheVariants.{Wire, Delay, Point}
-use Rattle.fv_diagram.specs.headline.Diagram.{Diagram, Primitive, Constant, Par, Seq, Split, Merge, Rec, size, inputs, outputs, has_table, has_table_primitive}
+use Rattle.fv_diagram.specs.headline.Diagram.{Diagram, Primitive, Constant, Par, Seq, Split, Merge, Rec, size, inputs, outputs, has_table_primitive}
 use Rattle.fv_diagram.specs.headline.Arena.{size_limit}
 use Rattle.fv_arity.specs.declared.refusal.ArityKind.TheVariants as kind
 use Rattle.fv_rules.specs.declared.refusal.EvalRefusal.TheVariants.{Arity, TableForm}
@@ -97,14 +97,6 @@ none_in_voices i (suc k) = none_in_voices (suc i) k
 
 none_in_whole : (k : ℕ) → has_table_primitive (whole k) ≡ false
 none_in_whole k = ap (λ b. b || false) (none_in_voices 0 k)
-
--- nor a table
-no_table_in_voices : (i k : ℕ) → has_table (voices_from i k) ≡ false
-no_table_in_voices i zero = refl
-no_table_in_voices i (suc k) = no_table_in_voices (suc i) k
-
-pub no_table : (k : ℕ) → has_table (whole k) ≡ false
-no_table k = ap (λ b. b || false) (no_table_in_voices 0 k)
 
 -- ---- one voice
 

@@ -1,10 +1,10 @@
 -- The program that the text of so many voices is (this project's profile).
-use Rattle.std.specs.Prelude.{◌≡◌, ℕ, zero, suc, ◌+◌, ◌-◌, ◌*◌, ◌≤◌, false, [], pos}
+use Rattle.std.specs.Prelude.{◌≡◌, ℕ, zero, suc, ◌+◌, ◌-◌, ◌*◌, ◌≤◌, [], pos}
 use Rattle.fv_base.specs.declared.limits.TheConstants.{MOST_VOICES}
 use Rattle.fv_num.specs.declared.op.Op.TheVariants as op
 use Rattle.fv_diagram.specs.declared.node.Primitive.{Primitive as Prim}
 use Rattle.fv_diagram.specs.declared.node.Primitive.TheVariants.{Wire, Delay, Point}
-use Rattle.fv_diagram.specs.headline.Diagram.{Diagram, Primitive, Constant, Par, Seq, Split, Merge, Rec, has_table}
+use Rattle.fv_diagram.specs.headline.Diagram.{Diagram, Primitive, Constant, Par, Seq, Split, Merge, Rec}
 use Rattle.fv_top_make.specs.headline.Made.{text_of}
 use Rattle.fv_top_report.specs.declared.refusal.Refusal.{Refusal}
 use Rattle.fv_top_text.specs.headline.Compiled.{Compiled}
@@ -39,7 +39,3 @@ VoicesAreOneProgram = (voices : ℕ) (p : Compiled) → 1 ≤ voices → voices 
 -- And it is refused for nothing.
 abbrev pub VoicesAreNotRefused : Type 0
 VoicesAreNotRefused = (voices : ℕ) (refusal : Refusal) → 1 ≤ voices → voices ≤ MOST_VOICES → IsRefusedText (text_of voices) refusal → ⊥
-
--- No waveform and no table occurs in it.
-abbrev pub VoicesAreTableless : Type 0
-VoicesAreTableless = (voices : ℕ) → has_table (let p = program_of voices in p.diagram) ≡ false

@@ -1,19 +1,18 @@
 //! The program that `make` makes: which one the text of so many voices is.
 #![tactic(auto)]
 
-ghost use Rattle.fv_top_voices.specs.Voices.{VoicesAreAProgram, VoicesAreOneProgram, VoicesAreNotRefused, VoicesAreTableless};
+ghost use Rattle.fv_top_voices.specs.Voices.{VoicesAreAProgram, VoicesAreOneProgram, VoicesAreNotRefused};
 
 use fv_parse_grammar::reads_what_is_spelled;
 use fv_rules::literals_stay;
 use fv_top_text::one_program;
 
-/// The text of 1 to 64 voices is one program: the voices side by side on one input, added up, without controls and tables. It is
-/// never refused.
+/// The text of 1 to 64 voices is one program: the voices side by side on one input, added up, without controls. It is never
+/// refused.
 pub fn voices_are_a_program()
     ensures program { VoicesAreAProgram }
     ensures one { VoicesAreOneProgram }
     ensures accepted { VoicesAreNotRefused }
-    ensures tableless { VoicesAreTableless }
 {
     reads_what_is_spelled();
     literals_stay();

@@ -1,8 +1,13 @@
 -- A lane of one sample.
-use Rattle.std.specs.Prelude.{Bool, true, false, [], ◌∷◌, ℤ}
+use Rattle.std.specs.Prelude.{Bool, true, false, List, [], ◌∷◌, ℤ}
 use Rattle.fv_loopcode.specs.headline.Lanes.{Lane}
+use Rattle.fv_loopcode.specs.headline.State.{State}
 
 -- the lane that has this sample, or room for one
 abbrev pub lane_with : Bool → ℤ → Lane
 lane_with true v = record { history = 0; items = v ∷ []; room = 0 }
 lane_with false v = record { history = 0; items = []; room = 1 }
+
+-- that lane and these tables
+abbrev pub one_lane : List (List ℤ) → Bool → ℤ → State
+one_lane tables is_written v = record { lanes = lane_with is_written v ∷ []; tables = tables; cells = [] }

@@ -2,7 +2,8 @@
 use Rattle.std.specs.Prelude.{◌≡◌, ℕ, ◌<◌, List, length, map, slice_index_or}
 use Rattle.fv_outside.specs.headline.Tasks.{Tasks}
 use Rattle.fv_loopcode.specs.Obeys.{Content}
-use Rattle.fv_loopcode.specs.headline.State.{State, lanes_alone}
+use Rattle.fv_loopcode.specs.headline.State.{State}
+use Rattle.fv_loopcode.specs.State.{lanes_alone}
 use Rattle.fv_lines.specs.Writer.{list_of, written_by}
 use Rattle.fv_lines.specs.declared.writer.LaneWriter.{LaneWriter}
 use Rattle.fv_engine_tasks.specs.headline.Block.{vectors_of}

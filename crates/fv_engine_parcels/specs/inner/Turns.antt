@@ -3,7 +3,9 @@ use Rattle.std.specs.Prelude.{◌≡◌, ℕ, suc, ◌-◌, ◌/◌, ◌<◌, �
 use Rattle.fv_outside.specs.headline.Tasks.{Tasks}
 use Rattle.fv_graph.specs.Graph.{stride, place_in, pair_at}
 use Rattle.fv_loopcode.specs.declared.step.Step.{Step}
-use Rattle.fv_loopcode.specs.headline.Lanes.{Lane, lane_of}
+use Rattle.fv_loopcode.specs.headline.Lanes.{lane_of}
+use Rattle.fv_loopcode.specs.headline.State.{State, list_at}
+use Rattle.fv_split_plan.specs.headline.View.{cells_info}
 use Rattle.fv_loopcode.specs.Obeys.{Content, Holds, HoldsJust}
 use Rattle.fv_engine_lanes.specs.Plans.{own_lanes, locals_of, lanes_of_all, IsLocalCode}
 use Rattle.fv_engine_parcels.specs.Contents.{tasks_in, IsContentOf, upto}
@@ -46,11 +48,16 @@ module _ (k : Start) (j v : ℕ) where
   abbrev pub to : ℕ
   to = upto k (suc v)
 
-  -- before the task: the loop's own lanes hold their values up to the vector, the seen ones up to the next
-  pub record Before (lanes : List Lane) : Type 0 where
-    pub long : length lanes ≡ length locals
-    pub mine : (f : Content) → IsContentOf k f → (i : ℕ) → i < length own → HoldsJust f (slice_index locals i) from (k.frames - from) (lane_of lanes i)
-    pub seen : (f : Content) → IsContentOf k f → (i : ℕ) → length own ≤ i → i < length locals → Holds f (slice_index locals i) to (lane_of lanes i)
+  -- before the task: the loop's own lanes and cells hold what they are to hold up to the vector, the seen lanes up to the next
+  pub record Before (state : State) : Type 0 where
+    pub long : length state.lanes ≡ length locals
+    pub mine : (f : Content) → IsContentOf k f → (i : ℕ) → i < length own
+        → HoldsJust f (slice_index locals i) from (k.frames - from) (lane_of state.lanes i)
+    pub seen : (f : Content) → IsContentOf k f → (i : ℕ) → length own ≤ i → i < length locals → Holds f (slice_index locals i) to (lane_of state.lanes i)
+    pub tables : state.tables ≡ k.plan.now.tables
+    pub count : length state.cells ≡ length k.plan.now.cells
+    pub cells : (f : Content) → IsContentOf k f → (i : ℕ) → i < length k.plan.now.cells → (cells_info k.plan.now i).owner ≡ j
+        → list_at state.cells i ≡ f.cells i from
 
   -- what is known of the vector and of the code
   pub record Known (code : List Step) : Type 0 where
@@ -59,6 +66,8 @@ module _ (k : Start) (j v : ℕ) where
     pub few : length own ≤ length locals
     pub codes : IsLocalCode k.plan.now (tasks_in k) j code
 
-  -- after it the loop's own lanes hold theirs up to the next
-  abbrev pub After : List Lane → Type 0
-  After lanes = (f : Content) → IsContentOf k f → (i : ℕ) → i < length own → HoldsJust f (slice_index locals i) to (k.frames - to) (lane_of lanes i)
+  -- after it the loop's own lanes and cells hold theirs up to the next
+  pub record After (state : State) : Type 0 where
+    pub mine : (f : Content) → IsContentOf k f → (i : ℕ) → i < length own → HoldsJust f (slice_index locals i) to (k.frames - to) (lane_of state.lanes i)
+    pub cells : (f : Content) → IsContentOf k f → (i : ℕ) → i < length k.plan.now.cells → (cells_info k.plan.now i).owner ≡ j
+        → list_at state.cells i ≡ f.cells i to

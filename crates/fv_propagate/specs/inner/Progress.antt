@@ -8,7 +8,7 @@ use Rattle.fv_share.specs.Drafts as share
 use Rattle.fv_diagram.specs.declared.signals.Leaf.{Leaf}
 use Rattle.fv_diagram.specs.declared.signals.Leaf.TheVariants as leaf
 use Rattle.fv_diagram.specs.Hooks.{Hooks}
-use Rattle.fv_diagram.specs.inner.Code.{padded}
+use Rattle.fv_diagram.specs.Hooks.{padded}
 use Rattle.fv_propagate.specs.declared.progress.Feedback.{Feedback}
 
 -- the graph so far, the delays that are still to come, and the feedbacks that are open, the innermost one first

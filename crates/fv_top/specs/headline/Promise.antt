@@ -20,7 +20,7 @@ use Rattle.fv_top_report.specs.declared.refusal.Refusal.TheVariants.{Usage, Read
 use Rattle.fv_top_report.specs.declared.status.Status.{Status}
 use Rattle.fv_top_report.specs.declared.status.Status.TheVariants.{Done, Refused}
 use Rattle.fv_top_text.specs.headline.Program.{TextIs, IsProgram}
-use Rattle.fv_top_playable.specs.headline.Tableless.{PlayedIs, is_of_played}
+use Rattle.fv_top_rack.specs.headline.Kinds.{FileIs, is_of_kind}
 use Rattle.fv_file_tape.specs.headline.Tapes.{HasBegun, KeepsOutput}
 use Rattle.fv_engine_files.specs.headline.Files.{IsCutAt}
 use Rattle.fv_engine_render.specs.headline.Render.{initial_of}
@@ -53,7 +53,7 @@ pub record HasNoProgram (Is : List ℕ → Result Compiled Refusal → Type 0) (
 
 -- that of a run: what is played of a text, or of a file of jobs
 abbrev pub HasProgramOf : Run → List File → Type 0
-HasProgramOf run files = HasProgram (PlayedIs run.manner.program) run.program files
+HasProgramOf run files = HasProgram (FileIs run.manner.program) run.program files
 
 -- The files of a run: a program, a script of its controls, an input, and the format of its output.
 pub record Plays (run : Run) (files : List File) : Type 0 where
@@ -135,7 +135,7 @@ is_of_script n = (n == 4) || (nat_le 30 n && nat_le n 33)
 
 -- the numbers of the refusals of what a step judges, where the program's file is of this kind
 abbrev pub is_of_step : ProgramKind → Step → ℕ → Bool
-is_of_step kind ReadProgram n = is_of_played kind n
+is_of_step kind ReadProgram n = is_of_kind kind n
 is_of_step kind ReadScript n = is_of_script n
 is_of_step kind ReadHead n = is_of_head n
 is_of_step kind Fit n = (n == 29) || (n == 38) || (n == 39)
@@ -165,7 +165,7 @@ StepPasses run files Tell = Unit {0}
 
 -- what a step judges is refused for this
 abbrev pub StepRefuses : Run → List File → Step → Refusal → Type 0
-StepRefuses run files ReadProgram refusal = HasNoProgram (PlayedIs run.manner.program) run.program files refusal
+StepRefuses run files ReadProgram refusal = HasNoProgram (FileIs run.manner.program) run.program files refusal
 StepRefuses run files ReadScript refusal = (p : HasProgramOf run files) × HasScript run.controls files p.compiled.controls (Err refusal)
 StepRefuses run files ReadHead refusal = HasInput run.manner.input run.input files (Err refusal)
 StepRefuses run files Fit refusal =

@@ -4,7 +4,7 @@ use Rattle.fv_outside.specs.headline.Desk.{DeskState}
 use Rattle.fv_top_words.specs.declared.manner.ProgramKind.{ProgramKind}
 use Rattle.fv_top_text.specs.headline.Compiled.{Compiled}
 use Rattle.fv_top_playable.specs.Playables.{IsPlayable}
-use Rattle.fv_top_playable.specs.headline.Tableless.{PlayedIs}
+use Rattle.fv_top_rack.specs.headline.Kinds.{FileIs}
 use Rattle.fv_top_playable.specs.declared.playable.Playable.{Playable}
 use Rattle.fv_top_files.specs.Loading.{IsFile}
 
@@ -13,5 +13,5 @@ pub record IsProgramOf (kind : ProgramKind) (name : List ℕ) (desk : DeskState)
   pub compiled : Compiled
   pub text : List ℕ
   pub file : IsFile name text desk
-  pub is : PlayedIs kind text (Ok compiled)
+  pub is : FileIs kind text (Ok compiled)
   pub playable : IsPlayable compiled p

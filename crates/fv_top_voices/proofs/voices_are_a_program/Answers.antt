@@ -1,8 +1,7 @@
-use Rattle.std.proofs.Common.{◌-◌, Ok, Err}
+use Rattle.std.proofs.Common.{Ok, Err}
 use Rattle.fv_top_make.specs.headline.Made.{text_of}
 use Rattle.fv_top_voices.specs.Voices.{program_of}
 use Rattle.fv_top_voices.proofs.Program.{are_a_program}
-use Rattle.fv_top_voices.proofs.Values.{no_table}
 use Rattle.fv_top_voices.proofs.voices_are_a_program.Goals as goal
 
 pub returns-clause-program : goal.returns-clause-program
@@ -19,6 +18,3 @@ returns-clause-accepted c voices refusal some few refused =
     let made = are_a_program c.reads_what_is_spelled.ensures.sound c.literals_stay.ensures voices some few in
     let same = c.one_program.ensures.once (text_of voices) (Ok (program_of voices)) (Err refusal) made refused in
     absurd cc
-
-pub returns-clause-tableless : goal.returns-clause-tableless
-returns-clause-tableless c voices = no_table (voices - 1)

@@ -4,7 +4,7 @@ use Rattle.fv_num.specs.headline.Frames.{column, table, rows}
 use Rattle.fv_control.specs.Laws.{applied}
 use Rattle.fv_diagram.specs.Arena.{tree_of}
 use Rattle.fv_diagram.specs.headline.Diagram.{outputs}
-use Rattle.fv_diagram.specs.Steps.{StandsFor}
+use Rattle.fv_diagram_runner.specs.Steps.{StandsFor}
 use Rattle.fv_diagram.specs.headline.Streams.{run}
 use Rattle.fv_diagram.specs.headline.Samples.{joined, no_slots}
 use Rattle.fv_control.proofs.Listening.{heard_at}

@@ -54,7 +54,7 @@ invariant_of-result c =
     let written : length c.in_ok-written.written.items ≡ length (lengths d) =
     omega (arith, c.in_ok-written.ensures.len, c.len-2.ensures, c.in_ok-shapes.shapes.ok.0, c.in_ok-written.written.ok.0, many) in
     record {
-      lists = (sym many, ap length (states_are d) ∙ length-replicate (length (shapes d)) (blank d) ∙ sym many, written, omega (arith, long));
+      entries = (sym many, ap length (states_are d) ∙ length-replicate (length (shapes d)) (blank d) ∙ sym many, written, omega (arith, long));
       held = all_held (lengths d) (shapes d) (states d) (lengths_are d) (starts d);
     }
 
@@ -70,4 +70,5 @@ returns c =
           let k = ap (λ (xs : List ℕ). slice_index xs l) (lengths_are d) in
           ap (λ s. take history (from_start s (part (lengths d) l (cells d)))) (starts d l there)
           ∙ nothing_yet (lengths d) l history (cells d) v within (omega (arith, fit, h, k)) (cells_are d);
+      lists = c.in_ok-lists.ensures;
     }

@@ -1,80 +1,84 @@
-use Rattle.std.proofs.Common.{rules, ◌≡◌, ◌∙◌, ◌<◌, ℕ, List, length, ap, sym, subst, arith}
+use Rattle.std.proofs.Common.{rules, ◌≡◌, ◌∙◌, ◌<◌, ℕ, ℤ, List, length, refl, ap, sym, subst, arith}
 use Rattle.std.specs.Global.{Vec}
-use Rattle.fv_outside.specs.declared.gate.Line.{Line}
-use Rattle.fv_graph.specs.Graph.{Graph}
-use Rattle.fv_loopcode.specs.headline.State.{State, lanes_alone}
+use Rattle.fv_loopcode.specs.headline.Lanes.{Lane}
+use Rattle.fv_loopcode.specs.headline.State.{State}
 use Rattle.fv_pool.specs.Lengths.{lengths_of}
-use Rattle.fv_lines.specs.Solo.{SoloRest, opening_lanes, lanes_of, lengths_in, rest_of}
+use Rattle.fv_lines.specs.Solo.{SoloRest, AreHeld, opening_lanes, lanes_of, lengths_in, shapes_in}
+use Rattle.fv_lines.specs.declared.shape.LaneShape.{LaneShape}
+use Rattle.fv_lines.specs.declared.shape.LaneState.{LaneState}
 use Rattle.fv_lines.specs.declared.solo.Solo.{Solo}
+use Rattle.fv_split_plan.specs.Rows.{lists_of}
 use Rattle.fv_engine_tasks.specs.Block.{Block, IsReal}
-use Rattle.fv_engine_tasks.specs.Jobs.{IsJob, block_of}
-use Rattle.fv_engine_tasks.specs.Underway.{IsUnderway, EndsBlock}
-use Rattle.fv_engine_tasks.proofs.Full.{IsDone, lane_full, can_read}
-use Rattle.fv_engine.proofs.Runs.{LiesOver, opening_long, starts, are_full, holds_next, there_in}
+use Rattle.fv_engine_tasks.specs.Jobs.{block_of}
+use Rattle.fv_engine_tasks.specs.Underway.{EndsBlock}
+use Rattle.fv_engine_tasks.proofs.Full.{IsDone, lane_full}
+use Rattle.fv_engine.specs.inner.Opening.{opening_over}
+use Rattle.fv_engine.specs.inner.Kept.{state_of}
+use Rattle.fv_engine.proofs.Runs.{LiesOver, opening_long, are_full, holds_next, there_in}
 use Rattle.fv_engine.proofs.over.over.Given.{Over}
-use Rattle.fv_engine.proofs.over.over.Goals.{After-begin-solo, After-run_tasks}
+use Rattle.fv_engine.proofs.over.over.Goals.{After-begin, After-alone}
 use Rattle.fv_engine.proofs.over.over.Goals as goal
 
--- the block, as its lanes open
-module _ (g : Over) (c : After-begin-solo g) where
-  abbrev b : Block
-  b = block_of g.P.Codes.parts c.args.job.now
-
+-- the places, as they open
+module _ (g : Over) (c : After-begin g) where
   abbrev first : State
-  first = lanes_alone (opening_lanes (lengths_of c.args.layout.now) c.args.shapes.now c.args.states.now c.args.job.now.frames c.args.cells.now)
+  first = opening_over c.args.plan.now.tables (lengths_of c.args.layout.now) c.args.shapes.now c.args.states.now c.args.job.now.frames c.args.cells.now
+      c.args.lists.now
 
-  underway : IsUnderway c.begin.new.self.tasks.tasks b first c.begin.new.self.core.now (lanes_alone (lanes_of c.begin-solo.result)) c.begin.new.self.lines.items
-  underway = starts (record {
-    long = opening_long (lengths_of c.args.layout.now) c.args.shapes.now c.args.states.now c.args.job.now.frames c.args.cells.now ∙ c.requires.count;
-    state = c.begin.ensures.opening;
-    places_are = ap lanes_alone c.begin-solo.ensures.lanes;
-    none = ap (λ (v : Vec Line). v.items) c.begin.ensures.lines ∙ c.requires.lines;
-  })
+  opens : state_of c.args.plan.now c.begin.result c.args.lists.now ≡ first
+  opens =
+      ap (λ (lanes : List Lane). record { lanes = lanes; tables = c.args.plan.now.tables; cells = lists_of c.args.lists.now }) c.begin.ensures.lanes
+
+pub alone-requires-clause-lanes : goal.alone-requires-clause-lanes
+alone-requires-clause-lanes g c =
+    ap length c.begin.ensures.lanes
+    ∙ opening_long (lengths_of c.args.layout.now) c.args.shapes.now c.args.states.now c.args.job.now.frames c.args.cells.now ∙ c.requires.count
+
+pub alone-requires-clause-real : goal.alone-requires-clause-real
+alone-requires-clause-real g c =
+    subst (λ (s : State). IsReal (block_of g.P.Codes.parts c.args.job.now) s) (sym (opens g (goal.at.alone-requires-clause-real g c).After-begin))
+    c.requires.real
 
 -- the block when its tasks are done
-module _ (g : Over) (c : After-run_tasks g) where
+module _ (g : Over) (c : After-alone g) where
   abbrev block : Block
   block = block_of g.P.Codes.parts c.args.job.now
 
-  done : {first : State} → IsReal block first
-      → IsUnderway c.begin.new.self.tasks.tasks block first c.begin.new.self.core.now (lanes_alone (lanes_of c.begin-solo.result)) c.begin.new.self.lines.items
-      → IsDone c.begin.new.self.tasks.tasks block first (lanes_alone (lanes_of c.run_tasks.new.store)) c.run_tasks.new.lines.items
-  done {first} real u = record {
-    job = subst (λ (t : Graph). IsJob block t.tasks) (sym c.begin.ensures.tasks) c.requires.job;
-    real = real;
-    ends = c.run_tasks.ensures.ends first real u;
-  }
+  abbrev solo : Solo
+  solo = c.alone.new.solo
 
-pub run_tasks-requires-clause-underway : goal.run_tasks-requires-clause-underway
-run_tasks-requires-clause-underway g c =
-    let d = (goal.at.run_tasks-requires-clause-underway g c).After-begin-solo in (first g d, c.requires.real, underway g d)
+  abbrev opened : State
+  opened = opening_over c.args.plan.now.tables (lengths_of c.args.layout.now) c.args.shapes.now c.args.states.now c.args.job.now.frames c.args.cells.now
+      c.args.lists.now
 
-pub copy_outputs-requires-clause-there : goal.copy_outputs-requires-clause-there
-copy_outputs-requires-clause-there g c = λ t m.
-    let d = goal.at.copy_outputs-requires-clause-there g c in let block = done g d.After-run_tasks c.requires.real (underway g d.After-begin-solo) in
-    can_read block t (omega (arith, m, c.from.ensures)) c.args.outputs.now c.requires.there
+  ends : state_of c.args.plan.now c.begin.result c.args.lists.now ≡ opened
+      → EndsBlock c.args.runner.now.tasks.tasks block opened (state_of c.args.plan.now solo c.alone.new.lists) c.alone.new.runner.lines.items
+  ends e =
+      subst (λ (s : State). EndsBlock c.args.runner.now.tasks.tasks block s (state_of c.args.plan.now solo c.alone.new.lists) c.alone.new.runner.lines.items)
+      e c.alone.ensures.ends
+
+  done : state_of c.args.plan.now c.begin.result c.args.lists.now ≡ opened
+      → IsDone c.args.runner.now.tasks.tasks block opened (state_of c.args.plan.now solo c.alone.new.lists) c.alone.new.runner.lines.items
+  done e = record { job = c.requires.job; real = c.requires.real; ends = ends e }
 
 pub finish-requires-clause-full : goal.finish-requires-clause-full
 finish-requires-clause-full g c =
-    let d = goal.at.finish-requires-clause-full g c in let block = done g d.After-run_tasks c.requires.real (underway g d.After-begin-solo) in
-    let kept : rest_of c.run_tasks.new.store ≡ _ = c.run_tasks.ensures.kept ∙ c.begin-solo.ensures.kept in
-    are_full c.run_tasks.new.store c.args.job.now.frames c.run_tasks.ensures.sound (ap (λ (r : SoloRest). r.frames) kept)
+    let d = goal.at.finish-requires-clause-full g c in let block = done g d.After-alone (opens g d.After-begin) in
+    let kept = c.alone.ensures.kept ∙ c.begin.ensures.kept in
+    are_full c.alone.new.solo c.args.job.now.frames c.alone.ensures.sound (ap (λ (r : SoloRest). r.frames) kept)
     (λ i l. lane_full block i (let n = block.ends.long in omega (arith, l, n)))
 
 pub returns-clause-ran : goal.returns-clause-ran
 returns-clause-ran g c =
     let d = goal.at.returns-clause-ran g c in
-    let s : Solo = c.run_tasks.new.store in
-    let kept : rest_of s ≡ _ = c.run_tasks.ensures.kept ∙ c.begin-solo.ensures.kept in
+    let s : Solo = c.alone.new.solo in
+    let kept = c.alone.ensures.kept ∙ c.begin.ensures.kept in
     let as_lengths : lengths_in s ≡ lengths_of c.args.layout.now = ap (λ (r : SoloRest). r.lengths) kept in
     let states = sym (ap (λ (r : SoloRest). r.states) kept) in
     let cells = sym (ap (λ (r : SoloRest). r.cells) kept) in
     record {
-      now = lanes_alone (lanes_of s);
-      ends =
-          let block = block g d.After-run_tasks in let first = first g d.After-begin-solo in
-          subst (λ (t : Graph). EndsBlock t.tasks block first (lanes_alone (lanes_of s)) c.run_tasks.new.lines.items)
-          c.begin.ensures.tasks (done g d.After-run_tasks c.requires.real (underway g d.After-begin-solo)).ends;
+      now = state_of c.args.plan.now s c.alone.new.lists;
+      ends = ends g d.After-alone (opens g d.After-begin);
       next = λ i l.
           let over : LiesOver s (lengths_of c.args.layout.now) c.args.shapes.now c.args.job.now.frames _ c.finish.new.self.1.1.1.0 _ = record {
             lengths_are = as_lengths;
@@ -84,5 +88,6 @@ returns-clause-ran g c =
             cells_are = search (rules, cells) ∙ c.finish.ensures.cells;
           } in
           holds_next over i (c.finish.ensures.held i (there_in s i (subst (λ (xs : List ℕ). i < length xs) (sym as_lengths) l)));
-      samples = λ t j m n. c.copy_outputs.ensures.samples t j (omega (arith, m, c.from.ensures)) n;
+      items = refl;
+      samples = c.alone.ensures.samples;
     }

@@ -3,12 +3,13 @@ use Rattle.std.specs.Prelude.{All, slice_index}
 use Rattle.std.proofs.lemmas.Result.{IfOk-weaker}
 use Rattle.fv_outside.specs.headline.Tasks.{Tasks}
 use Rattle.fv_loopcode.specs.declared.step.Step.{Step}
-use Rattle.fv_loopcode.specs.Code.{NamesLane}
+use Rattle.fv_loopcode.specs.declared.counts.Counts.{Counts}
+use Rattle.fv_loopcode.specs.Code.{NamesThere}
 use Rattle.fv_split_plan.specs.headline.View.{PlanView, code_of, roles_of}
 use Rattle.fv_split_plan.specs.Plans.{IsPlan}
-use Rattle.fv_engine_lanes.specs.Renumbered.{renumbered, Places}
+use Rattle.fv_engine_lanes.specs.Renumbered.{renumbered, HasPlace, Places}
 use Rattle.fv_engine_lanes.specs.Plans.{own_lanes, locals_of}
-use Rattle.fv_engine_codes.proofs.Named.{HasRole, names_there, names_placed, plan_roles}
+use Rattle.fv_engine_codes.proofs.Named.{HasRole, has_place, counts_of, names_placed, plan_roles}
 use Rattle.fv_engine_codes.proofs.Placing.{are_places}
 use Rattle.fv_engine_codes.proofs.codes.loop_code.Goals as goal
 
@@ -18,12 +19,12 @@ local_code-requires-clause-there c =
     let plan : IsPlan p = c.loops-loops.ensures.plan in
     let roles : All (HasRole (roles_of p c.args.loop_no)) (code_of p c.args.loop_no) = plan_roles p c.args.loop_no plan c.requires.there in
     let long : length c.number_lanes-count.new.places ≡ length p.lanes = omega (arith, c.requires.long, c.number_lanes-count.auto.places) in
-    subst (λ (steps : List Step). All (NamesLane (length c.number_lanes-count.new.places)) steps) (sym c.code.ensures)
-    (λ k d l. subst (λ (n : ℕ). NamesLane n (get_or (code_of p c.args.loop_no) k d)) (sym long)
-    (names_there p c.args.loop_no plan.1.reads (get_or (code_of p c.args.loop_no) k d) (roles k d l)))
+    subst (λ (steps : List Step). All (HasPlace (length c.number_lanes-count.new.places)) steps) (sym c.code.ensures)
+    (λ k d l. subst (λ (n : ℕ). HasPlace n (get_or (code_of p c.args.loop_no) k d)) (sym long)
+    (has_place p c.args.loop_no plan.1.reads (get_or (code_of p c.args.loop_no) k d) (roles k d l)))
 
-pub local_code-requires-clause-lanes : goal.local_code-requires-clause-lanes
-local_code-requires-clause-lanes c =
+pub local_code-requires-clause-named : goal.local_code-requires-clause-named
+local_code-requires-clause-named c =
     let p : PlanView = c.args.plan.now in
     let g : Tasks = c.args.tasks.now.tasks in
     let plan : IsPlan p = c.loops-loops.ensures.plan in
@@ -31,10 +32,17 @@ local_code-requires-clause-lanes c =
     let roles : All (HasRole (roles_of p c.args.loop_no)) (code_of p c.args.loop_no) = plan_roles p c.args.loop_no plan c.requires.there in
     let placed : Places (roles_of p c.args.loop_no) (slice_index places) (locals_of p g c.args.loop_no) (length (own_lanes p c.args.loop_no)) =
     are_places p g c.args.loop_no places c.loops-tasks.ensures.graph plan.1.reads c.requires.of_plan c.number_lanes-count.ensures.numbered in
-    subst (λ (n : ℕ). All (λ s. NamesLane n (renumbered (slice_index places) s)) c.code.result.now) (sym c.number_lanes-count.ensures.count)
-    (subst (λ (steps : List Step). All (λ s. NamesLane (length (locals_of p g c.args.loop_no)) (renumbered (slice_index places) s)) steps) (sym c.code.ensures)
-    (λ k d l. names_placed (roles_of p c.args.loop_no) (slice_index places) (locals_of p g c.args.loop_no) (length (own_lanes p c.args.loop_no)) placed
-    (get_or (code_of p c.args.loop_no) k d) (roles k d l)))
+    let locals : List ℕ = locals_of p g c.args.loop_no in
+    let given : Counts = record { lanes = c.number_lanes-count.result; tables = c.tables.result; cells = length c.cells.result.now } in
+    let count : given ≡ counts_of p (length locals) = λ i. record {
+      lanes = c.number_lanes-count.ensures.count i;
+      tables = c.tables.ensures i;
+      cells = ap length c.cells.ensures i;
+    } in
+    subst (λ (n : Counts). All (λ s. NamesThere n (renumbered (slice_index places) s)) c.code.result.now) (sym count)
+    (subst (λ (steps : List Step). All (λ s. NamesThere (counts_of p (length locals)) (renumbered (slice_index places) s)) steps) (sym c.code.ensures)
+    (λ k d l. names_placed p (roles_of p c.args.loop_no) (slice_index places) locals (length (own_lanes p c.args.loop_no)) placed
+    (get_or (code_of p c.args.loop_no) k d) (roles k d l) (plan.1.names.loads c.args.loop_no k d l)))
 
 pub returns : goal.returns
 returns c =

@@ -1,5 +1,4 @@
-use Rattle.std.proofs.Common.{◌≡◌, ℕ, suc, ◌<◌, List, [], ◌∷◌, ◌++◌, length, get_or, refl, ap, ◌∙◌, arith}
-use Rattle.std.specs.List.{flat_map}
+use Rattle.std.proofs.Common.{[]}
 use Rattle.fv_join.specs.declared.job.Job.{Job}
 use Rattle.fv_join_diagrams.specs.OfParts.{AreOfParts}
 use Rattle.fv_join_diagrams.specs.headline.Parts.{Part, nothing}
@@ -8,13 +7,6 @@ use Rattle.fv_engine_render.proofs.laws.joined_is_graph.Goals as goal
 -- a job and a part, whatever they are
 some_job : Job
 some_job = record { graph = record { signals = []; groups = []; tables = []; outputs = [] }; inputs = 0; controls = 0 }
-
--- no tables of any job
-none_listed : (jobs : List Job) → ((k : ℕ) → k < length jobs → (let j = get_or jobs k some_job in j.graph.tables) ≡ [])
-    → flat_map (λ (j : Job). j.graph.tables) jobs ≡ []
-none_listed [] h = refl
-none_listed (j ∷ jobs) h =
-    ap (λ ts. ts ++ flat_map (λ (j : Job). j.graph.tables) jobs) (h 0 (omega arith)) ∙ none_listed jobs (λ k l. h (suc k) (omega (arith, l)))
 
 some_part : Part
 some_part = record { diagram = nothing; spans = [] }
@@ -36,7 +28,6 @@ returns c = λ f jobs ps h joined.
       gives = c.joined_propagates.ensures f jobs ps of joined;
       width = c.joined_are_wide.ensures f jobs ps of joined;
       names = c.joined_names.ensures f jobs ps of (λ k j p l. let a = h.each k j p l in a.of.names) joined;
-      tableless = joined.tables ∙ none_listed jobs (λ k l. let a = h.each k some_job some_part l in a.of.tableless);
       short = λ s x by most at.
           let q = joined.delays s x by most at in
           let a = h.each q.number some_job some_part q.within in a.of.short q.s q.x q.by most (q.stands some_job);

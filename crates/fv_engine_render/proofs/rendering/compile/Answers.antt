@@ -20,6 +20,5 @@ returns c =
       width = c.in_ok-whole.ensures.width;
       names = c.in_ok-whole.ensures.names;
       short = short_graph g (c.in_ok-whole.ensures.short spans c.spans_fit.ensures c.requires.accepted);
-      tableless = c.in_ok-whole.ensures.tables c.requires.tableless;
     } in
     simpler_of d spans g c.in_ok-graph.graph of c.in_ok-graph.ensures.simpler c.outputs-outputs.ensures.graph

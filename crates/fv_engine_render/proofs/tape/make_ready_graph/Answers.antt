@@ -19,9 +19,6 @@ plan_of-requires-clause-names c =
 pub plan_of-requires-clause-short : goal.plan_of-requires-clause-short
 plan_of-requires-clause-short c = c.requires.of.1.of.short
 
-pub plan_of-requires-clause-tableless : goal.plan_of-requires-clause-tableless
-plan_of-requires-clause-tableless c = c.requires.of.1.of.tableless
-
 pub engine-requires-clause-few : goal.engine-requires-clause-few
 engine-requires-clause-few c = let can = c.requires.of.1 in let few = can.few in let channels = can.channels_are in omega (arith, few, channels)
 

@@ -9,7 +9,8 @@ use Rattle.fv_eval_scopes.specs.Shows.{parameters_in}
 use Rattle.fv_eval.specs.inner.Continuations.{ShowsName}
 use Rattle.fv_eval.proofs.Moves.{at_node}
 use Rattle.fv_eval.proofs.Others.{no_parameters}
-use Rattle.fv_eval.proofs.Parameters.{get_within, parameter_named, parameter_none}
+use Rattle.fv_eval_controls.proofs.Entered.{get_within}
+use Rattle.fv_eval.proofs.Parameters.{parameter_named, parameter_none}
 use Rattle.fv_eval.proofs.names.parameter.Goals as goal
 
 pub returns-in-Some-get : goal.returns-in-Some-get

@@ -4,7 +4,7 @@ use Rattle.fv_num.specs.headline.Frames.{table}
 use Rattle.fv_num.specs.headline.Interval.{full}
 use Rattle.fv_diagram.specs.headline.Diagram.{inputs, size}
 use Rattle.fv_diagram.specs.Arena.{tree_of}
-use Rattle.fv_diagram.proofs.Histories.{on_ok_always}
+use Rattle.fv_diagram.proofs.Lists.{on_ok_always}
 use Rattle.fv_interval.specs.headline.SpanHooks.{control_span}
 use Rattle.fv_interval.specs.Delays.{AreAccepted, IsDelayRefusal}
 use Rattle.fv_interval.proofs.Holds.{answers_hold, delays_hold}

@@ -2,7 +2,8 @@ use Rattle.std.proofs.Common.{rules, ◌≡◌, ◌∙◌, ◌<◌, ℕ, [], Lis
 use Rattle.fv_num.specs.headline.Words.{argument}
 use Rattle.fv_base.proofs.Lists.{length_table}
 use Rattle.fv_loopcode.specs.headline.Lanes.{Lane}
-use Rattle.fv_loopcode.specs.headline.State.{State, lanes_alone}
+use Rattle.fv_loopcode.specs.headline.State.{State}
+use Rattle.fv_loopcode.specs.State.{lanes_alone}
 use Rattle.fv_loopcode.specs.headline.Code.{ran}
 use Rattle.fv_loopcode.specs.Code.{frame_of}
 use Rattle.fv_pool.specs.Lengths.{lengths_of}

@@ -4,8 +4,8 @@ use Rattle.fv_diagram.specs.headline.Diagram.{inputs}
 use Rattle.fv_top_make.specs.headline.Made.{text_of}
 use Rattle.fv_top_report.specs.declared.refusal.Refusal.TheVariants.{NoMemory}
 use Rattle.fv_top_text.specs.headline.Compiled.{Compiled}
-use Rattle.fv_top_playable.specs.headline.Tableless.{PlayedIs}
-use Rattle.fv_top_playable.specs.Tableless.{IsOfPlayed}
+use Rattle.fv_top_rack.specs.headline.Kinds.{FileIs}
+use Rattle.fv_top_rack.specs.Kinds.{IsOfKind}
 use Rattle.fv_top_words.specs.declared.manner.ProgramKind.TheVariants.{Alone}
 use Rattle.fv_top.specs.headline.Promise.{IsMade}
 use Rattle.fv_top.proofs.Making.{only_memory}
@@ -17,8 +17,7 @@ made : (c : In_ok-playable) → IsMade c.args.voices c.in_ok-playable.ensures.fo
 made c =
     let same : c.deref.result.now ≡ text_of c.args.voices = c.deref.ensures.value ∙ c.in_ok-text.ensures in
     let found = c.in_ok-playable.ensures.found in
-    let is = subst (λ (t : List ℕ). PlayedIs Alone t (Ok found.0)) same found.1 in
-    (c.one_played.ensures.program Alone (text_of c.args.voices) found.0 is).0
+    subst (λ (t : List ℕ). FileIs Alone t (Ok found.0)) same found.1
 
 pub returns-in_err-text-clause-none : goal.returns-in_err-text-clause-none
 returns-in_err-text-clause-none c =
@@ -30,11 +29,8 @@ returns-in_err-playable-clause-none c =
     let p = err_from_is_err_and c.from_residual-in_err-playable.result c.from_residual-in_err-playable.ensures.1 in
     let same : c.deref.result.now ≡ text_of c.args.voices = c.deref.ensures.value ∙ c.in_ok-text.ensures in
     let e = c.in_err-playable.field-0.0 in
-    let laws = c.voices_are_a_program.ensures in
-    let refused = subst (λ (t : List ℕ). (e ≡ NoMemory) ⊎ (IsOfPlayed Alone e × PlayedIs Alone t (Err e))) same c.in_err-playable.ensures.refused in
-    rw (p.1, p.2) (only_memory
-    (record { one = laws.one; accepted = laws.accepted; tableless = laws.tableless; refused = c.one_played.ensures.refused })
-    c.args.voices e c.requires.some c.requires.few refused)
+    let refused = subst (λ (t : List ℕ). (e ≡ NoMemory) ⊎ (IsOfKind Alone e × FileIs Alone t (Err e))) same c.in_err-playable.ensures.refused in
+    rw (p.1, p.2) (only_memory c.voices_are_a_program.ensures.accepted c.args.voices e c.requires.some c.requires.few refused)
 
 pub returns-clause-made : goal.returns-clause-made
 returns-clause-made c =

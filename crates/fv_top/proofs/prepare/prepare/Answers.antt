@@ -13,8 +13,8 @@ use Rattle.fv_top_report.specs.declared.refusal.Refusal.{Refusal}
 use Rattle.fv_top_files.specs.headline.Loading.{HasScript, HasInput}
 use Rattle.fv_top_files.specs.Loading.{StopsLoading, IsHeadRefusal}
 use Rattle.fv_top_text.specs.headline.Compiled.{Compiled}
-use Rattle.fv_top_playable.specs.headline.Tableless.{PlayedIs}
-use Rattle.fv_top_playable.specs.Tableless.{IsOfPlayed}
+use Rattle.fv_top_rack.specs.headline.Kinds.{FileIs}
+use Rattle.fv_top_rack.specs.Kinds.{IsOfKind}
 use Rattle.fv_top_files.specs.Formats.{format_in}
 use Rattle.fv_top_files.specs.Loaded.{held_in}
 use Rattle.fv_pcm.specs.declared.coding.Coding.{Coding}
@@ -68,8 +68,8 @@ pub returns-in_err-playable-clause-stops : goal.returns-in_err-playable-clause-s
 returns-in_err-playable-clause-stops g c =
     let run : Run = run_view c.args.run.now in
     let a = g.D.Desk.state c.args.desk.now in
-    let fails : FailsToLoad Program (Some run.program) (IsOfPlayed run.manner.program)
-    (HasNoProgram (PlayedIs run.manner.program) run.program a.files) a (g.D.Desk.state c.load_playable.new.desk)
+    let fails : FailsToLoad Program (Some run.program) (IsOfKind run.manner.program)
+    (HasNoProgram (FileIs run.manner.program) run.program a.files) a (g.D.Desk.state c.load_playable.new.desk)
     c.in_err-playable.field-0.0 = record {
       reads = c.load_playable.ensures.reads;
       stops = c.in_err-playable.ensures.err;

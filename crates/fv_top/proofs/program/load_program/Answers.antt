@@ -1,6 +1,7 @@
 use Rattle.std.proofs.Common.{◌∙◌, ap, Some}
 use Rattle.std.proofs.lemmas.Result.{err_from_is_err_and}
 use Rattle.fv_base.specs.declared.role.Role.TheVariants.{Program}
+use Rattle.fv_top_words.specs.declared.manner.ProgramKind.TheVariants.{Alone}
 use Rattle.fv_top_text.specs.headline.Program.{TextIs}
 use Rattle.fv_top_text.specs.Program.{IsRefusedText, IsOfText}
 use Rattle.fv_top.specs.headline.Promise.{HasNoProgram}
@@ -16,13 +17,13 @@ returns-in_err-program-clause-err g c =
     rw (p.1, p.2) (stops_refused Program (Some name) IsOfText (HasNoProgram TextIs name a.files) (IsRefusedText c.deref.result.now) a
     (state c.read_front.new.desk) _ c.in_err-program.ensures.refused (λ t h.
     let read = c.in-Ok.ensures.bytes t in
-    record { text = read.0; file = read.1 t; refused = c.front_is_enough.ensures.same read.0 c.deref.result.now _ (c.deref.ensures.value ∙ read.2) h }))
+    record { text = read.0; file = read.1 t; refused = c.front_is_enough.ensures.same Alone read.0 c.deref.result.now _ (c.deref.ensures.value ∙ read.2) h }))
 
 pub returns-clause-spelled : goal.returns-clause-spelled
 returns-clause-spelled g c = (
   c.deref.result.now,
   λ t.
       let read = c.in-Ok.ensures.bytes t in
-      read.1 t ∙ ap Some (c.front_is_enough.ensures.whole read.0 c.deref.result.now _ (c.deref.ensures.value ∙ read.2) c.in_ok-program.ensures.found),
+      read.1 t ∙ ap Some (c.front_is_enough.ensures.whole Alone read.0 c.deref.result.now _ (c.deref.ensures.value ∙ read.2) c.in_ok-program.ensures.found),
   c.in_ok-program.ensures.found,
 )

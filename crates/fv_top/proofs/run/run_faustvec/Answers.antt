@@ -2,17 +2,12 @@ use Rattle.std.proofs.Common.{map}
 use Rattle.std.specs.Prelude.{string_bytes}
 use Rattle.fv_top.specs.inner.Running.{EndsRefused}
 use Rattle.fv_base.specs.declared.role.Role.TheVariants.{Output}
-use Rattle.fv_top_text.specs.Program.{IsOneText}
-use Rattle.fv_top_playable.specs.Tableless.{IsPlayedOnce}
 use Rattle.fv_top.proofs.Ran.{so_far_later}
 use Rattle.fv_top.proofs.Refused.{ends_refused}
-use Rattle.fv_top.proofs.Completing.{AreReadOnce, done_exact, done_strict, refused_exact, refused_strict, refused_complete}
+use Rattle.fv_top.proofs.Completing.{done_exact, done_strict, refused_exact, refused_strict, refused_complete}
 use Rattle.fv_top.proofs.run.run_faustvec.Given.{Over}
 use Rattle.fv_top.proofs.run.run_faustvec.Goals as goal
 use Rattle.fv_top.proofs.run.run_faustvec.Goals.{After-refuse}
-
-once : IsOneText → IsPlayedOnce → AreReadOnce
-once text played = record { text = text; played = played }
 
 -- ---- a run that was refused
 
@@ -46,14 +41,14 @@ returns-in-Err-clause-report g c = (ends g (goal.at.returns-in-Err-clause-report
 
 pub returns-in-Err-clause-complete : goal.returns-in-Err-clause-complete
 returns-in-Err-clause-complete g c =
-    refused_complete (ends g (goal.at.returns-in-Err-clause-complete g c).After-refuse).cause.cause (once c.one_program.ensures.once c.one_played.ensures.once)
+    refused_complete (ends g (goal.at.returns-in-Err-clause-complete g c).After-refuse).cause.cause c.one_file.ensures.once
 
 pub returns-in-Err-clause-exact : goal.returns-in-Err-clause-exact
 returns-in-Err-clause-exact g c = refused_exact (ends g (goal.at.returns-in-Err-clause-exact g c).After-refuse).cause.cause
 
 pub returns-in-Err-clause-strict : goal.returns-in-Err-clause-strict
 returns-in-Err-clause-strict g c =
-    refused_strict (ends g (goal.at.returns-in-Err-clause-strict g c).After-refuse).cause.cause (once c.one_program.ensures.once c.one_played.ensures.once)
+    refused_strict (ends g (goal.at.returns-in-Err-clause-strict g c).After-refuse).cause.cause c.one_file.ensures.once
 
 -- ---- a run that is done
 
@@ -70,4 +65,4 @@ pub returns-clause-exact : goal.returns-clause-exact
 returns-clause-exact g c = done_exact c.in-Ok.tally c.in-Ok.ensures.done.played
 
 pub returns-clause-strict : goal.returns-clause-strict
-returns-clause-strict g c = done_strict c.in-Ok.tally (once c.one_program.ensures.once c.one_played.ensures.once) c.in-Ok.ensures.done.played
+returns-clause-strict g c = done_strict c.in-Ok.tally c.one_file.ensures.once c.in-Ok.ensures.done.played

@@ -32,5 +32,5 @@ returns c =
     let at = c.loop-read in
     let end : length rs ≡ at.read-index = omega arith in
     let all : take at.read-index rs ≡ rs = take_all at.read-index rs (omega (arith, end)) in
-    are_jobs rs at.jobs.items c.requires.read (at.invariant.long ∙ sym end)
+    are_jobs rs at.jobs.items c.requires (at.invariant.long ∙ sym end)
     (subst (λ (xs : List Read). Each at.jobs.items (parts_in xs)) all at.invariant.each)

@@ -8,11 +8,7 @@ use Rattle.fv_top_rack.specs.headline.Racks.{rack_of}
 use Rattle.fv_top_rack.specs.Reads.{programs_in}
 use Rattle.fv_top_rack.proofs.Sums.{inputs_all, outputs_all, spans_are}
 use Rattle.fv_top_playable.proofs.Jobs.{all_joined, parts_in}
-use Rattle.fv_top_playable.proofs.Tables.{none_beside}
 use Rattle.fv_top_playable.proofs.rack.rack.Goals as goal
-
-pub jobs_of-requires-clause-tableless : goal.jobs_of-requires-clause-tableless
-jobs_of-requires-clause-tableless c = none_beside c.args.reads.now c.requires.tableless
 
 pub join-requires : goal.join-requires
 join-requires c =

@@ -1,9 +1,17 @@
-use Rattle.std.proofs.Common.{List, [], length, pos, ap, ◌∙◌, subst, arith}
+use Rattle.std.proofs.Common.{List, [], length, pos, ap, sym, ◌∙◌, subst, arith}
+use Rattle.std.proofs.lemmas.List.{length-map}
 use Rattle.fv_signal.specs.headline.Value.{value}
 use Rattle.fv_loopcode.specs.declared.step.Step.{Step}
 use Rattle.fv_split_plan.specs.headline.View.{PlanView}
 use Rattle.fv_split_plan.specs.Plans.{IsPlan}
+use Rattle.fv_split_plan.specs.Rows.{lists_of}
+use Rattle.fv_split_plan.proofs.NodeLemmas.{listed}
+use Rattle.fv_engine.proofs.Made.{begin_so}
 use Rattle.fv_engine.proofs.engine.Engine.prepare.Goals as goal
+
+pub blank_lanes-requires-clause-tables : goal.blank_lanes-requires-clause-tables
+blank_lanes-requires-clause-tables c = λ k i.
+    let plan = subst (λ (p : PlanView). IsPlan p) c.plan.view_is c.plan.invariant in listed _ _ (plan.1.stands.cells.there k i)
 
 pub invariant_of-result : goal.invariant_of-result
 invariant_of-result c =
@@ -20,6 +28,7 @@ invariant_of-result c =
         inputs = c.requires.inputs;
       };
       shapes = lanes.shapes;
+      lists = sym (length-map _ _) ∙ lanes.lists.count;
       tasks_are = record { loops = r.tasks_are.loops; pairs = r.tasks_are.pairs; most_are = r.tasks_are.most_are ∙ c.vectors.ensures.value };
       registers = r.registers;
       held_long = let q = ap (λ (steps : List Step). length steps) c.held.ensures in
@@ -30,9 +39,15 @@ invariant_of-result c =
         plan = plan.1;
         frames = [];
         controls = λ k t. pos 0;
-        stands = record { histories = λ l i. lanes.blank l i (value plan.0 (plan.1.stands.names.lane l) [] (λ k t. pos 0)) };
+        stands = record {
+          histories = λ l i. lanes.blank l i (value plan.0 (plan.1.stands.names.lane l) [] (λ k t. pos 0));
+          cells = begin_so plan.1.stands (λ k t. pos 0) lanes.lists;
+        };
       };
     }
 
 pub returns-clause-stands : goal.returns-clause-stands
-returns-clause-stands c = λ g s d. record { histories = λ l i. c.in_ok-lanes.ensures.blank l i (value g (s.names.lane l) [] d) }
+returns-clause-stands c = λ g s d. record {
+  histories = λ l i. c.in_ok-lanes.ensures.blank l i (value g (s.names.lane l) [] d);
+  cells = begin_so s d c.in_ok-lanes.ensures.lists;
+}

@@ -11,6 +11,7 @@ use Rattle.fv_outside.specs.declared.gate.Line.{Line}
 use Rattle.fv_outside.specs.declared.tasks.Reads.{Reads}
 use Rattle.fv_graph.specs.Graph.{Graph}
 use Rattle.fv_pool.specs.Region.{cells_of}
+use Rattle.fv_split_plan.specs.Rows.{lists_of}
 use Rattle.fv_lines.specs.declared.shape.LaneShape.{LaneShape}
 use Rattle.fv_lines.specs.declared.shape.LaneState.{LaneState}
 use Rattle.fv_engine_tasks.specs.headline.Block.{vectors_of}
@@ -26,7 +27,7 @@ use Rattle.fv_engine.proofs.Values.{block_in}
 use Rattle.fv_engine.proofs.Goes.{with_state}
 use Rattle.fv_engine.proofs.Crews.{other_vectors}
 use Rattle.fv_engine.proofs.Blocks.{IsCalled, few, framed, count_is, same_block, job, first_is, is_kept, leads_on}
-use Rattle.fv_engine.proofs.Blocks.{still_standing, ordered, counted, outputs_there, many_held, parts_many}
+use Rattle.fv_engine.proofs.Blocks.{still_standing, ordered, counted, outputs_there, many_held, parts_many, cells_many}
 use Rattle.fv_engine.proofs.engine.Engine.run_block.Given.{Over}
 use Rattle.fv_engine.proofs.engine.Engine.run_block.Goals.{After-set_vectors, After-from, After-run-spread}
 use Rattle.fv_engine.proofs.engine.Engine.run_block.Goals as goal
@@ -56,6 +57,9 @@ set_vectors-requires-clause-room g c =
       vectors = c.vectors-vectors.ensures.value;
       tasks = refl {a = record tasks { tasks = record tasks.tasks { vectors = c.vectors-vectors.result } }};
     })
+
+pub hold-requires-clause-reads : goal.hold-requires-clause-reads
+hold-requires-clause-reads g c = c.self.invariant.standing.plan.names.held_reads
 
 pub run-spread-requires-clause-there : goal.run-spread-requires-clause-there
 run-spread-requires-clause-there g c κs within =
@@ -91,6 +95,7 @@ run-spread-requires-clause-may g c κs within =
     record {
       framed = framed call;
       count = parts_many call;
+      lists = cells_many call;
       job = job call b;
       real = first_is call b;
       registers = λ j l. let q = c.self.invariant.registers j l in let r = ap (λ (v : Vec ℤ). length v.items) c.set_vectors.ensures.regs in
@@ -128,6 +133,7 @@ invariant_of-self g c =
     record {
       sizes = inv.sizes;
       shapes = shapes g o;
+      lists = c.run-spread.ensures.lanes.lists ∙ inv.lists;
       tasks_are = tasks_are g o;
       registers = λ j l. let q = inv.registers j l in let r = ap (λ (v : Vec ℤ). length v.items) c.set_vectors.ensures.regs in
           omega (arith, q, r, c.run-spread.ensures.runner.registers);
@@ -140,7 +146,9 @@ pub returns-clause-same : goal.returns-clause-same
 returns-clause-same g c =
     let d = goal.at.returns-clause-same g c in let lanes = c.run-spread.new.self in
     let kept = is_kept (called g d.After-set_vectors) (block_is g d.After-from) c.run-spread.ensures.lanes c.run-spread.ensures.ran in
-    sym kept ∙ ap (λ (x : EngineView). with_state x (cells_of lanes.region) (map (λ (s : LaneState). s.start) lanes.states.items)) c.self.view_is
+    sym kept
+    ∙ ap (λ (x : EngineView). with_state x (cells_of lanes.region) (map (λ (s : LaneState). s.start) lanes.states.items) (lists_of lanes.lists.items))
+    c.self.view_is
 
 pub returns-clause-goes_on : goal.returns-clause-goes_on
 returns-clause-goes_on g c =

@@ -1,15 +1,17 @@
 use Rattle.std.proofs.Common.{◌≡◌, ℕ, ℤ, List, length, ap, sym, subst, arith}
+use Rattle.std.specs.Global.{Vec}
 use Rattle.std.specs.Vec.{with_items}
 use Rattle.std.proofs.lemmas.List.{with_items_is}
 use Rattle.fv_pool.specs.Lengths.{lengths_of}
 use Rattle.fv_pool.specs.Region.{cells_of}
-use Rattle.fv_loopcode.specs.headline.State.{State, lanes_alone}
-use Rattle.fv_lines.specs.Solo.{AreHeld, AreLists, opening_lanes}
+use Rattle.fv_loopcode.specs.headline.State.{State}
+use Rattle.fv_lines.specs.Solo.{AreHeld, AreLists}
 use Rattle.fv_lines.specs.declared.shape.LaneShape.{LaneShape}
 use Rattle.fv_lines.specs.declared.shape.LaneState.{LaneState}
 use Rattle.fv_engine_tasks.specs.Block.{Block, IsReal}
 use Rattle.fv_engine_tasks.specs.Jobs.{block_of}
 use Rattle.fv_engine_crew.specs.Ran.{Ran}
+use Rattle.fv_engine.specs.inner.Opening.{opening_over}
 use Rattle.fv_engine.specs.declared.lanes.Lanes.{Lanes}
 use Rattle.fv_engine.proofs.lanes.Lanes.run_alone.Given.{Over}
 use Rattle.fv_engine.proofs.lanes.Lanes.run_alone.Goals.{After-over}
@@ -23,11 +25,13 @@ over-requires-clause-lanes g c =
 
 pub over-requires-clause-real : goal.over-requires-clause-real
 over-requires-clause-real g c =
-    let l = c.args.self.now in let lengths = lengths_of l.layout in let n = c.args.job.now.frames in
+    let l = c.args.self.now in let lengths = lengths_of l.layout in let n = c.args.job.now.frames in let tables = c.args.plan.now.tables in
     let b = block_of g.P.Codes.parts c.args.job.now in
-    subst (λ (x : List LaneShape). IsReal b (lanes_alone (opening_lanes lengths x c.deref_mut.result.now n c.cells.result.now))) (sym c.deref.ensures.value)
-    (subst (λ (x : List LaneState). IsReal b (lanes_alone (opening_lanes lengths l.shapes.items x n c.cells.result.now))) (sym c.deref_mut.ensures.value)
-    (subst (λ (x : List ℤ). IsReal b (lanes_alone (opening_lanes lengths l.shapes.items l.states.items n x))) (sym c.cells.ensures.value) c.requires.may.real))
+    let real : List LaneShape → List LaneState → List ℤ → List (Vec ℤ) → Type 0 = λ ss st cs ls. IsReal b (opening_over tables lengths ss st n cs ls) in
+    subst (λ (x : List LaneShape). real x c.deref_mut.result.now c.cells.result.now c.deref_mut-3.result.now) (sym c.deref.ensures.value)
+    (subst (λ (x : List LaneState). real l.shapes.items x c.cells.result.now c.deref_mut-3.result.now) (sym c.deref_mut.ensures.value)
+    (subst (λ (x : List ℤ). real l.shapes.items l.states.items x c.deref_mut-3.result.now) (sym c.cells.ensures.value)
+    (subst (λ (x : List (Vec ℤ)). real l.shapes.items l.states.items (cells_of l.region) x) (sym c.deref_mut-3.ensures.value) c.requires.may.real)))
 
 -- what it leaves
 module _ (g : Over) (c : After-over g) where
@@ -52,8 +56,14 @@ module _ (g : Over) (c : After-over g) where
   written_are : (with_items old.written c.over.new.written).items ≡ c.over.new.written
   written_are = with_items_is old.written c.over.new.written (omega (arith, c.over.auto.written, c.deref_mut-2.ensures.len, old.written.ok.0))
 
-  lists : AreLists lengths old.shapes.items states (with_items old.written c.over.new.written).items cells
-  lists =
+  abbrev rows : List (Vec ℤ)
+  rows = (with_items old.lists c.over.new.lists).items
+
+  rows_are : rows ≡ c.over.new.lists
+  rows_are = with_items_is old.lists c.over.new.lists (omega (arith, c.over.auto.lists, c.deref_mut-3.ensures.len, old.lists.ok.0))
+
+  entries : AreLists lengths old.shapes.items states (with_items old.written c.over.new.written).items cells
+  entries =
       let over = c.over.new in let written = (with_items old.written over.written).items in
       subst (λ (x : List ℤ). AreLists lengths old.shapes.items states written x) (sym cells_are)
       (subst (λ (x : List ℕ). AreLists lengths old.shapes.items states x over.cells) (sym written_are)
@@ -67,19 +77,26 @@ module _ (g : Over) (c : After-over g) where
 
 pub invariant_of-self : goal.invariant_of-self
 invariant_of-self g c =
-    let o = (goal.at.invariant_of-self g c).After-over in record { lists = lists g o; held = lanes g o }
+    let o = (goal.at.invariant_of-self g c).After-over in record { entries = entries g o; held = lanes g o }
 
 pub returns-clause-ran : goal.returns-clause-ran
 returns-clause-ran g c =
     let o = (goal.at.returns-clause-ran g c).After-over in let l = c.args.self.now in let lengths = lengths_of l.layout in
-    let n = c.args.job.now.frames in let b : Block = block_of g.P.Codes.parts c.args.job.now in let new = c.over.new in
-    let ran : List LaneShape → State → List ℤ → List LaneState → Type 0 =
-    λ shapes first cells states.
-    Ran c.args.runner.now.tasks.tasks b lengths shapes first cells states new.runner.lines.items c.args.outputs.now new.output in
-    let opened : List LaneShape → List LaneState → List ℤ → State = λ shapes states cells. lanes_alone (opening_lanes lengths shapes states n cells) in
-    subst (λ (x : List ℤ). ran l.shapes.items (opened l.shapes.items l.states.items (cells_of l.region)) x (states g o)) (sym (cells_are g o))
-    (subst (λ (x : List LaneState). ran l.shapes.items (opened l.shapes.items l.states.items (cells_of l.region)) new.cells x) (sym (states_are g o))
-    (subst (λ (x : List ℤ). ran l.shapes.items (opened l.shapes.items l.states.items x) new.cells new.states) c.cells.ensures.value
-    (subst (λ (x : List LaneState). ran l.shapes.items (opened l.shapes.items x c.cells.result.now) new.cells new.states) c.deref_mut.ensures.value
-    (subst (λ (x : List LaneShape). ran x (opened x c.deref_mut.result.now c.cells.result.now) new.cells new.states) c.deref.ensures.value
-    c.over.ensures.ran))))
+    let n = c.args.job.now.frames in let b : Block = block_of g.P.Codes.parts c.args.job.now in let new = c.over.new in let p = c.args.plan.now in
+    let ran : List LaneShape → State → List ℤ → List LaneState → List (Vec ℤ) → Type 0 =
+    λ shapes first cells states lists.
+    Ran c.args.runner.now.tasks.tasks b lengths shapes first cells states lists new.runner.lines.items p.outputs new.output in
+    let opened : List LaneShape → List LaneState → List ℤ → List (Vec ℤ) → State =
+    λ shapes states cells lists. opening_over p.tables lengths shapes states n cells lists in
+    let first = opened l.shapes.items l.states.items (cells_of l.region) l.lists.items in
+    subst (λ (x : List ℤ). ran l.shapes.items first x (states g o) (rows g o)) (sym (cells_are g o))
+    (subst (λ (x : List LaneState). ran l.shapes.items first new.cells x (rows g o)) (sym (states_are g o))
+    (subst (λ (x : List (Vec ℤ)). ran l.shapes.items first new.cells new.states x) (sym (rows_are g o))
+    (subst (λ (x : List (Vec ℤ)). ran l.shapes.items (opened l.shapes.items l.states.items (cells_of l.region) x) new.cells new.states new.lists)
+    c.deref_mut-3.ensures.value
+    (subst (λ (x : List ℤ). ran l.shapes.items (opened l.shapes.items l.states.items x c.deref_mut-3.result.now) new.cells new.states new.lists)
+    c.cells.ensures.value
+    (subst (λ (x : List LaneState). ran l.shapes.items (opened l.shapes.items x c.cells.result.now c.deref_mut-3.result.now) new.cells new.states new.lists)
+    c.deref_mut.ensures.value
+    (subst (λ (x : List LaneShape). ran x (opened x c.deref_mut.result.now c.cells.result.now c.deref_mut-3.result.now) new.cells new.states new.lists)
+    c.deref.ensures.value c.over.ensures.ran))))))

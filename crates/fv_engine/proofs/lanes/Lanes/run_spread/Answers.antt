@@ -1,33 +1,38 @@
-use Rattle.std.proofs.Common.{◌≡◌, ℕ, ◌<◌, ℤ, List, length, ap, sym, ◌∙◌, subst, arith}
+use Rattle.std.proofs.Common.{◌≡◌, ℕ, ◌<◌, ℤ, List, length, ap, ap₂, sym, ◌∙◌, subst, arith}
+use Rattle.std.specs.Global.{Vec}
 use Rattle.std.specs.Vec.{with_items}
 use Rattle.std.proofs.lemmas.List.{with_items_is}
 use Rattle.fv_pool.specs.Lengths.{lengths_of}
 use Rattle.fv_pool.specs.Region.{cells_of}
-use Rattle.fv_loopcode.specs.headline.State.{lanes_alone}
-use Rattle.fv_lines.specs.Solo.{AreHeld, AreLists, held_at, history_at, opening_lanes}
+use Rattle.fv_loopcode.specs.headline.Lanes.{Lane}
+use Rattle.fv_loopcode.specs.headline.State.{State}
+use Rattle.fv_split_plan.specs.Rows.{lists_of}
+use Rattle.fv_lines.specs.Solo.{AreHeld, AreLists, held_at, history_at}
 use Rattle.fv_lines.specs.declared.shape.LaneShape.{LaneShape}
 use Rattle.fv_lines.specs.declared.shape.LaneState.{LaneState}
 use Rattle.fv_engine_tasks.specs.Jobs.{block_of}
 use Rattle.fv_engine_tasks.specs.Block.{Block}
 use Rattle.fv_engine_parcels.specs.Contents.{parts_of}
 use Rattle.fv_engine_crew.specs.Ran.{Ran}
+use Rattle.fv_engine.specs.inner.Opening.{opening_over}
 use Rattle.fv_engine.specs.declared.plan_codes.PlanCodes.{PlanCodes}
 use Rattle.fv_engine.specs.declared.lanes.Lanes.{Lanes}
 use Rattle.fv_engine.proofs.Crews.{AreLent, of_lanes, may_run_over, opens_alike}
 use Rattle.fv_engine.proofs.lanes.Lanes.run_spread.Given.{Over}
-use Rattle.fv_engine.proofs.lanes.Lanes.run_spread.Goals.{After-deref_mut, After-run_spread}
+use Rattle.fv_engine.proofs.lanes.Lanes.run_spread.Goals.{After-deref_mut-2, After-run_spread}
 use Rattle.fv_engine.proofs.lanes.Lanes.run_spread.Goals as goal
 
-lent : (g : Over) (c : After-deref_mut g) → AreLent c.args.self.now c.deref-3.result.now c.deref_mut.result.now c.cells.result.now
+lent : (g : Over) (c : After-deref_mut-2 g) → AreLent c.args.self.now c.deref-3.result.now c.deref_mut.result.now c.cells.result.now c.deref_mut-2.result.now
 lent g c = record {
   shapes_are = c.deref-3.ensures.value;
   states_are = c.deref_mut.ensures.value;
   cells_are = c.cells.ensures.value;
+  lists_are = c.deref_mut-2.ensures.value;
 }
 
 pub run_spread-requires-clause-over : goal.run_spread-requires-clause-over
 run_spread-requires-clause-over g c κs within =
-    may_run_over _ (lent g (goal.at.run_spread-requires-clause-over g c).After-deref_mut) c.requires.may
+    may_run_over _ (lent g (goal.at.run_spread-requires-clause-over g c).After-deref_mut-2) c.requires.may
 
 -- what it leaves
 module _ (g : Over) (c : After-run_spread g) where
@@ -49,48 +54,60 @@ module _ (g : Over) (c : After-run_spread g) where
   cells_are : cells ≡ c.run_spread.new.cells
   cells_are = with_items_is old.region.cells c.run_spread.new.cells (omega (arith, c.run_spread.auto.cells, ap length c.cells.ensures.value, old.region.cells.ok.0))
 
+  abbrev rows : List (Vec ℤ)
+  rows = (with_items old.lists c.run_spread.new.lists).items
+
   states_are : states ≡ c.run_spread.new.states
   states_are = with_items_is old.states c.run_spread.new.states (omega (arith, c.run_spread.auto.states, c.deref_mut.ensures.len, old.states.ok.0))
 
-  lists : AreLists lengths shapes states old.written.items cells
-  lists =
+  rows_are : rows ≡ c.run_spread.new.lists
+  rows_are = with_items_is old.lists c.run_spread.new.lists (omega (arith, c.run_spread.auto.lists, c.deref_mut-2.ensures.len, old.lists.ok.0))
+
+  entries : AreLists lengths shapes states old.written.items cells
+  entries =
       let s = ap length states_are in let k = ap length cells_are in (
-        old.lists.0,
-        omega (arith, s, c.run_spread.auto.states, c.deref_mut.ensures.len, old.states.ok.0, old.lists.1),
-        old.lists.2,
-        omega (arith, k, c.run_spread.auto.cells, ap length c.cells.ensures.value, old.lists.3),
+        old.entries.0,
+        omega (arith, s, c.run_spread.auto.states, c.deref_mut.ensures.len, old.states.ok.0, old.entries.1),
+        old.entries.2,
+        omega (arith, k, c.run_spread.auto.cells, ap length c.cells.ensures.value, old.entries.3),
       )
 
 pub invariant_of-self : goal.invariant_of-self
 invariant_of-self g c =
     let o = goal.at.invariant_of-self g c in
     record {
-      lists = lists g o.After-run_spread;
+      entries = entries g o.After-run_spread;
       held =
           subst (λ (x : List LaneState). AreHeld (lengths g o.After-run_spread) (shapes g o.After-run_spread) x) (sym (states_are g o.After-run_spread))
-          (of_lanes (lent g o.After-deref_mut) (λ ls ss st cs. AreHeld ls ss c.run_spread.new.states) c.run_spread.ensures.lanes);
+          (of_lanes (lent g o.After-deref_mut-2) (λ ls ss st cs. AreHeld ls ss c.run_spread.new.states) c.run_spread.ensures.lanes);
     }
 
 pub returns-clause-ran : goal.returns-clause-ran
 returns-clause-ran g c = λ is_true.
     let o = goal.at.returns-clause-ran g c in let r = o.After-run_spread in let new = c.run_spread.new in let n = c.args.job.now.frames in
+    let p = c.args.job.now.plan.now.plan.now in
     let b : Block = block_of {P = PlanCodes} (λ p. parts_of p.plan.now) c.args.job.now in
-    let ran : List ℤ → List LaneState → List ℕ → List LaneShape → List LaneState → List ℤ → Type 0 =
-    λ left after ls ss st cs. Ran c.args.runner.now.tasks.tasks b ls ss (lanes_alone (opening_lanes ls ss st n cs)) left after new.lines.items
-    c.args.job.now.plan.now.plan.now.outputs new.output in
-    let l = c.args.self.now in let all = lengths g r in
-    subst (λ (x : List ℤ). ran x (states g r) all l.shapes.items l.states.items (cells_of l.region)) (sym (cells_are g r))
-    (subst (λ (x : List LaneState). ran new.cells x all l.shapes.items l.states.items (cells_of l.region)) (sym (states_are g r))
-    (of_lanes (lent g o.After-deref_mut) (ran new.cells new.states) (c.run_spread.ensures.ran is_true)))
+    let l = c.args.self.now in let all = lengths g r in let d = o.After-deref_mut-2 in
+    let ran : List ℤ → List LaneState → List (Vec ℤ) → List (Vec ℤ) → List ℕ → List LaneShape → List LaneState → List ℤ → Type 0 =
+    λ left after rest lists ls ss st cs. Ran c.args.runner.now.tasks.tasks b ls ss (opening_over p.tables ls ss st n cs lists) left after rest new.lines.items
+    p.outputs new.output in
+    subst (λ (x : List ℤ). ran x (states g r) (rows g r) l.lists.items all l.shapes.items l.states.items (cells_of l.region)) (sym (cells_are g r))
+    (subst (λ (x : List LaneState). ran new.cells x (rows g r) l.lists.items all l.shapes.items l.states.items (cells_of l.region)) (sym (states_are g r))
+    (subst (λ (x : List (Vec ℤ)). ran new.cells new.states x l.lists.items all l.shapes.items l.states.items (cells_of l.region)) (sym (rows_are g r))
+    (subst (λ (x : List (Vec ℤ)). ran new.cells new.states new.lists x all l.shapes.items l.states.items (cells_of l.region)) c.deref_mut-2.ensures.value
+    (of_lanes (lent g d) (ran new.cells new.states new.lists c.deref_mut-2.result.now) (c.run_spread.ensures.ran is_true)))))
 
 pub returns-clause-left : goal.returns-clause-left
 returns-clause-left g c = λ is_false.
     let o = goal.at.returns-clause-left g c in let r = o.After-run_spread in let new = c.run_spread.new in
-    let l = c.args.self.now in let all = lengths g r in
+    let l = c.args.self.now in let all = lengths g r in let tables = c.args.job.now.plan.now.plan.now.tables in
     let kept : List ℤ → List LaneState → List ℕ → List LaneShape → List LaneState → List ℤ → Type 0 =
     λ left after ls ss st cs. (i : ℕ) → i < length ss → held_at ls after (history_at ss i) i left ≡ held_at ls st (history_at ss i) i cs in
     let is_kept : kept (cells g r) (states g r) all l.shapes.items l.states.items (cells_of l.region) =
     subst (λ (x : List ℤ). kept x (states g r) all l.shapes.items l.states.items (cells_of l.region)) (sym (cells_are g r))
     (subst (λ (x : List LaneState). kept new.cells x all l.shapes.items l.states.items (cells_of l.region)) (sym (states_are g r))
-    (of_lanes (lent g o.After-deref_mut) (kept new.cells new.states) (c.run_spread.ensures.left is_false))) in
-    ap lanes_alone (opens_alike all l.shapes.items c.args.job.now.frames _ _ _ _ (λ i m. is_kept i (omega (arith, m, l.lists.0))))
+    (of_lanes (lent g o.After-deref_mut-2) (kept new.cells new.states) (c.run_spread.ensures.left is_false))) in
+    let items : lists_of (rows g r) ≡ lists_of l.lists.items =
+    ap lists_of (rows_are g r) ∙ c.run_spread.ensures.lists_left is_false ∙ ap lists_of c.deref_mut-2.ensures.value in
+    let opened = opens_alike all l.shapes.items c.args.job.now.frames _ _ _ _ (λ i m. is_kept i (omega (arith, m, l.entries.0))) in
+    ap₂ (λ (ls : List Lane) (cs : List (List ℤ)). record { lanes = ls; tables = tables; cells = cs }) opened items

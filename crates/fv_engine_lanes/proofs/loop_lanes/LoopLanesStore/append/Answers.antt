@@ -1,5 +1,6 @@
 use Rattle.std.proofs.Common.{ℤ, ◌++◌, [], ◌∷◌, ap, ◌∙◌, arith, to_z-of_z}
-use Rattle.fv_loopcode.specs.headline.State.{lanes_alone}
+use Rattle.fv_engine_lanes.specs.Lanes.{rest_of_cells}
+use Rattle.fv_engine_lanes.specs.Cells.{cells_of}
 use Rattle.fv_lines.specs.Writer.{list_of}
 use Rattle.fv_engine_lanes.proofs.Writing.{lane_set, rest_set, own_lane, has_room}
 use Rattle.fv_engine_lanes.proofs.loop_lanes.LoopLanesStore.append.Goals as goal
@@ -20,7 +21,8 @@ append-requires c =
 
 pub returns-clause-state : goal.returns-clause-state
 returns-clause-state c =
-    ap lanes_alone (lane_set c.args.self.now.own.items c.args.self.now.seen.items c.args.lane c.index_mut.result.now c.append.new.self c.args.value
+    ap (λ ls. record { lanes = ls; tables = c.args.self.now.cells.plan.now.tables; cells = cells_of c.args.self.now.cells })
+    (lane_set c.args.self.now.own.items c.args.self.now.seen.items c.args.lane c.index_mut.result.now c.append.new.self c.args.value
     (has_room c.args.self.now.own.items c.args.self.now.seen.items c.args.lane c.requires.room) c.index_mut.ensures.value
     (record {
       list = c.append.ensures.list ∙ ap (λ (v : ℤ). list_of c.index_mut.result.now ++ v ∷ []) (to_z-of_z c.ranges.value);
@@ -33,7 +35,7 @@ returns-clause-state c =
 
 pub returns-clause-kept : goal.returns-clause-kept
 returns-clause-kept c =
-    ap (λ o. record { own = o; seen = c.args.self.now.seen })
+    ap (λ o. record { own = o; seen = c.args.self.now.seen; cells = rest_of_cells c.args.self.now.cells })
     (rest_set c.args.self.now.own.items c.args.lane c.index_mut.result.now c.append.new.self c.args.value c.index_mut.ensures.value
     (record {
       list = c.append.ensures.list ∙ ap (λ (v : ℤ). list_of c.index_mut.result.now ++ v ∷ []) (to_z-of_z c.ranges.value);

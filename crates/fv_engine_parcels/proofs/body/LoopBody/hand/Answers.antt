@@ -102,6 +102,7 @@ loop-i-preserved c =
     record {
       writers = record {
         writers = h.writers;
+        cells = h.cells;
         nothing_seen = h.nothing_seen;
         room = h.room;
         regs = h.regs;

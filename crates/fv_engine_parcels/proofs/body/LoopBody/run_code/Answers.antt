@@ -2,11 +2,16 @@ use Rattle.std.proofs.Common.{◌≡◌, ℕ, suc, ◌-◌, ◌*◌, List, subst
 use Rattle.std.proofs.Math.Nat.{min-le_right}
 use Rattle.fv_num.specs.headline.Words.{argument}
 use Rattle.fv_loopcode.specs.declared.step.Step.{Step}
+<<<<<<< HEAD
 use Rattle.fv_loopcode.specs.headline.Lanes.{Lane}
-use Rattle.fv_loopcode.specs.headline.State.{State, lanes_alone}
+use Rattle.fv_loopcode.specs.headline.State.{State}
+use Rattle.fv_loopcode.specs.State.{lanes_alone}
+=======
+use Rattle.fv_loopcode.specs.headline.State.{State}
+>>>>>>> 472f2832b677ffd8d9934948974ce4aa72e83808
 use Rattle.fv_loopcode.specs.headline.Code.{ran}
 use Rattle.fv_loopcode.specs.Code.{MayRun, frame_of}
-use Rattle.fv_engine_lanes.specs.Lanes.{lanes_in}
+use Rattle.fv_engine_lanes.specs.Lanes.{state_in}
 use Rattle.fv_engine_parcels.specs.Contents.{upto}
 use Rattle.fv_engine_parcels.specs.inner.Turns.{After}
 use Rattle.fv_engine_parcels.specs.declared.start.Start.{Start}
@@ -20,38 +25,38 @@ run-requires-clause-may c =
     let k : Start = c.args.self.now.start in
     let v : ℕ = c.args.task.vector in
     let code : List Step = slice_index_or c.args.self.now.codes.now c.args.task.loop_no [] in
-    let lanes : List Lane = lanes_in c.args.writers.now.lanes in
+    let state : State = state_in c.args.writers.now.lanes in
     let at : c.from.result * c.from-2.result ≡ v * k.vector = ap₂ (λ (a b : ℕ). a * b) c.from.ensures c.from-2.ensures in
     let from : c.from.result * c.from-2.result ≡ upto k v = at ∙ sym (starts_at v k.vector k.frames c.requires.inside) in
     let count : c.min-count.result ≡ upto k (suc v) - upto k v =
     c.min-count.ensures ∙ ap₂ min c.from-3.ensures (ap₂ (λ (a b : ℕ). a - b) c.from-4.ensures at) ∙ sym (window_is v k.vector k.frames c.requires.inside) in
     subst (λ (steps : List Step). MayRun steps (argument k.held.now) (frame_of k.input.now k.channels)
-    (c.from.result * c.from-2.result) c.min-count.result (lanes_alone lanes))
+    (c.from.result * c.from-2.result) c.min-count.result state)
     (sym c.code-code.ensures)
-    (subst (λ (x : ℕ). MayRun code (argument k.held.now) (frame_of k.input.now k.channels) x c.min-count.result (lanes_alone lanes)) (sym from)
-    (subst (λ (y : ℕ). MayRun code (argument k.held.now) (frame_of k.input.now k.channels) (upto k v) y (lanes_alone lanes)) (sym count)
+    (subst (λ (x : ℕ). MayRun code (argument k.held.now) (frame_of k.input.now k.channels) x c.min-count.result state) (sym from)
+    (subst (λ (y : ℕ). MayRun code (argument k.held.now) (frame_of k.input.now k.channels) (upto k v) y state) (sym count)
     (may_run_merely (record { tasks = c.tasks_are_done.ensures; numbers = c.renumbered_code_obeys.ensures }) k c.args.task.loop_no v
-    c.requires.real code lanes c.requires.known c.requires.before)))
+    c.requires.real code state c.requires.known c.requires.before)))
 
 pub returns-clause-after : goal.returns-clause-after
 returns-clause-after c =
     let k : Start = c.args.self.now.start in
     let v : ℕ = c.args.task.vector in
     let code : List Step = slice_index_or c.args.self.now.codes.now c.args.task.loop_no [] in
-    let lanes : List Lane = lanes_in c.args.writers.now.lanes in
+    let state : State = state_in c.args.writers.now.lanes in
     let at : c.from.result * c.from-2.result ≡ v * k.vector = ap₂ (λ (a b : ℕ). a * b) c.from.ensures c.from-2.ensures in
     let from : c.from.result * c.from-2.result ≡ upto k v = at ∙ sym (starts_at v k.vector k.frames c.requires.inside) in
     let count : c.min-count.result ≡ upto k (suc v) - upto k v =
     c.min-count.ensures ∙ ap₂ min c.from-3.ensures (ap₂ (λ (a b : ℕ). a - b) c.from-4.ensures at) ∙ sym (window_is v k.vector k.frames c.requires.inside) in
-    let is : lanes_in c.run.new.store ≡
-    (ran code (argument k.held.now) (frame_of k.input.now k.channels) (upto k v) (upto k (suc v) - upto k v) (lanes_alone lanes)).lanes =
-    ap (λ (s : State). s.lanes) c.run.ensures.state
-    ∙ ap (λ (steps : List Step). (ran steps (argument k.held.now) (frame_of k.input.now k.channels)
-    (c.from.result * c.from-2.result) c.min-count.result (lanes_alone lanes)).lanes) c.code-code.ensures
-    ∙ ap₂ (λ (x y : ℕ). (ran code (argument k.held.now) (frame_of k.input.now k.channels) x y (lanes_alone lanes)).lanes) from count in
-    subst (λ (ls : List Lane). After k c.args.task.loop_no v ls) (sym is)
+    let is : state_in c.run.new.store ≡
+    ran code (argument k.held.now) (frame_of k.input.now k.channels) (upto k v) (upto k (suc v) - upto k v) state =
+    c.run.ensures.state
+    ∙ ap (λ (steps : List Step). ran steps (argument k.held.now) (frame_of k.input.now k.channels)
+    (c.from.result * c.from-2.result) c.min-count.result state) c.code-code.ensures
+    ∙ ap₂ (λ (x y : ℕ). ran code (argument k.held.now) (frame_of k.input.now k.channels) x y state) from count in
+    subst (λ (s : State). After k c.args.task.loop_no v s) (sym is)
     (own_after_merely (record { tasks = c.tasks_are_done.ensures; numbers = c.renumbered_code_obeys.ensures }) k c.args.task.loop_no v code
-    lanes c.requires.known c.requires.before)
+    state c.requires.known c.requires.before)
 
 pub run-requires-clause-input : goal.run-requires-clause-input
 run-requires-clause-input c = λ i named.

@@ -10,13 +10,13 @@ use Rattle.std.proofs.lemmas.List.Elements.{All-map}
 use Rattle.fv_graph.specs.Words.{passing}
 use Rattle.fv_graph.specs.Graph.{pair_at, pair_edge, chain_edge, task_at, outward}
 use Rattle.fv_lines.specs.declared.seen.Seen.{Seen}
-use Rattle.fv_engine_lanes.specs.Lanes.{lanes_in, LanesRest, rest_of_writer}
+use Rattle.fv_engine_lanes.specs.Lanes.{state_in, AreLanesSound, LanesRest, rest_of_writer, rest_of_cells}
 use Rattle.fv_engine_lanes.specs.Renumbered.{renumbered}
 use Rattle.fv_split_plan.specs.headline.View.{code_of}
 use Rattle.fv_loopcode.specs.declared.step.Step.{Step}
 use Rattle.fv_loopcode.specs.Code.{IsWithin}
 use Rattle.fv_engine_lanes.specs.Plans.{own_lanes, lanes_of_all, sources_of, IsLocalCode}
-use Rattle.fv_engine_parcels.specs.Contents.{tasks_in, AreHandedOn, AreSeenOf, AreWritersOf, AreRoomy}
+use Rattle.fv_engine_parcels.specs.Contents.{tasks_in, AreHandedOn, AreSeenOf, AreWritersOf, AreCellsOf, AreRoomy}
 use Rattle.fv_engine_parcels.specs.inner.Turns.{Known, Before, lanes_by, IsPairFrom}
 use Rattle.fv_engine_parcels.specs.declared.start.Start.{Start}
 use Rattle.fv_engine_parcels.specs.declared.content.Writers.{Writers}
@@ -24,7 +24,7 @@ use Rattle.fv_engine_parcels.specs.declared.parcel.LoopParcel.{LoopParcel}
 use Rattle.fv_engine_parcels.proofs.Edges.{outward_is, pairs_of, pairs_out}
 use Rattle.fv_engine_parcels.proofs.Coming.{Came, came, Holds, holds, none_seen, vector_inside, edges_reverse, keys_reverse}
 use Rattle.fv_engine_parcels.proofs.Props.{within_prop, within_renumbered}
-use Rattle.fv_engine_parcels.proofs.Tasking.{before_of, after_of, upto_next}
+use Rattle.fv_engine_parcels.proofs.Tasking.{before_of, after_of, cells_after_of, upto_next}
 use Rattle.fv_engine_parcels.proofs.body.LoopBodyBodyLoopParcel.run.Goals as goal
 
 pub unreachable-requires : goal.unreachable-requires
@@ -124,9 +124,23 @@ run_code-requires-clause-before c =
     holds k j v c.remove.result c.remove.new.self.items c.in-Writers.writers.value _ c.requires.task.0 t
     (ap (map (λ (q : LoopParcel). q.edge)) c.as_slice.ensures.value) (c.into_content.ensures.writers c.in-Writers.writers c.in-Writers.is).1 in
     let now : AreHandedOn k j v 0 c.deref_mut.result.now = subst (AreHandedOn k j v 0) (sym c.deref_mut.ensures.value) held.writers in
-    subst (λ (w : Writers). Before k j v (lanes_in w.lanes)) (sym c.deref_mut-2.ensures.value)
-    (before_of k j v c.deref_mut.result.now.lanes.own.items c.gather.new.seen.items now.writers
-    (subst (λ (ls : List ℕ). AreSeenOf k ls (v + 1) c.gather.new.seen.items) held.lanes c.gather.ensures.seen))
+    subst (λ (w : Writers). Before k j v (state_in w.lanes)) (sym c.deref_mut-2.ensures.value)
+    (before_of k j v c.deref_mut.result.now.lanes.own.items c.gather.new.seen.items c.deref_mut.result.now.lanes.cells now.writers
+    (subst (λ (ls : List ℕ). AreSeenOf k ls (v + 1) c.gather.new.seen.items) held.lanes c.gather.ensures.seen) now.cells)
+
+pub run_code-requires-clause-sound : goal.run_code-requires-clause-sound
+run_code-requires-clause-sound c =
+    let k : Start = c.args.self.now.start in
+    let j : ℕ = c.args.task.loop_no in
+    let v : ℕ = c.args.task.vector in
+    let t : Came k j v c.remove.result c.remove.new.self.items =
+    came k j v c.args.parcels.now.items c.remove.result c.remove.new.self.items c.requires.task.0 c.requires.inward.edges_are c.requires.inward.keys
+    c.remove.ensures.value c.remove.ensures.by_index.2 in
+    let held : Holds k j v c.in-Writers.writers.value (map (λ (q : LoopParcel). q.edge) c.as_slice.result.now) =
+    holds k j v c.remove.result c.remove.new.self.items c.in-Writers.writers.value _ c.requires.task.0 t
+    (ap (map (λ (q : LoopParcel). q.edge)) c.as_slice.ensures.value) (c.into_content.ensures.writers c.in-Writers.writers c.in-Writers.is).1 in
+    let now : AreHandedOn k j v 0 c.deref_mut.result.now = subst (AreHandedOn k j v 0) (sym c.deref_mut.ensures.value) held.writers in
+    subst (λ (w : Writers). AreLanesSound w.lanes) (sym c.deref_mut-2.ensures.value) now.cells.placed
 
 pub run_code-requires-clause-regs : goal.run_code-requires-clause-regs
 run_code-requires-clause-regs c =
@@ -182,12 +196,18 @@ hand-requires-clause-writers c =
     let next : suc v ≡ v + 1 = omega arith in
     let after : AreWritersOf k own (suc v) c.run_code.new.writers.lanes.own.items =
     after_of k j v c.deref_mut.result.now.lanes.own.items c.run_code.new.writers.lanes.own.items c.run_code.new.writers.lanes.seen.items
-    c.args.self.now.real now.writers
+    c.run_code.new.writers.lanes.cells c.args.self.now.real now.writers
     (ap (λ (r : LanesRest). r.own) c.run_code.ensures.kept ∙ ap (λ (w : Writers). map rest_of_writer w.lanes.own.items) c.deref_mut-2.ensures.value)
     c.run_code.ensures.after in
+    let cells : AreCellsOf k j (suc v) c.run_code.new.writers.lanes.cells =
+    cells_after_of k j v c.deref_mut.result.now.lanes.cells c.run_code.new.writers.lanes.cells _ now.cells
+    (ap (λ (r : LanesRest). r.cells) c.run_code.ensures.kept ∙ ap (λ (w : Writers). rest_of_cells w.lanes.cells) c.deref_mut-2.ensures.value)
+    c.run_code.ensures.sound c.run_code.ensures.after in
     record {
       writers = subst (λ (w : Writers). AreWritersOf k own (v + 1) w.lanes.own.items) (sym c.deref_mut-3.ensures.value)
           (subst (λ (n : ℕ). AreWritersOf k own n c.run_code.new.writers.lanes.own.items) next after);
+      cells = subst (λ (w : Writers). AreCellsOf k j (v + 1) w.lanes.cells) (sym c.deref_mut-3.ensures.value)
+          (subst (λ (n : ℕ). AreCellsOf k j n c.run_code.new.writers.lanes.cells) next cells);
       nothing_seen = c.clear-2.ensures.items;
       room = omega (
         arith,

@@ -2,7 +2,7 @@ use Rattle.std.proofs.Common.{set, length, sym, ap, ◌∙◌, arith}
 use Rattle.fv_num.specs.headline.Words.{argument}
 use Rattle.fv_loopcode.specs.headline.Lanes.{Lane}
 use Rattle.fv_loopcode.specs.Lanes.{all_appended}
-use Rattle.fv_loopcode.specs.headline.State.{lanes_alone}
+use Rattle.fv_loopcode.specs.State.{lanes_alone}
 use Rattle.fv_lines.specs.Solo.{lanes_of}
 use Rattle.fv_lines.proofs.Stored.{there_of, lane_is}
 use Rattle.fv_lines.proofs.solo.SoloStore.append_many.Goals as goal

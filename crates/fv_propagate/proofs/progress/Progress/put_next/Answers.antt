@@ -2,7 +2,7 @@ use Rattle.std.proofs.Common.{◌≡◌, ℕ, ◌<◌, [], ◌∷◌, ap, ◌∙
 use Rattle.std.proofs.lemmas.Int.{ints, to_z_pos}
 use Rattle.fv_num.specs.declared.op.Op.TheVariants.{Add, Rem}
 use Rattle.fv_signal.specs.declared.signal.Signal.TheVariants.{Const, Point}
-use Rattle.fv_diagram.specs.inner.Code.{padded}
+use Rattle.fv_diagram.specs.Hooks.{padded}
 use Rattle.fv_propagate.specs.inner.Progress.{Progress, put}
 use Rattle.fv_propagate.proofs.Kept.{grown_put}
 use Rattle.fv_propagate.proofs.progress.Progress.put_next.Goals as goal

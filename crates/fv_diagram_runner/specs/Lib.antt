@@ -1,0 +1,4 @@
+pub mod History
+pub mod Steps
+pub mod Runner
+pub mod inner

@@ -1,0 +1,76 @@
+use Rattle.std.proofs.Common.{◌≡◌, ◌∙◌, ◌+◌, ◌*◌, ◌<◌, ℕ, ℤ, List, length, All, refl, ap, sym, subst, arith, rules}
+use Rattle.std.specs.Prelude.{slice_index_or}
+use Rattle.std.specs.Global.{Vec}
+use Rattle.std.proofs.lemmas.List.{length-map}
+use Rattle.fv_num.specs.headline.Words.{argument}
+use Rattle.fv_outside.specs.declared.gate.Line.{Line}
+use Rattle.fv_graph.specs.Graph.{Graph}
+use Rattle.fv_loopcode.specs.headline.State.{State}
+use Rattle.fv_lines.specs.Solo.{lanes_of}
+use Rattle.fv_engine_tasks.specs.Block.{Block}
+use Rattle.fv_engine_tasks.specs.Jobs.{IsJob, block_of}
+use Rattle.fv_engine_tasks.specs.Outputs.{sample_of}
+use Rattle.fv_engine_tasks.specs.Underway.{IsUnderway, EndsBlock}
+use Rattle.fv_engine_tasks.proofs.Full.{IsDone, can_read}
+use Rattle.fv_engine.specs.inner.Kept.{KeptRest, state_of, state_in, rest_of}
+use Rattle.fv_engine.specs.declared.kept.Kept.{Kept}
+use Rattle.fv_engine.proofs.Runs.{starts}
+use Rattle.fv_engine.proofs.alone.alone.Given.{Over}
+use Rattle.fv_engine.proofs.alone.alone.Goals.{After-begin, After-run_tasks}
+use Rattle.fv_engine.proofs.alone.alone.Goals as goal
+
+-- the block, as its places open
+module _ (g : Over) (c : After-begin g) where
+  abbrev b : Block
+  b = block_of g.P.Codes.parts c.args.job.now
+
+  abbrev first : State
+  first = state_of c.args.plan.now c.args.solo.now c.args.lists.now
+
+  underway : IsUnderway c.begin.new.self.tasks.tasks b first c.begin.new.self.core.now first c.begin.new.self.lines.items
+  underway = starts (record {
+    long = c.requires.lanes;
+    cells = length-map c.args.lists.now (λ (v : Vec ℤ). v.items) ∙ c.requires.lists;
+    state = c.begin.ensures.opening;
+    places_are = refl;
+    none = ap (λ (v : Vec Line). v.items) c.begin.ensures.lines ∙ c.requires.lines;
+  })
+
+-- the block when its tasks are done
+module _ (g : Over) (c : After-run_tasks g) where
+  abbrev block : Block
+  block = block_of g.P.Codes.parts c.args.job.now
+
+  abbrev opened : State
+  opened = state_of c.args.plan.now c.args.solo.now c.args.lists.now
+
+  done : IsUnderway c.begin.new.self.tasks.tasks block opened c.begin.new.self.core.now opened c.begin.new.self.lines.items
+      → IsDone c.begin.new.self.tasks.tasks block opened (state_in c.run_tasks.new.store) c.run_tasks.new.lines.items
+  done u = record {
+    job = subst (λ (t : Graph). IsJob block t.tasks) (sym c.begin.ensures.tasks) c.requires.job;
+    real = c.requires.real;
+    ends = c.run_tasks.ensures.ends opened c.requires.real u;
+  }
+
+pub run_tasks-requires-clause-underway : goal.run_tasks-requires-clause-underway
+run_tasks-requires-clause-underway g c =
+    let d = (goal.at.run_tasks-requires-clause-underway g c).After-begin in (first g d, c.requires.real, underway g d)
+
+pub copy_outputs-requires-clause-there : goal.copy_outputs-requires-clause-there
+copy_outputs-requires-clause-there g c = λ t m.
+    let d = goal.at.copy_outputs-requires-clause-there g c in let block = done g d.After-run_tasks (underway g d.After-begin) in
+    let b = block_of g.P.Codes.parts c.args.job.now in
+    can_read block t (omega (arith, m, c.from.ensures)) c.outputs.result.now
+    (subst (λ (xs : List ℕ). All (λ l. l < b.plan.lanes) xs) (sym c.outputs.ensures) c.requires.there)
+
+pub returns-clause-ends : goal.returns-clause-ends
+returns-clause-ends g c = ?
+
+pub returns-clause-sound : goal.returns-clause-sound
+returns-clause-sound g c = ?
+
+pub returns-clause-kept : goal.returns-clause-kept
+returns-clause-kept g c = ?
+
+pub returns-clause-samples : goal.returns-clause-samples
+returns-clause-samples g c = ?

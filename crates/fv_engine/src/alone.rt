@@ -1,0 +1,59 @@
+// A block's tasks by one worker.
+
+ghost use Rattle.std.specs.Prelude.{◌≡◌, ℕ, ◌+◌, ◌*◌, ◌<◌, length, [], All, slice_index_or, pos};
+ghost use Rattle.fv_lines.specs.Solo.{lanes_of, rest_of, IsSolo};
+ghost use Rattle.fv_engine_tasks.specs.Block.{IsReal};
+ghost use Rattle.fv_engine_tasks.specs.Jobs.{IsJob, block_of, RegistersFit};
+ghost use Rattle.fv_engine_tasks.specs.Underway.{EndsBlock};
+ghost use Rattle.fv_engine_tasks.specs.Outputs.{sample_of};
+ghost use Rattle.fv_engine.specs.inner.Kept.{state_of};
+ghost use Rattle.fv_engine.specs.inner.Opening.{IsSameRunner};
+
+use crate::kept::Kept;
+use crate::runner::TaskRunner;
+use fv_engine_tasks::{Codes, Job, copy_outputs, run_tasks};
+use fv_lines::Solo;
+use fv_outside::Gate;
+use fv_split_plan::Plan;
+
+/// Runs a block's tasks over these lanes, the plan's tables and the lists of its cells, one after another, and copies the lanes of the
+/// outputs.
+pub(crate) fn alone<P: Codes, G: Gate>(
+    job: &Job<'_, '_, '_, P>,
+    plan: &Plan,
+    solo: &mut Solo<'_, '_, '_, '_, '_>,
+    lists: &mut [Vec<i32>],
+    runner: &mut TaskRunner,
+    output: &mut [i32],
+    gate: &G,
+)
+    requires sound { IsSolo solo.old }
+    requires lanes { length (lanes_of solo.old) ≡ (P.parts job.now.plan.now).lanes }
+    requires lists { length lists.old ≡ (P.parts job.now.plan.now).cells }
+    requires job { IsJob (block_of P.parts job.now) runner.old.tasks.tasks }
+    requires real { IsReal (block_of P.parts job.now) (state_of plan.now solo.old lists.old) }
+    requires regs { RegistersFit (P.parts job.now.plan.now) (length runner.old.regs.items) }
+    requires lines { runner.old.lines.items ≡ [] }
+    requires there { All (λ l. l < (P.parts job.now.plan.now).lanes) plan.now.outputs }
+    requires output { length output.old ≡ job.now.frames * length plan.now.outputs }
+    ensures ends { EndsBlock runner.old.tasks.tasks (block_of P.parts job.now) (state_of plan.now solo.old lists.old)
+        (state_of plan.now solo.new lists.new) runner.new.lines.items }
+    ensures sound { IsSolo solo.new }
+    ensures kept { rest_of solo.new ≡ rest_of solo.old }
+    ensures samples { (t j : ℕ) → t < job.now.frames → j < length plan.now.outputs
+        → slice_index_or output.new (t * length plan.now.outputs + j) (pos 0) ≡ sample_of (lanes_of solo.new) t (slice_index_or plan.now.outputs j 0) }
+    ensures runner { IsSameRunner runner.old runner.new }
+{
+    runner.begin();
+    let mut kept = Kept { plan, solo, lists };
+    run_tasks(
+        job,
+        &runner.tasks,
+        &mut runner.core,
+        &mut runner.regs,
+        &mut runner.lines,
+        &mut kept,
+        gate,
+    );
+    copy_outputs(plan.outputs(), u64::from(job.frames), &kept, output);
+}
