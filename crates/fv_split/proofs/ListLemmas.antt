@@ -86,7 +86,7 @@ pub code_behind : (front rest : List (Vec Step Global)) (v : Vec Step Global) �
 code_behind [] rest v = refl
 code_behind (c ∷ cs) rest v = code_behind cs rest v
 
--- ---- the same of equal tables
+-- ---- the same of equal lists
 
 pub same_bases : (g : Graph) (stands stands' : List ℕ) (rates rates' : List Rate) (lanes lanes' : List (Option ℕ)) (numbers numbers' : List ℕ) (n : ℕ)
     (bases : List Kind) →

@@ -45,7 +45,7 @@ use Rattle.fv_split.specs.declared.cells.Cells.{Cells}
 use Rattle.fv_split.specs.inner.Cells.{AreOf}
 use Rattle.fv_split.specs.inner.ToldReads.{LoadsAmong, reads_of_loops}
 use Rattle.fv_split.proofs.TellLemmas.{IsTold, LoopReads, all_told, few_pairs}
-use Rattle.fv_split.proofs.SuitLemmas.{Passes, tables_of, names_of, own_places, lower_loaded, MayLoad, may_load, in_loop, cells_in_loop, suits}
+use Rattle.fv_split.proofs.SuitLemmas.{Passes, survey_of, names_of, own_places, lower_loaded, MayLoad, may_load, in_loop, cells_in_loop, suits}
 use Rattle.fv_split.proofs.SuitLemmas.{separated_lane}
 
 map_items : (f : ℕ → ℤ) (xs : List ℕ) → map f xs ≡ table (length xs) (λ k. f (at xs k))
@@ -75,7 +75,7 @@ held_within g v e (step.Write cells args) h r = absurd h
 
 module _ (g : Graph) (p : Lanes) (stands : Vec ℕ Global) (bases kinds : Vec Kind Global) (cells : Cells) (numbers : List ℕ) (steps : List Step)
     (passes : Passes g p stands bases kinds cells numbers steps)
-    (codes : List (Vec Step Global)) (are_codes : AreCodes g (tables_of p stands bases kinds cells) p.loops codes) where
+    (codes : List (Vec Step Global)) (are_codes : AreCodes g (survey_of p stands bases kinds cells) p.loops codes) where
   abbrev graph : IsGraph g
   graph = passes.graph
 
