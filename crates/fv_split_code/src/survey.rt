@@ -5,7 +5,7 @@ use fv_signal::SignalId;
 
 /// What is known of the signals of a graph, in their order, and of its lanes and cells.
 #[derive(Drop)]
-pub struct Tables {
+pub struct Survey {
     /// What each signal stands for.
     pub stands: Vec<SignalId>,
     /// What each signal is without its lane.
