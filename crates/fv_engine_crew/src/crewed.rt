@@ -61,19 +61,7 @@ pub(crate) fn run_begun<'a, 'b, R: Threads + Wait + Sync, G: Gate + Sync>(
         lines,
         gate,
     ) {
-        Ok(exits) => Ok(collect(
-            body.start(),
-            exits,
-            emptied,
-            back,
-            cells.as_mut_slice(),
-        )),
-        Err(entries) => Err(collect(
-            body.start(),
-            entries,
-            emptied,
-            back,
-            cells.as_mut_slice(),
-        )),
+        Ok(exits) => Ok(collect(body.start(), exits, emptied, back, cells.as_mut_slice())),
+        Err(entries) => Err(collect(body.start(), entries, emptied, back, cells.as_mut_slice())),
     }
 }
