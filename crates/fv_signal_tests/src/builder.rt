@@ -5,6 +5,7 @@ use fv_share::Builder;
 use fv_signal::{Signal, SignalId};
 use std::process::Abort;
 use std::test::Fail;
+use test_graphs::graph_over;
 
 #[test]
 fn signals_are_shared(rt: HostRuntime) -> Result<(), Fail> {
@@ -98,7 +99,6 @@ fn groups_are_closed_together(rt: HostRuntime) -> Result<(), Fail> {
     Ok(())
 }
 
-// A list that is put twice is one table, and the tables of a graph come behind those that are there.
 #[test]
 fn equal_lists_are_one_table(rt: HostRuntime) -> Result<(), Fail> {
     let mut builder = Builder::new(rt.alloc());
@@ -107,15 +107,22 @@ fn equal_lists_are_one_table(rt: HostRuntime) -> Result<(), Fail> {
         builder.table(&[7])?,
         builder.table(&[7, 8])?,
     ];
-    assert_eq!(rt; numbers, [0, 1, 0]);
-    let graph = builder.finish(&[])?;
-    assert_eq!(rt; graph.tables(), 2);
+    assert_eq!(rt; (numbers, builder.tables()), ([0, 1, 0], 2));
+    Ok(())
+}
+
+// The tables of a graph come behind those that are there, also where a list is there already.
+#[test]
+fn tables_come_behind_others(rt: HostRuntime) -> Result<(), Fail> {
+    let graph = graph_over(rt.alloc(), &[], &[], &[&[7, 8], &[7]], &[])?;
+    let mut builder = Builder::new(rt.alloc());
+    let numbers = [builder.table(&[7])?, builder.add_tables(&graph)?];
+    assert_eq!(rt; numbers, [0, 1]);
+    let behind = builder.finish(&[])?;
+    assert_eq!(rt; behind.tables(), 3);
     assert_eq!(rt;
-        (graph.table(0), graph.table(1)),
-        ([7, 8].as_slice(), [7].as_slice())
+        (behind.table(0), behind.table(1)),
+        ([7].as_slice(), [7, 8].as_slice())
     );
-    let mut further = Builder::new(rt.alloc());
-    let numbers = [further.table(&[7])?, further.add_tables(&graph)?];
-    assert_eq!(rt; (numbers, further.tables()), ([0, 1], 3));
     Ok(())
 }

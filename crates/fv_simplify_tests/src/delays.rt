@@ -1,7 +1,7 @@
 // Delays of delays.
 
 use crate::outputs::first_by_number;
-use fv_signal::Signal;
+use fv_signal::{Graph, Signal};
 use fv_simplify::{are_short, simplify};
 use std::process::Abort;
 use std::test::Fail;
@@ -83,15 +83,22 @@ const ROWS: [Row; 5] = [
     ),
 ];
 
+// By how many samples the first output is late, and whether that is of this signal.
+fn lateness(graph: &Graph, of: Signal) -> Option<(u32, bool)> {
+    match first_by_number(graph) {
+        Some((signal, by)) => Some((by, signal == of)),
+        None => None,
+    }
+}
+
 #[test]
 fn delays_of_delays(rt: HostRuntime) -> Result<(), Fail> {
     for (lines, outputs, late, of, is_of) in ROWS {
         let graph = graph_of(rt.alloc(), lines, &[], outputs)?;
         assert!(rt; are_short(&graph));
         let simpler = simplify(rt.alloc(), &graph, &[])?;
-        let found = first_by_number(&simpler).map(|(signal, by)| (by, signal == of));
         assert_eq!(rt;
-            (found, simpler.outputs().len()),
+            (lateness(&simpler, of), simpler.outputs().len()),
             (Some((late, is_of)), outputs.len())
         );
     }
