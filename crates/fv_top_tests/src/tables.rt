@@ -95,10 +95,7 @@ fn assert_sounds(
 fn tables_sound(rt: HostRuntime) -> Result<(), Fail> {
     let rows = [
         // The number at the sample, clamped to the list.
-        (
-            "process = waveform{10,-20,30}, _ : rdtable;",
-            [-20, 10, 30],
-        ),
+        ("process = waveform{10,-20,30}, _ : rdtable;", [-20, 10, 30]),
         // Two numbers in turn.
         ("process = !,(waveform{4,-5} : !,_);", [4, -5, 4]),
         // The running sum of a head, from its first number: 1, 2, 3 and 4.
