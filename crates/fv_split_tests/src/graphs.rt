@@ -257,7 +257,7 @@ const ROWS: [Row; 11] = [
         steps: &[3],
     },
     // A table that is written is an operand of one sum alone, and has a lane and cells.
-    // Two inputs for its three operands, one of them again, the write, append; number, load of its lane, input, sum, append.
+    // Three inputs, the write, append; number, load of its lane, input, sum, append.
     Row {
         lines: &[
             Line::Input(0),
