@@ -5,7 +5,6 @@ ghost use Rattle.fv_pool.specs.Lengths.{lengths_of};
 ghost use Rattle.fv_lines.specs.Solo.{IsHeld, AreLists, AreHeld, AreFramed, AreFull, IsSolo, lanes_of};
 
 use fv_lines::{LaneShape, LaneState, Solo};
-use fv_loopcode::Store;
 use fv_pool::{Layout, Region};
 use std::process::Abort;
 use std::test::Fail;
@@ -106,7 +105,7 @@ fn load_block(rt: &impl Abort, solo: &Solo<'_, '_, '_, '_, '_>, back: u64) -> [i
 {
     let mut to = [-1; FRAMES as usize];
     assert!(rt; solo.len() == 1 && solo.has_sample(0, 0, back) && solo.has_sample(0, 3, back));
-    Store::load_many(solo, 0, 0, back, &mut to);
+    solo.load_many(0, 0, back, &mut to);
     to
 }
 
@@ -203,7 +202,7 @@ fn play_at_once(
     let mut solo = Solo::begin(cells, layout, shapes, states, written, FRAMES);
     let now = counted_from(first);
     assert!(rt; solo.len() == 1 && solo.room(0) >= FRAMES);
-    Store::append_many(&mut solo, 0, &now);
+    solo.append_many(0, &now);
     for back in [0u32, 1, 16, 17] {
         let wanted = now.map(|value| counted(value, back as i32));
         assert_eq!(rt; load_block(rt, &solo, u64::from(back)), wanted, "{first}");
