@@ -18,30 +18,30 @@ use fv_split_plan::Plan;
 
 /// Runs a block's tasks over these lanes, the plan's tables and the lists of its cells, one after another, and copies the lanes of the
 /// outputs.
-pub(crate) fn alone<P: Codes, G: Gate>(
+pub(crate) fn alone<'a, 'l, 's, 'b, 'c, P: Codes, G: Gate>(
     job: &Job<'_, '_, '_, P>,
     plan: &Plan,
-    solo: &mut Solo<'_, '_, '_, '_, '_>,
+    solo: Solo<'a, 'l, 's, 'b, 'c>,
     lists: &mut [Vec<i32>],
     runner: &mut TaskRunner,
     output: &mut [i32],
     gate: &G,
-)
-    requires sound { IsSolo solo.old }
-    requires lanes { length (lanes_of solo.old) ≡ (P.parts job.now.plan.now).lanes }
+) -> Solo<'a, 'l, 's, 'b, 'c>
+    requires sound { IsSolo solo }
+    requires lanes { length (lanes_of solo) ≡ (P.parts job.now.plan.now).lanes }
     requires lists { length lists.old ≡ (P.parts job.now.plan.now).cells }
     requires job { IsJob (block_of P.parts job.now) runner.old.tasks.tasks }
-    requires real { IsReal (block_of P.parts job.now) (state_of plan.now solo.old lists.old) }
+    requires real { IsReal (block_of P.parts job.now) (state_of plan.now solo lists.old) }
     requires regs { RegistersFit (P.parts job.now.plan.now) (length runner.old.regs.items) }
     requires lines { runner.old.lines.items ≡ [] }
     requires there { All (λ l. l < (P.parts job.now.plan.now).lanes) plan.now.outputs }
     requires output { length output.old ≡ job.now.frames * length plan.now.outputs }
-    ensures ends { EndsBlock runner.old.tasks.tasks (block_of P.parts job.now) (state_of plan.now solo.old lists.old)
-        (state_of plan.now solo.new lists.new) runner.new.lines.items }
-    ensures sound { IsSolo solo.new }
-    ensures kept { rest_of solo.new ≡ rest_of solo.old }
+    ensures ends { EndsBlock runner.old.tasks.tasks (block_of P.parts job.now) (state_of plan.now solo.entry lists.old)
+        (state_of plan.now result lists.new) runner.new.lines.items }
+    ensures sound { IsSolo result }
+    ensures kept { rest_of result ≡ rest_of solo.entry }
     ensures samples { (t j : ℕ) → t < job.now.frames → j < length plan.now.outputs
-        → slice_index_or output.new (t * length plan.now.outputs + j) (pos 0) ≡ sample_of (lanes_of solo.new) t (slice_index_or plan.now.outputs j 0) }
+        → slice_index_or output.new (t * length plan.now.outputs + j) (pos 0) ≡ sample_of (lanes_of result) t (slice_index_or plan.now.outputs j 0) }
     ensures runner { IsSameRunner runner.old runner.new }
 {
     runner.begin();
@@ -56,4 +56,10 @@ pub(crate) fn alone<P: Codes, G: Gate>(
         gate,
     );
     copy_outputs(plan.outputs(), u64::from(job.frames), &kept, output);
+    let Kept {
+        plan: _,
+        solo,
+        lists: _,
+    } = kept;
+    solo
 }

@@ -6,26 +6,26 @@ use fv_split_plan::Plan;
 
 /// The lanes over the region, the plan's tables, and for each of its cells a list, lent for a block.
 #[derive(Drop)]
-pub(crate) struct Kept<'p, 'o, 'k, 'a, 'l, 's, 'b, 'c> {
+pub(crate) struct Kept<'p, 'k, 'a, 'l, 's, 'b, 'c> {
     pub(crate) plan: &'p Plan,
-    pub(crate) solo: &'o mut Solo<'a, 'l, 's, 'b, 'c>,
+    pub(crate) solo: Solo<'a, 'l, 's, 'b, 'c>,
     pub(crate) lists: &'k mut [Vec<i32>],
 }
 
-impl<'p, 'o, 'k, 'a, 'l, 's, 'b, 'c> Store for Kept<'p, 'o, 'k, 'a, 'l, 's, 'b, 'c> {
+impl<'p, 'k, 'a, 'l, 's, 'b, 'c> Store for Kept<'p, 'k, 'a, 'l, 's, 'b, 'c> {
     ghost use Rattle.fv_lines.specs.Solo.{IsSolo};
     ghost use Rattle.fv_engine.specs.inner.Kept.{state_in, KeptRest, rest_of};
 
     ghost state = { λ s. state_in s };
 
-    ghost is_sound = { λ s. IsSolo s.solo.now };
+    ghost is_sound = { λ s. IsSolo s.solo };
 
     ghost Rest = { KeptRest };
 
     ghost rest = { λ s. rest_of s };
 
     fn load(&self, lane: u64, index: u64, back: u64) -> i32 {
-        self.solo.load(lane, index, back)
+        self.solo.at(lane, index, back)
     }
 
     fn has_just(&self, lane: u64, samples: u64) -> bool {

@@ -50,7 +50,7 @@ pub(crate) fn over<P: Codes, G: Gate>(
     ensures lanes { AreHeld (lengths_of layout.now) shapes.now states.new }
     ensures runner { IsSameRunner runner.old runner.new }
 {
-    let mut solo = Solo::begin(cells, layout, shapes, states, written, job.frames);
-    alone(job, plan, &mut solo, lists, runner, output, gate);
+    let begun = Solo::begin(cells, layout, shapes, states, written, job.frames);
+    let solo = alone(job, plan, begun, lists, runner, output, gate);
     solo.finish();
 }

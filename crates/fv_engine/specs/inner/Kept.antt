@@ -14,14 +14,13 @@ abbrev pub state_of : PlanView → Solo → List (Vec ℤ Global) → State
 state_of p lanes lists = record { lanes = lanes_of lanes; tables = p.tables; cells = lists_of lists }
 
 abbrev pub state_in : Kept → State
-state_in s = state_of s.plan.now s.solo.now s.lists.now
+state_in s = state_of s.plan.now s.solo s.lists.now
 
--- what no call changes: the plan, which loans these are, and what no call changes of the lanes
+-- what no call changes: the plan, what no call changes of the lanes, and which loan the lists are
 pub record KeptRest : Type 0 where
   pub plan : PlanView
-  pub lanes : GName
+  pub lanes : SoloRest
   pub lists : GName
-  pub within : SoloRest
 
 abbrev pub rest_of : Kept → KeptRest
-rest_of s = record { plan = s.plan.now; lanes = s.solo.ghost_name; lists = s.lists.ghost_name; within = rest_of_lanes s.solo.now }
+rest_of s = record { plan = s.plan.now; lanes = rest_of_lanes s.solo; lists = s.lists.ghost_name }

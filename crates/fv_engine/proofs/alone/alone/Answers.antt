@@ -25,7 +25,7 @@ module _ (g : Over) (c : After-begin g) where
   b = block_of g.P.Codes.parts c.args.job.now
 
   abbrev first : State
-  first = state_of c.args.plan.now c.args.solo.now c.args.lists.now
+  first = state_of c.args.plan.now c.args.solo c.args.lists.now
 
   underway : IsUnderway c.begin.new.self.tasks.tasks b first c.begin.new.self.core.now first c.begin.new.self.lines.items
   underway = starts (record {
@@ -42,7 +42,7 @@ module _ (g : Over) (c : After-run_tasks g) where
   block = block_of g.P.Codes.parts c.args.job.now
 
   abbrev opened : State
-  opened = state_of c.args.plan.now c.args.solo.now c.args.lists.now
+  opened = state_of c.args.plan.now c.args.solo c.args.lists.now
 
   done : IsUnderway c.begin.new.self.tasks.tasks block opened c.begin.new.self.core.now opened c.begin.new.self.lines.items
       → IsDone c.begin.new.self.tasks.tasks block opened (state_in c.run_tasks.new.store) c.run_tasks.new.lines.items
@@ -64,13 +64,6 @@ copy_outputs-requires-clause-there g c = λ t m.
     (subst (λ (xs : List ℕ). All (λ l. l < b.plan.lanes) xs) (sym c.outputs.ensures) c.requires.there)
 
 pub returns-clause-ends : goal.returns-clause-ends
-returns-clause-ends g c = ?
-
-pub returns-clause-sound : goal.returns-clause-sound
-returns-clause-sound g c = ?
-
-pub returns-clause-kept : goal.returns-clause-kept
-returns-clause-kept g c = ?
-
-pub returns-clause-samples : goal.returns-clause-samples
-returns-clause-samples g c = ?
+returns-clause-ends g c =
+    let d = goal.at.returns-clause-ends g c in let u = underway g d.After-begin in let ends = (done g d.After-run_tasks u).ends in
+    ?

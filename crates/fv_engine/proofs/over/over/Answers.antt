@@ -16,69 +16,69 @@ use Rattle.fv_engine.specs.inner.Opening.{opening_over}
 use Rattle.fv_engine.specs.inner.Kept.{state_of}
 use Rattle.fv_engine.proofs.Runs.{LiesOver, opening_long, are_full, holds_next, there_in}
 use Rattle.fv_engine.proofs.over.over.Given.{Over}
-use Rattle.fv_engine.proofs.over.over.Goals.{After-begin, After-alone}
+use Rattle.fv_engine.proofs.over.over.Goals.{After-begin-begun, After-alone-solo}
 use Rattle.fv_engine.proofs.over.over.Goals as goal
 
 -- the places, as they open
-module _ (g : Over) (c : After-begin g) where
+module _ (g : Over) (c : After-begin-begun g) where
   abbrev first : State
   first = opening_over c.args.plan.now.tables (lengths_of c.args.layout.now) c.args.shapes.now c.args.states.now c.args.job.now.frames c.args.cells.now
       c.args.lists.now
 
-  opens : state_of c.args.plan.now c.begin.result c.args.lists.now ≡ first
+  opens : state_of c.args.plan.now c.begin-begun.result c.args.lists.now ≡ first
   opens =
-      ap (λ (lanes : List Lane). record { lanes = lanes; tables = c.args.plan.now.tables; cells = lists_of c.args.lists.now }) c.begin.ensures.lanes
+      ap (λ (lanes : List Lane). record { lanes = lanes; tables = c.args.plan.now.tables; cells = lists_of c.args.lists.now }) c.begin-begun.ensures.lanes
 
-pub alone-requires-clause-lanes : goal.alone-requires-clause-lanes
-alone-requires-clause-lanes g c =
-    ap length c.begin.ensures.lanes
+pub alone-solo-requires-clause-lanes : goal.alone-solo-requires-clause-lanes
+alone-solo-requires-clause-lanes g c =
+    ap length c.begin-begun.ensures.lanes
     ∙ opening_long (lengths_of c.args.layout.now) c.args.shapes.now c.args.states.now c.args.job.now.frames c.args.cells.now ∙ c.requires.count
 
-pub alone-requires-clause-real : goal.alone-requires-clause-real
-alone-requires-clause-real g c =
-    subst (λ (s : State). IsReal (block_of g.P.Codes.parts c.args.job.now) s) (sym (opens g (goal.at.alone-requires-clause-real g c).After-begin))
+pub alone-solo-requires-clause-real : goal.alone-solo-requires-clause-real
+alone-solo-requires-clause-real g c =
+    subst (λ (s : State). IsReal (block_of g.P.Codes.parts c.args.job.now) s) (sym (opens g (goal.at.alone-solo-requires-clause-real g c).After-begin-begun))
     c.requires.real
 
 -- the block when its tasks are done
-module _ (g : Over) (c : After-alone g) where
+module _ (g : Over) (c : After-alone-solo g) where
   abbrev block : Block
   block = block_of g.P.Codes.parts c.args.job.now
 
   abbrev solo : Solo
-  solo = c.alone.new.solo
+  solo = c.alone-solo.result
 
   abbrev opened : State
   opened = opening_over c.args.plan.now.tables (lengths_of c.args.layout.now) c.args.shapes.now c.args.states.now c.args.job.now.frames c.args.cells.now
       c.args.lists.now
 
-  ends : state_of c.args.plan.now c.begin.result c.args.lists.now ≡ opened
-      → EndsBlock c.args.runner.now.tasks.tasks block opened (state_of c.args.plan.now solo c.alone.new.lists) c.alone.new.runner.lines.items
+  ends : state_of c.args.plan.now c.begin-begun.result c.args.lists.now ≡ opened
+      → EndsBlock c.args.runner.now.tasks.tasks block opened (state_of c.args.plan.now solo c.alone-solo.new.lists) c.alone-solo.new.runner.lines.items
   ends e =
-      subst (λ (s : State). EndsBlock c.args.runner.now.tasks.tasks block s (state_of c.args.plan.now solo c.alone.new.lists) c.alone.new.runner.lines.items)
-      e c.alone.ensures.ends
+      subst (λ (s : State). EndsBlock c.args.runner.now.tasks.tasks block s (state_of c.args.plan.now solo c.alone-solo.new.lists) c.alone-solo.new.runner.lines.items)
+      e c.alone-solo.ensures.ends
 
-  done : state_of c.args.plan.now c.begin.result c.args.lists.now ≡ opened
-      → IsDone c.args.runner.now.tasks.tasks block opened (state_of c.args.plan.now solo c.alone.new.lists) c.alone.new.runner.lines.items
+  done : state_of c.args.plan.now c.begin-begun.result c.args.lists.now ≡ opened
+      → IsDone c.args.runner.now.tasks.tasks block opened (state_of c.args.plan.now solo c.alone-solo.new.lists) c.alone-solo.new.runner.lines.items
   done e = record { job = c.requires.job; real = c.requires.real; ends = ends e }
 
 pub finish-requires-clause-full : goal.finish-requires-clause-full
 finish-requires-clause-full g c =
-    let d = goal.at.finish-requires-clause-full g c in let block = done g d.After-alone (opens g d.After-begin) in
-    let kept = c.alone.ensures.kept ∙ c.begin.ensures.kept in
-    are_full c.alone.new.solo c.args.job.now.frames c.alone.ensures.sound (ap (λ (r : SoloRest). r.frames) kept)
+    let d = goal.at.finish-requires-clause-full g c in let block = done g d.After-alone-solo (opens g d.After-begin-begun) in
+    let kept = c.alone-solo.ensures.kept ∙ c.begin-begun.ensures.kept in
+    are_full c.alone-solo.result c.args.job.now.frames c.alone-solo.ensures.sound (ap (λ (r : SoloRest). r.frames) kept)
     (λ i l. lane_full block i (let n = block.ends.long in omega (arith, l, n)))
 
 pub returns-clause-ran : goal.returns-clause-ran
 returns-clause-ran g c =
     let d = goal.at.returns-clause-ran g c in
-    let s : Solo = c.alone.new.solo in
-    let kept = c.alone.ensures.kept ∙ c.begin.ensures.kept in
+    let s : Solo = c.alone-solo.result in
+    let kept = c.alone-solo.ensures.kept ∙ c.begin-begun.ensures.kept in
     let as_lengths : lengths_in s ≡ lengths_of c.args.layout.now = ap (λ (r : SoloRest). r.lengths) kept in
     let states = sym (ap (λ (r : SoloRest). r.states) kept) in
     let cells = sym (ap (λ (r : SoloRest). r.cells) kept) in
     record {
-      now = state_of c.args.plan.now s c.alone.new.lists;
-      ends = ends g d.After-alone (opens g d.After-begin);
+      now = state_of c.args.plan.now s c.alone-solo.new.lists;
+      ends = ends g d.After-alone-solo (opens g d.After-begin-begun);
       next = λ i l.
           let over : LiesOver s (lengths_of c.args.layout.now) c.args.shapes.now c.args.job.now.frames _ c.finish.new.self.1.1.1.0 _ = record {
             lengths_are = as_lengths;
@@ -89,5 +89,5 @@ returns-clause-ran g c =
           } in
           holds_next over i (c.finish.ensures.held i (there_in s i (subst (λ (xs : List ℕ). i < length xs) (sym as_lengths) l)));
       items = refl;
-      samples = c.alone.ensures.samples;
+      samples = c.alone-solo.ensures.samples;
     }

@@ -54,10 +54,10 @@ module _ (c : After-exchange) where
 pub returns-clause-item : goal.returns-clause-item
 returns-clause-item c =
     let d = (goal.at.returns-clause-item c).After-exchange in
-    c.exchange.ensures.item ∙ ap (λ (r : ℤ). read_at c.exchange.new.list r) (to_z-of_z c.ranges.r)
+    to_z-of_z c.exchange.type_inv ∙ c.exchange.ensures.item ∙ ap (λ (r : ℤ). read_at c.exchange.new.list r) (to_z-of_z c.ranges.r)
     ∙ ap (λ (xs : List ℤ). read_at xs c.args.r) (sym (item d))
 
 pub returns-clause-state : goal.returns-clause-state
 returns-clause-state c =
     let d = (goal.at.returns-clause-state c).After-exchange in
-    ap (λ (cells : List (List ℤ)). record { lanes = lanes_of c.args.self.now.solo.now; tables = c.args.self.now.plan.now.tables; cells = cells }) (put d)
+    ap (λ (cells : List (List ℤ)). record { lanes = lanes_of c.args.self.now.solo; tables = c.args.self.now.plan.now.tables; cells = cells }) (put d)
