@@ -22,13 +22,7 @@ const INPUT: [i32; 20] = [
 ];
 
 /// The lines of a graph, its groups, its tables, its one output, and the samples that it gives for the input.
-type Row<'a> = (
-    &'a [Line],
-    &'a [&'a [u64]],
-    &'a [&'a [i32]],
-    u64,
-    [i32; 20],
-);
+type Row<'a> = (&'a [Line], &'a [&'a [u64]], &'a [&'a [i32]], u64, [i32; 20]);
 
 // The graph gives these samples.
 fn assert_sounds_by<R: Abort + Threads + Wait + Sync>(

@@ -169,7 +169,8 @@ fn may_stand(
         Signal::Back { group, i } => is_member(signals, groups, group, i, signals.len() as u64),
         Signal::Member { group, i } => is_member(signals, groups, group, i, place),
         Signal::Read { table, r } => r.number() < place && has_number(tables, table),
-        Signal::Write { table, w, x, r } => are_before(&[w, x, r], place) && has_number(tables, table),
+        Signal::Write { table, w, x, r } => are_before(&[w, x, r], place)
+            && has_number(tables, table),
     }
 }
 
