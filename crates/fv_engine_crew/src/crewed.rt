@@ -61,7 +61,13 @@ pub(crate) fn run_begun<'a, 'b, R: Threads + Wait + Sync, G: Gate + Sync>(
         lines,
         gate,
     ) {
-        Ok(exits) => Ok(collect(body.start(), exits, emptied, back, cells.as_mut_slice())),
-        Err(entries) => Err(collect(body.start(), entries, emptied, back, cells.as_mut_slice())),
+        Ok(exits) => {
+            let all = collect(body.start(), exits, emptied, back, cells.as_mut_slice());
+            Ok(all)
+        }
+        Err(entries) => {
+            let all = collect(body.start(), entries, emptied, back, cells.as_mut_slice());
+            Err(all)
+        }
     }
 }

@@ -1,3 +1,4 @@
+pub mod ChangingPlaces
 pub mod DealtSoFar
 pub mod Entering
 pub mod FirstLanes
@@ -8,4 +9,3 @@ pub mod Opens
 pub mod Places
 pub mod Returns
 pub mod Stepping
-pub mod Swapping

@@ -2,7 +2,6 @@
 use Rattle.std.proofs.Common.{◌≡◌, ℕ, ◌-◌, ◌*◌, ◌<◌, true, List, length, get_or, refl, sym, ap, ◌∙◌, subst, arith, ltb, lt-ltb}
 use Rattle.std.proofs.Common.{◌==◌, eq-eqb, vec_capacity, ℤ}
 use Rattle.std.specs.Global.{Vec, Box}
-use Rattle.std.specs.declared.alloc.Global.{Global}
 use Rattle.std.specs.Prelude.{slice_index}
 use Rattle.std.specs.Prelude.{min}
 use Rattle.std.proofs.lemmas.List.{get_or-map}
@@ -60,7 +59,7 @@ module _ (k : Start) (opening : IsOpening k) where
       }
 
   -- the cells of loop j, with which it enters
-  module _ (j : ℕ) (old : Box Writers) (dealt given : List (Box Writers)) (left : List (Vec ℤ Global)) (d : Box Writers)
+  module _ (j : ℕ) (old : Box Writers) (dealt given : List (Box Writers)) (left : List (Vec ℤ)) (d : Box Writers)
       (has : HasCells plan k.places.now j old.value.lanes.cells) (there : j < length given)
       (deals : (get_or dealt j d).value.lanes.cells ≡ old.value.lanes.cells) (same : SameButCells (get_or dealt j d).value (get_or given j d).value)
       (swapped : AreSwapped plan k.places.now.places.items k.cells.value.items left dealt given) where

@@ -32,9 +32,9 @@ module _ (g : Over) (c : After-enter-body g) where
   started : Started c.args.block.now c.args.lists.begun.items c.args.cells.now.items key
   started = record { start = c.enter-body.ensures.start; job = c.requires.spread.job; open_lanes = c.requires.begun }
 
-pub collect-requires-clause-parcels : goal.collect-requires-clause-parcels
-collect-requires-clause-parcels g c =
-    let d = (goal.at.collect-requires-clause-parcels g c).After-enter-body in (
+pub collect-all-requires-clause-parcels : goal.collect-all-requires-clause-parcels
+collect-all-requires-clause-parcels g c =
+    let d = (goal.at.collect-all-requires-clause-parcels g c).After-enter-body in (
       last g d,
       subst (λ (x : Start). AreChainParcels x (last g d) c.in-Ok.exits.items) (sym c.start.ensures)
           (exits_are (started g d) c.in-Ok.exits.items c.in-Ok.ensures.exits),

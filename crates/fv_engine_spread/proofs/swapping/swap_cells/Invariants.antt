@@ -1,4 +1,4 @@
-use Rattle.fv_engine_spread.proofs.Swapping.{AreSwappedSoFar}
+use Rattle.fv_engine_spread.proofs.ChangingPlaces.{AreSwappedSoFar}
 use Rattle.fv_engine_spread.proofs.swapping.swap_cells.Given as goal
 
 abbrev pub invariant-loop-k : goal.invariant-loop-k
