@@ -24,8 +24,7 @@ use Rattle.fv_diagram.specs.Hooks.{Hooks}
 use Rattle.fv_diagram.specs.Walked.{walked, one, primitive, waved, added, summed}
 use Rattle.fv_diagram.proofs.Carried.{wired_same, column_carries}
 use Rattle.fv_diagram.proofs.Counting.{place_inside}
-use Rattle.std.proofs.lemmas.Bool.{true≢false, or_parts}
-use Rattle.fv_diagram.specs.headline.Diagram.{has_table}
+use Rattle.std.proofs.lemmas.Bool.{true≢false}
 use Rattle.fv_diagram.proofs.Places.{carried_items}
 use Rattle.fv_diagram.proofs.Sums.{every_front}
 use Rattle.fv_diagram.proofs.Turns.{not_below}
@@ -138,21 +137,6 @@ AllLists Fits (Primitive p) = Unit {0}
 AllLists Fits (Constant n) = Unit {0}
 AllLists Fits (Control k) = Unit {0}
 AllLists Fits (Slot s) = Unit {0}
-
--- a diagram without waveforms and tables has no list
-pub no_lists : (Fits : List ℤ → Type 0) (d : Diagram) → has_table d ≡ false → AllLists Fits d
-no_lists Fits (Primitive p) h = tt
-no_lists Fits (Constant n) h = tt
-no_lists Fits (Control k) h = tt
-no_lists Fits (Slot s) h = tt
-no_lists Fits (Wave w) h = absurd (true≢false h)
-no_lists Fits (Table T writes) h = absurd (true≢false h)
-no_lists Fits (Bind s a) h = no_lists Fits a h
-no_lists Fits (Par a b) h = let both = or_parts (has_table a) (has_table b) h in (no_lists Fits a both.0, no_lists Fits b both.1)
-no_lists Fits (Seq a b) h = let both = or_parts (has_table a) (has_table b) h in (no_lists Fits a both.0, no_lists Fits b both.1)
-no_lists Fits (Split a b) h = let both = or_parts (has_table a) (has_table b) h in (no_lists Fits a both.0, no_lists Fits b both.1)
-no_lists Fits (Merge a b) h = let both = or_parts (has_table a) (has_table b) h in (no_lists Fits a both.0, no_lists Fits b both.1)
-no_lists Fits (Rec a b) h = let both = or_parts (has_table a) (has_table b) h in (no_lists Fits a both.0, no_lists Fits b both.1)
 
 -- The laws of one user of the walk. Holds s: v is right for the signals s. Onward s q: q has grown from s, with the same
 -- feedbacks open.

@@ -8,7 +8,9 @@ ghost use Rattle.fv_diagram.specs.Arena.{count_of, tree_of};
 ghost use Rattle.fv_diagram_number.specs.headline.Numbers.{at_first};
 ghost use Rattle.fv_diagram_head.specs.headline.Heads.{is_fixed, table_numbers};
 
-use fv_diagram::{DiagramId, Diagrams, answers_alike, answers_each, answers_one_more, composed_is_well};
+use fv_diagram::{
+    DiagramId, Diagrams, answers_alike, answers_each, answers_one_more, composed_is_well,
+};
 use fv_diagram_runner::Stepper;
 use std::alloc::{AllocError, Global};
 

@@ -8,8 +8,7 @@ use Rattle.fv_num.specs.headline.Frames.{table}
 use Rattle.fv_diagram_runner.specs.declared.step.Change.{Change}
 use Rattle.fv_diagram_runner.specs.declared.step.Change.TheVariants as change
 use Rattle.fv_diagram_runner.specs.History.{Numbers, numbers_of, HasRoom}
-use Rattle.fv_num.specs.headline.Tables.{read_at}
-use Rattle.fv_num.specs.Tables.{written}
+use Rattle.fv_num.specs.headline.Tables.{read_at, written}
 use Rattle.fv_diagram_runner.specs.declared.step.Step.TheVariants as step
 use Rattle.fv_diagram_runner.specs.Steps.{recalled, in_lists, changed, lists_after}
 

@@ -314,12 +314,8 @@ fn lists_are_kept(rt: HostRuntime) -> Result<(), Fail> {
         },
     )?;
     assert_eq!(rt;
-        (diagrams.has_table(wave), diagrams.has_table_primitive(wave)),
-        (true, false)
-    );
-    assert_eq!(rt;
         (
-            diagrams.has_table(primitive),
+            diagrams.has_table_primitive(wave),
             diagrams.has_table_primitive(primitive)
         ),
         (false, true)

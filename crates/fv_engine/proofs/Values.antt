@@ -6,7 +6,7 @@ use Rattle.std.proofs.lemmas.List.{get_or-append-add, get_or_append_left, get_or
 use Rattle.std.proofs.Math.ListN.{get_or-eq_default}
 use Rattle.fv_num.specs.headline.Words.{argument}
 use Rattle.fv_num.specs.headline.Frames.{Frame, Stream, column, back, table, rows}
-use Rattle.fv_num.specs.Tables.{written, after}
+use Rattle.fv_num.specs.headline.Tables.{written, after}
 use Rattle.fv_base.proofs.Lists.{get_or_table, length_table, table_same, table_items}
 use Rattle.fv_signal.specs.declared.signal.Signal.{Signal}
 use Rattle.fv_signal.specs.declared.signal.Signal.TheVariants as signal

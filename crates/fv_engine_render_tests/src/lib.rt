@@ -7,3 +7,5 @@ mod memory;
 mod playing;
 #[cfg(test)]
 mod rows;
+#[cfg(test)]
+mod tables;

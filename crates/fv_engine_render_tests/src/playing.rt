@@ -58,13 +58,26 @@ pub(crate) fn numbers_of(alloc: Global, text: &str) -> Result<(Vec<i32>, Vec<Spa
     Ok((initial, spans))
 }
 
-/// What a run in blocks gives.
+/// What a run in blocks by one worker gives.
 pub(crate) fn rendered<R: Threads + Wait + Sync, G: Gate + Sync>(
     rt: &R,
     alloc: Global,
     case: &Case,
     block: u32,
     vector: u32,
+    gate: &mut G,
+) -> Result<Answer, Fail> {
+    rendered_by(rt, alloc, case, block, vector, 1, gate)
+}
+
+/// What a run in blocks by so many workers gives.
+pub(crate) fn rendered_by<R: Threads + Wait + Sync, G: Gate + Sync>(
+    rt: &R,
+    alloc: Global,
+    case: &Case,
+    block: u32,
+    vector: u32,
+    workers: u32,
     gate: &mut G,
 ) -> Result<Answer, Fail> {
     let program = program_of(alloc, case.program)?;
@@ -80,6 +93,9 @@ pub(crate) fn rendered<R: Threads + Wait + Sync, G: Gate + Sync>(
     if block == 0 || block > 4096 || vector == 0 || block.div_ceil(vector) > 64 {
         return Err("sizes".into());
     }
+    if workers == 0 || workers > 16 {
+        return Err("workers".into());
+    }
     let bounds = spans_of(alloc, controls)?;
     let Ok(delays) = spans(alloc, &program.diagrams, program.root, &bounds) else {
         return Err("delays".into());
@@ -94,7 +110,7 @@ pub(crate) fn rendered<R: Threads + Wait + Sync, G: Gate + Sync>(
         frames: case.frames,
         block,
         vector,
-        workers: 1,
+        workers,
     };
     let ready = make_ready(alloc, &source, script.changes(), &sizes)?;
     let played = Played {

@@ -34,9 +34,9 @@ fn line(loop_no: u64, start: u64) -> Line
 fn play_difference<R: Abort + Threads + Wait + Sync, G: Gate + Sync>(
     rt: &R,
     alloc: Global,
+    graph: &Graph,
     gate: &mut G,
 ) -> Result<(u64, [i32; 3]), NoMemory> {
-    let graph = difference(alloc)?;
     let sizes = Sizes {
         width: 1,
         block: 512,
@@ -45,7 +45,7 @@ fn play_difference<R: Abort + Threads + Wait + Sync, G: Gate + Sync>(
     };
     let input = [5, 7, 4];
     let mut output = [0; 3];
-    let reported = play_graph(rt, alloc, &graph, sizes, 3, &input, &mut output, gate)?;
+    let reported = play_graph(rt, alloc, graph, sizes, 3, &input, &mut output, gate)?;
     Ok((reported.tasks, output))
 }
 
@@ -53,10 +53,10 @@ fn play_difference<R: Abort + Threads + Wait + Sync, G: Gate + Sync>(
 // second starts.
 #[test]
 fn one_block_is_told(rt: HostRuntime) -> Result<(), Fail> {
+    let graph = difference(rt.alloc())?;
     let mut recorder = Recorder::new(rt.alloc(), 1, 2)?;
-    let played = play_difference(&rt, rt.alloc(), &mut recorder)?;
-    assert_eq!(rt; played, (2, [5, 2, -3]));
-    assert_eq!(rt; recorder.calls(), Some(1));
+    let played = play_difference(&rt, rt.alloc(), &graph, &mut recorder)?;
+    assert_eq!(rt; (played, recorder.calls()), ((2, [5, 2, -3]), Some(1)));
     let read = Reads {
         reader: 1,
         source: 0,
@@ -64,19 +64,20 @@ fn one_block_is_told(rt: HostRuntime) -> Result<(), Fail> {
     let Some((loops, vectors, reads, lines)) = block_of(&recorder, 0) else {
         panic!(rt; "no block");
     };
-    assert_eq!(rt; (loops, vectors), (2, 1));
-    assert_eq!(rt; reads, [read].as_slice());
-    assert_eq!(rt; lines, [line(0, 0), line(1, 2)].as_slice());
+    assert_eq!(rt;
+        (loops, vectors, reads, lines),
+        (2, 1, [read].as_slice(), [line(0, 0), line(1, 2)].as_slice())
+    );
     Ok(())
 }
 
 // A recorder without room for the second line tells nothing then.
 #[test]
 fn a_block_without_room(rt: HostRuntime) -> Result<(), Fail> {
+    let graph = difference(rt.alloc())?;
     let mut recorder = Recorder::new(rt.alloc(), 1, 1)?;
-    let (_, output) = play_difference(&rt, rt.alloc(), &mut recorder)?;
-    assert_eq!(rt; output, [5, 2, -3]);
-    assert_eq!(rt; recorder.calls(), None);
+    let (_, output) = play_difference(&rt, rt.alloc(), &graph, &mut recorder)?;
+    assert_eq!(rt; (output, recorder.calls()), ([5, 2, -3], None));
     Ok(())
 }
 
@@ -372,9 +373,10 @@ fn assert_echoes<R: Abort + Threads + Wait + Sync>(
 // Where an allocation is refused there is an error, and the next try makes an engine that plays.
 #[test]
 fn an_engine_after_want_of_memory(rt: HostRuntime) -> Result<(), Fail> {
-    let (_, output) = match play_difference(&rt, rt.alloc(), &mut FreeGate) {
+    let graph = difference(rt.alloc())?;
+    let (_, output) = match play_difference(&rt, rt.alloc(), &graph, &mut FreeGate) {
         Ok(played) => played,
-        Err(_) => play_difference(&rt, rt.alloc(), &mut FreeGate)?,
+        Err(_) => play_difference(&rt, rt.alloc(), &graph, &mut FreeGate)?,
     };
     assert_eq!(rt; output, [5, 2, -3]);
     Ok(())

@@ -9,3 +9,5 @@ mod engines;
 mod graphs;
 #[cfg(test)]
 mod may;
+#[cfg(test)]
+mod tables;

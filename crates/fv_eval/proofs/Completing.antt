@@ -21,7 +21,7 @@ use Rattle.fv_rules.specs.headline.Matching.{Bindings, bound_in, chosen}
 use Rattle.fv_rules.specs.headline.Steps.{no_rule}
 use Rattle.fv_eval_scopes.specs.Shows.{World, Grows, IsInside, ShowsBindings, ShowsEnv, ShowsTaken, ShowsTree, ShowsValue, ShowsValues, body_in, parameters_in}
 use Rattle.fv_eval_scopes.specs.Shows.{rules_in}
-use Rattle.fv_eval_choosing.specs.Choosing.{with_diagrams}
+use Rattle.fv_eval_patterns.specs.Patterns.{with_diagrams}
 use Rattle.fv_eval_choosing.specs.Chosen.{ShowsChoice}
 use Rattle.fv_eval_scopes.proofs.Grown.{env_grows, tree_grows, values_grow}
 use Rattle.fv_eval_machine.specs.Machine.{Leftover, Valued, Visit, Running, Ended, select}

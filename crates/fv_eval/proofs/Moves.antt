@@ -15,9 +15,9 @@ use Rattle.fv_rules.specs.headline.Values.{Value, Flat, Env}
 use Rattle.fv_rules.specs.headline.Steps.{State, Outcome, Eval}
 use Rattle.fv_eval_scopes.specs.Shows.{Grows, ShowsTree, ShowsValue, ShowsEnv}
 use Rattle.fv_eval_scopes.proofs.Grown.{diagrams_come, scope_opens, grows_on}
-use Rattle.fv_eval_choosing.specs.declared.fits.Fit.{Fit}
-use Rattle.fv_eval_choosing.specs.Fits.{Recalls}
-use Rattle.fv_eval_choosing.proofs.LongPatterns.{recalls_grow}
+use Rattle.fv_eval_patterns.specs.declared.trials.Trial.{Trial}
+use Rattle.fv_eval_patterns.specs.Trials.{Recalls}
+use Rattle.fv_eval_patterns.proofs.LongPatterns.{recalls_grow}
 use Rattle.fv_eval_machine.specs.Machine.{Continuation, Visit, Give, Config, Running, Ended, given}
 use Rattle.fv_eval.specs.declared.continuation.Focus as code_focus
 use Rattle.fv_eval.specs.declared.continuation.Focus.TheVariants as focus
@@ -45,7 +45,7 @@ pub drawn_grows : (p : Parsed) (m : code_machine.Machine) (new : Canvas) → Ext
 drawn_grows p m new g = diagrams_come (world p m) new.diagrams g.longer g.trees
 
 knows_drawn : (p : Parsed) (m : code_machine.Machine) (new : Canvas) → Extends m.drawing new → Knows p m → Knows p (record m { drawing = new })
-knows_drawn p m new g = recalls_grow p m.drawing.diagrams new.diagrams g.longer g.trees m.fits
+knows_drawn p m new g = recalls_grow p m.drawing.diagrams new.diagrams g.longer g.trees m.trials
 
 -- and the table sum is the same
 pub drawn_grew : (p : Parsed) (m : code_machine.Machine) (new : Canvas) → AddsDiagrams m.drawing new → Grew p m (record m { drawing = new })
@@ -57,8 +57,8 @@ drawn_grew p m new g = record {
 }
 
 -- a rule was chosen
-pub chosen_grew : (p : Parsed) (m : code_machine.Machine) (new : Canvas) (fs : List Fit) → AddsDiagrams m.drawing new → Recalls p new.diagrams fs
-    → Grew p m (record m { drawing = new; fits = fs })
+pub chosen_grew : (p : Parsed) (m : code_machine.Machine) (new : Canvas) (fs : List Trial) → AddsDiagrams m.drawing new → Recalls p new.diagrams fs
+    → Grew p m (record m { drawing = new; trials = fs })
 chosen_grew p m new fs g recalls = record {
   lists = drawn_grows p m new g.keeps;
   continuations = refl;

@@ -13,7 +13,8 @@ ghost use Rattle.fv_eval.specs.inner.Continuations.{completed, took, world};
 use crate::continuation::{Continuation, Focus, ForValue};
 use crate::machine::Machine;
 use crate::names::{body_of, parameter, parameters};
-use fv_eval_choosing::{Bindings, Definitions};
+use fv_eval_choosing::Definitions;
+use fv_eval_patterns::Bindings;
 use fv_eval_scopes::{Ruled, Value};
 use fv_parse::{Tree, TreeId, TreeNode};
 use fv_rules::EvalRefusal;
@@ -216,7 +217,7 @@ impl Machine {
         all.push(argument)?;
         let choice = self
             .drawing
-            .choose(self.alloc, text, ruled, &mut self.fits, all.as_slice())?;
+            .choose(self.alloc, text, ruled, &mut self.trials, all.as_slice())?;
         Ok(choice)
     }
 

@@ -11,10 +11,11 @@ ghost use Rattle.fv_eval_machine.specs.Machine.{Call, Config, Continuation as Wa
 ghost use Rattle.fv_eval.specs.inner.Continuations.{Continues, Ends, Goes, Runs, ShowsContinuation, Steps, state_of, world};
 
 use crate::continuation::{Continuation, Continuations, Focus};
-use fv_eval_choosing::{Definitions, Fits};
+use fv_eval_choosing::Definitions;
 use fv_eval_controls::Controls;
 use fv_eval_drawing::Drawing;
 use fv_eval_machine::steps_mean;
+use fv_eval_patterns::Trials;
 use fv_eval_scopes::{Scopes, Value};
 use fv_parse::TreeId;
 use fv_rules::{EvalRefusal, too_many_to_count};
@@ -29,7 +30,7 @@ pub struct Machine {
     pub controls: Controls,
     pub continuations: Continuations,
     /// Which long patterns do not match which diagrams.
-    pub fits: Fits,
+    pub trials: Trials,
     /// The visits that are left.
     pub visits: u32,
     /// The next slot.
@@ -41,7 +42,7 @@ impl Machine {
     pub fn new(alloc: Global, visits: u32) -> Machine
         ensures { (result.drawing.diagrams ≡ empty_arena) × (result.scopes ≡ record { scopes = []; taken = [] })
             × (result.continuations ≡ []) × (state_of result ≡ record { visits = visits; controls = []; slot = 0; tables = 0 })
-            × (result.fits ≡ []) }
+            × (result.trials ≡ []) }
     {
         Machine {
             alloc,
@@ -49,7 +50,7 @@ impl Machine {
             scopes: Scopes::new(alloc),
             controls: Controls::new(alloc),
             continuations: Continuations::new(alloc),
-            fits: Fits::new(alloc),
+            trials: Trials::new(alloc),
             visits,
             slot: 0,
         }

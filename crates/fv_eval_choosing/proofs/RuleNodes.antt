@@ -18,11 +18,6 @@ use Rattle.fv_rules.specs.headline.Values.{Rule, rule_of, is_of}
 use Rattle.fv_eval_scopes.specs.Shows.{IsFunction, case_in, name_in, rules_in}
 use Rattle.fv_eval_choosing.specs.Chosen.{IsFirstRule}
 
--- the tree of a node that was matched
-pub node_is : (p : Parsed) (i : ℕ) {n m : TreeNode} {t : Tree} → t ≡ tree_of (trees p.entries) n (start_in p i) → n ≡ m
-    → t ≡ tree_of (trees p.entries) m (start_in p i)
-node_is p i e same = e ∙ ap (λ node. tree_of (trees p.entries) node (start_in p i)) same
-
 -- what is no `case` has no rules
 pub other_case : (ts : List Tree) (node : TreeNode) (start : ℕ) → ((list : TreeId) → node ≡ nodes.Case list → ⊥) → case_in (tree_of ts node start) ≡ []
 other_case ts (nodes.Case list) start c = absurd (c list refl)

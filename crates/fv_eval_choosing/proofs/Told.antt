@@ -35,10 +35,10 @@ use Rattle.fv_eval_scopes.specs.declared.value.Binding as code_binding
 use Rattle.fv_eval_scopes.specs.declared.value.Ruled.{Ruled}
 use Rattle.fv_eval_scopes.specs.Shows.{World, ShowsValue, ShowsValues, rules_in}
 use Rattle.fv_eval_scopes.specs.Memo.{AddsIntegers}
-use Rattle.fv_eval_choosing.specs.Choosing.{IsNoDiagram, with_diagrams}
+use Rattle.fv_eval_patterns.specs.Patterns.{IsNoDiagram, with_diagrams}
 use Rattle.fv_eval_choosing.specs.Chosen.{ShowsChoice, Chooses}
 use Rattle.fv_eval_scopes.proofs.Grown.{values_grow}
-use Rattle.fv_eval_choosing.proofs.Matched.{adds_grow}
+use Rattle.fv_eval_patterns.proofs.Matched.{adds_grow}
 use Rattle.fv_eval_choosing.proofs.RuleNodes.{rules_of, rules_at}
 
 -- ---- the literal of a pattern

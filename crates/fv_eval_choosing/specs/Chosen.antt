@@ -13,7 +13,7 @@ use Rattle.fv_eval_scopes.specs.declared.value.Binding as code_binding
 use Rattle.fv_rules.specs.headline.Values.{Rule, Value, rule_of}
 use Rattle.fv_rules.specs.headline.Matching.{Bindings, chosen}
 use Rattle.fv_eval_scopes.specs.Shows.{World, ShowsTree, ShowsValues, ShowsBindings}
-use Rattle.fv_eval_choosing.specs.Choosing.{with_diagrams}
+use Rattle.fv_eval_patterns.specs.Patterns.{with_diagrams}
 
 -- a right side with bindings, or none
 abbrev pub ShowsChoice : World → Option (TreeId × List code_binding.Binding) → Option (Tree × Bindings) → Type 0

@@ -4,23 +4,21 @@ ghost use Rattle.std.specs.Prelude.{◌≡◌, ◌<◌, ◌≤◌, List, Some, I
 ghost use Rattle.fv_parse.specs.Trees.{size_of, tree_in};
 ghost use Rattle.fv_eval_choosing.specs.declared.by_name.Defined.{Defined as AnItem};
 ghost use Rattle.fv_rules.specs.headline.Values.{Value as PureValue, rule_of};
-ghost use Rattle.fv_rules.specs.headline.Matching.{Bindings as PureBindings, all_matched, chosen};
+ghost use Rattle.fv_rules.specs.headline.Matching.{chosen};
 ghost use Rattle.fv_rules.specs.headline.Rules.{width};
-ghost use Rattle.fv_eval_scopes.specs.Shows.{World, IsInside, ShowsValues, ShowsBindings, case_in, rules_in};
+ghost use Rattle.fv_eval_scopes.specs.Shows.{World, IsInside, ShowsValues, case_in, rules_in};
 ghost use Rattle.fv_eval_scopes.specs.Memo.{Remembers, AddsIntegers};
-ghost use Rattle.fv_eval_choosing.specs.Choosing.{IsSound, with_diagrams, ShowsMatched};
-ghost use Rattle.fv_eval_choosing.specs.Fits.{Recalls};
+ghost use Rattle.fv_eval_patterns.specs.Patterns.{IsSound, with_diagrams};
+ghost use Rattle.fv_eval_patterns.specs.Trials.{Recalls};
 ghost use Rattle.fv_eval_choosing.specs.Literals.{Tells, number_in, told};
 ghost use Rattle.fv_eval_choosing.specs.Chosen.{ShowsChoice, IsRuleAt, IsFirstRule, Chooses, nodes_of};
 
 use crate::by_literal::{ByLiteral, size_of_literal};
 use crate::by_name::Defined;
-use crate::fits::Fits;
-use crate::fitting::may_match;
 use crate::lookup::Definitions;
-use crate::matching::{Bindings, matches_in};
 use fv_diagram::Diagrams;
-use fv_eval_scopes::{Binding, Numbers, Ruled, Value};
+use fv_eval_patterns::{Bindings, Subjects, Trials};
+use fv_eval_scopes::{Numbers, Ruled, Value};
 use fv_parse::{Tree, TreeId, TreeNode};
 use std::alloc::{AllocError, Global};
 
@@ -182,32 +180,34 @@ impl Definitions<'_> {
         ruled: Ruled,
         diagrams: &mut Diagrams,
         numbers: &mut Numbers,
-        fits: &mut Fits,
+        trials: &mut Trials,
         arguments: &[Value],
     ) -> Result<Option<(TreeId, Bindings)>, AllocError>
         requires inside { IsInside self.now ruled }
         requires sound { All (IsSound diagrams.old) arguments.now }
         requires known { Remembers diagrams.old numbers.old }
-        requires recalls { Recalls self.now diagrams.old fits.old }
+        requires recalls { Recalls self.now diagrams.old trials.old }
         ensures adds { AddsIntegers diagrams.old diagrams.new }
         ensures known { Remembers diagrams.new numbers.new }
-        ensures recalls { Recalls self.now diagrams.new fits.new }
+        ensures recalls { Recalls self.now diagrams.new trials.new }
         ensures chosen { IfOk result (λ o. (w : World) (vs : List PureValue)
             → w.tree ≡ self.now → w.diagrams ≡ diagrams.old → ShowsValues w arguments.now vs
             → ShowsChoice (with_diagrams w diagrams.new) o (chosen self.now.tokens (rules_in self.now ruled) vs)) }
     {
-        let tree = self.tree();
         let told = self.told(&ruled);
         let rules = self.rules(ruled);
+        let subjects = Subjects {
+            alloc,
+            tree: self.tree(),
+            values: arguments,
+        };
         match told {
             None => {
-                let choice = first_match(alloc, tree, rules, diagrams, numbers, fits, arguments)?;
+                let choice = first_match(&subjects, rules, diagrams, numbers, trials)?;
                 Ok(choice)
             }
             Some(sorted) => {
-                let choice = told_match(
-                    alloc, tree, rules, sorted, diagrams, numbers, fits, arguments,
-                )?;
+                let choice = told_match(&subjects, rules, sorted, diagrams, numbers, trials)?;
                 Ok(choice)
             }
         }
@@ -216,30 +216,29 @@ impl Definitions<'_> {
 
 // The first of rules that matches, where a literal tells those at the front apart.
 fn told_match(
-    alloc: Global,
-    tree: &Tree,
+    subjects: &Subjects,
     rules: Rules,
     sorted: &ByLiteral,
     diagrams: &mut Diagrams,
     numbers: &mut Numbers,
-    fits: &mut Fits,
-    arguments: &[Value],
+    trials: &mut Trials,
 ) -> Result<Option<(TreeId, Bindings)>, AllocError>
-    requires inside { All (λ id. id < size_of tree.now) (nodes_of rules) }
-    requires told { Tells tree.now (map (λ id. rule_of (tree_in tree.now id)) (nodes_of rules)) sorted.now }
-    requires sound { All (IsSound diagrams.old) arguments.now }
+    requires inside { All (λ id. id < size_of subjects.now.tree.now) (nodes_of rules) }
+    requires told { Tells subjects.now.tree.now (map (λ id. rule_of (tree_in subjects.now.tree.now id)) (nodes_of rules)) sorted.now }
+    requires sound { All (IsSound diagrams.old) subjects.now.values.now }
     requires known { Remembers diagrams.old numbers.old }
-    requires recalls { Recalls tree.now diagrams.old fits.old }
+    requires recalls { Recalls subjects.now.tree.now diagrams.old trials.old }
     ensures adds { AddsIntegers diagrams.old diagrams.new }
     ensures known { Remembers diagrams.new numbers.new }
-    ensures recalls { Recalls tree.now diagrams.new fits.new }
-    ensures chosen { IfOk result (Chooses tree.now (nodes_of rules.entry) arguments.now diagrams.old diagrams.new) }
+    ensures recalls { Recalls subjects.now.tree.now diagrams.new trials.new }
+    ensures chosen { IfOk result
+        (Chooses subjects.now.tree.now (nodes_of rules.entry) subjects.now.values.now diagrams.old diagrams.new) }
 {
     let rest = rules.behind(sorted.count);
-    match front_match(alloc, tree, sorted, diagrams, numbers, fits, arguments)? {
+    match front_match(subjects, sorted, diagrams, numbers, trials)? {
         Some(choice) => Ok(Some(choice)),
         None => {
-            let choice = first_match(alloc, tree, rest, diagrams, numbers, fits, arguments)?;
+            let choice = first_match(subjects, rest, diagrams, numbers, trials)?;
             Ok(choice)
         }
     }
@@ -247,56 +246,55 @@ fn told_match(
 
 // The first of the rules at the front that matches: only those with the argument's number are tried.
 fn front_match(
-    alloc: Global,
-    tree: &Tree,
+    subjects: &Subjects,
     sorted: &ByLiteral,
     diagrams: &mut Diagrams,
     numbers: &mut Numbers,
-    fits: &mut Fits,
-    arguments: &[Value],
+    trials: &mut Trials,
 ) -> Result<Option<(TreeId, Bindings)>, AllocError>
-    requires there { All (λ (d : AnItem). d.node < size_of tree.now) sorted.now.rules }
-    requires sound { All (IsSound diagrams.old) arguments.now }
+    requires there { All (λ (d : AnItem). d.node < size_of subjects.now.tree.now) sorted.now.rules }
+    requires sound { All (IsSound diagrams.old) subjects.now.values.now }
     requires known { Remembers diagrams.old numbers.old }
-    requires recalls { Recalls tree.now diagrams.old fits.old }
+    requires recalls { Recalls subjects.now.tree.now diagrams.old trials.old }
     ensures adds { AddsIntegers diagrams.old diagrams.new }
     ensures known { Remembers diagrams.new numbers.new }
-    ensures recalls { Recalls tree.now diagrams.new fits.new }
+    ensures recalls { Recalls subjects.now.tree.now diagrams.new trials.new }
     ensures chosen { IfOk result (λ o. (w : World) (vs : List PureValue)
-        → w.diagrams ≡ diagrams.old → ShowsValues w arguments.now vs
-        → Chooses tree.now (map (λ (d : AnItem). d.node) (told sorted.now.rules (number_in (slice_get vs sorted.now.position))))
-        arguments.now diagrams.old diagrams.new o) }
+        → w.diagrams ≡ diagrams.old → ShowsValues w subjects.now.values.now vs
+        → Chooses subjects.now.tree.now
+        (map (λ (d : AnItem). d.node) (told sorted.now.rules (number_in (slice_get vs sorted.now.position))))
+        subjects.now.values.now diagrams.old diagrams.new o) }
 {
-    let Some(k) = number_at(alloc, diagrams, numbers, arguments, sorted.position)? else {
+    let Some(k) = number_at(subjects, diagrams, numbers, sorted.position)? else {
         return Ok(None);
     };
     let rules = Rules::Definitions(sorted.rules.called(size_of_literal(k)));
-    let choice = first_match(alloc, tree, rules, diagrams, numbers, fits, arguments)?;
+    let choice = first_match(subjects, rules, diagrams, numbers, trials)?;
     Ok(choice)
 }
 
 // The number of the argument at a position, if it has one.
 fn number_at(
-    alloc: Global,
+    subjects: &Subjects,
     diagrams: &Diagrams,
     numbers: &mut Numbers,
-    arguments: &[Value],
     position: u64,
 ) -> Result<Option<i32>, AllocError>
-    requires sound { All (IsSound diagrams.now) arguments.now }
+    requires sound { All (IsSound diagrams.now) subjects.now.values.now }
     requires known { Remembers diagrams.now numbers.old }
     ensures known { Remembers diagrams.now numbers.new }
     ensures number { IfOk result (λ o. (w : World) (vs : List PureValue)
-        → w.diagrams ≡ diagrams.now → ShowsValues w arguments.now vs → number_in (slice_get vs position) ≡ o) }
+        → w.diagrams ≡ diagrams.now → ShowsValues w subjects.now.values.now vs → number_in (slice_get vs position) ≡ o) }
 {
     let i = position as usize;
+    let arguments = subjects.values;
     if i >= arguments.len() {
         return Ok(None);
     }
     let argument = &arguments[i];
     match argument {
         Value::Diagram(id) => {
-            let number = numbers.number_of(alloc, diagrams, *id)?;
+            let number = numbers.number_of(subjects.alloc, diagrams, *id)?;
             Ok(number)
         }
         Value::Abstraction { .. } => Ok(None),
@@ -306,103 +304,29 @@ fn number_at(
 
 // The first of rules that matches.
 fn first_match(
-    alloc: Global,
-    tree: &Tree,
+    subjects: &Subjects,
     rules: Rules,
     diagrams: &mut Diagrams,
     numbers: &mut Numbers,
-    fits: &mut Fits,
-    arguments: &[Value],
+    trials: &mut Trials,
 ) -> Result<Option<(TreeId, Bindings)>, AllocError>
-    requires inside { All (λ id. id < size_of tree.now) (nodes_of rules) }
-    requires sound { All (IsSound diagrams.old) arguments.now }
+    requires inside { All (λ id. id < size_of subjects.now.tree.now) (nodes_of rules) }
+    requires sound { All (IsSound diagrams.old) subjects.now.values.now }
     requires known { Remembers diagrams.old numbers.old }
-    requires recalls { Recalls tree.now diagrams.old fits.old }
+    requires recalls { Recalls subjects.now.tree.now diagrams.old trials.old }
     ensures adds { AddsIntegers diagrams.old diagrams.new }
     ensures known { Remembers diagrams.new numbers.new }
-    ensures recalls { Recalls tree.now diagrams.new fits.new }
-    ensures chosen { IfOk result (Chooses tree.now (nodes_of rules.entry) arguments.now diagrams.old diagrams.new) }
+    ensures recalls { Recalls subjects.now.tree.now diagrams.new trials.new }
+    ensures chosen { IfOk result
+        (Chooses subjects.now.tree.now (nodes_of rules.entry) subjects.now.values.now diagrams.old diagrams.new) }
 {
     for i in 0..rules.len() {
         let id = rules.node(i);
-        let rule = rule_at(tree, id);
-        let mut list = Vec::new(alloc);
-        if rule_matches(
-            alloc,
-            tree,
-            rule.patterns,
-            diagrams,
-            numbers,
-            fits,
-            arguments,
-            &mut list,
-        )? {
+        let rule = rule_at(subjects.tree, id);
+        let mut list = Vec::new(subjects.alloc);
+        if subjects.match_all(rule.patterns, diagrams, numbers, trials, &mut list)? {
             return Ok(Some((rule.body, Bindings::of(list))));
         }
     }
     Ok(None)
-}
-
-// Whether the patterns of a rule match as many values. Where one is long, they are tried first without binding anything.
-fn rule_matches(
-    alloc: Global,
-    tree: &Tree,
-    patterns: &[TreeId],
-    diagrams: &mut Diagrams,
-    numbers: &mut Numbers,
-    fits: &mut Fits,
-    arguments: &[Value],
-    found: &mut Vec<Binding>,
-) -> Result<bool, AllocError>
-    requires inside { All (λ id. id < size_of tree.now) patterns.now }
-    requires sound { All (IsSound diagrams.old) arguments.now }
-    requires known { Remembers diagrams.old numbers.old }
-    requires recalls { Recalls tree.now diagrams.old fits.old }
-    ensures adds { AddsIntegers diagrams.old diagrams.new }
-    ensures known { Remembers diagrams.new numbers.new }
-    ensures recalls { Recalls tree.now diagrams.new fits.new }
-    ensures matched { IfOk result (λ b. (w : World) (vs : List PureValue) (bs : PureBindings)
-        → w.tree ≡ tree.now → w.diagrams ≡ diagrams.old → ShowsValues w arguments.now vs
-        → ShowsBindings w found.old.items bs
-        → ShowsMatched (with_diagrams w diagrams.new) b found.new.items
-        (all_matched tree.now.tokens (map (tree_in tree.now) patterns.now) vs bs)) }
-{
-    if !may_match(alloc, tree, patterns, diagrams, numbers, fits, arguments)? {
-        return Ok(false);
-    }
-    let matches = all_match(alloc, tree, patterns, diagrams, numbers, arguments, found)?;
-    Ok(matches)
-}
-
-// Tries patterns on as many values: whether they match. The bindings are added to those so far.
-fn all_match(
-    alloc: Global,
-    tree: &Tree,
-    patterns: &[TreeId],
-    diagrams: &mut Diagrams,
-    numbers: &mut Numbers,
-    arguments: &[Value],
-    found: &mut Vec<Binding>,
-) -> Result<bool, AllocError>
-    requires inside { All (λ id. id < size_of tree.now) patterns.now }
-    requires sound { All (IsSound diagrams.old) arguments.now }
-    requires known { Remembers diagrams.old numbers.old }
-    ensures adds { AddsIntegers diagrams.old diagrams.new }
-    ensures known { Remembers diagrams.new numbers.new }
-    ensures matched { IfOk result (λ b. (w : World) (vs : List PureValue) (bs : PureBindings)
-        → w.tree ≡ tree.now → w.diagrams ≡ diagrams.old → ShowsValues w arguments.now vs
-        → ShowsBindings w found.old.items bs
-        → ShowsMatched (with_diagrams w diagrams.new) b found.new.items
-        (all_matched tree.now.tokens (map (tree_in tree.now) patterns.now) vs bs)) }
-{
-    for (i, pattern) in patterns.iter().enumerate() {
-        if i >= arguments.len() {
-            return Ok(false);
-        }
-        let argument = &arguments[i];
-        if !matches_in(alloc, tree, *pattern, diagrams, numbers, argument, found)? {
-            return Ok(false);
-        }
-    }
-    Ok(true)
 }

@@ -18,7 +18,7 @@ use Rattle.fv_eval_scopes.specs.declared.value.Value as code_value
 use Rattle.fv_eval_scopes.specs.declared.value.Value.TheVariants as value
 use Rattle.fv_diagram_number.specs.headline.Numbers.{number_of}
 use Rattle.fv_eval_scopes.specs.Memo.{AddsIntegers, IsInteger, IsKnown, Remembers}
-use Rattle.fv_eval_choosing.specs.Choosing.{IsSound}
+use Rattle.fv_eval_patterns.specs.Patterns.{IsSound}
 use Rattle.fv_eval_scopes.proofs.Added.{adds_keeps, adds_longer}
 use Rattle.fv_eval_drawing.specs.Makes.{AreComposed, Canvas, Draws, Extends, IsThere}
 

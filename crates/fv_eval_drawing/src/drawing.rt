@@ -8,16 +8,17 @@ ghost use Rattle.fv_diagram_number.specs.headline.Numbers.{number_of};
 ghost use Rattle.fv_rules.specs.headline.Values.{Value as Meant};
 ghost use Rattle.fv_rules.specs.headline.Matching.{chosen, number_or};
 ghost use Rattle.fv_eval_scopes.specs.Shows.{World, IsInside, ShowsValues, rules_in};
-ghost use Rattle.fv_eval_choosing.specs.Choosing.{with_diagrams};
+ghost use Rattle.fv_eval_patterns.specs.Patterns.{with_diagrams};
 ghost use Rattle.fv_eval_choosing.specs.Chosen.{ShowsChoice};
-ghost use Rattle.fv_eval_choosing.specs.Fits.{Recalls};
+ghost use Rattle.fv_eval_patterns.specs.Trials.{Recalls};
 ghost use Rattle.fv_rules.specs.headline.Steps.{put};
 ghost use Rattle.fv_rules.specs.Puts.{Puts};
 ghost use Rattle.fv_eval_drawing.specs.Makes.{AddsDiagrams, AreComposed, Draws, Extends, IsLeaf, IsThere, Makes};
 
 use fv_base::limits::MOST_DIAGRAMS;
 use fv_diagram::{Arity, DiagramId, Diagrams, Node};
-use fv_eval_choosing::{Bindings, Definitions, Fits};
+use fv_eval_choosing::Definitions;
+use fv_eval_patterns::{Bindings, Trials};
 use fv_eval_scopes::{Numbers, Ruled, Value};
 use fv_parse::TreeId;
 use fv_rules::{EvalRefusal, put, too_many_to_keep};
@@ -165,24 +166,24 @@ impl Drawing {
         alloc: Global,
         text: &Definitions,
         ruled: Ruled,
-        fits: &mut Fits,
+        trials: &mut Trials,
         arguments: &[Value],
     ) -> Result<Option<(TreeId, Bindings)>, AllocError>
         requires inside { IsInside text.now ruled }
         requires there { All (IsThere self.old.diagrams) arguments.now }
-        requires recalls { Recalls text.now self.old.diagrams fits.old }
+        requires recalls { Recalls text.now self.old.diagrams trials.old }
         ensures chosen { IfOk result (λ o. (w : World) (vs : List Meant) → w.tree ≡ text.now → w.diagrams ≡ self.old.diagrams
             → ShowsValues w arguments.now vs
             → ShowsChoice (with_diagrams w self.new.diagrams) o (chosen text.now.tokens (rules_in text.now ruled) vs)) }
         ensures adds { AddsDiagrams self.old self.new }
-        ensures recalls { Recalls text.now self.new.diagrams fits.new }
+        ensures recalls { Recalls text.now self.new.diagrams trials.new }
     {
         text.choose(
             alloc,
             ruled,
             &mut self.diagrams,
             &mut self.numbers,
-            fits,
+            trials,
             arguments,
         )
     }

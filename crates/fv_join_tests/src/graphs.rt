@@ -1,24 +1,22 @@
-// Graphs with feedback.
+// Graphs with feedback or tables.
 
 use fv_join::Job;
 use fv_num::Op;
-use fv_share::Builder;
-use fv_signal::Signal;
-use std::alloc::{AllocError, Global};
-use test_graphs::{late, pair};
+use std::alloc::Global;
+use std::test::Fail;
+use test_graphs::{Line, graph_of, graph_over};
 
 /// `+ ~ _ : *(hslider(..))`: the running sum of the input, times the control.
-pub(crate) fn running_sum(alloc: Global) -> Result<Job, AllocError> {
-    let mut builder = Builder::new(alloc);
-    let input = builder.node(Signal::Input(0))?;
-    let group = builder.group()?;
-    let back = builder.node(Signal::Back { group, i: 0 })?;
-    let sum = pair(&mut builder, Op::Add, input, back)?;
-    builder.close_group(group, &[sum])?;
-    let member = builder.node(Signal::Member { group, i: 0 })?;
-    let control = builder.node(Signal::Control(0))?;
-    let product = pair(&mut builder, Op::Mul, member, control)?;
-    let graph = builder.finish(&[product])?;
+pub(crate) fn running_sum(alloc: Global) -> Result<Job, Fail> {
+    let lines = [
+        Line::Input(0),
+        Line::Back(0, 0),
+        Line::Pair(Op::Add, 0, 1),
+        Line::Member(0, 0),
+        Line::Control(0),
+        Line::Pair(Op::Mul, 3, 4),
+    ];
+    let graph = graph_of(alloc, &lines, &[&[2]], &[5])?;
     Ok(Job {
         graph,
         inputs: 1,
@@ -27,24 +25,40 @@ pub(crate) fn running_sum(alloc: Global) -> Result<Job, AllocError> {
 }
 
 /// Two members that read one another, two controls, of which it puts out the second, and a delay by one sample.
-pub(crate) fn crossed(alloc: Global) -> Result<Job, AllocError> {
-    let mut builder = Builder::new(alloc);
-    let left = builder.node(Signal::Input(0))?;
-    let right = builder.node(Signal::Input(1))?;
-    let group = builder.group()?;
-    let first = builder.node(Signal::Back { group, i: 0 })?;
-    let second = builder.node(Signal::Back { group, i: 1 })?;
-    let sum = pair(&mut builder, Op::Add, left, second)?;
-    let difference = pair(&mut builder, Op::Sub, right, first)?;
-    builder.close_group(group, &[sum, difference])?;
-    let one = builder.node(Signal::Member { group, i: 0 })?;
-    let two = builder.node(Signal::Member { group, i: 1 })?;
-    let control = builder.node(Signal::Control(1))?;
-    let delayed = late(&mut builder, two, 1)?;
-    let graph = builder.finish(&[one, delayed, control])?;
+pub(crate) fn crossed(alloc: Global) -> Result<Job, Fail> {
+    let lines = [
+        Line::Input(0),
+        Line::Input(1),
+        Line::Back(0, 0),
+        Line::Back(0, 1),
+        Line::Pair(Op::Add, 0, 3),
+        Line::Pair(Op::Sub, 1, 2),
+        Line::Member(0, 0),
+        Line::Member(0, 1),
+        Line::Control(1),
+        Line::Const(1),
+        Line::Delay(7, 9, 1),
+    ];
+    let graph = graph_of(alloc, &lines, &[&[4, 5]], &[6, 10, 8])?;
     Ok(Job {
         graph,
         inputs: 2,
         controls: 2,
+    })
+}
+
+/// The item of the table at the input, and the first item where the input is written at its own place.
+pub(crate) fn items(alloc: Global, table: &[i32]) -> Result<Job, Fail> {
+    let lines = [
+        Line::Input(0),
+        Line::Const(0),
+        Line::Read(0, 0),
+        Line::Write(0, 0, 0, 1),
+    ];
+    let graph = graph_over(alloc, &lines, &[], &[table], &[2, 3])?;
+    Ok(Job {
+        graph,
+        inputs: 1,
+        controls: 0,
     })
 }

@@ -6,6 +6,4 @@ mod graphs;
 #[cfg(test)]
 mod jobs;
 #[cfg(test)]
-mod play;
-#[cfg(test)]
 mod side_by_side;

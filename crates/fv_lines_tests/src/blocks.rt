@@ -5,7 +5,6 @@ ghost use Rattle.fv_pool.specs.Lengths.{lengths_of};
 ghost use Rattle.fv_lines.specs.Solo.{IsHeld, AreLists, AreHeld, AreFramed, AreFull, IsSolo, lanes_of};
 
 use fv_lines::{LaneShape, LaneState, Solo};
-use fv_loopcode::Store;
 use fv_pool::{Layout, Region};
 use std::process::Abort;
 use std::test::Fail;
@@ -80,71 +79,49 @@ fn are_full(solo: &Solo<'_, '_, '_, '_, '_>) -> bool
     true
 }
 
-fn append(solo: &mut Solo<'_, '_, '_, '_, '_>, lane: u64, value: i32) -> Result<(), &'static str>
+// These samples, one for each lane in turn.
+fn append_each(rt: &impl Abort, solo: &mut Solo<'_, '_, '_, '_, '_>, values: &[i32; 3])
     requires { IsSolo solo.old }
     ensures { IsSolo solo.new }
 {
-    if lane >= solo.len() || solo.room(lane) == 0 {
-        return Err("no room");
+    for lane in 0..3 {
+        assert!(rt; lane < solo.len() && solo.room(lane) > 0);
+        solo.append(lane, values[lane as usize]);
     }
-    solo.append(lane, value);
-    Ok(())
 }
 
-fn at(
-    solo: &Solo<'_, '_, '_, '_, '_>,
-    lane: u64,
-    index: u64,
-    back: u64,
-) -> Result<i32, &'static str>
+// The sample of a lane so far back.
+fn at(rt: &impl Abort, solo: &Solo<'_, '_, '_, '_, '_>, lane: u64, index: u64, back: u64) -> i32
+    requires solo { IsSolo solo.now }
+    requires index { index < 4 }
+{
+    assert!(rt; lane < solo.len() && solo.has_sample(lane, index, back));
+    solo.at(lane, index, back)
+}
+
+// As many samples of lane 0 as a block has, at once.
+fn load_block(rt: &impl Abort, solo: &Solo<'_, '_, '_, '_, '_>, back: u64) -> [i32; FRAMES as usize]
     requires { IsSolo solo.now }
 {
-    if lane >= solo.len() || index > 1 << 30 || !solo.has_sample(lane, index, back) {
-        return Err("no sample");
-    }
-    Ok(solo.at(lane, index, back))
-}
-
-// These samples of a lane at once.
-fn append_many(
-    solo: &mut Solo<'_, '_, '_, '_, '_>,
-    lane: u64,
-    values: &[i32],
-) -> Result<(), &'static str>
-    requires { IsSolo solo.old }
-    ensures { IsSolo solo.new }
-{
-    if lane >= solo.len() || u64::from(solo.room(lane)) < values.len() as u64 {
-        return Err("no room");
-    }
-    Store::append_many(solo, lane, values);
-    Ok(())
-}
-
-// As many samples of a lane as `to` has, at once.
-fn load_many(
-    solo: &Solo<'_, '_, '_, '_, '_>,
-    lane: u64,
-    index: u64,
-    back: u64,
-    to: &mut [i32],
-) -> Result<(), &'static str>
-    requires { IsSolo solo.now }
-{
-    let count = to.len() as u64;
-    if lane >= solo.len() || index > 1 << 30 || count == 0 || count > 1 << 30 {
-        return Err("no such lane or sample");
-    }
-    if !solo.has_sample(lane, index, back) || !solo.has_sample(lane, index + (count - 1), back) {
-        return Err("no sample");
-    }
-    Store::load_many(solo, lane, index, back, to);
-    Ok(())
+    let mut to = [-1; FRAMES as usize];
+    assert!(rt; solo.len() == 1 && solo.has_sample(0, 0, back) && solo.has_sample(0, 3, back));
+    solo.load_many(0, 0, back, &mut to);
+    to
 }
 
 // The sample so far back of a lane to which 1, 2, 3, .. are appended, where `now` is the last one.
 fn counted(now: i32, back: i32) -> i32 {
     now.saturating_sub(back).max(0)
+}
+
+// The first of a lane's samples in a block, and those behind it.
+fn counted_from(first: i32) -> [i32; FRAMES as usize] {
+    [
+        first,
+        first.saturating_add(1),
+        first.saturating_add(2),
+        first.saturating_add(3),
+    ]
 }
 
 // A block, in which each lane is appended and looked back into as far as its history goes.
@@ -156,28 +133,31 @@ fn play(
     states: &mut [LaneState],
     written: &mut [u32],
     first: i32,
-) -> Result<(), Fail> {
+) {
     assert!(rt; may_begin(layout, shapes, states, written, cells, FRAMES));
     let mut solo = Solo::begin(cells, layout, shapes, states, written, FRAMES);
-    let mut now = first;
-    for n in 0..u64::from(FRAMES) {
-        append(&mut solo, 0, now)?;
-        append(&mut solo, 1, 7)?;
-        append(&mut solo, 2, 0i32.saturating_sub(now))?;
-        assert_eq!(rt; at(&solo, 0, n, 0)?, now);
-        assert_eq!(rt; at(&solo, 0, n, 2)?, counted(now, 2));
-        assert_eq!(rt; at(&solo, 1, n, 0)?, 7);
-        assert_eq!(rt; at(&solo, 2, n, 0)?, 0i32.saturating_sub(now));
-        assert_eq!(rt;
-            at(&solo, 2, n, 17)?,
+    let mut n = 0;
+    for now in counted_from(first) {
+        append_each(rt, &mut solo, &[now, 7, 0i32.saturating_sub(now)]);
+        let seen = [
+            at(rt, &solo, 0, n, 0),
+            at(rt, &solo, 0, n, 2),
+            at(rt, &solo, 1, n, 0),
+            at(rt, &solo, 2, n, 0),
+            at(rt, &solo, 2, n, 17),
+        ];
+        let wanted = [
+            now,
+            counted(now, 2),
+            7,
+            0i32.saturating_sub(now),
             0i32.saturating_sub(counted(now, 17)),
-            "{now}"
-        );
-        now = now.saturating_add(1);
+        ];
+        assert_eq!(rt; seen, wanted);
+        n += 1;
     }
     assert!(rt; !solo.is_empty() && are_full(&solo));
     solo.finish();
-    Ok(())
 }
 
 #[test]
@@ -203,7 +183,7 @@ fn lanes_go_on_from_block_to_block(rt: HostRuntime) -> Result<(), Fail> {
             &mut states,
             &mut written,
             first,
-        )?;
+        );
     }
     Ok(())
 }
@@ -217,24 +197,18 @@ fn play_at_once(
     states: &mut [LaneState],
     written: &mut [u32],
     first: i32,
-) -> Result<(), Fail> {
+) {
     assert!(rt; may_begin(layout, shapes, states, written, cells, FRAMES));
     let mut solo = Solo::begin(cells, layout, shapes, states, written, FRAMES);
-    let mut now = [first; FRAMES as usize];
-    for n in 1..now.len() {
-        now[n] = now[n - 1].saturating_add(1);
-    }
-    append_many(&mut solo, 0, &now)?;
+    let now = counted_from(first);
+    assert!(rt; solo.len() == 1 && solo.room(0) >= FRAMES);
+    solo.append_many(0, &now);
     for back in [0u32, 1, 16, 17] {
-        let mut seen = [-1; FRAMES as usize];
-        load_many(&solo, 0, 0, u64::from(back), &mut seen)?;
-        for n in 0..now.len() {
-            assert_eq!(rt; seen[n], counted(now[n], back as i32), "{first}");
-        }
+        let wanted = now.map(|value| counted(value, back as i32));
+        assert_eq!(rt; load_block(rt, &solo, u64::from(back)), wanted, "{first}");
     }
     assert!(rt; are_full(&solo));
     solo.finish();
-    Ok(())
 }
 
 #[test]
@@ -253,7 +227,7 @@ fn many_samples_pass_the_end_of_a_ring(rt: HostRuntime) -> Result<(), Fail> {
             &mut states,
             &mut written,
             first,
-        )?;
+        );
     }
     Ok(())
 }

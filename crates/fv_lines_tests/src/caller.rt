@@ -1,88 +1,17 @@
-// A block of one worker over the region's cells.
+// Callers of lanes that are lent to threads.
 
-ghost use Rattle.std.specs.Prelude.{◌≡◌, ◌<◌, ◌≤◌, ◌++◌, ℕ, [], ◌∷◌, length, drop, All};
-ghost use Rattle.fv_num.specs.headline.Words.{argument};
-ghost use Rattle.fv_loopcode.specs.headline.Lanes.{lane_of, sample_at};
+ghost use Rattle.std.specs.Prelude.{◌≡◌, ◌<◌, ◌++◌, [], ◌∷◌};
+ghost use Rattle.fv_loopcode.specs.headline.Lanes.{sample_at};
 ghost use Rattle.fv_loopcode.specs.Lanes.{HasSample};
-ghost use Rattle.fv_loopcode.specs.headline.State.{lanes_alone};
-ghost use Rattle.fv_loopcode.specs.headline.Code.{ran};
-ghost use Rattle.fv_loopcode.specs.Code.{MayRun, frame_of, IsWithin};
 ghost use Rattle.fv_pool.specs.Layout.{HaveRoom};
 ghost use Rattle.fv_pool.specs.Lengths.{lengths_of};
 ghost use Rattle.fv_pool.specs.Region.{cells_of};
 ghost use Rattle.fv_lines.specs.Seen.{lane_seen};
 ghost use Rattle.fv_lines.specs.Writer.{list_of, written_by, frames_of, lane_written};
-ghost use Rattle.fv_lines.specs.Solo.{AreLists, AreHeld, AreFramed, AreFull, held_at, history_at, opening_lanes};
 
-use fv_lines::{LaneShape, LaneState, LaneWriter, Solo};
-use fv_loopcode_machine::{Code, run};
+use fv_lines::{LaneShape, LaneState, LaneWriter};
 use fv_pool::{Layout, Region};
 use std::thread::{Threads, join};
-
-/// Runs a code without inputs over all lanes in these cells. The cells and the states then hold what the code left.
-pub fn block_on(
-    cells: &mut [i32],
-    layout: &Layout,
-    shapes: &[LaneShape],
-    states: &mut [LaneState],
-    written: &mut [u32],
-    frames: u32,
-    code: &Code,
-    registers: &mut [i32],
-)
-    requires lists { AreLists (lengths_of layout.now) shapes.now states.old written.old cells.old }
-    requires lanes { AreHeld (lengths_of layout.now) shapes.now states.old }
-    requires frames { AreFramed (lengths_of layout.now) shapes.now frames }
-    requires registers { length registers.old ≡ length code.now }
-    requires within { All (λ s. IsWithin 0 0 s) code.now }
-    requires may { MayRun code.now (argument []) (frame_of [] 0) 0 frames (lanes_alone (opening_lanes (lengths_of layout.now) shapes.now states.old frames cells.old)) }
-    requires full { AreFull (ran code.now (argument []) (frame_of [] 0) 0 frames (lanes_alone (opening_lanes (lengths_of layout.now) shapes.now states.old frames cells.old))).lanes }
-    ensures count { length states.new ≡ length states.old }
-    ensures states { AreHeld (lengths_of layout.now) shapes.now states.new }
-    ensures held { (i : ℕ) → i < length (lengths_of layout.now) → held_at (lengths_of layout.now) states.new (history_at shapes.now i) i cells.new ≡ drop frames (lane_of (ran code.now (argument []) (frame_of [] 0) 0 frames (lanes_alone (opening_lanes (lengths_of layout.now) shapes.now states.old frames cells.old))).lanes i).items }
-{
-    let mut solo = Solo::begin(cells, layout, shapes, states, written, frames);
-    run(
-        code,
-        &[],
-        &[],
-        0,
-        0,
-        u64::from(frames),
-        registers,
-        &mut solo,
-    );
-    solo.finish();
-}
-
-/// The same over a region.
-pub fn block(
-    region: &mut Region,
-    layout: &Layout,
-    shapes: &[LaneShape],
-    states: &mut [LaneState],
-    written: &mut [u32],
-    frames: u32,
-    code: &Code,
-    registers: &mut [i32],
-)
-    requires lists { AreLists (lengths_of layout.now) shapes.now states.old written.old (cells_of region.old) }
-    requires lanes { AreHeld (lengths_of layout.now) shapes.now states.old }
-    requires frames { AreFramed (lengths_of layout.now) shapes.now frames }
-    requires registers { length registers.old ≡ length code.now }
-    requires within { All (λ s. IsWithin 0 0 s) code.now }
-    requires may { MayRun code.now (argument []) (frame_of [] 0) 0 frames (lanes_alone (opening_lanes (lengths_of layout.now) shapes.now states.old frames (cells_of region.old))) }
-    requires full { AreFull (ran code.now (argument []) (frame_of [] 0) 0 frames (lanes_alone (opening_lanes (lengths_of layout.now) shapes.now states.old frames (cells_of region.old)))).lanes }
-    ensures cells { length (cells_of region.new) ≡ length (cells_of region.old) }
-    ensures count { length states.new ≡ length states.old }
-    ensures states { AreHeld (lengths_of layout.now) shapes.now states.new }
-    ensures held { (i : ℕ) → i < length (lengths_of layout.now) → held_at (lengths_of layout.now) states.new (history_at shapes.now i) i (cells_of region.new) ≡ drop frames (lane_of (ran code.now (argument []) (frame_of [] 0) 0 frames (lanes_alone (opening_lanes (lengths_of layout.now) shapes.now states.old frames (cells_of region.old)))).lanes i).items }
-{
-    let cells = region.cells();
-    block_on(
-        cells, layout, shapes, states, written, frames, code, registers,
-    );
-}
 
 /// Appends a sample to a lane of the first part, and reads it in what was seen, before the region is cut anew.
 pub fn seen_before_the_next_cut(region: &mut Region, layout: &Layout, shape: LaneShape) -> i32

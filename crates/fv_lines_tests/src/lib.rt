@@ -1,4 +1,4 @@
-//! A caller of lanes, which shows what is known after a block, and tests of the region, of its parts and of lanes over them.
+//! Callers that lend lanes to threads, and tests of the region, of its parts and of lanes over them.
 #![tactic(auto)]
 
 #[cfg(test)]
@@ -9,6 +9,4 @@ mod parts;
 #[cfg(test)]
 mod writers;
 
-pub use caller::{
-    append_side_by_side, block, block_on, read_while_written, seen_before_the_next_cut,
-};
+pub use caller::{append_side_by_side, read_while_written, seen_before_the_next_cut};

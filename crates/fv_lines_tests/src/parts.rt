@@ -6,45 +6,62 @@ use std::test::Fail;
 use std::thread::join;
 
 // The cells of the next part.
-fn next<'a>(cutter: &mut Cutter<'a>) -> Result<&'a mut [i32], Fail> {
+fn next<'a>(rt: &impl Abort, cutter: &mut Cutter<'a>) -> &'a mut [i32] {
     match cutter.next() {
-        Some(part) => Ok(part.into_slice()),
-        None => Err("no part".into()),
+        Some(part) => part.into_slice(),
+        None => panic!(rt; "no part"),
+    }
+}
+
+#[test]
+fn parts_have_places(rt: HostRuntime) -> Result<(), Fail> {
+    let layout = Layout::new(rt.alloc(), &[2, 0, 3])?;
+    assert_eq!(rt;
+        (layout.len(), layout.is_empty(), layout.total()),
+        (3, false, 5)
+    );
+    for (i, length, place) in [(0, 2, 0), (1, 0, 2), (2, 3, 2)] {
+        assert!(rt; i < layout.len());
+        assert_eq!(rt;
+            (layout.length(i), layout.place(i)),
+            (length, place),
+            "part {i}"
+        );
+    }
+    Ok(())
+}
+
+// Writes 1, 2, .. into the parts, the last one first.
+fn write_parts(rt: &impl Abort, region: &mut Region, layout: &Layout) {
+    assert!(rt; region.has_room(layout));
+    let mut cutter = region.cut(layout);
+    let first = next(rt, &mut cutter);
+    let second = next(rt, &mut cutter);
+    let third = next(rt, &mut cutter);
+    assert!(rt;
+        first.len() == 2 && second.is_empty() && third.len() == 3 && cutter.next().is_none()
+    );
+    third.copy_from_slice(&[3, 4, 5]);
+    first.copy_from_slice(&[1, 2]);
+}
+
+// They hold these numbers.
+fn assert_parts(rt: &impl Abort, region: &mut Region, layout: &Layout, parts: [&[i32]; 3]) {
+    assert!(rt; region.has_room(layout));
+    let mut cutter = region.cut(layout);
+    for part in parts {
+        assert_eq!(rt; &*next(rt, &mut cutter), part);
     }
 }
 
 #[test]
 fn parts_lie_one_after_another(rt: HostRuntime) -> Result<(), Fail> {
     let layout = Layout::new(rt.alloc(), &[2, 0, 3])?;
-    assert_eq!(rt; layout.len(), 3);
-    assert!(rt; !layout.is_empty());
-    assert_eq!(rt; layout.total(), 5);
-    for (i, length, place) in [(0, 2, 0), (1, 0, 2), (2, 3, 2)] {
-        assert!(rt; i < layout.len());
-        assert_eq!(rt; layout.length(i), length, "part {i}");
-        assert_eq!(rt; layout.place(i), place, "part {i}");
-    }
     let mut region = Region::new(rt.alloc(), 5)?;
-    assert_eq!(rt; region.len(), 5);
-    assert!(rt; !region.is_empty());
-
-    assert!(rt; region.has_room(&layout));
-    let mut cutter = region.cut(&layout);
-    let first = next(&mut cutter)?;
-    let second = next(&mut cutter)?;
-    let third = next(&mut cutter)?;
-    assert!(rt; cutter.next().is_none());
-    assert_eq!(rt; second.len(), 0);
-    assert!(rt; first.len() == 2 && third.len() == 3);
-    third.copy_from_slice(&[3, 4, 5]);
-    first.copy_from_slice(&[1, 2]);
+    assert_eq!(rt; (region.len(), region.is_empty()), (5, false));
+    write_parts(&rt, &mut region, &layout);
     assert_eq!(rt; &*region.cells(), [1, 2, 3, 4, 5].as_slice());
-
-    assert!(rt; region.has_room(&layout));
-    let mut again = region.cut(&layout);
-    assert_eq!(rt; &*next(&mut again)?, [1, 2].as_slice());
-    assert_eq!(rt; &*next(&mut again)?, [].as_slice());
-    assert_eq!(rt; &*next(&mut again)?, [3, 4, 5].as_slice());
+    assert_parts(&rt, &mut region, &layout, [&[1, 2], &[], &[3, 4, 5]]);
     Ok(())
 }
 

@@ -1,11 +1,13 @@
 // Worked examples.
 
-ghost use Rattle.std.specs.Prelude.{◌≡◌, ◌<◌, ◌+◌, [], length};
-ghost use Rattle.fv_loopcode_tests.specs.Line.{lane_in, running_sum, difference, scaled, touched};
+ghost use Rattle.std.specs.Prelude.{◌≡◌, ◌<◌, ◌+◌, [], length, IfOk};
+ghost use Rattle.fv_loopcode_tests.specs.Shelf.{HasRoom};
+ghost use Rattle.fv_loopcode_tests.specs.Codes.{running_sum, difference, scaled};
 
-use crate::line::Line;
+use crate::shelf::Shelf;
 use fv_loopcode::{Code, Counts, Step, run};
 use fv_num::Op;
+use std::alloc::{AllocError, Global};
 use std::process::Abort;
 use std::test::Fail;
 
@@ -55,52 +57,21 @@ const SCALED: [Step; 5] = [
     },
 ];
 
-// At an index, what is written there, and an index that is read: an item of the table, and one of the list.
-pub(crate) const TOUCHED: [Step; 5] = [
-    Step::Input(0),
-    Step::Input(1),
-    Step::Input(2),
-    Step::Read { table: 0, arg: 0 },
-    Step::Write {
-        cells: 0,
-        args: [0, 1, 2],
-    },
-];
-
-pub(crate) const NOTHING: Counts = Counts {
-    lanes: 0,
-    tables: 0,
-    cells: 0,
-};
-
+/// One lane, and no table and no cells.
 pub(crate) const ONE_LANE: Counts = Counts {
     lanes: 1,
     tables: 0,
     cells: 0,
 };
 
-pub(crate) const ONE_LIST: Counts = Counts {
+const NOTHING: Counts = Counts {
     lanes: 0,
-    tables: 1,
-    cells: 1,
+    tables: 0,
+    cells: 0,
 };
 
 // Steps that are no code over one lane.
 static REFUSED: [(&str, &[Step]); 7] = [
-    (
-        "a table that is not there",
-        &[Step::Number(1), Step::Read { table: 0, arg: 0 }],
-    ),
-    (
-        "cells that are not there",
-        &[
-            Step::Number(1),
-            Step::Write {
-                cells: 0,
-                args: [0, 0, 0],
-            },
-        ],
-    ),
     (
         "an operand that is no earlier step",
         &[Step::Append { lane: 0, value: 0 }],
@@ -139,7 +110,38 @@ static REFUSED: [(&str, &[Step]); 7] = [
             max: 1,
         }],
     ),
+    (
+        "a table that is not there",
+        &[Step::Number(1), Step::Read { table: 0, arg: 0 }],
+    ),
+    (
+        "cells that are not there",
+        &[
+            Step::Number(1),
+            Step::Write {
+                cells: 0,
+                args: [0, 0, 0],
+            },
+        ],
+    ),
 ];
+
+/// Room for so many samples, a table of three items, and cells of two.
+pub(crate) fn shelf_of(alloc: Global, count: u64) -> Result<Shelf, AllocError>
+    requires { count < 1000 }
+    ensures { IfOk result (λ s. HasRoom s count) }
+{
+    let samples = vec![in alloc; 0; count as usize + 1]?;
+    let table = vec![in alloc; 10, 20, 30]?;
+    let cells = vec![in alloc; 7, 8]?;
+    Ok(Shelf {
+        samples,
+        history: 1,
+        written: 1,
+        table,
+        cells,
+    })
+}
 
 #[test]
 fn code_reads_earlier_steps(rt: HostRuntime) -> Result<(), Fail> {
@@ -151,16 +153,14 @@ fn code_reads_earlier_steps(rt: HostRuntime) -> Result<(), Fail> {
 }
 
 /// Runs the running sum over so many samples.
-pub(crate) fn sum(code: &Code, input: &[i32], count: u64, registers: &mut [i32], line: &mut Line)
+pub(crate) fn sum(code: &Code, input: &[i32], count: u64, registers: &mut [i32], shelf: &mut Shelf)
     requires code { code.now ≡ running_sum }
     requires registers { length registers.old ≡ 7 }
     requires few { count < 1000 }
     requires input { length input.now ≡ count }
-    requires history { line.old.history ≡ 1 }
-    requires written { line.old.written ≡ 1 }
-    requires room { length line.old.cells.items ≡ 1 + count }
+    requires room { HasRoom shelf.old count }
 {
-    run(code, &[], input, 1, 0, count, registers, line);
+    run(code, &[], input, 1, 0, count, registers, shelf);
 }
 
 #[test]
@@ -172,26 +172,20 @@ fn a_running_sum(rt: HostRuntime) -> Result<(), Fail> {
     assert!(rt; !code.is_empty());
     assert_eq!(rt; code.steps(), SUM.as_slice());
     let mut registers = [0; 7];
-    let mut line = Line {
-        cells: vec![in rt.alloc(); 0; 4]?,
-        history: 1,
-        written: 1,
-        table: Vec::new(rt.alloc()),
-        list: Vec::new(rt.alloc()),
-    };
-    sum(&code, &[5, 7, 4], 3, &mut registers, &mut line);
-    assert_eq!(rt; line.cells.as_slice(), [0, 20, 62, 74].as_slice());
+    let mut shelf = shelf_of(rt.alloc(), 3)?;
+    sum(&code, &[5, 7, 4], 3, &mut registers, &mut shelf);
+    assert_eq!(rt; shelf.samples.as_slice(), [0, 20, 62, 74].as_slice());
     assert_eq!(rt; registers.as_slice(), [4, 16, 12, 1, 62, 74, 74].as_slice());
     Ok(())
 }
 
-// Runs code that loads and appends nothing, over any lane.
-fn hold(code: &Code, held: &[i32], registers: &mut [i32], line: &mut Line)
+// Runs code that loads and appends nothing, over any shelf.
+fn hold(code: &Code, held: &[i32], registers: &mut [i32], shelf: &mut Shelf)
     requires code { code.now ≡ difference }
     requires registers { length registers.old ≡ 3 }
     requires held { length held.now ≡ 2 }
 {
-    run(code, held, &[], 0, 0, 1, registers, line);
+    run(code, held, &[], 0, 0, 1, registers, shelf);
 }
 
 #[test]
@@ -200,26 +194,20 @@ fn held_values_are_registers(rt: HostRuntime) -> Result<(), Fail> {
         return Err("no code".into());
     };
     let mut registers = [0; 3];
-    let mut line = Line {
-        cells: vec![in rt.alloc(); 4; 1]?,
-        history: 1,
-        written: 1,
-        table: Vec::new(rt.alloc()),
-        list: Vec::new(rt.alloc()),
-    };
-    hold(&code, &[7, 9], &mut registers, &mut line);
+    let mut shelf = shelf_of(rt.alloc(), 0)?;
+    hold(&code, &[7, 9], &mut registers, &mut shelf);
     assert_eq!(rt; registers.as_slice(), [7, 9, -2].as_slice());
-    assert_eq!(rt; line.cells.as_slice(), [4].as_slice());
+    assert_eq!(rt; shelf.samples.as_slice(), [0].as_slice());
     Ok(())
 }
 
-// Runs three quarters of the input, over any lane.
-fn scale(code: &Code, input: &[i32], registers: &mut [i32], line: &mut Line)
+// Runs three quarters of the input, over any shelf.
+fn scale(code: &Code, input: &[i32], registers: &mut [i32], shelf: &mut Shelf)
     requires code { code.now ≡ scaled }
     requires registers { length registers.old ≡ 5 }
     requires input { length input.now ≡ 1 }
 {
-    run(code, &[], input, 1, 0, 1, registers, line);
+    run(code, &[], input, 1, 0, 1, registers, shelf);
 }
 
 #[test]
@@ -228,54 +216,10 @@ fn quotients_are_rounded_toward_zero(rt: HostRuntime) -> Result<(), Fail> {
         return Err("no code".into());
     };
     let mut registers = [0; 5];
-    let mut line = Line {
-        cells: vec![in rt.alloc(); 4; 1]?,
-        history: 1,
-        written: 1,
-        table: Vec::new(rt.alloc()),
-        list: Vec::new(rt.alloc()),
-    };
-    scale(&code, &[-7], &mut registers, &mut line);
+    let mut shelf = shelf_of(rt.alloc(), 0)?;
+    scale(&code, &[-7], &mut registers, &mut shelf);
     assert_eq!(rt; registers.as_slice(), [-7, 3, -21, 4, -5].as_slice());
-    scale(&code, &[7], &mut registers, &mut line);
+    scale(&code, &[7], &mut registers, &mut shelf);
     assert_eq!(rt; registers.as_slice(), [7, 3, 21, 4, 5].as_slice());
-    Ok(())
-}
-
-// Runs one sample over a table and a list.
-fn touch(code: &Code, input: &[i32], registers: &mut [i32], line: &mut Line)
-    requires code { code.now ≡ touched }
-    requires registers { length registers.old ≡ 5 }
-    requires input { length input.now ≡ 3 }
-    requires table { 0 < length line.old.table.items }
-    requires list { 0 < length line.old.list.items }
-    ensures registers { length registers.new ≡ length registers.old }
-    ensures table { length line.new.table.items ≡ length line.old.table.items }
-    ensures list { length line.new.list.items ≡ length line.old.list.items }
-{
-    run(code, &[], input, 3, 0, 1, registers, line);
-}
-
-#[test]
-fn what_is_written_is_read_at_once(rt: HostRuntime) -> Result<(), Fail> {
-    let Some(code) = Code::new(rt.alloc(), &TOUCHED, ONE_LIST)? else {
-        return Err("no code".into());
-    };
-    let mut registers = [0; 5];
-    let mut line = Line {
-        cells: Vec::new(rt.alloc()),
-        history: 0,
-        written: 0,
-        table: vec![in rt.alloc(); 30; 2]?,
-        list: vec![in rt.alloc(); 7; 2]?,
-    };
-    line.table[1] = 40;
-    touch(&code, &[0, 1, 0], &mut registers, &mut line);
-    assert_eq!(rt; registers.as_slice(), [0, 1, 0, 30, 1].as_slice());
-    touch(&code, &[1, 5, 0], &mut registers, &mut line);
-    assert_eq!(rt; registers.as_slice(), [1, 5, 0, 40, 1].as_slice());
-    touch(&code, &[-3, 9, 8], &mut registers, &mut line);
-    assert_eq!(rt; registers.as_slice(), [-3, 9, 8, 30, 5].as_slice());
-    assert_eq!(rt; line.list.as_slice(), [9, 5].as_slice());
     Ok(())
 }

@@ -1,25 +1,24 @@
 // Runs by strips, beside runs by samples.
 
 ghost use Rattle.std.specs.Prelude.{◌≡◌, ◌<◌, ◌+◌, [], length};
-ghost use Rattle.fv_loopcode_tests.specs.Line.{running_sum};
+ghost use Rattle.fv_loopcode_tests.specs.Shelf.{HasRoom};
+ghost use Rattle.fv_loopcode_tests.specs.Codes.{running_sum};
 
-use crate::line::Line;
-use crate::rows::{ONE_LANE, SUM, sum};
+use crate::rows::{ONE_LANE, SUM, shelf_of, sum};
+use crate::shelf::Shelf;
 use fv_loopcode_machine::{Code, run};
 use std::process::Abort;
 use std::test::Fail;
 
 // Runs the running sum over so many samples, by strips.
-fn sum_by_strips(code: &Code, input: &[i32], count: u64, registers: &mut [i32], line: &mut Line)
+fn sum_by_strips(code: &Code, input: &[i32], count: u64, registers: &mut [i32], shelf: &mut Shelf)
     requires code { code.now ≡ running_sum }
     requires registers { length registers.old ≡ 7 }
     requires few { count < 1000 }
     requires input { length input.now ≡ count }
-    requires history { line.old.history ≡ 1 }
-    requires written { line.old.written ≡ 1 }
-    requires room { length line.old.cells.items ≡ 1 + count }
+    requires room { HasRoom shelf.old count }
 {
-    run(code, &[], input, 1, 0, count, registers, line);
+    run(code, &[], input, 1, 0, count, registers, shelf);
 }
 
 // Two strips and a part of a third.
@@ -38,24 +37,12 @@ fn strips_are_samples(rt: HostRuntime) -> Result<(), Fail> {
         input[k] = 1 << (k % 31);
     }
     let mut registers = [0; 7];
-    let mut samples = Line {
-        cells: vec![in rt.alloc(); 0; 71]?,
-        history: 1,
-        written: 1,
-        table: Vec::new(rt.alloc()),
-        list: Vec::new(rt.alloc()),
-    };
+    let mut samples = shelf_of(rt.alloc(), COUNT)?;
     sum(&plain, &input, COUNT, &mut registers, &mut samples);
     let mut last = [0; 7];
-    let mut strips = Line {
-        cells: vec![in rt.alloc(); 0; 71]?,
-        history: 1,
-        written: 1,
-        table: Vec::new(rt.alloc()),
-        list: Vec::new(rt.alloc()),
-    };
+    let mut strips = shelf_of(rt.alloc(), COUNT)?;
     sum_by_strips(&code, &input, COUNT, &mut last, &mut strips);
-    assert_eq!(rt; strips.cells.as_slice(), samples.cells.as_slice());
+    assert_eq!(rt; strips.samples.as_slice(), samples.samples.as_slice());
     assert_eq!(rt; last.as_slice(), registers.as_slice());
     Ok(())
 }

@@ -156,41 +156,6 @@ module _ (ins : ℕ) (IsControl : ℕ → Type 0) (IsLimit : ℕ → Type 0) (no
     );
   }
 
--- ---- where no table is put
-
--- there is no table
-abbrev pub HasNone : Progress → Type 0
-HasNone s = s.draft.tables ≡ []
-
-leaf_none : (l : Leaf) (ws : List ℕ) (s : Progress) → HasNone s → HasNone (leaf_of l ws s).1
-leaf_none (leaf.Number n) ws s h = h
-leaf_none (leaf.Control k) ws s h = h
-leaf_none leaf.Mem ws s h = h
-leaf_none leaf.Prefix ws s h = h
-leaf_none leaf.Delay ws s h = h
-leaf_none (leaf.Point op) ws s h = h
-
-shut_none : (fs : List Feedback) (ws : List ℕ) (s : Progress) → HasNone s → HasNone (shut fs ws s).1
-shut_none [] ws s h = h
-shut_none (f ∷ fs) ws s h = puts_tables (signal.Member f.group) (length ws) (filled f fs ws s) ∙ h
-
-pub none_keep : (IsControl : ℕ → Type 0) (Holds : Progress → Type 0)
-    → KeepAlong signal_hooks still (FitsSigned w32) IsControl (λ T. ⊥) IsGood Holds Any (λ s u. HasNone s)
-unfolding still
-none_keep IsControl Holds = record {
-  leaf = λ l ws vs s t a w k o r q. (tt, leaf_none l ws s r);
-  counted = λ T s t l k o r. absurd l;
-  tabled = λ writes T ws vs s t l w k o r q. absurd l;
-  opened = λ n s t k o r. (
-    related_places Any _ _ 0 tt (puts_wide (signal.Back (length s.draft.groups)) n (grouped (passed n s)) ∙ sym (length_table n (λ i. tt))) (λ i l. tt),
-    puts_tables (signal.Back (length s.draft.groups)) n (grouped (passed n s)) ∙ r,
-  );
-  closed = λ ws vs s t k o r q. (
-    related_places Any _ _ 0 tt (close_wide s.feedbacks ws s ∙ related_length Any ws vs q) (λ i l. tt),
-    shut_none s.feedbacks ws s r,
-  );
-}
-
 -- ---- the numbers and controls of a diagram
 
 pub leaves_had : (IsControl : ℕ → Type 0) (L : List ℤ → Type 0) (d : Diagram) → AllLists L d → more_diagram.HasNumbers d → ((k : ℕ) → HasControl d k → IsControl k)

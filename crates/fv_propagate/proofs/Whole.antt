@@ -15,7 +15,7 @@ use Rattle.fv_signal.specs.declared.signal.Signal.{Signal}
 use Rattle.fv_signal.specs.declared.signal.Signal.TheVariants.{Input, Const, Control, Point, Delay, Back, Member, Read, Write}
 use Rattle.fv_signal.specs.headline.Value.{Graph, value, IsGraph}
 use Rattle.fv_share.specs.Drafts.{AreClosed, graph_of}
-use Rattle.fv_diagram.specs.headline.Diagram.{Diagram, inputs, outputs, has_table}
+use Rattle.fv_diagram.specs.headline.Diagram.{Diagram, inputs, outputs}
 use Rattle.fv_diagram.specs.Diagram.{IsWellFormed, HasNoFreeSlot, HasNumbers, AreNumbers}
 use Rattle.fv_diagram.specs.headline.Streams.{run}
 use Rattle.fv_diagram.specs.Wires.{Wired}
@@ -24,7 +24,7 @@ use Rattle.fv_diagram.specs.Walked.{walked}
 use Rattle.fv_diagram.proofs.Causality.{run_closed}
 use Rattle.fv_diagram.proofs.Carried.{wired_answers, column_carries}
 use Rattle.fv_diagram.proofs.Places.{prefix_long, carried_items}
-use Rattle.fv_diagram.proofs.Meaning.{no_lists, walk_goes, walk_means}
+use Rattle.fv_diagram.proofs.Meaning.{walk_goes, walk_means}
 use Rattle.std.proofs.Common.{false}
 use Rattle.fv_diagram.proofs.Related.{AreRelated}
 use Rattle.fv_interval.specs.headline.SpanHooks.{control_span}
@@ -41,7 +41,7 @@ use Rattle.fv_propagate.proofs.Puts.{put_there, puts_at, puts_wide, puts_groups,
 use Rattle.fv_propagate.proofs.Kept.{puts_all_there}
 use Rattle.fv_propagate.proofs.Goes.{IsGood, Onward, GoesOn, on_same_groups, stays_good, signals_are_orderly, signals_hold_back}
 use Rattle.fv_propagate.proofs.Sound.{AreWide, node_is, signals_are_sound}
-use Rattle.fv_propagate.proofs.Named.{still, Any, HasNone, none_keep, IsNamed, AreNamed, named_put, named_puts, names_keep, leaves_had, lists_had}
+use Rattle.fv_propagate.proofs.Named.{still, Any, IsNamed, AreNamed, named_put, named_puts, names_keep, leaves_had, lists_had}
 use Rattle.fv_signal.proofs.Fits.{full_of, values_fit}
 use Rattle.fv_propagate.proofs.Ranged.{LiesIn, AreRanged, Beside, ranged_put, ranged_puts, not_clamped, spans_keep}
 
@@ -140,19 +140,6 @@ module _ (d : Diagram) (delays : List ℕ) (wf : IsWellFormed d) (free : HasNoFr
 
   pub names_within : NamesWithin d graph
   names_within s x l = names_of d AnyLimit tt tt (get_or graph.signals s x) (any_named.signals s x l)
-
-  -- ---- its tables
-
-  -- no walk over a diagram without waveforms and tables makes one
-  pub made_tableless : has_table d ≡ false → graph.tables ≡ []
-  made_tableless tableless =
-      let n = inputs d in
-      let b = HasControl d in
-      let none : List ℤ → Type 0 = λ T. ⊥ in
-      (walked_along signal_hooks still (FitsSigned w32) b none IsGood Onward (GoesOn graph) Any (λ s u. HasNone s) signals_are_orderly (signals_hold_back graph)
-      (none_keep b (GoesOn graph)) tt tt d no_slots (λ i. tt) first.0 (table n (λ i. tt)) first.1 tt wf first_wide
-      (leaves_had b none d (no_lists none d tableless) numbers (λ k h. h)) first_good goes_on (λ i. tt) (puts_tables Input n (started delays))
-      (related_places Any first.0 (table n (λ i. tt)) 0 tt (first_wide ∙ sym (length_table n (λ i. tt))) (λ i l. tt))).1
 
   -- ---- its values
 

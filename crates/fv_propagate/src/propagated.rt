@@ -1,9 +1,9 @@
 // The graph of a diagram.
 
-ghost use Rattle.std.specs.Prelude.{◌≡◌, ℕ, ◌<◌, false, List, [], length, IfOk};
+ghost use Rattle.std.specs.Prelude.{◌≡◌, ℕ, ◌<◌, List, length, IfOk};
 ghost use Rattle.fv_num.specs.headline.Interval.{Interval};
 ghost use Rattle.fv_num.specs.SpanLaws.{AreSpans};
-ghost use Rattle.fv_diagram.specs.headline.Diagram.{inputs, outputs, has_table};
+ghost use Rattle.fv_diagram.specs.headline.Diagram.{inputs, outputs};
 ghost use Rattle.fv_diagram.specs.Diagram.{IsWellFormed, HasNoFreeSlot};
 ghost use Rattle.fv_diagram.specs.Arena.{count_of, tree_of};
 ghost use Rattle.fv_interval.specs.headline.Delays.{delays_of};
@@ -36,8 +36,6 @@ pub fn propagate(
     ensures short { IfOk result (λ g. (spans : List Interval) → AreSpans spans → AreAccepted (delays_of (tree_of diagrams.now root) spans) delays.now
         → AreShort g) }
     ensures width { IfOk result (λ g. length g.outputs ≡ outputs (tree_of diagrams.now root)) }
-    // Where the diagram has no waveform and no table, the graph has none.
-    ensures tables { IfOk result (λ g. has_table (tree_of diagrams.now root) ≡ false → g.tables ≡ []) }
     ensures names { IfOk result (λ g. NamesWithin (tree_of diagrams.now root) g) }
 {
     let count = u64::from(diagrams.arity(root).inputs);

@@ -94,7 +94,7 @@ static SAMPLES: [i32; 72] = [
 ];
 
 // Expressions of at most six inputs.
-static EXPRESSIONS: [&str; 25] = [
+static EXPRESSIONS: [&str; 33] = [
     "_ <: _ + 1, _ + 1 :> _",
     "+ ~ _",
     "_ <: _, mem : -",
@@ -120,6 +120,14 @@ static EXPRESSIONS: [&str; 25] = [
     "_ @ a, _ @ 2",
     "(+,_ : +) ~ _ ~ mem",
     "_, _, _ :> _",
+    "waveform{10,-20,30}",
+    "waveform{7}, _",
+    "rdtable(4, (+(3) ~ _), _)",
+    "waveform{2,0,1} : !,_ : rdtable(3, (waveform{100,200,300} : !,_))",
+    "rdtable(waveform{5,7}, _) + rdtable(waveform{5,7}, mem)",
+    "rwtable(3, 7, _, _, _)",
+    "rwtable(2, 5, %(2), _, 1), rwtable(2, 5, _, a, 0)",
+    "rwtable(4, 1, _, _, _) ~ %(4)",
 ];
 
 // What a graph gives on these samples, so many in a frame.

@@ -4,7 +4,8 @@ ghost use Rattle.std.specs.Prelude.{◌<◌};
 ghost use Rattle.fv_parse.specs.Trees.{size_of};
 
 use fv_diagram::{Diagrams, Node};
-use fv_eval_choosing::{Bindings, Definitions, matches};
+use fv_eval_choosing::Definitions;
+use fv_eval_patterns::{Bindings, matches};
 use fv_eval_scopes::{Meaning, Scopes, Value};
 use fv_lex::{Tokens, tokens};
 use fv_parse::{Tree, TreeId, parse};

@@ -4,7 +4,8 @@ ghost use Rattle.std.specs.Prelude.{◌<◌};
 ghost use Rattle.fv_parse.specs.Trees.{size_of};
 
 use fv_diagram::{Diagrams, Node};
-use fv_eval_choosing::{Definitions, Fits};
+use fv_eval_choosing::Definitions;
+use fv_eval_patterns::Trials;
 use fv_eval_scopes::{Binding, Meaning, Numbers, Ruled, Scopes, Value};
 use fv_lex::{Tokens, tokens};
 use fv_parse::{TreeId, parse};
@@ -26,7 +27,7 @@ fn chosen(
         return Err(AllocError);
     };
     let mut numbers = Numbers::new(alloc);
-    let mut fits = Fits::new(alloc);
+    let mut trials = Trials::new(alloc);
     let ruled = Ruled::Case(TreeId::new(case));
     let arguments = [Value::Diagram(id)];
     match definitions.choose(
@@ -34,7 +35,7 @@ fn chosen(
         ruled,
         &mut diagrams,
         &mut numbers,
-        &mut fits,
+        &mut trials,
         &arguments,
     )? {
         None => Ok(None),

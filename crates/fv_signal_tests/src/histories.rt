@@ -1,103 +1,135 @@
-// Small graphs, with the rates and histories of their signals.
+// Small graphs, with the rates and histories of their signals, and what these stand for.
 
 use fv_analysis::{largest_delays, rates, stands};
 use fv_num::Op;
-use fv_share::Builder;
-use fv_signal::{Graph, Rate, Signal, SignalId};
-use std::alloc::{AllocError, Global};
+use fv_signal::{Rate, SignalId};
+use std::alloc::Global;
 use std::process::Abort;
 use std::test::Fail;
-use test_graphs::{by_a_control, late, pair};
+use test_graphs::{Line, graph_over};
 
-// Each signal has the wanted rate and history.
-fn assert_found(
-    rt: &impl Abort,
-    alloc: Global,
-    graph: &Graph,
-    wanted: &[(Rate, u32)],
-) -> Result<(), AllocError> {
-    let rates = rates(alloc, graph)?;
-    let histories = largest_delays(alloc, graph)?;
-    assert_eq!(rt; graph.len(), wanted.len() as u64);
-    for s in 0..wanted.len() {
+// A graph as a table, and of each signal its rate, its history, and for which signal it stands.
+#[derive(Clone, Copy)]
+struct Row {
+    lines: &'static [Line],
+    groups: &'static [&'static [u64]],
+    tables: &'static [&'static [i32]],
+    outputs: &'static [u64],
+    wanted: &'static [(Rate, u32, u64)],
+}
+
+const ROWS: [Row; 5] = [
+    // `_ * hslider(..)`
+    Row {
+        lines: &[Line::Input(0), Line::Control(0), Line::Pair(Op::Mul, 0, 1)],
+        groups: &[],
+        tables: &[],
+        outputs: &[2],
+        wanted: &[
+            (Rate::Sample, 0, 0),
+            (Rate::Control, 0, 1),
+            (Rate::Sample, 0, 2),
+        ],
+    },
+    // `1 + 2`, and a control more
+    Row {
+        lines: &[
+            Line::Const(1),
+            Line::Const(2),
+            Line::Pair(Op::Add, 0, 1),
+            Line::Control(0),
+            Line::Pair(Op::Add, 3, 2),
+        ],
+        groups: &[],
+        tables: &[],
+        outputs: &[2, 4],
+        wanted: &[
+            (Rate::Constant, 0, 0),
+            (Rate::Constant, 0, 1),
+            (Rate::Constant, 0, 2),
+            (Rate::Control, 0, 3),
+            (Rate::Control, 0, 4),
+        ],
+    },
+    // `mem`, and a delay of at most 3 of the same input
+    Row {
+        lines: &[
+            Line::Input(0),
+            Line::Const(1),
+            Line::Delay(0, 1, 1),
+            Line::Delay(0, 2, 3),
+        ],
+        groups: &[],
+        tables: &[],
+        outputs: &[3],
+        wanted: &[
+            (Rate::Sample, 3, 0),
+            (Rate::Constant, 0, 1),
+            (Rate::Sample, 0, 2),
+            (Rate::Sample, 0, 3),
+        ],
+    },
+    // `+ ~ _`: the member has the history of the sum for which it stands.
+    Row {
+        lines: &[
+            Line::Input(0),
+            Line::Back(0, 0),
+            Line::Pair(Op::Add, 1, 0),
+            Line::Member(0, 0),
+        ],
+        groups: &[&[2]],
+        tables: &[],
+        outputs: &[3],
+        wanted: &[
+            (Rate::Sample, 0, 0),
+            (Rate::Sample, 0, 1),
+            (Rate::Sample, 1, 2),
+            (Rate::Sample, 1, 2),
+        ],
+    },
+    // An item of a table has the rate of its place, and one of a table that is written has the samples'.
+    Row {
+        lines: &[
+            Line::Const(1),
+            Line::Read(0, 0),
+            Line::Control(0),
+            Line::Read(0, 2),
+            Line::Write(0, 0, 2, 0),
+            Line::Delay(4, 0, 2),
+        ],
+        groups: &[],
+        tables: &[&[7, 8, 9]],
+        outputs: &[1, 3, 5],
+        wanted: &[
+            (Rate::Constant, 0, 0),
+            (Rate::Constant, 0, 1),
+            (Rate::Control, 0, 2),
+            (Rate::Control, 0, 3),
+            (Rate::Sample, 2, 4),
+            (Rate::Sample, 0, 5),
+        ],
+    },
+];
+
+// The signals of the graph have these.
+fn assert_found(rt: &impl Abort, alloc: Global, row: &Row) -> Result<(), Fail> {
+    let graph = graph_over(alloc, row.lines, row.groups, row.tables, row.outputs)?;
+    let rates = rates(alloc, &graph)?;
+    let histories = largest_delays(alloc, &graph)?;
+    let stands = stands(alloc, &graph)?;
+    assert!(rt; graph.len() == row.wanted.len() as u64 && stands.len() == row.wanted.len());
+    for s in 0..row.wanted.len() {
         let id = SignalId::new(s as u64);
-        assert_eq!(rt; rates.get(id), wanted[s].0, "rate of {s}");
-        assert_eq!(rt; histories.get(id), wanted[s].1, "history of {s}");
+        let found = (rates.get(id), histories.get(id), stands[s].number());
+        assert_eq!(rt; found, row.wanted[s], "signal {s}");
     }
     Ok(())
 }
 
-// `_ * hslider(..)`
 #[test]
-fn an_input_times_a_control(rt: HostRuntime) -> Result<(), Fail> {
-    let graph = by_a_control(rt.alloc())?;
-    let wanted = [(Rate::Sample, 0), (Rate::Control, 0), (Rate::Sample, 0)];
-    assert_found(&rt, rt.alloc(), &graph, &wanted)?;
-    Ok(())
-}
-
-// `1 + 2`, and a control more
-#[test]
-fn a_sum_of_constants(rt: HostRuntime) -> Result<(), Fail> {
-    let mut builder = Builder::new(rt.alloc());
-    let one = builder.node(Signal::Const(1))?;
-    let two = builder.node(Signal::Const(2))?;
-    let sum = pair(&mut builder, Op::Add, one, two)?;
-    let control = builder.node(Signal::Control(0))?;
-    let more = pair(&mut builder, Op::Add, control, sum)?;
-    let graph = builder.finish(&[sum, more])?;
-    let wanted = [
-        (Rate::Constant, 0),
-        (Rate::Constant, 0),
-        (Rate::Constant, 0),
-        (Rate::Control, 0),
-        (Rate::Control, 0),
-    ];
-    assert_found(&rt, rt.alloc(), &graph, &wanted)?;
-    Ok(())
-}
-
-// `mem`, and a delay of at most 3 of the same input
-#[test]
-fn delays_of_an_input(rt: HostRuntime) -> Result<(), Fail> {
-    let mut builder = Builder::new(rt.alloc());
-    let input = builder.node(Signal::Input(0))?;
-    let last = late(&mut builder, input, 1)?;
-    let older = builder.node(Signal::Delay {
-        x: input,
-        d: last,
-        max: 3,
-    })?;
-    let graph = builder.finish(&[older])?;
-    let wanted = [
-        (Rate::Sample, 3),
-        (Rate::Constant, 0),
-        (Rate::Sample, 0),
-        (Rate::Sample, 0),
-    ];
-    assert_found(&rt, rt.alloc(), &graph, &wanted)?;
-    Ok(())
-}
-
-// `+ ~ _`: the member has the history of the sum for which it stands.
-#[test]
-fn a_running_sum(rt: HostRuntime) -> Result<(), Fail> {
-    let mut builder = Builder::new(rt.alloc());
-    let input = builder.node(Signal::Input(0))?;
-    let group = builder.group()?;
-    let last = builder.node(Signal::Back { group, i: 0 })?;
-    let sum = pair(&mut builder, Op::Add, last, input)?;
-    builder.close_group(group, &[sum])?;
-    let member = builder.node(Signal::Member { group, i: 0 })?;
-    let graph = builder.finish(&[member])?;
-    let wanted = [
-        (Rate::Sample, 0),
-        (Rate::Sample, 0),
-        (Rate::Sample, 1),
-        (Rate::Sample, 1),
-    ];
-    assert_found(&rt, rt.alloc(), &graph, &wanted)?;
-    let stands = stands(rt.alloc(), &graph)?;
-    assert_eq!(rt; stands.as_slice(), [input, last, sum, sum].as_slice());
+fn small_graphs(rt: HostRuntime) -> Result<(), Fail> {
+    for row in &ROWS {
+        assert_found(&rt, rt.alloc(), row)?;
+    }
     Ok(())
 }

@@ -39,16 +39,19 @@ fn sum(alloc: Global) -> Result<Graph, AllocError>
 #[test]
 fn a_graph_is_read(rt: HostRuntime) -> Result<(), Fail> {
     let graph = sum(rt.alloc())?;
-    assert_eq!(rt; graph.len(), 4);
-    assert_eq!(rt; graph.groups(), 1);
-    assert!(rt; !graph.is_empty());
-    assert_eq!(rt; graph.signal(SignalId::new(0)), Signal::Input(0));
     assert_eq!(rt;
-        graph.signal(SignalId::new(3)),
-        Signal::Member { group: 0, i: 0 }
+        (graph.len(), graph.groups(), graph.is_empty()),
+        (4, 1, false)
     );
-    assert_eq!(rt; graph.outputs(), [SignalId::new(3)].as_slice());
-    assert_eq!(rt; graph.group(0), [SignalId::new(2)].as_slice());
-    assert_eq!(rt; SignalId::new(7).number(), 7);
+    let read = [
+        graph.signal(SignalId::new(0)),
+        graph.signal(SignalId::new(3)),
+    ];
+    assert_eq!(rt; read, [Signal::Input(0), Signal::Member { group: 0, i: 0 }]);
+    let (output, definition) = ([SignalId::new(3)], [SignalId::new(2)]);
+    assert_eq!(rt;
+        (graph.outputs(), graph.group(0), SignalId::new(7).number()),
+        (output.as_slice(), definition.as_slice(), 7)
+    );
     Ok(())
 }

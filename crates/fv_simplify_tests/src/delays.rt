@@ -1,95 +1,118 @@
 // Delays of delays.
 
 use crate::outputs::first_by_number;
-use fv_share::Builder;
-use fv_signal::Signal;
+use fv_signal::{Graph, Signal};
 use fv_simplify::{are_short, simplify};
 use std::process::Abort;
 use std::test::Fail;
-use test_graphs::late;
+use test_graphs::{Line, graph_of};
 
-#[test]
-fn two_in_a_row_are_one(rt: HostRuntime) -> Result<(), Fail> {
-    let mut builder = Builder::new(rt.alloc());
-    let input = builder.node(Signal::Input(0))?;
-    let two = late(&mut builder, input, 2)?;
-    let five = late(&mut builder, two, 3)?;
-    let graph = builder.finish(&[five])?;
-    assert!(rt; are_short(&graph));
-    let simpler = simplify(rt.alloc(), &graph, &[])?;
-    assert_eq!(rt; first_by_number(&simpler), Some((Signal::Input(0), 5)));
-    Ok(())
+// A graph as a table, and of its first output, once it is simpler, the number by which it is late, and whether that is of this signal.
+type Row<'a> = (&'a [Line], &'a [u64], u32, Signal, bool);
+
+const ROWS: [Row; 5] = [
+    // Two in a row are one,
+    (
+        &[
+            Line::Input(0),
+            Line::Const(2),
+            Line::Delay(0, 1, 2),
+            Line::Const(3),
+            Line::Delay(2, 3, 3),
+        ],
+        &[4],
+        5,
+        Signal::Input(0),
+        true,
+    ),
+    // also where the first is an output, which is kept beside.
+    (
+        &[
+            Line::Input(0),
+            Line::Const(2),
+            Line::Delay(0, 1, 2),
+            Line::Const(3),
+            Line::Delay(2, 3, 3),
+        ],
+        &[4, 2],
+        5,
+        Signal::Input(0),
+        true,
+    ),
+    // One that another reads by a signal stays,
+    (
+        &[
+            Line::Input(0),
+            Line::Const(2),
+            Line::Delay(0, 1, 2),
+            Line::Const(3),
+            Line::Delay(2, 3, 3),
+            Line::Control(0),
+            Line::Delay(2, 5, 4),
+        ],
+        &[4, 6],
+        3,
+        Signal::Input(0),
+        false,
+    ),
+    // and so does one where both together are over the limit.
+    (
+        &[
+            Line::Input(0),
+            Line::Const(8_388_609),
+            Line::Delay(0, 1, 8_388_609),
+            Line::Delay(2, 1, 8_388_609),
+        ],
+        &[3],
+        8_388_609,
+        Signal::Input(0),
+        false,
+    ),
+    // A number is delayed.
+    (
+        &[
+            Line::Const(5),
+            Line::Const(1),
+            Line::Delay(0, 1, 1),
+            Line::Delay(2, 1, 1),
+        ],
+        &[3],
+        2,
+        Signal::Const(5),
+        true,
+    ),
+];
+
+// By how many samples the first output is late, and whether that is of this signal.
+fn lateness(graph: &Graph, of: Signal) -> Option<(u32, bool)> {
+    match first_by_number(graph) {
+        Some((signal, by)) => Some((by, signal == of)),
+        None => None,
+    }
 }
 
 #[test]
-fn one_that_is_an_output_is_kept_beside(rt: HostRuntime) -> Result<(), Fail> {
-    let mut builder = Builder::new(rt.alloc());
-    let input = builder.node(Signal::Input(0))?;
-    let two = late(&mut builder, input, 2)?;
-    let five = late(&mut builder, two, 3)?;
-    let graph = builder.finish(&[five, two])?;
-    assert!(rt; are_short(&graph));
-    let simpler = simplify(rt.alloc(), &graph, &[])?;
-    assert_eq!(rt; first_by_number(&simpler), Some((Signal::Input(0), 5)));
-    assert_eq!(rt; simpler.outputs().len(), 2);
-    Ok(())
-}
-
-#[test]
-fn one_that_another_reads_by_a_signal_stays(rt: HostRuntime) -> Result<(), Fail> {
-    let mut builder = Builder::new(rt.alloc());
-    let input = builder.node(Signal::Input(0))?;
-    let two = late(&mut builder, input, 2)?;
-    let five = late(&mut builder, two, 3)?;
-    let d = builder.node(Signal::Control(0))?;
-    let varying = builder.node(Signal::Delay { x: two, d, max: 4 })?;
-    let graph = builder.finish(&[five, varying])?;
-    assert!(rt; are_short(&graph));
-    let simpler = simplify(rt.alloc(), &graph, &[])?;
-    let (read, by) = first_by_number(&simpler).unwrap_or((Signal::Input(0), 5));
-    assert_eq!(rt; by, 3);
-    assert_ne!(rt; read, Signal::Input(0));
-    Ok(())
-}
-
-#[test]
-fn a_sum_over_the_limit_stays(rt: HostRuntime) -> Result<(), Fail> {
-    let mut builder = Builder::new(rt.alloc());
-    let input = builder.node(Signal::Input(0))?;
-    let d = builder.node(Signal::Const(8_388_609))?;
-    let max = 8_388_609;
-    let first = builder.node(Signal::Delay { x: input, d, max })?;
-    let second = builder.node(Signal::Delay { x: first, d, max })?;
-    let graph = builder.finish(&[second])?;
-    assert!(rt; are_short(&graph));
-    let simpler = simplify(rt.alloc(), &graph, &[])?;
-    let (read, by) = first_by_number(&simpler).unwrap_or((Signal::Input(0), 0));
-    assert_eq!(rt; by, 8_388_609);
-    assert_ne!(rt; read, Signal::Input(0));
-    Ok(())
-}
-
-#[test]
-fn a_number_is_delayed(rt: HostRuntime) -> Result<(), Fail> {
-    let mut builder = Builder::new(rt.alloc());
-    let five = builder.node(Signal::Const(5))?;
-    let one = late(&mut builder, five, 1)?;
-    let two = late(&mut builder, one, 1)?;
-    let graph = builder.finish(&[two])?;
-    assert!(rt; are_short(&graph));
-    let simpler = simplify(rt.alloc(), &graph, &[])?;
-    assert_eq!(rt; first_by_number(&simpler), Some((Signal::Const(5), 2)));
+fn delays_of_delays(rt: HostRuntime) -> Result<(), Fail> {
+    for (lines, outputs, late, of, is_of) in ROWS {
+        let graph = graph_of(rt.alloc(), lines, &[], outputs)?;
+        assert!(rt; are_short(&graph));
+        let simpler = simplify(rt.alloc(), &graph, &[])?;
+        assert_eq!(rt;
+            (lateness(&simpler, of), simpler.outputs().len()),
+            (Some((late, is_of)), outputs.len())
+        );
+    }
     Ok(())
 }
 
 #[test]
 fn a_long_delay_is_told(rt: HostRuntime) -> Result<(), Fail> {
-    let mut builder = Builder::new(rt.alloc());
-    let x = builder.node(Signal::Input(0))?;
-    let d = builder.node(Signal::Control(0))?;
-    let max = 16_777_217;
-    let long = builder.node(Signal::Delay { x, d, max })?;
-    let graph = builder.finish(&[long])?;
+    let lines = [
+        Line::Input(0),
+        Line::Control(0),
+        Line::Delay(0, 1, 16_777_217),
+    ];
+    let graph = graph_of(rt.alloc(), &lines, &[], &[2])?;
     assert!(rt; !are_short(&graph));
     Ok(())
 }

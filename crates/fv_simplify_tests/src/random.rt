@@ -1,13 +1,12 @@
 // Graphs that are made at random.
 
-ghost use Rattle.std.specs.Prelude.{◌≡◌, ℕ, ◌<◌, ◌≤◌, length, IfOk, OnOk};
-ghost use Rattle.fv_share.specs.Drafts.{CanPut, OperandsThere, IsPending, BacksWithin, AreClosed};
-ghost use Rattle.fv_simplify_tests.specs.Random.{NamesOnly};
+ghost use Rattle.std.specs.Prelude.{◌<◌};
 
 use fv_num::Op;
-use fv_share::Builder;
-use fv_signal::{Graph, Signal, SignalId};
+use fv_signal::Graph;
 use std::alloc::{AllocError, Global};
+use std::test::Fail;
+use test_graphs::{Line, graph_over};
 
 /// Numbers that follow one from another.
 #[derive(Drop)]
@@ -18,11 +17,10 @@ pub(crate) struct Numbers {
 impl Numbers {
     /// The next one: below so many, which are few.
     pub(crate) fn below(&mut self, count: u64) -> u64
-        requires { 0 < count }
-        ensures { result < count }
+        ensures { 0 < count → result < count }
     {
         self.last = self.last.wrapping_mul(1_103_515_245).wrapping_add(12_345);
-        u64::from(self.last >> 16) % count
+        u64::from(self.last >> 16).checked_rem(count).unwrap_or(0)
     }
 }
 
@@ -51,142 +49,104 @@ const OPERATIONS: [Op; 21] = [
     Op::Select3,
 ];
 
-// How many signals stand first: numbers, two inputs, two controls.
-const FIRST: u64 = 11;
+// The signals that stand first.
+const FIRST: [Line; 11] = [
+    Line::Const(0),
+    Line::Const(1),
+    Line::Const(-1),
+    Line::Const(2),
+    Line::Const(3),
+    Line::Const(5),
+    Line::Const(32),
+    Line::Input(0),
+    Line::Input(1),
+    Line::Control(0),
+    Line::Control(1),
+];
 
-// One of the first so many signals: any, one of those that stand first, or one of the latest.
-fn pick(numbers: &mut Numbers, count: u64) -> SignalId
-    requires { 0 < count }
-    ensures { result < count }
-{
-    let place = match numbers.below(4) {
+// The lines among these that say by how many samples a signal can be late, and these samples.
+const LATE: [(u64, u32); 4] = [(1, 1), (3, 2), (4, 3), (5, 5)];
+
+// Two tables.
+const TABLES: [&[i32]; 2] = [&[5, -1, 0, 700, -32], &[9, 2]];
+
+// One of the first so many lines: any, one of those that stand first, or one of the latest.
+fn pick(numbers: &mut Numbers, count: u64) -> u64 {
+    match numbers.below(4) {
         0 => numbers.below(count),
-        1 => numbers.below(count.min(FIRST)),
-        _ => count - 1 - numbers.below(count.min(8)),
-    };
-    SignalId::new(place)
+        1 => numbers.below(count.min(11)),
+        _ => count.saturating_sub(numbers.below(count.min(8)).saturating_add(1)),
+    }
 }
 
-// A signal over the first so many, which may be a member of this group a sample earlier.
-fn any(numbers: &mut Numbers, count: u64, group: u64) -> Signal
-    requires { 0 < count }
-    ensures operands { OperandsThere count result }
-    ensures names { NamesOnly group result }
-{
+// A line over the first so many, which may be a member of this group a sample earlier.
+fn any(numbers: &mut Numbers, count: u64, group: u64) -> Line {
     let kind = numbers.below(8);
     if kind == 0 {
-        let i = numbers.below(3);
-        return Signal::Back { group, i };
+        return Line::Back(group, numbers.below(3));
     }
     let x = pick(numbers, count);
+    if kind == 1 {
+        let (late, by) = LATE[numbers.below(4) as usize];
+        return Line::Delay(x, late, by);
+    }
     let y = pick(numbers, count);
     if kind < 4 {
-        let max = numbers.below(7) as u32;
-        return Signal::Delay { x, d: y, max };
+        return Line::Delay(x, y, numbers.below(7) as u32);
+    }
+    let z = pick(numbers, count);
+    if kind == 4 {
+        return if numbers.below(2) == 0 {
+            Line::Read(numbers.below(2), x)
+        } else {
+            Line::Write(numbers.below(2), x, y, z)
+        };
     }
     let op = OPERATIONS[numbers.below(21) as usize];
-    let args = [x, y, pick(numbers, count), pick(numbers, count)];
-    Signal::Point { op, args }
+    Line::Point(op, [x, y, z, pick(numbers, count)])
 }
 
-// A signal more. The groups stay as they are.
-fn put(builder: &mut Builder, signal: Signal, count: u64) -> Result<u64, AllocError>
-    requires can { CanPut builder.old signal }
-    requires count { count ≤ length builder.old.signals }
-    ensures there { IfOk result (λ n. n ≤ length builder.new.signals) }
-    ensures more { IfOk result (λ n. count ≤ n) }
-    ensures some { IfOk result (λ n. 0 < n) }
-    ensures groups { OnOk result (builder.new.groups ≡ builder.old.groups) }
-    ensures closed { OnOk result (builder.new.closed ≡ builder.old.closed) }
-    ensures backs { OnOk result ((group : ℕ) → NamesOnly group signal → BacksWithin builder.old group 3 → BacksWithin builder.new group 3) }
-{
-    let id = builder.node(signal)?;
-    Ok(count.max(id.number().saturating_add(1)))
-}
-
-// The signals that stand first, and how many there are.
-fn begin(builder: &mut Builder) -> Result<u64, AllocError>
-    requires { AreClosed builder.old }
-    ensures there { IfOk result (λ n. n ≤ length builder.new.signals) }
-    ensures some { IfOk result (λ n. 0 < n) }
-    ensures closed { OnOk result (AreClosed builder.new) }
-{
-    let mut count = 0;
-    for n in [0, 1, -1, 2, 3, 5, 32] {
-        count = put(builder, Signal::Const(n), count)?;
-    }
-    for k in 0..2 {
-        count = put(builder, Signal::Input(k), count)?;
-    }
-    let count = put(builder, Signal::Control(0), count)?;
-    put(builder, Signal::Control(1), count)
-}
-
-// So many signals more, while a group waits for its three members.
+// A group more: so many lines that may read its members a sample earlier, three of them as its members, and two of these.
 fn grow(
-    builder: &mut Builder,
+    lines: &mut Vec<Line>,
     numbers: &mut Numbers,
-    first: u64,
     group: u64,
-    more: u32,
-) -> Result<u64, AllocError>
-    requires pending { IsPending builder.old group }
-    requires backs { BacksWithin builder.old group 3 }
-    requires some { 0 < first }
-    requires there { first ≤ length builder.old.signals }
-    ensures there { IfOk result (λ n. n ≤ length builder.new.signals) }
-    ensures more { IfOk result (λ n. first ≤ n) }
-    ensures groups { OnOk result (builder.new.groups ≡ builder.old.groups) }
-    ensures closed { OnOk result (builder.new.closed ≡ builder.old.closed) }
-    ensures backs { OnOk result (BacksWithin builder.new group 3) }
-{
-    let mut count = first;
+    more: u64,
+) -> Result<[u64; 3], AllocError> {
     for _ in 0..more {
-        let signal = any(numbers, count, group);
-        count = put(builder, signal, count)?;
+        let count = lines.len() as u64;
+        lines.push(any(numbers, count, group))?;
     }
-    Ok(count)
-}
-
-// A group more: so many signals that may read its members a sample earlier, three of them as its members, and these.
-fn grow_group(
-    builder: &mut Builder,
-    numbers: &mut Numbers,
-    first: u64,
-    more: u32,
-) -> Result<u64, AllocError>
-    requires closed { AreClosed builder.old }
-    requires some { 0 < first }
-    requires there { first ≤ length builder.old.signals }
-    ensures there { IfOk result (λ n. n ≤ length builder.new.signals) }
-    ensures some { IfOk result (λ n. 0 < n) }
-    ensures closed { OnOk result (AreClosed builder.new) }
-{
-    let group = builder.group()?;
-    let count = grow(builder, numbers, first, group, more)?;
+    let count = lines.len() as u64;
     let members = [
         pick(numbers, count),
         pick(numbers, count),
         pick(numbers, count),
     ];
-    builder.close_group(group, &members)?;
-    let count = put(builder, Signal::Member { group, i: 0 }, count)?;
-    put(builder, Signal::Member { group, i: 2 }, count)
+    lines.extend_from_slice(&[Line::Member(group, 0), Line::Member(group, 2)])?;
+    Ok(members)
 }
 
 /// A graph with some groups and outputs, which follows from the numbers.
-pub(crate) fn random(alloc: Global, numbers: &mut Numbers) -> Result<Graph, AllocError> {
-    let mut builder = Builder::new(alloc);
-    let mut count = begin(&mut builder)?;
-    for _ in 0..3 {
-        let more = numbers.below(20) as u32;
-        count = grow_group(&mut builder, numbers, count, more)?;
+pub(crate) fn random(alloc: Global, numbers: &mut Numbers) -> Result<Graph, Fail> {
+    let mut lines = Vec::from_slice(alloc, &FIRST)?;
+    let mut groups = [[0; 3]; 3];
+    for group in 0..3 {
+        let more = numbers.below(20);
+        groups[group] = grow(&mut lines, numbers, group as u64, more)?;
     }
+    let count = lines.len() as u64;
     let outputs = [
         pick(numbers, count),
         pick(numbers, count),
         pick(numbers, count),
         pick(numbers, count),
     ];
-    builder.finish(&outputs)
+    graph_over(
+        alloc,
+        &lines,
+        &[&groups[0], &groups[1], &groups[2]],
+        &TABLES,
+        &outputs,
+    )
 }

@@ -70,7 +70,13 @@ fn reads(graph: &Graph, r: SignalId, s: SignalId) -> bool
     match graph.signal(r) {
         Signal::Point { op, args } => args[..op.inputs() as usize].contains(&s),
         Signal::Delay { x, d, max: _ } => x == s || d == s,
-        _ => false,
+        Signal::Read { table: _, r } => r == s,
+        Signal::Write { table: _, w, x, r } => w == s || x == s || r == s,
+        Signal::Input(_)
+        | Signal::Const(_)
+        | Signal::Control(_)
+        | Signal::Back { .. }
+        | Signal::Member { .. } => false,
     }
 }
 
@@ -180,7 +186,13 @@ pub(crate) fn rule_of(graph: &Graph, s: SignalId) -> Option<Rule>
     match graph.signal(s) {
         Signal::Point { op, args } => rule_of_operation(graph, op, &args[..op.inputs() as usize]),
         Signal::Delay { x, d, max } => rule_of_delay(graph, x, d, max),
-        _ => None,
+        Signal::Input(_)
+        | Signal::Const(_)
+        | Signal::Control(_)
+        | Signal::Back { .. }
+        | Signal::Member { .. }
+        | Signal::Read { .. }
+        | Signal::Write { .. } => None,
     }
 }
 

@@ -1,5 +1,5 @@
 -- Lists that are made item by item, each from its place.
-use Rattle.std.proofs.Common.{◌≡◌, inl, inr, ℕ, ◌+◌, ◌<◌, ◌≤◌, List, [], ◌∷◌, ◌++◌, length, get_or, refl, sym, ap, ◌∙◌, subst, arith}
+use Rattle.std.proofs.Common.{◌≡◌, inl, inr, ℕ, ◌+◌, ◌<◌, List, [], ◌∷◌, ◌++◌, length, get_or, refl, sym, ap, ◌∙◌, subst, arith}
 use Rattle.std.specs.Prelude.{Option, Vec}
 use Rattle.std.specs.declared.alloc.Global.{Global}
 use Rattle.std.proofs.lemmas.Bool.{cases_lt}
@@ -86,7 +86,7 @@ pub code_behind : (front rest : List (Vec Step Global)) (v : Vec Step Global) �
 code_behind [] rest v = refl
 code_behind (c ∷ cs) rest v = code_behind cs rest v
 
--- ---- the same of equal tables
+-- ---- the same of equal lists
 
 pub same_bases : (g : Graph) (stands stands' : List ℕ) (rates rates' : List Rate) (lanes lanes' : List (Option ℕ)) (numbers numbers' : List ℕ) (n : ℕ)
     (bases : List Kind) →

@@ -1,31 +1,31 @@
 -- The parts that the passes make are a plan of the graph.
-use Rattle.std.proofs.Common.{◌≡◌, ◌≢◌, ◌⊎◌, inl, inr, ℕ, zero, suc, ◌+◌, ◌*◌, ◌<◌, ◌≤◌, List, [], ◌∷◌, length, map, get_or, refl, sym, ap, ap₂, ◌∙◌, subst}
-use Rattle.std.proofs.Common.{arith, pos, ℤ, Bool, true, false}
-use Rattle.std.specs.Prelude.{All, Vec, Option, None, Some, unwrap_or, nat_lt, nat_eq, ◌==◌, ◌&&◌, ◌↔◌}
+use Rattle.std.proofs.Common.{◌≡◌, ◌≢◌, inl, inr, ℕ, zero, suc, ◌+◌, ◌<◌, ◌≤◌, List, [], ◌∷◌, length, map, get_or, refl, sym, ap, ap₂, ◌∙◌, subst}
+use Rattle.std.proofs.Common.{arith, pos, ℤ, true, false}
+use Rattle.std.specs.Prelude.{All, Vec, Some, unwrap_or, nat_lt, nat_eq, ◌==◌, ◌&&◌}
 use Rattle.std.specs.declared.alloc.Global.{Global}
-use Rattle.std.proofs.lemmas.Bool.{cases_lt, lt-ltb, le-ltb}
+use Rattle.std.proofs.lemmas.Bool.{cases_lt, le-ltb}
 use Rattle.std.proofs.lemmas.List.{get_or_default, length-map}
-use Rattle.std.proofs.lemmas.List.Elements.{All-get_or, All-from_get_or, All-nil}
+use Rattle.std.proofs.lemmas.List.Elements.{All-from_get_or, All-nil}
 use Rattle.std.proofs.lemmas.Option.{slice_get_past}
-use Rattle.fv_base.proofs.Lists.{length_table, get_or_table, table_items, map_table}
-use Rattle.fv_num.specs.headline.Frames.{Frame, Stream, column, table}
+use Rattle.fv_base.proofs.Lists.{get_or_table, table_items, map_table}
+use Rattle.fv_num.specs.headline.Frames.{table}
 use Rattle.fv_outside.specs.declared.tasks.Reads.{Reads}
 use Rattle.fv_outside.specs.headline.Tasks.{bit, total, reads_loop}
 use Rattle.fv_signal.specs.declared.signal.Signal.TheVariants as signal
-use Rattle.fv_signal.specs.headline.Value.{Graph, table_of, value, IsGraph, NamesWithin}
-use Rattle.fv_split_components.specs.headline.Reach.{at, Reaches}
+use Rattle.fv_signal.specs.headline.Value.{Graph, value, IsGraph, NamesWithin}
+use Rattle.fv_split_components.specs.headline.Reach.{at}
 use Rattle.fv_loopcode.specs.declared.step.Step.{Step}
 use Rattle.fv_loopcode.specs.declared.step.Step.TheVariants as step
 use Rattle.fv_loopcode.specs.declared.counts.Counts.{Counts}
 use Rattle.fv_loopcode.specs.headline.State.{list_at}
 use Rattle.fv_loopcode.specs.headline.Code.{registers_after, NamesHeld, NamesInput, IsStill}
-use Rattle.fv_loopcode.specs.Code.{NamesThere, AreSound, IsSound, OperandsBelow}
-use Rattle.fv_loopcode.specs.headline.Obeys.{Roles, Place, OfLane, OfCells, nothing, ObeysStreams}
-use Rattle.fv_analysis.specs.headline.Stands.{node, stand, stands_of}
+use Rattle.fv_loopcode.specs.Code.{NamesThere, AreSound, IsSound}
+use Rattle.fv_loopcode.specs.headline.Obeys.{Place, OfLane, OfCells, nothing}
+use Rattle.fv_analysis.specs.headline.Stands.{stand, stands_of}
 use Rattle.fv_analysis.specs.headline.History.{history_of}
 use Rattle.fv_split_plan.specs.declared.lane.LaneInfo.{LaneInfo}
 use Rattle.fv_split_plan.specs.declared.lane.CellsInfo.{CellsInfo}
-use Rattle.fv_split_plan.specs.headline.Separated.{links_of, IsSeparated, AsOutput}
+use Rattle.fv_split_plan.specs.headline.Separated.{IsSeparated, AsOutput}
 use Rattle.fv_split_plan.specs.Separated.{IsWritten, lane_at, cells_at}
 use Rattle.fv_split_plan.specs.headline.Fits.{Names}
 use Rattle.fv_split_plan.specs.Fits.{CodeFits}
@@ -42,10 +42,10 @@ use Rattle.fv_split_code.specs.Held.{ReadsWithin, HoldsUpTo}
 use Rattle.fv_split_code.proofs.LoadLemmas.{fits_loaded, loads_may, held_counted, inputs_named, loads_within, code_sound}
 use Rattle.fv_split.specs.inner.Lists.{AreInfos, AreCoded, lane_of}
 use Rattle.fv_split.specs.declared.cells.Cells.{Cells}
-use Rattle.fv_split.specs.inner.Cells.{AreOf, AreCells}
-use Rattle.fv_split.specs.inner.ToldReads.{ReadsSoFar, LoadsAmong, reads_of_loops}
-use Rattle.fv_split.proofs.TellLemmas.{IsTold, LoadsFrom, LoopReads, all_told, few_pairs}
-use Rattle.fv_split.proofs.SuitLemmas.{Passes, tables_of, names_of, own_places, lower_loaded, MayLoad, may_load, in_loop, cells_in_loop, suits}
+use Rattle.fv_split.specs.inner.Cells.{AreOf}
+use Rattle.fv_split.specs.inner.ToldReads.{LoadsAmong, reads_of_loops}
+use Rattle.fv_split.proofs.TellLemmas.{IsTold, LoopReads, all_told, few_pairs}
+use Rattle.fv_split.proofs.SuitLemmas.{Passes, survey_of, names_of, own_places, lower_loaded, MayLoad, may_load, in_loop, cells_in_loop, suits}
 use Rattle.fv_split.proofs.SuitLemmas.{separated_lane}
 
 map_items : (f : ℕ → ℤ) (xs : List ℕ) → map f xs ≡ table (length xs) (λ k. f (at xs k))
@@ -75,7 +75,7 @@ held_within g v e (step.Write cells args) h r = absurd h
 
 module _ (g : Graph) (p : Lanes) (stands : Vec ℕ Global) (bases kinds : Vec Kind Global) (cells : Cells) (numbers : List ℕ) (steps : List Step)
     (passes : Passes g p stands bases kinds cells numbers steps)
-    (codes : List (Vec Step Global)) (are_codes : AreCodes g (tables_of p stands bases kinds cells) p.loops codes) where
+    (codes : List (Vec Step Global)) (are_codes : AreCodes g (survey_of p stands bases kinds cells) p.loops codes) where
   abbrev graph : IsGraph g
   graph = passes.graph
 
@@ -264,8 +264,8 @@ module _ (g : Graph) (p : Lanes) (stands : Vec ℕ Global) (bases kinds : Vec Ki
     fits_plan : (j : ℕ) → j < p.loops → CodeFits g names (roles_of plan j) nothing [] (code_of plan j)
     fits_plan j l =
         subst (CodeFits g names (roles_of plan j) nothing []) (sym (code_is j))
-        (fits_loaded g names (lower_loaded owners infos_of_cells j) (roles_of plan j) (same_owner j) nothing [] (code_in codes j) (λ k e. ap (loads_lane k) (code_is j)
-        ∙ e) (λ t e. ap (reads_table t) (code_is j) ∙ e) (fits j l))
+        (fits_loaded g names (lower_loaded owners infos_of_cells j) (roles_of plan j) (same_owner j) nothing [] (code_in codes j)
+        (λ k e. ap (loads_lane k) (code_is j) ∙ e) (λ t e. ap (reads_table t) (code_is j) ∙ e) (fits j l))
 
     -- a loaded lane is there, and of no greater loop
     loaded_low : (j l : ℕ) → loads_lane l (code_in codes j) ≡ true → (j < p.loops) × MayLoad owners j l
@@ -391,6 +391,7 @@ module _ (g : Graph) (p : Lanes) (stands : Vec ℕ Global) (bases kinds : Vec Ki
 -- a plan with equal code for the held values
 pub with_held : {g : Graph} {loops : ℕ} {infos : List LaneInfo} {tables : List (List ℤ)} {cells : List CellsInfo} {all : List (List Step)} {told : List Reads}
     {outputs : List ℕ} {steps held : List Step} →
-    held ≡ steps → IsPlanOf g (plan_with loops infos tables cells all told outputs steps) → IsPlanOf g (plan_with loops infos tables cells all told outputs held)
+    held ≡ steps → IsPlanOf g (plan_with loops infos tables cells all told outputs steps) →
+    IsPlanOf g (plan_with loops infos tables cells all told outputs held)
 with_held {g} {loops} {infos} {tables} {cells} {all} {told} {outputs} e p =
     subst (λ ss. IsPlanOf g (plan_with loops infos tables cells all told outputs ss)) (sym e) p

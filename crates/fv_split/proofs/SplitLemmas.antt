@@ -1,15 +1,13 @@
 -- What the passes are given.
-use Rattle.std.proofs.Common.{◌≡◌, ℕ, ◌<◌, ◌≤◌, List, [], length, get_or, sym, ap, ◌∙◌, subst, arith, All}
+use Rattle.std.proofs.Common.{◌≡◌, ℕ, ◌<◌, List, [], length, get_or, sym, ap, subst, arith, All}
 use Rattle.std.specs.Prelude.{Option}
 use Rattle.std.proofs.lemmas.List.Elements.{All-from_get_or, All-weaker}
 use Rattle.fv_signal.specs.headline.Value.{Graph, IsGraph}
 use Rattle.fv_signal.specs.headline.Rates.{rate_in, rate_at, rates}
 use Rattle.fv_signal.proofs.Grown.{length_grown}
-use Rattle.fv_split_components.specs.headline.Reach.{at}
 use Rattle.fv_loopcode.specs.declared.step.Step.{Step}
 use Rattle.fv_loopcode.specs.declared.step.Step.TheVariants as step
 use Rattle.fv_loopcode.specs.headline.Code.{IsStill}
-use Rattle.fv_loopcode.specs.declared.counts.Counts.{Counts}
 use Rattle.fv_loopcode.specs.Code.{AreSound, NamesThere}
 use Rattle.fv_analysis.specs.headline.Stands.{stands_of}
 use Rattle.fv_analysis.proofs.StandLemmas.{stands_long}

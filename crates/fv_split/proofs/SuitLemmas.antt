@@ -1,6 +1,6 @@
--- The tables that the passes make suit the graph.
-use Rattle.std.proofs.Common.{◌≡◌, ◌≢◌, ◌⊎◌, inl, inr, ℕ, zero, suc, ◌<◌, ◌≤◌, List, [], ◌∷◌, length, get_or, refl, sym, ap, ap₂, ◌∙◌, subst, arith, ℤ, pos}
-use Rattle.std.proofs.Common.{Bool, true, false}
+-- The survey that the passes make suits the graph.
+use Rattle.std.proofs.Common.{◌≡◌, ◌≢◌, inl, inr, ℕ, ◌<◌, ◌≤◌, List, length, refl, sym, ap, ◌∙◌, subst, arith, ℤ, pos}
+use Rattle.std.proofs.Common.{Bool, true}
 use Rattle.std.specs.Prelude.{Vec, Option, None, Some, unwrap_or, nat_lt, nat_le, nat_eq, ◌&&◌}
 use Rattle.std.specs.declared.alloc.Global.{Global}
 use Rattle.std.proofs.lemmas.Bool.{and_parts, lt-ltb, ltb-true, le-leb, leb-true, eq-eqb, eqb-true}
@@ -24,7 +24,7 @@ use Rattle.fv_analysis.proofs.HistoryLemmas.{histories_cover}
 use Rattle.fv_split_plan.specs.headline.Separated.{operands, links_of, IsComputed, IsSeparated, AsOutput, AsDelayed, AsDefinition, AsShared, AsWritten}
 use Rattle.fv_split_plan.specs.headline.Separated.{ReadsSignal}
 use Rattle.fv_split_plan.specs.declared.lane.CellsInfo.{CellsInfo}
-use Rattle.fv_split_plan.specs.Separated.{IsWritten, lane_at, cells_at}
+use Rattle.fv_split_plan.specs.Separated.{IsWritten, lane_at}
 use Rattle.fv_split_plan.specs.headline.Fits.{Names}
 use Rattle.fv_split_plan.specs.Fits.{IsAlways}
 use Rattle.fv_split_lanes.specs.declared.lanes.Lanes.{Lanes}
@@ -32,9 +32,9 @@ use Rattle.fv_split_lanes.specs.Placed.{ArePlaced, IsInner}
 use Rattle.fv_split_lanes.proofs.RowLemmas.{operand_below, reads_reach, back_reaches, read_lower}
 use Rattle.fv_split_code.specs.declared.kind.Kind.{Kind}
 use Rattle.fv_split_code.specs.declared.kind.Kind.TheVariants as kind
-use Rattle.fv_split_code.specs.declared.tables.Tables.{Tables}
+use Rattle.fv_split_code.specs.declared.survey.Survey.{Survey}
 use Rattle.fv_split_code.specs.Emits.{KindFits, IsLoaded, IsKindWithin, kind_of, owned_by}
-use Rattle.fv_split_code.specs.Emitted.{AreTables, IsBase, IsOperand, DelayLane, SuitCells, Suits}
+use Rattle.fv_split_code.specs.Emitted.{IsSurvey, IsBase, IsOperand, DelayLane, SuitCells, Suits}
 use Rattle.fv_split_code.specs.Held.{HoldsUpTo}
 use Rattle.fv_split.specs.declared.cells.Cells.{Cells}
 use Rattle.fv_split.specs.inner.Cells.{info_at, AreCells}
@@ -84,7 +84,7 @@ may_load owners infos j l e =
     let both = and_parts (nat_lt l (length owners)) (nat_le (at owners l) j) e in
     record { within = ltb-true l (length owners) both.0; lower = leb-true (at owners l) j both.1 }
 
--- what the passes say of their tables
+-- what the passes say of the survey's lists
 pub record Passes (g : Graph) (p : Lanes) (stands : Vec ℕ Global) (bases kinds : Vec Kind Global) (cells : Cells) (numbers : List ℕ) (steps : List Step) :
     Type 0 where
   pub graph : IsGraph g
@@ -95,9 +95,9 @@ pub record Passes (g : Graph) (p : Lanes) (stands : Vec ℕ Global) (bases kinds
   pub are_kinds : AreKinds bases.items p.lanes.items (length g.signals) kinds.items
   pub are_cells : AreCells g p.homes.items (length g.signals) cells
 
--- the tables of the emission
-abbrev pub tables_of : Lanes → (stands : Vec ℕ Global) → (bases kinds : Vec Kind Global) → Cells → Tables
-tables_of p stands bases kinds cells = record {
+-- the survey
+abbrev pub survey_of : Lanes → (stands : Vec ℕ Global) → (bases kinds : Vec Kind Global) → Cells → Survey
+survey_of p stands bases kinds cells = record {
   stands = stands;
   bases = bases;
   kinds = kinds;
@@ -149,8 +149,8 @@ module _ (g : Graph) (p : Lanes) (stands : Vec ℕ Global) (bases kinds : Vec Ki
   abbrev kind_at : ℕ → Kind
   kind_at s = kind_of kinds.items s
 
-  abbrev tables : Tables
-  tables = tables_of p stands bases kinds cells
+  abbrev survey : Survey
+  survey = survey_of p stands bases kinds cells
 
   abbrev names : Names
   names = names_of g p (length steps) held.signals passes.are_cells.signals
@@ -363,7 +363,7 @@ module _ (g : Graph) (p : Lanes) (stands : Vec ℕ Global) (bases kinds : Vec Ki
     | BareKind none e ↦ subst (λ k. KindFits g names k s) (sym e) (base_fits s l).0
   ]
 
-  -- ---- the tables
+  -- ---- the survey
 
   kind_within : (k : Kind) → IsBase k → IsKindWithin (length owners) k
   kind_within (kind.Number n) b = tt
@@ -391,8 +391,8 @@ module _ (g : Graph) (p : Lanes) (stands : Vec ℕ Global) (bases kinds : Vec Ki
     | BareKind none e ↦ subst (IsKindWithin (length owners)) (sym e) (kind_within (base s) (base_fits s l).1)
   ]
 
-  pub are_tables : AreTables count tables
-  are_tables = record {
+  pub is_survey : IsSurvey count survey
+  is_survey = record {
     stands = stands_long;
     bases = bases_long;
     kinds = kinds_long;
@@ -479,7 +479,7 @@ module _ (g : Graph) (p : Lanes) (stands : Vec ℕ Global) (bases kinds : Vec Ki
       | inr h ↦ h.computed
     ]
 
-    delay_lane : (s x d max : ℕ) → StandsAt g s (signal.Delay x d max) → at homes s ≡ j → 1 ≤ max → DelayLane g names roles tables x max
+    delay_lane : (s x d max : ℕ) → StandsAt g s (signal.Delay x d max) → at homes s ≡ j → 1 ≤ max → DelayLane g names roles survey x max
     delay_lane s x d max n home one =
         let is : IsOperand g s x = record {
           place = 0;
@@ -502,7 +502,7 @@ module _ (g : Graph) (p : Lanes) (stands : Vec ℕ Global) (bases kinds : Vec Ki
     cells_written : (k : ℕ) → k < length passes.are_cells.signals → IsWritten (node g (at passes.are_cells.signals k))
     cells_written k l = subst IsWritten (sym (passes.are_cells.are k l).writes.3) tt
 
-    suit_cells : SuitCells g names roles tables j
+    suit_cells : SuitCells g names roles survey j
     suit_cells = record {
       own = λ k o.
           let i = cells_in_loop infos j k o in
@@ -525,7 +525,7 @@ module _ (g : Graph) (p : Lanes) (stands : Vec ℕ Global) (bases kinds : Vec Ki
             ap (λ b. b && nat_eq (info_at infos k).owner j) (lt-ltb k (length infos) (omega (arith, l, passes.are_cells.counted)))
             ∙ eq-eqb (info_at infos k).owner j e
 
-    pub suits : Suits g names roles tables j
+    pub suits : Suits g names roles survey j
     unfolding with_lane
     suits = record {
       own = λ l. refl;

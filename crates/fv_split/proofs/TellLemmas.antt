@@ -1,7 +1,7 @@
 -- What is told is just what the codes load, each once.
 use Rattle.std.proofs.Common.{◌≡◌, ◌≢◌, ◌⊎◌, inl, inr, ℕ, zero, suc, ◌+◌, ◌*◌, ◌<◌, ◌≤◌, List, [], ◌∷◌, ◌++◌, length, get_or, refl, sym, ap, ap₂, ◌∙◌, subst}
 use Rattle.std.proofs.Common.{arith, Bool, true, false}
-use Rattle.std.specs.Prelude.{All, Vec, Option, None, Some, replicate, slice_set, nat_eq, if◌then◌else◌, ◌==◌, ◌&&◌, ◌||◌, ◌↔◌}
+use Rattle.std.specs.Prelude.{All, Vec, Option, None, Some, replicate, slice_set, nat_eq, if◌then◌else◌, ◌==◌, ◌&&◌, ◌||◌}
 use Rattle.std.specs.declared.alloc.Global.{Global}
 use Rattle.std.proofs.lemmas.Bool.{and_parts, cases_eq, eq-eqb, eqb-true, ne_eqb, cond-true, cond-false}
 use Rattle.std.proofs.lemmas.List.{length-set, length-replicate, get_or-set_same, get_or-set_other}
@@ -14,7 +14,7 @@ use Rattle.fv_loopcode.specs.declared.step.Step.TheVariants as step
 use Rattle.fv_split_plan.specs.Separated.{lane_at}
 use Rattle.fv_split_plan.specs.headline.View.{loads_lane}
 use Rattle.fv_split_code.specs.Emitted.{code_in}
-use Rattle.fv_split.specs.inner.ToldReads.{ReadsSoFar, was_told, with_read, LoadsAmong, reads_of_step, reads_of_steps, reads_of_loops}
+use Rattle.fv_split.specs.inner.ToldReads.{ReadsSoFar, was_told, with_read, LoadsAmong, reads_of_steps, reads_of_loops}
 
 -- ---- lists of reads
 

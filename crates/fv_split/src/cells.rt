@@ -45,10 +45,11 @@ impl Cells {
         match table {
             Some(table) => {
                 self.numbers.push(Some(self.infos.len() as u64))?;
-                self.infos.push(CellsInfo { owner, table })
+                self.infos.push(CellsInfo { owner, table })?;
             }
-            None => self.numbers.push(None),
+            None => self.numbers.push(None)?,
         }
+        Ok(())
     }
 }
 

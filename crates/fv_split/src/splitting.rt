@@ -14,7 +14,7 @@ use crate::told_reads::reads;
 use fv_analysis::{Histories, Rates, stands};
 use fv_loopcode::Counts;
 use fv_signal::Graph;
-use fv_split_code::{Tables, codes, held_code};
+use fv_split_code::{Survey, codes, held_code};
 use fv_split_lanes::assign_lanes;
 use fv_split_plan::Plan;
 use std::alloc::{AllocError, Global};
@@ -56,7 +56,7 @@ pub fn split(
     let lanes = infos(alloc, &places.signals, &places.owners, histories)?;
     let cells = cells_of(alloc, graph, &places.homes)?;
     let loops = places.loops;
-    let tables = Tables {
+    let survey = Survey {
         stands,
         bases,
         kinds,
@@ -65,8 +65,8 @@ pub fn split(
         homes: places.homes,
         owners: places.owners,
     };
-    let steps = codes(alloc, graph, &tables, loops)?;
-    let told = reads(alloc, &steps, &tables.owners)?;
+    let steps = codes(alloc, graph, &survey, loops)?;
+    let told = reads(alloc, &steps, &survey.owners)?;
     let counts = Counts {
         lanes: lanes.len() as u64,
         tables: graph.tables(),
@@ -75,5 +75,14 @@ pub fn split(
     let codes = all_code(alloc, steps, counts)?;
     let held = code(alloc, &values.steps, still_counts(graph))?;
     let copied = copied_tables(alloc, graph)?;
-    Ok(Plan::new(loops, lanes, copied, cells.infos, codes, told, outputs, held))
+    Ok(Plan::new(
+        loops,
+        lanes,
+        copied,
+        cells.infos,
+        codes,
+        told,
+        outputs,
+        held,
+    ))
 }

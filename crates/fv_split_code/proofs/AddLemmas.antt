@@ -1,12 +1,11 @@
 -- Code with one signal more.
-use Rattle.std.proofs.Common.{◌≡◌, ◌≢◌, ◌⊎◌, inl, inr, ℕ, zero, suc, ◌<◌, ◌≤◌, List, [], ◌∷◌, ◌++◌, length, get_or, set, refl, sym, ap, ◌∙◌, subst, arith, pos}
+use Rattle.std.proofs.Common.{◌≡◌, ◌≢◌, ◌⊎◌, inl, inr, ℕ, zero, suc, ◌<◌, ◌≤◌, List, [], ◌∷◌, ◌++◌, length, get_or, set, refl, sym, ap, ◌∙◌, subst, arith}
 use Rattle.std.proofs.Common.{Bool, true, false}
 use Rattle.std.specs.Prelude.{◌&&◌, ◌||◌, nat_lt, nat_eq, Vec, Option, None, Some}
 use Rattle.std.specs.declared.alloc.Global.{Global}
 use Rattle.std.proofs.lemmas.List.{get_or-set_same, get_or-set_other}
-use Rattle.std.proofs.lemmas.Bool.{and_right, cases_lt, cases_eq, eq-eqb, ne_eqb, lt-ltb, le-ltb}
+use Rattle.std.proofs.lemmas.Bool.{and_right, cases_lt, cases_eq, eq-eqb, ne_eqb, le-ltb}
 use Rattle.fv_signal.specs.declared.signal.Signal.{Signal}
-use Rattle.fv_signal.specs.declared.signal.Signal.TheVariants as signal
 use Rattle.fv_signal.specs.headline.Value.{Graph}
 use Rattle.fv_split_components.specs.headline.Reach.{at}
 use Rattle.fv_loopcode.specs.declared.step.Step.{Step}
@@ -19,7 +18,7 @@ use Rattle.fv_split_plan.specs.headline.Fits.{Names}
 use Rattle.fv_split_plan.specs.Fits.{Mean, Value, mean_at}
 use Rattle.fv_split_code.specs.Emits.{Serves, KindFits, IsKnown, IsLoaded, kind_of, owned_by, MeansNow}
 use Rattle.fv_split_code.proofs.StepLemmas.{serves_push, fits_whole}
-use Rattle.fv_split_code.specs.declared.tables.Tables.{Tables}
+use Rattle.fv_split_code.specs.declared.survey.Survey.{Survey}
 use Rattle.fv_split_plan.specs.headline.Separated.{IsComputed}
 use Rattle.fv_split_plan.specs.Separated.{lane_at, cells_at}
 use Rattle.fv_split_code.specs.Emitted.{EndedAre, signal_of, with_cells, known_at, IsBase, Suits, ComputesAt, OwnNow, ServesUpTo, with_append, AddsNow}
@@ -87,7 +86,7 @@ serves_more g p r homes regs j s w steps means ended l here h = record { fits = 
     ]
 
 -- a signal of another loop
-pub serves_other : (g : Graph) (p : Names) (r : Roles) (t : Tables) (regs : List ℕ) (j s w : ℕ) (steps : List Step) → s < length regs → at t.homes.items s ≢ j →
+pub serves_other : (g : Graph) (p : Names) (r : Roles) (t : Survey) (regs : List ℕ) (j s w : ℕ) (steps : List Step) → s < length regs → at t.homes.items s ≢ j →
     ServesUpTo g p r t j s regs steps → ServesUpTo g p r t j (suc s) (set regs s w) steps
 serves_other g p r t regs j s w steps l n h = (
   h.0,
@@ -97,7 +96,7 @@ serves_other g p r t regs j s w steps l n h = (
 )
 
 -- a signal that is at home in no loop
-pub serves_none : (g : Graph) (p : Names) (r : Roles) (t : Tables) (regs : List ℕ) (j s : ℕ) (steps : List Step) → at t.homes.items s ≢ j →
+pub serves_none : (g : Graph) (p : Names) (r : Roles) (t : Survey) (regs : List ℕ) (j s : ℕ) (steps : List Step) → at t.homes.items s ≢ j →
     ServesUpTo g p r t j s regs steps → ServesUpTo g p r t j (suc s) regs steps
 serves_none g p r t regs j s steps n h = (
   h.0,
@@ -153,7 +152,7 @@ cells_marked None (Some c) ended n = refl
 cells_marked (Some m) None ended n = refl
 cells_marked (Some m) (Some c) ended n = refl
 
-ended_more : (g : Graph) (p : Names) (r : Roles) (t : Tables) (j s : ℕ) (u : Suits g p r t j) (k : Option ℕ) (ended : Place → Bool) →
+ended_more : (g : Graph) (p : Names) (r : Roles) (t : Survey) (j s : ℕ) (u : Suits g p r t j) (k : Option ℕ) (ended : Place → Bool) →
     s < length g.signals → at t.homes.items s ≡ j → k ≡ lane_at t.lanes.items s →
     EndedAre p r (known_at t.homes.items j s) ended →
     EndedAre p r (known_at t.homes.items j (suc s)) (with_lane k (with_cells (cells_at t.cells.items s) ended))
@@ -178,7 +177,7 @@ lane_waits None ended l e = e
 lane_waits (Some c) ended l e = e
 
 -- a signal's own step, and then its append where it has a lane
-pub adds : (t : Tables) (j s : ℕ) (n : Signal) (old_regs new_regs : List ℕ) (old mid new : List Step) (w : ℕ) (k : Option ℕ) → k ≡ lane_at t.lanes.items s →
+pub adds : (t : Survey) (j s : ℕ) (n : Signal) (old_regs new_regs : List ℕ) (old mid new : List Step) (w : ℕ) (k : Option ℕ) → k ≡ lane_at t.lanes.items s →
     OwnNow t old_regs j s old mid n w → new_regs ≡ set old_regs s w → new ≡ with_append mid k w → AddsNow t j s n old_regs old new_regs new
 adds t j s n old_regs new_regs old mid new w k ek own er en = ((w, er), λ g p r u n home l h. serve g p r u n home l h)
   where
@@ -215,11 +214,11 @@ adds t j s n old_regs new_regs old mid new w k ek own er en = ((w, er), λ g p r
             )
 
 -- the own step of a signal that is computed, and of another one
-pub own_computed : (t : Tables) (regs : List ℕ) (j s : ℕ) (old new : List Step) (n : Signal) (w : ℕ) → kind_of t.bases.items s ≡ kind.Inner →
+pub own_computed : (t : Survey) (regs : List ℕ) (j s : ℕ) (old new : List Step) (n : Signal) (w : ℕ) → kind_of t.bases.items s ≡ kind.Inner →
     ComputesAt t regs j s old new n w → OwnNow t regs j s old new n w
 own_computed t regs j s old new n w e c g p r u is home = c g p r u is home (subst IsComputed is.is (u.computed s is.within home e))
 
-pub own_other : (t : Tables) (regs : List ℕ) (j s : ℕ) (old new : List Step) (n : Signal) (w : ℕ) (k : Kind) → k ≡ kind_of t.bases.items s → k ≢ kind.Inner →
+pub own_other : (t : Survey) (regs : List ℕ) (j s : ℕ) (old new : List Step) (n : Signal) (w : ℕ) (k : Kind) → k ≡ kind_of t.bases.items s → k ≢ kind.Inner →
     MeansNow regs old new s w k (owned_by t.owners.items j) → OwnNow t regs j s old new n w
 own_other t regs j s old new n w k e d c g p r u is home means ended h en =
     let x = c g p r (known_at t.homes.items j s) means ended u.own (subst (IsLoaded r) (sym e) (u.base_loaded s is.within home))
@@ -257,7 +256,7 @@ code_read [] j v l e = absurd (omega arith)
 code_read (c ∷ cs) zero v l e = ap (λ x. x.items) e
 code_read (c ∷ cs) (suc j) v l e = code_read cs j v (omega arith) e
 
-pub all_serve_more : (g : Graph) (t : Tables) (loops s j : ℕ) (regs new_regs : List ℕ) (codes : List (Vec Step Global)) (v : Vec Step Global) (n : Signal) →
+pub all_serve_more : (g : Graph) (t : Survey) (loops s j : ℕ) (regs new_regs : List ℕ) (codes : List (Vec Step Global)) (v : Vec Step Global) (n : Signal) →
     j < loops → length codes ≡ loops → StandsAt g s n → length regs ≡ length g.signals → j ≡ at t.homes.items s →
     AddsNow t j s n regs (code_in codes j) new_regs v.items → AllServe g t loops s regs codes → AllServe g t loops (suc s) new_regs (set codes j v)
 all_serve_more g t loops s j regs new_regs codes v n lj lc stands lr ej adds h i li p r u =
@@ -276,11 +275,11 @@ all_serve_more g t loops s j regs new_regs codes v n lj lc stands lr ej adds h i
         subst (ServesUpTo g p r t j (suc s) (set regs s adds.0.0)) (sym (code_set_same codes j v (omega (arith, lc))))
         (subst (λ rs. ServesUpTo g p r t j (suc s) rs v.items) adds.0.1 (adds.1 g p r k stands (sym ej) below (h j lj p r k)))
 
-pub all_serve_none : (g : Graph) (t : Tables) (loops s : ℕ) (regs : List ℕ) (codes : List (Vec Step Global)) → loops ≤ at t.homes.items s →
+pub all_serve_none : (g : Graph) (t : Survey) (loops s : ℕ) (regs : List ℕ) (codes : List (Vec Step Global)) → loops ≤ at t.homes.items s →
     AllServe g t loops s regs codes → AllServe g t loops (suc s) regs codes
 all_serve_none g t loops s regs codes l h j lj p r u = serves_none g p r t regs j s (code_in codes j) (λ e. absurd (omega arith)) (h j lj p r u)
 
-pub all_serve_begins : (g : Graph) (t : Tables) (loops : ℕ) (regs : List ℕ) (codes : List (Vec Step Global)) → ((j : ℕ) → code_in codes j ≡ []) →
+pub all_serve_begins : (g : Graph) (t : Survey) (loops : ℕ) (regs : List ℕ) (codes : List (Vec Step Global)) → ((j : ℕ) → code_in codes j ≡ []) →
     AllServe g t loops 0 regs codes
 all_serve_begins g t loops regs codes e j lj p r u = subst (ServesUpTo g p r t j 0 regs) (sym (e j)) (
   [],
@@ -293,12 +292,12 @@ all_serve_begins g t loops regs codes e j lj p r u = subst (ServesUpTo g p r t j
     none q = elim (knowing t.homes.items j 0 q) [ Yes l e k ↦ absurd (omega arith) | Later l k ↦ k | Elsewhere d k ↦ k ]
 
 -- the signal of each of the loop's own places is at home in it
-own_home : (g : Graph) (p : Names) (r : Roles) (t : Tables) (j : ℕ) → Suits g p r t j → (q : Place) → r.own q ≡ true →
+own_home : (g : Graph) (p : Names) (r : Roles) (t : Survey) (j : ℕ) → Suits g p r t j → (q : Place) → r.own q ≡ true →
     (signal_of p q < length g.signals) × (at t.homes.items (signal_of p q) ≡ j)
 own_home g p r t j u (OfLane l) o = let h = u.lanes l o in (h.0, h.2)
 own_home g p r t j u (OfCells k) o = let h = u.cells.own k o in (h.0, h.2)
 
-pub all_serve_ends : (g : Graph) (t : Tables) (loops n : ℕ) (regs : List ℕ) (codes : List (Vec Step Global)) → n ≡ length g.signals → length codes ≡ loops →
+pub all_serve_ends : (g : Graph) (t : Survey) (loops n : ℕ) (regs : List ℕ) (codes : List (Vec Step Global)) → n ≡ length g.signals → length codes ≡ loops →
     AllServe g t loops n regs codes → AreCodes g t loops codes
 all_serve_ends g t loops n regs codes en lc h = record {
   long = lc;

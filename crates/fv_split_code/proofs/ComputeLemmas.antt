@@ -1,5 +1,5 @@
 -- The steps of signals that are computed.
-use Rattle.std.proofs.Common.{◌≡◌, inl, inr, ℕ, zero, suc, ◌+◌, ◌<◌, ◌≤◌, List, [], ◌∷◌, ◌++◌, length, take, get_or, map, refl, sym, ap, ap₂, ◌∙◌, subst, arith}
+use Rattle.std.proofs.Common.{◌≡◌, inl, inr, ℕ, zero, suc, ◌<◌, ◌≤◌, List, [], ◌∷◌, ◌++◌, length, take, get_or, map, refl, sym, ap, ap₂, ◌∙◌, subst, arith}
 use Rattle.std.proofs.Common.{pos, Bool, true, false}
 use Rattle.std.specs.Prelude.{All, ◌&&◌, nat_eq, unwrap_or, Option, None, Some}
 use Rattle.std.proofs.lemmas.List.{length-map, length-take-le, length_push, append_assoc, get_or-take, get_or_default, get_or_read}
@@ -14,7 +14,7 @@ use Rattle.fv_signal.specs.headline.Value.{Graph, IsOrdered, OperandsBelow, Name
 use Rattle.fv_split_components.specs.headline.Reach.{at}
 use Rattle.fv_loopcode.specs.declared.step.Step.{Step}
 use Rattle.fv_loopcode.specs.declared.step.Step.TheVariants as step
-use Rattle.fv_loopcode.specs.headline.Obeys.{Roles, Place, OfLane, OfCells, nothing, done_after, with_place}
+use Rattle.fv_loopcode.specs.headline.Obeys.{Roles, Place, OfLane, OfCells, done_after, with_place}
 use Rattle.fv_split_code.specs.declared.kind.Kind.{Kind}
 use Rattle.fv_split_code.specs.declared.kind.Kind.TheVariants as kind
 use Rattle.fv_analysis.specs.headline.Stands.{node, stand, StandsAt}
@@ -23,11 +23,11 @@ use Rattle.fv_split_plan.specs.Fits.{Mean, Value, mean_at, OfDelay, OfPoint, OfS
 use Rattle.fv_split_code.specs.Emits.{Serves, KindFits, IsKnown, IsLoaded, kind_of, owned_by, MeansNow, MeanNow, AreFound}
 use Rattle.fv_analysis.proofs.StandLemmas.{stands_well}
 use Rattle.fv_split_code.proofs.StepLemmas.{serves_push, means_last, long_means}
-use Rattle.fv_split_code.specs.declared.tables.Tables.{Tables}
+use Rattle.fv_split_code.specs.declared.survey.Survey.{Survey}
 use Rattle.fv_split_plan.specs.headline.Separated.{operands}
 use Rattle.fv_split_plan.specs.Separated.{IsWritten, lane_at, cells_at}
 use Rattle.fv_split_plan.proofs.FitsLemmas.{map_get}
-use Rattle.fv_split_code.specs.Emitted.{AreTables, known_at, IsOperand, Suits, StoodNow, with_cells, write_of, ComputesAt, ComputesNow}
+use Rattle.fv_split_code.specs.Emitted.{IsSurvey, known_at, IsOperand, Suits, StoodNow, with_cells, write_of, ComputesAt, ComputesNow}
 
 -- what a signal stands for is no higher
 pub stand_below : (g : Graph) → IsOrdered g → (n s : ℕ) → n ≤ length g.signals → s < n → stand g s ≤ s
@@ -36,13 +36,13 @@ stand_below g ordered n s m l = (stands_well g ordered n s m l).below
 pub known_yes : (homes : List ℕ) (j s q : ℕ) → q < s → at homes q ≡ j → known_at homes j s q ≡ true
 known_yes homes j s q h e = ap (λ b. b && nat_eq (at homes q) j) (lt-ltb q s h) ∙ eq-eqb (at homes q) j e
 
-known_not : (homes : List ℕ) (j s : ℕ) → known_at homes j s s ≡ false
+pub known_not : (homes : List ℕ) (j s : ℕ) → known_at homes j s s ≡ false
 known_not homes j s = ap (λ b. b && nat_eq (at homes s) j) (le-ltb s s (omega arith))
 
 below : (g : Graph) → IsOrdered g → (s : ℕ) (n : Signal) → StandsAt g s n → OperandsBelow g s n
 below g ordered s n h = subst (OperandsBelow g s) h.is (ordered s (signal.Const (pos 0)) h.within)
 
-module _ (g : Graph) (p : Names) (r : Roles) (t : Tables) (j s : ℕ) (u : Suits g p r t j) (l : s < length g.signals) (home : at t.homes.items s ≡ j) where
+module _ (g : Graph) (p : Names) (r : Roles) (t : Survey) (j s : ℕ) (u : Suits g p r t j) (l : s < length g.signals) (home : at t.homes.items s ≡ j) where
   abbrev known : ℕ → Bool
   known = known_at t.homes.items j s
 
@@ -124,7 +124,7 @@ maps_alike f h [] (y ∷ ys) e a = absurd (omega arith)
 maps_alike f h (x ∷ xs) [] e a = absurd (omega arith)
 maps_alike f h (x ∷ xs) (y ∷ ys) e a = ap₂ (λ v vs. v ∷ vs) (a 0 (omega arith)) (maps_alike f h xs ys (omega arith) (λ k l. a (suc k) (omega arith)))
 
-pub computes_point : (t : Tables) (regs : List ℕ) (j : ℕ) (old mid new : List Step) (op : Op) (args those found : List ℕ) (w : ℕ) →
+pub computes_point : (t : Survey) (regs : List ℕ) (j : ℕ) (old mid new : List Step) (op : Op) (args those found : List ℕ) (w : ℕ) →
     those ≡ take (inputs_of op) (map (at t.stands.items) args) → length args ≡ 4 → AreFound found (length those) → inputs_of op ≤ 4 → 1 ≤ inputs_of op →
     MeanNow t.kinds.items regs old mid those found (length those) (owned_by t.owners.items j) → new ≡ mid ++ step.Point op found ∷ [] → w ≡ length mid →
     ComputesNow t regs j old new (signal.Point op args) w
@@ -186,7 +186,7 @@ computes_point t regs j old mid new op args those found w et la lf four one mean
         ap (mean_at (means ++ x.0)) (get_or-take (inputs_of op) found k 0 m) ∙ (x.2 k (omega (arith, those_long))).1 ∙ ap Value (those_at k m)
         ∙ ap (λ o. Value (stand g o)) (sym (get_or-take (inputs_of op) args k 0 m)))
 
-pub computes_still : (t : Tables) (regs : List ℕ) (j : ℕ) (old mid new : List Step) (x d v w : ℕ) → StoodNow t regs j old mid x v →
+pub computes_still : (t : Survey) (regs : List ℕ) (j : ℕ) (old mid new : List Step) (x d v w : ℕ) → StoodNow t regs j old mid x v →
     new ≡ mid ++ step.Point Max (v ∷ v ∷ v ∷ v ∷ []) ∷ [] → w ≡ length mid → ComputesNow t regs j old new (signal.Delay x d 0) w
 computes_still t regs j old mid new x d v w mean e f s g p r u n home c means ended h en =
     let b = below g u.ordered s (signal.Delay x d 0) n in
@@ -198,7 +198,7 @@ computes_still t regs j old mid new x d v w mean e f s g p r u n home c means en
     (step.Point Max (v ∷ v ∷ v ∷ v ∷ [])) s w e f y.1 (OfStill s x d v n lx refl refl y.2 refl)
     (uncelled g p r t j s u n.within home (signal.Delay x d 0) n.is (λ z. z) ended)
 
-pub computes_delay : (t : Tables) (regs : List ℕ) (j : ℕ) (old mid new : List Step) (x d max v w lane : ℕ) → 1 ≤ max →
+pub computes_delay : (t : Survey) (regs : List ℕ) (j : ℕ) (old mid new : List Step) (x d max v w lane : ℕ) → 1 ≤ max →
     lane ≡ unwrap_or (lane_at t.lanes.items (at t.stands.items x)) 0 → StoodNow t regs j old mid d v →
     new ≡ mid ++ step.Load lane v max ∷ [] → w ≡ length mid → ComputesNow t regs j old new (signal.Delay x d max) w
 computes_delay t regs j old mid new x d max v w lane one el mean e f s g p r u n home c means ended h en =
@@ -218,7 +218,7 @@ computes_delay t regs j old mid new x d max v w lane one el mean e f s g p r u n
           (λ own. en (OfLane lane) own ∙ ap (known_at t.homes.items j s) names ∙ lane_known g p r t j s u n.within home x lane b.0 names own) refl,
     ) (uncelled g p r t j s u n.within home (signal.Delay x d max) n.is (λ z. z) ended)
 
-pub computes_read : (t : Tables) (regs : List ℕ) (j : ℕ) (old mid new : List Step) (table x v w : ℕ) → StoodNow t regs j old mid x v →
+pub computes_read : (t : Survey) (regs : List ℕ) (j : ℕ) (old mid new : List Step) (table x v w : ℕ) → StoodNow t regs j old mid x v →
     new ≡ mid ++ step.Read table v ∷ [] → w ≡ length mid → ComputesNow t regs j old new (signal.Read table x) w
 computes_read t regs j old mid new table x v w mean e f s g p r u n home c means ended h en =
     let b = below g u.ordered s (signal.Read table x) n in
@@ -245,7 +245,7 @@ below_three P a b c (suc zero) l = b
 below_three P a b c (suc (suc zero)) l = c
 below_three P a b c (suc (suc (suc k))) l = absurd (omega arith)
 
-pub computes_write : (t : Tables) (regs : List ℕ) (j s : ℕ) (old mid new : List Step) (table cells : ℕ) (args those found : List ℕ) (w : ℕ) →
+pub computes_write : (t : Survey) (regs : List ℕ) (j s : ℕ) (old mid new : List Step) (table cells : ℕ) (args those found : List ℕ) (w : ℕ) →
     those ≡ map (at t.stands.items) args → length args ≡ 3 → cells ≡ unwrap_or (cells_at t.cells.items s) 0 →
     MeanNow t.kinds.items regs old mid those found (length those) (owned_by t.owners.items j) →
     new ≡ mid ++ step.Write cells (at found 0 ∷ at found 1 ∷ at found 2 ∷ []) ∷ [] → w ≡ length mid →
@@ -322,7 +322,7 @@ computes_write t regs j s old mid new table cells args those found w et la ec me
     means_it : (k : ℕ) → k < 3 → mean_at (means ++ x.0) (at found k) ≡ Value (stand g (at args k))
     means_it k l = (x.2 k (omega (arith, those_long))).1 ∙ ap Value (those_at k l)
 
--- ---- what the code reads in the tables
+-- ---- what is read in the survey
 
 pub some_inputs : (op : Op) → 1 ≤ inputs_of op
 some_inputs Abs = omega arith
@@ -330,21 +330,25 @@ some_inputs Select2 = omega arith
 some_inputs Select3 = omega arith
 some_inputs op = omega arith
 
-stand_within : (t : Tables) (n : ℕ) → AreTables n t → (x : ℕ) → x < n → at t.stands.items x < n
+stand_within : (t : Survey) (n : ℕ) → IsSurvey n t → (x : ℕ) → x < n → at t.stands.items x < n
 stand_within t n a x l = All-get_or (λ s. s < n) t.stands.items x 0 (omega (arith, a.stands)) a.within
 
-pub read_kind : (t : Tables) (n : ℕ) → AreTables n t → (x q : ℕ) (k : Kind) → x < n → q ≡ at t.stands.items x → k ≡ get_or t.kinds.items q k →
+pub read_kind : (t : Survey) (n : ℕ) → IsSurvey n t → (x q : ℕ) (k : Kind) → x < n → q ≡ at t.stands.items x → k ≡ get_or t.kinds.items q k →
     k ≡ kind_of t.kinds.items q
 read_kind t n a x q k l z i = get_or_read t.kinds.items q k (omega (arith, a.kinds, z, stand_within t n a x l)) i kind.Inner
 
-pub read_lane : (t : Tables) (n : ℕ) → AreTables n t → (x q : ℕ) (o : Option ℕ) → x < n → q ≡ at t.stands.items x → o ≡ get_or t.lanes.items q o →
+pub read_lane : (t : Survey) (n : ℕ) → IsSurvey n t → (x q : ℕ) (o : Option ℕ) → x < n → q ≡ at t.stands.items x → o ≡ get_or t.lanes.items q o →
     o ≡ lane_at t.lanes.items (at t.stands.items x)
 read_lane t n a x q o l z i = get_or_read t.lanes.items q o (omega (arith, a.lanes, z, stand_within t n a x l)) i None ∙ ap (lane_at t.lanes.items) z
 
+-- what signals stand for is there
+pub mapped_within : (stands args : List ℕ) (n : ℕ) → length stands ≡ n → All (λ a. a < n) args → All (λ s. s < n) stands →
+    All (λ s. s < n) (map (at stands) args)
+mapped_within stands args n long within inside = All-map (λ s. s < n) (at stands) args (All-weaker (λ a. a < n) (λ a. at stands a < n)
+    (λ a h. All-get_or (λ s. s < n) stands a 0 (omega (arith, long)) inside) args within)
+
 pub stood_within : (stands args those : List ℕ) (m n : ℕ) → those ≡ take m (map (at stands) args) → length stands ≡ n → All (λ a. a < n) args →
     All (λ s. s < n) stands → (k d : ℕ) → k < length those → get_or those k d < n
-stood_within stands args those m n e long within inside k d l = subst (λ xs. get_or xs k d < n) (sym e) (all k d (subst (λ xs. k < length xs) e l))
-  where
-    all : All (λ s. s < n) (take m (map (at stands) args))
-    all = All-take (λ s. s < n) m (map (at stands) args) (All-map (λ s. s < n) (at stands) args (All-weaker (λ a. a < n) (λ a. at stands a < n)
-        (λ a h. All-get_or (λ s. s < n) stands a 0 (omega (arith, long)) inside) args within))
+stood_within stands args those m n e long within inside k d l =
+    subst (λ xs. get_or xs k d < n) (sym e)
+    (All-take (λ s. s < n) m (map (at stands) args) (mapped_within stands args n long within inside) k d (subst (λ xs. k < length xs) e l))

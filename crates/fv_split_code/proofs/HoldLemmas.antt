@@ -1,5 +1,5 @@
 -- Held values, one after another.
-use Rattle.std.proofs.Common.{◌≡◌, ◌≢◌, ◌⊎◌, inl, inr, ℕ, zero, suc, ◌+◌, ◌-◌, ◌<◌, ◌≤◌, List, [], ◌∷◌, ◌++◌, length, take, map, get_or, set, refl, sym, ap}
+use Rattle.std.proofs.Common.{◌≡◌, ◌≢◌, ◌⊎◌, inl, inr, ℕ, zero, suc, ◌+◌, ◌<◌, ◌≤◌, List, [], ◌∷◌, ◌++◌, length, take, map, get_or, set, refl, sym, ap}
 use Rattle.std.proofs.Common.{ap₂, ◌∙◌, subst, arith, ℤ, pos}
 use Rattle.std.proofs.lemmas.List.{length_push, get_or_push, get_or_append_left, get_or-set_same, get_or-set_other, get_or_default, length-map, length-set}
 use Rattle.std.proofs.lemmas.List.{map_push}
@@ -21,7 +21,7 @@ use Rattle.fv_signal.proofs.Values.{values_are_given}
 use Rattle.fv_split_components.specs.headline.Reach.{at}
 use Rattle.fv_loopcode.specs.declared.step.Step.{Step}
 use Rattle.fv_loopcode.specs.declared.step.Step.TheVariants as step
-use Rattle.fv_loopcode.specs.headline.State.{State, list_at, finds}
+use Rattle.fv_loopcode.specs.headline.State.{State, finds}
 use Rattle.fv_loopcode.specs.headline.Code.{Pass, passed, stepped, opening, step_value, NamesHeld, NamesInput, IsStill}
 use Rattle.fv_loopcode.specs.Code.{AreOrdered, IsWhole}
 use Rattle.fv_loopcode.specs.Code.{OperandsBelow as StepOperandsBelow}
@@ -60,7 +60,8 @@ still_passed held input index p (x ∷ xs) h =
 
 registers_push : (tables : List (List ℤ)) (controls : ℕ → ℤ) (xs : List Step) (x : Step) → All IsStill xs →
     held_registers tables controls (xs ++ x ∷ [])
-    ≡ held_registers tables controls xs ++ step_value controls (λ i. pos 0) (finds (tables_alone tables) 0) (argument (held_registers tables controls xs)) x ∷ []
+    ≡ held_registers tables controls xs
+    ++ step_value controls (λ i. pos 0) (finds (tables_alone tables) 0) (argument (held_registers tables controls xs)) x ∷ []
 registers_push tables controls xs x h =
     ap (λ p. p.numbers) (passed_push controls (λ i. pos 0) 0 (opening (tables_alone tables)) xs x)
     ∙ ap (λ (state : State). held_registers tables controls xs

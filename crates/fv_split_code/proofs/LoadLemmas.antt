@@ -1,20 +1,19 @@
 -- What code that fits loads, reads and names.
-use Rattle.std.proofs.Common.{◌≡◌, ◌⊎◌, inl, inr, ℕ, zero, suc, ◌+◌, ◌<◌, ◌≤◌, List, [], ◌∷◌, ◌++◌, length, map, get_or, refl, sym, ap, ◌∙◌, subst, arith, pos, Bool}
-use Rattle.std.proofs.Common.{true, false}
-use Rattle.std.specs.Prelude.{◌||◌, ◌&&◌, nat_eq, nat_lt, nat_le, All}
+use Rattle.std.proofs.Common.{◌≡◌, inl, inr, ℕ, zero, suc, ◌+◌, ◌<◌, ◌≤◌, List, [], ◌∷◌, ◌++◌, length, map, get_or, refl, sym, ap, ◌∙◌, subst, arith, pos}
+use Rattle.std.proofs.Common.{Bool, true, false}
+use Rattle.std.specs.Prelude.{◌||◌, nat_eq, All}
 use Rattle.std.proofs.lemmas.Bool.{eq-eqb, ne_eqb, cases_eq, cases_lt}
 use Rattle.std.proofs.lemmas.List.{length_push, length-map}
 use Rattle.std.proofs.lemmas.List.Elements.{All-nil, All-cons}
 use Rattle.fv_num.specs.declared.op.Op.{Op}
 use Rattle.fv_signal.specs.declared.signal.Signal.TheVariants as signal
 use Rattle.fv_signal.specs.headline.Value.{Graph, table_of}
-use Rattle.fv_split_components.specs.headline.Reach.{at}
 use Rattle.fv_loopcode.specs.declared.step.Step.{Step}
 use Rattle.fv_loopcode.specs.declared.step.Step.TheVariants as step
 use Rattle.fv_loopcode.specs.declared.counts.Counts.{Counts}
 use Rattle.fv_loopcode.specs.headline.State.{list_at}
 use Rattle.fv_loopcode.specs.headline.Code.{NamesHeld, NamesInput}
-use Rattle.fv_loopcode.specs.Code.{OperandsBelow, IsSound}
+use Rattle.fv_loopcode.specs.Code.{IsSound}
 use Rattle.fv_loopcode.specs.headline.Obeys.{Roles, Place, OfLane, OfCells, done_after}
 use Rattle.fv_analysis.specs.headline.Stands.{StandsAt}
 use Rattle.fv_split_plan.specs.headline.Fits.{Names}

@@ -1,17 +1,15 @@
 -- Steps that are added for operands.
-use Rattle.std.proofs.Common.{◌≡◌, ◌≢◌, inl, inr, ℕ, zero, suc, ◌+◌, ◌<◌, ◌≤◌, List, [], ◌∷◌, ◌++◌, length, get_or, set, refl, sym, ap, ◌∙◌, subst, arith, ℤ}
+use Rattle.std.proofs.Common.{◌≡◌, ◌≢◌, inl, inr, ℕ, ◌+◌, ◌<◌, List, [], ◌∷◌, ◌++◌, length, get_or, set, refl, sym, ap, ◌∙◌, subst, arith, ℤ}
 use Rattle.std.proofs.Common.{pos, Bool, true, false}
 use Rattle.std.proofs.lemmas.List.{length_push, length-append, get_or_push, get_or_append_left, append-nil, append_assoc, get_or-set_same, get_or-set_other}
 use Rattle.std.proofs.lemmas.List.{length-set}
-use Rattle.fv_signal.specs.declared.signal.Signal.TheVariants as signal
-use Rattle.fv_signal.specs.headline.Value.{Graph, definition}
+use Rattle.fv_signal.specs.headline.Value.{Graph}
 use Rattle.fv_loopcode.specs.declared.step.Step.{Step}
 use Rattle.fv_loopcode.specs.declared.step.Step.TheVariants as step
 use Rattle.fv_loopcode.specs.headline.Obeys.{Roles, Place, OfLane, nothing, done_after}
 use Rattle.fv_split_components.specs.headline.Reach.{at}
 use Rattle.fv_split_code.specs.declared.kind.Kind.{Kind}
 use Rattle.fv_split_code.specs.declared.kind.Kind.TheVariants as kind
-use Rattle.fv_analysis.specs.headline.Stands.{stand, StandsAt}
 use Rattle.fv_split_plan.specs.headline.Fits.{Names}
 use Rattle.fv_split_plan.specs.Fits.{Mean, Value, Literal, mean_at, LoadFits, OfBack, OfNow, StepFits, CodeFits}
 use Rattle.fv_split_code.specs.Emits.{FitsUpTo, Serves, KindFits, IsKnown, IsLoaded, IsKindWithin, MeansNow, owned_by, kind_of, MeanNow, AreFound}

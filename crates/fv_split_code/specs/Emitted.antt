@@ -1,5 +1,5 @@
 -- The code of all loops, signal by signal.
-use Rattle.std.specs.Prelude.{◌≡◌, ℕ, suc, ◌<◌, ◌≤◌, List, [], ◌∷◌, ◌++◌, length, slice_set, slice_get, slice_index_or, Option, None, Some, Vec, Bool, true}
+use Rattle.std.specs.Prelude.{◌≡◌, ℕ, suc, ◌<◌, ◌≤◌, List, [], ◌∷◌, ◌++◌, length, slice_set, slice_get, Option, None, Some, Vec, Bool, true}
 use Rattle.std.specs.Prelude.{◌&&◌, nat_lt, nat_eq, All}
 use Rattle.std.specs.declared.alloc.Global.{Global}
 use Rattle.fv_signal.specs.declared.signal.Signal.{Signal}
@@ -16,7 +16,7 @@ use Rattle.fv_split_plan.specs.headline.Fits.{Names}
 use Rattle.fv_split_plan.specs.Fits.{Mean, Value, mean_at, CodeFits}
 use Rattle.fv_split_code.specs.declared.kind.Kind.{Kind}
 use Rattle.fv_split_code.specs.declared.kind.Kind.TheVariants as kind
-use Rattle.fv_split_code.specs.declared.tables.Tables.{Tables}
+use Rattle.fv_split_code.specs.declared.survey.Survey.{Survey}
 use Rattle.fv_split_code.specs.Emits.{Serves, KindFits, IsLoaded, IsKindWithin, MeansNow, kind_of, owned_by}
 
 -- what a signal is without its lane
@@ -32,8 +32,8 @@ IsBase kind.Inner = Unit {0}
 abbrev pub known_at : (homes : List ℕ) → (j s : ℕ) → ℕ → Bool
 known_at homes j s q = nat_lt q s && nat_eq (at homes q) j
 
--- the tables are as long as the signals are many, and name what is there
-pub record AreTables (n : ℕ) (t : Tables) : Type 0 where
+-- the survey has each signal, and names what is there
+pub record IsSurvey (n : ℕ) (t : Survey) : Type 0 where
   pub stands : length t.stands.items ≡ n
   pub bases : length t.bases.items ≡ n
   pub kinds : length t.kinds.items ≡ n
@@ -51,7 +51,7 @@ pub record IsOperand (g : Graph) (s o : ℕ) : Type 0 where
   pub is : at (operands (node g s)) place ≡ o
 
 -- the lane that a delay reads: it is that of what its first operand stands for, goes back far enough, and may be loaded
-pub record DelayLane (g : Graph) (p : Names) (r : Roles) (t : Tables) (x max : ℕ) : Type 0 where
+pub record DelayLane (g : Graph) (p : Names) (r : Roles) (t : Survey) (x max : ℕ) : Type 0 where
   pub lane : ℕ
   pub has : lane_at t.lanes.items (stand g x) ≡ Some lane
   pub names : p.lane lane ≡ stand g x
@@ -59,7 +59,7 @@ pub record DelayLane (g : Graph) (p : Names) (r : Roles) (t : Tables) (x max : �
   pub loaded : r.loaded lane ≡ true
 
 -- The signals that are written at home in loop j have cells of their own, which are its own, and no other signals have any.
-pub record SuitCells (g : Graph) (p : Names) (r : Roles) (t : Tables) (j : ℕ) : Type 0 where
+pub record SuitCells (g : Graph) (p : Names) (r : Roles) (t : Survey) (j : ℕ) : Type 0 where
   -- the loop's own cells are those of signals that are at home in it
   pub own : (k : ℕ) → r.own (OfCells k) ≡ true → (p.cells k < length g.signals) × (cells_at t.cells.items (p.cells k) ≡ Some k)
       × (at t.homes.items (p.cells k) ≡ j)
@@ -69,8 +69,8 @@ pub record SuitCells (g : Graph) (p : Names) (r : Roles) (t : Tables) (j : ℕ) 
   pub all : (s : ℕ) → s < length g.signals → IsWritten (node g s) → (k : ℕ) × (cells_at t.cells.items s ≡ Some k)
   pub only : (s k : ℕ) → s < length g.signals → cells_at t.cells.items s ≡ Some k → IsWritten (node g s) × (kind_of t.bases.items s ≡ kind.Inner)
 
--- The tables are those of the graph, as loop j sees them, whose roles are r, in a plan with these names.
-pub record Suits (g : Graph) (p : Names) (r : Roles) (t : Tables) (j : ℕ) : Type 0 where
+-- The survey is of the graph, as loop j sees it, whose roles are r, in a plan with these names.
+pub record Suits (g : Graph) (p : Names) (r : Roles) (t : Survey) (j : ℕ) : Type 0 where
   pub own : (l : ℕ) → r.own (OfLane l) ≡ owned_by t.owners.items j l
   pub ordered : IsOrdered g
   pub closed : IsClosed g
@@ -100,7 +100,7 @@ abbrev pub write_of : (table : ℕ) → List ℕ → Signal
 write_of table args = signal.Write table (at args 0) (at args 1) (at args 2)
 
 -- the code has grown so that register w means what signal x stands for, as loop j reads it
-abbrev pub StoodNow : Tables → (regs : List ℕ) → (j : ℕ) → (old new : List Step) → (x w : ℕ) → Type 0
+abbrev pub StoodNow : Survey → (regs : List ℕ) → (j : ℕ) → (old new : List Step) → (x w : ℕ) → Type 0
 StoodNow t regs j old new x w =
     MeansNow regs old new (at t.stands.items x) w (kind_of t.kinds.items (at t.stands.items x)) (owned_by t.owners.items j)
 
@@ -119,7 +119,7 @@ with_cells None ended = ended
 with_cells (Some k) ended = with_place (OfCells k) ended
 
 -- The code has grown so that register w means signal s of loop j, and its cells are changed: whatever it served before it serves now.
-abbrev pub SignalNow : Graph → Names → Roles → Tables → (regs : List ℕ) → (j s : ℕ) → (old new : List Step) → (w : ℕ) → Type 0
+abbrev pub SignalNow : Graph → Names → Roles → Survey → (regs : List ℕ) → (j s : ℕ) → (old new : List Step) → (w : ℕ) → Type 0
 SignalNow g p r t regs j s old new w =
     (means : List Mean) (ended : Place → Bool) →
     Serves g p r (known_at t.homes.items j s) regs old means ended → EndedAre p r (known_at t.homes.items j s) ended →
@@ -127,22 +127,22 @@ SignalNow g p r t regs j s old new w =
     × (mean_at (means ++ more) w ≡ Value s) × (w < length (means ++ more))
 
 -- so it is with signal s, where it is this node and computed
-abbrev pub ComputesAt : Tables → (regs : List ℕ) → (j s : ℕ) → (old new : List Step) → Signal → (w : ℕ) → Type 0
+abbrev pub ComputesAt : Survey → (regs : List ℕ) → (j s : ℕ) → (old new : List Step) → Signal → (w : ℕ) → Type 0
 ComputesAt t regs j s old new n w =
     (g : Graph) (p : Names) (r : Roles) →
     Suits g p r t j → StandsAt g s n → at t.homes.items s ≡ j → IsComputed n → SignalNow g p r t regs j s old new w
 
 -- so it is with each computed signal that is this node
-abbrev pub ComputesNow : Tables → (regs : List ℕ) → (j : ℕ) → (old new : List Step) → Signal → (w : ℕ) → Type 0
+abbrev pub ComputesNow : Survey → (regs : List ℕ) → (j : ℕ) → (old new : List Step) → Signal → (w : ℕ) → Type 0
 ComputesNow t regs j old new n w = (s : ℕ) → ComputesAt t regs j s old new n w
 
 -- so it is with the signal's own step, whatever it is
-abbrev pub OwnNow : Tables → (regs : List ℕ) → (j s : ℕ) → (old new : List Step) → Signal → (w : ℕ) → Type 0
+abbrev pub OwnNow : Survey → (regs : List ℕ) → (j s : ℕ) → (old new : List Step) → Signal → (w : ℕ) → Type 0
 OwnNow t regs j s old new n w =
     (g : Graph) (p : Names) (r : Roles) → Suits g p r t j → StandsAt g s n → at t.homes.items s ≡ j → SignalNow g p r t regs j s old new w
 
 -- the code serves the signals that are at home in loop j and lower than s
-abbrev pub ServesUpTo : Graph → Names → Roles → Tables → (j s : ℕ) → (regs : List ℕ) → List Step → Type 0
+abbrev pub ServesUpTo : Graph → Names → Roles → Survey → (j s : ℕ) → (regs : List ℕ) → List Step → Type 0
 ServesUpTo g p r t j s regs steps =
     (means : List Mean) × (ended : Place → Bool) × Serves g p r (known_at t.homes.items j s) regs steps means ended
     × EndedAre p r (known_at t.homes.items j s) ended
@@ -153,7 +153,7 @@ with_append steps None w = steps
 with_append steps (Some l) w = steps ++ step.Append l w ∷ []
 
 -- one signal more
-abbrev pub AddsNow : Tables → (j s : ℕ) → Signal → (old_regs : List ℕ) → (old : List Step) → (new_regs : List ℕ) → (new : List Step) → Type 0
+abbrev pub AddsNow : Survey → (j s : ℕ) → Signal → (old_regs : List ℕ) → (old : List Step) → (new_regs : List ℕ) → (new : List Step) → Type 0
 AddsNow t j s n old_regs old new_regs new =
     ((w : ℕ) × (new_regs ≡ slice_set old_regs s w))
     × ((g : Graph) (p : Names) (r : Roles) → Suits g p r t j → StandsAt g s n → at t.homes.items s ≡ j → s < length old_regs →
@@ -169,10 +169,10 @@ abbrev pub code_in : List (Vec Step Global) → ℕ → List Step
 code_in codes j = steps_of (slice_get codes j)
 
 -- each loop's code serves what is lower than s
-abbrev pub AllServe : Graph → Tables → (loops s : ℕ) → (regs : List ℕ) → List (Vec Step Global) → Type 0
+abbrev pub AllServe : Graph → Survey → (loops s : ℕ) → (regs : List ℕ) → List (Vec Step Global) → Type 0
 AllServe g t loops s regs codes = (j : ℕ) → j < loops → (p : Names) (r : Roles) → Suits g p r t j → ServesUpTo g p r t j s regs (code_in codes j)
 
--- the code of each loop fits the graph, whatever names and roles the tables suit
-pub record AreCodes (g : Graph) (t : Tables) (loops : ℕ) (codes : List (Vec Step Global)) : Type 0 where
+-- the code of each loop fits the graph, whatever names and roles the survey suits
+pub record AreCodes (g : Graph) (t : Survey) (loops : ℕ) (codes : List (Vec Step Global)) : Type 0 where
   pub long : length codes ≡ loops
   pub fit : (j : ℕ) → j < loops → (p : Names) (r : Roles) → Suits g p r t j → CodeFits g p r nothing [] (code_in codes j)

@@ -5,11 +5,11 @@ ghost use Rattle.fv_split_components.specs.headline.Reach.{at};
 ghost use Rattle.fv_signal.specs.declared.signal.Signal.{Signal};
 ghost use Rattle.fv_signal.specs.declared.signal.Signal.TheVariants as signal;
 ghost use Rattle.fv_split_plan.specs.inner.Separated.{OperandsWithin};
-ghost use Rattle.fv_split_code.specs.Emitted.{AreTables, StoodNow, ComputesNow, ComputesAt, OwnNow, AddsNow, AreCodes, write_of, with_append, code_in};
+ghost use Rattle.fv_split_code.specs.Emitted.{IsSurvey, StoodNow, ComputesNow, ComputesAt, OwnNow, AddsNow, AreCodes, write_of, with_append, code_in};
 
 use crate::kind::Kind;
 use crate::operand::{operand, operands, push};
-use crate::tables::Tables;
+use crate::survey::Survey;
 use fv_loopcode::Step;
 use fv_num::Op;
 use fv_signal::{Graph, Signal, SignalId};
@@ -53,21 +53,21 @@ fn stand(stands: &[SignalId], x: SignalId) -> u64
 // The register of what a signal stands for.
 fn operand_of(
     code: &mut Vec<Step>,
-    tables: &Tables,
+    survey: &Survey,
     registers: &[u64],
     own: u64,
     x: SignalId,
 ) -> Result<u64, AllocError>
-    requires tables { AreTables (length registers.now) tables.now }
+    requires survey { IsSurvey (length registers.now) survey.now }
     requires x { x < length registers.now }
-    ensures { IfOk result (λ w. StoodNow tables.now registers.now own code.old.items code.new.items x w) }
+    ensures { IfOk result (λ w. StoodNow survey.now registers.now own code.old.items code.new.items x w) }
 {
-    let s = stand(&tables.stands, x);
+    let s = stand(&survey.stands, x);
     operand(
         code,
-        tables.kinds[s as usize],
+        survey.kinds[s as usize],
         registers,
-        &tables.owners,
+        &survey.owners,
         own,
         s,
     )
@@ -76,23 +76,23 @@ fn operand_of(
 // An operation.
 fn point(
     code: &mut Vec<Step>,
-    tables: &Tables,
+    survey: &Survey,
     registers: &[u64],
     own: u64,
     op: Op,
     args: [SignalId; 4],
 ) -> Result<u64, AllocError>
-    requires tables { AreTables (length registers.now) tables.now }
+    requires survey { IsSurvey (length registers.now) survey.now }
     requires args { All (λ a. a < length registers.now) args }
-    ensures { IfOk result (λ w. ComputesNow tables.now registers.now own code.old.items code.new.items (signal.Point op args) w) }
+    ensures { IfOk result (λ w. ComputesNow survey.now registers.now own code.old.items code.new.items (signal.Point op args) w) }
 {
-    let signals = stood(&tables.stands, args);
+    let signals = stood(&survey.stands, args);
     let n = op.inputs() as usize;
     let found = operands(
         code,
-        &tables.kinds,
+        &survey.kinds,
         registers,
-        &tables.owners,
+        &survey.owners,
         own,
         &signals[..n],
     )?;
@@ -102,17 +102,17 @@ fn point(
 // A delay that never goes back.
 fn still(
     code: &mut Vec<Step>,
-    tables: &Tables,
+    survey: &Survey,
     registers: &[u64],
     own: u64,
     x: SignalId,
     d: SignalId,
 ) -> Result<u64, AllocError>
-    requires tables { AreTables (length registers.now) tables.now }
+    requires survey { IsSurvey (length registers.now) survey.now }
     requires x { x < length registers.now }
-    ensures { IfOk result (λ w. ComputesNow tables.now registers.now own code.old.items code.new.items (signal.Delay x d 0) w) }
+    ensures { IfOk result (λ w. ComputesNow survey.now registers.now own code.old.items code.new.items (signal.Delay x d 0) w) }
 {
-    let w = operand_of(code, tables, registers, own, x)?;
+    let w = operand_of(code, survey, registers, own, x)?;
     push(
         code,
         Step::Point {
@@ -125,22 +125,22 @@ fn still(
 // A delay that may go back.
 fn delayed(
     code: &mut Vec<Step>,
-    tables: &Tables,
+    survey: &Survey,
     registers: &[u64],
     own: u64,
     x: SignalId,
     d: SignalId,
     max: u32,
 ) -> Result<u64, AllocError>
-    requires tables { AreTables (length registers.now) tables.now }
+    requires survey { IsSurvey (length registers.now) survey.now }
     requires x { x < length registers.now }
     requires d { d < length registers.now }
     requires max { 1 ≤ max }
-    ensures { IfOk result (λ w. ComputesNow tables.now registers.now own code.old.items code.new.items (signal.Delay x d max) w) }
+    ensures { IfOk result (λ w. ComputesNow survey.now registers.now own code.old.items code.new.items (signal.Delay x d max) w) }
 {
-    let back = operand_of(code, tables, registers, own, d)?;
-    let source = stand(&tables.stands, x);
-    let lane = tables.lanes[source as usize].unwrap_or(0);
+    let back = operand_of(code, survey, registers, own, d)?;
+    let source = stand(&survey.stands, x);
+    let lane = survey.lanes[source as usize].unwrap_or(0);
     push(
         code,
         Step::Load {
@@ -154,45 +154,45 @@ fn delayed(
 // An item of a table.
 fn read(
     code: &mut Vec<Step>,
-    tables: &Tables,
+    survey: &Survey,
     registers: &[u64],
     own: u64,
     table: u64,
     r: SignalId,
 ) -> Result<u64, AllocError>
-    requires tables { AreTables (length registers.now) tables.now }
+    requires survey { IsSurvey (length registers.now) survey.now }
     requires r { r < length registers.now }
-    ensures { IfOk result (λ w. ComputesNow tables.now registers.now own code.old.items code.new.items (signal.Read table r) w) }
+    ensures { IfOk result (λ w. ComputesNow survey.now registers.now own code.old.items code.new.items (signal.Read table r) w) }
 {
-    let arg = operand_of(code, tables, registers, own, r)?;
+    let arg = operand_of(code, survey, registers, own, r)?;
     push(code, Step::Read { table, arg })
 }
 
 // A table that is written and then read, which is signal s. Its operands are where and what is written, and where it is read.
 fn written(
     code: &mut Vec<Step>,
-    tables: &Tables,
+    survey: &Survey,
     registers: &[u64],
     own: u64,
     s: u64,
     table: u64,
     args: [SignalId; 3],
 ) -> Result<u64, AllocError>
-    requires tables { AreTables (length registers.now) tables.now }
+    requires survey { IsSurvey (length registers.now) survey.now }
     requires signal { s < length registers.now }
     requires args { All (λ a. a < length registers.now) args }
-    ensures { IfOk result (λ w. ComputesAt tables.now registers.now own s code.old.items code.new.items (write_of table args) w) }
+    ensures { IfOk result (λ w. ComputesAt survey.now registers.now own s code.old.items code.new.items (write_of table args) w) }
 {
-    let signals = stood_three(&tables.stands, args);
+    let signals = stood_three(&survey.stands, args);
     let found = operands(
         code,
-        &tables.kinds,
+        &survey.kinds,
         registers,
-        &tables.owners,
+        &survey.owners,
         own,
         &signals,
     )?;
-    let cells = tables.cells[s as usize].unwrap_or(0);
+    let cells = survey.cells[s as usize].unwrap_or(0);
     push(
         code,
         Step::Write {
@@ -205,24 +205,24 @@ fn written(
 // An operation, a delay or a table.
 fn computed(
     code: &mut Vec<Step>,
-    tables: &Tables,
+    survey: &Survey,
     registers: &[u64],
     own: u64,
     s: u64,
     node: Signal,
 ) -> Result<u64, AllocError>
-    requires tables { AreTables (length registers.now) tables.now }
+    requires survey { IsSurvey (length registers.now) survey.now }
     requires operands { OperandsWithin (length registers.now) node }
     requires signal { s < length registers.now }
-    ensures { IfOk result (λ w. ComputesAt tables.now registers.now own s code.old.items code.new.items node w) }
+    ensures { IfOk result (λ w. ComputesAt survey.now registers.now own s code.old.items code.new.items node w) }
 {
     match node {
-        Signal::Point { op, args } => point(code, tables, registers, own, op, args),
+        Signal::Point { op, args } => point(code, survey, registers, own, op, args),
         Signal::Delay { x, d, max } => {
             if max == 0 {
-                still(code, tables, registers, own, x, d)
+                still(code, survey, registers, own, x, d)
             } else {
-                delayed(code, tables, registers, own, x, d, max)
+                delayed(code, survey, registers, own, x, d, max)
             }
         }
         Signal::Input(_) => Ok(0),
@@ -230,9 +230,9 @@ fn computed(
         Signal::Control(_) => Ok(0),
         Signal::Back { group: _, i: _ } => Ok(0),
         Signal::Member { group: _, i: _ } => Ok(0),
-        Signal::Read { table, r } => read(code, tables, registers, own, table, r),
+        Signal::Read { table, r } => read(code, survey, registers, own, table, r),
         Signal::Write { table, w, x, r } => {
-            written(code, tables, registers, own, s, table, [w, x, r])
+            written(code, survey, registers, own, s, table, [w, x, r])
         }
     }
 }
@@ -240,21 +240,21 @@ fn computed(
 // A signal's own step.
 fn own_step(
     code: &mut Vec<Step>,
-    tables: &Tables,
+    survey: &Survey,
     registers: &[u64],
     own: u64,
     s: u64,
     node: Signal,
 ) -> Result<u64, AllocError>
-    requires tables { AreTables (length registers.now) tables.now }
+    requires survey { IsSurvey (length registers.now) survey.now }
     requires operands { OperandsWithin (length registers.now) node }
     requires signal { s < length registers.now }
-    ensures { IfOk result (λ w. OwnNow tables.now registers.now own s code.old.items code.new.items node w) }
+    ensures { IfOk result (λ w. OwnNow survey.now registers.now own s code.old.items code.new.items node w) }
 {
-    let base = tables.bases[s as usize];
+    let base = survey.bases[s as usize];
     match base {
-        Kind::Inner => computed(code, tables, registers, own, s, node),
-        _ => operand(code, base, registers, &tables.owners, own, s),
+        Kind::Inner => computed(code, survey, registers, own, s, node),
+        _ => operand(code, base, registers, &survey.owners, own, s),
     }
 }
 
@@ -281,19 +281,19 @@ fn append(code: &mut Vec<Step>, lane: Option<u64>, register: u64) -> Result<(), 
 fn add(
     code: &mut Vec<Step>,
     registers: &mut Vec<u64>,
-    tables: &Tables,
+    survey: &Survey,
     own: u64,
     s: u64,
     node: Signal,
 ) -> Result<(), AllocError>
-    requires tables { AreTables (length registers.old.items) tables.now }
+    requires survey { IsSurvey (length registers.old.items) survey.now }
     requires operands { OperandsWithin (length registers.old.items) node }
     requires signal { s < length registers.old.items }
-    ensures { OnOk result (AddsNow tables.now own s node registers.old.items code.old.items registers.new.items code.new.items) }
+    ensures { OnOk result (AddsNow survey.now own s node registers.old.items code.old.items registers.new.items code.new.items) }
 {
-    let register = own_step(code, tables, registers, own, s, node)?;
+    let register = own_step(code, survey, registers, own, s, node)?;
     registers[s as usize] = register;
-    append(code, tables.lanes[s as usize], register)
+    append(code, survey.lanes[s as usize], register)
 }
 
 // Few loops have more steps: so many have room before the code of a loop grows.
@@ -314,22 +314,22 @@ fn no_codes(alloc: Global, loops: u64) -> Result<Vec<Vec<Step>>, AllocError>
 pub fn codes(
     alloc: Global,
     graph: &Graph,
-    tables: &Tables,
+    survey: &Survey,
     loops: u64,
 ) -> Result<Vec<Vec<Step>>, AllocError>
-    requires { AreTables (length graph.now.signals) tables.now }
-    ensures { IfOk result (λ codes. AreCodes graph.now tables.now loops codes.items) }
+    requires { IsSurvey (length graph.now.signals) survey.now }
+    ensures { IfOk result (λ codes. AreCodes graph.now survey.now loops codes.items) }
 {
     let mut codes = no_codes(alloc, loops)?;
     let mut registers = vec![in alloc; 0_u64; graph.len() as usize]?;
     for s in 0..graph.len() {
-        let own = tables.homes[s as usize];
+        let own = survey.homes[s as usize];
         if own < loops {
             let node = graph.signal(SignalId::new(s));
             add(
                 &mut codes[own as usize],
                 &mut registers,
-                tables,
+                survey,
                 own,
                 s,
                 node,

@@ -5,9 +5,9 @@ mod emit;
 mod held;
 mod kind;
 mod operand;
-mod tables;
+mod survey;
 
 pub use emit::codes;
 pub use held::{HeldValues, held_code};
 pub use kind::Kind;
-pub use tables::Tables;
+pub use survey::Survey;

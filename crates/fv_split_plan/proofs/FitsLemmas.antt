@@ -9,8 +9,7 @@ use Rattle.fv_num.specs.headline.Words.{argument, apply_of, inputs_of}
 use Rattle.std.specs.Int.{int_max}
 use Rattle.fv_num.specs.declared.op.Op.{Op}
 use Rattle.fv_num.specs.headline.Frames.{Frame, Stream, column, back, delayed}
-use Rattle.fv_num.specs.headline.Tables.{place, read_at, written_at}
-use Rattle.fv_num.specs.Tables.{written, after}
+use Rattle.fv_num.specs.headline.Tables.{place, read_at, written_at, written, after}
 use Rattle.fv_num.proofs.Tables.{lists_the_last}
 use Rattle.fv_signal.specs.declared.signal.Signal.{Signal}
 use Rattle.fv_signal.specs.declared.signal.Signal.TheVariants as signal

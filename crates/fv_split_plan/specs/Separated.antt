@@ -1,4 +1,4 @@
--- What calls say beside `headline/Separated`: the separated signals of a graph, which have lanes, and what each signal reads and reaches (this project's profile).
+-- What calls say beside `headline/Separated`: which tables are written, and which lanes and cells signals have (this project's profile).
 use Rattle.std.specs.Prelude.{ℕ, List, slice_index_or, Option, None}
 use Rattle.fv_signal.specs.declared.signal.Signal.{Signal}
 use Rattle.fv_signal.specs.declared.signal.Signal.TheVariants.{Input, Const, Control, Point, Delay, Back, Member, Read, Write}

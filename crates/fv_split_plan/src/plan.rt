@@ -34,7 +34,8 @@ impl Model for Plan {
 
     ghost view = { λ a. plan_with a.loops a.lanes.items (lists_of a.tables.items) a.cells.items a.codes.items a.reads.items a.outputs.items a.held };
 
-    ghost invariant = { λ a. IsPlan (plan_with a.loops a.lanes.items (lists_of a.tables.items) a.cells.items a.codes.items a.reads.items a.outputs.items a.held) };
+    ghost invariant = { λ a. IsPlan (plan_with a.loops a.lanes.items (lists_of a.tables.items) a.cells.items a.codes.items
+        a.reads.items a.outputs.items a.held) };
 }
 
 impl Plan {

@@ -3,224 +3,310 @@
 use fv_analysis::{largest_delays, rates};
 use fv_num::Op;
 use fv_outside::Reads;
-use fv_share::Builder;
-use fv_signal::{Graph, Signal};
+use fv_signal::Graph;
 use fv_split::split;
-use fv_split_plan::{LaneInfo, Plan};
+use fv_split_plan::{CellsInfo, LaneInfo, Plan};
 use std::alloc::{AllocError, Global};
 use std::process::Abort;
 use std::test::Fail;
-use test_graphs::{delayed, difference, late, pair};
+use test_graphs::{Line, graph_over};
 
 // The plan of a graph.
-pub fn plan_of(alloc: Global, graph: &Graph) -> Result<Plan, AllocError> {
-    let tables = graph.tables();
-    if tables != 0 {
-        return Err(AllocError);
-    }
+pub(crate) fn plan_of(alloc: Global, graph: &Graph) -> Result<Plan, AllocError> {
     let rates = rates(alloc, graph)?;
     let histories = largest_delays(alloc, graph)?;
     split(alloc, graph, &rates, &histories)
 }
 
-// A lane of a loop.
-fn lane(owner: u64, history: u64) -> LaneInfo {
-    LaneInfo { owner, history }
+// A graph as a table, and its plan, which has the graph's tables: the lanes, the cells, which loop reads which, the lanes of the outputs,
+// and how many steps each loop's code has.
+#[derive(Clone, Copy)]
+struct Row {
+    lines: &'static [Line],
+    groups: &'static [&'static [u64]],
+    tables: &'static [&'static [i32]],
+    outputs: &'static [u64],
+    lanes: &'static [LaneInfo],
+    cells: &'static [CellsInfo],
+    reads: &'static [Reads],
+    ends: &'static [u64],
+    steps: &'static [u64],
 }
 
-// The codes have these numbers of steps.
-fn assert_steps(rt: &impl Abort, plan: &Plan, wanted: &[u64]) {
-    assert_eq!(rt; plan.loops(), wanted.len() as u64);
-    for j in 0..plan.loops() {
-        assert_eq!(rt; plan.code(j).len(), wanted[j as usize], "steps of loop {j}");
+// The graph has this plan. Answers how many held values it has.
+fn assert_plan(rt: &impl Abort, alloc: Global, row: &Row) -> Result<u64, Fail> {
+    let graph = graph_over(alloc, row.lines, row.groups, row.tables, row.outputs)?;
+    let plan = plan_of(alloc, &graph)?;
+    assert_eq!(rt;
+        (plan.lanes(), plan.cells(), plan.reads(), plan.outputs()),
+        (row.lanes, row.cells, row.reads, row.ends)
+    );
+    assert_eq!(rt;
+        (plan.loops(), plan.tables()),
+        (row.steps.len() as u64, row.tables.len() as u64)
+    );
+    for t in 0..plan.tables() {
+        assert_eq!(rt; plan.table(t), row.tables[t as usize], "table {t}");
     }
+    for j in 0..plan.loops() {
+        assert_eq!(rt;
+            plan.code(j).len(),
+            row.steps[j as usize],
+            "steps of loop {j}"
+        );
+    }
+    Ok(plan.held().len())
 }
 
-// A signal less its `mem`: the input and the difference, which reads the input's lane.
-#[test]
-fn a_signal_less_its_mem(rt: HostRuntime) -> Result<(), Fail> {
-    let graph = difference(rt.alloc())?;
-    let plan = plan_of(rt.alloc(), &graph)?;
-    let read = Reads {
-        reader: 1,
-        source: 0,
-    };
-    assert_eq!(rt; plan.reads(), [read].as_slice());
-    assert_eq!(rt; plan.lanes(), [lane(0, 1), lane(1, 0)].as_slice());
-    assert_eq!(rt; plan.outputs(), [1].as_slice());
+// Lanes of the first three loops, without a history, and with one of a sample.
+const NOW_0: LaneInfo = LaneInfo {
+    owner: 0,
+    history: 0,
+};
+
+const NOW_1: LaneInfo = LaneInfo {
+    owner: 1,
+    history: 0,
+};
+
+const NOW_2: LaneInfo = LaneInfo {
+    owner: 2,
+    history: 0,
+};
+
+const LATE_0: LaneInfo = LaneInfo {
+    owner: 0,
+    history: 1,
+};
+
+const LATE_1: LaneInfo = LaneInfo {
+    owner: 1,
+    history: 1,
+};
+
+// The second loop reads the first, and the third the second.
+const SECOND: Reads = Reads {
+    reader: 1,
+    source: 0,
+};
+
+const THIRD: Reads = Reads {
+    reader: 2,
+    source: 1,
+};
+
+// The cells of the first loop's table.
+const CELLS_0: CellsInfo = CellsInfo { owner: 0, table: 0 };
+
+const ROWS: [Row; 11] = [
+    // A signal less its `mem`: the input and the difference, which reads the input's lane.
     // Input, append; held, load of the delay, number, load of the input, subtraction, append.
-    assert_steps(&rt, &plan, &[2, 6]);
+    Row {
+        lines: &[
+            Line::Input(0),
+            Line::Const(1),
+            Line::Delay(0, 1, 1),
+            Line::Pair(Op::Sub, 0, 2),
+        ],
+        groups: &[],
+        tables: &[],
+        outputs: &[3],
+        lanes: &[LATE_0, NOW_1],
+        cells: &[],
+        reads: &[SECOND],
+        ends: &[1],
+        steps: &[2, 6],
+    },
+    // `_ : mem : mem`: three loops in a row.
+    Row {
+        lines: &[
+            Line::Input(0),
+            Line::Const(1),
+            Line::Delay(0, 1, 1),
+            Line::Delay(2, 1, 1),
+        ],
+        groups: &[],
+        tables: &[],
+        outputs: &[3],
+        lanes: &[LATE_0, LATE_1, NOW_2],
+        cells: &[],
+        reads: &[SECOND, THIRD],
+        ends: &[2],
+        steps: &[2, 3, 3],
+    },
+    // `5 : mem`: the number has a lane, which the delay alone reads.
+    Row {
+        lines: &[Line::Const(5), Line::Const(1), Line::Delay(0, 1, 1)],
+        groups: &[],
+        tables: &[],
+        outputs: &[2],
+        lanes: &[LATE_0, NOW_1],
+        cells: &[],
+        reads: &[SECOND],
+        ends: &[1],
+        steps: &[2, 3],
+    },
+    // `7, 7 + _`: the number has a lane, and the sum takes it as a number.
+    Row {
+        lines: &[Line::Const(7), Line::Input(0), Line::Pair(Op::Add, 0, 1)],
+        groups: &[],
+        tables: &[],
+        outputs: &[0, 2],
+        lanes: &[NOW_0, NOW_1],
+        cells: &[],
+        reads: &[],
+        ends: &[0, 1],
+        steps: &[2, 4],
+    },
+    // A delay of at most 0 is its operand.
+    Row {
+        lines: &[Line::Input(0), Line::Const(0), Line::Delay(0, 1, 0)],
+        groups: &[],
+        tables: &[],
+        outputs: &[2],
+        lanes: &[NOW_0],
+        cells: &[],
+        reads: &[],
+        ends: &[0],
+        steps: &[3],
+    },
+    // `_ <: @(0), _`: the delay is in a loop of its own, which reads the input's lane now.
+    // Input, append; number, load, the greater of the load and itself, append.
+    Row {
+        lines: &[Line::Input(0), Line::Const(0), Line::Delay(0, 1, 0)],
+        groups: &[],
+        tables: &[],
+        outputs: &[2, 0],
+        lanes: &[NOW_0, NOW_1],
+        cells: &[],
+        reads: &[SECOND],
+        ends: &[1, 0],
+        steps: &[2, 4],
+    },
+    // Two groups, each of which reads the other's member one sample ago, are one loop of two lanes.
+    // Of each: input, number, load, operation, append.
+    Row {
+        lines: &[
+            Line::Input(0),
+            Line::Back(0, 0),
+            Line::Back(1, 0),
+            Line::Pair(Op::Add, 0, 2),
+            Line::Pair(Op::Mul, 0, 1),
+            Line::Member(0, 0),
+        ],
+        groups: &[&[3], &[4]],
+        tables: &[],
+        outputs: &[5],
+        lanes: &[LATE_0, LATE_0],
+        cells: &[],
+        reads: &[],
+        ends: &[0],
+        steps: &[10],
+    },
+    // A group whose member is a member of another group: the lane is that of the inner definition.
+    // Input, number, load, addition, append.
+    Row {
+        lines: &[
+            Line::Input(0),
+            Line::Back(1, 0),
+            Line::Pair(Op::Add, 0, 1),
+            Line::Member(0, 0),
+            Line::Member(1, 0),
+        ],
+        groups: &[&[2], &[3]],
+        tables: &[],
+        outputs: &[4],
+        lanes: &[LATE_0],
+        cells: &[],
+        reads: &[],
+        ends: &[0],
+        steps: &[5],
+    },
+    // `(+ ~ _) ~ (+(1))`: both groups have one definition, so there is one loop with one lane.
+    // Number, load, held, addition; number, load, addition, append.
+    Row {
+        lines: &[
+            Line::Back(1, 0),
+            Line::Const(1),
+            Line::Pair(Op::Add, 0, 1),
+            Line::Back(0, 0),
+            Line::Pair(Op::Add, 3, 2),
+            Line::Member(0, 0),
+            Line::Member(1, 0),
+        ],
+        groups: &[&[4], &[5]],
+        tables: &[],
+        outputs: &[6],
+        lanes: &[LATE_0],
+        cells: &[],
+        reads: &[],
+        ends: &[0],
+        steps: &[8],
+    },
+    // `waveform{2, 3}, _ : rdtable`: what is read is an output.
+    // Input, the read, append.
+    Row {
+        lines: &[Line::Input(0), Line::Read(0, 0)],
+        groups: &[],
+        tables: &[&[2, 3]],
+        outputs: &[1],
+        lanes: &[NOW_0],
+        cells: &[],
+        reads: &[],
+        ends: &[0],
+        steps: &[3],
+    },
+    // A table that is written is an operand of one sum alone, and has a lane and cells.
+    // Three inputs, the write, append; number, load of its lane, input, sum, append.
+    Row {
+        lines: &[
+            Line::Input(0),
+            Line::Input(1),
+            Line::Write(0, 0, 1, 0),
+            Line::Pair(Op::Add, 2, 1),
+        ],
+        groups: &[],
+        tables: &[&[2, 3]],
+        outputs: &[3],
+        lanes: &[NOW_0, NOW_1],
+        cells: &[CELLS_0],
+        reads: &[SECOND],
+        ends: &[1],
+        steps: &[5, 5],
+    },
+];
+
+#[test]
+fn small_graphs(rt: HostRuntime) -> Result<(), Fail> {
+    for row in &ROWS {
+        let _held = assert_plan(&rt, rt.alloc(), row)?;
+    }
     Ok(())
 }
 
-// `_ + 1, _ * 2`
+// `_ + 1, _ * 2`: two loops that read nothing.
+// The input, the held number, the operation and its append.
+const APART: Row = Row {
+    lines: &[
+        Line::Input(0),
+        Line::Const(1),
+        Line::Pair(Op::Add, 0, 1),
+        Line::Input(1),
+        Line::Const(2),
+        Line::Pair(Op::Mul, 3, 4),
+    ],
+    groups: &[],
+    tables: &[],
+    outputs: &[2, 5],
+    lanes: &[NOW_0, NOW_1],
+    cells: &[],
+    reads: &[],
+    ends: &[0, 1],
+    steps: &[4, 4],
+};
+
 #[test]
 fn two_loops_that_read_nothing(rt: HostRuntime) -> Result<(), Fail> {
-    let mut builder = Builder::new(rt.alloc());
-    let first = builder.node(Signal::Input(0))?;
-    let one = builder.node(Signal::Const(1))?;
-    let sum = pair(&mut builder, Op::Add, first, one)?;
-    let second = builder.node(Signal::Input(1))?;
-    let two = builder.node(Signal::Const(2))?;
-    let product = pair(&mut builder, Op::Mul, second, two)?;
-    let graph = builder.finish(&[sum, product])?;
-    let plan = plan_of(rt.alloc(), &graph)?;
-    assert!(rt; plan.reads().is_empty());
-    assert_eq!(rt; plan.outputs(), [0, 1].as_slice());
-    // The input, the held number, the operation and its append.
-    assert_steps(&rt, &plan, &[4, 4]);
-    assert_eq!(rt; plan.held().len(), 2);
-    Ok(())
-}
-
-// `_ : mem : mem`
-#[test]
-fn three_loops_in_a_row(rt: HostRuntime) -> Result<(), Fail> {
-    let mut builder = Builder::new(rt.alloc());
-    let input = builder.node(Signal::Input(0))?;
-    let last = late(&mut builder, input, 1)?;
-    let older = late(&mut builder, last, 1)?;
-    let graph = builder.finish(&[older])?;
-    let plan = plan_of(rt.alloc(), &graph)?;
-    assert_eq!(rt;
-        plan.lanes(),
-        [lane(0, 1), lane(1, 1), lane(2, 0)].as_slice()
-    );
-    let reads = [
-        Reads {
-            reader: 1,
-            source: 0,
-        },
-        Reads {
-            reader: 2,
-            source: 1,
-        },
-    ];
-    assert_eq!(rt; plan.reads(), reads.as_slice());
-    assert_steps(&rt, &plan, &[2, 3, 3]);
-    Ok(())
-}
-
-// `5 : mem`: the number has a lane, which the delay alone reads.
-#[test]
-fn a_number_one_sample_late(rt: HostRuntime) -> Result<(), Fail> {
-    let mut builder = Builder::new(rt.alloc());
-    let five = builder.node(Signal::Const(5))?;
-    let last = late(&mut builder, five, 1)?;
-    let graph = builder.finish(&[last])?;
-    let plan = plan_of(rt.alloc(), &graph)?;
-    assert_eq!(rt; plan.lanes(), [lane(0, 1), lane(1, 0)].as_slice());
-    assert_steps(&rt, &plan, &[2, 3]);
-    Ok(())
-}
-
-// `7, 7 + _`: the number has a lane, and the sum takes it as a number.
-#[test]
-fn a_constant_output(rt: HostRuntime) -> Result<(), Fail> {
-    let mut builder = Builder::new(rt.alloc());
-    let seven = builder.node(Signal::Const(7))?;
-    let input = builder.node(Signal::Input(0))?;
-    let sum = pair(&mut builder, Op::Add, seven, input)?;
-    let graph = builder.finish(&[seven, sum])?;
-    let plan = plan_of(rt.alloc(), &graph)?;
-    assert!(rt; plan.reads().is_empty());
-    assert_steps(&rt, &plan, &[2, 4]);
-    Ok(())
-}
-
-// A delay of at most 0 is its operand.
-#[test]
-fn a_delay_of_nothing(rt: HostRuntime) -> Result<(), Fail> {
-    let graph = delayed(rt.alloc(), 0)?;
-    let plan = plan_of(rt.alloc(), &graph)?;
-    assert_eq!(rt; plan.lanes(), [lane(0, 0)].as_slice());
-    assert_steps(&rt, &plan, &[3]);
-    Ok(())
-}
-
-// Two groups, each of which reads the other's member one sample ago, are one loop of two lanes.
-#[test]
-fn nested_feedback(rt: HostRuntime) -> Result<(), Fail> {
-    let mut builder = Builder::new(rt.alloc());
-    let input = builder.node(Signal::Input(0))?;
-    let first = builder.group()?;
-    let second = builder.group()?;
-    let one = builder.node(Signal::Back { group: first, i: 0 })?;
-    let two = builder.node(Signal::Back {
-        group: second,
-        i: 0,
-    })?;
-    let sum = pair(&mut builder, Op::Add, input, two)?;
-    let product = pair(&mut builder, Op::Mul, input, one)?;
-    builder.close_group(first, &[sum])?;
-    builder.close_group(second, &[product])?;
-    let output = builder.node(Signal::Member { group: first, i: 0 })?;
-    let graph = builder.finish(&[output])?;
-    let plan = plan_of(rt.alloc(), &graph)?;
-    assert_eq!(rt; plan.loops(), 1);
-    assert_eq!(rt; plan.lanes(), [lane(0, 1), lane(0, 1)].as_slice());
-    assert!(rt; plan.reads().is_empty());
-    assert_eq!(rt; plan.outputs(), [0].as_slice());
-    Ok(())
-}
-
-// A group whose member is a member of another group: the lane is that of the inner definition.
-#[test]
-fn a_member_of_a_member(rt: HostRuntime) -> Result<(), Fail> {
-    let mut builder = Builder::new(rt.alloc());
-    let input = builder.node(Signal::Input(0))?;
-    let inner = builder.group()?;
-    let outer = builder.group()?;
-    let last = builder.node(Signal::Back { group: outer, i: 0 })?;
-    let sum = pair(&mut builder, Op::Add, input, last)?;
-    builder.close_group(inner, &[sum])?;
-    let member = builder.node(Signal::Member { group: inner, i: 0 })?;
-    builder.close_group(outer, &[member])?;
-    let output = builder.node(Signal::Member { group: outer, i: 0 })?;
-    let graph = builder.finish(&[output])?;
-    let plan = plan_of(rt.alloc(), &graph)?;
-    assert_eq!(rt; plan.lanes(), [lane(0, 1)].as_slice());
-    assert_eq!(rt; plan.outputs(), [0].as_slice());
-    // Input, number, load, addition, append.
-    assert_steps(&rt, &plan, &[5]);
-    Ok(())
-}
-
-// `_ <: @(0), _`: the delay is in a loop of its own, which reads the input's lane now.
-#[test]
-fn a_delay_of_nothing_beside_its_signal(rt: HostRuntime) -> Result<(), Fail> {
-    let mut builder = Builder::new(rt.alloc());
-    let input = builder.node(Signal::Input(0))?;
-    let same = late(&mut builder, input, 0)?;
-    let graph = builder.finish(&[same, input])?;
-    let plan = plan_of(rt.alloc(), &graph)?;
-    assert_eq!(rt; plan.lanes(), [lane(0, 0), lane(1, 0)].as_slice());
-    assert_eq!(rt; plan.outputs(), [1, 0].as_slice());
-    // Input, append; number, load, the greater of the load and itself, append.
-    assert_steps(&rt, &plan, &[2, 4]);
-    Ok(())
-}
-
-// `(+ ~ _) ~ (+(1))`: both groups have one definition, so there is one loop with one lane.
-#[test]
-fn feedback_around_feedback(rt: HostRuntime) -> Result<(), Fail> {
-    let mut builder = Builder::new(rt.alloc());
-    let inner = builder.group()?;
-    let outer = builder.group()?;
-    let last = builder.node(Signal::Back { group: outer, i: 0 })?;
-    let one = builder.node(Signal::Const(1))?;
-    let more = pair(&mut builder, Op::Add, last, one)?;
-    let before = builder.node(Signal::Back { group: inner, i: 0 })?;
-    let sum = pair(&mut builder, Op::Add, before, more)?;
-    builder.close_group(inner, &[sum])?;
-    let member = builder.node(Signal::Member { group: inner, i: 0 })?;
-    builder.close_group(outer, &[member])?;
-    let output = builder.node(Signal::Member { group: outer, i: 0 })?;
-    let graph = builder.finish(&[output])?;
-    let plan = plan_of(rt.alloc(), &graph)?;
-    assert_eq!(rt; plan.lanes(), [lane(0, 1)].as_slice());
-    assert!(rt; plan.reads().is_empty());
-    // Number, load, held, addition; number, load, addition, append.
-    assert_steps(&rt, &plan, &[8]);
+    assert_eq!(rt; assert_plan(&rt, rt.alloc(), &APART)?, 2);
     Ok(())
 }

@@ -1,11 +1,10 @@
 // Runs over other files than the plainest, and with options.
 
-use crate::runs::{THREE, WORDS, changed, desk_of, status_of};
-use fv_outside::Role;
+use crate::desks::{End, Row, THREE, WORDS, assert_all_end, assert_ends, desk_of};
 use std::alloc::{AllocError, Global};
 use std::test::Fail;
 
-// Two samples of 24 bits, 1 and -2, in an extensible file with an odd chunk.
+/// Two samples of 24 bits, 1 and -2, in an extensible file with an odd chunk.
 pub const ODD: [u8; 86] = [
     82, 73, 70, 70, 78, 0, 0, 0, 87, 65, 86, 69, 102, 109, 116, 32, 40, 0, 0, 0, 254, 255, 1, 0,
     68, 172, 0, 0, 204, 4, 2, 0, 3, 0, 24, 0, 22, 0, 24, 0, 4, 0, 0, 0, 1, 0, 0, 0, 0, 0, 16, 0,
@@ -13,200 +12,347 @@ pub const ODD: [u8; 86] = [
     6, 0, 0, 0, 1, 0, 0, 254, 255, 255,
 ];
 
-// The same samples behind a plain head.
+/// The same samples behind a plain head.
 pub const PLAIN: [u8; 50] = [
     82, 73, 70, 70, 42, 0, 0, 0, 87, 65, 86, 69, 102, 109, 116, 32, 16, 0, 0, 0, 1, 0, 1, 0, 68,
     172, 0, 0, 204, 4, 2, 0, 3, 0, 24, 0, 100, 97, 116, 97, 6, 0, 0, 0, 1, 0, 0, 254, 255, 255,
 ];
 
-// Three bytes of 8 bits, 0, 128 and 255, and their pad byte.
-const BYTES: [u8; 48] = [
-    82, 73, 70, 70, 40, 0, 0, 0, 87, 65, 86, 69, 102, 109, 116, 32, 16, 0, 0, 0, 1, 0, 1, 0, 68,
-    172, 0, 0, 68, 172, 0, 0, 1, 0, 8, 0, 100, 97, 116, 97, 3, 0, 0, 0, 0, 128, 255, 0,
-];
+// Three bytes of 8 bits, 0, 128 and 255, and their pad byte; and as they are one louder.
+const BYTES: [u8; 48] =
+    *b"RIFF\x28\0\0\0WAVEfmt \x10\0\0\0\x01\0\x01\0\x44\xac\0\0\x44\xac\0\0\x01\0\x08\0data\x03\0\0\0\0\x80\xff\0";
 
-// The first bytes of a file, some bytes, and the rest of it from a place on.
-fn spliced(alloc: Global, first: &[u8], middle: &[u8], last: &[u8]) -> Result<Vec<u8>, AllocError> {
-    let mut file = Vec::from_slice(alloc, first)?;
-    file.extend_from_slice(middle)?;
-    file.extend_from_slice(last)?;
-    Ok(file)
-}
+const LOUDER: [u8; 48] =
+    *b"RIFF\x28\0\0\0WAVEfmt \x10\0\0\0\x01\0\x01\0\x44\xac\0\0\x44\xac\0\0\x01\0\x08\0data\x03\0\0\0\x01\x81\xff\0";
+
+// A head of 16 bits without samples, where the file's size is that of three, and as it is.
+const EMPTY: [u8; 44] =
+    *b"RIFF\x2a\0\0\0WAVEfmt \x10\0\0\0\x01\0\x01\0\x44\xac\0\0\x88\x58\x01\0\x02\0\x10\0data\0\0\0\0";
+
+const NO_SAMPLES: [u8; 44] =
+    *b"RIFF\x24\0\0\0WAVEfmt \x10\0\0\0\x01\0\x01\0\x44\xac\0\0\x88\x58\x01\0\x02\0\x10\0data\0\0\0\0";
+
+// The file of three samples with tag 3, with 8 bits, and with two channels.
+const TAG_THREE: [u8; 50] =
+    *b"RIFF\x2a\0\0\0WAVEfmt \x10\0\0\0\x03\0\x01\0\x44\xac\0\0\x88\x58\x01\0\x02\0\x10\0data\x06\0\0\0\x01\0\xfe\xff\x03\0";
+
+const EIGHT_BITS: [u8; 50] =
+    *b"RIFF\x2a\0\0\0WAVEfmt \x10\0\0\0\x01\0\x01\0\x44\xac\0\0\x88\x58\x01\0\x02\0\x08\0data\x06\0\0\0\x01\0\xfe\xff\x03\0";
+
+const TWO_CHANNELS: [u8; 50] =
+    *b"RIFF\x2a\0\0\0WAVEfmt \x10\0\0\0\x01\0\x02\0\x44\xac\0\0\x88\x58\x01\0\x04\0\x10\0data\x06\0\0\0\x01\0\xfe\xff\x03\0";
+
+// Heads of 16 bits that state 4294967294 bytes of samples, and 4294967258; the head that is written of the latter; and a chunk that
+// states 4294967295 bytes.
+const TOO_LONG: [u8; 44] =
+    *b"RIFF\x2a\0\0\0WAVEfmt \x10\0\0\0\x01\0\x01\0\x44\xac\0\0\x88\x58\x01\0\x02\0\x10\0data\xfe\xff\xff\xff";
+
+const LONGEST: [u8; 44] =
+    *b"RIFF\x2a\0\0\0WAVEfmt \x10\0\0\0\x01\0\x01\0\x44\xac\0\0\x88\x58\x01\0\x02\0\x10\0data\xda\xff\xff\xff";
+
+const LONGEST_HEAD: [u8; 44] =
+    *b"RIFF\xfe\xff\xff\xffWAVEfmt \x10\0\0\0\x01\0\x01\0\x44\xac\0\0\x88\x58\x01\0\x02\0\x10\0data\xda\xff\xff\xff";
+
+const LONG_CHUNK: [u8; 20] = *b"RIFF\x2a\0\0\0WAVEJUNK\xff\xff\xff\xff";
 
 #[test]
 fn plays_other_files(rt: HostRuntime) -> Result<(), Fail> {
-    let empty = spliced(rt.alloc(), &THREE[..40], &[0, 0, 0, 0], &[])?;
-    let no_samples = spliced(
-        rt.alloc(),
-        &[82, 73, 70, 70, 36],
-        &THREE[5..40],
-        &[0, 0, 0, 0],
-    )?;
-    let louder = spliced(rt.alloc(), &BYTES[..44], &[1, 129, 255], &[0])?;
-    let rows: [(&[u8], &[u8], &[u8], &[u8]); 4] = [
-        (b"process = _;", &ODD, &PLAIN, b"done 2 frames\n"),
-        (b"process = _;", &BYTES, &BYTES, b"done 3 frames\n"),
-        (b"process = _ + 1;", &BYTES, &louder, b"done 3 frames\n"),
-        (b"process = _;", &empty, &no_samples, b"done 0 frames\n"),
-    ];
-    for (text, input, output, line) in rows {
-        let mut desk = desk_of(rt.alloc(), text, input)?;
-        assert_eq!(rt; status_of(&rt, rt.alloc(), &mut desk, &WORDS)?, 0);
-        assert_eq!(rt; desk.written(Role::Output), output);
-        assert_eq!(rt; desk.written(Role::Report), line);
-    }
-    Ok(())
-}
-
-#[test]
-fn refuses_files(rt: HostRuntime) -> Result<(), Fail> {
-    let two_channels = spliced(rt.alloc(), &THREE[..22], &[2, 0], &THREE[24..32])?;
-    let two_channels = spliced(rt.alloc(), &two_channels, &[4, 0], &THREE[34..])?;
-    let eight_bits = changed(rt.alloc(), 34, 8)?;
-    let tag_three = changed(rt.alloc(), 20, 3)?;
-    let rows: [(&[u8], u8, &[u8], &[u8]); 7] = [
-        (b"hello, world", 4, b"refused 34 NotWave 0\n", &[]),
-        (b"", 4, b"refused 35 WaveTruncated 0\n", &[]),
-        (&tag_three, 4, b"refused 36 WaveFormat 20\n", &[]),
-        (&eight_bits, 4, b"refused 36 WaveFormat 32\n", &[]),
-        (&two_channels, 3, b"refused 29 Channels 2 1\n", &[]),
-        (
-            &THREE[..49],
-            4,
-            b"refused 35 WaveTruncated 49\n",
-            &THREE[..44],
-        ),
-        (
-            &ODD[..85],
-            4,
-            b"refused 35 WaveTruncated 85\n",
-            &PLAIN[..44],
-        ),
-    ];
-    for (input, status, line, left) in rows {
-        let mut desk = desk_of(rt.alloc(), b"process = _;", input)?;
-        assert_eq!(rt; status_of(&rt, rt.alloc(), &mut desk, &WORDS)?, status);
-        assert_eq!(rt; desk.written(Role::Report), line);
-        assert_eq!(rt; desk.written(Role::Output), left);
-    }
-    Ok(())
-}
-
-// Of an input that is cut, just the blocks are played that lie wholly within it.
-#[test]
-fn plays_whole_blocks(rt: HostRuntime) -> Result<(), Fail> {
-    let rows: [(&str, &[u8], &[u8], &[u8]); 4] = [
-        (
-            "--block=1",
-            &ODD[..85],
-            b"refused 35 WaveTruncated 85\n",
-            &PLAIN[..47],
-        ),
-        (
-            "--block=2",
-            &ODD[..85],
-            b"refused 35 WaveTruncated 85\n",
-            &PLAIN[..44],
-        ),
-        (
-            "--block=1",
-            &THREE[..49],
-            b"refused 35 WaveTruncated 49\n",
-            &THREE[..48],
-        ),
-        (
-            "--block=2",
-            &THREE[..49],
-            b"refused 35 WaveTruncated 49\n",
-            &THREE[..48],
-        ),
-    ];
-    for (block, input, line, output) in rows {
-        let mut desk = desk_of(rt.alloc(), b"process = _;", input)?;
-        let words = ["run", "p.dsp", "in.wav", "out.wav", block, "--vector=1"];
-        assert_eq!(rt; status_of(&rt, rt.alloc(), &mut desk, &words)?, 4);
-        assert_eq!(rt; desk.written(Role::Report), line);
-        assert_eq!(rt; desk.written(Role::Output), output);
-    }
-    Ok(())
-}
-
-#[test]
-fn counts_the_chunks(rt: HostRuntime) -> Result<(), Fail> {
-    let rows: [(u32, u8, &[u8]); 2] = [
-        (4095, 0, b"done 3 frames\n"),
-        (4097, 4, b"refused 37 WaveChunks 32780\n"),
-    ];
-    for (count, status, line) in rows {
-        let mut input = Vec::from_slice(rt.alloc(), &THREE[..12])?;
-        for _ in 0..count {
-            input.extend_from_slice(b"JUNK\0\0\0\0")?;
-        }
-        input.extend_from_slice(&THREE[12..])?;
-        let mut desk = desk_of(rt.alloc(), b"process = _;", &input)?;
-        assert_eq!(rt; status_of(&rt, rt.alloc(), &mut desk, &WORDS)?, status);
-        assert_eq!(rt; desk.written(Role::Report), line);
-    }
-    Ok(())
-}
-
-#[test]
-fn widens_samples(rt: HostRuntime) -> Result<(), Fail> {
+    let text = "process = _;";
     let wide = [
         82, 73, 70, 70, 46, 0, 0, 0, 87, 65, 86, 69, 102, 109, 116, 32, 16, 0, 0, 0, 1, 0, 1, 0,
         68, 172, 0, 0, 204, 4, 2, 0, 3, 0, 24, 0, 100, 97, 116, 97, 9, 0, 0, 0, 1, 0, 0, 254, 255,
         255, 3, 0, 0, 0,
     ];
-    let words = [
+    let rows: [Row; 5] = [
+        (&WORDS, text, &ODD, (0, "done 2 frames\n", &PLAIN)),
+        (&WORDS, text, &BYTES, (0, "done 3 frames\n", &BYTES)),
+        (
+            &WORDS,
+            "process = _ + 1;",
+            &BYTES,
+            (0, "done 3 frames\n", &LOUDER),
+        ),
+        (&WORDS, text, &EMPTY, (0, "done 0 frames\n", &NO_SAMPLES)),
+        // samples are widened
+        (
+            &[
+                "run",
+                "--bits=24",
+                "p.dsp",
+                "in.wav",
+                "out.wav",
+                "--block",
+                "7",
+            ],
+            text,
+            &THREE,
+            (0, "done 3 frames\n", &wide),
+        ),
+    ];
+    Ok(assert_all_end(&rt, rt.alloc(), &rows)?)
+}
+
+#[test]
+fn refuses_files(rt: HostRuntime) -> Result<(), Fail> {
+    let text = "process = _;";
+    let rows: [Row; 10] = [
+        (
+            &WORDS,
+            text,
+            b"hello, world",
+            (4, "refused 34 NotWave 0\n", &[]),
+        ),
+        (&WORDS, text, b"", (4, "refused 35 WaveTruncated 0\n", &[])),
+        (
+            &WORDS,
+            text,
+            &TAG_THREE,
+            (4, "refused 36 WaveFormat 20\n", &[]),
+        ),
+        (
+            &WORDS,
+            text,
+            &EIGHT_BITS,
+            (4, "refused 36 WaveFormat 32\n", &[]),
+        ),
+        (
+            &WORDS,
+            text,
+            &TWO_CHANNELS,
+            (3, "refused 29 Channels 2 1\n", &[]),
+        ),
+        (
+            &WORDS,
+            text,
+            &THREE[..49],
+            (4, "refused 35 WaveTruncated 49\n", &THREE[..44]),
+        ),
+        (
+            &WORDS,
+            text,
+            &ODD[..85],
+            (4, "refused 35 WaveTruncated 85\n", &PLAIN[..44]),
+        ),
+        (
+            &WORDS,
+            text,
+            &TOO_LONG,
+            (4, "refused 38 OutputTooLong 4294967294\n", &[]),
+        ),
+        (
+            &WORDS,
+            text,
+            &LONGEST,
+            (4, "refused 35 WaveTruncated 44\n", &LONGEST_HEAD),
+        ),
+        (
+            &WORDS,
+            text,
+            &LONG_CHUNK,
+            (4, "refused 35 WaveTruncated 20\n", &[]),
+        ),
+    ];
+    Ok(assert_all_end(&rt, rt.alloc(), &rows)?)
+}
+
+// Of an input that is cut, just the blocks are played that lie wholly within it.
+#[test]
+fn plays_whole_blocks(rt: HostRuntime) -> Result<(), Fail> {
+    let text = "process = _;";
+    let one = [
         "run",
-        "--bits=24",
         "p.dsp",
         "in.wav",
         "out.wav",
-        "--block",
-        "7",
+        "--block=1",
+        "--vector=1",
     ];
-    let mut desk = desk_of(rt.alloc(), b"process = _;", &THREE)?;
-    assert_eq!(rt; status_of(&rt, rt.alloc(), &mut desk, &words)?, 0);
-    assert_eq!(rt; desk.written(Role::Output), wide.as_slice());
-    assert_eq!(rt; desk.written(Role::Report), b"done 3 frames\n".as_slice());
-    Ok(())
+    let two = [
+        "run",
+        "p.dsp",
+        "in.wav",
+        "out.wav",
+        "--block=2",
+        "--vector=1",
+    ];
+    let rows: [Row; 4] = [
+        (
+            &one,
+            text,
+            &ODD[..85],
+            (4, "refused 35 WaveTruncated 85\n", &PLAIN[..47]),
+        ),
+        (
+            &two,
+            text,
+            &ODD[..85],
+            (4, "refused 35 WaveTruncated 85\n", &PLAIN[..44]),
+        ),
+        (
+            &one,
+            text,
+            &THREE[..49],
+            (4, "refused 35 WaveTruncated 49\n", &THREE[..48]),
+        ),
+        (
+            &two,
+            text,
+            &THREE[..49],
+            (4, "refused 35 WaveTruncated 49\n", &THREE[..48]),
+        ),
+    ];
+    Ok(assert_all_end(&rt, rt.alloc(), &rows)?)
 }
 
 #[test]
 fn reads_scripts(rt: HostRuntime) -> Result<(), Fail> {
-    let rows: [(&[u8], u8, &[u8]); 4] = [
-        (b"# nothing\n\r\n", 0, b"done 3 frames\n"),
-        (b"x g 1", 4, b"refused 30 ControlLine 1\n"),
-        (b"\n0 h 1", 4, b"refused 31 ControlUnknown 2\n"),
-        (b"0 h 2147483648", 4, b"refused 30 ControlLine 1\n"),
+    let text = "process = _;";
+    let rows: [Row; 4] = [
+        (
+            &[
+                "run",
+                "p.dsp",
+                "in.wav",
+                "out.wav",
+                "--controls",
+                "nothing.txt",
+            ],
+            text,
+            &THREE,
+            (0, "done 3 frames\n", &THREE),
+        ),
+        (
+            &[
+                "run",
+                "p.dsp",
+                "in.wav",
+                "out.wav",
+                "--controls",
+                "form.txt",
+            ],
+            text,
+            &THREE,
+            (4, "refused 30 ControlLine 1\n", &[]),
+        ),
+        (
+            &[
+                "run",
+                "p.dsp",
+                "in.wav",
+                "out.wav",
+                "--controls",
+                "label.txt",
+            ],
+            text,
+            &THREE,
+            (4, "refused 31 ControlUnknown 2\n", &[]),
+        ),
+        (
+            &[
+                "run",
+                "p.dsp",
+                "in.wav",
+                "out.wav",
+                "--controls",
+                "value.txt",
+            ],
+            text,
+            &THREE,
+            (4, "refused 30 ControlLine 1\n", &[]),
+        ),
     ];
-    let words = ["run", "p.dsp", "in.wav", "out.wav", "--controls", "c.txt"];
-    for (script, status, line) in rows {
-        let mut desk = desk_of(rt.alloc(), b"process = _;", &THREE)?;
-        desk.put("c.txt", script)?;
-        assert_eq!(rt; status_of(&rt, rt.alloc(), &mut desk, &words)?, status);
-        assert_eq!(rt; desk.written(Role::Report), line);
+    Ok(assert_all_end(&rt, rt.alloc(), &rows)?)
+}
+
+/// So many times some bytes, one after another.
+pub fn built(alloc: Global, pieces: &[(&[u8], u32)]) -> Result<Vec<u8>, AllocError> {
+    let mut all = Vec::new(alloc);
+    for (piece, times) in pieces {
+        for _ in 0..*times {
+            all.extend_from_slice(piece)?;
+        }
     }
-    Ok(())
+    Ok(all)
 }
 
 #[test]
-fn limits_the_script(rt: HostRuntime) -> Result<(), Fail> {
+fn limits_files(rt: HostRuntime) -> Result<(), Fail> {
+    let alloc = rt.alloc();
     let words = ["run", "p.dsp", "in.wav", "out.wav", "--controls", "c.txt"];
-    let rows: [(usize, u8, &[u8]); 2] = [
-        (1_048_576, 0, b"done 3 frames\n"),
-        (1_048_577, 4, b"refused 4 TextTooLong controls\n"),
+    let text = b"process = _ * hslider(\"my gain\",1,0,10,1);";
+    let done = (0, "done 3 frames\n", THREE.as_slice());
+    let rows: [(&[&str], &str, &[(&[u8], u32)], End); 9] = [
+        // open brackets
+        (
+            &WORDS,
+            "p.dsp",
+            &[
+                (b"process = ", 1),
+                (b"(", 128),
+                (b"_", 1),
+                (b")", 128),
+                (b";", 1),
+            ],
+            done,
+        ),
+        (
+            &WORDS,
+            "p.dsp",
+            &[(b"process = ", 1), (b"(", 129)],
+            (3, "refused 43 Nesting 1 139\n", &[]),
+        ),
+        // bytes of a program, and of a script
+        (
+            &WORDS,
+            "p.dsp",
+            &[(b"process = _;", 1), (b" ", 1_048_564)],
+            done,
+        ),
+        (
+            &WORDS,
+            "p.dsp",
+            &[(b"process = _;", 1), (b" ", 1_048_565)],
+            (3, "refused 4 TextTooLong program\n", &[]),
+        ),
+        (&words, "c.txt", &[(b"#", 1_048_576)], done),
+        (
+            &words,
+            "c.txt",
+            &[(b"#", 1_048_577)],
+            (4, "refused 4 TextTooLong controls\n", &[]),
+        ),
+        (
+            &words,
+            "c.txt",
+            &[(b"1", 1_048_576)],
+            (4, "refused 30 ControlLine 1\n", &[]),
+        ),
+        // chunks
+        (
+            &WORDS,
+            "in.wav",
+            &[
+                (&THREE[..12], 1),
+                (b"JUNK\0\0\0\0", 4095),
+                (&THREE[12..], 1),
+            ],
+            done,
+        ),
+        (
+            &WORDS,
+            "in.wav",
+            &[
+                (&THREE[..12], 1),
+                (b"JUNK\0\0\0\0", 4097),
+                (&THREE[12..], 1),
+            ],
+            (4, "refused 37 WaveChunks 32780\n", &[]),
+        ),
     ];
-    for (size, status, line) in rows {
-        let mut script = Vec::new(rt.alloc());
-        for _ in 0..size {
-            script.push(b'#')?;
-        }
-        let mut desk = desk_of(rt.alloc(), b"process = _;", &THREE)?;
-        desk.put("c.txt", &script)?;
-        assert_eq!(rt; status_of(&rt, rt.alloc(), &mut desk, &words)?, status);
-        assert_eq!(rt; desk.written(Role::Report), line);
+    for (words, name, pieces, end) in rows {
+        let mut desk = desk_of(alloc, text, &THREE)?;
+        desk.put(name, &built(alloc, pieces)?)?;
+        assert_ends(&rt, alloc, &mut desk, words, end)?;
     }
     Ok(())
 }

@@ -1,11 +1,17 @@
 // Desks that give and take little at a time, and desks that fail.
 
+ghost use Rattle.std.specs.Prelude.{◌≤◌};
+
+use crate::au::{AU_OPEN, AU_THREE, TO_AU};
+use crate::desks::{Row, THREE, WORDS, assert_ends, desk_of, status_of};
 use crate::files::{ODD, PLAIN};
-use crate::language::{BLOCKS_OF_FOUR, file_of};
-use crate::runs::{THREE, WORDS, desk_of, status_of};
+use crate::language::{BLOCKS_OF_FOUR, GAIN};
 use fv_outside::{MemoryDesk, Role};
 use std::alloc::{AllocError, Global};
+use std::process::Abort;
+use std::sync::Wait;
 use std::test::Fail;
+use std::thread::Threads;
 
 const ROLES: [Role; 5] = [
     Role::Program,
@@ -15,46 +21,51 @@ const ROLES: [Role; 5] = [
     Role::Report,
 ];
 
-// A gain that changes at frames 2 and 3.
-const GAIN: &[u8] = b"process = _ * hslider(\"g\",1,0,10,1);";
+/// Five frames of 5, and what the gain makes of them.
+pub const FIVE: [u8; 54] =
+    *b"RIFF\x2e\0\0\0WAVEfmt \x10\0\0\0\x01\0\x01\0\x44\xac\0\0\x88\x58\x01\0\x02\0\x10\0data\x0a\0\0\0\x05\0\x05\0\x05\0\x05\0\x05\0";
 
-// A desk with a program, an input and a script.
-fn desk_with(
-    alloc: Global,
-    text: &[u8],
-    input: &[u8],
-    script: &[u8],
-) -> Result<MemoryDesk, AllocError> {
-    let mut desk = desk_of(alloc, text, input)?;
-    desk.put("c.txt", script)?;
-    Ok(desk)
-}
+const GAINED: [u8; 54] =
+    *b"RIFF\x2e\0\0\0WAVEfmt \x10\0\0\0\x01\0\x01\0\x44\xac\0\0\x88\x58\x01\0\x02\0\x10\0data\x0a\0\0\0\x05\0\x05\0\x0f\0\0\0\0\0";
 
-// The gain on five frames.
-fn gain_desk(alloc: Global) -> Result<MemoryDesk, AllocError> {
-    let input = file_of(alloc, 1, &[5, 5, 5, 5, 5])?;
-    desk_with(alloc, GAIN, &input, b"2 g 3\n3 g 0\n")
-}
+const WIRE_ROW: Row = (
+    &WORDS,
+    "process = _;",
+    &THREE,
+    (0, "done 3 frames\n", &THREE),
+);
+
+const GAIN_ROW: Row = (
+    &BLOCKS_OF_FOUR,
+    GAIN,
+    &FIVE,
+    (0, "done 5 frames\n", &GAINED),
+);
+
+const AU_ROW: Row = (
+    &TO_AU,
+    "process = _;",
+    &AU_THREE,
+    (0, "done 3 frames\n", &AU_THREE),
+);
+
+const AU_OPEN_ROW: Row = (
+    &TO_AU,
+    "process = _;",
+    &AU_OPEN,
+    (0, "done 3 frames\n", &AU_THREE),
+);
 
 #[test]
 fn plays_in_pieces(rt: HostRuntime) -> Result<(), Fail> {
-    let alloc = rt.alloc();
-    let five = file_of(alloc, 1, &[5, 5, 5, 5, 5])?;
-    let gained = file_of(alloc, 1, &[5, 5, 15, 0, 0])?;
-    let rows: [(&[u8], &[u8], &[&str], &[u8], &[u8]); 3] = [
-        (b"process = _;", &THREE, &WORDS, &THREE, b"done 3 frames\n"),
-        (GAIN, &five, &BLOCKS_OF_FOUR, &gained, b"done 5 frames\n"),
-        (b"process = _;", &ODD, &WORDS, &PLAIN, b"done 2 frames\n"),
-    ];
-    for (text, input, words, output, line) in rows {
-        for size in [1, 2, 3, 7] {
-            let mut desk = desk_with(alloc, text, input, b"2 g 3\n3 g 0\n")?;
+    let odd: Row = (&WORDS, "process = _;", &ODD, (0, "done 2 frames\n", &PLAIN));
+    for (words, text, input, end) in [WIRE_ROW, GAIN_ROW, odd, AU_ROW, AU_OPEN_ROW] {
+        for size in 1..8 {
+            let mut desk = desk_of(rt.alloc(), text.as_bytes(), input)?;
             for role in ROLES {
                 desk.pieces(role, size);
             }
-            assert_eq!(rt; status_of(&rt, alloc, &mut desk, words)?, 0);
-            assert_eq!(rt; desk.written(Role::Output), output);
-            assert_eq!(rt; desk.written(Role::Report), line);
+            assert_ends(&rt, rt.alloc(), &mut desk, words, end)?;
         }
     }
     Ok(())
@@ -71,121 +82,119 @@ fn fault_line(role: Role) -> &'static [u8] {
     }
 }
 
+// What is seen of a run whose call for a role failed: its line alone, behind what was reported before only where the report failed, and
+// of the whole output a part from the front.
+fn is_fault(desk: &MemoryDesk, role: Role, output: &[u8]) -> bool {
+    let line = fault_line(role);
+    let report = desk.written(Role::Report);
+    report.ends_with(line)
+        && (role == Role::Report || report.len() == line.len())
+        && output.starts_with(desk.written(Role::Output))
+}
+
+// How many calls of a role a run makes, with so many bytes at a time: each of them is refused in turn, and the next one is not made.
+fn calls_that_fail(
+    rt: &(impl Threads + Wait + Sync + Abort),
+    alloc: Global,
+    row: &Row<'_>,
+    role: Role,
+    size: u32,
+) -> Result<u32, AllocError>
+    requires { 1 ≤ size }
+{
+    let (words, text, input, (_, line, output)) = *row;
+    for call in 0..100 {
+        let mut desk = desk_of(alloc, text.as_bytes(), input)?;
+        desk.pieces(role, size);
+        desk.fail(role, call)?;
+        let ended = status_of(rt, alloc, &mut desk, words)?;
+        let is_whole = desk.written(Role::Report) == line.as_bytes()
+            && desk.written(Role::Output) == output;
+        if ended == 0 && is_whole {
+            return Ok(call);
+        }
+        assert!(rt;
+            ended == 1 && is_fault(&desk, role, output),
+            "{role:?} {size} {call}"
+        );
+    }
+    Ok(100)
+}
+
 #[test]
 fn each_call_of_each_role_fails(rt: HostRuntime) -> Result<(), Fail> {
-    let alloc = rt.alloc();
-    let whole = file_of(alloc, 1, &[5, 5, 15, 0, 0])?;
     for role in ROLES {
         for size in [1, 1000] {
-            for call in 0..100 {
-                let mut desk = gain_desk(alloc)?;
-                desk.pieces(role, size);
-                desk.fail(role, call)?;
-                let ended = status_of(&rt, alloc, &mut desk, &BLOCKS_OF_FOUR)?;
-                let written = desk.written(Role::Output);
-                assert!(rt; whole.starts_with(written));
-                if ended == 0 {
-                    assert!(rt; call > 0);
-                    assert_eq!(rt; written, whole.as_slice());
-                    assert_eq!(rt; desk.written(Role::Report), b"done 5 frames\n".as_slice());
-                    break;
-                }
-                assert_eq!(rt; ended, 1);
-                assert!(rt; desk.written(Role::Report).ends_with(fault_line(role)));
-                assert!(rt; call < 99);
-            }
+            let calls = calls_that_fail(&rt, rt.alloc(), &GAIN_ROW, role, size)?;
+            assert!(rt; calls > 0 && calls < 100, "{role:?} {size}");
         }
     }
     Ok(())
 }
 
-// Where the refusal's own line can not be written, the answer and the output are what they are where it can.
 #[test]
-fn a_line_that_fails_changes_nothing(rt: HostRuntime) -> Result<(), Fail> {
-    let alloc = rt.alloc();
-    for role in ROLES {
-        for call in 0..20 {
-            let mut desk = gain_desk(alloc)?;
-            desk.fail(role, call)?;
-            let ended = status_of(&rt, alloc, &mut desk, &BLOCKS_OF_FOUR)?;
-            if ended == 0 {
-                break;
-            }
-            let mut silent = gain_desk(alloc)?;
-            silent.fail(role, call)?;
-            for later in 0..4 {
-                silent.fail(Role::Report, later)?;
-            }
-            assert_eq!(rt; status_of(&rt, alloc, &mut silent, &BLOCKS_OF_FOUR)?, ended);
-            assert_eq!(rt; silent.written(Role::Output), desk.written(Role::Output));
-            assert_eq!(rt; silent.written(Role::Report).len(), 0);
-        }
-    }
-    Ok(())
-}
-
-// A head of the three-sample file that states so many bytes of samples, and no sample.
-fn stating(alloc: Global, size: [u8; 4]) -> Result<Vec<u8>, AllocError> {
-    let mut file = Vec::from_slice(alloc, &THREE[..40])?;
-    file.extend_from_slice(&size)?;
-    Ok(file)
-}
-
-#[test]
-fn heads_that_state_much(rt: HostRuntime) -> Result<(), Fail> {
-    let alloc = rt.alloc();
-    let too_long = stating(alloc, [254, 255, 255, 255])?;
-    let longest = stating(alloc, [218, 255, 255, 255])?;
-    let mut chunk = Vec::from_slice(alloc, &THREE[..12])?;
-    chunk.extend_from_slice(b"JUNK\xff\xff\xff\xff")?;
-    let rows: [(&[u8], &[u8], usize); 3] = [
-        (&too_long, b"refused 38 OutputTooLong 4294967294\n", 0),
-        (&longest, b"refused 35 WaveTruncated 44\n", 44),
-        (&chunk, b"refused 35 WaveTruncated 20\n", 0),
+fn names_what_failed(rt: HostRuntime) -> Result<(), Fail> {
+    let rows: [(Row, Role, u32); 6] = [
+        (WIRE_ROW, Role::Program, 3),
+        (WIRE_ROW, Role::Input, 13),
+        (WIRE_ROW, Role::Output, 12),
+        (WIRE_ROW, Role::Report, 3),
+        (AU_ROW, Role::Input, 4),
+        (AU_OPEN_ROW, Role::Input, 5),
     ];
-    for (input, line, written) in rows {
-        let mut desk = desk_of(alloc, b"process = _;", input)?;
-        assert_eq!(rt; status_of(&rt, alloc, &mut desk, &WORDS)?, 4);
-        assert_eq!(rt; desk.written(Role::Report), line);
-        assert_eq!(rt; desk.written(Role::Output).len(), written);
-    }
-    Ok(())
-}
-
-#[test]
-fn programs_that_ask_for_much(rt: HostRuntime) -> Result<(), Fail> {
-    let alloc = rt.alloc();
-    let texts: [&[u8]; 2] = [b"a = a; process = a;", b"process = par(i,2147483647,_);"];
-    for text in texts {
-        let mut desk = desk_of(alloc, text, &THREE)?;
-        assert_eq!(rt; status_of(&rt, alloc, &mut desk, &WORDS)?, 3);
+    for (row, role, calls) in rows {
         assert_eq!(rt;
-            desk.written(Role::Report),
-            b"refused 23 EvalBudget\n".as_slice()
+            calls_that_fail(&rt, rt.alloc(), &row, role, 1000)?,
+            calls,
+            "{role:?}"
         );
     }
     Ok(())
 }
 
-#[test]
-fn labels_with_blanks_and_long_lines(rt: HostRuntime) -> Result<(), Fail> {
-    let alloc = rt.alloc();
-    let text = b"process = _ * hslider(\"my gain\",1,0,10,1);";
-    let input = file_of(alloc, 1, &[5])?;
-    let words = ["run", "p.dsp", "in.wav", "out.wav", "--controls", "c.txt"];
-    let mut desk = desk_with(alloc, text, &input, b"0 my gain 3")?;
-    assert_eq!(rt; status_of(&rt, alloc, &mut desk, &words)?, 0);
-    let output = file_of(alloc, 1, &[15])?;
-    assert_eq!(rt; desk.written(Role::Output), output.as_slice());
-    let mut line = Vec::new(alloc);
-    for _ in 0..1_048_576 {
-        line.push(b'1')?;
+// Where the refusal's own line can not be written, the answer and the output are what they are where it can. Whether there was a refusal.
+fn ends_alike_in_silence(
+    rt: &(impl Threads + Wait + Sync + Abort),
+    alloc: Global,
+    role: Role,
+    call: u32,
+) -> Result<bool, AllocError> {
+    let mut desk = desk_of(alloc, GAIN.as_bytes(), &FIVE)?;
+    desk.fail(role, call)?;
+    let ended = status_of(rt, alloc, &mut desk, &BLOCKS_OF_FOUR)?;
+    if ended == 0 {
+        return Ok(false);
     }
-    let mut desk = desk_with(alloc, text, &input, &line)?;
-    assert_eq!(rt; status_of(&rt, alloc, &mut desk, &words)?, 4);
-    assert_eq!(rt;
-        desk.written(Role::Report),
-        b"refused 30 ControlLine 1\n".as_slice()
-    );
+    let mut silent = desk_of(alloc, GAIN.as_bytes(), &FIVE)?;
+    silent.fail(role, call)?;
+    for later in 0..4 {
+        silent.fail(Role::Report, later)?;
+    }
+    let end = (ended, "", desk.written(Role::Output));
+    assert_ends(rt, alloc, &mut silent, &BLOCKS_OF_FOUR, end)?;
+    Ok(true)
+}
+
+#[test]
+fn a_line_that_fails_changes_nothing(rt: HostRuntime) -> Result<(), Fail> {
+    for role in ROLES {
+        for call in 0..20 {
+            if !ends_alike_in_silence(&rt, rt.alloc(), role, call)? {
+                break;
+            }
+        }
+    }
+    Ok(())
+}
+
+#[test]
+fn writes_what_there_is_room_for(rt: HostRuntime) -> Result<(), Fail> {
+    let mut desk = MemoryDesk::new(rt.alloc());
+    desk.put("p.dsp", b"process = _;")?;
+    desk.put("in.wav", &THREE)?;
+    desk.room(Role::Output, 49)?;
+    desk.room(Role::Report, 100)?;
+    let end = (1, "refused 3 WriteFault output\n", &THREE[..49]);
+    assert_ends(&rt, rt.alloc(), &mut desk, &WORDS, end)?;
     Ok(())
 }

@@ -1,48 +1,8 @@
 // Whole runs of programs of every form of the language.
 
-use crate::runs::{THREE, WORDS, desk_of, status_of};
-use fv_outside::{MemoryDesk, Role};
-use std::alloc::{AllocError, Global};
-use std::process::Abort;
-use std::sync::Wait;
+use crate::desks::{Row, Silent, THREE, WORDS, assert_all_end, assert_all_report};
+use crate::samples::{Played, assert_all_play};
 use std::test::Fail;
-use std::thread::Threads;
-
-// A file of so many channels of 16 bits at 44100 frames a second.
-pub fn file_of(alloc: Global, channels: u32, samples: &[i32]) -> Result<Vec<u8>, AllocError> {
-    let mut size = 0u32;
-    for _sample in samples {
-        size = size.wrapping_add(2);
-    }
-    let mut file = Vec::from_slice(alloc, b"RIFF")?;
-    push_four(&mut file, size.wrapping_add(36))?;
-    file.extend_from_slice(b"WAVEfmt ")?;
-    push_four(&mut file, 16)?;
-    push_two(&mut file, 1)?;
-    push_two(&mut file, channels)?;
-    push_four(&mut file, 44100)?;
-    push_four(&mut file, channels.wrapping_mul(88200))?;
-    push_two(&mut file, channels.wrapping_mul(2))?;
-    push_two(&mut file, 16)?;
-    file.extend_from_slice(b"data")?;
-    push_four(&mut file, size)?;
-    for sample in samples {
-        push_two(&mut file, (*sample & 65535) as u32)?;
-    }
-    Ok(file)
-}
-
-// The two lowest bytes of a number, and all four.
-fn push_two(file: &mut Vec<u8>, n: u32) -> Result<(), AllocError> {
-    file.push((n % 256) as u8)?;
-    file.push((n / 256 % 256) as u8)?;
-    Ok(())
-}
-
-fn push_four(file: &mut Vec<u8>, n: u32) -> Result<(), AllocError> {
-    push_two(file, n)?;
-    push_two(file, n / 65536)
-}
 
 /// The words of a run in blocks of four frames, under a script.
 pub const BLOCKS_OF_FOUR: [&str; 8] = [
@@ -56,160 +16,290 @@ pub const BLOCKS_OF_FOUR: [&str; 8] = [
     "c.txt",
 ];
 
-// A run of a program on an input gives this output.
-fn assert_plays(
-    rt: &(impl Threads + Wait + Sync + Abort),
-    alloc: Global,
-    text: &[u8],
-    input: &[u8],
-    words: &[&str],
-    output: &[u8],
-) -> Result<(), AllocError> {
-    let mut desk = desk_of(alloc, text, input)?;
-    desk.put("c.txt", b"2 g 3\n3 g 0\n")?;
-    desk.put("on.txt", b"1 on 1")?;
-    assert_eq!(rt; status_of(rt, alloc, &mut desk, words)?, 0);
-    assert_eq!(rt; desk.written(Role::Output), output);
-    Ok(())
-}
+/// A gain, which that script makes 3 at frame 2 and 0 at frame 3.
+pub const GAIN: &str = "process = _ * hslider(\"g\",1,0,10,1);";
 
 #[test]
 fn plays_one_channel(rt: HostRuntime) -> Result<(), Fail> {
-    let rows: [(&[u8], &[&str], &[i32], &[i32]); 14] = [
-        (b"process = + ~ _;", &WORDS, &[1, 2, 3, 4], &[1, 3, 6, 10]),
+    let rows: [Played; 24] = [
         (
-            b"process = _ <: _, mem : -;",
             &WORDS,
-            &[5, 7, 4],
-            &[5, 2, -3],
+            "process = _;",
+            (1, &[1, -2, 3]),
+            (1, &[1, -2, 3]),
+            "done 3 frames\n",
         ),
         (
-            b"process = @(3);",
+            &WORDS,
+            "process = _ * 2 + 1;",
+            (1, &[1, -2, 3]),
+            (1, &[3, -3, 7]),
+            "done 3 frames\n",
+        ),
+        (
+            &WORDS,
+            "process = _ : mem;",
+            (1, &[5, 7, 4]),
+            (1, &[0, 5, 7]),
+            "done 3 frames\n",
+        ),
+        // 10000000000 wraps to 1410065408 and 30000000000 to -64771072, and both are clamped
+        (
+            &WORDS,
+            "process = _ * 100000 * 100000;",
+            (1, &[1, -1, 3]),
+            (1, &[32767, -32768, -32768]),
+            "done 3 frames\n",
+        ),
+        // 1 - (x - 3) a sample later, then doubled
+        (
+            &WORDS,
+            "process = 1 - _ : _ + 3 : mem\n : _ * 2;",
+            (1, &[1, 2, 9]),
+            (1, &[0, 6, 4]),
+            "done 3 frames\n",
+        ),
+        // the same, by operators as primitives
+        (
+            &WORDS,
+            "/* by parts */ process = (1, _ : -) : (_, 3 : +) : mem : (_, 2 : *);",
+            (1, &[1, 2, 9]),
+            (1, &[0, 6, 4]),
+            "done 3 frames\n",
+        ),
+        (
+            &WORDS,
+            "process = -3, _ : + ; // less three",
+            (1, &[1, -2, 3]),
+            (1, &[-2, -5, 0]),
+            "done 3 frames\n",
+        ),
+        (
+            &WORDS,
+            "process = + ~ _;",
+            (1, &[1, 2, 3, 4]),
+            (1, &[1, 3, 6, 10]),
+            "done 4 frames\n",
+        ),
+        (
+            &WORDS,
+            "process = _ <: _, mem : -;",
+            (1, &[5, 7, 4]),
+            (1, &[5, 2, -3]),
+            "done 3 frames\n",
+        ),
+        (
             &[
                 "run", "p.dsp", "in.wav", "out.wav", "--block", "2", "--vector", "2",
             ],
-            &[1, 2, 3, 4, 5],
-            &[0, 0, 0, 1, 2],
-        ),
-        (b"process = -(1);", &WORDS, &[0], &[-1]),
-        (b"process = _ / 0;", &WORDS, &[9], &[0]),
-        (b"process = _';", &WORDS, &[1, 2, 3], &[0, 1, 2]),
-        (b"process = 7,_ : prefix;", &WORDS, &[4, 5, 6], &[7, 4, 5]),
-        (
-            b"process = select3(_,10,20,30);",
-            &WORDS,
-            &[0, 1, 2, -5],
-            &[10, 20, 30, 30],
+            "process = @(3);",
+            (1, &[1, 2, 3, 4, 5]),
+            (1, &[0, 0, 0, 1, 2]),
+            "done 5 frames\n",
         ),
         (
-            b"g(k,x) = x*k; process = seq(i,3,g(i+n)) with { n = 2; };",
             &WORDS,
-            &[1, -2],
-            &[24, -48],
+            "process = -(1);",
+            (1, &[0]),
+            (1, &[-1]),
+            "done 1 frames\n",
+        ),
+        (
+            &WORDS,
+            "process = _ / 0;",
+            (1, &[9]),
+            (1, &[0]),
+            "done 1 frames\n",
+        ),
+        (
+            &WORDS,
+            "process = _';",
+            (1, &[1, 2, 3]),
+            (1, &[0, 1, 2]),
+            "done 3 frames\n",
+        ),
+        (
+            &WORDS,
+            "process = 7,_ : prefix;",
+            (1, &[4, 5, 6]),
+            (1, &[7, 4, 5]),
+            "done 3 frames\n",
+        ),
+        (
+            &WORDS,
+            "process = select3(_,10,20,30);",
+            (1, &[0, 1, 2, -5]),
+            (1, &[10, 20, 30, 30]),
+            "done 4 frames\n",
+        ),
+        (
+            &WORDS,
+            "g(k,x) = x*k; process = seq(i,3,g(i+n)) with { n = 2; };",
+            (1, &[1, -2]),
+            (1, &[24, -48]),
+            "done 2 frames\n",
         ),
         // a control changes at a frame, and keeps its value
         (
-            b"process = _ * hslider(\"g\",1,0,10,1);",
             &BLOCKS_OF_FOUR,
-            &[5, 5, 5, 5, 5],
-            &[5, 5, 15, 0, 0],
+            GAIN,
+            (1, &[5, 5, 5, 5, 5]),
+            (1, &[5, 5, 15, 0, 0]),
+            "done 5 frames\n",
         ),
         (
-            b"declare name \"t\"; /* c */ process = hgroup(\"m\", _ * button(\"on\")); // end",
+            &["run", "p.dsp", "in.wav", "out.wav", "--controls", "low.txt"],
+            GAIN,
+            (1, &[1, -2, 3]),
+            (1, &[0, -20, 30]),
+            "done 3 frames\n",
+        ),
+        (
             &["run", "p.dsp", "in.wav", "out.wav", "--controls=on.txt"],
-            &[9, 9, 9],
-            &[0, 9, 9],
+            "declare name \"t\"; /* c */ process = hgroup(\"m\", _ * button(\"on\")); // end",
+            (1, &[9, 9, 9]),
+            (1, &[0, 9, 9]),
+            "done 3 frames\n",
+        ),
+        // a label may have a blank
+        (
+            &["run", "p.dsp", "in.wav", "out.wav", "--controls=blank.txt"],
+            "process = _ * hslider(\"my gain\",1,0,10,1);",
+            (1, &[5]),
+            (1, &[15]),
+            "done 1 frames\n",
         ),
         // without a script a control keeps its first value
         (
-            b"process = _ * hslider(\"g\",4,0,10,1);",
             &WORDS,
-            &[5, 6],
-            &[20, 24],
+            "process = _ * hslider(\"g\",4,0,10,1);",
+            (1, &[5, 6]),
+            (1, &[20, 24]),
+            "done 2 frames\n",
         ),
         (
-            b"v(i) = + ~ (@(i*37+1) : *(i+3) : /(8)); process = _ <: par(i,1,v(i)) :> _;",
             &WORDS,
-            &[16838, -27010, 10113],
-            &[16838, -27010, 16427],
+            "v(i) = + ~ (@(i*37+1) : *(i+3) : /(8)); process = _ <: par(i,1,v(i)) :> _;",
+            (1, &[16838, -27010, 10113]),
+            (1, &[16838, -27010, 16427]),
+            "done 3 frames\n",
         ),
-        (b"process = _ : \\(x).(x * x);", &WORDS, &[3, -4], &[9, 16]),
+        (
+            &WORDS,
+            "process = _ : \\(x).(x * x);",
+            (1, &[3, -4]),
+            (1, &[9, 16]),
+            "done 2 frames\n",
+        ),
+        (
+            &WORDS,
+            "process = @(1048575);",
+            (1, &[1, -2, 3]),
+            (1, &[0, 0, 0]),
+            "done 3 frames\n",
+        ),
     ];
-    for (text, words, input, output) in rows {
-        let input = file_of(rt.alloc(), 1, input)?;
-        let output = file_of(rt.alloc(), 1, output)?;
-        assert_plays(&rt, rt.alloc(), text, &input, words, &output)?;
-    }
-    Ok(())
+    Ok(assert_all_play(&rt, rt.alloc(), &rows)?)
 }
 
 #[test]
-fn plays_more_channels(rt: HostRuntime) -> Result<(), Fail> {
-    let rows: [(&[u8], u32, &[i32], u32, &[i32]); 5] = [
-        (b"process = _,_ <: _,_,_,_ :> _,_;", 2, &[1, 2], 2, &[2, 4]),
+fn plays_more_channels_and_fewer(rt: HostRuntime) -> Result<(), Fail> {
+    let rows: [Played; 13] = [
         (
-            b"process = _, (_ & 7) : @;",
-            2,
-            &[1, 0, 2, 1, 3, 9, 4, 1],
-            1,
-            &[1, 1, 2, 3],
+            &WORDS,
+            "process = _,_ <: _,_,_,_ :> _,_;",
+            (2, &[1, 2]),
+            (2, &[2, 4]),
+            "done 1 frames\n",
         ),
         (
-            b"process = (+,+) ~ (_,_);",
-            2,
-            &[1, 1, 1, 1, 1, 1],
-            2,
-            &[0, 2, 2, 2, 4, 2],
+            &WORDS,
+            "process = _, (_ & 7) : @;",
+            (2, &[1, 0, 2, 1, 3, 9, 4, 1]),
+            (1, &[1, 1, 2, 3]),
+            "done 4 frames\n",
         ),
         (
-            b"process = _ + 1, _ * 2;",
-            2,
-            &[1, 1, 5, -3],
-            2,
-            &[2, 2, 6, -6],
+            &WORDS,
+            "process = (+,+) ~ (_,_);",
+            (2, &[1, 1, 1, 1, 1, 1]),
+            (2, &[0, 2, 2, 2, 4, 2]),
+            "done 3 frames\n",
+        ),
+        (
+            &WORDS,
+            "process = _ + 1, _ * 2;",
+            (2, &[1, 1, 5, -3]),
+            (2, &[2, 2, 6, -6]),
+            "done 2 frames\n",
         ),
         // outputs keep their order
         (
-            b"process = _ <: _ + 1, _ + 2, _ + 3;",
-            1,
-            &[0, 10],
-            3,
-            &[1, 2, 3, 11, 12, 13],
+            &WORDS,
+            "process = _ <: _ + 1, _ + 2, _ + 3;",
+            (1, &[0, 10]),
+            (3, &[1, 2, 3, 11, 12, 13]),
+            "done 2 frames\n",
+        ),
+        // without an input
+        (
+            &["run", "p.dsp", "-", "out.wav", "--frames=2"],
+            "f = case { (0) => 1; (n) => n*f(n-1); }; process = f(5);",
+            (1, &[]),
+            (1, &[120, 120]),
+            "done 2 frames\n",
+        ),
+        (
+            &["run", "p.dsp", "-", "out.wav", "--frames=1"],
+            "process = 2147483647 + 1;",
+            (1, &[]),
+            (1, &[-32768]),
+            "done 1 frames\n",
+        ),
+        (
+            &["run", "p.dsp", "-", "out.wav", "--frames=4"],
+            "process = (+ ~ _) ~ (+(1));",
+            (1, &[]),
+            (1, &[1, 3, 7, 15]),
+            "done 4 frames\n",
+        ),
+        (
+            &["run", "p.dsp", "-", "out.wav", "--frames=1"],
+            "count((x,xs)) = 1 + count(xs); count(x) = 1; process = count((4,5,6));",
+            (1, &[]),
+            (1, &[3]),
+            "done 1 frames\n",
+        ),
+        (
+            &["run", "p.dsp", "-", "out.wav", "--frames=1"],
+            "process = -8 >> 33;",
+            (1, &[]),
+            (1, &[-4]),
+            "done 1 frames\n",
+        ),
+        (
+            &["run", "p.dsp", "-", "out.wav", "--frames=0"],
+            "process = 5;",
+            (1, &[]),
+            (1, &[]),
+            "done 0 frames\n",
+        ),
+        (
+            &["run", "p.dsp", "-", "out.wav", "--frames=3"],
+            "process = 1 : + ~ _;",
+            (1, &[]),
+            (1, &[1, 2, 3]),
+            "done 3 frames\n",
+        ),
+        (
+            &["run", "p.dsp", "-", "out.wav", "--frames=0"],
+            "process = par(i,16,0 : @(1048575));",
+            (1, &[]),
+            (16, &[]),
+            "done 0 frames\n",
         ),
     ];
-    for (text, channels, input, outputs, output) in rows {
-        let input = file_of(rt.alloc(), channels, input)?;
-        let output = file_of(rt.alloc(), outputs, output)?;
-        assert_plays(&rt, rt.alloc(), text, &input, &WORDS, &output)?;
-    }
-    Ok(())
-}
-
-#[test]
-fn plays_without_an_input(rt: HostRuntime) -> Result<(), Fail> {
-    let rows: [(&[u8], &str, &[i32]); 7] = [
-        (
-            b"f = case { (0) => 1; (n) => n*f(n-1); }; process = f(5);",
-            "--frames=2",
-            &[120, 120],
-        ),
-        (b"process = 2147483647 + 1;", "--frames=1", &[-32768]),
-        (b"process = (+ ~ _) ~ (+(1));", "--frames=4", &[1, 3, 7, 15]),
-        (
-            b"count((x,xs)) = 1 + count(xs); count(x) = 1; process = count((4,5,6));",
-            "--frames=1",
-            &[3],
-        ),
-        (b"process = -8 >> 33;", "--frames=1", &[-4]),
-        (b"process = 5;", "--frames=0", &[]),
-        (b"process = 1 : + ~ _;", "--frames=3", &[1, 2, 3]),
-    ];
-    for (text, frames, output) in rows {
-        let output = file_of(rt.alloc(), 1, output)?;
-        let words = ["run", "p.dsp", "-", "out.wav", frames];
-        assert_plays(&rt, rt.alloc(), text, &THREE, &words, &output)?;
-    }
-    Ok(())
+    Ok(assert_all_play(&rt, rt.alloc(), &rows)?)
 }
 
 #[test]
@@ -219,156 +309,213 @@ fn plays_the_widest(rt: HostRuntime) -> Result<(), Fail> {
         68, 172, 0, 0, 48, 19, 8, 0, 12, 0, 32, 0, 100, 97, 116, 97, 12, 0, 0, 0, 0, 0, 0, 128, 0,
         0, 0, 0, 0, 0, 0, 128,
     ];
-    let words = [
-        "run", "--frames", "1", "p.dsp", "-", "out.wav", "--bits", "32",
-    ];
-    let text = b"process = -2147483647 - 1 : _ <: /(-1), %(-1), abs;";
-    assert_plays(&rt, rt.alloc(), text, &THREE, &words, &output)?;
-    Ok(())
+    let rows: [Row; 1] = [(
+        &[
+            "run", "--frames", "1", "p.dsp", "-", "out.wav", "--bits", "32",
+        ],
+        "process = -2147483647 - 1 : _ <: /(-1), %(-1), abs;",
+        &THREE,
+        (0, "done 1 frames\n", &output),
+    )];
+    Ok(assert_all_end(&rt, rt.alloc(), &rows)?)
 }
-
-#[test]
-fn plays_an_echo(rt: HostRuntime) -> Result<(), Fail> {
-    let mut input = Vec::new(rt.alloc());
-    let mut output = Vec::new(rt.alloc());
-    for t in 0..221u32 {
-        for _ in 0..2 {
-            input.push(if t == 0 { 1000 } else { 0 })?;
-            output.push(match t {
-                0 => 1000,
-                110 => 500,
-                220 => 250,
-                _ => 0,
-            })?;
-        }
-    }
-    let input = file_of(rt.alloc(), 2, &input)?;
-    let output = file_of(rt.alloc(), 2, &output)?;
-    let text = b"echo(d,g) = + ~ (@(d-1) : *(g) : /(256)); process = par(i,2,echo(110,128));";
-    for (block, vector) in [("1", "1"), ("7", "7"), ("512", "32")] {
-        let words = [
-            "run", "p.dsp", "in.wav", "out.wav", "--block", block, "--vector", vector,
-        ];
-        assert_plays(&rt, rt.alloc(), text, &input, &words, &output)?;
-    }
-    Ok(())
-}
-
-// Programs that are refused, each with its line.
-const REFUSED: [(&[u8], &[u8]); 21] = [
-    (b"process = _,_ <: _,_,_;", b"refused 16 Arity split 2 3\n"),
-    (
-        b"f(n) = f(n+1); process = f(0);",
-        b"refused 23 EvalBudget\n",
-    ),
-    (
-        b"process = _,_ : @;",
-        b"refused 26 DelayNegative -2147483648\n",
-    ),
-    (b"process = !;", b"refused 29 Channels 0 1\n"),
-    (b"process = ! :> _;", b"refused 16 Arity merge 0 1\n"),
-    (
-        b"process = par(i,16385,_);",
-        b"refused 15 SizeBudget 16385\n",
-    ),
-    (b"process = _ ~ (_,_);", b"refused 16 Arity recout 1 2\n"),
-    (b"process = 1 ~ _;", b"refused 16 Arity recin 0 1\n"),
-    (b"process = x;", b"refused 17 UnknownName x\n"),
-    (b"process = par(i,_,_);", b"refused 18 NotANumber 1 17\n"),
-    (b"process = par(i,0,_);", b"refused 19 IterationCount 0\n"),
-    (b"f(0) = 1; process = f(1);", b"refused 20 NoRule 1 21\n"),
-    (
-        b"process = case { (0) => 1; };",
-        b"refused 21 NotADiagram 1 11\n",
-    ),
-    (
-        b"process = (_,_ : +)(1,2,3);",
-        b"refused 22 TooManyArguments 3 2\n",
-    ),
-    (
-        b"process = hslider(\"g\",0,0,1,1) + hslider(\"g\",0,0,2,1);",
-        b"refused 24 ControlClash g\n",
-    ),
-    (
-        b"process = hslider(\"g\",11,0,10,1);",
-        b"refused 25 ControlBounds g\n",
-    ),
-    (
-        b"process = @(1048576);",
-        b"refused 27 DelayTooLong 1048576\n",
-    ),
-    (
-        b"process = par(i,17,@(1048575));",
-        b"refused 28 DelayBudget 17825775\n",
-    ),
-    (b"process = _ << 31 : @;", b"refused 16 Arity seq 1 2\n"),
-    (b"process = par(i,257,_);", b"refused 29 Channels 257 256\n"),
-    (
-        b"process = par(i,257,_) :> _;",
-        b"refused 29 Channels 257 256\n",
-    ),
-];
 
 #[test]
 fn refuses_programs(rt: HostRuntime) -> Result<(), Fail> {
-    for (text, line) in REFUSED {
-        let mut desk = desk_of(rt.alloc(), text, &THREE)?;
-        assert_eq!(rt; status_of(&rt, rt.alloc(), &mut desk, &WORDS)?, 3);
-        assert_eq!(rt; desk.written(Role::Report), line);
-        assert!(rt; desk.written(Role::Output).is_empty());
-    }
-    Ok(())
-}
-
-// The line and the exit status of a run of a program without an input.
-pub fn assert_ends(
-    rt: &(impl Threads + Wait + Sync + Abort),
-    alloc: Global,
-    text: &[u8],
-    words: &[&str],
-    status: u8,
-    line: &[u8],
-) -> Result<(), AllocError> {
-    let mut desk: MemoryDesk = desk_of(alloc, text, &THREE)?;
-    desk.put("low.txt", b"0 g 0\n1 g 10")?;
-    desk.put("high.txt", b"0 g 11")?;
-    desk.put("back.txt", b"3 g 1\n2 g 1\n")?;
-    assert_eq!(rt; status_of(rt, alloc, &mut desk, words)?, status);
-    assert_eq!(rt; desk.written(Role::Report), line);
-    Ok(())
+    let rows: [Silent; 38] = [
+        (&WORDS, "process = #;", 3, "refused 5 BadByte 1 11\n"),
+        (&WORDS, "/* ab", 3, "refused 6 Unclosed 1 1\n"),
+        (
+            &WORDS,
+            "process = _ * 0.5;",
+            3,
+            "refused 7 RealLiteral 1 15\n",
+        ),
+        (
+            &WORDS,
+            "process = 2147483648;",
+            3,
+            "refused 8 LiteralTooLarge 1 11\n",
+        ),
+        (&WORDS, "process = 1 +;", 3, "refused 9 Syntax 1 14\n"),
+        (&WORDS, "process = (1 , );", 3, "refused 9 Syntax 1 16\n"),
+        (&WORDS, "process = _", 3, "refused 9 Syntax 1 12\n"),
+        (&WORDS, "f(x = 1;", 3, "refused 9 Syntax 1 5\n"),
+        (&WORDS, "par = 1;", 3, "refused 9 Syntax 1 1\n"),
+        (
+            &WORDS,
+            "import(\"stdfaust.lib\");",
+            3,
+            "refused 10 Unsupported import\n",
+        ),
+        (
+            &WORDS,
+            "a = 1; a = 2; process = a;",
+            3,
+            "refused 11 Redefined a\n",
+        ),
+        (
+            &WORDS,
+            "f(x,x) = x; process = f;",
+            3,
+            "refused 12 RepeatedName x\n",
+        ),
+        (
+            &WORDS,
+            "f(0) = 1; f(x,y) = 2; process = f(0);",
+            3,
+            "refused 13 RuleWidths 1 11\n",
+        ),
+        (&WORDS, "", 3, "refused 14 NoProcess\n"),
+        (
+            &WORDS,
+            "\n// no program\nother = _;",
+            3,
+            "refused 14 NoProcess\n",
+        ),
+        (
+            &WORDS,
+            "process = _,_ <: _,_,_;",
+            3,
+            "refused 16 Arity split 2 3\n",
+        ),
+        (
+            &WORDS,
+            "f(n) = f(n+1); process = f(0);",
+            3,
+            "refused 23 EvalBudget\n",
+        ),
+        (
+            &WORDS,
+            "process = _,_ : @;",
+            3,
+            "refused 26 DelayNegative -2147483648\n",
+        ),
+        (&WORDS, "process = !;", 3, "refused 29 Channels 0 1\n"),
+        (
+            &WORDS,
+            "process = ! :> _;",
+            3,
+            "refused 16 Arity merge 0 1\n",
+        ),
+        (
+            &WORDS,
+            "process = par(i,16385,_);",
+            3,
+            "refused 15 SizeBudget 16385\n",
+        ),
+        (
+            &WORDS,
+            "process = _ ~ (_,_);",
+            3,
+            "refused 16 Arity recout 1 2\n",
+        ),
+        (
+            &WORDS,
+            "process = 1 ~ _;",
+            3,
+            "refused 16 Arity recin 0 1\n",
+        ),
+        (&WORDS, "process = x;", 3, "refused 17 UnknownName x\n"),
+        (
+            &WORDS,
+            "process = par(i,_,_);",
+            3,
+            "refused 18 NotANumber 1 17\n",
+        ),
+        (
+            &WORDS,
+            "process = par(i,0,_);",
+            3,
+            "refused 19 IterationCount 0\n",
+        ),
+        (
+            &WORDS,
+            "f(0) = 1; process = f(1);",
+            3,
+            "refused 20 NoRule 1 21\n",
+        ),
+        (
+            &WORDS,
+            "process = case { (0) => 1; };",
+            3,
+            "refused 21 NotADiagram 1 11\n",
+        ),
+        (
+            &WORDS,
+            "process = (_,_ : +)(1,2,3);",
+            3,
+            "refused 22 TooManyArguments 3 2\n",
+        ),
+        (
+            &WORDS,
+            "process = hslider(\"g\",0,0,1,1) + hslider(\"g\",0,0,2,1);",
+            3,
+            "refused 24 ControlClash g\n",
+        ),
+        (
+            &WORDS,
+            "process = hslider(\"g\",11,0,10,1);",
+            3,
+            "refused 25 ControlBounds g\n",
+        ),
+        (
+            &WORDS,
+            "process = @(1048576);",
+            3,
+            "refused 27 DelayTooLong 1048576\n",
+        ),
+        (
+            &WORDS,
+            "process = par(i,17,@(1048575));",
+            3,
+            "refused 28 DelayBudget 17825775\n",
+        ),
+        (
+            &WORDS,
+            "process = _ << 31 : @;",
+            3,
+            "refused 16 Arity seq 1 2\n",
+        ),
+        (
+            &WORDS,
+            "process = par(i,257,_);",
+            3,
+            "refused 29 Channels 257 256\n",
+        ),
+        (
+            &WORDS,
+            "process = par(i,257,_) :> _;",
+            3,
+            "refused 29 Channels 257 256\n",
+        ),
+        (&WORDS, "a = a; process = a;", 3, "refused 23 EvalBudget\n"),
+        (
+            &WORDS,
+            "process = par(i,2147483647,_);",
+            3,
+            "refused 23 EvalBudget\n",
+        ),
+    ];
+    Ok(assert_all_report(&rt, rt.alloc(), &rows)?)
 }
 
 #[test]
 fn takes_the_limits(rt: HostRuntime) -> Result<(), Fail> {
-    let gain = b"process = _ * hslider(\"g\",1,0,10,1);";
-    let rows: [(&[u8], &[&str], u8, &[u8]); 8] = [
-        (b"process = @(1048575);", &WORDS, 0, b"done 3 frames\n"),
+    let rows: [Silent; 5] = [
         (
-            b"process = par(i,16,0 : @(1048575));",
-            &["run", "p.dsp", "-", "out.wav", "--frames=0"],
-            0,
-            b"done 0 frames\n",
-        ),
-        (
-            b"process = 1;",
             &["run", "p.dsp", "-", "out.wav", "--frames=2147483647"],
+            "process = 1;",
             4,
-            b"refused 38 OutputTooLong 4294967294\n",
+            "refused 38 OutputTooLong 4294967294\n",
         ),
         (
-            b"process = 1;",
             &["run", "p.dsp", "-", "out.wav"],
+            "process = 1;",
             2,
-            b"refused 39 FramesNeeded\n",
+            "refused 39 FramesNeeded\n",
         ),
         (
-            gain,
-            &["run", "p.dsp", "in.wav", "out.wav", "--controls", "low.txt"],
-            0,
-            b"done 3 frames\n",
-        ),
-        (
-            gain,
             &[
                 "run",
                 "p.dsp",
@@ -377,11 +524,11 @@ fn takes_the_limits(rt: HostRuntime) -> Result<(), Fail> {
                 "--controls",
                 "high.txt",
             ],
+            GAIN,
             4,
-            b"refused 32 ControlRange 1\n",
+            "refused 32 ControlRange 1\n",
         ),
         (
-            gain,
             &[
                 "run",
                 "p.dsp",
@@ -390,106 +537,117 @@ fn takes_the_limits(rt: HostRuntime) -> Result<(), Fail> {
                 "--controls",
                 "back.txt",
             ],
+            GAIN,
             4,
-            b"refused 33 ControlOrder 2\n",
+            "refused 33 ControlOrder 2\n",
         ),
         (
-            b"process = _;",
             &[
                 "run", "p.dsp", "in.wav", "out.wav", "--vector", "1", "--block", "4096",
             ],
+            "process = _;",
             2,
-            b"refused 1 Usage vectors\n",
+            "refused 1 Usage vectors\n",
         ),
     ];
-    for (text, words, status, line) in rows {
-        assert_ends(&rt, rt.alloc(), text, words, status, line)?;
-    }
-    Ok(())
+    Ok(assert_all_report(&rt, rt.alloc(), &rows)?)
 }
 
 #[test]
 fn checks_programs(rt: HostRuntime) -> Result<(), Fail> {
-    let rows: [(&[u8], u8, &[u8]); 16] = [
+    let check = ["check", "p.dsp"];
+    let rows: [Silent; 16] = [
         (
-            b"echo(d,g) = + ~ (@(d-1) : *(g) : /(256)); process = par(i,2,echo(11025,128));",
+            &check,
+            "echo(d,g) = + ~ (@(d-1) : *(g) : /(256)); process = par(i,2,echo(11025,128));",
             0,
-            b"inputs 2 outputs 2 controls 0 size 39 delays 22050\n",
+            "inputs 2 outputs 2 controls 0 size 39 delays 22050\n",
         ),
         (
-            b"process = + ~ _;",
+            &check,
+            "process = + ~ _;",
             0,
-            b"inputs 1 outputs 1 controls 0 size 3 delays 1\n",
+            "inputs 1 outputs 1 controls 0 size 3 delays 1\n",
         ),
         (
-            b"process = _ * hslider(\"g\",1,0,10,1);",
+            &check,
+            GAIN,
             0,
-            b"inputs 1 outputs 1 controls 1 size 5 delays 0\n",
+            "inputs 1 outputs 1 controls 1 size 5 delays 0\n",
         ),
-        (b"process = x;", 3, b"refused 17 UnknownName x\n"),
+        (&check, "process = x;", 3, "refused 17 UnknownName x\n"),
         (
-            b"process = rdtable(4, (+(1) ~ _), _);",
+            &check,
+            "process = rdtable(4, (+(1) ~ _), _);",
             0,
-            b"inputs 1 outputs 1 controls 0 size 3 delays 0\n",
+            "inputs 1 outputs 1 controls 0 size 3 delays 0\n",
         ),
         (
-            b"process = rdtable;",
+            &check,
+            "process = rdtable;",
             3,
-            b"refused 41 TableForm primitive\n",
+            "refused 41 TableForm primitive\n",
         ),
         (
-            b"process = rdtable(_,1,_);",
+            &check,
+            "process = rdtable(_,1,_);",
             3,
-            b"refused 41 TableForm head\n",
+            "refused 41 TableForm head\n",
         ),
         (
-            b"process = rdtable(0,1,_);",
+            &check,
+            "process = rdtable(0,1,_);",
             3,
-            b"refused 41 TableForm size\n",
+            "refused 41 TableForm size\n",
         ),
         (
-            b"process = rdtable(16777216,1,_);",
+            &check,
+            "process = rdtable(16777216,1,_);",
             3,
-            b"refused 42 TableBudget 50331648\n",
+            "refused 42 TableBudget 50331648\n",
         ),
         (
-            b"process = rdtable(5592405,1,_);",
+            &check,
+            "process = rdtable(5592405,1,_);",
             0,
-            b"inputs 1 outputs 1 controls 0 size 3 delays 0\n",
+            "inputs 1 outputs 1 controls 0 size 3 delays 0\n",
         ),
         (
-            b"process = waveform{10,-20,30}, _ : rdtable;",
+            &check,
+            "process = waveform{10,-20,30}, _ : rdtable;",
             0,
-            b"inputs 1 outputs 1 controls 0 size 3 delays 0\n",
+            "inputs 1 outputs 1 controls 0 size 3 delays 0\n",
         ),
         (
-            b"process = _ @ (waveform{1,2,3} : !,_);",
+            &check,
+            "process = _ @ (waveform{1,2,3} : !,_);",
             0,
-            b"inputs 1 outputs 1 controls 0 size 9 delays 3\n",
+            "inputs 1 outputs 1 controls 0 size 9 delays 3\n",
         ),
         (
-            b"process = _ @ (waveform{1,-2} : !,_);",
+            &check,
+            "process = _ @ (waveform{1,-2} : !,_);",
             3,
-            b"refused 26 DelayNegative -2\n",
+            "refused 26 DelayNegative -2\n",
         ),
         (
-            b"process = _ @ rdtable(3,7,_);",
+            &check,
+            "process = _ @ rdtable(3,7,_);",
             0,
-            b"inputs 2 outputs 1 controls 0 size 7 delays 7\n",
+            "inputs 2 outputs 1 controls 0 size 7 delays 7\n",
         ),
         (
-            b"process = _ @ rwtable(3,7,_,min(9),_);",
+            &check,
+            "process = _ @ rwtable(3,7,_,min(9),_);",
             3,
-            b"refused 26 DelayNegative -2147483648\n",
+            "refused 26 DelayNegative -2147483648\n",
         ),
         (
-            b"process = _ @ rwtable(3,7,_,(min(9) : max(0)),_);",
+            &check,
+            "process = _ @ rwtable(3,7,_,(min(9) : max(0)),_);",
             0,
-            b"inputs 4 outputs 1 controls 0 size 21 delays 9\n",
+            "inputs 4 outputs 1 controls 0 size 21 delays 9\n",
         ),
     ];
-    for (text, status, line) in rows {
-        assert_ends(&rt, rt.alloc(), text, &["check", "p.dsp"], status, line)?;
-    }
-    Ok(())
+    Ok(assert_all_report(&rt, rt.alloc(), &rows)?)
 }

@@ -10,6 +10,8 @@ mod au;
 #[cfg(test)]
 mod blocks;
 #[cfg(test)]
+mod desks;
+#[cfg(test)]
 mod files;
 #[cfg(test)]
 mod hostile;
@@ -23,6 +25,8 @@ mod makes;
 mod rack;
 #[cfg(test)]
 mod runs;
+#[cfg(test)]
+mod samples;
 #[cfg(test)]
 mod tables;
 #[cfg(test)]

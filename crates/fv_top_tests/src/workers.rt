@@ -1,8 +1,10 @@
 // Whole runs by several workers.
 
-use crate::blocks::tally_of;
-use crate::language::{assert_ends, file_of};
-use fv_outside::{FreeGate, Gate, MemoryDesk, Role};
+ghost use Rattle.std.specs.Prelude.{◌<◌};
+
+use crate::desks::{desk_of, tally_of};
+use crate::samples::{Played, assert_plays, file_of};
+use fv_outside::{FreeGate, Gate, Role};
 use fv_top::Tally;
 use std::alloc::{AllocError, Global};
 use std::process::Abort;
@@ -11,52 +13,19 @@ use std::test::Fail;
 use std::thread::Threads;
 use test_gates::{Counter, Meeting, Until};
 
-// A desk with a program and its input, and room for so much output.
-fn desk_with(
-    alloc: Global,
-    text: &[u8],
-    input: &[u8],
-    room: u32,
-) -> Result<MemoryDesk, AllocError> {
-    let mut desk = MemoryDesk::new(alloc);
-    desk.put("p.dsp", text)?;
-    desk.put("in.wav", input)?;
-    desk.room(Role::Output, room)?;
-    desk.room(Role::Report, 100)?;
-    Ok(desk)
-}
-
-// A run of a program of so many inputs and outputs, by so many workers under a gate, gives these samples.
-fn assert_gives<G: Gate + Sync>(
-    rt: &(impl Threads + Wait + Sync + Abort),
-    alloc: Global,
-    text: &[u8],
-    samples: (u32, &[i32], &[i32]),
-    workers: &str,
-    gate: &mut G,
-) -> Result<(), AllocError> {
-    let (channels, heard, wanted) = samples;
-    let input = file_of(alloc, channels, heard)?;
-    let output = file_of(alloc, channels, wanted)?;
-    let mut desk = desk_with(alloc, text, &input, 1000)?;
-    let words = ["run", "p.dsp", "in.wav", "out.wav", "--workers", workers];
-    let tally = tally_of(rt, alloc, &mut desk, &words, gate)?;
-    assert_eq!(rt; tally.map(|t| t.blocks), Some(1));
-    assert_eq!(rt; desk.written(Role::Output), output.as_slice());
-    Ok(())
-}
-
 // Two loops that read nothing of one another. The gate holds each task until the other is about to run, so two threads run them.
 #[test]
 fn tasks_all_on_one_thread_are_refused(rt: HostRuntime) -> Result<(), Fail> {
-    let text = b"process = _ + 1, _ * 2;";
-    let heard = [1, 1, 5, -3];
-    let wanted = [2, 2, 6, -6];
+    let played: Played = (
+        &["run", "p.dsp", "in.wav", "out.wav", "--workers", "2"],
+        "process = _ + 1, _ * 2;",
+        (2, &[1, 1, 5, -3]),
+        (2, &[2, 2, 6, -6]),
+        "done 2 frames\n",
+    );
     let mut gate = Meeting::new(0, 1);
-    let samples = (2, heard.as_slice(), wanted.as_slice());
-    assert_gives(&rt, rt.alloc(), text, samples, "2", &mut gate)?;
-    assert!(rt; !gate.missed());
-    assert_gives(&rt, rt.alloc(), text, samples, "1", &mut FreeGate)?;
+    let tally = assert_plays(&rt, rt.alloc(), &played, &mut gate)?;
+    assert_eq!(rt; (tally.blocks, gate.missed()), (1, false));
     Ok(())
 }
 
@@ -64,76 +33,83 @@ fn tasks_all_on_one_thread_are_refused(rt: HostRuntime) -> Result<(), Fail> {
 // until that of loop 0 is about to run, so worker 1 has stolen that.
 #[test]
 fn workers_that_never_steal_are_refused(rt: HostRuntime) -> Result<(), Fail> {
-    let text = b"process = _ + 1, _ * 2, _ - 3;";
-    let heard = [1, 1, 1, 5, -3, 0];
-    let wanted = [2, 2, -2, 6, -6, -3];
+    let played: Played = (
+        &["run", "p.dsp", "in.wav", "out.wav", "--workers", "2"],
+        "process = _ + 1, _ * 2, _ - 3;",
+        (3, &[1, 1, 1, 5, -3, 0]),
+        (3, &[2, 2, -2, 6, -6, -3]),
+        "done 2 frames\n",
+    );
     let mut gate = Until::new(2, 0);
-    let samples = (3, heard.as_slice(), wanted.as_slice());
-    assert_gives(&rt, rt.alloc(), text, samples, "2", &mut gate)?;
-    assert!(rt; !gate.missed());
+    let tally = assert_plays(&rt, rt.alloc(), &played, &mut gate)?;
+    assert_eq!(rt; (tally.blocks, gate.missed()), (1, false));
     Ok(())
 }
 
-// Two channels with echoes, half as loud after a quarter of a second.
-const ECHOES: [u8; 77] =
-    *b"echo(d,g) = + ~ (@(d-1) : *(g) : /(256)); process = par(i,2,echo(11025,128));";
-
-// A file of two channels of 22,051 frames, in which three frames have these samples twice and all others are silent.
-fn quarters(alloc: Global, first: i32, second: i32, third: i32) -> Result<Vec<u8>, AllocError> {
-    let mut samples = Vec::from_elem(alloc, 0, 44102)?;
+// A file of two channels, in which three frames, so many apart and the last one the last, have these samples twice, and all others are
+// silent.
+fn thirds(alloc: Global, apart: usize, loud: [i32; 3]) -> Result<Vec<u8>, AllocError>
+    requires { apart < 1000000 }
+{
+    let mut samples = Vec::from_elem(alloc, 0, 4 * apart + 2)?;
+    let [first, second, third] = loud;
     samples[0] = first;
     samples[1] = first;
-    samples[22050] = second;
-    samples[22051] = second;
-    samples[44100] = third;
-    samples[44101] = third;
+    samples[2 * apart] = second;
+    samples[2 * apart + 1] = second;
+    samples[4 * apart] = third;
+    samples[4 * apart + 1] = third;
     file_of(alloc, 2, &samples)
 }
 
-// The echoes of 1000 by blocks and vectors of this size and so many workers, as the gate sees them.
+// The echoes of 1000 in two channels, half as loud after so many frames, with these words, as the gate sees them.
 fn echoes<G: Gate + Sync>(
     rt: &(impl Threads + Wait + Sync + Abort),
     alloc: Global,
-    sizes: (&str, &str),
-    workers: &str,
+    echo: (&str, usize),
+    words: &[&str],
     gate: &mut G,
 ) -> Result<Option<Tally>, AllocError> {
-    let input = quarters(alloc, 1000, 0, 0)?;
-    let output = quarters(alloc, 1000, 500, 250)?;
-    let mut desk = desk_with(alloc, &ECHOES, &input, 100_000)?;
-    let (block, vector) = sizes;
-    let words = [
-        "run",
-        "p.dsp",
-        "in.wav",
-        "out.wav",
-        "--block",
-        block,
-        "--vector",
-        vector,
-        "--workers",
-        workers,
-    ];
-    let tally = tally_of(rt, alloc, &mut desk, &words, gate)?;
+    let (text, apart) = echo;
+    assert!(rt; apart < 1_000_000);
+    let input = thirds(alloc, apart, [1000, 0, 0])?;
+    let output = thirds(alloc, apart, [1000, 500, 250])?;
+    let mut desk = desk_of(alloc, text.as_bytes(), &input)?;
+    let tally = tally_of(rt, alloc, &mut desk, words, gate)?;
     assert!(rt;
         desk.written(Role::Output) == output.as_slice(),
-        "block {block}, workers {workers}"
+        "{words:?}"
     );
     Ok(tally)
 }
 
-// By sixteen workers the built program plays a part of them (`.ci/check-program`), since that takes sixteen threads for each block.
-#[test]
-fn echoes_by_frames(rt: HostRuntime) -> Result<(), Fail> {
-    echoes(&rt, rt.alloc(), ("1", "1"), "1", &mut FreeGate)?;
-    echoes(&rt, rt.alloc(), ("1", "1"), "2", &mut FreeGate)?;
-    Ok(())
-}
+// Echoes after a quarter of a second, and after 110 frames.
+const QUARTERS: (&str, usize) = (
+    "echo(d,g) = + ~ (@(d-1) : *(g) : /(256)); process = par(i,2,echo(11025,128));",
+    11025,
+);
 
+const SHORT: (&str, usize) = (
+    "echo(d,g) = + ~ (@(d-1) : *(g) : /(256)); process = par(i,2,echo(110,128));",
+    110,
+);
+
+// By sixteen workers the built program plays a part of them by frames (`.ci/check-program`), since that takes sixteen threads for each.
 #[test]
-fn echoes_by_blocks(rt: HostRuntime) -> Result<(), Fail> {
-    for workers in ["1", "2", "16"] {
-        echoes(&rt, rt.alloc(), ("512", "32"), workers, &mut FreeGate)?;
+fn echoes_by_each_size(rt: HostRuntime) -> Result<(), Fail> {
+    let rows: [((&str, usize), &str, &str, &str); 8] = [
+        (SHORT, "--block=1", "--vector=1", "--workers=1"),
+        (SHORT, "--block=7", "--vector=7", "--workers=1"),
+        (SHORT, "--block=512", "--vector=32", "--workers=1"),
+        (QUARTERS, "--block=1", "--vector=1", "--workers=1"),
+        (QUARTERS, "--block=1", "--vector=1", "--workers=2"),
+        (QUARTERS, "--block=512", "--vector=32", "--workers=1"),
+        (QUARTERS, "--block=512", "--vector=32", "--workers=2"),
+        (QUARTERS, "--block=512", "--vector=32", "--workers=16"),
+    ];
+    for (echo, block, vector, workers) in rows {
+        let words = ["run", "p.dsp", "in.wav", "out.wav", block, vector, workers];
+        echoes(&rt, rt.alloc(), echo, &words, &mut FreeGate)?;
     }
     Ok(())
 }
@@ -141,23 +117,23 @@ fn echoes_by_blocks(rt: HostRuntime) -> Result<(), Fail> {
 // The gate sees as many tasks as are counted, whoever runs them.
 #[test]
 fn tasks_that_no_gate_sees_are_refused(rt: HostRuntime) -> Result<(), Fail> {
-    for workers in ["1", "2"] {
+    for workers in ["--workers=1", "--workers=2"] {
         let mut gate = Counter::new();
-        let tally = echoes(&rt, rt.alloc(), ("7", "7"), workers, &mut gate)?;
+        let words = [
+            "run",
+            "p.dsp",
+            "in.wav",
+            "out.wav",
+            "--block=7",
+            "--vector=7",
+            workers,
+        ];
+        let tally = echoes(&rt, rt.alloc(), QUARTERS, &words, &mut gate)?;
         let runs = u128::from(gate.tasks());
-        assert!(rt; runs > 0);
-        assert_eq!(rt; tally.map(|t| t.loop_runs), Some(runs));
-    }
-    Ok(())
-}
-
-// One line, whoever plays.
-#[test]
-fn makes_one_sum(rt: HostRuntime) -> Result<(), Fail> {
-    let line = b"made 16 voices, 32768 frames, sum 1263330751\n";
-    for workers in ["1", "2", "16"] {
-        let words = ["make", "16", "32768", workers];
-        assert_ends(&rt, rt.alloc(), b"process = _;", &words, 0, line)?;
+        assert!(rt;
+            runs > 0 && tally.is_some_and(|t| t.loop_runs == runs),
+            "{workers}"
+        );
     }
     Ok(())
 }

@@ -2,7 +2,7 @@
 #![tactic(auto)]
 
 mod graphs;
-mod pieces;
+mod table;
 
 pub use graphs::{by_a_control, delayed, difference, echo_left};
-pub use pieces::{late, pair};
+pub use table::{Line, graph_of, graph_over};

@@ -100,15 +100,3 @@ has_table_primitive (Split a b) = has_table_primitive a || has_table_primitive b
 has_table_primitive (Merge a b) = has_table_primitive a || has_table_primitive b
 has_table_primitive (Rec a b) = has_table_primitive a || has_table_primitive b
 has_table_primitive d = false
-
--- a waveform or a table occurs
-abbrev pub has_table : Diagram → Bool
-has_table (Wave w) = true
-has_table (Table T writes) = true
-has_table (Bind s a) = has_table a
-has_table (Par a b) = has_table a || has_table b
-has_table (Seq a b) = has_table a || has_table b
-has_table (Split a b) = has_table a || has_table b
-has_table (Merge a b) = has_table a || has_table b
-has_table (Rec a b) = has_table a || has_table b
-has_table d = false

@@ -36,7 +36,7 @@ use Rattle.fv_parse_tree.specs.declared.node.TreeId.{TreeId}
 use Rattle.fv_eval_scopes.specs.declared.value.Ruled.{Ruled}
 use Rattle.fv_eval_scopes.specs.declared.value.Binding as code_binding
 use Rattle.fv_eval_choosing.specs.Chosen.{ShowsChoice}
-use Rattle.fv_eval_choosing.specs.Fits.{Recalls}
+use Rattle.fv_eval_patterns.specs.Trials.{Recalls}
 
 -- the lists of a machine over a tree
 abbrev pub world : Parsed → code_machine.Machine → World
@@ -47,7 +47,7 @@ state_of m = record { visits = m.visits; controls = m.controls; slot = m.slot; t
 
 -- what the machine remembers of patterns is true of the tree
 abbrev pub Knows : Parsed → code_machine.Machine → Type 0
-Knows p m = Recalls p m.drawing.diagrams m.fits
+Knows p m = Recalls p m.drawing.diagrams m.trials
 
 -- these numbers are these diagrams, in order
 abbrev pub AllDraw : World → List ℕ → List Diagram → Type 0

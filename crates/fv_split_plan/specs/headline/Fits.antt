@@ -1,7 +1,7 @@
 -- When the code of a loop fits a graph: each of its registers is for something (this project's profile).
 use Rattle.std.specs.Prelude.{ℕ, List, [], ℤ}
 use Rattle.fv_num.specs.headline.Frames.{Frame, Stream}
-use Rattle.fv_num.specs.Tables.{after}
+use Rattle.fv_num.specs.headline.Tables.{after}
 use Rattle.fv_signal.specs.declared.signal.Signal.{Signal}
 use Rattle.fv_signal.specs.declared.signal.Signal.TheVariants as signal
 use Rattle.fv_signal.specs.headline.Value.{Graph, table_of, value}

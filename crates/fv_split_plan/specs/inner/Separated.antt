@@ -1,4 +1,4 @@
--- What no call says beside `headline/Separated`: the separated signals of a graph, which have lanes, and what each signal reads and reaches (this project's profile).
+-- What no call says beside `headline/Separated`: which operands are below a number (this project's profile).
 use Rattle.std.specs.Prelude.{ℕ, ◌<◌, All}
 use Rattle.fv_signal.specs.declared.signal.Signal.{Signal}
 use Rattle.fv_signal.specs.declared.signal.Signal.TheVariants.{Input, Const, Control, Point, Delay, Back, Member, Read, Write}

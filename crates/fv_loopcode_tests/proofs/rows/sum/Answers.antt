@@ -6,5 +6,4 @@ use Rattle.fv_loopcode_tests.proofs.rows.sum.Goals as goal
 
 pub run-requires-clause-may : goal.run-requires-clause-may
 run-requires-clause-may c =
-    let q = c.requires in
-    may_sum c.args.code.now (argument []) (frame_of c.args.input.now 1) c.args.count c.args.line.now q.code q.history q.written q.room
+    may_sum c.args.code.now (argument []) (frame_of c.args.input.now 1) c.args.count c.args.shelf.now c.requires.code c.requires.room

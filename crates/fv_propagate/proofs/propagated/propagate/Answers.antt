@@ -10,7 +10,7 @@ use Rattle.fv_interval.specs.Delays.{AreAccepted}
 use Rattle.fv_propagate.specs.inner.Progress.{Progress, IsThere}
 use Rattle.fv_propagate.specs.headline.Propagated.{Propagates, NamesWithin}
 use Rattle.fv_propagate.specs.Propagated.{DelaysStayWithin, AreShort}
-use Rattle.fv_propagate.proofs.Whole.{made, graph, propagates, stays_within, stays_short, names_within, made_wide, made_closed, made_tableless, made_is, inputs_there}
+use Rattle.fv_propagate.proofs.Whole.{made, graph, propagates, stays_within, stays_short, names_within, made_wide, made_closed, made_is, inputs_there}
 use Rattle.fv_propagate.proofs.propagated.propagate.Goals as goal
 
 pub walk-requires-clause-width : goal.walk-requires-clause-width
@@ -113,16 +113,3 @@ returns-clause-names c =
     ap (graph_of c.walk.new.signals.draft) c.deref.ensures.value ∙ ap (λ (r : List ℕ × Progress). graph_of r.1.draft r.0) is in
     let g : c.in_ok-graph.graph ≡ graph d ds r.well r.closed n = c.in_ok-graph.ensures.graph ∙ same in
     subst (NamesWithin d) (sym g) (names_within d ds r.well r.closed n)
-
-pub returns-clause-tables : goal.returns-clause-tables
-returns-clause-tables c =
-    let r = c.requires in
-    let n = c.arity.ensures.numbers in
-    let d = tree_of c.args.diagrams.now c.args.root in
-    let ds = c.args.delays.now in
-    let is : (c.in_ok-outs.outs.items, c.walk.new.signals) ≡ made d ds r.well r.closed n =
-    made_is d ds c.in_ok-ins.ins.items c.in_ok-outs.outs.items c.from-count.result c.new-2.result c.in_ok-progress.progress c.inputs.new.self c.walk.new.signals
-    (c.from-count.ensures ∙ c.arity.ensures.arity.0) c.in_ok-progress.ensures c.in_ok-ins.ensures c.new-2.ensures c.in_ok-outs.ensures.walked in
-    let same : graph_of c.walk.new.signals.draft c.deref.result.now ≡ graph d ds r.well r.closed n =
-    ap (graph_of c.walk.new.signals.draft) c.deref.ensures.value ∙ ap (λ (r : List ℕ × Progress). graph_of r.1.draft r.0) is in
-    λ tableless. ap (λ (g : Graph). g.tables) (c.in_ok-graph.ensures.graph ∙ same) ∙ made_tableless d ds r.well r.closed n tableless

@@ -1,4 +1,4 @@
-use Rattle.std.proofs.Common.{◌+◌, ap, ◌∙◌, arith, pos}
+use Rattle.std.proofs.Common.{ap, ◌∙◌, pos}
 use Rattle.std.proofs.lemmas.List.{get_or_default}
 use Rattle.fv_split_plan.specs.Separated.{lane_at}
 use Rattle.fv_split_code.specs.declared.kind.Kind.TheVariants as kind

@@ -2,7 +2,7 @@ use Rattle.std.proofs.Common.{◌≡◌, ◌+◌, suc, length, sym, ◌∙◌, s
 use Rattle.std.proofs.lemmas.List.{get_or_read, length-set}
 use Rattle.fv_split_components.specs.headline.Reach.{at}
 use Rattle.fv_analysis.specs.headline.Stands.{StandsAt}
-use Rattle.fv_split_plan.proofs.NodeLemmas.{node_read, operands_within}
+use Rattle.fv_split_plan.proofs.NodeLemmas.{node_read}
 use Rattle.fv_split_code.specs.Emitted.{AllServe, AddsNow, code_in}
 use Rattle.fv_split_code.proofs.AddLemmas.{all_serve_more, all_serve_none, all_serve_begins, all_serve_ends, code_read}
 use Rattle.fv_split_code.proofs.emit.codes.Goals.{then-own-loops+in_ok-add, else-own-loops}
@@ -12,13 +12,13 @@ pub loop-s-init : goal.loop-s-init
 loop-s-init c = record {
   long = c.in_ok-codes.ensures.0;
   registers = omega (arith, c.in_ok-registers.registers.ok.0, c.in_ok-registers.ensures.len, c.len.ensures);
-  serve = all_serve_begins c.args.graph.now c.args.tables.now c.args.loops c.in_ok-registers.registers.items c.in_ok-codes.codes.items c.in_ok-codes.ensures.1;
+  serve = all_serve_begins c.args.graph.now c.args.survey.now c.args.loops c.in_ok-registers.registers.items c.in_ok-codes.codes.items c.in_ok-codes.ensures.1;
 }
 
 pub loop-s-preserved : goal.loop-s-preserved
 loop-s-preserved c =
     let g = c.args.graph.now in
-    let t = c.args.tables.now in
+    let t = c.args.survey.now in
     let s = c.loop-s.s in
     let own = c.index-own.result.now in
     let home : own ≡ at t.homes.items s = get_or_read t.homes.items s own (omega (arith, c.requires.homes)) c.index-own.ensures 0 in
@@ -64,5 +64,5 @@ loop-s-preserved c =
 
 pub returns : goal.returns
 returns c =
-    all_serve_ends c.args.graph.now c.args.tables.now c.args.loops c.loop-s.s c.loop-s.registers.items c.loop-s.codes.items
+    all_serve_ends c.args.graph.now c.args.survey.now c.args.loops c.loop-s.s c.loop-s.registers.items c.loop-s.codes.items
     (omega arith) c.loop-s.invariant.long c.loop-s.invariant.serve

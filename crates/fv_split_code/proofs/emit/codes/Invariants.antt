@@ -6,5 +6,5 @@ abbrev pub invariant-loop-s : goal.invariant-loop-s
 invariant-loop-s l = record {
   long : length l.codes.items ≡ l.loops;
   registers : length l.registers.items ≡ length l.graph.signals;
-  serve : AllServe l.graph l.tables l.loops l.s l.registers.items l.codes.items;
+  serve : AllServe l.graph l.survey l.loops l.s l.registers.items l.codes.items;
 }

@@ -8,15 +8,15 @@ use Rattle.fv_split_code.proofs.emit.point.Goals as goal
 
 pub operands-requires-clause-signals : goal.operands-requires-clause-signals
 operands-requires-clause-signals c =
-    let t = c.args.tables.now in
+    let t = c.args.survey.now in
     let n = c.inputs-n.result in
     stood_within t.stands.items c.args.args (take n c.stood-signals.result) n (length c.args.registers.now)
     (ap (take n) (c.stood-signals.ensures.value ∙ ap (λ xs. map
-    (at xs) c.args.args) c.deref.ensures.value)) c.requires.tables.stands c.requires.args c.requires.tables.within
+    (at xs) c.args.args) c.deref.ensures.value)) c.requires.survey.stands c.requires.args c.requires.survey.within
 
 pub returns : goal.returns
 returns c = IfOk-weaker c.push.result _ _ (λ w h.
-    let t = c.args.tables.now in
+    let t = c.args.survey.now in
     let regs = c.args.registers.now in
     let n = c.inputs-n.result in
     let those = take n c.stood-signals.result in

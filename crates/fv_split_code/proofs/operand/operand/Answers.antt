@@ -1,4 +1,4 @@
-use Rattle.std.proofs.Common.{◌≡◌, ℕ, ◌<◌, List, [], ◌∷◌, ◌++◌, length, sym, ◌∙◌, subst, arith, ap, true, false, rules, SFits, w32, to_z-of_z}
+use Rattle.std.proofs.Common.{[], ◌∷◌, ◌++◌, ◌∙◌, ap, rules, SFits, w32, to_z-of_z}
 use Rattle.std.proofs.lemmas.Result.{IfOk-weaker}
 use Rattle.fv_split_code.specs.declared.kind.Kind.TheVariants as kind
 use Rattle.fv_loopcode.specs.declared.step.Step.TheVariants as step

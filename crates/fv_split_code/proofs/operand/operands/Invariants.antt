@@ -1,4 +1,3 @@
-use Rattle.std.proofs.Common.{length}
 use Rattle.fv_split_code.specs.Emits.{AreFound, MeanNow, owned_by}
 use Rattle.fv_split_code.proofs.operand.operands.Given as goal
 

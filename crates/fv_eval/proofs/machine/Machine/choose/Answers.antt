@@ -13,7 +13,7 @@ choose-requires-clause-there c =
 
 pub returns-clause-grew : goal.returns-clause-grew
 returns-clause-grew c =
-    chosen_grew c.args.text.now c.args.self.now c.choose.new.self c.choose.new.fits c.in_ok-choice.ensures.adds c.in_ok-choice.ensures.recalls
+    chosen_grew c.args.text.now c.args.self.now c.choose.new.self c.choose.new.trials c.in_ok-choice.ensures.adds c.in_ok-choice.ensures.recalls
 
 pub returns-clause-chosen : goal.returns-clause-chosen
 returns-clause-chosen c =

@@ -2,7 +2,8 @@ use Rattle.std.proofs.Common.{sym, subst}
 use Rattle.fv_parse_tree.specs.Arena.{trees}
 use Rattle.fv_parse.specs.Trees.{Parsed, tree_in, start_in}
 use Rattle.fv_eval_scopes.specs.Shows.{IsFunction}
-use Rattle.fv_eval_choosing.proofs.RuleNodes.{functions_are, not_a_function, node_is}
+use Rattle.fv_eval_choosing.proofs.RuleNodes.{functions_are, not_a_function}
+use Rattle.fv_eval_patterns.proofs.Matched.{node_is}
 use Rattle.fv_eval_choosing.proofs.lookup.Definitions.functions.Goals as goal
 
 pub returns-in-Function-clause-rules : goal.returns-in-Function-clause-rules

@@ -1,6 +1,6 @@
 use Rattle.std.proofs.Common.{All, refl, sym, subst}
 use Rattle.fv_diagram.specs.Arena.{Arena}
-use Rattle.fv_eval_choosing.specs.Fits.{Recalls}
+use Rattle.fv_eval_patterns.specs.Trials.{Recalls}
 use Rattle.fv_eval_drawing.specs.Makes.{AddsDiagrams, Canvas, IsThere}
 use Rattle.fv_eval_drawing.proofs.Remembered.{adds_extends, adds_composed, there_sound}
 use Rattle.fv_eval_drawing.proofs.drawing.Drawing.choose.Goals as goal
@@ -23,4 +23,4 @@ invariant_of-self c = (adds_composed c.self.inside.diagrams c.choose.new.diagram
 
 pub choose-requires-clause-recalls : goal.choose-requires-clause-recalls
 choose-requires-clause-recalls c =
-    subst (λ (x : Canvas). Recalls c.args.text.now x.diagrams c.args.fits.now) (sym c.self.view_is) c.requires.recalls
+    subst (λ (x : Canvas). Recalls c.args.text.now x.diagrams c.args.trials.now) (sym c.self.view_is) c.requires.recalls

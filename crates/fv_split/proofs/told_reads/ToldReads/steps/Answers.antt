@@ -1,4 +1,4 @@
-use Rattle.std.proofs.Common.{◌≡◌, ◌<◌, length, drop, sym, ap, ◌∙◌, subst, All}
+use Rattle.std.proofs.Common.{◌<◌, length, drop, sym, ap, ◌∙◌, subst, All}
 use Rattle.fv_split.specs.inner.ToldReads.{view_of}
 use Rattle.fv_split.proofs.TellLemmas.{length_steps}
 use Rattle.fv_split.proofs.told_reads.ToldReads.steps.Goals as goal

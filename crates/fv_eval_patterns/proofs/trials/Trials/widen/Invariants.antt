@@ -1,0 +1,11 @@
+use Rattle.std.proofs.Common.{◌-◌, vec_len}
+use Rattle.fv_parse.specs.Trees.{Parsed}
+use Rattle.fv_diagram.specs.Arena.{Arena}
+use Rattle.fv_eval_patterns.specs.Trials.{Recalls}
+use Rattle.fv_eval_patterns.proofs.trials.Trials.widen.Given as goal
+
+abbrev pub invariant-widen : goal.invariant-widen
+invariant-widen l = (p : Parsed) (a : Arena) → Recalls p a l.fn.self → Recalls p a l.self-inside.slots.items
+
+abbrev pub decreases-widen : goal.decreases-widen
+decreases-widen l = l.wanted - vec_len l.self-inside.slots

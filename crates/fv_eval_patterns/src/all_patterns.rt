@@ -1,0 +1,91 @@
+// Patterns against as many values.
+
+ghost use Rattle.std.specs.Prelude.{◌≡◌, ◌<◌, List, IfOk, All, map};
+ghost use Rattle.fv_parse.specs.Trees.{size_of, tree_in};
+ghost use Rattle.fv_rules.specs.headline.Values.{Value as PureValue};
+ghost use Rattle.fv_rules.specs.headline.Matching.{Bindings as PureBindings, all_matched};
+ghost use Rattle.fv_eval_scopes.specs.Shows.{World, ShowsValues, ShowsBindings};
+ghost use Rattle.fv_eval_scopes.specs.Memo.{Remembers, AddsIntegers};
+ghost use Rattle.fv_eval_patterns.specs.Patterns.{IsSound, with_diagrams, ShowsMatched};
+ghost use Rattle.fv_eval_patterns.specs.Trials.{Recalls};
+
+use crate::matching::matches_in;
+use crate::trials::Trials;
+use fv_diagram::Diagrams;
+use fv_eval_scopes::{Binding, Numbers, Value};
+use fv_parse::{Tree, TreeId};
+use std::alloc::{AllocError, Global};
+
+/// What patterns are matched against: as many values. The patterns stand in the tree.
+#[derive(Clone, Copy)]
+pub struct Subjects<'s> {
+    pub alloc: Global,
+    pub tree: &'s Tree<'s>,
+    pub values: &'s [Value],
+}
+
+impl Subjects<'_> {
+    /// Whether patterns match, one after the other; their bindings are added to those so far. Where one is long, they are
+    /// tried first without binding anything. It adds integers alone, also where memory runs out.
+    pub fn match_all(
+        &self,
+        patterns: &[TreeId],
+        diagrams: &mut Diagrams,
+        numbers: &mut Numbers,
+        trials: &mut Trials,
+        found: &mut Vec<Binding>,
+    ) -> Result<bool, AllocError>
+        requires inside { All (λ id. id < size_of self.now.tree.now) patterns.now }
+        requires sound { All (IsSound diagrams.old) self.now.values.now }
+        requires known { Remembers diagrams.old numbers.old }
+        requires recalls { Recalls self.now.tree.now diagrams.old trials.old }
+        ensures adds { AddsIntegers diagrams.old diagrams.new }
+        ensures known { Remembers diagrams.new numbers.new }
+        ensures recalls { Recalls self.now.tree.now diagrams.new trials.new }
+        ensures matched { IfOk result (λ b. (w : World) (vs : List PureValue) (bs : PureBindings)
+            → w.tree ≡ self.now.tree.now → w.diagrams ≡ diagrams.old → ShowsValues w self.now.values.now vs
+            → ShowsBindings w found.old.items bs
+            → ShowsMatched (with_diagrams w diagrams.new) b found.new.items
+            (all_matched self.now.tree.now.tokens (map (tree_in self.now.tree.now) patterns.now) vs bs)) }
+    {
+        if !self.may_match(patterns, diagrams, numbers, trials)? {
+            return Ok(false);
+        }
+        let matches = self.bind_all(patterns, diagrams, numbers, found)?;
+        Ok(matches)
+    }
+
+    // The same without a trial.
+    fn bind_all(
+        &self,
+        patterns: &[TreeId],
+        diagrams: &mut Diagrams,
+        numbers: &mut Numbers,
+        found: &mut Vec<Binding>,
+    ) -> Result<bool, AllocError>
+        requires inside { All (λ id. id < size_of self.now.tree.now) patterns.now }
+        requires sound { All (IsSound diagrams.old) self.now.values.now }
+        requires known { Remembers diagrams.old numbers.old }
+        ensures adds { AddsIntegers diagrams.old diagrams.new }
+        ensures known { Remembers diagrams.new numbers.new }
+        ensures matched { IfOk result (λ b. (w : World) (vs : List PureValue) (bs : PureBindings)
+            → w.tree ≡ self.now.tree.now → w.diagrams ≡ diagrams.old → ShowsValues w self.now.values.now vs
+            → ShowsBindings w found.old.items bs
+            → ShowsMatched (with_diagrams w diagrams.new) b found.new.items
+            (all_matched self.now.tree.now.tokens (map (tree_in self.now.tree.now) patterns.now) vs bs)) }
+    {
+        let values = self.values;
+        for (i, pattern) in patterns.iter().enumerate() {
+            if i >= values.len() {
+                return Ok(false);
+            }
+            let value = &values[i];
+            if !matches_in(
+                self.alloc, self.tree, *pattern, diagrams, numbers, value, found,
+            )? {
+                return Ok(false);
+            }
+        }
+        Ok(true)
+    }
+}

@@ -1,0 +1,127 @@
+// Code on a table and cells, by samples and by strips.
+
+ghost use Rattle.std.specs.Prelude.{◌≡◌, ◌⊎◌, ◌<◌, ◌*◌, [], length};
+ghost use Rattle.fv_loopcode_tests.specs.Codes.{written_and_looked_up, written_again};
+ghost use Rattle.fv_loopcode_tests.specs.Shelf.{HasRoom};
+
+use crate::rows::shelf_of;
+use crate::shelf::Shelf;
+use fv_loopcode::{Counts, Step};
+use fv_loopcode_machine::Code;
+use fv_num::Op;
+use std::process::Abort;
+use std::test::Fail;
+
+// One of each.
+const ONE: Counts = Counts {
+    lanes: 1,
+    tables: 1,
+    cells: 1,
+};
+
+const WRITTEN_AND_LOOKED_UP: [Step; 5] = [
+    Step::Input(0),
+    Step::Input(1),
+    Step::Input(2),
+    Step::Write {
+        cells: 0,
+        args: [0, 1, 2],
+    },
+    Step::Read { table: 0, arg: 3 },
+];
+
+const WRITTEN_AGAIN: [Step; 9] = [
+    Step::Input(0),
+    Step::Input(1),
+    Step::Input(2),
+    Step::Number(1),
+    Step::Load {
+        lane: 0,
+        back: 3,
+        max: 1,
+    },
+    Step::Point {
+        op: Op::Add,
+        args: [1, 4, 4, 4],
+    },
+    Step::Write {
+        cells: 0,
+        args: [0, 5, 2],
+    },
+    Step::Append { lane: 0, value: 6 },
+    Step::Read { table: 0, arg: 6 },
+];
+
+// Runs either code over so many samples of three inputs.
+fn by_samples(
+    code: &fv_loopcode::Code,
+    input: &[i32],
+    count: u64,
+    registers: &mut [i32],
+    shelf: &mut Shelf,
+)
+    requires code { (code.now ≡ written_and_looked_up) ⊎ (code.now ≡ written_again) }
+    requires registers { length registers.old ≡ length code.now }
+    requires few { count < 1000 }
+    requires input { length input.now ≡ count * 3 }
+    requires room { HasRoom shelf.old count }
+{
+    fv_loopcode::run(code, &[], input, 3, 0, count, registers, shelf);
+}
+
+// The same, by strips.
+fn by_strips(code: &Code, input: &[i32], count: u64, registers: &mut [i32], shelf: &mut Shelf)
+    requires code { (code.now ≡ written_and_looked_up) ⊎ (code.now ≡ written_again) }
+    requires registers { length registers.old ≡ length code.now }
+    requires few { count < 1000 }
+    requires input { length input.now ≡ count * 3 }
+    requires room { HasRoom shelf.old count }
+{
+    fv_loopcode_machine::run(code, &[], input, 3, 0, count, registers, shelf);
+}
+
+#[test]
+fn what_is_written_is_read_at_once(rt: HostRuntime) -> Result<(), Fail> {
+    let Some(code) = Code::new(rt.alloc(), &WRITTEN_AND_LOOKED_UP, ONE)? else {
+        return Err("no code".into());
+    };
+    let mut registers = [0; 5];
+    let mut shelf = shelf_of(rt.alloc(), 3)?;
+    by_strips(
+        &code,
+        &[0, 1, 0, 1, 5, 0, 0, 9, 1],
+        3,
+        &mut registers,
+        &mut shelf,
+    );
+    assert_eq!(rt; shelf.cells.as_slice(), [9, 5].as_slice());
+    assert_eq!(rt; registers.as_slice(), [0, 9, 1, 5, 30].as_slice());
+    Ok(())
+}
+
+// Two strips and a part of a third.
+const COUNT: u64 = 70;
+
+#[test]
+fn strips_write_as_samples_do(rt: HostRuntime) -> Result<(), Fail> {
+    let mut input = [0; 210];
+    for k in 0..input.len() {
+        input[k] = (k as i32 * 37) % 5 - 1;
+    }
+    let Some(plain) = fv_loopcode::Code::new(rt.alloc(), &WRITTEN_AGAIN, ONE)? else {
+        return Err("no code".into());
+    };
+    let Some(code) = Code::new(rt.alloc(), &WRITTEN_AGAIN, ONE)? else {
+        return Err("no code".into());
+    };
+    let mut registers = [0; 9];
+    let mut samples = shelf_of(rt.alloc(), COUNT)?;
+    by_samples(&plain, &input, COUNT, &mut registers, &mut samples);
+    let mut last = [0; 9];
+    let mut strips = shelf_of(rt.alloc(), COUNT)?;
+    by_strips(&code, &input, COUNT, &mut last, &mut strips);
+    assert_eq!(rt; strips.samples.as_slice(), samples.samples.as_slice());
+    assert_eq!(rt; strips.cells.as_slice(), samples.cells.as_slice());
+    assert_eq!(rt; last.as_slice(), registers.as_slice());
+    Ok(())
+}

@@ -1,0 +1,144 @@
+// Whole runs over a desk in memory, and what is seen of them.
+
+use fv_outside::{FreeGate, Gate, MemoryDesk, Role};
+use fv_top::{Status, Tally, run_faustvec};
+use std::alloc::{AllocError, Global};
+use std::process::Abort;
+use std::sync::Wait;
+use std::thread::Threads;
+
+/// The words of the plainest run.
+pub const WORDS: [&str; 4] = ["run", "p.dsp", "in.wav", "out.wav"];
+
+/// One channel of 16 bits at 44100 frames a second, with the samples 1, -2 and 3.
+pub const THREE: [u8; 50] = [
+    82, 73, 70, 70, 42, 0, 0, 0, 87, 65, 86, 69, 102, 109, 116, 32, 16, 0, 0, 0, 1, 0, 1, 0, 68,
+    172, 0, 0, 136, 88, 1, 0, 2, 0, 16, 0, 100, 97, 116, 97, 6, 0, 0, 0, 1, 0, 254, 255, 3, 0,
+];
+
+/// Files that each desk has beside a program and an input.
+const OTHERS: [(&str, &[u8]); 12] = [
+    ("c.txt", b"2 g 3\n3 g 0\n"),
+    ("on.txt", b"1 on 1"),
+    ("low.txt", b"0 g 0\n1 g 10"),
+    ("high.txt", b"0 g 11"),
+    ("back.txt", b"3 g 1\n2 g 1\n"),
+    ("nothing.txt", b"# nothing\n\r\n"),
+    ("form.txt", b"x g 1"),
+    ("label.txt", b"\n0 h 1"),
+    ("value.txt", b"0 h 2147483648"),
+    ("blank.txt", b"0 my gain 3"),
+    ("second.txt", b"1 1/g 3"),
+    ("twelfth.txt", b"1 11/g 3\n1 1/g 2\n"),
+];
+
+/// How a run ends: its exit status, its line and its output.
+pub type End<'a> = (u8, &'a str, &'a [u8]);
+
+/// A desk with a program and an input, and room for what is written.
+pub fn desk_of(alloc: Global, text: &[u8], input: &[u8]) -> Result<MemoryDesk, AllocError> {
+    let mut desk = MemoryDesk::new(alloc);
+    for (name, bytes) in OTHERS {
+        desk.put(name, bytes)?;
+    }
+    desk.put("p.dsp", text)?;
+    desk.put("in.wav", input)?;
+    desk.room(Role::Output, 100_000)?;
+    desk.room(Role::Report, 100)?;
+    Ok(desk)
+}
+
+/// A run with these words behind the program's own name.
+pub fn run_of<G: Gate + Sync>(
+    rt: &(impl Threads + Wait + Sync),
+    alloc: Global,
+    desk: &mut MemoryDesk,
+    words: &[&str],
+    gate: &mut G,
+) -> Result<Status, AllocError> {
+    let mut all = Vec::new(alloc);
+    all.push(String::from_str(alloc, "faustvec")?)?;
+    for word in words {
+        all.push(String::from_str(alloc, word)?)?;
+    }
+    Ok(run_faustvec(rt, alloc, &all, desk, gate))
+}
+
+/// The exit status of one.
+pub fn status_of(
+    rt: &(impl Threads + Wait + Sync),
+    alloc: Global,
+    desk: &mut MemoryDesk,
+    words: &[&str],
+) -> Result<u8, AllocError> {
+    Ok(run_of(rt, alloc, desk, words, &mut FreeGate)?.code())
+}
+
+/// What is counted of one, where it is done.
+pub fn tally_of<G: Gate + Sync>(
+    rt: &(impl Threads + Wait + Sync),
+    alloc: Global,
+    desk: &mut MemoryDesk,
+    words: &[&str],
+    gate: &mut G,
+) -> Result<Option<Tally>, AllocError> {
+    match run_of(rt, alloc, desk, words, gate)? {
+        Status::Done(tally) => Ok(Some(tally)),
+        Status::Refused(_) => Ok(None),
+    }
+}
+
+/// A run over this desk ends so.
+pub fn assert_ends(
+    rt: &(impl Threads + Wait + Sync + Abort),
+    alloc: Global,
+    desk: &mut MemoryDesk,
+    words: &[&str],
+    end: End<'_>,
+) -> Result<(), AllocError> {
+    let (status, line, output) = end;
+    let ended = status_of(rt, alloc, desk, words)?;
+    assert_eq!(rt;
+        (
+            ended,
+            desk.written(Role::Report),
+            desk.written(Role::Output)
+        ),
+        (status, line.as_bytes(), output),
+        "{line}"
+    );
+    Ok(())
+}
+
+/// A run that ends so: its words, its program and its input.
+pub type Row<'a> = (&'a [&'a str], &'a str, &'a [u8], End<'a>);
+
+/// Each of these runs does.
+pub fn assert_all_end(
+    rt: &(impl Threads + Wait + Sync + Abort),
+    alloc: Global,
+    rows: &[Row<'_>],
+) -> Result<(), AllocError> {
+    for (words, text, input, end) in rows {
+        let mut desk = desk_of(alloc, text.as_bytes(), input)?;
+        assert_ends(rt, alloc, &mut desk, words, *end)?;
+    }
+    Ok(())
+}
+
+/// A run on three samples that writes no output: its words, its program, its exit status and its line.
+pub type Silent<'a> = (&'a [&'a str], &'a str, u8, &'a str);
+
+/// Each of these runs ends so.
+pub fn assert_all_report(
+    rt: &(impl Threads + Wait + Sync + Abort),
+    alloc: Global,
+    rows: &[Silent<'_>],
+) -> Result<(), AllocError> {
+    for (words, text, status, line) in rows {
+        let mut desk = desk_of(alloc, text.as_bytes(), &THREE)?;
+        let end: End = (*status, *line, &[]);
+        assert_ends(rt, alloc, &mut desk, words, end)?;
+    }
+    Ok(())
+}
