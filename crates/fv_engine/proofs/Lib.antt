@@ -5,6 +5,7 @@ pub mod Real
 pub mod Runs
 pub mod Names
 pub mod Tables
+pub mod OneItem
 pub mod Made
 pub mod Jobs
 pub mod Crews

@@ -10,18 +10,20 @@ use fv_loopcode::{Store, still_code_is_free};
 use fv_loopcode_machine::run;
 use fv_split_plan::Plan;
 
-// The tables of a plan, and one lane of one sample. The code of held values neither loads, appends nor writes, so nobody looks at the lane.
+// The tables of a plan, one lane of one sample, and cells of one item. The code of held values neither loads, appends nor writes, so nobody
+// looks at the lane and the cells.
 #[derive(Drop)]
 struct OneSample<'p> {
     plan: &'p Plan,
     sample: i32,
     is_written: bool,
+    item: i32,
 }
 
 impl Store for OneSample<'_> {
-    ghost use Rattle.fv_engine.specs.inner.OneLane.{one_lane};
+    ghost use Rattle.fv_engine.specs.inner.OneLane.{one_of_each};
 
-    ghost state = { λ s. one_lane s.plan.now.tables s.is_written s.sample };
+    ghost state = { λ s. one_of_each s.plan.now.tables s.is_written s.sample s.item };
 
     ghost rest = { λ _. tt };
 
@@ -42,9 +44,9 @@ impl Store for OneSample<'_> {
         item(self.plan.table(table), index)
     }
 
-    // There are no cells.
-    fn exchange(&mut self, _cells: u64, _w: i32, _x: i32, _r: i32) -> i32 {
-        unreachable!()
+    fn exchange(&mut self, _cells: u64, _w: i32, x: i32, _r: i32) -> i32 {
+        self.item = x;
+        x
     }
 }
 
@@ -61,6 +63,7 @@ pub(crate) fn hold(plan: &Plan, controls: &[i32], held: &mut [i32])
         plan,
         sample: 0,
         is_written: false,
+        item: 0,
     };
     run(plan.held(), controls, &[], 0, 0, 1, held, &mut store);
 }
