@@ -4,8 +4,8 @@ use Rattle.fv_eval_choosing.specs.Chosen.{nodes_of}
 use Rattle.fv_eval_choosing.specs.Literals.{AreTold, Tells}
 use Rattle.fv_eval_choosing.proofs.RuleNodes.{rules_at}
 use Rattle.fv_eval_choosing.proofs.Told.{told_more}
-use Rattle.fv_eval_choosing.proofs.lookup.Definitions.sort_by_literal.Goals.{In_ok-push}
-use Rattle.fv_eval_choosing.proofs.lookup.Definitions.sort_by_literal.Goals as goal
+use Rattle.fv_eval_choosing.proofs.lookup.Definitions.index_rules.Goals.{In_ok-push}
+use Rattle.fv_eval_choosing.proofs.lookup.Definitions.index_rules.Goals as goal
 
 -- what was sorted is one more
 more : (c : In_ok-push) → AreTold c.self.inside.tree.now c.push.new.self.items
