@@ -1,6 +1,5 @@
 -- Lists of histories.
 use Rattle.std.proofs.Common.{◌≡◌, ℕ, zero, suc, ◌+◌, ◌<◌, ◌≤◌, List, [], ◌∷◌, length, get_or, set, sym, ap, ap₂, ◌∙◌, subst, arith, ℤ, inl, inr}
-use Rattle.std.proofs.Common.{Result, Ok, Err, OnOk}
 use Rattle.std.proofs.lemmas.Bool.{cases_lt}
 use Rattle.std.proofs.lemmas.List.{get_or-map, get_or-set_other, get_or-set_same, length-map}
 use Rattle.fv_base.proofs.Lists.{table_same, table_items}
@@ -9,8 +8,7 @@ use Rattle.fv_num.specs.headline.Frames.{table}
 use Rattle.fv_diagram_runner.specs.declared.step.Change.{Change}
 use Rattle.fv_diagram_runner.specs.declared.step.Change.TheVariants as change
 use Rattle.fv_diagram_runner.specs.History.{Numbers, numbers_of, HasRoom}
-use Rattle.fv_num.specs.headline.Tables.{read_at}
-use Rattle.fv_num.specs.Tables.{written}
+use Rattle.fv_num.specs.headline.Tables.{read_at, written}
 use Rattle.fv_diagram_runner.specs.declared.step.Step.TheVariants as step
 use Rattle.fv_diagram_runner.specs.Steps.{recalled, in_lists, changed, lists_after}
 

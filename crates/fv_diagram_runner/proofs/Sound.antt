@@ -8,7 +8,6 @@ use Rattle.std.proofs.lemmas.List.Elements.{All-weaker, All-cons, All-head, All-
 use Rattle.fv_base.specs.headline.Lists.{IsPrefixOf}
 use Rattle.fv_base.proofs.Lists.{prefix_trans, length_table, table_same, map_table, get_or_table}
 use Rattle.fv_num.specs.declared.op.Op.{Op}
-use Rattle.fv_num.specs.declared.op.Op.TheVariants as op
 use Rattle.fv_num.specs.declared.op.Op.TheVariants.{Select2, Add, Rem}
 use Rattle.fv_num.specs.headline.Words.{apply_of, inputs_of}
 use Rattle.fv_num.specs.headline.Frames.{Stream, column, table, delayed, prefixed, back, carried}
@@ -36,7 +35,7 @@ use Rattle.fv_diagram.proofs.Causality.{delayed_same, back_same}
 use Rattle.std.proofs.Common.{◌%◌, w32, FitsSigned}
 use Rattle.fv_diagram.proofs.Counting.{counts_on}
 use Rattle.fv_diagram.proofs.Carried.{column_carries}
-use Rattle.fv_diagram.proofs.Places.{prefix_snoc, prefix_long, prefix_get, table_replicate, carried_first}
+use Rattle.fv_diagram.proofs.Places.{prefix_snoc, prefix_long, prefix_get, table_replicate, carried_first, takes_some}
 use Rattle.fv_diagram_runner.proofs.StepStreams.{step_is, last_is, cell_is}
 use Rattle.fv_diagram.proofs.Meaning.{AreOrderly, Means, AreSound}
 

@@ -8,8 +8,7 @@ use Rattle.fv_num.specs.headline.Words.{argument}
 use Rattle.fv_num.specs.headline.Frames.{Frame, Stream, frame_at, column, table, delayed, back, carried}
 use Rattle.fv_num.specs.Frames.{carries}
 use Rattle.std.proofs.Common.{append_assoc, ◌≤◌}
-use Rattle.fv_num.specs.headline.Tables.{place, read_at, written_at}
-use Rattle.fv_num.specs.Tables.{written, after}
+use Rattle.fv_num.specs.headline.Tables.{place, read_at, written_at, written, after}
 use Rattle.fv_num.proofs.Tables.{lists_the_last}
 use Rattle.fv_num.specs.headline.Valuation.{at_time, numbers, streams_before}
 use Rattle.fv_base.proofs.Lists.{length_snoc, length_table, table_same, table_items, get_or_table}

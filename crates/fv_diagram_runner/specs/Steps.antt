@@ -2,8 +2,7 @@
 use Rattle.std.specs.Prelude.{◌≡◌, ℕ, ◌<◌, ◌≤◌, List, [], ◌∷◌, ◌++◌, length, map, take, get_or, All, ℤ, pos, slice_index_or}
 use Rattle.fv_num.specs.headline.Words.{apply_of, inputs_of, argument}
 use Rattle.fv_num.specs.headline.Frames.{Frame, Stream, column, table, delayed, back, carried}
-use Rattle.fv_num.specs.headline.Tables.{read_at, written_at}
-use Rattle.fv_num.specs.Tables.{written, after}
+use Rattle.fv_num.specs.headline.Tables.{read_at, written_at, written, after}
 use Rattle.fv_num.specs.headline.Valuation.{Meaning, valuation}
 use Rattle.fv_diagram_runner.specs.declared.step.Step.{Step}
 use Rattle.fv_diagram_runner.specs.declared.step.Step.TheVariants as step

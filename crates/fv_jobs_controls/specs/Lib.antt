@@ -4,6 +4,6 @@ pub mod Changes
 pub mod Examples
 -- what its public clauses cite of crates below
 pub use Rattle.fv_control.specs.headline.Script
-pub use Rattle.fv_control.specs.Script
+pub use Rattle.fv_control.specs.Script as ScriptBeside
 pub use Rattle.fv_control.specs.headline.Streams
 pub use Rattle.fv_control.specs.Laws

@@ -7,8 +7,8 @@ use Rattle.std.proofs.Math.Dec.{eqb}
 use Rattle.std.proofs.lemmas.List.{get_or-set_same, get_or-set_other, length-set}
 use Rattle.fv_num.specs.headline.Words.{argument}
 use Rattle.fv_num.specs.headline.Frames.{Stream}
-use Rattle.fv_num.specs.headline.Tables.{place, last_written}
-use Rattle.fv_num.specs.Tables.{IsLastWrite, GivesTheLast, KeepsTheRest, written, after, ListsTheLast}
+use Rattle.fv_num.specs.headline.Tables.{place, last_written, written, after}
+use Rattle.fv_num.specs.Tables.{IsLastWrite, GivesTheLast, KeepsTheRest, ListsTheLast}
 
 -- only the times up to t count
 pub last_written_same : (T : List ℤ) (w w' x x' : Stream) (i t : ℕ) → ((u : ℕ) → u ≤ t → w u ≡ w' u) → ((u : ℕ) → u ≤ t → x u ≡ x' u)

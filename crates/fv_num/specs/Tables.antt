@@ -1,9 +1,9 @@
--- What calls say beside `headline/Tables`: tables of numbers: which of them an index means, and what was written to them (Faust manual, rdtable and rwtable; this
--- project's profile).
-use Rattle.std.specs.Prelude.{◌≡◌, ◌≢◌, ℕ, zero, suc, ◌<◌, ◌≤◌, List, length, ℤ, slice_set}
+-- What calls say beside `headline/Tables`: what was written last, and that a list which is written time after time has it (Faust
+-- manual, rwtable; this project's profile).
+use Rattle.std.specs.Prelude.{◌≡◌, ◌≢◌, ℕ, suc, ◌<◌, ◌≤◌, List, length, ℤ}
 use Rattle.fv_num.specs.headline.Words.{argument}
 use Rattle.fv_num.specs.headline.Frames.{Stream}
-use Rattle.fv_num.specs.headline.Tables.{place, last_written}
+use Rattle.fv_num.specs.headline.Tables.{place, last_written, after}
 
 -- u is the greatest time up to t at which place i of n is written
 pub record IsLastWrite (w : Stream) (n i t u : ℕ) : Type 0 where
@@ -19,15 +19,6 @@ GivesTheLast = (T : List ℤ) (w x : Stream) (i t u : ℕ) → IsLastWrite w (le
 abbrev pub KeepsTheRest : Type 0
 KeepsTheRest = (T : List ℤ) (w x : Stream) (i t : ℕ) → ((u : ℕ) → u ≤ t → place (length T) (w u) ≢ i)
     → last_written T w x i t ≡ argument T i
-
--- the list with one number written
-abbrev pub written : List ℤ → ℤ → ℤ → List ℤ
-written T w x = slice_set T (place (length T) w) x
-
--- the list after so many times
-abbrev pub after : List ℤ → (w x : Stream) → ℕ → List ℤ
-after T w x zero = T
-after T w x (suc t) = written (after T w x t) (w t) (x t)
 
 -- A list that is written, time after time, has what was written last.
 abbrev pub ListsTheLast : Type 0

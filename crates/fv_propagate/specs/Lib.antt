@@ -2,14 +2,14 @@ pub mod headline
 pub mod Propagated
 -- what its public clauses cite of crates below
 pub use Rattle.fv_diagram.specs.headline.Diagram
-pub use Rattle.fv_diagram.specs.Diagram
+pub use Rattle.fv_diagram.specs.Diagram as DiagramBeside
 pub use Rattle.fv_diagram.specs.headline.Arena
-pub use Rattle.fv_diagram.specs.Arena
+pub use Rattle.fv_diagram.specs.Arena as ArenaBeside
 pub use Rattle.fv_interval.specs.headline.Delays
-pub use Rattle.fv_interval.specs.Delays
+pub use Rattle.fv_interval.specs.Delays as DelaysBeside
 pub use Rattle.fv_num.specs.headline.Interval
-pub use Rattle.fv_num.specs.Interval
+pub use Rattle.fv_num.specs.Interval as IntervalBeside
 pub use Rattle.fv_num.specs.SpanLaws
 pub use Rattle.fv_signal.specs.headline.Value
-pub use Rattle.fv_signal.specs.Value
+pub use Rattle.fv_signal.specs.Value as ValueBeside
 pub mod inner

@@ -6,4 +6,4 @@ pub mod Rebuilt
 pub mod Simpler
 -- what its public clauses cite of crates below
 pub use Rattle.fv_signal.specs.headline.Value
-pub use Rattle.fv_signal.specs.Value
+pub use Rattle.fv_signal.specs.Value as ValueBeside

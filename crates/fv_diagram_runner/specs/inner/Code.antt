@@ -10,7 +10,7 @@ use Rattle.fv_diagram_runner.specs.declared.draft.Loop.{Loop}
 use Rattle.fv_diagram_runner.specs.declared.draft.Draft.TheInside.{Inside}
 use Rattle.fv_diagram.specs.declared.signals.Leaf.{Leaf}
 use Rattle.fv_diagram.specs.declared.signals.Leaf.TheVariants as leaf
-use Rattle.fv_diagram.specs.Hooks.{Hooks}
+use Rattle.fv_diagram.specs.Hooks.{Hooks, padded}
 use Rattle.fv_diagram_runner.specs.History.{numbers_of}
 use Rattle.fv_diagram_runner.specs.Steps.{AreOrdered, ReadsWithin, IsKept, IsBegun, ChangesBelow}
 

@@ -1,6 +1,6 @@
 -- Tables of numbers: which of them an index means, and what was written to them (Faust manual, rdtable and rwtable; this
 -- project's profile).
-use Rattle.std.specs.Prelude.{ℕ, zero, suc, ◌-◌, min, List, length, ℤ, pos, negsuc, if◌then◌else◌, nat_eq}
+use Rattle.std.specs.Prelude.{ℕ, zero, suc, ◌-◌, min, List, length, slice_set, ℤ, pos, negsuc, if◌then◌else◌, nat_eq}
 use Rattle.fv_num.specs.headline.Words.{argument}
 use Rattle.fv_num.specs.headline.Frames.{Stream}
 
@@ -22,3 +22,12 @@ last_written T w x i (suc t) = if nat_eq (place (length T) (w (suc t))) i then x
 -- the same, by an index
 abbrev pub written_at : List ℤ → (w x : Stream) → ℕ → ℤ → ℤ
 written_at T w x t r = last_written T w x (place (length T) r) t
+
+-- the list with one number written
+abbrev pub written : List ℤ → ℤ → ℤ → List ℤ
+written T w x = slice_set T (place (length T) w) x
+
+-- the list after so many times, at each of which a number is written
+abbrev pub after : List ℤ → (w x : Stream) → ℕ → List ℤ
+after T w x zero = T
+after T w x (suc t) = written (after T w x t) (w t) (x t)
