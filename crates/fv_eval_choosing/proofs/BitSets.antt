@@ -6,7 +6,7 @@ use Rattle.std.proofs.lemmas.Bool.{eq-eqb, eqb-true, cases_eq, cases_lt}
 use Rattle.std.proofs.lemmas.List.{get_or_past, get_or_append_left, get_or-set_same, get_or-set_other, get_or-take}
 use Rattle.std.proofs.lemmas.Nat.{pow-add}
 use Rattle.std.proofs.lemmas.Nat.Bits.{bit_at-zero, bit_at-lt, bit_at_and, bit_at_set_same, bit_at_set_other, bit_at_above, bit_at-trailing_zeros}
-use Rattle.std.proofs.Math.Nat.{div-div-eq-div-mul}
+use Rattle.std.proofs.Math.Nat.{div-div-eq-div-mul, div-le_self}
 use Rattle.fv_eval_choosing.specs.inner.Bits.{has}
 
 -- the bit of a place
@@ -140,3 +140,15 @@ none_before xs at j word some fits l g =
             let none : bit_at (get_or xs (at / 64) 0) (at % 64 + t) ≡ 0 = bit_at_above (get_or xs (at / 64) 0) 64 (at % 64 + t) word h in
             let one : bit_at (get_or xs (at / 64) 0) (at % 64 + t) ≡ 1 = sym (bit_at_shifted (get_or xs (at / 64) 0) (at % 64) t) ∙ lowest.1 in
             absurd (omega (arith, none, one))
+
+-- the same, as it is found
+pub found_after : (xs : List ℕ) (at word j : ℕ) → word ≡ get_or xs (at / 64) 0 → word < 2 ^ 64 → (word / 2 ^ (at % 64) ≡ 0 → ⊥) → at ≤ j
+    → j < at + trailing_zeros w64 (word / 2 ^ (at % 64)) → has xs j ≡ false
+found_after xs at word j e fits some l g =
+    none_before xs at j (subst (λ n. n < 2 ^ 64) e fits) (subst (λ n. 0 < n / 2 ^ (at % 64)) e (omega (arith, some)))
+    (subst (λ n. n / 2 ^ (at % 64) < 2 ^ 64) e (omega (arith, div-le_self word (2 ^ (at % 64)), fits))) l
+    (subst (λ n. j < at + trailing_zeros w64 (n / 2 ^ (at % 64))) e g)
+
+pub passed_word : (xs : List ℕ) (at word j : ℕ) → word ≡ get_or xs (at / 64) 0 → word / 2 ^ (at % 64) ≡ 0 → at ≤ j
+    → j < at + (64 - at % 64) → has xs j ≡ false
+passed_word xs at word j e none l g = none_in_word xs at j (subst (λ n. n / 2 ^ (at % 64) ≡ 0) e none) l g
