@@ -21,7 +21,7 @@ struct Request<'a> {
 }
 
 /// What a line says: a change, or nothing.
-#[tactic(auto, unfolding(crate::specs::Script::line_says))]
+#[tactic(auto, unfolding(crate::specs::headline::Script::line_says))]
 pub fn read_line(
     line: &[u8],
     controls: &[ControlInfo],

@@ -27,7 +27,7 @@ impl Model for History {
 impl History {
     ghost use Rattle.std.specs.Prelude.{◌≡◌, ◌∷◌, ◌++◌, ◌≤◌, IfOk, OnOk};
     ghost use Rattle.fv_num.specs.headline.Tables.{read_at};
-    ghost use Rattle.fv_num.specs.Tables.{written};
+    ghost use Rattle.fv_num.specs.headline.Tables.{written};
     ghost use Rattle.fv_diagram_runner.specs.Steps.{recalled};
 
     /// No numbers.

@@ -52,7 +52,7 @@ module _ {old : EngineView} {region : List ℤ} {starts : List ℕ} {n : ℕ} {i
         subst (λ v. n ≤ v * old.vector) (sym every) (enough n old.vector run.some)
 
     holds : HoldUpTo (block_in old n controls input) (content behind input) run.ends.vectors now
-    holds = run.ends.lanes (content behind input) (values_obey behind input) (begins behind input run.begun stands)
+    holds = run.ends.holds (content behind input) (values_obey behind input) (begins behind input run.begun stands)
 
     -- sample j of frame t, and its signal's value
     abbrev out : ℕ → ℕ → ℤ

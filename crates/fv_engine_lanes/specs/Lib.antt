@@ -1,3 +1,4 @@
+pub mod Cells
 pub mod Lanes
 pub mod Renumbered
 pub mod Plans

@@ -2,7 +2,7 @@
 use Rattle.std.specs.Prelude.{◌≡◌, ◌⊎◌, ℕ, ◌<◌, List, length, map, slice_index, Bool, true, nat_lt, ℤ}
 use Rattle.fv_loopcode.specs.declared.step.Step.{Step}
 use Rattle.fv_loopcode.specs.declared.step.Step.TheVariants as step
-use Rattle.fv_loopcode.specs.headline.Obeys.{Roles, Place, OfLane}
+use Rattle.fv_loopcode.specs.headline.Obeys.{Roles, Place, OfLane, OfCells}
 use Rattle.fv_loopcode.specs.Obeys.{Content, ObeysAt}
 
 -- the step, with the new number of its lane
@@ -13,18 +13,37 @@ renumbered place (step.Input i) = step.Input i
 renumbered place (step.Point op args) = step.Point op args
 renumbered place (step.Load lane back max) = step.Load (place lane) back max
 renumbered place (step.Append lane value) = step.Append (place lane) value
+renumbered place (step.Read table arg) = step.Read table arg
+renumbered place (step.Write cells args) = step.Write cells args
 
--- a place is one of the first so many lanes
-abbrev pub is_among : ℕ → Place → Bool
-is_among n (OfLane l) = nat_lt l n
+-- the step's lane is one of so many
+abbrev pub HasPlace : (lanes : ℕ) → Step → Type 0
+HasPlace lanes (step.Number n) = Unit {0}
+HasPlace lanes (step.Held k) = Unit {0}
+HasPlace lanes (step.Input i) = Unit {0}
+HasPlace lanes (step.Point op args) = Unit {0}
+HasPlace lanes (step.Load lane back max) = lane < lanes
+HasPlace lanes (step.Append lane value) = lane < lanes
+HasPlace lanes (step.Read table arg) = Unit {0}
+HasPlace lanes (step.Write cells args) = Unit {0}
 
--- the first so many lanes are the loop's own, and all are loaded
-abbrev pub roles_over : (own all : ℕ) → Roles
-roles_over own all = record { own = is_among own; loaded = λ k. nat_lt k all }
+-- a place is one of the first so many lanes, or cells of the loop
+abbrev pub is_among : Roles → ℕ → Place → Bool
+is_among r n (OfLane l) = nat_lt l n
+is_among r n (OfCells k) = r.own (OfCells k)
 
--- what the lanes are to hold, by their new numbers: lane k is the one at k of the list
+-- the first so many lanes are the loop's own, and all are loaded; its cells and tables keep their numbers
+abbrev pub roles_over : Roles → (own all : ℕ) → Roles
+roles_over r own all = record { own = is_among r own; loaded = λ k. nat_lt k all; tables = r.tables }
+
+-- what the places are to hold, where lanes have new numbers: lane k is the one at k of the list
 abbrev pub content_over : (locals : List ℕ) → Content → Content
-content_over locals f = record { history = λ k. f.history (slice_index locals k); numbers = λ k. f.numbers (slice_index locals k) }
+content_over locals f = record {
+  history = λ k. f.history (slice_index locals k);
+  numbers = λ k. f.numbers (slice_index locals k);
+  tables = f.tables;
+  cells = f.cells;
+}
 
 -- a loop appends or loads the lane
 abbrev pub IsNamed : Roles → ℕ → Type 0
@@ -43,4 +62,4 @@ abbrev pub RenumberedCodeObeys : Type 0
 RenumberedCodeObeys =
     (r : Roles) (f : Content) (place : ℕ → ℕ) (locals : List ℕ) (own : ℕ) (held input : ℕ → ℤ) (index : ℕ) (steps : List Step) →
     Places r place locals own → ObeysAt r f held input index steps →
-    ObeysAt (roles_over own (length locals)) (content_over locals f) held input index (map (renumbered place) steps)
+    ObeysAt (roles_over r own (length locals)) (content_over locals f) held input index (map (renumbered place) steps)

@@ -1,19 +1,24 @@
-// The lanes of one loop: its own, which it appends, and those of other loops that it loads, as they were seen.
+// The lanes of one loop: its own, which it appends, and those of other loops that it loads, as they were seen; its tables and cells.
 
+use crate::loop_cells::LoopCells;
 use fv_lines::{LaneWriter, Seen};
 use fv_loopcode::Store;
 
-/// What the code of one loop loads and appends. Its lanes are numbered anew: first its own ones, then the seen ones.
+/// What the code of one loop works on. Its lanes are numbered anew: first its own ones, then the seen ones. Tables and cells have the
+/// plan's numbers.
 #[derive(Drop)]
-pub struct LoopLanes<'a> {
+pub struct LoopLanes<'a, 'b> {
     pub own: Vec<LaneWriter<'a>>,
     pub seen: Vec<Seen<'a>>,
+    pub cells: LoopCells<'b>,
 }
 
-impl<'a> Store for LoopLanes<'a> {
-    ghost use Rattle.fv_engine_lanes.specs.Lanes.{state_in, LanesRest, rest_in};
+impl<'a, 'b> Store for LoopLanes<'a, 'b> {
+    ghost use Rattle.fv_engine_lanes.specs.Lanes.{state_in, AreLanesSound, LanesRest, rest_in};
 
     ghost state = { λ s. state_in s };
+
+    ghost is_sound = { λ s. AreLanesSound s };
 
     ghost Rest = { LanesRest };
 
@@ -42,5 +47,14 @@ impl<'a> Store for LoopLanes<'a> {
     fn append(&mut self, lane: u64, value: i32) {
         // Only its own lanes have room.
         self.own[lane as usize].append(value);
+    }
+
+    fn read(&self, table: u64, index: i32) -> i32 {
+        self.cells.read(table, index)
+    }
+
+    fn exchange(&mut self, cells: u64, w: i32, x: i32, r: i32) -> i32 {
+        // Only cells of its own have items.
+        self.cells.exchange(cells, w, x, r)
     }
 }

@@ -51,7 +51,8 @@ module _ {g : Tasks} {b : Block} (job : IsJob b g) where
       vectors = u.vectors;
       all = full;
       long = u.long;
-      lanes = u.lanes;
+      cells = u.cells;
+      holds = u.holds;
       journal = ordered (record { none_self = none_self; all = full; so_far = u.journal });
       counted = let z = none_left in let c = u.counted in omega (arith, z, c);
     }

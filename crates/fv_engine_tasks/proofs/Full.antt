@@ -1,4 +1,4 @@
--- What the lanes hold when a block is done.
+-- What the places hold when a block is done.
 use Rattle.std.proofs.Common.{◌≡◌, ℕ, ◌+◌, ◌*◌, ◌<◌, List, length, ap, ◌∙◌, arith, All, get_or}
 use Rattle.fv_outside.specs.headline.Tasks.{Tasks}
 use Rattle.fv_outside.specs.declared.gate.Line.{Line}
@@ -20,7 +20,7 @@ pub record IsDone (g : Tasks) (b : Block) (first now : State) (lines : List Line
 
 module _ {g : Tasks} {b : Block} {first now : State} {lines : List Line} (done : IsDone g b first now lines) where
   holds : HoldUpTo b done.real.content done.ends.vectors now
-  holds = done.ends.lanes done.real.content done.real.obeys done.real.begins
+  holds = done.ends.holds done.real.content done.real.obeys done.real.begins
 
   -- a lane's list is its history and the block's samples
   pub lane_full : (l : ℕ) → l < b.plan.lanes → length (lane_of now.lanes l).items ≡ (lane_of now.lanes l).history + b.frames

@@ -227,13 +227,14 @@ module _ {g : Tasks} {b : Block} {first : State} {s : Now} {state : State} {line
   module _ (law : TaskIsFree) where
     makes_more : (f : Content) → ObeysBlock b f → HoldUpTo b f u.vectors state → MakesMore b f more (at j v) state
     makes_more f o h =
-        let apart = subst (AreApart b.plan.loops) (sym u.long) next.job.apart in
+        let apart = subst (λ n. AreApart b.plan.loops n (length state.cells)) (sym u.long)
+        (subst (AreApart b.plan.loops b.plan.lanes) (sym u.cells) next.job.apart) in
         let made = law b.plan.loops f (argument b.held) (frame_of b.input b.channels) b.vector b.frames j (record { vectors = u.vectors; state = state })
         o.obeys apart h (λ i e n. order i (sym (next.job.same j i) ∙ e) n) in
         subst (λ x. MakesMore b f more (at j x) state) in_turn made
 
     pub may : IsReal b first → MayRunTask b (at j v) state
-    may real = (makes_more real.content real.obeys (u.lanes real.content real.obeys real.begins)).0
+    may real = (makes_more real.content real.obeys (u.holds real.content real.obeys real.begins)).0
 
     pub one_more_done : IsReal b first → (z : Now) → z.done ≡ set s.done t true → IsFree z
         → IsUnderway g b first z (task_ran b (at j v) state) (lines ++ line ∷ [])
@@ -246,8 +247,9 @@ module _ {g : Tasks} {b : Block} {first : State} {s : Now} {state : State} {line
       done = λ k w i m. ap (λ xs. get_or xs (task_at g k w) false) d ∙ done_more k w i m;
       tasks = ap length d ∙ length-set s.done t true ∙ u.tasks;
       free = a;
-      long = (makes_more real.content real.obeys (u.lanes real.content real.obeys real.begins)).1.lanes ∙ u.long;
-      lanes = λ f p h. (makes_more f p (u.lanes f p h)).2;
+      long = (makes_more real.content real.obeys (u.holds real.content real.obeys real.begins)).1.lanes ∙ u.long;
+      cells = (makes_more real.content real.obeys (u.holds real.content real.obeys real.begins)).1.cells ∙ u.cells;
+      holds = λ f p h. (makes_more f p (u.holds f p h)).2;
       journal = journal_more;
       counted = let e = ap left_to_do d in let q = one_less g s t u.tasks next.ready in let m = length_push lines line in
           let w = u.counted in omega (arith, e, q, m, w);

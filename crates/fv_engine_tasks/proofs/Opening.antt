@@ -16,15 +16,17 @@ all_left : (n : ℕ) → left_to_do (replicate n false) ≡ n
 all_left zero = refl
 all_left (suc n) = let r = all_left n in omega arith
 
-pub opens : (g : Tasks) (b : Block) (first : State) → length first.lanes ≡ b.plan.lanes → IsUnderway g b first (opening (net_of g) 1) first []
-opens g b first long = record {
+pub opens : (g : Tasks) (b : Block) (first : State) → length first.lanes ≡ b.plan.lanes → length first.cells ≡ b.plan.cells
+    → IsUnderway g b first (opening (net_of g) 1) first []
+opens g b first long cells = record {
   vectors = none_done;
   within = λ j. omega arith;
   done = λ j v l m. get_or-replicate (task_count g) (task_at g j v) false false (below g j v l m) ∙ sym (le-ltb v 0 (omega arith));
   tasks = length-replicate (task_count g) false;
   free = record { runs = refl; owes = refl; left = refl };
   long = long;
-  lanes = λ f o h. h;
+  cells = cells;
+  holds = λ f o h. h;
   journal = record {
     each = λ t i. sym (ap bit (le-ltb t.vector 0 (omega arith)));
     only = λ k l. absurd (omega (arith, l));

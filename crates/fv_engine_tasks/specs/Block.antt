@@ -6,10 +6,12 @@ use Rattle.fv_loopcode.specs.Code.{frame_of}
 use Rattle.fv_loopcode.specs.Obeys.{Content, ObeysAt}
 use Rattle.fv_loopcode.specs.Blocks.{Loops, IsUpTo}
 
--- What a block needs of a plan: how many loops and lanes there are, the history of each lane, and each loop's code, lanes and reads.
+-- What a block needs of a plan: how many loops, lanes and cells there are, the history of each lane, and each loop's code, places and
+-- reads.
 pub record Parts : Type 0 where
   pub count : ℕ
   pub lanes : ℕ
+  pub cells : ℕ
   pub history : ℕ → ℕ
   pub loops : Loops
 

@@ -26,7 +26,7 @@ pub record IsJob (b : Block) (g : Tasks) : Type 0 where
   pub vectors : g.vectors ≡ vectors_of b.frames b.vector
   pub same : (k i : ℕ) → b.plan.loops.reads k i ≡ reads_loop g.reads k i
   pub lower : (k i : ℕ) → reads_loop g.reads k i ≡ true → i < k
-  pub apart : AreApart b.plan.loops b.plan.lanes
+  pub apart : AreApart b.plan.loops b.plan.lanes b.plan.cells
   -- each lane has a loop
   pub owned : (l : ℕ) → l < b.plan.lanes → (j : ℕ) × (j < b.plan.count) × ((b.plan.loops.roles j).own (OfLane l) ≡ true)
   pub vector : 1 ≤ b.vector

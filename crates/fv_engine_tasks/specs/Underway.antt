@@ -36,8 +36,8 @@ pub record IsSoFar (g : Tasks) (vectors : ℕ → ℕ) (lines : List Line) : Typ
   -- what a line's task reads is done
   pub reads : (k : ℕ) (t : Task) → k < length lines → IsTaskIn g t → reads_task g (line_at lines k).task t ≡ true → t.vector < vectors t.loop_no
 
--- The one worker is free, so many vectors of each loop are done, each lane holds its numbers up to them, whatever it is to hold
--- behind what it held as the block began, and so far goes the journal.
+-- The one worker is free, so many vectors of each loop are done, each place holds what it is to hold up to them, whatever
+-- that is behind what it held as the block began, and so far goes the journal.
 pub record IsUnderway (g : Tasks) (b : Block) (first : State) (s : Now) (now : State) (lines : List Line) : Type 0 where
   pub vectors : ℕ → ℕ
   pub within : (j : ℕ) → vectors j ≤ g.vectors
@@ -45,16 +45,18 @@ pub record IsUnderway (g : Tasks) (b : Block) (first : State) (s : Now) (now : S
   pub tasks : length s.done ≡ task_count g
   pub free : IsFree s
   pub long : length now.lanes ≡ b.plan.lanes
-  pub lanes : (f : Content) → ObeysBlock b f → HoldUpTo b f none_done first → HoldUpTo b f vectors now
+  pub cells : length now.cells ≡ b.plan.cells
+  pub holds : (f : Content) → ObeysBlock b f → HoldUpTo b f none_done first → HoldUpTo b f vectors now
   pub journal : IsSoFar g vectors lines
   pub counted : length lines + left_to_do s.done ≡ task_count g
 
--- The block's tasks are done: each lane holds its numbers up to all vectors of its loop, and the journal is in order, with a line
+-- The block's tasks are done: each place holds what it is to hold up to all vectors of its loop, and the journal is in order, with a line
 -- for each task.
 pub record EndsBlock (g : Tasks) (b : Block) (first now : State) (lines : List Line) : Type 0 where
   pub vectors : ℕ → ℕ
   pub all : (j : ℕ) → j < g.loops → vectors j ≡ g.vectors
   pub long : length now.lanes ≡ b.plan.lanes
-  pub lanes : (f : Content) → ObeysBlock b f → HoldUpTo b f none_done first → HoldUpTo b f vectors now
+  pub cells : length now.cells ≡ b.plan.cells
+  pub holds : (f : Content) → ObeysBlock b f → HoldUpTo b f none_done first → HoldUpTo b f vectors now
   pub journal : IsOrdered g lines
   pub counted : length lines ≡ task_count g

@@ -1,13 +1,15 @@
-// Lanes over the parts of a region: lists that only grow.
+// Lanes over the parts of a region, which are lists that only grow; and the items of lists that are read and written.
 #![tactic(auto)]
 
 mod flat;
+mod items;
 mod row;
 mod seen;
 mod shape;
 mod solo;
 mod writer;
 
+pub use items::{exchange, item};
 pub use seen::Seen;
 pub use shape::{LaneShape, LaneState};
 pub use solo::Solo;

@@ -270,6 +270,16 @@ impl<'a, 'l, 's, 'b, 'c> Store for Solo<'a, 'l, 's, 'b, 'c> {
         self.append(lane, value)
     }
 
+    // It has no tables.
+    fn read(&self, _table: u64, _index: i32) -> i32 {
+        unreachable!()
+    }
+
+    // It has no cells.
+    fn exchange(&mut self, _cells: u64, _w: i32, _x: i32, _r: i32) -> i32 {
+        unreachable!()
+    }
+
     // The cells of a lane lie one after another, so many samples are one or two copies.
     fn load_many(&self, lane: u64, index: u64, back: u64, to: &mut [i32]) {
         self.read_many(lane, index, back, to)

@@ -5,4 +5,5 @@ pub mod Code
 pub mod Instructions
 pub mod Obeys
 pub mod Blocks
+pub mod Examples
 pub mod inner

@@ -1,8 +1,9 @@
-// The code of loops, the lanes that it loads and appends, and the laws of tasks that run it.
+// The code of loops, the lanes, tables and cells that it works on, and the laws of tasks that run it.
 #![tactic(auto)]
 
 mod act;
 mod code;
+mod counts;
 mod instruction;
 mod laws;
 mod machine;
@@ -13,6 +14,7 @@ mod store;
 mod turn;
 
 pub use code::Code;
+pub use counts::Counts;
 pub use laws::{
     named_alone_count, order_is_free, still_code_is_free, streams_obey, task_is_free,
     tasks_are_done, windows_follow,

@@ -11,7 +11,7 @@ use Rattle.fv_signal.specs.headline.Value.{Graph}
 use Rattle.fv_split_components.specs.headline.Reach.{at}
 use Rattle.fv_loopcode.specs.declared.step.Step.{Step}
 use Rattle.fv_loopcode.specs.declared.step.Step.TheVariants as step
-use Rattle.fv_loopcode.specs.headline.Obeys.{Roles, Place, OfLane, nothing, with_place}
+use Rattle.fv_loopcode.specs.headline.Obeys.{Roles, Place, OfLane, OfCells, nothing, with_place}
 use Rattle.fv_split_code.specs.declared.kind.Kind.{Kind}
 use Rattle.fv_split_code.specs.declared.kind.Kind.TheVariants as kind
 use Rattle.fv_analysis.specs.headline.Stands.{StandsAt}
@@ -21,9 +21,10 @@ use Rattle.fv_split_code.specs.Emits.{Serves, KindFits, IsKnown, IsLoaded, kind_
 use Rattle.fv_split_code.proofs.StepLemmas.{serves_push, fits_whole}
 use Rattle.fv_split_code.specs.declared.tables.Tables.{Tables}
 use Rattle.fv_split_plan.specs.headline.Separated.{IsComputed}
-use Rattle.fv_split_plan.specs.Separated.{lane_at}
-use Rattle.fv_split_code.specs.Emitted.{EndedAre, known_at, IsBase, Suits, ComputesNow, OwnNow, ServesUpTo, with_append, AddsNow, code_in, AllServe, AreCodes}
-use Rattle.fv_split_code.proofs.ComputeLemmas.{known_yes}
+use Rattle.fv_split_plan.specs.Separated.{lane_at, cells_at}
+use Rattle.fv_split_code.specs.Emitted.{EndedAre, signal_of, with_cells, known_at, IsBase, Suits, ComputesAt, OwnNow, ServesUpTo, with_append, AddsNow}
+use Rattle.fv_split_code.specs.Emitted.{code_in, AllServe, AreCodes}
+use Rattle.fv_split_code.proofs.ComputeLemmas.{known_yes, known_not}
 
 -- what it says that a signal is known
 pub data Knowing (homes : List ℕ) (j s q : ℕ) : Type 0 where
@@ -92,7 +93,7 @@ serves_other g p r t regs j s w steps l n h = (
   h.0,
   h.1,
   serves_more g p r t.homes.items regs j s w steps h.0 h.1 l (λ e. absurd (n e)) h.2,
-  λ m o. h.3 m o ∙ sym (known_more t.homes.items j s (p.lane m) (inr n)),
+  λ q o. h.3 q o ∙ sym (known_more t.homes.items j s (signal_of p q) (inr n)),
 )
 
 -- a signal that is at home in no loop
@@ -102,11 +103,79 @@ serves_none g p r t regs j s steps n h = (
   h.0,
   h.1,
   record { fits = h.2.fits; there = λ q y. h.2.there q (sym (known_more t.homes.items j s q (inr n)) ∙ y) },
-  λ m o. h.3 m o ∙ sym (known_more t.homes.items j s (p.lane m) (inr n)),
+  λ q o. h.3 q o ∙ sym (known_more t.homes.items j s (signal_of p q) (inr n)),
 )
 
-lane_same : {l m : ℕ} → Some l ≡ Some m → l ≡ m
-lane_same {l} {m} e = cc
+some_same : {l m : ℕ} → Some l ≡ Some m → l ≡ m
+some_same {l} {m} e = cc
+
+-- ---- which places were changed
+
+-- whether the place of a number was changed, where that of this number is changed too, if it is one
+abbrev pub marked : Option ℕ → (l : ℕ) → Bool → Bool
+marked None l was = was
+marked (Some m) l was = nat_eq l m || was
+
+-- One signal more: of the places of one kind, just that of the signal is changed, if it has one.
+module _ (homes : List ℕ) (j s : ℕ) (home : at homes s ≡ j) (places : ℕ → Option ℕ) (name : ℕ → ℕ) where
+  -- whether place l was changed
+  record IsPlace (l : ℕ) (was : Bool) : Type 0 where
+    has : places (name l) ≡ Some l
+    same : was ≡ known_at homes j s (name l)
+    here : (m : ℕ) → places s ≡ Some m → name m ≡ s
+
+  marked_more : (k : Option ℕ) (l : ℕ) (was : Bool) → k ≡ places s → IsPlace l was → marked k l was ≡ known_at homes j (suc s) (name l)
+  marked_more None l was e h =
+      h.same ∙ sym (known_more homes j s (name l) (inl (λ z. let y = e ∙ ap places (sym z) ∙ h.has in cc)))
+  marked_more (Some m) l was e h = elim (cases_eq l m) [
+    | inl z ↦
+        ap (λ b. b || was) (eq-eqb l m z)
+        ∙ sym (ap (known_at homes j (suc s)) (ap name z ∙ h.here m (sym e)) ∙ known_yes homes j (suc s) s (omega arith) home)
+    | inr z ↦
+        ap (λ b. b || was) (ne_eqb l m z) ∙ h.same
+        ∙ sym (known_more homes j s (name l) (inl (λ y. z (some_same (sym h.has ∙ ap places y ∙ sym e)))))
+  ]
+
+-- the places after a signal's own step, and after its append
+abbrev pub with_lane : Option ℕ → (Place → Bool) → Place → Bool
+with_lane None ended = ended
+with_lane (Some l) ended = with_place (OfLane l) ended
+
+lane_marked : (k c : Option ℕ) (ended : Place → Bool) (l : ℕ) → with_lane k (with_cells c ended) (OfLane l) ≡ marked k l (ended (OfLane l))
+lane_marked None None ended l = refl
+lane_marked None (Some c) ended l = refl
+lane_marked (Some m) None ended l = refl
+lane_marked (Some m) (Some c) ended l = refl
+
+cells_marked : (k c : Option ℕ) (ended : Place → Bool) (n : ℕ) → with_lane k (with_cells c ended) (OfCells n) ≡ marked c n (ended (OfCells n))
+cells_marked None None ended n = refl
+cells_marked None (Some c) ended n = refl
+cells_marked (Some m) None ended n = refl
+cells_marked (Some m) (Some c) ended n = refl
+
+ended_more : (g : Graph) (p : Names) (r : Roles) (t : Tables) (j s : ℕ) (u : Suits g p r t j) (k : Option ℕ) (ended : Place → Bool) →
+    s < length g.signals → at t.homes.items s ≡ j → k ≡ lane_at t.lanes.items s →
+    EndedAre p r (known_at t.homes.items j s) ended →
+    EndedAre p r (known_at t.homes.items j (suc s)) (with_lane k (with_cells (cells_at t.cells.items s) ended))
+ended_more g p r t j s u k ended l home ek h (OfLane m) o =
+    lane_marked k (cells_at t.cells.items s) ended m
+    ∙ marked_more t.homes.items j s home (lane_at t.lanes.items) p.lane k m (ended (OfLane m)) ek (record {
+      has = (u.lanes m o).1;
+      same = h (OfLane m) o;
+      here = λ q e. (u.lanes_here s q l home e).1;
+    })
+ended_more g p r t j s u k ended l home ek h (OfCells m) o =
+    cells_marked k (cells_at t.cells.items s) ended m
+    ∙ marked_more t.homes.items j s home (cells_at t.cells.items) p.cells (cells_at t.cells.items s) m (ended (OfCells m)) refl (record {
+      has = (u.cells.own m o).1;
+      same = h (OfCells m) o;
+      here = λ q e. (u.cells.here s q l home e).1;
+    })
+
+-- a lane that is of no known signal was not changed
+lane_waits : (c : Option ℕ) (ended : Place → Bool) (l : ℕ) → ended (OfLane l) ≡ false → with_cells c ended (OfLane l) ≡ false
+lane_waits None ended l e = e
+lane_waits (Some c) ended l e = e
 
 -- a signal's own step, and then its append where it has a lane
 pub adds : (t : Tables) (j s : ℕ) (n : Signal) (old_regs new_regs : List ℕ) (old mid new : List Step) (w : ℕ) (k : Option ℕ) → k ≡ lane_at t.lanes.items s →
@@ -117,65 +186,50 @@ adds t j s n old_regs new_regs old mid new w k ek own er en = ((w, er), λ g p r
         ServesUpTo g p r t j s old_regs old → ServesUpTo g p r t j (suc s) new_regs new
     serve g p r u n home l h = subst (λ rs. ServesUpTo g p r t j (suc s) rs new) (sym er) (go k refl)
       where
-        x : (more : List Mean) × Serves g p r (known_at t.homes.items j s) old_regs mid (h.0 ++ more) h.1 × (mean_at (h.0 ++ more) w ≡ Value s)
+        changed : Place → Bool
+        changed = with_cells (cells_at t.cells.items s) h.1
+
+        x : (more : List Mean) × Serves g p r (known_at t.homes.items j s) old_regs mid (h.0 ++ more) changed × (mean_at (h.0 ++ more) w ≡ Value s)
             × (w < length (h.0 ++ more))
         x = own g p r u n home h.0 h.1 h.2 h.3
 
-        one : Serves g p r (known_at t.homes.items j (suc s)) (set old_regs s w) mid (h.0 ++ x.0) h.1
-        one = serves_more g p r t.homes.items old_regs j s w mid (h.0 ++ x.0) h.1 l (λ e. (x.3, x.2)) x.1
+        one : Serves g p r (known_at t.homes.items j (suc s)) (set old_regs s w) mid (h.0 ++ x.0) changed
+        one = serves_more g p r t.homes.items old_regs j s w mid (h.0 ++ x.0) changed l (λ e. (x.3, x.2)) x.1
 
-        not_lower : known_at t.homes.items j s s ≡ false
-        not_lower = elim (knowing t.homes.items j s s) [ Yes m e y ↦ absurd (omega arith) | Later m y ↦ y | Elsewhere e y ↦ y ]
-
-        -- without a lane
-        without : k ≡ None → new ≡ mid → ServesUpTo g p r t j (suc s) (set old_regs s w) new
-        without none e = subst (ServesUpTo g p r t j (suc s) (set old_regs s w)) (sym e) (
-          h.0 ++ x.0,
-          h.1,
-          one,
-          λ m o. h.3 m o ∙ sym (known_more t.homes.items j s (p.lane m) (inl (λ z. other m o z none))),
-        )
-          where
-            other : (m : ℕ) → r.own (OfLane m) ≡ true → p.lane m ≡ s → k ≡ None → ⊥
-            other m o z none = let e = sym none ∙ ek ∙ ap (lane_at t.lanes.items) (sym z) ∙ (u.lanes m o).1 in cc
-
-        -- with a lane
-        with : (m : ℕ) → k ≡ Some m → new ≡ mid ++ step.Append m w ∷ [] → ServesUpTo g p r t j (suc s) (set old_regs s w) new
-        with m e f =
-            let here = u.lanes_here s m n.within home (sym ek ∙ e) in
-            let is : p.lane m ≡ s = here.1 in
-            let fresh : h.1 (OfLane m) ≡ false = h.3 m here.0 ∙ ap (known_at t.homes.items j s) is ∙ not_lower in
-            subst (ServesUpTo g p r t j (suc s) (set old_regs s w)) (sym f) (
-              (h.0 ++ x.0) ++ Value (p.lane m) ∷ [],
-              with_place (OfLane m) h.1,
-              serves_push g p r (known_at t.homes.items j (suc s)) (set old_regs s w) mid (h.0 ++ x.0) h.1 (step.Append m w) (Value (p.lane m)) one
-                  (here.0, fresh, x.2 ∙ ap Value (sym is), refl),
-              λ l o. elim (cases_eq l m) [
-                | inl z ↦
-                    ap (λ b. b || h.1 (OfLane l)) (eq-eqb l m z)
-                    ∙ sym (ap (known_at t.homes.items j (suc s)) (ap p.lane z ∙ is) ∙ known_yes t.homes.items j (suc s) s (omega arith) home)
-                | inr z ↦
-                    ap (λ b. b || h.1 (OfLane l)) (ne_eqb l m z) ∙ h.3 l o
-                    ∙ sym (known_more t.homes.items j s (p.lane l)
-                    (inl (λ y. z (lane_same (sym ((u.lanes l o).1) ∙ ap (lane_at t.lanes.items) y ∙ sym ek ∙ e)))))
-              ],
-            )
+        after : (q : Option ℕ) → k ≡ q → EndedAre p r (known_at t.homes.items j (suc s)) (with_lane q changed)
+        after q e = ended_more g p r t j s u q h.1 n.within home (sym e ∙ ek) h.3
 
         go : (q : Option ℕ) → k ≡ q → ServesUpTo g p r t j (suc s) (set old_regs s w) new
-        go None e = without e (en ∙ ap (λ a. with_append mid a w) e)
-        go (Some a) e = with a e (en ∙ ap (λ a. with_append mid a w) e)
+        go None e =
+            subst (ServesUpTo g p r t j (suc s) (set old_regs s w)) (sym (en ∙ ap (λ a. with_append mid a w) e)) (h.0 ++ x.0, changed, one, after None e)
+        go (Some m) e =
+            let here = u.lanes_here s m n.within home (sym ek ∙ e) in
+            let is : p.lane m ≡ s = here.1 in
+            let fresh = h.3 (OfLane m) here.0 ∙ ap (known_at t.homes.items j s) is ∙ known_not t.homes.items j s in
+            subst (ServesUpTo g p r t j (suc s) (set old_regs s w)) (sym (en ∙ ap (λ a. with_append mid a w) e)) (
+              (h.0 ++ x.0) ++ Value (p.lane m) ∷ [],
+              with_place (OfLane m) changed,
+              serves_push g p r (known_at t.homes.items j (suc s)) (set old_regs s w) mid (h.0 ++ x.0) changed (step.Append m w) (Value (p.lane m)) one
+                  (here.0, lane_waits (cells_at t.cells.items s) h.1 m fresh, x.2 ∙ ap Value (sym is), refl),
+              after (Some m) e,
+            )
 
 -- the own step of a signal that is computed, and of another one
 pub own_computed : (t : Tables) (regs : List ℕ) (j s : ℕ) (old new : List Step) (n : Signal) (w : ℕ) → kind_of t.bases.items s ≡ kind.Inner →
-    ComputesNow t regs j old new n w → OwnNow t regs j s old new n w
-own_computed t regs j s old new n w e c g p r u is home = c g p r s u is home (subst IsComputed is.is (u.computed s is.within home e))
+    ComputesAt t regs j s old new n w → OwnNow t regs j s old new n w
+own_computed t regs j s old new n w e c g p r u is home = c g p r u is home (subst IsComputed is.is (u.computed s is.within home e))
 
 pub own_other : (t : Tables) (regs : List ℕ) (j s : ℕ) (old new : List Step) (n : Signal) (w : ℕ) (k : Kind) → k ≡ kind_of t.bases.items s → k ≢ kind.Inner →
     MeansNow regs old new s w k (owned_by t.owners.items j) → OwnNow t regs j s old new n w
 own_other t regs j s old new n w k e d c g p r u is home means ended h en =
-    c g p r (known_at t.homes.items j s) means ended u.own (subst (IsLoaded r) (sym e) (u.base_loaded s is.within home)) (subst (λ a. KindFits g p a s) (sym e)
-    (u.bases s is.within).0) (go k refl) h
+    let x = c g p r (known_at t.homes.items j s) means ended u.own (subst (IsLoaded r) (sym e) (u.base_loaded s is.within home))
+    (subst (λ a. KindFits g p a s) (sym e) (u.bases s is.within).0) (go k refl) h in
+    (x.0, subst (Serves g p r (known_at t.homes.items j s) regs new (means ++ x.0)) (uncelled (cells_at t.cells.items s) refl) x.1, x.2, x.3)
   where
+    uncelled : (o : Option ℕ) → cells_at t.cells.items s ≡ o → ended ≡ with_cells (cells_at t.cells.items s) ended
+    uncelled None z = ap (λ o. with_cells o ended) (sym z)
+    uncelled (Some m) z = absurd (d (e ∙ (u.cells.only s m is.within z).1))
+
     go : (q : Kind) → k ≡ q → IsKnown r (known_at t.homes.items j s) k s
     go (kind.Number a) z = subst (λ a. IsKnown r (known_at t.homes.items j s) a s) (sym z) tt
     go (kind.Held a) z = subst (λ a. IsKnown r (known_at t.homes.items j s) a s) (sym z) tt
@@ -232,16 +286,17 @@ all_serve_begins g t loops regs codes e j lj p r u = subst (ServesUpTo g p r t j
   [],
   nothing,
   record { fits = (refl, refl); there = λ q y. absurd (let z = none q in let w = sym z ∙ y in cc) },
-  λ l o. sym (none (p.lane l)),
+  λ q o. sym (none (signal_of p q)),
 )
   where
     none : (q : ℕ) → known_at t.homes.items j 0 q ≡ false
     none q = elim (knowing t.homes.items j 0 q) [ Yes l e k ↦ absurd (omega arith) | Later l k ↦ k | Elsewhere d k ↦ k ]
 
--- where the lanes of known signals were appended, and each lane of its own is of one, each place of its own was changed
-own_ended : (p : Names) (r : Roles) (known : ℕ → Bool) (ended : Place → Bool) → EndedAre p r known ended →
-    ((l : ℕ) → r.own (OfLane l) ≡ true → known (p.lane l) ≡ true) → (q : Place) → r.own q ≡ true → ended q ≡ true
-own_ended p r known ended e h (OfLane l) o = e l o ∙ h l o
+-- the signal of each of the loop's own places is at home in it
+own_home : (g : Graph) (p : Names) (r : Roles) (t : Tables) (j : ℕ) → Suits g p r t j → (q : Place) → r.own q ≡ true →
+    (signal_of p q < length g.signals) × (at t.homes.items (signal_of p q) ≡ j)
+own_home g p r t j u (OfLane l) o = let h = u.lanes l o in (h.0, h.2)
+own_home g p r t j u (OfCells k) o = let h = u.cells.own k o in (h.0, h.2)
 
 pub all_serve_ends : (g : Graph) (t : Tables) (loops n : ℕ) (regs : List ℕ) (codes : List (Vec Step Global)) → n ≡ length g.signals → length codes ≡ loops →
     AllServe g t loops n regs codes → AreCodes g t loops codes
@@ -250,6 +305,5 @@ all_serve_ends g t loops n regs codes en lc h = record {
   fit = λ j lj p r u.
       let k = h j lj p r u in
       fits_whole g p r nothing [] (code_in codes j) k.0 k.1 k.2.fits
-      (own_ended p r (known_at t.homes.items j n) k.1 k.3
-      (λ l o. let q = u.lanes l o in known_yes t.homes.items j n (p.lane l) (omega (arith, en, q.0)) q.2));
+      (λ q o. let h = own_home g p r t j u q o in k.3 q o ∙ known_yes t.homes.items j n (signal_of p q) (omega (arith, en, h.0)) h.1);
 }

@@ -1,23 +1,23 @@
 -- The steps of signals that are computed.
 use Rattle.std.proofs.Common.{◌≡◌, inl, inr, ℕ, zero, suc, ◌+◌, ◌<◌, ◌≤◌, List, [], ◌∷◌, ◌++◌, length, take, get_or, map, refl, sym, ap, ap₂, ◌∙◌, subst, arith}
-use Rattle.std.proofs.Common.{pos, Bool, true}
-use Rattle.std.specs.Prelude.{All, ◌&&◌, nat_eq, unwrap_or, Option, None}
+use Rattle.std.proofs.Common.{pos, Bool, true, false}
+use Rattle.std.specs.Prelude.{All, ◌&&◌, nat_eq, unwrap_or, Option, None, Some}
 use Rattle.std.proofs.lemmas.List.{length-map, length-take-le, length_push, append_assoc, get_or-take, get_or_default, get_or_read}
 use Rattle.std.proofs.lemmas.List.Elements.{All-get_or, All-weaker, All-take, All-map}
-use Rattle.std.proofs.lemmas.Bool.{cases_lt, eq-eqb, lt-ltb}
+use Rattle.std.proofs.lemmas.Bool.{cases_lt, eq-eqb, lt-ltb, le-ltb}
 use Rattle.fv_num.specs.declared.op.Op.{Op}
 use Rattle.fv_num.specs.declared.op.Op.TheVariants.{Max, Abs, Select2, Select3}
 use Rattle.fv_num.specs.headline.Words.{inputs_of}
 use Rattle.fv_signal.specs.declared.signal.Signal.{Signal}
 use Rattle.fv_signal.specs.declared.signal.Signal.TheVariants as signal
-use Rattle.fv_signal.specs.headline.Value.{Graph, IsOrdered, OperandsBelow}
+use Rattle.fv_signal.specs.headline.Value.{Graph, IsOrdered, OperandsBelow, NamesWithin}
 use Rattle.fv_split_components.specs.headline.Reach.{at}
 use Rattle.fv_loopcode.specs.declared.step.Step.{Step}
 use Rattle.fv_loopcode.specs.declared.step.Step.TheVariants as step
-use Rattle.fv_loopcode.specs.headline.Obeys.{Roles, Place, OfLane, nothing, done_after}
+use Rattle.fv_loopcode.specs.headline.Obeys.{Roles, Place, OfLane, OfCells, nothing, done_after, with_place}
 use Rattle.fv_split_code.specs.declared.kind.Kind.{Kind}
 use Rattle.fv_split_code.specs.declared.kind.Kind.TheVariants as kind
-use Rattle.fv_analysis.specs.headline.Stands.{stand, StandsAt}
+use Rattle.fv_analysis.specs.headline.Stands.{node, stand, StandsAt}
 use Rattle.fv_split_plan.specs.headline.Fits.{Names}
 use Rattle.fv_split_plan.specs.Fits.{Mean, Value, mean_at, OfDelay, OfPoint, OfStill, StepFits}
 use Rattle.fv_split_code.specs.Emits.{Serves, KindFits, IsKnown, IsLoaded, kind_of, owned_by, MeansNow, MeanNow, AreFound}
@@ -25,10 +25,9 @@ use Rattle.fv_analysis.proofs.StandLemmas.{stands_well}
 use Rattle.fv_split_code.proofs.StepLemmas.{serves_push, means_last, long_means}
 use Rattle.fv_split_code.specs.declared.tables.Tables.{Tables}
 use Rattle.fv_split_plan.specs.headline.Separated.{operands}
-use Rattle.fv_split_plan.specs.Separated.{lane_at}
+use Rattle.fv_split_plan.specs.Separated.{IsWritten, lane_at, cells_at}
 use Rattle.fv_split_plan.proofs.FitsLemmas.{map_get}
-use Rattle.fv_split_plan.specs.Separated.{IsTabled}
-use Rattle.fv_split_code.specs.Emitted.{AreTables, known_at, IsOperand, Suits, StoodNow, ComputesNow}
+use Rattle.fv_split_code.specs.Emitted.{AreTables, known_at, IsOperand, Suits, StoodNow, with_cells, write_of, ComputesAt, ComputesNow}
 
 -- what a signal stands for is no higher
 pub stand_below : (g : Graph) → IsOrdered g → (n s : ℕ) → n ≤ length g.signals → s < n → stand g s ≤ s
@@ -36,6 +35,9 @@ stand_below g ordered n s m l = (stands_well g ordered n s m l).below
 
 pub known_yes : (homes : List ℕ) (j s q : ℕ) → q < s → at homes q ≡ j → known_at homes j s q ≡ true
 known_yes homes j s q h e = ap (λ b. b && nat_eq (at homes q) j) (lt-ltb q s h) ∙ eq-eqb (at homes q) j e
+
+known_not : (homes : List ℕ) (j s : ℕ) → known_at homes j s s ≡ false
+known_not homes j s = ap (λ b. b && nat_eq (at homes s) j) (le-ltb s s (omega arith))
 
 below : (g : Graph) → IsOrdered g → (s : ℕ) (n : Signal) → StandsAt g s n → OperandsBelow g s n
 below g ordered s n h = subst (OperandsBelow g s) h.is (ordered s (signal.Const (pos 0)) h.within)
@@ -78,20 +80,40 @@ module _ (g : Graph) (p : Names) (r : Roles) (t : Tables) (j s : ℕ) (u : Suits
       subst (λ q. MeansNow regs old mid q v (kind_of t.kinds.items q) (owned_by t.owners.items j)) z mean
       g p r known means ended u.own (u.loaded s o l home is) (operand_fits o b) (operand_known o b is) h
 
+  -- several operands are known where their registers are read
+  pub operands_may : (those args : List ℕ) (n : ℕ) → ((k : ℕ) → k < n → at those k ≡ stand g (at args k)) → ((k : ℕ) → k < n → at args k < s) →
+      ((k : ℕ) → k < n → IsOperand g s (at args k)) → (k : ℕ) → k < n → KindFits g p (kind_of t.kinds.items (at those k)) (at those k)
+      × IsKnown r (known_at t.homes.items j s) (kind_of t.kinds.items (at those k)) (at those k) × IsLoaded r (kind_of t.kinds.items (at those k))
+  operands_may those args n same lower is k m =
+      subst (λ q. KindFits g p (kind_of t.kinds.items q) q × IsKnown r (known_at t.homes.items j s) (kind_of t.kinds.items q) q
+      × IsLoaded r (kind_of t.kinds.items q)) (sym (same k m)) (
+        operand_fits (at args k) (lower k m),
+        operand_known (at args k) (lower k m) (is k m),
+        u.loaded s (at args k) l home (is k m),
+      )
+
+  -- a signal that is no table that is written changes no cells
+  pub uncelled : (n : Signal) → node g s ≡ n → (IsWritten n → ⊥) → (ended : Place → Bool) → ended ≡ with_cells (cells_at t.cells.items s) ended
+  uncelled n e not ended = go (cells_at t.cells.items s) refl
+    where
+      go : (o : Option ℕ) → cells_at t.cells.items s ≡ o → ended ≡ with_cells (cells_at t.cells.items s) ended
+      go None z = ap (λ o. with_cells o ended) (sym z)
+      go (Some k) z = absurd (not (subst IsWritten e (u.cells.only s k l z).0))
+
 -- one step more, which means the signal
-pub pushed : (g : Graph) (p : Names) (r : Roles) (known : ℕ → Bool) (regs : List ℕ) (mid new : List Step) (means more : List Mean) (ended : Place →
-    Bool) (x : Step) (s w : ℕ) →
+pub pushed : (g : Graph) (p : Names) (r : Roles) (known : ℕ → Bool) (regs : List ℕ) (mid new : List Step) (means more : List Mean)
+    (ended after : Place → Bool) (x : Step) (s w : ℕ) →
     new ≡ mid ++ x ∷ [] → w ≡ length mid → Serves g p r known regs mid (means ++ more) ended → StepFits g p r ended (means ++ more) x (Value s) →
-    done_after ended x ≡ ended →
-    (after : List Mean) × Serves g p r known regs new (means ++ after) ended × (mean_at (means ++ after) w ≡ Value s) × (w < length (means ++ after))
-pushed g p r known regs mid new means more ended x s w e f h fits same =
+    done_after ended x ≡ after →
+    (now : List Mean) × Serves g p r known regs new (means ++ now) after × (mean_at (means ++ now) w ≡ Value s) × (w < length (means ++ now))
+pushed g p r known regs mid new means more ended after x s w e f h fits same =
     let one = subst (Serves g p r known regs (mid ++ x ∷ []) ((means ++ more) ++ Value s ∷ [])) same (serves_push g p r known regs mid (means ++ more) ended x
     (Value s) h fits) in
     let last = means_last g p r known regs mid (means ++ more) ended (Value s) h in
     let long = long_means g p r known regs mid (means ++ more) ended h in
     let z = append_assoc means more (Value s ∷ []) in (
       more ++ Value s ∷ [],
-      subst (λ ms. Serves g p r known regs new ms ended) z (subst (λ c. Serves g p r known regs c ((means ++ more) ++ Value s ∷ []) ended) (sym e) one),
+      subst (λ ms. Serves g p r known regs new ms after) z (subst (λ c. Serves g p r known regs c ((means ++ more) ++ Value s ∷ []) after) (sym e) one),
       ap (mean_at (means ++ (more ++ Value s ∷ []))) f ∙ ap (λ ms. mean_at ms (length mid)) (sym z) ∙ last,
       subst (λ ms. w < length ms) z (omega (arith, f, long, length_push (means ++ more) (Value s))),
     )
@@ -106,8 +128,9 @@ pub computes_point : (t : Tables) (regs : List ℕ) (j : ℕ) (old mid new : Lis
     those ≡ take (inputs_of op) (map (at t.stands.items) args) → length args ≡ 4 → AreFound found (length those) → inputs_of op ≤ 4 → 1 ≤ inputs_of op →
     MeanNow t.kinds.items regs old mid those found (length those) (owned_by t.owners.items j) → new ≡ mid ++ step.Point op found ∷ [] → w ≡ length mid →
     ComputesNow t regs j old new (signal.Point op args) w
-computes_point t regs j old mid new op args those found w et la lf four one mean e f g p r s u n home c means ended h en =
-    pushed g p r known regs mid new means x.0 ended (step.Point op found) s w e f x.1 (OfPoint s args n within there same refl) refl
+computes_point t regs j old mid new op args those found w et la lf four one mean e f s g p r u n home c means ended h en =
+    pushed g p r known regs mid new means x.0 ended (with_cells (cells_at t.cells.items s) ended) (step.Point op found) s w e f x.1
+    (OfPoint s args n within there same refl) (uncelled g p r t j s u n.within home (signal.Point op args) n.is (λ z. z) ended)
   where
     known : ℕ → Bool
     known = known_at t.homes.items j s
@@ -134,17 +157,14 @@ computes_point t regs j old mid new op args those found w et la lf four one mean
       is = ap (λ m. at (operands m) k) n.is ∙ get_or-take (inputs_of op) args k 0 l;
     }
 
+    below_inputs : (k : ℕ) → k < length those → k < inputs_of op
+    below_inputs k l = omega (arith, those_long)
+
     conds : (k : ℕ) → k < length those → KindFits g p (kind_of t.kinds.items (at those k)) (at those k)
         × IsKnown r (known_at t.homes.items j s) (kind_of t.kinds.items (at those k)) (at those k) × IsLoaded r (kind_of t.kinds.items (at those k))
-    conds k l =
-        let m : k < inputs_of op = omega (arith, those_long) in
-        subst (λ q. KindFits g p (kind_of t.kinds.items q) q × IsKnown r (known_at t.homes.items j s) (kind_of t.kinds.items q) q
-        × IsLoaded r (kind_of t.kinds.items q)) (sym (those_at k m)) (
-          operand_fits g p r t j s u n.within home (at args k) (arg k m),
-          operand_known g p r t j s u n.within home (at args k) (arg k m)
-              (is_operand k m),
-          u.loaded s (at args k) n.within home (is_operand k m),
-        )
+    conds =
+        operands_may g p r t j s u n.within home those args (length those) (λ k l. those_at k (below_inputs k l)) (λ k l. arg k (below_inputs k l))
+        (λ k l. is_operand k (below_inputs k l))
 
     x : (more : List Mean) × Serves g p r (known_at t.homes.items j s) regs mid (means ++ more) ended
         × ((k : ℕ) → k < length those → (at found k < length (means ++ more)) × (mean_at (means ++ more) (at found k) ≡ Value (at those k)))
@@ -168,19 +188,20 @@ computes_point t regs j old mid new op args those found w et la lf four one mean
 
 pub computes_still : (t : Tables) (regs : List ℕ) (j : ℕ) (old mid new : List Step) (x d v w : ℕ) → StoodNow t regs j old mid x v →
     new ≡ mid ++ step.Point Max (v ∷ v ∷ v ∷ v ∷ []) ∷ [] → w ≡ length mid → ComputesNow t regs j old new (signal.Delay x d 0) w
-computes_still t regs j old mid new x d v w mean e f g p r s u n home c means ended h en =
+computes_still t regs j old mid new x d v w mean e f s g p r u n home c means ended h en =
     let b = below g u.ordered s (signal.Delay x d 0) n in
     let lx : x < length g.signals = omega (arith, b.0, n.within) in
     let is : IsOperand g s x =
     record { place = 0; within = subst (λ m. 0 < length (operands m)) (sym n.is) (omega arith); is = ap (λ m. at (operands m) 0) n.is } in
     let y = operand_stands g p r t j s u n.within home regs old mid x v b.0 is mean means ended h in
-    pushed g p r (known_at t.homes.items j s) regs mid new means y.0 ended (step.Point Max (v ∷ v ∷ v ∷ v ∷ [])) s w e f y.1
-    (OfStill s x d v n lx refl refl y.2 refl) refl
+    pushed g p r (known_at t.homes.items j s) regs mid new means y.0 ended (with_cells (cells_at t.cells.items s) ended)
+    (step.Point Max (v ∷ v ∷ v ∷ v ∷ [])) s w e f y.1 (OfStill s x d v n lx refl refl y.2 refl)
+    (uncelled g p r t j s u n.within home (signal.Delay x d 0) n.is (λ z. z) ended)
 
 pub computes_delay : (t : Tables) (regs : List ℕ) (j : ℕ) (old mid new : List Step) (x d max v w lane : ℕ) → 1 ≤ max →
     lane ≡ unwrap_or (lane_at t.lanes.items (at t.stands.items x)) 0 → StoodNow t regs j old mid d v →
     new ≡ mid ++ step.Load lane v max ∷ [] → w ≡ length mid → ComputesNow t regs j old new (signal.Delay x d max) w
-computes_delay t regs j old mid new x d max v w lane one el mean e f g p r s u n home c means ended h en =
+computes_delay t regs j old mid new x d max v w lane one el mean e f s g p r u n home c means ended h en =
     let b = below g u.ordered s (signal.Delay x d max) n in
     let lx : x < length g.signals = omega (arith, b.0, n.within) in
     let ld : d < length g.signals = omega (arith, b.1, n.within) in
@@ -191,11 +212,115 @@ computes_delay t regs j old mid new x d max v w lane one el mean e f g p r s u n
     let lane_is : lane ≡ o.lane = el ∙ ap (λ a. unwrap_or (lane_at t.lanes.items a) 0) (u.stands x lx) ∙ ap (λ a. unwrap_or a 0) o.has in
     let names : p.lane lane ≡ stand g x = ap p.lane lane_is ∙ o.names in
     let few : max ≤ p.history lane = subst (λ a. max ≤ p.history a) (sym lane_is) o.far in
-    pushed g p r (known_at t.homes.items j s) regs mid new means y.0 ended (step.Load lane v max) s w e f y.1 (
+    pushed g p r (known_at t.homes.items j s) regs mid new means y.0 ended (with_cells (cells_at t.cells.items s) ended) (step.Load lane v max) s w e f y.1 (
       subst (λ a. r.loaded a ≡ true) (sym lane_is) o.loaded,
       OfDelay s x d n lx ld (sym names) y.2 few
-          (λ own. en lane own ∙ ap (known_at t.homes.items j s) names ∙ lane_known g p r t j s u n.within home x lane b.0 names own) refl,
-    ) refl
+          (λ own. en (OfLane lane) own ∙ ap (known_at t.homes.items j s) names ∙ lane_known g p r t j s u n.within home x lane b.0 names own) refl,
+    ) (uncelled g p r t j s u n.within home (signal.Delay x d max) n.is (λ z. z) ended)
+
+pub computes_read : (t : Tables) (regs : List ℕ) (j : ℕ) (old mid new : List Step) (table x v w : ℕ) → StoodNow t regs j old mid x v →
+    new ≡ mid ++ step.Read table v ∷ [] → w ≡ length mid → ComputesNow t regs j old new (signal.Read table x) w
+computes_read t regs j old mid new table x v w mean e f s g p r u n home c means ended h en =
+    let b = below g u.ordered s (signal.Read table x) n in
+    let lx : x < length g.signals = omega (arith, b, n.within) in
+    let is : IsOperand g s x =
+    record { place = 0; within = subst (λ m. 0 < length (operands m)) (sym n.is) (omega arith); is = ap (λ m. at (operands m) 0) n.is } in
+    let y = operand_stands g p r t j s u n.within home regs old mid x v b is mean means ended h in
+    pushed g p r (known_at t.homes.items j s) regs mid new means y.0 ended (with_cells (cells_at t.cells.items s) ended) (step.Read table v) s w e f y.1
+    (record {
+      may = u.reads table;
+      items = subst (NamesWithin g) n.is (u.closed s (signal.Const (pos 0)) n.within);
+      reader = s;
+      place = x;
+      stands = n;
+      within = lx;
+      operand = y.2;
+      is = refl;
+    }) (uncelled g p r t j s u n.within home (signal.Read table x) n.is (λ z. z) ended)
+
+-- what holds of the first three places holds of each below three
+below_three : (P : ℕ → Type 0) → P 0 → P 1 → P 2 → (k : ℕ) → k < 3 → P k
+below_three P a b c zero l = a
+below_three P a b c (suc zero) l = b
+below_three P a b c (suc (suc zero)) l = c
+below_three P a b c (suc (suc (suc k))) l = absurd (omega arith)
+
+pub computes_write : (t : Tables) (regs : List ℕ) (j s : ℕ) (old mid new : List Step) (table cells : ℕ) (args those found : List ℕ) (w : ℕ) →
+    those ≡ map (at t.stands.items) args → length args ≡ 3 → cells ≡ unwrap_or (cells_at t.cells.items s) 0 →
+    MeanNow t.kinds.items regs old mid those found (length those) (owned_by t.owners.items j) →
+    new ≡ mid ++ step.Write cells (at found 0 ∷ at found 1 ∷ at found 2 ∷ []) ∷ [] → w ≡ length mid →
+    ComputesAt t regs j s old new (write_of table args) w
+computes_write t regs j s old mid new table cells args those found w et la ec mean e f g p r u n home c means ended h en =
+    pushed g p r known regs mid new means x.0 ended (with_cells (cells_at t.cells.items s) ended) (step.Write cells registers) s w e f x.1 (record {
+      own = subst (λ k. r.own (OfCells k) ≡ true) (sym cells_is) here.0;
+      waits = en (OfCells cells) (subst (λ k. r.own (OfCells k) ≡ true) (sym cells_is) here.0) ∙ ap known names ∙ known_not t.homes.items j s;
+      table = table;
+      items = subst (NamesWithin g) n.is (u.closed s (signal.Const (pos 0)) n.within);
+      w = at args 0;
+      x = at args 1;
+      place = at args 2;
+      stands = subst (λ q. StandsAt g q (write_of table args)) (sym names) n;
+      w_within = within 0 (omega arith);
+      x_within = within 1 (omega arith);
+      place_within = within 2 (omega arith);
+      operands = ap₂ (λ a b. a ∷ b) (means_it 0 (omega arith)) (ap₂ (λ a b. a ∷ b ∷ []) (means_it 1 (omega arith)) (means_it 2 (omega arith)));
+      is = ap Value (sym names);
+    }) (ap (λ k. with_place (OfCells k) ended) cells_is ∙ ap (λ o. with_cells o ended) (sym some.1))
+  where
+    known : ℕ → Bool
+    known = known_at t.homes.items j s
+
+    registers : List ℕ
+    registers = at found 0 ∷ at found 1 ∷ at found 2 ∷ []
+
+    some : (k : ℕ) × (cells_at t.cells.items s ≡ Some k)
+    some = u.cells.all s n.within (subst IsWritten (sym n.is) tt)
+
+    here : (r.own (OfCells some.0) ≡ true) × (p.cells some.0 ≡ s)
+    here = u.cells.here s some.0 n.within home some.1
+
+    cells_is : cells ≡ some.0
+    cells_is = ec ∙ ap (λ (o : Option ℕ). unwrap_or o 0) some.1
+
+    names : p.cells cells ≡ s
+    names = ap p.cells cells_is ∙ here.1
+
+    lower : (at args 0 < s) × (at args 1 < s) × (at args 2 < s)
+    lower = below g u.ordered s (write_of table args) n
+
+    arg : (k : ℕ) → k < 3 → at args k < s
+    arg = below_three (λ k. at args k < s) lower.0 lower.1 lower.2
+
+    within : (k : ℕ) → k < 3 → at args k < length g.signals
+    within k l = let b = arg k l in omega (arith, b, n.within)
+
+    those_long : length those ≡ 3
+    those_long = ap length et ∙ length-map args (at t.stands.items) ∙ la
+
+    those_at : (k : ℕ) → k < 3 → at those k ≡ stand g (at args k)
+    those_at k l =
+        ap (λ xs. at xs k) et
+        ∙ get_or_default (map (at t.stands.items) args) k 0 (at t.stands.items 0) (omega (arith, length-map args (at t.stands.items), la))
+        ∙ map_get (at t.stands.items) args k 0 ∙ u.stands (at args k) (within k l)
+
+    is_operand : (k : ℕ) → k < 3 → IsOperand g s (at args k)
+    is_operand k l = record {
+      place = k;
+      within = subst (λ m. k < length (operands m)) (sym n.is) l;
+      is = ap (λ m. at (operands m) k) n.is ∙ below_three (λ k. at (operands (write_of table args)) k ≡ at args k) refl refl refl k l;
+    }
+
+    below_all : (k : ℕ) → k < length those → k < 3
+    below_all k l = omega (arith, those_long)
+
+    x : (more : List Mean) × Serves g p r (known_at t.homes.items j s) regs mid (means ++ more) ended
+        × ((k : ℕ) → k < length those → (at found k < length (means ++ more)) × (mean_at (means ++ more) (at found k) ≡ Value (at those k)))
+    x = mean g p r (known_at t.homes.items j s) means ended u.own
+        (operands_may g p r t j s u n.within home those args (length those) (λ k l. those_at k (below_all k l)) (λ k l. arg k (below_all k l))
+        (λ k l. is_operand k (below_all k l))) h
+
+    means_it : (k : ℕ) → k < 3 → mean_at (means ++ x.0) (at found k) ≡ Value (stand g (at args k))
+    means_it k l = (x.2 k (omega (arith, those_long))).1 ∙ ap Value (those_at k l)
 
 -- ---- what the code reads in the tables
 
@@ -223,7 +348,3 @@ stood_within stands args those m n e long within inside k d l = subst (λ xs. ge
     all : All (λ s. s < n) (take m (map (at stands) args))
     all = All-take (λ s. s < n) m (map (at stands) args) (All-map (λ s. s < n) (at stands) args (All-weaker (λ a. a < n) (λ a. at stands a < n)
         (λ a h. All-get_or (λ s. s < n) stands a 0 (omega (arith, long)) inside) args within))
-
--- no table is computed
-pub computes_none : (t : Tables) (regs : List ℕ) (j : ℕ) (old new : List Step) (n : Signal) (w : ℕ) → IsTabled n → ComputesNow t regs j old new n w
-computes_none t regs j old new n w is g p r s u at home computed = absurd (u.tableless s at.within (subst IsTabled (sym at.is) is))

@@ -1,24 +1,28 @@
--- What code that fits loads and names.
-use Rattle.std.proofs.Common.{◌≡◌, ◌⊎◌, inl, inr, ℕ, zero, suc, ◌+◌, ◌<◌, ◌≤◌, List, [], ◌∷◌, ◌++◌, length, get_or, refl, sym, ap, ◌∙◌, subst, arith, pos, Bool}
+-- What code that fits loads, reads and names.
+use Rattle.std.proofs.Common.{◌≡◌, ◌⊎◌, inl, inr, ℕ, zero, suc, ◌+◌, ◌<◌, ◌≤◌, List, [], ◌∷◌, ◌++◌, length, map, get_or, refl, sym, ap, ◌∙◌, subst, arith, pos, Bool}
 use Rattle.std.proofs.Common.{true, false}
 use Rattle.std.specs.Prelude.{◌||◌, ◌&&◌, nat_eq, nat_lt, nat_le, All}
 use Rattle.std.proofs.lemmas.Bool.{eq-eqb, ne_eqb, cases_eq, cases_lt}
-use Rattle.std.proofs.lemmas.List.{length_push}
+use Rattle.std.proofs.lemmas.List.{length_push, length-map}
 use Rattle.std.proofs.lemmas.List.Elements.{All-nil, All-cons}
 use Rattle.fv_num.specs.declared.op.Op.{Op}
 use Rattle.fv_signal.specs.declared.signal.Signal.TheVariants as signal
-use Rattle.fv_signal.specs.headline.Value.{Graph}
+use Rattle.fv_signal.specs.headline.Value.{Graph, table_of}
 use Rattle.fv_split_components.specs.headline.Reach.{at}
 use Rattle.fv_loopcode.specs.declared.step.Step.{Step}
 use Rattle.fv_loopcode.specs.declared.step.Step.TheVariants as step
+use Rattle.fv_loopcode.specs.declared.counts.Counts.{Counts}
+use Rattle.fv_loopcode.specs.headline.State.{list_at}
 use Rattle.fv_loopcode.specs.headline.Code.{NamesHeld, NamesInput}
 use Rattle.fv_loopcode.specs.Code.{OperandsBelow, IsSound}
-use Rattle.fv_loopcode.specs.headline.Obeys.{Roles, Place, OfLane, done_after}
+use Rattle.fv_loopcode.specs.headline.Obeys.{Roles, Place, OfLane, OfCells, done_after}
 use Rattle.fv_analysis.specs.headline.Stands.{StandsAt}
 use Rattle.fv_split_plan.specs.headline.Fits.{Names}
-use Rattle.fv_split_plan.specs.Fits.{Mean, Value, Literal, mean_at, LoadFits, OfDelay, OfBack, OfNow, PointFits, OfPoint, OfStill, CodeFits}
-use Rattle.fv_split_plan.specs.headline.View.{PlanView, lane_info, loads_lane}
+use Rattle.fv_split_plan.specs.Fits.{Mean, Value, Literal, mean_at, LoadFits, OfDelay, OfBack, OfNow, PointFits, OfPoint, OfStill}
+use Rattle.fv_split_plan.specs.Fits.{ReadFits, WriteFits, StepFits, CodeFits}
+use Rattle.fv_split_plan.specs.headline.View.{PlanView, lane_info, loads_lane, reads_table}
 use Rattle.fv_split_plan.specs.headline.Plans.{LoadsWithin, NamesChannel}
+use Rattle.fv_split_plan.proofs.FitsLemmas.{map_get}
 
 module _ (g : Graph) (p : Names) (r q : Roles) (own : (l : Place) → q.own l ≡ r.own l) where
   load_fits : (done : Place → Bool) (ms : List Mean) (lane back max : ℕ) (m : Mean) →
@@ -31,21 +35,58 @@ module _ (g : Graph) (p : Names) (r q : Roles) (own : (l : Place) → q.own l �
   or_right true e = refl
   or_right false e = e
 
-  -- the same code, for roles that load just what the steps load
+  read_fits : (ms : List Mean) (table arg : ℕ) (m : Mean) → q.tables table ≡ true → ReadFits g r ms table arg m → ReadFits g q ms table arg m
+  read_fits ms table arg m may h = record {
+    may = may;
+    items = h.items;
+    reader = h.reader;
+    place = h.place;
+    stands = h.stands;
+    within = h.within;
+    operand = h.operand;
+    is = h.is;
+  }
+
+  write_fits : (done : Place → Bool) (ms : List Mean) (cells : ℕ) (args : List ℕ) (m : Mean) →
+      WriteFits g p r done ms cells args m → WriteFits g p q done ms cells args m
+  write_fits done ms cells args m h = record {
+    own = own (OfCells cells) ∙ h.own;
+    waits = h.waits;
+    table = h.table;
+    items = h.items;
+    w = h.w;
+    x = h.x;
+    place = h.place;
+    stands = h.stands;
+    w_within = h.w_within;
+    x_within = h.x_within;
+    place_within = h.place_within;
+    operands = h.operands;
+    is = h.is;
+  }
+
+  -- the same code, for roles that load and read just what the steps load and read
   pub fits_loaded : (done : Place → Bool) (ms : List Mean) (steps : List Step) → ((l : ℕ) → loads_lane l steps ≡ true → q.loaded l ≡ true) →
-      CodeFits g p r done ms steps → CodeFits g p q done ms steps
-  fits_loaded done ms [] ld h = λ l o. h l (sym (own l) ∙ o)
-  fits_loaded done ms (step.Number n ∷ ss) ld h = (h.0, h.1, fits_loaded done (ms ++ h.0 ∷ []) ss ld h.2)
-  fits_loaded done ms (step.Held k ∷ ss) ld h = (h.0, h.1, fits_loaded done (ms ++ h.0 ∷ []) ss ld h.2)
-  fits_loaded done ms (step.Input i ∷ ss) ld h = (h.0, h.1, fits_loaded done (ms ++ h.0 ∷ []) ss ld h.2)
-  fits_loaded done ms (step.Point op args ∷ ss) ld h = (h.0, h.1, fits_loaded done (ms ++ h.0 ∷ []) ss ld h.2)
-  fits_loaded done ms (step.Load lane back max ∷ ss) ld h = (
+      ((t : ℕ) → reads_table t steps ≡ true → q.tables t ≡ true) → CodeFits g p r done ms steps → CodeFits g p q done ms steps
+  fits_loaded done ms [] ld rd h = λ l o. h l (sym (own l) ∙ o)
+  fits_loaded done ms (step.Number n ∷ ss) ld rd h = (h.0, h.1, fits_loaded done (ms ++ h.0 ∷ []) ss ld rd h.2)
+  fits_loaded done ms (step.Held k ∷ ss) ld rd h = (h.0, h.1, fits_loaded done (ms ++ h.0 ∷ []) ss ld rd h.2)
+  fits_loaded done ms (step.Input i ∷ ss) ld rd h = (h.0, h.1, fits_loaded done (ms ++ h.0 ∷ []) ss ld rd h.2)
+  fits_loaded done ms (step.Point op args ∷ ss) ld rd h = (h.0, h.1, fits_loaded done (ms ++ h.0 ∷ []) ss ld rd h.2)
+  fits_loaded done ms (step.Load lane back max ∷ ss) ld rd h = (
     h.0,
     (ld lane (ap (λ b. b || loads_lane lane ss) (eq-eqb lane lane refl)), load_fits done ms lane back max h.0 h.1.1),
-    fits_loaded done (ms ++ h.0 ∷ []) ss (λ l e. ld l (or_right (nat_eq l lane) e)) h.2,
+    fits_loaded done (ms ++ h.0 ∷ []) ss (λ l e. ld l (or_right (nat_eq l lane) e)) rd h.2,
   )
-  fits_loaded done ms (step.Append lane value ∷ ss) ld h =
-      (h.0, (own (OfLane lane) ∙ h.1.0, h.1.1, h.1.2, h.1.3), fits_loaded (done_after done (step.Append lane value)) (ms ++ h.0 ∷ []) ss ld h.2)
+  fits_loaded done ms (step.Append lane value ∷ ss) ld rd h =
+      (h.0, (own (OfLane lane) ∙ h.1.0, h.1.1, h.1.2, h.1.3), fits_loaded (done_after done (step.Append lane value)) (ms ++ h.0 ∷ []) ss ld rd h.2)
+  fits_loaded done ms (step.Read table arg ∷ ss) ld rd h = (
+    h.0,
+    read_fits ms table arg h.0 (rd table (ap (λ b. b || reads_table table ss) (eq-eqb table table refl))) h.1,
+    fits_loaded done (ms ++ h.0 ∷ []) ss ld (λ t e. rd t (or_right (nat_eq t table) e)) h.2,
+  )
+  fits_loaded done ms (step.Write cells args ∷ ss) ld rd h =
+      (h.0, write_fits done ms cells args h.0 h.1, fits_loaded (done_after done (step.Write cells args)) (ms ++ h.0 ∷ []) ss ld rd h.2)
 
 -- a register that means a signal is there, and one that means a number other than 0
 mean_there : (ms : List Mean) (w s : ℕ) → mean_at ms w ≡ Value s → w < length ms
@@ -78,6 +119,8 @@ module _ (g : Graph) (p : Names) (r : Roles) where
     | inr z ↦ loads_may done (ms ++ h.0 ∷ []) ss h.2 l (sym (ap (λ b. b || loads_lane l ss) (ne_eqb l lane z)) ∙ e)
   ]
   loads_may done ms (step.Append lane value ∷ ss) h l e = loads_may (done_after done (step.Append lane value)) (ms ++ h.0 ∷ []) ss h.2 l e
+  loads_may done ms (step.Read table arg ∷ ss) h l e = loads_may done (ms ++ h.0 ∷ []) ss h.2 l e
+  loads_may done ms (step.Write cells args ∷ ss) h l e = loads_may (done_after done (step.Write cells args)) (ms ++ h.0 ∷ []) ss h.2 l e
 
   -- it names held values that are counted
   pub held_counted : (done : Place → Bool) (ms : List Mean) (steps : List Step) → CodeFits g p r done ms steps → (k : ℕ) → NamesHeld steps k → k < p.count
@@ -88,6 +131,8 @@ module _ (g : Graph) (p : Names) (r : Roles) where
   held_counted done ms (step.Point op args ∷ ss) h k n = held_counted done (ms ++ h.0 ∷ []) ss h.2 k n
   held_counted done ms (step.Load lane back max ∷ ss) h k n = held_counted done (ms ++ h.0 ∷ []) ss h.2 k n
   held_counted done ms (step.Append lane value ∷ ss) h k n = held_counted (done_after done (step.Append lane value)) (ms ++ h.0 ∷ []) ss h.2 k n
+  held_counted done ms (step.Read table arg ∷ ss) h k n = held_counted done (ms ++ h.0 ∷ []) ss h.2 k n
+  held_counted done ms (step.Write cells args ∷ ss) h k n = held_counted (done_after done (step.Write cells args)) (ms ++ h.0 ∷ []) ss h.2 k n
 
   -- and channels that the graph names
   pub inputs_named : (done : Place → Bool) (ms : List Mean) (steps : List Step) → CodeFits g p r done ms steps → (i : ℕ) → NamesInput steps i → NamesChannel g i
@@ -101,26 +146,34 @@ module _ (g : Graph) (p : Names) (r : Roles) where
   inputs_named done ms (step.Point op args ∷ ss) h i n = inputs_named done (ms ++ h.0 ∷ []) ss h.2 i n
   inputs_named done ms (step.Load lane back max ∷ ss) h i n = inputs_named done (ms ++ h.0 ∷ []) ss h.2 i n
   inputs_named done ms (step.Append lane value ∷ ss) h i n = inputs_named (done_after done (step.Append lane value)) (ms ++ h.0 ∷ []) ss h.2 i n
+  inputs_named done ms (step.Read table arg ∷ ss) h i n = inputs_named done (ms ++ h.0 ∷ []) ss h.2 i n
+  inputs_named done ms (step.Write cells args ∷ ss) h i n = inputs_named (done_after done (step.Write cells args)) (ms ++ h.0 ∷ []) ss h.2 i n
 
   load_short : (done : Place → Bool) (ms : List Mean) (lane back max : ℕ) (m : Mean) → LoadFits g p r done ms lane back max m → max ≤ p.history lane
   load_short done ms lane back max m (OfDelay s x d n lx ld ex ed few mine e) = few
   load_short done ms lane back max m (OfBack s group i n lx ex eb one few e) = omega (arith, one, few)
   load_short done ms lane back max m (OfNow there eb none other e) = omega (arith, none)
 
-  -- its loads are of lanes of the plan, and go no further back than their histories
-  pub loads_within : (v : PlanView) → ((l : ℕ) → r.loaded l ≡ true → (l < length v.lanes) × (p.history l ≡ (lane_info v l).history)) →
-      (done : Place → Bool) (ms : List Mean) (steps : List Step) → CodeFits g p r done ms steps → All (LoadsWithin v) steps
-  loads_within v is done ms [] h = All-nil (LoadsWithin v)
-  loads_within v is done ms (step.Number n ∷ ss) h = All-cons (LoadsWithin v) (step.Number n) ss tt (loads_within v is done (ms ++ h.0 ∷ []) ss h.2)
-  loads_within v is done ms (step.Held k ∷ ss) h = All-cons (LoadsWithin v) (step.Held k) ss tt (loads_within v is done (ms ++ h.0 ∷ []) ss h.2)
-  loads_within v is done ms (step.Input i ∷ ss) h = All-cons (LoadsWithin v) (step.Input i) ss tt (loads_within v is done (ms ++ h.0 ∷ []) ss h.2)
-  loads_within v is done ms (step.Point op args ∷ ss) h = All-cons (LoadsWithin v) (step.Point op args) ss tt (loads_within v is done (ms ++ h.0 ∷ []) ss h.2)
-  loads_within v is done ms (step.Load lane back max ∷ ss) h =
-      let k = is lane h.1.0 in
-      let f = load_short done ms lane back max h.0 h.1.1 in
-      All-cons (LoadsWithin v) (step.Load lane back max) ss (k.0, omega (arith, k.1, f)) (loads_within v is done (ms ++ h.0 ∷ []) ss h.2)
-  loads_within v is done ms (step.Append lane value ∷ ss) h =
-      All-cons (LoadsWithin v) (step.Append lane value) ss tt (loads_within v is (done_after done (step.Append lane value)) (ms ++ h.0 ∷ []) ss h.2)
+  -- its loads are of lanes of the plan, and go no further back than their histories, and its tables and cells are the plan's
+  module _ (v : PlanView) (lanes : (l : ℕ) → r.loaded l ≡ true → (l < length v.lanes) × (p.history l ≡ (lane_info v l).history))
+      (tables : v.tables ≡ g.tables) (cells : (k : ℕ) → r.own (OfCells k) ≡ true → k < length v.cells) where
+    step_within : (done : Place → Bool) (ms : List Mean) (s : Step) (m : Mean) → StepFits g p r done ms s m → LoadsWithin v s
+    step_within done ms (step.Number n) m h = tt
+    step_within done ms (step.Held k) m h = tt
+    step_within done ms (step.Input i) m h = tt
+    step_within done ms (step.Point op args) m h = tt
+    step_within done ms (step.Load lane back max) m h =
+        let k = lanes lane h.0 in
+        let f = load_short done ms lane back max m h.1 in
+        (k.0, omega (arith, k.1, f))
+    step_within done ms (step.Append lane value) m h = tt
+    step_within done ms (step.Read table arg) m h = subst (λ ts. 0 < length (list_at ts table)) (sym tables) h.items
+    step_within done ms (step.Write k args) m h = cells k h.own
+
+    pub loads_within : (done : Place → Bool) (ms : List Mean) (steps : List Step) → CodeFits g p r done ms steps → All (LoadsWithin v) steps
+    loads_within done ms [] h = All-nil (LoadsWithin v)
+    loads_within done ms (s ∷ ss) h =
+        All-cons (LoadsWithin v) s ss (step_within done ms s h.0 h.1) (loads_within (done_after done s) (ms ++ h.0 ∷ []) ss h.2)
 
   point_below : (ms : List Mean) (op : Op) (args : List ℕ) (m : Mean) → PointFits g ms op args m → All (λ a. a < length ms) args
   point_below ms op args m (OfPoint s os n within there same e) = there
@@ -134,20 +187,38 @@ module _ (g : Graph) (p : Names) (r : Roles) where
   load_below done ms lane back max m (OfBack s group i n lx ex eb one few e) = one_there ms back eb
   load_below done ms lane back max m (OfNow there eb none other e) = there
 
-  -- each step reads earlier registers, and its lane is there
-  module _ (n : ℕ) (owned : (l : ℕ) → r.own (OfLane l) ≡ true → l < n) (seen : (l : ℕ) → r.loaded l ≡ true → l < n) where
-    step_sound : (done : Place → Bool) (ms : List Mean) (s : Step) (ss : List Step) → CodeFits g p r done ms (s ∷ ss) → IsSound (length ms) n s
-    step_sound done ms (step.Number z) ss h = (tt, tt)
-    step_sound done ms (step.Held k) ss h = (tt, tt)
-    step_sound done ms (step.Input i) ss h = (tt, tt)
-    step_sound done ms (step.Point op args) ss h = (tt, point_below ms op args h.0 h.1)
-    step_sound done ms (step.Load lane back max) ss h = (seen lane h.1.0, load_below done ms lane back max h.0 h.1.1)
-    step_sound done ms (step.Append lane value) ss h = (owned lane h.1.0, mean_there ms value _ h.1.2)
+  -- a register of the operands of a write is there
+  write_below : (ms : List Mean) (args : List ℕ) (a b c : ℕ) → map (mean_at ms) args ≡ Value a ∷ Value b ∷ Value c ∷ [] → All (λ w. w < length ms) args
+  write_below ms args a b c e k d l =
+      mean_there ms (get_or args k d) (get_or (a ∷ b ∷ c ∷ []) k d)
+      (sym (map_get (mean_at ms) args k d) ∙ ap (λ xs. get_or xs k (mean_at ms d)) e ∙ below_three k d (omega (arith, l, three)))
+    where
+      three : length args ≡ 3
+      three = sym (length-map args (mean_at ms)) ∙ ap length e
+
+      below_three : (k d : ℕ) → k < 3 → get_or (Value a ∷ Value b ∷ Value c ∷ []) k (mean_at ms d) ≡ Value (get_or (a ∷ b ∷ c ∷ []) k d)
+      below_three zero d l = refl
+      below_three (suc zero) d l = refl
+      below_three (suc (suc zero)) d l = refl
+      below_three (suc (suc (suc k))) d l = absurd (omega arith)
+
+  -- each step reads earlier registers, and what it names is there
+  module _ (n : Counts) (owned : (l : ℕ) → r.own (OfLane l) ≡ true → l < n.lanes) (seen : (l : ℕ) → r.loaded l ≡ true → l < n.lanes)
+      (listed : (t : ℕ) → 0 < length (table_of g t) → t < n.tables) (held : (k : ℕ) → r.own (OfCells k) ≡ true → k < n.cells) where
+    step_sound : (done : Place → Bool) (ms : List Mean) (s : Step) (m : Mean) → StepFits g p r done ms s m → IsSound (length ms) n s
+    step_sound done ms (step.Number z) m h = (tt, tt)
+    step_sound done ms (step.Held k) m h = (tt, tt)
+    step_sound done ms (step.Input i) m h = (tt, tt)
+    step_sound done ms (step.Point op args) m h = (tt, point_below ms op args m h)
+    step_sound done ms (step.Load lane back max) m h = (seen lane h.0, load_below done ms lane back max m h.1)
+    step_sound done ms (step.Append lane value) m h = (owned lane h.0, mean_there ms value _ h.2)
+    step_sound done ms (step.Read table arg) m h = (listed table h.items, mean_there ms arg _ h.operand)
+    step_sound done ms (step.Write cells args) m h = (held cells h.own, write_below ms args _ _ _ h.operands)
 
     pub code_sound : (done : Place → Bool) (ms : List Mean) (steps : List Step) → CodeFits g p r done ms steps → (i : ℕ) (d : Step) → i < length steps →
         IsSound (length ms + i) n (get_or steps i d)
     code_sound done ms [] h i d l = absurd (omega arith)
-    code_sound done ms (s ∷ ss) h zero d l = let z : length ms ≡ length ms + 0 = omega arith in subst (λ k. IsSound k n s) z (step_sound done ms s ss h)
+    code_sound done ms (s ∷ ss) h zero d l = let z : length ms ≡ length ms + 0 = omega arith in subst (λ k. IsSound k n s) z (step_sound done ms s h.0 h.1)
     code_sound done ms (s ∷ ss) h (suc i) d l =
         let z : length (ms ++ h.0 ∷ []) + i ≡ length ms + suc i = omega (arith, length_push ms h.0) in
         subst (λ k. IsSound k n (get_or ss i d)) z (code_sound (done_after done s) (ms ++ h.0 ∷ []) ss h.2 i d (omega arith))

@@ -4,14 +4,14 @@ use Rattle.std.specs.Prelude.{◌&&◌, nat_lt, nat_eq, All}
 use Rattle.std.specs.declared.alloc.Global.{Global}
 use Rattle.fv_signal.specs.declared.signal.Signal.{Signal}
 use Rattle.fv_signal.specs.declared.signal.Signal.TheVariants as signal
-use Rattle.fv_signal.specs.headline.Value.{Graph, IsOrdered}
+use Rattle.fv_signal.specs.headline.Value.{Graph, IsOrdered, IsClosed}
 use Rattle.fv_split_components.specs.headline.Reach.{at}
 use Rattle.fv_loopcode.specs.declared.step.Step.{Step}
 use Rattle.fv_loopcode.specs.declared.step.Step.TheVariants as step
-use Rattle.fv_loopcode.specs.headline.Obeys.{Roles, Place, OfLane, nothing}
+use Rattle.fv_loopcode.specs.headline.Obeys.{Roles, Place, OfLane, OfCells, nothing, with_place}
 use Rattle.fv_analysis.specs.headline.Stands.{node, stand, StandsAt}
 use Rattle.fv_split_plan.specs.headline.Separated.{operands, IsComputed}
-use Rattle.fv_split_plan.specs.Separated.{HasNoTables, lane_at}
+use Rattle.fv_split_plan.specs.Separated.{IsWritten, lane_at, cells_at}
 use Rattle.fv_split_plan.specs.headline.Fits.{Names}
 use Rattle.fv_split_plan.specs.Fits.{Mean, Value, mean_at, CodeFits}
 use Rattle.fv_split_code.specs.declared.kind.Kind.{Kind}
@@ -38,6 +38,7 @@ pub record AreTables (n : ℕ) (t : Tables) : Type 0 where
   pub bases : length t.bases.items ≡ n
   pub kinds : length t.kinds.items ≡ n
   pub lanes : length t.lanes.items ≡ n
+  pub cells : length t.cells.items ≡ n
   pub homes : length t.homes.items ≡ n
   pub within : All (λ s. s < n) t.stands.items
   pub base_lanes : All (λ k. IsKindWithin (length t.owners.items) k) t.bases.items
@@ -57,10 +58,22 @@ pub record DelayLane (g : Graph) (p : Names) (r : Roles) (t : Tables) (x max : �
   pub far : max ≤ p.history lane
   pub loaded : r.loaded lane ≡ true
 
+-- The signals that are written at home in loop j have cells of their own, which are its own, and no other signals have any.
+pub record SuitCells (g : Graph) (p : Names) (r : Roles) (t : Tables) (j : ℕ) : Type 0 where
+  -- the loop's own cells are those of signals that are at home in it
+  pub own : (k : ℕ) → r.own (OfCells k) ≡ true → (p.cells k < length g.signals) × (cells_at t.cells.items (p.cells k) ≡ Some k)
+      × (at t.homes.items (p.cells k) ≡ j)
+  -- a signal with cells that is at home here has cells of this loop
+  pub here : (s k : ℕ) → s < length g.signals → at t.homes.items s ≡ j → cells_at t.cells.items s ≡ Some k → (r.own (OfCells k) ≡ true) × (p.cells k ≡ s)
+  -- just the tables that are written have cells, and they are computed
+  pub all : (s : ℕ) → s < length g.signals → IsWritten (node g s) → (k : ℕ) × (cells_at t.cells.items s ≡ Some k)
+  pub only : (s k : ℕ) → s < length g.signals → cells_at t.cells.items s ≡ Some k → IsWritten (node g s) × (kind_of t.bases.items s ≡ kind.Inner)
+
 -- The tables are those of the graph, as loop j sees them, whose roles are r, in a plan with these names.
 pub record Suits (g : Graph) (p : Names) (r : Roles) (t : Tables) (j : ℕ) : Type 0 where
   pub own : (l : ℕ) → r.own (OfLane l) ≡ owned_by t.owners.items j l
   pub ordered : IsOrdered g
+  pub closed : IsClosed g
   pub stands : (s : ℕ) → s < length g.signals → at t.stands.items s ≡ stand g s
   pub bases : (s : ℕ) → s < length g.signals → KindFits g p (kind_of t.bases.items s) s × IsBase (kind_of t.bases.items s)
   pub kinds : (s : ℕ) → s < length g.signals → KindFits g p (kind_of t.kinds.items s) s
@@ -76,33 +89,52 @@ pub record Suits (g : Graph) (p : Names) (r : Roles) (t : Tables) (j : ℕ) : Ty
   pub loaded : (s o : ℕ) → s < length g.signals → at t.homes.items s ≡ j → IsOperand g s o → IsLoaded r (kind_of t.kinds.items (stand g o))
   pub base_loaded : (s : ℕ) → s < length g.signals → at t.homes.items s ≡ j → IsLoaded r (kind_of t.bases.items s)
   pub delays : (s x d max : ℕ) → StandsAt g s (signal.Delay x d max) → at t.homes.items s ≡ j → 1 ≤ max → DelayLane g p r t x max
-  -- no signal is a table
-  pub tableless : HasNoTables g
+  pub cells : SuitCells g p r t j
+  -- each table may be read
+  pub reads : (table : ℕ) → r.tables table ≡ true
   -- a signal at home here that is nothing else is computed
   pub computed : (s : ℕ) → s < length g.signals → at t.homes.items s ≡ j → kind_of t.bases.items s ≡ kind.Inner → IsComputed (node g s)
+
+-- the node that writes a table, whose operands are three
+abbrev pub write_of : (table : ℕ) → List ℕ → Signal
+write_of table args = signal.Write table (at args 0) (at args 1) (at args 2)
 
 -- the code has grown so that register w means what signal x stands for, as loop j reads it
 abbrev pub StoodNow : Tables → (regs : List ℕ) → (j : ℕ) → (old new : List Step) → (x w : ℕ) → Type 0
 StoodNow t regs j old new x w =
     MeansNow regs old new (at t.stands.items x) w (kind_of t.kinds.items (at t.stands.items x)) (owned_by t.owners.items j)
 
--- just the lanes of known signals were appended
-abbrev pub EndedAre : Names → Roles → (known : ℕ → Bool) → (ended : Place → Bool) → Type 0
-EndedAre p r known ended = (l : ℕ) → r.own (OfLane l) ≡ true → ended (OfLane l) ≡ known (p.lane l)
+-- the signal of a place
+abbrev pub signal_of : Names → Place → ℕ
+signal_of p (OfLane l) = p.lane l
+signal_of p (OfCells k) = p.cells k
 
--- The code has grown so that register w means signal s of loop j: whatever it served before it serves now.
+-- just the places of known signals were changed
+abbrev pub EndedAre : Names → Roles → (known : ℕ → Bool) → (ended : Place → Bool) → Type 0
+EndedAre p r known ended = (q : Place) → r.own q ≡ true → ended q ≡ known (signal_of p q)
+
+-- a signal's own step changes its cells, where it has some
+abbrev pub with_cells : Option ℕ → (Place → Bool) → Place → Bool
+with_cells None ended = ended
+with_cells (Some k) ended = with_place (OfCells k) ended
+
+-- The code has grown so that register w means signal s of loop j, and its cells are changed: whatever it served before it serves now.
 abbrev pub SignalNow : Graph → Names → Roles → Tables → (regs : List ℕ) → (j s : ℕ) → (old new : List Step) → (w : ℕ) → Type 0
 SignalNow g p r t regs j s old new w =
     (means : List Mean) (ended : Place → Bool) →
     Serves g p r (known_at t.homes.items j s) regs old means ended → EndedAre p r (known_at t.homes.items j s) ended →
-    (more : List Mean) × Serves g p r (known_at t.homes.items j s) regs new (means ++ more) ended
+    (more : List Mean) × Serves g p r (known_at t.homes.items j s) regs new (means ++ more) (with_cells (cells_at t.cells.items s) ended)
     × (mean_at (means ++ more) w ≡ Value s) × (w < length (means ++ more))
+
+-- so it is with signal s, where it is this node and computed
+abbrev pub ComputesAt : Tables → (regs : List ℕ) → (j s : ℕ) → (old new : List Step) → Signal → (w : ℕ) → Type 0
+ComputesAt t regs j s old new n w =
+    (g : Graph) (p : Names) (r : Roles) →
+    Suits g p r t j → StandsAt g s n → at t.homes.items s ≡ j → IsComputed n → SignalNow g p r t regs j s old new w
 
 -- so it is with each computed signal that is this node
 abbrev pub ComputesNow : Tables → (regs : List ℕ) → (j : ℕ) → (old new : List Step) → Signal → (w : ℕ) → Type 0
-ComputesNow t regs j old new n w =
-    (g : Graph) (p : Names) (r : Roles) (s : ℕ) →
-    Suits g p r t j → StandsAt g s n → at t.homes.items s ≡ j → IsComputed n → SignalNow g p r t regs j s old new w
+ComputesNow t regs j old new n w = (s : ℕ) → ComputesAt t regs j s old new n w
 
 -- so it is with the signal's own step, whatever it is
 abbrev pub OwnNow : Tables → (regs : List ℕ) → (j s : ℕ) → (old new : List Step) → Signal → (w : ℕ) → Type 0

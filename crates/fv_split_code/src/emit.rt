@@ -5,7 +5,7 @@ ghost use Rattle.fv_split_components.specs.headline.Reach.{at};
 ghost use Rattle.fv_signal.specs.declared.signal.Signal.{Signal};
 ghost use Rattle.fv_signal.specs.declared.signal.Signal.TheVariants as signal;
 ghost use Rattle.fv_split_plan.specs.inner.Separated.{OperandsWithin};
-ghost use Rattle.fv_split_code.specs.Emitted.{AreTables, StoodNow, ComputesNow, OwnNow, AddsNow, AreCodes, with_append, code_in};
+ghost use Rattle.fv_split_code.specs.Emitted.{AreTables, StoodNow, ComputesNow, ComputesAt, OwnNow, AddsNow, AreCodes, write_of, with_append, code_in};
 
 use crate::kind::Kind;
 use crate::operand::{operand, operands, push};
@@ -26,6 +26,19 @@ fn stood(stands: &[SignalId], args: [SignalId; 4]) -> [u64; 4]
         stands[args[1].number() as usize].number(),
         stands[args[2].number() as usize].number(),
         stands[args[3].number() as usize].number(),
+    ]
+}
+
+// What three signals stand for.
+fn stood_three(stands: &[SignalId], args: [SignalId; 3]) -> [u64; 3]
+    requires { All (λ a. a < length stands.now) args }
+    ensures value { result ≡ map (at stands.now) args }
+    ensures three { length args ≡ 3 }
+{
+    [
+        stands[args[0].number() as usize].number(),
+        stands[args[1].number() as usize].number(),
+        stands[args[2].number() as usize].number(),
     ]
 }
 
@@ -138,17 +151,70 @@ fn delayed(
     )
 }
 
-// An operation or a delay.
+// An item of a table.
+fn read(
+    code: &mut Vec<Step>,
+    tables: &Tables,
+    registers: &[u64],
+    own: u64,
+    table: u64,
+    r: SignalId,
+) -> Result<u64, AllocError>
+    requires tables { AreTables (length registers.now) tables.now }
+    requires r { r < length registers.now }
+    ensures { IfOk result (λ w. ComputesNow tables.now registers.now own code.old.items code.new.items (signal.Read table r) w) }
+{
+    let arg = operand_of(code, tables, registers, own, r)?;
+    push(code, Step::Read { table, arg })
+}
+
+// A table that is written and then read, which is signal s. Its operands are where and what is written, and where it is read.
+fn written(
+    code: &mut Vec<Step>,
+    tables: &Tables,
+    registers: &[u64],
+    own: u64,
+    s: u64,
+    table: u64,
+    args: [SignalId; 3],
+) -> Result<u64, AllocError>
+    requires tables { AreTables (length registers.now) tables.now }
+    requires signal { s < length registers.now }
+    requires args { All (λ a. a < length registers.now) args }
+    ensures { IfOk result (λ w. ComputesAt tables.now registers.now own s code.old.items code.new.items (write_of table args) w) }
+{
+    let signals = stood_three(&tables.stands, args);
+    let found = operands(
+        code,
+        &tables.kinds,
+        registers,
+        &tables.owners,
+        own,
+        &signals,
+    )?;
+    let cells = tables.cells[s as usize].unwrap_or(0);
+    push(
+        code,
+        Step::Write {
+            cells,
+            args: [found[0], found[1], found[2]],
+        },
+    )
+}
+
+// An operation, a delay or a table.
 fn computed(
     code: &mut Vec<Step>,
     tables: &Tables,
     registers: &[u64],
     own: u64,
+    s: u64,
     node: Signal,
 ) -> Result<u64, AllocError>
     requires tables { AreTables (length registers.now) tables.now }
     requires operands { OperandsWithin (length registers.now) node }
-    ensures { IfOk result (λ w. ComputesNow tables.now registers.now own code.old.items code.new.items node w) }
+    requires signal { s < length registers.now }
+    ensures { IfOk result (λ w. ComputesAt tables.now registers.now own s code.old.items code.new.items node w) }
 {
     match node {
         Signal::Point { op, args } => point(code, tables, registers, own, op, args),
@@ -164,13 +230,10 @@ fn computed(
         Signal::Control(_) => Ok(0),
         Signal::Back { group: _, i: _ } => Ok(0),
         Signal::Member { group: _, i: _ } => Ok(0),
-        Signal::Read { table: _, r: _ } => Ok(0),
-        Signal::Write {
-            table: _,
-            w: _,
-            x: _,
-            r: _,
-        } => Ok(0),
+        Signal::Read { table, r } => read(code, tables, registers, own, table, r),
+        Signal::Write { table, w, x, r } => {
+            written(code, tables, registers, own, s, table, [w, x, r])
+        }
     }
 }
 
@@ -190,7 +253,7 @@ fn own_step(
 {
     let base = tables.bases[s as usize];
     match base {
-        Kind::Inner => computed(code, tables, registers, own, node),
+        Kind::Inner => computed(code, tables, registers, own, s, node),
         _ => operand(code, base, registers, &tables.owners, own, s),
     }
 }

@@ -2,10 +2,9 @@
 
 ghost use Rattle.std.specs.Prelude.{◌≡◌, ℕ, ◌<◌, length, map, All, IfOk, OnOk};
 ghost use Rattle.fv_split_components.specs.headline.Reach.{at};
-ghost use Rattle.fv_signal.specs.headline.Value.{IsOrdered};
+ghost use Rattle.fv_signal.specs.headline.Value.{IsGraph};
 ghost use Rattle.fv_signal.specs.headline.Rates.{rates as rates_of};
 ghost use Rattle.fv_loopcode.specs.Code.{IsWhole};
-ghost use Rattle.fv_split_plan.specs.Separated.{HasNoTables};
 ghost use Rattle.fv_split_plan.specs.inner.Separated.{OperandsWithin};
 ghost use Rattle.fv_split_code.specs.Held.{StepIs, HoldsNow, HoldsIf, HoldsUpTo};
 
@@ -51,7 +50,10 @@ fn held_step(node: Signal, numbers: &[u64]) -> Step
         Signal::Delay { x: _, d: _, max: _ } => Step::Number(0),
         Signal::Back { group: _, i: _ } => Step::Number(0),
         Signal::Member { group: _, i: _ } => Step::Number(0),
-        Signal::Read { table: _, r: _ } => Step::Number(0),
+        Signal::Read { table, r } => Step::Read {
+            table,
+            arg: numbers[r.number() as usize],
+        },
         Signal::Write {
             table: _,
             w: _,
@@ -99,8 +101,7 @@ fn hold_if(
 
 /// The code of the held values, and the number of each.
 pub fn held_code(alloc: Global, graph: &Graph, rates: &Rates) -> Result<HeldValues, AllocError>
-    requires ordered { IsOrdered graph.now }
-    requires tableless { HasNoTables graph.now }
+    requires graph { IsGraph graph.now }
     requires rates { rates.now ≡ rates_of graph.now.signals }
     ensures { IfOk result (λ held. (length held.numbers.items ≡ length graph.now.signals)
         × HoldsUpTo graph.now (length graph.now.signals) held.numbers.items held.steps.items) }

@@ -3,7 +3,7 @@
 use crate::kind::Kind;
 use fv_signal::SignalId;
 
-/// What is known of the signals of a graph, in their order, and of its lanes.
+/// What is known of the signals of a graph, in their order, and of its lanes and cells.
 #[derive(Drop)]
 pub struct Tables {
     /// What each signal stands for.
@@ -14,6 +14,8 @@ pub struct Tables {
     pub kinds: Vec<Kind>,
     /// The lane of each signal, if it has one.
     pub lanes: Vec<Option<u64>>,
+    /// The cells of each signal, if it has some.
+    pub cells: Vec<Option<u64>>,
     /// The loop in whose code each signal is computed, or no loop's number.
     pub homes: Vec<u64>,
     /// The loop of each lane.

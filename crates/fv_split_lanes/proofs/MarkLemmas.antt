@@ -9,13 +9,14 @@ use Rattle.fv_signal.specs.declared.rate.Rate.{Rate}
 use Rattle.fv_signal.specs.headline.Rates.{rates}
 use Rattle.fv_signal.specs.headline.Value.{Graph, IsGraph}
 use Rattle.fv_analysis.specs.headline.Stands.{node, stands_of}
-use Rattle.fv_split_plan.specs.headline.Separated.{ReadsSignal, IsSeparated, AsOutput, AsDelayed, AsDefinition, AsShared}
+use Rattle.fv_split_plan.specs.headline.Separated.{ReadsSignal, IsSeparated, AsOutput, AsDelayed, AsDefinition, AsShared, AsWritten}
+use Rattle.fv_split_plan.specs.Separated.{IsWritten}
 use Rattle.fv_split_lanes.specs.declared.reader.Reader.{Reader}
 use Rattle.fv_split_lanes.specs.declared.reader.Reader.TheVariants.{Nobody, One, Many}
 use Rattle.fv_split_lanes.specs.inner.Rows.{reads_of}
 use Rattle.fv_split_lanes.specs.inner.Homes.{bit_at}
 use Rattle.fv_split_lanes.specs.inner.Readers.{reader_at, IsReader, ReadsBelow, AreReaders}
-use Rattle.fv_split_lanes.specs.inner.Marked.{Marks, ByOne, Named, DelaysTo, Delayed, Defined, Shared, AreMarked}
+use Rattle.fv_split_lanes.specs.inner.Marked.{Marks, ByOne, Named, DelaysTo, Delayed, Defined, Shared, Written, AreMarked}
 use Rattle.fv_split_lanes.proofs.RowLemmas.{leads_read, read_lower}
 
 pub marks_set : (old new : List Bool) (x : ℕ) → x < length old → new ≡ set old x true → Marks old new (λ s. x ≡ s)
@@ -77,6 +78,17 @@ module _ (g : Graph) (graph : IsGraph g) (readers : List Reader) (are : AreReade
   delayed_separated (signal.Read table i) r l e d = absurd d
   delayed_separated (signal.Write table w x i) r l e d = absurd d
 
+  written_separated : (n : Signal) (r : ℕ) → r < length g.signals → node g r ≡ n → IsWritten n → r ≡ s → IsSeparated g s
+  written_separated (signal.Input k) r l e d z = absurd d
+  written_separated (signal.Const k) r l e d z = absurd d
+  written_separated (signal.Control k) r l e d z = absurd d
+  written_separated (signal.Point op args) r l e d z = absurd d
+  written_separated (signal.Delay x d max) r l e y z = absurd y
+  written_separated (signal.Back group i) r l e d z = absurd d
+  written_separated (signal.Member group i) r l e d z = absurd d
+  written_separated (signal.Read table i) r l e d z = absurd d
+  written_separated (signal.Write table w x i) r l e d z = subst (IsSeparated g) z (AsWritten table w x i (record { within = l; is = e }))
+
   pub as_output : ByOne (Named (stands_of g) g.outputs) (length g.outputs) s → IsSeparated g s
   as_output h = AsOutput h.place h.below h.is
 
@@ -91,6 +103,9 @@ module _ (g : Graph) (graph : IsGraph g) (readers : List Reader) (are : AreReade
       let e = h.is.0 in
       let k = subst (IsReader (ReadsBelow (reads_of g) (length g.signals) h.place)) h.is.1.2 (are.each h.place h.below) in
       subst (IsSeparated g) e (AsShared k.0 k.1 h.is.1.0 h.is.1.1 k.2 ((leads_read g k.0 h.place).0 k.3.leads) ((leads_read g k.1 h.place).0 k.4.leads))
+
+  pub as_written : ByOne (Written g) (length g.signals) s → IsSeparated g s
+  as_written h = written_separated (node g h.place) h.place h.below refl h.is.1 h.is.0
 
   many : (q r : ℕ) → q ≢ r → s < length g.signals → ReadsSignal g q s → ReadsSignal g r s → reader_at readers s ≡ Many
   many q r n below a b = go (reader_at readers s) refl
@@ -111,6 +126,7 @@ module _ (g : Graph) (graph : IsGraph g) (readers : List Reader) (are : AreReade
     ByDelay : ByOne (Delayed g (stands_of g)) (length g.signals) s → Why
     ByDefinition : ByOne (Defined g (stands_of g)) (length g.groups) s → Why
     ByShare : ByOne (Shared g (rates g.signals) readers) (length g.signals) s → Why
+    ByWrite : ByOne (Written g) (length g.signals) s → Why
 
   pub why : IsSeparated g s → Why
   why (AsOutput j l e) = ByOutput (record { place = j; below = l; is = e })
@@ -121,15 +137,16 @@ module _ (g : Graph) (graph : IsGraph g) (readers : List Reader) (are : AreReade
       let w = a.within in
       let below : s < length g.signals = omega (arith, z, w) in
       ByShare (record { place = s; below = below; is = (refl, (c, sampled, many q r n below a b)) })
+  why (AsWritten table w x r n) = ByWrite (record { place = s; below = n.within; is = (refl, subst IsWritten (sym n.is) tt) })
 
-pub are_marked : (g : Graph) → IsGraph g → (stands : List ℕ) (often : List Rate) (readers : List Reader) (a b c d e : List Bool) → stands ≡ stands_of g →
+pub are_marked : (g : Graph) → IsGraph g → (stands : List ℕ) (often : List Rate) (readers : List Reader) (a b c d e f : List Bool) → stands ≡ stands_of g →
     often ≡ rates g.signals →
     AreReaders (reads_of g) (length g.signals) (length g.signals) readers → length a ≡ length g.signals → ((s : ℕ) → bit_at a s ≡ false) →
     Marks a b (ByOne (Named stands g.outputs) (length g.outputs)) → Marks b c (ByOne (Delayed g stands) (length g.signals)) →
     Marks c d (ByOne (Defined g stands) (length g.groups)) →
-    Marks d e (ByOne (Shared g often readers) (length g.signals)) → AreMarked g e
-are_marked g graph stands often readers a b c d e es er are long none p0 q0 r0 t0 = record {
-  long = t.long ∙ r.long ∙ q.long ∙ p.long ∙ long;
+    Marks d e (ByOne (Shared g often readers) (length g.signals)) → Marks e f (ByOne (Written g) (length g.signals)) → AreMarked g f
+are_marked g graph stands often readers a b c d e f es er are long none p0 q0 r0 t0 u = record {
+  long = u.long ∙ t.long ∙ r.long ∙ q.long ∙ p.long ∙ long;
   each = λ s. (to s, of s);
 }
   where
@@ -145,8 +162,8 @@ are_marked g graph stands often readers a b c d e es er are long none p0 q0 r0 t
     t : Marks d e (ByOne (Shared g (rates g.signals) readers) (length g.signals))
     t = subst (λ xs. Marks d e (ByOne (Shared g xs readers) (length g.signals))) er t0
 
-    to : (s : ℕ) → bit_at e s ≡ true → IsSeparated g s
-    to s h = elim (t.only s h) [
+    shared : (s : ℕ) → bit_at e s ≡ true → IsSeparated g s
+    shared s h = elim (t.only s h) [
       | inl h3 ↦ elim (r.only s h3) [
         | inl h2 ↦ elim (q.only s h2) [
           | inl h1 ↦ elim (p.only s h1) [ inl h0 ↦ absurd (let z = sym (none s) ∙ h0 in cc) | inr y ↦ as_output g graph readers are s y ]
@@ -157,10 +174,14 @@ are_marked g graph stands often readers a b c d e es er are long none p0 q0 r0 t
       | inr y ↦ as_shared g graph readers are s y
     ]
 
-    of : (s : ℕ) → IsSeparated g s → bit_at e s ≡ true
+    to : (s : ℕ) → bit_at f s ≡ true → IsSeparated g s
+    to s h = elim (u.only s h) [ inl y ↦ shared s y | inr y ↦ as_written g graph readers are s y ]
+
+    of : (s : ℕ) → IsSeparated g s → bit_at f s ≡ true
     of s h = elim (why g graph readers are s h) [
-      | ByOutput y ↦ t.keeps s (r.keeps s (q.keeps s (p.adds s y)))
-      | ByDelay y ↦ t.keeps s (r.keeps s (q.adds s y))
-      | ByDefinition y ↦ t.keeps s (r.adds s y)
-      | ByShare y ↦ t.adds s y
+      | ByOutput y ↦ u.keeps s (t.keeps s (r.keeps s (q.keeps s (p.adds s y))))
+      | ByDelay y ↦ u.keeps s (t.keeps s (r.keeps s (q.adds s y)))
+      | ByDefinition y ↦ u.keeps s (t.keeps s (r.adds s y))
+      | ByShare y ↦ u.keeps s (t.adds s y)
+      | ByWrite y ↦ u.adds s y
     ]

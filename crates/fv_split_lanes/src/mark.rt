@@ -7,10 +7,11 @@ ghost use Rattle.fv_split_components.specs.headline.Reach.{at};
 ghost use Rattle.fv_analysis.specs.headline.Stands.{stands_of};
 ghost use Rattle.fv_analysis.specs.inner.History.{IsOver};
 ghost use Rattle.fv_split_plan.specs.headline.Separated.{IsComputed};
+ghost use Rattle.fv_split_plan.specs.Separated.{IsWritten};
 ghost use Rattle.fv_split_lanes.specs.inner.Rows.{reads_of};
 ghost use Rattle.fv_split_lanes.specs.inner.Homes.{bit_at};
 ghost use Rattle.fv_split_lanes.specs.inner.Readers.{AreReaders};
-ghost use Rattle.fv_split_lanes.specs.inner.Marked.{Marks, ByOne, Named, DelaysTo, Delayed, Defined, Shared, IsSharedBy, AreMarked};
+ghost use Rattle.fv_split_lanes.specs.inner.Marked.{Marks, ByOne, Named, DelaysTo, Delayed, Defined, Shared, IsSharedBy, Written, AreMarked};
 
 use crate::reader::Reader;
 use fv_analysis::Rates;
@@ -141,6 +142,39 @@ fn mark_shared(marks: &mut Vec<bool>, graph: &Graph, rates: &Rates, readers: &[R
     }
 }
 
+// A table that is written.
+fn is_written(node: Signal) -> bool
+    ensures { IsTrue result ↔ IsWritten node }
+{
+    match node {
+        Signal::Write {
+            table: _,
+            w: _,
+            x: _,
+            r: _,
+        } => true,
+        Signal::Input(_) => false,
+        Signal::Const(_) => false,
+        Signal::Control(_) => false,
+        Signal::Point { op: _, args: _ } => false,
+        Signal::Delay { x: _, d: _, max: _ } => false,
+        Signal::Back { group: _, i: _ } => false,
+        Signal::Member { group: _, i: _ } => false,
+        Signal::Read { table: _, r: _ } => false,
+    }
+}
+
+// Marks the tables that are written.
+fn mark_written(marks: &mut Vec<bool>, graph: &Graph)
+    requires { length marks.old.items ≡ length graph.now.signals }
+    ensures { Marks marks.old.items marks.new.items (ByOne (Written graph.now) (length graph.now.signals)) }
+{
+    for k in 0..graph.len() {
+        let written = is_written(graph.signal(SignalId::new(k)));
+        mark_where(marks, k, written);
+    }
+}
+
 /// Which signals are separated.
 pub(crate) fn separated(
     alloc: Global,
@@ -161,5 +195,6 @@ pub(crate) fn separated(
     mark_delays(&mut marks, stands, graph);
     mark_groups(&mut marks, stands, graph);
     mark_shared(&mut marks, graph, rates, readers);
+    mark_written(&mut marks, graph);
     Ok(marks)
 }

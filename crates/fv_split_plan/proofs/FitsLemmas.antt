@@ -1,7 +1,7 @@
--- Code that fits obeys the values of its lanes' signals.
+-- Code that fits obeys the values of the signals of its lanes and cells.
 use Rattle.std.proofs.Common.{◌≡◌, ℕ, zero, suc, ◌-◌, ◌<◌, ◌≤◌, List, [], ◌∷◌, ◌++◌, length, take, get_or, map, refl, sym, ap, ap₂, ◌∙◌, subst, arith, inl, inr}
 use Rattle.std.proofs.Common.{All, ℤ, pos, negsuc, Bool, true, false, nat_le, if◌then◌else◌}
-use Rattle.std.proofs.lemmas.List.{map-append}
+use Rattle.std.proofs.lemmas.List.{map-append, length-set}
 use Rattle.std.proofs.lemmas.List.Elements.{All-head, All-tail, All-take}
 use Rattle.std.proofs.lemmas.Bool.{cond-true, le-leb}
 use Rattle.std.proofs.lemmas.Int.{ints}
@@ -9,19 +9,22 @@ use Rattle.fv_num.specs.headline.Words.{argument, apply_of, inputs_of}
 use Rattle.std.specs.Int.{int_max}
 use Rattle.fv_num.specs.declared.op.Op.{Op}
 use Rattle.fv_num.specs.headline.Frames.{Frame, Stream, column, back, delayed}
+use Rattle.fv_num.specs.headline.Tables.{place, read_at, written_at, written, after}
+use Rattle.fv_num.proofs.Tables.{lists_the_last}
 use Rattle.fv_signal.specs.declared.signal.Signal.{Signal}
 use Rattle.fv_signal.specs.declared.signal.Signal.TheVariants as signal
-use Rattle.fv_signal.specs.headline.Value.{Graph, definition, clamped, signal_at, value, IsOrdered}
+use Rattle.fv_signal.specs.headline.Value.{Graph, definition, table_of, clamped, signal_at, value, IsOrdered}
 use Rattle.fv_signal.proofs.Values.{values_are_given}
 use Rattle.fv_loopcode.specs.declared.step.Step.{Step}
 use Rattle.fv_loopcode.specs.declared.step.Step.TheVariants as step
 use Rattle.fv_loopcode.specs.headline.Lanes.{back_by}
+use Rattle.fv_loopcode.specs.headline.State.{Finds}
 use Rattle.fv_loopcode.specs.headline.Code.{step_value}
-use Rattle.fv_loopcode.specs.headline.Obeys.{Roles, Place, nothing, done_after, StepObeys, Obeys}
-use Rattle.fv_analysis.specs.headline.Stands.{stand, StandsAt}
-use Rattle.fv_split_plan.specs.headline.Fits.{Names}
-use Rattle.fv_split_plan.specs.Fits.{Mean, Value, Literal, mean_at, LoadFits, OfDelay, OfBack, OfNow, PointFits, OfPoint, OfStill, StepFits, CodeFits}
-use Rattle.fv_split_plan.specs.Fits.{CodesObey}
+use Rattle.fv_loopcode.specs.headline.Obeys.{Roles, Place, nothing, done_after, flowing, flowing_next, StepObeys, Obeys}
+use Rattle.fv_analysis.specs.headline.Stands.{node, stand, StandsAt}
+use Rattle.fv_split_plan.specs.headline.Fits.{Names, flows, written_by}
+use Rattle.fv_split_plan.specs.Fits.{Mean, Value, Literal, mean_at, LoadFits, OfDelay, OfBack, OfNow, PointFits, OfPoint, OfStill}
+use Rattle.fv_split_plan.specs.Fits.{ReadFits, WriteFits, StepFits, CodeFits, CodesObey}
 use Rattle.fv_analysis.proofs.StandLemmas.{stands_alike}
 
 -- the delay is the clamp
@@ -54,12 +57,30 @@ map_all : {A : Type 0} (P : A → Type 0) (f h : A → ℤ) (ws : List A) → Al
 map_all P f h [] a e = refl
 map_all P f h (w ∷ ws) a e = ap₂ (λ x y. x ∷ y) (e w (All-head P w ws a)) (map_all P f h ws (All-tail P w ws a) e)
 
+-- a table that was written has as many numbers as before
+long_after : (T : List ℤ) (w x : Stream) (t : ℕ) → length (after T w x t) ≡ length T
+long_after T w x zero = refl
+long_after T w x (suc t) = length-set (after T w x t) (place (length (after T w x t)) (w t)) (x t) ∙ long_after T w x t
+
+place_within : (n : ℕ) (z : ℤ) → 0 < n → place n z < n
+place_within n (pos i) l = omega arith
+place_within n (negsuc i) l = l
+
+-- what is read of a table after the write of a time
+read_after : (T : List ℤ) (w x : Stream) (t : ℕ) (z : ℤ) → 0 < length T → read_at (after T w x (suc t)) z ≡ written_at T w x t z
+read_after T w x t z l =
+    ap (λ n. argument (after T w x (suc t)) (place n z)) (long_after T w x (suc t))
+    ∙ lists_the_last T w x (place (length T) z) t (place_within (length T) z l)
+
 module _ (g : Graph) (ordered : IsOrdered g) (p : Names) (r : Roles) (X : List Frame) (c : ℕ → Stream) (t : ℕ) where
   abbrev v : ℕ → Stream
   v s u = value g s X c u
 
-  abbrev load : ℕ → ℕ → ℤ
-  load l b = back (v (p.lane l)) t (pos b)
+  abbrev find : Finds
+  find = flowing (flows g p X c) t
+
+  abbrev next : ℕ → List ℤ
+  next = flowing_next (flows g p X c) t
 
   abbrev held : ℕ → ℤ
   held k = v (p.held k) t
@@ -88,8 +109,8 @@ module _ (g : Graph) (ordered : IsOrdered g) (p : Names) (r : Roles) (X : List F
 
   -- what a step that fits gives, and that it obeys
   record StepGives (done : Place → Bool) (ms : List Mean) (s : Step) (m : Mean) : Type 0 where
-    obeys : StepObeys r p.history load done (argument (map meant ms)) s
-    gives : step_value held input load (argument (map meant ms)) s ≡ meant m
+    obeys : StepObeys r p.history find next done (argument (map meant ms)) s
+    gives : step_value held input find (argument (map meant ms)) s ≡ meant m
 
   load_gives : (done : Place → Bool) (ms : List Mean) (l b max : ℕ) (m : Mean) → r.loaded l ≡ true → LoadFits g p r done ms l b max m →
       StepGives done ms (step.Load l b max) m
@@ -161,6 +182,40 @@ module _ (g : Graph) (ordered : IsOrdered g) (p : Names) (r : Roles) (X : List F
       greater : (y : ℤ) → int_max y y ≡ y
       greater y = grind (arith, ints)
 
+  -- a read's step
+  read_gives : (done : Place → Bool) (ms : List Mean) (table arg : ℕ) (m : Mean) → ReadFits g r ms table arg m → StepGives done ms (step.Read table arg) m
+  unfolding meant
+  read_gives done ms table arg m h =
+      let q : argument (map meant ms) arg ≡ v h.place t = register ms arg ∙ ap meant h.operand ∙ stands h.place h.within t in
+      record {
+        obeys = (h.may, h.items);
+        gives = ap (read_at (table_of g table)) q ∙ sym (node_is h.reader (signal.Read table h.place) h.stands t) ∙ sym (ap meant h.is);
+      }
+
+  -- a write's step
+  write_gives : (done : Place → Bool) (ms : List Mean) (cells : ℕ) (args : List ℕ) (m : Mean) → WriteFits g p r done ms cells args m →
+      StepGives done ms (step.Write cells args) m
+  unfolding meant
+  write_gives done ms cells args m h =
+      let T = table_of g h.table in
+      let xs : map (argument (map meant ms)) args ≡ v h.w t ∷ v h.x t ∷ v h.place t ∷ [] =
+      map_same_register ms args ∙ sym (map_map meant (mean_at ms) args) ∙ ap (map meant) h.operands
+      ∙ ap₂ (λ a b. a ∷ b) (stands h.w h.w_within t) (ap₂ (λ a b. a ∷ b ∷ []) (stands h.x h.x_within t) (stands h.place h.place_within t)) in
+      let here : (u : ℕ) → written_by g X c (node g (p.cells cells)) u ≡ after T (v h.w) (v h.x) u = λ u. ap (λ n. written_by g X c n u) h.stands.is in
+      record {
+        obeys = (
+          h.own,
+          h.waits,
+          subst (λ n. 0 < n) (sym (ap length (here t) ∙ long_after T (v h.w) (v h.x) t)) h.items,
+          here (suc t) ∙ sym (ap₂ (λ ys zs. written ys (argument zs 0) (argument zs 1)) (here t) xs),
+        );
+        gives =
+            ap₂ (λ ys zs. read_at (written ys (argument zs 0) (argument zs 1)) (argument zs 2)) (here t) xs
+            ∙ read_after T (v h.w) (v h.x) t (v h.place t) h.items
+            ∙ sym (node_is (p.cells cells) (signal.Write h.table h.w h.x h.place) h.stands t)
+            ∙ sym (ap meant h.is);
+      }
+
   step_gives : (done : Place → Bool) (ms : List Mean) (s : Step) (m : Mean) → StepFits g p r done ms s m → StepGives done ms s m
   unfolding meant
   step_gives done ms (step.Number n) m (inl h) = record { obeys = tt; gives = sym (ap meant h) }
@@ -172,14 +227,16 @@ module _ (g : Graph) (ordered : IsOrdered g) (p : Names) (r : Roles) (X : List F
   step_gives done ms (step.Append l a) m h =
       let q : argument (map meant ms) a ≡ v (p.lane l) t = register ms a ∙ ap meant h.2 in
       record { obeys = (h.0, h.1, back_now (v (p.lane l)) t ∙ sym q); gives = q ∙ sym (ap meant h.3) }
+  step_gives done ms (step.Read table arg) m h = read_gives done ms table arg m h
+  step_gives done ms (step.Write cells args) m h = write_gives done ms cells args m h
 
   code_obeys : (done : Place → Bool) (ms : List Mean) (steps : List Step) →
-      CodeFits g p r done ms steps → Obeys r p.history load held input done (map meant ms) steps
+      CodeFits g p r done ms steps → Obeys r p.history find next held input done (map meant ms) steps
   code_obeys done ms [] h = h
   code_obeys done ms (s ∷ ss) h =
       let q = step_gives done ms s h.0 h.1 in (
         q.obeys,
-        subst (λ now. Obeys r p.history load held input (done_after done s) now ss) (map-append meant ms (h.0 ∷ [])
+        subst (λ now. Obeys r p.history find next held input (done_after done s) now ss) (map-append meant ms (h.0 ∷ [])
             ∙ ap (λ z. map meant ms ++ z ∷ []) (sym q.gives)) (code_obeys (done_after done s) (ms ++ h.0 ∷ []) ss h.2),
       )
 

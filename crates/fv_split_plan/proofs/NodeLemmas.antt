@@ -1,12 +1,11 @@
 -- Nodes of a graph: one that is read, and operands that are there.
-use Rattle.std.proofs.Common.{◌≡◌, ℕ, ◌<◌, ◌≤◌, ℤ, List, [], length, get_or, subst, arith, pos}
+use Rattle.std.proofs.Common.{◌≡◌, ℕ, zero, suc, ◌<◌, ◌≤◌, ℤ, List, [], ◌∷◌, length, get_or, subst, arith, pos}
 use Rattle.std.proofs.lemmas.List.{get_or_read}
 use Rattle.std.proofs.lemmas.List.Elements.{All-weaker}
 use Rattle.fv_signal.specs.declared.signal.Signal.{Signal}
 use Rattle.fv_signal.specs.declared.signal.Signal.TheVariants.{Input, Const, Control, Point, Delay, Back, Member, Read, Write}
-use Rattle.fv_signal.specs.headline.Value.{Graph, OperandsBelow, NamesWithin, IsGraph}
+use Rattle.fv_signal.specs.headline.Value.{Graph, OperandsBelow}
 use Rattle.fv_analysis.specs.headline.Stands.{node}
-use Rattle.fv_split_plan.specs.Separated.{IsTabled, HasNoTables}
 use Rattle.fv_split_plan.specs.inner.Separated.{OperandsWithin}
 
 -- a signal that was read
@@ -25,14 +24,8 @@ operands_within g s n (Member group i) l b = tt
 operands_within g s n (Read table r) l b = omega (arith, b)
 operands_within g s n (Write table w x r) l b = (omega (arith, b.0), omega (arith, b.1), omega (arith, b.2))
 
--- no signal names a table where there is none
-pub no_tables : (g : Graph) → IsGraph g → g.tables ≡ [] → HasNoTables g
-no_tables g whole none s l t = go (node g s) (whole.closed s (Const (pos 0)) l) t
-  where
-    unlisted : (table : ℕ) → 0 < length (get_or g.tables table []) → ⊥
-    unlisted table w = let z : 0 < length (get_or {A = List ℤ} [] table []) = subst (λ (ts : List (List ℤ)). 0 < length (get_or ts table [])) none w in omega (arith, z)
-
-    go : (n : Signal) → NamesWithin g n → IsTabled n → ⊥
-    go (Read table r) w t = unlisted table w
-    go (Write table a x r) w t = unlisted table w
-    go n w t = t
+-- a list that has an item is there
+pub listed : (lists : List (List ℤ)) (k : ℕ) → 0 < length (get_or lists k []) → k < length lists
+listed [] k h = absurd (omega (arith, h))
+listed (xs ∷ xss) zero h = omega arith
+listed (xs ∷ xss) (suc k) h = let z = listed xss k h in omega (arith, z)

@@ -5,7 +5,7 @@ use Rattle.std.proofs.lemmas.Bool.{and_parts, and_right, cases_eq, eq-eqb, eqb-t
 use Rattle.fv_num.specs.headline.Frames.{column}
 use Rattle.fv_signal.specs.headline.Value.{Graph, value}
 use Rattle.fv_split_components.specs.headline.Reach.{at}
-use Rattle.fv_loopcode.specs.headline.Obeys.{Place, OfLane}
+use Rattle.fv_loopcode.specs.headline.Obeys.{Place, OfLane, OfCells}
 use Rattle.fv_loopcode.specs.Obeys.{IsAmong, ObeysAt, window}
 use Rattle.fv_loopcode.proofs.Tasks.{tasks_are_done}
 use Rattle.fv_loopcode.proofs.Streams.{streams_obey}
@@ -14,7 +14,7 @@ use Rattle.fv_analysis.specs.headline.History.{history_of}
 use Rattle.fv_analysis.specs.History.{HasReason, OfDelay, OfBack}
 use Rattle.fv_analysis.proofs.HistoryLemmas.{histories_cover}
 use Rattle.fv_split_plan.specs.headline.Fits.{flows}
-use Rattle.fv_split_plan.specs.headline.View.{PlanView, lane_info, code_of, roles_of}
+use Rattle.fv_split_plan.specs.headline.View.{PlanView, lane_info, cells_info, code_of, roles_of}
 use Rattle.fv_split_plan.specs.Tasks.{DoesTasks, PlansAreApart, OutputsNeedLoops, HistoriesWithin}
 
 pub plans_do_tasks : (g : Graph) (p : PlanView) → DoesTasks g p
@@ -32,27 +32,32 @@ plans_do_tasks g p s X c start from count rest j held inputs state l eh ei ready
         (λ i. column X i (start + (from + n))) start (from + n) (code_of p j)
         (s.obeys j l X c (start + (from + n))))
 
--- ---- lanes of their own
+-- ---- lanes and cells of their own
 
 -- the loop of a place
 abbrev pub owner_of : PlanView → Place → ℕ
 owner_of p (OfLane l) = (lane_info p l).owner
+owner_of p (OfCells k) = (cells_info p k).owner
 
 -- what it says that a loop owns a place
 pub record Owns (p : PlanView) (j : ℕ) (q : Place) : Type 0 where
-  pub within : IsAmong (length p.lanes) q
+  pub within : IsAmong (length p.lanes) (length p.cells) q
   pub is : owner_of p q ≡ j
 
 pub owns : (p : PlanView) (j : ℕ) (q : Place) → (roles_of p j).own q ≡ true → Owns p j q
 owns p j (OfLane l) e =
     let both = and_parts (nat_lt l (length p.lanes)) (nat_eq (lane_info p l).owner j) e in
     record { within = ltb-true l (length p.lanes) both.0; is = eqb-true (lane_info p l).owner j both.1 }
+owns p j (OfCells k) e =
+    let both = and_parts (nat_lt k (length p.cells)) (nat_eq (cells_info p k).owner j) e in
+    record { within = ltb-true k (length p.cells) both.0; is = eqb-true (cells_info p k).owner j both.1 }
 
 pub own_of : (p : PlanView) (j l : ℕ) → l < length p.lanes → (lane_info p l).owner ≡ j → (roles_of p j).own (OfLane l) ≡ true
 own_of p j l h e = ap (λ b. b && nat_eq (lane_info p l).owner j) (lt-ltb l (length p.lanes) h) ∙ eq-eqb (lane_info p l).owner j e
 
 not_own : (p : PlanView) (k : ℕ) (q : Place) → (owner_of p q ≡ k → ⊥) → (roles_of p k).own q ≡ false
 not_own p k (OfLane l) d = and_right (nat_lt l (length p.lanes)) (nat_eq (lane_info p l).owner k) (ne_eqb (lane_info p l).owner k d)
+not_own p k (OfCells c) d = and_right (nat_lt c (length p.cells)) (nat_eq (cells_info p c).owner k) (ne_eqb (cells_info p c).owner k d)
 
 pub plans_are_apart : PlansAreApart
 plans_are_apart p r = record {

@@ -5,10 +5,10 @@ use Rattle.fv_num.specs.declared.op.Op.{Op}
 use Rattle.fv_num.specs.declared.op.Op.TheVariants.{Max}
 use Rattle.fv_num.specs.headline.Frames.{Frame, Stream, column}
 use Rattle.fv_signal.specs.declared.signal.Signal.TheVariants as signal
-use Rattle.fv_signal.specs.headline.Value.{Graph, definition, value, IsOrdered}
+use Rattle.fv_signal.specs.headline.Value.{Graph, definition, table_of, value, IsOrdered}
 use Rattle.fv_loopcode.specs.declared.step.Step.{Step}
 use Rattle.fv_loopcode.specs.declared.step.Step.TheVariants as step
-use Rattle.fv_loopcode.specs.headline.Obeys.{Roles, Place, OfLane, nothing, done_after, ObeysStreams}
+use Rattle.fv_loopcode.specs.headline.Obeys.{Roles, Place, OfLane, OfCells, nothing, done_after, ObeysStreams}
 use Rattle.fv_analysis.specs.headline.Stands.{stand, StandsAt}
 use Rattle.fv_split_plan.specs.headline.Fits.{Names, flows}
 
@@ -40,6 +40,33 @@ pub data PointFits (g : Graph) (ms : List Mean) (op : Op) (args : List ℕ) (m :
   OfStill : (s x d w : ℕ) → StandsAt g s (signal.Delay x d 0) → x < length g.signals → op ≡ Max → args ≡ w ∷ w ∷ w ∷ w ∷ [] →
       mean_at ms w ≡ Value (stand g x) → m ≡ Value s → PointFits g ms op args m
 
+-- What a read is for: an item of the graph's table of this number.
+pub record ReadFits (g : Graph) (r : Roles) (ms : List Mean) (table arg : ℕ) (m : Mean) : Type 0 where
+  pub may : r.tables table ≡ true
+  pub items : 0 < length (table_of g table)
+  pub reader : ℕ
+  pub place : ℕ
+  pub stands : StandsAt g reader (signal.Read table place)
+  pub within : place < length g.signals
+  pub operand : mean_at ms arg ≡ Value (stand g place)
+  pub is : m ≡ Value reader
+
+-- What a write is for: the table that is written whose cells these are.
+pub record WriteFits (g : Graph) (p : Names) (r : Roles) (done : Place → Bool) (ms : List Mean) (cells : ℕ) (args : List ℕ) (m : Mean) : Type 0 where
+  pub own : r.own (OfCells cells) ≡ true
+  pub waits : done (OfCells cells) ≡ false
+  pub table : ℕ
+  pub items : 0 < length (table_of g table)
+  pub w : ℕ
+  pub x : ℕ
+  pub place : ℕ
+  pub stands : StandsAt g (p.cells cells) (signal.Write table w x place)
+  pub w_within : w < length g.signals
+  pub x_within : x < length g.signals
+  pub place_within : place < length g.signals
+  pub operands : map (mean_at ms) args ≡ Value (stand g w) ∷ Value (stand g x) ∷ Value (stand g place) ∷ []
+  pub is : m ≡ Value (p.cells cells)
+
 -- a signal has this value at all times, whatever it hears
 abbrev pub IsAlways : Graph → ℕ → ℤ → Type 0
 IsAlways g s n = (X : List Frame) (c : ℕ → Stream) (t : ℕ) → value g s X c t ≡ n
@@ -53,13 +80,15 @@ StepFits g p r done ms (step.Point op args) m = PointFits g ms op args m
 StepFits g p r done ms (step.Load lane back max) m = (r.loaded lane ≡ true) × LoadFits g p r done ms lane back max m
 StepFits g p r done ms (step.Append lane value) m =
     (r.own (OfLane lane) ≡ true) × (done (OfLane lane) ≡ false) × (mean_at ms value ≡ Value (p.lane lane)) × (m ≡ Value (p.lane lane))
+StepFits g p r done ms (step.Read table arg) m = ReadFits g r ms table arg m
+StepFits g p r done ms (step.Write cells args) m = WriteFits g p r done ms cells args m
 
 -- each step has a use, and in the end each place of the code's own was changed
 abbrev pub CodeFits : Graph → Names → Roles → (done : Place → Bool) → List Mean → List Step → Type 0
 CodeFits g p r done ms [] = (q : Place) → r.own q ≡ true → done q ≡ true
 CodeFits g p r done ms (s ∷ ss) = (m : Mean) × StepFits g p r done ms s m × CodeFits g p r (done_after done s) (ms ++ m ∷ []) ss
 
--- code that fits obeys the values of its lanes' signals
+-- code that fits obeys the values of the signals of its lanes and cells
 abbrev pub CodesObey : Graph → Type 0
 CodesObey g =
     IsOrdered g → (p : Names) (r : Roles) (steps : List Step) → CodeFits g p r nothing [] steps → (X : List Frame) (c : ℕ → Stream) (t : ℕ) →

@@ -15,7 +15,7 @@ use Rattle.fv_split_plan.specs.headline.Fits.{flows}
 use Rattle.fv_split_plan.specs.headline.Plans.{PlanStands, PlanReads}
 
 -- The property of each task: where a block starts at time start, its inputs are those of X and its held values those of the
--- samples of this task, and the lanes hold what they are to hold before the task, the code may run, and they do after it.
+-- samples of this task, and lanes and cells hold what they are to hold before the task, the code may run, and they do after it.
 abbrev pub DoesTasks : Graph → PlanView → Type 0
 DoesTasks g p =
     (s : PlanStands g p) (X : List Frame) (c : ℕ → Stream) (start from count rest j : ℕ) (held : ℕ → ℤ) (inputs : ℕ → ℕ → ℤ) (state : State) →
@@ -27,9 +27,9 @@ DoesTasks g p =
     × IsTaskDone (roles_of p j) (window s.names.history (flows g s.names X c) start) (from + count) rest state (ran
     (code_of p j) held inputs from count state)
 
--- a plan's loops have lanes of their own, and load no others but those of loops that they are told to read
+-- a plan's loops have lanes and cells of their own, and load no other lanes but those of loops that they are told to read
 abbrev pub PlansAreApart : Type 0
-PlansAreApart = (p : PlanView) → PlanReads p → AreApart (loops_of p) (length p.lanes)
+PlansAreApart = (p : PlanView) → PlanReads p → AreApart (loops_of p) (length p.lanes) (length p.cells)
 
 -- a plan of a program with outputs has a loop
 abbrev pub OutputsNeedLoops : Graph → PlanView → Type 0

@@ -5,7 +5,7 @@ ghost use Rattle.fv_split_plan.specs.Fits.{CodesObey};
 ghost use Rattle.fv_split_plan.specs.headline.View.{PlanView};
 ghost use Rattle.fv_split_plan.specs.Tasks.{DoesTasks, PlansAreApart, OutputsNeedLoops, HistoriesWithin};
 
-/// Code that fits obeys the values of its lanes' signals.
+/// Code that fits obeys the values of the signals of its lanes and cells.
 pub fn codes_obey()
     ensures { (g : Graph) → CodesObey g }
 {}
@@ -15,7 +15,7 @@ pub fn plans_do_tasks()
     ensures { (g : Graph) (p : PlanView) → DoesTasks g p }
 {}
 
-/// Each lane of a plan has one loop, and a loop loads its own lanes and those of loops that it is told to read.
+/// Each lane and each cells of a plan have one loop, and a loop loads its own lanes and those of loops that it is told to read.
 pub fn plans_are_apart()
     ensures { PlansAreApart }
 {}

@@ -5,6 +5,6 @@ mod lane;
 mod laws;
 mod plan;
 
-pub use lane::LaneInfo;
+pub use lane::{CellsInfo, LaneInfo};
 pub use laws::{codes_obey, histories_within, outputs_need_loops, plans_are_apart, plans_do_tasks};
 pub use plan::Plan;

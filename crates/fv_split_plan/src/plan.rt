@@ -1,21 +1,24 @@
 // Plans.
 
 ghost use Rattle.std.specs.Prelude.{◌≡◌, ◌<◌, length};
+ghost use Rattle.fv_loopcode.specs.headline.State.{list_at};
 ghost use Rattle.fv_split_plan.specs.headline.View.{code_of};
 ghost use Rattle.fv_split_plan.specs.Plans.{IsPlan};
-ghost use Rattle.fv_split_plan.specs.Rows.{plan_with};
+ghost use Rattle.fv_split_plan.specs.Rows.{lists_of, plan_with};
 
-use crate::lane::LaneInfo;
+use crate::lane::{CellsInfo, LaneInfo};
 use fv_loopcode_machine::Code;
 use fv_outside::Reads;
 use std::marker::Model;
 
-/// The loops of a graph: their lanes and code, which of them read lanes of which others, the lane of each of the program's
-/// outputs, and the code of the held values. It stands for some graph.
+/// The loops of a graph: their lanes, tables, cells and code, which of them read lanes of which others, the lane of each of the
+/// program's outputs, and the code of the held values. It stands for some graph.
 #[derive(Drop)]
 pub struct Plan {
     loops: u64,
     lanes: Vec<LaneInfo>,
+    tables: Vec<Vec<i32>>,
+    cells: Vec<CellsInfo>,
     codes: Vec<Code>,
     reads: Vec<Reads>,
     outputs: Vec<u64>,
@@ -25,13 +28,13 @@ pub struct Plan {
 impl Model for Plan {
     ghost use Rattle.fv_split_plan.specs.headline.View.{PlanView};
     ghost use Rattle.fv_split_plan.specs.Plans.{IsPlan};
-    ghost use Rattle.fv_split_plan.specs.Rows.{plan_with};
+    ghost use Rattle.fv_split_plan.specs.Rows.{lists_of, plan_with};
 
     ghost Value = { PlanView };
 
-    ghost view = { λ a. plan_with a.loops a.lanes.items a.codes.items a.reads.items a.outputs.items a.held };
+    ghost view = { λ a. plan_with a.loops a.lanes.items (lists_of a.tables.items) a.cells.items a.codes.items a.reads.items a.outputs.items a.held };
 
-    ghost invariant = { λ a. IsPlan (plan_with a.loops a.lanes.items a.codes.items a.reads.items a.outputs.items a.held) };
+    ghost invariant = { λ a. IsPlan (plan_with a.loops a.lanes.items (lists_of a.tables.items) a.cells.items a.codes.items a.reads.items a.outputs.items a.held) };
 }
 
 impl Plan {
@@ -39,17 +42,21 @@ impl Plan {
     pub fn new(
         loops: u64,
         lanes: Vec<LaneInfo>,
+        tables: Vec<Vec<i32>>,
+        cells: Vec<CellsInfo>,
         codes: Vec<Code>,
         reads: Vec<Reads>,
         outputs: Vec<u64>,
         held: Code,
     ) -> Plan
-        requires { IsPlan (plan_with loops lanes.items codes.items reads.items outputs.items held) }
-        ensures { result ≡ plan_with loops lanes.items codes.items reads.items outputs.items held }
+        requires { IsPlan (plan_with loops lanes.items (lists_of tables.items) cells.items codes.items reads.items outputs.items held) }
+        ensures { result ≡ plan_with loops lanes.items (lists_of tables.items) cells.items codes.items reads.items outputs.items held }
     {
         Plan {
             loops,
             lanes,
+            tables,
+            cells,
             codes,
             reads,
             outputs,
@@ -85,6 +92,28 @@ impl Plan {
         ensures { result.now ≡ self.now.lanes }
     {
         &self.lanes
+    }
+
+    /// The number of its tables.
+    pub fn tables(&self) -> u64
+        ensures { result ≡ length self.now.tables }
+    {
+        self.tables.len() as u64
+    }
+
+    /// The numbers of a table.
+    pub fn table(&self, table: u64) -> &[i32]
+        requires { table < length self.now.tables }
+        ensures { result.now ≡ list_at self.now.tables table }
+    {
+        &self.tables[table as usize]
+    }
+
+    /// The loop and the table of each cells.
+    pub fn cells(&self) -> &[CellsInfo]
+        ensures { result.now ≡ self.now.cells }
+    {
+        &self.cells
     }
 
     /// The lane of each of the program's outputs.

@@ -24,7 +24,7 @@ const EXTENSIBLE: u16 = 65534;
 const PLAIN_SAMPLES: [u8; 16] = [1, 0, 0, 0, 0, 0, 16, 0, 128, 0, 0, 170, 0, 56, 155, 113];
 
 // The tag of a format of this size, whose body begins here.
-#[tactic(auto, unfolding(crate::specs::Reading::tag_at))]
+#[tactic(auto, unfolding(crate::specs::headline::Reading::tag_at))]
 fn read_tag<D: Desk>(desk: &mut D, place: u64, size: u32) -> Result<u16, WaveRefusal>
     requires low { 4 ≤ place }
     requires high { place < 2 ^ 62 }

@@ -10,7 +10,7 @@ use byteorder::{ByteOrder, LittleEndian};
 use fv_outside::{Desk, Role, fill, skip};
 
 /// Fills `to` with the next bytes.
-#[tactic(auto, unfolding(crate::specs::Reading::next, crate::specs::Reading::past))]
+#[tactic(auto, unfolding(crate::specs::headline::Reading::next, crate::specs::headline::Reading::past))]
 pub fn take_all<D: Desk>(desk: &mut D, place: u64, to: &mut [u8]) -> Result<(), WaveRefusal>
     requires { place + length to.old < 2 ^ 64 }
     ensures ok { IfOk result (λ _. Passes (length to.new)
@@ -29,7 +29,7 @@ pub fn take_all<D: Desk>(desk: &mut D, place: u64, to: &mut [u8]) -> Result<(), 
 }
 
 /// Passes over the next `count` bytes.
-#[tactic(auto, unfolding(crate::specs::Reading::past))]
+#[tactic(auto, unfolding(crate::specs::headline::Reading::past))]
 pub fn pass<D: Desk>(desk: &mut D, place: u64, count: u64) -> Result<(), WaveRefusal>
     requires { place + count < 2 ^ 64 }
     ensures ok { IfOk result (λ _. Passes count
@@ -45,7 +45,7 @@ pub fn pass<D: Desk>(desk: &mut D, place: u64, count: u64) -> Result<(), WaveRef
 }
 
 /// The number in the next two bytes.
-#[tactic(auto, unfolding(crate::specs::Reading::number, crate::specs::Reading::next, crate::specs::Reading::past))]
+#[tactic(auto, unfolding(crate::specs::headline::Reading::number, crate::specs::headline::Reading::next, crate::specs::headline::Reading::past))]
 pub fn read_u16<D: Desk>(desk: &mut D, place: u64) -> Result<u16, WaveRefusal>
     requires { place + 2 < 2 ^ 64 }
     ensures ok { IfOk result (λ n. Passes 2
@@ -59,7 +59,7 @@ pub fn read_u16<D: Desk>(desk: &mut D, place: u64) -> Result<u16, WaveRefusal>
 }
 
 /// The number in the next four bytes.
-#[tactic(auto, unfolding(crate::specs::Reading::number, crate::specs::Reading::next, crate::specs::Reading::past))]
+#[tactic(auto, unfolding(crate::specs::headline::Reading::number, crate::specs::headline::Reading::next, crate::specs::headline::Reading::past))]
 pub fn read_u32<D: Desk>(desk: &mut D, place: u64) -> Result<u32, WaveRefusal>
     requires { place + 4 < 2 ^ 64 }
     ensures ok { IfOk result (λ n. Passes 4

@@ -9,6 +9,7 @@ use Rattle.fv_signal.specs.headline.Value.{Graph, members}
 use Rattle.fv_split_components.specs.headline.Reach.{at}
 use Rattle.fv_analysis.specs.headline.Stands.{node}
 use Rattle.fv_split_plan.specs.headline.Separated.{IsComputed, IsSeparated}
+use Rattle.fv_split_plan.specs.Separated.{IsWritten}
 use Rattle.fv_split_lanes.specs.declared.reader.Reader.{Reader}
 use Rattle.fv_split_lanes.specs.declared.reader.Reader.TheVariants.{Many}
 use Rattle.fv_split_lanes.specs.inner.Homes.{bit_at}
@@ -58,6 +59,10 @@ IsSharedBy node often reader = IsComputed node × (often ≡ rate.Sample) × (re
 -- signal k is s, and it is so
 abbrev pub Shared : Graph → List Rate → List Reader → ℕ → ℕ → Type 0
 Shared g rates readers k s = (k ≡ s) × IsSharedBy (node g k) (rate_at rates k) (reader_at readers k)
+
+-- signal k is s, and a table that is written
+abbrev pub Written : Graph → ℕ → ℕ → Type 0
+Written g k s = (k ≡ s) × IsWritten (node g k)
 
 -- just the separated signals are marked
 pub record AreMarked (g : Graph) (marks : List Bool) : Type 0 where

@@ -10,13 +10,13 @@ use Rattle.fv_split_components.specs.headline.Reach.{at, Reaches}
 use Rattle.fv_loopcode.specs.declared.step.Step.{Step}
 use Rattle.fv_loopcode.specs.declared.step.Step.TheVariants as step
 use Rattle.fv_loopcode.specs.headline.Code.{registers_after, NamesHeld, NamesInput, IsStill}
-use Rattle.fv_loopcode.specs.headline.State.{lanes_alone}
+use Rattle.fv_loopcode.specs.headline.State.{State, list_at}
 use Rattle.fv_loopcode.specs.headline.Obeys.{ObeysStreams}
 use Rattle.fv_analysis.specs.headline.Stands.{stand, StandsAt}
 use Rattle.fv_analysis.specs.headline.History.{history_of}
 use Rattle.fv_split_plan.specs.headline.Separated.{IsSeparated, links_of}
 use Rattle.fv_split_plan.specs.headline.Fits.{Names, flows}
-use Rattle.fv_split_plan.specs.headline.View.{PlanView, lane_info, code_of, roles_of}
+use Rattle.fv_split_plan.specs.headline.View.{PlanView, lane_info, cells_info, code_of, roles_of}
 
 -- each lane names one separated signal and has its history, and each separated signal has a lane
 pub record LanesStand (g : Graph) (p : PlanView) (names : Names) : Type 0 where
@@ -37,21 +37,36 @@ pub record LoopsStand (g : Graph) (p : PlanView) (names : Names) : Type 0 where
   pub order : (l m : ℕ) → l < length p.lanes → m < length p.lanes → Reaches (links_of g) (names.lane l) (names.lane m) →
       (lane_info p m).owner ≤ (lane_info p l).owner
 
+-- The tables are the graph's. Each cells names one table that is written, whose list it begins with, and belongs to the loop of that
+-- signal's lane; and each table that is written has cells.
+pub record CellsStand (g : Graph) (p : PlanView) (names : Names) : Type 0 where
+  pub tables : p.tables ≡ g.tables
+  pub are : (k : ℕ) → k < length p.cells → (w x r : ℕ) × StandsAt g (names.cells k) (signal.Write (cells_info p k).table w x r)
+  pub there : (k : ℕ) → k < length p.cells → 0 < length (list_at p.tables (cells_info p k).table)
+  pub apart : (k m : ℕ) → k < length p.cells → m < length p.cells → names.cells k ≡ names.cells m → k ≡ m
+  pub all : (s table w x r : ℕ) → StandsAt g s (signal.Write table w x r) → (k : ℕ) × (k < length p.cells) × (names.cells k ≡ s)
+  pub owners : (k l : ℕ) → k < length p.cells → l < length p.lanes → names.lane l ≡ names.cells k → (cells_info p k).owner ≡ (lane_info p l).owner
+
+-- these tables, and no lanes and cells
+abbrev pub tables_alone : List (List ℤ) → State
+tables_alone tables = record { lanes = []; tables = tables; cells = [] }
+
 -- The plan stands for the graph.
 pub record PlanStands (g : Graph) (p : PlanView) : Type 0 where
-  -- the signal of each lane, with its history, and of each held value
+  -- the signal of each lane, with its history, of each held value, and of each cells
   pub names : Names
   pub graph : IsGraph g
   pub lanes : LanesStand g p names
   pub loops : LoopsStand g p names
+  pub cells : CellsStand g p names
   pub codes : length p.codes ≡ p.loops
   pub histories : (l : ℕ) → l < length p.lanes → names.history l ≡ (lane_info p l).history
-  -- each loop's code obeys the values of the lanes' signals, at each time of each run
+  -- each loop's code obeys the values of the signals of lanes and cells, at each time of each run
   pub obeys : (j : ℕ) → j < p.loops → (X : List Frame) (c : ℕ → Stream) (t : ℕ) →
       ObeysStreams (roles_of p j) names.history (flows g names X c) (λ k. value g (names.held k) X c t) (λ i. column X i t) t (code_of p j)
   -- the held values are the registers of their code, where the controls that it names are those of a time
   pub held : (X : List Frame) (c : ℕ → Stream) (t : ℕ) (controls : ℕ → ℤ) → ((k : ℕ) → NamesHeld p.held k → controls k ≡ c k t) →
-      registers_after p.held controls (λ n i. pos 0) 0 1 (lanes_alone []) ≡ table (length p.held) (λ k. value g (names.held k) X c t)
+      registers_after p.held controls (λ n i. pos 0) 0 1 (tables_alone p.tables) ≡ table (length p.held) (λ k. value g (names.held k) X c t)
   pub counted : names.count ≡ length p.held
   pub steady : (k : ℕ) → k < length p.held → rate_of g (names.held k) ≢ rate.Sample
   -- the lane of each output's signal
@@ -78,7 +93,8 @@ pub record IsHeldCode (steps : List Step) : Type 0 where
   pub still : All IsStill steps
   pub inputs : (i : ℕ) → ¬ NamesInput steps i
 
--- a load is of a lane that is there, and goes back no further than its history
+-- a load is of a lane that is there, and goes back no further than its history; a read is of a table that is there and has items, and a
+-- write of cells that are there
 abbrev pub LoadsWithin : PlanView → Step → Type 0
 LoadsWithin p (step.Number n) = Unit {0}
 LoadsWithin p (step.Held k) = Unit {0}
@@ -86,6 +102,8 @@ LoadsWithin p (step.Input i) = Unit {0}
 LoadsWithin p (step.Point op args) = Unit {0}
 LoadsWithin p (step.Load lane back max) = (lane < length p.lanes) × (max ≤ (lane_info p lane).history)
 LoadsWithin p (step.Append lane value) = Unit {0}
+LoadsWithin p (step.Read table arg) = 0 < length (list_at p.tables table)
+LoadsWithin p (step.Write cells args) = cells < length p.cells
 
 -- The codes name only what is there, and go no further back than the histories.
 pub record PlanNames (g : Graph) (p : PlanView) : Type 0 where
@@ -94,6 +112,7 @@ pub record PlanNames (g : Graph) (p : PlanView) : Type 0 where
   pub controls : (k : ℕ) → NamesHeld p.held k → NamesControl g k
   pub loads : (j : ℕ) → All (LoadsWithin p) (code_of p j)
   pub held_code : IsHeldCode p.held
+  pub held_reads : All (LoadsWithin p) p.held
 
 -- a plan of a graph
 pub record IsPlanOf (g : Graph) (p : PlanView) : Type 0 where

@@ -57,9 +57,10 @@ IsComputed (Read table r) = Unit {0}
 IsComputed (Write table w x r) = Unit {0}
 
 -- Why a signal is separated: it is an output of the program; a delay that may go back reads it; it defines a member of a
--- group; or it is computed at each sample and two nodes read it.
+-- group; it is computed at each sample and two nodes read it; or it is a table that is written.
 pub data IsSeparated (g : Graph) (s : ℕ) : Type 0 where
   AsOutput : (j : ℕ) → j < length g.outputs → stand g (at g.outputs j) ≡ s → IsSeparated g s
   AsDelayed : (r x d max : ℕ) → StandsAt g r (Delay x d max) → 1 ≤ max → stand g x ≡ s → IsSeparated g s
   AsDefinition : (group i : ℕ) → group < length g.groups → i < length (members g group) → stand g (definition g group i) ≡ s → IsSeparated g s
   AsShared : (q r : ℕ) → IsComputed (node g s) → rate_of g s ≡ rate.Sample → q ≢ r → ReadsSignal g q s → ReadsSignal g r s → IsSeparated g s
+  AsWritten : (table w x r : ℕ) → StandsAt g s (Write table w x r) → IsSeparated g s

@@ -1,15 +1,19 @@
 -- What a plan has, and the parts of each of its loops.
-use Rattle.std.specs.Prelude.{ℕ, List, [], ◌∷◌, length, slice_index_or, Bool, false, nat_lt, nat_eq, ◌&&◌, ◌||◌}
+use Rattle.std.specs.Prelude.{ℕ, List, [], ◌∷◌, length, slice_index_or, Bool, false, nat_lt, nat_eq, ◌&&◌, ◌||◌, ℤ}
 use Rattle.fv_outside.specs.declared.tasks.Reads.{Reads}
 use Rattle.fv_loopcode.specs.declared.step.Step.{Step}
 use Rattle.fv_loopcode.specs.declared.step.Step.TheVariants as step
-use Rattle.fv_loopcode.specs.headline.Obeys.{Roles, Place, OfLane}
+use Rattle.fv_loopcode.specs.headline.Obeys.{Roles, Place, OfLane, OfCells}
 use Rattle.fv_split_plan.specs.declared.lane.LaneInfo.{LaneInfo}
+use Rattle.fv_split_plan.specs.declared.lane.CellsInfo.{CellsInfo}
 
--- how many loops, the lanes, the code of each loop, which loop reads which other, the lane of each output, and the held code
+-- how many loops, the lanes, the tables, the cells, the code of each loop, which loop reads which other, the lane of each output,
+-- and the held code
 pub record PlanView : Type 0 where
   pub loops : ℕ
   pub lanes : List LaneInfo
+  pub tables : List (List ℤ)
+  pub cells : List CellsInfo
   pub codes : List (List Step)
   pub reads : List Reads
   pub outputs : List ℕ
@@ -18,6 +22,10 @@ pub record PlanView : Type 0 where
 -- a lane's loop and history
 abbrev pub lane_info : PlanView → ℕ → LaneInfo
 lane_info p l = slice_index_or p.lanes l (record { owner = 0; history = 0 })
+
+-- the loop and the table of cells
+abbrev pub cells_info : PlanView → ℕ → CellsInfo
+cells_info p k = slice_index_or p.cells k (record { owner = 0; table = 0 })
 
 -- the code of a loop
 abbrev pub code_of : PlanView → ℕ → List Step
@@ -32,11 +40,26 @@ loads_lane l (step.Input i ∷ ss) = loads_lane l ss
 loads_lane l (step.Point op args ∷ ss) = loads_lane l ss
 loads_lane l (step.Load lane back max ∷ ss) = nat_eq l lane || loads_lane l ss
 loads_lane l (step.Append lane value ∷ ss) = loads_lane l ss
+loads_lane l (step.Read table arg ∷ ss) = loads_lane l ss
+loads_lane l (step.Write cells args ∷ ss) = loads_lane l ss
+
+-- one of the steps reads the table
+abbrev pub reads_table : ℕ → List Step → Bool
+reads_table t [] = false
+reads_table t (step.Number n ∷ ss) = reads_table t ss
+reads_table t (step.Held k ∷ ss) = reads_table t ss
+reads_table t (step.Input i ∷ ss) = reads_table t ss
+reads_table t (step.Point op args ∷ ss) = reads_table t ss
+reads_table t (step.Load lane back max ∷ ss) = reads_table t ss
+reads_table t (step.Append lane value ∷ ss) = reads_table t ss
+reads_table t (step.Read table arg ∷ ss) = nat_eq t table || reads_table t ss
+reads_table t (step.Write cells args ∷ ss) = reads_table t ss
 
 -- a loop's own places
 abbrev pub is_own : PlanView → ℕ → Place → Bool
 is_own p j (OfLane l) = nat_lt l (length p.lanes) && nat_eq (lane_info p l).owner j
+is_own p j (OfCells k) = nat_lt k (length p.cells) && nat_eq (cells_info p k).owner j
 
--- these, and the lanes that its code loads
+-- these, the lanes that its code loads, and the tables that it reads
 abbrev pub roles_of : PlanView → ℕ → Roles
-roles_of p j = record { own = is_own p j; loaded = λ l. loads_lane l (code_of p j) }
+roles_of p j = record { own = is_own p j; loaded = λ l. loads_lane l (code_of p j); tables = λ t. reads_table t (code_of p j) }

@@ -9,5 +9,5 @@ pub unwrap-requires : goal.unwrap-requires
 unwrap-requires c =
     let place = slice_index c.args.places.now in
     c.in_ok-new.ensures.some.1
-    (subst (AreSound c.args.lanes) (sym (c.deref.ensures.value ∙ c.in_ok-steps.ensures ∙ ap (map (renumbered place)) c.steps.ensures.steps))
-    (renumbered_sound place c.args.lanes c.args.code.now c.steps.ensures.ordered c.requires.lanes))
+    (subst (AreSound c.args.counts) (sym (c.deref.ensures.value ∙ c.in_ok-steps.ensures ∙ ap (map (renumbered place)) c.steps.ensures.steps))
+    (renumbered_sound place c.args.counts c.args.code.now c.steps.ensures.ordered c.requires.named))

@@ -38,8 +38,8 @@ returns c =
     let named = c.mark_named.new.marks.items in
     let blank = c.in_ok-marks.ensures.items_if_clones_equal (λ y e. e) in
     are_marked g c.requires.graph stands c.args.rates.now c.args.readers.now
-    begun named c.mark_delays.new.marks.items c.mark_groups.new.marks.items c.mark_shared.new.marks.items
+    begun named c.mark_delays.new.marks.items c.mark_groups.new.marks.items c.mark_shared.new.marks.items c.mark_written.new.marks.items
     c.requires.stands c.requires.rates c.requires.readers (omega (arith, c.in_ok-marks.marks.ok.0, c.in_ok-marks.ensures.len, c.len.ensures))
     (λ s. ap (λ bs. bit_at bs s) blank ∙ each_same c.len.result s false)
     (subst (λ xs. Marks begun named (ByOne (Named stands xs)
-    (length xs))) c.outputs.ensures.list c.mark_named.ensures) c.mark_delays.ensures c.mark_groups.ensures c.mark_shared.ensures
+    (length xs))) c.outputs.ensures.list c.mark_named.ensures) c.mark_delays.ensures c.mark_groups.ensures c.mark_shared.ensures c.mark_written.ensures
