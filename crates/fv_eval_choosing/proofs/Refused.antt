@@ -13,13 +13,17 @@ use Rattle.fv_parse_grammar.specs.headline.Tree.{Tree}
 use Rattle.fv_parse_grammar.specs.headline.Tree as tree
 use Rattle.fv_parse_grammar.specs.declared.form.Operator.{Operator}
 use Rattle.fv_parse_grammar.specs.declared.form.Operator.TheVariants as operators
+use Rattle.fv_parse_tree.specs.Arena.{forest, tree_of}
+use Rattle.fv_parse_tree.specs.declared.node.TreeId.{TreeId}
+use Rattle.fv_parse_tree.specs.declared.node.TreeNode.{TreeNode}
+use Rattle.fv_parse_tree.specs.declared.node.TreeNode.TheVariants as nodes
 use Rattle.fv_rules.specs.headline.Values.{Rule, Value, Flat}
 use Rattle.fv_rules.specs.headline.Matching.{Bindings, and_then, is_number, parts_without, matched, all_matched}
 use Rattle.fv_eval_choosing.specs.declared.paths.Side.{Side}
 use Rattle.fv_eval_choosing.specs.declared.paths.Side.TheVariants.{Left, Right}
 use Rattle.fv_eval_choosing.specs.declared.paths.Path.{Path}
 use Rattle.fv_eval_choosing.specs.inner.Positions.{both_without, diagram_key, diagram_part, key_at, key_in, key_with, number_key, operator_key}
-use Rattle.fv_eval_choosing.specs.inner.Positions.{pattern_part, permits, want_at, wanted}
+use Rattle.fv_eval_choosing.specs.inner.Positions.{pattern_part, permits, side_of, want_at, wanted}
 
 -- ---- by its key
 
@@ -143,3 +147,34 @@ not_enough l x r vs key h is = go (want_at x r) refl h
     go : (o : Option ℕ) → want_at x r ≡ o → permits key o ≡ false → all_matched l r.patterns vs [] ≡ None
     go None e f = absurd (false≢true (sym f))
     go (Some k) e f = wants_another l x r vs k key e is (λ q. eqb-false k key f (sym q))
+
+-- ---- what a node is
+
+-- a pattern that wants nothing
+pub no_want : (ts : List Tree) (node : TreeNode) (start : ℕ) → ((n : ℕ) → node ≡ nodes.Number n → ⊥) → ((n : ℕ) → node ≡ nodes.Negative n → ⊥)
+    → ((o : Operator) (p q : TreeId) → node ≡ nodes.Binary o p q → ⊥) → wanted (tree_of ts node start) ≡ None
+no_want ts (nodes.Number n) start c d e = absurd (c n refl)
+no_want ts (nodes.Negative n) start c d e = absurd (d n refl)
+no_want ts (nodes.Binary o p q) start c d e = absurd (e o p q refl)
+no_want ts (nodes.List ids) start c d e = none ids.items
+  where
+    none : (is : List TreeId) → wanted (forest ts is tree.End) ≡ None
+    none [] = refl
+    none (i ∷ is) = refl
+no_want ts node start c d e = refl
+
+-- a pattern without parts
+pub no_part : (ts : List Tree) (node : TreeNode) (start : ℕ) (s : Side) (ss : List Side) → ((o : Operator) (p q : TreeId) → node ≡ nodes.Binary o p q → ⊥)
+    → pattern_part (s ∷ ss) (tree_of ts node start) ≡ None
+no_part ts (nodes.Binary o p q) start s ss e = absurd (e o p q refl)
+no_part ts (nodes.List ids) start s ss e = none ids.items
+  where
+    none : (is : List TreeId) → pattern_part (s ∷ ss) (forest ts is tree.End) ≡ None
+    none [] = refl
+    none (i ∷ is) = refl
+no_part ts node start s ss e = refl
+
+-- the part of a composition on one side
+pub side_part : (ss more : List Side) (s : Side) (n : ℕ) (o : Operator) (x p q y : Tree) → ss ≡ s ∷ more → x ≡ tree.Binary n o p q → side_of s p q ≡ y
+    → pattern_part more y ≡ pattern_part ss x
+side_part ss more s n o x p q y e is at = ap (pattern_part more) (sym at) ∙ sym (ap₂ pattern_part e is)

@@ -107,7 +107,11 @@ impl Position {
     }
 
     /// The positions further within, where many rules want a composition.
-    pub(crate) fn further(&self, alloc: Global, paths: &mut VecDeque<Path>) -> Result<(), AllocError> {
+    pub(crate) fn further(
+        &self,
+        alloc: Global,
+        paths: &mut VecDeque<Path>,
+    ) -> Result<(), AllocError> {
         for row in &self.rows {
             if row.key < COMPOSITIONS {
                 paths.push_back(self.path.to(alloc, Side::Left)?)?;

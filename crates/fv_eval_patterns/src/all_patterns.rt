@@ -80,7 +80,9 @@ impl Subjects<'_> {
                 return Ok(false);
             }
             let value = &values[i];
-            if !matches_in(self.alloc, self.tree, *pattern, diagrams, numbers, value, found)? {
+            if !matches_in(
+                self.alloc, self.tree, *pattern, diagrams, numbers, value, found,
+            )? {
                 return Ok(false);
             }
         }
