@@ -178,3 +178,13 @@ no_part ts node start s ss e = refl
 pub side_part : (ss more : List Side) (s : Side) (n : ℕ) (o : Operator) (x p q y : Tree) → ss ≡ s ∷ more → x ≡ tree.Binary n o p q → side_of s p q ≡ y
     → pattern_part more y ≡ pattern_part ss x
 side_part ss more s n o x p q y e is at = ap (pattern_part more) (sym at) ∙ sym (ap₂ pattern_part e is)
+
+-- the same of a diagram
+pub no_diagram_part : (ss more : List Side) (s : Side) (d : Diagram) → ss ≡ s ∷ more → both_without (number_of d) d ≡ None → diagram_part ss d ≡ None
+no_diagram_part ss more s d e none =
+    ap (λ ts. diagram_part ts d) e ∙ ap (λ ps. and_then ps (λ xy. diagram_part more (side_of s xy.0 xy.1))) none
+
+pub next_diagram_part : (ss more : List Side) (s : Side) (d : Diagram) (xy : Diagram × Diagram) → ss ≡ s ∷ more → both_without (number_of d) d ≡ Some xy
+    → diagram_part more (side_of s xy.0 xy.1) ≡ diagram_part ss d
+next_diagram_part ss more s d xy e some =
+    sym (ap (λ ts. diagram_part ts d) e ∙ ap (λ ps. and_then ps (λ ab. diagram_part more (side_of s ab.0 ab.1))) some)

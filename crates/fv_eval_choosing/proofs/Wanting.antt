@@ -1,23 +1,27 @@
 -- What rules want at positions, and the rules that are left.
-use Rattle.std.proofs.Common.{◌≡◌, ◌⊎◌, ℕ, ◌+◌, ◌<◌, ◌≤◌, arith, Bool, true, false, cond, nat_eq, List, [], ◌∷◌, ◌++◌, length, map, take, get_or, filter, slice_get}
+use Rattle.std.proofs.Common.{◌≡◌, ◌⊎◌, ℕ, zero, suc, ◌+◌, ◌<◌, ◌≤◌, arith, Bool, true, false, cond, nat_eq, List, [], ◌∷◌, ◌++◌, length, map, take, get_or, filter, slice_get}
 use Rattle.std.proofs.Common.{Option, Some, None, option_map, All, inl, inr, refl, sym, ap, subst, ◌∙◌}
 use Rattle.std.proofs.lemmas.Bool.{cases_lt, eq-eqb, eqb-true, false≢true}
-use Rattle.std.proofs.lemmas.List.{take_more}
-use Rattle.std.proofs.lemmas.List.Elements.{filter-append}
+use Rattle.std.proofs.lemmas.List.{length-map, take_more}
+use Rattle.std.proofs.lemmas.List.Elements.{All-append, All-cons, All-nil, filter-append}
 use Rattle.std.proofs.lemmas.Option.{none-some, same_Some, slice_get-map, slice_get_within}
-use Rattle.fv_diagram.specs.Arena.{Arena}
+use Rattle.fv_diagram.specs.Arena.{Arena, tree_of}
 use Rattle.fv_parse.specs.Trees.{Parsed, tree_in}
 use Rattle.fv_parse_tree.specs.declared.node.TreeId.{TreeId}
-use Rattle.fv_rules.specs.headline.Values.{Rule, Value, rule_of}
+use Rattle.fv_rules.specs.headline.Values.{Rule, Value, Flat, rule_of}
+use Rattle.fv_rules.specs.headline.Matching.{and_then}
 use Rattle.fv_eval_scopes.specs.declared.value.Value as code_value
-use Rattle.fv_eval_scopes.specs.Shows.{World, ShowsValues}
+use Rattle.fv_eval_scopes.specs.declared.value.Value.TheVariants as value
+use Rattle.fv_eval_scopes.specs.declared.value.Ruled.{Ruled}
+use Rattle.fv_eval_scopes.specs.Shows.{World, ShowsValue, ShowsValues, rules_in}
 use Rattle.fv_eval_choosing.specs.declared.index.RuleIndex.{RuleIndex}
 use Rattle.fv_eval_choosing.specs.declared.paths.Path.{Path}
 use Rattle.fv_eval_choosing.specs.declared.positions.Position.{Position}
 use Rattle.fv_eval_choosing.specs.declared.wants.Wanted.{Wanted}
 use Rattle.fv_eval_choosing.specs.inner.Bits.{has}
+use Rattle.fv_eval_choosing.specs.inner.Indexes.{AreIndexes}
 use Rattle.fv_eval_choosing.specs.inner.Leaving.{Fails, IsIndex, Knows, Leaves, Narrows}
-use Rattle.fv_eval_choosing.specs.inner.Positions.{Allows, HasBoth, IsWanted, Sorts, is_for, key_at, permits, want_at}
+use Rattle.fv_eval_choosing.specs.inner.Positions.{Allows, HasBoth, IsWanted, Sorts, diagram_key, diagram_part, is_for, key_at, key_in, permits, want_at}
 use Rattle.fv_eval_choosing.proofs.Refused.{not_enough}
 use Rattle.fv_eval_choosing.proofs.RuleNodes.{rules_at}
 
@@ -160,3 +164,56 @@ leaves_more rules us a old new h narrows j r got out = go (has old j) refl
     go : (b : Bool) → has old j ≡ b → Fails r us a
     go true e = narrows j r got e out
     go false e = h j r got e
+
+-- ---- the key of an argument
+
+argument_there : (w : World) (us : List code_value.Value) (vs : List Value) (i : ℕ) (u : code_value.Value) → ShowsValues w us vs
+    → slice_get us i ≡ Some u → (v : Value) × (slice_get vs i ≡ Some v) × ShowsValue w u v
+argument_there w us [] i u h e = absurd (none-some u (ap (λ xs. slice_get xs i) (sym h) ∙ e))
+argument_there w us (v ∷ vs) zero u h e =
+    (v, refl, subst (λ x. ShowsValue w x v) (same_Some h.0 u (ap (λ xs. slice_get xs 0) (sym h.2) ∙ e)) h.3)
+argument_there w us (v ∷ vs) (suc i) u h e = argument_there w h.1 vs i u h.4 (ap (λ xs. slice_get xs (suc i)) (sym h.2) ∙ e)
+
+-- what was found in an argument
+pub record IsFound (x : Path) (us : List code_value.Value) (a : Arena) (id part key : ℕ) : Type 0 where
+  pub got : slice_get us x.argument ≡ Some (value.Diagram id)
+  pub part_is : diagram_part x.sides.items (tree_of a id) ≡ Some (tree_of a part)
+  pub key_is : key ≡ diagram_key (tree_of a part)
+
+pub key_found : {x : Path} {us : List code_value.Value} {a : Arena} {id part key : ℕ} → IsFound x us a id part key → (w : World) (vs : List Value)
+    → w.diagrams ≡ a → ShowsValues w us vs → key_at x vs ≡ Some key
+key_found {x} {us} {a} {id} {part} {key} found w vs same shown = let at = argument_there w us vs x.argument (value.Diagram id) shown found.got in go at.0 at.1 at.2
+  where
+    go : (v : Value) → slice_get vs x.argument ≡ Some v → ShowsValue w (value.Diagram id) v → key_at x vs ≡ Some key
+    go (Flat d) e h =
+        let tree : d ≡ tree_of a id = sym h.1 ∙ ap (λ b. tree_of b id) same in
+        ap (key_in x.sides.items) (e ∙ ap (λ t. Some (Flat t)) tree)
+        ∙ ap (λ o. and_then o (λ t. Some (diagram_key t))) found.part_is ∙ ap (λ k. Some k) (sym found.key_is)
+    go v e h = absurd h
+
+-- one position more
+pub all_push : {A : Type 0} (P : A → Type 0) (xs : List A) (x : A) → All P xs → P x → All P (xs ++ x ∷ [])
+all_push P xs x h here = All-append P xs (x ∷ []) h (All-cons P x [] here (All-nil P))
+
+-- all places of rules
+pub all_places : (p : Parsed) (ids : List TreeId) (count : ℕ) (bits : List ℕ) → count ≡ length ids → ((j : ℕ) → j < count → has bits j ≡ true)
+    → (j : ℕ) (r : Rule) → slice_get (rules_at p ids) j ≡ Some r → has bits j ≡ true
+all_places p ids count bits many all j r got =
+    let l = slice_get_within (rules_at p ids) j r got in
+    all j (omega (arith, many, l, length-map ids (λ (i : TreeId). rule_of (tree_in p i))))
+
+-- an index more
+pub indexes_more : (p q : Parsed) (xs ys : List RuleIndex) (x : RuleIndex) (ids : List TreeId) (r : Ruled) → q ≡ p → AreIndexes q xs
+    → IsIndex (rules_at q ids) x → x.ruled ≡ r → rules_at p ids ≡ rules_in p r → ys ≡ xs ++ x ∷ [] → AreIndexes q ys
+indexes_more p q xs ys x ids r view h index same are pushed =
+    let there : rules_at q ids ≡ rules_in q x.ruled =
+    subst (λ (t : Parsed). rules_at t ids ≡ rules_in t x.ruled) (sym view) (are ∙ ap (rules_in p) (sym same)) in
+    subst (AreIndexes q) (sym pushed)
+    (all_push (λ (y : RuleIndex). IsIndex (rules_in q y.ruled) y) xs x h (subst (λ rs. IsIndex rs x) there index))
+
+-- one that was found
+pub index_at : (p q : Parsed) (xs : List RuleIndex) (i : ℕ) (x : RuleIndex) (r : Ruled) → q ≡ p → AreIndexes q xs → i < length xs → x ≡ get_or xs i x
+    → x.ruled ≡ r → IsIndex (rules_in p r) x
+index_at p q xs i x r view h l here same =
+    subst (λ (t : Parsed). IsIndex (rules_in t r) x) view
+    (subst (λ s. IsIndex (rules_in q s) x) same (subst (λ (y : RuleIndex). IsIndex (rules_in q y.ruled) y) (sym here) (h i x l)))

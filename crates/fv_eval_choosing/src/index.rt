@@ -1,6 +1,6 @@
 // The rules at a place, told apart by what they want at positions of their arguments.
 
-ghost use Rattle.std.specs.Prelude.{ℕ, ◌≡◌, ◌<◌, ◌≤◌, List, All, IfOk, IfSome, Some, map};
+ghost use Rattle.std.specs.Prelude.{ℕ, ◌≡◌, ◌<◌, ◌≤◌, List, All, IfOk, IfSome, OnOk, Some, map};
 ghost use Rattle.fv_parse.specs.Trees.{size_of, tree_in};
 ghost use Rattle.fv_rules.specs.headline.Values.{Rule, rule_of};
 ghost use Rattle.fv_eval_scopes.specs.Memo.{Remembers};
@@ -43,17 +43,27 @@ fn positions(alloc: Global, tree: &Tree, rules: Rules) -> Result<Vec<Position>, 
 {
     let mut positions = Vec::new(alloc);
     let mut paths = arguments(alloc, tree, rules)?;
-    for _ in 0..paths.len().saturating_add(MOST_WITHIN) {
+    'paths: for _ in 0..paths.len().saturating_add(MOST_WITHIN) {
         let Some(path) = paths.pop_front() else {
             return Ok(positions);
         };
         let position = Position::new(alloc, tree, rules, path)?;
         position.further(alloc, &mut paths)?;
-        if positions.len() < MOST_POSITIONS && position.tells(alloc, rules.len())? {
-            positions.push(position)?;
-        }
+        let tells = position.tells(alloc, rules.len())?;
+        keep(&mut positions, position, tells)?;
     }
     Ok(positions)
+}
+
+// Keeps a position that tells rules apart, if there is room.
+fn keep(positions: &mut Vec<Position>, position: Position, tells: bool) -> Result<(), AllocError>
+    ensures { OnOk result ((all : List Rule) → All (Knows all) positions.old.items → Knows all position
+        → All (Knows all) positions.new.items) }
+{
+    if tells && positions.len() < MOST_POSITIONS {
+        positions.push(position)?;
+    }
+    Ok(())
 }
 
 // A position for each argument that the first rule takes.

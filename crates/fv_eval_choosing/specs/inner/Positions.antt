@@ -56,6 +56,7 @@ operator_key operators.Parallel = 1
 operator_key operators.Sequence = 2
 operator_key operators.Split = 3
 operator_key operators.Merge = 4
+operator_key (operators.Infix i) = 5
 
 abbrev pub number_key : ℤ → ℕ
 number_key n = unsigned_abs n + 6

@@ -4,5 +4,5 @@ use Rattle.fv_eval_choosing.specs.inner.Leaving.{Knows}
 use Rattle.fv_eval_choosing.proofs.RuleNodes.{rules_at}
 use Rattle.fv_eval_choosing.proofs.index.positions.Given as goal
 
-abbrev pub invariant-loop-_ : goal.invariant-loop-_
-invariant-loop-_ l = All (Knows (rules_at l.tree (nodes_of l.rules))) l.positions.items
+abbrev pub invariant-paths : goal.invariant-paths
+invariant-paths l = All (Knows (rules_at l.tree (nodes_of l.rules))) l.positions.items

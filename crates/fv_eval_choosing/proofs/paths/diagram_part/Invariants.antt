@@ -10,5 +10,5 @@ invariant-loop-side l = record {
   there : l.at < count_of l.diagrams;
   composed : IsComposed (tree_of l.diagrams l.at);
   known : Remembers l.diagrams l.numbers;
-  part : diagram_part (drop l.side-index l.sides) (tree_of l.diagrams l.at) ≡ diagram_part l.sides (tree_of l.diagrams l.id);
+  part : diagram_part (drop l.side-index l.sides) (tree_of l.diagrams l.at) ≡ diagram_part l.sides (tree_of l.diagrams l.fn.id);
 }
