@@ -6,9 +6,9 @@ use Rattle.std.proofs.lemmas.Option.{none-some, same_Some, slice_get_within, get
 use Rattle.std.proofs.lemmas.List.Elements.{All-nil, All-cons, All-tail}
 use Rattle.fv_parse_grammar.specs.headline.Tree.{Tree, items}
 use Rattle.fv_parse.specs.headline.Trees.{text_of}
-use Rattle.fv_parse.specs.Trees.{Parsed, size_of, tree_in, start_in, first_named}
+use Rattle.fv_parse.specs.Trees.{Parsed, size_of, tree_in, first_named}
 use Rattle.fv_parse_grammar.specs.headline.Tree as tree
-use Rattle.fv_parse_tree.specs.Arena.{forest, trees, tree_of}
+use Rattle.fv_parse_tree.specs.Arena.{forest, tree_of}
 use Rattle.fv_parse_tree.specs.declared.node.TreeId.{TreeId}
 use Rattle.fv_parse_tree.specs.declared.node.TreeNode.{TreeNode}
 use Rattle.fv_parse_tree.specs.declared.node.TreeNode.TheVariants as nodes

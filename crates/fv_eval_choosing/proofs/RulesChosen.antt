@@ -1,26 +1,24 @@
 -- Rules tried one after the other.
 use Rattle.std.proofs.Common.{◌≡◌, ℕ, zero, suc, ◌+◌, ◌-◌, ◌<◌, ◌≤◌, arith, Bool, true, false, List, [], ◌∷◌, length, map, drop, get_or, Option, Some}
-use Rattle.std.proofs.Common.{None, refl, sym, ap, ap₂, subst, ◌∙◌, All, drop-cons, add-one}
+use Rattle.std.proofs.Common.{None, refl, sym, ap, subst, ◌∙◌, drop-cons, add-one}
 use Rattle.std.specs.Prelude.{slice_get}
-use Rattle.std.proofs.lemmas.Option.{none-some, slice_get_within, slice_get_read, get_or_from_slice_get, same_Some}
+use Rattle.std.proofs.lemmas.Option.{slice_get_within, slice_get_read, get_or_from_slice_get}
 use Rattle.std.proofs.lemmas.List.{drop_all}
 use Rattle.fv_diagram.specs.Arena.{Arena}
-use Rattle.fv_diagram.specs.Composed.{IsComposed}
 use Rattle.fv_parse.specs.Trees.{Parsed, size_of, tree_in}
 use Rattle.fv_parse_tree.specs.declared.node.TreeId.{TreeId}
 use Rattle.fv_eval_scopes.specs.declared.value.Value as code_value
-use Rattle.fv_eval_scopes.specs.declared.value.Value.TheVariants as value
 use Rattle.fv_eval_scopes.specs.declared.value.Binding as code_binding
 use Rattle.fv_eval_choosing.specs.declared.choosing.RuleAt.{RuleAt}
 use Rattle.fv_eval_scopes.specs.declared.memo.Known.{Known}
 use Rattle.fv_rules.specs.headline.Values.{Rule, Value, rule_of}
-use Rattle.fv_rules.specs.headline.Matching.{Bindings, and_then, matched, all_matched, or_next, chosen}
-use Rattle.fv_eval_scopes.specs.Shows.{World, ShowsValue, ShowsValues, ShowsBindings}
+use Rattle.fv_rules.specs.headline.Matching.{all_matched, or_next, chosen}
+use Rattle.fv_eval_scopes.specs.Shows.{World, ShowsValues}
 use Rattle.fv_eval_scopes.specs.Memo.{Remembers, AddsIntegers}
-use Rattle.fv_eval_patterns.specs.Patterns.{IsSound, with_diagrams, ShowsMatched}
+use Rattle.fv_eval_patterns.specs.Patterns.{with_diagrams, ShowsMatched}
 use Rattle.fv_eval_choosing.specs.Chosen.{ShowsChoice, IsRuleAt, Chooses}
-use Rattle.fv_eval_scopes.proofs.Grown.{value_grows, values_grow}
-use Rattle.fv_eval_scopes.proofs.Added.{adds_none, adds_on, adds_keeps, adds_longer}
+use Rattle.fv_eval_scopes.proofs.Grown.{values_grow}
+use Rattle.fv_eval_scopes.proofs.Added.{adds_none, adds_on}
 use Rattle.fv_eval_patterns.proofs.Matched.{adds_grow}
 use Rattle.fv_eval_patterns.proofs.InOrder.{said_yes, said_no, AllAnswer}
 use Rattle.std.proofs.lemmas.List.{get_or_default}

@@ -1,5 +1,5 @@
 -- What rules want at positions, and the rules that are left.
-use Rattle.std.proofs.Common.{◌≡◌, ◌⊎◌, ℕ, zero, suc, ◌+◌, ◌<◌, ◌≤◌, arith, Bool, true, false, cond, nat_eq, List, [], ◌∷◌, ◌++◌, length, map, take, get_or, filter, slice_get}
+use Rattle.std.proofs.Common.{◌≡◌, ◌⊎◌, ℕ, zero, suc, ◌+◌, ◌<◌, ◌≤◌, arith, Bool, true, false, cond, List, [], ◌∷◌, ◌++◌, length, take, get_or, filter, slice_get}
 use Rattle.std.proofs.Common.{Option, Some, None, option_map, All, inl, inr, refl, sym, ap, subst, ◌∙◌}
 use Rattle.std.proofs.lemmas.Bool.{cases_lt, eq-eqb, eqb-true, false≢true}
 use Rattle.std.proofs.lemmas.List.{length-map, take_more}
@@ -16,11 +16,10 @@ use Rattle.fv_eval_scopes.specs.declared.value.Ruled.{Ruled}
 use Rattle.fv_eval_scopes.specs.Shows.{World, ShowsValue, ShowsValues, rules_in}
 use Rattle.fv_eval_choosing.specs.declared.index.RuleIndex.{RuleIndex}
 use Rattle.fv_eval_choosing.specs.declared.paths.Path.{Path}
-use Rattle.fv_eval_choosing.specs.declared.positions.Position.{Position}
 use Rattle.fv_eval_choosing.specs.declared.wants.Wanted.{Wanted}
 use Rattle.fv_eval_choosing.specs.inner.Bits.{has}
 use Rattle.fv_eval_choosing.specs.inner.Indexes.{AreIndexes}
-use Rattle.fv_eval_choosing.specs.inner.Leaving.{Fails, IsIndex, Knows, Leaves, Narrows}
+use Rattle.fv_eval_choosing.specs.inner.Leaving.{Fails, IsIndex, Leaves, Narrows}
 use Rattle.fv_eval_choosing.specs.inner.Positions.{Allows, HasBoth, IsWanted, Sorts, diagram_key, diagram_part, is_for, key_at, key_in, permits, want_at}
 use Rattle.fv_eval_choosing.proofs.Refused.{not_enough}
 use Rattle.fv_eval_choosing.proofs.RuleNodes.{rules_at}

@@ -1,4 +1,4 @@
-use Rattle.std.proofs.Common.{◌∙◌, ◌+◌, ◌++◌, ◌∷◌, [], List, ap, sym, subst}
+use Rattle.std.proofs.Common.{◌∙◌, ◌+◌, List, ap, sym, subst}
 use Rattle.fv_parse.specs.Trees.{tree_in}
 use Rattle.fv_rules.specs.headline.Values.{Rule, rule_of}
 use Rattle.fv_eval_choosing.specs.declared.wants.Wanted.{Wanted}

@@ -1,4 +1,4 @@
-use Rattle.std.proofs.Common.{ℕ, ◌≡◌, ◌<◌, ◌∙◌, length, true, sym, ap, ap₂, subst, arith}
+use Rattle.std.proofs.Common.{◌≡◌, ◌<◌, ◌∙◌, length, true, sym, ap₂, subst, arith}
 use Rattle.std.specs.Prelude.{bit_and, slice_set}
 use Rattle.std.proofs.lemmas.List.{get_or_default}
 use Rattle.fv_eval_choosing.specs.inner.Bits.{has}

@@ -1,6 +1,5 @@
-use Rattle.std.proofs.Common.{◌≡◌, ◌⊎◌, ◌<◌, ◌≤◌, false, inl, inr, arith}
+use Rattle.std.proofs.Common.{inl, inr, arith}
 use Rattle.std.proofs.lemmas.Bool.{cases_lt}
-use Rattle.fv_eval_choosing.specs.inner.Bits.{has}
 use Rattle.fv_eval_choosing.proofs.BitSets.{found_after, passed_word}
 use Rattle.fv_eval_choosing.proofs.bits.Bits.next.Goals as goal
 

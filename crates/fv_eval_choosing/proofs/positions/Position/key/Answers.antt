@@ -1,4 +1,4 @@
-use Rattle.std.proofs.Common.{◌≡◌, ◌∙◌, length, Some, List, refl, ap, sym, arith, option_map}
+use Rattle.std.proofs.Common.{◌∙◌, length, Some, refl, ap, sym, arith, option_map}
 use Rattle.std.proofs.lemmas.Option.{slice_get_read}
 use Rattle.fv_diagram.specs.Arena.{tree_of}
 use Rattle.fv_eval_choosing.specs.inner.Positions.{diagram_part}
