@@ -1,4 +1,3 @@
 pub mod ByName
 pub mod Chosen
-pub mod Literals
 pub mod inner
