@@ -7,7 +7,7 @@ use Rattle.std.proofs.lemmas.List.{get_or_past, get_or_append_left, get_or-set_s
 use Rattle.std.proofs.lemmas.Nat.{pow-add}
 use Rattle.std.proofs.lemmas.Nat.Bits.{bit_at-zero, bit_at_and, bit_at_set_same, bit_at_set_other, bit_at_above, bit_at-trailing_zeros}
 use Rattle.std.proofs.Math.Nat.{div-div-eq-div-mul, div-le_self}
-use Rattle.fv_eval_choosing.specs.inner.Bits.{has}
+use Rattle.fv_eval_choosing.specs.Bits.{has}
 
 -- the bit of a place
 abbrev pub bit_of : List ℕ → ℕ → ℕ

@@ -22,8 +22,8 @@ use Rattle.fv_rules.specs.headline.Matching.{Bindings, and_then, is_number, part
 use Rattle.fv_eval_choosing.specs.declared.paths.Side.{Side}
 use Rattle.fv_eval_choosing.specs.declared.paths.Side.TheVariants.{Left, Right}
 use Rattle.fv_eval_choosing.specs.declared.paths.Path.{Path}
-use Rattle.fv_eval_choosing.specs.inner.Positions.{both_without, diagram_key, diagram_part, key_at, key_in, key_with, number_key, operator_key}
-use Rattle.fv_eval_choosing.specs.inner.Positions.{pattern_part, permits, side_of, want_at, wanted}
+use Rattle.fv_eval_choosing.specs.Positions.{both_without, diagram_key, diagram_part, key_at, key_in, key_with, number_key, operator_key}
+use Rattle.fv_eval_choosing.specs.Positions.{pattern_part, permits, side_of, want_at, wanted}
 
 -- ---- by its key
 

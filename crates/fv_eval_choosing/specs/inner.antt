@@ -1,5 +1,1 @@
-pub mod Bits
-pub mod Indexes
-pub mod Leaving
 pub mod Lookup
-pub mod Positions

@@ -1,7 +1,7 @@
 // Sets of places in a list, with a bit for each.
 
 ghost use Rattle.std.specs.Prelude.{ℕ, ◌≡◌, ◌<◌, ◌≤◌, true, false, IfOk, slice_index_or};
-ghost use Rattle.fv_eval_choosing.specs.inner.Bits.{has};
+ghost use Rattle.fv_eval_choosing.specs.Bits.{has};
 
 use std::alloc::{AllocError, Global};
 use std::marker::Model;

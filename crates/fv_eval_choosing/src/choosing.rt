@@ -11,7 +11,7 @@ ghost use Rattle.fv_eval_scopes.specs.Memo.{Remembers, AddsIntegers};
 ghost use Rattle.fv_eval_patterns.specs.Patterns.{IsSound, with_diagrams};
 ghost use Rattle.fv_eval_patterns.specs.Trials.{Recalls};
 ghost use Rattle.fv_eval_choosing.specs.Chosen.{ShowsChoice, IsRuleAt, IsFirstRule, Chooses, nodes_of};
-ghost use Rattle.fv_eval_choosing.specs.inner.Leaving.{Leaves};
+ghost use Rattle.fv_eval_choosing.specs.Leaving.{Leaves};
 
 use crate::bits::Bits;
 use crate::by_name::Defined;

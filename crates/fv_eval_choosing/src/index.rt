@@ -6,7 +6,7 @@ ghost use Rattle.fv_rules.specs.headline.Values.{Rule, rule_of};
 ghost use Rattle.fv_eval_scopes.specs.Memo.{Remembers};
 ghost use Rattle.fv_eval_patterns.specs.Patterns.{IsSound};
 ghost use Rattle.fv_eval_choosing.specs.Chosen.{nodes_of};
-ghost use Rattle.fv_eval_choosing.specs.inner.Leaving.{IsIndex, IsOut, Knows, Leaves};
+ghost use Rattle.fv_eval_choosing.specs.Leaving.{IsIndex, IsOut, Knows, Leaves};
 
 use crate::bits::Bits;
 use crate::choosing::{Rules, patterns_of};

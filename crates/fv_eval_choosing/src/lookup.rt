@@ -10,7 +10,7 @@ ghost use Rattle.fv_eval_scopes.specs.Environments.{scope_in};
 ghost use Rattle.fv_eval_choosing.specs.ByName.{IsAmong};
 ghost use Rattle.fv_eval_scopes.specs.declared.value.Ruled.TheVariants.{Definitions as AtDefinitions};
 ghost use Rattle.fv_eval_scopes.specs.Shows.{World, IsInside, IsNamed, ShowsEnv, ShowsMeaning, rules_in};
-ghost use Rattle.fv_eval_choosing.specs.inner.Leaving.{IsIndex};
+ghost use Rattle.fv_eval_choosing.specs.Leaving.{IsIndex};
 ghost use Rattle.fv_eval_choosing.specs.inner.Lookup.{SaysOrPasses, HoldsNone, IsMade, StillReaches, outer, is_name, are_names};
 
 use crate::by_name::{ByName, Defined, by_name, hold};
@@ -36,7 +36,7 @@ pub struct Definitions<'a> {
 impl<'a> Model for Definitions<'a> {
     ghost use Rattle.fv_parse.specs.Trees.{Parsed};
     ghost use Rattle.fv_eval_choosing.specs.ByName.{AreIndexed, AreHeld};
-    ghost use Rattle.fv_eval_choosing.specs.inner.Indexes.{AreIndexes};
+    ghost use Rattle.fv_eval_choosing.specs.Indexes.{AreIndexes};
 
     ghost Value = { Parsed };
 

@@ -8,8 +8,8 @@ ghost use Rattle.fv_parse.specs.Trees.{size_of, tree_in};
 ghost use Rattle.fv_rules.specs.headline.Values.{rule_of};
 ghost use Rattle.fv_eval_scopes.specs.Memo.{Remembers};
 ghost use Rattle.fv_eval_patterns.specs.Patterns.{ArePartsOf, are_parts, both_parts};
-ghost use Rattle.fv_eval_choosing.specs.inner.Positions.{both_of, both_without, composition_key, diagram_key, diagram_part};
-ghost use Rattle.fv_eval_choosing.specs.inner.Positions.{number_key, operator_key, pattern_part, side_of, want_at, wanted};
+ghost use Rattle.fv_eval_choosing.specs.Positions.{both_of, both_without, composition_key, diagram_key, diagram_part};
+ghost use Rattle.fv_eval_choosing.specs.Positions.{number_key, operator_key, pattern_part, side_of, want_at, wanted};
 
 use crate::choosing::patterns_of;
 use fv_diagram::{DiagramId, Diagrams, Node};

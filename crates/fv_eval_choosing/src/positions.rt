@@ -9,9 +9,9 @@ ghost use Rattle.fv_eval_scopes.specs.Shows.{World, ShowsValues};
 ghost use Rattle.fv_eval_patterns.specs.Patterns.{IsSound};
 ghost use Rattle.fv_eval_choosing.specs.declared.positions.Row.{Row as ARow};
 ghost use Rattle.fv_eval_choosing.specs.Chosen.{nodes_of};
-ghost use Rattle.fv_eval_choosing.specs.inner.Bits.{has};
-ghost use Rattle.fv_eval_choosing.specs.inner.Positions.{HasBoth, Sorts, is_for, key_at, permits, want_at};
-ghost use Rattle.fv_eval_choosing.specs.inner.Leaving.{Knows, Narrows};
+ghost use Rattle.fv_eval_choosing.specs.Bits.{has};
+ghost use Rattle.fv_eval_choosing.specs.Positions.{HasBoth, Sorts, is_for, key_at, permits, want_at};
+ghost use Rattle.fv_eval_choosing.specs.Leaving.{Knows, Narrows};
 
 use crate::bits::{Bits, WORD};
 use crate::choosing::Rules;

@@ -2,7 +2,7 @@
 
 ghost use Rattle.std.specs.Prelude.{ℕ, ◌≡◌, IfOk, filter};
 ghost use Rattle.fv_eval_choosing.specs.declared.wants.Wanted.{Wanted as AWant};
-ghost use Rattle.fv_eval_choosing.specs.inner.Positions.{HasBoth, is_for};
+ghost use Rattle.fv_eval_choosing.specs.Positions.{HasBoth, is_for};
 
 use crate::bits::Bits;
 use std::alloc::{AllocError, Global};

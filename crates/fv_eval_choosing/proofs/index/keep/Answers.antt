@@ -1,5 +1,5 @@
 use Rattle.std.proofs.Common.{All, sym, subst}
-use Rattle.fv_eval_choosing.specs.inner.Leaving.{Knows}
+use Rattle.fv_eval_choosing.specs.Leaving.{Knows}
 use Rattle.fv_eval_choosing.proofs.Wanting.{all_push}
 use Rattle.fv_eval_choosing.proofs.index.keep.Goals as goal
 

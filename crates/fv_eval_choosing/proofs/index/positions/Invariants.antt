@@ -1,6 +1,6 @@
 use Rattle.std.proofs.Common.{All}
 use Rattle.fv_eval_choosing.specs.Chosen.{nodes_of}
-use Rattle.fv_eval_choosing.specs.inner.Leaving.{Knows}
+use Rattle.fv_eval_choosing.specs.Leaving.{Knows}
 use Rattle.fv_eval_choosing.proofs.RuleNodes.{rules_at}
 use Rattle.fv_eval_choosing.proofs.index.positions.Given as goal
 

@@ -3,7 +3,7 @@ use Rattle.fv_diagram.specs.Arena.{tree_of}
 use Rattle.fv_diagram_number.specs.headline.Numbers.{number_of}
 use Rattle.fv_eval_patterns.specs.Patterns.{are_parts}
 use Rattle.fv_eval_choosing.specs.declared.paths.Side.TheVariants.{Left}
-use Rattle.fv_eval_choosing.specs.inner.Positions.{both_without}
+use Rattle.fv_eval_choosing.specs.Positions.{both_without}
 use Rattle.fv_eval_choosing.proofs.Refused.{no_diagram_part}
 use Rattle.fv_eval_choosing.proofs.paths.diagram_part.Goals as goal
 

@@ -2,7 +2,7 @@ use Rattle.std.proofs.Common.{◌≡◌, ◌<◌, drop}
 use Rattle.fv_diagram.specs.Arena.{count_of, tree_of}
 use Rattle.fv_diagram.specs.Composed.{IsComposed}
 use Rattle.fv_eval_scopes.specs.Memo.{Remembers}
-use Rattle.fv_eval_choosing.specs.inner.Positions.{diagram_part}
+use Rattle.fv_eval_choosing.specs.Positions.{diagram_part}
 use Rattle.fv_eval_choosing.proofs.paths.diagram_part.Given as goal
 
 abbrev pub invariant-loop-side : goal.invariant-loop-side

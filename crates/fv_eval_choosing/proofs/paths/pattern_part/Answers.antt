@@ -2,7 +2,7 @@ use Rattle.std.proofs.Common.{◌∙◌, suc, drop, get_or, ap₂, sym, drop-con
 use Rattle.fv_parse_tree.specs.Arena.{trees}
 use Rattle.fv_parse.specs.Trees.{start_in}
 use Rattle.fv_eval_choosing.specs.declared.paths.Side.TheVariants.{Left}
-use Rattle.fv_eval_choosing.specs.inner.Positions.{pattern_part}
+use Rattle.fv_eval_choosing.specs.Positions.{pattern_part}
 use Rattle.fv_eval_choosing.proofs.Refused.{no_part}
 use Rattle.fv_eval_choosing.proofs.paths.pattern_part.Goals as goal
 

@@ -1,6 +1,6 @@
 use Rattle.std.proofs.Common.{◌≡◌, ◌<◌, drop}
 use Rattle.fv_parse.specs.Trees.{size_of, tree_in}
-use Rattle.fv_eval_choosing.specs.inner.Positions.{pattern_part}
+use Rattle.fv_eval_choosing.specs.Positions.{pattern_part}
 use Rattle.fv_eval_choosing.proofs.paths.pattern_part.Given as goal
 
 abbrev pub invariant-loop-side : goal.invariant-loop-side

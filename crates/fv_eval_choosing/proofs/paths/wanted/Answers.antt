@@ -1,7 +1,7 @@
 use Rattle.std.proofs.Common.{ap, sym, ◌∙◌}
 use Rattle.fv_parse_tree.specs.Arena.{trees}
 use Rattle.fv_parse.specs.Trees.{start_in}
-use Rattle.fv_eval_choosing.specs.inner.Positions.{wanted}
+use Rattle.fv_eval_choosing.specs.Positions.{wanted}
 use Rattle.fv_eval_choosing.proofs.Refused.{no_want}
 use Rattle.fv_eval_choosing.proofs.paths.wanted.Goals as goal
 

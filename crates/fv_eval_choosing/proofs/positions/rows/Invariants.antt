@@ -1,6 +1,6 @@
 use Rattle.std.proofs.Common.{All, filter}
 use Rattle.fv_eval_choosing.specs.declared.positions.Row.{Row}
-use Rattle.fv_eval_choosing.specs.inner.Positions.{HasBoth, is_for}
+use Rattle.fv_eval_choosing.specs.Positions.{HasBoth, is_for}
 use Rattle.fv_eval_choosing.proofs.positions.rows.Given as goal
 
 abbrev pub invariant-loop-key : goal.invariant-loop-key

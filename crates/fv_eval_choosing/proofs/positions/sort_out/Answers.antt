@@ -3,7 +3,7 @@ use Rattle.fv_parse.specs.Trees.{tree_in}
 use Rattle.fv_rules.specs.headline.Values.{Rule, rule_of}
 use Rattle.fv_eval_choosing.specs.declared.wants.Wanted.{Wanted}
 use Rattle.fv_eval_choosing.specs.Chosen.{nodes_of}
-use Rattle.fv_eval_choosing.specs.inner.Positions.{Sorts}
+use Rattle.fv_eval_choosing.specs.Positions.{Sorts}
 use Rattle.fv_eval_choosing.proofs.RuleNodes.{rules_at}
 use Rattle.fv_eval_choosing.proofs.Wanting.{rule_here, sorts_free, sorts_more}
 use Rattle.fv_eval_choosing.proofs.positions.sort_out.Goals.{in-None+in_ok-add-in-None, in-Some+in_ok-push-in-Some}

@@ -1,5 +1,5 @@
 use Rattle.fv_eval_choosing.specs.Chosen.{nodes_of}
-use Rattle.fv_eval_choosing.specs.inner.Positions.{Sorts}
+use Rattle.fv_eval_choosing.specs.Positions.{Sorts}
 use Rattle.fv_eval_choosing.proofs.RuleNodes.{rules_at}
 use Rattle.fv_eval_choosing.proofs.positions.sort_out.Given as goal
 

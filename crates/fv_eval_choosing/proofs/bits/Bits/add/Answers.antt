@@ -1,7 +1,7 @@
 use Rattle.std.proofs.Common.{ℕ, ◌≡◌, ◌<◌, ◌/◌, List, length, true, sym, ap, subst, arith, ◌∙◌}
 use Rattle.std.proofs.lemmas.List.{get_or_default}
 use Rattle.std.specs.Prelude.{slice_index_or, slice_set, bit_or, ◌*◌, ◌%◌, ◌^◌}
-use Rattle.fv_eval_choosing.specs.inner.Bits.{has}
+use Rattle.fv_eval_choosing.specs.Bits.{has}
 use Rattle.fv_eval_choosing.proofs.BitSets.{grown_has, set_has, set_keeps, with_bit}
 use Rattle.fv_eval_choosing.proofs.bits.Bits.add.Goals as goal
 

@@ -1,5 +1,5 @@
 use Rattle.std.proofs.Common.{ℕ, ◌≡◌, ◌-◌, suc, true, vec_len}
-use Rattle.fv_eval_choosing.specs.inner.Bits.{has}
+use Rattle.fv_eval_choosing.specs.Bits.{has}
 use Rattle.fv_eval_choosing.proofs.bits.Bits.add.Given as goal
 
 abbrev pub invariant-grow : goal.invariant-grow

@@ -1,5 +1,5 @@
 use Rattle.std.proofs.Common.{ℕ, ◌≡◌, ◌<◌, true}
-use Rattle.fv_eval_choosing.specs.inner.Bits.{has}
+use Rattle.fv_eval_choosing.specs.Bits.{has}
 use Rattle.fv_eval_choosing.proofs.bits.Bits.first.Given as goal
 
 abbrev pub invariant-loop-i : goal.invariant-loop-i

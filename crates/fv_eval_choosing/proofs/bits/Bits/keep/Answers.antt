@@ -1,7 +1,7 @@
 use Rattle.std.proofs.Common.{◌≡◌, ◌<◌, ◌∙◌, length, true, sym, ap₂, subst, arith}
 use Rattle.std.specs.Prelude.{bit_and, slice_set}
 use Rattle.std.proofs.lemmas.List.{get_or_default}
-use Rattle.fv_eval_choosing.specs.inner.Bits.{has}
+use Rattle.fv_eval_choosing.specs.Bits.{has}
 use Rattle.fv_eval_choosing.proofs.BitSets.{both_have, cut_has}
 use Rattle.fv_eval_choosing.proofs.bits.Bits.keep.Goals as goal
 

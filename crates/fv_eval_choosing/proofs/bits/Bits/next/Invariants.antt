@@ -1,5 +1,5 @@
 use Rattle.std.proofs.Common.{ℕ, ◌≡◌, ◌≤◌, ◌<◌, ◌-◌, false}
-use Rattle.fv_eval_choosing.specs.inner.Bits.{has}
+use Rattle.fv_eval_choosing.specs.Bits.{has}
 use Rattle.fv_eval_choosing.proofs.bits.Bits.next.Given as goal
 
 abbrev pub invariant-words : goal.invariant-words

@@ -1,8 +1,8 @@
 use Rattle.std.proofs.Common.{◌≡◌, IfSome, sym, subst}
 use Rattle.fv_parse.specs.Trees.{Parsed}
 use Rattle.fv_eval_choosing.specs.Chosen.{nodes_of}
-use Rattle.fv_eval_choosing.specs.inner.Indexes.{AreIndexes}
-use Rattle.fv_eval_choosing.specs.inner.Leaving.{IsIndex}
+use Rattle.fv_eval_choosing.specs.Indexes.{AreIndexes}
+use Rattle.fv_eval_choosing.specs.Leaving.{IsIndex}
 use Rattle.fv_eval_choosing.proofs.RuleNodes.{rules_at}
 use Rattle.fv_eval_choosing.proofs.Wanting.{indexes_more}
 use Rattle.fv_eval_choosing.proofs.lookup.Definitions.index_rules.Goals.{In_ok-push}

@@ -1,7 +1,7 @@
 use Rattle.std.proofs.Common.{◌∙◌, length, Some, refl, ap, sym, arith, option_map}
 use Rattle.std.proofs.lemmas.Option.{slice_get_read}
 use Rattle.fv_diagram.specs.Arena.{tree_of}
-use Rattle.fv_eval_choosing.specs.inner.Positions.{diagram_part}
+use Rattle.fv_eval_choosing.specs.Positions.{diagram_part}
 use Rattle.fv_eval_choosing.proofs.Wanting.{IsFound, key_found}
 use Rattle.fv_eval_choosing.proofs.positions.Position.key.Goals as goal
 

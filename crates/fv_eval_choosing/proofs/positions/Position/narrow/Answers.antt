@@ -1,7 +1,7 @@
 use Rattle.std.proofs.Common.{◌≡◌, IfSome, List, Some, subst}
 use Rattle.fv_rules.specs.headline.Values.{Value}
 use Rattle.fv_eval_scopes.specs.Shows.{World, ShowsValues}
-use Rattle.fv_eval_choosing.specs.inner.Positions.{key_at}
+use Rattle.fv_eval_choosing.specs.Positions.{key_at}
 use Rattle.fv_eval_choosing.proofs.Wanting.{key_narrows}
 use Rattle.fv_eval_choosing.proofs.positions.Position.narrow.Goals as goal
 

@@ -4,7 +4,7 @@ use Rattle.fv_parse.specs.Trees.{tree_in}
 use Rattle.fv_parse_tree.specs.declared.node.TreeId.{TreeId}
 use Rattle.fv_rules.specs.headline.Values.{Rule, rule_of}
 use Rattle.fv_eval_choosing.specs.Chosen.{nodes_of}
-use Rattle.fv_eval_choosing.specs.inner.Positions.{Sorts}
+use Rattle.fv_eval_choosing.specs.Positions.{Sorts}
 use Rattle.fv_eval_choosing.proofs.RuleNodes.{rules_at}
 use Rattle.fv_eval_choosing.proofs.Wanting.{sorts_sorted}
 use Rattle.fv_eval_choosing.proofs.positions.Position.new.Goals as goal

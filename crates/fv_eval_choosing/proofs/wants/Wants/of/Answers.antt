@@ -4,7 +4,7 @@ use Rattle.std.specs.List.Sorted.{IsNonDecreasingBy}
 use Rattle.std.proofs.lemmas.List.{take_rest}
 use Rattle.std.proofs.lemmas.List.Sorted.{IsPartitionPoint-from_clause, IsPartitionedBy-ltb, IsPartitionedBy-leb, IsNonDecreasingBy-drop}
 use Rattle.fv_eval_choosing.specs.declared.wants.Wanted.{Wanted}
-use Rattle.fv_eval_choosing.specs.inner.Positions.{is_for}
+use Rattle.fv_eval_choosing.specs.Positions.{is_for}
 use Rattle.fv_eval_choosing.proofs.Keyed.{keyed_from}
 use Rattle.fv_eval_choosing.proofs.wants.Wants.of.Goals as goal
 

@@ -1,5 +1,5 @@
 use Rattle.std.proofs.Common.{take}
-use Rattle.fv_eval_choosing.specs.inner.Positions.{HasBoth}
+use Rattle.fv_eval_choosing.specs.Positions.{HasBoth}
 use Rattle.fv_eval_choosing.proofs.wants.Wants.with.Given as goal
 
 abbrev pub invariant-loop-wanted : goal.invariant-loop-wanted

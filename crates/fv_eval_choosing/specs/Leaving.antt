@@ -9,8 +9,8 @@ use Rattle.fv_eval_scopes.specs.Shows.{World, ShowsValues}
 use Rattle.fv_eval_choosing.specs.declared.positions.Position.{Position}
 use Rattle.fv_eval_choosing.specs.declared.positions.Row.{Row}
 use Rattle.fv_eval_choosing.specs.declared.index.RuleIndex.{RuleIndex}
-use Rattle.fv_eval_choosing.specs.inner.Bits.{has}
-use Rattle.fv_eval_choosing.specs.inner.Positions.{HasBoth, Sorts, is_for}
+use Rattle.fv_eval_choosing.specs.Bits.{has}
+use Rattle.fv_eval_choosing.specs.Positions.{HasBoth, Sorts, is_for}
 
 -- what a position keeps is true of rules
 pub record Knows (rules : List Rule) (x : Position) : Type 0 where

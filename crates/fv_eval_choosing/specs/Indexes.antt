@@ -3,7 +3,7 @@ use Rattle.std.specs.Prelude.{List, All}
 use Rattle.fv_parse.specs.Trees.{Parsed}
 use Rattle.fv_eval_choosing.specs.declared.index.RuleIndex.{RuleIndex}
 use Rattle.fv_eval_scopes.specs.Shows.{rules_in}
-use Rattle.fv_eval_choosing.specs.inner.Leaving.{IsIndex}
+use Rattle.fv_eval_choosing.specs.Leaving.{IsIndex}
 
 -- each index is of the rules at its place
 abbrev pub AreIndexes : Parsed → List RuleIndex → Type 0
