@@ -187,7 +187,7 @@ cycle_action_sync = enum_sync (E.shape cycle_action.the_type) ((
                                   (pair_sync, tt),
                                   (
                                     (pair_sync, tt),
-                                    ((search sendable, (search sendable, tt)), ((search sendable, (search sendable, tt)), (tt, tt))),
+                                    ((search sendable, (search sendable, tt)), ((search sendable, (search sendable, tt)), ((search sendable, (search sendable, tt)), (tt, tt)))),
                                   ),
                                 ),
                               ),
@@ -224,7 +224,8 @@ loop_cells_send : (b : NamedLft) → IsSend (loop_cells.the_row b)
 loop_cells_send b = search (code_sync, sendable, crosses) depth 24
 
 lanes_send : (a b : NamedLft) → IsSend (lanes.the_row a b)
-lanes_send a b = search (writer_send, seen_send, loop_cells_send, sendable, crosses) depth 24
+lanes_send a b = declared_send (lanes.the_type a b)
+    (search (writer_send, sendable, crosses) depth 24, (search (seen_send, sendable, crosses) depth 24, (loop_cells_send b, tt)))
 
 writers_send : (a b : NamedLft) → IsSend (writers.the_row a b)
 writers_send a b = declared_send (writers.the_type a b)

@@ -26,7 +26,7 @@ pub(crate) struct Pack<'p, 'b, 's, 'l, 'o> {
     pub(crate) states: &'s mut [LaneState],
     pub(crate) lines: &'l mut Vec<Line>,
     pub(crate) output: &'o mut [i32],
-    pub(crate) lists: Vec<Vec<i32>>,
+    pub(crate) lists: &'o mut Vec<Vec<i32>>,
     pub(crate) ran: bool,
 }
 
@@ -56,7 +56,7 @@ fn use_lists<'a, 'b, R: Threads + Wait + Sync, G: Gate + Sync>(
         pack.alloc,
         block,
         lists,
-        &mut pack.lists,
+        &mut *pack.lists,
         &mut *pack.lines,
         gate,
     ) {

@@ -14,7 +14,6 @@ use fv_lines::LaneState;
 use fv_outside::{Gate, Line};
 use std::alloc::Global;
 use std::marker::Sync;
-use std::mem::swap;
 use std::sync::Wait;
 use std::thread::Threads;
 
@@ -52,11 +51,9 @@ pub fn run_spread<R: Threads + Wait + Sync, G: Gate + Sync>(
         states,
         lines,
         output,
-        lists: Vec::new(alloc),
+        lists,
         ran: false,
     };
-    swap(lists, &mut pack.lists);
     lent(rt, gate, &mut pack, cells);
-    swap(lists, &mut pack.lists);
     pack.ran
 }

@@ -1,6 +1,9 @@
-pub mod Named
+pub mod BitSets
+pub mod Keyed
 pub mod Lookups
-pub mod RulesChosen
-pub mod RuleNodes
-pub mod Told
+pub mod Named
 pub mod Past
+pub mod Refused
+pub mod RuleNodes
+pub mod RulesChosen
+pub mod Wanting

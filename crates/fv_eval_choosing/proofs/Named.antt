@@ -1,15 +1,13 @@
 -- The definitions of a list, by name.
-use Rattle.std.proofs.Common.{◌≡◌, ◌⊎◌, ℕ, zero, suc, ◌+◌, ◌-◌, ◌<◌, ◌≤◌, arith, Bool, true, false, cond, List, [], ◌∷◌, ◌++◌, length, map, take}
-use Rattle.std.proofs.Common.{drop, get_or, Option, Some, None, inl, inr, refl, sym, ap, ap₂, subst, ◌∙◌, All, length-drop}
-use Rattle.std.specs.Prelude.{filter, nat_eq, nat_lt, nat_le, not, ◌&&◌}
-use Rattle.std.specs.List.Sorted.{IsPartitionPoint, IsPermutation, IsStableByKey, ties}
-use Rattle.std.specs.Ordering.{nat_cmp, is_lt}
-use Rattle.std.specs.declared.cmp.Ordering.TheVariants.{Less, Equal, Greater}
+use Rattle.std.proofs.Common.{◌≡◌, ◌⊎◌, ℕ, zero, suc, ◌+◌, ◌<◌, ◌≤◌, arith, Bool, true, false, cond, List, [], ◌∷◌, ◌++◌, length, map, take}
+use Rattle.std.proofs.Common.{get_or, Option, Some, None, inl, inr, refl, sym, ap, ap₂, subst, ◌∙◌, All}
+use Rattle.std.specs.Prelude.{filter, nat_eq}
+use Rattle.std.specs.List.Sorted.{IsPermutation}
 use Rattle.std.specs.Str.{bytes_eq}
 use Rattle.std.specs.List.{cons_option}
-use Rattle.std.proofs.lemmas.Bool.{eq-eqb, eqb-true, ltb-true, leb-true, ltb-false, leb-false, false≢true, cases_lt}
-use Rattle.std.proofs.lemmas.List.Elements.{All-nil, All-cons, All-tail, filter-append, filter_map-append, filter_agree, All-filter}
-use Rattle.std.proofs.lemmas.List.{take_more, get_or-drop, get_or_push, get_or_append_left, length_push}
+use Rattle.std.proofs.lemmas.Bool.{eq-eqb, eqb-true, cases_lt}
+use Rattle.std.proofs.lemmas.List.Elements.{All-nil, All-cons, All-tail, filter-append, filter_map-append, All-filter}
+use Rattle.std.proofs.lemmas.List.{take_more, get_or_push, get_or_append_left, length_push}
 use Rattle.std.proofs.lemmas.List.Sorted.{All-permutation}
 use Rattle.std.proofs.lemmas.Slice.Eq.{bytes_eq-Decides}
 use Rattle.fv_lex.specs.headline.Token.{Lexed}
@@ -26,105 +24,6 @@ use Rattle.fv_rules.specs.headline.Values.{is_of}
 use Rattle.fv_eval_choosing.proofs.RuleNodes.{IsNoFunction, AreOfName}
 use Rattle.fv_eval_choosing.specs.ByName.{is_called, defined_name, called, defined_in, IsAmong, AreDefined, AreIndexed, AreHeld, IsAgain, Holds}
 use Rattle.fv_eval_choosing.specs.inner.Lookup.{HoldsNone}
-
--- ---- what passes a test from one place up to another, and nowhere else
-
-record Passes {X : Type 0} (p : X → Bool) (xs : List X) (a n : ℕ) : Type 0 where
-  before : (k : ℕ) (d : X) → k < a → p (get_or xs k d) ≡ false
-  within : (k : ℕ) (d : X) → a ≤ k → k < a + n → p (get_or xs k d) ≡ true
-  behind : (k : ℕ) (d : X) → a + n ≤ k → k < length xs → p (get_or xs k d) ≡ false
-  inside : a + n ≤ length xs
-
--- the same behind the first one
-shorter : {X : Type 0} (p : X → Bool) (x : X) (xs : List X) (a n b m : ℕ) → b ≡ a - 1 → b + m ≡ a + n - 1 → Passes p (x ∷ xs) a n → Passes p xs b m
-shorter p x xs a n b m e f h = record {
-  before = λ k d l. h.before (suc k) d (omega (arith, l));
-  within = λ k d g l. h.within (suc k) d (omega (arith, g)) (omega (arith, l));
-  behind = λ k d g l. h.behind (suc k) d (omega (arith, g)) (omega (arith, l));
-  inside = let i = h.inside in omega arith;
-}
-
-cut : {X : Type 0} (p : X → Bool) (xs : List X) (a n : ℕ) → Passes p xs a n → filter p xs ≡ take n (drop a xs)
-cut p [] zero zero h = refl
-cut p [] zero (suc n) h = let i = h.inside in absurd (omega arith)
-cut p [] (suc a) n h = let i = h.inside in absurd (omega arith)
-cut p (x ∷ xs) (suc a) n h =
-    ap (λ c. cond c (x ∷ filter p xs) (filter p xs)) (h.before 0 x (omega arith))
-    ∙ cut p xs a n (shorter p x xs (suc a) n a n (omega arith) (omega arith) h)
-cut p (x ∷ xs) zero (suc n) h =
-    ap (λ c. cond c (x ∷ filter p xs) (filter p xs)) (h.within 0 x (omega arith) (omega arith))
-    ∙ ap (λ ys. x ∷ ys) (cut p xs zero n (shorter p x xs zero (suc n) zero n (omega arith) (omega arith) h))
-cut p (x ∷ xs) zero zero h =
-    ap (λ c. cond c (x ∷ filter p xs) (filter p xs)) (h.behind 0 x (omega arith) (omega arith))
-    ∙ cut p xs zero zero (shorter p x xs zero zero zero zero (omega arith) (omega arith) h)
-
--- what stands from where names reach this one up to where they pass it
-pub called_from : (name : ℕ) (xs ys : List Defined) (a n : ℕ) → a ≤ length xs → ys ≡ drop a xs → n ≤ length ys
-    → IsPartitionPoint (λ (d : Defined). nat_lt d.name name ≡ true) (λ (d : Defined). nat_lt d.name name ≡ false) xs a
-    → IsPartitionPoint (λ (d : Defined). nat_le d.name name ≡ true) (λ (d : Defined). nat_le d.name name ≡ false) ys n
-    → filter (is_called name) xs ≡ take n (drop a xs)
-called_from name xs ys a n h rest l low high =
-    cut (is_called name) xs a n (record {
-      before = λ k d m. below (get_or xs k d).name (low.0 k d (omega arith) m);
-      within = λ k d g m. at (get_or xs k d).name (low.1 k d g (omega (arith, m, long))) (low_enough k d g m);
-      behind = λ k d g m. above (get_or xs k d).name (too_high k d g m);
-      inside = long;
-    })
-  where
-    length_rest : length ys ≡ length xs - a
-    length_rest = ap length rest ∙ length-drop a xs
-
-    long : a + n ≤ length xs
-    long = omega (arith, length_rest, l, h)
-
-    same : (k : ℕ) (d : Defined) → a ≤ k → get_or ys (k - a) d ≡ get_or xs k d
-    same k d g =
-        let e : a + (k - a) ≡ k = omega arith in
-        ap (λ zs. get_or zs (k - a) d) rest ∙ get_or-drop a xs (k - a) d ∙ ap (λ j. get_or xs j d) e
-
-    low_enough : (k : ℕ) (d : Defined) → a ≤ k → k < a + n → nat_le (get_or xs k d).name name ≡ true
-    low_enough k d g m = subst (λ (y : Defined). nat_le y.name name ≡ true) (same k d g) (high.0 (k - a) d (omega arith) (omega (arith, g, m)))
-
-    too_high : (k : ℕ) (d : Defined) → a + n ≤ k → k < length xs → nat_le (get_or xs k d).name name ≡ false
-    too_high k d g m =
-        let there : k - a < length ys = omega (arith, g, m, length_rest) in
-        subst (λ (y : Defined). nat_le y.name name ≡ false) (same k d (omega (arith, g))) (high.1 (k - a) d (omega (arith, g)) there)
-
-    other : (b : Bool) → (b ≡ true → ⊥) → b ≡ false
-    other true n = absurd (n refl)
-    other false n = refl
-
-    below : (m : ℕ) → nat_lt m name ≡ true → nat_eq m name ≡ false
-    below m e = other (nat_eq m name) (λ q. let z = eqb-true m name q in let y = ltb-true m name e in absurd (omega arith))
-
-    at : (m : ℕ) → nat_lt m name ≡ false → nat_le m name ≡ true → nat_eq m name ≡ true
-    at m e q = let z = ltb-false m name e in let y = leb-true m name q in eq-eqb m name (omega arith)
-
-    above : (m : ℕ) → nat_le m name ≡ false → nat_eq m name ≡ false
-    above m e = other (nat_eq m name) (λ q. let z = eqb-true m name q in let y = leb-false m name e in absurd (omega arith))
-
--- names that tie in the order of numbers are equal
-tie : (n m : ℕ) → (not (is_lt (nat_cmp n m)) && not (is_lt (nat_cmp m n))) ≡ nat_eq m n
-tie n m = go (nat_lt n m) (nat_lt m n) (nat_eq n m) (nat_eq m n) refl refl refl
-  where
-    go : (a b c d : Bool) → nat_lt n m ≡ a → nat_lt m n ≡ b → nat_eq m n ≡ d
-        → (not (is_lt (cond a Less (cond c Equal Greater))) && not (is_lt (cond b Less (cond d Equal Greater)))) ≡ d
-    go true b c true e f g = let z = eqb-true m n g in let y = ltb-true n m e in absurd (omega arith)
-    go true b c false e f g = refl
-    go false true true true e f g = let z = eqb-true m n g in let y = ltb-true m n f in absurd (omega arith)
-    go false true false true e f g = let z = eqb-true m n g in let y = ltb-true m n f in absurd (omega arith)
-    go false true true false e f g = refl
-    go false true false false e f g = refl
-    go false false true true e f g = refl
-    go false false false true e f g = refl
-    go false false c false e f g = let z = ltb-false n m e in let y = ltb-false m n f in let x = eq-eqb m n (omega arith) in absurd (false≢true (sym g ∙ x))
-
--- a stable sort by name keeps the definitions of each name in their order
-pub same_called : (n : ℕ) (xs ys : List Defined) → IsStableByKey (λ (d : Defined). d.name) nat_cmp xs ys → filter (is_called n) ys ≡ filter (is_called n) xs
-same_called n xs ys stable =
-    let x : Defined = record { name = n; node = 0 } in
-    let lt : Defined → Defined → Bool = λ d e. is_lt (nat_cmp d.name e.name) in
-    sym (filter_agree (ties lt x) (is_called n) (λ y. tie n y.name) ys) ∙ stable x ∙ filter_agree (ties lt x) (is_called n) (λ y. tie n y.name) xs
 
 -- ---- a tree is of a name just where its canonical number is that
 

@@ -2,13 +2,13 @@
 use Rattle.std.proofs.Common.{◌≡◌, ℕ, ◌<◌, arith, List, [], ◌∷◌, map, Some, refl, sym, ap, subst, ◌∙◌, All}
 use Rattle.std.specs.Prelude.{filter, slice_get}
 use Rattle.std.proofs.lemmas.Simd.{map-map}
-use Rattle.std.proofs.lemmas.Option.{none-some, same_Some}
+use Rattle.std.proofs.lemmas.Option.{none-some, same_Some, slice_get_within, get_or_from_slice_get}
 use Rattle.std.proofs.lemmas.List.Elements.{All-nil, All-cons, All-tail}
 use Rattle.fv_parse_grammar.specs.headline.Tree.{Tree, items}
 use Rattle.fv_parse.specs.headline.Trees.{text_of}
-use Rattle.fv_parse.specs.Trees.{Parsed, size_of, tree_in, start_in, first_named}
+use Rattle.fv_parse.specs.Trees.{Parsed, size_of, tree_in, first_named}
 use Rattle.fv_parse_grammar.specs.headline.Tree as tree
-use Rattle.fv_parse_tree.specs.Arena.{forest, trees, tree_of}
+use Rattle.fv_parse_tree.specs.Arena.{forest, tree_of}
 use Rattle.fv_parse_tree.specs.declared.node.TreeId.{TreeId}
 use Rattle.fv_parse_tree.specs.declared.node.TreeNode.{TreeNode}
 use Rattle.fv_parse_tree.specs.declared.node.TreeNode.TheVariants as nodes
@@ -111,3 +111,7 @@ nodes_there p (d ∷ ds) h =
 
 pub all_over : (t p : Parsed) (xs : List TreeId) → t ≡ p → AreNodes t xs → AreNodes p xs
 all_over t p xs same h = subst (λ (q : Parsed). AreNodes q xs) same h
+
+-- a node that is there
+pub node_there : (p : Parsed) (ids : List TreeId) (i : ℕ) (id : TreeId) → AreNodes p ids → slice_get ids i ≡ Some id → id < size_of p
+node_there p ids i id h e = subst (λ x. x < size_of p) (get_or_from_slice_get ids i id id e) (h i id (slice_get_within ids i id e))

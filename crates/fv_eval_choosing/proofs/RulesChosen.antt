@@ -1,28 +1,30 @@
 -- Rules tried one after the other.
-use Rattle.std.proofs.Common.{◌≡◌, ℕ, zero, suc, ◌+◌, ◌<◌, ◌≤◌, arith, Bool, true, false, List, [], ◌∷◌, length, map, drop, get_or, Option, Some}
-use Rattle.std.proofs.Common.{None, refl, sym, ap, ap₂, subst, ◌∙◌, All, drop-cons, add-one}
+use Rattle.std.proofs.Common.{◌≡◌, ℕ, zero, suc, ◌+◌, ◌-◌, ◌<◌, ◌≤◌, arith, Bool, true, false, List, [], ◌∷◌, length, map, drop, get_or, Option, Some}
+use Rattle.std.proofs.Common.{None, refl, sym, ap, subst, ◌∙◌, drop-cons, add-one}
 use Rattle.std.specs.Prelude.{slice_get}
-use Rattle.std.proofs.lemmas.Option.{none-some, slice_get_within, slice_get_read, get_or_from_slice_get, same_Some}
+use Rattle.std.proofs.lemmas.Option.{slice_get_within, slice_get_read, get_or_from_slice_get}
 use Rattle.std.proofs.lemmas.List.{drop_all}
 use Rattle.fv_diagram.specs.Arena.{Arena}
-use Rattle.fv_diagram.specs.Composed.{IsComposed}
 use Rattle.fv_parse.specs.Trees.{Parsed, size_of, tree_in}
 use Rattle.fv_parse_tree.specs.declared.node.TreeId.{TreeId}
 use Rattle.fv_eval_scopes.specs.declared.value.Value as code_value
-use Rattle.fv_eval_scopes.specs.declared.value.Value.TheVariants as value
 use Rattle.fv_eval_scopes.specs.declared.value.Binding as code_binding
 use Rattle.fv_eval_choosing.specs.declared.choosing.RuleAt.{RuleAt}
 use Rattle.fv_eval_scopes.specs.declared.memo.Known.{Known}
 use Rattle.fv_rules.specs.headline.Values.{Rule, Value, rule_of}
-use Rattle.fv_rules.specs.headline.Matching.{Bindings, and_then, matched, all_matched, or_next, chosen}
-use Rattle.fv_eval_scopes.specs.Shows.{World, ShowsValue, ShowsValues, ShowsBindings}
+use Rattle.fv_rules.specs.headline.Matching.{all_matched, or_next, chosen}
+use Rattle.fv_eval_scopes.specs.Shows.{World, ShowsValues}
 use Rattle.fv_eval_scopes.specs.Memo.{Remembers, AddsIntegers}
-use Rattle.fv_eval_patterns.specs.Patterns.{IsSound, with_diagrams, ShowsMatched}
+use Rattle.fv_eval_patterns.specs.Patterns.{with_diagrams, ShowsMatched}
 use Rattle.fv_eval_choosing.specs.Chosen.{ShowsChoice, IsRuleAt, Chooses}
-use Rattle.fv_eval_scopes.proofs.Grown.{value_grows, values_grow}
-use Rattle.fv_eval_scopes.proofs.Added.{adds_none, adds_on, adds_keeps, adds_longer}
+use Rattle.fv_eval_scopes.proofs.Grown.{values_grow}
+use Rattle.fv_eval_scopes.proofs.Added.{adds_none, adds_on}
 use Rattle.fv_eval_patterns.proofs.Matched.{adds_grow}
 use Rattle.fv_eval_patterns.proofs.InOrder.{said_yes, said_no, AllAnswer}
+use Rattle.std.proofs.lemmas.List.{get_or_default}
+use Rattle.fv_eval_choosing.specs.Bits.{has}
+use Rattle.fv_eval_choosing.specs.Leaving.{IsOut, Leaves}
+use Rattle.fv_eval_choosing.proofs.Wanting.{rule_here}
 
 abbrev pub rule_in : Parsed → TreeId → Rule
 rule_in p id = rule_of (tree_in p id)
@@ -105,3 +107,42 @@ pub no_rule_chosen : {p : Parsed} {rules : List TreeId} {arguments : List code_v
 no_rule_chosen {p} {rules} {b = b} {i = i} m l w vs e f h =
     subst (ShowsChoice (with_diagrams w b) None)
     (ap (λ rs. chosen p.tokens (map (rule_in p) rs) vs) (sym (drop_all i rules l)) ∙ m.passed w vs e f h) tt
+
+-- ---- rules that are left out
+
+skipped : (p : Parsed) (rules : List TreeId) (vs : List Value) (n i : ℕ) → i + n ≤ length rules
+    → ((j : ℕ) (id : TreeId) → i ≤ j → j < i + n → slice_get rules j ≡ Some id → all_matched p.tokens (rule_in p id).patterns vs [] ≡ None)
+    → chosen p.tokens (map (rule_in p) (drop (i + n) rules)) vs ≡ chosen p.tokens (map (rule_in p) (drop i rules)) vs
+skipped p rules vs zero i l h = let e : i + 0 ≡ i = omega arith in ap (λ k. chosen p.tokens (map (rule_in p) (drop k rules)) vs) e
+skipped p rules vs (suc n) i l h =
+    let e : i + suc n ≡ suc i + n = omega arith in
+    let inside : i < length rules = omega (arith, l) in
+    let id : TreeId = get_or rules i 0 in
+    let got : slice_get rules i ≡ Some id = slice_get_read rules (length rules) i id refl inside (get_or_default rules i 0 id inside) in
+    let here : drop i rules ≡ id ∷ drop (suc i) rules = drop-cons rules i 0 inside in
+    ap (λ k. chosen p.tokens (map (rule_in p) (drop k rules)) vs) e
+    ∙ skipped p rules vs n (suc i) (omega (arith, l)) (λ j x f g. h j x (omega (arith, f)) (omega (arith, g)))
+    ∙ ap (λ o. or_next (rule_in p id).body o (chosen p.tokens (map (rule_in p) (drop (suc i) rules)) vs)) (sym (h i id (omega arith) (omega (arith, l)) got))
+    ∙ ap (λ rs. chosen p.tokens (map (rule_in p) rs) vs) (sym here)
+
+pub rules_skipped : {p : Parsed} {rules : List TreeId} {arguments : List code_value.Value} {a b : Arena} {ks : List Known} (left : Option (List ℕ)) (i k : ℕ)
+    → ChoosesOn p rules arguments a b ks i → Leaves (map (rule_in p) rules) arguments a left → i ≤ k → k ≤ length rules
+    → ((j : ℕ) → i ≤ j → j < k → IsOut left j) → ChoosesOn p rules arguments a b ks k
+rules_skipped {p} {rules} {arguments} {a} left i k m leaves l inside out = record {
+  adds = m.adds;
+  known = m.known;
+  passed = λ w vs e f h.
+      let n : ℕ = k - i in
+      let same : i + n ≡ k = omega (arith, l) in
+      ap (λ q. chosen p.tokens (map (rule_in p) (drop q rules)) vs) (sym same)
+      ∙ skipped p rules vs n i (omega (arith, same, inside))
+      (λ j id g t got. fails left leaves (out j g (omega (arith, t, same))) j id got refl w vs f h)
+      ∙ m.passed w vs e f h;
+}
+  where
+    fails : (left : Option (List ℕ)) → Leaves (map (rule_in p) rules) arguments a left → {j : ℕ} → IsOut left j → (k : ℕ) (id : TreeId)
+        → slice_get rules k ≡ Some id → k ≡ j → (w : World) (vs : List Value) → w.diagrams ≡ a → ShowsValues w arguments vs
+        → all_matched p.tokens (rule_in p id).patterns vs [] ≡ None
+    fails None leaves out k id got same w vs f h = absurd out
+    fails (Some bits) leaves {j} out k id got same w vs f h =
+        leaves k (rule_in p id) (rule_here p rules k id got) (ap (has bits) same ∙ out) p.tokens w vs f h

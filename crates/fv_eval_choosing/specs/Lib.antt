@@ -1,4 +1,7 @@
 pub mod ByName
 pub mod Chosen
-pub mod Literals
 pub mod inner
+pub mod Bits
+pub mod Indexes
+pub mod Leaving
+pub mod Positions

@@ -1,6 +1,6 @@
 // The rules that stand at a place, and the first one that matches.
 
-ghost use Rattle.std.specs.Prelude.{◌≡◌, ◌<◌, ◌≤◌, List, Some, IfOk, All, drop, length, map, slice_get};
+ghost use Rattle.std.specs.Prelude.{◌≡◌, ◌<◌, List, Some, IfOk, All, length, map, slice_get};
 ghost use Rattle.fv_parse.specs.Trees.{size_of, tree_in};
 ghost use Rattle.fv_eval_choosing.specs.declared.by_name.Defined.{Defined as AnItem};
 ghost use Rattle.fv_rules.specs.headline.Values.{Value as PureValue, rule_of};
@@ -10,11 +10,12 @@ ghost use Rattle.fv_eval_scopes.specs.Shows.{World, IsInside, ShowsValues, case_
 ghost use Rattle.fv_eval_scopes.specs.Memo.{Remembers, AddsIntegers};
 ghost use Rattle.fv_eval_patterns.specs.Patterns.{IsSound, with_diagrams};
 ghost use Rattle.fv_eval_patterns.specs.Trials.{Recalls};
-ghost use Rattle.fv_eval_choosing.specs.Literals.{Tells, number_in, told};
 ghost use Rattle.fv_eval_choosing.specs.Chosen.{ShowsChoice, IsRuleAt, IsFirstRule, Chooses, nodes_of};
+ghost use Rattle.fv_eval_choosing.specs.Leaving.{Leaves};
 
-use crate::by_literal::{ByLiteral, size_of_literal};
+use crate::bits::Bits;
 use crate::by_name::Defined;
+use crate::index::{left_by, next_left};
 use crate::lookup::Definitions;
 use fv_diagram::Diagrams;
 use fv_eval_patterns::{Bindings, Subjects, Trials};
@@ -57,20 +58,6 @@ impl Rules<'_> {
         match self {
             Rules::Case(nodes) => nodes[i],
             Rules::Definitions(all) => all[i].node,
-        }
-    }
-}
-
-impl<'t> Rules<'t> {
-    // Those behind so many.
-    fn behind(self, count: u64) -> Rules<'t>
-        requires { count ≤ length (nodes_of self) }
-        ensures { nodes_of result ≡ drop count (nodes_of self.entry) }
-    {
-        let from = count as usize;
-        match self {
-            Rules::Case(nodes) => Rules::Case(&nodes[from..]),
-            Rules::Definitions(all) => Rules::Definitions(&all[from..]),
         }
     }
 }
@@ -194,123 +181,31 @@ impl Definitions<'_> {
             → w.tree ≡ self.now → w.diagrams ≡ diagrams.old → ShowsValues w arguments.now vs
             → ShowsChoice (with_diagrams w diagrams.new) o (chosen self.now.tokens (rules_in self.now ruled) vs)) }
     {
-        let told = self.told(&ruled);
+        let index = self.index(&ruled);
         let rules = self.rules(ruled);
         let subjects = Subjects {
             alloc,
             tree: self.tree(),
             values: arguments,
         };
-        match told {
-            None => {
-                let choice = first_match(&subjects, rules, diagrams, numbers, trials)?;
-                Ok(choice)
-            }
-            Some(sorted) => {
-                let choice = told_match(&subjects, rules, sorted, diagrams, numbers, trials)?;
-                Ok(choice)
-            }
-        }
+        let left = left_by(index, &subjects, diagrams, numbers)?;
+        let choice = first_match(&subjects, rules, &left, diagrams, numbers, trials)?;
+        Ok(choice)
     }
 }
 
-// The first of rules that matches, where a literal tells those at the front apart.
-fn told_match(
-    subjects: &Subjects,
-    rules: Rules,
-    sorted: &ByLiteral,
-    diagrams: &mut Diagrams,
-    numbers: &mut Numbers,
-    trials: &mut Trials,
-) -> Result<Option<(TreeId, Bindings)>, AllocError>
-    requires inside { All (λ id. id < size_of subjects.now.tree.now) (nodes_of rules) }
-    requires told { Tells subjects.now.tree.now (map (λ id. rule_of (tree_in subjects.now.tree.now id)) (nodes_of rules)) sorted.now }
-    requires sound { All (IsSound diagrams.old) subjects.now.values.now }
-    requires known { Remembers diagrams.old numbers.old }
-    requires recalls { Recalls subjects.now.tree.now diagrams.old trials.old }
-    ensures adds { AddsIntegers diagrams.old diagrams.new }
-    ensures known { Remembers diagrams.new numbers.new }
-    ensures recalls { Recalls subjects.now.tree.now diagrams.new trials.new }
-    ensures chosen { IfOk result
-        (Chooses subjects.now.tree.now (nodes_of rules.entry) subjects.now.values.now diagrams.old diagrams.new) }
-{
-    let rest = rules.behind(sorted.count);
-    match front_match(subjects, sorted, diagrams, numbers, trials)? {
-        Some(choice) => Ok(Some(choice)),
-        None => {
-            let choice = first_match(subjects, rest, diagrams, numbers, trials)?;
-            Ok(choice)
-        }
-    }
-}
-
-// The first of the rules at the front that matches: only those with the argument's number are tried.
-fn front_match(
-    subjects: &Subjects,
-    sorted: &ByLiteral,
-    diagrams: &mut Diagrams,
-    numbers: &mut Numbers,
-    trials: &mut Trials,
-) -> Result<Option<(TreeId, Bindings)>, AllocError>
-    requires there { All (λ (d : AnItem). d.node < size_of subjects.now.tree.now) sorted.now.rules }
-    requires sound { All (IsSound diagrams.old) subjects.now.values.now }
-    requires known { Remembers diagrams.old numbers.old }
-    requires recalls { Recalls subjects.now.tree.now diagrams.old trials.old }
-    ensures adds { AddsIntegers diagrams.old diagrams.new }
-    ensures known { Remembers diagrams.new numbers.new }
-    ensures recalls { Recalls subjects.now.tree.now diagrams.new trials.new }
-    ensures chosen { IfOk result (λ o. (w : World) (vs : List PureValue)
-        → w.diagrams ≡ diagrams.old → ShowsValues w subjects.now.values.now vs
-        → Chooses subjects.now.tree.now
-        (map (λ (d : AnItem). d.node) (told sorted.now.rules (number_in (slice_get vs sorted.now.position))))
-        subjects.now.values.now diagrams.old diagrams.new o) }
-{
-    let Some(k) = number_at(subjects, diagrams, numbers, sorted.position)? else {
-        return Ok(None);
-    };
-    let rules = Rules::Definitions(sorted.rules.called(size_of_literal(k)));
-    let choice = first_match(subjects, rules, diagrams, numbers, trials)?;
-    Ok(choice)
-}
-
-// The number of the argument at a position, if it has one.
-fn number_at(
-    subjects: &Subjects,
-    diagrams: &Diagrams,
-    numbers: &mut Numbers,
-    position: u64,
-) -> Result<Option<i32>, AllocError>
-    requires sound { All (IsSound diagrams.now) subjects.now.values.now }
-    requires known { Remembers diagrams.now numbers.old }
-    ensures known { Remembers diagrams.now numbers.new }
-    ensures number { IfOk result (λ o. (w : World) (vs : List PureValue)
-        → w.diagrams ≡ diagrams.now → ShowsValues w subjects.now.values.now vs → number_in (slice_get vs position) ≡ o) }
-{
-    let i = position as usize;
-    let arguments = subjects.values;
-    if i >= arguments.len() {
-        return Ok(None);
-    }
-    let argument = &arguments[i];
-    match argument {
-        Value::Diagram(id) => {
-            let number = numbers.number_of(subjects.alloc, diagrams, *id)?;
-            Ok(number)
-        }
-        Value::Abstraction { .. } => Ok(None),
-        Value::Rules { .. } => Ok(None),
-    }
-}
-
-// The first of rules that matches.
+// The first of rules that matches, where the others than these do not.
 fn first_match(
     subjects: &Subjects,
     rules: Rules,
+    left: &Option<Bits>,
     diagrams: &mut Diagrams,
     numbers: &mut Numbers,
     trials: &mut Trials,
 ) -> Result<Option<(TreeId, Bindings)>, AllocError>
     requires inside { All (λ id. id < size_of subjects.now.tree.now) (nodes_of rules) }
+    requires left { Leaves (map (λ id. rule_of (tree_in subjects.now.tree.now id)) (nodes_of rules)) subjects.now.values.now
+        diagrams.old left.now }
     requires sound { All (IsSound diagrams.old) subjects.now.values.now }
     requires known { Remembers diagrams.old numbers.old }
     requires recalls { Recalls subjects.now.tree.now diagrams.old trials.old }
@@ -320,13 +215,16 @@ fn first_match(
     ensures chosen { IfOk result
         (Chooses subjects.now.tree.now (nodes_of rules.entry) subjects.now.values.now diagrams.old diagrams.new) }
 {
-    for i in 0..rules.len() {
-        let id = rules.node(i);
+    let end = rules.len() as u64;
+    let mut at = next_left(left, 0, end);
+    'rules: while at < end {
+        let id = rules.node(at as usize);
         let rule = rule_at(subjects.tree, id);
         let mut list = Vec::new(subjects.alloc);
         if subjects.match_all(rule.patterns, diagrams, numbers, trials, &mut list)? {
             return Ok(Some((rule.body, Bindings::of(list))));
         }
+        at = next_left(left, at + 1, end);
     }
     Ok(None)
 }

@@ -1,9 +1,13 @@
 //! What a name stands for, and which rule matches: definitions by name, the choice of a rule.
 #![tactic(auto)]
 
-mod by_literal;
+mod bits;
 mod by_name;
 mod choosing;
+mod index;
 mod lookup;
+mod paths;
+mod positions;
+mod wants;
 
 pub use lookup::Definitions;

@@ -9,40 +9,40 @@ ghost use Rattle.fv_eval_choosing.specs.declared.by_name.Defined.{Defined as AnI
 ghost use Rattle.fv_eval_scopes.specs.Environments.{scope_in};
 ghost use Rattle.fv_eval_choosing.specs.ByName.{IsAmong};
 ghost use Rattle.fv_eval_scopes.specs.declared.value.Ruled.TheVariants.{Definitions as AtDefinitions};
-ghost use Rattle.fv_eval_choosing.specs.Literals.{Tells};
 ghost use Rattle.fv_eval_scopes.specs.Shows.{World, IsInside, IsNamed, ShowsEnv, ShowsMeaning, rules_in};
+ghost use Rattle.fv_eval_choosing.specs.Leaving.{IsIndex};
 ghost use Rattle.fv_eval_choosing.specs.inner.Lookup.{SaysOrPasses, HoldsNone, IsMade, StillReaches, outer, is_name, are_names};
 
-use crate::by_literal::{ByLiteral, by_literal};
 use crate::by_name::{ByName, Defined, by_name, hold};
+use crate::index::RuleIndex;
 use fv_eval_scopes::{Meaning, Ruled, Scope, Scopes, Value, outer_of};
 use fv_parse::{Tree, TreeId, TreeNode, same_names};
 use std::alloc::{AllocError, Global};
 use std::marker::Model;
 
-/// A tree with the definitions of each list in it, sorted by name, and the rules at each place, sorted by a literal where
-/// that tells them apart.
+/// A tree with the definitions of each list in it, sorted by name, and an index of the rules at each place where there are
+/// many.
 #[derive(Drop)]
 pub struct Definitions<'a> {
     tree: &'a Tree<'a>,
     lists: Vec<ByName>,
     /// Each name with each list that defines it.
     holders: ByName,
-    literals: Vec<ByLiteral>,
-    /// For each node at which rules stand, where among `literals` to look for them.
+    indexes: Vec<RuleIndex>,
+    /// For each node at which rules stand, where among `indexes` to look for them.
     places: Vec<u64>,
 }
 
 impl<'a> Model for Definitions<'a> {
     ghost use Rattle.fv_parse.specs.Trees.{Parsed};
     ghost use Rattle.fv_eval_choosing.specs.ByName.{AreIndexed, AreHeld};
-    ghost use Rattle.fv_eval_choosing.specs.Literals.{AreTold};
+    ghost use Rattle.fv_eval_choosing.specs.Indexes.{AreIndexes};
 
     ghost Value = { Parsed };
 
     ghost view = { λ d. d.tree.now };
 
-    ghost invariant = { λ d. AreIndexed d.tree.now d.lists.items × AreTold d.tree.now d.literals.items × AreHeld d.lists.items d.holders };
+    ghost invariant = { λ d. AreIndexed d.tree.now d.lists.items × AreIndexes d.tree.now d.indexes.items × AreHeld d.lists.items d.holders };
 }
 
 impl<'a> Definitions<'a> {
@@ -64,41 +64,41 @@ impl<'a> Definitions<'a> {
             tree,
             lists,
             holders,
-            literals: Vec::new(alloc),
+            indexes: Vec::new(alloc),
             places: Vec::new(alloc),
         };
-        definitions.sort_all_rules(alloc)?;
+        definitions.index_all(alloc)?;
         Ok(definitions)
     }
 
-    // The rules at each place, sorted by a literal.
-    fn sort_all_rules(&mut self, alloc: Global) -> Result<(), AllocError>
+    // An index of the rules at each place.
+    fn index_all(&mut self, alloc: Global) -> Result<(), AllocError>
         ensures { OnOk result (self.new ≡ self.old) }
     {
         let tree = self.tree;
         for i in 0..tree.len() {
             self.places.push(0)?;
-            self.sort_rules(alloc, TreeId::new(i))?;
+            self.index_at(alloc, TreeId::new(i))?;
         }
         Ok(())
     }
 
-    // Those at a node: the rules of a `case`, or those of each name of a list of definitions.
-    fn sort_rules(&mut self, alloc: Global, id: TreeId) -> Result<(), AllocError>
+    // The same at a node: of the rules of a `case`, or of those of each name of a list of definitions.
+    fn index_at(&mut self, alloc: Global, id: TreeId) -> Result<(), AllocError>
         requires { id < size_of self.old }
         ensures { OnOk result (self.new ≡ self.old) }
     {
         let tree = self.tree;
         match tree.node(id) {
-            TreeNode::Case(_) => self.sort_by_literal(alloc, &Ruled::Case(id), id)?,
-            TreeNode::List(_) => self.sort_functions(alloc, id)?,
+            TreeNode::Case(_) => self.index_rules(alloc, &Ruled::Case(id), id)?,
+            TreeNode::List(_) => self.index_functions(alloc, id)?,
             _ => {}
         }
         Ok(())
     }
 
-    // The rules of each name of a list of definitions, sorted by a literal.
-    fn sort_functions(&mut self, alloc: Global, list: TreeId) -> Result<(), AllocError>
+    // The same of the rules of each name of a list of definitions.
+    fn index_functions(&mut self, alloc: Global, list: TreeId) -> Result<(), AllocError>
         requires { list < size_of self.old }
         ensures { OnOk result (self.new ≡ self.old) }
     {
@@ -109,7 +109,7 @@ impl<'a> Definitions<'a> {
                     list,
                     first: *first,
                 };
-                self.sort_by_literal(alloc, &ruled, *first)?;
+                self.index_rules(alloc, &ruled, *first)?;
             }
         }
         Ok(())
@@ -133,22 +133,17 @@ impl<'a> Definitions<'a> {
         }
     }
 
-    // The rules at a place, sorted by a literal, to be looked for at a node.
-    fn sort_by_literal(
-        &mut self,
-        alloc: Global,
-        ruled: &Ruled,
-        node: TreeId,
-    ) -> Result<(), AllocError>
+    // An index of the rules at a place, to be looked for at a node.
+    fn index_rules(&mut self, alloc: Global, ruled: &Ruled, node: TreeId) -> Result<(), AllocError>
         requires { IsInside self.old ruled.now }
         ensures { OnOk result (self.new ≡ self.old) }
     {
         let rules = self.rules(*ruled);
-        let Some(sorted) = by_literal(alloc, self.tree, ruled, rules)? else {
+        let Some(index) = RuleIndex::new(alloc, self.tree, ruled, rules)? else {
             return Ok(());
         };
-        let place = self.literals.len() as u64;
-        self.literals.push(sorted)?;
+        let place = self.indexes.len() as u64;
+        self.indexes.push(index)?;
         let i = node.number() as usize;
         if i < self.places.len() {
             self.places[i] = place;
@@ -156,16 +151,16 @@ impl<'a> Definitions<'a> {
         Ok(())
     }
 
-    /// The rules at a place, where a literal tells those at the front apart.
-    pub(crate) fn told(&self, ruled: &Ruled) -> Option<&ByLiteral>
-        ensures { IfSome result (λ b. Tells self.now (rules_in self.now ruled.now) b.now) }
+    /// The index of the rules at a place, where there is one.
+    pub(crate) fn index(&self, ruled: &Ruled) -> Option<&RuleIndex>
+        ensures { IfSome result (λ x. IsIndex (rules_in self.now ruled.now) x.now) }
     {
         let node = match ruled {
             Ruled::Case(id) => id.number(),
             Ruled::Definitions { first, .. } => first.number(),
         };
         let place = self.places.get(node as usize).copied()?;
-        let found = self.literals.get(place as usize)?;
+        let found = self.indexes.get(place as usize)?;
         if is_same(&found.ruled, ruled) {
             Some(found)
         } else {

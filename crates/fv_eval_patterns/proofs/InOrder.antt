@@ -6,18 +6,18 @@ use Rattle.std.proofs.lemmas.Option.{none-some, slice_get_within, slice_get_read
 use Rattle.std.proofs.lemmas.List.{drop_all}
 use Rattle.fv_diagram.specs.Arena.{Arena}
 use Rattle.fv_diagram.specs.Composed.{IsComposed}
-use Rattle.fv_parse.specs.Trees.{Parsed, size_of, tree_in}
+use Rattle.fv_parse.specs.Trees.{Parsed, tree_in}
 use Rattle.fv_parse_tree.specs.declared.node.TreeId.{TreeId}
 use Rattle.fv_eval_scopes.specs.declared.value.Value as code_value
 use Rattle.fv_eval_scopes.specs.declared.value.Value.TheVariants as value
 use Rattle.fv_eval_scopes.specs.declared.value.Binding as code_binding
 use Rattle.fv_eval_scopes.specs.declared.memo.Known.{Known}
-use Rattle.fv_rules.specs.headline.Values.{Rule, Value, rule_of}
-use Rattle.fv_rules.specs.headline.Matching.{Bindings, and_then, matched, all_matched, or_next, chosen}
+use Rattle.fv_rules.specs.headline.Values.{Value}
+use Rattle.fv_rules.specs.headline.Matching.{Bindings, and_then, matched, all_matched}
 use Rattle.fv_eval_scopes.specs.Shows.{World, ShowsValue, ShowsValues, ShowsBindings}
 use Rattle.fv_eval_scopes.specs.Memo.{Remembers, AddsIntegers}
 use Rattle.fv_eval_patterns.specs.Patterns.{IsSound, with_diagrams, ShowsMatched}
-use Rattle.fv_eval_scopes.proofs.Grown.{value_grows, values_grow}
+use Rattle.fv_eval_scopes.proofs.Grown.{value_grows}
 use Rattle.fv_eval_scopes.proofs.Added.{adds_none, adds_on, adds_keeps, adds_longer}
 use Rattle.fv_eval_patterns.proofs.Matched.{adds_grow}
 

@@ -1,20 +1,17 @@
 -- Long patterns that are tried without binding anything.
-use Rattle.std.proofs.Common.{◌≡◌, ℕ, ℤ, zero, suc, ◌+◌, ◌*◌, ◌<◌, ◌≤◌, arith, Bool, true, false, List, [], ◌∷◌, ◌++◌, map, reverse, Option, Some, None}
+use Rattle.std.proofs.Common.{◌≡◌, ℕ, ℤ, zero, suc, ◌<◌, ◌≤◌, arith, Bool, true, false, List, [], ◌∷◌, ◌++◌, map, reverse, Option, Some, None}
 use Rattle.std.proofs.Common.{refl, sym, ap, subst, ◌∙◌}
 use Rattle.std.specs.Prelude.{slice_get, option_to_list}
-use Rattle.std.specs.List.{sum_by}
 use Rattle.std.specs.Bool.{MatchBool}
 use Rattle.std.proofs.lemmas.List.{reverse-append}
 use Rattle.std.proofs.lemmas.List.Sums.{sum_by_push}
 use Rattle.std.proofs.lemmas.Option.{none-some, same_Some}
 use Rattle.std.proofs.lemmas.Bool.{false≢true}
 use Rattle.fv_diagram.specs.declared.node.DiagramId.{DiagramId}
-use Rattle.fv_diagram.specs.headline.Diagram.{size}
 use Rattle.fv_diagram.specs.Arena.{Arena, count_of, tree_of}
 use Rattle.fv_diagram.proofs.Turns.{some_size}
 use Rattle.fv_diagram_number.specs.headline.Numbers.{number_of}
 use Rattle.fv_parse.specs.Trees.{Parsed, size_of, tree_in}
-use Rattle.fv_parse_grammar.specs.headline.Tree.{Tree}
 use Rattle.fv_parse_grammar.specs.declared.form.Operator.{Operator}
 use Rattle.fv_parse_tree.specs.declared.node.TreeId.{TreeId}
 use Rattle.fv_eval_scopes.specs.declared.value.Value as code_value
@@ -28,7 +25,7 @@ use Rattle.fv_rules.specs.headline.Values.{Value, Flat}
 use Rattle.fv_rules.specs.headline.Matching.{Bindings, and_then, is_number, parts_without, matched, all_matched}
 use Rattle.fv_eval_scopes.specs.Shows.{World, ShowsValue, ShowsValues}
 use Rattle.fv_eval_scopes.specs.Memo.{Remembers, AddsIntegers}
-use Rattle.fv_eval_patterns.specs.Patterns.{matched_on, pair_of, are_parts, ArePartsOf, IsPair, Refuses}
+use Rattle.fv_eval_patterns.specs.Patterns.{matched_on, are_parts, ArePartsOf, IsPair, Refuses}
 use Rattle.fv_eval_patterns.specs.Trials.{AllMiss, Leads, Recalls, Says, Splits, weight, weights}
 use Rattle.fv_eval_scopes.proofs.Added.{adds_keeps, adds_longer}
 use Rattle.fv_eval_patterns.proofs.Matched.{IsNumber, IsPaired, and_then_some, by_parts, number_refuses}

@@ -1,6 +1,6 @@
 // All lanes, for one worker, over several blocks.
 
-ghost use Rattle.std.specs.Prelude.{◌≤◌, IsTrue};
+ghost use Rattle.std.specs.Prelude.{◌<◌, ◌≤◌, IsTrue};
 ghost use Rattle.fv_pool.specs.Lengths.{lengths_of};
 ghost use Rattle.fv_lines.specs.Solo.{IsHeld, AreLists, AreHeld, AreFramed, AreFull, IsSolo, lanes_of};
 
@@ -136,8 +136,8 @@ fn play(
 ) {
     assert!(rt; may_begin(layout, shapes, states, written, cells, FRAMES));
     let mut solo = Solo::begin(cells, layout, shapes, states, written, FRAMES);
-    let mut n = 0;
-    for now in counted_from(first) {
+    for n in 0..u64::from(FRAMES) {
+        let now = first.saturating_add(n as i32);
         append_each(rt, &mut solo, &[now, 7, 0i32.saturating_sub(now)]);
         let seen = [
             at(rt, &solo, 0, n, 0),
@@ -154,7 +154,6 @@ fn play(
             0i32.saturating_sub(counted(now, 17)),
         ];
         assert_eq!(rt; seen, wanted);
-        n += 1;
     }
     assert!(rt; !solo.is_empty() && are_full(&solo));
     solo.finish();

@@ -2,7 +2,8 @@
 
 use crate::au::TO_AU;
 use crate::desks::{Row, Silent, THREE, WORDS, assert_all_end, assert_all_report};
-use crate::samples::{Played, assert_all_play};
+use crate::samples::{Played, assert_all_play, assert_plays};
+use fv_outside::FreeGate;
 use std::alloc::{AllocError, Global};
 use std::process::Abort;
 use std::sync::Wait;
@@ -142,4 +143,59 @@ fn a_table_in_an_au_file(rt: HostRuntime) -> Result<(), Fail> {
     let text = "process = rdtable(4,1,_);";
     let rows: [Row; 1] = [(&TO_AU, text, &THREE, (0, "done 3 frames\n", &ONES))];
     Ok(assert_all_end(&rt, rt.alloc(), &rows)?)
+}
+
+/// Blocks and vectors of one frame, and of 512 and 32, by one worker and by two.
+const SIZES: [[&str; 3]; 4] = [
+    ["--block=1", "--vector=1", "--workers=1"],
+    ["--block=512", "--vector=32", "--workers=1"],
+    ["--block=1", "--vector=1", "--workers=2"],
+    ["--block=512", "--vector=32", "--workers=2"],
+];
+
+/// A program, the channels and the samples of its input, those of its output, and the line.
+type Sounding<'a> = (&'a str, (u32, &'a [i32]), (u32, &'a [i32]), &'a str);
+
+#[test]
+fn tables_sound_by_each_size(rt: HostRuntime) -> Result<(), Fail> {
+    let rows: [Sounding<'_>; 5] = [
+        (
+            "process = rdtable(4, (+(1) ~ _), _);",
+            (1, &[0, 3, 9, -5]),
+            (1, &[1, 4, 4, 1]),
+            "done 4 frames\n",
+        ),
+        (
+            "process = waveform{10,-20,30}, _ : rdtable;",
+            (1, &[0, 1, 2, 3, -1]),
+            (1, &[10, -20, 30, 30, 10]),
+            "done 5 frames\n",
+        ),
+        (
+            "process = !, waveform{5,6};",
+            (1, &[0, 0, 0]),
+            (2, &[2, 5, 2, 6, 2, 5]),
+            "done 3 frames\n",
+        ),
+        (
+            "process = rwtable(2,7,_,_,_);",
+            (3, &[0, 1, 0, 1, 5, 0, 0, 9, 1]),
+            (1, &[1, 1, 5]),
+            "done 3 frames\n",
+        ),
+        (
+            "process = + ~ rwtable(2,3,1,_,0);",
+            (1, &[1, 2]),
+            (1, &[4, 5]),
+            "done 2 frames\n",
+        ),
+    ];
+    for (text, heard, said, line) in &rows {
+        for [block, vector, workers] in &SIZES {
+            let words = ["run", "p.dsp", "in.wav", "out.wav", block, vector, workers];
+            let played: Played = (&words, text, *heard, *said, line);
+            assert_plays(&rt, rt.alloc(), &played, &mut FreeGate)?;
+        }
+    }
+    Ok(())
 }

@@ -21,7 +21,7 @@ shapes_with p = (block_with p).shapes.now
 -- a block that may be run over these cells, and has not
 pub record MayUse (p : Pack) (cells : List ℤ) : Type 0 where
   pub spread : IsSpread (block_with p)
-  pub over : MayRunOver (block_with p) p.states.now cells p.lists.items
+  pub over : MayRunOver (block_with p) p.states.now cells p.lists.now.items
   pub none : p.lines.now.items ≡ []
   pub room : task_count (tasks_of (block_with p)) ≤ vec_capacity p.lines.now
   pub output : length p.output.now ≡ (block_with p).frames * length (block_with p).plan.now.outputs
@@ -32,10 +32,11 @@ pub record Leaves (old new : Pack) (before after : List ℤ) : Type 0 where
   pub states_are : new.states.ghost_name ≡ old.states.ghost_name
   pub lines_are : new.lines.ghost_name ≡ old.lines.ghost_name
   pub output_is : new.output.ghost_name ≡ old.output.ghost_name
+  pub lists_are : new.lists.ghost_name ≡ old.lists.ghost_name
   pub ran : new.ran ≡ true → Ran (tasks_of (block_with old)) (block_in (block_with old)) (lengths_by (shapes_with old)) (shapes_with old)
-      (opening_of (block_with old) old.states.now before old.lists.items) after new.states.now new.lists.items new.lines.now.items (block_with old).plan.now.outputs new.output.now
+      (opening_of (block_with old) old.states.now before old.lists.now.items) after new.states.now new.lists.now.items new.lines.now.items (block_with old).plan.now.outputs new.output.now
   pub left : new.ran ≡ false → HoldAsBefore (shapes_with old) old.states.now before new.states.now after
-  pub lists_left : new.ran ≡ false → lists_of new.lists.items ≡ lists_of old.lists.items
+  pub lists_left : new.ran ≡ false → lists_of new.lists.now.items ≡ lists_of old.lists.now.items
   pub untold : new.ran ≡ false → new.lines.now.items ≡ []
   pub silent : new.ran ≡ false → new.output.now ≡ old.output.now
   pub lanes : AreHeld (lengths_by (shapes_with old)) (shapes_with old) new.states.now

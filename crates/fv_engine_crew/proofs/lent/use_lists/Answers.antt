@@ -25,7 +25,7 @@ module _ (g : Over) (c : After-end-rest g) where
   abbrev begun : List LaneWriter
   begun = c.begin_lanes.new.all.items
 
-  handed : Handed block before (left_of c.args.uncut) c.args.pack.now.lists.items begun
+  handed : Handed block before (left_of c.args.uncut) c.args.pack.now.lists.now.items begun
   handed = record { spread = c.requires.may.spread; over = c.requires.may.over; began = c.begin_lanes.ensures.begun }
 
   -- what comes back is of the loan of the cells
@@ -35,7 +35,7 @@ module _ (g : Over) (c : After-end-rest g) where
       (chain_later begun ws (loan_of c.args.uncut) (loan_of c.begin_lanes.new.uncut) same c.begin_lanes.ensures.chain)
 
 pub begin_lanes-requires-clause-may : goal.begin_lanes-requires-clause-may
-begin_lanes-requires-clause-may g c = may_begin c.args.pack.now.block.now c.args.pack.now.states.now (left_of c.args.uncut) c.args.pack.now.lists.items c.requires.may.over
+begin_lanes-requires-clause-may g c = may_begin c.args.pack.now.block.now c.args.pack.now.states.now (left_of c.args.uncut) c.args.pack.now.lists.now.items c.requires.may.over
 
 pub run_begun-requires-clause-begun : goal.run_begun-requires-clause-begun
 run_begun-requires-clause-begun g c = λ κs within. are_open (handed g (goal.at.run_begun-requires-clause-begun g c).After-end-rest)
@@ -77,6 +77,7 @@ returns-in-Ok g c =
         states_are = refl;
         lines_are = refl;
         output_is = refl;
+        lists_are = refl;
         ran = λ yes. ran (handed g d) whole journal ended e.states e.samples;
         left = λ no. absurd (true≢false no);
         lists_left = λ no. absurd (true≢false no);
@@ -106,6 +107,7 @@ returns-in-Err g c =
         states_are = refl;
         lines_are = refl;
         output_is = refl;
+        lists_are = refl;
         ran = λ yes. absurd (true≢false (sym yes ∙ c.requires.may.not_yet));
         left = λ no. as_before ended e.states untouched;
         lists_left = λ no. c.in-Err.ensures.as_before;

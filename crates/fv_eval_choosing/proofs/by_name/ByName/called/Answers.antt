@@ -5,7 +5,7 @@ use Rattle.std.proofs.lemmas.List.{take_rest}
 use Rattle.std.proofs.lemmas.List.Sorted.{IsPartitionPoint-from_clause, IsPartitionedBy-ltb, IsPartitionedBy-leb, IsNonDecreasingBy-drop}
 use Rattle.fv_eval_choosing.specs.declared.by_name.Defined.{Defined}
 use Rattle.fv_eval_choosing.specs.ByName.{is_called}
-use Rattle.fv_eval_choosing.proofs.Named.{called_from}
+use Rattle.fv_eval_choosing.proofs.Keyed.{keyed_from}
 use Rattle.fv_eval_choosing.proofs.by_name.ByName.called.Goals as goal
 
 pub returns : goal.returns
@@ -25,5 +25,5 @@ returns c =
     let high =
     IsPartitionPoint-from_clause (λ (d : Defined). nat_le d.name name) ys n c.partition_point-count.ensures.partitioned
     (IsPartitionedBy-leb (λ (d : Defined). d.name) ys name up_rest) (λ x r q k. search rules) in
-    ap (take n) rest ∙ sym (called_from name xs ys a n c.partition_point-from.ensures.bound rest c.partition_point-count.ensures.bound low high)
+    ap (take n) rest ∙ sym (keyed_from (λ (d : Defined). d.name) name xs ys a n c.partition_point-from.ensures.bound rest c.partition_point-count.ensures.bound low high)
     ∙ ap (filter (is_called name)) (c.as_slice-all.ensures.value ∙ c.self.view_is)

@@ -1,0 +1,108 @@
+// Sets of places in a list, with a bit for each.
+
+ghost use Rattle.std.specs.Prelude.{ℕ, ◌≡◌, ◌<◌, ◌≤◌, true, false, IfOk, slice_index_or};
+ghost use Rattle.fv_eval_choosing.specs.Bits.{has};
+
+use std::alloc::{AllocError, Global};
+use std::marker::Model;
+
+/// How many places a word has.
+pub(crate) const WORD: u64 = 64;
+
+/// Places in a list.
+#[derive(Drop)]
+pub(crate) struct Bits {
+    words: Vec<u64>,
+}
+
+impl Model for Bits {
+    ghost use Rattle.std.specs.Prelude.{List, ℕ};
+
+    ghost Value = { List ℕ };
+
+    ghost view = { λ b. b.words.items };
+}
+
+impl Bits {
+    /// No place.
+    pub(crate) fn new(alloc: Global) -> Bits {
+        Bits {
+            words: Vec::new(alloc),
+        }
+    }
+
+    /// So many places, from the first one on.
+    pub(crate) fn first(alloc: Global, count: u64) -> Result<Bits, AllocError>
+        ensures { IfOk result (λ b. (j : ℕ) → j < count → has b j ≡ true) }
+    {
+        let mut all = Bits::new(alloc);
+        for i in 0..count {
+            all.add(i)?;
+        }
+        Ok(all)
+    }
+
+    /// The same places.
+    pub(crate) fn copy(&self, alloc: Global) -> Result<Bits, AllocError>
+        ensures { IfOk result (λ b. b ≡ self.now) }
+    {
+        let words = Vec::from_slice(alloc, self.words.as_slice())?;
+        Ok(Bits { words })
+    }
+
+    /// One place more.
+    pub(crate) fn add(&mut self, place: u64) -> Result<(), AllocError>
+        ensures keeps { (j : ℕ) → has self.old j ≡ true → has self.new j ≡ true }
+        ensures added { IfOk result (λ _. has self.new place ≡ true) }
+    {
+        let i = (place / WORD) as usize;
+        'grow: while self.words.len() <= i {
+            self.words.push(0)?;
+        }
+        let word = self.words[i];
+        self.words[i] = word | (1 << (place % WORD));
+        Ok(())
+    }
+
+    /// Leaves those alone that are among others too.
+    pub(crate) fn keep(&mut self, others: &Bits)
+        ensures { (j : ℕ) → has self.old j ≡ true → has others.now j ≡ true → has self.new j ≡ true }
+    {
+        let count = others.words.len();
+        self.words.truncate(count);
+        for i in 0..self.words.len() {
+            let word = self.words[i];
+            self.words[i] = word & others.words[i];
+        }
+    }
+
+    // A word; there is nothing behind the last one.
+    fn word(&self, i: u64) -> u64
+        ensures { result ≡ slice_index_or self.now i 0 }
+    {
+        let place = i as usize;
+        if place < self.words.len() {
+            self.words[place]
+        } else {
+            0
+        }
+    }
+
+    /// The first of the places from one on, if it is before an end; else the end.
+    pub(crate) fn next(&self, from: u64, end: u64) -> u64
+        ensures from { from ≤ end → from ≤ result }
+        ensures within { result ≤ end }
+        ensures skipped { (j : ℕ) → from ≤ j → j < result → has self.now j ≡ false }
+    {
+        let mut at = from;
+        'words: while at < end {
+            let rest = self.word(at / WORD) >> (at % WORD);
+            if rest != 0 {
+                let found = at.saturating_add(u64::from(rest.trailing_zeros()));
+                return if found < end { found } else { end };
+            }
+            at = at.saturating_add(WORD - at % WORD);
+        }
+        end
+    }
+}
