@@ -20,7 +20,7 @@ use Rattle.fv_propagate.proofs.Named.{control_below}
 use Rattle.fv_propagate.specs.headline.Propagated.{NamesOf}
 use Rattle.fv_rules.specs.headline.Rules.{visit_limit}
 use Rattle.fv_signal.specs.declared.signal.Signal.{Signal}
-use Rattle.fv_signal.specs.declared.signal.Signal.TheVariants.{Input, Const, Control, Point, Delay, Back, Member, Read, Write}
+use Rattle.fv_signal.specs.declared.signal.Signal.TheVariants.{Input, Const, Control, Point, Delay, Back, Member, Read as ReadTable, Write as WriteTable}
 use Rattle.fv_top_text.specs.headline.Compiled.{Compiled}
 use Rattle.fv_top_text.specs.Compiled.{CanPlay, compiled_of}
 use Rattle.fv_top_rack.specs.headline.Racks.{part_of}
@@ -45,8 +45,8 @@ names_below d n m (Point op args) h i c = tt
 names_below d n m (Delay x by max) h i c = tt
 names_below d n m (Back g k) h i c = tt
 names_below d n m (Member g k) h i c = tt
-names_below d n m (Read table r) h i c = tt
-names_below d n m (Write table w x r) h i c = tt
+names_below d n m (ReadTable table r) h i c = tt
+names_below d n m (WriteTable table w x r) h i c = tt
 
 own_names : (c : Compiled) (j : Job) → CanPlay c → IsJobOf j (part_of c) → ReadsWithin j.inputs j.controls j.graph
 own_names c j plays of s d l =
