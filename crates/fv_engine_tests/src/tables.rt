@@ -82,41 +82,42 @@ fn assert_all_sound<R: Abort + Threads + Wait + Sync>(
 }
 
 // An item at the input, clamped to the list; the one item of a list; and a held item, by which the input is multiplied.
+const READ: [Row<'static>; 3] = [
+    (
+        &[Line::Input(0), Line::Read(0, 0)],
+        &[],
+        &[&[10, -20, 30]],
+        1,
+        [
+            10, -20, 30, 30, 10, 30, 30, 10, 30, -20, 10, 30, 10, 30, -20, -20, 30, 10, 30, 10,
+        ],
+    ),
+    (
+        &[Line::Input(0), Line::Read(1, 0)],
+        &[],
+        &[&[10, -20, 30], &[42]],
+        1,
+        [42; 20],
+    ),
+    (
+        &[
+            Line::Input(0),
+            Line::Const(1),
+            Line::Read(0, 1),
+            Line::Pair(Op::Mul, 0, 2),
+        ],
+        &[],
+        &[&[4, 5, 6]],
+        3,
+        [
+            0, 5, 10, 15, -5, 25, 500, -500, 10, 5, 0, 35, -15, 20, 5, 5, 10, 0, 45, -10,
+        ],
+    ),
+];
+
 #[test]
 fn tables_that_are_read(rt: HostRuntime) -> Result<(), Fail> {
-    let rows: [Row<'_>; 3] = [
-        (
-            &[Line::Input(0), Line::Read(0, 0)],
-            &[],
-            &[&[10, -20, 30]],
-            1,
-            [
-                10, -20, 30, 30, 10, 30, 30, 10, 30, -20, 10, 30, 10, 30, -20, -20, 30, 10, 30, 10,
-            ],
-        ),
-        (
-            &[Line::Input(0), Line::Read(1, 0)],
-            &[],
-            &[&[10, -20, 30], &[42]],
-            1,
-            [42; 20],
-        ),
-        (
-            &[
-                Line::Input(0),
-                Line::Const(1),
-                Line::Read(0, 1),
-                Line::Pair(Op::Mul, 0, 2),
-            ],
-            &[],
-            &[&[4, 5, 6]],
-            3,
-            [
-                0, 5, 10, 15, -5, 25, 500, -500, 10, 5, 0, 35, -15, 20, 5, 5, 10, 0, 45, -10,
-            ],
-        ),
-    ];
-    assert_all_sound(&rt, rt.alloc(), &rows)
+    assert_all_sound(&rt, rt.alloc(), &READ)
 }
 
 // One item that is written and read at once; a sum in a loop, which is written where it is read; and the number of a sample, which is
