@@ -1,7 +1,7 @@
 use Rattle.std.proofs.Common.{All, sym, subst}
 use Rattle.fv_diagram.specs.Arena.{tree_of}
 use Rattle.fv_diagram.specs.Controls.{IsBounded}
-use Rattle.fv_engine_render_tests.proofs.playing.rendered.Goals as goal
+use Rattle.fv_engine_render_tests.proofs.playing.rendered_by.Goals as goal
 
 pub render_tape-requires-clause-bounded : goal.render_tape-requires-clause-bounded
 render_tape-requires-clause-bounded g c κs within = subst (All IsBounded) (sym c.as_slice-controls.ensures) c.program.invariant.1.bounded
