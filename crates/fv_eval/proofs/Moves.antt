@@ -15,7 +15,7 @@ use Rattle.fv_rules.specs.headline.Values.{Value, Flat, Env}
 use Rattle.fv_rules.specs.headline.Steps.{State, Outcome, Eval}
 use Rattle.fv_eval_scopes.specs.Shows.{Grows, ShowsTree, ShowsValue, ShowsEnv}
 use Rattle.fv_eval_scopes.proofs.Grown.{diagrams_come, scope_opens, grows_on}
-use Rattle.fv_eval_patterns.specs.declared.trials.Trial.{Trial}
+use Rattle.fv_eval_patterns.specs.Remembered.{Remembered}
 use Rattle.fv_eval_patterns.specs.Trials.{Recalls}
 use Rattle.fv_eval_patterns.proofs.LongPatterns.{recalls_grow}
 use Rattle.fv_eval_machine.specs.Machine.{Continuation, Visit, Give, Config, Running, Ended, given}
@@ -57,7 +57,7 @@ drawn_grew p m new g = record {
 }
 
 -- a rule was chosen
-pub chosen_grew : (p : Parsed) (m : code_machine.Machine) (new : Canvas) (fs : List Trial) → AddsDiagrams m.drawing new → Recalls p new.diagrams fs
+pub chosen_grew : (p : Parsed) (m : code_machine.Machine) (new : Canvas) (fs : Remembered) → AddsDiagrams m.drawing new → Recalls p new.diagrams fs
     → Grew p m (record m { drawing = new; trials = fs })
 chosen_grew p m new fs g recalls = record {
   lists = drawn_grows p m new g.keeps;

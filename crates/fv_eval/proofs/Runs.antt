@@ -9,7 +9,7 @@ use Rattle.fv_diagram.specs.headline.Diagram.{Diagram, has_table_primitive}
 use Rattle.fv_diagram.specs.Arena.{Arena, count_of, empty_arena, tree_of}
 use Rattle.std.specs.Prelude.{slice_get}
 use Rattle.std.proofs.lemmas.Option.{none-some}
-use Rattle.fv_eval_patterns.specs.declared.trials.Trial.{Trial}
+use Rattle.fv_eval_patterns.specs.Remembered.{Remembered}
 use Rattle.fv_eval_patterns.specs.Trials.{Recalls}
 use Rattle.fv_rules.specs.declared.refusal.EvalRefusal.{EvalRefusal}
 use Rattle.fv_rules.specs.declared.refusal.EvalRefusal.TheVariants.{NoMemory}
@@ -130,13 +130,13 @@ goes_on p m n f r o mean goes h = (step p.tokens h.0, goes h.0 h.1, mean p.token
 -- ---- a whole run
 
 -- what remembers nothing remembers nothing wrong
-knows_nothing : (p : Parsed) (a : Arena) (fs : List Trial) → fs ≡ [] → Recalls p a fs
-knows_nothing p a fs none i f e = absurd (none-some f (ap (λ xs. slice_get xs i) (sym none) ∙ e))
+knows_nothing : (p : Parsed) (a : Arena) (m : Remembered) → m ≡ record { trials = []; bindings = [] } → Recalls p a m
+knows_nothing p a m none i f e = absurd (none-some f (ap (λ (n : Remembered). slice_get n.trials i) (sym none) ∙ e))
 
 -- a new machine to which its first environment and its first continuation were added
 pub starts : (p : Parsed) (m : code_machine.Machine) (s : Environments) (fs : List code_continuation.Continuation) (root name env : ℕ)
     → (m.drawing.diagrams ≡ empty_arena) × (m.scopes ≡ record { scopes = []; taken = [] }) × (m.continuations ≡ []) × (state_of m ≡ start)
-    × (m.trials ≡ [])
+    × (m.trials ≡ record { trials = []; bindings = [] })
     → (env ≡ length m.scopes.scopes + 1) × (s ≡ with_scope m.scopes (scope.Definitions root 0))
     → fs ≡ m.continuations ++ continuation.Drawn drawn.Finish ∷ [] → root ≡ p.root
     → root < size_of p → (text_of p.tokens name ≡ codes "process") × (first_named p.tokens name ≡ name)

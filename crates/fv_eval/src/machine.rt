@@ -42,7 +42,7 @@ impl Machine {
     pub fn new(alloc: Global, visits: u32) -> Machine
         ensures { (result.drawing.diagrams ≡ empty_arena) × (result.scopes ≡ record { scopes = []; taken = [] })
             × (result.continuations ≡ []) × (state_of result ≡ record { visits = visits; controls = []; slot = 0; tables = 0 })
-            × (result.trials ≡ []) }
+            × (result.trials ≡ record { trials = []; bindings = [] }) }
     {
         Machine {
             alloc,

@@ -1,3 +1,4 @@
 pub mod Matched
 pub mod LongPatterns
 pub mod InOrder
+pub mod Parametric

@@ -1,12 +1,13 @@
 -- Long patterns that are tried without binding anything.
-use Rattle.std.proofs.Common.{◌≡◌, ℕ, ℤ, zero, suc, ◌<◌, ◌≤◌, arith, Bool, true, false, List, [], ◌∷◌, ◌++◌, map, reverse, Option, Some, None}
+use Rattle.std.proofs.Common.{◌≡◌, ◌⊎◌, inl, inr, ◌+◌, ℕ, ℤ, zero, suc, ◌<◌, ◌≤◌, arith, Bool, true, false, List, [], ◌∷◌, ◌++◌, map, reverse, take, drop, length, set, get_or, Option, Some, None}
 use Rattle.std.proofs.Common.{refl, sym, ap, subst, ◌∙◌}
-use Rattle.std.specs.Prelude.{slice_get, option_to_list}
+use Rattle.std.specs.Prelude.{IfSome, slice_get, option_to_list}
 use Rattle.std.specs.Bool.{MatchBool}
-use Rattle.std.proofs.lemmas.List.{reverse-append}
+use Rattle.std.proofs.lemmas.List.{reverse-append, drop-append-le, take-append-le, take_all, length-append, length-drop, length-set, get_or-set_same, get_or-set_other, get_or_append_left, get_or_push}
+use Rattle.std.proofs.Math.Seq.{drop-append_seam}
 use Rattle.std.proofs.lemmas.List.Sums.{sum_by_push}
-use Rattle.std.proofs.lemmas.Option.{none-some, same_Some}
-use Rattle.std.proofs.lemmas.Bool.{false≢true}
+use Rattle.std.proofs.lemmas.Option.{none-some, same_Some, slice_get_within, slice_get_read, get_or_from_slice_get}
+use Rattle.std.proofs.lemmas.Bool.{false≢true, cases_eq, cases_lt}
 use Rattle.fv_diagram.specs.declared.node.DiagramId.{DiagramId}
 use Rattle.fv_diagram.specs.Arena.{Arena, count_of, tree_of}
 use Rattle.fv_diagram.proofs.Turns.{some_size}
@@ -18,15 +19,20 @@ use Rattle.fv_eval_scopes.specs.declared.value.Value as code_value
 use Rattle.fv_eval_scopes.specs.declared.value.Value.TheVariants as value
 use Rattle.fv_eval_patterns.specs.declared.matching.Pair.{Pair}
 use Rattle.fv_eval_scopes.specs.declared.memo.Known.{Known}
+use Rattle.fv_eval_scopes.specs.declared.value.Binding.{Binding}
+use Rattle.fv_eval_patterns.specs.declared.trials.Outcome.{Outcome}
+use Rattle.fv_eval_patterns.specs.declared.trials.Outcome.TheVariants as outcomes
 use Rattle.fv_eval_patterns.specs.declared.trials.Trial.{Trial}
+use Rattle.fv_eval_patterns.specs.Remembered.{Remembered}
 use Rattle.fv_eval_patterns.specs.declared.trying.Task.{Task}
 use Rattle.fv_eval_patterns.specs.declared.trying.Task.TheVariants.{Try, Note}
 use Rattle.fv_rules.specs.headline.Values.{Value, Flat}
 use Rattle.fv_rules.specs.headline.Matching.{Bindings, and_then, is_number, parts_without, matched, all_matched}
-use Rattle.fv_eval_scopes.specs.Shows.{World, ShowsValue, ShowsValues}
+use Rattle.fv_eval_scopes.specs.Shows.{World, ShowsBindings, ShowsValue, ShowsValues}
+use Rattle.fv_eval_scopes.proofs.Grown.{bindings_grow, diagrams_come}
 use Rattle.fv_eval_scopes.specs.Memo.{Remembers, AddsIntegers}
-use Rattle.fv_eval_patterns.specs.Patterns.{matched_on, are_parts, ArePartsOf, IsPair, Refuses}
-use Rattle.fv_eval_patterns.specs.Trials.{AllMiss, Leads, Recalls, Says, Splits, weight, weights}
+use Rattle.fv_eval_patterns.specs.Patterns.{with_diagrams, matched_on, are_parts, ArePartsOf, IsPair, Refuses}
+use Rattle.fv_eval_patterns.specs.Trials.{AllMiss, Binds, Leads, Recalls, Says, Splits, Tells, may_match, outcome_of, weight, weights}
 use Rattle.fv_eval_scopes.proofs.Added.{adds_keeps, adds_longer}
 use Rattle.fv_eval_patterns.proofs.Matched.{IsNumber, IsPaired, and_then_some, by_parts, number_refuses}
 
@@ -48,13 +54,114 @@ module _ (p : Parsed) (a b : Arena) (longer : count_of a ≤ count_of b) (same :
     λ rest bs. ap (λ d. matched_on p.tokens ((tree_in p x.pattern, d) ∷ rest) bs) (same x.diagram h.0) ∙ h.1 rest bs,
   )
 
+  pub binds_grow : (x : Pair) (found : List Binding) → x.diagram < count_of a → Binds p a x found → Binds p b x found
+  binds_grow x found l h w e f =
+      let v : World = with_diagrams w a in
+      let old = h v e refl in
+      let grown : ShowsBindings (with_diagrams w b) found old.0 = bindings_grow v (with_diagrams v b) (diagrams_come v b longer same) found old.0 old.2 in (
+        old.0,
+        ap (λ d. matched p.tokens (tree_in p x.pattern) (Flat d) []) (same x.diagram l) ∙ old.1,
+        subst (λ c. ShowsBindings (with_diagrams w c) found old.0) (sym f) grown,
+      )
+
+  tells_grow : (kept : List Binding) (o : Outcome) (x : Pair) → Tells p a kept o x → Tells p b kept o x
+  tells_grow kept outcomes.Never x h = says_grow false x h
+  tells_grow kept outcomes.Maybe x h = tt
+  tells_grow kept (outcomes.Binds from count) x h =
+      (omega (arith, h.0, longer), h.1, binds_grow x (take count (drop from kept)) h.0 h.2)
+
   -- where diagrams were added
-  pub recalls_grow : (fs : List Trial) → Recalls p a fs → Recalls p b fs
-  recalls_grow fs h i f e = says_grow f.may f.pair (h i f e)
+  pub recalls_grow : (m : Remembered) → Recalls p a m → Recalls p b m
+  recalls_grow m h i f e = tells_grow m.bindings f.outcome f.pair (h i f e)
 
 -- and where these were integers
-pub recalls_still : (p : Parsed) (a b : Arena) (fs : List Trial) → AddsIntegers a b → Recalls p a fs → Recalls p b fs
-recalls_still p a b fs g h = recalls_grow p a b (adds_longer a b g) (adds_keeps a b g) fs h
+pub recalls_still : (p : Parsed) (a b : Arena) (m : Remembered) → AddsIntegers a b → Recalls p a m → Recalls p b m
+recalls_still p a b m g h = recalls_grow p a b (adds_longer a b g) (adds_keeps a b g) m h
+
+-- ---- one slot
+
+-- what is told of a pair that may match
+pub tells_may : (p : Parsed) (a : Arena) (kept : List Binding) (o : Outcome) (x : Pair) → Tells p a kept o x → Says p a (may_match o) x
+tells_may p a kept outcomes.Never x h = h
+tells_may p a kept outcomes.Maybe x h = tt
+tells_may p a kept (outcomes.Binds from count) x h = tt
+
+pub says_told : (p : Parsed) (a : Arena) (kept : List Binding) (may : Bool) (x : Pair) → Says p a may x → Tells p a kept (outcome_of may) x
+says_told p a kept true x h = tt
+says_told p a kept false x h = h
+
+-- more bindings behind
+tells_more : (p : Parsed) (a : Arena) (kept more : List Binding) (o : Outcome) (x : Pair) → Tells p a kept o x → Tells p a (kept ++ more) o x
+tells_more p a kept more outcomes.Never x h = h
+tells_more p a kept more outcomes.Maybe x h = tt
+tells_more p a kept more (outcomes.Binds from count) x h =
+    let long = length-append kept more in
+    let rest = length-drop from kept in
+    let same : take count (drop from (kept ++ more)) ≡ take count (drop from kept) =
+    ap (take count) (drop-append-le from kept more (omega (arith, h.1))) ∙ take-append-le count (drop from kept) more (omega (arith, h.1, rest)) in
+    (h.0, omega (arith, h.1, long), subst (Binds p a x) (sym same) h.2)
+
+pub recalls_more : (p : Parsed) (a : Arena) (ts : List Trial) (kept more : List Binding) → Recalls p a (record { trials = ts; bindings = kept })
+    → Recalls p a (record { trials = ts; bindings = kept ++ more })
+recalls_more p a ts kept more h i f e = tells_more p a kept more f.outcome f.pair (h i f e)
+
+-- one slot
+pub recalls_set : (p : Parsed) (a : Arena) (ts : List Trial) (kept : List Binding) (i : ℕ) (t : Trial) → i < length ts
+    → Recalls p a (record { trials = ts; bindings = kept }) → Tells p a kept t.outcome t.pair → Recalls p a (record { trials = set ts i t; bindings = kept })
+recalls_set p a ts kept i t l h tells j f e = go (cases_eq j i)
+  where
+    within : j < length ts
+    within = omega (arith, slice_get_within (set ts i t) j f e, length-set ts i t)
+
+    at : f ≡ get_or (set ts i t) j f
+    at = sym (get_or_from_slice_get (set ts i t) j f f e)
+
+    go : (j ≡ i) ⊎ (j ≡ i → ⊥) → Tells p a kept f.outcome f.pair
+    go (inl same) =
+        let is : f ≡ t = at ∙ ap (λ k. get_or (set ts i t) k f) same ∙ get_or-set_same ts i t f l in
+        subst (λ (g : Trial). Tells p a kept g.outcome g.pair) (sym is) tells
+    go (inr apart) =
+        h j f (slice_get_read ts (length ts) j f refl within (at ∙ get_or-set_other ts i j t f apart))
+
+-- what was just kept
+pub tells_kept : (p : Parsed) (a : Arena) (kept found : List Binding) (x : Pair) → x.diagram < count_of a → Binds p a x found
+    → Tells p a (kept ++ found) (outcomes.Binds (length kept) (length found)) x
+tells_kept p a kept found x l h =
+    let long = length-append kept found in
+    let same : take (length found) (drop (length kept) (kept ++ found)) ≡ found =
+    ap (take (length found)) (drop-append_seam kept found) ∙ take_all (length found) found (omega arith) in
+    (l, omega (arith, long), subst (Binds p a x) (sym same) h)
+
+-- one slot more
+pub recalls_push : (p : Parsed) (a : Arena) (ts us : List Trial) (kept : List Binding) (t : Trial) → us ≡ ts ++ t ∷ []
+    → Recalls p a (record { trials = ts; bindings = kept }) → Tells p a kept t.outcome t.pair → Recalls p a (record { trials = us; bindings = kept })
+recalls_push p a ts us kept t pushed h tells i f e = go (cases_lt i (length ts))
+  where
+    got : slice_get (ts ++ t ∷ []) i ≡ Some f
+    got = ap (λ xs. slice_get xs i) (sym pushed) ∙ e
+
+    within : i < length ts + 1
+    within = omega (arith, slice_get_within (ts ++ t ∷ []) i f got, length-append ts (t ∷ []))
+
+    at : f ≡ get_or (ts ++ t ∷ []) i f
+    at = sym (get_or_from_slice_get (ts ++ t ∷ []) i f f got)
+
+    go : (i < length ts) ⊎ (length ts ≤ i) → Tells p a kept f.outcome f.pair
+    go (inl l) = h i f (slice_get_read ts (length ts) i f refl l (at ∙ get_or_append_left ts (t ∷ []) f i l))
+    go (inr g) =
+        let is : f ≡ t = at ∙ get_or_push ts t f i (omega (arith, g, within)) in
+        subst (λ (x : Trial). Tells p a kept x.outcome x.pair) (sym is) tells
+
+-- what a slot tells
+pub at_slot : (p : Parsed) (a : Arena) (m : Remembered) (ts : List Trial) (i : ℕ) (t : Trial) (x : Pair) → ts ≡ m.trials → i < length m.trials
+    → t ≡ get_or ts i t → t.pair ≡ x → Recalls p a m → Tells p a m.bindings t.outcome x
+at_slot p a m ts i t x view l here same h =
+    subst (Tells p a m.bindings t.outcome) same
+    (h i t (slice_get_read m.trials (length m.trials) i t refl l (here ∙ ap (λ us. get_or us i t) view)))
+
+pub if_some : {A : Type 0} (o : Option A) (P Q : A → Type 0) → ((x : A) → P x → Q x) → IfSome o P → IfSome o Q
+if_some None P Q f h = h
+if_some (Some x) P Q f h = f x h
 
 -- ---- one pair
 
@@ -138,14 +245,14 @@ number_said p a x ts k false is e = number_refuses p a x k is (sym e)
 -- ---- tasks, one after the other
 
 -- What stays true while pairs are tried.
-pub record Attempts (p : Parsed) (a : Arena) (ks : List Known) (fs : List Trial) (whole : Pair) (ts : List Task) : Type 0 where
+pub record Attempts (p : Parsed) (a : Arena) (ks : List Known) (m : Remembered) (whole : Pair) (ts : List Task) : Type 0 where
   pub known : Remembers a ks
-  pub recalls : Recalls p a fs
+  pub recalls : Recalls p a m
   pub leads : Leads p a whole (reverse ts)
 
-pub attempts_begin : (p : Parsed) (a : Arena) (ks : List Known) (fs : List Trial) (whole : Pair) (none ts : List Task) → Remembers a ks → Recalls p a fs
-    → IsPair p a whole → none ≡ [] → ts ≡ none ++ Try whole ∷ [] → Attempts p a ks fs whole ts
-attempts_begin p a ks fs whole none ts known recalls is empty pushed = record {
+pub attempts_begin : (p : Parsed) (a : Arena) (ks : List Known) (m : Remembered) (whole : Pair) (none ts : List Task) → Remembers a ks → Recalls p a m
+    → IsPair p a whole → none ≡ [] → ts ≡ none ++ Try whole ∷ [] → Attempts p a ks m whole ts
+attempts_begin p a ks m whole none ts known recalls is empty pushed = record {
   known = known;
   recalls = recalls;
   leads =
@@ -159,8 +266,8 @@ pub record TaskTaken (ts rest : List Task) (t : Task) : Type 0 where
 pub task_taken : {ts : List Task} {o : Option Task} {t : Task} (rest : List Task) → ts ≡ rest ++ option_to_list o → o ≡ Some t → TaskTaken ts rest t
 task_taken rest e same = record { is = e ∙ ap (λ o. rest ++ option_to_list o) same }
 
-pub leads_next : {p : Parsed} {a : Arena} {ks : List Known} {fs : List Trial} {whole : Pair} {ts rest : List Task} {t : Task}
-    → Attempts p a ks fs whole ts → TaskTaken ts rest t → Leads p a whole (t ∷ reverse rest)
+pub leads_next : {p : Parsed} {a : Arena} {ks : List Known} {m : Remembered} {whole : Pair} {ts rest : List Task} {t : Task}
+    → Attempts p a ks m whole ts → TaskTaken ts rest t → Leads p a whole (t ∷ reverse rest)
 leads_next {p} {a} {whole = whole} {rest = rest} {t = t} h off = subst (Leads p a whole) (ap reverse off.is ∙ reverse-append rest (t ∷ [])) h.leads
 
 -- a pair may match still
@@ -169,8 +276,8 @@ pub may_split : (p : Parsed) (a : Arena) (x : Pair) (old new : List Task) (b : B
 may_split p a x old new true e h = h
 may_split p a x old new false e h = absurd (false≢true e)
 
-pub attempts_go_on : {p : Parsed} {a : Arena} {ks : List Known} {fs : List Trial} {whole x : Pair} {ts rest : List Task} (ls : List Known) (now : List Task)
-    → Attempts p a ks fs whole ts → TaskTaken ts rest (Try x) → Remembers a ls → Splits p a x rest now → Attempts p a ls fs whole now
+pub attempts_go_on : {p : Parsed} {a : Arena} {ks : List Known} {m : Remembered} {whole x : Pair} {ts rest : List Task} (ls : List Known) (now : List Task)
+    → Attempts p a ks m whole ts → TaskTaken ts rest (Try x) → Remembers a ls → Splits p a x rest now → Attempts p a ls m whole now
 attempts_go_on {whole = whole} ls now h off known split =
     let next = leads_next h off in
     record { known = known; recalls = h.recalls; leads = split.leads whole next.1 next.2 }

@@ -9,7 +9,6 @@ ghost use Rattle.fv_eval_scopes.specs.Memo.{Remembers, AddsIntegers};
 ghost use Rattle.fv_eval_patterns.specs.Patterns.{IsSound, with_diagrams, ShowsMatched};
 ghost use Rattle.fv_eval_patterns.specs.Trials.{Recalls};
 
-use crate::matching::matches_in;
 use crate::trials::Trials;
 use fv_diagram::Diagrams;
 use fv_eval_scopes::{Binding, Numbers, Value};
@@ -51,7 +50,7 @@ impl Subjects<'_> {
         if !self.may_match(patterns, diagrams, numbers, trials)? {
             return Ok(false);
         }
-        let matches = self.bind_all(patterns, diagrams, numbers, found)?;
+        let matches = self.bind_all(patterns, diagrams, numbers, trials, found)?;
         Ok(matches)
     }
 
@@ -61,13 +60,16 @@ impl Subjects<'_> {
         patterns: &[TreeId],
         diagrams: &mut Diagrams,
         numbers: &mut Numbers,
+        trials: &mut Trials,
         found: &mut Vec<Binding>,
     ) -> Result<bool, AllocError>
         requires inside { All (λ id. id < size_of self.now.tree.now) patterns.now }
         requires sound { All (IsSound diagrams.old) self.now.values.now }
         requires known { Remembers diagrams.old numbers.old }
+        requires recalls { Recalls self.now.tree.now diagrams.old trials.old }
         ensures adds { AddsIntegers diagrams.old diagrams.new }
         ensures known { Remembers diagrams.new numbers.new }
+        ensures recalls { Recalls self.now.tree.now diagrams.new trials.new }
         ensures matched { IfOk result (λ b. (w : World) (vs : List PureValue) (bs : PureBindings)
             → w.tree ≡ self.now.tree.now → w.diagrams ≡ diagrams.old → ShowsValues w self.now.values.now vs
             → ShowsBindings w found.old.items bs
@@ -80,9 +82,7 @@ impl Subjects<'_> {
                 return Ok(false);
             }
             let value = &values[i];
-            if !matches_in(
-                self.alloc, self.tree, *pattern, diagrams, numbers, value, found,
-            )? {
+            if !self.matches_one(*pattern, value, diagrams, numbers, trials, found)? {
                 return Ok(false);
             }
         }

@@ -2,10 +2,11 @@
 #![tactic(auto)]
 
 mod all_patterns;
+mod binding;
 mod matching;
 mod trials;
 mod trying;
 
 pub use all_patterns::Subjects;
 pub use matching::{Bindings, matches, parts_of};
-pub use trials::{Trial, Trials};
+pub use trials::{Outcome, Trial, Trials};

@@ -159,8 +159,8 @@ fn binds_whole(
     }
 }
 
-// A pattern on a diagram.
-fn matches_diagram(
+/// A pattern on a diagram: whether it matches. The bindings are added to those so far.
+pub(crate) fn matches_diagram(
     alloc: Global,
     tree: &Tree,
     whole: Pair,

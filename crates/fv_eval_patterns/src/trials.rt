@@ -1,11 +1,12 @@
-// Whether long patterns may match diagrams, remembered.
+// What came of trying long patterns on diagrams, remembered.
 
-ghost use Rattle.std.specs.Prelude.{◌≡◌, ◌<◌, [], IfSome, IsTrue, length};
+ghost use Rattle.std.specs.Prelude.{◌≡◌, ◌<◌, [], IfSome, IsTrue, drop, length, take};
 ghost use Rattle.fv_parse.specs.Trees.{Parsed};
-ghost use Rattle.fv_diagram.specs.Arena.{Arena};
-ghost use Rattle.fv_eval_patterns.specs.Trials.{Says, Recalls};
+ghost use Rattle.fv_diagram.specs.Arena.{Arena, count_of};
+ghost use Rattle.fv_eval_patterns.specs.Trials.{Binds, Says, Recalls, may_match, outcome_of};
 
 use crate::matching::Pair;
+use fv_eval_scopes::Binding;
 use std::alloc::{AllocError, Global};
 use std::marker::Model;
 
@@ -14,44 +15,59 @@ const FEWEST: usize = 1024;
 
 const MOST: usize = 2_097_152;
 
-/// What came of trying a pattern on a diagram: whether it may match.
+/// At most so many bindings are kept; then all is forgotten.
+const MOST_BINDINGS: usize = 2_097_152;
+
+/// What is known of a pattern and a diagram.
+#[derive(Clone, Copy, Debug)]
+pub enum Outcome {
+    /// They do not match.
+    Never,
+    /// They may match.
+    Maybe,
+    /// They match, and so many of the bindings that are kept, from one on, are what they bind.
+    Binds { from: u64, count: u64 },
+}
+
+/// What came of trying a pattern on a diagram.
 #[derive(Clone, Copy, Debug)]
 pub struct Trial {
     pub pair: Pair,
-    pub may: bool,
+    pub outcome: Outcome,
 }
 
 /// The trials that are remembered. Each pair of a pattern and a diagram has one slot, which it may lose to another pair.
 #[derive(Drop)]
 pub struct Trials {
     slots: Vec<Trial>,
+    bindings: Vec<Binding>,
     /// How many were remembered.
     kept: u64,
 }
 
 impl Model for Trials {
-    ghost use Rattle.std.specs.Prelude.{List};
-    ghost use Rattle.fv_eval_patterns.specs.declared.trials.Trial.{Trial};
+    ghost use Rattle.fv_eval_patterns.specs.Remembered.{Remembered};
 
-    ghost Value = { List Trial };
+    ghost Value = { Remembered };
 
-    ghost view = { λ f. f.slots.items };
+    ghost view = { λ t. record { trials = t.slots.items; bindings = t.bindings.items } };
 }
 
 impl Trials {
     /// Nothing is remembered.
     pub fn new(alloc: Global) -> Trials
-        ensures { result ≡ [] }
+        ensures { result ≡ record { trials = []; bindings = [] } }
     {
         Trials {
             slots: Vec::new(alloc),
+            bindings: Vec::new(alloc),
             kept: 0,
         }
     }
 
     // The slot of a pair, where there are slots.
     fn place(&self, pair: &Pair) -> Option<usize>
-        ensures { IfSome result (λ i. i < length self.now) }
+        ensures { IfSome result (λ i. i < length self.now.trials) }
     {
         let count = self.slots.len() as u64;
         if count == 0 {
@@ -72,10 +88,39 @@ impl Trials {
         let i = self.place(pair)?;
         let trial = &self.slots[i];
         if is_same(&trial.pair, pair) {
-            Some(trial.may)
+            Some(may_match(trial.outcome))
         } else {
             None
         }
+    }
+
+    /// What a pair binds, if that is remembered.
+    pub(crate) fn bound(&self, pair: &Pair) -> Option<&[Binding]>
+        ensures { IfSome result (λ r. (p : Parsed) (a : Arena) → Recalls p a self.now → Binds p a pair.now r.now) }
+    {
+        let i = self.place(pair)?;
+        let trial = &self.slots[i];
+        if !is_same(&trial.pair, pair) {
+            return None;
+        }
+        match trial.outcome {
+            Outcome::Binds { from, count } => self.range(from, count),
+            _ => None,
+        }
+    }
+
+    // So many bindings that are kept, from one on.
+    fn range(&self, from: u64, count: u64) -> Option<&[Binding]>
+        ensures { IfSome result (λ r. r.now ≡ take count (drop from self.now.bindings)) }
+    {
+        let all = self.bindings.as_slice();
+        let start = from as usize;
+        let many = count as usize;
+        if start > all.len() || many > all.len() - start {
+            return None;
+        }
+        let behind = &all[start..];
+        Some(&behind[..many])
     }
 
     /// Remembers whether a pair may match.
@@ -85,9 +130,44 @@ impl Trials {
         self.widen(pair)?;
         self.kept = self.kept.saturating_add(1);
         if let Some(i) = self.place(pair) {
-            self.slots[i] = Trial { pair: *pair, may };
+            let outcome = outcome_of(may);
+            self.slots[i] = Trial {
+                pair: *pair,
+                outcome,
+            };
         }
         Ok(())
+    }
+
+    /// Remembers what a pair binds.
+    pub(crate) fn keep(&mut self, pair: &Pair, bound: &[Binding]) -> Result<(), AllocError>
+        ensures { (p : Parsed) (a : Arena) → Recalls p a self.old → pair.now.diagram < count_of a
+            → Binds p a pair.now bound.now → Recalls p a self.new }
+    {
+        self.make_room(bound.len());
+        self.widen(pair)?;
+        let from = self.bindings.len() as u64;
+        self.bindings.extend_from_slice(bound)?;
+        self.kept = self.kept.saturating_add(1);
+        if let Some(i) = self.place(pair) {
+            let count = bound.len() as u64;
+            self.slots[i] = Trial {
+                pair: *pair,
+                outcome: Outcome::Binds { from, count },
+            };
+        }
+        Ok(())
+    }
+
+    // Forgets all where there is no room for so many bindings more.
+    fn make_room(&mut self, more: usize)
+        ensures { (p : Parsed) (a : Arena) → Recalls p a self.old → Recalls p a self.new }
+    {
+        if self.bindings.len() >= MOST_BINDINGS || more > MOST_BINDINGS - self.bindings.len() {
+            self.slots.clear();
+            self.bindings.clear();
+            self.kept = 0;
+        }
     }
 
     // Doubles the slots once half as many pairs were remembered. A new one says nothing of its pair.
@@ -102,11 +182,28 @@ impl Trials {
         'widen: while self.slots.len() < wanted {
             self.slots.push(Trial {
                 pair: *pair,
-                may: true,
+                outcome: Outcome::Maybe,
             })?;
         }
         Ok(())
     }
+}
+
+// Whether a pair may match.
+fn may_match(outcome: Outcome) -> bool
+    ensures { result ≡ may_match outcome }
+{
+    match outcome {
+        Outcome::Never => false,
+        Outcome::Maybe | Outcome::Binds { .. } => true,
+    }
+}
+
+// What is known of a pair that may match, or does not.
+fn outcome_of(may: bool) -> Outcome
+    ensures { result ≡ outcome_of may }
+{
+    if may { Outcome::Maybe } else { Outcome::Never }
 }
 
 // Whether pairs are of the same pattern and the same diagram.

@@ -31,8 +31,8 @@ pub enum Task {
     Note(Pair),
 }
 
-// Whether a pattern is long. Its parts stand in front of it in the tree, its first part first.
-fn is_long(tree: &Tree, pattern: TreeId) -> bool
+/// Whether a pattern is long. Its parts stand in front of it in the tree, its first part first.
+pub(crate) fn is_long(tree: &Tree, pattern: TreeId) -> bool
     requires { pattern < size_of tree.now }
 {
     let mut first = pattern;

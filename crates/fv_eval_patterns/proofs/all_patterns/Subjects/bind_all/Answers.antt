@@ -5,37 +5,42 @@ use Rattle.fv_eval_patterns.proofs.InOrder.{all_sound, sound_at}
 use Rattle.fv_eval_patterns.proofs.all_patterns.Subjects.bind_all.Goals as goal
 
 pub loop-i-init : goal.loop-i-init
-loop-i-init c =
-    patterns_begin c.args.self.now.tree.now c.args.patterns.now c.args.self.now.values.now c.args.diagrams.now c.args.numbers.now c.args.found.now.items c.requires.known
+loop-i-init c = record {
+  recalls = c.requires.recalls;
+  matches = patterns_begin c.args.self.now.tree.now c.args.patterns.now c.args.self.now.values.now c.args.diagrams.now c.args.numbers.now c.args.found.now.items c.requires.known;
+}
 
 pub loop-i-preserved : goal.loop-i-preserved
 loop-i-preserved c =
-    let new = c.matches_in.new in
-    patterns_go_on c.loop-i.invariant (next_of c.loop-i-test.true c.index-patterns-i.is c.if-i-values.false c.index-values-i.is)
-    (tried_to c.args.self.now.tree.now c.index-patterns-i.result c.index-values-i.result _ _ c.loop-i.diagrams new.diagrams c.loop-i.found.items new.found.items
-    c.if-not-branch.false c.in_ok-matches_in.ensures.adds c.in_ok-matches_in.ensures.matched) c.in_ok-matches_in.ensures.known
+    let new = c.matches_one.new in
+    record {
+      recalls = c.in_ok-matches_one.ensures.recalls;
+      matches = patterns_go_on c.loop-i.invariant.matches (next_of c.loop-i-test.true c.index-patterns-i.is c.if-i-values.false c.index-values-i.is)
+          (tried_to c.args.self.now.tree.now c.index-patterns-i.result c.index-values-i.result _ _ c.loop-i.diagrams new.diagrams c.loop-i.found.items new.found.items
+          c.if-not-branch.false c.in_ok-matches_one.ensures.adds c.in_ok-matches_one.ensures.matched) c.in_ok-matches_one.ensures.known;
+    }
 
-pub matches_in-requires-clause-argument : goal.matches_in-requires-clause-argument
-matches_in-requires-clause-argument c =
+pub matches_one-requires-clause-value : goal.matches_one-requires-clause-value
+matches_one-requires-clause-value c =
     let next = next_of c.loop-i-test.true c.index-patterns-i.is c.if-i-values.false c.index-values-i.is in
-    let sound = all_sound c.args.diagrams.now c.loop-i.diagrams c.args.self.now.values.now c.loop-i.invariant.adds c.requires.sound in
+    let sound = all_sound c.args.diagrams.now c.loop-i.diagrams c.args.self.now.values.now c.loop-i.invariant.matches.adds c.requires.sound in
     sound_at c.loop-i.diagrams c.args.self.now.values.now c.loop-i.i c.index-values-i.result sound next.got
 
-pub returns-in_err-matches_in-clause-adds : goal.returns-in_err-matches_in-clause-adds
-returns-in_err-matches_in-clause-adds c =
-    adds_on c.args.diagrams.now c.loop-i.diagrams c.matches_in.new.diagrams c.loop-i.invariant.adds c.in_err-matches_in.ensures.adds
+pub returns-in_err-matches_one-clause-adds : goal.returns-in_err-matches_one-clause-adds
+returns-in_err-matches_one-clause-adds c =
+    adds_on c.args.diagrams.now c.loop-i.diagrams c.matches_one.new.diagrams c.loop-i.invariant.matches.adds c.in_err-matches_one.ensures.adds
 
 pub returns-then-not-branch-clause-adds : goal.returns-then-not-branch-clause-adds
 returns-then-not-branch-clause-adds c =
-    adds_on c.args.diagrams.now c.loop-i.diagrams c.matches_in.new.diagrams c.loop-i.invariant.adds c.in_ok-matches_in.ensures.adds
+    adds_on c.args.diagrams.now c.loop-i.diagrams c.matches_one.new.diagrams c.loop-i.invariant.matches.adds c.in_ok-matches_one.ensures.adds
 
 pub returns-then-not-branch-clause-matched : goal.returns-then-not-branch-clause-matched
 returns-then-not-branch-clause-matched c =
-    let new = c.matches_in.new in
-    patterns_refuse c.loop-i.invariant (next_of c.loop-i-test.true c.index-patterns-i.is c.if-i-values.false c.index-values-i.is)
+    let new = c.matches_one.new in
+    patterns_refuse c.loop-i.invariant.matches (next_of c.loop-i-test.true c.index-patterns-i.is c.if-i-values.false c.index-values-i.is)
     (tried_to c.args.self.now.tree.now c.index-patterns-i.result c.index-values-i.result _ _ c.loop-i.diagrams new.diagrams c.loop-i.found.items new.found.items
-    c.if-not-branch.true c.in_ok-matches_in.ensures.adds c.in_ok-matches_in.ensures.matched)
+    c.if-not-branch.true c.in_ok-matches_one.ensures.adds c.in_ok-matches_one.ensures.matched)
 
 pub returns-then-i-values-clause-matched : goal.returns-then-i-values-clause-matched
 returns-then-i-values-clause-matched c =
-    patterns_stop c.index-patterns-i.result c.loop-i.invariant c.loop-i-test.true (slice_get_past c.args.self.now.values.now c.loop-i.i c.if-i-values.true)
+    patterns_stop c.index-patterns-i.result c.loop-i.invariant.matches c.loop-i-test.true (slice_get_past c.args.self.now.values.now c.loop-i.i c.if-i-values.true)

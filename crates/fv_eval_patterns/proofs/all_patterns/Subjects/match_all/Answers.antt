@@ -1,19 +1,8 @@
 use Rattle.std.proofs.Common.{false, sym, subst}
 use Rattle.fv_eval_patterns.specs.Patterns.{ShowsMatched, with_diagrams}
-use Rattle.fv_eval_patterns.proofs.LongPatterns.{recalls_still}
 use Rattle.fv_eval_patterns.proofs.all_patterns.Subjects.match_all.Goals as goal
 
 pub returns-then-not-branch-clause-matched : goal.returns-then-not-branch-clause-matched
 returns-then-not-branch-clause-matched c = λ w vs bs e f h g.
     subst (ShowsMatched (with_diagrams w c.args.diagrams.now) false c.args.found.now.items)
     (sym (c.in_ok-may_match.ensures.misses c.if-not-branch.true w vs bs f h)) tt
-
-pub returns-clause-recalls : goal.returns-clause-recalls
-returns-clause-recalls c =
-    recalls_still c.args.self.now.tree.now c.args.diagrams.now c.bind_all.new.diagrams c.may_match.new.trials c.in_ok-matches.ensures.adds
-    c.in_ok-may_match.ensures.recalls
-
-pub returns-in_err-matches-clause-recalls : goal.returns-in_err-matches-clause-recalls
-returns-in_err-matches-clause-recalls c =
-    recalls_still c.args.self.now.tree.now c.args.diagrams.now c.bind_all.new.diagrams c.may_match.new.trials c.in_err-matches.ensures.adds
-    c.in_ok-may_match.ensures.recalls
