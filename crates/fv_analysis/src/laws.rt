@@ -9,7 +9,7 @@ pub fn stands_alike()
     ensures { (g : Graph) → StandsAlike g }
 {}
 
-/// What passes through a delay or a group is of rate sample.
+/// What passes through a delay, a group or a table that is written is of rate sample.
 pub fn delays_are_sample()
     ensures { (g : Graph) → DelaysAreSample g }
 {}

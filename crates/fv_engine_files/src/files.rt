@@ -24,8 +24,8 @@ use std::marker::Sync;
 use std::sync::Wait;
 use std::thread::Threads;
 
-/// Plays a diagram from the input of a tape to its output, block by block, while its controls change as a script says. It takes no
-/// memory.
+/// Plays a diagram from the input of a tape to its output, block by block, while its controls change as a script says. What
+/// several workers take of memory in a block is not needed: where it is refused one worker runs the block.
 pub fn play_files<R: Threads + Wait + Sync, D: Desk, G: Gate + Sync>(
     rt: &R,
     alloc: Global,

@@ -29,7 +29,8 @@ use std::marker::Sync;
 use std::sync::Wait;
 use std::thread::Threads;
 
-/// An engine of a diagram's graph, the controls' numbers, and room for the samples of a block each way: all the memory of a run.
+/// An engine of a diagram's graph, the controls' numbers, and room for the samples of a block each way: all the memory without
+/// which a run cannot go on.
 #[derive(Drop)]
 pub struct Ready {
     pub engine: Engine,
@@ -48,7 +49,7 @@ pub struct Played<'c> {
     pub controls: &'c [ControlInfo],
 }
 
-/// Takes all the memory of a run of a diagram.
+/// Takes all the memory without which a run of a diagram cannot go on.
 pub fn make_ready(
     alloc: Global,
     source: &Source<'_, '_, '_>,
@@ -65,7 +66,7 @@ pub fn make_ready(
     make_ready_graph(alloc, &graph, inputs, source.controls, sizes)
 }
 
-/// Takes all the memory of a run of a graph that has so many inputs and these controls.
+/// Takes all the memory without which a run of a graph cannot go on that has so many inputs and these controls.
 pub fn make_ready_graph(
     alloc: Global,
     graph: &Graph,
@@ -103,7 +104,8 @@ fn blank_samples(alloc: Global, frames: u32, width: usize) -> Result<Vec<i32>, A
     vec![in alloc; 0i32; count]
 }
 
-/// Plays a diagram over a tape, block by block, while its controls change as a script says. It takes no memory.
+/// Plays a diagram over a tape, block by block, while its controls change as a script says. What several
+/// workers take of memory in a block is not needed: where it is refused one worker runs the block.
 pub fn render_tape<R: Threads + Wait + Sync, G: Gate + Sync, W, T: Tape<W>>(
     rt: &R,
     alloc: Global,

@@ -29,7 +29,7 @@ pub struct Machine {
     pub scopes: Scopes,
     pub controls: Controls,
     pub continuations: Continuations,
-    /// Which long patterns do not match which diagrams.
+    /// What is remembered of long patterns: which diagrams they do not match, which they may, and what they bind there.
     pub trials: Trials,
     /// The visits that are left.
     pub visits: u32,

@@ -67,7 +67,8 @@ impl Drawing {
         self.diagrams
     }
 
-    /// Puts a node over diagrams: its arity is tried first, then its size. Behind `rdtable` or `rwtable` it becomes a table.
+    /// Puts a node over diagrams: its arity is tried first, then its size. A sequence
+    /// with `rdtable` or `rwtable` alone on its right becomes a table.
     pub fn put(&mut self, node: &Node) -> Result<DiagramId, EvalRefusal>
         requires children { ChildrenBelow (count_of self.old.diagrams) node.now }
         requires lists { NamesLists (length self.old.diagrams.lists) node.now }

@@ -1,5 +1,5 @@
 //! Putting the compositions that evaluation makes over diagrams that are there: of two parts, of lists, around a body,
-//! and a diagram on its arguments.
+//! a diagram on its arguments, waveforms and tables.
 #![tactic(auto)]
 
 mod application;

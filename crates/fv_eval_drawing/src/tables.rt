@@ -17,7 +17,7 @@ use crate::drawing::Drawing;
 use fv_base::limits::TABLE_LIMIT;
 use fv_diagram::{DiagramId, Node, Prim};
 use fv_diagram_head::{Pieces, first_of, head_and_rest, is_head, numbers};
-use fv_rules::{EvalRefusal, TableCause};
+use fv_rules::{EvalRefusal, TableCause, too_many_to_count};
 use std::alloc::AllocError;
 
 impl Drawing {
@@ -149,7 +149,7 @@ impl Drawing {
         ensures { GrowsBy self.old self.new cost result }
     {
         let Some(sum) = self.tables.checked_add(cost) else {
-            return Err(EvalRefusal::NoMemory);
+            return Err(EvalRefusal::from(too_many_to_count()));
         };
         if sum > TABLE_LIMIT {
             return Err(EvalRefusal::TableBudget { sum });

@@ -1,4 +1,4 @@
--- Which long patterns do not match which diagrams, as far as trials are remembered (this project's profile).
+-- What is remembered of long patterns is true: which diagrams they do not match, and what they bind (this project's profile).
 use Rattle.std.specs.Prelude.{◌≡◌, ℕ, ◌+◌, ◌*◌, ◌<◌, ◌≤◌, Bool, true, false, List, [], ◌∷◌, ◌++◌, drop, length, reverse, take, Some, None, slice_get}
 use Rattle.std.specs.List.{sum_by}
 use Rattle.fv_diagram.specs.headline.Diagram.{size}

@@ -8,7 +8,7 @@ use fv_base::Word;
 use fv_diagram::Label;
 use std::alloc::{AllocError, AllocFailed};
 
-/// Why a diagram behind `rdtable` or `rwtable` is no table.
+/// Why `rdtable` or `rwtable` makes no table.
 #[derive(Clone, Copy, PartialEq, Eq, Debug)]
 pub enum TableCause {
     /// What stands first does not give a size and numbers and nothing else, or depends on an input, a control or a slot.
@@ -70,11 +70,11 @@ pub enum EvalRefusal {
     ControlBounds {
         label: Label,
     },
-    /// A diagram behind `rdtable` or `rwtable` is no table, for this cause.
+    /// What stands before `rdtable` or `rwtable` is no table, or the program still has one of the two.
     TableForm {
         cause: TableCause,
     },
-    /// The tables of the program would cost so much together, which is over the limit.
+    /// The waveforms and tables of the program would cost so much together, which is over the limit.
     TableBudget {
         sum: u64,
     },

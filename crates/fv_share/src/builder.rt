@@ -246,7 +246,7 @@ impl Builder {
         self.closed[group as usize] = true;
     }
 
-    /// The graph of the signals and groups, with these outputs.
+    /// The graph of the signals, groups and tables, with these outputs.
     pub fn finish(self, outputs: &[SignalId]) -> Result<Graph, AllocError>
         requires closed { AreClosed self }
         requires outputs { All (λ s. s < length self.signals) outputs.now }

@@ -1,4 +1,4 @@
-// A builder of graphs that shares equal signals.
+// A builder of graphs that shares equal signals and equal tables.
 #![tactic(auto)]
 
 mod builder;

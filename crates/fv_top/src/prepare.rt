@@ -35,7 +35,7 @@ use fv_top_report::Refusal;
 use fv_top_words::{Run, Settings};
 use std::alloc::{AllocError, Global};
 
-/// What is ready to be played: a program's channels and controls, its script, all memory, and the tape of its files.
+/// What is ready to be played: a program's channels and controls, its script, all memory that it needs, and the tape of its files.
 #[derive(Drop)]
 pub struct Prepared<'a> {
     pub inputs: u32,
@@ -82,7 +82,7 @@ pub fn prepare<'a, D: Desk>(
     Ok(prepared)
 }
 
-// Takes all memory of a run of a program under a script, from an input to an output in this format.
+// Takes all memory without which a run of a program under a script cannot go on, from an input to an output in this format.
 fn take_memory<'a>(
     alloc: Global,
     output: &'a str,

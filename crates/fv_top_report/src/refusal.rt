@@ -66,7 +66,7 @@ pub enum Refusal {
         line: u32,
         column: u32,
     },
-    /// A word of the text that is not supported.
+    /// A token of the text that is not supported.
     Unsupported {
         word: Word,
     },
@@ -133,11 +133,11 @@ pub enum Refusal {
     ControlBounds {
         label: Label,
     },
-    /// A diagram behind `rdtable` or `rwtable` is no table.
+    /// What stands before `rdtable` or `rwtable` is no table, or the program still has one of the two.
     TableForm {
         cause: TableCause,
     },
-    /// The tables of the program would cost so much together, more than 16,777,216.
+    /// The waveforms and tables of the program would cost so much together, more than 16,777,216.
     TableBudget {
         sum: u64,
     },

@@ -12,7 +12,7 @@ use Rattle.fv_top_text.specs.headline.Compiled.{Compiled}
 abbrev pub compiled_of : Evaluated → Compiled
 compiled_of p = record { diagram = tree_of p.diagrams p.root; controls = p.controls }
 
--- it can be played, where it has no table, and its channels are those of files
+-- It can be played: it is well formed and closed, names only its controls, and has some output and no more channels than files have.
 pub record CanPlay (p : Compiled) : Type 0 where
   pub well : IsWellFormed p.diagram
   pub closed : HasNoFreeSlot p.diagram

@@ -11,7 +11,7 @@ pub struct Settings {
     pub block: u32,
     /// The frames of a vector, 1 to the block's.
     pub vector: u32,
-    /// How many threads work, 1 for now.
+    /// How many workers run each block, 1 to 16.
     pub workers: u32,
     /// The bits of the output's samples, where they are not the input's: 8, 16, 24 or 32.
     pub bits: Option<u32>,
