@@ -35,15 +35,6 @@ pub struct Job<'p, 'h, 'i, P> {
     pub frames: u32,
 }
 
-// An event that is legal.
-fn act(core: &mut Core, tasks: &Tasks, event: Event)
-    requires same { core.old.tasks ≡ tasks.now.tasks }
-    requires legal { is_legal (net_of tasks.now.tasks) core.old.now event ≡ true }
-    ensures { core.new ≡ record core.old { now = after (net_of tasks.now.tasks) core.old.now event } }
-{
-    let _ = core.step(tasks, event);
-}
-
 // The code of one task.
 fn run_task<P: Codes, S: Store>(
     job: &Job<'_, '_, '_, P>,
@@ -108,7 +99,7 @@ fn finish(core: &mut Core, tasks: &Tasks, t: u64)
     ensures owes { Owes core.new.now (feeds_of tasks.now.tasks t) }
     ensures done { core.new.now.done ≡ set core.old.now.done t true }
 {
-    act(core, tasks, Event::Finish { worker: 0, task: t });
+    core.finish(tasks, 0, t);
 }
 
 // The worker arrives at an edge.
@@ -119,7 +110,7 @@ fn arrive(core: &mut Core, tasks: &Tasks, edge: u64)
     ensures owes { (es : List ℕ) → Owes core.old.now (edge ∷ es) → Owes core.new.now es }
     ensures done { core.new.now.done ≡ core.old.now.done }
 {
-    act(core, tasks, Event::Arrive { worker: 0, edge });
+    core.arrive(tasks, 0, edge);
 }
 
 // The worker arrives at all edges that it owes.

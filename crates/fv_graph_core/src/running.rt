@@ -124,8 +124,9 @@ impl Core {
         self.runs[thief as usize] = Some(task);
     }
 
-    // The task is done, and the worker owes the inner edges out of it.
-    fn finish(&mut self, tasks: &Tasks, worker: u32, task: u64)
+    /// The task is done, and the worker owes the inner edges out of it: the step `Finish`, for one who knows that it is legal. The tasks
+    /// are those that the core was made for, or reset for last.
+    pub fn finish(&mut self, tasks: &Tasks, worker: u32, task: u64)
         requires same { self.old.tasks ≡ tasks.now.tasks }
         requires legal { is_legal (net_of self.old.tasks) self.old.now (Finish worker task) ≡ true }
         ensures { self.new ≡ record self.old { now = after (net_of self.old.tasks) self.old.now (Finish worker task) } }
@@ -135,9 +136,9 @@ impl Core {
         owe(&mut self.owes, worker as usize, tasks.feeds(task));
     }
 
-    // The worker gives the edge: its reader waits for one task fewer, and where it waits for none it goes to the back of the
-    // worker's deque.
-    fn arrive(&mut self, tasks: &Tasks, worker: u32, edge: u64)
+    /// The worker gives the edge: its reader waits for one task fewer, and where it waits for none it goes to the back of the
+    /// worker's deque. This is the step `Arrive`, for one who knows that it is legal.
+    pub fn arrive(&mut self, tasks: &Tasks, worker: u32, edge: u64)
         requires same { self.old.tasks ≡ tasks.now.tasks }
         requires legal { is_legal (net_of self.old.tasks) self.old.now (Arrive worker edge) ≡ true }
         ensures { self.new ≡ record self.old { now = after (net_of self.old.tasks) self.old.now (Arrive worker edge) } }
