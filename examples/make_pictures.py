@@ -1,6 +1,7 @@
 #!/usr/bin/env python3
 """Draws for each example of `list.txt` a picture of its input, where it has one, and of its output: `NAME.png`. Where pitch is what
-one hears, a spectrogram stands below: time to the right, frequency upwards, the darker, the louder. Needs Python alone."""
+one hears, a spectrogram stands below: time to the right, frequency upwards, the darker, the louder. Needs Python 3.9 or later with
+its zlib, and the sounds that lie here, which make_waves.py makes; says so where one of them is missing. Takes a quarter of a minute."""
 import array
 import cmath
 import math
@@ -8,7 +9,13 @@ import os
 import struct
 import sys
 import wave
-import zlib
+
+if sys.version_info < (3, 9):
+    sys.exit("make_pictures.py needs Python 3.9 or later")
+try:
+    import zlib
+except ImportError:
+    sys.exit("make_pictures.py needs zlib, which packs a picture, and this Python was built without it")
 
 FOLDER = os.path.dirname(os.path.abspath(__file__))
 # Examples of which one hears how high they sound.
@@ -147,6 +154,15 @@ def draw(name, source):
     picture.save(os.path.join(FOLDER, name + ".png"))
 
 
-with open(os.path.join(FOLDER, "list.txt")) as examples:
-    for line in examples:
-        draw(*line.split()[:2])
+def main():
+    with open(os.path.join(FOLDER, "list.txt")) as examples:
+        shown = [line.split()[:2] for line in examples]
+    sounds = {name + ".wav" for name, _ in shown} | {source for _, source in shown if source != "-"}
+    missing = sorted(sound for sound in sounds if not os.path.exists(os.path.join(FOLDER, sound)))
+    if missing:
+        sys.exit(f"make_pictures.py needs {', '.join(missing)} beside it, which make_waves.py makes")
+    for name, source in shown:
+        draw(name, source)
+
+
+main()
