@@ -57,4 +57,22 @@ impl<'a, 'b> Store for LoopLanes<'a, 'b> {
         // Only cells of its own have items.
         self.cells.exchange(cells, w, x, r)
     }
+
+    fn load_many(&self, lane: u64, index: u64, back: u64, to: &mut [i32]) {
+        let i = lane as usize;
+        let own = self.own.len();
+        if i < own {
+            self.own[i].seen().samples(index, back, to)
+        } else {
+            self.seen[i - own].samples(index, back, to)
+        }
+    }
+
+    fn append_many(&mut self, lane: u64, values: &[i32]) {
+        // Only its own lanes have room, which no sample needs.
+        if values.is_empty() {
+            return;
+        }
+        self.own[lane as usize].append_many(values);
+    }
 }

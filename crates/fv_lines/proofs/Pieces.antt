@@ -1,9 +1,9 @@
 -- Many cells of a ring, which are read or written in two pieces: up to the end of the cells, and from their beginning on.
-use Rattle.std.proofs.Common.{◌≡◌, ◌+◌, ◌-◌, ◌<◌, ◌≤◌, ◌++◌, length, take, drop, List, ℕ, refl, sym, ap, ap₂, ◌∙◌, arith, subst, append-nil, min}
+use Rattle.std.proofs.Common.{◌≡◌, ◌+◌, ◌-◌, ◌<◌, ◌≤◌, ◌++◌, [], length, take, drop, List, ℕ, refl, sym, ap, ap₂, ◌∙◌, arith, subst, append-nil, min}
 use Rattle.std.proofs.lemmas.Bool.{cases_lt}
 use Rattle.std.proofs.Math.Nat.{min-eq_left, min-eq_right}
-use Rattle.std.proofs.lemmas.List.{drop-append-le, length-drop, length-take-le, drop-take, take-take, drop-drop, take-append-drop}
-use Rattle.std.proofs.Math.Seq.{drop-append-add, take-add}
+use Rattle.std.proofs.lemmas.List.{drop-append-le, length-append, length-drop, length-take-le, drop-take, take-take, drop-drop, take-append-drop}
+use Rattle.std.proofs.Math.Seq.{drop-append-add, drop-length, take-add, take-append_seam}
 use mathlib.Core.Logic.{◌⊎◌, inl, inr}
 use Rattle.fv_lines.proofs.Rotate.{ring, take_both}
 use Rattle.fv_lines.proofs.Parts.{replaced, length_replaced, new_there, kept_before, kept_behind}
@@ -31,6 +31,39 @@ at_of h m s j sum cell e small large = elim (cases_lt 16 h) [
 ]
 
 module _ {A : Type 0} where
+  -- of two lists, one behind the other, n items from number f on: b of the first from number s on, and then those of the second
+  pub two_lists : (xs ys : List A) (f n s b : ℕ) → IsFirst f (length xs) s → IsFirst n (length xs - s) b
+      → take b (drop s xs) ++ take (n - b) (drop (f - s) ys) ≡ take n (drop f (xs ++ ys))
+  two_lists xs ys f n s b at cut = elim at [
+    | inl p ↦
+        let tail : length (drop f xs) ≡ length xs - f = length-drop f xs in
+        let none : f - s ≡ 0 = omega (arith, p.0) in
+        ap₂ (λ (i j : ℕ). take b (drop i xs) ++ take (n - b) (drop j ys)) p.0 none
+        ∙ take_both (drop f xs) ys n b (elim cut [
+          | inl q ↦ inl (q.0, omega (arith, p.0, q.1, tail))
+          | inr q ↦ inr (omega (arith, p.0, q.0, tail), omega (arith, p.0, q.1, tail))
+        ])
+        ∙ ap (take n) (sym (drop-append-le f xs ys p.1))
+    | inr p ↦
+        let none : b ≡ 0 = elim cut [ inl q ↦ omega (arith, p.0, q.0, q.1) | inr q ↦ omega (arith, p.0, q.0) ] in
+        let all : n - b ≡ n = omega (arith, none) in
+        let from : length xs + (f - length xs) ≡ f = omega (arith, p.1) in
+        ap₂ (λ (i j : ℕ). take i (drop s xs) ++ take j (drop (f - s) ys)) none all
+        ∙ ap (λ (i : ℕ). take n (drop (f - i) ys)) p.0
+        ∙ ap (take n) (sym (drop-append-add xs ys (f - length xs)) ∙ ap (λ (k : ℕ). drop k (xs ++ ys)) from)
+  ]
+
+  -- the first b items of a list are replaced by xs, and then those behind them by ys
+  pub both_put : (to xs ys : List A) (b : ℕ) → length xs ≡ b
+      → take b (xs ++ drop b to) ++ (ys ++ drop (length (xs ++ drop b to) - b) (drop b (xs ++ drop b to))) ≡ xs ++ ys
+  both_put to xs ys b long =
+      let once : List A = xs ++ drop b to in
+      let whole : length once ≡ b + length (drop b to) = length-append xs (drop b to) ∙ ap (λ (k : ℕ). k + length (drop b to)) long in
+      let front : take b once ≡ xs = ap (λ (k : ℕ). take k once) (sym long) ∙ take-append_seam xs (drop b to) in
+      let end : b + (length once - b) ≡ length once = omega (arith, whole) in
+      let none : drop (length once - b) (drop b once) ≡ [] = drop-drop (length once - b) b once ∙ ap (λ (k : ℕ). drop k once) end ∙ drop-length once in
+      ap₂ (λ (zs r : List A). zs ++ (ys ++ r)) front none ∙ ap (λ (zs : List A). xs ++ zs) (append-nil ys)
+
   pub read_two : (cells : List A) (s j n cell b : ℕ) → s ≤ length cells → j + n ≤ length cells → IsAt (length cells) s j cell
       → IsFirst n (length cells - cell) b → take b (drop cell cells) ++ take (n - b) cells ≡ take n (drop j (ring s cells))
   read_two cells s j n cell b inside fits at cut =

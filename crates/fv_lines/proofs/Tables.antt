@@ -92,7 +92,8 @@ first_appended h r xs values (suc n) l =
     (append_assoc xs (take n values) (argument values n ∷ []) ∙ ap (λ (ys : List ℤ). xs ++ ys) (sym next) ∙ ap (λ (k : ℕ). xs ++ take k values) more)
     (let e : r - n - 1 ≡ r - suc n = omega arith in e)
 
-made_more : (h f w w' : ℕ) (xs ys values : List ℤ) → ys ≡ xs ++ values → w' ≡ w + length values
+-- a lane with these values more, of which fewer are to come
+pub made_more : (h f w w' : ℕ) (xs ys values : List ℤ) → ys ≡ xs ++ values → w' ≡ w + length values
     → made h ys (f - w') ≡ all_appended (made h xs (f - w)) (argument values) (length values)
 made_more h f w w' xs ys values e k =
     ap₂ (made h) (e ∙ ap (λ (zs : List ℤ). xs ++ zs) (sym (take_all (length values) values (omega arith))))

@@ -66,6 +66,26 @@ impl<'a> Row<'a> {
         self.keep(1);
     }
 
+    /// Fills the next cells with these values.
+    pub(crate) fn push_many(&mut self, values: &[i32])
+        requires { length values.now ≤ length self.old.rest.items }
+        ensures { (self.new.front.now ≡ self.old.front.now ++ values.now)
+            × (self.new.rest.items ≡ drop (length values.now) self.old.rest.items) × (self.new.link.whole ≡ self.old.link.whole) }
+    {
+        let count = values.len();
+        let rest = replace(&mut self.rest, Cells::of(&mut [])).into_slice(self.left);
+        rest[..count].copy_from_slice(values);
+        self.rest = Cells::of(rest);
+        self.keep(count);
+    }
+
+    /// The number of cells that are not filled.
+    pub(crate) fn left(&self) -> usize
+        ensures { result ≡ length self.now.rest.items }
+    {
+        self.left
+    }
+
     /// The number of cells.
     pub(crate) fn len(&self) -> usize
         ensures { result ≡ length self.now.front.now + length self.now.rest.items }

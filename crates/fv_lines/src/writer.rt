@@ -48,6 +48,20 @@ impl<'a> LaneWriter<'a> {
         self.written += 1;
     }
 
+    /// These samples, one after another: as many as the cells up to the part's end take, and then the others.
+    pub fn append_many(&mut self, values: &[i32])
+        requires { written_by self.old + length values.now ≤ frames_of self.old }
+        ensures list { list_of self.new ≡ list_of self.old ++ values.now }
+        ensures written { written_by self.new ≡ written_by self.old + length values.now }
+        ensures rest { (frames_of self.new ≡ frames_of self.old)
+            × (shape_of self.new ≡ shape_of self.old) × (part_of self.new ≡ part_of self.old) × (outer_of self.new ≡ outer_of self.old) }
+    {
+        let before = values.len().min(self.high.left());
+        self.high.push_many(&values[..before]);
+        self.low.push_many(&values[before..]);
+        self.written += values.len() as u32;
+    }
+
     /// All samples of the block are written.
     pub fn is_full(&self) -> bool
         ensures { IsTrue result ↔ (written_by self.now ≡ frames_of self.now) }

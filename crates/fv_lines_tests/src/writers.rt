@@ -1,5 +1,8 @@
 // Shapes, and lanes that one writer has.
 
+ghost use Rattle.std.specs.Prelude.{◌≡◌};
+ghost use Rattle.fv_lines.specs.Writer.{written_by, frames_of};
+
 use crate::caller::append_side_by_side;
 use fv_lines::{LaneShape, LaneState, LaneWriter, Seen};
 use fv_pool::{Layout, Part, Region, Uncut};
@@ -35,6 +38,22 @@ fn begin<'a>(
     let part = part.expect(rt, "a part");
     assert!(rt; part.len as u64 == shape.len && frames <= shape.block && shape.history <= 16);
     assert!(rt; start < shape.len && start + u64::from(shape.history) <= shape.len);
+    LaneWriter::begin(part, shape, LaneState { start }, frames)
+}
+
+// The same for a ring.
+fn begin_ring<'a>(
+    rt: &impl Abort,
+    part: Option<Part<'a>>,
+    shape: LaneShape,
+    start: u64,
+    frames: u32,
+) -> LaneWriter<'a>
+    ensures { (written_by result ≡ 0) × (frames_of result ≡ frames) }
+{
+    let part = part.expect(rt, "a part");
+    assert!(rt; part.len as u64 == shape.len && frames <= shape.block && shape.history > 16);
+    assert!(rt; start < shape.len);
     LaneWriter::begin(part, shape, LaneState { start }, frames)
 }
 
@@ -138,5 +157,39 @@ fn lanes_end_where_they_stand(rt: HostRuntime) -> Result<(), Fail> {
     assert_stops(&rt, first);
     assert_stops(&rt, second);
     assert_eq!(rt; &*region.cells(), [4, 5, 8, 4, 5, 6, 7, 8, 6, 7].as_slice());
+    Ok(())
+}
+
+// Four samples of a lane, at once.
+fn four_samples(rt: &impl Abort, seen: &Seen<'_>, back: u32) -> [i32; 4] {
+    let mut to = [-1; 4];
+    assert!(rt; seen.has_sample(0, back) && seen.has_sample(3, back));
+    seen.samples(0, u64::from(back), &mut to);
+    to
+}
+
+// The history of 17 samples begins at the 14th of 32 cells, so two samples lie before the end of the cells and two at their beginning.
+#[test]
+fn many_samples_lie_in_two_pieces(rt: HostRuntime) -> Result<(), Fail> {
+    let layout = Layout::new(rt.alloc(), &[32])?;
+    let mut region = Region::new(rt.alloc(), 32)?;
+    region.cells().copy_from_slice(&[
+        0, 0, 0, 0, 0, 0, 0, 0, 0, 0, 0, 0, 0, 1, 2, 3, 4, 5, 6, 7, 8, 9, 10, 11, 12, 13, 14, 15,
+        16, 17, 0, 0,
+    ]);
+    assert!(rt; region.has_room(&layout));
+    let mut cutter = region.cut(&layout);
+    let mut writer = begin_ring(&rt, cutter.next(), LaneShape::new(17, 4), 13, 4);
+    writer.append_many(&[18, 19, 20, 21]);
+    assert!(rt; writer.is_full());
+    let seen = writer.seen();
+    for (back, wanted) in [
+        (0, [18, 19, 20, 21]),
+        (1, [17, 18, 19, 20]),
+        (4, [14, 15, 16, 17]),
+        (17, [1, 2, 3, 4]),
+    ] {
+        assert_eq!(rt; four_samples(&rt, &seen, back), wanted, "{back}");
+    }
     Ok(())
 }

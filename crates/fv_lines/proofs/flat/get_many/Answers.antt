@@ -1,10 +1,8 @@
-use Rattle.std.proofs.Common.{◌≡◌, ◌+◌, ◌-◌, ◌≤◌, ◌++◌, [], ℕ, ℤ, List, length, take, drop, sym, ap, ap₂, ◌∙◌, arith, append-nil}
+use Rattle.std.proofs.Common.{◌≡◌, ◌+◌, ◌-◌, ◌≤◌, ◌++◌, ℕ, ℤ, List, length, take, drop, ap, ap₂, ◌∙◌, arith}
 use Rattle.std.proofs.lemmas.Bool.{cases_lt}
-use Rattle.std.proofs.lemmas.List.{length-append, length-drop, length-take-le, drop-drop}
-use Rattle.std.proofs.Math.Seq.{take-append_seam, drop-length}
+use Rattle.std.proofs.lemmas.List.{length-drop, length-take-le}
 use mathlib.Core.Logic.{inl, inr}
-use borrow.Rule.Slice.PartMut.{post_of}
-use Rattle.fv_lines.proofs.Pieces.{IsAt, IsFirst, read_two, first_is, at_of}
+use Rattle.fv_lines.proofs.Pieces.{IsAt, IsFirst, read_two, both_put, first_is, at_of}
 use Rattle.fv_lines.proofs.flat.get_many.Goals as goal
 
 pub returns-clause-samples : goal.returns-clause-samples
@@ -33,15 +31,6 @@ returns-clause-samples c =
     ] in
     let one : c.copy_from_slice.new.self ≡ take b (drop cell cells) =
     c.copy_from_slice.ensures.after ∙ ap (λ (k : ℕ). take k (drop cell cells)) (let e : cell + b - cell ≡ b = omega arith in e) in
-    let long : length c.copy_from_slice.new.self ≡ b = ap length one ∙ length-take-le b (drop cell cells) few in
-    let once : List ℤ = c.copy_from_slice.new.self ++ drop b c.args.to.now in
-    let front : take b once ≡ take b (drop cell cells) =
-    ap (λ (k : ℕ). take k once) (sym long) ∙ take-append_seam c.copy_from_slice.new.self (drop b c.args.to.now) ∙ one in
-    let whole : length once ≡ b + length (drop b c.args.to.now) =
-    length-append c.copy_from_slice.new.self (drop b c.args.to.now) ∙ ap (λ (k : ℕ). k + length (drop b c.args.to.now)) long in
-    let none : post_of b (length once - b) once ≡ [] =
-    drop-drop (length once - b) b once ∙ ap (λ (k : ℕ). drop k once) (let e : b + (length once - b) ≡ length once = omega (arith, whole) in e)
-    ∙ drop-length once in
-    ap₂ (λ (xs r : List ℤ). xs ++ (c.copy_from_slice-2.new.self ++ r)) front none
-    ∙ ap (λ (xs : List ℤ). take b (drop cell cells) ++ xs) (append-nil c.copy_from_slice-2.new.self ∙ c.copy_from_slice-2.ensures.after)
+    both_put c.args.to.now c.copy_from_slice.new.self c.copy_from_slice-2.new.self b (ap length one ∙ length-take-le b (drop cell cells) few)
+    ∙ ap₂ (λ (xs ys : List ℤ). xs ++ ys) one c.copy_from_slice-2.ensures.after
     ∙ read_two cells s j n cell b inside (omega (arith, c.requires.room, c.requires.there, size)) at cut

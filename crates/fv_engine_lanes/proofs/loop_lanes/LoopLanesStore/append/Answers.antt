@@ -22,7 +22,7 @@ append-requires c =
 pub returns-clause-state : goal.returns-clause-state
 returns-clause-state c =
     ap (λ ls. record { lanes = ls; tables = c.args.self.now.cells.plan.now.tables; cells = cells_of c.args.self.now.cells })
-    (lane_set c.args.self.now.own.items c.args.self.now.seen.items c.args.lane c.index_mut.result.now c.append.new.self c.args.value
+    (lane_set c.args.self.now.own.items c.args.self.now.seen.items c.args.lane c.index_mut.result.now c.append.new.self (c.args.value ∷ [])
     (has_room c.args.self.now.own.items c.args.self.now.seen.items c.args.lane c.requires.room) c.index_mut.ensures.value
     (record {
       list = c.append.ensures.list ∙ ap (λ (v : ℤ). list_of c.index_mut.result.now ++ v ∷ []) (to_z-of_z c.ranges.value);
@@ -36,7 +36,7 @@ returns-clause-state c =
 pub returns-clause-kept : goal.returns-clause-kept
 returns-clause-kept c =
     ap (λ o. record { own = o; seen = c.args.self.now.seen; cells = rest_of_cells c.args.self.now.cells })
-    (rest_set c.args.self.now.own.items c.args.lane c.index_mut.result.now c.append.new.self c.args.value c.index_mut.ensures.value
+    (rest_set c.args.self.now.own.items c.args.lane c.index_mut.result.now c.append.new.self (c.args.value ∷ []) c.index_mut.ensures.value
     (record {
       list = c.append.ensures.list ∙ ap (λ (v : ℤ). list_of c.index_mut.result.now ++ v ∷ []) (to_z-of_z c.ranges.value);
       written = c.append.ensures.written;
