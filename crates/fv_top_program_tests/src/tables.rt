@@ -1,14 +1,14 @@
 // Programs with waveforms and tables: a check takes them, and a run plays them.
 
-use crate::au::TO_AU;
-use crate::desks::{Row, Silent, THREE, WORDS, assert_all_end, assert_all_report};
-use crate::samples::{Played, assert_all_play, assert_plays};
 use fv_outside::FreeGate;
-use std::alloc::{AllocError, Global};
-use std::process::Abort;
+use std::alloc::Global;
 use std::sync::Wait;
 use std::test::Fail;
 use std::thread::Threads;
+use test_runs::{
+    Played, Row, Silent, THREE, TO_AU, WORDS, assert_all_end, assert_all_play, assert_all_report,
+    assert_plays,
+};
 
 const CHECK: [&str; 2] = ["check", "p.dsp"];
 
@@ -73,16 +73,16 @@ fn tables_are_checked(rt: HostRuntime) -> Result<(), Fail> {
             "refused 29 Channels 257 256\n",
         ),
     ];
-    Ok(assert_all_report(&rt, rt.alloc(), &rows)?)
+    assert_all_report(&rt, rt.alloc(), &rows)
 }
 
 // What comes of 1, -2 and 3, whatever the blocks and however many workers.
 fn assert_sounds(
-    rt: &(impl Threads + Wait + Sync + Abort),
+    rt: &(impl Threads + Wait + Sync),
     alloc: Global,
     text: &str,
     said: &[i32],
-) -> Result<(), AllocError> {
+) -> Result<(), Fail> {
     let heard = (1, [1, -2, 3].as_slice());
     let rows: [Played; 3] = [
         (&WORDS, text, heard, (1, said), "done 3 frames\n"),
@@ -131,7 +131,7 @@ fn a_rack_has_the_tables_of_its_jobs(rt: HostRuntime) -> Result<(), Fail> {
         (2, &[1, 1, -2, 2, 3, 1]),
         "done 3 frames\n",
     )];
-    Ok(assert_all_play(&rt, rt.alloc(), &rows)?)
+    assert_all_play(&rt, rt.alloc(), &rows)
 }
 
 // Three samples of 16 bits, each of them 1, in an AU file.
@@ -142,7 +142,7 @@ const ONES: [u8; 30] =
 fn a_table_in_an_au_file(rt: HostRuntime) -> Result<(), Fail> {
     let text = "process = rdtable(4,1,_);";
     let rows: [Row; 1] = [(&TO_AU, text, &THREE, (0, "done 3 frames\n", &ONES))];
-    Ok(assert_all_end(&rt, rt.alloc(), &rows)?)
+    assert_all_end(&rt, rt.alloc(), &rows)
 }
 
 /// Blocks and vectors of one frame, and of 512 and 32, by one worker and by two.
