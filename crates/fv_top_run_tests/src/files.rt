@@ -281,7 +281,8 @@ fn limits_files(rt: HostRuntime) -> Result<(), Fail> {
     let words = ["run", "p.dsp", "in.wav", "out.wav", "--controls", "c.txt"];
     let text = b"process = _ * hslider(\"my gain\",1,0,10,1);";
     let done = (0, "done 3 frames\n", THREE.as_slice());
-    let rows: [(&[&str], &str, &[(&[u8], u32)], End); 9] = [
+    let rack = ["rack", "p.dsp", "in.wav", "out.wav"];
+    let rows: [(&[&str], &str, &[(&[u8], u32)], End); 10] = [
         // open brackets
         (
             &WORDS,
@@ -310,6 +311,12 @@ fn limits_files(rt: HostRuntime) -> Result<(), Fail> {
         ),
         (
             &WORDS,
+            "p.dsp",
+            &[(b"process = _;", 1), (b" ", 1_048_565)],
+            (3, "refused 4 TextTooLong program\n", &[]),
+        ),
+        (
+            &rack,
             "p.dsp",
             &[(b"process = _;", 1), (b" ", 1_048_565)],
             (3, "refused 4 TextTooLong program\n", &[]),
