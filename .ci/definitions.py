@@ -21,6 +21,24 @@ for crate in sorted(os.listdir(ROOT)):
 
 definitions, imports, comments, constructors, heads = {}, {}, {}, {}, {}
 
+# What a crate hands on of another, by the name that it gives it: `pub use Rattle.CRATE.specs.FILE [as NAME]` in its specs/Lib.antt.
+handed = {}
+for module, text in texts.items():
+    if module.endswith(".specs.Lib"):
+        for path, alias in re.findall(r"^pub use Rattle\.([\w.]+?)(?: as (\w+))?$", text, re.M):
+            handed[module[:-3] + (alias or path.split(".")[-1])] = path
+
+
+def origin(path):
+    """The path of a module in the crate that it is of."""
+    while True:
+        crate, _, rest = path.partition(".specs.")
+        name, _, beyond = rest.partition(".")
+        here = handed.get(f"{crate}.specs.{name}")
+        if here is None:
+            return path
+        path = here + ("." + beyond if beyond else "")
+
 
 def plain_lines(text):
     """The lines, with those of an anonymous module, and of definitions that need one another, moved to the left."""
@@ -56,7 +74,7 @@ def parse(module):
             if some:
                 for word in some.group(2).split(","):
                     old, _, new = word.strip().partition(" as ")
-                    known[(new or old).strip()] = (some.group(1), old.strip())
+                    known[(new or old).strip()] = (origin(some.group(1)), old.strip())
         elif line.startswith("infix"):
             begun = True
         elif line.strip():
@@ -106,7 +124,7 @@ def ghost_imports(text):
     for path, names in re.findall(r"^\s*ghost use Rattle\.([\w.]+)\.\{([^}]*)\};", text, re.M):
         for word in names.split(","):
             old, _, new = word.strip().partition(" as ")
-            known[(new or old).strip()] = (path, old.strip())
+            known[(new or old).strip()] = (origin(path), old.strip())
     return known
 
 

@@ -1,5 +1,5 @@
 -- A graph of signals.
-use Rattle.std.specs.Prelude.{ℕ, List, [], ◌∷◌}
+use Rattle.std.specs.Prelude.{[], ◌∷◌}
 use Rattle.fv_num.specs.declared.op.Op.TheVariants.{Add}
 use Rattle.fv_signal.specs.declared.signal.Signal.TheVariants.{Input, Point, Back, Member}
 use Rattle.fv_signal.specs.headline.Value.{Graph}

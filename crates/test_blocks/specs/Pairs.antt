@@ -1,6 +1,5 @@
 -- Pairs of loops that are put one after another (this project's profile).
-use Rattle.std.specs.Prelude.{◌≡◌, ℕ, ◌+◌, ◌<◌, ◌≤◌, List, length, slice_index_or, ◌==◌, ◌&&◌}
-use Rattle.fv_outside.specs.headline.Tasks.{bit, total}
+use Rattle.std.specs.Prelude.{◌≡◌, ℕ, ◌<◌, ◌≤◌, List, length, slice_index_or}
 use Rattle.fv_outside.specs.declared.tasks.Reads.{Reads}
 use Rattle.fv_graph.specs.Graph.{no_reads, ArePairs}
 

@@ -1,4 +1,4 @@
-use Rattle.std.proofs.Common.{ℕ, ◌<◌, All, IsTrue, [], length, ◌≡◌, List, get_or, sym, subst, ap, ◌∙◌, rules, arith, below_more, Vec}
+use Rattle.std.proofs.Common.{ℕ, ◌<◌, All, [], length, ◌≡◌, List, sym, subst, ap, ◌∙◌, rules, below_more, Vec}
 use Rattle.std.specs.declared.alloc.Global.{Global}
 use Rattle.std.proofs.lemmas.List.{get_or-map}
 use Rattle.fv_signal.specs.headline.Value.{members}

@@ -1,12 +1,9 @@
 // The command `au`.
 
-use crate::desks::{Row, THREE, WORDS, assert_all_end};
 use std::test::Fail;
+use test_runs::{Row, THREE, TO_AU, WORDS, assert_all_end};
 
-/// The words of a run whose output is an AU file.
-pub const TO_AU: [&str; 4] = ["au", "p.dsp", "in.wav", "o.au"];
-
-/// Those of one whose output is a WAV file.
+// The words of a run whose output is a WAV file.
 const TO_WAVE: [&str; 4] = ["au", "p.dsp", "in.wav", "o.wav"];
 
 /// Three samples of 16 bits, 1, -2 and 3, in an AU file.
@@ -61,7 +58,7 @@ fn plays_au_files(rt: HostRuntime) -> Result<(), Fail> {
         ),
         (&TO_WAVE, text, &THREE, (0, "done 3 frames\n", &THREE)),
     ];
-    Ok(assert_all_end(&rt, rt.alloc(), &rows)?)
+    assert_all_end(&rt, rt.alloc(), &rows)
 }
 
 #[test]
@@ -96,5 +93,5 @@ fn refuses_au_files(rt: HostRuntime) -> Result<(), Fail> {
         (&TO_AU, text, &LATE, (4, "refused 45 AuTruncated 30\n", &[])),
         (&WORDS, text, &AU_THREE, (4, "refused 34 NotWave 0\n", &[])),
     ];
-    Ok(assert_all_end(&rt, rt.alloc(), &rows)?)
+    assert_all_end(&rt, rt.alloc(), &rows)
 }

@@ -3,7 +3,7 @@
 ghost use Rattle.std.specs.Prelude.{map, string_bytes};
 ghost use Rattle.fv_top_words.specs.headline.Runs.{Run};
 ghost use Rattle.fv_top.specs.headline.Promise.{IsDoneOrNoMemory};
-ghost use Rattle.fv_top_tests.specs.Sure.{IsSure};
+ghost use Rattle.fv_top_run_tests.specs.Sure.{IsSure};
 
 use fv_outside::{Desk, Gate};
 use fv_top::{Status, run_faustvec};

@@ -1,17 +1,15 @@
 // The blocks of whole runs, as gates see them.
 
-use crate::desks::{desk_of, tally_of};
 use crate::hostile::FIVE;
-use crate::language::{BLOCKS_OF_FOUR, GAIN};
-use crate::samples::{Played, assert_plays};
 use fv_outside::{Line, Reads, Recorder, Task};
 use fv_top::Tally;
-use std::alloc::{AllocError, Global};
+use std::alloc::Global;
 use std::process::Abort;
 use std::sync::Wait;
 use std::test::Fail;
 use std::thread::Threads;
 use test_gates::{Counter, block_of};
+use test_runs::{BLOCKS_OF_FOUR, GAIN, Played, assert_plays, desk_of, tally_of};
 
 // A gain that changes at frames 2 and 3, on five frames.
 #[test]
@@ -56,7 +54,7 @@ fn play_difference(
     rt: &(impl Threads + Wait + Sync + Abort),
     alloc: Global,
     gate: &mut Recorder,
-) -> Result<(), AllocError> {
+) -> Result<(), Fail> {
     let played: Played = (
         &["run", "p.dsp", "in.wav", "out.wav"],
         "process = _ <: _, mem : -;",

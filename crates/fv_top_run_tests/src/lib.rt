@@ -1,4 +1,5 @@
-//! Tests of fv_top's public call and of what is made for `make`, and a caller of the top call.
+//! Tests of whole runs by what they meet: words, files, desks that give little or fail, blocks and workers, and what is made for `make`; and a
+//! caller of the top call.
 #![tactic(auto)]
 
 mod sure;
@@ -10,24 +11,14 @@ mod au;
 #[cfg(test)]
 mod blocks;
 #[cfg(test)]
-mod desks;
-#[cfg(test)]
 mod files;
 #[cfg(test)]
 mod hostile;
-#[cfg(test)]
-mod language;
 #[cfg(test)]
 mod made;
 #[cfg(test)]
 mod makes;
 #[cfg(test)]
-mod rack;
-#[cfg(test)]
 mod runs;
-#[cfg(test)]
-mod samples;
-#[cfg(test)]
-mod tables;
 #[cfg(test)]
 mod workers;

@@ -3,12 +3,30 @@
 use fv_outside::{FreeGate, Gate, MemoryDesk, Role};
 use fv_top::{Status, Tally, run_faustvec};
 use std::alloc::{AllocError, Global};
-use std::process::Abort;
 use std::sync::Wait;
+use std::test::Fail;
 use std::thread::Threads;
 
 /// The words of the plainest run.
 pub const WORDS: [&str; 4] = ["run", "p.dsp", "in.wav", "out.wav"];
+
+/// The words of a run whose output is an AU file.
+pub const TO_AU: [&str; 4] = ["au", "p.dsp", "in.wav", "o.au"];
+
+/// The words of a run in blocks of four frames, under a script.
+pub const BLOCKS_OF_FOUR: [&str; 8] = [
+    "run",
+    "p.dsp",
+    "in.wav",
+    "out.wav",
+    "--block",
+    "4",
+    "--controls",
+    "c.txt",
+];
+
+/// A gain, which that script makes 3 at frame 2 and 0 at frame 3.
+pub const GAIN: &str = "process = _ * hslider(\"g\",1,0,10,1);";
 
 /// One channel of 16 bits at 44100 frames a second, with the samples 1, -2 and 3.
 pub const THREE: [u8; 50] = [
@@ -48,8 +66,8 @@ pub fn desk_of(alloc: Global, text: &[u8], input: &[u8]) -> Result<MemoryDesk, A
     Ok(desk)
 }
 
-/// A run with these words behind the program's own name.
-pub fn run_of<G: Gate + Sync>(
+// A run with these words behind the program's own name.
+fn run_of<G: Gate + Sync>(
     rt: &(impl Threads + Wait + Sync),
     alloc: Global,
     desk: &mut MemoryDesk,
@@ -90,23 +108,21 @@ pub fn tally_of<G: Gate + Sync>(
 
 /// A run over this desk ends so.
 pub fn assert_ends(
-    rt: &(impl Threads + Wait + Sync + Abort),
+    rt: &(impl Threads + Wait + Sync),
     alloc: Global,
     desk: &mut MemoryDesk,
     words: &[&str],
     end: End<'_>,
-) -> Result<(), AllocError> {
+) -> Result<(), Fail> {
     let (status, line, output) = end;
     let ended = status_of(rt, alloc, desk, words)?;
-    assert_eq!(rt;
-        (
-            ended,
-            desk.written(Role::Report),
-            desk.written(Role::Output)
-        ),
-        (status, line.as_bytes(), output),
-        "{line}"
-    );
+    let told = desk.written(Role::Report);
+    if ended != status || told != line.as_bytes() {
+        return Err(Fail::new(format_args!("{words:?}: {ended} {told:?}, not {status} {line:?}")));
+    }
+    if desk.written(Role::Output) != output {
+        return Err(Fail::new(format_args!("{words:?}: another output, with {line:?}")));
+    }
     Ok(())
 }
 
@@ -115,10 +131,10 @@ pub type Row<'a> = (&'a [&'a str], &'a str, &'a [u8], End<'a>);
 
 /// Each of these runs does.
 pub fn assert_all_end(
-    rt: &(impl Threads + Wait + Sync + Abort),
+    rt: &(impl Threads + Wait + Sync),
     alloc: Global,
     rows: &[Row<'_>],
-) -> Result<(), AllocError> {
+) -> Result<(), Fail> {
     for (words, text, input, end) in rows {
         let mut desk = desk_of(alloc, text.as_bytes(), input)?;
         assert_ends(rt, alloc, &mut desk, words, *end)?;
@@ -131,10 +147,10 @@ pub type Silent<'a> = (&'a [&'a str], &'a str, u8, &'a str);
 
 /// Each of these runs ends so.
 pub fn assert_all_report(
-    rt: &(impl Threads + Wait + Sync + Abort),
+    rt: &(impl Threads + Wait + Sync),
     alloc: Global,
     rows: &[Silent<'_>],
-) -> Result<(), AllocError> {
+) -> Result<(), Fail> {
     for (words, text, status, line) in rows {
         let mut desk = desk_of(alloc, text.as_bytes(), &THREE)?;
         let end: End = (*status, *line, &[]);

@@ -1,10 +1,8 @@
 // The command `rack`.
 
-use crate::desks::{Silent, assert_all_report};
-use crate::language::GAIN;
-use crate::samples::{Played, assert_all_play, assert_plays};
 use std::test::Fail;
 use test_gates::Meeting;
+use test_runs::{GAIN, Played, Silent, assert_all_play, assert_all_report, assert_plays};
 
 /// The words of a rack.
 const RACK: [&str; 4] = ["rack", "p.dsp", "in.wav", "out.wav"];
@@ -97,7 +95,7 @@ fn plays_side_by_side(rt: HostRuntime) -> Result<(), Fail> {
             "done 2 frames\n",
         ),
     ];
-    Ok(assert_all_play(&rt, rt.alloc(), &rows)?)
+    assert_all_play(&rt, rt.alloc(), &rows)
 }
 
 #[test]
@@ -189,5 +187,5 @@ fn ends_as_the_file_of_jobs_says(rt: HostRuntime) -> Result<(), Fail> {
             "refused 1 Usage form\n",
         ),
     ];
-    Ok(assert_all_report(&rt, rt.alloc(), &rows)?)
+    assert_all_report(&rt, rt.alloc(), &rows)
 }

@@ -2,8 +2,6 @@
 
 ghost use Rattle.std.specs.Prelude.{◌<◌};
 
-use crate::desks::{desk_of, tally_of};
-use crate::samples::{Played, assert_plays, file_of};
 use fv_outside::{FreeGate, Gate, Role};
 use fv_top::Tally;
 use std::alloc::{AllocError, Global};
@@ -12,6 +10,7 @@ use std::sync::Wait;
 use std::test::Fail;
 use std::thread::Threads;
 use test_gates::{Counter, Meeting, Until};
+use test_runs::{Played, assert_plays, desk_of, file_of, tally_of};
 
 // Two loops that read nothing of one another. The gate holds each task until the other is about to run, so two threads run them.
 #[test]

@@ -4,8 +4,8 @@ use crate::desks::{desk_of, tally_of};
 use fv_outside::{FreeGate, Gate, Role};
 use fv_top::Tally;
 use std::alloc::{AllocError, Global};
-use std::process::Abort;
 use std::sync::Wait;
+use std::test::Fail;
 use std::thread::Threads;
 
 /// The head of a file of 16 bits at 44100 frames a second, with zeros for its size, its channels and what follows from these.
@@ -39,30 +39,35 @@ pub fn file_of(alloc: Global, channels: u32, samples: &[i32]) -> Result<Vec<u8>,
 
 /// A program that is played under a gate gives its output and its line. Answers what is counted.
 pub fn assert_plays<G: Gate + Sync>(
-    rt: &(impl Threads + Wait + Sync + Abort),
+    rt: &(impl Threads + Wait + Sync),
     alloc: Global,
     played: &Played<'_>,
     gate: &mut G,
-) -> Result<Tally, AllocError> {
+) -> Result<Tally, Fail> {
     let (words, text, (channels, heard), (outputs, said), line) = *played;
     let input = file_of(alloc, channels, heard)?;
     let output = file_of(alloc, outputs, said)?;
     let mut desk = desk_of(alloc, text.as_bytes(), &input)?;
     let tally = tally_of(rt, alloc, &mut desk, words, gate)?;
-    assert!(rt;
-        (desk.written(Role::Report), desk.written(Role::Output))
-            == (line.as_bytes(), output.as_slice()),
-        "{text}"
-    );
-    Ok(tally.expect(rt, "done"))
+    let told = desk.written(Role::Report);
+    if told != line.as_bytes() {
+        return Err(Fail::new(format_args!("{text}: {told:?}, not {line:?}")));
+    }
+    if desk.written(Role::Output) != output.as_slice() {
+        return Err(Fail::new(format_args!("{text}: another output")));
+    }
+    match tally {
+        Some(counted) => Ok(counted),
+        None => Err("refused, with the line of a run that is done".into()),
+    }
 }
 
 /// Each of these programs does.
 pub fn assert_all_play(
-    rt: &(impl Threads + Wait + Sync + Abort),
+    rt: &(impl Threads + Wait + Sync),
     alloc: Global,
     rows: &[Played<'_>],
-) -> Result<(), AllocError> {
+) -> Result<(), Fail> {
     for played in rows {
         assert_plays(rt, alloc, played, &mut FreeGate)?;
     }

@@ -1,8 +1,8 @@
 // Runs over other files than the plainest, and with options.
 
-use crate::desks::{End, Row, THREE, WORDS, assert_all_end, assert_ends, desk_of};
 use std::alloc::{AllocError, Global};
 use std::test::Fail;
+use test_runs::{End, Row, THREE, WORDS, assert_all_end, assert_ends, desk_of};
 
 /// Two samples of 24 bits, 1 and -2, in an extensible file with an odd chunk.
 pub const ODD: [u8; 86] = [
@@ -89,7 +89,7 @@ fn plays_other_files(rt: HostRuntime) -> Result<(), Fail> {
             (0, "done 3 frames\n", &wide),
         ),
     ];
-    Ok(assert_all_end(&rt, rt.alloc(), &rows)?)
+    assert_all_end(&rt, rt.alloc(), &rows)
 }
 
 #[test]
@@ -152,7 +152,7 @@ fn refuses_files(rt: HostRuntime) -> Result<(), Fail> {
             (4, "refused 35 WaveTruncated 20\n", &[]),
         ),
     ];
-    Ok(assert_all_end(&rt, rt.alloc(), &rows)?)
+    assert_all_end(&rt, rt.alloc(), &rows)
 }
 
 // Of an input that is cut, just the blocks are played that lie wholly within it.
@@ -201,7 +201,7 @@ fn plays_whole_blocks(rt: HostRuntime) -> Result<(), Fail> {
             (4, "refused 35 WaveTruncated 49\n", &THREE[..48]),
         ),
     ];
-    Ok(assert_all_end(&rt, rt.alloc(), &rows)?)
+    assert_all_end(&rt, rt.alloc(), &rows)
 }
 
 #[test]
@@ -261,7 +261,7 @@ fn reads_scripts(rt: HostRuntime) -> Result<(), Fail> {
             (4, "refused 30 ControlLine 1\n", &[]),
         ),
     ];
-    Ok(assert_all_end(&rt, rt.alloc(), &rows)?)
+    assert_all_end(&rt, rt.alloc(), &rows)
 }
 
 /// So many times some bytes, one after another.
@@ -281,7 +281,8 @@ fn limits_files(rt: HostRuntime) -> Result<(), Fail> {
     let words = ["run", "p.dsp", "in.wav", "out.wav", "--controls", "c.txt"];
     let text = b"process = _ * hslider(\"my gain\",1,0,10,1);";
     let done = (0, "done 3 frames\n", THREE.as_slice());
-    let rows: [(&[&str], &str, &[(&[u8], u32)], End); 9] = [
+    let rack = ["rack", "p.dsp", "in.wav", "out.wav"];
+    let rows: [(&[&str], &str, &[(&[u8], u32)], End); 10] = [
         // open brackets
         (
             &WORDS,
@@ -310,6 +311,12 @@ fn limits_files(rt: HostRuntime) -> Result<(), Fail> {
         ),
         (
             &WORDS,
+            "p.dsp",
+            &[(b"process = _;", 1), (b" ", 1_048_565)],
+            (3, "refused 4 TextTooLong program\n", &[]),
+        ),
+        (
+            &rack,
             "p.dsp",
             &[(b"process = _;", 1), (b" ", 1_048_565)],
             (3, "refused 4 TextTooLong program\n", &[]),

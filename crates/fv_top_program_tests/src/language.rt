@@ -1,23 +1,10 @@
 // Whole runs of programs of every form of the language.
 
-use crate::desks::{Row, Silent, THREE, WORDS, assert_all_end, assert_all_report};
-use crate::samples::{Played, assert_all_play};
 use std::test::Fail;
-
-/// The words of a run in blocks of four frames, under a script.
-pub const BLOCKS_OF_FOUR: [&str; 8] = [
-    "run",
-    "p.dsp",
-    "in.wav",
-    "out.wav",
-    "--block",
-    "4",
-    "--controls",
-    "c.txt",
-];
-
-/// A gain, which that script makes 3 at frame 2 and 0 at frame 3.
-pub const GAIN: &str = "process = _ * hslider(\"g\",1,0,10,1);";
+use test_runs::{
+    BLOCKS_OF_FOUR, GAIN, Played, Row, Silent, THREE, WORDS, assert_all_end, assert_all_play,
+    assert_all_report,
+};
 
 #[test]
 fn plays_one_channel(rt: HostRuntime) -> Result<(), Fail> {
@@ -199,7 +186,7 @@ fn plays_one_channel(rt: HostRuntime) -> Result<(), Fail> {
             "done 3 frames\n",
         ),
     ];
-    Ok(assert_all_play(&rt, rt.alloc(), &rows)?)
+    assert_all_play(&rt, rt.alloc(), &rows)
 }
 
 #[test]
@@ -299,7 +286,7 @@ fn plays_more_channels_and_fewer(rt: HostRuntime) -> Result<(), Fail> {
             "done 0 frames\n",
         ),
     ];
-    Ok(assert_all_play(&rt, rt.alloc(), &rows)?)
+    assert_all_play(&rt, rt.alloc(), &rows)
 }
 
 #[test]
@@ -317,7 +304,7 @@ fn plays_the_widest(rt: HostRuntime) -> Result<(), Fail> {
         &THREE,
         (0, "done 1 frames\n", &output),
     )];
-    Ok(assert_all_end(&rt, rt.alloc(), &rows)?)
+    assert_all_end(&rt, rt.alloc(), &rows)
 }
 
 #[test]
@@ -497,7 +484,7 @@ fn refuses_programs(rt: HostRuntime) -> Result<(), Fail> {
             "refused 23 EvalBudget\n",
         ),
     ];
-    Ok(assert_all_report(&rt, rt.alloc(), &rows)?)
+    assert_all_report(&rt, rt.alloc(), &rows)
 }
 
 #[test]
@@ -550,7 +537,7 @@ fn takes_the_limits(rt: HostRuntime) -> Result<(), Fail> {
             "refused 1 Usage vectors\n",
         ),
     ];
-    Ok(assert_all_report(&rt, rt.alloc(), &rows)?)
+    assert_all_report(&rt, rt.alloc(), &rows)
 }
 
 #[test]
@@ -649,5 +636,5 @@ fn checks_programs(rt: HostRuntime) -> Result<(), Fail> {
             "inputs 4 outputs 1 controls 0 size 21 delays 9\n",
         ),
     ];
-    Ok(assert_all_report(&rt, rt.alloc(), &rows)?)
+    assert_all_report(&rt, rt.alloc(), &rows)
 }

@@ -1,7 +1,7 @@
 // Programs that are made and played on noise. The sums come from a second reading of the definitions.
 
-use crate::desks::{Silent, assert_all_report};
 use std::test::Fail;
+use test_runs::{Silent, assert_all_report};
 
 #[test]
 fn makes_sums(rt: HostRuntime) -> Result<(), Fail> {
@@ -58,7 +58,7 @@ fn makes_sums(rt: HostRuntime) -> Result<(), Fail> {
             "made 16 voices, 32768 frames, sum 1263330751\n",
         ),
     ];
-    Ok(assert_all_report(&rt, rt.alloc(), &rows)?)
+    assert_all_report(&rt, rt.alloc(), &rows)
 }
 
 #[test]
@@ -118,5 +118,5 @@ fn refuses_what_is_not_made(rt: HostRuntime) -> Result<(), Fail> {
             "refused 1 Usage range\n",
         ),
     ];
-    Ok(assert_all_report(&rt, rt.alloc(), &rows)?)
+    assert_all_report(&rt, rt.alloc(), &rows)
 }

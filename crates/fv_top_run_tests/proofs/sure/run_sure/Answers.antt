@@ -8,8 +8,8 @@ use Rattle.fv_top_files.specs.headline.Sources.{found}
 use Rattle.fv_top_files.specs.headline.Loading.{IsThere}
 use Rattle.fv_top.specs.headline.Promise.{Write, IsAnswered}
 use Rattle.fv_top.specs.headline.Steps.{Turn, reads, writes, more, none}
-use Rattle.fv_top_tests.specs.Sure.{IsSure}
-use Rattle.fv_top_tests.proofs.sure.run_sure.Goals as goal
+use Rattle.fv_top_run_tests.specs.Sure.{IsSure}
+use Rattle.fv_top_run_tests.proofs.sure.run_sure.Goals as goal
 
 -- a file that has bytes is there
 there : (file : Option (List ℕ)) (bytes : List ℕ) → file ≡ Some bytes → IsSome file

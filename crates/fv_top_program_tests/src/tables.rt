@@ -1,14 +1,15 @@
 // Programs with waveforms and tables: a check takes them, and a run plays them.
 
-use crate::au::TO_AU;
-use crate::desks::{Row, Silent, THREE, WORDS, assert_all_end, assert_all_report};
-use crate::samples::{Played, assert_all_play, assert_plays};
 use fv_outside::FreeGate;
-use std::alloc::{AllocError, Global};
-use std::process::Abort;
+use std::alloc::Global;
 use std::sync::Wait;
 use std::test::Fail;
 use std::thread::Threads;
+use test_gates::Meeting;
+use test_runs::{
+    Played, Row, Silent, THREE, TO_AU, WORDS, assert_all_end, assert_all_play, assert_all_report,
+    assert_plays,
+};
 
 const CHECK: [&str; 2] = ["check", "p.dsp"];
 
@@ -21,7 +22,7 @@ const BY_TWO: [&str; 5] = ["run", "p.dsp", "in.wav", "out.wav", "--workers=2"];
 
 #[test]
 fn tables_are_checked(rt: HostRuntime) -> Result<(), Fail> {
-    let rows: [Silent; 8] = [
+    let rows: [Silent; 10] = [
         (
             &CHECK,
             "process = waveform{10,-20,30}, _ : rdtable;",
@@ -68,21 +69,33 @@ fn tables_are_checked(rt: HostRuntime) -> Result<(), Fail> {
         ),
         (
             &RACK,
+            "process = _;\n%%\nprocess = rdtable(0,1,_);",
+            3,
+            "refused 46 Job 1 41\n",
+        ),
+        (
+            &RACK,
+            "process = rdtable(16777216,1,_);\n%%\nprocess = _;",
+            3,
+            "refused 46 Job 0 42\n",
+        ),
+        (
+            &RACK,
             "process = waveform{1,2};\n%%\nprocess = par(i,255,0);",
             3,
             "refused 29 Channels 257 256\n",
         ),
     ];
-    Ok(assert_all_report(&rt, rt.alloc(), &rows)?)
+    assert_all_report(&rt, rt.alloc(), &rows)
 }
 
 // What comes of 1, -2 and 3, whatever the blocks and however many workers.
 fn assert_sounds(
-    rt: &(impl Threads + Wait + Sync + Abort),
+    rt: &(impl Threads + Wait + Sync),
     alloc: Global,
     text: &str,
     said: &[i32],
-) -> Result<(), AllocError> {
+) -> Result<(), Fail> {
     let heard = (1, [1, -2, 3].as_slice());
     let rows: [Played; 3] = [
         (&WORDS, text, heard, (1, said), "done 3 frames\n"),
@@ -131,7 +144,36 @@ fn a_rack_has_the_tables_of_its_jobs(rt: HostRuntime) -> Result<(), Fail> {
         (2, &[1, 1, -2, 2, 3, 1]),
         "done 3 frames\n",
     )];
-    Ok(assert_all_play(&rt, rt.alloc(), &rows)?)
+    assert_all_play(&rt, rt.alloc(), &rows)
+}
+
+#[test]
+fn a_waveform_needs_no_input(rt: HostRuntime) -> Result<(), Fail> {
+    let rows: [Played; 1] = [(
+        &["run", "p.dsp", "-", "out.wav", "--frames", "3"],
+        "process = waveform{5,6};",
+        (1, &[]),
+        (2, &[2, 5, 2, 6, 2, 5]),
+        "done 3 frames\n",
+    )];
+    assert_all_play(&rt, rt.alloc(), &rows)
+}
+
+// Two loops that read nothing of one another, each with a table of its own. The gate holds each task until the other is about to run, so
+// two threads run them.
+#[test]
+fn two_workers_have_a_table_each(rt: HostRuntime) -> Result<(), Fail> {
+    let played: Played = (
+        &["run", "p.dsp", "in.wav", "out.wav", "--workers", "2"],
+        "process = (+ ~ rwtable(2,3,0,_,0)), rwtable(2,7,0,_,0);",
+        (2, &[1, 4, -2, 5, 3, 6]),
+        (2, &[1, 4, -1, 5, 2, 6]),
+        "done 3 frames\n",
+    );
+    let mut gate = Meeting::new(0, 1);
+    let tally = assert_plays(&rt, rt.alloc(), &played, &mut gate)?;
+    assert_eq!(rt; (tally.loops, gate.missed()), (2, false));
+    Ok(())
 }
 
 // Three samples of 16 bits, each of them 1, in an AU file.
@@ -142,7 +184,7 @@ const ONES: [u8; 30] =
 fn a_table_in_an_au_file(rt: HostRuntime) -> Result<(), Fail> {
     let text = "process = rdtable(4,1,_);";
     let rows: [Row; 1] = [(&TO_AU, text, &THREE, (0, "done 3 frames\n", &ONES))];
-    Ok(assert_all_end(&rt, rt.alloc(), &rows)?)
+    assert_all_end(&rt, rt.alloc(), &rows)
 }
 
 /// Blocks and vectors of one frame, and of 512 and 32, by one worker and by two.

@@ -2,16 +2,15 @@
 
 ghost use Rattle.std.specs.Prelude.{◌≤◌};
 
-use crate::au::{AU_OPEN, AU_THREE, TO_AU};
-use crate::desks::{Row, THREE, WORDS, assert_ends, desk_of, status_of};
+use crate::au::{AU_OPEN, AU_THREE};
 use crate::files::{ODD, PLAIN};
-use crate::language::{BLOCKS_OF_FOUR, GAIN};
 use fv_outside::{MemoryDesk, Role};
 use std::alloc::{AllocError, Global};
 use std::process::Abort;
 use std::sync::Wait;
 use std::test::Fail;
 use std::thread::Threads;
+use test_runs::{BLOCKS_OF_FOUR, GAIN, Row, THREE, TO_AU, WORDS, assert_ends, desk_of, status_of};
 
 const ROLES: [Role; 5] = [
     Role::Program,
@@ -154,11 +153,11 @@ fn names_what_failed(rt: HostRuntime) -> Result<(), Fail> {
 
 // Where the refusal's own line can not be written, the answer and the output are what they are where it can. Whether there was a refusal.
 fn ends_alike_in_silence(
-    rt: &(impl Threads + Wait + Sync + Abort),
+    rt: &(impl Threads + Wait + Sync),
     alloc: Global,
     role: Role,
     call: u32,
-) -> Result<bool, AllocError> {
+) -> Result<bool, Fail> {
     let mut desk = desk_of(alloc, GAIN.as_bytes(), &FIVE)?;
     desk.fail(role, call)?;
     let ended = status_of(rt, alloc, &mut desk, &BLOCKS_OF_FOUR)?;
@@ -195,6 +194,5 @@ fn writes_what_there_is_room_for(rt: HostRuntime) -> Result<(), Fail> {
     desk.room(Role::Output, 49)?;
     desk.room(Role::Report, 100)?;
     let end = (1, "refused 3 WriteFault output\n", &THREE[..49]);
-    assert_ends(&rt, rt.alloc(), &mut desk, &WORDS, end)?;
-    Ok(())
+    assert_ends(&rt, rt.alloc(), &mut desk, &WORDS, end)
 }

@@ -1,7 +1,7 @@
 // Whole runs whose words are refused, or whose files are not there.
 
-use crate::desks::{Silent, assert_all_report};
 use std::test::Fail;
+use test_runs::{Silent, assert_all_report};
 
 #[test]
 fn refuses_words(rt: HostRuntime) -> Result<(), Fail> {
@@ -102,5 +102,5 @@ fn refuses_words(rt: HostRuntime) -> Result<(), Fail> {
             "refused 9 Syntax 2 14\n",
         ),
     ];
-    Ok(assert_all_report(&rt, rt.alloc(), &rows)?)
+    assert_all_report(&rt, rt.alloc(), &rows)
 }
