@@ -2,7 +2,7 @@
 
 ghost use Rattle.std.specs.Prelude.{◌≡◌, ℕ, ◌+◌, ◌*◌, ◌<◌, length, [], All, slice_index_or, pos};
 ghost use Rattle.fv_engine_tasks.specs.Block.{IsReal};
-ghost use Rattle.fv_engine_tasks.specs.Jobs.{IsJob, block_of, RegistersFit};
+ghost use Rattle.fv_engine_tasks.specs.Jobs.{IsJob, block_of, RegistersFit, RowsFit};
 ghost use Rattle.fv_engine_tasks.specs.Underway.{EndsBlock};
 ghost use Rattle.fv_engine_tasks.specs.Outputs.{sample_of};
 ghost use Rattle.fv_engine.specs.inner.Kept.{state_of};
@@ -31,6 +31,7 @@ pub(crate) fn alone<P: Codes, L: LaneStore, G: Gate>(
     requires lists { length lists.old ≡ (P.parts job.now.plan.now).cells }
     requires job { IsJob (block_of P.parts job.now) runner.old.tasks.tasks }
     requires real { IsReal (block_of P.parts job.now) (state_of plan.now (L.lanes lanes.old) lists.old) }
+    requires rows { RowsFit (P.parts job.now.plan.now) (length runner.old.rows.items) }
     requires regs { RegistersFit (P.parts job.now.plan.now) (length runner.old.regs.items) }
     requires lines { runner.old.lines.items ≡ [] }
     requires there { All (λ l. l < (P.parts job.now.plan.now).lanes) plan.now.outputs }
@@ -49,6 +50,7 @@ pub(crate) fn alone<P: Codes, L: LaneStore, G: Gate>(
         job,
         &runner.tasks,
         &mut runner.core,
+        &mut runner.rows,
         &mut runner.regs,
         &mut runner.lines,
         &mut kept,

@@ -6,8 +6,7 @@ ghost use Rattle.fv_split_plan.specs.headline.Plans.{IsHeldCode, LoadsWithin};
 ghost use Rattle.fv_engine.specs.inner.Plans.{held_by};
 
 use fv_lines::item;
-use fv_loopcode::{Store, still_code_is_free};
-use fv_loopcode_machine::run;
+use fv_loopcode::{Store, run, still_code_is_free};
 use fv_split_plan::Plan;
 
 // The tables of a plan, one lane of one sample, and cells of one item. The code of held values neither loads, appends nor writes, so nobody
@@ -65,5 +64,6 @@ pub(crate) fn hold(plan: &Plan, controls: &[i32], held: &mut [i32])
         is_written: false,
         item: 0,
     };
-    run(plan.held(), controls, &[], 0, 0, 1, held, &mut store);
+    let code = plan.held().plain();
+    run(code, controls, &[], 0, 0, 1, held, &mut store);
 }

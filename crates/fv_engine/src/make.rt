@@ -15,6 +15,7 @@ use crate::runner::TaskRunner;
 use fv_graph::Tasks;
 use fv_graph_core::Core;
 use fv_lines::{LaneShape, LaneState};
+use fv_loopcode_machine::blank_rows;
 use fv_pool::{Layout, Region};
 use fv_split_plan::Plan;
 use std::alloc::{AllocError, Global};
@@ -129,11 +130,14 @@ pub(crate) fn runner_for(alloc: Global, plan: &Plan, most: u32) -> Result<TaskRu
 {
     let tasks = Tasks::new(alloc, plan.loops(), most, plan.reads())?;
     let core = Core::new(alloc, &tasks, 1)?;
-    let regs = Vec::from_elem(alloc, 0, most_steps(plan) as usize)?;
+    let steps = most_steps(plan);
+    let rows = blank_rows(alloc, steps)?;
+    let regs = Vec::from_elem(alloc, 0, steps as usize)?;
     let lines = Vec::with_capacity(alloc, tasks.len() as usize)?;
     Ok(TaskRunner {
         tasks,
         core,
+        rows,
         regs,
         lines,
     })

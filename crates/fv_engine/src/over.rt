@@ -4,7 +4,7 @@ ghost use Rattle.std.specs.Prelude.{◌≡◌, ℕ, ◌*◌, ◌<◌, length, []
 ghost use Rattle.fv_pool.specs.Lengths.{lengths_of};
 ghost use Rattle.fv_lines.specs.Solo.{AreLists, AreHeld, AreFramed};
 ghost use Rattle.fv_engine_tasks.specs.Block.{IsReal};
-ghost use Rattle.fv_engine_tasks.specs.Jobs.{IsJob, block_of, RegistersFit};
+ghost use Rattle.fv_engine_tasks.specs.Jobs.{IsJob, block_of, RegistersFit, RowsFit};
 ghost use Rattle.fv_engine_crew.specs.Ran.{Ran};
 ghost use Rattle.fv_engine.specs.inner.Opening.{opening_over, IsSameRunner};
 
@@ -39,6 +39,7 @@ pub(crate) fn over<P: Codes, G: Gate>(
     requires job { IsJob (block_of P.parts job.now) runner.old.tasks.tasks }
     requires real { IsReal (block_of P.parts job.now)
         (opening_over plan.now.tables (lengths_of layout.now) shapes.now states.old job.now.frames cells.old lists.old) }
+    requires rows { RowsFit (P.parts job.now.plan.now) (length runner.old.rows.items) }
     requires regs { RegistersFit (P.parts job.now.plan.now) (length runner.old.regs.items) }
     requires lines { runner.old.lines.items ≡ [] }
     requires there { All (λ l. l < (P.parts job.now.plan.now).lanes) plan.now.outputs }

@@ -8,11 +8,13 @@ use fv_graph::Tasks;
 use fv_graph_core::Core;
 use fv_outside::Line;
 
-/// What runs the tasks: the tasks of the block, the core for one worker, the registers and the block's journal.
+/// What runs the tasks: the tasks of the block, the core for one worker, the rows and registers that its codes work in, and the
+/// block's journal.
 #[derive(Drop)]
 pub(crate) struct TaskRunner {
     pub(crate) tasks: Tasks,
     pub(crate) core: Core,
+    pub(crate) rows: Vec<i32>,
     pub(crate) regs: Vec<i32>,
     pub(crate) lines: Vec<Line>,
     ghost core_is: { HasCore tasks core },
@@ -30,6 +32,7 @@ impl TaskRunner {
         requires room { vectors ≤ self.old.tasks.most }
         ensures tasks { self.new.tasks ≡ record self.old.tasks { tasks = record self.old.tasks.tasks { vectors = vectors } } }
         ensures lines { self.new.lines.items ≡ [] }
+        ensures rows { self.new.rows ≡ self.old.rows }
         ensures regs { self.new.regs ≡ self.old.regs }
     {
         self.tasks.set_vectors(vectors);
@@ -42,6 +45,7 @@ impl TaskRunner {
         ensures same { self.new.core.tasks ≡ self.new.tasks.tasks }
         ensures one { self.new.core.workers ≡ 1 }
         ensures opening { self.new.core.now ≡ opening (net_of self.new.tasks.tasks) 1 }
+        ensures rows { self.new.rows ≡ self.old.rows }
         ensures regs { self.new.regs ≡ self.old.regs }
         ensures lines { self.new.lines ≡ self.old.lines }
         ensures room { task_count self.new.tasks.tasks ≤ vec_capacity self.new.lines }

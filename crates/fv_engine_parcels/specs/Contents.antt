@@ -113,13 +113,14 @@ pub record AreCellsOf (k : Start) (j v : ℕ) (c : LoopCells) : Type 0 where
       → list_at (cells_of c) i ≡ f.cells i (upto k v)
 
 -- What loop j hands on after v of its vectors, with so many lists more than the readers of its later vectors take: its writers and cells,
--- room for the seen lanes of its sources, a register for each step, and the lists.
+-- room for the seen lanes of its sources, a register and a row for each step, and the lists.
 pub record AreHandedOn (k : Start) (j v more : ℕ) (w : Writers) : Type 0 where
   pub writers : AreWritersOf k (own_lanes k.plan.now j) v w.lanes.own.items
   pub cells : AreCellsOf k j v w.lanes.cells
   pub nothing_seen : w.lanes.seen.items ≡ []
   pub room : length (lanes_of_all k.plan.now (sources_of (tasks_in k) j)) ≤ vec_capacity w.lanes.seen
   pub regs : length w.regs.items ≡ length (code_of k.plan.now j)
+  pub rows : length w.rows.items ≡ length (code_of k.plan.now j) * 32
   pub lists : ((tasks_in k).vectors - v) * readers_of (tasks_in k) j + more ≤ length w.lists.items
   pub roomy : AreRoomy w.lists.items (length (own_lanes k.plan.now j))
 

@@ -76,10 +76,12 @@ impl<'a, 'b> LoopBody<'a, 'b> {
         requires input { self.now.start.frames * self.now.start.channels ≤ length self.now.start.input.now }
         requires sound { AreLanesSound writers.old.lanes }
         requires before { Before self.now.start task.loop_no task.vector (state_in writers.old.lanes) }
+        requires rows { length (slice_index_or self.now.codes.now task.loop_no []) * 32 ≤ length writers.old.rows.items }
         requires regs { length writers.old.regs.items ≡ length (slice_index_or self.now.codes.now task.loop_no []) }
         ensures after { After self.now.start task.loop_no task.vector (state_in writers.new.lanes) }
         ensures sound { AreLanesSound writers.new.lanes }
         ensures kept { rest_in writers.new.lanes ≡ rest_in writers.old.lanes }
+        ensures rows { length writers.new.rows.items ≡ length writers.old.rows.items }
         ensures regs { length writers.new.regs.items ≡ length writers.old.regs.items }
         ensures lists { writers.new.lists ≡ writers.old.lists }
     {
@@ -95,6 +97,7 @@ impl<'a, 'b> LoopBody<'a, 'b> {
             self.start.channels,
             from,
             count,
+            &mut writers.rows,
             &mut writers.regs,
             &mut writers.lanes,
         );

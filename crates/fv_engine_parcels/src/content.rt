@@ -3,12 +3,13 @@
 use fv_engine_lanes::LoopLanes;
 use fv_lines::Seen;
 
-/// What a loop's task hands to the loop's next task: its lane writers and cells, its registers, and, still empty, the lists that its
-/// seen parcels will fill.
+/// What a loop's task hands to the loop's next task: its lane writers and cells, its registers, the rows that its code works in, and,
+/// still empty, the lists that its seen parcels will fill.
 #[derive(Drop)]
 pub struct Writers<'a, 'b> {
     pub lanes: LoopLanes<'a, 'b>,
     pub regs: Vec<i32>,
+    pub rows: Vec<i32>,
     pub lists: Vec<Vec<Seen<'a>>>,
 }
 

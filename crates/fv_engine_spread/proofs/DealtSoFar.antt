@@ -21,6 +21,7 @@ pub record IsDealtSoFar (p : PlanView) (all : List LaneWriter) (n j : ℕ) (old 
   pub seen : new.lanes.seen ≡ old.lanes.seen
   pub cells : new.lanes.cells ≡ old.lanes.cells
   pub regs : new.regs ≡ old.regs
+  pub rows : new.rows ≡ old.rows
   pub lists : new.lists ≡ old.lists
 
 -- so it is with each loop
@@ -34,12 +35,13 @@ pub record HasOneMore (w : LaneWriter) (old new : Writers) : Type 0 where
   pub seen : new.lanes.seen ≡ old.lanes.seen
   pub cells : new.lanes.cells ≡ old.lanes.cells
   pub regs : new.regs ≡ old.regs
+  pub rows : new.rows ≡ old.rows
   pub lists : new.lists ≡ old.lists
 
 module _ (p : PlanView) (all : List LaneWriter) where
   pub none_dealt : (g : Tasks) (places : CellPlaces) (rooms : List (Box Writers)) → AreRooms p g places rooms → AreDealtSoFar p all 0 rooms rooms
   none_dealt g places rooms a j d l =
-      let r = a.each j d l in record { count = ap length r.nothing; own = λ e. r.nothing; room = r.own_room; seen = refl; cells = refl; regs = refl; lists = refl }
+      let r = a.each j d l in record { count = ap length r.nothing; own = λ e. r.nothing; room = r.own_room; seen = refl; cells = refl; regs = refl; rows = refl; lists = refl }
 
   -- there is room for the next lane
   pub room_for_next : (n : ℕ) (old new : Writers) → n < length p.lanes → IsDealtSoFar p all n (lane_info p n).owner old new
@@ -73,6 +75,7 @@ module _ (p : PlanView) (all : List LaneWriter) where
         seen = m.seen ∙ now.seen;
         cells = m.cells ∙ now.cells;
         regs = m.regs ∙ now.regs;
+        rows = m.rows ∙ now.rows;
         lists = m.lists ∙ now.lists;
       })
       (λ other. record {
@@ -82,6 +85,7 @@ module _ (p : PlanView) (all : List LaneWriter) where
         seen = now.seen;
         cells = now.cells;
         regs = now.regs;
+        rows = now.rows;
         lists = now.lists;
       })
 
@@ -97,6 +101,7 @@ module _ (p : PlanView) (all : List LaneWriter) where
           seen = s.seen;
           cells = s.cells;
           regs = s.regs;
+          rows = s.rows;
           lists = s.lists;
         };
   }

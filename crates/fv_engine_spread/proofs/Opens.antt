@@ -118,6 +118,7 @@ module _ (k : Start) (opening : IsOpening k) where
         nothing_seen = ap (λ (v : Vec Seen). v.items) seen ∙ r.nothing_seen;
         room = omega (arith, r.seen_room, ap (λ (v : Vec Seen). vec_capacity v) seen);
         regs = ap (λ (v : Vec ℤ). length v.items) (same.regs ∙ s.regs) ∙ r.regs;
+        rows = ap (λ (v : Vec ℤ). length v.items) (same.rows ∙ s.rows) ∙ r.rows;
         lists =
             let all_left : (tasks_in k).vectors - 0 ≡ (tasks_in k).vectors = omega arith in
             omega (arith, ap (λ (v : ℕ). v * readers_of (tasks_in k) j) all_left, ap (λ (v : Vec (Vec Seen)). length v.items) lists, r.lists_are);

@@ -13,6 +13,7 @@ pub record IsDealt (p : PlanView) (all : List LaneWriter) (j : ℕ) (old new : W
   pub seen : new.lanes.seen ≡ old.lanes.seen
   pub cells : new.lanes.cells ≡ old.lanes.cells
   pub regs : new.regs ≡ old.regs
+  pub rows : new.rows ≡ old.rows
   pub lists : new.lists ≡ old.lists
 
 -- so it is with each loop

@@ -10,14 +10,15 @@ use Rattle.fv_engine_lanes.specs.declared.loop_cells.LoopCells.{LoopCells}
 use Rattle.fv_engine_parcels.specs.Contents.{AreRoomy}
 use Rattle.fv_engine_parcels.specs.declared.content.Writers.{Writers}
 
--- Empty lists of one loop: room for so many lanes of its own and so many seen ones, so many registers, and so many lists, each
--- with room for the lanes of its own.
+-- Empty lists of one loop: room for so many lanes of its own and so many seen ones, so many registers and
+-- rows, and so many lists, each with room for the lanes of its own.
 pub record IsRoom (own seen steps lists : ℕ) (w : Writers) : Type 0 where
   pub nothing : w.lanes.own.items ≡ []
   pub own_room : own ≤ vec_capacity w.lanes.own
   pub nothing_seen : w.lanes.seen.items ≡ []
   pub seen_room : seen ≤ vec_capacity w.lanes.seen
   pub regs : length w.regs.items ≡ steps
+  pub rows : length w.rows.items ≡ steps * 32
   pub lists_are : length w.lists.items ≡ lists
   pub roomy : AreRoomy w.lists.items own
 

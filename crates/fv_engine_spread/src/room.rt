@@ -13,6 +13,7 @@ use fv_engine_lanes::{CellPlaces, LoopCells, LoopLanes};
 use fv_engine_parcels::Writers;
 use fv_graph::Tasks;
 use fv_lines::Seen;
+use fv_loopcode_machine::blank_rows;
 use fv_split_plan::Plan;
 use std::alloc::{AllocError, Global};
 
@@ -79,8 +80,8 @@ fn loop_cells<'b>(
     })
 }
 
-// The lists of one loop: for its own lanes, for the lanes that it sees, a register for each step, and lists for the lanes that it
-// hands to those that read it; and its cells.
+// The lists of one loop: for its own lanes, for the lanes that it sees, a register and a row for each step, and lists for the lanes
+// that it hands to those that read it; and its cells.
 fn loop_room<'a, 'b>(
     alloc: Global,
     cells: LoopCells<'b>,
@@ -94,10 +95,12 @@ fn loop_room<'a, 'b>(
     let own = Vec::with_capacity(alloc, count.own as usize)?;
     let seen = Vec::with_capacity(alloc, count.seen as usize)?;
     let regs = Vec::from_elem(alloc, 0, steps as usize)?;
+    let rows = blank_rows(alloc, steps)?;
     let lists = seen_lists(alloc, lists, count.own)?;
     Ok(Writers {
         lanes: LoopLanes { own, seen, cells },
         regs,
+        rows,
         lists,
     })
 }

@@ -37,6 +37,10 @@ pub record IsJob (b : Block) (g : Tasks) : Type 0 where
 abbrev pub RegistersFit : Parts → ℕ → Type 0
 RegistersFit p n = (j : ℕ) → j < p.count → length (p.loops.code j) ≤ n
 
+-- there are 32 numbers for each step of each loop's code
+abbrev pub RowsFit : Parts → ℕ → Type 0
+RowsFit p n = (j : ℕ) → j < p.count → length (p.loops.code j) * 32 ≤ n
+
 -- how many tasks are not done
 abbrev pub left_to_do : List Bool → ℕ
 left_to_do done = total (λ d. bit (not d)) done

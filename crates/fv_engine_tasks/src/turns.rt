@@ -12,7 +12,7 @@ ghost use Rattle.fv_loopcode.specs.headline.Code.{ran};
 ghost use Rattle.fv_loopcode.specs.Code.{MayRun, frame_of, IsWithin};
 ghost use Rattle.fv_loopcode.specs.Blocks.{before};
 ghost use Rattle.fv_engine_tasks.specs.Block.{IsReal};
-ghost use Rattle.fv_engine_tasks.specs.Jobs.{IsJob, block_of, RegistersFit, left_to_do};
+ghost use Rattle.fv_engine_tasks.specs.Jobs.{IsJob, block_of, RegistersFit, RowsFit, left_to_do};
 ghost use Rattle.fv_engine_tasks.specs.Events.{IsFree, Runs, Owes, KeepsCore};
 ghost use Rattle.fv_engine_tasks.specs.Underway.{IsUnderway, EndsBlock};
 
@@ -39,12 +39,14 @@ pub struct Job<'p, 'h, 'i, P> {
 fn run_task<P: Codes, S: Store>(
     job: &Job<'_, '_, '_, P>,
     task: Task,
+    rows: &mut [i32],
     regs: &mut [i32],
     store: &mut S,
 )
     requires sound { S.is_sound store.old }
     requires there { task.loop_no < (P.parts job.now.plan.now).count }
     requires inside { task.vector * job.now.vector < job.now.frames }
+    requires rows { length ((P.parts job.now.plan.now).loops.code task.loop_no) * 32 ≤ length rows.old }
     requires regs { length ((P.parts job.now.plan.now).loops.code task.loop_no) ≤ length regs.old }
     requires within { All (λ s. IsWithin (length job.now.held.now) job.now.channels s)
         ((P.parts job.now.plan.now).loops.code task.loop_no) }
@@ -72,6 +74,7 @@ fn run_task<P: Codes, S: Store>(
         job.channels,
         from,
         count,
+        rows,
         &mut regs[..steps],
         store,
     );
@@ -133,6 +136,7 @@ fn turn<P: Codes, S: Store, G: Gate>(
     job: &Job<'_, '_, '_, P>,
     tasks: &Tasks,
     core: &mut Core,
+    rows: &mut [i32],
     regs: &mut [i32],
     lines: &mut Vec<Line>,
     store: &mut S,
@@ -142,6 +146,7 @@ fn turn<P: Codes, S: Store, G: Gate>(
     requires same { core.old.tasks ≡ tasks.now.tasks }
     requires back { back_of (deque_of core.old.now 0) ≡ Some t }
     requires job { IsJob (block_of P.parts job.now) tasks.now.tasks }
+    requires rows { RowsFit (P.parts job.now.plan.now) (length rows.old) }
     requires regs { RegistersFit (P.parts job.now.plan.now) (length regs.old) }
     requires room { task_count tasks.now.tasks ≤ vec_capacity lines.old }
     requires sound { S.is_sound store.old }
@@ -150,6 +155,7 @@ fn turn<P: Codes, S: Store, G: Gate>(
     ensures core { KeepsCore core.old core.new }
     ensures kept { S.rest store.new ≡ S.rest store.old }
     ensures sound { S.is_sound store.new }
+    ensures rows { length rows.new ≡ length rows.old }
     ensures regs { length regs.new ≡ length regs.old }
     ensures room { vec_capacity lines.new ≡ vec_capacity lines.old }
     ensures underway { (first : State) → IsReal (block_of P.parts job.now) first
@@ -162,7 +168,7 @@ fn turn<P: Codes, S: Store, G: Gate>(
     let task = tasks.task(t);
     let start = 2 * lines.len() as u64;
     gate.at(0, task);
-    run_task(job, task, regs, store);
+    run_task(job, task, rows, regs, store);
     finish(core, tasks, t);
     arrive_all(core, tasks, t);
     lines.push_reserved(Line {
@@ -186,11 +192,13 @@ fn leave(core: &mut Core, tasks: &Tasks)
     let _ = core.step(tasks, Event::Leave { worker: 0 });
 }
 
-/// Runs all tasks of a block, each after all that it reads. The gate sees each before it runs, and the lines are the block's journal.
+/// Runs all tasks of a block, each after all that it reads, over rows and registers that serve the longest code. The gate sees each before
+/// it runs, and the lines are the block's journal.
 pub fn run_tasks<P: Codes, S: Store, G: Gate>(
     job: &Job<'_, '_, '_, P>,
     tasks: &Tasks,
     core: &mut Core,
+    rows: &mut [i32],
     regs: &mut [i32],
     lines: &mut Vec<Line>,
     store: &mut S,
@@ -199,6 +207,7 @@ pub fn run_tasks<P: Codes, S: Store, G: Gate>(
     requires same { core.old.tasks ≡ tasks.now.tasks }
     requires one { core.old.workers ≡ 1 }
     requires job { IsJob (block_of P.parts job.now) tasks.now.tasks }
+    requires rows { RowsFit (P.parts job.now.plan.now) (length rows.old) }
     requires regs { RegistersFit (P.parts job.now.plan.now) (length regs.old) }
     requires room { task_count tasks.now.tasks ≤ vec_capacity lines.old }
     requires sound { S.is_sound store.old }
@@ -207,6 +216,7 @@ pub fn run_tasks<P: Codes, S: Store, G: Gate>(
     ensures core { KeepsCore core.old core.new }
     ensures kept { S.rest store.new ≡ S.rest store.old }
     ensures sound { S.is_sound store.new }
+    ensures rows { length rows.new ≡ length rows.old }
     ensures regs { length regs.new ≡ length regs.old }
     ensures room { vec_capacity lines.new ≡ vec_capacity lines.old }
     // Each lane holds its numbers of the whole block, and the journal is in order.
@@ -215,7 +225,7 @@ pub fn run_tasks<P: Codes, S: Store, G: Gate>(
         → EndsBlock tasks.now.tasks (block_of P.parts job.now) first (S.state store.new) lines.new.items }
 {
     while let Some(t) = core.next_of(0) {
-        turn(job, tasks, core, regs, lines, store, gate, t);
+        turn(job, tasks, core, rows, regs, lines, store, gate, t);
     }
     leave(core, tasks);
 }

@@ -10,6 +10,9 @@ use fv_loopcode_machine::{Code, run};
 use std::process::Abort;
 use std::test::Fail;
 
+// Rows that hold what the codes do not look at.
+pub(crate) const USED: [i32; 288] = [-7; 288];
+
 // Runs the running sum over so many samples, by strips.
 fn sum_by_strips(code: &Code, input: &[i32], count: u64, registers: &mut [i32], shelf: &mut Shelf)
     requires code { code.now ≡ running_sum }
@@ -18,7 +21,8 @@ fn sum_by_strips(code: &Code, input: &[i32], count: u64, registers: &mut [i32], 
     requires input { length input.now ≡ count }
     requires room { HasRoom shelf.old count }
 {
-    run(code, &[], input, 1, 0, count, registers, shelf);
+    let mut rows = USED;
+    run(code, &[], input, 1, 0, count, &mut rows, registers, shelf);
 }
 
 // Two strips and a part of a third.

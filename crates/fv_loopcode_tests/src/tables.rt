@@ -6,6 +6,7 @@ ghost use Rattle.fv_loopcode_tests.specs.Shelf.{HasRoom};
 
 use crate::rows::shelf_of;
 use crate::shelf::Shelf;
+use crate::strips::USED;
 use fv_loopcode::{Counts, Step};
 use fv_loopcode_machine::Code;
 use fv_num::Op;
@@ -77,7 +78,8 @@ fn by_strips(code: &Code, input: &[i32], count: u64, registers: &mut [i32], shel
     requires input { length input.now ≡ count * 3 }
     requires room { HasRoom shelf.old count }
 {
-    fv_loopcode_machine::run(code, &[], input, 3, 0, count, registers, shelf);
+    let mut rows = USED;
+    fv_loopcode_machine::run(code, &[], input, 3, 0, count, &mut rows, registers, shelf);
 }
 
 #[test]

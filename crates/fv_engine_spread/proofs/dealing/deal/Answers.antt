@@ -105,6 +105,7 @@ loop-info-preserved c =
       value = record {
         lanes = record { own = c.push_reserved.new.self; seen = c.deref_mut.result.now.lanes.seen; cells = c.deref_mut.result.now.lanes.cells };
         regs = c.deref_mut.result.now.regs;
+        rows = c.deref_mut.result.now.rows;
         lists = c.deref_mut.result.now.lists;
       };
     } in
@@ -118,6 +119,7 @@ loop-info-preserved c =
       seen = ap (λ (u : Writers). u.lanes.seen) same;
       cells = ap (λ (u : Writers). u.lanes.cells) same;
       regs = ap (λ (u : Writers). u.regs) same;
+      rows = ap (λ (u : Writers). u.rows) same;
       lists = ap (λ (u : Writers). u.lists) same;
     } in
     let one : length (at.yielded ++ (c.in-Some.info, w) ∷ []) ≡ n + 1 = length_push at.yielded (c.in-Some.info, w) in

@@ -11,6 +11,7 @@ loop-t-preserved g c = record {
   core = keeps_on c.args.core.now c.loop-t.core c.turn.new.core c.loop-t.invariant.core c.turn.ensures.core;
   sound = c.turn.ensures.sound;
   kept = c.turn.ensures.kept ∙ c.loop-t.invariant.kept;
+  rows = c.turn.ensures.rows ∙ c.loop-t.invariant.rows;
   regs = c.turn.ensures.regs ∙ c.loop-t.invariant.regs;
   room = c.turn.ensures.room ∙ c.loop-t.invariant.room;
   goes_on = λ first real u. c.turn.ensures.underway first real (c.loop-t.invariant.goes_on first real u);

@@ -11,6 +11,7 @@ invariant-loop-t g l = record {
   core : KeepsCore l.initial.core l.core;
   sound : g.S.Store.is_sound l.store;
   kept : g.S.Store.rest l.store ≡ g.S.Store.rest l.initial.store;
+  rows : length l.rows ≡ length l.initial.rows;
   regs : length l.regs ≡ length l.initial.regs;
   room : l.lines.cap ≡ l.initial.lines.cap;
   goes_on : (first : State) → IsReal (block_of g.P.Codes.parts l.job) first

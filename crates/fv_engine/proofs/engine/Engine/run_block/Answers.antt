@@ -100,6 +100,8 @@ run-spread-requires-clause-may g c κs within =
       real = first_is call b;
       registers = λ j l. let q = c.self.invariant.registers j l in let r = ap (λ (v : Vec ℤ). length v.items) c.set_vectors.ensures.regs in
           omega (arith, q, r);
+      rows = λ j l. let q = c.self.invariant.rows j l in let r = ap (λ (v : Vec ℤ). length v.items) c.set_vectors.ensures.rows in
+          omega (arith, q, r);
       untold = c.set_vectors.ensures.lines;
     }
 
@@ -137,6 +139,8 @@ invariant_of-self g c =
       tasks_are = tasks_are g o;
       registers = λ j l. let q = inv.registers j l in let r = ap (λ (v : Vec ℤ). length v.items) c.set_vectors.ensures.regs in
           omega (arith, q, r, c.run-spread.ensures.runner.registers);
+      rows = λ j l. let q = inv.rows j l in let r = ap (λ (v : Vec ℤ). length v.items) c.set_vectors.ensures.rows in
+          omega (arith, q, r, c.run-spread.ensures.runner.rows);
       held_long = ap length (held_is g b) ∙ many_held call;
       crew = crew_is g d.After-set_vectors c.run-spread.new.runner.tasks c.run-spread.ensures.runner.tasks;
       standing = still_standing call (block_is g b) c.run-spread.ensures.lanes c.run-spread.ensures.ran;

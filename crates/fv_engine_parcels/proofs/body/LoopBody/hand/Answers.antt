@@ -106,6 +106,7 @@ loop-i-preserved c =
         nothing_seen = h.nothing_seen;
         room = h.room;
         regs = h.regs;
+        rows = h.rows;
         lists = omega (arith, h.lists, c.loop-i-test.true, ap length items, length-append lists (list ∷ []));
         roomy = t.others;
       };

@@ -158,6 +158,25 @@ run_code-requires-clause-regs c =
     ap (λ (w : Writers). length w.regs.items) c.deref_mut-2.ensures.value ∙ now.regs
     ∙ sym (ap length (b.codes_are j c.requires.task.0).is ∙ length-map (code_of k.plan.now j) (renumbered (b.codes_are j c.requires.task.0).place)))
 
+pub run_code-requires-clause-rows : goal.run_code-requires-clause-rows
+run_code-requires-clause-rows c =
+    let k : Start = c.args.self.now.start in
+    let j : ℕ = c.args.task.loop_no in
+    let v : ℕ = c.args.task.vector in
+    let t : Came k j v c.remove.result c.remove.new.self.items =
+    came k j v c.args.parcels.now.items c.remove.result c.remove.new.self.items c.requires.task.0 c.requires.inward.edges_are c.requires.inward.keys
+    c.remove.ensures.value c.remove.ensures.by_index.2 in
+    let held : Holds k j v c.in-Writers.writers.value (map (λ (q : LoopParcel). q.edge) c.as_slice.result.now) =
+    holds k j v c.remove.result c.remove.new.self.items c.in-Writers.writers.value _ c.requires.task.0 t
+    (ap (map (λ (q : LoopParcel). q.edge)) c.as_slice.ensures.value) (c.into_content.ensures.writers c.in-Writers.writers c.in-Writers.is).1 in
+    let now : AreHandedOn k j v 0 c.deref_mut.result.now = subst (AreHandedOn k j v 0) (sym c.deref_mut.ensures.value) held.writers in
+    let there : length c.deref_mut-2.result.now.rows.items ≡ length (code_of k.plan.now j) * 32 =
+    ap (λ (w : Writers). length w.rows.items) c.deref_mut-2.ensures.value ∙ now.rows in
+    ∥∥₁_elim c.args.self.now.body le_prop (λ b.
+    let same : length (slice_index_or c.args.self.now.codes.now j []) ≡ length (code_of k.plan.now j) =
+    ap length (b.codes_are j c.requires.task.0).is ∙ length-map (code_of k.plan.now j) (renumbered (b.codes_are j c.requires.task.0).place) in
+    omega (arith, there, same))
+
 pub hand-requires-clause-chain : goal.hand-requires-clause-chain
 hand-requires-clause-chain c =
     let k : Start = c.args.self.now.start in
@@ -232,6 +251,8 @@ hand-requires-clause-writers c =
       );
       regs = ap (λ (w : Writers). length w.regs.items) c.deref_mut-3.ensures.value ∙ c.run_code.ensures.regs
           ∙ ap (λ (w : Writers). length w.regs.items) c.deref_mut-2.ensures.value ∙ now.regs;
+      rows = ap (λ (w : Writers). length w.rows.items) c.deref_mut-3.ensures.value ∙ c.run_code.ensures.rows
+          ∙ ap (λ (w : Writers). length w.rows.items) c.deref_mut-2.ensures.value ∙ now.rows;
       lists = omega
           (arith, now.lists, step, ap length out, length-map ks (λ (i : ℕ). pair_edge (tasks_in k) i v), ap (λ (l : Vec (Vec Seen)). length l.items) lists);
       roomy = subst (λ (l : Vec (Vec Seen)). AreRoomy l.items (length own)) (sym lists) now.roomy;
