@@ -18,7 +18,7 @@ use Rattle.fv_pool.specs.Lengths.{lengths_of}
 use Rattle.fv_pool.specs.declared.layout.Layout.{Layout}
 use Rattle.fv_lines.specs.Solo.{AreFramed}
 use Rattle.fv_lines.specs.declared.shape.LaneState.{LaneState}
-use Rattle.fv_split_plan.specs.headline.View.{PlanView, code_of}
+use Rattle.fv_split_plan.specs.headline.View.{PlanView}
 use Rattle.fv_split_plan.specs.Rows.{lists_of}
 use Rattle.fv_split_plan.specs.headline.Plans.{IsPlanOf}
 use Rattle.fv_engine_tasks.specs.headline.Block.{vectors_of}
@@ -33,7 +33,6 @@ use Rattle.fv_engine.specs.Told.{tasks_told}
 use Rattle.fv_engine.specs.declared.engine.Engine.TheInside.{Inside}
 use Rattle.fv_engine.specs.declared.lanes.Lanes.{Lanes}
 use Rattle.fv_engine.proofs.Made.{vectors_rise}
-use Rattle.fv_engine.proofs.Tables.{reads_there}
 use Rattle.fv_engine.proofs.Jobs.{is_job, begun, ended}
 use Rattle.fv_engine.proofs.Values.{block_in}
 use Rattle.fv_engine.proofs.Real.{real, stands_on}
@@ -113,7 +112,6 @@ module _ {e : Inside} {v : EngineView} {frames : ℕ} {input controls : List ℤ
   names = record {
     held = inv.standing.plan.names.held;
     inputs = inv.sizes.inputs;
-    tables = λ j t o. reads_there e.plan t (code_of e.plan j) (inv.standing.plan.names.loads j) o;
     knobs = λ k h. call.named k (subst (λ (x : EngineView). NamesHeld x.plan.held k) call.view_is h);
   }
 

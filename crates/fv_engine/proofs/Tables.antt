@@ -1,16 +1,14 @@
--- The tables that a plan's codes read are there.
-use Rattle.std.proofs.Common.{◌≡◌, ℕ, ◌+◌, ◌<◌, List, [], ◌∷◌, ◌++◌, length, map, take, subst, arith, ℤ, All, true, nat_eq}
-use Rattle.std.proofs.lemmas.Bool.{eqb-true}
+-- Still code that reads tables that are there may run.
+use Rattle.std.proofs.Common.{◌≡◌, ℕ, ◌+◌, List, [], ◌∷◌, ◌++◌, map, take, subst, arith, ℤ, All}
 use Rattle.std.proofs.lemmas.List.Elements.{All-head, All-tail}
 use Rattle.fv_num.specs.headline.Words.{argument, apply_of, inputs_of}
 use Rattle.fv_num.specs.headline.Tables.{read_at}
-use Rattle.fv_graph.proofs.Counts.{one_of}
 use Rattle.fv_loopcode.specs.declared.step.Step.{Step}
 use Rattle.fv_loopcode.specs.declared.step.Step.TheVariants as step
 use Rattle.fv_loopcode.specs.headline.State.{list_at}
 use Rattle.fv_loopcode.specs.headline.Code.{Pass, opening, ran, IsStill}
 use Rattle.fv_loopcode.specs.Code.{MayPass, MayRun}
-use Rattle.fv_split_plan.specs.headline.View.{PlanView, reads_table}
+use Rattle.fv_split_plan.specs.headline.View.{PlanView}
 use Rattle.fv_split_plan.specs.headline.Plans.{LoadsWithin, tables_alone}
 use Rattle.fv_split_plan.proofs.NodeLemmas.{listed}
 
@@ -18,22 +16,7 @@ module _ (p : PlanView) where
   abbrev Within : Step → Type 0
   Within s = LoadsWithin p s
 
-  -- each table that a code reads
-  pub reads_there : (t : ℕ) (steps : List Step) → All Within steps → reads_table t steps ≡ true → t < length p.tables
-  reads_there t [] a e = absurd cc
-  reads_there t (step.Number n ∷ ss) a e = reads_there t ss (All-tail Within (step.Number n) ss a) e
-  reads_there t (step.Held k ∷ ss) a e = reads_there t ss (All-tail Within (step.Held k) ss a) e
-  reads_there t (step.Input i ∷ ss) a e = reads_there t ss (All-tail Within (step.Input i) ss a) e
-  reads_there t (step.Point op args ∷ ss) a e = reads_there t ss (All-tail Within (step.Point op args) ss a) e
-  reads_there t (step.Load lane back max ∷ ss) a e = reads_there t ss (All-tail Within (step.Load lane back max) ss a) e
-  reads_there t (step.Append lane value ∷ ss) a e = reads_there t ss (All-tail Within (step.Append lane value) ss a) e
-  reads_there t (step.Read table arg ∷ ss) a e =
-      one_of (nat_eq t table) (reads_table t ss) (t < length p.tables) e
-      (λ q. let z = eqb-true t table q in let l = listed p.tables table (All-head Within (step.Read table arg) ss a) in omega (arith, z, l))
-      (λ q. reads_there t ss (All-tail Within (step.Read table arg) ss a) q)
-  reads_there t (step.Write cells args ∷ ss) a e = reads_there t ss (All-tail Within (step.Write cells args) ss a) e
-
-  -- still code that reads only such tables may run over them
+  -- still code that reads only tables that have items may run over them
   module _ (held input : ℕ → ℤ) (index : ℕ) where
     abbrev over : List ℤ → Pass
     over numbers = record { numbers = numbers; state = tables_alone p.tables }

@@ -26,6 +26,7 @@ use Rattle.fv_split_plan.specs.headline.Separated.{AsWritten}
 use Rattle.fv_split_plan.specs.headline.View.{PlanView, code_of, roles_of, lane_info, cells_info}
 use Rattle.fv_split_plan.specs.headline.Fits.{flows, written_by}
 use Rattle.fv_split_plan.specs.headline.Plans.{PlanStands}
+use Rattle.fv_split_plan.proofs.NodeLemmas.{listed}
 use Rattle.fv_engine_tasks.specs.Block.{Block, ObeysBlock, HoldUpTo, none_done}
 use Rattle.fv_engine.specs.inner.Plans.{NamesThere, held_by, block_from}
 use Rattle.fv_engine.specs.Stands.{EngineView, StandsFor, AreBegun, AreGiven}
@@ -226,9 +227,9 @@ module _ {e : EngineView} {n : ℕ} {controls : List ℤ} {g : Graph} {X : List 
         let z : length X ≡ length X + before e.vector n 0 = omega arith in
         ap (λ lists. list_at lists k) begun.cells ∙ stands.cells k (fits_cells j k o).0 ∙ written_before k ∙ ap (carried.cells k) z
 
-    begun_tables : (j : ℕ) → HaveTables (roles_of p j) f first
-    begun_tables j t o = (
-      subst (λ (lists : List (List ℤ)). t < length lists) (sym begun.tables) (h.names.tables j t o),
+    begun_tables : HaveTables f first
+    begun_tables t o = (
+      subst (λ (lists : List (List ℤ)). t < length lists) (sym (begun.tables ∙ s.cells.tables)) (listed g.tables t o),
       ap (λ lists. list_at lists t) (begun.tables ∙ s.cells.tables),
     )
 

@@ -64,6 +64,6 @@ pub(crate) fn hold(plan: &Plan, controls: &[i32], held: &mut [i32])
         is_written: false,
         item: 0,
     };
-    let code = plan.held().plain();
+    let code = plan.held().steps();
     run(code, controls, &[], 0, 0, 1, held, &mut store);
 }

@@ -20,11 +20,6 @@ use Rattle.fv_pool.specs.contracts.cells.Cells as cells_of
 use Rattle.fv_pool.specs.contracts.loan.Link as link
 use Rattle.fv_pool.specs.contracts.loan.Halves as halves
 use Rattle.fv_loopcode.specs.contracts.step.Step as step
-use Rattle.fv_loopcode.specs.contracts.instruction.Operands as operands
-use Rattle.fv_loopcode.specs.contracts.instruction.Way as way
-use Rattle.fv_loopcode.specs.contracts.instruction.Action as action
-use Rattle.fv_loopcode.specs.contracts.instruction.Instruction as instruction
-use Rattle.fv_loopcode.specs.contracts.code.Code as plain_code
 use Rattle.fv_loopcode_rows.specs.contracts.action.Pair as pair
 use Rattle.fv_loopcode_rows.specs.contracts.action.Action as cycle_action
 use Rattle.fv_split_components.specs.contracts.packed.Rows as rows
@@ -95,57 +90,6 @@ step_sync = recorded_sync _ _ _ (step.the_type).to_one (enum_sync (E.shape step.
   ),
 ))
 
-operands_sync : IsSync (operands.the_field).row
-operands_sync = search sendable depth 24
-
-way_sync : IsSync (way.the_field).row
-way_sync = search sendable depth 24
-
-action_sync : IsSync (action.the_field).row
-action_sync = enum_sync (E.shape action.the_type) (
-  (operands_sync, tt),
-  (
-    (operands_sync, tt),
-    (
-      (operands_sync, tt),
-      (
-        (operands_sync, tt),
-        (
-          (op_sync, (operands_sync, tt)),
-          (
-            (search sendable, tt),
-            (
-              (operands_sync, (search sendable, tt)),
-              (
-                (search sendable, (search sendable, (search sendable, tt))),
-                (
-                  (search sendable, (search sendable, tt)),
-                  (
-                    (way_sync, tt),
-                    (
-                      (way_sync, (search sendable, tt)),
-                      (
-                        (way_sync, (search sendable, tt)),
-                        ((way_sync, (search sendable, tt)), ((operands_sync, (search sendable, tt)), ((operands_sync, (search sendable, tt)), (tt, tt)))),
-                      ),
-                    ),
-                  ),
-                ),
-              ),
-            ),
-          ),
-        ),
-      ),
-    ),
-  ),
-)
-
-instruction_sync : IsSync instruction.the_row
-instruction_sync = search (action_sync, sendable) depth 24
-
-plain_code_sync : IsSync plain_code.the_row
-plain_code_sync = search (step_sync, instruction_sync, sendable, crosses) depth 24
-
 pair_sync : IsSync (pair.the_field).row
 pair_sync = search sendable depth 24
 
@@ -215,7 +159,7 @@ schedule_sync : IsSync schedule.the_row
 schedule_sync = search (cycle_action_sync, rows_sync, sendable, crosses) depth 24
 
 inside_sync : IsSync inside.the_row
-inside_sync = declared_sync inside.the_type (plain_code_sync, (schedule_sync, tt))
+inside_sync = declared_sync inside.the_type (search (step_sync, sendable, crosses) depth 24, (schedule_sync, tt))
 
 code_sync : IsSync code.the_row
 code_sync = search (inside_sync, sendable) depth 24

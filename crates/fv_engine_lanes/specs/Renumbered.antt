@@ -32,9 +32,9 @@ abbrev pub is_among : Roles → ℕ → Place → Bool
 is_among r n (OfLane l) = nat_lt l n
 is_among r n (OfCells k) = r.own (OfCells k)
 
--- the first so many lanes are the loop's own, and all are loaded; its cells and tables keep their numbers
+-- the first so many lanes are the loop's own, and all are loaded; its cells keep their numbers
 abbrev pub roles_over : Roles → (own all : ℕ) → Roles
-roles_over r own all = record { own = is_among r own; loaded = λ k. nat_lt k all; tables = r.tables }
+roles_over r own all = record { own = is_among r own; loaded = λ k. nat_lt k all }
 
 -- what the places are to hold, where lanes have new numbers: lane k is the one at k of the list
 abbrev pub content_over : (locals : List ℕ) → Content → Content

@@ -71,9 +71,9 @@ module _ (laws : Laws) (k : Start) (j v : ℕ) where
   owned f c state n b (OfCells i) o = let m = mine_of i o in b.cells f c i m.inside m.owned
 
   tables : (f : Content) → IsContentOf k f → (state : State) → Before k j v state
-      → HaveTables (roles_over (roles_of k.plan.now j) (length mine) (length all)) (content_over all f) state
+      → HaveTables (content_over all f) state
   tables f c state b = λ t o.
-      let h = c.begins.tables j t o in (
+      let h = c.begins.tables t o in (
         subst (λ (lists : List (List ℤ)). t < length lists) (sym b.tables) h.0,
         ap (λ (lists : List (List ℤ)). list_at lists t) b.tables ∙ h.1,
       )

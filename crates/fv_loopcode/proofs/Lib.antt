@@ -5,7 +5,3 @@ pub mod Named
 pub mod Still
 pub mod Appends
 pub mod Blocks
-pub mod Moving
-pub mod Instructions
-pub mod Led
-pub mod Passes

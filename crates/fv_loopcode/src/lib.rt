@@ -2,23 +2,21 @@
 #![tactic(auto)]
 
 mod act;
-mod code;
 mod counts;
-mod instruction;
 mod laws;
 mod machine;
 mod operate;
 mod sample;
+mod sound;
 mod step;
 mod store;
-mod turn;
 
-pub use code::Code;
 pub use counts::Counts;
 pub use laws::{
     named_alone_count, order_is_free, still_code_is_free, streams_obey, task_is_free,
     tasks_are_done, windows_follow,
 };
 pub use machine::run;
+pub use sound::are_sound;
 pub use step::Step;
 pub use store::Store;

@@ -5,7 +5,8 @@ ghost use Rattle.fv_loopcode_tests.specs.Shelf.{HasRoom};
 ghost use Rattle.fv_loopcode_tests.specs.Codes.{running_sum, difference, scaled};
 
 use crate::shelf::Shelf;
-use fv_loopcode::{Code, Counts, Step, run};
+use fv_loopcode::{Counts, Step, are_sound, run};
+use fv_loopcode_machine::Code;
 use fv_num::Op;
 use std::alloc::{AllocError, Global};
 use std::process::Abort;
@@ -146,13 +147,14 @@ pub(crate) fn shelf_of(alloc: Global, count: u64) -> Result<Shelf, AllocError>
 #[test]
 fn code_reads_earlier_steps(rt: HostRuntime) -> Result<(), Fail> {
     for (name, steps) in &REFUSED {
+        assert!(rt; !are_sound(steps, ONE_LANE), "{name}");
         let code = Code::new(rt.alloc(), steps, ONE_LANE)?;
         assert!(rt; code.is_none(), "{name}");
     }
     Ok(())
 }
 
-/// Runs the running sum over so many samples.
+/// Runs the running sum over so many samples, one after another.
 pub(crate) fn sum(code: &Code, input: &[i32], count: u64, registers: &mut [i32], shelf: &mut Shelf)
     requires code { code.now ≡ running_sum }
     requires registers { length registers.old ≡ 7 }
@@ -160,7 +162,7 @@ pub(crate) fn sum(code: &Code, input: &[i32], count: u64, registers: &mut [i32],
     requires input { length input.now ≡ count }
     requires room { HasRoom shelf.old count }
 {
-    run(code, &[], input, 1, 0, count, registers, shelf);
+    run(code.steps(), &[], input, 1, 0, count, registers, shelf);
 }
 
 #[test]
@@ -185,7 +187,7 @@ fn hold(code: &Code, held: &[i32], registers: &mut [i32], shelf: &mut Shelf)
     requires registers { length registers.old ≡ 3 }
     requires held { length held.now ≡ 2 }
 {
-    run(code, held, &[], 0, 0, 1, registers, shelf);
+    run(code.steps(), held, &[], 0, 0, 1, registers, shelf);
 }
 
 #[test]
@@ -207,7 +209,7 @@ fn scale(code: &Code, input: &[i32], registers: &mut [i32], shelf: &mut Shelf)
     requires registers { length registers.old ≡ 5 }
     requires input { length input.now ≡ 1 }
 {
-    run(code, &[], input, 1, 0, 1, registers, shelf);
+    run(code.steps(), &[], input, 1, 0, 1, registers, shelf);
 }
 
 #[test]

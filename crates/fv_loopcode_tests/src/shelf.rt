@@ -38,7 +38,9 @@ impl Store for Shelf {
     }
 
     fn has_just(&self, _lane: u64, samples: u64) -> bool {
-        u64::from(self.history) + samples == self.written.min(self.samples.len() as u64)
+        let history = u64::from(self.history);
+        let len = self.written.min(self.samples.len() as u64);
+        history <= len && samples == len - history
     }
 
     fn append(&mut self, _lane: u64, value: i32) {

@@ -30,9 +30,6 @@ const COUNT: u64 = 70;
 
 #[test]
 fn strips_are_samples(rt: HostRuntime) -> Result<(), Fail> {
-    let Some(plain) = fv_loopcode::Code::new(rt.alloc(), &SUM, ONE_LANE)? else {
-        return Err("no code".into());
-    };
     let Some(code) = Code::new(rt.alloc(), &SUM, ONE_LANE)? else {
         return Err("no code".into());
     };
@@ -42,7 +39,7 @@ fn strips_are_samples(rt: HostRuntime) -> Result<(), Fail> {
     }
     let mut registers = [0; 7];
     let mut samples = shelf_of(rt.alloc(), COUNT)?;
-    sum(&plain, &input, COUNT, &mut registers, &mut samples);
+    sum(&code, &input, COUNT, &mut registers, &mut samples);
     let mut last = [0; 7];
     let mut strips = shelf_of(rt.alloc(), COUNT)?;
     sum_by_strips(&code, &input, COUNT, &mut last, &mut strips);

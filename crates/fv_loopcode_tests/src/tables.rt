@@ -54,20 +54,14 @@ const WRITTEN_AGAIN: [Step; 9] = [
 ];
 
 // Runs either code over so many samples of three inputs.
-fn by_samples(
-    code: &fv_loopcode::Code,
-    input: &[i32],
-    count: u64,
-    registers: &mut [i32],
-    shelf: &mut Shelf,
-)
+fn by_samples(code: &Code, input: &[i32], count: u64, registers: &mut [i32], shelf: &mut Shelf)
     requires code { (code.now ≡ written_and_looked_up) ⊎ (code.now ≡ written_again) }
     requires registers { length registers.old ≡ length code.now }
     requires few { count < 1000 }
     requires input { length input.now ≡ count * 3 }
     requires room { HasRoom shelf.old count }
 {
-    fv_loopcode::run(code, &[], input, 3, 0, count, registers, shelf);
+    fv_loopcode::run(code.steps(), &[], input, 3, 0, count, registers, shelf);
 }
 
 // The same, by strips.
@@ -110,15 +104,12 @@ fn strips_write_as_samples_do(rt: HostRuntime) -> Result<(), Fail> {
     for k in 0..input.len() {
         input[k] = (k as i32 * 37) % 5 - 1;
     }
-    let Some(plain) = fv_loopcode::Code::new(rt.alloc(), &WRITTEN_AGAIN, ONE)? else {
-        return Err("no code".into());
-    };
     let Some(code) = Code::new(rt.alloc(), &WRITTEN_AGAIN, ONE)? else {
         return Err("no code".into());
     };
     let mut registers = [0; 9];
     let mut samples = shelf_of(rt.alloc(), COUNT)?;
-    by_samples(&plain, &input, COUNT, &mut registers, &mut samples);
+    by_samples(&code, &input, COUNT, &mut registers, &mut samples);
     let mut last = [0; 9];
     let mut strips = shelf_of(rt.alloc(), COUNT)?;
     by_strips(&code, &input, COUNT, &mut last, &mut strips);

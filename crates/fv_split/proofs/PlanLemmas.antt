@@ -29,7 +29,7 @@ use Rattle.fv_split_plan.specs.headline.Separated.{IsSeparated, AsOutput}
 use Rattle.fv_split_plan.specs.Separated.{IsWritten, lane_at, cells_at}
 use Rattle.fv_split_plan.specs.headline.Fits.{Names}
 use Rattle.fv_split_plan.specs.Fits.{CodeFits}
-use Rattle.fv_split_plan.specs.headline.View.{PlanView, lane_info, cells_info, code_of, loads_lane, reads_table, roles_of}
+use Rattle.fv_split_plan.specs.headline.View.{PlanView, lane_info, cells_info, code_of, loads_lane, roles_of}
 use Rattle.fv_split_plan.specs.Rows.{plan_with}
 use Rattle.fv_split_plan.specs.headline.Plans.{LanesStand, LoopsStand, CellsStand, tables_alone, PlanStands, PlanReads, PlanNames, NamesChannel}
 use Rattle.fv_split_plan.specs.headline.Plans.{LoadsWithin, IsPlanOf}
@@ -265,7 +265,7 @@ module _ (g : Graph) (p : Lanes) (stands : Vec ℕ Global) (bases kinds : Vec Ki
     fits_plan j l =
         subst (CodeFits g names (roles_of plan j) nothing []) (sym (code_is j))
         (fits_loaded g names (lower_loaded owners infos_of_cells j) (roles_of plan j) (same_owner j) nothing [] (code_in codes j)
-        (λ k e. ap (loads_lane k) (code_is j) ∙ e) (λ t e. ap (reads_table t) (code_is j) ∙ e) (fits j l))
+        (λ k e. ap (loads_lane k) (code_is j) ∙ e) (fits j l))
 
     -- a loaded lane is there, and of no greater loop
     loaded_low : (j l : ℕ) → loads_lane l (code_in codes j) ≡ true → (j < p.loops) × MayLoad owners j l

@@ -45,12 +45,11 @@ abbrev pub own_places : (owners : List ℕ) → (infos : List CellsInfo) → (j 
 own_places owners infos j (OfLane l) = owned_by owners j l
 own_places owners infos j (OfCells k) = nat_lt k (length infos) && nat_eq (info_at infos k).owner j
 
--- the lanes of loops up to a loop may be loaded, and all tables may be read
+-- the lanes of loops up to a loop may be loaded
 abbrev pub lower_loaded : (owners : List ℕ) → (infos : List CellsInfo) → (j : ℕ) → Roles
 lower_loaded owners infos j = record {
   own = own_places owners infos j;
   loaded = λ l. nat_lt l (length owners) && nat_le (at owners l) j;
-  tables = λ t. true;
 }
 
 pub lower_is : (owners : List ℕ) (infos : List CellsInfo) (j l : ℕ) → l < length owners → at owners l ≤ j → (lower_loaded owners infos j).loaded l ≡ true
@@ -550,7 +549,6 @@ module _ (g : Graph) (p : Lanes) (stands : Vec ℕ Global) (bases kinds : Vec Ki
       base_loaded = λ s ls home. base_loads s s ls ls home (reaches_self (links_of g) s);
       delays = delay_lane;
       cells = suit_cells;
-      reads = λ table. refl;
       computed = computed_base;
     }
       where

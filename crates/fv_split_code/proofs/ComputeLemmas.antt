@@ -228,7 +228,6 @@ computes_read t regs j old mid new table x v w mean e f s g p r u n home c means
     let y = operand_stands g p r t j s u n.within home regs old mid x v b is mean means ended h in
     pushed g p r (known_at t.homes.items j s) regs mid new means y.0 ended (with_cells (cells_at t.cells.items s) ended) (step.Read table v) s w e f y.1
     (record {
-      may = u.reads table;
       items = subst (NamesWithin g) n.is (u.closed s (signal.Const (pos 0)) n.within);
       reader = s;
       place = x;

@@ -18,8 +18,8 @@ use Rattle.fv_loopcode.specs.headline.Obeys.{Roles, Place, OfLane, OfCells, done
 use Rattle.fv_analysis.specs.headline.Stands.{StandsAt}
 use Rattle.fv_split_plan.specs.headline.Fits.{Names}
 use Rattle.fv_split_plan.specs.Fits.{Mean, Value, Literal, mean_at, LoadFits, OfDelay, OfBack, OfNow, PointFits, OfPoint, OfStill}
-use Rattle.fv_split_plan.specs.Fits.{ReadFits, WriteFits, StepFits, CodeFits}
-use Rattle.fv_split_plan.specs.headline.View.{PlanView, lane_info, loads_lane, reads_table}
+use Rattle.fv_split_plan.specs.Fits.{WriteFits, StepFits, CodeFits}
+use Rattle.fv_split_plan.specs.headline.View.{PlanView, lane_info, loads_lane}
 use Rattle.fv_split_plan.specs.headline.Plans.{LoadsWithin, NamesChannel}
 use Rattle.fv_split_plan.proofs.FitsLemmas.{map_get}
 
@@ -33,18 +33,6 @@ module _ (g : Graph) (p : Names) (r q : Roles) (own : (l : Place) → q.own l �
   or_right : (b : Bool) {c : Bool} → c ≡ true → (b || c) ≡ true
   or_right true e = refl
   or_right false e = e
-
-  read_fits : (ms : List Mean) (table arg : ℕ) (m : Mean) → q.tables table ≡ true → ReadFits g r ms table arg m → ReadFits g q ms table arg m
-  read_fits ms table arg m may h = record {
-    may = may;
-    items = h.items;
-    reader = h.reader;
-    place = h.place;
-    stands = h.stands;
-    within = h.within;
-    operand = h.operand;
-    is = h.is;
-  }
 
   write_fits : (done : Place → Bool) (ms : List Mean) (cells : ℕ) (args : List ℕ) (m : Mean) →
       WriteFits g p r done ms cells args m → WriteFits g p q done ms cells args m
@@ -64,28 +52,24 @@ module _ (g : Graph) (p : Names) (r q : Roles) (own : (l : Place) → q.own l �
     is = h.is;
   }
 
-  -- the same code, for roles that load and read just what the steps load and read
+  -- the same code, for roles that load just what the steps load
   pub fits_loaded : (done : Place → Bool) (ms : List Mean) (steps : List Step) → ((l : ℕ) → loads_lane l steps ≡ true → q.loaded l ≡ true) →
-      ((t : ℕ) → reads_table t steps ≡ true → q.tables t ≡ true) → CodeFits g p r done ms steps → CodeFits g p q done ms steps
-  fits_loaded done ms [] ld rd h = λ l o. h l (sym (own l) ∙ o)
-  fits_loaded done ms (step.Number n ∷ ss) ld rd h = (h.0, h.1, fits_loaded done (ms ++ h.0 ∷ []) ss ld rd h.2)
-  fits_loaded done ms (step.Held k ∷ ss) ld rd h = (h.0, h.1, fits_loaded done (ms ++ h.0 ∷ []) ss ld rd h.2)
-  fits_loaded done ms (step.Input i ∷ ss) ld rd h = (h.0, h.1, fits_loaded done (ms ++ h.0 ∷ []) ss ld rd h.2)
-  fits_loaded done ms (step.Point op args ∷ ss) ld rd h = (h.0, h.1, fits_loaded done (ms ++ h.0 ∷ []) ss ld rd h.2)
-  fits_loaded done ms (step.Load lane back max ∷ ss) ld rd h = (
+      CodeFits g p r done ms steps → CodeFits g p q done ms steps
+  fits_loaded done ms [] ld h = λ l o. h l (sym (own l) ∙ o)
+  fits_loaded done ms (step.Number n ∷ ss) ld h = (h.0, h.1, fits_loaded done (ms ++ h.0 ∷ []) ss ld h.2)
+  fits_loaded done ms (step.Held k ∷ ss) ld h = (h.0, h.1, fits_loaded done (ms ++ h.0 ∷ []) ss ld h.2)
+  fits_loaded done ms (step.Input i ∷ ss) ld h = (h.0, h.1, fits_loaded done (ms ++ h.0 ∷ []) ss ld h.2)
+  fits_loaded done ms (step.Point op args ∷ ss) ld h = (h.0, h.1, fits_loaded done (ms ++ h.0 ∷ []) ss ld h.2)
+  fits_loaded done ms (step.Load lane back max ∷ ss) ld h = (
     h.0,
     (ld lane (ap (λ b. b || loads_lane lane ss) (eq-eqb lane lane refl)), load_fits done ms lane back max h.0 h.1.1),
-    fits_loaded done (ms ++ h.0 ∷ []) ss (λ l e. ld l (or_right (nat_eq l lane) e)) rd h.2,
+    fits_loaded done (ms ++ h.0 ∷ []) ss (λ l e. ld l (or_right (nat_eq l lane) e)) h.2,
   )
-  fits_loaded done ms (step.Append lane value ∷ ss) ld rd h =
-      (h.0, (own (OfLane lane) ∙ h.1.0, h.1.1, h.1.2, h.1.3), fits_loaded (done_after done (step.Append lane value)) (ms ++ h.0 ∷ []) ss ld rd h.2)
-  fits_loaded done ms (step.Read table arg ∷ ss) ld rd h = (
-    h.0,
-    read_fits ms table arg h.0 (rd table (ap (λ b. b || reads_table table ss) (eq-eqb table table refl))) h.1,
-    fits_loaded done (ms ++ h.0 ∷ []) ss ld (λ t e. rd t (or_right (nat_eq t table) e)) h.2,
-  )
-  fits_loaded done ms (step.Write cells args ∷ ss) ld rd h =
-      (h.0, write_fits done ms cells args h.0 h.1, fits_loaded (done_after done (step.Write cells args)) (ms ++ h.0 ∷ []) ss ld rd h.2)
+  fits_loaded done ms (step.Append lane value ∷ ss) ld h =
+      (h.0, (own (OfLane lane) ∙ h.1.0, h.1.1, h.1.2, h.1.3), fits_loaded (done_after done (step.Append lane value)) (ms ++ h.0 ∷ []) ss ld h.2)
+  fits_loaded done ms (step.Read table arg ∷ ss) ld h = (h.0, h.1, fits_loaded done (ms ++ h.0 ∷ []) ss ld h.2)
+  fits_loaded done ms (step.Write cells args ∷ ss) ld h =
+      (h.0, write_fits done ms cells args h.0 h.1, fits_loaded (done_after done (step.Write cells args)) (ms ++ h.0 ∷ []) ss ld h.2)
 
 -- a register that means a signal is there, and one that means a number other than 0
 mean_there : (ms : List Mean) (w s : ℕ) → mean_at ms w ≡ Value s → w < length ms

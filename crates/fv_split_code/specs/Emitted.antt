@@ -90,8 +90,6 @@ pub record Suits (g : Graph) (p : Names) (r : Roles) (t : Survey) (j : ℕ) : Ty
   pub base_loaded : (s : ℕ) → s < length g.signals → at t.homes.items s ≡ j → IsLoaded r (kind_of t.bases.items s)
   pub delays : (s x d max : ℕ) → StandsAt g s (signal.Delay x d max) → at t.homes.items s ≡ j → 1 ≤ max → DelayLane g p r t x max
   pub cells : SuitCells g p r t j
-  -- each table may be read
-  pub reads : (table : ℕ) → r.tables table ≡ true
   -- a signal at home here that is nothing else is computed
   pub computed : (s : ℕ) → s < length g.signals → at t.homes.items s ≡ j → kind_of t.bases.items s ≡ kind.Inner → IsComputed (node g s)
 

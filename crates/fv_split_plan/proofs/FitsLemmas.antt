@@ -183,12 +183,12 @@ module _ (g : Graph) (ordered : IsOrdered g) (p : Names) (r : Roles) (X : List F
       greater y = grind (arith, ints)
 
   -- a read's step
-  read_gives : (done : Place → Bool) (ms : List Mean) (table arg : ℕ) (m : Mean) → ReadFits g r ms table arg m → StepGives done ms (step.Read table arg) m
+  read_gives : (done : Place → Bool) (ms : List Mean) (table arg : ℕ) (m : Mean) → ReadFits g ms table arg m → StepGives done ms (step.Read table arg) m
   unfolding meant
   read_gives done ms table arg m h =
       let q : argument (map meant ms) arg ≡ v h.place t = register ms arg ∙ ap meant h.operand ∙ stands h.place h.within t in
       record {
-        obeys = (h.may, h.items);
+        obeys = h.items;
         gives = ap (read_at (table_of g table)) q ∙ sym (node_is h.reader (signal.Read table h.place) h.stands t) ∙ sym (ap meant h.is);
       }
 

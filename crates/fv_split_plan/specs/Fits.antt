@@ -41,8 +41,7 @@ pub data PointFits (g : Graph) (ms : List Mean) (op : Op) (args : List ℕ) (m :
       mean_at ms w ≡ Value (stand g x) → m ≡ Value s → PointFits g ms op args m
 
 -- What a read is for: an item of the graph's table of this number.
-pub record ReadFits (g : Graph) (r : Roles) (ms : List Mean) (table arg : ℕ) (m : Mean) : Type 0 where
-  pub may : r.tables table ≡ true
+pub record ReadFits (g : Graph) (ms : List Mean) (table arg : ℕ) (m : Mean) : Type 0 where
   pub items : 0 < length (table_of g table)
   pub reader : ℕ
   pub place : ℕ
@@ -80,7 +79,7 @@ StepFits g p r done ms (step.Point op args) m = PointFits g ms op args m
 StepFits g p r done ms (step.Load lane back max) m = (r.loaded lane ≡ true) × LoadFits g p r done ms lane back max m
 StepFits g p r done ms (step.Append lane value) m =
     (r.own (OfLane lane) ≡ true) × (done (OfLane lane) ≡ false) × (mean_at ms value ≡ Value (p.lane lane)) × (m ≡ Value (p.lane lane))
-StepFits g p r done ms (step.Read table arg) m = ReadFits g r ms table arg m
+StepFits g p r done ms (step.Read table arg) m = ReadFits g ms table arg m
 StepFits g p r done ms (step.Write cells args) m = WriteFits g p r done ms cells args m
 
 -- each step has a use, and in the end each place of the code's own was changed

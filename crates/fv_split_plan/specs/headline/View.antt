@@ -43,23 +43,11 @@ loads_lane l (step.Append lane value ∷ ss) = loads_lane l ss
 loads_lane l (step.Read table arg ∷ ss) = loads_lane l ss
 loads_lane l (step.Write cells args ∷ ss) = loads_lane l ss
 
--- one of the steps reads the table
-abbrev pub reads_table : ℕ → List Step → Bool
-reads_table t [] = false
-reads_table t (step.Number n ∷ ss) = reads_table t ss
-reads_table t (step.Held k ∷ ss) = reads_table t ss
-reads_table t (step.Input i ∷ ss) = reads_table t ss
-reads_table t (step.Point op args ∷ ss) = reads_table t ss
-reads_table t (step.Load lane back max ∷ ss) = reads_table t ss
-reads_table t (step.Append lane value ∷ ss) = reads_table t ss
-reads_table t (step.Read table arg ∷ ss) = nat_eq t table || reads_table t ss
-reads_table t (step.Write cells args ∷ ss) = reads_table t ss
-
 -- a loop's own places
 abbrev pub is_own : PlanView → ℕ → Place → Bool
 is_own p j (OfLane l) = nat_lt l (length p.lanes) && nat_eq (lane_info p l).owner j
 is_own p j (OfCells k) = nat_lt k (length p.cells) && nat_eq (cells_info p k).owner j
 
--- these, the lanes that its code loads, and the tables that it reads
+-- these, and the lanes that its code loads
 abbrev pub roles_of : PlanView → ℕ → Roles
-roles_of p j = record { own = is_own p j; loaded = λ l. loads_lane l (code_of p j); tables = λ t. reads_table t (code_of p j) }
+roles_of p j = record { own = is_own p j; loaded = λ l. loads_lane l (code_of p j) }

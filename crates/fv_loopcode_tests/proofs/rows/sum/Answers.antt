@@ -1,4 +1,4 @@
-use Rattle.std.proofs.Common.{[]}
+use Rattle.std.proofs.Common.{[], ◌∙◌}
 use Rattle.fv_num.specs.headline.Words.{argument}
 use Rattle.fv_loopcode.specs.Code.{frame_of}
 use Rattle.fv_loopcode_tests.proofs.Sums.{may_sum}
@@ -6,4 +6,5 @@ use Rattle.fv_loopcode_tests.proofs.rows.sum.Goals as goal
 
 pub run-requires-clause-may : goal.run-requires-clause-may
 run-requires-clause-may c =
-    may_sum c.args.code.now (argument []) (frame_of c.args.input.now 1) c.args.count c.args.shelf.now c.requires.code c.requires.room
+    may_sum c.steps.result.now (argument []) (frame_of c.args.input.now 1) c.args.count c.args.shelf.now (c.steps.ensures.steps ∙ c.requires.code)
+    c.requires.room
