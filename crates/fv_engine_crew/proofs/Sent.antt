@@ -22,7 +22,10 @@ use Rattle.fv_pool.specs.contracts.loan.Halves as halves
 use Rattle.fv_loopcode.specs.contracts.step.Step as step
 use Rattle.fv_loopcode_rows.specs.contracts.action.Pair as pair
 use Rattle.fv_loopcode_rows.specs.contracts.action.Action as cycle_action
+use Rattle.fv_loopcode_rows.specs.contracts.operation.Operation as operation
 use Rattle.fv_split_components.specs.contracts.packed.Rows as rows
+use Rattle.fv_loopcode_machine.specs.contracts.cycles.Cycle as cycle
+use Rattle.fv_loopcode_machine.specs.contracts.cycles.Cycles as cycles
 use Rattle.fv_loopcode_machine.specs.contracts.schedule.Schedule as schedule
 use Rattle.fv_loopcode_machine.specs.contracts.code.Code as code
 use Rattle.fv_loopcode_machine.specs.contracts.code.Code.TheInside as inside
@@ -155,8 +158,17 @@ cycle_action_sync = enum_sync (E.shape cycle_action.the_type) ((
 rows_sync : IsSync rows.the_row
 rows_sync = search (sendable, crosses) depth 24
 
+operation_sync : IsSync (operation.the_field).row
+operation_sync = search (op_sync, sendable) depth 40
+
+cycle_sync : IsSync cycle.the_row
+cycle_sync = search (operation_sync, sendable, crosses) depth 24
+
+cycles_sync : IsSync cycles.the_row
+cycles_sync = search (cycle_sync, sendable, crosses) depth 24
+
 schedule_sync : IsSync schedule.the_row
-schedule_sync = search (cycle_action_sync, rows_sync, sendable, crosses) depth 24
+schedule_sync = search (cycle_action_sync, rows_sync, cycles_sync, sendable, crosses) depth 24
 
 inside_sync : IsSync inside.the_row
 inside_sync = declared_sync inside.the_type (search (step_sync, sendable, crosses) depth 24, (schedule_sync, tt))
