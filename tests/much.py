@@ -71,6 +71,8 @@ TEXTS = [
     ("rules of a long pattern, and all ends of a diagram", filled("", "f((" + ",".join(f"x{i}" for i in range(4000)) + ",%d))=1;", "f((x,y))=f(y); f(x)=f(x); process = f(par(i,8000,_));")),
     ("rules of a long pattern and another one that differs", filled("", "f((" + ",".join(f"x{i}" for i in range(4000)) + "),(%d,y))=1;", "f(x,(n,y))=f(x,(n+1,y)); process = f(par(i,4000,_),(2000000,_));")),
     ("a long pattern that matches, on and on", "f((" + ",".join(["0"] * 8000) + "),n,d)=f(d,n+1,d); process = f(par(i,8000,0),0,par(i,8000,0));"),
+    ("a long pattern that binds its last part, on and on", "f((" + "0," * 7999 + "x),n,d)=f(d,n+1,d); process = f(par(i,8000,0),0,par(i,8000,0));"),
+    ("a long pattern, and a new diagram of old parts on and on", "f((n" + ",0" * 7999 + "),d)=f((n+1,d),d); process = f((0,par(i,7999,0)),par(i,7999,0));"),
     ("rules with a literal between rules without one", filled("", "f(x,(a,b))=1;f(%d,n)=2;", "f(x,n)=f(x+1,n); process = f(100000,1);")),
     ("rules with one literal at the first position", filled("", "f(5,%d)=1;", "f(5,n)=f(5,n+1); process = f(5,1000000);")),
     ("rules with a literal within a pattern", filled("", "f((x,%d))=1;", "f((x,n))=f((x,n+1)); process = f((1,1000000));")),
