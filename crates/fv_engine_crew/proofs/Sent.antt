@@ -168,7 +168,9 @@ cycles_sync : IsSync cycles.the_row
 cycles_sync = search (cycle_sync, sendable, crosses) depth 24
 
 schedule_sync : IsSync schedule.the_row
-schedule_sync = search (cycle_action_sync, rows_sync, cycles_sync, sendable, crosses) depth 24
+schedule_sync = declared_sync schedule.the_type
+    (search (sendable, crosses) depth 24,
+    (rows_sync, (search (cycle_action_sync, sendable, crosses) depth 24, (search (sendable, crosses) depth 24, (cycles_sync, tt)))))
 
 inside_sync : IsSync inside.the_row
 inside_sync = declared_sync inside.the_type (search (step_sync, sendable, crosses) depth 24, (schedule_sync, tt))
@@ -185,7 +187,7 @@ lanes_send a b = declared_send (lanes.the_type a b)
 
 writers_send : (a b : NamedLft) → IsSend (writers.the_row a b)
 writers_send a b = declared_send (writers.the_type a b)
-    (lanes_send a b, (search (sendable, crosses) depth 20, (search (seen_send, sendable, crosses) depth 20, tt)))
+    (lanes_send a b, (search (sendable, crosses) depth 20, (search (sendable, crosses) depth 20, (search (seen_send, sendable, crosses) depth 20, tt))))
 
 content_send : (a b : NamedLft) → IsSend (content.the_row a b)
 content_send a b = search (writers_send, seen_send, sendable, crosses) depth 24

@@ -6,7 +6,6 @@ use Rattle.fv_graph.proofs.Counts.{both_of}
 use Rattle.std.specs.declared.alloc.Global.{Global}
 use Rattle.std.proofs.lemmas.List.{length-map}
 use Rattle.std.proofs.Math.Nat.{min-eq_right}
-use Rattle.fv_outside.specs.headline.Tasks.{Tasks}
 use Rattle.fv_loopcode.specs.headline.Lanes.{Lane, lane_of}
 use Rattle.fv_loopcode.specs.headline.State.{list_at}
 use Rattle.fv_loopcode.specs.headline.Obeys.{Place, OfLane, OfCells}

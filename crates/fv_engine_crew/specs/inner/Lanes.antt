@@ -1,7 +1,6 @@
 -- The lanes and cells of a block as it begins and as it ends.
 use Rattle.std.specs.Prelude.{◌≡◌, ℕ, ◌<◌, List, length, map, slice_index_or, Vec, ℤ}
 use Rattle.std.specs.declared.alloc.Global.{Global}
-use Rattle.fv_outside.specs.headline.Tasks.{Tasks}
 use Rattle.fv_loopcode.specs.Obeys.{Content}
 use Rattle.fv_loopcode.specs.headline.State.{State}
 use Rattle.fv_split_plan.specs.Rows.{lists_of}

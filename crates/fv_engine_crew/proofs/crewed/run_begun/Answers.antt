@@ -9,7 +9,7 @@ use denote.Param.Send.{sendable}
 use Rattle.fv_engine_tasks.specs.headline.Block.{vectors_of}
 use Rattle.fv_engine_tasks.specs.Block.{Block}
 use Rattle.fv_engine_parcels.specs.declared.start.Start.{Start}
-use Rattle.fv_engine_crew.specs.Spread.{block_in, tasks_of}
+use Rattle.fv_engine_crew.specs.Spread.{block_in}
 use Rattle.fv_engine_spread.specs.Collected.{AreChainParcels, AreAllWriters, AreAllCells}
 use Rattle.fv_engine_crew.proofs.Sent.{parcel_send, body_sync}
 use Rattle.fv_engine_crew.proofs.Writers.{Started, whole, untouched, cells_untouched}
