@@ -168,9 +168,10 @@ cycles_sync : IsSync cycles.the_row
 cycles_sync = search (cycle_sync, sendable, crosses) depth 24
 
 schedule_sync : IsSync schedule.the_row
-schedule_sync = declared_sync schedule.the_type
-    (search (sendable, crosses) depth 24,
-    (rows_sync, (search (cycle_action_sync, sendable, crosses) depth 24, (search (sendable, crosses) depth 24, (cycles_sync, tt)))))
+schedule_sync = declared_sync schedule.the_type (
+  search (sendable, crosses) depth 24,
+  (rows_sync, (search (cycle_action_sync, sendable, crosses) depth 24, (search (sendable, crosses) depth 24, (cycles_sync, tt)))),
+)
 
 inside_sync : IsSync inside.the_row
 inside_sync = declared_sync inside.the_type (search (step_sync, sendable, crosses) depth 24, (schedule_sync, tt))
