@@ -28,7 +28,7 @@ use Rattle.fv_eval_machine.specs.Machine.{Leftover, Valued, Visit, Running, Ende
 use Rattle.fv_eval.specs.declared.continuation.Focus as code_focus
 use Rattle.fv_eval.specs.declared.machine.Machine as code_machine
 use Rattle.fv_eval.specs.inner.Continuations.{AllDraw, AreShown, Chooses, Completes, Grew, IsShown, Selects, ShowsName, Steps, completed, world}
-use Rattle.fv_eval.proofs.Moves.{scoped_grew, steps_on}
+use Rattle.fv_eval.proofs.Moves.{knows_scoped, scoped_grew, steps_on}
 use Rattle.fv_eval.proofs.Places.{drop_at_get}
 use Rattle.fv_eval.proofs.Received.{Feeds}
 use Rattle.fv_eval.proofs.Taking.{bind_shows, named_at}
@@ -147,7 +147,7 @@ chose p m n r new app body e i bindings us at binds go s f ys E a more (Some xb)
     let with_taken : List code_argument.Argument → World = λ q. record w { taken = q } in
     let lists : Grows (world p m) (world p n1) =
     subst (λ (q : List code_argument.Argument). Grows (world p m) (with_taken q)) (sym same) (grows (world p m) refl) in
-    let grew : Grew p m n1 = record { lists = lists; continuations = refl; state = refl; knows = λ k. k } in
+    let grew : Grew p m n1 = record { lists = lists; continuations = refl; state = refl; knows = knows_scoped p m new lists } in
     let inner : ShowsEnv (world p n1) i (bound_in E xb.1) =
     subst (λ (q : List code_argument.Argument). ShowsEnv (with_taken q) i (bound_in E xb.1)) (sym same) (bound (world p m) E xb.1 refl env h.1) in
     steps_on p m n1 n r (λ Fs q. select p.tokens s E (Some xb) more Fs q) grew

@@ -18,6 +18,7 @@ use Rattle.fv_eval_scopes.proofs.Grown.{diagrams_come, scope_opens, grows_on}
 use Rattle.fv_eval_patterns.specs.Remembered.{Remembered}
 use Rattle.fv_eval_patterns.specs.Trials.{Recalls}
 use Rattle.fv_eval_patterns.proofs.LongPatterns.{recalls_grow}
+use Rattle.fv_eval_choosing.proofs.Skipped.{shortcuts_grow}
 use Rattle.fv_eval_machine.specs.Machine.{Continuation, Visit, Give, Config, Running, Ended, given}
 use Rattle.fv_eval.specs.declared.continuation.Focus as code_focus
 use Rattle.fv_eval.specs.declared.continuation.Focus.TheVariants as focus
@@ -45,7 +46,12 @@ pub drawn_grows : (p : Parsed) (m : code_machine.Machine) (new : Canvas) → Ext
 drawn_grows p m new g = diagrams_come (world p m) new.diagrams g.longer g.trees
 
 knows_drawn : (p : Parsed) (m : code_machine.Machine) (new : Canvas) → Extends m.drawing new → Knows p m → Knows p (record m { drawing = new })
-knows_drawn p m new g = recalls_grow p m.drawing.diagrams new.diagrams g.longer g.trees m.trials
+knows_drawn p m new g k = (recalls_grow p m.drawing.diagrams new.diagrams g.longer g.trees m.trials k.0, k.1)
+
+-- what is remembered of ways outward stays true where scopes were added
+pub knows_scoped : (p : Parsed) (m : code_machine.Machine) (new : Environments) → Grows (world p m) (world p (record m { scopes = new }))
+    → Knows p m → Knows p (record m { scopes = new })
+knows_scoped p m new g k = (k.0, shortcuts_grow p m.scopes.scopes new.scopes g.scopes m.shortcuts k.1)
 
 -- and the table sum is the same
 pub drawn_grew : (p : Parsed) (m : code_machine.Machine) (new : Canvas) → AddsDiagrams m.drawing new → Grew p m (record m { drawing = new })
@@ -63,7 +69,7 @@ chosen_grew p m new fs g recalls = record {
   lists = drawn_grows p m new g.keeps;
   continuations = refl;
   state = ap (λ (n : ℕ). record (state_of m) { tables = n }) g.tables;
-  knows = λ k. recalls;
+  knows = λ k. (recalls, k.1);
 }
 
 -- an environment was made
@@ -71,7 +77,12 @@ pub scoped_grew : (p : Parsed) (m : code_machine.Machine) (new : Environments) (
     → new ≡ with_scope m.scopes x → Grew p m (record m { scopes = new })
 scoped_grew p m new x e =
     subst (λ (s : Environments). Grew p m (record m { scopes = s })) (sym e)
-    (record { lists = scope_opens (world p m) x; continuations = refl; state = refl; knows = λ k. k })
+    (record {
+      lists = scope_opens (world p m) x;
+      continuations = refl;
+      state = refl;
+      knows = knows_scoped p m (with_scope m.scopes x) (scope_opens (world p m) x);
+    })
 
 -- pending work is still shown
 pub keeps_on : (p : Parsed) (a b : code_machine.Machine) → Grew p a b → (Fs : List Continuation) → Keeps p a Fs → Keeps p b Fs

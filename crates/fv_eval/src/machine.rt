@@ -11,7 +11,7 @@ ghost use Rattle.fv_eval_machine.specs.Machine.{Call, Config, Continuation as Wa
 ghost use Rattle.fv_eval.specs.inner.Continuations.{Continues, Ends, Goes, Runs, ShowsContinuation, Steps, state_of, world};
 
 use crate::continuation::{Continuation, Continuations, Focus};
-use fv_eval_choosing::Definitions;
+use fv_eval_choosing::{Definitions, Shortcuts};
 use fv_eval_controls::Controls;
 use fv_eval_drawing::Drawing;
 use fv_eval_machine::steps_mean;
@@ -31,6 +31,8 @@ pub struct Machine {
     pub continuations: Continuations,
     /// What is remembered of long patterns: which diagrams they do not match, which they may, and what they bind there.
     pub trials: Trials,
+    /// The ways outward that names have gone.
+    pub shortcuts: Shortcuts,
     /// The visits that are left.
     pub visits: u32,
     /// The next slot.
@@ -42,7 +44,7 @@ impl Machine {
     pub fn new(alloc: Global, visits: u32) -> Machine
         ensures { (result.drawing.diagrams ≡ empty_arena) × (result.scopes ≡ record { scopes = []; taken = [] })
             × (result.continuations ≡ []) × (state_of result ≡ record { visits = visits; controls = []; slot = 0; tables = 0 })
-            × (result.trials ≡ record { trials = []; bindings = [] }) }
+            × (result.trials ≡ record { trials = []; bindings = [] }) × (result.shortcuts ≡ []) }
     {
         Machine {
             alloc,
@@ -51,6 +53,7 @@ impl Machine {
             controls: Controls::new(alloc),
             continuations: Continuations::new(alloc),
             trials: Trials::new(alloc),
+            shortcuts: Shortcuts::new(alloc),
             visits,
             slot: 0,
         }

@@ -87,7 +87,7 @@ impl Machine {
         ensures { (x : Name) (E : Env) → IsNamed (world text.now self.old) name x → ShowsEnv (world text.now self.old) env E
             → Steps text.now self.old self.new result (λ Fs s. begin_name x (lookup text.now.tokens E x) Fs s) }
     {
-        match text.look_up(&self.scopes, name, env) {
+        match text.look_up(&self.scopes, &mut self.shortcuts, name, env) {
             Meaning::Known(value) => Ok(Focus::Give(value)),
             Meaning::Body { body, env } => Ok(Focus::Visit { id: body, env }),
             Meaning::Unknown => {

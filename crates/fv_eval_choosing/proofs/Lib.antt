@@ -6,4 +6,5 @@ pub mod Past
 pub mod Refused
 pub mod RuleNodes
 pub mod RulesChosen
+pub mod Skipped
 pub mod Wanting

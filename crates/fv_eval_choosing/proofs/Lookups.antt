@@ -34,7 +34,8 @@ use Rattle.fv_eval_scopes.specs.Shows.{World, IsNamed, IsFunction, IsInside, giv
 use Rattle.fv_eval_scopes.specs.Shows.{ShowsTaken, ShowsMeaning}
 use Rattle.fv_eval_scopes.specs.declared.value.Ruled.{Ruled}
 use Rattle.fv_eval_choosing.proofs.RuleNodes.{IsNoFunction, AreOfName}
-use Rattle.fv_eval_choosing.specs.inner.Lookup.{SaysOrPasses, IsMade, StillReaches, outer, is_name, are_names}
+use Rattle.fv_eval_choosing.specs.Shortcuts.{HasNothing, outer}
+use Rattle.fv_eval_choosing.specs.inner.Lookup.{SaysOrPasses, IsMade, is_name, are_names}
 
 -- ---- what definitions make of a name
 
@@ -223,6 +224,11 @@ no_scope w env (Scope ds E) h m = absurd (none-some _ (sym h ∙ m.2))
 
 -- ---- the loop: what the name stands for is what it stands for from a further environment
 
+-- The name stands for the same in a further environment.
+pub record StillReaches (p : Parsed) (scopes : List code_scope.Scope) (name env at : ℕ) : Type 0 where
+  pub further : (w : World) (x : Name) (E : Env) → w.tree ≡ p → w.scopes ≡ scopes → IsNamed w name x → ShowsEnv w env E
+      → (F : Env) × ShowsEnv w at F × (lookup p.tokens E x ≡ lookup p.tokens F x)
+
 pub look_begins : (p : Parsed) (scopes : List code_scope.Scope) (name env : ℕ) → StillReaches p scopes name env env
 look_begins p scopes name env = record { further = λ w x E same there named shown. (E, shown, refl) }
 
@@ -322,23 +328,10 @@ other_name w n name o (suc i) u x (Bound y v E) h other named m =
     passes true p q h = absurd (h refl)
     passes false p q h = refl
 
--- the innermost scope of an environment binds another name, and this environment is around it
-abbrev pub BindsAnother : List code_scope.Scope → (name env outer : ℕ) → Type 0
-BindsAnother scopes name env outer =
-    (other : ℕ) × (u : code_value.Value) × (scope_in scopes env ≡ Some (scope.Bound other u outer)) × (other ≡ name → ⊥)
-
-pub look_passes : {p : Parsed} {scopes : List code_scope.Scope} {name env at next : ℕ} → StillReaches p scopes name env at
-    → BindsAnother scopes name at next → StillReaches p scopes name env next
-look_passes {p} {name = name} {at = at} {next = next} reaches another = record {
-  further = λ w x E same there named shown.
-      let r = reaches.further w x E same there named shown in
-      let e = ap (λ ss. scope_in ss at) there ∙ another.2 in
-      let passed = other_name w another.0 name next at another.1 x r.0 e another.3 named r.1 in (
-        outer r.0,
-        (outer_shows w (scope.Bound another.0 another.1 next) at r.0 e r.1).1,
-        r.2 ∙ subst (λ (q : Parsed). lookup q.tokens r.0 x ≡ lookup q.tokens (outer r.0) x) same passed,
-      );
-}
+-- a scope that binds another name has nothing of this one
+pub another_bound : (p : Parsed) (name env n o : ℕ) (u : code_value.Value) → (n ≡ name → ⊥) → HasNothing p name env (scope.Bound n u o)
+another_bound p name env n o u other w x E same is named shown =
+    subst (λ (q : Parsed). lookup q.tokens E x ≡ lookup q.tokens (outer E) x) same (other_name w n name o env u x E is other named shown)
 
 -- no environment stands around itself
 pub look_stops : {p : Parsed} {scopes : List code_scope.Scope} {name env at next : ℕ} {s : code_scope.Scope} (m : code_meaning.Meaning)

@@ -1,5 +1,5 @@
 -- What is passed on the way outward to the scope that binds a name.
-use Rattle.std.proofs.Common.{◌≡◌, ◌⊎◌, inl, inr, ℕ, zero, suc, ◌+◌, ◌<◌, ◌≤◌, List, [], ◌∷◌, ◌++◌, length, take, get_or, Some, None}
+use Rattle.std.proofs.Common.{◌≡◌, ◌⊎◌, inl, inr, ℕ, zero, suc, ◌+◌, ◌<◌, ◌≤◌, arith, List, [], ◌∷◌, ◌++◌, length, take, get_or, None}
 use Rattle.std.proofs.Common.{refl, sym, ap, subst, ◌∙◌}
 use Rattle.std.specs.Prelude.{filter}
 use Rattle.std.proofs.lemmas.List.{take_more}
@@ -10,35 +10,37 @@ use Rattle.fv_eval_choosing.specs.declared.by_name.Defined.{Defined}
 use Rattle.fv_eval_scopes.specs.declared.value.Scope as code_scope
 use Rattle.fv_eval_scopes.specs.declared.value.Scope.TheVariants as scope
 use Rattle.fv_eval_choosing.specs.ByName.{IsAmong}
-use Rattle.fv_eval_scopes.specs.Ways.{HasOther, PassesBy, PassesTo, key_of}
-use Rattle.fv_eval_choosing.specs.inner.Lookup.{StillReaches, HoldsNone}
-use Rattle.fv_eval_scopes.specs.Environments.{scope_in, outer_number}
+use Rattle.fv_eval_scopes.specs.Ways.{PassesBy, PassesTo, key_of}
+use Rattle.fv_eval_choosing.specs.Shortcuts.{HasNothing, SkipsTo, SkipsBy}
+use Rattle.fv_eval_choosing.specs.inner.Lookup.{HoldsNone}
 use Rattle.fv_rules.specs.headline.Values.{is_of, definition_of, or_else}
-use Rattle.fv_eval_choosing.proofs.Lookups.{look_begins, look_passes, look_goes_on, definitions_say_in}
+use Rattle.fv_eval_choosing.proofs.Lookups.{another_bound, definitions_say_in}
 use Rattle.fv_eval_scopes.proofs.Outward.{only, passes_fewer, nearer_first, nearer_second}
 
-passes_key : {p : Parsed} {scopes : List code_scope.Scope} {name env : ℕ} (Keys : ℕ → Type 0) (at next : ℕ) → Keys name → HoldsNone p name Keys
-    → StillReaches p scopes name env at → HasOther scopes Keys at next → StillReaches p scopes name env next
-passes_key {p} {scopes} {name} {env} Keys at next key none reaches h = go h.0 h.1 h.2 h.4
-  where
-    go : (s : code_scope.Scope) → scope_in scopes at ≡ Some s → outer_number s ≡ next → (Keys (key_of s) → ⊥) → StillReaches p scopes name env next
-    go (scope.Bound n u o) is out other =
-        look_passes reaches (n, u, is ∙ ap (λ i. Some (scope.Bound n u i)) out, λ e. other (subst Keys (sym e) key))
-    go (scope.Definitions id o) is out other =
-        look_goes_on reaches (sym is)
-        (definitions_say_in p scopes id o at name None (λ w x E m same inside named shown.
-        let l = p.tokens in
-        let i : id < size_of p = subst (λ (q : Parsed). id < size_of q) same inside in
-        let named_there = subst (λ (q : Parsed). (text_of q.tokens name ≡ x) × (first_named q.tokens name ≡ name)) same named in
-        let nothing : filter (is_of l x) (items (tree_in p id)) ≡ [] =
-        ap (λ y. filter (is_of l y) (items (tree_in p id))) (sym named_there.0) ∙ none id name i other named_there.1 in
-        ap (λ ds. or_else (definition_of l ds) E m) nothing)) (sym out)
+-- a scope that has none of the keys of a name has nothing of it
+nothing_by : (p : Parsed) (name env : ℕ) (Keys : ℕ → Type 0) (s : code_scope.Scope) → Keys name → HoldsNone p name Keys → (Keys (key_of s) → ⊥)
+    → HasNothing p name env s
+nothing_by p name env Keys (scope.Bound n u o) key none other = another_bound p name env n o u (λ e. other (subst Keys (sym e) key))
+nothing_by p name env Keys (scope.Definitions id o) key none other =
+    definitions_say_in p [] id o env name None (λ w x E m same inside named shown.
+    let l = p.tokens in
+    let i : id < size_of p = subst (λ (q : Parsed). id < size_of q) same inside in
+    let named_there = subst (λ (q : Parsed). (text_of q.tokens name ≡ x) × (first_named q.tokens name ≡ name)) same named in
+    let nothing : filter (is_of l x) (items (tree_in p id)) ≡ [] =
+    ap (λ y. filter (is_of l y) (items (tree_in p id))) (sym named_there.0) ∙ none id name i other named_there.1 in
+    ap (λ ds. or_else (definition_of l ds) E m) nothing)
 
-pub look_passes_to : {p : Parsed} {scopes : List code_scope.Scope} {name env : ℕ} (Keys : ℕ → Type 0) (at next n : ℕ) → Keys name
-    → HoldsNone p name Keys → StillReaches p scopes name env at → PassesBy scopes Keys n at next → StillReaches p scopes name env next
-look_passes_to {p} {scopes} {name} {env} Keys at next zero key none reaches h = subst (StillReaches p scopes name env) h reaches
-look_passes_to Keys at next (suc n) key none reaches h =
-    look_passes_to Keys h.0 next n key none (passes_key Keys at h.0 key none reaches h.1) h.2
+skips_keys : (p : Parsed) (scopes : List code_scope.Scope) (name : ℕ) (Keys : ℕ → Type 0) (n env at : ℕ) → Keys name → HoldsNone p name Keys
+    → PassesBy scopes Keys n env at → SkipsBy p scopes name n env at
+skips_keys p scopes name Keys zero env at key none h = h
+skips_keys p scopes name Keys (suc n) env at key none h =
+    let o = h.1 in (
+      o.0,
+      o.1,
+      omega (arith, o.2, o.3),
+      nothing_by p name env Keys o.0 key none o.4,
+      subst (λ e. SkipsBy p scopes name n e at) (sym o.2) (skips_keys p scopes name Keys n h.0 at key none h.2),
+    )
 
 -- ---- a name, and the lists that define it
 
@@ -90,7 +92,7 @@ past_more scopes name env a b at i ds d l here h g nearer = go nearer
         (nearer_second scopes (IsKey name (take i ds)) (only d.node) (IsKey name (take (i + 1) ds)) env a b all h g e.1)
 
 -- where all of them are asked for
-pub past_reaches : (p : Parsed) (scopes : List code_scope.Scope) (name env at : ℕ) (ds : List Defined) → HoldsNone p name (IsAmong ds)
-    → PassesTo scopes (IsKey name ds) env at → StillReaches p scopes name env at
-past_reaches p scopes name env at ds none h =
-    look_passes_to (IsKey name ds) env at h.0 (inl refl) (λ list n i other e. none list n i (λ q. other (inr q)) e) (look_begins p scopes name env) h.1
+pub past_skips : (p : Parsed) (scopes : List code_scope.Scope) (name env at : ℕ) (ds : List Defined) → HoldsNone p name (IsAmong ds)
+    → PassesTo scopes (IsKey name ds) env at → SkipsTo p scopes name env at
+past_skips p scopes name env at ds none h =
+    (h.0, skips_keys p scopes name (IsKey name ds) h.0 env at (inl refl) (λ list n i other e. none list n i (λ q. other (inr q)) e) h.1)

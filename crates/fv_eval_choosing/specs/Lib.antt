@@ -5,3 +5,4 @@ pub mod Bits
 pub mod Indexes
 pub mod Leaving
 pub mod Positions
+pub mod Shortcuts

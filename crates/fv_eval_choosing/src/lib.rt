@@ -8,6 +8,8 @@ mod index;
 mod lookup;
 mod paths;
 mod positions;
+mod shortcuts;
 mod wants;
 
 pub use lookup::Definitions;
+pub use shortcuts::{Shortcut, Shortcuts};

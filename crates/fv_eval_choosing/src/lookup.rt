@@ -11,10 +11,12 @@ ghost use Rattle.fv_eval_choosing.specs.ByName.{IsAmong};
 ghost use Rattle.fv_eval_scopes.specs.declared.value.Ruled.TheVariants.{Definitions as AtDefinitions};
 ghost use Rattle.fv_eval_scopes.specs.Shows.{World, IsInside, IsNamed, ShowsEnv, ShowsMeaning, rules_in};
 ghost use Rattle.fv_eval_choosing.specs.Leaving.{IsIndex};
-ghost use Rattle.fv_eval_choosing.specs.inner.Lookup.{SaysOrPasses, HoldsNone, IsMade, StillReaches, outer, is_name, are_names};
+ghost use Rattle.fv_eval_choosing.specs.Shortcuts.{AreShortcuts, SkipsTo, outer};
+ghost use Rattle.fv_eval_choosing.specs.inner.Lookup.{SaysOrPasses, HoldsNone, IsMade, is_name, are_names};
 
 use crate::by_name::{ByName, Defined, by_name, hold};
 use crate::index::RuleIndex;
+use crate::shortcuts::Shortcuts;
 use fv_eval_scopes::{Meaning, Ruled, Scope, Scopes, Value, outer_of};
 use fv_parse::{Tree, TreeId, TreeNode, same_names};
 use std::alloc::{AllocError, Global};
@@ -168,18 +170,28 @@ impl<'a> Definitions<'a> {
         }
     }
 
-    /// What a name, by its canonical number, stands for in an environment.
-    pub fn look_up(&self, scopes: &Scopes, name: u64, env: u64) -> Meaning
-        ensures { (w : World) (x : Name) (E : Env)
+    /// What a name, by its canonical number, stands for in an environment. The ways that it goes are remembered.
+    pub fn look_up(
+        &self,
+        scopes: &Scopes,
+        shortcuts: &mut Shortcuts,
+        name: u64,
+        env: u64,
+    ) -> Meaning
+        ensures kept { AreShortcuts self.now scopes.now.scopes shortcuts.old → AreShortcuts self.now scopes.now.scopes shortcuts.new }
+        ensures means { AreShortcuts self.now scopes.now.scopes shortcuts.old → (w : World) (x : Name) (E : Env)
             → w.tree ≡ self.now → w.scopes ≡ scopes.now.scopes → IsNamed w name x → ShowsEnv w env E
             → ShowsMeaning w result (lookup self.now.tokens E x) }
     {
         // To ask for each list that defines the name costs as much as so many steps, so they are taken before.
         let holders = self.holders(name).len();
-        let mut steps = holders;
+        let mut left = holders;
+        let mut steps = 0;
+        let mut mark = env;
         let mut at = env;
         'outward: while let Some(scope) = scopes.scope(at) {
             if let Some(meaning) = self.in_scope(&scope, name, at) {
+                shortcuts.keep(name, mark, at, steps);
                 return meaning;
             }
             let outer = outer_of(&scope);
@@ -187,18 +199,36 @@ impl<'a> Definitions<'a> {
             if outer >= at {
                 return Meaning::Unknown;
             }
-            at = self.further(scopes, name, outer, steps);
-            steps = steps_left(steps, holders);
+            let direct = shortcuts.outward(name, at, steps);
+            at = self.next(scopes, name, at, outer, direct, left);
+            left = steps_left(left, holders);
+            steps = steps.saturating_add(1);
+            mark = shortcuts.mark(name, mark, at, steps);
         }
         Meaning::Unknown
     }
 
+    // The next environment to look at behind one that has nothing of a name: by a shortcut that leads outward, or else from
+    // the environment around it on.
+    fn next(&self, scopes: &Scopes, name: u64, at: u64, outer: u64, direct: u64, left: usize) -> u64
+        requires { outer < at }
+        ensures skips { SkipsTo self.now scopes.now.scopes name at outer → SkipsTo self.now scopes.now.scopes name at direct
+            → SkipsTo self.now scopes.now.scopes name at result }
+        ensures outward { result < at }
+    {
+        if direct < at {
+            direct
+        } else {
+            self.further(scopes, name, outer, left)
+        }
+    }
+
     // The next environment from one outward to look at: this one, while there are steps left.
-    fn further(&self, scopes: &Scopes, name: u64, env: u64, steps: usize) -> u64
-        ensures reaches { StillReaches self.now scopes.now.scopes name env result }
+    fn further(&self, scopes: &Scopes, name: u64, env: u64, left: usize) -> u64
+        ensures skips { SkipsTo self.now scopes.now.scopes name env result }
         ensures outward { result ≤ env }
     {
-        if steps > 0 {
+        if left > 0 {
             env
         } else {
             self.past(scopes, name, env)
@@ -207,7 +237,7 @@ impl<'a> Definitions<'a> {
 
     // The first environment from one outward that may have something of a name.
     fn past(&self, scopes: &Scopes, name: u64, env: u64) -> u64
-        ensures reaches { StillReaches self.now scopes.now.scopes name env result }
+        ensures skips { SkipsTo self.now scopes.now.scopes name env result }
         ensures outward { result ≤ env }
     {
         let holders = self.holders(name);
@@ -332,8 +362,8 @@ fn made(tree: &Tree, list: TreeId, first: TreeId, count: u64, env: u64) -> Meani
 }
 
 // How many steps are left after one: all again, where none was left.
-fn steps_left(steps: usize, all: usize) -> usize {
-    if steps == 0 { all } else { steps - 1 }
+fn steps_left(left: usize, all: usize) -> usize {
+    if left == 0 { all } else { left - 1 }
 }
 
 // The nearer one of two environments further outward.

@@ -39,6 +39,16 @@ fn closed_expressions(rt: HostRuntime) -> Result<(), Fail> {
         (b"process = sum(i,10,i * i);", 285),
         (b"process = prod(i,5,i + 1);", 120),
         (b"process = seq(i,3,*(i + 2))(1);", 24),
+        // a name that many lists define, behind as many that do not, again and again
+        (
+            b"process = f(3) with{f(0)=0;f(n)=q+f(n-1);} \
+              with{a=1;}with{a=1;}with{a=1;}with{a=1;}with{a=1;}with{a=1;}with{a=1;}with{a=1;}with{a=1;}with{a=1;} \
+              with{a=1;}with{a=1;}with{a=1;}with{a=1;}with{a=1;}with{a=1;}with{a=1;}with{a=1;}with{a=1;}with{a=1;} \
+              with{q=5;} \
+              with{q=7;}with{q=7;}with{q=7;}with{q=7;}with{q=7;}with{q=7;}with{q=7;}with{q=7;}with{q=7;}with{q=7;} \
+              with{q=7;}with{q=7;}with{q=7;}with{q=7;}with{q=7;}with{q=7;}with{q=7;}with{q=7;}with{q=7;}with{q=7;};",
+            15,
+        ),
     ];
     for (text, expected) in table {
         assert_eq!(rt; number(rt.alloc(), text)?, Some(expected));

@@ -4,7 +4,7 @@ ghost use Rattle.std.specs.Prelude.{◌<◌};
 ghost use Rattle.fv_parse.specs.Trees.{size_of};
 
 use fv_diagram::{Diagrams, Node};
-use fv_eval_choosing::Definitions;
+use fv_eval_choosing::{Definitions, Shortcuts};
 use fv_eval_patterns::{Bindings, matches};
 use fv_eval_scopes::{Meaning, Scopes, Value};
 use fv_lex::{Tokens, tokens};
@@ -21,10 +21,11 @@ fn meanings(alloc: Global, found: &Tokens) -> Result<String, AllocError> {
     };
     let definitions = Definitions::new(alloc, &tree)?;
     let mut scopes = Scopes::new(alloc);
+    let mut shortcuts = Shortcuts::new(alloc);
     let env = scopes.open(tree.root(), 0)?;
     let mut line = String::new(alloc);
     for n in 0..u64::from(found.len()) {
-        match definitions.look_up(&scopes, tree.name(n), env) {
+        match definitions.look_up(&scopes, &mut shortcuts, tree.name(n), env) {
             Meaning::Unknown => {}
             meaning => {
                 let shown = format!(in alloc; "{n} {meaning:?}; ")?;
@@ -108,6 +109,7 @@ fn bound_names(alloc: Global, found: &Tokens) -> Result<Vec<u64>, AllocError> {
     };
     let definitions = Definitions::new(alloc, &tree)?;
     let mut scopes = Scopes::new(alloc);
+    let mut shortcuts = Shortcuts::new(alloc);
     let mut env = scopes.open(tree.root(), 0)?;
     for i in 0..100 {
         let value = Value::Abstraction {
@@ -119,12 +121,20 @@ fn bound_names(alloc: Global, found: &Tokens) -> Result<Vec<u64>, AllocError> {
     }
     for name in 150..350 {
         if let Meaning::Known(Value::Abstraction { bound: i, .. }) = definitions.look_up(
-            &scopes, name, env,
+            &scopes,
+            &mut shortcuts,
+            name,
+            env,
         ) {
             bound.push(i)?;
         }
     }
-    if let Meaning::Body { env, .. } = definitions.look_up(&scopes, tree.name(0), env) {
+    if let Meaning::Body { env, .. } = definitions.look_up(
+        &scopes,
+        &mut shortcuts,
+        tree.name(0),
+        env,
+    ) {
         bound.push(env)?;
     }
     Ok(bound)

@@ -4,7 +4,7 @@ ghost use Rattle.std.specs.Prelude.{◌<◌};
 ghost use Rattle.fv_parse.specs.Trees.{size_of};
 
 use fv_diagram::{Diagrams, Node};
-use fv_eval_choosing::Definitions;
+use fv_eval_choosing::{Definitions, Shortcuts};
 use fv_eval_patterns::Trials;
 use fv_eval_scopes::{Binding, Meaning, Numbers, Ruled, Scopes, Value};
 use fv_lex::{Tokens, tokens};
@@ -150,8 +150,18 @@ fn the_last_binding_is_innermost(rt: HostRuntime) -> Result<(), Fail> {
         },
     ];
     let env = scopes.bind_all(&bindings, 0)?;
-    assert_eq!(rt; meant(&definitions.look_up(&scopes, 5, env)), 3);
-    assert_eq!(rt; meant(&definitions.look_up(&scopes, 6, env)), 2);
-    assert_eq!(rt; meant(&definitions.look_up(&scopes, 7, env)), 0);
+    let mut shortcuts = Shortcuts::new(alloc);
+    assert_eq!(rt;
+        meant(&definitions.look_up(&scopes, &mut shortcuts, 5, env)),
+        3
+    );
+    assert_eq!(rt;
+        meant(&definitions.look_up(&scopes, &mut shortcuts, 6, env)),
+        2
+    );
+    assert_eq!(rt;
+        meant(&definitions.look_up(&scopes, &mut shortcuts, 7, env)),
+        0
+    );
     Ok(())
 }

@@ -37,6 +37,7 @@ use Rattle.fv_eval_scopes.specs.declared.value.Ruled.{Ruled}
 use Rattle.fv_eval_scopes.specs.declared.value.Binding as code_binding
 use Rattle.fv_eval_choosing.specs.Chosen.{ShowsChoice}
 use Rattle.fv_eval_patterns.specs.Trials.{Recalls}
+use Rattle.fv_eval_choosing.specs.Shortcuts.{AreShortcuts}
 
 -- the lists of a machine over a tree
 abbrev pub world : Parsed → code_machine.Machine → World
@@ -45,9 +46,9 @@ world p m = record { tree = p; diagrams = m.drawing.diagrams; scopes = m.scopes.
 abbrev pub state_of : code_machine.Machine → State
 state_of m = record { visits = m.visits; controls = m.controls; slot = m.slot; tables = m.drawing.tables }
 
--- what the machine remembers of patterns is true of the tree
+-- what the machine remembers of patterns and of ways outward is true of the tree
 abbrev pub Knows : Parsed → code_machine.Machine → Type 0
-Knows p m = Recalls p m.drawing.diagrams m.trials
+Knows p m = Recalls p m.drawing.diagrams m.trials × AreShortcuts p m.scopes.scopes m.shortcuts
 
 -- these numbers are these diagrams, in order
 abbrev pub AllDraw : World → List ℕ → List Diagram → Type 0

@@ -5,25 +5,13 @@ use Rattle.fv_parse_grammar.specs.headline.Tree.{Tree, Named, items}
 use Rattle.fv_parse.specs.headline.Trees.{text_of}
 use Rattle.fv_parse.specs.Trees.{Parsed, size_of, tree_in, first_named}
 use Rattle.fv_eval_scopes.specs.declared.value.Meaning as code_meaning
-use Rattle.fv_eval_scopes.specs.declared.value.Scope as code_scope
-use Rattle.fv_rules.specs.headline.Values.{Name, Env, Outermost, Bound, Scope, Meaning, is_of, definition_of, or_else, lookup}
-use Rattle.fv_eval_scopes.specs.Shows.{World, IsNamed, ShowsEnv, ShowsMeaning}
-
--- the environment around the innermost scope
-abbrev pub outer : Env → Env
-outer Outermost = Outermost
-outer (Bound x v E) = E
-outer (Scope ds E) = E
+use Rattle.fv_rules.specs.headline.Values.{Name, Env, Meaning, is_of, definition_of, or_else}
+use Rattle.fv_eval_scopes.specs.Shows.{World, ShowsEnv, ShowsMeaning}
 
 -- a scope says what a name stands for, or the environment around it has to
 abbrev pub SaysOrPasses : World → Option code_meaning.Meaning → (here beyond : Meaning) → Type 0
 SaysOrPasses w (Some m) here beyond = ShowsMeaning w m here
 SaysOrPasses w None here beyond = here ≡ beyond
-
--- The name stands for the same in a further environment.
-pub record StillReaches (p : Parsed) (scopes : List code_scope.Scope) (name env at : ℕ) : Type 0 where
-  pub further : (w : World) (x : Name) (E : Env) → w.tree ≡ p → w.scopes ≡ scopes → IsNamed w name x → ShowsEnv w env E
-      → (F : Env) × ShowsEnv w at F × (lookup p.tokens E x ≡ lookup p.tokens F x)
 
 -- no list but these has a definition of the name
 abbrev pub HoldsNone : Parsed → ℕ → (ℕ → Type 0) → Type 0

@@ -11,6 +11,9 @@ choose-requires-clause-there c =
     (taken_drawn c.args.text.now m c.args.count c.args.last c.args.argument c.in_ok-all.all.items c.push.new.self.items
     c.in_ok-all.ensures c.in_ok-push.ensures.items c.requires.taken c.requires.argument)
 
+pub choose-requires-clause-recalls : goal.choose-requires-clause-recalls
+choose-requires-clause-recalls c = c.requires.knows.0
+
 pub returns-clause-grew : goal.returns-clause-grew
 returns-clause-grew c =
     chosen_grew c.args.text.now c.args.self.now c.choose.new.self c.choose.new.trials c.in_ok-choice.ensures.adds c.in_ok-choice.ensures.recalls

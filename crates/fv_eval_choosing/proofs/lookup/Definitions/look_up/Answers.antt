@@ -1,21 +1,50 @@
+use Rattle.std.proofs.Common.{arith, sym, subst}
 use Rattle.fv_eval_scopes.specs.declared.value.Meaning.TheVariants as meaning
-use Rattle.fv_eval_choosing.proofs.Lookups.{look_begins, look_finds, look_further, look_goes_on, look_stops, look_ends}
+use Rattle.fv_eval_choosing.specs.Shortcuts.{SkipsTo}
+use Rattle.fv_eval_choosing.proofs.Lookups.{look_finds, look_stops, look_ends}
+use Rattle.fv_eval_choosing.proofs.Skipped.{look_begins_here, skips_one, skips_reach, under_way_on}
 use Rattle.fv_eval_choosing.proofs.lookup.Definitions.look_up.Goals as goal
 
 pub outward-init : goal.outward-init
-outward-init c = look_begins c.args.self.now c.args.scopes.now.scopes c.args.name c.args.env
+outward-init c = look_begins_here c.args.self.now c.args.scopes.now.scopes c.args.shortcuts.now c.args.name c.args.env
 
-pub returns-in-Some-in_scope : goal.returns-in-Some-in_scope
-returns-in-Some-in_scope c =
-    look_finds c.in-Some-in_scope.meaning c.outward.invariant c.in-Some.ensures c.in-Some-in_scope.ensures
+pub returns-in-Some-in_scope-clause-kept : goal.returns-in-Some-in_scope-clause-kept
+returns-in-Some-in_scope-clause-kept c = λ kept.
+    let u = c.outward.invariant kept in c.keep.ensures c.args.self.now c.args.scopes.now.scopes u.kept u.marked
 
-pub returns-then-outer-at : goal.returns-then-outer-at
-returns-then-outer-at c = look_stops meaning.Unknown c.outward.invariant c.in-Some.ensures c.outer_of-outer.ensures c.if-outer-at.true
+pub returns-in-Some-in_scope-clause-means : goal.returns-in-Some-in_scope-clause-means
+returns-in-Some-in_scope-clause-means c = λ kept.
+    let u = c.outward.invariant kept in
+    look_finds c.in-Some-in_scope.meaning (skips_reach c.args.self.now c.args.scopes.now.scopes c.args.name c.args.env c.outward.at u.whole)
+    c.in-Some.ensures c.in-Some-in_scope.ensures
+
+pub returns-then-outer-at-clause-kept : goal.returns-then-outer-at-clause-kept
+returns-then-outer-at-clause-kept c = λ kept. (c.outward.invariant kept).kept
+
+pub returns-then-outer-at-clause-means : goal.returns-then-outer-at-clause-means
+returns-then-outer-at-clause-means c = λ kept.
+    let u = c.outward.invariant kept in
+    look_stops meaning.Unknown (skips_reach c.args.self.now c.args.scopes.now.scopes c.args.name c.args.env c.outward.at u.whole)
+    c.in-Some.ensures c.outer_of-outer.ensures c.if-outer-at.true
 
 pub outward-preserved : goal.outward-preserved
-outward-preserved c =
-    look_further (look_goes_on c.outward.invariant c.in-Some.ensures c.in_default-in_scope.ensures c.outer_of-outer.ensures)
-    c.further-at.ensures.reaches
+outward-preserved c = λ kept.
+    let p = c.args.self.now in
+    let scopes = c.args.scopes.now.scopes in
+    let name = c.args.name in
+    let at = c.outward.at in
+    let u = c.outward.invariant kept in
+    let one = skips_one p scopes name at c.in-Some.scope (sym c.in-Some.ensures) (omega (arith, c.if-outer-at.false, c.outer_of-outer.ensures))
+    c.in_default-in_scope.ensures in
+    let foot = subst (SkipsTo p scopes name at) (sym c.outer_of-outer.ensures) one in
+    let next = c.next-at.ensures.skips foot (c.outward-direct.ensures p scopes u.kept) in
+    under_way_on p scopes c.outward.shortcuts c.mark-mark.new.self name c.args.env c.outward.mark at c.next-at.result c.mark-mark.result u next
+    (c.mark-mark.ensures.skips p scopes) (c.mark-mark.ensures.kept p scopes)
 
-pub returns : goal.returns
-returns c = look_ends c.outward.invariant c.in_default.ensures
+pub returns-clause-kept : goal.returns-clause-kept
+returns-clause-kept c = λ kept. (c.outward.invariant kept).kept
+
+pub returns-clause-means : goal.returns-clause-means
+returns-clause-means c = λ kept.
+    let u = c.outward.invariant kept in
+    look_ends (skips_reach c.args.self.now c.args.scopes.now.scopes c.args.name c.args.env c.outward.at u.whole) c.in_default.ensures

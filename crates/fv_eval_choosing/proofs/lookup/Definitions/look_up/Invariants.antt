@@ -1,8 +1,10 @@
-use Rattle.fv_eval_choosing.specs.inner.Lookup.{StillReaches}
+use Rattle.fv_eval_choosing.specs.Shortcuts.{AreShortcuts}
+use Rattle.fv_eval_choosing.proofs.Skipped.{HasCome}
 use Rattle.fv_eval_choosing.proofs.lookup.Definitions.look_up.Given as goal
 
 abbrev pub invariant-outward : goal.invariant-outward
-invariant-outward l = StillReaches l.self l.scopes.scopes l.name l.env l.at
+invariant-outward l =
+    AreShortcuts l.self l.scopes.scopes l.fn.shortcuts → HasCome l.self l.scopes.scopes l.shortcuts l.name l.env l.mark l.at
 
 abbrev pub decreases-outward : goal.decreases-outward
 decreases-outward l = l.at

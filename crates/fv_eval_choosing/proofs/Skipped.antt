@@ -1,0 +1,118 @@
+-- Ways outward over scopes that have nothing of a name: at their ends the name stands for the same.
+use Rattle.std.proofs.Common.{◌≡◌, ◌⊎◌, inl, inr, ℕ, zero, suc, ◌+◌, ◌<◌, ◌≤◌, arith, List, [], ◌∷◌, ◌++◌, length, set, get_or, Some}
+use Rattle.std.proofs.Common.{refl, sym, ap, subst, ◌∙◌}
+use Rattle.std.specs.Prelude.{slice_get}
+use Rattle.std.proofs.lemmas.Bool.{cases_eq, cases_lt}
+use Rattle.std.proofs.lemmas.List.{get_or-set_other, get_or-set_same, get_or_append_left, get_or_push, length-append, length-set}
+use Rattle.std.proofs.lemmas.Option.{none-some, slice_get_within, slice_get_read, get_or_from_slice_get}
+use Rattle.fv_parse.specs.Trees.{Parsed}
+use Rattle.fv_eval_scopes.specs.declared.value.Scope as code_scope
+use Rattle.fv_eval_scopes.specs.Environments.{scope_in, outer_number}
+use Rattle.fv_eval_choosing.specs.declared.shortcuts.Shortcut.{Shortcut}
+use Rattle.fv_eval_choosing.specs.Shortcuts.{AreShortcuts, HasNothing, SkipsTo, SkipsBy}
+use Rattle.fv_eval_choosing.proofs.Lookups.{StillReaches, look_begins, look_further, look_goes_on}
+
+pub skips_none : (p : Parsed) (scopes : List code_scope.Scope) (name env : ℕ) → SkipsTo p scopes name env env
+skips_none p scopes name env = (0, refl)
+
+-- one scope
+pub skips_one : (p : Parsed) (scopes : List code_scope.Scope) (name env : ℕ) (s : code_scope.Scope) → scope_in scopes env ≡ Some s
+    → outer_number s < env → HasNothing p name env s → SkipsTo p scopes name env (outer_number s)
+skips_one p scopes name env s is l none = (1, (s, is, l, none, refl))
+
+-- one way behind another
+skips_by_on : (p : Parsed) (scopes : List code_scope.Scope) (name n env mid at : ℕ) → SkipsBy p scopes name n env mid → SkipsTo p scopes name mid at
+    → SkipsTo p scopes name env at
+skips_by_on p scopes name zero env mid at h g = subst (λ e. SkipsTo p scopes name e at) (sym h) g
+skips_by_on p scopes name (suc n) env mid at h g =
+    let r = skips_by_on p scopes name n (outer_number h.0) mid at h.4 g in (suc r.0, (h.0, h.1, h.2, h.3, r.1))
+
+pub skips_on : (p : Parsed) (scopes : List code_scope.Scope) (name env mid at : ℕ) → SkipsTo p scopes name env mid → SkipsTo p scopes name mid at
+    → SkipsTo p scopes name env at
+skips_on p scopes name env mid at h g = skips_by_on p scopes name h.0 env mid at h.1 g
+
+-- at the end the name stands for the same
+reached_by : (p : Parsed) (scopes : List code_scope.Scope) (name n env at : ℕ) → SkipsBy p scopes name n env at → StillReaches p scopes name env at
+reached_by p scopes name zero env at h = subst (StillReaches p scopes name env) h (look_begins p scopes name env)
+reached_by p scopes name (suc n) env at h =
+    look_further (look_goes_on (look_begins p scopes name env) (sym h.1) h.3 refl) (reached_by p scopes name n (outer_number h.0) at h.4)
+
+pub skips_reach : (p : Parsed) (scopes : List code_scope.Scope) (name env at : ℕ) → SkipsTo p scopes name env at → StillReaches p scopes name env at
+skips_reach p scopes name env at h = reached_by p scopes name h.0 env at h.1
+
+-- ---- scopes that have grown
+
+module _ (p : Parsed) (old new : List code_scope.Scope)
+    (same : (i : ℕ) (s : code_scope.Scope) → slice_get old i ≡ Some s → slice_get new i ≡ Some s) where
+  scope_stays : (env : ℕ) (s : code_scope.Scope) → scope_in old env ≡ Some s → scope_in new env ≡ Some s
+  scope_stays zero s e = absurd (none-some s e)
+  scope_stays (suc i) s e = same i s e
+
+  skips_stay : (name n env at : ℕ) → SkipsBy p old name n env at → SkipsBy p new name n env at
+  skips_stay name zero env at h = h
+  skips_stay name (suc n) env at h = (h.0, scope_stays env h.0 h.1, h.2, h.3, skips_stay name n (outer_number h.0) at h.4)
+
+  -- what is remembered of them is still true
+  pub shortcuts_grow : (xs : List Shortcut) → AreShortcuts p old xs → AreShortcuts p new xs
+  shortcuts_grow xs h i x e = let k = h i x e in (k.0, skips_stay x.name k.0 x.from x.to k.1)
+
+-- ---- what is remembered
+
+-- one slot anew
+pub shortcuts_set : (p : Parsed) (scopes : List code_scope.Scope) (xs : List Shortcut) (i : ℕ) (x : Shortcut) → i < length xs → AreShortcuts p scopes xs
+    → SkipsTo p scopes x.name x.from x.to → AreShortcuts p scopes (set xs i x)
+shortcuts_set p scopes xs i x l h way j y e = go (cases_eq j i)
+  where
+    within : j < length xs
+    within = omega (arith, slice_get_within (set xs i x) j y e, length-set xs i x)
+
+    at : y ≡ get_or (set xs i x) j y
+    at = sym (get_or_from_slice_get (set xs i x) j y y e)
+
+    go : (j ≡ i) ⊎ (j ≡ i → ⊥) → SkipsTo p scopes y.name y.from y.to
+    go (inl same) =
+        let is : y ≡ x = at ∙ ap (λ k. get_or (set xs i x) k y) same ∙ get_or-set_same xs i x y l in
+        subst (λ (z : Shortcut). SkipsTo p scopes z.name z.from z.to) (sym is) way
+    go (inr apart) =
+        h j y (slice_get_read xs (length xs) j y refl within (at ∙ get_or-set_other xs i j x y apart))
+
+-- one slot more
+pub shortcuts_push : (p : Parsed) (scopes : List code_scope.Scope) (xs ys : List Shortcut) (x : Shortcut) → ys ≡ xs ++ x ∷ [] → AreShortcuts p scopes xs
+    → SkipsTo p scopes x.name x.from x.to → AreShortcuts p scopes ys
+shortcuts_push p scopes xs ys x pushed h way i y e = go (cases_lt i (length xs))
+  where
+    got : slice_get (xs ++ x ∷ []) i ≡ Some y
+    got = ap (λ zs. slice_get zs i) (sym pushed) ∙ e
+
+    within : i < length xs + 1
+    within = omega (arith, slice_get_within (xs ++ x ∷ []) i y got, length-append xs (x ∷ []))
+
+    at : y ≡ get_or (xs ++ x ∷ []) i y
+    at = sym (get_or_from_slice_get (xs ++ x ∷ []) i y y got)
+
+    go : (i < length xs) ⊎ (length xs ≤ i) → SkipsTo p scopes y.name y.from y.to
+    go (inl l) = h i y (slice_get_read xs (length xs) i y refl l (at ∙ get_or_append_left xs (x ∷ []) y i l))
+    go (inr g) =
+        let is : y ≡ x = at ∙ get_or_push xs x y i (omega (arith, g, within)) in
+        subst (λ (z : Shortcut). SkipsTo p scopes z.name z.from z.to) (sym is) way
+
+-- ---- a look-up
+
+-- A look-up has come from an environment over a mark to another environment.
+pub record HasCome (p : Parsed) (scopes : List code_scope.Scope) (xs : List Shortcut) (name env mark at : ℕ) : Type 0 where
+  pub kept : AreShortcuts p scopes xs
+  pub whole : SkipsTo p scopes name env at
+  pub marked : SkipsTo p scopes name mark at
+
+pub look_begins_here : (p : Parsed) (scopes : List code_scope.Scope) (xs : List Shortcut) (name env : ℕ) → AreShortcuts p scopes xs
+    → HasCome p scopes xs name env env env
+look_begins_here p scopes xs name env h = record { kept = h; whole = skips_none p scopes name env; marked = skips_none p scopes name env }
+
+-- It goes on to a next environment and a next mark.
+pub under_way_on : (p : Parsed) (scopes : List code_scope.Scope) (xs ys : List Shortcut) (name env mark at next last : ℕ)
+    → HasCome p scopes xs name env mark at → SkipsTo p scopes name at next
+    → (SkipsTo p scopes name mark next → SkipsTo p scopes name last next)
+    → (AreShortcuts p scopes xs → SkipsTo p scopes name mark next → AreShortcuts p scopes ys) → HasCome p scopes ys name env last next
+under_way_on p scopes xs ys name env mark at next last u h moves keeps =
+    let marked = skips_on p scopes name mark at next u.marked h in
+    record { kept = keeps u.kept marked; whole = skips_on p scopes name env at next u.whole h; marked = moves marked }
