@@ -8,7 +8,7 @@ use Rattle.std.proofs.lemmas.Bool.{le-leb}
 use Rattle.fv_base.specs.declared.limits.TheConstants.{MOST_CHANNELS}
 use Rattle.byteorder.specs.Endian.{big_bytes}
 use Rattle.byteorder.specs.Numbers.{big_number-reads_back}
-use Rattle.fv_num.specs.headline.Words.{is_sample_width}
+use Rattle.fv_pcm.specs.Words.{is_sample_width}
 use Rattle.fv_pcm.specs.declared.coding.Coding.TheVariants.{Au}
 use Rattle.fv_pcm.specs.headline.Coded.{sample_bytes}
 use Rattle.fv_pcm.specs.headline.Sizes.{data_size, data_limit}

@@ -2,7 +2,7 @@
 use Rattle.std.specs.Prelude.{◌≡◌, ◌<◌, ◌≤◌, true, length}
 use Rattle.fv_base.specs.declared.limits.TheConstants.{MOST_CHANNELS}
 use Rattle.fv_base.specs.declared.role.Role.TheVariants.{Input}
-use Rattle.fv_num.specs.headline.Words.{is_sample_width}
+use Rattle.fv_pcm.specs.Words.{is_sample_width}
 use Rattle.fv_outside.specs.headline.Desk.{DeskState, KeepsFaults}
 use Rattle.fv_outside.specs.Desk.{TakesSome}
 use Rattle.fv_outside.specs.declared.transfer.ReadError.{ReadError}

@@ -1,7 +1,7 @@
 -- What is written is read again (Sun audio; this project's profile).
 use Rattle.std.specs.Prelude.{◌≡◌, ℕ, ◌+◌, ◌*◌, ◌/◌, List, ◌++◌, length, get_or, flat_map, Some, Ok, ℤ, pos}
-use Rattle.fv_num.specs.headline.Words.{clamped}
-use Rattle.fv_num.specs.headline.Frames.{table}
+use Rattle.fv_pcm.specs.Words.{clamped}
+use Rattle.fv_pcm.specs.Frames.{table}
 use Rattle.fv_pcm.specs.declared.coding.Coding.TheVariants.{Au}
 use Rattle.fv_pcm.specs.headline.Coded.{sample_bytes}
 use Rattle.fv_pcm.specs.headline.Sizes.{data_size}

@@ -1,7 +1,7 @@
 // The head of an AU file, as far as its bytes are there.
 
 ghost use Rattle.std.specs.Prelude.{◌≡◌, ◌≤◌, ◌+◌, length, true, IfOk, IfErr};
-ghost use Rattle.fv_num.specs.headline.Words.{is_sample_width};
+ghost use Rattle.fv_pcm.specs.Words.{is_sample_width};
 ghost use Rattle.fv_au.specs.headline.Reading.{head_of, field as field_of, is_encoding as is_encoding_of, is_channels as is_channels_of};
 ghost use Rattle.fv_au.specs.headline.Reading.{bits_of as bits_of_encoding, stated as stated_of};
 ghost use Rattle.fv_au.specs.Stopping.{IsAuHead, IsOfBytes};

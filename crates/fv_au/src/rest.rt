@@ -3,7 +3,7 @@
 ghost use Rattle.std.specs.Prelude.{◌≡◌, ℕ, [], ◌≤◌, length, true, IfErr, IfOk, IsNone, OnOk};
 ghost use Rattle.fv_base.specs.declared.limits.TheConstants.{MOST_CHANNELS};
 ghost use Rattle.fv_base.specs.declared.role.Role.TheVariants.{Input};
-ghost use Rattle.fv_num.specs.headline.Words.{is_sample_width};
+ghost use Rattle.fv_pcm.specs.Words.{is_sample_width};
 ghost use Rattle.fv_pcm.specs.declared.coding.Coding.TheVariants.{Au};
 ghost use Rattle.fv_pcm.specs.Coded.{samples_in};
 ghost use Rattle.fv_pcm.specs.headline.Sizes.{data_limit};

@@ -7,7 +7,7 @@ ghost use Rattle.fv_base.specs.declared.role.Role.TheVariants.{Output};
 ghost use Rattle.fv_base.specs.headline.Lists.{IsPrefixOf};
 ghost use Rattle.fv_outside.specs.headline.Desk.{HasFault, KeepsFaults, IsUnfailing};
 ghost use Rattle.fv_outside.specs.Desk.{Appends};
-ghost use Rattle.fv_num.specs.headline.Words.{is_sample_width};
+ghost use Rattle.fv_pcm.specs.Words.{is_sample_width};
 ghost use Rattle.fv_pcm.specs.declared.coding.Coding.TheVariants.{Au};
 ghost use Rattle.fv_pcm.specs.headline.Coded.{sample_bytes};
 ghost use Rattle.fv_pcm.specs.headline.Sizes.{data_limit};

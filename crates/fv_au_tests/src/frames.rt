@@ -1,8 +1,8 @@
 // Samples that are read, and files that are written.
 
 ghost use Rattle.std.specs.Prelude.{◌≡◌, ◌≤◌, true};
-ghost use Rattle.fv_base.specs.declared.limits.TheConstants.{MOST_CHANNELS};
-ghost use Rattle.fv_num.specs.headline.Words.{is_sample_width};
+ghost use Rattle.fv_au.specs.Limits.TheConstants.{MOST_CHANNELS};
+ghost use Rattle.fv_au.specs.Words.{is_sample_width};
 
 use crate::heads::{HEAD, THREE};
 use fv_au::{

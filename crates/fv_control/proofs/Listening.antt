@@ -4,7 +4,7 @@ use Rattle.std.specs.Prelude.{slice_set}
 use Rattle.std.specs.List.{AllByRecursion}
 use Rattle.std.proofs.lemmas.List.{take_more}
 use Rattle.fv_base.proofs.Lists.{table_items, table_same}
-use Rattle.fv_num.specs.headline.Frames.{Frame, table}
+use Rattle.fv_diagram.specs.Frames.{Frame, table}
 use Rattle.fv_control.specs.declared.script.Change.{Change}
 use Rattle.fv_control.specs.Laws.{NeverFall, Held, applied}
 use Rattle.fv_control.specs.headline.Streams.{control_streams}

@@ -1,6 +1,6 @@
 -- Laws of the control streams.
 use Rattle.std.specs.Prelude.{◌≡◌, ℕ, ◌<◌, ◌≤◌, true, List, [], ◌∷◌, length, take, drop, slice_set, slice_index_or, ◌++◌, Some, Ok, ℤ, pos}
-use Rattle.fv_num.specs.headline.Words.{argument}
+use Rattle.fv_diagram.specs.Words.{argument}
 use Rattle.fv_diagram.specs.declared.control.ControlInfo.{ControlInfo}
 use Rattle.fv_control.specs.headline.Script.{script, is_within, no_control, Request, request_of, frame_of, value_of}
 use Rattle.std.specs.List.{AllByRecursion}

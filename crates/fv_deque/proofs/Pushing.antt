@@ -3,8 +3,8 @@ use Rattle.std.proofs.Common.{◌≡◌, ℕ, ◌+◌, ◌<◌, ◌≤◌, List,
 use Rattle.std.proofs.Common.{IfErr, length-append}
 use mathlib.Core.Logic.{dite}
 use native.Mathlib.Decide.{ℕ_discrete}
-use Rattle.fv_outside.specs.headline.Tasks.{bit}
-use Rattle.fv_outside.specs.Tasks.{times}
+use Rattle.fv_graph.specs.Tasks.{bit}
+use Rattle.fv_graph.specs.TasksBeside.{times}
 use Rattle.fv_graph.proofs.Counts.{bit_same, bit_apart, total_append}
 use Rattle.fv_graph_core.proofs.Few.{fewer}
 use Rattle.fv_deque.specs.declared.rule.Account.{Account}

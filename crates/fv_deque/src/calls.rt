@@ -1,7 +1,7 @@
 // What a worker does with its deque, and with its holds on others.
 
 ghost use Rattle.std.specs.Prelude.{◌≡◌, ℕ, ◌+◌, ◌-◌, ◌<◌, true, [], ◌∷◌, ◌++◌, IfOk, IfErr, MatchOption};
-ghost use Rattle.fv_outside.specs.Tasks.{times};
+ghost use Rattle.fv_graph.specs.TasksBeside.{times};
 ghost use Rattle.fv_deque.specs.Balance.{account};
 ghost use Rattle.fv_deque.specs.Deques.{account_of, room_of, lies_at, taken_by, robs};
 

@@ -1,8 +1,8 @@
 -- The numbers of a head, one more at a time.
 use Rattle.std.proofs.Common.{length, ◌≡◌, ℕ, ◌+◌, List, [], ◌∷◌, ◌++◌, map, replicate, refl, sym, ap, subst, ◌∙◌, arith, ℤ}
 use Rattle.std.proofs.lemmas.List.{length-map, length-replicate, nil_from_length, map-append, replicate-append-replicate}
-use Rattle.fv_num.specs.headline.Words.{argument}
-use Rattle.fv_num.specs.headline.Frames.{Frame, column}
+use Rattle.fv_diagram.specs.Words.{argument}
+use Rattle.fv_diagram.specs.Frames.{Frame, column}
 use Rattle.fv_diagram.specs.headline.Diagram.{Diagram}
 use Rattle.fv_diagram.specs.Diagram.{control_bound}
 use Rattle.fv_diagram.specs.Laws.{AnswersAlike, AnswersEach, AnswersOneMore}

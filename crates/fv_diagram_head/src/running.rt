@@ -1,7 +1,7 @@
 // A table's size and its numbers, by running its head.
 
 ghost use Rattle.std.specs.Prelude.{◌≡◌, ◌<◌, true, length, IfOk};
-ghost use Rattle.fv_num.specs.headline.Words.{argument};
+ghost use Rattle.fv_diagram.specs.Words.{argument};
 ghost use Rattle.fv_diagram.specs.headline.Diagram.{outputs};
 ghost use Rattle.fv_diagram.specs.Composed.{IsComposed};
 ghost use Rattle.fv_diagram.specs.Arena.{count_of, tree_of};

@@ -1,6 +1,6 @@
 -- An engine's frames and controls: what counts is before their end.
 use Rattle.std.proofs.Common.{◌+◌, length, refl, ◌∙◌, pos}
-use Rattle.fv_num.specs.headline.Frames.{back}
+use Rattle.fv_signal.specs.Frames.{back}
 use Rattle.fv_base.proofs.Lists.{table_same}
 use Rattle.fv_signal.specs.headline.Value.{value}
 use Rattle.fv_signal.proofs.Solutions.{values_look_back}

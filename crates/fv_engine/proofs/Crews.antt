@@ -10,7 +10,7 @@ use Rattle.fv_engine.specs.inner.Opening.{opening_over}
 use Rattle.fv_lines.specs.Solo.{held_at, history_at, opening_lanes, AreHeld, AreFramed}
 use Rattle.fv_lines.specs.declared.shape.LaneShape.{LaneShape}
 use Rattle.fv_lines.specs.declared.shape.LaneState.{LaneState}
-use Rattle.fv_lines_cut.specs.Cut.{lengths_by}
+use Rattle.fv_engine_crew.specs.Cut.{lengths_by}
 use Rattle.fv_split_plan.specs.headline.View.{PlanView}
 use Rattle.fv_engine_tasks.specs.Block.{IsReal}
 use Rattle.fv_engine_crew.specs.Spread.{block_in, MayRunOver}

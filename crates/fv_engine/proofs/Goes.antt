@@ -1,14 +1,14 @@
 -- A block leads from an engine that stands for its frames to one that does.
 use Rattle.std.proofs.Common.{◌≡◌, ℕ, ◌+◌, ◌*◌, ◌<◌, ◌≤◌, List, length, sym, ap, ◌∙◌, subst, arith, ℤ}
-use Rattle.fv_num.specs.headline.Words.{argument}
-use Rattle.fv_num.specs.headline.Frames.{Frame, Stream, table, rows}
+use Rattle.fv_signal.specs.Words.{argument}
+use Rattle.fv_signal.specs.Frames.{Frame, Stream, table, rows}
 use Rattle.fv_base.proofs.Lists.{table_same}
 use Rattle.fv_signal.specs.headline.Value.{Graph, value}
 use Rattle.fv_analysis.proofs.StandLemmas.{stands_alike}
 use Rattle.fv_loopcode.specs.headline.State.{State, list_at}
 use Rattle.fv_outside.specs.headline.Tasks.{Tasks}
 use Rattle.fv_outside.specs.declared.gate.Line.{Line}
-use Rattle.fv_split_components.specs.headline.Reach.{at}
+use Rattle.fv_split_plan.specs.Reach.{at}
 use Rattle.fv_split_plan.specs.headline.Plans.{PlanStands}
 use Rattle.fv_engine_tasks.specs.headline.Block.{vectors_of}
 use Rattle.fv_engine_tasks.specs.Block.{HoldUpTo}

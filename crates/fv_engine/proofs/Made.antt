@@ -9,7 +9,7 @@ use Rattle.std.proofs.lemmas.List.{get_or-replicate, length-map}
 use Rattle.std.proofs.lemmas.List.Elements.{All-take, All-drop, All-append, All-replicate}
 use Rattle.std.proofs.lemmas.Nat.{le-div}
 use Rattle.std.proofs.Math.Nat.{div-mul-le_self}
-use Rattle.fv_num.specs.headline.Frames.{Stream, back, table}
+use Rattle.fv_signal.specs.Frames.{Stream, back, table}
 use Rattle.fv_base.proofs.Lists.{table_same, table_items}
 use Rattle.fv_outside.specs.headline.Tasks.{reads_loop}
 use Rattle.fv_outside.specs.declared.tasks.Reads.{Reads}

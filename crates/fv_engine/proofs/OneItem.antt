@@ -1,8 +1,8 @@
 -- Cells of one item.
 use Rattle.std.proofs.Common.{◌≡◌, ℕ, ◌<◌, ℤ, pos, negsuc, List, [], ◌∷◌, refl, sym, ap, ◌∙◌, subst, arith}
 use Rattle.std.specs.Prelude.{slice_set}
-use Rattle.fv_num.specs.headline.Words.{argument}
-use Rattle.fv_num.specs.headline.Tables.{place, read_at, written}
+use Rattle.fv_signal.specs.Words.{argument}
+use Rattle.fv_signal.specs.Tables.{place, read_at, written}
 use Rattle.fv_loopcode.specs.headline.State.{list_at}
 
 -- each index means the one place

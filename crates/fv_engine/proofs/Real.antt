@@ -1,8 +1,8 @@
 -- A block may run since its engine stands for something, and the engine stands for something afterwards.
 use Rattle.std.proofs.Common.{ℕ, ◌+◌, List, length, sym, arith, ℤ, nat_lt, lt-ltb}
 use Rattle.std.proofs.lemmas.Bool.{cond-true, cond-false, le-ltb}
-use Rattle.fv_num.specs.headline.Words.{argument}
-use Rattle.fv_num.specs.headline.Frames.{Stream}
+use Rattle.fv_signal.specs.Words.{argument}
+use Rattle.fv_signal.specs.Frames.{Stream}
 use Rattle.fv_loopcode.specs.headline.State.{State}
 use Rattle.fv_engine_tasks.specs.Block.{IsReal}
 use Rattle.fv_engine.specs.inner.Plans.{NamesThere}

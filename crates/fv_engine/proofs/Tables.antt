@@ -1,8 +1,8 @@
 -- Still code that reads tables that are there may run.
 use Rattle.std.proofs.Common.{◌≡◌, ℕ, ◌+◌, List, [], ◌∷◌, ◌++◌, map, take, subst, arith, ℤ, All}
 use Rattle.std.proofs.lemmas.List.Elements.{All-head, All-tail}
-use Rattle.fv_num.specs.headline.Words.{argument, apply_of, inputs_of}
-use Rattle.fv_num.specs.headline.Tables.{read_at}
+use Rattle.fv_signal.specs.Words.{argument, apply_of, inputs_of}
+use Rattle.fv_signal.specs.Tables.{read_at}
 use Rattle.fv_loopcode.specs.declared.step.Step.{Step}
 use Rattle.fv_loopcode.specs.declared.step.Step.TheVariants as step
 use Rattle.fv_loopcode.specs.headline.State.{list_at}

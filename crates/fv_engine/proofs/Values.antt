@@ -4,9 +4,9 @@ use Rattle.std.proofs.Common.{zero, suc, ◌∙◌, ap₂, subst, arith, get_or,
 use Rattle.std.proofs.lemmas.Bool.{cases_lt, ltb-true, eqb-true, cond-true, cond-false, le-leb, lt-leb}
 use Rattle.std.proofs.lemmas.List.{get_or-append-add, get_or_append_left, get_or-drop, length-append, length-drop}
 use Rattle.std.proofs.Math.ListN.{get_or-eq_default}
-use Rattle.fv_num.specs.headline.Words.{argument}
-use Rattle.fv_num.specs.headline.Frames.{Frame, Stream, column, back, table, rows}
-use Rattle.fv_num.specs.headline.Tables.{written, after}
+use Rattle.fv_signal.specs.Words.{argument}
+use Rattle.fv_signal.specs.Frames.{Frame, Stream, column, back, table, rows}
+use Rattle.fv_signal.specs.Tables.{written, after}
 use Rattle.fv_base.proofs.Lists.{get_or_table, length_table, table_same, table_items}
 use Rattle.fv_signal.specs.declared.signal.Signal.{Signal}
 use Rattle.fv_signal.specs.declared.signal.Signal.TheVariants as signal

@@ -6,3 +6,5 @@ pub mod Made
 pub mod Told
 pub mod Stored
 pub mod inner
+-- what it hands on of crates below
+pub use Rattle.fv_engine_tasks.specs.headline.Block

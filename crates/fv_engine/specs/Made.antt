@@ -1,6 +1,6 @@
 -- What an engine is made of.
 use Rattle.std.specs.Prelude.{◌≡◌, ℕ, ◌<◌, List, length, take, ℤ}
-use Rattle.fv_num.specs.headline.Frames.{Stream}
+use Rattle.fv_signal.specs.Frames.{Stream}
 use Rattle.fv_outside.specs.headline.Tasks.{reads_loop}
 use Rattle.fv_graph.specs.Graph.{Graph}
 use Rattle.fv_pool.specs.Layout.{part}
@@ -14,7 +14,7 @@ use Rattle.fv_loopcode.specs.headline.State.{list_at}
 use Rattle.fv_split_plan.specs.headline.View.{PlanView, lane_info, cells_info}
 use Rattle.fv_split_plan.specs.Rows.{lists_of}
 use Rattle.fv_engine_tasks.specs.Jobs.{RegistersFit, RowsFit}
-use Rattle.fv_engine_parcels.specs.Contents.{parts_of}
+use Rattle.fv_engine_crew.specs.Contents.{parts_of}
 use Rattle.fv_engine.specs.Past.{past}
 use Rattle.fv_engine.specs.declared.lanes.Lanes.{Lanes}
 use Rattle.fv_engine.specs.declared.runner.TaskRunner.{TaskRunner}

@@ -1,6 +1,6 @@
 -- The past of a stream.
 use Rattle.std.specs.Prelude.{ℕ, ◌+◌, List, ℤ, pos}
-use Rattle.fv_num.specs.headline.Frames.{Stream, back, table}
+use Rattle.fv_signal.specs.Frames.{Stream, back, table}
 
 -- the last so many numbers of a stream before time t, 0 before time 0
 abbrev pub past : (history : ℕ) → Stream → (t : ℕ) → List ℤ

@@ -1,8 +1,8 @@
 -- When an engine stands for frames and controls (this project's profile).
 use Rattle.std.specs.Prelude.{◌≡◌, ℕ, ◌+◌, ◌<◌, ◌≤◌, List, ◌++◌, length, take, drop, slice_index, slice_index_or, ℤ}
 use Rattle.std.specs.Prelude.{nat_lt, if◌then◌else◌}
-use Rattle.fv_num.specs.headline.Words.{argument}
-use Rattle.fv_num.specs.headline.Frames.{Frame, Stream, table, rows}
+use Rattle.fv_signal.specs.Words.{argument}
+use Rattle.fv_signal.specs.Frames.{Frame, Stream, table, rows}
 use Rattle.fv_signal.specs.headline.Value.{Graph, value}
 use Rattle.fv_loopcode.specs.headline.Lanes.{lane_of}
 use Rattle.fv_loopcode.specs.headline.State.{State, list_at}

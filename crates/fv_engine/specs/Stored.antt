@@ -9,7 +9,7 @@ use Rattle.fv_split_plan.specs.headline.View.{PlanView, code_of}
 use Rattle.fv_split_plan.specs.Rows.{lists_of}
 use Rattle.fv_engine_tasks.specs.headline.Block.{vectors_of}
 use Rattle.fv_engine_tasks.specs.Jobs.{RegistersFit, RowsFit}
-use Rattle.fv_engine_parcels.specs.Contents.{parts_of}
+use Rattle.fv_engine_crew.specs.Contents.{parts_of}
 use Rattle.fv_engine.specs.Stands.{EngineView, Standing}
 use Rattle.fv_engine.specs.Crews.{IsCrewOf}
 use Rattle.fv_engine.specs.Made.{AreShapes, AreTasksOf}

@@ -2,7 +2,7 @@
 
 ghost use Rattle.std.specs.Prelude.{◌≡◌, ℕ, ◌*◌, ◌++◌, ◌∷◌, [], ◌<◌, ◌≤◌, length, slice_index, false, IfOk, IfSome, IsSome, Some};
 ghost use Rattle.fv_base.specs.declared.limits.TheConstants.{DELAY_BUDGET, MOST_BLOCK, MOST_CHANNELS, MOST_VECTORS};
-ghost use Rattle.fv_num.specs.headline.Frames.{Stream};
+ghost use Rattle.fv_signal.specs.Frames.{Stream};
 ghost use Rattle.fv_signal.specs.headline.Value.{Graph};
 ghost use Rattle.fv_outside.specs.headline.Journal.{Told, BlockEntry};
 ghost use Rattle.fv_outside.specs.Journal.{room_after};

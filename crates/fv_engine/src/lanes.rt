@@ -36,7 +36,7 @@ pub(crate) struct Lanes {
 impl Lanes {
     ghost use Rattle.std.specs.Prelude.{◌≡◌, ◌*◌, ◌<◌, [], length, All, IfSome, true, false};
     ghost use Rattle.fv_engine_tasks.specs.Jobs.{block_of};
-    ghost use Rattle.fv_engine_parcels.specs.Contents.{parts_of};
+    ghost use Rattle.fv_engine_crew.specs.Contents.{parts_of};
     ghost use Rattle.fv_engine.specs.Crews.{IsCrewOf};
     ghost use Rattle.fv_engine.specs.inner.Opening.{opening_of, MayRun, RanOver, AreSameLanes, IsSameRunner};
 

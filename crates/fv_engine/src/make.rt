@@ -7,7 +7,7 @@ ghost use Rattle.fv_split_plan.specs.headline.View.{lane_info, cells_info};
 ghost use Rattle.fv_split_plan.specs.Rows.{lists_of};
 ghost use Rattle.fv_engine_tasks.specs.headline.Block.{vectors_of};
 ghost use Rattle.fv_engine_tasks.specs.Jobs.{RegistersFit};
-ghost use Rattle.fv_engine_parcels.specs.Contents.{parts_of};
+ghost use Rattle.fv_engine_crew.specs.Contents.{parts_of};
 ghost use Rattle.fv_engine.specs.Made.{AreShapes, AreLanes, BeginAsTables, IsRunner};
 
 use crate::lanes::Lanes;

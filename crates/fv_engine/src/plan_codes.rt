@@ -11,7 +11,7 @@ pub struct PlanCodes<'p> {
 }
 
 impl Codes for PlanCodes<'_> {
-    ghost use Rattle.fv_engine_parcels.specs.Contents.{parts_of};
+    ghost use Rattle.fv_engine_crew.specs.Contents.{parts_of};
 
     ghost parts = { λ c. parts_of c.plan.now };
 

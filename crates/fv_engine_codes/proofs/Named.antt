@@ -1,9 +1,9 @@
 -- What a loop's code names is there, and its lanes have places.
 use Rattle.std.proofs.Common.{◌≡◌, ℕ, zero, suc, ◌<◌, List, [], ◌∷◌, ◌++◌, length, arith, Bool, true, ℤ, pos, inl, inr}
 use Rattle.std.specs.Prelude.{All}
-use Rattle.fv_num.specs.headline.Words.{argument}
-use Rattle.fv_num.specs.headline.Frames.{Frame, Stream, column}
-use Rattle.fv_signal.specs.headline.Value.{value}
+use Rattle.fv_loopcode.specs.Words.{argument}
+use Rattle.fv_loopcode.specs.Frames.{Frame, Stream, column}
+use Rattle.fv_split_plan.specs.Value.{value}
 use Rattle.fv_loopcode.specs.declared.step.Step.{Step}
 use Rattle.fv_loopcode.specs.declared.step.Step.TheVariants as step
 use Rattle.fv_loopcode.specs.headline.State.{Finds}

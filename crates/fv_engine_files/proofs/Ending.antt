@@ -11,9 +11,9 @@ use Rattle.std.proofs.lemmas.Grind.{flat_map-append}
 use Rattle.fv_base.proofs.Lists.{length_table, prefix_trans}
 use Rattle.fv_base.specs.headline.Lists.{IsPrefixOf}
 use Rattle.fv_base.specs.declared.role.Role.TheVariants.{Input}
-use Rattle.fv_num.specs.headline.Frames.{Frame, Stream, rows}
+use Rattle.fv_diagram.specs.Frames.{Frame, Stream, rows}
 use Rattle.fv_outside.specs.headline.Desk.{DeskState}
-use Rattle.fv_tape.specs.Acts.{Act, Beginning, Hearing, Saying}
+use Rattle.fv_file_tape.specs.Acts.{Act, Beginning, Hearing, Saying}
 use Rattle.fv_pcm.specs.declared.coding.Coding.{Coding}
 use Rattle.fv_pcm.specs.headline.Coded.{sample_bytes, frame_bytes}
 use Rattle.fv_pcm.specs.headline.Sizes.{frame_size, stated_frames, present, whole_bytes}

@@ -6,7 +6,7 @@ use Rattle.std.specs.Option.{ForSome}
 use Rattle.std.proofs.Math.Nat.{mul_assoc, mul_comm, div-le_of_le-mul}
 use Rattle.std.proofs.lemmas.List.{take_at}
 use Rattle.fv_base.proofs.Lists.{length_table}
-use Rattle.fv_num.specs.headline.Frames.{Frame, table, rows}
+use Rattle.fv_diagram.specs.Frames.{Frame, table, rows}
 use Rattle.fv_pcm.specs.Coded.{samples_in}
 use Rattle.fv_pcm.specs.headline.Sizes.{frame_size, stated_frames, whole_bytes, present}
 use Rattle.fv_pcm.specs.Sizes.{SamplesFollow, frames_in}

@@ -2,13 +2,13 @@
 use Rattle.std.specs.Prelude.{◌≡◌, ◌⊎◌, ℕ, ◌+◌, ◌*◌, ◌<◌, ◌≤◌, IsTrue, IsSome, List, [], ◌++◌, length, take, drop, flat_map, Option, Some, None}
 use Rattle.fv_base.specs.declared.role.Role.TheVariants.{Input, Output}
 use Rattle.fv_base.specs.headline.Lists.{IsPrefixOf}
-use Rattle.fv_num.specs.headline.Frames.{Frame, Stream, table}
+use Rattle.fv_diagram.specs.Frames.{Frame, Stream, table}
 use Rattle.fv_outside.specs.headline.Desk.{DeskState, KeepsFaults}
 use Rattle.fv_outside.specs.Desk.{KeepsFaultsBut}
 use Rattle.fv_pcm.specs.headline.Coded.{frame_bytes}
 use Rattle.fv_pcm.specs.headline.Sizes.{Layout, frame_size}
 use Rattle.fv_pcm.specs.Sizes.{frames_in}
-use Rattle.fv_wav.specs.Stopping.{IsFaultOfInput}
+use Rattle.fv_file_tape.specs.Stopping.{IsFaultOfInput}
 use Rattle.fv_diagram.specs.headline.Diagram.{Diagram}
 use Rattle.fv_diagram.specs.headline.Streams.{run}
 use Rattle.fv_diagram.specs.headline.Samples.{no_slots}

@@ -8,7 +8,7 @@ use Rattle.fv_split_plan.specs.headline.View.{PlanView}
 use Rattle.fv_engine_lanes.specs.Cells.{AreCellsPlaced, cells_of}
 use Rattle.fv_engine_lanes.specs.declared.loop_cells.CellPlaces.{CellPlaces}
 use Rattle.fv_engine_lanes.specs.declared.loop_cells.LoopCells.{LoopCells}
-use Rattle.fv_pool.specs.declared.loan.Halves.{Halves}
+use Rattle.fv_lines.specs.Halves.{Halves}
 use Rattle.fv_lines.specs.Seen.{lane_seen}
 use Rattle.fv_lines.specs.Writer.{list_of, part_of, outer_of, written_by, frames_of, shape_of}
 use Rattle.fv_lines.specs.declared.shape.LaneShape.{LaneShape}

@@ -1,7 +1,7 @@
 -- A plan as its loops see it (this project's profile).
 use Rattle.std.specs.Prelude.{◌≡◌, ℕ, List, ◌++◌, length, map, ◌==◌}
 use Rattle.std.specs.List.{flat_map}
-use Rattle.fv_outside.specs.headline.Tasks.{Tasks}
+use Rattle.fv_split_plan.specs.TasksBeside.{Tasks}
 use Rattle.fv_graph.specs.Words.{passing}
 use Rattle.fv_graph.specs.Graph.{pair_at}
 use Rattle.fv_loopcode.specs.declared.step.Step.{Step}

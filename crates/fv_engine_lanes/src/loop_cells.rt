@@ -1,7 +1,7 @@
 // The tables and cells of one loop.
 
 ghost use Rattle.std.specs.Prelude.{◌≡◌, length, slice_set};
-ghost use Rattle.fv_num.specs.headline.Tables.{read_at, written};
+ghost use Rattle.fv_loopcode.specs.Tables.{read_at, written};
 ghost use Rattle.fv_loopcode.specs.headline.State.{list_at};
 ghost use Rattle.fv_loopcode.specs.Code.{HasItems};
 ghost use Rattle.fv_split_plan.specs.Rows.{lists_of};

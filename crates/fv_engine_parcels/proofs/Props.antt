@@ -7,7 +7,7 @@ use Rattle.std.proofs.Math.Logic.{∥∥₁_elim}
 use Rattle.std.proofs.Math.Nat.{ℕ_set}
 use Rattle.std.proofs.Math.IntN.{ℤ_set}
 use mathlib.Core.List.{is_set}
-use Rattle.fv_num.specs.headline.Words.{argument}
+use Rattle.fv_loopcode.specs.Words.{argument}
 use Rattle.fv_loopcode.specs.declared.step.Step.{Step}
 use Rattle.fv_loopcode.specs.declared.step.Step.TheVariants as step
 use Rattle.fv_loopcode.specs.headline.Lanes.{Lane, lane_of}

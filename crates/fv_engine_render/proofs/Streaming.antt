@@ -13,7 +13,7 @@ use Rattle.fv_control.specs.headline.Streams.{control_streams}
 use Rattle.fv_signal.specs.headline.Value.{Graph}
 use Rattle.fv_signal.specs.Value.{ValuesLookBack}
 use Rattle.fv_split_plan.specs.headline.Plans.{PlanStands}
-use Rattle.fv_engine_tasks.specs.headline.Block.{vectors_of}
+use Rattle.fv_engine.specs.Block.{vectors_of}
 use Rattle.fv_engine.specs.Stands.{AreGiven, EngineView, GoesOn, SameParts, StandsFor, played}
 use Rattle.fv_engine_render.specs.headline.Blocks.{AreBlocks, RanBlocks, block_at, loop_runs_of}
 use Rattle.fv_engine_render.specs.inner.Plans.{AreNumbers}

@@ -9,7 +9,7 @@ use Rattle.fv_outside.specs.headline.Tasks.{Tasks}
 use Rattle.fv_outside.specs.Tasks.{task_count}
 use Rattle.fv_outside.specs.headline.Journal.{BlockEntry, Room, Told, IsOrdered}
 use Rattle.fv_outside.specs.Journal.{room_after}
-use Rattle.fv_engine_tasks.specs.headline.Block.{vectors_of}
+use Rattle.fv_engine.specs.Block.{vectors_of}
 use Rattle.fv_engine.specs.Stands.{EngineView, SameParts}
 use Rattle.fv_engine.specs.Told.{IsEntry, HasRoomForBlock, tasks_told}
 use Rattle.fv_engine_render.specs.headline.Blocks.{AreEntries, HasRoomForRun, RanBlocks, StillTells, loop_runs_of}

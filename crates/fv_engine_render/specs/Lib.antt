@@ -6,3 +6,5 @@ pub mod Stops
 pub mod SideBySide
 pub mod Examples
 pub mod inner
+-- what it hands on of crates below
+pub use Rattle.fv_interval.specs.headline.Controls

@@ -3,7 +3,7 @@ use Rattle.std.specs.Prelude.{ℕ, ◌<◌, ◌≤◌, [], length}
 use Rattle.fv_base.specs.declared.limits.TheConstants.{DELAY_BUDGET}
 use Rattle.fv_num.specs.headline.Frames.{Stream}
 use Rattle.fv_signal.specs.headline.Value.{Graph}
-use Rattle.fv_loopcode.specs.headline.Code.{NamesHeld, NamesInput}
+use Rattle.fv_split_plan.specs.Code.{NamesHeld, NamesInput}
 use Rattle.fv_split_plan.specs.headline.View.{PlanView, lane_info, code_of}
 use Rattle.fv_split_plan.specs.headline.Plans.{PlanStands, IsPlanOf}
 use Rattle.fv_engine.specs.Stands.{EngineView, StandsFor}

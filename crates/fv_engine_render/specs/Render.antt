@@ -13,7 +13,7 @@ use Rattle.fv_interval.specs.headline.Delays.{delays_of}
 use Rattle.fv_interval.specs.Delays.{AreAccepted}
 use Rattle.fv_interval.specs.headline.Controls.{spans_of}
 use Rattle.fv_signal.specs.headline.Value.{Graph}
-use Rattle.fv_engine_tasks.specs.headline.Block.{vectors_of}
+use Rattle.fv_engine.specs.Block.{vectors_of}
 use Rattle.fv_engine_render.specs.headline.Plans.{IsGraphOf}
 use Rattle.fv_engine_render.specs.declared.blocks.RunSizes.{RunSizes}
 use Rattle.fv_engine_render.specs.declared.blocks.Ran.{Ran}

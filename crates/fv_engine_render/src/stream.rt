@@ -4,7 +4,7 @@ ghost use Rattle.std.specs.Prelude.{ℕ, ℤ, List, ◌≡◌, ◌*◌, ◌<◌,
 ghost use Rattle.std.specs.List.{AllByRecursion};
 ghost use Rattle.fv_outside.specs.headline.Journal.{Told};
 ghost use Rattle.fv_tape.specs.Acts.{Act};
-ghost use Rattle.fv_loopcode.specs.headline.Code.{NamesHeld};
+ghost use Rattle.fv_split_plan.specs.Code.{NamesHeld};
 ghost use Rattle.fv_control.specs.Laws.{NeverFall};
 ghost use Rattle.fv_control.specs.headline.Streams.{control_streams};
 ghost use Rattle.fv_engine.specs.Stands.{SameParts};

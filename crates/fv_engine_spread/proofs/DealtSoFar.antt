@@ -2,7 +2,7 @@
 use Rattle.std.proofs.Common.{◌≡◌, ℕ, ◌+◌, ◌<◌, ◌≤◌, List, [], ◌∷◌, ◌++◌, length, map, set, get_or, refl, sym, ap, ◌∙◌, subst, arith, vec_capacity}
 use Rattle.std.specs.Global.{Box}
 use Rattle.std.proofs.lemmas.List.{length-append, map-append}
-use Rattle.fv_outside.specs.headline.Tasks.{Tasks}
+use Rattle.fv_split_plan.specs.TasksBeside.{Tasks}
 use Rattle.fv_graph.proofs.Counts.{get_set}
 use Rattle.fv_split_plan.specs.headline.View.{PlanView, lane_info}
 use Rattle.fv_lines.specs.declared.writer.LaneWriter.{LaneWriter}

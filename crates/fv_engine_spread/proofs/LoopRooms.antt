@@ -4,7 +4,7 @@ use Rattle.std.specs.Global.{Box}
 use Rattle.std.proofs.lemmas.Bool.{cases_lt}
 use Rattle.std.proofs.lemmas.List.{get_or_append_left}
 use Rattle.std.proofs.Math.Seq.{get_or-append_seam}
-use Rattle.fv_outside.specs.headline.Tasks.{Tasks}
+use Rattle.fv_split_plan.specs.TasksBeside.{Tasks}
 use Rattle.fv_split_plan.specs.headline.View.{PlanView, code_of}
 use Rattle.fv_engine_lanes.specs.Plans.{own_lanes, sources_of, lanes_of_all, readers_of}
 use Rattle.fv_engine_lanes.specs.declared.loop_cells.CellPlaces.{CellPlaces}

@@ -9,10 +9,10 @@ use Rattle.std.proofs.Math.Nat.{min-eq_left}
 use Rattle.fv_graph.proofs.Counts.{both_of}
 use Rattle.fv_graph.proofs.Grouping.{get_any}
 use Rattle.fv_graph.proofs.ReadsLemmas.{get_passing}
-use Rattle.fv_loopcode.specs.headline.Lanes.{no_lane}
-use Rattle.fv_loopcode.specs.headline.Obeys.{OfLane, OfCells}
-use Rattle.fv_loopcode.specs.headline.State.{list_at}
-use Rattle.fv_loopcode.specs.Obeys.{HoldsJust}
+use Rattle.fv_loopcode_machine.specs.Lanes.{no_lane}
+use Rattle.fv_split_plan.specs.Obeys.{OfLane, OfCells}
+use Rattle.fv_loopcode_machine.specs.State.{list_at}
+use Rattle.fv_split_plan.specs.ObeysBeside.{HoldsJust}
 use Rattle.fv_split_plan.specs.headline.View.{PlanView, lane_info, cells_info, code_of, is_own}
 use Rattle.fv_split_plan.specs.Rows.{lists_of}
 use Rattle.fv_lines.specs.declared.seen.Seen.{Seen}

@@ -3,7 +3,7 @@ use Rattle.std.proofs.Common.{◌≡◌, ℕ, ◌<◌, List, [], length, map, ge
 use Rattle.std.specs.Prelude.{slice_index}
 use Rattle.std.specs.Global.{Box}
 use Rattle.std.proofs.lemmas.List.{get_or-map}
-use Rattle.fv_loopcode.specs.headline.State.{list_at}
+use Rattle.fv_loopcode_machine.specs.State.{list_at}
 use Rattle.fv_split_plan.specs.headline.View.{PlanView, cells_info}
 use Rattle.fv_split_plan.specs.Rows.{lists_of}
 use Rattle.fv_engine_lanes.specs.Cells.{by_number, cells_of}

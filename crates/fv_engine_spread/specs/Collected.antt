@@ -5,8 +5,8 @@ use Rattle.fv_graph.specs.Graph.{stride}
 use Rattle.fv_lines.specs.declared.writer.LaneWriter.{LaneWriter}
 use Rattle.fv_engine_parcels.specs.declared.start.Start.{Start}
 use Rattle.fv_engine_parcels.specs.declared.parcel.LoopParcel.{LoopParcel}
-use Rattle.fv_loopcode.specs.headline.State.{list_at}
-use Rattle.fv_loopcode.specs.Obeys.{Content}
+use Rattle.fv_loopcode_machine.specs.State.{list_at}
+use Rattle.fv_split_plan.specs.ObeysBeside.{Content}
 use Rattle.fv_split_plan.specs.Rows.{lists_of}
 use Rattle.fv_engine_parcels.specs.Contents.{tasks_in, upto, IsContentOf, IsWriterOf}
 use Rattle.fv_steal_block.specs.Parcels.{AreParcelsFrom}

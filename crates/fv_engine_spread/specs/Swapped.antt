@@ -2,7 +2,7 @@
 use Rattle.std.specs.Prelude.{◌≡◌, ℕ, ◌<◌, ◌≤◌, List, [], length, map, slice_index, slice_index_or, Vec, ℤ}
 use Rattle.std.specs.declared.alloc.Global.{Global}
 use Rattle.std.specs.Global.{Box}
-use Rattle.fv_loopcode.specs.headline.State.{list_at}
+use Rattle.fv_loopcode_machine.specs.State.{list_at}
 use Rattle.fv_split_plan.specs.headline.View.{PlanView, cells_info}
 use Rattle.fv_split_plan.specs.Rows.{lists_of}
 use Rattle.fv_engine_parcels.specs.declared.content.Writers.{Writers}

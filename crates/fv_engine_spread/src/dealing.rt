@@ -1,7 +1,7 @@
 // The lanes of a block go to their loops.
 
 ghost use Rattle.std.specs.Prelude.{◌≡◌, length};
-ghost use Rattle.fv_outside.specs.headline.Tasks.{Tasks};
+ghost use Rattle.fv_split_plan.specs.TasksBeside.{Tasks};
 ghost use Rattle.fv_engine_lanes.specs.declared.loop_cells.CellPlaces.{CellPlaces};
 ghost use Rattle.fv_engine_spread.specs.Dealt.{AreDealt};
 ghost use Rattle.fv_engine_spread.specs.Rooms.{AreRooms};

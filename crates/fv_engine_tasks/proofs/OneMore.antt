@@ -18,7 +18,7 @@ use Rattle.fv_loopcode.specs.headline.State.{State}
 use Rattle.fv_loopcode.specs.headline.Code.{ran}
 use Rattle.fv_loopcode.specs.Code.{MayRun, frame_of}
 use Rattle.fv_loopcode.specs.Obeys.{Content, IsLike}
-use Rattle.fv_num.specs.headline.Words.{argument}
+use Rattle.fv_loopcode.specs.Words.{argument}
 use Rattle.fv_loopcode.specs.Blocks.{AreApart, before, one_more, TaskIsFree}
 use Rattle.fv_engine_tasks.specs.Block.{Block, ObeysBlock, HoldUpTo, IsReal}
 use Rattle.fv_engine_tasks.specs.Events.{IsFree}

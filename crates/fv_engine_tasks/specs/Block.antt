@@ -1,6 +1,6 @@
 -- What calls say beside `headline/Block`: a block, by what determines its samples (this project's profile).
 use Rattle.std.specs.Prelude.{◌≡◌, ℕ, ◌<◌, List, ℤ}
-use Rattle.fv_num.specs.headline.Words.{argument}
+use Rattle.fv_loopcode.specs.Words.{argument}
 use Rattle.fv_loopcode.specs.headline.State.{State}
 use Rattle.fv_loopcode.specs.Code.{frame_of}
 use Rattle.fv_loopcode.specs.Obeys.{Content, ObeysAt}

@@ -1,7 +1,7 @@
 // The tasks of a block, one after another by one worker.
 
 ghost use Rattle.std.specs.Prelude.{◌≡◌, ℕ, suc, ◌+◌, ◌-◌, ◌*◌, ◌<◌, ◌≤◌, true, All, length, List, [], ◌∷◌, set, vec_capacity, Some, None};
-ghost use Rattle.fv_num.specs.headline.Words.{argument};
+ghost use Rattle.fv_loopcode.specs.Words.{argument};
 ghost use Rattle.fv_outside.specs.Tasks.{task_count};
 ghost use Rattle.fv_graph.specs.Graph.{net_of, feeds_of};
 ghost use Rattle.fv_graph_core.specs.Core.{is_legal, after, deque_of, is_done};

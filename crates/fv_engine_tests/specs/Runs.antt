@@ -2,7 +2,7 @@
 use Rattle.std.specs.Prelude.{◌≡◌, ℕ, ◌<◌, length}
 use Rattle.fv_signal.specs.declared.signal.Signal.{Signal}
 use Rattle.fv_signal.specs.declared.signal.Signal.TheVariants.{Input, Control}
-use Rattle.fv_loopcode.specs.headline.Code.{NamesHeld}
+use Rattle.fv_split_plan.specs.Code.{NamesHeld}
 use Rattle.fv_engine.specs.Stands.{EngineView}
 
 -- an engine for frames of so many numbers in and out, for blocks of so many frames and for so many controls

@@ -1,7 +1,7 @@
 // Rows of blocks.
 
 ghost use Rattle.std.specs.Prelude.{◌≡◌, ◌<◌, ◌≤◌, length};
-ghost use Rattle.fv_engine_tasks.specs.headline.Block.{vectors_of};
+ghost use Rattle.fv_engine.specs.Block.{vectors_of};
 ghost use Rattle.fv_engine_tests.specs.Runs.{IsSquare};
 
 use crate::engines::{Sizes, engine_of, play, play_graph};

@@ -1,7 +1,7 @@
 // Engines of graphs, and their runs.
 
 ghost use Rattle.std.specs.Prelude.{◌≡◌, ◌*◌, ◌^◌, ◌<◌, ◌≤◌, IfOk, IfSome, length};
-ghost use Rattle.fv_engine_tasks.specs.headline.Block.{vectors_of};
+ghost use Rattle.fv_engine.specs.Block.{vectors_of};
 ghost use Rattle.fv_engine_tests.specs.Runs.{IsSquare};
 
 use crate::may::{histories_beyond, names_beyond};

@@ -1,7 +1,7 @@
 // Tables that are read, and tables that are written, block by block.
 
 ghost use Rattle.std.specs.Prelude.{◌≤◌};
-ghost use Rattle.fv_engine_tasks.specs.headline.Block.{vectors_of};
+ghost use Rattle.fv_engine.specs.Block.{vectors_of};
 
 use crate::engines::{Sizes, play_graph};
 use fv_engine::NoMemory;

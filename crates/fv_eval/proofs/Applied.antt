@@ -2,7 +2,7 @@
 use Rattle.std.proofs.Common.{◌≡◌, ℕ, Bool, true, false, List, [], ◌∷◌, Some, None, refl, sym, ap, ◌∙◌}
 use Rattle.std.specs.Prelude.{nat_lt, if◌then◌else◌}
 use Rattle.std.proofs.lemmas.Option.{none-some}
-use Rattle.fv_lex.specs.headline.Token.{Lexed}
+use Rattle.fv_parse.specs.Token.{Lexed}
 use Rattle.fv_rules.specs.headline.Values.{Value, Flat, Abstraction, Rules, Bound, And, count_taken, in_order}
 use Rattle.fv_rules.specs.headline.Matching.{chosen}
 use Rattle.fv_rules.specs.headline.Steps.{State}

@@ -1,12 +1,12 @@
 -- How the forms begin.
 use Rattle.std.proofs.Common.{inr, ◌≡◌, ℕ, suc, ◌+◌, ◌<◌, List, [], ◌∷◌, length, drop, map, Result, Ok, Err, refl, sym, ap, subst, ◌∙◌, arith}
 use Rattle.std.specs.Prelude.{ℤ}
-use Rattle.fv_lex.specs.headline.Token.{Lexed}
+use Rattle.fv_parse.specs.Token.{Lexed}
 use Rattle.fv_parse_grammar.specs.headline.Tree.{Tree, items, start_of, End}
 use Rattle.fv_parse_grammar.specs.headline.Tree as tree
 use Rattle.fv_parse_grammar.specs.declared.form.Slider.{Slider as SliderKind}
-use Rattle.fv_parse_tree.specs.Arena.{forest, trees}
-use Rattle.fv_parse_tree.specs.declared.node.TreeId.{TreeId}
+use Rattle.fv_parse.specs.Arena.{forest, trees}
+use Rattle.fv_parse.specs.TreeId.{TreeId}
 use Rattle.fv_parse.specs.headline.Trees.{text_of, label_of}
 use Rattle.fv_parse.specs.Trees.{Parsed, size_of, tree_in}
 use Rattle.fv_rules.specs.declared.refusal.EvalRefusal.{EvalRefusal}

@@ -7,10 +7,10 @@ use Rattle.fv_parse_grammar.specs.headline.Tree as tree
 use Rattle.fv_parse_grammar.specs.declared.form.Operator.{Operator}
 use Rattle.fv_parse_grammar.specs.declared.form.Iteration.{Iteration as Repetition}
 use Rattle.fv_parse_grammar.specs.declared.form.Slider.{Slider as SliderKind}
-use Rattle.fv_parse_tree.specs.declared.node.TreeId.{TreeId}
-use Rattle.fv_parse_tree.specs.declared.node.TreeNode.{TreeNode}
-use Rattle.fv_parse_tree.specs.declared.node.TreeNode.TheVariants as nodes
-use Rattle.fv_parse_tree.specs.Arena.{forest, tree_of}
+use Rattle.fv_parse.specs.TreeId.{TreeId}
+use Rattle.fv_parse.specs.TreeNode.{TreeNode}
+use Rattle.fv_parse.specs.TreeNode.TheVariants as nodes
+use Rattle.fv_parse.specs.Arena.{forest, tree_of}
 use Rattle.fv_parse.specs.Trees.{Parsed, node_tree, tree_in}
 use Rattle.fv_eval.specs.inner.Continuations.{IsApplication, IsBinary, IsIteration, IsSlider, parameters_of}
 

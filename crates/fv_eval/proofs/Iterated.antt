@@ -16,7 +16,7 @@ use Rattle.fv_eval_scopes.specs.declared.value.Value.TheVariants as value
 use Rattle.fv_eval_scopes.specs.declared.value.Scope.TheVariants as scope
 use Rattle.fv_eval_scopes.specs.Environments.{Environments, with_scope}
 use Rattle.fv_rules.specs.headline.Values.{Flat, Env, Bound}
-use Rattle.fv_diagram_number.specs.headline.Numbers.{number_of}
+use Rattle.fv_rules.specs.Numbers.{number_of}
 use Rattle.fv_rules.specs.headline.Rules.{counted, gathered}
 use Rattle.fv_eval_scopes.specs.Shows.{Draws, IsNamed, ShowsEnv, ShowsTree}
 use Rattle.fv_eval_scopes.proofs.Grown.{env_grows}

@@ -2,7 +2,7 @@
 use Rattle.std.proofs.Common.{inl, inr, ◌≡◌, ℕ, List, Result, Ok, Err, refl, sym, ap, subst, ◌∙◌}
 use Rattle.fv_parse_grammar.specs.headline.Tree.{Tree}
 use Rattle.fv_parse.specs.Trees.{Parsed, tree_in, node_tree}
-use Rattle.fv_parse_tree.specs.declared.node.TreeNode.{TreeNode}
+use Rattle.fv_parse.specs.TreeNode.{TreeNode}
 use Rattle.fv_diagram.specs.headline.Diagram.{Diagram}
 use Rattle.fv_diagram.specs.Arena.{tree_of}
 use Rattle.fv_eval_drawing.specs.Makes.{AddsDiagrams, Canvas, Extends, Draws as IsDrawn, MakesValue}

@@ -1,11 +1,11 @@
 -- Nodes of other forms.
 use Rattle.std.proofs.Common.{◌≡◌, ℕ, List, [], ◌∷◌, None, Vec, refl}
 use Rattle.std.specs.declared.alloc.Global.{Global}
-use Rattle.fv_lex.specs.headline.Token.{Lexed}
-use Rattle.fv_parse_tree.specs.declared.node.TreeId.{TreeId}
-use Rattle.fv_parse_tree.specs.declared.node.TreeNode.{TreeNode}
-use Rattle.fv_parse_tree.specs.declared.node.TreeNode.TheVariants as nodes
-use Rattle.fv_parse_tree.specs.Arena.{tree_of, forest}
+use Rattle.fv_parse.specs.Token.{Lexed}
+use Rattle.fv_parse.specs.TreeId.{TreeId}
+use Rattle.fv_parse.specs.TreeNode.{TreeNode}
+use Rattle.fv_parse.specs.TreeNode.TheVariants as nodes
+use Rattle.fv_parse.specs.Arena.{tree_of, forest}
 use Rattle.fv_parse_grammar.specs.declared.form.Slider.{Slider as SliderKind}
 use Rattle.fv_parse_grammar.specs.headline.Tree.{Tree, End}
 use Rattle.fv_eval_scopes.specs.Shows.{body_in, parameters_in}

@@ -8,7 +8,7 @@ use Rattle.fv_parse_grammar.specs.headline.Tree as tree
 use Rattle.fv_parse_grammar.specs.declared.form.Operator.{Operator}
 use Rattle.fv_parse_grammar.specs.declared.form.Iteration.{Iteration as Repetition}
 use Rattle.fv_parse_grammar.specs.declared.form.Side.{Side}
-use Rattle.fv_num.specs.declared.op.Op.TheVariants as op
+use Rattle.fv_diagram.specs.Op.TheVariants as op
 use Rattle.fv_parse.specs.headline.Trees.{text_of}
 use Rattle.fv_parse.specs.Trees.{Parsed}
 use Rattle.fv_diagram.specs.declared.node.Primitive.TheVariants as prim
@@ -20,7 +20,7 @@ use Rattle.fv_rules.specs.declared.refusal.EvalRefusal.{EvalRefusal}
 use Rattle.fv_eval_scopes.specs.declared.value.Value as code_value
 use Rattle.fv_eval_scopes.specs.declared.value.Value.TheVariants as value
 use Rattle.fv_rules.specs.headline.Values.{Name, Value, Flat, Env}
-use Rattle.fv_diagram_number.specs.headline.Numbers.{number_of}
+use Rattle.fv_rules.specs.Numbers.{number_of}
 use Rattle.fv_rules.specs.headline.Steps.{Eval, put}
 use Rattle.fv_rules.specs.headline.Rules.{bind_all, counted, fed, flat, joined, operated, ports}
 use Rattle.fv_eval_scopes.specs.Shows.{World, Draws, ShowsTree, ShowsValues, ShowsEnv}

@@ -12,7 +12,7 @@ use Rattle.fv_rules.specs.declared.refusal.EvalRefusal.{EvalRefusal}
 use Rattle.fv_eval_scopes.specs.declared.value.Value.TheVariants as value
 use Rattle.fv_eval_scopes.specs.declared.value.Ruled.{Ruled}
 use Rattle.fv_rules.specs.headline.Values.{Value, Flat, Abstraction, Rules, Env}
-use Rattle.fv_diagram_number.specs.headline.Numbers.{number_of}
+use Rattle.fv_rules.specs.Numbers.{number_of}
 use Rattle.fv_rules.specs.headline.Matching.{value_number}
 use Rattle.fv_rules.specs.headline.Steps.{control, no_number}
 use Rattle.fv_rules.specs.headline.Rules.{flat, read_number, slider_info, slider_kind}

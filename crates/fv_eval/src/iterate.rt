@@ -8,7 +8,7 @@ ghost use Rattle.fv_parse.specs.Trees.{size_of, tree_in};
 ghost use Rattle.fv_diagram.specs.headline.Diagram.{Diagram};
 ghost use Rattle.fv_diagram.specs.Arena.{count_of};
 ghost use Rattle.fv_rules.specs.headline.Values.{Env, Name};
-ghost use Rattle.fv_diagram_number.specs.headline.Numbers.{number_of};
+ghost use Rattle.fv_rules.specs.Numbers.{number_of};
 ghost use Rattle.fv_rules.specs.headline.Steps.{no_number};
 ghost use Rattle.fv_rules.specs.headline.Rules.{counted};
 ghost use Rattle.fv_eval_scopes.specs.Shows.{Draws, ShowsEnv, ShowsTree};

@@ -10,15 +10,15 @@ use Rattle.std.proofs.lemmas.Bool.{and_parts, false≢true}
 use Rattle.std.proofs.lemmas.List.Elements.{filter_passes}
 use Rattle.std.proofs.lemmas.Option.{none-some, same_Some}
 use Rattle.std.proofs.lemmas.Slice.Eq.{bytes_eq-Decides}
-use Rattle.fv_lex.specs.headline.Token.{Lexed, texts_of}
+use Rattle.fv_parse.specs.Token.{Lexed, texts_of}
 use Rattle.fv_parse_grammar.specs.headline.Tree.{Tree, items, start_of}
 use Rattle.fv_parse_grammar.specs.headline.Tree as tree
 use Rattle.fv_parse.specs.headline.Trees.{text_of}
 use Rattle.fv_parse.specs.Trees.{Parsed, size_of, tree_in, first_named, first_with}
-use Rattle.fv_parse_tree.specs.Arena.{forest, tree_of}
-use Rattle.fv_parse_tree.specs.declared.node.TreeId.{TreeId}
-use Rattle.fv_parse_tree.specs.declared.node.TreeNode.{TreeNode}
-use Rattle.fv_parse_tree.specs.declared.node.TreeNode.TheVariants as nodes
+use Rattle.fv_parse.specs.Arena.{forest, tree_of}
+use Rattle.fv_parse.specs.TreeId.{TreeId}
+use Rattle.fv_parse.specs.TreeNode.{TreeNode}
+use Rattle.fv_parse.specs.TreeNode.TheVariants as nodes
 use Rattle.fv_eval_choosing.specs.declared.by_name.Defined.{Defined}
 use Rattle.fv_eval_scopes.specs.declared.value.Value.TheVariants as value
 use Rattle.fv_eval_scopes.specs.declared.value.Value as code_value

@@ -10,15 +10,15 @@ use Rattle.std.proofs.lemmas.List.Elements.{All-nil, All-cons, All-tail, filter-
 use Rattle.std.proofs.lemmas.List.{take_more, get_or_push, get_or_append_left, length_push}
 use Rattle.std.proofs.lemmas.List.Sorted.{All-permutation}
 use Rattle.std.proofs.lemmas.Slice.Eq.{bytes_eq-Decides}
-use Rattle.fv_lex.specs.headline.Token.{Lexed}
+use Rattle.fv_parse.specs.Token.{Lexed}
 use Rattle.fv_parse_grammar.specs.headline.Tree.{Tree, Constant, Function, End, items}
 use Rattle.fv_parse.specs.headline.Trees.{text_of}
 use Rattle.fv_parse.specs.Trees.{Parsed, size_of, tree_in, first_named}
 use Rattle.fv_parse.specs.Laws.{SameNumbersSameBytes}
-use Rattle.fv_parse_tree.specs.Arena.{tree_of, forest}
-use Rattle.fv_parse_tree.specs.declared.node.TreeId.{TreeId}
-use Rattle.fv_parse_tree.specs.declared.node.TreeNode.{TreeNode}
-use Rattle.fv_parse_tree.specs.declared.node.TreeNode.TheVariants as nodes
+use Rattle.fv_parse.specs.Arena.{tree_of, forest}
+use Rattle.fv_parse.specs.TreeId.{TreeId}
+use Rattle.fv_parse.specs.TreeNode.{TreeNode}
+use Rattle.fv_parse.specs.TreeNode.TheVariants as nodes
 use Rattle.fv_eval_choosing.specs.declared.by_name.Defined.{Defined}
 use Rattle.fv_rules.specs.headline.Values.{is_of}
 use Rattle.fv_eval_choosing.proofs.RuleNodes.{IsNoFunction, AreOfName}

@@ -5,18 +5,18 @@ use Rattle.std.specs.Ordering.{int_eq}
 use Rattle.std.proofs.lemmas.Bool.{eqb-false, false≢true}
 use Rattle.std.proofs.lemmas.Bool.Decides.{Decides-int_eq}
 use Rattle.std.proofs.lemmas.Option.{none-some, same_Some}
-use Rattle.fv_lex.specs.headline.Token.{Lexed}
-use Rattle.fv_num.specs.headline.Words.{wrap}
+use Rattle.fv_parse.specs.Token.{Lexed}
+use Rattle.fv_diagram.specs.Words.{wrap}
 use Rattle.fv_diagram.specs.headline.Diagram.{Diagram, Par, Seq, Split, Merge, Rec}
-use Rattle.fv_diagram_number.specs.headline.Numbers.{number_of}
+use Rattle.fv_rules.specs.Numbers.{number_of}
 use Rattle.fv_parse_grammar.specs.headline.Tree.{Tree}
 use Rattle.fv_parse_grammar.specs.headline.Tree as tree
 use Rattle.fv_parse_grammar.specs.declared.form.Operator.{Operator}
 use Rattle.fv_parse_grammar.specs.declared.form.Operator.TheVariants as operators
-use Rattle.fv_parse_tree.specs.Arena.{forest, tree_of}
-use Rattle.fv_parse_tree.specs.declared.node.TreeId.{TreeId}
-use Rattle.fv_parse_tree.specs.declared.node.TreeNode.{TreeNode}
-use Rattle.fv_parse_tree.specs.declared.node.TreeNode.TheVariants as nodes
+use Rattle.fv_parse.specs.Arena.{forest, tree_of}
+use Rattle.fv_parse.specs.TreeId.{TreeId}
+use Rattle.fv_parse.specs.TreeNode.{TreeNode}
+use Rattle.fv_parse.specs.TreeNode.TheVariants as nodes
 use Rattle.fv_rules.specs.headline.Values.{Rule, Value, Flat}
 use Rattle.fv_rules.specs.headline.Matching.{Bindings, and_then, is_number, parts_without, matched, all_matched}
 use Rattle.fv_eval_choosing.specs.declared.paths.Side.{Side}

@@ -8,10 +8,10 @@ use Rattle.fv_parse_grammar.specs.headline.Tree.{Tree, items}
 use Rattle.fv_parse.specs.headline.Trees.{text_of}
 use Rattle.fv_parse.specs.Trees.{Parsed, size_of, tree_in, first_named}
 use Rattle.fv_parse_grammar.specs.headline.Tree as tree
-use Rattle.fv_parse_tree.specs.Arena.{forest, tree_of}
-use Rattle.fv_parse_tree.specs.declared.node.TreeId.{TreeId}
-use Rattle.fv_parse_tree.specs.declared.node.TreeNode.{TreeNode}
-use Rattle.fv_parse_tree.specs.declared.node.TreeNode.TheVariants as nodes
+use Rattle.fv_parse.specs.Arena.{forest, tree_of}
+use Rattle.fv_parse.specs.TreeId.{TreeId}
+use Rattle.fv_parse.specs.TreeNode.{TreeNode}
+use Rattle.fv_parse.specs.TreeNode.TheVariants as nodes
 use Rattle.fv_eval_choosing.specs.declared.by_name.Defined.{Defined}
 use Rattle.fv_eval_scopes.specs.declared.value.Ruled.TheVariants as ruled
 use Rattle.fv_rules.specs.headline.Values.{Rule, rule_of, is_of}

@@ -7,7 +7,7 @@ use Rattle.std.proofs.lemmas.List.Elements.{All-append, All-cons, All-nil, filte
 use Rattle.std.proofs.lemmas.Option.{none-some, same_Some, slice_get-map, slice_get_within}
 use Rattle.fv_diagram.specs.Arena.{Arena, tree_of}
 use Rattle.fv_parse.specs.Trees.{Parsed, tree_in}
-use Rattle.fv_parse_tree.specs.declared.node.TreeId.{TreeId}
+use Rattle.fv_parse.specs.TreeId.{TreeId}
 use Rattle.fv_rules.specs.headline.Values.{Rule, Value, Flat, rule_of}
 use Rattle.fv_rules.specs.headline.Matching.{and_then}
 use Rattle.fv_eval_scopes.specs.declared.value.Value as code_value

@@ -1,6 +1,6 @@
 -- Rules that are left out since they do not match (this project's profile).
 use Rattle.std.specs.Prelude.{◌≡◌, ℕ, List, [], length, filter, All, Option, Some, None, true, false, slice_get}
-use Rattle.fv_lex.specs.headline.Token.{Lexed}
+use Rattle.fv_parse.specs.Token.{Lexed}
 use Rattle.fv_diagram.specs.Arena.{Arena}
 use Rattle.fv_rules.specs.headline.Values.{Rule, Value}
 use Rattle.fv_rules.specs.headline.Matching.{all_matched}

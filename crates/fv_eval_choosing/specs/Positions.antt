@@ -1,8 +1,8 @@
 -- What rules want at a position of their arguments (this project's profile).
 use Rattle.std.specs.Prelude.{◌≡◌, ◌⊎◌, ℕ, ◌+◌, ◌<◌, ℤ, pos, neg_ℤ, unsigned_abs, Bool, true, nat_eq, List, [], ◌∷◌, filter, Option, Some, None, slice_get}
-use Rattle.fv_num.specs.headline.Words.{wrap}
+use Rattle.fv_diagram.specs.Words.{wrap}
 use Rattle.fv_diagram.specs.headline.Diagram.{Diagram, Par, Seq, Split, Merge, Rec}
-use Rattle.fv_diagram_number.specs.headline.Numbers.{number_of}
+use Rattle.fv_rules.specs.Numbers.{number_of}
 use Rattle.fv_parse_grammar.specs.headline.Tree.{Tree}
 use Rattle.fv_parse_grammar.specs.headline.Tree as tree
 use Rattle.fv_parse_grammar.specs.declared.form.Operator.{Operator}

@@ -3,7 +3,7 @@
 ghost use Rattle.std.specs.Prelude.{ℕ, ◌≡◌, ◌<◌, All, IfOk, IfSome, Some, option_map, slice_get};
 ghost use Rattle.fv_diagram.specs.Composed.{IsComposed};
 ghost use Rattle.fv_diagram.specs.Arena.{Arena, count_of, tree_of, tree_with};
-ghost use Rattle.fv_diagram_number.specs.headline.Numbers.{number_of};
+ghost use Rattle.fv_rules.specs.Numbers.{number_of};
 ghost use Rattle.fv_parse.specs.Trees.{size_of, tree_in};
 ghost use Rattle.fv_rules.specs.headline.Values.{rule_of};
 ghost use Rattle.fv_eval_scopes.specs.Memo.{Remembers};

@@ -1,7 +1,7 @@
 // Which rules an argument leaves by what it is at one position.
 
 ghost use Rattle.std.specs.Prelude.{ℕ, ◌≡◌, ◌<◌, List, All, IfOk, IfSome, OnOk, Some, map, true, false, slice_get, filter, length};
-ghost use Rattle.fv_lex.specs.headline.Token.{Lexed};
+ghost use Rattle.fv_parse.specs.Token.{Lexed};
 ghost use Rattle.fv_parse.specs.Trees.{size_of, tree_in};
 ghost use Rattle.fv_rules.specs.headline.Values.{Rule, Value as PureValue, rule_of};
 ghost use Rattle.fv_eval_scopes.specs.Memo.{Remembers};

@@ -10,13 +10,13 @@ use Rattle.fv_diagram.specs.headline.Diagram.{Diagram}
 use Rattle.fv_diagram.specs.Composed.{IsComposed}
 use Rattle.fv_diagram.specs.Arena.{Arena, ChildrenBelow, count_of, tree_of, tree_with, with_list, with_node}
 use Rattle.fv_diagram.proofs.Trees.{put_tree, put_tree_keeps}
-use Rattle.fv_arity.specs.Compositions.{HasComposedParts}
+use Rattle.fv_rules.specs.Compositions.{HasComposedParts}
 use Rattle.fv_rules.specs.declared.refusal.EvalRefusal.{EvalRefusal}
 use Rattle.fv_eval_scopes.specs.declared.memo.Known.{Known}
 use Rattle.fv_eval_scopes.specs.declared.memo.Known.TheVariants as known
 use Rattle.fv_eval_scopes.specs.declared.value.Value as code_value
 use Rattle.fv_eval_scopes.specs.declared.value.Value.TheVariants as value
-use Rattle.fv_diagram_number.specs.headline.Numbers.{number_of}
+use Rattle.fv_diagram_head.specs.Numbers.{number_of}
 use Rattle.fv_eval_scopes.specs.Memo.{AddsIntegers, IsInteger, IsKnown, Remembers}
 use Rattle.fv_eval_patterns.specs.Patterns.{IsSound}
 use Rattle.fv_eval_scopes.proofs.Added.{adds_keeps, adds_longer}

@@ -6,12 +6,12 @@ use Rattle.std.specs.List.{list_all}
 use Rattle.std.proofs.lemmas.Bool.{and_parts, eqb-true, eq-eqb}
 use Rattle.std.proofs.lemmas.Int.{ints}
 use Rattle.fv_num.specs.headline.Words.{argument}
-use Rattle.fv_arity.specs.declared.refusal.ArityKind.TheVariants as kind
+use Rattle.fv_rules.specs.ArityKind.TheVariants as kind
 use Rattle.fv_diagram.specs.declared.node.Node.TheVariants as node
 use Rattle.fv_diagram.specs.headline.Diagram.{Diagram, Par, Seq, Table, outputs, size, table_inputs}
 use Rattle.fv_diagram.specs.headline.Arena.{size_limit}
 use Rattle.fv_diagram.specs.Arena.{Arena, count_of, list_at, tree_of, tree_with}
-use Rattle.fv_diagram_number.specs.headline.Numbers.{at_first}
+use Rattle.fv_diagram_head.specs.Numbers.{at_first}
 use Rattle.fv_diagram_head.specs.headline.Heads.{all_outputs, cut, is_fixed, is_head, parts, table_numbers}
 use Rattle.fv_diagram_head.proofs.Closed.{fixed_beside}
 use Rattle.fv_diagram_head.proofs.Outputs.{cut_outputs, parts_outputs}

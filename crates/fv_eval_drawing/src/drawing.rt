@@ -4,7 +4,7 @@ ghost use Rattle.std.specs.Prelude.{◌≡◌, ◌*◌, ◌<◌, ◌≤◌, All,
 ghost use Rattle.fv_diagram.specs.headline.Arena.{size_limit};
 ghost use Rattle.fv_diagram.specs.Arena.{ChildrenBelow, NamesLists, IsArity, count_of, empty_arena, tree_of, tree_with};
 ghost use Rattle.fv_diagram.specs.headline.Diagram.{has_table_primitive};
-ghost use Rattle.fv_diagram_number.specs.headline.Numbers.{number_of};
+ghost use Rattle.fv_diagram_head.specs.Numbers.{number_of};
 ghost use Rattle.fv_rules.specs.headline.Values.{Value as Meant};
 ghost use Rattle.fv_rules.specs.headline.Matching.{chosen, number_or};
 ghost use Rattle.fv_eval_scopes.specs.Shows.{World, IsInside, ShowsValues, rules_in};

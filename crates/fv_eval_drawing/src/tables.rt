@@ -5,7 +5,7 @@ ghost use Rattle.fv_num.specs.headline.Words.{argument};
 ghost use Rattle.fv_diagram.specs.headline.Diagram.{Primitive as Leaf, Seq, Table, outputs, size as size_of, table_inputs};
 ghost use Rattle.fv_diagram.specs.headline.Arena.{size_limit};
 ghost use Rattle.fv_diagram.specs.Arena.{ChildrenBelow, count_of, list_at, tree_of, tree_with};
-ghost use Rattle.fv_diagram_number.specs.headline.Numbers.{at_first};
+ghost use Rattle.fv_diagram_head.specs.Numbers.{at_first};
 ghost use Rattle.fv_diagram_head.specs.headline.Heads.{all_outputs, cut, is_fixed, is_head, parts, table_numbers};
 ghost use Rattle.fv_rules.specs.headline.Steps.{put, sized, tabled, tabled_by, waved};
 ghost use Rattle.fv_eval_drawing.specs.declared.lists.Link.TheVariants as link;

@@ -1,18 +1,18 @@
 -- No step changes what a configuration stands for.
 use Rattle.std.proofs.Common.{◌≡◌, ℕ, zero, suc, ◌+◌, Bool, true, false, List, [], ◌∷◌, ◌++◌, length, ℤ, pos, Option, Some, None, Ok, Err, refl, sym, ap, ◌∙◌}
 use Rattle.std.specs.Prelude.{codes, nat_lt, if◌then◌else◌}
-use Rattle.fv_lex.specs.headline.Token.{Lexed}
-use Rattle.fv_parse_grammar.specs.headline.Tree.{Tree, items, start_of}
-use Rattle.fv_parse_grammar.specs.headline.Tree as tree
-use Rattle.fv_parse_grammar.specs.declared.form.Iteration.{Iteration as Repetition}
-use Rattle.fv_num.specs.declared.op.Op.TheVariants as op
-use Rattle.fv_diagram.specs.declared.node.Primitive.TheVariants as prim
-use Rattle.fv_diagram.specs.headline.Diagram.{Diagram, Primitive, Constant, Seq}
-use Rattle.fv_diagram.specs.declared.control.ControlKind.{ControlKind}
-use Rattle.fv_parse.specs.headline.Trees.{text_of, label_of}
+use Rattle.fv_rules.specs.Token.{Lexed}
+use Rattle.fv_rules.specs.Tree.{Tree, items, start_of}
+use Rattle.fv_rules.specs.Tree as tree
+use Rattle.fv_rules.specs.Iteration.{Iteration as Repetition}
+use Rattle.fv_rules.specs.Op.TheVariants as op
+use Rattle.fv_rules.specs.Primitive.TheVariants as prim
+use Rattle.fv_rules.specs.Diagram.{Diagram, Primitive, Constant, Seq}
+use Rattle.fv_rules.specs.ControlKind.{ControlKind}
+use Rattle.fv_rules.specs.Trees.{text_of, label_of}
 use Rattle.fv_rules.specs.headline.Values.{Name, Value, Flat, Abstraction, Rules, Env, Outermost, Bound, Scope, And, Definition, Plain, Parameters, Cases, Meaning}
 use Rattle.fv_rules.specs.headline.Values.{IsValue, IsDefined, Unknown, lookup, in_order, count_taken}
-use Rattle.fv_diagram_number.specs.headline.Numbers.{number_of}
+use Rattle.fv_rules.specs.Numbers.{number_of}
 use Rattle.fv_rules.specs.headline.Matching.{Bindings, settled, value_number, bound_in, chosen}
 use Rattle.fv_rules.specs.headline.Steps.{State, Outcome, Eval, after, ◌>>=◌, give, spent, put, control}
 use Rattle.fv_rules.specs.headline.Rules.{waveform, switch_kind, slider_kind, flat, on_slots, bind_all, turned, operated, joined, defined_value, meant, name_value, arguments}

@@ -1,22 +1,22 @@
 -- Evaluation by a machine that keeps its pending work in a list (this project's profile).
 use Rattle.std.specs.Prelude.{◌≡◌, ℕ, zero, suc, ◌+◌, nat_lt, List, [], ◌∷◌, ◌++◌, length, map, codes, ℤ, pos, neg_ℤ, Option, Some, None, Ok, Err}
 use Rattle.std.specs.Prelude.{if◌then◌else◌}
-use Rattle.fv_lex.specs.headline.Token.{Lexed}
-use Rattle.fv_num.specs.headline.Words.{wrap}
-use Rattle.fv_num.specs.declared.op.Op.TheVariants as op
-use Rattle.fv_parse_grammar.specs.headline.Tree.{Tree, items, start_of}
-use Rattle.fv_parse_grammar.specs.headline.Tree as tree
-use Rattle.fv_parse_grammar.specs.declared.form.Operator.{Operator}
-use Rattle.fv_parse_grammar.specs.declared.form.Iteration.{Iteration as Repetition}
-use Rattle.fv_parse_grammar.specs.declared.form.Side.{Side}
-use Rattle.fv_diagram.specs.declared.node.Primitive.TheVariants as prim
-use Rattle.fv_diagram.specs.headline.Diagram.{Diagram, Primitive, Constant, Seq}
-use Rattle.fv_diagram.specs.declared.control.ControlKind.{ControlKind}
+use Rattle.fv_rules.specs.Token.{Lexed}
+use Rattle.fv_rules.specs.Words.{wrap}
+use Rattle.fv_rules.specs.Op.TheVariants as op
+use Rattle.fv_rules.specs.Tree.{Tree, items, start_of}
+use Rattle.fv_rules.specs.Tree as tree
+use Rattle.fv_rules.specs.Operator.{Operator}
+use Rattle.fv_rules.specs.Iteration.{Iteration as Repetition}
+use Rattle.fv_rules.specs.Side.{Side}
+use Rattle.fv_rules.specs.Primitive.TheVariants as prim
+use Rattle.fv_rules.specs.Diagram.{Diagram, Primitive, Constant, Seq}
+use Rattle.fv_rules.specs.ControlKind.{ControlKind}
 use Rattle.fv_rules.specs.declared.refusal.EvalRefusal.TheVariants.{UnknownName}
-use Rattle.fv_parse.specs.headline.Trees.{text_of, label_of}
+use Rattle.fv_rules.specs.Trees.{text_of, label_of}
 use Rattle.fv_rules.specs.headline.Values.{Name, Value, Flat, Abstraction, Rules, Env, Outermost, Bound, Scope, Nothing, And, Definition, Plain, Parameters, Cases}
 use Rattle.fv_rules.specs.headline.Values.{Meaning, IsValue, IsDefined, Unknown, lookup, rule_of, in_order, count_taken}
-use Rattle.fv_diagram_number.specs.headline.Numbers.{number_of}
+use Rattle.fv_rules.specs.Numbers.{number_of}
 use Rattle.fv_rules.specs.headline.Matching.{Bindings, settled, value_number, bound_in, chosen}
 use Rattle.fv_rules.specs.headline.Steps.{State, Outcome, Eval, ◌>>=◌, give, no_rule, no_diagram, spent, put, control}
 use Rattle.fv_rules.specs.headline.Rules.{waveform, primitive_of, switch_kind, slider_kind, Evaluator, flat, on_slots, bind_all, turned, operated, joined, name_value, arguments}

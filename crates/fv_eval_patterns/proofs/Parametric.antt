@@ -1,8 +1,8 @@
 -- What a pattern binds does not hang on what was bound before.
 use Rattle.std.proofs.Common.{◌≡◌, ◌<◌, ◌≤◌, Bool, true, false, cond, List, [], ◌∷◌, ◌++◌, Option, Some, None, refl, sym, ap, ap₂, subst, ◌∙◌, append_assoc, append-nil, arith, ℕ, drop, length}
 use Rattle.std.proofs.lemmas.Option.{none-some, same_Some}
-use Rattle.fv_lex.specs.headline.Token.{Lexed}
-use Rattle.fv_num.specs.headline.Words.{wrap}
+use Rattle.fv_parse.specs.Token.{Lexed}
+use Rattle.fv_diagram.specs.Words.{wrap}
 use Rattle.std.specs.Prelude.{ℤ, pos, neg_ℤ}
 use Rattle.fv_diagram.specs.headline.Diagram.{Diagram}
 use Rattle.fv_diagram.specs.Arena.{Arena, count_of, tree_of}

@@ -1,7 +1,7 @@
 -- What matching answers, over the lists of an evaluation (this project's profile).
 use Rattle.std.specs.Prelude.{◌≡◌, ℕ, ◌+◌, ◌<◌, Bool, true, false, List, [], ◌∷◌, ◌++◌, map, reverse, All, Option, Some, None}
 use Rattle.std.specs.List.{sum_by}
-use Rattle.fv_lex.specs.headline.Token.{Lexed}
+use Rattle.fv_parse.specs.Token.{Lexed}
 use Rattle.fv_parse_grammar.specs.headline.Tree.{Tree}
 use Rattle.fv_diagram.specs.declared.node.DiagramId.{DiagramId}
 use Rattle.fv_diagram.specs.declared.node.Node.{Node}

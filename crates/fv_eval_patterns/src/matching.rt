@@ -5,7 +5,7 @@ ghost use Rattle.fv_diagram.specs.Composed.{IsComposed};
 ghost use Rattle.fv_diagram.specs.Arena.{Arena, count_of, tree_of, tree_with};
 ghost use Rattle.fv_parse.specs.Trees.{size_of, tree_in};
 ghost use Rattle.fv_rules.specs.headline.Values.{Value as PureValue, Flat};
-ghost use Rattle.fv_diagram_number.specs.headline.Numbers.{number_of};
+ghost use Rattle.fv_rules.specs.Numbers.{number_of};
 ghost use Rattle.fv_rules.specs.headline.Matching.{Bindings as PureBindings, matched, is_number, parts_of, parts_without};
 ghost use Rattle.fv_eval_scopes.specs.Shows.{World, ShowsValue, ShowsBindings};
 ghost use Rattle.fv_eval_scopes.specs.Memo.{Remembers, AddsIntegers};

@@ -13,7 +13,7 @@ use Rattle.fv_eval_scopes.specs.declared.value.Binding as code_binding
 use Rattle.fv_eval_scopes.specs.Environments.{scope_in}
 use Rattle.fv_rules.specs.headline.Values.{Name, Value, Flat, Abstraction, Rules, Env, Outermost, Bound, Scope, Taken, Nothing, And}
 use Rattle.fv_rules.specs.headline.Matching.{Bindings}
-use Rattle.fv_parse_grammar.specs.headline.Tree.{Tree}
+use Rattle.fv_parse.specs.Tree.{Tree}
 use Rattle.fv_eval_scopes.specs.Shows.{World, IsNamed, IsInside, parameters_in, body_in, rules_in, begins_in, ShowsTree, ShowsValue, ShowsValues, ShowsEnv}
 use Rattle.fv_eval_scopes.specs.Shows.{ShowsTaken, ShowsBindings, Grows}
 

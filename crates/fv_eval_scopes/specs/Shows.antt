@@ -1,13 +1,13 @@
 -- What the numbers of an evaluation's lists stand for (this project's profile).
 use Rattle.std.specs.Prelude.{◌≡◌, ℕ, suc, ◌<◌, List, [], ◌∷◌, ◌++◌, map, filter, drop, Option, Some, None, slice_get}
-use Rattle.fv_lex.specs.headline.Token.{Lexed}
-use Rattle.fv_parse_grammar.specs.headline.Tree.{Tree, items, start_of}
-use Rattle.fv_parse_grammar.specs.headline.Tree as tree
+use Rattle.fv_parse.specs.Token.{Lexed}
+use Rattle.fv_parse.specs.Tree.{Tree, items, start_of}
+use Rattle.fv_parse.specs.Tree as tree
 use Rattle.fv_diagram.specs.headline.Diagram.{Diagram}
 use Rattle.fv_diagram.specs.Arena.{Arena, count_of, tree_of}
 use Rattle.fv_parse.specs.headline.Trees.{text_of}
 use Rattle.fv_parse.specs.Trees.{Parsed, size_of, tree_in, first_named}
-use Rattle.fv_parse_tree.specs.declared.node.TreeId.{TreeId}
+use Rattle.fv_parse.specs.TreeId.{TreeId}
 use Rattle.fv_eval_scopes.specs.declared.value.Ruled.{Ruled}
 use Rattle.fv_eval_scopes.specs.declared.value.Ruled.TheVariants as ruled
 use Rattle.fv_eval_scopes.specs.declared.value.Value as code_value

@@ -4,8 +4,8 @@ use Rattle.std.proofs.Common.{◌<◌, ◌^◌, true, append_assoc, length-appen
 use Rattle.std.proofs.Math.Nat.{add-mul}
 use Rattle.std.proofs.lemmas.List.{append-nil, drop-drop, drop_at, length-take-le, take-append-drop}
 use Rattle.fv_base.proofs.Lists.{table_same}
-use Rattle.fv_num.specs.headline.Words.{is_sample_width}
-use Rattle.fv_num.specs.headline.Frames.{table}
+use Rattle.fv_pcm.specs.Words.{is_sample_width}
+use Rattle.fv_pcm.specs.Frames.{table}
 use Rattle.fv_pcm.proofs.Widths.{at_width}
 use Rattle.fv_pcm.specs.declared.coding.Coding.{Coding}
 use Rattle.fv_pcm.specs.headline.Coded.{sample_of, sample_at}

@@ -6,7 +6,7 @@ use Rattle.fv_base.specs.declared.limits.TheConstants.{MOST_CHANNELS}
 use Rattle.fv_base.specs.declared.role.Role.{Role}
 use Rattle.fv_base.specs.declared.role.Role.TheVariants.{Input, Output}
 use Rattle.fv_base.specs.headline.Lists.{IsPrefixOf}
-use Rattle.fv_num.specs.headline.Words.{is_sample_width}
+use Rattle.fv_pcm.specs.Words.{is_sample_width}
 use Rattle.fv_outside.specs.headline.Requests.{to_write}
 use Rattle.fv_outside.specs.headline.Desk.{DeskState, GoesOn, HasFault, KeepsFaults, IsUnfailing}
 use Rattle.fv_outside.specs.Desk.{KeepsFaultsBut}

@@ -1,8 +1,8 @@
 -- A stored core after a legal event.
 use Rattle.std.proofs.Common.{◌≡◌, ℕ, ◌-◌, ◌<◌, ◌≤◌, set, true, List, [], Bool, false, Option, None, map, replicate, get_or, sym, ap, ◌∙◌, subst, refl, arith}
 use Rattle.std.specs.Vec.{vec_capacity}
-use Rattle.fv_outside.specs.headline.Tasks.{Tasks}
-use Rattle.fv_outside.specs.Tasks.{task_count}
+use Rattle.fv_graph.specs.Tasks.{Tasks}
+use Rattle.fv_graph.specs.TasksBeside.{task_count}
 use Rattle.fv_graph.specs.Graph.{IsGraph, edges_of, net_of, reader_of}
 use Rattle.fv_graph.proofs.Graphs.{is_net}
 use Rattle.fv_graph_core.specs.Core.{Now, is_legal, after, count_of, deque_of, owes_of, joined, opening, numbers, ready, dealt}

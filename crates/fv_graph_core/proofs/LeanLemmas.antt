@@ -1,7 +1,7 @@
 -- What the core allows, event by event, its lean form allows too.
 use Rattle.std.proofs.Common.{◌≡◌, ℕ, ◌+◌, ◌<◌, Bool, true, false, cond, ◌&&◌, ◌||◌, not, List, [], ◌∷◌, length}
 use Rattle.std.proofs.Common.{Option, Some, None, refl, ap, ◌∙◌, ltb, lt-ltb, ◌==◌, eq-eqb}
-use Rattle.fv_outside.specs.headline.Tasks.{bit, total}
+use Rattle.fv_graph.specs.Tasks.{bit, total}
 use Rattle.fv_graph.specs.Net.{Net, IsNet}
 use Rattle.fv_graph.proofs.Counts.{both_true, both_of, bit_same}
 use Rattle.fv_graph_core.specs.Core.{Now, is_run, deque_of, is_free, is_done, count_of, is_legal, after, replayed, opening, takes, is_take}

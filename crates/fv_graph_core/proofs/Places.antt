@@ -2,8 +2,8 @@
 use Rattle.std.proofs.Common.{◌≡◌, ℕ, zero, suc, ◌+◌, ◌-◌, ◌<◌, ◌==◌, Bool, true, false, cond, not, List, [], ◌∷◌, map, length, get_or, set}
 use Rattle.std.proofs.Common.{take, drop, Option, Some, None, refl, sym, ap, ◌∙◌, arith, nat_lt, lt-ltb, true≢false, ne_eqb, ◌||◌}
 use Rattle.std.specs.List.{remove, position_or_len, list_any}
-use Rattle.fv_outside.specs.headline.Tasks.{bit}
-use Rattle.fv_outside.specs.Tasks.{times}
+use Rattle.fv_graph.specs.Tasks.{bit}
+use Rattle.fv_graph.specs.TasksBeside.{times}
 use Rattle.std.specs.Option.{option_copied, option_map, unwrap_or, is_some}
 use denote.Ref.{Bor}
 use Rattle.fv_graph_core.specs.Ends.{but_back, but_front, back_of, without}

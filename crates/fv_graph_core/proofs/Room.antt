@@ -3,8 +3,8 @@ use Rattle.std.proofs.Common.{◌≡◌, ℕ, ◌+◌, ◌<◌, ◌≤◌, true,
 use Rattle.std.proofs.Common.{subst, arith, ltb, ltb-true, ◌==◌, length-append, get_or-set_same}
 use mathlib.Core.Logic.{dite}
 use native.Mathlib.Decide.{dec_le}
-use Rattle.fv_outside.specs.headline.Tasks.{Tasks, total}
-use Rattle.fv_outside.specs.Tasks.{times, task_count}
+use Rattle.fv_graph.specs.Tasks.{Tasks, total}
+use Rattle.fv_graph.specs.TasksBeside.{times, task_count}
 use Rattle.fv_graph.specs.Net.{Net, IsNet}
 use Rattle.fv_graph.specs.Graph.{edges_of, net_of, reader_of, feeds_of}
 use Rattle.fv_graph.specs.Wires.{wires_of}

@@ -3,8 +3,8 @@ use Rattle.std.proofs.Common.{◌≡◌, ℕ, ◌+◌, ◌-◌, ◌<◌, ◌≤�
 use Rattle.std.proofs.Common.{sym, ap, ◌∙◌, subst, arith, true≢false, ◌==◌, Option, Some, None, is_none, length-set, eq-eqb}
 use mathlib.Core.Logic.{dite}
 use native.Mathlib.Decide.{ℕ_discrete}
-use Rattle.fv_outside.specs.headline.Tasks.{bit}
-use Rattle.fv_outside.specs.Tasks.{times}
+use Rattle.fv_graph.specs.Tasks.{bit}
+use Rattle.fv_graph.specs.TasksBeside.{times}
 use Rattle.fv_graph_core.specs.Ends.{without, is_empty}
 use Rattle.fv_graph.specs.Net.{Net, IsNet}
 use Rattle.fv_graph_core.specs.declared.event.Event.TheVariants.{Arrive}

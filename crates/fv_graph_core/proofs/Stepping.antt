@@ -1,6 +1,6 @@
 -- Each legal event leaves a sound state.
 use Rattle.std.proofs.Common.{◌≡◌, ℕ, ◌+◌, true, List, ap, arith}
-use Rattle.fv_outside.specs.headline.Tasks.{total}
+use Rattle.fv_graph.specs.Tasks.{total}
 use Rattle.fv_graph.specs.Net.{Net, IsNet}
 use Rattle.fv_graph_core.specs.Core.{Now, is_legal, after, is_done}
 use Rattle.fv_graph_core.specs.declared.event.Event.{Event}

@@ -1,8 +1,8 @@
 -- The core: what each worker may do next, and what becomes of the state (this project's profile).
 use Rattle.std.specs.Prelude.{ℕ, suc, ◌-◌, ◌%◌, ltb, Bool, true, false, cond, ◌&&◌, not, List, [], ◌∷◌, ◌++◌, map}
 use Rattle.std.specs.Prelude.{length, Option, Some, None, is_none, get_or, set, replicate, ◌==◌}
-use Rattle.fv_outside.specs.headline.Tasks.{bit}
-use Rattle.fv_outside.specs.Tasks.{times}
+use Rattle.fv_graph.specs.Tasks.{bit}
+use Rattle.fv_graph.specs.TasksBeside.{times}
 use Rattle.fv_graph.specs.Words.{passing}
 use Rattle.fv_graph_core.specs.Ends.{without, is_empty, front_is, but_front, back_is, but_back}
 use Rattle.fv_graph.specs.Net.{Net, need_count}

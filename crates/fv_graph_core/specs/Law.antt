@@ -1,7 +1,7 @@
 -- The law of the core, of events that replay to z from the opening state (this project's profile).
 use Rattle.std.specs.Prelude.{◌≡◌, ℕ, ◌<◌, true, List, ◌∷◌, ◌++◌, get_or, Some}
-use Rattle.fv_outside.specs.headline.Tasks.{total}
-use Rattle.fv_outside.specs.Tasks.{times}
+use Rattle.fv_graph.specs.Tasks.{total}
+use Rattle.fv_graph.specs.TasksBeside.{times}
 use Rattle.fv_graph.specs.Net.{Net}
 use Rattle.fv_graph_core.specs.Core.{Now, is_done, replayed, opening, takes, is_take}
 use Rattle.fv_graph_core.specs.declared.event.Event.{Event}

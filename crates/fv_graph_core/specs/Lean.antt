@@ -1,6 +1,6 @@
 -- The lean core: the core without its deques (this project's profile).
 use Rattle.std.specs.Prelude.{ℕ, ltb, Bool, cond, ◌&&◌, ◌||◌, not, List, [], ◌∷◌, length, Option, Some, None, ◌==◌}
-use Rattle.fv_outside.specs.headline.Tasks.{bit, total}
+use Rattle.fv_graph.specs.Tasks.{bit, total}
 use Rattle.fv_graph.specs.Net.{Net}
 use Rattle.fv_graph_core.specs.Core.{Now, is_run, is_free, is_done, count_of, is_legal, after}
 use Rattle.fv_graph_core.specs.declared.event.Event.{Event}

@@ -1,7 +1,7 @@
 -- What a task that is taken finds (this project's profile).
 use Rattle.std.specs.Prelude.{◌≡◌, ℕ, ◌<◌, true, false}
-use Rattle.fv_outside.specs.headline.Tasks.{Tasks, reads_task}
-use Rattle.fv_outside.specs.Tasks.{task_count}
+use Rattle.fv_graph.specs.Tasks.{Tasks, reads_task}
+use Rattle.fv_graph.specs.TasksBeside.{task_count}
 use Rattle.fv_graph.specs.Graph.{task_of}
 use Rattle.fv_graph_core.specs.Core.{Now, is_done}
 use Rattle.fv_graph_core.specs.declared.event.Event.{Event}

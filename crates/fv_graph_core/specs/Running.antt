@@ -1,8 +1,8 @@
 -- What a core means: the tasks that it runs, how many workers there are, the room, and the state (this project's profile).
 use Rattle.std.specs.Prelude.{ℕ, List, Bool, Option, refl}
 use Rattle.std.specs.Coded.{Coded, code_by, coded×, coded_ℕ, coded_bool, coded_list, coded_option}
-use Rattle.fv_outside.specs.headline.Tasks.{Tasks}
-use Rattle.fv_outside.specs.Tasks.{coded_tasks}
+use Rattle.fv_graph.specs.Tasks.{Tasks}
+use Rattle.fv_graph.specs.TasksBeside.{coded_tasks}
 use Rattle.fv_graph.specs.Graph.{IsGraph, net_of}
 use Rattle.fv_graph_core.specs.Core.{Now}
 use Rattle.fv_graph_core.specs.Sound.{IsSound}

@@ -1,7 +1,7 @@
 -- The invariant of a state of the core (this project's profile).
 use Rattle.std.specs.Prelude.{◌≡◌, ℕ, ◌+◌, ◌-◌, ◌<◌, ◌≤◌, true, ◌&&◌, [], length, get_or, Option, Some, None, ◌==◌}
-use Rattle.fv_outside.specs.headline.Tasks.{bit, total}
-use Rattle.fv_outside.specs.Tasks.{times}
+use Rattle.fv_graph.specs.Tasks.{bit, total}
+use Rattle.fv_graph.specs.TasksBeside.{times}
 use Rattle.fv_graph.specs.Net.{Net}
 use Rattle.fv_graph_core.specs.Core.{Now, is_run, deque_of, run_of, owes_of, is_done, count_of}
 

@@ -1,7 +1,7 @@
 -- How a core is stored: the lists by task and by worker, with room for all that can come (this project's profile).
 use Rattle.std.specs.Prelude.{ℕ, ◌<◌, ◌≤◌, get_or}
 use Rattle.std.specs.Vec.{vec_capacity}
-use Rattle.fv_outside.specs.Tasks.{task_count}
+use Rattle.fv_graph.specs.TasksBeside.{task_count}
 use Rattle.fv_graph.specs.Graph.{IsGraph, edges_of, net_of}
 use Rattle.fv_graph_core.specs.Core.{Now}
 use Rattle.fv_graph_core.specs.Sound.{IsSound}

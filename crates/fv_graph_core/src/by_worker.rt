@@ -2,7 +2,7 @@
 
 ghost use Rattle.std.specs.Prelude.{◌≡◌, ◌+◌, ◌<◌, ◌≤◌, ◌==◌, length, [], ◌∷◌, ◌++◌, slice_index_or};
 ghost use Rattle.std.specs.Prelude.{slice_set, vec_len, vec_capacity, None, is_none, position, not, true, ◌&&◌};
-ghost use Rattle.fv_outside.specs.Tasks.{times};
+ghost use Rattle.fv_graph.specs.TasksBeside.{times};
 ghost use Rattle.fv_graph_core.specs.Ends.{but_back, but_front, back_of, front_of, without, is_empty};
 ghost use Rattle.fv_graph_core.specs.Core.{joined, is_run};
 ghost use Rattle.fv_graph_core.specs.Kept.{deques_of, rooms_of, owed_of, owed_rooms};

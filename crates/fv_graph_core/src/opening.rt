@@ -2,7 +2,7 @@
 
 ghost use Rattle.std.specs.Prelude.{◌≡◌, ◌==◌, if◌then◌else◌, ◌+◌, ◌%◌, ◌<◌, ◌≤◌, length, [], ◌∷◌, ◌++◌};
 ghost use Rattle.std.specs.Prelude.{slice_index_or, slice_set, map, replicate, false, IfOk, vec_len, vec_capacity};
-ghost use Rattle.fv_outside.specs.Tasks.{task_count};
+ghost use Rattle.fv_graph.specs.TasksBeside.{task_count};
 ghost use Rattle.fv_graph.specs.Net.{need_count};
 ghost use Rattle.fv_graph.specs.Graph.{IsGraph, net_of};
 ghost use Rattle.fv_graph_core.specs.Core.{numbers, ready, dealt};

@@ -1,7 +1,7 @@
 // The core.
 
 ghost use Rattle.std.specs.Prelude.{◌≡◌, ℕ, ◌<◌, ◌≤◌, ◌==◌, not, true, is_ok, IfOk, OnOk, OnErr};
-ghost use Rattle.fv_outside.specs.Tasks.{times, task_count};
+ghost use Rattle.fv_graph.specs.TasksBeside.{times, task_count};
 ghost use Rattle.fv_graph.specs.Graph.{IsGraph, net_of, edges_of};
 ghost use Rattle.fv_graph_core.specs.Core.{is_legal, after, deque_of, run_of, owes_of, is_free, is_done, opening};
 ghost use Rattle.fv_graph_core.specs.Ends.{back_of, front_of};

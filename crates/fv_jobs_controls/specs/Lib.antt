@@ -7,3 +7,4 @@ pub use Rattle.fv_control.specs.headline.Script
 pub use Rattle.fv_control.specs.Script as ScriptBeside
 pub use Rattle.fv_control.specs.headline.Streams
 pub use Rattle.fv_control.specs.Laws
+pub use Rattle.fv_control.specs.declared.script.Change

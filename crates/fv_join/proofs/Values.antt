@@ -2,9 +2,9 @@
 use Rattle.std.proofs.Common.{◌≡◌, ℕ, zero, suc, ◌+◌, ◌<◌, List, [], ◌∷◌, length, take, drop, map, get_or, refl, sym, ap, ◌∙◌, pos}
 use Rattle.std.proofs.lemmas.List.{get_or-take, get_or-drop, get_or_default}
 use Rattle.std.proofs.Math.Seq.{drop-nil, take-nil}
-use Rattle.fv_num.specs.headline.Words.{apply_of, inputs_of}
-use Rattle.fv_num.specs.headline.Frames.{Frame, Stream, column, frame_at, delayed, carried}
-use Rattle.fv_num.specs.headline.Tables.{read_at, written_at}
+use Rattle.fv_signal.specs.Words.{apply_of, inputs_of}
+use Rattle.fv_signal.specs.Frames.{Frame, Stream, column, frame_at, delayed, carried}
+use Rattle.fv_signal.specs.Tables.{read_at, written_at}
 use Rattle.fv_analysis.specs.headline.Stands.{node}
 use Rattle.fv_signal.specs.declared.signal.Signal.{Signal}
 use Rattle.fv_signal.specs.declared.signal.Signal.TheVariants.{Input, Const, Control, Point, Delay, Back, Member, Read, Write}

@@ -1,6 +1,6 @@
 -- What a graph is in which others stand side by side (this project's profile).
 use Rattle.std.specs.Prelude.{◌≡◌, ℕ, ◌+◌, ◌<◌, List, length, take, drop, map, flat_map, slice_index_or}
-use Rattle.fv_num.specs.headline.Frames.{Frame, Stream}
+use Rattle.fv_signal.specs.Frames.{Frame, Stream}
 use Rattle.fv_analysis.specs.headline.Stands.{StandsAt}
 use Rattle.fv_signal.specs.declared.signal.Signal.{Signal}
 use Rattle.fv_signal.specs.declared.signal.Signal.TheVariants.{Input, Control, Delay}

@@ -3,10 +3,10 @@ use Rattle.std.proofs.Common.{◌≡◌, inl, inr, ℕ, zero, suc, ◌+◌, ◌<
 use Rattle.std.specs.List.{sum_by}
 use Rattle.std.proofs.lemmas.List.{get_or_default, take_all}
 use Rattle.std.proofs.lemmas.List.Sums.{sum_by-cons}
-use Rattle.fv_analysis.specs.headline.Stands.{StandsAt}
-use Rattle.fv_signal.specs.declared.signal.Signal.{Signal}
-use Rattle.fv_signal.specs.declared.signal.Signal.TheVariants as signal
-use Rattle.fv_signal.specs.headline.Value.{Graph}
+use Rattle.fv_join.specs.Stands.{StandsAt}
+use Rattle.fv_propagate.specs.Signal.{Signal}
+use Rattle.fv_propagate.specs.Signal.TheVariants as signal
+use Rattle.fv_propagate.specs.Value.{Graph}
 use Rattle.fv_diagram.specs.headline.Diagram.{Diagram, Primitive, Constant, Control, Slot, Wave, Table, Bind, Par, Seq, Split, Merge, Rec, inputs, outputs}
 use Rattle.fv_propagate.specs.headline.Propagated.{HasControl, NamesOf}
 use Rattle.fv_join.specs.declared.job.Job.{Job}

@@ -8,14 +8,14 @@ use Rattle.std.proofs.lemmas.Int.{ints}
 use Rattle.std.proofs.lemmas.List.{get_or_past, length-map, length-drop, length-take, length-take-le}
 use Rattle.std.proofs.lemmas.List.Concat.{get_or-flat_map, length-flat_map}
 use Rattle.std.proofs.lemmas.List.Sums.{sum_by-cons, sum_by_more, sum_by_more_le}
-use Rattle.fv_num.specs.headline.Frames.{Frame, Stream, column, frame_at}
-use Rattle.fv_num.specs.headline.Interval.{Interval, full}
-use Rattle.fv_signal.specs.headline.Value.{Graph, value}
+use Rattle.fv_diagram.specs.Frames.{Frame, Stream, column, frame_at}
+use Rattle.fv_propagate.specs.Interval.{Interval, full}
+use Rattle.fv_propagate.specs.Value.{Graph, value}
 use Rattle.fv_diagram.specs.headline.Diagram.{inputs, outputs}
 use Rattle.fv_diagram.specs.headline.Streams.{run}
 use Rattle.fv_diagram.proofs.Each.{each_map}
-use Rattle.fv_interval.specs.headline.Laws.{IsOf}
-use Rattle.fv_interval.specs.headline.SpanHooks.{control_span}
+use Rattle.fv_propagate.specs.Laws.{IsOf}
+use Rattle.fv_propagate.specs.SpanHooks.{control_span}
 use Rattle.fv_propagate.specs.headline.Propagated.{AreTaken}
 use Rattle.fv_join.specs.declared.job.Job.{Job}
 use Rattle.fv_join.specs.Jobs as jobs_have

@@ -1,6 +1,6 @@
 -- A diagram whose controls are numbered behind others.
 use Rattle.std.proofs.Common.{◌≡◌, ℕ, suc, ◌+◌, ◌-◌, List, [], ◌∷◌, ◌++◌, map, reverse, take, drop, refl, ap, ap₂, ◌∙◌, pos}
-use Rattle.fv_num.specs.headline.Frames.{Frame}
+use Rattle.fv_diagram.specs.Frames.{Frame}
 use Rattle.fv_diagram.specs.headline.Diagram.{Diagram, Primitive, Constant, Control, Slot, Wave, Table, Bind, Par, Seq, Split, Merge, Rec, inputs, outputs}
 use Rattle.fv_diagram.specs.headline.Streams.{beside, bound, column, dealt, fed_back, feedback, last, merged, run}
 use Rattle.fv_join.specs.Joined.{part_controls}

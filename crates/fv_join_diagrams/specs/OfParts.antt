@@ -1,6 +1,6 @@
 -- When graphs side by side give what diagrams side by side give (this project's profile).
 use Rattle.std.specs.Prelude.{◌≡◌, ℕ, ◌<◌, List, length, slice_index_or}
-use Rattle.fv_signal.specs.headline.Value.{Graph}
+use Rattle.fv_propagate.specs.Value.{Graph}
 use Rattle.fv_diagram.specs.headline.Diagram.{inputs, outputs}
 use Rattle.fv_propagate.specs.headline.Propagated.{NamesWithin, Propagates}
 use Rattle.fv_join.specs.declared.job.Job.{Job}

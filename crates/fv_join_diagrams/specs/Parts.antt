@@ -1,7 +1,7 @@
 -- What calls say beside `headline/Parts`: diagrams side by side, each with controls of its own (this project's profile).
 use Rattle.std.specs.Prelude.{◌≡◌, ℕ, ◌+◌, ◌<◌, ◌≤◌, List, length, take, flat_map, All, slice_index_or}
 use Rattle.std.specs.List.{sum_by}
-use Rattle.fv_num.specs.headline.Interval.{Interval}
+use Rattle.fv_propagate.specs.Interval.{Interval}
 use Rattle.fv_diagram.specs.headline.Diagram.{Diagram, inputs, outputs}
 use Rattle.fv_diagram.specs.Diagram.{control_bound, HasNoFreeSlot, IsWellFormed}
 use Rattle.fv_diagram.specs.headline.Streams.{Frame, Stream, column, run}

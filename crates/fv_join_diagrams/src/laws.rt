@@ -1,6 +1,6 @@
 // Laws of diagrams side by side.
 
-ghost use Rattle.fv_signal.specs.headline.Value.{Graph};
+ghost use Rattle.fv_propagate.specs.Value.{Graph};
 ghost use Rattle.fv_diagram.specs.headline.Diagram.{Diagram};
 ghost use Rattle.fv_join_diagrams.specs.Parts.{ShiftedAnswers, PartsAreWhole, PartsAnswer, PartsAnswerAlike};
 ghost use Rattle.fv_join_diagrams.specs.OfParts.{JoinedPropagates, JoinedAreWide, JoinedNames};

@@ -5,3 +5,6 @@ pub mod Cuts
 pub mod Carried
 pub mod Examples
 pub mod inner
+-- what it hands on of crates below
+pub use Rattle.fv_base.specs.declared.limits as Limits
+pub use Rattle.fv_base.specs.headline.Digits

@@ -8,7 +8,7 @@ use Rattle.std.specs.Prelude.{sum, slice_index}
 use borrow.Rule.Slice.PartMut.{put_mid}
 use Rattle.fv_base.specs.headline.Lists.{table}
 use Rattle.fv_base.proofs.Lists.{length_table, get_or_table}
-use Rattle.fv_num.specs.headline.Words.{argument}
+use Rattle.fv_loopcode.specs.Words.{argument}
 use Rattle.fv_loopcode.specs.headline.Lanes.{Lane, appended}
 use Rattle.fv_loopcode.specs.Lanes.{all_appended}
 use Rattle.fv_pool.specs.Layout.{part}

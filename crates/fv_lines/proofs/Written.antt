@@ -4,7 +4,7 @@ use Rattle.std.specs.Prelude.{slice_index}
 use Rattle.std.proofs.lemmas.List.{length-set}
 use borrow.Rule.Slice.PartMut.{put_mid}
 use Rattle.fv_base.specs.headline.Lists.{table}
-use Rattle.fv_num.specs.headline.Words.{argument}
+use Rattle.fv_loopcode.specs.Words.{argument}
 use Rattle.fv_loopcode.specs.Lanes.{all_appended}
 use Rattle.fv_pool.specs.Layout.{part}
 use Rattle.fv_lines.specs.Hold.{from_start}

@@ -1,7 +1,7 @@
 // The items of a list that code reads and writes.
 
 ghost use Rattle.std.specs.Prelude.{◌≡◌, ◌<◌, length};
-ghost use Rattle.fv_num.specs.headline.Tables.{place as place_of, read_at, written};
+ghost use Rattle.fv_loopcode.specs.Tables.{place as place_of, read_at, written};
 
 // The place that an index means in a list of so many items.
 fn place(count: usize, index: i32) -> usize

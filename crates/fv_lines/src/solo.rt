@@ -19,7 +19,7 @@ pub struct Solo<'a, 'l, 's, 'b, 'c> {
 
 impl<'a, 'l, 's, 'b, 'c> Solo<'a, 'l, 's, 'b, 'c> {
     ghost use Rattle.std.specs.Prelude.{◌≡◌, ◌↔◌, ◌+◌, ◌^◌, ◌<◌, ◌≤◌, length, slice_set, slice_index, IsTrue, ℕ};
-    ghost use Rattle.fv_num.specs.headline.Words.{argument};
+    ghost use Rattle.fv_loopcode.specs.Words.{argument};
     ghost use Rattle.fv_loopcode.specs.headline.Lanes.{lane_of, appended, sample_at};
     ghost use Rattle.fv_loopcode.specs.Lanes.{all_appended, HasSample, HasJust};
     ghost use Rattle.fv_pool.specs.Lengths.{lengths_of};

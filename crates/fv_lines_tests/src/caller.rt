@@ -1,8 +1,8 @@
 // Callers of lanes that are lent to threads.
 
 ghost use Rattle.std.specs.Prelude.{◌≡◌, ◌<◌, ◌++◌, [], ◌∷◌};
-ghost use Rattle.fv_loopcode.specs.headline.Lanes.{sample_at};
-ghost use Rattle.fv_loopcode.specs.Lanes.{HasSample};
+ghost use Rattle.fv_lines.specs.Lanes.{sample_at};
+ghost use Rattle.fv_lines.specs.LanesBeside.{HasSample};
 ghost use Rattle.fv_pool.specs.Layout.{HaveRoom};
 ghost use Rattle.fv_pool.specs.Lengths.{lengths_of};
 ghost use Rattle.fv_pool.specs.Region.{cells_of};

@@ -10,3 +10,6 @@ pub mod Journal
 pub mod Recorded
 pub mod Examples
 pub mod inner
+-- what it hands on of crates below
+pub use Rattle.fv_base.specs.declared.role.Role
+pub use Rattle.fv_base.specs.headline.Lists

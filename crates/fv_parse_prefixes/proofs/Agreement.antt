@@ -2,8 +2,8 @@
 use Rattle.std.proofs.Common.{◌≡◌, ℕ, suc, ◌+◌, ◌≤◌, ◌<◌, ◌⊎◌, inl, inr, Bool, true, false, cond, List, [], ◌∷◌, ◌++◌, length, Result, Ok, Err, refl, sym, ap}
 use Rattle.std.proofs.Common.{subst, arith}
 use Rattle.std.proofs.lemmas.List.{length-append}
-use Rattle.fv_lex.specs.declared.token.Symbol.{Symbol}
-use Rattle.fv_lex.specs.declared.token.Symbol.TheVariants.{Open, Close, OpenBrace, CloseBrace}
+use Rattle.fv_parse_grammar.specs.Symbol.{Symbol}
+use Rattle.fv_parse_grammar.specs.Symbol.TheVariants.{Open, Close, OpenBrace, CloseBrace}
 use Rattle.fv_parse_grammar.specs.declared.symbol.Inside.{Inside}
 use Rattle.fv_parse_grammar.specs.declared.symbol.Head.TheVariants as heads
 use Rattle.fv_parse_grammar.specs.headline.Symbols.{head, power}

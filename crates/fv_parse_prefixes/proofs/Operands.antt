@@ -1,8 +1,8 @@
 -- What begins an operand, by its first token, and what stands behind it.
 use Rattle.std.proofs.Common.{◌≡◌, ℕ, List, [], ◌∷◌, Ok, refl, sym, subst}
-use Rattle.fv_lex.specs.declared.token.Symbol.{Symbol}
-use Rattle.fv_lex.specs.declared.token.Symbol.TheVariants.{Name, Text, Integer, Comma, Open, Close, OpenBrace, CloseBrace, Dot, Tick}
-use Rattle.fv_lex.specs.declared.token.Symbol.TheVariants as symbols
+use Rattle.fv_parse_grammar.specs.Symbol.{Symbol}
+use Rattle.fv_parse_grammar.specs.Symbol.TheVariants.{Name, Text, Integer, Comma, Open, Close, OpenBrace, CloseBrace, Dot, Tick}
+use Rattle.fv_parse_grammar.specs.Symbol.TheVariants as symbols
 use Rattle.fv_parse_grammar.specs.declared.form.Iteration.{Iteration as Repetition}
 use Rattle.fv_parse_grammar.specs.declared.form.Side.{Side}
 use Rattle.fv_parse_grammar.specs.declared.form.Switch.{Switch as SwitchKind}

@@ -1,8 +1,8 @@
 -- Single tokens, names, and what stands in brackets.
 use Rattle.std.proofs.Common.{◌≡◌, ℕ, zero, suc, Bool, true, false, cond, List, [], ◌∷◌, length, drop, Ok, Err, refl, sym, subst}
 use Rattle.std.specs.Prelude.{nat_lt}
-use Rattle.fv_lex.specs.declared.token.Symbol.{Symbol}
-use Rattle.fv_lex.specs.declared.token.Symbol.TheVariants.{Name, Text, Comma, Open, Close}
+use Rattle.fv_parse_grammar.specs.Symbol.{Symbol}
+use Rattle.fv_parse_grammar.specs.Symbol.TheVariants.{Name, Text, Comma, Open, Close}
 use Rattle.fv_parse_grammar.specs.declared.symbol.Mark.{Mark}
 use Rattle.fv_parse_grammar.specs.declared.symbol.Mark.TheVariants as marks
 use Rattle.fv_parse_grammar.specs.Symbols.{is_mark}
@@ -10,8 +10,8 @@ use Rattle.fv_parse_grammar.specs.inner.Symbols.{sign}
 use Rattle.fv_parse_grammar.proofs.Tokens.{is_mark_sign}
 use Rattle.fv_parse_grammar.specs.declared.symbol.Inside.{Inside}
 use Rattle.fv_parse_grammar.specs.declared.symbol.Inside.TheVariants as insides
-use Rattle.fv_lex.specs.declared.token.Symbol.TheVariants.{Integer}
-use Rattle.fv_lex.specs.declared.token.Symbol.TheVariants as symbols
+use Rattle.fv_parse_grammar.specs.Symbol.TheVariants.{Integer}
+use Rattle.fv_parse_grammar.specs.Symbol.TheVariants as symbols
 use Rattle.fv_parse_grammar.specs.declared.form.Literal.{Literal}
 use Rattle.fv_parse_grammar.specs.declared.form.Literal.TheVariants as literal
 use Rattle.fv_parse_grammar.specs.headline.Grammar.{SpellsNumber, unsigned, with_plus, with_minus, one_number, more_numbers, one_name, more_names}

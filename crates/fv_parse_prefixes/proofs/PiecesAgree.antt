@@ -1,12 +1,12 @@
 -- Single tokens, names, and what stands in brackets, in two lists that are the same up to and with a token.
-use Rattle.fv_lex.specs.declared.token.Symbol.TheVariants.{Integer}
-use Rattle.fv_lex.specs.declared.token.Symbol.TheVariants as symbols
+use Rattle.fv_parse_grammar.specs.Symbol.TheVariants.{Integer}
+use Rattle.fv_parse_grammar.specs.Symbol.TheVariants as symbols
 use Rattle.fv_parse_grammar.specs.declared.form.Literal.{Literal}
 use Rattle.fv_parse_grammar.specs.declared.form.Literal.TheVariants as literal
 use Rattle.fv_parse_grammar.specs.Descent.{◌>>=◌, a_value, a_literal, literal_list}
 use Rattle.std.proofs.Common.{◌≡◌, ℕ, zero, suc, ◌≤◌, ◌<◌, Bool, true, false, cond, List, [], ◌∷◌, length, drop, Ok, Err, refl, sym, subst, ap, ◌∙◌, arith}
-use Rattle.fv_lex.specs.declared.token.Symbol.{Symbol}
-use Rattle.fv_lex.specs.declared.token.Symbol.TheVariants.{Name, Text, Comma}
+use Rattle.fv_parse_grammar.specs.Symbol.{Symbol}
+use Rattle.fv_parse_grammar.specs.Symbol.TheVariants.{Name, Text, Comma}
 use Rattle.fv_parse_grammar.specs.declared.symbol.Mark.{Mark}
 use Rattle.fv_parse_grammar.specs.declared.symbol.Mark.TheVariants as marks
 use Rattle.fv_parse_grammar.specs.Symbols.{is_mark}

@@ -1,7 +1,7 @@
 -- Definitions, rules, lists, and the inside of brackets, in two lists that are the same up to and with a token.
 use Rattle.std.proofs.Common.{◌≡◌, ℕ, zero, suc, ◌+◌, ◌≤◌, ◌<◌, List, [], ◌∷◌, length, Result, Ok, Err, refl, ap, arith}
-use Rattle.fv_lex.specs.declared.token.Symbol.{Symbol}
-use Rattle.fv_lex.specs.declared.token.Symbol.TheVariants.{Name, Comma, Open, Declare}
+use Rattle.fv_parse_grammar.specs.Symbol.{Symbol}
+use Rattle.fv_parse_grammar.specs.Symbol.TheVariants.{Name, Comma, Open, Declare}
 use Rattle.fv_parse_grammar.specs.declared.symbol.Inside.{Inside}
 use Rattle.fv_parse_grammar.specs.declared.symbol.Inside.TheVariants as insides
 use Rattle.fv_parse_grammar.specs.declared.symbol.Items.{Items}

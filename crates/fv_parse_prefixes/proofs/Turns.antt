@@ -1,7 +1,7 @@
 -- Loops of turns: what each turn adds to what was taken.
 use Rattle.std.proofs.Common.{◌≡◌, ℕ, zero, suc, Bool, true, false, cond, List, length, Ok, refl}
 use Rattle.std.specs.Prelude.{nat_lt}
-use Rattle.fv_lex.specs.declared.token.Symbol.{Symbol}
+use Rattle.fv_parse_grammar.specs.Symbol.{Symbol}
 use Rattle.fv_parse_grammar.specs.headline.Tree.{Tree}
 use Rattle.fv_parse_grammar.specs.Descent.{Step, Turn, Done, Next, Stop, turn, after, turns, run}
 use Rattle.fv_parse_prefixes.proofs.Plans.{Plan, Spans, Takes, Sticks, took, stuck, stays, by_test, Reads}

@@ -1,7 +1,7 @@
 -- Small beginnings, and places where the descent stops.
 use Rattle.std.specs.Prelude.{◌≡◌, List, [], ◌∷◌, Err, refl}
-use Rattle.fv_lex.specs.declared.token.Symbol.{Symbol}
-use Rattle.fv_lex.specs.declared.token.Symbol.TheVariants.{Name, Comma, Open, Close, Equals, Semicolon, Underscore}
+use Rattle.fv_parse_grammar.specs.Symbol.{Symbol}
+use Rattle.fv_parse_grammar.specs.Symbol.TheVariants.{Name, Comma, Open, Close, Equals, Semicolon, Underscore}
 use Rattle.fv_parse_grammar.specs.declared.symbol.Items.TheVariants.{Statements}
 use Rattle.fv_parse_grammar.specs.headline.Tree.{Tree, End}
 use Rattle.fv_parse_grammar.specs.headline.Grammar.{Spells, Further, Definition, Expression, Primary, IsViablePrefix, stated, no_more, constant, plain, tighter, operand, bare}

@@ -13,3 +13,6 @@ pub use Rattle.fv_num.specs.SpanLaws
 pub use Rattle.fv_signal.specs.headline.Value
 pub use Rattle.fv_signal.specs.Value as ValueBeside
 pub mod inner
+pub use Rattle.fv_interval.specs.headline.Laws
+pub use Rattle.fv_interval.specs.headline.SpanHooks
+pub use Rattle.fv_signal.specs.declared.signal.Signal

@@ -8,7 +8,7 @@ use Rattle.fv_graph.specs.Wires.{Wires}
 use Rattle.std.specs.Global.{Vec}
 use Rattle.fv_graph.specs.Graph.{inward, outward}
 use Rattle.fv_graph.proofs.Counts.{bit_right, bit_same, bit_apart}
-use Rattle.fv_outside.specs.Tasks.{times}
+use Rattle.fv_graph.specs.TasksBeside.{times}
 use mathlib.Core.Logic.{dite}
 use native.Mathlib.Decide.{ℕ_discrete}
 use Rattle.fv_ready_rule.specs.Wired.{graph_wires}

@@ -4,7 +4,7 @@ use Rattle.std.proofs.Common.{sym, ap, ◌∙◌, subst, arith, ◌==◌, eq-eqb
 use Rattle.std.specs.List.{remove, position, position_or_len}
 use mathlib.Core.Logic.{dite}
 use native.Mathlib.Decide.{ℕ_discrete}
-use Rattle.fv_outside.specs.Tasks.{times}
+use Rattle.fv_graph.specs.TasksBeside.{times}
 use Rattle.fv_graph.proofs.Counts.{bit_apart}
 use Rattle.fv_ready_rule.specs.Rule.{places}
 use Rattle.fv_ready_rule.specs.inner.Spun.{spun}

@@ -4,10 +4,10 @@ use Rattle.std.proofs.Common.{arith, ◌==◌, Option, Some, None, MatchOption, 
 use mathlib.Core.Logic.{dite}
 use native.Mathlib.Decide.{ℕ_discrete, dec_le}
 use Rattle.atomic_table.specs.Seated.{TableId}
-use Rattle.fv_outside.specs.headline.Tasks.{bit, total}
-use Rattle.fv_outside.specs.Tasks.{times}
+use Rattle.fv_graph.specs.Tasks.{bit, total}
+use Rattle.fv_graph.specs.TasksBeside.{times}
 use Rattle.fv_graph.specs.Net.{Net, IsNet, need_count}
-use Rattle.fv_outside.specs.Tasks.{task_count}
+use Rattle.fv_graph.specs.TasksBeside.{task_count}
 use Rattle.fv_graph.specs.Graph.{Graph, IsGraph, net_of}
 use Rattle.fv_graph.proofs.Graphs.{is_wires}
 use Rattle.fv_graph.proofs.Counts.{bit_le, bit_same, bit_apart, bit_one, bit_true, bit_false, bit_left, both_true}

@@ -9,8 +9,8 @@ use mathlib.Core.Logic.{dite}
 use native.Mathlib.Decide.{ℕ_discrete}
 use Rattle.atomic_table.specs.Seated.{TableId}
 use Rattle.atomic_table.specs.Table.{Me}
-use Rattle.fv_outside.specs.headline.Tasks.{Tasks, bit}
-use Rattle.fv_outside.specs.Tasks.{times, task_count}
+use Rattle.fv_graph.specs.Tasks.{Tasks, bit}
+use Rattle.fv_graph.specs.TasksBeside.{times, task_count}
 use Rattle.fv_graph.specs.Graph.{Graph, IsGraph, net_of, edges_of, stride, inward, outward, feeds_of}
 use Rattle.fv_graph.specs.Graph.{pair_edge, pair_at, vector_of, loop_of, reader_of, is_entry, is_exit}
 use Rattle.fv_graph.specs.Words.{passing}

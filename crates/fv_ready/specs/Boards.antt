@@ -1,8 +1,8 @@
 -- What a board is to its callers: its tasks, what it was told, and which seats, slots and parcels are its own (this project's profile).
 use Rattle.std.specs.Prelude.{◌≡◌, ℕ, ◌+◌, ◌-◌, ◌<◌, List, [], ◌++◌, length, drop, Option, Some}
 use Rattle.atomic_table.specs.Seated.{TableId}
-use Rattle.fv_outside.specs.headline.Tasks.{Tasks}
-use Rattle.fv_outside.specs.Tasks.{times}
+use Rattle.fv_graph.specs.Tasks.{Tasks}
+use Rattle.fv_graph.specs.TasksBeside.{times}
 use Rattle.fv_graph.specs.Graph.{Graph, inward, outward, feeds_of}
 use Rattle.fv_ready_rule.specs.declared.About.{About}
 use Rattle.fv_ready_rule.specs.Wired.{graph_wires}

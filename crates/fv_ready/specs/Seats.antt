@@ -1,7 +1,7 @@
 -- What a worker's seat means (this project's profile).
 use Rattle.std.specs.Prelude.{◌≡◌, ℕ, ◌+◌, ◌<◌, ◌≤◌, List, ◌∷◌, ◌++◌, length, Option, Some, vec_capacity, MatchOption}
 use Rattle.atomic_table.specs.Seated.{TableId}
-use Rattle.fv_outside.specs.Tasks.{times, task_count}
+use Rattle.fv_graph.specs.TasksBeside.{times, task_count}
 use Rattle.fv_graph.specs.Graph.{inward, outward}
 use Rattle.fv_ready_rule.specs.declared.About.{About}
 use Rattle.fv_ready_rule.specs.declared.View.{View}

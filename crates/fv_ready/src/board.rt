@@ -1,7 +1,7 @@
 // A board.
 
 ghost use Rattle.std.specs.Prelude.{◌≡◌, ℕ, ◌+◌, ◌^◌, ◌<◌, ◌≤◌};
-ghost use Rattle.fv_outside.specs.Tasks.{task_count};
+ghost use Rattle.fv_graph.specs.TasksBeside.{task_count};
 ghost use Rattle.fv_graph.specs.Graph.{IsGraph, edges_of};
 
 use crate::rule::Whole;

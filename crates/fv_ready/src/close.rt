@@ -4,7 +4,7 @@ ghost use Rattle.std.specs.Prelude.{◌≡◌, ℕ, ◌+◌, ◌*◌, ◌-◌, �
 ghost use Rattle.std.specs.Slots.{slots_items, slots_filled, slots_len, IsFull};
 ghost use mathlib.Core.Option.{some};
 ghost use lib.ListN.{get_elem?};
-ghost use Rattle.fv_outside.specs.Tasks.{times, task_count};
+ghost use Rattle.fv_graph.specs.TasksBeside.{times, task_count};
 ghost use Rattle.fv_graph.specs.Graph.{IsGraph, edges_of, net_of};
 ghost use Rattle.fv_ready_rule.specs.Rule.{done_by, finishes, wins, loses, claim_word};
 ghost use Rattle.fv_ready_rule.specs.Promised.{Tells};

@@ -1,7 +1,7 @@
 // A worker's seat: what it did, what it has in hand, and the slots that it has.
 
 ghost use Rattle.std.specs.Prelude.{◌≡◌, ℕ, ◌+◌, ◌<◌, ◌≤◌, length, ◌++◌, ◌==◌, position, vec_len, vec_capacity};
-ghost use Rattle.fv_outside.specs.Tasks.{times};
+ghost use Rattle.fv_graph.specs.TasksBeside.{times};
 ghost use Rattle.fv_ready_rule.specs.inner.Spun.{spun};
 ghost use Rattle.fv_ready.specs.Seats.{IsPlaceOf};
 

@@ -1,7 +1,7 @@
 // The steps on slots: what a seat receives and hands. Each is one exchange.
 
 ghost use Rattle.std.specs.Prelude.{◌≡◌, ℕ, ◌+◌, ◌<◌, List, Option, Some, None, ◌∷◌, ◌++◌, true, IsSomeAnd, IsSome};
-ghost use Rattle.fv_outside.specs.Tasks.{times};
+ghost use Rattle.fv_graph.specs.TasksBeside.{times};
 ghost use Rattle.fv_graph.specs.Graph.{inward, outward};
 ghost use Rattle.fv_ready_rule.specs.Rule.{places};
 ghost use Rattle.fv_ready_rule.specs.Carried.{slot_at, with_slot};

@@ -1,7 +1,7 @@
 // The steps on words: looks, claims, stamps and arrivals. Each is one atomic step.
 
 ghost use Rattle.std.specs.Prelude.{◌≡◌, ℕ, ◌<◌, ◌==◌, not, Some, None, [], true, false, MatchBool, IfSome, IsSomeAnd};
-ghost use Rattle.fv_outside.specs.Tasks.{task_count};
+ghost use Rattle.fv_graph.specs.TasksBeside.{task_count};
 ghost use Rattle.fv_graph.specs.Graph.{net_of};
 ghost use Rattle.fv_ready_rule.specs.Rule.{noted, done_by, sees, stamps, finishes, arrives, zeroes};
 ghost use Rattle.fv_ready_rule.specs.Carried.{but_slot};

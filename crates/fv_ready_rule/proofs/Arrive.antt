@@ -7,8 +7,8 @@ use native.Mathlib.Decide.{ℕ_discrete}
 use lib.ListN.{get_elem?}
 use Rattle.atomic_table.specs.Table.{State}
 use Rattle.atomic_table.proofs.Lists.{at_set, set_here, set_else}
-use Rattle.fv_outside.specs.headline.Tasks.{bit, total}
-use Rattle.fv_outside.specs.Tasks.{times}
+use Rattle.fv_graph.specs.Tasks.{bit, total}
+use Rattle.fv_graph.specs.TasksBeside.{times}
 use Rattle.fv_graph.proofs.Counts.{bit_same, bit_swap, bit_apart, bit_le, total_append, total_add, get_set, spare}
 use Rattle.fv_graph.proofs.Counts.{bit_left}
 use Rattle.fv_graph.specs.Wires.{Wires, IsWires}

@@ -5,8 +5,8 @@ use Rattle.std.specs.Cmp.Derive.{both_true}
 use mathlib.Core.Option.{some}
 use lib.ListN.{get_elem?}
 use Rattle.atomic_table.specs.Table.{State}
-use Rattle.fv_outside.specs.headline.Tasks.{bit}
-use Rattle.fv_outside.specs.Tasks.{times}
+use Rattle.fv_graph.specs.Tasks.{bit}
+use Rattle.fv_graph.specs.TasksBeside.{times}
 use Rattle.fv_graph_core.specs.Ends.{without}
 use Rattle.fv_graph.specs.Net.{Net, IsNet}
 use Rattle.fv_graph_core.specs.Core.{Now, owes_of, count_of}

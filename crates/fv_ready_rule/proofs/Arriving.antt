@@ -7,7 +7,7 @@ use native.Mathlib.Decide.{ℕ_discrete}
 use Rattle.atomic_table.specs.Table.{step, gives, Allows}
 use Rattle.fv_graph.specs.Net.{Net}
 use Rattle.fv_graph.specs.Graph.{Graph}
-use Rattle.fv_outside.specs.Tasks.{times}
+use Rattle.fv_graph.specs.TasksBeside.{times}
 use Rattle.fv_graph.proofs.Counts.{bit_same, bit_apart, bit_left}
 use Rattle.fv_graph.specs.Wires.{Wires, IsWires}
 use Rattle.fv_ready_rule.specs.declared.Deed.TheVariants.{Arrived}

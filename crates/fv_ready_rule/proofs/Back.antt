@@ -6,8 +6,8 @@ use mathlib.Core.Logic.{dite}
 use native.Mathlib.Decide.{ℕ_discrete}
 use lib.ListN.{get_elem?}
 use Rattle.atomic_table.specs.Table.{State, homes_after}
-use Rattle.fv_outside.specs.headline.Tasks.{bit, total}
-use Rattle.fv_outside.specs.Tasks.{times}
+use Rattle.fv_graph.specs.Tasks.{bit, total}
+use Rattle.fv_graph.specs.TasksBeside.{times}
 use Rattle.fv_graph.specs.Wires.{Wires, IsWires}
 use Rattle.fv_graph.specs.Graph.{Graph}
 use Rattle.fv_ready_rule.specs.declared.Deed.{Deed}

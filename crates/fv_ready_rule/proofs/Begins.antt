@@ -9,8 +9,8 @@ use mathlib.Core.Logic.{dite}
 use native.Mathlib.Decide.{dec_le}
 use lib.ListN.{get_elem?}
 use Rattle.atomic_table.specs.Table.{State, opening}
-use Rattle.fv_outside.specs.headline.Tasks.{bit, total}
-use Rattle.fv_outside.specs.Tasks.{times}
+use Rattle.fv_graph.specs.Tasks.{bit, total}
+use Rattle.fv_graph.specs.TasksBeside.{times}
 use Rattle.fv_graph.specs.Net.{Net}
 use Rattle.fv_graph_core.specs.Core as core
 use Rattle.fv_graph_core.specs.Core.{Now, numbers, is_run}

@@ -8,8 +8,8 @@ use native.Mathlib.Decide.{ℕ_discrete}
 use lib.ListN.{get_elem?}
 use Rattle.atomic_table.specs.Table.{State, Me, step, keeps, Allows, carried_after, homes_after}
 use Rattle.atomic_table.proofs.Lists.{at_set}
-use Rattle.fv_outside.specs.headline.Tasks.{bit, total}
-use Rattle.fv_outside.specs.Tasks.{times}
+use Rattle.fv_graph.specs.Tasks.{bit, total}
+use Rattle.fv_graph.specs.TasksBeside.{times}
 use Rattle.fv_graph.proofs.Counts.{bit_same, bit_apart, bit_one, bit_true, bit_le, both_true, total_append, full, get_set}
 use Rattle.fv_graph.proofs.Counts.{bit_left, bit_right}
 use Rattle.fv_graph.specs.Wires.{Wires, IsWires}

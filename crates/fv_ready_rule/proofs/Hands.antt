@@ -4,8 +4,8 @@ use Rattle.std.proofs.Common.{◌++◌, length, refl, sym, ap, ◌∙◌, subst,
 use Rattle.std.proofs.Common.{ltb, ltb-true, Option, Some, None, append-nil, append_assoc, length-append}
 use mathlib.Core.Logic.{dite}
 use native.Mathlib.Decide.{ℕ_discrete}
-use Rattle.fv_outside.specs.headline.Tasks.{bit}
-use Rattle.fv_outside.specs.Tasks.{times}
+use Rattle.fv_graph.specs.Tasks.{bit}
+use Rattle.fv_graph.specs.TasksBeside.{times}
 use Rattle.fv_graph.specs.Net.{Net}
 use Rattle.fv_graph.specs.Graph.{Graph}
 use Rattle.fv_graph.specs.Wires.{Wires, IsWires}

@@ -3,8 +3,8 @@ use Rattle.std.proofs.Common.{◌≡◌, ℕ, ◌+◌, ◌%◌, ◌^◌, ◌<◌
 use Rattle.std.proofs.Common.{◌++◌, length, drop, refl, sym, ap, ◌∙◌, subst, arith, ◌==◌, Option, Some, append_assoc}
 use mathlib.Core.Option.{none}
 use Rattle.atomic_table.specs.Table.{step, Allows}
-use Rattle.fv_outside.specs.headline.Tasks.{Tasks, bit}
-use Rattle.fv_outside.specs.Tasks.{times, task_count}
+use Rattle.fv_graph.specs.Tasks.{Tasks, bit}
+use Rattle.fv_graph.specs.TasksBeside.{times, task_count}
 use Rattle.fv_graph.specs.Graph.{Graph, outward, feeds_of, pair_edges_out, chain_edge, loop_of, vector_of}
 use Rattle.fv_graph.specs.Wires.{Wires, IsWires}
 use Rattle.fv_graph.proofs.Counts.{bit_same, total_append}

@@ -6,7 +6,7 @@ use native.Mathlib.Decide.{ℕ_discrete}
 use lib.ListN.{get_elem?}
 use Rattle.atomic_table.specs.Table.{State}
 use Rattle.atomic_table.proofs.Lists.{at_set, set_here, set_else}
-use Rattle.fv_outside.specs.headline.Tasks.{bit, total}
+use Rattle.fv_graph.specs.Tasks.{bit, total}
 use Rattle.fv_graph.specs.Net.{Net}
 use Rattle.fv_graph_core.specs.Core.{Now, is_run, is_done, count_of}
 use Rattle.fv_ready_rule.specs.declared.Deed.{Deed}

@@ -4,8 +4,8 @@ use Rattle.std.proofs.Common.{length, get_or, slice_index, refl, sym, ap, ◌∙
 use mathlib.Core.Option.{some}
 use lib.ListN.{get_elem?}
 use Rattle.atomic_table.specs.Table.{State}
-use Rattle.fv_outside.specs.headline.Tasks.{bit, total}
-use Rattle.fv_outside.specs.Tasks.{times}
+use Rattle.fv_graph.specs.Tasks.{bit, total}
+use Rattle.fv_graph.specs.TasksBeside.{times}
 use Rattle.fv_graph.specs.Net.{Net, need_count}
 use Rattle.fv_graph.specs.Graph.{net_of}
 use Rattle.fv_graph.proofs.Counts.{bit_true, bit_le, total_none}

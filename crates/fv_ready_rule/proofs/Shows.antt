@@ -4,8 +4,8 @@ use Rattle.std.proofs.Common.{get_or, set, slice_index, refl, sym, ap, ◌∙◌
 use mathlib.Core.Option.{some}
 use lib.ListN.{get_elem?}
 use Rattle.atomic_table.specs.Table.{State}
-use Rattle.fv_outside.specs.headline.Tasks.{bit, total}
-use Rattle.fv_outside.specs.Tasks.{times}
+use Rattle.fv_graph.specs.Tasks.{bit, total}
+use Rattle.fv_graph.specs.TasksBeside.{times}
 use Rattle.fv_graph_core.specs.Ends.{is_empty}
 use Rattle.fv_graph.specs.Net.{Net}
 use Rattle.fv_graph_core.specs.Core.{Now, is_run, run_of, owes_of, is_done, count_of, is_free, opening}

@@ -7,8 +7,8 @@ use mathlib.Core.Logic.{dite}
 use native.Mathlib.Decide.{ℕ_discrete}
 use lib.ListN.{get_elem?}
 use Rattle.atomic_table.specs.Table.{State, Me, Act, homes_after, carried_after, stepped}
-use Rattle.fv_outside.specs.headline.Tasks.{Tasks, bit}
-use Rattle.fv_outside.specs.Tasks.{task_count}
+use Rattle.fv_graph.specs.Tasks.{Tasks, bit}
+use Rattle.fv_graph.specs.TasksBeside.{task_count}
 use Rattle.fv_graph.specs.Net.{Net}
 use Rattle.fv_graph.specs.Graph.{IsGraph, net_of, edges_of}
 use Rattle.fv_graph.specs.Wires.{IsWires}

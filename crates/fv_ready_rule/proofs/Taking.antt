@@ -6,8 +6,8 @@ use native.Mathlib.Decide.{ℕ_discrete}
 use lib.ListN.{get_elem?}
 use Rattle.atomic_table.specs.Table.{Act, keeps, takes, gives, chain, carried_after, homes_after, Valid}
 use Rattle.atomic_table.proofs.Lists.{at_set, set_else, set_here}
-use Rattle.fv_outside.specs.headline.Tasks.{bit}
-use Rattle.fv_outside.specs.Tasks.{times}
+use Rattle.fv_graph.specs.Tasks.{bit}
+use Rattle.fv_graph.specs.TasksBeside.{times}
 use Rattle.fv_ready_rule.specs.Rule.{places, Each}
 use Rattle.fv_graph.proofs.Counts.{bit_same, bit_apart, total_append}
 

@@ -1,7 +1,7 @@
 -- What a seat's slots are, by what it has in hand (this project's profile).
 use Rattle.std.specs.Prelude.{◌≡◌, ℕ, ◌+◌, ◌<◌, ◌⊎◌, ◌&&◌, Bool, true, cond, ltb, List, [], ◌∷◌, ◌++◌, Option, Some, None, ◌==◌}
-use Rattle.fv_outside.specs.headline.Tasks.{bit}
-use Rattle.fv_outside.specs.Tasks.{times}
+use Rattle.fv_graph.specs.Tasks.{bit}
+use Rattle.fv_graph.specs.TasksBeside.{times}
 use Rattle.fv_graph.specs.Graph.{Graph}
 use Rattle.fv_graph.specs.Wires.{Wires}
 use Rattle.fv_ready_rule.specs.declared.About.{About}

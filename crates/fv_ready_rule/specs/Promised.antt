@@ -1,6 +1,6 @@
 -- What all seats' lists, taken together, tell of a board that is closed (this project's profile).
 use Rattle.std.specs.Prelude.{◌≡◌, ℕ, ◌<◌, ◌≤◌, length}
-use Rattle.fv_outside.specs.Tasks.{times}
+use Rattle.fv_graph.specs.TasksBeside.{times}
 use Rattle.fv_graph.specs.Net.{Net}
 use Rattle.fv_ready_rule.specs.declared.Deed.{Deed}
 use Rattle.fv_ready_rule.specs.Rule.{wins, loses, sees, arrives, stamps, starts, finishes, zeroes}

@@ -4,7 +4,7 @@ use Rattle.std.specs.Prelude.{[], ◌∷◌, ◌++◌, length, slice_index, Opti
 use mathlib.Core.Option.{some}
 use lib.ListN.{get_elem?}
 use Rattle.atomic_table.specs.Table.{State, Me, Step, rest}
-use Rattle.fv_outside.specs.headline.Tasks.{bit, total}
+use Rattle.fv_graph.specs.Tasks.{bit, total}
 use Rattle.fv_graph.specs.Net.{Net}
 use Rattle.fv_graph.specs.Wires.{Wires}
 use Rattle.fv_graph.specs.Graph.{Graph}

@@ -1,7 +1,7 @@
 // The laws of a board's rule.
 
 ghost use Rattle.std.specs.Prelude.{◌≡◌, ℕ, ◌^◌, ◌<◌, List, Option, Some};
-ghost use Rattle.fv_outside.specs.Tasks.{task_count};
+ghost use Rattle.fv_graph.specs.TasksBeside.{task_count};
 ghost use Rattle.fv_graph.specs.Graph.{IsGraph};
 ghost use Rattle.fv_ready_rule.specs.Steps.{StepLaw, OpeningLaw};
 ghost use Rattle.fv_ready_rule.specs.declared.About.{About};

@@ -7,13 +7,13 @@ use Rattle.fv_outside.specs.headline.Tasks.{Tasks, bit}
 use Rattle.fv_outside.specs.Tasks.{times}
 use Rattle.fv_graph.specs.Graph.{inward, outward}
 use Rattle.fv_graph.proofs.Counts.{bit_same, bit_apart, total_append}
-use Rattle.fv_ready_rule.specs.declared.Deed.{Deed}
-use Rattle.fv_ready_rule.specs.declared.Deed.TheVariants.{Saw}
-use Rattle.fv_ready_rule.specs.declared.View.{View}
-use Rattle.fv_ready_rule.specs.declared.About.{About}
-use Rattle.fv_ready_rule.specs.Wired.{graph_wires}
-use Rattle.fv_ready_rule.specs.Rule.{done_by, sees, noted, places, Each, Fits}
-use Rattle.fv_ready_rule.specs.Carried.{slot_at}
+use Rattle.fv_ready.specs.Deed.{Deed}
+use Rattle.fv_ready.specs.Deed.TheVariants.{Saw}
+use Rattle.fv_ready.specs.View.{View}
+use Rattle.fv_ready.specs.About.{About}
+use Rattle.fv_ready.specs.Wired.{graph_wires}
+use Rattle.fv_ready.specs.Rule.{done_by, sees, noted, places, Each, Fits}
+use Rattle.fv_ready.specs.Carried.{slot_at}
 use Rattle.fv_ready.specs.declared.board.Board.{Board}
 use Rattle.fv_ready.specs.declared.seat.InHand.{InHand}
 use Rattle.fv_ready.specs.declared.seat.WorkerSeat.{WorkerSeat}

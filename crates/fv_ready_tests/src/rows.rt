@@ -2,7 +2,7 @@
 // and 3 and 4 out of the loops.
 
 ghost use Rattle.std.specs.Prelude.{◌≡◌, ◌+◌, ◌≤◌, [], ◌∷◌, Some, None, false, IfOk, vec_len, vec_capacity};
-ghost use Rattle.fv_ready_rule.specs.Rule.{arrives, done_by};
+ghost use Rattle.fv_ready.specs.Rule.{arrives, done_by};
 ghost use Rattle.fv_ready.specs.Begun.{AreEntries};
 ghost use Rattle.fv_ready.specs.Seats.{view_of, slots_of, hand_of};
 ghost use Rattle.fv_ready.specs.Boards.{about_of, tasks_of, IsSeatOf, IsFirstSeatOf, AreFirstSeatsOf, AreTaken};

@@ -1,8 +1,8 @@
 // The whole worked example: two seats do both tasks. Seat 0 takes task 0, and seat 1 takes task 1 once its count is 0.
 
 ghost use Rattle.std.specs.Prelude.{◌≡◌, ℕ, [], Some, None, true, false};
-ghost use Rattle.fv_ready_rule.specs.Rule.{noted};
-ghost use Rattle.fv_ready_rule.specs.declared.Deed.TheVariants.{Stamped};
+ghost use Rattle.fv_ready.specs.Rule.{noted};
+ghost use Rattle.fv_ready.specs.Deed.TheVariants.{Stamped};
 ghost use Rattle.fv_ready.specs.Seats.{view_of, slots_of, hand_of};
 ghost use Rattle.fv_ready.specs.Boards.{tasks_of, IsSeatOf, AreTaken};
 ghost use Rattle.fv_ready_tests.specs.TwoLoops.{two_loops};

@@ -9,12 +9,12 @@ use Rattle.fv_parse_grammar.specs.declared.form.Operator.{Operator}
 use Rattle.fv_parse_grammar.specs.declared.form.Operator.TheVariants as operators
 use Rattle.fv_parse_grammar.specs.declared.form.Iteration.{Iteration as Repetition}
 use Rattle.fv_parse_grammar.specs.declared.form.Iteration.TheVariants as repetitions
-use Rattle.fv_num.specs.declared.op.Op.TheVariants as op
+use Rattle.fv_diagram.specs.Op.TheVariants as op
 use Rattle.fv_diagram.specs.declared.node.Primitive.{Primitive as Prim}
 use Rattle.fv_diagram.specs.declared.node.Primitive.TheVariants as prim
 use Rattle.fv_diagram.specs.headline.Diagram.{Diagram, Primitive, Constant, Table, Bind, Par, Seq, Split, Merge, Rec, size, inputs}
-use Rattle.fv_diagram_number.specs.headline.Numbers.{at_first, number_of}
-use Rattle.fv_num.specs.headline.Words.{argument}
+use Rattle.fv_diagram_head.specs.Numbers.{at_first, number_of}
+use Rattle.fv_diagram.specs.Words.{argument}
 use Rattle.std.proofs.Common.{◌+◌, ◌*◌}
 use Rattle.fv_diagram.specs.headline.Arena.{size_limit}
 use Rattle.fv_diagram.specs.declared.control.ControlInfo.{ControlInfo}

@@ -1,7 +1,7 @@
 -- The number of a literal, as its 32 bits are read.
 use Rattle.std.proofs.Common.{◌≡◌, ℕ, zero, suc, ◌+◌, ◌-◌, ◌%◌, ◌^◌, ◌<◌, arith, ap, pos, neg_ℤ, to_z, w32}
 use Rattle.std.specs.Int.{int_wrap}
-use Rattle.fv_num.specs.headline.Words.{wrap}
+use Rattle.fv_diagram.specs.Words.{wrap}
 
 small : (n : ℕ) → n < 2 ^ 32 → n ≡ n % 2 ^ 32
 small n h = omega arith

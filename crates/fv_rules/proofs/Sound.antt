@@ -15,7 +15,7 @@ use Rattle.fv_parse_grammar.specs.declared.form.Operator.{Operator}
 use Rattle.fv_parse_grammar.specs.declared.form.Operator.TheVariants as operators
 use Rattle.fv_parse_grammar.specs.declared.form.Side.{Side}
 use Rattle.fv_parse_grammar.specs.declared.form.Side.TheVariants as sides
-use Rattle.fv_num.specs.declared.op.Op.TheVariants as op
+use Rattle.fv_diagram.specs.Op.TheVariants as op
 use Rattle.fv_diagram.proofs.Composed.{composed_is_well}
 use Rattle.fv_diagram.specs.declared.node.Primitive.TheVariants as prim
 use Rattle.fv_diagram.specs.headline.Diagram.{Diagram, Primitive, Constant, Control, Slot, Bind, Par, Seq, Split, Merge, Rec, has_table_primitive}
@@ -27,7 +27,7 @@ use Rattle.fv_rules.specs.declared.refusal.TableCause.TheVariants as cause
 use Rattle.fv_parse.specs.headline.Trees.{text_of, label_of}
 use Rattle.fv_rules.specs.headline.Values.{Name, Rule, Value, Flat, Abstraction, Rules, Env, Outermost, Bound, Scope, Taken, Nothing, And, Definition, Plain}
 use Rattle.fv_rules.specs.headline.Values.{Parameters, Cases, Meaning, IsValue, IsDefined, Unknown, lookup, or_else as meant_or, in_order, count_taken}
-use Rattle.fv_diagram_number.specs.headline.Numbers.{number_of}
+use Rattle.fv_diagram_head.specs.Numbers.{number_of}
 use Rattle.fv_rules.specs.headline.Matching.{Bindings, number_or, settled, and_then, parts_of, parts_without, value_parts, value_number}
 use Rattle.fv_rules.specs.headline.Matching.{matched, all_matched, bound_in, or_next, chosen}
 use Rattle.fv_rules.specs.headline.Steps.{State, Outcome, Eval, after, ◌>>=◌, no_number, no_rule, no_diagram, spent, visit, fresh_slots}

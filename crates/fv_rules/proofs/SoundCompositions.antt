@@ -8,13 +8,13 @@ use Rattle.fv_parse_grammar.specs.declared.form.Operator.{Operator}
 use Rattle.fv_parse_grammar.specs.declared.form.Operator.TheVariants as operators
 use Rattle.fv_parse_grammar.specs.declared.form.Iteration.{Iteration as Repetition}
 use Rattle.fv_parse_grammar.specs.declared.form.Iteration.TheVariants as repetitions
-use Rattle.fv_num.specs.declared.op.Op.TheVariants as op
+use Rattle.fv_diagram.specs.Op.TheVariants as op
 use Rattle.fv_diagram.specs.declared.node.Primitive.{Primitive as Prim}
 use Rattle.fv_diagram.specs.declared.node.Primitive.TheVariants as prim
 use Rattle.fv_diagram.specs.headline.Diagram.{Diagram, Primitive, Constant, Slot, Table, Bind, Par, Seq, Split, Merge, Rec, size, inputs, outputs}
 use Rattle.fv_diagram.specs.headline.Diagram.{table_inputs}
-use Rattle.fv_diagram_number.specs.headline.Numbers.{at_first}
-use Rattle.fv_num.specs.headline.Words.{argument}
+use Rattle.fv_diagram_head.specs.Numbers.{at_first}
+use Rattle.fv_diagram.specs.Words.{argument}
 use Rattle.std.specs.List.{list_all}
 use Rattle.std.proofs.Common.{◌+◌, ◌*◌, length, ◌∙◌, negsuc}
 use Rattle.fv_diagram.specs.Diagram.{control_bound, IsFree}

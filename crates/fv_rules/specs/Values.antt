@@ -2,7 +2,7 @@
 -- arenas. A name is its bytes.
 use Rattle.std.specs.Prelude.{◌≡◌, ℕ, ◌≤◌, pos, neg_ℤ}
 use Rattle.fv_lex.specs.headline.Pieces.{greatest_literal}
-use Rattle.fv_num.specs.headline.Words.{wrap}
+use Rattle.fv_diagram.specs.Words.{wrap}
 
 -- Numbers are 32-bit integers that wrap. A literal of a text is no greater than the greatest one, so it stays.
 abbrev pub LiteralsStay : Type 0

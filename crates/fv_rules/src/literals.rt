@@ -1,7 +1,7 @@
 // The numbers of literals.
 
 ghost use Rattle.std.specs.Prelude.{◌≡◌, pos, neg_ℤ};
-ghost use Rattle.fv_num.specs.headline.Words.{wrap};
+ghost use Rattle.fv_diagram.specs.Words.{wrap};
 ghost use Rattle.fv_rules.specs.headline.Rules.{literal_value};
 
 use fv_parse_grammar::Literal;

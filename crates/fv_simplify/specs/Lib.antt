@@ -11,3 +11,4 @@ pub use Rattle.fv_simplify_rules.specs.Choices
 pub use Rattle.fv_simplify_rules.specs.Rebuilt
 pub use Rattle.fv_simplify_rules.specs.headline.Reducible
 pub use Rattle.fv_simplify_rules.specs.Reducible as ReducibleBeside
+pub use Rattle.fv_simplify_rules.specs.Nodes

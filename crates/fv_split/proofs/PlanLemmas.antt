@@ -8,7 +8,7 @@ use Rattle.std.proofs.lemmas.List.{get_or_default, length-map}
 use Rattle.std.proofs.lemmas.List.Elements.{All-from_get_or, All-nil}
 use Rattle.std.proofs.lemmas.Option.{slice_get_past}
 use Rattle.fv_base.proofs.Lists.{get_or_table, table_items, map_table}
-use Rattle.fv_num.specs.headline.Frames.{table}
+use Rattle.fv_signal.specs.Frames.{table}
 use Rattle.fv_outside.specs.declared.tasks.Reads.{Reads}
 use Rattle.fv_outside.specs.headline.Tasks.{bit, total, reads_loop}
 use Rattle.fv_signal.specs.declared.signal.Signal.TheVariants as signal

@@ -1,7 +1,7 @@
 // How a graph is split.
 
 ghost use Rattle.std.specs.Prelude.{◌≡◌, length, IfOk};
-ghost use Rattle.fv_num.specs.headline.Frames.{table};
+ghost use Rattle.fv_signal.specs.Frames.{table};
 ghost use Rattle.fv_signal.specs.headline.Rates.{rates as rates_of};
 ghost use Rattle.fv_analysis.specs.headline.History.{history_of};
 ghost use Rattle.fv_split_plan.specs.headline.Plans.{PlanStands, PlanReads, PlanNames};

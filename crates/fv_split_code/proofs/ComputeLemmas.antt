@@ -11,7 +11,7 @@ use Rattle.fv_num.specs.headline.Words.{inputs_of}
 use Rattle.fv_signal.specs.declared.signal.Signal.{Signal}
 use Rattle.fv_signal.specs.declared.signal.Signal.TheVariants as signal
 use Rattle.fv_signal.specs.headline.Value.{Graph, IsOrdered, OperandsBelow, NamesWithin}
-use Rattle.fv_split_components.specs.headline.Reach.{at}
+use Rattle.fv_split_plan.specs.Reach.{at}
 use Rattle.fv_loopcode.specs.declared.step.Step.{Step}
 use Rattle.fv_loopcode.specs.declared.step.Step.TheVariants as step
 use Rattle.fv_loopcode.specs.headline.Obeys.{Roles, Place, OfLane, OfCells, done_after, with_place}

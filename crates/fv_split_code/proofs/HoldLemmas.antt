@@ -18,7 +18,7 @@ use Rattle.fv_signal.specs.headline.Value.{Graph, table_of, value, signal_at, Is
 use Rattle.fv_signal.specs.headline.Rates.{faster, fastest, rate_in, rate_of, NamesControl}
 use Rattle.fv_signal.proofs.Rates.{rate_is}
 use Rattle.fv_signal.proofs.Values.{values_are_given}
-use Rattle.fv_split_components.specs.headline.Reach.{at}
+use Rattle.fv_split_plan.specs.Reach.{at}
 use Rattle.fv_loopcode.specs.declared.step.Step.{Step}
 use Rattle.fv_loopcode.specs.declared.step.Step.TheVariants as step
 use Rattle.fv_loopcode.specs.headline.State.{State, finds}

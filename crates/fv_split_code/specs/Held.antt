@@ -7,7 +7,7 @@ use Rattle.fv_signal.specs.declared.rate.Rate.{Rate}
 use Rattle.fv_signal.specs.declared.rate.Rate.TheVariants as rate
 use Rattle.fv_signal.specs.headline.Value.{Graph, table_of, value}
 use Rattle.fv_signal.specs.headline.Rates.{rate_of, NamesControl}
-use Rattle.fv_split_components.specs.headline.Reach.{at}
+use Rattle.fv_split_plan.specs.Reach.{at}
 use Rattle.fv_loopcode.specs.declared.step.Step.{Step}
 use Rattle.fv_loopcode.specs.declared.step.Step.TheVariants as step
 use Rattle.fv_loopcode.specs.headline.Code.{passed, opening, NamesHeld}

@@ -1,7 +1,7 @@
 // The code of the loops, signal by signal.
 
 ghost use Rattle.std.specs.Prelude.{◌≡◌, [], ◌++◌, ◌∷◌, ℕ, suc, ◌<◌, ◌≤◌, length, take, map, All, IfOk, OnOk};
-ghost use Rattle.fv_split_components.specs.headline.Reach.{at};
+ghost use Rattle.fv_split_plan.specs.Reach.{at};
 ghost use Rattle.fv_signal.specs.declared.signal.Signal.{Signal};
 ghost use Rattle.fv_signal.specs.declared.signal.Signal.TheVariants as signal;
 ghost use Rattle.fv_split_plan.specs.inner.Separated.{OperandsWithin};

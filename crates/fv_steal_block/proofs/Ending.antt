@@ -2,9 +2,9 @@
 use Rattle.std.proofs.Common.{◌≡◌, ℕ, zero, suc, ◌+◌, ◌<◌, List, [], ◌∷◌, length, take, drop, ◌++◌, get_or, refl, sym, ap, ◌∙◌, arith}
 use Rattle.std.proofs.Math.Seq.{take-append_seam}
 use Rattle.atomic_table.specs.Seated.{TableId}
-use Rattle.fv_ready_rule.specs.declared.About.{About}
-use Rattle.fv_ready_rule.specs.declared.Deed.{Deed}
-use Rattle.fv_ready_rule.specs.Rule.{done_by}
+use Rattle.fv_ready.specs.About.{About}
+use Rattle.fv_ready.specs.Deed.{Deed}
+use Rattle.fv_ready.specs.Rule.{done_by}
 use Rattle.fv_ready.specs.declared.seat.WorkerSeat.{WorkerSeat}
 use Rattle.fv_ready.specs.Seats.{view_of}
 use Rattle.fv_ready.specs.Begun.{AreEntries, AreFirstSeats}

@@ -6,8 +6,8 @@ use Rattle.std.specs.List.Sorted.{IsPermutation, IsNonDecreasingBy}
 use Rattle.fv_outside.specs.Tasks.{task_count}
 use Rattle.fv_outside.specs.declared.gate.Line.{Line}
 use Rattle.fv_graph.specs.Graph.{Graph, IsGraph, net_of}
-use Rattle.fv_ready_rule.specs.Rule.{finishes}
-use Rattle.fv_ready_rule.specs.Promised.{Tells}
+use Rattle.fv_ready.specs.Rule.{finishes}
+use Rattle.fv_ready.specs.Promised.{Tells}
 use Rattle.fv_ready.specs.declared.board.Board.{Board}
 use Rattle.fv_ready.specs.declared.seat.WorkerSeat.{WorkerSeat}
 use Rattle.fv_ready.specs.Boards.{about_of, graph_of, tasks_of}

@@ -9,12 +9,12 @@ use Rattle.std.proofs.lemmas.List.{append-nil, drop_all, drop-drop}
 use Rattle.fv_base.specs.headline.Lists.{IsPrefixOf}
 use Rattle.fv_base.proofs.Lists.{length_table, prefix_trans}
 use Rattle.fv_base.specs.declared.role.Role.TheVariants.{Input, Output}
-use Rattle.fv_num.specs.headline.Frames.{Frame, Stream}
+use Rattle.fv_diagram.specs.Frames.{Frame, Stream}
 use Rattle.fv_outside.specs.headline.Desk.{DeskState, HasFault, KeepsFaults, IsUnfailing}
 use Rattle.fv_outside.specs.Desk.{Appends}
 use Rattle.fv_outside.proofs.States.{goes_on_then, told_before, fault_earlier, unfailing_later}
 use Rattle.fv_pcm.specs.headline.Coded.{frame_bytes}
-use Rattle.fv_num.specs.headline.Words.{is_sample_width}
+use Rattle.fv_diagram.specs.Words.{is_sample_width}
 use Rattle.fv_pcm.specs.headline.Sizes.{frame_size, data_size}
 use Rattle.fv_pcm.proofs.Widths.{at_width}
 use Rattle.fv_diagram.specs.headline.Diagram.{Diagram, outputs}

@@ -3,7 +3,7 @@
 ghost use Rattle.std.specs.Prelude.{◌≡◌, ◌*◌, ◌/◌, ◌≤◌, length, true, option_map, IfOk};
 ghost use Rattle.std.specs.Option.{ForSome};
 ghost use Rattle.fv_base.specs.declared.limits.TheConstants.{MOST_BLOCK, MOST_CHANNELS};
-ghost use Rattle.fv_num.specs.headline.Words.{is_sample_width};
+ghost use Rattle.fv_diagram.specs.Words.{is_sample_width};
 ghost use Rattle.fv_pcm.specs.headline.Sizes.{data_limit};
 ghost use Rattle.fv_file_tape.specs.Tapes.{IsTape};
 ghost use Rattle.fv_top_files.specs.headline.Inputs.{stated_frames};

@@ -4,7 +4,7 @@ use Rattle.std.proofs.Common.{inl, inr, ⊎_elim, take_all, take_at, append_asso
 use Rattle.std.specs.Prelude.{IsTrue, Result, Ok, Err, Option, Some, None, is_none, true, false, bytes_eq, codes}
 use Rattle.std.proofs.lemmas.Bool.{cases_lt, le-leb, lt-leb}
 use Rattle.std.proofs.lemmas.List.{drop_at, append-nil}
-use Rattle.fv_base.specs.declared.role.Role.TheVariants.{Input}
+use Rattle.fv_outside.specs.Role.TheVariants.{Input}
 use Rattle.fv_outside.specs.headline.Desk.{DeskState, File, file_named}
 use Rattle.fv_outside.specs.Desk.{Takes}
 use Rattle.fv_outside.proofs.States.{told_before, fault_earlier, unfailing_later}

@@ -2,7 +2,7 @@
 use Rattle.std.proofs.Common.{◌≡◌, ◌⊎◌, ℕ, List, [], ◌∷◌, ◌++◌, ◌∙◌, sym, refl, inl, inr}
 use Rattle.std.specs.Prelude.{IsTrue, Option, Some, None}
 use Rattle.std.proofs.lemmas.List.{append-nil}
-use Rattle.fv_base.specs.declared.role.Role.{Role}
+use Rattle.fv_outside.specs.Role.{Role}
 use Rattle.fv_outside.specs.headline.Requests.{to_read}
 use Rattle.fv_outside.specs.headline.Desk.{DeskState, GoesOn, HasFault, IsUnfailing}
 use Rattle.fv_outside.specs.Desk.{CountsCall, KeepsLeftBut, KeepsWritten, KeepsBegins, Takes, TakesSome}

@@ -1,7 +1,7 @@
 -- What calls say beside `headline/Inputs`: inputs of either kind: what their heads say, and the samples behind them (RIFF WAVE 1991; Sun audio; this project's profile).
 use Rattle.std.specs.Prelude.{◌≡◌, ◌^◌, ◌<◌, ◌≤◌, true}
-use Rattle.fv_base.specs.declared.limits.TheConstants.{MOST_CHANNELS}
-use Rattle.fv_num.specs.headline.Words.{is_sample_width}
+use Rattle.fv_diagram.specs.Limits.TheConstants.{MOST_CHANNELS}
+use Rattle.fv_diagram.specs.Words.{is_sample_width}
 use Rattle.fv_top_files.specs.declared.incoming.Incoming.{Incoming}
 
 -- the ranges of what a head says

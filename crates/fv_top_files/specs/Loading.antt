@@ -1,7 +1,7 @@
 -- What calls say beside `headline/Loading`: what loading of a file leaves of the desk, and why it stops.
 use Rattle.std.specs.Prelude.{◌≡◌, ◌≢◌, ◌⊎◌, ℕ, ◌+◌, ◌<◌, ◌≤◌, ◌^◌, IsTrue, IsSome, List, [], ◌++◌, length, drop, Option}
 use Rattle.std.specs.Prelude.{Some, None, Ok, true, false}
-use Rattle.fv_base.specs.declared.role.Role.{Role}
+use Rattle.fv_outside.specs.Role.{Role}
 use Rattle.fv_outside.specs.headline.Desk.{DeskState, File, file_named, HasFault, IsUnfailing}
 use Rattle.fv_outside.specs.Desk.{KeepsQuiet, KeepsFaultsBut}
 use Rattle.fv_outside.specs.declared.transfer.ReadError.{ReadError}

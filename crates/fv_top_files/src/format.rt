@@ -2,8 +2,8 @@
 
 ghost use Rattle.std.specs.Prelude.{◌≡◌, ◌≤◌, true, IfOk};
 ghost use Rattle.std.specs.Option.{ForSome};
-ghost use Rattle.fv_num.specs.headline.Words.{is_sample_width};
-ghost use Rattle.fv_base.specs.declared.limits.TheConstants.{MOST_CHANNELS};
+ghost use Rattle.fv_diagram.specs.Words.{is_sample_width};
+ghost use Rattle.fv_diagram.specs.Limits.TheConstants.{MOST_CHANNELS};
 ghost use Rattle.fv_top_words.specs.Views.{settings_in};
 ghost use Rattle.fv_pcm.specs.headline.Sizes.{data_size, data_limit};
 ghost use Rattle.fv_top_files.specs.Inputs.{IsIncoming};

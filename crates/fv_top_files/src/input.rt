@@ -2,7 +2,7 @@
 
 ghost use Rattle.std.specs.Prelude.{◌≡◌, ◌≤◌, ◌++◌, length, option_copied, is_some, IsTrue, IfOk, IfErr, IfSome, OnErr, IsErrOf, IsSome, Err};
 ghost use Rattle.std.specs.Option.{ForSome};
-ghost use Rattle.fv_base.specs.declared.role.Role.TheVariants.{Input};
+ghost use Rattle.fv_outside.specs.Role.TheVariants.{Input};
 ghost use Rattle.fv_outside.specs.headline.Desk.{KeepsFaults};
 ghost use Rattle.fv_outside.specs.Desk.{TakesSome};
 ghost use Rattle.fv_wav.specs.headline.Reading.{wave};

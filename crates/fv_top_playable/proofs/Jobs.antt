@@ -6,23 +6,23 @@ use Rattle.std.proofs.lemmas.List.Elements.{All-map}
 use Rattle.std.proofs.lemmas.List.Sums.{sum_by-le}
 use Rattle.std.proofs.Math.Seq.{get_or-append_seam}
 use Rattle.std.proofs.lemmas.Bool.{cases_lt}
-use Rattle.fv_base.specs.declared.limits.TheConstants.{MOST_CHANNELS}
+use Rattle.fv_diagram.specs.Limits.TheConstants.{MOST_CHANNELS}
 use Rattle.fv_diagram.specs.declared.control.ControlInfo.{ControlInfo}
 use Rattle.fv_diagram.specs.headline.Diagram.{Diagram, inputs}
 use Rattle.fv_diagram.specs.Diagram.{control_bound, IsWellFormed}
 use Rattle.fv_engine_render.specs.SideBySide.{AreJobsOf, IsJobOf}
-use Rattle.fv_interval.specs.headline.Controls.{span_of}
+use Rattle.fv_engine_render.specs.Controls.{span_of}
 use Rattle.fv_jobs_controls.specs.headline.Labels.{controls_from, labelled}
 use Rattle.fv_join.specs.declared.job.Job.{Job}
 use Rattle.fv_join.specs.Jobs.{CanBeJoined, NamesBelow, ReadsWithin}
 use Rattle.fv_join_diagrams.specs.headline.Parts.{Part}
 use Rattle.fv_propagate.proofs.Named.{control_below}
 use Rattle.fv_propagate.specs.headline.Propagated.{NamesOf}
-use Rattle.fv_rules.specs.headline.Rules.{visit_limit}
+use Rattle.fv_top_rack.specs.Rules.{visit_limit}
 use Rattle.fv_signal.specs.declared.signal.Signal.{Signal}
 use Rattle.fv_signal.specs.declared.signal.Signal.TheVariants.{Input, Const, Control, Point, Delay, Back, Member, Read as ReadTable, Write as WriteTable}
-use Rattle.fv_top_text.specs.headline.Compiled.{Compiled}
-use Rattle.fv_top_text.specs.Compiled.{CanPlay, compiled_of}
+use Rattle.fv_top_rack.specs.Compiled.{Compiled}
+use Rattle.fv_top_rack.specs.CompiledBeside.{CanPlay, compiled_of}
 use Rattle.fv_top_rack.specs.headline.Racks.{part_of}
 use Rattle.fv_top_rack.specs.Reads.{IsRead, programs_in}
 use Rattle.fv_top_rack.specs.declared.programs.Read.{Read}

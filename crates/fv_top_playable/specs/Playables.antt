@@ -2,9 +2,9 @@
 use Rattle.std.specs.Prelude.{◌≡◌}
 use Rattle.fv_diagram.specs.headline.Diagram.{inputs, outputs}
 use Rattle.fv_engine_render.specs.headline.Plans.{IsGraphOf}
-use Rattle.fv_interval.specs.headline.Controls.{spans_of}
-use Rattle.fv_top_text.specs.headline.Compiled.{Compiled}
-use Rattle.fv_top_text.specs.Compiled.{CanPlay}
+use Rattle.fv_engine_render.specs.Controls.{spans_of}
+use Rattle.fv_top_rack.specs.Compiled.{Compiled}
+use Rattle.fv_top_rack.specs.CompiledBeside.{CanPlay}
 use Rattle.fv_top_playable.specs.declared.playable.Playable.{Playable}
 
 -- a graph that gives what the program's diagram gives, as many inputs and outputs, and the program's controls

@@ -1,12 +1,12 @@
 // What is played of the program that a file is.
 
 ghost use Rattle.std.specs.Prelude.{◌≡◌, ◌⊎◌, IfOk, IfErr, Ok, Err};
-ghost use Rattle.fv_interval.specs.headline.Controls.{spans_of};
+ghost use Rattle.fv_engine_render.specs.Controls.{spans_of};
 ghost use Rattle.fv_diagram.specs.declared.control.ControlInfo.{ControlInfo as Control};
 ghost use Rattle.fv_engine_render.specs.headline.Plans.{IsGraphOf};
 ghost use Rattle.fv_top_report.specs.declared.refusal.Refusal.TheVariants.{NoMemory};
-ghost use Rattle.fv_top_text.specs.headline.Compiled.{Compiled};
-ghost use Rattle.fv_top_text.specs.Compiled.{compiled_of, CanPlay};
+ghost use Rattle.fv_top_rack.specs.Compiled.{Compiled};
+ghost use Rattle.fv_top_rack.specs.CompiledBeside.{compiled_of, CanPlay};
 ghost use Rattle.fv_top_rack.specs.headline.Kinds.{FileIs};
 ghost use Rattle.fv_top_rack.specs.Kinds.{IsOfKind};
 ghost use Rattle.fv_top_rack.specs.Reads.{AreRead, IsRead, compiled_in};

@@ -2,9 +2,9 @@
 
 ghost use Rattle.std.specs.Prelude.{◌≡◌, ◌≤◌, length, map, All, IfOk};
 ghost use Rattle.fv_engine_render.specs.SideBySide.{AreJobsOf, IsJobOf};
-ghost use Rattle.fv_base.specs.declared.limits.TheConstants.{MOST_JOBS};
+ghost use Rattle.fv_diagram.specs.Limits.TheConstants.{MOST_JOBS};
 ghost use Rattle.fv_jobs_controls.specs.headline.Labels.{controls_of};
-ghost use Rattle.fv_top_text.specs.Compiled.{compiled_of, CanPlay};
+ghost use Rattle.fv_top_rack.specs.CompiledBeside.{compiled_of, CanPlay};
 ghost use Rattle.fv_top_rack.specs.headline.Racks.{part_of, rack_of};
 ghost use Rattle.fv_top_rack.specs.Reads.{IsRead, programs_in};
 ghost use Rattle.fv_top_playable.specs.Playables.{IsPlayable};

@@ -7,16 +7,16 @@ use Rattle.std.proofs.Math.Seq.{drop-append-add, take-append_seam}
 use Rattle.std.proofs.lemmas.List.{get_or-map, length-map, map-append, take-map}
 use Rattle.std.proofs.lemmas.List.Elements.{All-map}
 use Rattle.std.proofs.lemmas.List.Sums.{sum_by-cons}
-use Rattle.fv_num.specs.headline.Frames.{Frame, column}
+use Rattle.fv_diagram.specs.Frames.{Frame, column}
 use Rattle.fv_diagram.specs.declared.control.ControlInfo.{ControlInfo}
 use Rattle.fv_diagram.specs.headline.Diagram.{Diagram, inputs, outputs}
 use Rattle.fv_diagram.specs.Diagram.{IsWellFormed}
 use Rattle.fv_diagram.specs.Laws.{AnswersAlike}
 use Rattle.fv_diagram.specs.headline.Samples.{no_slots}
 use Rattle.fv_diagram.specs.headline.Streams.{run}
-use Rattle.fv_control.specs.headline.Streams.{control_streams}
+use Rattle.fv_jobs_controls.specs.Streams.{control_streams}
 use Rattle.fv_interval.specs.headline.Controls.{spans_of, span_of}
-use Rattle.fv_join.specs.Joined.{part_controls, part_frames}
+use Rattle.fv_join_diagrams.specs.Joined.{part_controls, part_frames}
 use Rattle.fv_jobs_controls.specs.Changes.{JobsHear, changes_of}
 use Rattle.fv_jobs_controls.specs.headline.Labels.{controls_from, labelled}
 use Rattle.fv_jobs_controls.specs.Labels.{controls_before}

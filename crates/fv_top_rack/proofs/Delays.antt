@@ -6,7 +6,7 @@ use Rattle.std.proofs.Math.Nat.{le-max_left, le-max_right}
 use Rattle.std.proofs.lemmas.List.{get_or-append-add, get_or_append_left, length-append}
 use Rattle.fv_base.specs.headline.Lists.{table}
 use Rattle.fv_base.proofs.Lists.{length_table}
-use Rattle.fv_num.specs.headline.Interval.{Interval, full, point, span_at}
+use Rattle.fv_interval.specs.Interval.{Interval, full, point, span_at}
 use Rattle.fv_diagram.specs.declared.node.Primitive.{Primitive as Prim}
 use Rattle.fv_diagram.specs.declared.node.Primitive.TheVariants.{Wire, Cut, Mem, Prefix, Delay, Int, Attach, Point, ReadTable, WriteTable}
 use Rattle.fv_diagram.specs.headline.Diagram.{Diagram, Primitive, Constant, Control, Slot, Wave, Table, Bind, Par, Seq, Split, Merge, Rec, inputs}

@@ -14,3 +14,6 @@ pub use Rattle.fv_top_text.specs.headline.Answers
 pub use Rattle.fv_top_text.specs.Answers as AnswersBeside
 pub use Rattle.fv_top_text.specs.headline.Program
 pub use Rattle.fv_top_text.specs.Program as ProgramBeside
+pub use Rattle.fv_top_text.specs.Compiled as CompiledBeside
+pub use Rattle.fv_top_text.specs.headline.Compiled
+pub use Rattle.fv_rules.specs.headline.Rules

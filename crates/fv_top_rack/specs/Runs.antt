@@ -1,13 +1,13 @@
 -- What each job of a file answers, beside the others (this project's profile).
 use Rattle.std.specs.Prelude.{◌≡◌, ℕ, ◌+◌, ◌<◌, List, [], length, map, take, All, ℤ, Ok, slice_index_or}
-use Rattle.fv_num.specs.headline.Frames.{Frame, Stream, column}
+use Rattle.fv_diagram.specs.Frames.{Frame, Stream, column}
 use Rattle.fv_diagram.specs.declared.control.ControlInfo.{ControlInfo}
 use Rattle.fv_diagram.specs.headline.Diagram.{inputs, outputs}
 use Rattle.fv_diagram.specs.headline.Samples.{no_slots}
 use Rattle.fv_diagram.specs.headline.Streams.{run}
-use Rattle.fv_control.specs.declared.script.Change.{Change}
-use Rattle.fv_control.specs.headline.Streams.{control_streams}
-use Rattle.fv_join.specs.Joined.{part_frames}
+use Rattle.fv_jobs_controls.specs.Change.{Change}
+use Rattle.fv_jobs_controls.specs.Streams.{control_streams}
+use Rattle.fv_join_diagrams.specs.Joined.{part_frames}
 use Rattle.fv_jobs_controls.specs.Changes.{changes_of}
 use Rattle.fv_jobs_controls.specs.Labels.{controls_before}
 use Rattle.fv_join_diagrams.specs.Parts.{inputs_of, outputs_of}

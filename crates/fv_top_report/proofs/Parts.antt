@@ -1,8 +1,8 @@
 -- Parts from the front of what is written piece by piece.
 use Rattle.std.proofs.Common.{◌≡◌, ◌≤◌, ◌+◌, ℕ, List, [], ◌++◌, length, sym, ◌∙◌, ap, subst, append_assoc}
 use Rattle.std.specs.Prelude.{codes, decimal, IsTrue, IsOk, OnErr, Result}
-use Rattle.fv_base.specs.declared.role.Role.{Role}
-use Rattle.fv_base.specs.declared.role.Role.TheVariants.{Report}
+use Rattle.fv_outside.specs.Role.{Role}
+use Rattle.fv_outside.specs.Role.TheVariants.{Report}
 use Rattle.fv_outside.specs.declared.desk.Failed.{Failed}
 use Rattle.fv_outside.specs.headline.Desk.{DeskState, IsUnfailing}
 use Rattle.fv_outside.specs.Desk.{Appends}

@@ -1,6 +1,6 @@
 -- Rows that hold by computing.
 use Rattle.std.specs.Prelude.{◌≡◌, refl, [], ◌∷◌, codes, decimal}
-use Rattle.fv_base.specs.declared.role.Role.TheVariants.{Controls}
+use Rattle.fv_outside.specs.Role.TheVariants.{Controls}
 use Rattle.fv_arity.specs.declared.refusal.ArityKind.TheVariants.{Split}
 use Rattle.fv_top_report.specs.declared.refusal.Refusal.TheVariants.{TextTooLong, Arity}
 use Rattle.fv_top_report.specs.headline.Lines.{row, row_of}

@@ -1,7 +1,7 @@
 -- A part from the front of what was to be written.
 use Rattle.std.specs.Prelude.{ℕ, List}
-use Rattle.fv_base.specs.declared.role.Role.{Role}
-use Rattle.fv_base.specs.headline.Lists.{IsPrefixOf}
+use Rattle.fv_outside.specs.Role.{Role}
+use Rattle.fv_outside.specs.Lists.{IsPrefixOf}
 use Rattle.fv_outside.specs.headline.Desk.{DeskState}
 use Rattle.fv_outside.specs.Desk.{Appends}
 

@@ -2,8 +2,8 @@
 
 ghost use Rattle.std.specs.Prelude.{◌≡◌, List, ℕ, ◌+◌, ◌≤◌, [], ◌∷◌, ◌++◌, length, codes, decimal, IsTrue, IsOk, OnOk, OnErr};
 ghost use Rattle.std.specs.Fmt.{signed_decimal};
-ghost use Rattle.fv_base.specs.declared.role.Role.TheVariants.{Report};
-ghost use Rattle.fv_base.specs.headline.Lists.{IsPrefixOf};
+ghost use Rattle.fv_outside.specs.Role.TheVariants.{Report};
+ghost use Rattle.fv_outside.specs.Lists.{IsPrefixOf};
 ghost use Rattle.fv_outside.specs.headline.Desk.{HasFault, KeepsFaults, IsUnfailing};
 ghost use Rattle.fv_outside.specs.Desk.{Appends};
 ghost use Rattle.fv_top_report.specs.headline.Lines.{spaced, refused_line, check_line, made_line, done_line};

@@ -1,9 +1,9 @@
 -- What makes a run sure to be done, on the state of the desk before it (this project's profile).
 use Rattle.std.specs.Prelude.{ℕ, IsTrue, List}
-use Rattle.fv_base.specs.declared.role.Role.{Role}
+use Rattle.fv_outside.specs.Role.{Role}
 use Rattle.fv_outside.specs.headline.Desk.{DeskState, IsUnfailing}
-use Rattle.fv_top_words.specs.headline.Runs.{Run}
-use Rattle.fv_top_words.specs.headline.Commands.{Playing}
+use Rattle.fv_top.specs.Runs.{Run}
+use Rattle.fv_top.specs.Commands.{Playing}
 use Rattle.fv_top.specs.headline.Promise.{Asks, Plays, IsWhole, HasRoom}
 
 -- The words ask for a run whose files can be played; the desk tells its bytes, fails no later call, and has room for what

@@ -1,7 +1,7 @@
 // A caller that knows from the state before the run that it is done.
 
 ghost use Rattle.std.specs.Prelude.{map, string_bytes};
-ghost use Rattle.fv_top_words.specs.headline.Runs.{Run};
+ghost use Rattle.fv_top.specs.Runs.{Run};
 ghost use Rattle.fv_top.specs.headline.Promise.{IsDoneOrNoMemory};
 ghost use Rattle.fv_top_run_tests.specs.Sure.{IsSure};
 

@@ -3,7 +3,7 @@ use Rattle.std.proofs.Common.{◌≡◌, ◌⊎◌, ℕ, zero, suc, ◌<◌, ◌
 use Rattle.std.specs.Prelude.{sum, Option, Some, None, Ok, Err, int_lt, ◌<ℤ◌}
 use Rattle.std.proofs.lemmas.Bool.{le-leb, lt-leb}
 use Rattle.std.proofs.lemmas.Int.{ints}
-use Rattle.fv_num.specs.headline.Interval.{Interval}
+use Rattle.fv_interval.specs.Interval.{Interval}
 use Rattle.fv_interval.specs.declared.refusal.DelayRefusal.{DelayRefusal}
 use Rattle.fv_interval.specs.declared.refusal.DelayRefusal.TheVariants as delay
 use Rattle.fv_interval.specs.headline.Delays.{delay_limit, delay_budget}

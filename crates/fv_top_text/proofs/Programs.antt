@@ -12,10 +12,10 @@ use Rattle.fv_parse.specs.declared.refusal.ParseRefusal.{ParseRefusal}
 use Rattle.fv_parse.specs.declared.refusal.ParseRefusal.TheVariants as tokens
 use Rattle.fv_parse.specs.headline.Outcomes.{IsAccepted, HasRefusal as HasTokensRefusal}
 use Rattle.fv_parse.specs.Outcomes.{IsOneRefusal, IsNotBoth, IsOneOrOther as TokensOneOrOther}
-use Rattle.fv_diagram.specs.headline.Diagram.{Diagram}
-use Rattle.fv_rules.specs.declared.refusal.EvalRefusal.{EvalRefusal}
-use Rattle.fv_rules.specs.declared.refusal.EvalRefusal.TheVariants as values
-use Rattle.fv_rules.specs.headline.Rules.{program_value}
+use Rattle.fv_interval.specs.Diagram.{Diagram}
+use Rattle.fv_eval.specs.EvalRefusal.{EvalRefusal}
+use Rattle.fv_eval.specs.EvalRefusal.TheVariants as values
+use Rattle.fv_eval.specs.Rules.{program_value}
 use Rattle.fv_top_report.specs.declared.refusal.Refusal.{Refusal}
 use Rattle.fv_top_report.specs.declared.refusal.Refusal.TheVariants.{NoMemory}
 use Rattle.fv_top_text.specs.headline.Answers.{Turned, kept, turned, stops, goes_on}

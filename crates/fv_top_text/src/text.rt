@@ -2,10 +2,10 @@
 
 ghost use Rattle.std.specs.Prelude.{◌≡◌, ◌⊎◌, ◌≤◌, ◌<◌, length, IfOk, IfErr, OnOk, Ok, Err};
 ghost use Rattle.fv_base.specs.declared.limits.TheConstants.{MOST_CHANNELS};
-ghost use Rattle.fv_diagram.specs.Arena.{count_of, tree_of};
-ghost use Rattle.fv_diagram.specs.headline.Diagram.{inputs, outputs};
+ghost use Rattle.fv_interval.specs.ArenaBeside.{count_of, tree_of};
+ghost use Rattle.fv_interval.specs.Diagram.{inputs, outputs};
 ghost use Rattle.fv_interval.specs.Delays.{AreAccepted};
-ghost use Rattle.fv_rules.specs.headline.Rules.{visit_limit};
+ghost use Rattle.fv_eval.specs.Rules.{visit_limit};
 ghost use Rattle.fv_top_report.specs.headline.Lines.{row_of};
 ghost use Rattle.fv_top_report.specs.declared.refusal.Refusal.TheVariants.{NoMemory};
 ghost use Rattle.fv_top_text.specs.headline.Compiled.{Compiled};

@@ -3,7 +3,7 @@ use Rattle.std.proofs.Common.{◌≡◌, ℕ, zero, suc, ◌+◌, ◌*◌, ◌�
 use Rattle.std.proofs.lemmas.Int.{ints}
 use Rattle.std.proofs.lemmas.List.Elements.{All-nil, All-cons}
 use Rattle.std.proofs.lemmas.List.Sums.{sum_by-cons}
-use Rattle.fv_num.specs.headline.Interval.{Interval, point}
+use Rattle.fv_interval.specs.Interval.{Interval, point}
 use Rattle.fv_interval.specs.headline.Delays.{amounts, delay_limit}
 use Rattle.fv_interval.specs.Delays.{IsDelay, AreDelays, AreAccepted}
 use Rattle.fv_interval.specs.headline.WireSpans.{delay_spans}

@@ -4,7 +4,7 @@ use Rattle.std.specs.List.{list_all}
 use Rattle.std.proofs.lemmas.Bool.{and_parts}
 use Rattle.std.proofs.lemmas.Fmt.{decimal_nonempty, length-decimal-le_succ, digits_decimal, digits_value-decimal}
 use Rattle.std.proofs.lemmas.Str.Parse.{IsDigitsTest, IsNumeralModel, numerals_by_fold}
-use Rattle.fv_base.specs.headline.Digits.{decimal_after}
+use Rattle.fv_lex.specs.Digits.{decimal_after}
 use Rattle.fv_lex.specs.headline.Bytes.{is_digit}
 use Rattle.fv_lex.specs.headline.Symbols.{value}
 use Rattle.fv_top_voices.proofs.Tokens.{AreDigits}

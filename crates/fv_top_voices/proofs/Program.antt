@@ -1,9 +1,9 @@
 -- The text of so many voices is their program, layer by layer.
 use Rattle.std.proofs.Common.{◌≡◌, ℕ, suc, ◌-◌, ◌≤◌, List, [], ◌∷◌, ◌++◌, Ok, refl, ap, sym, subst, ◌∙◌, arith, append-nil}
 use Rattle.fv_lex.specs.headline.Symbols.{value}
-use Rattle.fv_num.specs.headline.Interval.{full}
+use Rattle.fv_interval.specs.Interval.{full}
 use Rattle.fv_parse_grammar.specs.Laws.{ReadsOnlySpelled}
-use Rattle.fv_parse.specs.headline.Outcomes.{IsAccepted}
+use Rattle.fv_top_text.specs.Outcomes.{IsAccepted}
 use Rattle.fv_rules.specs.Values.{LiteralsStay}
 use Rattle.fv_interval.specs.headline.Delays.{amounts}
 use Rattle.fv_interval.specs.Delays.{AreAccepted}

@@ -9,7 +9,7 @@ use Rattle.fv_parse_grammar.specs.headline.Tree.{Tree, Number, Named, Wire, Prim
 use Rattle.fv_parse_grammar.specs.Laws.{ReadsOnlySpelled}
 use Rattle.fv_parse_grammar.specs.Descent.{program, within, further, many, listed, definition, function_after, constant_after, ended}
 use Rattle.fv_parse_grammar.specs.Descent.{expression, phrase, chain, rights, postfix, by_head, iteration, turns, run}
-use Rattle.fv_parse.specs.headline.Outcomes.{IsAccepted}
+use Rattle.fv_top_text.specs.Outcomes.{IsAccepted}
 use Rattle.fv_top_voices.proofs.Tokens.{lexed}
 
 -- `+ ~ (@(i*37+1) : *(i+3) : /(8))`

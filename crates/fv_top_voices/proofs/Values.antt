@@ -4,20 +4,20 @@ use Rattle.std.proofs.Common.{Ok, refl, ap, ap₂, ◌∙◌, sym, arith, le-leb
 use Rattle.std.proofs.Math.Nat.{mod-one}
 use Rattle.fv_lex.specs.headline.Token.{Lexed}
 use Rattle.fv_lex.specs.headline.Pieces.{greatest_literal}
-use Rattle.fv_num.specs.headline.Words.{wrap}
-use Rattle.fv_num.specs.declared.op.Op.TheVariants as op
+use Rattle.fv_rules.specs.Words.{wrap}
+use Rattle.fv_interval.specs.Op.TheVariants as op
 use Rattle.fv_parse_grammar.specs.headline.Tree.{Tree, Number, Wire as WireTree, Binary}
 use Rattle.fv_parse_grammar.specs.declared.form.Operator.{Operator}
 use Rattle.fv_parse_grammar.specs.declared.form.Operator.TheVariants as operators
 use Rattle.fv_parse_grammar.specs.declared.form.Iteration.TheVariants as repetitions
-use Rattle.fv_diagram.specs.declared.node.Primitive.{Primitive as Prim}
-use Rattle.fv_diagram.specs.declared.node.Primitive.TheVariants.{Wire, Delay, Point}
-use Rattle.fv_diagram.specs.headline.Diagram.{Diagram, Primitive, Constant, Par, Seq, Split, Merge, Rec, size, inputs, outputs, has_table_primitive}
-use Rattle.fv_diagram.specs.headline.Arena.{size_limit}
-use Rattle.fv_arity.specs.declared.refusal.ArityKind.TheVariants as kind
+use Rattle.fv_interval.specs.Primitive.{Primitive as Prim}
+use Rattle.fv_interval.specs.Primitive.TheVariants.{Wire, Delay, Point}
+use Rattle.fv_interval.specs.Diagram.{Diagram, Primitive, Constant, Par, Seq, Split, Merge, Rec, size, inputs, outputs, has_table_primitive}
+use Rattle.fv_rules.specs.Arena.{size_limit}
+use Rattle.fv_rules.specs.ArityKind.TheVariants as kind
 use Rattle.fv_rules.specs.declared.refusal.EvalRefusal.TheVariants.{Arity, TableForm}
 use Rattle.fv_rules.specs.declared.refusal.TableCause.TheVariants as cause
-use Rattle.fv_diagram_number.specs.headline.Numbers.{number_of}
+use Rattle.fv_rules.specs.Numbers.{number_of}
 use Rattle.fv_rules.specs.headline.Values.{Value, Flat, Env, Outermost, Bound, Scope}
 use Rattle.fv_rules.specs.Values.{LiteralsStay}
 use Rattle.fv_rules.specs.headline.Steps.{State, Eval, after, ◌>>=◌, give, refuse, is_multiple, unless, misfit, before_table, put_as, put, whole as without_primitives}

@@ -1,12 +1,12 @@
 -- The program that the text of so many voices is (this project's profile).
 use Rattle.std.specs.Prelude.{◌≡◌, ℕ, zero, suc, ◌+◌, ◌-◌, ◌*◌, ◌≤◌, [], pos}
-use Rattle.fv_base.specs.declared.limits.TheConstants.{MOST_VOICES}
-use Rattle.fv_num.specs.declared.op.Op.TheVariants as op
-use Rattle.fv_diagram.specs.declared.node.Primitive.{Primitive as Prim}
-use Rattle.fv_diagram.specs.declared.node.Primitive.TheVariants.{Wire, Delay, Point}
-use Rattle.fv_diagram.specs.headline.Diagram.{Diagram, Primitive, Constant, Par, Seq, Split, Merge, Rec}
+use Rattle.fv_lex.specs.Limits.TheConstants.{MOST_VOICES}
+use Rattle.fv_interval.specs.Op.TheVariants as op
+use Rattle.fv_interval.specs.Primitive.{Primitive as Prim}
+use Rattle.fv_interval.specs.Primitive.TheVariants.{Wire, Delay, Point}
+use Rattle.fv_interval.specs.Diagram.{Diagram, Primitive, Constant, Par, Seq, Split, Merge, Rec}
 use Rattle.fv_top_make.specs.headline.Made.{text_of}
-use Rattle.fv_top_report.specs.declared.refusal.Refusal.{Refusal}
+use Rattle.fv_top_text.specs.Refusal.{Refusal}
 use Rattle.fv_top_text.specs.headline.Compiled.{Compiled}
 use Rattle.fv_top_text.specs.headline.Program.{IsProgram}
 use Rattle.fv_top_text.specs.Program.{IsRefusedText}

@@ -3,7 +3,7 @@ use Rattle.std.proofs.Common.{◌≡◌, ℕ, zero, suc, ◌+◌, ◌-◌, ◌�
 use Rattle.std.proofs.lemmas.Bool.{le-leb, lt-leb}
 use Rattle.std.specs.Prelude.{Option, Ok, Err, bytes_eq}
 use Rattle.fv_base.specs.declared.limits.TheConstants.{MOST_CHANNELS}
-use Rattle.fv_num.specs.headline.Words.{is_sample_width}
+use Rattle.fv_pcm.specs.Words.{is_sample_width}
 use Rattle.fv_wav.specs.headline.Reading.{◌>>=◌, Rest, past, number, tag_at, shape_at, sound_at, extension, fields, behind_body, format_chunk, other_chunk}
 use Rattle.fv_wav.specs.headline.Reading.{walk, next, kind_of, is_channels, frame_size, extensible_tag, plain_samples, padded}
 use Rattle.fv_wav.specs.inner.Reading.{chunk_at}

@@ -7,8 +7,8 @@ use Rattle.std.proofs.lemmas.Bool.{le-leb}
 use Rattle.fv_base.specs.declared.limits.TheConstants.{MOST_CHANNELS}
 use Rattle.byteorder.specs.Endian.{little_bytes}
 use Rattle.byteorder.specs.Numbers.{little_number-reads_back, length-bytes_low_first}
-use Rattle.fv_num.specs.headline.Words.{is_sample_width, clamped}
-use Rattle.fv_num.specs.headline.Frames.{table}
+use Rattle.fv_pcm.specs.Words.{is_sample_width, clamped}
+use Rattle.fv_pcm.specs.Frames.{table}
 use Rattle.fv_wav.specs.declared.head.Format.{Format}
 use Rattle.fv_wav.specs.headline.Reading.{rest_of, past, next, number, frame_size, tag_at, sound_at, format_chunk, data_chunk, walk, wave}
 use Rattle.fv_wav.specs.headline.Samples.{head_bytes, pad_bytes, data_size, data_limit}

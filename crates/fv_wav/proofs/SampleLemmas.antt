@@ -2,7 +2,7 @@
 use Rattle.std.proofs.Common.{◌≡◌, ℕ, ◌+◌, ◌*◌, ◌/◌, ◌≤◌, ◌<◌, true, List, [], length, take, sym, ap, ⊎_elim, Ok, Err}
 use Rattle.std.specs.Prelude.{Result}
 use Rattle.std.proofs.lemmas.Bool.{cases_lt, le-leb, lt-leb}
-use Rattle.fv_num.specs.headline.Words.{is_sample_width}
+use Rattle.fv_pcm.specs.Words.{is_sample_width}
 use Rattle.fv_pcm.specs.declared.coding.Coding.TheVariants as coding
 use Rattle.fv_pcm.proofs.Samples as samples
 pub use Rattle.fv_pcm.proofs.Widths.{at_width}

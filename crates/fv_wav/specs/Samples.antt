@@ -1,7 +1,7 @@
 -- What calls say beside `headline/Samples`: samples and frames as bytes in a WAV file (RIFF WAVE 1991).
 use Rattle.std.specs.Prelude.{◌≡◌, ℕ, true, ◌≤◌, ◌+◌, ◌*◌, List, length, take, drop, ℤ}
-use Rattle.fv_num.specs.headline.Words.{is_sample_width}
-use Rattle.fv_num.specs.headline.Frames.{Frame}
+use Rattle.fv_pcm.specs.Words.{is_sample_width}
+use Rattle.fv_pcm.specs.Frames.{Frame}
 use Rattle.fv_pcm.specs.declared.coding.Coding.TheVariants as coding
 use Rattle.fv_pcm.specs.headline.Coded.{sample_bytes as coded_bytes}
 use Rattle.fv_pcm.specs.Coded.{samples_in as coded_samples}

@@ -3,7 +3,7 @@ use Rattle.std.specs.Prelude.{◌≡◌, ℕ, ◌+◌, ◌^◌, ◌<◌, ◌≤�
 use Rattle.fv_base.specs.declared.limits.TheConstants.{MOST_CHANNELS}
 use Rattle.fv_outside.specs.headline.Desk.{DeskState, HasFault, KeepsFaults, IsUnfailing}
 use Rattle.fv_base.specs.declared.role.Role.TheVariants.{Input}
-use Rattle.fv_num.specs.headline.Words.{is_sample_width}
+use Rattle.fv_pcm.specs.Words.{is_sample_width}
 use Rattle.fv_outside.specs.Desk.{Takes, TakesSome}
 use Rattle.fv_wav.specs.headline.Reading.{rest_of, walk, unknown_size}
 use Rattle.fv_wav.specs.inner.Reading.{chunk_at}

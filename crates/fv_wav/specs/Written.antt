@@ -1,8 +1,8 @@
 -- What is written is read again (RIFF WAVE 1991; this project's profile).
 use Rattle.std.specs.Prelude.{◌≡◌, ℕ, ◌+◌, ◌*◌, ◌/◌, ◌^◌, ◌<◌, ◌≤◌, true, List, ◌++◌, length, get_or, flat_map, Ok, ℤ, pos}
 use Rattle.fv_base.specs.declared.limits.TheConstants.{MOST_CHANNELS}
-use Rattle.fv_num.specs.headline.Words.{is_sample_width, clamped}
-use Rattle.fv_num.specs.headline.Frames.{table}
+use Rattle.fv_pcm.specs.Words.{is_sample_width, clamped}
+use Rattle.fv_pcm.specs.Frames.{table}
 use Rattle.fv_wav.specs.declared.head.Head.{Head}
 use Rattle.fv_wav.specs.headline.Reading.{wave}
 use Rattle.fv_wav.specs.headline.Samples.{head_bytes, pad_bytes, data_size, data_limit}

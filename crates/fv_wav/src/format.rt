@@ -3,7 +3,7 @@
 ghost use Rattle.std.specs.Prelude.{◌≡◌, ℕ, ◌+◌, ◌^◌, ◌<◌, ◌≤◌, ◌==◌, Ok, Err, IfOk, IfErr, true, bytes_eq};
 ghost use Rattle.fv_base.specs.declared.limits.TheConstants.{MOST_CHANNELS};
 ghost use Rattle.fv_base.specs.declared.role.Role.TheVariants.{Input};
-ghost use Rattle.fv_num.specs.headline.Words.{is_sample_width};
+ghost use Rattle.fv_pcm.specs.Words.{is_sample_width};
 ghost use Rattle.fv_wav.specs.headline.Reading.{rest_of, tag_at, shape_at, sound_at, extension, fields, format_chunk, is_tag, is_channels};
 ghost use Rattle.fv_wav.specs.headline.Reading.{frame_size, least_size, extensible_tag, plain_samples};
 ghost use Rattle.fv_wav.specs.Stopping.{Passes, Stops, IsFormat};

@@ -3,7 +3,7 @@
 ghost use Rattle.std.specs.Prelude.{◌≡◌, ◌+◌, ◌-◌, ◌*◌, ◌/◌, ◌%◌, ◌^◌, ◌<◌, ◌≤◌, length, true, IfErr, OnOk};
 ghost use Rattle.fv_base.specs.declared.limits.TheConstants.{MOST_CHANNELS};
 ghost use Rattle.fv_base.specs.declared.role.Role.TheVariants.{Input};
-ghost use Rattle.fv_num.specs.headline.Words.{is_sample_width};
+ghost use Rattle.fv_pcm.specs.Words.{is_sample_width};
 ghost use Rattle.fv_wav.specs.declared.refusal.WaveRefusal.TheVariants.{WaveTruncated};
 ghost use Rattle.fv_wav.specs.Stopping.{Passes, Stops};
 ghost use Rattle.fv_wav.specs.Samples.{samples_in, whole_bytes};

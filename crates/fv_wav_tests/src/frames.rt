@@ -1,7 +1,7 @@
 // Samples that are read, and files that are written.
 
 ghost use Rattle.std.specs.Prelude.{◌≡◌, true};
-ghost use Rattle.fv_num.specs.headline.Words.{is_sample_width};
+ghost use Rattle.fv_wav.specs.Words.{is_sample_width};
 
 use crate::examples::{EXTENSIBLE, PLAIN};
 use fv_outside::{Desk, MemoryDesk, Role};

@@ -1,7 +1,7 @@
 -- The streams of the controls (this project's profile).
 use Rattle.std.specs.Prelude.{ℕ, ◌&&◌, ◌==◌, nat_le, List, [], ◌∷◌, ℤ, if◌then◌else◌}
-use Rattle.fv_num.specs.headline.Words.{argument}
-use Rattle.fv_num.specs.headline.Frames.{Stream}
+use Rattle.fv_diagram.specs.Words.{argument}
+use Rattle.fv_diagram.specs.Frames.{Stream}
 use Rattle.fv_control.specs.declared.script.Change.{Change}
 
 -- the value of the last change of control k at time t or before, and this value where there is none

@@ -2,7 +2,7 @@
 -- manual; this project's profile).
 use Rattle.std.specs.Prelude.{ℕ, zero, suc, ◌+◌, ◌-◌, Bool, true, false, ◌&&◌, not, nat_eq, List, [], ◌∷◌, ◌++◌, map, replicate, ℤ}
 use Rattle.std.specs.List.{list_any, list_all}
-use Rattle.fv_num.specs.headline.Words.{argument}
+use Rattle.fv_diagram.specs.Words.{argument}
 use Rattle.fv_diagram.specs.headline.Diagram.{Diagram, Primitive, Control, Slot, Bind, Par, Seq, Split, Merge, Rec, inputs, outputs, is_table_primitive}
 use Rattle.fv_diagram.specs.headline.Streams.{run}
 use Rattle.fv_diagram_number.specs.headline.Numbers.{silent}

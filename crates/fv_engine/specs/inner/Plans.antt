@@ -1,11 +1,11 @@
 -- A plan as a block sees it (this project's profile).
 use Rattle.std.specs.Prelude.{◌≡◌, ℕ, ◌<◌, List, length, ℤ, pos}
-use Rattle.fv_num.specs.headline.Words.{argument}
+use Rattle.fv_signal.specs.Words.{argument}
 use Rattle.fv_loopcode.specs.headline.Code.{registers_after, NamesHeld, NamesInput}
 use Rattle.fv_split_plan.specs.headline.View.{PlanView, code_of}
 use Rattle.fv_split_plan.specs.headline.Plans.{tables_alone}
 use Rattle.fv_engine_tasks.specs.Block.{Block}
-use Rattle.fv_engine_parcels.specs.Contents.{parts_of}
+use Rattle.fv_engine_crew.specs.Contents.{parts_of}
 
 -- a block of a plan
 abbrev pub block_from : PlanView → (vector frames channels : ℕ) → (held input : List ℤ) → Block

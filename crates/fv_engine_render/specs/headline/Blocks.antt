@@ -4,7 +4,7 @@ use Rattle.std.specs.Prelude.{IfSome, IsSome}
 use Rattle.fv_outside.specs.declared.tasks.Reads.{Reads}
 use Rattle.fv_outside.specs.headline.Journal.{BlockEntry, Room, Told, IsOrdered}
 use Rattle.fv_control.specs.declared.script.Change.{Change}
-use Rattle.fv_engine_tasks.specs.headline.Block.{vectors_of}
+use Rattle.fv_engine.specs.Block.{vectors_of}
 
 -- the way from frame f to the next change, at most so far
 abbrev pub to_change : List Change → (f most : ℕ) → ℕ

@@ -1,6 +1,6 @@
 -- Diagrams side by side, each with controls of its own (this project's profile).
 use Rattle.std.specs.Prelude.{ℕ, ◌+◌, List, [], ◌∷◌, length, pos}
-use Rattle.fv_num.specs.headline.Interval.{Interval}
+use Rattle.fv_propagate.specs.Interval.{Interval}
 use Rattle.fv_diagram.specs.declared.node.Primitive.TheVariants.{Cut}
 use Rattle.fv_diagram.specs.headline.Diagram.{Diagram, Primitive, Constant, Control, Slot, Wave, Table, Bind, Par, Seq, Split, Merge, Rec}
 

@@ -1,6 +1,6 @@
 -- The place where the descent stops: what stands before it, and what at it.
 use Rattle.std.specs.Prelude.{List, [], ◌∷◌, ◌++◌}
-use Rattle.fv_lex.specs.declared.token.Symbol.{Symbol}
+use Rattle.fv_parse_grammar.specs.Symbol.{Symbol}
 use Rattle.fv_parse_grammar.specs.headline.Tree.{Tree}
 use Rattle.fv_parse_grammar.specs.headline.Grammar.{SpellsProgram, IsViablePrefix}
 

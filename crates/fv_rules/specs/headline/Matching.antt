@@ -2,7 +2,7 @@
 use Rattle.std.specs.Prelude.{Bool, false, List, [], ◌∷◌, ℤ, pos, neg_ℤ, Option, Some, None, if◌then◌else◌}
 use Rattle.std.specs.Ordering.{int_eq}
 use Rattle.fv_lex.specs.headline.Token.{Lexed}
-use Rattle.fv_num.specs.headline.Words.{wrap}
+use Rattle.fv_diagram.specs.Words.{wrap}
 use Rattle.fv_parse_grammar.specs.headline.Tree.{Tree}
 use Rattle.fv_parse_grammar.specs.headline.Tree as tree
 use Rattle.fv_parse_grammar.specs.declared.form.Operator.{Operator}
@@ -10,7 +10,7 @@ use Rattle.fv_parse_grammar.specs.declared.form.Operator.TheVariants as operator
 use Rattle.fv_diagram.specs.headline.Diagram.{Diagram, Constant, Par, Seq, Split, Merge, Rec}
 use Rattle.fv_parse.specs.headline.Trees.{text_of}
 use Rattle.fv_rules.specs.headline.Values.{Name, Rule, Value, Flat, Env, Bound}
-use Rattle.fv_diagram_number.specs.headline.Numbers.{number_of}
+use Rattle.fv_diagram_head.specs.Numbers.{number_of}
 
 -- a diagram with a number as that integer
 abbrev pub number_or : Option ℤ → Diagram → Diagram

@@ -3,8 +3,8 @@ use Rattle.std.specs.Prelude.{ℕ, zero, suc, ◌-◌, Bool, false, ◌&&◌, na
 use Rattle.std.specs.Prelude.{pos, negsuc, neg_ℤ, Option, Some, None, Result, Ok, Err, if◌then◌else◌}
 use Rattle.fv_base.specs.declared.limits.TheConstants.{VISIT_LIMIT}
 use Rattle.fv_lex.specs.headline.Token.{Lexed}
-use Rattle.fv_num.specs.headline.Words.{wrap, argument}
-use Rattle.fv_num.specs.declared.op.Op.TheVariants as op
+use Rattle.fv_diagram.specs.Words.{wrap, argument}
+use Rattle.fv_diagram.specs.Op.TheVariants as op
 use Rattle.fv_parse_grammar.specs.headline.Tree.{Tree, items, start_of}
 use Rattle.fv_parse_grammar.specs.headline.Tree as tree
 use Rattle.fv_parse_grammar.specs.declared.form.Primitive.{Primitive as Operation}
@@ -32,7 +32,7 @@ use Rattle.fv_rules.specs.declared.refusal.EvalRefusal.TheVariants.{UnknownName,
 use Rattle.fv_parse.specs.headline.Trees.{text_of, label_of}
 use Rattle.fv_rules.specs.headline.Values.{Name, Rule, Value, Flat, Abstraction, Rules, Env, Outermost, Bound, Scope, Nothing, And, Definition, Plain}
 use Rattle.fv_rules.specs.headline.Values.{Parameters, Cases, Meaning, IsValue, IsDefined, Unknown, lookup, rule_of, in_order, count_taken}
-use Rattle.fv_diagram_number.specs.headline.Numbers.{number_of}
+use Rattle.fv_diagram_head.specs.Numbers.{number_of}
 use Rattle.fv_rules.specs.headline.Matching.{Bindings, settled, value_number, bound_in, chosen}
 use Rattle.fv_rules.specs.headline.Steps.{State, Outcome, Eval, ◌>>=◌, give, refuse, no_number, no_rule, no_diagram, visit, fresh_slots, put, waved, whole, control}
 pub use Rattle.fv_diagram_head.specs.headline.Heads.{all_outputs}

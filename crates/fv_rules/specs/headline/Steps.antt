@@ -6,10 +6,10 @@ use Rattle.std.specs.Prelude.{int_le}
 use Rattle.fv_base.specs.declared.limits.TheConstants.{TABLE_LIMIT}
 use Rattle.fv_lex.specs.headline.Token.{Lexed}
 use Rattle.fv_arity.specs.declared.refusal.ArityKind.TheVariants as kind
-use Rattle.fv_num.specs.headline.Words.{argument}
+use Rattle.fv_diagram.specs.Words.{argument}
 use Rattle.fv_diagram.specs.declared.node.Primitive.TheVariants as prim
 use Rattle.fv_diagram.specs.headline.Diagram.{Diagram, Primitive, Control, Wave, Table, Par, Seq, Split, Merge, Rec, size, inputs, outputs, has_table_primitive}
-use Rattle.fv_diagram_number.specs.headline.Numbers.{at_first}
+use Rattle.fv_diagram_head.specs.Numbers.{at_first}
 use Rattle.fv_diagram_head.specs.headline.Heads.{parts, cut, is_head, table_numbers}
 use Rattle.fv_rules.specs.declared.refusal.TableCause.TheVariants as cause
 use Rattle.fv_diagram.specs.headline.Arena.{size_limit}

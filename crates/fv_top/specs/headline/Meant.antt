@@ -3,7 +3,7 @@ use Rattle.std.specs.Prelude.{ℕ, ℤ, List, [], ◌++◌, length, Option, Some
 use Rattle.fv_base.specs.declared.role.Role.{Role}
 use Rattle.fv_base.specs.declared.role.Role.TheVariants.{Program, Input, Controls, Output, Report}
 use Rattle.fv_outside.specs.headline.Desk.{DeskState}
-use Rattle.fv_num.specs.headline.Frames.{Frame, Stream}
+use Rattle.fv_diagram.specs.Frames.{Frame, Stream}
 use Rattle.fv_diagram.specs.headline.Diagram.{Diagram, inputs, outputs, size}
 use Rattle.fv_top_files.specs.headline.Output.{OutputFormat, output_file}
 use Rattle.fv_control.specs.headline.Streams.{control_streams}

@@ -3,7 +3,7 @@ use Rattle.std.specs.Prelude.{◌≡◌, ◌⊎◌, ◌<◌, ◌≤◌, ◌+◌,
 use Rattle.std.specs.List.{AllByRecursion}
 use Rattle.fv_base.specs.declared.role.Role.TheVariants.{Input, Output}
 use Rattle.fv_base.specs.headline.Lists.{IsPrefixOf}
-use Rattle.fv_num.specs.headline.Frames.{Frame}
+use Rattle.fv_diagram.specs.Frames.{Frame}
 use Rattle.fv_outside.specs.headline.Journal.{Told}
 use Rattle.fv_outside.specs.headline.Desk.{DeskState, KeepsFaults}
 use Rattle.fv_control.specs.declared.script.Change.{Change}

@@ -1,7 +1,7 @@
 -- What loading of a file leaves of the desk, and why it stops.
 use Rattle.std.specs.Prelude.{◌≡◌, ℕ, ◌+◌, ◌≤◌, IsSome, List, [], ◌∷◌, drop, Option}
 use Rattle.std.specs.Prelude.{Some, None, Result, Ok, Bool, nat_le, ◌&&◌, ◌||◌, ◌==◌}
-use Rattle.fv_base.specs.declared.role.Role.{Role}
+use Rattle.fv_outside.specs.Role.{Role}
 use Rattle.fv_outside.specs.headline.Requests.{Request, to_read}
 use Rattle.fv_outside.specs.headline.Desk.{File, file_named}
 use Rattle.fv_diagram.specs.declared.control.ControlInfo.{ControlInfo}

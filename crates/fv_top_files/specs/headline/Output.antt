@@ -1,6 +1,6 @@
 -- The output that a run makes: its format, which is its rate, its width and its length, and its file (RIFF WAVE 1991; Sun audio; this project's profile).
 use Rattle.std.specs.Prelude.{ℕ, ◌==◌, nat_le, List, [], ◌++◌, length, flat_map, Option, Some, None, Result, Ok, Err, unwrap_or, if◌then◌else◌}
-use Rattle.fv_num.specs.headline.Frames.{Frame, Stream}
+use Rattle.fv_diagram.specs.Frames.{Frame, Stream}
 use Rattle.fv_diagram.specs.headline.Diagram.{Diagram, inputs, outputs}
 use Rattle.fv_diagram.specs.headline.Streams.{run}
 use Rattle.fv_diagram.specs.headline.Samples.{no_slots}

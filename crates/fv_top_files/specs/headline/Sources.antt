@@ -1,7 +1,7 @@
 -- What is played, and on what: a program, the changes of its controls, and an input (RIFF WAVE 1991; Sun audio; this project's profile).
 use Rattle.std.specs.Prelude.{ℕ, ◌*◌, ◌+◌, ◌-◌, ◌/◌, Bool, nat_le, List, [], length, take, option_map, Option, Some, None, Result, Ok, Err, bytes_eq, codes}
 use Rattle.std.specs.Prelude.{if◌then◌else◌}
-use Rattle.fv_num.specs.headline.Frames.{Frame, table}
+use Rattle.fv_diagram.specs.Frames.{Frame, table}
 use Rattle.fv_outside.specs.headline.Desk.{File, file_named}
 use Rattle.fv_diagram.specs.declared.control.ControlInfo.{ControlInfo}
 use Rattle.fv_control.specs.declared.script.Change.{Change}

@@ -1,7 +1,7 @@
 -- What no call says beside `headline/Loading`: what loading of a file leaves of the desk, and why it stops.
 use Rattle.std.specs.Prelude.{◌≡◌, ◌⊎◌, ℕ, IsTrue, List, Option}
 use Rattle.std.specs.Prelude.{Result, Ok, Err}
-use Rattle.fv_base.specs.declared.role.Role.TheVariants.{Input}
+use Rattle.fv_outside.specs.Role.TheVariants.{Input}
 use Rattle.fv_outside.specs.headline.Desk.{DeskState}
 use Rattle.fv_wav.specs.Stopping.{IsFaultOfInput}
 use Rattle.fv_top_files.specs.declared.incoming.Incoming.{Incoming}

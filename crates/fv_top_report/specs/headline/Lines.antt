@@ -1,8 +1,8 @@
 -- One row for each refusal, and the line that a run appends to the report (this project's profile).
 use Rattle.std.specs.Prelude.{ℕ, ℤ, List, [], ◌∷◌, ◌++◌, flat_map, codes, decimal}
 use Rattle.std.specs.Fmt.{signed_decimal}
-use Rattle.fv_base.specs.declared.role.Role.{Role}
-use Rattle.fv_base.specs.declared.role.Role.TheVariants.{Program, Input, Controls, Output, Report}
+use Rattle.fv_outside.specs.Role.{Role}
+use Rattle.fv_outside.specs.Role.TheVariants.{Program, Input, Controls, Output, Report}
 use Rattle.fv_arity.specs.declared.refusal.ArityKind.{ArityKind}
 use Rattle.fv_arity.specs.declared.refusal.ArityKind.TheVariants.{Seq, Split, Merge, RecOut, RecIn}
 use Rattle.fv_top_words.specs.declared.cause.Cause.{Cause}

@@ -3,16 +3,16 @@ use Rattle.std.specs.Prelude.{◌≡◌, ℕ, Bool, ◌&&◌, ◌||◌, ◌==◌
 use Rattle.std.specs.Prelude.{sum, pos, int_lt, Option, Some, None, Result, Ok, Err}
 use Rattle.std.specs.Prelude.{if◌then◌else◌}
 use Rattle.fv_base.specs.declared.limits.TheConstants.{MOST_CHANNELS}
-use Rattle.fv_num.specs.headline.Interval.{Interval}
+use Rattle.fv_interval.specs.Interval.{Interval}
 use Rattle.fv_lex.specs.headline.Token.{Lexed}
 use Rattle.fv_lex.specs.headline.Cuts.{Has}
 use Rattle.fv_parse_grammar.specs.headline.Tree.{Tree}
 use Rattle.fv_parse.specs.declared.refusal.ParseRefusal.{ParseRefusal}
 use Rattle.fv_parse.specs.headline.Outcomes.{IsAccepted, HasRefusal}
-use Rattle.fv_diagram.specs.headline.Diagram.{Diagram, inputs, outputs}
-use Rattle.fv_diagram.specs.declared.control.ControlInfo.{ControlInfo}
-use Rattle.fv_rules.specs.declared.refusal.EvalRefusal.{EvalRefusal}
-use Rattle.fv_rules.specs.headline.Rules.{program_value}
+use Rattle.fv_interval.specs.Diagram.{Diagram, inputs, outputs}
+use Rattle.fv_interval.specs.ControlInfo.{ControlInfo}
+use Rattle.fv_eval.specs.EvalRefusal.{EvalRefusal}
+use Rattle.fv_eval.specs.Rules.{program_value}
 use Rattle.fv_interval.specs.headline.Delays.{delays_of, amounts, delay_limit, delay_budget}
 use Rattle.fv_interval.specs.headline.Controls.{spans_of}
 use Rattle.fv_top_report.specs.headline.Layers.{of_bytes, of_tokens, of_value}

@@ -1,6 +1,6 @@
 -- What no call says beside `headline/Samples`: samples and frames as bytes in a WAV file (RIFF WAVE 1991).
 use Rattle.std.specs.Prelude.{ℕ, List, ℤ}
-use Rattle.fv_num.specs.headline.Frames.{Frame}
+use Rattle.fv_pcm.specs.Frames.{Frame}
 use Rattle.fv_pcm.specs.declared.coding.Coding.TheVariants as coding
 use Rattle.fv_pcm.specs.headline.Coded.{sample_of as coded_sample, sample_at as coded_at, frame_bytes as coded_frame}
 use Rattle.fv_pcm.specs.headline.Sizes.{stated_frames as frames_stated}

@@ -1,5 +1,5 @@
 use Rattle.std.proofs.Common.{◌≡◌, length, ◌++◌, [], ◌∷◌, ◌∙◌, ap, sym, refl, arith, rules, SFits, w32, to_z-of_z, ℤ}
-use Rattle.fv_num.specs.headline.Words.{argument}
+use Rattle.fv_diagram.specs.Words.{argument}
 use Rattle.fv_diagram.specs.Arena.{tree_of}
 use Rattle.fv_diagram_number.specs.headline.Numbers.{silent}
 use Rattle.fv_diagram_head.proofs.Closed.{runs_alone}

@@ -1,5 +1,5 @@
 use Rattle.std.proofs.Common.{◌≡◌, ◌∙◌, arith, List, [], length, false, pos, All, refl, sym, subst}
-use Rattle.fv_num.specs.headline.Words.{argument}
+use Rattle.fv_signal.specs.Words.{argument}
 use Rattle.fv_loopcode.specs.declared.step.Step.{Step}
 use Rattle.fv_loopcode.specs.headline.State.{State}
 use Rattle.fv_loopcode.specs.headline.Code.{registers_after}

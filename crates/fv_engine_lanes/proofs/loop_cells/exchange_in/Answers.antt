@@ -3,7 +3,7 @@ use Rattle.std.specs.Prelude.{Vec}
 use Rattle.std.specs.declared.alloc.Global.{Global}
 use Rattle.std.specs.Vec.{with_items}
 use Rattle.std.proofs.lemmas.List.{length-map, map-set, get_or-map, get_or-set_same, with_items_is}
-use Rattle.fv_num.specs.headline.Tables.{read_at, written}
+use Rattle.fv_loopcode.specs.Tables.{read_at, written}
 use Rattle.fv_loopcode.specs.headline.State.{list_at}
 use Rattle.fv_split_plan.specs.Rows.{lists_of}
 use Rattle.fv_engine_lanes.proofs.loop_cells.exchange_in.Goals as goal

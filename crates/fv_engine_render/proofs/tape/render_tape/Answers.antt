@@ -4,7 +4,7 @@ use Rattle.std.proofs.lemmas.Result.{on_ok_weaker, IfErr-weaker}
 use Rattle.fv_control.specs.headline.Streams.{control_streams}
 use Rattle.fv_diagram.specs.headline.Diagram.{Diagram}
 use Rattle.fv_diagram.specs.declared.control.ControlInfo.{ControlInfo}
-use Rattle.fv_loopcode.specs.headline.Code.{NamesHeld}
+use Rattle.fv_split_plan.specs.Code.{NamesHeld}
 use Rattle.fv_split_plan.specs.headline.View.{PlanView}
 use Rattle.fv_engine_render.specs.inner.Runs.{PlaysAll}
 use Rattle.fv_engine_render.specs.headline.Render.{initial_of}

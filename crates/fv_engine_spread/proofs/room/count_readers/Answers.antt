@@ -2,7 +2,7 @@ use Rattle.std.proofs.Common.{◌≡◌, ◌+◌, ◌*◌, ℕ, length, sym, ap,
 use Rattle.std.specs.Prelude.{◌==◌}
 use Rattle.std.proofs.lemmas.Nat.{mod-mul-add}
 use Rattle.std.proofs.lemmas.List.{length-map}
-use Rattle.fv_outside.specs.headline.Tasks.{Tasks}
+use Rattle.fv_split_plan.specs.TasksBeside.{Tasks}
 use Rattle.fv_graph.specs.Words.{passing}
 use Rattle.fv_graph.specs.Graph.{pair_at, pair_edge, loop_of, vector_of}
 use Rattle.fv_engine_spread.proofs.room.count_readers.Goals as goal

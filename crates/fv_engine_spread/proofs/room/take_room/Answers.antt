@@ -1,6 +1,6 @@
 use Rattle.std.proofs.Common.{◌≡◌, ◌*◌, ◌+◌, ◌<◌, ℕ, List, length, get_or, sym, ap, ap₂, ◌∙◌, subst, arith}
 use Rattle.std.specs.Global.{Box}
-use Rattle.fv_outside.specs.headline.Tasks.{Tasks}
+use Rattle.fv_split_plan.specs.TasksBeside.{Tasks}
 use Rattle.fv_split_plan.specs.headline.View.{PlanView, code_of}
 use Rattle.fv_engine_lanes.specs.Plans.{own_lanes, sources_of, lanes_of_all, readers_of}
 use Rattle.fv_engine_lanes.specs.declared.loop_cells.CellPlaces.{CellPlaces}

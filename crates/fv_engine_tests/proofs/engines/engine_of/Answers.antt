@@ -1,5 +1,5 @@
 use Rattle.std.proofs.Common.{ℕ, List, length, ap, subst, arith}
-use Rattle.fv_loopcode.specs.headline.Code.{NamesHeld}
+use Rattle.fv_split_plan.specs.Code.{NamesHeld}
 use Rattle.fv_split_plan.specs.headline.View.{PlanView}
 use Rattle.fv_engine_tests.proofs.engines.engine_of.Goals as goal
 

@@ -1,6 +1,6 @@
 use Rattle.std.proofs.Common.{ℕ, ◌+◌, ◌*◌, ◌≤◌, length, ap, ◌∙◌, subst, arith}
 use Rattle.std.proofs.Math.Nat.{mul-le-mul_right}
-use Rattle.fv_loopcode.specs.headline.Code.{NamesHeld}
+use Rattle.fv_split_plan.specs.Code.{NamesHeld}
 use Rattle.fv_engine.specs.Stands.{EngineView}
 use Rattle.fv_engine_tests.proofs.engines.play.Goals as goal
 

@@ -1,5 +1,5 @@
 use Rattle.std.proofs.Common.{sym, ap, ◌∙◌}
-use Rattle.fv_parse_tree.specs.Arena.{trees}
+use Rattle.fv_parse.specs.Arena.{trees}
 use Rattle.fv_eval_scopes.specs.Shows.{body_in}
 use Rattle.fv_eval.proofs.Others.{own_body}
 use Rattle.fv_eval.proofs.names.body_of.Goals as goal

@@ -1,6 +1,6 @@
 use Rattle.std.proofs.Common.{sym, ap, ◌∙◌}
 use Rattle.std.proofs.lemmas.Option.{none-some}
-use Rattle.fv_parse_tree.specs.Arena.{trees}
+use Rattle.fv_parse.specs.Arena.{trees}
 use Rattle.fv_eval.specs.inner.Continuations.{name_of}
 use Rattle.fv_eval.proofs.Others.{no_name}
 use Rattle.fv_eval.proofs.names.named.Goals as goal

@@ -2,8 +2,8 @@ use Rattle.std.proofs.Common.{◌<◌, length, None, ap, ◌∙◌, arith}
 use Rattle.std.specs.Prelude.{slice_get}
 use Rattle.std.proofs.lemmas.Option.{slice_get_past}
 use Rattle.fv_parse_grammar.specs.headline.Tree.{Tree, items}
-use Rattle.fv_parse_tree.specs.Arena.{trees}
-use Rattle.fv_parse_tree.specs.declared.node.TreeNode.TheVariants as nodes
+use Rattle.fv_parse.specs.Arena.{trees}
+use Rattle.fv_parse.specs.TreeNode.TheVariants as nodes
 use Rattle.fv_parse.specs.Trees.{tree_in, start_in}
 use Rattle.fv_eval_scopes.specs.Shows.{parameters_in}
 use Rattle.fv_eval.specs.inner.Continuations.{ShowsName}

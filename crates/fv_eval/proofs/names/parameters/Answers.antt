@@ -1,7 +1,7 @@
 use Rattle.std.proofs.Common.{◌≡◌, ◌<◌, length, ap, ◌∙◌, arith}
 use Rattle.fv_parse_grammar.specs.headline.Tree.{Tree, items}
-use Rattle.fv_parse_tree.specs.Arena.{trees}
-use Rattle.fv_parse_tree.specs.declared.node.TreeNode.TheVariants as nodes
+use Rattle.fv_parse.specs.Arena.{trees}
+use Rattle.fv_parse.specs.TreeNode.TheVariants as nodes
 use Rattle.fv_parse.specs.Trees.{tree_in, start_in}
 use Rattle.fv_eval_scopes.specs.Shows.{parameters_in}
 use Rattle.fv_eval.proofs.Moves.{at_node}

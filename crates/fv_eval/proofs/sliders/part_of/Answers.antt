@@ -1,6 +1,6 @@
 use Rattle.std.proofs.Common.{sym, ap, ◌∙◌}
 use Rattle.std.specs.Prelude.{slice_get}
-use Rattle.fv_parse_tree.specs.Arena.{trees}
+use Rattle.fv_parse.specs.Arena.{trees}
 use Rattle.fv_eval.specs.inner.Continuations.{parameters_of}
 use Rattle.fv_eval.proofs.Others.{no_slider}
 use Rattle.fv_eval.proofs.sliders.part_of.Goals as goal

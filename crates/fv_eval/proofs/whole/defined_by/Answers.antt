@@ -1,5 +1,5 @@
 use Rattle.std.proofs.Common.{sym, ap, ◌∙◌}
-use Rattle.fv_parse_tree.specs.Arena.{trees}
+use Rattle.fv_parse.specs.Arena.{trees}
 use Rattle.fv_eval.specs.inner.Names.{defined_by}
 use Rattle.fv_eval.proofs.Others.{no_definition}
 use Rattle.fv_eval.proofs.whole.defined_by.Goals as goal

@@ -1,5 +1,5 @@
 use Rattle.std.proofs.Common.{ap, sym, ◌∙◌}
-use Rattle.fv_parse_tree.specs.Arena.{trees}
+use Rattle.fv_parse.specs.Arena.{trees}
 use Rattle.fv_parse.specs.Trees.{start_in}
 use Rattle.fv_eval_scopes.specs.Shows.{case_in}
 use Rattle.fv_eval_choosing.proofs.RuleNodes.{other_case}

@@ -1,6 +1,6 @@
 use Rattle.std.proofs.Common.{◌≡◌, ◌∙◌, false, sym, ap}
 use Rattle.fv_parse_grammar.specs.headline.Tree.{items}
-use Rattle.fv_parse_tree.specs.Arena.{trees}
+use Rattle.fv_parse.specs.Arena.{trees}
 use Rattle.fv_parse.specs.Trees.{tree_in, start_in}
 use Rattle.fv_eval_scopes.specs.declared.value.Meaning.TheVariants as meaning
 use Rattle.fv_rules.specs.headline.Values.{Name, is_of}

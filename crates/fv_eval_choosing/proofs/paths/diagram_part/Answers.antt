@@ -1,6 +1,6 @@
 use Rattle.std.proofs.Common.{◌≡◌, ◌∙◌, suc, drop, get_or, None, option_map, ap, sym, drop-cons}
 use Rattle.fv_diagram.specs.Arena.{tree_of}
-use Rattle.fv_diagram_number.specs.headline.Numbers.{number_of}
+use Rattle.fv_rules.specs.Numbers.{number_of}
 use Rattle.fv_eval_patterns.specs.Patterns.{are_parts}
 use Rattle.fv_eval_choosing.specs.declared.paths.Side.TheVariants.{Left}
 use Rattle.fv_eval_choosing.specs.Positions.{both_without}

@@ -1,5 +1,5 @@
 use Rattle.std.proofs.Common.{◌∙◌, suc, drop, get_or, ap₂, sym, drop-cons}
-use Rattle.fv_parse_tree.specs.Arena.{trees}
+use Rattle.fv_parse.specs.Arena.{trees}
 use Rattle.fv_parse.specs.Trees.{start_in}
 use Rattle.fv_eval_choosing.specs.declared.paths.Side.TheVariants.{Left}
 use Rattle.fv_eval_choosing.specs.Positions.{pattern_part}

@@ -1,5 +1,5 @@
 use Rattle.std.proofs.Common.{◌∙◌, false, sym, ap, subst}
-use Rattle.fv_parse_tree.specs.Arena.{trees}
+use Rattle.fv_parse.specs.Arena.{trees}
 use Rattle.fv_parse.specs.Trees.{start_in}
 use Rattle.fv_rules.specs.headline.Matching.{matched}
 use Rattle.fv_eval_patterns.specs.Patterns.{ShowsMatched}

@@ -1,12 +1,12 @@
 use Rattle.std.proofs.Common.{◌∙◌, ◌++◌, ◌∷◌, [], refl, ap, sym, subst, pos, neg_ℤ, arith, rules, SFits, w32, to_z-of_z}
 use Rattle.std.specs.Prelude.{IfSome, option_map}
-use Rattle.fv_num.specs.headline.Words.{wrap}
+use Rattle.fv_diagram.specs.Words.{wrap}
 use Rattle.fv_diagram.specs.Arena.{tree_of as diagram_of}
-use Rattle.fv_diagram_number.specs.headline.Numbers.{number_of}
+use Rattle.fv_rules.specs.Numbers.{number_of}
 use Rattle.fv_parse.specs.headline.Trees.{PartsBelow}
 use Rattle.fv_parse.specs.Trees.{start_in}
-use Rattle.fv_parse_tree.specs.Arena.{trees}
-use Rattle.fv_parse_tree.specs.declared.node.TreeNode.TheVariants as nodes
+use Rattle.fv_parse.specs.Arena.{trees}
+use Rattle.fv_parse.specs.TreeNode.TheVariants as nodes
 use Rattle.fv_rules.specs.headline.Values.{Flat}
 use Rattle.fv_rules.specs.headline.Matching.{matched, is_number}
 use Rattle.fv_eval_patterns.specs.declared.trying.Task.TheVariants.{Try}

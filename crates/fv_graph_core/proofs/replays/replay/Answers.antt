@@ -1,5 +1,5 @@
 use Rattle.std.proofs.Common.{ap, ◌∙◌, subst}
-use Rattle.fv_outside.specs.headline.Tasks.{Tasks}
+use Rattle.fv_graph.specs.Tasks.{Tasks}
 use Rattle.fv_graph.specs.Graph.{IsGraph, net_of}
 use Rattle.fv_graph.proofs.Graphs.{is_net}
 use Rattle.fv_graph_core.specs.Running.{Running}

@@ -1,5 +1,5 @@
 use Rattle.std.proofs.Common.{◌≡◌, ℕ, ◌<◌}
-use Rattle.fv_loopcode.specs.headline.Lanes.{lane_of}
+use Rattle.fv_lines.specs.Lanes.{lane_of}
 use Rattle.fv_lines.specs.Solo.{lanes_of}
 use Rattle.fv_lines_tests.proofs.blocks.are_full.Given as goal
 

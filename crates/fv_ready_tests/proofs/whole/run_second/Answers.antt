@@ -1,6 +1,6 @@
 use Rattle.std.proofs.Common.{refl, sym, ap, ◌∙◌, subst, Some, None}
 use Rattle.std.specs.Option.{IsSome}
-use Rattle.fv_ready_rule.specs.Carried.{slot_at, with_slot}
+use Rattle.fv_ready.specs.Carried.{slot_at, with_slot}
 use Rattle.fv_ready.specs.Seats.{slots_of}
 use Rattle.fv_ready_tests.specs.declared.rows.Note.{Note}
 use Rattle.fv_ready_tests.proofs.Slots.{of_hand, second_taken, second_handed, when_handed}

@@ -2,8 +2,8 @@ use Rattle.std.proofs.Common.{◌<◌, false, true, sym, ap, ◌∙◌, subst, a
 use Rattle.fv_outside.specs.headline.Tasks.{Tasks}
 use Rattle.fv_outside.specs.Tasks.{task_count}
 use Rattle.fv_graph.specs.Graph.{source_of}
-use Rattle.fv_ready_rule.specs.declared.Deed.TheVariants.{Stamped}
-use Rattle.fv_ready_rule.specs.Rule.{done_by, arrives, finishes}
+use Rattle.fv_ready.specs.Deed.TheVariants.{Stamped}
+use Rattle.fv_ready.specs.Rule.{done_by, arrives, finishes}
 use Rattle.fv_ready.specs.Seats.{view_of}
 use Rattle.fv_ready_tests.proofs.Slots.{after_two, saw_ready}
 use Rattle.fv_ready_tests.proofs.whole.two_seats_do_all.Goals as goal

@@ -1,5 +1,5 @@
 use Rattle.std.proofs.Common.{◌≡◌, ◌<◌, length, map, sym, ap, ◌∙◌, subst, arith, All}
-use Rattle.fv_num.specs.headline.Frames.{table}
+use Rattle.fv_signal.specs.Frames.{table}
 use Rattle.fv_base.proofs.Lists.{length_table}
 use Rattle.fv_signal.specs.headline.Rates.{rates}
 use Rattle.fv_loopcode.specs.Code.{AreSound}

@@ -1,6 +1,6 @@
 use Rattle.std.proofs.Common.{◌≡◌, ◌+◌, suc, length, sym, ◌∙◌, subst, ap, arith, set}
 use Rattle.std.proofs.lemmas.List.{get_or_read, length-set}
-use Rattle.fv_split_components.specs.headline.Reach.{at}
+use Rattle.fv_split_plan.specs.Reach.{at}
 use Rattle.fv_analysis.specs.headline.Stands.{StandsAt}
 use Rattle.fv_split_plan.proofs.NodeLemmas.{node_read}
 use Rattle.fv_split_code.specs.Emitted.{AllServe, AddsNow, code_in}

@@ -1,6 +1,6 @@
 use Rattle.std.proofs.Common.{length, ap, ◌∙◌, subst}
 use Rattle.std.proofs.lemmas.Result.{IfOk-weaker}
-use Rattle.fv_split_components.specs.headline.Reach.{at}
+use Rattle.fv_split_plan.specs.Reach.{at}
 use Rattle.fv_split_code.specs.Emits.{MeansNow, kind_of, owned_by}
 use Rattle.fv_split_code.proofs.ComputeLemmas.{read_kind}
 use Rattle.fv_split_code.proofs.emit.operand_of.Goals as goal

@@ -2,7 +2,7 @@ use Rattle.std.proofs.Common.{ℕ, ◌<◌, length, map, sym, ap, ◌∙◌, sub
 use Rattle.std.specs.Prelude.{Option, None, unwrap_or}
 use Rattle.std.proofs.lemmas.List.{get_or_read}
 use Rattle.std.proofs.lemmas.Result.{IfOk-weaker}
-use Rattle.fv_split_components.specs.headline.Reach.{at}
+use Rattle.fv_split_plan.specs.Reach.{at}
 use Rattle.fv_split_code.specs.Emits.{MeanNow, owned_by}
 use Rattle.fv_split_code.proofs.ComputeLemmas.{computes_write, mapped_within}
 use Rattle.fv_split_code.proofs.emit.written.Goals as goal

@@ -2,7 +2,7 @@ use Rattle.std.proofs.Common.{[], ◌∷◌, ◌++◌, ◌∙◌, ap, rules, SFi
 use Rattle.std.proofs.lemmas.Result.{IfOk-weaker}
 use Rattle.fv_split_code.specs.declared.kind.Kind.TheVariants as kind
 use Rattle.fv_loopcode.specs.declared.step.Step.TheVariants as step
-use Rattle.fv_split_components.specs.headline.Reach.{at}
+use Rattle.fv_split_plan.specs.Reach.{at}
 use Rattle.fv_split_code.specs.Emits.{owned_by}
 use Rattle.fv_split_code.proofs.StepLemmas.{means_number, means_held, means_input, means_back, means_other, means_own, means_inner, moved, of_kind, owned_yes}
 use Rattle.fv_split_code.proofs.StepLemmas.{owned_no, lane_within}

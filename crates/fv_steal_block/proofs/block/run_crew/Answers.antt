@@ -3,7 +3,7 @@ use Rattle.std.specs.List.{flat_map}
 use Rattle.fv_outside.specs.Tasks.{task_count}
 use Rattle.fv_outside.specs.headline.Journal.{IsOrdered}
 use Rattle.fv_graph.specs.Graph.{Graph, edges_of, net_of}
-use Rattle.fv_ready_rule.specs.Rule.{wins}
+use Rattle.fv_ready.specs.Rule.{wins}
 use Rattle.fv_ready.specs.Boards.{about_of, name_of, tasks_of}
 use Rattle.fv_ready.specs.Counted.{HaveAll, NothingLeft, told_by}
 use Rattle.fv_steal.specs.Crews.{seat_of, lines_of, IsCrew}

@@ -1,7 +1,7 @@
 use Rattle.std.proofs.Common.{refl, inl}
 use Rattle.std.specs.Prelude.{Some}
 use Rattle.std.proofs.lemmas.Result.{err_from_is_err_and}
-use Rattle.fv_base.specs.declared.role.Role.TheVariants.{Input}
+use Rattle.fv_outside.specs.Role.TheVariants.{Input}
 use Rattle.fv_outside.proofs.States.{told_before, goes_on_self, answers_next}
 use Rattle.fv_top_files.specs.Loading.{ReadsFile}
 use Rattle.fv_top_files.specs.Loaded.{held_in}

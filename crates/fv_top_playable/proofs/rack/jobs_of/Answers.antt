@@ -4,7 +4,7 @@ use Rattle.fv_join.specs.declared.job.Job.{Job}
 use Rattle.fv_join_diagrams.specs.headline.Parts.{Part}
 use Rattle.fv_top_rack.specs.declared.programs.Read.{Read}
 use Rattle.fv_top_rack.specs.headline.Racks.{part_of}
-use Rattle.fv_top_text.specs.Compiled.{compiled_of}
+use Rattle.fv_top_rack.specs.CompiledBeside.{compiled_of}
 use Rattle.fv_top_playable.proofs.Jobs.{Each, are_jobs, one_job_more, parts_in, parts_long, parts_more}
 use Rattle.fv_top_playable.proofs.rack.jobs_of.Goals as goal
 

@@ -2,8 +2,8 @@ use Rattle.std.proofs.Common.{List, sym, ◌∙◌, subst}
 use Rattle.fv_engine_render.specs.headline.Plans.{IsGraphOf}
 use Rattle.fv_engine_render.specs.SideBySide.{AreJobsOf}
 use Rattle.fv_join.specs.declared.job.Job.{Job}
-use Rattle.fv_num.specs.headline.Interval.{Interval}
-use Rattle.fv_top_text.specs.headline.Compiled.{Compiled}
+use Rattle.fv_propagate.specs.Interval.{Interval}
+use Rattle.fv_top_rack.specs.Compiled.{Compiled}
 use Rattle.fv_top_rack.specs.headline.Racks.{rack_of}
 use Rattle.fv_top_rack.specs.Reads.{programs_in}
 use Rattle.fv_top_rack.proofs.Sums.{inputs_all, outputs_all, spans_are}

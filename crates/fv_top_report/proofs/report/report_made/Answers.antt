@@ -1,6 +1,6 @@
 use Rattle.std.proofs.Common.{◌≡◌, List, [], ℕ, ◌++◌, ◌∙◌, subst}
 use Rattle.std.specs.Prelude.{OnOk}
-use Rattle.fv_base.specs.declared.role.Role.TheVariants.{Report}
+use Rattle.fv_outside.specs.Role.TheVariants.{Report}
 use Rattle.fv_outside.specs.Desk.{Appends}
 use Rattle.fv_top_report.specs.headline.Lines.{made_line}
 use Rattle.fv_top_report.proofs.Pieces.{made_pieces}

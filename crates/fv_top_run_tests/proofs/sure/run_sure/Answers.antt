@@ -1,11 +1,11 @@
 use Rattle.std.proofs.Common.{◌≡◌, ℕ, List, Option, Some, None, refl, inl}
 use Rattle.std.specs.Prelude.{IsSome, option_map}
-use Rattle.fv_base.specs.declared.role.Role.TheVariants.{Program, Controls, Input, Output, Report}
+use Rattle.fv_outside.specs.Role.TheVariants.{Program, Controls, Input, Output, Report}
 use Rattle.fv_outside.specs.headline.Desk.{DeskState, File, file_named}
-use Rattle.fv_top_words.specs.headline.Runs.{Run}
-use Rattle.fv_top_words.specs.headline.Commands.{Playing}
-use Rattle.fv_top_files.specs.headline.Sources.{found}
-use Rattle.fv_top_files.specs.headline.Loading.{IsThere}
+use Rattle.fv_top.specs.Runs.{Run}
+use Rattle.fv_top.specs.Commands.{Playing}
+use Rattle.fv_top.specs.Sources.{found}
+use Rattle.fv_top.specs.Loading.{IsThere}
 use Rattle.fv_top.specs.headline.Promise.{Write, IsAnswered}
 use Rattle.fv_top.specs.headline.Steps.{Turn, reads, writes, more, none}
 use Rattle.fv_top_run_tests.specs.Sure.{IsSure}

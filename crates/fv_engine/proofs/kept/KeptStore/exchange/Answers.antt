@@ -3,7 +3,7 @@ use Rattle.std.specs.Global.{Vec}
 use Rattle.std.specs.Prelude.{slice_set}
 use Rattle.std.specs.Vec.{with_items}
 use Rattle.std.proofs.lemmas.List.{with_items_is, map-set, length-map, get_or-map, get_or-set_same}
-use Rattle.fv_num.specs.headline.Tables.{read_at, written}
+use Rattle.fv_signal.specs.Tables.{read_at, written}
 use Rattle.fv_loopcode.specs.headline.State.{list_at}
 use Rattle.fv_split_plan.specs.Rows.{lists_of}
 use Rattle.fv_engine.proofs.kept.KeptStore.exchange.Given.{Over}

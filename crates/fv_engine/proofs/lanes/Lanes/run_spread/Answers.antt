@@ -10,7 +10,7 @@ use Rattle.fv_lines.specs.declared.shape.LaneShape.{LaneShape}
 use Rattle.fv_lines.specs.declared.shape.LaneState.{LaneState}
 use Rattle.fv_engine_tasks.specs.Jobs.{block_of}
 use Rattle.fv_engine_tasks.specs.Block.{Block}
-use Rattle.fv_engine_parcels.specs.Contents.{parts_of}
+use Rattle.fv_engine_crew.specs.Contents.{parts_of}
 use Rattle.fv_engine_crew.specs.Ran.{Ran}
 use Rattle.fv_engine.specs.inner.Opening.{opening_over}
 use Rattle.fv_engine.specs.declared.plan_codes.PlanCodes.{PlanCodes}

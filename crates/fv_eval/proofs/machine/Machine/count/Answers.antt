@@ -2,7 +2,7 @@ use Rattle.std.proofs.Common.{◌≡◌, Some, sym, ap, subst, ◌∙◌, rules,
 use lib.IntN.{nat_abs}
 use Rattle.fv_diagram.specs.Arena.{tree_of}
 use Rattle.fv_eval_drawing.specs.Makes.{Canvas}
-use Rattle.fv_diagram_number.specs.headline.Numbers.{number_of}
+use Rattle.fv_rules.specs.Numbers.{number_of}
 use Rattle.fv_eval.proofs.Iterated.{Counts, count_from}
 use Rattle.fv_eval.proofs.Forms.{is_no_other_iteration}
 use Rattle.fv_eval.proofs.machine.Machine.count.Goals as goal

@@ -2,8 +2,8 @@ use Rattle.std.proofs.Common.{◌≡◌, ◌<◌, ◌-◌, ◌^◌, ℕ, suc, Re
 use Rattle.std.proofs.Math.Facts.{to_z_pos}
 use Rattle.fv_diagram.specs.headline.Diagram.{Constant}
 use Rattle.fv_eval_drawing.specs.Makes.{Draws}
-use Rattle.fv_parse_tree.specs.Arena.{PartsBelow}
-use Rattle.fv_parse_tree.specs.declared.node.TreeNode.{TreeNode}
+use Rattle.fv_parse.specs.Arena.{PartsBelow}
+use Rattle.fv_parse.specs.TreeNode.{TreeNode}
 use Rattle.fv_parse.specs.Trees.{Parsed, node_tree, size_of, start_in, tree_in}
 use Rattle.fv_rules.specs.declared.refusal.EvalRefusal.{EvalRefusal}
 use Rattle.fv_eval.specs.declared.continuation.Focus as code_focus

@@ -2,7 +2,7 @@ use Rattle.std.proofs.Common.{◌≡◌, Err, List, ap, rules, sym, subst, ◌�
 use Rattle.std.specs.Prelude.{Option}
 use Rattle.fv_parse_grammar.specs.headline.Tree.{start_of}
 use Rattle.fv_parse.specs.Trees.{Parsed, tree_in}
-use Rattle.fv_parse_tree.specs.declared.node.TreeId.{TreeId}
+use Rattle.fv_parse.specs.TreeId.{TreeId}
 use Rattle.fv_eval_scopes.specs.declared.value.Binding as code_binding
 use Rattle.fv_rules.specs.headline.Steps.{no_rule}
 use Rattle.fv_eval.specs.inner.Continuations.{Selects}

@@ -1,7 +1,7 @@
 use Rattle.std.proofs.Common.{◌≡◌, ◌<◌, [], Ok, Err, refl, sym, ap, subst, ◌∙◌, arith}
 use Rattle.fv_parse_grammar.specs.headline.Tree as tree
-use Rattle.fv_parse_tree.specs.declared.node.TreeNode.{TreeNode}
-use Rattle.fv_parse_tree.specs.declared.node.TreeNode.TheVariants as nodes
+use Rattle.fv_parse.specs.TreeNode.{TreeNode}
+use Rattle.fv_parse.specs.TreeNode.TheVariants as nodes
 use Rattle.fv_parse.specs.headline.Trees.{PartsBelow}
 use Rattle.fv_parse.specs.Trees.{Parsed, size_of, tree_in, node_tree, start_in}
 use Rattle.fv_eval_scopes.specs.declared.value.Value.TheVariants as value

@@ -1,5 +1,5 @@
 use Rattle.std.proofs.Common.{sym, subst}
-use Rattle.fv_parse_tree.specs.Arena.{trees}
+use Rattle.fv_parse.specs.Arena.{trees}
 use Rattle.fv_parse.specs.Trees.{Parsed, tree_in, start_in}
 use Rattle.fv_eval_scopes.specs.Shows.{IsFunction}
 use Rattle.fv_eval_choosing.proofs.RuleNodes.{functions_are, not_a_function}

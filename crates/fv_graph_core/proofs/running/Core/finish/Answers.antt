@@ -1,5 +1,5 @@
 use Rattle.std.proofs.Common.{[], ◌++◌, length, get_or, set, sym, ap, ◌∙◌, refl, arith}
-use Rattle.fv_outside.specs.headline.Tasks.{Tasks}
+use Rattle.fv_graph.specs.Tasks.{Tasks}
 use Rattle.fv_graph.specs.Graph.{feeds_of}
 use Rattle.fv_graph_core.specs.Stored.{now_of, running_of}
 use Rattle.fv_graph_core.specs.declared.event.Event.TheVariants.{Finish}

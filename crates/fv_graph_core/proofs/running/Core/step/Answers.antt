@@ -1,6 +1,6 @@
 use Rattle.std.proofs.Common.{◌≡◌, ℕ, ◌<◌, true, sym, subst}
-use Rattle.fv_outside.specs.headline.Tasks.{Tasks}
-use Rattle.fv_outside.specs.Tasks.{task_count}
+use Rattle.fv_graph.specs.Tasks.{Tasks}
+use Rattle.fv_graph.specs.TasksBeside.{task_count}
 use Rattle.fv_graph.specs.Graph.{net_of}
 use Rattle.fv_graph_core.specs.Core.{after, is_done}
 use Rattle.fv_graph_core.specs.Law.{AllLeft}

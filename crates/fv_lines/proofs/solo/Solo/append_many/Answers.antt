@@ -1,5 +1,5 @@
 use Rattle.std.proofs.Common.{set, length, sym, ap, ◌∙◌, arith}
-use Rattle.fv_num.specs.headline.Words.{argument}
+use Rattle.fv_loopcode.specs.Words.{argument}
 use Rattle.fv_loopcode.specs.headline.Lanes.{Lane}
 use Rattle.fv_loopcode.specs.Lanes.{all_appended}
 use Rattle.fv_lines.specs.Solo.{lanes_of}

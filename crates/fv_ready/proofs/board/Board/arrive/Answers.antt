@@ -1,7 +1,7 @@
 use Rattle.std.proofs.Common.{◌≡◌, ◌+◌, ◌-◌, ◌%◌, ◌^◌, ◌<◌, ◌++◌, ap, sym, ◌∙◌, refl, subst, arith}
 use mathlib.Core.Option.{none}
 use Rattle.atomic_table.specs.Table.{Allows, step, rest}
-use Rattle.fv_outside.specs.Tasks.{times}
+use Rattle.fv_graph.specs.TasksBeside.{times}
 use Rattle.fv_graph.specs.Graph.{Graph, reader_of}
 use Rattle.fv_graph.proofs.Graphs.{is_wires}
 use Rattle.fv_ready_rule.specs.Wired.{graph_wires}

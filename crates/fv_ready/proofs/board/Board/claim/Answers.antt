@@ -1,5 +1,5 @@
 use Rattle.std.proofs.Common.{◌≡◌, ◌+◌, ◌==◌, [], ◌++◌, true, false, ap, sym, ◌∙◌, refl, subst, arith, eq-eqb, ne_eqb, length, length-append}
-use Rattle.fv_outside.specs.Tasks.{task_count}
+use Rattle.fv_graph.specs.TasksBeside.{task_count}
 use Rattle.fv_graph.specs.Graph.{Graph, edges_of, inward, outward}
 use Rattle.fv_graph.proofs.Graphs.{is_wires}
 use Rattle.fv_ready_rule.specs.Wired.{graph_wires}

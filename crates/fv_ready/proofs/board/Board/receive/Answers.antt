@@ -1,6 +1,6 @@
 use Rattle.std.proofs.Common.{◌<◌, None, sym, ◌∙◌, refl, subst}
 use Rattle.std.specs.Option.{IsSome}
-use Rattle.fv_outside.specs.Tasks.{times}
+use Rattle.fv_graph.specs.TasksBeside.{times}
 use Rattle.fv_graph.specs.Graph.{inward}
 use Rattle.fv_ready_rule.specs.Wired.{graph_wires}
 use Rattle.fv_ready_rule.proofs.Hands.{may_none}
