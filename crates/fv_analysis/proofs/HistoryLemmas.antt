@@ -1,6 +1,6 @@
 -- How far back signals are read.
 use Rattle.std.proofs.Common.{◌≡◌, ◌⊎◌, inl, inr, ℕ, zero, suc, ◌+◌, ◌<◌, ◌≤◌, List, [], ◌∷◌, ◌++◌, length, take, map, max, get_or, All, refl, sym, ap, ap₂}
-use Rattle.std.proofs.Common.{◌∙◌, subst, arith, Bool, true, false, nat_eq, nat_lt, cond, if◌then◌else◌, pos}
+use Rattle.std.proofs.Common.{◌∙◌, subst, arith, Bool, true, false, nat_eq, nat_lt, if◌then◌else◌, pos}
 use Rattle.std.specs.Prelude.{◌||◌, slice_set}
 use Rattle.std.proofs.lemmas.Bool.{cases_lt, cases_eq, eq-eqb, ne_eqb, eqb-true, lt-ltb, cond-true, cond-false}
 use Rattle.std.proofs.lemmas.List.{take_more, take_all, length-set, get_or-set_same, get_or-set_other}
@@ -8,12 +8,12 @@ use Rattle.std.proofs.lemmas.List.Elements.{All-get_or}
 use Rattle.fv_base.proofs.Lists.{table_same, map_table, table_items}
 use Rattle.fv_num.specs.headline.Frames.{table}
 use Rattle.fv_signal.specs.declared.signal.Signal.{Signal}
-use Rattle.fv_signal.specs.declared.signal.Signal.TheVariants.{Input, Const, Control, Point, Delay, Back, Member, Read, Write}
+use Rattle.fv_signal.specs.declared.signal.Signal.TheVariants.{Const, Delay, Back}
 use Rattle.fv_signal.specs.headline.Value.{Graph, definition}
 use Rattle.fv_signal.proofs.Grown.{length_grown}
-use Rattle.fv_analysis.specs.headline.Stands.{node, stand, stand_in, stands_of, StandsAt}
+use Rattle.fv_analysis.specs.headline.Stands.{node, stand, stand_in, stands_of}
 use Rattle.fv_analysis.specs.headline.History.{delay_of, is_back_of, greatest_delay, is_fed_back, history_from, history_of}
-use Rattle.fv_analysis.specs.History.{HasReason, OfDelay, OfBack}
+use Rattle.fv_analysis.specs.History.{OfDelay, OfBack}
 use Rattle.fv_analysis.specs.History.{HistoriesCover}
 use Rattle.fv_analysis.specs.inner.History.{Tell, TellMore}
 

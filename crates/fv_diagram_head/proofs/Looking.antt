@@ -1,17 +1,14 @@
 -- The turns of the walk that looks for what a table's numbers may not depend on.
-use Rattle.std.proofs.Common.{◌≡◌, ℕ, ◌+◌, ◌<◌, Bool, true, false, ◌&&◌, ◌||◌, List, [], ◌∷◌, ◌++◌, reverse, drop, refl, sym, ap, subst, ◌∙◌, arith}
+use Rattle.std.proofs.Common.{◌≡◌, ℕ, ◌+◌, ◌<◌, Bool, true, false, ◌&&◌, ◌||◌, List, [], ◌∷◌, ◌++◌, reverse, refl, sym, ap, ◌∙◌, arith}
 use Rattle.std.specs.List.{list_any}
-use Rattle.std.specs.Prelude.{nat_eq, option_to_list, Option, Some, None}
-use Rattle.std.proofs.Math.Bool.{and_assoc}
 use Rattle.std.proofs.lemmas.List.{reverse-append}
 use Rattle.std.proofs.lemmas.List.Folds.{list_any-append}
-use Rattle.fv_diagram.specs.headline.Diagram.{Diagram, Bind, inputs, size}
 use Rattle.fv_diagram.specs.Arena.{Arena, tree_of}
 use Rattle.fv_diagram.proofs.Turns.{some_size}
 use Rattle.fv_diagram_head.specs.declared.fixed.Look.{Look}
 use Rattle.fv_diagram_head.specs.declared.fixed.Look.TheVariants as look
-use Rattle.fv_diagram_head.specs.headline.Heads.{is_closed, is_fixed}
-use Rattle.fv_diagram_head.specs.inner.Looks.{AreInside, are_closed, Advances, Turns}
+use Rattle.fv_diagram_head.specs.headline.Heads.{is_closed}
+use Rattle.fv_diagram_head.specs.inner.Looks.{AreInside, are_closed, Turns}
 
 -- the next piece is the last one
 pub next_last : {A : Type 0} (xs ys : List A) (x : A) → xs ≡ ys ++ x ∷ [] → reverse xs ≡ x ∷ reverse ys

@@ -1,10 +1,9 @@
 -- The parts of a diagram, and the first of them.
-use Rattle.std.proofs.Common.{◌≡◌, ℕ, zero, suc, ◌+◌, ◌-◌, ◌<◌, ◌≤◌, List, [], ◌∷◌, ◌++◌, length, take, drop, reverse, get_or, refl, sym, ap, subst}
-use Rattle.std.proofs.Common.{◌∙◌, arith, append_assoc, append-nil, add-one}
-use Rattle.std.proofs.Math.Seq.{drop-cons}
-use Rattle.std.proofs.lemmas.List.{drop_all, map-append, take_more}
-use Rattle.std.proofs.lemmas.List.Elements.{All-nil, All-push}
-use Rattle.fv_diagram.specs.headline.Diagram.{Diagram, Par, outputs, size}
+use Rattle.std.proofs.Common.{◌≡◌, ℕ, zero, suc, ◌+◌, ◌-◌, ◌<◌, ◌≤◌, List, [], ◌∷◌, ◌++◌, take, drop, sym, ap}
+use Rattle.std.proofs.Common.{◌∙◌, arith, append_assoc}
+use Rattle.std.proofs.lemmas.List.{map-append}
+use Rattle.std.proofs.lemmas.List.Elements.{All-push}
+use Rattle.fv_diagram.specs.headline.Diagram.{Diagram, size}
 use Rattle.fv_diagram.specs.Arena.{Arena, count_of, tree_of}
 use Rattle.fv_diagram.proofs.Turns.{some_size}
 use Rattle.fv_diagram_head.specs.headline.Heads.{cut, parts}

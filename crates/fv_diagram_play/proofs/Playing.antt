@@ -1,9 +1,8 @@
 -- The answer grows by a frame at a time.
-use Rattle.std.proofs.Common.{◌≡◌, ℕ, zero, suc, ◌+◌, ◌<◌, ◌≤◌, List, [], ◌∷◌, ◌++◌, length, take, drop, get_or, ℤ, pos}
-use Rattle.std.proofs.Common.{sym, ◌∙◌, ap, arith, refl, add-one}
-use Rattle.std.proofs.lemmas.List.{append-nil, nil_from_length, take_more, get_or-drop, length-drop}
+use Rattle.std.proofs.Common.{◌≡◌, ℕ, zero, suc, ◌+◌, ◌<◌, ◌≤◌, List, [], ◌∷◌, ◌++◌, length, get_or, ℤ, pos}
+use Rattle.std.proofs.Common.{sym, ◌∙◌, ap, arith, refl}
+use Rattle.std.proofs.lemmas.List.{append-nil, nil_from_length}
 use Rattle.std.proofs.lemmas.Grind.{flat_map-append}
-use Rattle.fv_num.specs.headline.Words.{argument}
 use Rattle.fv_num.specs.headline.Frames.{Frame, Stream, table, column}
 use Rattle.fv_diagram.specs.headline.Diagram.{Diagram}
 use Rattle.fv_diagram.specs.Diagram.{control_bound}

@@ -1,5 +1,5 @@
 -- What several workers need of a plan (this project's profile).
-use Rattle.std.specs.Prelude.{ℕ, ◌≤◌}
+use Rattle.std.specs.Prelude.{◌≤◌}
 use Rattle.fv_outside.specs.headline.Tasks.{Tasks}
 use Rattle.fv_split_plan.specs.headline.View.{PlanView}
 use Rattle.fv_engine_lanes.specs.Cells.{ArePlaced}

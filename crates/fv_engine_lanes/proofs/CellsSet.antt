@@ -1,5 +1,5 @@
 -- One cells of a loop, among the cells by their numbers.
-use Rattle.std.proofs.Common.{◌≡◌, ◌≢◌, inl, inr, ℕ, ◌<◌, List, [], length, get_or, set, refl, sym, ap, ◌∙◌, subst, arith, ℤ, ◌==◌}
+use Rattle.std.proofs.Common.{◌≡◌, ◌≢◌, inl, inr, ℕ, ◌<◌, List, [], length, get_or, set, sym, ap, ◌∙◌, subst, arith, ℤ, ◌==◌}
 use Rattle.std.proofs.Common.{eq-eqb, ne_eqb}
 use Rattle.std.specs.Prelude.{slice_index, if◌then◌else◌}
 use Rattle.std.proofs.lemmas.Bool.{cases_eq, cases_lt, cond-true, cond-false}

@@ -11,7 +11,7 @@ use Rattle.fv_split_plan.specs.headline.View.{PlanView, cells_info}
 use Rattle.fv_split_plan.specs.Rows.{lists_of}
 use Rattle.fv_engine_lanes.specs.Cells.{ArePlaced}
 use Rattle.fv_engine_parcels.specs.declared.content.Writers.{Writers}
-use Rattle.fv_engine_spread.specs.Swapped.{SameButCells, HaveSlots, AreSwapped, cells_in, slot}
+use Rattle.fv_engine_spread.specs.Swapped.{SameButCells, AreSwapped, cells_in, slot}
 
 same_self : (w : Writers) → SameButCells w w
 same_self w = record { own = refl; seen = refl; plan = refl; places = refl; loop_no = refl; count = refl; regs = refl; rows = refl; lists = refl }

@@ -2,7 +2,6 @@
 use Rattle.std.proofs.Common.{◌≡◌, ℕ, ◌-◌, ◌*◌, ◌<◌, true, List, length, get_or, refl, sym, ap, ◌∙◌, subst, arith, ltb, lt-ltb}
 use Rattle.std.proofs.Common.{◌==◌, eq-eqb, vec_capacity, ℤ}
 use Rattle.std.specs.Global.{Vec, Box}
-use Rattle.std.specs.Prelude.{slice_index}
 use Rattle.std.specs.Prelude.{min}
 use Rattle.std.proofs.lemmas.List.{get_or-map}
 use Rattle.std.proofs.Math.Nat.{min-eq_left}
@@ -11,14 +10,12 @@ use Rattle.fv_graph.proofs.Grouping.{get_any}
 use Rattle.fv_graph.proofs.ReadsLemmas.{get_passing}
 use Rattle.fv_loopcode_machine.specs.Lanes.{no_lane}
 use Rattle.fv_split_plan.specs.Obeys.{OfLane, OfCells}
-use Rattle.fv_loopcode_machine.specs.State.{list_at}
 use Rattle.fv_split_plan.specs.ObeysBeside.{HoldsJust}
 use Rattle.fv_split_plan.specs.headline.View.{PlanView, lane_info, cells_info, code_of, is_own}
-use Rattle.fv_split_plan.specs.Rows.{lists_of}
 use Rattle.fv_lines.specs.declared.seen.Seen.{Seen}
 use Rattle.fv_lines.specs.declared.writer.LaneWriter.{LaneWriter}
 use Rattle.fv_engine_lanes.specs.Lanes.{lane_open}
-use Rattle.fv_engine_lanes.specs.Cells.{ArePlaced, AreCellsPlaced, cells_of}
+use Rattle.fv_engine_lanes.specs.Cells.{ArePlaced, AreCellsPlaced}
 use Rattle.fv_engine_lanes.specs.declared.loop_cells.CellPlaces.{CellPlaces}
 use Rattle.fv_engine_lanes.specs.declared.loop_cells.LoopCells.{LoopCells}
 use Rattle.fv_engine_lanes.specs.Plans.{own_lanes, sources_of, lanes_of_all, readers_of}
@@ -28,7 +25,7 @@ use Rattle.fv_engine_parcels.specs.Contents.{tasks_in, upto, AreRoomy, AreCellsO
 use Rattle.fv_engine_spread.specs.Dealt.{IsDealt}
 use Rattle.fv_engine_spread.specs.Opening.{IsOpening, DealtRoomsEnter}
 use Rattle.fv_engine_spread.specs.Rooms.{IsRoom, HasCells}
-use Rattle.fv_engine_spread.specs.Swapped.{SameButCells, AreSwapped, cells_in, slot}
+use Rattle.fv_engine_spread.specs.Swapped.{SameButCells, AreSwapped}
 use Rattle.fv_engine_spread.proofs.Places.{cells_at, slot_at}
 
 module _ (k : Start) (opening : IsOpening k) where

@@ -1,5 +1,5 @@
 -- Nothing is done as a block begins.
-use Rattle.std.proofs.Common.{◌≡◌, ℕ, zero, suc, false, List, [], length, replicate, refl, sym, ap, ◌∙◌, arith}
+use Rattle.std.proofs.Common.{◌≡◌, ℕ, zero, suc, false, [], length, replicate, refl, sym, ap, ◌∙◌, arith}
 use Rattle.std.proofs.lemmas.Bool.{le-ltb}
 use Rattle.std.proofs.lemmas.List.{length-replicate, get_or-replicate}
 use Rattle.fv_outside.specs.headline.Tasks.{Tasks, bit}

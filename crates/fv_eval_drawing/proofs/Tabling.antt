@@ -27,7 +27,7 @@ use Rattle.fv_eval_drawing.specs.Lists.{all_from_right, linked}
 use Rattle.fv_eval_drawing.specs.Makes.{AddsDiagrams, AreThere, Becomes, Canvas, Draws, Extends, Makes, trees_of}
 use Rattle.fv_eval_drawing.specs.inner.Tables.{GrowsBy}
 use Rattle.fv_eval_drawing.proofs.Evals.{given_then, refused_then}
-use Rattle.fv_eval_drawing.proofs.Arenas.{there_stays, trees_stay}
+use Rattle.fv_eval_drawing.proofs.Arenas.{trees_stay}
 use Rattle.fv_eval_drawing.proofs.Leaves.{makes_of, puts_makes}
 
 -- side by side is from the right

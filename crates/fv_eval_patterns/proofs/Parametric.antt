@@ -1,19 +1,16 @@
 -- What a pattern binds does not hang on what was bound before.
-use Rattle.std.proofs.Common.{◌≡◌, ◌<◌, ◌≤◌, Bool, true, false, cond, List, [], ◌∷◌, ◌++◌, Option, Some, None, refl, sym, ap, ap₂, subst, ◌∙◌, append_assoc, append-nil, arith, ℕ, drop, length}
-use Rattle.std.proofs.lemmas.Option.{none-some, same_Some}
+use Rattle.std.proofs.Common.{◌≡◌, ◌<◌, ◌≤◌, Bool, true, false, cond, List, [], ◌∷◌, ◌++◌, Option, Some, None, refl, sym, ap, subst, ◌∙◌, append_assoc, append-nil, arith, ℕ, drop, length}
 use Rattle.fv_parse.specs.Token.{Lexed}
 use Rattle.fv_diagram.specs.Words.{wrap}
-use Rattle.std.specs.Prelude.{ℤ, pos, neg_ℤ}
+use Rattle.std.specs.Prelude.{pos, neg_ℤ}
 use Rattle.fv_diagram.specs.headline.Diagram.{Diagram}
 use Rattle.fv_diagram.specs.Arena.{Arena, count_of, tree_of}
 use Rattle.fv_parse.specs.Trees.{Parsed, tree_in}
-use Rattle.fv_parse.specs.headline.Trees.{text_of}
 use Rattle.fv_parse_grammar.specs.headline.Tree.{Tree}
 use Rattle.fv_parse_grammar.specs.headline.Tree as tree
 use Rattle.fv_rules.specs.headline.Values.{Value, Flat}
-use Rattle.fv_rules.specs.headline.Matching.{Bindings, and_then, is_number, matched, settled, value_number, value_parts}
+use Rattle.fv_rules.specs.headline.Matching.{Bindings, and_then, is_number, matched, value_number, value_parts}
 use Rattle.fv_eval_scopes.specs.declared.value.Binding as code_binding
-use Rattle.fv_eval_scopes.specs.declared.value.Value as code_value
 use Rattle.fv_eval_scopes.specs.declared.value.Value.TheVariants as value
 use Rattle.fv_eval_scopes.specs.Shows.{World, ShowsBindings, ShowsValue}
 use Rattle.fv_eval_scopes.specs.Memo.{AddsIntegers}

@@ -1,12 +1,10 @@
 -- Samples that were heard, and more behind them.
 use Rattle.std.proofs.Common.{◌≡◌, ℕ, zero, suc, ◌+◌, ◌-◌, ◌*◌, ◌/◌, ◌≤◌, List, [], ◌∷◌, ◌++◌, length, take, drop, refl, sym, ap, ap₂, subst, ◌∙◌, arith}
-use Rattle.std.proofs.Common.{◌<◌, ◌^◌, true, append_assoc, length-append, length-drop, ℤ}
+use Rattle.std.proofs.Common.{◌<◌, ◌^◌, append_assoc, length-append, length-drop, ℤ}
 use Rattle.std.proofs.Math.Nat.{add-mul}
 use Rattle.std.proofs.lemmas.List.{append-nil, drop-drop, drop_at, length-take-le, take-append-drop}
 use Rattle.fv_base.proofs.Lists.{table_same}
-use Rattle.fv_pcm.specs.Words.{is_sample_width}
 use Rattle.fv_pcm.specs.Frames.{table}
-use Rattle.fv_pcm.proofs.Widths.{at_width}
 use Rattle.fv_pcm.specs.declared.coding.Coding.{Coding}
 use Rattle.fv_pcm.specs.headline.Coded.{sample_of, sample_at}
 use Rattle.fv_pcm.specs.Coded.{samples_in}

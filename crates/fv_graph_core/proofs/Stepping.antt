@@ -2,7 +2,7 @@
 use Rattle.std.proofs.Common.{◌≡◌, ℕ, ◌+◌, true, List, ap, arith}
 use Rattle.fv_graph.specs.Tasks.{total}
 use Rattle.fv_graph.specs.Net.{Net, IsNet}
-use Rattle.fv_graph_core.specs.Core.{Now, is_legal, after, is_done}
+use Rattle.fv_graph_core.specs.Core.{Now, is_legal, after}
 use Rattle.fv_graph_core.specs.declared.event.Event.{Event}
 use Rattle.fv_graph_core.specs.Sound.{Sound, IsSound, arrived_of, took_of, amount_of}
 use Rattle.fv_graph_core.proofs.Law.{steps}

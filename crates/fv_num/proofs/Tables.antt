@@ -1,5 +1,5 @@
 -- What was written last.
-use Rattle.std.proofs.Common.{◌≡◌, ◌≢◌, ◌⊎◌, inl, inr, ℕ, zero, suc, ◌-◌, ◌<◌, ◌≤◌, List, length, refl, sym, ap, ◌∙◌, arith, ℤ, pos, negsuc, Bool}
+use Rattle.std.proofs.Common.{◌≡◌, ◌≢◌, ◌⊎◌, inl, inr, ℕ, zero, suc, ◌-◌, ◌<◌, ◌≤◌, List, length, refl, sym, ap, ◌∙◌, arith, ℤ, pos}
 use Rattle.std.proofs.Common.{true, false, if◌then◌else◌, nat_eq, slice_set}
 use Rattle.std.proofs.lemmas.Bool.{eq-eqb, ne_eqb}
 use Rattle.std.proofs.lemmas.Bool.Decides.{eqb_tells}
@@ -7,7 +7,7 @@ use Rattle.std.proofs.Math.Dec.{eqb}
 use Rattle.std.proofs.lemmas.List.{get_or-set_same, get_or-set_other, length-set}
 use Rattle.fv_num.specs.headline.Words.{argument}
 use Rattle.fv_num.specs.headline.Frames.{Stream}
-use Rattle.fv_num.specs.headline.Tables.{place, last_written, written, after}
+use Rattle.fv_num.specs.headline.Tables.{place, last_written, after}
 use Rattle.fv_num.specs.Tables.{IsLastWrite, GivesTheLast, KeepsTheRest, ListsTheLast}
 
 -- only the times up to t count

@@ -1,15 +1,15 @@
 -- One more block is kept behind those before it, whose pairs and lines stay in their places.
-use Rattle.std.proofs.Common.{◌≡◌, ℕ, zero, suc, ◌+◌, ◌-◌, ◌<◌, ◌≤◌, List, [], ◌∷◌, ◌++◌, length, map, get_or, take, drop, true, nat_le, refl, sym}
-use Rattle.std.proofs.Common.{ap, ap₂, ◌∙◌, arith, subst, Some, length-append}
-use Rattle.std.specs.Prelude.{All, slice_range, ◌&&◌}
+use Rattle.std.proofs.Common.{◌≡◌, ℕ, zero, suc, ◌+◌, ◌-◌, ◌<◌, ◌≤◌, List, [], ◌∷◌, ◌++◌, length, map, take, drop, true, nat_le, refl, sym}
+use Rattle.std.proofs.Common.{ap, ap₂, ◌∙◌, arith, length-append}
+use Rattle.std.specs.Prelude.{slice_range, ◌&&◌}
 use Rattle.std.proofs.lemmas.List.{take-append-le, drop-append-le, take_all, drop_at, map_push, length_push, length-drop}
 use Rattle.std.proofs.lemmas.Bool.{le-leb}
 use Rattle.fv_outside.specs.declared.tasks.Reads.{Reads}
 use Rattle.fv_outside.specs.declared.gate.Line.{Line}
 use Rattle.fv_outside.specs.declared.recorder.KeptBlock.{KeptBlock}
 use Rattle.fv_outside.specs.headline.Journal.{BlockEntry}
-use Rattle.fv_outside.specs.Journal.{has_room, room_after, told_after}
-use Rattle.fv_outside.specs.Recorded.{entry_of, told_of, IsAmong, IsRecorded}
+use Rattle.fv_outside.specs.Journal.{told_after}
+use Rattle.fv_outside.specs.Recorded.{entry_of, told_of, IsRecorded}
 
 -- a part of the first list stays where it is
 range_stays : {A : Type 0} (xs ys : List A) (i j : ℕ) → i ≤ j → j ≤ length xs → slice_range (xs ++ ys) i j ≡ slice_range xs i j

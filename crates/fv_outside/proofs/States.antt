@@ -10,7 +10,7 @@ use Rattle.std.proofs.lemmas.Bool.{false_from_ne_true, eqb-true}
 use Rattle.std.specs.Prelude.{IsTrue, All, false, ◌==◌}
 use Rattle.fv_base.specs.headline.Lists.{IsPrefixOf}
 use Rattle.fv_base.proofs.Lists.{prefix_refl}
-use Rattle.fv_outside.specs.headline.Desk.{DeskState, GoesOn, HasFault, KeepsFaults, IsUnfailing}
+use Rattle.fv_outside.specs.headline.Desk.{DeskState, GoesOn, HasFault, IsUnfailing}
 use Rattle.fv_outside.specs.Desk.{KeepsQuiet, fails_now, fails_next, Appends, Takes, TakesSome, joined}
 use Rattle.fv_base.specs.declared.role.Role.{Role}
 

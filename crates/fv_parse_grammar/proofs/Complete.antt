@@ -30,11 +30,11 @@ use Rattle.fv_parse_grammar.specs.headline.Grammar.{function, rule, plain, quali
 use Rattle.fv_parse_grammar.specs.headline.Grammar.{plus_number, minus_number, minus_name, named, wire, cut, plus, minus, primitive, grouped, abstracted, cased, iterated}
 use Rattle.fv_parse_grammar.specs.headline.Grammar.{ported, switched, slid, paneled, atom_number, atom_plus_number, atom_minus_number, atom_name, atom_grouped}
 use Rattle.fv_parse_grammar.specs.Nesting.{Nests}
-use Rattle.fv_parse_grammar.specs.Descent.{Step, Done, Next, One, Skip, run, chain, Reader, power_at, primary, postfix, postfix_turn}
+use Rattle.fv_parse_grammar.specs.Descent.{Done, Next, One, Skip, run, chain, Reader, power_at, primary, postfix, postfix_turn}
 use Rattle.fv_parse_grammar.specs.Descent.{phrase, left_turn, expression}
 use Rattle.fv_parse_grammar.specs.Descent.{with_turn, at_comma, a_name, name_list, definition, one_rule, further, listed, item, atom, enclosed, argument, within, program}
-use Rattle.fv_parse_grammar.specs.Descent.{after_plus, after_minus, by_head, group, abstraction, case_of, iteration, ports, switch, slider, panel, label, ended}
-use Rattle.fv_parse_grammar.specs.Descent.{function_after, constant_after, Item, descend}
+use Rattle.fv_parse_grammar.specs.Descent.{after_plus, after_minus, by_head, abstraction, case_of, iteration, ports, switch, slider, panel, label, ended}
+use Rattle.fv_parse_grammar.specs.Descent.{function_after, constant_after, descend}
 use Rattle.fv_parse_grammar.specs.Descent as descent
 use Rattle.fv_parse_grammar.proofs.Loops.{run_next, run_done, chain_next, chain_done, many_one, many_skip, many_done, separated_step, separated_end}
 use Rattle.fv_parse_grammar.specs.declared.symbol.Operands.{Operands}

@@ -1,7 +1,7 @@
 -- What begins an operand, by its first token, and what stands behind it.
 use Rattle.std.proofs.Common.{◌≡◌, ℕ, List, [], ◌∷◌, Ok, refl, sym, subst}
 use Rattle.fv_parse_grammar.specs.Symbol.{Symbol}
-use Rattle.fv_parse_grammar.specs.Symbol.TheVariants.{Name, Text, Integer, Comma, Open, Close, OpenBrace, CloseBrace, Dot, Tick}
+use Rattle.fv_parse_grammar.specs.Symbol.TheVariants.{Name, Integer, Comma, Open, Close, OpenBrace, CloseBrace, Dot}
 use Rattle.fv_parse_grammar.specs.Symbol.TheVariants as symbols
 use Rattle.fv_parse_grammar.specs.declared.form.Iteration.{Iteration as Repetition}
 use Rattle.fv_parse_grammar.specs.declared.form.Side.{Side}

@@ -14,7 +14,7 @@ use Rattle.fv_parse_grammar.specs.headline.Grammar.{Expression, Phrase, Postfix,
 use Rattle.fv_parse_grammar.specs.headline.Grammar.{applied, atom_number, atom_plus_number, atom_minus_number, atom_name, atom_grouped}
 use Rattle.fv_parse_grammar.specs.Descent as descent
 use Rattle.fv_parse_grammar.specs.declared.symbol.Mark.TheVariants as marks
-use Rattle.fv_parse_grammar.specs.Descent.{Step, ◌>>=◌, Turn, Done, Reader, power_at, primary, postfix, postfix_turn, atom_by_head, atom}
+use Rattle.fv_parse_grammar.specs.Descent.{Step, ◌>>=◌, Reader, power_at, postfix, postfix_turn, atom_by_head, atom}
 use Rattle.fv_parse_grammar.specs.Descent.{rights, chain, phrase}
 use Rattle.fv_parse_grammar.specs.Descent.{left_turn, expression, with_turn}
 use Rattle.fv_parse_prefixes.proofs.Plans.{both, nought, signed, Onward, stay, onward, Spelled, spelled, Nothing, Sign, Inner, Joined, APostfix, APrimary, AnAtom}

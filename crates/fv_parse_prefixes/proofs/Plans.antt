@@ -3,7 +3,7 @@ use Rattle.fv_parse_grammar.specs.declared.form.Literal.{Literal}
 use Rattle.fv_parse_grammar.specs.headline.Grammar.{SpellsNumber, unsigned, SpellsNumbers, one_number}
 use Rattle.std.proofs.Common.{◌≡◌, ℕ, zero, suc, Bool, true, false, cond, List, [], ◌∷◌, ◌++◌, Result, Ok, Err, refl, sym, ap, subst, ◌∙◌, append_assoc}
 use Rattle.fv_parse_grammar.specs.Symbol.{Symbol}
-use Rattle.fv_parse_grammar.specs.Symbol.TheVariants.{Name, Text, Comma}
+use Rattle.fv_parse_grammar.specs.Symbol.TheVariants.{Name, Text}
 use Rattle.fv_parse_grammar.specs.Symbol.TheVariants as symbols
 use Rattle.fv_parse_grammar.specs.declared.symbol.Inside.{Inside}
 use Rattle.fv_parse_grammar.specs.declared.symbol.Inside.TheVariants as insides

@@ -12,7 +12,7 @@ use Rattle.fv_parse_grammar.specs.headline.Grammar.{Further, Definition, Listed,
 use Rattle.fv_parse_grammar.specs.headline.Grammar.{ruled, parted, first_rule, first_part, constant, function, rule}
 use Rattle.fv_parse_grammar.specs.Descent as descent
 use Rattle.fv_parse_grammar.specs.declared.symbol.Mark.TheVariants as marks
-use Rattle.fv_parse_grammar.specs.Descent.{Step, ◌>>=◌, Reader, phrase, ended, function_after, constant_after, after_name, definition, one_rule, declared_text}
+use Rattle.fv_parse_grammar.specs.Descent.{Step, ◌>>=◌, Reader, ended, function_after, constant_after, after_name, definition, one_rule, declared_text}
 use Rattle.fv_parse_grammar.specs.Descent.{declaration, Item, Skip, One, Fault, one_of, skip_of, item, with_item, many, further, listed, within, program, whole_text}
 use Rattle.fv_parse_prefixes.specs.Beginnings.{StopsBehindABeginning, BeginningsAreClosed, ProgramsBegin}
 use Rattle.fv_parse_prefixes.proofs.Plans.{called, worded, both, this, that, signed, Spelled, spelled, Adds, Plan, Sign, AName, AText, Inner, Joined, ADefinition}

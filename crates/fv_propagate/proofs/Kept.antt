@@ -1,11 +1,11 @@
 -- What holds of all progress stays so.
 use Rattle.std.proofs.Common.{◌≡◌, ℕ, zero, suc, ◌<◌, ◌≤◌, List, [], ◌∷◌, ◌++◌, length, get_or, map, drop, refl, sym, ap, ◌∙◌, subst, arith, All, Bool, true}
-use Rattle.std.proofs.Common.{false, inl, inr, pos, ℤ}
+use Rattle.std.proofs.Common.{false, pos, ℤ}
 use Rattle.std.specs.Prelude.{slice_set}
 use Rattle.std.proofs.lemmas.List.{length_push, length-set, get_or-set_other}
 use Rattle.std.proofs.lemmas.List.Elements.{All-from_get_or}
 use Rattle.fv_signal.specs.declared.signal.Signal.{Signal}
-use Rattle.fv_signal.specs.declared.signal.Signal.TheVariants.{Const, Control, Point, Delay, Back, Member, Read, Write}
+use Rattle.fv_signal.specs.declared.signal.Signal.TheVariants.{Const, Control, Point, Delay, Back, Member}
 use Rattle.fv_share.specs.Drafts.{Draft, NamesSoFar, CanPut, IsPending, IsShut, BacksWithin, table_in, with_group, with_members}
 use Rattle.fv_share.proofs.Puts.{tables_stand}
 use Rattle.fv_diagram.specs.headline.Diagram.{table_inputs}
@@ -20,7 +20,7 @@ use Rattle.fv_propagate.specs.declared.progress.Feedback.{Feedback}
 use Rattle.fv_propagate.specs.inner.Progress.{Progress, put, puts, put_mem, put_prefix, passed, grouped, leaf_of, opened_of, shut, closed_of, fed_of, IsThere}
 use Rattle.fv_propagate.specs.inner.Progress.{put_next, given, late_of, turned, counted_of, listed, table_node, tabled_of}
 use Rattle.fv_propagate.specs.inner.Progress.{IsWireOf, IsAdmitted, AreNested, AreOpen, IsProgress}
-use Rattle.fv_propagate.proofs.Puts.{put_cases, put_there, put_keeps, puts_keep, puts_groups, puts_closed, puts_feedbacks, puts_wide, puts_there}
+use Rattle.fv_propagate.proofs.Puts.{put_there, put_keeps, puts_keep, puts_groups, puts_closed, puts_feedbacks, puts_wide, puts_there}
 use Rattle.fv_propagate.proofs.Puts.{next_keeps, turned_keeps, listed_is, listed_signals}
 use Rattle.fv_share.proofs.Puts.{backs_stay_within}
 use Rattle.fv_propagate.proofs.Goes.{filled}

@@ -21,7 +21,7 @@ use Rattle.fv_propagate.specs.headline.Propagated.{HasControl}
 use Rattle.fv_propagate.specs.inner.Progress.{Progress, put, puts, passed, grouped, put_mem, put_prefix, leaf_of, opened_of, shut, signal_hooks}
 use Rattle.fv_propagate.specs.inner.Progress.{late_of, counted_of, listed, table_node, tabled_of}
 use Rattle.fv_propagate.proofs.Alongside.{AreOfLeaves, IsOfLeaf, KeepAlong, related_places, related_length}
-use Rattle.fv_propagate.proofs.Puts.{put_cases, puts_wide, puts_tables, listed_is}
+use Rattle.fv_propagate.proofs.Puts.{put_cases, puts_wide, listed_is}
 use Rattle.fv_propagate.proofs.Goes.{IsGood, filled, close_wide}
 
 -- a user of the walk that does nothing

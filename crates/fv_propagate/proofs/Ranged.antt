@@ -15,7 +15,7 @@ use Rattle.fv_num.specs.headline.Interval.{Interval, IsWithin, IsSpan, full, poi
 use Rattle.fv_num.specs.headline.Spans.{span_of}
 use Rattle.fv_num.proofs.Closed.{holds, closed}
 use Rattle.fv_signal.specs.declared.signal.Signal.{Signal}
-use Rattle.fv_signal.specs.declared.signal.Signal.TheVariants.{Const, Control, Point, Delay, Back, Member, Read, Write}
+use Rattle.fv_signal.specs.declared.signal.Signal.TheVariants.{Const, Control, Point, Delay, Back, Member}
 use Rattle.fv_signal.specs.headline.Value.{Graph, clamped, value, IsOrdered}
 use Rattle.fv_diagram.specs.declared.signals.Leaf.{Leaf}
 use Rattle.fv_diagram.specs.declared.signals.Leaf.TheVariants as leaf

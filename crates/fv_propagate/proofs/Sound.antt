@@ -37,7 +37,7 @@ use Rattle.fv_diagram.proofs.Meaning.{Means, AreSound}
 use Rattle.fv_diagram.proofs.Places.{takes_some}
 use Rattle.fv_propagate.specs.declared.progress.Feedback.{Feedback}
 use Rattle.fv_propagate.specs.inner.Progress.{Progress, put, puts, passed, put_mem, put_prefix, put_delay, opened_of, shut, closed_of, signal_hooks}
-use Rattle.fv_propagate.specs.inner.Progress.{AreNested, grouped, put_next, late_of, turned, counted_of, listed, table_node, tabled_of}
+use Rattle.fv_propagate.specs.inner.Progress.{AreNested, grouped, put_next, late_of, turned, counted_of, listed, tabled_of}
 use Rattle.fv_propagate.proofs.Puts.{StandsAt, put_at, puts_at, puts_wide, put_keeps, next_keeps}
 use Rattle.fv_propagate.proofs.Goes.{IsGood, Onward, GoesOn, filled, opened_long, nested_not_open, before_put, before_passed, before_puts, before_mem}
 use Rattle.fv_propagate.proofs.Goes.{before_prefix, before_opened, before_closed, before_counted, before_tabled}

@@ -25,7 +25,6 @@ use Rattle.fv_diagram.proofs.Causality.{run_closed}
 use Rattle.fv_diagram.proofs.Carried.{wired_answers, column_carries}
 use Rattle.fv_diagram.proofs.Places.{prefix_long, carried_items}
 use Rattle.fv_diagram.proofs.Meaning.{walk_goes, walk_means}
-use Rattle.std.proofs.Common.{false}
 use Rattle.fv_diagram.proofs.Related.{AreRelated}
 use Rattle.fv_interval.specs.headline.SpanHooks.{control_span}
 use Rattle.fv_interval.specs.inner.SpanHooks.{Noted, span_hooks}
@@ -37,7 +36,7 @@ use Rattle.fv_propagate.specs.inner.Progress.{Progress, puts, unstarted, started
 use Rattle.fv_propagate.specs.headline.Propagated.{Propagates, HasControl, NamesOf, NamesWithin}
 use Rattle.fv_propagate.specs.Propagated.{DelaysStayWithin, AreShort}
 use Rattle.fv_propagate.proofs.Alongside.{walk_back, walked_along, related_places}
-use Rattle.fv_propagate.proofs.Puts.{put_there, puts_at, puts_wide, puts_groups, puts_closed, puts_tables, puts_delays, puts_feedbacks, puts_keep}
+use Rattle.fv_propagate.proofs.Puts.{put_there, puts_at, puts_wide, puts_groups, puts_closed, puts_delays, puts_feedbacks, puts_keep}
 use Rattle.fv_propagate.proofs.Kept.{puts_all_there}
 use Rattle.fv_propagate.proofs.Goes.{IsGood, Onward, GoesOn, on_same_groups, stays_good, signals_are_orderly, signals_hold_back}
 use Rattle.fv_propagate.proofs.Sound.{AreWide, node_is, signals_are_sound}

@@ -1,8 +1,8 @@
 -- Where nothing is left over, every task is done: by induction on the order of tasks.
-use Rattle.std.proofs.Common.{◌≡◌, ℕ, zero, suc, ◌+◌, ◌<◌, ◌≤◌, Bool, true, false, ◌&&◌, ltb, lt-ltb, not, List, [], ◌∷◌, length, refl, sym, ap, ◌∙◌, subst}
-use Rattle.std.proofs.Common.{arith, ◌==◌, Option, Some, None, MatchOption, All}
+use Rattle.std.proofs.Common.{◌≡◌, ℕ, zero, suc, ◌+◌, ◌<◌, ◌≤◌, true, false, ◌&&◌, ltb, List, [], ◌∷◌, length, refl, sym, ap, ◌∙◌, subst}
+use Rattle.std.proofs.Common.{arith, ◌==◌, Option, None, MatchOption, All}
 use mathlib.Core.Logic.{dite}
-use native.Mathlib.Decide.{ℕ_discrete, dec_le}
+use native.Mathlib.Decide.{ℕ_discrete}
 use Rattle.atomic_table.specs.Seated.{TableId}
 use Rattle.fv_graph.specs.Tasks.{bit, total}
 use Rattle.fv_graph.specs.TasksBeside.{times}
@@ -10,11 +10,10 @@ use Rattle.fv_graph.specs.Net.{Net, IsNet, need_count}
 use Rattle.fv_graph.specs.TasksBeside.{task_count}
 use Rattle.fv_graph.specs.Graph.{Graph, IsGraph, net_of}
 use Rattle.fv_graph.proofs.Graphs.{is_wires}
-use Rattle.fv_graph.proofs.Counts.{bit_le, bit_same, bit_apart, bit_one, bit_true, bit_false, bit_left, both_true}
+use Rattle.fv_graph.proofs.Counts.{bit_same, bit_apart, bit_one, bit_true, bit_false, bit_left, both_true}
 use Rattle.fv_ready_rule.specs.declared.Deed.{Deed}
 use Rattle.fv_ready_rule.specs.declared.Deed.TheVariants.{Stamped, Arrived, Saw, Claimed}
 use Rattle.fv_ready_rule.specs.declared.About.{About}
-use Rattle.fv_ready_rule.specs.declared.View.{View}
 use Rattle.fv_ready_rule.specs.Wired.{graph_wires}
 use Rattle.fv_ready_rule.specs.Rule.{wins, loses, claims, arrives, finishes, zeroes, done_by}
 use Rattle.fv_ready_rule.specs.Promised.{Tells}

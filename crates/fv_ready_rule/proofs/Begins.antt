@@ -13,7 +13,7 @@ use Rattle.fv_graph.specs.Tasks.{bit, total}
 use Rattle.fv_graph.specs.TasksBeside.{times}
 use Rattle.fv_graph.specs.Net.{Net}
 use Rattle.fv_graph_core.specs.Core as core
-use Rattle.fv_graph_core.specs.Core.{Now, numbers, is_run}
+use Rattle.fv_graph_core.specs.Core.{numbers, is_run}
 use Rattle.fv_graph.specs.Net.{need_count}
 use Rattle.fv_graph_core.proofs.Opens.{get_same, get_in, length_same, length_numbers, get_numbers, total_same}
 use Rattle.fv_graph.proofs.Counts.{total_none, times_passing, times_above}

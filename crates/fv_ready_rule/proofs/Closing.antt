@@ -1,7 +1,7 @@
 -- A seat gives its slots back, seats are joined, and a seat with all numbers knows what all have done.
-use Rattle.std.proofs.Common.{◌≡◌, ◌≢◌, ℕ, zero, suc, ◌+◌, ◌-◌, ◌*◌, ◌<◌, ◌≤◌, Bool, true, false, ◌&&◌, ◌⊎◌, inl, inr, ⊎_elim, List, []}
+use Rattle.std.proofs.Common.{◌≡◌, ◌≢◌, ℕ, zero, suc, ◌+◌, ◌-◌, ◌*◌, ◌<◌, ◌≤◌, true, ◌&&◌, ◌⊎◌, ⊎_elim, List, []}
 use Rattle.std.proofs.Common.{◌∷◌, ◌++◌, length, get_or, set, slice_index, refl, sym, ap, ◌∙◌}
-use Rattle.std.proofs.Common.{subst, arith, ◌==◌, eq-eqb, Option, Some, None, ltb, lt-ltb, ltb-true}
+use Rattle.std.proofs.Common.{subst, arith, ◌==◌, eq-eqb, Option, Some, None, ltb, lt-ltb}
 use Rattle.std.proofs.lemmas.List.{set-get_or}
 use mathlib.Core.Option.{some, some-injective, some-ne-none}
 use mathlib.Core.Logic.{dite}
@@ -15,8 +15,8 @@ use Rattle.fv_graph.specs.Net.{Net}
 use Rattle.fv_graph.specs.Graph.{Graph}
 use Rattle.fv_graph_core.specs.Core.{numbers}
 use Rattle.fv_graph.specs.Words.{passing}
-use Rattle.fv_graph.proofs.Counts.{bit_same, bit_true, full, full_total, total_append}
-use Rattle.fv_graph.proofs.Counts.{times_passing, times_above}
+use Rattle.fv_graph.proofs.Counts.{full, full_total}
+use Rattle.fv_graph.proofs.Counts.{times_passing}
 use Rattle.fv_graph.specs.Wires.{Wires, IsWires}
 use Rattle.fv_ready_rule.specs.declared.Deed.{Deed}
 use Rattle.fv_ready_rule.specs.declared.About.{About}

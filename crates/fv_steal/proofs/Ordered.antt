@@ -18,7 +18,7 @@ use Rattle.fv_outside.specs.declared.tasks.Task.{Task}
 use Rattle.fv_outside.specs.declared.gate.Line.{Line}
 use Rattle.fv_graph.specs.Words.{passing}
 use Rattle.fv_graph.specs.Reads.{ReadsLaw}
-use Rattle.fv_graph.specs.Graph.{IsGraph, task_at, task_of, source_of, needs_of}
+use Rattle.fv_graph.specs.Graph.{task_at, task_of, source_of, needs_of}
 use Rattle.fv_graph.proofs.Graphs.{further}
 use Rattle.fv_graph.proofs.Counts.{bit_le, bit_same, bit_apart, bit_swap, bits_agree, both_true, both_of, eq_of}
 use Rattle.fv_graph.proofs.Counts.{total_append, total_add, total_at, total_none, times_passing}

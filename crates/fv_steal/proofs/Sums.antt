@@ -6,7 +6,7 @@ use native.Mathlib.Decide.{dec_le}
 use Rattle.fv_outside.specs.headline.Tasks.{bit, total}
 use Rattle.fv_outside.specs.Tasks.{times}
 use Rattle.fv_graph.specs.Net.{Net, need_count}
-use Rattle.fv_graph.proofs.Counts.{total_set, get_set, times_passing}
+use Rattle.fv_graph.proofs.Counts.{times_passing}
 use Rattle.fv_graph_core.specs.Core.{opening, deque_of, ready}
 use Rattle.fv_graph_core.proofs.Opens.{times_dealt, length_dealt, length_same, total_same}
 

@@ -1,6 +1,6 @@
 -- What a turn leaves of a worker: its list, its slots, its journal.
 use Rattle.std.proofs.Common.{◌≡◌, ◌≢◌, ℕ, zero, suc, ◌+◌, ◌*◌, ◌/◌, ◌%◌, ◌<◌, ◌≤◌, Bool, true, false, ◌&&◌, ◌==◌, ltb, List, [], ◌∷◌, ◌++◌, length, map, refl}
-use Rattle.std.proofs.Common.{sym, ap, ◌∙◌, subst, arith, true≢false, All, div-add-mod'}
+use Rattle.std.proofs.Common.{sym, ap, ◌∙◌, arith, true≢false, All, div-add-mod'}
 use Rattle.std.proofs.lemmas.List.{map_push}
 use Rattle.std.proofs.lemmas.List.Elements.{All-push}
 use Rattle.fv_outside.specs.headline.Tasks.{Tasks, bit}

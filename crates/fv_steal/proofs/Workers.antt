@@ -15,7 +15,7 @@ use Rattle.fv_ready_rule.specs.declared.Deed.TheVariants.{Stamped, Claimed}
 use Rattle.fv_ready_rule.specs.declared.About.{About}
 use Rattle.fv_ready_rule.specs.declared.View.{View}
 use Rattle.fv_ready_rule.specs.Wired.{graph_wires}
-use Rattle.fv_ready_rule.specs.Rule.{done_by, noted, wins, arrives, finishes, places}
+use Rattle.fv_ready_rule.specs.Rule.{done_by, noted, wins, finishes, places}
 use Rattle.fv_ready_rule.specs.Carried.{IsFree, IsBusy}
 use Rattle.fv_ready.specs.declared.seat.InHand.{InHand}
 use Rattle.fv_ready.specs.declared.seat.WorkerSeat.{WorkerSeat}

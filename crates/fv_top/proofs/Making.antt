@@ -1,5 +1,5 @@
 -- How a make ends, from how its parts do.
-use Rattle.std.proofs.Common.{◌≡◌, ◌⊎◌, ℕ, ◌+◌, ◌≤◌, ℤ, pos, List, [], ◌++◌, length, length-append, sym, ◌∙◌, ap, subst, refl, inl, inr, ⊎_elim}
+use Rattle.std.proofs.Common.{◌≡◌, ◌⊎◌, ℕ, ◌+◌, ◌≤◌, ℤ, pos, List, [], ◌++◌, length, length-append, sym, ◌∙◌, ap, subst, refl, inl, inr}
 use Rattle.std.proofs.Common.{arith}
 use Rattle.std.specs.Prelude.{IsTrue, Err}
 use Rattle.std.proofs.lemmas.List.{append-nil}
@@ -17,7 +17,6 @@ use Rattle.fv_top_make.specs.headline.Made.{text_of, noise_behind, noise_of, sum
 use Rattle.fv_top_make.specs.Made.{SumsAddUp, sum_from}
 use Rattle.fv_top_make.specs.Noises.{Sounds}
 use Rattle.fv_top_make.specs.declared.noise_tape.Noise.{Noise}
-use Rattle.fv_top_text.specs.headline.Compiled.{Compiled}
 use Rattle.fv_top_rack.specs.headline.Kinds.{FileIs}
 use Rattle.fv_top_rack.specs.Kinds.{IsOfKind}
 use Rattle.fv_top_words.specs.declared.manner.ProgramKind.TheVariants.{Alone}

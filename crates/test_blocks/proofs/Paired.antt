@@ -4,7 +4,7 @@ use mathlib.Core.Logic.{dite}
 use native.Mathlib.Decide.{ℕ_discrete}
 use Rattle.fv_outside.specs.headline.Tasks.{bit, total}
 use Rattle.fv_outside.specs.declared.tasks.Reads.{Reads}
-use Rattle.fv_graph.specs.Graph.{no_reads, ArePairs}
+use Rattle.fv_graph.specs.Graph.{no_reads}
 use Rattle.fv_graph.proofs.Counts.{bit_le, bit_apart, bit_false, bit_right, total_append, total_zero}
 use Rattle.test_blocks.specs.Pairs.{AreBefore}
 

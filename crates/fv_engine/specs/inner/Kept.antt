@@ -1,5 +1,5 @@
 -- What one worker's block works on.
-use Rattle.std.specs.Prelude.{ℕ, List, Vec, ℤ}
+use Rattle.std.specs.Prelude.{List, Vec, ℤ}
 use Rattle.std.specs.declared.alloc.Global.{Global}
 use base.Fml.{GName}
 use Rattle.fv_loopcode.specs.headline.Lanes.{Lane}

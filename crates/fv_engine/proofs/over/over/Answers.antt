@@ -1,11 +1,8 @@
-use Rattle.std.proofs.Common.{rules, ◌≡◌, ◌∙◌, ◌<◌, ℕ, ℤ, List, length, refl, ap, sym, subst, arith}
-use Rattle.std.specs.Global.{Vec}
+use Rattle.std.proofs.Common.{rules, ◌≡◌, ◌∙◌, ◌<◌, ℕ, List, length, refl, ap, sym, subst, arith}
 use Rattle.fv_loopcode.specs.headline.Lanes.{Lane}
 use Rattle.fv_loopcode.specs.headline.State.{State}
 use Rattle.fv_pool.specs.Lengths.{lengths_of}
-use Rattle.fv_lines.specs.Solo.{SoloRest, AreHeld, opening_lanes, lanes_of, lengths_in, shapes_in}
-use Rattle.fv_lines.specs.declared.shape.LaneShape.{LaneShape}
-use Rattle.fv_lines.specs.declared.shape.LaneState.{LaneState}
+use Rattle.fv_lines.specs.Solo.{SoloRest, lanes_of, lengths_in}
 use Rattle.fv_lines.specs.declared.solo.Solo.{Solo}
 use Rattle.fv_split_plan.specs.Rows.{lists_of}
 use Rattle.fv_engine_tasks.specs.Block.{Block, IsReal}

@@ -9,7 +9,7 @@ use Rattle.fv_engine_codes.specs.declared.counts.LaneCount.{LaneCount}
 use Rattle.fv_engine_codes.specs.Codes.{IsLaneCount}
 use Rattle.fv_engine_parcels.specs.declared.content.Writers.{Writers}
 use Rattle.fv_engine_spread.specs.Rooms.{IsRoom, HasCells}
-use Rattle.fv_engine_spread.proofs.LoopRooms.{IsLoopRoom, AreFirstRooms, one_room, all_rooms}
+use Rattle.fv_engine_spread.proofs.LoopRooms.{IsLoopRoom, AreFirstRooms, one_room}
 use Rattle.fv_engine_spread.proofs.room.take_room.Goals as goal
 
 room_same : (w : Writers) (o p s t a b l m : ℕ) → o ≡ p → s ≡ t → a ≡ b → l ≡ m → IsRoom o s a l w → IsRoom p t b m w

@@ -1,4 +1,4 @@
-use Rattle.std.proofs.Common.{◌≡◌, length, List}
+use Rattle.std.proofs.Common.{◌≡◌, length}
 use Rattle.fv_loopcode.specs.headline.State.{State}
 use Rattle.fv_engine_tasks.specs.Block.{IsReal}
 use Rattle.fv_engine_tasks.specs.Jobs.{left_to_do, block_of}

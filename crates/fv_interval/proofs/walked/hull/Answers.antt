@@ -1,7 +1,7 @@
 use Rattle.std.proofs.Common.{◌≡◌, ◌+◌, ap, sym, ◌∙◌, drop, get_or, arith, rules, pos}
 use Rattle.std.proofs.lemmas.List.{at_drop_more}
 use Rattle.fv_num.specs.headline.Interval.{hull, point}
-use Rattle.fv_interval.specs.headline.WireSpans.{hull_of, hull_with}
+use Rattle.fv_interval.specs.headline.WireSpans.{hull_with}
 use Rattle.fv_interval.proofs.walked.hull.Goals as goal
 
 pub loop-i-preserved : goal.loop-i-preserved

@@ -17,7 +17,7 @@ use Rattle.fv_loopcode.specs.declared.step.Step.{Step}
 use Rattle.fv_loopcode.specs.Code.{IsWithin}
 use Rattle.fv_engine_lanes.specs.Plans.{own_lanes, lanes_of_all, sources_of, IsLocalCode}
 use Rattle.fv_engine_parcels.specs.Contents.{tasks_in, AreHandedOn, AreSeenOf, AreWritersOf, AreCellsOf, AreRoomy}
-use Rattle.fv_engine_parcels.specs.inner.Turns.{Known, Before, lanes_by, IsPairFrom, IsChainAt}
+use Rattle.fv_engine_parcels.specs.inner.Turns.{Known, Before, IsPairFrom, IsChainAt}
 use Rattle.fv_engine_parcels.specs.declared.start.Start.{Start}
 use Rattle.fv_engine_parcels.specs.declared.content.Writers.{Writers}
 use Rattle.fv_engine_parcels.specs.declared.parcel.LoopParcel.{LoopParcel}

@@ -4,7 +4,7 @@ use Rattle.fv_parse.specs.Arena.{PartsBelow}
 use Rattle.fv_parse.specs.TreeNode.{TreeNode}
 use Rattle.fv_parse.specs.Trees.{Parsed, node_tree, size_of, start_in, tree_in}
 use Rattle.fv_parse_grammar.specs.headline.Tree as tree
-use Rattle.fv_parse_grammar.specs.headline.Tree.{Tree, items}
+use Rattle.fv_parse_grammar.specs.headline.Tree.{items}
 use Rattle.fv_eval.proofs.Applying.{below_list, next_applies, next_waits}
 use Rattle.fv_eval.proofs.Arrived.{Argues}
 use Rattle.fv_eval_controls.proofs.Entered.{get_within}

@@ -1,6 +1,5 @@
 use Rattle.std.proofs.Common.{◌≡◌, ◌<◌, IfSome, drop, length, rules, sym, subst, arith}
 use Rattle.std.specs.Bool.{MatchBool}
-use Rattle.fv_diagram.specs.Arena.{Arena, count_of}
 use Rattle.fv_eval_scopes.proofs.Added.{adds_longer, adds_on}
 use Rattle.fv_eval_patterns.specs.Patterns.{IsPair}
 use Rattle.fv_eval_patterns.specs.Trials.{AddsBound, AreHalves, Binds, Misses}

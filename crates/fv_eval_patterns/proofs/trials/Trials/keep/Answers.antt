@@ -1,6 +1,4 @@
 use Rattle.std.proofs.Common.{◌≡◌, ◌++◌, List, length, set, sym, subst, arith}
-use Rattle.fv_parse.specs.Trees.{Parsed}
-use Rattle.fv_diagram.specs.Arena.{Arena}
 use Rattle.fv_eval_scopes.specs.declared.value.Binding.{Binding}
 use Rattle.fv_eval_patterns.specs.declared.trials.Outcome.TheVariants as outcomes
 use Rattle.fv_eval_patterns.specs.declared.trials.Trial.{Trial}

@@ -1,4 +1,4 @@
-use Rattle.std.proofs.Common.{◌≡◌, ◌+◌, ◌-◌, ◌<◌, ◌≤◌, [], ◌∷◌, ◌++◌, true, length, rules, arith, ap, length-append}
+use Rattle.std.proofs.Common.{◌≡◌, ◌+◌, ◌-◌, ◌<◌, ◌≤◌, [], ◌∷◌, ◌++◌, true, length, rules, arith, ap}
 use Rattle.fv_outside.specs.declared.recorder.KeptBlock.{KeptBlock}
 use Rattle.fv_outside.proofs.Recordings.{IsLast, recorded_more}
 use Rattle.fv_outside.proofs.recorder.RecorderGate.block_done.Goals as goal

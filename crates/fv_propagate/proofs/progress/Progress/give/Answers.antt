@@ -1,6 +1,6 @@
-use Rattle.std.proofs.Common.{◌∷◌, [], sym, ap, ◌∙◌, subst}
+use Rattle.std.proofs.Common.{◌∷◌, [], sym, ◌∙◌, subst}
 use Rattle.fv_share.specs.Drafts.{Draft}
-use Rattle.fv_propagate.specs.inner.Progress.{Progress, IsProgress, AreNested, given}
+use Rattle.fv_propagate.specs.inner.Progress.{Progress, IsProgress, AreNested}
 use Rattle.fv_propagate.specs.inner.Inside.{progress_of}
 use Rattle.fv_propagate.proofs.Kept.{given_keeps_progress}
 use Rattle.fv_propagate.proofs.progress.Progress.give.Goals as goal

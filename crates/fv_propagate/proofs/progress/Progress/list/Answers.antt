@@ -1,6 +1,6 @@
 use Rattle.std.proofs.Common.{sym, ap, subst}
 use Rattle.fv_share.specs.Drafts.{Draft}
-use Rattle.fv_propagate.specs.inner.Progress.{Progress, IsProgress}
+use Rattle.fv_propagate.specs.inner.Progress.{IsProgress}
 use Rattle.fv_propagate.specs.inner.Inside.{progress_of}
 use Rattle.fv_propagate.proofs.Kept.{listed_keeps_progress}
 use Rattle.fv_propagate.proofs.progress.Progress.list.Goals as goal

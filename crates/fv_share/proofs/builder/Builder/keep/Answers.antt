@@ -1,6 +1,6 @@
-use Rattle.std.proofs.Common.{◌≡◌, List, [], ◌∷◌, ◌++◌, ℤ, Vec, Global, sym, ap, ◌∙◌, subst}
+use Rattle.std.proofs.Common.{◌≡◌, [], ◌∷◌, ◌++◌, ℤ, Vec, Global, sym, ap, ◌∙◌, subst}
 use Rattle.std.proofs.lemmas.List.{map-append}
-use Rattle.fv_share.specs.Drafts.{Draft, IsDraft, lists_in}
+use Rattle.fv_share.specs.Drafts.{IsDraft, lists_in}
 use Rattle.fv_share.specs.Inside.{draft_of}
 use Rattle.fv_share.proofs.Kept.{table_keeps}
 use Rattle.fv_share.proofs.builder.Builder.keep.Goals as goal
