@@ -10,5 +10,5 @@ use Rattle.fv_engine.specs.declared.crew_codes.CrewCodes.{CrewCodes}
 pub record IsCrewOf (p : PlanView) (g : Tasks) (c : CrewCodes) : Type 0 where
   pub codes : AreLocalCodes p g c.codes.items
   pub counts : AreLaneCounts p g c.counts.items
-  pub cells : ArePlaced p c.cells.places.items c.cells.counts.items
+  pub cells : ArePlaced p c.places.places.items c.places.counts.items
   pub workers : (1 ≤ c.workers) × (c.workers ≤ 16)

@@ -40,7 +40,7 @@ pub record HasSizes (p : PlanView) (channels block vector : ℕ) : Type 0 where
   pub inputs : (j i : ℕ) → NamesInput (code_of p j) i → i < channels
 
 -- all of it: the lanes have the plan's shapes, there is a list for each of its cells, the tasks are of its loops, as are a crew's
--- codes, and the engine stands for some frames
+-- codes, the crew has as many workers as were asked for, and the engine stands for some frames
 pub record IsStored (e : Inside) : Type 0 where
   pub sizes : HasSizes e.plan e.sizes.channels e.sizes.block e.sizes.vector
   pub shapes : AreShapes e.plan e.sizes.block e.lanes.shapes.items
@@ -50,4 +50,6 @@ pub record IsStored (e : Inside) : Type 0 where
   pub rows : RowsFit (parts_of e.plan) (length e.runner.rows.items)
   pub held_long : length e.held.items ≡ length e.plan.held
   pub crew : IfSome e.crew (λ c. IsCrewOf e.plan e.runner.tasks.tasks c)
+  pub some_worker : 1 ≤ e.sizes.workers
+  pub as_many : IfSome e.crew (λ c. c.workers ≡ e.sizes.workers)
   pub standing : Standing (view_of e)

@@ -1,6 +1,7 @@
 // A block's tasks by one worker.
 
 ghost use Rattle.std.specs.Prelude.{◌≡◌, ℕ, ◌+◌, ◌*◌, ◌<◌, length, [], All, slice_index_or, pos};
+ghost use Rattle.fv_outside.specs.declared.gate.Line.{Line};
 ghost use Rattle.fv_engine_tasks.specs.Block.{IsReal};
 ghost use Rattle.fv_engine_tasks.specs.Jobs.{IsJob, block_of, RegistersFit, RowsFit};
 ghost use Rattle.fv_engine_tasks.specs.Underway.{EndsBlock};
@@ -38,6 +39,7 @@ pub(crate) fn alone<P: Codes, L: LaneStore, G: Gate>(
     requires output { length output.old ≡ job.now.frames * length plan.now.outputs }
     ensures ends { EndsBlock runner.old.tasks.tasks (block_of P.parts job.now) (state_of plan.now (L.lanes lanes.old) lists.old)
         (state_of plan.now (L.lanes lanes.new) lists.new) runner.new.lines.items }
+    ensures who { All (λ (line : Line). line.worker ≡ 0) runner.new.lines.items }
     ensures sound { L.is_sound lanes.new }
     ensures kept { L.rest lanes.new ≡ L.rest lanes.old }
     ensures samples { (t j : ℕ) → t < job.now.frames → j < length plan.now.outputs

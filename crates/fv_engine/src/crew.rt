@@ -1,6 +1,6 @@
 // What several workers need of a plan.
 
-ghost use Rattle.std.specs.Prelude.{◌≤◌, IfOk, IfSome};
+ghost use Rattle.std.specs.Prelude.{◌≡◌, ◌≤◌, IfOk, IfSome};
 ghost use Rattle.fv_engine_codes.specs.Codes.{AreOfPlan};
 ghost use Rattle.fv_engine.specs.Crews.{IsCrewOf};
 
@@ -19,18 +19,19 @@ pub(crate) fn crew_for(
 ) -> Result<Option<CrewCodes>, AllocError>
     requires of_plan { AreOfPlan plan.now tasks.now.tasks }
     requires workers { (1 ≤ workers) × (workers ≤ 16) }
-    ensures { IfOk result (λ crew. IfSome crew (λ c. IsCrewOf plan.now tasks.now.tasks c)) }
+    ensures of_plan { IfOk result (λ crew. IfSome crew (λ c. IsCrewOf plan.now tasks.now.tasks c)) }
+    ensures as_many { IfOk result (λ crew. IfSome crew (λ c. c.workers ≡ workers)) }
 {
     if workers == 1 || plan.loops() == 1 {
         return Ok(None);
     }
     let codes = local_codes(alloc, plan, tasks)?;
     let counts = lane_counts(alloc, plan, tasks)?;
-    let cells = place_cells(alloc, plan)?;
+    let places = place_cells(alloc, plan)?;
     Ok(Some(CrewCodes {
         codes,
         counts,
-        cells,
+        places,
         workers,
     }))
 }

@@ -10,6 +10,6 @@ use fv_loopcode_machine::Code;
 pub(crate) struct CrewCodes {
     pub(crate) codes: Vec<Code>,
     pub(crate) counts: Vec<LaneCount>,
-    pub(crate) cells: CellPlaces,
+    pub(crate) places: CellPlaces,
     pub(crate) workers: u32,
 }

@@ -34,7 +34,8 @@ pub(crate) struct Lanes {
 }
 
 impl Lanes {
-    ghost use Rattle.std.specs.Prelude.{◌≡◌, ◌*◌, ◌<◌, [], length, All, IfSome, true, false};
+    ghost use Rattle.std.specs.Prelude.{◌≡◌, ℕ, ◌*◌, ◌<◌, ◌≤◌, [], length, All, IfSome, true, false};
+    ghost use Rattle.fv_outside.specs.declared.gate.Line.{Line};
     ghost use Rattle.fv_engine_tasks.specs.Jobs.{block_of};
     ghost use Rattle.fv_engine_crew.specs.Contents.{parts_of};
     ghost use Rattle.fv_engine.specs.Crews.{IsCrewOf};
@@ -58,6 +59,8 @@ impl Lanes {
         requires output { length output.old ≡ job.now.frames * length job.now.plan.now.plan.now.outputs }
         ensures ran { RanOver runner.old.tasks.tasks (block_of (λ p. parts_of p.plan.now) job.now) job.now.plan.now.plan.now.tables self.old self.new
             runner.new.lines.items job.now.plan.now.plan.now.outputs output.new }
+        // By no more workers than there are.
+        ensures who { (n : ℕ) → 1 ≤ n → IfSome crew.now (λ c. c.workers ≡ n) → All (λ (line : Line). line.worker < n) runner.new.lines.items }
         ensures lanes { AreSameLanes self.old self.new }
         ensures runner { IsSameRunner runner.old runner.new }
     {
@@ -86,6 +89,7 @@ impl Lanes {
         requires output { length output.old ≡ job.now.frames * length job.now.plan.now.plan.now.outputs }
         ensures ran { result ≡ true → RanOver runner.old.tasks.tasks (block_of (λ p. parts_of p.plan.now) job.now) job.now.plan.now.plan.now.tables
             self.old self.new runner.new.lines.items job.now.plan.now.plan.now.outputs output.new }
+        ensures who { result ≡ true → (n : ℕ) → IfSome crew.now (λ c. c.workers ≡ n) → All (λ (line : Line). line.worker < n) runner.new.lines.items }
         ensures left { result ≡ false → let tables = job.now.plan.now.plan.now.tables in
             opening_of tables self.new job.now.frames ≡ opening_of tables self.old job.now.frames }
         ensures untold { result ≡ false → runner.new.lines.items ≡ [] }
@@ -102,7 +106,7 @@ impl Lanes {
             tasks: &runner.tasks,
             codes: &crew.codes,
             counts: &crew.counts,
-            cells: &crew.cells,
+            places: &crew.places,
             shapes: &self.shapes,
             held: job.held,
             input: job.input,
@@ -138,6 +142,7 @@ impl Lanes {
         requires output { length output.old ≡ job.now.frames * length plan.now.outputs }
         ensures ran { RanOver runner.old.tasks.tasks (block_of P.parts job.now) plan.now.tables self.old self.new runner.new.lines.items
             plan.now.outputs output.new }
+        ensures who { All (λ (line : Line). line.worker ≡ 0) runner.new.lines.items }
         ensures lanes { AreSameLanes self.old self.new }
         ensures runner { IsSameRunner runner.old runner.new }
     {

@@ -1,6 +1,7 @@
 // A block's tasks over the cells of a region. It takes plain loans, since of these a caller knows what they end with.
 
 ghost use Rattle.std.specs.Prelude.{◌≡◌, ℕ, ◌*◌, ◌<◌, length, [], All};
+ghost use Rattle.fv_outside.specs.declared.gate.Line.{Line};
 ghost use Rattle.fv_pool.specs.Lengths.{lengths_of};
 ghost use Rattle.fv_lines.specs.Solo.{AreLists, AreHeld, AreFramed};
 ghost use Rattle.fv_engine_tasks.specs.Block.{IsReal};
@@ -47,6 +48,7 @@ pub(crate) fn over<P: Codes, G: Gate>(
     ensures ran { Ran runner.old.tasks.tasks (block_of P.parts job.now) (lengths_of layout.now) shapes.now
         (opening_over plan.now.tables (lengths_of layout.now) shapes.now states.old job.now.frames cells.old lists.old)
         cells.new states.new lists.new runner.new.lines.items plan.now.outputs output.new }
+    ensures who { All (λ (line : Line). line.worker ≡ 0) runner.new.lines.items }
     ensures lists { AreLists (lengths_of layout.now) shapes.now states.new written.new cells.new }
     ensures lanes { AreHeld (lengths_of layout.now) shapes.now states.new }
     ensures runner { IsSameRunner runner.old runner.new }

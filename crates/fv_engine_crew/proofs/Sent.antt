@@ -36,6 +36,7 @@ use Rattle.fv_lines.specs.contracts.seen.Seen as seen
 use Rattle.fv_engine_lanes.specs.contracts.loop_cells.LoopCells as loop_cells
 use Rattle.fv_engine_lanes.specs.contracts.loop_lanes.LoopLanes as lanes
 use Rattle.fv_engine_parcels.specs.contracts.content.Writers as writers
+use Rattle.fv_engine_parcels.specs.contracts.content.SeenLanes as seen_lanes
 use Rattle.fv_engine_parcels.specs.contracts.content.Content as content
 use Rattle.fv_engine_parcels.specs.contracts.parcel.LoopParcel as parcel
 use Rattle.fv_engine_parcels.specs.contracts.body.LoopBody as body
@@ -190,8 +191,11 @@ writers_send : (a b : NamedLft) → IsSend (writers.the_row a b)
 writers_send a b = declared_send (writers.the_type a b)
     (lanes_send a b, (search (sendable, crosses) depth 20, (search (sendable, crosses) depth 20, (search (seen_send, sendable, crosses) depth 20, tt))))
 
+seen_lanes_send : (a : NamedLft) → IsSend (seen_lanes.the_row a)
+seen_lanes_send a = search (seen_send, sendable, crosses) depth 24
+
 content_send : (a b : NamedLft) → IsSend (content.the_row a b)
-content_send a b = search (writers_send, seen_send, sendable, crosses) depth 24
+content_send a b = search (writers_send, seen_lanes_send, sendable, crosses) depth 24
 
 pub parcel_send : (a b : NamedLft) → IsSend (parcel.the_row a b)
 parcel_send a b = declared_send (parcel.the_type a b) (search sendable, (search (sendable, crosses) depth 20, (content_send a b, tt)))

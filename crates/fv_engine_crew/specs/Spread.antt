@@ -36,7 +36,7 @@ pub record IsSpread (b : SpreadBlock) : Type 0 where
   pub job : IsJob (block_in b) (tasks_of b)
   pub codes : AreLocalCodes b.plan.now (tasks_of b) b.codes.now
   pub counts : AreLaneCounts b.plan.now (tasks_of b) b.counts.now
-  pub cells : ArePlaced b.plan.now b.cells.now.places.items b.cells.now.counts.items
+  pub cells : ArePlaced b.plan.now b.places.now.places.items b.places.now.counts.items
   pub lanes : length b.shapes.now ≡ length b.plan.now.lanes
   pub outputs : All (λ l. l < length b.plan.now.lanes) b.plan.now.outputs
   pub some_worker : 1 ≤ b.workers

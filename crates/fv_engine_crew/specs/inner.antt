@@ -1,3 +1,3 @@
-pub mod Lists
+pub mod Buffers
 pub mod Lanes
 pub mod Packs

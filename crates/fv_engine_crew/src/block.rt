@@ -15,7 +15,7 @@ pub struct SpreadBlock<'b> {
     pub tasks: &'b Tasks,
     pub codes: &'b [Code],
     pub counts: &'b [LaneCount],
-    pub cells: &'b CellPlaces,
+    pub places: &'b CellPlaces,
     pub shapes: &'b [LaneShape],
     pub held: &'b [i32],
     pub input: &'b [i32],

@@ -1,16 +1,17 @@
-// All tasks of a block by a crew, over lanes that are begun, and cells.
+// All tasks of a block by a crew, over lanes that are begun, and the lists of the plan's cells.
 
-ghost use Rattle.std.specs.Prelude.{◌≡◌, ◌≤◌, [], length, IfOk, IfErr, OnOk, OnErr, vec_capacity};
+ghost use Rattle.std.specs.Prelude.{◌≡◌, ◌<◌, ◌≤◌, [], length, All, IfOk, IfErr, OnOk, OnErr, vec_capacity};
 ghost use Rattle.fv_outside.specs.Tasks.{task_count};
 ghost use Rattle.fv_outside.specs.headline.Journal.{IsOrdered};
+ghost use Rattle.fv_outside.specs.declared.gate.Line.{Line};
 ghost use Rattle.fv_split_plan.specs.Rows.{lists_of};
 ghost use Rattle.fv_engine_crew.specs.Spread.{IsSpread, block_in, tasks_of};
-ghost use Rattle.fv_engine_crew.specs.inner.Lists.{HaveRoom};
+ghost use Rattle.fv_engine_crew.specs.inner.Buffers.{HaveRoom};
 ghost use Rattle.fv_engine_crew.specs.inner.Lanes.{AreOpen, AreWhole, AreUntouched};
 
 use crate::block::SpreadBlock;
+use crate::buffers::Buffers;
 use crate::enter::enter;
-use crate::lists::Lists;
 use fv_engine_spread::collect;
 use fv_lines::LaneWriter;
 use fv_outside::{Gate, Line};
@@ -20,37 +21,38 @@ use std::marker::Sync;
 use std::sync::Wait;
 use std::thread::Threads;
 
-/// The writers of all lanes as the crew leaves them: written whole, or as they were where memory is refused. So it is with the cells.
+/// The writers of all lanes as the crew leaves them: written whole, or as they were where memory is refused. So it is with the lists.
 pub(crate) fn run_begun<'a, 'b, R: Threads + Wait + Sync, G: Gate + Sync>(
     rt: &R,
     alloc: Global,
     block: &SpreadBlock<'b>,
-    lists: Lists<'a, 'b>,
-    cells: &mut Vec<Vec<i32>>,
+    buffers: Buffers<'a, 'b>,
+    lists: &mut Vec<Vec<i32>>,
     lines: &mut Vec<Line>,
     gate: &G,
 ) -> Result<Vec<LaneWriter<'a>>, Vec<LaneWriter<'a>>>
     requires spread { IsSpread block.now }
-    requires lists { HaveRoom block.now lists }
-    requires begun { AreOpen (block_in block.now) block.now.plan.now.tables lists.begun.items cells.old.items }
+    requires buffers { HaveRoom block.now buffers }
+    requires begun { AreOpen (block_in block.now) block.now.plan.now.tables buffers.begun.items lists.old.items }
     requires none { lines.old.items ≡ [] }
     requires room { task_count (tasks_of block.now) ≤ vec_capacity lines.old }
-    ensures whole { IfOk result (λ v. AreWhole (block_in block.now) block.now.plan.now.tables lists.entry.begun.items v.items cells.old.items cells.new.items) }
+    ensures whole { IfOk result (λ v. AreWhole (block_in block.now) block.now.plan.now.tables buffers.entry.begun.items v.items lists.old.items lists.new.items) }
     ensures journal { OnOk result (IsOrdered (tasks_of block.now) lines.new.items) }
     ensures count { OnOk result (length lines.new.items ≡ task_count (tasks_of block.now)) }
-    ensures untouched { IfErr result (λ v. AreUntouched lists.entry.begun.items v.items) }
-    ensures as_before { OnErr result (lists_of cells.new.items ≡ lists_of cells.old.items) }
+    ensures who { OnOk result (All (λ (line : Line). line.worker < block.now.workers) lines.new.items) }
+    ensures untouched { IfErr result (λ v. AreUntouched buffers.entry.begun.items v.items) }
+    ensures as_before { OnErr result (lists_of lists.new.items ≡ lists_of lists.old.items) }
     ensures untold { OnErr result (lines.new.items ≡ []) }
     ensures room { vec_capacity lines.old ≤ vec_capacity lines.new }
 {
-    let Lists {
+    let Buffers {
         rooms,
         begun,
         entries,
         emptied,
         back,
-    } = lists;
-    let (body, entries) = enter(block, begun, rooms, entries, &mut *cells);
+    } = buffers;
+    let (body, entries) = enter(block, begun, rooms, entries, &mut *lists);
     match run_crew(
         rt,
         alloc,
@@ -62,11 +64,11 @@ pub(crate) fn run_begun<'a, 'b, R: Threads + Wait + Sync, G: Gate + Sync>(
         gate,
     ) {
         Ok(exits) => {
-            let all = collect(body.start(), exits, emptied, back, cells.as_mut_slice());
+            let all = collect(body.start(), exits, emptied, back, lists.as_mut_slice());
             Ok(all)
         }
         Err(entries) => {
-            let all = collect(body.start(), entries, emptied, back, cells.as_mut_slice());
+            let all = collect(body.start(), entries, emptied, back, lists.as_mut_slice());
             Err(all)
         }
     }

@@ -19,15 +19,15 @@ pub(crate) fn enter<'a, 'b>(
     begun: Vec<LaneWriter<'a>>,
     mut rooms: Vec<Box<Writers<'a, 'b>>>,
     entries: Vec<LoopParcel<'a, 'b>>,
-    cells: &mut Vec<Vec<i32>>,
+    lists: &mut Vec<Vec<i32>>,
 ) -> (LoopBody<'a, 'b>, Vec<LoopParcel<'a, 'b>>)
     requires spread { IsSpread block.now }
-    requires begun { AreOpen (block_in block.now) block.now.plan.now.tables begun.items cells.old.items }
-    requires rooms { AreRooms block.now.plan.now (tasks_of block.now) block.now.cells.now rooms.items }
+    requires begun { AreOpen (block_in block.now) block.now.plan.now.tables begun.items lists.old.items }
+    requires rooms { AreRooms block.now.plan.now (tasks_of block.now) block.now.places.now rooms.items }
     requires none { vec_len entries ≡ 0 }
     requires room { vec_len rooms ≤ vec_capacity entries }
-    ensures start { IsStartOf block.now begun.entry.items cells.old.items result.0.start }
-    ensures cells { length cells.new.items ≡ length cells.old.items }
+    ensures start { IsStartOf block.now begun.entry.items lists.old.items result.0.start }
+    ensures lists { length lists.new.items ≡ length lists.old.items }
     ensures entries { AreParcelsFrom (λ (p : LoopParcel). p.edge) (λ (p : LoopParcel). p.start.value) result.0.start 0 (tasks_of block.now).loops
         result.1.items }
 {
@@ -35,20 +35,20 @@ pub(crate) fn enter<'a, 'b>(
     let start = Start {
         plan: block.plan,
         tasks: block.tasks,
-        places: block.cells,
+        places: block.places,
         held: block.held,
         input: block.input,
         channels: block.channels,
         vector: block.vector,
         frames: block.frames,
         lanes: Snapshot::of(&begun),
-        cells: Snapshot::of(&*cells),
+        cells: Snapshot::of(&*lists),
     };
     deal(block.plan, begun, rooms.as_mut_slice());
     swap_cells(
         block.plan,
-        block.cells,
-        cells.as_mut_slice(),
+        block.places,
+        lists.as_mut_slice(),
         rooms.as_mut_slice(),
     );
     let body = LoopBody::new(start, block.codes);

@@ -1,13 +1,13 @@
 // The cells of a region, lent for good to a crew.
 
 ghost use Rattle.std.specs.Prelude.{◌≡◌, length};
-ghost use Rattle.fv_engine_crew.specs.inner.Lists.{AreEmpty};
+ghost use Rattle.fv_engine_crew.specs.inner.Buffers.{AreEmpty};
 ghost use Rattle.fv_engine_crew.specs.inner.Packs.{MayUse, Leaves};
 ghost use Rattle.fv_pool.specs.Uncut.{left_of, loan_of};
 
 use crate::block::SpreadBlock;
+use crate::buffers::{Buffers, take_buffers};
 use crate::crewed::run_begun;
-use crate::lists::{Lists, take_lists};
 use crate::whole::end_whole;
 use fv_lines::LaneState;
 use fv_lines_cut::{begin_lanes, stop_lanes};
@@ -30,16 +30,16 @@ pub(crate) struct Pack<'p, 'b, 's, 'l, 'o> {
     pub(crate) ran: bool,
 }
 
-// The block over cells that are not yet cut, where there are lists for it.
-fn use_lists<'a, 'b, R: Threads + Wait + Sync, G: Gate + Sync>(
+// The block over cells that are not yet cut, where there are lists for it to work in.
+fn use_buffers<'a, 'b, R: Threads + Wait + Sync, G: Gate + Sync>(
     rt: &R,
     gate: &G,
     pack: &mut Pack<'_, 'b, '_, '_, '_>,
     mut uncut: Uncut<'a>,
-    mut lists: Lists<'a, 'b>,
+    mut buffers: Buffers<'a, 'b>,
 ) -> (&'a [i32], Ended)
     requires may { MayUse pack.old (left_of uncut) }
-    requires lists { AreEmpty pack.old.block.now lists }
+    requires buffers { AreEmpty pack.old.block.now buffers }
     ensures { (result.1.name ≡ loan_of uncut.entry) × Leaves pack.old pack.new (left_of uncut.entry) result.1.last }
 {
     let block = pack.block;
@@ -48,14 +48,14 @@ fn use_lists<'a, 'b, R: Threads + Wait + Sync, G: Gate + Sync>(
         block.shapes,
         &*pack.states,
         block.frames,
-        &mut lists.begun,
+        &mut buffers.begun,
     );
     let (shared, rest) = uncut.end();
     match run_begun(
         rt,
         pack.alloc,
         block,
-        lists,
+        buffers,
         &mut *pack.lists,
         &mut *pack.lines,
         gate,
@@ -87,8 +87,8 @@ fn used<'a, R: Threads + Wait + Sync, G: Gate + Sync>(
     ensures { (result.1.name ≡ cells.entry.ghost_name) × Leaves pack.old pack.new cells.old result.1.last }
 {
     let uncut = Uncut::of(cells);
-    match take_lists(pack.alloc, pack.block) {
-        Ok(lists) => use_lists(rt, gate, pack, uncut, lists),
+    match take_buffers(pack.alloc, pack.block) {
+        Ok(buffers) => use_buffers(rt, gate, pack, uncut, buffers),
         Err(_) => uncut.end(),
     }
 }

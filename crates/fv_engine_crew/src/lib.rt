@@ -2,10 +2,10 @@
 #![tactic(auto)]
 
 mod block;
+mod buffers;
 mod crewed;
 mod enter;
 mod lent;
-mod lists;
 mod spread;
 mod whole;
 

@@ -1,7 +1,8 @@
 // A block by a crew.
 
-ghost use Rattle.std.specs.Prelude.{◌≡◌, ◌*◌, ◌≤◌, [], length, true, false, vec_capacity};
+ghost use Rattle.std.specs.Prelude.{◌≡◌, ◌*◌, ◌<◌, ◌≤◌, [], length, All, true, false, vec_capacity};
 ghost use Rattle.fv_outside.specs.Tasks.{task_count};
+ghost use Rattle.fv_outside.specs.declared.gate.Line.{Line};
 ghost use Rattle.fv_lines.specs.Solo.{AreHeld};
 ghost use Rattle.fv_lines_cut.specs.Cut.{lengths_by};
 ghost use Rattle.fv_split_plan.specs.Rows.{lists_of};
@@ -38,6 +39,8 @@ pub fn run_spread<R: Threads + Wait + Sync, G: Gate + Sync>(
     requires output { length output.old ≡ block.now.frames * length block.now.plan.now.outputs }
     ensures ran { result ≡ true → Ran (tasks_of block.now) (block_in block.now) (lengths_by block.now.shapes.now) block.now.shapes.now
         (opening_of block.now states.old cells.old lists.old.items) cells.new states.new lists.new.items lines.new.items block.now.plan.now.outputs output.new }
+    // Each task was run by one of so many workers.
+    ensures who { result ≡ true → All (λ (line : Line). line.worker < block.now.workers) lines.new.items }
     ensures left { result ≡ false → HoldAsBefore block.now.shapes.now states.old cells.old states.new cells.new }
     ensures lists_left { result ≡ false → lists_of lists.new.items ≡ lists_of lists.old.items }
     ensures untold { result ≡ false → lines.new.items ≡ [] }

@@ -26,7 +26,7 @@ pub(crate) fn end_whole<'a>(
     states: &mut [LaneState],
     output: &mut [i32],
 ) -> Ended
-    requires placed { ArePlaced block.now.plan.now block.now.cells.now.places.items block.now.cells.now.counts.items }
+    requires placed { ArePlaced block.now.plan.now block.now.places.now.places.items block.now.places.now.counts.items }
     requires full { All (λ w. written_by w ≡ frames_of w) all.items }
     requires count { length states.old ≡ length all.items }
     requires chain { (γ : GName) × IsChain γ rest.name all.items }
@@ -42,7 +42,7 @@ pub(crate) fn end_whole<'a>(
     // The outputs read no cells.
     let cells = LoopCells {
         plan: block.plan,
-        places: block.cells,
+        places: block.places,
         loop_no: 0,
         lists: Vec::new(alloc),
     };

@@ -13,12 +13,13 @@ use Rattle.fv_lines.specs.Seen.{lane_seen}
 use Rattle.fv_lines.specs.declared.seen.Seen.{Seen}
 use Rattle.fv_lines.specs.declared.writer.LaneWriter.{LaneWriter}
 use Rattle.fv_engine_lanes.specs.Plans.{own_lanes}
-use Rattle.fv_engine_parcels.specs.Contents.{tasks_in, upto, AreWritersOf, AreSeenOf, AreRoomy, AreHandedOn, IsContent}
+use Rattle.fv_engine_parcels.specs.Contents.{tasks_in, upto, lanes_seen, AreWritersOf, AreSeenOf, AreRoomy, AreHandedOn, IsContent}
 use Rattle.fv_lines.specs.Writer.{lane_written}
 use Rattle.fv_engine_parcels.specs.inner.Turns.{IsPairFrom, IsChainAt}
 use Rattle.fv_engine_parcels.specs.declared.start.Start.{Start}
 use Rattle.fv_engine_parcels.specs.declared.parcel.LoopParcel.{LoopParcel}
 use Rattle.fv_engine_parcels.specs.declared.content.Writers.{Writers}
+use Rattle.fv_engine_parcels.specs.declared.content.SeenLanes.{SeenLanes}
 use Rattle.fv_engine_parcels.specs.declared.content.Content.{Content as Holding}
 use Rattle.fv_engine_parcels.specs.declared.content.Content.TheVariants as holding
 
@@ -50,7 +51,7 @@ abbrev is_seen : Holding → Bool
 is_seen (holding.Writers w) = false
 is_seen (holding.Seen ss) = true
 
-abbrev seen_in : Vec Seen → Holding → Vec Seen
+abbrev seen_in : SeenLanes → Holding → SeenLanes
 seen_in d (holding.Writers w) = d
 seen_in d (holding.Seen ss) = ss
 
@@ -58,16 +59,17 @@ abbrev writers_in : Box Writers → Holding → Box Writers
 writers_in d (holding.Writers w) = w
 writers_in d (holding.Seen ss) = d
 
-pub content_seen : (k : Start) (j v e : ℕ) (ss : Vec Seen) → IsPairFrom (tasks_in k) j v e → AreSeenOf k (own_lanes k.plan.now j) (v + 1) ss.items
+pub content_seen : (k : Start) (j v e : ℕ) (ss : SeenLanes) → IsPairFrom (tasks_in k) j v e
+    → AreSeenOf k (own_lanes k.plan.now j) (v + 1) (lanes_seen ss)
     → IsContent k e (holding.Seen ss)
 content_seen k j v e ss p a = record {
   writers = λ w q. absurd (true≢false (ap is_seen q));
   seen = λ ts q. (
     p.at.pair,
-    subst (λ (t : Vec Seen). AreSeenOf k (own_lanes k.plan.now (pair_at (tasks_in k) (place_in (tasks_in k) e - (tasks_in k).loops)).source)
-        (e / stride (tasks_in k) + 1) t.items) (ap (seen_in ss) q)
-        (subst (λ (i : ℕ). AreSeenOf k (own_lanes k.plan.now i) (e / stride (tasks_in k) + 1) ss.items) (sym p.source)
-        (subst (λ (n : ℕ). AreSeenOf k (own_lanes k.plan.now j) (n + 1) ss.items) (sym p.at.vector) a)),
+    subst (λ (t : SeenLanes). AreSeenOf k (own_lanes k.plan.now (pair_at (tasks_in k) (place_in (tasks_in k) e - (tasks_in k).loops)).source)
+        (e / stride (tasks_in k) + 1) (lanes_seen t)) (ap (seen_in ss) q)
+        (subst (λ (i : ℕ). AreSeenOf k (own_lanes k.plan.now i) (e / stride (tasks_in k) + 1) (lanes_seen ss)) (sym p.source)
+        (subst (λ (n : ℕ). AreSeenOf k (own_lanes k.plan.now j) (n + 1) (lanes_seen ss)) (sym p.at.vector) a)),
   );
 }
 

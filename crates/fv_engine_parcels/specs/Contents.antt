@@ -1,5 +1,5 @@
 -- What a block's parcels hold: what their edges and the block's start name (this project's profile).
-use Rattle.std.specs.Prelude.{◌≡◌, ℕ, ◌+◌, ◌-◌, ◌*◌, ◌/◌, ◌<◌, ◌≤◌, List, [], length, map, slice_index, slice_index_or}
+use Rattle.std.specs.Prelude.{◌≡◌, ℕ, ◌+◌, ◌-◌, ◌*◌, ◌/◌, ◌<◌, ◌≤◌, ◌==◌, if◌then◌else◌, List, [], ◌∷◌, length, map, slice_index, slice_index_or}
 use Rattle.std.specs.Vec.{vec_capacity}
 use Rattle.std.specs.Global.{Vec, Box}
 use Rattle.fv_outside.specs.headline.Tasks.{Tasks}
@@ -21,6 +21,8 @@ use Rattle.fv_engine_lanes.specs.declared.loop_cells.LoopCells.{LoopCells}
 use Rattle.fv_engine_lanes.specs.Plans.{own_lanes, sources_of, lanes_of_all, readers_of}
 use Rattle.fv_engine_parcels.specs.declared.start.Start.{Start}
 use Rattle.fv_engine_parcels.specs.declared.content.Writers.{Writers}
+use Rattle.fv_engine_parcels.specs.declared.content.SeenLanes.{SeenLanes}
+use Rattle.fv_engine_parcels.specs.declared.content.SeenLanes.TheVariants as many
 use Rattle.fv_engine_parcels.specs.declared.content.Content.{Content as Holding}
 use Rattle.fv_engine_parcels.specs.declared.content.Content.TheVariants as holding
 
@@ -97,6 +99,15 @@ pub record AreSeenOf (k : Start) (lanes : List ℕ) (v : ℕ) (ss : List SeenLan
   pub count : length ss ≡ length lanes
   pub each : (i : ℕ) (d : SeenLane) → i < length lanes → IsSeenOf k (slice_index lanes i) v (slice_index_or ss i d)
 
+-- the lanes that go over an edge, in their order
+abbrev pub lanes_seen : SeenLanes → List SeenLane
+lanes_seen (many.One s) = s ∷ []
+lanes_seen (many.Many ss) = ss.items
+
+-- for how many of a loop's lanes a list needs room: one lane goes without it
+abbrev pub list_room : ℕ → ℕ
+list_room n = if n == 1 then 0 else n
+
 -- empty lists, with room for so many
 pub record AreRoomy (lists : List (Vec SeenLane)) (room : ℕ) : Type 0 where
   pub empty : (i : ℕ) (d : Vec SeenLane) → i < length lists → (slice_index_or lists i d).items ≡ []
@@ -122,12 +133,13 @@ pub record AreHandedOn (k : Start) (j v more : ℕ) (w : Writers) : Type 0 where
   pub regs : length w.regs.items ≡ length (code_of k.plan.now j)
   pub rows : length w.rows.items ≡ length (code_of k.plan.now j) * 32
   pub lists : ((tasks_in k).vectors - v) * readers_of (tasks_in k) j + more ≤ length w.lists.items
-  pub roomy : AreRoomy w.lists.items (length (own_lanes k.plan.now j))
+  pub roomy : AreRoomy w.lists.items (list_room (length (own_lanes k.plan.now j)))
 
 -- The content of an edge's parcel: the writers of the edge's loop, or the lanes of the edge's source, as they were seen after the
 -- edge's vector. (By two implications, not by cases: so a ghost field may state it as it is.)
 pub record IsContent (k : Start) (e : ℕ) (c : Holding) : Type 0 where
   pub writers : (w : Box Writers) → c ≡ holding.Writers w →
       (place_in (tasks_in k) e < (tasks_in k).loops) × AreHandedOn k (place_in (tasks_in k) e) (e / stride (tasks_in k)) 0 w.value
-  pub seen : (ss : Vec SeenLane) → c ≡ holding.Seen ss → ((tasks_in k).loops ≤ place_in (tasks_in k) e)
-      × AreSeenOf k (own_lanes k.plan.now (pair_at (tasks_in k) (place_in (tasks_in k) e - (tasks_in k).loops)).source) (e / stride (tasks_in k) + 1) ss.items
+  pub seen : (ss : SeenLanes) → c ≡ holding.Seen ss → ((tasks_in k).loops ≤ place_in (tasks_in k) e)
+      × AreSeenOf k (own_lanes k.plan.now (pair_at (tasks_in k) (place_in (tasks_in k) e - (tasks_in k).loops)).source) (e / stride (tasks_in k) + 1)
+      (lanes_seen ss)

@@ -7,10 +7,10 @@ ghost use Rattle.fv_lines.specs.Seen.{lane_seen};
 ghost use Rattle.fv_lines.specs.Writer.{lane_written};
 ghost use Rattle.fv_engine_lanes.specs.Lanes.{state_in, AreLanesSound, rest_in};
 ghost use Rattle.fv_engine_parcels.specs.Bodies.{IsBody};
-ghost use Rattle.fv_engine_parcels.specs.Contents.{AreSeenOf, AreHandedOn, IsRealStart, tasks_in};
+ghost use Rattle.fv_engine_parcels.specs.Contents.{lanes_seen, list_room, AreSeenOf, AreHandedOn, IsRealStart, tasks_in};
 ghost use Rattle.fv_engine_parcels.specs.inner.Turns.{Known, Before, After, IsPairAt, IsPairFrom, IsChainAt, lanes_by};
 
-use crate::content::{Content, Writers};
+use crate::content::{Content, SeenLanes, Writers};
 use crate::parcel::LoopParcel;
 use crate::start::Start;
 use fv_engine_lanes::renumbered_code_obeys;
@@ -30,15 +30,18 @@ pub struct LoopBody<'a, 'b> {
     ghost real: { ∥ IsRealStart start ∥₁ },
 }
 
-// These lanes, as they are now.
-fn see<'a>(own: &[LaneWriter<'a>], mut list: Vec<Seen<'a>>) -> Vec<Seen<'a>>
-    requires { (list.items ≡ []) × (length own.now ≤ vec_capacity list) }
-    ensures { map lane_seen result.items ≡ map lane_written own.now }
+// These lanes, as they are now. Several fill the list.
+fn see<'a>(own: &[LaneWriter<'a>], mut list: Vec<Seen<'a>>) -> SeenLanes<'a>
+    requires { (list.items ≡ []) × (list_room (length own.now) ≤ vec_capacity list) }
+    ensures { map lane_seen (lanes_seen result) ≡ map lane_written own.now }
 {
+    if own.len() == 1 {
+        return SeenLanes::One(own[0].seen());
+    }
     for writer in own {
         list.push_reserved(writer.seen());
     }
-    list
+    SeenLanes::Many(list)
 }
 
 impl<'a, 'b> LoopBody<'a, 'b> {
@@ -113,11 +116,10 @@ impl<'a, 'b> LoopBody<'a, 'b> {
         ensures room { vec_capacity seen.old ≤ vec_capacity seen.new }
     {
         for parcel in parcels {
-            let Content::Seen(list) = parcel.content() else {
+            let Content::Seen(lanes) = parcel.content() else {
                 unreachable!()
             };
-            // There is room for them, so this takes no memory.
-            let _ = seen.extend_from_slice(list.as_slice());
+            lanes.append_to(seen);
         }
     }
 
@@ -142,8 +144,8 @@ impl<'a, 'b> LoopBody<'a, 'b> {
         let last = edges.len() - 1;
         for i in 0..last {
             let list = writers.lists.pop().unwrap();
-            let list = see(writers.lanes.own.as_slice(), list);
-            let parcel = LoopParcel::new(edges[last - i], &self.start, Content::Seen(list));
+            let lanes = see(writers.lanes.own.as_slice(), list);
+            let parcel = LoopParcel::new(edges[last - i], &self.start, Content::Seen(lanes));
             parcels.push_reserved(parcel);
         }
         let parcel = LoopParcel::new(edges[0], &self.start, Content::Writers(writers));

@@ -1,10 +1,13 @@
 // What goes over the edges.
 
+ghost use Rattle.std.specs.Prelude.{◌≡◌, ◌+◌, ◌≤◌, ◌++◌, length, vec_capacity};
+ghost use Rattle.fv_engine_parcels.specs.Contents.{lanes_seen};
+
 use fv_engine_lanes::LoopLanes;
 use fv_lines::Seen;
 
 /// What a loop's task hands to the loop's next task: its lane writers and cells, its registers, the rows that its code works in, and,
-/// still empty, the lists that its seen parcels will fill.
+/// still empty, a list for each seen parcel that is to come, which has room only where several lanes go into it.
 #[derive(Drop)]
 pub struct Writers<'a, 'b> {
     pub lanes: LoopLanes<'a, 'b>,
@@ -13,9 +16,33 @@ pub struct Writers<'a, 'b> {
     pub lists: Vec<Vec<Seen<'a>>>,
 }
 
+/// The lanes of a loop, as they were seen. Most loops have one, which needs no list.
+#[derive(Drop)]
+pub enum SeenLanes<'a> {
+    One(Seen<'a>),
+    Many(Vec<Seen<'a>>),
+}
+
+impl<'a> SeenLanes<'a> {
+    /// Puts them behind those of a list that has room for them.
+    pub(crate) fn append_to(&self, list: &mut Vec<Seen<'a>>)
+        requires { length list.old.items + length (lanes_seen self.now) ≤ vec_capacity list.old }
+        ensures items { list.new.items ≡ list.old.items ++ lanes_seen self.now }
+        ensures room { vec_capacity list.old ≤ vec_capacity list.new }
+    {
+        match self {
+            SeenLanes::One(lane) => list.push_reserved(*lane),
+            SeenLanes::Many(lanes) => {
+                // There is room for them, so this takes no memory.
+                let _ = list.extend_from_slice(lanes.as_slice());
+            }
+        }
+    }
+}
+
 /// What goes over an edge: to the loop's next task its lane writers and cells, to a task of another loop the loop's lanes, as they were seen.
 #[derive(Drop)]
 pub enum Content<'a, 'b> {
     Writers(Box<Writers<'a, 'b>>),
-    Seen(Vec<Seen<'a>>),
+    Seen(SeenLanes<'a>),
 }

@@ -7,6 +7,6 @@ mod parcel;
 mod start;
 
 pub use body::LoopBody;
-pub use content::{Content, Writers};
+pub use content::{Content, SeenLanes, Writers};
 pub use parcel::LoopParcel;
 pub use start::Start;

@@ -1,12 +1,12 @@
 -- What the parcels of the loops' own edges hold.
 use Rattle.std.proofs.Common.{◌≡◌, ℕ, ◌+◌, ◌*◌, ◌/◌, ◌<◌, List, [], ◌∷◌, ◌++◌, length, get_or, sym, ap, ◌∙◌, subst, arith, inl, inr}
-use Rattle.std.specs.Global.{Vec, Box}
+use Rattle.std.specs.Global.{Box}
 use Rattle.std.proofs.lemmas.Bool.{cases_lt}
 use Rattle.std.proofs.lemmas.List.{length-append, get_or_append_left}
 use Rattle.std.proofs.Math.Seq.{get_or-append_seam}
 use Rattle.std.proofs.lemmas.Nat.{div-mul-add, mod-mul-add}
 use Rattle.fv_graph.specs.Graph.{stride, place_in}
-use Rattle.fv_lines.specs.declared.seen.Seen.{Seen}
+use Rattle.fv_engine_parcels.specs.declared.content.SeenLanes.{SeenLanes}
 use Rattle.fv_engine_parcels.specs.declared.start.Start.{Start}
 use Rattle.fv_engine_parcels.specs.declared.parcel.LoopParcel.{LoopParcel}
 use Rattle.fv_engine_parcels.specs.declared.content.Writers.{Writers}
@@ -49,7 +49,7 @@ module _ (k : Start) (v j : ℕ) (p : LoopParcel) (next : IsNextParcel k v j p) 
       (subst (λ (n : ℕ). AreHandedOn k (place_in (tasks_in k) p.edge) n 0 w.value) vector (h.writers w e).1)
 
   -- and no seen lanes
-  pub holds_no_seen : (ss : Vec Seen) (c : Content) → c ≡ holding.Seen ss → IsContent p.start.value p.edge c → ⊥
+  pub holds_no_seen : (ss : SeenLanes) (c : Content) → c ≡ holding.Seen ss → IsContent p.start.value p.edge c → ⊥
   holds_no_seen ss c e is =
       let h : IsContent k p.edge c = subst (λ (s : Start). IsContent s p.edge c) next.key is in
       let low = (h.seen ss e).0 in absurd (omega (arith, low, place, next.there))

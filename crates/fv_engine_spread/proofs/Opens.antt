@@ -21,7 +21,7 @@ use Rattle.fv_engine_lanes.specs.declared.loop_cells.LoopCells.{LoopCells}
 use Rattle.fv_engine_lanes.specs.Plans.{own_lanes, sources_of, lanes_of_all, readers_of}
 use Rattle.fv_engine_parcels.specs.declared.start.Start.{Start}
 use Rattle.fv_engine_parcels.specs.declared.content.Writers.{Writers}
-use Rattle.fv_engine_parcels.specs.Contents.{tasks_in, upto, AreRoomy, AreCellsOf, AreHandedOn, SameWriter, IsWriterOf}
+use Rattle.fv_engine_parcels.specs.Contents.{tasks_in, upto, list_room, AreRoomy, AreCellsOf, AreHandedOn, SameWriter, IsWriterOf}
 use Rattle.fv_engine_spread.specs.Dealt.{IsDealt}
 use Rattle.fv_engine_spread.specs.Opening.{IsOpening, DealtRoomsEnter}
 use Rattle.fv_engine_spread.specs.Rooms.{IsRoom, HasCells}
@@ -119,7 +119,7 @@ module _ (k : Start) (opening : IsOpening k) where
         lists =
             let all_left : (tasks_in k).vectors - 0 ≡ (tasks_in k).vectors = omega arith in
             omega (arith, ap (λ (v : ℕ). v * readers_of (tasks_in k) j) all_left, ap (λ (v : Vec (Vec Seen)). length v.items) lists, r.lists_are);
-        roomy = subst (λ (v : Vec (Vec Seen)). AreRoomy v.items (length (own_lanes plan j))) (sym lists) r.roomy;
+        roomy = subst (λ (v : Vec (Vec Seen)). AreRoomy v.items (list_room (length (own_lanes plan j)))) (sym lists) r.roomy;
       }
 
 pub rooms_enter : DealtRoomsEnter

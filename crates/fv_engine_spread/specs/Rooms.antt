@@ -7,11 +7,11 @@ use Rattle.fv_split_plan.specs.headline.View.{PlanView, code_of}
 use Rattle.fv_engine_lanes.specs.Plans.{own_lanes, sources_of, lanes_of_all, readers_of}
 use Rattle.fv_engine_lanes.specs.declared.loop_cells.CellPlaces.{CellPlaces}
 use Rattle.fv_engine_lanes.specs.declared.loop_cells.LoopCells.{LoopCells}
-use Rattle.fv_engine_parcels.specs.Contents.{AreRoomy}
+use Rattle.fv_engine_parcels.specs.Contents.{list_room, AreRoomy}
 use Rattle.fv_engine_parcels.specs.declared.content.Writers.{Writers}
 
 -- Empty lists of one loop: room for so many lanes of its own and so many seen ones, so many registers and
--- rows, and so many lists, each with room for the lanes of its own.
+-- rows, and so many lists, each with room for the lanes of its own where they go in a list.
 pub record IsRoom (own seen steps lists : ℕ) (w : Writers) : Type 0 where
   pub nothing : w.lanes.own.items ≡ []
   pub own_room : own ≤ vec_capacity w.lanes.own
@@ -20,7 +20,7 @@ pub record IsRoom (own seen steps lists : ℕ) (w : Writers) : Type 0 where
   pub regs : length w.regs.items ≡ steps
   pub rows : length w.rows.items ≡ steps * 32
   pub lists_are : length w.lists.items ≡ lists
-  pub roomy : AreRoomy w.lists.items own
+  pub roomy : AreRoomy w.lists.items (list_room own)
 
 -- the cells of loop j, as many as stand at its number
 pub record HasCells (p : PlanView) (places : CellPlaces) (j : ℕ) (c : LoopCells) : Type 0 where

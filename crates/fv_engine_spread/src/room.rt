@@ -5,7 +5,7 @@ ghost use Rattle.fv_engine_lanes.specs.Cells.{ArePlaced};
 ghost use Rattle.fv_split_plan.specs.headline.View.{code_of};
 ghost use Rattle.fv_engine_lanes.specs.Plans.{own_lanes, sources_of, lanes_of_all, readers_of};
 ghost use Rattle.fv_engine_codes.specs.Codes.{AreOfPlan, AreLaneCounts};
-ghost use Rattle.fv_engine_parcels.specs.Contents.{AreRoomy};
+ghost use Rattle.fv_engine_parcels.specs.Contents.{list_room, AreRoomy};
 ghost use Rattle.fv_engine_spread.specs.Rooms.{IsRoom, HasCells, AreRooms};
 
 use fv_engine_codes::LaneCount;
@@ -28,6 +28,13 @@ fn seen_lists<'a>(alloc: Global, count: u64, room: u64) -> Result<Vec<Vec<Seen<'
         lists.push_reserved(list);
     }
     Ok(lists)
+}
+
+// For how many of a loop's lanes a list needs room.
+fn room_of_list(lanes: u64) -> u64
+    ensures { result ≡ list_room lanes }
+{
+    if lanes == 1 { 0 } else { lanes }
 }
 
 // More than a type counts is want of memory.
@@ -96,7 +103,7 @@ fn loop_room<'a, 'b>(
     let seen = Vec::with_capacity(alloc, count.seen as usize)?;
     let regs = Vec::from_elem(alloc, 0, steps as usize)?;
     let rows = blank_rows(alloc, steps)?;
-    let lists = seen_lists(alloc, lists, count.own)?;
+    let lists = seen_lists(alloc, lists, room_of_list(count.own))?;
     Ok(Writers {
         lanes: LoopLanes { own, seen, cells },
         regs,

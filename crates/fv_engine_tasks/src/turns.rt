@@ -3,6 +3,7 @@
 ghost use Rattle.std.specs.Prelude.{◌≡◌, ℕ, suc, ◌+◌, ◌-◌, ◌*◌, ◌<◌, ◌≤◌, true, All, length, List, [], ◌∷◌, set, vec_capacity, Some, None};
 ghost use Rattle.fv_loopcode.specs.Words.{argument};
 ghost use Rattle.fv_outside.specs.Tasks.{task_count};
+ghost use Rattle.fv_outside.specs.declared.gate.Line.{Line};
 ghost use Rattle.fv_graph.specs.Graph.{net_of, feeds_of};
 ghost use Rattle.fv_graph_core.specs.Core.{is_legal, after, deque_of, is_done};
 ghost use Rattle.fv_graph_core.specs.Ends.{back_of};
@@ -161,6 +162,7 @@ fn turn<P: Codes, S: Store, G: Gate>(
     ensures underway { (first : State) → IsReal (block_of P.parts job.now) first
         → IsUnderway tasks.now.tasks (block_of P.parts job.now) first core.old.now (S.state store.old) lines.old.items
         → IsUnderway tasks.now.tasks (block_of P.parts job.now) first core.new.now (S.state store.new) lines.new.items }
+    ensures who { All (λ (line : Line). line.worker ≡ 0) lines.old.items → All (λ (line : Line). line.worker ≡ 0) lines.new.items }
     ensures less { left_to_do core.new.now.done < left_to_do core.old.now.done }
 {
     task_is_free();
@@ -219,6 +221,8 @@ pub fn run_tasks<P: Codes, S: Store, G: Gate>(
     ensures rows { length rows.new ≡ length rows.old }
     ensures regs { length regs.new ≡ length regs.old }
     ensures room { vec_capacity lines.new ≡ vec_capacity lines.old }
+    // All tasks are run by worker 0.
+    ensures who { All (λ (line : Line). line.worker ≡ 0) lines.old.items → All (λ (line : Line). line.worker ≡ 0) lines.new.items }
     // Each lane holds its numbers of the whole block, and the journal is in order.
     ensures ends { (first : State) → IsReal (block_of P.parts job.now) first
         → IsUnderway tasks.now.tasks (block_of P.parts job.now) first core.old.now (S.state store.old) lines.old.items

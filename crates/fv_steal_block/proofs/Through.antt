@@ -1,8 +1,11 @@
 -- A crew that is through with its block.
-use Rattle.std.proofs.Common.{◌≡◌, ℕ, ◌<◌, ◌≤◌, List, length, map, get_or, sym, subst, arith}
+use Rattle.std.proofs.Common.{◌≡◌, ℕ, suc, ◌<◌, ◌≤◌, List, [], ◌∷◌, length, map, get_or, sym, ap, ◌∙◌, subst, arith}
 use Rattle.std.specs.Prelude.{All}
+use Rattle.std.proofs.lemmas.List.{length-map, get_or-map}
+use Rattle.std.proofs.lemmas.List.Elements.{All-append}
 use Rattle.std.specs.List.{flat_map}
 use Rattle.std.specs.List.Sorted.{IsPermutation, IsNonDecreasingBy}
+use Rattle.fv_outside.specs.headline.Tasks.{Tasks}
 use Rattle.fv_outside.specs.Tasks.{task_count}
 use Rattle.fv_outside.specs.declared.gate.Line.{Line}
 use Rattle.fv_graph.specs.Graph.{Graph, IsGraph, net_of}
@@ -24,6 +27,25 @@ pub record Worked {C Key : Type 0} (edge_of : C → ℕ) (key_of : C → Key) (b
   pub seats_are : seats ≡ map seat_of ws
   pub workers : All (λ w. IsWorkerOf edge_of key_of b w) ws
 
+-- the lines of workers with numbers below n
+lines_by : {C : Type 0} {tasks : Tasks} (n : ℕ) (ws : List (Worker C)) → All (λ w. number_of w < n) ws
+    → All (λ w. IsJournalOf tasks (number_of w) (did w) (lines_of w)) ws → All (λ (line : Line). line.worker < n) (flat_map lines_of ws)
+lines_by n [] few journals = λ i d l. absurd (omega (arith, l))
+lines_by n (w ∷ ws) few journals =
+    All-append (λ (line : Line). line.worker < n) (lines_of w) (flat_map lines_of ws)
+    (λ i d l. let who = ((journals 0 w (omega arith)).each_line i d l).who in let low = few 0 w (omega arith) in omega (arith, who, low))
+    (lines_by n ws (λ i d l. few (suc i) d (omega (arith, l))) (λ i d l. journals (suc i) d (omega (arith, l))))
+
+-- the workers of a crew have numbers below their count, and keep them
+pub numbers_below : {C : Type 0} (n : ℕ) (old new : List (Worker C)) → map number_of new ≡ map number_of old → length old ≡ n
+    → ((i : ℕ) (d : Worker C) → i < length old → number_of (get_or old i d) ≡ i) → All (λ w. number_of w < n) new
+numbers_below n old new same long each i d l =
+    let many : length new ≡ length old = sym (length-map new number_of) ∙ ap length same ∙ length-map old number_of in
+    let inside : i < length old = omega (arith, l, many) in
+    let is : number_of (get_or new i d) ≡ number_of (get_or old i d) =
+    sym (get_or-map number_of new i d 0 l) ∙ ap (λ (xs : List ℕ). get_or xs i 0) same ∙ get_or-map number_of old i d 0 inside in
+    omega (arith, is, each i d inside, inside, long)
+
 module _ {C Key : Type 0} {edge_of : C → ℕ} {key_of : C → Key} {b : Board C Key} {g : Graph} {ws : List (Worker C)} {seats : List (WorkerSeat C)}
     (h : Worked edge_of key_of b g ws seats) where
   pub left_of_board : NothingLeft (net_of g.tasks) (map seat_of ws) → NothingLeft (net_of (tasks_of b)) seats
@@ -40,6 +62,10 @@ module _ {C Key : Type 0} {edge_of : C → ℕ} {key_of : C → Key} {b : Board 
     journals = λ i d l. subst (λ (x : Graph). IsJournalOf x.tasks (number_of (get_or ws i d)) (did (get_or ws i d)) (lines_of (get_or ws i d))) h.told
         (h.workers i d l).journal;
   }
+
+  -- each line is of a worker of the crew
+  pub who : (n : ℕ) → All (λ w. number_of w < n) ws → AreThrough g.tasks ws → All (λ (line : Line). line.worker < n) (flat_map lines_of ws)
+  who n few t = lines_by n ws few t.journals
 
   -- the copied lines, sorted
   pub sorted : CountLaw C → IsGraph g.tasks → AreThrough g.tasks ws → (room : ℕ) → task_count g.tasks ≤ room → (copied lines : List Line)

@@ -1,8 +1,9 @@
 // A block by a crew.
 
-ghost use Rattle.std.specs.Prelude.{◌≡◌, ◌-◌, ◌<◌, ◌≤◌, [], length, IfOk, IfErr, OnOk, OnErr, vec_capacity};
+ghost use Rattle.std.specs.Prelude.{◌≡◌, ◌-◌, ◌<◌, ◌≤◌, [], length, All, IfOk, IfErr, OnOk, OnErr, vec_capacity};
 ghost use Rattle.fv_outside.specs.Tasks.{task_count};
 ghost use Rattle.fv_outside.specs.headline.Journal.{IsOrdered};
+ghost use Rattle.fv_outside.specs.declared.gate.Line.{Line};
 ghost use Rattle.fv_graph.specs.Graph.{edges_of};
 ghost use Rattle.fv_steal_block.specs.Parcels.{AreParcelsFrom};
 
@@ -44,6 +45,8 @@ pub fn run_crew<
         (edges_of tasks.now.tasks - tasks.now.tasks.loops) tasks.now.tasks.loops v.items) }
     ensures journal { OnOk result (IsOrdered tasks.now.tasks lines.new.items) }
     ensures count { OnOk result (length lines.new.items ≡ task_count tasks.now.tasks) }
+    // Each task was run by one of so many.
+    ensures who { OnOk result (All (λ (line : Line). line.worker < workers) lines.new.items) }
     ensures entries { IfErr result (λ v. AreParcelsFrom C.edge_of C.key_of (B.key body.now) 0 tasks.now.tasks.loops v.items) }
     ensures untold { OnErr result (lines.new.items ≡ []) }
     ensures room { vec_capacity lines.old ≤ vec_capacity lines.new }

@@ -30,7 +30,7 @@ pub record IsStartOf (b : SpreadBlock) (ws : List LaneWriter) (lists : List (Vec
   pub block : block_of k ≡ block_in b
   pub tasks : tasks_in k ≡ tasks_of b
   pub plan : k.plan.now ≡ b.plan.now
-  pub places : k.places.now ≡ b.cells.now
+  pub places : k.places.now ≡ b.places.now
   pub lanes : k.lanes.value.items ≡ ws
   pub cells : k.cells.value.items ≡ lists
 

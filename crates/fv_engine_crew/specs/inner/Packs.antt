@@ -1,7 +1,8 @@
 -- What a crew is handed, and what it leaves.
-use Rattle.std.specs.Prelude.{◌≡◌, ◌*◌, ◌≤◌, List, [], length, true, false, ℤ}
+use Rattle.std.specs.Prelude.{◌≡◌, ◌*◌, ◌<◌, ◌≤◌, List, [], length, All, true, false, ℤ}
 use Rattle.std.specs.Vec.{vec_capacity}
 use Rattle.fv_outside.specs.Tasks.{task_count}
+use Rattle.fv_outside.specs.declared.gate.Line.{Line}
 use Rattle.fv_lines.specs.Solo.{AreHeld}
 use Rattle.fv_lines.specs.declared.shape.LaneShape.{LaneShape}
 use Rattle.fv_lines_cut.specs.Cut.{lengths_by}
@@ -35,6 +36,7 @@ pub record Leaves (old new : Pack) (before after : List ℤ) : Type 0 where
   pub lists_are : new.lists.ghost_name ≡ old.lists.ghost_name
   pub ran : new.ran ≡ true → Ran (tasks_of (block_with old)) (block_in (block_with old)) (lengths_by (shapes_with old)) (shapes_with old)
       (opening_of (block_with old) old.states.now before old.lists.now.items) after new.states.now new.lists.now.items new.lines.now.items (block_with old).plan.now.outputs new.output.now
+  pub who : new.ran ≡ true → All (λ (line : Line). line.worker < (block_with old).workers) new.lines.now.items
   pub left : new.ran ≡ false → HoldAsBefore (shapes_with old) old.states.now before new.states.now after
   pub lists_left : new.ran ≡ false → lists_of new.lists.now.items ≡ lists_of old.lists.now.items
   pub untold : new.ran ≡ false → new.lines.now.items ≡ []

@@ -94,3 +94,8 @@ returns-clause-samples g c =
     subst (sampled c.args.plan.now.outputs) (ap g.L.LaneStore.lanes (sym (search (rules, lanes))))
     (subst (λ (xs : List ℕ). sampled xs (g.L.LaneStore.lanes c.run_tasks.new.store.lanes.now)) c.outputs.ensures
     (λ t j m n. c.copy_outputs.ensures.samples t j (omega (arith, m, c.from.ensures)) n))
+
+pub returns-clause-who : goal.returns-clause-who
+returns-clause-who g c =
+    let none = ap (λ (v : Vec Line). v.items) c.begin.ensures.lines ∙ c.requires.lines in
+    c.run_tasks.ensures.who (λ i d l. absurd (omega (arith, l, ap length none)))

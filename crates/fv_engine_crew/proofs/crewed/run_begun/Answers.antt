@@ -35,17 +35,17 @@ module _ (g : Over) (c : After-enter-body g) where
   abbrev last : ℕ
   last = vectors_of block.frames block.vector
 
-  started : Started c.args.block.now c.args.lists.begun.items c.args.cells.now.items key
+  started : Started c.args.block.now c.args.buffers.begun.items c.args.lists.now.items key
   started = record { start = c.enter-body.ensures.start; job = c.requires.spread.job; open_lanes = c.requires.begun }
 
   -- as many lists come back as were lent
   kept : {v : ℕ} (xs : List (Vec ℤ)) → AreAllCells key v xs
-      → take c.enter-body.new.cells.len (xs ++ drop (length xs) c.enter-body.new.cells.items) ≡ xs
+      → take c.enter-body.new.lists.len (xs ++ drop (length xs) c.enter-body.new.lists.items) ≡ xs
   kept xs e =
       let were : length key.plan.now.cells ≡ length c.args.block.now.plan.now.cells = ap (λ (p : PlanView). length p.cells) started.start.plan in
-      let many : length c.args.cells.now.items ≡ length c.args.block.now.plan.now.cells = c.requires.begun.cells in
-      take_at xs (drop (length xs) c.enter-body.new.cells.items) c.enter-body.new.cells.len
-      (omega (arith, e.count, were, many, c.enter-body.ensures.cells, c.enter-body.new.cells.ok))
+      let many : length c.args.lists.now.items ≡ length c.args.block.now.plan.now.cells = c.requires.begun.cells in
+      take_at xs (drop (length xs) c.enter-body.new.lists.items) c.enter-body.new.lists.len
+      (omega (arith, e.count, were, many, c.enter-body.ensures.lists, c.enter-body.new.lists.ok))
 
 pub collect-all-requires-clause-parcels : goal.collect-all-requires-clause-parcels
 collect-all-requires-clause-parcels g c =
@@ -65,7 +65,7 @@ returns-in-Ok-clause-whole g c =
     subst (λ (x : Start). AreAllWriters x (last g d) c.collect-all.result.items) c.start.ensures (c.collect-all.ensures.lanes (last g d) chain) in
     let rows : AreAllCells (key g d) (last g d) c.collect-all.new.cells =
     subst (λ (x : Start). AreAllCells x (last g d) c.collect-all.new.cells) c.start.ensures (c.collect-all.ensures.cells (last g d) chain) in
-    subst (AreWhole (block_in b) b.plan.now.tables c.args.lists.begun.items c.collect-all.result.items c.args.cells.now.items)
+    subst (AreWhole (block_in b) b.plan.now.tables c.args.buffers.begun.items c.collect-all.result.items c.args.lists.now.items)
     (sym (kept g d c.collect-all.new.cells rows)) (whole (started g d) ws rows)
 
 pub collect-all-requires-in-Err-clause-parcels : goal.collect-all-requires-in-Err-clause-parcels

@@ -36,7 +36,7 @@ module _ (c : After-deal) where
   left : take c.args.rooms.len (dealt ++ drop (length dealt) rooms) ≡ dealt
   left = take_at dealt (drop (length dealt) rooms) c.args.rooms.len (omega (arith, were.count, c.args.rooms.ok))
 
-  slots : HaveSlots b.plan.now b.cells.now.counts.items dealt
+  slots : HaveSlots b.plan.now b.places.now.counts.items dealt
   slots = record {
     loops = were.count ∙ c.requires.rooms.count;
     each = λ j d l. omega (
@@ -50,8 +50,8 @@ pub deal-requires-clause-rooms : goal.deal-requires-clause-rooms
 deal-requires-clause-rooms c =
     let s : SpreadBlock = c.args.block.now in (
       tasks_of s,
-      s.cells.now,
-      subst (AreRooms s.plan.now (tasks_of s) s.cells.now) (sym c.as_mut_slice.ensures.value) c.requires.rooms,
+      s.places.now,
+      subst (AreRooms s.plan.now (tasks_of s) s.places.now) (sym c.as_mut_slice.ensures.value) c.requires.rooms,
     )
 
 pub swap_cells-requires-clause-lists : goal.swap_cells-requires-clause-lists
@@ -60,7 +60,7 @@ swap_cells-requires-clause-lists c = ap length c.as_mut_slice-2.ensures.value �
 pub swap_cells-requires-clause-writers : goal.swap_cells-requires-clause-writers
 swap_cells-requires-clause-writers c =
     let d = (goal.at.swap_cells-requires-clause-writers c).After-deal in
-    subst (HaveSlots (b d).plan.now (b d).cells.now.counts.items) (sym (c.as_mut_slice-3.ensures.value ∙ left d)) (slots d)
+    subst (HaveSlots (b d).plan.now (b d).places.now.counts.items) (sym (c.as_mut_slice-3.ensures.value ∙ left d)) (slots d)
 
 pub entries_of-entries-requires-clause-entered : goal.entries_of-entries-requires-clause-entered
 entries_of-entries-requires-clause-entered c =
@@ -70,7 +70,7 @@ entries_of-entries-requires-clause-entered c =
     let given : List (Box Writers) = c.swap_cells.new.writers in
     let rows : List (Vec ℤ) = c.swap_cells.new.lists in
     let value : c.of.result.value ≡ c.args.begun = c.of.ensures in
-    let cells : c.of-2.result.value ≡ c.args.cells.now = c.of-2.ensures in
+    let cells : c.of-2.result.value ≡ c.args.lists.now = c.of-2.ensures in
     let opening : IsOpening k = subst IsOpening (sym c.new-body.ensures) (record {
       loops = c.requires.spread.job.loops;
       lanes = ap (λ (v : Vec LaneWriter). length v.items) value ∙ c.requires.begun.count;
@@ -83,13 +83,13 @@ entries_of-entries-requires-clause-entered c =
     let are : AreDealt k.plan.now k.lanes.value.items (rooms d) (dealt d) =
     subst (λ (x : Start). AreDealt x.plan.now x.lanes.value.items (rooms d) (dealt d)) (sym c.new-body.ensures)
     (subst (λ (v : Vec LaneWriter). AreDealt p v.items (rooms d) (dealt d)) (sym value) (were d)) in
-    let swapped : AreSwapped p c.args.block.now.cells.now.places.items c.args.cells.now.items rows (dealt d) given =
-    subst (λ (xs : List (Vec ℤ)). AreSwapped p c.args.block.now.cells.now.places.items xs rows (dealt d) given) c.as_mut_slice-2.ensures.value
-    (subst (λ (ws : List (Box Writers)). AreSwapped p c.args.block.now.cells.now.places.items c.as_mut_slice-2.result.now rows ws given)
+    let swapped : AreSwapped p c.args.block.now.places.now.places.items c.args.lists.now.items rows (dealt d) given =
+    subst (λ (xs : List (Vec ℤ)). AreSwapped p c.args.block.now.places.now.places.items xs rows (dealt d) given) c.as_mut_slice-2.ensures.value
+    (subst (λ (ws : List (Box Writers)). AreSwapped p c.args.block.now.places.now.places.items c.as_mut_slice-2.result.now rows ws given)
     (c.as_mut_slice-3.ensures.value ∙ left d) c.swap_cells.ensures) in
     let change : AreSwapped k.plan.now k.places.now.places.items k.cells.value.items rows (dealt d) given =
     subst (λ (x : Start). AreSwapped x.plan.now x.places.now.places.items x.cells.value.items rows (dealt d) given) (sym c.new-body.ensures)
-    (subst (λ (v : Vec (Vec ℤ)). AreSwapped p c.args.block.now.cells.now.places.items v.items rows (dealt d) given) (sym cells) swapped) in
+    (subst (λ (v : Vec (Vec ℤ)). AreSwapped p c.args.block.now.places.now.places.items v.items rows (dealt d) given) (sym cells) swapped) in
     let first : List (Box Writers) = take c.args.rooms.len (dealt d ++ drop (length (dealt d)) (rooms d)) in
     let many : length given ≡ c.args.rooms.len = omega (arith, swapped.count, (were d).count, c.args.rooms.ok) in
     subst (λ (x : Start). AreEntered x (take c.args.rooms.len (given ++ drop (length given) first))) (sym c.start.ensures)

@@ -14,6 +14,7 @@ loop-t-preserved g c = record {
   rows = c.turn.ensures.rows ∙ c.loop-t.invariant.rows;
   regs = c.turn.ensures.regs ∙ c.loop-t.invariant.regs;
   room = c.turn.ensures.room ∙ c.loop-t.invariant.room;
+  who = λ old. c.turn.ensures.who (c.loop-t.invariant.who old);
   goes_on = λ first real u. c.turn.ensures.underway first real (c.loop-t.invariant.goes_on first real u);
 }
 

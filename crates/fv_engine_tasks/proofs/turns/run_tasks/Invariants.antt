@@ -1,4 +1,6 @@
 use Rattle.std.proofs.Common.{◌≡◌, length}
+use Rattle.std.specs.Prelude.{All}
+use Rattle.fv_outside.specs.declared.gate.Line.{Line}
 use Rattle.fv_loopcode.specs.headline.State.{State}
 use Rattle.fv_engine_tasks.specs.Block.{IsReal}
 use Rattle.fv_engine_tasks.specs.Jobs.{left_to_do, block_of}
@@ -14,6 +16,7 @@ invariant-loop-t g l = record {
   rows : length l.rows ≡ length l.initial.rows;
   regs : length l.regs ≡ length l.initial.regs;
   room : l.lines.cap ≡ l.initial.lines.cap;
+  who : All (λ (line : Line). line.worker ≡ 0) l.initial.lines.items → All (λ (line : Line). line.worker ≡ 0) l.lines.items;
   goes_on : (first : State) → IsReal (block_of g.P.Codes.parts l.job) first
       → IsUnderway l.tasks.tasks (block_of g.P.Codes.parts l.job) first l.initial.core.now (g.S.Store.state l.initial.store) l.initial.lines.items
       → IsUnderway l.tasks.tasks (block_of g.P.Codes.parts l.job) first l.core.now (g.S.Store.state l.store) l.lines.items;

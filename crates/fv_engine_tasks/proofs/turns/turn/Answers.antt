@@ -1,4 +1,6 @@
-use Rattle.std.proofs.Common.{arith, ◌*◌, List, [], ◌∷◌, ◌++◌, length, set, true, sym, ap, ◌∙◌, subst, ◌<◌}
+use Rattle.std.proofs.Common.{arith, ◌≡◌, ◌+◌, ◌*◌, List, [], ◌∷◌, ◌++◌, length, set, true, refl, sym, ap, ◌∙◌, subst, ◌<◌}
+use Rattle.std.specs.Prelude.{All}
+use Rattle.std.proofs.lemmas.List.Elements.{All-append, All-cons}
 use Rattle.fv_outside.specs.declared.tasks.Task.{Task}
 use Rattle.fv_outside.specs.declared.gate.Line.{Line}
 use Rattle.fv_loopcode.specs.headline.State.{State}
@@ -46,3 +48,10 @@ returns-clause-less g c =
     let u = c.requires.underway.2 in let z = one_less c.args.tasks.now.tasks c.args.core.now.now c.args.t u.tasks c.take.ensures.ready in
     let done = c.arrive_all.ensures.done ∙ c.finish.ensures.done ∙ ap (λ d. set d c.args.t true) c.take.ensures.done in
     let e = ap left_to_do done in omega (arith, z, e)
+
+pub returns-clause-who : goal.returns-clause-who
+returns-clause-who g c old =
+    let lines = c.args.lines.now.items in
+    let line : Line = record { task = c.task-task.result; worker = 0; start = 2 * c.len.result; finish = 2 * c.len.result + 1 } in
+    subst (All (λ (x : Line). x.worker ≡ 0)) (sym c.push_reserved.ensures.items)
+    (All-append (λ (x : Line). x.worker ≡ 0) lines (line ∷ []) old (All-cons (λ (x : Line). x.worker ≡ 0) line [] refl (λ i d l. absurd (omega (arith, l)))))

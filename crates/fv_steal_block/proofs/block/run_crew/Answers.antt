@@ -1,16 +1,18 @@
 use Rattle.std.proofs.Common.{◌≡◌, ◌<◌, ◌≤◌, ◌-◌, ◌++◌, length, map, take, drop, sym, ap, ◌∙◌, subst, arith, vec_len, vec_capacity}
 use Rattle.std.specs.List.{flat_map}
+use Rattle.std.proofs.lemmas.List.Sorted.{All-permutation}
 use Rattle.fv_outside.specs.Tasks.{task_count}
 use Rattle.fv_outside.specs.headline.Journal.{IsOrdered}
+use Rattle.fv_outside.specs.declared.gate.Line.{Line}
 use Rattle.fv_graph.specs.Graph.{Graph, edges_of, net_of}
 use Rattle.fv_ready.specs.Rule.{wins}
 use Rattle.fv_ready.specs.Boards.{about_of, name_of, tasks_of}
 use Rattle.fv_ready.specs.Counted.{HaveAll, NothingLeft, told_by}
-use Rattle.fv_steal.specs.Crews.{seat_of, lines_of, IsCrew}
+use Rattle.fv_steal.specs.Crews.{number_of, seat_of, lines_of, IsCrew}
 use Rattle.fv_steal.specs.Journals.{AreThrough, AreSortedLines}
 use Rattle.fv_steal_block.specs.Parcels.{AreParcelsFrom}
 use Rattle.fv_steal_block.proofs.Ending.{written, parcels_from, told_none}
-use Rattle.fv_steal_block.proofs.Through.{Worked, left_of_board, through, sorted}
+use Rattle.fv_steal_block.proofs.Through.{Worked, left_of_board, through, sorted, who, numbers_below}
 use Rattle.fv_steal_block.proofs.block.run_crew.Goals as goal
 
 pub returns-in-Err-crew-clause-entries : goal.returns-in-Err-crew-clause-entries
@@ -80,19 +82,27 @@ worked g c = record {
 none_left : (g : _) (c : goal.After-close-2 g) → NothingLeft (net_of (tasks_of c.in-Ok-begin.made.0)) c.seats_of.result.items
 none_left g c = left_of_board (worked g c) c.work.ensures.left
 
--- the crew is through, and its sorted lines are the journal
+-- the crew is through
+crew_through : (g : _) (c : goal.After-close-2 g) → AreThrough c.args.tasks.now.tasks c.work.new.workers
+crew_through g c =
+    let done = c.close-2.ensures.whole (none_left g c) in
+    through (worked g c) c.close-2.ensures.tells (c.close-2.ensures.done.0 done.0)
+
+-- its lines, sorted
+crew_lines : (g : _) (c : goal.After-close-2 g) → AreSortedLines c.work.new.workers c.sort_lines.new.lines.items
+crew_lines g c =
+    let same = c.as_slice.ensures.value ∙ back g c in
+    sorted (worked g c) c.journal_law.ensures.count c.loops.ensures.graph (crew_through g c) (vec_capacity c.args.lines.now) c.requires.room
+    c.copy_lines.new.lines.items
+    c.sort_lines.new.lines.items (λ fits. c.copy_lines.ensures.lines (subst (λ us. length (flat_map lines_of us) ≤ vec_capacity c.args.lines.now)
+    (sym same) fits) ∙ ap (flat_map lines_of) same) c.sort_lines.ensures.permutation c.sort_lines.ensures.starts
+
+-- they are the journal
 told : (g : _) (c : goal.After-close-2 g) → IsOrdered c.args.tasks.now.tasks c.sort_lines.new.lines.items
     × (length c.sort_lines.new.lines.items ≡ task_count c.args.tasks.now.tasks)
 told g c =
-    let new = c.work.new.workers in
-    let same = c.as_slice.ensures.value ∙ back g c in
-    let done = c.close-2.ensures.whole (none_left g c) in
-    let t : AreThrough c.args.tasks.now.tasks new = through (worked g c) c.close-2.ensures.tells (c.close-2.ensures.done.0 done.0) in
-    let s : AreSortedLines new c.sort_lines.new.lines.items =
-    sorted (worked g c) c.journal_law.ensures.count c.loops.ensures.graph t (vec_capacity c.args.lines.now) c.requires.room c.copy_lines.new.lines.items
-    c.sort_lines.new.lines.items (λ fits. c.copy_lines.ensures.lines (subst (λ us. length (flat_map lines_of us) ≤ vec_capacity c.args.lines.now)
-    (sym same) fits) ∙ ap (flat_map lines_of) same) c.sort_lines.ensures.permutation c.sort_lines.ensures.starts in
-    c.journal_law.ensures.journal c.args.tasks.now.tasks new c.sort_lines.new.lines.items c.loops.ensures.graph t s
+    c.journal_law.ensures.journal c.args.tasks.now.tasks c.work.new.workers c.sort_lines.new.lines.items c.loops.ensures.graph (crew_through g c)
+    (crew_lines g c)
 
 pub returns-clause-exits : goal.returns-clause-exits
 returns-clause-exits g c =
@@ -120,3 +130,15 @@ returns-clause-journal g c = (told g c).0
 
 pub returns-clause-count : goal.returns-clause-count
 returns-clause-count g c = (told g c).1
+
+pub returns-clause-who : goal.returns-clause-who
+returns-clause-who g c =
+    let e = c.in-Ok-begin.ensures in
+    let b = c.in-Ok-begin.made.0 in
+    let ws = c.in-Ok-crew.crew in
+    let crew = c.in-Ok-crew.ensures.crew (name_of b) (about_of b) (e.tasks.1, e.workers ∙ sym e.count ∙ c.in-Ok-begin.made.1.ok.0, e.seats) in
+    let kept : map number_of c.work.new.workers ≡ map number_of ws.items =
+    c.work.ensures.numbers ∙ ap (map number_of) c.as_mut_slice.ensures.value in
+    let few = numbers_below c.args.workers ws.items c.work.new.workers kept (crew.count ∙ e.workers) crew.numbers in
+    All-permutation (λ (line : Line). line.worker < c.args.workers) (flat_map lines_of c.work.new.workers) c.sort_lines.new.lines.items
+    (crew_lines g c).permutation (who (worked g c) c.args.workers few (crew_through g c))

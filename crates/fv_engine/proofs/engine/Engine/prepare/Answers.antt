@@ -33,7 +33,9 @@ invariant_of-result c =
       rows = r.rows;
       held_long = let q = ap (λ (steps : List Step). length steps) c.held.ensures in
           omega (arith, q, c.len.ensures, c.in_ok-held.ensures.len, c.in_ok-held.held.ok.0);
-      crew = c.in_ok-crew.ensures;
+      crew = c.in_ok-crew.ensures.of_plan;
+      some_worker = c.requires.workers.0;
+      as_many = c.in_ok-crew.ensures.as_many;
       standing = record {
         graph = plan.0;
         plan = plan.1;

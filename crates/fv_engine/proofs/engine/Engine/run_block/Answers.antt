@@ -2,7 +2,7 @@ use Rattle.std.proofs.Common.{◌≡◌, ◌<◌, ℤ, List, length, map, refl, 
 use Rattle.std.specs.Global.{Vec}
 use Rattle.std.specs.Vec.{with_items}
 use Rattle.std.proofs.lemmas.List.{with_items_is}
-use Rattle.std.specs.Prelude.{IfSome}
+use Rattle.std.specs.Prelude.{ℕ, All, IfSome}
 use Rattle.std.proofs.lemmas.Option.{IfSome_then}
 use Rattle.fv_outside.specs.headline.Tasks.{Tasks, reads_loop}
 use Rattle.fv_outside.specs.Tasks.{task_count}
@@ -143,6 +143,8 @@ invariant_of-self g c =
           omega (arith, q, r, c.run-spread.ensures.runner.rows);
       held_long = ap length (held_is g b) ∙ many_held call;
       crew = crew_is g d.After-set_vectors c.run-spread.new.runner.tasks c.run-spread.ensures.runner.tasks;
+      some_worker = inv.some_worker;
+      as_many = inv.as_many;
       standing = still_standing call (block_is g b) c.run-spread.ensures.lanes c.run-spread.ensures.ran;
     }
 
@@ -175,8 +177,13 @@ returns-clause-told g c =
     let count : length c.deref-2.result.now ≡ task_count said =
     ap length c.deref-2.ensures.value ∙ counted call b same ran ∙ sym (ap task_count is_same) in
     let entry : BlockEntry = record { tasks = said; lines = c.deref-2.result.now } in
+    let by : List Line → ℕ → Type 0 = λ xs n. All (λ (line : Line). line.worker < n) xs in
+    let who : by c.deref-2.result.now c.args.self.now.workers =
+    subst (λ (x : EngineView). by c.deref-2.result.now x.workers) c.self.view_is
+    (subst (λ (x : List Line). by x inside.sizes.workers) (sym c.deref-2.ensures.value)
+    (c.run-spread.ensures.who inside.sizes.workers c.self.invariant.some_worker c.self.invariant.as_many)) in
     let is_entry : IsEntry c.args.self.now c.args.frames entry =
-    record { tasks = is_same ∙ ap (λ (x : EngineView). tasks_told x c.args.frames) c.self.view_is; ordered = in_order; counted = count } in
+    record { tasks = is_same ∙ ap (λ (x : EngineView). tasks_told x c.args.frames) c.self.view_is; ordered = in_order; counted = count; who = who } in
     IfSome_then (g.G.Gate.told c.block_done.new.self) c.block_done.ensures.entry (λ x h. (h.0, h.1, entry, is_entry, h.2, h.3))
 
 pub returns-clause-tasks : goal.returns-clause-tasks

@@ -118,3 +118,6 @@ returns-clause-left g c = λ is_false.
     (of_lanes (lent g o.After-deref_mut) (kept new.cells new.states) (c.run_spread.ensures.left is_false))) in
     let opened = opens_alike all l.shapes.items c.args.job.now.frames _ _ _ _ (λ i m. is_kept i (omega (arith, m, l.entries.0))) in
     ap₂ (λ (ls : List Lane) (cs : List (List ℤ)). record { lanes = ls; tables = tables; cells = cs }) opened (c.run_spread.ensures.lists_left is_false)
+
+pub returns-clause-who : goal.returns-clause-who
+returns-clause-who g c = λ is_true n workers i d l. let low = c.run_spread.ensures.who is_true i d l in omega (arith, low, workers)

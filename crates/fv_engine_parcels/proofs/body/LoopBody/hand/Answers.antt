@@ -1,11 +1,11 @@
-use Rattle.std.proofs.Common.{◌≡◌, ℕ, suc, ◌+◌, ◌-◌, ◌++◌, List, [], ◌∷◌, length, map, drop, get_or, subst, sym, refl, ap, ◌∙◌, arith}
+use Rattle.std.proofs.Common.{◌≡◌, ℕ, suc, ◌+◌, ◌-◌, ◌≤◌, vec_capacity, ◌++◌, List, [], ◌∷◌, length, map, drop, get_or, subst, sym, refl, ap, ◌∙◌, arith}
 use Rattle.std.specs.Prelude.{reverse, All, option_to_list}
 use Rattle.std.specs.Global.{Vec}
 use Rattle.std.proofs.lemmas.List.{length-append}
 use Rattle.fv_lines.specs.declared.seen.Seen.{Seen}
 use Rattle.fv_lines.specs.declared.writer.LaneWriter.{LaneWriter}
 use Rattle.fv_engine_lanes.specs.Plans.{own_lanes}
-use Rattle.fv_engine_parcels.specs.Contents.{AreWritersOf, AreRoomy, AreHandedOn}
+use Rattle.fv_engine_parcels.specs.Contents.{lanes_seen, list_room, AreWritersOf, AreRoomy, AreHandedOn}
 use Rattle.fv_engine_parcels.specs.declared.start.Start.{Start}
 use Rattle.fv_engine_parcels.specs.declared.content.Writers.{Writers}
 use Rattle.fv_engine_parcels.specs.declared.parcel.LoopParcel.{LoopParcel}
@@ -40,8 +40,8 @@ unwrap-list-requires c =
     subst (λ (w : Writers). AreHandedOn k j (v + 1) (n - 1 - i) w) (sym c.deref_mut.ensures.value) c.loop-i.invariant.writers in
     c.pop.ensures.variant.1 (omega (arith, h.lists, c.loop-i-test.true, ws.lists.ok))
 
-pub see-list-requires : goal.see-list-requires
-see-list-requires c =
+pub see-lanes-requires : goal.see-lanes-requires
+see-lanes-requires c =
     let k : Start = c.args.self.now.start in
     let j : ℕ = c.args.task.loop_no in
     let v : ℕ = c.args.task.vector in
@@ -53,11 +53,11 @@ see-list-requires c =
     subst (λ (w : Writers). AreHandedOn k j (v + 1) (n - 1 - i) w) (sym c.deref_mut.ensures.value) c.loop-i.invariant.writers in
     let list : Vec Seen = c.unwrap-list.result in
     let lists : List (Vec Seen) = c.pop.new.self.items in
-    let room : ℕ = length (own_lanes k.plan.now j) in
+    let room : ℕ = list_room (length (own_lanes k.plan.now j)) in
     let items : ws.lists.items ≡ lists ++ list ∷ [] = c.pop.ensures.items ∙ ap (λ o. lists ++ option_to_list o) c.unwrap-list.ensures in
     let t : Taken lists list room = taken lists list room (subst (λ (ls : List (Vec Seen)). AreRoomy ls room) items h.roomy) in
     let own : c.as_slice.result.now ≡ ws.lanes.own.items = c.as_slice.ensures.value ∙ ap (λ (w : Writers). w.lanes.own.items) c.deref.ensures in
-    (t.empty, omega (arith, t.roomy, ap length own, h.writers.count))
+    (t.empty, subst (λ (n : ℕ). list_room n ≤ vec_capacity list) (sym (ap length own ∙ h.writers.count)) t.roomy)
 
 pub new-parcel-requires : goal.new-parcel-requires
 new-parcel-requires c =
@@ -71,9 +71,9 @@ new-parcel-requires c =
     let h : AreHandedOn k j (v + 1) (n - 1 - i) ws =
     subst (λ (w : Writers). AreHandedOn k j (v + 1) (n - 1 - i) w) (sym c.deref_mut.ensures.value) c.loop-i.invariant.writers in
     let own : c.as_slice.result.now ≡ ws.lanes.own.items = c.as_slice.ensures.value ∙ ap (λ (w : Writers). w.lanes.own.items) c.deref.ensures in
-    content_seen k j v (get_or es (n - 1 - i) 0) c.see-list.result
+    content_seen k j v (get_or es (n - 1 - i) 0) c.see-lanes.result
     (c.requires.pairs (n - 1 - i) (omega (arith, c.loop-i-test.true)) (omega (arith, c.loop-i-test.true, c.requires.some)))
-    (seen_written k (own_lanes k.plan.now j) (v + 1) c.as_slice.result.now c.see-list.result.items c.see-list.ensures
+    (seen_written k (own_lanes k.plan.now j) (v + 1) c.as_slice.result.now (lanes_seen c.see-lanes.result) c.see-lanes.ensures
     (subst (λ (xs : List LaneWriter). AreWritersOf k (own_lanes k.plan.now j) (v + 1) xs) (sym own) h.writers))
 
 pub push_reserved-requires : goal.push_reserved-requires
@@ -93,7 +93,7 @@ loop-i-preserved c =
     subst (λ (w : Writers). AreHandedOn k j (v + 1) (n - 1 - i) w) (sym c.deref_mut.ensures.value) c.loop-i.invariant.writers in
     let list : Vec Seen = c.unwrap-list.result in
     let lists : List (Vec Seen) = c.pop.new.self.items in
-    let room : ℕ = length (own_lanes k.plan.now j) in
+    let room : ℕ = list_room (length (own_lanes k.plan.now j)) in
     let items : ws.lists.items ≡ lists ++ list ∷ [] = c.pop.ensures.items ∙ ap (λ o. lists ++ option_to_list o) c.unwrap-list.ensures in
     let t : Taken lists list room = taken lists list room (subst (λ (ls : List (Vec Seen)). AreRoomy ls room) items h.roomy) in
     let e : ℕ = get_or es (n - 1 - i) 0 in

@@ -1,14 +1,14 @@
--- The lists of a block.
+-- The lists that a block works in.
 use Rattle.std.specs.Prelude.{◌≡◌, ◌≤◌, [], length, vec_len}
 use Rattle.std.specs.Vec.{vec_capacity}
 use Rattle.fv_engine_spread.specs.Rooms.{AreRooms}
 use Rattle.fv_engine_crew.specs.declared.block.SpreadBlock.{SpreadBlock}
-use Rattle.fv_engine_crew.specs.declared.lists.Lists.{Lists}
+use Rattle.fv_engine_crew.specs.declared.buffers.Buffers.{Buffers}
 use Rattle.fv_engine_crew.specs.Spread.{tasks_of}
 
 -- The lists of the loops, and empty ones with room for what comes back, while the lanes are begun.
-pub record HaveRoom (b : SpreadBlock) (l : Lists) : Type 0 where
-  pub rooms : AreRooms b.plan.now (tasks_of b) b.cells.now l.rooms.items
+pub record HaveRoom (b : SpreadBlock) (l : Buffers) : Type 0 where
+  pub rooms : AreRooms b.plan.now (tasks_of b) b.places.now l.rooms.items
   pub no_entries : vec_len l.entries ≡ 0
   pub entries : b.plan.now.loops ≤ vec_capacity l.entries
   pub none_emptied : vec_len l.emptied ≡ 0
@@ -17,7 +17,7 @@ pub record HaveRoom (b : SpreadBlock) (l : Lists) : Type 0 where
   pub back : length b.plan.now.lanes ≤ vec_capacity l.back
 
 -- and before that, one with room for the lanes as they begin
-pub record AreEmpty (b : SpreadBlock) (l : Lists) : Type 0 where
+pub record AreEmpty (b : SpreadBlock) (l : Buffers) : Type 0 where
   pub others : HaveRoom b l
   pub none_begun : l.begun.items ≡ []
   pub begun : length b.plan.now.lanes ≤ vec_capacity l.begun

@@ -1,8 +1,8 @@
-// All lists of a block, taken before any lane is begun.
+// All lists that a block works in, taken before any lane is begun.
 
 ghost use Rattle.std.specs.Prelude.{IfOk};
 ghost use Rattle.fv_engine_crew.specs.Spread.{IsSpread};
-ghost use Rattle.fv_engine_crew.specs.inner.Lists.{AreEmpty};
+ghost use Rattle.fv_engine_crew.specs.inner.Buffers.{AreEmpty};
 
 use crate::block::SpreadBlock;
 use fv_engine_parcels::{LoopParcel, Writers};
@@ -13,7 +13,7 @@ use std::alloc::{AllocError, Global};
 /// The lists of each loop, and those for the lanes as they begin, for the parcels with which the loops begin, for the lists of the
 /// loops as they come back, and for the lanes as they come back.
 #[derive(Drop)]
-pub(crate) struct Lists<'a, 'b> {
+pub(crate) struct Buffers<'a, 'b> {
     pub(crate) rooms: Vec<Box<Writers<'a, 'b>>>,
     pub(crate) begun: Vec<LaneWriter<'a>>,
     pub(crate) entries: Vec<LoopParcel<'a, 'b>>,
@@ -22,21 +22,21 @@ pub(crate) struct Lists<'a, 'b> {
 }
 
 /// Takes them.
-pub(crate) fn take_lists<'a, 'b>(
+pub(crate) fn take_buffers<'a, 'b>(
     alloc: Global,
     block: &SpreadBlock<'b>,
-) -> Result<Lists<'a, 'b>, AllocError>
+) -> Result<Buffers<'a, 'b>, AllocError>
     requires { IsSpread block.now }
     ensures { IfOk result (λ l. AreEmpty block.now l) }
 {
     let loops = block.plan.loops() as usize;
     let lanes = block.shapes.len();
-    let rooms = take_room(alloc, block.plan, block.tasks, block.cells, block.counts)?;
+    let rooms = take_room(alloc, block.plan, block.tasks, block.places, block.counts)?;
     let begun = Vec::with_capacity(alloc, lanes)?;
     let entries = Vec::with_capacity(alloc, loops)?;
     let emptied = Vec::with_capacity(alloc, loops)?;
     let back = Vec::with_capacity(alloc, lanes)?;
-    Ok(Lists {
+    Ok(Buffers {
         rooms,
         begun,
         entries,

@@ -10,9 +10,9 @@ use Rattle.fv_engine_crew.proofs.Begun.{may_begin}
 use Rattle.fv_engine_crew.proofs.Chains.{chain_later}
 use Rattle.fv_engine_crew.proofs.Ended.{HaveEnded, are_held, as_before}
 use Rattle.fv_engine_crew.proofs.Leaving.{Handed, IsJournal, are_open, are_full, readable, ran}
-use Rattle.fv_engine_crew.proofs.lent.use_lists.Given.{Over}
-use Rattle.fv_engine_crew.proofs.lent.use_lists.Goals.{After-end-rest}
-use Rattle.fv_engine_crew.proofs.lent.use_lists.Goals as goal
+use Rattle.fv_engine_crew.proofs.lent.use_buffers.Given.{Over}
+use Rattle.fv_engine_crew.proofs.lent.use_buffers.Goals.{After-end-rest}
+use Rattle.fv_engine_crew.proofs.lent.use_buffers.Goals as goal
 
 -- the block as its lanes begin
 module _ (g : Over) (c : After-end-rest g) where
@@ -79,6 +79,7 @@ returns-in-Ok g c =
         output_is = refl;
         lists_are = refl;
         ran = λ yes. ran (handed g d) whole journal ended e.states e.samples;
+        who = λ yes. c.in-Ok.ensures.who;
         left = λ no. absurd (true≢false no);
         lists_left = λ no. absurd (true≢false no);
         untold = λ no. absurd (true≢false no);
@@ -109,6 +110,7 @@ returns-in-Err g c =
         output_is = refl;
         lists_are = refl;
         ran = λ yes. absurd (true≢false (sym yes ∙ c.requires.may.not_yet));
+        who = λ yes. absurd (true≢false (sym yes ∙ c.requires.may.not_yet));
         left = λ no. as_before ended e.states untouched;
         lists_left = λ no. c.in-Err.ensures.as_before;
         untold = λ no. c.in-Err.ensures.untold;
