@@ -29,7 +29,7 @@ use Rattle.fv_analysis.specs.headline.Stands.{node, StandsAt}
 use Rattle.fv_split_plan.proofs.FitsLemmas.{map_take, map_map, map_get}
 use Rattle.fv_split_code.proofs.ComputeLemmas.{some_inputs}
 use Rattle.fv_split_plan.specs.headline.Plans.{tables_alone}
-use Rattle.fv_split_code.specs.Held.{held_registers, ReadsWithin, HoldsUpTo, StepIs, HoldsNow, HoldsIf}
+use Rattle.fv_split_code.specs.Held.{held_registers, ReadsWithin, HoldsUpTo, IsSteady, StepIs, HoldsNow, HoldsIf}
 
 passed_push : (held input : ℕ → ℤ) (index : ℕ) (p : Pass) (xs : List Step) (x : Step) →
     passed held input index p (xs ++ x ∷ []) ≡ stepped held input index (passed held input index p xs) x
@@ -145,6 +145,21 @@ record MayHold (g : Graph) (n : ℕ) (x : Step) : Type 0 where
   inputs : (i : ℕ) → ¬ NamesInput (x ∷ []) i
   below : StepOperandsBelow n x
   reads : ReadsWithin g x
+
+-- the rate of signal s is that of its node
+rate_by : (g : Graph) → IsGraph g → (s : ℕ) → s < length g.signals → (n : Signal) → node g s ≡ n → rate_in (rate_of g) n ≡ rate.Sample → rate_of g s ≡ rate.Sample
+rate_by g graph s l n e r = rate_is g graph.ordered s (signal.Const (pos 0)) l ∙ ap (rate_in (rate_of g)) e ∙ r
+
+pub steady_node : (g : Graph) → IsGraph g → (s : ℕ) → s < length g.signals → (n : Signal) → node g s ≡ n → rate_of g s ≢ rate.Sample → IsSteady n
+steady_node g graph s l (signal.Input i) e slow = slow (rate_by g graph s l (signal.Input i) e refl)
+steady_node g graph s l (signal.Const n) e slow = tt
+steady_node g graph s l (signal.Control k) e slow = tt
+steady_node g graph s l (signal.Point op args) e slow = tt
+steady_node g graph s l (signal.Delay d w max) e slow = slow (rate_by g graph s l (signal.Delay d w max) e refl)
+steady_node g graph s l (signal.Back group i) e slow = slow (rate_by g graph s l (signal.Back group i) e refl)
+steady_node g graph s l (signal.Member group i) e slow = slow (rate_by g graph s l (signal.Member group i) e refl)
+steady_node g graph s l (signal.Read table r) e slow = tt
+steady_node g graph s l (signal.Write table w y r) e slow = slow (rate_by g graph s l (signal.Write table w y r) e refl)
 
 module _ (g : Graph) (graph : IsGraph g) (s : ℕ) (l : s < length g.signals) (numbers : List ℕ) (steps : List Step) (long : s < length numbers)
     (h : HoldsUpTo g s numbers steps) where
@@ -303,7 +318,7 @@ module _ (g : Graph) (graph : IsGraph g) (s : ℕ) (l : s < length g.signals) (n
   Held x = HoldsUpTo g (suc s) (set numbers s (length steps)) (steps ++ x ∷ [])
 
   no_rate : (n : Signal) → node g s ≡ n → rate_in (rate_of g) n ≡ rate.Sample → rate_of g s ≡ rate.Sample
-  no_rate n e r = rate_is g graph.ordered s (signal.Const (pos 0)) l ∙ ap (rate_in (rate_of g)) e ∙ r
+  no_rate n e r = rate_by g graph s l n e r
 
   holds_step : (n : Signal) (x : Step) → node g s ≡ n → rate_of g s ≢ rate.Sample → StepIs numbers n x → IsWhole x → Held x
   holds_step (signal.Input i) x e slow is whole = absurd (slow (no_rate (signal.Input i) e refl))

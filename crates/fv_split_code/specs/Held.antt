@@ -45,6 +45,18 @@ pub record HoldsUpTo (g : Graph) (s : ℕ) (numbers : List ℕ) (steps : List St
   pub reads : All (ReadsWithin g) steps
   pub ordered : AreOrdered steps
 
+-- the node of a held value is no input, delay, signal of a group or table that is written: these are of rate sample
+abbrev pub IsSteady : Signal → Type 0
+IsSteady (signal.Input i) = ⊥
+IsSteady (signal.Const n) = Unit {0}
+IsSteady (signal.Control k) = Unit {0}
+IsSteady (signal.Point op args) = Unit {0}
+IsSteady (signal.Delay d w max) = ⊥
+IsSteady (signal.Back group i) = ⊥
+IsSteady (signal.Member group i) = ⊥
+IsSteady (signal.Read table r) = Unit {0}
+IsSteady (signal.Write table w y r) = ⊥
+
 -- the step of a held value
 abbrev pub StepIs : (numbers : List ℕ) → Signal → Step → Type 0
 StepIs numbers (signal.Input i) x = Unit {0}

@@ -1,12 +1,13 @@
 // The code of held values.
 
-ghost use Rattle.std.specs.Prelude.{◌≡◌, ℕ, ◌<◌, length, map, All, IfOk, OnOk};
+ghost use Rattle.std.specs.Prelude.{◌≡◌, ◌≢◌, ℕ, ◌<◌, length, map, All, IfOk, OnOk};
 ghost use Rattle.fv_split_plan.specs.Reach.{at};
 ghost use Rattle.fv_signal.specs.headline.Value.{IsGraph};
 ghost use Rattle.fv_signal.specs.headline.Rates.{rates as rates_of};
 ghost use Rattle.fv_loopcode.specs.Code.{IsWhole};
 ghost use Rattle.fv_split_plan.specs.inner.Separated.{OperandsWithin};
-ghost use Rattle.fv_split_code.specs.Held.{StepIs, HoldsNow, HoldsIf, HoldsUpTo};
+ghost use Rattle.fv_split_code.specs.Held.{IsSteady, StepIs, HoldsNow, HoldsIf, HoldsUpTo};
+ghost use Rattle.fv_signal.specs.declared.rate.Rate.TheVariants.{Sample};
 
 use fv_analysis::Rates;
 use fv_loopcode::Step;
@@ -35,7 +36,8 @@ fn numbered(numbers: &[u64], args: [SignalId; 4]) -> [u64; 4]
 
 // The step of a held value.
 fn held_step(node: Signal, numbers: &[u64]) -> Step
-    requires { OperandsWithin (length numbers.now) node }
+    requires operands { OperandsWithin (length numbers.now) node }
+    requires steady { IsSteady node }
     ensures is { StepIs numbers.now node result }
     ensures whole { IsWhole result }
 {
@@ -46,10 +48,10 @@ fn held_step(node: Signal, numbers: &[u64]) -> Step
             op,
             args: numbered(numbers, args),
         },
-        Signal::Input(_) => Step::Number(0),
-        Signal::Delay { x: _, d: _, max: _ } => Step::Number(0),
-        Signal::Back { group: _, i: _ } => Step::Number(0),
-        Signal::Member { group: _, i: _ } => Step::Number(0),
+        Signal::Input(_) => unreachable!(),
+        Signal::Delay { x: _, d: _, max: _ } => unreachable!(),
+        Signal::Back { group: _, i: _ } => unreachable!(),
+        Signal::Member { group: _, i: _ } => unreachable!(),
         Signal::Read { table, r } => Step::Read {
             table,
             arg: numbers[r.number() as usize],
@@ -59,7 +61,7 @@ fn held_step(node: Signal, numbers: &[u64]) -> Step
             w: _,
             x: _,
             r: _,
-        } => Step::Number(0),
+        } => unreachable!(),
     }
 }
 
@@ -72,6 +74,7 @@ fn hold(
 ) -> Result<(), AllocError>
     requires signal { s < length numbers.old.items }
     requires operands { OperandsWithin (length numbers.old.items) node }
+    requires steady { IsSteady node }
     ensures { OnOk result (HoldsNow s node numbers.old.items steps.old.items numbers.new.items steps.new.items) }
 {
     let step = held_step(node, numbers);
@@ -90,6 +93,7 @@ fn hold_if(
 ) -> Result<(), AllocError>
     requires signal { s < length numbers.old.items }
     requires operands { OperandsWithin (length numbers.old.items) node }
+    requires steady { rate ≢ Sample → IsSteady node }
     ensures { OnOk result (HoldsIf s node rate numbers.old.items steps.old.items numbers.new.items steps.new.items) }
 {
     match rate {
