@@ -16,7 +16,7 @@ use Rattle.fv_split_plan.specs.headline.View.{code_of}
 use Rattle.fv_loopcode.specs.declared.step.Step.{Step}
 use Rattle.fv_loopcode.specs.Code.{IsWithin}
 use Rattle.fv_engine_lanes.specs.Plans.{own_lanes, lanes_of_all, sources_of, IsLocalCode}
-use Rattle.fv_engine_parcels.specs.Contents.{tasks_in, AreHandedOn, AreSeenOf, AreWritersOf, AreCellsOf, AreRoomy}
+use Rattle.fv_engine_parcels.specs.Contents.{tasks_in, list_room, AreHandedOn, AreSeenOf, AreWritersOf, AreCellsOf, AreRoomy}
 use Rattle.fv_engine_parcels.specs.inner.Turns.{Known, Before, IsPairFrom, IsChainAt}
 use Rattle.fv_engine_parcels.specs.declared.start.Start.{Start}
 use Rattle.fv_engine_parcels.specs.declared.content.Writers.{Writers}
@@ -255,7 +255,7 @@ hand-requires-clause-writers c =
           ∙ ap (λ (w : Writers). length w.rows.items) c.deref_mut-2.ensures.value ∙ now.rows;
       lists = omega
           (arith, now.lists, step, ap length out, length-map ks (λ (i : ℕ). pair_edge (tasks_in k) i v), ap (λ (l : Vec (Vec Seen)). length l.items) lists);
-      roomy = subst (λ (l : Vec (Vec Seen)). AreRoomy l.items (length own)) (sym lists) now.roomy;
+      roomy = subst (λ (l : Vec (Vec Seen)). AreRoomy l.items (list_room (length own))) (sym lists) now.roomy;
     }
 
 pub returns-clause-outward : goal.returns-clause-outward
