@@ -9,8 +9,9 @@ use Rattle.std.proofs.lemmas.Bool.{eqb-true}
 use Rattle.std.proofs.lemmas.Bool.Decides.{nat_tests}
 use Rattle.std.proofs.lemmas.Slice.Eq.{bytes_eq-Decides}
 use Rattle.std.proofs.lemmas.List.Sums.{split_at_first, passes_at_first}
-use Rattle.fv_top_words.specs.headline.Pieces.{Piece, Plain, Given, is_dashed, is_equals, Kind, Bare, Ends, Apart, Joined, kind_of, State, Any, Value}
-use Rattle.fv_top_words.specs.headline.Pieces.{Names, after_kind, state_after, kind_piece, piece_of, with_piece, cut}
+use Rattle.fv_top_words.specs.headline.Pieces.{Piece, Plain, Given, is_dashed, is_equals, in_front, cut}
+use Rattle.fv_top_words.specs.inner.Reader.{Kind, Bare, Ends, Apart, Joined, kind_of, State, Any, Value}
+use Rattle.fv_top_words.specs.inner.Reader.{Names, after_kind, state_after, kind_piece, piece_of, with_piece, pieces_from}
 use Rattle.fv_top_words.specs.Pieces.{IsOption, Cuts, nothing, plain, apart, joined, ended, AreCut}
 
 abbrev differs : ℕ → Bool
@@ -181,28 +182,28 @@ next_is Any w ws qs h = first_is (kind_of w) w ws qs (kind_is w) h
 next_is (Value name) w ws qs h = record { value = w; rest = ws; pieces = qs; words = refl; given = refl; cuts = h }
 next_is Names w ws qs h = ap (λ rest. Plain w ∷ rest) h
 
-holds_none : (s : State) (ps : List Piece) → cut s [] ≡ Some ps → Holds s [] ps
+holds_none : (s : State) (ps : List Piece) → pieces_from s [] ≡ Some ps → Holds s [] ps
 holds_none Any ps e = let none : [] ≡ ps = cc in subst (Cuts []) none nothing
 holds_none (Value name) ps e = absurd cc
 holds_none Names ps e = let none : [] ≡ ps = cc in sym none
 
-holds : (s : State) (ws : List (List ℕ)) (ps : List Piece) → cut s ws ≡ Some ps → Holds s ws ps
+holds : (s : State) (ws : List (List ℕ)) (ps : List Piece) → pieces_from s ws ≡ Some ps → Holds s ws ps
 holds s [] ps e = holds_none s ps e
 holds s (w ∷ ws) ps e =
-    let m = mapped (with_piece (piece_of s w)) (cut (state_after s w) ws) ps e in
+    let m = mapped (with_piece (piece_of s w)) (pieces_from (state_after s w) ws) ps e in
     subst (Holds s (w ∷ ws)) (sym m.2) (next_is s w ws m.0 (holds (state_after s w) ws m.0 m.1))
 
 -- and words with such pieces are cut into them
-cut_names : (ws : List (List ℕ)) → cut Names ws ≡ Some (map Plain ws)
+cut_names : (ws : List (List ℕ)) → pieces_from Names ws ≡ Some (map Plain ws)
 cut_names [] = refl
 cut_names (w ∷ ws) = ap (option_map (with_piece (Some (Plain w)))) (cut_names ws)
 
-cut_first : (k : Kind) (w : List ℕ) (ws : List (List ℕ)) (qs : List Piece) → Is k w → cut (after_kind k w) ws ≡ Some qs →
-    cut Any (w ∷ ws) ≡ Some (with_piece (kind_piece k w) qs)
+cut_first : (k : Kind) (w : List ℕ) (ws : List (List ℕ)) (qs : List Piece) → Is k w → pieces_from (after_kind k w) ws ≡ Some qs →
+    pieces_from Any (w ∷ ws) ≡ Some (with_piece (kind_piece k w) qs)
 cut_first k w ws qs is e =
-    ap (λ t. option_map (with_piece (kind_piece t w)) (cut (after_kind t w) ws)) (is_kind k w is) ∙ ap (option_map (with_piece (kind_piece k w))) e
+    ap (λ t. option_map (with_piece (kind_piece t w)) (pieces_from (after_kind t w) ws)) (is_kind k w is) ∙ ap (option_map (with_piece (kind_piece k w))) e
 
-cuts : (ws : List (List ℕ)) (ps : List Piece) → Cuts ws ps → cut Any ws ≡ Some ps
+cuts : (ws : List (List ℕ)) (ps : List Piece) → Cuts ws ps → pieces_from Any ws ≡ Some ps
 cuts ws ps nothing = refl
 cuts ws ps (plain w rest qs is h) = cut_first Bare w rest qs is (cuts rest qs h)
 cuts ws ps (apart name value rest qs is h) = cut_first Apart name (value ∷ rest) (Given name value ∷ qs) is (ap (option_map (with_piece (Some (Given name
@@ -215,5 +216,34 @@ cuts ws ps (joined name value rest qs whole dashed h) = cut_first (Joined name v
 }) (cuts rest qs h)
 cuts ws ps (ended rest) = cut_first Ends (codes "--") rest (map Plain rest) refl (cut_names rest)
 
+-- ---- read one after another, words are cut into the same
+
+-- what may stand next
+abbrev waits : Option (List ℕ) → State
+waits None = Any
+waits (Some name) = Value name
+
+-- no piece changes none
+unchanged : (o : Option (List Piece)) → option_map (with_piece None) o ≡ o
+unchanged None = refl
+unchanged (Some ps) = refl
+
+-- by what a first word is
+cut_by : (d b l : Bool) (w before after : List ℕ) (ws : List (List ℕ)) → ((o : Option (List ℕ)) → pieces_from (waits o) ws ≡ cut o ws) →
+    option_map (with_piece (kind_piece (tested d b l before after) w)) (pieces_from (after_kind (tested d b l before after) w) ws)
+    ≡ (if d then (if b then Some (map Plain ws) else (if l then in_front (Given before after) (cut None ws) else cut (Some w) ws))
+    else in_front (Plain w) (cut None ws))
+cut_by false b l w before after ws rest = ap (option_map (with_piece (Some (Plain w)))) (rest None)
+cut_by true true l w before after ws rest = ap (option_map (with_piece None)) (cut_names ws)
+cut_by true false true w before after ws rest = ap (option_map (with_piece (Some (Given before after)))) (rest None)
+cut_by true false false w before after ws rest = unchanged (pieces_from (Value w) ws) ∙ rest (Some w)
+
+pub cut_is : (o : Option (List ℕ)) (ws : List (List ℕ)) → pieces_from (waits o) ws ≡ cut o ws
+cut_is None [] = refl
+cut_is (Some name) [] = refl
+cut_is (Some name) (w ∷ ws) = ap (option_map (with_piece (Some (Given name w)))) (cut_is None ws)
+cut_is None (w ∷ ws) =
+    cut_by (is_dashed w) (bytes_eq w (codes "--")) (nat_lt (place w) (length w)) w (take (place w) w) (drop (place w + 1) w) ws (λ o. cut_is o ws)
+
 pub are_cut : AreCut
-are_cut ws ps = (holds Any ws ps, cuts ws ps)
+are_cut ws ps = (λ e. holds Any ws ps (cut_is None ws ∙ e), λ h. sym (cut_is None ws) ∙ cuts ws ps h)

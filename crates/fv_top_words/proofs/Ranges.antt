@@ -2,10 +2,11 @@
 use Rattle.std.proofs.Common.{◌≡◌, ℕ, ◌-◌, ◌^◌, ◌<◌, ◌≤◌, Bool, true, false, Option, Some, None, refl, subst, arith}
 use Rattle.std.specs.Prelude.{◌&&◌, nat_le, nat_lt, Result, Ok, Err, IfSome, if◌then◌else◌}
 use Rattle.std.proofs.lemmas.Bool.Decides.{nat_tests}
+use Rattle.fv_base.specs.declared.limits.TheConstants.{MOST_BLOCK, MOST_WORKERS, MOST_VECTORS}
 use Rattle.fv_top_words.specs.declared.cause.Cause.{Cause}
 use Rattle.fv_top_words.specs.declared.cause.Cause.TheVariants.{Range, Vectors}
-use Rattle.fv_top_words.specs.headline.Numbers.{Numbers}
-use Rattle.fv_top_words.specs.headline.Runs.{◌>>=◌, within, within_or, is_width, width, most_block, most_workers, most_vectors, default_vector, vectors_in, Settings, checked}
+use Rattle.fv_top_words.specs.headline.Numbers.{◌>>=◌, Numbers}
+use Rattle.fv_top_words.specs.headline.Runs.{within, within_or, is_width, width, default_vector, vectors_in, Settings, checked}
 use Rattle.fv_top_words.specs.Runs.{AreSound, KeepRanges}
 
 -- what came before an answer
@@ -44,9 +45,9 @@ passed_by : {A : Type 0} (b : Bool) (x y : A) → (if b then Err Vectors else Ok
 passed_by true x y e = absurd cc
 passed_by false x y e = (refl, cc)
 
-few : (s t : Settings) → checked s ≡ Ok t → (vectors_in s.block s.vector ≤ most_vectors) × (s ≡ t)
+few : (s t : Settings) → checked s ≡ Ok t → (vectors_in s.block s.vector ≤ MOST_VECTORS) × (s ≡ t)
 few s t e =
-    let p = passed_by (nat_lt most_vectors (vectors_in s.block s.vector)) s t e in
+    let p = passed_by (nat_lt MOST_VECTORS (vectors_in s.block s.vector)) s t e in
     let passed = p.0 in
     (grind (arith, nat_tests), p.1)
 
@@ -73,20 +74,20 @@ abbrev after_workers : Numbers → (block vector workers : ℕ) → Result Setti
 after_workers n block vector workers = width n.bits >>= after_bits n block vector workers
 
 abbrev after_vector : Numbers → (block vector : ℕ) → Result Settings Cause
-after_vector n block vector = within_or 1 most_workers 1 n.workers >>= after_workers n block vector
+after_vector n block vector = within_or 1 MOST_WORKERS 1 n.workers >>= after_workers n block vector
 
 abbrev after_block : Numbers → (block : ℕ) → Result Settings Cause
 after_block n block = within_or 1 block (default_vector block) n.vector >>= after_vector n block
 
 pub keep_ranges : KeepRanges
 keep_ranges n s e =
-    let b = bound (within_or 1 most_block 512 n.block) (after_block n) s e in
-    let block = within_or_is 1 most_block 512 b.0 n.block (omega arith) (omega arith) b.1 in
+    let b = bound (within_or 1 MOST_BLOCK 512 n.block) (after_block n) s e in
+    let block = within_or_is 1 MOST_BLOCK 512 b.0 n.block (omega arith) (omega arith) b.1 in
     let v = bound (within_or 1 b.0 (default_vector b.0) n.vector) (after_vector n b.0) s b.2 in
     let usual = default_is b.0 block.0 block.1 in
     let vector = within_or_is 1 b.0 (default_vector b.0) v.0 n.vector usual.0 usual.1 v.1 in
-    let w = bound (within_or 1 most_workers 1 n.workers) (after_workers n b.0 v.0) s v.2 in
-    let workers = within_or_is 1 most_workers 1 w.0 n.workers (omega arith) (omega arith) w.1 in
+    let w = bound (within_or 1 MOST_WORKERS 1 n.workers) (after_workers n b.0 v.0) s v.2 in
+    let workers = within_or_is 1 MOST_WORKERS 1 w.0 n.workers (omega arith) (omega arith) w.1 in
     let i = bound (width n.bits) (after_bits n b.0 v.0 w.0) s w.2 in
     let f = bound (within 0 (2 ^ 32 - 1) n.frames) (after_frames n b.0 v.0 w.0 i.0) s i.2 in
     let r = bound (within 1 (2 ^ 32 - 1) n.rate) (after_rate b.0 v.0 w.0 i.0 f.0) s f.2 in

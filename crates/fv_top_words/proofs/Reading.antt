@@ -2,10 +2,11 @@
 use Rattle.std.proofs.Common.{◌≡◌, ℕ, ◌<◌, List, ◌∷◌, Option, Some, None, length, map, drop, get_or, suc, refl, sym, ◌∙◌, ap, Global}
 use Rattle.std.specs.Prelude.{String, string_bytes, option_map, option_and_then}
 use Rattle.std.proofs.Math.Seq.{drop-cons}
-use Rattle.fv_top_words.specs.headline.Pieces.{Piece, with_piece, piece_of, state_after, cut}
+use Rattle.fv_top_words.specs.headline.Pieces.{Piece}
+use Rattle.fv_top_words.specs.inner.Reader.{with_piece, piece_of, state_after, pieces_from}
 use Rattle.fv_top_words.specs.headline.Texts.{Texts, take_piece, gathered}
 use Rattle.fv_top_words.specs.declared.texts.Reader.{Reader}
-use Rattle.fv_top_words.specs.Views.{Read, read_in, read_more, finished}
+use Rattle.fv_top_words.specs.Views.{Read, read_in, with_read, read_more, finished}
 
 no_answer : (o : Option Texts) → option_and_then (λ (t : Texts). let none : Option Texts = None in none) o ≡ None
 no_answer None = refl
@@ -17,17 +18,17 @@ and_then_map f g (Some x) = refl
 
 -- what pieces make of the texts, the first one taken
 gathered_more : (p : Option Piece) (t : Texts) (c : Option (List Piece)) →
-    option_and_then (gathered t) (option_map (with_piece p) c) ≡ option_and_then (λ u. option_and_then (gathered u) c) (take_piece p t)
+    option_and_then (gathered t) (option_map (with_piece p) c) ≡ option_and_then (λ u. option_and_then (gathered u) c) (with_read p t)
 gathered_more None t None = refl
 gathered_more None t (Some ps) = refl
-gathered_more (Some q) t None = sym (no_answer (take_piece (Some q) t))
+gathered_more (Some q) t None = sym (no_answer (take_piece q t))
 gathered_more (Some q) t (Some ps) = refl
 
 -- what the words make of those before, the first one read
 finished_more : (r : Read) (w : List ℕ) (ws : List (List ℕ)) → finished r (w ∷ ws) ≡ option_and_then (λ u. finished u ws) (read_more r w)
 finished_more r w ws =
-    gathered_more (piece_of r.state w) r.texts (cut (state_after r.state w) ws)
-    ∙ and_then_map (λ (t : Texts). record { state = state_after r.state w; texts = t }) (λ (u : Read). finished u ws) (take_piece (piece_of r.state w)
+    gathered_more (piece_of r.state w) r.texts (pieces_from (state_after r.state w) ws)
+    ∙ and_then_map (λ (t : Texts). record { state = state_after r.state w; texts = t }) (λ (u : Read). finished u ws) (with_read (piece_of r.state w)
     r.texts)
 
 -- and that of a list of words from a place on, where the word there was read

@@ -5,37 +5,37 @@ use Rattle.fv_top_words.specs.declared.cause.Cause.TheVariants.{Form, Number, Ra
 use Rattle.fv_top_words.specs.declared.manner.ProgramKind.TheVariants as program
 use Rattle.fv_top_words.specs.declared.manner.InputKind.TheVariants as input
 use Rattle.fv_top_words.specs.declared.manner.OutputKind.TheVariants as output
-use Rattle.fv_top_words.specs.headline.Pieces.{cut, Any, Plain, Given}
+use Rattle.fv_top_words.specs.headline.Pieces.{cut, Plain, Given}
 use Rattle.fv_top_words.specs.headline.Runs.{Settings, default_vector, wave_files}
-use Rattle.fv_top_words.specs.headline.Commands.{Command, Play, Check, Make, Checking, Making, command_of, job_in}
+use Rattle.fv_top_words.specs.headline.Commands.{Job, Playing, Checking, Making, job_in}
 
 -- of these words behind the program's own name
-abbrev asked : List (List ℕ) → Result Command Cause
-asked words = command_of (codes "faustvec" ∷ words)
+abbrev asked : List (List ℕ) → Result Job Cause
+asked words = job_in (codes "faustvec" ∷ words)
 
-abbrev run : List (List ℕ) → Result Command Cause
+abbrev run : List (List ℕ) → Result Job Cause
 run words = asked (codes "run" ∷ words)
 
 abbrev plain : Settings
 plain = record { block = 512; vector = 32; workers = 1; bits = None; frames = None; rate = None }
 
-abbrev from_file : Settings → Command
+abbrev from_file : Settings → Job
 from_file s =
-    Play (record { program = codes "p.dsp"; input = Some (codes "in.wav"); output = codes "o.wav"; controls = None; settings = s; manner = wave_files })
+    Playing (record { program = codes "p.dsp"; input = Some (codes "in.wav"); output = codes "o.wav"; controls = None; settings = s; manner = wave_files })
 
 -- ---- the commands
 
 defaults : run (codes "p.dsp" ∷ codes "in.wav" ∷ codes "o.wav" ∷ []) ≡ Ok (from_file plain)
 defaults = refl
 
-checks : asked (codes "check" ∷ codes "p.dsp" ∷ []) ≡ Ok (Check (codes "p.dsp"))
+checks : asked (codes "check" ∷ codes "p.dsp" ∷ []) ≡ Ok (Checking (codes "p.dsp"))
 checks = refl
 
-makes : asked (codes "make" ∷ codes "16" ∷ codes "32768" ∷ codes "1" ∷ []) ≡ Ok (Make 16 32768 1)
+makes : asked (codes "make" ∷ codes "16" ∷ codes "32768" ∷ codes "1" ∷ []) ≡ Ok (Making 16 32768 1)
 makes = refl
 
 au_files : asked (codes "au" ∷ codes "p.dsp" ∷ codes "in.au" ∷ codes "o.au" ∷ codes "--bits=8" ∷ [])
-    ≡ Ok (Play (record {
+    ≡ Ok (Playing (record {
       program = codes "p.dsp";
       input = Some (codes "in.au");
       output = codes "o.au";
@@ -47,7 +47,7 @@ au_files = refl
 
 -- the name counts byte by byte
 au_to_wave : asked (codes "au" ∷ codes "p.dsp" ∷ codes "in.wav" ∷ codes "o.AU" ∷ [])
-    ≡ Ok (Play (record {
+    ≡ Ok (Playing (record {
       program = codes "p.dsp";
       input = Some (codes "in.wav");
       output = codes "o.AU";
@@ -59,7 +59,7 @@ au_to_wave = refl
 
 -- a rack is a run but for what its program's file is
 racks : asked (codes "rack" ∷ codes "p.txt" ∷ codes "in.wav" ∷ codes "o.wav" ∷ [])
-    ≡ Ok (Play (record {
+    ≡ Ok (Playing (record {
       program = codes "p.txt";
       input = Some (codes "in.wav");
       output = codes "o.wav";
@@ -71,12 +71,12 @@ racks = refl
 
 -- ---- where options stand
 
-pieces : cut Any (codes "--block" ∷ codes "-8" ∷ codes "a" ∷ codes "--rate=1=2" ∷ codes "-" ∷ codes "--" ∷ codes "-b" ∷ codes "--" ∷ [])
+pieces : cut None (codes "--block" ∷ codes "-8" ∷ codes "a" ∷ codes "--rate=1=2" ∷ codes "-" ∷ codes "--" ∷ codes "-b" ∷ codes "--" ∷ [])
     ≡ Some (Given (codes "--block") (codes "-8") ∷ Plain (codes "a") ∷ Given (codes "--rate") (codes "1=2") ∷ Plain (codes "-") ∷ Plain (codes "-b") ∷ Plain
     (codes "--") ∷ [])
 pieces = refl
 
-no_value : cut Any (codes "a" ∷ codes "--block" ∷ []) ≡ None
+no_value : cut None (codes "a" ∷ codes "--block" ∷ []) ≡ None
 no_value = refl
 
 anywhere : run (codes "--block" ∷ codes "8" ∷ codes "p.dsp" ∷ codes "--vector=2" ∷ codes "in.wav" ∷ codes "o.wav" ∷ codes "--bits" ∷ codes "24" ∷ [])
@@ -84,7 +84,7 @@ anywhere : run (codes "--block" ∷ codes "8" ∷ codes "p.dsp" ∷ codes "--vec
 anywhere = refl
 
 no_input : run (codes "p.dsp" ∷ codes "-" ∷ codes "o.wav" ∷ codes "--frames=0" ∷ codes "--controls" ∷ codes "c.txt" ∷ [])
-    ≡ Ok (Play (record {
+    ≡ Ok (Playing (record {
       program = codes "p.dsp";
       input = None;
       output = codes "o.wav";
@@ -95,12 +95,12 @@ no_input : run (codes "p.dsp" ∷ codes "-" ∷ codes "o.wav" ∷ codes "--frame
 no_input = refl
 
 dashes_behind : run (codes "--" ∷ codes "-p" ∷ codes "in.wav" ∷ codes "--o" ∷ [])
-    ≡ Ok (Play (record { program = codes "-p"; input = Some (codes "in.wav"); output = codes "--o"; controls = None; settings = plain; manner = wave_files }))
+    ≡ Ok (Playing (record { program = codes "-p"; input = Some (codes "in.wav"); output = codes "--o"; controls = None; settings = plain; manner = wave_files }))
 dashes_behind = refl
 
 -- ---- causes, in their order
 
-abbrev with : List (List ℕ) → Result Command Cause
+abbrev with : List (List ℕ) → Result Job Cause
 with options = run (codes "p.dsp" ∷ codes "in.wav" ∷ codes "o.wav" ∷ options)
 
 twice : with (codes "--block=1" ∷ codes "--block=1" ∷ []) ≡ Err Form
@@ -154,16 +154,8 @@ short_block = refl
 long_block : default_vector 4096 ≡ 64
 long_block = refl
 
--- ---- what is enabled
-
-not_made : job_in (codes "faustvec" ∷ codes "make" ∷ codes "0" ∷ codes "x" ∷ codes "1" ∷ []) ≡ Err Number
+not_made : asked (codes "make" ∷ codes "0" ∷ codes "x" ∷ codes "1" ∷ []) ≡ Err Number
 not_made = refl
-
-made_of_one : job_in (codes "faustvec" ∷ codes "make" ∷ codes "1" ∷ codes "3" ∷ codes "1" ∷ []) ≡ Ok (Making 1 3)
-made_of_one = refl
-
-checked : job_in (codes "faustvec" ∷ codes "check" ∷ codes "p.dsp" ∷ []) ≡ Ok (Checking (codes "p.dsp"))
-checked = refl
 
 all_workers : with (codes "--workers=16" ∷ [])
     ≡ Ok (from_file (record { block = 512; vector = 32; workers = 16; bits = None; frames = None; rate = None }))

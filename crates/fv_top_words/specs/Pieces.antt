@@ -1,8 +1,8 @@
 -- What calls say beside `headline/Pieces`: the words behind the command word, cut into names and options (this project's profile).
 use Rattle.std.specs.Prelude.{◌≡◌, ◌≢◌, ℕ, true, false, not, List, []}
-use Rattle.std.specs.Prelude.{◌∷◌, ◌++◌, map, Some, codes}
+use Rattle.std.specs.Prelude.{◌∷◌, ◌++◌, map, Some, None, codes}
 use Rattle.std.specs.List.{list_all}
-use Rattle.fv_top_words.specs.headline.Pieces.{Piece, is_dashed, is_equals, cut, Any, Given, Plain}
+use Rattle.fv_top_words.specs.headline.Pieces.{Piece, is_dashed, is_equals, cut, Given, Plain}
 
 -- ---- what that means
 
@@ -24,4 +24,4 @@ pub data Cuts : List (List ℕ) → List Piece → Type 0 where
 
 -- Words are cut into just these pieces.
 abbrev pub AreCut : Type 0
-AreCut = (ws : List (List ℕ)) (ps : List Piece) → (cut Any ws ≡ Some ps → Cuts ws ps) × (Cuts ws ps → cut Any ws ≡ Some ps)
+AreCut = (ws : List (List ℕ)) (ps : List Piece) → (cut None ws ≡ Some ps → Cuts ws ps) × (Cuts ws ps → cut None ws ≡ Some ps)

@@ -1,5 +1,6 @@
 -- What the code's types mean.
-use Rattle.std.specs.Prelude.{ℕ, ◌≤◌, List, [], ◌∷◌, Option, Result, Ok, Err, option_map, option_and_then, option_copied}
+use Rattle.std.specs.Prelude.{ℕ, ◌≤◌, List, [], ◌∷◌, Option, Some, None, Result, Ok, Err, option_map, option_and_then, option_copied}
+use Rattle.fv_base.specs.declared.limits.TheConstants.{MOST_VOICES, MOST_WORKERS}
 use Rattle.fv_top_words.specs.declared.cause.Cause.{Cause}
 use Rattle.fv_top_words.specs.declared.word.Kind.{Kind as Kinds}
 use Rattle.fv_top_words.specs.declared.word.Kind.TheVariants as kinds
@@ -12,16 +13,15 @@ use Rattle.fv_top_words.specs.declared.texts.Reader.{Reader}
 use Rattle.fv_top_words.specs.declared.numbers.Numbers.{Numbers as Found}
 use Rattle.fv_top_words.specs.declared.settings.Settings.{Settings as How}
 use Rattle.fv_top_words.specs.declared.run.Run.{Run as Runs}
-use Rattle.fv_top_words.specs.declared.command.Command.{Command as Commands}
-use Rattle.fv_top_words.specs.declared.command.Command.TheVariants as commands
 use Rattle.fv_top_words.specs.declared.command.Job.{Job as Jobs}
 use Rattle.fv_top_words.specs.declared.command.Job.TheVariants as jobs
-use Rattle.fv_top_words.specs.headline.Pieces.{Kind, Bare, Ends, Apart, Joined, State, Any, Value, Names as NamesAlone, piece_of, state_after, cut}
+use Rattle.fv_top_words.specs.headline.Pieces.{Piece}
+use Rattle.fv_top_words.specs.inner.Reader.{Kind, Bare, Ends, Apart, Joined, State, Any, Value, Names as NamesAlone, piece_of, state_after, pieces_from}
 use Rattle.fv_top_words.specs.headline.Texts.{Texts, take_piece, gathered}
 use Rattle.fv_top_words.specs.headline.Numbers.{Numbers}
-use Rattle.fv_top_words.specs.headline.Runs.{Settings, Run, most_workers}
+use Rattle.fv_top_words.specs.headline.Runs.{Settings, Run}
 use Rattle.fv_top_words.specs.Runs.{AreSound}
-use Rattle.fv_top_words.specs.headline.Commands.{Command, Play, Check, Make, Job, Playing, Checking, Making, most_voices}
+use Rattle.fv_top_words.specs.headline.Commands.{Job, Playing, Checking, Making}
 
 -- the kind of a word
 abbrev pub kind_in : Kinds → Kind
@@ -66,19 +66,29 @@ pub record Read : Type 0 where
 abbrev pub read_in : Reader → Read
 read_in r = record { state = state_in r.state; texts = texts_in r.texts }
 
+-- with one piece more, if there is one
+abbrev pub with_read : Option Piece → Texts → Option Texts
+with_read None t = Some t
+with_read (Some p) t = take_piece p t
+
 -- with one word more
 abbrev pub read_more : Read → List ℕ → Option Read
-read_more r w = option_map (λ t. record { state = state_after r.state w; texts = t }) (take_piece (piece_of r.state w) r.texts)
+read_more r w = option_map (λ t. record { state = state_after r.state w; texts = t }) (with_read (piece_of r.state w) r.texts)
 
 -- what the words that are left make of those so far
 abbrev pub finished : Read → List (List ℕ) → Option Texts
-finished r ws = option_and_then (gathered r.texts) (cut r.state ws)
+finished r ws = option_and_then (gathered r.texts) (pieces_from r.state ws)
 
 -- ---- what was read
 
 -- the numbers of the options
 abbrev pub numbers_in : Found → Numbers
 numbers_in n = record { block = n.block; vector = n.vector; workers = n.workers; bits = n.bits; frames = n.frames; rate = n.rate }
+
+-- the same as an answer
+abbrev pub numbers_answered : Result Found Cause → Result Numbers Cause
+numbers_answered (Ok n) = Ok (numbers_in n)
+numbers_answered (Err e) = Err e
 
 -- how a run is done
 abbrev pub settings_in : How → Settings
@@ -109,32 +119,15 @@ run_answered (Err e) = Err e
 abbrev pub job_view : Jobs → Job
 job_view (jobs.Run run) = Playing (run_in run)
 job_view (jobs.Check program) = Checking program.now
-job_view (jobs.Make voices frames workers) = Making voices frames
+job_view (jobs.Make voices frames workers) = Making voices frames workers
 
 -- the same as an answer
 abbrev pub job_answered : Result Jobs Cause → Result Job Cause
 job_answered (Ok j) = Ok (job_view j)
 job_answered (Err e) = Err e
 
--- a command
-abbrev pub command_view : Commands → Command
-command_view (commands.Run run) = Play (run_in run)
-command_view (commands.Check program) = Check program.now
-command_view (commands.Make voices frames workers) = Make voices frames workers
-
--- a command's numbers are within their ranges: the settings of a run, and the voices and workers of a make
-abbrev pub IsInRange : Commands → Type 0
-IsInRange (commands.Run run) = AreSound (settings_in run.settings)
-IsInRange (commands.Check program) = Unit {0}
-IsInRange (commands.Make voices frames workers) = (1 ≤ voices) × (voices ≤ most_voices) × (1 ≤ workers) × (workers ≤ most_workers)
-
--- and so are those of what is asked for
+-- the numbers are within their ranges: the settings of a run, and the voices and workers of a make
 abbrev pub IsJobInRange : Jobs → Type 0
 IsJobInRange (jobs.Run run) = AreSound (settings_in run.settings)
 IsJobInRange (jobs.Check program) = Unit {0}
-IsJobInRange (jobs.Make voices frames workers) = (1 ≤ voices) × (voices ≤ most_voices) × (1 ≤ workers) × (workers ≤ most_workers)
-
--- the same as an answer
-abbrev pub command_answered : Result Commands Cause → Result Command Cause
-command_answered (Ok c) = Ok (command_view c)
-command_answered (Err e) = Err e
+IsJobInRange (jobs.Make voices frames workers) = (1 ≤ voices) × (voices ≤ MOST_VOICES) × (1 ≤ workers) × (workers ≤ MOST_WORKERS)

@@ -12,7 +12,7 @@ mod texts;
 mod word;
 
 pub use cause::Cause;
-pub use command::{Command, Job, job_in, read};
+pub use command::{Job, job_in};
 pub use laws::{settings_keep_ranges, words_are_cut};
 pub use manner::{InputKind, Manner, OutputKind, ProgramKind};
 pub use run::Run;

@@ -1,9 +1,10 @@
 // The numbers that words spell.
 
-ghost use Rattle.std.specs.Prelude.{◌≡◌, option_map, option_copied};
-ghost use Rattle.fv_top_words.specs.headline.Numbers.{number_of, number_if, numbers_of};
-ghost use Rattle.fv_top_words.specs.Views.{texts_in, numbers_in};
+ghost use Rattle.std.specs.Prelude.{◌≡◌, option_copied};
+ghost use Rattle.fv_top_words.specs.headline.Numbers.{number_in, number_if, numbers_of};
+ghost use Rattle.fv_top_words.specs.Views.{texts_in, numbers_answered};
 
+use crate::cause::Cause;
 use crate::texts::Texts;
 use fv_base::decimal_of;
 
@@ -18,11 +19,11 @@ pub struct Numbers {
     pub rate: Option<u64>,
 }
 
-/// The numbers that the texts of the options spell, or nothing where one spells none.
-pub fn numbers_of(texts: &Texts<'_>) -> Option<Numbers>
-    ensures { option_map numbers_in result ≡ numbers_of (texts_in texts.now) }
+/// The numbers that the texts of the options spell, if each spells one.
+pub fn numbers_of(texts: &Texts<'_>) -> Result<Numbers, Cause>
+    ensures { numbers_answered result ≡ numbers_of (texts_in texts.now) }
 {
-    Some(Numbers {
+    Ok(Numbers {
         block: number_if(texts.block)?,
         vector: number_if(texts.vector)?,
         workers: number_if(texts.workers)?,
@@ -33,21 +34,24 @@ pub fn numbers_of(texts: &Texts<'_>) -> Option<Numbers>
 }
 
 // The number of an option, where it is given.
-fn number_if(text: Option<&str>) -> Option<Option<u64>>
+fn number_if(text: Option<&str>) -> Result<Option<u64>, Cause>
     ensures { result ≡ number_if (option_copied text.entry) }
 {
     match text {
-        None => Some(None),
-        Some(word) => match number_of(word) {
-            None => None,
-            Some(n) => Some(Some(n)),
-        },
+        None => Ok(None),
+        Some(word) => {
+            let n = number_in(word)?;
+            Ok(Some(n))
+        }
     }
 }
 
-/// The number that the word spells: one to ten digits.
-pub fn number_of(word: &str) -> Option<u64>
-    ensures { result ≡ number_of word.now }
+/// The number that a word has to spell: one to ten digits.
+pub fn number_in(word: &str) -> Result<u64, Cause>
+    ensures { result ≡ number_in word.now }
 {
-    decimal_of(word.as_bytes())
+    match decimal_of(word.as_bytes()) {
+        None => Err(Cause::Number),
+        Some(n) => Ok(n),
+    }
 }

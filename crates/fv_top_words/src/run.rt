@@ -45,9 +45,7 @@ pub fn run_of<'a>(texts: &Texts<'a>) -> Result<Run<'a>, Cause>
     let Plain::Three(program, input, output) = texts.plain else {
         return Err(Cause::Form);
     };
-    let Some(numbers) = numbers_of(texts) else {
-        return Err(Cause::Number);
-    };
+    let numbers = numbers_of(texts)?;
     let settings = settings_of(&numbers)?;
     if is_together(input, &settings) {
         return Err(Cause::Together);

@@ -1,7 +1,7 @@
 // The plain words and the values of the options, as they are spelled.
 
 ghost use Rattle.std.specs.Prelude.{◌≡◌, map, string_bytes, option_map, option_copied};
-ghost use Rattle.fv_top_words.specs.headline.Pieces.{Any as any_word};
+ghost use Rattle.fv_top_words.specs.inner.Reader.{Any as any_word};
 ghost use Rattle.fv_top_words.specs.headline.Texts.{add, put, row, once, texts_of, no_texts};
 ghost use Rattle.fv_top_words.specs.Views.{texts_in, read_in, read_more};
 

@@ -1,7 +1,8 @@
 // One word.
 
 ghost use Rattle.std.specs.Prelude.{◌≡◌};
-ghost use Rattle.fv_top_words.specs.headline.Pieces.{kind_of, is_dashed, option_kind};
+ghost use Rattle.fv_top_words.specs.headline.Pieces.{is_dashed};
+ghost use Rattle.fv_top_words.specs.inner.Reader.{kind_of, option_kind};
 ghost use Rattle.fv_top_words.specs.Views.{kind_in};
 
 /// What a word is, where options may stand.

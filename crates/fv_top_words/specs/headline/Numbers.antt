@@ -1,22 +1,24 @@
 -- The numbers that words spell (this project's profile).
-use Rattle.std.specs.Prelude.{ℕ, List, Option, Some, None, option_map}
+use Rattle.std.specs.Prelude.{ℕ, List, Option, Some, None, Result, Ok, Err}
 use Rattle.fv_base.specs.headline.Digits.{decimal_of}
+use Rattle.fv_top_words.specs.declared.cause.Cause.{Cause}
+use Rattle.fv_top_words.specs.declared.cause.Cause.TheVariants.{Number}
 use Rattle.fv_top_words.specs.headline.Texts.{Texts}
 
--- the number that a word spells
-abbrev pub number_of : List ℕ → Option ℕ
-number_of w = decimal_of w
-
--- what follows from a value that is there
+-- what follows from an answer
 infixl 10 ◌>>=◌
-abbrev pub ◌>>=◌ : {A B : Type 0} → Option A → (A → Option B) → Option B
-None >>= f = None
-(Some x) >>= f = f x
+abbrev pub ◌>>=◌ : {A B : Type 0} → Result A Cause → (A → Result B Cause) → Result B Cause
+(Ok x) >>= f = f x
+(Err e) >>= f = Err e
+
+-- a word that has to spell a number
+abbrev pub number_in : List ℕ → Result ℕ Cause
+number_in w = elim (decimal_of w) [ None ↦ Err Number | Some n ↦ Ok n ]
 
 -- the number of an option, where it is given
-abbrev pub number_if : Option (List ℕ) → Option (Option ℕ)
-number_if None = Some None
-number_if (Some w) = option_map Some (number_of w)
+abbrev pub number_if : Option (List ℕ) → Result (Option ℕ) Cause
+number_if None = Ok None
+number_if (Some w) = number_in w >>= λ n. Ok (Some n)
 
 -- the numbers of the options that are given
 pub record Numbers : Type 0 where
@@ -27,8 +29,8 @@ pub record Numbers : Type 0 where
   pub frames : Option ℕ
   pub rate : Option ℕ
 
--- the numbers that the texts spell, or nothing where one spells none
-abbrev pub numbers_of : Texts → Option Numbers
+-- the numbers that the texts spell, if each spells one
+abbrev pub numbers_of : Texts → Result Numbers Cause
 numbers_of t = do
   block ← number_if t.block
   vector ← number_if t.vector
@@ -36,4 +38,4 @@ numbers_of t = do
   bits ← number_if t.bits
   frames ← number_if t.frames
   rate ← number_if t.rate
-  Some (record { block = block; vector = vector; workers = workers; bits = bits; frames = frames; rate = rate })
+  Ok (record { block = block; vector = vector; workers = workers; bits = bits; frames = frames; rate = rate })

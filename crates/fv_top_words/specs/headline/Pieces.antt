@@ -1,14 +1,12 @@
 -- The words behind the command word, cut into names and options (this project's profile).
 use Rattle.std.specs.Prelude.{ℕ, Bool, false, ◌==◌, nat_lt, List, []}
-use Rattle.std.specs.Prelude.{◌∷◌, length, Option, Some, None, option_map, bytes_eq, codes, if◌then◌else◌}
+use Rattle.std.specs.Prelude.{◌∷◌, map, length, Option, Some, None, option_map, bytes_eq, codes, if◌then◌else◌}
 use Rattle.std.specs.List.{position_or_len, before_first, after_first}
 
 -- a file's name or a number, or an option with its value
 pub data Piece : Type 0 where
   Plain : (word : List ℕ) → Piece
   Given : (name value : List ℕ) → Piece
-
--- ---- one word
 
 -- it begins with a dash, and is more than that
 abbrev pub is_dashed : List ℕ → Bool
@@ -20,67 +18,22 @@ is_dashed (b ∷ c ∷ w) = b == 45
 abbrev pub is_equals : ℕ → Bool
 is_equals b = b == 61
 
--- what a word is, where options may stand: plain, the end of the options, an option whose value is the next word, or one with its value
-pub data Kind : Type 0 where
-  Bare : Kind
-  Ends : Kind
-  Apart : Kind
-  Joined : (name value : List ℕ) → Kind
+-- one of its bytes is `=`
+abbrev pub has_equals : List ℕ → Bool
+has_equals w = nat_lt (position_or_len is_equals w) (length w)
 
--- an option is cut at its first `=`
-abbrev pub option_kind : List ℕ → Kind
-option_kind w = if nat_lt (position_or_len is_equals w) (length w) then Joined (before_first is_equals w) (after_first is_equals w) else Apart
+-- a piece in front of those behind it
+abbrev pub in_front : Piece → Option (List Piece) → Option (List Piece)
+in_front p behind = option_map (λ ps. p ∷ ps) behind
 
--- what the word is
-abbrev pub kind_of : List ℕ → Kind
-kind_of w = if is_dashed w then (if bytes_eq w (codes "--") then Ends else option_kind w) else Bare
-
--- ---- all of them
-
--- what may stand next: anything, the value of an option, or names alone
-pub data State : Type 0 where
-  Any : State
-  Value : (name : List ℕ) → State
-  Names : State
-
--- what may stand behind a word of this kind
-abbrev pub after_kind : Kind → List ℕ → State
-after_kind Bare w = Any
-after_kind Ends w = Names
-after_kind Apart w = Value w
-after_kind (Joined name value) w = Any
-
--- what may stand behind this word
-abbrev pub state_after : State → List ℕ → State
-state_after Any w = after_kind (kind_of w) w
-state_after (Value name) w = Any
-state_after Names w = Names
-
--- the piece that a word of this kind is
-abbrev pub kind_piece : Kind → List ℕ → Option Piece
-kind_piece Bare w = Some (Plain w)
-kind_piece Ends w = None
-kind_piece Apart w = None
-kind_piece (Joined name value) w = Some (Given name value)
-
--- the piece that ends with this word
-abbrev pub piece_of : State → List ℕ → Option Piece
-piece_of Any w = kind_piece (kind_of w) w
-piece_of (Value name) w = Some (Given name w)
-piece_of Names w = Some (Plain w)
-
--- the pieces of no more words
-abbrev pub pieces_so_far : State → Option (List Piece)
-pieces_so_far Any = Some []
-pieces_so_far (Value name) = None
-pieces_so_far Names = Some []
-
--- the piece in front of those behind it, if there is one
-abbrev pub with_piece : Option Piece → List Piece → List Piece
-with_piece None ps = ps
-with_piece (Some p) ps = p ∷ ps
-
--- the pieces of the words, or nothing where the last option has no value
-abbrev pub cut : State → List (List ℕ) → Option (List Piece)
-cut s [] = pieces_so_far s
-cut s (w ∷ ws) = option_map (with_piece (piece_of s w)) (cut (state_after s w) ws)
+-- The pieces of the words, of which the first may be the value of an option; or nothing where the last option has no value. Behind
+-- `--` all are plain; an option with `=` has its value behind the first one, and any other in the next word.
+abbrev pub cut : (option : Option (List ℕ)) → List (List ℕ) → Option (List Piece)
+cut None [] = Some []
+cut (Some name) [] = None
+cut (Some name) (w ∷ ws) = in_front (Given name w) (cut None ws)
+cut None (w ∷ ws) =
+    if is_dashed w then (if bytes_eq w (codes "--") then Some (map Plain ws)
+    else (if has_equals w then in_front (Given (before_first is_equals w) (after_first is_equals w)) (cut None ws)
+    else cut (Some w) ws))
+    else in_front (Plain w) (cut None ws)

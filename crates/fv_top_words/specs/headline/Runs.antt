@@ -4,20 +4,14 @@ use Rattle.std.specs.Prelude.{nat_lt, List, [], ◌∷◌, Option, Some, None, i
 use Rattle.std.specs.List.{ends_with}
 use Rattle.fv_base.specs.declared.limits.TheConstants.{MOST_BLOCK, MOST_VECTORS, MOST_WORKERS}
 use Rattle.fv_top_words.specs.declared.cause.Cause.{Cause}
-use Rattle.fv_top_words.specs.declared.cause.Cause.TheVariants.{Form, Number, Range, Vectors, Together, Same}
+use Rattle.fv_top_words.specs.declared.cause.Cause.TheVariants.{Form, Range, Vectors, Together, Same}
 use Rattle.fv_top_words.specs.declared.manner.Manner.{Manner}
 use Rattle.fv_top_words.specs.declared.manner.ProgramKind.TheVariants as program
 use Rattle.fv_top_words.specs.declared.manner.InputKind.TheVariants as input
 use Rattle.fv_top_words.specs.declared.manner.OutputKind.{OutputKind}
 use Rattle.fv_top_words.specs.declared.manner.OutputKind.TheVariants as output
 use Rattle.fv_top_words.specs.headline.Texts.{Texts}
-use Rattle.fv_top_words.specs.headline.Numbers.{Numbers, numbers_of}
-
--- what follows from an answer
-infixl 10 ◌>>=◌
-abbrev pub ◌>>=◌ : {A B : Type 0} → Result A Cause → (A → Result B Cause) → Result B Cause
-(Ok x) >>= f = f x
-(Err e) >>= f = Err e
+use Rattle.fv_top_words.specs.headline.Numbers.{◌>>=◌, Numbers, numbers_of}
 
 -- a number that is given is in its range
 abbrev pub within : (least most : ℕ) → Option ℕ → Result (Option ℕ) Cause
@@ -38,18 +32,6 @@ abbrev pub width : Option ℕ → Result (Option ℕ) Cause
 width None = Ok None
 width (Some n) = if is_width n then Ok (Some n) else Err Range
 
--- the most frames of a block
-abbrev pub most_block : ℕ
-most_block = MOST_BLOCK
-
--- the most threads that work: one, until blocks are shared out
-abbrev pub most_workers : ℕ
-most_workers = MOST_WORKERS
-
--- in one block there are so many vectors at most
-abbrev pub most_vectors : ℕ
-most_vectors = MOST_VECTORS
-
 -- the vector of a block: the whole of a short one, else at least 32 frames and no more vectors than a block may have
 abbrev pub default_vector : ℕ → ℕ
 default_vector block = if nat_lt block 32 then block else max 32 ((block + 63) / 64)
@@ -68,14 +50,14 @@ pub record Settings : Type 0 where
 
 -- first each number in its range, then the number of vectors
 abbrev pub checked : Settings → Result Settings Cause
-checked s = if nat_lt most_vectors (vectors_in s.block s.vector) then Err Vectors else Ok s
+checked s = if nat_lt MOST_VECTORS (vectors_in s.block s.vector) then Err Vectors else Ok s
 
 -- how a run is done, each number in its range, or the first cause to refuse it
 abbrev pub settings_of : Numbers → Result Settings Cause
 settings_of n = do
-  block ← within_or 1 most_block 512 n.block
+  block ← within_or 1 MOST_BLOCK 512 n.block
   vector ← within_or 1 block (default_vector block) n.vector
-  workers ← within_or 1 most_workers 1 n.workers
+  workers ← within_or 1 MOST_WORKERS 1 n.workers
   bits ← width n.bits
   frames ← within 0 (2 ^ 32 - 1) n.frames
   rate ← within 1 (2 ^ 32 - 1) n.rate
@@ -133,14 +115,12 @@ run_with program input output controls s =
     else (if is_same program input output controls then Err Same
     else Ok (record { program = program; input = input_of input; output = output; controls = controls; settings = s; manner = wave_files }))
 
--- a run with these numbers, if its options spell some
-abbrev pub run_on : (program input output : List ℕ) → (controls : Option (List ℕ)) → Option Numbers → Result Run Cause
-run_on program input output controls None = Err Number
-run_on program input output controls (Some n) = settings_of n >>= run_with program input output controls
-
 -- PROGRAM INPUT OUTPUT, and options
 abbrev pub run_named : List (List ℕ) → Texts → Result Run Cause
-run_named (program ∷ input ∷ output ∷ []) t = run_on program input output t.controls (numbers_of t)
+run_named (program ∷ input ∷ output ∷ []) t = do
+  numbers ← numbers_of t
+  settings ← settings_of numbers
+  run_with program input output t.controls settings
 run_named _ t = Err Form
 
 -- the run that its texts ask for, or the first cause to refuse them

@@ -1,7 +1,7 @@
 -- The plain words of a command and the values of its options, as they are spelled (this project's profile).
 use Rattle.std.specs.Prelude.{ℕ, Bool, true, false, nat_lt, List, [], ◌∷◌, ◌++◌}
 use Rattle.std.specs.Prelude.{length, Option, Some, None, option_map, option_and_then, bytes_eq, codes, if◌then◌else◌}
-use Rattle.fv_top_words.specs.headline.Pieces.{Piece, Plain, Given, Any, cut}
+use Rattle.fv_top_words.specs.headline.Pieces.{Piece, Plain, Given, cut}
 
 pub record Texts : Type 0 where
   pub plain : List (List ℕ)
@@ -44,16 +44,15 @@ abbrev pub put : (name value : List ℕ) → Texts → Option Texts
 put name value t = row name value (record t { has_options = true })
 
 -- with one piece more
-abbrev pub take_piece : Option Piece → Texts → Option Texts
-take_piece None t = Some t
-take_piece (Some (Plain w)) t = add w t
-take_piece (Some (Given name value)) t = put name value t
+abbrev pub take_piece : Piece → Texts → Option Texts
+take_piece (Plain w) t = add w t
+take_piece (Given name value) t = put name value t
 
 -- with these pieces more, if each is allowed
 abbrev pub gathered : Texts → List Piece → Option Texts
 gathered t [] = Some t
-gathered t (p ∷ ps) = option_and_then (λ u. gathered u ps) (take_piece (Some p) t)
+gathered t (p ∷ ps) = option_and_then (λ u. gathered u ps) (take_piece p t)
 
 -- the texts of the words behind the command word, or nothing where they are of no form
 abbrev pub texts_of : List (List ℕ) → Option Texts
-texts_of ws = option_and_then (gathered no_texts) (cut Any ws)
+texts_of ws = option_and_then (gathered no_texts) (cut None ws)
