@@ -1,11 +1,12 @@
 // One row for each refusal: what its line says, and the exit status.
 
 ghost use Rattle.std.specs.Prelude.{◌≡◌, [], ◌∷◌, decimal};
-ghost use Rattle.fv_top_report.specs.headline.Lines.{role_word, cause_word, kind_word, table_word, text_status, row as row_shown, row_of};
+ghost use Rattle.fv_top_report.specs.headline.Lines.{role_word, cause_word, kind_word, table_word, row as row_shown, row_of};
+ghost use Rattle.fv_top_report.specs.headline.Lines.{text_status, program_status, file_status};
 ghost use Rattle.fv_top_report.specs.Fields.{listed, shown};
 
 use crate::line::{Field, Fields, Row, integer, natural, pair, place, text};
-use crate::refusal::Refusal;
+use crate::refusal::{Refusal, Refusal as No};
 use fv_arity::ArityKind;
 use fv_outside::Role;
 use fv_rules::TableCause;
@@ -31,165 +32,79 @@ impl Refusal {
     pub fn row(&self) -> Row<'_>
         ensures { row_of self.now ≡ shown result }
     {
-        match self {
-            Refusal::Usage { cause } => row(1, USAGE, "Usage", text(cause_name(*cause).as_bytes())),
-            Refusal::ReadFault { role } => row(
-                2,
-                FAULT,
-                "ReadFault",
-                text(role_name(*role).as_bytes()),
-            ),
-            Refusal::WriteFault { role } => row(
-                3,
-                FAULT,
-                "WriteFault",
-                text(role_name(*role).as_bytes()),
-            ),
-            Refusal::TextTooLong { role } => row(
-                4,
-                text_status(*role),
-                "TextTooLong",
-                text(role_name(*role).as_bytes()),
-            ),
-            Refusal::BadByte { line, column } => row(5, PROGRAM, "BadByte", place(*line, *column)),
-            Refusal::Unclosed { line, column } => row(
-                6,
-                PROGRAM,
-                "Unclosed",
-                place(*line, *column),
-            ),
-            Refusal::RealLiteral { line, column } => row(
-                7,
-                PROGRAM,
-                "RealLiteral",
-                place(*line, *column),
-            ),
-            Refusal::LiteralTooLarge { line, column } => row(
-                8,
-                PROGRAM,
-                "LiteralTooLarge",
-                place(*line, *column),
-            ),
-            Refusal::Syntax { line, column } => row(9, PROGRAM, "Syntax", place(*line, *column)),
-            Refusal::Unsupported { word } => row(10, PROGRAM, "Unsupported", text(word.bytes())),
-            Refusal::Redefined { name } => row(11, PROGRAM, "Redefined", text(name.bytes())),
-            Refusal::RepeatedName { name } => row(12, PROGRAM, "RepeatedName", text(name.bytes())),
-            Refusal::RuleWidths { line, column } => row(
-                13,
-                PROGRAM,
-                "RuleWidths",
-                place(*line, *column),
-            ),
-            Refusal::NoProcess => row(14, PROGRAM, "NoProcess", Fields::None),
-            Refusal::SizeBudget { size } => row(
-                15,
-                PROGRAM,
-                "SizeBudget",
-                natural(u64::from(*size)),
-            ),
-            Refusal::Arity { kind, left, right } => row(
-                16,
-                PROGRAM,
-                "Arity",
-                arity(*kind, *left, *right),
-            ),
-            Refusal::UnknownName { name } => row(17, PROGRAM, "UnknownName", text(name.bytes())),
-            Refusal::NotANumber { line, column } => row(
-                18,
-                PROGRAM,
-                "NotANumber",
-                place(*line, *column),
-            ),
-            Refusal::IterationCount { count } => row(
-                19,
-                PROGRAM,
-                "IterationCount",
-                integer(*count),
-            ),
-            Refusal::NoRule { line, column } => row(20, PROGRAM, "NoRule", place(*line, *column)),
-            Refusal::NotADiagram { line, column } => row(
-                21,
-                PROGRAM,
-                "NotADiagram",
-                place(*line, *column),
-            ),
-            Refusal::TooManyArguments { given, inputs } => row(
-                22,
-                PROGRAM,
-                "TooManyArguments",
-                pair(*given, *inputs),
-            ),
-            Refusal::EvalBudget => row(23, PROGRAM, "EvalBudget", Fields::None),
-            Refusal::ControlClash { label } => row(
-                24,
-                PROGRAM,
-                "ControlClash",
-                text(label.bytes()),
-            ),
-            Refusal::ControlBounds { label } => row(
-                25,
-                PROGRAM,
-                "ControlBounds",
-                text(label.bytes()),
-            ),
-            Refusal::DelayNegative { least } => row(26, PROGRAM, "DelayNegative", integer(*least)),
-            Refusal::DelayTooLong { greatest } => row(
-                27,
-                PROGRAM,
-                "DelayTooLong",
-                integer(*greatest),
-            ),
-            Refusal::DelayBudget { sum } => row(28, PROGRAM, "DelayBudget", natural(*sum)),
-            Refusal::Channels { have, want } => row(
-                29,
-                PROGRAM,
-                "Channels",
-                pair(u64::from(*have), u64::from(*want)),
-            ),
-            Refusal::ControlLine { line } => row(
-                30,
-                FILE,
-                "ControlLine",
-                natural(u64::from(*line)),
-            ),
-            Refusal::ControlUnknown { line } => row(
-                31,
-                FILE,
-                "ControlUnknown",
-                natural(u64::from(*line)),
-            ),
-            Refusal::ControlRange { line } => row(
-                32,
-                FILE,
-                "ControlRange",
-                natural(u64::from(*line)),
-            ),
-            Refusal::ControlOrder { line } => row(
-                33,
-                FILE,
-                "ControlOrder",
-                natural(u64::from(*line)),
-            ),
-            Refusal::NotWave { place } => row(34, FILE, "NotWave", natural(*place)),
-            Refusal::WaveTruncated { place } => row(35, FILE, "WaveTruncated", natural(*place)),
-            Refusal::WaveFormat { place } => row(36, FILE, "WaveFormat", natural(*place)),
-            Refusal::WaveChunks { place } => row(37, FILE, "WaveChunks", natural(*place)),
-            Refusal::OutputTooLong { bytes } => row(38, FILE, "OutputTooLong", natural(*bytes)),
-            Refusal::FramesNeeded => row(39, USAGE, "FramesNeeded", Fields::None),
-            Refusal::NoMemory => row(40, MEMORY, "NoMemory", Fields::None),
-            Refusal::TableForm { cause } => row(
-                41,
-                PROGRAM,
-                "TableForm",
-                text(table_name(*cause).as_bytes()),
-            ),
-            Refusal::TableBudget { sum } => row(42, PROGRAM, "TableBudget", natural(*sum)),
-            Refusal::Nesting { line, column } => row(43, PROGRAM, "Nesting", place(*line, *column)),
-            Refusal::AuFormat { place } => row(44, FILE, "AuFormat", natural(*place)),
-            Refusal::AuTruncated { place } => row(45, FILE, "AuTruncated", natural(*place)),
-            Refusal::Job { job, number } => row(46, PROGRAM, "Job", pair(*job, u64::from(*number))),
-            Refusal::RackSize { jobs } => row(47, PROGRAM, "RackSize", natural(*jobs)),
-        }
+        row_of(self)
+    }
+}
+
+// The table: the number, the name and the fields of each.
+fn row_of(refusal: &Refusal) -> Row<'_>
+    ensures { row_of refusal.now ≡ shown result }
+{
+    match refusal {
+        No::Usage { cause } => row(1, USAGE, "Usage", word(cause_name(*cause))),
+        No::ReadFault { role } => row(2, FAULT, "ReadFault", word(role_name(*role))),
+        No::WriteFault { role } => row(3, FAULT, "WriteFault", word(role_name(*role))),
+        No::TextTooLong { role } => row(
+            4,
+            text_status(*role),
+            "TextTooLong",
+            word(role_name(*role)),
+        ),
+        No::BadByte { line, column } => program(5, "BadByte", place(*line, *column)),
+        No::Unclosed { line, column } => program(6, "Unclosed", place(*line, *column)),
+        No::RealLiteral { line, column } => program(7, "RealLiteral", place(*line, *column)),
+        No::LiteralTooLarge { line, column } => program(
+            8,
+            "LiteralTooLarge",
+            place(*line, *column),
+        ),
+        No::Syntax { line, column } => program(9, "Syntax", place(*line, *column)),
+        No::Unsupported { word } => program(10, "Unsupported", text(word.bytes())),
+        No::Redefined { name } => program(11, "Redefined", text(name.bytes())),
+        No::RepeatedName { name } => program(12, "RepeatedName", text(name.bytes())),
+        No::RuleWidths { line, column } => program(13, "RuleWidths", place(*line, *column)),
+        No::NoProcess => program(14, "NoProcess", Fields::None),
+        No::SizeBudget { size } => program(15, "SizeBudget", natural(u64::from(*size))),
+        No::Arity { kind, left, right } => program(16, "Arity", arity(*kind, *left, *right)),
+        No::UnknownName { name } => program(17, "UnknownName", text(name.bytes())),
+        No::NotANumber { line, column } => program(18, "NotANumber", place(*line, *column)),
+        No::IterationCount { count } => program(19, "IterationCount", integer(*count)),
+        No::NoRule { line, column } => program(20, "NoRule", place(*line, *column)),
+        No::NotADiagram { line, column } => program(21, "NotADiagram", place(*line, *column)),
+        No::TooManyArguments { given, inputs } => program(
+            22,
+            "TooManyArguments",
+            pair(*given, *inputs),
+        ),
+        No::EvalBudget => program(23, "EvalBudget", Fields::None),
+        No::ControlClash { label } => program(24, "ControlClash", text(label.bytes())),
+        No::ControlBounds { label } => program(25, "ControlBounds", text(label.bytes())),
+        No::DelayNegative { least } => program(26, "DelayNegative", integer(*least)),
+        No::DelayTooLong { greatest } => program(27, "DelayTooLong", integer(*greatest)),
+        No::DelayBudget { sum } => program(28, "DelayBudget", natural(*sum)),
+        No::Channels { have, want } => program(
+            29,
+            "Channels",
+            pair(u64::from(*have), u64::from(*want)),
+        ),
+        No::ControlLine { line } => file(30, "ControlLine", natural(u64::from(*line))),
+        No::ControlUnknown { line } => file(31, "ControlUnknown", natural(u64::from(*line))),
+        No::ControlRange { line } => file(32, "ControlRange", natural(u64::from(*line))),
+        No::ControlOrder { line } => file(33, "ControlOrder", natural(u64::from(*line))),
+        No::NotWave { place } => file(34, "NotWave", natural(*place)),
+        No::WaveTruncated { place } => file(35, "WaveTruncated", natural(*place)),
+        No::WaveFormat { place } => file(36, "WaveFormat", natural(*place)),
+        No::WaveChunks { place } => file(37, "WaveChunks", natural(*place)),
+        No::OutputTooLong { bytes } => file(38, "OutputTooLong", natural(*bytes)),
+        No::FramesNeeded => row(39, USAGE, "FramesNeeded", Fields::None),
+        No::NoMemory => row(40, MEMORY, "NoMemory", Fields::None),
+        No::TableForm { cause } => program(41, "TableForm", word(table_name(*cause))),
+        No::TableBudget { sum } => program(42, "TableBudget", natural(*sum)),
+        No::Nesting { line, column } => program(43, "Nesting", place(*line, *column)),
+        No::AuFormat { place } => file(44, "AuFormat", natural(*place)),
+        No::AuTruncated { place } => file(45, "AuTruncated", natural(*place)),
+        No::Job { job, number } => program(46, "Job", pair(*job, u64::from(*number))),
+        No::RackSize { jobs } => program(47, "RackSize", natural(*jobs)),
     }
 }
 
@@ -203,6 +118,27 @@ fn row<'a>(number: u32, status: u8, name: &'static str, fields: Fields<'a>) -> R
         name,
         fields,
     }
+}
+
+// The row of a program that is refused.
+fn program<'a>(number: u32, name: &'static str, fields: Fields<'a>) -> Row<'a>
+    ensures { shown result ≡ row_shown number program_status name.now (listed fields.entry) }
+{
+    row(number, PROGRAM, name, fields)
+}
+
+// The row of a WAV or AU file, or of a control script, that is refused.
+fn file<'a>(number: u32, name: &'static str, fields: Fields<'a>) -> Row<'a>
+    ensures { shown result ≡ row_shown number file_status name.now (listed fields.entry) }
+{
+    row(number, FILE, name, fields)
+}
+
+// A word of these tables.
+fn word(name: &'static str) -> Fields<'static>
+    ensures { listed result ≡ name.now ∷ [] }
+{
+    text(name.as_bytes())
 }
 
 // A kind of composition, and two numbers.

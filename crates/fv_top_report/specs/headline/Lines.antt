@@ -80,13 +80,10 @@ pub record Row : Type 0 where
 abbrev pub row : (number status : ℕ) → (name : List ℕ) → (fields : List (List ℕ)) → Row
 row number status name fields = record { number = number; status = status; name = name; fields = fields }
 
--- a text that is too long is a program's, or a script
+-- a text that is too long is a script, or a program's
 abbrev pub text_status : Role → ℕ
-text_status Program = program_status
-text_status Input = program_status
 text_status Controls = file_status
-text_status Output = program_status
-text_status Report = program_status
+text_status role = program_status
 
 -- the row of each refusal
 abbrev pub row_of : Refusal → Row
