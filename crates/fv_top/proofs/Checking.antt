@@ -10,15 +10,15 @@ use Rattle.fv_outside.proofs.States.{goes_on_then, fault_earlier, told_before, u
 use Rattle.fv_top_words.specs.headline.Commands.{Checking}
 use Rattle.fv_top_report.specs.declared.refusal.Refusal.{Refusal}
 use Rattle.fv_top_report.specs.declared.refusal.Refusal.TheVariants.{WriteFault}
-use Rattle.fv_top_text.specs.headline.Program.{TextIs, IsProgram}
-use Rattle.fv_top_text.specs.Program.{IsOfText}
+use Rattle.fv_top_text.specs.headline.Program.{TextIs}
+use Rattle.fv_top_text.specs.Program.{IsProgram, IsOfText}
 use Rattle.fv_top_text.specs.headline.Compiled.{Compiled}
 use Rattle.fv_top_report.specs.headline.Lines.{check_line}
 use Rattle.fv_top.specs.headline.Meant.{check_meant}
 use Rattle.fv_top_report.specs.Parts.{AppendsPart}
 use Rattle.fv_top_files.specs.Loading.{ReadsFile, StopsLoading, IsFile}
 use Rattle.fv_top.specs.headline.Steps.{Halts, fault, judged, want_of_memory, reads, writes, here, later}
-use Rattle.fv_top.specs.headline.Promise.{IsReadBy, ReadProgram, HasProgram, HasNoProgram, check_rules}
+use Rattle.fv_top.specs.headline.Promise.{IsReadBy, ReadProgram, HasProgram, HasNoProgram, rules_of}
 use Rattle.fv_top.specs.inner.Running.{Checks, StopsCheck}
 use Rattle.fv_top.proofs.Reaching.{FailsToLoad, load_faults, is_another}
 
@@ -29,11 +29,11 @@ numbers_same a b c d e = rw (a, b, c, d, e) refl
 -- ---- the program is not read
 
 load_halts : (name : List ℕ) (a b : DeskState) (e : Refusal) → StopsLoading Program (Some name) IsOfText (HasNoProgram TextIs name a.files) a b e
-    → Halts (check_rules name a) a b ReadProgram e
+    → Halts (rules_of (Checking name) a) a b ReadProgram e
 load_halts name a b e (inl h) =
-    subst (Halts (check_rules name a) a b ReadProgram) (sym h.0) (fault (reads Program) refl h.1.fault (λ t sure. h.1.unsure t sure))
+    subst (Halts (rules_of (Checking name) a) a b ReadProgram) (sym h.0) (fault (reads Program) refl h.1.fault (λ t sure. h.1.unsure t sure))
 load_halts name a b e (inr (inl h)) = judged h.0 h.1
-load_halts name a b e (inr (inr m)) = subst (Halts (check_rules name a) a b ReadProgram) (sym m) (want_of_memory tt)
+load_halts name a b e (inr (inr m)) = subst (Halts (rules_of (Checking name) a) a b ReadProgram) (sym m) (want_of_memory tt)
 
 pub check_stops : {name : List ℕ} {a b : DeskState} {e : Refusal}
     → FailsToLoad Program (Some name) IsOfText (HasNoProgram TextIs name a.files) a b e → StopsCheck name a b e

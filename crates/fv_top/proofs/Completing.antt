@@ -24,7 +24,7 @@ use Rattle.fv_top_files.specs.headline.Loading.{HasScript, HasInput}
 use Rattle.fv_top.specs.headline.Steps.{Ends, Rules}
 use Rattle.fv_top.specs.inner.Steps.{IsJudge}
 use Rattle.fv_top.specs.headline.Promise.{Asks, HasProgram, HasProgramOf, HasNoProgram, Plays, IsWhole, Step, ReadProgram, ReadScript, ReadHead, Fit, Write, Tell}
-use Rattle.fv_top.specs.headline.Promise.{StepPasses, StepRefuses, CheckPasses, CheckRefuses, rules_of, steps_of, IsKnown, CanDo}
+use Rattle.fv_top.specs.headline.Promise.{StepPasses, StepRefuses, rules_of, steps_of, IsKnown, CanDo}
 use Rattle.fv_top.specs.headline.Promise.{HasCause, bad_words, of_job, HasDone, IsComplete, IsStrict, IsExact, IsRefusedOrNoMemory}
 use Rattle.fv_top.proofs.StepLaws.{exactly, completes, passes_apart}
 
@@ -90,7 +90,7 @@ one_cut run files once p q =
 
 -- ---- the steps of a run judge
 
-once_in : (run : Run) (files : List File) → IsOneFile → (s : Step) (a b : Refusal) → StepRefuses run files s a → StepRefuses run files s b → a ≡ b
+once_in : (run : Run) (files : List File) → IsOneFile → (s : Step) (a b : Refusal) → StepRefuses (Playing run) files s a → StepRefuses (Playing run) files s b → a ≡ b
 once_in run files once ReadProgram a b h k = one_text (FileIs run.manner.program) (once run.manner.program) run.program files a b h k
 once_in run files once ReadScript a b h k =
     let e = one_script (ap (λ (c : Compiled). c.controls) (program_of run files once h.0 k.0)) h.1 k.1 in cc
@@ -99,7 +99,7 @@ once_in run files once Fit a b h k = let e = sym h.3 ∙ one_format run files on
 once_in run files once Write a b h k = let e = sym h.1 ∙ one_cut run files once h.0 k.0 ∙ k.1 in cc
 once_in run files once Tell a b h k = absurd h
 
-apart_in : (run : Run) (files : List File) → IsOneFile → (s : Step) (a : Refusal) → StepPasses run files s → StepRefuses run files s a → ⊥
+apart_in : (run : Run) (files : List File) → IsOneFile → (s : Step) (a : Refusal) → StepPasses (Playing run) files s → StepRefuses (Playing run) files s a → ⊥
 apart_in run files once ReadProgram a p h = program_apart (FileIs run.manner.program) (once run.manner.program) run.program files a p h
 apart_in run files once ReadScript a p h =
     let e = one_script (ap (λ (c : Compiled). c.controls) (program_of run files once p.0 h.0)) p.2 h.1 in absurd cc
@@ -109,7 +109,7 @@ apart_in run files once Write a p h = let e = sym p.1 ∙ one_cut run files once
 apart_in run files once Tell a p h = h
 
 -- and so do those of a check
-check_once : (name : List ℕ) (files : List File) → IsOneText → (s : Step) (a b : Refusal) → CheckRefuses name files s a → CheckRefuses name files s b → a ≡ b
+check_once : (name : List ℕ) (files : List File) → IsOneText → (s : Step) (a b : Refusal) → StepRefuses (Checking name) files s a → StepRefuses (Checking name) files s b → a ≡ b
 check_once name files once ReadProgram a b h k = one_text TextIs once name files a b h k
 check_once name files once ReadScript a b h k = absurd h
 check_once name files once ReadHead a b h k = absurd h
@@ -117,7 +117,7 @@ check_once name files once Fit a b h k = absurd h
 check_once name files once Write a b h k = absurd h
 check_once name files once Tell a b h k = absurd h
 
-check_apart : (name : List ℕ) (files : List File) → IsOneText → (s : Step) (a : Refusal) → CheckPasses name files s → CheckRefuses name files s a → ⊥
+check_apart : (name : List ℕ) (files : List File) → IsOneText → (s : Step) (a : Refusal) → StepPasses (Checking name) files s → StepRefuses (Checking name) files s a → ⊥
 check_apart name files once ReadProgram a p h = program_apart TextIs once name files a p h
 check_apart name files once ReadScript a p h = h
 check_apart name files once ReadHead a p h = h
@@ -128,7 +128,7 @@ check_apart name files once Tell a p h = h
 judges : (job : Job) (old : DeskState) → IsOneFile → IsJudge (rules_of job old)
 judges (Playing run) old once = record { once = once_in run old.files once; apart = apart_in run old.files once }
 judges (Checking name) old once = record { once = check_once name old.files (once Alone); apart = check_apart name old.files (once Alone) }
-judges (Making voices frames) old once = record { once = λ s a b h k. absurd h; apart = λ s a p h. h }
+judges (Making voices frames workers) old once = record { once = λ s a b h k. absurd h; apart = λ s a p h. h }
 
 -- words ask for one thing
 one_command : (words : List (List ℕ)) (a b : Job) → Asks words a → Asks words b → a ≡ b
@@ -145,7 +145,7 @@ ends_of words job old new e asked asks (of_job other named h) =
 pub done_exact : {words : List (List ℕ)} {frames : ℕ} {old new : DeskState} (tally : Tally) → HasDone words frames old new → IsExact words (Done tally)
 done_exact tally p cause h = let f = sym p.asks ∙ h in absurd cc
 
-passes_in : (run : Run) (files : List File) → (p : Plays run files) → IsWhole p → (s : Step) → StepPasses run files s
+passes_in : (run : Run) (files : List File) → (p : Plays run files) → IsWhole p → (s : Step) → StepPasses (Playing run) files s
 passes_in run files p whole ReadProgram = p.of
 passes_in run files p whole ReadScript = (p.of, p.changes, p.under)
 passes_in run files p whole ReadHead = (p.source, p.on)
@@ -153,7 +153,7 @@ passes_in run files p whole Fit = p
 passes_in run files p whole Write = (p, whole)
 passes_in run files p whole Tell = tt
 
-check_passes : (name : List ℕ) (files : List File) → HasProgram TextIs name files → (s : Step) → CheckPasses name files s
+check_passes : (name : List ℕ) (files : List File) → HasProgram TextIs name files → (s : Step) → StepPasses (Checking name) files s
 check_passes name files p ReadProgram = p
 check_passes name files p ReadScript = tt
 check_passes name files p ReadHead = tt
@@ -165,7 +165,7 @@ check_passes name files p Tell = tt
 passes_of : (job : Job) (old : DeskState) → CanDo job old.files → (s : Step) → Rules.Passes (rules_of job old) s
 passes_of (Playing run) old can s = passes_in run old.files can.0 can.1 s
 passes_of (Checking name) old can s = check_passes name old.files can s
-passes_of (Making voices frames) old can s = tt
+passes_of (Making voices frames workers) old can s = tt
 
 pub done_strict : {words : List (List ℕ)} {frames : ℕ} {old new : DeskState} (tally : Tally) → IsOneFile → HasDone words frames old new
     → IsStrict words old new (Done tally)

@@ -41,7 +41,7 @@ use Rattle.fv_top_report.specs.headline.Lines.{done_line}
 use Rattle.fv_top_report.specs.Parts.{AppendsPart}
 use Rattle.fv_top.specs.headline.Steps.{reads, writes, Halts, fault, judged, Ends, here, later}
 use Rattle.fv_top_files.specs.headline.Loading.{LeavesRest, ReadsWithin, reading}
-use Rattle.fv_top.specs.headline.Promise.{Asks, Plays, IsWhole, Write, Tell, HasRoom, meant, run_rules, run_steps, CanDo, meant_of}
+use Rattle.fv_top.specs.headline.Promise.{Asks, Plays, IsWhole, Write, Tell, HasRoom, meant, rules_of, steps_of, CanDo, meant_of}
 use Rattle.fv_top.specs.headline.Promise.{of_job, LeavesOutput, HasPlayedPresent, IsReadBy, IsRead, KeepsOthers}
 use Rattle.fv_top.specs.headline.Played.{HaveRan, RanSoFar}
 use Rattle.fv_top_files.specs.Formats.{format_in}
@@ -117,8 +117,8 @@ module _ {words : List (List ℕ)} {run : Run} {m : Compiled} {p : Prepared} {a 
       (ap (format_of (coding_of run.manner.output) run.settings q.of.compiled.diagram) (sym named) ∙ q.fits)
 
   -- all steps before it passed
-  behind : (d : DeskState) (e : Refusal) (asked : List Request) → Ends (run_rules run a) a d (Write ∷ Tell ∷ []) e asked →
-      Ends (run_rules run a) a d run_steps e (to_read Program run.program ∷ (reading Controls run.controls ++ (reading Input run.input ++ asked)))
+  behind : (d : DeskState) (e : Refusal) (asked : List Request) → Ends (rules_of (Playing run) a) a d (Write ∷ Tell ∷ []) e asked →
+      Ends (rules_of (Playing run) a) a d (steps_of (Playing run)) e (to_read Program run.program ∷ (reading Controls run.controls ++ (reading Input run.input ++ asked)))
   behind d e asked h =
       later (λ t. (plays_by t).of)
       (later (λ t. let q = plays_by t in (q.of, q.changes, q.under))
@@ -289,7 +289,7 @@ module _ {words : List (List ℕ)} {run : Run} {m : Compiled} {p : Prepared} {a 
         cut_is o.plays.format source short ∙ ap₂ (λ (x : Coding) (y : ℕ). Some (truncated x y)) (sym coding) (sym end)
 
     -- why
-    stop_halts : (e : Stop) → EndsAt m p g b c e → Halts (run_rules run a) a c Write (refusal_by e)
+    stop_halts : (e : Stop) → EndsAt m p g b c e → Halts (rules_of (Playing run) a) a c Write (refusal_by e)
     stop_halts stop.Read k =
         let on = w.reaches.quiet.goes_on in
         fault (reads Input) (inr (refl, sym w.named.named ∙ k.cause.3)) (fault_earlier c Input on k.cause.1.counted)
@@ -437,7 +437,7 @@ module _ {words : List (List ℕ)} {run : Run} {m : Compiled} {p : Prepared} {a 
         let on = goes c x in
         let q = part.2 in
         let done = done_line p.format.frames in
-        let unanswered : IsTrue a.tells → IsUnfailing Report a × HasRoom run a Report → ⊥ = λ t sure.
+        let unanswered : IsTrue a.tells → IsUnfailing Report a × HasRoom (Playing run) a Report → ⊥ = λ t sure.
         let line : a.written Report ++ done ≡ a.written Report ++ (meant (plays_by t)).line = ap (λ n. a.written Report ++ done_line n) (counted_by t) in
         let size = ap length line in
         let same = ap length (report_by c x t) in

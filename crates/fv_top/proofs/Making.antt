@@ -3,6 +3,7 @@ use Rattle.std.proofs.Common.{◌≡◌, ◌⊎◌, ℕ, ◌+◌, ◌≤◌, ℤ
 use Rattle.std.proofs.Common.{arith}
 use Rattle.std.specs.Prelude.{IsTrue, Err}
 use Rattle.std.proofs.lemmas.List.{append-nil}
+use Rattle.fv_base.specs.declared.limits.TheConstants.{MOST_VOICES}
 use Rattle.fv_base.specs.declared.role.Role.TheVariants.{Program, Input, Controls, Output, Report}
 use Rattle.fv_base.specs.headline.Lists.{IsPrefixOf}
 use Rattle.fv_outside.specs.headline.Desk.{DeskState, HasFault, KeepsFaults, IsUnfailing}
@@ -20,19 +21,19 @@ use Rattle.fv_top_make.specs.declared.noise_tape.Noise.{Noise}
 use Rattle.fv_top_rack.specs.headline.Kinds.{FileIs}
 use Rattle.fv_top_rack.specs.Kinds.{IsOfKind}
 use Rattle.fv_top_words.specs.declared.manner.ProgramKind.TheVariants.{Alone}
-use Rattle.fv_top_words.specs.headline.Commands.{most_voices}
+use Rattle.fv_top_words.specs.headline.Commands.{Making}
 use Rattle.fv_top_voices.specs.Voices.{VoicesAreNotRefused}
 use Rattle.fv_top_report.specs.headline.Lines.{made_line}
 use Rattle.fv_top.specs.headline.Meant.{make_meant}
 use Rattle.fv_top_report.specs.Parts.{AppendsPart}
 use Rattle.fv_top.specs.headline.Steps.{Ends, fault, want_of_memory, writes, here, later}
-use Rattle.fv_top.specs.headline.Promise.{make_rules, make_steps}
+use Rattle.fv_top.specs.headline.Promise.{rules_of, steps_of}
 use Rattle.fv_top.specs.inner.Running.{Makes, StopsMake, HasSum}
 
 -- ---- the program and its noise
 
 -- only want of memory stops the reading of its text
-pub only_memory : VoicesAreNotRefused → (voices : ℕ) (e : Refusal) → 1 ≤ voices → voices ≤ most_voices
+pub only_memory : VoicesAreNotRefused → (voices : ℕ) (e : Refusal) → 1 ≤ voices → voices ≤ MOST_VOICES
     → (e ≡ NoMemory) ⊎ (IsOfKind Alone e × FileIs Alone (text_of voices) (Err e)) → e ≡ NoMemory
 only_memory accepted voices e some few (inl m) = m
 only_memory accepted voices e some few (inr h) = absurd (accepted voices e some few h.1)
@@ -53,12 +54,12 @@ answer_alike d xs ys frames got samples e f =
 
 -- ---- there is no sum
 
-pub make_stops : (voices frames : ℕ) (a : DeskState) (e : Refusal) → e ≡ NoMemory → StopsMake voices frames a a e
-make_stops voices frames a e m = record {
+pub make_stops : (voices frames workers : ℕ) (a : DeskState) (e : Refusal) → e ≡ NoMemory → StopsMake voices frames workers a a e
+make_stops voices frames workers a e m = record {
   goes_on = goes_on_self a;
   others = record { left = λ t r none. refl; written = λ t r n m. refl; begins = λ r n. refl };
   requests = sym (append-nil a.requests);
-  ends = subst (λ (r : Refusal). Ends (make_rules voices frames a) a a make_steps r []) (sym m) (here (want_of_memory tt));
+  ends = subst (λ (r : Refusal). Ends (rules_of (Making voices frames workers) a) a a (steps_of (Making voices frames workers)) r []) (sym m) (here (want_of_memory tt));
   output = record { begins = refl; written = λ t. refl };
   begun = [];
   appended = λ t. sym (append-nil (a.written Report));
@@ -75,13 +76,13 @@ not_the_report e m is = let same : NoMemory ≡ WriteFault Report = sym m ∙ is
 pub same_sum : {voices frames : ℕ} {n m : ℤ} → n ≡ m → HasSum voices frames m → HasSum voices frames n
 same_sum e h = record { compiled = h.compiled; made = h.made; is = e ∙ h.is }
 
-module _ (voices frames : ℕ) (sum : ℤ) (h : HasSum voices frames sum) (a c : DeskState) where
+module _ (voices frames workers : ℕ) (sum : ℤ) (h : HasSum voices frames sum) (a c : DeskState) where
   abbrev is : made_line voices frames sum ≡ (make_meant h.compiled voices frames).line
   is = ap (made_line voices frames) h.is
 
   pub make_tells : AppendsPart Report (made_line voices frames sum) a c → HasFault Report a c →
       (IsTrue a.tells → IsUnfailing Report a → length (a.written Report) + length (made_line voices frames sum) ≤ a.room Report → ⊥)
-      → StopsMake voices frames a c (WriteFault Report)
+      → StopsMake voices frames workers a c (WriteFault Report)
   make_tells part failed unsure =
       let r = part.2 in
       record {
@@ -90,7 +91,7 @@ module _ (voices frames : ℕ) (sum : ℤ) (h : HasSum voices frames sum) (a c :
         requests = r.requests ∙ sym (append-nil a.requests);
         ends = later (λ t. tt) (here (fault (writes Report) refl failed (λ t sure.
             let size = ap length is in
-            let fits = sure.1 h.compiled h.made in
+            let fits = sure.1 (h.compiled, h.made) in
             unsure t sure.0 (omega (arith, length-append (a.written Report) (make_meant h.compiled voices frames).line)))));
         output = record { begins = r.begins Output; written = λ t. r.others t Output (λ e. absurd cc) };
         begun = part.0;
@@ -99,7 +100,7 @@ module _ (voices frames : ℕ) (sum : ℤ) (h : HasSum voices frames sum) (a c :
         faults = λ x other. r.other_faults x (λ same. other (inr (ap WriteFault (sym same))));
       }
 
-  pub make_done : Appends Report (made_line voices frames sum) a c → KeepsFaults a c → Makes voices frames a c
+  pub make_done : Appends Report (made_line voices frames sum) a c → KeepsFaults a c → Makes voices frames workers a c
   make_done r calm = record {
     goes_on = r.goes_on;
     others = record { left = λ t x none. r.left t x; written = λ t x n m. r.others t x m; begins = λ x n. r.begins x };

@@ -18,7 +18,7 @@ use Rattle.fv_top_files.specs.headline.Output.{OutputFormat, coding_of, format_o
 use Rattle.fv_top_files.specs.headline.Loading.{HasScript, HasInput, reading}
 use Rattle.fv_top_files.specs.Loading.{ReadsFile, IsFile, HasHead, IsLeft, IsHeadRefusal}
 use Rattle.fv_top.specs.headline.Steps.{Ends, here, later, judged, want_of_memory}
-use Rattle.fv_top.specs.headline.Promise.{IsReadBy, ReadProgram, ReadScript, ReadHead, Fit, HasProgramOf, HasNoProgram, Plays, Step, run_rules}
+use Rattle.fv_top.specs.headline.Promise.{IsReadBy, ReadProgram, ReadScript, ReadHead, Fit, HasProgramOf, HasNoProgram, Plays, Step, rules_of}
 use Rattle.fv_top.specs.inner.Promise.{IsScriptRefusal}
 use Rattle.fv_top.specs.inner.Running.{Reaches, StopsBefore, asked_before}
 use Rattle.fv_top_files.specs.declared.format.OutputFormat.{OutputFormat as Made}
@@ -140,8 +140,8 @@ stops_head {run} {p} {changes} {a} {b} {c} {e} w f =
 module _ {run : Run} {p : Compiled} {changes : List Change} {head : Option Incoming} {held : Option (List ℕ)} {a b : DeskState}
     (w : AfterHead run p changes head held a b) where
   -- the steps up to the head passed
-  passed : (c : DeskState) (e : Refusal) (rest : List Step) (asked : List Request) → Ends (run_rules run a) a c (Fit ∷ rest) e asked
-      → Ends (run_rules run a) a c (ReadProgram ∷ ReadScript ∷ ReadHead ∷ Fit ∷ rest) e
+  passed : (c : DeskState) (e : Refusal) (rest : List Step) (asked : List Request) → Ends (rules_of (Playing run) a) a c (Fit ∷ rest) e asked
+      → Ends (rules_of (Playing run) a) a c (ReadProgram ∷ ReadScript ∷ ReadHead ∷ Fit ∷ rest) e
       (to_read Program run.program ∷ (reading Controls run.controls ++ (reading Input run.input ++ asked)))
   passed c e rest asked h =
       later (has w.of) (later (λ t. (has w.of t, changes, w.under t)) (later (λ t. ((w.on t).source, (w.on t).input)) h))

@@ -69,23 +69,23 @@ makes_fit workers frames one few =
 
 -- ---- the blocks of a make
 
-pub make_ran : {voices frames blocks loops runs : ℕ} {old : DeskState} {before after : Option Told} → MakeRan voices frames blocks loops runs before after
-    → (x : HaveRan (Making voices frames) old frames (record { blocks = blocks; loops = loops; loop_runs = runs }) before after)
+pub make_ran : {voices frames workers blocks loops runs : ℕ} {old : DeskState} {before after : Option Told} → MakeRan voices frames workers blocks loops runs before after
+    → (x : HaveRan (Making voices frames workers) old frames (record { blocks = blocks; loops = loops; loop_runs = runs }) before after)
     × (x.played.sizes.frames ≡ frames)
-make_ran {voices} {frames} m = (
-  record { played = record { program = m.0; changes = []; sizes = make_sizes m.1 frames }; is = (refl, refl, m.2); ran = m.3 },
+make_ran {voices} {frames} {workers} m = (
+  record { played = record { program = m.0; changes = []; sizes = make_sizes workers frames }; is = (refl, refl, m.1); ran = m.2 },
   refl,
 )
 
-pub make_so_far : {words : List (List ℕ)} {voices frames : ℕ} {e : Refusal} {old new : DeskState} {before after : Option Told}
-    → Asks words (Making voices frames) → e ≡ WriteFault Report → MakeSoFar voices frames before after → RanSoFar words e old new before after
+pub make_so_far : {words : List (List ℕ)} {voices frames workers : ℕ} {e : Refusal} {old new : DeskState} {before after : Option Told}
+    → Asks words (Making voices frames workers) → e ≡ WriteFault Report → MakeSoFar voices frames workers before after → RanSoFar words e old new before after
 unfolding make_ran
-make_so_far {words} {voices} {frames} asks failed m = record {
-  job = Making voices frames;
+make_so_far {words} {voices} {frames} {workers} asks failed m = record {
+  job = Making voices frames workers;
   asks = asks;
   upto = frames;
   counted = record { blocks = m.blocks; loops = m.loops; loop_runs = m.runs };
-  ran = (make_ran {voices = voices} {frames = frames} m.ran).0;
+  ran = (make_ran {voices = voices} {frames = frames} {workers = workers} m.ran).0;
   stops = refl;
   first = λ is. absurd (is failed);
 }
@@ -111,7 +111,7 @@ untold_words is none = inl (none, λ job asks. let wrong = sym is ∙ asks in ab
 first_later : (job : Job) (e : Refusal) (a b c : DeskState) → c.begins Output ≡ b.begins Output → ComesFirst job e a b → ComesFirst job e a c
 first_later (Playing run) e a b c same first = same ∙ first
 first_later (Checking name) e a b c same first = tt
-first_later (Making voices frames) e a b c same first = first
+first_later (Making voices frames workers) e a b c same first = first
 
 pub so_far_later : {words : List (List ℕ)} {e : Refusal} {a b c : DeskState} {before after : Option Told} → c.begins Output ≡ b.begins Output
     → HasBlocksSoFar words e a b before after → HasBlocksSoFar words e a c before after

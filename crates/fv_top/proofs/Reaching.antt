@@ -23,7 +23,7 @@ use Rattle.fv_top_files.specs.headline.Inputs.{stated_frames}
 use Rattle.fv_top_files.specs.headline.Loading.{IsThere, reading}
 use Rattle.fv_top_files.specs.Loading.{ReadsFile, StopsLoading}
 use Rattle.fv_top.specs.headline.Steps.{Halts, fault, judged, want_of_memory, reads}
-use Rattle.fv_top.specs.headline.Promise.{WantsMemory, IsReadBy, Step, Fit, TakesTurn, IsAnswered, HasRefusal, StepRefuses, run_rules}
+use Rattle.fv_top.specs.headline.Promise.{WantsMemory, IsReadBy, Step, Fit, TakesTurn, IsAnswered, HasRefusal, StepRefuses, rules_of}
 use Rattle.fv_top.specs.inner.Running.{Reaches, CountsFaultOf, asked_before}
 
 pub reaches_nothing : (Reads : Role → Type 0) (a : DeskState) → Reaches Reads [] a a
@@ -53,18 +53,18 @@ pub record FailsToLoad (role : Role) (name : Option (List ℕ)) (Kind P : Refusa
 -- what stops the loading of a file halts its step
 pub loading_halts : (run : Run) (s : Step) (role : Role) (name : Option (List ℕ)) (P : Refusal → Type 0)
     {asked : List Request} {a b c : DeskState} {e : Refusal}
-    → WantsMemory s → Reaches (IsReadBy (Playing run)) asked a b → (IsSome name → TakesTurn run s (reads role))
-    → (IsAnswered run a s (reads role) → IsUnfailing role a × IsThere name a.files)
-    → (IsTrue a.tells → (r : Refusal) → P r → StepRefuses run a.files s r) → StopsLoading role name (HasRefusal run.manner.program s) P b c e
-    → Halts (run_rules run a) a c s e
+    → WantsMemory s → Reaches (IsReadBy (Playing run)) asked a b → (IsSome name → TakesTurn (Playing run) s (reads role))
+    → (IsAnswered (Playing run) a s (reads role) → IsUnfailing role a × IsThere name a.files)
+    → (IsTrue a.tells → (r : Refusal) → P r → StepRefuses (Playing run) a.files s r) → StopsLoading role name (HasRefusal run.manner.program s) P b c e
+    → Halts (rules_of (Playing run) a) a c s e
 loading_halts run s role name P {a = a} {c = c} m p takes answers refuses (inl h) =
     let on = p.quiet.goes_on in
-    subst (Halts (run_rules run a) a c s) (sym h.0)
+    subst (Halts (rules_of (Playing run) a) a c s) (sym h.0)
     (fault (reads role) (takes h.1.named) (fault_earlier c role on h.1.fault) (λ t sure.
     let w = answers sure in
     h.1.unsure (told_before on t) (unfailing_later role on t w.0, subst (IsThere name) (sym (on.files t)) w.1)))
 loading_halts run s role name P {e = e} m p takes answers refuses (inr (inl h)) = judged h.0 (λ t. refuses t e (h.1 (told_before p.quiet.goes_on t)))
-loading_halts run s role name P {a = a} {c = c} w p takes answers refuses (inr (inr m)) = subst (Halts (run_rules run a) a c s) (sym m) (want_of_memory w)
+loading_halts run s role name P {a = a} {c = c} w p takes answers refuses (inr (inr m)) = subst (Halts (rules_of (Playing run) a) a c s) (sym m) (want_of_memory w)
 
 -- a fault is no refusal of a program's file
 pub no_kind : (kind : ProgramKind) (role : Role) → IsOfKind kind (ReadFault role) → ⊥

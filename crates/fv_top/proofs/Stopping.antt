@@ -23,7 +23,7 @@ use Rattle.fv_top_files.specs.declared.incoming.Incoming.{Incoming}
 use Rattle.fv_top_files.specs.headline.Inputs.{truncated, read_bytes}
 use Rattle.fv_top.specs.headline.Steps.{Rules, Turn, fault_of, reads, writes, Ends}
 use Rattle.fv_top_files.specs.headline.Loading.{HasInput, LeavesRest, ReadsWithin, IsRest, IsWithin}
-use Rattle.fv_top.specs.headline.Promise.{Asks, Write, Tell, run_rules, HasCause, bad_words, of_job, HasRefusal, check_rules, check_steps, make_rules, make_steps}
+use Rattle.fv_top.specs.headline.Promise.{Asks, Write, Tell, rules_of, HasCause, bad_words, of_job, HasRefusal, steps_of}
 use Rattle.fv_top.specs.headline.Promise.{CutsShort, IsReadBy, IsRead, KeepsOthers}
 use Rattle.fv_top.specs.inner.Running.{Reaches, CountsFaultOf, StopsBefore, Checks, StopsCheck, Makes, StopsMake, steps_before, EndsDone, Stopped}
 use Rattle.fv_top.proofs.Reaching.{reaches_nothing}
@@ -97,7 +97,7 @@ no_program Rack coding.Wave place is = absurd cc
 no_program Rack coding.Au place is = absurd cc
 
 -- before anything is written, of its steps only that of the head judges it so
-head_judged : (run : Run) (a : DeskState) (c : Coding) (place : ℕ) → IsTrue a.tells → OfSome (Judges (run_rules run a) (truncated c place)) steps_before
+head_judged : (run : Run) (a : DeskState) (c : Coding) (place : ℕ) → IsTrue a.tells → OfSome (Judges (rules_of (Playing run) a) (truncated c place)) steps_before
     → HasInput run.manner.input run.input a.files (Err (truncated c place))
 head_judged run a coding.Wave place t (inl h) = absurd (no_program run.manner.program coding.Wave place h.0)
 head_judged run a coding.Wave place t (inr (inl h)) = let no = h.0 in absurd cc
@@ -111,13 +111,13 @@ head_judged run a coding.Au place t (inr (inr (inr (inl h)))) = let no = h.0 in 
 head_judged run a coding.Au place t (inr (inr (inr (inr h)))) = absurd h
 
 head_cut : (run : Run) (a b : DeskState) (e : Refusal) (c : Coding) (place : ℕ) (asked : List Request) → e ≡ truncated c place → IsTrue a.tells
-    → Ends (run_rules run a) a b steps_before e asked → HasInput run.manner.input run.input a.files (Err e)
+    → Ends (rules_of (Playing run) a) a b steps_before e asked → HasInput run.manner.input run.input a.files (Err e)
 head_cut run a b e c place asked is t h =
-    let head = head_judged run a c place t (judged_cut (run_rules run a) a b steps_before e c place asked is h) in
+    let head = head_judged run a c place t (judged_cut (rules_of (Playing run) a) a b steps_before e c place asked is h) in
     subst (λ (r : Refusal). HasInput run.manner.input run.input a.files (Err r)) (sym is) head
 
 -- a check reads no input
-check_judged : (name : List ℕ) (a : DeskState) (c : Coding) (place : ℕ) → OfSome (Judges (check_rules name a) (truncated c place)) check_steps → ⊥
+check_judged : (name : List ℕ) (a : DeskState) (c : Coding) (place : ℕ) → OfSome (Judges (rules_of (Checking name) a) (truncated c place)) (steps_of (Checking name)) → ⊥
 check_judged name a coding.Wave place (inl h) = let no = h.0 in absurd cc
 check_judged name a coding.Wave place (inr (inl h)) = let no = h.0 in absurd cc
 check_judged name a coding.Wave place (inr (inr h)) = h
@@ -126,14 +126,14 @@ check_judged name a coding.Au place (inr (inl h)) = let no = h.0 in absurd cc
 check_judged name a coding.Au place (inr (inr h)) = h
 
 -- and neither does a make
-make_judged : (voices frames : ℕ) (a : DeskState) (c : Coding) (place : ℕ)
-    → OfSome (Judges (make_rules voices frames a) (truncated c place)) make_steps → ⊥
-make_judged voices frames a coding.Wave place (inl h) = let no = h.0 in absurd cc
-make_judged voices frames a coding.Wave place (inr (inl h)) = let no = h.0 in absurd cc
-make_judged voices frames a coding.Wave place (inr (inr h)) = h
-make_judged voices frames a coding.Au place (inl h) = let no = h.0 in absurd cc
-make_judged voices frames a coding.Au place (inr (inl h)) = let no = h.0 in absurd cc
-make_judged voices frames a coding.Au place (inr (inr h)) = h
+make_judged : (voices frames workers : ℕ) (a : DeskState) (c : Coding) (place : ℕ)
+    → OfSome (Judges (rules_of (Making voices frames workers) a) (truncated c place)) (steps_of (Making voices frames workers)) → ⊥
+make_judged voices frames workers a coding.Wave place (inl h) = let no = h.0 in absurd cc
+make_judged voices frames workers a coding.Wave place (inr (inl h)) = let no = h.0 in absurd cc
+make_judged voices frames workers a coding.Wave place (inr (inr h)) = h
+make_judged voices frames workers a coding.Au place (inl h) = let no = h.0 in absurd cc
+make_judged voices frames workers a coding.Au place (inr (inl h)) = let no = h.0 in absurd cc
+make_judged voices frames workers a coding.Au place (inr (inr h)) = h
 
 -- ---- before anything is written
 
@@ -167,7 +167,7 @@ stopped_before {words} {run} {a} {b} {e} asks s =
       requests = p.requests;
       left = λ t x none. p.left t x (λ is. none (Playing run, asks, is));
     } in
-    let ends = ends_more (run_rules run a) a b steps_before (Write ∷ Tell ∷ []) e s.asked s.ends in
+    let ends = ends_more (rules_of (Playing run) a) a b steps_before (Write ∷ Tell ∷ []) e s.asked s.ends in
     stopped_by words a b e s.asked reaches (of_job (Playing run) asks ends)
     (λ c place is t. (run, asks, inl (head_cut run a b e c place s.asked is t s.ends)))
     s.faults
@@ -181,7 +181,7 @@ stopped_check {words} {name} {a} {b} {e} asks s = record {
   others = others_for words asks s.others;
   cause = record { asked = to_read Program name ∷ []; requests = s.requests; cause = of_job (Checking name) asks s.ends };
   output = inl s.output;
-  cut = λ c place is t. absurd (check_judged name a c place (judged_cut (check_rules name a) a b check_steps e c place _ is s.ends));
+  cut = λ c place is t. absurd (check_judged name a c place (judged_cut (rules_of (Checking name) a) a b (steps_of (Checking name)) e c place _ is s.ends));
   begun = s.begun;
   appended = s.appended;
   is_begun = ⊎_elim inl (λ h. inr (h.0, (Checking name, asks, h.1))) s.is_begun;
@@ -205,27 +205,27 @@ checked {words} {name} asks c = record {
 
 -- ---- a make
 
-pub stopped_make : {words : List (List ℕ)} {voices frames : ℕ} {a b : DeskState} {e : Refusal} → Asks words (Making voices frames)
-    → StopsMake voices frames a b e → Stopped words a b e
-stopped_make {words} {voices} {frames} {a} {b} {e} asks s = record {
+pub stopped_make : {words : List (List ℕ)} {voices frames workers : ℕ} {a b : DeskState} {e : Refusal} → Asks words (Making voices frames workers)
+    → StopsMake voices frames workers a b e → Stopped words a b e
+stopped_make {words} {voices} {frames} {workers} {a} {b} {e} asks s = record {
   goes_on = s.goes_on;
   others = others_for words asks s.others;
-  cause = record { asked = []; requests = s.requests; cause = of_job (Making voices frames) asks s.ends };
+  cause = record { asked = []; requests = s.requests; cause = of_job (Making voices frames workers) asks s.ends };
   output = inl s.output;
-  cut = λ c place is t. absurd (make_judged voices frames a c place (judged_cut (make_rules voices frames a) a b make_steps e c place _ is s.ends));
+  cut = λ c place is t. absurd (make_judged voices frames workers a c place (judged_cut (rules_of (Making voices frames workers) a) a b (steps_of (Making voices frames workers)) e c place _ is s.ends));
   begun = s.begun;
   appended = s.appended;
-  is_begun = ⊎_elim inl (λ h. inr (h.0, (Making voices frames, asks, h.1))) s.is_begun;
+  is_begun = ⊎_elim inl (λ h. inr (h.0, (Making voices frames workers, asks, h.1))) s.is_begun;
   faults = s.faults;
 }
 
-pub made : {words : List (List ℕ)} {voices frames : ℕ} {a b : DeskState} → Asks words (Making voices frames) → Makes voices frames a b
+pub made : {words : List (List ℕ)} {voices frames workers : ℕ} {a b : DeskState} → Asks words (Making voices frames workers) → Makes voices frames workers a b
     → EndsDone words frames a b
-made {words} {voices} {frames} asks c = record {
+made {words} {voices} {frames} {workers} asks c = record {
   goes_on = c.goes_on;
   others = others_for words asks c.others;
   played = record {
-    job = Making voices frames;
+    job = Making voices frames workers;
     asks = asks;
     requests = c.requests;
     faults = c.faults;

@@ -3,8 +3,7 @@
 ghost use Rattle.std.specs.Prelude.{◌≡◌, ◌⊎◌, ◌≤◌, [], Ok, Err, IfOk, IfErr, OnOk, OnErr};
 ghost use Rattle.fv_base.specs.declared.role.Role.TheVariants.{Report};
 ghost use Rattle.fv_engine_render.specs.Render.{RanWhole};
-ghost use Rattle.fv_top_words.specs.headline.Commands.{most_voices};
-ghost use Rattle.fv_top_words.specs.headline.Runs.{most_workers};
+ghost use Rattle.fv_base.specs.declared.limits.TheConstants.{MOST_VOICES, MOST_WORKERS};
 ghost use Rattle.fv_top_report.specs.declared.refusal.Refusal.TheVariants.{WriteFault, NoMemory};
 ghost use Rattle.fv_top.specs.headline.Played.{make_sizes};
 ghost use Rattle.fv_top.specs.inner.Played.{MakeRan, MakeSoFar};
@@ -49,14 +48,14 @@ pub fn run_make<R: Threads + Wait + Sync, D: Desk, G: Gate + Sync>(
     gate: &mut G,
 ) -> Result<Ran, Refusal>
     requires some { 1 ≤ voices }
-    requires few { voices ≤ most_voices }
-    requires workers { (1 ≤ workers) × (workers ≤ most_workers) }
-    ensures done { OnOk result (Makes voices frames (D.state desk.old) (D.state desk.new)) }
-    ensures ran { IfOk result (λ r. MakeRan voices frames r.blocks r.loops r.loop_runs (G.told gate.old) (G.told gate.new)) }
-    ensures stops { IfErr result (StopsMake voices frames (D.state desk.old) (D.state desk.new)) }
+    requires few { voices ≤ MOST_VOICES }
+    requires workers { (1 ≤ workers) × (workers ≤ MOST_WORKERS) }
+    ensures done { OnOk result (Makes voices frames workers (D.state desk.old) (D.state desk.new)) }
+    ensures ran { IfOk result (λ r. MakeRan voices frames workers r.blocks r.loops r.loop_runs (G.told gate.old) (G.told gate.new)) }
+    ensures stops { IfErr result (StopsMake voices frames workers (D.state desk.old) (D.state desk.new)) }
     // A report that fails comes behind all blocks, and every other refusal before them.
     ensures so_far { IfErr result (λ e. ((G.told gate.new ≡ G.told gate.old) × (e ≡ WriteFault Report → ⊥))
-        ⊎ ((e ≡ WriteFault Report) × MakeSoFar voices frames (G.told gate.old) (G.told gate.new))) }
+        ⊎ ((e ≡ WriteFault Report) × MakeSoFar voices frames workers (G.told gate.old) (G.told gate.new))) }
 {
     let made = made_sum(rt, alloc, voices, frames, workers, gate)?;
     match report_made(desk, voices, frames, made.sum) {
@@ -75,10 +74,10 @@ fn made_sum<R: Threads + Wait + Sync, G: Gate + Sync>(
     gate: &mut G,
 ) -> Result<Made, Refusal>
     requires some { 1 ≤ voices }
-    requires few { voices ≤ most_voices }
-    requires workers { (1 ≤ workers) × (workers ≤ most_workers) }
+    requires few { voices ≤ MOST_VOICES }
+    requires workers { (1 ≤ workers) × (workers ≤ MOST_WORKERS) }
     ensures sum { IfOk result (λ m. HasSum voices frames m.sum) }
-    ensures ran { IfOk result (λ m. MakeRan voices frames m.ran.blocks m.ran.loops m.ran.loop_runs (G.told gate.old) (G.told gate.new)) }
+    ensures ran { IfOk result (λ m. MakeRan voices frames workers m.ran.blocks m.ran.loops m.ran.loop_runs (G.told gate.old) (G.told gate.new)) }
     // Its text is a program, so only memory is wanted.
     ensures none { IfErr result (λ e. e ≡ NoMemory) }
     ensures err { OnErr result (gate.new ≡ gate.old) }
@@ -91,7 +90,7 @@ fn made_sum<R: Threads + Wait + Sync, G: Gate + Sync>(
 // What is played of the program of so many voices.
 fn made_program(alloc: Global, voices: u32) -> Result<Playable, Refusal>
     requires some { 1 ≤ voices }
-    requires few { voices ≤ most_voices }
+    requires few { voices ≤ MOST_VOICES }
     ensures made { IfOk result (λ p. (c : Compiled) × IsMade voices c × IsPlayable c p) }
     ensures one { IfOk result (λ p. p.inputs ≡ 1) }
     ensures none { IfErr result (λ e. e ≡ NoMemory) }
@@ -112,8 +111,8 @@ fn sum_on_noise<R: Threads + Wait + Sync, G: Gate + Sync>(
     workers: u32,
     gate: &mut G,
 ) -> Result<Made, AllocError>
-    requires voices { voices ≤ most_voices }
-    requires workers { (1 ≤ workers) × (workers ≤ most_workers) }
+    requires voices { voices ≤ MOST_VOICES }
+    requires workers { (1 ≤ workers) × (workers ≤ MOST_WORKERS) }
     // It is of some program, and what follows is so for each of which it is.
     requires playable { (c : Compiled) × IsPlayable c playable.now }
     requires one { playable.now.inputs ≡ 1 }

@@ -4,7 +4,7 @@ ghost use Rattle.std.specs.Prelude.{◌<◌, ℕ, List, IfOk, IfErr, IsErrOf, So
 ghost use Rattle.fv_base.specs.declared.role.Role.TheVariants.{Program as program_role};
 ghost use Rattle.fv_outside.specs.headline.Desk.{KeepsFaults};
 ghost use Rattle.fv_top_report.specs.declared.refusal.Refusal.TheVariants.{ReadFault};
-ghost use Rattle.fv_top_text.specs.headline.Program.{TextIs, IsProgram, delays_in};
+ghost use Rattle.fv_top_text.specs.headline.Program.{TextIs, delays_in};
 ghost use Rattle.fv_top_text.specs.Program.{IsOfText};
 ghost use Rattle.fv_interval.specs.Delays.{AreAccepted};
 ghost use Rattle.fv_diagram.specs.Arena.{count_of};

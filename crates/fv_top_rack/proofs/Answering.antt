@@ -29,7 +29,8 @@ use Rattle.fv_top_report.specs.declared.refusal.Refusal.TheVariants as no
 use Rattle.fv_top_report.specs.headline.Layers.{of_value}
 use Rattle.fv_top_text.specs.headline.Answers.{Turned}
 use Rattle.fv_top_text.specs.headline.Compiled.{Compiled}
-use Rattle.fv_top_text.specs.headline.Program.{TextIs, WidthIs, ValueIs, SpellingIs, Delayed, Narrow, Evaluates, valued}
+use Rattle.fv_top_text.specs.headline.Program.{TextIs, valued}
+use Rattle.fv_top_text.specs.inner.Layers.{WidthIs, ValueIs, SpellingIs, Delayed, Narrow, Evaluates}
 use Rattle.fv_top_text.specs.Program.{IsOneText}
 use Rattle.fv_top_text.specs.headline.Program.{delay_in, delayed, delays_in, first_bad, narrow}
 use Rattle.fv_top_text.proofs.AnswerLaws.{kept_is}

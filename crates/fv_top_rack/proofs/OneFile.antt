@@ -8,12 +8,14 @@ use Rattle.fv_top_report.specs.headline.Layers.{of_jobs}
 use Rattle.fv_top_text.specs.headline.Answers.{Then, Turned, kept, turned}
 use Rattle.fv_top_text.specs.Answers.{IsOnce, IsSome, RefusesOthers}
 use Rattle.fv_top_text.specs.headline.Compiled.{Compiled}
-use Rattle.fv_top_text.specs.headline.Program.{Delayed, Narrow, delayed, delays_in, first_bad, narrow}
+use Rattle.fv_top_text.specs.headline.Program.{delayed, delays_in, first_bad, narrow}
+use Rattle.fv_top_text.specs.inner.Layers.{Delayed, Narrow}
 use Rattle.fv_top_text.specs.Program.{IsOneText, IsSomeText, IsOneOrOther as TextOneOrOther}
 use Rattle.fv_top_text.specs.Program.{FrontIsEnough as TextFront, ProgramIsWhole as TextIsWhole}
 use Rattle.fv_top_text.proofs.AnswerLaws.{kept_is, then_once, then_refuses, then_some, turned_once, turned_some}
 use Rattle.fv_top_text.proofs.Texts.{then_front}
-use Rattle.fv_top_rack.specs.headline.Racks.{Beside, EachIs, JobsAre, JobsHave, RackIs, rack_of}
+use Rattle.fv_top_rack.specs.headline.Racks.{EachIs, RackIs, rack_of}
+use Rattle.fv_top_rack.specs.inner.Layers.{Beside, JobsAre, JobsHave}
 use Rattle.fv_top_rack.specs.Kinds.{FrontIsEnough, IsOneFile, IsSomeFile, IsOneOrOther, ProgramIsWhole}
 use Rattle.fv_top_rack.proofs.Each.{each_once, each_some, then_parts}
 

@@ -24,7 +24,8 @@ use Rattle.fv_top_text.proofs.Delayed.{delays_pass, delays_stop}
 use Rattle.fv_top_words.specs.declared.manner.ProgramKind.TheVariants as kinds
 use Rattle.fv_top_rack.specs.headline.Kinds.{is_of_kind}
 use Rattle.fv_top_rack.specs.Kinds.{IsOfKind}
-use Rattle.fv_top_rack.specs.headline.Racks.{Beside, EachIs, JobsHave, RackIs, rack_of}
+use Rattle.fv_top_rack.specs.headline.Racks.{EachIs, RackIs, rack_of}
+use Rattle.fv_top_rack.specs.inner.Layers.{Beside, JobsHave}
 
 -- what is judged by these channels is judged by the program's
 pub width_is : (p : Compiled) (n m : ℕ) (r : Result Compiled Refusal) → n ≡ inputs p.diagram → m ≡ outputs p.diagram → with_channels n m p ≡ r → narrow p ≡ r

@@ -1,4 +1,5 @@
 pub mod headline
+pub mod inner
 pub mod Kinds
 pub mod Runs
 pub mod Reads

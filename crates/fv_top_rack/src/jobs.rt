@@ -9,7 +9,7 @@ ghost use Rattle.fv_top_report.specs.declared.refusal.Refusal.{Refusal as Refusa
 ghost use Rattle.fv_top_report.specs.declared.refusal.Refusal.TheVariants.{DelayBudget, NoMemory};
 ghost use Rattle.fv_top_report.specs.headline.Lines.{row_of};
 ghost use Rattle.fv_top_text.specs.Compiled.{compiled_of, CanPlay};
-ghost use Rattle.fv_top_text.specs.headline.Program.{IsProgram};
+ghost use Rattle.fv_top_text.specs.Program.{IsProgram};
 ghost use Rattle.fv_top_text.specs.Program.{IsRefusedText};
 ghost use Rattle.fv_top_rack.specs.headline.Racks.{EachIs, RackIs, rack_of, refused_job};
 ghost use Rattle.fv_top_rack.specs.Kinds.{IsOfKind};

@@ -14,4 +14,4 @@ pub record IsSure (words : List (List ℕ)) (run : Run) (desk : DeskState) : Typ
   pub plays : Plays run desk.files
   pub whole : IsWhole plays
   pub unfailing : (r : Role) → IsUnfailing r desk
-  pub room : (r : Role) → HasRoom run desk r
+  pub room : (r : Role) → HasRoom (Playing run) desk r

@@ -21,9 +21,9 @@ use Rattle.fv_top_report.specs.declared.refusal.Refusal.TheVariants.{NoMemory}
 use Rattle.fv_top_text.specs.headline.Answers.{Turned, kept, turned, stops, goes_on}
 use Rattle.fv_top_text.specs.Answers.{IsOnce, IsSome, RefusesOthers}
 use Rattle.fv_top_text.specs.headline.Compiled.{Compiled}
-use Rattle.fv_top_text.specs.headline.Program.{Spelled, Parses, spells, refused, Evaluates, valued, Narrow, narrow, Delayed, delayed, delays_in, first_bad, SpellingIs}
-use Rattle.fv_top_text.specs.headline.Program.{ValueIs, WidthIs, TextIs, IsProgram}
-use Rattle.fv_top_text.specs.Program.{IsRefusedText, IsOfText}
+use Rattle.fv_top_text.specs.headline.Program.{Spelled, Parses, spells, refused, valued, narrow, delayed, delays_in, first_bad, TextIs}
+use Rattle.fv_top_text.specs.inner.Layers.{Evaluates, Narrow, Delayed, SpellingIs, ValueIs, WidthIs}
+use Rattle.fv_top_text.specs.Program.{IsProgram, IsRefusedText, IsOfText}
 use Rattle.fv_top_report.specs.headline.Layers.{of_bytes, of_tokens, of_value}
 use Rattle.fv_top_text.proofs.AnswerLaws.{then_once, then_some, then_refuses, turned_once, turned_some, kept_is}
 

@@ -10,7 +10,8 @@ use Rattle.fv_lex.specs.headline.Cuts.{Has, too_long, cut, longest_text}
 use Rattle.fv_top_report.specs.declared.refusal.Refusal.{Refusal}
 use Rattle.fv_top_text.specs.headline.Answers.{Then, Turned, kept, turned, stops, goes_on}
 use Rattle.fv_top_text.specs.headline.Compiled.{Compiled}
-use Rattle.fv_top_text.specs.headline.Program.{Parses, Evaluates, Narrow, Delayed, SpellingIs, ValueIs, WidthIs, TextIs}
+use Rattle.fv_top_text.specs.headline.Program.{Parses, TextIs}
+use Rattle.fv_top_text.specs.inner.Layers.{Evaluates, Narrow, Delayed, SpellingIs, ValueIs, WidthIs}
 use Rattle.fv_top_report.specs.headline.Layers.{of_bytes, of_tokens, of_value}
 use Rattle.fv_top_text.proofs.AnswerLaws.{kept_is}
 

@@ -1,4 +1,5 @@
 pub mod headline
+pub mod inner
 pub mod Compiled
 pub mod Answers
 pub mod Program

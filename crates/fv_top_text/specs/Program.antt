@@ -1,18 +1,22 @@
 -- What calls say beside `headline/Program`: what a program's text is: a program, or refused for its first fault (Faust manual, cut down by this project's profile).
 use Rattle.std.specs.Prelude.{◌≡◌, ℕ, ◌+◌, IsTrue, List}
-use Rattle.std.specs.Prelude.{take, Result, Err}
+use Rattle.std.specs.Prelude.{take, Result, Ok, Err}
 use Rattle.fv_base.specs.declared.limits.TheConstants.{LONGEST_TEXT}
 use Rattle.fv_top_text.specs.Answers.{IsOnce, IsSome, RefusesOthers}
 use Rattle.fv_top_report.specs.headline.Lines.{row_of}
 use Rattle.fv_top_text.specs.headline.Compiled.{Compiled}
 use Rattle.fv_top_report.specs.declared.refusal.Refusal.{Refusal}
-use Rattle.fv_top_text.specs.headline.Program.{is_of_program, TextIs, IsProgram}
+use Rattle.fv_top_text.specs.headline.Program.{is_of_program, TextIs}
 
 -- the refusal is one of a program
 abbrev pub IsOfText : Refusal → Type 0
 IsOfText refusal = IsTrue (is_of_program (row_of refusal).number)
 
--- ---- the layers
+-- ---- what a text is
+
+-- The text is this program.
+abbrev pub IsProgram : List ℕ → Compiled → Type 0
+IsProgram text p = TextIs text (Ok p)
 
 -- The text is refused for this.
 abbrev pub IsRefusedText : List ℕ → Refusal → Type 0

@@ -10,8 +10,8 @@ ghost use Rattle.fv_top_report.specs.headline.Lines.{row_of};
 ghost use Rattle.fv_top_report.specs.declared.refusal.Refusal.TheVariants.{NoMemory};
 ghost use Rattle.fv_top_text.specs.headline.Compiled.{Compiled};
 ghost use Rattle.fv_top_text.specs.Compiled.{compiled_of, CanPlay};
-ghost use Rattle.fv_top_text.specs.headline.Program.{IsProgram, narrow, with_channels, delayed, first_bad, delays_in};
-ghost use Rattle.fv_top_text.specs.Program.{IsRefusedText, IsOfText};
+ghost use Rattle.fv_top_text.specs.headline.Program.{narrow, with_channels, delayed, first_bad, delays_in};
+ghost use Rattle.fv_top_text.specs.Program.{IsProgram, IsRefusedText, IsOfText};
 
 use fv_base::limits::MOST_CHANNELS;
 use fv_eval::{Program, evaluate};

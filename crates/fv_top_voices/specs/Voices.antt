@@ -8,7 +8,7 @@ use Rattle.fv_interval.specs.Diagram.{Diagram, Primitive, Constant, Par, Seq, Sp
 use Rattle.fv_top_make.specs.headline.Made.{text_of}
 use Rattle.fv_top_text.specs.Refusal.{Refusal}
 use Rattle.fv_top_text.specs.headline.Compiled.{Compiled}
-use Rattle.fv_top_text.specs.headline.Program.{IsProgram}
+use Rattle.fv_top_text.specs.Program.{IsProgram}
 use Rattle.fv_top_text.specs.Program.{IsRefusedText}
 
 -- a primitive of two inputs, the second of which is a number

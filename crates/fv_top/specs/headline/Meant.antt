@@ -1,7 +1,7 @@
 -- What a run that is done means (this project's profile).
 use Rattle.std.specs.Prelude.{ℕ, ℤ, List, [], ◌++◌, length, Option, Some, None, unwrap_or}
 use Rattle.fv_base.specs.declared.role.Role.{Role}
-use Rattle.fv_base.specs.declared.role.Role.TheVariants.{Program, Input, Controls, Output, Report}
+use Rattle.fv_base.specs.declared.role.Role.TheVariants.{Output, Report}
 use Rattle.fv_outside.specs.headline.Desk.{DeskState}
 use Rattle.fv_diagram.specs.Frames.{Frame, Stream}
 use Rattle.fv_diagram.specs.headline.Diagram.{Diagram, inputs, outputs, size}
@@ -38,8 +38,6 @@ make_meant p voices frames = record { frames = frames; output = None; line = mad
 
 -- all that is written of a role at its end
 abbrev pub written_by : Meant → DeskState → Role → List ℕ
-written_by m old Program = old.written Program
-written_by m old Input = old.written Input
-written_by m old Controls = old.written Controls
 written_by m old Output = unwrap_or m.output (old.written Output)
 written_by m old Report = old.written Report ++ m.line
+written_by m old r = old.written r

@@ -41,7 +41,7 @@ IsPlayed (Playing run) old x =
     × (IsTrue old.tells → (p : Plays run old.files) × (p.of.compiled ≡ x.program) × (p.changes ≡ x.changes)
     × (p.format.frames ≡ x.sizes.frames))
 IsPlayed (Checking name) old x = ⊥
-IsPlayed (Making voices frames) old x = (x.sizes ≡ make_sizes x.sizes.workers frames) × (x.changes ≡ []) × IsMade voices x.program
+IsPlayed (Making voices frames workers) old x = (x.sizes ≡ make_sizes workers frames) × (x.changes ≡ []) × IsMade voices x.program
 
 -- Its blocks up to a frame ran: in each of them each loop of a plan of the program ran once on each vector, after all that it reads.
 pub record HaveRan (job : Job) (old : DeskState) (upto : ℕ) (r : Ran) (before after : Option Told) : Type 0 where
@@ -55,10 +55,8 @@ ran_in t = record { blocks = t.blocks; loops = t.loops; loop_runs = t.loop_runs 
 
 -- The blocks of what is done, as the tally counts them: those of all its frames; a check has none.
 abbrev pub BlocksOf : Job → Tally → DeskState → (before after : Option Told) → Type 0
-BlocksOf (Playing run) t old before after = (x : HaveRan (Playing run) old t.frames (ran_in t) before after) × (x.played.sizes.frames ≡ t.frames)
 BlocksOf (Checking name) t old before after = (t.blocks ≡ 0) × (t.loops ≡ 0) × (t.loop_runs ≡ 0) × (after ≡ before)
-BlocksOf (Making voices frames) t old before after =
-    (x : HaveRan (Making voices frames) old t.frames (ran_in t) before after) × (x.played.sizes.frames ≡ t.frames)
+BlocksOf job t old before after = (x : HaveRan job old t.frames (ran_in t) before after) × (x.played.sizes.frames ≡ t.frames)
 
 pub record HasBlocks (words : List (List ℕ)) (t : Tally) (old : DeskState) (before after : Option Told) : Type 0 where
   pub job : Job
@@ -67,22 +65,19 @@ pub record HasBlocks (words : List (List ℕ)) (t : Tally) (old : DeskState) (be
 
 -- Where a run is refused, its blocks ran up to this frame: all of them, where the report failed; those that lie wholly within the
 -- frames that are present, where its input ends too early.
-abbrev pub RunStopsAt : Run → Refusal → DeskState → Played → (upto : ℕ) → Type 0
-RunStopsAt run refusal old x upto =
+abbrev pub StopsAt : Job → Refusal → DeskState → Played → (upto : ℕ) → Type 0
+StopsAt (Playing run) refusal old x upto =
     (refusal ≡ WriteFault Report → upto ≡ x.sizes.frames)
     × ((c : Coding) (place : ℕ) → refusal ≡ truncated c place → IsTrue old.tells → (p : Plays run old.files)
     × IsCutAt run.settings.block x.sizes.frames x.changes (length (present_in p.format p.source)) upto)
-
-abbrev pub StopsAt : Job → Refusal → DeskState → Played → (upto : ℕ) → Type 0
-StopsAt (Playing run) refusal old x upto = RunStopsAt run refusal old x upto
 StopsAt (Checking name) refusal old x upto = ⊥
-StopsAt (Making voices frames) refusal old x upto = upto ≡ x.sizes.frames
+StopsAt (Making voices frames workers) refusal old x upto = upto ≡ x.sizes.frames
 
 -- A refusal that comes before any block: of a run before its output is begun, of a make before its report.
 abbrev pub ComesFirst : Job → Refusal → (old new : DeskState) → Type 0
 ComesFirst (Playing run) refusal old new = new.begins Output ≡ old.begins Output
 ComesFirst (Checking name) refusal old new = Unit {0}
-ComesFirst (Making voices frames) refusal old new = refusal ≡ WriteFault Report → ⊥
+ComesFirst (Making voices frames workers) refusal old new = refusal ≡ WriteFault Report → ⊥
 
 -- and for these words
 abbrev pub MayBeUntold : (words : List (List ℕ)) → Refusal → (old new : DeskState) → Type 0

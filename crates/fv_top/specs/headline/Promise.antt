@@ -19,7 +19,7 @@ use Rattle.fv_top_report.specs.declared.refusal.Refusal.{Refusal}
 use Rattle.fv_top_report.specs.declared.refusal.Refusal.TheVariants.{Usage, ReadFault, WriteFault, NoMemory}
 use Rattle.fv_top_report.specs.declared.status.Status.{Status}
 use Rattle.fv_top_report.specs.declared.status.Status.TheVariants.{Done, Refused}
-use Rattle.fv_top_text.specs.headline.Program.{TextIs, IsProgram}
+use Rattle.fv_top_text.specs.headline.Program.{TextIs}
 use Rattle.fv_top_rack.specs.headline.Kinds.{FileIs, is_of_kind}
 use Rattle.fv_file_tape.specs.headline.Tapes.{HasBegun, KeepsOutput}
 use Rattle.fv_engine_files.specs.headline.Files.{IsCutAt}
@@ -77,7 +77,25 @@ meant_to p g = run_meant p.of.compiled.diagram (control_streams p.changes (initi
 abbrev pub IsWhole : {run : Run} {files : List File} → Plays run files → Type 0
 IsWhole p = cut_in p.format p.source ≡ None
 
--- ---- the steps of a run, in order
+-- ---- what is asked for
+
+-- this is the program of so many voices
+abbrev pub IsMade : (voices : ℕ) → Compiled → Type 0
+IsMade voices p = TextIs (text_of voices) (Ok p)
+
+-- it can be done
+abbrev pub CanDo : Job → List File → Type 0
+CanDo (Playing run) files = (p : Plays run files) × IsWhole p
+CanDo (Checking name) files = HasProgram TextIs name files
+CanDo (Making voices frames workers) files = (p : Compiled) × IsMade voices p
+
+-- what it means that it is
+abbrev pub meant_of : (job : Job) (files : List File) → CanDo job files → Meant
+meant_of (Playing run) files can = meant can.0
+meant_of (Checking name) files can = check_meant can.compiled
+meant_of (Making voices frames workers) files can = make_meant can.0 voices frames
+
+-- ---- its steps, in order
 
 pub data Step : Type 0 where
   -- the program's file is read and judged
@@ -93,41 +111,40 @@ pub data Step : Type 0 where
   -- and it is reported
   Tell : Step
 
--- the steps, in their order
-abbrev pub run_steps : List Step
-run_steps = ReadProgram ∷ ReadScript ∷ ReadHead ∷ Fit ∷ Write ∷ Tell ∷ []
-
 -- what a step asks the desk for
-abbrev pub requests_of : Run → Step → List Request
-requests_of run ReadProgram = to_read Program run.program ∷ []
-requests_of run ReadScript = reading Controls run.controls
-requests_of run ReadHead = reading Input run.input
-requests_of run Fit = []
-requests_of run Write = to_write Output run.output ∷ []
-requests_of run Tell = []
+abbrev pub requests_of : Job → Step → List Request
+requests_of (Playing run) ReadProgram = to_read Program run.program ∷ []
+requests_of (Playing run) ReadScript = reading Controls run.controls
+requests_of (Playing run) ReadHead = reading Input run.input
+requests_of (Playing run) Write = to_write Output run.output ∷ []
+requests_of (Checking name) ReadProgram = to_read Program name ∷ []
+requests_of job s = []
 
--- the roles that a step reads or writes
-abbrev pub TakesTurn : Run → Step → Turn → Type 0
-TakesTurn run ReadProgram t = t ≡ reads Program
-TakesTurn run ReadScript t = (t ≡ reads Controls) × IsSome run.controls
-TakesTurn run ReadHead t = (t ≡ reads Input) × IsSome run.input
-TakesTurn run Fit t = ⊥
-TakesTurn run Write t = (t ≡ writes Output) ⊎ ((t ≡ reads Input) × IsSome run.input)
-TakesTurn run Tell t = t ≡ writes Report
+-- the roles that a step reads or writes: a make reads no file
+abbrev pub TakesTurn : Job → Step → Turn → Type 0
+TakesTurn (Playing run) ReadProgram t = t ≡ reads Program
+TakesTurn (Playing run) ReadScript t = (t ≡ reads Controls) × IsSome run.controls
+TakesTurn (Playing run) ReadHead t = (t ≡ reads Input) × IsSome run.input
+TakesTurn (Playing run) Write t = (t ≡ writes Output) ⊎ ((t ≡ reads Input) × IsSome run.input)
+TakesTurn (Checking name) ReadProgram t = t ≡ reads Program
+TakesTurn job Tell t = t ≡ writes Report
+TakesTurn job s t = ⊥
 
 -- there is room for all that is written of a role
-abbrev pub HasRoom : Run → DeskState → Role → Type 0
-HasRoom run old role = (p : Plays run old.files) → length (written_by (meant p) old role) ≤ old.room role
+abbrev pub HasRoom : Job → DeskState → Role → Type 0
+HasRoom (Playing run) old role = (p : Plays run old.files) → length (written_by (meant p) old role) ≤ old.room role
+HasRoom job old role = (can : CanDo job old.files) → length (written_by (meant_of job old.files can) old role) ≤ old.room role
 
 -- what a turn needs of the desk as it was at first: no call of the role that fails from then on, its file, and room
-abbrev pub IsAnswered : Run → DeskState → Step → Turn → Type 0
-IsAnswered run old ReadProgram t = IsUnfailing Program old × IsThere (Some run.program) old.files
-IsAnswered run old ReadScript t = IsUnfailing Controls old × IsThere run.controls old.files
-IsAnswered run old ReadHead t = IsUnfailing Input old × IsThere run.input old.files
-IsAnswered run old Fit t = Unit {0}
-IsAnswered run old Write (reads role) = IsUnfailing Input old
-IsAnswered run old Write (writes role) = IsUnfailing Output old × HasRoom run old Output
-IsAnswered run old Tell t = IsUnfailing Report old × HasRoom run old Report
+abbrev pub IsAnswered : Job → DeskState → Step → Turn → Type 0
+IsAnswered (Playing run) old ReadProgram t = IsUnfailing Program old × IsThere (Some run.program) old.files
+IsAnswered (Playing run) old ReadScript t = IsUnfailing Controls old × IsThere run.controls old.files
+IsAnswered (Playing run) old ReadHead t = IsUnfailing Input old × IsThere run.input old.files
+IsAnswered (Playing run) old Write (reads role) = IsUnfailing Input old
+IsAnswered (Playing run) old Write (writes role) = IsUnfailing Output old × HasRoom (Playing run) old Output
+IsAnswered (Checking name) old ReadProgram t = IsUnfailing Program old × IsThere (Some name) old.files
+IsAnswered job old Tell t = IsUnfailing Report old × HasRoom job old Report
+IsAnswered job old s t = Unit {0}
 
 -- the numbers of the refusals of a script
 abbrev pub is_of_script : ℕ → Bool
@@ -142,165 +159,65 @@ is_of_step kind Fit n = (n == 29) || (n == 38) || (n == 39)
 is_of_step kind Write n = (n == 35) || (n == 45)
 is_of_step kind Tell n = false
 
+-- what the program's file of a job is: one text, but for a run that says otherwise
+abbrev pub kind_of : Job → ProgramKind
+kind_of (Playing run) = run.manner.program
+kind_of job = Alone
+
 abbrev pub HasRefusal : ProgramKind → Step → Refusal → Type 0
 HasRefusal kind s refusal = IsTrue (is_of_step kind s (row_of refusal).number)
 
 -- The steps that take memory. Once it was begun to write, none is wanted.
 abbrev pub WantsMemory : Step → Type 0
-WantsMemory ReadProgram = Unit {0}
-WantsMemory ReadScript = Unit {0}
-WantsMemory ReadHead = Unit {0}
-WantsMemory Fit = Unit {0}
 WantsMemory Write = ⊥
 WantsMemory Tell = ⊥
+WantsMemory s = Unit {0}
 
 -- what a step judges passes
-abbrev pub StepPasses : Run → List File → Step → Type 0
-StepPasses run files ReadProgram = HasProgramOf run files
-StepPasses run files ReadScript = (p : HasProgramOf run files) × (changes : List Change) × HasScript run.controls files p.compiled.controls (Ok changes)
-StepPasses run files ReadHead = (source : Source) × HasInput run.manner.input run.input files (Ok source)
-StepPasses run files Fit = Plays run files
-StepPasses run files Write = (p : Plays run files) × IsWhole p
-StepPasses run files Tell = Unit {0}
+abbrev pub StepPasses : Job → List File → Step → Type 0
+StepPasses (Playing run) files ReadProgram = HasProgramOf run files
+StepPasses (Playing run) files ReadScript =
+    (p : HasProgramOf run files) × (changes : List Change) × HasScript run.controls files p.compiled.controls (Ok changes)
+StepPasses (Playing run) files ReadHead = (source : Source) × HasInput run.manner.input run.input files (Ok source)
+StepPasses (Playing run) files Fit = Plays run files
+StepPasses (Playing run) files Write = (p : Plays run files) × IsWhole p
+StepPasses (Checking name) files ReadProgram = HasProgram TextIs name files
+StepPasses job files s = Unit {0}
 
--- what a step judges is refused for this
-abbrev pub StepRefuses : Run → List File → Step → Refusal → Type 0
-StepRefuses run files ReadProgram refusal = HasNoProgram (FileIs run.manner.program) run.program files refusal
-StepRefuses run files ReadScript refusal = (p : HasProgramOf run files) × HasScript run.controls files p.compiled.controls (Err refusal)
-StepRefuses run files ReadHead refusal = HasInput run.manner.input run.input files (Err refusal)
-StepRefuses run files Fit refusal =
+-- what a step judges is refused for this: a make refuses nothing, since the text of so many voices is a program
+abbrev pub StepRefuses : Job → List File → Step → Refusal → Type 0
+StepRefuses (Playing run) files ReadProgram refusal = HasNoProgram (FileIs run.manner.program) run.program files refusal
+StepRefuses (Playing run) files ReadScript refusal = (p : HasProgramOf run files) × HasScript run.controls files p.compiled.controls (Err refusal)
+StepRefuses (Playing run) files ReadHead refusal = HasInput run.manner.input run.input files (Err refusal)
+StepRefuses (Playing run) files Fit refusal =
     (p : HasProgramOf run files) × (source : Source) × HasInput run.manner.input run.input files (Ok source)
     × (format_of (coding_of run.manner.output) run.settings p.compiled.diagram source.head ≡ Err refusal)
-StepRefuses run files Write refusal = (p : Plays run files) × (cut_in p.format p.source ≡ Some refusal)
-StepRefuses run files Tell refusal = ⊥
+StepRefuses (Playing run) files Write refusal = (p : Plays run files) × (cut_in p.format p.source ≡ Some refusal)
+StepRefuses (Checking name) files ReadProgram refusal = HasNoProgram TextIs name files refusal
+StepRefuses job files s refusal = ⊥
 
--- the rules of a run's steps
-abbrev pub run_rules : Run → DeskState → Rules Step
-run_rules run old = record {
-  requests = requests_of run;
-  Takes = TakesTurn run;
-  Answers = IsAnswered run old;
-  Has = HasRefusal run.manner.program;
-  Wants = WantsMemory;
-  Passes = StepPasses run old.files;
-  Refuses = StepRefuses run old.files;
-  Known = IsTrue old.tells;
-}
+-- it is known what they judge, which is nothing in a make
+abbrev pub IsKnown : Job → DeskState → Type 0
+IsKnown (Making voices frames workers) old = Unit {0}
+IsKnown job old = IsTrue old.tells
 
--- ---- the steps of a check
-
--- the steps, in their order
-abbrev pub check_steps : List Step
-check_steps = ReadProgram ∷ Tell ∷ []
-
--- there is room for all that is written of the report
-abbrev pub HasCheckRoom : (name : List ℕ) → DeskState → Type 0
-HasCheckRoom name old = (p : HasProgram TextIs name old.files) → length (written_by (check_meant p.compiled) old Report) ≤ old.room Report
-
--- what a step of a check asks the desk for
-abbrev pub check_requests : (name : List ℕ) → Step → List Request
-check_requests name ReadProgram = to_read Program name ∷ []
-check_requests name s = []
-
--- the roles that it reads or writes
-abbrev pub CheckTakes : Step → Turn → Type 0
-CheckTakes ReadProgram t = t ≡ reads Program
-CheckTakes Tell t = t ≡ writes Report
-CheckTakes s t = ⊥
-
--- what a turn of it needs
-abbrev pub CheckAnswered : (name : List ℕ) → DeskState → Step → Type 0
-CheckAnswered name old ReadProgram = IsUnfailing Program old × IsThere (Some name) old.files
-CheckAnswered name old Tell = IsUnfailing Report old × HasCheckRoom name old
-CheckAnswered name old s = Unit {0}
-
--- what it judges passes
-abbrev pub CheckPasses : (name : List ℕ) → List File → Step → Type 0
-CheckPasses name files ReadProgram = HasProgram TextIs name files
-CheckPasses name files s = Unit {0}
-
--- or is refused for this
-abbrev pub CheckRefuses : (name : List ℕ) → List File → Step → Refusal → Type 0
-CheckRefuses name files ReadProgram refusal = HasNoProgram TextIs name files refusal
-CheckRefuses name files s refusal = ⊥
-
--- the rules of a check's steps
-abbrev pub check_rules : (name : List ℕ) → DeskState → Rules Step
-check_rules name old = record {
-  requests = check_requests name;
-  Takes = CheckTakes;
-  Answers = λ s t. CheckAnswered name old s;
-  Has = HasRefusal Alone;
-  Wants = WantsMemory;
-  Passes = CheckPasses name old.files;
-  Refuses = CheckRefuses name old.files;
-  Known = IsTrue old.tells;
-}
-
--- ---- the steps of a make
-
--- this is the program of so many voices
-abbrev pub IsMade : (voices : ℕ) → Compiled → Type 0
-IsMade voices p = IsProgram (text_of voices) p
-
--- the steps, in their order
-abbrev pub make_steps : List Step
-make_steps = ReadProgram ∷ Tell ∷ []
-
--- the roles that a step of a make reads or writes
-abbrev pub MakeTakes : Step → Turn → Type 0
-MakeTakes Tell t = t ≡ writes Report
-MakeTakes s t = ⊥
-
--- what a turn of it needs
-abbrev pub MakeAnswered : (voices frames : ℕ) → DeskState → Step → Type 0
-MakeAnswered voices frames old Tell =
-    IsUnfailing Report old
-    × ((p : Compiled) → IsMade voices p → length (written_by (make_meant p voices frames) old Report) ≤ old.room Report)
-MakeAnswered voices frames old s = Unit {0}
-
--- The rules of a make's steps, which ask the desk for no file. They refuse nothing: the text of so many voices is a program.
-abbrev pub make_rules : (voices frames : ℕ) → DeskState → Rules Step
-make_rules voices frames old = record {
-  requests = λ s. [];
-  Takes = MakeTakes;
-  Answers = λ s t. MakeAnswered voices frames old s;
-  Has = HasRefusal Alone;
-  Wants = WantsMemory;
-  Passes = λ s. Unit {0};
-  Refuses = λ s refusal. ⊥;
-  Known = Unit {0};
-}
-
--- ---- what is asked for
-
--- its steps
+-- the steps
 abbrev pub steps_of : Job → List Step
-steps_of (Playing run) = run_steps
-steps_of (Checking name) = check_steps
-steps_of (Making voices frames) = make_steps
+steps_of (Playing run) = ReadProgram ∷ ReadScript ∷ ReadHead ∷ Fit ∷ Write ∷ Tell ∷ []
+steps_of job = ReadProgram ∷ Tell ∷ []
 
 -- and their rules
 abbrev pub rules_of : Job → DeskState → Rules Step
-rules_of (Playing run) old = run_rules run old
-rules_of (Checking name) old = check_rules name old
-rules_of (Making voices frames) old = make_rules voices frames old
-
--- it is known what they judge
-abbrev pub IsKnown : Job → DeskState → Type 0
-IsKnown job old = Rules.Known (rules_of job old)
-
--- it can be done
-abbrev pub CanDo : Job → List File → Type 0
-CanDo (Playing run) files = (p : Plays run files) × IsWhole p
-CanDo (Checking name) files = HasProgram TextIs name files
-CanDo (Making voices frames) files = (p : Compiled) × IsMade voices p
-
--- what it means that it is
-abbrev pub meant_of : (job : Job) (files : List File) → CanDo job files → Meant
-meant_of (Playing run) files can = meant can.0
-meant_of (Checking name) files can = check_meant can.compiled
-meant_of (Making voices frames) files can = make_meant can.0 voices frames
+rules_of job old = record {
+  requests = requests_of job;
+  Takes = TakesTurn job;
+  Answers = IsAnswered job old;
+  Has = HasRefusal (kind_of job);
+  Wants = WantsMemory;
+  Passes = StepPasses job old.files;
+  Refuses = StepRefuses job old.files;
+  Known = IsKnown job old;
+}
 
 -- ---- how a run ends
 
@@ -320,14 +237,12 @@ pub record IsRefusedFor (words : List (List ℕ)) (old new : DeskState) (refusal
 -- a run that is done began its output, and nothing else begins one
 abbrev pub BeginsOutput : Job → (old new : DeskState) → Type 0
 BeginsOutput (Playing run) old new = HasBegun old new
-BeginsOutput (Checking name) old new = new.begins Output ≡ old.begins Output
-BeginsOutput (Making voices frames) old new = new.begins Output ≡ old.begins Output
+BeginsOutput job old new = new.begins Output ≡ old.begins Output
 
 -- of the input of a run nothing was read behind its whole frames
 abbrev pub LeavesRestOf : Job → (old new : DeskState) → Type 0
 LeavesRestOf (Playing run) old new = LeavesRest run.manner.input run.input old.files (new.left Input)
-LeavesRestOf (Checking name) old new = Unit {0}
-LeavesRestOf (Making voices frames) old new = Unit {0}
+LeavesRestOf job old new = Unit {0}
 
 -- The desk was asked for the files of what was asked for, in their order; all that was meant was written, and nothing else.
 pub record HasDone (words : List (List ℕ)) (frames : ℕ) (old new : DeskState) : Type 0 where
@@ -375,10 +290,8 @@ abbrev pub IsReadBy : Job → Role → Type 0
 IsReadBy (Playing run) Program = Unit {0}
 IsReadBy (Playing run) Controls = IsSome run.controls
 IsReadBy (Playing run) Input = IsSome run.input
-IsReadBy (Playing run) r = ⊥
 IsReadBy (Checking name) Program = Unit {0}
-IsReadBy (Checking name) r = ⊥
-IsReadBy (Making voices frames) r = ⊥
+IsReadBy job r = ⊥
 
 -- and for these words
 abbrev pub IsRead : (words : List (List ℕ)) → Role → Type 0
@@ -424,8 +337,7 @@ IfRefused (Refused refusal) P = P refusal
 
 -- done, or out of memory
 abbrev pub IsDoneOrNoMemory : Status → Type 0
-IsDoneOrNoMemory (Done tally) = Unit {0}
-IsDoneOrNoMemory (Refused refusal) = refusal ≡ NoMemory
+IsDoneOrNoMemory status = IfRefused status (λ refusal. refusal ≡ NoMemory)
 
 -- Where the words ask for a run whose files can be played, or for a check of a program, and each turn is sure to be answered
 -- or has no fault, it is done, unless memory runs out.

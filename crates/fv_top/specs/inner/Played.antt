@@ -6,15 +6,15 @@ use Rattle.fv_top_text.specs.headline.Compiled.{Compiled}
 use Rattle.fv_top.specs.headline.Promise.{IsMade}
 use Rattle.fv_top.specs.headline.Played.{make_sizes}
 
--- the blocks of a make, by however many workers
-abbrev pub MakeRan : (voices frames blocks loops runs : ℕ) → (before after : Option Told) → Type 0
-MakeRan voices frames blocks loops runs before after =
-    (p : Compiled) × (workers : ℕ) × IsMade voices p × RanWhole p.diagram p.controls [] (make_sizes workers frames)
+-- the blocks of a make, by so many workers
+abbrev pub MakeRan : (voices frames workers blocks loops runs : ℕ) → (before after : Option Told) → Type 0
+MakeRan voices frames workers blocks loops runs before after =
+    (p : Compiled) × IsMade voices p × RanWhole p.diagram p.controls [] (make_sizes workers frames)
     (record { blocks = blocks; loops = loops; loop_runs = runs }) before after
 
 -- the same, however many
-pub record MakeSoFar (voices frames : ℕ) (before after : Option Told) : Type 0 where
+pub record MakeSoFar (voices frames workers : ℕ) (before after : Option Told) : Type 0 where
   pub blocks : ℕ
   pub loops : ℕ
   pub runs : ℕ
-  pub ran : MakeRan voices frames blocks loops runs before after
+  pub ran : MakeRan voices frames workers blocks loops runs before after

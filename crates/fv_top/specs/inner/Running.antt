@@ -17,8 +17,8 @@ use Rattle.fv_top_text.specs.headline.Compiled.{Compiled}
 use Rattle.fv_top_text.specs.headline.Program.{TextIs}
 use Rattle.fv_top_report.specs.headline.Lines.{refused_line}
 use Rattle.fv_top.specs.headline.Steps.{Ends}
-use Rattle.fv_top.specs.headline.Promise.{HasProgram, Step, ReadProgram, ReadScript, ReadHead, Fit, run_rules, check_rules, check_steps}
-use Rattle.fv_top.specs.headline.Promise.{IsMade, make_rules, make_steps, IsReadBy, IsRead, KeepsOthers, IsBegunLine, IsRefusedFor, HasDone}
+use Rattle.fv_top.specs.headline.Promise.{HasProgram, Step, ReadProgram, ReadScript, ReadHead, Fit, rules_of, steps_of}
+use Rattle.fv_top.specs.headline.Promise.{IsMade, IsReadBy, IsRead, KeepsOthers, IsBegunLine, IsRefusedFor, HasDone}
 use Rattle.fv_top.specs.headline.Promise.{LeavesOutput, CutsShort, Reports, IsFaultOf, HandsOn}
 
 -- The desk was asked for this, nothing was written, and only these roles were read.
@@ -45,7 +45,7 @@ steps_before = ReadProgram ∷ ReadScript ∷ ReadHead ∷ Fit ∷ []
 pub record StopsBefore (run : Run) (old new : DeskState) (refusal : Refusal) : Type 0 where
   pub asked : List Request
   pub reaches : Reaches (IsReadBy (Playing run)) asked old new
-  pub ends : Ends (run_rules run old) old new steps_before refusal asked
+  pub ends : Ends (rules_of (Playing run) old) old new steps_before refusal asked
   pub faults : CountsFaultOf refusal old new
 
 -- ---- a check
@@ -64,7 +64,7 @@ pub record StopsCheck (name : List ℕ) (old new : DeskState) (refusal : Refusal
   pub goes_on : GoesOn old new
   pub others : KeepsOthers (IsReadBy (Checking name)) old new
   pub requests : new.requests ≡ old.requests ++ to_read Program name ∷ []
-  pub ends : Ends (check_rules name old) old new check_steps refusal (to_read Program name ∷ [])
+  pub ends : Ends (rules_of (Checking name) old) old new (steps_of (Checking name)) refusal (to_read Program name ∷ [])
   pub output : KeepsOutput old new
   pub begun : List ℕ
   pub appended : IsTrue old.tells → new.written Report ≡ old.written Report ++ begun
@@ -75,10 +75,10 @@ pub record StopsCheck (name : List ℕ) (old new : DeskState) (refusal : Refusal
 -- ---- a make
 
 -- The line of a program that was made was reported.
-pub record Makes (voices frames : ℕ) (old new : DeskState) : Type 0 where
+pub record Makes (voices frames workers : ℕ) (old new : DeskState) : Type 0 where
   pub goes_on : GoesOn old new
   pub requests : new.requests ≡ old.requests ++ []
-  pub others : KeepsOthers (IsReadBy (Making voices frames)) old new
+  pub others : KeepsOthers (IsReadBy (Making voices frames workers)) old new
   pub faults : KeepsFaults old new
   pub begins : new.begins Output ≡ old.begins Output
   pub compiled : Compiled
@@ -86,11 +86,11 @@ pub record Makes (voices frames : ℕ) (old new : DeskState) : Type 0 where
   pub told : IsTrue old.tells → (r : Role) → new.written r ≡ written_by (make_meant compiled voices frames) old r
 
 -- It could not be, before its refusal is reported.
-pub record StopsMake (voices frames : ℕ) (old new : DeskState) (refusal : Refusal) : Type 0 where
+pub record StopsMake (voices frames workers : ℕ) (old new : DeskState) (refusal : Refusal) : Type 0 where
   pub goes_on : GoesOn old new
-  pub others : KeepsOthers (IsReadBy (Making voices frames)) old new
+  pub others : KeepsOthers (IsReadBy (Making voices frames workers)) old new
   pub requests : new.requests ≡ old.requests ++ []
-  pub ends : Ends (make_rules voices frames old) old new make_steps refusal []
+  pub ends : Ends (rules_of (Making voices frames workers) old) old new (steps_of (Making voices frames workers)) refusal []
   pub output : KeepsOutput old new
   pub begun : List ℕ
   pub appended : IsTrue old.tells → new.written Report ≡ old.written Report ++ begun

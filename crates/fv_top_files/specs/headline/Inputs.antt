@@ -11,27 +11,13 @@ use Rattle.fv_top_files.specs.declared.incoming.Incoming.{Incoming}
 
 -- an input with the head of a WAV file
 abbrev pub wave_incoming : Head → Incoming
-wave_incoming h = record {
-  coding = coding.Wave;
-  channels = h.channels;
-  rate = h.rate;
-  bits = h.bits;
-  data_bytes = h.data_bytes;
-  is_open = false;
-  place = h.place;
-}
+wave_incoming h =
+    record { coding = coding.Wave; channels = h.channels; rate = h.rate; bits = h.bits; data_bytes = h.data_bytes; is_open = false; place = h.place }
 
 -- an input with the head of an AU file and so many bytes of samples, which the head may not state
 abbrev pub au_incoming : AuHead → (data_bytes : ℕ) → Incoming
-au_incoming h data_bytes = record {
-  coding = coding.Au;
-  channels = h.channels;
-  rate = h.rate;
-  bits = h.bits;
-  data_bytes = data_bytes;
-  is_open = is_none h.data_bytes;
-  place = h.offset;
-}
+au_incoming h n =
+    record { coding = coding.Au; channels = h.channels; rate = h.rate; bits = h.bits; data_bytes = n; is_open = is_none h.data_bytes; place = h.offset }
 
 -- where its samples lie
 abbrev pub layout_of : Incoming → Layout

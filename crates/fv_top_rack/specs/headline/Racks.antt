@@ -1,7 +1,6 @@
 -- What a file of jobs is: its programs side by side, or refused for its first fault (this project's profile).
 use Rattle.std.specs.Prelude.{◌≡◌, ℕ, suc, List, [], ◌∷◌, map, Result, Ok, Err}
 use Rattle.fv_interval.specs.headline.Controls.{spans_of}
-use Rattle.fv_jobs.specs.declared.refusal.JobsRefusal.{JobsRefusal}
 use Rattle.fv_jobs.specs.headline.File.{jobs_file}
 use Rattle.fv_jobs_controls.specs.headline.Labels.{controls_of}
 use Rattle.fv_join_diagrams.specs.headline.Parts.{Part, side_by_side}
@@ -9,9 +8,9 @@ use Rattle.fv_top_report.specs.declared.refusal.Refusal.{Refusal}
 use Rattle.fv_top_report.specs.declared.refusal.Refusal.TheVariants as no
 use Rattle.fv_top_report.specs.headline.Layers.{of_jobs}
 use Rattle.fv_top_report.specs.headline.Lines.{row_of}
-use Rattle.fv_top_text.specs.headline.Answers.{Then, Turned}
+use Rattle.fv_top_text.specs.headline.Answers.{Then, Turned, Gives}
 use Rattle.fv_top_text.specs.headline.Compiled.{Compiled}
-use Rattle.fv_top_text.specs.headline.Program.{TextIs, Delayed, Narrow}
+use Rattle.fv_top_text.specs.headline.Program.{TextIs, checked, narrow}
 
 -- ---- several programs side by side
 
@@ -24,10 +23,6 @@ abbrev pub rack_of : List Compiled → Compiled
 rack_of ps = record { diagram = side_by_side 0 (map part_of ps); controls = controls_of (map (λ (p : Compiled). p.controls) ps) }
 
 -- ---- the file
-
--- what a file is cut into
-abbrev pub JobsAre : List ℕ → Result (List (List ℕ)) JobsRefusal → Type 0
-JobsAre file r = jobs_file file ≡ r
 
 -- job k is refused where its text is, for what has this number
 abbrev pub refused_job : (k : ℕ) → Refusal → Refusal
@@ -49,15 +44,7 @@ abbrev pub EachIs : (k : ℕ) → List (List ℕ) → Result (List Compiled) Ref
 EachIs k [] r = r ≡ Ok []
 EachIs k (text ∷ texts) r = Then (Turned (refused_job k) TextIs) (WithFirst (EachIs (suc k) texts)) text r
 
--- they stand side by side
-abbrev pub Beside : List Compiled → Result Compiled Refusal → Type 0
-Beside ps r = Ok (rack_of ps) ≡ r
-
--- what a file is up to the programs of its jobs, numbered from 0
-abbrev pub JobsHave : List ℕ → Result (List Compiled) Refusal → Type 0
-JobsHave file r = Then (Turned of_jobs JobsAre) (EachIs 0) file r
-
--- what a file of jobs is: its jobs, then their programs side by side, and of these all delays and all channels; or the first
--- refusal on the way
+-- What a file of jobs is: its jobs, then their programs side by side, and of these all delays and all channels; or the first
+-- refusal on the way.
 abbrev pub RackIs : List ℕ → Result Compiled Refusal → Type 0
-RackIs file r = Then (Then (Then JobsHave Beside) Delayed) Narrow file r
+RackIs = Then (Then (Then (Then (Turned of_jobs (Gives jobs_file)) (EachIs 0)) (Gives (λ ps. Ok (rack_of ps)))) (Gives checked)) (Gives narrow)

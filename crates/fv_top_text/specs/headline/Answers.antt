@@ -1,5 +1,5 @@
 -- Answers of layers, one after another: each has one relation, and they compose.
-use Rattle.std.specs.Prelude.{Result, Ok, Err}
+use Rattle.std.specs.Prelude.{◌≡◌, Result, Ok, Err}
 
 -- first P, and then, on what it gave, Q
 pub data Then {X A B E : Type 0} (P : X → Result A E → Type 0) (Q : A → Result B E → Type 0) (x : X) : Result B E → Type 0 where
@@ -10,3 +10,7 @@ pub data Then {X A B E : Type 0} (P : X → Result A E → Type 0) (Q : A → Re
 pub data Turned {X A D E : Type 0} (of : D → E) (P : X → Result A D → Type 0) (x : X) : Result A E → Type 0 where
   kept : (a : A) → P x (Ok a) → Turned of P x (Ok a)
   turned : (e : D) → P x (Err e) → Turned of P x (Err (of e))
+
+-- what a function gives
+abbrev pub Gives : {X A : Type 0} → (X → A) → X → A → Type 0
+Gives f x r = f x ≡ r

@@ -16,7 +16,7 @@ use Rattle.fv_eval.specs.Rules.{program_value}
 use Rattle.fv_interval.specs.headline.Delays.{delays_of, amounts, delay_limit, delay_budget}
 use Rattle.fv_interval.specs.headline.Controls.{spans_of}
 use Rattle.fv_top_report.specs.headline.Layers.{of_bytes, of_tokens, of_value}
-use Rattle.fv_top_text.specs.headline.Answers.{Then, Turned}
+use Rattle.fv_top_text.specs.headline.Answers.{Then, Turned, Gives}
 use Rattle.fv_top_text.specs.headline.Compiled.{Compiled}
 use Rattle.fv_top_report.specs.declared.refusal.Refusal.{Refusal}
 use Rattle.fv_top_report.specs.declared.refusal.Refusal.TheVariants as no
@@ -42,27 +42,20 @@ abbrev pub valued : Result (Diagram × List ControlInfo) EvalRefusal → Result 
 valued (Ok v) = Ok (record { diagram = v.0; controls = v.1 })
 valued (Err e) = Err e
 
--- what a tree is: the program that it evaluates to, or why it does to none
-abbrev pub Evaluates : Spelled → Result Compiled EvalRefusal → Type 0
-Evaluates s r = valued (program_value s.tokens s.tree) ≡ r
-
--- no file has more channels
-abbrev pub most_channels : ℕ
-most_channels = MOST_CHANNELS
+-- the program that a tree evaluates to, or why it does to none
+abbrev pub evaluated : Spelled → Result Compiled EvalRefusal
+evaluated s = valued (program_value s.tokens s.tree)
 
 -- a program with so many inputs and outputs, where it has some output, and no more channels than files have
 abbrev pub with_channels : (inputs outputs : ℕ) → Compiled → Result Compiled Refusal
 with_channels inputs outputs p =
     if outputs == 0 then Err (no.Channels 0 1)
-    else (if nat_lt most_channels outputs then Err (no.Channels outputs most_channels)
-    else (if nat_lt most_channels inputs then Err (no.Channels inputs most_channels)
+    else (if nat_lt MOST_CHANNELS outputs then Err (no.Channels outputs MOST_CHANNELS)
+    else (if nat_lt MOST_CHANNELS inputs then Err (no.Channels inputs MOST_CHANNELS)
     else Ok p))
 
 abbrev pub narrow : Compiled → Result Compiled Refusal
 narrow p = with_channels (inputs p.diagram) (outputs p.diagram) p
-
-abbrev pub Narrow : Compiled → Result Compiled Refusal → Type 0
-Narrow p r = narrow p ≡ r
 
 -- the spans of a program's delays, in the order of the walk
 abbrev pub delays_in : Compiled → List Interval
@@ -89,25 +82,10 @@ delayed p (Some refusal) = Err refusal
 delayed p None = if nat_le (delay_in p) delay_budget then Ok p else Err (no.DelayBudget (delay_in p))
 
 -- a program whose delays are not refused
-abbrev pub Delayed : Compiled → Result Compiled Refusal → Type 0
-Delayed p r = delayed p (first_bad (delays_in p)) ≡ r
+abbrev pub checked : Compiled → Result Compiled Refusal
+checked p = delayed p (first_bad (delays_in p))
 
--- what a text is up to its tree: tokens, and then their tree
-abbrev pub SpellingIs : List ℕ → Result Spelled Refusal → Type 0
-SpellingIs text r = Then (Turned of_bytes Has) (Turned of_tokens Parses) text r
-
--- and then its value
-abbrev pub ValueIs : List ℕ → Result Compiled Refusal → Type 0
-ValueIs text r = Then SpellingIs (Turned of_value Evaluates) text r
-
--- and then its channels
-abbrev pub WidthIs : List ℕ → Result Compiled Refusal → Type 0
-WidthIs text r = Then ValueIs Narrow text r
-
--- what a text is: its tokens, then their tree, its value, its channels and its delays; or the first refusal on the way
+-- What a text is: its tokens, then their tree, its value, its channels and its delays; or the first refusal on the way.
 abbrev pub TextIs : List ℕ → Result Compiled Refusal → Type 0
-TextIs text r = Then WidthIs Delayed text r
-
--- The text is this program.
-abbrev pub IsProgram : List ℕ → Compiled → Type 0
-IsProgram text p = TextIs text (Ok p)
+TextIs =
+    Then (Then (Then (Then (Turned of_bytes Has) (Turned of_tokens Parses)) (Turned of_value (Gives evaluated))) (Gives narrow)) (Gives checked)

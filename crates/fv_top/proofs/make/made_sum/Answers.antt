@@ -14,4 +14,4 @@ returns-clause-sum g c =
 pub returns-clause-ran : goal.returns-clause-ran
 returns-clause-ran g c =
     let made = c.in_ok-playable.ensures.made in
-    (made.0, c.args.workers, made.1, c.in_ok-made.ensures.ran made.0 made.2)
+    (made.0, made.1, c.in_ok-made.ensures.ran made.0 made.2)

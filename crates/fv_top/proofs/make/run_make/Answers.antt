@@ -6,7 +6,7 @@ use Rattle.fv_top.proofs.make.run_make.Goals as goal
 pub returns-in_err-made-clause-stops : goal.returns-in_err-made-clause-stops
 returns-in_err-made-clause-stops g c =
     let q = err_from_is_err_and c.from_residual.result c.from_residual.ensures.1 in
-    rw (q.1, q.2) (make_stops c.args.voices c.args.frames (g.D.Desk.state c.args.desk.now) c.in_err-made.field-0.0 c.in_err-made.ensures.none)
+    rw (q.1, q.2) (make_stops c.args.voices c.args.frames c.args.workers (g.D.Desk.state c.args.desk.now) c.in_err-made.field-0.0 c.in_err-made.ensures.none)
 
 pub returns-in_err-made-clause-so_far : goal.returns-in_err-made-clause-so_far
 returns-in_err-made-clause-so_far g c =
@@ -19,7 +19,7 @@ returns-in-Ok-clause-done g c =
     let made = c.in_ok-made.made in
     let fits : SFits w32 made.sum = search rules in
     let sum = same_sum {n = to_z w32 (of_z w32 made.sum)} (to_z-of_z fits) c.in_ok-made.ensures.sum in
-    make_done c.args.voices c.args.frames _ sum (state c.args.desk.now) (state c.report_made.new.desk) c.in-Ok.ensures.ok c.in-Ok.ensures.steady
+    make_done c.args.voices c.args.frames c.args.workers _ sum (state c.args.desk.now) (state c.report_made.new.desk) c.in-Ok.ensures.ok c.in-Ok.ensures.steady
 
 pub returns-in-Err-clause-stops : goal.returns-in-Err-clause-stops
 returns-in-Err-clause-stops g c =
@@ -27,7 +27,7 @@ returns-in-Err-clause-stops g c =
     let made = c.in_ok-made.made in
     let fits : SFits w32 made.sum = search rules in
     let sum = same_sum {n = to_z w32 (of_z w32 made.sum)} (to_z-of_z fits) c.in_ok-made.ensures.sum in
-    make_tells c.args.voices c.args.frames _ sum (state c.args.desk.now) (state c.report_made.new.desk) c.in-Err.ensures.err c.in-Err.ensures.failed
+    make_tells c.args.voices c.args.frames c.args.workers _ sum (state c.args.desk.now) (state c.report_made.new.desk) c.in-Err.ensures.err c.in-Err.ensures.failed
     (λ t sure room. let answered = c.in-Err.ensures.answers t sure room in absurd cc)
 
 pub returns-in-Err-clause-so_far : goal.returns-in-Err-clause-so_far

@@ -76,7 +76,7 @@ returns-in_ok-check-in-Check-clause-blocks g c = record {
 
 -- ---- a make
 
-make_asked : (g : Over) (c : In-Make g) → Asks (map string_bytes c.args.words.now) (Making c.in-Make.voices c.in-Make.frames)
+make_asked : (g : Over) (c : In-Make g) → Asks (map string_bytes c.args.words.now) (Making c.in-Make.voices c.in-Make.frames c.in-Make.workers)
 make_asked g c = sym c.in_ok-job.ensures.job ∙ ap (λ (j : Jobs). Ok (job_view j)) c.in-Make.is
 
 pub returns-in_err-ran-in-Make-clause-stops : goal.returns-in_err-ran-in-Make-clause-stops
@@ -97,7 +97,7 @@ returns-in_err-ran-in-Make-clause-so_far g c =
 
 pub returns-in_ok-ran-in-Make-clause-blocks : goal.returns-in_ok-ran-in-Make-clause-blocks
 returns-in_ok-ran-in-Make-clause-blocks g c = record {
-  job = Making c.in-Make.voices c.in-Make.frames;
+  job = Making c.in-Make.voices c.in-Make.frames c.in-Make.workers;
   asks = make_asked g (goal.at.returns-in_ok-ran-in-Make-clause-blocks g c).In-Make;
   blocks = make_ran c.in_ok-ran-in-Make.ensures.ran;
 }

@@ -24,7 +24,7 @@ found_there None files bytes e = tt
 found_there (Some name) files bytes e = some_there (file_named name files) bytes e
 
 -- the turns of writing
-answered : {words : List (List ℕ)} {run : Run} {desk : DeskState} → IsSure words run desk → (t : Turn) → IsAnswered run desk Write t
+answered : {words : List (List ℕ)} {run : Run} {desk : DeskState} → IsSure words run desk → (t : Turn) → IsAnswered (Playing run) desk Write t
 answered sure (reads role) = sure.unfailing Input
 answered sure (writes role) = (sure.unfailing Output, sure.room Output)
 
