@@ -17,7 +17,8 @@ for f in sorted(glob.glob('crates/*/proofs/**/*.antt',recursive=True)+glob.glob(
             continue
         m=re.match(r'(pub )?use ([\w.+-]+) as (\w+)$',l)
         if m: imps.append((m.group(2),'@'+m.group(3))); continue
-        body.append(re.sub(r'--.*','',l))
+        # A comment stands on a line of its own; `--` elsewhere is part of a text.
+        body.append('' if l.lstrip().startswith('--') else l)
     b='\n'.join(body); toks=set(re.findall(r"[^\s(){}\[\],;.:]+",b))|set(re.findall(r"[^\s(){}\[\],;]+",b))
     for mod,n in imps:
         if n.startswith('@'):

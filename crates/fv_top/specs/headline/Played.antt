@@ -7,7 +7,7 @@ use Rattle.fv_control.specs.declared.script.Change.{Change}
 use Rattle.fv_engine_render.specs.declared.blocks.RunSizes.{RunSizes}
 use Rattle.fv_engine_render.specs.declared.blocks.Ran.{Ran}
 use Rattle.fv_engine_render.specs.headline.Render.{RanTo}
-use Rattle.fv_top_words.specs.headline.Runs.{Run, Settings}
+use Rattle.fv_top_words.specs.headline.Runs.{Settings}
 use Rattle.fv_top_words.specs.headline.Commands.{Job, Playing, Checking, Making}
 use Rattle.fv_top_report.specs.declared.refusal.Refusal.{Refusal}
 use Rattle.fv_top_report.specs.declared.refusal.Refusal.TheVariants.{WriteFault}
