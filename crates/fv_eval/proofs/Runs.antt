@@ -9,8 +9,9 @@ use Rattle.fv_diagram.specs.headline.Diagram.{Diagram, has_table_primitive}
 use Rattle.fv_diagram.specs.Arena.{Arena, count_of, empty_arena, tree_of}
 use Rattle.std.specs.Prelude.{slice_get}
 use Rattle.std.proofs.lemmas.Option.{none-some}
-use Rattle.fv_eval_patterns.specs.Remembered.{Remembered}
+use Rattle.fv_eval_patterns.specs.Remembered.{nothing}
 use Rattle.fv_eval_patterns.specs.Trials.{Recalls}
+use Rattle.fv_eval_patterns.proofs.LongPatterns.{recalls_nothing}
 use Rattle.fv_eval_choosing.specs.declared.shortcuts.Shortcut.{Shortcut}
 use Rattle.fv_eval_choosing.specs.Shortcuts.{AreShortcuts}
 use Rattle.fv_rules.specs.declared.refusal.EvalRefusal.{EvalRefusal}
@@ -132,17 +133,13 @@ goes_on p m n f r o mean goes h = (step p.tokens h.0, goes h.0 h.1, mean p.token
 
 -- ---- a whole run
 
--- what remembers nothing remembers nothing wrong
-knows_nothing : (p : Parsed) (a : Arena) (m : Remembered) → m ≡ record { trials = []; bindings = [] } → Recalls p a m
-knows_nothing p a m none i f e = absurd (none-some f (ap (λ (n : Remembered). slice_get n.trials i) (sym none) ∙ e))
-
 knows_no_way : (p : Parsed) (scopes : List Enclosing) (xs : List Shortcut) → xs ≡ [] → AreShortcuts p scopes xs
 knows_no_way p scopes xs none i x e = absurd (none-some x (ap (λ (ys : List Shortcut). slice_get ys i) (sym none) ∙ e))
 
 -- a new machine to which its first environment and its first continuation were added
 pub starts : (p : Parsed) (m : code_machine.Machine) (s : Environments) (fs : List code_continuation.Continuation) (root name env : ℕ)
     → (m.drawing.diagrams ≡ empty_arena) × (m.scopes ≡ record { scopes = []; taken = [] }) × (m.continuations ≡ []) × (state_of m ≡ start)
-    × (m.trials ≡ record { trials = []; bindings = [] }) × (m.shortcuts ≡ [])
+    × (m.trials ≡ nothing) × (m.shortcuts ≡ [])
     → (env ≡ length m.scopes.scopes + 1) × (s ≡ with_scope m.scopes (scope.Definitions root 0))
     → fs ≡ m.continuations ++ continuation.Drawn drawn.Finish ∷ [] → root ≡ p.root
     → root < size_of p → (text_of p.tokens name ≡ codes "process") × (first_named p.tokens name ≡ name)
@@ -168,7 +165,7 @@ starts p m s fs root name env new opened pushed rooted inside named =
         named,
         shown,
         (
-          (knows_nothing p m.drawing.diagrams m.trials new.4, knows_no_way p s.scopes m.shortcuts new.5),
+          (subst (Recalls p m.drawing.diagrams) (sym new.4) (recalls_nothing p m.drawing.diagrams), knows_no_way p s.scopes m.shortcuts new.5),
           ([], continuation.Drawn drawn.Finish, continuations, tt, refl),
         ),
       ),

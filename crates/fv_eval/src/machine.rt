@@ -7,6 +7,7 @@ ghost use Rattle.fv_diagram.specs.Arena.{empty_arena};
 ghost use Rattle.fv_rules.specs.headline.Values.{Env, Name, Scope, Value as Meant};
 ghost use Rattle.fv_rules.specs.headline.Steps.{Outcome};
 ghost use Rattle.fv_eval_scopes.specs.Shows.{IsNamed, ShowsEnv, ShowsTree};
+ghost use Rattle.fv_eval_patterns.specs.Remembered.{nothing};
 ghost use Rattle.fv_eval_machine.specs.Machine.{Call, Config, Continuation as Waiting, Running, Visit, step};
 ghost use Rattle.fv_eval.specs.inner.Continuations.{Continues, Ends, Goes, Runs, ShowsContinuation, Steps, state_of, world};
 
@@ -44,7 +45,7 @@ impl Machine {
     pub fn new(alloc: Global, visits: u32) -> Machine
         ensures { (result.drawing.diagrams ≡ empty_arena) × (result.scopes ≡ record { scopes = []; taken = [] })
             × (result.continuations ≡ []) × (state_of result ≡ record { visits = visits; controls = []; slot = 0; tables = 0 })
-            × (result.trials ≡ record { trials = []; bindings = [] }) × (result.shortcuts ≡ []) }
+            × (result.trials ≡ nothing) × (result.shortcuts ≡ []) }
     {
         Machine {
             alloc,

@@ -1,4 +1,3 @@
-pub mod BitSets
 pub mod Keyed
 pub mod Lookups
 pub mod Named

@@ -22,7 +22,7 @@ use Rattle.fv_eval_scopes.proofs.Added.{adds_none, adds_on}
 use Rattle.fv_eval_patterns.proofs.Matched.{adds_grow}
 use Rattle.fv_eval_patterns.proofs.InOrder.{said_yes, said_no, AllAnswer}
 use Rattle.std.proofs.lemmas.List.{get_or_default}
-use Rattle.fv_eval_choosing.specs.Bits.{has}
+use Rattle.fv_eval_patterns.specs.Bits.{has}
 use Rattle.fv_eval_choosing.specs.Leaving.{IsOut, Leaves}
 use Rattle.fv_eval_choosing.proofs.Wanting.{rule_here}
 

@@ -17,7 +17,7 @@ use Rattle.fv_eval_scopes.specs.Shows.{World, ShowsValue, ShowsValues, rules_in}
 use Rattle.fv_eval_choosing.specs.declared.index.RuleIndex.{RuleIndex}
 use Rattle.fv_eval_choosing.specs.declared.paths.Path.{Path}
 use Rattle.fv_eval_choosing.specs.declared.wants.Wanted.{Wanted}
-use Rattle.fv_eval_choosing.specs.Bits.{has}
+use Rattle.fv_eval_patterns.specs.Bits.{has}
 use Rattle.fv_eval_choosing.specs.Indexes.{AreIndexes}
 use Rattle.fv_eval_choosing.specs.Leaving.{Fails, IsIndex, Leaves, Narrows}
 use Rattle.fv_eval_choosing.specs.Positions.{Allows, HasBoth, IsWanted, Sorts, diagram_key, diagram_part, is_for, key_at, key_in, permits, want_at}

@@ -9,7 +9,7 @@ use Rattle.fv_eval_scopes.specs.Shows.{World, ShowsValues}
 use Rattle.fv_eval_choosing.specs.declared.positions.Position.{Position}
 use Rattle.fv_eval_choosing.specs.declared.positions.Row.{Row}
 use Rattle.fv_eval_choosing.specs.declared.index.RuleIndex.{RuleIndex}
-use Rattle.fv_eval_choosing.specs.Bits.{has}
+use Rattle.fv_eval_patterns.specs.Bits.{has}
 use Rattle.fv_eval_choosing.specs.Positions.{HasBoth, Sorts, is_for}
 
 -- what a position keeps is true of rules

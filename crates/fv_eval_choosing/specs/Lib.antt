@@ -1,7 +1,6 @@
 pub mod ByName
 pub mod Chosen
 pub mod inner
-pub mod Bits
 pub mod Indexes
 pub mod Leaving
 pub mod Positions

@@ -11,7 +11,7 @@ use Rattle.fv_eval_choosing.specs.declared.paths.Side.{Side}
 use Rattle.fv_eval_choosing.specs.declared.paths.Side.TheVariants.{Left, Right}
 use Rattle.fv_eval_choosing.specs.declared.paths.Path.{Path}
 use Rattle.fv_eval_choosing.specs.declared.wants.Wanted.{Wanted}
-use Rattle.fv_eval_choosing.specs.Bits.{has}
+use Rattle.fv_eval_patterns.specs.Bits.{has}
 use Rattle.fv_rules.specs.headline.Values.{Rule, Value, Flat}
 use Rattle.fv_rules.specs.headline.Matching.{and_then}
 

@@ -13,12 +13,11 @@ ghost use Rattle.fv_eval_patterns.specs.Trials.{Recalls};
 ghost use Rattle.fv_eval_choosing.specs.Chosen.{ShowsChoice, IsRuleAt, IsFirstRule, Chooses, nodes_of};
 ghost use Rattle.fv_eval_choosing.specs.Leaving.{Leaves};
 
-use crate::bits::Bits;
 use crate::by_name::Defined;
 use crate::index::{left_by, next_left};
 use crate::lookup::Definitions;
 use fv_diagram::Diagrams;
-use fv_eval_patterns::{Bindings, Subjects, Trials};
+use fv_eval_patterns::{Bindings, Bits, Subjects, Trials};
 use fv_eval_scopes::{Numbers, Ruled, Value};
 use fv_parse::{Tree, TreeId, TreeNode};
 use std::alloc::{AllocError, Global};

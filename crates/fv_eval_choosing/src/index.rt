@@ -8,12 +8,11 @@ ghost use Rattle.fv_eval_patterns.specs.Patterns.{IsSound};
 ghost use Rattle.fv_eval_choosing.specs.Chosen.{nodes_of};
 ghost use Rattle.fv_eval_choosing.specs.Leaving.{IsIndex, IsOut, Knows, Leaves};
 
-use crate::bits::Bits;
 use crate::choosing::{Rules, patterns_of};
 use crate::paths::Path;
 use crate::positions::Position;
 use fv_diagram::Diagrams;
-use fv_eval_patterns::Subjects;
+use fv_eval_patterns::{Bits, Subjects};
 use fv_eval_scopes::{Numbers, Ruled};
 use fv_parse::Tree;
 use std::alloc::{AllocError, Global};

@@ -1,7 +1,6 @@
 //! What a name stands for, and which rule matches: definitions by name, the choice of a rule.
 #![tactic(auto)]
 
-mod bits;
 mod by_name;
 mod choosing;
 mod index;

@@ -9,16 +9,15 @@ ghost use Rattle.fv_eval_scopes.specs.Shows.{World, ShowsValues};
 ghost use Rattle.fv_eval_patterns.specs.Patterns.{IsSound};
 ghost use Rattle.fv_eval_choosing.specs.declared.positions.Row.{Row as ARow};
 ghost use Rattle.fv_eval_choosing.specs.Chosen.{nodes_of};
-ghost use Rattle.fv_eval_choosing.specs.Bits.{has};
+ghost use Rattle.fv_eval_patterns.specs.Bits.{has};
 ghost use Rattle.fv_eval_choosing.specs.Positions.{HasBoth, Sorts, is_for, key_at, permits, want_at};
 ghost use Rattle.fv_eval_choosing.specs.Leaving.{Knows, Narrows};
 
-use crate::bits::{Bits, WORD};
 use crate::choosing::Rules;
 use crate::paths::{COMPOSITIONS, Path, Side, diagram_key, diagram_part, want_at};
 use crate::wants::{Wanted, Wants};
 use fv_diagram::Diagrams;
-use fv_eval_patterns::Subjects;
+use fv_eval_patterns::{Bits, Subjects, WORD};
 use fv_eval_scopes::{Numbers, Value};
 use fv_parse::Tree;
 use std::alloc::{AllocError, Global};

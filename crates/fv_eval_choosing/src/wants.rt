@@ -4,7 +4,7 @@ ghost use Rattle.std.specs.Prelude.{ℕ, ◌≡◌, IfOk, filter};
 ghost use Rattle.fv_eval_choosing.specs.declared.wants.Wanted.{Wanted as AWant};
 ghost use Rattle.fv_eval_choosing.specs.Positions.{HasBoth, is_for};
 
-use crate::bits::Bits;
+use fv_eval_patterns::Bits;
 use std::alloc::{AllocError, Global};
 use std::marker::Model;
 

@@ -23,7 +23,7 @@ use Rattle.fv_eval_scopes.specs.declared.value.Binding.{Binding}
 use Rattle.fv_eval_patterns.specs.declared.trials.Outcome.{Outcome}
 use Rattle.fv_eval_patterns.specs.declared.trials.Outcome.TheVariants as outcomes
 use Rattle.fv_eval_patterns.specs.declared.trials.Trial.{Trial}
-use Rattle.fv_eval_patterns.specs.Remembered.{Remembered}
+use Rattle.fv_eval_patterns.specs.Remembered.{Remembered, nothing}
 use Rattle.fv_eval_patterns.specs.declared.trying.Task.{Task}
 use Rattle.fv_eval_patterns.specs.declared.trying.Task.TheVariants.{Try, Note}
 use Rattle.fv_rules.specs.headline.Values.{Value, Flat}
@@ -32,8 +32,9 @@ use Rattle.fv_eval_scopes.specs.Shows.{World, ShowsBindings, ShowsValue, ShowsVa
 use Rattle.fv_eval_scopes.proofs.Grown.{bindings_grow, diagrams_come}
 use Rattle.fv_eval_scopes.specs.Memo.{Remembers, AddsIntegers}
 use Rattle.fv_eval_patterns.specs.Patterns.{with_diagrams, matched_on, are_parts, ArePartsOf, IsPair, Refuses}
-use Rattle.fv_eval_patterns.specs.Trials.{AllMiss, Binds, Leads, Recalls, Says, Splits, Tells, may_match, outcome_of, weight, weights}
+use Rattle.fv_eval_patterns.specs.Trials.{AllMiss, AllTold, Binds, Leads, Recalls, Says, Splits, Tells, may_match, outcome_of, weight, weights}
 use Rattle.fv_eval_scopes.proofs.Added.{adds_keeps, adds_longer}
+use Rattle.fv_eval_patterns.proofs.Surveys.{survey_grow}
 use Rattle.fv_eval_patterns.proofs.Matched.{IsNumber, IsPaired, and_then_some, by_parts, number_refuses}
 
 nothing_then : {A B : Type 0} (o : Option A) (f : A → Option B) → ((x : A) → f x ≡ None) → and_then o f ≡ None
@@ -72,11 +73,21 @@ module _ (p : Parsed) (a b : Arena) (longer : count_of a ≤ count_of b) (same :
 
   -- where diagrams were added
   pub recalls_grow : (m : Remembered) → Recalls p a m → Recalls p b m
-  recalls_grow m h i f e = tells_grow m.bindings f.outcome f.pair (h i f e)
+  recalls_grow m h = record {
+    trials = λ i f e. tells_grow m.bindings f.outcome f.pair (h.trials i f e);
+    survey = survey_grow p a b longer same m.survey h.survey;
+  }
 
 -- and where these were integers
 pub recalls_still : (p : Parsed) (a b : Arena) (m : Remembered) → AddsIntegers a b → Recalls p a m → Recalls p b m
 recalls_still p a b m g h = recalls_grow p a b (adds_longer a b g) (adds_keeps a b g) m h
+
+-- what remembers nothing remembers nothing wrong
+pub recalls_nothing : (p : Parsed) (a : Arena) → Recalls p a nothing
+recalls_nothing p a = record {
+  trials = λ i f e. absurd (none-some f e);
+  survey = record { steps = λ i f e. absurd (none-some (Some f) e); diagrams = λ i r e. absurd (none-some (Some r) e) };
+}
 
 -- ---- one slot
 
@@ -101,14 +112,13 @@ tells_more p a kept more (outcomes.Binds from count) x h =
     ap (take count) (drop-append-le from kept more (omega (arith, h.1))) ∙ take-append-le count (drop from kept) more (omega (arith, h.1, rest)) in
     (h.0, omega (arith, h.1, long), subst (Binds p a x) (sym same) h.2)
 
-pub recalls_more : (p : Parsed) (a : Arena) (ts : List Trial) (kept more : List Binding) → Recalls p a (record { trials = ts; bindings = kept })
-    → Recalls p a (record { trials = ts; bindings = kept ++ more })
-recalls_more p a ts kept more h i f e = tells_more p a kept more f.outcome f.pair (h i f e)
+pub told_more : (p : Parsed) (a : Arena) (ts : List Trial) (kept more : List Binding) → AllTold p a ts kept → AllTold p a ts (kept ++ more)
+told_more p a ts kept more h i f e = tells_more p a kept more f.outcome f.pair (h i f e)
 
 -- one slot
-pub recalls_set : (p : Parsed) (a : Arena) (ts : List Trial) (kept : List Binding) (i : ℕ) (t : Trial) → i < length ts
-    → Recalls p a (record { trials = ts; bindings = kept }) → Tells p a kept t.outcome t.pair → Recalls p a (record { trials = set ts i t; bindings = kept })
-recalls_set p a ts kept i t l h tells j f e = go (cases_eq j i)
+pub told_set : (p : Parsed) (a : Arena) (ts : List Trial) (kept : List Binding) (i : ℕ) (t : Trial) → i < length ts
+    → AllTold p a ts kept → Tells p a kept t.outcome t.pair → AllTold p a (set ts i t) kept
+told_set p a ts kept i t l h tells j f e = go (cases_eq j i)
   where
     within : j < length ts
     within = omega (arith, slice_get_within (set ts i t) j f e, length-set ts i t)
@@ -133,9 +143,9 @@ tells_kept p a kept found x l h =
     (l, omega (arith, long), subst (Binds p a x) (sym same) h)
 
 -- one slot more
-pub recalls_push : (p : Parsed) (a : Arena) (ts us : List Trial) (kept : List Binding) (t : Trial) → us ≡ ts ++ t ∷ []
-    → Recalls p a (record { trials = ts; bindings = kept }) → Tells p a kept t.outcome t.pair → Recalls p a (record { trials = us; bindings = kept })
-recalls_push p a ts us kept t pushed h tells i f e = go (cases_lt i (length ts))
+pub told_push : (p : Parsed) (a : Arena) (ts us : List Trial) (kept : List Binding) (t : Trial) → us ≡ ts ++ t ∷ []
+    → AllTold p a ts kept → Tells p a kept t.outcome t.pair → AllTold p a us kept
+told_push p a ts us kept t pushed h tells i f e = go (cases_lt i (length ts))
   where
     got : slice_get (ts ++ t ∷ []) i ≡ Some f
     got = ap (λ xs. slice_get xs i) (sym pushed) ∙ e
@@ -157,7 +167,7 @@ pub at_slot : (p : Parsed) (a : Arena) (m : Remembered) (ts : List Trial) (i : �
     → t ≡ get_or ts i t → t.pair ≡ x → Recalls p a m → Tells p a m.bindings t.outcome x
 at_slot p a m ts i t x view l here same h =
     subst (Tells p a m.bindings t.outcome) same
-    (h i t (slice_get_read m.trials (length m.trials) i t refl l (here ∙ ap (λ us. get_or us i t) view)))
+    (h.trials i t (slice_get_read m.trials (length m.trials) i t refl l (here ∙ ap (λ us. get_or us i t) view)))
 
 pub if_some : {A : Type 0} (o : Option A) (P Q : A → Type 0) → ((x : A) → P x → Q x) → IfSome o P → IfSome o Q
 if_some None P Q f h = h

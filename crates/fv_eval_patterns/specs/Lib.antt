@@ -1,3 +1,6 @@
+pub mod Bits
 pub mod Patterns
 pub mod Remembered
+pub mod Shapes
+pub mod Surveyed
 pub mod Trials

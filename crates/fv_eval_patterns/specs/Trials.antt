@@ -13,6 +13,7 @@ use Rattle.fv_eval_patterns.specs.declared.trials.Outcome.{Outcome}
 use Rattle.fv_eval_patterns.specs.declared.trials.Outcome.TheVariants.{Never, Maybe, Binds as Keeps}
 use Rattle.fv_eval_patterns.specs.declared.trials.Trial.{Trial}
 use Rattle.fv_eval_patterns.specs.Remembered.{Remembered}
+use Rattle.fv_eval_patterns.specs.Shapes.{IsSurvey}
 use Rattle.fv_eval_patterns.specs.declared.trying.Task.{Task}
 use Rattle.fv_eval_patterns.specs.declared.trying.Task.TheVariants.{Try, Note}
 use Rattle.fv_eval_patterns.specs.Patterns.{IsPair, Refuses}
@@ -61,9 +62,14 @@ Tells p a kept Never x = Says p a false x
 Tells p a kept Maybe x = Unit {0}
 Tells p a kept (Keeps from count) x = (x.diagram < count_of a) × (from + count ≤ length kept) × Binds p a x (take count (drop from kept))
 
+-- what trials tell of their pairs is true
+abbrev pub AllTold : Parsed → Arena → List Trial → List Binding → Type 0
+AllTold p a ts kept = (i : ℕ) (f : Trial) → slice_get ts i ≡ Some f → Tells p a kept f.outcome f.pair
+
 -- What is remembered is true of a text and an arena.
-abbrev pub Recalls : Parsed → Arena → Remembered → Type 0
-Recalls p a m = (i : ℕ) (f : Trial) → slice_get m.trials i ≡ Some f → Tells p a m.bindings f.outcome f.pair
+pub record Recalls (p : Parsed) (a : Arena) (m : Remembered) : Type 0 where
+  pub trials : AllTold p a m.trials m.bindings
+  pub survey : IsSurvey p a m.survey
 
 -- the whole does not match, and neither does any pair that is to be noted
 abbrev pub AllMiss : Parsed → Arena → Pair → List Task → Type 0

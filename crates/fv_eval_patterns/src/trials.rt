@@ -3,10 +3,16 @@
 ghost use Rattle.std.specs.Prelude.{◌≡◌, ◌<◌, [], IfSome, IsTrue, drop, length, take};
 ghost use Rattle.fv_parse.specs.Trees.{Parsed};
 ghost use Rattle.fv_diagram.specs.Arena.{Arena, count_of};
+ghost use Rattle.fv_eval_scopes.specs.Memo.{Remembers};
+ghost use Rattle.fv_eval_patterns.specs.Remembered.{nothing};
+ghost use Rattle.fv_eval_patterns.specs.Shapes.{IsThere};
 ghost use Rattle.fv_eval_patterns.specs.Trials.{Binds, Says, Recalls, may_match, outcome_of};
 
 use crate::matching::Pair;
-use fv_eval_scopes::Binding;
+use crate::survey::Survey;
+use fv_diagram::{DiagramId, Diagrams};
+use fv_eval_scopes::{Binding, Numbers};
+use fv_parse::Tree;
 use std::alloc::{AllocError, Global};
 use std::marker::Model;
 
@@ -41,8 +47,11 @@ pub struct Trial {
 pub struct Trials {
     slots: Vec<Trial>,
     bindings: Vec<Binding>,
+    survey: Survey,
     /// How many were remembered.
     kept: u64,
+    /// How many pairs were tried.
+    tried: u64,
 }
 
 impl Model for Trials {
@@ -50,18 +59,20 @@ impl Model for Trials {
 
     ghost Value = { Remembered };
 
-    ghost view = { λ t. record { trials = t.slots.items; bindings = t.bindings.items } };
+    ghost view = { λ t. record { trials = t.slots.items; bindings = t.bindings.items; survey = t.survey } };
 }
 
 impl Trials {
     /// Nothing is remembered.
     pub fn new(alloc: Global) -> Trials
-        ensures { result ≡ record { trials = []; bindings = [] } }
+        ensures { result ≡ nothing }
     {
         Trials {
             slots: Vec::new(alloc),
             bindings: Vec::new(alloc),
+            survey: Survey::new(alloc),
             kept: 0,
+            tried: 0,
         }
     }
 
@@ -81,10 +92,33 @@ impl Trials {
         Some((mixed % count) as usize)
     }
 
-    /// Whether a pair may match, if that is remembered.
+    /// Surveys a diagram and its parts, as far as the pairs that were tried so far are worth it.
+    pub(crate) fn explore(
+        &mut self,
+        alloc: Global,
+        tree: &Tree,
+        diagrams: &Diagrams,
+        numbers: &mut Numbers,
+        whole: DiagramId,
+    ) -> Result<(), AllocError>
+        requires there { IsThere diagrams.now whole }
+        requires known { Remembers diagrams.now numbers.old }
+        requires recalls { Recalls tree.now diagrams.now self.old }
+        ensures known { Remembers diagrams.now numbers.new }
+        ensures recalls { Recalls tree.now diagrams.now self.new }
+    {
+        self.survey
+            .explore(alloc, tree, diagrams, numbers, whole, self.tried)?;
+        Ok(())
+    }
+
+    /// Whether a pair may match, if that is known.
     pub(crate) fn recall(&self, pair: &Pair) -> Option<bool>
         ensures { IfSome result (λ b. (p : Parsed) (a : Arena) → Recalls p a self.now → Says p a b pair.now) }
     {
+        if let Some(may) = self.survey.tells(pair) {
+            return Some(may);
+        }
         let i = self.place(pair)?;
         let trial = &self.slots[i];
         if is_same(&trial.pair, pair) {
@@ -129,6 +163,7 @@ impl Trials {
     {
         self.widen(pair)?;
         self.kept = self.kept.saturating_add(1);
+        self.tried = self.tried.saturating_add(1);
         if let Some(i) = self.place(pair) {
             let outcome = outcome_of(may);
             self.slots[i] = Trial {

@@ -115,6 +115,7 @@ fn pair_may_match(
     ensures recalls { Recalls tree.now diagrams.now trials.new }
     ensures says { IfOk result (λ b. Says tree.now diagrams.now b whole) }
 {
+    trials.explore(alloc, tree, diagrams, numbers, whole.diagram)?;
     let mut tasks = Vec::new(alloc);
     tasks.push(Task::Try(whole))?;
     while let Some(task) = tasks.pop() {

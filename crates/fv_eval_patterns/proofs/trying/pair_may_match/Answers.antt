@@ -7,8 +7,8 @@ use Rattle.fv_eval_patterns.proofs.trying.pair_may_match.Goals as goal
 
 pub loop-task-init : goal.loop-task-init
 loop-task-init c =
-    attempts_begin c.args.tree.now c.args.diagrams.now c.args.numbers.now c.args.trials.now c.args.whole c.new-tasks.result.items c.push.new.self.items
-    c.requires.known c.requires.recalls c.requires.whole c.new-tasks.ensures.items c.in_ok-push.ensures.items
+    attempts_begin c.args.tree.now c.args.diagrams.now c.explore.new.numbers c.explore.new.self c.args.whole c.new-tasks.result.items c.push.new.self.items
+    c.in_ok-explore.ensures.known c.in_ok-explore.ensures.recalls c.requires.whole c.new-tasks.ensures.items c.in_ok-push.ensures.items
 
 pub attempt-requires-clause-pair : goal.attempt-requires-clause-pair
 attempt-requires-clause-pair c =

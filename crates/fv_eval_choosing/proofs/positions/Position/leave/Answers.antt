@@ -1,6 +1,6 @@
 use Rattle.std.proofs.Common.{◌≡◌, ◌∙◌, ◌<◌, length, get_or, filter, true, ap, sym, subst, arith}
 use Rattle.fv_eval_choosing.specs.declared.positions.Row.{Row}
-use Rattle.fv_eval_choosing.specs.Bits.{has}
+use Rattle.fv_eval_patterns.specs.Bits.{has}
 use Rattle.fv_eval_choosing.specs.Positions.{HasBoth, is_for}
 use Rattle.fv_eval_choosing.proofs.Wanting.{both_allow}
 use Rattle.fv_eval_choosing.proofs.positions.Position.leave.Goals as goal

@@ -1,6 +1,6 @@
 use Rattle.std.proofs.Common.{ℕ, ◌≡◌, ◌≤◌, ◌<◌, ◌-◌, false}
-use Rattle.fv_eval_choosing.specs.Bits.{has}
-use Rattle.fv_eval_choosing.proofs.bits.Bits.next.Given as goal
+use Rattle.fv_eval_patterns.specs.Bits.{has}
+use Rattle.fv_eval_patterns.proofs.bits.Bits.next.Given as goal
 
 abbrev pub invariant-words : goal.invariant-words
 invariant-words l = record {

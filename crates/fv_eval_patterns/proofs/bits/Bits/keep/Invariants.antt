@@ -1,6 +1,6 @@
 use Rattle.std.proofs.Common.{ℕ, ◌≡◌, ◌≤◌, true, vec_len}
-use Rattle.fv_eval_choosing.specs.Bits.{has}
-use Rattle.fv_eval_choosing.proofs.bits.Bits.keep.Given as goal
+use Rattle.fv_eval_patterns.specs.Bits.{has}
+use Rattle.fv_eval_patterns.proofs.bits.Bits.keep.Given as goal
 
 abbrev pub invariant-loop-i : goal.invariant-loop-i
 invariant-loop-i l = record {

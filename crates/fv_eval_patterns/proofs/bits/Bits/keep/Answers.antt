@@ -1,9 +1,9 @@
 use Rattle.std.proofs.Common.{◌≡◌, ◌<◌, ◌∙◌, length, true, sym, ap₂, subst, arith}
 use Rattle.std.specs.Prelude.{bit_and, slice_set}
 use Rattle.std.proofs.lemmas.List.{get_or_default}
-use Rattle.fv_eval_choosing.specs.Bits.{has}
-use Rattle.fv_eval_choosing.proofs.BitSets.{both_have, cut_has}
-use Rattle.fv_eval_choosing.proofs.bits.Bits.keep.Goals as goal
+use Rattle.fv_eval_patterns.specs.Bits.{has}
+use Rattle.fv_eval_patterns.proofs.BitSets.{both_have, cut_has}
+use Rattle.fv_eval_patterns.proofs.bits.Bits.keep.Goals as goal
 
 pub loop-i-init : goal.loop-i-init
 loop-i-init c =

@@ -1,9 +1,9 @@
 use Rattle.std.proofs.Common.{ℕ, ◌≡◌, ◌<◌, ◌/◌, List, length, true, sym, ap, subst, arith, ◌∙◌}
 use Rattle.std.proofs.lemmas.List.{get_or_default}
 use Rattle.std.specs.Prelude.{slice_index_or, slice_set, bit_or, ◌*◌, ◌%◌, ◌^◌}
-use Rattle.fv_eval_choosing.specs.Bits.{has}
-use Rattle.fv_eval_choosing.proofs.BitSets.{grown_has, set_has, set_keeps, with_bit}
-use Rattle.fv_eval_choosing.proofs.bits.Bits.add.Goals as goal
+use Rattle.fv_eval_patterns.specs.Bits.{has}
+use Rattle.fv_eval_patterns.proofs.BitSets.{grown_has, set_has, set_keeps, with_bit}
+use Rattle.fv_eval_patterns.proofs.bits.Bits.add.Goals as goal
 
 pub grow-preserved : goal.grow-preserved
 grow-preserved c = λ j h.

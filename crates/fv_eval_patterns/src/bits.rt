@@ -1,17 +1,17 @@
 // Sets of places in a list, with a bit for each.
 
-ghost use Rattle.std.specs.Prelude.{ℕ, ◌≡◌, ◌<◌, ◌≤◌, true, false, IfOk, slice_index_or};
-ghost use Rattle.fv_eval_choosing.specs.Bits.{has};
+ghost use Rattle.std.specs.Prelude.{ℕ, ◌≡◌, ◌<◌, ◌≤◌, true, false, IfOk, IsTrue, slice_index_or};
+ghost use Rattle.fv_eval_patterns.specs.Bits.{has};
 
 use std::alloc::{AllocError, Global};
 use std::marker::Model;
 
 /// How many places a word has.
-pub(crate) const WORD: u64 = 64;
+pub const WORD: u64 = 64;
 
 /// Places in a list.
 #[derive(Drop)]
-pub(crate) struct Bits {
+pub struct Bits {
     words: Vec<u64>,
 }
 
@@ -25,14 +25,14 @@ impl Model for Bits {
 
 impl Bits {
     /// No place.
-    pub(crate) fn new(alloc: Global) -> Bits {
+    pub fn new(alloc: Global) -> Bits {
         Bits {
             words: Vec::new(alloc),
         }
     }
 
     /// So many places, from the first one on.
-    pub(crate) fn first(alloc: Global, count: u64) -> Result<Bits, AllocError>
+    pub fn first(alloc: Global, count: u64) -> Result<Bits, AllocError>
         ensures { IfOk result (λ b. (j : ℕ) → j < count → has b j ≡ true) }
     {
         let mut all = Bits::new(alloc);
@@ -42,8 +42,33 @@ impl Bits {
         Ok(all)
     }
 
+    /// Whether a place is there.
+    pub fn has(&self, place: u64) -> bool
+        ensures { result ≡ has self.now place }
+    {
+        (self.word(place / WORD) >> (place % WORD)) % 2 == 1
+    }
+
+    /// Whether they are the same places; it may say no of those that are.
+    pub fn is_same(&self, others: &Bits) -> bool
+        ensures { IsTrue result → self.now ≡ others.now }
+    {
+        self.words == others.words
+    }
+
+    /// A number that is the same for the same places.
+    pub fn mixed(&self) -> u64 {
+        let mut mixed = 0u64;
+        for word in &self.words {
+            mixed = (mixed ^ *word)
+                .wrapping_mul(0x9e37_79b9_7f4a_7c15)
+                .rotate_left(29);
+        }
+        mixed
+    }
+
     /// The same places.
-    pub(crate) fn copy(&self, alloc: Global) -> Result<Bits, AllocError>
+    pub fn copy(&self, alloc: Global) -> Result<Bits, AllocError>
         ensures { IfOk result (λ b. b ≡ self.now) }
     {
         let words = Vec::from_slice(alloc, self.words.as_slice())?;
@@ -51,7 +76,7 @@ impl Bits {
     }
 
     /// One place more.
-    pub(crate) fn add(&mut self, place: u64) -> Result<(), AllocError>
+    pub fn add(&mut self, place: u64) -> Result<(), AllocError>
         ensures keeps { (j : ℕ) → has self.old j ≡ true → has self.new j ≡ true }
         ensures added { IfOk result (λ _. has self.new place ≡ true) }
     {
@@ -65,7 +90,7 @@ impl Bits {
     }
 
     /// Leaves those alone that are among others too.
-    pub(crate) fn keep(&mut self, others: &Bits)
+    pub fn keep(&mut self, others: &Bits)
         ensures { (j : ℕ) → has self.old j ≡ true → has others.now j ≡ true → has self.new j ≡ true }
     {
         let count = others.words.len();
@@ -89,7 +114,7 @@ impl Bits {
     }
 
     /// The first of the places from one on, if it is before an end; else the end.
-    pub(crate) fn next(&self, from: u64, end: u64) -> u64
+    pub fn next(&self, from: u64, end: u64) -> u64
         ensures from { from ≤ end → from ≤ result }
         ensures within { result ≤ end }
         ensures skipped { (j : ℕ) → from ≤ j → j < result → has self.now j ≡ false }

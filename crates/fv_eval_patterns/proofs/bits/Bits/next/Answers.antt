@@ -1,7 +1,7 @@
 use Rattle.std.proofs.Common.{inl, inr, arith}
 use Rattle.std.proofs.lemmas.Bool.{cases_lt}
-use Rattle.fv_eval_choosing.proofs.BitSets.{found_after, passed_word}
-use Rattle.fv_eval_choosing.proofs.bits.Bits.next.Goals as goal
+use Rattle.fv_eval_patterns.proofs.BitSets.{found_after, passed_word}
+use Rattle.fv_eval_patterns.proofs.bits.Bits.next.Goals as goal
 
 pub returns-then-found-end-clause-skipped : goal.returns-then-found-end-clause-skipped
 returns-then-found-end-clause-skipped c = λ j l m.

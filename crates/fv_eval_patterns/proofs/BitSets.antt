@@ -7,7 +7,7 @@ use Rattle.std.proofs.lemmas.List.{get_or_past, get_or_append_left, get_or-set_s
 use Rattle.std.proofs.lemmas.Nat.{pow-add}
 use Rattle.std.proofs.lemmas.Nat.Bits.{bit_at-zero, bit_at_and, bit_at_set_same, bit_at_set_other, bit_at_above, bit_at-trailing_zeros}
 use Rattle.std.proofs.Math.Nat.{div-div-eq-div-mul, div-le_self}
-use Rattle.fv_eval_choosing.specs.Bits.{has}
+use Rattle.fv_eval_patterns.specs.Bits.{has}
 
 -- the bit of a place
 abbrev pub bit_of : List ℕ → ℕ → ℕ
@@ -152,3 +152,13 @@ found_after xs at word j e fits some l g =
 pub passed_word : (xs : List ℕ) (at word j : ℕ) → word ≡ get_or xs (at / 64) 0 → word / 2 ^ (at % 64) ≡ 0 → at ≤ j
     → j < at + (64 - at % 64) → has xs j ≡ false
 passed_word xs at word j e none l g = none_in_word xs at j (subst (λ n. n / 2 ^ (at % 64) ≡ 0) e none) l g
+
+-- ---- one place
+
+pub has_bit : (xs : List ℕ) (j word : ℕ) → word ≡ get_or xs (j / 64) 0 → nat_eq (word / 2 ^ (j % 64) % 2) 1 ≡ has xs j
+unfolding has
+has_bit xs j word e = ap (λ n. nat_eq (bit_at n (j % 64)) 1) e
+
+-- no place is in no words
+pub none_has : (j : ℕ) → has [] j ≡ false
+none_has j = is_out [] j (bit_at-zero (j % 64))
