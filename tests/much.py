@@ -36,6 +36,7 @@ def wave(channels, bits, size, data=b"", before=b""):
 
 
 XS = ",".join(f"x{i}" for i in range(8000))
+BOTH_SIDES = "f((" + "".join(f"a{i},(" for i in range(126)) + "%d" + "".join(f"),b{i}" for i in range(126)) + "))=1;"
 ENDLESS = "f(n) = f(n+1); process = f(2000000);"
 # what asks for much, the program's text, and, where there are some, its input, its script and its options
 TEXTS = [
@@ -69,6 +70,7 @@ TEXTS = [
     ("a long pattern, and one diagram on and on", f"f(({XS},0))=1; f(x)=f(x); process = f(par(i,8001,_));"),
     ("rules of a long pattern, and a new diagram on and on", filled("", "f((" + ",".join(f"x{i}" for i in range(4000)) + ",%d))=1;", "f((x,y))=f((x,y)); process = f(par(i,4002,_));")),
     ("rules of a long pattern, and all ends of a diagram", filled("", "f((" + ",".join(f"x{i}" for i in range(4000)) + ",%d))=1;", "f((x,y))=f(y); f(x)=f(x); process = f(par(i,8000,_));")),
+    ("rules of a pattern that branches to both sides, and all parts of such a diagram", filled("z(0)=_; z(n)=_,(z(n-1),_); ", BOTH_SIDES, "f(((a,b),c))=f((a,b)); f((x,y))=f(y); f(x)=1; process = f(z(4000));")),
     ("rules of a long pattern and another one that differs", filled("", "f((" + ",".join(f"x{i}" for i in range(4000)) + "),(%d,y))=1;", "f(x,(n,y))=f(x,(n+1,y)); process = f(par(i,4000,_),(2000000,_));")),
     ("a long pattern that matches, on and on", "f((" + ",".join(["0"] * 8000) + "),n,d)=f(d,n+1,d); process = f(par(i,8000,0),0,par(i,8000,0));"),
     ("a long pattern that binds its last part, on and on", "f((" + "0," * 7999 + "x),n,d)=f(d,n+1,d); process = f(par(i,8000,0),0,par(i,8000,0));"),
