@@ -1,4 +1,5 @@
 use Rattle.std.proofs.Common.{◌≡◌, ℕ, ◌<◌, ℤ, Bool, true, false, List, length, refl, ap, ap₂, sym, ◌∙◌, subst, arith}
+use Rattle.std.specs.Prelude.{IfSome}
 use Rattle.std.specs.Global.{Vec}
 use Rattle.std.specs.Vec.{with_items}
 use Rattle.std.proofs.lemmas.List.{with_items_is, length-map}
@@ -14,6 +15,7 @@ use Rattle.fv_engine_crew.specs.Contents.{parts_of}
 use Rattle.fv_engine_crew.specs.Ran.{Ran}
 use Rattle.fv_engine.specs.inner.Opening.{opening_over}
 use Rattle.fv_engine.specs.declared.plan_codes.PlanCodes.{PlanCodes}
+use Rattle.fv_engine.specs.declared.crew_codes.CrewCodes.{CrewCodes}
 use Rattle.fv_engine.specs.declared.lanes.Lanes.{Lanes}
 use Rattle.fv_engine.proofs.Crews.{AreLent, of_lanes, may_run_over, opens_alike}
 use Rattle.fv_engine.proofs.lanes.Lanes.run_spread.Given.{Over}
@@ -120,4 +122,7 @@ returns-clause-left g c = λ is_false.
     ap₂ (λ (ls : List Lane) (cs : List (List ℤ)). record { lanes = ls; tables = tables; cells = cs }) opened (c.run_spread.ensures.lists_left is_false)
 
 pub returns-clause-who : goal.returns-clause-who
-returns-clause-who g c = λ is_true n workers i d l. let low = c.run_spread.ensures.who is_true i d l in omega (arith, low, workers)
+returns-clause-who g c = λ is_true n workers i d l.
+    let low = c.run_spread.ensures.who is_true i d l in
+    let many : c.in-Some.crew.workers ≡ n = subst (λ o. IfSome o (λ (x : CrewCodes). x.workers ≡ n)) c.in-Some.is workers in
+    omega (arith, low, many)
