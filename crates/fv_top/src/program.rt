@@ -5,7 +5,7 @@ ghost use Rattle.fv_base.specs.declared.role.Role.TheVariants.{Program as progra
 ghost use Rattle.fv_outside.specs.headline.Desk.{KeepsFaults};
 ghost use Rattle.fv_top_report.specs.declared.refusal.Refusal.TheVariants.{ReadFault};
 ghost use Rattle.fv_top_text.specs.headline.Program.{TextIs, delays_in};
-ghost use Rattle.fv_top_text.specs.Program.{IsOfText};
+ghost use Rattle.fv_top_text.specs.Program.{IsProgram, IsOfText};
 ghost use Rattle.fv_interval.specs.Delays.{AreAccepted};
 ghost use Rattle.fv_diagram.specs.Arena.{count_of};
 ghost use Rattle.fv_top_rack.specs.headline.Kinds.{FileIs};
