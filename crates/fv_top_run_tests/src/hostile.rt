@@ -41,6 +41,8 @@ const GAIN_ROW: Row = (
     (0, "done 5 frames\n", &GAINED),
 );
 
+const ODD_ROW: Row = (&WORDS, "process = _;", &ODD, (0, "done 2 frames\n", &PLAIN));
+
 const AU_ROW: Row = (
     &TO_AU,
     "process = _;",
@@ -57,8 +59,7 @@ const AU_OPEN_ROW: Row = (
 
 #[test]
 fn plays_in_pieces(rt: HostRuntime) -> Result<(), Fail> {
-    let odd: Row = (&WORDS, "process = _;", &ODD, (0, "done 2 frames\n", &PLAIN));
-    for (words, text, input, end) in [WIRE_ROW, GAIN_ROW, odd, AU_ROW, AU_OPEN_ROW] {
+    for (words, text, input, end) in [WIRE_ROW, GAIN_ROW, ODD_ROW, AU_ROW, AU_OPEN_ROW] {
         for size in 1..8 {
             let mut desk = desk_of(rt.alloc(), text.as_bytes(), input)?;
             for role in ROLES {
@@ -102,7 +103,7 @@ fn calls_that_fail(
     requires { 1 ≤ size }
 {
     let (words, text, input, (_, line, output)) = *row;
-    for call in 0..100 {
+    for call in 0..200 {
         let mut desk = desk_of(alloc, text.as_bytes(), input)?;
         desk.pieces(role, size);
         desk.fail(role, call)?;
@@ -117,15 +118,19 @@ fn calls_that_fail(
             "{role:?} {size} {call}"
         );
     }
-    Ok(100)
+    Ok(200)
 }
 
 #[test]
 fn each_call_of_each_role_fails(rt: HostRuntime) -> Result<(), Fail> {
-    for role in ROLES {
-        for size in [1, 1000] {
-            let calls = calls_that_fail(&rt, rt.alloc(), &GAIN_ROW, role, size)?;
-            assert!(rt; calls > 0 && calls < 100, "{role:?} {size}");
+    // A run without a script asks for none.
+    for (row, has_script) in [(WIRE_ROW, false), (GAIN_ROW, true), (ODD_ROW, false)] {
+        for role in ROLES {
+            let is_asked = has_script || role != Role::Controls;
+            for size in [1, 1000] {
+                let calls = calls_that_fail(&rt, rt.alloc(), &row, role, size)?;
+                assert!(rt; calls < 200 && (calls > 0) == is_asked, "{role:?} {size}");
+            }
         }
     }
     Ok(())
