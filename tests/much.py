@@ -7,6 +7,7 @@ more than 10 seconds or 1.5 GB is told, and ends it with status 1.
 import argparse
 import os
 import resource
+import string
 import struct
 import subprocess
 import sys
@@ -37,6 +38,7 @@ def wave(channels, bits, size, data=b"", before=b""):
 
 XS = ",".join(f"x{i}" for i in range(8000))
 BOTH_SIDES = "f((" + "".join(f"a{i},(" for i in range(126)) + "%d" + "".join(f"),b{i}" for i in range(126)) + "))=1;"
+NAMES = [a + b for a in string.ascii_uppercase for b in string.ascii_letters][:1300]
 ENDLESS = "f(n) = f(n+1); process = f(2000000);"
 # what asks for much, the program's text, and, where there are some, its input, its script and its options
 TEXTS = [
@@ -80,6 +82,8 @@ TEXTS = [
     ("rules with a literal within a pattern", filled("", "f((x,%d))=1;", "f((x,n))=f((x,n+1)); process = f((1,1000000));")),
     ("rules with a pattern of two that no argument has", filled("", "f((a,%d),n)=1;", "f(x,n)=f(x,n+1); process = f((_,_),0);")),
     ("a name that many lists define, behind as many that do not", "process = f(1) with{f(n)=f(n+q);}" + "with{a=1;}" * 52_000 + "with{q=1;}" * 52_000 + ";"),
+    ("1,300 names that 120 lists define, behind names that a pattern binds anew", "process = f(par(i,8000,_)) with{f(d)=g(d),f(d);g((" + XS + "))="
+     + ",".join(NAMES) + ";}" + ("with{" + "=1;".join(NAMES) + "=1;}") * 120 + ";"),
     ("a name of many rules in one list, behind many lists", "process = f(1) with{f(n)=f(n+q(0));}" + "with{a=1;}" * 52_000 + "with{" + "".join(f"q({i})=1;" for i in range(45_000)) + "};"),
     ("rules of long patterns", filled("f((", "x%d", "))=1; process=f(1);", ",")),
     ("a definition's parameters", filled("f(", "x%d", ")=1; process=f(1);", ",")),
